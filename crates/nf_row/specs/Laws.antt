@@ -1,0 +1,5 @@
+pub mod Last
+pub mod Runs
+pub mod Order
+pub mod Starters
+pub mod Ordering

@@ -1,0 +1,3 @@
+/// U+034F COMBINING GRAPHEME JOINER, which the Stream-Safe Text Process puts between two runs of non-starters that
+/// would make one too long (UAX #15, section 13).
+pub const JOINER: char = '\u{34F}';

@@ -1,0 +1,27 @@
+//! Character data for normalization: combining classes, decompositions and composites, from Unicode's tables or from
+//! a caller's, and what makes them fit to bound a text's runs of combining marks.
+//!
+//! The definitions of the normalization forms and of the Stream-Safe Text Process, on whole lists of code points,
+//! stand in this crate's `specs/`: the contracts of the crates above are written in them.
+#![tactic(auto)]
+
+mod form;
+mod joiner;
+pub mod laws;
+mod patched;
+mod rows;
+mod runs;
+mod soundness;
+#[cfg(test)]
+mod tests;
+mod ucd;
+mod unsound;
+
+pub use form::Form;
+pub use joiner::JOINER;
+pub use patched::{Change, Patched};
+pub use rows::{Long, Row, Rows};
+pub use runs::{has_starter, lead, trail};
+pub use soundness::sound;
+pub use ucd::Ucd;
+pub use unsound::{Rule, Unsound};

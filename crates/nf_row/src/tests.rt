@@ -1,0 +1,4 @@
+mod changes;
+mod parts;
+mod soundness;
+mod tables;

@@ -1,0 +1,75 @@
+use crate::{Rows, Ucd};
+use std::test::Fail;
+
+/// Classes by UnicodeData.txt.
+#[test]
+fn combining_classes(rt: HostRuntime) {
+    for c in [
+        '\u{300}', '\u{301}', '\u{302}', '\u{307}', '\u{308}', '\u{30A}',
+    ] {
+        assert_eq!(rt; Ucd.class(c), 230, "{c:?}");
+    }
+    for (c, class) in [('\u{323}', 220), ('\u{3099}', 8), ('\u{93C}', 7)] {
+        assert_eq!(rt; Ucd.class(c), class, "{c:?}");
+    }
+    let starters = [
+        '\u{34F}', '\u{FF9E}', '\u{FDFA}', '\u{1100}', '\u{1161}', '\u{11A7}', '\u{11AB}',
+    ];
+    for c in starters {
+        assert_eq!(rt; Ucd.class(c), 0, "{c:?}");
+    }
+}
+
+/// Each of the 11,172 syllables, by the arithmetic of The Unicode Standard, section 3.12.
+#[test]
+fn hangul_syllables(rt: HostRuntime) -> Result<(), Fail> {
+    for index in 0..11_172u32 {
+        let (l, v, t) = (
+            0x1100 + index / 588,
+            0x1161 + index % 588 / 28,
+            0x11A7 + index % 28,
+        );
+        let syllable = char::from_u32(0xAC00 + index).ok_or("a surrogate")?;
+        let row = Ucd.canonical(syllable).ok().ok_or("too long")?;
+        let same = Ucd.compat(syllable).ok().ok_or("too long")?;
+        assert_eq!(rt; row.as_slice(), same.as_slice());
+        let codes = row.iter().map(|c| *c as u32);
+        if t == 0x11A7 {
+            assert!(rt; codes.eq([l, v]), "at {index}");
+        } else {
+            assert!(rt; codes.eq([l, v, t]), "at {index}");
+        }
+    }
+    Ok(())
+}
+
+#[test]
+fn pairs(rt: HostRuntime) {
+    assert_eq!(rt; Ucd.pair('A', '\u{30A}'), Some('\u{C5}'));
+    assert_eq!(rt; Ucd.pair('\u{1100}', '\u{1161}'), Some('\u{AC00}'));
+    assert_eq!(rt; Ucd.pair('\u{AC00}', '\u{11A8}'), Some('\u{AC01}'));
+    assert_eq!(rt; Ucd.pair('\u{AC00}', '\u{11A7}'), None);
+    assert_eq!(rt; Ucd.pair('\u{AC01}', '\u{11A8}'), None);
+    // A singleton and an exclusion are no composites.
+    assert_eq!(rt; Ucd.pair('A', 'A'), None);
+    assert_eq!(rt; Ucd.pair('\u{915}', '\u{93C}'), None);
+}
+
+/// The 66 noncharacters are not assigned, the 137,468 private use characters are.
+#[test]
+fn noncharacters_and_private_use(rt: HostRuntime) {
+    let (mut noncharacters, mut private) = (0u32, 0u32);
+    for code in 0..0x11_0000u32 {
+        let Some(c) = char::from_u32(code) else {
+            continue;
+        };
+        if code & 0xFFFE == 0xFFFE || (0xFDD0..=0xFDEF).contains(&code) {
+            noncharacters = noncharacters.saturating_add(1);
+            assert!(rt; !Ucd.assigned(c), "{code:x}");
+        } else if (0xE000..=0xF8FF).contains(&code) || code >= 0xF_0000 {
+            private = private.saturating_add(1);
+            assert!(rt; Ucd.assigned(c), "{code:x}");
+        }
+    }
+    assert_eq!(rt; (noncharacters, private), (66, 137_468));
+}
