@@ -1,5 +1,9 @@
 pub mod Last
 pub mod Runs
+pub mod Front
 pub mod Order
 pub mod Starters
 pub mod Ordering
+pub mod Compose
+pub mod Sound
+pub mod StreamSafe

@@ -5,6 +5,7 @@
 //! stand in this crate's `specs/`: the contracts of the crates above are written in them.
 #![tactic(auto)]
 
+mod composites;
 mod form;
 mod joiner;
 pub mod laws;
@@ -17,6 +18,7 @@ mod tests;
 mod ucd;
 mod unsound;
 
+pub use composites::composite;
 pub use form::Form;
 pub use joiner::JOINER;
 pub use patched::{Change, Patched};

@@ -1,0 +1,180 @@
+-- What a machine holds of the text that it stands after.
+use Rattle.std.proofs.Common.{◌≡◌, ℕ, ◌+◌, Bool, true, false, cond, leb, List, [], ◌∷◌, ◌++◌, length, Option, Some, None, refl, sym, ap, ◌∙◌, subst, arith, append_assoc, map, take, drop}
+use Rattle.std.proofs.lemmas.Bool.{cond-true, cond-false, ne_eqb}
+use Rattle.std.proofs.lemmas.List.{append-nil, length-map, map-append, take-map, drop-map}
+use Rattle.std.specs.Prelude.{insert, is_some, unwrap_or, ◌||◌}
+use Rattle.std.specs.List.{prefix_len}
+use Rattle.std.specs.Option.{option_to_list}
+use Rattle.nf_row.specs.Properties.{Properties, is_starter}
+use Rattle.nf_row.specs.Runs.{has_starter, trail}
+use Rattle.nf_row.specs.Front.{front, back}
+use Rattle.nf_row.specs.Order.{by_class}
+use Rattle.nf_row.specs.Compose.{composite}
+use Rattle.nf_row.specs.declared.form.Form.{Form}
+use Rattle.nf_row.specs.Forms.{composes, finished}
+use Rattle.nf_row.specs.Laws.Runs.{has_starter-append, trail-push}
+use Rattle.nf_row.specs.Laws.Front.{front-append-back, trail-behind, marks_push}
+use Rattle.nf_row.specs.Laws.Order.{by_class-push, has_starter-by_class}
+use Rattle.nf_row.specs.Laws.Starters.{length-by_class}
+use Rattle.nf_row.specs.Laws.Compose.{IsGroup, closed_off, closed_off-group, next_composite, next_composite-none, settled_by, front-push_starter, back-push_starter, front-behind, back-behind, back-starter, back-empty, has_starter-head}
+use Rattle.nf_pending.specs.declared.mark.Mark.{Mark}
+use Rattle.nf_pending.specs.declared.pending.Pending.{Pending}
+use Rattle.nf_pending.specs.Mark.{mark_of}
+use Rattle.nf_pending.specs.Meeting.{composite_with}
+use Rattle.nf_pending.specs.StandsAfter.{run_len, StandsAfter}
+
+module _ (f : Form) (p : Properties) where
+  module _ (pending : Pending) (w : List ℕ) (s : StandsAfter f p pending w) where
+    pub back_held : back p (finished f p w) ≡ closed_off p (composes f) pending.starter (by_class p s.run)
+    back_held = ap (λ v. back p (finished f p v)) s.text ∙ back-behind p (composes f) s.head s.run pending.starter s.ends s.marks (sym s.starter)
+
+    pub trail_held : trail p w ≡ run_len pending
+    trail_held =
+        ap (λ v. trail p v) s.text ∙ trail-behind p s.head s.run s.ends s.marks
+        ∙ sym (ap (λ v. length v) s.held ∙ length-map (by_class p s.run) (mark_of p) ∙ length-by_class p s.run s.marks)
+
+    pub starter_held : has_starter p w ≡ is_some pending.starter
+    starter_held =
+        ap (λ v. has_starter p v) s.text ∙ has_starter-append p s.head s.run ∙ ap (λ b. has_starter p s.head || b) s.marks
+        ∙ or_false (has_starter p s.head) ∙ has_starter-head p (composes f) s.head s.ends pending.starter (sym s.starter)
+      where
+        or_false : (b : Bool) → (b || false) ≡ b
+        or_false true = refl
+        or_false false = refl
+
+    -- a starter more composes with what is held as it does with what stands behind the front
+    pub composite_held : (c : ℕ) → composite_with p (composes f) pending.starter (closed_off p (composes f) pending.starter (by_class p s.run)) c ≡ next_composite p (composes f) (back p (finished f p w)) c
+    composite_held c = at (composes f) pending.starter (λ k e. back-starter p (composes f) s.head s.ends k (sym s.starter ∙ e)) ∙ ap (λ z. next_composite p (composes f) z c) (sym back_held)
+      where
+        alone : (z : List ℕ) → IsGroup p z → composite_with p true (Some 0) z c ≡ next_composite p true z c
+        alone z group = subst (λ k. composite_with p true (Some 0) k c ≡ next_composite p true k c) (sym group.text) (next group.marks)
+          where
+            next : (m : List ℕ) → composite_with p true (Some 0) (group.starter ∷ m) c ≡ next_composite p true (group.starter ∷ m) c
+            next [] = sym (cond-true _ _ _ group.starts)
+            next (x ∷ m) = cond-false _ _ _ (ne_eqb (length (group.starter ∷ x ∷ m)) 1 (λ (one : length (group.starter ∷ x ∷ m) ≡ 1). omega arith))
+
+        at : (b : Bool) (o : Option ℕ) → ((k : ℕ) → option_to_list o ≡ k ∷ [] → is_starter p k ≡ true)
+            → composite_with p b o (closed_off p b o (by_class p s.run)) c ≡ next_composite p b (closed_off p b o (by_class p s.run)) c
+        at false o starts = refl
+        at true None starts = sym (next_composite-none p (by_class p s.run) c (has_starter-by_class p s.run))
+        at true (Some k) starts = alone _ (closed_off-group p true k (by_class p s.run) (starts k refl) (has_starter-by_class p s.run))
+
+  prefix_len-mark : (k : ℕ) (m : List ℕ) → prefix_len (λ mark. leb mark.class k) (map (mark_of p) m) ≡ prefix_len (λ x. leb (p.class x) k) m
+  prefix_len-mark k [] = refl
+  prefix_len-mark k (x ∷ m) = ap (λ n. cond (leb (p.class x) k) (1 + n) 0) (prefix_len-mark k m)
+
+  insert-mark : (m : List ℕ) (i c : ℕ) → insert (map (mark_of p) m) i (mark_of p c) ≡ map (mark_of p) (insert m i c)
+  insert-mark m i c =
+      let front_part : take i (map (mark_of p) m) ≡ map (mark_of p) (take i m) = take-map (mark_of p) i m in
+      let back_part : drop i (map (mark_of p) m) ≡ map (mark_of p) (drop i m) = drop-map (mark_of p) i m in
+      let joined = map-append (mark_of p) (take i m) (c ∷ drop i m) in
+      cc
+
+  -- a mark more
+  pub stands_mark : (old new : Pending) (w : List ℕ) (c : ℕ) → is_starter p c ≡ false → StandsAfter f p old w → new.composes ≡ old.composes → new.starter ≡ old.starter
+      → new.marks.items ≡ insert old.marks.items (prefix_len (λ mark. leb mark.class (p.class c)) old.marks.items) (mark_of p c)
+      → StandsAfter f p new (w ++ c ∷ [])
+  stands_mark old new w c mark s same_form same_starter inserted = record {
+    head = s.head;
+    run = s.run ++ c ∷ [];
+    text = ap (λ v. v ++ c ∷ []) s.text ∙ append_assoc s.head s.run (c ∷ []);
+    ends = s.ends;
+    marks = marks_push p s.run c s.marks mark;
+    composes = same_form ∙ s.composes;
+    starter = ap option_to_list same_starter ∙ s.starter;
+    held = inserted
+        ∙ ap (λ v. insert v (prefix_len (λ mark. leb mark.class (p.class c)) v) (mark_of p c)) s.held
+        ∙ ap (λ i. insert (map (mark_of p) (by_class p s.run)) i (mark_of p c)) (prefix_len-mark (p.class c) (by_class p s.run))
+        ∙ insert-mark (by_class p s.run) _ c
+        ∙ ap (λ v. map (mark_of p) v) (sym (by_class-push p s.run c mark));
+  }
+
+  pub settles_mark : (old : Pending) (w : List ℕ) (c : ℕ) → is_starter p c ≡ false → StandsAfter f p old w → front p (finished f p w) ++ [] ≡ front p (finished f p (w ++ c ∷ []))
+  settles_mark old w c mark s =
+      append-nil _
+      ∙ ap (λ v. front p (finished f p v)) s.text
+      ∙ front-behind p (composes f) s.head s.run s.ends s.marks
+      ∙ sym (ap (λ v. front p (finished f p v)) (ap (λ v. v ++ c ∷ []) s.text ∙ append_assoc s.head s.run (c ∷ []))
+      ∙ front-behind p (composes f) s.head (s.run ++ c ∷ []) s.ends (marks_push p s.run c s.marks mark))
+
+  -- what a starter more gives of what was held
+  abbrev pub given_by : Option ℕ → List ℕ → List ℕ
+  given_by (Some d) closed = []
+  given_by None closed = closed
+
+  -- a starter more
+  pub stands_starter : (old new : Pending) (w : List ℕ) (c : ℕ) → is_starter p c ≡ true → StandsAfter f p old w → (o : Option ℕ) → o ≡ next_composite p (composes f) (back p (finished f p w)) c
+      → new.composes ≡ old.composes → new.starter ≡ Some (unwrap_or o c) → new.marks.items ≡ [] → StandsAfter f p new (w ++ c ∷ [])
+  unfolding by_class
+  stands_starter old new w c starts s o composite same_form starter empty = record {
+    head = w ++ c ∷ [];
+    run = [];
+    text = sym (append-nil _);
+    ends = trail-push p w c ∙ cond-true _ _ _ starts;
+    marks = refl;
+    composes = same_form ∙ s.composes;
+    starter = ap option_to_list starter ∙ ap (λ o. unwrap_or o c ∷ []) composite ∙ sym (back-push_starter p (composes f) w c starts);
+    held = empty;
+  }
+
+  pub settles_starter : (old : Pending) (w : List ℕ) (c : ℕ) → is_starter p c ≡ true → StandsAfter f p old w → (o : Option ℕ) → o ≡ next_composite p (composes f) (back p (finished f p w)) c
+      → front p (finished f p w) ++ given_by o (back p (finished f p w)) ≡ front p (finished f p (w ++ c ∷ []))
+  settles_starter old w c starts s o composite = next o ∙ ap (λ o. settled_by p o (finished f p w)) composite ∙ sym (front-push_starter p (composes f) w c starts)
+    where
+      next : (o : Option ℕ) → front p (finished f p w) ++ given_by o (back p (finished f p w)) ≡ settled_by p o (finished f p w)
+      next (Some d) = append-nil _
+      next None = front-append-back p (finished f p w)
+
+  pub stands_new : (pending : Pending) → pending.composes ≡ composes f → pending.starter ≡ None → pending.marks.items ≡ [] → StandsAfter f p pending []
+  unfolding by_class
+  stands_new pending form starter empty = record {
+    head = [];
+    run = [];
+    text = refl;
+    ends = refl;
+    marks = refl;
+    composes = form;
+    starter = ap option_to_list starter ∙ sym (back-empty p (composes f));
+    held = empty;
+  }
+
+  -- what closes off all that is held
+  module _ (pending : Pending) (w : List ℕ) (s : StandsAfter f p pending w) (closed : List ℕ)
+      (closes : (m : List ℕ) → pending.marks.items ≡ map (mark_of p) m → has_starter p m ≡ false → closed ≡ closed_off p pending.composes pending.starter m) where
+    closed_held : closed ≡ closed_off p (composes f) pending.starter (by_class p s.run)
+    closed_held = closes (by_class p s.run) s.held (has_starter-by_class p s.run) ∙ ap (λ b. closed_off p b pending.starter (by_class p s.run)) s.composes
+
+    closed_is : closed ≡ back p (finished f p w)
+    closed_is = closed_held ∙ sym (back_held pending w s)
+
+    pub ends_all : front p (finished f p w) ++ closed ≡ finished f p w
+    ends_all = ap (λ v. front p (finished f p w) ++ v) closed_is ∙ front-append-back p (finished f p w)
+
+    module _ (c : ℕ) (starts : is_starter p c ≡ true) (o : Option ℕ) (meets : o ≡ composite_with p pending.composes pending.starter closed c) where
+      next_is : o ≡ next_composite p (composes f) (back p (finished f p w)) c
+      next_is =
+          meets
+          ∙ ap (λ b. composite_with p b pending.starter closed c) s.composes
+          ∙ ap (λ v. composite_with p (composes f) pending.starter v c) closed_held
+          ∙ composite_held pending w s c
+
+      pub begun_settles : front p (finished f p w) ++ given_by o closed ≡ front p (finished f p (w ++ c ∷ []))
+      begun_settles = ap (λ v. front p (finished f p w) ++ given_by o v) closed_is ∙ settles_starter pending w c starts s o next_is
+
+      pub begun_stands : (new : Pending) → new.composes ≡ pending.composes → new.starter ≡ Some (unwrap_or o c) → new.marks.items ≡ [] → StandsAfter f p new (w ++ c ∷ [])
+      begun_stands new = stands_starter pending new w c starts s o next_is
+
+characters : (p : Properties) (m : List ℕ) → map (λ mark. mark.character) (map (mark_of p) m) ≡ m
+characters p [] = refl
+characters p (c ∷ m) = ap (λ v. c ∷ v) (characters p m)
+
+pub in_order_closes : (p : Properties) (starter : Option ℕ) (m : List ℕ) (marks : List Mark) → marks ≡ map (mark_of p) m
+    → option_to_list starter ++ map (λ mark. mark.character) marks ≡ closed_off p false starter m
+in_order_closes p starter m marks same = ap (λ v. option_to_list starter ++ map (λ mark. mark.character) v) same ∙ ap (λ v. option_to_list starter ++ v) (characters p m) ∙ next starter
+  where
+    next : (o : Option ℕ) → option_to_list o ++ m ≡ closed_off p false o m
+    next None = refl
+    next (Some s) = refl
+
+pub in_order_none : (p : Properties) (b : Bool) (m : List ℕ) (marks : List Mark) → marks ≡ map (mark_of p) m → option_to_list {X = ℕ} None ++ map (λ mark. mark.character) marks ≡ closed_off p b None m
+in_order_none p b m marks same = ap (λ v. map (λ mark. mark.character) v) same ∙ characters p m

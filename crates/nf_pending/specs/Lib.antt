@@ -1,0 +1,4 @@
+pub mod Mark
+pub mod Meeting
+pub mod StandsAfter
+pub mod Laws

@@ -1,0 +1,15 @@
+//! The end of a text whose form is still open: its last starter and the marks behind it.
+//!
+//! A [`Pending`] takes decomposed text, a code point at a time, and gives what has settled: all before the last
+//! starter of the normalized text. It holds at most 31 code points, and takes no memory.
+#![tactic(auto)]
+
+mod closing;
+pub mod laws;
+mod mark;
+mod pending;
+
+pub use pending::{Pending, Segment};
+
+#[cfg(test)]
+mod tests;

@@ -1,0 +1,69 @@
+-- A checker's steps.
+use Rattle.std.proofs.Common.{◌≡◌, ℕ, ◌+◌, ◌≤◌, Bool, true, false, not, ◌&&◌, List, [], ◌∷◌, ◌++◌, length, Some, None, is_some, encode_utf8, encode_utf8_all, sym, ap, ap₂, ◌∙◌, arith}
+use Rattle.std.specs.Prelude.{if◌then◌else◌}
+use Rattle.std.proofs.lemmas.List.{length-append}
+use Rattle.std.proofs.lemmas.Str.{encodes-append}
+use Rattle.nf_row.specs.Properties.{Properties}
+use Rattle.nf_row.specs.Sound.{max_row}
+use Rattle.nf_safe.specs.declared.checker.Checker.{Checker}
+use Rattle.nf_safe.specs.Count.{counted, passes, count_step}
+use Rattle.nf_safe.specs.Place.{is_in_format}
+use Rattle.nf_safe.specs.Checker.{place_of, StandsAfter}
+use Rattle.nf_safe.specs.Laws.Count.{count_step-within, trail-decomposed-counted}
+use Rattle.nf_safe.specs.Laws.Place.{is_in_format-push, place_from-in_format, place_from-at, place_from-stays}
+
+place_of-over : (checker : Checker) → checker.is_over ≡ true → place_of checker ≡ Some checker.reached
+place_of-over checker over = ap (λ b. if b then Some checker.reached else None) over
+
+place_of-on : (checker : Checker) → checker.is_over ≡ false → place_of checker ≡ None
+place_of-on checker on = ap (λ b. if b then Some checker.reached else None) on
+
+module _ (base : ℕ) (p : Properties) (old : Checker) (x : List ℕ) (c : ℕ) (before : StandsAfter base p old x) where
+  pub stays : old.is_over ≡ true → StandsAfter base p old (x ++ c ∷ [])
+  stays over =
+      let found = place_of-over old over in
+      let some = ap is_some found in
+      record {
+        place = found ∙ sym (place_from-stays p base x c old.reached (sym before.place ∙ found));
+        in_format = λ none. cc;
+        offset = λ none. cc;
+        chars = λ none. cc;
+        count = λ none. cc;
+      }
+
+  -- with c the text is in the format, or not
+  in_format : (b : Bool) → old.is_over ≡ false → length (p.compat c) ≤ max_row → passes p old.counter (p.compat c) ≡ b
+      → is_in_format p (x ++ c ∷ []) ≡ not b
+  in_format b on few answer =
+      let none = ap is_some (place_of-on old on) in
+      is_in_format-push p x c few
+      ∙ ap₂ (λ s t. s && not t) (before.in_format none) (ap (λ n. passes p n (p.compat c)) (sym (before.count none)) ∙ answer)
+
+  pub leaves : (new : Checker) → old.is_over ≡ false → length (p.compat c) ≤ max_row → passes p old.counter (p.compat c) ≡ true
+      → place_of new ≡ Some old.reached → StandsAfter base p new (x ++ c ∷ [])
+  leaves new on few answer found =
+      let none = ap is_some (place_of-on old on) in
+      let some = ap is_some found in
+      record {
+        place = found ∙ ap₂ (λ n m. Some (record { chars = n; bytes = m })) (before.chars none) (before.offset none)
+            ∙ sym (place_from-at p base x c (before.in_format none) (in_format true on few answer));
+        in_format = λ none. cc;
+        offset = λ none. cc;
+        chars = λ none. cc;
+        count = λ none. cc;
+      }
+
+  pub goes_on : (new : Checker) → old.is_over ≡ false → length (p.compat c) ≤ max_row → passes p old.counter (p.compat c) ≡ false
+      → new.is_over ≡ false → new.reached.chars ≡ old.reached.chars + 1 → new.reached.bytes ≡ old.reached.bytes + length (encode_utf8 c)
+      → new.counter ≡ count_step p old.counter (p.compat c) → StandsAfter base p new (x ++ c ∷ [])
+  goes_on new on few answer still chars bytes count =
+      let none = ap is_some (place_of-on old on) in
+      let here = in_format false on few answer in
+      record {
+        place = place_of-on new still ∙ sym (place_from-in_format p base (x ++ c ∷ []) here);
+        in_format = λ _. here;
+        offset = λ _. omega (arith, bytes, before.offset none, ap length (encodes-append x (c ∷ [])), length-append (encode_utf8_all x) (encode_utf8 c ++ []), length-append (encode_utf8 c) []);
+        chars = λ _. omega (arith, chars, before.chars none, length-append x (c ∷ []));
+        count = λ _. count ∙ count_step-within p old.counter (p.compat c) answer
+            ∙ ap (λ n. counted p n (p.compat c)) (before.count none) ∙ sym (trail-decomposed-counted p x c);
+      }

@@ -1,0 +1,79 @@
+ghost use Rattle.std.specs.Prelude.{◌≡◌, ◌≤◌, List, ℕ, [], ◌∷◌, ◌++◌};
+ghost use Rattle.nf_row.specs.Properties.{Properties};
+ghost use Rattle.nf_row.specs.StreamSafe.{max_run};
+ghost use Rattle.nf_safe.specs.Count.{passes, count_step};
+ghost use Rattle.nf_safe.specs.Counter.{StandsAfter};
+
+use nf_row::{Row, Rows, lead, trail};
+use std::marker::Model;
+
+/// How many non-starters a run may have (UAX #15, section 13).
+const MAX_RUN: usize = 30;
+
+/// Counts the non-starters that the NFKD of a text ends in, and tells where the Stream-Safe Text Process puts U+034F
+/// (UAX #15, section 13).
+#[derive(Clone, Copy, Debug)]
+pub struct Counter {
+    count: u8,
+}
+
+impl Model for Counter {
+    ghost Value = { ℕ };
+
+    ghost view = { λ counter. counter.count };
+
+    ghost invariant = { λ counter. counter.count ≤ max_run };
+
+    ghost inverse = { λ n. record { count = n } };
+}
+
+impl Counter {
+    /// A counter at the start of a text.
+    #[inline]
+    pub const fn new() -> Counter
+        ensures count { result ≡ 0 }
+        ensures stands { (p : Properties) → StandsAfter p result [] }
+    {
+        Counter { count: 0 }
+    }
+
+    /// Takes `k`, the compatibility decomposition of the next character, and answers whether U+034F is to be put before
+    /// that character: the run would have more than 30 non-starters. The count begins anew there.
+    #[inline]
+    pub fn step<R: Rows>(&mut self, rows: &R, k: &Row) -> bool
+        ensures answer { result ≡ passes (R.properties rows.now) self.old k.now.items }
+        ensures count { self.new ≡ count_step (R.properties rows.now) self.old k.now.items }
+        ensures stands { (ks : List (List ℕ)) → StandsAfter (R.properties rows.now) self.old ks
+            → StandsAfter (R.properties rows.now) self.new (ks ++ k.now.items ∷ []) }
+    {
+        let lead = lead(rows, k);
+        let begins_anew = self.count as usize + lead > MAX_RUN;
+        self.count = if lead < k.len() {
+            trail(rows, k) as u8
+        } else if begins_anew {
+            lead as u8
+        } else {
+            self.count + lead as u8
+        };
+        begins_anew
+    }
+
+    /// The non-starters, 0 to 30, that the decompositions end in which were taken since the last step that answered
+    /// true, that one included.
+    #[inline]
+    pub fn count(&self) -> u8
+        ensures value { result ≡ self.now }
+        ensures bound { result ≤ max_run }
+    {
+        self.count
+    }
+}
+
+impl Default for Counter {
+    ghost is_default = { λ counter. counter ≡ 0 };
+
+    #[inline]
+    fn default() -> Counter {
+        Counter::new()
+    }
+}

@@ -1,0 +1,143 @@
+use crate::{Checker, Counter, Place};
+use nf_row::Change::Compat;
+use nf_row::{Patched, Rows, Rule, Ucd, Unsound};
+use std::test::Fail;
+
+const MARK: char = '\u{301}';
+
+/// What the counter answers to the character's compatibility decomposition.
+fn step<R: Rows>(counter: &mut Counter, rows: &R, c: char) -> Option<bool> {
+    let k = rows.compat(c).ok()?;
+    Some(counter.step(rows, &k))
+}
+
+/// What the checker answers to the character `times` times over: the last answer.
+fn see<R: Rows>(
+    checker: &mut Checker,
+    rows: &R,
+    c: char,
+    times: u32,
+) -> Option<Result<Option<Place>, Unsound>> {
+    let mut last = None;
+    for _ in 0..times {
+        if checker.offset() > u64::MAX - c.len_utf8() as u64 {
+            return None;
+        }
+        last = Some(checker.see(rows, c));
+    }
+    last
+}
+
+#[test]
+fn a_character_counts_with_all_that_it_brings(rt: HostRuntime) {
+    let mut counter = Counter::new();
+    assert_eq!(rt; step(&mut counter, &Ucd, 'q'), Some(false));
+    for _ in 0..29 {
+        assert_eq!(rt; step(&mut counter, &Ucd, MARK), Some(false));
+    }
+    assert_eq!(rt; counter.count(), 29);
+    // U+0344 brings two marks.
+    assert_eq!(rt; step(&mut counter, &Ucd, '\u{344}'), Some(true));
+    assert_eq!(rt; counter.count(), 2);
+}
+
+#[test]
+fn marks_that_only_nfkd_shows_count(rt: HostRuntime) {
+    let mut counter = Counter::new();
+    for _ in 0..30 {
+        assert_eq!(rt; step(&mut counter, &Ucd, '\u{FF9E}'), Some(false));
+    }
+    assert_eq!(rt; counter.count(), 30);
+    assert_eq!(rt; step(&mut counter, &Ucd, '\u{FF9E}'), Some(true));
+    assert_eq!(rt; counter.count(), 1);
+}
+
+#[test]
+fn a_letter_leaves_the_marks_that_it_ends_in(rt: HostRuntime) {
+    let mut counter = Counter::default();
+    assert_eq!(rt; step(&mut counter, &Ucd, '\u{C5}'), Some(false));
+    assert_eq!(rt; counter.count(), 1);
+}
+
+#[test]
+fn a_starter_needs_no_joiner(rt: HostRuntime) {
+    let mut counter = Counter::new();
+    for _ in 0..30 {
+        assert_eq!(rt; step(&mut counter, &Ucd, MARK), Some(false));
+    }
+    assert_eq!(rt; counter.count(), 30);
+    assert_eq!(rt; step(&mut counter, &Ucd, 'q'), Some(false));
+    assert_eq!(rt; counter.count(), 0);
+}
+
+#[test]
+fn the_place_of_a_mark_too_many_stays(rt: HostRuntime) {
+    let mut checker = Checker::new(100);
+    assert_eq!(rt; see(&mut checker, &Ucd, 'q', 1), Some(Ok(None)));
+    assert_eq!(rt; see(&mut checker, &Ucd, MARK, 30), Some(Ok(None)));
+    assert_eq!(rt; checker.place(), None);
+    assert_eq!(rt; checker.offset(), 161);
+
+    let place = Some(Place {
+        chars: 31,
+        bytes: 161,
+    });
+    assert_eq!(rt; see(&mut checker, &Ucd, MARK, 1), Some(Ok(place)));
+    for c in [MARK, 'q', '\u{34F}'] {
+        assert_eq!(rt; see(&mut checker, &Ucd, c, 40), Some(Ok(place)));
+    }
+    assert_eq!(rt; checker.place(), place);
+    assert_eq!(rt; checker.offset(), 161);
+}
+
+#[test]
+fn the_marks_of_a_letter_count_towards_the_place(rt: HostRuntime) {
+    let mut checker = Checker::new(0);
+    assert_eq!(rt; see(&mut checker, &Ucd, '\u{C5}', 1), Some(Ok(None)));
+    let place = Place {
+        chars: 30,
+        bytes: 60,
+    };
+    assert_eq!(rt; see(&mut checker, &Ucd, MARK, 30), Some(Ok(Some(place))));
+}
+
+const NINETEEN: [char; 19] = ['a'; 19];
+
+#[test]
+fn an_unsound_character_is_refused_and_skipped(rt: HostRuntime) {
+    let changes = [Compat('x', &NINETEEN)];
+    let rows = Patched::new(&changes);
+    let refusal = Unsound {
+        c: 'x',
+        rule: Rule::A1,
+    };
+    let mut checker = Checker::new(0);
+    assert_eq!(rt; see(&mut checker, &rows, 'a', 1), Some(Ok(None)));
+    assert_eq!(rt; see(&mut checker, &rows, 'x', 1), Some(Err(refusal)));
+    assert_eq!(rt; see(&mut checker, &rows, 'a', 1), Some(Ok(None)));
+    assert_eq!(rt; checker.offset(), 2);
+}
+
+#[test]
+fn behind_a_place_nothing_is_refused(rt: HostRuntime) {
+    let changes = [Compat('x', &NINETEEN)];
+    let rows = Patched::new(&changes);
+    let mut checker = Checker::new(0);
+    see(&mut checker, &rows, 'q', 1);
+    see(&mut checker, &rows, MARK, 31);
+    let place = Place {
+        chars: 31,
+        bytes: 61,
+    };
+    assert_eq!(rt; see(&mut checker, &rows, 'x', 1), Some(Ok(Some(place))));
+}
+
+#[test]
+fn a_row_of_eighteen_is_taken(rt: HostRuntime) -> Result<(), Fail> {
+    let changes = [Compat('x', &NINETEEN[..18])];
+    let rows = Patched::new(&changes);
+    assert_eq!(rt; rows.compat('x').ok().ok_or("too long")?.len(), 18);
+    let mut checker = Checker::new(0);
+    assert_eq!(rt; see(&mut checker, &rows, 'x', 1), Some(Ok(None)));
+    Ok(())
+}

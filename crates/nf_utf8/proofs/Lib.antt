@@ -1,0 +1,9 @@
+mod BegunLen
+mod Endings
+mod Fronts
+mod ReadingLemmas
+mod ReadsLemmas
+mod Sequences
+mod StandingLemmas
+mod TextLen
+mod Texts

@@ -1,0 +1,68 @@
+-- `text_len`, the length of the longest front that is well-formed.
+use Rattle.std.proofs.Common.{◌≡◌, ℕ, zero, suc, ◌+◌, ◌≤◌, ⊎_elim, Bool, true, false, cond, true≢false, List, ◌++◌, length, take, drop, IsUtf8, encode_utf8, refl, sym, ap, subst, ◌∙◌, arith, length-append, length-take-le, take-append-drop, take_at}
+use Rattle.std.specs.Str.{StartsWithNoChar, is_utf8}
+use Rattle.std.specs.Str.Lossy.{utf8_valid_len, valid_len_up_to}
+use Rattle.std.proofs.str.Laws.{order}
+use Rattle.std.proofs.str.Classes.{width_is}
+use Rattle.std.proofs.str.Lossy.{IsUtf8-from_is_utf8, is_utf8-from_IsUtf8}
+use Rattle.std.proofs.iter.FirstChar.{no_text}
+use Rattle.std.proofs.lemmas.Str.{IsUtf8-nil, IsUtf8-append, IsUtf8-encode}
+use Rattle.nf_utf8.specs.Reading.{text_len}
+use Rattle.nf_utf8.proofs.Fronts.{IsLongestFront, longest_same, longest_behind}
+use Rattle.nf_utf8.proofs.Texts.{IsUtf8-behind}
+
+-- n is the greatest length up to m at which the front is well-formed
+record Found (bytes : List ℕ) (n m : ℕ) : Type 0 where
+  pub within : n ≤ m
+  pub holds : IsUtf8 (take n bytes)
+  pub longest : (k : ℕ) → k ≤ m → IsUtf8 (take k bytes) → k ≤ n
+
+found_more : (bytes : List ℕ) (n m : ℕ) → Found bytes n m → (t : Bool) → is_utf8 (take (suc m) bytes) ≡ t → Found bytes (cond t (suc m) n) (suc m)
+found_more bytes n m f true e = record { within = omega arith; holds = IsUtf8-from_is_utf8 _ e; longest = λ k le _. le }
+found_more bytes n m f false e = record {
+  within = omega (arith, f.within);
+  holds = f.holds;
+  longest = λ k le u. ⊎_elim (λ below. f.longest k (omega arith) u)
+      (λ at. let same : k ≡ suc m = omega arith in absurd (true≢false (sym (is_utf8-from_IsUtf8 _ (subst (λ j. IsUtf8 (take j bytes)) same u)) ∙ e)))
+      (order k (suc m));
+}
+
+found : (bytes : List ℕ) (m : ℕ) → Found bytes (valid_len_up_to bytes m) m
+found bytes zero = record { within = omega arith; holds = IsUtf8-nil; longest = λ k le _. le }
+found bytes (suc m) = found_more bytes (valid_len_up_to bytes m) m (found bytes m) (is_utf8 (take (suc m) bytes)) refl
+
+pub text_len-longest : (bytes : List ℕ) → IsLongestFront IsUtf8 bytes (text_len bytes)
+unfolding utf8_valid_len
+text_len-longest bytes = let f = found bytes (length bytes) in record { within = f.within; holds = f.holds; longest = f.longest }
+
+pub text_len-is : (bytes : List ℕ) (n : ℕ) → IsLongestFront IsUtf8 bytes n → text_len bytes ≡ n
+text_len-is bytes n h = longest_same IsUtf8 bytes _ _ (text_len-longest bytes) h
+
+pub text_len-behind : (xs ys : List ℕ) → IsUtf8 xs → text_len (xs ++ ys) ≡ length xs + text_len ys
+text_len-behind xs ys u = text_len-is (xs ++ ys) _ (longest_behind IsUtf8 xs ys (text_len ys) (λ zs. IsUtf8-append xs zs u) (λ zs. IsUtf8-behind xs zs u) (text_len-longest ys))
+
+-- the bytes in two behind their text
+pub length-front : (bytes : List ℕ) → length (take (text_len bytes) bytes) ≡ text_len bytes
+length-front bytes = length-take-le (text_len bytes) bytes (text_len-longest bytes).within
+
+pub text_len-rest : (bytes : List ℕ) → text_len (drop (text_len bytes) bytes) ≡ 0
+text_len-rest bytes =
+    let n : ℕ = text_len bytes in
+    let all : text_len (take n bytes ++ drop n bytes) ≡ length (take n bytes) + text_len (drop n bytes) = text_len-behind (take n bytes) (drop n bytes) (text_len-longest bytes).holds in
+    let same : text_len (take n bytes ++ drop n bytes) ≡ n = ap (λ l. text_len l) (take-append-drop n bytes) in
+    omega (arith, length-front bytes)
+
+-- where no character begins them, and only there, they have no text
+pub no_char-text_len : (bytes : List ℕ) → text_len bytes ≡ 0 → StartsWithNoChar bytes
+no_char-text_len bytes none c rest s e =
+    let w = width_is c in
+    let fits : length (encode_utf8 c) ≤ length bytes = omega (arith, ap length e, length-append (encode_utf8 c) rest) in
+    let front : take (length (encode_utf8 c)) bytes ≡ encode_utf8 c = ap (take (length (encode_utf8 c))) e ∙ take_at (encode_utf8 c) rest (length (encode_utf8 c)) refl in
+    let short : length (encode_utf8 c) ≤ text_len bytes = (text_len-longest bytes).longest _ fits (subst IsUtf8 (sym front) (IsUtf8-encode c s)) in
+    omega (arith, w.0, w.1)
+
+pub text_len-no_char : (bytes : List ℕ) → StartsWithNoChar bytes → text_len bytes ≡ 0
+text_len-no_char bytes none = ⊎_elim
+    (λ some. absurd (no_text (take (text_len bytes) bytes) (drop (text_len bytes) bytes) (subst StartsWithNoChar (sym (take-append-drop (text_len bytes) bytes)) none) (text_len-longest bytes).holds (omega (arith, length-front bytes))))
+    (λ zero. omega arith)
+    (order 0 (text_len bytes))

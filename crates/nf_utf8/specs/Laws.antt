@@ -1,0 +1,33 @@
+-- Laws of reading. `src/laws.rt` has each as a contract.
+use Rattle.std.specs.Prelude.{◌≡◌, ℕ, List, ◌++◌, length, encode_utf8_all}
+use Rattle.nf_utf8.specs.Text.{IsText}
+use Rattle.nf_utf8.specs.Ending.{Ending, Bad, moved}
+use Rattle.nf_utf8.specs.Reading.{text_len, text_of, rest_of, ending_of}
+use Rattle.nf_utf8.specs.Reads.{Reads}
+
+-- bytes read as the longest text that a front of them spells, with their ending, and as nothing else
+pub record ReadsLongestText : Type 0 where
+  pub reads : (bytes : List ℕ) → Reads bytes (text_of bytes) (ending_of bytes)
+  pub only : (bytes text : List ℕ) (ending : Ending) → Reads bytes text ending → (text ≡ text_of bytes) × (ending ≡ ending_of bytes)
+
+-- bytes in two: their text, and the rest
+pub record SplitsBytes : Type 0 where
+  pub split : (bytes : List ℕ) → bytes ≡ encode_utf8_all (text_of bytes) ++ rest_of bytes
+  pub scalars : (bytes : List ℕ) → IsText (text_of bytes)
+  pub len : (bytes : List ℕ) → length (encode_utf8_all (text_of bytes)) ≡ text_len bytes
+
+-- the bytes of a text read as that text, and what is behind them as if it stood alone
+pub record ReadsBack : Type 0 where
+  pub text : (text bytes : List ℕ) → IsText text → text_of (encode_utf8_all text ++ bytes) ≡ text ++ text_of bytes
+  pub rest : (text bytes : List ℕ) → IsText text → rest_of (encode_utf8_all text ++ bytes) ≡ rest_of bytes
+  pub ending : (text bytes : List ℕ) → IsText text → ending_of (encode_utf8_all text ++ bytes) ≡ moved (length (encode_utf8_all text)) (ending_of bytes)
+
+-- a piece is read behind the rest of what came before: where the bytes are cut into pieces does not matter, and
+-- no character is taken back
+pub record ReadsPieces : Type 0 where
+  pub text : (bytes piece : List ℕ) → text_of (bytes ++ piece) ≡ text_of bytes ++ text_of (rest_of bytes ++ piece)
+  pub rest : (bytes piece : List ℕ) → rest_of (bytes ++ piece) ≡ rest_of (rest_of bytes ++ piece)
+  pub ending : (bytes piece : List ℕ) → ending_of (bytes ++ piece) ≡ moved (text_len bytes) (ending_of (rest_of bytes ++ piece))
+  -- nothing behind a bad byte is read
+  pub bad_text : (bytes piece : List ℕ) (at start : ℕ) → ending_of bytes ≡ Bad at start → text_of (bytes ++ piece) ≡ text_of bytes
+  pub bad_ending : (bytes piece : List ℕ) (at start : ℕ) → ending_of bytes ≡ Bad at start → ending_of (bytes ++ piece) ≡ Bad at start

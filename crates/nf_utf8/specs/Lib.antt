@@ -1,0 +1,9 @@
+pub mod Text
+pub mod Ending
+pub mod Reading
+pub mod Reads
+pub mod Laws
+pub mod Standing
+pub mod Part
+pub mod Carry
+pub mod Tells

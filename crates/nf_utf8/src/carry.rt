@@ -1,0 +1,69 @@
+ghost use Rattle.std.specs.Prelude.{◌≡◌, ◌≤◌, ◌↔◌, [], IsTrue, length};
+ghost use Rattle.nf_utf8.specs.Part.{IsPart};
+ghost use Rattle.nf_utf8.specs.Carry.{bytes_of};
+ghost use Rattle.nf_utf8.specs.Tells.{Tells, part_after};
+
+use crate::sequence;
+use crate::step::Step;
+
+/// The bytes of a begun character.
+#[derive(Clone, Copy, Debug)]
+pub enum Carry {
+    Empty,
+    One(u8),
+    Two(u8, u8),
+    Three(u8, u8, u8),
+}
+
+impl Carry {
+    #[inline]
+    pub fn len(self) -> usize
+        ensures count { result ≡ length (bytes_of self) }
+        ensures few { result ≤ 3 }
+    {
+        match self {
+            Carry::Empty => 0,
+            Carry::One(..) => 1,
+            Carry::Two(..) => 2,
+            Carry::Three(..) => 3,
+        }
+    }
+
+    #[inline]
+    pub fn is_empty(self) -> bool
+        ensures { IsTrue result ↔ (bytes_of self ≡ []) }
+    {
+        matches!(self, Carry::Empty)
+    }
+
+    /// What `byte` tells behind these.
+    #[inline]
+    pub fn step(self, byte: u8) -> Step
+        requires { IsPart (bytes_of self) }
+        ensures { Tells (bytes_of self) byte result }
+    {
+        match self {
+            Carry::Empty => sequence::first(byte),
+            Carry::One(a) => sequence::second(a, byte),
+            Carry::Two(a, b) => sequence::third(a, b, byte),
+            Carry::Three(a, b, c) => sequence::fourth(a, b, c, byte),
+        }
+    }
+
+    /// The bytes of a begun character once `byte` has told this step.
+    #[inline]
+    pub fn after(self, byte: u8, step: Step) -> Carry
+        requires { Tells (bytes_of self) byte step }
+        ensures { bytes_of result ≡ part_after (bytes_of self) byte step }
+    {
+        match step {
+            Step::More => match self {
+                Carry::Empty => Carry::One(byte),
+                Carry::One(a) => Carry::Two(a, byte),
+                Carry::Two(a, b) => Carry::Three(a, b, byte),
+                Carry::Three(..) => unreachable!(),
+            },
+            Step::Char(_) | Step::Bad { .. } => Carry::Empty,
+        }
+    }
+}

@@ -1,0 +1,27 @@
+//! Laws of reading, each as the contract of a function that does nothing: a caller's proof has the law by a call.
+
+ghost use Rattle.nf_utf8.specs.Laws.{ReadsLongestText, SplitsBytes, ReadsBack, ReadsPieces};
+
+/// Bytes read as the longest text that a front of them spells, with their ending, and as nothing else.
+#[inline]
+pub fn longest_text()
+    ensures { ReadsLongestText }
+{}
+
+/// Bytes are those of their text and the rest.
+#[inline]
+pub fn split()
+    ensures { SplitsBytes }
+{}
+
+/// The bytes of a text read as that text.
+#[inline]
+pub fn read_back()
+    ensures { ReadsBack }
+{}
+
+/// A piece is read behind the rest of what came before it, so it does not matter where bytes are cut into pieces.
+#[inline]
+pub fn pieces()
+    ensures { ReadsPieces }
+{}
