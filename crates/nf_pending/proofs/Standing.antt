@@ -1,37 +1,31 @@
 -- What a machine holds of the text that it stands after.
 use Rattle.std.proofs.Common.{◌≡◌, ℕ, ◌+◌, Bool, true, false, cond, leb, List, [], ◌∷◌, ◌++◌, length, Option, Some, None, refl, sym, ap, ◌∙◌, subst, arith, append_assoc, map, take, drop}
 use Rattle.std.proofs.lemmas.Bool.{cond-true, cond-false, ne_eqb}
-use Rattle.std.proofs.lemmas.List.{append-nil, length-map, map-append, take-map, drop-map}
+use Rattle.std.proofs.lemmas.List.{append-nil, map-append, take-map, drop-map}
 use Rattle.std.specs.Prelude.{insert, is_some, unwrap_or, ◌||◌}
 use Rattle.std.specs.List.{prefix_len}
 use Rattle.std.specs.Option.{option_to_list}
 use Rattle.nf_row.specs.Properties.{Properties, is_starter}
-use Rattle.nf_row.specs.Runs.{has_starter, trail}
+use Rattle.nf_row.specs.Runs.{has_starter}
 use Rattle.nf_row.specs.Front.{front, back}
 use Rattle.nf_row.specs.Order.{by_class}
 use Rattle.nf_row.specs.Compose.{composite}
 use Rattle.nf_row.specs.declared.form.Form.{Form}
 use Rattle.nf_row.specs.Forms.{composes, finished}
 use Rattle.nf_row.specs.Laws.Runs.{has_starter-append, trail-push}
-use Rattle.nf_row.specs.Laws.Front.{front-append-back, trail-behind, marks_push}
+use Rattle.nf_row.specs.Laws.Front.{front-append-back, marks_push}
 use Rattle.nf_row.specs.Laws.Order.{by_class-push, has_starter-by_class}
-use Rattle.nf_row.specs.Laws.Starters.{length-by_class}
 use Rattle.nf_row.specs.Laws.Compose.{IsGroup, closed_off, closed_off-group, next_composite, next_composite-none, settled_by, front-push_starter, back-push_starter, front-behind, back-behind, back-starter, back-empty, has_starter-head}
 use Rattle.nf_pending.specs.declared.mark.Mark.{Mark}
 use Rattle.nf_pending.specs.declared.pending.Pending.{Pending}
 use Rattle.nf_pending.specs.Mark.{mark_of}
 use Rattle.nf_pending.specs.Meeting.{composite_with}
-use Rattle.nf_pending.specs.StandsAfter.{run_len, StandsAfter}
+use Rattle.nf_pending.specs.StandsAfter.{StandsAfter}
 
 module _ (f : Form) (p : Properties) where
   module _ (pending : Pending) (w : List ℕ) (s : StandsAfter f p pending w) where
     pub back_held : back p (finished f p w) ≡ closed_off p (composes f) pending.starter (by_class p s.run)
     back_held = ap (λ v. back p (finished f p v)) s.text ∙ back-behind p (composes f) s.head s.run pending.starter s.ends s.marks (sym s.starter)
-
-    pub trail_held : trail p w ≡ run_len pending
-    trail_held =
-        ap (λ v. trail p v) s.text ∙ trail-behind p s.head s.run s.ends s.marks
-        ∙ sym (ap (λ v. length v) s.held ∙ length-map (by_class p s.run) (mark_of p) ∙ length-by_class p s.run s.marks)
 
     pub starter_held : has_starter p w ≡ is_some pending.starter
     starter_held =

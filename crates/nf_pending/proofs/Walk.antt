@@ -53,21 +53,23 @@ module _ (p : Properties) (first : ℕ) (marks : List Mark) where
         ∙ ap (λ b. replaced (if b then None else composite p starter x) starter w.left x) (w.blocks m same plain (p.class x) class)
         ∙ sym (ap (λ k. replaced o starter w.left k.character) is ∙ ap (λ o. replaced o starter w.left x) (joins ∙ ap (λ k. if leb k.class highest then None else composite p starter k.character) is))
 
-    pub walks_joined : (d : ℕ) → Some d ≡ (if leb mark.class highest then None else composite p starter mark.character) → Walks p first marks (i + 1) highest d text
-    walks_joined d joins = record {
+    pub walks_joined : (o : Option ℕ) → o ≡ (if leb mark.class highest then None else composite p starter mark.character)
+        → (d : ℕ) → o ≡ Some d → Walks p first marks (i + 1) highest d text
+    walks_joined o joins d is = record {
       left = w.left;
       text_is = w.text_is;
       room = let room = w.room in omega arith;
-      made = λ m same plain. next m same plain (Some d) joins;
+      made = λ m same plain. next m same plain (Some d) (sym is ∙ joins);
       blocks = w.blocks;
     }
 
-    pub walks_left : None ≡ (if leb mark.class highest then None else composite p starter mark.character) → Walks p first marks (i + 1) (max highest mark.class) starter (text ++ mark.character ∷ [])
-    walks_left joins = record {
+    pub walks_left : (o : Option ℕ) → o ≡ (if leb mark.class highest then None else composite p starter mark.character)
+        → o ≡ None → Walks p first marks (i + 1) (max highest mark.class) starter (text ++ mark.character ∷ [])
+    walks_left o joins is = record {
       left = w.left ++ mark.character ∷ [];
       text_is = ap (λ v. v ++ mark.character ∷ []) w.text_is;
       room = let room = w.room in omega (arith, length-append w.left (mark.character ∷ []));
-      made = λ m same plain. next m same plain None joins;
+      made = λ m same plain. next m same plain None (sym is ∙ joins);
       blocks = λ m same plain k some.
           list_any-append (λ x. leb k (p.class x)) w.left (mark.character ∷ [])
           ∙ ap (λ b. b || (leb k (p.class mark.character) || false)) (w.blocks m same plain k some)
@@ -78,9 +80,9 @@ module _ (p : Properties) (first : ℕ) (marks : List Mark) where
         leb_max : (k a b : ℕ) → (leb k a || (leb k b || false)) ≡ leb k (max a b)
         leb_max k a b = grind (arith, nat_tests)
 
-  pub walks_same : (i : ℕ) {h k s t : ℕ} {v w : List ℕ} → h ≡ k → s ≡ t → v ≡ w → Walks p first marks i h s v → Walks p first marks i k t w
-  walks_same i {h} {k} {s} {t} {v} {w} hk st vw walk =
-      subst (λ v. Walks p first marks i k t v) vw (subst (λ s. Walks p first marks i k s v) st (subst (λ h. Walks p first marks i h s v) hk walk))
+  pub walks_same : (i : ℕ) (h k s t : ℕ) (v w : List ℕ) → k ≡ h → t ≡ s → w ≡ v → Walks p first marks i h s v → Walks p first marks i k t w
+  walks_same i h k s t v w kh ts wv walk =
+      subst (λ v. Walks p first marks i k t v) (sym wv) (subst (λ s. Walks p first marks i k s v) (sym ts) (subst (λ h. Walks p first marks i h s v) (sym kh) walk))
 
   pub walks_all : (highest starter : ℕ) (text : List ℕ) (i : ℕ) → Walks p first marks i highest starter text → length marks ≤ i
       → (m : List ℕ) → marks ≡ map (mark_of p) m → has_starter p m ≡ false → slice_set text 0 starter ≡ fold (join p) (first ∷ []) m

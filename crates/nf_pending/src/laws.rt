@@ -1,12 +1,20 @@
 //! Laws of what is settled, each the contract of a function without a body.
-ghost use Rattle.nf_pending.specs.Laws.{FrontOnlyGrows, PendingIsBounded};
+ghost use Rattle.std.specs.Prelude.{◌≡◌, ℕ, ◌+◌, ◌≤◌, List, ◌++◌, length};
+ghost use Rattle.nf_row.specs.Properties.{Properties};
+ghost use Rattle.nf_row.specs.Runs.{trail};
+ghost use Rattle.nf_row.specs.Front.{front};
+ghost use Rattle.nf_row.specs.declared.form.Form.{Form};
+ghost use Rattle.nf_row.specs.Forms.{finished};
 
-/// Nothing that has settled is taken back: whatever is appended to decomposed text, the front of its form only grows.
+/// What has settled is never taken back: whatever comes behind a decomposed text, the front of its form stays as a
+/// beginning of the front.
 pub fn front_only_grows()
-    ensures { FrontOnlyGrows }
+    ensures { (f : Form) (p : Properties) (w v : List ℕ)
+        → (more : List ℕ) × (front p (finished f p (w ++ v)) ≡ front p (finished f p w) ++ more) }
 {}
 
-/// Of a decomposed text that ends in at most 30 non-starters, at most 31 code points of the form are not yet settled.
+/// Of a decomposed text that ends in at most 30 non-starters, at most 31 code points of the form are not settled.
 pub fn pending_is_bounded()
-    ensures { PendingIsBounded }
+    ensures { (f : Form) (p : Properties) (w : List ℕ)
+        → trail p w ≤ 30 → length (finished f p w) ≤ length (front p (finished f p w)) + 31 }
 {}

@@ -1,2 +1,3 @@
 mod Examples
 mod FormsOfTexts
+pub mod ShapeLemmas

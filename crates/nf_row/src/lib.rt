@@ -24,6 +24,6 @@ pub use joiner::JOINER;
 pub use patched::{Change, Patched};
 pub use rows::{Long, Row, Rows};
 pub use runs::{has_starter, lead, trail};
-pub use soundness::sound;
+pub use soundness::{sound, sound_compat};
 pub use ucd::Ucd;
 pub use unsound::{Rule, Unsound};

@@ -2,7 +2,7 @@ ghost use Rattle.std.specs.Prelude.{◌≤◌};
 
 use crate::counter::Counter;
 use crate::place::Place;
-use nf_row::{Rows, Rule, Unsound, sound};
+use nf_row::{Rows, Rule, Unsound, sound_compat};
 
 /// Finds where a text leaves the Stream-Safe Text Format, character by character.
 #[derive(Clone, Copy, Debug)]
@@ -60,11 +60,9 @@ impl Checker {
         if self.is_over {
             return Ok(Some(self.reached));
         }
-        if !sound(rows, c) {
+        let Some(k) = sound_compat(rows, c) else {
             return Err(Unsound { c, rule: Rule::A1 });
-        }
-        // A sound character has a short row.
-        let k = rows.compat(c).unwrap();
+        };
         if self.counter.step(rows, &k) {
             self.is_over = true;
             return Ok(Some(self.reached));

@@ -11,16 +11,16 @@ returns-then-self-clause-stands g c = λ base x before. stays base (g.R.Rows.pro
 pub returns-then-step-clause-stands : goal.returns-then-step-clause-stands
 returns-then-step-clause-stands g c =
     let p = g.R.Rows.properties c.args.rows.now in
-    let few : length (p.compat c.args.c) ≤ max_row = (IsSound-from_test p c.args.c (sym c.sound.ensures ∙ c.if-not-sound.false)).compat_few in
-    let row : c.unwrap-k.result.items ≡ p.compat c.args.c = rw c.unwrap-k.ensures at c.compat.ensures.row in
+    let few : length (p.compat c.args.c) ≤ max_row = (IsSound-from_test p c.args.c (sym c.in-Some.ensures.sound)).compat_few in
+    let row : c.in-Some.k.items ≡ p.compat c.args.c = c.in-Some.ensures.row in
     λ base x before. leaves base p c.args.self.now x c.args.c before _ c.if-self.false few
     (ap (λ k. passes p c.args.self.now.counter k) (sym row) ∙ sym c.step.ensures.answer ∙ c.if-step.true) refl
 
 pub returns-clause-stands : goal.returns-clause-stands
 returns-clause-stands g c =
     let p = g.R.Rows.properties c.args.rows.now in
-    let few : length (p.compat c.args.c) ≤ max_row = (IsSound-from_test p c.args.c (sym c.sound.ensures ∙ c.if-not-sound.false)).compat_few in
-    let row : c.unwrap-k.result.items ≡ p.compat c.args.c = rw c.unwrap-k.ensures at c.compat.ensures.row in
+    let few : length (p.compat c.args.c) ≤ max_row = (IsSound-from_test p c.args.c (sym c.in-Some.ensures.sound)).compat_few in
+    let row : c.in-Some.k.items ≡ p.compat c.args.c = c.in-Some.ensures.row in
     λ base x before. goes_on base p c.args.self.now x c.args.c before _ c.if-self.false few
     (ap (λ k. passes p c.args.self.now.counter k) (sym row) ∙ sym c.step.ensures.answer ∙ c.if-step.false) c.if-self.false refl
     (ap (λ n. c.args.self.now.reached.bytes + n) c.len_utf8-len.ensures.len) (c.step.ensures.count ∙ ap (λ k. count_step p c.args.self.now.counter k) row)

@@ -1,0 +1,7 @@
+mod Rows
+mod Requests
+mod UsableLemmas
+mod PlainLemmas
+mod ReadingLemmas
+mod FaultLemmas
+mod AnswerLemmas

@@ -1,0 +1,166 @@
+-- Words in which clap finds no fault ask for something.
+use Rattle.std.proofs.Common.{◌≡◌, ◌∙◌, ◌&&◌, ◌||◌, ◌⊎◌, Bool, cond, true, false, not, refl, sym, ap, subst, List, [], ◌∷◌, Option, Some, None, inl, inr, codes, is_some, true≢false}
+use Rattle.std.specs.Prelude.{find, option_and_then, option_map}
+use Rattle.std.specs.List.{list_any}
+use Rattle.std.specs.Option.{option_map_or}
+use Rattle.std.specs.Borrow.{Bor}
+use Rattle.std.specs.Str.{bytes_eq}
+use Rattle.std.proofs.lemmas.Slice.Eq.{bytes_eq-Decides}
+use Rattle.clap.specs.declared.error.kind.ErrorKind.{ErrorKind}
+use Rattle.clap.specs.declared.error.kind.ErrorKind.TheVariants.{OutOfMemory}
+use Rattle.clap.specs.Kinds.{IsAmong}
+use Rattle.clap.specs.Takes.{takes, value_passes}
+use Rattle.clap.specs.Walk.{Row, Rule, Text, answers_to, nothing_held, rows_after, stop_after, texts, walk_from}
+use Rattle.clap.specs.Simple.{App, Shape, argument_words, built, entered, label_of, names_of, rows_at, subcommand_of, new_shape, with_index, filled}
+use Rattle.clap.specs.Faults.{built_fault, entered_fault, fault_of, is_simple_and_free, level_fault}
+use Rattle.clap.proofs.WalkLemmas.{list_any-map}
+use Rattle.nf_row.specs.declared.form.Form.{Form}
+use Rattle.nf_row.specs.declared.form.Form.TheVariants.{Nfd}
+use Rattle.nf_cmd.specs.declared.line.Request.{Request}
+use Rattle.nf_cmd.specs.declared.line.Request.TheVariants.{Convert}
+use Rattle.nf_cmd.specs.Line.{IsLine, IsRefusal, convert, form_named, form_names, form_rule, line, request_of}
+use Rattle.nf_cmd.proofs.Rows.{Given, IsIn, IsNoHelp, StopsAtNoHelp, below_faultless, checked, given, no_help-walk, nothing_wanted, walk_faultless}
+
+-- s is one of the subcommands
+abbrev IsSub : Shape → List Shape → Type 0
+IsSub s [] = ⊥
+IsSub s (x ∷ xs) = (s ≡ x) ⊎ IsSub s xs
+
+-- a subcommand was entered, which is not help, and its own words have no fault
+record Enters (a : App) (found : Option (Text × List Row)) : Type 0 where
+  pub sub : Shape
+  pub name : Text
+  pub words : List Text
+  pub inside : IsSub sub a.subs
+  pub answers : answers_to name (label_of sub) ≡ true
+  pub no_help : IsNoHelp name
+  pub is : found ≡ Some (sub.name, rows_after sub.rules [] words)
+  pub faultless : level_fault sub [] nothing_held words false [] ≡ []
+
+find-sub : (p : Shape → Bool) (c : List Shape) (s : Shape) → find p c ≡ Some s → IsSub s c × (p s ≡ true)
+find-sub p [] s e = let bad : ⊥ = cc in absurd bad
+find-sub p (x ∷ xs) s e = go (find-sub p xs s) (p x) refl e
+  where
+    go : (find p xs ≡ Some s → IsSub s xs × (p s ≡ true)) → (b : Bool) → p x ≡ b → cond b (Some x) (find p xs) ≡ Some s → IsSub s (x ∷ xs) × (p s ≡ true)
+    go rest true t h = let same : s ≡ x = cc in (inl same, ap p same ∙ t)
+    go rest false t h = let found = rest h in (inr found.0, found.1)
+
+module _ (a : App) (words : List Text) (off : a.top.args_override_self ≡ false) (helps : a.top.disable_help_subcommand ≡ false)
+    (needs : a.top.subcommand_required ≡ true) (none : built_fault a nothing_held words ≡ []) where
+  abbrev stop : Option (Text × List Text)
+  stop = stop_after a.top.rules (names_of a) words
+
+  enters : Enters a (entered a stop)
+  enters = go stop
+      (no_help-walk a.top off (names_of a) helps (walk_from nothing_held) words (walk_faultless a.top off (names_of a) words (is_some (entered a stop)) (entered_fault a stop) none) tt)
+      (below_faultless a.top off (names_of a) words (is_some (entered a stop)) (entered_fault a stop) none)
+      (met (is_some (entered a stop)) a.top.subcommand_required needs (nothing_wanted _ _ _ (checked a.top off (names_of a) words (is_some (entered a stop)) (entered_fault a stop) none)).0)
+    where
+      met : (b n : Bool) → n ≡ true → (not b && n) ≡ false → b ≡ true
+      met true n t e = refl
+      met false true t e = absurd (true≢false e)
+      met false false t e = absurd (true≢false (sym t))
+
+      at : (p : Text × List Text) → IsNoHelp p.0 → (o : Option Shape) → find (λ s. answers_to p.0 (label_of s)) a.subs ≡ o
+          → option_map_or (λ s. level_fault s [] nothing_held p.1 false []) o [] ≡ [] → is_some (option_map (λ s. rows_at s p.1) o) ≡ true
+          → Enters a (option_map (λ s. rows_at s p.1) o)
+      at p helpless None e below there = absurd (true≢false (sym there))
+      at p helpless (Some s) e below there =
+          let found = find-sub _ a.subs s e in
+          record { sub = s; name = p.0; words = p.1; inside = found.0; answers = found.1; no_help = helpless; is = refl; faultless = below }
+
+      go : (o : Option (Text × List Text)) → StopsAtNoHelp o → entered_fault a o ≡ [] → is_some (entered a o) ≡ true → Enters a (entered a o)
+      go None helpless below there = absurd (true≢false (sym there))
+      go (Some p) helpless below there = at p helpless (find (λ s. answers_to p.0 (label_of s)) a.subs) refl below there
+
+-- help answers to its own name alone
+help_differs : (name : Text) → (bytes_eq (codes "help") name || false) ≡ true → IsNoHelp name → ⊥
+help_differs name e helpless = go (bytes_eq (codes "help") name) refl e
+  where
+    go : (b : Bool) → bytes_eq (codes "help") name ≡ b → (b || false) ≡ true → ⊥
+    go true t h = true≢false (ap (λ x. bytes_eq x (codes "help")) ((bytes_eq-Decides (codes "help") name).0 t) ∙ helpless)
+    go false t h = true≢false (sym h)
+
+-- ---- this program's line
+
+pub simple_and_free : (names : Bor (List (Bor Text))) → is_simple_and_free (line names) ≡ true
+unfolding line convert form_rule
+simple_and_free names = refl
+
+abbrev first_of_subs : List Shape → Shape
+first_of_subs [] = new_shape []
+first_of_subs (s ∷ rest) = s
+
+text_differs : (t : Text) → t ≡ codes "help" → t ≡ codes "form" → ⊥
+text_differs t e h = true≢false (ap (λ x. bytes_eq x (codes "help")) (sym e ∙ h))
+
+-- the names are those of forms
+named : (text : Text) → list_any (λ n. bytes_eq n text) form_names ≡ true → (f : Form) × (form_named text ≡ Some f)
+named text e = go (bytes_eq (codes "nfd") text) refl e
+  where
+    go : (b : Bool) → bytes_eq (codes "nfd") text ≡ b → (b || false) ≡ true → (f : Form) × (form_named text ≡ Some f)
+    go true t h = (Nfd, ap form_named (sym ((bytes_eq-Decides (codes "nfd") text).0 t)))
+    go false t h = absurd (true≢false (sym h))
+
+module _ (names : Bor (List (Bor Text))) (are : texts names.now ≡ form_names) where
+  abbrev made : Shape
+  made = first_of_subs (built (line names)).subs
+
+  abbrev form : Rule
+  form = with_index 1 (filled (form_rule names))
+
+  form_given : (words : List Text) → level_fault made [] nothing_held words false [] ≡ [] → Given form (rows_after made.rules [] words)
+  unfolding line convert form_rule
+  form_given words none = given made refl [] words false [] none refl form (inl refl) (record { set = refl; least = refl; most = refl; no_default = refl }) refl only
+    where
+      only : (x : Rule) → IsIn x made.rules → x.id ≡ form.id → x ≡ form
+      only x (inl same) e = same
+      only x (inr (inl same)) e = absurd (text_differs x.id (ap (λ (r : Rule). r.id) same) e)
+      only x (inr (inr bad)) e = absurd bad
+
+  value_named : (text : Text) → value_passes form text ≡ true → (f : Form) × (form_named text ≡ Some f)
+  unfolding form_rule
+  value_named text e = named text (sym (list_any-map (λ n. bytes_eq n text) (λ (n : Bor Text). n.now) names.now ∙ ap (list_any (λ n. bytes_eq n text)) are) ∙ e)
+
+  converts : (words : List Text) → level_fault made [] nothing_held words false [] ≡ [] → (r : Request) × (request_of (Some (made.name, rows_after made.rules [] words)) ≡ Some r)
+  unfolding line convert form_rule
+  converts words none =
+      let g = form_given words none in
+      let f = value_named g.text g.passes in
+      (Convert f.0, ap (λ o. option_map (λ x. Convert x) (option_and_then form_named o)) g.first ∙ ap (option_map (λ x. Convert x)) f.1)
+
+  pub asked : (words : List Text) → fault_of (line names) words ≡ [] → (r : Request) × (request_of (subcommand_of (line names) words) ≡ Some r)
+  unfolding line convert form_rule
+  asked words none =
+      let e = enters (built (line names)) (argument_words (line names) words) refl refl refl none in
+      let r = of e.sub e.inside e.name e.answers e.no_help e.words e.faultless in
+      (r.0, ap request_of e.is ∙ r.1)
+    where
+      of : (s : Shape) → IsSub s (built (line names)).subs → (name : Text) → answers_to name (label_of s) ≡ true → IsNoHelp name
+          → (left : List Text) → level_fault s [] nothing_held left false [] ≡ [] → (r : Request) × (request_of (Some (s.name, rows_after s.rules [] left)) ≡ Some r)
+      of s (inl same) name answers helpless left below =
+          let P : Shape → Type 0 = λ x. (r : Request) × (request_of (Some (x.name, rows_after x.rules [] left)) ≡ Some r) in
+          subst P (sym same) (converts left (subst (λ (x : Shape). level_fault x [] nothing_held left false [] ≡ []) same below))
+      of s (inr (inl same)) name answers helpless left below =
+          absurd (help_differs name (ap (λ (x : Shape). answers_to name (label_of x)) (sym same) ∙ answers) helpless)
+      of s (inr (inr bad)) name answers helpless left below = absurd bad
+
+-- ---- the same of any description of the line
+
+pub line_simple : (a : App) → IsLine a → is_simple_and_free a ≡ true
+line_simple a is = ap is_simple_and_free is.2 ∙ simple_and_free is.0
+
+pub line_asked : (a : App) → IsLine a → (words : List Text) → fault_of a words ≡ [] → (r : Request) × (request_of (subcommand_of a words) ≡ Some r)
+line_asked a is words none =
+    let r = asked is.0 is.1 words (sym (ap (λ x. fault_of x words) is.2) ∙ none) in
+    (r.0, ap (λ x. request_of (subcommand_of x words)) is.2 ∙ r.1)
+
+-- an error of the parse is a refusal
+pub line_refused : (a : App) → IsLine a → (words : List Text) (k : ErrorKind) → (takes a words ≡ true → k ≡ OutOfMemory) → (k ≡ OutOfMemory) ⊎ IsAmong k (fault_of a words)
+    → IsRefusal words k
+line_refused a is words k passes (inl memory) = inl memory
+line_refused a is words k passes (inr among) = go (takes a words) refl
+  where
+    go : (b : Bool) → takes a words ≡ b → IsRefusal words k
+    go true e = inl (passes e)
+    go false e = inr (record { app = a; is_line = is; refused = e; kind = among })

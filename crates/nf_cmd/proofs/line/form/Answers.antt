@@ -1,0 +1,9 @@
+use Rattle.std.proofs.Common.{rules}
+use Rattle.nf_cmd.specs.Line.{form_rule}
+use Rattle.nf_cmd.proofs.line.form.Goals as goal
+
+pub returns-clause-rule : goal.returns-clause-rule
+unfolding form_rule
+returns-clause-rule c =
+    let given = c.value_parser.ensures.given in
+    (c.as_slice.result, search rules, search (rules, given.1, given.2))

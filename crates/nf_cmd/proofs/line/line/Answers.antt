@@ -1,0 +1,17 @@
+use Rattle.std.proofs.Common.{rules, codes, true, ◌≡◌, ◌∙◌, ap, ap₂}
+use Rattle.std.proofs.lemmas.Result.{IfOk-weaker}
+use Rattle.clap.specs.Words.{App, app_of, new_app, with_rule, with_subcommand}
+use Rattle.clap.specs.Simple.{on_top}
+use Rattle.nf_cmd.specs.Line.{convert, line}
+use Rattle.nf_cmd.proofs.line.line.Goals as goal
+
+pub returns : goal.returns
+unfolding line convert
+returns c =
+    let rule = c.form.ensures.rule in
+    let empty_is : app_of c.about.result ≡ new_app (codes "convert") = search rules in
+    let convert_is : app_of c.in_ok-convert.convert ≡ convert rule.0 =
+    c.in_ok-convert.ensures.shape c.form.ensures.local ∙ ap₂ with_rule empty_is rule.2 in
+    let top_is : app_of c.subcommand_required.result ≡ on_top (λ s. record s { subcommand_required = true }) (new_app (codes "nfstream")) = search rules in
+    IfOk-weaker c.subcommand.result _ _
+    (λ r h. (rule.0, rule.1, h.shape (search rules) ∙ ap₂ with_subcommand top_is (ap (λ (a : App). a.top) convert_is))) c.subcommand.ensures

@@ -1,0 +1,25 @@
+use Rattle.std.proofs.Common.{◌≡◌, ◌∙◌, ap, sym, codes, List, Option, Some, None, option_map}
+use Rattle.std.specs.Prelude.{Box, unwrap_or}
+use Rattle.std.specs.Box.{box_value}
+use Rattle.clap.specs.declared.parser.matches.SubCommand.{SubCommand}
+use Rattle.clap.specs.declared.parser.matches.ArgMatches.TheViews.{out-SubCommand}
+use Rattle.clap.specs.Matches.{found_of}
+use Rattle.clap.specs.Walk.{Row, Text, rows_of}
+use Rattle.clap.specs.Simple.{subcommand_rows}
+use Rattle.clap.proofs.WalkLemmas.{first_value-rows}
+use Rattle.nf_cmd.specs.Line.{request_by, request_of}
+use Rattle.nf_cmd.proofs.line.requested.Goals as goal
+
+-- the subcommand by its name and its rows
+rows_named : {Z : Type 0} (sub : Option (Box SubCommand Z)) (name : Text) (rows : List Row) → Some name ≡ option_map (λ b. (out-SubCommand (box_value b)).name.now) sub
+    → Some rows ≡ option_map (λ p. p.1) (subcommand_rows sub) → subcommand_rows sub ≡ Some (name, rows)
+rows_named None name rows e f = let bad : Some name ≡ None = e in cc
+rows_named (Some b) name rows e f =
+    λ i. Some (unwrap_or (sym e i) name, unwrap_or (sym f i) rows)
+
+pub returns : goal.returns
+returns c =
+    let found = c.in_ok-name.found.now in
+    let subcommand = rows_named _ c.in_ok-name.name.now (rows_of (found_of found)) c.in_ok-name.ensures.name c.in_ok-name.ensures.rows in
+    c.request_by.ensures ∙ ap (request_by c.in_ok-name.name.now) (c.get_str.ensures ∙ first_value-rows (found_of found) (codes "form"))
+    ∙ sym (ap request_of subcommand)

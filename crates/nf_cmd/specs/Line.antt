@@ -1,0 +1,82 @@
+-- The command line, in clap's words for a simple command.
+use Rattle.std.specs.Prelude.{◌≡◌, ◌⊎◌, List, [], ◌∷◌, Option, Some, None, true, false, codes, if◌then◌else◌}
+use Rattle.std.specs.Prelude.{option_and_then, option_map}
+use Rattle.std.specs.Borrow.{Bor}
+use Rattle.std.specs.Str.{bytes_eq}
+use Rattle.clap.specs.Words.{App, Row, Rule, Text, first_of, new_app, new_rule, subcommand_of, takes}
+use Rattle.clap.specs.Words.{IsAmong, fault_of, with_rule, with_subcommand}
+use Rattle.clap.specs.Simple.{on_top}
+use Rattle.clap.specs.Walk.{texts}
+use Rattle.clap.specs.declared.builder.value_parser.ValueParser.TheVariants.{Names}
+use Rattle.clap.specs.declared.error.kind.ErrorKind.{ErrorKind}
+use Rattle.clap.specs.declared.error.kind.ErrorKind.TheVariants.{OutOfMemory}
+use Rattle.nf_row.specs.declared.form.Form.{Form}
+use Rattle.nf_row.specs.declared.form.Form.TheVariants.{Nfd}
+use Rattle.nf_cmd.specs.declared.line.Request.{Request}
+use Rattle.nf_cmd.specs.declared.line.Request.TheVariants.{Convert}
+
+-- the values of --form
+abbrev pub form_names : List Text
+form_names = codes "nfd" ∷ []
+
+abbrev pub form_named : Text → Option Form
+form_named name = if bytes_eq name (codes "nfd") then Some Nfd else None
+
+-- the option --form, which has to be there and takes one of the names
+unfoldable pub form_rule : Bor (List (Bor Text)) → Rule
+form_rule names = record (new_rule (codes "form")) {
+  long = Some (codes "form");
+  value_names = 1;
+  parser = Some (Names names);
+  required = true;
+}
+
+-- `convert --form F`
+unfoldable pub convert : Bor (List (Bor Text)) → App
+convert names = with_rule (new_app (codes "convert")) (form_rule names)
+
+-- the program's line: one of the subcommands
+unfoldable pub line : Bor (List (Bor Text)) → App
+line names = with_subcommand
+    (on_top (λ s. record s { subcommand_required = true }) (new_app (codes "nfstream")))
+    (convert names).top
+
+-- a is the program's line, where the names are those of the forms
+abbrev pub IsLine : App → Type 0
+IsLine a = (names : Bor (List (Bor Text))) × (texts names.now ≡ form_names) × (a ≡ line names)
+
+-- r is the option --form
+abbrev pub IsFormRule : Rule → Type 0
+IsFormRule r = (names : Bor (List (Bor Text))) × (texts names.now ≡ form_names) × (r ≡ form_rule names)
+
+-- what a subcommand asks for, by its name and the value of --form
+abbrev pub request_by : Text → Option Text → Option Request
+request_by name form = if bytes_eq name (codes "convert")
+    then option_map (λ f. Convert f) (option_and_then form_named form) else None
+
+-- the same, by its name and what was found for its options
+abbrev pub request_of : Option (Text × List Row) → Option Request
+request_of None = None
+request_of (Some p) = request_by p.0 (first_of (codes "form") p.1)
+
+-- clap finds no fault with the words, and they ask for this
+pub record Asks (words : List Text) (r : Request) : Type 0 where
+  pub app : App
+  pub is_line : IsLine app
+  pub faultless : fault_of app words ≡ []
+  pub request : request_of (subcommand_of app words) ≡ Some r
+
+-- clap's definition of a simple command refuses the words, by an error of this kind
+pub record Refuses (words : List Text) (k : ErrorKind) : Type 0 where
+  pub app : App
+  pub is_line : IsLine app
+  pub refused : takes app words ≡ false
+  pub kind : IsAmong k (fault_of app words)
+
+-- clap refuses the words
+abbrev pub IsRefused : List Text → Type 0
+IsRefused words = (k : ErrorKind) × Refuses words k
+
+-- memory ran out, or clap refuses the words
+abbrev pub IsRefusal : List Text → ErrorKind → Type 0
+IsRefusal words k = (k ≡ OutOfMemory) ⊎ Refuses words k

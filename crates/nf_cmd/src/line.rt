@@ -1,0 +1,76 @@
+//! The command line.
+ghost use Rattle.std.specs.Prelude.{◌≡◌, IfErr, IfOk, false, option_map};
+ghost use Rattle.clap.specs.Words.{app_of, kind_of, rule_of, subcommand_rows_of};
+ghost use Rattle.clap.specs.Walk.{texts};
+ghost use Rattle.nf_cmd.specs.Line.{Asks, IsFormRule, IsLine, IsRefusal, form_named, request_by, request_of};
+
+use clap::{Arg, ArgMatches, Command, Error};
+use nf_row::Form;
+use std::alloc::{AllocError, Global};
+
+/// What the words ask for.
+#[derive(Clone, Copy, Debug, PartialEq, Eq)]
+pub(crate) enum Request {
+    /// `convert`: the form of the stream-safe text.
+    Convert(Form),
+}
+
+static FORMS: [&str; 1] = ["nfd"];
+
+/// What `words` ask for, of which the first is the program's name.
+pub(crate) fn parse<'w>(alloc: Global, words: &'w [&'w str]) -> Result<Request, Error>
+    ensures asked { IfOk result (Asks (texts words.entry.now)) }
+    ensures refused { IfErr result (λ e. IsRefusal (texts words.entry.now) (kind_of e)) }
+{
+    let matches = line(alloc)?.try_get_matches_from(words)?;
+    Ok(requested(&matches).unwrap())
+}
+
+// The line that the program takes.
+fn line<'w>(alloc: Global) -> Result<Command<'w>, AllocError>
+    ensures { IfOk result (λ c. IsLine (app_of c)) }
+{
+    let convert = Command::new(alloc, "convert")
+        .about("Writes the normalization form of the stream-safe text that it reads")
+        .arg(form(alloc))?;
+    Command::new(alloc, "nfstream")
+        .about("Makes text from standard input stream-safe and normalizes it, in bounded memory")
+        .subcommand_required(true)
+        .subcommand(convert)
+}
+
+fn form<'w>(alloc: Global) -> Arg<'w>
+    ensures rule { IsFormRule (rule_of result) }
+    ensures local { result.global ≡ false }
+{
+    Arg::new(alloc, "form")
+        .long("form")
+        .value_name("FORM")
+        .value_parser(FORMS.as_slice())
+        .required(true)
+        .help("The normalization form to write")
+}
+
+// What the subcommand asks for that the words name.
+fn requested(matches: &ArgMatches<'_>) -> Option<Request>
+    ensures { result ≡ request_of (subcommand_rows_of matches.now) }
+{
+    let (name, found) = matches.subcommand()?;
+    request_by(name, found.get_str("form"))
+}
+
+fn request_by(name: &str, form: Option<&str>) -> Option<Request>
+    ensures { result ≡ request_by name.now (option_map (λ s. s.now) form.entry) }
+{
+    if name == "convert" {
+        Some(Request::Convert(form_named(form?)?))
+    } else {
+        None
+    }
+}
+
+fn form_named(name: &str) -> Option<Form>
+    ensures { result ≡ form_named name.now }
+{
+    if name == "nfd" { Some(Form::Nfd) } else { None }
+}

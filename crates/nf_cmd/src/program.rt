@@ -1,0 +1,104 @@
+//! The program, over any reader and writers.
+ghost use Rattle.std.specs.Prelude.{◌≡◌, ◌<◌, false, length, ℕ};
+ghost use Rattle.clap.specs.Values.{kind_of};
+ghost use Rattle.clap.specs.Walk.{texts};
+ghost use Rattle.nf_row.specs.Forms.{composes};
+ghost use Rattle.nf_row.specs.Ucd.{ucd};
+ghost use Rattle.nf_cmd.specs.Line.{IsRefused as Refused};
+ghost use Rattle.nf_cmd.specs.Lines.{line_of, status_of};
+ghost use Rattle.nf_cmd.specs.Answers.{Answers, AppendsFront, ComesOf, EndsBy};
+
+use crate::convert::convert;
+use crate::devices::{read_whole, write_front, write_whole};
+use crate::fault::Fault;
+use crate::line::{Request, parse};
+use arrayvec::ArrayVec;
+use clap::Error;
+use clap::error::ErrorKind;
+use nf_row::{Form, Ucd};
+use std::alloc::Global;
+use std::io::{Read, Write};
+
+/// What a line on standard error may take, in bytes.
+const LINE: usize = 128;
+
+/// Does what `words` ask for, of which the first is the program's name, and answers the status to end with.
+pub(crate) fn command<'w, I: Read, O: Write, E: Write>(
+    alloc: Global,
+    words: &'w [&'w str],
+    input: &mut I,
+    out: &mut O,
+    err: &mut E,
+) -> u8
+    requires { 0 < length words.now }
+    ensures answer { Answers (texts words.entry.now) (I.remaining input.old) (I.remaining input.new)
+        (O.contents out.old) (O.contents out.new) (E.contents err.old) (E.contents err.new) result }
+
+    // The command line is to blame only where clap's definition of it refuses the words.
+    ensures refused { result ≡ 2 → Refused (texts words.entry.now) }
+{
+    match parse(alloc, words) {
+        Ok(Request::Convert(form)) => report(convert_input(alloc, form, input, out), err),
+        Err(error) => refuse(alloc, &error, out, err),
+    }
+}
+
+// Converts all that the reader gives.
+fn convert_input<I: Read, O: Write>(
+    alloc: Global,
+    form: Form,
+    input: &mut I,
+    out: &mut O,
+) -> Option<Fault>
+    requires { composes form ≡ false }
+    ensures { EndsBy form ucd (I.remaining input.old) (I.remaining input.new)
+        (O.contents out.old) (O.contents out.new) result }
+{
+    let Ok(read) = read_whole(alloc, input) else {
+        return Some(Fault::Memory);
+    };
+    let Ok(conversion) = convert(alloc, &Ucd, form, read.bytes.as_slice(), read.failed) else {
+        return Some(Fault::Memory);
+    };
+    match write_whole(out, conversion.output.as_bytes()) {
+        Ok(()) => conversion.fault,
+        Err(_) => Some(Fault::Write),
+    }
+}
+
+// Help goes to the output, and a mistake in the words to standard error.
+fn refuse<O: Write, E: Write>(alloc: Global, error: &Error, out: &mut O, err: &mut E) -> u8
+    ensures { ComesOf (kind_of error.now) (O.contents out.old) (O.contents out.new)
+        (E.contents err.old) (E.contents err.new) result }
+{
+    let kind = error.kind();
+    if kind == ErrorKind::OutOfMemory {
+        return report(Some(Fault::Memory), err);
+    }
+    let Ok(text) = format!(in alloc; "{error}") else {
+        return report(Some(Fault::Memory), err);
+    };
+    if kind != ErrorKind::DisplayHelp {
+        let _ = write_front(err, text.as_bytes());
+        return 2;
+    }
+    match write_whole(out, text.as_bytes()) {
+        Ok(()) => 0,
+        Err(_) => report(Some(Fault::Write), err),
+    }
+}
+
+// Says on standard error which fault there was; where that fails, nothing more is done.
+fn report<E: Write>(fault: Option<Fault>, err: &mut E) -> u8
+    ensures status { result ≡ status_of fault }
+    ensures line { AppendsFront (E.contents err.old) (E.contents err.new) (line_of fault) }
+{
+    let Some(fault) = fault else {
+        return 0;
+    };
+    let mut line: ArrayVec<u8, LINE> = ArrayVec::new();
+    if writeln!(line, "nfstream: {fault}").is_ok() {
+        let _ = write_front(err, line.as_slice());
+    }
+    fault.status()
+}
