@@ -82,18 +82,19 @@ fn a_starter_settles_what_stands_before_it(rt: HostRuntime) -> Result<(), Fail> 
 
 #[test]
 fn thirty_marks_stand_behind_a_starter(rt: HostRuntime) -> Result<(), Fail> {
+    let ten = "\u{301}\u{301}\u{301}\u{301}\u{301}\u{301}\u{301}\u{301}\u{301}\u{301}";
+    let text = format!(in rt.alloc(); "q{ten}{ten}{ten}")?;
     let mut pending = Pending::new(Form::Nfd);
-    let marks = "\u{301}\u{301}\u{301}\u{301}\u{301}\u{301}\u{301}\u{301}\u{301}\u{301}";
-    assert_eq!(rt; pushed(&rt, &Ucd, &mut pending, "q")?.as_str(), "");
-    for _ in 0..3 {
-        assert_eq!(rt; pushed(&rt, &Ucd, &mut pending, marks)?.as_str(), "");
-    }
-    assert_eq!(rt; pending.run_len(), 30);
-    assert_eq!(rt; pending.len(), 31);
-    let settled = pushed(&rt, &Ucd, &mut pending, "\u{34F}")?;
-    assert_eq!(rt; settled.as_str().chars().count(), 31);
-    assert_eq!(rt; pending.run_len(), 0);
-    assert_eq!(rt; pending.len(), 1);
+    assert_eq!(rt;
+        pushed(&rt, &Ucd, &mut pending, text.as_str())?.as_str(),
+        ""
+    );
+    assert_eq!(rt; (pending.run_len(), pending.len()), (30, 31));
+    assert_eq!(rt;
+        pushed(&rt, &Ucd, &mut pending, "\u{34F}")?.as_str(),
+        text.as_str()
+    );
+    assert_eq!(rt; (pending.run_len(), pending.len()), (0, 1));
     Ok(())
 }
 
@@ -124,19 +125,13 @@ fn thirty_classes_come_in_order(rt: HostRuntime) -> Result<(), Fail> {
 #[test]
 fn a_long_row_settles_as_it_comes(rt: HostRuntime) -> Result<(), Fail> {
     let row = Ucd.compat('\u{FDFA}').ok().ok_or("long")?;
-    let mut pending = Pending::new(Form::Nfkd);
-    let mut settled = String::new(rt.alloc());
+    let mut text = String::new(rt.alloc());
     for c in row.iter() {
-        let class = Ucd.class(*c);
-        assert!(rt; class == 0 || pending.run_len() < 30);
-        for d in pending.push(&Ucd, *c).iter() {
-            settled.push(*d)?;
-        }
+        text.push(*c)?;
     }
-    let all_but_one =
+    let settled =
         "\u{635}\u{644}\u{649} \u{627}\u{644}\u{644}\u{647} \u{639}\u{644}\u{64A}\u{647} \u{648}\u{633}\u{644}";
-    assert_eq!(rt; settled.as_str(), all_but_one);
-    assert_eq!(rt; ended(&rt, &Ucd, pending)?.as_str(), "\u{645}");
+    check(&rt, &Ucd, Form::Nfkd, text.as_str(), settled, "\u{645}")?;
     Ok(())
 }
 

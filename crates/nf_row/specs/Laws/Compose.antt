@@ -16,6 +16,8 @@ use Rattle.nf_row.specs.Laws.Order.{order-marks, order-push_starter, order-behin
 use Rattle.nf_row.specs.Laws.Starters.{length-by_class}
 
 module _ (p : Properties) where
+  -- ---- composition
+
   pub compose-push : (w : List ℕ) (c : ℕ) → compose p (w ++ c ∷ []) ≡ compose_step p (compose p w) c
   compose-push w c = fold-append (compose_step p) [] w (c ∷ [])
 
@@ -101,6 +103,8 @@ module _ (p : Properties) where
   pub back-group : (e z : List ℕ) → IsGroup z → back p (e ++ z) ≡ z
   back-group e z group = subst (λ k. back p (e ++ k) ≡ k) (sym group.text) (back-at p e group.starter group.marks group.starts group.no_starter)
 
+  -- ---- a starter more, in any form: `b` says whether the form composes
+
   -- what a starter composes to with what stands behind the front, where that is a starter alone
   abbrev pub next_composite : Bool → List ℕ → ℕ → Option ℕ
   next_composite false z c = None
@@ -176,6 +180,8 @@ module _ (p : Properties) where
       next (Some d) e = back-at p (front p (arranged b p w)) d [] (next_composite-starter b (back p (arranged b p w)) c d e) refl
       next None e = back-at p (arranged b p w) c [] starts refl
 
+  -- ---- marks behind a text that ends in none
+
   -- a starter that stands alone, if any, and then marks in order: what they become
   abbrev pub closed_off : Bool → Option ℕ → List ℕ → List ℕ
   closed_off b None marks = marks
@@ -214,8 +220,24 @@ module _ (p : Properties) where
   settle b head ending = subst (λ h. IsSettled b h) (sym ending.text) (at (next_composite b (back p (arranged b p ending.before)) ending.last) refl)
     where
       at : (o : Option ℕ) → next_composite b (back p (arranged b p ending.before)) ending.last ≡ o → IsSettled b (ending.before ++ ending.last ∷ [])
-      at (Some d) e = record { settled = front p (arranged b p ending.before); starter = d; text = arranged-push_starter b ending.before ending.last ending.starts ∙ ap (λ o. followed o (arranged b p ending.before) ending.last) e; starts = next_composite-starter b _ _ d e }
-      at None e = record { settled = arranged b p ending.before; starter = ending.last; text = arranged-push_starter b ending.before ending.last ending.starts ∙ ap (λ o. followed o (arranged b p ending.before) ending.last) e; starts = ending.starts }
+      at (Some d) e = record {
+        settled = front p (arranged b p ending.before);
+        starter = d;
+        text = arranged-push_starter b ending.before ending.last ending.starts ∙ ap (λ o. followed o (arranged b p ending.before) ending.last) e;
+        starts = next_composite-starter b _ _ d e;
+      }
+      at None e = record {
+        settled = arranged b p ending.before;
+        starter = ending.last;
+        text = arranged-push_starter b ending.before ending.last ending.starts ∙ ap (λ o. followed o (arranged b p ending.before) ending.last) e;
+        starts = ending.starts;
+      }
+
+  front-settled : (b : Bool) (head : List ℕ) (r : IsSettled b head) → front p (arranged b p head) ≡ r.settled
+  front-settled b head r = ap (λ v. front p v) r.text ∙ front-at p r.settled r.starter [] r.starts refl
+
+  back-settled : (b : Bool) (head : List ℕ) (r : IsSettled b head) → back p (arranged b p head) ≡ r.starter ∷ []
+  back-settled b head r = ap (λ v. back p v) r.text ∙ back-at p r.settled r.starter [] r.starts refl
 
   arranged-settled : (b : Bool) (head run : List ℕ) (r : IsSettled b head) → trail p head ≡ 0 → has_starter p run ≡ false
       → arranged b p (head ++ run) ≡ r.settled ++ closed_off b (Some r.starter) (by_class p run)
@@ -230,6 +252,10 @@ module _ (p : Properties) where
   arranged-none false run marks = order-marks p run marks
   arranged-none true run marks = ap (λ v. compose p v) (order-marks p run marks) ∙ compose-none (by_class p run) (has_starter-by_class p run)
 
+  pub back-empty : (b : Bool) → back p (arranged b p []) ≡ []
+  unfolding by_class
+  back-empty b = ap (λ v. back p v) (arranged-none b [] refl)
+
   -- marks settle nothing
   pub front-behind : (b : Bool) (head run : List ℕ) → trail p head ≡ 0 → has_starter p run ≡ false → front p (arranged b p (head ++ run)) ≡ front p (arranged b p head)
   unfolding by_class
@@ -243,16 +269,15 @@ module _ (p : Properties) where
       at r =
           ap (λ v. front p v) (arranged-settled b head run r ends marks)
           ∙ front-group r.settled _ (closed_off-group b r.starter (by_class p run) r.starts (has_starter-by_class p run))
-          ∙ sym (ap (λ v. front p v) r.text ∙ front-at p r.settled r.starter [] r.starts refl)
+          ∙ sym (front-settled b head r)
 
   -- what stands behind the front
   pub back-behind : (b : Bool) (head run : List ℕ) (starter : Option ℕ) → trail p head ≡ 0 → has_starter p run ≡ false → back p (arranged b p head) ≡ option_to_list starter
       → back p (arranged b p (head ++ run)) ≡ closed_off b starter (by_class p run)
-  unfolding by_class
   back-behind b head run starter ends marks leaves = ⊎_elim none (λ ending. at (settle b head ending)) (ends_in p head ends)
     where
       none : head ≡ [] → back p (arranged b p (head ++ run)) ≡ closed_off b starter (by_class p run)
-      none empty = at_none starter (sym leaves ∙ ap (λ h. back p (arranged b p h)) empty ∙ ap (λ v. back p v) (arranged-none b [] refl))
+      none empty = at_none starter (sym leaves ∙ ap (λ h. back p (arranged b p h)) empty ∙ back-empty b)
         where
           at_none : (o : Option ℕ) → option_to_list o ≡ [] → back p (arranged b p (head ++ run)) ≡ closed_off b o (by_class p run)
           at_none None e = ap (λ h. back p (arranged b p (h ++ run))) empty ∙ ap (λ v. back p v) (arranged-none b run marks) ∙ back-none p (by_class p run) (has_starter-by_class p run)
@@ -262,15 +287,11 @@ module _ (p : Properties) where
       at r =
           ap (λ v. back p v) (arranged-settled b head run r ends marks)
           ∙ back-group r.settled _ (closed_off-group b r.starter (by_class p run) r.starts (has_starter-by_class p run))
-          ∙ ap (λ o. closed_off b o (by_class p run)) (same starter (sym (ap (λ v. back p v) r.text ∙ back-at p r.settled r.starter [] r.starts refl) ∙ leaves))
+          ∙ ap (λ o. closed_off b o (by_class p run)) (same starter (sym (back-settled b head r) ∙ leaves))
         where
           same : (o : Option ℕ) → r.starter ∷ [] ≡ option_to_list o → Some r.starter ≡ o
           same None e = cc
           same (Some s) e = cc
-
-  pub back-empty : (b : Bool) → back p (arranged b p []) ≡ []
-  unfolding by_class
-  back-empty b = ap (λ v. back p v) (arranged-none b [] refl)
 
   -- what stands behind the front of a text that ends in no mark: one starter, where the text has one
   pub back-starter : (b : Bool) (head : List ℕ) → trail p head ≡ 0 → (s : ℕ) → back p (arranged b p head) ≡ s ∷ [] → is_starter p s ≡ true
@@ -281,7 +302,7 @@ module _ (p : Properties) where
 
       at : IsSettled b head → is_starter p s ≡ true
       at r =
-          let one : r.starter ∷ [] ≡ s ∷ [] = sym (ap (λ v. back p v) r.text ∙ back-at p r.settled r.starter [] r.starts refl) ∙ leaves in
+          let one = sym (back-settled b head r) ∙ leaves in
           let same : r.starter ≡ s = cc in
           subst (λ k. is_starter p k ≡ true) same r.starts
 
@@ -294,9 +315,11 @@ module _ (p : Properties) where
 
       at : EndsInStarter p head → IsSettled b head → (o : Option ℕ) → back p (arranged b p head) ≡ option_to_list o → has_starter p head ≡ is_some o
       at ending r None leaves =
-          let nothing : r.starter ∷ [] ≡ [] = sym (ap (λ v. back p v) r.text ∙ back-at p r.settled r.starter [] r.starts refl) ∙ leaves in
+          let nothing : r.starter ∷ [] ≡ [] = sym (back-settled b head r) ∙ leaves in
           cc
       at ending r (Some s) leaves = ap (λ h. has_starter p h) ending.text ∙ has_starter-at p ending.before ending.last [] ending.starts
+
+  -- ---- whatever comes
 
   front-push : (b : Bool) (w : List ℕ) (c : ℕ) → (more : List ℕ) × (front p (arranged b p (w ++ c ∷ [])) ≡ front p (arranged b p w) ++ more)
   front-push b w c = ⊎_elim starter (λ mark. same (cut p w) mark) (cases_Bool (is_starter p c))
@@ -329,14 +352,13 @@ module _ (p : Properties) where
       )
 
   back-head : (b : Bool) (head : List ℕ) → trail p head ≡ 0 → (starter : Option ℕ) × (back p (arranged b p head) ≡ option_to_list starter)
-  unfolding by_class
   back-head b head ends = ⊎_elim none (λ ending. at (settle b head ending)) (ends_in p head ends)
     where
       none : head ≡ [] → (starter : Option ℕ) × (back p (arranged b p head) ≡ option_to_list starter)
       none empty = (None, ap (λ h. back p (arranged b p h)) empty ∙ back-empty b)
 
       at : IsSettled b head → (starter : Option ℕ) × (back p (arranged b p head) ≡ option_to_list starter)
-      at r = (Some r.starter, ap (λ v. back p v) r.text ∙ back-at p r.settled r.starter [] r.starts refl)
+      at r = (Some r.starter, back-settled b head r)
 
   -- no more stands behind the front than the marks that the text ends in, and one starter
   pub length-back : (b : Bool) (w : List ℕ) → length (back p (arranged b p w)) ≤ trail p w + 1

@@ -1,6 +1,9 @@
 use super::parts::{Broken, broken_parts};
 use crate::Change::{Assigned, Canonical, Class, Compat, Pair};
-use crate::{Change, JOINER, Long, Patched, Rows, Ucd, has_starter, lead, sound, trail};
+use crate::{
+    Change, JOINER, Long, Patched, Rows, Ucd, composite, has_starter, lead, sound, sound_compat,
+    trail,
+};
 use std::test::Fail;
 
 const MARK: char = '\u{301}';
@@ -164,5 +167,24 @@ fn runs_of_a_row(rt: HostRuntime) -> Result<(), Fail> {
         ),
         (2, 2, false)
     );
+    Ok(())
+}
+
+#[test]
+fn a_composite_is_a_starter(rt: HostRuntime) {
+    assert_eq!(rt; composite(&Ucd, 'A', '\u{30A}'), Some('\u{C5}'));
+    assert_eq!(rt; composite(&Ucd, 'q', MARK), None);
+    let changes = [Pair('q', MARK, Some('\u{323}')), Pair('a', 'b', Some('c'))];
+    let rows = Patched::new(&changes);
+    assert_eq!(rt; composite(&rows, 'q', MARK), None);
+    assert_eq!(rt; composite(&rows, 'a', 'b'), Some('c'));
+}
+
+#[test]
+fn a_sound_character_comes_with_its_compatibility_row(rt: HostRuntime) -> Result<(), Fail> {
+    let row = sound_compat(&Ucd, '\u{344}').ok_or("unsound")?;
+    assert_eq!(rt; row.as_slice(), ['\u{308}', MARK].as_slice());
+    let long = [Compat('x', &NINETEEN)];
+    assert!(rt; sound_compat(&Patched::new(&long), 'x').is_none());
     Ok(())
 }
