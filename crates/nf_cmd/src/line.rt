@@ -31,10 +31,12 @@ fn line<'w>(alloc: Global) -> Result<Command<'w>, AllocError>
     ensures { IfOk result (λ c. IsLine (app_of c)) }
 {
     let convert = Command::new(alloc, "convert")
-        .about("Writes the normalization form of the stream-safe text that it reads")
+        .about("Writes the normalization form of the stream-safe text")
         .arg(form(alloc))?;
     Command::new(alloc, "nfstream")
-        .about("Makes text from standard input stream-safe and normalizes it, in bounded memory")
+        .about(
+            "Makes UTF-8 text stream-safe and normalizes it, from standard input to standard output",
+        )
         .subcommand_required(true)
         .subcommand(convert)
 }

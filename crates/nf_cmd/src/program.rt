@@ -1,5 +1,5 @@
 //! The program, over any reader and writers.
-ghost use Rattle.std.specs.Prelude.{◌≡◌, ◌<◌, false, length, ℕ};
+ghost use Rattle.std.specs.Prelude.{◌≡◌, ◌<◌, false, length, ℕ, List, Option};
 ghost use Rattle.clap.specs.Values.{kind_of};
 ghost use Rattle.clap.specs.Walk.{texts};
 ghost use Rattle.nf_row.specs.Forms.{composes};
@@ -31,8 +31,10 @@ pub(crate) fn command<'w, I: Read, O: Write, E: Write>(
     err: &mut E,
 ) -> u8
     requires { 0 < length words.now }
-    ensures answer { Answers (texts words.entry.now) (I.remaining input.old) (I.remaining input.new)
-        (O.contents out.old) (O.contents out.new) (E.contents err.old) (E.contents err.new) result }
+    ensures answer { Answers (texts words.entry.now)
+        (record { input = I.remaining input.old; out = O.contents out.old; err = E.contents err.old })
+        (record { input = I.remaining input.new; out = O.contents out.new; err = E.contents err.new })
+        result }
 
     // The command line is to blame only where clap's definition of it refuses the words.
     ensures refused { result ≡ 2 → Refused (texts words.entry.now) }
@@ -43,7 +45,7 @@ pub(crate) fn command<'w, I: Read, O: Write, E: Write>(
     }
 }
 
-// Converts all that the reader gives.
+// Converts all that the reader gives. Standard error is left to the caller.
 fn convert_input<I: Read, O: Write>(
     alloc: Global,
     form: Form,
@@ -51,8 +53,9 @@ fn convert_input<I: Read, O: Write>(
     out: &mut O,
 ) -> Option<Fault>
     requires { composes form ≡ false }
-    ensures { EndsBy form ucd (I.remaining input.old) (I.remaining input.new)
-        (O.contents out.old) (O.contents out.new) result }
+    ensures { (err err_after : Option (List ℕ)) → EndsBy form ucd
+        (record { input = I.remaining input.old; out = O.contents out.old; err = err })
+        (record { input = I.remaining input.new; out = O.contents out.new; err = err_after }) result }
 {
     let Ok(read) = read_whole(alloc, input) else {
         return Some(Fault::Memory);
@@ -68,8 +71,9 @@ fn convert_input<I: Read, O: Write>(
 
 // Help goes to the output, and a mistake in the words to standard error.
 fn refuse<O: Write, E: Write>(alloc: Global, error: &Error, out: &mut O, err: &mut E) -> u8
-    ensures { ComesOf (kind_of error.now) (O.contents out.old) (O.contents out.new)
-        (E.contents err.old) (E.contents err.new) result }
+    ensures { (input input_after : Option (List ℕ)) → ComesOf (kind_of error.now)
+        (record { input = input; out = O.contents out.old; err = E.contents err.old })
+        (record { input = input_after; out = O.contents out.new; err = E.contents err.new }) result }
 {
     let kind = error.kind();
     if kind == ErrorKind::OutOfMemory {

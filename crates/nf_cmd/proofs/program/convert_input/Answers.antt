@@ -6,10 +6,10 @@ use Rattle.nf_cmd.proofs.AnswerLemmas.{ends_by}
 use Rattle.nf_cmd.proofs.program.convert_input.Goals as goal
 
 pub returns-in-Ok-write_whole : goal.returns-in-Ok-write_whole
-returns-in-Ok-write_whole g c =
+returns-in-Ok-write_whole g c err err_after =
     let read_is = c.as_slice.ensures.value in
     let found = c.in-Ok-convert.conversion.fault in
-    ends_by _ _ _ _ _ _ _ (record {
+    ends_by _ _ _ _ _ (record {
       bytes = c.in-Ok.read.bytes.items;
       read_failed = c.in-Ok.read.failed;
       read = c.in-Ok.ensures.bytes;

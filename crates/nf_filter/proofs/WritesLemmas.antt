@@ -1,0 +1,94 @@
+-- Calls that give to a sink in turn.
+use Rattle.std.proofs.Common.{◌≡◌, ℕ, ◌<◌, true, List, [], ◌++◌, length, Option, Some, None, refl, sym, ap, ◌∙◌, subst, arith, append_assoc, append-nil}
+use Rattle.std.proofs.lemmas.List.{length-append}
+use Rattle.std.specs.Io.KnownBytes.{Appends, Keeps}
+use Rattle.nf_filter.specs.Writes.{SinkState, Puts, Stops}
+
+pub Appends-none : (known : Option (List ℕ)) → Appends known known []
+Appends-none None = tt
+Appends-none (Some xs) = sym (append-nil xs)
+
+pub Appends-kept : (a b : Option (List ℕ)) → Keeps a b → Appends a b []
+Appends-kept None b kept = tt
+Appends-kept (Some xs) None kept = kept
+Appends-kept (Some xs) (Some ys) kept = kept ∙ sym (append-nil xs)
+
+pub Appends-join : (a b c : Option (List ℕ)) (xs ys : List ℕ) → Appends a b xs → Appends b c ys → Appends a c (xs ++ ys)
+Appends-join None b c xs ys first second = tt
+Appends-join (Some u) None c xs ys first second = elim first [ ]
+Appends-join (Some u) (Some v) None xs ys first second = elim second [ ]
+Appends-join (Some u) (Some v) (Some w) xs ys first second = second ∙ ap (λ l. l ++ ys) first ∙ append_assoc u xs ys
+
+pub Puts-none : (state : SinkState) (before : List ℕ) → Puts state state before before
+Puts-none state before = record { out = []; behind = sym (append-nil before); given = Appends-none state.taken; stands = refl; idle = λ _. refl }
+
+-- one call more
+pub Puts-more : {old mid new : SinkState} {before after : List ℕ} (ys : List ℕ) → Puts old mid before after → Appends mid.taken new.taken ys
+    → new.is_failed ≡ mid.is_failed → (mid.is_failed ≡ true → ys ≡ []) → Puts old new before (after ++ ys)
+Puts-more {old} {mid} {new} {before} {after} ys first given stands idle = record {
+  out = first.out ++ ys;
+  behind = ap (λ l. l ++ ys) first.behind ∙ append_assoc before first.out ys;
+  given = Appends-join old.taken mid.taken new.taken first.out ys first.given given;
+  stands = stands ∙ first.stands;
+  idle = λ failed. ap (λ l. l ++ ys) (first.idle failed) ∙ idle (first.stands ∙ failed);
+}
+
+pub Stops-more : {old mid new : SinkState} {before after : List ℕ} (ys rest : List ℕ) → Puts old mid before after → Appends mid.taken new.taken ys
+    → new.is_failed ≡ true → 0 < length rest → Stops old new before ((after ++ ys) ++ rest)
+Stops-more {old} {mid} {new} {before} {after} ys rest first given failed more = record {
+  out = first.out ++ ys;
+  rest = rest;
+  behind = ap (λ l. (l ++ ys) ++ rest) first.behind ∙ ap (λ l. l ++ rest) (append_assoc before first.out ys);
+  more = more;
+  given = Appends-join old.taken mid.taken new.taken first.out ys first.given given;
+  failed = failed;
+}
+
+pub Puts-join : {old mid new : SinkState} {a b c : List ℕ} → Puts old mid a b → Puts mid new b c → Puts old new a c
+Puts-join {old} {mid} {new} {a} {b} {c} first second =
+    subst (λ l. Puts old new a l) (sym second.behind) (Puts-more second.out first second.given second.stands second.idle)
+
+pub Stops-join : {old mid new : SinkState} {a b c : List ℕ} → Puts old mid a b → Stops mid new b c → Stops old new a c
+Stops-join {old} {mid} {new} {a} {b} {c} first second =
+    subst (λ l. Stops old new a l) (sym second.behind) (Stops-more second.out second.rest first second.given second.failed second.more)
+
+-- more is to come behind
+pub Stops-longer : {old new : SinkState} {a b : List ℕ} (more : List ℕ) → Stops old new a b → Stops old new a (b ++ more)
+Stops-longer {old} {new} {a} {b} more first = record {
+  out = first.out;
+  rest = first.rest ++ more;
+  behind = ap (λ l. l ++ more) first.behind ∙ append_assoc (a ++ first.out) first.rest more;
+  more = omega (arith, length-append first.rest more, first.more);
+  given = first.given;
+  failed = first.failed;
+}
+
+-- behind other bytes
+pub Puts-behind : {old new : SinkState} {out : List ℕ} (before after : List ℕ) → after ≡ before ++ out → Puts old new [] out → Puts old new before after
+Puts-behind {old} {new} {out} before after is puts =
+    record { out = puts.out; behind = is ∙ ap (λ l. before ++ l) puts.behind; given = puts.given; stands = puts.stands; idle = puts.idle }
+
+pub Stops-behind : {old new : SinkState} {out : List ℕ} (before after : List ℕ) → after ≡ before ++ out → Stops old new [] out → Stops old new before after
+Stops-behind {old} {new} {out} before after is stops = record {
+  out = stops.out;
+  rest = stops.rest;
+  behind = is ∙ ap (λ l. before ++ l) stops.behind ∙ sym (append_assoc before stops.out stops.rest);
+  more = stops.more;
+  given = stops.given;
+  failed = stops.failed;
+}
+
+-- at the same places
+pub Puts-at : {old new : SinkState} {a b c d : List ℕ} → a ≡ c → b ≡ d → Puts old new a b → Puts old new c d
+Puts-at {old} {new} {a} {b} {c} {d} same_before same_after puts =
+    record { out = puts.out; behind = sym same_after ∙ puts.behind ∙ ap (λ l. l ++ puts.out) same_before; given = puts.given; stands = puts.stands; idle = puts.idle }
+
+pub Stops-at : {old new : SinkState} {a b c d : List ℕ} → a ≡ c → b ≡ d → Stops old new a b → Stops old new c d
+Stops-at {old} {new} {a} {b} {c} {d} same_before same_after stops = record {
+  out = stops.out;
+  rest = stops.rest;
+  behind = sym same_after ∙ stops.behind ∙ ap (λ l. (l ++ stops.out) ++ stops.rest) same_before;
+  more = stops.more;
+  given = stops.given;
+  failed = stops.failed;
+}

@@ -1,0 +1,31 @@
+-- Where a filter stands.
+use Rattle.std.specs.Prelude.{◌≡◌, false, Bool, ℕ, ◌+◌, List, length}
+use Rattle.nf_row.specs.Properties.{Properties}
+use Rattle.nf_row.specs.declared.form.Form.{Form}
+use Rattle.nf_filter.specs.declared.filter.Filter.{Filter}
+use Rattle.nf_filter.specs.declared.filter.State.{State}
+use Rattle.nf_filter.specs.Reading.{HasRead}
+
+abbrev pub rows_of : {R : Type 0} → Filter R → R
+rows_of filter = filter.rows.now
+
+abbrev pub state_of : {R : Type 0} → Filter R → State
+state_of filter = filter.state
+
+-- the offset of the first byte
+abbrev pub base_of : State → ℕ
+base_of state = state.base
+
+-- the offset of the next byte
+abbrev pub offset_of : State → ℕ
+offset_of state = state.offset
+
+-- an earlier call was refused
+abbrev pub is_spent : State → Bool
+is_spent state = state.spent
+
+-- it has taken exactly these bytes, and no call was refused but for their length
+pub record StandsAfter (f : Form) (p : Properties) (state : State) (bytes : List ℕ) : Type 0 where
+  pub unspent : is_spent state ≡ false
+  pub offset : offset_of state ≡ base_of state + length bytes
+  pub reading : HasRead f p (base_of state) state.reading bytes

@@ -1,0 +1,12 @@
+pub mod Settled
+pub mod Laws
+pub mod Writes
+pub mod ToWriter
+pub mod FromReader
+pub mod Taken
+pub mod Reading
+pub mod Faults
+pub mod Filter
+pub mod Feeds
+pub mod Finishes
+pub mod Drives

@@ -1,0 +1,6 @@
+mod faults;
+mod forms;
+mod kit;
+mod parts;
+mod pieces;
+mod tables;

@@ -1,0 +1,105 @@
+use crate::{Failed, Fault, Filter, Held, Sink, Tally};
+use nf_row::{Form, Rows};
+use std::alloc::{AllocError, Global};
+
+pub const FORMS: [Form; 4] = [Form::Nfc, Form::Nfd, Form::Nfkc, Form::Nfkd];
+
+/// A sink that keeps the bytes that it takes, and fails where it has no room for more.
+#[derive(Drop)]
+pub struct Kept {
+    pub bytes: Vec<u8>,
+    pub room: usize,
+    failed: bool,
+}
+
+impl Kept {
+    /// A sink with room for all that a test writes.
+    pub fn new(alloc: Global) -> Kept {
+        Kept::with_room(alloc, 1_000_000)
+    }
+
+    pub fn with_room(alloc: Global, room: usize) -> Kept {
+        Kept {
+            bytes: Vec::new(alloc),
+            room,
+            failed: false,
+        }
+    }
+}
+
+impl Sink for Kept {
+    ghost use Rattle.std.specs.Prelude.{None};
+
+    ghost taken = { λ _. None };
+
+    ghost is_failed = { λ sink. sink.failed };
+
+    fn put(&mut self, bytes: &[u8]) -> Result<usize, Failed> {
+        if bytes.is_empty() {
+            return Ok(0);
+        }
+        let n = bytes.len().min(self.room);
+        if self.failed || n == 0 || self.bytes.extend_from_slice(&bytes[..n]).is_err() {
+            self.failed = true;
+            return Err(Failed);
+        }
+        self.room -= n;
+        Ok(n)
+    }
+}
+
+/// Texts, each repeated, joined.
+pub fn joined(alloc: Global, parts: &[(&str, usize)]) -> Result<Vec<u8>, AllocError> {
+    let mut bytes = Vec::new(alloc);
+    for (part, times) in parts {
+        for _ in 0..*times {
+            bytes.extend_from_slice(part.as_bytes())?;
+        }
+    }
+    Ok(bytes)
+}
+
+/// What a filter did with pieces.
+#[derive(Debug, Drop, PartialEq)]
+pub struct Course {
+    /// What it had written before `finish`.
+    pub settled: Vec<u8>,
+    pub held: Held,
+    pub offset: u64,
+    /// All that it wrote.
+    pub written: Vec<u8>,
+    pub answer: Result<Tally, Fault>,
+}
+
+/// Feeds the pieces to a new filter, as long as it takes them, and finishes it.
+pub fn course_of<R: Rows>(
+    alloc: Global,
+    rows: &R,
+    form: Form,
+    pieces: &[&[u8]],
+) -> Result<Course, AllocError> {
+    let mut sink = Kept::new(alloc);
+    let mut filter = Filter::new(rows, form, 0);
+    let mut refused = None;
+    for piece in pieces {
+        if let Err(fault) = filter.feed(piece, &mut sink) {
+            refused = Some(fault);
+            break;
+        }
+    }
+    let settled = sink.bytes.clone()?;
+    let held = filter.held();
+    let offset = filter.offset();
+    let finished = filter.finish(&mut sink);
+    let answer = match refused {
+        Some(fault) => Err(fault),
+        None => finished,
+    };
+    Ok(Course {
+        settled,
+        held,
+        offset,
+        written: sink.bytes.clone()?,
+        answer,
+    })
+}
