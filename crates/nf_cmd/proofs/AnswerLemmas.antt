@@ -1,27 +1,13 @@
 -- What the parts of a run show, put together.
-use Rattle.std.proofs.Common.{◌≡◌, ℕ, List, [], Option, Some, None, inl, inr, refl, sym, subst, arith}
+use Rattle.std.proofs.Common.{◌≡◌, ℕ, List, [], inl, inr, refl, sym, subst, arith}
 use Rattle.std.specs.Io.KnownBytes.{Appends, Keeps}
 use Rattle.std.proofs.KnownBytes.{Appends-nil}
 use Rattle.clap.specs.declared.error.kind.ErrorKind.{ErrorKind}
 use Rattle.clap.specs.declared.error.kind.ErrorKind.TheVariants.{DisplayHelp}
 use Rattle.clap.specs.Walk.{Text}
-use Rattle.nf_row.specs.Properties.{Properties}
-use Rattle.nf_row.specs.declared.form.Form.{Form}
-use Rattle.nf_cmd.specs.declared.fault.Fault.{Fault}
-use Rattle.nf_cmd.specs.declared.fault.Fault.TheVariants.{Row, BadByte, Cut, Read, Write, Memory}
 use Rattle.nf_cmd.specs.Lines.{line_of}
 use Rattle.nf_cmd.specs.Line.{IsRefusal, IsRefused}
-use Rattle.nf_cmd.specs.Answers.{Answers, ComesOf, Converts, Devices, EndsBy}
-use Rattle.nf_cmd.proofs.FaultLemmas.{no_memory}
-
-pub ends_by : (f : Form) (p : Properties) (before after : Devices) (found : Option Fault) → Converts f p before after found → EndsBy f p before after found
-ends_by f p before after None h = h
-ends_by f p before after (Some (Row at)) h = h
-ends_by f p before after (Some (BadByte at start)) h = h
-ends_by f p before after (Some (Cut at start)) h = h
-ends_by f p before after (Some Read) h = h
-ends_by f p before after (Some Write) h = tt
-ends_by f p before after (Some Memory) h = absurd (no_memory p h.bytes h.read_failed h.fault)
+use Rattle.nf_cmd.specs.Answers.{Answers, ComesOf, Devices}
 
 -- status 2 is not that of memory
 pub refused_by : (words : List Text) (k : ErrorKind) (before after : Devices) (status : ℕ) → IsRefusal words k → ComesOf k before after status → status ≡ 2 → IsRefused words

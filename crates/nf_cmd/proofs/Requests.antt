@@ -15,7 +15,7 @@ use Rattle.clap.specs.Simple.{App, Shape, argument_words, built, entered, label_
 use Rattle.clap.specs.Faults.{built_fault, entered_fault, fault_of, is_simple_and_free, level_fault}
 use Rattle.clap.proofs.WalkLemmas.{list_any-map}
 use Rattle.nf_row.specs.declared.form.Form.{Form}
-use Rattle.nf_row.specs.declared.form.Form.TheVariants.{Nfd}
+use Rattle.nf_row.specs.declared.form.Form.TheVariants.{Nfc, Nfd, Nfkc, Nfkd}
 use Rattle.nf_cmd.specs.declared.line.Request.{Request}
 use Rattle.nf_cmd.specs.declared.line.Request.TheVariants.{Convert}
 use Rattle.nf_cmd.specs.Line.{IsLine, IsRefusal, convert, form_named, form_names, form_rule, line, request_of}
@@ -96,11 +96,18 @@ text_differs t e h = true≢false (ap (λ x. bytes_eq x (codes "help")) (sym e �
 
 -- the names are those of forms
 named : (text : Text) → list_any (λ n. bytes_eq n text) form_names ≡ true → (f : Form) × (form_named text ≡ Some f)
-named text e = go (bytes_eq (codes "nfd") text) refl e
+named text e = go (bytes_eq (codes "nfc") text) (bytes_eq (codes "nfd") text) (bytes_eq (codes "nfkc") text) (bytes_eq (codes "nfkd") text) refl refl refl refl e
   where
-    go : (b : Bool) → bytes_eq (codes "nfd") text ≡ b → (b || false) ≡ true → (f : Form) × (form_named text ≡ Some f)
-    go true t h = (Nfd, ap form_named (sym ((bytes_eq-Decides (codes "nfd") text).0 t)))
-    go false t h = absurd (true≢false (sym h))
+    is : (name : Text) (f : Form) → bytes_eq name text ≡ true → form_named name ≡ Some f → (g : Form) × (form_named text ≡ Some g)
+    is name f same by = (f, ap form_named (sym ((bytes_eq-Decides name text).0 same)) ∙ by)
+
+    go : (c d kc kd : Bool) → bytes_eq (codes "nfc") text ≡ c → bytes_eq (codes "nfd") text ≡ d → bytes_eq (codes "nfkc") text ≡ kc → bytes_eq (codes "nfkd") text ≡ kd
+        → (c || (d || (kc || (kd || false)))) ≡ true → (f : Form) × (form_named text ≡ Some f)
+    go true d kc kd t u v w h = is (codes "nfc") Nfc t refl
+    go false true kc kd t u v w h = is (codes "nfd") Nfd u refl
+    go false false true kd t u v w h = is (codes "nfkc") Nfkc v refl
+    go false false false true t u v w h = is (codes "nfkd") Nfkd w refl
+    go false false false false t u v w h = absurd (true≢false (sym h))
 
 module _ (names : Bor (List (Bor Text))) (are : texts names.now ≡ form_names) where
   abbrev made : Shape

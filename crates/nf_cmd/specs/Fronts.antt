@@ -1,11 +1,13 @@
--- The longest front of a text that passes a test.
-use Rattle.std.specs.Prelude.{ℕ, zero, suc, Bool, List, length, take, if◌then◌else◌}
+-- What a writer that fails has taken: a front.
+use Rattle.std.specs.Prelude.{◌≡◌, ℕ, List, ◌++◌, Option, Some, None}
+use Rattle.std.specs.Io.KnownBytes.{Appends}
 
--- the greatest length up to n at which a front of x passes the test
-abbrev pub front_len_up_to : (List ℕ → Bool) → List ℕ → ℕ → ℕ
-front_len_up_to test x zero = 0
-front_len_up_to test x (suc n) = if test (take (suc n) x) then suc n else front_len_up_to test x n
+-- known bytes grow by a front of these; by all of them where no write failed
+abbrev pub AppendsFront : Option (List ℕ) → Option (List ℕ) → List ℕ → Type 0
+AppendsFront old new bytes = (front rest : List ℕ) × (bytes ≡ front ++ rest) × Appends old new front
 
--- the length of the longest front that passes the test
-unfoldable pub longest_front : (List ℕ → Bool) → List ℕ → ℕ
-longest_front test x = front_len_up_to test x (length x)
+-- known bytes are a front of others
+abbrev pub IsFrontOf : Option (List ℕ) → Option (List ℕ) → Type 0
+IsFrontOf bytes None = Unit {0}
+IsFrontOf None (Some all) = ⊥
+IsFrontOf (Some bytes) (Some all) = (rest : List ℕ) × (all ≡ bytes ++ rest)

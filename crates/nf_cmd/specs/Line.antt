@@ -11,16 +11,20 @@ use Rattle.clap.specs.declared.builder.value_parser.ValueParser.TheVariants.{Nam
 use Rattle.clap.specs.declared.error.kind.ErrorKind.{ErrorKind}
 use Rattle.clap.specs.declared.error.kind.ErrorKind.TheVariants.{OutOfMemory}
 use Rattle.nf_row.specs.declared.form.Form.{Form}
-use Rattle.nf_row.specs.declared.form.Form.TheVariants.{Nfd}
+use Rattle.nf_row.specs.declared.form.Form.TheVariants.{Nfc, Nfd, Nfkc, Nfkd}
 use Rattle.nf_cmd.specs.declared.line.Request.{Request}
 use Rattle.nf_cmd.specs.declared.line.Request.TheVariants.{Convert}
 
 -- the values of --form
 abbrev pub form_names : List Text
-form_names = codes "nfd" ∷ []
+form_names = codes "nfc" ∷ codes "nfd" ∷ codes "nfkc" ∷ codes "nfkd" ∷ []
 
 abbrev pub form_named : Text → Option Form
-form_named name = if bytes_eq name (codes "nfd") then Some Nfd else None
+form_named name =
+    if bytes_eq name (codes "nfc") then Some Nfc
+    else (if bytes_eq name (codes "nfd") then Some Nfd
+    else (if bytes_eq name (codes "nfkc") then Some Nfkc
+    else (if bytes_eq name (codes "nfkd") then Some Nfkd else None)))
 
 -- the option --form, which has to be there and takes one of the names
 unfoldable pub form_rule : Bor (List (Bor Text)) → Rule

@@ -1,7 +1,7 @@
 -- What the program says at its end: the status, and a line on standard error.
-use Rattle.std.specs.Prelude.{ℕ, List, [], ◌∷◌, ◌++◌, Option, Some, None, codes, decimal}
+use Rattle.std.specs.Prelude.{ℕ, List, [], ◌∷◌, ◌++◌, Result, Ok, Err, codes, decimal}
 use Rattle.nf_cmd.specs.declared.fault.Fault.{Fault}
-use Rattle.nf_cmd.specs.declared.fault.Fault.TheVariants.{Row, BadByte, Cut, Read, Write, Memory}
+use Rattle.nf_cmd.specs.declared.fault.Fault.TheVariants.{Row, BadByte, Cut, Read, Write, Memory, TooLong}
 
 abbrev pub fault_status : Fault → ℕ
 fault_status (Row at) = 3
@@ -10,10 +10,12 @@ fault_status (Cut at start) = 3
 fault_status Read = 4
 fault_status Write = 4
 fault_status Memory = 5
+fault_status TooLong = 6
 
-abbrev pub status_of : Option Fault → ℕ
-status_of None = 0
-status_of (Some f) = fault_status f
+-- that of a run that ended with this status, or by this fault
+abbrev pub status_of : Result ℕ Fault → ℕ
+status_of (Ok status) = status
+status_of (Err f) = fault_status f
 
 abbrev pub message_of : Fault → List ℕ
 message_of (Row at) = codes "unsound row at " ++ decimal at
@@ -22,8 +24,9 @@ message_of (Cut at start) = codes "input ends at " ++ (decimal at ++ (codes " in
 message_of Read = codes "read failed"
 message_of Write = codes "write failed"
 message_of Memory = codes "out of memory"
+message_of TooLong = codes "input too long"
 
 -- the message as a line, and nothing where there is no fault
-unfoldable pub line_of : Option Fault → List ℕ
-line_of None = []
-line_of (Some f) = codes "nfstream: " ++ message_of f ++ 10 ∷ []
+unfoldable pub line_of : Result ℕ Fault → List ℕ
+line_of (Ok status) = []
+line_of (Err f) = codes "nfstream: " ++ message_of f ++ 10 ∷ []

@@ -1,4 +1,4 @@
-//! Why a run did not write the whole text, and what the program says of it.
+//! Why a run did not do what it was asked for, and what the program says of it.
 ghost use Rattle.std.specs.Prelude.{◌≡◌, Some};
 
 use std::fmt;
@@ -18,10 +18,30 @@ pub(crate) enum Fault {
     Write,
     /// Memory ran out.
     Memory,
+    /// The input is longer than offsets can count.
+    TooLong,
 }
 
 impl Fault {
+    ghost use Rattle.nf_filter.specs.declared.fault.Fault.TheVariants.{Spent};
+    ghost use Rattle.nf_cmd.specs.Faults.{told};
     ghost use Rattle.nf_cmd.specs.Lines.{fault_status};
+
+    /// What is said of a fault that the library found. A filter that is used once is never found spent.
+    pub(crate) fn told(fault: nf_filter::Fault) -> Fault
+        requires { ¬ (fault ≡ Spent) }
+        ensures { Some result ≡ told fault }
+    {
+        match fault {
+            nf_filter::Fault::Spent => unreachable!(),
+            nf_filter::Fault::TooLong => Fault::TooLong,
+            nf_filter::Fault::Read => Fault::Read,
+            nf_filter::Fault::Write => Fault::Write,
+            nf_filter::Fault::Row { at } => Fault::Row { at },
+            nf_filter::Fault::BadByte { at, start } => Fault::BadByte { at, start },
+            nf_filter::Fault::Cut { at, start } => Fault::Cut { at, start },
+        }
+    }
 
     /// The status that the program ends with.
     pub(crate) fn status(self) -> u8
@@ -31,6 +51,7 @@ impl Fault {
             Fault::Row { .. } | Fault::BadByte { .. } | Fault::Cut { .. } => 3,
             Fault::Read | Fault::Write => 4,
             Fault::Memory => 5,
+            Fault::TooLong => 6,
         }
     }
 }
@@ -52,6 +73,7 @@ impl fmt::Display for Fault {
             Fault::Read => f.write_str("read failed"),
             Fault::Write => f.write_str("write failed"),
             Fault::Memory => f.write_str("out of memory"),
+            Fault::TooLong => f.write_str("input too long"),
         }
     }
 }

@@ -15,7 +15,7 @@ pub(crate) enum Request {
     Convert(Form),
 }
 
-static FORMS: [&str; 1] = ["nfd"];
+static FORMS: [&str; 4] = ["nfc", "nfd", "nfkc", "nfkd"];
 
 /// What `words` ask for, of which the first is the program's name.
 pub(crate) fn parse<'w>(alloc: Global, words: &'w [&'w str]) -> Result<Request, Error>
@@ -74,5 +74,11 @@ fn request_by(name: &str, form: Option<&str>) -> Option<Request>
 fn form_named(name: &str) -> Option<Form>
     ensures { result ≡ form_named name.now }
 {
-    if name == "nfd" { Some(Form::Nfd) } else { None }
+    match name {
+        "nfc" => Some(Form::Nfc),
+        "nfd" => Some(Form::Nfd),
+        "nfkc" => Some(Form::Nfkc),
+        "nfkd" => Some(Form::Nfkd),
+        _ => None,
+    }
 }

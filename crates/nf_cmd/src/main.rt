@@ -2,12 +2,12 @@
 #![tactic(auto)]
 
 mod convert;
-mod devices;
 mod fault;
+mod input;
 mod line;
-mod plain;
+mod output;
 mod program;
-mod reading;
+mod writing;
 
 use program::command;
 use std::process::ExitCode;

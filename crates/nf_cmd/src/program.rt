@@ -2,20 +2,18 @@
 ghost use Rattle.std.specs.Prelude.{◌≡◌, ◌<◌, false, length, ℕ, List, Option};
 ghost use Rattle.clap.specs.Values.{kind_of};
 ghost use Rattle.clap.specs.Walk.{texts};
-ghost use Rattle.nf_row.specs.Forms.{composes};
-ghost use Rattle.nf_row.specs.Ucd.{ucd};
 ghost use Rattle.nf_cmd.specs.Line.{IsRefused as Refused};
 ghost use Rattle.nf_cmd.specs.Lines.{line_of, status_of};
-ghost use Rattle.nf_cmd.specs.Answers.{Answers, AppendsFront, ComesOf, EndsBy};
+ghost use Rattle.nf_cmd.specs.Answers.{Answers, ComesOf};
+ghost use Rattle.nf_cmd.specs.Fronts.{AppendsFront};
 
 use crate::convert::convert;
-use crate::devices::{read_whole, write_front, write_whole};
 use crate::fault::Fault;
 use crate::line::{Request, parse};
+use crate::writing::{write_front, write_whole};
 use arrayvec::ArrayVec;
 use clap::Error;
 use clap::error::ErrorKind;
-use nf_row::{Form, Ucd};
 use std::alloc::Global;
 use std::io::{Read, Write};
 
@@ -40,32 +38,8 @@ pub(crate) fn command<'w, I: Read, O: Write, E: Write>(
     ensures refused { result ≡ 2 → Refused (texts words.entry.now) }
 {
     match parse(alloc, words) {
-        Ok(Request::Convert(form)) => report(convert_input(alloc, form, input, out), err),
+        Ok(Request::Convert(form)) => report(convert(form, input, out), err),
         Err(error) => refuse(alloc, &error, out, err),
-    }
-}
-
-// Converts all that the reader gives. Standard error is left to the caller.
-fn convert_input<I: Read, O: Write>(
-    alloc: Global,
-    form: Form,
-    input: &mut I,
-    out: &mut O,
-) -> Option<Fault>
-    requires { composes form ≡ false }
-    ensures { (err err_after : Option (List ℕ)) → EndsBy form ucd
-        (record { input = I.remaining input.old; out = O.contents out.old; err = err })
-        (record { input = I.remaining input.new; out = O.contents out.new; err = err_after }) result }
-{
-    let Ok(read) = read_whole(alloc, input) else {
-        return Some(Fault::Memory);
-    };
-    let Ok(conversion) = convert(alloc, &Ucd, form, read.bytes.as_slice(), read.failed) else {
-        return Some(Fault::Memory);
-    };
-    match write_whole(out, conversion.output.as_bytes()) {
-        Ok(()) => conversion.fault,
-        Err(_) => Some(Fault::Write),
     }
 }
 
@@ -77,10 +51,10 @@ fn refuse<O: Write, E: Write>(alloc: Global, error: &Error, out: &mut O, err: &m
 {
     let kind = error.kind();
     if kind == ErrorKind::OutOfMemory {
-        return report(Some(Fault::Memory), err);
+        return report(Err(Fault::Memory), err);
     }
     let Ok(text) = format!(in alloc; "{error}") else {
-        return report(Some(Fault::Memory), err);
+        return report(Err(Fault::Memory), err);
     };
     if kind != ErrorKind::DisplayHelp {
         let _ = write_front(err, text.as_bytes());
@@ -88,17 +62,18 @@ fn refuse<O: Write, E: Write>(alloc: Global, error: &Error, out: &mut O, err: &m
     }
     match write_whole(out, text.as_bytes()) {
         Ok(()) => 0,
-        Err(_) => report(Some(Fault::Write), err),
+        Err(_) => report(Err(Fault::Write), err),
     }
 }
 
-// Says on standard error which fault there was; where that fails, nothing more is done.
-fn report<E: Write>(fault: Option<Fault>, err: &mut E) -> u8
-    ensures status { result ≡ status_of fault }
-    ensures line { AppendsFront (E.contents err.old) (E.contents err.new) (line_of fault) }
+// The status of a run that ended so. A fault is said on standard error; where that fails, nothing more is done.
+fn report<E: Write>(found: Result<u8, Fault>, err: &mut E) -> u8
+    ensures status { result ≡ status_of found }
+    ensures line { AppendsFront (E.contents err.old) (E.contents err.new) (line_of found) }
 {
-    let Some(fault) = fault else {
-        return 0;
+    let fault = match found {
+        Ok(status) => return status,
+        Err(fault) => fault,
     };
     let mut line: ArrayVec<u8, LINE> = ArrayVec::new();
     if writeln!(line, "nfstream: {fault}").is_ok() {

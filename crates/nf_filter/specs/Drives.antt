@@ -1,5 +1,5 @@
 -- What driving a filter over a source answers and writes.
-use Rattle.std.specs.Prelude.{◌≡◌, true, false, Bool, ℕ, ◌+◌, ◌<◌, ◌≤◌, ◌↔◌, List, [], ◌++◌, length, Option, IsTrue, IsFalse, IsErr, Result, Err, ◌^◌}
+use Rattle.std.specs.Prelude.{◌≡◌, true, false, Bool, ℕ, ◌+◌, ◌<◌, ◌≤◌, ◌↔◌, ◌⊎◌, List, [], ◌++◌, length, Option, None, IsTrue, IsFalse, IsErr, Result, Err, ◌^◌}
 use Rattle.std.specs.Io.KnownBytes.{Consumes}
 use Rattle.std.specs.Result.{result_err}
 use Rattle.nf_row.specs.Properties.{Properties}
@@ -31,6 +31,8 @@ pub record Drives (f : Form) (p : Properties) (base : ℕ) (bytes : List ℕ) (c
   pub broken_off : result ≡ Err Write → BreaksOff old.taken new.taken (settled_utf8 f p bytes) (due_utf8 at_end f p (bytes ++ fed))
   pub written : ¬ (result ≡ Err Write) → Writes old.taken new.taken (settled_utf8 f p bytes) (due_utf8 at_end f p (bytes ++ fed))
   pub stands : ¬ (result ≡ Err Write) → new.is_failed ≡ old.is_failed
+  -- what was fed has no fault where the source ended, or was stopped before more was fed
+  pub no_fault : IsTrue at_end ⊎ ((result ≡ Err Read) ⊎ (result ≡ Err TooLong)) → fault_in p base (bytes ++ fed) ≡ None
   -- the filter was finished where the source is at its end, and else stopped by a fault
   pub finished : IsTrue at_end → ¬ (result ≡ Err Write) → result ≡ end_of p base (bytes ++ fed)
   pub stopped : IsFalse at_end → ¬ (result ≡ Err Write) → ¬ (result ≡ Err Read) → ¬ (result ≡ Err TooLong)

@@ -10,9 +10,10 @@ type Block = ArrayVec<u8, 124>;
 
 /// Gives the UTF-8 of `segment` to the sink.
 pub fn put_segment<S: Sink>(sink: &mut S, segment: &Segment) -> Result<(), Failed>
-    ensures { let old = sink_state (S.taken sink.old) (S.is_failed sink.old) in
+    ensures puts { let old = sink_state (S.taken sink.old) (S.is_failed sink.old) in
         let new = sink_state (S.taken sink.new) (S.is_failed sink.new) in
         MatchResult result (λ _. Puts old new [] (encode_utf8_all segment.now.items)) (λ _. Stops old new [] (encode_utf8_all segment.now.items)) }
+    ensures lender { S.lender sink.new ≡ S.lender sink.old }
 {
     let block = encoded(segment);
     put_all(sink, block.as_slice())
@@ -42,9 +43,10 @@ fn push_utf8(block: &mut Block, c: char)
 
 /// Gives `bytes` to the sink, in as many calls as it asks for.
 fn put_all<S: Sink>(sink: &mut S, bytes: &[u8]) -> Result<(), Failed>
-    ensures { let old = sink_state (S.taken sink.old) (S.is_failed sink.old) in
+    ensures puts { let old = sink_state (S.taken sink.old) (S.is_failed sink.old) in
         let new = sink_state (S.taken sink.new) (S.is_failed sink.new) in
         MatchResult result (λ _. Puts old new [] bytes.now) (λ _. Stops old new [] bytes.now) }
+    ensures lender { S.lender sink.new ≡ S.lender sink.old }
 {
     let mut at = 0;
     while at < bytes.len() {

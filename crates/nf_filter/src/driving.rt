@@ -29,6 +29,7 @@ pub fn drive<R: Rows, I: Source, S: Sink>(
         let new = sink_state (S.taken sink.new) (S.is_failed sink.new) in
         (f : Form) (bytes : List ℕ) → StandsAfter f p (state_of filter.entry) bytes
         → Drives f p base bytes (I.coming source.old) (I.coming source.new) (I.is_at_end source.new) old new result }
+    ensures lenders { (I.lender source.new ≡ I.lender source.old) × (S.lender sink.new ≡ S.lender sink.old) }
 {
     let mut filter = filter;
     if filter.spent() {
@@ -63,6 +64,7 @@ pub fn run<R: Rows, I: Source, S: Sink>(
     ensures drives { let old = sink_state (S.taken sink.old) (S.is_failed sink.old) in
         let new = sink_state (S.taken sink.new) (S.is_failed sink.new) in
         Drives form (R.properties rows.now) base [] (I.coming source.old) (I.coming source.new) (I.is_at_end source.new) old new result }
+    ensures lenders { (I.lender source.new ≡ I.lender source.old) × (S.lender sink.new ≡ S.lender sink.old) }
 {
     drive(Filter::new(rows, form, base), source, sink)
 }

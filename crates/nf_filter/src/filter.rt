@@ -77,6 +77,7 @@ impl<'r, R: Rows> Filter<'r, R> {
             (f : Form) (bytes : List ℕ) → StandsAfter f p (state_of self.old) bytes → ¬ (result ≡ Err Fault.TooLong) → Feeds f p base bytes piece.now old new result }
         ensures stands { let p = R.properties (rows_of self.old) in
             (f : Form) (bytes : List ℕ) → StandsAfter f p (state_of self.old) bytes → OnOk result (StandsAfter f p (state_of self.new) (bytes ++ piece.now)) }
+        ensures lender { S.lender sink.new ≡ S.lender sink.old }
     {
         let state = &mut self.state;
         if state.spent {
@@ -107,6 +108,7 @@ impl<'r, R: Rows> Filter<'r, R> {
             let old = sink_state (S.taken sink.old) (S.is_failed sink.old) in
             let new = sink_state (S.taken sink.new) (S.is_failed sink.new) in
             (f : Form) (bytes : List ℕ) → StandsAfter f p (state_of self.entry) bytes → Finishes f p base bytes old new result }
+        ensures lender { S.lender sink.new ≡ S.lender sink.old }
     {
         let Filter { rows, state } = self;
         let State {

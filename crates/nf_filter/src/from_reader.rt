@@ -49,6 +49,8 @@ impl<R: Read> Source for FromReader<R> {
 
     ghost is_at_end = { has_ended };
 
+    ghost lender = { λ _. 0 };
+
     fn get(&mut self, buf: &mut [u8]) -> Result<usize, Failed> {
         if !self.failed {
             if let Ok(n) = self.reader.read(buf) {

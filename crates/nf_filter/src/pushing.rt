@@ -26,6 +26,7 @@ pub fn push_row<R: Rows, S: Sink>(
         let old = sink_state (S.taken sink.old) (S.is_failed sink.old) in
         let new = sink_state (S.taken sink.new) (S.is_failed sink.new) in
         (f : Form) (w : List ℕ) → StandsAfter f p pending.old w → Pushes f p pending.new old new w (w ++ row.now.items) result }
+    ensures lender { S.lender sink.new ≡ S.lender sink.old }
 {
     for c in row.as_slice() {
         push(pending, rows, *c, sink)?;
@@ -47,6 +48,7 @@ pub fn push<R: Rows, S: Sink>(
         let old = sink_state (S.taken sink.old) (S.is_failed sink.old) in
         let new = sink_state (S.taken sink.new) (S.is_failed sink.new) in
         (f : Form) (w : List ℕ) → StandsAfter f p pending.old w → Pushes f p pending.new old new w (w ++ c ∷ []) result }
+    ensures lender { S.lender sink.new ≡ S.lender sink.old }
 {
     let settled = pending.push(rows, c);
     put_segment(sink, &settled)
@@ -54,11 +56,12 @@ pub fn push<R: Rows, S: Sink>(
 
 /// Gives the sink all that is pending.
 pub fn end<R: Rows, S: Sink>(pending: Pending, rows: &R, sink: &mut S) -> Result<(), Failed>
-    ensures { let p = R.properties rows.now in
+    ensures puts { let p = R.properties rows.now in
         let old = sink_state (S.taken sink.old) (S.is_failed sink.old) in
         let new = sink_state (S.taken sink.new) (S.is_failed sink.new) in
         (f : Form) (w : List ℕ) → StandsAfter f p pending w
         → MatchResult result (λ _. Puts old new (front_utf8 f p w) (encode_utf8_all (finished f p w))) (λ _. Stops old new (front_utf8 f p w) (encode_utf8_all (finished f p w))) }
+    ensures lender { S.lender sink.new ≡ S.lender sink.old }
 {
     let rest = pending.end(rows);
     put_segment(sink, &rest)

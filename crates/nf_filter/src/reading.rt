@@ -50,6 +50,7 @@ impl Reading {
             let new = sink_state (S.taken sink.new) (S.is_failed sink.new) in
             (f : Form) (base : ℕ) (bytes : List ℕ) → HasRead f p base self.old bytes → offset ≡ base + length bytes
             → Reads f p base self.new old new bytes piece.now result }
+        ensures lender { S.lender sink.new ≡ S.lender sink.old }
     {
         laws::pieces();
         for (i, byte) in piece.iter().enumerate() {
@@ -77,6 +78,7 @@ impl Reading {
             let new = sink_state (S.taken sink.new) (S.is_failed sink.new) in
             (f : Form) (base : ℕ) (bytes : List ℕ) → HasRead f p base self.old bytes → at ≡ base + length bytes
             → Reads f p base self.new old new bytes (byte ∷ []) result }
+        ensures lender { S.lender sink.new ≡ S.lender sink.old }
     {
         laws::split();
         match self.decoder.push(byte) {

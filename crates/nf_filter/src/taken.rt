@@ -66,6 +66,7 @@ impl Taken {
             let old = sink_state (S.taken sink.old) (S.is_failed sink.old) in
             let new = sink_state (S.taken sink.new) (S.is_failed sink.new) in
             (f : Form) (x : List ℕ) → HasTaken f p self.old x → Takes f p self.new old new x c result }
+        ensures lender { S.lender sink.new ≡ S.lender sink.old }
     {
         if !sound(rows, c) {
             return Err(Stop::Unsound);
@@ -92,6 +93,7 @@ impl Taken {
             let old = sink_state (S.taken sink.old) (S.is_failed sink.old) in
             let new = sink_state (S.taken sink.new) (S.is_failed sink.new) in
             (f : Form) (x : List ℕ) → HasTaken f p self.old x → Parts f p self.new old new x c result }
+        ensures lender { S.lender sink.new ≡ S.lender sink.old }
     {
         if !self.count(rows, c) {
             return Ok(());
@@ -119,6 +121,7 @@ impl Taken {
             let old = sink_state (S.taken sink.old) (S.is_failed sink.old) in
             let new = sink_state (S.taken sink.new) (S.is_failed sink.new) in
             (f : Form) (w : List ℕ) → StandsAfter f p self.old.pending w → PutsJoiner f p self.new.pending old new w result }
+        ensures lender { S.lender sink.new ≡ S.lender sink.old }
     {
         if !sound(rows, JOINER) {
             return Err(Stop::Unsound);
@@ -141,12 +144,13 @@ impl Taken {
 
     /// Gives the sink all that is pending.
     pub fn end<R: Rows, S: Sink>(self, rows: &R, sink: &mut S) -> Result<(), Failed>
-        ensures { let p = R.properties rows.now in
+        ensures puts { let p = R.properties rows.now in
             let old = sink_state (S.taken sink.old) (S.is_failed sink.old) in
             let new = sink_state (S.taken sink.new) (S.is_failed sink.new) in
             (f : Form) (x : List ℕ) → HasTaken f p self x
             → MatchResult result (λ _. Puts old new (encode_utf8_all (settled f p x)) (encode_utf8_all (safe_form f p x)))
             (λ _. Stops old new (encode_utf8_all (settled f p x)) (encode_utf8_all (safe_form f p x))) }
+        ensures lender { S.lender sink.new ≡ S.lender sink.old }
     {
         end(self.pending, rows, sink)
     }

@@ -40,6 +40,8 @@ impl<W: Write> Sink for ToWriter<W> {
 
     ghost is_failed = { has_failed };
 
+    ghost lender = { λ _. 0 };
+
     fn put(&mut self, bytes: &[u8]) -> Result<usize, Failed> {
         if bytes.is_empty() {
             return Ok(0);

@@ -34,6 +34,8 @@ impl Sink for Kept {
 
     ghost is_failed = { λ sink. sink.failed };
 
+    ghost lender = { λ _. 0 };
+
     fn put(&mut self, bytes: &[u8]) -> Result<usize, Failed> {
         if bytes.is_empty() {
             return Ok(0);

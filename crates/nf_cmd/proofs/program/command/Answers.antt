@@ -1,11 +1,6 @@
-use Rattle.std.proofs.Common.{rules}
 use Rattle.std.proofs.KnownBytes.{Keeps-refl}
 use Rattle.nf_cmd.proofs.AnswerLemmas.{refused_answers, refused_by}
 use Rattle.nf_cmd.proofs.program.command.Goals as goal
-
-pub returns-in-Ok-Convert-clause-answer : goal.returns-in-Ok-Convert-clause-answer
-returns-in-Ok-Convert-clause-answer g c =
-    search (rules, c.convert_input.ensures (g.E.Write.contents c.args.err.now) (g.E.Write.contents c.report.new.err))
 
 pub returns-in-Err-clause-answer : goal.returns-in-Err-clause-answer
 returns-in-Err-clause-answer g c = refused_answers _ _ _ _ _ c.in-Err.ensures.refused (Keeps-refl _) (c.refuse.ensures _ _)

@@ -1,4 +1,4 @@
-use Rattle.std.proofs.Common.{◌≡◌, ◌∙◌, ◌++◌, Result, Ok, Err, Some, true, [], refl, ap, subst, sym, true≢false}
+use Rattle.std.proofs.Common.{◌≡◌, ◌∙◌, ◌++◌, Result, Ok, Err, true, [], refl, ap, subst, sym, true≢false}
 use Rattle.std.specs.Prelude.{OnOk, is_ok}
 use Rattle.std.specs.Io.KnownBytes.{Appends}
 use Rattle.std.proofs.KnownBytes.{Appends-nil}
@@ -19,9 +19,9 @@ returns-clause-line g c =
           let made = at_ok _ _ w.if-is_ok.ensures.value c.writeln.ensures.bytes in (
             front.0,
             front.1,
-            ap line_of c.in-Some.is ∙ sym (w.as_slice.ensures.value ∙ made ∙ ap (λ start. start ++ line_of (Some c.in-Some.fault)) c.new-line.ensures) ∙ front.2,
+            ap line_of c.in-Err.is ∙ sym (w.as_slice.ensures.value ∙ made ∙ ap (λ start. start ++ line_of (Err c.in-Err.fault)) c.new-line.ensures) ∙ front.2,
             subst (λ e. Appends (g.E.Write.contents c.args.err.now) (g.E.Write.contents e) front.0) (sym w.err-is) front.3,
           )
       | else-is_ok w ↦
-          ([], line_of c.args.fault, refl, subst (λ e. Appends (g.E.Write.contents c.args.err.now) (g.E.Write.contents e) []) (sym w.err-is) (Appends-nil _))
+          ([], line_of c.args.found, refl, subst (λ e. Appends (g.E.Write.contents c.args.err.now) (g.E.Write.contents e) []) (sym w.err-is) (Appends-nil _))
     ]

@@ -24,4 +24,5 @@ loop-at-preserved g c =
     record {
       within = omega (arith, c.in-Ok.ensures.count, length-take (length c.args.bytes.now - c.loop-at.at) (drop c.loop-at.at c.args.bytes.now), length-drop c.loop-at.at c.args.bytes.now);
       puts = puts_part _ _ _ _ _ _ c.loop-at.invariant.puts c.in-Ok.ensures.count.0 c.in-Ok.ensures.taken c.in-Ok.ensures.stands (λ e. false≢true (c.in-Ok.ensures.for_good e some));
+      lender = c.in-Ok.ensures.lender ∙ c.loop-at.invariant.lender;
     }

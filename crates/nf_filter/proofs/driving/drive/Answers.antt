@@ -1,4 +1,4 @@
-use Rattle.std.proofs.Common.{◌≡◌, ℕ, ◌+◌, ◌<◌, ◌^◌, Bool, true, false, List, [], ◌++◌, length, take, Ok, Err, refl, sym, ap, ◌∙◌, subst, arith, append_assoc, append-nil, ⊎_elim, inr}
+use Rattle.std.proofs.Common.{◌≡◌, ℕ, ◌+◌, ◌<◌, ◌^◌, Bool, true, false, List, [], ◌++◌, length, take, Ok, Err, refl, sym, ap, ◌∙◌, subst, arith, append_assoc, append-nil, None, ⊎_elim, inr}
 use Rattle.std.specs.Prelude.{Result}
 use Rattle.std.specs.Io.KnownBytes.{Consumes}
 use Rattle.std.proofs.lemmas.Bool.{cases_lt, ne_eqb, eq-eqb}
@@ -10,6 +10,7 @@ use Rattle.nf_filter.specs.declared.fault.Fault.TheVariants.{TooLong, Read}
 use Rattle.nf_filter.specs.declared.filter.State.{State}
 use Rattle.nf_filter.specs.declared.tally.Tally.{Tally}
 use Rattle.nf_filter.specs.Writes.{SinkState, sink_state, Puts}
+use Rattle.nf_filter.specs.Faults.{fault_in}
 use Rattle.nf_filter.specs.Reading.{settled_utf8}
 use Rattle.nf_filter.specs.Filter.{rows_of, state_of, base_of, offset_of, is_spent, StandsAfter}
 use Rattle.nf_filter.specs.Feeds.{Feeds}
@@ -36,6 +37,10 @@ feeds_at f q p m base state bytes piece old new r rows same feeds =
 stands_at : (f : Form) (q p : Properties) (old new : State) (bytes piece : List ℕ) → q ≡ p → (StandsAfter f q old bytes → StandsAfter f q new (bytes ++ piece)) → StandsAfter f p old bytes → StandsAfter f p new (bytes ++ piece)
 stands_at f q p old new bytes piece rows stands = let P : Properties → Type 0 = λ q. StandsAfter f q old bytes → StandsAfter f q new (bytes ++ piece) in subst P rows stands
 
+-- what the filter took has no fault
+no_fault_at : (f : Form) (p : Properties) (m : ℕ) (state : State) (bytes : List ℕ) → base_of state ≡ m → StandsAfter f p state bytes → fault_in p m bytes ≡ None
+no_fault_at f p m state bytes same stands = ap (λ n. fault_in p n bytes) (sym same) ∙ stands.reading.no_fault
+
 pub loop-given-init : goal.loop-given-init
 loop-given-init g c =
     let unspent : is_spent (state_of c.args.filter) ≡ false = sym c.spent.ensures ∙ c.if-spent.false in
@@ -53,6 +58,7 @@ loop-given-init g c =
         λ f bytes stands.
             subst (λ b. StandsAfter f p (state_of c.args.filter) b × Puts state state (settled_utf8 f p bytes) (settled_utf8 f p b)) (sym (append-nil bytes)) (stands, Puts-none state (settled_utf8 f p bytes)),
       );
+      lenders = (refl, refl);
     }
 
 pub returns-in-Err-clause-drives : goal.returns-in-Err-clause-drives
@@ -65,6 +71,7 @@ returns-in-Err-clause-drives g c = λ f bytes stands.
     (Consumes-kept _ _ _ fed.0 fed.1 c.in-Err.ensures.kept)
     (omega (arith, so_far.0.offset, c.loop-given.invariant.base, c.loop-given.filter.state.offset_fits, length-append bytes fed.0))
     (Puts-at refl (ap (λ b. due_utf8 b f p (bytes ++ fed.0)) (sym before)) so_far.1)
+    (λ _. no_fault_at f p _ _ _ c.loop-given.invariant.base so_far.0)
     (λ end. let absent : true ≡ false = sym end ∙ before in cc)
     (λ _ unread. absurd (unread refl))
 
@@ -78,6 +85,7 @@ returns-then-given-eq0-clause-drives g c = λ f bytes stands.
     (subst (λ l. Consumes (g.I.Source.coming c.args.source.now) (g.I.Source.coming c.get.new.self) l) (append-nil fed.0)
     (Consumes-join _ _ _ fed.0 [] fed.1 (subst (λ n. Consumes (g.I.Source.coming c.loop-given.source) (g.I.Source.coming c.get.new.self) (take n c.get.new.buf)) c.if-given-eq0.true c.in-Ok.ensures.given)))
     (omega (arith, so_far.0.offset, c.loop-given.invariant.base, c.loop-given.filter.state.offset_fits, length-append bytes fed.0))
+    (no_fault_at f p _ _ _ c.loop-given.invariant.base so_far.0)
     so_far.1
     (finishes_at f _ p _ _ (state_of c.loop-given.filter) (bytes ++ fed.0) _ _ c.finish.result (ap g.R.Rows.properties c.loop-given.invariant.rows) c.loop-given.invariant.base (c.finish.ensures.finishes f (bytes ++ fed.0)) so_far.0)
 
@@ -100,6 +108,7 @@ returns-in-Err-feed-clause-drives g c = λ f bytes stands.
     (λ e. (let over : 18446744073709551615 < offset_of (state_of c.loop-given.filter) + length piece = (c.in-Err-feed.ensures.too_long.0 (ap Err e)).1 in omega (arith, here, over), ap (λ s. sink_state (g.S.Sink.taken s) (g.S.Sink.is_failed s)) (c.in-Err-feed.ensures.kept (inr (ap Err e))).1))
     (λ short. let room = fits_or (c.in-Err-feed.fault ≡ TooLong) (offset_of (state_of c.loop-given.filter)) (length piece)
     (λ above. let long = c.in-Err-feed.ensures.too_long.1 (unspent, above) in let same : c.in-Err-feed.fault ≡ TooLong = cc in same) short in omega (arith, room, here))
+    (no_fault_at f p _ _ _ c.loop-given.invariant.base so_far.0)
     so_far.1
     (λ short. feeds_at f _ p _ _ (state_of c.loop-given.filter) (bytes ++ fed.0) piece _ _ (Err c.in-Err-feed.fault) (ap g.R.Rows.properties c.loop-given.invariant.rows) c.loop-given.invariant.base (c.in-Err-feed.ensures.feeds f (bytes ++ fed.0)) so_far.0 (λ e. short (let same : c.in-Err-feed.fault ≡ TooLong = cc in same)))
 
@@ -131,4 +140,5 @@ loop-given-preserved g c =
             subst (λ b. StandsAfter f p (state_of c.feed.new.self) b × Puts old new (settled_utf8 f p bytes) (settled_utf8 f p b)) (append_assoc bytes fed.0 piece)
             (after, Puts-join so_far.1 (Puts-from_writes (feeds.written (λ e. cc)) (feeds.stands (λ e. cc)) (λ both. let bad = feeds.write.1 both in cc))),
       );
+      lenders = (c.get.ensures.lender ∙ c.loop-given.invariant.lenders.0, c.feed.ensures.lender ∙ c.loop-given.invariant.lenders.1);
     }

@@ -18,6 +18,7 @@ invariant-loop-given g l = record {
       → StandsAfter f (g.R.Rows.properties (rows_of l.fn.filter)) (state_of l.filter) (bytes ++ fed)
       × Puts (sink_state (g.S.Sink.taken l.fn.sink) (g.S.Sink.is_failed l.fn.sink)) (sink_state (g.S.Sink.taken l.sink) (g.S.Sink.is_failed l.sink))
       (settled_utf8 f (g.R.Rows.properties (rows_of l.fn.filter)) bytes) (settled_utf8 f (g.R.Rows.properties (rows_of l.fn.filter)) (bytes ++ fed)));
+  lenders : (g.I.Source.lender l.source ≡ g.I.Source.lender l.fn.source) × (g.S.Sink.lender l.sink ≡ g.S.Sink.lender l.fn.sink);
 }
 
 abbrev pub decreases-loop-given : goal.decreases-loop-given

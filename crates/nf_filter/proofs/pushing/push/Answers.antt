@@ -24,4 +24,4 @@ returns-clause-pushes g c = λ f w stands.
     let p = g.R.Rows.properties c.args.rows.now in
     pushes f p _ _ _ w _ c.push-settled.result.items c.put_segment.result (c.push-settled.ensures.stands f w stands)
     (sym (ap encode_utf8_all (c.push-settled.ensures.settles f w stands)) ∙ encodes-append (front p (finished f p w)) c.push-settled.result.items)
-    c.put_segment.ensures
+    c.put_segment.ensures.puts

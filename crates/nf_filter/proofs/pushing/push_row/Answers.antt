@@ -63,6 +63,7 @@ loop-c-preserved g c =
       pushed = λ f w stands.
           let before = c.loop-c.invariant.pushed f w stands in
           push_next f p _ _ _ _ w c.args.row.now.items _ _ within is before.1 (c.in_ok-push.ensures.pushes f _ before.0);
+      lender = c.in_ok-push.ensures.lender ∙ c.loop-c.invariant.lender;
     }
 
 pub returns-clause-pushes : goal.returns-clause-pushes

@@ -12,4 +12,5 @@ invariant-loop-c g l = record {
   pushed : (f : Form) (w : List ℕ) → StandsAfter f (g.R.Rows.properties l.rows) l.fn.pending w
       → StandsAfter f (g.R.Rows.properties l.rows) l.pending (w ++ take l.c-index l.row.items)
       × Puts (sink_state (g.S.Sink.taken l.fn.sink) (g.S.Sink.is_failed l.fn.sink)) (sink_state (g.S.Sink.taken l.sink) (g.S.Sink.is_failed l.sink)) (front_utf8 f (g.R.Rows.properties l.rows) w) (front_utf8 f (g.R.Rows.properties l.rows) (w ++ take l.c-index l.row.items));
+  lender : g.S.Sink.lender l.sink ≡ g.S.Sink.lender l.fn.sink;
 }

@@ -1,4 +1,4 @@
-use Rattle.std.proofs.Common.{◌≡◌, ℕ, ◌+◌, ◌<◌, ◌≤◌, List, [], ◌∷◌, ◌++◌, length, take, drop, get_or, sym, ap, ◌∙◌, subst, arith, append_assoc, append-nil}
+use Rattle.std.proofs.Common.{◌≡◌, ℕ, ◌+◌, ◌<◌, ◌≤◌, List, [], ◌∷◌, ◌++◌, length, take, drop, get_or, refl, sym, ap, ◌∙◌, subst, arith, append_assoc, append-nil}
 use Rattle.std.proofs.lemmas.List.{length-append, length-take-le, take_more, take_all, take-append-drop}
 use Rattle.nf_row.specs.Properties.{Properties}
 use Rattle.nf_row.specs.declared.form.Form.{Form}
@@ -26,6 +26,7 @@ loop-i-init g c = record {
       let p = g.R.Rows.properties c.args.rows.now in
       let state = sink_state (g.S.Sink.taken c.args.sink.now) (g.S.Sink.is_failed c.args.sink.now) in
       subst (λ b. AllRead f p base c.args.self.now state state bytes b) (sym (append-nil bytes)) (before, Puts-none state (settled_utf8 f p bytes));
+  lender = refl;
 }
 
 pub returns-in-Err-clause-reads : goal.returns-in-Err-clause-reads
@@ -49,6 +50,7 @@ loop-i-preserved g c = record {
       let next = c.in_default.ensures.reads f base (bytes ++ take i piece) so_far.0 (place c.args.offset base bytes piece i (omega (arith, c.loop-i-test.true)) here) in
       subst (λ b. AllRead f p base c.read_byte.new.self (sink_state (g.S.Sink.taken c.args.sink.now) (g.S.Sink.is_failed c.args.sink.now)) (sink_state (g.S.Sink.taken c.read_byte.new.sink) (g.S.Sink.is_failed c.read_byte.new.sink)) bytes b)
       (more bytes piece i c.loop-i-test.true) (next.0, Puts-join so_far.1 next.1);
+  lender = c.in_default.ensures.lender ∙ c.loop-i.invariant.lender;
 }
 
 pub returns-clause-reads : goal.returns-clause-reads

@@ -1,0 +1,61 @@
+//! The words of the command line.
+use super::{assert_shown, run};
+
+#[test]
+fn words_that_are_no_command_are_refused(rt: HostRuntime) {
+    let alloc = rt.alloc();
+    let mistakes: [&[&str]; 13] = [
+        &["nfstream"],
+        &["nfstream", "--form", "nfc"],
+        &["nfstream", "normalize"],
+        &["nfstream", "--version"],
+        &["nfstream", "help", "normalize"],
+        &["nfstream", "convert"],
+        &["nfstream", "convert", "--form"],
+        &["nfstream", "convert", "--form="],
+        &["nfstream", "convert", "--form", "nfx"],
+        &["nfstream", "convert", "--form", "NFC"],
+        &["nfstream", "convert", "--fo", "nfc"],
+        &["nfstream", "convert", "--form", "nfc", "--form", "nfd"],
+        &["nfstream", "convert", "--form", "nfc", "text"],
+    ];
+    for words in mistakes {
+        let mut input = b"a".as_slice();
+        let shown = run(alloc, words, &mut input);
+        assert_eq!(rt; shown.status, 2, "{words:?}");
+        assert_eq!(rt; shown.out.len(), 0, "{words:?}");
+        assert!(rt; shown.err.starts_with(b"error: "), "{words:?}");
+        assert_eq!(rt; input.len(), 1, "{words:?}");
+    }
+}
+
+#[test]
+fn a_form_may_follow_an_equals_sign(rt: HostRuntime) {
+    let words = ["nfstream", "convert", "--form=nfkd"];
+    let input = "\u{FB01}\u{C5}";
+    let shown = run(rt.alloc(), words.as_slice(), &mut input.as_bytes());
+    assert_shown(&rt, &shown, 0, b"fiA\xCC\x8A", "");
+}
+
+#[test]
+fn help_goes_to_the_output(rt: HostRuntime) {
+    let alloc = rt.alloc();
+    let asked: [(&[&str], &str); 5] = [
+        (&["nfstream", "--help"], "convert"),
+        (&["nfstream", "-h"], "convert"),
+        (&["nfstream", "help"], "convert"),
+        (&["nfstream", "help", "convert"], "--form <FORM>"),
+        (
+            &["nfstream", "convert", "--help"],
+            "[possible values: nfc, nfd, nfkc, nfkd]",
+        ),
+    ];
+    for (words, part) in asked {
+        let shown = run(alloc, words, &mut b"a".as_slice());
+        assert_eq!(rt; shown.status, 0, "{words:?}");
+        assert_eq!(rt; shown.err.len(), 0, "{words:?}");
+        let text = std::str::from_utf8(shown.out.as_slice()).expect(&rt, "text");
+        assert!(rt; text.contains(part), "{text}");
+        assert!(rt; text.contains("Usage: nfstream"), "{text}");
+    }
+}

@@ -1,0 +1,53 @@
+//! Bytes to a writer. An interrupted write is a failure like any other.
+ghost use Rattle.std.specs.Prelude.{◌≡◌, ◌≤◌, length, take, OnOk};
+ghost use Rattle.std.specs.Io.KnownBytes.{Appends, Keeps};
+ghost use Rattle.nf_cmd.specs.Fronts.{AppendsFront};
+
+use nf_filter::Failed;
+use std::io::Write;
+
+/// Writes all the bytes, and flushes.
+pub(crate) fn write_whole<O: Write>(out: &mut O, bytes: &[u8]) -> Result<(), Failed>
+    ensures { OnOk result (Appends (O.contents out.old) (O.contents out.new) bytes.now) }
+{
+    write_front(out, bytes)?;
+    flush(out)
+}
+
+/// Writes the bytes, or as many as the writer takes before it fails.
+pub(crate) fn write_front<O: Write>(out: &mut O, bytes: &[u8]) -> Result<(), Failed>
+    ensures all { OnOk result (Appends (O.contents out.old) (O.contents out.new) bytes.now) }
+    ensures front { AppendsFront (O.contents out.old) (O.contents out.new) bytes.now }
+{
+    if write_some(out, bytes) == bytes.len() {
+        Ok(())
+    } else {
+        Err(Failed)
+    }
+}
+
+/// Writes as many of the bytes as the writer takes before it fails, and answers how many.
+pub(crate) fn write_some<O: Write>(out: &mut O, bytes: &[u8]) -> usize
+    ensures within { result ≤ length bytes.now }
+    ensures written { Appends (O.contents out.old) (O.contents out.new) (take result bytes.now) }
+{
+    let mut at = 0;
+    while at < bytes.len() {
+        match out.write(&bytes[at..]) {
+            Ok(0) => return at,
+            Ok(n) => at += n,
+            Err(_) => return at,
+        }
+    }
+    at
+}
+
+/// Flushes.
+pub(crate) fn flush<O: Write>(out: &mut O) -> Result<(), Failed>
+    ensures { Keeps (O.contents out.old) (O.contents out.new) }
+{
+    match out.flush() {
+        Ok(()) => Ok(()),
+        Err(_) => Err(Failed),
+    }
+}
