@@ -17,7 +17,7 @@ use Rattle.clap.proofs.WalkLemmas.{list_any-map}
 use Rattle.nf_row.specs.declared.form.Form.{Form}
 use Rattle.nf_row.specs.declared.form.Form.TheVariants.{Nfc, Nfd, Nfkc, Nfkd}
 use Rattle.nf_cmd.specs.declared.line.Request.{Request}
-use Rattle.nf_cmd.specs.declared.line.Request.TheVariants.{Convert}
+use Rattle.nf_cmd.specs.declared.line.Request.TheVariants.{Convert, Check, Measure}
 use Rattle.nf_cmd.specs.Line.{IsLine, IsRefusal, convert, form_named, form_names, form_rule, line, request_of}
 use Rattle.nf_cmd.proofs.Rows.{Given, IsIn, IsNoHelp, StopsAtNoHelp, below_faultless, checked, given, no_help-walk, nothing_wanted, walk_faultless}
 
@@ -143,14 +143,21 @@ module _ (names : Bor (List (Bor Text))) (are : texts names.now ≡ form_names) 
       let r = of e.sub e.inside e.name e.answers e.no_help e.words e.faultless in
       (r.0, ap request_of e.is ∙ r.1)
     where
+      -- a subcommand that takes nothing
+      asks : (s : Shape) {x : Shape} → s ≡ x → (r : Request) → ((rows : List Row) → request_of (Some (x.name, rows)) ≡ Some r) → (left : List Text)
+          → (q : Request) × (request_of (Some (s.name, rows_after s.rules [] left)) ≡ Some q)
+      asks s same r is left = (r, ap (λ (x : Shape). request_of (Some (x.name, rows_after s.rules [] left))) same ∙ is (rows_after s.rules [] left))
+
       of : (s : Shape) → IsSub s (built (line names)).subs → (name : Text) → answers_to name (label_of s) ≡ true → IsNoHelp name
           → (left : List Text) → level_fault s [] nothing_held left false [] ≡ [] → (r : Request) × (request_of (Some (s.name, rows_after s.rules [] left)) ≡ Some r)
       of s (inl same) name answers helpless left below =
           let P : Shape → Type 0 = λ x. (r : Request) × (request_of (Some (x.name, rows_after x.rules [] left)) ≡ Some r) in
           subst P (sym same) (converts left (subst (λ (x : Shape). level_fault x [] nothing_held left false [] ≡ []) same below))
-      of s (inr (inl same)) name answers helpless left below =
+      of s (inr (inl same)) name answers helpless left below = asks s same Check (λ _. refl) left
+      of s (inr (inr (inl same))) name answers helpless left below = asks s same Measure (λ _. refl) left
+      of s (inr (inr (inr (inl same)))) name answers helpless left below =
           absurd (help_differs name (ap (λ (x : Shape). answers_to name (label_of x)) (sym same) ∙ answers) helpless)
-      of s (inr (inr bad)) name answers helpless left below = absurd bad
+      of s (inr (inr (inr (inr bad)))) name answers helpless left below = absurd bad
 
 -- ---- the same of any description of the line
 

@@ -8,10 +8,12 @@ use Rattle.nf_row.specs.Ucd.{ucd}
 use Rattle.nf_cmd.specs.declared.fault.Fault.{Fault}
 use Rattle.nf_cmd.specs.declared.fault.Fault.TheVariants.{Write, Memory}
 use Rattle.nf_cmd.specs.declared.line.Request.{Request}
-use Rattle.nf_cmd.specs.declared.line.Request.TheVariants.{Convert}
+use Rattle.nf_cmd.specs.declared.line.Request.TheVariants.{Convert, Check, Measure}
 use Rattle.nf_cmd.specs.Line.{Asks, Refuses}
 use Rattle.nf_cmd.specs.Fronts.{AppendsFront}
 use Rattle.nf_cmd.specs.Converts.{Converts}
+use Rattle.nf_cmd.specs.Checks.{Checks}
+use Rattle.nf_cmd.specs.Measures.{Measures}
 use Rattle.nf_cmd.specs.Lines.{line_of, status_of}
 
 -- what is known of the bytes that the reader has left, and that the output and standard error hold
@@ -55,6 +57,8 @@ pub record IsRefused (words : List Text) (before after : Devices) (status : ℕ)
 -- what a subcommand reads and writes, by how it ends
 abbrev pub Does : Request → Devices → Devices → Result ℕ Fault → Type 0
 Does (Convert form) before after found = Converts form ucd before.input after.input before.out after.out found
+Does Check before after found = Checks ucd before.input after.input before.out after.out found
+Does Measure before after found = Measures ucd before.input after.input before.out after.out found
 
 -- the words ask for this, and it was done
 pub record IsDone (words : List Text) (before after : Devices) (status : ℕ) : Type 0 where

@@ -3,4 +3,7 @@ pub mod Fronts
 pub mod Faults
 pub mod Lines
 pub mod Converts
+pub mod Surveys
+pub mod Checks
+pub mod Measures
 pub mod Answers

@@ -13,6 +13,10 @@ use std::alloc::{AllocError, Global};
 pub(crate) enum Request {
     /// `convert`: the form of the stream-safe text.
     Convert(Form),
+    /// `check`: whether the text is stream-safe, and where it is not.
+    Check,
+    /// `measure`: what is measured of the text.
+    Measure,
 }
 
 static FORMS: [&str; 4] = ["nfc", "nfd", "nfkc", "nfkd"];
@@ -33,12 +37,18 @@ fn line<'w>(alloc: Global) -> Result<Command<'w>, AllocError>
     let convert = Command::new(alloc, "convert")
         .about("Writes the normalization form of the stream-safe text")
         .arg(form(alloc))?;
-    Command::new(alloc, "nfstream")
-        .about(
-            "Makes UTF-8 text stream-safe and normalizes it, from standard input to standard output",
-        )
+    let check = Command::new(alloc, "check").about(
+        "Says whether the text is in the Stream-Safe Text Format, and where it is not",
+    );
+    let measure = Command::new(alloc, "measure").about(
+        "Counts the text's characters and non-starters, and what convert would put in",
+    );
+    let line = Command::new(alloc, "nfstream")
+        .about("Makes UTF-8 text on standard input stream-safe, normalizes it, and measures it")
         .subcommand_required(true)
-        .subcommand(convert)
+        .subcommand(convert)?;
+    let line = line.subcommand(check)?;
+    line.subcommand(measure)
 }
 
 fn form<'w>(alloc: Global) -> Arg<'w>
@@ -64,10 +74,11 @@ fn requested(matches: &ArgMatches<'_>) -> Option<Request>
 fn request_by(name: &str, form: Option<&str>) -> Option<Request>
     ensures { result ≡ request_by name.now (option_map (λ s. s.now) form.entry) }
 {
-    if name == "convert" {
-        Some(Request::Convert(form_named(form?)?))
-    } else {
-        None
+    match name {
+        "convert" => Some(Request::Convert(form_named(form?)?)),
+        "check" => Some(Request::Check),
+        "measure" => Some(Request::Measure),
+        _ => None,
     }
 }
 

@@ -1,10 +1,12 @@
 //! The program `nfstream`: it makes text stream-safe, normalizes it, and says what is wrong with input that it refuses.
 #![tactic(auto)]
 
+mod check;
 mod convert;
 mod fault;
 mod input;
 mod line;
+mod measure;
 mod output;
 mod program;
 mod writing;

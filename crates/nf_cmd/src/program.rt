@@ -7,18 +7,17 @@ ghost use Rattle.nf_cmd.specs.Lines.{line_of, status_of};
 ghost use Rattle.nf_cmd.specs.Answers.{Answers, ComesOf};
 ghost use Rattle.nf_cmd.specs.Fronts.{AppendsFront};
 
+use crate::check::check;
 use crate::convert::convert;
 use crate::fault::Fault;
 use crate::line::{Request, parse};
-use crate::writing::{write_front, write_whole};
+use crate::measure::measure;
+use crate::writing::{Lines, write_front, write_whole};
 use arrayvec::ArrayVec;
 use clap::Error;
 use clap::error::ErrorKind;
 use std::alloc::Global;
 use std::io::{Read, Write};
-
-/// What a line on standard error may take, in bytes.
-const LINE: usize = 128;
 
 /// Does what `words` ask for, of which the first is the program's name, and answers the status to end with.
 pub(crate) fn command<'w, I: Read, O: Write, E: Write>(
@@ -39,6 +38,8 @@ pub(crate) fn command<'w, I: Read, O: Write, E: Write>(
 {
     match parse(alloc, words) {
         Ok(Request::Convert(form)) => report(convert(form, input, out), err),
+        Ok(Request::Check) => report(check(input, out), err),
+        Ok(Request::Measure) => report(measure(input, out), err),
         Err(error) => refuse(alloc, &error, out, err),
     }
 }
@@ -75,7 +76,7 @@ fn report<E: Write>(found: Result<u8, Fault>, err: &mut E) -> u8
         Ok(status) => return status,
         Err(fault) => fault,
     };
-    let mut line: ArrayVec<u8, LINE> = ArrayVec::new();
+    let mut line: Lines = ArrayVec::new();
     if writeln!(line, "nfstream: {fault}").is_ok() {
         let _ = write_front(err, line.as_slice());
     }

@@ -1,9 +1,11 @@
 //! Runs of the program over memory.
 ghost use Rattle.std.specs.Prelude.{◌<◌, length};
 
+mod check;
 mod convert;
 mod devices;
 mod failures;
+mod measure;
 mod texts;
 mod words;
 

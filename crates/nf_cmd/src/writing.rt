@@ -3,8 +3,15 @@ ghost use Rattle.std.specs.Prelude.{◌≡◌, ◌≤◌, length, take, OnOk};
 ghost use Rattle.std.specs.Io.KnownBytes.{Appends, Keeps};
 ghost use Rattle.nf_cmd.specs.Fronts.{AppendsFront};
 
+use arrayvec::ArrayVec;
 use nf_filter::Failed;
 use std::io::Write;
+
+/// What the lines of a run may take, in bytes: more than any lines of the program.
+const LINES: usize = 512;
+
+/// Lines to be written at once.
+pub(crate) type Lines = ArrayVec<u8, LINES>;
 
 /// Writes all the bytes, and flushes.
 pub(crate) fn write_whole<O: Write>(out: &mut O, bytes: &[u8]) -> Result<(), Failed>

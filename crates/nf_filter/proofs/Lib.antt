@@ -5,3 +5,8 @@ pub mod TakenLemmas
 pub mod ReadingLemmas
 pub mod FilterLemmas
 pub mod DriveLemmas
+pub mod BytesLemmas
+pub mod CharactersLemmas
+pub mod SurveysLemmas
+pub mod ChecksLemmas
+pub mod MeasuresLemmas

@@ -26,10 +26,6 @@ use Rattle.nf_filter.proofs.WritesLemmas.{Puts-none, Puts-at, Stops-at}
 use Rattle.nf_filter.proofs.SettledLemmas.{Extends, is_usable-push}
 use Rattle.nf_filter.proofs.PushingLemmas.{Stops-extends, front_utf8-extends}
 
-pub OnOk-both : {T E : Type 0} {A B C : Type 0} (r : Result T E) → OnOk r A → OnOk r B → (A → B → C) → OnOk r C
-OnOk-both (Ok x) a b both = both a b
-OnOk-both (Err e) a b both = tt
-
 module _ (p : Properties) where
   and_false : (a s : Bool) → s ≡ false → (a && s) ≡ false
   and_false true s e = e
@@ -113,6 +109,15 @@ module _ (p : Properties) where
 
   abbrev counting : Taken → ℕ → Taken
   counting taken c = record taken { counter = count_step p taken.counter (p.compat c) }
+
+  -- what the counter says of the row of c
+  pub passes-is : (taken : Taken) (c : ℕ) (row : List ℕ) (answer is : Bool) → row ≡ p.compat c → answer ≡ passes p taken.counter row → answer ≡ is
+      → passes p taken.counter (p.compat c) ≡ is
+  passes-is taken c row answer is same says e = ap (passes p taken.counter) (sym same) ∙ sym says ∙ e
+
+  pub counting-is : (taken : Taken) (c n : ℕ) (row : List ℕ) → row ≡ p.compat c → n ≡ count_step p taken.counter row
+      → record taken { counter = n } ≡ counting taken c
+  counting-is taken c n row same counts = ap (λ m. record taken { counter = m }) (counts ∙ ap (count_step p taken.counter) same)
 
   -- there is room without a joiner
   pub HasRoom-without : (taken new : Taken) (c : ℕ) → IsWithin taken → is_sound p c ≡ true → passes p taken.counter (p.compat c) ≡ false
@@ -208,6 +213,12 @@ module _ (p : Properties) where
             is_usable-sound x c before.usable sound (λ _. puts.0),
             Stops-extends (settled_utf8-parted x c) (Stops-at (sym (settled_utf8-front x)) (ap (front_utf8 f p) (sym text)) puts.1),
           )
+
+    -- why not, whatever it would have answered
+    pub Parts-stopped : (T : Type 0) (taken : Taken) (old new : SinkState) (x : List ℕ) (c : ℕ) (stop : Stop)
+        → Parts {T = Unit {0}} f p taken old new x c (Err stop) → Parts {T = T} f p taken old new x c (Err stop)
+    Parts-stopped T taken old new x c Unsound parts = parts
+    Parts-stopped T taken old new x c Write parts = parts
 
     pub row_text : (part : Taken) (x row : List ℕ) (c : ℕ) → HasParted f p part x c → row ≡ row_of part.form p c
         → decomposed f p (parted p (stream_safe p x) c) ++ row ≡ decomposed f p (stream_safe p (x ++ c ∷ []))

@@ -10,3 +10,8 @@ pub mod Filter
 pub mod Feeds
 pub mod Finishes
 pub mod Drives
+pub mod Surveys
+pub mod Bytes
+pub mod Characters
+pub mod Checks
+pub mod Measures

@@ -66,7 +66,7 @@ PutsJoiner f p pending old new w (Err Unsound) = (is_sound p joiner ≡ false) �
 PutsJoiner f p pending old new w (Err Write) = (is_sound p joiner ≡ true) × Stops old new (front_utf8 f p w) (front_utf8 f p (w ++ joiner ∷ []))
 
 -- c was counted and parted, or why not
-abbrev pub Parts : Form → Properties → Taken → SinkState → SinkState → List ℕ → ℕ → Result (Unit {0}) Stop → Type 0
+abbrev pub Parts : {T : Type 0} → Form → Properties → Taken → SinkState → SinkState → List ℕ → ℕ → Result T Stop → Type 0
 Parts f p taken old new x c (Ok _) = HasParted f p taken x c × Puts old new (encode_utf8_all (settled f p x)) (front_utf8 f p (decomposed f p (parted p (stream_safe p x) c)))
 Parts f p taken old new x c (Err Unsound) = (is_usable p (x ++ c ∷ []) ≡ false) × Puts old new [] []
 Parts f p taken old new x c (Err Write) = (is_usable p (x ++ c ∷ []) ≡ true) × Stops old new (encode_utf8_all (settled f p x)) (encode_utf8_all (settled f p (x ++ c ∷ [])))

@@ -15,8 +15,12 @@ pub fn put_segment<S: Sink>(sink: &mut S, segment: &Segment) -> Result<(), Faile
         MatchResult result (λ _. Puts old new [] (encode_utf8_all segment.now.items)) (λ _. Stops old new [] (encode_utf8_all segment.now.items)) }
     ensures lender { S.lender sink.new ≡ S.lender sink.old }
 {
-    let block = encoded(segment);
-    put_all(sink, block.as_slice())
+    match segment.as_slice() {
+        [] => Ok(()),
+        // What most characters settle: it needs no block.
+        [c] => put_all(sink, c.encode_utf8(&mut [0; 4]).as_bytes()),
+        _ => put_all(sink, encoded(segment).as_slice()),
+    }
 }
 
 /// The UTF-8 of `segment`.

@@ -4,14 +4,12 @@ ghost use Rattle.nf_filter.specs.Writes.{sink_state};
 ghost use Rattle.nf_filter.specs.Filter.{rows_of, state_of, base_of, is_spent, StandsAfter};
 ghost use Rattle.nf_filter.specs.Drives.{Drives};
 
+use crate::bytes::BLOCK;
 use crate::devices::{Failed, Sink, Source};
 use crate::fault::Fault;
 use crate::filter::Filter;
 use crate::tally::Tally;
 use nf_row::{Form, Rows};
-
-/// The most bytes that are asked of a source at once.
-const BLOCK: usize = 4096;
 
 /// Feeds what the source gives, in pieces of at most 4,096 bytes, and finishes the filter at the source's end.
 pub fn drive<R: Rows, I: Source, S: Sink>(

@@ -2,6 +2,9 @@
 #![tactic(auto)]
 
 mod block;
+mod bytes;
+mod characters;
+mod checking;
 mod devices;
 mod driving;
 mod fault;
@@ -9,6 +12,7 @@ mod filter;
 mod from_reader;
 mod held;
 pub mod laws;
+mod measuring;
 mod pushing;
 mod reading;
 mod taken;
@@ -17,11 +21,13 @@ mod tally;
 mod tests;
 mod to_writer;
 
+pub use checking::check;
 pub use devices::{Failed, Sink, Source};
 pub use driving::{drive, run};
 pub use fault::Fault;
 pub use filter::Filter;
 pub use from_reader::FromReader;
 pub use held::Held;
+pub use measuring::measure;
 pub use tally::Tally;
 pub use to_writer::ToWriter;

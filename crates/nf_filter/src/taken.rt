@@ -5,7 +5,7 @@ ghost use Rattle.nf_row.specs.Forms.{row_of};
 use crate::devices::{Failed, Sink};
 use crate::pushing::{end, push, push_row};
 use nf_pending::Pending;
-use nf_row::{Form, JOINER, Row, Rows, sound};
+use nf_row::{Form, JOINER, Row, Rows, sound, sound_compat};
 use nf_safe::Counter;
 
 /// Why a character was not taken.
@@ -28,14 +28,13 @@ pub struct Taken {
 }
 
 impl Taken {
-    ghost use Rattle.std.specs.Prelude.{◌≡◌, ◌+◌, ◌<◌, ◌≤◌, ℕ, List, [], ◌∷◌, ◌++◌, if◌then◌else◌, IsTrue, OnOk, MatchResult, encode_utf8_all};
+    ghost use Rattle.std.specs.Prelude.{◌≡◌, ◌+◌, ◌<◌, ◌≤◌, ℕ, List, [], ◌∷◌, ◌++◌, if◌then◌else◌, IsTrue, IfOk, OnOk, MatchResult, encode_utf8_all};
     ghost use Rattle.nf_row.specs.Properties.{Properties};
     ghost use Rattle.nf_row.specs.Runs.{has_starter, trail};
     ghost use Rattle.nf_row.specs.declared.form.Form.{Form};
-    ghost use Rattle.nf_row.specs.Forms.{decomposed};
+    ghost use Rattle.nf_row.specs.Forms.{row_of, decomposed};
     ghost use Rattle.nf_row.specs.StreamSafe.{stream_safe};
     ghost use Rattle.nf_row.specs.Sound.{is_sound};
-    ghost use Rattle.nf_safe.specs.Count.{passes, count_step};
     ghost use Rattle.nf_pending.specs.StandsAfter.{run_len, StandsAfter};
     ghost use Rattle.nf_filter.specs.Writes.{sink_state, Puts, Stops};
     ghost use Rattle.nf_filter.specs.Settled.{settled, safe_form};
@@ -68,26 +67,35 @@ impl Taken {
             (f : Form) (x : List ℕ) → HasTaken f p self.old x → Takes f p self.new old new x c result }
         ensures lender { S.lender sink.new ≡ S.lender sink.old }
     {
-        if !sound(rows, c) {
+        let Some(compat) = sound_compat(rows, c) else {
             return Err(Stop::Unsound);
-        }
-        if let Err(stop) = self.part(rows, c, sink) {
-            return Err(stop);
-        }
+        };
+        let row = match self.part(rows, c, compat, sink) {
+            Ok(row) => row,
+            Err(stop) => return Err(stop),
+        };
         self.chars += 1;
-        let row = row_of(self.form, rows, c);
         match push_row(&mut self.pending, rows, &row, sink) {
             Ok(()) => Ok(()),
             Err(Failed) => Err(Stop::Write),
         }
     }
 
-    /// Counts the sound character `c`, and puts U+034F before it where it would make a run too long.
-    fn part<R: Rows, S: Sink>(&mut self, rows: &R, c: char, sink: &mut S) -> Result<(), Stop>
+    /// Counts the sound character `c`, of which `compat` is the compatibility decomposition, puts U+034F before it where
+    /// it would make a run too long, and answers the decomposition that the form asks for. One is kept at a time.
+    fn part<R: Rows, S: Sink>(
+        &mut self,
+        rows: &R,
+        c: char,
+        compat: Row,
+        sink: &mut S,
+    ) -> Result<Row, Stop>
+        requires row { compat.items ≡ (R.properties rows.now).compat c }
         requires sound { IsTrue (is_sound (R.properties rows.now) c) }
         requires within { IsWithin self.old }
         requires chars { self.old.chars < u64.MAX }
         ensures same { OnOk result ((self.new.form ≡ self.old.form) × (self.new.chars ≡ self.old.chars)) }
+        ensures row { IfOk result (λ row. row.items ≡ row_of self.new.form (R.properties rows.now) c) }
         ensures room { OnOk result (HasRoom (R.properties rows.now) self.new c) }
         ensures parts { let p = R.properties rows.now in
             let old = sink_state (S.taken sink.old) (S.is_failed sink.old) in
@@ -95,21 +103,15 @@ impl Taken {
             (f : Form) (x : List ℕ) → HasTaken f p self.old x → Parts f p self.new old new x c result }
         ensures lender { S.lender sink.new ≡ S.lender sink.old }
     {
-        if !self.count(rows, c) {
-            return Ok(());
+        let is_full = self.counter.step(rows, &compat);
+        if !is_full {
+            return Ok(row_with(self.form, rows, c, compat));
         }
-        self.put_joiner(rows, sink)
-    }
-
-    /// Counts the sound character `c`, and answers whether U+034F is to be put before it.
-    fn count<R: Rows>(&mut self, rows: &R, c: char) -> bool
-        requires { IsTrue (is_sound (R.properties rows.now) c) }
-        ensures answer { let p = R.properties rows.now in result ≡ passes p self.old.counter (p.compat c) }
-        ensures counted { let p = R.properties rows.now in self.new ≡ record self.old { counter = count_step p self.old.counter (p.compat c) } }
-    {
-        // A sound character has a short row.
-        let compat = rows.compat(c).unwrap();
-        self.counter.step(rows, &compat)
+        drop(compat);
+        match self.put_joiner(rows, sink) {
+            Ok(()) => Ok(row_of(self.form, rows, c)),
+            Err(stop) => Err(stop),
+        }
     }
 
     /// Puts U+034F, which is its own row where it is sound.
@@ -153,6 +155,23 @@ impl Taken {
         ensures lender { S.lender sink.new ≡ S.lender sink.old }
     {
         end(self.pending, rows, sink)
+    }
+}
+
+/// The decomposition of the sound character `c` that the form asks for, where `compat` is its compatibility
+/// decomposition.
+#[inline]
+fn row_with<R: Rows>(form: Form, rows: &R, c: char, compat: Row) -> Row
+    requires sound { IsTrue (is_sound (R.properties rows.now) c) }
+    requires row { compat.items ≡ (R.properties rows.now).compat c }
+    ensures { result.items ≡ row_of form (R.properties rows.now) c }
+{
+    match form {
+        Form::Nfc | Form::Nfd => {
+            drop(compat);
+            row_of(form, rows, c)
+        }
+        Form::Nfkc | Form::Nfkd => compat,
     }
 }
 

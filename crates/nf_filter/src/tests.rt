@@ -1,6 +1,10 @@
+mod checks;
 mod faults;
 mod forms;
 mod kit;
 mod parts;
 mod pieces;
+mod reference;
+mod settling;
+mod streams;
 mod tables;

@@ -1,1 +1,3 @@
 pub mod CheckerLemmas
+pub mod RunsLemmas
+pub mod MeasurerLemmas

@@ -4,4 +4,7 @@ pub mod LongestFront
 pub mod Place
 pub mod Checker
 pub mod OneCount
+pub mod Runs
+pub mod Measures
+pub mod Measurer
 pub mod Laws

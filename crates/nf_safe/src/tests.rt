@@ -1,5 +1,5 @@
-use crate::{Checker, Counter, Place};
-use nf_row::Change::Compat;
+use crate::{Checker, Counter, Measure, Measurer, Place};
+use nf_row::Change::{Class, Compat};
 use nf_row::{Patched, Rows, Rule, Ucd, Unsound};
 use std::test::Fail;
 
@@ -140,4 +140,94 @@ fn a_row_of_eighteen_is_taken(rt: HostRuntime) -> Result<(), Fail> {
     let mut checker = Checker::new(0);
     assert_eq!(rt; see(&mut checker, &rows, 'x', 1), Some(Ok(None)));
     Ok(())
+}
+
+/// What the measurer answers to the character.
+fn see_next<R: Rows>(measurer: &mut Measurer, rows: &R, c: char) -> Option<Result<(), Unsound>> {
+    if measurer.values().bytes > u64::MAX - c.len_utf8() as u64 {
+        return None;
+    }
+    Some(measurer.see(rows, c))
+}
+
+/// What is measured of a text: each character and how often it stands.
+fn measured<R: Rows>(rows: &R, text: &[(char, u32)]) -> Option<Result<Measure, Unsound>> {
+    let mut measurer = Measurer::new();
+    for (c, times) in text {
+        for _ in 0..*times {
+            if let Err(refusal) = see_next(&mut measurer, rows, *c)? {
+                return Some(Err(refusal));
+            }
+        }
+    }
+    Some(Ok(measurer.values()))
+}
+
+/// Bytes, characters, non-starters, longest run, joiners put, unassigned.
+fn measure(values: [u64; 6]) -> Option<Result<Measure, Unsound>> {
+    Some(Ok(Measure {
+        bytes: values[0],
+        chars: values[1],
+        nonstarters: u128::from(values[2]),
+        longest: u128::from(values[3]),
+        put: values[4],
+        unassigned: values[5],
+    }))
+}
+
+#[test]
+fn texts_are_measured(rt: HostRuntime) {
+    let cases: [(&[(char, u32)], [u64; 6]); 8] = [
+        (&[], [0, 0, 0, 0, 0, 0]),
+        (&[('q', 1), (MARK, 31)], [63, 32, 31, 31, 1, 0]),
+        // U+FFFF is a noncharacter, and U+E000 is for private use.
+        (&[('\u{FFFF}', 1)], [3, 1, 0, 0, 0, 1]),
+        (&[('\u{E000}', 1)], [3, 1, 0, 0, 0, 0]),
+        (&[('\u{C5}', 1), (MARK, 1)], [4, 2, 2, 2, 0, 0]),
+        (
+            &[('q', 1), (MARK, 30), ('\u{34F}', 1), (MARK, 1)],
+            [65, 33, 31, 30, 0, 0],
+        ),
+        (&[('q', 1), (MARK, 70)], [141, 71, 70, 70, 2, 0]),
+        // Marks of NFKD alone.
+        (&[('\u{FF9E}', 31)], [93, 31, 31, 31, 1, 0]),
+    ];
+    for (text, values) in cases {
+        assert_eq!(rt; measured(&Ucd, text), measure(values));
+    }
+}
+
+#[test]
+fn an_unsound_joiner_is_refused_where_it_is_put(rt: HostRuntime) {
+    let changes = [Class('\u{34F}', 230)];
+    let rows = Patched::new(&changes);
+    let refusal = Unsound {
+        c: '\u{34F}',
+        rule: Rule::A1,
+    };
+    assert_eq!(rt;
+        measured(&rows, &[('q', 1), (MARK, 30)]),
+        measure([61, 31, 30, 30, 0, 0])
+    );
+    assert_eq!(rt;
+        measured(&rows, &[('q', 1), (MARK, 31)]),
+        Some(Err(refusal))
+    );
+    // Of itself it is unsound too.
+    assert_eq!(rt; measured(&rows, &[('\u{34F}', 1)]), Some(Err(refusal)));
+}
+
+#[test]
+fn nothing_is_measured_of_what_is_refused(rt: HostRuntime) {
+    let changes = [Compat('x', &NINETEEN)];
+    let rows = Patched::new(&changes);
+    let mut measurer = Measurer::default();
+    assert_eq!(rt; see_next(&mut measurer, &rows, 'a'), Some(Ok(())));
+    let before = measurer.values();
+    let refusal = Unsound {
+        c: 'x',
+        rule: Rule::A1,
+    };
+    assert_eq!(rt; see_next(&mut measurer, &rows, 'x'), Some(Err(refusal)));
+    assert_eq!(rt; measurer.values(), before);
 }

@@ -4,7 +4,7 @@ use super::{assert_shown, run};
 #[test]
 fn words_that_are_no_command_are_refused(rt: HostRuntime) {
     let alloc = rt.alloc();
-    let mistakes: [&[&str]; 13] = [
+    let mistakes: [&[&str]; 17] = [
         &["nfstream"],
         &["nfstream", "--form", "nfc"],
         &["nfstream", "normalize"],
@@ -18,6 +18,10 @@ fn words_that_are_no_command_are_refused(rt: HostRuntime) {
         &["nfstream", "convert", "--fo", "nfc"],
         &["nfstream", "convert", "--form", "nfc", "--form", "nfd"],
         &["nfstream", "convert", "--form", "nfc", "text"],
+        &["nfstream", "check", "--form", "nfc"],
+        &["nfstream", "check", "text"],
+        &["nfstream", "measure", "--base", "1"],
+        &["nfstream", "check", "measure"],
     ];
     for words in mistakes {
         let mut input = b"a".as_slice();
@@ -40,11 +44,13 @@ fn a_form_may_follow_an_equals_sign(rt: HostRuntime) {
 #[test]
 fn help_goes_to_the_output(rt: HostRuntime) {
     let alloc = rt.alloc();
-    let asked: [(&[&str], &str); 5] = [
+    let asked: [(&[&str], &str); 7] = [
         (&["nfstream", "--help"], "convert"),
         (&["nfstream", "-h"], "convert"),
         (&["nfstream", "help"], "convert"),
+        (&["nfstream", "help"], "measure"),
         (&["nfstream", "help", "convert"], "--form <FORM>"),
+        (&["nfstream", "check", "--help"], "Stream-Safe Text Format"),
         (
             &["nfstream", "convert", "--help"],
             "[possible values: nfc, nfd, nfkc, nfkd]",

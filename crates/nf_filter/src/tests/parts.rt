@@ -1,27 +1,33 @@
-use crate::{Failed, Fault, Filter, Held, Sink, Tally};
+use crate::{Failed, Fault, Filter, Held, Sink, Source, Tally};
 use nf_row::{Form, Rows};
 use std::alloc::{AllocError, Global};
 
 pub const FORMS: [Form; 4] = [Form::Nfc, Form::Nfd, Form::Nfkc, Form::Nfkd];
 
-/// A sink that keeps the bytes that it takes, and fails where it has no room for more.
+/// A sink that keeps the bytes that it takes, at most `step` in a call, and fails where it has no room for more.
 #[derive(Drop)]
 pub struct Kept {
     pub bytes: Vec<u8>,
     pub room: usize,
+    pub step: usize,
     failed: bool,
 }
 
 impl Kept {
     /// A sink with room for all that a test writes.
     pub fn new(alloc: Global) -> Kept {
-        Kept::with_room(alloc, 1_000_000)
+        Kept::with_room(alloc, usize::MAX)
     }
 
     pub fn with_room(alloc: Global, room: usize) -> Kept {
+        Kept::with_step(alloc, room, usize::MAX)
+    }
+
+    pub fn with_step(alloc: Global, room: usize, step: usize) -> Kept {
         Kept {
             bytes: Vec::new(alloc),
             room,
+            step,
             failed: false,
         }
     }
@@ -40,12 +46,65 @@ impl Sink for Kept {
         if bytes.is_empty() {
             return Ok(0);
         }
-        let n = bytes.len().min(self.room);
+        let n = bytes.len().min(self.room).min(self.step);
         if self.failed || n == 0 || self.bytes.extend_from_slice(&bytes[..n]).is_err() {
             self.failed = true;
             return Err(Failed);
         }
         self.room -= n;
+        Ok(n)
+    }
+}
+
+/// A source that gives a piece in a call, as much of it as the buffer has room for, and then ends or fails. An empty
+/// piece is its end too, whatever it gives behind that.
+#[derive(Drop)]
+pub struct Pieces<'a> {
+    pieces: &'a [&'a [u8]],
+    /// How many it has given.
+    pub given: usize,
+    fails: bool,
+    failed: bool,
+    at_end: bool,
+}
+
+impl<'a> Pieces<'a> {
+    pub fn new(pieces: &'a [&'a [u8]], fails: bool) -> Pieces<'a> {
+        Pieces {
+            pieces,
+            given: 0,
+            fails,
+            failed: false,
+            at_end: false,
+        }
+    }
+}
+
+impl Source for Pieces<'_> {
+    ghost use Rattle.std.specs.Prelude.{None};
+
+    ghost coming = { λ _. None };
+
+    ghost is_failed = { λ source. source.failed };
+
+    ghost is_at_end = { λ source. source.at_end };
+
+    ghost lender = { λ _. 0 };
+
+    fn get(&mut self, buf: &mut [u8]) -> Result<usize, Failed> {
+        self.at_end = false;
+        if self.failed {
+            return Err(Failed);
+        }
+        let Some(piece) = self.pieces.get(self.given) else {
+            self.failed = self.fails;
+            self.at_end = !self.fails;
+            return if self.fails { Err(Failed) } else { Ok(0) };
+        };
+        let n = piece.len().min(buf.len());
+        buf[..n].copy_from_slice(&piece[..n]);
+        self.given = self.given.saturating_add(1);
+        self.at_end = n == 0;
         Ok(n)
     }
 }

@@ -1,25 +1,45 @@
-use Rattle.nf_filter.proofs.TakenLemmas.{OnOk-both, HasRoom-without, HasRoom-with, Parts-without, Parts-with}
-use Rattle.std.proofs.Common.{sym, ◌∙◌, subst}
+use Rattle.std.proofs.Common.{ℕ, Ok, Err}
+use Rattle.arrayvec.specs.ArrayVec.{ArrayVec}
 use Rattle.nf_row.specs.Forms.{decomposed}
 use Rattle.nf_row.specs.StreamSafe.{stream_safe}
-use Rattle.nf_pending.specs.StandsAfter.{StandsAfter}
-use Rattle.nf_filter.specs.declared.taken.Taken.{Taken}
+use Rattle.nf_filter.proofs.TakenLemmas.{passes-is, counting-is, HasRoom-without, HasRoom-with, Parts-without, Parts-with, Parts-stopped}
 use Rattle.nf_filter.proofs.taken.Taken.part.Goals as goal
 
-pub returns-then-not-count-clause-room : goal.returns-then-not-count-clause-room
-returns-then-not-count-clause-room g c =
-    HasRoom-without (g.R.Rows.properties c.args.rows.now) c.args.self.now _ c.args.c c.requires.within c.requires.sound (sym c.count.ensures.answer ∙ c.if-not-count.true) c.count.ensures.counted
+pub returns-then-not-is_full-clause-room : goal.returns-then-not-is_full-clause-room
+returns-then-not-is_full-clause-room g c =
+    let p = g.R.Rows.properties c.args.rows.now in
+    HasRoom-without p c.args.self.now _ c.args.c c.requires.within c.requires.sound
+    (passes-is p c.args.self.now c.args.c _ _ _ c.requires.row c.step-is_full.ensures.answer c.if-not-is_full.true)
+    (counting-is p c.args.self.now c.args.c _ _ c.requires.row c.step-is_full.ensures.count)
 
-pub returns-then-not-count-clause-parts : goal.returns-then-not-count-clause-parts
-returns-then-not-count-clause-parts g c = λ f x before.
-    Parts-without (g.R.Rows.properties c.args.rows.now) f c.args.self.now x c.args.c before c.requires.sound _ _ (sym c.count.ensures.answer ∙ c.if-not-count.true) c.count.ensures.counted
+pub returns-then-not-is_full-clause-parts : goal.returns-then-not-is_full-clause-parts
+returns-then-not-is_full-clause-parts g c = λ f x before.
+    let p = g.R.Rows.properties c.args.rows.now in
+    Parts-without p f c.args.self.now x c.args.c before c.requires.sound _ _
+    (passes-is p c.args.self.now c.args.c _ _ _ c.requires.row c.step-is_full.ensures.answer c.if-not-is_full.true)
+    (counting-is p c.args.self.now c.args.c _ _ c.requires.row c.step-is_full.ensures.count)
 
-pub returns-clause-room : goal.returns-clause-room
-returns-clause-room g c =
-    OnOk-both c.put_joiner.result c.put_joiner.ensures.same c.put_joiner.ensures.run
-    (λ same run. HasRoom-with (g.R.Rows.properties c.args.rows.now) c.args.self.now _ _ c.args.c c.requires.within c.requires.sound (sym c.count.ensures.answer ∙ c.if-not-count.false) c.count.ensures.counted same run)
+pub returns-in-Ok-clause-room : goal.returns-in-Ok-clause-room
+returns-in-Ok-clause-room g c =
+    let p = g.R.Rows.properties c.args.rows.now in
+    HasRoom-with p c.args.self.now _ _ c.args.c c.requires.within c.requires.sound
+    (passes-is p c.args.self.now c.args.c _ _ _ c.requires.row c.step-is_full.ensures.answer c.if-not-is_full.false)
+    (counting-is p c.args.self.now c.args.c _ _ c.requires.row c.step-is_full.ensures.count)
+    c.in-Ok.ensures.same c.in-Ok.ensures.run
 
-pub returns-clause-parts : goal.returns-clause-parts
-returns-clause-parts g c = λ f x before.
-    Parts-with (g.R.Rows.properties c.args.rows.now) f c.args.self.now x c.args.c before c.requires.sound _ _ _ _ c.put_joiner.result (sym c.count.ensures.answer ∙ c.if-not-count.false) c.count.ensures.counted c.put_joiner.ensures.same
-    (c.put_joiner.ensures.puts f _ (subst (λ (t : Taken). StandsAfter f (g.R.Rows.properties c.args.rows.now) t.pending (decomposed f (g.R.Rows.properties c.args.rows.now) (stream_safe (g.R.Rows.properties c.args.rows.now) x))) (sym c.count.ensures.counted) before.pending))
+pub returns-in-Ok-clause-parts : goal.returns-in-Ok-clause-parts
+returns-in-Ok-clause-parts g c = λ f x before.
+    let p = g.R.Rows.properties c.args.rows.now in
+    Parts-with p f c.args.self.now x c.args.c before c.requires.sound _ _ _ _ (Ok tt)
+    (passes-is p c.args.self.now c.args.c _ _ _ c.requires.row c.step-is_full.ensures.answer c.if-not-is_full.false)
+    (counting-is p c.args.self.now c.args.c _ _ c.requires.row c.step-is_full.ensures.count)
+    c.in-Ok.ensures.same (c.in-Ok.ensures.puts f (decomposed f p (stream_safe p x)) before.pending)
+
+pub returns-in-Err-clause-parts : goal.returns-in-Err-clause-parts
+returns-in-Err-clause-parts g c = λ f x before.
+    let p = g.R.Rows.properties c.args.rows.now in
+    Parts-stopped p f (ArrayVec ℕ) c.put_joiner.new.self _ _ x c.args.c c.in-Err.stop
+    (Parts-with p f c.args.self.now x c.args.c before c.requires.sound _ c.put_joiner.new.self _ _ (Err c.in-Err.stop)
+    (passes-is p c.args.self.now c.args.c _ _ _ c.requires.row c.step-is_full.ensures.answer c.if-not-is_full.false)
+    (counting-is p c.args.self.now c.args.c _ _ c.requires.row c.step-is_full.ensures.count)
+    tt (c.in-Err.ensures.puts f (decomposed f p (stream_safe p x)) before.pending))

@@ -6,23 +6,23 @@ use Rattle.nf_filter.proofs.WritesLemmas.{Puts-none, Puts-join, Puts-at, Stops-j
 use Rattle.nf_filter.proofs.TakenLemmas.{is_usable-unsound, settled_utf8-front, row_text, HasTaken-row}
 use Rattle.nf_filter.proofs.taken.Taken.take.Goals as goal
 
-pub returns-then-not-sound-clause-takes : goal.returns-then-not-sound-clause-takes
-returns-then-not-sound-clause-takes g c = λ f x before. (is_usable-unsound (g.R.Rows.properties c.args.rows.now) x c.args.c (sym c.sound.ensures ∙ c.if-not-sound.true), Puts-none _ _)
+pub returns-in_default-clause-takes : goal.returns-in_default-clause-takes
+returns-in_default-clause-takes g c = λ f x before. (is_usable-unsound (g.R.Rows.properties c.args.rows.now) x c.args.c (sym c.in_default.ensures.sound), Puts-none _ _)
 
-pub returns-in-Ok-clause-takes : goal.returns-in-Ok-clause-takes
-returns-in-Ok-clause-takes g c = λ f x before.
+pub returns-in-Ok-push_row-clause-takes : goal.returns-in-Ok-push_row-clause-takes
+returns-in-Ok-push_row-clause-takes g c = λ f x before.
     let p = g.R.Rows.properties c.args.rows.now in
-    let parts = c.in_default.ensures.parts f x before in
-    let pushed = c.in-Ok.ensures.pushes f (decomposed f p (parted p (stream_safe p x) c.args.c)) parts.0.pending in
-    let text = row_text p f c.part.new.self x c.row_of-row.result.items c.args.c parts.0 c.row_of-row.ensures in (
-      HasTaken-row p f c.part.new.self _ x c.row_of-row.result.items c.args.c parts.0 c.row_of-row.ensures refl pushed.0,
+    let parts = c.in-Ok.ensures.parts f x before in
+    let pushed = c.in-Ok-push_row.ensures.pushes f (decomposed f p (parted p (stream_safe p x) c.args.c)) parts.0.pending in
+    let text = row_text p f c.part.new.self x c.in-Ok.row.items c.args.c parts.0 c.in-Ok.ensures.row in (
+      HasTaken-row p f c.part.new.self _ x c.in-Ok.row.items c.args.c parts.0 c.in-Ok.ensures.row refl pushed.0,
       Puts-join parts.1 (Puts-at refl (ap (front_utf8 f p) text ∙ sym (settled_utf8-front p f (x ++ c.args.c ∷ []))) pushed.1),
     )
 
 pub returns-in-Err-push_row-clause-takes : goal.returns-in-Err-push_row-clause-takes
 returns-in-Err-push_row-clause-takes g c = λ f x before.
     let p = g.R.Rows.properties c.args.rows.now in
-    let parts = c.in_default.ensures.parts f x before in
+    let parts = c.in-Ok.ensures.parts f x before in
     let stops = c.in-Err-push_row.ensures.pushes f (decomposed f p (parted p (stream_safe p x) c.args.c)) parts.0.pending in
-    let text = row_text p f c.part.new.self x c.row_of-row.result.items c.args.c parts.0 c.row_of-row.ensures in
+    let text = row_text p f c.part.new.self x c.in-Ok.row.items c.args.c parts.0 c.in-Ok.ensures.row in
     (parts.0.usable, Stops-join parts.1 (Stops-at refl (ap (front_utf8 f p) text ∙ sym (settled_utf8-front p f (x ++ c.args.c ∷ []))) stops))

@@ -1,0 +1,23 @@
+-- What `check` shows: whether the text is in the Stream-Safe Text Format (UAX #15, section 13), and where it is not.
+use Rattle.std.specs.Prelude.{ℕ, List, [], ◌∷◌, ◌++◌, Option, Some, None, Result, Ok, Err, codes, decimal, option_map}
+use Rattle.nf_row.specs.Properties.{Properties}
+use Rattle.nf_safe.specs.declared.place.Place.{Place}
+use Rattle.nf_filter.specs.declared.fault.Fault.{Fault as Found}
+use Rattle.nf_filter.specs.Checks.{check_decision, no_place}
+use Rattle.nf_cmd.specs.declared.fault.Fault.{Fault}
+use Rattle.nf_cmd.specs.Faults.{told}
+use Rattle.nf_cmd.specs.Surveys.{Tells}
+
+abbrev pub check_line : Result (Option Place) Found → List ℕ
+check_line (Ok None) = codes "stream-safe" ++ 10 ∷ []
+check_line (Ok (Some place)) = codes "not stream-safe at character " ++ (decimal place.chars ++ (codes " byte " ++ (decimal place.bytes ++ 10 ∷ [])))
+check_line (Err fault) = []
+
+-- status 1 where there is a place
+abbrev pub check_end : Result (Option Place) Found → Option (Result ℕ Fault)
+check_end (Ok None) = Some (Ok 0)
+check_end (Ok (Some place)) = Some (Ok 1)
+check_end (Err fault) = option_map Err (told fault)
+
+abbrev pub Checks : Properties → Option (List ℕ) → Option (List ℕ) → Option (List ℕ) → Option (List ℕ) → Result ℕ Fault → Type 0
+Checks p coming left taken now found = Tells (check_decision p 0) no_place check_line check_end coming left taken now found

@@ -1,0 +1,30 @@
+-- What `measure` shows.
+use Rattle.std.specs.Prelude.{ℕ, List, [], ◌∷◌, ◌++◌, Option, Some, Result, Ok, Err, codes, decimal, option_map}
+use Rattle.nf_row.specs.Properties.{Properties}
+use Rattle.nf_safe.specs.declared.measure.Measure.{Measure}
+use Rattle.nf_filter.specs.declared.fault.Fault.{Fault as Found}
+use Rattle.nf_filter.specs.Measures.{measure_decision, text_measure}
+use Rattle.nf_cmd.specs.declared.fault.Fault.{Fault}
+use Rattle.nf_cmd.specs.Faults.{told}
+use Rattle.nf_cmd.specs.Surveys.{Tells}
+
+-- a name and a number
+abbrev pub line : List ℕ → ℕ → List ℕ
+line name number = name ++ (32 ∷ (decimal number ++ 10 ∷ []))
+
+abbrev pub measure_lines : Result Measure Found → List ℕ
+measure_lines (Ok m) =
+    ((((line (codes "bytes") m.bytes
+    ++ line (codes "characters") m.chars)
+    ++ line (codes "non-starters") m.nonstarters)
+    ++ line (codes "longest run") m.longest)
+    ++ line (codes "put") m.put)
+    ++ line (codes "unassigned") m.unassigned
+measure_lines (Err fault) = []
+
+abbrev pub measure_end : Result Measure Found → Option (Result ℕ Fault)
+measure_end (Ok measure) = Some (Ok 0)
+measure_end (Err fault) = option_map Err (told fault)
+
+abbrev pub Measures : Properties → Option (List ℕ) → Option (List ℕ) → Option (List ℕ) → Option (List ℕ) → Result ℕ Fault → Type 0
+Measures p coming left taken now found = Tells (measure_decision p 0) (text_measure p) measure_lines measure_end coming left taken now found

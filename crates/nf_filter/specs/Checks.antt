@@ -1,0 +1,33 @@
+-- Where a text is found not to be in the Stream-Safe Text Format, or cannot be read on (UAX #15, section 13; The Unicode
+-- Standard, section 3.9).
+use Rattle.std.specs.Prelude.{ℕ, ◌+◌, List, length, Option, Some, None, option_map, Result, Ok, Err, if◌then◌else◌, take_while, encode_utf8_all}
+use Rattle.std.specs.List.{list_all}
+use Rattle.nf_row.specs.Properties.{Properties}
+use Rattle.nf_row.specs.Sound.{is_sound}
+use Rattle.nf_utf8.specs.Reading.{text_of, ending_of}
+use Rattle.nf_safe.specs.declared.place.Place.{Place}
+use Rattle.nf_safe.specs.Place.{place_from}
+use Rattle.nf_filter.specs.declared.fault.Fault.{Fault}
+use Rattle.nf_filter.specs.declared.fault.Fault.TheVariants.{Row}
+use Rattle.nf_filter.specs.Faults.{bad_byte}
+
+-- the characters before the first unsound one
+abbrev pub sound_front : Properties → List ℕ → List ℕ
+sound_front p x = take_while (is_sound p) x
+
+-- the fault at the first unsound character, or else at the first ill-formed byte
+unfoldable pub check_fault : Properties → ℕ → List ℕ → Option Fault
+check_fault p base bytes = if list_all (is_sound p) (text_of bytes) then bad_byte base (ending_of bytes) else Some (Row (base + length (encode_utf8_all (sound_front p (text_of bytes)))))
+
+-- a place comes before any fault
+abbrev pub place_or_fault : Option Place → Option Fault → Option (Result (Option Place) Fault)
+place_or_fault (Some place) fault = Some (Ok (Some place))
+place_or_fault None fault = option_map Err fault
+
+-- what the bytes, the first of which has the offset `base`, decide
+unfoldable pub check_decision : Properties → ℕ → List ℕ → Option (Result (Option Place) Fault)
+check_decision p base bytes = place_or_fault (place_from base p (sound_front p (text_of bytes))) (check_fault p base bytes)
+
+-- a text without a place is stream-safe
+abbrev pub no_place : List ℕ → Option Place
+no_place bytes = None

@@ -1,0 +1,276 @@
+use super::parts::joined;
+use crate::{Failed, Fault, Source, check, measure};
+use nf_row::Change::{Class, Compat};
+use nf_row::{Change, Patched, Ucd};
+use nf_safe::{Measure, Place};
+use std::test::Fail;
+
+const M: &str = "\u{301}";
+
+const J: &str = "\u{34F}";
+
+/// A source of bytes that gives at most `step` at once, and fails where it `breaks` in place of ending.
+#[derive(Drop)]
+struct Bytes<'b> {
+    coming: &'b [u8],
+    step: usize,
+    breaks: bool,
+    failed: bool,
+    at_end: bool,
+}
+
+impl<'b> Bytes<'b> {
+    fn new(coming: &'b [u8], step: usize) -> Bytes<'b> {
+        Bytes {
+            coming,
+            step,
+            breaks: false,
+            failed: false,
+            at_end: false,
+        }
+    }
+
+    fn breaking(coming: &'b [u8], step: usize) -> Bytes<'b> {
+        Bytes {
+            breaks: true,
+            ..Bytes::new(coming, step)
+        }
+    }
+}
+
+impl Source for Bytes<'_> {
+    ghost use Rattle.std.specs.Prelude.{None};
+
+    ghost coming = { λ _. None };
+
+    ghost is_failed = { λ source. source.failed };
+
+    ghost is_at_end = { λ source. source.at_end };
+
+    ghost lender = { λ _. 0 };
+
+    fn get(&mut self, buf: &mut [u8]) -> Result<usize, Failed> {
+        let n = self.step.min(buf.len()).min(self.coming.len());
+        if self.failed || (n == 0 && self.breaks) {
+            self.failed = true;
+            self.at_end = false;
+            return Err(Failed);
+        }
+        let (front, back) = self.coming.split_at(n);
+        buf[..n].copy_from_slice(front);
+        self.coming = back;
+        self.at_end = n == 0;
+        Ok(n)
+    }
+}
+
+/// How many bytes a source gives at once.
+const STEPS: [usize; 4] = [1, 2, 7, 5000];
+
+fn place(chars: u64, bytes: u64) -> Result<Option<Place>, Fault> {
+    Ok(Some(Place { chars, bytes }))
+}
+
+/// Bytes, characters, non-starters, longest run, joiners put, unassigned.
+fn measured(values: [u64; 6]) -> Result<Measure, Fault> {
+    Ok(Measure {
+        bytes: values[0],
+        chars: values[1],
+        nonstarters: u128::from(values[2]),
+        longest: u128::from(values[3]),
+        put: values[4],
+        unassigned: values[5],
+    })
+}
+
+/// A text, what a check answers to it, and what is measured of it.
+type Case<'a> = (
+    &'a [(&'a str, usize)],
+    Result<Option<Place>, Fault>,
+    [u64; 6],
+);
+
+#[test]
+fn a_text_is_checked_and_measured(rt: HostRuntime) -> Result<(), Fail> {
+    let alloc = rt.alloc();
+    let cases: [Case<'_>; 9] = [
+        (&[], Ok(None), [0, 0, 0, 0, 0, 0]),
+        (&[("q", 1), (M, 31)], place(31, 61), [63, 32, 31, 31, 1, 0]),
+        (&[("q", 1), (M, 30)], Ok(None), [61, 31, 30, 30, 0, 0]),
+        (
+            &[("\u{C5}", 1), (M, 30)],
+            place(30, 60),
+            [62, 31, 31, 31, 1, 0],
+        ),
+        (&[("\u{FFFF}", 1)], Ok(None), [3, 1, 0, 0, 0, 1]),
+        (&[("\u{C5}\u{301}", 1)], Ok(None), [4, 2, 2, 2, 0, 0]),
+        (
+            &[("q", 1), (M, 30), (J, 1), (M, 1)],
+            Ok(None),
+            [65, 33, 31, 30, 0, 0],
+        ),
+        // Past one block, with characters across its end.
+        (
+            &[("\u{1F600}", 2000), ("q", 1)],
+            Ok(None),
+            [8001, 2001, 0, 0, 0, 0],
+        ),
+        (
+            &[("\u{1F600}a", 1000), (M, 31), ("q", 5000)],
+            place(2030, 5060),
+            [10_062, 7031, 31, 31, 1, 0],
+        ),
+    ];
+    for (text, checked, values) in cases {
+        let bytes = joined(alloc, text)?;
+        for step in STEPS {
+            let mut source = Bytes::new(bytes.as_slice(), step);
+            assert!(rt; check(&Ucd, 0, &mut source) == checked, "step {step}");
+            let mut source = Bytes::new(bytes.as_slice(), step);
+            assert!(rt;
+                measure(&Ucd, 0, &mut source) == measured(values),
+                "step {step}"
+            );
+        }
+    }
+    Ok(())
+}
+
+#[test]
+fn the_first_fault_is_told(rt: HostRuntime) {
+    let cases: [(&[u8], Fault); 6] = [
+        (b"ab\xC3(", Fault::BadByte { at: 3, start: 2 }),
+        (b"\xC0", Fault::BadByte { at: 0, start: 0 }),
+        (b"\xED\xA0\x80", Fault::BadByte { at: 1, start: 0 }),
+        (b"\xE2\x82\xACa\xFF", Fault::BadByte { at: 4, start: 4 }),
+        (b"ab\xC3", Fault::Cut { at: 3, start: 2 }),
+        (b"\xF0\x90\x80", Fault::Cut { at: 3, start: 0 }),
+    ];
+    for (bytes, fault) in cases {
+        for step in STEPS {
+            assert_eq!(rt; check(&Ucd, 0, &mut Bytes::new(bytes, step)), Err(fault));
+            assert_eq!(rt; measure(&Ucd, 0, &mut Bytes::new(bytes, step)), Err(fault));
+        }
+    }
+}
+
+#[test]
+fn nothing_is_told_of_what_is_behind_a_place(rt: HostRuntime) -> Result<(), Fail> {
+    let alloc = rt.alloc();
+    let mut bytes = joined(alloc, &[("q", 1), (M, 31)])?;
+    bytes.push(0xFF)?;
+    for step in STEPS {
+        let mut source = Bytes::breaking(bytes.as_slice(), step);
+        assert_eq!(rt; check(&Ucd, 0, &mut source), place(31, 61));
+        assert!(rt; !source.failed);
+        let mut source = Bytes::breaking(bytes.as_slice(), step);
+        assert_eq!(rt;
+            measure(&Ucd, 0, &mut source),
+            Err(Fault::BadByte { at: 63, start: 63 })
+        );
+        assert!(rt; !source.failed);
+    }
+    // One byte at a time, nothing is asked for behind the mark that makes the run too long.
+    let mut source = Bytes::breaking(bytes.as_slice(), 1);
+    assert_eq!(rt; check(&Ucd, 0, &mut source), place(31, 61));
+    assert_eq!(rt; source.coming, b"\xFF".as_slice());
+    Ok(())
+}
+
+#[test]
+fn a_failed_source_is_told_where_nothing_is_before(rt: HostRuntime) {
+    for step in STEPS {
+        for bytes in [b"".as_slice(), b"ab".as_slice(), b"ab\xC3".as_slice()] {
+            let mut source = Bytes::breaking(bytes, step);
+            assert_eq!(rt; check(&Ucd, 0, &mut source), Err(Fault::Read));
+            assert_eq!(rt; check(&Ucd, 0, &mut source), Err(Fault::Read));
+            let mut source = Bytes::breaking(bytes, step);
+            assert_eq!(rt; measure(&Ucd, 0, &mut source), Err(Fault::Read));
+        }
+        let mut source = Bytes::breaking(b"a\xFF", step);
+        assert_eq!(rt;
+            check(&Ucd, 0, &mut source),
+            Err(Fault::BadByte { at: 1, start: 1 })
+        );
+    }
+}
+
+#[test]
+fn places_have_the_base_before_them(rt: HostRuntime) -> Result<(), Fail> {
+    let bytes = joined(rt.alloc(), &[("q", 1), (M, 31)])?;
+    for step in STEPS {
+        let mut source = Bytes::new(bytes.as_slice(), step);
+        assert_eq!(rt; check(&Ucd, 100, &mut source), place(31, 161));
+        let mut source = Bytes::new(b"ab\xC3(", step);
+        let fault = Fault::BadByte {
+            at: 103,
+            start: 102,
+        };
+        assert_eq!(rt; measure(&Ucd, 100, &mut source), Err(fault));
+        let mut source = Bytes::new(b"ab\xC3", step);
+        let fault = Fault::Cut {
+            at: 103,
+            start: 102,
+        };
+        assert_eq!(rt; check(&Ucd, 100, &mut source), Err(fault));
+    }
+    Ok(())
+}
+
+#[test]
+fn no_piece_goes_past_the_last_offset(rt: HostRuntime) {
+    let base = u64::MAX - 1;
+    for (bytes, step) in [
+        (b"ab".as_slice(), 2),
+        (b"\xFFb".as_slice(), 2),
+        (b"abc".as_slice(), 1),
+    ] {
+        assert_eq!(rt;
+            check(&Ucd, base, &mut Bytes::new(bytes, step)),
+            Err(Fault::TooLong)
+        );
+        assert_eq!(rt;
+            measure(&Ucd, base, &mut Bytes::new(bytes, step)),
+            Err(Fault::TooLong)
+        );
+    }
+    let mut source = Bytes::new(b"a", 2);
+    assert_eq!(rt; check(&Ucd, base, &mut source), Ok(None));
+    let mut source = Bytes::new(b"\xFFb", 1);
+    let fault = Fault::BadByte {
+        at: base,
+        start: base,
+    };
+    assert_eq!(rt; check(&Ucd, base, &mut source), Err(fault));
+}
+
+const NINETEEN: [char; 19] = ['a'; 19];
+
+#[test]
+fn unsound_characters_are_told_by_place(rt: HostRuntime) -> Result<(), Fail> {
+    let alloc = rt.alloc();
+    let long: [Change<'_>; 1] = [Compat('x', &NINETEEN)];
+    let rows = Patched::new(&long);
+    for step in STEPS {
+        let row = Fault::Row { at: 4 };
+        assert_eq!(rt; check(&rows, 3, &mut Bytes::new(b"ax\xFF", step)), Err(row));
+        assert_eq!(rt;
+            measure(&rows, 3, &mut Bytes::new(b"ax\xFF", step)),
+            Err(row)
+        );
+        let bad = Fault::BadByte { at: 4, start: 4 };
+        assert_eq!(rt; check(&rows, 3, &mut Bytes::new(b"a\xFFx", step)), Err(bad));
+    }
+
+    // A joiner that is not plain is put by the process alone, and a check puts none.
+    let joiner: [Change<'_>; 1] = [Class('\u{34F}', 230)];
+    let rows = Patched::new(&joiner);
+    let bytes = joined(alloc, &[("q", 1), (M, 31)])?;
+    for step in STEPS {
+        let mut source = Bytes::new(bytes.as_slice(), step);
+        assert_eq!(rt; measure(&rows, 0, &mut source), Err(Fault::Row { at: 61 }));
+        let mut source = Bytes::new(bytes.as_slice(), step);
+        assert_eq!(rt; check(&rows, 0, &mut source), place(31, 61));
+    }
+    Ok(())
+}

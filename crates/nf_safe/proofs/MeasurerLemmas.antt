@@ -1,0 +1,107 @@
+-- A measurer's step.
+use Rattle.std.proofs.Common.{◌≡◌, ℕ, ◌+◌, ◌-◌, ◌≤◌, not, Bool, true, false, cond, List, [], ◌∷◌, ◌++◌, length, encode_utf8, encode_utf8_all, refl, sym, ap, ◌∙◌, subst, arith}
+use Rattle.std.specs.Prelude.{if◌then◌else◌}
+use Rattle.std.specs.List.{list_all}
+use Rattle.std.proofs.lemmas.Bool.{and_from}
+use Rattle.std.proofs.lemmas.List.{length-append}
+use Rattle.std.proofs.lemmas.List.Folds.{list_all-append}
+use Rattle.std.proofs.lemmas.List.Sums.{sum_by_push}
+use Rattle.std.proofs.lemmas.Str.{encodes-append}
+use Rattle.nf_row.specs.Properties.{Properties}
+use Rattle.nf_row.specs.declared.form.Form.TheVariants.{Nfkd}
+use Rattle.nf_row.specs.Runs.{trail}
+use Rattle.nf_row.specs.Forms.{decomposed}
+use Rattle.nf_row.specs.StreamSafe.{joiner, is_too_long, stream_safe}
+use Rattle.nf_row.specs.Sound.{is_sound}
+use Rattle.nf_row.specs.Laws.Last.{by_last}
+use Rattle.nf_row.specs.Laws.Sound.{IsSoundText, JoinerIsPlain-from_sound}
+use Rattle.nf_row.specs.Laws.Starters.{longest-order}
+use Rattle.nf_row.specs.Laws.StreamSafe.{stream_safe-push, decomposed-push}
+use Rattle.nf_safe.specs.declared.measure.Measure.{Measure}
+use Rattle.nf_safe.specs.declared.measurer.Measurer.{Measurer}
+use Rattle.nf_safe.specs.Count.{passes, count_step}
+use Rattle.nf_safe.specs.Laws.Count.{trail-decomposed-safe_step}
+use Rattle.nf_safe.specs.Runs.{HasRuns}
+use Rattle.nf_safe.specs.Measurer.{StandsAfter}
+
+-- a measure is its six numbers
+abbrev pub measured : ℕ → ℕ → ℕ → ℕ → ℕ → ℕ → Measure
+measured a b c d e f = record { bytes = a; chars = b; nonstarters = c; longest = d; put = e; unassigned = f }
+
+pub same_values : {a b c d e f k l m n o q : ℕ} → a ≡ k → b ≡ l → c ≡ m → d ≡ n → e ≡ o → f ≡ q → measured a b c d e f ≡ measured k l m n o q
+same_values {a} {b} {c} {d} {e} {f} {k} {l} {m} {n} {o} {q} bytes chars nonstarters longest put unassigned =
+    ap (λ i. measured i b c d e f) bytes ∙ ap (λ i. measured k i c d e f) chars ∙ ap (λ i. measured k l i d e f) nonstarters
+    ∙ ap (λ i. measured k l m i e f) longest ∙ ap (λ i. measured k l m n i f) put ∙ ap (λ i. measured k l m n o i) unassigned
+
+-- the process takes nothing away
+length-stream_safe-ge : (p : Properties) (x : List ℕ) → length x ≤ length (stream_safe p x)
+length-stream_safe-ge p = by_last (λ x. length x ≤ length (stream_safe p x)) (omega arith) more
+  where
+    next : (b : Bool) (x : List ℕ) (c : ℕ) → length x ≤ length (stream_safe p x)
+        → length (x ++ c ∷ []) ≤ length ((if b then stream_safe p x ++ joiner ∷ [] else stream_safe p x) ++ c ∷ [])
+    next true x c before = omega (arith, before, length-append x (c ∷ []), length-append (stream_safe p x ++ joiner ∷ []) (c ∷ []), length-append (stream_safe p x) (joiner ∷ []))
+    next false x c before = omega (arith, before, length-append x (c ∷ []), length-append (stream_safe p x) (c ∷ []))
+
+    more : (x : List ℕ) (c : ℕ) → length x ≤ length (stream_safe p x) → length (x ++ c ∷ []) ≤ length (stream_safe p (x ++ c ∷ []))
+    more x c before = omega (arith, next (is_too_long p (stream_safe p x) c) x c before, ap (λ o. length o) (stream_safe-push p x c))
+
+module _ (p : Properties) (old : Measurer) (x : List ℕ) (c : ℕ) (before : StandsAfter p old x) where
+  -- the count decides where the joiner is put
+  long_is : (b : Bool) → passes p old.counter (p.compat c) ≡ b → is_too_long p (stream_safe p x) c ≡ b
+  long_is b answer = ap (λ n. passes p n (p.compat c)) (sym before.count) ∙ answer
+
+  abbrev safe_with : Bool → List ℕ
+  safe_with b = (if b then stream_safe p x ++ joiner ∷ [] else stream_safe p x) ++ c ∷ []
+
+  safe_is : (b : Bool) → passes p old.counter (p.compat c) ≡ b → stream_safe p (x ++ c ∷ []) ≡ safe_with b
+  safe_is b answer = stream_safe-push p x c ∙ ap safe_with (long_is b answer)
+
+  stays_sound : (b : Bool) → is_sound p c ≡ true → (b ≡ true → is_sound p joiner ≡ true) → IsSoundText p (safe_with b)
+  stays_sound b sound joins = push (if b then stream_safe p x ++ joiner ∷ [] else stream_safe p x) c (parts b joins) sound
+    where
+      push : (o : List ℕ) (d : ℕ) → IsSoundText p o → is_sound p d ≡ true → IsSoundText p (o ++ d ∷ [])
+      push o d front last = list_all-append (is_sound p) o (d ∷ []) ∙ and_from _ _ front (and_from _ _ last refl)
+
+      parts : (b : Bool) → (b ≡ true → is_sound p joiner ≡ true) → IsSoundText p (if b then stream_safe p x ++ joiner ∷ [] else stream_safe p x)
+      parts true joins = push (stream_safe p x) joiner before.sound (joins refl)
+      parts false joins = before.sound
+
+  put_is : (b : Bool) → passes p old.counter (p.compat c) ≡ b → length (stream_safe p (x ++ c ∷ [])) - length (x ++ c ∷ []) ≡ old.put + cond b 1 0
+  put_is b answer =
+      omega (
+        arith,
+        ap (λ o. length o) (safe_is b answer),
+        length-safe_with b,
+        length-append x (c ∷ []),
+        ap (λ m. m.put) before.values,
+        length-stream_safe-ge p x,
+      )
+    where
+      length-safe_with : (b : Bool) → length (safe_with b) ≡ length (stream_safe p x) + cond b 1 0 + 1
+      length-safe_with true = omega (arith, length-append (stream_safe p x ++ joiner ∷ []) (c ∷ []), length-append (stream_safe p x) (joiner ∷ []))
+      length-safe_with false = omega (arith, length-append (stream_safe p x) (c ∷ []))
+
+  pub goes_on : (new : Measurer) (row : List ℕ) (b : Bool) → is_sound p c ≡ true → row ≡ p.compat c → passes p old.counter row ≡ b → (b ≡ true → is_sound p joiner ≡ true)
+      → new.counter ≡ count_step p old.counter row → HasRuns p new.runs (decomposed Nfkd p x ++ row)
+      → new.bytes ≡ old.bytes + length (encode_utf8 c) → new.chars ≡ old.chars + 1 → new.put ≡ old.put + cond b 1 0
+      → new.unassigned ≡ old.unassigned + cond (not (p.assigned c)) 1 0 → StandsAfter p new (x ++ c ∷ [])
+  goes_on new row b sound row_is answer joins count runs bytes chars put unassigned = record {
+    sound = ap (λ o. list_all (is_sound p) o) (safe_is b passes_is) ∙ stays_sound b sound joins;
+    values = same_values
+        (omega (arith, bytes, ap (λ m. m.bytes) before.values, ap length (encodes-append x (c ∷ [])), length-append (encode_utf8_all x) (encode_utf8 c ++ []), length-append (encode_utf8 c) []))
+        (omega (arith, chars, ap (λ m. m.chars) before.values, length-append x (c ∷ [])))
+        runs_are.nonstarters
+        (runs_are.longest ∙ sym (longest-order p (decomposed Nfkd p (x ++ c ∷ []))))
+        (put ∙ sym (put_is b passes_is))
+        (unassigned ∙ ap (λ n. n + cond (not (p.assigned c)) 1 0) (ap (λ m. m.unassigned) before.values) ∙ sym (sum_by_push (λ d. cond (not (p.assigned d)) 1 0) x c));
+    count = count ∙ ap (λ k. count_step p old.counter k) row_is ∙ ap (λ n. count_step p n (p.compat c)) before.count
+        ∙ sym (trail-decomposed-safe_step p (stream_safe p x) c (λ long. JoinerIsPlain-from_sound p (joins (sym (long_is b passes_is) ∙ long))))
+        ∙ ap (λ o. trail p (decomposed Nfkd p o)) (sym (stream_safe-push p x c));
+    runs = runs_are;
+  }
+    where
+      passes_is : passes p old.counter (p.compat c) ≡ b
+      passes_is = ap (passes p old.counter) (sym row_is) ∙ answer
+
+      runs_are : HasRuns p new.runs (decomposed Nfkd p (x ++ c ∷ []))
+      runs_are = subst (HasRuns p new.runs) (ap (λ k. decomposed Nfkd p x ++ k) row_is ∙ sym (decomposed-push p Nfkd x c)) runs

@@ -1,0 +1,41 @@
+-- The runs of decomposed text that grows at its end.
+use Rattle.std.proofs.Common.{◌≡◌, ℕ, ◌+◌, max, not, Bool, true, false, cond, List, [], ◌∷◌, ◌++◌, sym, ap, ◌∙◌, arith}
+use Rattle.std.specs.Prelude.{if◌then◌else◌, count_by}
+use Rattle.std.proofs.lemmas.List.Sums.{sum_by_push}
+use Rattle.nf_row.specs.Properties.{Properties, is_starter, is_nonstarter}
+use Rattle.nf_row.specs.Runs.{trail, longest}
+use Rattle.nf_row.specs.Laws.Runs.{trail-push, longest-append}
+use Rattle.nf_safe.specs.declared.runs.Runs.{Runs}
+use Rattle.nf_safe.specs.Runs.{HasRuns}
+
+module _ (p : Properties) (runs : Runs) (w : List ℕ) (c : ℕ) (before : HasRuns p runs w) where
+  counted : (b : Bool) → is_starter p c ≡ b → count_by (is_nonstarter p) (w ++ c ∷ []) ≡ runs.nonstarters + cond (not b) 1 0
+  counted b e =
+      sum_by_push (λ d. cond (is_nonstarter p d) 1 0) w c ∙ ap (λ s. count_by (is_nonstarter p) w + cond (not s) 1 0) e
+      ∙ ap (λ n. n + cond (not b) 1 0) (sym before.nonstarters)
+
+  widest : (b : Bool) → is_starter p c ≡ b → longest p (w ++ c ∷ []) ≡ (if b then runs.longest else max runs.longest (runs.last + 1))
+  widest b e =
+      longest-append p w (c ∷ [])
+      ∙ ap (λ s. max (longest p w) (max (trail p w + cond (not s) (1 + 0) 0) (max (cond (not s) (1 + 0) 0) 0))) e
+      ∙ next b
+    where
+      next : (b : Bool) → max (longest p w) (max (trail p w + cond (not b) (1 + 0) 0) (max (cond (not b) (1 + 0) 0) 0)) ≡ (if b then runs.longest else max runs.longest (runs.last + 1))
+      next true = omega (arith, before.longest, before.last, runs.last_within)
+      next false = omega (arith, before.longest, before.last)
+
+  pub push_starter : (new : Runs) → is_starter p c ≡ true → new.nonstarters ≡ runs.nonstarters → new.longest ≡ runs.longest → new.last ≡ 0
+      → HasRuns p new (w ++ c ∷ [])
+  push_starter new e nonstarters longest last = record {
+    nonstarters = omega (arith, nonstarters, counted true e);
+    longest = longest ∙ sym (widest true e);
+    last = last ∙ sym (trail-push p w c ∙ ap (λ b. if b then 0 else trail p w + 1) e);
+  }
+
+  pub push_mark : (new : Runs) → is_starter p c ≡ false → new.nonstarters ≡ runs.nonstarters + 1 → new.longest ≡ max runs.longest (runs.last + 1) → new.last ≡ runs.last + 1
+      → HasRuns p new (w ++ c ∷ [])
+  push_mark new e nonstarters longest last = record {
+    nonstarters = omega (arith, nonstarters, counted false e);
+    longest = longest ∙ sym (widest false e);
+    last = omega (arith, last, before.last, trail-push p w c ∙ ap (λ b. if b then 0 else trail p w + 1) e);
+  }

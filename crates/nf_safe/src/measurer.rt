@@ -1,0 +1,101 @@
+ghost use Rattle.std.specs.Prelude.{◌≤◌, ◌*◌};
+
+use crate::counter::Counter;
+use crate::measure::Measure;
+use crate::runs::Runs;
+use nf_row::{JOINER, Rows, Rule, Unsound, sound, sound_compat};
+
+/// Measures a text, character by character. The text need not be in the Stream-Safe Text Format: its runs are counted
+/// whole.
+#[derive(Clone, Copy, Debug)]
+pub struct Measurer {
+    /// What the process counts, and what the text has.
+    counter: Counter,
+    runs: Runs,
+    bytes: u64,
+    chars: u64,
+    put: u64,
+    unassigned: u64,
+    ghost chars_within: { chars ≤ bytes },
+    ghost put_within: { put ≤ chars },
+    ghost unassigned_within: { unassigned ≤ chars },
+    ghost nonstarters_within: { runs.nonstarters ≤ 18 * chars },
+}
+
+impl Measurer {
+    ghost use Rattle.std.specs.Prelude.{◌≡◌, ◌+◌, ℕ, List, [], ◌∷◌, ◌++◌, length, IsErr, OnOk, option_map, encode_utf8};
+    ghost use Rattle.std.specs.Result.{result_err};
+    ghost use Rattle.nf_row.specs.Properties.{Properties};
+    ghost use Rattle.nf_safe.specs.Measurer.{values_of, refusal, unsound_at, StandsAfter};
+
+    /// A measurer that has seen nothing.
+    pub const fn new() -> Measurer
+        ensures { (p : Properties) → StandsAfter p result [] }
+    {
+        Measurer {
+            counter: Counter::new(),
+            runs: Runs::new(),
+            bytes: 0,
+            chars: 0,
+            put: 0,
+            unassigned: 0,
+        }
+    }
+
+    /// Sees the next character. It is refused (`Rule::A1`) where it is unsound, and so is U+034F by name where the
+    /// Stream-Safe Text Process puts it before the character and it is unsound; nothing changes then.
+    pub fn see<R: Rows>(&mut self, rows: &R, c: char) -> Result<(), Unsound>
+        requires { (values_of self.old).bytes + length (encode_utf8 c) ≤ u64.MAX }
+        ensures refuses { let p = R.properties rows.now in
+            (x : List ℕ) → StandsAfter p self.old x → result_err result ≡ option_map refusal (unsound_at p x c) }
+        ensures refused { IsErr result → self.new ≡ self.old }
+        ensures stands { let p = R.properties rows.now in
+            (x : List ℕ) → StandsAfter p self.old x → OnOk result (StandsAfter p self.new (x ++ c ∷ [])) }
+    {
+        let Some(row) = sound_compat(rows, c) else {
+            return Err(Unsound { c, rule: Rule::A1 });
+        };
+        let mut counter = self.counter;
+        let is_parted = counter.step(rows, &row);
+        if is_parted && !sound(rows, JOINER) {
+            return Err(Unsound {
+                c: JOINER,
+                rule: Rule::A1,
+            });
+        }
+        self.counter = counter;
+        self.runs.push_row(rows, &row);
+        self.bytes += c.len_utf8() as u64;
+        self.chars += 1;
+        self.put += u64::from(is_parted);
+        self.unassigned += u64::from(!rows.assigned(c));
+        Ok(())
+    }
+
+    /// What it has measured.
+    #[inline]
+    pub fn values(&self) -> Measure
+        ensures { result ≡ values_of self.now }
+    {
+        Measure {
+            bytes: self.bytes,
+            chars: self.chars,
+            nonstarters: self.runs.nonstarters,
+            longest: self.runs.longest,
+            put: self.put,
+            unassigned: self.unassigned,
+        }
+    }
+}
+
+impl Default for Measurer {
+    ghost use Rattle.nf_row.specs.Properties.{Properties};
+    ghost use Rattle.std.specs.Prelude.{[]};
+    ghost use Rattle.nf_safe.specs.Measurer.{StandsAfter};
+
+    ghost is_default = { λ measurer. (p : Properties) → StandsAfter p measurer [] };
+
+    fn default() -> Measurer {
+        Measurer::new()
+    }
+}
