@@ -1,0 +1,154 @@
+-- Where the reading of a vector file ends.
+use Rattle.std.proofs.Common.{◌≡◌, ℕ, suc, ◌+◌, ◌-◌, ◌<◌, ◌≤◌, Bool, true, false, ◌||◌, List, [], ◌∷◌, ◌++◌, length, take, drop, get_or, Option, Some, None, Result, Ok, Err, refl, sym, ap, ◌∙◌, subst, arith, append_assoc, append-nil, ⊎_elim, ◌⊎◌, inl, inr}
+use Rattle.std.specs.Prelude.{OnOk, IfErr, is_ok, if◌then◌else◌}
+use Rattle.std.proofs.lemmas.Bool.{lt-ltb, le-ltb, false≢true, cases_lt}
+use Rattle.std.proofs.lemmas.List.{length-append, take_all, take_at, drop_more, take-append-drop}
+use Rattle.nf_vectors.specs.declared.fault.VectorFault.{VectorFault}
+use Rattle.nf_vectors.specs.declared.fault.VectorKind.{VectorKind}
+use Rattle.nf_vectors.specs.declared.fault.VectorKind.TheVariants.{Fields, Empty, Hex, Scalar, Size, Read, Memory}
+use Rattle.nf_vectors.specs.declared.reading.Reading.{Reading}
+use Rattle.nf_vectors.specs.Line.{is_line_end, lines_of}
+use Rattle.nf_vectors.specs.Judgement.{Judgement, Bad}
+use Rattle.nf_vectors.specs.Suite.{judged, row_at, part_behind, is_part1_line, rows_from, names_part1_from, fault_or, last_fault, first_fault}
+use Rattle.nf_vectors.specs.SuiteView.{rows_in}
+use Rattle.nf_vectors.specs.Within.{AreWithin}
+use Rattle.nf_vectors.specs.Standing.{StandsAfter, EndsLine}
+use Rattle.nf_vectors.specs.ReadsSuite.{limit, lines_within, stop_of, Finds}
+use Rattle.nf_vectors.proofs.TextLemmas.{rows_in-append}
+use Rattle.nf_vectors.proofs.StandingLemmas.{lines_of-ended, lines_of-last, first_fault-ended}
+
+pub limit-is : limit ≡ 67108864
+unfolding limit
+limit-is = refl
+
+pub on_ok : {A E : Type 0} {P : Type 0} (r : Result A E) → (is_ok r ≡ true → P) → OnOk r P
+on_ok (Ok x) f = f refl
+on_ok (Err e) f = tt
+
+pub at_ok : {A E : Type 0} {P : Type 0} (r : Result A E) → is_ok r ≡ true → OnOk r P → P
+at_ok (Ok x) e p = p
+at_ok (Err e) is p = absurd (false≢true is)
+
+pub on_err : {A E : Type 0} {P : E → Type 0} {Q : E → Type 0} (r : Result A E) → ((e : E) → P e → Q e) → IfErr r P → IfErr r Q
+on_err (Ok x) f p = tt
+on_err (Err e) f p = f e p
+
+pub is_size : (kind : VectorKind) → (kind ≡ Size) ⊎ (¬ (kind ≡ Size))
+is_size Fields = inr (λ e. cc)
+is_size Empty = inr (λ e. cc)
+is_size Hex = inr (λ e. cc)
+is_size Scalar = inr (λ e. cc)
+is_size Size = inl refl
+is_size Read = inr (λ e. cc)
+is_size Memory = inr (λ e. cc)
+
+-- the text of a suite grew while the line was judged
+pub EndsLine-grown : (judgement : Judgement) (old mid new : Reading) (more : List ℕ) → mid.text.items ≡ old.text.items ++ more → mid.entries.items ≡ old.entries.items
+    → mid.in_part1 ≡ old.in_part1 → mid.has_part1 ≡ old.has_part1 → mid.line ≡ old.line → AreWithin old.text.items old.entries.items → EndsLine judgement mid new → EndsLine judgement old new
+EndsLine-grown j old mid new more text entries in_part1 has_part1 line within ends = record {
+  rows = ends.rows ∙ ap (λ t. rows_in t mid.entries.items ++ row_at mid.line mid.in_part1 j) text ∙ ap (λ es. rows_in (old.text.items ++ more) es ++ row_at mid.line mid.in_part1 j) entries
+      ∙ ap (λ rows. rows ++ row_at mid.line mid.in_part1 j) (rows_in-append old.text.items more old.entries.items within)
+      ∙ ap (λ n. rows_in old.text.items old.entries.items ++ row_at n mid.in_part1 j) line ∙ ap (λ p. rows_in old.text.items old.entries.items ++ row_at old.line p j) in_part1;
+  in_part1 = ends.in_part1 ∙ ap (λ p. part_behind p j) in_part1;
+  has_part1 = ends.has_part1 ∙ ap (λ p. p || is_part1_line j) has_part1;
+}
+
+take-behind : (xs ys : List ℕ) (n : ℕ) → take (length xs + n) (xs ++ ys) ≡ xs ++ take n ys
+take-behind [] ys n = let none : 0 + n ≡ n = omega arith in ap (λ m. take m ys) none
+take-behind (x ∷ xs) ys n = ap (λ m. take m (x ∷ (xs ++ ys))) (more (length xs)) ∙ ap (λ l. x ∷ l) (take-behind xs ys n)
+  where
+    more : (m : ℕ) → suc m + n ≡ suc (m + n)
+    more m = omega arith
+
+module _ (reading : Reading) (bytes : List ℕ) (stands : StandsAfter reading bytes) where
+  -- a bad line is the first fault, whatever follows
+  pub bad_line : (b : ℕ) (kind : VectorKind) → is_line_end b ≡ true → judged reading.line reading.bytes.items ≡ Bad kind
+      → (stop : Option VectorKind) (more : List ℕ) → first_fault 1 stop (lines_of (bytes ++ b ∷ more)) ≡ Some (record { line = reading.line; kind = kind })
+  bad_line b kind end bad stop more =
+      stands.faults stop (b ∷ more) ∙ ap (first_fault reading.line stop) (lines_of-ended reading.bytes.items stands.one_line b more end)
+      ∙ first_fault-ended reading.line stop reading.bytes.items more
+      ∙ ap (λ j. fault_or reading.line j (first_fault (reading.line + 1) stop (lines_of more))) bad
+
+  -- where the bytes end, the fault is that of the last line
+  pub last_line : (stop : Option VectorKind) → first_fault 1 stop (lines_of bytes) ≡ last_fault reading.line stop reading.bytes.items
+  last_line stop =
+      ap (λ l. first_fault 1 stop (lines_of l)) (sym (append-nil bytes)) ∙ stands.faults stop []
+      ∙ ap (first_fault reading.line stop) (lines_of-last reading.bytes.items stands.one_line)
+
+  module _ (few : length bytes ≤ limit) where
+    pub within : take limit bytes ≡ bytes
+    within = take_all limit bytes few
+
+    stop_is : (failed : Bool) → stop_of bytes failed ≡ (if failed then Some Read else None)
+    stop_is failed = ap (λ b. if b then Some Size else (if failed then Some Read else None)) (le-ltb limit (length bytes) few)
+
+    pub read_failed : first_fault 1 (stop_of bytes true) (lines_within bytes) ≡ Some (record { line = reading.line; kind = Read })
+    read_failed = ap (λ l. first_fault 1 (stop_of bytes true) (lines_of l)) within ∙ ap (λ s. first_fault 1 s (lines_of bytes)) (stop_is true) ∙ last_line (Some Read)
+
+    pub last_bad : (kind : VectorKind) → judged reading.line reading.bytes.items ≡ Bad kind
+        → first_fault 1 (stop_of bytes false) (lines_within bytes) ≡ Some (record { line = reading.line; kind = kind })
+    last_bad kind bad =
+        ap (λ l. first_fault 1 (stop_of bytes false) (lines_of l)) within ∙ ap (λ s. first_fault 1 s (lines_of bytes)) (stop_is false) ∙ last_line None
+        ∙ ap (λ j. fault_or reading.line j None) bad
+
+    pub last_fine : ((other : Option VectorFault) → fault_or reading.line (judged reading.line reading.bytes.items) other ≡ other)
+        → first_fault 1 (stop_of bytes false) (lines_within bytes) ≡ None
+    last_fine fine =
+        ap (λ l. first_fault 1 (stop_of bytes false) (lines_of l)) within ∙ ap (λ s. first_fault 1 s (lines_of bytes)) (stop_is false) ∙ last_line None
+        ∙ fine None
+
+    module _ (new : Reading) (ends : EndsLine (judged reading.line reading.bytes.items) reading new) where
+      pub all_rows : rows_in new.text.items new.entries.items ≡ rows_from 1 false (lines_within bytes)
+      all_rows = sym (ap (λ l. rows_from 1 false (lines_of l)) (within ∙ sym (append-nil bytes)) ∙ stands.rows []
+          ∙ ap (λ ls. rows_in reading.text.items reading.entries.items ++ rows_from reading.line reading.in_part1 ls) (lines_of-last reading.bytes.items stands.one_line)
+          ∙ ap (λ r. rows_in reading.text.items reading.entries.items ++ r) (append-nil (row_at reading.line reading.in_part1 (judged reading.line reading.bytes.items)))
+          ∙ sym ends.rows)
+
+      or_false : (b : Bool) → (b || false) ≡ b
+      or_false true = refl
+      or_false false = refl
+
+      pub all_parts : new.has_part1 ≡ names_part1_from 1 (lines_within bytes)
+      all_parts = sym (ap (λ l. names_part1_from 1 (lines_of l)) (within ∙ sym (append-nil bytes)) ∙ stands.part1 []
+          ∙ ap (λ ls. reading.has_part1 || names_part1_from reading.line ls) (lines_of-last reading.bytes.items stands.one_line)
+          ∙ ap (λ b. reading.has_part1 || b) (or_false (is_part1_line (judged reading.line reading.bytes.items)))
+          ∙ sym ends.has_part1)
+
+  -- a byte past the limit
+  pub too_long : (piece : List ℕ) → length bytes ≡ limit → 0 < length piece → Finds (bytes ++ piece) (record { line = reading.line; kind = Size })
+  too_long piece full some stop past =
+      ap (λ s. first_fault 1 s (lines_within (bytes ++ piece))) (past (omega (arith, full, some, length-append bytes piece)))
+      ∙ ap (λ l. first_fault 1 (Some Size) (lines_of l)) (take_at bytes piece limit full) ∙ last_line (Some Size)
+
+  -- another fault, behind which any bytes may stand
+  pub found_before : (b : ℕ) (kind : VectorKind) (rest : List ℕ) → length bytes < limit
+      → ((stop : Option VectorKind) (more : List ℕ) → first_fault 1 stop (lines_of (bytes ++ b ∷ more)) ≡ Some (record { line = reading.line; kind = kind }))
+      → Finds (bytes ++ b ∷ rest) (record { line = reading.line; kind = kind })
+  found_before b kind rest room found stop past =
+      ap (λ l. first_fault 1 stop (lines_of l)) (taken (limit - length bytes - 1) (omega (arith, room))) ∙ found stop (take (limit - length bytes - 1) rest)
+    where
+      taken : (n : ℕ) → limit ≡ length bytes + suc n → take limit (bytes ++ b ∷ rest) ≡ bytes ++ b ∷ take n rest
+      taken n is = ap (λ m. take m (bytes ++ b ∷ rest)) is ∙ take-behind bytes (b ∷ rest) (suc n)
+
+pub Tells-found : (bytes : List ℕ) (failed : Bool) (fault : VectorFault) → Finds bytes fault → first_fault 1 (stop_of bytes failed) (lines_within bytes) ≡ Some fault
+Tells-found bytes failed fault finds = finds (stop_of bytes failed) (λ past. ap (λ b. if b then Some Size else (if failed then Some Read else None)) (lt-ltb limit (length bytes) past))
+
+-- the fault at one byte, whatever stands behind it
+pub found_here : (reading : Reading) (bytes : List ℕ) → StandsAfter reading bytes → (b : ℕ) (rest : List ℕ) (kind : VectorKind) (fault : VectorFault)
+    → reading.taken ≤ 67108864 → fault ≡ record { line = reading.line; kind = kind } → (kind ≡ Size → reading.taken ≡ 67108864) → (reading.taken ≡ 67108864 → kind ≡ Size)
+    → (¬ (kind ≡ Size) → (stop : Option VectorKind) (more : List ℕ) → first_fault 1 stop (lines_of (bytes ++ b ∷ more)) ≡ Some (record { line = reading.line; kind = kind }))
+    → Finds (bytes ++ b ∷ rest) fault
+found_here reading bytes stands b rest kind fault few is full size found =
+    subst (Finds (bytes ++ b ∷ rest)) (sym is) (⊎_elim
+    (λ e. subst (λ k. Finds (bytes ++ b ∷ rest) (record { line = reading.line; kind = k })) (sym e)
+    (too_long reading bytes stands (b ∷ rest) (omega (arith, stands.taken, full e, limit-is)) (omega arith)))
+    (λ unsized. found_before reading bytes stands b kind rest (room unsized) (found unsized))
+    (is_size kind))
+  where
+    room : ¬ (kind ≡ Size) → length bytes < limit
+    room unsized = ⊎_elim (λ below. omega (arith, below, stands.taken, limit-is)) (λ above. absurd (unsized (size (omega (arith, above, few))))) (cases_lt reading.taken 67108864)
+
+pub piece_at : (bytes piece : List ℕ) (i : ℕ) → i < length piece → (bytes ++ take i piece) ++ get_or piece i 0 ∷ drop (i + 1) piece ≡ bytes ++ piece
+piece_at bytes piece i within =
+    append_assoc bytes (take i piece) (get_or piece i 0 ∷ drop (i + 1) piece)
+    ∙ ap (λ l. bytes ++ l) (ap (λ l. take i piece ++ l) (sym (drop_more piece i 0 within)) ∙ take-append-drop i piece)

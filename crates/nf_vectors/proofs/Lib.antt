@@ -1,0 +1,16 @@
+pub mod TextLemmas
+pub mod DigitLemmas
+pub mod WordLemmas
+pub mod PieceLemmas
+pub mod JudgementLemmas
+pub mod RowLemmas
+pub mod StandingLemmas
+pub mod EndingLemmas
+pub mod SourceLemmas
+pub mod Utf8Lemmas
+pub mod ComparisonLemmas
+pub mod GivenLemmas
+pub mod ReportLemmas
+pub mod SweepLemmas
+pub mod TableLemmas
+mod Examples

@@ -1,0 +1,65 @@
+-- A report of one row more.
+use Rattle.std.proofs.Common.{◌≡◌, ℕ, ◌+◌, cond, List, [], ◌∷◌, ◌++◌, length, Option, Some, None, refl, ap, ◌∙◌, arith, count_by}
+use Rattle.std.specs.Option.{option_or}
+use Rattle.std.proofs.lemmas.List.{length_push}
+use Rattle.std.proofs.lemmas.List.Sums.{sum_by_push}
+use Rattle.nf_row.specs.Properties.{Properties}
+use Rattle.nf_vectors.specs.declared.report.Failure.{Failure}
+use Rattle.nf_vectors.specs.declared.report.Report.{Report}
+use Rattle.nf_vectors.specs.declared.report.Verdict.{Verdict}
+use Rattle.nf_vectors.specs.declared.report.Verdict.TheVariants.{Skipped, Passed, Failed}
+use Rattle.nf_vectors.specs.Suite.{VectorRow}
+use Rattle.nf_vectors.specs.Report.{verdict_of, is_skip, is_pass, is_failure, failure_or, first_failure_of, report_of, report_and}
+
+or_none : (o : Option Failure) → option_or o None ≡ o
+or_none None = refl
+or_none (Some failure) = refl
+
+module _ (p : Properties) where
+  first_failure-push : (rows : List VectorRow) (row : VectorRow) → first_failure_of p (rows ++ row ∷ []) ≡ option_or (first_failure_of p rows) (failure_or (verdict_of p row) None)
+  first_failure-push [] row = refl
+  first_failure-push (first ∷ rows) row = ap (failure_or (verdict_of p first)) (first_failure-push rows row) ∙ next (verdict_of p first) (first_failure_of p rows) (failure_or (verdict_of p row) None)
+    where
+      next : (v : Verdict) (a b : Option Failure) → failure_or v (option_or a b) ≡ option_or (failure_or v a) b
+      next Skipped a b = refl
+      next Passed a b = refl
+      next (Failed failure) a b = refl
+
+  pub report_of-push : (rows : List VectorRow) (row : VectorRow) → report_of p (rows ++ row ∷ []) ≡ report_and (report_of p rows) (verdict_of p row)
+  unfolding report_of
+  report_of-push rows row =
+      let n = length_push rows row in
+      let a = sum_by_push (λ r. cond (is_pass (verdict_of p r)) 1 0) rows row in
+      let b = sum_by_push (λ r. cond (is_failure (verdict_of p r)) 1 0) rows row in
+      let d = sum_by_push (λ r. cond (is_skip (verdict_of p r)) 1 0) rows row in
+      let e = first_failure-push rows row in
+      (λ i. record { rows = n i; passed = a i; failed = b i; skipped = d i; first_failure = e i })
+      ∙ next (verdict_of p row) (length rows) (count_by (λ r. is_pass (verdict_of p r)) rows) (count_by (λ r. is_failure (verdict_of p r)) rows) (count_by (λ r. is_skip (verdict_of p r)) rows) (first_failure_of p rows)
+    where
+      next : (v : Verdict) (n a b d : ℕ) (o : Option Failure)
+          → (let P : Report = record { rows = n + 1; passed = a + cond (is_pass v) 1 0; failed = b + cond (is_failure v) 1 0; skipped = d + cond (is_skip v) 1 0; first_failure = option_or o (failure_or v None) } in P)
+          ≡ report_and (record { rows = n; passed = a; failed = b; skipped = d; first_failure = o }) v
+      next Skipped n a b d o =
+          let x : a + 0 ≡ a = omega arith in
+          let y : b + 0 ≡ b = omega arith in
+          let z = or_none o in
+          (λ i. record { rows = n + 1; passed = x i; failed = y i; skipped = d + 1; first_failure = z i })
+      next Passed n a b d o =
+          let x : b + 0 ≡ b = omega arith in
+          let y : d + 0 ≡ d = omega arith in
+          let z = or_none o in
+          (λ i. record { rows = n + 1; passed = a + 1; failed = x i; skipped = y i; first_failure = z i })
+      next (Failed failure) n a b d o =
+          let x : a + 0 ≡ a = omega arith in
+          let y : d + 0 ≡ d = omega arith in
+          (λ i. record { rows = n + 1; passed = x i; failed = b + 1; skipped = y i; first_failure = option_or o (Some failure) })
+
+pub rows-and : (report : Report) (v : Verdict) (new : Report) → new ≡ report_and report v → new.rows ≡ report.rows + 1
+rows-and report Skipped new is = ap (λ (r : Report). r.rows) is
+rows-and report Passed new is = ap (λ (r : Report). r.rows) is
+rows-and report (Failed failure) new is = ap (λ (r : Report). r.rows) is
+
+pub sum-and : (report : Report) (v : Verdict) (new : Report) → new ≡ report_and report v → report.rows ≡ report.passed + report.failed + report.skipped → new.rows ≡ new.passed + new.failed + new.skipped
+sum-and report Skipped new is sum = omega (arith, sum, ap (λ (r : Report). r.rows) is, ap (λ (r : Report). r.passed) is, ap (λ (r : Report). r.failed) is, ap (λ (r : Report). r.skipped) is)
+sum-and report Passed new is sum = omega (arith, sum, ap (λ (r : Report). r.rows) is, ap (λ (r : Report). r.passed) is, ap (λ (r : Report). r.failed) is, ap (λ (r : Report). r.skipped) is)
+sum-and report (Failed failure) new is sum = omega (arith, sum, ap (λ (r : Report). r.rows) is, ap (λ (r : Report). r.passed) is, ap (λ (r : Report). r.failed) is, ap (λ (r : Report). r.skipped) is)

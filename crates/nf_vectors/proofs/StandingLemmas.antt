@@ -1,0 +1,107 @@
+-- How the reading of a vector file goes on, byte by byte.
+use Rattle.std.proofs.Common.{◌≡◌, ℕ, ◌+◌, Bool, true, false, ◌||◌, cond, List, [], ◌∷◌, ◌++◌, length, Option, refl, sym, ap, ◌∙◌, subst, arith, rules, append_assoc, append-nil, All}
+use Rattle.std.specs.List.{slice_split, onto_first}
+use Rattle.std.proofs.lemmas.List.{length-append}
+use Rattle.std.proofs.lemmas.List.Splits.{slice_split_at, slice_split_none}
+use Rattle.nf_vectors.specs.declared.fault.VectorFault.{VectorFault}
+use Rattle.nf_vectors.specs.declared.fault.VectorKind.{VectorKind}
+use Rattle.nf_vectors.specs.declared.reading.Reading.{Reading}
+use Rattle.nf_vectors.specs.Line.{is_line_end, lines_of}
+use Rattle.nf_vectors.specs.Judgement.{Judgement}
+use Rattle.nf_vectors.specs.Suite.{judged, row_at, part_behind, is_part1_line, rows_from, names_part1_from, fault_or, first_fault}
+use Rattle.nf_vectors.specs.SuiteView.{rows_in}
+use Rattle.nf_vectors.specs.Standing.{StandsAfter, EndsLine}
+
+-- bytes have a first line
+pub lines_of-some : (bytes : List ℕ) → (line : List ℕ) × (more : List (List ℕ)) × (lines_of bytes ≡ line ∷ more)
+unfolding lines_of
+lines_of-some [] = ([], [], refl)
+lines_of-some (b ∷ bytes) = next (is_line_end b) (slice_split is_line_end bytes)
+  where
+    next : (e : Bool) (parts : List (List ℕ)) → (line : List ℕ) × (more : List (List ℕ)) × (cond e ([] ∷ parts) (onto_first b parts) ≡ line ∷ more)
+    next true parts = ([], parts, refl)
+    next false [] = (b ∷ [], [], refl)
+    next false (part ∷ parts) = (b ∷ part, parts, refl)
+
+module _ (line : List ℕ) (one : All (λ b. is_line_end b ≡ false) line) where
+  pub lines_of-ended : (b : ℕ) (more : List ℕ) → is_line_end b ≡ true → lines_of (line ++ b ∷ more) ≡ line ∷ lines_of more
+  unfolding lines_of
+  lines_of-ended b more e = slice_split_at is_line_end line b more one e
+
+  pub lines_of-last : lines_of (line ++ []) ≡ line ∷ []
+  unfolding lines_of
+  lines_of-last = ap lines_of (append-nil line) ∙ slice_split_none is_line_end line one
+
+pub first_fault-ended : (n : ℕ) (stop : Option VectorKind) (line bytes : List ℕ)
+    → first_fault n stop (line ∷ lines_of bytes) ≡ fault_or n (judged n line) (first_fault (n + 1) stop (lines_of bytes))
+first_fault-ended n stop line bytes =
+    let some = lines_of-some bytes in
+    ap (λ more. first_fault n stop (line ∷ more)) some.2 ∙ ap (λ more. fault_or n (judged n line) (first_fault (n + 1) stop more)) (sym some.2)
+
+or_assoc : (a b c : Bool) → (a || (b || c)) ≡ ((a || b) || c)
+or_assoc true b c = refl
+or_assoc false b c = refl
+
+module _ (old new : Reading) (bytes : List ℕ) (b : ℕ) (before : StandsAfter old bytes) (taken : new.taken ≡ old.taken + 1) where
+  taken-more : new.taken ≡ length (bytes ++ b ∷ [])
+  taken-more = omega (arith, before.taken, taken, length-append bytes (b ∷ []))
+
+  -- a byte of the line
+  pub StandsAfter-byte : is_line_end b ≡ false → rows_in new.text.items new.entries.items ≡ rows_in old.text.items old.entries.items
+      → new.has_part1 ≡ old.has_part1 → new.in_part1 ≡ old.in_part1 → new.line ≡ old.line → new.bytes.items ≡ old.bytes.items ++ b ∷ []
+      → All (λ b. is_line_end b ≡ false) new.bytes.items → StandsAfter new (bytes ++ b ∷ [])
+  StandsAfter-byte inside rows has_part1 in_part1 line begun one = record {
+    faults = λ stop more. ap (λ l. first_fault 1 stop (lines_of l)) (append_assoc bytes (b ∷ []) more) ∙ before.faults stop (b ∷ more)
+        ∙ ap (λ l. first_fault old.line stop (lines_of l)) (here more) ∙ ap (λ n. first_fault n stop (lines_of (new.bytes.items ++ more))) (sym line);
+    rows = λ more. ap (λ l. rows_from 1 false (lines_of l)) (append_assoc bytes (b ∷ []) more) ∙ before.rows (b ∷ more)
+        ∙ ap (λ l. rows_in old.text.items old.entries.items ++ rows_from old.line old.in_part1 (lines_of l)) (here more)
+        ∙ ap (λ r. r ++ rows_from old.line old.in_part1 (lines_of (new.bytes.items ++ more))) (sym rows)
+        ∙ ap (λ n. rows_in new.text.items new.entries.items ++ rows_from n old.in_part1 (lines_of (new.bytes.items ++ more))) (sym line)
+        ∙ ap (λ p. rows_in new.text.items new.entries.items ++ rows_from new.line p (lines_of (new.bytes.items ++ more))) (sym in_part1);
+    part1 = λ more. ap (λ l. names_part1_from 1 (lines_of l)) (append_assoc bytes (b ∷ []) more) ∙ before.part1 (b ∷ more)
+        ∙ ap (λ l. old.has_part1 || names_part1_from old.line (lines_of l)) (here more)
+        ∙ ap (λ p. p || names_part1_from old.line (lines_of (new.bytes.items ++ more))) (sym has_part1)
+        ∙ ap (λ n. new.has_part1 || names_part1_from n (lines_of (new.bytes.items ++ more))) (sym line);
+    taken = taken-more;
+    one_line = one;
+  }
+    where
+      here : (more : List ℕ) → old.bytes.items ++ b ∷ more ≡ new.bytes.items ++ more
+      here more = sym (ap (λ l. l ++ more) begun ∙ append_assoc old.bytes.items (b ∷ []) more)
+
+  -- the end of the line
+  pub StandsAfter-line : is_line_end b ≡ true → EndsLine (judged old.line old.bytes.items) old new
+      → ((other : Option VectorFault) → fault_or old.line (judged old.line old.bytes.items) other ≡ other)
+      → new.line ≡ old.line + 1 → new.bytes.items ≡ [] → StandsAfter new (bytes ++ b ∷ [])
+  StandsAfter-line end ends fine line empty = record {
+    faults = λ stop more. ap (λ l. first_fault 1 stop (lines_of l)) (append_assoc bytes (b ∷ []) more) ∙ before.faults stop (b ∷ more)
+        ∙ ap (first_fault old.line stop) (split more) ∙ first_fault-ended old.line stop old.bytes.items more ∙ fine (first_fault (old.line + 1) stop (lines_of more))
+        ∙ ap (λ n. first_fault n stop (lines_of more)) (sym line) ∙ ap (λ l. first_fault new.line stop (lines_of l)) (here more);
+    rows = λ more. ap (λ l. rows_from 1 false (lines_of l)) (append_assoc bytes (b ∷ []) more) ∙ before.rows (b ∷ more)
+        ∙ ap (λ ls. rows_in old.text.items old.entries.items ++ rows_from old.line old.in_part1 ls) (split more)
+        ∙ sym (append_assoc (rows_in old.text.items old.entries.items) (row_at old.line old.in_part1 j) (rows_from (old.line + 1) (part_behind old.in_part1 j) (lines_of more)))
+        ∙ ap (λ r. r ++ rows_from (old.line + 1) (part_behind old.in_part1 j) (lines_of more)) (sym ends.rows)
+        ∙ ap (λ n. rows_in new.text.items new.entries.items ++ rows_from n (part_behind old.in_part1 j) (lines_of more)) (sym line)
+        ∙ ap (λ p. rows_in new.text.items new.entries.items ++ rows_from new.line p (lines_of more)) (sym ends.in_part1)
+        ∙ ap (λ l. rows_in new.text.items new.entries.items ++ rows_from new.line new.in_part1 (lines_of l)) (here more);
+    part1 = λ more. ap (λ l. names_part1_from 1 (lines_of l)) (append_assoc bytes (b ∷ []) more) ∙ before.part1 (b ∷ more)
+        ∙ ap (λ ls. old.has_part1 || names_part1_from old.line ls) (split more)
+        ∙ or_assoc old.has_part1 (is_part1_line j) (names_part1_from (old.line + 1) (lines_of more))
+        ∙ ap (λ p. p || names_part1_from (old.line + 1) (lines_of more)) (sym ends.has_part1)
+        ∙ ap (λ n. new.has_part1 || names_part1_from n (lines_of more)) (sym line)
+        ∙ ap (λ l. new.has_part1 || names_part1_from new.line (lines_of l)) (here more);
+    taken = taken-more;
+    one_line = subst (All (λ b. is_line_end b ≡ false)) (sym empty) none;
+  }
+    where
+      j : Judgement
+      j = judged old.line old.bytes.items
+
+      split : (more : List ℕ) → lines_of (old.bytes.items ++ b ∷ more) ≡ old.bytes.items ∷ lines_of more
+      split more = lines_of-ended old.bytes.items before.one_line b more end
+
+      here : (more : List ℕ) → more ≡ new.bytes.items ++ more
+      here more = sym (ap (λ l. l ++ more) empty)
+
+      none : All (λ b. is_line_end b ≡ false) []
+      none = search (rules)

@@ -1,0 +1,60 @@
+-- A sweep of one code more.
+use Rattle.std.proofs.Common.{◌≡◌, ℕ, suc, ◌+◌, Bool, true, false, cond, not, ◌&&◌, List, [], ◌∷◌, ◌++◌, Option, Some, None, refl, sym, ap, ◌∙◌, arith, count_by, find}
+use Rattle.std.specs.Option.{option_or}
+use Rattle.std.proofs.lemmas.List.Sums.{sum_by_push}
+use Rattle.std.proofs.lemmas.List.Folds.{find-append}
+use Rattle.nf_row.specs.Properties.{Properties}
+use Rattle.nf_vectors.specs.declared.sweep.Sweep.{Sweep}
+use Rattle.nf_vectors.specs.Suite.{VectorRow}
+use Rattle.nf_vectors.specs.Sweep.{is_unlisted, is_unchanged, is_failed, below, sweep_below}
+
+or_none : (o : Option ℕ) → option_or o None ≡ o
+or_none None = refl
+or_none (Some c) = refl
+
+module _ (p : Properties) (rows : List VectorRow) (n : ℕ) where
+  below-more : below (n + 1) ≡ below n ++ n ∷ []
+  unfolding below
+  below-more = let more : n + 1 ≡ suc n = omega arith in ap below more
+
+  sweep-more : sweep_below p rows (n + 1)
+      ≡ (let P : Sweep = record {
+        unlisted = (sweep_below p rows n).unlisted + cond (is_unlisted rows n) 1 0;
+        failed = (sweep_below p rows n).failed + cond (is_failed p rows n) 1 0;
+        first = option_or (sweep_below p rows n).first (cond (is_failed p rows n) (Some n) None);
+      } in P)
+  unfolding sweep_below
+  sweep-more =
+      let a = ap (count_by (is_unlisted rows)) below-more ∙ sum_by_push (λ c. cond (is_unlisted rows c) 1 0) (below n) n in
+      let b = ap (count_by (is_failed p rows)) below-more ∙ sum_by_push (λ c. cond (is_failed p rows c) 1 0) (below n) n in
+      let d = ap (find (is_failed p rows)) below-more ∙ find-append (is_failed p rows) (below n) (n ∷ []) in
+      (λ i. record { unlisted = a i; failed = b i; first = d i })
+
+  by_tests : (u f : Bool) → is_unlisted rows n ≡ u → is_failed p rows n ≡ f → sweep_below p rows (n + 1)
+      ≡ (let P : Sweep = record { unlisted = (sweep_below p rows n).unlisted + cond u 1 0; failed = (sweep_below p rows n).failed + cond f 1 0; first = option_or (sweep_below p rows n).first (cond f (Some n) None) } in P)
+  by_tests u f is_u is_f =
+      sweep-more ∙ (λ i. record { unlisted = (sweep_below p rows n).unlisted + cond (is_u i) 1 0; failed = (sweep_below p rows n).failed + cond (is_f i) 1 0; first = option_or (sweep_below p rows n).first (cond (is_f i) (Some n) None) })
+
+  module _ (s : Sweep) (so_far : s ≡ sweep_below p rows n) where
+    -- it is listed, or no scalar value
+    pub sweep-past : is_unlisted rows n ≡ false → s ≡ sweep_below p rows (n + 1)
+    sweep-past listed =
+        let x : (sweep_below p rows n).unlisted + 0 ≡ (sweep_below p rows n).unlisted = omega arith in
+        let y : (sweep_below p rows n).failed + 0 ≡ (sweep_below p rows n).failed = omega arith in
+        let z = or_none (sweep_below p rows n).first in
+        so_far ∙ sym (by_tests false false listed (ap (λ b. b && not (is_unchanged p n)) listed) ∙ (λ i. record { unlisted = x i; failed = y i; first = z i }))
+
+    -- no form changes it
+    pub sweep-fine : is_unlisted rows n ≡ true → is_unchanged p n ≡ true → (let P : Sweep = record s { unlisted = s.unlisted + 1 } in P) ≡ sweep_below p rows (n + 1)
+    sweep-fine unlisted fine =
+        let y : (sweep_below p rows n).failed + 0 ≡ (sweep_below p rows n).failed = omega arith in
+        let z = or_none (sweep_below p rows n).first in
+        (λ i. record { unlisted = (so_far i).unlisted + 1; failed = (so_far i).failed; first = (so_far i).first })
+        ∙ sym (by_tests true false unlisted (ap (λ b. b && not (is_unchanged p n)) unlisted ∙ ap not fine) ∙ (λ i. record { unlisted = (sweep_below p rows n).unlisted + 1; failed = y i; first = z i }))
+
+    -- a form changes it
+    pub sweep-failed : is_unlisted rows n ≡ true → is_unchanged p n ≡ false
+        → (let P : Sweep = record { unlisted = s.unlisted + 1; failed = s.failed + 1; first = option_or s.first (Some n) } in P) ≡ sweep_below p rows (n + 1)
+    sweep-failed unlisted changed =
+        (λ i. record { unlisted = (so_far i).unlisted + 1; failed = (so_far i).failed + 1; first = option_or (so_far i).first (Some n) })
+        ∙ sym (by_tests true true unlisted (ap (λ b. b && not (is_unchanged p n)) unlisted ∙ ap not changed))

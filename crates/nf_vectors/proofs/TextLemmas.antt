@@ -1,0 +1,59 @@
+-- The columns of a suite whose text grows.
+use Rattle.std.proofs.Common.{◌≡◌, ℕ, ◌-◌, ◌≤◌, nat_le, true, ◌&&◌, List, [], ◌∷◌, ◌++◌, length, take, drop, slice_range, append-nil, refl, sym, ap, ◌∙◌, arith}
+use Rattle.std.specs.List.{list_all}
+use Rattle.std.proofs.lemmas.Bool.{and_parts, leb-true, le-leb}
+use Rattle.std.proofs.lemmas.List.{length-append, length-drop, drop-append-le, take-append-le, take_at, drop_at}
+use Rattle.std.proofs.lemmas.List.Folds.{list_all-append}
+use Rattle.nf_vectors.specs.declared.columns.Ends.{Ends}
+use Rattle.nf_vectors.specs.declared.suite.Entry.{Entry}
+use Rattle.nf_vectors.specs.Columns.{Columns}
+use Rattle.nf_vectors.specs.Held.{columns_at}
+use Rattle.nf_vectors.specs.Suite.{VectorRow}
+use Rattle.nf_vectors.specs.SuiteView.{row_of, rows_in}
+use Rattle.nf_vectors.specs.Within.{AreWithin}
+
+pub slice_range-append : (xs ys : List ℕ) (i j : ℕ) → i ≤ j → j ≤ length xs → slice_range (xs ++ ys) i j ≡ slice_range xs i j
+slice_range-append xs ys i j order within =
+    ap (take (j - i)) (drop-append-le i xs ys (omega arith)) ∙ take-append-le (j - i) (drop i xs) ys (omega (arith, length-drop i xs))
+
+pub slice_range-last : (xs ys : List ℕ) (i j : ℕ) → i ≡ length xs → j ≡ length (xs ++ ys) → slice_range (xs ++ ys) i j ≡ ys
+slice_range-last xs ys i j start end =
+    ap (take (j - i)) (drop_at xs ys i (sym start)) ∙ ap (take (j - i)) (sym (append-nil ys)) ∙ take_at ys [] (j - i) (omega (arith, length-append xs ys))
+
+pub columns_at-append : (text more : List ℕ) (ends : Ends) → ends.nfkd ≤ length text → columns_at (text ++ more) ends ≡ columns_at text ends
+columns_at-append text more ends within =
+    let a = slice_range-append text more ends.start ends.source ends.source_behind (omega (arith, ends.nfc_behind, ends.nfd_behind, ends.nfkc_behind, ends.nfkd_behind)) in
+    let b = slice_range-append text more ends.source ends.nfc ends.nfc_behind (omega (arith, ends.nfd_behind, ends.nfkc_behind, ends.nfkd_behind)) in
+    let c = slice_range-append text more ends.nfc ends.nfd ends.nfd_behind (omega (arith, ends.nfkc_behind, ends.nfkd_behind)) in
+    let d = slice_range-append text more ends.nfd ends.nfkc ends.nfkc_behind (omega (arith, ends.nfkd_behind)) in
+    let e = slice_range-append text more ends.nfkc ends.nfkd ends.nfkd_behind within in
+    same a b c d e
+  where
+    same : {a b c d e v w x y z : List ℕ} → a ≡ v → b ≡ w → c ≡ x → d ≡ y → e ≡ z
+        → (let P : Columns = record { source = a; nfc = b; nfd = c; nfkc = d; nfkd = e } in P) ≡ (let P : Columns = record { source = v; nfc = w; nfd = x; nfkc = y; nfkd = z } in P)
+    same p q r s t = cc
+
+row_of-append : (text more : List ℕ) (entry : Entry) → entry.columns.nfkd ≤ length text → row_of (text ++ more) entry ≡ row_of text entry
+row_of-append text more entry within =
+    let P : Columns → VectorRow = λ columns. record { line = entry.line; in_part1 = entry.in_part1; columns = columns } in
+    ap P (columns_at-append text more entry.columns within)
+
+pub rows_in-append : (text more : List ℕ) (entries : List Entry) → AreWithin text entries → rows_in (text ++ more) entries ≡ rows_in text entries
+rows_in-append text more [] within = refl
+rows_in-append text more (entry ∷ entries) within =
+    let parts = and_parts _ _ within in
+    ap (λ row. row ∷ rows_in (text ++ more) entries) (row_of-append text more entry (leb-true _ _ parts.0))
+    ∙ ap (λ rows. row_of text entry ∷ rows) (rows_in-append text more entries parts.1)
+
+pub AreWithin-append : (text more : List ℕ) (entries : List Entry) → AreWithin text entries → AreWithin (text ++ more) entries
+AreWithin-append text more [] within = refl
+AreWithin-append text more (entry ∷ entries) within =
+    let parts = and_parts _ _ within in
+    ap (λ b. b && list_all (λ entry. nat_le entry.columns.nfkd (length (text ++ more))) entries) (le-leb entry.columns.nfkd (length (text ++ more)) (omega (arith, leb-true _ _ parts.0, length-append text more)))
+    ∙ AreWithin-append text more entries parts.1
+
+pub AreWithin-push : (text : List ℕ) (entries : List Entry) (entry : Entry) → AreWithin text entries → entry.columns.nfkd ≡ length text → AreWithin text (entries ++ entry ∷ [])
+AreWithin-push text entries entry within end =
+    list_all-append (λ entry. nat_le entry.columns.nfkd (length text)) entries (entry ∷ [])
+    ∙ ap (λ b. b && (nat_le entry.columns.nfkd (length text) && true)) within
+    ∙ ap (λ b. b && true) (le-leb entry.columns.nfkd (length text) (omega (arith, end)))

@@ -1,0 +1,94 @@
+-- The code points of a column, word by word.
+use Rattle.std.proofs.Common.{◌≡◌, ℕ, ◌+◌, ◌<◌, ◌≤◌, Bool, true, false, cond, List, [], ◌∷◌, ◌++◌, length, drop, get_or, Result, Ok, Err, refl, sym, ap, ◌∙◌, arith, append_assoc, append-nil, sum_by}
+use Rattle.std.specs.List.{slice_split, onto_first}
+use Rattle.std.proofs.lemmas.List.{drop_more}
+use Rattle.std.proofs.lemmas.List.Sums.{sum_by-cons}
+use Rattle.nf_vectors.specs.declared.fault.VectorKind.{VectorKind}
+use Rattle.nf_vectors.specs.declared.fault.VectorKind.TheVariants.{Empty}
+use Rattle.nf_vectors.specs.Line.{is_gap}
+use Rattle.nf_vectors.specs.Words.{code_point, before, then_codes, code_points, some_or_empty, column_in}
+
+-- code points, and then those behind them
+abbrev pub prefixed : List ℕ → Result (List ℕ) VectorKind → Result (List ℕ) VectorKind
+prefixed cs (Ok more) = Ok (cs ++ more)
+prefixed cs (Err kind) = Err kind
+
+pub prefixed-none : (r : Result (List ℕ) VectorKind) → r ≡ prefixed [] r
+prefixed-none (Ok cs) = refl
+prefixed-none (Err kind) = refl
+
+prefixed-before : (cs : List ℕ) (c : ℕ) (r : Result (List ℕ) VectorKind) → prefixed cs (before c r) ≡ prefixed (cs ++ c ∷ []) r
+prefixed-before cs c (Ok more) = ap Ok (sym (append_assoc cs (c ∷ []) more))
+prefixed-before cs c (Err kind) = refl
+
+code_points-word : (word : List ℕ) (words : List (List ℕ)) → ¬ (length word ≡ 0) → code_points (word ∷ words) ≡ then_codes (code_point word) (code_points words)
+code_points-word [] words some = absurd (some refl)
+code_points-word (b ∷ bs) words some = refl
+
+code_points-empty : (word : List ℕ) (words : List (List ℕ)) → length word ≡ 0 → code_points (word ∷ words) ≡ code_points words
+code_points-empty [] words none = refl
+code_points-empty (b ∷ bs) words none = absurd (omega arith)
+
+-- one word more of those of a column
+module _ (all : List (List ℕ)) (codes : List ℕ) (word : List ℕ) (i : ℕ) (so_far : code_points all ≡ prefixed codes (code_points (drop i all))) (within : i < length all) (is : word ≡ get_or all i word) where
+  rest : drop i all ≡ word ∷ drop (i + 1) all
+  rest = drop_more all i word within ∙ ap (λ w. w ∷ drop (i + 1) all) (sym is)
+
+  pub skipped : length word ≡ 0 → code_points all ≡ prefixed codes (code_points (drop (i + 1) all))
+  skipped none = so_far ∙ ap (λ ws. prefixed codes (code_points ws)) rest ∙ ap (prefixed codes) (code_points-empty word (drop (i + 1) all) none)
+
+  at_word : ¬ (length word ≡ 0) → code_points all ≡ prefixed codes (then_codes (code_point word) (code_points (drop (i + 1) all)))
+  at_word some = so_far ∙ ap (λ ws. prefixed codes (code_points ws)) rest ∙ ap (prefixed codes) (code_points-word word (drop (i + 1) all) some)
+
+  pub pushed : (c : ℕ) → ¬ (length word ≡ 0) → code_point word ≡ Ok c → code_points all ≡ prefixed (codes ++ c ∷ []) (code_points (drop (i + 1) all))
+  pushed c some e = at_word some ∙ ap (λ r. prefixed codes (then_codes r (code_points (drop (i + 1) all)))) e ∙ prefixed-before codes c (code_points (drop (i + 1) all))
+
+  pub refused : (kind : VectorKind) → ¬ (length word ≡ 0) → code_point word ≡ Err kind → code_points all ≡ Err kind
+  refused kind some e = at_word some ∙ ap (λ r. prefixed codes (then_codes r (code_points (drop (i + 1) all)))) e
+
+-- the end of the words
+pub whole : (all : List (List ℕ)) (codes : List ℕ) (i : ℕ) → code_points all ≡ prefixed codes (code_points (drop i all)) → drop i all ≡ [] → code_points all ≡ Ok codes
+whole all codes i so_far end = so_far ∙ ap (λ ws. prefixed codes (code_points ws)) end ∙ ap Ok (append-nil codes)
+
+pub column_in-refused : (column : List ℕ) (kind : VectorKind) → code_points (slice_split is_gap column) ≡ Err kind → column_in column ≡ Err kind
+unfolding column_in
+column_in-refused column kind e = ap some_or_empty e
+
+pub column_in-some : (column codes : List ℕ) → code_points (slice_split is_gap column) ≡ Ok codes → ¬ (length codes ≡ 0) → column_in column ≡ Ok codes
+unfolding column_in
+column_in-some column [] e some = absurd (some refl)
+column_in-some column (c ∷ cs) e some = ap some_or_empty e
+
+pub column_in-empty : (column codes : List ℕ) → code_points (slice_split is_gap column) ≡ Ok codes → length codes ≡ 0 → column_in column ≡ Err Empty
+unfolding column_in
+column_in-empty column [] e none = ap some_or_empty e
+column_in-empty column (c ∷ cs) e none = absurd (omega arith)
+
+-- there are no more code points than bytes
+abbrev len : List ℕ → ℕ
+len word = length word
+
+code_points-le : (words : List (List ℕ)) (codes : List ℕ) → code_points words ≡ Ok codes → length codes ≤ sum_by len words
+code_points-le [] codes e = let none : codes ≡ [] = cc in omega (arith, ap len none)
+code_points-le ([] ∷ words) codes e = omega (arith, code_points-le words codes e, sum_by-cons len [] words)
+code_points-le ((b ∷ bs) ∷ words) codes e = next (code_point (b ∷ bs)) (code_points words) codes refl e (λ cs. code_points-le words cs)
+  where
+    next : (r : Result ℕ VectorKind) (rs : Result (List ℕ) VectorKind) (codes : List ℕ) → rs ≡ code_points words → then_codes r rs ≡ Ok codes
+        → ((cs : List ℕ) → code_points words ≡ Ok cs → length cs ≤ sum_by len words) → length codes ≤ sum_by len ((b ∷ bs) ∷ words)
+    next (Err kind) rs codes is e le = cc
+    next (Ok c) (Err kind) codes is e le = cc
+    next (Ok c) (Ok cs) codes is e le =
+        let same : codes ≡ c ∷ cs = cc in
+        omega (arith, le cs (sym is), sum_by-cons len (b ∷ bs) words, ap len same)
+
+split-le : (p : ℕ → Bool) (bytes : List ℕ) → sum_by len (slice_split p bytes) ≤ length bytes
+split-le p [] = omega (arith, sum_by-cons len [] [])
+split-le p (b ∷ bytes) = next (p b) (slice_split p bytes) (split-le p bytes)
+  where
+    next : (e : Bool) (parts : List (List ℕ)) → sum_by len parts ≤ length bytes → sum_by len (cond e ([] ∷ parts) (onto_first b parts)) ≤ length (b ∷ bytes)
+    next true parts le = omega (arith, le, sum_by-cons len [] parts)
+    next false [] le = omega (arith, sum_by-cons len (b ∷ []) [])
+    next false (part ∷ parts) le = omega (arith, le, sum_by-cons len part parts, sum_by-cons len (b ∷ part) parts)
+
+pub codes-le : (column codes : List ℕ) → code_points (slice_split is_gap column) ≡ Ok codes → length codes ≤ length column
+codes-le column codes e = omega (arith, code_points-le (slice_split is_gap column) codes e, split-le is_gap column)

@@ -1,0 +1,55 @@
+use Rattle.std.proofs.Common.{◌≡◌, ◌+◌, ◌++◌, ◌∷◌, [], ◌∙◌, true, None, take, refl, sym, ap, subst, arith}
+use Rattle.std.specs.Prelude.{IsNone, Option}
+use Rattle.nf_safe.specs.declared.place.Place.{Place}
+use Rattle.std.specs.List.{list_all}
+use Rattle.std.proofs.lemmas.Bool.{and_from, true_from_ne_false, false≢true}
+use Rattle.std.proofs.lemmas.List.{take_more, take_all, length-take-le, get_or_default}
+use Rattle.std.proofs.lemmas.List.Folds.{list_all-append}
+use Rattle.nf_row.specs.Sound.{is_sound}
+use Rattle.nf_safe.specs.Place.{place, place_from}
+use Rattle.nf_vectors.proofs.Utf8Lemmas.{encode_utf8-le, encode_utf8_all-le}
+use Rattle.nf_vectors.proofs.ComparisonLemmas.{front-unsound, front-all, leaves-none, leaves-at, place-from_none, place-from_some}
+use Rattle.nf_vectors.proofs.comparison.leaves_format.Goals as goal
+
+is_none_at : {o : Option Place} → o ≡ None → IsNone o
+is_none_at e = subst (λ (o : Option Place). IsNone o) (sym e) refl
+
+pub loop-c-init : goal.loop-c-init
+loop-c-init g c = record { stands = c.new-checker.ensures.stands (g.R.Rows.properties c.args.rows.now); none = c.new-checker.ensures.place; sound = refl }
+
+pub see-requires : goal.see-requires
+see-requires g c = λ none.
+    let x = take c.loop-c.c-index c.args.column.now in
+    omega (arith, c.loop-c.invariant.stands.offset none, encode_utf8_all-le x, encode_utf8-le c.c-item.result, length-take-le c.loop-c.c-index c.args.column.now (omega (arith, c.loop-c-test.true)), c.requires, c.loop-c-test.true)
+
+pub returns-in-Ok-Some : goal.returns-in-Ok-Some
+returns-in-Ok-Some g c =
+    let p = g.R.Rows.properties c.args.rows.now in
+    let x = c.args.column.now in
+    let i = c.loop-c.c-index in
+    let item = c.c-item.result in
+    let refuses = c.in-Ok-Some.ensures.refuses (is_none_at c.loop-c.invariant.none) in
+    let sound : is_sound p item ≡ true = true_from_ne_false (is_sound p item) (λ bad. false≢true (refuses.1 bad)) in
+    let more : take (i + 1) x ≡ take i x ++ item ∷ [] = take_more x i item c.loop-c-test.true ∙ ap (λ d. take i x ++ d ∷ []) (sym c.c-item.is) in
+    let stands = c.in-Ok-Some.ensures.stands 0 (take i x) c.loop-c.invariant.stands in
+    leaves-at p x (i + 1) (omega (arith, c.loop-c-test.true))
+    (ap (list_all (is_sound p)) more ∙ list_all-append (is_sound p) (take i x) (item ∷ []) ∙ and_from _ _ c.loop-c.invariant.sound (and_from _ _ sound refl))
+    (λ none. place-from_some p (take i x ++ item ∷ []) c.in-Ok-Some.field-0-0 (sym stands.place ∙ sym c.in-Ok-Some.ensures.place ∙ c.in-Ok-Some.field-0-is) (ap (place p) (sym more) ∙ none))
+
+pub returns-in-Err : goal.returns-in-Err
+returns-in-Err g c =
+    let p = g.R.Rows.properties c.args.rows.now in
+    let x = c.args.column.now in
+    let i = c.loop-c.c-index in
+    let item = c.c-item.result in
+    let refuses = c.in-Err.ensures.refuses (is_none_at c.loop-c.invariant.none) in
+    let unsound = ap (is_sound p) (sym (c.c-item.is ∙ get_or_default x i item 0 c.loop-c-test.true)) ∙ refuses.0 refl in
+    leaves-none p x (take i x) (front-unsound p x i c.loop-c-test.true c.loop-c.invariant.sound unsound) (place-from_none p (take i x) (sym c.loop-c.invariant.stands.place ∙ c.loop-c.invariant.none))
+
+pub returns : goal.returns
+returns g c =
+    let p = g.R.Rows.properties c.args.rows.now in
+    let x = c.args.column.now in
+    let all = take_all c.loop-c.c-index x c.loop-c-test.false in
+    leaves-none p x x (front-all p x (ap (list_all (is_sound p)) (sym all) ∙ c.loop-c.invariant.sound))
+    (place-from_none p x (ap (λ y. place_from 0 p y) (sym all) ∙ sym c.loop-c.invariant.stands.place ∙ c.loop-c.invariant.none))

@@ -1,0 +1,20 @@
+use Rattle.std.proofs.Common.{◌∙◌, Some, length, ◌≤◌, refl, sym, ap, arith}
+use Rattle.nf_vectors.specs.SuiteView.{rows_of}
+use Rattle.nf_vectors.specs.ReadsSuite.{limit}
+use Rattle.nf_vectors.proofs.EndingLemmas.{limit-is, last_bad, last_fine, all_rows, all_parts}
+use Rattle.nf_vectors.proofs.reading.Reading.finish.Goals as goal
+
+pub returns-in-Err-clause-tells : goal.returns-in-Err-clause-tells
+returns-in-Err-clause-tells c = λ bytes stands sound.
+    let kind = c.in-Err.kind in
+    last_bad c.args.self bytes stands (omega (arith, stands.taken, c.requires.taken, limit-is)) kind (c.in-Err.ensures.bad (λ e. sound (ap (λ f. f.kind) c.fault.ensures ∙ e)))
+    ∙ ap (λ n. Some (record { line = n; kind = kind })) (sym (c.in-Err.ensures.line refl)) ∙ ap Some (sym c.fault.ensures)
+
+pub returns-clause-tells : goal.returns-clause-tells
+unfolding rows_of
+returns-clause-tells c = λ bytes stands.
+    let few : length bytes ≤ limit = omega (arith, stands.taken, c.requires.taken, limit-is) in (
+      last_fine c.args.self bytes stands few c.in_default.ensures.fine,
+      all_rows c.args.self bytes stands few c.end_line.new.self c.in_default.ensures.ends,
+      all_parts c.args.self bytes stands few c.end_line.new.self c.in_default.ensures.ends,
+    )

@@ -1,0 +1,22 @@
+use Rattle.std.proofs.Common.{◌+◌, ◌++◌, ◌∙◌, take, drop, get_or, Err, refl, ap, subst}
+use Rattle.std.proofs.lemmas.List.{take_all}
+use Rattle.nf_vectors.specs.Standing.{StandsAfter}
+use Rattle.nf_vectors.specs.ReadsSuite.{Finds}
+use Rattle.nf_vectors.proofs.EndingLemmas.{found_here, piece_at}
+use Rattle.nf_vectors.proofs.reading.Reading.take.Goals as goal
+
+pub returns-in-Err-clause-finds : goal.returns-in-Err-clause-finds
+returns-in-Err-clause-finds c = λ bytes stands sound.
+    let piece = c.args.piece.now in
+    let i = c.loop-byte.byte-index in
+    let before = c.loop-byte.invariant.stands bytes stands in
+    let line = c.in-Err.ensures.line refl in
+    subst (λ b. Finds b c.fault.result) (piece_at bytes piece i c.loop-byte-test.true)
+    (found_here c.loop-byte.self (bytes ++ take i piece) before (get_or piece i 0) (drop (i + 1) piece) c.in-Err.kind c.fault.result c.loop-byte.invariant.within.taken
+    (c.fault.ensures ∙ ap (λ n. record { line = n; kind = c.in-Err.kind }) line)
+    (λ size. c.in-Err.ensures.size.0 (ap Err size)) (λ full. let e = c.in-Err.ensures.size.1 full in cc)
+    (λ unsized. c.in-Err.ensures.finds (bytes ++ take i piece) before (λ e. sound (ap (λ f. f.kind) c.fault.ensures ∙ e)) unsized))
+
+pub returns-clause-stands : goal.returns-clause-stands
+returns-clause-stands c = λ bytes stands.
+    subst (λ p. StandsAfter c.loop-byte.self (bytes ++ p)) (take_all c.loop-byte.byte-index c.args.piece.now c.loop-byte-test.false) (c.loop-byte.invariant.stands bytes stands)

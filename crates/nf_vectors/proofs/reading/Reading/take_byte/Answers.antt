@@ -1,0 +1,17 @@
+use Rattle.std.proofs.lemmas.Bool.{eq-eqb}
+use Rattle.nf_vectors.proofs.StandingLemmas.{StandsAfter-line}
+use Rattle.nf_vectors.proofs.EndingLemmas.{on_ok, at_ok, on_err, bad_line}
+use Rattle.nf_vectors.proofs.reading.Reading.take_byte.Goals as goal
+
+pub returns-then-byte-eq10-clause-stands : goal.returns-then-byte-eq10-clause-stands
+returns-then-byte-eq10-clause-stands c = λ bytes stands.
+    let r = c.end_line.result in
+    on_ok r (λ ok.
+    let rest = at_ok r ok c.end_line.ensures.rest in
+    let ends = at_ok r ok c.end_line.ensures.ends in
+    StandsAfter-line c.args.self.now c.end_line.new.self bytes c.args.byte stands rest.1 (eq-eqb c.args.byte 10 c.if-byte-eq10.true)
+    (record { rows = ends.rows; in_part1 = ends.in_part1; has_part1 = ends.has_part1 }) (λ other. at_ok r ok (c.end_line.ensures.fine other)) rest.0 rest.2)
+
+pub returns-then-byte-eq10-clause-finds : goal.returns-then-byte-eq10-clause-finds
+returns-then-byte-eq10-clause-finds c = λ bytes stands.
+    on_err c.end_line.result (λ kind bad sound _. bad_line c.args.self.now bytes stands c.args.byte kind (eq-eqb c.args.byte 10 c.if-byte-eq10.true) (bad sound)) c.end_line.ensures.bad

@@ -1,0 +1,48 @@
+use Rattle.std.proofs.Common.{◌≡◌, ◌∙◌, ◌++◌, ◌≤◌, length, true, [], take, Some, sym, ap, subst, arith, append-nil}
+use Rattle.std.specs.Prelude.{Bool}
+use Rattle.std.specs.Io.KnownBytes.{Consumes}
+use Rattle.std.proofs.lemmas.Bool.{eq-eqb, false≢true}
+use Rattle.nf_vectors.specs.ReadsSuite.{limit, stop_of, lines_within, Tells}
+use Rattle.nf_vectors.specs.Suite.{first_fault}
+use Rattle.nf_vectors.proofs.EndingLemmas.{limit-is, on_ok, read_failed, Tells-found}
+use Rattle.nf_vectors.proofs.SourceLemmas.{Consumes-join, Consumes-kept}
+use Rattle.nf_vectors.proofs.suite.Suite.read.Goals as goal
+
+pub returns-in-Err-clause-reads : goal.returns-in-Err-clause-reads
+returns-in-Err-clause-reads g c =
+    let read = c.loop-given.invariant.read in
+    let failed : true ≡ g.I.Source.is_failed c.get.new.self = sym c.in-Err.ensures.failed.0 in
+    let few : length read.0 ≤ limit = omega (arith, read.2.taken, c.loop-given.invariant.within.taken, limit-is) in
+    record {
+      bytes = read.0;
+      given = Consumes-kept _ _ _ read.0 read.1 c.in-Err.ensures.kept;
+      tells = λ _. ap (λ b. first_fault 1 (stop_of read.0 b) (lines_within read.0)) (sym failed) ∙ read_failed c.loop-given.reading read.0 read.2 few ∙ ap Some (sym c.fault.ensures);
+      end = tt;
+      before_end = λ _ unfailed. absurd (false≢true (sym unfailed ∙ sym failed));
+    }
+
+pub returns-in-Err-take-clause-reads : goal.returns-in-Err-take-clause-reads
+returns-in-Err-take-clause-reads g c =
+    let read = c.loop-given.invariant.read in
+    let piece = take c.in-Ok.given c.get.new.buf in
+    let finds = c.in-Err-take.ensures.finds read.0 read.2 in
+    record {
+      bytes = read.0 ++ piece;
+      given = Consumes-join _ _ _ read.0 piece read.1 c.in-Ok.ensures.given;
+      tells = λ sound. Tells-found (read.0 ++ piece) (g.I.Source.is_failed c.get.new.self) c.in-Err-take.fault (finds sound);
+      end = tt;
+      before_end = λ _ _ few sound stop. finds sound stop (λ past. absurd (omega (arith, past, few)));
+    }
+
+pub returns-then-given-eq0-clause-reads : goal.returns-then-given-eq0-clause-reads
+returns-then-given-eq0-clause-reads g c =
+    let read = c.loop-given.invariant.read in
+    let end : g.I.Source.is_at_end c.get.new.self ≡ true = c.in-Ok.ensures.end ∙ eq-eqb c.in-Ok.given 0 c.if-given-eq0.true in
+    record {
+      bytes = read.0;
+      given = subst (λ l. Consumes (g.I.Source.coming c.args.source.now) (g.I.Source.coming c.get.new.self) l) (append-nil read.0)
+          (Consumes-join _ _ _ read.0 [] read.1 (subst (λ n. Consumes (g.I.Source.coming c.loop-given.source) (g.I.Source.coming c.get.new.self) (take n c.get.new.buf)) c.if-given-eq0.true c.in-Ok.ensures.given));
+      tells = subst (λ (b : Bool). Tells read.0 b c.finish.result) (sym c.in-Ok.ensures.stands.1) (c.finish.ensures.tells read.0 read.2);
+      end = on_ok c.finish.result (λ _. end);
+      before_end = λ unended. absurd (false≢true (sym unended ∙ end));
+    }

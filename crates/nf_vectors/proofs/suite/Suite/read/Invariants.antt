@@ -1,0 +1,15 @@
+use Rattle.std.proofs.Common.{◌≡◌, ◌-◌, ℕ, List, length}
+use Rattle.std.specs.Io.KnownBytes.{Consumes}
+use Rattle.nf_vectors.specs.Standing.{StandsAfter, IsWithin}
+use Rattle.nf_vectors.proofs.suite.Suite.read.Given as goal
+
+abbrev pub invariant-loop-given : goal.invariant-loop-given
+invariant-loop-given g l = record {
+  room : length l.block ≡ 4096;
+  within : IsWithin l.reading;
+  read : (bytes : List ℕ) × Consumes (g.I.Source.coming l.fn.source) (g.I.Source.coming l.source) bytes × StandsAfter l.reading bytes;
+  lender : g.I.Source.lender l.source ≡ g.I.Source.lender l.fn.source;
+}
+
+abbrev pub decreases-loop-given : goal.decreases-loop-given
+decreases-loop-given g l = 67108865 - l.reading.taken

@@ -1,0 +1,12 @@
+use Rattle.std.proofs.Common.{◌≡◌, ◌+◌, ◌≤◌, true, take}
+use Rattle.std.specs.List.{list_all}
+use Rattle.nf_vectors.specs.Words.{is_digit, value_of}
+use Rattle.nf_vectors.proofs.DigitLemmas.{power}
+use Rattle.nf_vectors.proofs.word.code_point.Given as goal
+
+abbrev pub invariant-loop-byte : goal.invariant-loop-byte
+invariant-loop-byte l = record {
+  value : l.value ≡ value_of (take l.byte-index l.word);
+  digits : list_all is_digit (take l.byte-index l.word) ≡ true;
+  bound : l.value + 1 ≤ power l.byte-index;
+}

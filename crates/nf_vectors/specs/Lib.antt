@@ -1,0 +1,16 @@
+pub mod Columns
+pub mod Line
+pub mod Words
+pub mod Judgement
+pub mod Suite
+pub mod Held
+pub mod Within
+pub mod SuiteView
+pub mod ReadsSuite
+pub mod Standing
+pub mod Comparison
+pub mod Report
+pub mod Sweep
+pub mod Gives
+pub mod Sinks
+pub mod Views

@@ -1,0 +1,173 @@
+ghost use Rattle.std.specs.Prelude.{◌≡◌, ◌+◌, ◌<◌, ◌^◌, false, IfOk};
+ghost use Rattle.nf_vectors.specs.Suite.{VectorRow};
+ghost use Rattle.nf_vectors.specs.Comparison.{broken_column, is_skipped};
+ghost use Rattle.nf_vectors.specs.Report.{failure_of, verdict_of, report_and};
+ghost use Rattle.nf_vectors.specs.Views.{columns_of, bytes_of, utf8_of, AreShort};
+ghost use Rattle.nf_vectors.specs.Columns.{Columns as Texts};
+
+use crate::comparison::{holds, leaves_format};
+use crate::encoded::{Columns, Encoded};
+use crate::fault::Memory;
+use crate::gathered::Gathered;
+use crate::report::{Failure, Report, Verdict};
+use crate::suite::Suite;
+use nf_row::{Form, Rows};
+use std::alloc::Global;
+
+impl Suite {
+    ghost use Rattle.nf_vectors.specs.SuiteView.{rows_of};
+    ghost use Rattle.nf_vectors.specs.Report.{report_of};
+
+    /// Makes the comparisons of each row: the form of the stream-safe text of each column must be what the row says.
+    pub fn check<R: Rows>(&self, alloc: Global, rows: &R) -> Result<Report, Memory>
+        ensures report { IfOk result (λ report. report ≡ report_of (R.properties rows.now) (rows_of self.now)) }
+        ensures sum { IfOk result (λ report. report.rows ≡ report.passed + report.failed + report.skipped) }
+    {
+        let mut report = Report {
+            rows: 0,
+            passed: 0,
+            failed: 0,
+            skipped: 0,
+            first_failure: None,
+        };
+        let mut encoded = Encoded::new(alloc);
+        let mut sink = Gathered::new(alloc);
+        for entry in self.entries.as_slice() {
+            let columns = Columns::of(self.text.as_slice(), entry.columns);
+            let verdict = verdict(rows, entry.line, columns, &mut encoded, &mut sink)?;
+            report = and(report, verdict);
+        }
+        Ok(report)
+    }
+}
+
+/// The report with one row more.
+fn and(report: Report, verdict: Verdict) -> Report
+    requires few { report.rows < 2 ^ 31 }
+    requires sum { report.rows ≡ report.passed + report.failed + report.skipped }
+    ensures { result ≡ report_and report verdict }
+{
+    let rows = report.rows + 1;
+    match verdict {
+        Verdict::Skipped => Report {
+            rows,
+            skipped: report.skipped + 1,
+            ..report
+        },
+        Verdict::Passed => Report {
+            rows,
+            passed: report.passed + 1,
+            ..report
+        },
+        Verdict::Failed(failure) => Report {
+            rows,
+            failed: report.failed + 1,
+            first_failure: match report.first_failure {
+                None => Some(failure),
+                Some(first) => Some(first),
+            },
+            ..report
+        },
+    }
+}
+
+fn verdict<R: Rows>(
+    rows: &R,
+    line: u32,
+    columns: Columns<'_>,
+    encoded: &mut Encoded,
+    sink: &mut Gathered,
+) -> Result<Verdict, Memory>
+    requires { AreShort (columns_of columns) }
+    ensures { (row : VectorRow) → row.line ≡ line → row.columns ≡ columns_of columns.entry
+        → IfOk result (λ verdict. verdict ≡ verdict_of (R.properties rows.now) row) }
+{
+    if is_skipped(rows, columns) {
+        return Ok(Verdict::Skipped);
+    }
+    match encoded.encode(columns) {
+        Ok(()) => {}
+        Err(_) => return Err(Memory),
+    }
+    match failure(rows, line, encoded, sink)? {
+        None => Ok(Verdict::Passed),
+        Some(failure) => Ok(Verdict::Failed(failure)),
+    }
+}
+
+fn is_skipped<R: Rows>(rows: &R, columns: Columns<'_>) -> bool
+    requires { AreShort (columns_of columns) }
+    ensures { result ≡ is_skipped (R.properties rows.now) (columns_of columns.entry) }
+{
+    let source = leaves_format(rows, columns.source);
+    let nfc = leaves_format(rows, columns.nfc);
+    let nfd = leaves_format(rows, columns.nfd);
+    let nfkc = leaves_format(rows, columns.nfkc);
+    let nfkd = leaves_format(rows, columns.nfkd);
+    source | nfc | nfd | nfkc | nfkd
+}
+
+/// The first comparison that does not hold.
+fn failure<R: Rows>(
+    rows: &R,
+    line: u32,
+    encoded: &Encoded,
+    sink: &mut Gathered,
+) -> Result<Option<Failure>, Memory>
+    ensures { (columns : Texts) → bytes_of encoded.now ≡ utf8_of columns → is_skipped (R.properties rows.now) columns ≡ false
+        → IfOk result (λ failure. failure ≡ failure_of (R.properties rows.now) line columns) }
+{
+    if let Some(column) = broken_column(rows, Form::Nfc, encoded, sink)? {
+        return Ok(Some(Failure {
+            line,
+            form: Form::Nfc,
+            column,
+        }));
+    }
+    if let Some(column) = broken_column(rows, Form::Nfd, encoded, sink)? {
+        return Ok(Some(Failure {
+            line,
+            form: Form::Nfd,
+            column,
+        }));
+    }
+    if let Some(column) = broken_column(rows, Form::Nfkc, encoded, sink)? {
+        return Ok(Some(Failure {
+            line,
+            form: Form::Nfkc,
+            column,
+        }));
+    }
+    if let Some(column) = broken_column(rows, Form::Nfkd, encoded, sink)? {
+        return Ok(Some(Failure {
+            line,
+            form: Form::Nfkd,
+            column,
+        }));
+    }
+    Ok(None)
+}
+
+/// The first column of which it does not hold in this form.
+fn broken_column<R: Rows>(
+    rows: &R,
+    form: Form,
+    encoded: &Encoded,
+    sink: &mut Gathered,
+) -> Result<Option<u8>, Memory>
+    ensures { (columns : Texts) → bytes_of encoded.now ≡ utf8_of columns → is_skipped (R.properties rows.now) columns ≡ false
+        → IfOk result (λ column. column ≡ broken_column form (R.properties rows.now) columns) }
+{
+    for column in 1..6 {
+        if !holds(
+            rows,
+            form,
+            encoded.column(column),
+            encoded.expected(form, column),
+            sink,
+        )? {
+            return Ok(Some(column));
+        }
+    }
+    Ok(None)
+}

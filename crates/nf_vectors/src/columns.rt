@@ -1,0 +1,17 @@
+ghost use Rattle.std.specs.Prelude.{◌≤◌};
+
+/// Where the five columns of a row stand in the text of a suite, in code points: each behind the one before it.
+#[derive(Clone, Copy, Debug)]
+pub(crate) struct Ends {
+    pub(crate) start: u32,
+    pub(crate) source: u32,
+    pub(crate) nfc: u32,
+    pub(crate) nfd: u32,
+    pub(crate) nfkc: u32,
+    pub(crate) nfkd: u32,
+    ghost source_behind: { start ≤ source },
+    ghost nfc_behind: { source ≤ nfc },
+    ghost nfd_behind: { nfc ≤ nfd },
+    ghost nfkc_behind: { nfd ≤ nfkc },
+    ghost nfkd_behind: { nfkc ≤ nfkd },
+}

@@ -1,0 +1,112 @@
+//! The columns of one row: their code points, and their UTF-8.
+ghost use Rattle.std.specs.Prelude.{◌≡◌, ◌≤◌, ◌<◌, ◌^◌, length, slice_range, encode_utf8_all, string_bytes, OnOk};
+
+use crate::columns::Ends;
+use nf_row::Form;
+use std::alloc::{AllocError, Global};
+
+/// The code points of the columns.
+#[derive(Clone, Copy, Debug)]
+pub(crate) struct Columns<'a> {
+    pub(crate) source: &'a [char],
+    pub(crate) nfc: &'a [char],
+    pub(crate) nfd: &'a [char],
+    pub(crate) nfkc: &'a [char],
+    pub(crate) nfkd: &'a [char],
+}
+
+/// Their UTF-8, in buffers that serve one row after the other.
+#[derive(Debug, Drop)]
+pub(crate) struct Encoded {
+    source: String,
+    nfc: String,
+    nfd: String,
+    nfkc: String,
+    nfkd: String,
+}
+
+impl<'a> Columns<'a> {
+    ghost use Rattle.nf_vectors.specs.Held.{columns_at as columns_in};
+    ghost use Rattle.nf_vectors.specs.Views.{columns_of, AreShort};
+
+    /// Those that stand in `text`.
+    pub(crate) fn of(text: &'a [char], ends: Ends) -> Columns<'a>
+        requires { ends.nfkd ≤ length text.now }
+        ensures columns { columns_of result ≡ columns_in text.now ends }
+        ensures short { AreShort (columns_of result) }
+    {
+        Columns {
+            source: &text[ends.start as usize..ends.source as usize],
+            nfc: &text[ends.source as usize..ends.nfc as usize],
+            nfd: &text[ends.nfc as usize..ends.nfd as usize],
+            nfkc: &text[ends.nfd as usize..ends.nfkc as usize],
+            nfkd: &text[ends.nfkc as usize..ends.nfkd as usize],
+        }
+    }
+}
+
+impl Encoded {
+    ghost use Rattle.std.specs.Prelude.{IsOk};
+    ghost use Rattle.nf_row.specs.declared.form.Form.{Form};
+    ghost use Rattle.nf_vectors.specs.Comparison.{column_at, expected_at};
+    ghost use Rattle.nf_vectors.specs.Views.{columns_of, bytes_of, utf8_of};
+
+    pub(crate) fn new(alloc: Global) -> Encoded {
+        Encoded {
+            source: String::new(alloc),
+            nfc: String::new(alloc),
+            nfd: String::new(alloc),
+            nfkc: String::new(alloc),
+            nfkd: String::new(alloc),
+        }
+    }
+
+    /// Encodes the columns of a row in the place of those before.
+    pub(crate) fn encode(&mut self, columns: Columns<'_>) -> Result<(), AllocError>
+        ensures { OnOk result (bytes_of self.new ≡ utf8_of (columns_of columns.entry)) }
+    {
+        encode(columns.source, &mut self.source)?;
+        encode(columns.nfc, &mut self.nfc)?;
+        encode(columns.nfd, &mut self.nfd)?;
+        encode(columns.nfkc, &mut self.nfkc)?;
+        encode(columns.nfkd, &mut self.nfkd)
+    }
+
+    /// A column by its number, 1 to 5.
+    pub(crate) fn column(&self, column: u8) -> &str
+        ensures column { result.now ≡ column_at (bytes_of self.now) column }
+        ensures short { length result.now < 2 ^ 63 }
+    {
+        let text = match column {
+            1 => &self.source,
+            2 => &self.nfc,
+            3 => &self.nfd,
+            4 => &self.nfkc,
+            _ => &self.nfkd,
+        };
+        text.as_str()
+    }
+
+    /// What the form must give of that column.
+    pub(crate) fn expected(&self, form: Form, column: u8) -> &str
+        ensures { result.now ≡ expected_at form (bytes_of self.now) column }
+    {
+        let text = match form {
+            Form::Nfc if column <= 3 => &self.nfc,
+            Form::Nfd if column <= 3 => &self.nfd,
+            Form::Nfc | Form::Nfkc => &self.nfkc,
+            Form::Nfd | Form::Nfkd => &self.nfkd,
+        };
+        text.as_str()
+    }
+}
+
+fn encode(column: &[char], out: &mut String) -> Result<(), AllocError>
+    ensures { OnOk result (string_bytes out.new ≡ encode_utf8_all column.now) }
+{
+    out.clear();
+    for c in column {
+        out.push(*c)?;
+    }
+    Ok(())
+}

@@ -1,0 +1,89 @@
+//! Parts of a line's bytes.
+ghost use Rattle.std.specs.Prelude.{◌≡◌, ◌+◌, ◌-◌, ◌<◌, ◌≤◌, ◌==◌, length, MatchOption, drop, take, ℕ};
+ghost use Rattle.std.specs.List.{before_first, after_first, position_or_len, prefix_len, suffix_len};
+ghost use Rattle.nf_vectors.specs.Line.{is_gap, is_blank, without_blanks_behind, trimmed, content};
+
+/// A space or a tab.
+#[inline]
+pub(crate) fn is_gap(byte: u8) -> bool
+    ensures { result ≡ is_gap byte }
+{
+    byte == b' ' || byte == b'\t'
+}
+
+/// A space, a tab or CR.
+#[inline]
+pub(crate) fn is_blank(byte: u8) -> bool
+    ensures { result ≡ is_blank byte }
+{
+    is_gap(byte) || byte == b'\r'
+}
+
+/// What stands before the first `separator`, and behind it.
+pub(crate) fn cut(bytes: &[u8], separator: u8) -> Option<(&[u8], &[u8])>
+    ensures parts { MatchOption result (position_or_len (λ b. b == separator) bytes.now ≡ length bytes.now)
+        (λ parts. (position_or_len (λ b. b == separator) bytes.now < length bytes.now)
+        × (parts.0.now ≡ before_first (λ b. b == separator) bytes.now) × (parts.1.now ≡ after_first (λ b. b == separator) bytes.now)) }
+    ensures len { MatchOption result (0 ≤ length bytes.now) (λ parts. length parts.0.now + length parts.1.now < length bytes.now) }
+{
+    for (at, byte) in bytes.iter().enumerate() {
+        if *byte == separator {
+            return Some((&bytes[..at], &bytes[at + 1..]));
+        }
+    }
+    None
+}
+
+/// What stands before the first gap.
+pub(crate) fn before_gap(bytes: &[u8]) -> &[u8]
+    ensures { result.now ≡ before_first is_gap bytes.now }
+{
+    for (at, byte) in bytes.iter().enumerate() {
+        if is_gap(*byte) {
+            return &bytes[..at];
+        }
+    }
+    bytes
+}
+
+/// What a line says: without its comment and the blanks at its ends.
+pub(crate) fn content(line: &[u8]) -> &[u8]
+    ensures text { result.now ≡ content line.now }
+    ensures len { length result.now ≤ length line.now }
+{
+    match cut(line, b'#') {
+        Some((before, _)) => trimmed(before),
+        None => trimmed(line),
+    }
+}
+
+/// Without the blanks at both ends.
+fn trimmed(bytes: &[u8]) -> &[u8]
+    ensures text { result.now ≡ trimmed bytes.now }
+    ensures len { length result.now ≤ length bytes.now }
+{
+    without_blanks_behind(without_blanks_before(bytes))
+}
+
+fn without_blanks_before(bytes: &[u8]) -> &[u8]
+    ensures { result.now ≡ drop (prefix_len is_blank bytes.now) bytes.now }
+{
+    for (at, byte) in bytes.iter().enumerate() {
+        if !is_blank(*byte) {
+            return &bytes[at..];
+        }
+    }
+    &bytes[bytes.len()..]
+}
+
+fn without_blanks_behind(bytes: &[u8]) -> &[u8]
+    ensures { result.now ≡ without_blanks_behind bytes.now }
+{
+    for behind in 0..bytes.len() {
+        let len = bytes.len() - behind;
+        if !is_blank(bytes[len - 1]) {
+            return &bytes[..len];
+        }
+    }
+    &bytes[..0]
+}

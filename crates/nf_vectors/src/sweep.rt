@@ -1,0 +1,100 @@
+ghost use Rattle.std.specs.Prelude.{◌≡◌, ◌<◌, ℕ, IfOk, false, length, slice_index_or};
+ghost use Rattle.nf_vectors.specs.Sweep.{is_listed, is_unchanged};
+
+use crate::comparison::is_kept;
+use crate::encoded::Columns;
+use crate::fault::Memory;
+use crate::suite::Suite;
+use nf_row::{Form, Rows};
+use std::alloc::{AllocError, Global};
+
+/// The least number that is above every scalar value.
+const CODES: usize = 0x11_0000;
+
+/// What normalization does to the characters that Part 1 of a vector file does not list.
+#[derive(Clone, Copy, Debug, PartialEq, Eq)]
+pub struct Sweep {
+    /// How many scalar values, of 1,112,064, no row of Part 1 has as the only code point of its first column.
+    pub unlisted: u32,
+    /// How many of these some form changes, each as a text of one character.
+    pub failed: u32,
+    /// The least of those.
+    pub first: Option<char>,
+}
+
+impl Suite {
+    ghost use Rattle.nf_vectors.specs.SuiteView.{rows_of};
+    ghost use Rattle.nf_vectors.specs.Sweep.{sweep_of};
+
+    /// Looks for a change of a character that Part 1 does not list. Takes memory for the set of those that it lists.
+    pub fn sweep<R: Rows>(&self, alloc: Global, rows: &R) -> Result<Sweep, Memory>
+        ensures { IfOk result (λ sweep. sweep ≡ sweep_of (R.properties rows.now) (rows_of self.now)) }
+    {
+        let Ok(listed) = self.listed(alloc) else {
+            return Err(Memory);
+        };
+        let mut sweep = Sweep {
+            unlisted: 0,
+            failed: 0,
+            first: None,
+        };
+        for (code, is_listed) in listed.as_slice().iter().enumerate() {
+            let Some(c) = char::from_u32(code as u32) else {
+                continue;
+            };
+            if *is_listed {
+                continue;
+            }
+            let unlisted = sweep.unlisted + 1;
+            if is_unchanged(rows, c) {
+                sweep = Sweep { unlisted, ..sweep };
+                continue;
+            }
+            sweep = Sweep {
+                unlisted,
+                failed: sweep.failed + 1,
+                first: match sweep.first {
+                    None => Some(c),
+                    Some(first) => Some(first),
+                },
+            };
+        }
+        Ok(sweep)
+    }
+
+    /// The set of the characters that Part 1 lists: for each code whether it is among them.
+    fn listed(&self, alloc: Global) -> Result<Vec<bool>, AllocError>
+        ensures size { IfOk result (λ listed. length listed.items ≡ 1114112) }
+        ensures listed { IfOk result (λ listed. (c : ℕ) → c < 1114112 → slice_index_or listed.items c false ≡ is_listed (rows_of self.now) c) }
+    {
+        let mut listed = none_of(alloc, CODES)?;
+        for entry in self.entries.as_slice() {
+            let columns = Columns::of(self.text.as_slice(), entry.columns);
+            if entry.in_part1 && columns.source.len() == 1 {
+                listed[columns.source[0] as usize] = true;
+            }
+        }
+        Ok(listed)
+    }
+}
+
+/// The empty set of codes below `codes`.
+fn none_of(alloc: Global, codes: usize) -> Result<Vec<bool>, AllocError>
+    ensures size { IfOk result (λ listed. length listed.items ≡ codes) }
+    ensures none { IfOk result (λ listed. (c : ℕ) → c < codes → slice_index_or listed.items c false ≡ false) }
+{
+    vec![in alloc; false; codes]
+}
+
+/// Whether no form changes the text of `c` alone.
+fn is_unchanged<R: Rows>(rows: &R, c: char) -> bool
+    ensures { result ≡ is_unchanged (R.properties rows.now) c }
+{
+    let mut room = [0; 4];
+    let text = c.encode_utf8(&mut room);
+    let nfc = is_kept(rows, Form::Nfc, text);
+    let nfd = is_kept(rows, Form::Nfd, text);
+    let nfkc = is_kept(rows, Form::Nfkc, text);
+    let nfkd = is_kept(rows, Form::Nfkd, text);
+    nfc & nfd & nfkc & nfkd
+}

@@ -1,0 +1,2 @@
+mod comparisons;
+mod files;
