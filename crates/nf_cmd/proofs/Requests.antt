@@ -17,7 +17,7 @@ use Rattle.clap.proofs.WalkLemmas.{list_any-map}
 use Rattle.nf_row.specs.declared.form.Form.{Form}
 use Rattle.nf_row.specs.declared.form.Form.TheVariants.{Nfc, Nfd, Nfkc, Nfkd}
 use Rattle.nf_cmd.specs.declared.line.Request.{Request}
-use Rattle.nf_cmd.specs.declared.line.Request.TheVariants.{Convert, Check, Measure}
+use Rattle.nf_cmd.specs.declared.line.Request.TheVariants.{Convert, Check, Measure, Test}
 use Rattle.nf_cmd.specs.Line.{IsLine, IsRefusal, convert, form_named, form_names, form_rule, line, request_of}
 use Rattle.nf_cmd.proofs.Rows.{Given, IsIn, IsNoHelp, StopsAtNoHelp, below_faultless, checked, given, no_help-walk, nothing_wanted, walk_faultless}
 
@@ -155,9 +155,10 @@ module _ (names : Bor (List (Bor Text))) (are : texts names.now ≡ form_names) 
           subst P (sym same) (converts left (subst (λ (x : Shape). level_fault x [] nothing_held left false [] ≡ []) same below))
       of s (inr (inl same)) name answers helpless left below = asks s same Check (λ _. refl) left
       of s (inr (inr (inl same))) name answers helpless left below = asks s same Measure (λ _. refl) left
-      of s (inr (inr (inr (inl same)))) name answers helpless left below =
+      of s (inr (inr (inr (inl same)))) name answers helpless left below = asks s same Test (λ _. refl) left
+      of s (inr (inr (inr (inr (inl same))))) name answers helpless left below =
           absurd (help_differs name (ap (λ (x : Shape). answers_to name (label_of x)) (sym same) ∙ answers) helpless)
-      of s (inr (inr (inr (inr bad)))) name answers helpless left below = absurd bad
+      of s (inr (inr (inr (inr (inr bad))))) name answers helpless left below = absurd bad
 
 -- ---- the same of any description of the line
 

@@ -8,12 +8,13 @@ use Rattle.nf_row.specs.Ucd.{ucd}
 use Rattle.nf_cmd.specs.declared.fault.Fault.{Fault}
 use Rattle.nf_cmd.specs.declared.fault.Fault.TheVariants.{Write, Memory}
 use Rattle.nf_cmd.specs.declared.line.Request.{Request}
-use Rattle.nf_cmd.specs.declared.line.Request.TheVariants.{Convert, Check, Measure}
+use Rattle.nf_cmd.specs.declared.line.Request.TheVariants.{Convert, Check, Measure, Test}
 use Rattle.nf_cmd.specs.Line.{Asks, Refuses}
 use Rattle.nf_cmd.specs.Fronts.{AppendsFront}
 use Rattle.nf_cmd.specs.Converts.{Converts}
 use Rattle.nf_cmd.specs.Checks.{Checks}
 use Rattle.nf_cmd.specs.Measures.{Measures}
+use Rattle.nf_cmd.specs.Tests.{Tests}
 use Rattle.nf_cmd.specs.Lines.{line_of, status_of}
 
 -- what is known of the bytes that the reader has left, and that the output and standard error hold
@@ -59,6 +60,7 @@ abbrev pub Does : Request → Devices → Devices → Result ℕ Fault → Type 
 Does (Convert form) before after found = Converts form ucd before.input after.input before.out after.out found
 Does Check before after found = Checks ucd before.input after.input before.out after.out found
 Does Measure before after found = Measures ucd before.input after.input before.out after.out found
+Does Test before after found = Tests ucd before.input after.input before.out after.out found
 
 -- the words ask for this, and it was done
 pub record IsDone (words : List Text) (before after : Devices) (status : ℕ) : Type 0 where

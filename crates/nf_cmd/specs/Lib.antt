@@ -6,4 +6,5 @@ pub mod Converts
 pub mod Surveys
 pub mod Checks
 pub mod Measures
+pub mod Tests
 pub mod Answers

@@ -13,7 +13,7 @@ use Rattle.clap.specs.declared.error.kind.ErrorKind.TheVariants.{OutOfMemory}
 use Rattle.nf_row.specs.declared.form.Form.{Form}
 use Rattle.nf_row.specs.declared.form.Form.TheVariants.{Nfc, Nfd, Nfkc, Nfkd}
 use Rattle.nf_cmd.specs.declared.line.Request.{Request}
-use Rattle.nf_cmd.specs.declared.line.Request.TheVariants.{Convert, Check, Measure}
+use Rattle.nf_cmd.specs.declared.line.Request.TheVariants.{Convert, Check, Measure, Test}
 
 -- the values of --form
 abbrev pub form_names : List Text
@@ -42,11 +42,12 @@ convert names = with_rule (new_app (codes "convert")) (form_rule names)
 -- the program's line: one of the subcommands
 unfoldable pub line : Bor (List (Bor Text)) → App
 line names =
-    with_subcommand (with_subcommand (with_subcommand
+    with_subcommand (with_subcommand (with_subcommand (with_subcommand
     (on_top (λ s. record s { subcommand_required = true }) (new_app (codes "nfstream")))
     (convert names).top)
     (new_app (codes "check")).top)
-    (new_app (codes "measure")).top
+    (new_app (codes "measure")).top)
+    (new_app (codes "test")).top
 
 -- a is the program's line, where the names are those of the forms
 abbrev pub IsLine : App → Type 0
@@ -61,7 +62,8 @@ abbrev pub request_by : Text → Option Text → Option Request
 request_by name form =
     if bytes_eq name (codes "convert") then option_map (λ f. Convert f) (option_and_then form_named form)
     else (if bytes_eq name (codes "check") then Some Check
-    else (if bytes_eq name (codes "measure") then Some Measure else None))
+    else (if bytes_eq name (codes "measure") then Some Measure
+    else (if bytes_eq name (codes "test") then Some Test else None)))
 
 -- the same, by its name and what was found for its options
 abbrev pub request_of : Option (Text × List Row) → Option Request

@@ -1,6 +1,7 @@
 //! Why a run did not do what it was asked for, and what the program says of it.
 ghost use Rattle.std.specs.Prelude.{◌≡◌, Some};
 
+use nf_vectors::{VectorFault, VectorKind};
 use std::fmt;
 
 /// Offsets are in bytes, from the start of the input.
@@ -18,13 +19,28 @@ pub(crate) enum Fault {
     Write,
     /// Memory ran out.
     Memory,
-    /// The input is longer than offsets can count.
+    /// The input is longer than offsets can count, or than a vector file may be.
     TooLong,
+    /// This line of a vector file, from 1, is none of its layout.
+    Line { line: u32, fault: LineFault },
+}
+
+/// What is wrong with a line of a vector file.
+#[derive(Clone, Copy, Debug, PartialEq, Eq)]
+pub(crate) enum LineFault {
+    /// It has not five columns.
+    Fields,
+    /// A column is empty.
+    Empty,
+    /// A word is no number of 1 to 6 hexadecimal digits.
+    Hex,
+    /// A number is no scalar value.
+    Scalar,
 }
 
 impl Fault {
     ghost use Rattle.nf_filter.specs.declared.fault.Fault.TheVariants.{Spent};
-    ghost use Rattle.nf_cmd.specs.Faults.{told};
+    ghost use Rattle.nf_cmd.specs.Faults.{told, told_of_file};
     ghost use Rattle.nf_cmd.specs.Lines.{fault_status};
 
     /// What is said of a fault that the library found. A filter that is used once is never found spent.
@@ -43,12 +59,29 @@ impl Fault {
         }
     }
 
+    /// What is said of a vector file that the library refused.
+    pub(crate) fn told_of_file(fault: VectorFault) -> Fault
+        ensures { result ≡ told_of_file fault }
+    {
+        let VectorFault { line, kind } = fault;
+        let fault = match kind {
+            VectorKind::Fields => LineFault::Fields,
+            VectorKind::Empty => LineFault::Empty,
+            VectorKind::Hex => LineFault::Hex,
+            VectorKind::Scalar => LineFault::Scalar,
+            VectorKind::Size => return Fault::TooLong,
+            VectorKind::Read => return Fault::Read,
+            VectorKind::Memory => return Fault::Memory,
+        };
+        Fault::Line { line, fault }
+    }
+
     /// The status that the program ends with.
     pub(crate) fn status(self) -> u8
         ensures { result ≡ fault_status self }
     {
         match self {
-            Fault::Row { .. } | Fault::BadByte { .. } | Fault::Cut { .. } => 3,
+            Fault::Row { .. } | Fault::BadByte { .. } | Fault::Cut { .. } | Fault::Line { .. } => 3,
             Fault::Read | Fault::Write => 4,
             Fault::Memory => 5,
             Fault::TooLong => 6,
@@ -74,6 +107,22 @@ impl fmt::Display for Fault {
             Fault::Write => f.write_str("write failed"),
             Fault::Memory => f.write_str("out of memory"),
             Fault::TooLong => f.write_str("input too long"),
+            Fault::Line { line, fault } => write!(f, "line {line}: {fault}"),
         }
+    }
+}
+
+impl fmt::Display for LineFault {
+    ghost use Rattle.nf_cmd.specs.Lines.{line_message_of};
+
+    ghost output = { λ f. Some (line_message_of f) };
+
+    fn fmt<W: fmt::Write>(&self, f: &mut fmt::Formatter<W>) -> fmt::Result {
+        f.write_str(match self {
+            LineFault::Fields => "fields",
+            LineFault::Empty => "empty",
+            LineFault::Hex => "hex",
+            LineFault::Scalar => "scalar",
+        })
     }
 }

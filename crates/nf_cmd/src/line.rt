@@ -1,6 +1,7 @@
 //! The command line.
 ghost use Rattle.std.specs.Prelude.{◌≡◌, IfErr, IfOk, false, option_map};
-ghost use Rattle.clap.specs.Words.{app_of, kind_of, rule_of, subcommand_rows_of};
+ghost use Rattle.clap.specs.Words.{app_of, kind_of, new_app, rule_of, subcommand_rows_of};
+ghost use Rattle.clap.specs.declared.builder.command.Command.TheViews.{out-Command};
 ghost use Rattle.clap.specs.Walk.{texts};
 ghost use Rattle.nf_cmd.specs.Line.{Asks, IsFormRule, IsLine, IsRefusal, form_named, request_by, request_of};
 
@@ -17,6 +18,8 @@ pub(crate) enum Request {
     Check,
     /// `measure`: what is measured of the text.
     Measure,
+    /// `test`: what the rows of a vector file come to.
+    Test,
 }
 
 static FORMS: [&str; 4] = ["nfc", "nfd", "nfkc", "nfkd"];
@@ -37,18 +40,36 @@ fn line<'w>(alloc: Global) -> Result<Command<'w>, AllocError>
     let convert = Command::new(alloc, "convert")
         .about("Writes the normalization form of the stream-safe text")
         .arg(form(alloc))?;
-    let check = Command::new(alloc, "check").about(
+    let check = plain(
+        alloc,
+        "check",
         "Says whether the text is in the Stream-Safe Text Format, and where it is not",
     );
-    let measure = Command::new(alloc, "measure").about(
+    let measure = plain(
+        alloc,
+        "measure",
         "Counts the text's characters and non-starters, and what convert would put in",
+    );
+    let test = plain(
+        alloc,
+        "test",
+        "Tests the forms by a file in the layout of NormalizationTest.txt",
     );
     let line = Command::new(alloc, "nfstream")
         .about("Makes UTF-8 text on standard input stream-safe, normalizes it, and measures it")
         .subcommand_required(true)
         .subcommand(convert)?;
     let line = line.subcommand(check)?;
-    line.subcommand(measure)
+    let line = line.subcommand(measure)?;
+    line.subcommand(test)
+}
+
+// A subcommand that takes nothing.
+fn plain<'w>(alloc: Global, name: &'w str, about: &'w str) -> Command<'w>
+    ensures shape { app_of result ≡ new_app name.now }
+    ensures local { (out-Command result).has_globals ≡ false }
+{
+    Command::new(alloc, name).about(about)
 }
 
 fn form<'w>(alloc: Global) -> Arg<'w>
@@ -78,6 +99,7 @@ fn request_by(name: &str, form: Option<&str>) -> Option<Request>
         "convert" => Some(Request::Convert(form_named(form?)?)),
         "check" => Some(Request::Check),
         "measure" => Some(Request::Measure),
+        "test" => Some(Request::Test),
         _ => None,
     }
 }

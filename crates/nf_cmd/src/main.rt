@@ -9,6 +9,7 @@ mod line;
 mod measure;
 mod output;
 mod program;
+mod test;
 mod writing;
 
 use program::command;

@@ -55,8 +55,8 @@ fn lines(answer: Result<Measure, nf_filter::Fault>) -> Option<Lines>
     with_line(lines, "unassigned", measure.unassigned as u128)
 }
 
-// The lines, and one more.
-fn with_line(lines: Lines, name: &str, number: u128) -> Option<Lines>
+/// The lines, and one more.
+pub(crate) fn with_line(lines: Lines, name: &str, number: u128) -> Option<Lines>
     ensures { IfSome result (λ more. more.items ≡ lines.items ++ line name.now number) }
 {
     let mut more = lines;

@@ -12,6 +12,7 @@ use crate::convert::convert;
 use crate::fault::Fault;
 use crate::line::{Request, parse};
 use crate::measure::measure;
+use crate::test::test;
 use crate::writing::{Lines, write_front, write_whole};
 use arrayvec::ArrayVec;
 use clap::Error;
@@ -40,6 +41,7 @@ pub(crate) fn command<'w, I: Read, O: Write, E: Write>(
         Ok(Request::Convert(form)) => report(convert(form, input, out), err),
         Ok(Request::Check) => report(check(input, out), err),
         Ok(Request::Measure) => report(measure(input, out), err),
+        Ok(Request::Test) => report(test(alloc, input, out), err),
         Err(error) => refuse(alloc, &error, out, err),
     }
 }

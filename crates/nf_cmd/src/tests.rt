@@ -6,6 +6,7 @@ mod convert;
 mod devices;
 mod failures;
 mod measure;
+mod test;
 mod texts;
 mod words;
 

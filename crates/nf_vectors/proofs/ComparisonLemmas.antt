@@ -146,3 +146,13 @@ module _ (p : Properties) where
           let fits : passes p 0 (p.compat c) ≡ false = le-ltb max_run (0 + lead p (p.compat c)) (omega (arith, few, lead-le-length p (p.compat c))) in
           let here : is_in_format p (c ∷ []) ≡ true = is_in_format-push p [] c few ∙ ap (λ b. b && not (passes p 0 (p.compat c))) (is_in_format-none p) ∙ ap not fits in
           sym (leaves-none (c ∷ []) (c ∷ []) (front-all (c ∷ []) (and_from _ _ is refl)) (place-in_format p (c ∷ []) here))
+
+  -- and no joiner stands before it
+  pub one-safe : (c : ℕ) → is_sound p c ≡ true → stream_safe p (c ∷ []) ≡ c ∷ []
+  unfolding leaves_format
+  one-safe c sound =
+      let here = and_from _ _ sound refl in
+      stream_safe-in_format (c ∷ []) here (in_format-from_place (c ∷ []) (ap (λ y. is_some (place p y)) (sym (front-all (c ∷ []) here)) ∙ leaves_is c))
+    where
+      leaves_is : (c : ℕ) → is_some (place p (sound_front p (c ∷ []))) ≡ false
+      leaves_is c = one-stays c

@@ -14,3 +14,4 @@ pub mod ReportLemmas
 pub mod SweepLemmas
 pub mod TableLemmas
 mod Examples
+pub mod PlainLemmas

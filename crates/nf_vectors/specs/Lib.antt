@@ -14,3 +14,4 @@ pub mod Sweep
 pub mod Gives
 pub mod Sinks
 pub mod Views
+pub mod Plain

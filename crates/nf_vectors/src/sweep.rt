@@ -1,11 +1,12 @@
-ghost use Rattle.std.specs.Prelude.{◌≡◌, ◌<◌, ℕ, IfOk, false, length, slice_index_or};
+ghost use Rattle.std.specs.Prelude.{IsTrue, ◌≡◌, ◌<◌, ℕ, IfOk, false, length, slice_index_or};
 ghost use Rattle.nf_vectors.specs.Sweep.{is_listed, is_unchanged};
+ghost use Rattle.nf_vectors.specs.Plain.{IsPlain};
 
 use crate::comparison::is_kept;
 use crate::encoded::Columns;
 use crate::fault::Memory;
 use crate::suite::Suite;
-use nf_row::{Form, Rows};
+use nf_row::{Form, Rows, sound_compat};
 use std::alloc::{AllocError, Global};
 
 /// The least number that is above every scalar value.
@@ -90,6 +91,9 @@ fn none_of(alloc: Global, codes: usize) -> Result<Vec<bool>, AllocError>
 fn is_unchanged<R: Rows>(rows: &R, c: char) -> bool
     ensures { result ≡ is_unchanged (R.properties rows.now) c }
 {
+    if is_plain(rows, c) {
+        return true;
+    }
     let mut room = [0; 4];
     let text = c.encode_utf8(&mut room);
     let nfc = is_kept(rows, Form::Nfc, text);
@@ -97,4 +101,20 @@ fn is_unchanged<R: Rows>(rows: &R, c: char) -> bool
     let nfkc = is_kept(rows, Form::Nfkc, text);
     let nfkd = is_kept(rows, Form::Nfkd, text);
     nfc & nfd & nfkc & nfkd
+}
+
+/// Whether `c` is a sound starter whose decompositions are `c` alone, as most characters are: no form changes it.
+fn is_plain<R: Rows>(rows: &R, c: char) -> bool
+    ensures { IsTrue result → IsPlain (R.properties rows.now) c }
+{
+    let Some(compat) = sound_compat(rows, c) else {
+        return false;
+    };
+    let Ok(canonical) = rows.canonical(c) else {
+        return false;
+    };
+    let alone = [c];
+    compat.as_slice() == alone.as_slice()
+        && canonical.as_slice() == alone.as_slice()
+        && rows.class(c) == 0
 }

@@ -59,3 +59,18 @@ impl Write for Fills {
         }
     }
 }
+
+/// A reader that gives so many line ends.
+#[derive(Debug, Drop)]
+pub(super) struct LineEnds {
+    pub(super) left: usize,
+}
+
+impl Read for LineEnds {
+    fn read(&mut self, buf: &mut [u8]) -> io::Result<usize> {
+        let len = buf.len().min(self.left);
+        buf[..len].fill(b'\n');
+        self.left -= len;
+        Ok(len)
+    }
+}

@@ -4,7 +4,7 @@ use super::{assert_shown, run};
 #[test]
 fn words_that_are_no_command_are_refused(rt: HostRuntime) {
     let alloc = rt.alloc();
-    let mistakes: [&[&str]; 17] = [
+    let mistakes: [&[&str]; 18] = [
         &["nfstream"],
         &["nfstream", "--form", "nfc"],
         &["nfstream", "normalize"],
@@ -22,6 +22,7 @@ fn words_that_are_no_command_are_refused(rt: HostRuntime) {
         &["nfstream", "check", "text"],
         &["nfstream", "measure", "--base", "1"],
         &["nfstream", "check", "measure"],
+        &["nfstream", "test", "NormalizationTest.txt"],
     ];
     for words in mistakes {
         let mut input = b"a".as_slice();
@@ -44,13 +45,14 @@ fn a_form_may_follow_an_equals_sign(rt: HostRuntime) {
 #[test]
 fn help_goes_to_the_output(rt: HostRuntime) {
     let alloc = rt.alloc();
-    let asked: [(&[&str], &str); 7] = [
+    let asked: [(&[&str], &str); 8] = [
         (&["nfstream", "--help"], "convert"),
         (&["nfstream", "-h"], "convert"),
         (&["nfstream", "help"], "convert"),
         (&["nfstream", "help"], "measure"),
         (&["nfstream", "help", "convert"], "--form <FORM>"),
         (&["nfstream", "check", "--help"], "Stream-Safe Text Format"),
+        (&["nfstream", "test", "--help"], "NormalizationTest.txt"),
         (
             &["nfstream", "convert", "--help"],
             "[possible values: nfc, nfd, nfkc, nfkd]",

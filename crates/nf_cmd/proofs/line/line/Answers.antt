@@ -13,9 +13,8 @@ returns c =
     let convert_is : app_of c.in_ok-convert.convert ≡ convert rule.0 =
     c.in_ok-convert.ensures.shape c.form.ensures.local ∙ ap₂ with_rule empty_is rule.2 in
     let top_is : app_of c.subcommand_required.result ≡ on_top (λ s. record s { subcommand_required = true }) (new_app (codes "nfstream")) = search rules in
-    let check_is : app_of c.about-check.result ≡ new_app (codes "check") = search rules in
-    let measure_is : app_of c.about-measure.result ≡ new_app (codes "measure") = search rules in
     let first = c.in_ok-line.ensures.shape (search rules) ∙ ap₂ with_subcommand top_is (ap (λ (a : App). a.top) convert_is) in
-    let second = c.in_ok-line-2.ensures.shape (search rules) ∙ ap₂ with_subcommand first (ap (λ (a : App). a.top) check_is) in
-    IfOk-weaker c.subcommand-3.result _ _
-    (λ r h. (rule.0, rule.1, h.shape (search rules) ∙ ap₂ with_subcommand second (ap (λ (a : App). a.top) measure_is))) c.subcommand-3.ensures
+    let second = c.in_ok-line-2.ensures.shape c.plain-check.ensures.local ∙ ap₂ with_subcommand first (ap (λ (a : App). a.top) c.plain-check.ensures.shape) in
+    let third = c.in_ok-line-3.ensures.shape c.plain-measure.ensures.local ∙ ap₂ with_subcommand second (ap (λ (a : App). a.top) c.plain-measure.ensures.shape) in
+    IfOk-weaker c.subcommand-4.result _ _
+    (λ r h. (rule.0, rule.1, h.shape c.plain-test.ensures.local ∙ ap₂ with_subcommand third (ap (λ (a : App). a.top) c.plain-test.ensures.shape))) c.subcommand-4.ensures

@@ -1,6 +1,7 @@
 use Rattle.std.proofs.Common.{◌∙◌, ◌&&◌, ◌∷◌, [], sym, append-nil, encode_utf8}
 use Rattle.nf_vectors.specs.Sweep.{is_unchanged}
 use Rattle.nf_vectors.proofs.ComparisonLemmas.{one-stays}
+use Rattle.nf_vectors.proofs.PlainLemmas.{unchanged-plain}
 use Rattle.nf_vectors.proofs.sweep.is_unchanged.Goals as goal
 
 pub returns : goal.returns
@@ -14,3 +15,6 @@ returns g c =
     let nfkc = c.is_kept-nfkc.ensures x is stays in
     let nfkd = c.is_kept-nfkd.ensures x is stays in
     (λ i. ((nfc i && nfd i) && nfkc i) && nfkd i)
+
+pub returns-then-is_plain : goal.returns-then-is_plain
+returns-then-is_plain g c = sym (unchanged-plain (g.R.Rows.properties c.args.rows.now) c.args.c (c.is_plain.ensures c.if-is_plain.true))

@@ -1,0 +1,86 @@
+-- What `test` reads, answers and writes: what the rows of a vector file come to (the conditions of NormalizationTest.txt).
+use Rattle.std.specs.Prelude.{◌≡◌, ◌⊎◌, ℕ, Bool, true, ◌&&◌, ◌==◌, nat_lt, List, [], ◌∷◌, ◌++◌, Option, Some, None, Result, Ok, Err, if◌then◌else◌, codes, decimal}
+use Rattle.std.specs.Fmt.{radix_digits}
+use Rattle.std.specs.Io.KnownBytes.{Appends}
+use Rattle.nf_row.specs.Properties.{Properties}
+use Rattle.nf_row.specs.declared.form.Form.{Form}
+use Rattle.nf_row.specs.declared.form.Form.TheVariants.{Nfc, Nfd, Nfkc, Nfkd}
+use Rattle.nf_vectors.specs.declared.fault.VectorFault.{VectorFault}
+use Rattle.nf_vectors.specs.declared.report.Failure.{Failure}
+use Rattle.nf_vectors.specs.declared.suite.Suite.{Suite}
+use Rattle.nf_vectors.specs.declared.sweep.Sweep.{Sweep}
+use Rattle.nf_vectors.specs.ReadsSuite.{ReadsSuite}
+use Rattle.nf_vectors.specs.Report.{report_of}
+use Rattle.nf_vectors.specs.SuiteView.{rows_of, has_part1_of}
+use Rattle.nf_vectors.specs.Sweep.{sweep_of}
+use Rattle.nf_cmd.specs.declared.fault.Fault.{Fault}
+use Rattle.nf_cmd.specs.declared.fault.Fault.TheVariants.{Write, Memory}
+use Rattle.nf_cmd.specs.declared.test.Finding.{Finding}
+use Rattle.nf_cmd.specs.Faults.{told_of_file}
+use Rattle.nf_cmd.specs.Measures.{line}
+
+abbrev pub name_of : Form → List ℕ
+name_of Nfc = codes "nfc"
+name_of Nfd = codes "nfd"
+name_of Nfkc = codes "nfkc"
+name_of Nfkd = codes "nfkd"
+
+abbrev pub failure_line : ℕ → List ℕ → ℕ → List ℕ
+failure_line n form column = codes "first failure line " ++ (decimal n ++ (codes " form " ++ (form ++ (codes " column " ++ (decimal column ++ 10 ∷ [])))))
+
+abbrev pub failure_lines : Option Failure → List ℕ
+failure_lines None = []
+failure_lines (Some f) = failure_line f.line (name_of f.form) f.column
+
+-- to at least four digits
+abbrev pub zeros_before : ℕ → List ℕ
+zeros_before n = if nat_lt n 0x10 then codes "000" else (if nat_lt n 0x100 then codes "00" else (if nat_lt n 0x1000 then codes "0" else []))
+
+abbrev pub first_lines : Option ℕ → List ℕ
+first_lines None = []
+first_lines (Some c) = codes "first unlisted U+" ++ (zeros_before c ++ (radix_digits 16 true c ++ 10 ∷ []))
+
+abbrev pub sweep_lines : Option Sweep → List ℕ
+sweep_lines None = []
+sweep_lines (Some s) = (line (codes "unlisted") s.unlisted ++ line (codes "unlisted failed") s.failed) ++ first_lines s.first
+
+-- what the rows come to, and where the file has a Part 1 the characters that this does not list
+abbrev pub finding_of : Properties → Suite → Finding
+finding_of p suite = record { report = report_of p (rows_of suite); sweep = if has_part1_of suite then Some (sweep_of p (rows_of suite)) else None }
+
+abbrev pub finding_lines : Result Finding Fault → List ℕ
+finding_lines (Ok f) =
+    ((((line (codes "rows") f.report.rows
+    ++ line (codes "passed") f.report.passed)
+    ++ line (codes "failed") f.report.failed)
+    ++ line (codes "skipped") f.report.skipped)
+    ++ failure_lines f.report.first_failure)
+    ++ sweep_lines f.sweep
+finding_lines (Err fault) = []
+
+-- what comes of the file that was read: nothing where it was refused, or where memory ran out over its rows
+abbrev pub Finds : Properties → Result Suite VectorFault → Result Finding Fault → Type 0
+Finds p (Ok suite) (Ok finding) = finding ≡ finding_of p suite
+Finds p (Ok suite) (Err fault) = fault ≡ Memory
+Finds p (Err refused) (Ok finding) = ⊥
+Finds p (Err refused) (Err fault) = fault ≡ told_of_file refused
+
+-- no row failed, and no character that is not listed
+abbrev pub is_clean_sweep : Option Sweep → Bool
+is_clean_sweep None = true
+is_clean_sweep (Some s) = s.failed == 0
+
+abbrev pub finding_end : Result Finding Fault → Result ℕ Fault
+finding_end (Ok f) = Ok (if (f.report.failed == 0) && is_clean_sweep f.sweep then 0 else 1)
+finding_end (Err fault) = Err fault
+
+-- over what the input has still to give and what the output has taken, before and after, where they tell it
+pub record Tests (p : Properties) (coming left taken now : Option (List ℕ)) (found : Result ℕ Fault) : Type 0 where
+  pub suite : Result Suite VectorFault
+  pub at_end : Bool
+  pub failed : Bool
+  pub reads : ReadsSuite coming left at_end failed suite
+  pub finding : Result Finding Fault
+  pub finds : Finds p suite finding
+  pub output : ¬ (found ≡ Err Write) → Appends taken now (finding_lines finding)
+  pub found_is : (found ≡ finding_end finding) ⊎ (found ≡ Err Write)
