@@ -1,5 +1,5 @@
 use super::parts::{FORMS, Kept};
-use crate::Filter;
+use crate::{Filter, FromReader, run};
 use nf_row::{Form, Ucd, sound};
 use std::alloc::{AllocError, Global};
 use std::test::Fail;
@@ -15,14 +15,11 @@ fn whole_form(alloc: Global, form: Form, text: &str) -> Result<String, AllocErro
     }
 }
 
-/// Whether the filter makes of the text what the kit makes of it.
+/// Whether `run` makes of the text what the kit makes of it.
 fn agrees(alloc: Global, form: Form, text: &str) -> Result<bool, AllocError> {
     let mut sink = Kept::new(alloc);
-    let mut filter = Filter::new(&Ucd, form, 0);
-    if filter.feed(text.as_bytes(), &mut sink).is_err() {
-        return Ok(false);
-    }
-    if filter.finish(&mut sink).is_err() {
+    let mut source = FromReader::new(text.as_bytes());
+    if run(&Ucd, form, 0, &mut source, &mut sink).is_err() {
         return Ok(false);
     }
     let whole = whole_form(alloc, form, text)?;
