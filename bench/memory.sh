@@ -4,23 +4,11 @@
 # Needs GNU time (Debian's package time). Ends with status 1 where memory grows with the stream, or a program does not take all of it.
 set -uo pipefail
 bench=$(cd "$(dirname "$0")" && pwd)
-program=${1:-$bench/../nfstream}
 mib=${2:-1024}
 most_growth=1024 # KiB: what one run and another of a program that holds nothing may differ by
 
-say() { echo "memory.sh: $*" >&2; }
-
-if [ ! -x /usr/bin/time ]; then
-    say "/usr/bin/time is needed (Debian's package time)"
-    exit 2
-fi
-if [ ! -f "$program" ] || [ ! -x "$program" ]; then
-    say "there is no program $program: build it by 'bash build.sh', or name one"
-    exit 2
-fi
-program=$(realpath "$program")
-scratch=$(mktemp -d)
-trap 'rm -rf "$scratch"' EXIT
+. "$bench/setup.sh"
+need /usr/bin/time "Debian's package time"
 
 # A block of about 1 MiB is given again and again: marks alone, or text in the stream-safe format.
 repeat() { # repeat TEXT TIMES

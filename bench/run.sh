@@ -4,22 +4,10 @@
 # Needs python3 (3.10 or later). A peer that can't be built is left out. Nothing is left behind.
 set -euo pipefail
 bench=$(cd "$(dirname "$0")" && pwd)
-program=${1:-$bench/../nfstream}
 registry=/usr/share/cargo/registry
 
-say() { echo "run.sh: $*" >&2; }
-
-if ! command -v python3 > /dev/null; then
-    say "python3 is needed"
-    exit 2
-fi
-if [ ! -f "$program" ] || [ ! -x "$program" ]; then
-    say "there is no program $program: build it by 'bash build.sh', or name one"
-    exit 2
-fi
-program=$(realpath "$program")
-scratch=$(mktemp -d)
-trap 'rm -rf "$scratch"' EXIT
+. "$bench/setup.sh"
+need python3
 
 # build_NAME leaves a peer at $scratch/NAME, and version_NAME says what it is. Cargo writes nothing outside of $scratch.
 build_rust() {
