@@ -1,11 +1,9 @@
 -- The characters of a source, and what stops their reading.
-use Rattle.std.proofs.Common.{◌≡◌, ◌==◌, eq-eqb, ℕ, ◌+◌, ◌-◌, ◌<◌, ◌≤◌, ◌^◌, Bool, true, false, List, [], ◌∷◌, ◌++◌, length, drop, Some, None, Ok, Err, refl, sym, ap, ◌∙◌, subst, arith, append_assoc, append-nil, inl, inr, ⊎_elim}
-use Rattle.std.specs.Prelude.{if◌then◌else◌, Option, encode_utf8_all}
-use Rattle.std.specs.Str.{chars}
-use Rattle.std.proofs.lemmas.List.{length-append, length-take-le, take-append-drop, take-take, take_all}
-use Rattle.std.proofs.lemmas.Str.{chars-nil, utf8_valid_len_le}
+use Rattle.std.proofs.Common.{◌≡◌, ℕ, ◌+◌, ◌-◌, ◌<◌, ◌≤◌, ◌^◌, Bool, true, false, List, [], ◌∷◌, ◌++◌, length, drop, Some, None, Ok, Err, refl, sym, ap, ◌∙◌, subst, arith, append_assoc, append-nil, inl, inr, ⊎_elim}
+use Rattle.std.specs.Prelude.{Option, encode_utf8_all}
+use Rattle.std.proofs.lemmas.List.{length-append, length-take-le, take-append-drop, take-take}
 use Rattle.nf_utf8.specs.Ending.{Ending, Whole, Bad, Cut}
-use Rattle.nf_utf8.specs.Reading.{text_len, text_of, begun_len, ending_of}
+use Rattle.nf_utf8.specs.Reading.{text_len, text_of, ending_of}
 use Rattle.nf_utf8.specs.Laws.{SplitsBytes, ReadsPieces}
 use Rattle.nf_utf8.specs.Standing.{StandsAfter as DecoderStandsAfter}
 use Rattle.nf_filter.specs.declared.bytes.Bytes.{Bytes}
@@ -18,16 +16,6 @@ use Rattle.nf_filter.specs.Bytes.{SourceState, piece_of, taken_of, HasGiven, Tak
 use Rattle.nf_filter.specs.Characters.{bytes_given, bytes_read, HasRead, Seam, Gives, StoppedBy, Stops}
 use Rattle.nf_filter.proofs.DriveLemmas.{Consumes-none, Consumes-join}
 use Rattle.nf_filter.proofs.ReadingLemmas.{text_len-whole}
-
--- no bytes spell nothing
-pub text_of-none : text_of [] ≡ []
-unfolding text_of
-text_of-none = ap chars (take_all (text_len []) [] (omega arith)) ∙ chars-nil
-
-pub ending_of-none : ending_of [] ≡ Whole
-unfolding ending_of
-ending_of-none = ap (λ b. if b then Whole else (if begun_len [] == length {A = ℕ} [] then Cut (begun_len []) (text_len []) else Bad (begun_len []) (text_len [])))
-    (eq-eqb (text_len []) 0 (omega (arith, utf8_valid_len_le [])))
 
 pub Gives-none : (base : ℕ) (chars : Characters) (before : List ℕ) (source : SourceState) → HasRead base chars before source → Gives base chars chars before source source []
 Gives-none base chars before source has = record {

@@ -1,8 +1,10 @@
 -- Bytes read one behind the other.
-use Rattle.std.proofs.Common.{◌≡◌, ℕ, ◌+◌, ◌==◌, Bool, true, false, List, [], ◌∷◌, ◌++◌, length, Some, Err, refl, sym, ap, ◌∙◌, subst, arith, append-nil}
+use Rattle.std.proofs.Common.{◌≡◌, ℕ, ◌+◌, ◌==◌, Bool, true, false, List, [], ◌∷◌, ◌++◌, length, Some, Err, refl, sym, ap, ◌∙◌, subst, arith, append-nil, eq-eqb}
 use Rattle.std.specs.Prelude.{if◌then◌else◌, encode_utf8_all}
+use Rattle.std.specs.Str.{chars}
 use Rattle.std.proofs.lemmas.Bool.{eqb-true}
-use Rattle.std.proofs.lemmas.List.{length-append}
+use Rattle.std.proofs.lemmas.List.{length-append, take_all}
+use Rattle.std.proofs.lemmas.Str.{chars-nil, utf8_valid_len_le}
 use Rattle.nf_row.specs.Properties.{Properties}
 use Rattle.nf_row.specs.declared.form.Form.{Form}
 use Rattle.nf_utf8.specs.declared.decoder.Decoder.{Decoder}
@@ -22,6 +24,16 @@ use Rattle.nf_filter.specs.Reading.{settled_utf8, HasRead, Reads}
 use Rattle.nf_filter.proofs.WritesLemmas.{Puts-none, Puts-join, Puts-at, Stops-join, Stops-at}
 use Rattle.nf_filter.proofs.SettledLemmas.{Extends, Extends-encodes, settled-extends, is_usable-stays_out, usable-all, usable-stop, usable-grows, usable-stays}
 use Rattle.nf_filter.proofs.PushingLemmas.{Stops-extends}
+
+-- no bytes spell nothing
+pub text_of-none : text_of [] ≡ []
+unfolding text_of
+text_of-none = ap chars (take_all (text_len []) [] (omega arith)) ∙ chars-nil
+
+pub ending_of-none : ending_of [] ≡ Whole
+unfolding ending_of
+ending_of-none = ap (λ b. if b then Whole else (if begun_len [] == length {A = ℕ} [] then Cut (begun_len []) (text_len []) else Bad (begun_len []) (text_len [])))
+    (eq-eqb (text_len []) 0 (omega (arith, utf8_valid_len_le [])))
 
 pub text_len-whole : (bytes : List ℕ) → ending_of bytes ≡ Whole → text_len bytes ≡ length bytes
 unfolding ending_of

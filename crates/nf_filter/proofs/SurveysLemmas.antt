@@ -15,7 +15,8 @@ use Rattle.nf_filter.specs.Bytes.{SourceState, piece_of}
 use Rattle.nf_filter.specs.Characters.{bytes_given, bytes_read, HasRead, Seam, Gives, Stops}
 use Rattle.nf_filter.specs.Surveys.{answer_at_end, Surveys, IsOfSurvey}
 use Rattle.nf_filter.proofs.DriveLemmas.{Consumes-none, Consumes-join}
-use Rattle.nf_filter.proofs.CharactersLemmas.{given_split, piece_fits, text_of-none, ending_of-none}
+use Rattle.nf_filter.proofs.ReadingLemmas.{text_of-none, ending_of-none}
+use Rattle.nf_filter.proofs.CharactersLemmas.{given_split, piece_fits}
 
 -- the characters x were read, and what was read up to the last piece decides nothing
 pub record Going {T : Type 0} (base : ℕ) (decision : List ℕ → Option (Result T Fault)) (chars : Characters) (source left : SourceState) (x : List ℕ) : Type 0 where

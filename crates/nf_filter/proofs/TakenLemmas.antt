@@ -110,14 +110,8 @@ module _ (p : Properties) where
   abbrev counting : Taken → ℕ → Taken
   counting taken c = record taken { counter = count_step p taken.counter (p.compat c) }
 
-  -- what the counter says of the row of c
-  pub passes-is : (taken : Taken) (c : ℕ) (row : List ℕ) (answer is : Bool) → row ≡ p.compat c → answer ≡ passes p taken.counter row → answer ≡ is
-      → passes p taken.counter (p.compat c) ≡ is
-  passes-is taken c row answer is same says e = ap (passes p taken.counter) (sym same) ∙ sym says ∙ e
-
-  pub counting-is : (taken : Taken) (c n : ℕ) (row : List ℕ) → row ≡ p.compat c → n ≡ count_step p taken.counter row
-      → record taken { counter = n } ≡ counting taken c
-  counting-is taken c n row same counts = ap (λ m. record taken { counter = m }) (counts ∙ ap (count_step p taken.counter) same)
+  pub counting-is : (taken : Taken) (c n : ℕ) → n ≡ count_step p taken.counter (p.compat c) → record taken { counter = n } ≡ counting taken c
+  counting-is taken c n counts = ap (λ m. record taken { counter = m }) counts
 
   -- there is room without a joiner
   pub HasRoom-without : (taken new : Taken) (c : ℕ) → IsWithin taken → is_sound p c ≡ true → passes p taken.counter (p.compat c) ≡ false

@@ -5,7 +5,7 @@ ghost use Rattle.nf_row.specs.Forms.{row_of};
 use crate::devices::{Failed, Sink};
 use crate::pushing::{end, push, push_row};
 use nf_pending::Pending;
-use nf_row::{Form, JOINER, Row, Rows, sound, sound_compat};
+use nf_row::{Form, JOINER, Row, Rows, SoundRow, sound, sound_row};
 use nf_safe::Counter;
 
 /// Why a character was not taken.
@@ -31,6 +31,7 @@ impl Taken {
     ghost use Rattle.std.specs.Prelude.{◌≡◌, ◌+◌, ◌<◌, ◌≤◌, ℕ, List, [], ◌∷◌, ◌++◌, if◌then◌else◌, IsTrue, IfOk, OnOk, MatchResult, encode_utf8_all};
     ghost use Rattle.nf_row.specs.Properties.{Properties};
     ghost use Rattle.nf_row.specs.Runs.{has_starter, trail};
+    ghost use Rattle.nf_row.specs.Ends.{HasEnds};
     ghost use Rattle.nf_row.specs.declared.form.Form.{Form};
     ghost use Rattle.nf_row.specs.Forms.{row_of, decomposed};
     ghost use Rattle.nf_row.specs.StreamSafe.{stream_safe};
@@ -67,10 +68,10 @@ impl Taken {
             (f : Form) (x : List ℕ) → HasTaken f p self.old x → Takes f p self.new old new x c result }
         ensures lender { S.lender sink.new ≡ S.lender sink.old }
     {
-        let Some(compat) = sound_compat(rows, c) else {
+        let Some(read) = sound_row(rows, self.form, c) else {
             return Err(Stop::Unsound);
         };
-        let row = match self.part(rows, c, compat, sink) {
+        let row = match self.part(rows, c, read, sink) {
             Ok(row) => row,
             Err(stop) => return Err(stop),
         };
@@ -81,16 +82,18 @@ impl Taken {
         }
     }
 
-    /// Counts the sound character `c`, of which `compat` is the compatibility decomposition, puts U+034F before it where
-    /// it would make a run too long, and answers the decomposition that the form asks for. One is kept at a time.
+    /// Counts the sound character `c`, of which `read` was read, puts U+034F before it where it would make a run too
+    /// long, and answers the decomposition that the form asks for. Where U+034F is put, whose own decompositions are read
+    /// for it, that of `c` is dropped first and looked up again behind it: one is held at a time.
     fn part<R: Rows, S: Sink>(
         &mut self,
         rows: &R,
         c: char,
-        compat: Row,
+        read: SoundRow,
         sink: &mut S,
     ) -> Result<Row, Stop>
-        requires row { compat.items ≡ (R.properties rows.now).compat c }
+        requires row { read.row.items ≡ row_of self.old.form (R.properties rows.now) c }
+        requires compat { HasEnds (R.properties rows.now) ((R.properties rows.now).compat c) read.compat }
         requires sound { IsTrue (is_sound (R.properties rows.now) c) }
         requires within { IsWithin self.old }
         requires chars { self.old.chars < u64.MAX }
@@ -103,11 +106,11 @@ impl Taken {
             (f : Form) (x : List ℕ) → HasTaken f p self.old x → Parts f p self.new old new x c result }
         ensures lender { S.lender sink.new ≡ S.lender sink.old }
     {
-        let is_full = self.counter.step(rows, &compat);
+        let is_full = self.counter.step_by(read.compat);
         if !is_full {
-            return Ok(row_with(self.form, rows, c, compat));
+            return Ok(read.row);
         }
-        drop(compat);
+        drop(read);
         match self.put_joiner(rows, sink) {
             Ok(()) => Ok(row_of(self.form, rows, c)),
             Err(stop) => Err(stop),
@@ -155,23 +158,6 @@ impl Taken {
         ensures lender { S.lender sink.new ≡ S.lender sink.old }
     {
         end(self.pending, rows, sink)
-    }
-}
-
-/// The decomposition of the sound character `c` that the form asks for, where `compat` is its compatibility
-/// decomposition.
-#[inline]
-fn row_with<R: Rows>(form: Form, rows: &R, c: char, compat: Row) -> Row
-    requires sound { IsTrue (is_sound (R.properties rows.now) c) }
-    requires row { compat.items ≡ (R.properties rows.now).compat c }
-    ensures { result.items ≡ row_of form (R.properties rows.now) c }
-{
-    match form {
-        Form::Nfc | Form::Nfd => {
-            drop(compat);
-            row_of(form, rows, c)
-        }
-        Form::Nfkc | Form::Nfkd => compat,
     }
 }
 

@@ -1,3 +1,3 @@
 mod Examples
 mod FormsOfTexts
-pub mod ShapeLemmas
+pub mod EndsLemmas

@@ -10,5 +10,6 @@ pub mod Sound
 pub mod Ucd
 pub mod Changes
 pub mod Patched
+pub mod Ends
 pub mod Shape
 pub mod Laws

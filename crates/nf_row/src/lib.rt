@@ -6,6 +6,7 @@
 #![tactic(auto)]
 
 mod composites;
+mod ends;
 mod form;
 mod joiner;
 pub mod laws;
@@ -19,11 +20,12 @@ mod ucd;
 mod unsound;
 
 pub use composites::composite;
+pub use ends::Ends;
 pub use form::Form;
 pub use joiner::JOINER;
 pub use patched::{Change, Patched};
 pub use rows::{Long, Row, Rows};
 pub use runs::{has_starter, lead, trail};
-pub use soundness::{sound, sound_compat};
+pub use soundness::{SoundRow, sound, sound_compat, sound_row};
 pub use ucd::Ucd;
 pub use unsound::{Rule, Unsound};

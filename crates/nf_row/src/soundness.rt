@@ -1,19 +1,30 @@
-ghost use Rattle.std.specs.Prelude.{◌≡◌, ◌==◌, ◌<◌, ◌&&◌, is_some, IfSome};
+ghost use Rattle.std.specs.Prelude.{◌≡◌, ◌==◌, ◌&&◌, is_some, IfSome};
 ghost use Rattle.nf_row.specs.StreamSafe.{joiner};
+ghost use Rattle.nf_row.specs.Forms.{row_of};
+ghost use Rattle.nf_row.specs.Ends.{HasEnds};
 ghost use Rattle.nf_row.specs.Shape.{IsShapeOf, shapes_agree};
 ghost use Rattle.nf_row.specs.Sound.{is_sound};
 
+use crate::ends::Ends;
+use crate::form::Form;
 use crate::joiner::JOINER;
 use crate::rows::{Row, Rows};
+
+/// What is read of a sound character.
+#[derive(Debug, Drop)]
+pub struct SoundRow {
+    /// The decomposition that the form asks for.
+    pub row: Row,
+    /// The ends of the compatibility decomposition.
+    pub compat: Ends,
+}
 
 /// What soundness asks of one row.
 #[derive(Clone, Copy)]
 struct Shape {
     is_empty: bool,
     is_joiner: bool,
-    has_starter: bool,
-    lead: usize,
-    trail: usize,
+    ends: Ends,
 }
 
 /// Whether `c` is sound: both rows have 1 to 18 members, the canonical row begins and ends with no more non-starters
@@ -22,23 +33,57 @@ struct Shape {
 pub fn sound<R: Rows>(rows: &R, c: char) -> bool
     ensures { result ≡ is_sound (R.properties rows.now) c }
 {
-    sound_compat(rows, c).is_some()
+    sound_row(rows, Form::Nfkd, c).is_some()
 }
 
-/// The compatibility row of a sound character, and none of any other: `sound` reads that row last, so a caller that
-/// goes on with it does not look it up again.
+/// The compatibility row of a sound character, and none of any other.
 pub fn sound_compat<R: Rows>(rows: &R, c: char) -> Option<Row>
     ensures sound { is_some result ≡ is_sound (R.properties rows.now) c }
     ensures row { IfSome result (λ row. row.items ≡ (R.properties rows.now).compat c) }
 {
-    let canonical = shape_of(rows, &rows.canonical(c).ok()?);
-    let row = rows.compat(c).ok()?;
-    let compat = shape_of(rows, &row);
-    if agree(canonical, compat) && (c != JOINER || is_plain(rows, canonical, compat)) {
-        Some(row)
+    sound_row(rows, Form::Nfkd, c).map(|read| read.row)
+}
+
+/// The row of a sound character that the form asks for, with the ends of its compatibility row, and none of any other
+/// character. Each row is read once, and that row last: so a caller that goes on with it does not look it up again, and
+/// one row is held at a time.
+pub fn sound_row<R: Rows>(rows: &R, form: Form, c: char) -> Option<SoundRow>
+    ensures sound { is_some result ≡ is_sound (R.properties rows.now) c }
+    ensures row { IfSome result (λ read. read.row.items ≡ row_of form (R.properties rows.now) c) }
+    ensures compat { IfSome result (λ read. HasEnds (R.properties rows.now) ((R.properties rows.now).compat c) read.compat) }
+{
+    let (row, canonical, compat) = match form {
+        Form::Nfc | Form::Nfd => {
+            let compat = shape_of(rows, &rows.compat(c).ok()?);
+            let row = rows.canonical(c).ok()?;
+            let canonical = shape_of(rows, &row);
+            (row, canonical, compat)
+        }
+        Form::Nfkc | Form::Nfkd => {
+            let canonical = shape_of(rows, &rows.canonical(c).ok()?);
+            let row = rows.compat(c).ok()?;
+            let compat = shape_of(rows, &row);
+            (row, canonical, compat)
+        }
+    };
+    if are_sound(rows, c, canonical, compat) {
+        Some(SoundRow {
+            row,
+            compat: compat.ends,
+        })
     } else {
         None
     }
+}
+
+/// Whether `c` is sound, whose canonical and compatibility rows have these shapes.
+#[inline]
+fn are_sound<R: Rows>(rows: &R, c: char, canonical: Shape, compat: Shape) -> bool
+    requires canonical { IsShapeOf (R.properties rows.now) ((R.properties rows.now).canonical c) canonical }
+    requires compat { IsShapeOf (R.properties rows.now) ((R.properties rows.now).compat c) compat }
+    ensures { result ≡ is_sound (R.properties rows.now) c }
+{
+    agree(canonical, compat) && (c != JOINER || is_plain(rows, canonical, compat))
 }
 
 /// Whether two rows of at most 18 members may be the canonical and the compatibility row of a sound character.
@@ -48,9 +93,9 @@ fn agree(canonical: Shape, compat: Shape) -> bool
 {
     !canonical.is_empty
         && !compat.is_empty
-        && canonical.lead <= compat.lead
-        && canonical.trail <= compat.trail
-        && (canonical.has_starter || !compat.has_starter)
+        && canonical.ends.lead <= compat.ends.lead
+        && canonical.ends.trail <= compat.ends.trail
+        && (canonical.ends.has_starter || !compat.ends.has_starter)
 }
 
 /// Whether the joiner, with these rows, is a starter that is its own row.
@@ -62,42 +107,13 @@ fn is_plain<R: Rows>(rows: &R, canonical: Shape, compat: Shape) -> bool
 }
 
 /// One look at the class of each member.
+#[inline]
 fn shape_of<R: Rows>(rows: &R, row: &Row) -> Shape
     ensures { IsShapeOf (R.properties rows.now) row.now.items result }
 {
-    let mut shape = Shape {
+    Shape {
         is_empty: row.is_empty(),
         is_joiner: row.as_slice() == [JOINER].as_slice(),
-        has_starter: false,
-        lead: 0,
-        trail: 0,
-    };
-    for c in row.as_slice() {
-        shape = shape.and(rows.class(*c) == 0);
-    }
-    shape
-}
-
-impl Shape {
-    ghost use Rattle.nf_row.specs.Shape.{shape_and};
-
-    /// The shape with one member more behind.
-    #[inline]
-    fn and(self, is_starter: bool) -> Shape
-        requires lead { self.lead < usize.MAX }
-        requires trail { self.trail < usize.MAX }
-        ensures { result ≡ shape_and self is_starter }
-    {
-        let has_starter = self.has_starter || is_starter;
-        Shape {
-            has_starter,
-            lead: if has_starter {
-                self.lead
-            } else {
-                self.lead + 1
-            },
-            trail: if is_starter { 0 } else { self.trail + 1 },
-            ..self
-        }
+        ends: Ends::of_row(rows, row),
     }
 }

@@ -81,27 +81,24 @@ module _ (p : Properties) (old : Measurer) (x : List ℕ) (c : ℕ) (before : St
       length-safe_with true = omega (arith, length-append (stream_safe p x ++ joiner ∷ []) (c ∷ []), length-append (stream_safe p x) (joiner ∷ []))
       length-safe_with false = omega (arith, length-append (stream_safe p x) (c ∷ []))
 
-  pub goes_on : (new : Measurer) (row : List ℕ) (b : Bool) → is_sound p c ≡ true → row ≡ p.compat c → passes p old.counter row ≡ b → (b ≡ true → is_sound p joiner ≡ true)
-      → new.counter ≡ count_step p old.counter row → HasRuns p new.runs (decomposed Nfkd p x ++ row)
+  pub goes_on : (new : Measurer) (b : Bool) → is_sound p c ≡ true → passes p old.counter (p.compat c) ≡ b → (b ≡ true → is_sound p joiner ≡ true)
+      → new.counter ≡ count_step p old.counter (p.compat c) → HasRuns p new.runs (decomposed Nfkd p x ++ p.compat c)
       → new.bytes ≡ old.bytes + length (encode_utf8 c) → new.chars ≡ old.chars + 1 → new.put ≡ old.put + cond b 1 0
       → new.unassigned ≡ old.unassigned + cond (not (p.assigned c)) 1 0 → StandsAfter p new (x ++ c ∷ [])
-  goes_on new row b sound row_is answer joins count runs bytes chars put unassigned = record {
-    sound = ap (λ o. list_all (is_sound p) o) (safe_is b passes_is) ∙ stays_sound b sound joins;
+  goes_on new b sound answer joins count runs bytes chars put unassigned = record {
+    sound = ap (λ o. list_all (is_sound p) o) (safe_is b answer) ∙ stays_sound b sound joins;
     values = same_values
         (omega (arith, bytes, ap (λ m. m.bytes) before.values, ap length (encodes-append x (c ∷ [])), length-append (encode_utf8_all x) (encode_utf8 c ++ []), length-append (encode_utf8 c) []))
         (omega (arith, chars, ap (λ m. m.chars) before.values, length-append x (c ∷ [])))
         runs_are.nonstarters
         (runs_are.longest ∙ sym (longest-order p (decomposed Nfkd p (x ++ c ∷ []))))
-        (put ∙ sym (put_is b passes_is))
+        (put ∙ sym (put_is b answer))
         (unassigned ∙ ap (λ n. n + cond (not (p.assigned c)) 1 0) (ap (λ m. m.unassigned) before.values) ∙ sym (sum_by_push (λ d. cond (not (p.assigned d)) 1 0) x c));
-    count = count ∙ ap (λ k. count_step p old.counter k) row_is ∙ ap (λ n. count_step p n (p.compat c)) before.count
-        ∙ sym (trail-decomposed-safe_step p (stream_safe p x) c (λ long. JoinerIsPlain-from_sound p (joins (sym (long_is b passes_is) ∙ long))))
+    count = count ∙ ap (λ n. count_step p n (p.compat c)) before.count
+        ∙ sym (trail-decomposed-safe_step p (stream_safe p x) c (λ long. JoinerIsPlain-from_sound p (joins (sym (long_is b answer) ∙ long))))
         ∙ ap (λ o. trail p (decomposed Nfkd p o)) (sym (stream_safe-push p x c));
     runs = runs_are;
   }
     where
-      passes_is : passes p old.counter (p.compat c) ≡ b
-      passes_is = ap (passes p old.counter) (sym row_is) ∙ answer
-
       runs_are : HasRuns p new.runs (decomposed Nfkd p (x ++ c ∷ []))
-      runs_are = subst (HasRuns p new.runs) (ap (λ k. decomposed Nfkd p x ++ k) row_is ∙ sym (decomposed-push p Nfkd x c)) runs
+      runs_are = subst (HasRuns p new.runs) (sym (decomposed-push p Nfkd x c)) runs

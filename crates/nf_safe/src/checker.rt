@@ -2,7 +2,7 @@ ghost use Rattle.std.specs.Prelude.{◌≤◌};
 
 use crate::counter::Counter;
 use crate::place::Place;
-use nf_row::{Rows, Rule, Unsound, sound_compat};
+use nf_row::{Form, Rows, Rule, Unsound, sound_row};
 
 /// Finds where a text leaves the Stream-Safe Text Format, character by character.
 #[derive(Clone, Copy, Debug)]
@@ -60,10 +60,10 @@ impl Checker {
         if self.is_over {
             return Ok(Some(self.reached));
         }
-        let Some(k) = sound_compat(rows, c) else {
+        let Some(read) = sound_row(rows, Form::Nfkd, c) else {
             return Err(Unsound { c, rule: Rule::A1 });
         };
-        if self.counter.step(rows, &k) {
+        if self.counter.step_by(read.compat) {
             self.is_over = true;
             return Ok(Some(self.reached));
         }

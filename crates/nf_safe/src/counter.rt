@@ -1,10 +1,11 @@
 ghost use Rattle.std.specs.Prelude.{◌≡◌, ◌≤◌, List, ℕ, [], ◌∷◌, ◌++◌};
 ghost use Rattle.nf_row.specs.Properties.{Properties};
+ghost use Rattle.nf_row.specs.Ends.{HasEnds};
 ghost use Rattle.nf_row.specs.StreamSafe.{max_run};
 ghost use Rattle.nf_safe.specs.Count.{passes, count_step};
 ghost use Rattle.nf_safe.specs.Counter.{StandsAfter};
 
-use nf_row::{Row, Rows, lead, trail};
+use nf_row::{Ends, Row, Rows};
 use std::marker::Model;
 
 /// How many non-starters a run may have (UAX #15, section 13).
@@ -46,14 +47,24 @@ impl Counter {
         ensures stands { (ks : List (List ℕ)) → StandsAfter (R.properties rows.now) self.old ks
             → StandsAfter (R.properties rows.now) self.new (ks ++ k.now.items ∷ []) }
     {
-        let lead = lead(rows, k);
-        let begins_anew = self.count as usize + lead > MAX_RUN;
-        self.count = if lead < k.len() {
-            trail(rows, k) as u8
+        self.step_by(Ends::of_row(rows, k))
+    }
+
+    /// The same for a row of which `k` are the ends: they are all that a step asks of it.
+    #[inline]
+    pub fn step_by(&mut self, k: Ends) -> bool
+        ensures answer { (p : Properties) (row : List ℕ) → HasEnds p row k → result ≡ passes p self.old row }
+        ensures count { (p : Properties) (row : List ℕ) → HasEnds p row k → self.new ≡ count_step p self.old row }
+        ensures stands { (p : Properties) (row : List ℕ) → HasEnds p row k → (rows : List (List ℕ)) → StandsAfter p self.old rows
+            → StandsAfter p self.new (rows ++ row ∷ []) }
+    {
+        let begins_anew = self.count as usize + k.lead > MAX_RUN;
+        self.count = if k.has_starter {
+            k.trail as u8
         } else if begins_anew {
-            lead as u8
+            k.lead as u8
         } else {
-            self.count + lead as u8
+            self.count + k.lead as u8
         };
         begins_anew
     }

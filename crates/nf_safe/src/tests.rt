@@ -1,6 +1,6 @@
 use crate::{Checker, Counter, Measure, Measurer, Place};
 use nf_row::Change::{Class, Compat};
-use nf_row::{Patched, Rows, Rule, Ucd, Unsound};
+use nf_row::{Ends, Patched, Rows, Rule, Ucd, Unsound};
 use std::test::Fail;
 
 const MARK: char = '\u{301}';
@@ -68,6 +68,34 @@ fn a_starter_needs_no_joiner(rt: HostRuntime) {
     assert_eq!(rt; counter.count(), 30);
     assert_eq!(rt; step(&mut counter, &Ucd, 'q'), Some(false));
     assert_eq!(rt; counter.count(), 0);
+}
+
+#[test]
+fn a_row_counts_by_its_ends(rt: HostRuntime) -> Result<(), Fail> {
+    let changes = [
+        Compat('v', &[MARK; 12]),
+        Compat('x', &[MARK, MARK, 'y', MARK]),
+        Compat('z', &[MARK; 18]),
+    ];
+    let rows = Patched::new(&changes);
+    let steps = [
+        ('q', false, 0),
+        ('z', false, 18),
+        ('z', true, 18),
+        ('v', false, 30),
+        ('x', true, 1),
+        ('x', false, 1),
+        ('\u{C5}', false, 1),
+        (MARK, false, 2),
+    ];
+    let (mut by_row, mut by_ends) = (Counter::new(), Counter::new());
+    for (c, answer, count) in steps {
+        let k = rows.compat(c).ok().ok_or("too long")?;
+        assert_eq!(rt; by_row.step(&rows, &k), answer);
+        assert_eq!(rt; by_ends.step_by(Ends::of_row(&rows, &k)), answer);
+        assert_eq!(rt; (by_row.count(), by_ends.count()), (count, count));
+    }
+    Ok(())
 }
 
 #[test]

@@ -1,8 +1,8 @@
 use super::parts::{Broken, broken_parts};
 use crate::Change::{Assigned, Canonical, Class, Compat, Pair};
 use crate::{
-    Change, JOINER, Long, Patched, Rows, Ucd, composite, has_starter, lead, sound, sound_compat,
-    trail,
+    Change, Ends, Form, JOINER, Long, Patched, Rows, Ucd, composite, has_starter, lead, sound,
+    sound_compat, sound_row, trail,
 };
 use std::test::Fail;
 
@@ -142,6 +142,11 @@ fn the_first_change_that_names_its_argument_answers(rt: HostRuntime) {
     );
 }
 
+/// Whether there is a starter, and the non-starters at the beginning and at the end.
+fn numbers(ends: Ends) -> (bool, usize, usize) {
+    (ends.has_starter, ends.lead, ends.trail)
+}
+
 #[test]
 fn runs_of_a_row(rt: HostRuntime) -> Result<(), Fail> {
     let changes = [
@@ -158,6 +163,7 @@ fn runs_of_a_row(rt: HostRuntime) -> Result<(), Fail> {
         ),
         (2, 1, true)
     );
+    assert_eq!(rt; numbers(Ends::of_row(&rows, &row)), (true, 2, 1));
     let marks = rows.compat('y').ok().ok_or("too long")?;
     assert_eq!(rt;
         (
@@ -167,6 +173,7 @@ fn runs_of_a_row(rt: HostRuntime) -> Result<(), Fail> {
         ),
         (2, 2, false)
     );
+    assert_eq!(rt; numbers(Ends::of_row(&rows, &marks)), (false, 2, 2));
     Ok(())
 }
 
@@ -186,5 +193,32 @@ fn a_sound_character_comes_with_its_compatibility_row(rt: HostRuntime) -> Result
     assert_eq!(rt; row.as_slice(), ['\u{308}', MARK].as_slice());
     let long = [Compat('x', &NINETEEN)];
     assert!(rt; sound_compat(&Patched::new(&long), 'x').is_none());
+    Ok(())
+}
+
+#[test]
+fn a_sound_character_comes_with_the_row_of_the_form(rt: HostRuntime) -> Result<(), Fail> {
+    // U+0344 is two marks in each form; U+00A8 and U+FF9E are their own canonical rows.
+    let cases: [(Form, char, &[char], (bool, usize, usize)); 8] = [
+        (Form::Nfc, '\u{344}', &['\u{308}', MARK], (false, 2, 2)),
+        (Form::Nfkc, '\u{344}', &['\u{308}', MARK], (false, 2, 2)),
+        (Form::Nfc, '\u{A8}', &['\u{A8}'], (true, 0, 1)),
+        (Form::Nfd, '\u{A8}', &['\u{A8}'], (true, 0, 1)),
+        (Form::Nfkc, '\u{A8}', &[' ', '\u{308}'], (true, 0, 1)),
+        (Form::Nfkd, '\u{A8}', &[' ', '\u{308}'], (true, 0, 1)),
+        (Form::Nfd, '\u{FF9E}', &['\u{FF9E}'], (false, 1, 1)),
+        (Form::Nfkd, '\u{FF9E}', &['\u{3099}'], (false, 1, 1)),
+    ];
+    for (form, c, row, compat) in cases {
+        let read = sound_row(&Ucd, form, c).ok_or("unsound")?;
+        assert_eq!(rt; read.row.as_slice(), row);
+        assert_eq!(rt; numbers(read.compat), compat);
+    }
+    let long = [Compat('x', &NINETEEN)];
+    let marks = [Canonical('x', &[MARK])];
+    for form in [Form::Nfc, Form::Nfd, Form::Nfkc, Form::Nfkd] {
+        assert!(rt; sound_row(&Patched::new(&long), form, 'x').is_none());
+        assert!(rt; sound_row(&Patched::new(&marks), form, 'x').is_none());
+    }
     Ok(())
 }

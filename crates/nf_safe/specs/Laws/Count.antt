@@ -1,19 +1,18 @@
 -- What the count is in terms of whole texts.
-use Rattle.std.proofs.Common.{◌≡◌, ℕ, suc, ◌+◌, ◌<◌, ◌≤◌, not, ◌||◌, Bool, true, false, cond, nat_lt, List, [], ◌∷◌, ◌++◌, length, map, refl, sym, ap, ◌∙◌, arith}
+use Rattle.std.proofs.Common.{◌≡◌, ℕ, ◌+◌, ◌≤◌, Bool, true, false, List, [], ◌∷◌, ◌++◌, length, map, refl, sym, ap, ◌∙◌, arith}
 use Rattle.std.specs.Prelude.{if◌then◌else◌}
 use Rattle.std.specs.List.{list_all}
-use Rattle.std.proofs.lemmas.Bool.{ltb-false, lt-ltb, le-ltb}
-use Rattle.std.proofs.lemmas.Bool.Decides.{nat_tests}
+use Rattle.std.proofs.lemmas.Bool.{ltb-false}
 use Rattle.std.proofs.lemmas.List.{map-append}
 use Rattle.std.proofs.lemmas.List.Sums.{fold-append}
-use Rattle.nf_row.specs.Properties.{Properties, is_starter}
+use Rattle.nf_row.specs.Properties.{Properties}
 use Rattle.nf_row.specs.declared.form.Form.TheVariants.{Nfkd}
 use Rattle.nf_row.specs.Runs.{has_starter, lead, trail}
 use Rattle.nf_row.specs.Forms.{decomposed}
 use Rattle.nf_row.specs.StreamSafe.{joiner, max_run, is_too_long, parted, safe_step, stream_safe}
 use Rattle.nf_row.specs.Sound.{max_row, is_sound}
 use Rattle.nf_row.specs.Laws.Last.{by_last}
-use Rattle.nf_row.specs.Laws.Runs.{lead-le-length, trail-le-length, lead-marks, trail-marks, trail-append}
+use Rattle.nf_row.specs.Laws.Runs.{trail-le-length, lead-marks, trail-marks, trail-append}
 use Rattle.nf_row.specs.Laws.StreamSafe.{stream_safe-push, trail-decomposed-push, trail-decomposed-joiner, sound-safe_step}
 use Rattle.nf_row.specs.Laws.Sound.{JoinerIsPlain, IsSoundText}
 use Rattle.nf_safe.specs.Count.{counted, passes, count_step, since_step, since_last}
@@ -30,23 +29,13 @@ module _ (p : Properties) where
       next false true e all own = omega arith
       next false false e all own = omega (arith, all refl, ltb-false max_run (n + lead p row) e)
 
-  -- whether a row has a starter can be told from what it begins with
-  has_starter-by_lead : (row : List ℕ) → has_starter p row ≡ nat_lt (lead p row) (length row)
-  has_starter-by_lead [] = refl
-  has_starter-by_lead (c ∷ row) = next (is_starter p c) (has_starter p row) (lead p row) (length row) (has_starter-by_lead row)
-    where
-      next : (b h : Bool) (l n : ℕ) → h ≡ nat_lt l n → (b || h) ≡ nat_lt (cond (not b) (1 + l) 0) (suc n)
-      next true h l n e = grind (arith, nat_tests)
-      next false h l n e = e ∙ grind (arith, nat_tests)
+  pub count_step-starter : (n : ℕ) (row : List ℕ) → has_starter p row ≡ true → count_step p n row ≡ trail p row
+  count_step-starter n row some = ap (λ h. if h then trail p row else (if passes p n row then 0 else n) + length row) some
 
-  pub count_step-starter : (n : ℕ) (row : List ℕ) → lead p row < length row → count_step p n row ≡ trail p row
-  count_step-starter n row some =
-      ap (λ h. if h then trail p row else (if passes p n row then 0 else n) + length row) (has_starter-by_lead row ∙ lt-ltb _ _ some)
-
-  pub count_step-marks : (n : ℕ) (row : List ℕ) → length row ≤ lead p row → count_step p n row ≡ (if passes p n row then 0 else n) + lead p row
-  count_step-marks n row all =
-      ap (λ h. if h then trail p row else (if passes p n row then 0 else n) + length row) (has_starter-by_lead row ∙ le-ltb _ _ all)
-      ∙ omega (arith, lead-le-length p row)
+  pub count_step-marks : (n : ℕ) (row : List ℕ) → has_starter p row ≡ false → count_step p n row ≡ (if passes p n row then 0 else n) + lead p row
+  count_step-marks n row none =
+      ap (λ h. if h then trail p row else (if passes p n row then 0 else n) + length row) none
+      ∙ ap (λ m. (if passes p n row then 0 else n) + m) (sym (lead-marks p row none))
 
   pub count_step-within : (n : ℕ) (row : List ℕ) → passes p n row ≡ false → count_step p n row ≡ counted p n row
   count_step-within n row within = ap (λ b. counted p (if b then 0 else n) row) within

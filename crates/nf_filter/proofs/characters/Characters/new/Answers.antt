@@ -4,7 +4,7 @@ use Rattle.nf_utf8.specs.Reading.{text_of, ending_of}
 use Rattle.nf_utf8.specs.Standing.{StandsAfter}
 use Rattle.nf_filter.specs.Faults.{bad_byte}
 use Rattle.nf_filter.specs.Bytes.{taken_of}
-use Rattle.nf_filter.proofs.CharactersLemmas.{text_of-none, ending_of-none}
+use Rattle.nf_filter.proofs.ReadingLemmas.{text_of-none, ending_of-none}
 use Rattle.nf_filter.proofs.characters.Characters.new.Goals as goal
 
 pub returns-clause-read : goal.returns-clause-read

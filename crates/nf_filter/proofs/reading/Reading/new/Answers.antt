@@ -1,25 +1,11 @@
-use Rattle.std.proofs.Common.{◌≡◌, ℕ, [], length, ◌==◌, sym, ap, ◌∙◌, subst, arith, eq-eqb}
-use Rattle.std.specs.Prelude.{if◌then◌else◌, encode_utf8_all}
-use Rattle.std.specs.Str.{chars}
-use Rattle.std.proofs.lemmas.List.{take_all}
-use Rattle.std.proofs.lemmas.Str.{chars-nil, utf8_valid_len_le}
-use Rattle.nf_utf8.specs.Ending.{Whole, Bad, Cut}
-use Rattle.nf_utf8.specs.Reading.{text_len, text_of, begun_len, ending_of}
+use Rattle.std.proofs.Common.{length, sym, ap, ◌∙◌, subst, arith}
+use Rattle.std.specs.Prelude.{[], encode_utf8_all}
 use Rattle.nf_filter.specs.Settled.{is_usable}
 use Rattle.nf_filter.specs.Faults.{bad_byte}
 use Rattle.nf_filter.specs.Taken.{HasTaken}
 use Rattle.nf_filter.proofs.SettledLemmas.{is_usable-none}
-use Rattle.nf_filter.proofs.ReadingLemmas.{fault_in-usable}
+use Rattle.nf_filter.proofs.ReadingLemmas.{fault_in-usable, text_of-none, ending_of-none}
 use Rattle.nf_filter.proofs.reading.Reading.new.Goals as goal
-
-text_of-none : text_of [] ≡ []
-unfolding text_of
-text_of-none = ap chars (take_all (text_len []) [] (omega arith)) ∙ chars-nil
-
-ending_of-none : ending_of [] ≡ Whole
-unfolding ending_of
-ending_of-none = ap (λ b. if b then Whole else (if begun_len [] == length {A = ℕ} [] then Cut (begun_len []) (text_len []) else Bad (begun_len []) (text_len [])))
-    (eq-eqb (text_len []) 0 (omega (arith, utf8_valid_len_le [])))
 
 pub returns-clause-read : goal.returns-clause-read
 returns-clause-read c = λ p. record {

@@ -1,38 +1,38 @@
-use Rattle.std.proofs.Common.{ℕ, Ok, Err}
+use Rattle.std.proofs.Common.{ℕ, Ok, Err, sym, ◌∙◌}
 use Rattle.arrayvec.specs.ArrayVec.{ArrayVec}
 use Rattle.nf_row.specs.Forms.{decomposed}
 use Rattle.nf_row.specs.StreamSafe.{stream_safe}
-use Rattle.nf_filter.proofs.TakenLemmas.{passes-is, counting-is, HasRoom-without, HasRoom-with, Parts-without, Parts-with, Parts-stopped}
+use Rattle.nf_filter.proofs.TakenLemmas.{counting-is, HasRoom-without, HasRoom-with, Parts-without, Parts-with, Parts-stopped}
 use Rattle.nf_filter.proofs.taken.Taken.part.Goals as goal
 
 pub returns-then-not-is_full-clause-room : goal.returns-then-not-is_full-clause-room
 returns-then-not-is_full-clause-room g c =
     let p = g.R.Rows.properties c.args.rows.now in
     HasRoom-without p c.args.self.now _ c.args.c c.requires.within c.requires.sound
-    (passes-is p c.args.self.now c.args.c _ _ _ c.requires.row c.step-is_full.ensures.answer c.if-not-is_full.true)
-    (counting-is p c.args.self.now c.args.c _ _ c.requires.row c.step-is_full.ensures.count)
+    (sym (c.step_by-is_full.ensures.answer p (p.compat c.args.c) c.requires.compat) ∙ c.if-not-is_full.true)
+    (counting-is p c.args.self.now c.args.c _ (c.step_by-is_full.ensures.count p (p.compat c.args.c) c.requires.compat))
 
 pub returns-then-not-is_full-clause-parts : goal.returns-then-not-is_full-clause-parts
 returns-then-not-is_full-clause-parts g c = λ f x before.
     let p = g.R.Rows.properties c.args.rows.now in
     Parts-without p f c.args.self.now x c.args.c before c.requires.sound _ _
-    (passes-is p c.args.self.now c.args.c _ _ _ c.requires.row c.step-is_full.ensures.answer c.if-not-is_full.true)
-    (counting-is p c.args.self.now c.args.c _ _ c.requires.row c.step-is_full.ensures.count)
+    (sym (c.step_by-is_full.ensures.answer p (p.compat c.args.c) c.requires.compat) ∙ c.if-not-is_full.true)
+    (counting-is p c.args.self.now c.args.c _ (c.step_by-is_full.ensures.count p (p.compat c.args.c) c.requires.compat))
 
 pub returns-in-Ok-clause-room : goal.returns-in-Ok-clause-room
 returns-in-Ok-clause-room g c =
     let p = g.R.Rows.properties c.args.rows.now in
     HasRoom-with p c.args.self.now _ _ c.args.c c.requires.within c.requires.sound
-    (passes-is p c.args.self.now c.args.c _ _ _ c.requires.row c.step-is_full.ensures.answer c.if-not-is_full.false)
-    (counting-is p c.args.self.now c.args.c _ _ c.requires.row c.step-is_full.ensures.count)
+    (sym (c.step_by-is_full.ensures.answer p (p.compat c.args.c) c.requires.compat) ∙ c.if-not-is_full.false)
+    (counting-is p c.args.self.now c.args.c _ (c.step_by-is_full.ensures.count p (p.compat c.args.c) c.requires.compat))
     c.in-Ok.ensures.same c.in-Ok.ensures.run
 
 pub returns-in-Ok-clause-parts : goal.returns-in-Ok-clause-parts
 returns-in-Ok-clause-parts g c = λ f x before.
     let p = g.R.Rows.properties c.args.rows.now in
     Parts-with p f c.args.self.now x c.args.c before c.requires.sound _ _ _ _ (Ok tt)
-    (passes-is p c.args.self.now c.args.c _ _ _ c.requires.row c.step-is_full.ensures.answer c.if-not-is_full.false)
-    (counting-is p c.args.self.now c.args.c _ _ c.requires.row c.step-is_full.ensures.count)
+    (sym (c.step_by-is_full.ensures.answer p (p.compat c.args.c) c.requires.compat) ∙ c.if-not-is_full.false)
+    (counting-is p c.args.self.now c.args.c _ (c.step_by-is_full.ensures.count p (p.compat c.args.c) c.requires.compat))
     c.in-Ok.ensures.same (c.in-Ok.ensures.puts f (decomposed f p (stream_safe p x)) before.pending)
 
 pub returns-in-Err-clause-parts : goal.returns-in-Err-clause-parts
@@ -40,6 +40,6 @@ returns-in-Err-clause-parts g c = λ f x before.
     let p = g.R.Rows.properties c.args.rows.now in
     Parts-stopped p f (ArrayVec ℕ) c.put_joiner.new.self _ _ x c.args.c c.in-Err.stop
     (Parts-with p f c.args.self.now x c.args.c before c.requires.sound _ c.put_joiner.new.self _ _ (Err c.in-Err.stop)
-    (passes-is p c.args.self.now c.args.c _ _ _ c.requires.row c.step-is_full.ensures.answer c.if-not-is_full.false)
-    (counting-is p c.args.self.now c.args.c _ _ c.requires.row c.step-is_full.ensures.count)
+    (sym (c.step_by-is_full.ensures.answer p (p.compat c.args.c) c.requires.compat) ∙ c.if-not-is_full.false)
+    (counting-is p c.args.self.now c.args.c _ (c.step_by-is_full.ensures.count p (p.compat c.args.c) c.requires.compat))
     tt (c.in-Err.ensures.puts f (decomposed f p (stream_safe p x)) before.pending))

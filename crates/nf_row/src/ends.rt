@@ -1,0 +1,67 @@
+ghost use Rattle.std.specs.Prelude.{◌≤◌};
+
+use crate::rows::{Row, Rows};
+
+/// How a row begins and ends.
+#[derive(Clone, Copy, Debug)]
+pub struct Ends {
+    /// Whether the row has a starter.
+    pub has_starter: bool,
+    /// How many non-starters it begins with, 0 to 18; all of the row where it has no starter.
+    pub lead: usize,
+    /// How many it ends in, 0 to 18; all of the row where it has no starter.
+    pub trail: usize,
+    ghost lead_within: { lead ≤ 18 },
+    ghost trail_within: { trail ≤ 18 },
+}
+
+impl Ends {
+    ghost use Rattle.std.specs.Prelude.{◌≡◌, ◌<◌, ◌+◌, ◌||◌, [], if◌then◌else◌};
+    ghost use Rattle.nf_row.specs.Properties.{Properties};
+    ghost use Rattle.nf_row.specs.Ends.{HasEnds};
+
+    /// The ends of `row`, by one look at the class of each member.
+    #[inline]
+    pub fn of_row<R: Rows>(rows: &R, row: &Row) -> Ends
+        ensures { HasEnds (R.properties rows.now) row.now.items result }
+    {
+        let mut so_far = Ends::none();
+        for c in row.as_slice() {
+            so_far = so_far.and(rows.class(*c) == 0);
+        }
+        so_far
+    }
+
+    /// The ends of no members.
+    #[inline]
+    const fn none() -> Ends
+        ensures { (p : Properties) → HasEnds p [] result }
+    {
+        Ends {
+            has_starter: false,
+            lead: 0,
+            trail: 0,
+        }
+    }
+
+    /// The ends with one member more behind.
+    #[inline]
+    fn and(self, is_starter: bool) -> Ends
+        requires lead { self.lead < 18 }
+        requires trail { self.trail < 18 }
+        ensures has_starter { result.has_starter ≡ (self.has_starter || is_starter) }
+        ensures lead { result.lead ≡ (if self.has_starter || is_starter then self.lead else self.lead + 1) }
+        ensures trail { result.trail ≡ (if is_starter then 0 else self.trail + 1) }
+    {
+        let has_starter = self.has_starter || is_starter;
+        Ends {
+            has_starter,
+            lead: if has_starter {
+                self.lead
+            } else {
+                self.lead + 1
+            },
+            trail: if is_starter { 0 } else { self.trail + 1 },
+        }
+    }
+}

@@ -1,0 +1,35 @@
+use Rattle.std.proofs.Common.{◌≡◌, ℕ, ◌+◌, Bool, List, true, false, sym, ap, ◌∙◌, arith}
+use Rattle.std.specs.Prelude.{if◌then◌else◌, nat_lt}
+use Rattle.std.proofs.lemmas.Bool.{lt-ltb, le-ltb}
+use Rattle.nf_row.specs.Properties.{Properties}
+use Rattle.nf_row.specs.Runs.{has_starter, lead}
+use Rattle.nf_row.specs.StreamSafe.{max_run}
+use Rattle.nf_safe.specs.Count.{passes, count_step}
+use Rattle.nf_safe.specs.Laws.Count.{count_step-starter, count_step-marks, trail-since_last-push}
+use Rattle.nf_safe.proofs.counter.Counter.step_by.Goals as goal
+use Rattle.nf_safe.proofs.counter.Counter.step_by.Goals.{then-k, else-k+then-begins_anew, else-k+else-begins_anew}
+
+-- a row of non-starters alone
+all_marks : (p : Properties) (n : ℕ) (row : List ℕ) (b : Bool) (m : ℕ) → has_starter p row ≡ false → passes p n row ≡ b → m ≡ (if b then 0 else n) + lead p row → m ≡ count_step p n row
+all_marks p n row b m none answer is = is ∙ sym (count_step-marks p n row none ∙ ap (λ b. (if b then 0 else n) + lead p row) answer)
+
+pub returns-clause-answer : goal.returns-clause-answer
+returns-clause-answer c = λ p row ends. ap (λ n. nat_lt max_run n) (omega (arith, c.self.view_is, ends.lead))
+
+pub returns-clause-count : goal.returns-clause-count
+returns-clause-count c = λ p row ends.
+    let view_is = c.self.view_is in
+    let lead_is = ends.lead in
+    elim c.if-k.branch [
+      | then-k w ↦ w.self-is ∙ ends.trail ∙ sym (count_step-starter p c.args.self.now row (sym ends.has_starter ∙ w.if-k.true))
+      | else-k+then-begins_anew w ↦
+          all_marks p c.args.self.now row true c.if-k.self (sym ends.has_starter ∙ w.if-k.false)
+          (lt-ltb max_run _ (omega (arith, view_is, lead_is, w.if-begins_anew.true))) (omega (arith, w.self-is, lead_is))
+      | else-k+else-begins_anew w ↦
+          all_marks p c.args.self.now row false c.if-k.self (sym ends.has_starter ∙ w.if-k.false)
+          (le-ltb max_run _ (omega (arith, view_is, lead_is, w.if-begins_anew.false))) (omega (arith, w.self-is, view_is, lead_is))
+    ]
+
+pub returns-clause-stands : goal.returns-clause-stands
+returns-clause-stands c = λ p row ends rows before.
+    returns-clause-count c p row ends ∙ ap (λ n. count_step p n row) before ∙ sym (trail-since_last-push p rows row)
