@@ -1,6 +1,6 @@
 -- What `convert` reads and writes: what the library's `run` does over the same devices.
 use Rattle.std.specs.Prelude.{◌≡◌, ◌⊎◌, ℕ, Bool, false, List, [], Option, Some, Result, Ok, Err, IsTrue, OnOk, option_map}
-use Rattle.std.specs.Io.KnownBytes.{Keeps}
+use Rattle.std.specs.Io.KnownBytes.{IsAtEnd, Keeps}
 use Rattle.nf_row.specs.Properties.{Properties}
 use Rattle.nf_row.specs.declared.form.Form.{Form}
 use Rattle.nf_filter.specs.declared.fault.Fault.{Fault as Found}
@@ -23,6 +23,7 @@ pub record Runs (f : Form) (p : Properties) (coming left taken now : Option (Lis
   pub at_end : Bool
   pub out_failed : Bool
   pub end : OnOk answer (IsTrue at_end)
+  pub read_out : IsTrue at_end → IsAtEnd left
   pub drives : Drives f p 0 [] coming left at_end (sink_state taken false) (sink_state now out_failed) answer
 
 -- the program ends by that answer, and all that the library gave is written, unless a write or the flush failed

@@ -2,6 +2,7 @@ pub mod Line
 pub mod Fronts
 pub mod Faults
 pub mod Lines
+pub mod Text
 pub mod Converts
 pub mod Surveys
 pub mod Checks

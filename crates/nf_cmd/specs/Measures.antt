@@ -1,5 +1,5 @@
 -- What `measure` shows.
-use Rattle.std.specs.Prelude.{ℕ, List, [], ◌∷◌, ◌++◌, Option, Some, Result, Ok, Err, codes, decimal, option_map}
+use Rattle.std.specs.Prelude.{ℕ, List, [], ◌++◌, Option, Some, Result, Ok, Err, codes, option_map}
 use Rattle.nf_row.specs.Properties.{Properties}
 use Rattle.nf_safe.specs.declared.measure.Measure.{Measure}
 use Rattle.nf_filter.specs.declared.fault.Fault.{Fault as Found}
@@ -7,10 +7,7 @@ use Rattle.nf_filter.specs.Measures.{measure_decision, text_measure}
 use Rattle.nf_cmd.specs.declared.fault.Fault.{Fault}
 use Rattle.nf_cmd.specs.Faults.{told}
 use Rattle.nf_cmd.specs.Surveys.{Tells}
-
--- a name and a number
-abbrev pub line : List ℕ → ℕ → List ℕ
-line name number = name ++ (32 ∷ (decimal number ++ 10 ∷ []))
+use Rattle.nf_cmd.specs.Text.{line}
 
 abbrev pub measure_lines : Result Measure Found → List ℕ
 measure_lines (Ok m) =

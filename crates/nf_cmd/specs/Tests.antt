@@ -1,7 +1,6 @@
 -- What `test` reads, answers and writes: what the rows of a vector file come to (the conditions of NormalizationTest.txt).
-use Rattle.std.specs.Prelude.{◌≡◌, ◌⊎◌, ℕ, Bool, true, ◌&&◌, ◌==◌, nat_lt, List, [], ◌∷◌, ◌++◌, Option, Some, None, Result, Ok, Err, if◌then◌else◌, codes, decimal}
-use Rattle.std.specs.Fmt.{radix_digits}
-use Rattle.std.specs.Io.KnownBytes.{Appends}
+use Rattle.std.specs.Prelude.{◌≡◌, ◌⊎◌, ℕ, Bool, true, IsTrue, ◌&&◌, ◌==◌, List, [], ◌∷◌, ◌++◌, Option, Some, None, Result, Ok, Err, if◌then◌else◌, codes, decimal}
+use Rattle.std.specs.Io.KnownBytes.{Appends, IsAtEnd}
 use Rattle.nf_row.specs.Properties.{Properties}
 use Rattle.nf_row.specs.declared.form.Form.{Form}
 use Rattle.nf_row.specs.declared.form.Form.TheVariants.{Nfc, Nfd, Nfkc, Nfkd}
@@ -17,7 +16,8 @@ use Rattle.nf_cmd.specs.declared.fault.Fault.{Fault}
 use Rattle.nf_cmd.specs.declared.fault.Fault.TheVariants.{Write, Memory}
 use Rattle.nf_cmd.specs.declared.test.Finding.{Finding}
 use Rattle.nf_cmd.specs.Faults.{told_of_file}
-use Rattle.nf_cmd.specs.Measures.{line}
+use Rattle.nf_cmd.specs.Fronts.{AppendsFront}
+use Rattle.nf_cmd.specs.Text.{code_digits, line}
 
 abbrev pub name_of : Form → List ℕ
 name_of Nfc = codes "nfc"
@@ -25,20 +25,16 @@ name_of Nfd = codes "nfd"
 name_of Nfkc = codes "nfkc"
 name_of Nfkd = codes "nfkd"
 
-abbrev pub failure_line : ℕ → List ℕ → ℕ → List ℕ
-failure_line n form column = codes "first failure line " ++ (decimal n ++ (codes " form " ++ (form ++ (codes " column " ++ (decimal column ++ 10 ∷ [])))))
+abbrev pub column_end : ℕ → List ℕ
+column_end column = codes " column " ++ (decimal column ++ 10 ∷ [])
 
 abbrev pub failure_lines : Option Failure → List ℕ
 failure_lines None = []
-failure_lines (Some f) = failure_line f.line (name_of f.form) f.column
-
--- to at least four digits
-abbrev pub zeros_before : ℕ → List ℕ
-zeros_before n = if nat_lt n 0x10 then codes "000" else (if nat_lt n 0x100 then codes "00" else (if nat_lt n 0x1000 then codes "0" else []))
+failure_lines (Some f) = codes "first failure line " ++ (decimal f.line ++ (codes " form " ++ (name_of f.form ++ column_end f.column)))
 
 abbrev pub first_lines : Option ℕ → List ℕ
 first_lines None = []
-first_lines (Some c) = codes "first unlisted U+" ++ (zeros_before c ++ (radix_digits 16 true c ++ 10 ∷ []))
+first_lines (Some c) = codes "first unlisted U+" ++ (code_digits c ++ 10 ∷ [])
 
 abbrev pub sweep_lines : Option Sweep → List ℕ
 sweep_lines None = []
@@ -80,7 +76,9 @@ pub record Tests (p : Properties) (coming left taken now : Option (List ℕ)) (f
   pub at_end : Bool
   pub failed : Bool
   pub reads : ReadsSuite coming left at_end failed suite
+  pub read_out : IsTrue at_end → IsAtEnd left
   pub finding : Result Finding Fault
   pub finds : Finds p suite finding
+  pub front : AppendsFront taken now (finding_lines finding)
   pub output : ¬ (found ≡ Err Write) → Appends taken now (finding_lines finding)
   pub found_is : (found ≡ finding_end finding) ⊎ (found ≡ Err Write)

@@ -1,18 +1,20 @@
 //! The program's input, lent to the library.
-ghost use Rattle.std.specs.Prelude.{◌≡◌, false};
+ghost use Rattle.std.specs.Prelude.{◌≡◌, ℕ, List, [], Some, true, false};
 
 use nf_filter::{Failed, Source};
 use std::io::Read;
 
 /// A reader as a source. An interrupted read is a failure like any other.
 #[derive(Drop)]
-pub(crate) struct Input<'i, I> {
+pub(crate) struct Input<'i, I: Read> {
     reader: &'i mut I,
     failed: bool,
     at_end: bool,
+    // At its end the reader has nothing left.
+    ghost read_out: { at_end ≡ true → (bytes : List ℕ) → I.remaining reader.now ≡ Some bytes → bytes ≡ [] },
 }
 
-impl<'i, I> Input<'i, I> {
+impl<'i, I: Read> Input<'i, I> {
     pub(crate) fn new(reader: &'i mut I) -> Input<'i, I>
         ensures lent { result.reader.ghost_name ≡ reader.entry.ghost_name }
         ensures reader { result.reader.now ≡ reader.old }
@@ -36,6 +38,7 @@ impl<'i, I: Read> Source for Input<'i, I> {
     ghost lender = { λ source. source.reader.ghost_name };
 
     fn get(&mut self, buf: &mut [u8]) -> Result<usize, Failed> {
+        self.at_end = false;
         if !self.failed {
             if let Ok(n) = self.reader.read(buf) {
                 self.at_end = n == 0;
@@ -43,7 +46,6 @@ impl<'i, I: Read> Source for Input<'i, I> {
             }
         }
         self.failed = true;
-        self.at_end = false;
         Err(Failed)
     }
 }

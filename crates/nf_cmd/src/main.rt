@@ -6,6 +6,7 @@ mod convert;
 mod fault;
 mod input;
 mod line;
+mod lines;
 mod measure;
 mod output;
 mod program;

@@ -1,5 +1,5 @@
 //! The program's output, lent to the library.
-ghost use Rattle.std.specs.Prelude.{◌≡◌, [], false, OnOk};
+ghost use Rattle.std.specs.Prelude.{◌≡◌, ◌<◌, [], false, length, OnErr, OnOk};
 ghost use Rattle.std.specs.Io.KnownBytes.{Keeps, append_known};
 ghost use Rattle.nf_cmd.specs.Fronts.{IsFrontOf};
 
@@ -38,6 +38,7 @@ impl<'o, O: Write> Output<'o, O> {
         ensures lent { self.new.writer.ghost_name ≡ self.old.writer.ghost_name }
         ensures whole { OnOk result (Keeps (append_known (O.contents self.old.writer.now) self.old.block.items) (O.contents self.new.writer.now)) }
         ensures front { IsFrontOf (O.contents self.new.writer.now) (append_known (O.contents self.old.writer.now) self.old.block.items) }
+        ensures stands { self.new.failed ≡ self.old.failed }
     {
         self.empty()?;
         flush(self.writer)
@@ -48,6 +49,7 @@ impl<'o, O: Write> Output<'o, O> {
         ensures lent { self.new.writer.ghost_name ≡ self.old.writer.ghost_name }
         ensures kept { Keeps (append_known (O.contents self.old.writer.now) self.old.block.items) (append_known (O.contents self.new.writer.now) self.new.block.items) }
         ensures empty { OnOk result (self.new.block.items ≡ []) }
+        ensures left { OnErr result (0 < length self.new.block.items) }
         ensures stands { self.new.failed ≡ self.old.failed }
     {
         let written = write_some(self.writer, self.block.as_slice());

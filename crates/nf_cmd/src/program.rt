@@ -13,12 +13,15 @@ use crate::fault::Fault;
 use crate::line::{Request, parse};
 use crate::measure::measure;
 use crate::test::test;
-use crate::writing::{Lines, write_front, write_whole};
+use crate::writing::{write_front, write_whole};
 use arrayvec::ArrayVec;
 use clap::Error;
 use clap::error::ErrorKind;
 use std::alloc::Global;
 use std::io::{Read, Write};
+
+/// What a line on standard error may take, in bytes: more than any of the program does.
+const LINE: usize = 128;
 
 /// Does what `words` ask for, of which the first is the program's name, and answers the status to end with.
 pub(crate) fn command<'w, I: Read, O: Write, E: Write>(
@@ -78,7 +81,7 @@ fn report<E: Write>(found: Result<u8, Fault>, err: &mut E) -> u8
         Ok(status) => return status,
         Err(fault) => fault,
     };
-    let mut line: Lines = ArrayVec::new();
+    let mut line: ArrayVec<u8, LINE> = ArrayVec::new();
     if writeln!(line, "nfstream: {fault}").is_ok() {
         let _ = write_front(err, line.as_slice());
     }

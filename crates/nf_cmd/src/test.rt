@@ -1,14 +1,14 @@
 //! `test`.
-ghost use Rattle.std.specs.Prelude.{◌≡◌, ◌++◌, Bool, IfSome};
+ghost use Rattle.std.specs.Prelude.{◌≡◌, ◌+◌, ◌≤◌, ◌++◌, Bool, IsTrue, length};
+ghost use Rattle.std.specs.Io.KnownBytes.{IsAtEnd};
 ghost use Rattle.nf_row.specs.Ucd.{ucd};
 ghost use Rattle.nf_vectors.specs.ReadsSuite.{ReadsSuite};
-ghost use Rattle.nf_cmd.specs.Tests.{Tests, Finds, finding_of, finding_lines, finding_end, failure_line, failure_lines, sweep_lines, first_lines, name_of, zeros_before};
+ghost use Rattle.nf_cmd.specs.Tests.{Tests, Finds, finding_of, finding_lines, finding_end, column_end, failure_lines, sweep_lines, first_lines, name_of};
 
 use crate::fault::Fault;
 use crate::input::Input;
-use crate::measure::with_line;
-use crate::writing::{Lines, write_whole};
-use arrayvec::ArrayVec;
+use crate::lines::Lines;
+use crate::writing::write_whole;
 use nf_row::{Form, Ucd};
 use nf_vectors::{Failure, Memory, Report, Suite, Sweep, VectorFault};
 use std::alloc::Global;
@@ -33,10 +33,7 @@ pub(crate) fn test<I: Read, O: Write>(
 {
     let suite = read(alloc, input);
     let finding = find(alloc, suite);
-    let Some(lines) = lines(finding) else {
-        return Err(Fault::Write);
-    };
-    if write_whole(out, lines.as_slice()).is_err() {
+    if write_whole(out, lines(finding).as_slice()).is_err() {
         return Err(Fault::Write);
     }
     end(finding)
@@ -44,7 +41,8 @@ pub(crate) fn test<I: Read, O: Write>(
 
 // Reads the file.
 fn read<I: Read>(alloc: Global, input: &mut I) -> Result<Suite, VectorFault>
-    ensures { (at_end failed : Bool) × ReadsSuite (I.remaining input.old) (I.remaining input.new) at_end failed result }
+    ensures { (at_end failed : Bool) × ReadsSuite (I.remaining input.old) (I.remaining input.new) at_end failed result
+        × (IsTrue at_end → IsAtEnd (I.remaining input.new)) }
 {
     let mut source = Input::new(input);
     Suite::read(alloc, &mut source)
@@ -89,48 +87,52 @@ fn end(finding: Result<Finding, Fault>) -> Result<u8, Fault>
 }
 
 // The lines that say so, and none where there is no finding.
-fn lines(finding: Result<Finding, Fault>) -> Option<Lines>
-    ensures { IfSome result (λ lines. lines.items ≡ finding_lines finding) }
+fn lines(finding: Result<Finding, Fault>) -> Lines
+    ensures { result.bytes.items ≡ finding_lines finding }
 {
-    let lines: Lines = ArrayVec::new();
+    let mut lines = Lines::new();
     let Ok(finding) = finding else {
-        return Some(lines);
+        return lines;
     };
     let Finding { report, sweep } = finding;
-    let lines = with_line(lines, "rows", report.rows as u128)?;
-    let lines = with_line(lines, "passed", report.passed as u128)?;
-    let lines = with_line(lines, "failed", report.failed as u128)?;
-    let lines = with_line(lines, "skipped", report.skipped as u128)?;
-    let lines = with_failure(lines, report.first_failure)?;
-    with_sweep(lines, sweep)
+    lines.named("rows", report.rows as u128);
+    lines.named("passed", report.passed as u128);
+    lines.named("failed", report.failed as u128);
+    lines.named("skipped", report.skipped as u128);
+    push_failure(&mut lines, report.first_failure);
+    push_sweep(&mut lines, sweep);
+    lines
 }
 
-// The lines, and that of the first failure where there is one.
-fn with_failure(lines: Lines, failure: Option<Failure>) -> Option<Lines>
-    ensures { IfSome result (λ more. more.items ≡ lines.items ++ failure_lines failure) }
+// The line of the first failure, where there is one.
+fn push_failure(lines: &mut Lines, failure: Option<Failure>)
+    requires { length lines.old.bytes.items + 118 ≤ 512 }
+    ensures bytes { lines.new.bytes.items ≡ lines.old.bytes.items ++ failure_lines failure }
+    ensures len { length lines.new.bytes.items ≤ length lines.old.bytes.items + 118 }
 {
-    match failure {
-        None => Some(lines),
-        Some(failure) => with_comparison(lines, failure.line, name(failure.form), failure.column),
-    }
+    let Some(Failure { line, form, column }) = failure else {
+        return;
+    };
+    lines.text("first failure line ");
+    lines.number(line as u128);
+    lines.text(" form ");
+    lines.text(name(form));
+    push_column(lines, column);
 }
 
-// The lines, and that of a comparison.
-fn with_comparison(lines: Lines, line: u32, form: &str, column: u8) -> Option<Lines>
-    ensures { IfSome result (λ more. more.items ≡ lines.items ++ failure_line line form.now column) }
+fn push_column(lines: &mut Lines, column: u8)
+    requires { length lines.old.bytes.items + 49 ≤ 512 }
+    ensures bytes { lines.new.bytes.items ≡ lines.old.bytes.items ++ column_end column }
+    ensures len { length lines.new.bytes.items ≤ length lines.old.bytes.items + 49 }
 {
-    let mut more = lines;
-    match writeln!(
-        more,
-        "first failure line {line} form {form} column {column}"
-    ) {
-        Ok(()) => Some(more),
-        Err(_) => None,
-    }
+    lines.text(" column ");
+    lines.number(column as u128);
+    lines.text("\n");
 }
 
 fn name(form: Form) -> &'static str
-    ensures { result.now ≡ name_of form }
+    ensures name { result.now ≡ name_of form }
+    ensures len { length result.now ≤ 4 }
 {
     match form {
         Form::Nfc => "nfc",
@@ -140,41 +142,28 @@ fn name(form: Form) -> &'static str
     }
 }
 
-// The lines, and those of the sweep where there was one.
-fn with_sweep(lines: Lines, sweep: Option<Sweep>) -> Option<Lines>
-    ensures { IfSome result (λ more. more.items ≡ lines.items ++ sweep_lines sweep) }
+// The lines of the sweep, where there was one.
+fn push_sweep(lines: &mut Lines, sweep: Option<Sweep>)
+    requires { length lines.old.bytes.items + 131 ≤ 512 }
+    ensures { lines.new.bytes.items ≡ lines.old.bytes.items ++ sweep_lines sweep }
 {
-    let Some(sweep) = sweep else {
-        return Some(lines);
+    let Some(Sweep { unlisted, failed, first }) = sweep else {
+        return;
     };
-    let lines = with_line(lines, "unlisted", sweep.unlisted as u128)?;
-    let lines = with_line(lines, "unlisted failed", sweep.failed as u128)?;
-    with_first(lines, sweep.first)
+    lines.named("unlisted", unlisted as u128);
+    lines.named("unlisted failed", failed as u128);
+    push_first(lines, first);
 }
 
-// The lines, and that of the first character where there is one.
-fn with_first(lines: Lines, first: Option<char>) -> Option<Lines>
-    ensures { IfSome result (λ more. more.items ≡ lines.items ++ first_lines first) }
+// The line of the first character, where there is one.
+fn push_first(lines: &mut Lines, first: Option<char>)
+    requires { length lines.old.bytes.items + 24 ≤ 512 }
+    ensures { lines.new.bytes.items ≡ lines.old.bytes.items ++ first_lines first }
 {
-    let mut more = lines;
     let Some(c) = first else {
-        return Some(more);
+        return;
     };
-    let (zeros, code) = (zeros_before(c), u32::from(c));
-    match writeln!(more, "first unlisted U+{zeros}{code:X}") {
-        Ok(()) => Some(more),
-        Err(_) => None,
-    }
-}
-
-// What the code point's digits want to be four.
-fn zeros_before(c: char) -> &'static str
-    ensures { result.now ≡ zeros_before c }
-{
-    match u32::from(c) {
-        0..0x10 => "000",
-        0x10..0x100 => "00",
-        0x100..0x1000 => "0",
-        _ => "",
-    }
+    lines.text("first unlisted U+");
+    lines.code(c);
+    lines.text("\n");
 }

@@ -5,6 +5,7 @@ mod check;
 mod convert;
 mod devices;
 mod failures;
+mod lines;
 mod measure;
 mod test;
 mod texts;

@@ -1,21 +1,15 @@
 //! Bytes to a writer. An interrupted write is a failure like any other.
-ghost use Rattle.std.specs.Prelude.{◌≡◌, ◌≤◌, length, take, OnOk};
+ghost use Rattle.std.specs.Prelude.{◌≡◌, ◌<◌, ◌≤◌, length, take, OnErr, OnOk};
 ghost use Rattle.std.specs.Io.KnownBytes.{Appends, Keeps};
 ghost use Rattle.nf_cmd.specs.Fronts.{AppendsFront};
 
-use arrayvec::ArrayVec;
 use nf_filter::Failed;
 use std::io::Write;
 
-/// What the lines of a run may take, in bytes: more than any lines of the program.
-const LINES: usize = 512;
-
-/// Lines to be written at once.
-pub(crate) type Lines = ArrayVec<u8, LINES>;
-
-/// Writes all the bytes, and flushes.
+/// Writes all the bytes, and flushes. Where that fails the writer may have taken some of them.
 pub(crate) fn write_whole<O: Write>(out: &mut O, bytes: &[u8]) -> Result<(), Failed>
-    ensures { OnOk result (Appends (O.contents out.old) (O.contents out.new) bytes.now) }
+    ensures whole { OnOk result (Appends (O.contents out.old) (O.contents out.new) bytes.now) }
+    ensures front { AppendsFront (O.contents out.old) (O.contents out.new) bytes.now }
 {
     write_front(out, bytes)?;
     flush(out)
@@ -25,6 +19,7 @@ pub(crate) fn write_whole<O: Write>(out: &mut O, bytes: &[u8]) -> Result<(), Fai
 pub(crate) fn write_front<O: Write>(out: &mut O, bytes: &[u8]) -> Result<(), Failed>
     ensures all { OnOk result (Appends (O.contents out.old) (O.contents out.new) bytes.now) }
     ensures front { AppendsFront (O.contents out.old) (O.contents out.new) bytes.now }
+    ensures short { OnErr result (0 < length bytes.now) }
 {
     if write_some(out, bytes) == bytes.len() {
         Ok(())
