@@ -3,7 +3,7 @@ use Rattle.std.proofs.Common.{◌≡◌, ℕ, ◌+◌, ◌<◌, List, [], ◌∷
 use Rattle.std.proofs.lemmas.List.{length-append, take_more}
 use Rattle.nf_filter.specs.declared.bytes.Bytes.{Bytes}
 use Rattle.nf_filter.specs.Bytes.{SourceState, piece_of, taken_of, HasGiven, Takes, Fills}
-use Rattle.nf_filter.proofs.DriveLemmas.{Consumes-none}
+use Rattle.std.proofs.KnownBytes.{Consumes-nil}
 
 pub Takes-at : (base : ℕ) {old other new : Bytes} (before : List ℕ) {source left state : SourceState} {byte : ℕ} → old ≡ other → left ≡ state
     → Takes base old new before source left byte → Takes base other new before source state byte
@@ -35,7 +35,7 @@ module _ (base : ℕ) (old new : Bytes) (before : List ℕ) (source : SourceStat
   Takes-next has = record {
     after = before;
     more = [];
-    given = Consumes-none source.coming;
+    given = Consumes-nil source.coming;
     pieces = ap (λ l. before ++ l) piece_stays ∙ sym (append-nil (before ++ piece_of old));
     taken = taken_more;
     seam = inl refl;

@@ -14,14 +14,14 @@ use Rattle.nf_filter.specs.Faults.{bad_byte}
 use Rattle.nf_filter.specs.Surveys.{answer_at_end}
 use Rattle.nf_filter.specs.Bytes.{SourceState, piece_of, taken_of, HasGiven, Takes, NoBlock, Refuses}
 use Rattle.nf_filter.specs.Characters.{bytes_given, bytes_read, HasRead, Seam, Gives, StoppedBy, Stops}
-use Rattle.nf_filter.proofs.DriveLemmas.{Consumes-none, Consumes-join}
+use Rattle.std.proofs.KnownBytes.{Consumes-nil, Consumes-trans}
 use Rattle.nf_filter.proofs.ReadingLemmas.{text_len-whole}
 
 pub Gives-none : (base : ℕ) (chars : Characters) (before : List ℕ) (source : SourceState) → HasRead base chars before source → Gives base chars chars before source source []
 Gives-none base chars before source has = record {
   after = before;
   more = [];
-  given = Consumes-none source.coming;
+  given = Consumes-nil source.coming;
   pieces = sym (append-nil (bytes_given chars before));
   seam = inl refl;
   text = sym (append-nil (text_of (bytes_read chars before)));
@@ -61,7 +61,7 @@ module _ (base : ℕ) (old mid : Characters) (before : List ℕ) (source left : 
     after = bytes_read mid so_far.after;
     last = last;
     more = so_far.more ++ last;
-    given = Consumes-join _ _ _ so_far.more last so_far.given none.given;
+    given = Consumes-trans _ _ _ so_far.more last so_far.given none.given;
     pieces = ap (λ l. (so_far.after ++ l) ++ last) all ∙ ap (λ l. l ++ last) so_far.pieces ∙ append_assoc (bytes_given old before) so_far.more last;
     few = none.few;
     seam = inr (text_so_far, so_far.has.no_bad);
@@ -117,7 +117,7 @@ module _ (base : ℕ) (old mid : Characters) (before : List ℕ) (source left : 
     Gives-more new at start bytes kept text end stands = record {
       after = takes.after;
       more = so_far.more ++ takes.more;
-      given = Consumes-join _ _ _ so_far.more takes.more so_far.given takes.given;
+      given = Consumes-trans _ _ _ so_far.more takes.more so_far.given takes.given;
       pieces = ap (λ b. takes.after ++ piece_of b) bytes ∙ given_is;
       seam = seam_is;
       text = ap text_of here ∙ text ∙ so_far.text;
@@ -141,7 +141,7 @@ module _ (base : ℕ) (old mid : Characters) (before : List ℕ) (source left : 
       record {
         after = takes.after;
         more = so_far.more ++ takes.more;
-        given = Consumes-join _ _ _ so_far.more takes.more so_far.given takes.given;
+        given = Consumes-trans _ _ _ so_far.more takes.more so_far.given takes.given;
         pieces = ap (λ b. takes.after ++ piece_of b) bytes ∙ given_is;
         seam = seam_is;
         text = ap text_of here ∙ text ∙ ap (λ x. x ++ c ∷ []) text_so_far;
@@ -170,7 +170,7 @@ module _ (base : ℕ) (old mid : Characters) (before : List ℕ) (source left : 
       after = takes.after;
       last = piece_of new_bytes;
       more = so_far.more ++ takes.more;
-      given = Consumes-join _ _ _ so_far.more takes.more so_far.given takes.given;
+      given = Consumes-trans _ _ _ so_far.more takes.more so_far.given takes.given;
       pieces = given_is;
       few = (piece_fits base new_bytes takes.after next takes.has).0;
       seam = seam_is;

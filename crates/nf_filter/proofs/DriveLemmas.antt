@@ -1,8 +1,8 @@
 -- What driving answers, by where it stopped.
-use Rattle.std.proofs.Common.{◌≡◌, ℕ, ◌+◌, ◌<◌, ◌≤◌, ◌^◌, Bool, true, false, List, [], ◌++◌, length, Option, Some, None, Ok, Err, ◌⊎◌, ⊎_elim, refl, sym, ap, ◌∙◌, subst, arith, append_assoc, append-nil}
+use Rattle.std.proofs.Common.{◌≡◌, ℕ, ◌+◌, ◌<◌, ◌≤◌, ◌^◌, Bool, true, false, List, [], ◌++◌, length, Option, None, Ok, Err, ◌⊎◌, ⊎_elim, refl, sym, ap, ◌∙◌, subst, arith, append_assoc, append-nil}
 use Rattle.std.specs.Prelude.{IsTrue, IsFalse, IsErr, Result, IfErr}
 use Rattle.std.specs.Result.{result_err}
-use Rattle.std.specs.Io.KnownBytes.{Consumes, Keeps}
+use Rattle.std.specs.Io.KnownBytes.{Consumes}
 use Rattle.std.proofs.lemmas.List.{length-append}
 use Rattle.nf_row.specs.Properties.{Properties}
 use Rattle.nf_row.specs.declared.form.Form.{Form}
@@ -17,22 +17,6 @@ use Rattle.nf_filter.specs.Finishes.{end_of, Finishes}
 use Rattle.nf_filter.specs.Drives.{due_utf8, Drives}
 use Rattle.nf_filter.proofs.WritesLemmas.{Puts-join, Puts-at, Stops-join, Stops-at}
 use Rattle.nf_filter.proofs.FilterLemmas.{Writes-from_puts, BreaksOff-from_stops, Puts-from_writes, Stops-from_breaks_off, never_failed, failed_with_more}
-
-pub Consumes-join : (a b c : Option (List ℕ)) (xs ys : List ℕ) → Consumes a b xs → Consumes b c ys → Consumes a c (xs ++ ys)
-Consumes-join None b c xs ys first second = tt
-Consumes-join (Some u) None c xs ys first second = elim first [ ]
-Consumes-join (Some u) (Some v) None xs ys first second = elim second [ ]
-Consumes-join (Some u) (Some v) (Some w) xs ys first second = first ∙ ap (λ l. xs ++ l) second ∙ sym (append_assoc xs ys w)
-
-pub Consumes-none : (a : Option (List ℕ)) → Consumes a a []
-Consumes-none None = tt
-Consumes-none (Some xs) = refl
-
-pub Consumes-kept : (a b c : Option (List ℕ)) (xs : List ℕ) → Consumes a b xs → Keeps b c → Consumes a c xs
-Consumes-kept None b c xs first kept = tt
-Consumes-kept (Some u) None c xs first kept = elim first [ ]
-Consumes-kept (Some u) (Some v) None xs first kept = elim kept [ ]
-Consumes-kept (Some u) (Some v) (Some w) xs first kept = first ∙ ap (λ l. xs ++ l) (sym kept)
 
 -- reading went on as far as it could
 abbrev RanOn : Bool → Result Tally Fault → Type 0

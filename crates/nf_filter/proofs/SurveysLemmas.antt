@@ -14,7 +14,7 @@ use Rattle.nf_filter.specs.Faults.{bad_byte}
 use Rattle.nf_filter.specs.Bytes.{SourceState, piece_of}
 use Rattle.nf_filter.specs.Characters.{bytes_given, bytes_read, HasRead, Seam, Gives, Stops}
 use Rattle.nf_filter.specs.Surveys.{answer_at_end, Surveys, IsOfSurvey}
-use Rattle.nf_filter.proofs.DriveLemmas.{Consumes-none, Consumes-join}
+use Rattle.std.proofs.KnownBytes.{Consumes-nil, Consumes-trans}
 use Rattle.nf_filter.proofs.ReadingLemmas.{text_of-none, ending_of-none}
 use Rattle.nf_filter.proofs.CharactersLemmas.{given_split, piece_fits}
 
@@ -34,7 +34,7 @@ pub Going-start : {T : Type 0} (base : ℕ) (decision : List ℕ → Option (Res
     → (bytes_given chars [] ≡ []) × (bytes_read chars [] ≡ []) → IsQuiet base decision [] → Going base decision chars source source []
 Going-start base decision chars source has none quiet = record {
   before = [];
-  given = subst (Consumes source.coming source.coming) (sym none.0) (Consumes-none source.coming);
+  given = subst (Consumes source.coming source.coming) (sym none.0) (Consumes-nil source.coming);
   undecided = quiet [] text_of-none ∙ ap (λ e. option_map Err (bad_byte base e)) ending_of-none;
   text = ap text_of none.1 ∙ text_of-none;
   has = has;
@@ -66,7 +66,7 @@ module _ {T : Type 0} (base : ℕ) (decision : List ℕ → Option (Result T Fau
       → Consumes source.coming after.coming (bytes_given next gives.after)
   given_on next after y gives =
       subst (Consumes source.coming after.coming) (sym gives.pieces)
-      (Consumes-join _ _ _ (bytes_given chars going.before) gives.more going.given gives.given)
+      (Consumes-trans _ _ _ (bytes_given chars going.before) gives.more going.given gives.given)
 
   -- a character more
   pub Going-on : (next : Characters) (after : SourceState) (c : ℕ) → Gives base chars next going.before left after (c ∷ [])
@@ -82,7 +82,7 @@ module _ {T : Type 0} (base : ℕ) (decision : List ℕ → Option (Result T Fau
   module _ (value : List ℕ → T) (after : SourceState) (fault : Option Fault) (stops : Stops base chars going.before left after fault) where
     given_is : Consumes source.coming after.coming (stops.after ++ stops.last)
     given_is = subst (Consumes source.coming after.coming) (sym stops.pieces)
-        (Consumes-join _ _ _ (bytes_given chars going.before) stops.more going.given stops.given)
+        (Consumes-trans _ _ _ (bytes_given chars going.before) stops.more going.given stops.given)
 
     -- not by its length
     Surveys-short : (result : Result T Fault) → ¬ (fault ≡ Some TooLong) → ¬ (result ≡ Err TooLong) → (result ≡ Err Read → stops.last ≡ [])

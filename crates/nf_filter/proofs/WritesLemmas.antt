@@ -1,26 +1,12 @@
 -- Calls that give to a sink in turn.
-use Rattle.std.proofs.Common.{◌≡◌, ℕ, ◌<◌, true, List, [], ◌++◌, length, Option, Some, None, refl, sym, ap, ◌∙◌, subst, arith, append_assoc, append-nil}
+use Rattle.std.proofs.Common.{◌≡◌, ℕ, ◌<◌, true, List, [], ◌++◌, length, refl, sym, ap, ◌∙◌, subst, arith, append_assoc, append-nil}
 use Rattle.std.proofs.lemmas.List.{length-append}
-use Rattle.std.specs.Io.KnownBytes.{Appends, Keeps}
+use Rattle.std.specs.Io.KnownBytes.{Appends}
+use Rattle.std.proofs.KnownBytes.{Appends-nil, Appends-trans}
 use Rattle.nf_filter.specs.Writes.{SinkState, Puts, Stops}
 
-pub Appends-none : (known : Option (List ℕ)) → Appends known known []
-Appends-none None = tt
-Appends-none (Some xs) = sym (append-nil xs)
-
-pub Appends-kept : (a b : Option (List ℕ)) → Keeps a b → Appends a b []
-Appends-kept None b kept = tt
-Appends-kept (Some xs) None kept = kept
-Appends-kept (Some xs) (Some ys) kept = kept ∙ sym (append-nil xs)
-
-pub Appends-join : (a b c : Option (List ℕ)) (xs ys : List ℕ) → Appends a b xs → Appends b c ys → Appends a c (xs ++ ys)
-Appends-join None b c xs ys first second = tt
-Appends-join (Some u) None c xs ys first second = elim first [ ]
-Appends-join (Some u) (Some v) None xs ys first second = elim second [ ]
-Appends-join (Some u) (Some v) (Some w) xs ys first second = second ∙ ap (λ l. l ++ ys) first ∙ append_assoc u xs ys
-
 pub Puts-none : (state : SinkState) (before : List ℕ) → Puts state state before before
-Puts-none state before = record { out = []; behind = sym (append-nil before); given = Appends-none state.taken; stands = refl; idle = λ _. refl }
+Puts-none state before = record { out = []; behind = sym (append-nil before); given = Appends-nil state.taken; stands = refl; idle = λ _. refl }
 
 -- one call more
 pub Puts-more : {old mid new : SinkState} {before after : List ℕ} (ys : List ℕ) → Puts old mid before after → Appends mid.taken new.taken ys
@@ -28,7 +14,7 @@ pub Puts-more : {old mid new : SinkState} {before after : List ℕ} (ys : List �
 Puts-more {old} {mid} {new} {before} {after} ys first given stands idle = record {
   out = first.out ++ ys;
   behind = ap (λ l. l ++ ys) first.behind ∙ append_assoc before first.out ys;
-  given = Appends-join old.taken mid.taken new.taken first.out ys first.given given;
+  given = Appends-trans old.taken mid.taken new.taken first.out ys first.given given;
   stands = stands ∙ first.stands;
   idle = λ failed. ap (λ l. l ++ ys) (first.idle failed) ∙ idle (first.stands ∙ failed);
 }
@@ -40,7 +26,7 @@ Stops-more {old} {mid} {new} {before} {after} ys rest first given failed more = 
   rest = rest;
   behind = ap (λ l. (l ++ ys) ++ rest) first.behind ∙ ap (λ l. l ++ rest) (append_assoc before first.out ys);
   more = more;
-  given = Appends-join old.taken mid.taken new.taken first.out ys first.given given;
+  given = Appends-trans old.taken mid.taken new.taken first.out ys first.given given;
   failed = failed;
 }
 

@@ -6,7 +6,6 @@ pub mod JudgementLemmas
 pub mod RowLemmas
 pub mod StandingLemmas
 pub mod EndingLemmas
-pub mod SourceLemmas
 pub mod Utf8Lemmas
 pub mod ComparisonLemmas
 pub mod GivenLemmas

@@ -1,6 +1,5 @@
 -- No form changes a sound starter that is its own decomposition.
-use Rattle.std.proofs.Common.{◌≡◌, ℕ, Bool, true, false, ◌&&◌, List, [], ◌∷◌, ◌++◌, refl, sym, ap, ◌∙◌, if◌then◌else◌, bytes_eq}
-use Rattle.std.specs.List.{list_all}
+use Rattle.std.proofs.Common.{◌≡◌, ℕ, Bool, true, false, [], ◌∷◌, ◌++◌, refl, ap, ◌∙◌, if◌then◌else◌}
 use Rattle.std.proofs.lemmas.Bool.{and_from, eq-eqb}
 use Rattle.std.proofs.lemmas.Slice.Eq.{bytes_eq-Decides}
 use Rattle.nf_row.specs.Properties.{Properties}
@@ -9,7 +8,6 @@ use Rattle.nf_row.specs.declared.form.Form.TheVariants.{Nfc, Nfd, Nfkc, Nfkd}
 use Rattle.nf_row.specs.Order.{by_class, order}
 use Rattle.nf_row.specs.Compose.{compose}
 use Rattle.nf_row.specs.Forms.{arranged, composes, finished, decomposed, normal_form}
-use Rattle.nf_row.specs.Sound.{is_sound}
 use Rattle.nf_filter.specs.Settled.{safe_form}
 use Rattle.nf_vectors.specs.Comparison.{holds}
 use Rattle.nf_vectors.specs.Sweep.{is_unchanged}

@@ -1,5 +1,7 @@
 -- The comparisons of a row, one after the other.
 use Rattle.std.proofs.Common.{◌≡◌, ℕ, zero, suc, ◌+◌, ◌-◌, ◌<◌, ◌≤◌, Bool, true, false, not, List, [], ◌∷◌, get_or, Option, Some, None, refl, sym, ap, ◌∙◌, arith, slice_get, ◌==◌, nat_le, encode_utf8_all, if◌then◌else◌}
+use Rattle.std.specs.Prelude.{Result, Ok, Err, IfOk}
+use Rattle.std.specs.Option.{option_or}
 use Rattle.std.proofs.lemmas.Bool.{or_parts}
 use Rattle.std.proofs.lemmas.List.Folds.{find_at}
 use Rattle.std.proofs.lemmas.List.Sums.{position_or_len_is}
@@ -12,7 +14,7 @@ use Rattle.nf_vectors.specs.Columns.{Columns}
 use Rattle.nf_vectors.specs.Suite.{VectorRow}
 use Rattle.nf_vectors.specs.Comparison.{column_at, expected_at, holds_at, broken_column, leaves_format, is_skipped}
 use Rattle.nf_vectors.specs.Views.{utf8_of}
-use Rattle.nf_vectors.specs.Report.{failure_of, by_failure, verdict_of}
+use Rattle.nf_vectors.specs.Report.{failure_in, failure_of, by_failure, verdict_of}
 
 five : List ℕ
 five = 1 ∷ 2 ∷ 3 ∷ 4 ∷ 5 ∷ []
@@ -54,28 +56,31 @@ module _ (f : Form) (p : Properties) (columns : Columns) where
       (λ k below. ap test (nth k below) ∙ ap not (before (k + 1) (omega arith) (omega (arith, below)))) (λ past. absurd (omega (arith, past))) in
       sym (find_at test five ∙ ap (slice_get five) at)
 
+-- the first of two that there is
+or-first : {T : Type 0} {x : T} {o : Option T} (r : Option T) → Some x ≡ o → Some x ≡ option_or o r
+or-first {T} {x} {o} r e = ap (λ o. option_or o r) e
+
+or-second : {T : Type 0} {x o r : Option T} → None ≡ o → x ≡ r → x ≡ option_or o r
+or-second {T} {x} {o} {r} none e = e ∙ ap (λ o. option_or o r) none
+
 module _ (p : Properties) (line : ℕ) (columns : Columns) where
-  pub failure-nfc : (n : ℕ) → Some n ≡ broken_column Nfc p columns → (let P : Failure = record { line = line; form = Nfc; column = n } in Some P) ≡ failure_of p line columns
+  pub failure-nfc : {x : Failure} → Some x ≡ failure_in Nfc p line columns → Some x ≡ failure_of p line columns
   unfolding failure_of
-  failure-nfc n a = simp (sym a)
+  failure-nfc a = or-first _ a
 
-  pub failure-nfd : (n : ℕ) → None ≡ broken_column Nfc p columns → Some n ≡ broken_column Nfd p columns → (let P : Failure = record { line = line; form = Nfd; column = n } in Some P) ≡ failure_of p line columns
+  pub failure-nfd : {x : Failure} → None ≡ failure_in Nfc p line columns → Some x ≡ failure_in Nfd p line columns → Some x ≡ failure_of p line columns
   unfolding failure_of
-  failure-nfd n a b = simp (sym a, sym b)
+  failure-nfd a b = or-second a (or-first _ b)
 
-  pub failure-nfkc : (n : ℕ) → None ≡ broken_column Nfc p columns → None ≡ broken_column Nfd p columns → Some n ≡ broken_column Nfkc p columns
-      → (let P : Failure = record { line = line; form = Nfkc; column = n } in Some P) ≡ failure_of p line columns
+  pub failure-nfkc : {x : Failure} → None ≡ failure_in Nfc p line columns → None ≡ failure_in Nfd p line columns → Some x ≡ failure_in Nfkc p line columns → Some x ≡ failure_of p line columns
   unfolding failure_of
-  failure-nfkc n a b c = simp (sym a, sym b, sym c)
+  failure-nfkc a b c = or-second a (or-second b (or-first _ c))
 
-  pub failure-nfkd : (n : ℕ) → None ≡ broken_column Nfc p columns → None ≡ broken_column Nfd p columns → None ≡ broken_column Nfkc p columns → Some n ≡ broken_column Nfkd p columns
-      → (let P : Failure = record { line = line; form = Nfkd; column = n } in Some P) ≡ failure_of p line columns
+  pub failure-last : None ≡ failure_in Nfc p line columns → None ≡ failure_in Nfd p line columns → None ≡ failure_in Nfkc p line columns
+      → {E : Type 0} (r : Result (Option Failure) E) → IfOk r (λ last. last ≡ failure_in Nfkd p line columns) → IfOk r (λ last. last ≡ failure_of p line columns)
   unfolding failure_of
-  failure-nfkd n a b c d = simp (sym a, sym b, sym c, sym d)
-
-  pub failure-none : None ≡ broken_column Nfc p columns → None ≡ broken_column Nfd p columns → None ≡ broken_column Nfkc p columns → None ≡ broken_column Nfkd p columns → None ≡ failure_of p line columns
-  unfolding failure_of
-  failure-none a b c d = simp (sym a, sym b, sym c, sym d)
+  failure-last a b c (Ok last) d = or-second a (or-second b (or-second c d))
+  failure-last a b c (Err _) d = tt
 
 module _ (p : Properties) (row : VectorRow) where
   pub verdict-skipped : is_skipped p row.columns ≡ true → Skipped ≡ verdict_of p row

@@ -1,7 +1,7 @@
 ghost use Rattle.std.specs.Prelude.{◌≡◌, ◌+◌, ◌<◌, ◌^◌, false, IfOk};
 ghost use Rattle.nf_vectors.specs.Suite.{VectorRow};
 ghost use Rattle.nf_vectors.specs.Comparison.{broken_column, is_skipped};
-ghost use Rattle.nf_vectors.specs.Report.{failure_of, verdict_of, report_and};
+ghost use Rattle.nf_vectors.specs.Report.{failure_in, failure_of, verdict_of, report_and};
 ghost use Rattle.nf_vectors.specs.Views.{columns_of, bytes_of, utf8_of, AreShort};
 ghost use Rattle.nf_vectors.specs.Columns.{Columns as Texts};
 
@@ -117,35 +117,33 @@ fn failure<R: Rows>(
     ensures { (columns : Texts) → bytes_of encoded.now ≡ utf8_of columns → is_skipped (R.properties rows.now) columns ≡ false
         → IfOk result (λ failure. failure ≡ failure_of (R.properties rows.now) line columns) }
 {
-    if let Some(column) = broken_column(rows, Form::Nfc, encoded, sink)? {
-        return Ok(Some(Failure {
-            line,
-            form: Form::Nfc,
-            column,
-        }));
+    if let Some(failure) = failure_in(rows, Form::Nfc, line, encoded, sink)? {
+        return Ok(Some(failure));
     }
-    if let Some(column) = broken_column(rows, Form::Nfd, encoded, sink)? {
-        return Ok(Some(Failure {
-            line,
-            form: Form::Nfd,
-            column,
-        }));
+    if let Some(failure) = failure_in(rows, Form::Nfd, line, encoded, sink)? {
+        return Ok(Some(failure));
     }
-    if let Some(column) = broken_column(rows, Form::Nfkc, encoded, sink)? {
-        return Ok(Some(Failure {
-            line,
-            form: Form::Nfkc,
-            column,
-        }));
+    if let Some(failure) = failure_in(rows, Form::Nfkc, line, encoded, sink)? {
+        return Ok(Some(failure));
     }
-    if let Some(column) = broken_column(rows, Form::Nfkd, encoded, sink)? {
-        return Ok(Some(Failure {
-            line,
-            form: Form::Nfkd,
-            column,
-        }));
+    failure_in(rows, Form::Nfkd, line, encoded, sink)
+}
+
+/// The first comparison that does not hold in this form.
+fn failure_in<R: Rows>(
+    rows: &R,
+    form: Form,
+    line: u32,
+    encoded: &Encoded,
+    sink: &mut Gathered,
+) -> Result<Option<Failure>, Memory>
+    ensures { (columns : Texts) → bytes_of encoded.now ≡ utf8_of columns → is_skipped (R.properties rows.now) columns ≡ false
+        → IfOk result (λ failure. failure ≡ failure_in form (R.properties rows.now) line columns) }
+{
+    match broken_column(rows, form, encoded, sink)? {
+        None => Ok(None),
+        Some(column) => Ok(Some(Failure { line, form, column })),
     }
-    Ok(None)
 }
 
 /// The first column of which it does not hold in this form.

@@ -18,7 +18,8 @@ use Rattle.nf_filter.specs.Finishes.{Finishes}
 use Rattle.nf_filter.specs.Drives.{due_utf8}
 use Rattle.nf_filter.proofs.WritesLemmas.{Puts-none, Puts-join, Puts-at}
 use Rattle.nf_filter.proofs.FilterLemmas.{Puts-from_writes}
-use Rattle.nf_filter.proofs.DriveLemmas.{Consumes-none, Consumes-join, Consumes-kept, Drives-put, Drives-finished, Drives-fed}
+use Rattle.std.proofs.KnownBytes.{Consumes-kept, Consumes-nil, Consumes-trans}
+use Rattle.nf_filter.proofs.DriveLemmas.{Drives-put, Drives-finished, Drives-fed}
 use Rattle.nf_filter.proofs.driving.drive.Goals as goal
 
 -- the rows and the base do not change
@@ -54,7 +55,7 @@ loop-given-init g c =
       base = refl;
       fed = (
         [],
-        Consumes-none (g.I.Source.coming c.args.source.now),
+        Consumes-nil (g.I.Source.coming c.args.source.now),
         λ f bytes stands.
             subst (λ b. StandsAfter f p (state_of c.args.filter) b × Puts state state (settled_utf8 f p bytes) (settled_utf8 f p b)) (sym (append-nil bytes)) (stands, Puts-none state (settled_utf8 f p bytes)),
       );
@@ -83,7 +84,7 @@ returns-then-given-eq0-clause-drives g c = λ f bytes stands.
     Drives-finished f p (base_of (state_of c.args.filter)) bytes fed.0 _ _ _ _ _ _ c.finish.result
     (c.in-Ok.ensures.end ∙ eq-eqb c.in-Ok.given 0 c.if-given-eq0.true) c.finish.ensures.faults (λ e. let absent : true ≡ false = sym (c.finish.ensures.spent.0 e) ∙ c.loop-given.invariant.unspent in cc)
     (subst (λ l. Consumes (g.I.Source.coming c.args.source.now) (g.I.Source.coming c.get.new.self) l) (append-nil fed.0)
-    (Consumes-join _ _ _ fed.0 [] fed.1 (subst (λ n. Consumes (g.I.Source.coming c.loop-given.source) (g.I.Source.coming c.get.new.self) (take n c.get.new.buf)) c.if-given-eq0.true c.in-Ok.ensures.given)))
+    (Consumes-trans _ _ _ fed.0 [] fed.1 (subst (λ n. Consumes (g.I.Source.coming c.loop-given.source) (g.I.Source.coming c.get.new.self) (take n c.get.new.buf)) c.if-given-eq0.true c.in-Ok.ensures.given)))
     (omega (arith, so_far.0.offset, c.loop-given.invariant.base, c.loop-given.filter.state.offset_fits, length-append bytes fed.0))
     (no_fault_at f p _ _ _ c.loop-given.invariant.base so_far.0)
     so_far.1
@@ -104,7 +105,7 @@ returns-in-Err-feed-clause-drives g c = λ f bytes stands.
     (c.in-Ok.ensures.end ∙ ne_eqb c.in-Ok.given 0 c.if-given-eq0.false) c.in-Err-feed.ensures.faults
     (λ e. let absent : true ≡ false = sym (c.in-Err-feed.ensures.spent.0 (ap Err e)) ∙ unspent in cc)
     (omega (arith, length-take c.in-Ok.given c.get.new.buf, c.get.auto.buf, c.loop-given.invariant.room))
-    (Consumes-join _ _ _ fed.0 piece fed.1 c.in-Ok.ensures.given)
+    (Consumes-trans _ _ _ fed.0 piece fed.1 c.in-Ok.ensures.given)
     (λ e. (let over : 18446744073709551615 < offset_of (state_of c.loop-given.filter) + length piece = (c.in-Err-feed.ensures.too_long.0 (ap Err e)).1 in omega (arith, here, over), ap (λ s. sink_state (g.S.Sink.taken s) (g.S.Sink.is_failed s)) (c.in-Err-feed.ensures.kept (inr (ap Err e))).1))
     (λ short. let room = fits_or (c.in-Err-feed.fault ≡ TooLong) (offset_of (state_of c.loop-given.filter)) (length piece)
     (λ above. let long = c.in-Err-feed.ensures.too_long.1 (unspent, above) in let same : c.in-Err-feed.fault ≡ TooLong = cc in same) short in omega (arith, room, here))
@@ -131,7 +132,7 @@ loop-given-preserved g c =
       base = c.in_default.ensures.base ∙ c.loop-given.invariant.base;
       fed = (
         fed.0 ++ piece,
-        Consumes-join _ _ _ fed.0 piece fed.1 c.in-Ok.ensures.given,
+        Consumes-trans _ _ _ fed.0 piece fed.1 c.in-Ok.ensures.given,
         λ f bytes stands.
             let so_far = fed.2 f bytes stands in
             let rows = ap g.R.Rows.properties c.loop-given.invariant.rows in

@@ -5,7 +5,7 @@ use Rattle.std.proofs.lemmas.Bool.{eq-eqb, false≢true}
 use Rattle.nf_vectors.specs.ReadsSuite.{limit, stop_of, lines_within, Tells}
 use Rattle.nf_vectors.specs.Suite.{first_fault}
 use Rattle.nf_vectors.proofs.EndingLemmas.{limit-is, on_ok, read_failed, Tells-found}
-use Rattle.nf_vectors.proofs.SourceLemmas.{Consumes-join, Consumes-kept}
+use Rattle.std.proofs.KnownBytes.{Consumes-kept, Consumes-trans}
 use Rattle.nf_vectors.proofs.suite.Suite.read.Goals as goal
 
 pub returns-in-Err-clause-reads : goal.returns-in-Err-clause-reads
@@ -28,7 +28,7 @@ returns-in-Err-take-clause-reads g c =
     let finds = c.in-Err-take.ensures.finds read.0 read.2 in
     record {
       bytes = read.0 ++ piece;
-      given = Consumes-join _ _ _ read.0 piece read.1 c.in-Ok.ensures.given;
+      given = Consumes-trans _ _ _ read.0 piece read.1 c.in-Ok.ensures.given;
       tells = λ sound. Tells-found (read.0 ++ piece) (g.I.Source.is_failed c.get.new.self) c.in-Err-take.fault (finds sound);
       end = tt;
       before_end = λ _ _ few sound stop. finds sound stop (λ past. absurd (omega (arith, past, few)));
@@ -41,7 +41,7 @@ returns-then-given-eq0-clause-reads g c =
     record {
       bytes = read.0;
       given = subst (λ l. Consumes (g.I.Source.coming c.args.source.now) (g.I.Source.coming c.get.new.self) l) (append-nil read.0)
-          (Consumes-join _ _ _ read.0 [] read.1 (subst (λ n. Consumes (g.I.Source.coming c.loop-given.source) (g.I.Source.coming c.get.new.self) (take n c.get.new.buf)) c.if-given-eq0.true c.in-Ok.ensures.given));
+          (Consumes-trans _ _ _ read.0 [] read.1 (subst (λ n. Consumes (g.I.Source.coming c.loop-given.source) (g.I.Source.coming c.get.new.self) (take n c.get.new.buf)) c.if-given-eq0.true c.in-Ok.ensures.given));
       tells = subst (λ (b : Bool). Tells read.0 b c.finish.result) (sym c.in-Ok.ensures.stands.1) (c.finish.ensures.tells read.0 read.2);
       end = on_ok c.finish.result (λ _. end);
       before_end = λ unended. absurd (false≢true (sym unended ∙ end));
