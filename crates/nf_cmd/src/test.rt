@@ -147,12 +147,12 @@ fn push_sweep(lines: &mut Lines, sweep: Option<Sweep>)
     requires { length lines.old.bytes.items + 131 ≤ 512 }
     ensures { lines.new.bytes.items ≡ lines.old.bytes.items ++ sweep_lines sweep }
 {
-    let Some(Sweep { unlisted, failed, first }) = sweep else {
+    let Some(sweep) = sweep else {
         return;
     };
-    lines.named("unlisted", unlisted as u128);
-    lines.named("unlisted failed", failed as u128);
-    push_first(lines, first);
+    lines.named("unlisted", sweep.unlisted as u128);
+    lines.named("unlisted failed", sweep.failed as u128);
+    push_first(lines, sweep.first);
 }
 
 // The line of the first character, where there is one.
