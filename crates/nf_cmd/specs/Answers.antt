@@ -4,7 +4,7 @@ use Rattle.std.specs.Io.KnownBytes.{Keeps}
 use Rattle.clap.specs.declared.error.kind.ErrorKind.{ErrorKind}
 use Rattle.clap.specs.declared.error.kind.ErrorKind.TheVariants.{DisplayHelp, OutOfMemory}
 use Rattle.clap.specs.Walk.{Text}
-use Rattle.nf_row.specs.Ucd.{ucd}
+use Rattle.nf_forms.specs.Ucd.{ucd}
 use Rattle.nf_cmd.specs.declared.fault.Fault.{Fault}
 use Rattle.nf_cmd.specs.declared.fault.Fault.TheVariants.{Write, Memory}
 use Rattle.nf_cmd.specs.declared.line.Request.{Request}

@@ -1,6 +1,6 @@
 -- What `check` shows: whether the text is in the Stream-Safe Text Format (UAX #15, section 13), and where it is not.
 use Rattle.std.specs.Prelude.{ℕ, List, [], ◌∷◌, ◌++◌, Option, Some, None, Result, Ok, Err, codes, decimal, option_map}
-use Rattle.nf_row.specs.Properties.{Properties}
+use Rattle.nf_forms.specs.Properties.{Properties}
 use Rattle.nf_safe.specs.declared.place.Place.{Place}
 use Rattle.nf_filter.specs.declared.fault.Fault.{Fault as Found}
 use Rattle.nf_filter.specs.Checks.{check_decision, no_place}

@@ -1,8 +1,8 @@
 -- What `convert` reads and writes: what the library's `run` does over the same devices.
 use Rattle.std.specs.Prelude.{◌≡◌, ◌⊎◌, ℕ, Bool, false, List, [], Option, Some, Result, Ok, Err, IsTrue, OnOk, option_map}
 use Rattle.std.specs.Io.KnownBytes.{IsAtEnd, Keeps}
-use Rattle.nf_row.specs.Properties.{Properties}
-use Rattle.nf_row.specs.declared.form.Form.{Form}
+use Rattle.nf_forms.specs.Properties.{Properties}
+use Rattle.nf_forms.specs.declared.form.Form.{Form}
 use Rattle.nf_filter.specs.declared.fault.Fault.{Fault as Found}
 use Rattle.nf_filter.specs.declared.tally.Tally.{Tally}
 use Rattle.nf_filter.specs.Writes.{sink_state}

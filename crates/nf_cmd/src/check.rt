@@ -1,7 +1,7 @@
 //! `check`.
 ghost use Rattle.std.specs.Prelude.{◌≡◌, Bool, IsTrue, IfErr};
 ghost use Rattle.std.specs.Io.KnownBytes.{IsAtEnd};
-ghost use Rattle.nf_row.specs.Ucd.{ucd};
+ghost use Rattle.nf_forms.specs.Ucd.{ucd};
 ghost use Rattle.nf_filter.specs.Surveys.{IsOfSurvey, Surveys};
 ghost use Rattle.nf_filter.specs.Checks.{check_decision, no_place};
 ghost use Rattle.nf_cmd.specs.Checks.{Checks, check_line};

@@ -1,7 +1,7 @@
 //! `convert`.
 ghost use Rattle.std.specs.Prelude.{◌≡◌, true, List, ℕ, Option};
 ghost use Rattle.std.specs.Io.KnownBytes.{Keeps};
-ghost use Rattle.nf_row.specs.Ucd.{ucd};
+ghost use Rattle.nf_forms.specs.Ucd.{ucd};
 ghost use Rattle.nf_filter.specs.declared.fault.Fault.TheVariants.{Spent};
 ghost use Rattle.nf_cmd.specs.Fronts.{IsFrontOf};
 ghost use Rattle.nf_cmd.specs.Converts.{Converts, Runs};

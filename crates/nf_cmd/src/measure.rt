@@ -1,7 +1,7 @@
 //! `measure`.
 ghost use Rattle.std.specs.Prelude.{◌≡◌, Bool, IsTrue, IfErr};
 ghost use Rattle.std.specs.Io.KnownBytes.{IsAtEnd};
-ghost use Rattle.nf_row.specs.Ucd.{ucd};
+ghost use Rattle.nf_forms.specs.Ucd.{ucd};
 ghost use Rattle.nf_filter.specs.Surveys.{IsOfSurvey, Surveys};
 ghost use Rattle.nf_filter.specs.Measures.{measure_decision, text_measure};
 ghost use Rattle.nf_cmd.specs.Measures.{Measures, measure_lines};

@@ -1,7 +1,7 @@
 //! `test`.
 ghost use Rattle.std.specs.Prelude.{◌≡◌, ◌+◌, ◌≤◌, ◌++◌, Bool, IsTrue, length};
 ghost use Rattle.std.specs.Io.KnownBytes.{IsAtEnd};
-ghost use Rattle.nf_row.specs.Ucd.{ucd};
+ghost use Rattle.nf_forms.specs.Ucd.{ucd};
 ghost use Rattle.nf_vectors.specs.ReadsSuite.{ReadsSuite};
 ghost use Rattle.nf_cmd.specs.Tests.{Tests, Finds, finding_of, finding_lines, finding_end, column_end, failure_lines, sweep_lines, first_lines, name_of};
 

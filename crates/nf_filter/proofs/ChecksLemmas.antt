@@ -4,9 +4,9 @@ use Rattle.std.specs.Prelude.{if◌then◌else◌, Option, option_map, encode_ut
 use Rattle.std.specs.List.{list_all, prefix_len}
 use Rattle.std.proofs.lemmas.Bool.{and_parts, and_from}
 use Rattle.std.proofs.lemmas.List.Folds.{list_all-append}
-use Rattle.nf_row.specs.Properties.{Properties}
-use Rattle.nf_row.specs.Sound.{is_sound}
-use Rattle.nf_row.specs.Laws.Last.{by_last}
+use Rattle.nf_forms.specs.Properties.{Properties}
+use Rattle.nf_forms.specs.Sound.{is_sound}
+use Rattle.nf_forms.specs.Laws.Last.{by_last}
 use Rattle.nf_utf8.specs.Reading.{text_of, ending_of}
 use Rattle.nf_safe.specs.declared.place.Place.{Place}
 use Rattle.nf_safe.specs.Place.{place_from}

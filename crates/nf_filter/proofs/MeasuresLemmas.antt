@@ -1,10 +1,10 @@
 -- What a measurement decides, character by character.
 use Rattle.std.proofs.Common.{◌≡◌, ℕ, ◌+◌, Bool, true, false, not, ◌&&◌, ◌||◌, List, [], ◌∷◌, ◌++◌, length, Some, None, Err, refl, ap, ◌∙◌}
 use Rattle.std.specs.Prelude.{if◌then◌else◌, Option, option_map, encode_utf8_all}
-use Rattle.nf_row.specs.Properties.{Properties}
-use Rattle.nf_row.specs.StreamSafe.{joiner, is_too_long, stream_safe}
-use Rattle.nf_row.specs.Sound.{is_sound}
-use Rattle.nf_row.specs.Laws.Sound.{IsSoundText}
+use Rattle.nf_forms.specs.Properties.{Properties}
+use Rattle.nf_forms.specs.StreamSafe.{joiner, is_too_long, stream_safe}
+use Rattle.nf_forms.specs.Sound.{is_sound}
+use Rattle.nf_forms.specs.Laws.Sound.{IsSoundText}
 use Rattle.nf_row.specs.declared.unsound.Unsound.{Unsound}
 use Rattle.nf_utf8.specs.Reading.{text_of, ending_of}
 use Rattle.nf_safe.specs.Measurer.{refusal, unsound_at}

@@ -2,12 +2,12 @@
 use Rattle.std.proofs.Common.{◌≡◌, ℕ, ◌+◌, ◌<◌, ◌≤◌, Bool, true, false, not, ◌||◌, List, [], ◌∷◌, ◌++◌, length, take, drop, get_or, sym, ap, ◌∙◌, subst, arith}
 use Rattle.std.specs.Prelude.{if◌then◌else◌}
 use Rattle.std.proofs.lemmas.List.{length-append, length-take-le, take-append-drop, take_more}
-use Rattle.nf_row.specs.Properties.{Properties, is_starter, is_nonstarter}
-use Rattle.nf_row.specs.Runs.{has_starter, lead, trail}
-use Rattle.nf_row.specs.declared.form.Form.{Form}
-use Rattle.nf_row.specs.Forms.{composes}
-use Rattle.nf_row.specs.Laws.Runs.{has_starter-append, lead-append, trail-le-length, trail-push}
-use Rattle.nf_row.specs.Laws.Compose.{front-append}
+use Rattle.nf_forms.specs.Properties.{Properties, is_starter, is_nonstarter}
+use Rattle.nf_forms.specs.Runs.{has_starter, lead, trail}
+use Rattle.nf_forms.specs.declared.form.Form.{Form}
+use Rattle.nf_forms.specs.Forms.{composes}
+use Rattle.nf_forms.specs.Laws.Runs.{has_starter-append, lead-append, trail-le-length, trail-push}
+use Rattle.nf_forms.specs.Laws.Compose.{front-append}
 use Rattle.nf_filter.specs.Writes.{SinkState, Stops}
 use Rattle.nf_filter.specs.Taken.{run_behind, front_utf8}
 use Rattle.nf_filter.proofs.WritesLemmas.{Stops-longer}

@@ -5,8 +5,8 @@ use Rattle.std.specs.Str.{chars}
 use Rattle.std.proofs.lemmas.Bool.{eqb-true}
 use Rattle.std.proofs.lemmas.List.{length-append, take_all}
 use Rattle.std.proofs.lemmas.Str.{chars-nil, utf8_valid_len_le}
-use Rattle.nf_row.specs.Properties.{Properties}
-use Rattle.nf_row.specs.declared.form.Form.{Form}
+use Rattle.nf_forms.specs.Properties.{Properties}
+use Rattle.nf_forms.specs.declared.form.Form.{Form}
 use Rattle.nf_utf8.specs.declared.decoder.Decoder.{Decoder}
 use Rattle.nf_utf8.specs.Ending.{Ending, Whole, Bad, Cut}
 use Rattle.nf_utf8.specs.Reading.{text_len, text_of, rest_of, begun_len, ending_of}

@@ -7,15 +7,15 @@ use Rattle.std.proofs.lemmas.List.{length-append, take_at, take-append-le, take-
 use Rattle.std.proofs.Math.Seq.{take-length}
 use Rattle.std.proofs.lemmas.List.Folds.{list_all-append}
 use Rattle.std.proofs.lemmas.Str.{encodes-append}
-use Rattle.nf_row.specs.Properties.{Properties}
-use Rattle.nf_row.specs.declared.form.Form.{Form}
-use Rattle.nf_row.specs.Front.{front}
-use Rattle.nf_row.specs.Forms.{decomposed, composes, finished}
-use Rattle.nf_row.specs.StreamSafe.{joiner, is_too_long, stream_safe}
-use Rattle.nf_row.specs.Sound.{is_sound}
-use Rattle.nf_row.specs.Laws.Last.{by_last}
-use Rattle.nf_row.specs.Laws.StreamSafe.{stream_safe-push, decomposed-append}
-use Rattle.nf_row.specs.Laws.Compose.{front-append}
+use Rattle.nf_forms.specs.Properties.{Properties}
+use Rattle.nf_forms.specs.declared.form.Form.{Form}
+use Rattle.nf_forms.specs.Front.{front}
+use Rattle.nf_forms.specs.Forms.{decomposed, composes, finished}
+use Rattle.nf_forms.specs.StreamSafe.{joiner, is_too_long, stream_safe}
+use Rattle.nf_forms.specs.Sound.{is_sound}
+use Rattle.nf_forms.specs.Laws.Last.{by_last}
+use Rattle.nf_forms.specs.Laws.StreamSafe.{stream_safe-push, decomposed-append}
+use Rattle.nf_forms.specs.Laws.Compose.{front-append}
 use Rattle.nf_safe.specs.LongestFront.{longest_front}
 use Rattle.nf_safe.specs.Laws.LongestFront.{longest_front-push, longest_front-all, longest_front-le, longest_front_is}
 use Rattle.nf_filter.specs.Settled.{safe_form, settled, is_usable, usable}

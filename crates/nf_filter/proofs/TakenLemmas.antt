@@ -3,16 +3,16 @@ use Rattle.std.proofs.Common.{◌≡◌, ℕ, ◌+◌, ◌≤◌, Bool, true, fa
 use Rattle.std.specs.Prelude.{if◌then◌else◌, encode_utf8_all, Result, OnOk}
 use Rattle.std.proofs.lemmas.Bool.{false≢true, ltb-false}
 use Rattle.std.proofs.lemmas.List.{length-append}
-use Rattle.nf_row.specs.Properties.{Properties}
-use Rattle.nf_row.specs.declared.form.Form.{Form}
-use Rattle.nf_row.specs.declared.form.Form.TheVariants.{Nfc, Nfd, Nfkc, Nfkd}
-use Rattle.nf_row.specs.Runs.{has_starter, lead, trail}
-use Rattle.nf_row.specs.Forms.{row_of, decomposed}
-use Rattle.nf_row.specs.StreamSafe.{joiner, max_run, is_too_long, parted, stream_safe}
-use Rattle.nf_row.specs.Sound.{is_sound}
-use Rattle.nf_row.specs.Laws.Runs.{lead-marks, lead-le-length, trail-marks}
-use Rattle.nf_row.specs.Laws.StreamSafe.{stream_safe-push, decomposed-push}
-use Rattle.nf_row.specs.Laws.Sound.{JoinerIsPlain, IsSound, IsSound-from_test, JoinerIsPlain-from_sound}
+use Rattle.nf_forms.specs.Properties.{Properties}
+use Rattle.nf_forms.specs.declared.form.Form.{Form}
+use Rattle.nf_forms.specs.declared.form.Form.TheVariants.{Nfc, Nfd, Nfkc, Nfkd}
+use Rattle.nf_forms.specs.Runs.{has_starter, lead, trail}
+use Rattle.nf_forms.specs.Forms.{row_of, decomposed}
+use Rattle.nf_forms.specs.StreamSafe.{joiner, max_run, is_too_long, parted, stream_safe}
+use Rattle.nf_forms.specs.Sound.{is_sound}
+use Rattle.nf_forms.specs.Laws.Runs.{lead-marks, lead-le-length, trail-marks}
+use Rattle.nf_forms.specs.Laws.StreamSafe.{stream_safe-push, decomposed-push}
+use Rattle.nf_forms.specs.Laws.Sound.{JoinerIsPlain, IsSound, IsSound-from_test, JoinerIsPlain-from_sound}
 use Rattle.nf_safe.specs.Count.{counted, passes, count_step}
 use Rattle.nf_safe.specs.Laws.Count.{count_step-within, trail-decomposed-safe_step}
 use Rattle.nf_pending.specs.StandsAfter.{run_len, StandsAfter as PendingStandsAfter}

@@ -2,8 +2,8 @@
 -- Standard, section 3.9).
 use Rattle.std.specs.Prelude.{ℕ, ◌+◌, List, length, Option, Some, None, option_map, Result, Ok, Err, if◌then◌else◌, take_while, encode_utf8_all}
 use Rattle.std.specs.List.{list_all}
-use Rattle.nf_row.specs.Properties.{Properties}
-use Rattle.nf_row.specs.Sound.{is_sound}
+use Rattle.nf_forms.specs.Properties.{Properties}
+use Rattle.nf_forms.specs.Sound.{is_sound}
 use Rattle.nf_utf8.specs.Reading.{text_of, ending_of}
 use Rattle.nf_safe.specs.declared.place.Place.{Place}
 use Rattle.nf_safe.specs.Place.{place_from}

@@ -1,6 +1,6 @@
 -- The fault at which the reading of bytes stops (The Unicode Standard, section 3.9; UAX #15, section 13).
 use Rattle.std.specs.Prelude.{ℕ, ◌+◌, List, length, Option, Some, None, if◌then◌else◌, encode_utf8_all}
-use Rattle.nf_row.specs.Properties.{Properties}
+use Rattle.nf_forms.specs.Properties.{Properties}
 use Rattle.nf_utf8.specs.Ending.{Ending, Whole, Bad, Cut}
 use Rattle.nf_utf8.specs.Reading.{text_of, ending_of}
 use Rattle.nf_filter.specs.declared.fault.Fault.{Fault}

@@ -1,8 +1,8 @@
 -- What feeding a piece to a filter answers and writes.
 use Rattle.std.specs.Prelude.{◌≡◌, ℕ, ◌<◌, ◌↔◌, List, ◌++◌, length, IsTrue, Result, Err}
 use Rattle.std.specs.Result.{result_err}
-use Rattle.nf_row.specs.Properties.{Properties}
-use Rattle.nf_row.specs.declared.form.Form.{Form}
+use Rattle.nf_forms.specs.Properties.{Properties}
+use Rattle.nf_forms.specs.declared.form.Form.{Form}
 use Rattle.nf_filter.specs.declared.fault.Fault.{Fault}
 use Rattle.nf_filter.specs.declared.fault.Fault.TheVariants.{Write}
 use Rattle.nf_filter.specs.Writes.{SinkState, Writes, BreaksOff}

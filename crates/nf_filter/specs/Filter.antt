@@ -1,7 +1,7 @@
 -- Where a filter stands.
 use Rattle.std.specs.Prelude.{◌≡◌, false, Bool, ℕ, ◌+◌, List, length}
-use Rattle.nf_row.specs.Properties.{Properties}
-use Rattle.nf_row.specs.declared.form.Form.{Form}
+use Rattle.nf_forms.specs.Properties.{Properties}
+use Rattle.nf_forms.specs.declared.form.Form.{Form}
 use Rattle.nf_filter.specs.declared.filter.Filter.{Filter}
 use Rattle.nf_filter.specs.declared.filter.State.{State}
 use Rattle.nf_filter.specs.Reading.{HasRead}

@@ -1,8 +1,8 @@
 -- What finishing a filter answers and writes.
 use Rattle.std.specs.Prelude.{◌≡◌, ℕ, ◌+◌, ◌-◌, ◌<◌, ◌↔◌, List, length, IsTrue, Result, Ok, Err, encode_utf8_all}
-use Rattle.nf_row.specs.Properties.{Properties}
-use Rattle.nf_row.specs.declared.form.Form.{Form}
-use Rattle.nf_row.specs.StreamSafe.{stream_safe}
+use Rattle.nf_forms.specs.Properties.{Properties}
+use Rattle.nf_forms.specs.declared.form.Form.{Form}
+use Rattle.nf_forms.specs.StreamSafe.{stream_safe}
 use Rattle.nf_utf8.specs.Ending.{Ending, Whole, Bad, Cut}
 use Rattle.nf_utf8.specs.Reading.{text_of, ending_of}
 use Rattle.nf_filter.specs.declared.fault.Fault.{Fault}

@@ -1,11 +1,11 @@
 -- Laws of what is settled. `src/laws.rt` has each as a contract.
 use Rattle.std.specs.Prelude.{◌≡◌, ℕ, ◌+◌, ◌≤◌, List, ◌++◌, length, IsTrue}
-use Rattle.nf_row.specs.Properties.{Properties}
-use Rattle.nf_row.specs.declared.form.Form.{Form}
-use Rattle.nf_row.specs.declared.form.Form.TheVariants.{Nfkd}
-use Rattle.nf_row.specs.Runs.{trail}
-use Rattle.nf_row.specs.Forms.{decomposed}
-use Rattle.nf_row.specs.StreamSafe.{max_run, stream_safe}
+use Rattle.nf_forms.specs.Properties.{Properties}
+use Rattle.nf_forms.specs.declared.form.Form.{Form}
+use Rattle.nf_forms.specs.declared.form.Form.TheVariants.{Nfkd}
+use Rattle.nf_forms.specs.Runs.{trail}
+use Rattle.nf_forms.specs.Forms.{decomposed}
+use Rattle.nf_forms.specs.StreamSafe.{max_run, stream_safe}
 use Rattle.nf_filter.specs.Settled.{safe_form, settled, is_usable}
 
 -- whatever follows a text, what is settled of it stays

@@ -2,12 +2,12 @@
 -- Standard, section 3.11; UAX #15, sections 9 and 13).
 use Rattle.std.specs.Prelude.{ℕ, Bool, List, take}
 use Rattle.std.specs.List.{list_all}
-use Rattle.nf_row.specs.Properties.{Properties}
-use Rattle.nf_row.specs.declared.form.Form.{Form}
-use Rattle.nf_row.specs.Front.{front}
-use Rattle.nf_row.specs.Forms.{normal_form}
-use Rattle.nf_row.specs.StreamSafe.{stream_safe}
-use Rattle.nf_row.specs.Sound.{is_sound}
+use Rattle.nf_forms.specs.Properties.{Properties}
+use Rattle.nf_forms.specs.declared.form.Form.{Form}
+use Rattle.nf_forms.specs.Front.{front}
+use Rattle.nf_forms.specs.Forms.{normal_form}
+use Rattle.nf_forms.specs.StreamSafe.{stream_safe}
+use Rattle.nf_forms.specs.Sound.{is_sound}
 use Rattle.nf_safe.specs.LongestFront.{longest_front}
 
 -- the form of the stream-safe text

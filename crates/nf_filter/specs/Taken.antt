@@ -1,13 +1,13 @@
 -- Where the characters taken leave a filter.
 use Rattle.std.specs.Prelude.{◌≡◌, true, false, ℕ, ◌+◌, ◌≤◌, List, ◌∷◌, ◌++◌, [], length, encode_utf8_all, Result, Ok, Err, if◌then◌else◌}
-use Rattle.nf_row.specs.Properties.{Properties}
-use Rattle.nf_row.specs.declared.form.Form.{Form}
-use Rattle.nf_row.specs.declared.form.Form.TheVariants.{Nfkd}
-use Rattle.nf_row.specs.Runs.{has_starter, lead, trail}
-use Rattle.nf_row.specs.Forms.{row_of, decomposed, finished}
-use Rattle.nf_row.specs.Front.{front}
-use Rattle.nf_row.specs.StreamSafe.{joiner, parted, stream_safe}
-use Rattle.nf_row.specs.Sound.{is_sound}
+use Rattle.nf_forms.specs.Properties.{Properties}
+use Rattle.nf_forms.specs.declared.form.Form.{Form}
+use Rattle.nf_forms.specs.declared.form.Form.TheVariants.{Nfkd}
+use Rattle.nf_forms.specs.Runs.{has_starter, lead, trail}
+use Rattle.nf_forms.specs.Forms.{row_of, decomposed, finished}
+use Rattle.nf_forms.specs.Front.{front}
+use Rattle.nf_forms.specs.StreamSafe.{joiner, parted, stream_safe}
+use Rattle.nf_forms.specs.Sound.{is_sound}
 use Rattle.nf_pending.specs.declared.pending.Pending.{Pending}
 use Rattle.nf_pending.specs.StandsAfter.{run_len, StandsAfter as PendingStandsAfter}
 use Rattle.nf_filter.specs.declared.devices.Failed.{Failed}

@@ -1,5 +1,5 @@
 ghost use Rattle.std.specs.Prelude.{◌≡◌, ◌↔◌, ℕ, List, [], IsTrue, IsFalse, OnOk};
-ghost use Rattle.nf_row.specs.declared.form.Form.{Form};
+ghost use Rattle.nf_forms.specs.declared.form.Form.{Form};
 ghost use Rattle.nf_filter.specs.Writes.{sink_state};
 ghost use Rattle.nf_filter.specs.Filter.{rows_of, state_of, base_of, is_spent, StandsAfter};
 ghost use Rattle.nf_filter.specs.Drives.{Drives};

@@ -31,10 +31,10 @@ pub struct State {
 
 impl<'r, R: Rows> Filter<'r, R> {
     ghost use Rattle.std.specs.Prelude.{◌≡◌, ◌+◌, ◌<◌, ◌≤◌, ◌↔◌, ◌⊎◌, ℕ, List, [], ◌++◌, length, if◌then◌else◌, IsTrue, IsFalse, IsErr, OnOk, IfErr, is_ok, encode_utf8_all};
-    ghost use Rattle.nf_row.specs.declared.form.Form.{Form};
-    ghost use Rattle.nf_row.specs.Runs.{has_starter, trail};
-    ghost use Rattle.nf_row.specs.Forms.{decomposed};
-    ghost use Rattle.nf_row.specs.StreamSafe.{stream_safe};
+    ghost use Rattle.nf_forms.specs.declared.form.Form.{Form};
+    ghost use Rattle.nf_forms.specs.Runs.{has_starter, trail};
+    ghost use Rattle.nf_forms.specs.Forms.{decomposed};
+    ghost use Rattle.nf_forms.specs.StreamSafe.{stream_safe};
     ghost use Rattle.nf_utf8.specs.Reading.{text_of};
     ghost use Rattle.nf_filter.specs.Faults.{IsOfFeeding, IsOfFinishing};
     ghost use Rattle.nf_filter.specs.Writes.{sink_state};

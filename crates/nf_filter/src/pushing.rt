@@ -1,8 +1,8 @@
 ghost use Rattle.std.specs.Prelude.{◌≡◌, ◌+◌, ◌<◌, ◌≤◌, ℕ, List, [], ◌∷◌, ◌++◌, length, if◌then◌else◌, IsTrue, OnOk, MatchResult, encode_utf8_all};
-ghost use Rattle.nf_row.specs.Properties.{is_starter, is_nonstarter};
-ghost use Rattle.nf_row.specs.Runs.{has_starter, lead, trail};
-ghost use Rattle.nf_row.specs.declared.form.Form.{Form};
-ghost use Rattle.nf_row.specs.Forms.{finished};
+ghost use Rattle.nf_forms.specs.Properties.{is_starter, is_nonstarter};
+ghost use Rattle.nf_forms.specs.Runs.{has_starter, lead, trail};
+ghost use Rattle.nf_forms.specs.declared.form.Form.{Form};
+ghost use Rattle.nf_forms.specs.Forms.{finished};
 ghost use Rattle.nf_pending.specs.StandsAfter.{run_len, StandsAfter};
 ghost use Rattle.nf_filter.specs.Writes.{sink_state, Puts, Stops};
 ghost use Rattle.nf_filter.specs.Taken.{Pushes, front_utf8};

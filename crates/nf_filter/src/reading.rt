@@ -15,8 +15,8 @@ pub struct Reading {
 
 impl Reading {
     ghost use Rattle.std.specs.Prelude.{◌≡◌, ◌+◌, ◌<◌, ◌≤◌, ℕ, List, [], ◌∷◌, length, OnOk, IfErr};
-    ghost use Rattle.nf_row.specs.Properties.{Properties};
-    ghost use Rattle.nf_row.specs.declared.form.Form.{Form};
+    ghost use Rattle.nf_forms.specs.Properties.{Properties};
+    ghost use Rattle.nf_forms.specs.declared.form.Form.{Form};
     ghost use Rattle.nf_filter.specs.Faults.{IsOfReading};
     ghost use Rattle.nf_filter.specs.Writes.{sink_state};
     ghost use Rattle.nf_filter.specs.Reading.{HasRead, IsBefore, Reads};

@@ -1,6 +1,6 @@
 ghost use Rattle.std.specs.Prelude.{◌≡◌, IsTrue};
-ghost use Rattle.nf_row.specs.Sound.{is_sound};
-ghost use Rattle.nf_row.specs.Forms.{row_of};
+ghost use Rattle.nf_forms.specs.Sound.{is_sound};
+ghost use Rattle.nf_forms.specs.Forms.{row_of};
 
 use crate::devices::{Failed, Sink};
 use crate::pushing::{end, push, push_row};
@@ -29,13 +29,13 @@ pub struct Taken {
 
 impl Taken {
     ghost use Rattle.std.specs.Prelude.{◌≡◌, ◌+◌, ◌<◌, ◌≤◌, ℕ, List, [], ◌∷◌, ◌++◌, if◌then◌else◌, IsTrue, IfOk, OnOk, MatchResult, encode_utf8_all};
-    ghost use Rattle.nf_row.specs.Properties.{Properties};
-    ghost use Rattle.nf_row.specs.Runs.{has_starter, trail};
+    ghost use Rattle.nf_forms.specs.Properties.{Properties};
+    ghost use Rattle.nf_forms.specs.Runs.{has_starter, trail};
     ghost use Rattle.nf_row.specs.Ends.{HasEnds};
-    ghost use Rattle.nf_row.specs.declared.form.Form.{Form};
-    ghost use Rattle.nf_row.specs.Forms.{row_of, decomposed};
-    ghost use Rattle.nf_row.specs.StreamSafe.{stream_safe};
-    ghost use Rattle.nf_row.specs.Sound.{is_sound};
+    ghost use Rattle.nf_forms.specs.declared.form.Form.{Form};
+    ghost use Rattle.nf_forms.specs.Forms.{row_of, decomposed};
+    ghost use Rattle.nf_forms.specs.StreamSafe.{stream_safe};
+    ghost use Rattle.nf_forms.specs.Sound.{is_sound};
     ghost use Rattle.nf_pending.specs.StandsAfter.{run_len, StandsAfter};
     ghost use Rattle.nf_filter.specs.Writes.{sink_state, Puts, Stops};
     ghost use Rattle.nf_filter.specs.Settled.{settled, safe_form};

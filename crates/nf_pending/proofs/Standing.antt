@@ -5,17 +5,17 @@ use Rattle.std.proofs.lemmas.List.{append-nil, map-append, take-map, drop-map}
 use Rattle.std.specs.Prelude.{insert, is_some, unwrap_or, ◌||◌}
 use Rattle.std.specs.List.{prefix_len}
 use Rattle.std.specs.Option.{option_to_list}
-use Rattle.nf_row.specs.Properties.{Properties, is_starter}
-use Rattle.nf_row.specs.Runs.{has_starter}
-use Rattle.nf_row.specs.Front.{front, back}
-use Rattle.nf_row.specs.Order.{by_class}
-use Rattle.nf_row.specs.Compose.{composite}
-use Rattle.nf_row.specs.declared.form.Form.{Form}
-use Rattle.nf_row.specs.Forms.{composes, finished}
-use Rattle.nf_row.specs.Laws.Runs.{has_starter-append, trail-push}
-use Rattle.nf_row.specs.Laws.Front.{front-append-back, marks_push}
-use Rattle.nf_row.specs.Laws.Order.{by_class-push, has_starter-by_class}
-use Rattle.nf_row.specs.Laws.Compose.{IsGroup, closed_off, closed_off-group, next_composite, next_composite-none, settled_by, front-push_starter, back-push_starter, front-behind, back-behind, back-starter, back-empty, has_starter-head}
+use Rattle.nf_forms.specs.Properties.{Properties, is_starter}
+use Rattle.nf_forms.specs.Runs.{has_starter}
+use Rattle.nf_forms.specs.Front.{front, back}
+use Rattle.nf_forms.specs.Order.{by_class}
+use Rattle.nf_forms.specs.Compose.{composite}
+use Rattle.nf_forms.specs.declared.form.Form.{Form}
+use Rattle.nf_forms.specs.Forms.{composes, finished}
+use Rattle.nf_forms.specs.Laws.Runs.{has_starter-append, trail-push}
+use Rattle.nf_forms.specs.Laws.Front.{front-append-back, marks_push}
+use Rattle.nf_forms.specs.Laws.Order.{by_class-push, has_starter-by_class}
+use Rattle.nf_forms.specs.Laws.Compose.{IsGroup, closed_off, closed_off-group, next_composite, next_composite-none, settled_by, front-push_starter, back-push_starter, front-behind, back-behind, back-starter, back-empty, has_starter-head}
 use Rattle.nf_pending.specs.declared.mark.Mark.{Mark}
 use Rattle.nf_pending.specs.declared.pending.Pending.{Pending}
 use Rattle.nf_pending.specs.Mark.{mark_of}

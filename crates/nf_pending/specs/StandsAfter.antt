@@ -1,12 +1,12 @@
 -- When a pending machine stands after the decomposed text that was pushed to it.
 use Rattle.std.specs.Prelude.{◌≡◌, ℕ, false, List, ◌++◌, length, map}
 use Rattle.std.specs.Option.{option_to_list}
-use Rattle.nf_row.specs.Properties.{Properties}
-use Rattle.nf_row.specs.Runs.{has_starter, trail}
-use Rattle.nf_row.specs.Front.{back}
-use Rattle.nf_row.specs.Order.{by_class}
-use Rattle.nf_row.specs.declared.form.Form.{Form}
-use Rattle.nf_row.specs.Forms.{composes, finished}
+use Rattle.nf_forms.specs.Properties.{Properties}
+use Rattle.nf_forms.specs.Runs.{has_starter, trail}
+use Rattle.nf_forms.specs.Front.{back}
+use Rattle.nf_forms.specs.Order.{by_class}
+use Rattle.nf_forms.specs.declared.form.Form.{Form}
+use Rattle.nf_forms.specs.Forms.{composes, finished}
 use Rattle.nf_pending.specs.declared.pending.Pending.{Pending}
 use Rattle.nf_pending.specs.Mark.{mark_of}
 

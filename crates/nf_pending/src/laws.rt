@@ -1,10 +1,10 @@
 //! Laws of what is settled, each the contract of a function without a body.
 ghost use Rattle.std.specs.Prelude.{◌≡◌, ℕ, ◌+◌, ◌≤◌, List, ◌++◌, length};
-ghost use Rattle.nf_row.specs.Properties.{Properties};
-ghost use Rattle.nf_row.specs.Runs.{trail};
-ghost use Rattle.nf_row.specs.Front.{front};
-ghost use Rattle.nf_row.specs.declared.form.Form.{Form};
-ghost use Rattle.nf_row.specs.Forms.{finished};
+ghost use Rattle.nf_forms.specs.Properties.{Properties};
+ghost use Rattle.nf_forms.specs.Runs.{trail};
+ghost use Rattle.nf_forms.specs.Front.{front};
+ghost use Rattle.nf_forms.specs.declared.form.Form.{Form};
+ghost use Rattle.nf_forms.specs.Forms.{finished};
 
 /// What has settled is never taken back: whatever comes behind a decomposed text, the front of its form stays as a
 /// beginning of the front.

@@ -2,10 +2,10 @@
 use Rattle.std.proofs.Common.{◌≡◌, ℕ, ◌+◌, ◌≤◌, Bool, true, false, ◌||◌, List, [], ◌∷◌, ◌++◌, length, refl, sym, ap, ◌∙◌, arith, cond, not}
 use Rattle.std.specs.Prelude.{if◌then◌else◌}
 use Rattle.nf_row.specs.declared.ends.Ends.{Ends}
-use Rattle.nf_row.specs.Properties.{Properties, is_starter}
-use Rattle.nf_row.specs.Runs.{has_starter, lead}
+use Rattle.nf_forms.specs.Properties.{Properties, is_starter}
+use Rattle.nf_forms.specs.Runs.{has_starter, lead}
 use Rattle.nf_row.specs.Ends.{HasEnds}
-use Rattle.nf_row.specs.Laws.Runs.{has_starter-append, lead-append, lead-marks, trail-push}
+use Rattle.nf_forms.specs.Laws.Runs.{has_starter-append, lead-append, lead-marks, trail-push}
 
 pub HasEnds-push : (p : Properties) (w : List ℕ) (c : ℕ) (old new : Ends) → HasEnds p w old
     → new.has_starter ≡ (old.has_starter || is_starter p c)

@@ -1,3 +1,1 @@
-mod Examples
-mod FormsOfTexts
 pub mod EndsLemmas

@@ -1,8 +1,8 @@
 -- How a text begins and ends.
 use Rattle.std.specs.Prelude.{◌≡◌, ℕ, List}
 use Rattle.nf_row.specs.declared.ends.Ends.{Ends}
-use Rattle.nf_row.specs.Properties.{Properties}
-use Rattle.nf_row.specs.Runs.{lead, trail, has_starter}
+use Rattle.nf_forms.specs.Properties.{Properties}
+use Rattle.nf_forms.specs.Runs.{lead, trail, has_starter}
 
 -- these are the ends of w
 pub record HasEnds (p : Properties) (w : List ℕ) (ends : Ends) : Type 0 where

@@ -1,15 +1,4 @@
-pub mod Properties
-pub mod Runs
-pub mod Front
-pub mod Order
-pub mod Ordering
-pub mod Compose
-pub mod Forms
-pub mod StreamSafe
-pub mod Sound
-pub mod Ucd
 pub mod Changes
 pub mod Patched
 pub mod Ends
 pub mod Shape
-pub mod Laws

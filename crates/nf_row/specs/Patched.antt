@@ -3,8 +3,8 @@ use Rattle.std.specs.Prelude.{ℕ, List, Option, Some, None, unwrap_or}
 use Rattle.std.specs.Borrow.{Bor}
 use Rattle.nf_row.specs.declared.patched.Change.{Change}
 use Rattle.nf_row.specs.declared.patched.Patched.{Patched}
-use Rattle.nf_row.specs.Properties.{Properties}
-use Rattle.nf_row.specs.Ucd.{ucd}
+use Rattle.nf_forms.specs.Properties.{Properties}
+use Rattle.nf_forms.specs.Ucd.{ucd}
 use Rattle.nf_row.specs.Changes.{first_change, class_in, canonical_in, compat_in, pair_in, assigned_in}
 
 abbrev pub changes_of : Patched → List Change

@@ -2,9 +2,9 @@
 use Rattle.std.specs.Prelude.{◌≡◌, ◌≤◌, ◌==◌, ◌&&◌, ◌||◌, ℕ, Bool, not, nat_le, List, [], ◌∷◌, length}
 use Rattle.std.specs.Str.{bytes_eq}
 use Rattle.nf_row.specs.declared.soundness.Shape.{Shape}
-use Rattle.nf_row.specs.Properties.{Properties}
-use Rattle.nf_row.specs.StreamSafe.{joiner}
-use Rattle.nf_row.specs.Sound.{max_row}
+use Rattle.nf_forms.specs.Properties.{Properties}
+use Rattle.nf_forms.specs.StreamSafe.{joiner}
+use Rattle.nf_forms.specs.Sound.{max_row}
 use Rattle.nf_row.specs.Ends.{HasEnds}
 
 -- this is the shape of w, a row of at most 18 members

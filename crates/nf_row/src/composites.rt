@@ -1,5 +1,5 @@
 ghost use Rattle.std.specs.Prelude.{◌≡◌};
-ghost use Rattle.nf_row.specs.Compose.{composite};
+ghost use Rattle.nf_forms.specs.Compose.{composite};
 
 use crate::rows::Rows;
 

@@ -17,7 +17,7 @@ pub struct Ends {
 
 impl Ends {
     ghost use Rattle.std.specs.Prelude.{◌≡◌, ◌<◌, ◌+◌, ◌||◌, [], if◌then◌else◌};
-    ghost use Rattle.nf_row.specs.Properties.{Properties};
+    ghost use Rattle.nf_forms.specs.Properties.{Properties};
     ghost use Rattle.nf_row.specs.Ends.{HasEnds};
 
     /// The ends of `row`, by one look at the class of each member.

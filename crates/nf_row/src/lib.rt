@@ -7,9 +7,6 @@
 
 mod composites;
 mod ends;
-mod form;
-mod joiner;
-pub mod laws;
 mod patched;
 mod rows;
 mod runs;
@@ -21,8 +18,7 @@ mod unsound;
 
 pub use composites::composite;
 pub use ends::Ends;
-pub use form::Form;
-pub use joiner::JOINER;
+pub use nf_forms::{Form, JOINER};
 pub use patched::{Change, Patched};
 pub use rows::{Long, Row, Rows};
 pub use runs::{has_starter, lead, trail};

@@ -1,5 +1,5 @@
 ghost use Rattle.std.specs.Prelude.{◌≡◌, ◌<◌, ◌↔◌, length, IsErr, IfOk};
-ghost use Rattle.nf_row.specs.Properties.{Properties};
+ghost use Rattle.nf_forms.specs.Properties.{Properties};
 
 use arrayvec::ArrayVec;
 

@@ -1,5 +1,5 @@
 ghost use Rattle.std.specs.Prelude.{◌≡◌, ◌≤◌};
-ghost use Rattle.nf_row.specs.Runs.{lead, trail, has_starter};
+ghost use Rattle.nf_forms.specs.Runs.{lead, trail, has_starter};
 
 use crate::rows::{Row, Rows};
 

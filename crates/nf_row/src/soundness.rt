@@ -1,14 +1,13 @@
 ghost use Rattle.std.specs.Prelude.{◌≡◌, ◌==◌, ◌&&◌, is_some, IfSome};
-ghost use Rattle.nf_row.specs.StreamSafe.{joiner};
-ghost use Rattle.nf_row.specs.Forms.{row_of};
+ghost use Rattle.nf_forms.specs.StreamSafe.{joiner};
+ghost use Rattle.nf_forms.specs.Forms.{row_of};
 ghost use Rattle.nf_row.specs.Ends.{HasEnds};
 ghost use Rattle.nf_row.specs.Shape.{IsShapeOf, shapes_agree};
-ghost use Rattle.nf_row.specs.Sound.{is_sound};
+ghost use Rattle.nf_forms.specs.Sound.{is_sound};
 
 use crate::ends::Ends;
-use crate::form::Form;
-use crate::joiner::JOINER;
 use crate::rows::{Row, Rows};
+use nf_forms::{Form, JOINER};
 
 /// What is read of a sound character.
 #[derive(Debug, Drop)]

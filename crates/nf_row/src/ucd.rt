@@ -1,6 +1,6 @@
 ghost use Rattle.std.specs.Prelude.{◌≡◌, ◌≤◌, length, IfOk, IsOk};
 ghost use Rattle.unicode_normalization.specs.Decompose.{decompose};
-ghost use Rattle.nf_row.specs.Ucd.{ucd};
+ghost use Rattle.nf_forms.specs.Ucd.{ucd};
 
 use crate::rows::{Long, Row, Rows, row_from};
 use unicode::properties::GeneralCategory;
@@ -11,7 +11,7 @@ use unicode_normalization::{Form, char as lookup};
 #[derive(Clone, Copy, Debug, Default, PartialEq, Eq, Hash)]
 pub struct Ucd;
 
-#[tactic(auto, unfolding(crate::specs::Ucd::ucd, crate::specs::Ucd::is_assigned))]
+#[tactic(auto, unfolding(nf_forms::specs::Ucd::ucd, nf_forms::specs::Ucd::is_assigned))]
 impl Rows for Ucd {
     ghost properties = { λ _. ucd };
 

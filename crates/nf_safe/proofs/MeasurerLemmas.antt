@@ -7,16 +7,16 @@ use Rattle.std.proofs.lemmas.List.{length-append}
 use Rattle.std.proofs.lemmas.List.Folds.{list_all-append}
 use Rattle.std.proofs.lemmas.List.Sums.{sum_by_push}
 use Rattle.std.proofs.lemmas.Str.{encodes-append}
-use Rattle.nf_row.specs.Properties.{Properties}
-use Rattle.nf_row.specs.declared.form.Form.TheVariants.{Nfkd}
-use Rattle.nf_row.specs.Runs.{trail}
-use Rattle.nf_row.specs.Forms.{decomposed}
-use Rattle.nf_row.specs.StreamSafe.{joiner, is_too_long, stream_safe}
-use Rattle.nf_row.specs.Sound.{is_sound}
-use Rattle.nf_row.specs.Laws.Last.{by_last}
-use Rattle.nf_row.specs.Laws.Sound.{IsSoundText, JoinerIsPlain-from_sound}
-use Rattle.nf_row.specs.Laws.Starters.{longest-order}
-use Rattle.nf_row.specs.Laws.StreamSafe.{stream_safe-push, decomposed-push}
+use Rattle.nf_forms.specs.Properties.{Properties}
+use Rattle.nf_forms.specs.declared.form.Form.TheVariants.{Nfkd}
+use Rattle.nf_forms.specs.Runs.{trail}
+use Rattle.nf_forms.specs.Forms.{decomposed}
+use Rattle.nf_forms.specs.StreamSafe.{joiner, is_too_long, stream_safe}
+use Rattle.nf_forms.specs.Sound.{is_sound}
+use Rattle.nf_forms.specs.Laws.Last.{by_last}
+use Rattle.nf_forms.specs.Laws.Sound.{IsSoundText, JoinerIsPlain-from_sound}
+use Rattle.nf_forms.specs.Laws.Starters.{longest-order}
+use Rattle.nf_forms.specs.Laws.StreamSafe.{stream_safe-push, decomposed-push}
 use Rattle.nf_safe.specs.declared.measure.Measure.{Measure}
 use Rattle.nf_safe.specs.declared.measurer.Measurer.{Measurer}
 use Rattle.nf_safe.specs.Count.{passes, count_step}

@@ -2,9 +2,9 @@
 use Rattle.std.proofs.Common.{◌≡◌, ℕ, ◌+◌, max, not, Bool, true, false, cond, List, [], ◌∷◌, ◌++◌, sym, ap, ◌∙◌, arith}
 use Rattle.std.specs.Prelude.{if◌then◌else◌, count_by}
 use Rattle.std.proofs.lemmas.List.Sums.{sum_by_push}
-use Rattle.nf_row.specs.Properties.{Properties, is_starter, is_nonstarter}
-use Rattle.nf_row.specs.Runs.{trail, longest}
-use Rattle.nf_row.specs.Laws.Runs.{trail-push, longest-append}
+use Rattle.nf_forms.specs.Properties.{Properties, is_starter, is_nonstarter}
+use Rattle.nf_forms.specs.Runs.{trail, longest}
+use Rattle.nf_forms.specs.Laws.Runs.{trail-push, longest-append}
 use Rattle.nf_safe.specs.declared.runs.Runs.{Runs}
 use Rattle.nf_safe.specs.Runs.{HasRuns}
 

@@ -1,9 +1,9 @@
 -- Where a checker stands in the text that it sees.
 use Rattle.std.specs.Prelude.{◌≡◌, ℕ, ◌+◌, List, length, Option, Some, None, IsNone, IsTrue, if◌then◌else◌, encode_utf8_all}
-use Rattle.nf_row.specs.Properties.{Properties}
-use Rattle.nf_row.specs.declared.form.Form.TheVariants.{Nfkd}
-use Rattle.nf_row.specs.Runs.{trail}
-use Rattle.nf_row.specs.Forms.{decomposed}
+use Rattle.nf_forms.specs.Properties.{Properties}
+use Rattle.nf_forms.specs.declared.form.Form.TheVariants.{Nfkd}
+use Rattle.nf_forms.specs.Runs.{trail}
+use Rattle.nf_forms.specs.Forms.{decomposed}
 use Rattle.nf_safe.specs.declared.place.Place.{Place}
 use Rattle.nf_safe.specs.declared.checker.Checker.{Checker}
 use Rattle.nf_safe.specs.Place.{is_in_format, place_from}

@@ -1,8 +1,8 @@
 -- The count by which the Stream-Safe Text Process is done (UAX #15, section 13): the non-starters that the NFKD of a text ends in.
 use Rattle.std.specs.Prelude.{ℕ, ◌+◌, Bool, nat_lt, List, [], ◌++◌, length, if◌then◌else◌, fold}
-use Rattle.nf_row.specs.Properties.{Properties}
-use Rattle.nf_row.specs.Runs.{has_starter, lead, trail}
-use Rattle.nf_row.specs.StreamSafe.{max_run}
+use Rattle.nf_forms.specs.Properties.{Properties}
+use Rattle.nf_forms.specs.Runs.{has_starter, lead, trail}
+use Rattle.nf_forms.specs.StreamSafe.{max_run}
 
 -- what the count n becomes with a row
 abbrev pub counted : Properties → ℕ → List ℕ → ℕ

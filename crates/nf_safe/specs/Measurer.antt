@@ -1,12 +1,12 @@
 -- Where a measurer stands in the text that it sees.
 use Rattle.std.specs.Prelude.{◌≡◌, ℕ, not, ◌&&◌, List, Option, Some, None, if◌then◌else◌}
-use Rattle.nf_row.specs.Properties.{Properties}
-use Rattle.nf_row.specs.declared.form.Form.TheVariants.{Nfkd}
-use Rattle.nf_row.specs.Runs.{trail}
-use Rattle.nf_row.specs.Forms.{decomposed}
-use Rattle.nf_row.specs.StreamSafe.{joiner, is_too_long, stream_safe}
-use Rattle.nf_row.specs.Sound.{is_sound}
-use Rattle.nf_row.specs.Laws.Sound.{IsSoundText}
+use Rattle.nf_forms.specs.Properties.{Properties}
+use Rattle.nf_forms.specs.declared.form.Form.TheVariants.{Nfkd}
+use Rattle.nf_forms.specs.Runs.{trail}
+use Rattle.nf_forms.specs.Forms.{decomposed}
+use Rattle.nf_forms.specs.StreamSafe.{joiner, is_too_long, stream_safe}
+use Rattle.nf_forms.specs.Sound.{is_sound}
+use Rattle.nf_forms.specs.Laws.Sound.{IsSoundText}
 use Rattle.nf_row.specs.declared.unsound.Unsound.{Unsound}
 use Rattle.nf_row.specs.declared.unsound.Rule.TheVariants.{A1}
 use Rattle.nf_safe.specs.declared.measure.Measure.{Measure}

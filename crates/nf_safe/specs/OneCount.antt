@@ -1,13 +1,13 @@
 -- One count of trailing non-starters does the Stream-Safe Text Process, which UAX #15 (section 13) defines by the NFKD
 -- of the whole output.
 use Rattle.std.specs.Prelude.{◌≡◌, ℕ, List, IsTrue, map}
-use Rattle.nf_row.specs.Properties.{Properties}
-use Rattle.nf_row.specs.declared.form.Form.TheVariants.{Nfkd}
-use Rattle.nf_row.specs.Runs.{trail}
-use Rattle.nf_row.specs.Forms.{decomposed}
-use Rattle.nf_row.specs.StreamSafe.{joiner, is_too_long, stream_safe}
-use Rattle.nf_row.specs.Sound.{is_sound}
-use Rattle.nf_row.specs.Laws.Sound.{IsSoundText}
+use Rattle.nf_forms.specs.Properties.{Properties}
+use Rattle.nf_forms.specs.declared.form.Form.TheVariants.{Nfkd}
+use Rattle.nf_forms.specs.Runs.{trail}
+use Rattle.nf_forms.specs.Forms.{decomposed}
+use Rattle.nf_forms.specs.StreamSafe.{joiner, is_too_long, stream_safe}
+use Rattle.nf_forms.specs.Sound.{is_sound}
+use Rattle.nf_forms.specs.Laws.Sound.{IsSoundText}
 use Rattle.nf_safe.specs.Count.{passes}
 use Rattle.nf_safe.specs.Counter.{StandsAfter}
 use Rattle.nf_safe.specs.Place.{is_in_format}

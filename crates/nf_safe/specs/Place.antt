@@ -1,10 +1,10 @@
 -- Where a text leaves the Stream-Safe Text Format (UAX #15, section 13, UAX15-D3).
 use Rattle.std.specs.Prelude.{ℕ, ◌+◌, Bool, nat_le, ◌==◌, List, length, take, Option, Some, None, if◌then◌else◌, option_map, encode_utf8_all}
-use Rattle.nf_row.specs.Properties.{Properties}
-use Rattle.nf_row.specs.declared.form.Form.TheVariants.{Nfkd}
-use Rattle.nf_row.specs.Runs.{longest}
-use Rattle.nf_row.specs.Forms.{normal_form}
-use Rattle.nf_row.specs.StreamSafe.{max_run}
+use Rattle.nf_forms.specs.Properties.{Properties}
+use Rattle.nf_forms.specs.declared.form.Form.TheVariants.{Nfkd}
+use Rattle.nf_forms.specs.Runs.{longest}
+use Rattle.nf_forms.specs.Forms.{normal_form}
+use Rattle.nf_forms.specs.StreamSafe.{max_run}
 use Rattle.nf_safe.specs.declared.place.Place.{Place}
 use Rattle.nf_safe.specs.LongestFront.{longest_front}
 

@@ -1,7 +1,7 @@
 -- The non-starters of decomposed text and its runs of them.
 use Rattle.std.specs.Prelude.{◌≡◌, ℕ, List, count_by}
-use Rattle.nf_row.specs.Properties.{Properties, is_nonstarter}
-use Rattle.nf_row.specs.Runs.{trail, longest}
+use Rattle.nf_forms.specs.Properties.{Properties, is_nonstarter}
+use Rattle.nf_forms.specs.Runs.{trail, longest}
 use Rattle.nf_safe.specs.declared.runs.Runs.{Runs}
 
 -- these are those of w

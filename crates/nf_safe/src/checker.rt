@@ -16,8 +16,8 @@ pub struct Checker {
 
 impl Checker {
     ghost use Rattle.std.specs.Prelude.{◌≡◌, ◌+◌, ◌↔◌, ℕ, List, [], ◌∷◌, ◌++◌, length, IsNone, IsErr, IfSome, IfOk, IfErr, OnOk, IsFalse, encode_utf8};
-    ghost use Rattle.nf_row.specs.Properties.{Properties};
-    ghost use Rattle.nf_row.specs.Sound.{is_sound};
+    ghost use Rattle.nf_forms.specs.Properties.{Properties};
+    ghost use Rattle.nf_forms.specs.Sound.{is_sound};
     ghost use Rattle.nf_safe.specs.Checker.{place_of, offset_of, StandsAfter};
 
     /// A checker at the start of a text, the first byte of which has the offset `base`.

@@ -1,7 +1,7 @@
 ghost use Rattle.std.specs.Prelude.{◌≡◌, ◌≤◌, List, ℕ, [], ◌∷◌, ◌++◌};
-ghost use Rattle.nf_row.specs.Properties.{Properties};
+ghost use Rattle.nf_forms.specs.Properties.{Properties};
 ghost use Rattle.nf_row.specs.Ends.{HasEnds};
-ghost use Rattle.nf_row.specs.StreamSafe.{max_run};
+ghost use Rattle.nf_forms.specs.StreamSafe.{max_run};
 ghost use Rattle.nf_safe.specs.Count.{passes, count_step};
 ghost use Rattle.nf_safe.specs.Counter.{StandsAfter};
 

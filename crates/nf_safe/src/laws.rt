@@ -1,6 +1,6 @@
 //! Laws of the definitions, each the contract of a function without a body.
 ghost use Rattle.std.specs.Prelude.{◌≡◌, ◌↔◌, ℕ, List, take, IsTrue};
-ghost use Rattle.nf_row.specs.Properties.{Properties};
+ghost use Rattle.nf_forms.specs.Properties.{Properties};
 ghost use Rattle.nf_safe.specs.LongestFront.{longest_front, IsLongestFront};
 ghost use Rattle.nf_safe.specs.OneCount.{StaysSound, CountsTrail, DecidesJoiner, EndsInFormat};
 ghost use Rattle.nf_safe.specs.Place.{is_in_format, place};

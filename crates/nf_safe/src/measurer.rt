@@ -25,7 +25,7 @@ pub struct Measurer {
 impl Measurer {
     ghost use Rattle.std.specs.Prelude.{◌≡◌, ◌+◌, ℕ, List, [], ◌∷◌, ◌++◌, length, IsErr, OnOk, option_map, encode_utf8};
     ghost use Rattle.std.specs.Result.{result_err};
-    ghost use Rattle.nf_row.specs.Properties.{Properties};
+    ghost use Rattle.nf_forms.specs.Properties.{Properties};
     ghost use Rattle.nf_safe.specs.Measurer.{values_of, refusal, unsound_at, StandsAfter};
 
     /// A measurer that has seen nothing.
@@ -92,7 +92,7 @@ impl Measurer {
 }
 
 impl Default for Measurer {
-    ghost use Rattle.nf_row.specs.Properties.{Properties};
+    ghost use Rattle.nf_forms.specs.Properties.{Properties};
     ghost use Rattle.std.specs.Prelude.{[]};
     ghost use Rattle.nf_safe.specs.Measurer.{StandsAfter};
 

@@ -16,7 +16,7 @@ pub struct Runs {
 
 impl Runs {
     ghost use Rattle.std.specs.Prelude.{◌≡◌, ◌+◌, ◌<◌, ◌≤◌, ℕ, List, [], ◌∷◌, ◌++◌};
-    ghost use Rattle.nf_row.specs.Properties.{Properties, is_starter};
+    ghost use Rattle.nf_forms.specs.Properties.{Properties, is_starter};
     ghost use Rattle.nf_safe.specs.Runs.{HasRuns};
 
     /// Those of no text.

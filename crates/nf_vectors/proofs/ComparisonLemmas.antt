@@ -5,14 +5,14 @@ use Rattle.std.proofs.lemmas.Bool.{and_parts, and_from, false≢true, false_from
 use Rattle.std.proofs.lemmas.List.{take_more, append-nil}
 use Rattle.std.proofs.lemmas.List.Folds.{list_all-append}
 use Rattle.std.proofs.Math.Seq.{take-length, take-add}
-use Rattle.nf_row.specs.Properties.{Properties}
-use Rattle.nf_row.specs.Runs.{lead}
-use Rattle.nf_row.specs.Laws.Runs.{lead-le-length}
-use Rattle.nf_row.specs.StreamSafe.{joiner, max_run, is_too_long, parted, safe_step, stream_safe}
-use Rattle.nf_row.specs.Sound.{is_sound}
-use Rattle.nf_row.specs.Laws.Last.{by_last}
-use Rattle.nf_row.specs.Laws.Sound.{IsSoundText, IsSound-from_test, sound_last}
-use Rattle.nf_row.specs.Laws.StreamSafe.{stream_safe-push, sound-safe_step}
+use Rattle.nf_forms.specs.Properties.{Properties}
+use Rattle.nf_forms.specs.Runs.{lead}
+use Rattle.nf_forms.specs.Laws.Runs.{lead-le-length}
+use Rattle.nf_forms.specs.StreamSafe.{joiner, max_run, is_too_long, parted, safe_step, stream_safe}
+use Rattle.nf_forms.specs.Sound.{is_sound}
+use Rattle.nf_forms.specs.Laws.Last.{by_last}
+use Rattle.nf_forms.specs.Laws.Sound.{IsSoundText, IsSound-from_test, sound_last}
+use Rattle.nf_forms.specs.Laws.StreamSafe.{stream_safe-push, sound-safe_step}
 use Rattle.nf_safe.specs.Count.{passes}
 use Rattle.nf_safe.specs.LongestFront.{longest_front, IsLongestFront}
 use Rattle.nf_safe.specs.declared.place.Place.{Place}

@@ -10,14 +10,14 @@ use Rattle.std.proofs.lemmas.Bool.Decides.{same_from_decides}
 use Rattle.std.proofs.lemmas.List.{length-append}
 use Rattle.std.proofs.lemmas.Slice.Eq.{bytes_eq-Decides}
 use Rattle.std.proofs.Math.Seq.{take-length}
-use Rattle.nf_row.specs.Properties.{Properties}
-use Rattle.nf_row.specs.declared.form.Form.{Form}
-use Rattle.nf_row.specs.declared.form.Form.TheVariants.{Nfc, Nfd, Nfkc, Nfkd}
-use Rattle.nf_row.specs.Front.{front, back}
-use Rattle.nf_row.specs.Order.{by_class}
-use Rattle.nf_row.specs.Forms.{decomposed, finished}
-use Rattle.nf_row.specs.StreamSafe.{stream_safe}
-use Rattle.nf_row.specs.Laws.Front.{front-append-back}
+use Rattle.nf_forms.specs.Properties.{Properties}
+use Rattle.nf_forms.specs.declared.form.Form.{Form}
+use Rattle.nf_forms.specs.declared.form.Form.TheVariants.{Nfc, Nfd, Nfkc, Nfkd}
+use Rattle.nf_forms.specs.Front.{front, back}
+use Rattle.nf_forms.specs.Order.{by_class}
+use Rattle.nf_forms.specs.Forms.{decomposed, finished}
+use Rattle.nf_forms.specs.StreamSafe.{stream_safe}
+use Rattle.nf_forms.specs.Laws.Front.{front-append-back}
 use Rattle.nf_safe.specs.LongestFront.{longest_front}
 use Rattle.nf_safe.specs.Laws.LongestFront.{longest_front-all}
 use Rattle.nf_utf8.specs.Text.{IsText}

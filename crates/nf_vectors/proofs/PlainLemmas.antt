@@ -2,12 +2,12 @@
 use Rattle.std.proofs.Common.{◌≡◌, ℕ, Bool, true, false, [], ◌∷◌, ◌++◌, refl, ap, ◌∙◌, if◌then◌else◌}
 use Rattle.std.proofs.lemmas.Bool.{and_from, eq-eqb}
 use Rattle.std.proofs.lemmas.Slice.Eq.{bytes_eq-Decides}
-use Rattle.nf_row.specs.Properties.{Properties}
-use Rattle.nf_row.specs.declared.form.Form.{Form}
-use Rattle.nf_row.specs.declared.form.Form.TheVariants.{Nfc, Nfd, Nfkc, Nfkd}
-use Rattle.nf_row.specs.Order.{by_class, order}
-use Rattle.nf_row.specs.Compose.{compose}
-use Rattle.nf_row.specs.Forms.{arranged, composes, finished, decomposed, normal_form}
+use Rattle.nf_forms.specs.Properties.{Properties}
+use Rattle.nf_forms.specs.declared.form.Form.{Form}
+use Rattle.nf_forms.specs.declared.form.Form.TheVariants.{Nfc, Nfd, Nfkc, Nfkd}
+use Rattle.nf_forms.specs.Order.{by_class, order}
+use Rattle.nf_forms.specs.Compose.{compose}
+use Rattle.nf_forms.specs.Forms.{arranged, composes, finished, decomposed, normal_form}
 use Rattle.nf_filter.specs.Settled.{safe_form}
 use Rattle.nf_vectors.specs.Comparison.{holds}
 use Rattle.nf_vectors.specs.Sweep.{is_unchanged}

@@ -3,7 +3,7 @@ use Rattle.std.proofs.Common.{◌≡◌, ℕ, ◌+◌, cond, List, [], ◌∷◌
 use Rattle.std.specs.Option.{option_or}
 use Rattle.std.proofs.lemmas.List.{length_push}
 use Rattle.std.proofs.lemmas.List.Sums.{sum_by_push}
-use Rattle.nf_row.specs.Properties.{Properties}
+use Rattle.nf_forms.specs.Properties.{Properties}
 use Rattle.nf_vectors.specs.declared.report.Failure.{Failure}
 use Rattle.nf_vectors.specs.declared.report.Report.{Report}
 use Rattle.nf_vectors.specs.declared.report.Verdict.{Verdict}

@@ -3,7 +3,7 @@ use Rattle.std.proofs.Common.{◌≡◌, ℕ, suc, ◌+◌, Bool, true, false, c
 use Rattle.std.specs.Option.{option_or}
 use Rattle.std.proofs.lemmas.List.Sums.{sum_by_push}
 use Rattle.std.proofs.lemmas.List.Folds.{find-append}
-use Rattle.nf_row.specs.Properties.{Properties}
+use Rattle.nf_forms.specs.Properties.{Properties}
 use Rattle.nf_vectors.specs.declared.sweep.Sweep.{Sweep}
 use Rattle.nf_vectors.specs.Suite.{VectorRow}
 use Rattle.nf_vectors.specs.Sweep.{is_unlisted, is_unchanged, is_failed, below, sweep_below}

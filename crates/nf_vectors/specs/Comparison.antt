@@ -1,10 +1,10 @@
 -- The comparisons that a row of NormalizationTest.txt asks for.
 use Rattle.std.specs.Prelude.{ℕ, Bool, not, ◌&&◌, ◌||◌, ◌==◌, nat_le, List, [], ◌∷◌, take, Option, is_some, if◌then◌else◌, bytes_eq, find}
 use Rattle.std.specs.List.{list_all}
-use Rattle.nf_row.specs.Properties.{Properties}
-use Rattle.nf_row.specs.declared.form.Form.{Form}
-use Rattle.nf_row.specs.declared.form.Form.TheVariants.{Nfc, Nfd, Nfkc, Nfkd}
-use Rattle.nf_row.specs.Sound.{is_sound}
+use Rattle.nf_forms.specs.Properties.{Properties}
+use Rattle.nf_forms.specs.declared.form.Form.{Form}
+use Rattle.nf_forms.specs.declared.form.Form.TheVariants.{Nfc, Nfd, Nfkc, Nfkd}
+use Rattle.nf_forms.specs.Sound.{is_sound}
 use Rattle.nf_safe.specs.LongestFront.{longest_front}
 use Rattle.nf_safe.specs.Place.{place}
 use Rattle.nf_filter.specs.Settled.{safe_form}

@@ -1,8 +1,8 @@
 -- What a filter gives to a sink of a whole text.
 use Rattle.std.specs.Prelude.{◌≡◌, true, false, ℕ, ◌<◌, List, ◌++◌, length, OnOk, IfErr, Result, Err, encode_utf8_all}
 use Rattle.std.specs.Io.KnownBytes.{Appends}
-use Rattle.nf_row.specs.Properties.{Properties}
-use Rattle.nf_row.specs.declared.form.Form.{Form}
+use Rattle.nf_forms.specs.Properties.{Properties}
+use Rattle.nf_forms.specs.declared.form.Form.{Form}
 use Rattle.nf_filter.specs.declared.fault.Fault.{Fault}
 use Rattle.nf_filter.specs.declared.fault.Fault.TheVariants.{Write}
 use Rattle.nf_filter.specs.Settled.{safe_form, is_usable}

@@ -1,7 +1,7 @@
 -- A sound starter that is its own decomposition.
 use Rattle.std.specs.Prelude.{◌≡◌, true, ℕ, [], ◌∷◌}
-use Rattle.nf_row.specs.Properties.{Properties}
-use Rattle.nf_row.specs.Sound.{is_sound}
+use Rattle.nf_forms.specs.Properties.{Properties}
+use Rattle.nf_forms.specs.Sound.{is_sound}
 
 pub record IsPlain (p : Properties) (c : ℕ) : Type 0 where
   pub sound : is_sound p c ≡ true

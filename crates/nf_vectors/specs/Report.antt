@@ -1,9 +1,9 @@
 -- What a suite's rows come to (the conditions of NormalizationTest.txt).
 use Rattle.std.specs.Prelude.{ℕ, ◌+◌, Bool, true, false, List, [], ◌∷◌, length, Option, Some, None, option_map, if◌then◌else◌, count_by}
 use Rattle.std.specs.Option.{option_or}
-use Rattle.nf_row.specs.Properties.{Properties}
-use Rattle.nf_row.specs.declared.form.Form.{Form}
-use Rattle.nf_row.specs.declared.form.Form.TheVariants.{Nfc, Nfd, Nfkc, Nfkd}
+use Rattle.nf_forms.specs.Properties.{Properties}
+use Rattle.nf_forms.specs.declared.form.Form.{Form}
+use Rattle.nf_forms.specs.declared.form.Form.TheVariants.{Nfc, Nfd, Nfkc, Nfkd}
 use Rattle.nf_vectors.specs.declared.report.Failure.{Failure}
 use Rattle.nf_vectors.specs.declared.report.Report.{Report}
 use Rattle.nf_vectors.specs.declared.report.Verdict.{Verdict}

@@ -2,8 +2,8 @@
 -- NormalizationTest.txt).
 use Rattle.std.specs.Prelude.{ℕ, zero, suc, Bool, not, ◌&&◌, List, [], ◌∷◌, ◌++◌, bytes_eq, count_by, find}
 use Rattle.std.specs.List.{list_any}
-use Rattle.nf_row.specs.Properties.{Properties}
-use Rattle.nf_row.specs.declared.form.Form.TheVariants.{Nfc, Nfd, Nfkc, Nfkd}
+use Rattle.nf_forms.specs.Properties.{Properties}
+use Rattle.nf_forms.specs.declared.form.Form.TheVariants.{Nfc, Nfd, Nfkc, Nfkd}
 use Rattle.nf_vectors.specs.declared.sweep.Sweep.{Sweep}
 use Rattle.nf_vectors.specs.Words.{is_scalar}
 use Rattle.nf_vectors.specs.Suite.{VectorRow}

@@ -47,7 +47,7 @@ impl<'a> Columns<'a> {
 
 impl Encoded {
     ghost use Rattle.std.specs.Prelude.{IsOk};
-    ghost use Rattle.nf_row.specs.declared.form.Form.{Form};
+    ghost use Rattle.nf_forms.specs.declared.form.Form.{Form};
     ghost use Rattle.nf_vectors.specs.Comparison.{column_at, expected_at};
     ghost use Rattle.nf_vectors.specs.Views.{columns_of, bytes_of, utf8_of};
 

@@ -1,12 +1,12 @@
 -- What a machine holds, in numbers.
 use Rattle.std.proofs.Common.{◌≡◌, ℕ, List, length, sym, ap, ◌∙◌}
 use Rattle.std.proofs.lemmas.List.{length-map}
-use Rattle.nf_row.specs.Properties.{Properties}
-use Rattle.nf_row.specs.Runs.{trail}
-use Rattle.nf_row.specs.Order.{by_class}
-use Rattle.nf_row.specs.declared.form.Form.{Form}
-use Rattle.nf_row.specs.Laws.Front.{trail-behind}
-use Rattle.nf_row.specs.Laws.Starters.{length-by_class}
+use Rattle.nf_forms.specs.Properties.{Properties}
+use Rattle.nf_forms.specs.Runs.{trail}
+use Rattle.nf_forms.specs.Order.{by_class}
+use Rattle.nf_forms.specs.declared.form.Form.{Form}
+use Rattle.nf_forms.specs.Laws.Front.{trail-behind}
+use Rattle.nf_forms.specs.Laws.Starters.{length-by_class}
 use Rattle.nf_pending.specs.declared.pending.Pending.{Pending}
 use Rattle.nf_pending.specs.Mark.{mark_of}
 use Rattle.nf_pending.specs.StandsAfter.{run_len, StandsAfter}

@@ -5,16 +5,16 @@ use Rattle.std.specs.List.{list_all}
 use Rattle.std.proofs.lemmas.Bool.{ltb-false}
 use Rattle.std.proofs.lemmas.List.{map-append}
 use Rattle.std.proofs.lemmas.List.Sums.{fold-append}
-use Rattle.nf_row.specs.Properties.{Properties}
-use Rattle.nf_row.specs.declared.form.Form.TheVariants.{Nfkd}
-use Rattle.nf_row.specs.Runs.{has_starter, lead, trail}
-use Rattle.nf_row.specs.Forms.{decomposed}
-use Rattle.nf_row.specs.StreamSafe.{joiner, max_run, is_too_long, parted, safe_step, stream_safe}
-use Rattle.nf_row.specs.Sound.{max_row, is_sound}
-use Rattle.nf_row.specs.Laws.Last.{by_last}
-use Rattle.nf_row.specs.Laws.Runs.{trail-le-length, lead-marks, trail-marks, trail-append}
-use Rattle.nf_row.specs.Laws.StreamSafe.{stream_safe-push, trail-decomposed-push, trail-decomposed-joiner, sound-safe_step}
-use Rattle.nf_row.specs.Laws.Sound.{JoinerIsPlain, IsSoundText}
+use Rattle.nf_forms.specs.Properties.{Properties}
+use Rattle.nf_forms.specs.declared.form.Form.TheVariants.{Nfkd}
+use Rattle.nf_forms.specs.Runs.{has_starter, lead, trail}
+use Rattle.nf_forms.specs.Forms.{decomposed}
+use Rattle.nf_forms.specs.StreamSafe.{joiner, max_run, is_too_long, parted, safe_step, stream_safe}
+use Rattle.nf_forms.specs.Sound.{max_row, is_sound}
+use Rattle.nf_forms.specs.Laws.Last.{by_last}
+use Rattle.nf_forms.specs.Laws.Runs.{trail-le-length, lead-marks, trail-marks, trail-append}
+use Rattle.nf_forms.specs.Laws.StreamSafe.{stream_safe-push, trail-decomposed-push, trail-decomposed-joiner, sound-safe_step}
+use Rattle.nf_forms.specs.Laws.Sound.{JoinerIsPlain, IsSoundText}
 use Rattle.nf_safe.specs.Count.{counted, passes, count_step, since_step, since_last}
 
 module _ (p : Properties) where

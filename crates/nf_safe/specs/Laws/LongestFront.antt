@@ -3,7 +3,7 @@ use Rattle.std.proofs.Common.{◌≡◌, ℕ, zero, suc, ◌+◌, ◌<◌, ◌�
 use Rattle.std.specs.Prelude.{if◌then◌else◌}
 use Rattle.std.proofs.lemmas.List.{length-append, take-append-le}
 use Rattle.std.proofs.Math.Seq.{take-length}
-use Rattle.nf_row.specs.Laws.Last.{by_last}
+use Rattle.nf_forms.specs.Laws.Last.{by_last}
 use Rattle.nf_safe.specs.LongestFront.{front_len_up_to, longest_front, IsLongestFront}
 
 front_len_up_to-append : (test : List ℕ → Bool) (x y : List ℕ) (n : ℕ) → n ≤ length x → front_len_up_to test (x ++ y) n ≡ front_len_up_to test x n

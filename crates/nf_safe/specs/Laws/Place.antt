@@ -5,16 +5,16 @@ use Rattle.std.proofs.lemmas.Bool.{leb-false, lt-leb, le-leb, eq-eqb, eqb-true, 
 use Rattle.std.proofs.lemmas.Bool.Decides.{nat_tests}
 use Rattle.std.proofs.lemmas.List.{length-append, take-append-le, take-append-drop, append-nil}
 use Rattle.std.proofs.Math.Seq.{take-length, take-append_seam}
-use Rattle.nf_row.specs.Properties.{Properties}
-use Rattle.nf_row.specs.declared.form.Form.TheVariants.{Nfkd}
-use Rattle.nf_row.specs.Runs.{lead, trail, longest}
-use Rattle.nf_row.specs.Forms.{decomposed}
-use Rattle.nf_row.specs.StreamSafe.{max_run, stream_safe}
-use Rattle.nf_row.specs.Sound.{max_row}
-use Rattle.nf_row.specs.Laws.Last.{by_last}
-use Rattle.nf_row.specs.Laws.Starters.{longest-order}
-use Rattle.nf_row.specs.Laws.Sound.{IsSoundText}
-use Rattle.nf_row.specs.Laws.StreamSafe.{longest-le-length, longest-decomposed-push, longest-stream_safe-le}
+use Rattle.nf_forms.specs.Properties.{Properties}
+use Rattle.nf_forms.specs.declared.form.Form.TheVariants.{Nfkd}
+use Rattle.nf_forms.specs.Runs.{lead, trail, longest}
+use Rattle.nf_forms.specs.Forms.{decomposed}
+use Rattle.nf_forms.specs.StreamSafe.{max_run, stream_safe}
+use Rattle.nf_forms.specs.Sound.{max_row}
+use Rattle.nf_forms.specs.Laws.Last.{by_last}
+use Rattle.nf_forms.specs.Laws.Starters.{longest-order}
+use Rattle.nf_forms.specs.Laws.Sound.{IsSoundText}
+use Rattle.nf_forms.specs.Laws.StreamSafe.{longest-le-length, longest-decomposed-push, longest-stream_safe-le}
 use Rattle.nf_safe.specs.declared.place.Place.{Place}
 use Rattle.nf_safe.specs.Count.{passes}
 use Rattle.nf_safe.specs.LongestFront.{longest_front}

@@ -1,6 +1,6 @@
 use Rattle.std.proofs.Common.{◌≡◌, ◌-◌, ◌^◌, ℕ, List, true, None}
 use Rattle.std.specs.List.{list_all}
-use Rattle.nf_row.specs.Sound.{is_sound}
+use Rattle.nf_forms.specs.Sound.{is_sound}
 use Rattle.nf_safe.specs.Checker.{place_of, StandsAfter}
 use Rattle.nf_filter.specs.Bytes.{source_state}
 use Rattle.nf_filter.specs.Checks.{check_decision}

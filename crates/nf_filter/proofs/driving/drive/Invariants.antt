@@ -1,6 +1,6 @@
 use Rattle.std.proofs.Common.{◌≡◌, ℕ, ◌-◌, ◌^◌, false, List, ◌++◌, length}
 use Rattle.std.specs.Io.KnownBytes.{Consumes}
-use Rattle.nf_row.specs.declared.form.Form.{Form}
+use Rattle.nf_forms.specs.declared.form.Form.{Form}
 use Rattle.nf_filter.specs.Writes.{sink_state, Puts}
 use Rattle.nf_filter.specs.Reading.{settled_utf8}
 use Rattle.nf_filter.specs.Filter.{rows_of, state_of, base_of, offset_of, is_spent, StandsAfter}

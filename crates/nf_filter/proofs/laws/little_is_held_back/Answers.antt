@@ -1,11 +1,11 @@
 use Rattle.std.proofs.Common.{length, ap, arith}
 use Rattle.std.proofs.lemmas.List.{length-append}
-use Rattle.nf_row.specs.Forms.{composes, decomposed, finished}
-use Rattle.nf_row.specs.Front.{front, back}
-use Rattle.nf_row.specs.StreamSafe.{stream_safe}
-use Rattle.nf_row.specs.Laws.Front.{front-append-back}
-use Rattle.nf_row.specs.Laws.Compose.{length-back}
-use Rattle.nf_row.specs.Laws.StreamSafe.{trail-stream_safe-le}
+use Rattle.nf_forms.specs.Forms.{composes, decomposed, finished}
+use Rattle.nf_forms.specs.Front.{front, back}
+use Rattle.nf_forms.specs.StreamSafe.{stream_safe}
+use Rattle.nf_forms.specs.Laws.Front.{front-append-back}
+use Rattle.nf_forms.specs.Laws.Compose.{length-back}
+use Rattle.nf_forms.specs.Laws.StreamSafe.{trail-stream_safe-le}
 use Rattle.nf_filter.specs.Settled.{safe_form, settled, is_usable}
 use Rattle.nf_filter.proofs.laws.little_is_held_back.Goals as goal
 

@@ -1,6 +1,6 @@
-use Rattle.nf_row.specs.declared.form.Form.TheVariants.{Nfkd}
-use Rattle.nf_row.specs.StreamSafe.{stream_safe}
-use Rattle.nf_row.specs.Laws.StreamSafe.{trail-decomposed-le, trail-stream_safe-le}
+use Rattle.nf_forms.specs.declared.form.Form.TheVariants.{Nfkd}
+use Rattle.nf_forms.specs.StreamSafe.{stream_safe}
+use Rattle.nf_forms.specs.Laws.StreamSafe.{trail-decomposed-le, trail-stream_safe-le}
 use Rattle.nf_filter.specs.Settled.{is_usable}
 use Rattle.nf_filter.proofs.laws.runs_stay_short.Goals as goal
 

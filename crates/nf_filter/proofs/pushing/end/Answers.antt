@@ -1,8 +1,8 @@
 use Rattle.std.proofs.Common.{sym, ap, ◌∙◌, encode_utf8_all}
 use Rattle.std.proofs.lemmas.Str.{encodes-append}
 use Rattle.std.proofs.lemmas.Result.{MatchResult-weaker}
-use Rattle.nf_row.specs.Front.{front}
-use Rattle.nf_row.specs.Forms.{finished}
+use Rattle.nf_forms.specs.Front.{front}
+use Rattle.nf_forms.specs.Forms.{finished}
 use Rattle.nf_filter.proofs.WritesLemmas.{Puts-behind, Stops-behind}
 use Rattle.nf_filter.proofs.pushing.end.Goals as goal
 

@@ -2,8 +2,8 @@ use Rattle.std.proofs.Common.{◌≡◌, ℕ, ◌+◌, ◌<◌, ◌≤◌, List,
 use Rattle.std.specs.Prelude.{if◌then◌else◌}
 use Rattle.std.proofs.lemmas.List.{take_all, take-append-drop}
 use Rattle.std.proofs.lemmas.Result.{err_from_is_err_and}
-use Rattle.nf_row.specs.Properties.{Properties, is_starter}
-use Rattle.nf_row.specs.declared.form.Form.{Form}
+use Rattle.nf_forms.specs.Properties.{Properties, is_starter}
+use Rattle.nf_forms.specs.declared.form.Form.{Form}
 use Rattle.nf_pending.specs.declared.pending.Pending.{Pending}
 use Rattle.nf_pending.specs.StandsAfter.{StandsAfter}
 use Rattle.nf_filter.specs.Writes.{SinkState, sink_state, Puts, Stops}

@@ -1,5 +1,5 @@
 use Rattle.std.proofs.Common.{◌≡◌, ℕ, List, ◌++◌, take}
-use Rattle.nf_row.specs.declared.form.Form.{Form}
+use Rattle.nf_forms.specs.declared.form.Form.{Form}
 use Rattle.nf_pending.specs.StandsAfter.{run_len, StandsAfter}
 use Rattle.nf_filter.specs.Writes.{sink_state, Puts}
 use Rattle.nf_filter.specs.Taken.{run_behind, front_utf8}

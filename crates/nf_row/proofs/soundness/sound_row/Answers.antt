@@ -4,7 +4,7 @@ use Rattle.std.specs.Result.{result_ok}
 use Rattle.std.proofs.lemmas.Option.{same_Some}
 use Rattle.arrayvec.specs.declared.array_vec.ArrayVec.{ArrayVec}
 use Rattle.nf_row.specs.declared.soundness.Shape.{Shape}
-use Rattle.nf_row.specs.Properties.{Properties}
+use Rattle.nf_forms.specs.Properties.{Properties}
 use Rattle.nf_row.specs.Shape.{IsShapeOf}
 use Rattle.nf_row.proofs.soundness.sound_row.Goals as goal
 use Rattle.nf_row.proofs.soundness.sound_row.Goals.{in-Nfc+in_ok-ok-in-Nfc+in_ok-row-in-Nfc, in-Nfkc+in_ok-ok-in-Nfkc+in_ok-row-in-Nfkc}

@@ -1,5 +1,5 @@
 use Rattle.std.proofs.Common.{sym, ap, ◌∙◌}
-use Rattle.nf_row.specs.Laws.StreamSafe.{sound-stream_safe}
+use Rattle.nf_forms.specs.Laws.StreamSafe.{sound-stream_safe}
 use Rattle.nf_safe.specs.Count.{passes}
 use Rattle.nf_safe.specs.Laws.Count.{trail-stream_safe}
 use Rattle.nf_safe.specs.Laws.Place.{is_in_format-stream_safe}

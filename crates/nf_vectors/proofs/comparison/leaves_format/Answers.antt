@@ -5,7 +5,7 @@ use Rattle.std.specs.List.{list_all}
 use Rattle.std.proofs.lemmas.Bool.{and_from, true_from_ne_false, false≢true}
 use Rattle.std.proofs.lemmas.List.{take_more, take_all, length-take-le, get_or_default}
 use Rattle.std.proofs.lemmas.List.Folds.{list_all-append}
-use Rattle.nf_row.specs.Sound.{is_sound}
+use Rattle.nf_forms.specs.Sound.{is_sound}
 use Rattle.nf_safe.specs.Place.{place, place_from}
 use Rattle.nf_vectors.proofs.Utf8Lemmas.{encode_utf8-le, encode_utf8_all-le}
 use Rattle.nf_vectors.proofs.ComparisonLemmas.{front-unsound, front-all, leaves-none, leaves-at, place-from_none, place-from_some}

@@ -1,6 +1,6 @@
 use Rattle.std.proofs.Common.{◌≡◌, true, None, take}
 use Rattle.std.specs.List.{list_all}
-use Rattle.nf_row.specs.Sound.{is_sound}
+use Rattle.nf_forms.specs.Sound.{is_sound}
 use Rattle.nf_safe.specs.Checker.{place_of, StandsAfter}
 use Rattle.nf_vectors.proofs.comparison.leaves_format.Given as goal
 

@@ -1,5 +1,5 @@
 use Rattle.std.proofs.Common.{◌≡◌, ℕ, ◌+◌, List, ◌++◌, length, take}
-use Rattle.nf_row.specs.declared.form.Form.{Form}
+use Rattle.nf_forms.specs.declared.form.Form.{Form}
 use Rattle.nf_filter.specs.Writes.{sink_state, Puts}
 use Rattle.nf_filter.specs.Reading.{settled_utf8, HasRead, IsBefore}
 use Rattle.nf_filter.proofs.reading.Reading.read.Given as goal

@@ -1,7 +1,7 @@
 use Rattle.std.proofs.Common.{ℕ, Ok, Err, sym, ◌∙◌}
 use Rattle.arrayvec.specs.ArrayVec.{ArrayVec}
-use Rattle.nf_row.specs.Forms.{decomposed}
-use Rattle.nf_row.specs.StreamSafe.{stream_safe}
+use Rattle.nf_forms.specs.Forms.{decomposed}
+use Rattle.nf_forms.specs.StreamSafe.{stream_safe}
 use Rattle.nf_filter.proofs.TakenLemmas.{counting-is, HasRoom-without, HasRoom-with, Parts-without, Parts-with, Parts-stopped}
 use Rattle.nf_filter.proofs.taken.Taken.part.Goals as goal
 

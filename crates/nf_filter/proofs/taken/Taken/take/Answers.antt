@@ -1,6 +1,6 @@
 use Rattle.std.proofs.Common.{[], ◌∷◌, ◌++◌, refl, sym, ap, ◌∙◌}
-use Rattle.nf_row.specs.Forms.{decomposed}
-use Rattle.nf_row.specs.StreamSafe.{parted, stream_safe}
+use Rattle.nf_forms.specs.Forms.{decomposed}
+use Rattle.nf_forms.specs.StreamSafe.{parted, stream_safe}
 use Rattle.nf_filter.specs.Taken.{front_utf8}
 use Rattle.nf_filter.proofs.WritesLemmas.{Puts-none, Puts-join, Puts-at, Stops-join, Stops-at}
 use Rattle.nf_filter.proofs.TakenLemmas.{is_usable-unsound, settled_utf8-front, row_text, HasTaken-row}

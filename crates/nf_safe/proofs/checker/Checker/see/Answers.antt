@@ -1,6 +1,6 @@
 use Rattle.std.proofs.Common.{◌≤◌, ◌+◌, length, ap, sym, ◌∙◌, refl}
-use Rattle.nf_row.specs.Sound.{max_row}
-use Rattle.nf_row.specs.Laws.Sound.{IsSound-from_test}
+use Rattle.nf_forms.specs.Sound.{max_row}
+use Rattle.nf_forms.specs.Laws.Sound.{IsSound-from_test}
 use Rattle.nf_safe.proofs.CheckerLemmas.{stays, leaves, goes_on}
 use Rattle.nf_safe.proofs.checker.Checker.see.Goals as goal
 

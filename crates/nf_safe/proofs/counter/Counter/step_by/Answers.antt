@@ -1,9 +1,9 @@
 use Rattle.std.proofs.Common.{◌≡◌, ℕ, ◌+◌, Bool, List, true, false, sym, ap, ◌∙◌, arith}
 use Rattle.std.specs.Prelude.{if◌then◌else◌, nat_lt}
 use Rattle.std.proofs.lemmas.Bool.{lt-ltb, le-ltb}
-use Rattle.nf_row.specs.Properties.{Properties}
-use Rattle.nf_row.specs.Runs.{has_starter, lead}
-use Rattle.nf_row.specs.StreamSafe.{max_run}
+use Rattle.nf_forms.specs.Properties.{Properties}
+use Rattle.nf_forms.specs.Runs.{has_starter, lead}
+use Rattle.nf_forms.specs.StreamSafe.{max_run}
 use Rattle.nf_safe.specs.Count.{passes, count_step}
 use Rattle.nf_safe.specs.Laws.Count.{count_step-starter, count_step-marks, trail-since_last-push}
 use Rattle.nf_safe.proofs.counter.Counter.step_by.Goals as goal

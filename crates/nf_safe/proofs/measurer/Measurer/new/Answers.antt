@@ -1,5 +1,5 @@
 use Rattle.std.proofs.Common.{[], refl, sym, ◌∙◌}
-use Rattle.nf_row.specs.Laws.Starters.{longest-order}
+use Rattle.nf_forms.specs.Laws.Starters.{longest-order}
 use Rattle.nf_safe.proofs.MeasurerLemmas.{same_values}
 use Rattle.nf_safe.proofs.measurer.Measurer.new.Goals as goal
 

@@ -1,7 +1,7 @@
 use Rattle.std.proofs.Common.{◌∙◌, sym}
-use Rattle.nf_row.specs.Order.{order}
-use Rattle.nf_row.specs.Laws.Ordering.{ordering, order-only}
-use Rattle.nf_row.proofs.laws.ordering_is_stable.Goals as goal
+use Rattle.nf_forms.specs.Order.{order}
+use Rattle.nf_forms.specs.Laws.Ordering.{ordering, order-only}
+use Rattle.nf_forms.proofs.laws.ordering_is_stable.Goals as goal
 
 pub returns-clause-ordering : goal.returns-clause-ordering
 returns-clause-ordering c = ordering

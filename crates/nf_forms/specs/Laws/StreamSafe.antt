@@ -8,16 +8,16 @@ use Rattle.std.proofs.lemmas.List.Sums.{fold-append}
 use Rattle.std.proofs.Math.Seq.{take-length}
 use Rattle.std.specs.List.{list_all}
 use Rattle.std.specs.Prelude.{if◌then◌else◌}
-use Rattle.nf_row.specs.Properties.{Properties}
-use Rattle.nf_row.specs.Runs.{has_starter, lead, trail, longest}
-use Rattle.nf_row.specs.declared.form.Form.{Form}
-use Rattle.nf_row.specs.declared.form.Form.TheVariants.{Nfc, Nfd, Nfkc, Nfkd}
-use Rattle.nf_row.specs.Forms.{row_of, decomposed}
-use Rattle.nf_row.specs.StreamSafe.{joiner, max_run, is_too_long, parted, safe_step, stream_safe}
-use Rattle.nf_row.specs.Sound.{max_row, is_sound}
-use Rattle.nf_row.specs.Laws.Last.{by_last}
-use Rattle.nf_row.specs.Laws.Runs.{lead-le-length, trail-le-length, lead-append, trail-marks, trail-append, trail-push, longest-append}
-use Rattle.nf_row.specs.Laws.Sound.{JoinerIsPlain, IsSound, IsSoundText, IsSound-from_test, JoinerIsPlain-from_sound, sound_last, lead-joiner}
+use Rattle.nf_forms.specs.Properties.{Properties}
+use Rattle.nf_forms.specs.Runs.{has_starter, lead, trail, longest}
+use Rattle.nf_forms.specs.declared.form.Form.{Form}
+use Rattle.nf_forms.specs.declared.form.Form.TheVariants.{Nfc, Nfd, Nfkc, Nfkd}
+use Rattle.nf_forms.specs.Forms.{row_of, decomposed}
+use Rattle.nf_forms.specs.StreamSafe.{joiner, max_run, is_too_long, parted, safe_step, stream_safe}
+use Rattle.nf_forms.specs.Sound.{max_row, is_sound}
+use Rattle.nf_forms.specs.Laws.Last.{by_last}
+use Rattle.nf_forms.specs.Laws.Runs.{lead-le-length, trail-le-length, lead-append, trail-marks, trail-append, trail-push, longest-append}
+use Rattle.nf_forms.specs.Laws.Sound.{JoinerIsPlain, IsSound, IsSoundText, IsSound-from_test, JoinerIsPlain-from_sound, sound_last, lead-joiner}
 
 module _ (p : Properties) where
   pub stream_safe-push : (x : List ℕ) (c : ℕ) → stream_safe p (x ++ c ∷ []) ≡ safe_step p (stream_safe p x) c

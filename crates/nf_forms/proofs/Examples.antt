@@ -1,13 +1,13 @@
 -- The worked examples, computed from the definitions.
 use Rattle.std.specs.Prelude.{◌≡◌, ◌==◌, ◌&&◌, [], ◌∷◌, ◌++◌, Some, true, refl, replicate, if◌then◌else◌}
-use Rattle.nf_row.specs.Properties.{Properties}
-use Rattle.nf_row.specs.declared.form.Form.TheVariants.{Nfc, Nfkc, Nfkd}
-use Rattle.nf_row.specs.Order.{by_class}
-use Rattle.nf_row.specs.Forms.{normal_form}
-use Rattle.nf_row.specs.StreamSafe.{stream_safe}
-use Rattle.nf_row.specs.Front.{front}
-use Rattle.nf_row.specs.Sound.{is_sound}
-use Rattle.nf_row.specs.Ucd.{ucd}
+use Rattle.nf_forms.specs.Properties.{Properties}
+use Rattle.nf_forms.specs.declared.form.Form.TheVariants.{Nfc, Nfkc, Nfkd}
+use Rattle.nf_forms.specs.Order.{by_class}
+use Rattle.nf_forms.specs.Forms.{normal_form}
+use Rattle.nf_forms.specs.StreamSafe.{stream_safe}
+use Rattle.nf_forms.specs.Front.{front}
+use Rattle.nf_forms.specs.Sound.{is_sound}
+use Rattle.nf_forms.specs.Ucd.{ucd}
 use Rattle.unicode_normalization.proofs.Computing.{unicode_normalization}
 
 long_s : normal_form Nfkc ucd (0x1E9B ∷ 0x323 ∷ []) ≡ 0x1E69 ∷ []

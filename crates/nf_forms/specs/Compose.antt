@@ -1,9 +1,9 @@
 -- Canonical composition (The Unicode Standard, section 3.11, D114 to D117).
 use Rattle.std.specs.Prelude.{ℕ, nat_le, Bool, List, [], ◌∷◌, ◌++◌, Option, Some, None, if◌then◌else◌, fold}
 use Rattle.std.specs.List.{list_any}
-use Rattle.nf_row.specs.Properties.{Properties, is_starter}
-use Rattle.nf_row.specs.Runs.{has_starter}
-use Rattle.nf_row.specs.Front.{front, back}
+use Rattle.nf_forms.specs.Properties.{Properties, is_starter}
+use Rattle.nf_forms.specs.Runs.{has_starter}
+use Rattle.nf_forms.specs.Front.{front, back}
 
 -- the entry of the table, where that is a starter
 abbrev pub starter_only : Properties → Option ℕ → Option ℕ

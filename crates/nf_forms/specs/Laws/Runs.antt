@@ -5,8 +5,8 @@ use Rattle.std.proofs.lemmas.List.Folds.{list_any-append}
 use Rattle.std.proofs.lemmas.List.Sums.{prefix_len-le-length, suffix_len-le-length}
 use Rattle.std.specs.Prelude.{if◌then◌else◌}
 use Rattle.std.specs.List.{prefix_len}
-use Rattle.nf_row.specs.Properties.{Properties, is_starter, is_nonstarter}
-use Rattle.nf_row.specs.Runs.{has_starter, lead, trail, longest}
+use Rattle.nf_forms.specs.Properties.{Properties, is_starter, is_nonstarter}
+use Rattle.nf_forms.specs.Runs.{has_starter, lead, trail, longest}
 
 module _ (p : Properties) where
   pub has_starter-append : (w v : List ℕ) → has_starter p (w ++ v) ≡ (has_starter p w || has_starter p v)

@@ -1,9 +1,9 @@
 -- The Stream-Safe Text Process (UAX #15, section 13, UAX15-D4).
 use Rattle.std.specs.Prelude.{ℕ, ◌+◌, Bool, nat_lt, List, [], ◌∷◌, ◌++◌, if◌then◌else◌, fold}
-use Rattle.nf_row.specs.Properties.{Properties}
-use Rattle.nf_row.specs.declared.form.Form.TheVariants.{Nfkd}
-use Rattle.nf_row.specs.Runs.{lead, trail}
-use Rattle.nf_row.specs.Forms.{decomposed}
+use Rattle.nf_forms.specs.Properties.{Properties}
+use Rattle.nf_forms.specs.declared.form.Form.TheVariants.{Nfkd}
+use Rattle.nf_forms.specs.Runs.{lead, trail}
+use Rattle.nf_forms.specs.Forms.{decomposed}
 
 -- U+034F COMBINING GRAPHEME JOINER
 abbrev pub joiner : ℕ

@@ -1,7 +1,7 @@
 -- A text in two at its last starter: whatever is appended, normalization changes nothing before it (UAX #15, section 9).
 use Rattle.std.specs.Prelude.{ℕ, List, [], ◌∷◌, if◌then◌else◌}
-use Rattle.nf_row.specs.Properties.{Properties}
-use Rattle.nf_row.specs.Runs.{has_starter}
+use Rattle.nf_forms.specs.Properties.{Properties}
+use Rattle.nf_forms.specs.Runs.{has_starter}
 
 -- what stands before the last starter, and nothing where there is none
 abbrev pub front : Properties → List ℕ → List ℕ

@@ -3,9 +3,9 @@
 -- notion is this library's own: all of Unicode's characters are sound, and tables from elsewhere need not be.
 use Rattle.std.specs.Prelude.{ℕ, Bool, not, ◌&&◌, ◌||◌, ◌==◌, nat_le, List, [], ◌∷◌, length}
 use Rattle.std.specs.Str.{bytes_eq}
-use Rattle.nf_row.specs.Properties.{Properties}
-use Rattle.nf_row.specs.Runs.{lead, trail, has_starter}
-use Rattle.nf_row.specs.StreamSafe.{joiner}
+use Rattle.nf_forms.specs.Properties.{Properties}
+use Rattle.nf_forms.specs.Runs.{lead, trail, has_starter}
+use Rattle.nf_forms.specs.StreamSafe.{joiner}
 
 -- how many members a row may have: the longest of Unicode's has 18 (U+FDFA)
 abbrev pub max_row : ℕ

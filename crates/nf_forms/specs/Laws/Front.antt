@@ -3,10 +3,10 @@ use Rattle.std.proofs.Common.{◌≡◌, ℕ, ◌+◌, Bool, true, false, ◌||�
 use Rattle.std.proofs.lemmas.Bool.{cases_Bool, or_left, or_right, or_parts, or_from, cond-true, cond-false, false≢true}
 use Rattle.std.proofs.lemmas.List.{append_assoc}
 use Rattle.std.specs.Prelude.{if◌then◌else◌}
-use Rattle.nf_row.specs.Properties.{Properties, is_starter}
-use Rattle.nf_row.specs.Runs.{has_starter, trail}
-use Rattle.nf_row.specs.Front.{front, back}
-use Rattle.nf_row.specs.Laws.Runs.{has_starter-append, trail-append, trail-push}
+use Rattle.nf_forms.specs.Properties.{Properties, is_starter}
+use Rattle.nf_forms.specs.Runs.{has_starter, trail}
+use Rattle.nf_forms.specs.Front.{front, back}
+use Rattle.nf_forms.specs.Laws.Runs.{has_starter-append, trail-append, trail-push}
 
 module _ (p : Properties) where
   pub front-append-back : (w : List ℕ) → front p w ++ back p w ≡ w

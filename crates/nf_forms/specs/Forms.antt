@@ -1,11 +1,11 @@
 -- The normalization forms (The Unicode Standard, section 3.11, D118 to D121).
 use Rattle.std.specs.Prelude.{ℕ, Bool, true, false, List}
 use Rattle.std.specs.List.{flat_map}
-use Rattle.nf_row.specs.Properties.{Properties}
-use Rattle.nf_row.specs.declared.form.Form.{Form}
-use Rattle.nf_row.specs.declared.form.Form.TheVariants.{Nfc, Nfd, Nfkc, Nfkd}
-use Rattle.nf_row.specs.Order.{order}
-use Rattle.nf_row.specs.Compose.{compose}
+use Rattle.nf_forms.specs.Properties.{Properties}
+use Rattle.nf_forms.specs.declared.form.Form.{Form}
+use Rattle.nf_forms.specs.declared.form.Form.TheVariants.{Nfc, Nfd, Nfkc, Nfkd}
+use Rattle.nf_forms.specs.Order.{order}
+use Rattle.nf_forms.specs.Compose.{compose}
 
 -- the decomposition of a character that the form asks for
 abbrev pub row_of : Form → Properties → ℕ → List ℕ

@@ -1,10 +1,10 @@
 -- Texts and their forms, computed from the definitions. The values are those of Unicode's data files and of the
 -- examples of UAX #15 and of section 3.12 of The Unicode Standard.
 use Rattle.std.specs.Prelude.{◌≡◌, ℕ, List, [], ◌∷◌, refl, map}
-use Rattle.nf_row.specs.declared.form.Form.TheVariants.{Nfc, Nfd, Nfkc, Nfkd}
-use Rattle.nf_row.specs.Order.{by_class}
-use Rattle.nf_row.specs.Forms.{normal_form}
-use Rattle.nf_row.specs.Ucd.{ucd}
+use Rattle.nf_forms.specs.declared.form.Form.TheVariants.{Nfc, Nfd, Nfkc, Nfkd}
+use Rattle.nf_forms.specs.Order.{by_class}
+use Rattle.nf_forms.specs.Forms.{normal_form}
+use Rattle.nf_forms.specs.Ucd.{ucd}
 use Rattle.unicode_normalization.proofs.Computing.{unicode_normalization}
 
 texts : List (List ℕ)

@@ -1,7 +1,7 @@
 -- Runs of non-starters (UAX #15, section 13).
 use Rattle.std.specs.Prelude.{ℕ, max, Bool, List, [], ◌∷◌}
 use Rattle.std.specs.List.{prefix_len, suffix_len, list_any}
-use Rattle.nf_row.specs.Properties.{Properties, is_starter, is_nonstarter}
+use Rattle.nf_forms.specs.Properties.{Properties, is_starter, is_nonstarter}
 
 abbrev pub has_starter : Properties → List ℕ → Bool
 has_starter p w = list_any (is_starter p) w

@@ -1,6 +1,6 @@
 -- The data of the Unicode Character Database, in the words of the look-ups' contracts.
 use Rattle.std.specs.Prelude.{Bool, ℕ, not}
-use Rattle.nf_row.specs.Properties.{Properties}
+use Rattle.nf_forms.specs.Properties.{Properties}
 use Rattle.unicode.specs.CanonicalCombiningClass.{canonical_combining_class}
 use Rattle.unicode.specs.GeneralCategory.{general_category, general_category_eq}
 use Rattle.ucd_category.specs.declared.GeneralCategory.TheVariants.{Unassigned}

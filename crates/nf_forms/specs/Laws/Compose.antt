@@ -5,15 +5,15 @@ use Rattle.std.proofs.lemmas.List.{append-nil, length-append}
 use Rattle.std.proofs.lemmas.List.Sums.{fold-append}
 use Rattle.std.specs.Prelude.{if◌then◌else◌, fold, unwrap_or, is_some}
 use Rattle.std.specs.Option.{option_to_list}
-use Rattle.nf_row.specs.Properties.{Properties, is_starter}
-use Rattle.nf_row.specs.Runs.{has_starter, trail}
-use Rattle.nf_row.specs.Front.{front, back}
-use Rattle.nf_row.specs.Order.{by_class, order}
-use Rattle.nf_row.specs.Compose.{starter_only, composite, is_blocked, joined, replaced, join, compose_step, compose}
-use Rattle.nf_row.specs.Forms.{arranged}
-use Rattle.nf_row.specs.Laws.Front.{front-append-back, front-none, back-none, has_starter-at, front-at, back-at, EndsInGroup, last_starter, marks_push, EndsInStarter, ends_in, IsCut, cut, trail-behind}
-use Rattle.nf_row.specs.Laws.Order.{order-marks, order-push_starter, order-behind, has_starter-by_class}
-use Rattle.nf_row.specs.Laws.Starters.{length-by_class}
+use Rattle.nf_forms.specs.Properties.{Properties, is_starter}
+use Rattle.nf_forms.specs.Runs.{has_starter, trail}
+use Rattle.nf_forms.specs.Front.{front, back}
+use Rattle.nf_forms.specs.Order.{by_class, order}
+use Rattle.nf_forms.specs.Compose.{starter_only, composite, is_blocked, joined, replaced, join, compose_step, compose}
+use Rattle.nf_forms.specs.Forms.{arranged}
+use Rattle.nf_forms.specs.Laws.Front.{front-append-back, front-none, back-none, has_starter-at, front-at, back-at, EndsInGroup, last_starter, marks_push, EndsInStarter, ends_in, IsCut, cut, trail-behind}
+use Rattle.nf_forms.specs.Laws.Order.{order-marks, order-push_starter, order-behind, has_starter-by_class}
+use Rattle.nf_forms.specs.Laws.Starters.{length-by_class}
 
 module _ (p : Properties) where
   -- ---- composition

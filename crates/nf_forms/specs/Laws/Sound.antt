@@ -5,10 +5,10 @@ use Rattle.std.proofs.lemmas.Slice.Eq.{bytes_eq-Decides}
 use Rattle.std.proofs.lemmas.List.Folds.{list_all-append}
 use Rattle.std.specs.List.{list_all}
 use Rattle.std.specs.Prelude.{IsTrue}
-use Rattle.nf_row.specs.Properties.{Properties}
-use Rattle.nf_row.specs.Runs.{has_starter, lead, trail}
-use Rattle.nf_row.specs.StreamSafe.{joiner}
-use Rattle.nf_row.specs.Sound.{max_row, joiner_is_plain, is_sound}
+use Rattle.nf_forms.specs.Properties.{Properties}
+use Rattle.nf_forms.specs.Runs.{has_starter, lead, trail}
+use Rattle.nf_forms.specs.StreamSafe.{joiner}
+use Rattle.nf_forms.specs.Sound.{max_row, joiner_is_plain, is_sound}
 
 -- the joiner is a starter that is its own row
 pub record JoinerIsPlain (p : Properties) : Type 0 where

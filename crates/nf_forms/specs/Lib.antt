@@ -1,0 +1,11 @@
+pub mod Properties
+pub mod Runs
+pub mod Front
+pub mod Order
+pub mod Ordering
+pub mod Compose
+pub mod Forms
+pub mod StreamSafe
+pub mod Sound
+pub mod Ucd
+pub mod Laws
