@@ -18,7 +18,8 @@ use Rattle.nf_forms.specs.Laws.StreamSafe.{stream_safe-push, decomposed-append}
 use Rattle.nf_forms.specs.Laws.Compose.{front-append}
 use Rattle.nf_safe.specs.LongestFront.{longest_front}
 use Rattle.nf_safe.specs.Laws.LongestFront.{longest_front-push, longest_front-all, longest_front-le, longest_front_is}
-use Rattle.nf_filter.specs.Settled.{safe_form, settled, is_usable, usable}
+use Rattle.nf_forms.specs.SafeForm.{safe_form}
+use Rattle.nf_filter.specs.Settled.{settled, is_usable, usable}
 
 -- a text and what stands behind it
 pub record Extends (x y : List ℕ) : Type 0 where

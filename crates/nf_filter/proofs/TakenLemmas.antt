@@ -19,7 +19,8 @@ use Rattle.nf_pending.specs.StandsAfter.{run_len, StandsAfter as PendingStandsAf
 use Rattle.nf_filter.specs.declared.taken.Taken.{Taken}
 use Rattle.nf_filter.specs.declared.taken.Stop.{Stop}
 use Rattle.nf_filter.specs.declared.taken.Stop.TheVariants.{Unsound, Write}
-use Rattle.nf_filter.specs.Settled.{safe_form, settled, is_usable}
+use Rattle.nf_forms.specs.SafeForm.{safe_form}
+use Rattle.nf_filter.specs.Settled.{settled, is_usable}
 use Rattle.nf_filter.specs.Writes.{SinkState, Puts}
 use Rattle.nf_filter.specs.Taken.{HasTaken, HasParted, IsWithin, HasRoom, run_behind, front_utf8, PutsJoiner, Parts}
 use Rattle.nf_filter.proofs.WritesLemmas.{Puts-none, Puts-at, Stops-at}

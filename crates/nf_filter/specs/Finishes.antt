@@ -9,7 +9,7 @@ use Rattle.nf_filter.specs.declared.fault.Fault.{Fault}
 use Rattle.nf_filter.specs.declared.fault.Fault.TheVariants.{Write, Cut as CutShort}
 use Rattle.nf_filter.specs.declared.tally.Tally.{Tally}
 use Rattle.nf_filter.specs.Writes.{SinkState, Writes, BreaksOff}
-use Rattle.nf_filter.specs.Settled.{safe_form}
+use Rattle.nf_forms.specs.SafeForm.{safe_form}
 use Rattle.nf_filter.specs.Reading.{settled_utf8}
 
 -- the bytes, the characters that they spell, and the joiners that the process puts

@@ -6,7 +6,8 @@ use Rattle.nf_forms.specs.declared.form.Form.TheVariants.{Nfkd}
 use Rattle.nf_forms.specs.Runs.{trail}
 use Rattle.nf_forms.specs.Forms.{decomposed}
 use Rattle.nf_forms.specs.StreamSafe.{max_run, stream_safe}
-use Rattle.nf_filter.specs.Settled.{safe_form, settled, is_usable}
+use Rattle.nf_forms.specs.SafeForm.{safe_form}
+use Rattle.nf_filter.specs.Settled.{settled, is_usable}
 
 -- whatever follows a text, what is settled of it stays
 abbrev pub SettledOnlyGrows : Type 0

@@ -1,20 +1,16 @@
--- The form of the stream-safe text, what of it can change no more, and what of a text a filter may use (The Unicode
--- Standard, section 3.11; UAX #15, sections 9 and 13).
+-- What of the form of the stream-safe text can change no more, and what of a text a filter may use (UAX #15, sections 9
+-- and 13).
 use Rattle.std.specs.Prelude.{ℕ, Bool, List, take}
 use Rattle.std.specs.List.{list_all}
 use Rattle.nf_forms.specs.Properties.{Properties}
 use Rattle.nf_forms.specs.declared.form.Form.{Form}
 use Rattle.nf_forms.specs.Front.{front}
-use Rattle.nf_forms.specs.Forms.{normal_form}
 use Rattle.nf_forms.specs.StreamSafe.{stream_safe}
+use Rattle.nf_forms.specs.SafeForm.{safe_form}
 use Rattle.nf_forms.specs.Sound.{is_sound}
 use Rattle.nf_safe.specs.LongestFront.{longest_front}
 
--- the form of the stream-safe text
-unfoldable pub safe_form : Form → Properties → List ℕ → List ℕ
-safe_form f p x = normal_form f p (stream_safe p x)
-
--- what of it stands before its last starter
+-- what of the form of the stream-safe text stands before its last starter
 unfoldable pub settled : Form → Properties → List ℕ → List ℕ
 settled f p x = front p (safe_form f p x)
 

@@ -38,7 +38,8 @@ impl Taken {
     ghost use Rattle.nf_forms.specs.Sound.{is_sound};
     ghost use Rattle.nf_pending.specs.StandsAfter.{run_len, StandsAfter};
     ghost use Rattle.nf_filter.specs.Writes.{sink_state, Puts, Stops};
-    ghost use Rattle.nf_filter.specs.Settled.{settled, safe_form};
+    ghost use Rattle.nf_forms.specs.SafeForm.{safe_form};
+    ghost use Rattle.nf_filter.specs.Settled.{settled};
     ghost use Rattle.nf_filter.specs.Taken.{HasTaken, IsWithin, HasRoom, PutsJoiner, Parts, Takes};
 
     /// No character yet.

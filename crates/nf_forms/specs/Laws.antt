@@ -7,3 +7,8 @@ pub mod Ordering
 pub mod Compose
 pub mod Sound
 pub mod StreamSafe
+pub mod Parting
+pub mod MarkBehind
+pub mod Calm
+pub mod CalmSteps
+pub mod CalmEnd

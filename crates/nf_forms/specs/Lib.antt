@@ -6,6 +6,9 @@ pub mod Ordering
 pub mod Compose
 pub mod Forms
 pub mod StreamSafe
+pub mod SafeForm
+pub mod Parting
+pub mod Calm
 pub mod Sound
 pub mod Ucd
 pub mod Laws

@@ -1,12 +1,61 @@
 //! Laws of the definitions, each the contract of a function without a body.
-ghost use Rattle.std.specs.Prelude.{◌≡◌, ℕ, List};
+ghost use Rattle.std.specs.Prelude.{◌≡◌, ◌≤◌, ℕ, List, [], ◌∷◌, ◌++◌};
 ghost use Rattle.nf_forms.specs.Properties.{Properties};
+ghost use Rattle.nf_forms.specs.Runs.{trail};
+ghost use Rattle.nf_forms.specs.Front.{front};
 ghost use Rattle.nf_forms.specs.Order.{order};
 ghost use Rattle.nf_forms.specs.Ordering.{IsOrderingOf};
+ghost use Rattle.nf_forms.specs.declared.form.Form.{Form};
+ghost use Rattle.nf_forms.specs.declared.form.Form.TheVariants.{Nfkd};
+ghost use Rattle.nf_forms.specs.Forms.{row_of, decomposed, finished};
+ghost use Rattle.nf_forms.specs.StreamSafe.{stream_safe};
+ghost use Rattle.nf_forms.specs.SafeForm.{safe_form};
+ghost use Rattle.nf_forms.specs.Parting.{BeginsAnew, IsParting};
+ghost use Rattle.nf_forms.specs.Calm.{IsCalm, CalmEnd};
+ghost use Rattle.nf_forms.specs.Laws.Sound.{IsSoundText};
 
 /// Canonical ordering makes of a text an ordered one in which the starters, and the non-starters of each class between
 /// them, follow one another as they did; no other text is so (The Unicode Standard, section 3.11, D109).
 pub fn ordering_is_stable()
     ensures ordering { (p : Properties) (w : List ℕ) → IsOrderingOf p w (order p w) }
     ensures only { (p : Properties) (w v : List ℕ) → IsOrderingOf p w v → v ≡ order p w }
+{}
+
+/// A text may be cut before a character that parts it, and each part brought into the form by itself. Alone that
+/// character is its own form, and it settles all that stands before it (UAX #15, section 9).
+pub fn a_text_may_be_cut()
+    ensures row { (p : Properties) (f : Form) (c : ℕ) → BeginsAnew p f c → (w v : List ℕ)
+        → finished f p (w ++ (row_of f p c ++ v)) ≡ finished f p w ++ finished f p (row_of f p c ++ v) }
+    ensures cut { (p : Properties) (f : Form) (c : ℕ) → IsParting p f c → (x y : List ℕ) → IsSoundText p (stream_safe p x)
+        → safe_form f p (x ++ c ∷ y) ≡ safe_form f p x ++ safe_form f p (c ∷ y) }
+    ensures alone { (p : Properties) (f : Form) (c : ℕ) → IsParting p f c → safe_form f p (c ∷ []) ≡ c ∷ [] }
+    ensures settles { (p : Properties) (f : Form) (c : ℕ) → IsParting p f c → (x : List ℕ) → IsSoundText p (stream_safe p x)
+        → front p (safe_form f p (x ++ c ∷ [])) ≡ safe_form f p x }
+{}
+
+/// Calm text goes into the stream-safe text and into the form as it is, whatever stands before it. It settles what
+/// stood before it, and its own front.
+pub fn calm_text_is_its_own_form()
+    ensures safe { (p : Properties) (f : Form) (cs : List ℕ) (class count : ℕ) → IsCalm p f cs class count → (x : List ℕ)
+        → IsSoundText p (stream_safe p x) → stream_safe p (x ++ cs) ≡ stream_safe p x ++ cs }
+    ensures form { (p : Properties) (f : Form) (cs : List ℕ) (class count : ℕ) → IsCalm p f cs class count → (x : List ℕ)
+        → IsSoundText p (stream_safe p x) → safe_form f p (x ++ cs) ≡ safe_form f p x ++ cs }
+    ensures settled { (p : Properties) (f : Form) (c : ℕ) (cs : List ℕ) (class count : ℕ) → IsCalm p f (c ∷ cs) class count → (x : List ℕ)
+        → IsSoundText p (stream_safe p x) → front p (safe_form f p (x ++ c ∷ cs)) ≡ safe_form f p x ++ front p (c ∷ cs) }
+    ensures bound { (p : Properties) (f : Form) (c : ℕ) (cs : List ℕ) (class count : ℕ) → IsCalm p f (c ∷ cs) class count → (x : List ℕ)
+        → IsSoundText p (stream_safe p x) → trail p (decomposed Nfkd p (stream_safe p (x ++ c ∷ cs))) ≤ count }
+{}
+
+/// Calm text ends in a character that parts a text, and marks behind it. All before that character is settled; its
+/// row and those marks end the decomposed text, and they alone decide how many non-starters the NFKD ends in.
+pub fn calm_text_goes_on_from_its_end()
+    ensures end { (p : Properties) (f : Form) (c : ℕ) (cs : List ℕ) (class count : ℕ) → IsCalm p f (c ∷ cs) class count → CalmEnd p f (c ∷ cs) }
+    ensures settled { (p : Properties) (f : Form) (c : ℕ) (cs : List ℕ) (class count : ℕ) → IsCalm p f (c ∷ cs) class count → (end : CalmEnd p f (c ∷ cs))
+        (x : List ℕ) → IsSoundText p (stream_safe p x) → front p (safe_form f p (x ++ c ∷ cs)) ≡ safe_form f p x ++ end.before }
+    ensures decomposed { (p : Properties) (f : Form) (c : ℕ) (cs : List ℕ) (class count : ℕ) → IsCalm p f (c ∷ cs) class count → (end : CalmEnd p f (c ∷ cs))
+        (x : List ℕ) → IsSoundText p (stream_safe p x) → decomposed f p (stream_safe p (x ++ c ∷ cs))
+        ≡ decomposed f p (stream_safe p x ++ end.before) ++ (row_of f p end.last ++ end.marks) }
+    ensures count { (p : Properties) (f : Form) (c : ℕ) (cs : List ℕ) (class count : ℕ) → IsCalm p f (c ∷ cs) class count → (end : CalmEnd p f (c ∷ cs))
+        (x : List ℕ) → IsSoundText p (stream_safe p x) → trail p (decomposed Nfkd p (stream_safe p (x ++ c ∷ cs)))
+        ≡ trail p (decomposed Nfkd p (end.last ∷ end.marks)) }
 {}

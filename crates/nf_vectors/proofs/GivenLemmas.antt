@@ -27,7 +27,8 @@ use Rattle.nf_utf8.specs.Laws.{ReadsBack}
 use Rattle.nf_filter.specs.declared.fault.Fault.{Fault}
 use Rattle.nf_filter.specs.declared.fault.Fault.TheVariants.{Spent, TooLong, Read, Write, Row, BadByte, Cut as CutShort}
 use Rattle.nf_filter.specs.declared.tally.Tally.{Tally}
-use Rattle.nf_filter.specs.Settled.{safe_form, settled, is_usable, usable}
+use Rattle.nf_forms.specs.SafeForm.{safe_form}
+use Rattle.nf_filter.specs.Settled.{settled, is_usable, usable}
 use Rattle.nf_filter.specs.Reading.{settled_utf8}
 use Rattle.nf_filter.specs.Faults.{bad_byte, fault_in}
 use Rattle.nf_filter.specs.Finishes.{tally_of, ended, end_of, whole_or, final_utf8, Finishes}

@@ -8,7 +8,7 @@ use Rattle.nf_forms.specs.declared.form.Form.TheVariants.{Nfc, Nfd, Nfkc, Nfkd}
 use Rattle.nf_forms.specs.Order.{by_class, order}
 use Rattle.nf_forms.specs.Compose.{compose}
 use Rattle.nf_forms.specs.Forms.{arranged, composes, finished, decomposed, normal_form}
-use Rattle.nf_filter.specs.Settled.{safe_form}
+use Rattle.nf_forms.specs.SafeForm.{safe_form}
 use Rattle.nf_vectors.specs.Comparison.{holds}
 use Rattle.nf_vectors.specs.Sweep.{is_unchanged}
 use Rattle.nf_vectors.specs.Plain.{IsPlain}

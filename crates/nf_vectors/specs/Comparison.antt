@@ -7,7 +7,7 @@ use Rattle.nf_forms.specs.declared.form.Form.TheVariants.{Nfc, Nfd, Nfkc, Nfkd}
 use Rattle.nf_forms.specs.Sound.{is_sound}
 use Rattle.nf_safe.specs.LongestFront.{longest_front}
 use Rattle.nf_safe.specs.Place.{place}
-use Rattle.nf_filter.specs.Settled.{safe_form}
+use Rattle.nf_forms.specs.SafeForm.{safe_form}
 use Rattle.nf_vectors.specs.Columns.{Columns}
 
 -- the column is of sound characters, and the form of its stream-safe text is this

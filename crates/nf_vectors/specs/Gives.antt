@@ -5,7 +5,8 @@ use Rattle.nf_forms.specs.Properties.{Properties}
 use Rattle.nf_forms.specs.declared.form.Form.{Form}
 use Rattle.nf_filter.specs.declared.fault.Fault.{Fault}
 use Rattle.nf_filter.specs.declared.fault.Fault.TheVariants.{Write}
-use Rattle.nf_filter.specs.Settled.{safe_form, is_usable}
+use Rattle.nf_forms.specs.SafeForm.{safe_form}
+use Rattle.nf_filter.specs.Settled.{is_usable}
 use Rattle.nf_filter.specs.Writes.{SinkState}
 
 -- the sink failed on what was to be written

@@ -37,6 +37,11 @@ module _ (p : Properties) where
   back-at [] s m starts marks = cond-false _ _ _ marks
   back-at (c ∷ e) s m starts marks = cond-true _ _ _ (has_starter-at e s m starts) ∙ back-at e s m starts marks
 
+  -- a starter behind settles all before it
+  pub front-append_some : (w v : List ℕ) → has_starter p v ≡ true → front p (w ++ v) ≡ w ++ front p v
+  front-append_some [] v some = refl
+  front-append_some (c ∷ w) v some = cond-true _ _ _ (has_starter-append p w v ∙ or_right _ _ some) ∙ ap (λ u. c ∷ u) (front-append_some w v some)
+
   -- a text up to its last starter, that starter, and the marks behind it
   pub record EndsInGroup (w : List ℕ) : Type 0 where
     pub before : List ℕ

@@ -6,7 +6,8 @@ use Rattle.nf_forms.specs.StreamSafe.{stream_safe}
 use Rattle.nf_forms.specs.Laws.Front.{front-append-back}
 use Rattle.nf_forms.specs.Laws.Compose.{length-back}
 use Rattle.nf_forms.specs.Laws.StreamSafe.{trail-stream_safe-le}
-use Rattle.nf_filter.specs.Settled.{safe_form, settled, is_usable}
+use Rattle.nf_forms.specs.SafeForm.{safe_form}
+use Rattle.nf_filter.specs.Settled.{settled, is_usable}
 use Rattle.nf_filter.proofs.laws.little_is_held_back.Goals as goal
 
 pub returns : goal.returns

@@ -1,4 +1,5 @@
-use Rattle.nf_filter.specs.Settled.{settled, safe_form}
+use Rattle.nf_forms.specs.SafeForm.{safe_form}
+use Rattle.nf_filter.specs.Settled.{settled}
 use Rattle.nf_filter.proofs.taken.Taken.end.Goals as goal
 
 pub returns-clause-puts : goal.returns-clause-puts

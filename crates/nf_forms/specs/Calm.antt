@@ -1,0 +1,55 @@
+-- Calm text: characters that part a text, and behind each of them marks that stay where they stand. Its form is itself,
+-- whatever stands before it: what the quick check tells of a text (UAX #15, section 9), over any character data.
+use Rattle.std.specs.Prelude.{◌≡◌, ◌<◌, ◌≤◌, ◌+◌, ◌⊎◌, ℕ, false, List, [], ◌∷◌, ◌++◌}
+use Rattle.nf_forms.specs.Properties.{Properties}
+use Rattle.nf_forms.specs.Runs.{has_starter, trail}
+use Rattle.nf_forms.specs.declared.form.Form.{Form}
+use Rattle.nf_forms.specs.Forms.{decomposed}
+use Rattle.nf_forms.specs.StreamSafe.{max_run}
+use Rattle.nf_forms.specs.Parting.{NeverSecond, IsParting}
+
+-- a non-starter of class k that is its own canonical and compatibility row
+pub record IsMark (p : Properties) (c k : ℕ) : Type 0 where
+  pub class : p.class c ≡ k
+  pub above : 0 < k
+  pub canonical : p.canonical c ≡ c ∷ []
+  pub compat : p.compat c ≡ c ∷ []
+
+-- c parts a text, and behind it NFKD ends in at most `count` non-starters
+pub record BeginsRun (p : Properties) (f : Form) (c count : ℕ) : Type 0 where
+  pub parting : IsParting p f c
+  pub counted : trail p (p.compat c) ≤ count
+  pub room : count ≤ max_run
+
+-- c is a mark that stays behind marks of class k and smaller ones, where NFKD ends in at most n non-starters; with it
+-- the greatest class is `class`, and NFKD ends in at most `count`
+pub record StaysBehind (p : Properties) (f : Form) (k n c class count : ℕ) : Type 0 where
+  pub mark : IsMark p c class
+  pub never_second : NeverSecond p f c
+  pub ordered : k ≤ class
+  pub counted : n + 1 ≤ count
+  pub room : count ≤ max_run
+
+-- one character more: no mark at the end was of a class above k, and NFKD ended in at most n non-starters; now so for
+-- `class` and `count`
+abbrev pub GoesOn : Properties → Form → ℕ → ℕ → ℕ → ℕ → ℕ → Type 0
+GoesOn p f k n c class count = BeginsRun p f c count ⊎ StaysBehind p f k n c class count
+
+-- each character of cs in turn, from k and n to `class` and `count`
+abbrev pub IsCalmFrom : Properties → Form → ℕ → ℕ → List ℕ → ℕ → ℕ → Type 0
+IsCalmFrom p f k n [] class count = (k ≡ class) × (n ≡ count)
+IsCalmFrom p f k n (c ∷ cs) class count = (next : ℕ) × (more : ℕ) × GoesOn p f k n c next more × IsCalmFrom p f next more cs class count
+
+-- behind a full run only a character that parts a text can come, so calm text begins with one
+abbrev pub IsCalm : Properties → Form → List ℕ → ℕ → ℕ → Type 0
+IsCalm p f cs class count = IsCalmFrom p f 0 max_run cs class count
+
+-- where it ends: its last character that parts a text, and the marks behind that
+pub record CalmEnd (p : Properties) (f : Form) (cs : List ℕ) : Type 0 where
+  pub before : List ℕ
+  pub last : ℕ
+  pub marks : List ℕ
+  pub text : cs ≡ before ++ last ∷ marks
+  pub parting : IsParting p f last
+  pub no_starter : has_starter p marks ≡ false
+  pub own_rows : decomposed f p marks ≡ marks
