@@ -1,0 +1,143 @@
+-- Two forms one after the other, over Unicode's data, and the form of the stream-safe text brought into a form again.
+use Rattle.std.proofs.Common.{◌≡◌, ℕ, true, List, [], ◌∷◌, ◌++◌, flat_map, refl, sym, ap, ap₂, ◌∙◌, inl, inr, arith}
+use Rattle.std.proofs.lemmas.Bool.{cases_Bool, and_parts}
+use Rattle.std.proofs.lemmas.Grind.{flat_map-append}
+use Rattle.std.specs.List.{list_all}
+use Rattle.ucd_normal.specs.declared.forms.Form.TheVariants.{Nfc as KitNfc, Nfd as KitNfd, Nfkc as KitNfkc, Nfkd as KitNfkd}
+use Rattle.unicode_normalization.specs.Compose.{compose as kit_compose}
+use Rattle.unicode_normalization.specs.Decompose.{decompose}
+use Rattle.unicode_normalization.specs.Forms.{decomposed as kit_decomposed, normalize, nfd, nfkd, nfc, nfkc}
+use Rattle.unicode_normalization.specs.Order.{is_reorderable, sink, canonical_order}
+use Rattle.unicode_normalization.specs.StreamSafe.{has_short_runs, is_stream_safe, stream_safe as kit_stream_safe}
+use Rattle.unicode_normalization.proofs.ComposeLemmas.{list_all-append}
+use Rattle.unicode_normalization.proofs.FormsLemmas.{normalize_idem, nfd-nfc, nfkd-nfkc, nfd-nfkc, nfd-nfkd, nfc-nfd, nfc-nfkd, nfc-nfkc, nfkc-nfkd, nfkc-by_nfkd}
+use Rattle.unicode_normalization.proofs.OrderLemmas.{is_reorderable-true, sink-nil, sink-past, sink-stays, sink_all, canonical_order-append, canonical_order-nil, canonical_order-cons, canonical_order-exchange, list_all-canonical_order}
+use Rattle.unicode_normalization.proofs.ShortRuns.{is_stream_safe-nfkd, is_stream_safe-stream_safe}
+use Rattle.unicode_normalization.proofs.StreamSafeLemmas.{stream_safe-safe}
+use Rattle.nf_forms.specs.declared.form.Form.{Form}
+use Rattle.nf_forms.specs.declared.form.Form.TheVariants.{Nfc, Nfd, Nfkc, Nfkd}
+use Rattle.nf_forms.specs.Forms.{normal_form}
+use Rattle.nf_forms.specs.StreamSafe.{stream_safe}
+use Rattle.nf_forms.specs.SafeForm.{safe_form}
+use Rattle.nf_forms.specs.Ucd.{ucd}
+use Rattle.nf_facts.specs.After.{after}
+use Rattle.nf_facts.specs.KitForm.{kit_form}
+use Rattle.nf_facts.proofs.Fullness.{is_fixed, compat-fixed, compat-joined, canonical-fixed}
+use Rattle.nf_facts.proofs.SameForms.{normal_form-ucd, mark_at}
+use Rattle.nf_facts.proofs.SameSafe.{stream_safe-ucd}
+
+-- ---- NFKD sees no difference between a text and its NFD
+
+abbrev K : ℕ → List ℕ
+K = decompose KitNfkd
+
+behind : (xs ys zs : List ℕ) → canonical_order ys ≡ canonical_order zs → canonical_order (xs ++ ys) ≡ canonical_order (xs ++ zs)
+behind xs ys zs e = canonical_order-append xs ys ∙ ap (sink_all xs) e ∙ sym (canonical_order-append xs zs)
+
+compat-sink : (c : ℕ) (ds : List ℕ) → is_fixed c ≡ true → list_all is_fixed ds ≡ true → canonical_order (flat_map K (sink c ds)) ≡ canonical_order (K c ++ flat_map K ds)
+compat-sink c [] first rest = ap (λ w. canonical_order (flat_map K w)) (sink-nil c)
+compat-sink c (d ∷ ds) first rest =
+    elim (cases_Bool (is_reorderable c d)) [
+      | inl past ↦
+          let classes = is_reorderable-true c d past in
+          let parts = and_parts (is_fixed d) (list_all is_fixed ds) rest in
+          let low = classes.0 in
+          let high = classes.1 in
+          let of_c = compat-fixed c first (mark_at c (omega arith)) in
+          let of_d = compat-fixed d parts.0 (mark_at d low) in
+          ap (λ w. canonical_order (flat_map K w)) (sink-past c d ds past)
+          ∙ ap (λ w. canonical_order (w ++ flat_map K (sink c ds))) of_d
+          ∙ behind (d ∷ []) (flat_map K (sink c ds)) (K c ++ flat_map K ds) (compat-sink c ds first parts.1)
+          ∙ ap (λ w. canonical_order (d ∷ (w ++ flat_map K ds))) of_c
+          ∙ sym (canonical_order-exchange [] c d (flat_map K ds) past)
+          ∙ ap₂ (λ u v. canonical_order (u ++ (v ++ flat_map K ds))) (sym of_c) (sym of_d)
+      | inr stays ↦ ap (λ w. canonical_order (flat_map K w)) (sink-stays c d ds stays)
+    ]
+
+compat-order : (w : List ℕ) → list_all is_fixed w ≡ true → canonical_order (flat_map K (canonical_order w)) ≡ canonical_order (flat_map K w)
+compat-order [] all = ap (λ w. canonical_order (flat_map K w)) canonical_order-nil
+compat-order (c ∷ w) all =
+    let parts = and_parts (is_fixed c) (list_all is_fixed w) all in
+    ap (λ v. canonical_order (flat_map K v)) (canonical_order-cons c w)
+    ∙ compat-sink c (canonical_order w) parts.0 (list_all-canonical_order is_fixed w parts.1)
+    ∙ behind (K c) (flat_map K (canonical_order w)) (flat_map K w) (compat-order w parts.1)
+
+fixed-rows : (x : List ℕ) → list_all is_fixed (flat_map (decompose KitNfd) x) ≡ true
+unfolding ucd
+fixed-rows [] = refl
+fixed-rows (c ∷ x) = list_all-append is_fixed _ _ (canonical-fixed c) (fixed-rows x)
+
+compat-rows : (x : List ℕ) → flat_map K (flat_map (decompose KitNfd) x) ≡ flat_map K x
+unfolding ucd
+compat-rows [] = refl
+compat-rows (c ∷ x) =
+    flat_map-append K (decompose KitNfd c) (flat_map (decompose KitNfd) x) ∙ ap₂ (λ u v. u ++ v) (compat-joined c) (compat-rows x)
+
+pub nfkd-nfd : (x : List ℕ) → nfkd (nfd x) ≡ nfkd x
+unfolding normalize kit_decomposed
+nfkd-nfd x = compat-order (flat_map (decompose KitNfd) x) (fixed-rows x) ∙ ap canonical_order (compat-rows x)
+
+pub nfkd-nfc : (x : List ℕ) → nfkd (nfc x) ≡ nfkd x
+nfkd-nfc x = sym (nfkd-nfd (nfc x)) ∙ ap nfkd (nfd-nfc x) ∙ nfkd-nfd x
+
+pub nfkc-nfd : (x : List ℕ) → nfkc (nfd x) ≡ nfkc x
+nfkc-nfd x = nfkc-by_nfkd (nfd x) ∙ ap kit_compose (nfkd-nfd x) ∙ sym (nfkc-by_nfkd x)
+
+pub nfkc-nfc : (x : List ℕ) → nfkc (nfc x) ≡ nfkc x
+nfkc-nfc x = nfkc-by_nfkd (nfc x) ∙ ap kit_compose (nfkd-nfc x) ∙ sym (nfkc-by_nfkd x)
+
+-- ---- two forms
+
+normalize-after : (f g : Form) (x : List ℕ) → normalize (kit_form g) (normalize (kit_form f) x) ≡ normalize (kit_form (after g f)) x
+normalize-after Nfc Nfc x = normalize_idem KitNfc x
+normalize-after Nfc Nfd x = nfd-nfc x
+normalize-after Nfc Nfkc x = nfkc-nfc x
+normalize-after Nfc Nfkd x = nfkd-nfc x
+normalize-after Nfd Nfc x = nfc-nfd x
+normalize-after Nfd Nfd x = normalize_idem KitNfd x
+normalize-after Nfd Nfkc x = nfkc-nfd x
+normalize-after Nfd Nfkd x = nfkd-nfd x
+normalize-after Nfkc Nfc x = nfc-nfkc x
+normalize-after Nfkc Nfd x = nfd-nfkc x
+normalize-after Nfkc Nfkc x = normalize_idem KitNfkc x
+normalize-after Nfkc Nfkd x = nfkd-nfkc x
+normalize-after Nfkd Nfc x = nfc-nfkd x
+normalize-after Nfkd Nfd x = nfd-nfkd x
+normalize-after Nfkd Nfkc x = nfkc-nfkd x
+normalize-after Nfkd Nfkd x = normalize_idem KitNfkd x
+
+pub normal_form-after : (f g : Form) (x : List ℕ) → normal_form g ucd (normal_form f ucd x) ≡ normal_form (after g f) ucd x
+normal_form-after f g x =
+    normal_form-ucd g (normal_form f ucd x) ∙ ap (normalize (kit_form g)) (normal_form-ucd f x) ∙ normalize-after f g x ∙ sym (normal_form-ucd (after g f) x)
+
+-- ---- stream-safe text
+
+nfkd-form : (f : Form) (x : List ℕ) → nfkd (normalize (kit_form f) x) ≡ nfkd x
+nfkd-form Nfc x = nfkd-nfc x
+nfkd-form Nfd x = nfkd-nfd x
+nfkd-form Nfkc x = nfkd-nfkc x
+nfkd-form Nfkd x = normalize_idem KitNfkd x
+
+-- a form of a stream-safe text is stream-safe
+is_stream_safe-form : (f : Form) (x : List ℕ) → is_stream_safe (normalize (kit_form f) x) ≡ is_stream_safe x
+is_stream_safe-form f x = is_stream_safe-nfkd (normalize (kit_form f) x) ∙ ap (has_short_runs 0) (nfkd-form f x) ∙ sym (is_stream_safe-nfkd x)
+
+pub stream_safe-safe_form : (f : Form) (x : List ℕ) → stream_safe ucd (safe_form f ucd x) ≡ safe_form f ucd x
+unfolding safe_form
+stream_safe-safe_form f x =
+    let text = normal_form-ucd f (stream_safe ucd x) ∙ ap (normalize (kit_form f)) (stream_safe-ucd x) in
+    let safe = is_stream_safe-form f (kit_stream_safe x) ∙ is_stream_safe-stream_safe x in
+    stream_safe-ucd _ ∙ ap kit_stream_safe text ∙ stream_safe-safe _ safe ∙ sym text
+
+pub safe_form-after : (f g : Form) (x : List ℕ) → safe_form g ucd (safe_form f ucd x) ≡ safe_form (after g f) ucd x
+unfolding safe_form
+safe_form-after f g x = ap (normal_form g ucd) (stream_safe-safe_form f x) ∙ normal_form-after f g (stream_safe ucd x)
+
+pub safe_form-twice : (f : Form) (x : List ℕ) → safe_form f ucd (safe_form f ucd x) ≡ safe_form f ucd x
+safe_form-twice f x = safe_form-after f f x ∙ ap (λ g. safe_form g ucd x) (itself f)
+  where
+    itself : (f : Form) → after f f ≡ f
+    itself Nfc = refl
+    itself Nfd = refl
+    itself Nfkc = refl
+    itself Nfkd = refl

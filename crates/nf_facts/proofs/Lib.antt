@@ -1,0 +1,13 @@
+mod Trees
+mod Mapped
+mod Soundness
+mod Fullness
+mod SameForms
+mod SameSafe
+mod FormsAfter
+mod Refused
+mod Starters
+mod Marks
+mod Ranges
+mod PlainRanges
+mod Ascii

@@ -1,0 +1,115 @@
+-- What is so of each character with a decomposition mapping, by one computation over the tables.
+use Rattle.std.proofs.Common.{◌≡◌, ℕ, Bool, true, false, not, ◌&&◌, ◌||◌, ◌==◌, List, flat_map, refl, ap, ap₂, ◌∙◌, inl, inr, eq-eqb, eqb-true}
+use Rattle.std.proofs.lemmas.Bool.{cases_Bool, and_from, and_parts, not_from_false}
+use Rattle.std.specs.List.{list_all}
+use Rattle.ucd_table.proofs.GroupsCheck.{same_string, same_string-true}
+use Rattle.ucd_table.proofs.RangedFacts.{Stepped-at_points}
+use Rattle.ucd_normal.specs.declared.forms.Form.TheVariants.{Nfd, Nfkd}
+use Rattle.ucd_normal.specs.CanonicalCombiningClass.{canonical_combining_class as ccc}
+use Rattle.ucd_normal.specs.Decomposition.{decomposition, or_itself}
+use Rattle.ucd_normal.proofs.CompositionLemmas.{is_empty}
+use Rattle.ucd_normal.proofs.DecompositionLemmas.{decomposition_stepped}
+use Rattle.unicode_normalization.specs.Decompose.{decompose}
+use Rattle.unicode_normalization.specs.Hangul.{is_syllable}
+use Rattle.unicode_normalization.proofs.DecomposeLemmas.{decompose-other, decompose-mapped, pick-none}
+use Rattle.unicode_normalization.proofs.TableFacts.{Tables, by_rows, full, pick, is_final}
+use Rattle.nf_forms.specs.Properties.{Properties}
+use Rattle.nf_forms.specs.Runs.{lead}
+use Rattle.nf_forms.specs.Sound.{ends_within, marks_agree}
+use Rattle.nf_forms.specs.Ucd.{ucd}
+use Rattle.nf_facts.specs.Passing.{is_among, halfwidth_marks, vowel_signs, mapped_marks}
+use Rattle.nf_facts.proofs.Trees.{by_trees, same_tables}
+
+-- ---- the tests, on the two rows of a character
+
+-- Unicode's data by another look-up of the class, of which alone the tests read
+abbrev pub classes_of : Tables → Properties
+classes_of t = record { class = t.class; canonical = ucd.canonical; compat = ucd.compat; pair = ucd.pair; assigned = ucd.assigned }
+
+-- what soundness asks of the two rows together
+abbrev pub ends_agree : Properties → List ℕ → List ℕ → Bool
+ends_agree p canonical compat = ends_within p canonical compat && marks_agree p canonical compat
+
+-- the compatibility row of a character that is no Hangul syllable
+abbrev pub compat_by : Tables → ℕ → List ℕ
+compat_by t x = or_itself x (full t Nfkd x)
+
+-- a starter, or without a mapping
+abbrev pub is_fixed_by : Tables → ℕ → Bool
+is_fixed_by t x = t.class x == 0 || is_empty (pick Nfkd (t.entry x))
+
+-- the compatibility rows of the members of the canonical row make up the compatibility row, its non-starters unchanged
+abbrev is_within : Tables → List ℕ → List ℕ → Bool
+is_within t canonical compat = same_string (flat_map (compat_by t) canonical) compat && list_all (is_fixed_by t) canonical
+
+-- the compatibility row of a starter begins with one, with the exceptions
+abbrev begins_so : Tables → ℕ → List ℕ → Bool
+begins_so t c compat =
+    not (t.class c == 0) || (is_among vowel_signs c || (is_among halfwidth_marks c || lead (classes_of t) compat == 0))
+
+-- a character with a mapping is a starter, with the exceptions
+abbrev is_starter_so : Tables → ℕ → Bool
+is_starter_so t c = t.class c == 0 || is_among mapped_marks c
+
+passes_all : Tables → ℕ → List ℕ → List ℕ → Bool
+passes_all t c canonical compat =
+    (ends_agree (classes_of t) canonical compat && is_within t canonical compat) && (begins_so t c compat && is_starter_so t c)
+
+abbrev row_passes : Tables → ℕ → Bool
+row_passes t c = passes_all t c (or_itself c (full t Nfd c)) (full t Nfkd c)
+
+-- ---- the computation
+
+computed : (c : ℕ) → is_empty (pick Nfkd (decomposition c)) ≡ false → row_passes by_rows c ≡ true
+unfolding by_trees passes_all
+computed c some =
+    ap (λ t. row_passes t c) same_tables
+    ∙ Stepped-at_points decomposition decomposition_stepped (λ e. is_empty (pick Nfkd e)) (λ x _. row_passes by_trees x) refl c some
+
+pub record IsMapped (c : ℕ) : Type 0 where
+  pub agree : ends_agree ucd (decompose Nfd c) (decompose Nfkd c) ≡ true
+  pub joined : flat_map (compat_by by_rows) (decompose Nfd c) ≡ decompose Nfkd c
+  pub fixed : list_all (is_fixed_by by_rows) (decompose Nfd c) ≡ true
+  pub begins : ccc c ≡ 0 → is_among vowel_signs c ≡ false → is_among halfwidth_marks c ≡ false → lead ucd (decompose Nfkd c) ≡ 0
+  pub starter : is_among mapped_marks c ≡ false → ccc c ≡ 0
+
+mapped : (c : ℕ) → is_syllable c ≡ false → is_empty (pick Nfkd (decomposition c)) ≡ false → IsMapped c
+unfolding ucd passes_all
+mapped c other some =
+    let rows : passes_all by_rows c (decompose Nfd c) (decompose Nfkd c) ≡ true =
+    ap₂ (passes_all by_rows c) (decompose-other Nfd c other) (decompose-mapped Nfkd c other some) ∙ computed c some in
+    let all = and_parts _ _ rows in
+    let first = and_parts _ _ all.0 in
+    let second = and_parts _ _ all.1 in
+    let within = and_parts _ _ first.1 in
+    record {
+      agree = first.0;
+      joined = same_string-true _ _ within.0;
+      fixed = within.1;
+      begins = λ starter sign mark. eqb-true _ 0 (fourth (ccc c == 0) (is_among vowel_signs c) (is_among halfwidth_marks c) _ second.0 (eq-eqb (ccc c) 0 starter) sign mark);
+      starter = λ mark. eqb-true (ccc c) 0 (first_of (ccc c == 0) (is_among mapped_marks c) second.1 mark);
+    }
+  where
+    fourth : (a b d e : Bool) → (not a || (b || (d || e))) ≡ true → a ≡ true → b ≡ false → d ≡ false → e ≡ true
+    fourth true false false e h i j k = h
+    fourth true false true e h i j k = cc
+    fourth true true d e h i j k = cc
+    fourth false b d e h i j k = cc
+
+    first_of : (a b : Bool) → (a || b) ≡ true → b ≡ false → a ≡ true
+    first_of true b h i = refl
+    first_of false b h i = cc
+
+-- ---- every character is a Hangul syllable, or decomposes no further, or has a mapping
+
+pub by_kind : (c : ℕ) (Q : Type 0) → (is_syllable c ≡ true → Q) → (is_final Nfd c ≡ true → is_final Nfkd c ≡ true → Q) → (IsMapped c → Q) → Q
+by_kind c Q syllable final with_mapping =
+    elim (cases_Bool (is_syllable c)) [
+      | inl is ↦ syllable is
+      | inr other ↦
+          elim (cases_Bool (is_empty (pick Nfkd (decomposition c)))) [
+            | inl none ↦
+                final (and_from _ _ (pick-none Nfd c none) (not_from_false _ other)) (and_from _ _ none (not_from_false _ other))
+            | inr some ↦ with_mapping (mapped c other some)
+          ]
+    ]

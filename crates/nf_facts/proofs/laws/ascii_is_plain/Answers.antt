@@ -1,0 +1,5 @@
+use Rattle.nf_facts.proofs.Ascii.{IsPlain-ascii}
+use Rattle.nf_facts.proofs.laws.ascii_is_plain.Goals as goal
+
+pub returns : goal.returns
+returns c = IsPlain-ascii

@@ -1,0 +1,5 @@
+pub mod KitForm
+pub mod After
+pub mod Passing
+pub mod Plain
+pub mod PlainRanges

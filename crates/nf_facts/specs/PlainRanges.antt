@@ -1,0 +1,18 @@
+-- Ranges in which every character passes, for each form: whole blocks of UTF-8 lead bytes (The Unicode Standard,
+-- section 3.9), C2 to CB, CF to D1, D3 to D5, DA, DE, E4 to E9 and EB to EE as far as the form allows. U+D800 to U+DFFF
+-- are no characters.
+use Rattle.std.specs.Prelude.{List, [], ◌∷◌}
+use Rattle.ucd_table.specs.Rows.{Range}
+use Rattle.nf_forms.specs.declared.form.Form.{Form}
+use Rattle.nf_forms.specs.declared.form.Form.TheVariants.{Nfc, Nfd, Nfkc, Nfkd}
+
+unfoldable pub plain_ranges : Form → List Range
+plain_ranges Nfc =
+    (0x0000, 0x02FF) ∷ (0x03C0, 0x047F) ∷ (0x04C0, 0x057F) ∷ (0x0680, 0x06BF) ∷ (0x0780, 0x07BF) ∷ (0x3400, 0xA66E) ∷ (0xB000, 0xEFFF) ∷ []
+plain_ranges Nfkc =
+    (0x0000, 0x009F) ∷ (0x00C0, 0x00FF) ∷ (0x0180, 0x01BF) ∷ (0x0200, 0x027F) ∷ (0x0400, 0x047F) ∷ (0x04C0, 0x053F) ∷ (0x0680, 0x06BF)
+    ∷ (0x0780, 0x07BF) ∷ (0x3400, 0xA66E) ∷ (0xB000, 0xEFFF) ∷ []
+plain_ranges Nfd =
+    (0x0000, 0x00BF) ∷ (0x0240, 0x02FF) ∷ (0x0500, 0x057F) ∷ (0x0680, 0x06BF) ∷ (0x0780, 0x07BF) ∷ (0x3400, 0xA66E) ∷ (0xE000, 0xEFFF) ∷ []
+plain_ranges Nfkd =
+    (0x0000, 0x009F) ∷ (0x0240, 0x027F) ∷ (0x0500, 0x053F) ∷ (0x0680, 0x06BF) ∷ (0x0780, 0x07BF) ∷ (0x3400, 0xA66E) ∷ (0xE000, 0xEFFF) ∷ []
