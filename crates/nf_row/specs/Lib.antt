@@ -1,4 +1,5 @@
 pub mod Changes
 pub mod Patched
+pub mod Kind
 pub mod Ends
 pub mod Shape

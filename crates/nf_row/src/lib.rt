@@ -7,6 +7,8 @@
 
 mod composites;
 mod ends;
+mod kind;
+mod known;
 mod patched;
 mod rows;
 mod runs;
@@ -18,6 +20,7 @@ mod unsound;
 
 pub use composites::composite;
 pub use ends::Ends;
+pub use kind::Kind;
 pub use nf_forms::{Form, JOINER};
 pub use patched::{Change, Patched};
 pub use rows::{Long, Row, Rows};

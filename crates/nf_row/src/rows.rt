@@ -1,7 +1,11 @@
-ghost use Rattle.std.specs.Prelude.{◌≡◌, ◌<◌, ◌↔◌, length, IsErr, IfOk};
+ghost use Rattle.std.specs.Prelude.{◌≡◌, ◌<◌, ◌↔◌, ℕ, length, IsErr, IfOk, IsTrue};
 ghost use Rattle.nf_forms.specs.Properties.{Properties};
+ghost use Rattle.nf_forms.specs.Sound.{is_sound};
+ghost use Rattle.nf_row.specs.Kind.{IsKind};
 
+use crate::kind::Kind;
 use arrayvec::ArrayVec;
+use nf_forms::Form;
 
 /// The full decomposition of one character: at most 18 code points, which is the most that one of Unicode's has.
 pub type Row = ArrayVec<char, 18>;
@@ -36,6 +40,22 @@ pub trait Rows {
     /// Whether `c` is assigned: its general category is not Cn. Noncharacters are Cn, private use characters are not.
     fn assigned(&self, c: char) -> bool
         ensures { result ≡ (properties self.now).assigned c };
+
+    /// What is known of `c`, in that form, without its rows. Data of which nothing is known leaves it out.
+    #[inline]
+    fn kind(&self, _form: Form, _c: char) -> Kind
+        ensures { IsKind (properties self.now) _form _c result }
+    {
+        Kind::Other
+    }
+
+    /// Whether every character is known to be sound, so that no rows are read to see it.
+    #[inline]
+    fn all_sound(&self) -> bool
+        ensures { IsTrue result → (c : ℕ) → IsTrue (is_sound (properties self.now) c) }
+    {
+        false
+    }
 }
 
 /// The members as a row. Refused exactly where there are more than 18.

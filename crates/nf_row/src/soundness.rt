@@ -1,4 +1,4 @@
-ghost use Rattle.std.specs.Prelude.{◌≡◌, ◌==◌, ◌&&◌, is_some, IfSome};
+ghost use Rattle.std.specs.Prelude.{◌≡◌, ◌==◌, ◌&&◌, is_some, IfSome, IsTrue};
 ghost use Rattle.nf_forms.specs.StreamSafe.{joiner};
 ghost use Rattle.nf_forms.specs.Forms.{row_of};
 ghost use Rattle.nf_row.specs.Ends.{HasEnds};
@@ -32,7 +32,7 @@ struct Shape {
 pub fn sound<R: Rows>(rows: &R, c: char) -> bool
     ensures { result ≡ is_sound (R.properties rows.now) c }
 {
-    sound_row(rows, Form::Nfkd, c).is_some()
+    rows.all_sound() || read_row(rows, Form::Nfkd, c).is_some()
 }
 
 /// The compatibility row of a sound character, and none of any other.
@@ -44,9 +44,43 @@ pub fn sound_compat<R: Rows>(rows: &R, c: char) -> Option<Row>
 }
 
 /// The row of a sound character that the form asks for, with the ends of its compatibility row, and none of any other
-/// character. Each row is read once, and that row last: so a caller that goes on with it does not look it up again, and
-/// one row is held at a time.
+/// character. Each row is read at most once, and that row last: so a caller that goes on with it does not look it up
+/// again, and one row is held at a time. Where all are known to be sound the other row is read for its ends alone.
 pub fn sound_row<R: Rows>(rows: &R, form: Form, c: char) -> Option<SoundRow>
+    ensures sound { is_some result ≡ is_sound (R.properties rows.now) c }
+    ensures row { IfSome result (λ read. read.row.items ≡ row_of form (R.properties rows.now) c) }
+    ensures compat { IfSome result (λ read. HasEnds (R.properties rows.now) ((R.properties rows.now).compat c) read.compat) }
+{
+    if rows.all_sound() {
+        known_row(rows, form, c)
+    } else {
+        read_row(rows, form, c)
+    }
+}
+
+/// The same of a character that is known to be sound.
+fn known_row<R: Rows>(rows: &R, form: Form, c: char) -> Option<SoundRow>
+    requires sound { IsTrue (is_sound (R.properties rows.now) c) }
+    ensures some { IsTrue (is_some result) }
+    ensures row { IfSome result (λ read. read.row.items ≡ row_of form (R.properties rows.now) c) }
+    ensures compat { IfSome result (λ read. HasEnds (R.properties rows.now) ((R.properties rows.now).compat c) read.compat) }
+{
+    let (row, compat) = match form {
+        Form::Nfc | Form::Nfd => {
+            let ends = Ends::of_row(rows, &rows.compat(c).ok()?);
+            (rows.canonical(c).ok()?, ends)
+        }
+        Form::Nfkc | Form::Nfkd => {
+            let asked = rows.compat(c).ok()?;
+            let ends = Ends::of_row(rows, &asked);
+            (asked, ends)
+        }
+    };
+    Some(SoundRow { row, compat })
+}
+
+/// The same of any character, whose two rows are compared.
+fn read_row<R: Rows>(rows: &R, form: Form, c: char) -> Option<SoundRow>
     ensures sound { is_some result ≡ is_sound (R.properties rows.now) c }
     ensures row { IfSome result (λ read. read.row.items ≡ row_of form (R.properties rows.now) c) }
     ensures compat { IfSome result (λ read. HasEnds (R.properties rows.now) ((R.properties rows.now).compat c) read.compat) }

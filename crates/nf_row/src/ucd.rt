@@ -2,7 +2,10 @@ ghost use Rattle.std.specs.Prelude.{◌≡◌, ◌≤◌, length, IfOk, IsOk};
 ghost use Rattle.unicode_normalization.specs.Decompose.{decompose};
 ghost use Rattle.nf_forms.specs.Ucd.{ucd};
 
+use crate::kind::Kind;
+use crate::known::kind_of;
 use crate::rows::{Long, Row, Rows, row_from};
+use nf_facts::laws;
 use unicode::properties::GeneralCategory;
 use unicode_normalization::{Form, char as lookup};
 
@@ -38,6 +41,17 @@ impl Rows for Ucd {
     #[inline]
     fn assigned(&self, c: char) -> bool {
         GeneralCategory::for_char(c) != GeneralCategory::Unassigned
+    }
+
+    #[inline]
+    fn kind(&self, form: nf_forms::Form, c: char) -> Kind {
+        kind_of(form, c)
+    }
+
+    #[inline]
+    fn all_sound(&self) -> bool {
+        laws::every_character_is_sound();
+        true
     }
 }
 

@@ -1,4 +1,4 @@
-use crate::{Rows, Ucd};
+use crate::{Change, Form, Kind, Patched, Rows, Ucd};
 use std::test::Fail;
 
 /// Classes by UnicodeData.txt.
@@ -72,4 +72,58 @@ fn noncharacters_and_private_use(rt: HostRuntime) {
         }
     }
     assert_eq!(rt; (noncharacters, private), (66, 137_468));
+}
+
+/// By UnicodeData.txt and the quick checks of DerivedNormalizationProps.txt, in NFC, NFD, NFKC and NFKD.
+#[test]
+fn kinds(rt: HostRuntime) {
+    use Kind::{Other, Parts};
+    let mark = |class, may_compose| Kind::Mark { class, may_compose };
+    for (c, kinds) in [
+        ('\n', [Parts, Parts, Parts, Parts]),
+        ('\u{34F}', [Parts, Parts, Parts, Parts]),
+        ('\u{E9}', [Parts, Other, Parts, Other]),
+        ('\u{AC00}', [Parts, Other, Parts, Other]),
+        ('\u{FB01}', [Parts, Parts, Other, Other]),
+        ('\u{2126}', [Other, Other, Other, Other]),
+        // A starter that may compose with what is before it; one whose canonical row is marks; a halfwidth mark.
+        ('\u{1161}', [Other, Parts, Other, Parts]),
+        ('\u{F73}', [Other, Other, Other, Other]),
+        ('\u{FF9E}', [Other, Other, Other, Other]),
+        (
+            '\u{301}',
+            [
+                mark(230, true),
+                mark(230, false),
+                mark(230, true),
+                mark(230, false),
+            ],
+        ),
+        (
+            '\u{316}',
+            [
+                mark(220, false),
+                mark(220, false),
+                mark(220, false),
+                mark(220, false),
+            ],
+        ),
+        ('\u{344}', [Other, Other, Other, Other]),
+    ] {
+        for (form, kind) in [Form::Nfc, Form::Nfd, Form::Nfkc, Form::Nfkd]
+            .into_iter()
+            .zip(kinds)
+        {
+            assert_eq!(rt; Ucd.kind(form, c), kind, "{c:?} {form:?}");
+        }
+    }
+}
+
+/// Of data under changes nothing is known, and soundness is looked for in the rows.
+#[test]
+fn nothing_is_known_of_changed_data(rt: HostRuntime) {
+    let changes = [Change::Class('a', 1)];
+    let rows = Patched::new(&changes);
+    assert_eq!(rt; rows.kind(Form::Nfc, 'b'), Kind::Other);
+    assert!(rt; !rows.all_sound() && Ucd.all_sound());
 }

@@ -6,8 +6,8 @@ use Rattle.arrayvec.specs.declared.array_vec.ArrayVec.{ArrayVec}
 use Rattle.nf_row.specs.declared.soundness.Shape.{Shape}
 use Rattle.nf_forms.specs.Properties.{Properties}
 use Rattle.nf_row.specs.Shape.{IsShapeOf}
-use Rattle.nf_row.proofs.soundness.sound_row.Goals as goal
-use Rattle.nf_row.proofs.soundness.sound_row.Goals.{in-Nfc+in_ok-ok-in-Nfc+in_ok-row-in-Nfc, in-Nfkc+in_ok-ok-in-Nfkc+in_ok-row-in-Nfkc}
+use Rattle.nf_row.proofs.soundness.read_row.Goals as goal
+use Rattle.nf_row.proofs.soundness.read_row.Goals.{in-Nfc+in_ok-ok-in-Nfc+in_ok-row-in-Nfc, in-Nfkc+in_ok-ok-in-Nfkc+in_ok-row-in-Nfkc}
 
 -- a row that was read, and its shape
 has_shape : {E : Type 0} (p : Properties) (w : List ℕ) (read : Result (ArrayVec ℕ 18 (Unit {0})) E) (row : ArrayVec ℕ 18 (Unit {0})) (found shape : Shape)
