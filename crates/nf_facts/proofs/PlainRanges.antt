@@ -14,7 +14,7 @@ use Rattle.nf_forms.specs.declared.form.Form.{Form}
 use Rattle.nf_forms.specs.declared.form.Form.TheVariants.{Nfc, Nfd, Nfkc, Nfkd}
 use Rattle.nf_facts.specs.PlainRanges.{plain_ranges}
 use Rattle.nf_facts.specs.KitForm.{kit_form}
-use Rattle.nf_facts.specs.Passing.{is_among, halfwidth_marks, is_yes, passes}
+use Rattle.nf_facts.specs.Passing.{is_among, halfwidth_marks, is_yes, passes_check}
 use Rattle.nf_facts.proofs.Ranges.{none_fails, none_fails-true}
 
 -- the test as steps: the class and the answer zipped, and the two halfwidth marks taken out as a range
@@ -46,7 +46,7 @@ outside c h = or_from _ _ (other 0xFF9E refl) (or_from _ _ (other 0xFF9F refl) r
     other x inside = ne_eqb c x (λ e. let clash = sym inside ∙ ap (in_ranges halfwidth) (sym e) ∙ h in cc)
 
 -- each part of the test gives the other form of it
-pub plain-passes : (f : Form) (c : ℕ) → in_ranges (plain_ranges f) c ≡ true → passes f c ≡ true
+pub plain-passes : (f : Form) (c : ℕ) → in_ranges (plain_ranges f) c ≡ true → passes_check f c ≡ true
 plain-passes f c inside =
     let passed : passes_by_range f c ≡ true = ap (λ b. not b || passes_by_range f c) (sym inside) ∙ all_plain f c in
     let parts = and_parts _ _ passed in

@@ -21,7 +21,7 @@ use Rattle.nf_forms.specs.Ucd.{ucd}
 use Rattle.nf_forms.specs.Parting.{NeverSecond, BeginsAnew, CountsAnew, IsParting}
 use Rattle.nf_forms.specs.Laws.Runs.{lead-marks}
 use Rattle.nf_facts.specs.KitForm.{kit_form}
-use Rattle.nf_facts.specs.Passing.{is_among, vowel_signs, halfwidth_marks, passes}
+use Rattle.nf_facts.specs.Passing.{is_among, vowel_signs, halfwidth_marks, passes_check}
 use Rattle.nf_facts.proofs.Mapped.{by_kind}
 use Rattle.nf_facts.proofs.Refused.{no_vowel_sign}
 use Rattle.nf_facts.proofs.SameForms.{composite-ucd, normal_form-ucd, starter_at}
@@ -81,7 +81,7 @@ counts_anew c begins =
 alone : (f : Form) (c : ℕ) → quick_check (kit_form f) c ≡ Yes → normal_form f ucd (c ∷ []) ≡ c ∷ []
 alone f c is = normal_form-ucd f (c ∷ []) ∙ normalize-passes (kit_form f) (c ∷ []) (and_from _ _ (ap is_yes is) refl) (is_ordered-one c)
 
-pub parting-ucd : (f : Form) (c : ℕ) → passes f c ≡ true → IsParting ucd f c
+pub parting-ucd : (f : Form) (c : ℕ) → passes_check f c ≡ true → IsParting ucd f c
 parting-ucd f c h =
     let parts = and_parts _ _ h in
     let first = and_parts _ _ parts.0 in

@@ -28,5 +28,5 @@ is_yes Yes = true
 is_yes _ = false
 
 -- a starter that passes the quick check of the form, and is no halfwidth mark
-abbrev pub passes : Form → ℕ → Bool
-passes f c = (canonical_combining_class c == 0 && is_yes (quick_check (kit_form f) c)) && not (is_among halfwidth_marks c)
+abbrev pub passes_check : Form → ℕ → Bool
+passes_check f c = (canonical_combining_class c == 0 && is_yes (quick_check (kit_form f) c)) && not (is_among halfwidth_marks c)

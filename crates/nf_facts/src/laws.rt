@@ -21,7 +21,7 @@ ghost use Rattle.nf_forms.specs.Calm.{IsMark};
 ghost use Rattle.nf_forms.specs.Laws.Sound.{IsSoundText};
 ghost use Rattle.nf_facts.specs.KitForm.{kit_form};
 ghost use Rattle.nf_facts.specs.After.{after};
-ghost use Rattle.nf_facts.specs.Passing.{is_among, halfwidth_marks, vowel_signs, mapped_marks, passes};
+ghost use Rattle.nf_facts.specs.Passing.{is_among, halfwidth_marks, vowel_signs, mapped_marks, passes_check};
 ghost use Rattle.nf_facts.specs.Plain.{IsPlain};
 ghost use Rattle.nf_facts.specs.PlainRanges.{plain_ranges};
 
@@ -57,7 +57,7 @@ pub fn exceptions_are_few()
 /// passes composes with nothing before it.
 #[inline]
 pub fn the_quick_check_tells()
-    ensures parting { (f : Form) (c : ℕ) → IsTrue (passes f c) → IsParting ucd f c }
+    ensures parting { (f : Form) (c : ℕ) → IsTrue (passes_check f c) → IsParting ucd f c }
     ensures mark { (f : Form) (c : ℕ) → 0 < canonical_combining_class c → quick_check (kit_form f) c ≢ No → IsMark ucd c (canonical_combining_class c) }
     ensures never_second { (f : Form) (c : ℕ) → quick_check (kit_form f) c ≡ Yes → NeverSecond ucd f c }
 {}
@@ -65,7 +65,7 @@ pub fn the_quick_check_tells()
 /// In these ranges every character passes: whole blocks of UTF-8 lead bytes, a list for each form.
 #[inline]
 pub fn plain_ranges_pass()
-    ensures { (f : Form) (c : ℕ) → IsTrue (in_ranges (plain_ranges f) c) → IsTrue (passes f c) }
+    ensures { (f : Form) (c : ℕ) → IsTrue (in_ranges (plain_ranges f) c) → IsTrue (passes_check f c) }
 {}
 
 /// An ASCII character is a starter, its own decomposition, assigned, and second in no pair of the table of composites.
