@@ -28,14 +28,14 @@ use Rattle.nf_facts.proofs.SameSafe.{stream_safe-ucd}
 
 -- ---- NFKD sees no difference between a text and its NFD
 
-abbrev K : ℕ → List ℕ
-K = decompose KitNfkd
+abbrev compat_of : ℕ → List ℕ
+compat_of = decompose KitNfkd
 
 behind : (xs ys zs : List ℕ) → canonical_order ys ≡ canonical_order zs → canonical_order (xs ++ ys) ≡ canonical_order (xs ++ zs)
 behind xs ys zs e = canonical_order-append xs ys ∙ ap (sink_all xs) e ∙ sym (canonical_order-append xs zs)
 
-compat-sink : (c : ℕ) (ds : List ℕ) → is_fixed c ≡ true → list_all is_fixed ds ≡ true → canonical_order (flat_map K (sink c ds)) ≡ canonical_order (K c ++ flat_map K ds)
-compat-sink c [] first rest = ap (λ w. canonical_order (flat_map K w)) (sink-nil c)
+compat-sink : (c : ℕ) (ds : List ℕ) → is_fixed c ≡ true → list_all is_fixed ds ≡ true → canonical_order (flat_map compat_of (sink c ds)) ≡ canonical_order (compat_of c ++ flat_map compat_of ds)
+compat-sink c [] first rest = ap (λ w. canonical_order (flat_map compat_of w)) (sink-nil c)
 compat-sink c (d ∷ ds) first rest =
     elim (cases_Bool (is_reorderable c d)) [
       | inl past ↦
@@ -45,45 +45,45 @@ compat-sink c (d ∷ ds) first rest =
           let high = classes.1 in
           let of_c = compat-fixed c first (mark_at c (omega arith)) in
           let of_d = compat-fixed d parts.0 (mark_at d low) in
-          ap (λ w. canonical_order (flat_map K w)) (sink-past c d ds past)
-          ∙ ap (λ w. canonical_order (w ++ flat_map K (sink c ds))) of_d
-          ∙ behind (d ∷ []) (flat_map K (sink c ds)) (K c ++ flat_map K ds) (compat-sink c ds first parts.1)
-          ∙ ap (λ w. canonical_order (d ∷ (w ++ flat_map K ds))) of_c
-          ∙ sym (canonical_order-exchange [] c d (flat_map K ds) past)
-          ∙ ap₂ (λ u v. canonical_order (u ++ (v ++ flat_map K ds))) (sym of_c) (sym of_d)
-      | inr stays ↦ ap (λ w. canonical_order (flat_map K w)) (sink-stays c d ds stays)
+          ap (λ w. canonical_order (flat_map compat_of w)) (sink-past c d ds past)
+          ∙ ap (λ w. canonical_order (w ++ flat_map compat_of (sink c ds))) of_d
+          ∙ behind (d ∷ []) (flat_map compat_of (sink c ds)) (compat_of c ++ flat_map compat_of ds) (compat-sink c ds first parts.1)
+          ∙ ap (λ w. canonical_order (d ∷ (w ++ flat_map compat_of ds))) of_c
+          ∙ sym (canonical_order-exchange [] c d (flat_map compat_of ds) past)
+          ∙ ap₂ (λ u v. canonical_order (u ++ (v ++ flat_map compat_of ds))) (sym of_c) (sym of_d)
+      | inr stays ↦ ap (λ w. canonical_order (flat_map compat_of w)) (sink-stays c d ds stays)
     ]
 
-compat-order : (w : List ℕ) → list_all is_fixed w ≡ true → canonical_order (flat_map K (canonical_order w)) ≡ canonical_order (flat_map K w)
-compat-order [] all = ap (λ w. canonical_order (flat_map K w)) canonical_order-nil
+compat-order : (w : List ℕ) → list_all is_fixed w ≡ true → canonical_order (flat_map compat_of (canonical_order w)) ≡ canonical_order (flat_map compat_of w)
+compat-order [] all = ap (λ w. canonical_order (flat_map compat_of w)) canonical_order-nil
 compat-order (c ∷ w) all =
     let parts = and_parts (is_fixed c) (list_all is_fixed w) all in
-    ap (λ v. canonical_order (flat_map K v)) (canonical_order-cons c w)
+    ap (λ v. canonical_order (flat_map compat_of v)) (canonical_order-cons c w)
     ∙ compat-sink c (canonical_order w) parts.0 (list_all-canonical_order is_fixed w parts.1)
-    ∙ behind (K c) (flat_map K (canonical_order w)) (flat_map K w) (compat-order w parts.1)
+    ∙ behind (compat_of c) (flat_map compat_of (canonical_order w)) (flat_map compat_of w) (compat-order w parts.1)
 
 fixed-rows : (x : List ℕ) → list_all is_fixed (flat_map (decompose KitNfd) x) ≡ true
 unfolding ucd
 fixed-rows [] = refl
 fixed-rows (c ∷ x) = list_all-append is_fixed _ _ (canonical-fixed c) (fixed-rows x)
 
-compat-rows : (x : List ℕ) → flat_map K (flat_map (decompose KitNfd) x) ≡ flat_map K x
+compat-rows : (x : List ℕ) → flat_map compat_of (flat_map (decompose KitNfd) x) ≡ flat_map compat_of x
 unfolding ucd
 compat-rows [] = refl
 compat-rows (c ∷ x) =
-    flat_map-append K (decompose KitNfd c) (flat_map (decompose KitNfd) x) ∙ ap₂ (λ u v. u ++ v) (compat-joined c) (compat-rows x)
+    flat_map-append compat_of (decompose KitNfd c) (flat_map (decompose KitNfd) x) ∙ ap₂ (λ u v. u ++ v) (compat-joined c) (compat-rows x)
 
-pub nfkd-nfd : (x : List ℕ) → nfkd (nfd x) ≡ nfkd x
+nfkd-nfd : (x : List ℕ) → nfkd (nfd x) ≡ nfkd x
 unfolding normalize kit_decomposed
 nfkd-nfd x = compat-order (flat_map (decompose KitNfd) x) (fixed-rows x) ∙ ap canonical_order (compat-rows x)
 
-pub nfkd-nfc : (x : List ℕ) → nfkd (nfc x) ≡ nfkd x
+nfkd-nfc : (x : List ℕ) → nfkd (nfc x) ≡ nfkd x
 nfkd-nfc x = sym (nfkd-nfd (nfc x)) ∙ ap nfkd (nfd-nfc x) ∙ nfkd-nfd x
 
-pub nfkc-nfd : (x : List ℕ) → nfkc (nfd x) ≡ nfkc x
+nfkc-nfd : (x : List ℕ) → nfkc (nfd x) ≡ nfkc x
 nfkc-nfd x = nfkc-by_nfkd (nfd x) ∙ ap kit_compose (nfkd-nfd x) ∙ sym (nfkc-by_nfkd x)
 
-pub nfkc-nfc : (x : List ℕ) → nfkc (nfc x) ≡ nfkc x
+nfkc-nfc : (x : List ℕ) → nfkc (nfc x) ≡ nfkc x
 nfkc-nfc x = nfkc-by_nfkd (nfc x) ∙ ap kit_compose (nfkd-nfc x) ∙ sym (nfkc-by_nfkd x)
 
 -- ---- two forms

@@ -65,7 +65,7 @@ with_class-canonical_order k (c ∷ w) =
     ap (with_class ucd k) (canonical_order-cons c w) ∙ with_class-sink k c (canonical_order w)
     ∙ ap (λ v. cond (keeps k c) (c ∷ v) v) (with_class-canonical_order k w)
 
-pub order-ucd : (w : List ℕ) → order ucd w ≡ canonical_order w
+order-ucd : (w : List ℕ) → order ucd w ≡ canonical_order w
 order-ucd w =
     order-only ucd (order ucd w) (canonical_order w) ((ordering ucd w).ordered) (is_ordered-same (canonical_order w) ∙ is_ordered-canonical_order w)
     (λ k. (ordering ucd w).stable k ∙ sym (with_class-canonical_order k w))
@@ -100,11 +100,11 @@ pub mark_at : (x : ℕ) → 0 < ccc x → is_starter ucd x ≡ false
 unfolding ucd
 mark_at x h = not_starter_from x h
 
-pub starter_of : (x : ℕ) → is_starter ucd x ≡ true → ccc x ≤ 0
+starter_of : (x : ℕ) → is_starter ucd x ≡ true → ccc x ≤ 0
 unfolding ucd
 starter_of x h = is_starter-true x h
 
-pub mark_of : (x : ℕ) → is_starter ucd x ≡ false → 0 < ccc x
+mark_of : (x : ℕ) → is_starter ucd x ≡ false → 0 < ccc x
 unfolding ucd
 mark_of x h = is_starter-false x h
 
@@ -134,7 +134,7 @@ before z (c ∷ cs) none =
           ∙ ap (λ v. z ++ v) (sym (compose-mark c cs (mark_of c mark)))
     ]
 
-pub compose-ucd : (w : List ℕ) → compose ucd w ≡ kit_compose w
+compose-ucd : (w : List ℕ) → compose ucd w ≡ kit_compose w
 compose-ucd w = before [] w refl
 
 -- ---- the forms

@@ -25,7 +25,7 @@ lead-some p (c ∷ w) h = next (is_starter p c) (has_starter p w) (lead p w) (le
     next false false n l h e = cc
 
 -- the non-starters in a row after c, in this library's words
-pub count_after-ucd : (count c : ℕ) → count_after count c ≡ (if has_starter ucd (ucd.compat c) then trail ucd (ucd.compat c) else length (ucd.compat c) + count)
+count_after-ucd : (count c : ℕ) → count_after count c ≡ (if has_starter ucd (ucd.compat c) then trail ucd (ucd.compat c) else length (ucd.compat c) + count)
 unfolding ucd leading_nonstarters trailing_nonstarters
 count_after-ucd count c =
     elim (cases_Bool (has_starter ucd (ucd.compat c))) [
@@ -47,7 +47,7 @@ too_long-ucd : (out : List ℕ) (c : ℕ) → is_too_long ucd out c ≡ is_too_m
 unfolding ucd leading_nonstarters
 too_long-ucd out c = refl
 
-pub safe-after : (out x : List ℕ) → fold (safe_step ucd) out x ≡ out ++ stream_safe_after (last_run ucd out) x
+safe-after : (out x : List ℕ) → fold (safe_step ucd) out x ≡ out ++ stream_safe_after (last_run ucd out) x
 safe-after out [] = sym (ap (λ v. out ++ v) (stream_safe_after-nil (last_run ucd out)) ∙ append-nil out)
 safe-after out (c ∷ x) =
     elim (cases_Bool (is_too_many (last_run ucd out) c)) [

@@ -7,7 +7,7 @@ pub enum Kind {
     Mark {
         /// Its combining class, 1 to 255.
         class: u8,
-        /// Whether it may compose with something before it; false where the form does not compose.
+        /// Whether it may compose with something before it, in a form that composes.
         may_compose: bool,
     },
     /// Any character: nothing is told.
