@@ -1,5 +1,5 @@
 //! Soundness written a second time, part by part, over whole rows.
-use crate::{JOINER, Rows};
+use nf_row::{JOINER, Rows};
 
 /// The parts of soundness that a character breaks.
 #[derive(Clone, Copy, Debug, PartialEq, Eq)]
