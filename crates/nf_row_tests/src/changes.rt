@@ -24,7 +24,7 @@ fn answers<R: Rows>(rows: &R, c: char) -> Answers {
     )
 }
 
-fn check<T: Abort>(rt: &T, changes: &[Change], cases: &[(char, Answers)]) {
+fn check<'a, T: Abort>(rt: &T, changes: &'a [Change<'a>], cases: &[(char, Answers)]) {
     for (c, expected) in cases {
         assert_eq!(rt; answers(&Patched::new(changes), *c), *expected, "{c:?}");
     }
