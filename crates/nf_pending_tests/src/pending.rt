@@ -44,20 +44,27 @@ fn check<T: Abort + Alloc, R: Rows>(rt: &T, rows: &R, cases: &[Case]) -> Result<
         let mut pending = Pending::new(*form);
         let before = pushed(rt, rows, &mut pending, text)?;
         let behind = ended(rt, rows, pending)?;
-        assert_eq!(rt; (before.as_str(), behind.as_str()), (*settled, *rest), "{text:?} in {form:?}");
+        assert_eq!(rt;
+            (before.as_str(), behind.as_str()),
+            (*settled, *rest),
+            "{text:?} in {form:?}"
+        );
     }
     Ok(())
 }
 
 /// One mark of each of thirty classes.
-const RISING: &str = "\u{334}\u{93C}\u{3099}\u{5B0}\u{5B1}\u{5B2}\u{5B3}\u{5B4}\u{5B5}\u{5B6}\u{5B7}\u{5B8}\u{5B9}\u{5BB}\u{5BC}\
+const RISING: &str =
+    "\u{334}\u{93C}\u{3099}\u{5B0}\u{5B1}\u{5B2}\u{5B3}\u{5B4}\u{5B5}\u{5B6}\u{5B7}\u{5B8}\u{5B9}\u{5BB}\u{5BC}\
     \u{5BD}\u{5BF}\u{5C1}\u{5C2}\u{FB1E}\u{64B}\u{64C}\u{64D}\u{64E}\u{64F}\u{650}\u{651}\u{652}\u{670}\u{711}";
 
-const FALLING: &str = "\u{711}\u{670}\u{652}\u{651}\u{650}\u{64F}\u{64E}\u{64D}\u{64C}\u{64B}\u{FB1E}\u{5C2}\u{5C1}\u{5BF}\u{5BD}\
+const FALLING: &str =
+    "\u{711}\u{670}\u{652}\u{651}\u{650}\u{64F}\u{64E}\u{64D}\u{64C}\u{64B}\u{FB1E}\u{5C2}\u{5C1}\u{5BF}\u{5BD}\
     \u{5BC}\u{5BB}\u{5B9}\u{5B8}\u{5B7}\u{5B6}\u{5B5}\u{5B4}\u{5B3}\u{5B2}\u{5B1}\u{5B0}\u{3099}\u{93C}\u{334}";
 
 /// Thirty marks of class 230.
-const ALIKE: &str = "\u{314}\u{313}\u{312}\u{311}\u{310}\u{30F}\u{30E}\u{30D}\u{30C}\u{30B}\u{30A}\u{309}\u{308}\u{307}\u{306}\
+const ALIKE: &str =
+    "\u{314}\u{313}\u{312}\u{311}\u{310}\u{30F}\u{30E}\u{30D}\u{30C}\u{30B}\u{30A}\u{309}\u{308}\u{307}\u{306}\
     \u{305}\u{304}\u{303}\u{302}\u{301}\u{300}\u{363}\u{364}\u{365}\u{366}\u{367}\u{368}\u{369}\u{36A}\u{36B}";
 
 #[test]

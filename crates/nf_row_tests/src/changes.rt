@@ -81,10 +81,17 @@ fn runs_of_a_row(rt: HostRuntime) -> Result<(), Fail> {
         let row = rows.compat('x').ok().ok_or("too long")?;
         let both = Ends::of_row(&rows, &row);
         assert_eq!(rt;
-            (lead(&rows, &row), trail(&rows, &row), has_starter(&rows, &row)),
+            (
+                lead(&rows, &row),
+                trail(&rows, &row),
+                has_starter(&rows, &row)
+            ),
             (begins, ends, starts)
         );
-        assert_eq!(rt; (both.lead, both.trail, both.has_starter), (begins, ends, starts));
+        assert_eq!(rt;
+            (both.lead, both.trail, both.has_starter),
+            (begins, ends, starts)
+        );
     }
     Ok(())
 }

@@ -63,7 +63,10 @@ fn each_part_of_soundness_is_needed(rt: HostRuntime) {
         ];
         let rows = Patched::new(&changes);
         assert_eq!(rt;
-            (broken_parts(&rows, c, canonical, compat), says_sound(&rows, c)),
+            (
+                broken_parts(&rows, c, canonical, compat),
+                says_sound(&rows, c)
+            ),
             (broken, Some(broken == nothing)),
             "{c:?}: {canonical:?}, {compat:?}"
         );
@@ -108,7 +111,12 @@ fn a_sound_character_comes_with_the_row_of_the_form(rt: HostRuntime) -> Result<(
     for (form, c, row, (has_starter, lead, trail)) in cases {
         let read = sound_row(&Ucd, form, c).ok_or("unsound")?;
         assert_eq!(rt;
-            (read.row.as_slice(), read.compat.has_starter, read.compat.lead, read.compat.trail),
+            (
+                read.row.as_slice(),
+                read.compat.has_starter,
+                read.compat.lead,
+                read.compat.trail
+            ),
             (row, has_starter, lead, trail)
         );
         if form == Form::Nfkd {

@@ -32,7 +32,8 @@ fn combining_classes(rt: HostRuntime) {
 fn rows(rt: HostRuntime) -> Result<(), Fail> {
     let longest = [
         '\u{635}', '\u{644}', '\u{649}', ' ', '\u{627}', '\u{644}', '\u{644}', '\u{647}', ' ',
-        '\u{639}', '\u{644}', '\u{64A}', '\u{647}', ' ', '\u{648}', '\u{633}', '\u{644}', '\u{645}',
+        '\u{639}', '\u{644}', '\u{64A}', '\u{647}', ' ', '\u{648}', '\u{633}', '\u{644}',
+        '\u{645}',
     ];
     let row = Ucd.compat('\u{FDFA}').ok().ok_or("too long")?;
     assert_eq!(rt; row.as_slice(), longest.as_slice());
@@ -48,7 +49,12 @@ fn rows(rt: HostRuntime) -> Result<(), Fail> {
         let expected = [l, v, t];
         let members = if t == 0x11A7 { 2 } else { 3 };
         assert_eq!(rt; row.as_slice(), same.as_slice());
-        assert!(rt; row.iter().map(|c| *c as u32).eq(expected.iter().copied().take(members)), "at {index}");
+        assert!(rt;
+            row.iter()
+                .map(|c| *c as u32)
+                .eq(expected.iter().copied().take(members)),
+            "at {index}"
+        );
     }
     Ok(())
 }
@@ -67,7 +73,11 @@ fn pairs(rt: HostRuntime) {
         ('A', 'A', None),
         ('\u{915}', '\u{93C}', None),
     ] {
-        assert_eq!(rt; (Ucd.pair(a, b), composite(&Ucd, a, b)), (expected, expected), "{a:?}, {b:?}");
+        assert_eq!(rt;
+            (Ucd.pair(a, b), composite(&Ucd, a, b)),
+            (expected, expected),
+            "{a:?}, {b:?}"
+        );
     }
 }
 
