@@ -10,6 +10,3 @@ mod mark;
 mod pending;
 
 pub use pending::{Pending, Segment};
-
-#[cfg(test)]
-mod tests;

@@ -13,8 +13,6 @@ mod patched;
 mod rows;
 mod runs;
 mod soundness;
-#[cfg(test)]
-mod tests;
 mod ucd;
 mod unsound;
 

@@ -9,8 +9,6 @@ mod measure;
 mod measurer;
 mod place;
 mod runs;
-#[cfg(test)]
-mod tests;
 
 pub use checker::Checker;
 pub use counter::Counter;

@@ -1,4 +1,4 @@
-use Rattle.std.proofs.Common.{◌≤◌, ◌+◌, length, ap, sym, ◌∙◌, refl}
+use Rattle.std.proofs.Common.{◌≤◌, ◌+◌, length, ap, sym, ◌∙◌, refl, rules}
 use Rattle.nf_forms.specs.Sound.{max_row}
 use Rattle.nf_forms.specs.Laws.Sound.{IsSound-from_test}
 use Rattle.nf_safe.proofs.CheckerLemmas.{stays, leaves, goes_on}
@@ -21,3 +21,7 @@ returns-clause-stands g c =
     λ base x before. goes_on base p c.args.self.now x c.args.c before _ c.if-self.false few
     (sym (c.step_by.ensures.answer p (p.compat c.args.c) c.in-Some.ensures.compat) ∙ c.if-step_by.false) c.if-self.false refl
     (ap (λ n. c.args.self.now.reached.bytes + n) c.len_utf8-len.ensures.len) (c.step_by.ensures.count p (p.compat c.args.c) c.in-Some.ensures.compat)
+
+-- It stands so that a wrong body is refused at once: without it the prover would run once more, to offer an answer.
+pub returns-in_default-clause-refused : goal.returns-in_default-clause-refused
+returns-in_default-clause-refused g c = search rules

@@ -1,0 +1,214 @@
+use nf_pending::Pending;
+use nf_row::Change::Pair;
+use nf_row::{Form, Patched, Rows, Ucd};
+use std::alloc::AllocError;
+use std::process::Abort;
+use std::test::Fail;
+
+/// Decomposed text, what it settles before its end, and what the end gives.
+type Case<'a> = (Form, &'a str, &'a str, &'a str);
+
+/// What pushing the text settles in all.
+fn pushed<T: Abort + Alloc, R: Rows>(
+    rt: &T,
+    rows: &R,
+    pending: &mut Pending,
+    text: &str,
+) -> Result<String<T::A>, AllocError> {
+    let mut settled = String::new(rt.alloc());
+    for c in text.chars() {
+        let class = rows.class(c);
+        assert!(rt; class == 0 || pending.run_len() < 30);
+        for d in pending.push(rows, c).iter() {
+            settled.push(*d)?;
+        }
+    }
+    Ok(settled)
+}
+
+/// What the end gives.
+fn ended<T: Abort + Alloc, R: Rows>(
+    rt: &T,
+    rows: &R,
+    pending: Pending,
+) -> Result<String<T::A>, AllocError> {
+    let mut rest = String::new(rt.alloc());
+    for d in pending.end(rows).iter() {
+        rest.push(*d)?;
+    }
+    Ok(rest)
+}
+
+fn check<T: Abort + Alloc, R: Rows>(rt: &T, rows: &R, cases: &[Case]) -> Result<(), AllocError> {
+    for (form, text, settled, rest) in cases {
+        let mut pending = Pending::new(*form);
+        let before = pushed(rt, rows, &mut pending, text)?;
+        let behind = ended(rt, rows, pending)?;
+        assert_eq!(rt;
+            (before.as_str(), behind.as_str()),
+            (*settled, *rest),
+            "{text:?} in {form:?}"
+        );
+    }
+    Ok(())
+}
+
+/// One mark of each of thirty classes.
+const RISING: &str =
+    "\u{334}\u{93C}\u{3099}\u{5B0}\u{5B1}\u{5B2}\u{5B3}\u{5B4}\u{5B5}\u{5B6}\u{5B7}\u{5B8}\u{5B9}\u{5BB}\u{5BC}\
+    \u{5BD}\u{5BF}\u{5C1}\u{5C2}\u{FB1E}\u{64B}\u{64C}\u{64D}\u{64E}\u{64F}\u{650}\u{651}\u{652}\u{670}\u{711}";
+
+const FALLING: &str =
+    "\u{711}\u{670}\u{652}\u{651}\u{650}\u{64F}\u{64E}\u{64D}\u{64C}\u{64B}\u{FB1E}\u{5C2}\u{5C1}\u{5BF}\u{5BD}\
+    \u{5BC}\u{5BB}\u{5B9}\u{5B8}\u{5B7}\u{5B6}\u{5B5}\u{5B4}\u{5B3}\u{5B2}\u{5B1}\u{5B0}\u{3099}\u{93C}\u{334}";
+
+/// Thirty marks of class 230.
+const ALIKE: &str =
+    "\u{314}\u{313}\u{312}\u{311}\u{310}\u{30F}\u{30E}\u{30D}\u{30C}\u{30B}\u{30A}\u{309}\u{308}\u{307}\u{306}\
+    \u{305}\u{304}\u{303}\u{302}\u{301}\u{300}\u{363}\u{364}\u{365}\u{366}\u{367}\u{368}\u{369}\u{36A}\u{36B}";
+
+#[test]
+fn a_starter_settles_what_stands_before_it_in_order(rt: HostRuntime) -> Result<(), Fail> {
+    check(
+        &rt,
+        &Ucd,
+        &[
+            (Form::Nfc, "", "", ""),
+            // Marks alone wait for the end.
+            (Form::Nfd, "\u{301}\u{323}", "", "\u{323}\u{301}"),
+            (Form::Nfc, "\u{301}\u{323}", "", "\u{323}\u{301}"),
+            (Form::Nfd, RISING, "", RISING),
+            (Form::Nfd, FALLING, "", RISING),
+            (Form::Nfd, ALIKE, "", ALIKE),
+            (
+                Form::Nfd,
+                "a\u{302}\u{301}\u{323}",
+                "",
+                "a\u{323}\u{302}\u{301}",
+            ),
+            (
+                Form::Nfd,
+                "a\u{302}\u{301}\u{323}b",
+                "a\u{323}\u{302}\u{301}",
+                "b",
+            ),
+            (
+                Form::Nfkd,
+                "\u{635}\u{644}\u{649} \u{627}\u{644}\u{644}\u{647} \u{639}\u{644}\u{64A}\u{647} \u{648}\u{633}\u{644}\u{645}",
+                "\u{635}\u{644}\u{649} \u{627}\u{644}\u{644}\u{647} \u{639}\u{644}\u{64A}\u{647} \u{648}\u{633}\u{644}",
+                "\u{645}",
+            ),
+        ],
+    )?;
+    Ok(())
+}
+
+#[test]
+fn texts_compose(rt: HostRuntime) -> Result<(), Fail> {
+    check(
+        &rt,
+        &Ucd,
+        &[
+            // Marks are put in order first.
+            (Form::Nfc, "a\u{302}\u{323}", "", "\u{1EAD}"),
+            (Form::Nfc, "\u{17F}\u{307}\u{323}", "", "\u{1E9B}\u{323}"),
+            (
+                Form::Nfd,
+                "\u{17F}\u{307}\u{323}",
+                "",
+                "\u{17F}\u{323}\u{307}",
+            ),
+            (Form::Nfkc, "s\u{307}\u{323}", "", "\u{1E69}"),
+            (Form::Nfkd, "s\u{307}\u{323}", "", "s\u{323}\u{307}"),
+            // Hangul
+            (Form::Nfc, "\u{1112}\u{1161}\u{11AB}", "", "\u{D55C}"),
+            (
+                Form::Nfc,
+                "\u{1100}\u{1161}\u{11A7}",
+                "\u{AC00}",
+                "\u{11A7}",
+            ),
+            (
+                Form::Nfc,
+                "\u{1100}\u{300}\u{1161}",
+                "\u{1100}\u{300}",
+                "\u{1161}",
+            ),
+            // Tulu-Tigalari
+            (
+                Form::Nfc,
+                "\u{11382}\u{113C9}\u{113C2}\u{113C2}",
+                "\u{11383}",
+                "\u{113C5}",
+            ),
+            // Gurung Khema
+            (Form::Nfc, "\u{1611E}\u{1611E}\u{1611F}", "", "\u{16126}"),
+            (Form::Nfc, "\u{1611E}\u{16129}\u{1611F}", "", "\u{16127}"),
+            // Kirat Rai
+            (Form::Nfc, "\u{16D63}\u{16D67}\u{16D67}", "", "\u{16D6A}"),
+            (
+                Form::Nfc,
+                "\u{16D67}\u{16D67}\u{16D67}",
+                "\u{16D68}",
+                "\u{16D67}",
+            ),
+        ],
+    )?;
+    Ok(())
+}
+
+#[test]
+fn made_up_pairs_compose(rt: HostRuntime) -> Result<(), Fail> {
+    let changes = [
+        Pair('a', 'b', Some('c')),
+        Pair('c', 'd', Some('e')),
+        Pair('\u{1EA1}', 'b', Some('f')),
+        Pair('q', 'r', Some('s')),
+        Pair('p', '\u{301}', Some('\u{323}')),
+    ];
+    check(
+        &rt,
+        &Patched::new(&changes),
+        &[
+            // Starters compose in chains, and with what a starter and its marks made.
+            (Form::Nfc, "abd", "", "e"),
+            (Form::Nfc, "a\u{323}b", "", "f"),
+            (Form::Nfc, "a\u{301}b", "\u{E1}", "b"),
+            // A mark that is left keeps a starter apart.
+            (Form::Nfc, "q\u{301}r", "q\u{301}", "r"),
+            // A pair that makes a mark does not compose.
+            (Form::Nfc, "p\u{301}", "", "p\u{301}"),
+        ],
+    )?;
+    Ok(())
+}
+
+#[test]
+fn what_is_held_is_counted(rt: HostRuntime) -> Result<(), Fail> {
+    let changes = [Pair('\u{1EA1}', 'b', Some('f'))];
+    let rows = Patched::new(&changes);
+    let mut pending = Pending::new(Form::Nfc);
+    let thirty = "\u{301}\u{301}\u{301}\u{301}\u{301}\u{301}\u{301}\u{301}\u{301}\u{301}\
+        \u{301}\u{301}\u{301}\u{301}\u{301}\u{301}\u{301}\u{301}\u{301}\u{301}\
+        \u{301}\u{301}\u{301}\u{301}\u{301}\u{301}\u{301}\u{301}\u{301}\u{301}";
+    let settled = format!(in rt.alloc(); "q{thirty}")?;
+    // A text, what it settles, and then the non-starters and the code points that are held.
+    let steps = [
+        ("", "", 0, 0),
+        ("q", "", 0, 1),
+        (thirty, "", 30, 31),
+        ("\u{34F}", settled.as_str(), 0, 1),
+        ("a\u{323}", "\u{34F}", 1, 2),
+        ("b", "", 0, 1),
+    ];
+    for (text, settles, run_len, len) in steps {
+        let given = pushed(&rt, &rows, &mut pending, text)?;
+        assert_eq!(rt;
+            (given.as_str(), pending.run_len(), pending.len()),
+            (settles, run_len, len),
+            "{text:?}"
+        );
+    }
+    assert_eq!(rt; ended(&rt, &rows, pending)?.as_str(), "f");
+    Ok(())
+}

@@ -1,0 +1,8 @@
+-- It stands so that a wrong body is refused at once: without it the prover would run once more, to offer an answer.
+use Rattle.std.proofs.Common.{rules}
+use Rattle.nf_forms.specs.Ucd.{ucd}
+use Rattle.nf_row.proofs.ucd.UcdRows.pair.Goals as goal
+
+pub returns : goal.returns
+unfolding ucd
+returns c = search rules

@@ -1,4 +1,0 @@
-mod changes;
-mod parts;
-mod soundness;
-mod tables;

@@ -1,0 +1,155 @@
+use nf_row::{Rows, Ucd, composite};
+use std::test::Fail;
+
+/// Classes by UnicodeData.txt.
+#[test]
+fn combining_classes(rt: HostRuntime) {
+    for (c, class) in [
+        ('\u{300}', 230),
+        ('\u{301}', 230),
+        ('\u{302}', 230),
+        ('\u{307}', 230),
+        ('\u{308}', 230),
+        ('\u{30A}', 230),
+        ('\u{323}', 220),
+        ('\u{3099}', 8),
+        ('\u{93C}', 7),
+        ('\u{34F}', 0),
+        ('\u{FF9E}', 0),
+        ('\u{FDFA}', 0),
+        ('\u{1100}', 0),
+        ('\u{1161}', 0),
+        ('\u{11A7}', 0),
+        ('\u{11AB}', 0),
+    ] {
+        assert_eq!(rt; Ucd.class(c), class, "{c:?}");
+    }
+}
+
+/// The longest row, by UnicodeData.txt, and each of the 11,172 syllables, by the arithmetic of The Unicode Standard,
+/// section 3.12.
+#[test]
+fn rows(rt: HostRuntime) -> Result<(), Fail> {
+    let longest = [
+        '\u{635}', '\u{644}', '\u{649}', ' ', '\u{627}', '\u{644}', '\u{644}', '\u{647}', ' ',
+        '\u{639}', '\u{644}', '\u{64A}', '\u{647}', ' ', '\u{648}', '\u{633}', '\u{644}',
+        '\u{645}',
+    ];
+    let row = Ucd.compat('\u{FDFA}').ok().ok_or("too long")?;
+    assert_eq!(rt; row.as_slice(), longest.as_slice());
+    for index in 0..11_172u32 {
+        let (l, v, t) = (
+            0x1100 + index / 588,
+            0x1161 + index % 588 / 28,
+            0x11A7 + index % 28,
+        );
+        let syllable = char::from_u32(0xAC00 + index).ok_or("a surrogate")?;
+        let row = Ucd.canonical(syllable).ok().ok_or("too long")?;
+        let same = Ucd.compat(syllable).ok().ok_or("too long")?;
+        let expected = [l, v, t];
+        let members = if t == 0x11A7 { 2 } else { 3 };
+        assert_eq!(rt; row.as_slice(), same.as_slice());
+        assert!(rt;
+            row.iter()
+                .map(|c| *c as u32)
+                .eq(expected.iter().copied().take(members)),
+            "at {index}"
+        );
+    }
+    Ok(())
+}
+
+/// The composites of two starters or a starter and a mark, which of Unicode's are the pairs of the table.
+#[test]
+fn pairs(rt: HostRuntime) {
+    for (a, b, expected) in [
+        ('A', '\u{30A}', Some('\u{C5}')),
+        ('\u{1100}', '\u{1161}', Some('\u{AC00}')),
+        ('\u{AC00}', '\u{11A8}', Some('\u{AC01}')),
+        ('\u{AC00}', '\u{11A7}', None),
+        ('\u{AC01}', '\u{11A8}', None),
+        ('q', '\u{301}', None),
+        // A singleton and an exclusion are no composites.
+        ('A', 'A', None),
+        ('\u{915}', '\u{93C}', None),
+    ] {
+        assert_eq!(rt;
+            (Ucd.pair(a, b), composite(&Ucd, a, b)),
+            (expected, expected),
+            "{a:?}, {b:?}"
+        );
+    }
+}
+
+/// The 66 noncharacters are not assigned, the 137,468 private use characters are.
+#[test]
+fn noncharacters_and_private_use(rt: HostRuntime) {
+    let (mut noncharacters, mut private) = (0u32, 0u32);
+    for code in 0..0x11_0000u32 {
+        let Some(c) = char::from_u32(code) else {
+            continue;
+        };
+        if code & 0xFFFE == 0xFFFE || (0xFDD0..=0xFDEF).contains(&code) {
+            noncharacters = noncharacters.saturating_add(1);
+            assert!(rt; !Ucd.assigned(c), "{code:x}");
+        } else if (0xE000..=0xF8FF).contains(&code) || code >= 0xF_0000 {
+            private = private.saturating_add(1);
+            assert!(rt; Ucd.assigned(c), "{code:x}");
+        }
+    }
+    assert_eq!(rt; (noncharacters, private), (66, 137_468));
+}
+
+/// By UnicodeData.txt and the quick checks of DerivedNormalizationProps.txt, in NFC, NFD, NFKC and NFKD.
+#[test]
+fn kinds(rt: HostRuntime) {
+    use Kind::{Other, Parts};
+    let mark = |class, may_compose| Kind::Mark { class, may_compose };
+    for (c, kinds) in [
+        ('\n', [Parts, Parts, Parts, Parts]),
+        ('\u{34F}', [Parts, Parts, Parts, Parts]),
+        ('\u{E9}', [Parts, Other, Parts, Other]),
+        ('\u{AC00}', [Parts, Other, Parts, Other]),
+        ('\u{FB01}', [Parts, Parts, Other, Other]),
+        ('\u{2126}', [Other, Other, Other, Other]),
+        // A starter that may compose with what is before it; one whose canonical row is marks; a halfwidth mark.
+        ('\u{1161}', [Other, Parts, Other, Parts]),
+        ('\u{F73}', [Other, Other, Other, Other]),
+        ('\u{FF9E}', [Other, Other, Other, Other]),
+        (
+            '\u{301}',
+            [
+                mark(230, true),
+                mark(230, false),
+                mark(230, true),
+                mark(230, false),
+            ],
+        ),
+        (
+            '\u{316}',
+            [
+                mark(220, false),
+                mark(220, false),
+                mark(220, false),
+                mark(220, false),
+            ],
+        ),
+        ('\u{344}', [Other, Other, Other, Other]),
+    ] {
+        for (form, kind) in [Form::Nfc, Form::Nfd, Form::Nfkc, Form::Nfkd]
+            .into_iter()
+            .zip(kinds)
+        {
+            assert_eq!(rt; Ucd.kind(form, c), kind, "{c:?} {form:?}");
+        }
+    }
+}
+
+/// Of data under changes nothing is known, and soundness is looked for in the rows.
+#[test]
+fn nothing_is_known_of_changed_data(rt: HostRuntime) {
+    let changes = [Change::Class('a', 1)];
+    let rows = Patched::new(&changes);
+    assert_eq!(rt; rows.kind(Form::Nfc, 'b'), Kind::Other);
+    assert!(rt; !rows.all_sound() && Ucd.all_sound());
+}

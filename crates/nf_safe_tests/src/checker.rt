@@ -1,0 +1,84 @@
+use nf_row::Change::Compat;
+use nf_row::{JOINER, Patched, Rows, Rule, Ucd, Unsound};
+use nf_safe::{Checker, Place};
+use std::process::Abort;
+
+const MARK: char = '\u{301}';
+
+const NINETEEN: [char; 19] = ['a'; 19];
+
+const EIGHTEEN: [char; 18] = ['a'; 18];
+
+/// A character, how many times it comes, the last answer, and the offset behind it.
+type Steps = (char, u32, Result<Option<Place>, Unsound>, u64);
+
+/// Sees the characters of a text that begins at `base`. A place that is answered is kept; a refusal leaves none.
+fn check<T: Abort, R: Rows>(rt: &T, rows: &R, base: u64, steps: &[Steps]) {
+    let mut checker = Checker::new(base);
+    for (c, times, answer, offset) in steps {
+        let mut last = Ok(None);
+        for _ in 0..*times {
+            assert!(rt; checker.offset() <= u64::MAX - c.len_utf8() as u64);
+            last = checker.see(rows, *c);
+        }
+        assert_eq!(rt;
+            (last, checker.place(), checker.offset()),
+            (*answer, answer.unwrap_or(None), *offset),
+            "{c:?}"
+        );
+    }
+}
+
+const fn place(chars: u64, bytes: u64) -> Result<Option<Place>, Unsound> {
+    Ok(Some(Place { chars, bytes }))
+}
+
+#[test]
+fn the_place_of_a_mark_too_many_stays(rt: HostRuntime) {
+    check(
+        &rt,
+        &Ucd,
+        100,
+        &[
+            ('q', 1, Ok(None), 101),
+            (MARK, 30, Ok(None), 161),
+            (MARK, 1, place(31, 161), 161),
+            (MARK, 40, place(31, 161), 161),
+            ('q', 40, place(31, 161), 161),
+            (JOINER, 40, place(31, 161), 161),
+        ],
+    );
+    // The mark of a letter counts.
+    check(
+        &rt,
+        &Ucd,
+        0,
+        &[('\u{C5}', 1, Ok(None), 2), (MARK, 30, place(30, 60), 60)],
+    );
+}
+
+#[test]
+fn an_unsound_character_is_refused_and_skipped(rt: HostRuntime) {
+    let refusal = Err(Unsound {
+        c: 'x',
+        rule: Rule::A1,
+    });
+    let changes = [Compat('x', &NINETEEN), Compat('y', &EIGHTEEN)];
+    let cases: [&[Steps]; 3] = [
+        &[
+            ('a', 1, Ok(None), 1),
+            ('x', 1, refusal, 1),
+            ('a', 1, Ok(None), 2),
+        ],
+        // Behind a place nothing is refused.
+        &[
+            ('q', 1, Ok(None), 1),
+            (MARK, 31, place(31, 61), 61),
+            ('x', 1, place(31, 61), 61),
+        ],
+        &[('y', 1, Ok(None), 1)],
+    ];
+    for steps in cases {
+        check(&rt, &Patched::new(&changes), 0, steps);
+    }
+}
