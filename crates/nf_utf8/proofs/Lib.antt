@@ -5,5 +5,6 @@ mod ReadingLemmas
 mod ReadsLemmas
 mod Sequences
 mod StandingLemmas
+mod TakingLemmas
 mod TextLen
 mod Texts

@@ -9,12 +9,16 @@
 #![tactic(auto)]
 
 mod carry;
+mod chunk;
 mod decoder;
+mod front;
 pub mod laws;
 mod sequence;
 mod step;
 #[cfg(test)]
 mod tests;
+mod valid;
 
+pub use chunk::{Chunk, End};
 pub use decoder::Decoder;
 pub use step::Step;
