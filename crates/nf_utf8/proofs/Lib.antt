@@ -1,6 +1,8 @@
+mod AsciiLemmas
 mod BegunLen
 mod Endings
 mod Fronts
+mod PushesLemmas
 mod ReadingLemmas
 mod ReadsLemmas
 mod Sequences

@@ -254,7 +254,7 @@ module _ (bytes piece : List ℕ) where
   same_front (Some c) None x y p q u v e = absurd (no_first_alone y x c q p (sym e))
   same_front (Some c) (Some d) x y p q u v e = let one : c ≡ d = cc in let more : chars x ≡ chars y = cc in (ap Some one, same_text x y u v more)
 
-  same_end : (a b : End) → EndsPiece bytes piece a → EndsPiece bytes piece b → a ≡ b
+  pub same_end : (a b : End) → EndsPiece bytes piece a → EndsPiece bytes piece b → a ≡ b
   same_end Whole Whole p q = refl
   same_end Whole Cut p q = cc
   same_end Whole (Bad at back) p q = let e = q.0 in cc

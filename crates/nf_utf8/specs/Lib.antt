@@ -9,3 +9,4 @@ pub mod Carry
 pub mod Tells
 pub mod Front
 pub mod Taking
+pub mod Pushes

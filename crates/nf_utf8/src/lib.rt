@@ -8,6 +8,7 @@
 //! [`laws`] says so, and that it does not matter where they were cut into pieces.
 #![tactic(auto)]
 
+mod ascii;
 mod carry;
 mod chunk;
 mod decoder;
@@ -19,6 +20,7 @@ mod step;
 mod tests;
 mod valid;
 
+pub use ascii::ascii_prefix;
 pub use chunk::{Chunk, End};
 pub use decoder::Decoder;
 pub use step::Step;
