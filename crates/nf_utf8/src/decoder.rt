@@ -7,7 +7,7 @@ use crate::step::Step;
 use crate::valid::valid_len;
 use std::marker::Model;
 
-/// Reads UTF-8 byte by byte. Its value is the bytes that it holds: those of a begun character.
+/// Reads UTF-8 byte by byte, or piece by piece. Its value is the bytes that it holds: those of a begun character.
 #[derive(Clone, Copy, Debug)]
 pub struct Decoder {
     carry: Carry,
@@ -74,7 +74,10 @@ impl Decoder {
         self.carry.len()
     }
 
-    /// Takes a piece, or what of it stands before a bad byte: the same as to push its bytes, in one pass.
+    /// Takes a piece, or what of it stands before a bad byte: the same as to push these bytes, in one pass.
+    ///
+    /// After a bad byte the decoder is as a new one. The bytes far behind it were not read, so that to take the rest of
+    /// the piece again after each of many bad bytes costs no more than a few passes, and a constant for each.
     pub fn take<'p>(&mut self, piece: &'p [u8]) -> Chunk<'p>
         ensures takes { (bytes : List ℕ) → StandsAfter self.old bytes → Takes bytes piece.now result.first result.text.now result.end }
         ensures only { (bytes : List ℕ) (first : Option ℕ) (text : List ℕ) (end : End) → StandsAfter self.old bytes → Takes bytes piece.now first text end
