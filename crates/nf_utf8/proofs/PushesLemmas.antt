@@ -11,8 +11,8 @@ use Rattle.nf_utf8.specs.Ending.{Whole as IsWhole, Cut as IsCut, Bad as IsBad}
 use Rattle.nf_utf8.specs.Reading.{text_len, text_of, rest_of, ending_of}
 use Rattle.nf_utf8.specs.Reads.{EndsAs}
 use Rattle.nf_utf8.specs.Standing.{StandsAfter, Answers}
-use Rattle.nf_utf8.specs.Taking.{first_text, EndsPiece, Takes}
-use Rattle.nf_utf8.specs.Pushes.{Pushes, GoesOn, end_holding}
+use Rattle.nf_utf8.specs.Taking.{first_text, EndsPiece, end_holding, Takes}
+use Rattle.nf_utf8.specs.Pushes.{Pushes, GoesOn}
 use Rattle.nf_utf8.proofs.Texts.{BeginsText-IsUtf8}
 use Rattle.nf_utf8.proofs.ReadingLemmas.{text_of-IsText, text_of-bad, ending_of-bad, length-encodes-text_of}
 use Rattle.nf_utf8.proofs.ReadsLemmas.{ending_of-is}

@@ -12,8 +12,8 @@ use Rattle.nf_utf8.specs.Ending.{Ending, Whole as IsWhole, Cut as IsCut, Bad as 
 use Rattle.nf_utf8.specs.Reading.{text_len, text_of, rest_of, ending_of}
 use Rattle.nf_utf8.specs.Standing.{StandsAfter}
 use Rattle.nf_utf8.specs.Part.{IsPart}
-use Rattle.nf_utf8.specs.Front.{IsFront, Completes, CanEnd, EndsBy, end_of_part}
-use Rattle.nf_utf8.specs.Taking.{first_text, first_bytes, IsFirst, EndsPiece, Takes, bytes_behind, Counts}
+use Rattle.nf_utf8.specs.Front.{IsFront, Completes, CanEnd, EndsBy}
+use Rattle.nf_utf8.specs.Taking.{first_text, first_bytes, IsFirst, EndsPiece, Takes, end_holding, bytes_behind, Counts}
 use Rattle.nf_utf8.proofs.Texts.{BeginsText-append}
 use Rattle.nf_utf8.proofs.TextLen.{text_len-behind, text_len-no_char, no_char-text_len}
 use Rattle.nf_utf8.proofs.ReadingLemmas.{text_of-behind, rest_of-behind, ending_of-behind, text_of-bad, ending_of-bad as ending_of-behind_bad, length-encodes-text_of}
@@ -151,13 +151,13 @@ module _ (held piece : List ℕ) (first : Option ℕ) (text part rest : List ℕ
   sizes : length held + length piece ≡ length (first_bytes first) + length text + length (part ++ rest)
   sizes = omega (arith, sym (length-append held piece), ap length joins, length-append (first_bytes first ++ text) (part ++ rest), length-append (first_bytes first) text)
 
-  counts_part : (left : List ℕ) → left ≡ part ++ rest → Counts held piece first text (end_of_part left) left
+  counts_part : (left : List ℕ) → left ≡ part ++ rest → Counts held piece first text (end_holding left) left
   counts_part [] e = (omega (arith, sizes, ap length e), refl)
   counts_part (a ∷ left) e = (omega (arith, sizes, ap length e), omega arith)
 
   pub counts : (front : Front) (end : End) (left : List ℕ) → IsFront part rest front → EndsBy front skipped end left → Counts held piece first text end left
   counts (Char c len) end left is by = absurd by
-  counts (Begun carry) end left is by = subst (λ e. Counts held piece first text e left) (ap end_of_part by.1 ∙ sym by.0) (counts_part left (by.1 ∙ is.1))
+  counts (Begun carry) end left is by = subst (λ e. Counts held piece first text e left) (ap end_holding by.1 ∙ sym by.0) (counts_part left (by.1 ∙ is.1))
   counts (BadFront at back) end left is by =
       let front : length (part ++ take at rest) ≡ length part + at = length-append part (take at rest) ∙ ap (λ n. length part + n) (length-take-le at rest (omega (arith, is.0))) in
       subst (λ e. Counts held piece first text e left) (sym by.0)
@@ -173,7 +173,7 @@ module _ (held bytes piece : List ℕ) (first : Option ℕ) (text : List ℕ) (s
       let none = text_len-no_char part (part_no_char part p) in
       (takes held bytes piece first text part s scalar u joins none, stands_behind held bytes piece first text part s scalar u joins none (BeginsText-part part p))
 
-  taken_part : (part : List ℕ) → IsPart part → held ++ piece ≡ first_bytes first ++ text ++ part → Taken bytes piece first text (end_of_part part) part
+  taken_part : (part : List ℕ) → IsPart part → held ++ piece ≡ first_bytes first ++ text ++ part → Taken bytes piece first text (end_holding part) part
   taken_part [] p joins =
       let at = taken_at [] p joins in
       (at.0 Whole f (ends_whole held bytes piece first text [] s scalar u joins (text_len-no_char [] (part_no_char [] p)) (ending_of-whole [] IsUtf8-nil)), at.1)
@@ -185,7 +185,7 @@ module _ (held bytes piece : List ℕ) (first : Option ℕ) (text : List ℕ) (s
       → length (first_bytes first) + length text + length part ≡ length held + skipped → IsFront part rest front → EndsBy front skipped end left → Taken bytes piece first text end left
   taken part rest skipped (Char c len) end left joins sum is by = absurd by
   taken part rest skipped (Begun carry) end left joins sum is by =
-      subst₂ (Taken bytes piece first text) (ap end_of_part (sym is.1) ∙ sym by.0) (sym is.1 ∙ sym by.1) (taken_part (part ++ rest) is.0 joins)
+      subst₂ (Taken bytes piece first text) (ap end_holding (sym is.1) ∙ sym by.0) (sym is.1 ∙ sym by.1) (taken_part (part ++ rest) is.0 joins)
   taken part rest skipped (BadFront at back) end left joins sum is by =
       let none = text_len-broken part rest at is.0 is.1 is.2 in
       let sizes = taken_size held bytes piece first text (part ++ rest) s scalar u joins none in

@@ -3,14 +3,10 @@ use Rattle.std.specs.Prelude.{◌≡◌, ℕ, ◌+◌, List, [], ◌∷◌, ◌+
 use Rattle.nf_utf8.specs.declared.step.Step.{Step}
 use Rattle.nf_utf8.specs.declared.step.Step.TheVariants.{More, Char, Bad as BadByte}
 use Rattle.nf_utf8.specs.declared.chunk.End.{End}
-use Rattle.nf_utf8.specs.declared.chunk.End.TheVariants.{Whole, Cut, Bad}
+use Rattle.nf_utf8.specs.declared.chunk.End.TheVariants.{Bad}
 use Rattle.nf_utf8.specs.Reading.{rest_of}
 use Rattle.nf_utf8.specs.Standing.{Answers}
-
--- where the bytes are used up and these are held
-abbrev pub end_holding : List ℕ → End
-end_holding [] = Whole
-end_holding (a ∷ held) = Cut
+use Rattle.nf_utf8.specs.Taking.{end_holding}
 
 -- a step, and what the bytes behind it give, which `More` says. `from` are the bytes before the piece, `bytes` those
 -- before the step

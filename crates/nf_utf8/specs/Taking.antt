@@ -40,6 +40,11 @@ pub record Takes (bytes piece : List ℕ) (first : Option ℕ) (text : List ℕ)
   pub placed : rest_of bytes ++ piece ≡ first_bytes first ++ text ++ rest_of (bytes ++ piece)
   pub len : text_len (bytes ++ piece) ≡ text_len bytes + length (first_bytes first) + length text
 
+-- the end where the piece is used up and these bytes are held
+abbrev pub end_holding : List ℕ → End
+end_holding [] = Whole
+end_holding (a ∷ held) = Cut
+
 -- the bytes that a decoder stands after then
 abbrev pub bytes_behind : List ℕ → List ℕ → End → List ℕ
 bytes_behind bytes piece Whole = bytes ++ piece
