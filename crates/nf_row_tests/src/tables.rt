@@ -1,4 +1,4 @@
-use nf_row::{Rows, Ucd, composite};
+use nf_row::{Change, Form, Kind, Patched, Rows, Ucd, composite};
 use std::test::Fail;
 
 /// Classes by UnicodeData.txt.

@@ -1,9 +1,12 @@
+mod AsciiLemmas
 mod BegunLen
 mod Endings
 mod Fronts
+mod PushesLemmas
 mod ReadingLemmas
 mod ReadsLemmas
 mod Sequences
 mod StandingLemmas
+mod TakingLemmas
 mod TextLen
 mod Texts

@@ -79,6 +79,11 @@ text_of-append bytes piece =
     ap text_of (joined bytes piece) ∙ text_of-behind (front_of bytes) (rest_of bytes ++ piece) (front_of-IsUtf8 bytes)
     ∙ ap (λ l. l ++ text_of (rest_of bytes ++ piece)) (sym (text_of-front bytes))
 
+pub text_len-append : (bytes piece : List ℕ) → text_len (bytes ++ piece) ≡ text_len bytes + text_len (rest_of bytes ++ piece)
+text_len-append bytes piece =
+    ap (λ l. text_len l) (joined bytes piece) ∙ text_len-behind (front_of bytes) (rest_of bytes ++ piece) (front_of-IsUtf8 bytes)
+    ∙ ap (λ n. n + text_len (rest_of bytes ++ piece)) (length-front bytes)
+
 pub rest_of-append : (bytes piece : List ℕ) → rest_of (bytes ++ piece) ≡ rest_of (rest_of bytes ++ piece)
 rest_of-append bytes piece = ap rest_of (joined bytes piece) ∙ rest_of-behind (front_of bytes) (rest_of bytes ++ piece) (front_of-IsUtf8 bytes)
 

@@ -1,12 +1,12 @@
 -- `text_len`, the length of the longest front that is well-formed.
-use Rattle.std.proofs.Common.{◌≡◌, ℕ, zero, suc, ◌+◌, ◌≤◌, ⊎_elim, Bool, true, false, cond, true≢false, List, ◌++◌, length, take, drop, IsUtf8, encode_utf8, refl, sym, ap, subst, ◌∙◌, arith, length-append, length-take-le, take-append-drop, take_at}
+use Rattle.std.proofs.Common.{◌≡◌, ℕ, zero, suc, ◌+◌, ◌-◌, ◌≤◌, ⊎_elim, Bool, true, false, cond, true≢false, List, ◌++◌, length, take, drop, IsUtf8, encode_utf8, refl, sym, ap, subst, ◌∙◌, arith, length-append, length-take-le, take-append-drop, take-add, take_at}
 use Rattle.std.specs.Str.{StartsWithNoChar, is_utf8}
 use Rattle.std.specs.Str.Lossy.{utf8_valid_len, valid_len_up_to}
 use Rattle.std.proofs.str.Laws.{order}
 use Rattle.std.proofs.str.Classes.{width_is}
 use Rattle.std.proofs.str.Lossy.{IsUtf8-from_is_utf8, is_utf8-from_IsUtf8}
 use Rattle.std.proofs.iter.FirstChar.{no_text}
-use Rattle.std.proofs.lemmas.Str.{IsUtf8-nil, IsUtf8-append, IsUtf8-encode}
+use Rattle.std.proofs.lemmas.Str.{IsUtf8-nil, IsUtf8-append, IsUtf8-encode, utf8_valid_len-IsUtf8}
 use Rattle.nf_utf8.specs.Reading.{text_len}
 use Rattle.nf_utf8.proofs.Fronts.{IsLongestFront, longest_same, longest_behind}
 use Rattle.nf_utf8.proofs.Texts.{IsUtf8-behind}
@@ -66,3 +66,19 @@ text_len-no_char bytes none = ⊎_elim
     (λ some. absurd (no_text (take (text_len bytes) bytes) (drop (text_len bytes) bytes) (subst StartsWithNoChar (sym (take-append-drop (text_len bytes) bytes)) none) (text_len-longest bytes).holds (omega (arith, length-front bytes))))
     (λ zero. omega arith)
     (order 0 (text_len bytes))
+
+-- behind a well-formed front
+module _ (bytes : List ℕ) (at : ℕ) (within : at ≤ length bytes) (front : IsUtf8 (take at bytes)) where
+  pub front_more : (n : ℕ) → IsUtf8 (take n (drop at bytes)) → IsUtf8 (take (at + n) bytes)
+  front_more n more = subst IsUtf8 (sym (take-add at n bytes)) (IsUtf8-append (take at bytes) (take n (drop at bytes)) front more)
+
+  pub front_to : (end : ℕ) → at ≤ end → IsUtf8 (take (end - at) (drop at bytes)) → IsUtf8 (take end bytes)
+  front_to end le more = let e : at + (end - at) ≡ end = omega arith in rw e at (front_more (end - at) more)
+
+  pub text_len-split : text_len bytes ≡ at + text_len (drop at bytes)
+  text_len-split =
+      ap (λ l. text_len l) (sym (take-append-drop at bytes)) ∙ text_len-behind (take at bytes) (drop at bytes) front
+      ∙ ap (λ n. n + text_len (drop at bytes)) (length-take-le at bytes within)
+
+  pub text_len-all : IsUtf8 (drop at bytes) → text_len bytes ≡ length bytes
+  text_len-all rest = utf8_valid_len-IsUtf8 bytes (subst IsUtf8 (take-append-drop at bytes) (IsUtf8-append (take at bytes) (drop at bytes) front rest))

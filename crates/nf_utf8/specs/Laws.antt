@@ -1,9 +1,12 @@
 -- Laws of reading. `src/laws.rt` has each as a contract.
-use Rattle.std.specs.Prelude.{◌≡◌, ℕ, List, ◌++◌, length, encode_utf8_all}
-use Rattle.nf_utf8.specs.Text.{IsText}
+use Rattle.std.specs.Prelude.{◌≡◌, ℕ, List, ◌++◌, length, Option, chars, encode_utf8_all}
+use Rattle.nf_utf8.specs.declared.chunk.End.{End}
+use Rattle.nf_utf8.specs.Text.{IsText, BeginsText}
 use Rattle.nf_utf8.specs.Ending.{Ending, Bad, moved}
 use Rattle.nf_utf8.specs.Reading.{text_len, text_of, rest_of, ending_of}
 use Rattle.nf_utf8.specs.Reads.{Reads}
+use Rattle.nf_utf8.specs.Taking.{first_text, Takes}
+use Rattle.nf_utf8.specs.Pushes.{Pushes}
 
 -- bytes read as the longest text that a front of them spells, with their ending, and as nothing else
 pub record ReadsLongestText : Type 0 where
@@ -31,3 +34,8 @@ pub record ReadsPieces : Type 0 where
   -- nothing behind a bad byte is read
   pub bad_text : (bytes piece : List ℕ) (at start : ℕ) → ending_of bytes ≡ Bad at start → text_of (bytes ++ piece) ≡ text_of bytes
   pub bad_ending : (bytes piece : List ℕ) (at start : ℕ) → ending_of bytes ≡ Bad at start → ending_of (bytes ++ piece) ≡ Bad at start
+
+-- a piece gives what its bytes give when they are pushed one by one
+pub record TakesAsPushed : Type 0 where
+  pub text : (bytes piece text taken : List ℕ) (first : Option ℕ) (end stop : End) → BeginsText bytes → Pushes bytes bytes piece text end → Takes bytes piece first taken stop → text ≡ first_text first ++ chars taken
+  pub end : (bytes piece text taken : List ℕ) (first : Option ℕ) (end stop : End) → BeginsText bytes → Pushes bytes bytes piece text end → Takes bytes piece first taken stop → end ≡ stop

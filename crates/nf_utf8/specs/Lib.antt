@@ -7,3 +7,6 @@ pub mod Standing
 pub mod Part
 pub mod Carry
 pub mod Tells
+pub mod Front
+pub mod Taking
+pub mod Pushes

@@ -2,7 +2,9 @@ ghost use Rattle.std.specs.Prelude.{◌≡◌, ◌≤◌, ◌↔◌, [], IsTrue,
 ghost use Rattle.nf_utf8.specs.Part.{IsPart};
 ghost use Rattle.nf_utf8.specs.Carry.{bytes_of};
 ghost use Rattle.nf_utf8.specs.Tells.{Tells, part_after};
+ghost use Rattle.nf_utf8.specs.Front.{IsFront};
 
+use crate::front::Front;
 use crate::sequence;
 use crate::step::Step;
 
@@ -65,5 +67,23 @@ impl Carry {
             },
             Step::Char(_) | Step::Bad { .. } => Carry::Empty,
         }
+    }
+
+    /// What `bytes` tell behind these, up to the byte that completes the character or is bad.
+    #[inline]
+    pub fn front(self, bytes: &[u8]) -> Front
+        requires { IsPart (bytes_of self) }
+        ensures { IsFront (bytes_of self) bytes.now result }
+    {
+        let mut carry = self;
+        for (at, byte) in bytes.iter().enumerate() {
+            let step = carry.step(*byte);
+            match step {
+                Step::More => carry = carry.after(*byte, step),
+                Step::Char(c) => return Front::Char { c, len: at + 1 },
+                Step::Bad { back } => return Front::Bad { at, back },
+            }
+        }
+        Front::Begun(carry)
     }
 }

@@ -1,10 +1,13 @@
-ghost use Rattle.std.specs.Prelude.{◌≡◌, ◌≤◌, ◌+◌, ℕ, List, [], length, encode_utf8_all};
+ghost use Rattle.std.specs.Prelude.{◌≡◌, ◌≤◌, ◌+◌, ℕ, List, Option, [], length, take, drop, encode_utf8_all};
 
 use crate::carry::Carry;
+use crate::chunk::{Chunk, End};
+use crate::front::Front;
 use crate::step::Step;
+use crate::valid::valid_len;
 use std::marker::Model;
 
-/// Reads UTF-8 byte by byte. Its value is the bytes that it holds: those of a begun character.
+/// Reads UTF-8 byte by byte, or piece by piece. Its value is the bytes that it holds: those of a begun character.
 #[derive(Clone, Copy, Debug)]
 pub struct Decoder {
     carry: Carry,
@@ -27,8 +30,11 @@ impl Model for Decoder {
 }
 
 impl Decoder {
+    ghost use Rattle.nf_utf8.specs.declared.chunk.End.{End};
     ghost use Rattle.nf_utf8.specs.Reading.{text_of, ending_of};
     ghost use Rattle.nf_utf8.specs.Standing.{StandsAfter, Answers, bytes_after, ending_at};
+    ghost use Rattle.nf_utf8.specs.Taking.{Takes, bytes_behind, first_len, Counts};
+    ghost use Rattle.nf_utf8.specs.Front.{Completes, CanEnd, EndsBy};
 
     /// A decoder that was given nothing.
     #[inline]
@@ -66,6 +72,81 @@ impl Decoder {
         ensures alone { StandsAfter self.now self.now }
     {
         self.carry.len()
+    }
+
+    /// Takes a piece, or what of it stands before a bad byte: the same as to push these bytes, in one pass.
+    ///
+    /// After a bad byte the decoder is as a new one. The bytes far behind it were not read, so that to take the rest of
+    /// the piece again after each of many bad bytes costs no more than a few passes, and a constant for each.
+    pub fn take<'p>(&mut self, piece: &'p [u8]) -> Chunk<'p>
+        ensures takes { (bytes : List ℕ) → StandsAfter self.old bytes → Takes bytes piece.now result.first result.text.now result.end }
+        ensures only { (bytes : List ℕ) (first : Option ℕ) (text : List ℕ) (end : End) → StandsAfter self.old bytes → Takes bytes piece.now first text end
+            → (first ≡ result.first) × (text ≡ result.text.now) × (end ≡ result.end) }
+        ensures stands { (bytes : List ℕ) → StandsAfter self.old bytes → StandsAfter self.new (bytes_behind bytes piece.now result.end) }
+
+        // Where the text stands in the piece, and how many bytes there are of each.
+        ensures inside { first_len self.old result.first + length result.text.now ≤ length piece.now }
+        ensures text { result.text.now ≡ take (length result.text.now) (drop (first_len self.old result.first) piece.now) }
+        ensures counts { Counts self.old piece.now result.first result.text.now result.end self.new }
+    {
+        if self.carry.is_empty() {
+            return self.take_text(None, piece, 0);
+        }
+        match self.carry.front(piece) {
+            Front::Char { c, len } => self.take_text(Some(c), piece, len),
+            front => Chunk {
+                first: None,
+                text: "",
+                end: self.end(front, 0),
+            },
+        }
+    }
+
+    /// Takes the piece from `from` on, behind the character that is completed there.
+    fn take_text<'p>(&mut self, first: Option<char>, piece: &'p [u8], from: usize) -> Chunk<'p>
+        requires { from ≤ length piece.now }
+        ensures takes { (held bytes : List ℕ) → Completes held piece.now first from → StandsAfter held bytes
+            → Takes bytes piece.now result.first result.text.now result.end }
+        ensures stands { (held bytes : List ℕ) → Completes held piece.now first from → StandsAfter held bytes
+            → StandsAfter self.new (bytes_behind bytes piece.now result.end) }
+        ensures first { result.first ≡ first }
+        ensures inside { from + length result.text.now ≤ length piece.now }
+        ensures text { result.text.now ≡ take (length result.text.now) (drop from piece.now) }
+        ensures counts { (held : List ℕ) → Completes held piece.now first from → Counts held piece.now result.first result.text.now result.end self.new }
+    {
+        let rest = &piece[from..];
+        let (front, behind) = rest.split_at(valid_len(rest));
+        let text = unsafe { std::str::from_utf8_unchecked(front) };
+        Chunk {
+            first,
+            text,
+            end: self.end(Carry::Empty.front(behind), from + text.len()),
+        }
+    }
+
+    /// Ends a piece with what stands behind its first `skipped` bytes.
+    fn end(&mut self, front: Front, skipped: usize) -> End
+        requires { CanEnd front skipped }
+        ensures { EndsBy front skipped result self.new }
+    {
+        match front {
+            Front::Begun(carry) => {
+                self.carry = carry;
+                if carry.is_empty() {
+                    End::Whole
+                } else {
+                    End::Cut
+                }
+            }
+            Front::Bad { at, back } => {
+                self.carry = Carry::Empty;
+                End::Bad {
+                    at: skipped + at,
+                    back,
+                }
+            }
+            Front::Char { .. } => unreachable!(),
+        }
     }
 
     /// The same as `push`, out of line, so that its callers hold the test for ASCII alone.

@@ -1,6 +1,6 @@
 //! Laws of reading, each as the contract of a function that does nothing: a caller's proof has the law by a call.
 
-ghost use Rattle.nf_utf8.specs.Laws.{ReadsLongestText, SplitsBytes, ReadsBack, ReadsPieces};
+ghost use Rattle.nf_utf8.specs.Laws.{ReadsLongestText, SplitsBytes, ReadsBack, ReadsPieces, TakesAsPushed};
 
 /// Bytes read as the longest text that a front of them spells, with their ending, and as nothing else.
 #[inline]
@@ -24,4 +24,10 @@ pub fn read_back()
 #[inline]
 pub fn pieces()
     ensures { ReadsPieces }
+{}
+
+/// A piece that is taken at once gives the characters and the end that pushing its bytes one by one gives.
+#[inline]
+pub fn taken_as_pushed()
+    ensures { TakesAsPushed }
 {}

@@ -1,20 +1,27 @@
 //! UTF-8 that comes in pieces of any size, read into characters.
 //!
-//! A [`Decoder`] takes one byte at a time, and answers by a [`Step`]: the character that the byte completes, that
-//! a character goes on, or that the byte is bad. It holds three bytes at most, allocates nothing and refuses
-//! nothing. What is to follow a bad byte is the caller's choice.
+//! A [`Decoder`] takes bytes one by one or in pieces. [`Decoder::push`] answers by a [`Step`]: the character that
+//! the byte completes, that a character goes on, or that the byte is bad. [`Decoder::take`] answers by a [`Chunk`]:
+//! the character that the piece completes, the text behind it, lent from the piece and validated in blocks, and how
+//! the piece ends. A decoder holds three bytes at most, allocates nothing and refuses nothing. What is to follow a bad
+//! byte is the caller's choice. [`ascii_prefix`] needs no decoder.
 //!
 //! The bytes taken read as the longest text that a front of them spells (The Unicode Standard, section 3.9);
-//! [`laws`] says so, and that it does not matter where they were cut into pieces.
+//! [`laws`] says so, that it does not matter where they were cut into pieces, and that a piece gives what pushing its
+//! bytes gives.
 #![tactic(auto)]
 
+mod ascii;
 mod carry;
+mod chunk;
 mod decoder;
+mod front;
 pub mod laws;
 mod sequence;
 mod step;
-#[cfg(test)]
-mod tests;
+mod valid;
 
+pub use ascii::ascii_prefix;
+pub use chunk::{Chunk, End};
 pub use decoder::Decoder;
 pub use step::Step;

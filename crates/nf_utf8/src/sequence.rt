@@ -76,7 +76,7 @@ fn is_second(first: u8, byte: u8) -> bool
 }
 
 #[inline]
-fn is_continuation(byte: u8) -> bool
+pub fn is_continuation(byte: u8) -> bool
     ensures { IsTrue result ↔ IsContinuation byte }
 {
     matches!(byte, 0x80..=0xBF)

@@ -1,9 +1,9 @@
-use crate::{Decoder, Step};
+//! What the rows of the table read, with no word of a decoder.
 
 /// How bytes end. `at` counts the bytes before the bad one, or before the end, and `start` those before the
 /// character that is bad or cut there.
 #[derive(Clone, Copy, Debug, PartialEq, Eq)]
-enum Ending {
+pub enum Ending {
     Whole,
     Bad { at: usize, start: usize },
     Cut { at: usize, start: usize },
@@ -11,47 +11,19 @@ enum Ending {
 
 /// What three bytes or fewer spell, and how they end.
 #[derive(Clone, Copy, Debug, PartialEq, Eq)]
-struct Reading {
-    text: [Option<char>; 3],
-    ending: Ending,
+pub struct Reading {
+    pub text: [Option<char>; 3],
+    pub ending: Ending,
 }
 
 /// Puts the character behind the others.
-fn add(text: &mut [Option<char>], c: Option<char>) {
+pub fn add(text: &mut [Option<char>], c: Option<char>) {
     for place in text {
         if place.is_none() {
             *place = c;
             return;
         }
     }
-}
-
-/// The bytes as the decoder reads them.
-fn decoded(bytes: &[u8]) -> Reading {
-    let mut decoder = Decoder::new();
-    let mut text = [None; 3];
-    for (at, byte) in bytes.iter().enumerate() {
-        match decoder.push(*byte) {
-            Step::More => {}
-            Step::Char(c) => add(&mut text, Some(c)),
-            Step::Bad { back } => {
-                let start = at.wrapping_sub(back);
-                return Reading {
-                    text,
-                    ending: Ending::Bad { at, start },
-                };
-            }
-        }
-    }
-    let at = bytes.len();
-    let ending = match decoder.carried() {
-        0 => Ending::Whole,
-        carried => Ending::Cut {
-            at,
-            start: at.wrapping_sub(carried),
-        },
-    };
-    Reading { text, ending }
 }
 
 /// The bytes from the first to the last.
@@ -121,7 +93,7 @@ fn front_of(bytes: &[u8]) -> Front {
 }
 
 /// The bytes as the rows of the table read them.
-fn by_the_table(bytes: &[u8]) -> Reading {
+pub fn by_the_table(bytes: &[u8]) -> Reading {
     let mut text = [None; 3];
     let mut start: usize = 0;
     for _ in 0..bytes.len() {
@@ -153,69 +125,5 @@ fn by_the_table(bytes: &[u8]) -> Reading {
     Reading {
         text,
         ending: Ending::Whole,
-    }
-}
-
-#[test]
-fn bytes_end_where_they_should(rt: HostRuntime) {
-    let bad = |at, start| Ending::Bad { at, start };
-    let cut = |at, start| Ending::Cut { at, start };
-    let cases: [(&[u8], Ending); 11] = [
-        (b"\x80", bad(0, 0)),
-        (b"\xC0", bad(0, 0)),
-        (b"\xC3\x28", bad(1, 0)),
-        (b"\xE0\x80", bad(1, 0)),
-        (b"\xED\xA0\x80", bad(1, 0)),
-        (b"\xF0\x80", bad(1, 0)),
-        (b"\xF4\x90", bad(1, 0)),
-        (b"\xF5", bad(0, 0)),
-        (b"\xE2\x82\x41", bad(2, 0)),
-        (b"\xF0\x90\x80", cut(3, 0)),
-        (b"\x61\xC3", cut(2, 1)),
-    ];
-    for (bytes, ending) in cases {
-        assert_eq!(rt; decoded(bytes).ending, ending, "{bytes:?}");
-    }
-}
-
-#[test]
-fn a_bad_byte_leaves_nothing_behind(rt: HostRuntime) {
-    let mut decoder = Decoder::default();
-    assert_eq!(rt; decoder.push(0xE0), Step::More);
-    assert_eq!(rt; decoder.push(0x80), Step::Bad { back: 1 });
-    assert_eq!(rt; decoder.push(0x80), Step::Bad { back: 0 });
-    assert_eq!(rt; decoder.push(0x41), Step::Char('A'));
-}
-
-#[test]
-fn four_bytes_make_one_character(rt: HostRuntime) {
-    let mut decoder = Decoder::new();
-    assert_eq!(rt; decoder.push(0xF0), Step::More);
-    assert_eq!(rt; decoder.push(0x90), Step::More);
-    assert_eq!(rt; decoder.push(0x80), Step::More);
-    assert_eq!(rt; decoder.carried(), 3);
-    assert_eq!(rt; decoder.push(0x80), Step::Char('\u{10000}'));
-    assert_eq!(rt; decoder.carried(), 0);
-}
-
-#[test]
-fn two_bytes_read_as_the_table_says(rt: HostRuntime) {
-    for a in 0..=u8::MAX {
-        for b in 0..=u8::MAX {
-            let bytes = [a, b];
-            assert_eq!(rt; decoded(&bytes), by_the_table(&bytes), "{bytes:?}");
-        }
-    }
-}
-
-#[test]
-fn three_bytes_read_as_the_table_says(rt: HostRuntime) {
-    for a in 0..=u8::MAX {
-        for b in 0..=u8::MAX {
-            for c in 0..=u8::MAX {
-                let bytes = [a, b, c];
-                assert_eq!(rt; decoded(&bytes), by_the_table(&bytes), "{bytes:?}");
-            }
-        }
     }
 }

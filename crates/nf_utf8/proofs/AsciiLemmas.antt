@@ -1,0 +1,67 @@
+-- The bytes below 80 under the lanes of one load.
+use Rattle.std.proofs.Common.{◌≡◌, ℕ, ◌+◌, ◌*◌, ◌<◌, ◌≤◌, Bool, true, false, not, cond, leb, List, [], ◌∷◌, map, length, take, get_or, refl, sym, ap, ◌∙◌, ⊎_elim, arith}
+use Rattle.std.specs.List.{prefix_len}
+use Rattle.std.specs.Str.{IsAscii}
+use Rattle.std.proofs.str.Laws.{order}
+use Rattle.std.proofs.lemmas.Bool.Decides.{nat_tests}
+use Rattle.std.proofs.lemmas.List.{get_or-take, get_or_past, length-take-le}
+use Rattle.std.proofs.lemmas.List.Sums.{prefix_len-le-length}
+use Rattle.std.proofs.lemmas.Simd.{length-chunk, trailing_mask_l, run_in_chunk_le, run_in_chunk_fails, run_in_chunk_stops, none_from_empty_mask}
+use lib.Lanes.{chunk, mask_l}
+use lib.Count.{count_trailing_zeros}
+
+abbrev pub is_other : ℕ → Bool
+is_other byte = leb 0x80 byte
+
+none_set : (b : Bool) (n l m : ℕ) → n ≤ l → cond (not b) (1 + n) 0 ≡ 1 + l → (n ≡ l → m ≡ 0) → cond b 1 0 + 2 * m ≡ 0
+none_set true n l m le e more = absurd (omega arith)
+none_set false n l m le e more = let zero : m ≡ 0 = more (omega arith) in omega arith
+
+-- no bit is set where no lane passes
+empty_mask : (p : ℕ → Bool) (xs : List ℕ) → prefix_len (λ x. not (p x)) xs ≡ length xs → mask_l (map p xs) ≡ 0
+empty_mask p [] e = refl
+empty_mask p (x ∷ xs) e = none_set (p x) _ (length xs) _ (prefix_len-le-length (λ y. not (p y)) xs) (omega arith) (empty_mask p xs)
+
+pub ascii_front : (bytes : List ℕ) (n : ℕ) → n ≤ length bytes → ((k : ℕ) → k < n → get_or bytes k 0 < 0x80) → IsAscii (take n bytes)
+ascii_front bytes n within below i = ⊎_elim
+    (λ inside. omega (arith, below i inside, get_or-take n bytes i 0 inside))
+    (λ past. omega (arith, get_or_past (take n bytes) i 0 (omega (arith, length-take-le n bytes within))))
+    (order i n)
+
+is_below : (byte : ℕ) → is_other byte ≡ false → byte < 0x80
+is_below byte e = grind (arith, nat_tests)
+
+is_above : (byte : ℕ) → is_other byte ≡ true → 0x80 ≤ byte
+is_above byte e = grind (arith, nat_tests)
+
+module _ (bytes : List ℕ) (at n : ℕ) (room : at + n ≤ length bytes) (before : (k : ℕ) → k < at → get_or bytes k 0 < 0x80) where
+  abbrev mask : ℕ
+  mask = mask_l (map is_other (chunk at n bytes))
+
+  pub all_below : mask ≡ 0 → (k : ℕ) → k < at + n → get_or bytes k 0 < 0x80
+  all_below none k inside = ⊎_elim (before k) (λ under. is_below _ (none_from_empty_mask is_other bytes at n 0 room none k under inside)) (order k at)
+
+  -- `found` is the mask
+  module _ (few : n ≤ 64) (found : ℕ) (is : found ≡ mask) (some : ¬ (found ≡ 0)) where
+    abbrev run : ℕ
+    run = count_trailing_zeros 64 found
+
+    counted : run ≡ prefix_len (λ x. not (is_other x)) (chunk at n bytes)
+    counted = ap (count_trailing_zeros 64) is ∙ trailing_mask_l is_other 64 (chunk at n bytes) (omega (arith, length-chunk at n bytes room)) (omega (arith, is, some))
+
+    run_short : run < n
+    run_short = ⊎_elim (λ short. short)
+        (λ long.
+        let all : run ≡ n = omega (arith, run_in_chunk_le is_other bytes at n run 0 room counted) in
+        absurd (some (is ∙ empty_mask is_other (chunk at n bytes) (sym counted ∙ all ∙ sym (length-chunk at n bytes room)))))
+        (order run n)
+
+    pub run_within : at + run ≤ length bytes
+    run_within = omega (arith, run_short)
+
+    pub run_ascii : IsAscii (take (at + run) bytes)
+    run_ascii = ascii_front bytes (at + run) run_within
+        (λ k inside. ⊎_elim (before k) (λ under. is_below _ (run_in_chunk_fails is_other bytes at n run 0 room counted k under inside)) (order k at))
+
+    pub run_stops : 0x80 ≤ get_or bytes (at + run) 0
+    run_stops = is_above _ (run_in_chunk_stops is_other bytes at n run 0 room counted run_short)

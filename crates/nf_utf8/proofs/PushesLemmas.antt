@@ -1,0 +1,104 @@
+-- Pushing a piece's bytes one by one reads them as they are read, and so gives what the piece gives.
+use Rattle.std.proofs.Common.{◌≡◌, ℕ, ◌+◌, ◌<◌, cond, List, [], ◌∷◌, ◌++◌, length, Option, chars, encode_utf8_all, refl, sym, ap, subst, subst₂, ◌∙◌, ◌-◌, arith, append_assoc, append-nil, length-append}
+use Rattle.std.proofs.lemmas.Bool.{ne_eqb}
+use Rattle.std.proofs.lemmas.List.{append_cancel_left}
+use Rattle.nf_utf8.specs.declared.step.Step.{Step}
+use Rattle.nf_utf8.specs.declared.step.Step.TheVariants.{More, Char, Bad as BadByte}
+use Rattle.nf_utf8.specs.declared.chunk.End.{End}
+use Rattle.nf_utf8.specs.declared.chunk.End.TheVariants.{Whole, Cut, Bad}
+use Rattle.nf_utf8.specs.Text.{BeginsText}
+use Rattle.nf_utf8.specs.Ending.{Whole as IsWhole, Cut as IsCut, Bad as IsBad}
+use Rattle.nf_utf8.specs.Reading.{text_len, text_of, rest_of, ending_of}
+use Rattle.nf_utf8.specs.Reads.{EndsAs}
+use Rattle.nf_utf8.specs.Standing.{StandsAfter, Answers}
+use Rattle.nf_utf8.specs.Taking.{first_text, EndsPiece, end_holding, Takes}
+use Rattle.nf_utf8.specs.Pushes.{Pushes, GoesOn}
+use Rattle.nf_utf8.proofs.Texts.{BeginsText-IsUtf8}
+use Rattle.nf_utf8.proofs.ReadingLemmas.{text_of-IsText, text_of-bad, ending_of-bad, length-encodes-text_of}
+use Rattle.nf_utf8.proofs.ReadsLemmas.{ending_of-is}
+use Rattle.nf_utf8.proofs.StandingLemmas.{held_len, ending_of-standing}
+use Rattle.nf_utf8.proofs.TakingLemmas.{same_end}
+
+-- what the end says of all the bytes, where `from` stand before the piece
+abbrev EndsAll : List ℕ → List ℕ → End → Type 0
+EndsAll from all Whole = ending_of all ≡ IsWhole
+EndsAll from all Cut = ending_of all ≡ IsCut (length all) (text_len all)
+EndsAll from all (Bad at back) = (ending_of all ≡ IsBad (length from + at) (text_len all)) × (text_len all + back ≡ length from + at) × (length from + at < length all)
+
+-- the bytes read as this text behind that of `bytes`, with this end
+abbrev ReadsOn : List ℕ → List ℕ → List ℕ → List ℕ → End → Type 0
+ReadsOn from bytes all text end = (text_of all ≡ text_of bytes ++ text) × EndsAll from all end
+
+-- ---- where they go on
+
+begins_cut : (bytes : List ℕ) (at start : ℕ) → ending_of bytes ≡ IsCut at start → BeginsText bytes
+begins_cut bytes at start e = let is = subst (EndsAs bytes (text_of bytes)) e (ending_of-is bytes) in is.0.begins
+
+begins_whole : (bytes : List ℕ) → ending_of bytes ≡ IsWhole → BeginsText bytes
+begins_whole bytes e =
+    let is = subst (EndsAs bytes (text_of bytes)) e (ending_of-is bytes) in
+    BeginsText-IsUtf8 bytes (text_of bytes, (text_of-IsText bytes, sym is))
+
+-- ---- where they are used up
+
+ends_holding : (from bytes held : List ℕ) → StandsAfter held bytes → EndsAll from bytes (end_holding held)
+ends_holding from bytes [] s = ending_of-standing [] bytes s
+ends_holding from bytes (a ∷ held) s =
+    let n : ℕ = length (a ∷ held) in
+    let start : length bytes - n ≡ text_len bytes = omega (arith, held_len (a ∷ held) bytes s) in
+    ending_of-standing (a ∷ held) bytes s ∙ (λ i. cond (ne_eqb n 0 (omega arith) i) IsWhole (IsCut (length bytes) (start i)))
+
+-- ---- byte by byte
+
+module _ (from : List ℕ) where
+  broken : (bytes piece : List ℕ) (byte at back : ℕ) → Answers bytes byte (BadByte back) → length from + at ≡ length bytes
+      → ReadsOn from bytes (bytes ++ byte ∷ [] ++ piece) [] (Bad at back)
+  broken bytes piece byte at back answer place =
+      let all : List ℕ = bytes ++ byte ∷ [] ++ piece in
+      let text : text_of all ≡ text_of bytes = text_of-bad (bytes ++ byte ∷ []) piece (length bytes) (text_len bytes) answer.1 ∙ answer.0 in
+      let len : text_len all ≡ text_len bytes = sym (length-encodes-text_of all) ∙ ap (λ l. length (encode_utf8_all l)) text ∙ length-encodes-text_of bytes in (
+        text ∙ sym (append-nil (text_of bytes)),
+        (
+          ending_of-bad (bytes ++ byte ∷ []) piece (length bytes) (text_len bytes) answer.1 ∙ (λ i. IsBad (sym place i) (sym len i)),
+          omega (arith, len, place, answer.2),
+          omega (arith, place, length-append (bytes ++ byte ∷ []) piece, length-append bytes (byte ∷ [])),
+        ),
+      )
+
+  -- `Next` is what the bytes behind the step give
+  step_on : (bytes piece text : List ℕ) (byte : ℕ) (end : End) (step : Step) (Next : List ℕ → Type 0)
+      → ((more : List ℕ) → BeginsText (bytes ++ byte ∷ []) → Next more → ReadsOn from (bytes ++ byte ∷ []) (bytes ++ byte ∷ [] ++ piece) more end)
+      → Answers bytes byte step → GoesOn from bytes Next text end step → ReadsOn from bytes (bytes ++ byte ∷ [] ++ piece) text end
+  step_on bytes piece text byte end More Next read answer on =
+      let r = read text (begins_cut (bytes ++ byte ∷ []) (length bytes + 1) (text_len bytes) answer.1) on in
+      (r.0 ∙ ap (λ l. l ++ text) answer.0, r.1)
+  step_on bytes piece text byte end (Char c) Next read answer on =
+      let r = read on.0 (begins_whole (bytes ++ byte ∷ []) answer.1) on.2 in
+      (r.0 ∙ ap (λ l. l ++ on.0) answer.0 ∙ append_assoc (text_of bytes) (c ∷ []) on.0 ∙ ap (λ l. text_of bytes ++ l) (sym on.1), r.1)
+  step_on bytes piece text byte end (BadByte back) Next read answer on =
+      subst₂ (ReadsOn from bytes (bytes ++ byte ∷ [] ++ piece)) (sym on.0) (sym on.1.2) (broken bytes piece byte on.1.0 back answer on.1.1)
+
+  pub reads_on : (bytes piece text : List ℕ) (end : End) → BeginsText bytes → Pushes from bytes piece text end → ReadsOn from bytes (bytes ++ piece) text end
+  reads_on bytes [] text end b p =
+      subst (λ all. ReadsOn from bytes all text end) (sym (append-nil bytes))
+      (sym (append-nil (text_of bytes)) ∙ ap (λ l. text_of bytes ++ l) (sym p.0), subst (EndsAll from bytes) (sym p.1) (ends_holding from bytes (rest_of bytes) (record { rest = refl; begins = b })))
+  reads_on bytes (byte ∷ piece) text end b p =
+      subst (λ all. ReadsOn from bytes all text end) (append_assoc bytes (byte ∷ []) piece)
+      (step_on bytes piece text byte end p.0 (λ more. Pushes from (bytes ++ byte ∷ []) piece more end) (λ more. reads_on (bytes ++ byte ∷ []) piece more end) p.1 p.2)
+
+-- ---- the piece as a whole
+
+ends_piece : (bytes piece : List ℕ) (end : End) → EndsAll bytes (bytes ++ piece) end → EndsPiece bytes piece end
+ends_piece bytes piece Whole e = e
+ends_piece bytes piece Cut e = e ∙ ap (λ n. IsCut n (text_len (bytes ++ piece))) (length-append bytes piece)
+ends_piece bytes piece (Bad at back) e = (e.0, e.1, omega (arith, e.2, length-append bytes piece))
+
+module _ (bytes piece text taken : List ℕ) (first : Option ℕ) (end stop : End) (b : BeginsText bytes) (p : Pushes bytes bytes piece text end) (t : Takes bytes piece first taken stop) where
+  read : ReadsOn bytes bytes (bytes ++ piece) text end
+  read = reads_on bytes bytes piece text end b p
+
+  pub pushed_text : text ≡ first_text first ++ chars taken
+  pushed_text = append_cancel_left (text_of bytes) text (first_text first ++ chars taken) (sym read.0 ∙ t.spelled ∙ append_assoc (text_of bytes) (first_text first) (chars taken))
+
+  pub pushed_end : end ≡ stop
+  pushed_end = same_end bytes piece end stop (ends_piece bytes piece end read.1) t.ends

@@ -1,0 +1,10 @@
+use Rattle.std.proofs.Common.{◌≡◌, ◌++◌, take}
+use Rattle.nf_utf8.specs.Part.{IsPart}
+use Rattle.nf_utf8.specs.Carry.{bytes_of}
+use Rattle.nf_utf8.proofs.carry.Carry.front.Given as goal
+
+abbrev pub invariant-loop-at : goal.invariant-loop-at
+invariant-loop-at l = record {
+  held : bytes_of l.carry ≡ bytes_of l.fn.self ++ take l.at l.bytes;
+  part : IsPart (bytes_of l.carry);
+}

@@ -1,0 +1,48 @@
+ghost use Rattle.std.specs.Prelude.{◌≡◌, ◌+◌, ◌<◌, ◌≤◌, ℕ, length, take, slice_index, map, leb};
+ghost use Rattle.std.specs.Str.{IsAscii};
+ghost use Rattle.std.specs.Simd.Lanes.{mask_l};
+
+use std::simd::prelude::*;
+
+/// The bytes that are looked at together.
+const LANES: usize = 32;
+
+/// The length in bytes of the longest prefix of bytes below 80 (hexadecimal).
+pub fn ascii_prefix(bytes: &[u8]) -> usize
+    ensures within { result ≤ length bytes.now }
+    ensures ascii { IsAscii (take result bytes.now) }
+    ensures longest { result < length bytes.now → 0x80 ≤ slice_index bytes.now result }
+{
+    let mut at = 0;
+    while bytes.len() - at >= LANES {
+        let others = not_ascii(u8x32::from_slice(&bytes[at..]));
+        if others != 0 {
+            return at + others.trailing_zeros() as usize;
+        }
+        at += LANES;
+    }
+    by_bytes(bytes, at)
+}
+
+/// A bit for each lane, the lowest for the first: whether its byte is 80 or above.
+#[inline(always)]
+fn not_ascii(lanes: u8x32) -> u64
+    ensures { result ≡ mask_l (map (λ byte. leb 0x80 byte) lanes) }
+{
+    lanes.simd_ge(u8x32::splat(0x80)).to_bitmask()
+}
+
+/// The end of the prefix, byte by byte from `from` on.
+fn by_bytes(bytes: &[u8], from: usize) -> usize
+    requires within { from ≤ length bytes.now }
+    requires ascii { (k : ℕ) → k < from → slice_index bytes.now k < 0x80 }
+    ensures within { result ≤ length bytes.now }
+    ensures ascii { IsAscii (take result bytes.now) }
+    ensures longest { result < length bytes.now → 0x80 ≤ slice_index bytes.now result }
+{
+    let mut at = from;
+    while at < bytes.len() && bytes[at] < 0x80 {
+        at += 1;
+    }
+    at
+}
