@@ -15,5 +15,4 @@ pub mod Report
 pub mod Sweep
 pub mod Gives
 pub mod Sinks
-pub mod Views
 pub mod Plain
