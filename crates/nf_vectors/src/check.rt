@@ -103,6 +103,7 @@ fn is_skipped<R: Rows>(rows: &R, columns: Columns<&[char]>) -> bool
     let nfd = leaves_format(rows, columns.nfd);
     let nfkc = leaves_format(rows, columns.nfkc);
     let nfkd = leaves_format(rows, columns.nfkd);
+    // All five are known by now: `|`, since each `||` would be a case of its own to prove.
     source | nfc | nfd | nfkc | nfkd
 }
 

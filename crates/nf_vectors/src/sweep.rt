@@ -100,6 +100,7 @@ fn is_unchanged<R: Rows>(rows: &R, c: char) -> bool
     let nfd = is_kept(rows, Form::Nfd, text);
     let nfkc = is_kept(rows, Form::Nfkc, text);
     let nfkd = is_kept(rows, Form::Nfkd, text);
+    // All four are known by now: `&`, since each `&&` would be a case of its own to prove.
     nfc & nfd & nfkc & nfkd
 }
 
