@@ -13,13 +13,19 @@ use Rattle.nf_vectors.specs.Suite.{judged, row_at, part_behind, is_part1_line, r
 use Rattle.nf_vectors.specs.SuiteView.{rows_in}
 use Rattle.nf_vectors.specs.Within.{AreWithin}
 use Rattle.nf_vectors.specs.Standing.{StandsAfter, EndsLine}
-use Rattle.nf_vectors.specs.ReadsSuite.{limit, lines_within, stop_of, Finds}
+use Rattle.nf_vectors.specs.Limits.{limit, block}
+use Rattle.nf_vectors.specs.ReadsSuite.{lines_within, stop_of, Finds}
+use Rattle.nf_vectors.specs.RunsOut.{RunsOut}
 use Rattle.nf_vectors.proofs.TextLemmas.{rows_in-append}
 use Rattle.nf_vectors.proofs.StandingLemmas.{lines_of-ended, lines_of-last, first_fault-ended}
 
 pub limit-is : limit ≡ 67108864
 unfolding limit
 limit-is = refl
+
+pub block-is : block ≡ 4096
+unfolding block
+block-is = refl
 
 pub on_ok : {A E : Type 0} {P : Type 0} (r : Result A E) → (is_ok r ≡ true → P) → OnOk r P
 on_ok (Ok x) f = f refl
@@ -96,6 +102,19 @@ module _ (reading : Reading) (bytes : List ℕ) (stands : StandsAfter reading by
     last_fine fine =
         ap (λ l. first_fault 1 (stop_of bytes false) (lines_of l)) within ∙ ap (λ s. first_fault 1 s (lines_of bytes)) (stop_is false) ∙ last_line None
         ∙ fine None
+
+    -- where memory runs out over the next byte, or at the end
+    pub runs_out : (rest all : List ℕ) → length rest ≤ block → all ≡ bytes ++ rest → (at_end : Bool) → (at_end ≡ true → rest ≡ []) → (fault : VectorFault) → fault ≡ record { line = reading.line; kind = fault.kind }
+        → fault.kind ≡ Memory → RunsOut all at_end fault
+    runs_out rest all short is at_end end fault here memory = record {
+      read = bytes;
+      rest = rest;
+      is = is;
+      within = few;
+      last = short;
+      end = end;
+      first = last_line (Some Memory) ∙ ap (λ k. Some (record { line = reading.line; kind = k })) (sym memory) ∙ ap Some (sym here);
+    }
 
     module _ (new : Reading) (ends : EndsLine (judged reading.line reading.bytes.items) reading new) where
       pub all_rows : rows_in new.text.items new.entries.items ≡ rows_from 1 false (lines_within bytes)

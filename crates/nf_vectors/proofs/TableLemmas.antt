@@ -10,10 +10,9 @@ use Rattle.nf_forms.specs.declared.form.Form.{Form}
 use Rattle.nf_forms.specs.declared.form.Form.TheVariants.{Nfc, Nfd, Nfkc, Nfkd}
 use Rattle.nf_vectors.specs.declared.report.Failure.{Failure}
 use Rattle.nf_vectors.specs.declared.report.Verdict.TheVariants.{Skipped}
-use Rattle.nf_vectors.specs.Columns.{Columns}
+use Rattle.nf_vectors.specs.Columns.{Columns, each}
 use Rattle.nf_vectors.specs.Suite.{VectorRow}
 use Rattle.nf_vectors.specs.Comparison.{column_at, expected_at, holds_at, broken_column, leaves_format, is_skipped}
-use Rattle.nf_vectors.specs.Views.{utf8_of}
 use Rattle.nf_vectors.specs.Report.{failure_in, failure_of, by_failure, verdict_of}
 
 five : List ℕ
@@ -110,7 +109,7 @@ stays_at p columns n e =
     pick false false false false a b c d e = e
 
 -- the UTF-8 of the columns, by number
-pub column_utf8 : (columns : Columns) (n : ℕ) → column_at (utf8_of columns) n ≡ encode_utf8_all (column_at columns n)
+pub column_utf8 : (columns : Columns) (n : ℕ) → column_at (each columns encode_utf8_all) n ≡ encode_utf8_all (column_at columns n)
 column_utf8 columns n = pick (n == 1) (n == 2) (n == 3) (n == 4)
   where
     pick : (w x y z : Bool)
@@ -122,7 +121,7 @@ column_utf8 columns n = pick (n == 1) (n == 2) (n == 3) (n == 4)
     pick false false false true = refl
     pick false false false false = refl
 
-pub expected_utf8 : (f : Form) (columns : Columns) (n : ℕ) → expected_at f (utf8_of columns) n ≡ encode_utf8_all (expected_at f columns n)
+pub expected_utf8 : (f : Form) (columns : Columns) (n : ℕ) → expected_at f (each columns encode_utf8_all) n ≡ encode_utf8_all (expected_at f columns n)
 expected_utf8 Nfc columns n = by_side (nat_le n 3) columns.nfc columns.nfkc
   where
     by_side : (b : Bool) (x y : List ℕ) → (if b then encode_utf8_all x else encode_utf8_all y) ≡ encode_utf8_all (if b then x else y)

@@ -1,3 +1,4 @@
+pub mod Limits
 pub mod Columns
 pub mod Line
 pub mod Words
@@ -6,6 +7,7 @@ pub mod Suite
 pub mod Held
 pub mod Within
 pub mod SuiteView
+pub mod RunsOut
 pub mod ReadsSuite
 pub mod Standing
 pub mod Comparison
@@ -13,5 +15,4 @@ pub mod Report
 pub mod Sweep
 pub mod Gives
 pub mod Sinks
-pub mod Views
 pub mod Plain

@@ -5,13 +5,11 @@ use Rattle.nf_vectors.specs.declared.fault.VectorFault.{VectorFault}
 use Rattle.nf_vectors.specs.declared.fault.VectorKind.{VectorKind}
 use Rattle.nf_vectors.specs.declared.fault.VectorKind.TheVariants.{Size, Read, Memory}
 use Rattle.nf_vectors.specs.declared.suite.Suite.{Suite}
+use Rattle.nf_vectors.specs.Limits.{limit}
 use Rattle.nf_vectors.specs.Line.{lines_of}
+use Rattle.nf_vectors.specs.RunsOut.{RunsOut}
 use Rattle.nf_vectors.specs.Suite.{rows_from, names_part1_from, first_fault}
 use Rattle.nf_vectors.specs.SuiteView.{rows_of, has_part1_of}
-
--- the most bytes that a vector file may have
-unfoldable pub limit : ℕ
-limit = 67108864
 
 -- the lines of the bytes within the limit
 abbrev pub lines_within : List ℕ → List (List ℕ)
@@ -37,6 +35,7 @@ pub record ReadsSuite (coming left : Option (List ℕ)) (at_end failed : Bool) (
   pub bytes : List ℕ
   pub given : Consumes coming left bytes
   pub tells : Tells bytes failed result
+  pub memory : IfErr result (λ fault. fault.kind ≡ Memory → RunsOut bytes at_end fault)
   -- the last line is judged only at the end: before it, the fault is the same however the reading were to stop
   pub end : OnOk result (at_end ≡ true)
   pub before_end : IsFalse at_end → IsFalse failed → length bytes ≤ limit

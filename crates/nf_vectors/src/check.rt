@@ -1,12 +1,11 @@
-ghost use Rattle.std.specs.Prelude.{◌≡◌, ◌+◌, ◌<◌, ◌^◌, false, IfOk};
+ghost use Rattle.std.specs.Prelude.{◌≡◌, ◌+◌, ◌<◌, ◌^◌, false, IfOk, string_bytes, encode_utf8_all};
 ghost use Rattle.nf_vectors.specs.Suite.{VectorRow};
 ghost use Rattle.nf_vectors.specs.Comparison.{broken_column, is_skipped};
 ghost use Rattle.nf_vectors.specs.Report.{failure_in, failure_of, verdict_of, report_and};
-ghost use Rattle.nf_vectors.specs.Views.{columns_of, bytes_of, utf8_of, AreShort};
-ghost use Rattle.nf_vectors.specs.Columns.{Columns as Texts};
+ghost use Rattle.nf_vectors.specs.Columns.{Columns as Texts, each, AreShort};
 
+use crate::columns::Columns;
 use crate::comparison::{holds, leaves_format};
-use crate::encoded::{Columns, Encoded};
 use crate::fault::Memory;
 use crate::gathered::Gathered;
 use crate::report::{Failure, Report, Verdict};
@@ -30,10 +29,10 @@ impl Suite {
             skipped: 0,
             first_failure: None,
         };
-        let mut encoded = Encoded::new(alloc);
+        let mut encoded = Columns::<String>::new(alloc);
         let mut sink = Gathered::new(alloc);
         for entry in self.entries.as_slice() {
-            let columns = Columns::of(self.text.as_slice(), entry.columns);
+            let columns = Columns::<&[char]>::of(self.text.as_slice(), entry.columns);
             let verdict = verdict(rows, entry.line, columns, &mut encoded, &mut sink)?;
             report = and(report, verdict);
         }
@@ -74,12 +73,12 @@ fn and(report: Report, verdict: Verdict) -> Report
 fn verdict<R: Rows>(
     rows: &R,
     line: u32,
-    columns: Columns<'_>,
-    encoded: &mut Encoded,
+    columns: Columns<&[char]>,
+    encoded: &mut Columns<String>,
     sink: &mut Gathered,
 ) -> Result<Verdict, Memory>
-    requires { AreShort (columns_of columns) }
-    ensures { (row : VectorRow) → row.line ≡ line → row.columns ≡ columns_of columns.entry
+    requires { AreShort (each columns (λ column. column.now)) }
+    ensures { (row : VectorRow) → row.line ≡ line → row.columns ≡ each columns.entry (λ column. column.now)
         → IfOk result (λ verdict. verdict ≡ verdict_of (R.properties rows.now) row) }
 {
     if is_skipped(rows, columns) {
@@ -95,15 +94,16 @@ fn verdict<R: Rows>(
     }
 }
 
-fn is_skipped<R: Rows>(rows: &R, columns: Columns<'_>) -> bool
-    requires { AreShort (columns_of columns) }
-    ensures { result ≡ is_skipped (R.properties rows.now) (columns_of columns.entry) }
+fn is_skipped<R: Rows>(rows: &R, columns: Columns<&[char]>) -> bool
+    requires { AreShort (each columns (λ column. column.now)) }
+    ensures { result ≡ is_skipped (R.properties rows.now) (each columns.entry (λ column. column.now)) }
 {
     let source = leaves_format(rows, columns.source);
     let nfc = leaves_format(rows, columns.nfc);
     let nfd = leaves_format(rows, columns.nfd);
     let nfkc = leaves_format(rows, columns.nfkc);
     let nfkd = leaves_format(rows, columns.nfkd);
+    // All five are known by now: `|`, since each `||` would be a case of its own to prove.
     source | nfc | nfd | nfkc | nfkd
 }
 
@@ -111,10 +111,10 @@ fn is_skipped<R: Rows>(rows: &R, columns: Columns<'_>) -> bool
 fn failure<R: Rows>(
     rows: &R,
     line: u32,
-    encoded: &Encoded,
+    encoded: &Columns<String>,
     sink: &mut Gathered,
 ) -> Result<Option<Failure>, Memory>
-    ensures { (columns : Texts) → bytes_of encoded.now ≡ utf8_of columns → is_skipped (R.properties rows.now) columns ≡ false
+    ensures { (columns : Texts) → each encoded.now string_bytes ≡ each columns encode_utf8_all → is_skipped (R.properties rows.now) columns ≡ false
         → IfOk result (λ failure. failure ≡ failure_of (R.properties rows.now) line columns) }
 {
     if let Some(failure) = failure_in(rows, Form::Nfc, line, encoded, sink)? {
@@ -134,10 +134,10 @@ fn failure_in<R: Rows>(
     rows: &R,
     form: Form,
     line: u32,
-    encoded: &Encoded,
+    encoded: &Columns<String>,
     sink: &mut Gathered,
 ) -> Result<Option<Failure>, Memory>
-    ensures { (columns : Texts) → bytes_of encoded.now ≡ utf8_of columns → is_skipped (R.properties rows.now) columns ≡ false
+    ensures { (columns : Texts) → each encoded.now string_bytes ≡ each columns encode_utf8_all → is_skipped (R.properties rows.now) columns ≡ false
         → IfOk result (λ failure. failure ≡ failure_in form (R.properties rows.now) line columns) }
 {
     match broken_column(rows, form, encoded, sink)? {
@@ -150,10 +150,10 @@ fn failure_in<R: Rows>(
 fn broken_column<R: Rows>(
     rows: &R,
     form: Form,
-    encoded: &Encoded,
+    encoded: &Columns<String>,
     sink: &mut Gathered,
 ) -> Result<Option<u8>, Memory>
-    ensures { (columns : Texts) → bytes_of encoded.now ≡ utf8_of columns → is_skipped (R.properties rows.now) columns ≡ false
+    ensures { (columns : Texts) → each encoded.now string_bytes ≡ each columns encode_utf8_all → is_skipped (R.properties rows.now) columns ≡ false
         → IfOk result (λ column. column ≡ broken_column form (R.properties rows.now) columns) }
 {
     for column in 1..6 {

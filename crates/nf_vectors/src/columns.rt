@@ -1,5 +1,15 @@
 ghost use Rattle.std.specs.Prelude.{◌≤◌};
 
+/// What there is of each of the five columns of a row.
+#[derive(Clone, Copy, Debug, Drop)]
+pub(crate) struct Columns<T> {
+    pub(crate) source: T,
+    pub(crate) nfc: T,
+    pub(crate) nfd: T,
+    pub(crate) nfkc: T,
+    pub(crate) nfkd: T,
+}
+
 /// Where the five columns of a row stand in the text of a suite, in code points: each behind the one before it.
 #[derive(Clone, Copy, Debug)]
 pub(crate) struct Ends {

@@ -1,39 +1,19 @@
 //! The columns of one row: their code points, and their UTF-8.
 ghost use Rattle.std.specs.Prelude.{◌≡◌, ◌≤◌, ◌<◌, ◌^◌, length, slice_range, encode_utf8_all, string_bytes, OnOk};
 
-use crate::columns::Ends;
+use crate::columns::{Columns, Ends};
 use nf_row::Form;
 use std::alloc::{AllocError, Global};
 
-/// The code points of the columns.
-#[derive(Clone, Copy, Debug)]
-pub(crate) struct Columns<'a> {
-    pub(crate) source: &'a [char],
-    pub(crate) nfc: &'a [char],
-    pub(crate) nfd: &'a [char],
-    pub(crate) nfkc: &'a [char],
-    pub(crate) nfkd: &'a [char],
-}
-
-/// Their UTF-8, in buffers that serve one row after the other.
-#[derive(Debug, Drop)]
-pub(crate) struct Encoded {
-    source: String,
-    nfc: String,
-    nfd: String,
-    nfkc: String,
-    nfkd: String,
-}
-
-impl<'a> Columns<'a> {
+impl<'a> Columns<&'a [char]> {
     ghost use Rattle.nf_vectors.specs.Held.{columns_at as columns_in};
-    ghost use Rattle.nf_vectors.specs.Views.{columns_of, AreShort};
+    ghost use Rattle.nf_vectors.specs.Columns.{each, AreShort};
 
     /// Those that stand in `text`.
-    pub(crate) fn of(text: &'a [char], ends: Ends) -> Columns<'a>
+    pub(crate) fn of(text: &'a [char], ends: Ends) -> Columns<&'a [char]>
         requires { ends.nfkd ≤ length text.now }
-        ensures columns { columns_of result ≡ columns_in text.now ends }
-        ensures short { AreShort (columns_of result) }
+        ensures columns { each result (λ column. column.now) ≡ columns_in text.now ends }
+        ensures short { AreShort (each result (λ column. column.now)) }
     {
         Columns {
             source: &text[ends.start as usize..ends.source as usize],
@@ -45,14 +25,15 @@ impl<'a> Columns<'a> {
     }
 }
 
-impl Encoded {
+impl Columns<String> {
     ghost use Rattle.std.specs.Prelude.{IsOk};
     ghost use Rattle.nf_forms.specs.declared.form.Form.{Form};
     ghost use Rattle.nf_vectors.specs.Comparison.{column_at, expected_at};
-    ghost use Rattle.nf_vectors.specs.Views.{columns_of, bytes_of, utf8_of};
+    ghost use Rattle.nf_vectors.specs.Columns.{each};
 
-    pub(crate) fn new(alloc: Global) -> Encoded {
-        Encoded {
+    /// Buffers that serve one row after the other.
+    pub(crate) fn new(alloc: Global) -> Columns<String> {
+        Columns {
             source: String::new(alloc),
             nfc: String::new(alloc),
             nfd: String::new(alloc),
@@ -62,8 +43,8 @@ impl Encoded {
     }
 
     /// Encodes the columns of a row in the place of those before.
-    pub(crate) fn encode(&mut self, columns: Columns<'_>) -> Result<(), AllocError>
-        ensures { OnOk result (bytes_of self.new ≡ utf8_of (columns_of columns.entry)) }
+    pub(crate) fn encode(&mut self, columns: Columns<&[char]>) -> Result<(), AllocError>
+        ensures { OnOk result (each self.new string_bytes ≡ each columns.entry (λ column. encode_utf8_all column.now)) }
     {
         encode(columns.source, &mut self.source)?;
         encode(columns.nfc, &mut self.nfc)?;
@@ -74,7 +55,7 @@ impl Encoded {
 
     /// A column by its number, 1 to 5.
     pub(crate) fn column(&self, column: u8) -> &str
-        ensures column { result.now ≡ column_at (bytes_of self.now) column }
+        ensures column { result.now ≡ column_at (each self.now string_bytes) column }
         ensures short { length result.now < 2 ^ 63 }
     {
         let text = match column {
@@ -89,7 +70,7 @@ impl Encoded {
 
     /// What the form must give of that column.
     pub(crate) fn expected(&self, form: Form, column: u8) -> &str
-        ensures { result.now ≡ expected_at form (bytes_of self.now) column }
+        ensures { result.now ≡ expected_at form (each self.now string_bytes) column }
     {
         let text = match form {
             Form::Nfc if column <= 3 => &self.nfc,

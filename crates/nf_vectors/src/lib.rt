@@ -15,8 +15,6 @@ mod scan;
 mod short;
 mod suite;
 mod sweep;
-#[cfg(test)]
-mod tests;
 mod word;
 
 pub use fault::{Memory, VectorFault, VectorKind};

@@ -6,7 +6,7 @@ ghost use Rattle.nf_vectors.specs.Words.{column_in};
 ghost use Rattle.nf_vectors.specs.Line.{is_blank};
 ghost use Rattle.nf_vectors.specs.Held.{Holds, HoldsRow, HoldsColumn, Grows};
 
-use crate::columns::Ends;
+use crate::columns::{Columns, Ends};
 use crate::fault::VectorKind;
 use crate::scan::{before_gap, content, cut, is_blank, is_gap};
 use crate::word::code_point;
@@ -17,16 +17,6 @@ pub(crate) enum Line {
     Nothing,
     Part { is_part1: bool },
     Row(Ends),
-}
-
-/// The pieces of a row.
-#[derive(Clone, Copy)]
-struct Pieces<'a> {
-    source: &'a [u8],
-    nfc: &'a [u8],
-    nfd: &'a [u8],
-    nfkc: &'a [u8],
-    nfkd: &'a [u8],
 }
 
 /// Judges a line without its end. The code points of a row go behind `text`.
@@ -80,7 +70,7 @@ fn row(line: &[u8], text: &mut Vec<char>) -> Result<Ends, VectorKind>
 }
 
 /// Cuts a row at each `;`, and looks whether there are five pieces, or a sixth of blanks alone.
-fn pieces_of(line: &[u8]) -> Option<Pieces<'_>>
+fn pieces_of(line: &[u8]) -> Option<Columns<&[u8]>>
     ensures pieces { MatchOption result (row_in line.now ≡ Err VectorKind.Fields)
         (λ p. row_in line.now ≡ columns_of p.source.now p.nfc.now p.nfd.now p.nfkc.now p.nfkd.now) }
     ensures len { MatchOption result (0 ≤ length line.now)
@@ -107,7 +97,7 @@ fn pieces_of(line: &[u8]) -> Option<Pieces<'_>>
             nfkd
         }
     };
-    Some(Pieces {
+    Some(Columns {
         source,
         nfc,
         nfd,

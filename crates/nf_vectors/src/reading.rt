@@ -28,7 +28,7 @@ pub(crate) struct Reading {
 }
 
 impl Reading {
-    ghost use Rattle.std.specs.Prelude.{◌<◌, ◌+◌, ◌++◌, ◌↔◌, ◌^◌, ℕ, List, [], ◌∷◌, OnOk, IsErr, IfErr, Option, false, vec_len};
+    ghost use Rattle.std.specs.Prelude.{◌<◌, ◌+◌, ◌++◌, ◌↔◌, ◌^◌, ℕ, List, [], ◌∷◌, OnOk, IsErr, IfErr, Option, true, false, vec_len};
     ghost use Rattle.nf_vectors.specs.declared.fault.VectorKind.{VectorKind};
     ghost use Rattle.nf_vectors.specs.declared.fault.VectorFault.{VectorFault};
     ghost use Rattle.nf_vectors.specs.Suite.{fault_or, first_fault};
@@ -37,6 +37,8 @@ impl Reading {
     ghost use Rattle.nf_vectors.specs.Within.{AreWithin};
     ghost use Rattle.nf_vectors.specs.Line.{lines_of};
     ghost use Rattle.nf_vectors.specs.Standing.{StandsAfter, IsWithin, EndsLine};
+    ghost use Rattle.nf_vectors.specs.Limits.{block};
+    ghost use Rattle.nf_vectors.specs.RunsOut.{RunsOut};
     ghost use Rattle.nf_vectors.specs.ReadsSuite.{Tells, Finds};
 
     pub(crate) fn new(alloc: Global) -> Reading
@@ -73,6 +75,8 @@ impl Reading {
         ensures stands { (bytes : List ℕ) → StandsAfter self.old bytes → OnOk result (StandsAfter self.new (bytes ++ piece.now)) }
         ensures finds { (bytes : List ℕ) → StandsAfter self.old bytes
             → IfErr result (λ fault. ¬ (fault.kind ≡ VectorKind.Memory) → Finds (bytes ++ piece.now) fault) }
+        ensures memory { (bytes : List ℕ) → StandsAfter self.old bytes → length piece.now ≤ block
+            → IfErr result (λ fault. fault.kind ≡ VectorKind.Memory → RunsOut (bytes ++ piece.now) false fault) }
     {
         for byte in piece {
             if let Err(kind) = self.take_byte(*byte) {
@@ -168,6 +172,7 @@ impl Reading {
         requires { IsWithin self }
         ensures unread { IfErr result (λ fault. ¬ (fault.kind ≡ VectorKind.Read)) }
         ensures tells { (bytes : List ℕ) → StandsAfter self bytes → Tells bytes false result }
+        ensures memory { (bytes : List ℕ) → StandsAfter self bytes → IfErr result (λ fault. fault.kind ≡ VectorKind.Memory → RunsOut bytes true fault) }
     {
         let mut reading = self;
         if let Err(kind) = reading.end_line() {

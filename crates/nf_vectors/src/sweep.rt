@@ -2,8 +2,8 @@ ghost use Rattle.std.specs.Prelude.{IsTrue, ◌≡◌, ◌<◌, ℕ, IfOk, false
 ghost use Rattle.nf_vectors.specs.Sweep.{is_listed, is_unchanged};
 ghost use Rattle.nf_vectors.specs.Plain.{IsPlain};
 
+use crate::columns::Columns;
 use crate::comparison::is_kept;
-use crate::encoded::Columns;
 use crate::fault::Memory;
 use crate::suite::Suite;
 use nf_row::{Form, Rows, sound_compat};
@@ -70,7 +70,7 @@ impl Suite {
     {
         let mut listed = none_of(alloc, CODES)?;
         for entry in self.entries.as_slice() {
-            let columns = Columns::of(self.text.as_slice(), entry.columns);
+            let columns = Columns::<&[char]>::of(self.text.as_slice(), entry.columns);
             if entry.in_part1 && columns.source.len() == 1 {
                 listed[columns.source[0] as usize] = true;
             }
@@ -100,6 +100,7 @@ fn is_unchanged<R: Rows>(rows: &R, c: char) -> bool
     let nfd = is_kept(rows, Form::Nfd, text);
     let nfkc = is_kept(rows, Form::Nfkc, text);
     let nfkd = is_kept(rows, Form::Nfkd, text);
+    // All four are known by now: `&`, since each `&&` would be a case of its own to prove.
     nfc & nfd & nfkc & nfkd
 }
 

@@ -1,7 +1,7 @@
 use Rattle.std.proofs.Common.{◌∙◌, Some, None, sym, ap}
 use Rattle.nf_vectors.specs.Comparison.{is_skipped}
 use Rattle.nf_vectors.specs.Report.{failure_of}
-use Rattle.nf_vectors.specs.Views.{columns_of}
+use Rattle.nf_vectors.specs.Columns.{each}
 use Rattle.nf_vectors.proofs.TableLemmas.{verdict-skipped, verdict-checked}
 use Rattle.nf_vectors.proofs.check.verdict.Goals as goal
 
@@ -13,7 +13,7 @@ returns-then-is_skipped g c = λ row line same.
 pub returns-in-None : goal.returns-in-None
 returns-in-None g c = λ row line same.
     let p = g.R.Rows.properties c.args.rows.now in
-    let columns = columns_of c.args.columns in
+    let columns = each c.args.columns (λ column. column.now) in
     let stays = sym c.is_skipped.ensures ∙ c.if-is_skipped.false in
     let failure = c.in_ok-failure.ensures columns c.in-Ok.ensures stays ∙ ap (λ n. failure_of p n columns) (sym line) ∙ ap (failure_of p row.line) (sym same) in
     verdict-checked p row None (ap (is_skipped p) same ∙ stays) (sym c.in-None.is ∙ failure)
@@ -21,7 +21,7 @@ returns-in-None g c = λ row line same.
 pub returns-in-Some : goal.returns-in-Some
 returns-in-Some g c = λ row line same.
     let p = g.R.Rows.properties c.args.rows.now in
-    let columns = columns_of c.args.columns in
+    let columns = each c.args.columns (λ column. column.now) in
     let stays = sym c.is_skipped.ensures ∙ c.if-is_skipped.false in
     let failure = c.in_ok-failure.ensures columns c.in-Ok.ensures stays ∙ ap (λ n. failure_of p n columns) (sym line) ∙ ap (failure_of p row.line) (sym same) in
     verdict-checked p row (Some c.in-Some.failure) (ap (is_skipped p) same ∙ stays) (sym c.in-Some.is ∙ failure)

@@ -1,7 +1,7 @@
-use Rattle.std.proofs.Common.{◌∙◌, Some, length, ◌≤◌, refl, sym, ap, arith}
+use Rattle.std.proofs.Common.{◌∙◌, Some, [], true, length, ◌≤◌, refl, sym, ap, arith, append-nil}
 use Rattle.nf_vectors.specs.SuiteView.{rows_of}
-use Rattle.nf_vectors.specs.ReadsSuite.{limit}
-use Rattle.nf_vectors.proofs.EndingLemmas.{limit-is, last_bad, last_fine, all_rows, all_parts}
+use Rattle.nf_vectors.specs.Limits.{limit}
+use Rattle.nf_vectors.proofs.EndingLemmas.{limit-is, last_bad, last_fine, all_rows, all_parts, runs_out}
 use Rattle.nf_vectors.proofs.reading.Reading.finish.Goals as goal
 
 pub returns-in-Err-clause-tells : goal.returns-in-Err-clause-tells
@@ -18,3 +18,9 @@ returns-clause-tells c = λ bytes stands.
       all_rows c.args.self bytes stands few c.end_line.new.self c.in_default.ensures.ends,
       all_parts c.args.self bytes stands few c.end_line.new.self c.in_default.ensures.ends,
     )
+
+pub returns-in-Err-clause-memory : goal.returns-in-Err-clause-memory
+returns-in-Err-clause-memory c = λ bytes stands memory.
+    let here = c.fault.ensures ∙ ap (λ n. record { line = n; kind = c.in-Err.kind }) (c.in-Err.ensures.line refl) in
+    runs_out c.args.self bytes stands (omega (arith, stands.taken, c.requires.taken, limit-is)) [] bytes (omega arith) (sym (append-nil bytes)) true (λ _. refl) c.fault.result
+    (here ∙ ap (λ k. record { line = c.args.self.line; kind = k }) (sym (ap (λ f. f.kind) here))) memory

@@ -1,10 +1,14 @@
-use Rattle.std.proofs.Common.{◌≡◌, ◌∙◌, ◌++◌, ◌≤◌, length, true, [], take, Some, sym, ap, subst, arith, append-nil}
-use Rattle.std.specs.Prelude.{Bool}
+use Rattle.std.proofs.Common.{◌≡◌, ◌∙◌, ◌++◌, ◌≤◌, length, true, false, [], take, Some, sym, ap, subst, arith, append-nil}
+use Rattle.std.specs.Prelude.{Bool, IfErr}
 use Rattle.std.specs.Io.KnownBytes.{Consumes}
-use Rattle.std.proofs.lemmas.Bool.{eq-eqb, false≢true}
-use Rattle.nf_vectors.specs.ReadsSuite.{limit, stop_of, lines_within, Tells}
+use Rattle.std.proofs.lemmas.List.{length-take-le}
+use Rattle.std.proofs.lemmas.Bool.{eq-eqb, ne_eqb, false≢true}
+use Rattle.nf_vectors.specs.Limits.{limit, block}
+use Rattle.nf_vectors.specs.ReadsSuite.{stop_of, lines_within, Tells}
+use Rattle.nf_vectors.specs.RunsOut.{RunsOut}
+use Rattle.nf_vectors.specs.declared.fault.VectorKind.TheVariants.{Memory}
 use Rattle.nf_vectors.specs.Suite.{first_fault}
-use Rattle.nf_vectors.proofs.EndingLemmas.{limit-is, on_ok, read_failed, Tells-found}
+use Rattle.nf_vectors.proofs.EndingLemmas.{limit-is, block-is, on_ok, read_failed, Tells-found}
 use Rattle.std.proofs.KnownBytes.{Consumes-kept, Consumes-trans}
 use Rattle.nf_vectors.proofs.suite.Suite.read.Goals as goal
 
@@ -16,6 +20,7 @@ returns-in-Err-clause-reads g c =
     record {
       bytes = read.0;
       given = Consumes-kept _ _ _ read.0 read.1 c.in-Err.ensures.kept;
+      memory = λ memory. let e = sym (ap (λ f. f.kind) c.fault.ensures) ∙ memory in cc;
       tells = λ _. ap (λ b. first_fault 1 (stop_of read.0 b) (lines_within read.0)) (sym failed) ∙ read_failed c.loop-given.reading read.0 read.2 few ∙ ap Some (sym c.fault.ensures);
       end = tt;
       before_end = λ _ unfailed. absurd (false≢true (sym unfailed ∙ sym failed));
@@ -26,9 +31,12 @@ returns-in-Err-take-clause-reads g c =
     let read = c.loop-given.invariant.read in
     let piece = take c.in-Ok.given c.get.new.buf in
     let finds = c.in-Err-take.ensures.finds read.0 read.2 in
+    let unended : g.I.Source.is_at_end c.get.new.self ≡ false = c.in-Ok.ensures.end ∙ ne_eqb c.in-Ok.given 0 c.if-given-eq0.false in
+    let short : length piece ≤ block = omega (arith, block-is, length-take-le c.in-Ok.given c.get.new.buf c.in-Ok.ensures.count, c.in-Ok.ensures.count, c.loop-given.invariant.room, c.get.auto.buf) in
     record {
       bytes = read.0 ++ piece;
       given = Consumes-trans _ _ _ read.0 piece read.1 c.in-Ok.ensures.given;
+      memory = λ memory. subst (λ (b : Bool). RunsOut (read.0 ++ piece) b c.in-Err-take.fault) (sym unended) (c.in-Err-take.ensures.memory read.0 read.2 short memory);
       tells = λ sound. Tells-found (read.0 ++ piece) (g.I.Source.is_failed c.get.new.self) c.in-Err-take.fault (finds sound);
       end = tt;
       before_end = λ _ _ few sound stop. finds sound stop (λ past. absurd (omega (arith, past, few)));
@@ -43,6 +51,7 @@ returns-then-given-eq0-clause-reads g c =
       given = subst (λ l. Consumes (g.I.Source.coming c.args.source.now) (g.I.Source.coming c.get.new.self) l) (append-nil read.0)
           (Consumes-trans _ _ _ read.0 [] read.1 (subst (λ n. Consumes (g.I.Source.coming c.loop-given.source) (g.I.Source.coming c.get.new.self) (take n c.get.new.buf)) c.if-given-eq0.true c.in-Ok.ensures.given));
       tells = subst (λ (b : Bool). Tells read.0 b c.finish.result) (sym c.in-Ok.ensures.stands.1) (c.finish.ensures.tells read.0 read.2);
+      memory = subst (λ (b : Bool). IfErr c.finish.result (λ fault. fault.kind ≡ Memory → RunsOut read.0 b fault)) (sym end) (c.finish.ensures.memory read.0 read.2);
       end = on_ok c.finish.result (λ _. end);
       before_end = λ unended. absurd (false≢true (sym unended ∙ end));
     }

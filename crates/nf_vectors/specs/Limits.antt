@@ -1,0 +1,10 @@
+-- How much of a vector file is read, in bytes.
+use Rattle.std.specs.Prelude.{ℕ}
+
+-- the most that it may have
+unfoldable pub limit : ℕ
+limit = 67108864
+
+-- the most that is asked of the source at once
+unfoldable pub block : ℕ
+block = 4096

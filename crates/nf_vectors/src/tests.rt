@@ -1,2 +1,0 @@
-mod comparisons;
-mod files;
