@@ -1,6 +1,6 @@
 -- What a check decides, character by character.
 use Rattle.std.proofs.Common.{◌≡◌, ℕ, suc, ◌+◌, Bool, true, false, ◌&&◌, cond, List, [], ◌∷◌, ◌++◌, length, take, Some, None, Ok, Err, refl, sym, ap, ◌∙◌, arith, append_assoc, append-nil}
-use Rattle.std.specs.Prelude.{if◌then◌else◌, Option, option_map, encode_utf8_all}
+use Rattle.std.specs.Prelude.{if◌then◌else◌, Option, Result, option_map, encode_utf8_all}
 use Rattle.std.specs.List.{list_all, prefix_len}
 use Rattle.std.proofs.lemmas.Bool.{and_parts, and_from}
 use Rattle.std.proofs.lemmas.List.Folds.{list_all-append}
@@ -9,12 +9,19 @@ use Rattle.nf_forms.specs.Sound.{is_sound}
 use Rattle.nf_forms.specs.Laws.Last.{by_last}
 use Rattle.nf_utf8.specs.Reading.{text_of, ending_of}
 use Rattle.nf_safe.specs.declared.place.Place.{Place}
+use Rattle.nf_safe.specs.declared.checker.Checker.{Checker}
 use Rattle.nf_safe.specs.Place.{place_from}
 use Rattle.nf_safe.specs.Laws.Place.{place_from-stays}
-use Rattle.nf_filter.specs.declared.fault.Fault.TheVariants.{Row}
+use Rattle.nf_filter.specs.declared.fault.Fault.{Fault}
+use Rattle.nf_filter.specs.declared.fault.Fault.TheVariants.{Row, Write}
+use Rattle.nf_filter.specs.declared.taker.Stop.{Stop}
+use Rattle.nf_filter.specs.declared.taker.Stop.TheVariants.{Refused, Found}
+use Rattle.nf_filter.specs.Devices.{SinkState}
 use Rattle.nf_filter.specs.Faults.{bad_byte}
-use Rattle.nf_filter.specs.Checks.{sound_front, check_fault, place_or_fault, check_decision}
-use Rattle.nf_filter.proofs.SurveysLemmas.{IsQuiet}
+use Rattle.nf_filter.specs.Taker.{stop_or, stop_in, StopsQuietly, TakesText}
+use Rattle.nf_filter.specs.Checks.{sound_front, check_fault, place_or_fault, check_decision, place_or_row, check_stop, HasChecked, Sees}
+use Rattle.nf_filter.proofs.WritesLemmas.{Puts-none}
+use Rattle.nf_filter.proofs.SurveysLemmas.{told}
 
 module _ (p : Properties) where
   one_more : (n c : ℕ) (x : List ℕ) → take (1 + n) (c ∷ x) ≡ c ∷ take n x
@@ -48,35 +55,53 @@ module _ (p : Properties) where
       never false = refl
 
   module _ (base : ℕ) where
-    fault_if : (b : Bool) (bytes : List ℕ) → list_all (is_sound p) (text_of bytes) ≡ b
-        → check_fault p base bytes ≡ (if b then bad_byte base (ending_of bytes) else Some (Row (base + length (encode_utf8_all (sound_front p (text_of bytes))))))
-    unfolding check_fault
-    fault_if b bytes is = ap (λ b. if b then bad_byte base (ending_of bytes) else Some (Row (base + length (encode_utf8_all (sound_front p (text_of bytes)))))) is
-
-    decision_at : (bytes x y : List ℕ) (o : Option Place) → text_of bytes ≡ x → sound_front p x ≡ y → place_from base p y ≡ o
-        → check_decision p base bytes ≡ place_or_fault o (check_fault p base bytes)
-    unfolding check_decision
-    decision_at bytes x y o text front at =
-        ap (λ x. place_or_fault (place_from base p (sound_front p x)) (check_fault p base bytes)) text
-        ∙ ap (λ y. place_or_fault (place_from base p y) (check_fault p base bytes)) front ∙ ap (λ o. place_or_fault o (check_fault p base bytes)) at
+    stop_at : (x y : List ℕ) (o : Option Place) (b : Bool) → sound_front p x ≡ y → place_from base p y ≡ o → list_all (is_sound p) x ≡ b
+        → check_stop p base x ≡ place_or_row o b (Row (base + length (encode_utf8_all y)))
+    unfolding check_stop
+    stop_at x y o b front at all =
+        ap (λ z. place_or_row (place_from base p z) (list_all (is_sound p) x) (Row (base + length (encode_utf8_all z)))) front
+        ∙ ap (λ o. place_or_row o (list_all (is_sound p) x) (Row (base + length (encode_utf8_all y)))) at
+        ∙ ap (λ b. place_or_row o b (Row (base + length (encode_utf8_all y)))) all
 
     -- a place stays
     place_stays : (x z : List ℕ) (at : Place) → place_from base p x ≡ Some at → place_from base p (x ++ z) ≡ Some at
     place_stays x z at found = by_last (λ z. place_from base p (x ++ z) ≡ Some at) (ap (place_from base p) (append-nil x) ∙ found)
         (λ z c before. ap (place_from base p) (sym (append_assoc x z (c ∷ []))) ∙ place_from-stays p base (x ++ z) c at before) z
 
-    pub quiet : (x : List ℕ) → list_all (is_sound p) x ≡ true → place_from base p x ≡ None → IsQuiet base (check_decision p base) x
-    quiet x all none bytes text =
-        decision_at bytes x x None text (sound_front-all x all) none ∙ ap (option_map Err) (fault_if true bytes (ap (list_all (is_sound p)) text ∙ all))
+    pub stop_none : (x : List ℕ) → list_all (is_sound p) x ≡ true → place_from base p x ≡ None → check_stop p base x ≡ None
+    stop_none x all none = stop_at x x None true (sound_front-all x all) none all
 
-    pub decided_place : (x : List ℕ) (at : Place) → list_all (is_sound p) x ≡ true → place_from base p x ≡ Some at
-        → (bytes y : List ℕ) → text_of bytes ≡ x ++ y → check_decision p base bytes ≡ Some (Ok (Some at))
-    decided_place x at all found bytes y text =
-        decision_at bytes (x ++ y) (x ++ sound_front p y) (Some at) text (sound_front-append x y all) (place_stays x (sound_front p y) at found)
+    pub stop_place : (x y : List ℕ) (at : Place) → list_all (is_sound p) x ≡ true → place_from base p x ≡ Some at → check_stop p base (x ++ y) ≡ Some (Found at)
+    stop_place x y at all found = stop_at (x ++ y) (x ++ sound_front p y) (Some at) (list_all (is_sound p) (x ++ y)) (sound_front-append x y all) (place_stays x (sound_front p y) at found) refl
 
-    pub decided_row : (x : List ℕ) (c : ℕ) → list_all (is_sound p) x ≡ true → place_from base p x ≡ None → is_sound p c ≡ false
-        → (bytes y : List ℕ) → text_of bytes ≡ (x ++ c ∷ []) ++ y → check_decision p base bytes ≡ Some (Err (Row (base + length (encode_utf8_all x))))
-    decided_row x c all none unsound bytes y text =
-        let front = sound_front-stop x c y all unsound in
-        decision_at bytes ((x ++ c ∷ []) ++ y) x None text front none
-        ∙ ap (option_map Err) (fault_if false bytes (ap (list_all (is_sound p)) text ∙ not_all x c y unsound) ∙ ap (λ z. Some (Row (base + length (encode_utf8_all z)))) (ap (sound_front p) text ∙ front))
+    pub stop_row : (x : List ℕ) (c : ℕ) (y : List ℕ) → list_all (is_sound p) x ≡ true → place_from base p x ≡ None → is_sound p c ≡ false
+        → check_stop p base ((x ++ c ∷ []) ++ y) ≡ Some (Refused (Row (base + length (encode_utf8_all x))))
+    stop_row x c y all none unsound = stop_at ((x ++ c ∷ []) ++ y) x None false (sound_front-stop x c y all unsound) none (not_all x c y unsound)
+
+    -- what the bytes decide is what stops a checker in them
+    pub decides : (bytes : List ℕ) → check_decision p base bytes ≡ option_map (told Some) (stop_in (check_stop p base) base bytes)
+    unfolding check_decision check_fault check_stop
+    decides bytes = next (place_from base p (sound_front p (text_of bytes))) (list_all (is_sound p) (text_of bytes)) (bad_byte base (ending_of bytes)) _
+      where
+        next : (o : Option Place) (b : Bool) (bad : Option Fault) (row : Fault)
+            → place_or_fault o (if b then bad else Some row) ≡ option_map (told Some) (stop_or (place_or_row o b row) bad)
+        next (Some at) b bad row = refl
+        next None true None row = refl
+        next None true (Some fault) row = refl
+        next None false bad row = refl
+
+  -- a taker that writes nothing
+  pub TakesText-seen : (checker : Checker) (base : ℕ) (x y : List ℕ) (sink : SinkState) (r : Result (Unit {0}) Stop) → (place : (z : List ℕ) → HasChecked p checker base z → place_from base p z ≡ None)
+      → ((stop : Stop) → r ≡ Err stop → StopsQuietly true stop) → Sees p checker base (x ++ y) r → TakesText (HasChecked p checker base) (check_stop p base) (λ _. []) x y sink sink r
+  TakesText-seen checker base x y sink (Ok u) place quiet sees = record {
+    broken = λ e. cc;
+    puts = λ _. Puts-none sink [];
+    stop = λ _. sym (stop_none base (x ++ y) sees.sound (place (x ++ y) sees));
+    taken = sees;
+  }
+  TakesText-seen checker base x y sink (Err stop) place quiet sees = record {
+    broken = λ e. let same : stop ≡ Refused Write = cc in absurd (rw same at (quiet stop refl));
+    puts = λ _. Puts-none sink [];
+    stop = λ _. sym sees;
+    taken = tt;
+  }

@@ -1,20 +1,44 @@
 -- What a measurement decides, character by character.
-use Rattle.std.proofs.Common.{◌≡◌, ℕ, ◌+◌, Bool, true, false, not, ◌&&◌, ◌||◌, List, [], ◌∷◌, ◌++◌, length, Some, None, Err, refl, ap, ◌∙◌}
-use Rattle.std.specs.Prelude.{if◌then◌else◌, Option, option_map, encode_utf8_all}
+use Rattle.std.proofs.Common.{◌≡◌, ℕ, ◌+◌, Bool, true, false, not, ◌&&◌, ◌||◌, List, [], ◌∷◌, ◌++◌, length, Some, None, Ok, Err, refl, sym, ap, ◌∙◌}
+use Rattle.std.specs.Result.{result_err}
+use Rattle.std.specs.Prelude.{if◌then◌else◌, is_ok, is_err, OnOk, Option, Result, option_map, encode_utf8_all}
 use Rattle.nf_forms.specs.Properties.{Properties}
 use Rattle.nf_forms.specs.StreamSafe.{joiner, is_too_long, stream_safe}
 use Rattle.nf_forms.specs.Sound.{is_sound}
 use Rattle.nf_forms.specs.Laws.Sound.{IsSoundText}
 use Rattle.nf_row.specs.declared.unsound.Unsound.{Unsound}
-use Rattle.nf_utf8.specs.Reading.{text_of, ending_of}
+use Rattle.nf_safe.specs.declared.measurer.Measurer.{Measurer}
+use Rattle.nf_safe.specs.declared.place.Place.{Place}
 use Rattle.nf_safe.specs.Measurer.{refusal, unsound_at}
-use Rattle.nf_filter.specs.declared.fault.Fault.TheVariants.{Row}
-use Rattle.nf_filter.specs.Settled.{is_usable, usable}
-use Rattle.nf_filter.specs.Faults.{bad_byte, fault_in}
-use Rattle.nf_filter.specs.Measures.{measure_decision}
-use Rattle.nf_filter.proofs.SettledLemmas.{is_usable-push, is_usable-stays_out, usable-stop}
-use Rattle.nf_filter.proofs.ReadingLemmas.{fault_in-usable}
-use Rattle.nf_filter.proofs.SurveysLemmas.{IsQuiet}
+use Rattle.nf_filter.specs.declared.fault.Fault.{Fault}
+use Rattle.nf_filter.specs.declared.fault.Fault.TheVariants.{Row, Write}
+use Rattle.nf_filter.specs.declared.taker.Stop.{Stop}
+use Rattle.nf_filter.specs.declared.taker.Stop.TheVariants.{Refused}
+use Rattle.nf_filter.specs.Devices.{SinkState}
+use Rattle.nf_filter.specs.Settled.{is_usable}
+use Rattle.nf_filter.specs.Faults.{fault_in}
+use Rattle.nf_filter.specs.Normalizer.{unusable_at}
+use Rattle.nf_filter.specs.Taker.{stop_in, StopsQuietly, TakesText}
+use Rattle.nf_filter.specs.Measures.{measure_decision, HasMeasured, SeesText}
+use Rattle.nf_filter.proofs.WritesLemmas.{Puts-none}
+use Rattle.nf_filter.proofs.SettledLemmas.{is_usable-push}
+use Rattle.nf_filter.proofs.TextLemmas.{unusable_at-usable, unusable_at-stop}
+use Rattle.nf_filter.proofs.FilterLemmas.{stop_in-fault}
+use Rattle.nf_filter.proofs.SurveysLemmas.{told}
+
+abbrev pub refused : {T : Type 0} → Fault → Result T Fault
+refused fault = Err fault
+
+abbrev Seen : Type 0
+Seen = Result (Unit {0}) Unsound
+
+pub not_err : (r : Seen) → is_err r ≡ false → is_ok r ≡ true
+not_err (Ok u) e = refl
+not_err (Err refused) e = cc
+
+pub went_on_so : {A : Type 0} (r : Seen) → is_ok r ≡ true → OnOk r A → A
+went_on_so (Ok u) e so = so
+went_on_so (Err refused) e so = cc
 
 module _ (p : Properties) where
   -- what a measurer has seen can be used
@@ -41,14 +65,36 @@ module _ (p : Properties) where
   refused_is None e is = cc
   refused_is (Some d) e is = (d, refl)
 
-  module _ (base : ℕ) where
-    pub quiet : (x : List ℕ) → is_usable p x ≡ true → IsQuiet base (measure_decision p base) x
-    quiet x whole bytes text = ap (option_map Err) (fault_in-usable p base bytes (ap (is_usable p) text ∙ whole))
+  -- a character that is refused behind x
+  pub stops_at : (base at : ℕ) (x : List ℕ) (c d : ℕ) (y : List ℕ) → IsSoundText p (stream_safe p x) → at ≡ base + length (encode_utf8_all x) → unsound_at p x c ≡ Some d
+      → unusable_at p base ((x ++ c ∷ []) ++ y) ≡ Some (Refused (Row at))
+  stops_at base at x c d y sound here refused = unusable_at-stop p base x c y (usable_is x sound) (unusable x c d refused) ∙ ap (λ n. Some (Refused (Row n))) (sym here)
 
-    pub decided_row : (x : List ℕ) (c : ℕ) → is_usable p x ≡ true → is_usable p (x ++ c ∷ []) ≡ false
-        → (bytes y : List ℕ) → text_of bytes ≡ (x ++ c ∷ []) ++ y → measure_decision p base bytes ≡ Some (Err (Row (base + length (encode_utf8_all x))))
-    unfolding fault_in
-    decided_row x c whole out bytes y text =
-        ap (λ b. option_map Err (if b then bad_byte base (ending_of bytes) else Some (Row (base + length (encode_utf8_all (usable p (text_of bytes)))))))
-        (ap (is_usable p) text ∙ is_usable-stays_out p (x ++ c ∷ []) y out)
-        ∙ ap (λ z. Some (Err (Row (base + length (encode_utf8_all z))))) (ap (usable p) text ∙ usable-stop p x c y whole out)
+  pub refusal_at : (base at : ℕ) (x : List ℕ) (c : ℕ) (y : List ℕ) → IsSoundText p (stream_safe p x) → at ≡ base + length (encode_utf8_all x) → (r : Seen) → is_err r ≡ true
+      → result_err r ≡ option_map refusal (unsound_at p x c) → unusable_at p base ((x ++ c ∷ []) ++ y) ≡ Some (Refused (Row at))
+  refusal_at base at x c y sound here (Ok u) refused is = cc
+  refusal_at base at x c y sound here (Err e) refused is = let d = refused_is (unsound_at p x c) e is in stops_at base at x c d.0 y sound here d.1
+
+  -- what the bytes decide is what stops a measurer in them
+  pub decides : {T : Type 0} (of_place : Place → T) (base : ℕ) (bytes : List ℕ) → option_map (refused {T = T}) (fault_in p base bytes) ≡ option_map (told of_place) (stop_in (unusable_at p base) base bytes)
+  decides {T} of_place base bytes = next (fault_in p base bytes) ∙ ap (option_map (told of_place)) (sym (stop_in-fault p base bytes))
+    where
+      next : (o : Option Fault) → option_map (refused {T = T}) o ≡ option_map (told of_place) (option_map Refused o)
+      next None = refl
+      next (Some fault) = refl
+
+  -- a taker that writes nothing
+  pub TakesText-seen : (measurer : Measurer) (base : ℕ) (x y : List ℕ) (sink : SinkState) (r : Result (Unit {0}) Stop) → ((stop : Stop) → r ≡ Err stop → StopsQuietly false stop)
+      → SeesText p measurer base (x ++ y) r → TakesText (HasMeasured p measurer base) (unusable_at p base) (λ _. []) x y sink sink r
+  TakesText-seen measurer base x y sink (Ok u) quiet sees = record {
+    broken = λ e. cc;
+    puts = λ _. Puts-none sink [];
+    stop = λ _. sym (unusable_at-usable p base (x ++ y) (usable_is (x ++ y) sees.sound));
+    taken = sees;
+  }
+  TakesText-seen measurer base x y sink (Err stop) quiet sees = record {
+    broken = λ e. let same : stop ≡ Refused Write = cc in absurd (rw same at (quiet stop refl));
+    puts = λ _. Puts-none sink [];
+    stop = λ _. sym sees;
+    taken = tt;
+  }

@@ -8,14 +8,15 @@ use Rattle.nf_forms.specs.declared.form.Form.{Form}
 use Rattle.nf_forms.specs.Forms.{composes}
 use Rattle.nf_forms.specs.Laws.Runs.{has_starter-append, lead-append, trail-le-length, trail-push}
 use Rattle.nf_forms.specs.Laws.Compose.{front-append}
-use Rattle.nf_filter.specs.Writes.{SinkState, Stops}
-use Rattle.nf_filter.specs.Taken.{run_behind, front_utf8}
-use Rattle.nf_filter.proofs.WritesLemmas.{Stops-longer}
+use Rattle.nf_filter.specs.Devices.{SinkState}
+use Rattle.nf_filter.specs.Writes.{BreaksOff}
+use Rattle.nf_filter.specs.Normalizer.{run_behind, front_utf8}
+use Rattle.nf_filter.proofs.WritesLemmas.{BreaksOff-longer}
 use Rattle.nf_filter.proofs.SettledLemmas.{Extends, Extends-encodes}
 
 -- more is to come behind
-pub Stops-extends : {old new : SinkState} {a b d : List ℕ} → Extends b d → Stops old new a b → Stops old new a d
-Stops-extends {old} {new} {a} {b} {d} more stops = subst (λ l. Stops old new a l) (sym more.text) (Stops-longer more.more stops)
+pub BreaksOff-extends : {old new : SinkState} {a b d : List ℕ} → Extends b d → BreaksOff old new a b → BreaksOff old new a d
+BreaksOff-extends {old} {new} {a} {b} {d} more stops = subst (λ l. BreaksOff old new a l) (sym more.text) (BreaksOff-longer more.more stops)
 
 pub front_utf8-extends : (f : Form) (p : Properties) (w v : List ℕ) → Extends (front_utf8 f p w) (front_utf8 f p (w ++ v))
 front_utf8-extends f p w v =

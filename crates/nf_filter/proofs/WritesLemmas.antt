@@ -3,7 +3,8 @@ use Rattle.std.proofs.Common.{◌≡◌, ℕ, ◌<◌, true, List, [], ◌++◌,
 use Rattle.std.proofs.lemmas.List.{length-append}
 use Rattle.std.specs.Io.KnownBytes.{Appends}
 use Rattle.std.proofs.KnownBytes.{Appends-nil, Appends-trans}
-use Rattle.nf_filter.specs.Writes.{SinkState, Puts, Stops}
+use Rattle.nf_filter.specs.Devices.{SinkState}
+use Rattle.nf_filter.specs.Writes.{Puts, BreaksOff}
 
 pub Puts-none : (state : SinkState) (before : List ℕ) → Puts state state before before
 Puts-none state before = record { out = []; behind = sym (append-nil before); given = Appends-nil state.taken; stands = refl; idle = λ _. refl }
@@ -19,9 +20,9 @@ Puts-more {old} {mid} {new} {before} {after} ys first given stands idle = record
   idle = λ failed. ap (λ l. l ++ ys) (first.idle failed) ∙ idle (first.stands ∙ failed);
 }
 
-pub Stops-more : {old mid new : SinkState} {before after : List ℕ} (ys rest : List ℕ) → Puts old mid before after → Appends mid.taken new.taken ys
-    → new.is_failed ≡ true → 0 < length rest → Stops old new before ((after ++ ys) ++ rest)
-Stops-more {old} {mid} {new} {before} {after} ys rest first given failed more = record {
+pub BreaksOff-more : {old mid new : SinkState} {before after : List ℕ} (ys rest : List ℕ) → Puts old mid before after → Appends mid.taken new.taken ys
+    → new.is_failed ≡ true → 0 < length rest → BreaksOff old new before ((after ++ ys) ++ rest)
+BreaksOff-more {old} {mid} {new} {before} {after} ys rest first given failed more = record {
   out = first.out ++ ys;
   rest = rest;
   behind = ap (λ l. (l ++ ys) ++ rest) first.behind ∙ ap (λ l. l ++ rest) (append_assoc before first.out ys);
@@ -34,13 +35,13 @@ pub Puts-join : {old mid new : SinkState} {a b c : List ℕ} → Puts old mid a 
 Puts-join {old} {mid} {new} {a} {b} {c} first second =
     subst (λ l. Puts old new a l) (sym second.behind) (Puts-more second.out first second.given second.stands second.idle)
 
-pub Stops-join : {old mid new : SinkState} {a b c : List ℕ} → Puts old mid a b → Stops mid new b c → Stops old new a c
-Stops-join {old} {mid} {new} {a} {b} {c} first second =
-    subst (λ l. Stops old new a l) (sym second.behind) (Stops-more second.out second.rest first second.given second.failed second.more)
+pub BreaksOff-join : {old mid new : SinkState} {a b c : List ℕ} → Puts old mid a b → BreaksOff mid new b c → BreaksOff old new a c
+BreaksOff-join {old} {mid} {new} {a} {b} {c} first second =
+    subst (λ l. BreaksOff old new a l) (sym second.behind) (BreaksOff-more second.out second.rest first second.given second.failed second.more)
 
 -- more is to come behind
-pub Stops-longer : {old new : SinkState} {a b : List ℕ} (more : List ℕ) → Stops old new a b → Stops old new a (b ++ more)
-Stops-longer {old} {new} {a} {b} more first = record {
+pub BreaksOff-longer : {old new : SinkState} {a b : List ℕ} (more : List ℕ) → BreaksOff old new a b → BreaksOff old new a (b ++ more)
+BreaksOff-longer {old} {new} {a} {b} more first = record {
   out = first.out;
   rest = first.rest ++ more;
   behind = ap (λ l. l ++ more) first.behind ∙ append_assoc (a ++ first.out) first.rest more;
@@ -54,8 +55,8 @@ pub Puts-behind : {old new : SinkState} {out : List ℕ} (before after : List �
 Puts-behind {old} {new} {out} before after is puts =
     record { out = puts.out; behind = is ∙ ap (λ l. before ++ l) puts.behind; given = puts.given; stands = puts.stands; idle = puts.idle }
 
-pub Stops-behind : {old new : SinkState} {out : List ℕ} (before after : List ℕ) → after ≡ before ++ out → Stops old new [] out → Stops old new before after
-Stops-behind {old} {new} {out} before after is stops = record {
+pub BreaksOff-behind : {old new : SinkState} {out : List ℕ} (before after : List ℕ) → after ≡ before ++ out → BreaksOff old new [] out → BreaksOff old new before after
+BreaksOff-behind {old} {new} {out} before after is stops = record {
   out = stops.out;
   rest = stops.rest;
   behind = is ∙ ap (λ l. before ++ l) stops.behind ∙ sym (append_assoc before stops.out stops.rest);
@@ -69,8 +70,8 @@ pub Puts-at : {old new : SinkState} {a b c d : List ℕ} → a ≡ c → b ≡ d
 Puts-at {old} {new} {a} {b} {c} {d} same_before same_after puts =
     record { out = puts.out; behind = sym same_after ∙ puts.behind ∙ ap (λ l. l ++ puts.out) same_before; given = puts.given; stands = puts.stands; idle = puts.idle }
 
-pub Stops-at : {old new : SinkState} {a b c d : List ℕ} → a ≡ c → b ≡ d → Stops old new a b → Stops old new c d
-Stops-at {old} {new} {a} {b} {c} {d} same_before same_after stops = record {
+pub BreaksOff-at : {old new : SinkState} {a b c d : List ℕ} → a ≡ c → b ≡ d → BreaksOff old new a b → BreaksOff old new c d
+BreaksOff-at {old} {new} {a} {b} {c} {d} same_before same_after stops = record {
   out = stops.out;
   rest = stops.rest;
   behind = sym same_after ∙ stops.behind ∙ ap (λ l. (l ++ stops.out) ++ stops.rest) same_before;

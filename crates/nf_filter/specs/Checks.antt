@@ -1,12 +1,16 @@
 -- Where a text is found not to be in the Stream-Safe Text Format, or cannot be read on (UAX #15, section 13; The Unicode
 -- Standard, section 3.9).
-use Rattle.std.specs.Prelude.{ℕ, ◌+◌, List, length, Option, Some, None, option_map, Result, Ok, Err, if◌then◌else◌, take_while, encode_utf8_all}
+use Rattle.std.specs.Prelude.{◌≡◌, Bool, true, false, ℕ, ◌+◌, List, length, Option, Some, None, option_map, Result, Ok, Err, if◌then◌else◌, take_while, encode_utf8_all}
 use Rattle.std.specs.List.{list_all}
 use Rattle.nf_forms.specs.Properties.{Properties}
 use Rattle.nf_forms.specs.Sound.{is_sound}
 use Rattle.nf_utf8.specs.Reading.{text_of, ending_of}
 use Rattle.nf_safe.specs.declared.place.Place.{Place}
+use Rattle.nf_safe.specs.declared.checker.Checker.{Checker}
 use Rattle.nf_safe.specs.Place.{place_from}
+use Rattle.nf_safe.specs.Checker.{place_of, offset_of, StandsAfter}
+use Rattle.nf_filter.specs.declared.taker.Stop.{Stop}
+use Rattle.nf_filter.specs.declared.taker.Stop.TheVariants.{Refused, Found}
 use Rattle.nf_filter.specs.declared.fault.Fault.{Fault}
 use Rattle.nf_filter.specs.declared.fault.Fault.TheVariants.{Row}
 use Rattle.nf_filter.specs.Faults.{bad_byte}
@@ -31,3 +35,27 @@ check_decision p base bytes = place_or_fault (place_from base p (sound_front p (
 -- a text without a place is stream-safe
 abbrev pub no_place : List ℕ → Option Place
 no_place bytes = None
+
+-- a checker that was made at `base` has seen the characters x, all of them sound, and they are in the format
+pub record HasChecked (p : Properties) (checker : Checker) (base : ℕ) (x : List ℕ) : Type 0 where
+  pub stands : StandsAfter base p checker x
+  pub none : place_of checker ≡ None
+  pub sound : list_all (is_sound p) x ≡ true
+
+-- it has not found a place, and has seen the text up to this offset
+abbrev pub ends_at : Checker → ℕ → Type 0
+ends_at checker at = (place_of checker ≡ None) × (offset_of checker ≡ at)
+
+-- what stops it in a text, the first byte of which has the offset `base`: a place, or else the first unsound character
+abbrev pub place_or_row : Option Place → Bool → Fault → Option Stop
+place_or_row (Some place) all_sound fault = Some (Found place)
+place_or_row None true fault = None
+place_or_row None false fault = Some (Refused fault)
+
+unfoldable pub check_stop : Properties → ℕ → List ℕ → Option Stop
+check_stop p base x = place_or_row (place_from base p (sound_front p x)) (list_all (is_sound p) x) (Row (base + length (encode_utf8_all (sound_front p x))))
+
+-- the text x was seen, or what stops it in that
+abbrev pub Sees : Properties → Checker → ℕ → List ℕ → Result (Unit {0}) Stop → Type 0
+Sees p checker base x (Ok _) = HasChecked p checker base x
+Sees p checker base x (Err stop) = check_stop p base x ≡ Some stop

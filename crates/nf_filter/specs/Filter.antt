@@ -1,10 +1,11 @@
 -- Where a filter stands.
-use Rattle.std.specs.Prelude.{◌≡◌, false, Bool, ℕ, ◌+◌, List, length}
+use Rattle.std.specs.Prelude.{◌≡◌, false, Bool, ℕ, List}
 use Rattle.nf_forms.specs.Properties.{Properties}
 use Rattle.nf_forms.specs.declared.form.Form.{Form}
 use Rattle.nf_filter.specs.declared.filter.Filter.{Filter}
 use Rattle.nf_filter.specs.declared.filter.State.{State}
-use Rattle.nf_filter.specs.Reading.{HasRead}
+use Rattle.nf_filter.specs.Normalizer.{HasTaken, unusable_at}
+use Rattle.nf_filter.specs.Taker.{HasRead}
 
 abbrev pub rows_of : {R : Type 0} → Filter R → R
 rows_of filter = filter.rows.now
@@ -18,7 +19,7 @@ base_of state = state.base
 
 -- the offset of the next byte
 abbrev pub offset_of : State → ℕ
-offset_of state = state.offset
+offset_of state = state.reading.offset
 
 -- an earlier call was refused
 abbrev pub is_spent : State → Bool
@@ -27,5 +28,4 @@ is_spent state = state.spent
 -- it has taken exactly these bytes, and no call was refused but for their length
 pub record StandsAfter (f : Form) (p : Properties) (state : State) (bytes : List ℕ) : Type 0 where
   pub unspent : is_spent state ≡ false
-  pub offset : offset_of state ≡ base_of state + length bytes
-  pub reading : HasRead f p (base_of state) state.reading bytes
+  pub reading : HasRead (HasTaken f p state.normalizer) (unusable_at p (base_of state)) (base_of state) state.reading bytes

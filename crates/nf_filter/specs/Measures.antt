@@ -1,11 +1,15 @@
 -- What is measured of bytes, and where they cannot be measured (UAX #15, section 13; The Unicode Standard, section 3.9).
-use Rattle.std.specs.Prelude.{ℕ, List, Option, option_map, Result, Err}
+use Rattle.std.specs.Prelude.{◌≡◌, ◌≤◌, ℕ, List, Option, Some, option_map, Result, Ok, Err}
 use Rattle.nf_forms.specs.Properties.{Properties}
 use Rattle.nf_utf8.specs.Reading.{text_of}
 use Rattle.nf_safe.specs.declared.measure.Measure.{Measure}
+use Rattle.nf_safe.specs.declared.measurer.Measurer.{Measurer}
+use Rattle.nf_safe.specs.Measurer.{values_of, StandsAfter}
 use Rattle.nf_safe.specs.Measures.{measure_of}
 use Rattle.nf_filter.specs.declared.fault.Fault.{Fault}
+use Rattle.nf_filter.specs.declared.taker.Stop.{Stop}
 use Rattle.nf_filter.specs.Faults.{fault_in}
+use Rattle.nf_filter.specs.Normalizer.{unusable_at}
 
 -- only a fault stops a measurement, the one at which a filter stops
 abbrev pub measure_decision : Properties → ℕ → List ℕ → Option (Result Measure Fault)
@@ -14,3 +18,16 @@ measure_decision p base bytes = option_map Err (fault_in p base bytes)
 -- the measure of the text that the bytes spell
 abbrev pub text_measure : Properties → List ℕ → Measure
 text_measure p bytes = measure_of p (text_of bytes)
+
+-- the measurer has seen the characters x
+abbrev pub HasMeasured : Properties → Measurer → ℕ → List ℕ → Type 0
+HasMeasured p measurer base x = StandsAfter p measurer x
+
+-- and counts fewer bytes than this offset
+abbrev pub ends_at : Measurer → ℕ → Type 0
+ends_at measurer at = (values_of measurer).bytes ≤ at
+
+-- the text x was measured, or what stops it in that
+abbrev pub SeesText : Properties → Measurer → ℕ → List ℕ → Result (Unit {0}) Stop → Type 0
+SeesText p measurer base x (Ok _) = HasMeasured p measurer base x
+SeesText p measurer base x (Err stop) = unusable_at p base x ≡ Some stop

@@ -1,6 +1,6 @@
 -- What of the form of the stream-safe text can change no more, and what of a text a filter may use (UAX #15, sections 9
 -- and 13).
-use Rattle.std.specs.Prelude.{ℕ, Bool, List, take}
+use Rattle.std.specs.Prelude.{ℕ, Bool, List, take, encode_utf8_all}
 use Rattle.std.specs.List.{list_all}
 use Rattle.nf_forms.specs.Properties.{Properties}
 use Rattle.nf_forms.specs.declared.form.Form.{Form}
@@ -8,6 +8,7 @@ use Rattle.nf_forms.specs.Front.{front}
 use Rattle.nf_forms.specs.StreamSafe.{stream_safe}
 use Rattle.nf_forms.specs.SafeForm.{safe_form}
 use Rattle.nf_forms.specs.Sound.{is_sound}
+use Rattle.nf_utf8.specs.Reading.{text_of}
 use Rattle.nf_safe.specs.LongestFront.{longest_front}
 
 -- what of the form of the stream-safe text stands before its last starter
@@ -21,3 +22,7 @@ is_usable p x = list_all (is_sound p) (stream_safe p x)
 -- the longest front of which that holds
 unfoldable pub usable : Properties → List ℕ → List ℕ
 usable p x = take (longest_front (is_usable p) x) x
+
+-- the UTF-8 of what is settled of the text that the bytes spell, as far as that can be used
+unfoldable pub settled_utf8 : Form → Properties → List ℕ → List ℕ
+settled_utf8 f p bytes = encode_utf8_all (settled f p (usable p (text_of bytes)))

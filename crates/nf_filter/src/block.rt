@@ -1,56 +1,95 @@
-ghost use Rattle.std.specs.Prelude.{◌≡◌, ◌+◌, ◌*◌, ◌<◌, ◌≤◌, [], length, MatchResult, encode_utf8, encode_utf8_all, ◌++◌, ℕ, List};
-ghost use Rattle.nf_filter.specs.Writes.{sink_state, Puts, Stops};
+ghost use Rattle.std.specs.Prelude.{◌≡◌, ◌+◌, ◌*◌, ◌<◌, ◌≤◌, [], length, MatchResult, OnOk, encode_utf8, encode_utf8_all, ◌++◌, ℕ, List};
+ghost use Rattle.nf_filter.specs.Writes.{Puts, BreaksOff};
 
 use crate::devices::{Failed, Sink};
 use arrayvec::ArrayVec;
 use nf_pending::Segment;
 
-/// The output block: the UTF-8 of one settled segment, at most 124 bytes.
-type Block = ArrayVec<u8, 124>;
+/// The most bytes that are given to a sink at once.
+const ROOM: usize = 4096;
 
-/// Gives the UTF-8 of `segment` to the sink.
-pub fn put_segment<S: Sink>(sink: &mut S, segment: &Segment) -> Result<(), Failed>
-    ensures puts { let old = sink_state (S.taken sink.old) (S.is_failed sink.old) in
-        let new = sink_state (S.taken sink.new) (S.is_failed sink.new) in
-        MatchResult result (λ _. Puts old new [] (encode_utf8_all segment.now.items)) (λ _. Stops old new [] (encode_utf8_all segment.now.items)) }
-    ensures lender { S.lender sink.new ≡ S.lender sink.old }
-{
-    match segment.as_slice() {
-        [] => Ok(()),
-        // What most characters settle: it needs no block.
-        [c] => put_all(sink, c.encode_utf8(&mut [0; 4]).as_bytes()),
-        _ => put_all(sink, encoded(segment).as_slice()),
+/// The output block over a sink: it keeps up to 4,096 bytes, in place, that go to the sink together.
+#[derive(Drop)]
+pub struct Block<'s, S> {
+    sink: &'s mut S,
+    bytes: ArrayVec<u8, ROOM>,
+}
+
+impl<'s, S: Sink> Block<'s, S> {
+    ghost use Rattle.nf_filter.specs.Block.{Start, block_state, Written, WritesOn};
+
+    /// An empty block.
+    pub fn over(sink: &'s mut S) -> Block<'s, S>
+        ensures lent { result.sink.ghost_name ≡ sink.entry.ghost_name }
+        ensures sink { result.sink.now ≡ sink.old }
+        ensures empty { result.bytes.items ≡ [] }
+    {
+        Block {
+            sink,
+            bytes: ArrayVec::new(),
+        }
+    }
+
+    /// Appends the UTF-8 of the segment. Where that might not fit, the sink is given first what is kept.
+    #[inline]
+    pub fn push(&mut self, segment: &Segment) -> Result<(), Failed>
+        ensures lent { self.new.sink.ghost_name ≡ self.old.sink.ghost_name }
+        ensures lender { (S.state self.new.sink.now).lender ≡ (S.state self.old.sink.now).lender }
+        ensures writes { (start : Start) (w : List ℕ) → Written start (block_state S.state self.old) w
+            → WritesOn start (block_state S.state self.new) (w ++ encode_utf8_all segment.now.items) result }
+    {
+        if ROOM - self.bytes.len() < 4 * segment.len() {
+            if let Err(failed) = self.empty() {
+                return Err(failed);
+            }
+        }
+        push_utf8_all(&mut self.bytes, segment);
+        Ok(())
+    }
+
+    /// Gives the sink all that is kept.
+    pub fn empty(&mut self) -> Result<(), Failed>
+        ensures lent { self.new.sink.ghost_name ≡ self.old.sink.ghost_name }
+        ensures lender { (S.state self.new.sink.now).lender ≡ (S.state self.old.sink.now).lender }
+        ensures none { OnOk result (self.new.bytes.items ≡ []) }
+        ensures writes { (start : Start) (w : List ℕ) → Written start (block_state S.state self.old) w
+            → WritesOn start (block_state S.state self.new) w result }
+    {
+        if let Err(failed) = put_all(self.sink, self.bytes.as_slice()) {
+            return Err(failed);
+        }
+        self.bytes.clear();
+        Ok(())
     }
 }
 
-/// The UTF-8 of `segment`.
-fn encoded(segment: &Segment) -> Block
-    ensures { result.items ≡ encode_utf8_all segment.now.items }
+/// Appends the UTF-8 of the segment.
+#[inline]
+fn push_utf8_all(bytes: &mut ArrayVec<u8, ROOM>, segment: &Segment)
+    requires { length bytes.old.items + 4 * length segment.now.items ≤ 4096 }
+    ensures { bytes.new.items ≡ bytes.old.items ++ encode_utf8_all segment.now.items }
 {
-    let mut block = Block::new();
     for c in segment.as_slice() {
-        push_utf8(&mut block, *c);
+        push_utf8(bytes, *c);
     }
-    block
 }
 
 /// Appends the UTF-8 of `c`, at most 4 bytes.
 #[inline]
-fn push_utf8(block: &mut Block, c: char)
-    requires { length block.old.items + 4 ≤ 124 }
-    ensures { block.new.items ≡ block.old.items ++ encode_utf8 c }
+fn push_utf8(bytes: &mut ArrayVec<u8, ROOM>, c: char)
+    requires { length bytes.old.items + 4 ≤ 4096 }
+    ensures { bytes.new.items ≡ bytes.old.items ++ encode_utf8 c }
 {
     let mut room = [0; 4];
-    let bytes = c.encode_utf8(&mut room).as_bytes();
-    block.try_extend_from_slice(bytes).unwrap();
+    let utf8 = c.encode_utf8(&mut room).as_bytes();
+    bytes.try_extend_from_slice(utf8).unwrap();
 }
 
 /// Gives `bytes` to the sink, in as many calls as it asks for.
 fn put_all<S: Sink>(sink: &mut S, bytes: &[u8]) -> Result<(), Failed>
-    ensures puts { let old = sink_state (S.taken sink.old) (S.is_failed sink.old) in
-        let new = sink_state (S.taken sink.new) (S.is_failed sink.new) in
-        MatchResult result (λ _. Puts old new [] bytes.now) (λ _. Stops old new [] bytes.now) }
-    ensures lender { S.lender sink.new ≡ S.lender sink.old }
+    ensures lender { (S.state sink.new).lender ≡ (S.state sink.old).lender }
+    ensures puts { MatchResult result (λ _. Puts (S.state sink.old) (S.state sink.new) [] bytes.now)
+        (λ _. BreaksOff (S.state sink.old) (S.state sink.new) [] bytes.now) }
 {
     let mut at = 0;
     while at < bytes.len() {

@@ -1,11 +1,9 @@
 ghost use Rattle.std.specs.Prelude.{◌≡◌, ◌↔◌, ℕ, List, [], IsTrue, IsFalse, OnOk};
 ghost use Rattle.nf_forms.specs.declared.form.Form.{Form};
-ghost use Rattle.nf_filter.specs.Writes.{sink_state};
 ghost use Rattle.nf_filter.specs.Filter.{rows_of, state_of, base_of, is_spent, StandsAfter};
 ghost use Rattle.nf_filter.specs.Drives.{Drives};
 
-use crate::bytes::BLOCK;
-use crate::devices::{Failed, Sink, Source};
+use crate::devices::{Sink, Source};
 use crate::fault::Fault;
 use crate::filter::Filter;
 use crate::tally::Tally;
@@ -19,33 +17,21 @@ pub fn drive<R: Rows, I: Source, S: Sink>(
 ) -> Result<Tally, Fault>
     ensures spent { (result ≡ Err Fault.Spent) ↔ IsTrue (is_spent (state_of filter.entry)) }
     ensures kept { IsTrue (is_spent (state_of filter.entry)) → (source.new ≡ source.old) × (sink.new ≡ sink.old) }
-    ensures read { IsFalse (is_spent (state_of filter.entry)) → ((result ≡ Err Fault.Read) ↔ IsTrue (I.is_failed source.new)) }
-    ensures end { OnOk result (IsTrue (I.is_at_end source.new)) }
+    ensures read { IsFalse (is_spent (state_of filter.entry)) → ((result ≡ Err Fault.Read) ↔ IsTrue (I.state source.new).is_failed) }
+    ensures end { OnOk result (IsTrue (I.state source.new).is_at_end) }
     ensures drives { let p = R.properties (rows_of filter.entry) in
-        let base = base_of (state_of filter.entry) in
-        let old = sink_state (S.taken sink.old) (S.is_failed sink.old) in
-        let new = sink_state (S.taken sink.new) (S.is_failed sink.new) in
         (f : Form) (bytes : List ℕ) → StandsAfter f p (state_of filter.entry) bytes
-        → Drives f p base bytes (I.coming source.old) (I.coming source.new) (I.is_at_end source.new) old new result }
-    ensures lenders { (I.lender source.new ≡ I.lender source.old) × (S.lender sink.new ≡ S.lender sink.old) }
+        → Drives f p (base_of (state_of filter.entry)) bytes (I.state source.old) (I.state source.new) (S.state sink.old) (S.state sink.new) result }
+    ensures lenders { ((I.state source.new).lender ≡ (I.state source.old).lender) × ((S.state sink.new).lender ≡ (S.state sink.old).lender) }
 {
     let mut filter = filter;
     if filter.spent() {
         return Err(Fault::Spent);
     }
-    let mut block = [0; BLOCK];
-    loop {
-        let given = match source.get(&mut block) {
-            Ok(given) => given,
-            Err(Failed) => return Err(Fault::Read),
-        };
-        if given == 0 {
-            return filter.finish(sink);
-        }
-        if let Err(fault) = filter.feed(&block[..given], sink) {
-            return Err(fault);
-        }
+    if let Err(fault) = filter.feed_all(source, sink) {
+        return Err(fault);
     }
+    filter.finish(sink)
 }
 
 /// Drives a new filter.
@@ -57,12 +43,10 @@ pub fn run<R: Rows, I: Source, S: Sink>(
     sink: &mut S,
 ) -> Result<Tally, Fault>
     ensures unspent { ¬ (result ≡ Err Fault.Spent) }
-    ensures read { (result ≡ Err Fault.Read) ↔ IsTrue (I.is_failed source.new) }
-    ensures end { OnOk result (IsTrue (I.is_at_end source.new)) }
-    ensures drives { let old = sink_state (S.taken sink.old) (S.is_failed sink.old) in
-        let new = sink_state (S.taken sink.new) (S.is_failed sink.new) in
-        Drives form (R.properties rows.now) base [] (I.coming source.old) (I.coming source.new) (I.is_at_end source.new) old new result }
-    ensures lenders { (I.lender source.new ≡ I.lender source.old) × (S.lender sink.new ≡ S.lender sink.old) }
+    ensures read { (result ≡ Err Fault.Read) ↔ IsTrue (I.state source.new).is_failed }
+    ensures end { OnOk result (IsTrue (I.state source.new).is_at_end) }
+    ensures drives { Drives form (R.properties rows.now) base [] (I.state source.old) (I.state source.new) (S.state sink.old) (S.state sink.new) result }
+    ensures lenders { ((I.state source.new).lender ≡ (I.state source.old).lender) × ((S.state sink.new).lender ≡ (S.state sink.old).lender) }
 {
     drive(Filter::new(rows, form, base), source, sink)
 }

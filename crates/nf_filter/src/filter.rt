@@ -1,10 +1,13 @@
-ghost use Rattle.std.specs.Prelude.{◌≡◌, ◌<◌, ◌≤◌, ◌^◌, false};
-ghost use Rattle.nf_pending.specs.StandsAfter.{run_len};
+ghost use Rattle.std.specs.Prelude.{◌≡◌, ◌≤◌, false};
+ghost use Rattle.nf_filter.specs.Normalizer.{ends_at};
+ghost use Rattle.nf_filter.specs.Taker.{IsReady};
 
-use crate::devices::Sink;
+use crate::devices::{Failed, Sink, Source};
 use crate::fault::Fault;
 use crate::held::Held;
+use crate::normalizer::Normalizer;
 use crate::reading::Reading;
+use crate::sources::read_all;
 use crate::tally::Tally;
 use nf_row::{Form, Rows};
 
@@ -18,26 +21,23 @@ pub struct Filter<'r, R> {
 #[derive(Drop)]
 pub struct State {
     base: u64,
-    offset: u64,
     spent: bool,
     reading: Reading,
-    ghost base_within: { base ≤ offset },
-    ghost offset_fits: { offset < 2 ^ 64 },
-    ghost start_within: { spent ≡ false → reading.start ≤ offset },
-    ghost chars_within: { spent ≡ false → reading.taken.chars ≤ reading.start },
-    ghost put_within: { spent ≡ false → reading.taken.put ≤ reading.taken.chars },
-    ghost run_within: { spent ≡ false → run_len reading.taken.pending ≤ reading.taken.counter },
+    normalizer: Normalizer,
+    ghost base_within: { base ≤ reading.offset },
+    ghost ready: { spent ≡ false → IsReady (ends_at normalizer) reading },
 }
 
 impl<'r, R: Rows> Filter<'r, R> {
-    ghost use Rattle.std.specs.Prelude.{◌≡◌, ◌+◌, ◌<◌, ◌≤◌, ◌↔◌, ◌⊎◌, ℕ, List, [], ◌++◌, length, if◌then◌else◌, IsTrue, IsFalse, IsErr, OnOk, IfErr, is_ok, encode_utf8_all};
+    ghost use Rattle.std.specs.Prelude.{◌≡◌, ◌+◌, ◌<◌, ◌≤◌, ◌↔◌, ◌⊎◌, ℕ, List, [], ◌++◌, length, if◌then◌else◌, IsTrue, IsFalse, IsErr, OnOk, IfErr, is_ok, is_err, encode_utf8_all};
     ghost use Rattle.nf_forms.specs.declared.form.Form.{Form};
     ghost use Rattle.nf_forms.specs.Runs.{has_starter, trail};
     ghost use Rattle.nf_forms.specs.Forms.{decomposed};
     ghost use Rattle.nf_forms.specs.StreamSafe.{stream_safe};
     ghost use Rattle.nf_utf8.specs.Reading.{text_of};
-    ghost use Rattle.nf_filter.specs.Faults.{IsOfFeeding, IsOfFinishing};
-    ghost use Rattle.nf_filter.specs.Writes.{sink_state};
+    ghost use Rattle.nf_filter.specs.Faults.{IsOfFeeding, IsOfDriving, IsOfFinishing};
+    ghost use Rattle.nf_filter.specs.Normalizer.{HasTaken, unusable_at, usable_utf8};
+    ghost use Rattle.nf_filter.specs.Sources.{ReadsAll, stop_at_end};
     ghost use Rattle.nf_filter.specs.Filter.{rows_of, state_of, base_of, offset_of, is_spent, StandsAfter};
     ghost use Rattle.nf_filter.specs.Feeds.{Feeds};
     ghost use Rattle.nf_filter.specs.Finishes.{Finishes};
@@ -52,9 +52,9 @@ impl<'r, R: Rows> Filter<'r, R> {
             rows,
             state: State {
                 base,
-                offset: base,
                 spent: false,
-                reading: Reading::new(form, base),
+                reading: Reading::new(base),
+                normalizer: Normalizer::new(form),
             },
         }
     }
@@ -71,29 +71,63 @@ impl<'r, R: Rows> Filter<'r, R> {
         ensures offset { offset_of (state_of self.new) ≡ (if is_ok result then offset_of (state_of self.old) + length piece.now else offset_of (state_of self.old)) }
         ensures faults { IfErr result IsOfFeeding }
         ensures feeds { let p = R.properties (rows_of self.old) in
-            let base = base_of (state_of self.old) in
-            let old = sink_state (S.taken sink.old) (S.is_failed sink.old) in
-            let new = sink_state (S.taken sink.new) (S.is_failed sink.new) in
-            (f : Form) (bytes : List ℕ) → StandsAfter f p (state_of self.old) bytes → ¬ (result ≡ Err Fault.TooLong) → Feeds f p base bytes piece.now old new result }
+            (f : Form) (bytes : List ℕ) → StandsAfter f p (state_of self.old) bytes → ¬ (result ≡ Err Fault.TooLong)
+            → Feeds f p (base_of (state_of self.old)) bytes piece.now (S.state sink.old) (S.state sink.new) result }
         ensures stands { let p = R.properties (rows_of self.old) in
             (f : Form) (bytes : List ℕ) → StandsAfter f p (state_of self.old) bytes → OnOk result (StandsAfter f p (state_of self.new) (bytes ++ piece.now)) }
-        ensures lender { S.lender sink.new ≡ S.lender sink.old }
+        ensures lender { (S.state sink.new).lender ≡ (S.state sink.old).lender }
     {
         let state = &mut self.state;
         if state.spent {
             return Err(Fault::Spent);
         }
-        let Some(end) = state.offset.checked_add(piece.len() as u64) else {
+        if state.reading.is_too_long(piece) {
             return Err(Fault::TooLong);
-        };
-        match state.reading.read(self.rows, state.offset, piece, sink) {
-            Ok(()) => {
-                state.offset = end;
-                Ok(())
-            }
-            Err(fault) => {
+        }
+        match state
+            .reading
+            .read(self.rows, piece, &mut state.normalizer, sink)
+        {
+            Ok(()) => Ok(()),
+            Err(stop) => {
                 state.spent = true;
-                Err(fault)
+                Err(stop.fault())
+            }
+        }
+    }
+
+    /// Takes all that the source gives, and gives the sink what that settles. Behind a refusal it is spent.
+    pub(crate) fn feed_all<I: Source, S: Sink>(
+        &mut self,
+        source: &mut I,
+        sink: &mut S,
+    ) -> Result<(), Fault>
+        requires { is_spent (state_of self.old) ≡ false }
+        ensures rows { rows_of self.new ≡ rows_of self.old }
+        ensures base { base_of (state_of self.new) ≡ base_of (state_of self.old) }
+        ensures spends { is_spent (state_of self.new) ≡ is_err result }
+        ensures read { (result ≡ Err Fault.Read) ↔ IsTrue (I.state source.new).is_failed }
+        ensures end { OnOk result (IsTrue (I.state source.new).is_at_end) }
+        ensures faults { IfErr result IsOfDriving }
+        ensures feeds { let p = R.properties (rows_of self.old) in
+            let base = base_of (state_of self.old) in
+            (f : Form) (bytes : List ℕ) → StandsAfter f p (state_of self.old) bytes
+            → ReadsAll (HasTaken f p (state_of self.new).normalizer) (unusable_at p base) (usable_utf8 f p) base (state_of self.new).reading bytes
+                (I.state source.old) (I.state source.new) (S.state sink.old) (S.state sink.new) (stop_at_end result) }
+        ensures lenders { ((I.state source.new).lender ≡ (I.state source.old).lender) × ((S.state sink.new).lender ≡ (S.state sink.old).lender) }
+    {
+        let state = &mut self.state;
+        match read_all(
+            &mut state.reading,
+            self.rows,
+            source,
+            &mut state.normalizer,
+            sink,
+        ) {
+            Ok(()) => Ok(()),
+            Err(stop) => {
+                state.spent = true;
+                Err(stop.fault())
             }
         }
     }
@@ -104,36 +138,31 @@ impl<'r, R: Rows> Filter<'r, R> {
         ensures kept { IsTrue (is_spent (state_of self.entry)) → sink.new ≡ sink.old }
         ensures faults { IfErr result IsOfFinishing }
         ensures finishes { let p = R.properties (rows_of self.entry) in
-            let base = base_of (state_of self.entry) in
-            let old = sink_state (S.taken sink.old) (S.is_failed sink.old) in
-            let new = sink_state (S.taken sink.new) (S.is_failed sink.new) in
-            (f : Form) (bytes : List ℕ) → StandsAfter f p (state_of self.entry) bytes → Finishes f p base bytes old new result }
-        ensures lender { S.lender sink.new ≡ S.lender sink.old }
+            (f : Form) (bytes : List ℕ) → StandsAfter f p (state_of self.entry) bytes
+            → Finishes f p (base_of (state_of self.entry)) bytes (S.state sink.old) (S.state sink.new) result }
+        ensures lender { (S.state sink.new).lender ≡ (S.state sink.old).lender }
     {
         let Filter { rows, state } = self;
         let State {
             base,
-            offset,
             spent,
             reading,
+            normalizer,
         } = state;
         if spent {
             return Err(Fault::Spent);
         }
-        if reading.decoder.carried() > 0 {
-            return Err(Fault::Cut {
-                at: offset,
-                start: reading.start,
-            });
+        if let Err(fault) = reading.end() {
+            return Err(fault);
         }
         let tally = Tally {
-            bytes: offset - base,
-            chars: reading.taken.chars,
-            put: reading.taken.put,
+            bytes: reading.offset - base,
+            chars: normalizer.chars,
+            put: normalizer.put,
         };
-        match reading.taken.end(rows, sink) {
+        match normalizer.end(rows, sink) {
             Ok(()) => Ok(tally),
-            Err(_) => Err(Fault::Write),
+            Err(Failed) => Err(Fault::Write),
         }
     }
 
@@ -155,7 +184,7 @@ impl<'r, R: Rows> Filter<'r, R> {
         }
         Held {
             bytes: self.state.reading.decoder.carried(),
-            pending: self.state.reading.taken.pending(),
+            pending: self.state.normalizer.pending(),
         }
     }
 
@@ -164,7 +193,7 @@ impl<'r, R: Rows> Filter<'r, R> {
     pub fn offset(&self) -> u64
         ensures { result ≡ offset_of (state_of self.now) }
     {
-        self.state.offset
+        self.state.reading.offset
     }
 
     /// Whether an earlier call was refused, so that every later one is.

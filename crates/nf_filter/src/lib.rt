@@ -2,8 +2,6 @@
 #![tactic(auto)]
 
 mod block;
-mod bytes;
-mod characters;
 mod checking;
 mod devices;
 mod driving;
@@ -13,12 +11,12 @@ mod from_reader;
 mod held;
 pub mod laws;
 mod measuring;
+mod normalizer;
 mod pushing;
 mod reading;
-mod taken;
+mod sources;
+mod taker;
 mod tally;
-#[cfg(test)]
-mod tests;
 mod to_writer;
 
 pub use checking::check;
@@ -26,8 +24,8 @@ pub use devices::{Failed, Sink, Source};
 pub use driving::{drive, run};
 pub use fault::Fault;
 pub use filter::Filter;
-pub use from_reader::FromReader;
+pub use from_reader::{FromReader, LentReader};
 pub use held::Held;
 pub use measuring::measure;
 pub use tally::Tally;
-pub use to_writer::ToWriter;
+pub use to_writer::{LentWriter, ToWriter};

@@ -1,13 +1,16 @@
-ghost use Rattle.std.specs.Prelude.{◌≡◌, ◌↔◌, IsTrue, IfErr, OnOk};
+ghost use Rattle.std.specs.Prelude.{◌≡◌, ◌+◌, ◌≤◌, ◌↔◌, ℕ, List, ◌++◌, length, chars, false, IsTrue, IfErr, OnOk, encode_utf8_all};
+ghost use Rattle.nf_safe.specs.Measurer.{values_of};
+ghost use Rattle.nf_filter.specs.Taker.{StopsQuietly};
 ghost use Rattle.nf_filter.specs.Surveys.{Surveys, IsOfSurvey, IsCut};
-ghost use Rattle.nf_filter.specs.Measures.{measure_decision, text_measure};
+ghost use Rattle.nf_filter.specs.Measures.{measure_decision, text_measure, HasMeasured, SeesText};
 
-use crate::characters::Characters;
-use crate::devices::Source;
+use crate::devices::{Nowhere, Sink, Source};
 use crate::fault::Fault;
+use crate::reading::Reading;
+use crate::sources::read_all;
+use crate::taker::{Stop, Taker};
 use nf_row::Rows;
-use nf_safe::Measurer;
-use nf_utf8::laws;
+use nf_safe::{Measure, Measurer};
 
 /// Reads all that the source gives, and answers what is measured of it. The first byte has the offset `base`. The first
 /// fault is answered in its stead: `Row`, where a filter would answer it, `BadByte`, `Cut`, `Read` and `TooLong`.
@@ -15,31 +18,78 @@ pub fn measure<R: Rows, I: Source>(
     rows: &R,
     base: u64,
     source: &mut I,
-) -> Result<nf_safe::Measure, Fault>
+) -> Result<Measure, Fault>
     ensures faults { IfErr result IsOfSurvey }
-    ensures read { (result ≡ Err Fault.Read) ↔ IsTrue (I.is_failed source.new) }
-    ensures end { OnOk result (IsTrue (I.is_at_end source.new)) }
-    ensures cut { IfErr result (λ fault. IsCut fault → IsTrue (I.is_at_end source.new)) }
+    ensures read { (result ≡ Err Fault.Read) ↔ IsTrue (I.state source.new).is_failed }
+    ensures end { OnOk result (IsTrue (I.state source.new).is_at_end) }
+    ensures cut { IfErr result (λ fault. IsCut fault → IsTrue (I.state source.new).is_at_end) }
     ensures surveys { let p = R.properties rows.now in
-        Surveys base (measure_decision p base) (text_measure p) (I.coming source.old) (I.coming source.new) (I.is_at_end source.new) result }
-    ensures lender { I.lender source.new ≡ I.lender source.old }
+        Surveys base (measure_decision p base) (text_measure p) (I.state source.old) (I.state source.new) result }
+    ensures lender { (I.state source.new).lender ≡ (I.state source.old).lender }
 {
-    laws::pieces();
-    let mut chars = Characters::new(base);
+    let mut reading = Reading::new(base);
     let mut measurer = Measurer::new();
-    loop {
-        let c = match chars.next(source) {
-            Ok(Some(c)) => c,
-            Ok(None) => return Ok(measurer.values()),
-            Err(fault) => return Err(fault),
-        };
-        match measurer.see(rows, c) {
-            Ok(()) => {}
-            Err(_) => {
-                return Err(Fault::Row {
-                    at: base + measurer.values().bytes,
-                });
-            }
-        }
+    match read_all(&mut reading, rows, source, &mut measurer, &mut Nowhere) {
+        Ok(()) => Ok(measurer.values()),
+        Err(stop) => Err(stop.fault()),
     }
+}
+
+impl Taker for Measurer {
+    ghost use Rattle.std.specs.Prelude.{None, [], false};
+    ghost use Rattle.nf_filter.specs.Normalizer.{unusable_at};
+    ghost use Rattle.nf_filter.specs.Measures.{HasMeasured, ends_at};
+
+    ghost has_taken = { HasMeasured };
+
+    ghost ends_at = { ends_at };
+
+    ghost form = { λ _. None };
+
+    ghost stops = { unusable_at };
+
+    ghost gives = { λ _ _ _. [] };
+
+    ghost finds = { false };
+
+    fn take<R: Rows, S: Sink>(
+        &mut self,
+        rows: &R,
+        at: u64,
+        first: Option<char>,
+        text: &str,
+        _sink: &mut S,
+    ) -> Result<(), Stop> {
+        let Some(c) = first else {
+            return see_text(self, rows, at, text);
+        };
+        if self.see(rows, c).is_err() {
+            return Err(Stop::Refused(Fault::Row { at }));
+        }
+        see_text(self, rows, at + c.len_utf8() as u64, text)
+    }
+}
+
+/// Sees the text that begins at the offset `at`, and stops where a filter would.
+fn see_text<R: Rows>(
+    measurer: &mut Measurer,
+    rows: &R,
+    at: u64,
+    text: &str,
+) -> Result<(), Stop>
+    requires counts { (values_of measurer.old).bytes ≤ at }
+    requires fits { at + length text.now ≤ u64.MAX }
+    ensures counts { OnOk result ((values_of measurer.new).bytes ≤ at + length text.now) }
+    ensures stop { IfErr result (StopsQuietly false) }
+    ensures sees { let p = R.properties rows.now in (base : ℕ) (x : List ℕ) → HasMeasured p measurer.old base x → at ≡ base + length (encode_utf8_all x)
+        → SeesText p measurer.new base (x ++ chars text.now) result }
+{
+    let mut place = at;
+    for c in text.chars() {
+        if measurer.see(rows, c).is_err() {
+            return Err(Stop::Refused(Fault::Row { at: place }));
+        }
+        place += c.len_utf8() as u64;
+    }
+    Ok(())
 }

@@ -1,100 +1,106 @@
+ghost use Rattle.std.specs.Prelude.{◌<◌, ◌^◌};
+
 use crate::devices::Sink;
 use crate::fault::Fault;
-use crate::taken::{Stop, Taken};
-use nf_row::{Form, Rows};
-use nf_utf8::{Decoder, Step, laws};
+use crate::taker::{Stop, Taker};
+use nf_row::Rows;
+use nf_utf8::{Decoder, End, laws};
 
-/// The bytes read so far: the characters taken, and the bytes of one that is begun.
-#[derive(Drop)]
+/// The bytes read so far, as far as those to come ask for them.
+#[derive(Clone, Copy, Debug, Drop)]
 pub struct Reading {
-    pub taken: Taken,
+    /// It holds the bytes of a begun character.
     pub decoder: Decoder,
-    /// The offset of the first byte that no character taken has.
-    pub start: u64,
+    /// The offset of the next byte.
+    pub offset: u64,
+    ghost offset_fits: { offset < 2 ^ 64 },
 }
 
 impl Reading {
-    ghost use Rattle.std.specs.Prelude.{◌≡◌, ◌+◌, ◌<◌, ◌≤◌, ℕ, List, [], ◌∷◌, length, OnOk, IfErr};
-    ghost use Rattle.nf_forms.specs.Properties.{Properties};
-    ghost use Rattle.nf_forms.specs.declared.form.Form.{Form};
-    ghost use Rattle.nf_filter.specs.Faults.{IsOfReading};
-    ghost use Rattle.nf_filter.specs.Writes.{sink_state};
-    ghost use Rattle.nf_filter.specs.Reading.{HasRead, IsBefore, Reads};
+    ghost use Rattle.std.specs.Prelude.{◌≡◌, ◌+◌, ◌<◌, ◌≤◌, ◌↔◌, ℕ, List, [], length, is_ok, if◌then◌else◌, Err, OnOk, IfErr, IsTrue};
+    ghost use Rattle.nf_utf8.specs.Reading.{ending_of};
+    ghost use Rattle.nf_utf8.specs.Standing.{StandsAfter};
+    ghost use Rattle.nf_filter.specs.declared.fault.Fault.TheVariants.{TooLong};
+    ghost use Rattle.nf_filter.specs.declared.taker.Stop.TheVariants.{Refused};
+    ghost use Rattle.nf_filter.specs.Faults.{answer_at_end};
+    ghost use Rattle.nf_filter.specs.Surveys.{IsCut};
+    ghost use Rattle.nf_filter.specs.Taker.{HasRead, IsReady, ReadsPiece, MayStopReading};
 
     /// No byte yet; the first has the offset `base`.
-    pub fn new(form: Form, base: u64) -> Reading
-        ensures read { (p : Properties) → HasRead form p base result [] }
-        ensures before { IsBefore base result }
+    pub const fn new(base: u64) -> Reading
+        ensures offset { result.offset ≡ base }
+        ensures decoder { StandsAfter result.decoder [] }
     {
         Reading {
-            taken: Taken::new(form),
             decoder: Decoder::new(),
-            start: base,
+            offset: base,
         }
     }
 
-    /// Reads `piece`, the first byte of which has the offset `offset`, and gives the sink what it settles.
-    pub fn read<R: Rows, S: Sink>(
+    /// Whether the offset would pass `u64::MAX` behind the piece.
+    #[inline]
+    pub fn is_too_long(&self, piece: &[u8]) -> bool
+        ensures { IsTrue result ↔ (u64.MAX < self.now.offset + length piece.now) }
+    {
+        self.offset.checked_add(piece.len() as u64).is_none()
+    }
+
+    /// Reads `piece`: its text goes to the taker. Where it is too long nothing changes; otherwise a taker that stopped
+    /// is given no more, and a bad byte is told once it has taken the text before.
+    pub fn read<T: Taker, R: Rows, S: Sink>(
         &mut self,
         rows: &R,
-        offset: u64,
         piece: &[u8],
+        taker: &mut T,
         sink: &mut S,
-    ) -> Result<(), Fault>
-        requires before { IsBefore offset self.old }
-        requires fits { offset + length piece.now ≤ u64.MAX }
-        ensures before { OnOk result (IsBefore (offset + length piece.now) self.new) }
-        ensures faults { IfErr result IsOfReading }
+    ) -> Result<(), Stop>
+        requires { IsReady (T.ends_at taker.old) self.old }
+        ensures too_long { (result ≡ Err (Refused TooLong)) ↔ (u64.MAX < self.old.offset + length piece.now) }
+        ensures kept { result ≡ Err (Refused TooLong) → (self.new ≡ self.old) × (taker.new ≡ taker.old) × (sink.new ≡ sink.old) }
+        ensures offset { self.new.offset ≡ (if is_ok result then self.old.offset + length piece.now else self.old.offset) }
+        ensures ready { OnOk result (IsReady (T.ends_at taker.new) self.new) }
+        ensures form { OnOk result (T.form taker.new ≡ T.form taker.old) }
+        ensures stop { IfErr result (MayStopReading T.finds) }
         ensures reads { let p = R.properties rows.now in
-            let old = sink_state (S.taken sink.old) (S.is_failed sink.old) in
-            let new = sink_state (S.taken sink.new) (S.is_failed sink.new) in
-            (f : Form) (base : ℕ) (bytes : List ℕ) → HasRead f p base self.old bytes → offset ≡ base + length bytes
-            → Reads f p base self.new old new bytes piece.now result }
-        ensures lender { S.lender sink.new ≡ S.lender sink.old }
+            (base : ℕ) (bytes : List ℕ) → HasRead (T.has_taken p taker.old base) (T.stops p base) base self.old bytes → ¬ (result ≡ Err (Refused TooLong))
+            → ReadsPiece (T.has_taken p taker.new base) (T.stops p base) (T.gives (T.form taker.old) p) base self.new bytes piece.now (S.state sink.old) (S.state sink.new) result }
+        ensures lender { (S.state sink.new).lender ≡ (S.state sink.old).lender }
     {
-        laws::pieces();
-        for (i, byte) in piece.iter().enumerate() {
-            if let Err(fault) = self.read_byte(rows, offset + i as u64, *byte, sink) {
-                return Err(fault);
-            }
+        let Some(end) = self.offset.checked_add(piece.len() as u64) else {
+            return Err(Stop::Refused(Fault::TooLong));
+        };
+        laws::split();
+        let at = self.offset - self.decoder.carried() as u64;
+        let chunk = self.decoder.take(piece);
+        if let Err(stop) = taker.take(rows, at, chunk.first, chunk.text, sink) {
+            return Err(stop);
         }
+        let piece_end = chunk.end;
+        if let End::Bad { at, back } = piece_end {
+            let place = self.offset + at as u64;
+            return Err(Stop::Refused(Fault::BadByte {
+                at: place,
+                start: place - back as u64,
+            }));
+        }
+        self.offset = end;
         Ok(())
     }
 
-    /// Reads `byte`, which has the offset `at`.
-    fn read_byte<R: Rows, S: Sink>(
-        &mut self,
-        rows: &R,
-        at: u64,
-        byte: u8,
-        sink: &mut S,
-    ) -> Result<(), Fault>
-        requires before { IsBefore at self.old }
-        requires fits { at < u64.MAX }
-        ensures before { OnOk result (IsBefore (at + 1) self.new) }
-        ensures faults { IfErr result IsOfReading }
-        ensures reads { let p = R.properties rows.now in
-            let old = sink_state (S.taken sink.old) (S.is_failed sink.old) in
-            let new = sink_state (S.taken sink.new) (S.is_failed sink.new) in
-            (f : Form) (base : ℕ) (bytes : List ℕ) → HasRead f p base self.old bytes → at ≡ base + length bytes
-            → Reads f p base self.new old new bytes (byte ∷ []) result }
-        ensures lender { S.lender sink.new ≡ S.lender sink.old }
+    /// Refuses an end inside a character.
+    pub fn end(&self) -> Result<(), Fault>
+        requires { length self.now.decoder ≤ self.now.offset }
+        ensures kinds { IfErr result IsCut }
+        ensures end { (base : ℕ) (bytes : List ℕ) → StandsAfter self.now.decoder bytes → self.now.offset ≡ base + length bytes
+            → result ≡ answer_at_end base (tt {0}) (ending_of bytes) }
     {
-        laws::split();
-        match self.decoder.push(byte) {
-            Step::More => Ok(()),
-            Step::Bad { back: _ } => Err(Fault::BadByte {
-                at,
-                start: self.start,
-            }),
-            Step::Char(c) => match self.taken.take(rows, c, sink) {
-                Ok(()) => {
-                    self.start = at + 1;
-                    Ok(())
-                }
-                Err(Stop::Unsound) => Err(Fault::Row { at: self.start }),
-                Err(Stop::Write) => Err(Fault::Write),
-            },
+        let carried = self.decoder.carried();
+        if carried == 0 {
+            return Ok(());
         }
+        Err(Fault::Cut {
+            at: self.offset,
+            start: self.offset - carried as u64,
+        })
     }
 }

@@ -54,6 +54,7 @@ impl Checker {
         ensures refuses { IsNone (place_of self.old) → (IsErr result ↔ IsFalse (is_sound (R.properties rows.now) c)) }
         ensures refused { IfErr result (λ e. (e ≡ record { c = c; rule = Rule.A1 }) × (self.new ≡ self.old)) }
         ensures place { IfOk result (λ place. place ≡ place_of self.new) }
+        ensures offset { IsNone (place_of self.old) → IfOk result (λ place. IsNone place → offset_of self.new ≡ offset_of self.old + length (encode_utf8 c)) }
         ensures stands { (base : ℕ) (x : List ℕ) → StandsAfter base (R.properties rows.now) self.old x
             → OnOk result (StandsAfter base (R.properties rows.now) self.new (x ++ c ∷ [])) }
     {

@@ -49,6 +49,7 @@ impl Measurer {
         ensures refuses { let p = R.properties rows.now in
             (x : List ℕ) → StandsAfter p self.old x → result_err result ≡ option_map refusal (unsound_at p x c) }
         ensures refused { IsErr result → self.new ≡ self.old }
+        ensures bytes { OnOk result ((values_of self.new).bytes ≡ (values_of self.old).bytes + length (encode_utf8 c)) }
         ensures stands { let p = R.properties rows.now in
             (x : List ℕ) → StandsAfter p self.old x → OnOk result (StandsAfter p self.new (x ++ c ∷ [])) }
     {

@@ -1,79 +1,46 @@
-use Rattle.std.proofs.Common.{◌≡◌, ◌+◌, [], ◌∷◌, ◌++◌, length, Some, Err, refl, sym, ap, ◌∙◌, arith}
-use Rattle.std.specs.Prelude.{encode_utf8_all}
-use Rattle.nf_safe.specs.Measures.{measure_of}
+use Rattle.std.proofs.Common.{◌≡◌, ℕ, List, [], length, Some, None, Ok, Err, false, refl, sym, ap, ◌∙◌, arith}
+use Rattle.nf_safe.specs.declared.measure.Measure.{Measure}
+use Rattle.nf_safe.specs.declared.place.Place.{Place}
 use Rattle.nf_safe.specs.Measurer.{values_of}
-use Rattle.nf_filter.specs.declared.fault.Fault.TheVariants.{Row}
-use Rattle.nf_filter.specs.Measures.{measure_decision, text_measure}
-use Rattle.nf_filter.proofs.SurveysLemmas.{Going-start, Going-on, room, Surveys-ended, Surveys-stopped, Surveys-decided}
-use Rattle.nf_filter.proofs.MeasuresLemmas.{usable_is, unusable, refused_is, quiet, decided_row}
+use Rattle.nf_filter.specs.declared.taker.Stop.TheVariants.{Refused}
+use Rattle.nf_filter.specs.Normalizer.{unusable_at}
+use Rattle.nf_filter.specs.Measures.{HasMeasured, measure_decision, text_measure}
+use Rattle.nf_filter.proofs.SettledLemmas.{is_usable-none}
+use Rattle.nf_filter.proofs.TextLemmas.{unusable_at-usable}
+use Rattle.nf_filter.proofs.ReadingLemmas.{holds_nothing, HasRead-none}
+use Rattle.nf_filter.proofs.SurveysLemmas.{IsOfSurvey-from, Surveys-whole, Surveys-stopped, nothing_breaks}
+use Rattle.nf_filter.proofs.MeasuresLemmas.{decides}
 use Rattle.nf_filter.proofs.measuring.measure.Goals as goal
 
-pub loop-c-init : goal.loop-c-init
-loop-c-init g c =
-    let p = g.R.Rows.properties c.args.rows.now in
-    let base = c.args.base in
-    let stands = c.new-measurer.ensures p in
-    record {
-      seen = (
-        [],
-        Going-start base (measure_decision p base) _ _ (c.new-chars.ensures.read _ _ _) c.new-chars.ensures.none (quiet p base [] (usable_is p [] stands.sound)),
-        stands,
-      );
-      lender = refl;
-    }
+-- no place is looked for
+no_measure : Measure → Place → Measure
+no_measure measure place = measure
 
-pub returns-in-Ok-None-clause-surveys : goal.returns-in-Ok-None-clause-surveys
-returns-in-Ok-None-clause-surveys g c =
+pub read_all-requires : goal.read_all-requires
+read_all-requires g c =
+    let none = holds_nothing c.new-reading.result.decoder c.new-reading.ensures.decoder in
+    let zero = ap (λ m. m.bytes) (c.new-measurer.ensures (g.R.Rows.properties c.args.rows.now)).values in
+    record { held = omega (arith, none); end = omega (arith, none, zero) }
+
+pub returns-in-Ok-clause-surveys : goal.returns-in-Ok-clause-surveys
+returns-in-Ok-clause-surveys g c =
     let p = g.R.Rows.properties c.args.rows.now in
     let base = c.args.base in
-    let seen = c.loop-c.invariant.seen in
-    let still = quiet p base seen.0 (usable_is p seen.0 seen.2.sound) in
-    let stops = rw c.in-Ok-None.field-0-is at (c.in-Ok-None.ensures.gives base seen.1.before seen.1.has) in
-    Surveys-ended base (measure_decision p base) c.loop-c.chars _ _ seen.0 seen.1 still (text_measure p) _ c.values.result
-    (λ bytes text. ap (measure_of p) text ∙ sym seen.2.values ∙ sym c.values.ensures) stops
+    let reads = c.in-Ok.ensures.reads base [] (HasRead-none (HasMeasured p c.new-measurer.result base) (unusable_at p base) base c.new-reading.result c.new-reading.ensures.offset c.new-reading.ensures.decoder (c.new-measurer.ensures p) (unusable_at-usable p base [] (is_usable-none p))) in
+    Surveys-whole (no_measure c.values.result) base _ (unusable_at p base) (measure_decision p base) (text_measure p) (decides p (no_measure c.values.result) base) _ _ _ _ _ tt c.in-Ok.ensures.end reads c.values.result
+    (sym reads.read.taken.values ∙ sym c.values.ensures)
+
+pub returns-in-Err-clause-faults : goal.returns-in-Err-clause-faults
+returns-in-Err-clause-faults g c =
+    let p = g.R.Rows.properties c.args.rows.now in
+    let base = c.args.base in
+    let reads = rw c.fault.ensures at (c.in-Err.ensures.reads base [] (HasRead-none (HasMeasured p c.new-measurer.result base) (unusable_at p base) base c.new-reading.result c.new-reading.ensures.offset c.new-reading.ensures.decoder (c.new-measurer.ensures p) (unusable_at-usable p base [] (is_usable-none p)))) in
+    IsOfSurvey-from false c.fault.result (rw c.fault.ensures at c.in-Err.ensures.stop) (nothing_breaks (Refused c.fault.result) reads)
 
 pub returns-in-Err-clause-surveys : goal.returns-in-Err-clause-surveys
 returns-in-Err-clause-surveys g c =
     let p = g.R.Rows.properties c.args.rows.now in
     let base = c.args.base in
-    let seen = c.loop-c.invariant.seen in
-    let still = quiet p base seen.0 (usable_is p seen.0 seen.2.sound) in
-    (Surveys-stopped base (measure_decision p base) c.loop-c.chars _ _ seen.0 seen.1 still (text_measure p) _ c.in-Err.fault (c.in-Err.ensures.gives base seen.1.before seen.1.has)).0
-
-pub see-requires : goal.see-requires
-see-requires g c =
-    let seen = c.loop-c.invariant.seen in
-    let gives = (rw c.in-Ok-Some.field-0-is at (c.in-Ok-Some.ensures.gives c.args.base seen.1.before seen.1.has)).0 in
-    let fits = room c.args.base c.next.new.self gives.after _ seen.0 c.in-Ok-Some.c gives.has (gives.text ∙ ap (λ y. y ++ c.in-Ok-Some.c ∷ []) seen.1.text) in
-    omega (arith, fits, ap (λ m. m.bytes) seen.2.values)
-
-pub loop-c-preserved : goal.loop-c-preserved
-loop-c-preserved g c =
-    let p = g.R.Rows.properties c.args.rows.now in
-    let base = c.args.base in
-    let seen = c.loop-c.invariant.seen in
-    let still = quiet p base seen.0 (usable_is p seen.0 seen.2.sound) in
-    let gives = (rw c.in-Ok-Some.field-0-is at (c.in-Ok-Some.ensures.gives base seen.1.before seen.1.has)).0 in
-    record {
-      seen = (
-        seen.0 ++ c.in-Ok-Some.c ∷ [],
-        Going-on base (measure_decision p base) c.loop-c.chars _ _ seen.0 seen.1 still c.next.new.self _ c.in-Ok-Some.c gives,
-        c.in-Ok.ensures.stands seen.0 seen.2,
-      );
-      lender = c.in-Ok-Some.ensures.lender ∙ c.loop-c.invariant.lender;
-    }
-
-pub returns-in-Err-see-clause-surveys : goal.returns-in-Err-see-clause-surveys
-returns-in-Err-see-clause-surveys g c =
-    let p = g.R.Rows.properties c.args.rows.now in
-    let base = c.args.base in
-    let seen = c.loop-c.invariant.seen in
-    let whole = usable_is p seen.0 seen.2.sound in
-    let still = quiet p base seen.0 whole in
-    let gives = rw c.in-Ok-Some.field-0-is at (c.in-Ok-Some.ensures.gives base seen.1.before seen.1.has) in
-    let refused = refused_is p _ c.in-Err-see.field-0 (c.in-Err-see.ensures.refuses seen.0 seen.2) in
-    let here : base + c.values-in-Err-see.result.bytes ≡ base + length (encode_utf8_all seen.0) =
-    ap (λ m. base + m.bytes) (c.values-in-Err-see.ensures ∙ ap values_of (c.in-Err-see.ensures.refused refl) ∙ seen.2.values) in
-    Surveys-decided base (measure_decision p base) c.loop-c.chars _ _ seen.0 seen.1 still c.pieces.ensures (text_measure p) c.next.new.self _ c.in-Ok-Some.c
-    (Err (Row (base + c.values-in-Err-see.result.bytes))) gives.0 gives.1 (λ e. cc) (λ e. cc)
-    (λ bytes y text. decided_row p base seen.0 c.in-Ok-Some.c whole (unusable p seen.0 c.in-Ok-Some.c refused.0 refused.1) bytes y text ∙ ap (λ n. Some (Err (Row n))) (sym here))
+    let none = values_of c.new-measurer.result in
+    let reads = rw c.fault.ensures at (c.in-Err.ensures.reads base [] (HasRead-none (HasMeasured p c.new-measurer.result base) (unusable_at p base) base c.new-reading.result c.new-reading.ensures.offset c.new-reading.ensures.decoder (c.new-measurer.ensures p) (unusable_at-usable p base [] (is_usable-none p)))) in
+    Surveys-stopped (no_measure none) base _ (unusable_at p base) (measure_decision p base) (text_measure p) (decides p (no_measure none) base) _ _ _ _ _ (Refused c.fault.result) (nothing_breaks (Refused c.fault.result) reads) reads

@@ -1,0 +1,235 @@
+-- One character more.
+use Rattle.std.proofs.Common.{◌≡◌, ℕ, ◌+◌, ◌≤◌, Bool, true, false, not, ◌&&◌, ◌||◌, List, [], ◌∷◌, ◌++◌, length, Ok, Err, refl, sym, ap, ◌∙◌, subst, arith}
+use Rattle.std.specs.Prelude.{if◌then◌else◌, encode_utf8_all, Result, OnOk}
+use Rattle.std.proofs.lemmas.Bool.{false≢true, ltb-false}
+use Rattle.std.proofs.lemmas.List.{length-append}
+use Rattle.nf_forms.specs.Properties.{Properties}
+use Rattle.nf_forms.specs.declared.form.Form.{Form}
+use Rattle.nf_forms.specs.declared.form.Form.TheVariants.{Nfc, Nfd, Nfkc, Nfkd}
+use Rattle.nf_forms.specs.Runs.{has_starter, lead, trail}
+use Rattle.nf_forms.specs.Forms.{row_of, decomposed}
+use Rattle.nf_forms.specs.StreamSafe.{joiner, max_run, is_too_long, parted, stream_safe}
+use Rattle.nf_forms.specs.Sound.{is_sound}
+use Rattle.nf_forms.specs.Laws.Runs.{lead-marks, lead-le-length, trail-marks}
+use Rattle.nf_forms.specs.Laws.StreamSafe.{stream_safe-push, decomposed-push}
+use Rattle.nf_forms.specs.Laws.Sound.{JoinerIsPlain, IsSound, IsSound-from_test, JoinerIsPlain-from_sound}
+use Rattle.nf_safe.specs.Count.{counted, passes, count_step}
+use Rattle.nf_safe.specs.Laws.Count.{count_step-within, trail-decomposed-safe_step}
+use Rattle.nf_pending.specs.StandsAfter.{run_len, StandsAfter as PendingStandsAfter}
+use Rattle.nf_filter.specs.declared.normalizer.Normalizer.{Normalizer}
+use Rattle.nf_filter.specs.declared.normalizer.Refusal.{Refusal}
+use Rattle.nf_filter.specs.declared.normalizer.Refusal.TheVariants.{Unsound, Write}
+use Rattle.nf_forms.specs.SafeForm.{safe_form}
+use Rattle.nf_filter.specs.Settled.{settled, is_usable}
+use Rattle.nf_filter.specs.Block.{Start, BlockState, Written}
+use Rattle.nf_filter.specs.Normalizer.{HasTaken, HasParted, IsWithin, HasRoom, run_behind, front_utf8, settled_text, PutsJoiner, Parts}
+use Rattle.nf_filter.proofs.WritesLemmas.{BreaksOff-at}
+use Rattle.nf_filter.proofs.BlockLemmas.{Written-at}
+use Rattle.nf_filter.proofs.SettledLemmas.{Extends, is_usable-push}
+use Rattle.nf_filter.proofs.PushingLemmas.{BreaksOff-extends, front_utf8-extends}
+
+module _ (p : Properties) where
+  and_false : (a s : Bool) → s ≡ false → (a && s) ≡ false
+  and_false true s e = e
+  and_false false s e = refl
+
+  and_true : (a b s : Bool) → a ≡ true → b ≡ true → s ≡ true → (a && b && s) ≡ true
+  and_true a b s e f g = ap (λ x. x && b && s) e ∙ ap (λ x. true && x && s) f ∙ g
+
+  pub is_usable-unsound : (x : List ℕ) (c : ℕ) → is_sound p c ≡ false → is_usable p (x ++ c ∷ []) ≡ false
+  is_usable-unsound x c unsound = is_usable-push p x c ∙ and_false _ (is_sound p c) unsound
+
+  pub is_usable-unsound_joiner : (x : List ℕ) (c : ℕ) → is_too_long p (stream_safe p x) c ≡ true → is_sound p joiner ≡ false → is_usable p (x ++ c ∷ []) ≡ false
+  is_usable-unsound_joiner x c long unsound =
+      is_usable-push p x c ∙ next (is_usable p x) (is_too_long p (stream_safe p x) c) (is_sound p joiner) (is_sound p c) long unsound
+    where
+      next : (a b j s : Bool) → b ≡ true → j ≡ false → (a && (not b || j) && s) ≡ false
+      next true true true s e f = cc
+      next true true false s e f = refl
+      next true false j s e f = cc
+      next false b j s e f = refl
+
+  pub is_usable-sound : (x : List ℕ) (c : ℕ) → is_usable p x ≡ true → is_sound p c ≡ true → (is_too_long p (stream_safe p x) c ≡ true → is_sound p joiner ≡ true)
+      → is_usable p (x ++ c ∷ []) ≡ true
+  is_usable-sound x c usable sound joins = is_usable-push p x c ∙ and_true _ _ _ usable (next (is_too_long p (stream_safe p x) c) joins) sound
+    where
+      next : (b : Bool) → (b ≡ true → is_sound p joiner ≡ true) → (not b || is_sound p joiner) ≡ true
+      next true e = e refl
+      next false e = refl
+
+  parted-without : (o : List ℕ) (c : ℕ) → is_too_long p o c ≡ false → parted p o c ≡ o
+  parted-without o c short = ap (λ b. if b then o ++ joiner ∷ [] else o) short
+
+  parted-with : (o : List ℕ) (c : ℕ) → is_too_long p o c ≡ true → parted p o c ≡ o ++ joiner ∷ []
+  parted-with o c long = ap (λ b. if b then o ++ joiner ∷ [] else o) long
+
+  decomposed-joiner : JoinerIsPlain p → (f : Form) (o : List ℕ) → decomposed f p (o ++ joiner ∷ []) ≡ decomposed f p o ++ joiner ∷ []
+  decomposed-joiner plain f o = decomposed-push p f o joiner ∙ ap (λ row. decomposed f p o ++ row) (row f)
+    where
+      row : (f : Form) → row_of f p joiner ≡ joiner ∷ []
+      row Nfc = plain.canonical
+      row Nfd = plain.canonical
+      row Nfkc = plain.compat
+      row Nfkd = plain.compat
+
+  -- the run behind the row of a sound character is no longer than what is counted
+  pub run_behind-le : (f : Form) (c run n : ℕ) → is_sound p c ≡ true → run ≤ n → run_behind p run (row_of f p c) ≤ counted p n (p.compat c)
+  run_behind-le f c run n sound below = by_form f
+    where
+      row : IsSound p c
+      row = IsSound-from_test p c sound
+
+      same : (b : Bool) (t l : ℕ) → (if b then t else run + l) ≤ (if b then t else n + l)
+      same true t l = omega arith
+      same false t l = omega arith
+
+      next : (b d : Bool) (tc lc hc tk lk hk : ℕ) → (b ≡ false → d ≡ false) → (b ≡ false → hc ≡ lc) → (d ≡ false → hk ≡ lk) → (d ≡ false → tk ≡ lk) → tc ≤ tk → hc ≤ hk
+          → (if b then tc else run + lc) ≤ (if d then tk else n + lk)
+      next true true tc lc hc tk lk hk agree e f g t h = omega arith
+      next true false tc lc hc tk lk hk agree e f g t h = omega (arith, g refl)
+      next false true tc lc hc tk lk hk agree e f g t h = let absent : true ≡ false = agree refl in cc
+      next false false tc lc hc tk lk hk agree e f g t h = omega (arith, e refl, f refl)
+
+      canonical : run_behind p run (p.canonical c) ≤ counted p n (p.compat c)
+      canonical = next (has_starter p (p.canonical c)) (has_starter p (p.compat c)) _ _ (lead p (p.canonical c)) _ _ (lead p (p.compat c)) row.marks_agree
+          (lead-marks p (p.canonical c)) (lead-marks p (p.compat c)) (trail-marks p (p.compat c)) row.trail_within row.lead_within
+
+      by_form : (f : Form) → run_behind p run (row_of f p c) ≤ counted p n (p.compat c)
+      by_form Nfc = canonical
+      by_form Nfd = canonical
+      by_form Nfkc = same (has_starter p (p.compat c)) _ _
+      by_form Nfkd = same (has_starter p (p.compat c)) _ _
+
+  lead-row : (f : Form) (c : ℕ) → is_sound p c ≡ true → lead p (row_of f p c) ≤ lead p (p.compat c)
+  lead-row f c sound = by_form f
+    where
+      by_form : (f : Form) → lead p (row_of f p c) ≤ lead p (p.compat c)
+      by_form Nfc = (IsSound-from_test p c sound).lead_within
+      by_form Nfd = (IsSound-from_test p c sound).lead_within
+      by_form Nfkc = omega arith
+      by_form Nfkd = omega arith
+
+  abbrev counting : Normalizer → ℕ → Normalizer
+  counting taken c = record taken { counter = count_step p taken.counter (p.compat c) }
+
+  pub counting-is : (taken : Normalizer) (c n : ℕ) → n ≡ count_step p taken.counter (p.compat c) → record taken { counter = n } ≡ counting taken c
+  counting-is taken c n counts = ap (λ m. record taken { counter = m }) counts
+
+  -- there is room without a joiner
+  pub HasRoom-without : (taken new : Normalizer) (c : ℕ) → IsWithin taken → is_sound p c ≡ true → passes p taken.counter (p.compat c) ≡ false
+      → new ≡ counting taken c → HasRoom p new c
+  HasRoom-without taken new c within sound short is = subst (λ t. HasRoom p t c) (sym is) (record {
+    lead = omega (arith, within.run, lead-row taken.form c sound, ltb-false max_run (taken.counter + lead p (p.compat c)) short);
+    run = subst (λ n. run_behind p (run_len taken.pending) (row_of taken.form p c) ≤ n) (sym (count_step-within p taken.counter (p.compat c) short))
+        (run_behind-le taken.form c (run_len taken.pending) taken.counter sound within.run);
+    put = omega (arith, within.put);
+  })
+
+  -- and with one
+  pub HasRoom-with : (taken mid new : Normalizer) (c : ℕ) → IsWithin taken → is_sound p c ≡ true → passes p taken.counter (p.compat c) ≡ true
+      → mid ≡ counting taken c → new ≡ record mid { pending = new.pending; put = mid.put + 1 } → run_len new.pending ≡ 0 → HasRoom p new c
+  HasRoom-with taken mid new c within sound long counts joins run = record {
+    lead = omega (arith, run, lead-row new.form c sound, lead-le-length p (p.compat c), (IsSound-from_test p c sound).compat_few);
+    run = subst (λ n. run_behind p (run_len new.pending) (row_of new.form p c) ≤ n) (sym counter) (run_behind-le new.form c (run_len new.pending) 0 sound (omega (arith, run)));
+    put = omega (arith, put, chars, within.put);
+  }
+    where
+      counter : new.counter ≡ counted p 0 (p.compat c)
+      counter = ap (λ t. t.counter) joins ∙ ap (λ t. t.counter) counts ∙ ap (λ b. counted p (if b then 0 else taken.counter) (p.compat c)) long
+
+      put : new.put ≡ taken.put + 1
+      put = ap (λ t. t.put) joins ∙ ap (λ t. t.put + 1) counts
+
+      chars : new.chars ≡ taken.chars
+      chars = ap (λ t. t.chars) joins ∙ ap (λ t. t.chars) counts
+
+  module _ (f : Form) where
+    pub settled_text-front : (x : List ℕ) → settled_text f p x ≡ front_utf8 f p (decomposed f p (stream_safe p x))
+    unfolding settled safe_form
+    settled_text-front x = refl
+
+    pub decomposed-safe : (x : List ℕ) (c : ℕ) → decomposed f p (stream_safe p (x ++ c ∷ [])) ≡ decomposed f p (parted p (stream_safe p x) c) ++ row_of f p c
+    decomposed-safe x c = ap (decomposed f p) (stream_safe-push p x c) ∙ decomposed-push p f (parted p (stream_safe p x) c) c
+
+    -- what is settled with c is behind what is settled with the joiner that stands before it
+    settled_text-parted : (x : List ℕ) (c : ℕ) → Extends (front_utf8 f p (decomposed f p (parted p (stream_safe p x) c))) (settled_text f p (x ++ c ∷ []))
+    settled_text-parted x c =
+        subst (λ o. Extends (front_utf8 f p (decomposed f p (parted p (stream_safe p x) c))) o) (sym (settled_text-front (x ++ c ∷ []) ∙ ap (front_utf8 f p) (decomposed-safe x c)))
+        (front_utf8-extends f p (decomposed f p (parted p (stream_safe p x) c)) (row_of f p c))
+
+    module _ (taken : Normalizer) (x : List ℕ) (c : ℕ) (before : HasTaken f p taken x) (sound : is_sound p c ≡ true) where
+      long_is : passes p taken.counter (p.compat c) ≡ is_too_long p (stream_safe p x) c
+      long_is = ap (λ n. passes p n (p.compat c)) before.count
+
+      count_is : (is_too_long p (stream_safe p x) c ≡ true → JoinerIsPlain p) → count_step p taken.counter (p.compat c) ≡ trail p (decomposed Nfkd p (stream_safe p (x ++ c ∷ [])))
+      count_is plain =
+          ap (λ n. count_step p n (p.compat c)) before.count ∙ sym (trail-decomposed-safe_step p (stream_safe p x) c plain)
+          ∙ ap (λ o. trail p (decomposed Nfkd p o)) (sym (stream_safe-push p x c))
+
+      pub Parts-without : (new : Normalizer) (start : Start) (now : BlockState) → passes p taken.counter (p.compat c) ≡ false → new ≡ counting taken c → Written start now (settled_text f p x)
+          → HasParted f p new x c × Written start now (front_utf8 f p (decomposed f p (parted p (stream_safe p x) c)))
+      Parts-without new start now short is written =
+          let short_is : is_too_long p (stream_safe p x) c ≡ false = sym long_is ∙ short in
+          let same = parted-without (stream_safe p x) c short_is in (
+            subst (λ t. HasParted f p t x c) (sym is) (record {
+              usable = is_usable-sound x c before.usable sound (λ e. absurd (false≢true (sym short_is ∙ e)));
+              form = before.form;
+              count = count_is (λ e. absurd (false≢true (sym short_is ∙ e)));
+              pending = subst (λ o. PendingStandsAfter f p taken.pending (decomposed f p o)) (sym same) before.pending;
+              chars = before.chars;
+              put = ap length same ∙ before.put;
+            }),
+            Written-at (settled_text-front x ∙ ap (λ o. front_utf8 f p (decomposed f p o)) (sym same)) written,
+          )
+
+      pub Parts-with : (mid new : Normalizer) (start : Start) (now : BlockState) (r : Result (Unit {0}) Refusal) → passes p taken.counter (p.compat c) ≡ true → mid ≡ counting taken c
+          → OnOk r (new ≡ record mid { pending = new.pending; put = mid.put + 1 }) → PutsJoiner f p new.pending start now (decomposed f p (stream_safe p x)) r
+          → Parts f p new start now x c r
+      Parts-with mid new start now (Ok _) long is joins puts =
+          let long_here : is_too_long p (stream_safe p x) c ≡ true = sym long_is ∙ long in
+          let plain = JoinerIsPlain-from_sound p puts.0 in
+          let longer = parted-with (stream_safe p x) c long_here in
+          let text = ap (decomposed f p) longer ∙ decomposed-joiner plain f (stream_safe p x) in (
+            record {
+              usable = is_usable-sound x c before.usable sound (λ _. puts.0);
+              form = ap (λ t. t.form) joins ∙ ap (λ t. t.form) is ∙ before.form;
+              count = ap (λ t. t.counter) joins ∙ ap (λ t. t.counter) is ∙ count_is (λ _. plain);
+              pending = subst (λ w. PendingStandsAfter f p new.pending w) (sym text) puts.1;
+              chars = ap (λ t. t.chars) joins ∙ ap (λ t. t.chars) is ∙ before.chars;
+              put = ap length longer ∙ length-append (stream_safe p x) (joiner ∷ [])
+                  ∙ omega (arith, before.put, ap (λ t. t.put) joins, ap (λ t. t.put) is);
+            },
+            Written-at (ap (front_utf8 f p) (sym text)) puts.2,
+          )
+      Parts-with mid new start now (Err Unsound) long is joins puts = (is_usable-unsound_joiner x c (sym long_is ∙ long) puts.0, Written-at (sym (settled_text-front x)) puts.1)
+      Parts-with mid new start now (Err Write) long is joins puts =
+          let long_here : is_too_long p (stream_safe p x) c ≡ true = sym long_is ∙ long in
+          let plain = JoinerIsPlain-from_sound p puts.0 in
+          let text = ap (decomposed f p) (parted-with (stream_safe p x) c long_here) ∙ decomposed-joiner plain f (stream_safe p x) in (
+            is_usable-sound x c before.usable sound (λ _. puts.0),
+            BreaksOff-extends (settled_text-parted x c) (BreaksOff-at refl (ap (front_utf8 f p) (sym text)) puts.1),
+          )
+
+    -- why not, whatever it would have answered
+    pub Parts-stopped : (T : Type 0) (taken : Normalizer) (start : Start) (now : BlockState) (x : List ℕ) (c : ℕ) (refusal : Refusal)
+        → Parts {T = Unit {0}} f p taken start now x c (Err refusal) → Parts {T = T} f p taken start now x c (Err refusal)
+    Parts-stopped T taken start now x c Unsound parts = parts
+    Parts-stopped T taken start now x c Write parts = parts
+
+    pub row_text : (part : Normalizer) (x row : List ℕ) (c : ℕ) → HasParted f p part x c → row ≡ row_of part.form p c
+        → decomposed f p (parted p (stream_safe p x) c) ++ row ≡ decomposed f p (stream_safe p (x ++ c ∷ []))
+    row_text part x row c here is =
+        ap (λ r. decomposed f p (parted p (stream_safe p x) c) ++ r) (is ∙ ap (λ h. row_of h p c) here.form) ∙ sym (decomposed-safe x c)
+
+    -- the row follows
+    pub HasTaken-row : (part new : Normalizer) (x row : List ℕ) (c : ℕ) → HasParted f p part x c → row ≡ row_of part.form p c
+        → new ≡ record part { pending = new.pending; chars = part.chars + 1 }
+        → PendingStandsAfter f p new.pending (decomposed f p (parted p (stream_safe p x) c) ++ row) → HasTaken f p new (x ++ c ∷ [])
+    HasTaken-row part new x row c here is same stands = record {
+      usable = here.usable;
+      form = ap (λ t. t.form) same ∙ here.form;
+      count = ap (λ t. t.counter) same ∙ here.count;
+      pending = subst (λ w. PendingStandsAfter f p new.pending w) (row_text part x row c here is) stands;
+      chars = ap (λ t. t.chars) same ∙ ap (λ n. n + 1) here.chars ∙ sym (length-append x (c ∷ []));
+      put = ap length (stream_safe-push p x c) ∙ length-append _ (c ∷ []) ∙ omega (arith, here.put, ap (λ t. t.put) same, length-append x (c ∷ []));
+    }

@@ -1,0 +1,114 @@
+-- A text more.
+use Rattle.std.proofs.Common.{◌≡◌, ℕ, ◌+◌, true, false, List, [], ◌∷◌, ◌++◌, length, Some, None, Ok, Err, refl, sym, ap, ◌∙◌, subst, append-nil}
+use Rattle.std.specs.Prelude.{Option, Result, if◌then◌else◌, encode_utf8_all, OnOk}
+use Rattle.std.specs.Result.{result_err}
+use Rattle.nf_forms.specs.Properties.{Properties}
+use Rattle.nf_forms.specs.declared.form.Form.{Form}
+use Rattle.nf_filter.specs.declared.fault.Fault.TheVariants.{Row, Write as WriteFault}
+use Rattle.nf_filter.specs.declared.normalizer.Normalizer.{Normalizer}
+use Rattle.nf_filter.specs.declared.normalizer.Refusal.{Refusal}
+use Rattle.nf_filter.specs.declared.normalizer.Refusal.TheVariants.{Unsound, Write}
+use Rattle.nf_filter.specs.declared.taker.Stop.{Stop}
+use Rattle.nf_filter.specs.declared.taker.Stop.TheVariants.{Refused}
+use Rattle.nf_filter.specs.Settled.{settled, is_usable, usable}
+use Rattle.nf_filter.specs.Devices.{SinkState}
+use Rattle.nf_filter.specs.Writes.{Puts}
+use Rattle.nf_filter.specs.Block.{Start, BlockState, Written, Broken}
+use Rattle.nf_filter.specs.Taker.{TakesText}
+use Rattle.nf_filter.specs.Normalizer.{HasTaken, settled_text, usable_utf8, unusable_at, written_in, stop_at, TakesChar, TakesOn}
+use Rattle.nf_filter.proofs.WritesLemmas.{Puts-at, BreaksOff-at}
+use Rattle.nf_filter.proofs.BlockLemmas.{start_at, Written-at}
+use Rattle.nf_filter.proofs.SettledLemmas.{Extends, Extends-encodes, settled-extends, is_usable-stays_out, usable-all, usable-stop, usable-extends}
+use Rattle.nf_filter.proofs.PushingLemmas.{BreaksOff-extends}
+
+module _ (p : Properties) where
+  pub unusable_at-usable : (base : ℕ) (x : List ℕ) → is_usable p x ≡ true → unusable_at p base x ≡ None
+  unfolding unusable_at
+  unusable_at-usable base x sound = ap (λ b. if b then None else Some (Refused (Row (base + length (encode_utf8_all (usable p x)))))) sound
+
+  pub unusable_at-stop : (base : ℕ) (x : List ℕ) (c : ℕ) (rest : List ℕ) → is_usable p x ≡ true → is_usable p (x ++ c ∷ []) ≡ false
+      → unusable_at p base ((x ++ c ∷ []) ++ rest) ≡ Some (Refused (Row (base + length (encode_utf8_all x))))
+  unfolding unusable_at
+  unusable_at-stop base x c rest sound out =
+      ap (λ b. if b then None else Some (Refused (Row (base + length (encode_utf8_all (usable p ((x ++ c ∷ []) ++ rest))))))) (is_usable-stays_out p (x ++ c ∷ []) rest out)
+      ∙ ap (λ y. Some (Refused (Row (base + length (encode_utf8_all y))))) (usable-stop p x c rest sound out)
+
+  module _ (f : Form) where
+    pub usable_utf8-usable : (x : List ℕ) → is_usable p x ≡ true → settled_text f p x ≡ usable_utf8 f p x
+    unfolding usable_utf8
+    usable_utf8-usable x sound = ap (settled_text f p) (sym (usable-all p x sound))
+
+    usable_utf8-stop : (x : List ℕ) (c : ℕ) (rest : List ℕ) → is_usable p x ≡ true → is_usable p (x ++ c ∷ []) ≡ false → settled_text f p x ≡ usable_utf8 f p ((x ++ c ∷ []) ++ rest)
+    unfolding usable_utf8
+    usable_utf8-stop x c rest sound out = ap (settled_text f p) (sym (usable-stop p x c rest sound out))
+
+    usable_utf8-extends : (x rest : List ℕ) → is_usable p x ≡ true → Extends (settled_text f p x) (usable_utf8 f p (x ++ rest))
+    unfolding usable_utf8
+    usable_utf8-extends x rest sound =
+        let more = usable-extends p x rest sound in
+        Extends-encodes (subst (λ y. Extends (settled f p x) (settled f p y)) (sym more.text) (settled-extends p f x more.more))
+
+    module _ (normalizer : Normalizer) (start : Start) (now : BlockState) (base : ℕ) where
+      pub TakesOn-all : (x : List ℕ) → HasTaken f p normalizer x → Written start now (settled_text f p x) → TakesOn f p normalizer start now base x (Ok tt)
+      TakesOn-all x taken written = record {
+        broken = λ e. cc;
+        written = λ _. Written-at (usable_utf8-usable x taken.usable) written;
+        stop = λ _. sym (unusable_at-usable base x taken.usable);
+        taken = taken;
+      }
+
+      pub TakesOn-refused : (x : List ℕ) (c : ℕ) (rest : List ℕ) (at : ℕ) (refusal : Refusal) → is_usable p x ≡ true → at ≡ base + length (encode_utf8_all x)
+          → TakesChar f p normalizer start now x c (Err refusal) → TakesOn f p normalizer start now base ((x ++ c ∷ []) ++ rest) (Err (stop_at at refusal))
+      TakesOn-refused x c rest at Unsound sound here takes = record {
+        broken = λ e. cc;
+        written = λ _. Written-at (usable_utf8-stop x c rest sound takes.0) takes.1;
+        stop = λ _. ap (λ n. Some (Refused (Row n))) here ∙ sym (unusable_at-stop base x c rest sound takes.0);
+        taken = tt;
+      }
+      TakesOn-refused x c rest at Write sound here takes = record {
+        broken = λ _. BreaksOff-extends (usable_utf8-extends (x ++ c ∷ []) rest takes.0) takes.1;
+        written = λ no. absurd (no refl);
+        stop = λ no. absurd (no refl);
+        taken = tt;
+      }
+
+-- all that was written is given
+pub Puts-emptied : {start : Start} {sink : SinkState} {kept w : List ℕ} → kept ≡ [] → Written start (record { sink = sink; kept = kept }) w → Puts start.sink sink start.before w
+Puts-emptied {start} {sink} {kept} {w} none written =
+    Puts-at refl (sym (written.text ∙ ap (λ l. written.given ++ l) none ∙ append-nil written.given)) written.puts
+
+module _ (f : Form) (p : Properties) (normalizer : Normalizer) (base : ℕ) (x y : List ℕ) (sink : SinkState) (sound : is_usable p x ≡ true) where
+  before_is : settled_text f p x ≡ usable_utf8 f p x
+  before_is = usable_utf8-usable p f x sound
+
+  -- the sink failed under way
+  pub TakesText-broken : (now : BlockState) (new : SinkState) (r : Result (Unit {0}) Stop) → r ≡ Err (Refused WriteFault) → now.sink ≡ new → TakesOn f p normalizer (start_at sink (settled_text f p x)) now base (x ++ y) r
+      → TakesText (λ z. HasTaken f p normalizer z) (unusable_at p base) (written_in (Some f) p) x y sink new r
+  TakesText-broken now new r is same takes = record {
+    broken = λ e. BreaksOff-at before_is refl (rw (← same) (takes.broken e));
+    puts = λ no. absurd (no is);
+    stop = λ no. absurd (no is);
+    taken = takes.taken;
+  }
+
+  -- or on what was kept
+  pub TakesText-failed : (now last : BlockState) (new : SinkState) (r : Result (Unit {0}) Stop) → ¬ (r ≡ Err (Refused WriteFault)) → last.sink ≡ new → TakesOn f p normalizer (start_at sink (settled_text f p x)) now base (x ++ y) r
+      → (Written (start_at sink (settled_text f p x)) now (usable_utf8 f p (x ++ y)) → Broken (start_at sink (settled_text f p x)) last (usable_utf8 f p (x ++ y)))
+      → TakesText (λ z. HasTaken f p normalizer z) (unusable_at p base) (written_in (Some f) p) x y sink new (Err (Refused WriteFault))
+  TakesText-failed now last new r whole same takes breaks = record {
+    broken = λ _. BreaksOff-at before_is refl (rw (← same) (breaks (takes.written whole)));
+    puts = λ no. absurd (no refl);
+    stop = λ no. absurd (no refl);
+    taken = tt;
+  }
+
+  -- all was given
+  pub TakesText-given : (now last : BlockState) (new : SinkState) (r : Result (Unit {0}) Stop) → ¬ (r ≡ Err (Refused WriteFault)) → last.sink ≡ new → last.kept ≡ [] → TakesOn f p normalizer (start_at sink (settled_text f p x)) now base (x ++ y) r
+      → (Written (start_at sink (settled_text f p x)) now (usable_utf8 f p (x ++ y)) → Written (start_at sink (settled_text f p x)) last (usable_utf8 f p (x ++ y)))
+      → TakesText (λ z. HasTaken f p normalizer z) (unusable_at p base) (written_in (Some f) p) x y sink new r
+  TakesText-given now last new r whole same none takes writes = record {
+    broken = λ e. absurd (whole e);
+    puts = λ _. rw (← same) (Puts-at before_is refl (Puts-emptied none (writes (takes.written whole))));
+    stop = takes.stop;
+    taken = takes.taken;
+  }

@@ -1,0 +1,37 @@
+use Rattle.std.proofs.Common.{◌≡◌, ℕ, ◌+◌, List, [], ◌∷◌, ◌++◌, length, refl, sym, ap, ◌∙◌, arith, append_assoc, encode_utf8}
+use Rattle.std.specs.Prelude.{Option, Some, None, encode_utf8_all}
+use Rattle.std.specs.Str.{chars}
+use Rattle.std.proofs.lemmas.Str.{length-encode, len_utf8_bounds}
+use Rattle.nf_utf8.specs.Taking.{first_text}
+use Rattle.nf_filter.specs.Block.{block_state}
+use Rattle.nf_filter.specs.Normalizer.{TakesOn}
+use Rattle.nf_filter.proofs.CharsLemmas.{utf8_len-push}
+use Rattle.nf_filter.proofs.TextLemmas.{TakesOn-refused}
+use Rattle.nf_filter.proofs.normalizer.Normalizer.take_both.Goals as goal
+
+is_none : (o : Option ℕ) → ((c : ℕ) → ¬ (o ≡ Some c)) → o ≡ None
+is_none None none = refl
+is_none (Some c) none = absurd (none c refl)
+
+pub returns-in_default-clause-takes : goal.returns-in_default-clause-takes
+returns-in_default-clause-takes g c = λ f base x start taken here written.
+    rw (is_none c.args.first c.in_default.not-Some) (c.take_text.ensures.takes f base x start taken here written)
+
+pub take_char-requires-clause-chars : goal.take_char-requires-clause-chars
+take_char-requires-clause-chars g c =
+    let fits = rw c.in-Some.is at c.requires.fits in
+    omega (arith, fits, length-encode c.in-Some.c, (len_utf8_bounds c.in-Some.c).0, c.requires.chars)
+
+pub returns-in-Err-clause-takes : goal.returns-in-Err-clause-takes
+returns-in-Err-clause-takes g c = λ f base x start taken here written.
+    let p = g.R.Rows.properties c.args.rows.now in
+    let refused = TakesOn-refused p f c.take_char.new.self start (block_state g.S.Sink.state c.take_char.new.block) base x c.in-Some.c (chars c.args.text.now) c.args.at c.in-Err.refusal taken.usable here
+    (c.in-Err.ensures.takes f x start taken written) in
+    rw (c.in-Some.is, c.at.ensures.value, ← append_assoc x (c.in-Some.c ∷ []) (chars c.args.text.now)) refused
+
+pub returns-clause-takes : goal.returns-clause-takes
+returns-clause-takes g c = λ f base x start taken here written.
+    let first = c.in_default-take_char.ensures.takes f x start taken written in
+    let push = utf8_len-push x c.in-Some.c in
+    let place : c.args.at + c.len_utf8.result ≡ base + length (encode_utf8_all (x ++ c.in-Some.c ∷ [])) = omega (arith, push, here, length-encode c.in-Some.c, c.len_utf8.ensures.value) in
+    rw (c.in-Some.is, ← append_assoc x (c.in-Some.c ∷ []) (chars c.args.text.now)) (c.take_text-2.ensures.takes f base (x ++ c.in-Some.c ∷ []) start first.0 place first.1)

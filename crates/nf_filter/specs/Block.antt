@@ -1,0 +1,34 @@
+-- Where the output block stands.
+use Rattle.std.specs.Prelude.{◌≡◌, List, ◌++◌, ℕ, Result, Ok, Err}
+use Rattle.nf_filter.specs.declared.block.Block.{Block}
+use Rattle.nf_filter.specs.declared.devices.Failed.{Failed}
+use Rattle.nf_filter.specs.Devices.{SinkState}
+use Rattle.nf_filter.specs.Writes.{Puts, BreaksOff}
+
+-- where the sink stood when the block was laid over it, and what was written before
+pub record Start : Type 0 where
+  pub sink : SinkState
+  pub before : List ℕ
+
+-- where it stands, and what the block keeps
+pub record BlockState : Type 0 where
+  pub sink : SinkState
+  pub kept : List ℕ
+
+abbrev pub block_state : {S : Type 0} → (S → SinkState) → Block S → BlockState
+block_state state block = record { sink = state block.sink.now; kept = block.bytes.items }
+
+-- all of `after` that stands behind what was written before is given to the sink, or kept
+pub record Written (start : Start) (now : BlockState) (after : List ℕ) : Type 0 where
+  pub given : List ℕ
+  pub puts : Puts start.sink now.sink start.before given
+  pub text : after ≡ given ++ now.kept
+
+-- the sink failed, and took a part of it
+abbrev pub Broken : Start → BlockState → List ℕ → Type 0
+Broken start now after = BreaksOff start.sink now.sink start.before after
+
+-- so it is written, or the sink failed
+abbrev pub WritesOn : Start → BlockState → List ℕ → Result (Unit {0}) Failed → Type 0
+WritesOn start now after (Ok _) = Written start now after
+WritesOn start now after (Err _) = Broken start now after

@@ -1,0 +1,90 @@
+-- What becomes of a text that is taken piece by piece.
+use Rattle.std.specs.Prelude.{◌≡◌, ℕ, ◌+◌, ◌-◌, ◌≤◌, Bool, true, false, List, ◌++◌, length, Option, Some, None, option_map, Result, Err, OnOk}
+use Rattle.std.specs.Result.{result_err}
+use Rattle.nf_utf8.specs.Reading.{text_of, ending_of}
+use Rattle.nf_utf8.specs.Standing.{StandsAfter as DecoderStandsAfter}
+use Rattle.nf_filter.specs.declared.fault.Fault.{Fault}
+use Rattle.nf_filter.specs.declared.fault.Fault.TheVariants.{Spent, TooLong, Read, Write, Row, BadByte, Cut}
+use Rattle.nf_filter.specs.declared.taker.Stop.{Stop}
+use Rattle.nf_filter.specs.declared.taker.Stop.TheVariants.{Refused, Found}
+use Rattle.nf_filter.specs.declared.reading.Reading.{Reading}
+use Rattle.nf_filter.specs.Devices.{SinkState}
+use Rattle.nf_filter.specs.Writes.{Puts, BreaksOff}
+use Rattle.nf_filter.specs.Faults.{bad_byte}
+
+-- it is a fault
+abbrev pub IsRefusal : Stop → Type 0
+IsRefusal (Refused fault) = Unit {0}
+IsRefusal (Found place) = ⊥
+
+-- why a taker may stop, which looks for a place or not
+abbrev pub MayStop : Bool → Stop → Type 0
+MayStop finds (Refused Spent) = ⊥
+MayStop finds (Refused TooLong) = ⊥
+MayStop finds (Refused Read) = ⊥
+MayStop finds (Refused Write) = Unit {0}
+MayStop finds (Refused (Row at)) = Unit {0}
+MayStop finds (Refused (BadByte at start)) = ⊥
+MayStop finds (Refused (Cut at start)) = ⊥
+MayStop true (Found place) = Unit {0}
+MayStop false (Found place) = ⊥
+
+-- why one that writes nothing may stop
+abbrev pub StopsQuietly : Bool → Stop → Type 0
+StopsQuietly finds (Refused Spent) = ⊥
+StopsQuietly finds (Refused TooLong) = ⊥
+StopsQuietly finds (Refused Read) = ⊥
+StopsQuietly finds (Refused Write) = ⊥
+StopsQuietly finds (Refused (Row at)) = Unit {0}
+StopsQuietly finds (Refused (BadByte at start)) = ⊥
+StopsQuietly finds (Refused (Cut at start)) = ⊥
+StopsQuietly true (Found place) = Unit {0}
+StopsQuietly false (Found place) = ⊥
+
+-- the text y was taken behind x, or why not. `stands` says that it has taken a text, `stops` what stops it in a text, and
+-- `gives` what it has given to its sink by then.
+pub record TakesText (stands : List ℕ → Type 0) (stops : List ℕ → Option Stop) (gives : List ℕ → List ℕ) (x y : List ℕ) (old new : SinkState) (result : Result (Unit {0}) Stop) : Type 0 where
+  pub broken : result ≡ Err (Refused Write) → BreaksOff old new (gives x) (gives (x ++ y))
+  pub puts : ¬ (result ≡ Err (Refused Write)) → Puts old new (gives x) (gives (x ++ y))
+  pub stop : ¬ (result ≡ Err (Refused Write)) → result_err result ≡ stops (x ++ y)
+  pub taken : OnOk result (stands (x ++ y))
+
+-- what stops it in the text of the bytes, or else the first ill-formed byte; the first byte has the offset `base`
+abbrev pub stop_or : Option Stop → Option Fault → Option Stop
+stop_or (Some stop) fault = Some stop
+stop_or None fault = option_map Refused fault
+
+abbrev pub stop_in : (List ℕ → Option Stop) → ℕ → List ℕ → Option Stop
+stop_in stops base bytes = stop_or (stops (text_of bytes)) (bad_byte base (ending_of bytes))
+
+-- the bytes were read, the first at `base`
+pub record HasRead (stands : List ℕ → Type 0) (stops : List ℕ → Option Stop) (base : ℕ) (reading : Reading) (bytes : List ℕ) : Type 0 where
+  pub offset : reading.offset ≡ base + length bytes
+  pub decoder : DecoderStandsAfter reading.decoder bytes
+  pub taken : stands (text_of bytes)
+  pub unstopped : stop_in stops base bytes ≡ None
+
+-- what it has taken ends before the bytes of a begun character
+pub record IsReady (ends_at : ℕ → Type 0) (reading : Reading) : Type 0 where
+  pub held : length reading.decoder ≤ reading.offset
+  pub end : ends_at (reading.offset - length reading.decoder)
+
+-- a piece was read behind the bytes, or why not all of it
+pub record ReadsPiece (stands : List ℕ → Type 0) (stops : List ℕ → Option Stop) (gives : List ℕ → List ℕ) (base : ℕ) (reading : Reading) (bytes piece : List ℕ) (old new : SinkState)
+    (result : Result (Unit {0}) Stop) : Type 0 where
+  pub broken : result ≡ Err (Refused Write) → BreaksOff old new (gives (text_of bytes)) (gives (text_of (bytes ++ piece)))
+  pub puts : ¬ (result ≡ Err (Refused Write)) → Puts old new (gives (text_of bytes)) (gives (text_of (bytes ++ piece)))
+  pub stop : ¬ (result ≡ Err (Refused Write)) → result_err result ≡ stop_in stops base (bytes ++ piece)
+  pub read : OnOk result (HasRead stands stops base reading (bytes ++ piece))
+
+-- why reading may stop
+abbrev pub MayStopReading : Bool → Stop → Type 0
+MayStopReading finds (Refused Spent) = ⊥
+MayStopReading finds (Refused TooLong) = Unit {0}
+MayStopReading finds (Refused Read) = ⊥
+MayStopReading finds (Refused Write) = Unit {0}
+MayStopReading finds (Refused (Row at)) = Unit {0}
+MayStopReading finds (Refused (BadByte at start)) = Unit {0}
+MayStopReading finds (Refused (Cut at start)) = ⊥
+MayStopReading true (Found place) = Unit {0}
+MayStopReading false (Found place) = ⊥
