@@ -28,12 +28,11 @@ use Rattle.nf_filter.specs.declared.fault.Fault.{Fault}
 use Rattle.nf_filter.specs.declared.fault.Fault.TheVariants.{Spent, TooLong, Read, Write, Row, BadByte, Cut as CutShort}
 use Rattle.nf_filter.specs.declared.tally.Tally.{Tally}
 use Rattle.nf_forms.specs.SafeForm.{safe_form}
-use Rattle.nf_filter.specs.Settled.{settled, is_usable, usable}
-use Rattle.nf_filter.specs.Reading.{settled_utf8}
-use Rattle.nf_filter.specs.Faults.{bad_byte, fault_in}
-use Rattle.nf_filter.specs.Finishes.{tally_of, ended, end_of, whole_or, final_utf8, Finishes}
+use Rattle.nf_filter.specs.Settled.{settled, is_usable, usable, settled_utf8}
+use Rattle.nf_filter.specs.Faults.{answer_at_end, bad_byte, fault_in}
+use Rattle.nf_filter.specs.Finishes.{tally_of, end_of, whole_or, final_utf8, Finishes}
 use Rattle.nf_filter.specs.Feeds.{Feeds}
-use Rattle.nf_filter.specs.Writes.{SinkState}
+use Rattle.nf_filter.specs.Devices.{SinkState}
 use Rattle.nf_vectors.specs.Comparison.{holds, leaves_format}
 use Rattle.nf_vectors.specs.Gives.{Gives}
 use Rattle.nf_vectors.proofs.ComparisonLemmas.{usable-in_format, sound-usable}
@@ -76,7 +75,7 @@ module _ (f : Form) (p : Properties) where
 
     end_is : end_of p 0 (encode_utf8_all x) ≡ Ok (tally_of p (encode_utf8_all x))
     unfolding end_of
-    end_is = ap (λ end. ended end 0 (tally_of p (encode_utf8_all x))) ending_is
+    end_is = ap (answer_at_end 0 (tally_of p (encode_utf8_all x))) ending_is
 
     no_fault : is_usable p x ≡ true → fault_in p 0 (encode_utf8_all x) ≡ None
     unfolding fault_in

@@ -7,7 +7,7 @@ use Rattle.nf_filter.specs.declared.fault.Fault.{Fault}
 use Rattle.nf_filter.specs.declared.fault.Fault.TheVariants.{Write}
 use Rattle.nf_forms.specs.SafeForm.{safe_form}
 use Rattle.nf_filter.specs.Settled.{is_usable}
-use Rattle.nf_filter.specs.Writes.{SinkState}
+use Rattle.nf_filter.specs.Devices.{SinkState}
 
 -- the sink failed on what was to be written
 pub record Overflows (old new : SinkState) (whole : List ℕ) : Type 0 where

@@ -1,6 +1,7 @@
 -- What reading a vector file answers.
-use Rattle.std.specs.Prelude.{◌≡◌, true, false, Bool, ℕ, ◌<◌, ◌≤◌, List, length, take, nat_lt, if◌then◌else◌, IsFalse, Option, Some, None, OnOk, IfErr, Result, MatchResult}
-use Rattle.std.specs.Io.KnownBytes.{Consumes}
+use Rattle.std.specs.Prelude.{◌≡◌, true, false, Bool, ℕ, ◌<◌, ◌≤◌, List, length, take, nat_lt, if◌then◌else◌, IsTrue, IsFalse, Option, Some, None, OnOk, IfErr, Result, MatchResult}
+use Rattle.std.specs.Io.KnownBytes.{Consumes, IsAtEnd}
+use Rattle.nf_filter.specs.Devices.{SourceState}
 use Rattle.nf_vectors.specs.declared.fault.VectorFault.{VectorFault}
 use Rattle.nf_vectors.specs.declared.fault.VectorKind.{VectorKind}
 use Rattle.nf_vectors.specs.declared.fault.VectorKind.TheVariants.{Size, Read, Memory}
@@ -30,13 +31,15 @@ abbrev pub Finds : List ℕ → VectorFault → Type 0
 Finds bytes fault = (stop : Option VectorKind) → (limit < length bytes → stop ≡ Some Size) → first_fault 1 stop (lines_within bytes) ≡ Some fault
 
 -- a source was read, and stands failed or at its end or neither
-pub record ReadsSuite (coming left : Option (List ℕ)) (at_end failed : Bool) (result : Result Suite VectorFault) : Type 0 where
+pub record ReadsSuite (source left : SourceState) (result : Result Suite VectorFault) : Type 0 where
   -- what the source gave
   pub bytes : List ℕ
-  pub given : Consumes coming left bytes
-  pub tells : Tells bytes failed result
-  pub memory : IfErr result (λ fault. fault.kind ≡ Memory → RunsOut bytes at_end fault)
+  pub given : Consumes source.coming left.coming bytes
+  -- at its end the source has nothing left
+  pub read_out : IsTrue left.is_at_end → IsAtEnd left.coming
+  pub tells : Tells bytes left.is_failed result
+  pub memory : IfErr result (λ fault. fault.kind ≡ Memory → RunsOut bytes left.is_at_end fault)
   -- the last line is judged only at the end: before it, the fault is the same however the reading were to stop
-  pub end : OnOk result (at_end ≡ true)
-  pub before_end : IsFalse at_end → IsFalse failed → length bytes ≤ limit
+  pub end : OnOk result (left.is_at_end ≡ true)
+  pub before_end : IsFalse left.is_at_end → IsFalse left.is_failed → length bytes ≤ limit
       → IfErr result (λ fault. ¬ (fault.kind ≡ Memory) → (stop : Option VectorKind) → first_fault 1 stop (lines_within bytes) ≡ Some fault)

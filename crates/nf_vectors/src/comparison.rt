@@ -1,6 +1,5 @@
 //! One comparison: what a form makes of a text, with what it must give.
 ghost use Rattle.std.specs.Prelude.{◌≡◌, ◌<◌, ◌≤◌, ◌^◌, ℕ, List, encode_utf8_all, length, false, IfOk};
-ghost use Rattle.nf_filter.specs.Writes.{sink_state};
 ghost use Rattle.nf_vectors.specs.Comparison.{holds, leaves_format};
 ghost use Rattle.nf_vectors.specs.Gives.{Gives};
 
@@ -52,9 +51,7 @@ pub(crate) fn is_kept<R: Rows>(rows: &R, form: Form, text: &str) -> bool
 fn give<R: Rows, S: Sink>(rows: &R, form: Form, text: &str, sink: &mut S) -> Result<(), Fault>
     requires { length text.now < 2 ^ 63 }
     ensures { let p = R.properties rows.now in
-        let old = sink_state (S.taken sink.old) (S.is_failed sink.old) in
-        let new = sink_state (S.taken sink.new) (S.is_failed sink.new) in
-        (x : List ℕ) → text.now ≡ encode_utf8_all x → Gives form p x old new result }
+        (x : List ℕ) → text.now ≡ encode_utf8_all x → Gives form p x (S.state sink.old) (S.state sink.new) result }
 {
     laws::read_back();
     let mut filter = Filter::new(rows, form, 0);

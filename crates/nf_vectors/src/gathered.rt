@@ -40,11 +40,7 @@ impl Sink for Gathered {
     ghost use Rattle.std.specs.Prelude.{Some};
     ghost use Rattle.nf_vectors.specs.Sinks.{gathered_of};
 
-    ghost taken = { λ sink. Some (gathered_of sink) };
-
-    ghost is_failed = { λ sink. sink.failed };
-
-    ghost lender = { λ _. 0 };
+    ghost state = { λ sink. record { taken = Some (gathered_of sink); is_failed = sink.failed; lender = 0 } };
 
     fn put(&mut self, bytes: &[u8]) -> Result<usize, Failed> {
         if bytes.is_empty() {

@@ -35,11 +35,7 @@ impl Sink for Short {
     ghost use Rattle.std.specs.Prelude.{Some};
     ghost use Rattle.nf_vectors.specs.Sinks.{short_of};
 
-    ghost taken = { λ sink. Some (short_of sink) };
-
-    ghost is_failed = { λ sink. sink.failed };
-
-    ghost lender = { λ _. 0 };
+    ghost state = { λ sink. record { taken = Some (short_of sink); is_failed = sink.failed; lender = 0 } };
 
     fn put(&mut self, bytes: &[u8]) -> Result<usize, Failed> {
         let Some(first) = bytes.first() else {

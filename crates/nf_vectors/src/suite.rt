@@ -36,9 +36,9 @@ impl Suite {
 
     /// Reads a vector file of at most 67,108,864 bytes to its end. The first fault in reading is the one that is told.
     pub fn read<I: Source>(alloc: Global, source: &mut I) -> Result<Suite, VectorFault>
-        ensures failed { IsTrue (I.is_failed source.new) ↔ IsErrAnd result (λ fault. fault.kind ≡ VectorKind.Read) }
-        ensures reads { ReadsSuite (I.coming source.old) (I.coming source.new) (I.is_at_end source.new) (I.is_failed source.new) result }
-        ensures lender { I.lender source.new ≡ I.lender source.old }
+        ensures failed { IsTrue (I.state source.new).is_failed ↔ IsErrAnd result (λ fault. fault.kind ≡ VectorKind.Read) }
+        ensures reads { ReadsSuite (I.state source.old) (I.state source.new) result }
+        ensures lender { (I.state source.new).lender ≡ (I.state source.old).lender }
     {
         let mut reading = Reading::new(alloc);
         let mut block = [0; BLOCK];

@@ -7,7 +7,7 @@ use Rattle.nf_filter.specs.declared.tally.Tally.{Tally}
 use Rattle.nf_filter.specs.Filter.{rows_of, state_of, StandsAfter}
 use Rattle.nf_filter.specs.Feeds.{Feeds}
 use Rattle.nf_filter.specs.Finishes.{Finishes}
-use Rattle.nf_filter.specs.Writes.{SinkState}
+use Rattle.nf_filter.specs.Devices.{SinkState}
 use Rattle.nf_vectors.proofs.Utf8Lemmas.{IsText-from}
 use Rattle.nf_vectors.proofs.GivenLemmas.{fed_badly, finished_badly, finished_well}
 use Rattle.nf_vectors.proofs.comparison.give.Goals as goal
@@ -31,7 +31,7 @@ returns-in-Err g c = λ x is.
     fed_badly c.args.form p c.read_back.ensures x (IsText-from c.args.text.now x c.utf8.text is) _ _ c.in-Err.fault
     (feeds_here c.args.form q p _ _ (encode_utf8_all x) _ _ (Err c.in-Err.fault) rows c.new-filter.ensures.base (c.as_bytes.ensures.value ∙ is)
     (c.in-Err.ensures.feeds c.args.form [] stands (λ e.
-    let over = (c.in-Err.ensures.too_long.0 e).1 in absurd (omega (arith, over, c.new-filter.ensures.stands.offset, c.new-filter.ensures.base, c.requires, c.as_bytes.ensures.len)))))
+    let over = (c.in-Err.ensures.too_long.0 e).1 in absurd (omega (arith, over, c.new-filter.ensures.stands.reading.offset, c.new-filter.ensures.base, c.requires, c.as_bytes.ensures.len)))))
 
 pub returns-in-Ok-finish : goal.returns-in-Ok-finish
 returns-in-Ok-finish g c = λ x is.

@@ -15,11 +15,12 @@ use Rattle.nf_vectors.proofs.suite.Suite.read.Goals as goal
 pub returns-in-Err-clause-reads : goal.returns-in-Err-clause-reads
 returns-in-Err-clause-reads g c =
     let read = c.loop-given.invariant.read in
-    let failed : true ≡ g.I.Source.is_failed c.get.new.self = sym c.in-Err.ensures.failed.0 in
+    let failed : true ≡ (g.I.Source.state c.get.new.self).is_failed = sym c.in-Err.ensures.failed.0 in
     let few : length read.0 ≤ limit = omega (arith, read.2.taken, c.loop-given.invariant.within.taken, limit-is) in
     record {
       bytes = read.0;
       given = Consumes-kept _ _ _ read.0 read.1 c.in-Err.ensures.kept;
+      read_out = λ end. absurd (false≢true (sym c.in-Err.ensures.failed.1 ∙ end));
       memory = λ memory. let e = sym (ap (λ f. f.kind) c.fault.ensures) ∙ memory in cc;
       tells = λ _. ap (λ b. first_fault 1 (stop_of read.0 b) (lines_within read.0)) (sym failed) ∙ read_failed c.loop-given.reading read.0 read.2 few ∙ ap Some (sym c.fault.ensures);
       end = tt;
@@ -31,13 +32,14 @@ returns-in-Err-take-clause-reads g c =
     let read = c.loop-given.invariant.read in
     let piece = take c.in-Ok.given c.get.new.buf in
     let finds = c.in-Err-take.ensures.finds read.0 read.2 in
-    let unended : g.I.Source.is_at_end c.get.new.self ≡ false = c.in-Ok.ensures.end ∙ ne_eqb c.in-Ok.given 0 c.if-given-eq0.false in
+    let unended : (g.I.Source.state c.get.new.self).is_at_end ≡ false = c.in-Ok.ensures.end ∙ ne_eqb c.in-Ok.given 0 c.if-given-eq0.false in
     let short : length piece ≤ block = omega (arith, block-is, length-take-le c.in-Ok.given c.get.new.buf c.in-Ok.ensures.count, c.in-Ok.ensures.count, c.loop-given.invariant.room, c.get.auto.buf) in
     record {
       bytes = read.0 ++ piece;
       given = Consumes-trans _ _ _ read.0 piece read.1 c.in-Ok.ensures.given;
+      read_out = λ end. absurd (false≢true (sym unended ∙ end));
       memory = λ memory. subst (λ (b : Bool). RunsOut (read.0 ++ piece) b c.in-Err-take.fault) (sym unended) (c.in-Err-take.ensures.memory read.0 read.2 short memory);
-      tells = λ sound. Tells-found (read.0 ++ piece) (g.I.Source.is_failed c.get.new.self) c.in-Err-take.fault (finds sound);
+      tells = λ sound. Tells-found (read.0 ++ piece) (g.I.Source.state c.get.new.self).is_failed c.in-Err-take.fault (finds sound);
       end = tt;
       before_end = λ _ _ few sound stop. finds sound stop (λ past. absurd (omega (arith, past, few)));
     }
@@ -45,11 +47,12 @@ returns-in-Err-take-clause-reads g c =
 pub returns-then-given-eq0-clause-reads : goal.returns-then-given-eq0-clause-reads
 returns-then-given-eq0-clause-reads g c =
     let read = c.loop-given.invariant.read in
-    let end : g.I.Source.is_at_end c.get.new.self ≡ true = c.in-Ok.ensures.end ∙ eq-eqb c.in-Ok.given 0 c.if-given-eq0.true in
+    let end : (g.I.Source.state c.get.new.self).is_at_end ≡ true = c.in-Ok.ensures.end ∙ eq-eqb c.in-Ok.given 0 c.if-given-eq0.true in
     record {
       bytes = read.0;
-      given = subst (λ l. Consumes (g.I.Source.coming c.args.source.now) (g.I.Source.coming c.get.new.self) l) (append-nil read.0)
-          (Consumes-trans _ _ _ read.0 [] read.1 (subst (λ n. Consumes (g.I.Source.coming c.loop-given.source) (g.I.Source.coming c.get.new.self) (take n c.get.new.buf)) c.if-given-eq0.true c.in-Ok.ensures.given));
+      given = subst (λ l. Consumes (g.I.Source.state c.args.source.now).coming (g.I.Source.state c.get.new.self).coming l) (append-nil read.0)
+          (Consumes-trans _ _ _ read.0 [] read.1 (subst (λ n. Consumes (g.I.Source.state c.loop-given.source).coming (g.I.Source.state c.get.new.self).coming (take n c.get.new.buf)) c.if-given-eq0.true c.in-Ok.ensures.given));
+      read_out = λ _. c.in-Ok.ensures.read_out c.if-given-eq0.true;
       tells = subst (λ (b : Bool). Tells read.0 b c.finish.result) (sym c.in-Ok.ensures.stands.1) (c.finish.ensures.tells read.0 read.2);
       memory = subst (λ (b : Bool). IfErr c.finish.result (λ fault. fault.kind ≡ Memory → RunsOut read.0 b fault)) (sym end) (c.finish.ensures.memory read.0 read.2);
       end = on_ok c.finish.result (λ _. end);

@@ -7,8 +7,8 @@ abbrev pub invariant-loop-given : goal.invariant-loop-given
 invariant-loop-given g l = record {
   room : length l.block ≡ 4096;
   within : IsWithin l.reading;
-  read : (bytes : List ℕ) × Consumes (g.I.Source.coming l.fn.source) (g.I.Source.coming l.source) bytes × StandsAfter l.reading bytes;
-  lender : g.I.Source.lender l.source ≡ g.I.Source.lender l.fn.source;
+  read : (bytes : List ℕ) × Consumes (g.I.Source.state l.fn.source).coming (g.I.Source.state l.source).coming bytes × StandsAfter l.reading bytes;
+  lender : (g.I.Source.state l.source).lender ≡ (g.I.Source.state l.fn.source).lender;
 }
 
 abbrev pub decreases-loop-given : goal.decreases-loop-given
