@@ -16,10 +16,10 @@ fi
 log=$(mktemp)
 trap 'rm -f "$log"' EXIT
 echo "proving and building nfstream (the first time takes some minutes)" >&2
-if ! (cd crates/nf_cmd && "$rt" run -- --help) > "$log" 2>&1; then
+if ! (cd crates/nfstream && "$rt" run -- --help) > "$log" 2>&1; then
     cat "$log" >&2
     echo "build.sh: the program was not built" >&2
     exit 1
 fi
-install -m 755 crates/nf_cmd/out/nf_cmd "$folder/nfstream"
+install -m 755 crates/nfstream/out/nfstream "$folder/nfstream"
 echo "built $folder/nfstream" >&2

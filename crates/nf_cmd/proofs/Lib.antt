@@ -1,3 +1,4 @@
 mod Rows
 mod Requests
 mod AnswerLemmas
+mod CodeDigits

@@ -1,13 +1,7 @@
 -- What a writer that fails has taken: a front.
-use Rattle.std.specs.Prelude.{◌≡◌, ℕ, List, ◌++◌, Option, Some, None}
+use Rattle.std.specs.Prelude.{◌≡◌, ℕ, List, ◌++◌, Option}
 use Rattle.std.specs.Io.KnownBytes.{Appends}
 
 -- known bytes grow by a front of these; by all of them where no write failed
 abbrev pub AppendsFront : Option (List ℕ) → Option (List ℕ) → List ℕ → Type 0
 AppendsFront old new bytes = (front rest : List ℕ) × (bytes ≡ front ++ rest) × Appends old new front
-
--- known bytes are a front of others
-abbrev pub IsFrontOf : Option (List ℕ) → Option (List ℕ) → Type 0
-IsFrontOf bytes None = Unit {0}
-IsFrontOf None (Some all) = ⊥
-IsFrontOf (Some bytes) (Some all) = (rest : List ℕ) × (all ≡ bytes ++ rest)

@@ -1,9 +1,10 @@
 -- What `test` reads, answers and writes: what the rows of a vector file come to (the conditions of NormalizationTest.txt).
-use Rattle.std.specs.Prelude.{◌≡◌, ◌⊎◌, ℕ, Bool, true, IsTrue, ◌&&◌, ◌==◌, List, [], ◌∷◌, ◌++◌, Option, Some, None, Result, Ok, Err, if◌then◌else◌, codes, decimal}
-use Rattle.std.specs.Io.KnownBytes.{Appends, IsAtEnd}
+use Rattle.std.specs.Prelude.{◌≡◌, ◌⊎◌, ℕ, Bool, true, ◌&&◌, ◌==◌, List, [], ◌∷◌, ◌++◌, Option, Some, None, Result, Ok, Err, if◌then◌else◌, codes, decimal}
+use Rattle.std.specs.Io.KnownBytes.{Appends}
 use Rattle.nf_forms.specs.Properties.{Properties}
 use Rattle.nf_forms.specs.declared.form.Form.{Form}
 use Rattle.nf_forms.specs.declared.form.Form.TheVariants.{Nfc, Nfd, Nfkc, Nfkd}
+use Rattle.nf_filter.specs.Devices.{SourceState}
 use Rattle.nf_vectors.specs.declared.fault.VectorFault.{VectorFault}
 use Rattle.nf_vectors.specs.declared.report.Failure.{Failure}
 use Rattle.nf_vectors.specs.declared.suite.Suite.{Suite}
@@ -70,13 +71,17 @@ abbrev pub finding_end : Result Finding Fault → Result ℕ Fault
 finding_end (Ok f) = Ok (if (f.report.failed == 0) && is_clean_sweep f.sweep then 0 else 1)
 finding_end (Err fault) = Err fault
 
+-- a vector file is read so, over what the input has still to give, before and after
+pub record Reads (coming left : Option (List ℕ)) (suite : Result Suite VectorFault) : Type 0 where
+  pub source : SourceState
+  pub rest : SourceState
+  pub input_is : (source.coming ≡ coming) × (rest.coming ≡ left)
+  pub reads : ReadsSuite source rest suite
+
 -- over what the input has still to give and what the output has taken, before and after, where they tell it
 pub record Tests (p : Properties) (coming left taken now : Option (List ℕ)) (found : Result ℕ Fault) : Type 0 where
   pub suite : Result Suite VectorFault
-  pub at_end : Bool
-  pub failed : Bool
-  pub reads : ReadsSuite coming left at_end failed suite
-  pub read_out : IsTrue at_end → IsAtEnd left
+  pub reads : Reads coming left suite
   pub finding : Result Finding Fault
   pub finds : Finds p suite finding
   pub front : AppendsFront taken now (finding_lines finding)

@@ -1,15 +1,15 @@
 //! `check`.
-ghost use Rattle.std.specs.Prelude.{◌≡◌, Bool, IsTrue, IfErr};
-ghost use Rattle.std.specs.Io.KnownBytes.{IsAtEnd};
+ghost use Rattle.std.specs.Prelude.{◌≡◌, IfErr};
 ghost use Rattle.nf_forms.specs.Ucd.{ucd};
-ghost use Rattle.nf_filter.specs.Surveys.{IsOfSurvey, Surveys};
+ghost use Rattle.nf_filter.specs.Surveys.{IsOfSurvey};
 ghost use Rattle.nf_filter.specs.Checks.{check_decision, no_place};
+ghost use Rattle.nf_cmd.specs.Surveys.{Surveyed};
 ghost use Rattle.nf_cmd.specs.Checks.{Checks, check_line};
 
 use crate::fault::Fault;
-use crate::input::Input;
 use crate::lines::Lines;
 use crate::writing::write_whole;
+use nf_filter::LentReader;
 use nf_row::Ucd;
 use nf_safe::Place;
 use std::io::{Read, Write};
@@ -33,10 +33,9 @@ pub(crate) fn check<I: Read, O: Write>(input: &mut I, out: &mut O) -> Result<u8,
 // What the library answers over the reader.
 fn answer<I: Read>(input: &mut I) -> Result<Option<Place>, nf_filter::Fault>
     ensures faults { IfErr result IsOfSurvey }
-    ensures surveys { (at_end : Bool) × Surveys 0 (check_decision ucd 0) no_place (I.remaining input.old) (I.remaining input.new) at_end result
-        × (IsTrue at_end → IsAtEnd (I.remaining input.new)) }
+    ensures surveyed { Surveyed (check_decision ucd 0) no_place (I.remaining input.old) (I.remaining input.new) result }
 {
-    let mut source = Input::new(input);
+    let mut source = LentReader::new(input);
     nf_filter::check(&Ucd, 0, &mut source)
 }
 

@@ -1,15 +1,15 @@
 //! `measure`.
-ghost use Rattle.std.specs.Prelude.{◌≡◌, Bool, IsTrue, IfErr};
-ghost use Rattle.std.specs.Io.KnownBytes.{IsAtEnd};
+ghost use Rattle.std.specs.Prelude.{◌≡◌, IfErr};
 ghost use Rattle.nf_forms.specs.Ucd.{ucd};
-ghost use Rattle.nf_filter.specs.Surveys.{IsOfSurvey, Surveys};
+ghost use Rattle.nf_filter.specs.Surveys.{IsOfSurvey};
 ghost use Rattle.nf_filter.specs.Measures.{measure_decision, text_measure};
+ghost use Rattle.nf_cmd.specs.Surveys.{Surveyed};
 ghost use Rattle.nf_cmd.specs.Measures.{Measures, measure_lines};
 
 use crate::fault::Fault;
-use crate::input::Input;
 use crate::lines::Lines;
 use crate::writing::write_whole;
+use nf_filter::LentReader;
 use nf_row::Ucd;
 use nf_safe::Measure;
 use std::io::{Read, Write};
@@ -31,10 +31,9 @@ pub(crate) fn measure<I: Read, O: Write>(input: &mut I, out: &mut O) -> Result<u
 // What the library answers over the reader.
 fn answer<I: Read>(input: &mut I) -> Result<Measure, nf_filter::Fault>
     ensures faults { IfErr result IsOfSurvey }
-    ensures surveys { (at_end : Bool) × Surveys 0 (measure_decision ucd 0) (text_measure ucd) (I.remaining input.old) (I.remaining input.new) at_end result
-        × (IsTrue at_end → IsAtEnd (I.remaining input.new)) }
+    ensures surveyed { Surveyed (measure_decision ucd 0) (text_measure ucd) (I.remaining input.old) (I.remaining input.new) result }
 {
-    let mut source = Input::new(input);
+    let mut source = LentReader::new(input);
     nf_filter::measure(&Ucd, 0, &mut source)
 }
 

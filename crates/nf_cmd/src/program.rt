@@ -24,7 +24,7 @@ use std::io::{Read, Write};
 const LINE: usize = 128;
 
 /// Does what `words` ask for, of which the first is the program's name, and answers the status to end with.
-pub(crate) fn command<'w, I: Read, O: Write, E: Write>(
+pub fn command<'w, I: Read, O: Write, E: Write>(
     alloc: Global,
     words: &'w [&'w str],
     input: &mut I,

@@ -1,14 +1,12 @@
 //! `test`.
-ghost use Rattle.std.specs.Prelude.{◌≡◌, ◌+◌, ◌≤◌, ◌++◌, Bool, IsTrue, length};
-ghost use Rattle.std.specs.Io.KnownBytes.{IsAtEnd};
+ghost use Rattle.std.specs.Prelude.{◌≡◌, ◌+◌, ◌≤◌, ◌++◌, length};
 ghost use Rattle.nf_forms.specs.Ucd.{ucd};
-ghost use Rattle.nf_vectors.specs.ReadsSuite.{ReadsSuite};
-ghost use Rattle.nf_cmd.specs.Tests.{Tests, Finds, finding_of, finding_lines, finding_end, column_end, failure_lines, sweep_lines, first_lines, name_of};
+ghost use Rattle.nf_cmd.specs.Tests.{Tests, Reads, Finds, finding_of, finding_lines, finding_end, column_end, failure_lines, sweep_lines, first_lines, name_of};
 
 use crate::fault::Fault;
-use crate::input::Input;
 use crate::lines::Lines;
 use crate::writing::write_whole;
+use nf_filter::LentReader;
 use nf_row::{Form, Ucd};
 use nf_vectors::{Failure, Memory, Report, Suite, Sweep, VectorFault};
 use std::alloc::Global;
@@ -41,10 +39,9 @@ pub(crate) fn test<I: Read, O: Write>(
 
 // Reads the file.
 fn read<I: Read>(alloc: Global, input: &mut I) -> Result<Suite, VectorFault>
-    ensures { (at_end failed : Bool) × ReadsSuite (I.remaining input.old) (I.remaining input.new) at_end failed result
-        × (IsTrue at_end → IsAtEnd (I.remaining input.new)) }
+    ensures { Reads (I.remaining input.old) (I.remaining input.new) result }
 {
-    let mut source = Input::new(input);
+    let mut source = LentReader::new(input);
     Suite::read(alloc, &mut source)
 }
 

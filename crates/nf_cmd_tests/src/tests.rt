@@ -5,19 +5,21 @@ mod check;
 mod convert;
 mod devices;
 mod failures;
-mod lines;
 mod measure;
 mod test;
 mod texts;
 mod words;
 
-use crate::program::command;
+use nf_cmd::command;
 use std::alloc::{AllocError, Global};
 use std::io::Read;
 use std::process::Abort;
 
 /// The names of the forms.
 const FORMS: [&str; 4] = ["nfc", "nfd", "nfkc", "nfkd"];
+
+/// Texts, each with how many times it stands, one after another.
+type Parts<'a> = &'a [(&'a str, usize)];
 
 /// What a run showed.
 #[derive(Debug, Drop)]
@@ -26,6 +28,9 @@ struct Shown {
     out: Vec<u8>,
     err: Vec<u8>,
 }
+
+/// An input, the texts and these bytes behind them; and the status, the output and the line that a run must give of it.
+type Case<'a> = (Parts<'a>, &'a [u8], u8, &'a str, &'a str);
 
 fn run<I: Read>(alloc: Global, words: &[&str], input: &mut I) -> Shown
     requires { 0 < length words.now }
@@ -41,10 +46,9 @@ fn converted(alloc: Global, form: &str, mut input: &[u8]) -> Shown {
     run(alloc, words.as_slice(), &mut input)
 }
 
-/// The texts one after another, each so many times.
-fn repeated(alloc: Global, parts: &[(&str, usize)]) -> Result<Vec<u8>, AllocError> {
+fn repeated(alloc: Global, texts: Parts<'_>) -> Result<Vec<u8>, AllocError> {
     let mut bytes = Vec::new(alloc);
-    for (text, times) in parts {
+    for (text, times) in texts {
         for _ in 0..*times {
             bytes.extend_from_slice(text.as_bytes())?;
         }
@@ -56,4 +60,21 @@ fn assert_shown(rt: &impl Abort, shown: &Shown, status: u8, out: &[u8], err: &st
     assert_eq!(rt; shown.out.as_slice(), out);
     assert_eq!(rt; shown.err.as_slice(), err.as_bytes());
     assert_eq!(rt; shown.status, status);
+}
+
+fn assert_cases(
+    rt: &impl Abort,
+    alloc: Global,
+    words: &[&str],
+    cases: &[Case<'_>],
+) -> Result<(), AllocError>
+    requires { 0 < length words.now }
+{
+    for (texts, rest, status, out, err) in cases {
+        let mut bytes = repeated(alloc, *texts)?;
+        bytes.extend_from_slice(*rest)?;
+        let shown = run(alloc, words, &mut bytes.as_slice());
+        assert_shown(rt, &shown, *status, out.as_bytes(), *err);
+    }
+    Ok(())
 }
