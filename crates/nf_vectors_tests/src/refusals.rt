@@ -1,5 +1,5 @@
-//! Want of memory. `rt test` has no allocator that refuses; `rt try --test --fail-alloc 1..` refuses each growth in
-//! turn, and then these tests show that the call says so, that no other answer takes its place, and that what was
+//! Want of memory. `rt test` has no allocator that refuses; `rt try --test --fail-alloc N` refuses the N-th growth, and
+//! then these tests show, for each N, that the call says so, that no other answer takes its place, and that what was
 //! refused can be had afterwards.
 
 use nf_filter::FromReader;
