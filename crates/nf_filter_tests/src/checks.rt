@@ -1,8 +1,9 @@
-use super::parts::joined;
-use crate::{Failed, Fault, Source, check, measure};
+use crate::parts::joined;
+use nf_filter::{Failed, Fault, Source, check, measure};
 use nf_row::Change::{Class, Compat};
 use nf_row::{Change, Patched, Ucd};
 use nf_safe::{Measure, Place};
+use std::process::Abort;
 use std::test::Fail;
 
 const M: &str = "\u{301}";
@@ -41,13 +42,7 @@ impl<'b> Bytes<'b> {
 impl Source for Bytes<'_> {
     ghost use Rattle.std.specs.Prelude.{None};
 
-    ghost coming = { λ _. None };
-
-    ghost is_failed = { λ source. source.failed };
-
-    ghost is_at_end = { λ source. source.at_end };
-
-    ghost lender = { λ _. 0 };
+    ghost state = { λ source. record { coming = None; is_failed = source.failed; is_at_end = source.at_end; lender = 0 } };
 
     fn get(&mut self, buf: &mut [u8]) -> Result<usize, Failed> {
         let n = self.step.min(buf.len()).min(self.coming.len());
@@ -83,75 +78,106 @@ fn measured(values: [u64; 6]) -> Result<Measure, Fault> {
     })
 }
 
-/// A text, what a check answers to it, and what is measured of it.
-type Case<'a> = (
-    &'a [(&'a str, usize)],
-    Result<Option<Place>, Fault>,
-    [u64; 6],
-);
+/// A text, where it leaves the format (in characters and bytes), and what is measured of it.
+type Case<'a> = (&'a [(&'a str, usize)], Option<(u64, u64)>, [u64; 6]);
 
 #[test]
 fn a_text_is_checked_and_measured(rt: HostRuntime) -> Result<(), Fail> {
     let alloc = rt.alloc();
     let cases: [Case<'_>; 9] = [
-        (&[], Ok(None), [0, 0, 0, 0, 0, 0]),
-        (&[("q", 1), (M, 31)], place(31, 61), [63, 32, 31, 31, 1, 0]),
-        (&[("q", 1), (M, 30)], Ok(None), [61, 31, 30, 30, 0, 0]),
+        (&[], None, [0, 0, 0, 0, 0, 0]),
+        (&[("q", 1), (M, 31)], Some((31, 61)), [63, 32, 31, 31, 1, 0]),
+        (&[("q", 1), (M, 30)], None, [61, 31, 30, 30, 0, 0]),
         (
             &[("\u{C5}", 1), (M, 30)],
-            place(30, 60),
+            Some((30, 60)),
             [62, 31, 31, 31, 1, 0],
         ),
-        (&[("\u{FFFF}", 1)], Ok(None), [3, 1, 0, 0, 0, 1]),
-        (&[("\u{C5}\u{301}", 1)], Ok(None), [4, 2, 2, 2, 0, 0]),
+        (&[("\u{FFFF}", 1)], None, [3, 1, 0, 0, 0, 1]),
+        (&[("\u{C5}\u{301}", 1)], None, [4, 2, 2, 2, 0, 0]),
         (
             &[("q", 1), (M, 30), (J, 1), (M, 1)],
-            Ok(None),
+            None,
             [65, 33, 31, 30, 0, 0],
         ),
         // Past one block, with characters across its end.
         (
             &[("\u{1F600}", 2000), ("q", 1)],
-            Ok(None),
+            None,
             [8001, 2001, 0, 0, 0, 0],
         ),
         (
             &[("\u{1F600}a", 1000), (M, 31), ("q", 5000)],
-            place(2030, 5060),
+            Some((2030, 5060)),
             [10_062, 7031, 31, 31, 1, 0],
         ),
     ];
-    for (text, checked, values) in cases {
+    for (text, left, values) in cases {
         let bytes = joined(alloc, text)?;
         for step in STEPS {
-            let mut source = Bytes::new(bytes.as_slice(), step);
-            assert!(rt; check(&Ucd, 0, &mut source) == checked, "step {step}");
-            let mut source = Bytes::new(bytes.as_slice(), step);
-            assert!(rt;
-                measure(&Ucd, 0, &mut source) == measured(values),
-                "step {step}"
-            );
+            check_text(&rt, bytes.as_slice(), step, left, values);
         }
     }
     Ok(())
 }
 
+/// A place has the base before it, and a measure has none.
+fn check_text(
+    rt: &impl Abort,
+    bytes: &[u8],
+    step: usize,
+    left: Option<(u64, u64)>,
+    values: [u64; 6],
+) {
+    for base in [0u64, 100] {
+        let place = left.map(|(chars, bytes)| Place {
+            chars,
+            bytes: bytes.saturating_add(base),
+        });
+        let mut source = Bytes::new(bytes, step);
+        assert_eq!(rt; check(&Ucd, base, &mut source), Ok(place), "step {step}");
+        let mut source = Bytes::new(bytes, step);
+        assert_eq!(rt;
+            measure(&Ucd, base, &mut source),
+            measured(values),
+            "step {step}"
+        );
+    }
+}
+
 #[test]
 fn the_first_fault_is_told(rt: HostRuntime) {
-    let cases: [(&[u8], Fault); 6] = [
-        (b"ab\xC3(", Fault::BadByte { at: 3, start: 2 }),
-        (b"\xC0", Fault::BadByte { at: 0, start: 0 }),
-        (b"\xED\xA0\x80", Fault::BadByte { at: 1, start: 0 }),
-        (b"\xE2\x82\xACa\xFF", Fault::BadByte { at: 4, start: 4 }),
-        (b"ab\xC3", Fault::Cut { at: 3, start: 2 }),
-        (b"\xF0\x90\x80", Fault::Cut { at: 3, start: 0 }),
+    let cases: [(&[u8], u64, u64); 6] = [
+        (b"ab\xC3(", 3, 2),
+        (b"\xC0", 0, 0),
+        (b"\xED\xA0\x80", 1, 0),
+        (b"\xE2\x82\xACa\xFF", 4, 4),
+        (b"ab\xC3", 3, 2),
+        (b"\xF0\x90\x80", 3, 0),
     ];
-    for (bytes, fault) in cases {
-        for step in STEPS {
-            assert_eq!(rt; check(&Ucd, 0, &mut Bytes::new(bytes, step)), Err(fault));
-            assert_eq!(rt; measure(&Ucd, 0, &mut Bytes::new(bytes, step)), Err(fault));
+    for (bytes, at, start) in cases {
+        for base in [0u64, 100] {
+            let at = at.saturating_add(base);
+            let start = start.saturating_add(base);
+            let fault = if base.saturating_add(bytes.len() as u64) == at {
+                Fault::Cut { at, start }
+            } else {
+                Fault::BadByte { at, start }
+            };
+            for step in STEPS {
+                check_fault(&rt, base, bytes, step, fault);
+            }
         }
     }
+}
+
+/// A check and a measurement answer this fault.
+fn check_fault(rt: &impl Abort, base: u64, bytes: &[u8], step: usize, fault: Fault) {
+    assert_eq!(rt; check(&Ucd, base, &mut Bytes::new(bytes, step)), Err(fault));
+    assert_eq!(rt;
+        measure(&Ucd, base, &mut Bytes::new(bytes, step)),
+        Err(fault)
+    );
 }
 
 #[test]
@@ -196,52 +222,23 @@ fn a_failed_source_is_told_where_nothing_is_before(rt: HostRuntime) {
 }
 
 #[test]
-fn places_have_the_base_before_them(rt: HostRuntime) -> Result<(), Fail> {
-    let bytes = joined(rt.alloc(), &[("q", 1), (M, 31)])?;
-    for step in STEPS {
-        let mut source = Bytes::new(bytes.as_slice(), step);
-        assert_eq!(rt; check(&Ucd, 100, &mut source), place(31, 161));
-        let mut source = Bytes::new(b"ab\xC3(", step);
-        let fault = Fault::BadByte {
-            at: 103,
-            start: 102,
-        };
-        assert_eq!(rt; measure(&Ucd, 100, &mut source), Err(fault));
-        let mut source = Bytes::new(b"ab\xC3", step);
-        let fault = Fault::Cut {
-            at: 103,
-            start: 102,
-        };
-        assert_eq!(rt; check(&Ucd, 100, &mut source), Err(fault));
-    }
-    Ok(())
-}
-
-#[test]
 fn no_piece_goes_past_the_last_offset(rt: HostRuntime) {
     let base = u64::MAX - 1;
-    for (bytes, step) in [
-        (b"ab".as_slice(), 2),
-        (b"\xFFb".as_slice(), 2),
-        (b"abc".as_slice(), 1),
-    ] {
-        assert_eq!(rt;
-            check(&Ucd, base, &mut Bytes::new(bytes, step)),
-            Err(Fault::TooLong)
-        );
-        assert_eq!(rt;
-            measure(&Ucd, base, &mut Bytes::new(bytes, step)),
-            Err(Fault::TooLong)
-        );
-    }
-    let mut source = Bytes::new(b"a", 2);
-    assert_eq!(rt; check(&Ucd, base, &mut source), Ok(None));
-    let mut source = Bytes::new(b"\xFFb", 1);
-    let fault = Fault::BadByte {
+    let bad = Fault::BadByte {
         at: base,
         start: base,
     };
-    assert_eq!(rt; check(&Ucd, base, &mut source), Err(fault));
+    let cases: [(&[u8], usize, Fault); 4] = [
+        (b"ab", 2, Fault::TooLong),
+        (b"\xFFb", 2, Fault::TooLong),
+        (b"abc", 1, Fault::TooLong),
+        (b"\xFFb", 1, bad),
+    ];
+    for (bytes, step, fault) in cases {
+        check_fault(&rt, base, bytes, step, fault);
+    }
+    let mut source = Bytes::new(b"a", 2);
+    assert_eq!(rt; check(&Ucd, base, &mut source), Ok(None));
 }
 
 const NINETEEN: [char; 19] = ['a'; 19];

@@ -1,6 +1,6 @@
 //! Refusals: which, where, and what stands after them.
-use super::parts::{FORMS, Kept};
-use crate::{Fault, Filter, Held, Tally};
+use crate::parts::{FORMS, Kept};
+use nf_filter::{Fault, Filter, Held, Tally};
 use nf_row::Ucd;
 
 const NOTHING: Held = Held {
@@ -40,30 +40,23 @@ fn a_bad_byte_stops_the_filter_for_good(rt: HostRuntime) {
 
 #[test]
 fn ill_formed_bytes_have_their_places(rt: HostRuntime) {
-    let cases: [(&[u8], u64); 3] = [(b"\xE0\x80", 1), (b"\xC0", 0), (b"\xED\xA0\x80", 1)];
+    let bad = |at| Err(Fault::BadByte { at, start: 0 });
+    let spent = Err(Fault::Spent);
+    let cut = Err(Fault::Cut { at: 3, start: 0 });
+    let cases: [(&[u8], Result<(), Fault>, Result<Tally, Fault>); 4] = [
+        (b"\xE0\x80", bad(1), spent),
+        (b"\xC0", bad(0), spent),
+        (b"\xED\xA0\x80", bad(1), spent),
+        (b"\xF0\x90\x80", Ok(()), cut),
+    ];
     for form in FORMS {
-        for (bytes, at) in cases {
+        for (bytes, fed, finished) in cases {
             let mut sink = Kept::new(rt.alloc());
             let mut filter = Filter::new(&Ucd, form, 0);
-            let fault = Fault::BadByte { at, start: 0 };
-            assert_eq!(rt; filter.feed(bytes, &mut sink), Err(fault));
-            assert_eq!(rt; filter.finish(&mut sink), Err(Fault::Spent));
+            assert_eq!(rt; filter.feed(bytes, &mut sink), fed);
+            assert_eq!(rt; filter.finish(&mut sink), finished);
             assert_eq!(rt; sink.bytes.len(), 0);
         }
-    }
-}
-
-#[test]
-fn a_begun_character_at_the_end_is_a_fault(rt: HostRuntime) {
-    for form in FORMS {
-        let mut sink = Kept::new(rt.alloc());
-        let mut filter = Filter::new(&Ucd, form, 0);
-        assert_eq!(rt; filter.feed(b"\xF0\x90\x80", &mut sink), Ok(()));
-        assert_eq!(rt;
-            filter.finish(&mut sink),
-            Err(Fault::Cut { at: 3, start: 0 })
-        );
-        assert_eq!(rt; sink.bytes.len(), 0);
     }
 }
 
@@ -105,5 +98,6 @@ fn a_sink_that_fails_holds_the_beginning(rt: HostRuntime) {
         assert_eq!(rt; filter.feed(b"g", &mut sink), Err(Fault::Spent));
         assert_eq!(rt; filter.finish(&mut sink), Err(Fault::Spent));
         assert_eq!(rt; sink.bytes.as_slice(), b"abc".as_slice());
+        assert_eq!(rt; sink.refused, 1);
     }
 }

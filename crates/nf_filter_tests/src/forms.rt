@@ -1,5 +1,5 @@
-use super::parts::{FORMS, course_of, joined};
-use crate::Tally;
+use crate::parts::{course_of, joined};
+use nf_filter::Tally;
 use nf_row::{Form, Ucd};
 use std::test::Fail;
 
@@ -11,10 +11,17 @@ fn tally(bytes: u64, chars: u64, put: u64) -> Tally {
     Tally { bytes, chars, put }
 }
 
+/// A form, a text, what comes out, and the tally.
+type Case<'a> = (Form, &'a [(&'a str, usize)], &'a [(&'a str, usize)], Tally);
+
 #[test]
 fn texts_come_out_in_their_form(rt: HostRuntime) -> Result<(), Fail> {
     let alloc = rt.alloc();
-    let cases: [(Form, &[(&str, usize)], &[(&str, usize)], Tally); 22] = [
+    let cases: [Case<'_>; 26] = [
+        (Form::Nfc, &[("", 1)], &[("", 1)], tally(0, 0, 0)),
+        (Form::Nfd, &[("", 1)], &[("", 1)], tally(0, 0, 0)),
+        (Form::Nfkc, &[("", 1)], &[("", 1)], tally(0, 0, 0)),
+        (Form::Nfkd, &[("", 1)], &[("", 1)], tally(0, 0, 0)),
         (
             Form::Nfc,
             &[("a\u{302}\u{323}", 1)],
@@ -156,16 +163,6 @@ fn texts_come_out_in_their_form(rt: HostRuntime) -> Result<(), Fail> {
             joined(alloc, output)?.as_slice()
         );
         assert_eq!(rt; course.answer, Ok(tally));
-    }
-    Ok(())
-}
-
-#[test]
-fn nothing_in_gives_nothing_out(rt: HostRuntime) -> Result<(), Fail> {
-    for form in FORMS {
-        let course = course_of(rt.alloc(), &Ucd, form, &[])?;
-        assert_eq!(rt; course.written.len(), 0);
-        assert_eq!(rt; course.answer, Ok(tally(0, 0, 0)));
     }
     Ok(())
 }

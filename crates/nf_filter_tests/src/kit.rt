@@ -1,5 +1,5 @@
-use super::parts::{FORMS, Kept};
-use crate::{Filter, FromReader, run};
+use crate::parts::{FORMS, Kept};
+use nf_filter::{Filter, FromReader, run};
 use nf_row::{Form, Ucd, sound};
 use std::alloc::{AllocError, Global};
 use std::test::Fail;

@@ -1,10 +1,28 @@
+//! The tests of `nf_filter` by its public calls: against plain definitions on whole texts, and over devices that give and
+//! take little, or fail.
+#![tactic(auto)]
+
+#[cfg(test)]
+mod blocks;
+#[cfg(test)]
 mod checks;
+#[cfg(test)]
 mod faults;
+#[cfg(test)]
 mod forms;
+#[cfg(test)]
 mod kit;
+#[cfg(test)]
+mod once;
+#[cfg(test)]
 mod parts;
+#[cfg(test)]
 mod pieces;
+#[cfg(test)]
 mod reference;
+#[cfg(test)]
 mod settling;
+#[cfg(test)]
 mod streams;
+#[cfg(test)]
 mod tables;

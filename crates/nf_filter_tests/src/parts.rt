@@ -1,4 +1,4 @@
-use crate::{Failed, Fault, Filter, Held, Sink, Source, Tally};
+use nf_filter::{Failed, Fault, Filter, Held, Sink, Source, Tally};
 use nf_row::{Form, Rows};
 use std::alloc::{AllocError, Global};
 
@@ -10,6 +10,10 @@ pub struct Kept {
     pub bytes: Vec<u8>,
     pub room: usize,
     pub step: usize,
+    /// The longest slice that it was given.
+    pub longest: usize,
+    /// How many calls it refused.
+    pub refused: usize,
     failed: bool,
 }
 
@@ -28,6 +32,8 @@ impl Kept {
             bytes: Vec::new(alloc),
             room,
             step,
+            longest: 0,
+            refused: 0,
             failed: false,
         }
     }
@@ -36,18 +42,16 @@ impl Kept {
 impl Sink for Kept {
     ghost use Rattle.std.specs.Prelude.{None};
 
-    ghost taken = { λ _. None };
-
-    ghost is_failed = { λ sink. sink.failed };
-
-    ghost lender = { λ _. 0 };
+    ghost state = { λ sink. record { taken = None; is_failed = sink.failed; lender = 0 } };
 
     fn put(&mut self, bytes: &[u8]) -> Result<usize, Failed> {
         if bytes.is_empty() {
             return Ok(0);
         }
+        self.longest = self.longest.max(bytes.len());
         let n = bytes.len().min(self.room).min(self.step);
         if self.failed || n == 0 || self.bytes.extend_from_slice(&bytes[..n]).is_err() {
+            self.refused = self.refused.saturating_add(1);
             self.failed = true;
             return Err(Failed);
         }
@@ -83,13 +87,7 @@ impl<'a> Pieces<'a> {
 impl Source for Pieces<'_> {
     ghost use Rattle.std.specs.Prelude.{None};
 
-    ghost coming = { λ _. None };
-
-    ghost is_failed = { λ source. source.failed };
-
-    ghost is_at_end = { λ source. source.at_end };
-
-    ghost lender = { λ _. 0 };
+    ghost state = { λ source. record { coming = None; is_failed = source.failed; is_at_end = source.at_end; lender = 0 } };
 
     fn get(&mut self, buf: &mut [u8]) -> Result<usize, Failed> {
         self.at_end = false;

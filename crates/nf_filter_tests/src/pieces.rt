@@ -1,7 +1,7 @@
 //! Every text cut in every way, against the definitions on whole texts.
-use super::parts::{FORMS, Kept, joined};
-use super::reference::{Due, after};
-use crate::{Fault, Filter};
+use crate::parts::{FORMS, Kept, joined};
+use crate::reference::{Due, after};
+use nf_filter::{Fault, Filter};
 use nf_row::Change::{Canonical, Class, Compat, Pair};
 use nf_row::{Change, Form, Patched, Rows, Ucd};
 use std::alloc::{AllocError, Global};

@@ -1,6 +1,6 @@
 //! What is written before the end, and what waits for it.
-use super::parts::{FORMS, Kept, course_of, joined};
-use crate::{Filter, Held, Tally};
+use crate::parts::{FORMS, course_of, joined};
+use nf_filter::{Held, Tally};
 use nf_row::{Form, Ucd};
 use std::alloc::{AllocError, Global};
 use std::process::Abort;
@@ -111,21 +111,6 @@ fn check(rt: &impl Abort, alloc: Global, case: &Case<'_>) -> Result<(), AllocErr
     assert_eq!(rt; course.written.as_slice(), case.written.as_bytes());
     assert_eq!(rt; course.answer, Ok(case.tally));
     Ok(())
-}
-
-#[test]
-fn a_begun_character_is_held_back(rt: HostRuntime) {
-    let mut sink = Kept::new(rt.alloc());
-    let mut filter = Filter::new(&Ucd, Form::Nfc, 0);
-    assert_eq!(rt; filter.feed(b"A\xCC", &mut sink), Ok(()));
-    assert_eq!(rt; sink.bytes.len(), 0);
-    assert_eq!(rt;
-        filter.held(),
-        Held {
-            bytes: 1,
-            pending: 1
-        }
-    );
 }
 
 #[test]

@@ -1,47 +1,12 @@
 //! Sources and sinks that give and take little, and that fail in mid-stream.
-use super::parts::{FORMS, Kept, Pieces, joined};
-use super::reference::after;
-use crate::{Failed, Fault, Filter, FromReader, Sink, Source, Tally, ToWriter, drive, run};
+use crate::parts::{FORMS, Kept, Pieces, joined};
+use crate::reference::after;
+use nf_filter::{Fault, Filter, FromReader, Tally, ToWriter, drive, run};
 use nf_row::{Form, Ucd};
-use std::io::{self, ErrorKind, Read, Write};
 use std::test::Fail;
 
 fn tally(bytes: u64, chars: u64, put: u64) -> Tally {
     Tally { bytes, chars, put }
-}
-
-/// A reader that gives two bytes at a time, and fails once these are given.
-#[derive(Debug, Drop)]
-struct Breaks<'a> {
-    rest: &'a [u8],
-    kind: ErrorKind,
-}
-
-impl Read for Breaks<'_> {
-    fn read(&mut self, buf: &mut [u8]) -> io::Result<usize> {
-        let len = buf.len().min(self.rest.len()).min(2);
-        if len == 0 {
-            return Err(io::Error::from(self.kind));
-        }
-        let (given, rest) = self.rest.split_at(len);
-        buf[..len].copy_from_slice(given);
-        self.rest = rest;
-        Ok(len)
-    }
-}
-
-/// A writer that takes nothing, and does not say why.
-#[derive(Debug, Drop)]
-struct Full;
-
-impl Write for Full {
-    fn write(&mut self, _buf: &[u8]) -> io::Result<usize> {
-        Ok(0)
-    }
-
-    fn flush(&mut self) -> io::Result<()> {
-        Ok(())
-    }
 }
 
 #[test]
@@ -53,31 +18,6 @@ fn a_reader_goes_through_to_a_writer(rt: HostRuntime) -> Result<(), Fail> {
     assert_eq!(rt; sink.into_inner().as_slice(), b"\xC3\xA9a".as_slice());
     assert_eq!(rt; source.into_inner().len(), 0);
     Ok(())
-}
-
-#[test]
-fn a_reader_that_breaks_leaves_what_is_settled(rt: HostRuntime) {
-    for kind in [ErrorKind::Interrupted, ErrorKind::TimedOut] {
-        for form in FORMS {
-            let rest = b"abc\xCC".as_slice();
-            let mut source = FromReader::new(Breaks { rest, kind });
-            let mut sink = Kept::new(rt.alloc());
-            let answer = run(&Ucd, form, 0, &mut source, &mut sink);
-            assert_eq!(rt; answer, Err(Fault::Read));
-            assert_eq!(rt; sink.bytes.as_slice(), b"ab".as_slice());
-            assert_eq!(rt; source.get(&mut [0; 4]), Err(Failed));
-        }
-    }
-}
-
-#[test]
-fn a_writer_that_takes_nothing_has_failed(rt: HostRuntime) {
-    let mut source = FromReader::new(b"a".as_slice());
-    let mut sink = ToWriter::new(Full);
-    let answer = run(&Ucd, Form::Nfc, 0, &mut source, &mut sink);
-    assert_eq!(rt; answer, Err(Fault::Write));
-    assert_eq!(rt; sink.put(b"a"), Err(Failed));
-    assert_eq!(rt; sink.put(b""), Ok(0));
 }
 
 #[test]
@@ -151,6 +91,7 @@ fn a_sink_fails_between_its_bytes(rt: HostRuntime) {
         let answer = run(&Ucd, form, 0, &mut source, &mut sink);
         assert_eq!(rt; answer, Err(Fault::Write));
         assert_eq!(rt; sink.bytes.as_slice(), b"abc".as_slice());
+        assert_eq!(rt; sink.refused, 1);
     }
 }
 

@@ -1,5 +1,5 @@
-use super::parts::{FORMS, course_of, joined};
-use crate::{Fault, Held};
+use crate::parts::{FORMS, course_of, joined};
+use nf_filter::{Fault, Held};
 use nf_row::Change::{Canonical, Class, Compat, Pair};
 use nf_row::{Change, Form, Patched};
 use std::test::Fail;
