@@ -97,7 +97,6 @@ module _ (f : Form) (p : Properties) (stands : List ℕ → Type 0) (base : ℕ)
     no_fault_before = no_fault (fault_in p base (bytes ++ reads.before)) (sym (stop_in-fault p base (bytes ++ reads.before)) ∙ reads.unstopped)
 
     by_end : (b : Bool) → left.is_at_end ≡ b → Drives f p base bytes source left old new (Err fault)
-
     by_end true ended =
         let end = reads.ended ended in
         let cut = end_is base (ending_of (bytes ++ reads.before)) fault end.1 in
@@ -108,8 +107,13 @@ module _ (f : Form) (p : Properties) (stands : List ℕ → Type 0) (base : ℕ)
         let due_is = ap (settled_utf8 f p) fed_is ∙ sym (cut_at_end f p base (bytes ++ reads.before) fault cut) ∙ ap (final_utf8 f p) (sym fed_is) ∙ ap (λ b. due_utf8 b f p (bytes ++ (reads.before ++ reads.last))) (sym ended) in
         let given = Puts-at refl due_is puts in
         record {
-          fed = reads.before ++ reads.last; last = []; given = all_given; few = omega arith; read_out = reads.read_out;
-          too_long = not_over kinds.0; all_fed = λ _. refl;
+          fed = reads.before ++ reads.last;
+          last = [];
+          given = all_given;
+          few = omega arith;
+          read_out = reads.read_out;
+          too_long = not_over kinds.0;
+          all_fed = λ _. refl;
           write = (λ e. absurd (other_refusal Write kinds.1 e), λ both. absurd (never_failed given both));
           broken_off = λ e. absurd (other_refusal Write kinds.1 e);
           written = λ _. given;
@@ -137,8 +141,13 @@ module _ (f : Form) (p : Properties) (stands : List ℕ → Type 0) (base : ℕ)
             let short : ¬ (fault ≡ TooLong) = λ e. let both : TooLong ≡ Write = sym e ∙ is in cc in
             let breaks = BreaksOff-at (written_is bytes) (written_is all ∙ due_is) (reads.broken (ap stop_of is)) in
             record {
-              fed = reads.before ++ reads.last; last = []; given = all_given; few = omega arith; read_out = reads.read_out;
-              too_long = not_over short; all_fed = λ _. refl;
+              fed = reads.before ++ reads.last;
+              last = [];
+              given = all_given;
+              few = omega arith;
+              read_out = reads.read_out;
+              too_long = not_over short;
+              all_fed = λ _. refl;
               write = (λ _. failed_with_more breaks, λ _. ap Err is);
               broken_off = λ _. breaks;
               written = λ no. absurd (no (ap Err is));
@@ -152,8 +161,13 @@ module _ (f : Form) (p : Properties) (stands : List ℕ → Type 0) (base : ℕ)
             let kept : ¬ (fault ≡ Write) = λ e. let both : TooLong ≡ Write = sym is ∙ e in cc in
             let puts = Puts-at (written_is bytes) (written_is (bytes ++ reads.before) ∙ ap (λ b. due_utf8 b f p (bytes ++ reads.before)) (sym going)) (reads.puts_before (ap stop_of is)) in
             record {
-              fed = reads.before; last = reads.last; given = reads.given; few = reads.few; read_out = reads.read_out;
-              too_long = too_long_is; all_fed = λ no. absurd (no (ap Err is));
+              fed = reads.before;
+              last = reads.last;
+              given = reads.given;
+              few = reads.few;
+              read_out = reads.read_out;
+              too_long = too_long_is;
+              all_fed = λ no. absurd (no (ap Err is));
               write = (λ e. absurd (other_refusal Write kept e), λ both. absurd (never_failed puts both));
               broken_off = λ e. absurd (other_refusal Write kept e);
               written = λ _. puts;
@@ -169,8 +183,13 @@ module _ (f : Form) (p : Properties) (stands : List ℕ → Type 0) (base : ℕ)
             let puts = put kept short in
             let fed_is = ap (λ l. bytes ++ (reads.before ++ l)) (reads.failed (ap stop_of is)) ∙ ap (λ l. bytes ++ l) (append-nil reads.before) in
             record {
-              fed = reads.before ++ reads.last; last = []; given = all_given; few = omega arith; read_out = reads.read_out;
-              too_long = not_over short; all_fed = λ _. refl;
+              fed = reads.before ++ reads.last;
+              last = [];
+              given = all_given;
+              few = omega arith;
+              read_out = reads.read_out;
+              too_long = not_over short;
+              all_fed = λ _. refl;
               write = (λ e. absurd (other_refusal Write kept e), λ both. absurd (never_failed puts both));
               broken_off = λ e. absurd (other_refusal Write kept e);
               written = λ _. puts;
@@ -184,8 +203,13 @@ module _ (f : Form) (p : Properties) (stands : List ℕ → Type 0) (base : ℕ)
             let puts = put kinds.0 kinds.1 in
             let stops = reads.stopped going (other_stop TooLong kinds.1) (other_stop Read kinds.2) (other_stop Write kinds.0) in
             record {
-              fed = reads.before ++ reads.last; last = []; given = all_given; few = omega arith; read_out = reads.read_out;
-              too_long = not_over kinds.1; all_fed = λ _. refl;
+              fed = reads.before ++ reads.last;
+              last = [];
+              given = all_given;
+              few = omega arith;
+              read_out = reads.read_out;
+              too_long = not_over kinds.1;
+              all_fed = λ _. refl;
               write = (λ e. absurd (other_refusal Write kinds.0 e), λ both. absurd (never_failed puts both));
               broken_off = λ e. absurd (other_refusal Write kinds.0 e);
               written = λ _. puts;
@@ -230,8 +254,13 @@ module _ (f : Form) (p : Properties) (stands : List ℕ → Type 0) (base : ℕ)
       broken is =
           let breaks = BreaksOff-at refl due_is (BreaksOff-join first (finishes.broken_off is)) in
           record {
-            fed = reads.before; last = []; given = consumed; few = omega arith; read_out = reads.read_out;
-            too_long = (λ e. absurd (short e), λ over. absurd (omega (arith, over, fits_in))); all_fed = λ _. refl;
+            fed = reads.before;
+            last = [];
+            given = consumed;
+            few = omega arith;
+            read_out = reads.read_out;
+            too_long = (λ e. absurd (short e), λ over. absurd (omega (arith, over, fits_in)));
+            all_fed = λ _. refl;
             write = (λ _. failed_with_more breaks, λ _. is);
             broken_off = λ _. breaks;
             written = λ no. absurd (no is);
@@ -244,8 +273,13 @@ module _ (f : Form) (p : Properties) (stands : List ℕ → Type 0) (base : ℕ)
       whole kept =
           let puts = Puts-at refl due_is (Puts-join first (finishes.written kept)) in
           record {
-            fed = reads.before; last = []; given = consumed; few = omega arith; read_out = reads.read_out;
-            too_long = (λ e. absurd (short e), λ over. absurd (omega (arith, over, fits_in))); all_fed = λ _. refl;
+            fed = reads.before;
+            last = [];
+            given = consumed;
+            few = omega arith;
+            read_out = reads.read_out;
+            too_long = (λ e. absurd (short e), λ over. absurd (omega (arith, over, fits_in)));
+            all_fed = λ _. refl;
             write = (λ e. absurd (kept e), λ both. absurd (never_failed puts both));
             broken_off = λ e. absurd (kept e);
             written = λ _. puts;

@@ -94,14 +94,38 @@ module _ (p : Properties) where
         let own : after.form ≡ normalizer.form = cc in
         let all = rw same at reads in
         record {
-          before = all.before; last = all.last; given = all.given; few = all.few; read_out = all.read_out; unstopped = all.unstopped; too_long = all.too_long; failed = all.failed;
-          ended = all.ended; stopped = all.stopped; read = HasRead-form after base reading (bytes ++ all.before) (own ∙ same) all.read; broken = all.broken; puts = all.puts; puts_before = all.puts_before;
+          before = all.before;
+          last = all.last;
+          given = all.given;
+          few = all.few;
+          read_out = all.read_out;
+          unstopped = all.unstopped;
+          too_long = all.too_long;
+          failed = all.failed;
+          ended = all.ended;
+          stopped = all.stopped;
+          read = HasRead-form after base reading (bytes ++ all.before) (own ∙ same) all.read;
+          broken = all.broken;
+          puts = all.puts;
+          puts_before = all.puts_before;
         }
     ReadsAll-form normalizer after same base reading bytes source left old new (Err stop) form reads =
         let all = rw same at reads in
         record {
-          before = all.before; last = all.last; given = all.given; few = all.few; read_out = all.read_out; unstopped = all.unstopped; too_long = all.too_long; failed = all.failed;
-          ended = all.ended; stopped = all.stopped; read = tt; broken = all.broken; puts = all.puts; puts_before = all.puts_before;
+          before = all.before;
+          last = all.last;
+          given = all.given;
+          few = all.few;
+          read_out = all.read_out;
+          unstopped = all.unstopped;
+          too_long = all.too_long;
+          failed = all.failed;
+          ended = all.ended;
+          stopped = all.stopped;
+          read = tt;
+          broken = all.broken;
+          puts = all.puts;
+          puts_before = all.puts_before;
         }
 
     module _ (h : Form) (same : h ≡ f) (stands : List ℕ → Type 0) (base : ℕ) (reading : Reading) (bytes piece : List ℕ) (old new : SinkState) where

@@ -52,7 +52,11 @@ module _ {T : Type 0} (of_place : Place → T) (base : ℕ) (stands : List ℕ �
   pub Surveys-whole : (u : Unit {0}) → left.is_at_end ≡ true → (reads : ReadsAll stands stops (λ _. []) base reading [] source left old new (Ok u)) → (result : T) → value reads.before ≡ result
       → Surveys base decision value source left (Ok result)
   Surveys-whole u ended reads result is = record {
-    before = reads.before; last = reads.last; given = reads.given; few = reads.few; read_out = reads.read_out;
+    before = reads.before;
+    last = reads.last;
+    given = reads.given;
+    few = reads.few;
+    read_out = reads.read_out;
     undecided = undecided reads.before reads.unstopped;
     too_long = (λ e. cc, λ over. let stop = reads.too_long.1 (omega (arith, over)) in cc);
     failed = λ e. cc;
@@ -63,7 +67,11 @@ module _ {T : Type 0} (of_place : Place → T) (base : ℕ) (stands : List ℕ �
   -- it was stopped; nothing is written, so no sink fails
   pub Surveys-stopped : (stop : Stop) → ¬ (stop ≡ Refused Write) → (reads : ReadsAll stands stops (λ _. []) base reading [] source left old new (Err stop)) → Surveys base decision value source left (told of_place stop)
   Surveys-stopped stop kept reads = record {
-    before = reads.before; last = reads.last; given = reads.given; few = reads.few; read_out = reads.read_out;
+    before = reads.before;
+    last = reads.last;
+    given = reads.given;
+    few = reads.few;
+    read_out = reads.read_out;
     undecided = undecided reads.before reads.unstopped;
     too_long = (λ e. omega (arith, reads.too_long.0 (ap stopped_by (refused_is of_place stop TooLong e))), λ over. refusal_is of_place stop TooLong (reads.too_long.1 (omega (arith, over))));
     failed = λ e. reads.failed (ap stopped_by (refused_is of_place stop Read e));

@@ -113,7 +113,7 @@ impl<'r, R: Rows> Filter<'r, R> {
             let base = base_of (state_of self.old) in
             (f : Form) (bytes : List ℕ) → StandsAfter f p (state_of self.old) bytes
             → ReadsAll (HasTaken f p (state_of self.new).normalizer) (unusable_at p base) (usable_utf8 f p) base (state_of self.new).reading bytes
-                (I.state source.old) (I.state source.new) (S.state sink.old) (S.state sink.new) (stop_at_end result) }
+            (I.state source.old) (I.state source.new) (S.state sink.old) (S.state sink.new) (stop_at_end result) }
         ensures lenders { ((I.state source.new).lender ≡ (I.state source.old).lender) × ((S.state sink.new).lender ≡ (S.state sink.old).lender) }
     {
         let state = &mut self.state;

@@ -14,11 +14,7 @@ use nf_safe::{Measure, Measurer};
 
 /// Reads all that the source gives, and answers what is measured of it. The first byte has the offset `base`. The first
 /// fault is answered in its stead: `Row`, where a filter would answer it, `BadByte`, `Cut`, `Read` and `TooLong`.
-pub fn measure<R: Rows, I: Source>(
-    rows: &R,
-    base: u64,
-    source: &mut I,
-) -> Result<Measure, Fault>
+pub fn measure<R: Rows, I: Source>(rows: &R, base: u64, source: &mut I) -> Result<Measure, Fault>
     ensures faults { IfErr result IsOfSurvey }
     ensures read { (result ≡ Err Fault.Read) ↔ IsTrue (I.state source.new).is_failed }
     ensures end { OnOk result (IsTrue (I.state source.new).is_at_end) }
@@ -71,12 +67,7 @@ impl Taker for Measurer {
 }
 
 /// Sees the text that begins at the offset `at`, and stops where a filter would.
-fn see_text<R: Rows>(
-    measurer: &mut Measurer,
-    rows: &R,
-    at: u64,
-    text: &str,
-) -> Result<(), Stop>
+fn see_text<R: Rows>(measurer: &mut Measurer, rows: &R, at: u64, text: &str) -> Result<(), Stop>
     requires counts { (values_of measurer.old).bytes ≤ at }
     requires fits { at + length text.now ≤ u64.MAX }
     ensures counts { OnOk result ((values_of measurer.new).bytes ≤ at + length text.now) }

@@ -33,7 +33,7 @@ pub fn read_all<I: Source, T: Taker, R: Rows, S: Sink>(
     ensures reads { let p = R.properties rows.now in
         (base : ℕ) (bytes : List ℕ) → HasRead (T.has_taken p taker.old base) (T.stops p base) base reading.old bytes
         → ReadsAll (T.has_taken p taker.new base) (T.stops p base) (T.gives (T.form taker.old) p) base reading.new bytes
-            (I.state source.old) (I.state source.new) (S.state sink.old) (S.state sink.new) result }
+        (I.state source.old) (I.state source.new) (S.state sink.old) (S.state sink.new) result }
     ensures lenders { ((I.state source.new).lender ≡ (I.state source.old).lender) × ((S.state sink.new).lender ≡ (S.state sink.old).lender) }
 {
     let mut block = [0; BLOCK];

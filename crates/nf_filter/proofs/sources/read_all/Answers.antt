@@ -70,9 +70,10 @@ returns-in-Err-read-clause-reads g c = λ base bytes before.
     ReadsAll-stopped (g.T.Taker.has_taken p c.read.new.taker base) (g.T.Taker.has_taken p c.loop-given.taker base) (g.T.Taker.stops p base) (g.T.Taker.gives (g.T.Taker.form c.args.taker.now) p) base bytes fed.0
     (g.I.Source.state c.args.source.now) (g.I.Source.state c.get.new.self) _ _ c.loop-given.reading so_far.0 so_far.1 c.read.new.self _ piece g.T.Taker.finds c.in-Err-read.stop
     (c.in-Ok.ensures.end ∙ ne_eqb c.in-Ok.given 0 c.if-given-eq0.false) (Consumes-trans _ _ _ fed.0 piece fed.1 c.in-Ok.ensures.given)
-    (omega (arith, length-take c.in-Ok.given c.get.new.buf, c.get.auto.buf, c.loop-given.invariant.room)) c.in-Err-read.ensures.stop
-    ((λ e. let long : 18446744073709551615 < c.loop-given.reading.offset + length piece = over.0 e in omega (arith, long, here)),
-    (λ long. over.1 (let far : 18446744073709551615 < c.loop-given.reading.offset + length piece = omega (arith, long, here) in far)))
+    (omega (arith, length-take c.in-Ok.given c.get.new.buf, c.get.auto.buf, c.loop-given.invariant.room)) c.in-Err-read.ensures.stop (
+      (λ e. let long : 18446744073709551615 < c.loop-given.reading.offset + length piece = over.0 e in omega (arith, long, here)),
+      (λ long. over.1 (let far : 18446744073709551615 < c.loop-given.reading.offset + length piece = omega (arith, long, here) in far)),
+    )
     (λ e. ap g.S.Sink.state (c.in-Err-read.ensures.kept e).2)
     (λ short. rw (← c.loop-given.invariant.form) (c.in-Err-read.ensures.reads base (bytes ++ fed.0) so_far.0 short))
 
