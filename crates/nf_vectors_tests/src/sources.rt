@@ -15,13 +15,7 @@ struct LineEnds {
 impl Source for LineEnds {
     ghost use Rattle.std.specs.Prelude.{None};
 
-    ghost coming = { λ _. None };
-
-    ghost is_failed = { λ source. source.failed };
-
-    ghost is_at_end = { λ source. source.at_end };
-
-    ghost lender = { λ _. 0 };
+    ghost state = { λ source. record { coming = None; is_failed = source.failed; is_at_end = source.at_end; lender = 0 } };
 
     fn get(&mut self, buf: &mut [u8]) -> Result<usize, Failed> {
         if self.failed || self.left == 0 && self.fails {

@@ -174,7 +174,7 @@ fn each_write_that_fails_is_told_and_not_tried_again(rt: HostRuntime) {
 #[test]
 fn a_block_that_fails_is_not_written_again(rt: HostRuntime) -> Result<(), Fail> {
     let alloc = rt.alloc();
-    let text = repeated(alloc, &[("x", 4096)])?;
+    let text = repeated(alloc, &[("x", 4000)])?;
     let bytes = text.as_slice();
     for kind in KINDS {
         assert_failed_writes(&rt, alloc, &CONVERT, bytes, bytes, 1, 1024, kind);
