@@ -1,4 +1,4 @@
-// ICU beside nfstream: `icu nfc` and `icu nfd` write the form of standard input; `icu --version` names the library.
+// ICU beside nfstream: `icu FORM` writes the form of standard input (nfc, nfd, nfkc, nfkd); `icu --version` names the library.
 // A block is normalized up to its last boundary of the form; what stands behind that waits for the next block.
 #include <unicode/bytestream.h>
 #include <unicode/normalizer2.h>
@@ -101,10 +101,18 @@ void convert(const icu::Normalizer2 &form) {
         const int32_t cut = last_boundary(form, text.data(), seen, end);
         normalize(form, text.data(), cut, output);
         held = end - cut;
-        std::memmove(text.data(), text.data() + cut, held);
+        if (cut > 0) std::memmove(text.data(), text.data() + cut, held);
     }
     normalize(form, text.data(), held, output);
     output.empty();
+}
+
+const icu::Normalizer2 *form_of(const std::string &word, UErrorCode &error) {
+    if (word == "nfc") return icu::Normalizer2::getNFCInstance(error);
+    if (word == "nfd") return icu::Normalizer2::getNFDInstance(error);
+    if (word == "nfkc") return icu::Normalizer2::getNFKCInstance(error);
+    if (word == "nfkd") return icu::Normalizer2::getNFKDInstance(error);
+    return nullptr;
 }
 
 }  // namespace
@@ -115,11 +123,10 @@ int main(int count, char **words) {
         std::printf("ICU %s\n", U_ICU_VERSION);
         return 0;
     }
-    if (word != "nfc" && word != "nfd") fail("the word is nfc, nfd or --version");
     UErrorCode error = U_ZERO_ERROR;
-    const icu::Normalizer2 *form =
-        word == "nfc" ? icu::Normalizer2::getNFCInstance(error) : icu::Normalizer2::getNFDInstance(error);
+    const icu::Normalizer2 *form = form_of(word, error);
     if (U_FAILURE(error)) fail(u_errorName(error));
+    if (form == nullptr) fail("the word is nfc, nfd, nfkc, nfkd or --version");
     convert(*form);
     return 0;
 }

@@ -9,6 +9,10 @@ most_growth=1024 # KiB: what one run and another of a program that holds nothing
 
 . "$bench/setup.sh"
 need /usr/bin/time "Debian's package time"
+program=${1:-$bench/../nfstream}
+need_program "$program"
+program=$(realpath "$program")
+make_scratch
 
 # A block of about 1 MiB is given again and again: marks alone, or text in the stream-safe format.
 repeat() { # repeat TEXT TIMES

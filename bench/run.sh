@@ -1,13 +1,33 @@
 #!/usr/bin/env bash
-# Measures nfstream beside Rust's unicode-normalization, ICU and cat, and prints a Markdown table:
-#   bash bench/run.sh [PROGRAM]      (PROGRAM is ./nfstream of the repository where none is named)
-# Needs python3 (3.10 or later). A peer that can't be built is left out. Nothing is left behind.
+# Measures programs beside Rust's unicode-normalization, ICU and cat, and prints a Markdown table:
+#   bash bench/run.sh [OPTION..] [[TITLE=]PROGRAM..]      (./nfstream of the repository where none is named)
+# 'bash bench/run.sh --help' tells the options. Needs python3 (3.10 or later), and the texts that corpora.sh makes.
+# A peer that can't be built is left out. Nothing is left behind.
 set -euo pipefail
 bench=$(cd "$(dirname "$0")" && pwd)
 registry=/usr/share/cargo/registry
 
 . "$bench/setup.sh"
 need python3
+
+options=()
+programs=()
+plan=
+while [ $# -gt 0 ]; do
+    case $1 in
+        --forms | --texts | --corpora | --data) options+=("$1" "${2:-}"); shift $(($# > 1 ? 2 : 1)) ;;
+        -h | --help) exec python3 -B "$bench/table.py" --help ;;
+        --plan) plan=yes; shift ;;
+        -*) options+=("$1"); shift ;;
+        *) programs+=("$1"); shift ;;
+    esac
+done
+[ ${#programs[@]} -gt 0 ] || programs=("nfstream=$bench/../nfstream")
+table() { python3 -B "$bench/table.py" "${options[@]}" "$@" -- "${programs[@]}"; }
+table --plan
+[ -z "$plan" ] || exit 0
+for program in "${programs[@]}"; do need_program "${program#*=}"; done
+make_scratch
 
 # build_NAME leaves a peer at $scratch/NAME, and version_NAME says what it is. Cargo writes nothing outside of $scratch.
 build_rust() {
@@ -26,7 +46,7 @@ peers=()
 versions=()
 build() { # build NAME NEEDS
     if "build_$1" > "$scratch/log" 2>&1; then
-        peers+=("$1=$scratch/$1")
+        peers+=(--peer "$1=$scratch/$1")
         versions+=("$("version_$1")")
     else
         tail -n 5 "$scratch/log" >&2
@@ -37,7 +57,9 @@ build rust "cargo, and Debian's librust-unicode-normalization-dev"
 build icu "g++, and Debian's libicu-dev"
 
 say "measuring; this takes some minutes"
-python3 -B "$bench/table.py" "$scratch" "$program" "${peers[@]}"
+status=0
+table --scratch "$scratch" "${peers[@]}" || status=$?
 versions+=("$(cat --version | head -n 1)" "$(sed -n 's/^model name.*: //p' /proc/cpuinfo | head -n 1), $(nproc) processors")
 printf -v all '%s; ' "${versions[@]}"
 printf '\n%s.\n' "${all%; }"
+exit "$status"

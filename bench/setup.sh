@@ -1,5 +1,4 @@
-# Read by the scripts beside it, from their folder $bench: the program that their first argument names becomes $program,
-# and a folder that goes at the end $scratch.
+# Read by the scripts beside it, from their folder $bench.
 
 say() { echo "${0##*/}: $*" >&2; }
 
@@ -10,11 +9,14 @@ need() { # need COMMAND [WHERE FROM]
     fi
 }
 
-program=${1:-$bench/../nfstream}
-if [ ! -f "$program" ] || [ ! -x "$program" ]; then
-    say "there is no program $program: build it by 'bash build.sh', or name one"
-    exit 2
-fi
-program=$(realpath "$program")
-scratch=$(mktemp -d)
-trap 'rm -rf "$scratch"' EXIT
+need_program() { # need_program PATH
+    if [ ! -f "$1" ] || [ ! -x "$1" ]; then
+        say "there is no program $1: build it by 'bash build.sh', or name one"
+        exit 2
+    fi
+}
+
+make_scratch() { # $scratch is a folder that goes at the end
+    scratch=$(mktemp -d)
+    trap 'rm -rf "$scratch"' EXIT
+}

@@ -1,75 +1,72 @@
-"""The texts that are measured and, by Python's own normalization, the answer that each of them must get."""
+"""The texts that are measured: real ones, which corpora.sh made, and made ones."""
 
 from dataclasses import dataclass
+from pathlib import Path
+from typing import Iterator
 from unicodedata import normalize
 
-SIZE = 16_000_000
-FORMS = ("nfc", "nfd")
-MARK = "\u0301"
-JOINER = "\u034f"
-LONGEST_RUN = 30
+from made import MADE, made, marked, shuffled
 
-SENTENCES = {
-    "ASCII":
-        "Early in the morning the boats come back to the harbour, and the gulls follow them in. "
-        "She weighs the fish, counts the boxes twice, and writes it all down: 12 of herring, 7 of cod. "
-        "\"Is that everything?\" he asks; it never is.",
-    "French":
-        "Où étiez-vous l'été dernier ? À Besançon, près du fleuve : le maître et ses élèves y "
-        "dessinaient la forêt, et les chênes où nichent les hérons. « Ça suffit ! » s'écria le "
-        "garçon ; mais, déçu, il s'arrêta là. Noël approche, et l'aïeule rêve déjà d'une crème brûlée.",
-    "Vietnamese":
-        "Mỗi buổi sáng, người bán hàng rong đi qua những con phố nhỏ của Hà Nội. Tiếng rao vọng "
-        "khắp ngõ, và lũ trẻ chạy theo để mua một chiếc bánh nướng. Chiều đến, ông lão ngồi dưới "
-        "gốc đa kể chuyện thuở trước, khi dòng sông còn đầy thuyền buồm trắng.",
-    "Korean":
-        "아침마다 할머니는 시장에 나가 싱싱한 나물을 고르셨다. 값을 묻는 목소리, 닭이 우는 소리, 그리고 갓 구운 떡 "
-        "냄새가 골목을 가득 채웠다. 우리는 늦잠을 자다가 부엌에서 나는 소리에 깨곤 했다.",
-    "Arabic":
-        "في الصباحِ الباكرِ يَذهَبُ الأولادُ إلى المدرسةِ، ويَقرَؤونَ آياتٍ من الشِّعرِ القديمِ. "
-        "سألَ المعلِّمُ أحمدَ: أينَ كتابُكَ؟ فأجابَ: هو على الطاولةِ، أمّا دفتري فقد نَسيتُه في البيتِ.",
+REAL = {
+    "ascii": "ASCII",
+    "french": "French",
+    "vietnamese": "Vietnamese",
+    "korean": "Korean",
+    "japanese": "Japanese",
+    "russian": "Russian",
+    "hindi": "Hindi",
+    "arabic": "Arabic",
+    "hebrew": "Hebrew",
 }
+# Real texts into which vowels are put by chance: the name, the real text, its letters, and the first and the last vowel.
+MARKED = {
+    "vowels": ("Arabic with vowel signs", "arabic", "\u0621-\u064a", "\u064b", "\u0652"),
+    "points": ("Hebrew with points", "hebrew", "\u05d0-\u05ea", "\u05b0", "\u05bc"),
+}
+MIXED = "mixed"
+WORDS = [*REAL, *MARKED, MIXED, *MADE]
 
 
 @dataclass
 class Text:
-    """A text of at least SIZE bytes, in UTF-8: `input`, and what its form is with and without the stream-safe process."""
-
     name: str
     state: str
-    input: bytes
-    plain: dict[str, bytes]
-    stream_safe: dict[str, bytes]
+    content: str
 
 
-def repeated(line: str, count: int) -> bytes:
-    return line.encode() * count
+def front(folder: Path, word: str, size: int) -> str:
+    """The front of a real text, of `size` bytes up to the end of a line."""
+    with open(folder / "texts" / f"{word}.txt", "rb") as file:
+        data = file.read(size)
+    return data[:data.rindex(b"\n") + 1].decode()
 
 
-def sentences(name: str, state: str, line: str) -> Text:
-    """A line again and again. No line has a long run, and none composes with the end of the one before it."""
-    count = -(-SIZE // len(line.encode()))
-    answers = {form: repeated(normalize(form.upper(), line), count) for form in FORMS}
-    return Text(name, state, repeated(line, count), answers, answers)
+def missing(folder: Path, words: list[str]) -> list[str]:
+    """The real texts that the words ask for and that are not there."""
+    named = [MARKED[word][1] if word in MARKED else word for word in words]
+    needed = REAL if MIXED in named else [word for word in REAL if word in named]
+    return [word for word in needed if not (folder / "texts" / f"{word}.txt").is_file()]
 
 
-def marks() -> Text:
-    """A letter and then one mark, with which it doesn't compose, without an end."""
-    groups = -(-SIZE // len(repeated(MARK, LONGEST_RUN)))
-    group = MARK * LONGEST_RUN
-    text = b"q" + repeated(group, groups)
-    joined = ("q" + group).encode() + repeated(JOINER + group, groups - 1)
-    return Text("q and a run of U+0301", "either", text, dict.fromkeys(FORMS, text), dict.fromkeys(FORMS, joined))
+def states(name: str, content: str) -> Iterator[Text]:
+    composed, decomposed = normalize("NFC", content), normalize("NFD", content)
+    if composed == decomposed:
+        yield Text(name, "either", composed)
+    else:
+        yield Text(name, "composed", composed)
+        yield Text(name, "decomposed", decomposed)
 
 
-def texts():
-    """Each text in turn: one at a time is in memory."""
-    for name, line in SENTENCES.items():
-        line += "\n"
-        composed, decomposed = normalize("NFC", line), normalize("NFD", line)
-        if composed == decomposed:
-            yield sentences(name, "either", line)
+def texts(folder: Path, words: list[str], size: int) -> Iterator[Text]:
+    """Each text in turn, of about `size` bytes where it is composed: one at a time is in memory."""
+    for word in words:
+        if word in REAL:
+            yield from states(REAL[word], front(folder, word, size))
+        elif word in MARKED:
+            name, source, *marks = MARKED[word]
+            yield from states(name, marked(front(folder, source, 5 * size // 8), *marks))
+        elif word == MIXED:
+            share = size // len(REAL)
+            yield from states("Mixed lines", shuffled([front(folder, name, share) for name in REAL]))
         else:
-            yield sentences(name, "composed", composed)
-            yield sentences(name, "decomposed", decomposed)
-    yield marks()
+            yield Text(MADE[word][0], "as made", made(word, size))

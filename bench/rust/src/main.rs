@@ -1,5 +1,5 @@
-//! Rust's unicode-normalization beside nfstream: `peer nfc`, `peer nfd`, `peer stream-safe-nfc` and
-//! `peer stream-safe-nfd` write the form of standard input.
+//! Rust's unicode-normalization beside nfstream: `peer FORM` and `peer stream-safe-FORM` write the form of standard input
+//! (nfc, nfd, nfkc, nfkd).
 
 use std::io::{self, Error, ErrorKind, Read, StdinLock, Write};
 use unicode_normalization::UnicodeNormalization;
@@ -85,9 +85,13 @@ fn convert(word: &str, text: Characters<StdinLock>) -> io::Result<()> {
     match word {
         "nfc" => write(text.nfc()),
         "nfd" => write(text.nfd()),
+        "nfkc" => write(text.nfkc()),
+        "nfkd" => write(text.nfkd()),
         "stream-safe-nfc" => write(text.stream_safe().nfc()),
         "stream-safe-nfd" => write(text.stream_safe().nfd()),
-        _ => Err(Error::new(ErrorKind::InvalidInput, "the word is nfc, nfd, stream-safe-nfc or stream-safe-nfd")),
+        "stream-safe-nfkc" => write(text.stream_safe().nfkc()),
+        "stream-safe-nfkd" => write(text.stream_safe().nfkd()),
+        _ => Err(Error::new(ErrorKind::InvalidInput, "the word is a form, or stream-safe- and a form")),
     }
 }
 
