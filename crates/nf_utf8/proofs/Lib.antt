@@ -1,5 +1,6 @@
 mod AsciiLemmas
 mod BegunLen
+mod CountingLemmas
 mod Endings
 mod Fronts
 mod PushesLemmas

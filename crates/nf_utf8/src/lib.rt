@@ -4,7 +4,7 @@
 //! the byte completes, that a character goes on, or that the byte is bad. [`Decoder::take`] answers by a [`Chunk`]:
 //! the character that the piece completes, the text behind it, lent from the piece and validated in blocks, and how
 //! the piece ends. A decoder holds three bytes at most, allocates nothing and refuses nothing. What is to follow a bad
-//! byte is the caller's choice. [`ascii_prefix`] needs no decoder.
+//! byte is the caller's choice. [`ascii_prefix`] and [`char_count`] need no decoder.
 //!
 //! The bytes taken read as the longest text that a front of them spells (The Unicode Standard, section 3.9);
 //! [`laws`] says so, that it does not matter where they were cut into pieces, and that a piece gives what pushing its
@@ -14,6 +14,7 @@
 mod ascii;
 mod carry;
 mod chunk;
+mod counting;
 mod decoder;
 mod front;
 pub mod laws;
@@ -23,5 +24,6 @@ mod valid;
 
 pub use ascii::ascii_prefix;
 pub use chunk::{Chunk, End};
+pub use counting::char_count;
 pub use decoder::Decoder;
 pub use step::Step;

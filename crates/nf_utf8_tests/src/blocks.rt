@@ -35,7 +35,7 @@ fn each_piece_is_answered(rt: HostRuntime) {
 }
 
 /// Characters of one to four bytes, ten bytes in all, over and over.
-fn long_text() -> [u8; 5000] {
+pub fn long_text() -> [u8; 5000] {
     let mut text = [0; 5000];
     for (i, byte) in text.iter_mut().enumerate() {
         *byte = match i % 10 {

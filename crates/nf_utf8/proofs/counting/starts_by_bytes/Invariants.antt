@@ -1,0 +1,10 @@
+use Rattle.std.proofs.Common.{◌≡◌, ◌≤◌, take}
+use Rattle.std.specs.Fmt.{is_char_start}
+use Rattle.std.specs.List.{count_by}
+use Rattle.nf_utf8.proofs.counting.starts_by_bytes.Given as goal
+
+abbrev pub invariant-loop-byte : goal.invariant-loop-byte
+invariant-loop-byte l = record {
+  counted : l.count ≡ count_by is_char_start (take l.byte-index l.bytes);
+  few : l.count ≤ l.byte-index;
+}

@@ -1,0 +1,73 @@
+ghost use Rattle.std.specs.Prelude.{◌≡◌, length};
+ghost use Rattle.std.specs.Fmt.{is_char_start};
+ghost use Rattle.std.specs.List.{count_by};
+ghost use Rattle.std.specs.Str.{chars};
+
+use crate::sequence::is_continuation;
+use std::simd::prelude::*;
+
+/// The bytes that are looked at together.
+const LANES: usize = 32;
+
+/// And those where fewer than that are left, so that a short text costs little.
+const FEW: usize = 8;
+
+/// How many characters a text has: as many as it has bytes that begin one.
+pub fn char_count(text: &str) -> usize
+    ensures { result ≡ length (chars text.now) }
+{
+    let bytes = text.as_bytes();
+    let mut at = 0;
+    let mut count = 0;
+    while bytes.len() - at >= LANES {
+        count += starts(u8x32::from_slice(&bytes[at..]));
+        at += LANES;
+    }
+    count + starts_by_few(&bytes[at..])
+}
+
+/// How many of the lanes begin a character.
+#[inline(always)]
+fn starts(lanes: u8x32) -> usize
+    ensures { result ≡ count_by is_char_start lanes }
+{
+    let starts = lanes.simd_lt(u8x32::splat(0x80)) | lanes.simd_ge(u8x32::splat(0xC0));
+    starts.to_bitmask().count_ones() as usize
+}
+
+/// How many of the bytes begin a character, a few at a time.
+#[inline]
+fn starts_by_few(bytes: &[u8]) -> usize
+    ensures { result ≡ count_by is_char_start bytes.now }
+{
+    let mut at = 0;
+    let mut count = 0;
+    while bytes.len() - at >= FEW {
+        count += starts_of_few(u8x8::from_slice(&bytes[at..]));
+        at += FEW;
+    }
+    count + starts_by_bytes(&bytes[at..])
+}
+
+/// How many of these few lanes begin a character.
+#[inline(always)]
+fn starts_of_few(lanes: u8x8) -> usize
+    ensures { result ≡ count_by is_char_start lanes }
+{
+    let starts = lanes.simd_lt(u8x8::splat(0x80)) | lanes.simd_ge(u8x8::splat(0xC0));
+    starts.to_bitmask().count_ones() as usize
+}
+
+/// How many of the bytes begin a character, byte by byte.
+#[inline]
+fn starts_by_bytes(bytes: &[u8]) -> usize
+    ensures { result ≡ count_by is_char_start bytes.now }
+{
+    let mut count = 0;
+    for byte in bytes {
+        if !is_continuation(*byte) {
+            count += 1;
+        }
+    }
+    count
+}
