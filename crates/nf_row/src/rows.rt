@@ -1,10 +1,13 @@
 ghost use Rattle.std.specs.Prelude.{◌≡◌, ◌<◌, ◌↔◌, ℕ, length, IsErr, IfOk, IsTrue};
 ghost use Rattle.nf_forms.specs.Properties.{Properties};
 ghost use Rattle.nf_forms.specs.Sound.{is_sound};
+ghost use Rattle.nf_calm.specs.Front.{IsCalmFront};
 ghost use Rattle.nf_row.specs.Kind.{IsKind};
+ghost use Rattle.nf_row.specs.Ascii.{IsPlainAscii};
 
 use crate::kind::Kind;
 use arrayvec::ArrayVec;
+use nf_calm::Calm;
 use nf_forms::Form;
 
 /// The full decomposition of one character: at most 18 code points, which is the most that one of Unicode's has.
@@ -49,10 +52,26 @@ pub trait Rows {
         Kind::Other
     }
 
+    /// The calm front of the text in that form, as far as it is known. Data of which nothing is known leaves it out.
+    #[inline]
+    fn calm_front<'t>(&self, _form: Form, text: &'t str) -> Calm<'t>
+        ensures { IsCalmFront (properties self.now) _form text.now result.settled.now result.tail.now result.rest.now }
+    {
+        Calm::none(text)
+    }
+
     /// Whether every character is known to be sound, so that no rows are read to see it.
     #[inline]
     fn all_sound(&self) -> bool
         ensures { IsTrue result → (c : ℕ) → IsTrue (is_sound (properties self.now) c) }
+    {
+        false
+    }
+
+    /// Whether ASCII text is known to be left as it is, so that no rows are read to see it.
+    #[inline]
+    fn all_ascii_plain(&self) -> bool
+        ensures { IsTrue result → IsPlainAscii (properties self.now) }
     {
         false
     }

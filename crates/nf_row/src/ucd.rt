@@ -5,6 +5,7 @@ ghost use Rattle.nf_forms.specs.Ucd.{ucd};
 use crate::kind::Kind;
 use crate::known::kind_of;
 use crate::rows::{Long, Row, Rows, row_from};
+use nf_calm::{Calm, calm_front};
 use nf_facts::laws;
 use unicode::properties::GeneralCategory;
 use unicode_normalization::{Form, char as lookup};
@@ -16,6 +17,11 @@ pub struct Ucd;
 
 #[tactic(auto, unfolding(nf_forms::specs::Ucd::ucd, nf_forms::specs::Ucd::is_assigned))]
 impl Rows for Ucd {
+    ghost use Rattle.std.specs.Prelude.{ℕ, IsTrue};
+    ghost use Rattle.nf_forms.specs.Sound.{is_sound};
+    ghost use Rattle.nf_forms.specs.Ucd.{ucd};
+    ghost use Rattle.nf_row.specs.Ascii.{IsPlainAscii};
+
     ghost properties = { λ _. ucd };
 
     #[inline]
@@ -49,8 +55,25 @@ impl Rows for Ucd {
     }
 
     #[inline]
-    fn all_sound(&self) -> bool {
+    fn calm_front<'t>(&self, form: nf_forms::Form, text: &'t str) -> Calm<'t> {
+        calm_front(form, text)
+    }
+
+    #[inline]
+    fn all_sound(&self) -> bool
+        ensures sound { IsTrue result → (c : ℕ) → IsTrue (is_sound ucd c) }
+        ensures known { IsTrue result }
+    {
         laws::every_character_is_sound();
+        true
+    }
+
+    #[inline]
+    fn all_ascii_plain(&self) -> bool
+        ensures plain { IsTrue result → IsPlainAscii ucd }
+        ensures known { IsTrue result }
+    {
+        laws::ascii_is_plain();
         true
     }
 }

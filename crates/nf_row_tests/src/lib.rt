@@ -6,6 +6,8 @@ mod changes;
 #[cfg(test)]
 mod parts;
 #[cfg(test)]
+mod plain;
+#[cfg(test)]
 mod soundness;
 #[cfg(test)]
 mod tables;

@@ -13,10 +13,10 @@ use Rattle.nf_forms.specs.Laws.Front.{front-at, EndsInGroup, last_starter}
 use Rattle.nf_forms.specs.Laws.Sound.{IsSoundText}
 use Rattle.nf_forms.specs.Laws.StreamSafe.{decomposed-append}
 use Rattle.nf_forms.specs.SafeForm.{safe_form}
-use Rattle.nf_forms.specs.Parting.{IsParting}
+use Rattle.nf_forms.specs.Parting.{BeginsAnew, IsParting}
 use Rattle.nf_forms.specs.Calm.{GoesOn, IsCalmFrom, IsCalm, CalmEnd}
 use Rattle.nf_forms.specs.Laws.Parting.{last_run}
-use Rattle.nf_forms.specs.Laws.Calm.{row-mark, mark-not_starter, calm-begins, stream_safe-calm, front-calm}
+use Rattle.nf_forms.specs.Laws.Calm.{row-mark, mark-not_starter, calm-begins, stream_safe-calm, front-calm, safe_form-calm_alone}
 
 module _ (p : Properties) (f : Form) where
   calm_behind : (a b : List ℕ) (k n class count : ℕ) → IsCalmFrom p f k n (a ++ b) class count → (next : ℕ) × (more : ℕ) × IsCalmFrom p f next more b class count
@@ -38,22 +38,39 @@ module _ (p : Properties) (f : Form) where
       ap (λ row. row ++ decomposed f p m) (row-one k n c calm.0 calm.1 calm.2 parts.0)
       ∙ ap (λ v. c ∷ v) (decomposed-marks calm.0 calm.1 m class count calm.3 parts.1)
 
+  -- whatever stands before its last starter
+  pub calm_end-at : (before : List ℕ) (last : ℕ) (marks : List ℕ) (class count : ℕ) → IsCalm p f (before ++ last ∷ marks) class count → is_starter p last ≡ true → has_starter p marks ≡ false
+      → CalmEnd p f (before ++ last ∷ marks)
+  calm_end-at before last marks class count calm starts no_starter =
+      let behind = calm_behind before (last ∷ marks) 0 max_run class count calm in
+      let rest = behind.2 in
+      record {
+        before = before;
+        last = last;
+        marks = marks;
+        text = refl;
+        parting = starter-parting behind.0 behind.1 last rest.0 rest.1 rest.2 starts;
+        no_starter = no_starter;
+        own_rows = decomposed-marks rest.0 rest.1 marks class count rest.3 no_starter;
+      }
+
   pub calm_end : (c : ℕ) (cs : List ℕ) (class count : ℕ) → IsCalm p f (c ∷ cs) class count → CalmEnd p f (c ∷ cs)
   calm_end c cs class count calm = at (last_starter p (c ∷ cs) (or_left _ _ (calm-begins p f c cs class count calm).starts))
     where
       at : EndsInGroup p (c ∷ cs) → CalmEnd p f (c ∷ cs)
-      at g =
-          let behind = calm_behind g.before (g.starter ∷ g.marks) 0 max_run class count (subst (λ v. IsCalm p f v class count) g.text calm) in
-          let rest = behind.2 in
-          record {
-            before = g.before;
-            last = g.starter;
-            marks = g.marks;
-            text = g.text;
-            parting = starter-parting behind.0 behind.1 g.starter rest.0 rest.1 rest.2 g.starts;
-            no_starter = g.no_starter;
-            own_rows = decomposed-marks rest.0 rest.1 g.marks class count rest.3 g.no_starter;
-          }
+      at g = subst (CalmEnd p f) (sym g.text) (calm_end-at g.before g.starter g.marks class count (subst (λ v. IsCalm p f v class count) g.text calm) g.starts g.no_starter)
+
+  -- that end alone is calm
+  calm-tail : (before : List ℕ) (last : ℕ) (marks : List ℕ) (class count : ℕ) → IsCalm p f (before ++ last ∷ marks) class count → is_starter p last ≡ true
+      → IsCalm p f (last ∷ marks) class count
+  calm-tail before last marks class count calm starts =
+      let behind = calm_behind before (last ∷ marks) 0 max_run class count calm in
+      let rest = behind.2 in
+      (rest.0, rest.1, begins behind.0 behind.1 rest.0 rest.1 rest.2, rest.3)
+    where
+      begins : (k n next more : ℕ) → GoesOn p f k n last next more → GoesOn p f 0 max_run last next more
+      begins k n next more (inl run) = inl run
+      begins k n next more (inr behind) = absurd (false≢true (sym (mark-not_starter p last next behind.mark) ∙ starts))
 
   module _ (c : ℕ) (cs : List ℕ) (class count : ℕ) (calm : IsCalm p f (c ∷ cs) class count) (end : CalmEnd p f (c ∷ cs)) (x : List ℕ) (sound : IsSoundText p (stream_safe p x)) where
     safe-end : stream_safe p (x ++ c ∷ cs) ≡ (stream_safe p x ++ end.before) ++ end.last ∷ end.marks
@@ -79,3 +96,38 @@ module _ (p : Properties) (f : Form) where
         ap (last_run p) safe-end ∙ ap (trail p) (decomposed-append p Nfkd (stream_safe p x ++ end.before) (end.last ∷ end.marks))
         ∙ trail-append p (decomposed Nfkd p (stream_safe p x ++ end.before)) (decomposed Nfkd p (end.last ∷ end.marks))
         ∙ cond-true _ _ _ (has_starter-append p (p.compat end.last) (decomposed Nfkd p end.marks) ∙ or_left _ _ end.parting.counts.some)
+
+  -- All of that of a calm text y: alone its end is its own form, and what has taken that end stands behind the whole.
+  pub record GoesOnFromEnd (x y before : List ℕ) (last : ℕ) (marks : List ℕ) : Type 0 where
+    pub safe : stream_safe p (x ++ y) ≡ stream_safe p x ++ y
+    pub settled : front p (safe_form f p (x ++ y)) ≡ safe_form f p x ++ before
+    pub rows : decomposed f p (stream_safe p (x ++ y)) ≡ decomposed f p (stream_safe p x ++ before) ++ (row_of f p last ++ marks)
+    pub count : last_run p (stream_safe p (x ++ y)) ≡ last_run p (last ∷ marks)
+    pub alone_safe : stream_safe p (last ∷ marks) ≡ last ∷ marks
+    pub alone_settled : front p (safe_form f p (last ∷ marks)) ≡ []
+    pub alone_rows : decomposed f p (last ∷ marks) ≡ row_of f p last ++ marks
+    pub anew : BeginsAnew p f last
+
+  goes_on : (c : ℕ) (cs : List ℕ) (class count : ℕ) → IsCalm p f (c ∷ cs) class count → (end : CalmEnd p f (c ∷ cs)) → IsCalm p f (end.last ∷ end.marks) class count
+      → (x : List ℕ) → IsSoundText p (stream_safe p x) → GoesOnFromEnd x (c ∷ cs) end.before end.last end.marks
+  goes_on c cs class count calm end tail x sound =
+      let alone = safe_form-calm_alone p f (end.last ∷ end.marks) class count tail in
+      record {
+        safe = stream_safe-calm p f (c ∷ cs) class count calm x sound;
+        settled = front-end c cs class count calm end x sound;
+        rows = decomposed-end c cs class count calm end x sound;
+        count = counted-end c cs class count calm end x sound;
+        alone_safe = alone.0;
+        alone_settled = ap (front p) alone.1 ∙ front-at p [] end.last end.marks end.parting.starts end.no_starter;
+        alone_rows = ap (λ v. row_of f p end.last ++ v) end.own_rows;
+        anew = end.parting.anew;
+      }
+
+  pub goes_on_from_end : (before : List ℕ) (last : ℕ) (marks : List ℕ) (class count : ℕ) → IsCalm p f (before ++ last ∷ marks) class count → is_starter p last ≡ true
+      → has_starter p marks ≡ false → (x : List ℕ) → IsSoundText p (stream_safe p x) → GoesOnFromEnd x (before ++ last ∷ marks) before last marks
+  unfolding calm_end-at
+  goes_on_from_end [] last marks class count calm starts no_starter =
+      goes_on last marks class count calm (calm_end-at [] last marks class count calm starts no_starter) (calm-tail [] last marks class count calm starts)
+  goes_on_from_end (c ∷ rest) last marks class count calm starts no_starter =
+      goes_on c (rest ++ last ∷ marks) class count calm (calm_end-at (c ∷ rest) last marks class count calm starts no_starter)
+      (calm-tail (c ∷ rest) last marks class count calm starts)

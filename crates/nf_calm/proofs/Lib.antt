@@ -1,0 +1,4 @@
+pub mod ScanLemmas
+pub mod CutLemmas
+pub mod LanesLemmas
+pub mod PlainLemmas

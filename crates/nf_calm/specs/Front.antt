@@ -1,0 +1,26 @@
+-- The calm front of a text, in bytes of UTF-8.
+use Rattle.std.specs.Prelude.{◌≡◌, ◌⊎◌, ℕ, false, List, [], ◌∷◌, ◌++◌, chars}
+use Rattle.nf_forms.specs.Properties.{Properties}
+use Rattle.nf_forms.specs.Runs.{has_starter}
+use Rattle.nf_forms.specs.declared.form.Form.{Form}
+use Rattle.nf_forms.specs.Parting.{IsParting}
+use Rattle.nf_forms.specs.Calm.{IsCalm}
+use Rattle.nf_forms.specs.Laws.Sound.{IsSoundText}
+
+-- a character before which a text may be cut, and non-starters behind it
+pub record BeginsAndMarks (p : Properties) (f : Form) (x : List ℕ) : Type 0 where
+  pub first : ℕ
+  pub marks : List ℕ
+  pub text : x ≡ first ∷ marks
+  pub parting : IsParting p f first
+  pub no_starter : has_starter p marks ≡ false
+
+-- the text begins with calm text of sound characters, of which `settled` stands before the last that parts a text, and
+-- `tail` is the rest; either both are empty, or `tail` is not
+pub record IsCalmFront (p : Properties) (f : Form) (whole settled tail rest : List ℕ) : Type 0 where
+  pub text : whole ≡ settled ++ (tail ++ rest)
+  pub class : ℕ
+  pub count : ℕ
+  pub calm : IsCalm p f (chars settled ++ chars tail) class count
+  pub sound : IsSoundText p (chars settled ++ chars tail)
+  pub end : ((settled ≡ []) × (tail ≡ [])) ⊎ BeginsAndMarks p f (chars tail)

@@ -1,0 +1,5 @@
+pub mod Front
+pub mod Scan
+pub mod Parts
+pub mod Leads
+pub mod Going

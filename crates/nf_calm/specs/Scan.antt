@@ -1,0 +1,18 @@
+-- A place in a text whose front, up to there, is calm.
+use Rattle.std.specs.Prelude.{◌≡◌, ℕ, false, List, ◌∷◌, ◌++◌, chars, IsUtf8}
+use Rattle.nf_forms.specs.declared.form.Form.{Form}
+use Rattle.nf_forms.specs.Calm.{IsCalm}
+use Rattle.nf_forms.specs.Ucd.{ucd}
+use Rattle.nf_calm.specs.Going.{goes_on}
+use Rattle.nf_calm.specs.declared.scan.Scan.{Scan}
+
+pub record Reaches (f : Form) (text : List ℕ) (scan : Scan) : Type 0 where
+  pub front : List ℕ
+  pub split : text ≡ front ++ scan.rest.now
+  pub front_utf8 : IsUtf8 front
+  pub rest_utf8 : IsUtf8 scan.rest.now
+  pub calm : IsCalm ucd f (chars front) scan.marks.class scan.marks.count
+
+-- the character behind it, if there is one, is not known to go on
+abbrev pub Ends : Form → Scan → Type 0
+Ends f scan = (c : ℕ) (more : List ℕ) → chars scan.rest.now ≡ c ∷ more → goes_on f scan.marks.class scan.marks.count c ≡ false

@@ -1,0 +1,15 @@
+//! How far a text goes on calmly: as characters that a normalization form leaves as they stand, whatever is before
+//! them. Such text can be written as it was read. Pure functions over `&str`, for the data of the Unicode Character
+//! Database.
+#![tactic(auto)]
+
+mod calm;
+mod cut;
+mod front;
+mod lanes;
+mod leads;
+mod marks;
+mod scan;
+
+pub use calm::Calm;
+pub use front::calm_front;

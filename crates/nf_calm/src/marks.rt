@@ -1,0 +1,88 @@
+ghost use Rattle.std.specs.Prelude.{◌≡◌, false, IfSome, IsNone};
+ghost use Rattle.nf_forms.specs.Ucd.{ucd};
+ghost use Rattle.nf_forms.specs.Calm.{GoesOn};
+ghost use Rattle.nf_facts.specs.KitForm.{kit_form};
+ghost use Rattle.nf_facts.specs.Passing.{is_among, halfwidth_marks};
+ghost use Rattle.nf_calm.specs.Going.{goes_on};
+
+use nf_facts::laws;
+use nf_forms::Form;
+use ucd_normal::{QuickCheck, class_and_quick_check};
+
+/// As many non-starters may follow one another in NFKD (UAX #15, section 13).
+const MAX_RUN: u8 = 30;
+
+/// No decomposition has more members, so that behind one character this is a bound of how many there are.
+const MAX_ROW: u8 = 18;
+
+/// The marks that calm text ends in.
+#[derive(Clone, Copy)]
+pub(crate) struct Marks {
+    /// The class of the last, the greatest of them, and 0 where none stands there.
+    pub class: u8,
+    /// A bound of how many non-starters the NFKD of the text ends in.
+    pub count: u8,
+}
+
+impl Marks {
+    /// Where no text stands: behind a full run no mark can come, so that calm text begins with a character before which
+    /// a text may be cut.
+    pub const FULL: Marks = Marks {
+        class: 0,
+        count: MAX_RUN,
+    };
+
+    /// Behind a character before which a text may be cut.
+    pub const NONE: Marks = Marks {
+        class: 0,
+        count: MAX_ROW,
+    };
+
+    /// The marks behind one character more, where one look-up tells that the text goes on calmly with it.
+    #[inline(always)]
+    pub fn behind(self, form: Form, c: char) -> Option<Marks>
+        ensures goes_on { IfSome result (λ next. GoesOn ucd form self.class self.count c next.class next.count) }
+        ensures stops { IsNone result → goes_on form self.class self.count c ≡ false }
+    {
+        laws::every_character_is_sound();
+        laws::the_quick_check_tells();
+        let (class, QuickCheck::Yes) = class_and_quick_check(c, in_tables(form)) else {
+            return None;
+        };
+        if class == 0 {
+            if is_halfwidth_mark(c) {
+                return None;
+            }
+            return Some(Marks::NONE);
+        }
+        if class < self.class || self.count >= MAX_RUN {
+            return None;
+        }
+        Some(Marks {
+            class,
+            count: self.count + 1,
+        })
+    }
+}
+
+/// Whether `c` is one of the two starters that pass the quick check of NFC and NFD though their compatibility
+/// decompositions are non-starters.
+#[inline]
+const fn is_halfwidth_mark(c: char) -> bool
+    ensures { result ≡ is_among halfwidth_marks c }
+{
+    c == '\u{FF9E}' || c == '\u{FF9F}'
+}
+
+/// The form in the words of the tables.
+#[inline]
+const fn in_tables(form: Form) -> ucd_normal::Form
+    ensures { result ≡ kit_form form }
+{
+    match form {
+        Form::Nfc => ucd_normal::Form::Nfc,
+        Form::Nfd => ucd_normal::Form::Nfd,
+        Form::Nfkc => ucd_normal::Form::Nfkc,
+        Form::Nfkd => ucd_normal::Form::Nfkd,
+    }
+}
