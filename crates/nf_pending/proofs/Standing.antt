@@ -2,11 +2,11 @@
 use Rattle.std.proofs.Common.{◌≡◌, ℕ, ◌+◌, Bool, true, false, cond, leb, List, [], ◌∷◌, ◌++◌, length, Option, Some, None, refl, sym, ap, ◌∙◌, subst, arith, append_assoc, map, take, drop}
 use Rattle.std.proofs.lemmas.Bool.{cond-true, cond-false, ne_eqb}
 use Rattle.std.proofs.lemmas.List.{append-nil, map-append, take-map, drop-map}
-use Rattle.std.specs.Prelude.{insert, is_some, unwrap_or, ◌||◌}
+use Rattle.std.specs.Prelude.{IfSome, insert, is_some, unwrap_or, ◌||◌}
 use Rattle.std.specs.List.{prefix_len}
 use Rattle.std.specs.Option.{option_to_list}
 use Rattle.nf_forms.specs.Properties.{Properties, is_starter}
-use Rattle.nf_forms.specs.Runs.{has_starter}
+use Rattle.nf_forms.specs.Runs.{has_starter, trail}
 use Rattle.nf_forms.specs.Front.{front, back}
 use Rattle.nf_forms.specs.Order.{by_class}
 use Rattle.nf_forms.specs.Compose.{composite}
@@ -129,6 +129,40 @@ module _ (f : Form) (p : Properties) where
     marks = refl;
     composes = form;
     starter = ap option_to_list starter ∙ sym (back-empty p (composes f));
+    held = empty;
+  }
+
+  nothing : (m : List ℕ) → length (map (mark_of p) m) ≡ 0 → m ≡ []
+  nothing [] e = refl
+  nothing (x ∷ m) e = cc
+
+  -- a starter that is held alone is all that stands behind the front
+  pub back_alone : (pending : Pending) (w : List ℕ) → StandsAfter f p pending w → length pending.marks.items ≡ 0 → IfSome pending.starter (λ a. back p (finished f p w) ≡ a ∷ [])
+  back_alone pending w s empty = at pending.starter held
+    where
+      held : back p (finished f p w) ≡ closed_off p (composes f) pending.starter []
+      held = back_held pending w s ∙ ap (λ m. closed_off p (composes f) pending.starter m) (nothing (by_class p s.run) (ap (λ m. length m) (sym s.held) ∙ empty))
+
+      left : (b : Bool) (a : ℕ) → closed_off p b (Some a) [] ≡ a ∷ []
+      left true a = refl
+      left false a = refl
+
+      at : (o : Option ℕ) → back p (finished f p w) ≡ closed_off p (composes f) o [] → IfSome o (λ a. back p (finished f p w) ≡ a ∷ [])
+      at None e = tt
+      at (Some a) e = e ∙ left (composes f) a
+
+  -- a starter that a text leaves alone
+  pub stands_alone : (old new : Pending) (w v : List ℕ) (c : ℕ) → StandsAfter f p old w → back p (finished f p v) ≡ c ∷ [] → trail p v ≡ 0
+      → new.composes ≡ old.composes → new.starter ≡ Some c → new.marks.items ≡ [] → StandsAfter f p new v
+  unfolding by_class
+  stands_alone old new w v c s leaves ends same_form starter empty = record {
+    head = v;
+    run = [];
+    text = sym (append-nil v);
+    ends = ends;
+    marks = refl;
+    composes = same_form ∙ s.composes;
+    starter = ap option_to_list starter ∙ sym leaves;
     held = empty;
   }
 

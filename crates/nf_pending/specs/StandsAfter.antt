@@ -1,5 +1,5 @@
 -- When a pending machine stands after the decomposed text that was pushed to it.
-use Rattle.std.specs.Prelude.{◌≡◌, ℕ, false, List, ◌++◌, length, map}
+use Rattle.std.specs.Prelude.{◌≡◌, ℕ, ◌==◌, false, if◌then◌else◌, List, ◌++◌, length, map, Option, None}
 use Rattle.std.specs.Option.{option_to_list}
 use Rattle.nf_forms.specs.Properties.{Properties}
 use Rattle.nf_forms.specs.Runs.{has_starter, trail}
@@ -13,6 +13,10 @@ use Rattle.nf_pending.specs.Mark.{mark_of}
 -- how many marks the machine holds
 abbrev pub run_len : Pending → ℕ
 run_len pending = length pending.marks.items
+
+-- the starter that it holds, where it holds no marks
+abbrev pub alone : Pending → Option ℕ
+alone pending = if run_len pending == 0 then pending.starter else None
 
 -- The text is a head that ends in no mark, and then marks. The machine holds what the finished head has from its last
 -- starter on, which is that starter, and the marks in order of class.

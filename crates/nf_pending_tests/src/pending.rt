@@ -212,3 +212,48 @@ fn what_is_held_is_counted(rt: HostRuntime) -> Result<(), Fail> {
     assert_eq!(rt; ended(&rt, &rows, pending)?.as_str(), "f");
     Ok(())
 }
+
+#[test]
+fn a_starter_alone_is_told(rt: HostRuntime) -> Result<(), Fail> {
+    let cases = [
+        (Form::Nfd, "", None),
+        (Form::Nfd, "a", Some('a')),
+        (Form::Nfd, "ab", Some('b')),
+        (Form::Nfc, "\u{1112}\u{1161}", Some('\u{D558}')),
+        // Marks are with it, even where they compose, or there is no starter.
+        (Form::Nfd, "a\u{301}", None),
+        (Form::Nfc, "a\u{301}", None),
+        (Form::Nfc, "\u{301}", None),
+    ];
+    for (form, text, starter) in cases {
+        let mut pending = Pending::new(form);
+        pushed(&rt, &Ucd, &mut pending, text)?;
+        assert_eq!(rt; pending.alone(), starter, "{text:?} in {form:?}");
+    }
+    Ok(())
+}
+
+#[test]
+fn a_machine_goes_on_at_a_starter(rt: HostRuntime) -> Result<(), Fail> {
+    // What was held, the starter, what comes behind it, what that settles, and what the end gives.
+    let cases = [
+        ("", 'a', "", "", "a"),
+        ("x\u{301}", 'a', "\u{301}", "", "\u{E1}"),
+        ("x\u{301}\u{323}", 'a', "b\u{301}", "a", "b\u{301}"),
+        ("\u{1112}", '\u{1100}', "\u{1161}", "", "\u{AC00}"),
+    ];
+    for (held, starter, behind, settled, rest) in cases {
+        let mut pending = Pending::new(Form::Nfc);
+        pushed(&rt, &Ucd, &mut pending, held)?;
+        pending.stand_at(starter);
+        assert_eq!(rt; (pending.alone(), pending.run_len()), (Some(starter), 0));
+        let given = pushed(&rt, &Ucd, &mut pending, behind)?;
+        let last = ended(&rt, &Ucd, pending)?;
+        assert_eq!(rt;
+            (given.as_str(), last.as_str()),
+            (settled, rest),
+            "{held:?}, then {starter:?}"
+        );
+    }
+    Ok(())
+}

@@ -1,22 +1,32 @@
 -- A checker's steps.
-use Rattle.std.proofs.Common.{◌≡◌, ℕ, ◌+◌, ◌≤◌, Bool, true, false, not, ◌&&◌, List, [], ◌∷◌, ◌++◌, length, Some, None, is_some, encode_utf8, encode_utf8_all, sym, ap, ap₂, ◌∙◌, arith}
+use Rattle.std.proofs.Common.{◌≡◌, ℕ, ◌+◌, ◌≤◌, Bool, true, false, not, ◌&&◌, List, [], ◌∷◌, ◌++◌, length, Some, None, is_some, encode_utf8, encode_utf8_all, refl, sym, ap, ap₂, ◌∙◌, arith, append_assoc}
 use Rattle.std.specs.Prelude.{if◌then◌else◌}
 use Rattle.std.proofs.lemmas.List.{length-append}
 use Rattle.std.proofs.lemmas.Str.{encodes-append}
 use Rattle.nf_forms.specs.Properties.{Properties}
+use Rattle.nf_forms.specs.declared.form.Form.TheVariants.{Nfkd}
+use Rattle.nf_forms.specs.Runs.{trail}
+use Rattle.nf_forms.specs.Forms.{decomposed}
 use Rattle.nf_forms.specs.Sound.{max_row}
 use Rattle.nf_safe.specs.declared.checker.Checker.{Checker}
 use Rattle.nf_safe.specs.Count.{counted, passes, count_step}
 use Rattle.nf_safe.specs.Place.{is_in_format}
-use Rattle.nf_safe.specs.Checker.{place_of, StandsAfter}
-use Rattle.nf_safe.specs.Laws.Count.{count_step-within, trail-decomposed-counted}
-use Rattle.nf_safe.specs.Laws.Place.{is_in_format-push, place_from-in_format, place_from-at, place_from-stays}
+use Rattle.nf_safe.specs.Checker.{place_of, StandsAfter, CountsFromEnd}
+use Rattle.nf_safe.specs.Laws.Count.{count_step-within, trail-decomposed-counted, trail-decomposed-behind}
+use Rattle.nf_safe.specs.Laws.Place.{is_in_format-push, is_in_format-join, place_from-in_format, place_from-at, place_from-stays}
 
 place_of-over : (checker : Checker) → checker.is_over ≡ true → place_of checker ≡ Some checker.reached
 place_of-over checker over = ap (λ b. if b then Some checker.reached else None) over
 
 place_of-on : (checker : Checker) → checker.is_over ≡ false → place_of checker ≡ None
 place_of-on checker on = ap (λ b. if b then Some checker.reached else None) on
+
+is_on : (checker : Checker) → place_of checker ≡ None → checker.is_over ≡ false
+is_on checker none = next checker.is_over none
+  where
+    next : (b : Bool) → (if b then Some checker.reached else None) ≡ None → b ≡ false
+    next true e = cc
+    next false e = refl
 
 module _ (base : ℕ) (p : Properties) (old : Checker) (x : List ℕ) (c : ℕ) (before : StandsAfter base p old x) where
   pub stays : old.is_over ≡ true → StandsAfter base p old (x ++ c ∷ [])
@@ -66,4 +76,19 @@ module _ (base : ℕ) (p : Properties) (old : Checker) (x : List ℕ) (c : ℕ) 
         chars = λ _. omega (arith, chars, before.chars none, length-append x (c ∷ []));
         count = λ _. count ∙ count_step-within p old.counter (p.compat c) answer
             ∙ ap (λ n. counted p n (p.compat c)) (before.count none) ∙ sym (trail-decomposed-counted p x c);
+      }
+
+-- one that began anew within the text, and has seen its end, stands where one that saw all of it does
+module _ (base : ℕ) (p : Properties) (old end : Checker) (x y z : List ℕ) (before : StandsAfter base p old x) (behind : StandsAfter (base + length (encode_utf8_all (x ++ y))) p end z) (anew : CountsFromEnd p y z) where
+  pub goes_on_from : (new : Checker) → place_of old ≡ None → place_of end ≡ None → new.is_over ≡ old.is_over → new.reached.chars ≡ old.reached.chars + length (y ++ z)
+      → new.reached.bytes ≡ end.reached.bytes → new.counter ≡ end.counter → StandsAfter base p new (x ++ (y ++ z))
+  goes_on_from new on alone same chars bytes count =
+      let here = is_in_format-join p x (y ++ z) (before.in_format (ap is_some on)) anew.in_format anew.lead in
+      let split = append_assoc x y z in
+      record {
+        place = place_of-on new (same ∙ is_on old on) ∙ sym (place_from-in_format p base (x ++ (y ++ z)) here);
+        in_format = λ _. here;
+        offset = λ _. omega (arith, bytes, behind.offset (ap is_some alone), ap (λ w. length (encode_utf8_all w)) split, ap length (encodes-append (x ++ y) z), length-append (encode_utf8_all (x ++ y)) (encode_utf8_all z));
+        chars = λ _. omega (arith, chars, before.chars (ap is_some on), length-append x (y ++ z));
+        count = λ _. count ∙ behind.count (ap is_some alone) ∙ sym (ap (λ w. trail p (decomposed Nfkd p w)) (sym split) ∙ trail-decomposed-behind p (x ++ y) z anew.some);
       }

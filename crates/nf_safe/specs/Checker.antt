@@ -1,8 +1,8 @@
 -- Where a checker stands in the text that it sees.
-use Rattle.std.specs.Prelude.{◌≡◌, ℕ, ◌+◌, List, length, Option, Some, None, IsNone, IsTrue, if◌then◌else◌, encode_utf8_all}
+use Rattle.std.specs.Prelude.{◌≡◌, ℕ, ◌+◌, true, List, ◌++◌, length, Option, Some, None, IsNone, IsTrue, if◌then◌else◌, encode_utf8_all}
 use Rattle.nf_forms.specs.Properties.{Properties}
 use Rattle.nf_forms.specs.declared.form.Form.TheVariants.{Nfkd}
-use Rattle.nf_forms.specs.Runs.{trail}
+use Rattle.nf_forms.specs.Runs.{has_starter, lead, trail}
 use Rattle.nf_forms.specs.Forms.{decomposed}
 use Rattle.nf_safe.specs.declared.place.Place.{Place}
 use Rattle.nf_safe.specs.declared.checker.Checker.{Checker}
@@ -23,3 +23,9 @@ pub record StandsAfter (base : ℕ) (p : Properties) (checker : Checker) (x : Li
   pub offset : IsNone (place_of checker) → offset_of checker ≡ base + length (encode_utf8_all x)
   pub chars : IsNone (place_of checker) → checker.reached.chars ≡ length x
   pub count : IsNone (place_of checker) → checker.counter ≡ trail p (decomposed Nfkd p x)
+
+-- y and z together are in the format, and the count begins anew at their start and at that of z
+pub record CountsFromEnd (p : Properties) (y z : List ℕ) : Type 0 where
+  pub in_format : IsTrue (is_in_format p (y ++ z))
+  pub lead : lead p (decomposed Nfkd p (y ++ z)) ≡ 0
+  pub some : has_starter p (decomposed Nfkd p z) ≡ true

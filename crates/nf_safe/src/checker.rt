@@ -15,10 +15,10 @@ pub struct Checker {
 }
 
 impl Checker {
-    ghost use Rattle.std.specs.Prelude.{◌≡◌, ◌+◌, ◌↔◌, ℕ, List, [], ◌∷◌, ◌++◌, length, IsNone, IsErr, IfSome, IfOk, IfErr, OnOk, IsFalse, encode_utf8};
+    ghost use Rattle.std.specs.Prelude.{◌≡◌, ◌+◌, ◌↔◌, ℕ, List, [], ◌∷◌, ◌++◌, length, IsNone, IsErr, IfSome, IfOk, IfErr, OnOk, IsFalse, encode_utf8, encode_utf8_all};
     ghost use Rattle.nf_forms.specs.Properties.{Properties};
     ghost use Rattle.nf_forms.specs.Sound.{is_sound};
-    ghost use Rattle.nf_safe.specs.Checker.{place_of, offset_of, StandsAfter};
+    ghost use Rattle.nf_safe.specs.Checker.{place_of, offset_of, StandsAfter, CountsFromEnd};
 
     /// A checker at the start of a text, the first byte of which has the offset `base`.
     #[inline]
@@ -74,6 +74,25 @@ impl Checker {
             bytes: self.reached.bytes + len,
         };
         Ok(None)
+    }
+
+    /// Goes on behind `chars` more characters, all of them in the format: their last ones `end` has seen, and the count
+    /// begins anew before those. The others need not be seen.
+    #[inline]
+    pub fn go_on_from(&mut self, chars: u64, end: Checker)
+        requires none { place_of self.old ≡ None }
+        requires end { place_of end ≡ None }
+        requires fits { offset_of self.old + chars ≤ offset_of end }
+        ensures none { place_of self.new ≡ None }
+        ensures offset { offset_of self.new ≡ offset_of end }
+        ensures stands { (base : ℕ) (p : Properties) (x y z : List ℕ) → StandsAfter base p self.old x → chars ≡ length (y ++ z)
+            → CountsFromEnd p y z → StandsAfter (base + length (encode_utf8_all (x ++ y))) p end z → StandsAfter base p self.new (x ++ (y ++ z)) }
+    {
+        self.counter = end.counter;
+        self.reached = Place {
+            chars: self.reached.chars + chars,
+            bytes: end.reached.bytes,
+        };
     }
 
     /// Where the text has left the format; none while it is in it.

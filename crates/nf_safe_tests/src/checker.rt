@@ -82,3 +82,40 @@ fn an_unsound_character_is_refused_and_skipped(rt: HostRuntime) {
         check(&rt, &Patched::new(&changes), 0, steps);
     }
 }
+
+/// A checker that has seen these characters, each so many times, in a text that begins at `base`.
+fn seen<T: Abort>(rt: &T, base: u64, steps: &[(char, u32)]) -> Checker {
+    let mut checker = Checker::new(base);
+    for (c, times) in steps {
+        for _ in 0..*times {
+            assert!(rt; checker.offset() <= u64::MAX - c.len_utf8() as u64);
+            assert_eq!(rt; checker.see(&Ucd, *c), Ok(None), "{c:?}");
+        }
+    }
+    checker
+}
+
+#[test]
+fn goes_on_from_the_end_of_a_text(rt: HostRuntime) {
+    // The offset of that end, what stands there, how many characters there are with those that are not seen, how many
+    // marks may follow, and the place behind them.
+    let cases: [(u64, &[(char, u32)], u64, u32, _); 3] = [
+        (164, &[('q', 1), (MARK, 2)], 6, 28, place(65, 225)),
+        (161, &[('\u{C5}', 1)], 1, 29, place(61, 221)),
+        (165, &[('q', 1)], 3, 30, place(64, 226)),
+    ];
+    for (base, steps, chars, marks, answer) in cases {
+        let mut checker = seen(&rt, 100, &[('q', 1), (MARK, 30)]);
+        let end = seen(&rt, base, steps);
+        assert!(rt; checker.place().is_none() && end.place().is_none());
+        assert!(rt; checker.offset() <= end.offset());
+        assert!(rt; chars <= end.offset() - checker.offset());
+        checker.go_on_from(chars, end);
+        for _ in 0..marks {
+            assert!(rt; checker.offset() <= u64::MAX - MARK.len_utf8() as u64);
+            assert_eq!(rt; checker.see(&Ucd, MARK), Ok(None), "at {base}");
+        }
+        assert!(rt; checker.offset() <= u64::MAX - MARK.len_utf8() as u64);
+        assert_eq!(rt; checker.see(&Ucd, MARK), answer, "at {base}");
+    }
+}

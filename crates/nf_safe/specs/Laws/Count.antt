@@ -2,7 +2,7 @@
 use Rattle.std.proofs.Common.{◌≡◌, ℕ, ◌+◌, ◌≤◌, Bool, true, false, List, [], ◌∷◌, ◌++◌, length, map, refl, sym, ap, ◌∙◌, arith}
 use Rattle.std.specs.Prelude.{if◌then◌else◌}
 use Rattle.std.specs.List.{list_all}
-use Rattle.std.proofs.lemmas.Bool.{ltb-false}
+use Rattle.std.proofs.lemmas.Bool.{cond-true, ltb-false}
 use Rattle.std.proofs.lemmas.List.{map-append}
 use Rattle.std.proofs.lemmas.List.Sums.{fold-append}
 use Rattle.nf_forms.specs.Properties.{Properties}
@@ -13,7 +13,7 @@ use Rattle.nf_forms.specs.StreamSafe.{joiner, max_run, is_too_long, parted, safe
 use Rattle.nf_forms.specs.Sound.{max_row, is_sound}
 use Rattle.nf_forms.specs.Laws.Last.{by_last}
 use Rattle.nf_forms.specs.Laws.Runs.{trail-le-length, lead-marks, trail-marks, trail-append}
-use Rattle.nf_forms.specs.Laws.StreamSafe.{stream_safe-push, trail-decomposed-push, trail-decomposed-joiner, sound-safe_step}
+use Rattle.nf_forms.specs.Laws.StreamSafe.{decomposed-append, stream_safe-push, trail-decomposed-push, trail-decomposed-joiner, sound-safe_step}
 use Rattle.nf_forms.specs.Laws.Sound.{JoinerIsPlain, IsSoundText}
 use Rattle.nf_safe.specs.Count.{counted, passes, count_step, since_step, since_last}
 
@@ -66,6 +66,11 @@ module _ (p : Properties) where
           ≡ (if h then trail p (p.compat c) else trail p (decomposed Nfkd p x) + length (p.compat c))
       next true = refl
       next false = omega arith
+
+  -- behind a starter the count is that of what stands there
+  pub trail-decomposed-behind : (x y : List ℕ) → has_starter p (decomposed Nfkd p y) ≡ true → trail p (decomposed Nfkd p (x ++ y)) ≡ trail p (decomposed Nfkd p y)
+  trail-decomposed-behind x y some =
+      ap (trail p) (decomposed-append p Nfkd x y) ∙ trail-append p (decomposed Nfkd p x) (decomposed Nfkd p y) ∙ cond-true _ _ _ some
 
   -- one step of the process is one step of the count
   pub trail-decomposed-safe_step : (out : List ℕ) (c : ℕ) → (is_too_long p out c ≡ true → JoinerIsPlain p)

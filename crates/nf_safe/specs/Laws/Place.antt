@@ -1,7 +1,7 @@
 -- The format and the place of a text that grows at its end.
 use Rattle.std.proofs.Common.{◌≡◌, ℕ, ◌+◌, ◌≤◌, ◌==◌, nat_le, Bool, true, false, not, ◌&&◌, max, List, [], ◌∷◌, ◌++◌, length, take, drop, Option, Some, None, refl, sym, ap, ◌∙◌, arith, append_assoc}
 use Rattle.std.specs.Prelude.{if◌then◌else◌, nat_lt, option_map, encode_utf8_all}
-use Rattle.std.proofs.lemmas.Bool.{leb-false, lt-leb, le-leb, eq-eqb, eqb-true, true_from_ne_false, ne_eqb}
+use Rattle.std.proofs.lemmas.Bool.{leb-true, leb-false, lt-leb, le-leb, eq-eqb, eqb-true, true_from_ne_false, ne_eqb}
 use Rattle.std.proofs.lemmas.Bool.Decides.{nat_tests}
 use Rattle.std.proofs.lemmas.List.{length-append, take-append-le, take-append-drop, append-nil}
 use Rattle.std.proofs.Math.Seq.{take-length, take-append_seam}
@@ -12,9 +12,10 @@ use Rattle.nf_forms.specs.Forms.{decomposed}
 use Rattle.nf_forms.specs.StreamSafe.{max_run, stream_safe}
 use Rattle.nf_forms.specs.Sound.{max_row}
 use Rattle.nf_forms.specs.Laws.Last.{by_last}
+use Rattle.nf_forms.specs.Laws.Runs.{longest-append}
 use Rattle.nf_forms.specs.Laws.Starters.{longest-order}
 use Rattle.nf_forms.specs.Laws.Sound.{IsSoundText}
-use Rattle.nf_forms.specs.Laws.StreamSafe.{longest-le-length, longest-decomposed-push, longest-stream_safe-le}
+use Rattle.nf_forms.specs.Laws.StreamSafe.{decomposed-append, longest-le-length, longest-decomposed-push, longest-stream_safe-le}
 use Rattle.nf_safe.specs.declared.place.Place.{Place}
 use Rattle.nf_safe.specs.Count.{passes}
 use Rattle.nf_safe.specs.LongestFront.{longest_front}
@@ -22,6 +23,9 @@ use Rattle.nf_safe.specs.Place.{is_in_format, place, place_at, place_from}
 use Rattle.nf_safe.specs.Laws.LongestFront.{longest_front-push, longest_front-all, longest_front-le, longest_front_is}
 
 module _ (p : Properties) where
+  trail-le-longest : (w : List ℕ) → trail p w ≤ longest p w
+  trail-le-longest w = omega (arith, longest-append p w [], ap (longest p) (append-nil w))
+
   -- putting a text in order changes no run
   longest-normal_form : (x : List ℕ) → is_in_format p x ≡ nat_le (longest p (decomposed Nfkd p x)) max_run
   longest-normal_form x = ap (λ n. nat_le n max_run) (longest-order p (decomposed Nfkd p x))
@@ -54,6 +58,15 @@ module _ (p : Properties) where
 
   pub is_in_format-take : (x : List ℕ) (n : ℕ) → is_in_format p x ≡ true → is_in_format p (take n x) ≡ true
   is_in_format-take x n here = is_in_format-append (take n x) (drop n x) (ap (is_in_format p) (take-append-drop n x) ∙ here)
+
+  -- two texts in the format, the second of which begins with a starter, are in it together
+  pub is_in_format-join : (x y : List ℕ) → is_in_format p x ≡ true → is_in_format p y ≡ true → lead p (decomposed Nfkd p y) ≡ 0 → is_in_format p (x ++ y) ≡ true
+  is_in_format-join x y first second starts =
+      let a = decomposed Nfkd p x in
+      let b = decomposed Nfkd p y in
+      longest-normal_form (x ++ y)
+      ∙ le-leb _ max_run
+      (omega (arith, ap (longest p) (decomposed-append p Nfkd x y), longest-append p a b, trail-le-longest a, starts, leb-true _ _ (sym (longest-normal_form x) ∙ first), leb-true _ _ (sym (longest-normal_form y) ∙ second)))
 
   pub place-in_format : (x : List ℕ) → is_in_format p x ≡ true → place p x ≡ None
   place-in_format x in_format =
