@@ -1,13 +1,16 @@
 -- What the parts of a run show, put together.
-use Rattle.std.proofs.Common.{◌≡◌, ℕ, List, [], inl, inr, refl, sym, subst, arith}
+use Rattle.std.proofs.Common.{◌≡◌, ℕ, List, [], Result, inl, inr, refl, sym, subst, arith}
 use Rattle.std.specs.Io.KnownBytes.{Appends, Keeps}
 use Rattle.std.proofs.KnownBytes.{Appends-nil}
 use Rattle.clap.specs.declared.error.kind.ErrorKind.{ErrorKind}
 use Rattle.clap.specs.declared.error.kind.ErrorKind.TheVariants.{DisplayHelp}
 use Rattle.clap.specs.Walk.{Text}
-use Rattle.nf_cmd.specs.Lines.{line_of}
-use Rattle.nf_cmd.specs.Line.{IsRefusal, IsRefused}
-use Rattle.nf_cmd.specs.Answers.{Answers, ComesOf, Devices}
+use Rattle.nf_cmd.specs.declared.fault.Fault.{Fault}
+use Rattle.nf_cmd.specs.declared.line.Request.{Request}
+use Rattle.nf_cmd.specs.Lines.{line_of, status_of}
+use Rattle.nf_cmd.specs.Line.{Asks, IsRefusal, IsRefused}
+use Rattle.nf_cmd.specs.Fronts.{AppendsFront}
+use Rattle.nf_cmd.specs.Answers.{Answers, ComesOf, Devices, Does, NeverRow}
 
 -- status 2 is not that of memory
 pub refused_by : (words : List Text) (k : ErrorKind) (before after : Devices) (status : ℕ) → IsRefusal words k → ComesOf k before after status → status ≡ 2 → IsRefused words
@@ -29,3 +32,9 @@ unfolding line_of
 help_answers k before after help same =
     subst (λ j. ComesOf j before after 0) help
     (inr (inl (record { status_is = refl; line = ([], [], refl, subst (λ e. Appends before.err e []) (sym same) (Appends-nil before.err)) })))
+
+-- what was asked for was done
+pub done_answers : NeverRow → (words : List Text) (request : Request) (before after : Devices) (found : Result ℕ Fault) (status : ℕ) → Asks words request → Does request before after found
+    → status ≡ status_of found → AppendsFront before.err after.err (line_of found) → Answers words before after status
+done_answers never words request before after found status asks does status_is line =
+    inr (inr (record { request = request; asks = asks; found = found; does = does; sound = never request before after found does; ends = record { status_is = status_is; line = line } }))

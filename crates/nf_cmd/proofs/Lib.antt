@@ -1,4 +1,9 @@
 mod Rows
+mod WordRows
+mod WalkRows
+mod NoHelp
+mod LevelRows
 mod Requests
 mod AnswerLemmas
+mod SoundLemmas
 mod CodeDigits

@@ -19,7 +19,9 @@ use Rattle.nf_forms.specs.declared.form.Form.TheVariants.{Nfc, Nfd, Nfkc, Nfkd}
 use Rattle.nf_cmd.specs.declared.line.Request.{Request}
 use Rattle.nf_cmd.specs.declared.line.Request.TheVariants.{Convert, Check, Measure, Test}
 use Rattle.nf_cmd.specs.Line.{IsLine, IsRefusal, convert, form_named, form_names, form_rule, line, request_of}
-use Rattle.nf_cmd.proofs.Rows.{Given, IsIn, IsNoHelp, StopsAtNoHelp, below_faultless, checked, given, no_help-walk, nothing_wanted, walk_faultless}
+use Rattle.nf_cmd.proofs.Rows.{IsIn}
+use Rattle.nf_cmd.proofs.NoHelp.{IsNoHelp, StopsAtNoHelp, no_help-walk}
+use Rattle.nf_cmd.proofs.LevelRows.{Given, below_faultless, checked, given, nothing_wanted, walk_faultless}
 
 -- s is one of the subcommands
 abbrev IsSub : Shape → List Shape → Type 0
@@ -52,7 +54,7 @@ module _ (a : App) (words : List Text) (off : a.top.args_override_self ≡ false
 
   enters : Enters a (entered a stop)
   enters = go stop
-      (no_help-walk a.top off (names_of a) helps (walk_from nothing_held) words (walk_faultless a.top off (names_of a) words (is_some (entered a stop)) (entered_fault a stop) none) tt)
+      (no_help-walk a.top (names_of a) helps (walk_from nothing_held) words (walk_faultless a.top off (names_of a) words (is_some (entered a stop)) (entered_fault a stop) none) tt)
       (below_faultless a.top off (names_of a) words (is_some (entered a stop)) (entered_fault a stop) none)
       (met (is_some (entered a stop)) a.top.subcommand_required needs (nothing_wanted _ _ _ (checked a.top off (names_of a) words (is_some (entered a stop)) (entered_fault a stop) none)).0)
     where

@@ -6,7 +6,7 @@ use Rattle.clap.specs.declared.error.kind.ErrorKind.TheVariants.{DisplayHelp, Ou
 use Rattle.clap.specs.Walk.{Text}
 use Rattle.nf_forms.specs.Ucd.{ucd}
 use Rattle.nf_cmd.specs.declared.fault.Fault.{Fault}
-use Rattle.nf_cmd.specs.declared.fault.Fault.TheVariants.{Write, Memory}
+use Rattle.nf_cmd.specs.declared.fault.Fault.TheVariants.{Row, Write, Memory}
 use Rattle.nf_cmd.specs.declared.line.Request.{Request}
 use Rattle.nf_cmd.specs.declared.line.Request.TheVariants.{Convert, Check, Measure, Test}
 use Rattle.nf_cmd.specs.Line.{Asks, Refuses}
@@ -62,12 +62,18 @@ Does Check before after found = Checks ucd before.input after.input before.out a
 Does Measure before after found = Measures ucd before.input after.input before.out after.out found
 Does Test before after found = Tests ucd before.input after.input before.out after.out found
 
+-- no subcommand ends because a character is unsound
+abbrev pub NeverRow : Type 0
+NeverRow = (request : Request) (before after : Devices) (found : Result ℕ Fault) → Does request before after found → (at : ℕ) → ¬ (found ≡ Err (Row at))
+
 -- the words ask for this, and it was done
 pub record IsDone (words : List Text) (before after : Devices) (status : ℕ) : Type 0 where
   pub request : Request
   pub asks : Asks words request
   pub found : Result ℕ Fault
   pub does : Does request before after found
+  -- no character of Unicode's data is unsound
+  pub sound : (at : ℕ) → ¬ (found ≡ Err (Row at))
   pub ends : EndsWith before after found status
 
 -- memory ran out over the words, or clap refuses them, or what they ask for was done

@@ -6,8 +6,8 @@ ghost use Rattle.nf_cmd.specs.Converts.{Converts, Runs};
 
 use crate::fault::Fault;
 use crate::writing::flush;
-use nf_filter::{LentReader, LentWriter, Tally, run};
-use nf_row::{Form, Ucd};
+use nf_filter::{Filter, LentReader, LentWriter, Tally, drive, run};
+use nf_row::{Form, Plain, Ucd};
 use std::io::{Read, Write};
 
 /// Writes the form of the stream-safe text that the reader gives, or what had settled before a fault, and flushes. A
@@ -41,5 +41,8 @@ fn filter<I: Read, O: Write>(
 {
     let mut source = LentReader::new(input);
     let mut sink = LentWriter::new(out);
-    run(&Ucd, form, 0, &mut source, &mut sink)
+    match Plain::of(&Ucd) {
+        Some(plain) => drive(Filter::fast(plain, form, 0), &mut source, &mut sink),
+        None => run(&Ucd, form, 0, &mut source, &mut sink),
+    }
 }

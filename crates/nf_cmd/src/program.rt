@@ -4,7 +4,7 @@ ghost use Rattle.clap.specs.Values.{kind_of};
 ghost use Rattle.clap.specs.Walk.{texts};
 ghost use Rattle.nf_cmd.specs.Line.{IsRefused as Refused};
 ghost use Rattle.nf_cmd.specs.Lines.{line_of, status_of};
-ghost use Rattle.nf_cmd.specs.Answers.{Answers, ComesOf};
+ghost use Rattle.nf_cmd.specs.Answers.{Answers, ComesOf, NeverRow};
 ghost use Rattle.nf_cmd.specs.Fronts.{AppendsFront};
 
 use crate::check::check;
@@ -17,13 +17,16 @@ use crate::writing::{write_front, write_whole};
 use arrayvec::ArrayVec;
 use clap::Error;
 use clap::error::ErrorKind;
+use nf_facts::laws::every_character_is_sound;
+use nf_filter::laws::no_sound_character_is_refused;
 use std::alloc::Global;
 use std::io::{Read, Write};
 
 /// What a line on standard error may take, in bytes: more than any of the program does.
 const LINE: usize = 128;
 
-/// Does what `words` ask for, of which the first is the program's name, and answers the status to end with.
+/// Does what `words` ask for, of which the first is the program's name, and answers the status to end with. No character
+/// is refused as unsound: of Unicode's none is.
 pub fn command<'w, I: Read, O: Write, E: Write>(
     alloc: Global,
     words: &'w [&'w str],
@@ -40,6 +43,7 @@ pub fn command<'w, I: Read, O: Write, E: Write>(
     // The command line is to blame only where clap's definition of it refuses the words.
     ensures refused { result ≡ 2 → Refused (texts words.entry.now) }
 {
+    no_character_is_refused();
     match parse(alloc, words) {
         Ok(Request::Convert(form)) => report(convert(form, input, out), err),
         Ok(Request::Check) => report(check(input, out), err),
@@ -47,6 +51,14 @@ pub fn command<'w, I: Read, O: Write, E: Write>(
         Ok(Request::Test) => report(test(alloc, input, out), err),
         Err(error) => refuse(alloc, &error, out, err),
     }
+}
+
+// No character of Unicode's data is unsound.
+fn no_character_is_refused()
+    ensures { NeverRow }
+{
+    every_character_is_sound();
+    no_sound_character_is_refused();
 }
 
 // Help goes to the output, and a mistake in the words to standard error.

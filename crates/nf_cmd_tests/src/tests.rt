@@ -5,6 +5,7 @@ mod check;
 mod convert;
 mod devices;
 mod failures;
+mod faults;
 mod measure;
 mod test;
 mod texts;
@@ -17,6 +18,12 @@ use std::process::Abort;
 
 /// The names of the forms.
 const FORMS: [&str; 4] = ["nfc", "nfd", "nfkc", "nfkd"];
+
+const CHECK: [&str; 2] = ["nfstream", "check"];
+
+const MEASURE: [&str; 2] = ["nfstream", "measure"];
+
+const TEST: [&str; 2] = ["nfstream", "test"];
 
 /// Texts, each with how many times it stands, one after another.
 type Parts<'a> = &'a [(&'a str, usize)];

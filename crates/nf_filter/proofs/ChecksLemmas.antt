@@ -1,17 +1,31 @@
--- What a check decides, character by character.
-use Rattle.std.proofs.Common.{◌≡◌, ℕ, suc, ◌+◌, Bool, true, false, ◌&&◌, cond, List, [], ◌∷◌, ◌++◌, length, take, Some, None, Ok, Err, refl, sym, ap, ◌∙◌, arith, append_assoc, append-nil}
+-- What a check decides, character by character and front by front.
+use Rattle.std.proofs.Common.{◌≡◌, ℕ, suc, ◌+◌, Bool, true, false, ◌&&◌, cond, List, [], ◌∷◌, ◌++◌, length, take, Some, None, Ok, Err, refl, sym, ap, ◌∙◌, subst, arith, append_assoc, append-nil}
 use Rattle.std.specs.Prelude.{if◌then◌else◌, Option, Result, option_map, encode_utf8_all}
 use Rattle.std.specs.List.{list_all, prefix_len}
-use Rattle.std.proofs.lemmas.Bool.{and_parts, and_from}
+use Rattle.std.specs.Str.{chars}
+use Rattle.std.proofs.lemmas.Bool.{cond-true, or_left, and_parts, and_from}
 use Rattle.std.proofs.lemmas.List.Folds.{list_all-append}
 use Rattle.nf_forms.specs.Properties.{Properties}
+use Rattle.nf_forms.specs.Runs.{has_starter, lead}
+use Rattle.nf_forms.specs.declared.form.Form.{Form}
+use Rattle.nf_forms.specs.declared.form.Form.TheVariants.{Nfkd}
+use Rattle.nf_forms.specs.Forms.{decomposed}
+use Rattle.nf_forms.specs.StreamSafe.{stream_safe}
 use Rattle.nf_forms.specs.Sound.{is_sound}
+use Rattle.nf_forms.specs.Parting.{CountsAnew}
+use Rattle.nf_forms.specs.Calm.{IsCalm}
 use Rattle.nf_forms.specs.Laws.Last.{by_last}
+use Rattle.nf_forms.specs.Laws.Runs.{has_starter-append, lead-append}
+use Rattle.nf_forms.specs.Laws.Sound.{IsSoundText}
+use Rattle.nf_forms.specs.Laws.Calm.{calm-begins}
+use Rattle.nf_forms.specs.Laws.CalmEnd.{GoesOnFromEnd, goes_on_from_end}
+use Rattle.nf_calm.specs.Front.{BeginsAndMarks}
 use Rattle.nf_utf8.specs.Reading.{text_of, ending_of}
 use Rattle.nf_safe.specs.declared.place.Place.{Place}
 use Rattle.nf_safe.specs.declared.checker.Checker.{Checker}
-use Rattle.nf_safe.specs.Place.{place_from}
-use Rattle.nf_safe.specs.Laws.Place.{place_from-stays}
+use Rattle.nf_safe.specs.Place.{is_in_format, place_from}
+use Rattle.nf_safe.specs.Checker.{CountsFromEnd}
+use Rattle.nf_safe.specs.Laws.Place.{is_in_format-stream_safe, place_from-in_format, place_from-stays}
 use Rattle.nf_filter.specs.declared.fault.Fault.{Fault}
 use Rattle.nf_filter.specs.declared.fault.Fault.TheVariants.{Row, Write}
 use Rattle.nf_filter.specs.declared.taker.Stop.{Stop}
@@ -19,7 +33,8 @@ use Rattle.nf_filter.specs.declared.taker.Stop.TheVariants.{Refused, Found}
 use Rattle.nf_filter.specs.Devices.{SinkState}
 use Rattle.nf_filter.specs.Faults.{bad_byte}
 use Rattle.nf_filter.specs.Taker.{stop_or, stop_in, StopsQuietly, TakesText}
-use Rattle.nf_filter.specs.Checks.{sound_front, check_fault, place_or_fault, check_decision, place_or_row, check_stop, HasChecked, Sees}
+use Rattle.nf_filter.specs.Checks.{sound_front, check_fault, place_or_fault, check_decision, place_or_row, check_stop, HasChecked, Sees, HasSeenFront}
+use Rattle.nf_filter.proofs.TakingLemmas.{front-behind, front-more, front-whole}
 use Rattle.nf_filter.proofs.WritesLemmas.{Puts-none}
 use Rattle.nf_filter.proofs.SurveysLemmas.{told}
 
@@ -105,3 +120,51 @@ module _ (p : Properties) where
     stop = λ _. sym sees;
     taken = tt;
   }
+
+  -- what stops it in what stands behind a front stops it in the text
+  pub stop-more : (base : ℕ) (x text front rest : List ℕ) (stop : Stop) → chars text ≡ front ++ chars rest → check_stop p base ((x ++ front) ++ chars rest) ≡ Some stop → check_stop p base (x ++ chars text) ≡ Some stop
+  stop-more base x text front rest stop is stops = ap (check_stop p base) (sym (front-behind text front rest is x)) ∙ stops
+
+  module _ (checker : Checker) (base : ℕ) (x text : List ℕ) where
+    pub HasSeenFront-none : HasChecked p checker base x → HasSeenFront p checker base x text text
+    HasSeenFront-none seen = record { front = []; is_front = refl; seen = subst (HasChecked p checker base) (sym (append-nil x)) seen }
+
+    pub HasSeenFront-more : (front rest behind : List ℕ) → chars text ≡ front ++ chars rest → HasSeenFront p checker base (x ++ front) rest behind → HasSeenFront p checker base x text behind
+    HasSeenFront-more front rest behind is next = record {
+      front = front ++ next.front;
+      is_front = front-more text front rest is next.front behind next.is_front;
+      seen = subst (HasChecked p checker base) (append_assoc x front next.front) next.seen;
+    }
+
+    pub HasSeenFront-whole : (rest : List ℕ) → length rest ≡ 0 → HasSeenFront p checker base x text rest → HasChecked p checker base (x ++ chars text)
+    HasSeenFront-whole rest none here =
+        subst (HasChecked p checker base) (ap (λ l. x ++ l) (front-whole text here.front rest here.is_front none)) here.seen
+
+  -- Calm text is in the format, and the count is that of its end alone.
+  module _ (f : Form) where
+    lead-anew : (c : ℕ) (cs : List ℕ) → CountsAnew p c → lead p (decomposed Nfkd p (c ∷ cs)) ≡ 0
+    lead-anew c cs anew = lead-append p (p.compat c) (decomposed Nfkd p cs) ∙ cond-true _ _ _ anew.some ∙ anew.lead
+
+    lead-calm : (s t : List ℕ) (class count : ℕ) → IsCalm p f (s ++ t) class count → BeginsAndMarks p f t → lead p (decomposed Nfkd p (s ++ t)) ≡ 0
+    lead-calm [] t class count calm end = ap (λ w. lead p (decomposed Nfkd p w)) end.text ∙ lead-anew end.first end.marks end.parting.counts
+    lead-calm (c ∷ s) t class count calm end = lead-anew c (s ++ t) (calm-begins p f c (s ++ t) class count calm).counts
+
+    in_format-safe : (x : List ℕ) → stream_safe p x ≡ x → IsSoundText p x → is_in_format p x ≡ true
+    in_format-safe x safe sound = ap (is_in_format p) (sym safe) ∙ is_in_format-stream_safe p x (subst (IsSoundText p) (sym safe) sound)
+
+    module _ (s t : List ℕ) (class count : ℕ) (calm : IsCalm p f (s ++ t) class count) (sound : IsSoundText p (s ++ t)) (end : BeginsAndMarks p f t) where
+      goes_on : GoesOnFromEnd p f [] (s ++ end.first ∷ end.marks) s end.first end.marks
+      goes_on = goes_on_from_end p f s end.first end.marks class count (subst (λ v. IsCalm p f (s ++ v) class count) end.text calm) end.parting.starts end.no_starter [] refl
+
+      pub counts_from_end : CountsFromEnd p s t
+      counts_from_end = record {
+        in_format = in_format-safe (s ++ t) (subst (λ v. stream_safe p (s ++ v) ≡ s ++ v) (sym end.text) goes_on.safe) sound;
+        lead = lead-calm s t class count calm end;
+        some = ap (λ w. has_starter p (decomposed Nfkd p w)) end.text ∙ has_starter-append p (p.compat end.first) (decomposed Nfkd p end.marks) ∙ or_left _ _ end.parting.counts.some;
+      }
+
+      -- nothing stops a checker that begins at its end
+      pub unstopped : (base : ℕ) → check_stop p base t ≡ None
+      unstopped base =
+          let alone : IsSoundText p t = (and_parts _ _ (sym (list_all-append (is_sound p) s t) ∙ sound)).1 in
+          stop_none base t alone (place_from-in_format p base t (in_format-safe t (subst (λ v. stream_safe p v ≡ v) (sym end.text) goes_on.alone_safe) alone))

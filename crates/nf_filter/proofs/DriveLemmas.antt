@@ -1,7 +1,6 @@
 -- What driving answers, by what was read of the source.
-use Rattle.std.proofs.Common.{◌≡◌, ℕ, ◌+◌, ◌<◌, ◌≤◌, ◌^◌, ◌↔◌, Bool, true, false, List, [], ◌++◌, length, Some, None, Ok, Err, ◌⊎◌, inl, inr, ⊎_elim, refl, sym, ap, ◌∙◌, subst, arith, append_assoc, append-nil}
-use Rattle.std.specs.Prelude.{IsTrue, IsFalse, IsErr, Option, Result}
-use Rattle.std.specs.Result.{result_err}
+use Rattle.std.proofs.Common.{◌≡◌, ℕ, ◌+◌, ◌<◌, ◌≤◌, ◌^◌, ◌↔◌, Bool, true, false, List, [], ◌++◌, length, None, Ok, Err, ◌⊎◌, inl, inr, ⊎_elim, refl, sym, ap, ◌∙◌, subst, arith, append-nil}
+use Rattle.std.specs.Prelude.{IsTrue, Result}
 use Rattle.std.specs.Io.KnownBytes.{Consumes}
 use Rattle.std.proofs.lemmas.Bool.{cases_lt}
 use Rattle.std.proofs.lemmas.List.{length-append}
@@ -16,13 +15,12 @@ use Rattle.nf_filter.specs.declared.tally.Tally.{Tally}
 use Rattle.nf_filter.specs.declared.taker.Stop.{Stop}
 use Rattle.nf_filter.specs.declared.taker.Stop.TheVariants.{Refused}
 use Rattle.nf_filter.specs.Devices.{SinkState, SourceState}
-use Rattle.nf_filter.specs.Writes.{Puts, BreaksOff}
+use Rattle.nf_filter.specs.Writes.{Puts}
 use Rattle.nf_filter.specs.Settled.{settled_utf8}
 use Rattle.nf_filter.specs.Faults.{answer_at_end, fault_in}
 use Rattle.nf_filter.specs.Normalizer.{unusable_at, usable_utf8}
-use Rattle.nf_filter.specs.Taker.{stop_in}
 use Rattle.nf_filter.specs.Sources.{stop_at_end, ReadsAll}
-use Rattle.nf_filter.specs.Finishes.{tally_of, whole_or, end_of, final_utf8, Finishes}
+use Rattle.nf_filter.specs.Finishes.{tally_of, end_of, final_utf8, Finishes}
 use Rattle.nf_filter.specs.Drives.{due_utf8, Drives}
 use Rattle.nf_filter.proofs.WritesLemmas.{Puts-join, Puts-at, BreaksOff-join, BreaksOff-at}
 use Rattle.nf_filter.proofs.FilterLemmas.{never_failed, failed_with_more, write_or_not, fault_is, no_fault, stop_in-fault, settled_utf8-is}

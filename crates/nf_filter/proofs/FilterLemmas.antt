@@ -1,7 +1,6 @@
 -- What feeding answers.
 use Rattle.std.proofs.Common.{◌≡◌, ℕ, ◌<◌, Bool, true, false, List, [], ◌++◌, length, Some, None, Ok, Err, ◌⊎◌, inl, inr, ⊎_elim, refl, sym, ap, ◌∙◌, arith}
-use Rattle.std.specs.Prelude.{IsTrue, OnOk, Option, Result, option_map, if◌then◌else◌, encode_utf8_all}
-use Rattle.std.specs.Result.{result_err}
+use Rattle.std.specs.Prelude.{IsTrue, OnOk, Option, Result, option_map, if◌then◌else◌}
 use Rattle.std.proofs.lemmas.List.{length-append}
 use Rattle.nf_forms.specs.Properties.{Properties}
 use Rattle.nf_forms.specs.declared.form.Form.{Form}
@@ -11,10 +10,10 @@ use Rattle.nf_filter.specs.declared.fault.Fault.TheVariants.{Spent, TooLong, Rea
 use Rattle.nf_filter.specs.declared.normalizer.Normalizer.{Normalizer}
 use Rattle.nf_filter.specs.declared.reading.Reading.{Reading}
 use Rattle.nf_filter.specs.declared.taker.Stop.{Stop}
-use Rattle.nf_filter.specs.declared.taker.Stop.TheVariants.{Refused, Found}
+use Rattle.nf_filter.specs.declared.taker.Stop.TheVariants.{Refused}
 use Rattle.nf_filter.specs.Devices.{SinkState, SourceState}
 use Rattle.nf_filter.specs.Writes.{Puts, BreaksOff}
-use Rattle.nf_filter.specs.Settled.{is_usable, usable, settled_utf8}
+use Rattle.nf_filter.specs.Settled.{is_usable, settled_utf8}
 use Rattle.nf_filter.specs.Faults.{bad_byte, fault_in}
 use Rattle.nf_filter.specs.Normalizer.{HasTaken, unusable_at, usable_utf8, written_in}
 use Rattle.nf_filter.specs.Taker.{stop_or, stop_in, HasRead, ReadsPiece}
@@ -72,7 +71,7 @@ module _ (p : Properties) where
     HasRead-own normalizer base reading bytes read = record {
       offset = read.offset;
       decoder = read.decoder;
-      taken = let taken = read.taken in record { usable = taken.usable; form = refl; count = taken.count; pending = rw taken.form taken.pending; chars = taken.chars; put = taken.put };
+      taken = let taken = read.taken in record { usable = taken.usable; form = refl; plain = taken.plain; count = taken.count; pending = rw taken.form taken.pending; chars = taken.chars; put = taken.put };
       unstopped = read.unstopped;
     }
 
@@ -81,7 +80,7 @@ module _ (p : Properties) where
     HasRead-form normalizer base reading bytes same read = record {
       offset = read.offset;
       decoder = read.decoder;
-      taken = let taken = read.taken in record { usable = taken.usable; form = same; count = taken.count; pending = rw (← same) taken.pending; chars = taken.chars; put = taken.put };
+      taken = let taken = read.taken in record { usable = taken.usable; form = same; plain = taken.plain; count = taken.count; pending = rw (← same) taken.pending; chars = taken.chars; put = taken.put };
       unstopped = read.unstopped;
     }
 

@@ -1,5 +1,5 @@
 -- What finishing answers.
-use Rattle.std.proofs.Common.{◌≡◌, ℕ, ◌-◌, List, length, Ok, Err, refl, sym, ap, ◌∙◌, arith}
+use Rattle.std.proofs.Common.{◌≡◌, ℕ, ◌-◌, List, Ok, Err, refl, sym, ap, ◌∙◌, arith}
 use Rattle.std.specs.Prelude.{encode_utf8_all}
 use Rattle.nf_forms.specs.Properties.{Properties}
 use Rattle.nf_forms.specs.declared.form.Form.{Form}
@@ -15,7 +15,7 @@ use Rattle.nf_filter.specs.Writes.{Puts, BreaksOff}
 use Rattle.nf_forms.specs.SafeForm.{safe_form}
 use Rattle.nf_filter.specs.Settled.{settled_utf8}
 use Rattle.nf_filter.specs.Faults.{answer_at_end}
-use Rattle.nf_filter.specs.Normalizer.{HasTaken, settled_text, unusable_at, usable_utf8}
+use Rattle.nf_filter.specs.Normalizer.{HasTaken, settled_text, unusable_at}
 use Rattle.nf_filter.specs.Taker.{HasRead}
 use Rattle.nf_filter.specs.Finishes.{tally_of, whole_or, end_of, final_utf8, Finishes}
 use Rattle.nf_filter.proofs.WritesLemmas.{Puts-none, Puts-at, BreaksOff-at}

@@ -5,6 +5,9 @@ pub mod PushingLemmas
 pub mod NormalizerLemmas
 pub mod CharsLemmas
 pub mod TextLemmas
+pub mod CalmLemmas
+pub mod TakingLemmas
+pub mod PlainLemmas
 pub mod ReadingLemmas
 pub mod SourcesLemmas
 pub mod FilterLemmas
@@ -13,3 +16,4 @@ pub mod DriveLemmas
 pub mod SurveysLemmas
 pub mod ChecksLemmas
 pub mod MeasuresLemmas
+pub mod SoundnessLemmas

@@ -19,7 +19,7 @@ use Rattle.nf_filter.specs.Settled.{is_usable}
 use Rattle.nf_filter.specs.Faults.{fault_in}
 use Rattle.nf_filter.specs.Normalizer.{unusable_at}
 use Rattle.nf_filter.specs.Taker.{stop_in, StopsQuietly, TakesText}
-use Rattle.nf_filter.specs.Measures.{measure_decision, HasMeasured, SeesText}
+use Rattle.nf_filter.specs.Measures.{HasMeasured, SeesText}
 use Rattle.nf_filter.proofs.WritesLemmas.{Puts-none}
 use Rattle.nf_filter.proofs.SettledLemmas.{is_usable-push}
 use Rattle.nf_filter.proofs.TextLemmas.{unusable_at-usable, unusable_at-stop}

@@ -1,6 +1,6 @@
 -- One character more.
 use Rattle.std.proofs.Common.{◌≡◌, ℕ, ◌+◌, ◌≤◌, Bool, true, false, not, ◌&&◌, ◌||◌, List, [], ◌∷◌, ◌++◌, length, Ok, Err, refl, sym, ap, ◌∙◌, subst, arith}
-use Rattle.std.specs.Prelude.{if◌then◌else◌, encode_utf8_all, Result, OnOk}
+use Rattle.std.specs.Prelude.{if◌then◌else◌, Result, OnOk}
 use Rattle.std.proofs.lemmas.Bool.{false≢true, ltb-false}
 use Rattle.std.proofs.lemmas.List.{length-append}
 use Rattle.nf_forms.specs.Properties.{Properties}
@@ -17,16 +17,15 @@ use Rattle.nf_safe.specs.Count.{counted, passes, count_step}
 use Rattle.nf_safe.specs.Laws.Count.{count_step-within, trail-decomposed-safe_step}
 use Rattle.nf_pending.specs.StandsAfter.{run_len, StandsAfter as PendingStandsAfter}
 use Rattle.nf_filter.specs.declared.normalizer.Normalizer.{Normalizer}
-use Rattle.nf_filter.specs.declared.normalizer.Refusal.{Refusal}
-use Rattle.nf_filter.specs.declared.normalizer.Refusal.TheVariants.{Unsound, Write}
+use Rattle.nf_filter.specs.declared.refusal.Refusal.{Refusal}
+use Rattle.nf_filter.specs.declared.refusal.Refusal.TheVariants.{Unsound, Write}
 use Rattle.nf_forms.specs.SafeForm.{safe_form}
 use Rattle.nf_filter.specs.Settled.{settled, is_usable}
 use Rattle.nf_filter.specs.Block.{Start, BlockState, Written}
 use Rattle.nf_filter.specs.Normalizer.{HasTaken, HasParted, IsWithin, HasRoom, run_behind, front_utf8, settled_text, PutsJoiner, Parts}
-use Rattle.nf_filter.proofs.WritesLemmas.{BreaksOff-at}
 use Rattle.nf_filter.proofs.BlockLemmas.{Written-at}
 use Rattle.nf_filter.proofs.SettledLemmas.{Extends, is_usable-push}
-use Rattle.nf_filter.proofs.PushingLemmas.{BreaksOff-extends, front_utf8-extends}
+use Rattle.nf_filter.proofs.PushingLemmas.{Broken-extends, Broken-at, front_utf8-extends}
 
 module _ (p : Properties) where
   and_false : (a s : Bool) → s ≡ false → (a && s) ≡ false
@@ -174,6 +173,7 @@ module _ (p : Properties) where
             subst (λ t. HasParted f p t x c) (sym is) (record {
               usable = is_usable-sound x c before.usable sound (λ e. absurd (false≢true (sym short_is ∙ e)));
               form = before.form;
+              plain = before.plain;
               count = count_is (λ e. absurd (false≢true (sym short_is ∙ e)));
               pending = subst (λ o. PendingStandsAfter f p taken.pending (decomposed f p o)) (sym same) before.pending;
               chars = before.chars;
@@ -193,6 +193,7 @@ module _ (p : Properties) where
             record {
               usable = is_usable-sound x c before.usable sound (λ _. puts.0);
               form = ap (λ t. t.form) joins ∙ ap (λ t. t.form) is ∙ before.form;
+              plain = λ e. before.plain (sym (ap (λ t. t.is_plain) joins ∙ ap (λ t. t.is_plain) is) ∙ e);
               count = ap (λ t. t.counter) joins ∙ ap (λ t. t.counter) is ∙ count_is (λ _. plain);
               pending = subst (λ w. PendingStandsAfter f p new.pending w) (sym text) puts.1;
               chars = ap (λ t. t.chars) joins ∙ ap (λ t. t.chars) is ∙ before.chars;
@@ -207,7 +208,7 @@ module _ (p : Properties) where
           let plain = JoinerIsPlain-from_sound p puts.0 in
           let text = ap (decomposed f p) (parted-with (stream_safe p x) c long_here) ∙ decomposed-joiner plain f (stream_safe p x) in (
             is_usable-sound x c before.usable sound (λ _. puts.0),
-            BreaksOff-extends (settled_text-parted x c) (BreaksOff-at refl (ap (front_utf8 f p) (sym text)) puts.1),
+            Broken-extends _ (settled_text-parted x c) (Broken-at _ (ap (front_utf8 f p) (sym text)) puts.1),
           )
 
     -- why not, whatever it would have answered
@@ -228,6 +229,7 @@ module _ (p : Properties) where
     HasTaken-row part new x row c here is same stands = record {
       usable = here.usable;
       form = ap (λ t. t.form) same ∙ here.form;
+      plain = λ e. here.plain (sym (ap (λ t. t.is_plain) same) ∙ e);
       count = ap (λ t. t.counter) same ∙ here.count;
       pending = subst (λ w. PendingStandsAfter f p new.pending w) (row_text part x row c here is) stands;
       chars = ap (λ t. t.chars) same ∙ ap (λ n. n + 1) here.chars ∙ sym (length-append x (c ∷ []));

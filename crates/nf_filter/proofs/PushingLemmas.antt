@@ -1,5 +1,5 @@
 -- What is settled and how long the run is, when decomposed text is pushed code point by code point.
-use Rattle.std.proofs.Common.{◌≡◌, ℕ, ◌+◌, ◌<◌, ◌≤◌, Bool, true, false, not, ◌||◌, List, [], ◌∷◌, ◌++◌, length, take, drop, get_or, sym, ap, ◌∙◌, subst, arith}
+use Rattle.std.proofs.Common.{◌≡◌, ℕ, ◌+◌, ◌<◌, ◌≤◌, Bool, true, false, not, ◌||◌, List, [], ◌∷◌, ◌++◌, length, take, drop, get_or, sym, ap, ◌∙◌, subst, arith, append_assoc}
 use Rattle.std.specs.Prelude.{if◌then◌else◌}
 use Rattle.std.proofs.lemmas.List.{length-append, length-take-le, take-append-drop, take_more}
 use Rattle.nf_forms.specs.Properties.{Properties, is_starter, is_nonstarter}
@@ -10,6 +10,7 @@ use Rattle.nf_forms.specs.Laws.Runs.{has_starter-append, lead-append, trail-le-l
 use Rattle.nf_forms.specs.Laws.Compose.{front-append}
 use Rattle.nf_filter.specs.Devices.{SinkState}
 use Rattle.nf_filter.specs.Writes.{BreaksOff}
+use Rattle.nf_filter.specs.Block.{Start}
 use Rattle.nf_filter.specs.Normalizer.{run_behind, front_utf8}
 use Rattle.nf_filter.proofs.WritesLemmas.{BreaksOff-longer}
 use Rattle.nf_filter.proofs.SettledLemmas.{Extends, Extends-encodes}
@@ -17,6 +18,18 @@ use Rattle.nf_filter.proofs.SettledLemmas.{Extends, Extends-encodes}
 -- more is to come behind
 pub BreaksOff-extends : {old new : SinkState} {a b d : List ℕ} → Extends b d → BreaksOff old new a b → BreaksOff old new a d
 BreaksOff-extends {old} {new} {a} {b} {d} more stops = subst (λ l. BreaksOff old new a l) (sym more.text) (BreaksOff-longer more.more stops)
+
+Extends-behind : (w : List ℕ) {a b : List ℕ} → Extends a b → Extends (w ++ a) (w ++ b)
+Extends-behind w {a} {b} more = record { more = more.more; text = ap (λ l. w ++ l) more.text ∙ sym (append_assoc w a more.more) }
+
+-- also where text stands ahead
+pub Broken-extends : (start : Start) {new : SinkState} {a b : List ℕ} → Extends a b → BreaksOff start.sink new start.before (start.ahead ++ a)
+    → BreaksOff start.sink new start.before (start.ahead ++ b)
+Broken-extends start more broken = BreaksOff-extends (Extends-behind start.ahead more) broken
+
+pub Broken-at : (start : Start) {new : SinkState} {a b : List ℕ} → a ≡ b → BreaksOff start.sink new start.before (start.ahead ++ a)
+    → BreaksOff start.sink new start.before (start.ahead ++ b)
+Broken-at start {new} same broken = subst (λ w. BreaksOff start.sink new start.before (start.ahead ++ w)) same broken
 
 pub front_utf8-extends : (f : Form) (p : Properties) (w v : List ℕ) → Extends (front_utf8 f p w) (front_utf8 f p (w ++ v))
 front_utf8-extends f p w v =

@@ -1,5 +1,5 @@
 -- What reading a source comes to, by where it stopped.
-use Rattle.std.proofs.Common.{◌≡◌, ℕ, ◌+◌, ◌<◌, ◌≤◌, ◌^◌, ◌↔◌, true, false, List, [], ◌++◌, length, Some, None, Ok, Err, refl, sym, ap, ◌∙◌, subst, arith, append_assoc, append-nil}
+use Rattle.std.proofs.Common.{◌≡◌, ℕ, ◌+◌, ◌<◌, ◌≤◌, ◌^◌, ◌↔◌, true, false, List, [], ◌++◌, length, Ok, Err, refl, sym, ap, ◌∙◌, subst, arith, append_assoc, append-nil}
 use Rattle.std.specs.Prelude.{Option, Bool, Result}
 use Rattle.std.specs.Io.KnownBytes.{Consumes, IsAtEnd}
 use Rattle.std.proofs.lemmas.List.{length-append}
@@ -15,7 +15,7 @@ use Rattle.nf_filter.specs.Writes.{Puts}
 use Rattle.nf_filter.specs.Faults.{answer_at_end}
 use Rattle.nf_filter.specs.Taker.{HasRead, ReadsPiece, MayStopReading}
 use Rattle.nf_filter.specs.Sources.{MayStopAll, IsCutStop, stop_at_end, ReadsAll}
-use Rattle.nf_filter.proofs.WritesLemmas.{Puts-join, Puts-at, BreaksOff-join, BreaksOff-at}
+use Rattle.nf_filter.proofs.WritesLemmas.{Puts-join, Puts-at, BreaksOff-join}
 
 -- what stops the reading of a piece may stop that of a source
 pub MayStopAll-from : (finds : Bool) (stop : Stop) → MayStopReading finds stop → MayStopAll finds stop

@@ -1,10 +1,9 @@
 -- What reading a source answers, by what was read of it.
-use Rattle.std.proofs.Common.{◌≡◌, ℕ, ◌+◌, ◌≤◌, ◌^◌, ◌↔◌, Bool, true, false, List, [], ◌++◌, length, Some, None, Ok, Err, refl, sym, ap, ◌∙◌, subst, arith, append-nil}
-use Rattle.std.specs.Prelude.{IsTrue, IsFalse, IsErr, Option, Result, option_map}
-use Rattle.std.specs.Result.{result_err}
+use Rattle.std.proofs.Common.{◌≡◌, ℕ, Bool, true, false, List, [], ◌++◌, length, None, Ok, Err, refl, sym, ap, ◌∙◌, arith}
+use Rattle.std.specs.Prelude.{Option, Result, option_map}
 use Rattle.std.proofs.lemmas.List.{length-append}
 use Rattle.nf_utf8.specs.Ending.{Ending, Whole, Bad, Cut as CutShort}
-use Rattle.nf_utf8.specs.Reading.{text_of, ending_of}
+use Rattle.nf_utf8.specs.Reading.{ending_of}
 use Rattle.nf_safe.specs.declared.place.Place.{Place}
 use Rattle.nf_filter.specs.declared.fault.Fault.{Fault}
 use Rattle.nf_filter.specs.declared.fault.Fault.TheVariants.{Spent, TooLong, Read, Write, Row, BadByte, Cut}

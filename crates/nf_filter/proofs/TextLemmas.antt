@@ -1,13 +1,17 @@
 -- A text more.
 use Rattle.std.proofs.Common.{◌≡◌, ℕ, ◌+◌, true, false, List, [], ◌∷◌, ◌++◌, length, Some, None, Ok, Err, refl, sym, ap, ◌∙◌, subst, append-nil}
-use Rattle.std.specs.Prelude.{Option, Result, if◌then◌else◌, encode_utf8_all, OnOk}
-use Rattle.std.specs.Result.{result_err}
+use Rattle.std.specs.Prelude.{Result, if◌then◌else◌, encode_utf8_all}
 use Rattle.nf_forms.specs.Properties.{Properties}
 use Rattle.nf_forms.specs.declared.form.Form.{Form}
+use Rattle.nf_forms.specs.Front.{front}
+use Rattle.nf_forms.specs.Forms.{decomposed, finished}
+use Rattle.nf_forms.specs.StreamSafe.{stream_safe}
+use Rattle.nf_forms.specs.SafeForm.{safe_form}
+use Rattle.std.proofs.lemmas.Str.{encodes-append}
 use Rattle.nf_filter.specs.declared.fault.Fault.TheVariants.{Row, Write as WriteFault}
 use Rattle.nf_filter.specs.declared.normalizer.Normalizer.{Normalizer}
-use Rattle.nf_filter.specs.declared.normalizer.Refusal.{Refusal}
-use Rattle.nf_filter.specs.declared.normalizer.Refusal.TheVariants.{Unsound, Write}
+use Rattle.nf_filter.specs.declared.refusal.Refusal.{Refusal}
+use Rattle.nf_filter.specs.declared.refusal.Refusal.TheVariants.{Unsound, Write}
 use Rattle.nf_filter.specs.declared.taker.Stop.{Stop}
 use Rattle.nf_filter.specs.declared.taker.Stop.TheVariants.{Refused}
 use Rattle.nf_filter.specs.Settled.{settled, is_usable, usable}
@@ -19,7 +23,7 @@ use Rattle.nf_filter.specs.Normalizer.{HasTaken, settled_text, usable_utf8, unus
 use Rattle.nf_filter.proofs.WritesLemmas.{Puts-at, BreaksOff-at}
 use Rattle.nf_filter.proofs.BlockLemmas.{start_at, Written-at}
 use Rattle.nf_filter.proofs.SettledLemmas.{Extends, Extends-encodes, settled-extends, is_usable-stays_out, usable-all, usable-stop, usable-extends}
-use Rattle.nf_filter.proofs.PushingLemmas.{BreaksOff-extends}
+use Rattle.nf_filter.proofs.PushingLemmas.{Broken-extends}
 
 module _ (p : Properties) where
   pub unusable_at-usable : (base : ℕ) (x : List ℕ) → is_usable p x ≡ true → unusable_at p base x ≡ None
@@ -34,6 +38,12 @@ module _ (p : Properties) where
       ∙ ap (λ y. Some (Refused (Row (base + length (encode_utf8_all y))))) (usable-stop p x c rest sound out)
 
   module _ (f : Form) where
+    -- what is settled, and then the rest
+    pub settled_text-rest : (x rest : List ℕ) → let w = decomposed f p (stream_safe p x) in front p (finished f p w) ++ rest ≡ finished f p w
+        → settled_text f p x ++ encode_utf8_all rest ≡ encode_utf8_all (safe_form f p x)
+    unfolding settled safe_form
+    settled_text-rest x rest is = sym (encodes-append (front p (finished f p (decomposed f p (stream_safe p x)))) rest) ∙ ap encode_utf8_all is
+
     pub usable_utf8-usable : (x : List ℕ) → is_usable p x ≡ true → settled_text f p x ≡ usable_utf8 f p x
     unfolding usable_utf8
     usable_utf8-usable x sound = ap (settled_text f p) (sym (usable-all p x sound))
@@ -42,7 +52,7 @@ module _ (p : Properties) where
     unfolding usable_utf8
     usable_utf8-stop x c rest sound out = ap (settled_text f p) (sym (usable-stop p x c rest sound out))
 
-    usable_utf8-extends : (x rest : List ℕ) → is_usable p x ≡ true → Extends (settled_text f p x) (usable_utf8 f p (x ++ rest))
+    pub usable_utf8-extends : (x rest : List ℕ) → is_usable p x ≡ true → Extends (settled_text f p x) (usable_utf8 f p (x ++ rest))
     unfolding usable_utf8
     usable_utf8-extends x rest sound =
         let more = usable-extends p x rest sound in
@@ -66,14 +76,15 @@ module _ (p : Properties) where
         taken = tt;
       }
       TakesOn-refused x c rest at Write sound here takes = record {
-        broken = λ _. BreaksOff-extends (usable_utf8-extends (x ++ c ∷ []) rest takes.0) takes.1;
+        broken = λ _. Broken-extends _ (usable_utf8-extends (x ++ c ∷ []) rest takes.0) takes.1;
         written = λ no. absurd (no refl);
         stop = λ no. absurd (no refl);
         taken = tt;
       }
 
 -- all that was written is given
-pub Puts-emptied : {start : Start} {sink : SinkState} {kept w : List ℕ} → kept ≡ [] → Written start (record { sink = sink; kept = kept }) w → Puts start.sink sink start.before w
+pub Puts-emptied : {start : Start} {sink : SinkState} {kept w : List ℕ} → kept ≡ [] → Written start (record { sink = sink; kept = kept }) w
+    → Puts start.sink sink start.before (start.ahead ++ w)
 Puts-emptied {start} {sink} {kept} {w} none written =
     Puts-at refl (sym (written.text ∙ ap (λ l. written.given ++ l) none ∙ append-nil written.given)) written.puts
 

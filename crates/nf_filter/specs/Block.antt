@@ -5,10 +5,12 @@ use Rattle.nf_filter.specs.declared.devices.Failed.{Failed}
 use Rattle.nf_filter.specs.Devices.{SinkState}
 use Rattle.nf_filter.specs.Writes.{Puts, BreaksOff}
 
--- where the sink stood when the block was laid over it, and what was written before
+-- where the sink stood when the block was laid over it, what was written before, and what of the text that is written
+-- now stands ahead of the part that is told
 pub record Start : Type 0 where
   pub sink : SinkState
   pub before : List ℕ
+  pub ahead : List ℕ
 
 -- where it stands, and what the block keeps
 pub record BlockState : Type 0 where
@@ -22,11 +24,11 @@ block_state state block = record { sink = state block.sink.now; kept = block.byt
 pub record Written (start : Start) (now : BlockState) (after : List ℕ) : Type 0 where
   pub given : List ℕ
   pub puts : Puts start.sink now.sink start.before given
-  pub text : after ≡ given ++ now.kept
+  pub text : start.ahead ++ after ≡ given ++ now.kept
 
 -- the sink failed, and took a part of it
 abbrev pub Broken : Start → BlockState → List ℕ → Type 0
-Broken start now after = BreaksOff start.sink now.sink start.before after
+Broken start now after = BreaksOff start.sink now.sink start.before (start.ahead ++ after)
 
 -- so it is written, or the sink failed
 abbrev pub WritesOn : Start → BlockState → List ℕ → Result (Unit {0}) Failed → Type 0

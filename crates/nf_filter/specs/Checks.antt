@@ -1,6 +1,7 @@
 -- Where a text is found not to be in the Stream-Safe Text Format, or cannot be read on (UAX #15, section 13; The Unicode
 -- Standard, section 3.9).
-use Rattle.std.specs.Prelude.{◌≡◌, Bool, true, false, ℕ, ◌+◌, List, length, Option, Some, None, option_map, Result, Ok, Err, if◌then◌else◌, take_while, encode_utf8_all}
+use Rattle.std.specs.Prelude.{◌≡◌, Bool, true, false, ℕ, ◌+◌, List, ◌++◌, length, chars, Option, Some, None, option_map, Result, Ok, Err, if◌then◌else◌, take_while, encode_utf8_all}
+use Rattle.std.specs.Borrow.{Bor}
 use Rattle.std.specs.List.{list_all}
 use Rattle.nf_forms.specs.Properties.{Properties}
 use Rattle.nf_forms.specs.Sound.{is_sound}
@@ -59,3 +60,14 @@ check_stop p base x = place_or_row (place_from base p (sound_front p x)) (list_a
 abbrev pub Sees : Properties → Checker → ℕ → List ℕ → Result (Unit {0}) Stop → Type 0
 Sees p checker base x (Ok _) = HasChecked p checker base x
 Sees p checker base x (Err stop) = check_stop p base x ≡ Some stop
+
+-- behind x a front of the text was seen; `rest` is what stands behind that
+pub record HasSeenFront (p : Properties) (checker : Checker) (base : ℕ) (x text rest : List ℕ) : Type 0 where
+  pub front : List ℕ
+  pub is_front : chars text ≡ front ++ chars rest
+  pub seen : HasChecked p checker base (x ++ front)
+
+-- so it was, or what stops it in the text
+abbrev pub SeesFront : Properties → Checker → ℕ → List ℕ → List ℕ → Result (Bor (List ℕ)) Stop → Type 0
+SeesFront p checker base x text (Ok rest) = HasSeenFront p checker base x text rest.now
+SeesFront p checker base x text (Err stop) = check_stop p base (x ++ chars text) ≡ Some stop

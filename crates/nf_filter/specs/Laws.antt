@@ -1,4 +1,6 @@
 -- Laws of what is settled. `src/laws.rt` has each as a contract.
+pub mod Settled
+pub mod Soundness
 use Rattle.std.specs.Prelude.{◌≡◌, ℕ, ◌+◌, ◌≤◌, List, ◌++◌, length, IsTrue}
 use Rattle.nf_forms.specs.Properties.{Properties}
 use Rattle.nf_forms.specs.declared.form.Form.{Form}

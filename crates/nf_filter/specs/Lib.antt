@@ -7,6 +7,7 @@ pub mod Settled
 pub mod Laws
 pub mod Faults
 pub mod Normalizer
+pub mod Taking
 pub mod Taker
 pub mod Sources
 pub mod Filter

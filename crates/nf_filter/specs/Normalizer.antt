@@ -13,18 +13,20 @@ use Rattle.nf_pending.specs.declared.pending.Pending.{Pending}
 use Rattle.nf_pending.specs.StandsAfter.{run_len, StandsAfter as PendingStandsAfter}
 use Rattle.nf_filter.specs.declared.devices.Failed.{Failed}
 use Rattle.nf_filter.specs.declared.normalizer.Normalizer.{Normalizer}
-use Rattle.nf_filter.specs.declared.normalizer.Refusal.{Refusal}
-use Rattle.nf_filter.specs.declared.normalizer.Refusal.TheVariants.{Unsound, Write}
+use Rattle.nf_filter.specs.declared.refusal.Refusal.{Refusal}
+use Rattle.nf_filter.specs.declared.refusal.Refusal.TheVariants.{Unsound, Write}
 use Rattle.nf_filter.specs.declared.fault.Fault.TheVariants.{Row, Write as WriteFault}
 use Rattle.nf_filter.specs.declared.taker.Stop.{Stop}
 use Rattle.nf_filter.specs.declared.taker.Stop.TheVariants.{Refused}
+use Rattle.nf_row.specs.Ascii.{IsPlainAscii}
 use Rattle.nf_filter.specs.Settled.{is_usable, settled, usable}
 use Rattle.nf_filter.specs.Block.{Start, BlockState, Written, Broken}
 
--- the characters x were taken
+-- the characters x were taken, and where the normalizer says so ASCII is plain
 pub record HasTaken (f : Form) (p : Properties) (normalizer : Normalizer) (x : List ℕ) : Type 0 where
   pub usable : is_usable p x ≡ true
   pub form : normalizer.form ≡ f
+  pub plain : normalizer.is_plain ≡ true → IsPlainAscii p
   pub count : normalizer.counter ≡ trail p (decomposed Nfkd p (stream_safe p x))
   pub pending : PendingStandsAfter f p normalizer.pending (decomposed f p (stream_safe p x))
   pub chars : normalizer.chars ≡ length x
@@ -34,6 +36,7 @@ pub record HasTaken (f : Form) (p : Properties) (normalizer : Normalizer) (x : L
 pub record HasParted (f : Form) (p : Properties) (normalizer : Normalizer) (x : List ℕ) (c : ℕ) : Type 0 where
   pub usable : is_usable p (x ++ c ∷ []) ≡ true
   pub form : normalizer.form ≡ f
+  pub plain : normalizer.is_plain ≡ true → IsPlainAscii p
   pub count : normalizer.counter ≡ trail p (decomposed Nfkd p (stream_safe p (x ++ c ∷ [])))
   pub pending : PendingStandsAfter f p normalizer.pending (decomposed f p (parted p (stream_safe p x) c))
   pub chars : normalizer.chars ≡ length x

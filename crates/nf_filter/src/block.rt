@@ -13,13 +13,16 @@ const ROOM: usize = 4096;
 pub struct Block<'s, S> {
     sink: &'s mut S,
     bytes: ArrayVec<u8, ROOM>,
+    /// The most bytes that are given to the sink at once.
+    most: usize,
+    ghost some: { 0 < most },
 }
 
 impl<'s, S: Sink> Block<'s, S> {
     ghost use Rattle.nf_filter.specs.Block.{Start, block_state, Written, WritesOn};
 
-    /// An empty block.
-    pub fn over(sink: &'s mut S) -> Block<'s, S>
+    /// An empty block. At most 4,096 bytes are given to the sink at once, or as many as a text has, if it is `whole`.
+    pub fn over(sink: &'s mut S, whole: bool) -> Block<'s, S>
         ensures lent { result.sink.ghost_name ≡ sink.entry.ghost_name }
         ensures sink { result.sink.now ≡ sink.old }
         ensures empty { result.bytes.items ≡ [] }
@@ -27,6 +30,7 @@ impl<'s, S: Sink> Block<'s, S> {
         Block {
             sink,
             bytes: ArrayVec::new(),
+            most: if whole { usize::MAX } else { ROOM },
         }
     }
 
@@ -47,6 +51,23 @@ impl<'s, S: Sink> Block<'s, S> {
         Ok(())
     }
 
+    /// Appends the text. Where that does not fit, the sink is given first what is kept, and then the text itself.
+    pub fn push_text(&mut self, text: &str) -> Result<(), Failed>
+        ensures lent { self.new.sink.ghost_name ≡ self.old.sink.ghost_name }
+        ensures lender { (S.state self.new.sink.now).lender ≡ (S.state self.old.sink.now).lender }
+        ensures writes { (start : Start) (w : List ℕ) → Written start (block_state S.state self.old) w
+            → WritesOn start (block_state S.state self.new) (w ++ text.now) result }
+    {
+        if text.len() <= ROOM - self.bytes.len() {
+            self.bytes.try_extend_from_slice(text.as_bytes()).unwrap();
+            return Ok(());
+        }
+        if let Err(failed) = self.empty() {
+            return Err(failed);
+        }
+        put_all(self.sink, text.as_bytes(), self.most)
+    }
+
     /// Gives the sink all that is kept.
     pub fn empty(&mut self) -> Result<(), Failed>
         ensures lent { self.new.sink.ghost_name ≡ self.old.sink.ghost_name }
@@ -55,7 +76,7 @@ impl<'s, S: Sink> Block<'s, S> {
         ensures writes { (start : Start) (w : List ℕ) → Written start (block_state S.state self.old) w
             → WritesOn start (block_state S.state self.new) w result }
     {
-        if let Err(failed) = put_all(self.sink, self.bytes.as_slice()) {
+        if let Err(failed) = put_all(self.sink, self.bytes.as_slice(), self.most) {
             return Err(failed);
         }
         self.bytes.clear();
@@ -85,18 +106,31 @@ fn push_utf8(bytes: &mut ArrayVec<u8, ROOM>, c: char)
     bytes.try_extend_from_slice(utf8).unwrap();
 }
 
-/// Gives `bytes` to the sink, in as many calls as it asks for.
-fn put_all<S: Sink>(sink: &mut S, bytes: &[u8]) -> Result<(), Failed>
+/// Gives `bytes` to the sink, at most so many at once, in as many calls as it asks for.
+fn put_all<S: Sink>(sink: &mut S, bytes: &[u8], most: usize) -> Result<(), Failed>
+    requires { 0 < most }
     ensures lender { (S.state sink.new).lender ≡ (S.state sink.old).lender }
     ensures puts { MatchResult result (λ _. Puts (S.state sink.old) (S.state sink.new) [] bytes.now)
         (λ _. BreaksOff (S.state sink.old) (S.state sink.new) [] bytes.now) }
 {
     let mut at = 0;
     while at < bytes.len() {
-        match sink.put(&bytes[at..]) {
+        match sink.put(&bytes[at..slice_end(at, bytes.len(), most)]) {
             Ok(n) => at += n,
             Err(failed) => return Err(failed),
         }
     }
     Ok(())
+}
+
+/// Where the slice ends that is given next: it begins at `at` and has at most so many bytes.
+#[inline]
+fn slice_end(at: usize, len: usize, most: usize) -> usize
+    requires within { at < len }
+    requires some { 0 < most }
+    ensures some { at < result }
+    ensures within { result ≤ len }
+    ensures few { result ≤ at + most }
+{
+    if len - at > most { at + most } else { len }
 }

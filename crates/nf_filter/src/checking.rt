@@ -1,16 +1,19 @@
-ghost use Rattle.std.specs.Prelude.{◌≡◌, ◌↔◌, ◌+◌, ◌≤◌, ℕ, List, [], ◌∷◌, ◌++◌, length, chars, Some, None, true, IsTrue, IfErr, OnOk, encode_utf8};
+ghost use Rattle.std.specs.Prelude.{◌≡◌, ◌↔◌, ◌+◌, ◌<◌, ◌≤◌, ℕ, List, [], ◌∷◌, ◌++◌, length, chars, Some, None, true, IsTrue, IfOk, IfErr, OnOk, encode_utf8};
+ghost use Rattle.nf_forms.specs.declared.form.Form.TheVariants.{Nfc};
+ghost use Rattle.nf_calm.specs.Front.{IsCalmFront};
 ghost use Rattle.nf_filter.specs.Surveys.{Surveys, IsOfSurvey, IsCut};
 ghost use Rattle.nf_safe.specs.Checker.{place_of, offset_of};
 ghost use Rattle.nf_filter.specs.Taker.{StopsQuietly};
-ghost use Rattle.nf_filter.specs.Checks.{check_decision, no_place, HasChecked, Sees, check_stop};
+ghost use Rattle.nf_filter.specs.Checks.{check_decision, no_place, HasChecked, Sees, SeesFront, check_stop};
 
 use crate::devices::{Nowhere, Sink, Source};
 use crate::fault::Fault;
 use crate::reading::Reading;
 use crate::sources::read_all;
 use crate::taker::{Stop, Taker};
-use nf_row::Rows;
+use nf_row::{Calm, Form, Rows};
 use nf_safe::{Checker, Place};
+use nf_utf8::char_count;
 
 /// Reads what the source gives until it is no longer in the Stream-Safe Text Format (UAX #15, section 13), and answers
 /// that place; none where all of it is in the format. The first byte has the offset `base`. A fault that stands before
@@ -74,6 +77,84 @@ impl Taker for Checker {
 
 /// Sees the text, and stops at the first character that is unsound or at which the text leaves the format.
 fn see_text<R: Rows>(checker: &mut Checker, rows: &R, text: &str) -> Result<(), Stop>
+    requires none { place_of checker.old ≡ None }
+    requires fits { offset_of checker.old + length text.now ≤ u64.MAX }
+    ensures none { OnOk result (place_of checker.new ≡ None) }
+    ensures offset { OnOk result (offset_of checker.new ≡ offset_of checker.old + length text.now) }
+    ensures stop { IfErr result (StopsQuietly true) }
+    ensures sees { let p = R.properties rows.now in (base : ℕ) (x : List ℕ) → HasChecked p checker.old base x → Sees p checker.new base (x ++ chars text.now) result }
+{
+    let mut rest = text;
+    while !rest.is_empty() {
+        match see_front(checker, rows, rest) {
+            Ok(behind) => rest = behind,
+            Err(stop) => return Err(stop),
+        }
+    }
+    Ok(())
+}
+
+/// Sees a front of a text: what of it is calm, or else its first character. Answers what stands behind.
+fn see_front<'t, R: Rows>(checker: &mut Checker, rows: &R, text: &'t str) -> Result<&'t str, Stop>
+    requires some { 0 < length text.now }
+    requires none { place_of checker.old ≡ None }
+    requires fits { offset_of checker.old + length text.now ≤ u64.MAX }
+    ensures shorter { IfOk result (λ rest. length rest.now < length text.now) }
+    ensures none { OnOk result (place_of checker.new ≡ None) }
+    ensures offset { IfOk result (λ rest. offset_of checker.new + length rest.now ≡ offset_of checker.old + length text.now) }
+    ensures stop { IfErr result (StopsQuietly true) }
+    ensures sees { let p = R.properties rows.now in (base : ℕ) (x : List ℕ) → HasChecked p checker.old base x → SeesFront p checker.new base x text.now result }
+{
+    // The form whose calm text is widest.
+    let calm = rows.calm_front(Form::Nfc, text);
+    if calm.tail.is_empty() {
+        return see_first(checker, rows, text);
+    }
+    pass_calm(checker, rows, calm);
+    Ok(calm.rest)
+}
+
+/// Goes over the calm front of a text, at which no text leaves the format. Only from its last character that parts a
+/// text on is it seen, by a checker that begins anew.
+fn pass_calm<R: Rows>(checker: &mut Checker, rows: &R, calm: Calm<'_>)
+    requires calm { IsCalmFront (R.properties rows.now) Nfc (calm.settled.now ++ (calm.tail.now ++ calm.rest.now)) calm.settled.now calm.tail.now calm.rest.now }
+    requires some { 0 < length calm.tail.now }
+    requires none { place_of checker.old ≡ None }
+    requires fits { offset_of checker.old + length calm.settled.now + length calm.tail.now ≤ u64.MAX }
+    ensures none { place_of checker.new ≡ None }
+    ensures offset { offset_of checker.new ≡ offset_of checker.old + length calm.entry.settled.now + length calm.entry.tail.now }
+    ensures sees { let p = R.properties rows.now in (base : ℕ) (x : List ℕ) → HasChecked p checker.old base x
+        → HasChecked p checker.new base (x ++ (chars calm.entry.settled.now ++ chars calm.entry.tail.now)) }
+{
+    let mut end = Checker::new(checker.offset() + calm.settled.len() as u64);
+    let Ok(()) = see_chars(&mut end, rows, calm.tail) else {
+        unreachable!();
+    };
+    let count = char_count(calm.settled) + char_count(calm.tail);
+    checker.go_on_from(count as u64, end);
+}
+
+/// Sees the first character of a text. Answers what stands behind.
+fn see_first<'t, R: Rows>(checker: &mut Checker, rows: &R, text: &'t str) -> Result<&'t str, Stop>
+    requires some { 0 < length text.now }
+    requires none { place_of checker.old ≡ None }
+    requires fits { offset_of checker.old + length text.now ≤ u64.MAX }
+    ensures shorter { IfOk result (λ rest. length rest.now < length text.now) }
+    ensures none { OnOk result (place_of checker.new ≡ None) }
+    ensures offset { IfOk result (λ rest. offset_of checker.new + length rest.now ≡ offset_of checker.old + length text.now) }
+    ensures stop { IfErr result (StopsQuietly true) }
+    ensures sees { let p = R.properties rows.now in (base : ℕ) (x : List ℕ) → HasChecked p checker.old base x → SeesFront p checker.new base x text.now result }
+{
+    let mut chars = text.chars();
+    let c = chars.next().unwrap();
+    match see(checker, rows, c) {
+        Ok(()) => Ok(chars.as_str()),
+        Err(stop) => Err(stop),
+    }
+}
+
+/// Sees the text character by character.
+fn see_chars<R: Rows>(checker: &mut Checker, rows: &R, text: &str) -> Result<(), Stop>
     requires none { place_of checker.old ≡ None }
     requires fits { offset_of checker.old + length text.now ≤ u64.MAX }
     ensures none { OnOk result (place_of checker.new ≡ None) }

@@ -9,7 +9,7 @@ use crate::normalizer::Normalizer;
 use crate::reading::Reading;
 use crate::sources::read_all;
 use crate::tally::Tally;
-use nf_row::{Form, Rows};
+use nf_row::{Form, Plain, Rows};
 
 /// Makes the stream-safe text of UTF-8 that comes in pieces, in one normalization form.
 pub struct Filter<'r, R> {
@@ -32,6 +32,7 @@ impl<'r, R: Rows> Filter<'r, R> {
     ghost use Rattle.std.specs.Prelude.{◌≡◌, ◌+◌, ◌<◌, ◌≤◌, ◌↔◌, ◌⊎◌, ℕ, List, [], ◌++◌, length, if◌then◌else◌, IsTrue, IsFalse, IsErr, OnOk, IfErr, is_ok, is_err, encode_utf8_all};
     ghost use Rattle.nf_forms.specs.declared.form.Form.{Form};
     ghost use Rattle.nf_forms.specs.Runs.{has_starter, trail};
+    ghost use Rattle.nf_row.specs.Plain.{rows_of as plain_rows};
     ghost use Rattle.nf_forms.specs.Forms.{decomposed};
     ghost use Rattle.nf_forms.specs.StreamSafe.{stream_safe};
     ghost use Rattle.nf_utf8.specs.Reading.{text_of};
@@ -55,6 +56,23 @@ impl<'r, R: Rows> Filter<'r, R> {
                 spent: false,
                 reading: Reading::new(base),
                 normalizer: Normalizer::new(form),
+            },
+        }
+    }
+
+    /// The same over data of which ASCII is plain. It may give the sink slices of any length.
+    pub fn fast(plain: Plain<'r, R>, form: Form, base: u64) -> Filter<'r, R>
+        ensures rows { rows_of result ≡ plain_rows plain.entry }
+        ensures base { base_of (state_of result) ≡ base }
+        ensures stands { StandsAfter form (R.properties (rows_of result)) (state_of result) [] }
+    {
+        Filter {
+            rows: plain.rows(),
+            state: State {
+                base,
+                spent: false,
+                reading: Reading::new(base),
+                normalizer: Normalizer::fast(plain, form),
             },
         }
     }

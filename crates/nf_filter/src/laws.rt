@@ -1,5 +1,6 @@
-//! Laws of what a filter writes and holds back, each the contract of a function without a body.
+//! Laws of what a filter writes, holds back and refuses, each the contract of a function without a body.
 ghost use Rattle.nf_filter.specs.Laws.{SettledOnlyGrows, LittleIsHeldBack, RunsStayShort};
+ghost use Rattle.nf_filter.specs.Laws.Soundness.{FeedingRefusesNone, DrivingRefusesNone, CheckingRefusesNone, MeasuringRefusesNone};
 
 /// Nothing that was written is taken back: whatever follows a text, what is settled of it stays.
 pub fn settled_only_grows()
@@ -15,4 +16,12 @@ pub fn little_is_held_back()
 /// non-starters: so there is always room for the next.
 pub fn runs_stay_short()
     ensures { RunsStayShort }
+{}
+
+/// Where each character of the data is sound, none is refused: `Row` is never answered.
+pub fn no_sound_character_is_refused()
+    ensures feeding { FeedingRefusesNone }
+    ensures driving { DrivingRefusesNone }
+    ensures checking { CheckingRefusesNone }
+    ensures measuring { MeasuringRefusesNone }
 {}

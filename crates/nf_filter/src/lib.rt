@@ -1,7 +1,9 @@
 //! The filter: UTF-8 in pieces of any size, made stream-safe and normalized in bounded memory.
 #![tactic(auto)]
 
+mod ascii;
 mod block;
+mod calming;
 mod checking;
 mod devices;
 mod driving;
@@ -14,8 +16,10 @@ mod measuring;
 mod normalizer;
 mod pushing;
 mod reading;
+mod refusal;
 mod sources;
 mod taker;
+mod taking;
 mod tally;
 mod to_writer;
 

@@ -1,51 +1,24 @@
-ghost use Rattle.std.specs.Prelude.{◌≡◌, ◌↔◌, Err, IsTrue};
-ghost use Rattle.nf_filter.specs.declared.fault.Fault.TheVariants.{Write as WriteFault};
-ghost use Rattle.nf_filter.specs.declared.taker.Stop.TheVariants.{Refused};
+ghost use Rattle.std.specs.Prelude.{◌≡◌, IsTrue};
 ghost use Rattle.nf_forms.specs.Sound.{is_sound};
 ghost use Rattle.nf_forms.specs.Forms.{row_of};
 
 use crate::block::Block;
 use crate::devices::{Failed, Sink};
-use crate::fault::Fault;
 use crate::pushing::{push, push_row};
-use crate::taker::{Stop, Taker};
+use crate::refusal::Refusal;
 use nf_pending::Pending;
-use nf_row::{Form, JOINER, Row, Rows, SoundRow, sound, sound_row};
+use nf_row::{Form, JOINER, Plain, Row, Rows, SoundRow, sound, sound_row};
 use nf_safe::Counter;
-
-/// Why a character was not taken.
-#[derive(Clone, Copy)]
-pub enum Refusal {
-    /// It is unsound, or U+034F has to stand before it and is unsound.
-    Unsound,
-    /// The sink failed.
-    Write,
-}
-
-impl Refusal {
-    ghost use Rattle.std.specs.Prelude.{◌≡◌, false};
-    ghost use Rattle.nf_filter.specs.Normalizer.{stop_at};
-    ghost use Rattle.nf_filter.specs.Taker.{MayStop};
-
-    /// That of the character at this offset.
-    fn at(self, at: u64) -> Stop
-        ensures value { result ≡ stop_at at self }
-        ensures stop { MayStop false result }
-    {
-        Stop::Refused(match self {
-            Refusal::Unsound => Fault::Row { at },
-            Refusal::Write => Fault::Write,
-        })
-    }
-}
 
 /// Makes the stream-safe text of the characters that it takes, in one normalization form. It keeps of them what those
 /// to come ask for.
 #[derive(Drop)]
 pub struct Normalizer {
-    form: Form,
-    counter: Counter,
-    pending: Pending,
+    pub(crate) form: Form,
+    /// ASCII is known to be plain, and a run of it goes to the sink as it stands.
+    pub(crate) is_plain: bool,
+    pub(crate) counter: Counter,
+    pub(crate) pending: Pending,
     pub chars: u64,
     pub put: u64,
 }
@@ -55,6 +28,7 @@ impl Normalizer {
     ghost use Rattle.nf_forms.specs.Properties.{Properties};
     ghost use Rattle.nf_forms.specs.Runs.{has_starter, trail};
     ghost use Rattle.nf_row.specs.Ends.{HasEnds};
+    ghost use Rattle.nf_row.specs.Plain.{rows_of};
     ghost use Rattle.nf_forms.specs.declared.form.Form.{Form};
     ghost use Rattle.nf_forms.specs.Forms.{row_of, decomposed};
     ghost use Rattle.nf_forms.specs.StreamSafe.{stream_safe};
@@ -75,6 +49,7 @@ impl Normalizer {
     {
         Normalizer {
             form,
+            is_plain: false,
             counter: Counter::new(),
             pending: Pending::new(form),
             chars: 0,
@@ -82,8 +57,20 @@ impl Normalizer {
         }
     }
 
+    /// The same over data of which ASCII is plain.
+    pub fn fast<R: Rows>(plain: Plain<'_, R>, form: Form) -> Normalizer
+        ensures taken { HasTaken form (R.properties (rows_of plain.entry)) result [] }
+        ensures within { IsWithin result }
+        ensures chars { result.chars ≡ 0 }
+    {
+        let _rows = plain.rows();
+        let mut new = Normalizer::new(form);
+        new.is_plain = true;
+        new
+    }
+
     /// Takes the next character, and writes what it settles. Nothing is written where the character is unsound.
-    fn take_char<R: Rows, S: Sink>(
+    pub(crate) fn take_char<R: Rows, S: Sink>(
         &mut self,
         rows: &R,
         c: char,
@@ -189,117 +176,12 @@ impl Normalizer {
         ensures lender { (S.state sink.new).lender ≡ (S.state sink.old).lender }
     {
         let rest = self.pending.end(rows);
-        let mut block = Block::over(sink);
+        let mut block = Block::over(sink, false);
         if let Err(failed) = block.push(&rest) {
             return Err(failed);
         }
         block.empty()
     }
-
-    /// Takes the first character, where there is one, and the text behind it, which begins with it at the offset `at`.
-    fn take_both<R: Rows, S: Sink>(
-        &mut self,
-        rows: &R,
-        at: u64,
-        first: Option<char>,
-        text: &str,
-        block: &mut Block<'_, S>,
-    ) -> Result<(), Stop>
-        requires within { IsWithin self.old }
-        requires chars { self.old.chars ≤ at }
-        requires fits { at + length (first_bytes first) + length text.now ≤ u64.MAX }
-        ensures within { OnOk result (IsWithin self.new) }
-        ensures form { OnOk result (self.new.form ≡ self.old.form) }
-        ensures chars { OnOk result (self.new.chars ≤ at + length (first_bytes first) + length text.now) }
-        ensures stop { IfErr result (MayStop false) }
-        ensures takes { let p = R.properties rows.now in
-            (f : Form) (base : ℕ) (x : List ℕ) (start : Start) → HasTaken f p self.old x → at ≡ base + length (encode_utf8_all x)
-            → Written start (block_state S.state block.old) (settled_text f p x)
-            → TakesOn f p self.new start (block_state S.state block.new) base (x ++ (first_text first ++ chars text.now)) result }
-        ensures lent { (block.new.sink.ghost_name ≡ block.old.sink.ghost_name) × ((S.state block.new.sink.now).lender ≡ (S.state block.old.sink.now).lender) }
-    {
-        let Some(c) = first else {
-            return self.take_text(rows, at, text, block);
-        };
-        if let Err(refusal) = self.take_char(rows, c, block) {
-            return Err(refusal.at(at));
-        }
-        self.take_text(rows, at + c.len_utf8() as u64, text, block)
-    }
-
-    /// Takes a text that begins at the offset `at`.
-    fn take_text<R: Rows, S: Sink>(
-        &mut self,
-        rows: &R,
-        at: u64,
-        text: &str,
-        block: &mut Block<'_, S>,
-    ) -> Result<(), Stop>
-        requires within { IsWithin self.old }
-        requires chars { self.old.chars ≤ at }
-        requires fits { at + length text.now ≤ u64.MAX }
-        ensures within { OnOk result (IsWithin self.new) }
-        ensures form { OnOk result (self.new.form ≡ self.old.form) }
-        ensures chars { OnOk result (self.new.chars ≤ at + length text.now) }
-        ensures stop { IfErr result (MayStop false) }
-        ensures takes { let p = R.properties rows.now in
-            (f : Form) (base : ℕ) (x : List ℕ) (start : Start) → HasTaken f p self.old x → at ≡ base + length (encode_utf8_all x)
-            → Written start (block_state S.state block.old) (settled_text f p x)
-            → TakesOn f p self.new start (block_state S.state block.new) base (x ++ chars text.now) result }
-        ensures lent { (block.new.sink.ghost_name ≡ block.old.sink.ghost_name) × ((S.state block.new.sink.now).lender ≡ (S.state block.old.sink.now).lender) }
-    {
-        let mut place = at;
-        for c in text.chars() {
-            if let Err(refusal) = self.take_char(rows, c, block) {
-                return Err(refusal.at(place));
-            }
-            place += c.len_utf8() as u64;
-        }
-        Ok(())
-    }
-}
-
-impl Taker for Normalizer {
-    ghost use Rattle.std.specs.Prelude.{Some, false};
-    ghost use Rattle.nf_filter.specs.Normalizer.{HasTaken, ends_at, unusable_at, written_in};
-
-    ghost has_taken = { λ p normalizer base x. HasTaken normalizer.form p normalizer x };
-
-    ghost ends_at = { ends_at };
-
-    ghost form = { λ normalizer. Some normalizer.form };
-
-    ghost stops = { unusable_at };
-
-    ghost gives = { written_in };
-
-    ghost finds = { false };
-
-    fn take<R: Rows, S: Sink>(
-        &mut self,
-        rows: &R,
-        at: u64,
-        first: Option<char>,
-        text: &str,
-        sink: &mut S,
-    ) -> Result<(), Stop> {
-        let mut block = Block::over(sink);
-        let taken = self.take_both(rows, at, first, text, &mut block);
-        if is_broken(taken) {
-            return taken;
-        }
-        match block.empty() {
-            Ok(()) => taken,
-            Err(Failed) => Err(Stop::Refused(Fault::Write)),
-        }
-    }
-}
-
-/// Whether the sink failed: it is not touched again then.
-fn is_broken(taken: Result<(), Stop>) -> bool
-    ensures { IsTrue result ↔ (taken ≡ Err (Refused WriteFault)) }
-{
-    matches!(taken, Err(Stop::Refused(Fault::Write)))
 }
 
 /// The decomposition of the sound character `c` that the form asks for.

@@ -126,7 +126,7 @@ impl Sink for Telling<'_> {
 #[test]
 fn what_a_read_settles_is_written_before_the_next(rt: HostRuntime) -> Result<(), Fail> {
     let alloc = rt.alloc();
-    let text = joined(
+    let hard = joined(
         alloc,
         &[
             ("a\u{302}\u{323}\u{FDFA}\u{1112}\u{1161}\u{11AB}q", 1),
@@ -134,9 +134,18 @@ fn what_a_read_settles_is_written_before_the_next(rt: HostRuntime) -> Result<(),
             ("\u{1F600}b\u{C5}", 1),
         ],
     )?;
+    let calm = joined(
+        alloc,
+        &[
+            ("a", 35),
+            ("\u{E9}\u{43B}\u{6F22}\u{1F600}", 3),
+            ("\u{D55C}", 9),
+        ],
+    )?;
     for form in FORMS {
         for step in [1, 2, 5, 200] {
-            check_order(&rt, alloc, form, text.as_slice(), step)?;
+            check_order(&rt, alloc, form, hard.as_slice(), step)?;
+            check_order(&rt, alloc, form, calm.as_slice(), step)?;
         }
     }
     Ok(())

@@ -5,13 +5,21 @@
 #[cfg(test)]
 mod blocks;
 #[cfg(test)]
+mod both_ways;
+#[cfg(test)]
+mod calm;
+#[cfg(test)]
 mod checks;
+#[cfg(test)]
+mod fast;
 #[cfg(test)]
 mod faults;
 #[cfg(test)]
 mod forms;
 #[cfg(test)]
 mod kit;
+#[cfg(test)]
+mod mixtures;
 #[cfg(test)]
 mod once;
 #[cfg(test)]
@@ -22,6 +30,8 @@ mod pieces;
 mod reference;
 #[cfg(test)]
 mod settling;
+#[cfg(test)]
+mod slices;
 #[cfg(test)]
 mod streams;
 #[cfg(test)]

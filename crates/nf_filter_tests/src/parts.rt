@@ -4,12 +4,15 @@ use std::alloc::{AllocError, Global};
 
 pub const FORMS: [Form; 4] = [Form::Nfc, Form::Nfd, Form::Nfkc, Form::Nfkd];
 
-/// A sink that keeps the bytes that it takes, at most `step` in a call, and fails where it has no room for more.
+/// A sink that keeps the bytes that it takes, at most `step` in a call, and fails where it has no room for more, or takes
+/// no more calls.
 #[derive(Drop)]
 pub struct Kept {
     pub bytes: Vec<u8>,
     pub room: usize,
     pub step: usize,
+    /// How many calls it still takes.
+    pub calls: usize,
     /// The longest slice that it was given.
     pub longest: usize,
     /// How many calls it refused.
@@ -32,9 +35,17 @@ impl Kept {
             bytes: Vec::new(alloc),
             room,
             step,
+            calls: usize::MAX,
             longest: 0,
             refused: 0,
             failed: false,
+        }
+    }
+
+    pub fn with_calls(alloc: Global, calls: usize, step: usize) -> Kept {
+        Kept {
+            calls,
+            ..Kept::with_step(alloc, usize::MAX, step)
         }
     }
 }
@@ -50,12 +61,14 @@ impl Sink for Kept {
         }
         self.longest = self.longest.max(bytes.len());
         let n = bytes.len().min(self.room).min(self.step);
-        if self.failed || n == 0 || self.bytes.extend_from_slice(&bytes[..n]).is_err() {
+        let is_full = n == 0 || self.calls == 0;
+        if self.failed || is_full || self.bytes.extend_from_slice(&bytes[..n]).is_err() {
             self.refused = self.refused.saturating_add(1);
             self.failed = true;
             return Err(Failed);
         }
         self.room -= n;
+        self.calls -= 1;
         Ok(n)
     }
 }
@@ -67,6 +80,8 @@ pub struct Pieces<'a> {
     pieces: &'a [&'a [u8]],
     /// How many it has given.
     pub given: usize,
+    /// How many calls it refused.
+    pub refused: usize,
     fails: bool,
     failed: bool,
     at_end: bool,
@@ -77,6 +92,7 @@ impl<'a> Pieces<'a> {
         Pieces {
             pieces,
             given: 0,
+            refused: 0,
             fails,
             failed: false,
             at_end: false,
@@ -92,12 +108,17 @@ impl Source for Pieces<'_> {
     fn get(&mut self, buf: &mut [u8]) -> Result<usize, Failed> {
         self.at_end = false;
         if self.failed {
+            self.refused = self.refused.saturating_add(1);
             return Err(Failed);
         }
         let Some(piece) = self.pieces.get(self.given) else {
             self.failed = self.fails;
             self.at_end = !self.fails;
-            return if self.fails { Err(Failed) } else { Ok(0) };
+            if !self.fails {
+                return Ok(0);
+            }
+            self.refused = self.refused.saturating_add(1);
+            return Err(Failed);
         };
         let n = piece.len().min(buf.len());
         buf[..n].copy_from_slice(&piece[..n]);

@@ -18,8 +18,9 @@ const M: &str = "\u{301}";
 /// Strings, each so many times, and bytes behind them.
 type Text<'a> = (&'a [(&'a str, usize)], &'a [u8]);
 
-/// Texts that hold what is hard: marks out of order, long runs, what composes across pieces, long decompositions.
-const TEXTS: [Text<'static>; 24] = [
+/// Texts that hold what is hard: marks out of order, long runs, what composes across pieces, long decompositions, and such
+/// behind text that stays as it is.
+const TEXTS: [Text<'static>; 27] = [
     (&[], b""),
     (&[], b"A\xCC\x8A"),
     (&[], b"\xE1\xBA\x9B\xCC\xA3"),
@@ -44,10 +45,13 @@ const TEXTS: [Text<'static>; 24] = [
     (&[], b"abcdef"),
     (&[("a\u{302}\u{323}b\u{1E9B}\u{323}\u{301}\u{323}", 1)], b""),
     (&[("\u{FDFA}\u{1D15F}\u{10FFFF}\u{FEFF}\0", 1)], b""),
+    (&[("a", 33), (M, 1), ("\u{E9}", 9)], b""),
+    (&[("\u{6F22}", 11), ("\u{D55C}\u{AC00}\u{11A8}", 3)], b""),
+    (&[("\u{43B}\u{1F600}", 6), ("\u{FDFA}", 1), ("a", 17)], b""),
 ];
 
 /// Texts with ill-formed bytes, and such as end inside a character.
-const ILL_FORMED: [Text<'static>; 9] = [
+const ILL_FORMED: [Text<'static>; 10] = [
     (&[], b"ab\xC3("),
     (&[], b"\xE0\x80"),
     (&[], b"\xC0"),
@@ -57,6 +61,7 @@ const ILL_FORMED: [Text<'static>; 9] = [
     (&[("q", 1), (M, 31)], b"\xF4\x90\x80"),
     (&[("\u{D55C}\u{1161}\u{30A}", 1)], b"\xF1\x80\x80\xC0"),
     (&[(M, 31)], b"\xE2\x82"),
+    (&[("a", 20), ("\u{6F22}", 6)], b"\xE2\x82(ab"),
 ];
 
 const ROW: [char; 2] = ['\u{301}', 'y'];

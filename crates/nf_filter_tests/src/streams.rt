@@ -41,6 +41,7 @@ fn a_failed_source_leaves_what_is_settled(rt: HostRuntime) -> Result<(), Fail> {
             let mut sink = Kept::new(alloc);
             let answer = run(&Ucd, form, 0, &mut source, &mut sink);
             assert_eq!(rt; answer, Err(Fault::Read));
+            assert_eq!(rt; source.refused, 1);
             assert_eq!(rt; sink.bytes.as_slice(), due.written.as_bytes());
         }
     }

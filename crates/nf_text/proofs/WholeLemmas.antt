@@ -1,34 +1,25 @@
 -- What driving a new filter comes to where all was read.
-use Rattle.std.proofs.Common.{◌≡◌, ℕ, ◌+◌, Bool, true, false, List, [], ◌++◌, length, Option, Some, None, Result, Ok, Err, inl, refl, sym, ap, ◌∙◌, subst, append-nil, encode_utf8_all}
+use Rattle.std.proofs.Common.{◌≡◌, ℕ, ◌+◌, Bool, true, false, List, [], ◌++◌, length, Some, None, Result, Ok, Err, inl, refl, sym, ap, ◌∙◌, subst, append-nil, encode_utf8_all}
 use Rattle.std.specs.Prelude.{IsTrue, IfSome, OnOk, IfErr, if◌then◌else◌}
-use Rattle.std.specs.Result.{result_err}
-use Rattle.std.specs.Str.{chars}
-use Rattle.std.specs.Str.Lossy.{utf8_valid_len}
 use Rattle.std.specs.Io.KnownBytes.{Appends}
 use Rattle.std.proofs.KnownBytes.{Consumes-all}
 use Rattle.nf_forms.specs.Properties.{Properties}
 use Rattle.nf_forms.specs.declared.form.Form.{Form}
-use Rattle.nf_forms.specs.declared.form.Form.TheVariants.{Nfc, Nfd, Nfkc, Nfkd}
-use Rattle.nf_forms.specs.Front.{front}
-use Rattle.nf_forms.specs.Order.{by_class}
-use Rattle.nf_forms.specs.Forms.{decomposed, finished}
-use Rattle.nf_forms.specs.StreamSafe.{stream_safe}
 use Rattle.nf_forms.specs.SafeForm.{safe_form}
-use Rattle.nf_forms.specs.Laws.Sound.{IsSoundText}
-use Rattle.nf_safe.specs.LongestFront.{longest_front}
 use Rattle.nf_utf8.specs.Ending.{Ending, Whole, Bad, Cut as CutEnd}
 use Rattle.nf_utf8.specs.Reading.{text_of, ending_of}
 use Rattle.nf_utf8.specs.Reads.{Reads, EndsAs}
-use Rattle.nf_utf8.specs.Laws.{ReadsLongestText}
 use Rattle.nf_filter.specs.declared.fault.Fault.{Fault}
 use Rattle.nf_filter.specs.declared.fault.Fault.TheVariants.{Spent, TooLong, Read, Write, Row, BadByte, Cut}
 use Rattle.nf_filter.specs.declared.tally.Tally.{Tally}
 use Rattle.nf_filter.specs.Devices.{SinkState, SourceState}
 use Rattle.nf_filter.specs.Writes.{Puts}
-use Rattle.nf_filter.specs.Settled.{settled, is_usable, usable, settled_utf8}
+use Rattle.nf_filter.specs.Settled.{is_usable, usable, settled_utf8}
 use Rattle.nf_filter.specs.Faults.{answer_at_end, bad_byte, fault_in}
 use Rattle.nf_filter.specs.Finishes.{tally_of, end_of, whole_or, final_utf8}
 use Rattle.nf_filter.specs.Drives.{due_utf8, Drives}
+use Rattle.nf_filter.specs.Laws.Settled.{settled_utf8-none}
+use Rattle.nf_filter.specs.Laws.Soundness.{RefusesNone}
 use Rattle.nf_text.specs.Whole.{IsOfText, PassesWhole}
 
 -- what ends with no fault, and has none before, is whole
@@ -39,17 +30,6 @@ is_whole value b (Bad at start) false other told answer none = cc
 is_whole value b (CutEnd at start) usable other told answer none = cc
 
 module _ (f : Form) (p : Properties) where
-  -- nothing of no text is settled
-  settled_utf8-none : settled_utf8 f p [] ≡ []
-  unfolding settled_utf8 settled safe_form usable is_usable longest_front text_of chars utf8_valid_len by_class
-  settled_utf8-none = by_form f
-    where
-      by_form : (f : Form) → encode_utf8_all (front p (finished f p (decomposed f p (stream_safe p [])))) ≡ []
-      by_form Nfc = refl
-      by_form Nfd = refl
-      by_form Nfkc = refl
-      by_form Nfkd = refl
-
   ending_whole : (bytes : List ℕ) (tally : Tally) → Ok tally ≡ end_of p 0 bytes → fault_in p 0 bytes ≡ None → ending_of bytes ≡ Whole
   unfolding end_of fault_in
   ending_whole bytes tally answer none = is_whole (tally_of p bytes) tally (ending_of bytes) (is_usable p (text_of bytes)) (0 + length (encode_utf8_all (usable p (text_of bytes)))) tally (sym answer) none
@@ -85,7 +65,7 @@ module _ (f : Form) (p : Properties) where
         due = ap (λ b. due_utf8 b f p drives.fed) end ∙ ap (final_utf8 f p) fed ∙ final_is bytes is
 
         out : puts.out ≡ encode_utf8_all (safe_form f p (text_of bytes))
-        out = ap (λ l. l ++ puts.out) (sym settled_utf8-none) ∙ sym puts.behind ∙ due
+        out = ap (λ l. l ++ puts.out) (sym (settled_utf8-none f p)) ∙ sym puts.behind ∙ due
 
         given : Appends old.taken new.taken (encode_utf8_all (safe_form f p (text_of bytes)))
         given = subst (Appends old.taken new.taken) out puts.given
@@ -95,33 +75,13 @@ module _ (f : Form) (p : Properties) where
     whole (Ok tally) reads end drives = read_whole tally reads end drives
     whole (Err fault) reads end drives = tt
 
-    pub faults : (answer : Result Tally Fault) → ((x : List ℕ) → IsSoundText p x) → ¬ (answer ≡ Err Spent) → Drives f p 0 [] source rest old new answer → IfErr answer IsOfText
-    unfolding end_of fault_in is_usable
-    faults (Ok tally) sound unspent drives = tt
-    faults (Err Spent) sound unspent drives = absurd (unspent refl)
-    faults (Err TooLong) sound unspent drives = tt
-    faults (Err Read) sound unspent drives = tt
-    faults (Err Write) sound unspent drives = tt
-    faults (Err (BadByte at start)) sound unspent drives = tt
-    faults (Err (Cut at start)) sound unspent drives = tt
-    faults (Err (Row at)) sound unspent drives = by_end rest.is_at_end refl
-      where
-        never_at_end : (e : Ending) (t : Tally) → ¬ (Err (Row at) ≡ answer_at_end 0 t e)
-        never_at_end Whole t e = cc
-        never_at_end (Bad a start) t e = cc
-        never_at_end (CutEnd a start) t e = cc
-
-        never_bad : (e : Ending) → ¬ (Some (Row at) ≡ bad_byte 0 e)
-        never_bad Whole e = cc
-        never_bad (Bad a start) e = cc
-        never_bad (CutEnd a start) e = cc
-
-        finished : (bytes : List ℕ) → ¬ (Err (Row at) ≡ end_of p 0 bytes)
-        finished bytes e = never_at_end (ending_of bytes) (tally_of p bytes) e
-
-        stopped : (bytes : List ℕ) → ¬ (Some (Row at) ≡ fault_in p 0 bytes)
-        stopped bytes e = never_bad (ending_of bytes) (e ∙ ap (λ u. if u then bad_byte 0 (ending_of bytes) else Some (Row (0 + length (encode_utf8_all (usable p (text_of bytes)))))) (sound (stream_safe p (text_of bytes))))
-
-        by_end : (b : Bool) → rest.is_at_end ≡ b → ⊥
-        by_end true end = finished drives.fed (drives.finished end (λ e. cc))
-        by_end false end = stopped drives.fed (drives.stopped end (λ e. cc) (λ e. cc) (λ e. cc)).1
+-- no filter that is new is spent, and no sound character is refused
+pub faults : (answer : Result Tally Fault) → ¬ (answer ≡ Err Spent) → RefusesNone answer → IfErr answer IsOfText
+faults (Ok tally) unspent none = tt
+faults (Err Spent) unspent none = unspent refl
+faults (Err TooLong) unspent none = tt
+faults (Err Read) unspent none = tt
+faults (Err Write) unspent none = tt
+faults (Err (BadByte at start)) unspent none = tt
+faults (Err (Cut at start)) unspent none = tt
+faults (Err (Row at)) unspent none = none at refl

@@ -3,6 +3,7 @@ ghost use Rattle.nf_forms.specs.Ucd.{ucd};
 ghost use Rattle.nf_text.specs.Whole.{IsOfText, PassesWhole};
 
 use nf_facts::laws::every_character_is_sound;
+use nf_filter::laws::no_sound_character_is_refused;
 use nf_filter::{Fault, FromReader, Tally, ToWriter, run};
 use nf_row::{Form, Ucd};
 use nf_utf8::laws::longest_text;
@@ -25,6 +26,7 @@ pub fn pass<R: Read, W: Write>(form: Form, reader: R, writer: W) -> Passed<R, W>
 {
     longest_text();
     every_character_is_sound();
+    no_sound_character_is_refused();
     let mut source = FromReader::new(reader);
     let mut sink = ToWriter::new(writer);
     let answer = run(&Ucd, form, 0, &mut source, &mut sink);

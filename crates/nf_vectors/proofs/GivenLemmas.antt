@@ -12,11 +12,7 @@ use Rattle.std.proofs.lemmas.Slice.Eq.{bytes_eq-Decides}
 use Rattle.std.proofs.Math.Seq.{take-length}
 use Rattle.nf_forms.specs.Properties.{Properties}
 use Rattle.nf_forms.specs.declared.form.Form.{Form}
-use Rattle.nf_forms.specs.declared.form.Form.TheVariants.{Nfc, Nfd, Nfkc, Nfkd}
 use Rattle.nf_forms.specs.Front.{front, back}
-use Rattle.nf_forms.specs.Order.{by_class}
-use Rattle.nf_forms.specs.Forms.{decomposed, finished}
-use Rattle.nf_forms.specs.StreamSafe.{stream_safe}
 use Rattle.nf_forms.specs.Laws.Front.{front-append-back}
 use Rattle.nf_safe.specs.LongestFront.{longest_front}
 use Rattle.nf_safe.specs.Laws.LongestFront.{longest_front-all}
@@ -33,6 +29,7 @@ use Rattle.nf_filter.specs.Faults.{answer_at_end, bad_byte, fault_in}
 use Rattle.nf_filter.specs.Finishes.{tally_of, end_of, whole_or, final_utf8, Finishes}
 use Rattle.nf_filter.specs.Feeds.{Feeds}
 use Rattle.nf_filter.specs.Devices.{SinkState}
+use Rattle.nf_filter.specs.Laws.Settled.{settled_utf8-none}
 use Rattle.nf_vectors.specs.Comparison.{holds, leaves_format}
 use Rattle.nf_vectors.specs.Gives.{Gives}
 use Rattle.nf_vectors.proofs.ComparisonLemmas.{usable-in_format, sound-usable}
@@ -49,16 +46,6 @@ len : List ℕ → ℕ
 len l = length l
 
 module _ (f : Form) (p : Properties) where
-  settled_utf8-none : settled_utf8 f p [] ≡ []
-  unfolding settled_utf8 settled safe_form usable is_usable longest_front text_of chars utf8_valid_len by_class
-  settled_utf8-none = by_form f
-    where
-      by_form : (f : Form) → encode_utf8_all (front p (finished f p (decomposed f p (stream_safe p [])))) ≡ []
-      by_form Nfc = refl
-      by_form Nfd = refl
-      by_form Nfkc = refl
-      by_form Nfkd = refl
-
   module _ (reads : ReadsBack) (x : List ℕ) (text : IsText x) where
     text_is : text_of (encode_utf8_all x) ≡ x
     unfolding text_of chars utf8_valid_len
@@ -103,7 +90,7 @@ module _ (f : Form) (p : Properties) where
     whole_is = ap encode_utf8_all (sym (front-append-back p (safe_form f p x))) ∙ encoded-append (front p (safe_form f p x)) (back p (safe_form f p x))
 
     fed_out : (s0 s1 : SinkState) (feeds : Feeds f p 0 [] (encode_utf8_all x) s0 s1 (Ok tt)) → (out : List ℕ) × (settled_utf8 f p (encode_utf8_all x) ≡ out) × Appends s0.taken s1.taken out
-    fed_out s0 s1 feeds = let writes = feeds.written (λ both. cc) in (writes.out, writes.behind ∙ ap (λ l. l ++ writes.out) settled_utf8-none, writes.given)
+    fed_out s0 s1 feeds = let writes = feeds.written (λ both. cc) in (writes.out, writes.behind ∙ ap (λ l. l ++ writes.out) (settled_utf8-none f p), writes.given)
 
     -- feeding was refused
     pub fed_badly : (old new : SinkState) (fault : Fault) → Feeds f p 0 [] (encode_utf8_all x) old new (Err fault) → Gives f p x old new (Err fault)
@@ -114,7 +101,7 @@ module _ (f : Form) (p : Properties) where
             failed = (feeds.write.0 w).0;
             out = broken.out;
             rest = broken.rest ++ encode_utf8_all (back p (safe_form f p x));
-            is = whole_is ∙ ap (λ l. l ++ encode_utf8_all (back p (safe_form f p x))) (sym (settled_is usable_x) ∙ broken.behind ∙ ap (λ l. (l ++ broken.out) ++ broken.rest) settled_utf8-none)
+            is = whole_is ∙ ap (λ l. l ++ encode_utf8_all (back p (safe_form f p x))) (sym (settled_is usable_x) ∙ broken.behind ∙ ap (λ l. (l ++ broken.out) ++ broken.rest) (settled_utf8-none f p))
                 ∙ append_assoc broken.out broken.rest (encode_utf8_all (back p (safe_form f p x)));
             more = omega (arith, broken.more, length-append broken.rest (encode_utf8_all (back p (safe_form f p x))));
             given = broken.given;

@@ -93,24 +93,6 @@ fn a_mark_too_many_gets_a_joiner(rt: HostRuntime) -> Result<(), Fail> {
     Ok(())
 }
 
-#[test]
-fn bytes_that_are_no_text_end_it(rt: HostRuntime) {
-    for (input, line) in [
-        (
-            b"ab\xC3(".as_slice(),
-            "nfstream: ill-formed byte at 3, character begun at 2\n",
-        ),
-        (
-            b"ab\xC3",
-            "nfstream: input ends at 3 inside a character begun at 2\n",
-        ),
-    ] {
-        for form in FORMS {
-            assert_shown(&rt, &converted(rt.alloc(), form, input), 3, b"a", line);
-        }
-    }
-}
-
 /// The form of the whole text as the kit has it.
 fn whole_form(alloc: Global, form: &str, text: &str) -> Result<String, AllocError> {
     match form {

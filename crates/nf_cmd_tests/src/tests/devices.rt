@@ -48,7 +48,8 @@ impl Read for Reading<'_> {
     }
 }
 
-/// A writer that takes at most so many bytes at a time, of whose writes and flushes one fails.
+/// A writer that takes at most so many bytes at a time, of whose writes and flushes one fails. A write that fails by
+/// `WriteZero` answers that it took nothing, which is what std calls by that name.
 #[derive(Debug, Drop)]
 pub(super) struct Writing {
     pub(super) held: Vec<u8>,
@@ -68,7 +69,12 @@ impl Writing {
 
 impl Write for Writing {
     fn write(&mut self, buf: &[u8]) -> io::Result<usize> {
-        self.calls.make()?;
+        if let Err(error) = self.calls.make() {
+            return match error.kind() {
+                ErrorKind::WriteZero => Ok(0),
+                _ => Err(error),
+            };
+        }
         let len = buf.len().min(self.most);
         self.held.extend_from_slice(&buf[..len])?;
         Ok(len)

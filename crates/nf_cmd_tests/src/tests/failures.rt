@@ -2,27 +2,22 @@
 ghost use Rattle.std.specs.Prelude.{◌<◌, length};
 
 use super::devices::{Calls, Reading, Writing};
-use super::{Case, assert_shown, repeated, run};
+use super::{CHECK, Case, MEASURE, TEST, assert_shown, repeated, run};
 use nf_cmd::command;
 use std::alloc::Global;
 use std::io::ErrorKind;
 use std::process::Abort;
 use std::test::Fail;
 
-/// Failures, two of which may be taken for a reason to try again.
-const KINDS: [ErrorKind; 3] = [
+/// Failures: two that may be taken for a reason to try again, one that may not, and that of a write that takes nothing.
+const KINDS: [ErrorKind; 4] = [
     ErrorKind::Interrupted,
     ErrorKind::WouldBlock,
     ErrorKind::BrokenPipe,
+    ErrorKind::WriteZero,
 ];
 
 const CONVERT: [&str; 4] = ["nfstream", "convert", "--form", "nfc"];
-
-const CHECK: [&str; 2] = ["nfstream", "check"];
-
-const MEASURE: [&str; 2] = ["nfstream", "measure"];
-
-const TEST: [&str; 2] = ["nfstream", "test"];
 
 /// A vector file that holds.
 const ROW: &[u8] = b"0061;0061;0061;0061;0061;\n";
@@ -182,19 +177,38 @@ fn a_block_that_fails_is_not_written_again(rt: HostRuntime) -> Result<(), Fail> 
     Ok(())
 }
 
+/// Lets each write of these bytes on standard error fail in turn, by a writer that takes two bytes at a time.
+fn assert_failed_lines(
+    rt: &impl Abort,
+    alloc: Global,
+    words: &[&str],
+    output: &[u8],
+    line: &[u8],
+    status: u8,
+    kind: ErrorKind,
+)
+    requires { 0 < length words.now }
+{
+    for fails_at in 0..line.len().div_ceil(2) {
+        let (mut input, mut out) = (b"ab\xFF".as_slice(), Vec::new(alloc));
+        let mut err = Writing::new(alloc, 2, Calls::new(fails_at, kind));
+        let ended = command(alloc, &*words, &mut input, &mut out, &mut err);
+        let taken = fails_at.saturating_mul(2).min(line.len());
+        assert_eq!(rt; out.as_slice(), output);
+        assert_eq!(rt; err.held.as_slice(), &line[..taken]);
+        assert_eq!(rt; err.calls.made, fails_at + 1);
+        assert_eq!(rt; ended, status);
+    }
+}
+
 #[test]
-fn a_failure_of_standard_error_changes_nothing(rt: HostRuntime) {
+fn standard_error_that_fails_changes_nothing_and_is_not_tried_again(rt: HostRuntime) {
     let alloc = rt.alloc();
-    let line = b"nfstream: ill-formed byte at 2, character begun at 2\n".as_slice();
+    let mistake: [&str; 2] = ["nfstream", "normalize"];
+    let refused = run(alloc, &mistake, &mut b"".as_slice());
+    let bad = b"nfstream: ill-formed byte at 2, character begun at 2\n";
     for kind in KINDS {
-        for fails_at in 0..line.len() / 2 + 1 {
-            let (mut input, mut out) = (b"ab\xFF".as_slice(), Vec::new(alloc));
-            let mut err = Writing::new(alloc, 2, Calls::new(fails_at, kind));
-            let status = command(alloc, &CONVERT, &mut input, &mut out, &mut err);
-            assert_eq!(rt; out.as_slice(), b"a".as_slice());
-            assert_eq!(rt; err.held.as_slice(), &line[..2 * fails_at]);
-            assert_eq!(rt; err.calls.made, fails_at + 1);
-            assert_eq!(rt; status, 3);
-        }
+        assert_failed_lines(&rt, alloc, &CONVERT, b"a", bad, 3, kind);
+        assert_failed_lines(&rt, alloc, &mistake, b"", refused.err.as_slice(), 2, kind);
     }
 }

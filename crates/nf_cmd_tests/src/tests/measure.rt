@@ -1,31 +1,29 @@
-//! What `measure` says of bytes.
-use super::{Case, assert_cases};
+//! What `measure` counts.
+use super::{MEASURE, Parts, assert_shown, repeated, run};
 use std::test::Fail;
 
 #[test]
-fn measure_counts_the_text_or_tells_its_fault(rt: HostRuntime) -> Result<(), Fail> {
-    let none = "bytes 0\ncharacters 0\nnon-starters 0\nlongest run 0\nput 0\nunassigned 0\n";
-    let long = "bytes 63\ncharacters 32\nnon-starters 31\nlongest run 31\nput 1\nunassigned 0\n";
-    let joined = "bytes 65\ncharacters 33\nnon-starters 31\nlongest run 30\nput 0\nunassigned 0\n";
-    let ring = "bytes 4\ncharacters 2\nnon-starters 2\nlongest run 2\nput 0\nunassigned 0\n";
-    let nowhere = "bytes 3\ncharacters 1\nnon-starters 0\nlongest run 0\nput 0\nunassigned 1\n";
-    let bad = "nfstream: ill-formed byte at 63, character begun at 63\n";
-    let cut = "nfstream: input ends at 1 inside a character begun at 0\n";
-    let cases: [Case<'_>; 7] = [
-        (&[], b"", 0, none, ""),
-        (&[("q", 1), ("\u{301}", 31)], b"", 0, long, ""),
+fn measure_counts_the_text(rt: HostRuntime) -> Result<(), Fail> {
+    let alloc = rt.alloc();
+    // Bytes, characters, non-starters, the longest run, joiners to be put, unassigned characters.
+    let cases: [(Parts<'_>, [u64; 6]); 5] = [
+        (&[], [0, 0, 0, 0, 0, 0]),
+        (&[("q", 1), ("\u{301}", 31)], [63, 32, 31, 31, 1, 0]),
         (
             &[("q", 1), ("\u{301}", 30), ("\u{34F}\u{301}", 1)],
-            b"",
-            0,
-            joined,
-            "",
+            [65, 33, 31, 30, 0, 0],
         ),
-        (&[("\u{C5}\u{301}", 1)], b"", 0, ring, ""),
-        (&[("\u{FFFF}", 1)], b"", 0, nowhere, ""),
-        (&[("q", 1), ("\u{301}", 31)], b"\xFF", 3, "", bad),
-        (&[], b"\xC3", 3, "", cut),
+        (&[("\u{C5}\u{301}", 1)], [4, 2, 2, 2, 0, 0]),
+        (&[("\u{FFFF}", 1)], [3, 1, 0, 0, 0, 1]),
     ];
-    assert_cases(&rt, rt.alloc(), &["nfstream", "measure"], &cases)?;
+    for (texts, counts) in cases {
+        let [bytes, chars, nonstarters, longest, put, unassigned] = counts;
+        let lines = format!(in alloc;
+            "bytes {bytes}\ncharacters {chars}\nnon-starters {nonstarters}\nlongest run {longest}\nput {put}\nunassigned {unassigned}\n"
+        )?;
+        let text = repeated(alloc, texts)?;
+        let shown = run(alloc, &MEASURE, &mut text.as_slice());
+        assert_shown(&rt, &shown, 0, lines.as_bytes(), "");
+    }
     Ok(())
 }

@@ -1,6 +1,8 @@
-use Rattle.std.proofs.Common.{rules}
+use Rattle.std.proofs.Common.{subst}
 use Rattle.std.proofs.KnownBytes.{Keeps-refl}
-use Rattle.nf_cmd.proofs.AnswerLemmas.{refused_answers, refused_by}
+use Rattle.nf_cmd.specs.declared.line.Request.TheVariants.{Convert, Check, Measure, Test}
+use Rattle.nf_cmd.specs.Line.{Asks}
+use Rattle.nf_cmd.proofs.AnswerLemmas.{done_answers, refused_answers, refused_by}
 use Rattle.nf_cmd.proofs.program.command.Goals as goal
 
 pub returns-in-Err-clause-answer : goal.returns-in-Err-clause-answer
@@ -9,6 +11,22 @@ returns-in-Err-clause-answer g c = refused_answers _ _ _ _ _ c.in-Err.ensures.re
 pub returns-in-Err-clause-refused : goal.returns-in-Err-clause-refused
 returns-in-Err-clause-refused g c = refused_by _ _ _ _ _ c.in-Err.ensures.refused (c.refuse.ensures (g.I.Read.remaining c.args.input.now) (g.I.Read.remaining c.args.input.now))
 
--- Without an answer the check would try this goal a second time, at a wrong body, to offer one.
 pub returns-in-Ok-Convert-clause-answer : goal.returns-in-Ok-Convert-clause-answer
-returns-in-Ok-Convert-clause-answer g c = search rules
+returns-in-Ok-Convert-clause-answer g c =
+    let asks = subst (Asks _) c.in-Ok-Convert.field-0-is c.in-Ok-Convert.ensures.asked in
+    done_answers c.no_character_is_refused.ensures _ (Convert c.in-Ok-Convert.form) _ _ _ _ asks c.convert.ensures c.report.ensures.status c.report.ensures.line
+
+pub returns-in-Ok-Check-clause-answer : goal.returns-in-Ok-Check-clause-answer
+returns-in-Ok-Check-clause-answer g c =
+    let asks = subst (Asks _) c.in-Ok-Check.field-0-is c.in-Ok-Check.ensures.asked in
+    done_answers c.no_character_is_refused.ensures _ Check _ _ _ _ asks c.check.ensures c.report-in-Ok-Check.ensures.status c.report-in-Ok-Check.ensures.line
+
+pub returns-in-Ok-Measure-clause-answer : goal.returns-in-Ok-Measure-clause-answer
+returns-in-Ok-Measure-clause-answer g c =
+    let asks = subst (Asks _) c.in-Ok-Measure.field-0-is c.in-Ok-Measure.ensures.asked in
+    done_answers c.no_character_is_refused.ensures _ Measure _ _ _ _ asks c.measure.ensures c.report-in-Ok-Measure.ensures.status c.report-in-Ok-Measure.ensures.line
+
+pub returns-in-Ok-Test-clause-answer : goal.returns-in-Ok-Test-clause-answer
+returns-in-Ok-Test-clause-answer g c =
+    let asks = subst (Asks _) c.in-Ok-Test.field-0-is c.in-Ok-Test.ensures.asked in
+    done_answers c.no_character_is_refused.ensures _ Test _ _ _ _ asks c.test.ensures c.report-in-Ok-Test.ensures.status c.report-in-Ok-Test.ensures.line

@@ -1,12 +1,5 @@
-use Rattle.std.proofs.Common.{◌≡◌, ℕ, List, [], length, Some, None, Ok, Err, true, refl, sym, ap, ◌∙◌, arith}
-use Rattle.nf_safe.specs.Checker.{offset_of}
-use Rattle.nf_safe.specs.declared.checker.Checker.{Checker}
-use Rattle.nf_forms.specs.Properties.{Properties}
-use Rattle.nf_filter.specs.declared.fault.Fault.{Fault}
-use Rattle.nf_filter.specs.declared.fault.Fault.TheVariants.{Spent, TooLong, Read, Write, Row, BadByte, Cut}
+use Rattle.std.proofs.Common.{[], Some, None, true, refl, sym, ◌∙◌, arith}
 use Rattle.nf_filter.specs.declared.taker.Stop.TheVariants.{Refused, Found}
-use Rattle.nf_filter.specs.Sources.{MayStopAll}
-use Rattle.nf_filter.specs.Surveys.{IsOfSurvey}
 use Rattle.nf_filter.specs.Checks.{HasChecked, check_stop, check_decision, no_place}
 use Rattle.nf_filter.proofs.ReadingLemmas.{holds_nothing, HasRead-none}
 use Rattle.nf_filter.proofs.SurveysLemmas.{IsOfSurvey-from, Surveys-whole, Surveys-stopped, nothing_breaks}

@@ -1,43 +1,30 @@
-use Rattle.std.proofs.Common.{◌≡◌, ℕ, ◌+◌, List, [], ◌∷◌, ◌++◌, length, map-id, rules, refl, sym, ap, ◌∙◌, arith, append_assoc, append-nil}
-use Rattle.std.specs.Prelude.{encode_utf8_all}
-use Rattle.std.specs.Str.{chars}
-use Rattle.std.proofs.lemmas.Str.{encodes-chars}
-use Rattle.std.proofs.lemmas.Iterator.{YieldsList-from_chars}
-use Rattle.std.proofs.lemmas.Iterator.Consumers.{YieldsList-so_far, YieldsList-turn, YieldsList-end}
-use Rattle.nf_filter.proofs.CharsLemmas.{turn, utf8_len-push, behind}
+use Rattle.std.proofs.Common.{◌++◌, rules, refl, arith}
+use Rattle.nf_filter.proofs.ChecksLemmas.{HasSeenFront-none, HasSeenFront-more, HasSeenFront-whole, stop-more}
 use Rattle.nf_filter.proofs.checking.see_text.Goals as goal
 
-pub loop-c-init : goal.loop-c-init
-loop-c-init g c = record { steps = search rules; none = c.requires.none; offset = omega arith; seen = λ base x before. rw append-nil before }
+pub loop-rest-init : goal.loop-rest-init
+loop-rest-init g c = record {
+  utf8 = c.utf8.text;
+  none = c.requires.none;
+  offset = refl;
+  seen = λ base x before. HasSeenFront-none (g.R.Rows.properties c.args.rows.now) _ base x c.args.text.now before;
+}
 
-pub see-requires-clause-fits : goal.see-requires-clause-fits
-see-requires-clause-fits g c =
-    let t = YieldsList-from_chars c.args.text.now c.utf8.text cc in
-    let next = turn c.args.text.now c.loop-c.yielded c.in-Some.c c.utf8.text (YieldsList-so_far t c.loop-c.yielded _ c.loop-c.yielded_by) (YieldsList-turn t c.loop-c.yielded _ c.loop-c.yielded_by _ _ c.in-Some.c c.in-Some.is c.next.ensures.steps) in
-    omega (arith, next.fits, c.loop-c.invariant.offset, c.requires.fits)
+pub loop-rest-preserved : goal.loop-rest-preserved
+loop-rest-preserved g c = record {
+  utf8 = search rules;
+  none = c.in-Ok.ensures.none;
+  offset = omega (arith, c.in-Ok.ensures.offset, c.loop-rest.invariant.offset);
+  seen = λ base x before.
+      let here = c.loop-rest.invariant.seen base x before in
+      HasSeenFront-more (g.R.Rows.properties c.args.rows.now) _ base x c.args.text.now here.front c.loop-rest.rest.now c.in-Ok.behind.now here.is_front (c.in-Ok.ensures.sees base (x ++ here.front) here.seen);
+}
 
 pub returns-in-Err-clause-sees : goal.returns-in-Err-clause-sees
 returns-in-Err-clause-sees g c = λ base x before.
-    let t = YieldsList-from_chars c.args.text.now c.utf8.text cc in
-    let next = turn c.args.text.now c.loop-c.yielded c.in-Some.c c.utf8.text (YieldsList-so_far t c.loop-c.yielded _ c.loop-c.yielded_by) (YieldsList-turn t c.loop-c.yielded _ c.loop-c.yielded_by _ _ c.in-Some.c c.in-Some.is c.next.ensures.steps) in
-    rw (next.text, behind x c.loop-c.yielded next.rest c.in-Some.c) (c.in-Err.ensures.sees base (x ++ c.loop-c.yielded) next.rest (c.loop-c.invariant.seen base x before)).1
-
-pub loop-c-preserved : goal.loop-c-preserved
-loop-c-preserved g c = record {
-  steps = search rules;
-  none = c.in_default.ensures.none;
-  offset = omega (arith, utf8_len-push c.loop-c.yielded c.in-Some.c, c.in_default.ensures.offset, c.loop-c.invariant.offset);
-  seen = λ base x before. rw (← append_assoc x c.loop-c.yielded (c.in-Some.c ∷ [])) (c.in_default.ensures.sees base (x ++ c.loop-c.yielded) [] (c.loop-c.invariant.seen base x before)).0;
-}
-
-pub returns-clause-offset : goal.returns-clause-offset
-returns-clause-offset g c =
-    let done = YieldsList-end (YieldsList-from_chars c.args.text.now c.utf8.text cc) c.loop-c.yielded _ c.loop-c.yielded_by _ _ c.in-None.is c.next.ensures.steps in
-    let same : c.loop-c.yielded ≡ chars c.args.text.now = sym (map-id c.loop-c.yielded) ∙ done.0 in
-    omega (arith, c.loop-c.invariant.offset, ap (λ l. length (encode_utf8_all l)) same, ap length (encodes-chars c.args.text.now c.utf8.text))
+    let here = c.loop-rest.invariant.seen base x before in
+    stop-more (g.R.Rows.properties c.args.rows.now) base x c.args.text.now here.front c.loop-rest.rest.now _ here.is_front (c.in-Err.ensures.sees base (x ++ here.front) here.seen)
 
 pub returns-clause-sees : goal.returns-clause-sees
 returns-clause-sees g c = λ base x before.
-    let done = YieldsList-end (YieldsList-from_chars c.args.text.now c.utf8.text cc) c.loop-c.yielded _ c.loop-c.yielded_by _ _ c.in-None.is c.next.ensures.steps in
-    let same : c.loop-c.yielded ≡ chars c.args.text.now = sym (map-id c.loop-c.yielded) ∙ done.0 in
-    rw (← same) (c.loop-c.invariant.seen base x before)
+    HasSeenFront-whole (g.R.Rows.properties c.args.rows.now) _ base x c.args.text.now c.loop-rest.rest.now (search rules) (c.loop-rest.invariant.seen base x before)

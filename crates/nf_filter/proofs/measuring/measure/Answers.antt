@@ -1,4 +1,4 @@
-use Rattle.std.proofs.Common.{◌≡◌, ℕ, List, [], length, Some, None, Ok, Err, false, refl, sym, ap, ◌∙◌, arith}
+use Rattle.std.proofs.Common.{[], false, sym, ap, ◌∙◌, arith}
 use Rattle.nf_safe.specs.declared.measure.Measure.{Measure}
 use Rattle.nf_safe.specs.declared.place.Place.{Place}
 use Rattle.nf_safe.specs.Measurer.{values_of}

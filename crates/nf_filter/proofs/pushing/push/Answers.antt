@@ -1,4 +1,4 @@
-use Rattle.std.proofs.Common.{◌≡◌, ℕ, List, ◌++◌, Ok, Err, refl, sym, ap, ◌∙◌, encode_utf8_all}
+use Rattle.std.proofs.Common.{◌≡◌, ℕ, List, Ok, Err, sym, ap, ◌∙◌, encode_utf8_all}
 use Rattle.std.specs.Prelude.{Result}
 use Rattle.std.proofs.lemmas.Str.{encodes-append}
 use Rattle.nf_forms.specs.Properties.{Properties}
@@ -11,13 +11,13 @@ use Rattle.nf_filter.specs.declared.devices.Failed.{Failed}
 use Rattle.nf_filter.specs.Block.{Start, BlockState, WritesOn}
 use Rattle.nf_filter.specs.Normalizer.{Pushes, front_utf8}
 use Rattle.nf_filter.proofs.BlockLemmas.{Written-at}
-use Rattle.nf_filter.proofs.WritesLemmas.{BreaksOff-at}
+use Rattle.nf_filter.proofs.PushingLemmas.{Broken-at}
 use Rattle.nf_filter.proofs.pushing.push.Goals as goal
 
 pushes : (f : Form) (p : Properties) (pending : Pending) (start : Start) (now : BlockState) (v text : List ℕ) (r : Result (Unit {0}) Failed)
     → StandsAfter f p pending v → text ≡ front_utf8 f p v → WritesOn start now text r → Pushes f p pending start now v r
 pushes f p pending start now v text (Ok _) stands same written = (stands, Written-at same written)
-pushes f p pending start now v text (Err _) stands same broken = BreaksOff-at refl same broken
+pushes f p pending start now v text (Err _) stands same broken = Broken-at _ same broken
 
 pub returns-clause-pushes : goal.returns-clause-pushes
 returns-clause-pushes g c = λ f w start stands written.

@@ -8,7 +8,7 @@ use Rattle.nf_pending.specs.declared.pending.Pending.{Pending}
 use Rattle.nf_pending.specs.StandsAfter.{StandsAfter}
 use Rattle.nf_filter.specs.Block.{Start, BlockState, block_state, Written, Broken}
 use Rattle.nf_filter.specs.Normalizer.{run_behind, front_utf8}
-use Rattle.nf_filter.proofs.PushingLemmas.{BreaksOff-extends, front_utf8-extends, take_next, run_behind-push, run_behind-lt}
+use Rattle.nf_filter.proofs.PushingLemmas.{Broken-extends, front_utf8-extends, take_next, run_behind-push, run_behind-lt}
 use Rattle.nf_filter.proofs.pushing.push_row.Goals as goal
 
 abbrev Pushed : Form → Properties → Pending → Start → BlockState → List ℕ → Type 0
@@ -25,7 +25,7 @@ stop_next f p start now w row i c within is broken =
     let whole : ((w ++ take i row) ++ c ∷ []) ++ drop (i + 1) row ≡ w ++ row =
     append_assoc (w ++ take i row) (c ∷ []) (drop (i + 1) row) ∙ append_assoc w (take i row) (c ∷ drop (i + 1) row)
     ∙ ap (λ v. w ++ v) (sym (append_assoc (take i row) (c ∷ []) (drop (i + 1) row)) ∙ ap (λ v. v ++ drop (i + 1) row) (sym (take_next row i c within is)) ∙ take-append-drop (i + 1) row) in
-    subst (λ v. Broken start now (front_utf8 f p v)) whole (BreaksOff-extends (front_utf8-extends f p ((w ++ take i row) ++ c ∷ []) (drop (i + 1) row)) broken)
+    subst (λ v. Broken start now (front_utf8 f p v)) whole (Broken-extends _ (front_utf8-extends f p ((w ++ take i row) ++ c ∷ []) (drop (i + 1) row)) broken)
 
 pub push-requires : goal.push-requires
 push-requires g c = λ mark.

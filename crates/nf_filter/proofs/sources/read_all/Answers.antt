@@ -1,4 +1,4 @@
-use Rattle.std.proofs.Common.{◌≡◌, ℕ, ◌+◌, ◌<◌, ◌≤◌, List, [], ◌++◌, length, take, true, false, refl, sym, ap, ◌∙◌, subst, arith, append_assoc, append-nil, Ok, Err}
+use Rattle.std.proofs.Common.{◌≡◌, ℕ, ◌+◌, ◌<◌, List, [], ◌++◌, length, take, refl, sym, ap, ◌∙◌, subst, arith, append_assoc, append-nil, Ok, Err}
 use Rattle.std.specs.Io.KnownBytes.{Consumes}
 use Rattle.std.proofs.KnownBytes.{Consumes-kept, Consumes-nil, Consumes-trans}
 use Rattle.std.proofs.lemmas.Bool.{eq-eqb, ne_eqb}
@@ -7,7 +7,7 @@ use Rattle.nf_utf8.specs.Reading.{text_of}
 use Rattle.nf_filter.specs.Writes.{Puts}
 use Rattle.nf_filter.specs.Taker.{HasRead}
 use Rattle.nf_filter.proofs.WritesLemmas.{Puts-none, Puts-join}
-use Rattle.nf_filter.proofs.SourcesLemmas.{MayStopAll-from, not_cut, ReadsAll-failed, ReadsAll-ended, ReadsAll-stopped}
+use Rattle.nf_filter.proofs.SourcesLemmas.{ReadsAll-failed, ReadsAll-ended, ReadsAll-stopped}
 use Rattle.nf_filter.proofs.sources.read_all.Goals as goal
 
 pub loop-given-init : goal.loop-given-init

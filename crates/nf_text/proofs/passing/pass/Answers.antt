@@ -3,7 +3,7 @@ use Rattle.nf_text.proofs.WholeLemmas.{whole, faults}
 use Rattle.nf_text.proofs.passing.pass.Goals as goal
 
 pub returns-clause-faults : goal.returns-clause-faults
-returns-clause-faults g c = faults _ _ _ _ _ _ _ c.every_character_is_sound.ensures.text c.run-answer.ensures.unspent c.run-answer.ensures.drives
+returns-clause-faults g c = faults _ c.run-answer.ensures.unspent (c.no_sound_character_is_refused.ensures.driving _ _ _ _ _ _ _ _ _ c.every_character_is_sound.ensures.character c.run-answer.ensures.drives)
 
 pub returns-clause-whole : goal.returns-clause-whole
 returns-clause-whole g c =

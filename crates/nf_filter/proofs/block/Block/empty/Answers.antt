@@ -1,7 +1,7 @@
-use Rattle.std.proofs.Common.{◌≡◌, List, ℕ, [], ◌++◌, refl, sym, ap, ◌∙◌, subst, append-nil}
+use Rattle.std.proofs.Common.{◌≡◌, List, ℕ, [], ◌++◌, sym, ap, ◌∙◌, append-nil}
 use Rattle.nf_filter.specs.Devices.{SinkState}
 use Rattle.nf_filter.specs.Writes.{Puts, BreaksOff}
-use Rattle.nf_filter.specs.Block.{Start, BlockState, Written, Broken}
+use Rattle.nf_filter.specs.Block.{Start, BlockState, Written}
 use Rattle.nf_filter.proofs.WritesLemmas.{Puts-join, Puts-behind, BreaksOff-join, BreaksOff-behind}
 use Rattle.nf_filter.proofs.block.Block.empty.Goals as goal
 
@@ -9,15 +9,16 @@ use Rattle.nf_filter.proofs.block.Block.empty.Goals as goal
 emptied : (start : Start) (now : BlockState) (sink : SinkState) (w bytes kept : List ℕ) → bytes ≡ now.kept → kept ≡ [] → Written start now w → Puts now.sink sink [] bytes
     → Written start (record { sink = sink; kept = kept }) w
 emptied start now sink w bytes kept same none written puts = record {
-  given = w;
-  puts = Puts-join written.puts (Puts-behind written.given w (written.text ∙ ap (λ l. written.given ++ l) (sym same)) puts);
-  text = sym (append-nil w) ∙ ap (λ l. w ++ l) (sym none);
+  given = start.ahead ++ w;
+  puts = Puts-join written.puts (Puts-behind written.given (start.ahead ++ w) (written.text ∙ ap (λ l. written.given ++ l) (sym same)) puts);
+  text = sym (append-nil (start.ahead ++ w)) ∙ ap (λ l. (start.ahead ++ w) ++ l) (sym none);
 }
 
 -- or a part of it
-broken : (start : Start) (now : BlockState) (sink : SinkState) (w bytes : List ℕ) → bytes ≡ now.kept → Written start now w → BreaksOff now.sink sink [] bytes → BreaksOff start.sink sink start.before w
+broken : (start : Start) (now : BlockState) (sink : SinkState) (w bytes : List ℕ) → bytes ≡ now.kept → Written start now w → BreaksOff now.sink sink [] bytes
+    → BreaksOff start.sink sink start.before (start.ahead ++ w)
 broken start now sink w bytes same written breaks =
-    BreaksOff-join written.puts (BreaksOff-behind written.given w (written.text ∙ ap (λ l. written.given ++ l) (sym same)) breaks)
+    BreaksOff-join written.puts (BreaksOff-behind written.given (start.ahead ++ w) (written.text ∙ ap (λ l. written.given ++ l) (sym same)) breaks)
 
 pub returns-in-Err-clause-writes : goal.returns-in-Err-clause-writes
 returns-in-Err-clause-writes g c = λ start w written. broken start _ _ w _ c.as_slice.ensures.value written c.in-Err.ensures.puts

@@ -1,4 +1,4 @@
-use Rattle.std.proofs.Common.{◌≡◌, ℕ, List, Ok, Err, refl, sym, ap, ◌∙◌}
+use Rattle.std.proofs.Common.{Ok, Err, sym}
 use Rattle.nf_filter.proofs.FilterLemmas.{HasRead-own, ReadsAll-form}
 use Rattle.nf_filter.proofs.filter.Filter.feed_all.Goals as goal
 

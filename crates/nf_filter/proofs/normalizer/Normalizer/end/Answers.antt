@@ -1,28 +1,14 @@
-use Rattle.std.proofs.Common.{◌≡◌, List, ℕ, ◌++◌, [], Ok, Err, rules, refl, sym, ap, ◌∙◌, encode_utf8_all}
+use Rattle.std.proofs.Common.{◌≡◌, List, ℕ, [], Ok, Err, rules, refl, ap}
 use Rattle.std.specs.Prelude.{Result, MatchResult}
-use Rattle.std.proofs.lemmas.Str.{encodes-append}
-use Rattle.nf_forms.specs.Properties.{Properties}
-use Rattle.nf_forms.specs.declared.form.Form.{Form}
-use Rattle.nf_forms.specs.Front.{front}
-use Rattle.nf_forms.specs.Forms.{finished, decomposed}
-use Rattle.nf_forms.specs.StreamSafe.{stream_safe}
 use Rattle.nf_filter.specs.declared.devices.Failed.{Failed}
 use Rattle.nf_filter.specs.Devices.{SinkState}
 use Rattle.nf_filter.specs.Writes.{Puts, BreaksOff}
-use Rattle.nf_forms.specs.SafeForm.{safe_form}
-use Rattle.nf_filter.specs.Settled.{settled}
 use Rattle.nf_filter.specs.Block.{BlockState, WritesOn}
 use Rattle.nf_filter.specs.Normalizer.{settled_text}
-use Rattle.nf_filter.proofs.WritesLemmas.{Puts-at, BreaksOff-at}
+use Rattle.nf_filter.proofs.WritesLemmas.{BreaksOff-at}
 use Rattle.nf_filter.proofs.BlockLemmas.{start_at, Written-none}
-use Rattle.nf_filter.proofs.TextLemmas.{Puts-emptied}
+use Rattle.nf_filter.proofs.TextLemmas.{settled_text-rest, Puts-emptied}
 use Rattle.nf_filter.proofs.normalizer.Normalizer.end.Goals as goal
-
--- what is settled, and then the rest
-whole : (f : Form) (p : Properties) (x rest : List ℕ) → let w = decomposed f p (stream_safe p x) in front p (finished f p w) ++ rest ≡ finished f p w
-    → settled_text f p x ++ encode_utf8_all rest ≡ encode_utf8_all (safe_form f p x)
-unfolding settled safe_form
-whole f p x rest is = sym (encodes-append (front p (finished f p (decomposed f p (stream_safe p x)))) rest) ∙ ap encode_utf8_all is
 
 ended : (sink : SinkState) (last : BlockState) (before after : List ℕ) (r : Result (Unit {0}) Failed) → (r ≡ Ok tt → last.kept ≡ []) → WritesOn (start_at sink before) last after r
     → MatchResult r (λ _. Puts sink last.sink before after) (λ _. BreaksOff sink last.sink before after)
@@ -36,7 +22,7 @@ returns-in-Err-clause-puts g c = λ f x taken.
     let before = settled_text f p x in
     let written = Written-none (g.S.Sink.state c.args.sink.now) _ _ before (ap g.S.Sink.state c.over-block.ensures.sink) c.over-block.ensures.empty in
     let broken = c.in-Err.ensures.writes (start_at (g.S.Sink.state c.args.sink.now) before) before written in
-    rw same (BreaksOff-at refl (whole f p x c.end-rest.result.items (c.end-rest.ensures f _ taken.pending)) broken)
+    rw same (BreaksOff-at refl (settled_text-rest p f x c.end-rest.result.items (c.end-rest.ensures f _ taken.pending)) broken)
 
 pub returns-clause-puts : goal.returns-clause-puts
 returns-clause-puts g c = λ f x taken.
@@ -46,5 +32,5 @@ returns-clause-puts g c = λ f x taken.
     let written = Written-none (g.S.Sink.state c.args.sink.now) _ _ before (ap g.S.Sink.state c.over-block.ensures.sink) c.over-block.ensures.empty in
     let pushed = c.in_default.ensures.writes (start_at (g.S.Sink.state c.args.sink.now) before) before written in
     let emptied = c.empty.ensures.writes (start_at (g.S.Sink.state c.args.sink.now) before) _ pushed in
-    let text = whole f p x c.end-rest.result.items (c.end-rest.ensures f _ taken.pending) in
+    let text = settled_text-rest p f x c.end-rest.result.items (c.end-rest.ensures f _ taken.pending) in
     rw (same, ← text) (ended (g.S.Sink.state c.args.sink.now) _ before _ c.empty.result (λ e. rw e at c.empty.ensures.none) emptied)

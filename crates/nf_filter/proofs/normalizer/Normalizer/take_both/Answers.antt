@@ -1,10 +1,8 @@
-use Rattle.std.proofs.Common.{◌≡◌, ℕ, ◌+◌, List, [], ◌∷◌, ◌++◌, length, refl, sym, ap, ◌∙◌, arith, append_assoc, encode_utf8}
+use Rattle.std.proofs.Common.{◌≡◌, ℕ, ◌+◌, [], ◌∷◌, ◌++◌, length, refl, arith, append_assoc}
 use Rattle.std.specs.Prelude.{Option, Some, None, encode_utf8_all}
 use Rattle.std.specs.Str.{chars}
 use Rattle.std.proofs.lemmas.Str.{length-encode, len_utf8_bounds}
-use Rattle.nf_utf8.specs.Taking.{first_text}
 use Rattle.nf_filter.specs.Block.{block_state}
-use Rattle.nf_filter.specs.Normalizer.{TakesOn}
 use Rattle.nf_filter.proofs.CharsLemmas.{utf8_len-push}
 use Rattle.nf_filter.proofs.TextLemmas.{TakesOn-refused}
 use Rattle.nf_filter.proofs.normalizer.Normalizer.take_both.Goals as goal

@@ -2,7 +2,7 @@ use Rattle.std.proofs.Common.{[], ◌∷◌, ◌++◌, refl, sym, ap, ◌∙◌}
 use Rattle.nf_forms.specs.Forms.{decomposed}
 use Rattle.nf_forms.specs.StreamSafe.{parted, stream_safe}
 use Rattle.nf_filter.specs.Normalizer.{front_utf8}
-use Rattle.nf_filter.proofs.WritesLemmas.{BreaksOff-at}
+use Rattle.nf_filter.proofs.PushingLemmas.{Broken-at}
 use Rattle.nf_filter.proofs.BlockLemmas.{Written-at}
 use Rattle.nf_filter.proofs.NormalizerLemmas.{is_usable-unsound, settled_text-front, row_text, HasTaken-row}
 use Rattle.nf_filter.proofs.normalizer.Normalizer.take_char.Goals as goal
@@ -27,4 +27,4 @@ returns-in-Err-push_row-clause-takes g c = λ f x start before written.
     let parts = c.in-Ok.ensures.parts f x start before written in
     let broken = c.in-Err-push_row.ensures.pushes f (decomposed f p (parted p (stream_safe p x) c.args.c)) start parts.0.pending parts.1 in
     let text = row_text p f c.part.new.self x c.in-Ok.row.items c.args.c parts.0 c.in-Ok.ensures.row in
-    (parts.0.usable, BreaksOff-at refl (ap (front_utf8 f p) text ∙ sym (settled_text-front p f (x ++ c.args.c ∷ []))) broken)
+    (parts.0.usable, Broken-at _ (ap (front_utf8 f p) text ∙ sym (settled_text-front p f (x ++ c.args.c ∷ []))) broken)

@@ -1,4 +1,4 @@
-use Rattle.std.proofs.Common.{◌≡◌, List, ℕ, ◌++◌, [], rules, refl, sym, ap, ◌∙◌, subst, Some}
+use Rattle.std.proofs.Common.{◌≡◌, List, ℕ, ◌++◌, rules, sym, ap, ◌∙◌, subst, Some}
 use Rattle.std.specs.Prelude.{Result, Ok, Err, OnOk}
 use Rattle.nf_forms.specs.Properties.{Properties}
 use Rattle.nf_forms.specs.declared.form.Form.{Form}
@@ -13,7 +13,7 @@ use Rattle.nf_filter.specs.declared.fault.Fault.TheVariants.{Write as WriteFault
 use Rattle.nf_filter.specs.declared.taker.Stop.TheVariants.{Refused}
 use Rattle.nf_filter.proofs.BlockLemmas.{start_at, Written-none}
 use Rattle.nf_filter.proofs.TextLemmas.{TakesText-broken, TakesText-failed, TakesText-given}
-use Rattle.nf_filter.proofs.normalizer.NormalizerTaker.take.Goals as goal
+use Rattle.nf_filter.proofs.taking.NormalizerTaker.take.Goals as goal
 
 -- in the form of the normalizer as it is then
 in_form : (f : Form) (p : Properties) (base : ℕ) (normalizer : Normalizer) (x y : List ℕ) (old new : SinkState) (r : Result (Unit {0}) Stop) → OnOk r (normalizer.form ≡ f)

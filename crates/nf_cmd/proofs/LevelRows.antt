@@ -1,0 +1,134 @@
+-- What a level without a fault ends with: the value of each required option of one value.
+use Rattle.std.proofs.Common.{◌≡◌, ◌∙◌, ◌&&◌, ◌||◌, Bool, cond, true, false, not, refl, sym, ap, subst, List, [], ◌∷◌, fold, Option, Some, None, inl, inr, true≢false}
+use Rattle.std.specs.Prelude.{find, option_and_then, slice_get}
+use Rattle.std.specs.List.{list_any}
+use Rattle.std.specs.Option.{option_map_or}
+use Rattle.std.specs.Str.{bytes_eq}
+use Rattle.std.proofs.lemmas.Slice.Eq.{bytes_eq-Decides}
+use Rattle.clap.specs.declared.parser.matches.ValueSource.TheVariants.{DefaultValue}
+use Rattle.clap.specs.Facts.{explicit_source}
+use Rattle.clap.specs.Kinds.{Kinds, check_kinds, or_else}
+use Rattle.clap.specs.Takes.{is_given, value_passes}
+use Rattle.clap.specs.Walk.{Held, Names, Row, Rule, Text, has_row, reading_by, settled, default_rows, finished, first_of, nothing_held, rows_after, walk, walk_from, with_default}
+use Rattle.clap.specs.Simple.{Shape}
+use Rattle.clap.specs.Faults.{level_fault, check_fault, defaults_fault, settle_fault, walk_fault}
+use Rattle.nf_cmd.proofs.Rows.{both_none, IsIn, IsSingle, HasOne, Fits, EachFits, each-with_values}
+use Rattle.nf_cmd.proofs.WordRows.{each-settled}
+use Rattle.nf_cmd.proofs.WalkRows.{each-walk}
+
+-- what an argument that was not used gets, by its defaults
+each-default_rows : (c : List Rule) (a : Rule) → IsIn a c → (rows : List Row) → EachFits c rows → (values : List Text) → a.defaults ≡ values
+    → EachFits c (default_rows a.id (reading_by a) values rows)
+each-default_rows c a inside rows f [] e = f
+each-default_rows c a inside rows f (v ∷ vs) e =
+    each-with_values c a inside (λ s. let none : a.defaults ≡ [] = s.no_default in let bad : ⊥ = cc in bad) _ DefaultValue (v ∷ vs) rows f
+
+each-with_default : (c : List Rule) (a : Rule) → IsIn a c → (rows : List Row) → EachFits c rows → EachFits c (with_default rows a)
+each-with_default c a inside rows f = go (has_row a.id rows)
+  where
+    go : (b : Bool) → EachFits c (cond b rows (default_rows a.id (reading_by a) a.defaults rows))
+    go true = f
+    go false = each-default_rows c a inside rows f a.defaults refl
+
+each-defaults : (c xs : List Rule) → ((a : Rule) → IsIn a xs → IsIn a c) → (rows : List Row) → EachFits c rows → EachFits c (fold with_default rows xs)
+each-defaults c [] inside rows f = f
+each-defaults c (x ∷ xs) inside rows f =
+    each-defaults c xs (λ a i. inside a (inr i)) (with_default rows x) (each-with_default c x (inside x (inl refl)) rows f)
+
+pub nothing_wanted : (a b c : Bool) → check_kinds a b c ≡ [] → (b ≡ false) × (c ≡ false)
+nothing_wanted true b c e = let bad : ⊥ = cc in absurd bad
+nothing_wanted false true c e = let bad : ⊥ = cc in absurd bad
+nothing_wanted false false true e = let bad : ⊥ = cc in absurd bad
+nothing_wanted false false false e = (refl, refl)
+
+none_of : (p : Rule → Bool) (c : List Rule) (a : Rule) → IsIn a c → list_any p c ≡ false → p a ≡ false
+none_of p [] a inside e = absurd inside
+none_of p (x ∷ xs) a (inl same) e = ap p same ∙ go (p x) e
+  where
+    go : (b : Bool) → (b || list_any p xs) ≡ false → b ≡ false
+    go true h = h
+    go false h = refl
+none_of p (x ∷ xs) a (inr inside) e = none_of p xs a inside (go (p x) e)
+  where
+    go : (b : Bool) → (b || list_any p xs) ≡ false → list_any p xs ≡ false
+    go true h = absurd (true≢false h)
+    go false h = h
+
+found_row : (c : List Rule) (id : Text) (rows : List Row) (r : Row) → EachFits c rows → find (λ x. bytes_eq x.id id) rows ≡ Some r → Fits c r × (r.id ≡ id)
+found_row c id [] r f e = let bad : ⊥ = cc in absurd bad
+found_row c id (x ∷ xs) r f e = go (found_row c id xs r f.1) (bytes_eq x.id id) refl e
+  where
+    go : (find (λ y. bytes_eq y.id id) xs ≡ Some r → Fits c r × (r.id ≡ id)) → (b : Bool) → bytes_eq x.id id ≡ b
+        → cond b (Some x) (find (λ y. bytes_eq y.id id) xs) ≡ Some r → Fits c r × (r.id ≡ id)
+    go rest true t h =
+        let same : x ≡ r = cc in
+        (subst (Fits c) same f.0, ap (λ (y : Row). y.id) (sym same) ∙ (bytes_eq-Decides x.id id).0 t)
+    go rest false t h = rest h
+
+-- the value of a required option of one value, at a level with no fault
+pub record Given (a : Rule) (rows : List Row) : Type 0 where
+  pub text : Text
+  pub first : first_of a.id rows ≡ Some text
+  pub passes : value_passes a text ≡ true
+
+module _ (s : Shape) (off : s.args_override_self ≡ false) (names : Names) (words : List Text) (has : Bool) (below : Kinds)
+    (none : level_fault s names nothing_held words has below ≡ []) where
+  abbrev end : Held
+  end = (walk s.rules names nothing_held words).held
+
+  abbrev rows : List Row
+  rows = rows_after s.rules names words
+
+  walk_faults : (walk_fault s names (walk_from nothing_held) words ≡ []) × (or_else below (or_else (settle_fault s.rules s.args_override_self end)
+      (or_else (defaults_fault (settled s.rules end).rows s.rules) (check_fault s (finished s.rules end) has))) ≡ [])
+  walk_faults = both_none _ _ none
+
+  settle_faults : (settle_fault s.rules s.args_override_self end ≡ [])
+      × (or_else (defaults_fault (settled s.rules end).rows s.rules) (check_fault s (finished s.rules end) has) ≡ [])
+  settle_faults = both_none _ _ (both_none _ _ walk_faults.1).1
+
+  pub below_faultless : below ≡ []
+  below_faultless = (both_none _ _ walk_faults.1).0
+
+  pub walk_faultless : walk_fault s names (walk_from nothing_held) words ≡ []
+  walk_faultless = walk_faults.0
+
+  pub checked : check_fault s rows has ≡ []
+  checked = (both_none _ _ settle_faults.1).1
+
+  each-row : EachFits s.rules rows
+  each-row = each-defaults s.rules s.rules (λ a i. i) (settled s.rules end).rows
+      (each-settled s.rules s.args_override_self off end settle_faults.0 (each-walk s off names (walk_from nothing_held) words walk_faults.0 tt))
+
+  is_given-required : s.subcommand_negates_reqs ≡ false → (a : Rule) → IsIn a s.rules → a.required ≡ true → is_given a.id rows ≡ true
+  is_given-required lifts a inside required =
+      go (is_given a.id rows) (none_of _ s.rules a inside
+      (wanted s.subcommand_negates_reqs (list_any (λ x. x.required && not (is_given x.id rows)) s.rules) lifts (nothing_wanted _ _ _ checked).1))
+    where
+      wanted : (n b : Bool) → n ≡ false → (not (n && has) && b) ≡ false → b ≡ false
+      wanted true b off' e = absurd (true≢false off')
+      wanted false b off' e = e
+
+      go : (b : Bool) → (a.required && not b) ≡ false → b ≡ true
+      go true e = refl
+      go false e = absurd (true≢false (sym (ap (λ r. r && true) required) ∙ e))
+
+  pub given : s.subcommand_negates_reqs ≡ false → (a : Rule) → IsIn a s.rules → IsSingle a → a.required ≡ true
+      → ((x : Rule) → IsIn x s.rules → x.id ≡ a.id → x ≡ a) → Given a rows
+  given lifts a inside single required only = go (find (λ r. bytes_eq r.id a.id) rows) refl (is_given-required lifts a inside required)
+    where
+      of : (r : Row) → find (λ x. bytes_eq x.id a.id) rows ≡ Some r → (x : Rule) → x ≡ a → (IsSingle x → HasOne x r.values) → Given a rows
+      of r e x same one =
+          let h : HasOne a r.values = subst (λ y. IsSingle y → HasOne y r.values) same one single in
+          record {
+            text = h.text;
+            first = ap (λ o. option_and_then (λ (q : Row). slice_get q.values 0) o) e ∙ ap (λ vs. slice_get vs 0) h.alone;
+            passes = h.passes;
+          }
+
+      go : (o : Option Row) → find (λ x. bytes_eq x.id a.id) rows ≡ o → option_map_or (λ (r : Row). explicit_source r.source) o false ≡ true → Given a rows
+      go None e h = absurd (true≢false (sym h))
+      go (Some r) e h =
+          let row = found_row s.rules a.id rows r each-row e in
+          let f : Fits s.rules r = row.0 in
+          of r e f.rule (only f.rule f.inside (f.same ∙ row.1)) f.one

@@ -1,0 +1,87 @@
+-- No command ends because a character is unsound, where none of the data is.
+use Rattle.std.proofs.Common.{◌≡◌, ℕ, List, [], Option, Some, None, Result, Ok, Err, inl, inr, refl, sym, ap, ◌∙◌}
+use Rattle.std.specs.Prelude.{◌⊎◌, option_map}
+use Rattle.nf_forms.specs.Properties.{Properties}
+use Rattle.nf_forms.specs.declared.form.Form.{Form}
+use Rattle.nf_forms.specs.Ucd.{ucd}
+use Rattle.nf_safe.specs.declared.place.Place.{Place}
+use Rattle.nf_filter.specs.declared.fault.Fault.{Fault as Found}
+use Rattle.nf_filter.specs.declared.fault.Fault.TheVariants as found
+use Rattle.nf_filter.specs.Laws.Soundness.{AreSound, DrivingRefusesNone, CheckingRefusesNone, MeasuringRefusesNone}
+use Rattle.nf_vectors.specs.declared.fault.VectorFault.{VectorFault}
+use Rattle.nf_vectors.specs.declared.fault.VectorKind.{VectorKind}
+use Rattle.nf_vectors.specs.declared.fault.VectorKind.TheVariants as kind
+use Rattle.nf_vectors.specs.declared.suite.Suite.{Suite}
+use Rattle.nf_cmd.specs.declared.fault.Fault.{Fault}
+use Rattle.nf_cmd.specs.declared.fault.Fault.TheVariants.{Row, Write}
+use Rattle.nf_cmd.specs.declared.test.Finding.{Finding}
+use Rattle.nf_cmd.specs.Faults.{told, told_at}
+use Rattle.nf_cmd.specs.declared.line.Request.TheVariants.{Convert, Check, Measure, Test}
+use Rattle.nf_cmd.specs.Converts.{end_of, Converts}
+use Rattle.nf_cmd.specs.Checks.{check_end, Checks}
+use Rattle.nf_cmd.specs.Measures.{measure_end, Measures}
+use Rattle.nf_cmd.specs.Tests.{Tests, Finds, finding_end}
+use Rattle.nf_cmd.specs.Answers.{NeverRow}
+
+-- only the library's fault of a character is told as one
+told_row : {T : Type 0} (fault : Found) (at : ℕ) → option_map (λ g. let r : Result ℕ Fault = Err g in r) (told fault) ≡ Some (Err (Row at)) → (let r : Result T Found = Err fault in r) ≡ Err (found.Row at)
+told_row found.Spent at e = cc
+told_row found.TooLong at e = cc
+told_row found.Read at e = cc
+told_row found.Write at e = cc
+told_row (found.Row a) at e = cc
+told_row (found.BadByte a start) at e = cc
+told_row (found.Cut a start) at e = cc
+
+-- and no fault of a vector file is
+not_of_file : (n : ℕ) (k : VectorKind) (at : ℕ) → ¬ (told_at n k ≡ Row at)
+not_of_file n kind.Fields at e = cc
+not_of_file n kind.Empty at e = cc
+not_of_file n kind.Hex at e = cc
+not_of_file n kind.Scalar at e = cc
+not_of_file n kind.Size at e = cc
+not_of_file n kind.Read at e = cc
+not_of_file n kind.Memory at e = cc
+
+-- what ends by an answer, or by a failed write
+end_row : {T : Type 0} (end : Result T Found → Option (Result ℕ Fault)) (answer : Result T Found) (ended : Result ℕ Fault) (at : ℕ)
+    → ((value : T) → ¬ (end (Ok value) ≡ Some (Err (Row at)))) → ((fault : Found) → end (Err fault) ≡ option_map Err (told fault))
+    → ((Some ended ≡ end answer) ⊎ (ended ≡ Err Write)) → ended ≡ Err (Row at) → answer ≡ Err (found.Row at)
+end_row end (Ok value) ended at ok err (inl is) row = absurd (ok value (sym is ∙ ap Some row))
+end_row end (Err fault) ended at ok err (inl is) row = told_row fault at (sym (err fault) ∙ sym is ∙ ap Some row)
+end_row end answer ended at ok err (inr is) row = cc
+
+module _ (p : Properties) (sound : AreSound p) (at : ℕ) (coming left taken now : Option (List ℕ)) (ended : Result ℕ Fault) where
+  converted : DrivingRefusesNone → (f : Form) → Converts f p coming left taken now ended → ¬ (ended ≡ Err (Row at))
+  converted law f does row =
+      let runs = does.runs in
+      law f p 0 [] runs.source runs.rest runs.old runs.new does.answer sound runs.drives at (end_row end_of does.answer ended at (λ tally e. cc) (λ fault. refl) does.found_is row)
+
+  checked : CheckingRefusesNone → Checks p coming left taken now ended → ¬ (ended ≡ Err (Row at))
+  checked law does row = law p 0 does.surveyed.source does.surveyed.rest does.answer sound does.surveyed.surveys at (end_row check_end does.answer ended at by_place (λ fault. refl) does.found_is row)
+    where
+      by_place : (place : Option Place) → ¬ (check_end (Ok place) ≡ Some (Err (Row at)))
+      by_place None e = cc
+      by_place (Some place) e = cc
+
+  measured : MeasuringRefusesNone → Measures p coming left taken now ended → ¬ (ended ≡ Err (Row at))
+  measured law does row = law p 0 does.surveyed.source does.surveyed.rest does.answer sound does.surveyed.surveys at (end_row measure_end does.answer ended at (λ m e. cc) (λ fault. refl) does.found_is row)
+
+  tested : Tests p coming left taken now ended → ¬ (ended ≡ Err (Row at))
+  tested does row = by_end does.found_is
+    where
+      ends : (suite : Result Suite VectorFault) (finding : Result Finding Fault) → Finds p suite finding → ¬ (finding_end finding ≡ Err (Row at))
+      ends suite (Ok finding) finds e = cc
+      ends (Ok suite) (Err fault) finds e = cc
+      ends (Err refused) (Err fault) finds e = not_of_file refused.line refused.kind at (sym finds ∙ (let same : fault ≡ Row at = cc in same))
+
+      by_end : ((ended ≡ finding_end does.finding) ⊎ (ended ≡ Err Write)) → ⊥
+      by_end (inl is) = ends does.suite does.finding does.finds (sym is ∙ row)
+      by_end (inr is) = cc
+
+-- so what was done for a request did not
+pub never_row : DrivingRefusesNone → CheckingRefusesNone → MeasuringRefusesNone → AreSound ucd → NeverRow
+never_row driving checking measuring sound (Convert form) before after found does at = converted ucd sound at before.input after.input before.out after.out found driving form does
+never_row driving checking measuring sound Check before after found does at = checked ucd sound at before.input after.input before.out after.out found checking does
+never_row driving checking measuring sound Measure before after found does at = measured ucd sound at before.input after.input before.out after.out found measuring does
+never_row driving checking measuring sound Test before after found does at = tested ucd sound at before.input after.input before.out after.out found does

@@ -1,0 +1,78 @@
+-- A text, front by front.
+use Rattle.std.proofs.Common.{◌≡◌, ℕ, ◌+◌, List, [], ◌∷◌, ◌++◌, length, Option, Some, Ok, refl, sym, ap, ◌∙◌, subst, arith, append-nil, append_assoc, encode_utf8}
+use Rattle.std.specs.Prelude.{Result, MatchOption, encode_utf8_all}
+use Rattle.std.specs.Str.{IsUtf8, chars}
+use Rattle.std.proofs.lemmas.List.{length-append}
+use Rattle.std.proofs.lemmas.Str.{chars-nil, chars-append, encodes-append, encodes-chars}
+use Rattle.nf_forms.specs.Properties.{Properties}
+use Rattle.nf_forms.specs.declared.form.Form.{Form}
+use Rattle.nf_filter.specs.declared.normalizer.Normalizer.{Normalizer}
+use Rattle.nf_filter.specs.declared.taker.Stop.{Stop}
+use Rattle.nf_filter.specs.Block.{Start, BlockState, Written}
+use Rattle.nf_filter.specs.Normalizer.{HasTaken, TakesOn, settled_text}
+use Rattle.nf_filter.specs.Taking.{HasTakenFront}
+use Rattle.nf_filter.proofs.TextLemmas.{TakesOn-all}
+
+pub front_len : (text front rest : List ℕ) → IsUtf8 text → IsUtf8 rest → chars text ≡ front ++ chars rest → length text ≡ length (encode_utf8_all front) + length rest
+front_len text front rest whole behind is =
+    ap length (sym (encodes-chars text whole) ∙ ap encode_utf8_all is ∙ encodes-append front (chars rest) ∙ ap (λ b. encode_utf8_all front ++ b) (encodes-chars rest behind))
+    ∙ length-append (encode_utf8_all front) rest
+
+-- the offset behind it
+pub place_behind : (at base : ℕ) (x text front rest : List ℕ) → IsUtf8 text → IsUtf8 rest → chars text ≡ front ++ chars rest → at ≡ base + length (encode_utf8_all x)
+    → at + length text ≡ base + length (encode_utf8_all (x ++ front)) + length rest
+place_behind at base x text front rest whole behind is here =
+    omega (arith, here, front_len text front rest whole behind is, ap length (encodes-append x front), length-append (encode_utf8_all x) (encode_utf8_all front))
+
+-- three parts
+pub chars-three : (text a b rest : List ℕ) → IsUtf8 a → IsUtf8 b → text ≡ a ++ (b ++ rest) → chars text ≡ (chars a ++ chars b) ++ chars rest
+chars-three text a b rest first second is =
+    ap chars is ∙ chars-append a (b ++ rest) first ∙ ap (λ l. chars a ++ l) (chars-append b rest second) ∙ sym (append_assoc (chars a) (chars b) (chars rest))
+
+-- its first character
+pub begins : (none : Type 0) (bytes rest : List ℕ) (r : Option ℕ) (c : ℕ) → r ≡ Some c → MatchOption r none (λ d. bytes ≡ encode_utf8 d ++ rest) → bytes ≡ encode_utf8 c ++ rest
+begins none bytes rest r c is step = subst (λ o. MatchOption o none (λ d. bytes ≡ encode_utf8 d ++ rest)) is step
+
+nothing : (w : List ℕ) → length w ≡ 0 → w ≡ []
+nothing [] e = refl
+nothing (c ∷ w) e = cc
+
+-- a front of it behind x, a longer one, and the one behind which nothing stands
+module _ (text front rest : List ℕ) (is : chars text ≡ front ++ chars rest) where
+  pub front-behind : (x : List ℕ) → (x ++ front) ++ chars rest ≡ x ++ chars text
+  front-behind x = append_assoc x front (chars rest) ∙ ap (λ l. x ++ l) (sym is)
+
+  pub front-more : (next behind : List ℕ) → chars rest ≡ next ++ chars behind → chars text ≡ (front ++ next) ++ chars behind
+  front-more next behind more = is ∙ ap (λ l. front ++ l) more ∙ sym (append_assoc front next (chars behind))
+
+  pub front-whole : length rest ≡ 0 → front ≡ chars text
+  front-whole none = sym (is ∙ ap (λ l. front ++ l) (ap chars (nothing rest none) ∙ chars-nil) ∙ append-nil front)
+
+module _ (f : Form) (p : Properties) (normalizer : Normalizer) (start : Start) (now : BlockState) where
+  pub HasTakenFront-none : (x text : List ℕ) → HasTaken f p normalizer x → Written start now (settled_text f p x) → HasTakenFront f p normalizer start now x text text
+  HasTakenFront-none x text taken written = record {
+    front = [];
+    is_front = refl;
+    taken = subst (HasTaken f p normalizer) (sym (append-nil x)) taken;
+    written = subst (λ y. Written start now (settled_text f p y)) (sym (append-nil x)) written;
+  }
+
+  pub HasTakenFront-more : (x text front rest behind : List ℕ) → chars text ≡ front ++ chars rest → HasTakenFront f p normalizer start now (x ++ front) rest behind
+      → HasTakenFront f p normalizer start now x text behind
+  HasTakenFront-more x text front rest behind is next = record {
+    front = front ++ next.front;
+    is_front = front-more text front rest is next.front behind next.is_front;
+    taken = subst (HasTaken f p normalizer) (append_assoc x front next.front) next.taken;
+    written = subst (λ y. Written start now (settled_text f p y)) (append_assoc x front next.front) next.written;
+  }
+
+  pub TakesOn-more : (base : ℕ) (x text front rest : List ℕ) (r : Result (Unit {0}) Stop) → chars text ≡ front ++ chars rest → TakesOn f p normalizer start now base ((x ++ front) ++ chars rest) r
+      → TakesOn f p normalizer start now base (x ++ chars text) r
+  TakesOn-more base x text front rest r is takes =
+      subst (λ y. TakesOn f p normalizer start now base y r) (front-behind text front rest is x) takes
+
+  pub TakesOn-whole : (base : ℕ) (x text rest : List ℕ) → length rest ≡ 0 → HasTakenFront f p normalizer start now x text rest → TakesOn f p normalizer start now base (x ++ chars text) (Ok tt)
+  TakesOn-whole base x text rest none here =
+      subst (λ y. TakesOn f p normalizer start now base y (Ok tt))
+      (ap (λ l. x ++ l) (front-whole text here.front rest here.is_front none))
+      (TakesOn-all p f normalizer start now base (x ++ here.front) here.taken here.written)

@@ -1,0 +1,34 @@
+use Rattle.std.proofs.Common.{◌≡◌, ℕ, List, [], ◌++◌, refl, sym, ap, ◌∙◌, append-nil, append_assoc}
+use Rattle.std.specs.Prelude.{Result, Ok, Err, MatchResult}
+use Rattle.nf_filter.specs.declared.devices.Failed.{Failed}
+use Rattle.nf_filter.specs.Devices.{SinkState}
+use Rattle.nf_filter.specs.Writes.{Puts, BreaksOff}
+use Rattle.nf_filter.specs.Block.{Start, BlockState, Written, WritesOn}
+use Rattle.nf_filter.proofs.WritesLemmas.{Puts-join, Puts-behind, BreaksOff-join, BreaksOff-behind}
+use Rattle.nf_filter.proofs.PushingLemmas.{Broken-extends}
+use Rattle.nf_filter.proofs.block.Block.push_text.Goals as goal
+
+-- past an empty block
+passed : (start : Start) (now : BlockState) (sink : SinkState) (w bytes : List ℕ) (r : Result (Unit {0}) Failed) → now.kept ≡ [] → Written start now w
+    → MatchResult r (λ _. Puts now.sink sink [] bytes) (λ _. BreaksOff now.sink sink [] bytes) → WritesOn start (record { sink = sink; kept = now.kept }) (w ++ bytes) r
+passed start now sink w bytes r none written puts = next r puts
+  where
+    whole : start.ahead ++ (w ++ bytes) ≡ written.given ++ bytes
+    whole = sym (append_assoc start.ahead w bytes) ∙ ap (λ l. l ++ bytes) (written.text ∙ ap (λ l. written.given ++ l) none ∙ append-nil written.given)
+
+    next : (r : Result (Unit {0}) Failed) → MatchResult r (λ _. Puts now.sink sink [] bytes) (λ _. BreaksOff now.sink sink [] bytes)
+        → WritesOn start (record { sink = sink; kept = now.kept }) (w ++ bytes) r
+    next (Ok _) puts = record {
+      given = written.given ++ bytes;
+      puts = Puts-join written.puts (Puts-behind written.given (written.given ++ bytes) refl puts);
+      text = whole ∙ sym (append-nil (written.given ++ bytes)) ∙ ap (λ l. (written.given ++ bytes) ++ l) (sym none);
+    }
+    next (Err _) breaks = BreaksOff-join written.puts (BreaksOff-behind written.given (start.ahead ++ (w ++ bytes)) whole breaks)
+
+pub returns-in-Err-clause-writes : goal.returns-in-Err-clause-writes
+returns-in-Err-clause-writes g c = λ start w written. Broken-extends _ (record { more = c.args.text.now; text = refl }) (c.in-Err.ensures.writes start w written)
+
+pub returns-clause-writes : goal.returns-clause-writes
+returns-clause-writes g c = λ start w written.
+    let puts = rw c.as_bytes-2.ensures.value at c.put_all.ensures.puts in
+    passed start _ _ w c.args.text.now c.put_all.result c.in_default.ensures.none (c.in_default.ensures.writes start w written) puts

@@ -1,0 +1,62 @@
+use Rattle.std.proofs.Common.{◌≡◌, ℕ, ◌+◌, [], ◌++◌, length, is_some, Some, None, rules, refl, ap, ◌∙◌, subst, arith}
+use Rattle.std.specs.Prelude.{encode_utf8_all}
+use Rattle.std.specs.Str.{IsUtf8, chars}
+use Rattle.std.proofs.lemmas.Bool.{and_from}
+use Rattle.std.proofs.lemmas.List.{length-append}
+use Rattle.std.proofs.lemmas.List.Folds.{list_all-append}
+use Rattle.std.proofs.lemmas.Str.{encodes-append, encodes-chars}
+use Rattle.nf_forms.specs.Properties.{Properties}
+use Rattle.nf_forms.specs.Sound.{is_sound}
+use Rattle.nf_forms.specs.declared.form.Form.TheVariants.{Nfc}
+use Rattle.nf_safe.specs.declared.checker.Checker.{Checker}
+use Rattle.nf_safe.specs.Checker.{place_of, StandsAfter}
+use Rattle.nf_filter.specs.Checks.{HasChecked, Sees, check_stop}
+use Rattle.nf_filter.proofs.CalmLemmas.{few, ends}
+use Rattle.nf_filter.proofs.ChecksLemmas.{counts_from_end, unstopped}
+use Rattle.nf_filter.proofs.checking.pass_calm.Goals as goal
+
+-- the checker that begins anew
+new_checked : (p : Properties) (checker : Checker) (base : ℕ) → StandsAfter base p checker [] → place_of checker ≡ None → HasChecked p checker base []
+new_checked p checker base stands none = record { stands = stands; none = none; sound = refl }
+
+pub unreachable-requires : goal.unreachable-requires
+unreachable-requires g c =
+    let p = g.R.Rows.properties c.args.rows.now in
+    let calm = c.requires.calm in
+    let place = c.offset.result + length c.args.calm.settled.now in
+    let end = chars c.args.calm.tail.now in
+    let stopped : check_stop p place end ≡ Some c.in_default.field-0 =
+    subst (λ r. Sees p c.see_chars.new.checker place end r) c.in_default.is (c.see_chars.ensures.sees place [] (new_checked p c.new-end.result place (c.new-end.ensures.stands p) c.new-end.ensures.place)) in
+    let none = unstopped p Nfc (chars c.args.calm.settled.now) end calm.class calm.count calm.calm calm.sound (ends p Nfc _ _ _ _ calm c.requires.some) place in
+    cc
+
+pub overflow_add-count : goal.overflow_add-count
+overflow_add-count g c =
+    let first : IsUtf8 c.args.calm.settled.now = search rules in
+    let second : IsUtf8 c.args.calm.tail.now = search rules in
+    omega (arith, c.requires.fits, c.char_count.ensures, c.char_count-2.ensures, few _ first, few _ second)
+
+pub go_on_from-requires-clause-fits : goal.go_on_from-requires-clause-fits
+go_on_from-requires-clause-fits g c =
+    let first : IsUtf8 c.args.calm.settled.now = search rules in
+    let second : IsUtf8 c.args.calm.tail.now = search rules in
+    omega (arith, c.in-Ok.ensures.offset, c.new-end.ensures.offset, c.offset.ensures, c.char_count.ensures, c.char_count-2.ensures, few _ first, few _ second)
+
+pub returns-clause-sees : goal.returns-clause-sees
+returns-clause-sees g c = λ base x before.
+    let p = g.R.Rows.properties c.args.rows.now in
+    let calm = c.requires.calm in
+    let place = c.offset.result + length c.args.calm.settled.now in
+    let front = chars c.args.calm.settled.now in
+    let end = chars c.args.calm.tail.now in
+    let first : IsUtf8 c.args.calm.settled.now = search rules in
+    let seen : HasChecked p c.see_chars.new.checker place end =
+    subst (λ r. Sees p c.see_chars.new.checker place end r) c.in-Ok.is (c.see_chars.ensures.sees place [] (new_checked p c.new-end.result place (c.new-end.ensures.stands p) c.new-end.ensures.place)) in
+    let here : place ≡ base + length (encode_utf8_all (x ++ front)) =
+    omega (arith, c.offset.ensures, before.stands.offset (ap is_some c.requires.none), ap length (encodes-append x front), length-append (encode_utf8_all x) (encode_utf8_all front), ap length (encodes-chars _ first)) in
+    record {
+      stands = c.go_on_from.ensures.stands base p x front end before.stands (omega (arith, c.char_count.ensures, c.char_count-2.ensures, length-append front end))
+          (counts_from_end p Nfc front end calm.class calm.count calm.calm calm.sound (ends p Nfc _ _ _ _ calm c.requires.some)) (subst (λ b. StandsAfter b p c.see_chars.new.checker end) here seen.stands);
+      none = c.go_on_from.ensures.none;
+      sound = list_all-append (is_sound p) x (front ++ end) ∙ and_from _ _ before.sound calm.sound;
+    }

@@ -1,0 +1,14 @@
+use Rattle.std.proofs.Common.{◌++◌, rules}
+use Rattle.std.specs.Str.{IsUtf8, chars}
+use Rattle.nf_filter.proofs.TakingLemmas.{chars-three}
+use Rattle.nf_filter.proofs.checking.see_front.Goals as goal
+
+pub returns-clause-sees : goal.returns-clause-sees
+returns-clause-sees g c = λ base x before.
+    let first : IsUtf8 c.calm_front-calm.result.settled.now = search rules in
+    let second : IsUtf8 c.calm_front-calm.result.tail.now = search rules in
+    record {
+      front = chars c.calm_front-calm.result.settled.now ++ chars c.calm_front-calm.result.tail.now;
+      is_front = chars-three _ _ _ _ first second c.calm_front-calm.ensures.text;
+      seen = c.pass_calm.ensures.sees base x before;
+    }

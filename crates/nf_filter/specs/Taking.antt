@@ -1,0 +1,33 @@
+-- What taking a front of a text does.
+use Rattle.std.specs.Prelude.{◌≡◌, true, ℕ, List, ◌++◌, chars, Result, Ok, Err}
+use Rattle.std.specs.Borrow.{Bor}
+use Rattle.nf_forms.specs.Properties.{Properties}
+use Rattle.nf_forms.specs.declared.form.Form.{Form}
+use Rattle.nf_filter.specs.declared.devices.Failed.{Failed}
+use Rattle.nf_filter.specs.declared.normalizer.Normalizer.{Normalizer}
+use Rattle.nf_filter.specs.declared.taker.Stop.{Stop}
+use Rattle.nf_filter.specs.Settled.{is_usable}
+use Rattle.nf_filter.specs.Block.{Start, BlockState, Written, Broken}
+use Rattle.nf_filter.specs.Normalizer.{HasTaken, settled_text, TakesOn}
+
+-- the text z, all of which can be used, was taken, or the sink failed
+abbrev pub TakesUsable : Form → Properties → Normalizer → Start → BlockState → List ℕ → Result (Unit {0}) Failed → Type 0
+TakesUsable f p normalizer start now z (Ok _) = HasTaken f p normalizer z × Written start now (settled_text f p z)
+TakesUsable f p normalizer start now z (Err _) = (is_usable p z ≡ true) × Broken start now (settled_text f p z)
+
+-- the ASCII text y was taken behind x, or the sink failed
+abbrev pub TakesAscii : {T : Type 0} → Form → Properties → Normalizer → Start → BlockState → List ℕ → List ℕ → Result T Failed → Type 0
+TakesAscii f p normalizer start now x y (Ok _) = HasTaken f p normalizer (x ++ y) × Written start now (settled_text f p (x ++ y))
+TakesAscii f p normalizer start now x y (Err _) = (is_usable p (x ++ y) ≡ true) × Broken start now (settled_text f p (x ++ y))
+
+-- behind x a front of the text was taken; `rest` is what stands behind that
+pub record HasTakenFront (f : Form) (p : Properties) (normalizer : Normalizer) (start : Start) (now : BlockState) (x text rest : List ℕ) : Type 0 where
+  pub front : List ℕ
+  pub is_front : chars text ≡ front ++ chars rest
+  pub taken : HasTaken f p normalizer (x ++ front)
+  pub written : Written start now (settled_text f p (x ++ front))
+
+-- so it was, or why not all of the text will be
+abbrev pub TakesFront : Form → Properties → Normalizer → Start → BlockState → ℕ → List ℕ → List ℕ → Result (Bor (List ℕ)) Stop → Type 0
+TakesFront f p normalizer start now base x text (Ok rest) = HasTakenFront f p normalizer start now x text rest.now
+TakesFront f p normalizer start now base x text (Err stop) = TakesOn f p normalizer start now base (x ++ chars text) (Err stop)

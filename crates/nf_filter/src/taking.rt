@@ -1,0 +1,228 @@
+//! How a normalizer takes a text: what of it is calm goes to the sink as it stands, and each other character the ordinary
+//! way.
+ghost use Rattle.std.specs.Prelude.{◌≡◌, ◌↔◌, Err, IsTrue};
+ghost use Rattle.nf_filter.specs.declared.fault.Fault.TheVariants.{Write as WriteFault};
+ghost use Rattle.nf_filter.specs.declared.taker.Stop.TheVariants.{Refused};
+
+use crate::block::Block;
+use crate::devices::{Failed, Sink};
+use crate::fault::Fault;
+use crate::normalizer::Normalizer;
+use crate::taker::{Stop, Taker};
+use nf_row::Rows;
+use nf_utf8::ascii_prefix;
+
+impl Normalizer {
+    ghost use Rattle.std.specs.Prelude.{◌≡◌, ◌+◌, ◌<◌, ◌≤◌, ℕ, List, ◌++◌, length, chars, false, IfOk, IfErr, OnOk, encode_utf8_all};
+    ghost use Rattle.nf_forms.specs.declared.form.Form.{Form};
+    ghost use Rattle.nf_filter.specs.Block.{Start, block_state, Written};
+    ghost use Rattle.nf_filter.specs.Normalizer.{HasTaken, IsWithin, TakesOn, settled_text};
+    ghost use Rattle.nf_filter.specs.Taking.{TakesFront};
+    ghost use Rattle.nf_filter.specs.Taker.{MayStop};
+    ghost use Rattle.nf_utf8.specs.Taking.{first_text, first_bytes};
+
+    /// Takes the first character, where there is one, and the text behind it, which begins with it at the offset `at`.
+    fn take_both<R: Rows, S: Sink>(
+        &mut self,
+        rows: &R,
+        at: u64,
+        first: Option<char>,
+        text: &str,
+        block: &mut Block<'_, S>,
+    ) -> Result<(), Stop>
+        requires within { IsWithin self.old }
+        requires chars { self.old.chars ≤ at }
+        requires fits { at + length (first_bytes first) + length text.now ≤ u64.MAX }
+        ensures within { OnOk result (IsWithin self.new) }
+        ensures form { OnOk result (self.new.form ≡ self.old.form) }
+        ensures chars { OnOk result (self.new.chars ≤ at + length (first_bytes first) + length text.now) }
+        ensures stop { IfErr result (MayStop false) }
+        ensures takes { let p = R.properties rows.now in
+            (f : Form) (base : ℕ) (x : List ℕ) (start : Start) → HasTaken f p self.old x → at ≡ base + length (encode_utf8_all x)
+            → Written start (block_state S.state block.old) (settled_text f p x)
+            → TakesOn f p self.new start (block_state S.state block.new) base (x ++ (first_text first ++ chars text.now)) result }
+        ensures lent { (block.new.sink.ghost_name ≡ block.old.sink.ghost_name) × ((S.state block.new.sink.now).lender ≡ (S.state block.old.sink.now).lender) }
+    {
+        let Some(c) = first else {
+            return self.take_text(rows, at, text, block);
+        };
+        if let Err(refusal) = self.take_char(rows, c, block) {
+            return Err(refusal.at(at));
+        }
+        self.take_text(rows, at + c.len_utf8() as u64, text, block)
+    }
+
+    /// Takes a text that begins at the offset `at`.
+    fn take_text<R: Rows, S: Sink>(
+        &mut self,
+        rows: &R,
+        at: u64,
+        text: &str,
+        block: &mut Block<'_, S>,
+    ) -> Result<(), Stop>
+        requires within { IsWithin self.old }
+        requires chars { self.old.chars ≤ at }
+        requires fits { at + length text.now ≤ u64.MAX }
+        ensures within { OnOk result (IsWithin self.new) }
+        ensures form { OnOk result (self.new.form ≡ self.old.form) }
+        ensures chars { OnOk result (self.new.chars ≤ at + length text.now) }
+        ensures stop { IfErr result (MayStop false) }
+        ensures takes { let p = R.properties rows.now in
+            (f : Form) (base : ℕ) (x : List ℕ) (start : Start) → HasTaken f p self.old x → at ≡ base + length (encode_utf8_all x)
+            → Written start (block_state S.state block.old) (settled_text f p x)
+            → TakesOn f p self.new start (block_state S.state block.new) base (x ++ chars text.now) result }
+        ensures lent { (block.new.sink.ghost_name ≡ block.old.sink.ghost_name) × ((S.state block.new.sink.now).lender ≡ (S.state block.old.sink.now).lender) }
+    {
+        let mut rest = text;
+        while !rest.is_empty() {
+            let place = at + (text.len() - rest.len()) as u64;
+            match self.take_front(rows, place, rest, block) {
+                Ok(behind) => rest = behind,
+                Err(stop) => return Err(stop),
+            }
+        }
+        Ok(())
+    }
+
+    /// Takes a front of a text that begins at the offset `at`: what of it is calm, or else its first character. Answers
+    /// what stands behind.
+    fn take_front<'t, R: Rows, S: Sink>(
+        &mut self,
+        rows: &R,
+        at: u64,
+        text: &'t str,
+        block: &mut Block<'_, S>,
+    ) -> Result<&'t str, Stop>
+        requires some { 0 < length text.now }
+        requires within { IsWithin self.old }
+        requires chars { self.old.chars ≤ at }
+        requires fits { at + length text.now ≤ u64.MAX }
+        ensures shorter { IfOk result (λ rest. length rest.now < length text.now) }
+        ensures within { OnOk result (IsWithin self.new) }
+        ensures form { OnOk result (self.new.form ≡ self.old.form) }
+        ensures chars { IfOk result (λ rest. self.new.chars + length rest.now ≤ at + length text.now) }
+        ensures stop { IfErr result (MayStop false) }
+        ensures takes { let p = R.properties rows.now in
+            (f : Form) (base : ℕ) (x : List ℕ) (start : Start) → HasTaken f p self.old x → at ≡ base + length (encode_utf8_all x)
+            → Written start (block_state S.state block.old) (settled_text f p x)
+            → TakesFront f p self.new start (block_state S.state block.new) base x text.now result }
+        ensures lent { (block.new.sink.ghost_name ≡ block.old.sink.ghost_name) × ((S.state block.new.sink.now).lender ≡ (S.state block.old.sink.now).lender) }
+    {
+        let calm = rows.calm_front(self.form, text);
+        if calm.tail.is_empty() {
+            return self.take_else(rows, at, text, block);
+        }
+        match self.take_calm(rows, calm, block) {
+            Ok(()) => Ok(calm.rest),
+            Err(Failed) => Err(Stop::Refused(Fault::Write)),
+        }
+    }
+
+    /// Takes a front of a text that is not known to be calm: a run of plain ASCII behind a pending character of such, or
+    /// else its first character. Answers what stands behind.
+    fn take_else<'t, R: Rows, S: Sink>(
+        &mut self,
+        rows: &R,
+        at: u64,
+        text: &'t str,
+        block: &mut Block<'_, S>,
+    ) -> Result<&'t str, Stop>
+        requires some { 0 < length text.now }
+        requires within { IsWithin self.old }
+        requires chars { self.old.chars ≤ at }
+        requires fits { at + length text.now ≤ u64.MAX }
+        ensures shorter { IfOk result (λ rest. length rest.now < length text.now) }
+        ensures within { OnOk result (IsWithin self.new) }
+        ensures form { OnOk result (self.new.form ≡ self.old.form) }
+        ensures chars { IfOk result (λ rest. self.new.chars + length rest.now ≤ at + length text.now) }
+        ensures stop { IfErr result (MayStop false) }
+        ensures takes { let p = R.properties rows.now in
+            (f : Form) (base : ℕ) (x : List ℕ) (start : Start) → HasTaken f p self.old x → at ≡ base + length (encode_utf8_all x)
+            → Written start (block_state S.state block.old) (settled_text f p x)
+            → TakesFront f p self.new start (block_state S.state block.new) base x text.now result }
+        ensures lent { (block.new.sink.ghost_name ≡ block.old.sink.ghost_name) × ((S.state block.new.sink.now).lender ≡ (S.state block.old.sink.now).lender) }
+    {
+        let len = ascii_prefix(text.as_bytes());
+        match self.plain_starter() {
+            Some(starter) if len > 0 => match self.take_ascii(rows, starter, text, len, block) {
+                Ok(rest) => Ok(rest),
+                Err(Failed) => Err(Stop::Refused(Fault::Write)),
+            },
+            _ => self.take_first(rows, at, text, block),
+        }
+    }
+
+    /// Takes the first character of a text that begins at the offset `at`. Answers what stands behind.
+    fn take_first<'t, R: Rows, S: Sink>(
+        &mut self,
+        rows: &R,
+        at: u64,
+        text: &'t str,
+        block: &mut Block<'_, S>,
+    ) -> Result<&'t str, Stop>
+        requires some { 0 < length text.now }
+        requires within { IsWithin self.old }
+        requires chars { self.old.chars ≤ at }
+        requires fits { at + length text.now ≤ u64.MAX }
+        ensures shorter { IfOk result (λ rest. length rest.now < length text.now) }
+        ensures within { OnOk result (IsWithin self.new) }
+        ensures form { OnOk result (self.new.form ≡ self.old.form) }
+        ensures chars { IfOk result (λ rest. self.new.chars + length rest.now ≤ at + length text.now) }
+        ensures stop { IfErr result (MayStop false) }
+        ensures takes { let p = R.properties rows.now in
+            (f : Form) (base : ℕ) (x : List ℕ) (start : Start) → HasTaken f p self.old x → at ≡ base + length (encode_utf8_all x)
+            → Written start (block_state S.state block.old) (settled_text f p x)
+            → TakesFront f p self.new start (block_state S.state block.new) base x text.now result }
+        ensures lent { (block.new.sink.ghost_name ≡ block.old.sink.ghost_name) × ((S.state block.new.sink.now).lender ≡ (S.state block.old.sink.now).lender) }
+    {
+        let mut chars = text.chars();
+        let c = chars.next().unwrap();
+        match self.take_char(rows, c, block) {
+            Ok(()) => Ok(chars.as_str()),
+            Err(refusal) => Err(refusal.at(at)),
+        }
+    }
+}
+
+impl Taker for Normalizer {
+    ghost use Rattle.std.specs.Prelude.{Some, false};
+    ghost use Rattle.nf_filter.specs.Normalizer.{HasTaken, ends_at, unusable_at, written_in};
+
+    ghost has_taken = { λ p normalizer base x. HasTaken normalizer.form p normalizer x };
+
+    ghost ends_at = { ends_at };
+
+    ghost form = { λ normalizer. Some normalizer.form };
+
+    ghost stops = { unusable_at };
+
+    ghost gives = { written_in };
+
+    ghost finds = { false };
+
+    fn take<R: Rows, S: Sink>(
+        &mut self,
+        rows: &R,
+        at: u64,
+        first: Option<char>,
+        text: &str,
+        sink: &mut S,
+    ) -> Result<(), Stop> {
+        let mut block = Block::over(sink, self.is_plain);
+        let taken = self.take_both(rows, at, first, text, &mut block);
+        if is_broken(taken) {
+            return taken;
+        }
+        match block.empty() {
+            Ok(()) => taken,
+            Err(Failed) => Err(Stop::Refused(Fault::Write)),
+        }
+    }
+}
+
+/// Whether the sink failed: it is not touched again then.
+fn is_broken(taken: Result<(), Stop>) -> bool
+    ensures { IsTrue result ↔ (taken ≡ Err (Refused WriteFault)) }
+{
+    matches!(taken, Err(Stop::Refused(Fault::Write)))
+}

@@ -1,0 +1,254 @@
+//! Text that a form leaves as it stands, broken by what it does not: at each length, and about the end of a block.
+use crate::both_ways::{BASE, same_both_ways};
+use crate::parts::{FORMS, joined};
+use nf_filter::Fault;
+use nf_row::Form;
+use std::alloc::{AllocError, Global};
+use std::process::Abort;
+use std::test::Fail;
+
+/// Text that is calm in some form, of each width in bytes; with marks in order too.
+pub const CALM: [&str; 10] = [
+    "a",
+    "\u{E9}",
+    "\u{43B}",
+    "\u{6F22}",
+    "\u{AC00}",
+    "\u{D55C}",
+    "\u{1F600}",
+    "\u{5D1}\u{5B0}",
+    "\u{628}\u{650}\u{651}",
+    "\u{915}\u{93F}",
+];
+
+/// What breaks it, each so many times.
+pub const BREAKS: [(&str, usize); 34] = [
+    // Marks that compose, that do not, that stand out of order, and long runs of them.
+    ("\u{301}", 1),
+    ("\u{316}", 1),
+    ("\u{5B0}", 1),
+    ("\u{301}\u{316}", 1),
+    ("\u{651}\u{650}", 1),
+    ("\u{301}", 12),
+    ("\u{301}", 13),
+    ("\u{301}", 30),
+    ("\u{301}", 31),
+    ("\u{316}", 12),
+    ("\u{316}", 13),
+    ("\u{316}", 30),
+    ("\u{316}", 31),
+    ("\u{301}\u{316}", 16),
+    ("\u{316}\u{301}", 31),
+    // Marks of other rows, and starters that decompose to marks.
+    ("\u{340}", 1),
+    ("\u{344}", 1),
+    ("\u{344}", 16),
+    ("\u{F73}", 1),
+    ("\u{F73}", 16),
+    ("\u{FF9E}", 1),
+    ("\u{FF9E}", 31),
+    ("\u{34F}", 1),
+    // Starters that compose with what stands before them.
+    ("\u{1161}", 1),
+    ("\u{1112}\u{1161}\u{11AB}", 1),
+    ("\u{11A8}", 1),
+    ("\u{9C7}\u{9BE}", 1),
+    // Starters with other rows.
+    ("\u{958}", 1),
+    ("\u{FDFA}", 1),
+    ("\u{212B}", 1),
+    ("\u{FB01}", 1),
+    ("\u{B4}", 1),
+    ("\u{1E9B}\u{323}", 1),
+    ("\u{AC01}", 1),
+];
+
+/// How many bytes a block has.
+const BLOCK: usize = 4096;
+
+/// Calm text of so many bytes, behind ASCII where its characters do not come out.
+fn filled(alloc: Global, calm: &str, len: usize) -> Result<Vec<u8>, AllocError> {
+    let width = calm.len().max(1);
+    joined(alloc, &[("b", len % width), (calm, len / width)])
+}
+
+/// Calm text of `len` bytes, what breaks it, a little calm text, and the break again: there it shows what calm text leaves
+/// of a count.
+#[derive(Clone, Copy)]
+struct Seam<'a> {
+    calm: &'a str,
+    len: usize,
+    broken_by: (&'a str, usize),
+}
+
+impl Seam<'_> {
+    fn text(self, alloc: Global) -> Result<Vec<u8>, AllocError> {
+        let mut text = filled(alloc, self.calm, self.len)?;
+        let behind = joined(alloc, &[self.broken_by, (self.calm, 12), self.broken_by])?;
+        text.extend_from_slice(behind.as_slice())?;
+        Ok(text)
+    }
+
+    /// The bytes of what breaks it.
+    fn width(self) -> usize {
+        let (other, times) = self.broken_by;
+        other.len().saturating_mul(times)
+    }
+}
+
+/// Checks the text in one piece.
+fn check_whole(
+    rt: &impl Abort,
+    alloc: Global,
+    form: Form,
+    seam: Seam<'_>,
+) -> Result<(), AllocError> {
+    let text = seam.text(alloc)?;
+    let answer = same_both_ways(rt, alloc, form, &[text.as_slice()]);
+    assert!(rt; answer.is_ok(), "{form:?}: {answer:?}");
+    Ok(())
+}
+
+/// Checks the text in two pieces, cut at each byte from 8 before the break to 8 behind it.
+fn check_cuts(
+    rt: &impl Abort,
+    alloc: Global,
+    form: Form,
+    seam: Seam<'_>,
+) -> Result<(), AllocError> {
+    let text = seam.text(alloc)?;
+    let last = seam.len.saturating_add(seam.width()).saturating_add(8);
+    for at in seam.len.saturating_sub(8)..=last.min(text.len()) {
+        let (front, back) = text.split_at(at);
+        let answer = same_both_ways(rt, alloc, form, &[front, back]);
+        assert!(rt; answer.is_ok(), "{form:?}, cut at {at}: {answer:?}");
+    }
+    Ok(())
+}
+
+#[test]
+fn calm_text_of_each_length_is_broken(rt: HostRuntime) -> Result<(), Fail> {
+    let alloc = rt.alloc();
+    for calm in CALM {
+        for broken_by in BREAKS {
+            for form in FORMS {
+                for len in 0..=100 {
+                    let seam = Seam {
+                        calm,
+                        len,
+                        broken_by,
+                    };
+                    check_whole(&rt, alloc, form, seam)?;
+                    if len == 40 {
+                        check_cuts(&rt, alloc, form, seam)?;
+                    }
+                }
+            }
+        }
+    }
+    Ok(())
+}
+
+/// ASCII meets each break at each place about the end of a block, in two forms in turn. Other calm text meets each break
+/// in each form at one place, and at each place some break.
+#[test]
+fn calm_text_is_broken_about_the_end_of_a_block(rt: HostRuntime) -> Result<(), Fail> {
+    for (i, calm) in CALM.iter().enumerate() {
+        let turns = if i == 0 { 2 } else { 81 };
+        for (j, broken_by) in BREAKS.iter().enumerate() {
+            for (k, form) in FORMS.iter().enumerate() {
+                for len in BLOCK - 40..=BLOCK + 40 {
+                    if (len + i + 4 * j + k) % turns == 0 {
+                        let seam = Seam {
+                            calm,
+                            len,
+                            broken_by: *broken_by,
+                        };
+                        check_whole(&rt, rt.alloc(), *form, seam)?;
+                    }
+                }
+            }
+        }
+    }
+    Ok(())
+}
+
+#[test]
+fn pieces_end_about_a_break_at_the_end_of_a_block(rt: HostRuntime) -> Result<(), Fail> {
+    for (i, broken_by) in BREAKS.iter().enumerate() {
+        for (k, form) in FORMS.iter().enumerate() {
+            // Each break in one form in turn.
+            if (i + k) % 4 == 0 {
+                let seam = Seam {
+                    calm: "a",
+                    len: BLOCK,
+                    broken_by: *broken_by,
+                };
+                check_cuts(&rt, rt.alloc(), *form, seam)?;
+            }
+        }
+    }
+    Ok(())
+}
+
+/// Bytes that are ill-formed behind a character, and the place in them of the first that is.
+const BAD: [(&[u8], u64); 8] = [
+    (b"\xFF", 0),
+    (b"\x80", 0),
+    (b"\xC0\x80", 0),
+    (b"\xC3(", 1),
+    (b"\xE2\x82(", 2),
+    (b"\xED\xA0\x80", 1),
+    (b"\xF0\x90\x80\xC0", 3),
+    (b"\xF4\x90", 1),
+];
+
+/// Bytes of a character that is not whole.
+const BEGUN: [&[u8]; 4] = [b"\xC3", b"\xE2\x82", b"\xF0\x9F", b"\xF0\x9F\x98"];
+
+/// Lengths of calm text before bytes that are no text.
+const LENGTHS: [usize; 13] = [0, 1, 2, 3, 15, 16, 17, 31, 32, 33, 64, 100, 4096];
+
+#[test]
+fn ill_formed_bytes_have_their_places_behind_calm_text(rt: HostRuntime) -> Result<(), Fail> {
+    let alloc = rt.alloc();
+    for calm in CALM {
+        for len in LENGTHS {
+            let text = filled(alloc, calm, len)?;
+            let start = BASE + len as u64;
+            for (bad, place) in BAD {
+                let fault = Fault::BadByte {
+                    at: start + place,
+                    start,
+                };
+                check_fault(&rt, alloc, &text, bad, calm, fault)?;
+            }
+            for begun in BEGUN {
+                let at = start + begun.len() as u64;
+                check_fault(&rt, alloc, &text, begun, "", Fault::Cut { at, start })?;
+            }
+        }
+    }
+    Ok(())
+}
+
+/// Checks that bytes behind a text are refused in that way, in one piece and in two, cut at each place about them.
+fn check_fault(
+    rt: &impl Abort,
+    alloc: Global,
+    text: &[u8],
+    bad: &[u8],
+    behind: &str,
+    fault: Fault,
+) -> Result<(), AllocError> {
+    let bytes = [text, bad, behind.as_bytes()].concat(alloc)?;
+    let bytes = bytes.as_slice();
+    let end = text.len().saturating_add(bad.len()).min(bytes.len());
+    for form in FORMS {
+        for at in text.len().saturating_sub(4)..=end {
+            let (front, back) = bytes.split_at(at);
+            assert_eq!(rt; same_both_ways(rt, alloc, form, &[front, back]), Err(fault));
+        }
+    }
+    Ok(())
+}
