@@ -142,13 +142,16 @@ impl Normalizer {
             → TakesFront f p self.new start (block_state S.state block.new) base x text.now result }
         ensures lent { (block.new.sink.ghost_name ≡ block.old.sink.ghost_name) × ((S.state block.new.sink.now).lender ≡ (S.state block.old.sink.now).lender) }
     {
+        let Some(starter) = self.plain_starter() else {
+            return self.take_first(rows, at, text, block);
+        };
         let len = ascii_prefix(text.as_bytes());
-        match self.plain_starter() {
-            Some(starter) if len > 0 => match self.take_ascii(rows, starter, text, len, block) {
-                Ok(rest) => Ok(rest),
-                Err(Failed) => Err(Stop::Refused(Fault::Write)),
-            },
-            _ => self.take_first(rows, at, text, block),
+        if len == 0 {
+            return self.take_first(rows, at, text, block);
+        }
+        match self.take_ascii(rows, starter, text, len, block) {
+            Ok(rest) => Ok(rest),
+            Err(Failed) => Err(Stop::Refused(Fault::Write)),
         }
     }
 
