@@ -11,3 +11,6 @@ mod Marks
 mod Ranges
 mod PlainRanges
 mod Ascii
+mod Rows
+mod LineFeed
+mod Lost

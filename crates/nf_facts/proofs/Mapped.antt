@@ -15,6 +15,7 @@ use Rattle.unicode_normalization.proofs.DecomposeLemmas.{decompose-other, decomp
 use Rattle.unicode_normalization.proofs.TableFacts.{Tables, by_rows, full, pick, is_final}
 use Rattle.nf_forms.specs.Properties.{Properties}
 use Rattle.nf_forms.specs.Runs.{lead}
+use Rattle.nf_forms.specs.Ordering.{is_ordered}
 use Rattle.nf_forms.specs.Sound.{ends_within, marks_agree}
 use Rattle.nf_forms.specs.Ucd.{ucd}
 use Rattle.nf_facts.specs.Passing.{is_among, halfwidth_marks, vowel_signs, mapped_marks}
@@ -51,9 +52,14 @@ begins_so t c compat =
 abbrev is_starter_so : Tables → ℕ → Bool
 is_starter_so t c = t.class c == 0 || is_among mapped_marks c
 
+-- both rows are in canonical order
+abbrev in_order : Properties → List ℕ → List ℕ → Bool
+in_order p canonical compat = is_ordered p canonical && is_ordered p compat
+
 passes_all : Tables → ℕ → List ℕ → List ℕ → Bool
 passes_all t c canonical compat =
-    (ends_agree (classes_of t) canonical compat && is_within t canonical compat) && (begins_so t c compat && is_starter_so t c)
+    ((ends_agree (classes_of t) canonical compat && is_within t canonical compat) && (begins_so t c compat && is_starter_so t c))
+    && in_order (classes_of t) canonical compat
 
 abbrev row_passes : Tables → ℕ → Bool
 row_passes t c = passes_all t c (or_itself c (full t Nfd c)) (full t Nfkd c)
@@ -72,13 +78,17 @@ pub record IsMapped (c : ℕ) : Type 0 where
   pub fixed : list_all (is_fixed_by by_rows) (decompose Nfd c) ≡ true
   pub begins : ccc c ≡ 0 → is_among vowel_signs c ≡ false → is_among halfwidth_marks c ≡ false → lead ucd (decompose Nfkd c) ≡ 0
   pub starter : is_among mapped_marks c ≡ false → ccc c ≡ 0
+  pub canonical_ordered : is_ordered ucd (decompose Nfd c) ≡ true
+  pub compat_ordered : is_ordered ucd (decompose Nfkd c) ≡ true
 
 mapped : (c : ℕ) → is_syllable c ≡ false → is_empty (pick Nfkd (decomposition c)) ≡ false → IsMapped c
 unfolding ucd passes_all
 mapped c other some =
     let rows : passes_all by_rows c (decompose Nfd c) (decompose Nfkd c) ≡ true =
     ap₂ (passes_all by_rows c) (decompose-other Nfd c other) (decompose-mapped Nfkd c other some) ∙ computed c some in
-    let all = and_parts _ _ rows in
+    let both = and_parts _ _ rows in
+    let all = and_parts _ _ both.0 in
+    let ordered = and_parts _ _ both.1 in
     let first = and_parts _ _ all.0 in
     let second = and_parts _ _ all.1 in
     let within = and_parts _ _ first.1 in
@@ -88,6 +98,8 @@ mapped c other some =
       fixed = within.1;
       begins = λ starter sign mark. eqb-true _ 0 (fourth (ccc c == 0) (is_among vowel_signs c) (is_among halfwidth_marks c) _ second.0 (eq-eqb (ccc c) 0 starter) sign mark);
       starter = λ mark. eqb-true (ccc c) 0 (first_of (ccc c == 0) (is_among mapped_marks c) second.1 mark);
+      canonical_ordered = ordered.0;
+      compat_ordered = ordered.1;
     }
   where
     fourth : (a b d e : Bool) → (not a || (b || (d || e))) ≡ true → a ≡ true → b ≡ false → d ≡ false → e ≡ true

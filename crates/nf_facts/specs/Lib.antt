@@ -3,3 +3,4 @@ pub mod After
 pub mod Passing
 pub mod Plain
 pub mod PlainRanges
+pub mod LineFeed

@@ -1,6 +1,6 @@
 //! Facts of Unicode's data, each the contract of a function without a body. `ucd` is that data, in the words of
 //! `nf_forms`; `kit_form` names a form as `unicode_normalization` does.
-ghost use Rattle.std.specs.Prelude.{◌≡◌, ◌≢◌, ◌<◌, ℕ, false, List, [], ◌∷◌, flat_map, IsTrue};
+ghost use Rattle.std.specs.Prelude.{◌≡◌, ◌≢◌, ◌<◌, ◌≤◌, ℕ, false, List, [], ◌∷◌, ◌++◌, flat_map, IsTrue};
 ghost use Rattle.std.specs.List.{All};
 ghost use Rattle.ucd_table.specs.Rows.{in_ranges};
 ghost use Rattle.ucd_normal.specs.CanonicalCombiningClass.{canonical_combining_class};
@@ -11,16 +11,23 @@ ghost use Rattle.unicode_normalization.specs.StreamSafe.{stream_safe as kit_stre
 ghost use Rattle.nf_forms.specs.Properties.{is_nonstarter};
 ghost use Rattle.nf_forms.specs.Runs.{lead};
 ghost use Rattle.nf_forms.specs.declared.form.Form.{Form};
+ghost use Rattle.nf_forms.specs.declared.form.Form.TheVariants.{Nfkd};
 ghost use Rattle.nf_forms.specs.Forms.{normal_form};
+ghost use Rattle.nf_forms.specs.Ordering.{is_ordered};
+ghost use Rattle.nf_forms.specs.Compose.{composite};
+ghost use Rattle.nf_forms.specs.Cluster.{IsOwnRow};
 ghost use Rattle.nf_forms.specs.StreamSafe.{stream_safe};
 ghost use Rattle.nf_forms.specs.SafeForm.{safe_form};
 ghost use Rattle.nf_forms.specs.Sound.{is_sound};
+ghost use Rattle.nf_forms.specs.Audit.{IsAudited};
 ghost use Rattle.nf_forms.specs.Ucd.{ucd};
 ghost use Rattle.nf_forms.specs.Parting.{NeverSecond, IsParting};
+ghost use Rattle.nf_forms.specs.Closing.{IsClosing};
 ghost use Rattle.nf_forms.specs.Calm.{IsMark};
 ghost use Rattle.nf_forms.specs.Laws.Sound.{IsSoundText};
 ghost use Rattle.nf_facts.specs.KitForm.{kit_form};
 ghost use Rattle.nf_facts.specs.After.{after};
+ghost use Rattle.nf_facts.specs.LineFeed.{line_feed};
 ghost use Rattle.nf_facts.specs.Passing.{is_among, halfwidth_marks, vowel_signs, mapped_marks, passes_check};
 ghost use Rattle.nf_facts.specs.Plain.{IsPlain};
 ghost use Rattle.nf_facts.specs.PlainRanges.{plain_ranges};
@@ -62,7 +69,7 @@ pub fn the_quick_check_tells()
     ensures never_second { (f : Form) (c : ℕ) → quick_check (kit_form f) c ≡ Yes → NeverSecond ucd f c }
 {}
 
-/// In these ranges every character passes: whole blocks of UTF-8 lead bytes, a list for each form.
+/// In these ranges, which the first bytes of a character in UTF-8 can tell, every character passes: a list for each form.
 #[inline]
 pub fn plain_ranges_pass()
     ensures { (f : Form) (c : ℕ) → IsTrue (in_ranges (plain_ranges f) c) → IsTrue (passes_check f c) }
@@ -94,4 +101,54 @@ pub fn two_forms_are_one()
 pub fn a_second_filter_changes_nothing()
     ensures safe { (f : Form) (x : List ℕ) → stream_safe ucd (safe_form f ucd x) ≡ safe_form f ucd x }
     ensures form { (f : Form) (x : List ℕ) → safe_form f ucd (safe_form f ucd x) ≡ safe_form f ucd x }
+{}
+
+/// Unicode's data passes the audit: every character is sound, its rows are full, and the canonical one lies within the
+/// compatibility one.
+#[inline]
+pub fn the_data_is_audited()
+    ensures { IsAudited ucd }
+{}
+
+/// Each decomposition is in canonical order (The Unicode Standard, section 3.11, D109).
+#[inline]
+pub fn rows_are_ordered()
+    ensures canonical { (c : ℕ) → IsTrue (is_ordered ucd (ucd.canonical c)) }
+    ensures compat { (c : ℕ) → IsTrue (is_ordered ucd (ucd.compat c)) }
+{}
+
+/// What passes the quick check of NFKD decomposes no further, in any form (UAX #15, section 9).
+#[inline]
+pub fn what_passes_in_nfkd_is_its_own_row()
+    ensures { (c : ℕ) → quick_check (kit_form Nfkd) c ≡ Yes → IsOwnRow ucd c }
+{}
+
+/// Whatever the table of composites has for two characters is a starter, and so their primary composite (The Unicode
+/// Standard, section 3.11, D114).
+#[inline]
+pub fn each_pair_has_a_primary_composite()
+    ensures { (a b : ℕ) → composite ucd a b ≡ ucd.pair a b }
+{}
+
+/// A text may be cut behind each line feed (U+000A), and each part brought into the form by itself, whatever the parts are.
+#[inline]
+pub fn lines_are_formed_alone()
+    ensures closing { (f : Form) → IsClosing ucd f line_feed }
+    ensures form { (f : Form) (x y : List ℕ)
+        → safe_form f ucd ((x ++ line_feed ∷ []) ++ y) ≡ safe_form f ucd (x ++ line_feed ∷ []) ++ safe_form f ucd y }
+{}
+
+/// Behind a canonical form each form can be had as of the source, and behind any form the compatibility forms can. Behind
+/// NFKC and NFKD the canonical forms cannot: some text comes out otherwise, as U+FB01, of which they have two letters.
+#[inline]
+pub fn a_later_form_may_come_too_late()
+    ensures direct { (f g : Form) → after g f ≡ g → (x : List ℕ) → safe_form g ucd (safe_form f ucd x) ≡ safe_form g ucd x }
+    ensures lost { (f g : Form) → after g f ≢ g → (x : List ℕ) × (safe_form g ucd (safe_form f ucd x) ≢ safe_form g ucd x) }
+{}
+
+/// The conjoining Hangul letters (The Unicode Standard, section 3.12) are starters, and decompose no further.
+#[inline]
+pub fn hangul_letters_are_their_own_rows()
+    ensures starter { (c : ℕ) → 0x1100 ≤ c → c < 0x1200 → canonical_combining_class c ≡ 0 }
+    ensures own { (c : ℕ) → 0x1100 ≤ c → c < 0x1200 → IsOwnRow ucd c }
 {}

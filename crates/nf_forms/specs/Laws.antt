@@ -12,3 +12,8 @@ pub mod MarkBehind
 pub mod Calm
 pub mod CalmSteps
 pub mod CalmEnd
+pub mod Closed
+pub mod Closing
+pub mod Audited
+pub mod ClosedForms
+pub mod Cluster

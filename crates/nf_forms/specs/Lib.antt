@@ -8,7 +8,11 @@ pub mod Forms
 pub mod StreamSafe
 pub mod SafeForm
 pub mod Parting
+pub mod Closing
 pub mod Calm
 pub mod Sound
+pub mod Closed
+pub mod Audit
+pub mod Cluster
 pub mod Ucd
 pub mod Laws

@@ -24,6 +24,11 @@ pub record CountsAnew (p : Properties) (c : ℕ) : Type 0 where
   pub lead : lead p (p.compat c) ≡ 0
   pub some : has_starter p (p.compat c) ≡ true
 
+-- a text may be cut before it
+pub record IsBoundary (p : Properties) (f : Form) (c : ℕ) : Type 0 where
+  pub anew : BeginsAnew p f c
+  pub counts : CountsAnew p c
+
 -- a starter of both kinds, whose form alone is itself
 pub record IsParting (p : Properties) (f : Form) (c : ℕ) : Type 0 where
   pub starts : is_starter p c ≡ true

@@ -1,17 +1,20 @@
 //! Laws of the definitions, each the contract of a function without a body.
-ghost use Rattle.std.specs.Prelude.{◌≡◌, ◌≤◌, ℕ, List, [], ◌∷◌, ◌++◌};
+ghost use Rattle.std.specs.Prelude.{◌≡◌, ◌≤◌, ℕ, false, List, [], ◌∷◌, ◌++◌, IsTrue};
+ghost use Rattle.std.specs.Str.{all_scalars};
 ghost use Rattle.nf_forms.specs.Properties.{Properties};
 ghost use Rattle.nf_forms.specs.Runs.{trail};
 ghost use Rattle.nf_forms.specs.Front.{front};
 ghost use Rattle.nf_forms.specs.Order.{order};
 ghost use Rattle.nf_forms.specs.Ordering.{IsOrderingOf};
 ghost use Rattle.nf_forms.specs.declared.form.Form.{Form};
-ghost use Rattle.nf_forms.specs.declared.form.Form.TheVariants.{Nfkd};
-ghost use Rattle.nf_forms.specs.Forms.{row_of, decomposed, finished};
+ghost use Rattle.nf_forms.specs.declared.form.Form.TheVariants.{Nfd, Nfkd};
+ghost use Rattle.nf_forms.specs.Forms.{row_of, decomposed, composes, finished, normal_form};
 ghost use Rattle.nf_forms.specs.StreamSafe.{stream_safe};
 ghost use Rattle.nf_forms.specs.SafeForm.{safe_form};
 ghost use Rattle.nf_forms.specs.Parting.{BeginsAnew, IsParting};
+ghost use Rattle.nf_forms.specs.Closing.{IsClosing};
 ghost use Rattle.nf_forms.specs.Calm.{IsCalm, CalmEnd};
+ghost use Rattle.nf_forms.specs.Audit.{IsAudited};
 ghost use Rattle.nf_forms.specs.Laws.Sound.{IsSoundText};
 
 /// Canonical ordering makes of a text an ordered one in which the starters, and the non-starters of each class between
@@ -58,4 +61,24 @@ pub fn calm_text_goes_on_from_its_end()
     ensures count { (p : Properties) (f : Form) (c : ℕ) (cs : List ℕ) (class count : ℕ) → IsCalm p f (c ∷ cs) class count → (end : CalmEnd p f (c ∷ cs))
         (x : List ℕ) → IsSoundText p (stream_safe p x) → trail p (decomposed Nfkd p (stream_safe p (x ++ c ∷ cs)))
         ≡ trail p (decomposed Nfkd p (end.last ∷ end.marks)) }
+{}
+
+/// Over audited data a text of scalar values and its NFD have one NFKD, and what a filter writes in NFD or NFKD is
+/// stream-safe and unchanged when it is brought into that form again: a second filter changes nothing.
+pub fn a_second_decomposition_changes_nothing()
+    ensures nfkd { (p : Properties) → IsAudited p → (x : List ℕ) → IsTrue (all_scalars x)
+        → normal_form Nfkd p (normal_form Nfd p x) ≡ normal_form Nfkd p x }
+    ensures safe { (p : Properties) → IsAudited p → (f : Form) → composes f ≡ false → (x : List ℕ) → IsTrue (all_scalars x)
+        → stream_safe p (safe_form f p x) ≡ safe_form f p x }
+    ensures form { (p : Properties) → IsAudited p → (f : Form) → composes f ≡ false → (x : List ℕ) → IsTrue (all_scalars x)
+        → safe_form f p (safe_form f p x) ≡ safe_form f p x }
+{}
+
+/// A text may be cut behind a character that closes it, as at the end of a line, and each part brought into the form by
+/// itself, whatever the parts are.
+pub fn a_text_may_be_cut_behind()
+    ensures safe { (p : Properties) (f : Form) (c : ℕ) → IsClosing p f c → (x y : List ℕ)
+        → stream_safe p ((x ++ c ∷ []) ++ y) ≡ stream_safe p (x ++ c ∷ []) ++ stream_safe p y }
+    ensures form { (p : Properties) (f : Form) (c : ℕ) → IsClosing p f c → (x y : List ℕ)
+        → safe_form f p ((x ++ c ∷ []) ++ y) ≡ safe_form f p (x ++ c ∷ []) ++ safe_form f p y }
 {}

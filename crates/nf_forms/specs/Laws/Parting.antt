@@ -28,14 +28,14 @@ module _ (p : Properties) where
   unfolding by_class
   order-boundary w s v starts = order_after-at p [] w s v starts ∙ ap (λ k. order p w ++ k) (sym (order_after-at p [] [] s v starts))
 
-  joined-none : (a : ℕ) (m : List ℕ) (s : ℕ) → composite p a s ≡ None → joined p a m s ≡ None
+  pub joined-none : (a : ℕ) (m : List ℕ) (s : ℕ) → composite p a s ≡ None → joined p a m s ≡ None
   joined-none a m s none = next (is_blocked p m s)
     where
       next : (b : Bool) → cond b None (composite p a s) ≡ None
       next true = refl
       next false = none
 
-  step-never_second : (z : List ℕ) (s : ℕ) → ((a : ℕ) → composite p a s ≡ None) → compose_step p z s ≡ z ++ s ∷ []
+  pub step-never_second : (z : List ℕ) (s : ℕ) → ((a : ℕ) → composite p a s ≡ None) → compose_step p z s ≡ z ++ s ∷ []
   step-never_second z s never = ⊎_elim (λ some. at (last_starter p z some)) (compose_step-none p z s) (cases_Bool (has_starter p z))
     where
       at : EndsInGroup p z → compose_step p z s ≡ z ++ s ∷ []
@@ -45,7 +45,7 @@ module _ (p : Properties) where
           ∙ sym (append_assoc r.before (r.starter ∷ r.marks) (s ∷ [])))
 
   -- a step reads no more than what stands from the last starter on
-  step-behind : (z u : List ℕ) (c : ℕ) → has_starter p u ≡ true → (compose_step p (z ++ u) c ≡ z ++ compose_step p u c) × (has_starter p (compose_step p u c) ≡ true)
+  pub step-behind : (z u : List ℕ) (c : ℕ) → has_starter p u ≡ true → (compose_step p (z ++ u) c ≡ z ++ compose_step p u c) × (has_starter p (compose_step p u c) ≡ true)
   step-behind z u c some = at (last_starter p u some)
     where
       kept : (b : List ℕ) (s : ℕ) (m : List ℕ) (o : Option ℕ) → is_starter p s ≡ true → joined p s m c ≡ o → has_starter p (b ++ replaced o s m c) ≡ true
@@ -69,23 +69,35 @@ module _ (p : Properties) where
       let step = step-behind z u c some in
       ap (λ k. fold (compose_step p) k v) step.0 ∙ fold-behind z (compose_step p u c) v step.1
 
+  -- a starter stays one, or becomes another
+  fold-some : (u v : List ℕ) → has_starter p u ≡ true → has_starter p (fold (compose_step p) u v) ≡ true
+  fold-some u [] some = some
+  fold-some u (c ∷ v) some = fold-some (compose_step p u c) v (step-behind [] u c some).1
+
   pub compose-boundary : (w : List ℕ) (s : ℕ) (v : List ℕ) → is_starter p s ≡ true → ((a : ℕ) → composite p a s ≡ None) → compose p (w ++ s ∷ v) ≡ compose p w ++ compose p (s ∷ v)
   compose-boundary w s v starts never =
       fold-append (compose_step p) [] w (s ∷ v)
       ∙ ap (λ k. fold (compose_step p) k v) (step-never_second (compose p w) s never)
       ∙ fold-behind (compose p w) (s ∷ []) v (or_left _ _ starts)
 
-  pub arranged-boundary : (b : Bool) (w : List ℕ) (s : ℕ) (v : List ℕ) → is_starter p s ≡ true → (b ≡ true → (a : ℕ) → composite p a s ≡ None) → arranged b p (w ++ s ∷ v) ≡ arranged b p w ++ arranged b p (s ∷ v)
+  -- the first starter stays where it is
+  order-first : (s : ℕ) (v : List ℕ) → is_starter p s ≡ true → (rest : List ℕ) × (order p (s ∷ v) ≡ s ∷ rest)
   unfolding by_class
+  order-first s v starts = (order p v, cond-true _ _ _ starts)
+
+  pub arranged-boundary : (b : Bool) (w : List ℕ) (s : ℕ) (v : List ℕ) → is_starter p s ≡ true → (b ≡ true → (a : ℕ) → composite p a s ≡ None) → arranged b p (w ++ s ∷ v) ≡ arranged b p w ++ arranged b p (s ∷ v)
   arranged-boundary false w s v starts never = order-boundary w s v starts
   arranged-boundary true w s v starts never =
-      let alone = order_from s v starts in
+      let alone = order-first s v starts in
       ap (compose p) (order-boundary w s v starts ∙ ap (λ k. order p w ++ k) alone.1)
       ∙ compose-boundary (order p w) s alone.0 starts (never refl)
       ∙ ap (λ k. compose p (order p w) ++ compose p k) (sym alone.1)
-    where
-      order_from : (s : ℕ) (v : List ℕ) → is_starter p s ≡ true → (rest : List ℕ) × (order p (s ∷ v) ≡ s ∷ rest)
-      order_from s v starts = (order p v, cond-true _ _ _ starts)
+
+  pub has_starter-arranged : (b : Bool) (s : ℕ) (v : List ℕ) → is_starter p s ≡ true → has_starter p (arranged b p (s ∷ v)) ≡ true
+  has_starter-arranged false s v starts = ap (has_starter p) (order-first s v starts).1 ∙ or_left _ _ starts
+  has_starter-arranged true s v starts =
+      let alone = order-first s v starts in
+      ap (λ k. has_starter p (compose p k)) alone.1 ∙ fold-some (s ∷ []) alone.0 (or_left _ _ starts)
 
   pub finished-boundary : (f : Form) (c : ℕ) → BeginsAnew p f c → (w v : List ℕ) → finished f p (w ++ (row_of f p c ++ v)) ≡ finished f p w ++ finished f p (row_of f p c ++ v)
   finished-boundary f c r w v =
@@ -103,7 +115,7 @@ module _ (p : Properties) where
   abbrev pub last_run : List ℕ → ℕ
   last_run out = trail p (decomposed Nfkd p out)
 
-  run-behind : (o z : List ℕ) → has_starter p (decomposed Nfkd p z) ≡ true → last_run (o ++ z) ≡ last_run z
+  pub run-behind : (o z : List ℕ) → has_starter p (decomposed Nfkd p z) ≡ true → last_run (o ++ z) ≡ last_run z
   run-behind o z some = ap (trail p) (decomposed-append p Nfkd o z) ∙ trail-append p (decomposed Nfkd p o) (decomposed Nfkd p z) ∙ cond-true _ _ _ some
 
   safe-step-behind : (o z : List ℕ) (c : ℕ) → has_starter p (decomposed Nfkd p z) ≡ true → safe_step p (o ++ z) c ≡ o ++ safe_step p z c

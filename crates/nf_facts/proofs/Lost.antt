@@ -1,0 +1,47 @@
+-- What a compatibility form takes from a text is not there for a canonical form behind it: the ligature U+FB01.
+use Rattle.std.proofs.Common.{◌≡◌, ◌≢◌, ℕ, List, [], ◌∷◌, refl, sym, ap, ◌∙◌}
+use Rattle.unicode_normalization.proofs.Computing.{unicode_normalization}
+use Rattle.nf_forms.specs.declared.form.Form.{Form}
+use Rattle.nf_forms.specs.declared.form.Form.TheVariants.{Nfc, Nfd, Nfkc, Nfkd}
+use Rattle.nf_forms.specs.Order.{by_class}
+use Rattle.nf_forms.specs.SafeForm.{safe_form}
+use Rattle.nf_forms.specs.Ucd.{ucd}
+use Rattle.nf_facts.specs.After.{after}
+use Rattle.nf_facts.proofs.FormsAfter.{safe_form-after}
+
+ligature : List ℕ
+ligature = 0xFB01 ∷ []
+
+in_nfc : safe_form Nfc ucd ligature ≡ 0xFB01 ∷ []
+unfolding ligature safe_form by_class ucd unicode_normalization
+in_nfc = refl
+
+in_nfd : safe_form Nfd ucd ligature ≡ 0xFB01 ∷ []
+unfolding ligature safe_form by_class ucd unicode_normalization
+in_nfd = refl
+
+in_nfkc : safe_form Nfkc ucd ligature ≡ 0x66 ∷ 0x69 ∷ []
+unfolding ligature safe_form by_class ucd unicode_normalization
+in_nfkc = refl
+
+in_nfkd : safe_form Nfkd ucd ligature ≡ 0x66 ∷ 0x69 ∷ []
+unfolding ligature safe_form by_class ucd unicode_normalization
+in_nfkd = refl
+
+apart : (x y : List ℕ) → x ≡ 0x66 ∷ 0x69 ∷ [] → y ≡ 0xFB01 ∷ [] → x ≢ y
+apart x y is other same = let clash : 0x66 ∷ 0x69 ∷ [] ≡ 0xFB01 ∷ [] = sym is ∙ same ∙ other in cc
+
+pub direct : (f g : Form) → after g f ≡ g → (x : List ℕ) → safe_form g ucd (safe_form f ucd x) ≡ safe_form g ucd x
+direct f g same x = safe_form-after f g x ∙ ap (λ h. safe_form h ucd x) same
+
+pub lost : (f g : Form) → after g f ≢ g → (x : List ℕ) × (safe_form g ucd (safe_form f ucd x) ≢ safe_form g ucd x)
+lost Nfc g other = absurd (other refl)
+lost Nfd g other = absurd (other refl)
+lost Nfkc Nfc other = (ligature, apart _ _ (safe_form-after Nfkc Nfc ligature ∙ in_nfkc) in_nfc)
+lost Nfkc Nfd other = (ligature, apart _ _ (safe_form-after Nfkc Nfd ligature ∙ in_nfkd) in_nfd)
+lost Nfkc Nfkc other = absurd (other refl)
+lost Nfkc Nfkd other = absurd (other refl)
+lost Nfkd Nfc other = (ligature, apart _ _ (safe_form-after Nfkd Nfc ligature ∙ in_nfkc) in_nfc)
+lost Nfkd Nfd other = (ligature, apart _ _ (safe_form-after Nfkd Nfd ligature ∙ in_nfkd) in_nfd)
+lost Nfkd Nfkc other = absurd (other refl)
+lost Nfkd Nfkd other = absurd (other refl)

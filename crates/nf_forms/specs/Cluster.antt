@@ -1,0 +1,36 @@
+-- A starter and the characters behind it that may compose with it, each its own decomposition, on the way through canonical
+-- composition (The Unicode Standard, section 3.11, D115 to D117).
+use Rattle.std.specs.Prelude.{◌≡◌, ◌≤◌, ℕ, nat_le, Bool, true, false, not, ◌&&◌, ◌==◌, List, [], ◌∷◌, ◌++◌, length}
+use Rattle.nf_forms.specs.Properties.{Properties, is_starter}
+use Rattle.nf_forms.specs.Runs.{has_starter}
+use Rattle.nf_forms.specs.Ordering.{is_ordered}
+use Rattle.nf_forms.specs.Compose.{is_blocked, compose}
+use Rattle.nf_forms.specs.declared.form.Form.{Form}
+use Rattle.nf_forms.specs.Forms.{decomposed}
+use Rattle.nf_forms.specs.StreamSafe.{stream_safe}
+
+-- it decomposes no further, in any form
+pub record IsOwnRow (p : Properties) (c : ℕ) : Type 0 where
+  pub canonical : p.canonical c ≡ c ∷ []
+  pub compat : p.compat c ≡ c ∷ []
+
+-- D115: a mark is left behind the starter, and c is of no class above the greatest of those
+abbrev pub blocks : Properties → List ℕ → ℕ → ℕ → Bool
+blocks p left highest c = not (length left == 0) && nat_le (p.class c) highest
+
+-- the first `count` characters of a cluster have become a starter and the marks that are left behind it; the last of
+-- them is of class `last`, and `highest` is the greatest class of a mark that is left
+pub record IsCluster (p : Properties) (cs : List ℕ) (starter : ℕ) (left : List ℕ) (last highest count : ℕ) : Type 0 where
+  pub rows : (f : Form) → decomposed f p cs ≡ cs
+  pub safe : stream_safe p cs ≡ cs
+  pub ordered : is_ordered p cs ≡ true
+  pub composed : compose p cs ≡ starter ∷ left
+  pub starts : is_starter p starter ≡ true
+  pub no_starter : has_starter p left ≡ false
+  pub blocked : (c : ℕ) → is_blocked p left c ≡ blocks p left highest c
+  pub within : (length left == 0) ≡ false → highest ≤ last
+  pub before : List ℕ
+  pub end : ℕ
+  pub text : cs ≡ before ++ end ∷ []
+  pub class : p.class end ≡ last
+  pub long : length cs ≡ count

@@ -1,0 +1,104 @@
+-- Closed texts whose form is known: nothing, calm text, and a character that is taken apart where the form does not compose.
+use Rattle.std.proofs.Common.{◌≡◌, ℕ, ◌≤◌, ◌+◌, Bool, true, false, not, cond, List, [], ◌∷◌, ◌++◌, length, refl, sym, ap, ◌∙◌, arith, append-nil}
+use Rattle.std.proofs.lemmas.Bool.{and_from, and_parts, or_left}
+use Rattle.nf_forms.specs.Properties.{Properties, is_starter}
+use Rattle.nf_forms.specs.Runs.{has_starter, lead}
+use Rattle.nf_forms.specs.Ordering.{is_ordered}
+use Rattle.nf_forms.specs.declared.form.Form.{Form}
+use Rattle.nf_forms.specs.declared.form.Form.TheVariants.{Nfc, Nfd, Nfkc, Nfkd}
+use Rattle.nf_forms.specs.Forms.{row_of, composes, arranged, normal_form}
+use Rattle.nf_forms.specs.StreamSafe.{max_run, stream_safe}
+use Rattle.nf_forms.specs.SafeForm.{safe_form}
+use Rattle.nf_forms.specs.Sound.{is_sound}
+use Rattle.nf_forms.specs.Parting.{BeginsAnew, CountsAnew, IsBoundary, IsParting}
+use Rattle.nf_forms.specs.Calm.{IsCalmFrom, IsCalm}
+use Rattle.nf_forms.specs.Closed.{HasForm}
+use Rattle.nf_forms.specs.Laws.Ordering.{order-ordered}
+use Rattle.nf_forms.specs.Laws.Sound.{IsSound, IsSound-from_test, IsSoundText}
+use Rattle.nf_forms.specs.Laws.Parting.{safe_step-room}
+use Rattle.nf_forms.specs.Laws.Calm.{calm-begins, safe_form-calm_alone}
+
+module _ (p : Properties) (f : Form) where
+  pub parting-boundary : (c : ℕ) → IsParting p f c → IsBoundary p f c
+  parting-boundary c parting = record { anew = parting.anew; counts = parting.counts }
+
+  -- ---- calm text
+
+  calm_from-front : (k n : ℕ) (xs ys : List ℕ) (class count : ℕ) → IsCalmFrom p f k n (xs ++ ys) class count → (k' : ℕ) × (n' : ℕ) × IsCalmFrom p f k n xs k' n'
+  calm_from-front k n [] ys class count calm = (k, n, (refl, refl))
+  calm_from-front k n (c ∷ xs) ys class count calm =
+      let rest = calm_from-front calm.0 calm.1 xs ys class count calm.3 in
+      (rest.0, rest.1, (calm.0, calm.1, calm.2, rest.2))
+
+  pub calm-front : (xs ys : List ℕ) (class count : ℕ) → IsCalm p f (xs ++ ys) class count → (k : ℕ) × (n : ℕ) × IsCalm p f xs k n
+  calm-front xs ys class count calm = calm_from-front 0 max_run xs ys class count calm
+
+  pub HasForm-calm : (c : ℕ) (cs : List ℕ) (class count : ℕ) → IsCalm p f (c ∷ cs) class count → IsSoundText p (c ∷ cs) → HasForm p f (c ∷ cs) (c ∷ cs)
+  unfolding safe_form
+  HasForm-calm c cs class count calm sound =
+      let alone = safe_form-calm_alone p f (c ∷ cs) class count calm in
+      record {
+        begins = record {
+          first = c;
+          rest = cs;
+          text = refl;
+          boundary = parting-boundary c (calm-begins p f c cs class count calm);
+          sound = (and_parts (is_sound p c) _ sound).0;
+        };
+        sound = sound;
+        safe = alone.0;
+        form = ap (normal_form f p) (sym alone.0) ∙ alone.1;
+      }
+
+  -- ---- one character
+
+  record BeginsInStarter (w : List ℕ) : Type 0 where
+    first : ℕ
+    rest : List ℕ
+    text : w ≡ first ∷ rest
+    starter : is_starter p first ≡ true
+
+  begins_in_starter : (w : List ℕ) → 1 ≤ length w → lead p w ≡ 0 → BeginsInStarter w
+  begins_in_starter [] some none = absurd (omega arith)
+  begins_in_starter (a ∷ w) some none = record { first = a; rest = w; text = refl; starter = next (is_starter p a) (lead p w) none }
+    where
+      next : (b : Bool) (n : ℕ) → cond (not b) (1 + n) 0 ≡ 0 → b ≡ true
+      next true n e = refl
+      next false n e = absurd (omega arith)
+
+  pub counts_anew-lead : (c : ℕ) → is_sound p c ≡ true → lead p (p.compat c) ≡ 0 → CountsAnew p c
+  counts_anew-lead c sound none =
+      let begins = begins_in_starter (p.compat c) (IsSound-from_test p c sound).compat_some none in
+      record { lead = none; some = ap (has_starter p) begins.text ∙ or_left _ _ begins.starter }
+
+  -- where the form does not compose, a text may be cut before each sound character whose compatibility row begins with a
+  -- starter
+  pub boundary-decomposing : composes f ≡ false → (c : ℕ) → is_sound p c ≡ true → lead p (p.compat c) ≡ 0 → IsBoundary p f c
+  boundary-decomposing plain c sound none = record { anew = anew f plain; counts = counts_anew-lead c sound none }
+    where
+      parts : IsSound p c
+      parts = IsSound-from_test p c sound
+
+      canonical : BeginsInStarter (p.canonical c)
+      canonical = begins_in_starter (p.canonical c) parts.canonical_some (omega (arith, parts.lead_within))
+
+      compat : BeginsInStarter (p.compat c)
+      compat = begins_in_starter (p.compat c) parts.compat_some none
+
+      anew : (f : Form) → composes f ≡ false → BeginsAnew p f c
+      anew Nfc plain = cc
+      anew Nfd plain = record { first = canonical.first; rest = canonical.rest; row = canonical.text; starter = canonical.starter; never_second = λ is. cc }
+      anew Nfkc plain = cc
+      anew Nfkd plain = record { first = compat.first; rest = compat.rest; row = compat.text; starter = compat.starter; never_second = λ is. cc }
+
+  pub stream_safe-one : (c : ℕ) → lead p (p.compat c) ≤ max_run → stream_safe p (c ∷ []) ≡ c ∷ []
+  stream_safe-one c room = safe_step-room p [] c (omega arith)
+
+  -- and there the form of a character whose row is in order is that row
+  pub HasForm-row : composes f ≡ false → (c : ℕ) → IsBoundary p f c → is_sound p c ≡ true → is_ordered p (row_of f p c) ≡ true → HasForm p f (c ∷ []) (row_of f p c)
+  HasForm-row plain c boundary sound ordered = record {
+    begins = record { first = c; rest = []; text = refl; boundary = boundary; sound = sound };
+    sound = and_from _ _ sound refl;
+    safe = stream_safe-one c (let none = boundary.counts.lead in omega arith);
+    form = ap (λ row. arranged (composes f) p row) (append-nil (row_of f p c)) ∙ ap (λ b. arranged b p (row_of f p c)) plain ∙ order-ordered p (row_of f p c) ordered;
+  }

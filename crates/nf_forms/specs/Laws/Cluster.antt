@@ -1,0 +1,173 @@
+-- A cluster of a starter and what may compose with it: one character alone, one more, and its form.
+use Rattle.std.proofs.Common.{◌≡◌, ℕ, ◌≤◌, ◌<◌, ◌+◌, ◌⊎◌, ⊎_elim, inl, inr, Bool, true, false, not, ◌&&◌, ◌||◌, ◌==◌, nat_le, nat_lt, cond, List, [], ◌∷◌, ◌++◌, length, Some, None, refl, sym, ap, ◌∙◌, arith, append-nil, append_assoc, length-append, le-leb, le-ltb, leb-true, eq-eqb, true≢false}
+use Rattle.std.proofs.lemmas.Bool.{and_from, and_parts, cond-false, eqb-true, ne_eqb}
+use Rattle.std.proofs.lemmas.List.Folds.{list_any-append}
+use Rattle.nf_forms.specs.Properties.{Properties, is_starter}
+use Rattle.nf_forms.specs.Runs.{has_starter, lead, trail}
+use Rattle.nf_forms.specs.Ordering.{is_reorderable, is_ordered}
+use Rattle.nf_forms.specs.Compose.{composite, is_blocked, joined, replaced, compose_step, compose}
+use Rattle.nf_forms.specs.declared.form.Form.{Form}
+use Rattle.nf_forms.specs.declared.form.Form.TheVariants.{Nfc, Nfd, Nfkc, Nfkd}
+use Rattle.nf_forms.specs.Forms.{row_of, composes, arranged}
+use Rattle.nf_forms.specs.StreamSafe.{max_run, safe_step}
+use Rattle.nf_forms.specs.Closed.{BeginsAtBoundary, HasForm}
+use Rattle.nf_forms.specs.Cluster.{IsOwnRow, blocks, IsCluster}
+use Rattle.nf_forms.specs.Laws.Runs.{trail-le-length}
+use Rattle.nf_forms.specs.Laws.Front.{marks_push}
+use Rattle.nf_forms.specs.Laws.Ordering.{order-ordered}
+use Rattle.nf_forms.specs.Laws.Compose.{compose-push, compose_step-at, joined-starter}
+use Rattle.nf_forms.specs.Laws.Sound.{IsSoundText}
+use Rattle.nf_forms.specs.Laws.StreamSafe.{stream_safe-push, decomposed-push}
+use Rattle.nf_forms.specs.Laws.Parting.{safe_step-room}
+
+module _ (p : Properties) where
+  pub row-own : (f : Form) (c : ℕ) → IsOwnRow p c → row_of f p c ≡ c ∷ []
+  row-own Nfc c own = own.canonical
+  row-own Nfd c own = own.canonical
+  row-own Nfkc c own = own.compat
+  row-own Nfkd c own = own.compat
+
+  lead-one : (c : ℕ) → lead p (c ∷ []) ≤ 1
+  lead-one c = next (is_starter p c)
+    where
+      next : (b : Bool) → cond (not b) (1 + 0) 0 ≤ 1
+      next true = omega arith
+      next false = omega arith
+
+  -- ---- order, a character more
+
+  pub is_ordered-push : (w : List ℕ) (a c : ℕ) → is_ordered p (w ++ a ∷ []) ≡ true → is_reorderable p a c ≡ false → is_ordered p (w ++ a ∷ c ∷ []) ≡ true
+  is_ordered-push [] a c ordered stays = and_from _ _ (ap not stays) refl
+  is_ordered-push (x ∷ []) a c ordered stays =
+      let parts = and_parts (not (is_reorderable p x a)) true ordered in
+      and_from _ _ parts.0 (and_from _ _ (ap not stays) refl)
+  is_ordered-push (x ∷ y ∷ w) a c ordered stays =
+      let parts = and_parts (not (is_reorderable p x y)) (is_ordered p (y ∷ w ++ a ∷ [])) ordered in
+      and_from _ _ parts.0 (is_ordered-push (y ∷ w) a c parts.1 stays)
+
+  -- c may stand behind a character of class `last`
+  pub is_reorderable-not : (a c last : ℕ) → p.class a ≡ last → (last ≤ p.class c) ⊎ (p.class c ≡ 0) → is_reorderable p a c ≡ false
+  is_reorderable-not a c last class (inl up) = next (nat_lt 0 (p.class c)) (nat_lt (p.class c) (p.class a)) (le-ltb (p.class c) (p.class a) (omega arith))
+    where
+      next : (b d : Bool) → d ≡ false → (b && d) ≡ false
+      next true d e = e
+      next false d e = refl
+  is_reorderable-not a c last class (inr starter) = next (nat_lt 0 (p.class c)) (nat_lt (p.class c) (p.class a)) (le-ltb 0 (p.class c) (omega arith))
+    where
+      next : (b d : Bool) → b ≡ false → (b && d) ≡ false
+      next b d e = ap (λ b. b && d) e
+
+  -- ---- a cluster of one
+
+  pub cluster-one : (c : ℕ) → IsOwnRow p c → is_starter p c ≡ true → IsCluster p (c ∷ []) c [] 0 0 1
+  cluster-one c own starts = record {
+    rows = λ f. append-nil (row_of f p c) ∙ row-own f c own;
+    safe = safe_step-room p [] c (let few = lead-one c in let row = ap (lead p) own.compat in omega arith);
+    ordered = refl;
+    composed = refl;
+    starts = starts;
+    no_starter = refl;
+    blocked = λ x. refl;
+    within = λ some. omega arith;
+    before = [];
+    end = c;
+    text = refl;
+    class = eqb-true (p.class c) 0 starts;
+    long = refl;
+  }
+
+  -- ---- a character more
+
+  module _ (cs : List ℕ) (starter : ℕ) (left : List ℕ) (last highest count : ℕ) (here : IsCluster p cs starter left last highest count)
+      (c : ℕ) (own : IsOwnRow p c) (follows : (last ≤ p.class c) ⊎ (p.class c ≡ 0)) (room : count < max_run) where
+    joins : compose p (cs ++ c ∷ []) ≡ replaced (joined p starter left c) starter left c
+    joins = compose-push p cs c ∙ ap (λ z. compose_step p z c) here.composed ∙ compose_step-at p [] starter left c here.starts here.no_starter
+
+    more : (starter' : ℕ) (left' : List ℕ) (highest' : ℕ) → compose p (cs ++ c ∷ []) ≡ starter' ∷ left' → is_starter p starter' ≡ true → has_starter p left' ≡ false
+        → ((x : ℕ) → is_blocked p left' x ≡ blocks p left' highest' x) → ((length left' == 0) ≡ false → highest' ≤ p.class c)
+        → IsCluster p (cs ++ c ∷ []) starter' left' (p.class c) highest' (count + 1)
+    more starter' left' highest' composed starts no_starter blocked within = record {
+      rows = λ f. decomposed-push p f cs c ∙ ap (λ w. w ++ row_of f p c) (here.rows f) ∙ ap (λ row. cs ++ row) (row-own f c own);
+      safe =
+          let run = ap (trail p) (here.rows Nfkd) in
+          let few = trail-le-length p cs in
+          let long = here.long in
+          let begins = ap (lead p) own.compat in
+          let one = lead-one c in
+          stream_safe-push p cs c ∙ ap (λ o. safe_step p o c) here.safe ∙ safe_step-room p cs c (omega arith);
+      ordered =
+          ap (λ w. is_ordered p (w ++ c ∷ [])) here.text ∙ ap (is_ordered p) (append_assoc here.before (here.end ∷ []) (c ∷ []))
+          ∙ is_ordered-push here.before here.end c (ap (is_ordered p) (sym here.text) ∙ here.ordered) (is_reorderable-not here.end c last here.class follows);
+      composed = composed;
+      starts = starts;
+      no_starter = no_starter;
+      blocked = blocked;
+      within = within;
+      before = cs;
+      end = c;
+      text = refl;
+      class = refl;
+      long = length-append cs (c ∷ []) ∙ ap (λ n. n + 1) here.long;
+    }
+
+    unblocked : (d : ℕ) → joined p starter left c ≡ Some d → blocks p left highest c ≡ false
+    unblocked d both = sym (here.blocked c) ∙ next (is_blocked p left c) both
+      where
+        next : (b : Bool) → cond b None (composite p starter c) ≡ Some d → b ≡ false
+        next true e = cc
+        next false e = refl
+
+    -- it composes
+    pub cluster-joined : (d : ℕ) → joined p starter left c ≡ Some d → IsCluster p (cs ++ c ∷ []) d left (p.class c) highest (count + 1)
+    cluster-joined d both =
+        more d left highest (joins ∙ ap (λ o. replaced o starter left c) both) (joined-starter p starter left c d both) here.no_starter here.blocked (λ some. up some follows)
+      where
+        clash : (a b : Bool) → a ≡ false → b ≡ true → (not a && b) ≡ false → ⊥
+        clash true b e f g = cc
+        clash false true e f g = cc
+        clash false false e f g = cc
+
+        up : (length left == 0) ≡ false → (last ≤ p.class c) ⊎ (p.class c ≡ 0) → highest ≤ p.class c
+        up some (inl above) = let within = here.within some in omega arith
+        up some (inr starts) = absurd (clash (length left == 0) (nat_le (p.class c) highest) some (le-leb (p.class c) highest (omega arith)) (unblocked d both))
+
+    -- it is a mark, and is left
+    pub cluster-left : is_starter p c ≡ false → joined p starter left c ≡ None → IsCluster p (cs ++ c ∷ []) starter (left ++ c ∷ []) (p.class c) (p.class c) (count + 1)
+    cluster-left mark none =
+        more starter (left ++ c ∷ []) (p.class c) (joins ∙ ap (λ o. replaced o starter left c) none) here.starts (marks_push p left c here.no_starter mark)
+        (λ x. list_any-append (λ m. nat_le (p.class x) (p.class m)) left (c ∷ []) ∙ ap (λ b. b || (nat_le (p.class x) (p.class c) || false)) (here.blocked x) ∙ behind x)
+        (λ some. omega arith)
+      where
+        next : (a b d e : Bool) → e ≡ false → (a ≡ false → b ≡ true → d ≡ true) → ((not a && b) || (d || false)) ≡ (not e && d)
+        next true b true true h f = cc
+        next true b true false h f = refl
+        next true b false true h f = cc
+        next true b false false h f = refl
+        next false true d true h f = cc
+        next false true d false h f = sym (f refl refl)
+        next false false true true h f = cc
+        next false false true false h f = refl
+        next false false false true h f = cc
+        next false false false false h f = refl
+
+        up : (length left == 0) ≡ false → highest ≤ p.class c
+        up some = let within = here.within some in ⊎_elim (λ (above : last ≤ p.class c). omega arith) (λ (starts : p.class c ≡ 0). absurd (true≢false (sym (eq-eqb (p.class c) 0 starts) ∙ mark))) follows
+
+        behind : (x : ℕ) → (blocks p left highest x || (nat_le (p.class x) (p.class c) || false)) ≡ blocks p (left ++ c ∷ []) (p.class c) x
+        behind x =
+            next (length left == 0) (nat_le (p.class x) highest) (nat_le (p.class x) (p.class c)) (length (left ++ c ∷ []) == 0)
+            (ne_eqb _ 0 (λ none. absurd (omega (arith, length-append left (c ∷ [])))))
+            (λ some below. le-leb (p.class x) (p.class c) (omega (arith, up some, leb-true (p.class x) highest below)))
+
+  -- ---- its form
+
+  pub HasForm-cluster : (f : Form) → composes f ≡ true → (cs : List ℕ) (starter : ℕ) (left : List ℕ) (last highest count : ℕ) → IsCluster p cs starter left last highest count
+      → BeginsAtBoundary p f cs → IsSoundText p cs → HasForm p f cs (starter ∷ left)
+  HasForm-cluster f composing cs starter left last highest count here begins sound = record {
+    begins = begins;
+    sound = sound;
+    safe = here.safe;
+    form =
+        ap (λ w. arranged (composes f) p w) (here.rows f) ∙ ap (λ b. arranged b p cs) composing
+        ∙ ap (compose p) (order-ordered p cs here.ordered) ∙ here.composed;
+  }
