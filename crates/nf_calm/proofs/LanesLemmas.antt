@@ -1,13 +1,15 @@
--- Look-ups by 16 lanes, and the bytes before the first that is found.
-use Rattle.std.proofs.Common.{◌≡◌, ℕ, ◌+◌, ◌*◌, ◌/◌, ◌^◌, ◌<◌, ◌≤◌, Bool, true, false, not, cond, List, [], ◌∷◌, map, length, get_or, replicate, bit_and, refl, sym, ap, ◌∙◌, ⊎_elim, arith, w8, Fits}
-use Rattle.std.specs.List.{prefix_len}
-use Rattle.std.proofs.str.Laws.{order}
+-- Look-ups by 16 lanes, and the lanes before the first whose bit is set.
+use Rattle.std.proofs.Common.{◌≡◌, ℕ, ◌+◌, ◌-◌, ◌*◌, ◌/◌, ◌%◌, ◌^◌, ◌<◌, ◌≤◌, Bool, true, false, not, cond, List, map, length, get_or, replicate, bit_and, eqb, refl, sym, ap, subst, ◌∙◌, arith, w8, Fits}
+use Rattle.std.specs.List.{prefix_len, range_with_len}
 use Rattle.std.proofs.lemmas.List.{get_or-map, length-map, ext_get_or}
-use Rattle.std.proofs.lemmas.List.Sums.{prefix_len-le-length}
+use Rattle.std.proofs.lemmas.List.Sums.{prefix_len-le-length, prefix_len_passes, prefix_len_stops}
+use Rattle.std.proofs.lemmas.List.FromFn.{get_or-range_with_len, length-range_with_len}
+use Rattle.std.proofs.lemmas.Bool.{not-true, not-false}
 use Rattle.std.proofs.lemmas.Nat.{and_le_r}
-use Rattle.std.proofs.lemmas.Simd.{Each1-all, Each1-weaker, Each1-zip2, Each2-splat, Each1-get_or, below_from_Fits, length-zip2, length-chunk, swz_l, SwzOk, SwzOk-from_below, length-swz_l, get_or-swz_l_below, trailing_mask_l, run_in_chunk_le, run_in_chunk_fails, run_in_chunk_stops, none_from_empty_mask}
-use lib.Lanes.{zip2, chunk, mask_l, Each1}
+use Rattle.std.proofs.lemmas.Simd.{Each1-all, Each1-weaker, Each1-zip2, Each2-splat, Each1-get_or, below_from_Fits, length-zip2, length-chunk, swz_l, SwzOk, SwzOk-from_below, length-swz_l, get_or-swz_l_below, map-map, get_or-chunk, bitmask_splat, zip2_splat, first_set_mask_l}
+use lib.Lanes.{zip2, chunk, mask_l, top, Each1}
 use lib.Count.{count_trailing_zeros}
+use Rattle.nf_calm.specs.Closer.{places}
 
 abbrev pub IsBlock : List ℕ → Type 0
 IsBlock v = (length v ≡ 16) × Each1 (Fits w8) v
@@ -39,43 +41,64 @@ looked_up t g v js fits e small =
     let first : 16 * ((0 + i) / 16) + get_or js i 0 ≡ get_or js i 0 = omega arith in
     get_or-swz_l_below w8 16 t 0 js i (omega arith) below ∙ ap (λ k. get_or t k 0) (first ∙ is) ∙ sym (get_or-map (λ x. get_or t (g x) 0) v i 0 0 within))
 
-none_set : (b : Bool) (n l m : ℕ) → n ≤ l → cond (not b) (1 + n) 0 ≡ 1 + l → (n ≡ l → m ≡ 0) → cond b 1 0 + 2 * m ≡ 0
-none_set true n l m le e more = absurd (omega arith)
-none_set false n l m le e more = let zero : m ≡ 0 = more (omega arith) in omega arith
+places_is : (at : ℕ) → places at ≡ range_with_len at 16
+unfolding places
+places_is at = refl
 
--- no bit is set where no lane passes
-empty_mask : (p : ℕ → Bool) (xs : List ℕ) → prefix_len (λ x. not (p x)) xs ≡ length xs → mask_l (map p xs) ≡ 0
-empty_mask p [] e = refl
-empty_mask p (x ∷ xs) e = none_set (p x) _ (length xs) _ (prefix_len-le-length (λ y. not (p y)) xs) (omega arith) (empty_mask p xs)
+pub length-places : (at : ℕ) → length (places at) ≡ 16
+length-places at = ap length (places_is at) ∙ length-range_with_len at 16
 
--- n lanes from `at` on, behind bytes that fail the test
-module _ (p : ℕ → Bool) (bytes : List ℕ) (at n : ℕ) (room : at + n ≤ length bytes) (before : (k : ℕ) → k < at → p (get_or bytes k 0) ≡ false) where
-  abbrev mask : ℕ
-  mask = mask_l (map p (chunk at n bytes))
+get_or-places : (at i : ℕ) → i < 16 → get_or (places at) i 0 ≡ at + i
+get_or-places at i within = ap (λ l. get_or l i 0) (places_is at) ∙ get_or-range_with_len at 16 i 0 within
 
-  pub all_fail : mask ≡ 0 → (k : ℕ) → k < at + n → p (get_or bytes k 0) ≡ false
-  all_fail none k inside = ⊎_elim (before k) (λ under. none_from_empty_mask p bytes at n 0 room none k under inside) (order k at)
+-- what g makes of the bytes that are loaded from `start` on, by places from `at` on
+pub read_each : (g : ℕ → ℕ) (bytes : List ℕ) (start at : ℕ) (place : ℕ → ℕ) → ((i : ℕ) → place (at + i) ≡ start + i) → start + 16 ≤ length bytes → (r : List ℕ)
+    → r ≡ map g (chunk start 16 bytes) → r ≡ map (λ k. g (get_or bytes (place k) 0)) (places at)
+read_each g bytes start at place e room r is =
+    let h = λ (k : ℕ). get_or bytes (place k) 0 in
+    let long : length (chunk start 16 bytes) ≡ 16 = length-chunk start 16 bytes room in
+    let loaded : chunk start 16 bytes ≡ map h (places at) =
+    ext_get_or 0 _ _ (long ∙ sym (length-map (places at) h ∙ length-places at)) (λ i within.
+    let few : i < 16 = omega (arith, long) in
+    get_or-chunk start 16 bytes i 0 few ∙ ap (λ n. get_or bytes n 0) (sym (e i)) ∙ ap h (sym (get_or-places at i few)) ∙ sym (get_or-map h (places at) i 0 0 (omega (arith, length-places at)))) in
+    is ∙ ap (map g) loaded ∙ map-map g h (places at)
 
-  -- `found` is the mask
-  module _ (few : n ≤ 64) (found : ℕ) (is : found ≡ mask) (some : ¬ (found ≡ 0)) where
-    abbrev run : ℕ
-    run = count_trailing_zeros 64 found
+-- the lanes of h, each and a number
+pub each_and : (h : ℕ → ℕ) (at m : ℕ) (xs : List ℕ) → xs ≡ map h (places at) → zip2 bit_and xs (replicate 16 m) ≡ map (λ k. bit_and (h k) m) (places at)
+each_and h at m xs is =
+    let long : length xs ≡ 16 = ap length is ∙ length-map (places at) h ∙ length-places at in
+    zip2_splat bit_and xs 16 m long ∙ ap (map (λ x. bit_and x m)) is ∙ map-map (λ x. bit_and x m) h (places at)
 
-    counted : run ≡ prefix_len (λ x. not (p x)) (chunk at n bytes)
-    counted = ap (count_trailing_zeros 64) is ∙ trailing_mask_l p 64 (chunk at n bytes) (omega (arith, length-chunk at n bytes room)) (omega (arith, is, some))
+-- a bit for each lane of h that is not 0
+pub nonzero_bits : (h : ℕ → ℕ) (at : ℕ) (xs : List ℕ) → xs ≡ map h (places at)
+    → mask_l (map (top 7) (zip2 (λ a b. cond (not (eqb a b)) (2 ^ 8 - 1) 0) xs (replicate 16 0))) % 2 ^ 64 ≡ mask_l (map (λ k. not (eqb (h k) 0)) (places at))
+nonzero_bits h at xs is =
+    let long : length xs ≡ 16 = ap length is ∙ length-map (places at) h ∙ length-places at in
+    bitmask_splat w8 (λ a b. not (eqb a b)) xs 16 0 long (omega arith) ∙ ap (λ l. mask_l (map (λ x. not (eqb x 0)) l)) is ∙ ap mask_l (map-map (λ x. not (eqb x 0)) h (places at))
 
-    run_short : run < n
-    run_short = ⊎_elim (λ short. short)
-        (λ long.
-        let all : run ≡ n = omega (arith, run_in_chunk_le p bytes at n run 0 room counted) in
-        absurd (some (is ∙ empty_mask p (chunk at n bytes) (sym counted ∙ all ∙ sym (length-chunk at n bytes room)))))
-        (order run n)
+-- a bit for each place, and how many stand before the first that is set
+module _ (p : ℕ → Bool) (at found : ℕ) (is : found ≡ mask_l (map p (places at))) where
+  abbrev unset : ℕ
+  unset = prefix_len (λ k. not (p k)) (places at)
 
-    pub run_within : at + run ≤ length bytes
-    run_within = omega (arith, run_short)
+  module _ (run : ℕ) (counted : run ≡ cond (eqb found 0) 16 (count_trailing_zeros 64 found)) where
+    run_is : run ≡ unset
+    run_is = counted ∙ ap (λ n. cond (eqb n 0) 16 (count_trailing_zeros 64 n)) is ∙ first_set_mask_l p (places at) 16 (length-places at) (omega arith)
 
-    pub run_fails : (k : ℕ) → k < at + run → p (get_or bytes k 0) ≡ false
-    run_fails k inside = ⊎_elim (before k) (λ under. run_in_chunk_fails p bytes at n run 0 room counted k under inside) (order k at)
+    pub run_le : run ≤ 16
+    run_le = omega (arith, run_is, length-places at, prefix_len-le-length (λ k. not (p k)) (places at))
 
-    pub run_stops : p (get_or bytes (at + run) 0) ≡ true
-    run_stops = run_in_chunk_stops p bytes at n run 0 room counted run_short
+    pub run_fails : (k : ℕ) → at ≤ k → k < at + run → p k ≡ false
+    run_fails k low high =
+        let i = k - at in
+        let short : i < unset = omega (arith, run_is) in
+        let place : get_or (places at) i 0 ≡ k = get_or-places at i (omega (arith, run_le)) ∙ omega arith in
+        not-true (p k) (subst (λ x. not (p x) ≡ true) place (prefix_len_passes (λ x. not (p x)) (places at) i 0 short))
+
+    pub run_stops : run < 16 → p (at + run) ≡ true
+    run_stops short =
+        let place : get_or (places at) unset 0 ≡ at + run = get_or-places at unset (omega (arith, run_is)) ∙ ap (λ n. at + n) (sym run_is) in
+        not-false (p (at + run)) (subst (λ x. not (p x) ≡ false) place (prefix_len_stops (λ x. not (p x)) (places at) 0 (omega (arith, run_is, length-places at))))
+
+  pub none_set : found ≡ 0 → (k : ℕ) → at ≤ k → k < at + 16 → p k ≡ false
+  none_set none k low high = run_fails 16 (ap (λ n. cond (eqb n 0) 16 (count_trailing_zeros 64 n)) (sym none)) k low high

@@ -1,4 +1,6 @@
 pub mod ScanLemmas
 pub mod CutLemmas
 pub mod LanesLemmas
+pub mod LookLemmas
+pub mod ToldLemmas
 pub mod PlainLemmas

@@ -16,6 +16,10 @@ row_of byte = slice_index ROWS (byte / 16)
 abbrev pub column_of : Form → ℕ → ℕ
 column_of f byte = slice_index (columns f) (bit_and byte 15)
 
+-- the row of the byte, where it begins a character that has to be looked up, and else 0
+abbrev pub lead_bits : Form → ℕ → ℕ
+lead_bits f byte = bit_and (row_of byte) (column_of f byte)
+
 -- a character that begins with the byte has to be looked up
 abbrev pub wants_look : Form → ℕ → Bool
-wants_look f byte = not (bit_and (row_of byte) (column_of f byte) == 0)
+wants_look f byte = not (lead_bits f byte == 0)

@@ -3,7 +3,10 @@
 //! Database.
 #![tactic(auto)]
 
+mod blocks;
+mod bytes;
 mod calm;
+mod closer;
 mod cut;
 mod front;
 mod lanes;

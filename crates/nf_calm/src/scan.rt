@@ -1,3 +1,4 @@
+use crate::blocks::plain_blocks;
 use crate::lanes::plain_len;
 use crate::leads::wants_look;
 use crate::marks::Marks;
@@ -14,8 +15,9 @@ pub(crate) struct Scan<'t> {
 }
 
 impl<'t> Scan<'t> {
-    ghost use Rattle.std.specs.Prelude.{◌<◌, ◌≤◌, ℕ, List, length, IfSome, IsNone};
+    ghost use Rattle.std.specs.Prelude.{◌≡◌, ◌<◌, ◌≤◌, ℕ, false, List, length, slice_index, IfSome, IsNone};
     ghost use Rattle.nf_forms.specs.declared.form.Form.{Form};
+    ghost use Rattle.nf_calm.specs.Closer.{look_at};
     ghost use Rattle.nf_calm.specs.Scan.{Reaches, Ends};
 
     /// The front of the text.
@@ -29,17 +31,43 @@ impl<'t> Scan<'t> {
         }
     }
 
-    /// As far as the text is known to go on calmly.
+    /// As far as the text is known to go on calmly. Bytes are asked together where that is likely to pay: not behind a
+    /// character of which they told nothing.
     #[inline(always)]
     pub fn to_end(self, form: Form) -> Scan<'t>
         ensures ends { Ends form result }
         ensures calm { (text : List ℕ) → Reaches form text self.entry → Reaches form text result }
     {
-        let mut scan = self.over_plain(form);
+        let mut scan = self.over_blocks(form);
+        let mut pays = true;
         while let Some(next) = scan.step(form) {
-            scan = next.over_plain(form);
+            scan = next;
+            if pays || next.marks.class != 0 || next.is_before_plain(form) {
+                scan = next.over_plain(form);
+                pays = scan.rest.len() < next.rest.len();
+            }
         }
         scan
+    }
+
+    /// Whether the byte behind it begins no character that has to be looked up.
+    #[inline(always)]
+    fn is_before_plain(self, form: Form) -> bool {
+        let bytes = self.rest.as_bytes();
+        !bytes.is_empty() && !wants_look(form, bytes[0])
+    }
+
+    /// Behind the blocks, and then the bytes, that begin no character that has to be looked up.
+    #[inline(always)]
+    fn over_blocks(self, form: Form) -> Scan<'t>
+        ensures calm { (text : List ℕ) → Reaches form text self.entry → Reaches form text result }
+    {
+        if !self.is_before_plain(form) {
+            return self;
+        }
+        let bytes = self.rest.as_bytes();
+        let from = plain_blocks(form, bytes);
+        self.past(form, plain_len(form, bytes, from))
     }
 
     /// Behind the bytes that begin no character that has to be looked up.
@@ -48,15 +76,26 @@ impl<'t> Scan<'t> {
         ensures calm { (text : List ℕ) → Reaches form text self.entry → Reaches form text result }
         ensures within { length result.rest.now ≤ length self.entry.rest.now }
     {
+        self.past(form, plain_len(form, self.rest.as_bytes(), 0))
+    }
+
+    /// Behind so many bytes that begin no character that has to be looked up.
+    #[inline(always)]
+    fn past(self, form: Form, len: usize) -> Scan<'t>
+        requires within { len ≤ length self.rest.now }
+        requires plain { (k : ℕ) → k < len → look_at form self.rest.now k ≡ false }
+        requires begins { len < length self.rest.now → 192 ≤ slice_index self.rest.now len }
+        ensures calm { (text : List ℕ) → Reaches form text self.entry → Reaches form text result }
+        ensures within { length result.rest.now ≤ length self.entry.rest.now }
+    {
         laws::every_character_is_sound();
         laws::the_quick_check_tells();
         laws::plain_ranges_pass();
-        let bytes = self.rest.as_bytes();
-        if bytes.is_empty() || wants_look(form, bytes[0]) {
+        if len == 0 {
             return self;
         }
         Scan {
-            rest: &self.rest[plain_len(form, bytes)..],
+            rest: &self.rest[len..],
             marks: Marks::NONE,
         }
     }

@@ -1,4 +1,5 @@
-//! The tests of `nf_calm`: texts cut by hand, every scalar value against the definitions, and each place in a block.
+//! The tests of `nf_calm`: texts cut by hand, every scalar value against the definitions, each place in a block, and
+//! made-up mixtures.
 #![tactic(auto)]
 
 #[cfg(test)]
@@ -6,4 +7,8 @@ mod blocks;
 #[cfg(test)]
 mod cuts;
 #[cfg(test)]
+mod mixtures;
+#[cfg(test)]
 mod sweep;
+#[cfg(test)]
+mod within;

@@ -10,7 +10,7 @@ use unicode_normalization::{
 
 /// What a character is to calm text.
 #[derive(Clone, Copy, Debug, PartialEq, Eq)]
-enum Role {
+pub(crate) enum Role {
     Parts,
     Mark,
     Ends,
@@ -29,7 +29,7 @@ fn passes(form: Form, c: char) -> bool {
 
 /// A starter that passes parts a text where its compatibility decomposition begins with a starter; a non-starter stays
 /// where it is its own decompositions.
-fn role_of(form: Form, c: char) -> Role {
+pub(crate) fn role_of(form: Form, c: char) -> Role {
     let (mut first, mut second) = ([c; 3], [c; 3]);
     let canonical = decomposition(c, TableForm::Nfd, &mut first);
     let compat = decomposition(c, TableForm::Nfkd, &mut second);

@@ -1,11 +1,11 @@
-use Rattle.std.proofs.Common.{◌≡◌, ℕ, ◌-◌, ◌<◌, ◌≤◌, false, length, get_or}
-use Rattle.nf_calm.specs.Leads.{wants_look}
+use Rattle.std.proofs.Common.{◌≡◌, ℕ, ◌-◌, ◌<◌, ◌≤◌, false, length}
+use Rattle.nf_calm.specs.Closer.{look_at}
 use Rattle.nf_calm.proofs.lanes.plain_len.Given as goal
 
 abbrev pub invariant-loop-at : goal.invariant-loop-at
 invariant-loop-at l = record {
   within : l.at ≤ length l.bytes;
-  plain : (k : ℕ) → k < l.at → wants_look l.form (get_or l.bytes k 0) ≡ false;
+  plain : (k : ℕ) → k < l.at → look_at l.form l.bytes k ≡ false;
 }
 
 abbrev pub decreases-loop-at : goal.decreases-loop-at

@@ -1,8 +1,7 @@
 use Rattle.std.proofs.Common.{◌/◌, arith}
 use Rattle.std.proofs.lemmas.Simd.{zip2_splat}
-use Rattle.nf_calm.specs.declared.leads.TheConstants.{ROWS}
 use Rattle.nf_calm.proofs.LanesLemmas.{down, high_ok, looked_up}
-use Rattle.nf_calm.proofs.lanes.by_row.Goals as goal
+use Rattle.nf_calm.proofs.lanes.by_high.Goals as goal
 
 pub swizzle : goal.swizzle
 swizzle c = high_ok c.args.lanes c.fits-lanes
@@ -10,4 +9,4 @@ swizzle c = high_ok c.args.lanes c.fits-lanes
 pub returns : goal.returns
 returns c =
     let v = c.args.lanes in
-    looked_up ROWS (λ x. x / 16) v _ c.fits-lanes (zip2_splat down v 16 4 c.fits-lanes.0) (λ x h. omega arith)
+    looked_up c.args.table.now (λ x. x / 16) v _ c.fits-lanes (zip2_splat down v 16 4 c.fits-lanes.0) (λ x h. omega arith)

@@ -1,6 +1,6 @@
 use Rattle.std.proofs.Common.{◌≡◌, ℕ, ◌-◌, ◌<◌, ◌≤◌, false, length, get_or}
 use Rattle.nf_calm.specs.Leads.{wants_look}
-use Rattle.nf_calm.proofs.lanes.by_bytes.Given as goal
+use Rattle.nf_calm.proofs.blocks.plain_blocks.Given as goal
 
 abbrev pub invariant-loop-at : goal.invariant-loop-at
 invariant-loop-at l = record {

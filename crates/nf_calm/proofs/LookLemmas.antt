@@ -1,0 +1,105 @@
+-- Where bytes tell of a character, and where one begins.
+use Rattle.std.proofs.Common.{◌≡◌, ℕ, zero, suc, ◌+◌, ◌-◌, ◌/◌, ◌<◌, ◌≤◌, ⊎_elim, inl, inr, Bool, true, false, not, ◌&&◌, ◌==◌, List, get_or, bit_and, bit_or, refl, sym, ap, subst, ◌∙◌, arith, eqb-true, true≢false, eq-zero-or-pos}
+use Rattle.std.proofs.str.Laws.{order}
+use Rattle.std.proofs.lemmas.Bool.{and_parts, not-false}
+use Rattle.std.proofs.lemmas.Nat.{and_le_l, le_or_l, le_or_r}
+use Rattle.nf_forms.specs.declared.form.Form.{Form}
+use Rattle.nf_forms.specs.declared.form.Form.TheVariants.{Nfc, Nfd, Nfkc, Nfkd}
+use Rattle.nf_calm.specs.Leads.{lead_bits, wants_look}
+use Rattle.nf_calm.specs.Closer.{high_of, low_of, pairs_of, triples_of, pair_hits, triple_hits, wants_pair, wants_triple, look_at}
+
+abbrev pub all_below : (ℕ → Bool) → ℕ → Bool
+all_below p zero = true
+all_below p (suc n) = p n && all_below p n
+
+pub every_below : (p : ℕ → Bool) (n : ℕ) → all_below p n ≡ true → (i : ℕ) → i < n → p i ≡ true
+every_below p zero h i l = absurd (omega arith)
+every_below p (suc n) h i l =
+    let both = and_parts (p n) (all_below p n) h in
+    elim (eq-zero-or-pos (n - i)) [
+      | inl z ↦ let e : n ≡ i = omega arith in subst (λ x. p x ≡ true) e both.0
+      | inr g ↦ every_below p n both.1 i (omega arith)
+    ]
+
+and_no : (x y : Bool) → y ≡ false → (x && y) ≡ false
+and_no true y e = e
+and_no false y e = refl
+
+-- neither number has a bit
+pub no_bits : (x y : ℕ) → not (bit_or x y == 0) ≡ false → (x ≡ 0) × (y ≡ 0)
+no_bits x y none =
+    let zero_or : bit_or x y ≡ 0 = eqb-true (bit_or x y) 0 (not-false _ none) in
+    (omega (arith, zero_or, le_or_l x y), omega (arith, zero_or, le_or_r x y))
+
+some_bits : (x y : ℕ) → not (bit_or x y == 0) ≡ true → x ≡ 0 → y ≡ 0 → ⊥
+some_bits x y some a b = true≢false (sym some ∙ ap (λ n. not (bit_or n y == 0)) a ∙ ap (λ n. not (bit_or 0 n == 0)) b)
+
+module _ (f : Form) where
+  module _ (bytes : List ℕ) (k : ℕ) where
+    abbrev pair_here : Bool
+    pair_here = wants_pair f (get_or bytes k 0) (get_or bytes (k + 1) 0)
+
+    abbrev triple_here : Bool
+    triple_here = wants_triple f (get_or bytes k 0) (get_or bytes (k + 1) 0) (get_or bytes (k + 2) 0)
+
+    pub told_by_lead : wants_look f (get_or bytes k 0) ≡ false → look_at f bytes k ≡ false
+    told_by_lead e = ap (λ b. b && (pair_here && triple_here)) e
+
+    pub told_by_pair : pair_here ≡ false → look_at f bytes k ≡ false
+    told_by_pair e = and_no (wants_look f (get_or bytes k 0)) (pair_here && triple_here) (ap (λ b. b && triple_here) e)
+
+    pub told_by_triple : triple_here ≡ false → look_at f bytes k ≡ false
+    told_by_triple e = and_no (wants_look f (get_or bytes k 0)) (pair_here && triple_here) (and_no pair_here triple_here e)
+
+  -- the tables have nothing for a byte that is no lead byte
+  record NoLead : Type 0 where
+    rows : all_below (λ h. get_or (pairs_of f).lead_high h 0 == 0) 12 ≡ true
+    triples : all_below (λ h. get_or (triples_of f).pairs.lead_high h 0 == 0) 12 ≡ true
+    leads : all_below (λ byte. lead_bits f byte == 0) 192 ≡ true
+
+no_lead : (f : Form) → NoLead f
+no_lead Nfc = record { rows = refl; triples = refl; leads = refl }
+no_lead Nfd = record { rows = refl; triples = refl; leads = refl }
+no_lead Nfkc = record { rows = refl; triples = refl; leads = refl }
+no_lead Nfkd = record { rows = refl; triples = refl; leads = refl }
+
+module _ (f : Form) where
+  no_lead_bits : (byte : ℕ) → byte < 192 → lead_bits f byte ≡ 0
+  no_lead_bits byte small = eqb-true _ 0 (every_below (λ b. lead_bits f b == 0) 192 (no_lead f).leads byte small)
+
+  -- bytes that want a look begin a character
+  pub lead_begins : (byte : ℕ) → wants_look f byte ≡ true → 192 ≤ byte
+  lead_begins byte look =
+      ⊎_elim (λ small. absurd (true≢false (sym look ∙ ap (λ n. not (n == 0)) (no_lead_bits byte small)))) (λ large. large) (order byte 192)
+
+  pub pair_begins : (lead next : ℕ) → wants_pair f lead next ≡ true → 192 ≤ lead
+  pair_begins lead next look =
+      ⊎_elim
+      (λ small.
+      let t = pairs_of f in
+      let none : high_of t.lead_high lead ≡ 0 = eqb-true _ 0 (every_below (λ h. get_or t.lead_high h 0 == 0) 12 (no_lead f).rows (lead / 16) (omega arith)) in
+      let first = bit_and (high_of t.lead_high lead) (low_of t.lead_low lead) in
+      let second = bit_and first (high_of t.next_high next) in
+      let hits : pair_hits t lead next ≡ 0 = omega (arith, none, and_le_l (high_of t.lead_high lead) (low_of t.lead_low lead), and_le_l first (high_of t.next_high next), and_le_l second (low_of t.next_low next)) in
+      let others : bit_and (lead_bits f lead) 13 ≡ 0 = omega (arith, no_lead_bits lead small, and_le_l (lead_bits f lead) 13) in
+      absurd (some_bits (pair_hits t lead next) (bit_and (lead_bits f lead) 13) look hits others))
+      (λ large. large)
+      (order lead 192)
+
+  pub triple_begins : (lead next last : ℕ) → wants_triple f lead next last ≡ true → 192 ≤ lead
+  triple_begins lead next last look =
+      ⊎_elim
+      (λ small.
+      let t = triples_of f in
+      let p = t.pairs in
+      let none : high_of p.lead_high lead ≡ 0 = eqb-true _ 0 (every_below (λ h. get_or p.lead_high h 0 == 0) 12 (no_lead f).triples (lead / 16) (omega arith)) in
+      let first = bit_and (high_of p.lead_high lead) (low_of p.lead_low lead) in
+      let second = bit_and first (high_of p.next_high next) in
+      let pair = pair_hits p lead next in
+      let third = bit_and pair (high_of t.last_high last) in
+      let in_pair : pair ≡ 0 = omega (arith, none, and_le_l (high_of p.lead_high lead) (low_of p.lead_low lead), and_le_l first (high_of p.next_high next), and_le_l second (low_of p.next_low next)) in
+      let hits : triple_hits t lead next last ≡ 0 = omega (arith, in_pair, and_le_l pair (high_of t.last_high last), and_le_l third (low_of t.last_low last)) in
+      let others : bit_and (lead_bits f lead) 11 ≡ 0 = omega (arith, no_lead_bits lead small, and_le_l (lead_bits f lead) 11) in
+      absurd (some_bits (triple_hits t lead next last) (bit_and (lead_bits f lead) 11) look hits others))
+      (λ large. large)
+      (order lead 192)

@@ -1,0 +1,173 @@
+-- What bytes tell of a character is so: a character of which they tell that it passes lies in the form's ranges.
+use Rattle.std.proofs.Common.{◌≡◌, ℕ, ◌+◌, ◌*◌, ◌/◌, ◌%◌, ◌<◌, ◌≤◌, ◌⊎◌, ⊎_elim, inl, inr, Bool, true, false, not, ◌&&◌, ◌||◌, ◌==◌, nat_le, nat_lt, List, [], ◌∷◌, ◌++◌, bit_and, refl, sym, ap, subst, ◌∙◌, arith, leb-true, le-leb, ltb-true, true≢false}
+use Rattle.std.specs.Prelude.{encode_utf8}
+use Rattle.std.proofs.str.Laws.{order, two, three, four}
+use Rattle.std.proofs.lemmas.Bool.{and_parts, and_from, true_from_ne_false}
+use Rattle.ucd_table.specs.Rows.{Range, in_ranges}
+use Rattle.nf_forms.specs.declared.form.Form.{Form}
+use Rattle.nf_forms.specs.declared.form.Form.TheVariants.{Nfc, Nfd, Nfkc, Nfkd}
+use Rattle.nf_facts.specs.PlainRanges.{plain_ranges}
+use Rattle.nf_calm.specs.Leads.{lead_bits, wants_look}
+use Rattle.nf_calm.specs.Closer.{high_of, low_of, pairs_of, triples_of, pair_hits, triple_hits, wants_pair, wants_triple, look_at}
+use Rattle.nf_calm.proofs.LookLemmas.{all_below, every_below, no_bits}
+
+-- the range lies within one of these
+abbrev lies_within : List Range → ℕ → ℕ → Bool
+lies_within [] first last = false
+lies_within (r ∷ rs) first last = (nat_le r.0 first && nat_le last r.1) || lies_within rs first last
+
+in_ranges-lies_within : (rs : List Range) (first last c : ℕ) → lies_within rs first last ≡ true → first ≤ c → c ≤ last → in_ranges rs c ≡ true
+unfolding in_ranges
+in_ranges-lies_within [] first last c h low high = cc
+in_ranges-lies_within (r ∷ rs) first last c h low high = next (nat_le r.0 first && nat_le last r.1) (in_ranges rs c) refl (in_ranges-lies_within rs first last c)
+  where
+    either : (a : Bool) {t : Bool} → t ≡ true → (a || t) ≡ true
+    either true e = refl
+    either false e = e
+
+    next : (b t : Bool) → (nat_le r.0 first && nat_le last r.1) ≡ b → (lies_within rs first last ≡ true → first ≤ c → c ≤ last → t ≡ true) → ((nat_le r.0 c && nat_le c r.1) || t) ≡ true
+    next true t e more =
+        let both = and_parts (nat_le r.0 first) (nat_le last r.1) e in
+        ap (λ a. a || t) (and_from (nat_le r.0 c) (nat_le c r.1) (le-leb r.0 c (omega (arith, leb-true r.0 first both.0))) (le-leb c r.1 (omega (arith, leb-true last r.1 both.1))))
+    next false t e more = either (nat_le r.0 c && nat_le c r.1) (more (sym (ap (λ a. a || lies_within rs first last) e) ∙ h) low high)
+
+-- a test that is made only where the first fails, so that the computation below is short
+abbrev or_else : Bool → (Unit {0} → Bool) → Bool
+or_else true more = true
+or_else false more = more tt
+
+either : (b : Bool) (more : Unit {0} → Bool) → or_else b more ≡ true → (b ≡ true) ⊎ (more tt ≡ true)
+either true more e = inl refl
+either false more e = inr e
+
+second_of : (a b : Bool) → (a && b) ≡ false → a ≡ true → b ≡ false
+second_of a b none first = sym (ap (λ x. x && b) first) ∙ none
+
+first_of_two : (a b : Bool) → (a && b) ≡ false → b ≡ true → a ≡ false
+first_of_two true b none second = absurd (true≢false (sym second ∙ none))
+first_of_two false b none second = refl
+
+-- by lead bytes: all that begins with one lies in the form's ranges; or it has to be looked up, also where the bytes behind
+-- lead bytes of another length are asked, and each that the bytes behind do not find lies there
+module _ (f : Form) where
+  abbrev within : ℕ → ℕ → Bool
+  within = lies_within (plain_ranges f)
+
+  abbrev told_second : ℕ → ℕ → Bool
+  told_second k i = or_else (wants_pair f (192 + k) (128 + i)) (λ _. within (64 * k + i) (64 * k + i))
+
+  abbrev told_two : ℕ → Bool
+  told_two k =
+      or_else (within (64 * k) (64 * k + 63)) (λ _.
+      wants_look f (192 + k) && (not (bit_and (lead_bits f (192 + k)) 11 == 0) && all_below (told_second k) 64))
+
+  abbrev told_third : ℕ → ℕ → ℕ → Bool
+  told_third hits base j =
+      or_else (not (bit_and (bit_and hits (high_of (triples_of f).last_high (128 + j))) (low_of (triples_of f).last_low (128 + j)) == 0)) (λ _. within (base + j) (base + j))
+
+  abbrev told_thirds : ℕ → ℕ → Bool
+  told_thirds hits base = all_below (told_third hits base) 64
+
+  -- the second bytes of E0 begin at A0
+  abbrev told_block : ℕ → ℕ → Bool
+  told_block k i =
+      or_else (within (4096 * k + 64 * i) (4096 * k + 64 * i + 63)) (λ _.
+      or_else (nat_lt (4096 * k + 64 * i) 2048) (λ _. told_thirds (pair_hits (triples_of f).pairs (224 + k) (128 + i)) (4096 * k + 64 * i)))
+
+  abbrev told_three : ℕ → Bool
+  told_three k =
+      or_else (within (4096 * k) (4096 * k + 4095)) (λ _. wants_look f (224 + k) && (not (bit_and (lead_bits f (224 + k)) 13 == 0) && all_below (told_block k) 64))
+
+  abbrev told_four : ℕ → Bool
+  told_four k =
+      or_else (within (262144 * k) (262144 * k + 262143)) (λ _.
+      wants_look f (240 + k) && (not (bit_and (lead_bits f (240 + k)) 13 == 0) && not (bit_and (lead_bits f (240 + k)) 11 == 0)))
+
+record Told (f : Form) : Type 0 where
+  ascii : lies_within (plain_ranges f) 0 127 ≡ true
+  of_two : all_below (told_two f) 32 ≡ true
+  of_three : all_below (told_three f) 16 ≡ true
+  of_four : all_below (told_four f) 8 ≡ true
+
+told : (f : Form) → Told f
+unfolding plain_ranges
+told Nfc = record { ascii = refl; of_two = refl; of_three = refl; of_four = refl }
+told Nfd = record { ascii = refl; of_two = refl; of_three = refl; of_four = refl }
+told Nfkc = record { ascii = refl; of_two = refl; of_three = refl; of_four = refl }
+told Nfkd = record { ascii = refl; of_two = refl; of_three = refl; of_four = refl }
+
+module _ (f : Form) where
+  lies : (first last c : ℕ) → lies_within (plain_ranges f) first last ≡ true → first ≤ c → c ≤ last → in_ranges (plain_ranges f) c ≡ true
+  lies = in_ranges-lies_within (plain_ranges f)
+
+  -- what is said of the bytes at a place
+  abbrev look3 : ℕ → ℕ → ℕ → Bool
+  look3 lead next last = wants_look f lead && (wants_pair f lead next && wants_triple f lead next last)
+
+  asked_pair : (lead next : ℕ) → not (bit_and (lead_bits f lead) 13 == 0) ≡ true → wants_pair f lead next ≡ true
+  asked_pair lead next others =
+      true_from_ne_false _ (λ none. true≢false (sym others ∙ ap (λ n. not (n == 0)) ((no_bits (pair_hits (pairs_of f) lead next) (bit_and (lead_bits f lead) 13) none).1)))
+
+  asked_triple : (lead next last : ℕ) → not (bit_and (lead_bits f lead) 11 == 0) ≡ true → wants_triple f lead next last ≡ true
+  asked_triple lead next last others =
+      true_from_ne_false _ (λ none. true≢false (sym others ∙ ap (λ n. not (n == 0)) ((no_bits (triple_hits (triples_of f) lead next last) (bit_and (lead_bits f lead) 11) none).1)))
+
+  by_two : (k i last : ℕ) → k < 32 → i < 64 → look3 (192 + k) (128 + i) last ≡ false → in_ranges (plain_ranges f) (64 * k + i) ≡ true
+  by_two k i last short little plain =
+      ⊎_elim (λ whole. lies (64 * k) (64 * k + 63) (64 * k + i) whole (omega arith) (omega arith))
+      (λ rest.
+      let looked = and_parts (wants_look f (192 + k)) _ rest in
+      let parts = and_parts (not (bit_and (lead_bits f (192 + k)) 11 == 0)) _ looked.1 in
+      let behind = second_of (wants_look f (192 + k)) _ plain looked.0 in
+      let pair = first_of_two (wants_pair f (192 + k) (128 + i)) (wants_triple f (192 + k) (128 + i) last) behind (asked_triple (192 + k) (128 + i) last parts.0) in
+      ⊎_elim (λ hit. absurd (true≢false (sym hit ∙ pair))) (λ here. lies (64 * k + i) (64 * k + i) (64 * k + i) here (omega arith) (omega arith))
+      (either (wants_pair f (192 + k) (128 + i)) _ (every_below (told_second f k) 64 parts.1 i little)))
+      (either (lies_within (plain_ranges f) (64 * k) (64 * k + 63)) _ (every_below (told_two f) 32 (told f).of_two k short))
+
+  by_three : (k i j : ℕ) → k < 16 → i < 64 → j < 64 → 2048 ≤ 4096 * k + 64 * i + j → look3 (224 + k) (128 + i) (128 + j) ≡ false → in_ranges (plain_ranges f) (4096 * k + 64 * i + j) ≡ true
+  by_three k i j short little small large plain =
+      ⊎_elim (λ whole. lies (4096 * k) (4096 * k + 4095) (4096 * k + 64 * i + j) whole (omega arith) (omega arith))
+      (λ rest.
+      let looked = and_parts (wants_look f (224 + k)) _ rest in
+      let parts = and_parts (not (bit_and (lead_bits f (224 + k)) 13 == 0)) _ looked.1 in
+      let behind = second_of (wants_look f (224 + k)) _ plain looked.0 in
+      let triple = second_of (wants_pair f (224 + k) (128 + i)) (wants_triple f (224 + k) (128 + i) (128 + j)) behind (asked_pair (224 + k) (128 + i) parts.0) in
+      let missed : triple_hits (triples_of f) (224 + k) (128 + i) (128 + j) ≡ 0 = (no_bits _ (bit_and (lead_bits f (224 + k)) 11) triple).0 in
+      ⊎_elim (λ block. lies (4096 * k + 64 * i) (4096 * k + 64 * i + 63) (4096 * k + 64 * i + j) block (omega arith) (omega arith))
+      (λ others.
+      ⊎_elim (λ low. let under : 4096 * k + 64 * i < 2048 = ltb-true _ _ low in absurd (omega arith))
+      (λ thirds.
+      ⊎_elim (λ hit. absurd (true≢false (sym hit ∙ ap (λ n. not (n == 0)) missed)))
+      (λ here. lies (4096 * k + 64 * i + j) (4096 * k + 64 * i + j) (4096 * k + 64 * i + j) here (omega arith) (omega arith))
+      (either _ _ (every_below (told_third f (pair_hits (triples_of f).pairs (224 + k) (128 + i)) (4096 * k + 64 * i)) 64 thirds j small)))
+      (either (nat_lt (4096 * k + 64 * i) 2048) _ others))
+      (either (lies_within (plain_ranges f) (4096 * k + 64 * i) (4096 * k + 64 * i + 63)) _ (every_below (told_block f k) 64 parts.1 i little)))
+      (either (lies_within (plain_ranges f) (4096 * k) (4096 * k + 4095)) _ (every_below (told_three f) 16 (told f).of_three k short))
+
+  by_four : (k next last c : ℕ) → k < 8 → 262144 * k ≤ c → c ≤ 262144 * k + 262143 → look3 (240 + k) next last ≡ false → in_ranges (plain_ranges f) c ≡ true
+  by_four k next last c short low high plain =
+      ⊎_elim (λ whole. lies (262144 * k) (262144 * k + 262143) c whole low high)
+      (λ rest.
+      let looked = and_parts (wants_look f (240 + k)) _ rest in
+      let parts = and_parts (not (bit_and (lead_bits f (240 + k)) 13 == 0)) _ looked.1 in
+      let behind = second_of (wants_look f (240 + k)) _ plain looked.0 in
+      let triple = second_of (wants_pair f (240 + k) next) (wants_triple f (240 + k) next last) behind (asked_pair (240 + k) next parts.0) in
+      absurd (true≢false (sym (asked_triple (240 + k) next last parts.1) ∙ triple)))
+      (either (lies_within (plain_ranges f) (262144 * k) (262144 * k + 262143)) _ (every_below (told_four f) 8 (told f).of_four k short))
+
+  -- a character that stands at the front of these bytes
+  pub by_told : (c : ℕ) (more : List ℕ) → c < 1114112 → look_at f (encode_utf8 c ++ more) 0 ≡ false → in_ranges (plain_ranges f) c ≡ true
+  by_told c more scalar plain = at (order c 128) (order c 2048) (order c 65536)
+    where
+      of : (bytes : List ℕ) → encode_utf8 c ≡ bytes → look_at f (bytes ++ more) 0 ≡ false
+      of bytes e = subst (λ l. look_at f (l ++ more) 0 ≡ false) e plain
+
+      at : (c < 128) ⊎ (128 ≤ c) → (c < 2048) ⊎ (2048 ≤ c) → (c < 65536) ⊎ (65536 ≤ c) → in_ranges (plain_ranges f) c ≡ true
+      at (inl small) _ _ = lies 0 127 c (told f).ascii (omega arith) (omega arith)
+      at (inr large) (inl small) _ =
+          let is : 64 * (c / 64) + c % 64 ≡ c = omega arith in
+          subst (λ n. in_ranges (plain_ranges f) n ≡ true) is (by_two (c / 64) (c % 64) _ (omega arith) (omega arith) (of _ (two c large small)))
+      at (inr _) (inr large) (inl small) =
+          let is : 4096 * (c / 4096) + 64 * (c / 64 % 64) + c % 64 ≡ c = omega arith in
+          subst (λ n. in_ranges (plain_ranges f) n ≡ true) is (by_three (c / 4096) (c / 64 % 64) (c % 64) (omega arith) (omega arith) (omega arith) (omega (arith, is)) (of _ (three c large small)))
+      at (inr _) (inr _) (inr large) = by_four (c / 262144) _ _ c (omega arith) (omega arith) (omega arith) (of _ (four c large))

@@ -1,0 +1,18 @@
+use Rattle.std.proofs.Common.{◌≡◌, false, sym, subst, ◌∙◌, ⊎_elim, arith}
+use Rattle.std.proofs.str.Laws.{order}
+use Rattle.nf_calm.specs.Closer.{look_at}
+use Rattle.nf_calm.proofs.LookLemmas.{told_by_lead, lead_begins}
+use Rattle.nf_calm.proofs.bytes.by_bytes.Goals as goal
+
+pub loop-at-preserved : goal.loop-at-preserved
+loop-at-preserved c = record {
+  within = omega arith;
+  plain = λ k inside.
+      ⊎_elim (c.loop-at.invariant.plain k)
+      (λ high. let here : c.loop-at.at ≡ k = omega arith in
+      subst (λ n. look_at c.args.form c.args.bytes.now n ≡ false) here (told_by_lead c.args.form c.args.bytes.now c.loop-at.at (sym c.wants_look.ensures ∙ c.if-not-wants_look.true)))
+      (order k c.loop-at.at);
+}
+
+pub returns-else-not-wants_look-clause-begins : goal.returns-else-not-wants_look-clause-begins
+returns-else-not-wants_look-clause-begins c inside = lead_begins c.args.form _ (sym c.wants_look.ensures ∙ c.if-not-wants_look.false)

@@ -1,0 +1,34 @@
+ghost use Rattle.std.specs.Prelude.{◌≡◌, ◌<◌, ◌≤◌, ◌+◌, ℕ, false, length, slice_index, IsTrue};
+ghost use Rattle.nf_calm.specs.Leads.{wants_look};
+
+use crate::lanes::looks;
+use crate::leads::wants_look;
+use nf_forms::Form;
+
+/// The bytes of a block, which are looked at by one branch.
+const BLOCK: usize = 64;
+
+/// How many bytes there are in the blocks before the first in which a byte begins a character that has to be looked up.
+#[inline(always)]
+pub(crate) fn plain_blocks(form: Form, bytes: &[u8]) -> usize
+    ensures within { result ≤ length bytes.now }
+    ensures plain { (k : ℕ) → k < result → wants_look form (slice_index bytes.now k) ≡ false }
+{
+    let mut at = 0;
+    while bytes.len() - at >= BLOCK && is_plain(form, bytes, at) {
+        at += BLOCK;
+    }
+    at
+}
+
+/// Whether no byte of the block at `at` begins a character that has to be looked up.
+#[inline(always)]
+fn is_plain(form: Form, bytes: &[u8], at: usize) -> bool
+    requires room { at + 64 ≤ length bytes.now }
+    ensures { IsTrue result → (k : ℕ) → at ≤ k → k < at + 64 → wants_look form (slice_index bytes.now k) ≡ false }
+{
+    (looks(form, bytes, at) == 0)
+        & (looks(form, bytes, at + 16) == 0)
+        & (looks(form, bytes, at + 32) == 0)
+        & (looks(form, bytes, at + 48) == 0)
+}
