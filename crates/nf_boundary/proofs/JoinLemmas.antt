@@ -1,0 +1,185 @@
+-- A cluster of Unicode's characters: how a character more joins it, and what it is when a boundary comes.
+use Rattle.std.proofs.Common.{◌≡◌, ◌≢◌, ◌⊎◌, inl, inr, ℕ, ◌+◌, ◌<◌, ◌≤◌, Bool, true, false, not, ◌&&◌, ◌==◌, nat_le, cond, List, [], ◌∷◌, ◌++◌, length, Some, None, refl, sym, ap, ap₂, subst, ◌∙◌, append_assoc, append-nil, arith, eq-eqb, le-leb}
+use Rattle.std.specs.Prelude.{chars, encode_utf8, IsUtf8}
+use Rattle.std.proofs.lemmas.Bool.{ne_eqb, cases_eq, lt-leb}
+use Rattle.std.proofs.lemmas.Str.{chars-nil, chars-append, chars_past_char, IsUtf8-append, IsUtf8-nil}
+use Rattle.ucd_normal.specs.declared.forms.Form.TheVariants.{Nfkd as KitNfkd}
+use Rattle.ucd_normal.specs.declared.forms.QuickCheck.TheVariants.{Yes, No}
+use Rattle.ucd_normal.specs.CanonicalCombiningClass.{canonical_combining_class}
+use Rattle.ucd_normal.specs.QuickCheck.{quick_check}
+use Rattle.nf_forms.specs.declared.form.Form.{Form}
+use Rattle.nf_forms.specs.Forms.{composes}
+use Rattle.nf_forms.specs.Compose.{composite, joined}
+use Rattle.nf_forms.specs.Calm.{IsMark}
+use Rattle.nf_forms.specs.Closed.{BeginsAtBoundary}
+use Rattle.nf_forms.specs.Cluster.{IsOwnRow, blocks, IsCluster}
+use Rattle.nf_forms.specs.Ucd.{ucd}
+use Rattle.nf_forms.specs.Laws.Cluster.{cluster-joined, cluster-left, HasForm-cluster}
+use Rattle.nf_forms.specs.Laws.Sound.{IsSoundText}
+use Rattle.nf_facts.specs.KitForm.{kit_form}
+use Rattle.nf_boundary.specs.declared.seen.Seen.{Seen}
+use Rattle.nf_boundary.specs.declared.cluster.Cluster.{Cluster}
+use Rattle.nf_boundary.specs.Seen.{Sees, IsAtBoundary}
+use Rattle.nf_boundary.specs.Pieces.{Closes}
+use Rattle.nf_boundary.specs.Joins.{IsMadeOf, JoinsFront, Gathers}
+use Rattle.nf_boundary.proofs.PieceLemmas.{IsUtf8-before}
+use Rattle.nf_boundary.proofs.SeenLemmas.{chars-seen}
+
+pub class_of : (c : ℕ) → ucd.class c ≡ canonical_combining_class c
+unfolding ucd
+class_of c = refl
+
+-- what `joined` is, by what blocks c
+module _ (cs : List ℕ) (cluster : Cluster) (here : IsMadeOf cs cluster) (c : ℕ) where
+  joined_by : (b : Bool) → blocks ucd cluster.left.items cluster.highest c ≡ b → joined ucd cluster.starter cluster.left.items c ≡ cond b None (composite ucd cluster.starter c)
+  joined_by b e = ap (λ t. cond t None (composite ucd cluster.starter c)) (here.blocked c ∙ e)
+
+  -- a mark that is left stands in its way
+  pub joined_blocked : (class : ℕ) → class ≡ canonical_combining_class c → length cluster.left.items ≢ 0 → class ≤ cluster.highest → joined ucd cluster.starter cluster.left.items c ≡ None
+  joined_blocked class is some within =
+      joined_by true (ap₂ (λ a b. not a && b) (ne_eqb (length cluster.left.items) 0 some) (le-leb (ucd.class c) cluster.highest (omega (arith, is, class_of c, within))))
+
+  pub joined_none : length cluster.left.items ≡ 0 → joined ucd cluster.starter cluster.left.items c ≡ composite ucd cluster.starter c
+  joined_none none = joined_by false (ap (λ a. not a && nat_le (ucd.class c) cluster.highest) (eq-eqb (length cluster.left.items) 0 none))
+
+  pub joined_above : (class : ℕ) → class ≡ canonical_combining_class c → cluster.highest < class → joined ucd cluster.starter cluster.left.items c ≡ composite ucd cluster.starter c
+  joined_above class is above = joined_by false (ap (λ b. not (length cluster.left.items == 0) && b) (lt-leb (ucd.class c) cluster.highest (omega (arith, is, class_of c, above))) ∙ never (length cluster.left.items == 0))
+    where
+      never : (a : Bool) → (not a && false) ≡ false
+      never true = refl
+      never false = refl
+
+-- a character that is not refused, and is a mark or passes NFKD, is its own row
+module _ (f : Form) (seen : Seen) (sees : Sees f seen) where
+  pub own_row : ((c : ℕ) → 0 < canonical_combining_class c → quick_check (kit_form f) c ≢ No → IsMark ucd c (canonical_combining_class c)) → ((c : ℕ) → quick_check KitNfkd c ≡ Yes → IsOwnRow ucd c)
+      → seen.answer ≢ No → (seen.class ≡ 0 → quick_check KitNfkd seen.character ≡ Yes) → IsOwnRow ucd seen.character
+  own_row marks own may starter = elim (cases_eq seen.class 0) [
+    | inl none ↦ own seen.character (starter none)
+    | inr some ↦
+        let above : 0 < seen.class = omega (arith, some) in
+        let mark = marks seen.character (omega (arith, sees.class, above)) (λ no. may (sees.answer ∙ no)) in
+        record { canonical = mark.canonical; compat = mark.compat }
+  ]
+
+  module _ (cs : List ℕ) (cluster : Cluster) (here : IsMadeOf cs cluster) (own : IsOwnRow ucd seen.character) (follows : (cluster.last ≤ seen.class) ⊎ (seen.class ≡ 0)) (room : cluster.count < 30) where
+    class_is : ucd.class seen.character ≡ seen.class
+    class_is = class_of seen.character ∙ sym sees.class
+
+    in_order : (cluster.last ≤ ucd.class seen.character) ⊎ (ucd.class seen.character ≡ 0)
+    in_order = subst (λ k. (cluster.last ≤ k) ⊎ (k ≡ 0)) (sym class_is) follows
+
+    pub made_joined : (d : ℕ) → joined ucd cluster.starter cluster.left.items seen.character ≡ Some d
+        → IsCluster ucd (cs ++ seen.character ∷ []) d cluster.left.items seen.class cluster.highest (cluster.count + 1)
+    made_joined d both =
+        subst (λ k. IsCluster ucd (cs ++ seen.character ∷ []) d cluster.left.items k cluster.highest (cluster.count + 1)) class_is
+        (cluster-joined ucd cs cluster.starter cluster.left.items cluster.last cluster.highest cluster.count here seen.character own in_order room d both)
+
+    pub made_left : seen.class ≢ 0 → joined ucd cluster.starter cluster.left.items seen.character ≡ None
+        → IsCluster ucd (cs ++ seen.character ∷ []) cluster.starter (cluster.left.items ++ seen.character ∷ []) seen.class seen.class (cluster.count + 1)
+    made_left mark none =
+        subst (λ k. IsCluster ucd (cs ++ seen.character ∷ []) cluster.starter (cluster.left.items ++ seen.character ∷ []) k k (cluster.count + 1)) class_is
+        (cluster-left ucd cs cluster.starter cluster.left.items cluster.last cluster.highest cluster.count here seen.character own in_order room
+        (ne_eqb (ucd.class seen.character) 0 (λ e. mark (sym class_is ∙ e))) none)
+
+-- ---- Hangul letters
+
+-- a letter that composes, where no mark is left
+pub made_letter : (cs : List ℕ) (cluster : Cluster) → IsMadeOf cs cluster → (c : ℕ) → IsOwnRow ucd c → canonical_combining_class c ≡ 0 → cluster.count < 30 → length cluster.left.items ≡ 0
+    → (d : ℕ) → composite ucd cluster.starter c ≡ Some d → IsCluster ucd (cs ++ c ∷ []) d cluster.left.items 0 cluster.highest (cluster.count + 1)
+made_letter cs cluster here c own starter room none d both =
+    let class = class_of c ∙ starter in
+    subst (λ k. IsCluster ucd (cs ++ c ∷ []) d cluster.left.items k cluster.highest (cluster.count + 1)) class
+    (cluster-joined ucd cs cluster.starter cluster.left.items cluster.last cluster.highest cluster.count here c own (inr class) room d (joined_none cs cluster here c none ∙ both))
+
+pub joins_letter : (text rest : List ℕ) (old new : Cluster) (c : ℕ) → IsUtf8 text → IsUtf8 rest → text ≡ encode_utf8 c ++ rest → ((cs : List ℕ) → IsMadeOf cs old → IsMadeOf (cs ++ c ∷ []) new) → JoinsFront text rest old new
+joins_letter text rest old new c whole behind e joins =
+    let u = IsUtf8-before text (encode_utf8 c) rest whole behind e in
+    let one = chars_past_char (encode_utf8 c) [] c u (sym (append-nil (encode_utf8 c))) ∙ ap (λ t. c ∷ t) chars-nil in
+    record { front = encode_utf8 c; split = e; utf8 = u; joins = λ cs made. subst (λ k. IsMadeOf (cs ++ k) new) (sym one) (joins cs made) }
+
+pub joins_none : (text : List ℕ) (cluster : Cluster) → JoinsFront text text cluster cluster
+joins_none text cluster = record {
+  front = [];
+  split = refl;
+  utf8 = IsUtf8-nil;
+  joins = λ cs made. subst (λ k. IsMadeOf k cluster) (sym (ap (λ k. cs ++ k) chars-nil ∙ append-nil cs)) made;
+}
+
+pub joins_both : (text middle rest : List ℕ) (a b c : Cluster) → JoinsFront text middle a b → JoinsFront middle rest b c → JoinsFront text rest a c
+joins_both text middle rest a b c first second = record {
+  front = first.front ++ second.front;
+  split = first.split ∙ ap (λ k. first.front ++ k) second.split ∙ sym (append_assoc first.front second.front rest);
+  utf8 = IsUtf8-append first.front second.front first.utf8 second.utf8;
+  joins = λ cs made.
+      subst (λ k. IsMadeOf k c) (append_assoc cs (chars first.front) (chars second.front) ∙ ap (λ k. cs ++ k) (sym (chars-append first.front second.front first.utf8)))
+      (second.joins (cs ++ chars first.front) (first.joins cs made));
+}
+
+-- ---- the characters from one boundary to the next
+
+module _ (f : Form) (first : Seen) (at : IsAtBoundary f first) where
+  char_utf8 : (seen : Seen) → Sees f seen → IsUtf8 (encode_utf8 seen.character)
+  char_utf8 seen sees = IsUtf8-before seen.text.now (encode_utf8 seen.character) seen.behind.now sees.text_utf8 sees.behind_utf8 sees.text
+
+  chars-one : (seen : Seen) → Sees f seen → chars (encode_utf8 seen.character) ≡ seen.character ∷ []
+  chars-one seen sees =
+      chars_past_char (encode_utf8 seen.character) [] seen.character (char_utf8 seen sees) (sym (append-nil (encode_utf8 seen.character))) ∙ ap (λ t. seen.character ∷ t) chars-nil
+
+  begins_one : BeginsAtBoundary ucd f (chars (encode_utf8 first.character))
+  begins_one =
+      let same : first.character ∷ chars first.behind.now ≡ at.begins.first ∷ at.begins.rest = sym (chars-seen f first at.sees) ∙ at.begins.text in
+      let head : at.begins.first ≡ first.character = cc in
+      record { first = at.begins.first; rest = []; text = chars-one first at.sees ∙ ap (λ k. k ∷ []) (sym head); boundary = at.begins.boundary; sound = at.begins.sound }
+
+  pub gathers_first : (one cluster : Cluster) (next : Seen) (rest : List ℕ) → IsMadeOf (first.character ∷ []) one → JoinsFront first.behind.now rest one cluster → next.text.now ≡ rest → Sees f next
+      → Gathers f first next cluster
+  gathers_first one cluster next rest made letters is sees =
+      let letter = encode_utf8 first.character in
+      let u = char_utf8 first at.sees in
+      let grown = chars-append letter letters.front u ∙ ap (λ k. k ++ chars letters.front) (chars-one first at.sees) in
+      record {
+        front = letter ++ letters.front;
+        split = at.sees.text ∙ ap (λ k. letter ++ k) (letters.split ∙ ap (λ k. letters.front ++ k) (sym is)) ∙ sym (append_assoc letter letters.front next.text.now);
+        utf8 = IsUtf8-append letter letters.front u letters.utf8;
+        begins = record {
+          first = begins_one.first;
+          rest = begins_one.rest ++ chars letters.front;
+          text = chars-append letter letters.front u ∙ ap (λ k. k ++ chars letters.front) begins_one.text;
+          boundary = begins_one.boundary;
+          sound = begins_one.sound;
+        };
+        sees = sees;
+        made = subst (λ k. IsMadeOf k cluster) (sym grown) (letters.joins (first.character ∷ []) made);
+      }
+
+  module _ (cluster : Cluster) (seen : Seen) (here : Gathers f first seen cluster) where
+    pub gathers_more : (cluster' : Cluster) (next : Seen) → ((cs : List ℕ) → IsMadeOf cs cluster → IsMadeOf (cs ++ seen.character ∷ []) cluster') → next.text.now ≡ seen.behind.now → Sees f next
+        → Gathers f first next cluster'
+    gathers_more cluster' next joins is sees =
+        let letter = encode_utf8 seen.character in
+        let grown = chars-append here.front letter here.utf8 ∙ ap (λ k. chars here.front ++ k) (chars-one seen here.sees) in
+        record {
+          front = here.front ++ letter;
+          split = here.split ∙ ap (λ k. here.front ++ k) (here.sees.text ∙ ap (λ k. letter ++ k) (sym is)) ∙ sym (append_assoc here.front letter next.text.now);
+          utf8 = IsUtf8-append here.front letter here.utf8 (char_utf8 seen here.sees);
+          begins = record {
+            first = here.begins.first;
+            rest = here.begins.rest ++ seen.character ∷ [];
+            text = grown ∙ ap (λ k. k ++ seen.character ∷ []) here.begins.text;
+            boundary = here.begins.boundary;
+            sound = here.begins.sound;
+          };
+          sees = sees;
+          made = subst (λ k. IsMadeOf k cluster') (sym grown) (joins (chars here.front) here.made);
+        }
+
+    pub gathers_closed : composes f ≡ true → ((x : List ℕ) → IsSoundText ucd x) → IsAtBoundary f seen → (old new : List ℕ) → new ≡ old ++ cluster.starter ∷ cluster.left.items → Closes f first.text.now seen old new
+    gathers_closed composing sound behind old new formed = record {
+      piece = here.front;
+      more = cluster.starter ∷ cluster.left.items;
+      split = here.split;
+      utf8 = here.utf8;
+      form = HasForm-cluster ucd f composing (chars here.front) cluster.starter cluster.left.items cluster.last cluster.highest cluster.count here.made here.begins (sound (chars here.front));
+      formed = formed;
+      behind = behind;
+    }

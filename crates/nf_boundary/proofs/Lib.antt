@@ -1,0 +1,4 @@
+pub mod SeenLemmas
+pub mod PieceLemmas
+pub mod JoinLemmas
+pub mod ApartLemmas

@@ -1,0 +1,127 @@
+-- A text closed piece by piece: its calm part, a piece more, and the front that comes of it.
+use Rattle.std.proofs.Common.{◌≡◌, ◌≢◌, ◌⊎◌, inl, inr, ⊎_elim, ℕ, ◌<◌, List, [], ◌∷◌, ◌++◌, length, take, drop, refl, sym, ap, subst, ◌∙◌, arith, append_assoc, append-nil, length-append, take_at, drop_at}
+use Rattle.std.specs.Prelude.{chars, encode_utf8_all, IsUtf8}
+use Rattle.std.specs.Str.{IsCharBoundary}
+use Rattle.std.proofs.lemmas.Str.{chars-nil, chars-append, encodes-chars, IsUtf8-append, IsUtf8-take, IsCharBoundary-at_seam}
+use Rattle.nf_forms.specs.declared.form.Form.{Form}
+use Rattle.nf_forms.specs.Calm.{IsCalm}
+use Rattle.nf_forms.specs.Closed.{HasForm}
+use Rattle.nf_forms.specs.Ucd.{ucd}
+use Rattle.nf_forms.specs.Laws.Sound.{IsSoundText}
+use Rattle.nf_forms.specs.Laws.Closed.{HasForm-append}
+use Rattle.nf_forms.specs.Laws.ClosedForms.{calm-front, HasForm-calm}
+use Rattle.nf_calm.specs.Front.{IsCalmFront}
+use Rattle.nf_boundary.specs.declared.seen.Seen.{Seen}
+use Rattle.nf_boundary.specs.Front.{IsClosedFront}
+use Rattle.nf_boundary.specs.Seen.{IsAtBoundary}
+use Rattle.nf_boundary.specs.Pieces.{Closes, Reaches}
+
+-- what stands before a whole text, within a text, is text
+pub IsUtf8-before : (text front back : List ℕ) → IsUtf8 text → IsUtf8 back → text ≡ front ++ back → IsUtf8 front
+IsUtf8-before text front back whole u e =
+    let n = length front in
+    subst IsUtf8 (ap (take n) e ∙ take_at front back n refl) (IsUtf8-take text n whole (IsCharBoundary-at_seam text front back e u))
+
+-- ---- a text cut at a seam
+
+module _ (text a b : List ℕ) (n : ℕ) (e : text ≡ a ++ b) (same : length a ≡ n) where
+  pub seam : IsUtf8 b → IsCharBoundary text n
+  seam u = subst (IsCharBoundary text) same (IsCharBoundary-at_seam text a b e u)
+
+  pub take-seam : take n text ≡ a
+  take-seam = ap (take n) e ∙ take_at a b n same
+
+  pub drop-seam : drop n text ≡ b
+  drop-seam = ap (drop n) e ∙ drop_at a b n same
+
+module _ (f : Form) where
+  -- ---- calm text
+
+  -- nothing, or a text that is its own form
+  IsOwn : List ℕ → List ℕ → Type 0
+  IsOwn same formed = ((same ≡ []) × (same ≡ []) × (formed ≡ [])) ⊎ HasForm ucd f (chars same) (chars same ++ formed)
+
+  own_calm : (same : List ℕ) → IsUtf8 same → (class count : ℕ) → IsCalm ucd f (chars same) class count → ((x : List ℕ) → IsSoundText ucd x) → IsOwn same []
+  unfolding IsOwn
+  own_calm same u class count calm sound = next (chars same) refl
+    where
+      next : (cs : List ℕ) → chars same ≡ cs → IsOwn same []
+      next [] e = let none : same ≡ [] = sym (encodes-chars same u) ∙ ap encode_utf8_all e in inl (none, none, refl)
+      next (c ∷ cs) e =
+          let here = HasForm-calm ucd f c cs class count (subst (λ k. IsCalm ucd f k class count) e calm) (sound (c ∷ cs)) in
+          inr (subst (λ k. HasForm ucd f k (k ++ [])) (sym e) (subst (HasForm ucd f (c ∷ cs)) (sym (append-nil (c ∷ cs))) here))
+
+  module _ (whole settled tail rest : List ℕ) (calm : IsCalmFront ucd f whole settled tail rest) (first : IsUtf8 settled) (second : IsUtf8 tail) (sound : (x : List ℕ) → IsSoundText ucd x) where
+    -- up to where it ends
+    pub reaches_end : (same : List ℕ) (next : Seen) → same ≡ settled ++ tail → next.text.now ≡ rest → IsAtBoundary f next → Reaches f whole same [] next
+    unfolding own_calm IsOwn
+    reaches_end same next e is behind =
+        let text = chars-append settled tail first in
+        let u = IsUtf8-append settled tail first second in
+        subst (λ k. Reaches f whole k [] next) (sym e) (record {
+          front = settled ++ tail;
+          split = calm.text ∙ sym (append_assoc settled tail rest) ∙ ap (λ k. (settled ++ tail) ++ k) (sym is);
+          utf8 = u;
+          form = own_calm (settled ++ tail) u calm.class calm.count (subst (λ k. IsCalm ucd f k calm.class calm.count) (sym text) calm.calm) sound;
+          behind = behind;
+        })
+
+    -- up to what of it is settled
+    pub reaches_settled : (same : List ℕ) (next : Seen) → same ≡ settled → next.text.now ≡ tail ++ rest → IsAtBoundary f next → Reaches f whole same [] next
+    unfolding own_calm IsOwn
+    reaches_settled same next e is behind =
+        let front = calm-front ucd f (chars settled) (chars tail) calm.class calm.count calm.calm in
+        subst (λ k. Reaches f whole k [] next) (sym e) (record {
+          front = settled;
+          split = calm.text ∙ ap (λ k. settled ++ k) (sym is);
+          utf8 = first;
+          form = own_calm settled first front.0 front.1 front.2 sound;
+          behind = behind;
+        })
+
+  -- ---- a piece more
+
+  pub closes_shorter : (text : List ℕ) (next : Seen) (old new : List ℕ) → Closes f text next old new → length next.text.now < length text
+  closes_shorter text next old new here = some here.piece here.split here.form.begins.text
+    where
+      some : (piece : List ℕ) → text ≡ piece ++ next.text.now → chars piece ≡ here.form.begins.first ∷ here.form.begins.rest → length next.text.now < length text
+      some [] e is = let none : [] ≡ here.form.begins.first ∷ here.form.begins.rest = sym chars-nil ∙ is in cc
+      some (b ∷ piece) e is = omega (arith, ap length e, length-append piece next.text.now)
+
+  module _ (whole same formed : List ℕ) (next : Seen) (here : Reaches f whole same formed next) where
+    pub reaches_more : (next' : Seen) (formed' : List ℕ) → Closes f next.text.now next' formed formed' → Reaches f whole same formed' next'
+    reaches_more next' formed' more = record {
+      front = here.front ++ more.piece;
+      split = here.split ∙ ap (λ k. here.front ++ k) more.split ∙ sym (append_assoc here.front more.piece next'.text.now);
+      utf8 = IsUtf8-append here.front more.piece here.utf8 more.utf8;
+      form = inr (⊎_elim alone behind here.form);
+      behind = more.behind;
+    }
+      where
+        text : chars (here.front ++ more.piece) ≡ chars here.front ++ chars more.piece
+        text = chars-append here.front more.piece here.utf8
+
+        formed_is : (chars same ++ formed) ++ more.more ≡ chars same ++ formed'
+        formed_is = append_assoc (chars same) formed more.more ∙ ap (λ k. chars same ++ k) (sym more.formed)
+
+        behind : HasForm ucd f (chars here.front) (chars same ++ formed) → HasForm ucd f (chars (here.front ++ more.piece)) (chars same ++ formed')
+        behind front = subst (λ k. HasForm ucd f k (chars same ++ formed')) (sym text) (subst (HasForm ucd f (chars here.front ++ chars more.piece)) formed_is
+            (HasForm-append ucd f (chars here.front) (chars more.piece) (chars same ++ formed) more.more front more.form))
+
+        alone : (here.front ≡ []) × (same ≡ []) × (formed ≡ []) → HasForm ucd f (chars (here.front ++ more.piece)) (chars same ++ formed')
+        alone none =
+            subst (λ k. HasForm ucd f (chars k) (chars same ++ formed')) (ap (λ k. k ++ more.piece) (sym none.0))
+            (subst (HasForm ucd f (chars more.piece)) (sym (ap (λ k. chars k ++ formed') none.1 ∙ ap (λ k. k ++ formed') chars-nil ∙ more.formed ∙ ap (λ k. k ++ more.more) none.2)) more.form)
+
+    -- where it is not empty, it is a closed front
+    pub closed_front : length next.text.now ≢ length whole → IsClosedFront ucd f whole same formed next.text.now
+    closed_front some =
+        ⊎_elim (λ none. absurd (some (sym (ap length (here.split ∙ ap (λ k. k ++ next.text.now) none.0)))))
+        (λ form. record {
+          front = here.front;
+          text = here.split;
+          characters = ap chars here.split ∙ chars-append here.front next.text.now here.utf8;
+          form = form;
+          next = here.behind.begins;
+        })
+        here.form

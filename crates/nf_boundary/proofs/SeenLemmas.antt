@@ -1,0 +1,52 @@
+-- A character as one look-up sees it: what stands behind it, and when a text may be cut before it.
+use Rattle.std.proofs.Common.{◌≡◌, ◌<◌, ◌||◌, ℕ, false, ◌∷◌, length, sym, ap, ◌∙◌, arith, length-append, eq-eqb}
+use Rattle.std.specs.Prelude.{chars, encode_utf8, IsTrue}
+use Rattle.std.proofs.lemmas.Bool.{and_from, or_parts, not_from_false}
+use Rattle.std.proofs.lemmas.Str.{chars_past_char, length-encode, len_utf8_bounds}
+use Rattle.ucd_normal.specs.declared.forms.QuickCheck.TheVariants.{Yes}
+use Rattle.ucd_normal.specs.CanonicalCombiningClass.{canonical_combining_class}
+use Rattle.nf_forms.specs.Runs.{lead}
+use Rattle.nf_forms.specs.declared.form.Form.{Form}
+use Rattle.nf_forms.specs.Forms.{composes}
+use Rattle.nf_forms.specs.Sound.{is_sound}
+use Rattle.nf_forms.specs.Parting.{IsBoundary, IsParting}
+use Rattle.nf_forms.specs.Ucd.{ucd}
+use Rattle.nf_forms.specs.Laws.ClosedForms.{parting-boundary, boundary-decomposing}
+use Rattle.nf_facts.specs.Passing.{is_among, is_yes, halfwidth_marks, vowel_signs, passes_check}
+use Rattle.nf_boundary.specs.declared.seen.Seen.{Seen}
+use Rattle.nf_boundary.specs.Seen.{Sees, IsAtBoundary}
+
+module _ (f : Form) (seen : Seen) (here : Sees f seen) where
+  pub chars-seen : chars seen.text.now ≡ seen.character ∷ chars seen.behind.now
+  chars-seen = chars_past_char seen.text.now seen.behind.now seen.character here.text_utf8 here.text
+
+  -- what stands behind it is shorter
+  pub shorter : (next : Seen) → next.text.now ≡ seen.behind.now → length next.text.now < length seen.text.now
+  shorter next is =
+      let width = len_utf8_bounds seen.character in
+      omega (arith, ap length is, ap length here.text, length-append (encode_utf8 seen.character) seen.behind.now, length-encode seen.character, width.0)
+
+  module _ (sound : (c : ℕ) → IsTrue (is_sound ucd c)) (class : seen.class ≡ 0) (plain : (is_among halfwidth_marks seen.character || is_among vowel_signs seen.character) ≡ false) where
+    at : IsBoundary ucd f seen.character → IsAtBoundary f seen
+    at boundary = record {
+      sees = here;
+      begins = record { first = seen.character; rest = chars seen.behind.now; text = chars-seen; boundary = boundary; sound = sound seen.character };
+      class = class;
+    }
+
+    starter : canonical_combining_class seen.character ≡ 0
+    starter = sym here.class ∙ class
+
+    -- in a form that composes
+    pub boundary_composing : ((c : ℕ) → IsTrue (passes_check f c) → IsParting ucd f c) → seen.answer ≡ Yes → IsAtBoundary f seen
+    boundary_composing parting is =
+        let marks = or_parts (is_among halfwidth_marks seen.character) (is_among vowel_signs seen.character) plain in
+        at (parting-boundary ucd f seen.character (parting seen.character
+        (and_from _ _ (and_from _ _ (eq-eqb (canonical_combining_class seen.character) 0 starter) (ap is_yes (sym here.answer ∙ is))) (not_from_false _ marks.0))))
+
+    -- in one that does not
+    pub boundary_apart : ((c : ℕ) → canonical_combining_class c ≡ 0 → is_among vowel_signs c ≡ false → is_among halfwidth_marks c ≡ false → lead ucd (ucd.compat c) ≡ 0)
+        → composes f ≡ false → IsAtBoundary f seen
+    boundary_apart begins apart =
+        let marks = or_parts (is_among halfwidth_marks seen.character) (is_among vowel_signs seen.character) plain in
+        at (boundary-decomposing ucd f apart seen.character (sound seen.character) (begins seen.character starter marks.1 marks.0))

@@ -1,0 +1,4 @@
+pub mod Front
+pub mod Seen
+pub mod Pieces
+pub mod Joins

@@ -1,0 +1,26 @@
+-- A text from one normalization boundary to another, piece by piece, in bytes of UTF-8.
+use Rattle.std.specs.Prelude.{◌≡◌, ◌⊎◌, ℕ, List, [], ◌++◌, chars, IsUtf8}
+use Rattle.nf_forms.specs.declared.form.Form.{Form}
+use Rattle.nf_forms.specs.Closed.{HasForm}
+use Rattle.nf_forms.specs.Ucd.{ucd}
+use Rattle.nf_boundary.specs.declared.seen.Seen.{Seen}
+use Rattle.nf_boundary.specs.Seen.{IsAtBoundary}
+
+-- a piece of the text is closed, behind which a boundary comes, and its form was appended
+pub record Closes (f : Form) (text : List ℕ) (next : Seen) (old new : List ℕ) : Type 0 where
+  pub piece : List ℕ
+  pub more : List ℕ
+  pub split : text ≡ piece ++ next.text.now
+  pub utf8 : IsUtf8 piece
+  pub form : HasForm ucd f (chars piece) more
+  pub formed : new ≡ old ++ more
+  pub behind : IsAtBoundary f next
+
+-- the text is a front, which is closed where it is not empty, and a boundary comes behind it; the form of the front is
+-- `same` as it stands and then `formed`
+pub record Reaches (f : Form) (whole same formed : List ℕ) (next : Seen) : Type 0 where
+  pub front : List ℕ
+  pub split : whole ≡ front ++ next.text.now
+  pub utf8 : IsUtf8 front
+  pub form : ((front ≡ []) × (same ≡ []) × (formed ≡ [])) ⊎ HasForm ucd f (chars front) (chars same ++ formed)
+  pub behind : IsAtBoundary f next

@@ -1,0 +1,160 @@
+use crate::closed::Formed;
+use crate::seen::Seen;
+use arrayvec::ArrayVec;
+use nf_facts::laws;
+use ucd_normal::{Form, QuickCheck, quick_check};
+use unicode_normalization::char::compose;
+
+/// As many non-starters may follow one another in NFKD (UAX #15, section 13).
+const MAX_RUN: u8 = 30;
+
+/// What the characters from a starter on have become, by canonical composition (The Unicode Standard, section 3.11,
+/// D117): a starter, and the marks that are left behind it.
+#[derive(Drop)]
+pub(crate) struct Cluster {
+    starter: char,
+    left: ArrayVec<char, 12>,
+    /// The class of the last character.
+    last: u8,
+    /// The greatest class of a mark that is left, where there is one.
+    highest: u8,
+    /// How many characters they are.
+    count: u8,
+}
+
+impl Cluster {
+    ghost use Rattle.std.specs.Prelude.{◌≡◌, ◌<◌, ◌≤◌, ◌⊎◌, ℕ, List, [], ◌∷◌, ◌++◌, length, IfSome, IsTrue, IsSome, IsNone};
+    ghost use Rattle.ucd_normal.specs.declared.forms.Form.TheVariants.{Nfkd};
+    ghost use Rattle.ucd_normal.specs.declared.forms.QuickCheck.TheVariants.{Yes};
+    ghost use Rattle.ucd_normal.specs.CanonicalCombiningClass.{canonical_combining_class};
+    ghost use Rattle.ucd_normal.specs.QuickCheck.{quick_check};
+    ghost use Rattle.nf_forms.specs.Ucd.{ucd};
+    ghost use Rattle.nf_forms.specs.Compose.{joined};
+    ghost use Rattle.nf_boundary.specs.Seen.{Sees};
+    ghost use Rattle.nf_boundary.specs.Joins.{IsMadeOf, JoinsFront};
+
+    /// A starter alone.
+    #[inline(always)]
+    pub fn new(starter: char) -> Cluster
+        requires class { canonical_combining_class starter ≡ 0 }
+        requires own { quick_check Nfkd starter ≡ Yes }
+        ensures { IsMadeOf (starter ∷ []) result }
+    {
+        laws::what_passes_in_nfkd_is_its_own_row();
+        Cluster {
+            starter,
+            left: ArrayVec::new(),
+            last: 0,
+            highest: 0,
+            count: 1,
+        }
+    }
+
+    /// The Hangul letters that the text begins with and that compose with the starter; answers what stands behind them.
+    /// By arithmetic (The Unicode Standard, section 3.12), with no look-up.
+    #[inline(always)]
+    pub fn join_letters<'t>(&mut self, text: &'t str) -> &'t str
+        ensures { JoinsFront text.now result.now self.old self.new }
+    {
+        let mut rest = text;
+        while let Some(behind) = self.join_letter(rest) {
+            rest = behind;
+        }
+        rest
+    }
+
+    /// A vowel or a trailing consonant, where it composes.
+    #[inline(always)]
+    fn join_letter<'t>(&mut self, text: &'t str) -> Option<&'t str>
+        ensures joins { IfSome result (λ rest. JoinsFront text.now rest.now self.old self.new × (length rest.now < length text.now)) }
+        ensures stays { IsNone result → self.new ≡ self.old }
+    {
+        laws::hangul_letters_are_their_own_rows();
+        laws::each_pair_has_a_primary_composite();
+        let mut chars = text.chars();
+        let letter = chars.next()?;
+        if letter < '\u{1161}' || letter > '\u{11C2}' {
+            return None;
+        }
+        if self.count >= MAX_RUN || !self.left.is_empty() {
+            return None;
+        }
+        self.starter = compose(self.starter, letter)?;
+        self.last = 0;
+        self.count += 1;
+        Some(chars.as_str())
+    }
+
+    /// One character more, where it is known what becomes of it: a mark that stands in order, or a starter that composes.
+    #[inline(always)]
+    pub fn join(&mut self, form: nf_forms::Form, seen: Seen<'_>) -> bool
+        requires { Sees form seen }
+        ensures { IsTrue result → (cs : List ℕ) → IsMadeOf cs self.old → IsMadeOf (cs ++ seen.entry.character ∷ []) self.new }
+    {
+        laws::the_quick_check_tells();
+        laws::what_passes_in_nfkd_is_its_own_row();
+        if seen.answer == QuickCheck::No || self.count >= MAX_RUN || !self.may_follow(seen) {
+            return false;
+        }
+        match self.composite_with(seen.character, seen.class) {
+            Some(composite) => self.starter = composite,
+            None => {
+                if seen.class == 0 || self.left.is_full() {
+                    return false;
+                }
+                self.left.push(seen.character);
+                self.highest = seen.class;
+            }
+        }
+        self.last = seen.class;
+        self.count += 1;
+        true
+    }
+
+    /// A starter that is its own decomposition, or a mark of no smaller class than the last.
+    #[inline(always)]
+    fn may_follow(&self, seen: Seen<'_>) -> bool
+        ensures { IsTrue result → (seen.entry.class ≡ 0 → quick_check Nfkd seen.entry.character ≡ Yes) × ((self.now.last ≤ seen.entry.class) ⊎ (seen.entry.class ≡ 0)) }
+    {
+        if seen.class == 0 {
+            quick_check(seen.character, Form::Nfkd) == QuickCheck::Yes
+        } else {
+            seen.class >= self.last
+        }
+    }
+
+    /// What `c` becomes with the starter, unless a mark that is left keeps it from that (D115).
+    #[inline(always)]
+    fn composite_with(&self, c: char, class: u8) -> Option<char>
+        requires { class ≡ canonical_combining_class c }
+        ensures { (cs : List ℕ) → IsMadeOf cs self.now → result ≡ joined ucd self.now.starter self.now.left.items c }
+    {
+        laws::each_pair_has_a_primary_composite();
+        if !self.left.is_empty() && class <= self.highest {
+            return None;
+        }
+        compose(self.starter, c)
+    }
+
+    /// Whether it is one character.
+    #[inline(always)]
+    pub fn is_alone(&self) -> bool {
+        self.count == 1
+    }
+
+    /// Appends the starter and the marks, where there is room.
+    #[inline(always)]
+    pub fn append_to(&self, formed: &mut Formed) -> Option<()>
+        ensures some { IsSome result → formed.new.items ≡ formed.old.items ++ self.now.starter ∷ self.now.left.items }
+        ensures none { IsNone result → formed.new ≡ formed.old }
+    {
+        if formed.remaining_capacity() <= self.left.len() {
+            return None;
+        }
+        formed.push(self.starter);
+        if self.left.is_empty() {
+            return Some(());
+        }
+        formed.try_extend_from_slice(&self.left).ok()
+    }
+}

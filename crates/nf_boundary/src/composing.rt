@@ -1,0 +1,43 @@
+ghost use Rattle.std.specs.Prelude.{◌≡◌, true, IfSome, IsNone};
+ghost use Rattle.nf_forms.specs.Forms.{composes};
+ghost use Rattle.nf_boundary.specs.Seen.{IsAtBoundary};
+ghost use Rattle.nf_boundary.specs.Pieces.{Closes};
+
+use crate::closed::Formed;
+use crate::cluster::Cluster;
+use crate::seen::Seen;
+use nf_facts::laws;
+use ucd_normal::{Form, QuickCheck, quick_check};
+
+/// Appends what a starter and the characters behind it become, up to the next boundary, and answers that: in a form that
+/// composes, so much is closed. It answers only where something comes between.
+#[inline(always)]
+pub(crate) fn compose_cluster<'t>(
+    form: nf_forms::Form,
+    first: Seen<'t>,
+    formed: &mut Formed,
+) -> Option<Seen<'t>>
+    requires first { IsAtBoundary form first }
+    requires composing { composes form ≡ true }
+    ensures closes { IfSome result (λ next. Closes form first.entry.text.now next formed.old.items formed.new.items) }
+    ensures stays { IsNone result → formed.new ≡ formed.old }
+{
+    laws::every_character_is_sound();
+    if quick_check(first.character, Form::Nfkd) != QuickCheck::Yes {
+        return None;
+    }
+    let mut cluster = Cluster::new(first.character);
+    let behind = cluster.join_letters(first.behind);
+    let mut next = Seen::first(form, behind)?;
+    if cluster.is_alone() && next.is_boundary(form) {
+        return None;
+    }
+    while !next.is_boundary(form) {
+        if !cluster.join(form, next) {
+            return None;
+        }
+        next = Seen::first(form, next.behind)?;
+    }
+    cluster.append_to(formed)?;
+    Some(next)
+}

@@ -1,0 +1,14 @@
+//! The form of a text from one normalization boundary to another (UAX #15, section 9): what stands between two is decided,
+//! whatever comes before and behind, so that it can be written at once. Pure functions over `&str`, for the data of the
+//! Unicode Character Database.
+#![tactic(auto)]
+
+mod apart;
+mod closed;
+mod cluster;
+mod composing;
+mod front;
+mod seen;
+
+pub use closed::{Closed, Formed};
+pub use front::closed_front;

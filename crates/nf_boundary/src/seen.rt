@@ -1,0 +1,107 @@
+ghost use Rattle.std.specs.Prelude.{◌≡◌, ◌||◌};
+ghost use Rattle.nf_forms.specs.Forms.{composes};
+ghost use Rattle.nf_facts.specs.KitForm.{kit_form};
+ghost use Rattle.nf_facts.specs.Passing.{is_among, halfwidth_marks, vowel_signs};
+
+use nf_facts::laws;
+use nf_forms::Form;
+use ucd_normal::{QuickCheck, class_and_quick_check};
+
+/// The first character of a text, as one look-up sees it.
+#[derive(Clone, Copy)]
+pub(crate) struct Seen<'t> {
+    /// The text that it begins.
+    pub text: &'t str,
+    pub character: char,
+    pub class: u8,
+    pub answer: QuickCheck,
+    /// What stands behind it.
+    pub behind: &'t str,
+}
+
+impl<'t> Seen<'t> {
+    ghost use Rattle.std.specs.Prelude.{IsTrue, IfSome};
+    ghost use Rattle.nf_boundary.specs.Seen.{Sees, IsAtBoundary};
+
+    #[inline(always)]
+    pub fn first(form: Form, text: &'t str) -> Option<Seen<'t>>
+        ensures { IfSome result (λ seen. (seen.text.now ≡ text.now) × Sees form seen) }
+    {
+        let mut chars = text.chars();
+        let character = chars.next()?;
+        let (class, answer) = class_and_quick_check(character, in_tables(form));
+        Some(Seen {
+            text,
+            character,
+            class,
+            answer,
+            behind: chars.as_str(),
+        })
+    }
+
+    /// The first character, where a text may be cut before it.
+    #[inline(always)]
+    pub fn boundary(form: Form, text: &'t str) -> Option<Seen<'t>>
+        ensures { IfSome result (λ seen. (seen.text.now ≡ text.now) × IsAtBoundary form seen) }
+    {
+        let seen = Seen::first(form, text)?;
+        if !seen.is_boundary(form) {
+            return None;
+        }
+        Some(seen)
+    }
+
+    /// Whether one look-up tells that a text may be cut before it: a starter whose compatibility decomposition begins with
+    /// a starter, and which in a form that composes passes the quick check.
+    #[inline(always)]
+    pub fn is_boundary(self, form: Form) -> bool
+        requires { Sees form self }
+        ensures { IsTrue result → IsAtBoundary form self.entry }
+    {
+        laws::every_character_is_sound();
+        laws::exceptions_are_few();
+        laws::the_quick_check_tells();
+        if self.class != 0 {
+            return false;
+        }
+        if begins_with_mark(self.character) {
+            return false;
+        }
+        !composes(form) || self.answer == QuickCheck::Yes
+    }
+}
+
+/// Whether `c` is one of the five starters whose compatibility decompositions begin with a non-starter.
+#[inline]
+const fn begins_with_mark(c: char) -> bool
+    ensures { result ≡ (is_among halfwidth_marks c || is_among vowel_signs c) }
+{
+    matches!(
+        c,
+        '\u{FF9E}' | '\u{FF9F}' | '\u{F73}' | '\u{F75}' | '\u{F81}'
+    )
+}
+
+/// Whether the form ends in composition.
+#[inline]
+pub(crate) const fn composes(form: Form) -> bool
+    ensures { result ≡ composes form }
+{
+    match form {
+        Form::Nfc | Form::Nfkc => true,
+        Form::Nfd | Form::Nfkd => false,
+    }
+}
+
+/// The form in the words of the tables.
+#[inline]
+pub(crate) const fn in_tables(form: Form) -> ucd_normal::Form
+    ensures { result ≡ kit_form form }
+{
+    match form {
+        Form::Nfc => ucd_normal::Form::Nfc,
+        Form::Nfd => ucd_normal::Form::Nfd,
+        Form::Nfkc => ucd_normal::Form::Nfkc,
+        Form::Nfkd => ucd_normal::Form::Nfkd,
+    }
+}

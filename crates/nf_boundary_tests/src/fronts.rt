@@ -1,0 +1,138 @@
+//! Texts whose closed front was found by hand, from UnicodeData.txt and DerivedNormalizationProps.txt.
+use crate::reference::checked;
+use nf_boundary::closed_front;
+use nf_forms::Form;
+use std::alloc::Global;
+use std::process::Abort;
+use std::test::Fail;
+
+const TWELVE: &str =
+    "\u{316}\u{316}\u{316}\u{316}\u{316}\u{316}\u{316}\u{316}\u{316}\u{316}\u{316}\u{316}";
+
+/// What stands as it is, what the form changes, its form, and the rest of the text that they make up.
+type Front = (&'static str, &'static str, &'static str, &'static str);
+
+fn check<T: Abort>(rt: &T, alloc: Global, form: Form, fronts: &[Front]) -> Result<(), Fail> {
+    for (same, changed, formed, rest) in fronts {
+        let text = format!(in alloc; "{same}{changed}{rest}")?;
+        let closed = closed_front(form, &text);
+        assert!(rt; closed.is_some(), "{form:?}: {text:?}");
+        if let Some(closed) = closed {
+            let mut found = String::new(alloc);
+            for c in &closed.formed {
+                found.push(*c)?;
+            }
+            assert_eq!(rt;
+                (closed.same, found.as_str(), closed.rest),
+                (*same, *formed, *rest),
+                "{form:?}: {text:?}"
+            );
+        }
+        checked(rt, alloc, form, &text)?;
+    }
+    Ok(())
+}
+
+fn check_none<T: Abort>(rt: &T, form: Form, texts: &[&str]) {
+    for text in texts {
+        assert!(rt; closed_front(form, text).is_none(), "{form:?}: {text:?}");
+    }
+}
+
+/// The classes of U+0334, U+0316, U+0323 and U+0301 are 1, 220, 220 and 230; U+0078 and U+0301 have no composite.
+#[test]
+fn composed(rt: HostRuntime) -> Result<(), Fail> {
+    let fronts = [
+        ("ab", "", "", "c"),
+        ("Vi", "e\u{323}\u{302}", "\u{1EC7}", "t"),
+        ("", "x\u{301}", "x\u{301}", "y"),
+        ("", "a\u{316}\u{301}", "\u{E1}\u{316}", "b"),
+        ("", "a\u{301}\u{301}", "\u{E1}\u{301}", "b"),
+        ("", "a\u{334}\u{323}\u{301}", "\u{1EA1}\u{334}\u{301}", "b"),
+        (
+            "",
+            "\u{1112}\u{1161}\u{11AB}\u{1100}\u{1173}\u{11AF}",
+            "\u{D55C}\u{AE00}",
+            " ",
+        ),
+        ("", "\u{9C7}\u{9BE}", "\u{9CB}", "\u{995}"),
+        ("\u{EA}", "e\u{301}", "\u{E9}", "\u{EA}\u{323}"),
+        ("a", "", "", "b\u{323}\u{334}c"),
+    ];
+    check(&rt, rt.alloc(), Form::Nfc, &fronts)?;
+    check(&rt, rt.alloc(), Form::Nfkc, &fronts)
+}
+
+#[test]
+fn decomposed(rt: HostRuntime) -> Result<(), Fail> {
+    let fronts = [
+        ("ab", "", "", "c"),
+        ("Vi", "\u{1EC7}", "e\u{323}\u{302}", "t"),
+        (
+            "",
+            "\u{D55C}\u{AE00}",
+            "\u{1112}\u{1161}\u{11AB}\u{1100}\u{1173}\u{11AF}",
+            " ",
+        ),
+        ("", "\u{D55C}", "\u{1112}\u{1161}\u{11AB}", "\u{E9}\u{301}"),
+        ("a", "", "", "\u{E9}\u{301}b"),
+        ("e\u{301}", "\u{E9}", "e\u{301}", "e\u{301}"),
+    ];
+    check(&rt, rt.alloc(), Form::Nfd, &fronts)?;
+    check(&rt, rt.alloc(), Form::Nfkd, &fronts)?;
+    let compatible = [
+        ("a", "\u{FB01}\u{FF21}", "fiA", "x"),
+        (
+            "",
+            "\u{FDFA}",
+            "\u{635}\u{644}\u{649} \u{627}\u{644}\u{644}\u{647} \u{639}\u{644}\u{64A}\u{647} \u{648}\u{633}\u{644}\u{645}",
+            "\u{FDFA}x",
+        ),
+    ];
+    check(&rt, rt.alloc(), Form::Nfkd, &compatible)
+}
+
+/// Nothing is told where the text does not begin at a boundary, or none comes behind, or what comes between is not known:
+/// U+00EA and U+0323 have no composite, yet the marks must change places.
+#[test]
+fn none(rt: HostRuntime) {
+    check_none(
+        &rt,
+        Form::Nfc,
+        &[
+            "",
+            "a",
+            "\u{301}a",
+            "e\u{301}",
+            "\u{1100}\u{1161}",
+            "\u{EA}\u{323}t",
+            "a\u{301}\u{323}b",
+            "\u{FF76}\u{FF9E}b",
+            "a\u{344}b",
+            "a\u{1161}b",
+        ],
+    );
+    check_none(
+        &rt,
+        Form::Nfd,
+        &[
+            "",
+            "a",
+            "\u{301}a",
+            "\u{E9}",
+            "\u{E9}\u{301}b",
+            "\u{F73}b",
+            "\u{FF9E}b",
+        ],
+    );
+}
+
+/// As many marks may be left as there is room for.
+#[test]
+fn twelve_marks_are_left(rt: HostRuntime) -> Result<(), Fail> {
+    let twelve = format!(in rt.alloc(); "b{TWELVE}c")?;
+    assert_eq!(rt; checked(&rt, rt.alloc(), Form::Nfc, &twelve)?, Some("c"));
+    let thirteen = format!(in rt.alloc(); "a\u{301}{TWELVE}\u{316}c")?;
+    assert_eq!(rt; closed_front(Form::Nfc, &thirteen).is_none(), true);
+    Ok(())
+}

@@ -1,0 +1,37 @@
+//! All Hangul syllables, by the arithmetic of The Unicode Standard, section 3.12.
+use nf_boundary::closed_front;
+use nf_forms::Form;
+use std::test::Fail;
+
+const VOWELS: u32 = 21;
+
+const TRAILING: u32 = 28;
+
+#[test]
+fn each_syllable_both_ways(rt: HostRuntime) -> Result<(), Fail> {
+    for index in 0..19 * VOWELS * TRAILING {
+        let trailing = index % TRAILING;
+        let syllable = char::from_u32(0xAC00 + index).unwrap_or('?');
+        let mut letters = String::new(rt.alloc());
+        letters.push(char::from_u32(0x1100 + index / (VOWELS * TRAILING)).unwrap_or('?'))?;
+        letters.push(char::from_u32(0x1161 + index / TRAILING % VOWELS).unwrap_or('?'))?;
+        if trailing > 0 {
+            letters.push(char::from_u32(0x11A7 + trailing).unwrap_or('?'))?;
+        }
+        let text = format!(in rt.alloc(); "{letters}\u{1100}")?;
+        let put_together = closed_front(Form::Nfc, &text).and_then(|closed| closed
+            .formed
+            .first()
+            .copied());
+        assert_eq!(rt; put_together, Some(syllable), "{index}");
+        let text = format!(in rt.alloc(); "{syllable}\u{1100}")?;
+        let mut taken_apart = String::new(rt.alloc());
+        if let Some(closed) = closed_front(Form::Nfd, &text) {
+            for c in &closed.formed {
+                taken_apart.push(*c)?;
+            }
+        }
+        assert_eq!(rt; taken_apart, letters, "{index}");
+    }
+    Ok(())
+}

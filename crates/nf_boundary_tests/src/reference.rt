@@ -1,0 +1,60 @@
+//! A closed front against the forms of whole texts.
+use nf_boundary::{Closed, closed_front};
+use nf_forms::Form;
+use std::alloc::{AllocError, Global};
+use std::process::Abort;
+use std::test::Fail;
+use unicode_normalization::{to_nfc, to_nfd, to_nfkc, to_nfkd};
+
+pub const FORMS: [Form; 4] = [Form::Nfc, Form::Nfd, Form::Nfkc, Form::Nfkd];
+
+/// What stands before a front: a letter and a mark, with which a mark, and a letter's mark, could change places.
+const BEFORE: &str = "e\u{323}";
+
+pub fn form_of(form: Form, alloc: Global, text: &str) -> Result<String, AllocError> {
+    match form {
+        Form::Nfc => to_nfc(alloc, text),
+        Form::Nfd => to_nfd(alloc, text),
+        Form::Nfkc => to_nfkc(alloc, text),
+        Form::Nfkd => to_nfkd(alloc, text),
+    }
+}
+
+/// What the front is said to become.
+fn spelled(alloc: Global, closed: &Closed<'_>) -> Result<String, AllocError> {
+    let mut text = String::new(alloc);
+    text.push_str(closed.same)?;
+    for c in &closed.formed {
+        text.push(*c)?;
+    }
+    Ok(text)
+}
+
+/// What stands behind the closed front of the text, if one is told: the front has the form that is said, and so has what
+/// stands before and behind it, each alone.
+pub fn checked<'t, T: Abort>(
+    rt: &T,
+    alloc: Global,
+    form: Form,
+    text: &'t str,
+) -> Result<Option<&'t str>, Fail> {
+    let Some(closed) = closed_front(form, text) else {
+        return Ok(None);
+    };
+    let front = text.strip_suffix(closed.rest).unwrap_or("");
+    assert!(rt;
+        !front.is_empty() && !closed.rest.is_empty(),
+        "{form:?}: {text:?}"
+    );
+    let formed = spelled(alloc, &closed)?;
+    assert_eq!(rt; formed, form_of(form, alloc, front)?, "{form:?}: {front:?}");
+    let before = form_of(form, alloc, BEFORE)?;
+    let behind = form_of(form, alloc, closed.rest)?;
+    let whole = format!(in alloc; "{BEFORE}{text}")?;
+    assert_eq!(rt;
+        form_of(form, alloc, &whole)?,
+        format!(in alloc; "{before}{formed}{behind}")?,
+        "{form:?}: {text:?}"
+    );
+    Ok(Some(closed.rest))
+}
