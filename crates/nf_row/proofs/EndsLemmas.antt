@@ -42,3 +42,19 @@ grown-le false k m n is le = omega arith
 pub begun-le : (b : Bool) (k m n : ℕ) → m ≡ (if b then 0 else k + 1) → k ≤ n → m ≤ n + 1
 begun-le true k m n is le = omega arith
 begun-le false k m n is le = omega arith
+
+pub HasEnds-one : (p : Properties) (c : ℕ) (ends : Ends) → ends.has_starter ≡ is_starter p c → ends.lead ≡ (if ends.has_starter then 0 else 1) → ends.trail ≡ (if ends.has_starter then 0 else 1)
+    → HasEnds p (c ∷ []) ends
+HasEnds-one p c ends starts leads trails = record {
+  has_starter = starts ∙ sym (alone (is_starter p c));
+  lead = leads ∙ ap (λ b. if b then 0 else 1) starts ∙ counted (is_starter p c);
+  trail = trails ∙ ap (λ b. if b then 0 else 1) starts ∙ counted (is_starter p c);
+}
+  where
+    alone : (b : Bool) → (b || false) ≡ b
+    alone true = refl
+    alone false = refl
+
+    counted : (b : Bool) → (if b then 0 else 1) ≡ cond (not b) (1 + 0) 0
+    counted true = refl
+    counted false = refl

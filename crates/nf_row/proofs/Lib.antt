@@ -1,1 +1,4 @@
 pub mod EndsLemmas
+pub mod OwnLemmas
+pub mod OrderingLemmas
+pub mod AuditLemmas

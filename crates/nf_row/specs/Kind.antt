@@ -1,6 +1,6 @@
 -- What one look-up tells of a character: that a text may be cut before it, or that it is a mark that is its own row
 -- (UAX #15, section 9).
-use Rattle.std.specs.Prelude.{◌≡◌, ℕ, Bool, false, IsTrue}
+use Rattle.std.specs.Prelude.{◌≡◌, ℕ, Bool, false, [], ◌∷◌, IsTrue}
 use Rattle.nf_row.specs.declared.kind.Kind.{Kind}
 use Rattle.nf_row.specs.declared.kind.Kind.TheVariants.{Parts, Mark, Other}
 use Rattle.nf_forms.specs.Properties.{Properties}
@@ -24,3 +24,10 @@ abbrev pub IsKind : Properties → Form → ℕ → Kind → Type 0
 IsKind p f c Parts = IsKnownParting p f c
 IsKind p f c (Mark class may_compose) = IsKnownMark p f c class may_compose
 IsKind p f c Other = Unit {0}
+
+-- c is sound, of class k, and its own canonical and compatibility row
+pub record IsOwn (p : Properties) (c k : ℕ) : Type 0 where
+  pub sound : IsTrue (is_sound p c)
+  pub class : p.class c ≡ k
+  pub canonical : p.canonical c ≡ c ∷ []
+  pub compat : p.compat c ≡ c ∷ []

@@ -16,8 +16,8 @@ pub struct Ends {
 }
 
 impl Ends {
-    ghost use Rattle.std.specs.Prelude.{◌≡◌, ◌<◌, ◌+◌, ◌||◌, [], if◌then◌else◌};
-    ghost use Rattle.nf_forms.specs.Properties.{Properties};
+    ghost use Rattle.std.specs.Prelude.{◌≡◌, ℕ, ◌<◌, ◌≤◌, ◌+◌, ◌||◌, [], ◌∷◌, length, if◌then◌else◌};
+    ghost use Rattle.nf_forms.specs.Properties.{Properties, is_starter};
     ghost use Rattle.nf_row.specs.Ends.{HasEnds};
 
     /// The ends of `row`, by one look at the class of each member.
@@ -25,11 +25,33 @@ impl Ends {
     pub fn of_row<R: Rows>(rows: &R, row: &Row) -> Ends
         ensures { HasEnds (R.properties rows.now) row.now.items result }
     {
+        Ends::of_members(rows, row.as_slice())
+    }
+
+    /// The same of a row of at most 18 members.
+    #[inline]
+    pub fn of_members<R: Rows>(rows: &R, row: &[char]) -> Ends
+        requires { length row.now ≤ 18 }
+        ensures { HasEnds (R.properties rows.now) row.now result }
+    {
         let mut so_far = Ends::none();
-        for c in row.as_slice() {
+        for c in row {
             so_far = so_far.and(rows.class(*c) == 0);
         }
         so_far
+    }
+
+    /// The ends of a row of one member, by whether it is a starter.
+    #[inline]
+    pub const fn of_one(starts: bool) -> Ends
+        ensures { (p : Properties) (c : ℕ) → starts ≡ is_starter p c → HasEnds p (c ∷ []) result }
+    {
+        let marks = if starts { 0 } else { 1 };
+        Ends {
+            has_starter: starts,
+            lead: marks,
+            trail: marks,
+        }
     }
 
     /// The ends of no members.

@@ -5,10 +5,14 @@
 //! stand in this crate's `specs/`: the contracts of the crates above are written in them.
 #![tactic(auto)]
 
+mod auditing;
 mod composites;
 mod ends;
 mod kind;
 mod known;
+mod lent;
+mod ordering;
+mod own;
 mod patched;
 mod plain;
 mod rows;
@@ -17,11 +21,15 @@ mod soundness;
 mod ucd;
 mod unsound;
 
+pub use auditing::audit;
 pub use composites::composite;
 pub use ends::Ends;
 pub use kind::Kind;
+pub use lent::lent_ends;
+pub use nf_boundary::{Closed, Formed};
 pub use nf_calm::Calm;
 pub use nf_forms::{Form, JOINER};
+pub use own::own_class;
 pub use patched::{Change, Patched};
 pub use plain::Plain;
 pub use rows::{Long, Row, Rows};

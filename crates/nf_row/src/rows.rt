@@ -1,12 +1,16 @@
-ghost use Rattle.std.specs.Prelude.{◌≡◌, ◌<◌, ◌↔◌, ℕ, length, IsErr, IfOk, IsTrue};
+ghost use Rattle.std.specs.Prelude.{◌≡◌, ◌<◌, ◌↔◌, ℕ, length, IsErr, IfOk, IfSome, IsTrue};
 ghost use Rattle.nf_forms.specs.Properties.{Properties};
+ghost use Rattle.nf_forms.specs.Forms.{row_of};
 ghost use Rattle.nf_forms.specs.Sound.{is_sound};
+ghost use Rattle.nf_forms.specs.Audit.{IsAudited};
 ghost use Rattle.nf_calm.specs.Front.{IsCalmFront};
+ghost use Rattle.nf_boundary.specs.Front.{IsClosedFront};
 ghost use Rattle.nf_row.specs.Kind.{IsKind};
 ghost use Rattle.nf_row.specs.Ascii.{IsPlainAscii};
 
 use crate::kind::Kind;
 use arrayvec::ArrayVec;
+use nf_boundary::Closed;
 use nf_calm::Calm;
 use nf_forms::Form;
 
@@ -36,6 +40,15 @@ pub trait Rows {
         ensures row { IfOk result (λ row. row.items ≡ (properties self.now).compat c) }
         ensures long { IsErr result ↔ (18 < length ((properties self.now).compat c)) };
 
+    /// The decomposition of `c` that the form asks for, lent from the data or from `room`. Data that lends none leaves it
+    /// out.
+    #[inline]
+    fn lent_row<'r>(&'r self, _form: Form, _c: char, _room: &'r mut [char; 3]) -> Option<&'r [char]>
+        ensures { IfSome result (λ row. row.now ≡ row_of _form (properties self.now) _c) }
+    {
+        None
+    }
+
     /// What the table of composites has for `a` and then `b`, whether or not that is a starter.
     fn pair(&self, a: char, b: char) -> Option<char>
         ensures { result ≡ (properties self.now).pair a b };
@@ -60,6 +73,15 @@ pub trait Rows {
         Calm::none(text)
     }
 
+    /// A front of the text that ends before a normalization boundary (UAX #15, section 9), with its form, as far as one is
+    /// known. Data of which nothing is known leaves it out.
+    #[inline]
+    fn closed_front<'t>(&self, _form: Form, _text: &'t str) -> Option<Closed<'t>>
+        ensures { IfSome result (λ closed. IsClosedFront (properties self.now) _form _text.now closed.same.now closed.formed.items closed.rest.now) }
+    {
+        None
+    }
+
     /// Whether every character is known to be sound, so that no rows are read to see it.
     #[inline]
     fn all_sound(&self) -> bool
@@ -72,6 +94,14 @@ pub trait Rows {
     #[inline]
     fn all_ascii_plain(&self) -> bool
         ensures { IsTrue result → IsPlainAscii (properties self.now) }
+    {
+        false
+    }
+
+    /// Whether the data is known to pass the audit, so that no character is looked at to see it.
+    #[inline]
+    fn all_audited(&self) -> bool
+        ensures { IsTrue result → IsAudited (properties self.now) }
     {
         false
     }

@@ -5,6 +5,7 @@ ghost use Rattle.nf_forms.specs.Ucd.{ucd};
 use crate::kind::Kind;
 use crate::known::kind_of;
 use crate::rows::{Long, Row, Rows, row_from};
+use nf_boundary::{Closed, closed_front};
 use nf_calm::{Calm, calm_front};
 use nf_facts::laws;
 use unicode::properties::GeneralCategory;
@@ -19,6 +20,7 @@ pub struct Ucd;
 impl Rows for Ucd {
     ghost use Rattle.std.specs.Prelude.{ℕ, IsTrue};
     ghost use Rattle.nf_forms.specs.Sound.{is_sound};
+    ghost use Rattle.nf_forms.specs.Audit.{IsAudited};
     ghost use Rattle.nf_forms.specs.Ucd.{ucd};
     ghost use Rattle.nf_row.specs.Ascii.{IsPlainAscii};
 
@@ -37,6 +39,20 @@ impl Rows for Ucd {
     #[inline]
     fn compat(&self, c: char) -> Result<Row, Long> {
         row_in(c, Form::Nfkd)
+    }
+
+    #[inline]
+    fn lent_row<'r>(
+        &'r self,
+        form: nf_forms::Form,
+        c: char,
+        room: &'r mut [char; 3],
+    ) -> Option<&'r [char]> {
+        let form = match form {
+            nf_forms::Form::Nfc | nf_forms::Form::Nfd => Form::Nfd,
+            nf_forms::Form::Nfkc | nf_forms::Form::Nfkd => Form::Nfkd,
+        };
+        Some(lookup::decomposition(c, form, room))
     }
 
     #[inline]
@@ -60,6 +76,11 @@ impl Rows for Ucd {
     }
 
     #[inline]
+    fn closed_front<'t>(&self, form: nf_forms::Form, text: &'t str) -> Option<Closed<'t>> {
+        closed_front(form, text)
+    }
+
+    #[inline]
     fn all_sound(&self) -> bool
         ensures sound { IsTrue result → (c : ℕ) → IsTrue (is_sound ucd c) }
         ensures known { IsTrue result }
@@ -74,6 +95,15 @@ impl Rows for Ucd {
         ensures known { IsTrue result }
     {
         laws::ascii_is_plain();
+        true
+    }
+
+    #[inline]
+    fn all_audited(&self) -> bool
+        ensures audited { IsTrue result → IsAudited ucd }
+        ensures known { IsTrue result }
+    {
+        laws::the_data_is_audited();
         true
     }
 }

@@ -2,6 +2,8 @@
 #![tactic(auto)]
 
 #[cfg(test)]
+mod auditing;
+#[cfg(test)]
 mod changes;
 #[cfg(test)]
 mod parts;

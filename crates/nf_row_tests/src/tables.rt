@@ -1,4 +1,4 @@
-use nf_row::{Change, Form, Kind, Patched, Rows, Ucd, composite};
+use nf_row::{Change, Ends, Form, Kind, Patched, Rows, Ucd, composite, own_class};
 use std::test::Fail;
 
 /// Classes by UnicodeData.txt.
@@ -152,4 +152,41 @@ fn nothing_is_known_of_changed_data(rt: HostRuntime) {
     let rows = Patched::new(&changes);
     assert_eq!(rt; rows.kind(Form::Nfc, 'b'), Kind::Other);
     assert!(rt; !rows.all_sound() && Ucd.all_sound());
+}
+
+/// Classes and decompositions by UnicodeData.txt.
+#[test]
+fn own_classes(rt: HostRuntime) {
+    for (c, class) in [
+        ('a', Some(0)),
+        ('\u{34F}', Some(0)),
+        ('\u{1161}', Some(0)),
+        ('\u{3042}', Some(0)),
+        ('\u{301}', Some(230)),
+        ('\u{334}', Some(1)),
+        ('\u{3099}', Some(8)),
+        // A canonical decomposition, of a starter and of a mark; a compatibility one, of a starter and of marks alone.
+        ('\u{E9}', None),
+        ('\u{340}', None),
+        ('\u{FB01}', None),
+        ('\u{FF9E}', None),
+        // Starters that decompose to marks; by arithmetic.
+        ('\u{F73}', None),
+        ('\u{AC00}', None),
+    ] {
+        assert_eq!(rt; own_class(&Ucd, c), class, "{c:?}");
+    }
+    let changes = [Change::Class('a', 1)];
+    assert_eq!(rt; own_class(&Patched::new(&changes), 'b'), None);
+}
+
+#[test]
+fn ends_of_one_member(rt: HostRuntime) {
+    for (starts, marks) in [(true, 0), (false, 1)] {
+        let ends = Ends::of_one(starts);
+        assert_eq!(rt;
+            (ends.has_starter, ends.lead, ends.trail),
+            (starts, marks, marks)
+        );
+    }
 }

@@ -3,13 +3,13 @@ use Rattle.std.specs.Prelude.{if◌then◌else◌}
 use Rattle.std.proofs.Math.Seq.{take-suc}
 use Rattle.nf_row.specs.Ends.{HasEnds}
 use Rattle.nf_row.proofs.EndsLemmas.{HasEnds-push, grown-le, begun-le}
-use Rattle.nf_row.proofs.ends.Ends.of_row.Goals as goal
+use Rattle.nf_row.proofs.ends.Ends.of_members.Goals as goal
 
 pub and-so_far-requires-clause-lead : goal.and-so_far-requires-clause-lead
-and-so_far-requires-clause-lead g c = omega (arith, c.loop-c.invariant.few.0, c.loop-c-test.true, c.as_slice-c-items.ensures.fits)
+and-so_far-requires-clause-lead g c = omega (arith, c.loop-c.invariant.few.0, c.loop-c-test.true, c.requires)
 
 pub and-so_far-requires-clause-trail : goal.and-so_far-requires-clause-trail
-and-so_far-requires-clause-trail g c = omega (arith, c.loop-c.invariant.few.1, c.loop-c-test.true, c.as_slice-c-items.ensures.fits)
+and-so_far-requires-clause-trail g c = omega (arith, c.loop-c.invariant.few.1, c.loop-c-test.true, c.requires)
 
 pub loop-c-init : goal.loop-c-init
 loop-c-init g c =
@@ -19,7 +19,7 @@ loop-c-init g c =
 pub loop-c-preserved : goal.loop-c-preserved
 loop-c-preserved g c =
     let p = g.R.Rows.properties c.args.rows.now in
-    let items : List ℕ = c.as_slice-c-items.result.now in
+    let items : List ℕ = c.args.row.now in
     let i : ℕ = c.loop-c.c-index in
     let member : ℕ = c.c-item.result in
     let old = c.loop-c.so_far in
