@@ -13,7 +13,6 @@ use Rattle.nf_forms.specs.Runs.{trail}
 use Rattle.nf_forms.specs.Forms.{decomposed}
 use Rattle.nf_forms.specs.StreamSafe.{joiner, is_too_long, stream_safe}
 use Rattle.nf_forms.specs.Sound.{is_sound}
-use Rattle.nf_forms.specs.Laws.Last.{by_last}
 use Rattle.nf_forms.specs.Laws.Sound.{IsSoundText, JoinerIsPlain-from_sound}
 use Rattle.nf_forms.specs.Laws.Starters.{longest-order}
 use Rattle.nf_forms.specs.Laws.StreamSafe.{stream_safe-push, decomposed-push}
@@ -21,6 +20,7 @@ use Rattle.nf_safe.specs.declared.measure.Measure.{Measure}
 use Rattle.nf_safe.specs.declared.measurer.Measurer.{Measurer}
 use Rattle.nf_safe.specs.Count.{passes, count_step}
 use Rattle.nf_safe.specs.Laws.Count.{trail-decomposed-safe_step}
+use Rattle.nf_safe.specs.Laws.Pieces.{length-stream_safe-ge}
 use Rattle.nf_safe.specs.Runs.{HasRuns}
 use Rattle.nf_safe.specs.Measurer.{StandsAfter}
 
@@ -32,18 +32,6 @@ pub same_values : {a b c d e f k l m n o q : ℕ} → a ≡ k → b ≡ l → c 
 same_values {a} {b} {c} {d} {e} {f} {k} {l} {m} {n} {o} {q} bytes chars nonstarters longest put unassigned =
     ap (λ i. measured i b c d e f) bytes ∙ ap (λ i. measured k i c d e f) chars ∙ ap (λ i. measured k l i d e f) nonstarters
     ∙ ap (λ i. measured k l m i e f) longest ∙ ap (λ i. measured k l m n i f) put ∙ ap (λ i. measured k l m n o i) unassigned
-
--- the process takes nothing away
-length-stream_safe-ge : (p : Properties) (x : List ℕ) → length x ≤ length (stream_safe p x)
-length-stream_safe-ge p = by_last (λ x. length x ≤ length (stream_safe p x)) (omega arith) more
-  where
-    next : (b : Bool) (x : List ℕ) (c : ℕ) → length x ≤ length (stream_safe p x)
-        → length (x ++ c ∷ []) ≤ length ((if b then stream_safe p x ++ joiner ∷ [] else stream_safe p x) ++ c ∷ [])
-    next true x c before = omega (arith, before, length-append x (c ∷ []), length-append (stream_safe p x ++ joiner ∷ []) (c ∷ []), length-append (stream_safe p x) (joiner ∷ []))
-    next false x c before = omega (arith, before, length-append x (c ∷ []), length-append (stream_safe p x) (c ∷ []))
-
-    more : (x : List ℕ) (c : ℕ) → length x ≤ length (stream_safe p x) → length (x ++ c ∷ []) ≤ length (stream_safe p (x ++ c ∷ []))
-    more x c before = omega (arith, next (is_too_long p (stream_safe p x) c) x c before, ap (λ o. length o) (stream_safe-push p x c))
 
 module _ (p : Properties) (old : Measurer) (x : List ℕ) (c : ℕ) (before : StandsAfter p old x) where
   -- the count decides where the joiner is put

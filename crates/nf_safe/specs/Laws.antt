@@ -1,3 +1,4 @@
 pub mod Count
 pub mod LongestFront
 pub mod Place
+pub mod Pieces

@@ -2,6 +2,7 @@ pub mod Count
 pub mod Counter
 pub mod LongestFront
 pub mod Place
+pub mod Pieces
 pub mod Checker
 pub mod OneCount
 pub mod Runs

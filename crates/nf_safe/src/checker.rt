@@ -18,6 +18,8 @@ impl Checker {
     ghost use Rattle.std.specs.Prelude.{◌≡◌, ◌+◌, ◌↔◌, ℕ, List, [], ◌∷◌, ◌++◌, length, IsNone, IsErr, IfSome, IfOk, IfErr, OnOk, IsFalse, encode_utf8, encode_utf8_all};
     ghost use Rattle.nf_forms.specs.Properties.{Properties};
     ghost use Rattle.nf_forms.specs.Sound.{is_sound};
+    ghost use Rattle.nf_forms.specs.StreamSafe.{stream_safe};
+    ghost use Rattle.nf_forms.specs.Laws.Sound.{IsSoundText};
     ghost use Rattle.nf_safe.specs.Checker.{place_of, offset_of, StandsAfter, CountsFromEnd};
 
     /// A checker at the start of a text, the first byte of which has the offset `base`.
@@ -95,10 +97,13 @@ impl Checker {
         };
     }
 
-    /// Where the text has left the format; none while it is in it.
+    /// Where the text has left the format; none while it is in it, and so while the Stream-Safe Text Process leaves it as
+    /// it is.
     #[inline]
     pub fn place(&self) -> Option<Place>
-        ensures { result ≡ place_of self.now }
+        ensures place { result ≡ place_of self.now }
+        ensures unchanged { (base : ℕ) (p : Properties) (x : List ℕ) → StandsAfter base p self.now x → IsSoundText p x
+            → (result ≡ None) ↔ (stream_safe p x ≡ x) }
     {
         self.is_over.then_some(self.reached)
     }

@@ -3,6 +3,7 @@ ghost use Rattle.std.specs.Fmt.{is_char_start};
 ghost use Rattle.std.specs.List.{count_by};
 ghost use Rattle.std.specs.Str.{chars};
 
+use crate::ascii::ascii_prefix;
 use crate::sequence::is_continuation;
 use std::simd::prelude::*;
 
@@ -17,8 +18,8 @@ pub fn char_count(text: &str) -> usize
     ensures { result ≡ length (chars text.now) }
 {
     let bytes = text.as_bytes();
-    let mut at = 0;
-    let mut count = 0;
+    let mut at = ascii_prefix(bytes);
+    let mut count = at;
     while bytes.len() - at >= LANES {
         count += starts(u8x32::from_slice(&bytes[at..]));
         at += LANES;

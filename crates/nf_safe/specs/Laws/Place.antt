@@ -27,7 +27,7 @@ module _ (p : Properties) where
   trail-le-longest w = omega (arith, longest-append p w [], ap (longest p) (append-nil w))
 
   -- putting a text in order changes no run
-  longest-normal_form : (x : List ℕ) → is_in_format p x ≡ nat_le (longest p (decomposed Nfkd p x)) max_run
+  pub longest-normal_form : (x : List ℕ) → is_in_format p x ≡ nat_le (longest p (decomposed Nfkd p x)) max_run
   longest-normal_form x = ap (λ n. nat_le n max_run) (longest-order p (decomposed Nfkd p x))
 
   pub is_in_format-none : is_in_format p [] ≡ true

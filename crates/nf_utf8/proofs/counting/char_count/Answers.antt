@@ -1,6 +1,12 @@
-use Rattle.std.proofs.Common.{◌≡◌, ◌+◌, ◌∙◌, ap, arith}
-use Rattle.nf_utf8.proofs.CountingLemmas.{count-more, count-rest, count-le, count-chars, starts}
+use Rattle.std.proofs.Common.{◌≡◌, ◌+◌, sym, ◌∙◌, ap, arith}
+use Rattle.nf_utf8.proofs.CountingLemmas.{starts-front, count-more, count-rest, count-le, count-chars, starts}
 use Rattle.nf_utf8.proofs.counting.char_count.Goals as goal
+
+pub loop-at-init : goal.loop-at-init
+loop-at-init c = record {
+  within = c.ascii_prefix-at.ensures.within;
+  counted = sym (starts-front c.as_bytes-bytes.result.now c.ascii_prefix-at.result c.ascii_prefix-at.ensures.within c.ascii_prefix-at.ensures.ascii);
+}
 
 pub overflow_add-count : goal.overflow_add-count
 overflow_add-count c =

@@ -1,0 +1,173 @@
+-- The stream-safe text is the text's greedy cut with a joiner between each two pieces.
+use Rattle.std.proofs.Common.{◌≡◌, ℕ, zero, suc, ◌+◌, ◌<◌, ◌≤◌, Bool, true, false, not, ◌&&◌, List, [], ◌∷◌, ◌++◌, length, take, drop, refl, sym, ap, ap₂, ◌∙◌, subst, arith, append-nil, append_assoc, le-ltb, length-drop}
+use Rattle.std.specs.Prelude.{if◌then◌else◌, fold, IsTrue, IsFalse}
+use Rattle.std.specs.List.{list_all}
+use Rattle.std.proofs.lemmas.Bool.{cond-true, cond-false, and_parts, and_from, leb-true, le-leb, true_from_ne_false, false≢true}
+use Rattle.std.proofs.lemmas.List.{length-append, length-take, take-append-drop}
+use Rattle.std.proofs.lemmas.List.Folds.{list_all-append}
+use Rattle.std.proofs.lemmas.List.Sums.{fold-append}
+use Rattle.std.proofs.Math.Seq.{take-append_seam, drop-append_seam}
+use Rattle.nf_forms.specs.Properties.{Properties}
+use Rattle.nf_forms.specs.declared.form.Form.TheVariants.{Nfkd}
+use Rattle.nf_forms.specs.Runs.{lead, trail, longest}
+use Rattle.nf_forms.specs.Forms.{decomposed}
+use Rattle.nf_forms.specs.StreamSafe.{joiner, max_run, is_too_long, safe_step, stream_safe}
+use Rattle.nf_forms.specs.Sound.{max_row, is_sound}
+use Rattle.nf_forms.specs.Laws.Last.{by_last}
+use Rattle.nf_forms.specs.Laws.Runs.{lead-le-length}
+use Rattle.nf_forms.specs.Laws.Sound.{JoinerIsPlain, IsSoundText, IsSound-from_test, JoinerIsPlain-from_sound, sound_last}
+use Rattle.nf_forms.specs.Laws.StreamSafe.{stream_safe-push, trail-decomposed-joiner}
+use Rattle.nf_forms.specs.Laws.Parting.{safe_step-room}
+use Rattle.nf_forms.specs.Laws.Closing.{safe-closed}
+use Rattle.nf_forms.specs.Laws.Audited.{stream_safe-short}
+use Rattle.nf_safe.specs.Count.{passes}
+use Rattle.nf_safe.specs.LongestFront.{longest_front, IsLongestFront}
+use Rattle.nf_safe.specs.Place.{is_in_format}
+use Rattle.nf_safe.specs.Pieces.{IsGreedyCut, rejoined}
+use Rattle.nf_safe.specs.Laws.LongestFront.{longest_front_is}
+use Rattle.nf_safe.specs.Laws.Place.{is_in_format-none, is_in_format-push, longest-normal_form}
+
+module _ (p : Properties) where
+  few : (c : ℕ) → is_sound p c ≡ true → length (p.compat c) ≤ max_row
+  few c sound = (IsSound-from_test p c sound).compat_few
+
+  sound-parts : (x y : List ℕ) → IsSoundText p (x ++ y) → IsSoundText p x × IsSoundText p y
+  sound-parts x y sound = and_parts _ _ (sym (list_all-append (is_sound p) x y) ∙ sound)
+
+  -- ---- text in the format goes through the process as it is, and no other does
+
+  pub stream_safe-in_format : (x : List ℕ) → is_in_format p x ≡ true → stream_safe p x ≡ x
+  stream_safe-in_format x inside = stream_safe-short p x (leb-true _ max_run (sym (longest-normal_form p x) ∙ inside))
+
+  -- ---- a piece, and what comes behind it
+
+  -- alone a character is in the format
+  one-in_format : (c : ℕ) → is_sound p c ≡ true → is_in_format p (c ∷ []) ≡ true
+  one-in_format c sound =
+      is_in_format-push p [] c (few c sound)
+      ∙ and_from _ _ (is_in_format-none p) (ap not (le-ltb max_run (0 + lead p (p.compat c)) (omega (arith, lead-le-length p (p.compat c), few c sound))))
+
+  one-stream_safe : (c : ℕ) → is_sound p c ≡ true → safe_step p [] c ≡ c ∷ []
+  one-stream_safe c sound = safe_step-room p [] c (omega (arith, lead-le-length p (p.compat c), few c sound))
+
+  -- where one character more leaves the format, a joiner goes before it, and the rest is filtered alone
+  parted-behind : is_sound p joiner ≡ true → (piece : List ℕ) (d : ℕ) (rest : List ℕ) → is_sound p d ≡ true
+      → is_in_format p piece ≡ true → is_in_format p (piece ++ d ∷ []) ≡ false
+      → stream_safe p (piece ++ d ∷ rest) ≡ piece ++ joiner ∷ stream_safe p (d ∷ rest)
+  parted-behind joins piece d rest sound inside out =
+      let put = piece ++ joiner ∷ [] in
+      let long : is_too_long p piece d ≡ true =
+      turned _ _ (sym (is_in_format-push p piece d (few d sound)) ∙ out) inside in
+      fold-append (safe_step p) [] piece (d ∷ rest)
+      ∙ ap (λ o. fold (safe_step p) (safe_step p o d) rest) (stream_safe-in_format piece inside)
+      ∙ ap (λ o. fold (safe_step p) (o ++ d ∷ []) rest) (cond-true _ _ _ long)
+      ∙ safe-closed p put (d ∷ []) rest (trail-decomposed-joiner p (JoinerIsPlain-from_sound p joins) Nfkd piece)
+      ∙ ap (λ o. put ++ fold (safe_step p) o rest) (sym (one-stream_safe d sound))
+      ∙ append_assoc piece (joiner ∷ []) (stream_safe p (d ∷ rest))
+    where
+      turned : (a b : Bool) → (a && not b) ≡ false → a ≡ true → b ≡ true
+      turned true true e f = refl
+      turned true false e f = cc
+      turned false b e f = cc
+
+  -- ---- the cut
+
+  pub longest-first : (c : ℕ) (x : List ℕ) → is_sound p c ≡ true → 0 < longest_front (is_in_format p) (c ∷ x)
+  longest-first c x sound = next (longest_front (is_in_format p) (c ∷ x)) (longest_front_is (is_in_format p) (c ∷ x) (is_in_format-none p))
+    where
+      next : (n : ℕ) → IsLongestFront (is_in_format p) (c ∷ x) n → 0 < n
+      next zero is = let out = is.longer 1 (omega arith) (omega arith) in absurd (false≢true (sym out ∙ one-in_format c sound))
+      next (suc n) is = omega arith
+
+  -- behind a piece comes a character that leaves the format
+  piece-ends : (piece : List ℕ) (d : ℕ) (rest : List ℕ) → length piece ≡ longest_front (is_in_format p) (piece ++ d ∷ rest)
+      → (is_in_format p piece ≡ true) × (is_in_format p (piece ++ d ∷ []) ≡ false)
+  piece-ends piece d rest len =
+      let is = longest_front_is (is_in_format p) (piece ++ d ∷ rest) (is_in_format-none p) in
+      let one_more : length (piece ++ d ∷ []) ≡ length piece + 1 = length-append piece (d ∷ []) in (
+        ap (is_in_format p) (sym (take-append_seam piece (d ∷ rest)) ∙ ap (λ n. take n (piece ++ d ∷ rest)) len) ∙ is.passes,
+        ap (is_in_format p) (sym (take-append_seam (piece ++ d ∷ []) rest) ∙ ap (take (length (piece ++ d ∷ []))) (append_assoc piece (d ∷ []) rest))
+            ∙ is.longer (length (piece ++ d ∷ [])) (omega arith) (omega (arith, one_more, length-append piece (d ∷ rest))),
+      )
+
+  whole-piece : (piece : List ℕ) → length piece ≡ longest_front (is_in_format p) (piece ++ []) → is_in_format p piece ≡ true
+  whole-piece piece len =
+      let is = longest_front_is (is_in_format p) (piece ++ []) (is_in_format-none p) in
+      ap (is_in_format p) (sym (take-append_seam piece []) ∙ ap (λ n. take n (piece ++ [])) len) ∙ is.passes
+
+  pub stream_safe-rejoined : is_sound p joiner ≡ true → (x : List ℕ) → IsSoundText p x → (pieces : List (List ℕ)) → IsGreedyCut p x pieces → stream_safe p x ≡ rejoined pieces
+  stream_safe-rejoined joins x sound [] cut = ap (stream_safe p) cut
+  stream_safe-rejoined joins x sound (piece ∷ []) cut =
+      let all : x ≡ piece ++ [] = cut.1 ∙ ap (λ r. piece ++ r) cut.4 in
+      let inside = whole-piece piece (cut.3 ∙ ap (longest_front (is_in_format p)) all) in
+      ap (stream_safe p) (all ∙ append-nil piece) ∙ stream_safe-in_format piece inside
+  stream_safe-rejoined joins x sound (piece ∷ next ∷ pieces) cut = from cut.0 cut.1 cut.4 (stream_safe-rejoined joins cut.0 (sound-parts piece cut.0 (ap (list_all (is_sound p)) (sym cut.1) ∙ sound)).1 (next ∷ pieces) cut.4)
+    where
+      from : (rest : List ℕ) → x ≡ piece ++ rest → IsGreedyCut p rest (next ∷ pieces) → stream_safe p rest ≡ rejoined (next ∷ pieces) → stream_safe p x ≡ piece ++ joiner ∷ rejoined (next ∷ pieces)
+      from [] text behind before = absurd (omega (arith, behind.2, ap length behind.1, length-append next behind.0))
+      from (d ∷ rest) text behind before =
+          let ends = piece-ends piece d rest (cut.3 ∙ ap (longest_front (is_in_format p)) text) in
+          let members = sound-parts piece (d ∷ rest) (ap (list_all (is_sound p)) (sym text) ∙ sound) in
+          ap (stream_safe p) text
+          ∙ parted-behind joins piece d rest (and_parts _ _ members.1).0 ends.0 ends.1
+          ∙ ap (λ v. piece ++ joiner ∷ v) before
+
+  -- there is one, and no other
+  cut-within : (n : ℕ) (x : List ℕ) → length x ≤ n → IsSoundText p x → (pieces : List (List ℕ)) × IsGreedyCut p x pieces
+  cut-within n [] short sound = ([], refl)
+  cut-within zero (c ∷ x) short sound = absurd (omega arith)
+  cut-within (suc n) (c ∷ x) short sound =
+      let k = longest_front (is_in_format p) (c ∷ x) in
+      let some : 0 < k = longest-first c x (and_parts _ _ sound).0 in
+      let is = longest_front_is (is_in_format p) (c ∷ x) (is_in_format-none p) in
+      let whole = take-append-drop k (c ∷ x) in
+      let len : length (take k (c ∷ x)) ≡ k = omega (arith, length-take k (c ∷ x), is.within) in
+      let rest = cut-within n (drop k (c ∷ x)) (omega (arith, some, length-drop k (c ∷ x), is.within)) (sound-parts (take k (c ∷ x)) (drop k (c ∷ x)) (ap (list_all (is_sound p)) whole ∙ sound)).1 in
+      (take k (c ∷ x) ∷ rest.0, (drop k (c ∷ x), sym whole, omega (arith, some, len), len, rest.1))
+
+  pub cut-some : (x : List ℕ) → IsSoundText p x → (pieces : List (List ℕ)) × IsGreedyCut p x pieces
+  cut-some x sound = cut-within (length x) x (omega arith) sound
+
+  pub cut-only : (x : List ℕ) (a b : List (List ℕ)) → IsGreedyCut p x a → IsGreedyCut p x b → a ≡ b
+  cut-only x [] [] first second = refl
+  cut-only x [] (piece ∷ b) first second = absurd (omega (arith, second.2, ap length (sym first ∙ second.1), length-append piece second.0))
+  cut-only x (piece ∷ a) [] first second = absurd (omega (arith, first.2, ap length (sym second ∙ first.1), length-append piece first.0))
+  cut-only x (piece ∷ a) (other ∷ b) first second =
+      let len : length piece ≡ length other = first.3 ∙ sym second.3 in
+      let same : piece ≡ other =
+      sym (take-append_seam piece first.0) ∙ ap₂ take len (sym first.1 ∙ second.1) ∙ take-append_seam other second.0 in
+      let rest : first.0 ≡ second.0 =
+      sym (drop-append_seam piece first.0) ∙ ap₂ drop len (sym first.1 ∙ second.1) ∙ drop-append_seam other second.0 in
+      ap₂ (λ u v. u ∷ v) same (cut-only second.0 a b (subst (λ r. IsGreedyCut p r a) rest first.4) second.4)
+
+  -- ---- where nothing is put, the text is in the format
+
+  -- the process takes nothing away
+  pub length-stream_safe-ge : (x : List ℕ) → length x ≤ length (stream_safe p x)
+  length-stream_safe-ge = by_last (λ x. length x ≤ length (stream_safe p x)) (omega arith) more
+    where
+      next : (b : Bool) (x : List ℕ) (c : ℕ) → length x ≤ length (stream_safe p x)
+          → length (x ++ c ∷ []) ≤ length ((if b then stream_safe p x ++ joiner ∷ [] else stream_safe p x) ++ c ∷ [])
+      next true x c before = omega (arith, before, length-append x (c ∷ []), length-append (stream_safe p x ++ joiner ∷ []) (c ∷ []), length-append (stream_safe p x) (joiner ∷ []))
+      next false x c before = omega (arith, before, length-append x (c ∷ []), length-append (stream_safe p x) (c ∷ []))
+
+      more : (x : List ℕ) (c : ℕ) → length x ≤ length (stream_safe p x) → length (x ++ c ∷ []) ≤ length (stream_safe p (x ++ c ∷ []))
+      more x c before = omega (arith, next (is_too_long p (stream_safe p x) c) x c before, ap length (stream_safe-push p x c))
+
+  pub in_format-unchanged : (x : List ℕ) → IsSoundText p x → stream_safe p x ≡ x → is_in_format p x ≡ true
+  in_format-unchanged = by_last (λ x. IsSoundText p x → stream_safe p x ≡ x → is_in_format p x ≡ true) (λ _ _. is_in_format-none p) more
+    where
+      more : (x : List ℕ) (c : ℕ) → (IsSoundText p x → stream_safe p x ≡ x → is_in_format p x ≡ true)
+          → IsSoundText p (x ++ c ∷ []) → stream_safe p (x ++ c ∷ []) ≡ x ++ c ∷ [] → is_in_format p (x ++ c ∷ []) ≡ true
+      more x c before sound same =
+          let members = sound_last p x c sound in
+          next (is_too_long p (stream_safe p x) c) refl (sym (stream_safe-push p x c) ∙ same) members.0 members.1
+        where
+          next : (b : Bool) → is_too_long p (stream_safe p x) c ≡ b → (if b then stream_safe p x ++ joiner ∷ [] else stream_safe p x) ++ c ∷ [] ≡ x ++ c ∷ []
+              → IsSoundText p x → is_sound p c ≡ true → is_in_format p (x ++ c ∷ []) ≡ true
+          next true long e front last =
+              absurd (omega (arith, ap length e, length-stream_safe-ge x, length-append (stream_safe p x ++ joiner ∷ []) (c ∷ []), length-append (stream_safe p x) (joiner ∷ []), length-append x (c ∷ [])))
+          next false room e front last =
+              let kept : stream_safe p x ≡ x = sym (take-append_seam (stream_safe p x) (c ∷ [])) ∙ ap₂ take (omega (arith, ap length e, length-append (stream_safe p x) (c ∷ []), length-append x (c ∷ []))) e ∙ take-append_seam x (c ∷ []) in
+              is_in_format-push p x c (few c last)
+              ∙ and_from _ _ (before front kept) (ap not (ap (λ o. is_too_long p o c) (sym kept) ∙ room))
