@@ -18,9 +18,10 @@ use Rattle.nf_forms.specs.Laws.Order.{by_class-push, has_starter-by_class}
 use Rattle.nf_forms.specs.Laws.Compose.{IsGroup, closed_off, closed_off-group, next_composite, next_composite-none, settled_by, front-push_starter, back-push_starter, front-behind, back-behind, back-starter, back-empty, has_starter-head}
 use Rattle.nf_pending.specs.declared.mark.Mark.{Mark}
 use Rattle.nf_pending.specs.declared.pending.Pending.{Pending}
-use Rattle.nf_pending.specs.Mark.{mark_of}
+use Rattle.nf_pending.specs.Mark.{mark_of, is_rising}
 use Rattle.nf_pending.specs.Meeting.{composite_with}
 use Rattle.nf_pending.specs.StandsAfter.{StandsAfter}
+use Rattle.nf_pending.proofs.Rising.{rising-held}
 
 module _ (f : Form) (p : Properties) where
   module _ (pending : Pending) (w : List ℕ) (s : StandsAfter f p pending w) where
@@ -66,7 +67,7 @@ module _ (f : Form) (p : Properties) where
 
   -- a mark more
   pub stands_mark : (old new : Pending) (w : List ℕ) (c : ℕ) → is_starter p c ≡ false → StandsAfter f p old w → new.composes ≡ old.composes → new.starter ≡ old.starter
-      → new.marks.items ≡ insert old.marks.items (prefix_len (λ mark. leb mark.class (p.class c)) old.marks.items) (mark_of p c)
+      → (is_rising old.marks.items ≡ true → new.marks.items ≡ insert old.marks.items (prefix_len (λ mark. leb mark.class (p.class c)) old.marks.items) (mark_of p c))
       → StandsAfter f p new (w ++ c ∷ [])
   stands_mark old new w c mark s same_form same_starter inserted = record {
     head = s.head;
@@ -76,17 +77,16 @@ module _ (f : Form) (p : Properties) where
     marks = marks_push p s.run c s.marks mark;
     composes = same_form ∙ s.composes;
     starter = ap option_to_list same_starter ∙ s.starter;
-    held = inserted
+    held = inserted (ap is_rising s.held ∙ rising-held p s.run s.marks)
         ∙ ap (λ v. insert v (prefix_len (λ mark. leb mark.class (p.class c)) v) (mark_of p c)) s.held
         ∙ ap (λ i. insert (map (mark_of p) (by_class p s.run)) i (mark_of p c)) (prefix_len-mark (p.class c) (by_class p s.run))
         ∙ insert-mark (by_class p s.run) _ c
         ∙ ap (λ v. map (mark_of p) v) (sym (by_class-push p s.run c mark));
   }
 
-  pub settles_mark : (old : Pending) (w : List ℕ) (c : ℕ) → is_starter p c ≡ false → StandsAfter f p old w → front p (finished f p w) ++ [] ≡ front p (finished f p (w ++ c ∷ []))
+  pub settles_mark : (old : Pending) (w : List ℕ) (c : ℕ) → is_starter p c ≡ false → StandsAfter f p old w → front p (finished f p w) ≡ front p (finished f p (w ++ c ∷ []))
   settles_mark old w c mark s =
-      append-nil _
-      ∙ ap (λ v. front p (finished f p v)) s.text
+      ap (λ v. front p (finished f p v)) s.text
       ∙ front-behind p (composes f) s.head s.run s.ends s.marks
       ∙ sym (ap (λ v. front p (finished f p v)) (ap (λ v. v ++ c ∷ []) s.text ∙ append_assoc s.head s.run (c ∷ []))
       ∙ front-behind p (composes f) s.head (s.run ++ c ∷ []) s.ends (marks_push p s.run c s.marks mark))

@@ -1,4 +1,4 @@
-use nf_pending::Pending;
+use nf_pending::{Pending, Segment};
 use nf_row::Change::Pair;
 use nf_row::{Form, Patched, Rows, Ucd};
 use std::alloc::AllocError;
@@ -39,16 +39,47 @@ fn ended<T: Abort + Alloc, R: Rows>(
     Ok(rest)
 }
 
+/// What pushing the text settles in all, where the class of each code point is known before.
+fn pushed_by_class<T: Abort + Alloc, R: Rows>(
+    rt: &T,
+    rows: &R,
+    pending: &mut Pending,
+    text: &str,
+) -> Result<String<T::A>, AllocError> {
+    let mut settled = String::new(rt.alloc());
+    for c in text.chars() {
+        let class = rows.class(c);
+        if class == 0 {
+            let mut segment = Segment::new();
+            pending.push_starter(rows, c, &mut segment);
+            for d in segment.iter() {
+                settled.push(*d)?;
+            }
+        } else {
+            assert!(rt; pending.run_len() < 30);
+            pending.push_mark(c, class);
+        }
+    }
+    Ok(settled)
+}
+
+/// Each text is pushed by code points alone, and by code points with their classes.
 fn check<T: Abort + Alloc, R: Rows>(rt: &T, rows: &R, cases: &[Case]) -> Result<(), AllocError> {
     for (form, text, settled, rest) in cases {
-        let mut pending = Pending::new(*form);
-        let before = pushed(rt, rows, &mut pending, text)?;
-        let behind = ended(rt, rows, pending)?;
-        assert_eq!(rt;
-            (before.as_str(), behind.as_str()),
-            (*settled, *rest),
-            "{text:?} in {form:?}"
-        );
+        for by_class in [false, true] {
+            let mut pending = Pending::new(*form);
+            let before = if by_class {
+                pushed_by_class(rt, rows, &mut pending, text)?
+            } else {
+                pushed(rt, rows, &mut pending, text)?
+            };
+            let behind = ended(rt, rows, pending)?;
+            assert_eq!(rt;
+                (before.as_str(), behind.as_str()),
+                (*settled, *rest),
+                "{text:?} in {form:?}"
+            );
+        }
     }
     Ok(())
 }
