@@ -62,12 +62,12 @@ module _ (f : Form) (p : Properties) (base : ℕ) where
   unfolding end_of
   end_at b k e = same_end base (tt {0}) (tally_of p b) (ending_of b) k e
 
-module _ (f : Form) (p : Properties) (stands : List ℕ → Type 0) (base : ℕ) (reading : Reading) (bytes : List ℕ) (source left : SourceState) (old new : SinkState) where
+module _ (most : ℕ) (f : Form) (p : Properties) (stands : List ℕ → Type 0) (base : ℕ) (reading : Reading) (bytes : List ℕ) (source left : SourceState) (old new : SinkState) where
   written_is : (b : List ℕ) → usable_utf8 f p (text_of b) ≡ settled_utf8 f p b
   written_is b = settled_utf8-is p f b
 
   -- feeding was refused
-  module _ (fault : Fault) (reads : ReadsAll stands (unusable_at p base) (usable_utf8 f p) base reading bytes source left old new (Err (Refused fault))) where
+  module _ (fault : Fault) (reads : ReadsAll most stands (unusable_at p base) (usable_utf8 f p) base reading bytes source left old new (Err (Refused fault))) where
     other_stop : (k : Fault) → ¬ (fault ≡ k) → ¬ (stop_of fault ≡ stop_of k)
     other_stop k not e = let same : fault ≡ k = cc in not same
 
@@ -94,7 +94,7 @@ module _ (f : Form) (p : Properties) (stands : List ℕ → Type 0) (base : ℕ)
     no_fault_before : fault_in p base (bytes ++ reads.before) ≡ None
     no_fault_before = no_fault (fault_in p base (bytes ++ reads.before)) (sym (stop_in-fault p base (bytes ++ reads.before)) ∙ reads.unstopped)
 
-    by_end : (b : Bool) → left.is_at_end ≡ b → Drives f p base bytes source left old new (Err fault)
+    by_end : (b : Bool) → left.is_at_end ≡ b → Drives most f p base bytes source left old new (Err fault)
     by_end true ended =
         let end = reads.ended ended in
         let cut = end_is base (ending_of (bytes ++ reads.before)) fault end.1 in
@@ -134,7 +134,7 @@ module _ (f : Form) (p : Properties) (stands : List ℕ → Type 0) (base : ℕ)
         put : ¬ (fault ≡ Write) → ¬ (fault ≡ TooLong) → Puts old new (settled_utf8 f p bytes) (due_utf8 left.is_at_end f p all)
         put kept short = Puts-at (written_is bytes) (written_is all ∙ due_is) (reads.puts (other_stop Write kept) (other_stop TooLong short))
 
-        broken : fault ≡ Write → Drives f p base bytes source left old new (Err fault)
+        broken : fault ≡ Write → Drives most f p base bytes source left old new (Err fault)
         broken is =
             let short : ¬ (fault ≡ TooLong) = λ e. let both : TooLong ≡ Write = sym e ∙ is in cc in
             let breaks = BreaksOff-at (written_is bytes) (written_is all ∙ due_is) (reads.broken (ap stop_of is)) in
@@ -154,7 +154,7 @@ module _ (f : Form) (p : Properties) (stands : List ℕ → Type 0) (base : ℕ)
               stopped = λ _ no. absurd (no (ap Err is));
             }
 
-        too_long : fault ≡ TooLong → Drives f p base bytes source left old new (Err fault)
+        too_long : fault ≡ TooLong → Drives most f p base bytes source left old new (Err fault)
         too_long is =
             let kept : ¬ (fault ≡ Write) = λ e. let both : TooLong ≡ Write = sym is ∙ e in cc in
             let puts = Puts-at (written_is bytes) (written_is (bytes ++ reads.before) ∙ ap (λ b. due_utf8 b f p (bytes ++ reads.before)) (sym going)) (reads.puts_before (ap stop_of is)) in
@@ -174,7 +174,7 @@ module _ (f : Form) (p : Properties) (stands : List ℕ → Type 0) (base : ℕ)
               stopped = λ _ _ _ no. absurd (no (ap Err is));
             }
 
-        unread : fault ≡ Read → Drives f p base bytes source left old new (Err fault)
+        unread : fault ≡ Read → Drives most f p base bytes source left old new (Err fault)
         unread is =
             let kept : ¬ (fault ≡ Write) = λ e. let both : Read ≡ Write = sym is ∙ e in cc in
             let short : ¬ (fault ≡ TooLong) = λ e. let both : Read ≡ TooLong = sym is ∙ e in cc in
@@ -196,7 +196,7 @@ module _ (f : Form) (p : Properties) (stands : List ℕ → Type 0) (base : ℕ)
               stopped = λ _ _ no. absurd (no (ap Err is));
             }
 
-        stopped : (¬ (fault ≡ Write)) × (¬ (fault ≡ TooLong)) × (¬ (fault ≡ Read)) → Drives f p base bytes source left old new (Err fault)
+        stopped : (¬ (fault ≡ Write)) × (¬ (fault ≡ TooLong)) × (¬ (fault ≡ Read)) → Drives most f p base bytes source left old new (Err fault)
         stopped kinds =
             let puts = put kinds.0 kinds.1 in
             let stops = reads.stopped going (other_stop TooLong kinds.1) (other_stop Read kinds.2) (other_stop Write kinds.0) in
@@ -216,13 +216,13 @@ module _ (f : Form) (p : Properties) (stands : List ℕ → Type 0) (base : ℕ)
               stopped = λ _ _ _ _. (refl, fault_is (fault_in p base all) fault (stops.1 ∙ stop_in-fault p base all));
             }
 
-    pub Drives-refused : Drives f p base bytes source left old new (Err fault)
+    pub Drives-refused : Drives most f p base bytes source left old new (Err fault)
     Drives-refused = by_end left.is_at_end refl
 
   -- all was read, and the filter was finished
   pub Drives-finished : (last : SinkState) (u : Unit {0}) (r : Result Tally Fault) → left.is_at_end ≡ true → ¬ (r ≡ Err TooLong) → ¬ (r ≡ Err Read)
-      → (reads : ReadsAll stands (unusable_at p base) (usable_utf8 f p) base reading bytes source left old new (Ok u)) → Finishes f p base (bytes ++ reads.before) new last r
-      → Drives f p base bytes source left old last r
+      → (reads : ReadsAll most stands (unusable_at p base) (usable_utf8 f p) base reading bytes source left old new (Ok u)) → Finishes f p base (bytes ++ reads.before) new last r
+      → Drives most f p base bytes source left old last r
   Drives-finished final u r ended short read_on reads finishes = ⊎_elim broken whole (decide r)
     where
       end : (reads.last ≡ []) × (Ok u ≡ stop_at_end (answer_at_end base (tt {0}) (ending_of (bytes ++ reads.before))))
@@ -248,7 +248,7 @@ module _ (f : Form) (p : Properties) (stands : List ℕ → Type 0) (base : ℕ)
       none : fault_in p base (bytes ++ reads.before) ≡ None
       none = no_fault (fault_in p base (bytes ++ reads.before)) (sym (stop_in-fault p base (bytes ++ reads.before)) ∙ reads.unstopped)
 
-      broken : r ≡ Err Write → Drives f p base bytes source left old final r
+      broken : r ≡ Err Write → Drives most f p base bytes source left old final r
       broken is =
           let breaks = BreaksOff-at refl due_is (BreaksOff-join first (finishes.broken_off is)) in
           record {
@@ -267,7 +267,7 @@ module _ (f : Form) (p : Properties) (stands : List ℕ → Type 0) (base : ℕ)
             stopped = λ before_end. let absent : true ≡ false = sym ended ∙ before_end in cc;
           }
 
-      whole : ¬ (r ≡ Err Write) → Drives f p base bytes source left old final r
+      whole : ¬ (r ≡ Err Write) → Drives most f p base bytes source left old final r
       whole kept =
           let puts = Puts-at refl due_is (Puts-join first (finishes.written kept)) in
           record {

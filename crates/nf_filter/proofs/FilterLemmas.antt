@@ -85,11 +85,11 @@ module _ (p : Properties) where
     }
 
     -- what was read of a source, in the form
-    pub ReadsAll-form : (normalizer after : Normalizer) → normalizer.form ≡ f → (base : ℕ) (reading : Reading) (bytes : List ℕ) (source left : SourceState) (old new : SinkState) (r : Result (Unit {0}) Stop)
+    pub ReadsAll-form : (most : ℕ) (normalizer after : Normalizer) → normalizer.form ≡ f → (base : ℕ) (reading : Reading) (bytes : List ℕ) (source left : SourceState) (old new : SinkState) (r : Result (Unit {0}) Stop)
         → OnOk r (Some after.form ≡ Some normalizer.form)
-        → ReadsAll (λ x. HasTaken after.form p after x) (unusable_at p base) (written_in (Some normalizer.form) p) base reading bytes source left old new r
-        → ReadsAll (HasTaken f p after) (unusable_at p base) (usable_utf8 f p) base reading bytes source left old new r
-    ReadsAll-form normalizer after same base reading bytes source left old new (Ok u) form reads =
+        → ReadsAll most (λ x. HasTaken after.form p after x) (unusable_at p base) (written_in (Some normalizer.form) p) base reading bytes source left old new r
+        → ReadsAll most (HasTaken f p after) (unusable_at p base) (usable_utf8 f p) base reading bytes source left old new r
+    ReadsAll-form most normalizer after same base reading bytes source left old new (Ok u) form reads =
         let own : after.form ≡ normalizer.form = cc in
         let all = rw same at reads in
         record {
@@ -108,7 +108,7 @@ module _ (p : Properties) where
           puts = all.puts;
           puts_before = all.puts_before;
         }
-    ReadsAll-form normalizer after same base reading bytes source left old new (Err stop) form reads =
+    ReadsAll-form most normalizer after same base reading bytes source left old new (Err stop) form reads =
         let all = rw same at reads in
         record {
           before = all.before;

@@ -7,6 +7,7 @@ pub mod CharsLemmas
 pub mod TextLemmas
 pub mod CalmLemmas
 pub mod TakingLemmas
+pub mod ClosedLemmas
 pub mod PlainLemmas
 pub mod ReadingLemmas
 pub mod SourcesLemmas
@@ -17,3 +18,5 @@ pub mod SurveysLemmas
 pub mod ChecksLemmas
 pub mod MeasuresLemmas
 pub mod SoundnessLemmas
+pub mod EncodingLemmas
+pub mod WholeLemmas

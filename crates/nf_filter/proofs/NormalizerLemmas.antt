@@ -1,16 +1,17 @@
 -- One character more.
-use Rattle.std.proofs.Common.{◌≡◌, ℕ, ◌+◌, ◌≤◌, Bool, true, false, not, ◌&&◌, ◌||◌, List, [], ◌∷◌, ◌++◌, length, Ok, Err, refl, sym, ap, ◌∙◌, subst, arith}
+use Rattle.std.proofs.Common.{◌≡◌, ℕ, ◌+◌, ◌<◌, ◌≤◌, Bool, true, false, cond, not, ◌&&◌, ◌||◌, List, [], ◌∷◌, ◌++◌, length, Ok, Err, refl, sym, ap, ◌∙◌, subst, arith}
 use Rattle.std.specs.Prelude.{if◌then◌else◌, Result, OnOk}
 use Rattle.std.proofs.lemmas.Bool.{false≢true, ltb-false}
 use Rattle.std.proofs.lemmas.List.{length-append}
-use Rattle.nf_forms.specs.Properties.{Properties}
+use Rattle.nf_forms.specs.Properties.{Properties, is_starter, is_nonstarter}
 use Rattle.nf_forms.specs.declared.form.Form.{Form}
 use Rattle.nf_forms.specs.declared.form.Form.TheVariants.{Nfc, Nfd, Nfkc, Nfkd}
 use Rattle.nf_forms.specs.Runs.{has_starter, lead, trail}
 use Rattle.nf_forms.specs.Forms.{row_of, decomposed}
 use Rattle.nf_forms.specs.StreamSafe.{joiner, max_run, is_too_long, parted, stream_safe}
 use Rattle.nf_forms.specs.Sound.{is_sound}
-use Rattle.nf_forms.specs.Laws.Runs.{lead-marks, lead-le-length, trail-marks}
+use Rattle.nf_row.specs.Kind.{IsOwn}
+use Rattle.nf_forms.specs.Laws.Runs.{has_starter-append, lead-marks, lead-le-length, trail-marks, trail-push}
 use Rattle.nf_forms.specs.Laws.StreamSafe.{stream_safe-push, decomposed-push}
 use Rattle.nf_forms.specs.Laws.Sound.{JoinerIsPlain, IsSound, IsSound-from_test, JoinerIsPlain-from_sound}
 use Rattle.nf_safe.specs.Count.{counted, passes, count_step}
@@ -99,6 +100,13 @@ module _ (p : Properties) where
       by_form Nfkc = same (has_starter p (p.compat c)) _ _
       by_form Nfkd = same (has_starter p (p.compat c)) _ _
 
+  -- a character that is its own row is the row that each form asks for
+  pub row_of-own : (f : Form) (c k : ℕ) → IsOwn p c k → row_of f p c ≡ c ∷ []
+  row_of-own Nfc c k own = own.canonical
+  row_of-own Nfd c k own = own.canonical
+  row_of-own Nfkc c k own = own.compat
+  row_of-own Nfkd c k own = own.compat
+
   lead-row : (f : Form) (c : ℕ) → is_sound p c ≡ true → lead p (row_of f p c) ≤ lead p (p.compat c)
   lead-row f c sound = by_form f
     where
@@ -107,6 +115,30 @@ module _ (p : Properties) where
       by_form Nfd = (IsSound-from_test p c sound).lead_within
       by_form Nfkc = omega arith
       by_form Nfkd = omega arith
+
+  -- a row of one member behind a run, and where there is room for it
+  one_behind : (n c : ℕ) → (if is_starter p c then 0 else n + 1) ≡ run_behind p n (c ∷ [])
+  one_behind n c = next (is_starter p c) (has_starter p (c ∷ [])) (trail p (c ∷ [])) (has_starter-append p [] (c ∷ [])) (trail-push p [] c)
+    where
+      next : (b has : Bool) (t : ℕ) → has ≡ (false || (b || false)) → t ≡ (if b then 0 else 0 + 1) → (if b then 0 else n + 1) ≡ (if has then t else n + 1)
+      next true has t e f = sym (ap (λ s. if s then t else n + 1) e ∙ f)
+      next false has t e f = sym (ap (λ s. if s then t else n + 1) e)
+
+  pub within-own : (part new : Normalizer) (c k : ℕ) → IsOwn p c k → HasRoom p part c
+      → run_len new.pending ≡ (if is_starter p c then 0 else run_len part.pending + 1) → new.counter ≡ part.counter → new.put ≡ part.put → new.chars ≡ part.chars + 1 → IsWithin new
+  within-own part new c k own room run count put chars = record {
+    run = let same = run ∙ one_behind (run_len part.pending) c ∙ ap (run_behind p (run_len part.pending)) (sym (row_of-own part.form c k own)) in omega (arith, room.run);
+    put = omega (arith, room.put);
+  }
+
+  pub room_for-own : (part : Normalizer) (c k : ℕ) → IsOwn p c k → HasRoom p part c → is_nonstarter p c ≡ true → run_len part.pending < 30
+  room_for-own part c k own room mark =
+      let alone = ap (lead p) (row_of-own part.form c k own) ∙ lead_is (is_nonstarter p c) mark in
+      omega (arith, room.lead)
+    where
+      lead_is : (b : Bool) → b ≡ true → cond b (1 + 0) 0 ≡ 1
+      lead_is true e = refl
+      lead_is false e = cc
 
   abbrev counting : Normalizer → ℕ → Normalizer
   counting taken c = record taken { counter = count_step p taken.counter (p.compat c) }

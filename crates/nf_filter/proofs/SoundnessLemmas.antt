@@ -26,7 +26,7 @@ use Rattle.nf_filter.specs.Measures.{measure_decision}
 use Rattle.nf_filter.specs.Laws.Soundness.{AreSound}
 
 -- neither the end nor a bad byte refuses a character
-not_at_end : {T : Type 0} (base at : ℕ) (value : T) (e : Ending) → ¬ (answer_at_end base value e ≡ Err (Row at))
+pub not_at_end : {T : Type 0} (base at : ℕ) (value : T) (e : Ending) → ¬ (answer_at_end base value e ≡ Err (Row at))
 not_at_end base at value Whole e = cc
 not_at_end base at value (Bad a start) e = cc
 not_at_end base at value (Cut a start) e = cc
@@ -45,7 +45,7 @@ module _ (p : Properties) (sound : AreSound p) (base at : ℕ) where
   all_sound [] = refl
   all_sound (c ∷ x) = ap (λ b. b && list_all (is_sound p) x) (sound c) ∙ all_sound x
 
-  not_a_fault : (bytes : List ℕ) → ¬ (fault_in p base bytes ≡ Some (Row at))
+  pub not_a_fault : (bytes : List ℕ) → ¬ (fault_in p base bytes ≡ Some (Row at))
   unfolding fault_in is_usable
   not_a_fault bytes e = not_bad_byte base at (ending_of bytes)
       (sym (ap (λ u. if u then bad_byte base (ending_of bytes) else Some (Row (base + length (encode_utf8_all (usable p (text_of bytes)))))) (all_sound (stream_safe p (text_of bytes)))) ∙ e)
@@ -69,9 +69,9 @@ module _ (p : Properties) (sound : AreSound p) (base at : ℕ) where
   pub not_fed : (f : Form) (bytes piece : List ℕ) (old new : SinkState) (result : Result (Unit {0}) Fault) → Feeds f p base bytes piece old new result → ¬ (result ≡ Err (Row at))
   not_fed f bytes piece old new result feeds refused = not_a_fault (bytes ++ piece) (sym (feeds.answer (λ e. cc)) ∙ ap result_err refused)
 
-  pub not_driven : (f : Form) (bytes : List ℕ) (source left : SourceState) (old new : SinkState) (result : Result Tally Fault) → Drives f p base bytes source left old new result → ¬ (result ≡ Err (Row at))
+  pub not_driven : (most : ℕ) (f : Form) (bytes : List ℕ) (source left : SourceState) (old new : SinkState) (result : Result Tally Fault) → Drives most f p base bytes source left old new result → ¬ (result ≡ Err (Row at))
   unfolding end_of
-  not_driven f bytes source left old new result drives refused = by_end left.is_at_end refl
+  not_driven most f bytes source left old new result drives refused = by_end left.is_at_end refl
     where
       read : List ℕ
       read = bytes ++ drives.fed
@@ -81,9 +81,9 @@ module _ (p : Properties) (sound : AreSound p) (base at : ℕ) where
       by_end false end = not_a_fault read (sym (drives.stopped end (λ e. cc) (λ e. cc) (λ e. cc)).1 ∙ ap result_err refused)
 
 -- a survey whose decision is none
-pub not_surveyed : {T : Type 0} (base at : ℕ) (decision : List ℕ → Option (Result T Fault)) (value : List ℕ → T) (source left : SourceState) (result : Result T Fault)
-    → ((bytes : List ℕ) → ¬ (decision bytes ≡ Some (Err (Row at)))) → Surveys base decision value source left result → ¬ (result ≡ Err (Row at))
-not_surveyed base at decision value source left result undecided surveys refused = by_end left.is_at_end refl
+pub not_surveyed : {T : Type 0} (most base at : ℕ) (decision : List ℕ → Option (Result T Fault)) (value : List ℕ → T) (source left : SourceState) (result : Result T Fault)
+    → ((bytes : List ℕ) → ¬ (decision bytes ≡ Some (Err (Row at)))) → Surveys most base decision value source left result → ¬ (result ≡ Err (Row at))
+not_surveyed most base at decision value source left result undecided surveys refused = by_end left.is_at_end refl
   where
     by_end : (b : Bool) → left.is_at_end ≡ b → ⊥
     by_end true end = not_at_end base at (value surveys.before) (ending_of surveys.before) (sym (surveys.ended end).1 ∙ refused)

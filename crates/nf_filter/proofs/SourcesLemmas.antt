@@ -53,7 +53,7 @@ end_kinds base (CutShort at start) fault is = (λ e. let same : fault ≡ Cut (b
 abbrev pub stopped_by : Stop → Result (Unit {0}) Stop
 stopped_by stop = Err stop
 
-module _ (stands fed_stands : List ℕ → Type 0) (stops : List ℕ → Option Stop) (gives : List ℕ → List ℕ) (base : ℕ) (bytes fed : List ℕ) (source left : SourceState) (old mid : SinkState)
+module _ (most : ℕ) (stands fed_stands : List ℕ → Type 0) (stops : List ℕ → Option Stop) (gives : List ℕ → List ℕ) (base : ℕ) (bytes fed : List ℕ) (source left : SourceState) (old mid : SinkState)
     (reading : Reading) (so_far : HasRead fed_stands stops base reading (bytes ++ fed)) (puts : Puts old mid (gives (text_of bytes)) (gives (text_of (bytes ++ fed)))) where
   fits : base + length bytes + length fed < 2 ^ 64
   fits = omega (arith, so_far.offset, reading.offset_fits, length-append bytes fed)
@@ -62,7 +62,7 @@ module _ (stands fed_stands : List ℕ → Type 0) (stops : List ℕ → Option 
   same_fed = append-nil fed
 
   -- the source failed
-  pub ReadsAll-failed : (after : Reading) → left.is_at_end ≡ false → Consumes source.coming left.coming fed → ReadsAll stands stops gives base after bytes source left old mid (Err (Refused Read))
+  pub ReadsAll-failed : (after : Reading) → left.is_at_end ≡ false → Consumes source.coming left.coming fed → ReadsAll most stands stops gives base after bytes source left old mid (Err (Refused Read))
   ReadsAll-failed after before_end consumed = record {
     before = fed;
     last = [];
@@ -82,7 +82,7 @@ module _ (stands fed_stands : List ℕ → Type 0) (stops : List ℕ → Option 
 
   -- it ended
   pub ReadsAll-ended : (result : Result (Unit {0}) Fault) → left.is_at_end ≡ true → Consumes source.coming left.coming fed → IsAtEnd left.coming
-      → result ≡ answer_at_end base (tt {0}) (ending_of (bytes ++ fed)) → stands (text_of (bytes ++ fed)) → ReadsAll stands stops gives base reading bytes source left old mid (stop_at_end result)
+      → result ≡ answer_at_end base (tt {0}) (ending_of (bytes ++ fed)) → stands (text_of (bytes ++ fed)) → ReadsAll most stands stops gives base reading bytes source left old mid (stop_at_end result)
   ReadsAll-ended (Ok u) at_end consumed read_out is taken = record {
     before = fed;
     last = [];
@@ -117,10 +117,10 @@ module _ (stands fed_stands : List ℕ → Type 0) (stops : List ℕ → Option 
   }
 
   -- a piece stopped it
-  pub ReadsAll-stopped : (after : Reading) (new : SinkState) (piece : List ℕ) (finds : Bool) (stop : Stop) → left.is_at_end ≡ false → Consumes source.coming left.coming (fed ++ piece) → length piece ≤ 4096
+  pub ReadsAll-stopped : (after : Reading) (new : SinkState) (piece : List ℕ) (finds : Bool) (stop : Stop) → left.is_at_end ≡ false → Consumes source.coming left.coming (fed ++ piece) → length piece ≤ most
       → MayStopReading finds stop → ((stopped_by stop ≡ Err (Refused TooLong)) ↔ (2 ^ 64 ≤ base + length bytes + length fed + length piece)) → (stopped_by stop ≡ Err (Refused TooLong) → new ≡ mid)
       → (¬ (stopped_by stop ≡ Err (Refused TooLong)) → ReadsPiece stands stops gives base after (bytes ++ fed) piece mid new (Err stop))
-      → ReadsAll stands stops gives base after bytes source left old new (Err stop)
+      → ReadsAll most stands stops gives base after bytes source left old new (Err stop)
   ReadsAll-stopped after new piece finds stop before_end consumed few may too_long kept reads = record {
     before = fed;
     last = piece;

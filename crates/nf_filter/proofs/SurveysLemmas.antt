@@ -42,14 +42,14 @@ whole_is base value Whole e = refl
 whole_is base value (Bad at start) e = refl
 whole_is base value (CutShort at start) e = cc
 
-module _ {T : Type 0} (of_place : Place → T) (base : ℕ) (stands : List ℕ → Type 0) (stops : List ℕ → Option Stop) (decision : List ℕ → Option (Result T Fault)) (value : List ℕ → T)
+module _ {T : Type 0} (of_place : Place → T) (most base : ℕ) (stands : List ℕ → Type 0) (stops : List ℕ → Option Stop) (decision : List ℕ → Option (Result T Fault)) (value : List ℕ → T)
     (decides : (bytes : List ℕ) → decision bytes ≡ option_map (told of_place) (stop_in stops base bytes)) (reading : Reading) (source left : SourceState) (old new : SinkState) where
   undecided : (before : List ℕ) → stop_in stops base before ≡ None → decision before ≡ None
   undecided before unstopped = decides before ∙ ap (option_map (told of_place)) unstopped
 
   -- all was read
-  pub Surveys-whole : (u : Unit {0}) → left.is_at_end ≡ true → (reads : ReadsAll stands stops (λ _. []) base reading [] source left old new (Ok u)) → (result : T) → value reads.before ≡ result
-      → Surveys base decision value source left (Ok result)
+  pub Surveys-whole : (u : Unit {0}) → left.is_at_end ≡ true → (reads : ReadsAll most stands stops (λ _. []) base reading [] source left old new (Ok u)) → (result : T) → value reads.before ≡ result
+      → Surveys most base decision value source left (Ok result)
   Surveys-whole u ended reads result is = record {
     before = reads.before;
     last = reads.last;
@@ -64,7 +64,7 @@ module _ {T : Type 0} (of_place : Place → T) (base : ℕ) (stands : List ℕ �
   }
 
   -- it was stopped; nothing is written, so no sink fails
-  pub Surveys-stopped : (stop : Stop) → ¬ (stop ≡ Refused Write) → (reads : ReadsAll stands stops (λ _. []) base reading [] source left old new (Err stop)) → Surveys base decision value source left (told of_place stop)
+  pub Surveys-stopped : (stop : Stop) → ¬ (stop ≡ Refused Write) → (reads : ReadsAll most stands stops (λ _. []) base reading [] source left old new (Err stop)) → Surveys most base decision value source left (told of_place stop)
   Surveys-stopped stop kept reads = record {
     before = reads.before;
     last = reads.last;
@@ -90,9 +90,9 @@ IsOfSurvey-from finds (BadByte at start) may kept = tt
 IsOfSurvey-from finds (Cut at start) may kept = tt
 
 -- the sink was given nothing, so it did not fail
-pub nothing_breaks : {stands : List ℕ → Type 0} {stops : List ℕ → Option Stop} {base : ℕ} {reading : Reading} {source left : SourceState} {old new : SinkState} (stop : Stop)
-    → ReadsAll stands stops (λ _. []) base reading [] source left old new (Err stop) → ¬ (stop ≡ Refused Write)
-nothing_breaks {stands} {stops} {base} {reading} {source} {left} {old} {new} stop reads e =
+pub nothing_breaks : {most : ℕ} {stands : List ℕ → Type 0} {stops : List ℕ → Option Stop} {base : ℕ} {reading : Reading} {source left : SourceState} {old new : SinkState} (stop : Stop)
+    → ReadsAll most stands stops (λ _. []) base reading [] source left old new (Err stop) → ¬ (stop ≡ Refused Write)
+nothing_breaks {most} {stands} {stops} {base} {reading} {source} {left} {old} {new} stop reads e =
     let breaks = reads.broken (ap stopped_by e) in
     let none : [] ≡ breaks.out ++ breaks.rest = breaks.behind in
     absurd (omega (arith, breaks.more, ap length none, length-append breaks.out breaks.rest))

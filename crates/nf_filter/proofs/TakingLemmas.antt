@@ -1,5 +1,5 @@
 -- A text, front by front.
-use Rattle.std.proofs.Common.{◌≡◌, ℕ, ◌+◌, List, [], ◌∷◌, ◌++◌, length, Option, Some, Ok, refl, sym, ap, ◌∙◌, subst, arith, append-nil, append_assoc, encode_utf8}
+use Rattle.std.proofs.Common.{◌≡◌, ℕ, ◌+◌, true, List, [], ◌∷◌, ◌++◌, length, Option, Some, Ok, Err, refl, sym, ap, ◌∙◌, subst, arith, append-nil, append_assoc, encode_utf8}
 use Rattle.std.specs.Prelude.{Result, MatchOption, encode_utf8_all}
 use Rattle.std.specs.Str.{IsUtf8, chars}
 use Rattle.std.proofs.lemmas.List.{length-append}
@@ -8,10 +8,15 @@ use Rattle.nf_forms.specs.Properties.{Properties}
 use Rattle.nf_forms.specs.declared.form.Form.{Form}
 use Rattle.nf_filter.specs.declared.normalizer.Normalizer.{Normalizer}
 use Rattle.nf_filter.specs.declared.taker.Stop.{Stop}
-use Rattle.nf_filter.specs.Block.{Start, BlockState, Written}
-use Rattle.nf_filter.specs.Normalizer.{HasTaken, TakesOn, settled_text}
+use Rattle.nf_filter.specs.declared.fault.Fault.TheVariants.{Write as WriteFault}
+use Rattle.nf_filter.specs.declared.taker.Stop.TheVariants.{Refused}
+use Rattle.nf_filter.specs.Settled.{is_usable}
+use Rattle.nf_filter.specs.Block.{Start, BlockState, Written, Broken}
+use Rattle.nf_filter.specs.Normalizer.{HasTaken, TakesOn, settled_text, usable_utf8}
 use Rattle.nf_filter.specs.Taking.{HasTakenFront}
-use Rattle.nf_filter.proofs.TextLemmas.{TakesOn-all}
+use Rattle.nf_filter.proofs.SettledLemmas.{Extends}
+use Rattle.nf_filter.proofs.PushingLemmas.{Broken-extends}
+use Rattle.nf_filter.proofs.TextLemmas.{TakesOn-all, usable_utf8-extends}
 
 pub front_len : (text front rest : List ℕ) → IsUtf8 text → IsUtf8 rest → chars text ≡ front ++ chars rest → length text ≡ length (encode_utf8_all front) + length rest
 front_len text front rest whole behind is =
@@ -76,3 +81,16 @@ module _ (f : Form) (p : Properties) (normalizer : Normalizer) (start : Start) (
       subst (λ y. TakesOn f p normalizer start now base y (Ok tt))
       (ap (λ l. x ++ l) (front-whole text here.front rest here.is_front none))
       (TakesOn-all p f normalizer start now base (x ++ here.front) here.taken here.written)
+
+  -- the sink failed in what a front of the text settles
+  pub TakesOn-broken : (base : ℕ) (x text front rest : List ℕ) → chars text ≡ front ++ rest → is_usable p (x ++ front) ≡ true → Broken start now (settled_text f p (x ++ front))
+      → TakesOn f p normalizer start now base (x ++ chars text) (Err (Refused WriteFault))
+  TakesOn-broken base x text front rest is usable broken = record {
+    broken = λ _. Broken-extends start (subst (λ y. Extends (settled_text f p (x ++ front)) (usable_utf8 f p y)) whole (usable_utf8-extends p f (x ++ front) rest usable)) broken;
+    written = λ no. absurd (no refl);
+    stop = λ no. absurd (no refl);
+    taken = tt;
+  }
+    where
+      whole : (x ++ front) ++ rest ≡ x ++ chars text
+      whole = append_assoc x front rest ∙ ap (λ l. x ++ l) (sym is)

@@ -18,13 +18,14 @@ abbrev pub due_utf8 : Bool → Form → Properties → List ℕ → List ℕ
 due_utf8 true f p bytes = final_utf8 f p bytes
 due_utf8 false f p bytes = settled_utf8 f p bytes
 
--- the filter stands after `bytes`, the first of which has the offset `base`, and the source is at its end or not
-pub record Drives (f : Form) (p : Properties) (base : ℕ) (bytes : List ℕ) (source left : SourceState) (old new : SinkState) (result : Result Tally Fault) : Type 0 where
+-- the filter stands after `bytes`, the first of which has the offset `base`, and the source, of which at most `most`
+-- bytes are asked for at once, is at its end or not
+pub record Drives (most : ℕ) (f : Form) (p : Properties) (base : ℕ) (bytes : List ℕ) (source left : SourceState) (old new : SinkState) (result : Result Tally Fault) : Type 0 where
   -- what was fed, and the piece that was too long to be fed
   pub fed : List ℕ
   pub last : List ℕ
   pub given : Consumes source.coming left.coming (fed ++ last)
-  pub few : length last ≤ 4096
+  pub few : length last ≤ most
   -- at its end the source has nothing left
   pub read_out : IsTrue left.is_at_end → IsAtEnd left.coming
   pub too_long : (result ≡ Err TooLong) ↔ (2 ^ 64 ≤ base + length bytes + length fed + length last)

@@ -7,13 +7,15 @@ pub mod Settled
 pub mod Laws
 pub mod Faults
 pub mod Normalizer
-pub mod Taking
 pub mod Taker
+pub mod Taking
+pub mod Closing
 pub mod Sources
 pub mod Filter
 pub mod Feeds
 pub mod Finishes
 pub mod Drives
+pub mod Whole
 pub mod Surveys
 pub mod Checks
 pub mod Measures

@@ -41,14 +41,14 @@ abbrev pub stop_at_end : Result (Unit {0}) Fault → Result (Unit {0}) Stop
 stop_at_end (Ok _) = Ok tt
 stop_at_end (Err fault) = Err (Refused fault)
 
--- the reading stands after `bytes`, the first of which has the offset `base`
-pub record ReadsAll (stands : List ℕ → Type 0) (stops : List ℕ → Option Stop) (gives : List ℕ → List ℕ) (base : ℕ) (reading : Reading) (bytes : List ℕ)
+-- the reading stands after `bytes`, the first of which has the offset `base`; at most `most` bytes are asked for at once
+pub record ReadsAll (most : ℕ) (stands : List ℕ → Type 0) (stops : List ℕ → Option Stop) (gives : List ℕ → List ℕ) (base : ℕ) (reading : Reading) (bytes : List ℕ)
     (source left : SourceState) (old new : SinkState) (result : Result (Unit {0}) Stop) : Type 0 where
   -- the pieces that the source gave: those before the last stop nothing
   pub before : List ℕ
   pub last : List ℕ
   pub given : Consumes source.coming left.coming (before ++ last)
-  pub few : length last ≤ 4096
+  pub few : length last ≤ most
   -- at its end the source has nothing left
   pub read_out : IsTrue left.is_at_end → IsAtEnd left.coming
   pub unstopped : stop_in stops base (bytes ++ before) ≡ None

@@ -8,13 +8,13 @@ use Rattle.nf_filter.specs.Devices.{SourceState}
 use Rattle.nf_filter.specs.Faults.{answer_at_end}
 
 -- `decision` is the answer that bytes decide, whatever follows them, and `value` what they are worth where they are
--- all and decide none
-pub record Surveys {T : Type 0} (base : ℕ) (decision : List ℕ → Option (Result T Fault)) (value : List ℕ → T) (source left : SourceState) (result : Result T Fault) : Type 0 where
+-- all and decide none; at most `most` bytes are asked for at once
+pub record Surveys {T : Type 0} (most base : ℕ) (decision : List ℕ → Option (Result T Fault)) (value : List ℕ → T) (source left : SourceState) (result : Result T Fault) : Type 0 where
   -- the pieces that the source gave: those before the last decide nothing
   pub before : List ℕ
   pub last : List ℕ
   pub given : Consumes source.coming left.coming (before ++ last)
-  pub few : length last ≤ 4096
+  pub few : length last ≤ most
   -- at its end the source has nothing left
   pub read_out : IsTrue left.is_at_end → IsAtEnd left.coming
   pub undecided : decision before ≡ None

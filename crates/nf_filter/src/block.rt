@@ -101,9 +101,22 @@ fn push_utf8(bytes: &mut ArrayVec<u8, ROOM>, c: char)
     requires { length bytes.old.items + 4 ≤ 4096 }
     ensures { bytes.new.items ≡ bytes.old.items ++ encode_utf8 c }
 {
-    let mut room = [0; 4];
-    let utf8 = c.encode_utf8(&mut room).as_bytes();
-    bytes.try_extend_from_slice(utf8).unwrap();
+    let code = c as u32;
+    if code < 0x80 {
+        bytes.push(code as u8);
+    } else if code < 0x800 {
+        bytes.push((0xC0 + code / 64) as u8);
+        bytes.push((0x80 + code % 64) as u8);
+    } else if code < 0x1_0000 {
+        bytes.push((0xE0 + code / 4096) as u8);
+        bytes.push((0x80 + code / 64 % 64) as u8);
+        bytes.push((0x80 + code % 64) as u8);
+    } else {
+        bytes.push((0xF0 + code / 262144) as u8);
+        bytes.push((0x80 + code / 4096 % 64) as u8);
+        bytes.push((0x80 + code / 64 % 64) as u8);
+        bytes.push((0x80 + code % 64) as u8);
+    }
 }
 
 /// Gives `bytes` to the sink, at most so many at once, in as many calls as it asks for.

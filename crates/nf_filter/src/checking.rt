@@ -9,7 +9,7 @@ ghost use Rattle.nf_filter.specs.Checks.{check_decision, no_place, HasChecked, S
 use crate::devices::{Nowhere, Sink, Source};
 use crate::fault::Fault;
 use crate::reading::Reading;
-use crate::sources::read_all;
+use crate::sources::{BLOCK, read_all};
 use crate::taker::{Stop, Taker};
 use nf_row::{Calm, Form, Rows};
 use nf_safe::{Checker, Place};
@@ -18,7 +18,7 @@ use nf_utf8::char_count;
 /// Reads what the source gives until it is no longer in the Stream-Safe Text Format (UAX #15, section 13), and answers
 /// that place; none where all of it is in the format. The first byte has the offset `base`. A fault that stands before
 /// a place is answered in its stead: `Row` for an unsound character, `BadByte`, `Cut`, `Read` and `TooLong`. Of what
-/// stands behind the place nothing is told.
+/// stands behind the place nothing is told. At most 4,096 bytes are asked for at once.
 pub fn check<R: Rows, I: Source>(
     rows: &R,
     base: u64,
@@ -29,12 +29,39 @@ pub fn check<R: Rows, I: Source>(
     ensures end { result ≡ Ok None → IsTrue (I.state source.new).is_at_end }
     ensures cut { IfErr result (λ fault. IsCut fault → IsTrue (I.state source.new).is_at_end) }
     ensures surveys { let p = R.properties rows.now in
-        Surveys base (check_decision p base) no_place (I.state source.old) (I.state source.new) result }
+        Surveys 4096 base (check_decision p base) no_place (I.state source.old) (I.state source.new) result }
+    ensures lender { (I.state source.new).lender ≡ (I.state source.old).lender }
+{
+    let mut buffer = [0; BLOCK];
+    check_buffered(rows, base, source, &mut buffer)
+}
+
+/// The same in pieces of at most as many bytes as the buffer has, which is not empty. What stands in it is overwritten.
+pub fn check_buffered<R: Rows, I: Source>(
+    rows: &R,
+    base: u64,
+    source: &mut I,
+    buffer: &mut [u8],
+) -> Result<Option<Place>, Fault>
+    requires { 0 < length buffer.old }
+    ensures faults { IfErr result IsOfSurvey }
+    ensures read { (result ≡ Err Fault.Read) ↔ IsTrue (I.state source.new).is_failed }
+    ensures end { result ≡ Ok None → IsTrue (I.state source.new).is_at_end }
+    ensures cut { IfErr result (λ fault. IsCut fault → IsTrue (I.state source.new).is_at_end) }
+    ensures surveys { let p = R.properties rows.now in
+        Surveys (length buffer.old) base (check_decision p base) no_place (I.state source.old) (I.state source.new) result }
     ensures lender { (I.state source.new).lender ≡ (I.state source.old).lender }
 {
     let mut reading = Reading::new(base);
     let mut checker = Checker::new(base);
-    match read_all(&mut reading, rows, source, &mut checker, &mut Nowhere) {
+    match read_all(
+        &mut reading,
+        rows,
+        source,
+        &mut checker,
+        &mut Nowhere,
+        buffer,
+    ) {
         Ok(()) => Ok(None),
         Err(Stop::Found(place)) => Ok(Some(place)),
         Err(Stop::Refused(fault)) => Err(fault),

@@ -1,4 +1,4 @@
-ghost use Rattle.std.specs.Prelude.{◌≡◌, ◌↔◌, ℕ, List, [], IsTrue, IsFalse, OnOk};
+ghost use Rattle.std.specs.Prelude.{◌≡◌, ◌<◌, ◌↔◌, ℕ, List, [], length, IsTrue, IsFalse, OnOk};
 ghost use Rattle.nf_forms.specs.declared.form.Form.{Form};
 ghost use Rattle.nf_filter.specs.Filter.{rows_of, state_of, base_of, is_spent, StandsAfter};
 ghost use Rattle.nf_filter.specs.Drives.{Drives};
@@ -6,6 +6,7 @@ ghost use Rattle.nf_filter.specs.Drives.{Drives};
 use crate::devices::{Sink, Source};
 use crate::fault::Fault;
 use crate::filter::Filter;
+use crate::sources::BLOCK;
 use crate::tally::Tally;
 use nf_row::{Form, Rows};
 
@@ -21,14 +22,35 @@ pub fn drive<R: Rows, I: Source, S: Sink>(
     ensures end { OnOk result (IsTrue (I.state source.new).is_at_end) }
     ensures drives { let p = R.properties (rows_of filter.entry) in
         (f : Form) (bytes : List ℕ) → StandsAfter f p (state_of filter.entry) bytes
-        → Drives f p (base_of (state_of filter.entry)) bytes (I.state source.old) (I.state source.new) (S.state sink.old) (S.state sink.new) result }
+        → Drives 4096 f p (base_of (state_of filter.entry)) bytes (I.state source.old) (I.state source.new) (S.state sink.old) (S.state sink.new) result }
+    ensures lenders { ((I.state source.new).lender ≡ (I.state source.old).lender) × ((S.state sink.new).lender ≡ (S.state sink.old).lender) }
+{
+    let mut buffer = [0; BLOCK];
+    drive_buffered(filter, source, sink, &mut buffer)
+}
+
+/// The same in pieces of at most as many bytes as the buffer has, which is not empty. What stands in it is overwritten.
+pub fn drive_buffered<R: Rows, I: Source, S: Sink>(
+    filter: Filter<'_, R>,
+    source: &mut I,
+    sink: &mut S,
+    buffer: &mut [u8],
+) -> Result<Tally, Fault>
+    requires { 0 < length buffer.old }
+    ensures spent { (result ≡ Err Fault.Spent) ↔ IsTrue (is_spent (state_of filter.entry)) }
+    ensures kept { IsTrue (is_spent (state_of filter.entry)) → (source.new ≡ source.old) × (sink.new ≡ sink.old) }
+    ensures read { IsFalse (is_spent (state_of filter.entry)) → ((result ≡ Err Fault.Read) ↔ IsTrue (I.state source.new).is_failed) }
+    ensures end { OnOk result (IsTrue (I.state source.new).is_at_end) }
+    ensures drives { let p = R.properties (rows_of filter.entry) in
+        (f : Form) (bytes : List ℕ) → StandsAfter f p (state_of filter.entry) bytes
+        → Drives (length buffer.old) f p (base_of (state_of filter.entry)) bytes (I.state source.old) (I.state source.new) (S.state sink.old) (S.state sink.new) result }
     ensures lenders { ((I.state source.new).lender ≡ (I.state source.old).lender) × ((S.state sink.new).lender ≡ (S.state sink.old).lender) }
 {
     let mut filter = filter;
     if filter.spent() {
         return Err(Fault::Spent);
     }
-    if let Err(fault) = filter.feed_all(source, sink) {
+    if let Err(fault) = filter.feed_all(source, sink, buffer) {
         return Err(fault);
     }
     filter.finish(sink)
@@ -45,7 +67,7 @@ pub fn run<R: Rows, I: Source, S: Sink>(
     ensures unspent { ¬ (result ≡ Err Fault.Spent) }
     ensures read { (result ≡ Err Fault.Read) ↔ IsTrue (I.state source.new).is_failed }
     ensures end { OnOk result (IsTrue (I.state source.new).is_at_end) }
-    ensures drives { Drives form (R.properties rows.now) base [] (I.state source.old) (I.state source.new) (S.state sink.old) (S.state sink.new) result }
+    ensures drives { Drives 4096 form (R.properties rows.now) base [] (I.state source.old) (I.state source.new) (S.state sink.old) (S.state sink.new) result }
     ensures lenders { ((I.state source.new).lender ≡ (I.state source.old).lender) × ((S.state sink.new).lender ≡ (S.state sink.old).lender) }
 {
     drive(Filter::new(rows, form, base), source, sink)

@@ -114,13 +114,16 @@ impl<'r, R: Rows> Filter<'r, R> {
         }
     }
 
-    /// Takes all that the source gives, and gives the sink what that settles. Behind a refusal it is spent.
+    /// Takes all that the source gives, in pieces that fit into the buffer, and gives the sink what that settles. Behind
+    /// a refusal it is spent.
     pub(crate) fn feed_all<I: Source, S: Sink>(
         &mut self,
         source: &mut I,
         sink: &mut S,
+        buffer: &mut [u8],
     ) -> Result<(), Fault>
-        requires { is_spent (state_of self.old) ≡ false }
+        requires some { 0 < length buffer.old }
+        requires unspent { is_spent (state_of self.old) ≡ false }
         ensures rows { rows_of self.new ≡ rows_of self.old }
         ensures base { base_of (state_of self.new) ≡ base_of (state_of self.old) }
         ensures spends { is_spent (state_of self.new) ≡ is_err result }
@@ -130,7 +133,7 @@ impl<'r, R: Rows> Filter<'r, R> {
         ensures feeds { let p = R.properties (rows_of self.old) in
             let base = base_of (state_of self.old) in
             (f : Form) (bytes : List ℕ) → StandsAfter f p (state_of self.old) bytes
-            → ReadsAll (HasTaken f p (state_of self.new).normalizer) (unusable_at p base) (usable_utf8 f p) base (state_of self.new).reading bytes
+            → ReadsAll (length buffer.old) (HasTaken f p (state_of self.new).normalizer) (unusable_at p base) (usable_utf8 f p) base (state_of self.new).reading bytes
             (I.state source.old) (I.state source.new) (S.state sink.old) (S.state sink.new) (stop_at_end result) }
         ensures lenders { ((I.state source.new).lender ≡ (I.state source.old).lender) × ((S.state sink.new).lender ≡ (S.state sink.old).lender) }
     {
@@ -141,6 +144,7 @@ impl<'r, R: Rows> Filter<'r, R> {
             source,
             &mut state.normalizer,
             sink,
+            buffer,
         ) {
             Ok(()) => Ok(()),
             Err(stop) => {

@@ -3,8 +3,9 @@
 
 mod ascii;
 mod block;
-mod calming;
+mod character;
 mod checking;
+mod closing;
 mod devices;
 mod driving;
 mod fault;
@@ -22,14 +23,16 @@ mod taker;
 mod taking;
 mod tally;
 mod to_writer;
+mod whole;
 
-pub use checking::check;
+pub use checking::{check, check_buffered};
 pub use devices::{Failed, Sink, Source};
-pub use driving::{drive, run};
+pub use driving::{drive, drive_buffered, run};
 pub use fault::Fault;
 pub use filter::Filter;
 pub use from_reader::{FromReader, LentReader};
 pub use held::Held;
-pub use measuring::measure;
+pub use measuring::{measure, measure_buffered};
 pub use tally::Tally;
 pub use to_writer::{LentWriter, ToWriter};
+pub use whole::{convert, converted};

@@ -1,4 +1,4 @@
-ghost use Rattle.std.specs.Prelude.{◌≡◌, ◌+◌, ◌≤◌, ◌↔◌, ℕ, List, ◌++◌, length, chars, false, IsTrue, IfErr, OnOk, encode_utf8_all};
+ghost use Rattle.std.specs.Prelude.{◌≡◌, ◌+◌, ◌<◌, ◌≤◌, ◌↔◌, ℕ, List, ◌++◌, length, chars, false, IsTrue, IfErr, OnOk, encode_utf8_all};
 ghost use Rattle.nf_safe.specs.Measurer.{values_of};
 ghost use Rattle.nf_filter.specs.Taker.{StopsQuietly};
 ghost use Rattle.nf_filter.specs.Surveys.{Surveys, IsOfSurvey, IsCut};
@@ -7,25 +7,53 @@ ghost use Rattle.nf_filter.specs.Measures.{measure_decision, text_measure, HasMe
 use crate::devices::{Nowhere, Sink, Source};
 use crate::fault::Fault;
 use crate::reading::Reading;
-use crate::sources::read_all;
+use crate::sources::{BLOCK, read_all};
 use crate::taker::{Stop, Taker};
 use nf_row::Rows;
 use nf_safe::{Measure, Measurer};
 
 /// Reads all that the source gives, and answers what is measured of it. The first byte has the offset `base`. The first
-/// fault is answered in its stead: `Row`, where a filter would answer it, `BadByte`, `Cut`, `Read` and `TooLong`.
+/// fault is answered in its stead: `Row`, where a filter would answer it, `BadByte`, `Cut`, `Read` and `TooLong`. At most
+/// 4,096 bytes are asked for at once.
 pub fn measure<R: Rows, I: Source>(rows: &R, base: u64, source: &mut I) -> Result<Measure, Fault>
     ensures faults { IfErr result IsOfSurvey }
     ensures read { (result ≡ Err Fault.Read) ↔ IsTrue (I.state source.new).is_failed }
     ensures end { OnOk result (IsTrue (I.state source.new).is_at_end) }
     ensures cut { IfErr result (λ fault. IsCut fault → IsTrue (I.state source.new).is_at_end) }
     ensures surveys { let p = R.properties rows.now in
-        Surveys base (measure_decision p base) (text_measure p) (I.state source.old) (I.state source.new) result }
+        Surveys 4096 base (measure_decision p base) (text_measure p) (I.state source.old) (I.state source.new) result }
+    ensures lender { (I.state source.new).lender ≡ (I.state source.old).lender }
+{
+    let mut buffer = [0; BLOCK];
+    measure_buffered(rows, base, source, &mut buffer)
+}
+
+/// The same in pieces of at most as many bytes as the buffer has, which is not empty. What stands in it is overwritten.
+pub fn measure_buffered<R: Rows, I: Source>(
+    rows: &R,
+    base: u64,
+    source: &mut I,
+    buffer: &mut [u8],
+) -> Result<Measure, Fault>
+    requires { 0 < length buffer.old }
+    ensures faults { IfErr result IsOfSurvey }
+    ensures read { (result ≡ Err Fault.Read) ↔ IsTrue (I.state source.new).is_failed }
+    ensures end { OnOk result (IsTrue (I.state source.new).is_at_end) }
+    ensures cut { IfErr result (λ fault. IsCut fault → IsTrue (I.state source.new).is_at_end) }
+    ensures surveys { let p = R.properties rows.now in
+        Surveys (length buffer.old) base (measure_decision p base) (text_measure p) (I.state source.old) (I.state source.new) result }
     ensures lender { (I.state source.new).lender ≡ (I.state source.old).lender }
 {
     let mut reading = Reading::new(base);
     let mut measurer = Measurer::new();
-    match read_all(&mut reading, rows, source, &mut measurer, &mut Nowhere) {
+    match read_all(
+        &mut reading,
+        rows,
+        source,
+        &mut measurer,
+        &mut Nowhere,
+        buffer,
+    ) {
         Ok(()) => Ok(measurer.values()),
         Err(stop) => Err(stop.fault()),
     }

@@ -1,5 +1,5 @@
 //! Reading a source to its end.
-ghost use Rattle.std.specs.Prelude.{◌≡◌, ◌≤◌, ◌↔◌, ℕ, List, Err, OnOk, IfErr, IsTrue};
+ghost use Rattle.std.specs.Prelude.{◌≡◌, ◌<◌, ◌≤◌, ◌↔◌, ℕ, List, length, Err, OnOk, IfErr, IsTrue};
 ghost use Rattle.nf_filter.specs.declared.fault.Fault.TheVariants.{Read};
 ghost use Rattle.nf_filter.specs.declared.taker.Stop.TheVariants.{Refused};
 ghost use Rattle.nf_filter.specs.Taker.{HasRead, IsReady};
@@ -11,18 +11,20 @@ use crate::reading::Reading;
 use crate::taker::{Stop, Taker};
 use nf_row::Rows;
 
-/// The most bytes that are asked of a source at once.
-const BLOCK: usize = 4096;
+/// The most bytes that are asked of a source at once, where the caller lends no buffer.
+pub const BLOCK: usize = 4096;
 
-/// Reads what the source gives, in pieces of at most 4,096 bytes, until its end.
+/// Reads what the source gives, in pieces that fit into the buffer, until its end.
 pub fn read_all<I: Source, T: Taker, R: Rows, S: Sink>(
     reading: &mut Reading,
     rows: &R,
     source: &mut I,
     taker: &mut T,
     sink: &mut S,
+    buffer: &mut [u8],
 ) -> Result<(), Stop>
-    requires { IsReady (T.ends_at taker.old) reading.old }
+    requires some { 0 < length buffer.old }
+    requires ready { IsReady (T.ends_at taker.old) reading.old }
     ensures read { (result ≡ Err (Refused Read)) ↔ IsTrue (I.state source.new).is_failed }
     ensures end { OnOk result (IsTrue (I.state source.new).is_at_end) }
     ensures cut { IfErr result (λ stop. IsCutStop stop → IsTrue (I.state source.new).is_at_end) }
@@ -32,13 +34,12 @@ pub fn read_all<I: Source, T: Taker, R: Rows, S: Sink>(
     ensures ready { OnOk result (IsReady (T.ends_at taker.new) reading.new) }
     ensures reads { let p = R.properties rows.now in
         (base : ℕ) (bytes : List ℕ) → HasRead (T.has_taken p taker.old base) (T.stops p base) base reading.old bytes
-        → ReadsAll (T.has_taken p taker.new base) (T.stops p base) (T.gives (T.form taker.old) p) base reading.new bytes
+        → ReadsAll (length buffer.old) (T.has_taken p taker.new base) (T.stops p base) (T.gives (T.form taker.old) p) base reading.new bytes
         (I.state source.old) (I.state source.new) (S.state sink.old) (S.state sink.new) result }
     ensures lenders { ((I.state source.new).lender ≡ (I.state source.old).lender) × ((S.state sink.new).lender ≡ (S.state sink.old).lender) }
 {
-    let mut block = [0; BLOCK];
     loop {
-        let given = match source.get(&mut block) {
+        let given = match source.get(buffer) {
             Ok(given) => given,
             Err(Failed) => return Err(Stop::Refused(Fault::Read)),
         };
@@ -48,7 +49,7 @@ pub fn read_all<I: Source, T: Taker, R: Rows, S: Sink>(
                 Err(fault) => Err(Stop::Refused(fault)),
             };
         }
-        if let Err(stop) = reading.read(rows, &block[..given], taker, sink) {
+        if let Err(stop) = reading.read(rows, &buffer[..given], taker, sink) {
             return Err(stop);
         }
     }

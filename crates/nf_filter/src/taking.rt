@@ -1,5 +1,5 @@
-//! How a normalizer takes a text: what of it is calm goes to the sink as it stands, and each other character the ordinary
-//! way.
+//! How a normalizer takes a text: of what is closed the form is written at once, and each other character goes the
+//! ordinary way.
 ghost use Rattle.std.specs.Prelude.{◌≡◌, ◌↔◌, Err, IsTrue};
 ghost use Rattle.nf_filter.specs.declared.fault.Fault.TheVariants.{Write as WriteFault};
 ghost use Rattle.nf_filter.specs.declared.taker.Stop.TheVariants.{Refused};
@@ -13,11 +13,11 @@ use nf_row::Rows;
 use nf_utf8::ascii_prefix;
 
 impl Normalizer {
-    ghost use Rattle.std.specs.Prelude.{◌≡◌, ◌+◌, ◌<◌, ◌≤◌, ℕ, List, ◌++◌, length, chars, false, IfOk, IfErr, OnOk, encode_utf8_all};
+    ghost use Rattle.std.specs.Prelude.{◌≡◌, ◌+◌, ◌<◌, ◌≤◌, ℕ, List, ◌++◌, length, chars, false, IfErr, OnOk, encode_utf8_all};
     ghost use Rattle.nf_forms.specs.declared.form.Form.{Form};
     ghost use Rattle.nf_filter.specs.Block.{Start, block_state, Written};
     ghost use Rattle.nf_filter.specs.Normalizer.{HasTaken, IsWithin, TakesOn, settled_text};
-    ghost use Rattle.nf_filter.specs.Taking.{TakesFront};
+    ghost use Rattle.nf_filter.specs.Taking.{PassesFront, TakesFrontBehind};
     ghost use Rattle.nf_filter.specs.Taker.{MayStop};
     ghost use Rattle.nf_utf8.specs.Taking.{first_text, first_bytes};
 
@@ -84,7 +84,7 @@ impl Normalizer {
         Ok(())
     }
 
-    /// Takes a front of a text that begins at the offset `at`: what of it is calm, or else its first character. Answers
+    /// Takes a front of a text that begins at the offset `at`: what of it is closed, or else its first character. Answers
     /// what stands behind.
     fn take_front<'t, R: Rows, S: Sink>(
         &mut self,
@@ -97,28 +97,20 @@ impl Normalizer {
         requires within { IsWithin self.old }
         requires chars { self.old.chars ≤ at }
         requires fits { at + length text.now ≤ u64.MAX }
-        ensures shorter { IfOk result (λ rest. length rest.now < length text.now) }
-        ensures within { OnOk result (IsWithin self.new) }
-        ensures form { OnOk result (self.new.form ≡ self.old.form) }
-        ensures chars { IfOk result (λ rest. self.new.chars + length rest.now ≤ at + length text.now) }
-        ensures stop { IfErr result (MayStop false) }
-        ensures takes { let p = R.properties rows.now in
-            (f : Form) (base : ℕ) (x : List ℕ) (start : Start) → HasTaken f p self.old x → at ≡ base + length (encode_utf8_all x)
-            → Written start (block_state S.state block.old) (settled_text f p x)
-            → TakesFront f p self.new start (block_state S.state block.new) base x text.now result }
+        ensures passes { PassesFront self.old self.new at text.now result }
+        ensures takes { TakesFrontBehind (R.properties rows.now) self.old self.new (block_state S.state block.old) (block_state S.state block.new) at text.now result }
         ensures lent { (block.new.sink.ghost_name ≡ block.old.sink.ghost_name) × ((S.state block.new.sink.now).lender ≡ (S.state block.old.sink.now).lender) }
     {
-        let calm = rows.calm_front(self.form, text);
-        if calm.tail.is_empty() {
+        let Some(closed) = rows.closed_front(self.form, text) else {
             return self.take_else(rows, at, text, block);
-        }
-        match self.take_calm(rows, calm, block) {
-            Ok(()) => Ok(calm.rest),
+        };
+        match self.take_closed(rows, text, closed, block) {
+            Ok(rest) => Ok(rest),
             Err(Failed) => Err(Stop::Refused(Fault::Write)),
         }
     }
 
-    /// Takes a front of a text that is not known to be calm: a run of plain ASCII behind a pending character of such, or
+    /// Takes a front of a text that is not known to be closed: a run of plain ASCII behind a pending character of such, or
     /// else its first character. Answers what stands behind.
     fn take_else<'t, R: Rows, S: Sink>(
         &mut self,
@@ -131,15 +123,8 @@ impl Normalizer {
         requires within { IsWithin self.old }
         requires chars { self.old.chars ≤ at }
         requires fits { at + length text.now ≤ u64.MAX }
-        ensures shorter { IfOk result (λ rest. length rest.now < length text.now) }
-        ensures within { OnOk result (IsWithin self.new) }
-        ensures form { OnOk result (self.new.form ≡ self.old.form) }
-        ensures chars { IfOk result (λ rest. self.new.chars + length rest.now ≤ at + length text.now) }
-        ensures stop { IfErr result (MayStop false) }
-        ensures takes { let p = R.properties rows.now in
-            (f : Form) (base : ℕ) (x : List ℕ) (start : Start) → HasTaken f p self.old x → at ≡ base + length (encode_utf8_all x)
-            → Written start (block_state S.state block.old) (settled_text f p x)
-            → TakesFront f p self.new start (block_state S.state block.new) base x text.now result }
+        ensures passes { PassesFront self.old self.new at text.now result }
+        ensures takes { TakesFrontBehind (R.properties rows.now) self.old self.new (block_state S.state block.old) (block_state S.state block.new) at text.now result }
         ensures lent { (block.new.sink.ghost_name ≡ block.old.sink.ghost_name) × ((S.state block.new.sink.now).lender ≡ (S.state block.old.sink.now).lender) }
     {
         let Some(starter) = self.plain_starter() else {
@@ -167,15 +152,8 @@ impl Normalizer {
         requires within { IsWithin self.old }
         requires chars { self.old.chars ≤ at }
         requires fits { at + length text.now ≤ u64.MAX }
-        ensures shorter { IfOk result (λ rest. length rest.now < length text.now) }
-        ensures within { OnOk result (IsWithin self.new) }
-        ensures form { OnOk result (self.new.form ≡ self.old.form) }
-        ensures chars { IfOk result (λ rest. self.new.chars + length rest.now ≤ at + length text.now) }
-        ensures stop { IfErr result (MayStop false) }
-        ensures takes { let p = R.properties rows.now in
-            (f : Form) (base : ℕ) (x : List ℕ) (start : Start) → HasTaken f p self.old x → at ≡ base + length (encode_utf8_all x)
-            → Written start (block_state S.state block.old) (settled_text f p x)
-            → TakesFront f p self.new start (block_state S.state block.new) base x text.now result }
+        ensures passes { PassesFront self.old self.new at text.now result }
+        ensures takes { TakesFrontBehind (R.properties rows.now) self.old self.new (block_state S.state block.old) (block_state S.state block.new) at text.now result }
         ensures lent { (block.new.sink.ghost_name ≡ block.old.sink.ghost_name) × ((S.state block.new.sink.now).lender ≡ (S.state block.old.sink.now).lender) }
     {
         let mut chars = text.chars();

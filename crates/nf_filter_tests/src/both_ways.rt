@@ -27,9 +27,26 @@ pub fn same_both_ways(
     pieces: &[&[u8]],
 ) -> Result<Tally, Fault> {
     let unchanged = Patched::new(&[]);
-    let mut plain = Filter::new(&unchanged, form, BASE);
+    same_over(
+        rt,
+        alloc,
+        Plain::of(&unchanged).expect(rt, "plain"),
+        form,
+        pieces,
+    )
+}
+
+/// The same over data of which ASCII was seen to be plain before: to see it takes as long as some thousand bytes.
+pub fn same_over(
+    rt: &impl Abort,
+    alloc: Global,
+    unchanged: Plain<'_, Patched<'_>>,
+    form: Form,
+    pieces: &[&[u8]],
+) -> Result<Tally, Fault> {
+    let mut plain = Filter::new(unchanged.rows(), form, BASE);
     let mut quick = Filter::new(&Ucd, form, BASE);
-    let mut ascii = Filter::fast(Plain::of(&unchanged).expect(rt, "plain"), form, BASE);
+    let mut ascii = Filter::fast(unchanged, form, BASE);
     let mut whole = Filter::fast(Plain::of(&Ucd).expect(rt, "plain"), form, BASE);
     let mut due = Kept::new(alloc);
     let mut by_quick = Kept::new(alloc);

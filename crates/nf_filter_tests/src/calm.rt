@@ -1,8 +1,8 @@
 //! Text that a form leaves as it stands, broken by what it does not: at each length, and about the end of a block.
-use crate::both_ways::{BASE, same_both_ways};
+use crate::both_ways::{BASE, same_over};
 use crate::parts::{FORMS, joined};
 use nf_filter::Fault;
-use nf_row::Form;
+use nf_row::{Form, Patched, Plain};
 use std::alloc::{AllocError, Global};
 use std::process::Abort;
 use std::test::Fail;
@@ -64,10 +64,10 @@ pub const BREAKS: [(&str, usize); 34] = [
 ];
 
 /// How many bytes a block has.
-const BLOCK: usize = 4096;
+pub const BLOCK: usize = 4096;
 
 /// Calm text of so many bytes, behind ASCII where its characters do not come out.
-fn filled(alloc: Global, calm: &str, len: usize) -> Result<Vec<u8>, AllocError> {
+pub fn filled(alloc: Global, calm: &str, len: usize) -> Result<Vec<u8>, AllocError> {
     let width = calm.len().max(1);
     joined(alloc, &[("b", len % width), (calm, len / width)])
 }
@@ -100,11 +100,12 @@ impl Seam<'_> {
 fn check_whole(
     rt: &impl Abort,
     alloc: Global,
+    unchanged: Plain<'_, Patched<'_>>,
     form: Form,
     seam: Seam<'_>,
 ) -> Result<(), AllocError> {
     let text = seam.text(alloc)?;
-    let answer = same_both_ways(rt, alloc, form, &[text.as_slice()]);
+    let answer = same_over(rt, alloc, unchanged, form, &[text.as_slice()]);
     assert!(rt; answer.is_ok(), "{form:?}: {answer:?}");
     Ok(())
 }
@@ -113,6 +114,7 @@ fn check_whole(
 fn check_cuts(
     rt: &impl Abort,
     alloc: Global,
+    unchanged: Plain<'_, Patched<'_>>,
     form: Form,
     seam: Seam<'_>,
 ) -> Result<(), AllocError> {
@@ -120,7 +122,7 @@ fn check_cuts(
     let last = seam.len.saturating_add(seam.width()).saturating_add(8);
     for at in seam.len.saturating_sub(8)..=last.min(text.len()) {
         let (front, back) = text.split_at(at);
-        let answer = same_both_ways(rt, alloc, form, &[front, back]);
+        let answer = same_over(rt, alloc, unchanged, form, &[front, back]);
         assert!(rt; answer.is_ok(), "{form:?}, cut at {at}: {answer:?}");
     }
     Ok(())
@@ -129,6 +131,8 @@ fn check_cuts(
 #[test]
 fn calm_text_of_each_length_is_broken(rt: HostRuntime) -> Result<(), Fail> {
     let alloc = rt.alloc();
+    let rows = Patched::new(&[]);
+    let unchanged = Plain::of(&rows).ok_or("not plain")?;
     for calm in CALM {
         for broken_by in BREAKS {
             for form in FORMS {
@@ -138,9 +142,9 @@ fn calm_text_of_each_length_is_broken(rt: HostRuntime) -> Result<(), Fail> {
                         len,
                         broken_by,
                     };
-                    check_whole(&rt, alloc, form, seam)?;
+                    check_whole(&rt, alloc, unchanged, form, seam)?;
                     if len == 40 {
-                        check_cuts(&rt, alloc, form, seam)?;
+                        check_cuts(&rt, alloc, unchanged, form, seam)?;
                     }
                 }
             }
@@ -153,6 +157,8 @@ fn calm_text_of_each_length_is_broken(rt: HostRuntime) -> Result<(), Fail> {
 /// in each form at one place, and at each place some break.
 #[test]
 fn calm_text_is_broken_about_the_end_of_a_block(rt: HostRuntime) -> Result<(), Fail> {
+    let rows = Patched::new(&[]);
+    let unchanged = Plain::of(&rows).ok_or("not plain")?;
     for (i, calm) in CALM.iter().enumerate() {
         let turns = if i == 0 { 2 } else { 81 };
         for (j, broken_by) in BREAKS.iter().enumerate() {
@@ -164,7 +170,7 @@ fn calm_text_is_broken_about_the_end_of_a_block(rt: HostRuntime) -> Result<(), F
                             len,
                             broken_by: *broken_by,
                         };
-                        check_whole(&rt, rt.alloc(), *form, seam)?;
+                        check_whole(&rt, rt.alloc(), unchanged, *form, seam)?;
                     }
                 }
             }
@@ -175,6 +181,8 @@ fn calm_text_is_broken_about_the_end_of_a_block(rt: HostRuntime) -> Result<(), F
 
 #[test]
 fn pieces_end_about_a_break_at_the_end_of_a_block(rt: HostRuntime) -> Result<(), Fail> {
+    let rows = Patched::new(&[]);
+    let unchanged = Plain::of(&rows).ok_or("not plain")?;
     for (i, broken_by) in BREAKS.iter().enumerate() {
         for (k, form) in FORMS.iter().enumerate() {
             // Each break in one form in turn.
@@ -184,7 +192,7 @@ fn pieces_end_about_a_break_at_the_end_of_a_block(rt: HostRuntime) -> Result<(),
                     len: BLOCK,
                     broken_by: *broken_by,
                 };
-                check_cuts(&rt, rt.alloc(), *form, seam)?;
+                check_cuts(&rt, rt.alloc(), unchanged, *form, seam)?;
             }
         }
     }
@@ -192,7 +200,7 @@ fn pieces_end_about_a_break_at_the_end_of_a_block(rt: HostRuntime) -> Result<(),
 }
 
 /// Bytes that are ill-formed behind a character, and the place in them of the first that is.
-const BAD: [(&[u8], u64); 8] = [
+pub const BAD: [(&[u8], u64); 8] = [
     (b"\xFF", 0),
     (b"\x80", 0),
     (b"\xC0\x80", 0),
@@ -204,7 +212,7 @@ const BAD: [(&[u8], u64); 8] = [
 ];
 
 /// Bytes of a character that is not whole.
-const BEGUN: [&[u8]; 4] = [b"\xC3", b"\xE2\x82", b"\xF0\x9F", b"\xF0\x9F\x98"];
+pub const BEGUN: [&[u8]; 4] = [b"\xC3", b"\xE2\x82", b"\xF0\x9F", b"\xF0\x9F\x98"];
 
 /// Lengths of calm text before bytes that are no text.
 const LENGTHS: [usize; 13] = [0, 1, 2, 3, 15, 16, 17, 31, 32, 33, 64, 100, 4096];
@@ -212,6 +220,8 @@ const LENGTHS: [usize; 13] = [0, 1, 2, 3, 15, 16, 17, 31, 32, 33, 64, 100, 4096]
 #[test]
 fn ill_formed_bytes_have_their_places_behind_calm_text(rt: HostRuntime) -> Result<(), Fail> {
     let alloc = rt.alloc();
+    let rows = Patched::new(&[]);
+    let unchanged = Plain::of(&rows).ok_or("not plain")?;
     for calm in CALM {
         for len in LENGTHS {
             let text = filled(alloc, calm, len)?;
@@ -221,11 +231,19 @@ fn ill_formed_bytes_have_their_places_behind_calm_text(rt: HostRuntime) -> Resul
                     at: start + place,
                     start,
                 };
-                check_fault(&rt, alloc, &text, bad, calm, fault)?;
+                check_fault(&rt, alloc, unchanged, &text, bad, calm, fault)?;
             }
             for begun in BEGUN {
                 let at = start + begun.len() as u64;
-                check_fault(&rt, alloc, &text, begun, "", Fault::Cut { at, start })?;
+                check_fault(
+                    &rt,
+                    alloc,
+                    unchanged,
+                    &text,
+                    begun,
+                    "",
+                    Fault::Cut { at, start },
+                )?;
             }
         }
     }
@@ -236,6 +254,7 @@ fn ill_formed_bytes_have_their_places_behind_calm_text(rt: HostRuntime) -> Resul
 fn check_fault(
     rt: &impl Abort,
     alloc: Global,
+    unchanged: Plain<'_, Patched<'_>>,
     text: &[u8],
     bad: &[u8],
     behind: &str,
@@ -247,7 +266,10 @@ fn check_fault(
     for form in FORMS {
         for at in text.len().saturating_sub(4)..=end {
             let (front, back) = bytes.split_at(at);
-            assert_eq!(rt; same_both_ways(rt, alloc, form, &[front, back]), Err(fault));
+            assert_eq!(rt;
+                same_over(rt, alloc, unchanged, form, &[front, back]),
+                Err(fault)
+            );
         }
     }
     Ok(())

@@ -8,6 +8,49 @@ use std::alloc::Global;
 use std::process::Abort;
 use std::test::Fail;
 
+/// Text that goes out in slices, and what breaks it.
+const LONG: [(&str, usize); 6] = [
+    ("a", 9000),
+    ("\u{301}", 31),
+    ("\u{6F22}", 3000),
+    ("\u{1112}\u{1161}\u{11AB}", 1),
+    ("b", 5000),
+    ("\u{C5}\u{323}", 1),
+];
+
+/// What NFC makes of it.
+const LONG_NFC: [(&str, usize); 7] = [
+    ("a", 8999),
+    ("\u{E1}", 1),
+    ("\u{301}", 29),
+    ("\u{34F}\u{301}", 1),
+    ("\u{6F22}", 3000),
+    ("\u{D55C}", 1),
+    ("b", 5000),
+];
+
+#[test]
+fn long_slices_reach_a_sink_that_takes_little(rt: HostRuntime) -> Result<(), Fail> {
+    let alloc = rt.alloc();
+    let text = joined(alloc, &LONG)?;
+    let mut due = joined(alloc, &LONG_NFC)?;
+    due.extend_from_slice("\u{1EA0}\u{30A}".as_bytes())?;
+    for step in [1, 2, 7, 4097] {
+        let mut sink = Kept::with_step(alloc, usize::MAX, step);
+        let mut filter = Filter::fast(Plain::of(&Ucd).ok_or("not plain")?, Form::Nfc, BASE);
+        assert_eq!(rt; filter.feed(text.as_slice(), &mut sink), Ok(()));
+        let tally = Tally {
+            bytes: text.len() as u64,
+            chars: 9000 + 31 + 3000 + 3 + 5000 + 2,
+            put: 1,
+        };
+        assert_eq!(rt; filter.finish(&mut sink), Ok(tally));
+        assert!(rt; sink.bytes.as_slice() == due.as_slice(), "step {step}");
+        assert!(rt; sink.longest > 4096, "{} bytes at once", sink.longest);
+    }
+    Ok(())
+}
+
 #[test]
 fn a_run_of_ascii_goes_out_at_once(rt: HostRuntime) -> Result<(), Fail> {
     let unchanged = Patched::new(&[]);

@@ -1,6 +1,6 @@
 //! Refusals: which, where, and what stands after them.
-use crate::parts::{FORMS, Kept};
-use nf_filter::{Fault, Filter, Held, Tally};
+use crate::parts::{Kept, WAYS, filter_of};
+use nf_filter::{Fault, Held, Tally};
 use nf_row::Ucd;
 
 const NOTHING: Held = Held {
@@ -10,9 +10,9 @@ const NOTHING: Held = Held {
 
 #[test]
 fn a_bad_byte_stops_the_filter_for_good(rt: HostRuntime) {
-    for form in FORMS {
+    for (form, is_fast) in WAYS {
         let mut sink = Kept::new(rt.alloc());
-        let mut filter = Filter::new(&Ucd, form, 0);
+        let mut filter = filter_of(&Ucd, form, 0, is_fast);
         assert_eq!(rt; filter.feed(b"ab\xC3", &mut sink), Ok(()));
         assert_eq!(rt; sink.bytes.as_slice(), b"a".as_slice());
         assert_eq!(rt;
@@ -49,10 +49,10 @@ fn ill_formed_bytes_have_their_places(rt: HostRuntime) {
         (b"\xED\xA0\x80", bad(1), spent),
         (b"\xF0\x90\x80", Ok(()), cut),
     ];
-    for form in FORMS {
+    for (form, is_fast) in WAYS {
         for (bytes, fed, finished) in cases {
             let mut sink = Kept::new(rt.alloc());
-            let mut filter = Filter::new(&Ucd, form, 0);
+            let mut filter = filter_of(&Ucd, form, 0, is_fast);
             assert_eq!(rt; filter.feed(bytes, &mut sink), fed);
             assert_eq!(rt; filter.finish(&mut sink), finished);
             assert_eq!(rt; sink.bytes.len(), 0);
@@ -62,10 +62,10 @@ fn ill_formed_bytes_have_their_places(rt: HostRuntime) {
 
 #[test]
 fn a_piece_past_the_last_offset_changes_nothing(rt: HostRuntime) {
-    for form in FORMS {
+    for (form, is_fast) in WAYS {
         let base = u64::MAX - 1;
         let mut sink = Kept::new(rt.alloc());
-        let mut filter = Filter::new(&Ucd, form, base);
+        let mut filter = filter_of(&Ucd, form, base, is_fast);
         assert_eq!(rt; filter.feed(b"ab", &mut sink), Err(Fault::TooLong));
         assert!(rt; !filter.spent());
         assert_eq!(rt; filter.held(), NOTHING);
@@ -87,9 +87,9 @@ fn a_piece_past_the_last_offset_changes_nothing(rt: HostRuntime) {
 
 #[test]
 fn a_sink_that_fails_holds_the_beginning(rt: HostRuntime) {
-    for form in FORMS {
+    for (form, is_fast) in WAYS {
         let mut sink = Kept::with_room(rt.alloc(), 3);
-        let mut filter = Filter::new(&Ucd, form, 0);
+        let mut filter = filter_of(&Ucd, form, 0, is_fast);
         assert_eq!(rt; filter.feed(b"abcdef", &mut sink), Err(Fault::Write));
         assert_eq!(rt; sink.bytes.as_slice(), b"abc".as_slice());
         assert!(rt; filter.spent());

@@ -1,4 +1,4 @@
-use crate::parts::{course_of, joined};
+use crate::parts::{course_by, filter_of, joined};
 use nf_filter::Tally;
 use nf_row::{Form, Ucd};
 use std::test::Fail;
@@ -157,12 +157,13 @@ fn texts_come_out_in_their_form(rt: HostRuntime) -> Result<(), Fail> {
     ];
     for (form, input, output, tally) in cases {
         let bytes = joined(alloc, input)?;
-        let course = course_of(alloc, &Ucd, form, &[bytes.as_slice()])?;
-        assert_eq!(rt;
-            course.written.as_slice(),
-            joined(alloc, output)?.as_slice()
-        );
-        assert_eq!(rt; course.answer, Ok(tally));
+        let output = joined(alloc, output)?;
+        for is_fast in [false, true] {
+            let filter = filter_of(&Ucd, form, 0, is_fast);
+            let course = course_by(alloc, filter, &[bytes.as_slice()])?;
+            assert_eq!(rt; course.written.as_slice(), output.as_slice());
+            assert_eq!(rt; course.answer, Ok(tally));
+        }
     }
     Ok(())
 }

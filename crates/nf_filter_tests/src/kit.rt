@@ -1,5 +1,5 @@
-use crate::parts::{FORMS, Kept};
-use nf_filter::{Filter, FromReader, run};
+use crate::parts::{FORMS, Kept, filter_of};
+use nf_filter::{FromReader, run};
 use nf_row::{Form, Ucd, sound};
 use std::alloc::{AllocError, Global};
 use std::test::Fail;
@@ -103,11 +103,13 @@ fn syllables_are_made_and_taken_apart(rt: HostRuntime) -> Result<(), Fail> {
             (Form::Nfd, whole, jamo.as_str()),
             (Form::Nfc, jamo.as_str(), whole),
         ] {
-            let mut sink = Kept::new(alloc);
-            let mut filter = Filter::new(&Ucd, form, 0);
-            assert_eq!(rt; filter.feed(input.as_bytes(), &mut sink), Ok(()));
-            assert!(rt; filter.finish(&mut sink).is_ok());
-            assert_eq!(rt; sink.bytes.as_slice(), output.as_bytes());
+            for is_fast in [false, true] {
+                let mut sink = Kept::new(alloc);
+                let mut filter = filter_of(&Ucd, form, 0, is_fast);
+                assert_eq!(rt; filter.feed(input.as_bytes(), &mut sink), Ok(()));
+                assert!(rt; filter.finish(&mut sink).is_ok());
+                assert_eq!(rt; sink.bytes.as_slice(), output.as_bytes());
+            }
         }
     }
     Ok(())

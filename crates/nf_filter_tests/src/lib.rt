@@ -7,9 +7,17 @@ mod blocks;
 #[cfg(test)]
 mod both_ways;
 #[cfg(test)]
+mod bounds;
+#[cfg(test)]
+mod broken_runs;
+#[cfg(test)]
+mod buffers;
+#[cfg(test)]
 mod calm;
 #[cfg(test)]
 mod checks;
+#[cfg(test)]
+mod closed;
 #[cfg(test)]
 mod fast;
 #[cfg(test)]
@@ -18,6 +26,8 @@ mod faults;
 mod forms;
 #[cfg(test)]
 mod kit;
+#[cfg(test)]
+mod lying_rows;
 #[cfg(test)]
 mod mixtures;
 #[cfg(test)]
@@ -29,6 +39,8 @@ mod pieces;
 #[cfg(test)]
 mod reference;
 #[cfg(test)]
+mod seeds;
+#[cfg(test)]
 mod settling;
 #[cfg(test)]
 mod slices;
@@ -36,3 +48,7 @@ mod slices;
 mod streams;
 #[cfg(test)]
 mod tables;
+#[cfg(test)]
+mod turns;
+#[cfg(test)]
+mod two_bytes;

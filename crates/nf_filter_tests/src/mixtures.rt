@@ -1,9 +1,11 @@
 //! Texts of every character, and made-up texts of hostile mixtures, in pieces of made-up sizes.
 ghost use Rattle.std.specs.Prelude.{◌+◌, ◌^◌, ◌<◌};
 
-use crate::both_ways::same_both_ways;
+use crate::both_ways::{same_both_ways, same_over};
 use crate::calm::{BREAKS, CALM};
+use crate::closed::CLUSTERS;
 use crate::parts::{FORMS, joined};
+use nf_row::{Patched, Plain};
 use std::alloc::{AllocError, Global};
 use std::test::Fail;
 
@@ -30,6 +32,8 @@ fn push_surrounded(text: &mut String, c: char) -> Result<(), AllocError> {
 #[test]
 fn each_character_goes_the_same_way(rt: HostRuntime) -> Result<(), Fail> {
     let alloc = rt.alloc();
+    let rows = Patched::new(&[]);
+    let unchanged = Plain::of(&rows).ok_or("not plain")?;
     for batch in 0..0x11_0000 / BATCH {
         let mut text = String::new(alloc);
         for code in batch * BATCH..(batch + 1) * BATCH {
@@ -40,7 +44,7 @@ fn each_character_goes_the_same_way(rt: HostRuntime) -> Result<(), Fail> {
             }
         }
         for form in FORMS {
-            let answer = same_both_ways(&rt, alloc, form, &[text.as_bytes()]);
+            let answer = same_over(&rt, alloc, unchanged, form, &[text.as_bytes()]);
             assert!(rt; answer.is_ok(), "batch {batch}: {answer:?}");
         }
     }
@@ -49,10 +53,10 @@ fn each_character_goes_the_same_way(rt: HostRuntime) -> Result<(), Fail> {
 
 /// Numbers that look random, and are the same in each run: Marsaglia's xorshift.
 #[derive(Drop)]
-struct Seeded(u64);
+pub struct Seeded(pub u64);
 
 impl Seeded {
-    fn next(&mut self) -> u64 {
+    pub fn next(&mut self) -> u64 {
         self.0 ^= self.0 << 13;
         self.0 ^= self.0 >> 7;
         self.0 ^= self.0 << 17;
@@ -60,7 +64,7 @@ impl Seeded {
     }
 
     /// A number below `bound`.
-    fn below(&mut self, bound: u32) -> u32
+    pub fn below(&mut self, bound: u32) -> u32
         requires { 0 < bound }
         ensures { result < bound }
     {
@@ -141,9 +145,9 @@ fn push_jamo(text: &mut String, seeded: &mut Seeded) -> Result<(), AllocError> {
     Ok(())
 }
 
-/// Appends calm text, marks, what breaks calm text, or any character.
-fn push_part(text: &mut String, seeded: &mut Seeded) -> Result<(), AllocError> {
-    match seeded.below(8) {
+/// Appends calm text, marks, what breaks calm text, closed text, or any character.
+pub fn push_part(text: &mut String, seeded: &mut Seeded) -> Result<(), AllocError> {
+    match seeded.below(10) {
         0..=2 => {
             let calm = seeded.pick(&CALM).unwrap_or_default();
             let times = seeded.below(101) as usize;
@@ -163,6 +167,10 @@ fn push_part(text: &mut String, seeded: &mut Seeded) -> Result<(), AllocError> {
             push_some(text, seeded, &[other], times)
         }
         6 => push_jamo(text, seeded),
+        7 | 8 => {
+            let times = seeded.below(60) as usize;
+            push_some(text, seeded, &CLUSTERS, times)
+        }
         _ => match seeded.char_in(0, 0x3_4000) {
             Some(c) => Ok(text.push(c)?),
             None => Ok(()),
@@ -171,7 +179,7 @@ fn push_part(text: &mut String, seeded: &mut Seeded) -> Result<(), AllocError> {
 }
 
 /// The bytes in pieces.
-fn cut<'t>(
+pub fn cut<'t>(
     alloc: Global,
     seeded: &mut Seeded,
     bytes: &'t [u8],

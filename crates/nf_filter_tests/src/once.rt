@@ -4,10 +4,10 @@ ghost use Rattle.std.specs.Prelude.{◌≡◌, IfOk};
 use crate::parts::{FORMS, Kept};
 use crate::reference::{Due, after};
 use nf_filter::{
-    Failed, Fault, Filter, FromReader, LentReader, LentWriter, Sink, Source, ToWriter, check,
-    measure, run,
+    Failed, Fault, Filter, FromReader, LentReader, LentWriter, Sink, Source, Tally, ToWriter,
+    check, drive, measure, run,
 };
-use nf_row::{Form, Ucd};
+use nf_row::{Form, Plain, Ucd};
 use std::alloc::{AllocError, Global};
 use std::io::{self, ErrorKind, Read, Write};
 use std::process::Abort;
@@ -146,6 +146,7 @@ fn check_reader(rt: &impl Abort, alloc: Global, form: Form, odd: Odd) -> Result<
     assert_eq!(rt; source.into_inner().calls, calls, "{odd:?}");
 
     check_lent_reader(rt, alloc, form, odd, &due, calls);
+    check_fast_reader(rt, alloc, form, odd, &due, calls);
     Ok(())
 }
 
@@ -174,6 +175,27 @@ fn check_lent_reader(
     let mut source = LentReader::new(&mut reader);
     assert_eq!(rt; measure(&Ucd, 0, &mut source).err(), due.end.err());
     assert_eq!(rt; reader.calls, calls, "{odd:?}");
+}
+
+/// A filter over which ASCII goes fast.
+fn fast(rt: &impl Abort, form: Form) -> Filter<'static, Ucd> {
+    Filter::fast(Plain::of(&Ucd).expect(rt, "plain"), form, 0)
+}
+
+/// The same by a fast filter.
+fn check_fast_reader(
+    rt: &impl Abort,
+    alloc: Global,
+    form: Form,
+    odd: Odd,
+    due: &Due,
+    calls: usize,
+) {
+    let mut source = FromReader::new(Reads::new(odd));
+    let mut sink = Kept::new(alloc);
+    assert_eq!(rt; drive(fast(rt, form), &mut source, &mut sink), due.end);
+    assert_eq!(rt; sink.bytes.as_slice(), due.whole.as_bytes());
+    assert_eq!(rt; source.into_inner().calls, calls, "{odd:?}");
 }
 
 #[test]
@@ -210,6 +232,8 @@ fn check_writer(rt: &impl Abort, alloc: Global, form: Form, odd: Odd) -> Result<
     assert_eq!(rt; writer.bytes.as_slice(), written);
     assert_eq!(rt; writer.calls, calls, "{odd:?}");
 
+    check_fast_writer(rt, alloc, form, odd, due.end, written, calls);
+
     let mut writer = Writes::new(alloc, odd);
     let mut sink = LentWriter::new(&mut writer);
     let mut filter = Filter::new(&Ucd, form, 0);
@@ -224,4 +248,22 @@ fn check_writer(rt: &impl Abort, alloc: Global, form: Form, odd: Odd) -> Result<
     assert_eq!(rt; writer.bytes.as_slice(), written);
     assert_eq!(rt; writer.calls, calls, "{odd:?}");
     Ok(())
+}
+
+/// The same by a fast filter.
+fn check_fast_writer(
+    rt: &impl Abort,
+    alloc: Global,
+    form: Form,
+    odd: Odd,
+    end: Result<Tally, Fault>,
+    written: &[u8],
+    calls: usize,
+) {
+    let mut source = FromReader::new(TEXT.as_bytes());
+    let mut sink = ToWriter::new(Writes::new(alloc, odd));
+    assert_eq!(rt; drive(fast(rt, form), &mut source, &mut sink), end);
+    let writer = sink.into_inner();
+    assert_eq!(rt; writer.bytes.as_slice(), written);
+    assert_eq!(rt; writer.calls, calls, "{odd:?}");
 }

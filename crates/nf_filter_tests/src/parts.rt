@@ -1,8 +1,28 @@
 use nf_filter::{Failed, Fault, Filter, Held, Sink, Source, Tally};
-use nf_row::{Form, Rows};
+use nf_row::{Form, Plain, Rows};
 use std::alloc::{AllocError, Global};
 
 pub const FORMS: [Form; 4] = [Form::Nfc, Form::Nfd, Form::Nfkc, Form::Nfkd];
+
+/// The forms, by a filter as any is made, and by one that is made fast.
+pub const WAYS: [(Form, bool); 8] = [
+    (Form::Nfc, false),
+    (Form::Nfd, false),
+    (Form::Nfkc, false),
+    (Form::Nfkd, false),
+    (Form::Nfc, true),
+    (Form::Nfd, true),
+    (Form::Nfkc, true),
+    (Form::Nfkd, true),
+];
+
+/// A new filter, made fast where that is asked for and ASCII is plain.
+pub fn filter_of<R: Rows>(rows: &R, form: Form, base: u64, is_fast: bool) -> Filter<'_, R> {
+    if is_fast && let Some(plain) = Plain::of(rows) {
+        return Filter::fast(plain, form, base);
+    }
+    Filter::new(rows, form, base)
+}
 
 /// A sink that keeps the bytes that it takes, at most `step` in a call, and fails where it has no room for more, or takes
 /// no more calls.
@@ -158,8 +178,17 @@ pub fn course_of<R: Rows>(
     form: Form,
     pieces: &[&[u8]],
 ) -> Result<Course, AllocError> {
+    course_by(alloc, Filter::new(rows, form, 0), pieces)
+}
+
+/// The same to a given one.
+pub fn course_by<R: Rows>(
+    alloc: Global,
+    filter: Filter<'_, R>,
+    pieces: &[&[u8]],
+) -> Result<Course, AllocError> {
     let mut sink = Kept::new(alloc);
-    let mut filter = Filter::new(rows, form, 0);
+    let mut filter = filter;
     let mut refused = None;
     for piece in pieces {
         if let Err(fault) = filter.feed(piece, &mut sink) {

@@ -3,7 +3,7 @@ use crate::parts::{FORMS, Kept, joined};
 use crate::reference::{Due, after};
 use nf_filter::{Fault, Filter};
 use nf_row::Change::{Canonical, Class, Compat, Pair};
-use nf_row::{Change, Form, Patched, Rows, Ucd};
+use nf_row::{Change, Form, Patched, Plain, Rows, Ucd};
 use std::alloc::{AllocError, Global};
 use std::process::Abort;
 use std::test::Fail;
@@ -16,11 +16,11 @@ const J: &str = "\u{34F}";
 const M: &str = "\u{301}";
 
 /// Strings, each so many times, and bytes behind them.
-type Text<'a> = (&'a [(&'a str, usize)], &'a [u8]);
+pub type Text<'a> = (&'a [(&'a str, usize)], &'a [u8]);
 
 /// Texts that hold what is hard: marks out of order, long runs, what composes across pieces, long decompositions, and such
 /// behind text that stays as it is.
-const TEXTS: [Text<'static>; 27] = [
+pub const TEXTS: [Text<'static>; 27] = [
     (&[], b""),
     (&[], b"A\xCC\x8A"),
     (&[], b"\xE1\xBA\x9B\xCC\xA3"),
@@ -113,18 +113,33 @@ const CHANGED: [(&[Change<'static>], &[Text<'static>]); 10] = [
     ),
 ];
 
-/// Feeds the pieces in turn, and checks after each, and after the end, that the filter has done what it is to do:
-/// `after[n]` after n bytes.
+/// Checks a filter, and a fast one too where ASCII is plain.
 fn check_pieces<R: Rows>(
     rt: &impl Abort,
     alloc: Global,
     rows: &R,
+    plain: Option<Plain<'_, R>>,
     form: Form,
     pieces: &[&[u8]],
     after: &[Due],
 ) {
+    check_filter(rt, alloc, Filter::new(rows, form, BASE), pieces, after);
+    if let Some(plain) = plain {
+        check_filter(rt, alloc, Filter::fast(plain, form, BASE), pieces, after);
+    }
+}
+
+/// Feeds the pieces in turn, and checks after each, and after the end, that the filter has done what it is to do:
+/// `after[n]` after n bytes.
+fn check_filter<R: Rows>(
+    rt: &impl Abort,
+    alloc: Global,
+    filter: Filter<'_, R>,
+    pieces: &[&[u8]],
+    after: &[Due],
+) {
+    let mut filter = filter;
     let mut sink = Kept::new(alloc);
-    let mut filter = Filter::new(rows, form, BASE);
     let mut fed = 0usize;
     let mut offset = BASE;
     for piece in pieces {
@@ -147,13 +162,15 @@ fn check_pieces<R: Rows>(
     assert_eq!(rt; sink.bytes.as_slice(), due.whole.as_bytes());
 }
 
-/// Checks the text cut in two at every place, cut off at every place, and byte by byte, in each form.
-fn check_text<R: Rows>(
+/// Checks the text cut in two at every place, cut off at every place, and byte by byte, in each form, by a fast filter
+/// too where ASCII is plain.
+pub fn check_text<R: Rows>(
     rt: &impl Abort,
     alloc: Global,
     rows: &R,
     text: &[u8],
 ) -> Result<(), AllocError> {
+    let plain = Plain::of(rows);
     for form in FORMS {
         let mut afters = Vec::new(alloc);
         for len in 0..=text.len() {
@@ -162,17 +179,17 @@ fn check_text<R: Rows>(
         let afters = afters.as_slice();
         for len in 0..=text.len() {
             let (front, back) = text.split_at(len);
-            check_pieces(rt, alloc, rows, form, &[front], afters);
-            check_pieces(rt, alloc, rows, form, &[front, back], afters);
-            check_pieces(rt, alloc, rows, form, &[front, b"", back], afters);
+            check_pieces(rt, alloc, rows, plain, form, &[front], afters);
+            check_pieces(rt, alloc, rows, plain, form, &[front, back], afters);
+            check_pieces(rt, alloc, rows, plain, form, &[front, b"", back], afters);
         }
         let bytes: Vec<&[u8]> = text.chunks(1).collect(alloc)?;
-        check_pieces(rt, alloc, rows, form, bytes.as_slice(), afters);
+        check_pieces(rt, alloc, rows, plain, form, bytes.as_slice(), afters);
     }
     Ok(())
 }
 
-fn bytes_of(alloc: Global, text: Text<'_>) -> Result<Vec<u8>, AllocError> {
+pub fn bytes_of(alloc: Global, text: Text<'_>) -> Result<Vec<u8>, AllocError> {
     let (parts, end) = text;
     let mut bytes = joined(alloc, parts)?;
     bytes.extend_from_slice(end)?;

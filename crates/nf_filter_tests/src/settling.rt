@@ -1,5 +1,5 @@
 //! What is written before the end, and what waits for it.
-use crate::parts::{FORMS, course_of, joined};
+use crate::parts::{WAYS, course_by, filter_of, joined};
 use nf_filter::{Held, Tally};
 use nf_row::{Form, Ucd};
 use std::alloc::{AllocError, Global};
@@ -99,17 +99,20 @@ fn what_can_change_is_held_back(rt: HostRuntime) -> Result<(), Fail> {
 }
 
 fn check(rt: &impl Abort, alloc: Global, case: &Case<'_>) -> Result<(), AllocError> {
-    let course = course_of(alloc, &Ucd, case.form, case.pieces)?;
-    assert_eq!(rt; course.settled.as_slice(), case.settled.as_bytes());
-    assert_eq!(rt;
-        course.held,
-        Held {
-            bytes: 0,
-            pending: case.pending
-        }
-    );
-    assert_eq!(rt; course.written.as_slice(), case.written.as_bytes());
-    assert_eq!(rt; course.answer, Ok(case.tally));
+    for is_fast in [false, true] {
+        let filter = filter_of(&Ucd, case.form, 0, is_fast);
+        let course = course_by(alloc, filter, case.pieces)?;
+        assert_eq!(rt; course.settled.as_slice(), case.settled.as_bytes());
+        assert_eq!(rt;
+            course.held,
+            Held {
+                bytes: 0,
+                pending: case.pending
+            }
+        );
+        assert_eq!(rt; course.written.as_slice(), case.written.as_bytes());
+        assert_eq!(rt; course.answer, Ok(case.tally));
+    }
     Ok(())
 }
 
@@ -117,8 +120,9 @@ fn check(rt: &impl Abort, alloc: Global, case: &Case<'_>) -> Result<(), AllocErr
 fn a_starter_waits_with_thirty_marks(rt: HostRuntime) -> Result<(), Fail> {
     let alloc = rt.alloc();
     let run = joined(alloc, &[("q", 1), ("\u{301}", 30)])?;
-    for form in FORMS {
-        let course = course_of(alloc, &Ucd, form, &[run.as_slice()])?;
+    for (form, is_fast) in WAYS {
+        let filter = filter_of(&Ucd, form, 0, is_fast);
+        let course = course_by(alloc, filter, &[run.as_slice()])?;
         assert_eq!(rt; course.settled.len(), 0);
         assert_eq!(rt;
             course.held,

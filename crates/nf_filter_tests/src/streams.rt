@@ -1,12 +1,27 @@
 //! Sources and sinks that give and take little, and that fail in mid-stream.
-use crate::parts::{FORMS, Kept, Pieces, joined};
+use crate::parts::{Kept, Pieces, WAYS, filter_of, joined};
 use crate::reference::after;
-use nf_filter::{Fault, Filter, FromReader, Tally, ToWriter, drive, run};
+use nf_filter::{Fault, Filter, FromReader, Sink, Source, Tally, ToWriter, drive, run};
 use nf_row::{Form, Ucd};
 use std::test::Fail;
 
 fn tally(bytes: u64, chars: u64, put: u64) -> Tally {
     Tally { bytes, chars, put }
+}
+
+/// Drives a new filter.
+fn run_by<I: Source, S: Sink>(
+    form: Form,
+    is_fast: bool,
+    base: u64,
+    source: &mut I,
+    sink: &mut S,
+) -> Result<Tally, Fault> {
+    if is_fast {
+        drive(filter_of(&Ucd, form, base, true), source, sink)
+    } else {
+        run(&Ucd, form, base, source, sink)
+    }
 }
 
 #[test]
@@ -32,14 +47,14 @@ fn a_failed_source_leaves_what_is_settled(rt: HostRuntime) -> Result<(), Fail> {
             ("\u{1F600}", 1),
         ],
     )?;
-    for form in FORMS {
+    for (form, is_fast) in WAYS {
         for len in 0..=text.len() {
             let front = &text.as_slice()[..len];
             let due = after(alloc, &Ucd, form, 0, front)?;
             let pieces: Vec<&[u8]> = front.chunks(3).collect(alloc)?;
             let mut source = Pieces::new(pieces.as_slice(), true);
             let mut sink = Kept::new(alloc);
-            let answer = run(&Ucd, form, 0, &mut source, &mut sink);
+            let answer = run_by(form, is_fast, 0, &mut source, &mut sink);
             assert_eq!(rt; answer, Err(Fault::Read));
             assert_eq!(rt; source.refused, 1);
             assert_eq!(rt; sink.bytes.as_slice(), due.written.as_bytes());
@@ -61,11 +76,11 @@ fn little_at_a_time_comes_out_whole(rt: HostRuntime) -> Result<(), Fail> {
         b"\x9Ca",
     ];
     let text = pieces.concat(alloc)?;
-    for form in FORMS {
+    for (form, is_fast) in WAYS {
         let due = after(alloc, &Ucd, form, 0, text.as_slice())?;
         let mut source = Pieces::new(&pieces, false);
         let mut sink = Kept::with_step(alloc, usize::MAX, 1);
-        let answer = run(&Ucd, form, 0, &mut source, &mut sink);
+        let answer = run_by(form, is_fast, 0, &mut source, &mut sink);
         assert_eq!(rt; answer, Ok(tally(14, 7, 0)));
         assert_eq!(rt; sink.bytes.as_slice(), due.whole.as_bytes());
     }
@@ -74,10 +89,10 @@ fn little_at_a_time_comes_out_whole(rt: HostRuntime) -> Result<(), Fail> {
 
 #[test]
 fn an_empty_piece_is_the_sources_end(rt: HostRuntime) {
-    for form in FORMS {
+    for (form, is_fast) in WAYS {
         let mut source = Pieces::new(&[b"ab", b"", b"cd"], true);
         let mut sink = Kept::new(rt.alloc());
-        let answer = run(&Ucd, form, 0, &mut source, &mut sink);
+        let answer = run_by(form, is_fast, 0, &mut source, &mut sink);
         assert_eq!(rt; answer, Ok(tally(2, 2, 0)));
         assert_eq!(rt; sink.bytes.as_slice(), b"ab".as_slice());
         assert_eq!(rt; source.given, 2);
@@ -86,10 +101,10 @@ fn an_empty_piece_is_the_sources_end(rt: HostRuntime) {
 
 #[test]
 fn a_sink_fails_between_its_bytes(rt: HostRuntime) {
-    for form in FORMS {
+    for (form, is_fast) in WAYS {
         let mut source = Pieces::new(&[b"ab", b"cd", b"ef"], false);
         let mut sink = Kept::with_step(rt.alloc(), 3, 1);
-        let answer = run(&Ucd, form, 0, &mut source, &mut sink);
+        let answer = run_by(form, is_fast, 0, &mut source, &mut sink);
         assert_eq!(rt; answer, Err(Fault::Write));
         assert_eq!(rt; sink.bytes.as_slice(), b"abc".as_slice());
         assert_eq!(rt; sink.refused, 1);
@@ -121,11 +136,11 @@ fn a_source_is_read_up_to_the_last_offset(rt: HostRuntime) {
             b"a",
         ),
     ];
-    for form in FORMS {
+    for (form, is_fast) in WAYS {
         for (pieces, due, written) in cases {
             let mut source = Pieces::new(pieces, false);
             let mut sink = Kept::new(rt.alloc());
-            assert_eq!(rt; run(&Ucd, form, base, &mut source, &mut sink), due);
+            assert_eq!(rt; run_by(form, is_fast, base, &mut source, &mut sink), due);
             assert_eq!(rt; sink.bytes.as_slice(), written);
         }
     }

@@ -30,15 +30,15 @@ FeedingRefusesNone = (f : Form) (p : Properties) (base : ℕ) (bytes piece : Lis
 
 -- by driving a filter
 abbrev pub DrivingRefusesNone : Type 0
-DrivingRefusesNone = (f : Form) (p : Properties) (base : ℕ) (bytes : List ℕ) (source left : SourceState) (old new : SinkState) (result : Result Tally Fault)
-    → AreSound p → Drives f p base bytes source left old new result → RefusesNone result
+DrivingRefusesNone = (most : ℕ) (f : Form) (p : Properties) (base : ℕ) (bytes : List ℕ) (source left : SourceState) (old new : SinkState) (result : Result Tally Fault)
+    → AreSound p → Drives most f p base bytes source left old new result → RefusesNone result
 
 -- by checking
 abbrev pub CheckingRefusesNone : Type 0
-CheckingRefusesNone = (p : Properties) (base : ℕ) (source left : SourceState) (result : Result (Option Place) Fault)
-    → AreSound p → Surveys base (check_decision p base) no_place source left result → RefusesNone result
+CheckingRefusesNone = (most : ℕ) (p : Properties) (base : ℕ) (source left : SourceState) (result : Result (Option Place) Fault)
+    → AreSound p → Surveys most base (check_decision p base) no_place source left result → RefusesNone result
 
 -- by measuring
 abbrev pub MeasuringRefusesNone : Type 0
-MeasuringRefusesNone = (p : Properties) (base : ℕ) (source left : SourceState) (result : Result Measure Fault)
-    → AreSound p → Surveys base (measure_decision p base) (text_measure p) source left result → RefusesNone result
+MeasuringRefusesNone = (most : ℕ) (p : Properties) (base : ℕ) (source left : SourceState) (result : Result Measure Fault)
+    → AreSound p → Surveys most base (measure_decision p base) (text_measure p) source left result → RefusesNone result

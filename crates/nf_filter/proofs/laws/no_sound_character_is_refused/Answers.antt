@@ -5,10 +5,10 @@ pub returns-clause-feeding : goal.returns-clause-feeding
 returns-clause-feeding c = λ f p base bytes piece old new result sound feeds at. not_fed p sound base at f bytes piece old new result feeds
 
 pub returns-clause-driving : goal.returns-clause-driving
-returns-clause-driving c = λ f p base bytes source left old new result sound drives at. not_driven p sound base at f bytes source left old new result drives
+returns-clause-driving c = λ most f p base bytes source left old new result sound drives at. not_driven p sound base at most f bytes source left old new result drives
 
 pub returns-clause-checking : goal.returns-clause-checking
-returns-clause-checking c = λ p base source left result sound surveys at. not_surveyed base at _ _ source left result (not_checked p sound base at) surveys
+returns-clause-checking c = λ most p base source left result sound surveys at. not_surveyed most base at _ _ source left result (not_checked p sound base at) surveys
 
 pub returns-clause-measuring : goal.returns-clause-measuring
-returns-clause-measuring c = λ p base source left result sound surveys at. not_surveyed base at _ _ source left result (not_measured p sound base at) surveys
+returns-clause-measuring c = λ most p base source left result sound surveys at. not_surveyed most base at _ _ source left result (not_measured p sound base at) surveys

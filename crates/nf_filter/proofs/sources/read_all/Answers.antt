@@ -16,7 +16,7 @@ loop-given-init g c =
     record {
       room = refl;
       offset = omega arith;
-      ready = c.requires;
+      ready = c.requires.ready;
       form = refl;
       read = (
         [],
@@ -34,7 +34,7 @@ returns-in-Err-clause-reads g c = λ base bytes before.
     let p = g.R.Rows.properties c.args.rows.now in
     let fed = c.loop-given.invariant.read in
     let so_far = fed.2 base bytes before in
-    ReadsAll-failed (g.T.Taker.has_taken p c.loop-given.taker base) (g.T.Taker.has_taken p c.loop-given.taker base) (g.T.Taker.stops p base) (g.T.Taker.gives (g.T.Taker.form c.args.taker.now) p) base bytes fed.0
+    ReadsAll-failed (length c.args.buffer.now) (g.T.Taker.has_taken p c.loop-given.taker base) (g.T.Taker.has_taken p c.loop-given.taker base) (g.T.Taker.stops p base) (g.T.Taker.gives (g.T.Taker.form c.args.taker.now) p) base bytes fed.0
     (g.I.Source.state c.args.source.now) (g.I.Source.state c.get.new.self) _ _ c.loop-given.reading so_far.0 so_far.1 c.loop-given.reading c.in-Err.ensures.failed.1 (Consumes-kept _ _ _ fed.0 fed.1 c.in-Err.ensures.kept)
 
 pub returns-in-Ok-end-clause-reads : goal.returns-in-Ok-end-clause-reads
@@ -44,7 +44,7 @@ returns-in-Ok-end-clause-reads g c = λ base bytes before.
     let so_far = fed.2 base bytes before in
     let consumed = subst (λ l. Consumes (g.I.Source.state c.args.source.now).coming (g.I.Source.state c.get.new.self).coming l) (append-nil fed.0)
     (Consumes-trans _ _ _ fed.0 [] fed.1 (subst (λ n. Consumes (g.I.Source.state c.loop-given.source).coming (g.I.Source.state c.get.new.self).coming (take n c.get.new.buf)) c.if-given-eq0.true c.in-Ok.ensures.given)) in
-    ReadsAll-ended (g.T.Taker.has_taken p c.loop-given.taker base) (g.T.Taker.has_taken p c.loop-given.taker base) (g.T.Taker.stops p base) (g.T.Taker.gives (g.T.Taker.form c.args.taker.now) p) base bytes fed.0
+    ReadsAll-ended (length c.args.buffer.now) (g.T.Taker.has_taken p c.loop-given.taker base) (g.T.Taker.has_taken p c.loop-given.taker base) (g.T.Taker.stops p base) (g.T.Taker.gives (g.T.Taker.form c.args.taker.now) p) base bytes fed.0
     (g.I.Source.state c.args.source.now) (g.I.Source.state c.get.new.self) _ _ c.loop-given.reading so_far.0 so_far.1 (Ok tt) (c.in-Ok.ensures.end ∙ eq-eqb c.in-Ok.given 0 c.if-given-eq0.true)
     consumed (c.in-Ok.ensures.read_out c.if-given-eq0.true) (c.in-Ok-end.ensures.end base (bytes ++ fed.0) so_far.0.decoder so_far.0.offset) so_far.0.taken
 
@@ -55,7 +55,7 @@ returns-in-Err-end-clause-reads g c = λ base bytes before.
     let so_far = fed.2 base bytes before in
     let consumed = subst (λ l. Consumes (g.I.Source.state c.args.source.now).coming (g.I.Source.state c.get.new.self).coming l) (append-nil fed.0)
     (Consumes-trans _ _ _ fed.0 [] fed.1 (subst (λ n. Consumes (g.I.Source.state c.loop-given.source).coming (g.I.Source.state c.get.new.self).coming (take n c.get.new.buf)) c.if-given-eq0.true c.in-Ok.ensures.given)) in
-    ReadsAll-ended (g.T.Taker.has_taken p c.loop-given.taker base) (g.T.Taker.has_taken p c.loop-given.taker base) (g.T.Taker.stops p base) (g.T.Taker.gives (g.T.Taker.form c.args.taker.now) p) base bytes fed.0
+    ReadsAll-ended (length c.args.buffer.now) (g.T.Taker.has_taken p c.loop-given.taker base) (g.T.Taker.has_taken p c.loop-given.taker base) (g.T.Taker.stops p base) (g.T.Taker.gives (g.T.Taker.form c.args.taker.now) p) base bytes fed.0
     (g.I.Source.state c.args.source.now) (g.I.Source.state c.get.new.self) _ _ c.loop-given.reading so_far.0 so_far.1 (Err c.in-Err-end.fault) (c.in-Ok.ensures.end ∙ eq-eqb c.in-Ok.given 0 c.if-given-eq0.true)
     consumed (c.in-Ok.ensures.read_out c.if-given-eq0.true) (c.in-Err-end.ensures.end base (bytes ++ fed.0) so_far.0.decoder so_far.0.offset) so_far.0.taken
 
@@ -67,7 +67,7 @@ returns-in-Err-read-clause-reads g c = λ base bytes before.
     let piece = take c.in-Ok.given c.get.new.buf in
     let over = c.in-Err-read.ensures.too_long in
     let here : c.loop-given.reading.offset ≡ base + length bytes + length fed.0 = omega (arith, so_far.0.offset, length-append bytes fed.0) in
-    ReadsAll-stopped (g.T.Taker.has_taken p c.read.new.taker base) (g.T.Taker.has_taken p c.loop-given.taker base) (g.T.Taker.stops p base) (g.T.Taker.gives (g.T.Taker.form c.args.taker.now) p) base bytes fed.0
+    ReadsAll-stopped (length c.args.buffer.now) (g.T.Taker.has_taken p c.read.new.taker base) (g.T.Taker.has_taken p c.loop-given.taker base) (g.T.Taker.stops p base) (g.T.Taker.gives (g.T.Taker.form c.args.taker.now) p) base bytes fed.0
     (g.I.Source.state c.args.source.now) (g.I.Source.state c.get.new.self) _ _ c.loop-given.reading so_far.0 so_far.1 c.read.new.self _ piece g.T.Taker.finds c.in-Err-read.stop
     (c.in-Ok.ensures.end ∙ ne_eqb c.in-Ok.given 0 c.if-given-eq0.false) (Consumes-trans _ _ _ fed.0 piece fed.1 c.in-Ok.ensures.given)
     (omega (arith, length-take c.in-Ok.given c.get.new.buf, c.get.auto.buf, c.loop-given.invariant.room)) c.in-Err-read.ensures.stop (

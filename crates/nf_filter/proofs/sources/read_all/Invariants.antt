@@ -7,7 +7,7 @@ use Rattle.nf_filter.proofs.sources.read_all.Given as goal
 
 abbrev pub invariant-loop-given : goal.invariant-loop-given
 invariant-loop-given g l = record {
-  room : length l.block ≡ 4096;
+  room : length l.buffer ≡ length l.fn.buffer;
   offset : l.fn.reading.offset ≤ l.reading.offset;
   ready : IsReady (g.T.Taker.ends_at l.taker) l.reading;
   form : g.T.Taker.form l.taker ≡ g.T.Taker.form l.fn.taker;

@@ -17,10 +17,10 @@ loop-rest-init g c = record {
 pub loop-rest-preserved : goal.loop-rest-preserved
 loop-rest-preserved g c = record {
   utf8 = search rules;
-  left = omega (arith, c.in-Ok.ensures.shorter, c.loop-rest.invariant.left);
-  within = c.in-Ok.ensures.within;
-  chars = omega (arith, c.in-Ok.ensures.chars, c.loop-rest.invariant.left);
-  form = c.in-Ok.ensures.form ∙ c.loop-rest.invariant.form;
+  left = omega (arith, c.in-Ok.ensures.passes.shorter, c.loop-rest.invariant.left);
+  within = c.in-Ok.ensures.passes.within;
+  chars = omega (arith, c.in-Ok.ensures.passes.chars, c.loop-rest.invariant.left);
+  form = c.in-Ok.ensures.passes.form ∙ c.loop-rest.invariant.form;
   taken = λ f base x start taken here written.
       let before = c.loop-rest.invariant.taken f base x start taken here written in
       let place = place_behind c.args.at base x c.args.text.now before.front c.loop-rest.rest.now c.utf8.text c.loop-rest.invariant.utf8 before.is_front here in

@@ -1,0 +1,199 @@
+-- What feeding all bytes at once, and finishing, come to.
+use Rattle.std.proofs.Common.{◌≡◌, ℕ, ◌+◌, Bool, true, false, List, [], length, Option, Some, None, Result, Ok, Err, refl, sym, ap, ◌∙◌, subst, ⊎_elim}
+use Rattle.std.specs.Prelude.{IfErr, if◌then◌else◌, encode_utf8_all}
+use Rattle.std.specs.Io.KnownBytes.{Appends}
+use Rattle.nf_forms.specs.Properties.{Properties}
+use Rattle.nf_forms.specs.declared.form.Form.{Form}
+use Rattle.nf_forms.specs.Front.{back}
+use Rattle.nf_forms.specs.SafeForm.{safe_form}
+use Rattle.nf_forms.specs.Laws.Front.{front-append-back}
+use Rattle.nf_utf8.specs.Ending.{Ending, Whole, Bad, Cut as CutEnd}
+use Rattle.nf_utf8.specs.Reading.{text_of, ending_of}
+use Rattle.nf_utf8.specs.Reads.{Reads, EndsAs}
+use Rattle.nf_filter.specs.declared.fault.Fault.{Fault}
+use Rattle.nf_filter.specs.declared.fault.Fault.TheVariants.{Write, Row}
+use Rattle.nf_filter.specs.declared.tally.Tally.{Tally}
+use Rattle.nf_filter.specs.Devices.{SinkState}
+use Rattle.nf_filter.specs.Writes.{Puts, BreaksOff}
+use Rattle.nf_filter.specs.Settled.{settled, is_usable, usable, settled_utf8}
+use Rattle.nf_filter.specs.Faults.{answer_at_end, bad_byte, fault_in}
+use Rattle.nf_filter.specs.Finishes.{tally_of, end_of, whole_or, final_utf8, Finishes}
+use Rattle.nf_filter.specs.Feeds.{Feeds}
+use Rattle.nf_filter.specs.Whole.{IsFormOf, IsOfWhole, fault_or, whole_answer, whole_utf8, Converts}
+use Rattle.nf_filter.specs.Laws.Settled.{settled_utf8-none}
+use Rattle.nf_filter.specs.Laws.Soundness.{AreSound, RefusesNone}
+use Rattle.nf_filter.proofs.WritesLemmas.{Puts-join, Puts-at, BreaksOff-join, BreaksOff-at, BreaksOff-longer}
+use Rattle.nf_filter.proofs.SettledLemmas.{Extends, Extends-none, Extends-encodes, usable-all}
+use Rattle.nf_filter.proofs.FilterLemmas.{never_failed, failed_with_more, write_or_not}
+use Rattle.nf_filter.proofs.SoundnessLemmas.{not_at_end, not_a_fault}
+
+-- what ends with no fault, and has none before, is whole
+is_whole : {A B : Type 0} (value : A) (b : B) (e : Ending) (usable : Bool) (at : ℕ) (told : A) → answer_at_end 0 value e ≡ Ok told → (if usable then bad_byte 0 e else Some (Row at)) ≡ None → e ≡ Whole
+is_whole value b Whole usable at told answer none = refl
+is_whole value b (Bad at start) true other told answer none = cc
+is_whole value b (Bad at start) false other told answer none = cc
+is_whole value b (CutEnd at start) usable other told answer none = cc
+
+module _ (p : Properties) where
+  pub ending_whole : (bytes : List ℕ) (tally : Tally) → Ok tally ≡ end_of p 0 bytes → fault_in p 0 bytes ≡ None → ending_of bytes ≡ Whole
+  unfolding end_of fault_in
+  ending_whole bytes tally answer none = is_whole (tally_of p bytes) tally (ending_of bytes) (is_usable p (text_of bytes)) (0 + length (encode_utf8_all (usable p (text_of bytes)))) tally (sym answer) none
+
+  -- where reading found no fault, all characters can be used
+  is_usable-from : (bytes : List ℕ) → None ≡ fault_in p 0 bytes → is_usable p (text_of bytes) ≡ true
+  unfolding fault_in
+  is_usable-from bytes none = next (is_usable p (text_of bytes)) (bad_byte 0 (ending_of bytes)) _ none
+    where
+      next : (b : Bool) (o : Option Fault) (row : Fault) → None ≡ (if b then o else Some row) → b ≡ true
+      next true o row none = refl
+      next false o row none = cc
+
+  whole_answer-faults : (bytes : List ℕ) → IfErr (whole_answer p bytes) IsOfWhole
+  unfolding whole_answer end_of fault_in
+  whole_answer-faults bytes = next (is_usable p (text_of bytes)) (ending_of bytes) _ (tally_of p bytes)
+    where
+      next : (b : Bool) (e : Ending) (at : ℕ) (tally : Tally) → IfErr (fault_or (if b then bad_byte 0 e else Some (Row at)) (answer_at_end 0 tally e)) IsOfWhole
+      next true Whole at tally = tt
+      next true (Bad a start) at tally = tt
+      next true (CutEnd a start) at tally = tt
+      next false e at tally = tt
+
+  whole_answer-sound : AreSound p → (bytes : List ℕ) → RefusesNone (whole_answer p bytes)
+  unfolding whole_answer end_of
+  whole_answer-sound sound bytes at = next (fault_in p 0 bytes) refl
+    where
+      next : (o : Option Fault) → fault_in p 0 bytes ≡ o → ¬ (fault_or o (answer_at_end 0 (tally_of p bytes) (ending_of bytes)) ≡ Err (Row at))
+      next None told e = not_at_end 0 at (tally_of p bytes) (ending_of bytes) e
+      next (Some fault) told e = not_a_fault p sound 0 at bytes (told ∙ ap Some (let same : fault ≡ Row at = cc in same))
+
+module _ (f : Form) (p : Properties) where
+  pub final_is : (bytes : List ℕ) → ending_of bytes ≡ Whole → final_utf8 f p bytes ≡ encode_utf8_all (safe_form f p (text_of bytes))
+  unfolding final_utf8
+  final_is bytes end = ap (λ e. whole_or e (settled_utf8 f p bytes) (encode_utf8_all (safe_form f p (text_of bytes)))) end
+
+  settled-whole : (x : List ℕ) → Extends (settled f p x) (safe_form f p x)
+  unfolding settled
+  settled-whole x = record { more = back p (safe_form f p x); text = sym (front-append-back p (safe_form f p x)) }
+
+  final-extends : (bytes : List ℕ) → is_usable p (text_of bytes) ≡ true → Extends (settled_utf8 f p bytes) (final_utf8 f p bytes)
+  unfolding final_utf8 settled_utf8
+  final-extends bytes sound = next (ending_of bytes)
+    where
+      whole : Extends (encode_utf8_all (settled f p (usable p (text_of bytes)))) (encode_utf8_all (safe_form f p (text_of bytes)))
+      whole = Extends-encodes (subst (λ x. Extends (settled f p x) (safe_form f p (text_of bytes))) (sym (usable-all p (text_of bytes) sound)) (settled-whole (text_of bytes)))
+
+      next : (e : Ending) → Extends (encode_utf8_all (settled f p (usable p (text_of bytes))))
+          (whole_or e (encode_utf8_all (settled f p (usable p (text_of bytes)))) (encode_utf8_all (safe_form f p (text_of bytes))))
+      next Whole = whole
+      next (Bad at start) = whole
+      next (CutEnd at start) = Extends-none _
+
+  module _ (bytes : List ℕ) where
+    at_fault : (fault : Fault) → Some fault ≡ fault_in p 0 bytes → settled_utf8 f p bytes ≡ whole_utf8 f p bytes
+    unfolding whole_utf8
+    at_fault fault told = rw (← told) refl
+
+    without : None ≡ fault_in p 0 bytes → final_utf8 f p bytes ≡ whole_utf8 f p bytes
+    unfolding whole_utf8
+    without told = rw (← told) refl
+
+    whole-extends : Extends (settled_utf8 f p bytes) (whole_utf8 f p bytes)
+    whole-extends = next (fault_in p 0 bytes) refl
+      where
+        next : (o : Option Fault) → o ≡ fault_in p 0 bytes → Extends (settled_utf8 f p bytes) (whole_utf8 f p bytes)
+        next None told = subst (Extends (settled_utf8 f p bytes)) (without told) (final-extends bytes (is_usable-from p bytes told))
+        next (Some fault) told = subst (Extends (settled_utf8 f p bytes)) (at_fault fault told) (Extends-none (settled_utf8 f p bytes))
+
+    answer_at : (fault : Fault) → Some fault ≡ fault_in p 0 bytes → Err fault ≡ whole_answer p bytes
+    unfolding whole_answer
+    answer_at fault told = rw (← told) refl
+
+    answer_without : None ≡ fault_in p 0 bytes → end_of p 0 bytes ≡ whole_answer p bytes
+    unfolding whole_answer
+    answer_without told = rw (← told) refl
+
+    module _ (old new : SinkState) where
+      Converts-broken : BreaksOff old new [] (whole_utf8 f p bytes) → Converts f p bytes old new (Err Write)
+      Converts-broken breaks = record {
+        write = (λ _. failed_with_more breaks, λ _. refl);
+        broken_off = λ _. breaks;
+        written = λ other. absurd (other refl);
+        answer = λ other. absurd (other refl);
+      }
+
+      Converts-put : (r : Result Tally Fault) → ¬ (r ≡ Err Write) → Puts old new [] (whole_utf8 f p bytes) → r ≡ whole_answer p bytes → Converts f p bytes old new r
+      Converts-put r other puts answer = record {
+        write = (λ w. absurd (other w), λ both. absurd (never_failed puts both));
+        broken_off = λ w. absurd (other w);
+        written = λ _. puts;
+        answer = λ _. answer;
+      }
+
+      -- feeding was refused
+      pub Converts-refused : (fault : Fault) → Feeds f p 0 [] bytes old new (Err fault) → Converts f p bytes old new (Err fault)
+      Converts-refused fault feeds = ⊎_elim broken other (write_or_not fault)
+        where
+          broken : fault ≡ Write → Converts f p bytes old new (Err fault)
+          broken is =
+              let breaks = BreaksOff-at (settled_utf8-none f p) refl (feeds.broken_off (ap (λ k. Err k) is)) in
+              let all = subst (BreaksOff old new []) (sym whole-extends.text) (BreaksOff-longer whole-extends.more breaks) in
+              subst (λ (k : Fault). Converts f p bytes old new (Err k)) (sym is) (Converts-broken all)
+
+          other : ¬ (fault ≡ Write) → Converts f p bytes old new (Err fault)
+          other not =
+              let no : ¬ (let r : Result (Unit {0}) Fault = Err fault in r ≡ Err Write) = λ w. not (let same : fault ≡ Write = cc in same) in
+              let told = feeds.answer no in
+              Converts-put (Err fault) (λ w. not (let same : fault ≡ Write = cc in same))
+              (Puts-at (settled_utf8-none f p) (at_fault fault told) (feeds.written no)) (answer_at fault told)
+
+    -- feeding was not
+    module _ (old mid new : SinkState) (feeds : Feeds f p 0 [] bytes old mid (Ok tt)) where
+      fed : Puts old mid [] (settled_utf8 f p bytes)
+      fed = Puts-at (settled_utf8-none f p) refl (feeds.written (λ w. cc))
+
+      none : None ≡ fault_in p 0 bytes
+      none = feeds.answer (λ w. cc)
+
+      finished : (r : Result Tally Fault) → ¬ (r ≡ Err Write) → Finishes f p 0 bytes mid new r → Converts f p bytes old new r
+      finished r other finishes = Converts-put old new r other (Puts-at refl (without none) (Puts-join fed (finishes.written other))) (finishes.answer other ∙ answer_without none)
+
+      pub Converts-finished : (r : Result Tally Fault) → Finishes f p 0 bytes mid new r → Converts f p bytes old new r
+      Converts-finished (Ok tally) finishes = finished (Ok tally) (λ w. cc) finishes
+      Converts-finished (Err fault) finishes = ⊎_elim broken (λ not. finished (Err fault) (λ w. not (let same : fault ≡ Write = cc in same)) finishes) (write_or_not fault)
+        where
+          broken : fault ≡ Write → Converts f p bytes old new (Err fault)
+          broken is = subst (λ (k : Fault). Converts f p bytes old new (Err k)) (sym is)
+              (Converts-broken old new (BreaksOff-at refl (without none) (BreaksOff-join fed (finishes.broken_off (ap (λ k. Err k) is)))))
+
+    -- the faults that may be answered
+    module _ (old new : SinkState) where
+      pub Converts-faults : (r : Result Tally Fault) → Converts f p bytes old new r → IfErr r IsOfWhole
+      Converts-faults (Ok tally) converts = tt
+      Converts-faults (Err fault) converts = ⊎_elim (λ is. subst IsOfWhole (sym is) tt) other (write_or_not fault)
+        where
+          other : ¬ (fault ≡ Write) → IsOfWhole fault
+          other not = subst (λ (r : Result Tally Fault). IfErr r IsOfWhole) (sym (converts.answer (λ w. not (let same : fault ≡ Write = cc in same)))) (whole_answer-faults p bytes)
+
+      pub Converts-sound : (r : Result Tally Fault) → AreSound p → Converts f p bytes old new r → RefusesNone r
+      Converts-sound r sound converts at is = whole_answer-sound p sound bytes at (sym (converts.answer (λ w. let both = sym w ∙ is in cc)) ∙ is)
+
+    -- what a sink that was empty has then
+    module _ (old new : SinkState) (out : List ℕ) (is_old : old.taken ≡ Some []) (is_new : new.taken ≡ Some out) where
+      pub IsFormOf-from : (tally : Tally) → Reads bytes (text_of bytes) (ending_of bytes) → Converts f p bytes old new (Ok tally) → IsFormOf f p bytes out
+      IsFormOf-from tally reads converts = next (fault_in p 0 bytes) refl
+        where
+          puts : Puts old new [] (whole_utf8 f p bytes)
+          puts = converts.written (λ w. cc)
+
+          taken : out ≡ puts.out
+          taken = subst (λ (o : Option (List ℕ)). Appends (Some []) o puts.out) is_new (subst (λ (o : Option (List ℕ)). Appends o new.taken puts.out) is_old puts.given)
+
+          next : (o : Option Fault) → o ≡ fault_in p 0 bytes → IsFormOf f p bytes out
+          next (Some fault) told = let answer = converts.answer (λ w. cc) ∙ sym (answer_at fault told) in cc
+          next None told =
+              let end = ending_whole p bytes tally (converts.answer (λ w. cc) ∙ sym (answer_without told)) (sym told) in (
+                text_of bytes,
+                reads.front.scalars,
+                subst (λ e. EndsAs bytes (text_of bytes) e) end reads.end,
+                taken ∙ sym puts.behind ∙ sym (without told) ∙ final_is bytes end,
+              )

@@ -1,0 +1,202 @@
+//! A run of characters that a form leaves as they stand, broken by each kind of other character near the end of a piece and
+//! of a block, with short and long runs of marks behind it. By data of which all is known and of which nothing is, the same
+//! is written, and held, behind each piece.
+use crate::both_ways::{BASE, same_over};
+use crate::calm::{BAD, BEGUN, BLOCK, filled};
+use crate::parts::{FORMS, joined};
+use nf_filter::Fault;
+use nf_row::{Patched, Plain};
+use std::alloc::{AllocError, Global};
+use std::process::Abort;
+use std::test::Fail;
+
+/// What a run is made of: characters of each width, composed ones and syllables with and without a last letter.
+const PLAIN: [&str; 7] = [
+    "a",
+    "\u{E9}",
+    "\u{43B}",
+    "\u{6F22}",
+    "\u{AC00}",
+    "\u{D55C}",
+    "\u{1F600}",
+];
+
+/// What breaks it.
+const OTHERS: [&str; 18] = [
+    // Nothing but the marks behind; marks that compose and that do not; the joiner.
+    "",
+    "\u{301}",
+    "\u{316}",
+    "\u{5B0}",
+    "\u{34F}",
+    // A vowel, a last letter, a syllable of letters, and starters that compose with what is before them.
+    "\u{1161}",
+    "\u{11A8}",
+    "\u{1112}\u{1161}\u{11AB}",
+    "\u{9C7}\u{9BE}",
+    // Rows that begin with marks, and that end in marks.
+    "\u{344}",
+    "\u{F73}",
+    "\u{FF9E}",
+    "\u{E9}",
+    "\u{B4}",
+    "\u{1E9B}",
+    // Other rows.
+    "\u{212B}",
+    "\u{FDFA}",
+    "\u{958}",
+];
+
+/// How many marks stand behind that.
+const COUNTS: [usize; 7] = [0, 28, 29, 30, 31, 32, 33];
+
+/// Which: in one order by class, in none, and of one class that composes with nothing.
+const MARKS: [&str; 3] = ["\u{301}", "\u{301}\u{316}", "\u{5B0}"];
+
+/// How far from an end of a piece, or of a block, the break begins.
+const FAR: usize = 70;
+
+/// A run of `len` bytes, what breaks it, so many marks, and a run again.
+#[derive(Clone, Copy, Debug)]
+struct Broken<'a> {
+    plain: &'a str,
+    len: usize,
+    other: &'a str,
+    marks: &'a str,
+    count: usize,
+}
+
+impl Broken<'_> {
+    fn text(self, alloc: Global) -> Result<Vec<u8>, AllocError> {
+        let mut text = filled(alloc, self.plain, self.len)?;
+        let times = self.count / self.marks.chars().count().max(1);
+        let odd = self.count % self.marks.chars().count().max(1);
+        let behind = joined(
+            alloc,
+            &[
+                (self.other, 1),
+                (self.marks, times),
+                ("\u{301}", odd),
+                (self.plain, 12),
+            ],
+        )?;
+        text.extend_from_slice(behind.as_slice())?;
+        Ok(text)
+    }
+}
+
+#[test]
+fn pieces_end_near_a_break(rt: HostRuntime) -> Result<(), Fail> {
+    let rows = Patched::new(&[]);
+    let unchanged = Plain::of(&rows).ok_or("not plain")?;
+    for (i, other) in OTHERS.iter().enumerate() {
+        for (k, count) in COUNTS.iter().enumerate() {
+            for plain in [PLAIN[0], PLAIN[1 + (i + k) % 6]] {
+                let broken = Broken {
+                    plain,
+                    len: FAR,
+                    other: *other,
+                    marks: MARKS[(i + k) % 3],
+                    count: *count,
+                };
+                check_cuts(&rt, rt.alloc(), unchanged, broken)?;
+            }
+        }
+    }
+    Ok(())
+}
+
+/// Cuts the text at each byte from its front to 70 bytes behind the run.
+fn check_cuts(
+    rt: &impl Abort,
+    alloc: Global,
+    unchanged: Plain<'_, Patched<'_>>,
+    broken: Broken<'_>,
+) -> Result<(), AllocError> {
+    let text = broken.text(alloc)?;
+    let last = broken.len.saturating_add(FAR).min(text.len());
+    for at in 0..=last {
+        let (front, back) = text.split_at(at);
+        for form in FORMS {
+            let answer = same_over(rt, alloc, unchanged, form, &[front, back]);
+            assert!(rt; answer.is_ok(), "{broken:?}, cut at {at}: {answer:?}");
+        }
+    }
+    Ok(())
+}
+
+/// Each break at each place about the end of a block. The forms, the runs, the numbers of marks and the kinds of marks take
+/// turns.
+#[test]
+fn blocks_end_near_a_break(rt: HostRuntime) -> Result<(), Fail> {
+    let rows = Patched::new(&[]);
+    let unchanged = Plain::of(&rows).ok_or("not plain")?;
+    for (i, other) in OTHERS.iter().enumerate() {
+        for len in BLOCK - FAR..=BLOCK + FAR {
+            let broken = Broken {
+                plain: PLAIN[(len + i) % 7],
+                len,
+                other: *other,
+                marks: MARKS[(len + i) % 3],
+                count: COUNTS[(len / 7 + i) % 7],
+            };
+            let text = broken.text(rt.alloc())?;
+            let (front, back) = text.split_at(BLOCK.min(text.len()));
+            for pieces in [[text.as_slice(), b""], [front, back]] {
+                let form = FORMS[(len + i) % 4];
+                let answer = same_over(&rt, rt.alloc(), unchanged, form, &pieces);
+                assert!(rt; answer.is_ok(), "{broken:?}: {answer:?}");
+            }
+        }
+    }
+    Ok(())
+}
+
+/// Ill-formed bytes at each place about the end of a piece, and of a block, and a text that ends there inside a character.
+#[test]
+fn ill_formed_bytes_break_a_run(rt: HostRuntime) -> Result<(), Fail> {
+    let alloc = rt.alloc();
+    let rows = Patched::new(&[]);
+    let unchanged = Plain::of(&rows).ok_or("not plain")?;
+    for plain in PLAIN {
+        for len in [FAR, BLOCK - FAR, BLOCK, BLOCK + FAR] {
+            let text = filled(alloc, plain, len)?;
+            let start = BASE + len as u64;
+            for (bad, place) in BAD {
+                let fault = Fault::BadByte {
+                    at: start + place,
+                    start,
+                };
+                check_fault(&rt, alloc, unchanged, &text, bad, plain, fault)?;
+            }
+            for begun in BEGUN {
+                let at = start + begun.len() as u64;
+                let fault = Fault::Cut { at, start };
+                check_fault(&rt, alloc, unchanged, &text, begun, "", fault)?;
+            }
+        }
+    }
+    Ok(())
+}
+
+/// Cuts the bytes from 70 before those that are no text: at each place, or at each ninth of a long run, the forms in turn.
+fn check_fault(
+    rt: &impl Abort,
+    alloc: Global,
+    unchanged: Plain<'_, Patched<'_>>,
+    text: &[u8],
+    bad: &[u8],
+    behind: &str,
+    fault: Fault,
+) -> Result<(), AllocError> {
+    let bytes = [text, bad, behind.as_bytes()].concat(alloc)?;
+    let bytes = bytes.as_slice();
+    let step = if text.len() == FAR { 1 } else { 9 };
+    for at in (text.len().saturating_sub(FAR)..=bytes.len()).step_by(step) {
+        let (front, back) = bytes.split_at(at.min(bytes.len()));
+        let form = FORMS[at % 4];
+        let answer = same_over(rt, alloc, unchanged, form, &[front, back]);
+        assert_eq!(rt; answer, Err(fault), "{form:?}, cut at {at}");
+    }
+    Ok(())
+}
