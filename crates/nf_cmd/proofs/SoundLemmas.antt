@@ -55,17 +55,17 @@ module _ (p : Properties) (sound : AreSound p) (at : ℕ) (coming left taken now
   converted : DrivingRefusesNone → (f : Form) → Converts f p coming left taken now ended → ¬ (ended ≡ Err (Row at))
   converted law f does row =
       let runs = does.runs in
-      law f p 0 [] runs.source runs.rest runs.old runs.new does.answer sound runs.drives at (end_row end_of does.answer ended at (λ tally e. cc) (λ fault. refl) does.found_is row)
+      law 65536 f p 0 [] runs.source runs.rest runs.old runs.new does.answer sound runs.drives at (end_row end_of does.answer ended at (λ tally e. cc) (λ fault. refl) does.found_is row)
 
   checked : CheckingRefusesNone → Checks p coming left taken now ended → ¬ (ended ≡ Err (Row at))
-  checked law does row = law p 0 does.surveyed.source does.surveyed.rest does.answer sound does.surveyed.surveys at (end_row check_end does.answer ended at by_place (λ fault. refl) does.found_is row)
+  checked law does row = law 65536 p 0 does.surveyed.source does.surveyed.rest does.answer sound does.surveyed.surveys at (end_row check_end does.answer ended at by_place (λ fault. refl) does.found_is row)
     where
       by_place : (place : Option Place) → ¬ (check_end (Ok place) ≡ Some (Err (Row at)))
       by_place None e = cc
       by_place (Some place) e = cc
 
   measured : MeasuringRefusesNone → Measures p coming left taken now ended → ¬ (ended ≡ Err (Row at))
-  measured law does row = law p 0 does.surveyed.source does.surveyed.rest does.answer sound does.surveyed.surveys at (end_row measure_end does.answer ended at (λ m e. cc) (λ fault. refl) does.found_is row)
+  measured law does row = law 65536 p 0 does.surveyed.source does.surveyed.rest does.answer sound does.surveyed.surveys at (end_row measure_end does.answer ended at (λ m e. cc) (λ fault. refl) does.found_is row)
 
   tested : Tests p coming left taken now ended → ¬ (ended ≡ Err (Row at))
   tested does row = by_end does.found_is

@@ -1,4 +1,5 @@
--- What `convert` reads and writes: what the library's `run` does over the same devices.
+-- What `convert` reads and writes: what the library's `drive_buffered` does over the same devices, with a new filter and
+-- a buffer of 64 KiB.
 use Rattle.std.specs.Prelude.{◌≡◌, ◌⊎◌, ℕ, false, List, [], Option, Some, Result, Ok, Err, IsTrue, OnOk, option_map}
 use Rattle.std.specs.Io.KnownBytes.{Keeps}
 use Rattle.nf_forms.specs.Properties.{Properties}
@@ -27,7 +28,7 @@ pub record Runs (f : Form) (p : Properties) (coming left taken now : Option (Lis
   pub output_is : (old.taken ≡ taken) × (new.taken ≡ now)
   pub unfailed : old.is_failed ≡ false
   pub end : OnOk answer (IsTrue rest.is_at_end)
-  pub drives : Drives f p 0 [] source rest old new answer
+  pub drives : Drives 65536 f p 0 [] source rest old new answer
 
 -- the program ends by that answer, unless a flush failed; a flush writes nothing
 pub record Converts (f : Form) (p : Properties) (coming left taken now : Option (List ℕ)) (found : Result ℕ Fault) : Type 0 where

@@ -8,12 +8,13 @@ use Rattle.nf_cmd.specs.Fronts.{AppendsFront}
 use Rattle.nf_cmd.specs.declared.fault.Fault.{Fault}
 use Rattle.nf_cmd.specs.declared.fault.Fault.TheVariants.{Write}
 
--- the library answers by `decision` and `value` over what the input has still to give, before and after
+-- the library answers by `decision` and `value` over what the input has still to give, before and after, with a buffer of
+-- 64 KiB
 pub record Surveyed {T : Type 0} (decision : List ℕ → Option (Result T Found)) (value : List ℕ → T) (coming left : Option (List ℕ)) (answer : Result T Found) : Type 0 where
   pub source : SourceState
   pub rest : SourceState
   pub input_is : (source.coming ≡ coming) × (rest.coming ≡ left)
-  pub surveys : Surveys 0 decision value source rest answer
+  pub surveys : Surveys 65536 0 decision value source rest answer
 
 -- the output takes the lines of that answer, and the program ends by it, unless a write or a flush of the lines failed:
 -- then it has taken a front of them

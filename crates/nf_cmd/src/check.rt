@@ -6,10 +6,11 @@ ghost use Rattle.nf_filter.specs.Checks.{check_decision, no_place};
 ghost use Rattle.nf_cmd.specs.Surveys.{Surveyed};
 ghost use Rattle.nf_cmd.specs.Checks.{Checks, check_line};
 
+use crate::BUFFER;
 use crate::fault::Fault;
 use crate::lines::Lines;
 use crate::writing::write_whole;
-use nf_filter::LentReader;
+use nf_filter::{LentReader, check_buffered};
 use nf_row::Ucd;
 use nf_safe::Place;
 use std::io::{Read, Write};
@@ -36,7 +37,8 @@ fn answer<I: Read>(input: &mut I) -> Result<Option<Place>, nf_filter::Fault>
     ensures surveyed { Surveyed (check_decision ucd 0) no_place (I.remaining input.old) (I.remaining input.new) result }
 {
     let mut source = LentReader::new(input);
-    nf_filter::check(&Ucd, 0, &mut source)
+    let mut buffer = [0; BUFFER];
+    check_buffered(&Ucd, 0, &mut source, &mut buffer)
 }
 
 // The line that says so, and none where the input was refused.

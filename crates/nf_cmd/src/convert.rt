@@ -4,9 +4,10 @@ ghost use Rattle.nf_forms.specs.Ucd.{ucd};
 ghost use Rattle.nf_filter.specs.declared.fault.Fault.TheVariants.{Spent};
 ghost use Rattle.nf_cmd.specs.Converts.{Converts, Runs};
 
+use crate::BUFFER;
 use crate::fault::Fault;
 use crate::writing::flush;
-use nf_filter::{Filter, LentReader, LentWriter, Tally, drive, run};
+use nf_filter::{Filter, LentReader, LentWriter, Tally, drive_buffered};
 use nf_row::{Form, Plain, Ucd};
 use std::io::{Read, Write};
 
@@ -41,8 +42,10 @@ fn filter<I: Read, O: Write>(
 {
     let mut source = LentReader::new(input);
     let mut sink = LentWriter::new(out);
-    match Plain::of(&Ucd) {
-        Some(plain) => drive(Filter::fast(plain, form, 0), &mut source, &mut sink),
-        None => run(&Ucd, form, 0, &mut source, &mut sink),
-    }
+    let mut buffer = [0; BUFFER];
+    let filter = match Plain::of(&Ucd) {
+        Some(plain) => Filter::fast(plain, form, 0),
+        None => Filter::new(&Ucd, form, 0),
+    };
+    drive_buffered(filter, &mut source, &mut sink, &mut buffer)
 }

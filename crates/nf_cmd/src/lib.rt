@@ -5,6 +5,7 @@
 mod check;
 mod convert;
 mod fault;
+mod help;
 mod line;
 mod lines;
 mod measure;
@@ -13,3 +14,6 @@ mod test;
 mod writing;
 
 pub use program::command;
+
+/// The most bytes that are asked of the input at once.
+const BUFFER: usize = 64 * 1024;

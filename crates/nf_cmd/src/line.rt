@@ -5,6 +5,7 @@ ghost use Rattle.clap.specs.declared.builder.command.Command.TheViews.{out-Comma
 ghost use Rattle.clap.specs.Walk.{texts};
 ghost use Rattle.nf_cmd.specs.Line.{Asks, IsFormRule, IsLine, IsRefusal, form_named, request_by, request_of};
 
+use crate::help;
 use clap::{Arg, ArgMatches, Command, Error};
 use nf_row::Form;
 use std::alloc::{AllocError, Global};
@@ -37,26 +38,34 @@ pub(crate) fn parse<'w>(alloc: Global, words: &'w [&'w str]) -> Result<Request, 
 fn line<'w>(alloc: Global) -> Result<Command<'w>, AllocError>
     ensures { IfOk result (λ c. IsLine (app_of c)) }
 {
-    let convert = Command::new(alloc, "convert")
-        .about("Writes the normalization form of the stream-safe text")
-        .arg(form(alloc))?;
+    let convert = plain(
+        alloc,
+        "convert",
+        "Writes the normalization form of the stream-safe text",
+        help::CONVERT,
+    );
+    let convert = convert.arg(form(alloc))?;
     let check = plain(
         alloc,
         "check",
         "Says whether the text is in the Stream-Safe Text Format, and where it is not",
+        help::CHECK,
     );
     let measure = plain(
         alloc,
         "measure",
         "Counts the text's characters and non-starters, and what convert would put in",
+        help::MEASURE,
     );
     let test = plain(
         alloc,
         "test",
         "Tests the forms by a file in the layout of NormalizationTest.txt",
+        help::TEST,
     );
     let line = Command::new(alloc, "nfstream")
         .about("Makes UTF-8 text on standard input stream-safe, normalizes it, and measures it")
+        .after_help(help::PROGRAM)
         .subcommand_required(true)
         .subcommand(convert)?;
     let line = line.subcommand(check)?;
@@ -64,12 +73,12 @@ fn line<'w>(alloc: Global) -> Result<Command<'w>, AllocError>
     line.subcommand(test)
 }
 
-// A subcommand that takes nothing.
-fn plain<'w>(alloc: Global, name: &'w str, about: &'w str) -> Command<'w>
+// A command that takes nothing yet, with the texts of its help before and behind its usage.
+fn plain<'w>(alloc: Global, name: &'w str, about: &'w str, notes: &'w str) -> Command<'w>
     ensures shape { app_of result ≡ new_app name.now }
     ensures local { (out-Command result).has_globals ≡ false }
 {
-    Command::new(alloc, name).about(about)
+    Command::new(alloc, name).about(about).after_help(notes)
 }
 
 fn form<'w>(alloc: Global) -> Arg<'w>

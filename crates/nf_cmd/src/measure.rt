@@ -6,10 +6,11 @@ ghost use Rattle.nf_filter.specs.Measures.{measure_decision, text_measure};
 ghost use Rattle.nf_cmd.specs.Surveys.{Surveyed};
 ghost use Rattle.nf_cmd.specs.Measures.{Measures, measure_lines};
 
+use crate::BUFFER;
 use crate::fault::Fault;
 use crate::lines::Lines;
 use crate::writing::write_whole;
-use nf_filter::LentReader;
+use nf_filter::{LentReader, measure_buffered};
 use nf_row::Ucd;
 use nf_safe::Measure;
 use std::io::{Read, Write};
@@ -34,7 +35,8 @@ fn answer<I: Read>(input: &mut I) -> Result<Measure, nf_filter::Fault>
     ensures surveyed { Surveyed (measure_decision ucd 0) (text_measure ucd) (I.remaining input.old) (I.remaining input.new) result }
 {
     let mut source = LentReader::new(input);
-    nf_filter::measure(&Ucd, 0, &mut source)
+    let mut buffer = [0; BUFFER];
+    measure_buffered(&Ucd, 0, &mut source, &mut buffer)
 }
 
 // The lines that say so, and none where the input was refused.

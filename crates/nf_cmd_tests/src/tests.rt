@@ -4,6 +4,7 @@ ghost use Rattle.std.specs.Prelude.{◌<◌, length};
 mod check;
 mod convert;
 mod devices;
+mod endings;
 mod failures;
 mod faults;
 mod measure;

@@ -20,26 +20,12 @@ use Rattle.nf_filter.specs.Finishes.{tally_of, end_of, whole_or, final_utf8}
 use Rattle.nf_filter.specs.Drives.{due_utf8, Drives}
 use Rattle.nf_filter.specs.Laws.Settled.{settled_utf8-none}
 use Rattle.nf_filter.specs.Laws.Soundness.{RefusesNone}
+use Rattle.nf_filter.proofs.WholeLemmas.{ending_whole, final_is}
 use Rattle.nf_text.specs.Whole.{IsOfText, PassesWhole}
 
--- what ends with no fault, and has none before, is whole
-is_whole : {A B : Type 0} (value : A) (b : B) (e : Ending) (usable : Bool) (at : ℕ) (told : A) → answer_at_end 0 value e ≡ Ok told → (if usable then bad_byte 0 e else Some (Row at)) ≡ None → e ≡ Whole
-is_whole value b Whole usable at told answer none = refl
-is_whole value b (Bad at start) true other told answer none = cc
-is_whole value b (Bad at start) false other told answer none = cc
-is_whole value b (CutEnd at start) usable other told answer none = cc
-
 module _ (f : Form) (p : Properties) where
-  ending_whole : (bytes : List ℕ) (tally : Tally) → Ok tally ≡ end_of p 0 bytes → fault_in p 0 bytes ≡ None → ending_of bytes ≡ Whole
-  unfolding end_of fault_in
-  ending_whole bytes tally answer none = is_whole (tally_of p bytes) tally (ending_of bytes) (is_usable p (text_of bytes)) (0 + length (encode_utf8_all (usable p (text_of bytes)))) tally (sym answer) none
-
-  final_is : (bytes : List ℕ) → ending_of bytes ≡ Whole → final_utf8 f p bytes ≡ encode_utf8_all (safe_form f p (text_of bytes))
-  unfolding final_utf8
-  final_is bytes end = ap (λ e. whole_or e (settled_utf8 f p bytes) (encode_utf8_all (safe_form f p (text_of bytes)))) end
-
-  module _ (source rest : SourceState) (old new : SinkState) where
-    read_whole : (tally : Tally) → ((bytes : List ℕ) → Reads bytes (text_of bytes) (ending_of bytes)) → IsTrue rest.is_at_end → Drives f p 0 [] source rest old new (Ok tally)
+  module _ (most : ℕ) (source rest : SourceState) (old new : SinkState) where
+    read_whole : (tally : Tally) → ((bytes : List ℕ) → Reads bytes (text_of bytes) (ending_of bytes)) → IsTrue rest.is_at_end → Drives most f p 0 [] source rest old new (Ok tally)
         → PassesWhole f p source.coming old.taken new.taken
     read_whole tally reads end drives bytes told = (text_of bytes, (reads bytes).front.scalars, spelled, given)
       where
@@ -53,7 +39,7 @@ module _ (f : Form) (p : Properties) where
         fed = sym (append-nil drives.fed) ∙ ap (λ l. drives.fed ++ l) (sym last) ∙ all
 
         is : ending_of bytes ≡ Whole
-        is = subst (λ l. ending_of l ≡ Whole) fed (ending_whole drives.fed tally (drives.finished end (λ e. cc)) (drives.no_fault (inl end)))
+        is = subst (λ l. ending_of l ≡ Whole) fed (ending_whole p drives.fed tally (drives.finished end (λ e. cc)) (drives.no_fault (inl end)))
 
         spelled : bytes ≡ encode_utf8_all (text_of bytes)
         spelled = subst (λ e. EndsAs bytes (text_of bytes) e) is (reads bytes).end
@@ -62,7 +48,7 @@ module _ (f : Form) (p : Properties) where
         puts = drives.written (λ e. cc)
 
         due : due_utf8 rest.is_at_end f p drives.fed ≡ encode_utf8_all (safe_form f p (text_of bytes))
-        due = ap (λ b. due_utf8 b f p drives.fed) end ∙ ap (final_utf8 f p) fed ∙ final_is bytes is
+        due = ap (λ b. due_utf8 b f p drives.fed) end ∙ ap (final_utf8 f p) fed ∙ final_is f p bytes is
 
         out : puts.out ≡ encode_utf8_all (safe_form f p (text_of bytes))
         out = ap (λ l. l ++ puts.out) (sym (settled_utf8-none f p)) ∙ sym puts.behind ∙ due
@@ -70,7 +56,7 @@ module _ (f : Form) (p : Properties) where
         given : Appends old.taken new.taken (encode_utf8_all (safe_form f p (text_of bytes)))
         given = subst (Appends old.taken new.taken) out puts.given
 
-    pub whole : (answer : Result Tally Fault) → ((bytes : List ℕ) → Reads bytes (text_of bytes) (ending_of bytes)) → OnOk answer (IsTrue rest.is_at_end) → Drives f p 0 [] source rest old new answer
+    pub whole : (answer : Result Tally Fault) → ((bytes : List ℕ) → Reads bytes (text_of bytes) (ending_of bytes)) → OnOk answer (IsTrue rest.is_at_end) → Drives most f p 0 [] source rest old new answer
         → OnOk answer (PassesWhole f p source.coming old.taken new.taken)
     whole (Ok tally) reads end drives = read_whole tally reads end drives
     whole (Err fault) reads end drives = tt

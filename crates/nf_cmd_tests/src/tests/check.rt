@@ -7,7 +7,8 @@ fn check_tells_the_place_whatever_stands_behind_it(rt: HostRuntime) -> Result<()
     let safe = "stream-safe\n";
     let behind_31 = "not stream-safe at character 31 byte 61\n";
     let behind_30 = "not stream-safe at character 30 byte 60\n";
-    let cases: [Case<'_>; 6] = [
+    let past_the_buffer = "not stream-safe at character 25031 byte 75061\n";
+    let cases: [Case<'_>; 7] = [
         (&[], b"", 0, safe, ""),
         (&[("q", 1), ("\u{301}", 30)], b"", 0, safe, ""),
         (
@@ -20,6 +21,13 @@ fn check_tells_the_place_whatever_stands_behind_it(rt: HostRuntime) -> Result<()
         (&[("q", 1), ("\u{301}", 31)], b"", 1, behind_31, ""),
         (&[("\u{C5}", 1), ("\u{301}", 30)], b"", 1, behind_30, ""),
         (&[("q", 1), ("\u{301}", 31)], b"\xFF", 1, behind_31, ""),
+        (
+            &[("\u{6F22}", 25_000), ("q", 1), ("\u{301}", 31)],
+            b"",
+            1,
+            past_the_buffer,
+            "",
+        ),
     ];
     assert_cases(&rt, rt.alloc(), &CHECK, &cases)?;
     Ok(())

@@ -138,9 +138,13 @@ fn real_texts_have_their_forms(rt: HostRuntime) -> Result<(), Fail> {
 }
 
 #[test]
-fn a_text_longer_than_a_block_goes_through(rt: HostRuntime) -> Result<(), Fail> {
+fn a_text_longer_than_the_buffer_goes_through(rt: HostRuntime) -> Result<(), Fail> {
     let alloc = rt.alloc();
-    let text = repeated(alloc, &[("x", 4095), ("\u{C5}", 2048), ("\u{AC00}", 3000)])?;
+    // The first ring stands across the end of the buffer.
+    let text = repeated(
+        alloc,
+        &[("x", 65_535), ("\u{C5}", 2048), ("\u{AC00}", 25_000)],
+    )?;
     let shown = converted(alloc, "nfc", text.as_slice());
     assert_shown(&rt, &shown, 0, text.as_slice(), "");
     Ok(())

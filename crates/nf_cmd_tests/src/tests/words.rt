@@ -45,7 +45,7 @@ fn a_form_may_follow_an_equals_sign(rt: HostRuntime) {
 #[test]
 fn help_goes_to_the_output(rt: HostRuntime) {
     let alloc = rt.alloc();
-    let asked: [(&[&str], &str); 8] = [
+    let asked: [(&[&str], &str); 13] = [
         (&["nfstream", "--help"], "convert"),
         (&["nfstream", "-h"], "convert"),
         (&["nfstream", "help"], "convert"),
@@ -53,6 +53,11 @@ fn help_goes_to_the_output(rt: HostRuntime) {
         (&["nfstream", "help", "convert"], "--form <FORM>"),
         (&["nfstream", "check", "--help"], "Stream-Safe Text Format"),
         (&["nfstream", "test", "--help"], "NormalizationTest.txt"),
+        (&["nfstream", "--help"], "nfstream check < FILE"),
+        (&["nfstream", "convert", "--help"], "from standard input"),
+        (&["nfstream", "check", "--help"], "from standard input"),
+        (&["nfstream", "measure", "--help"], "from standard input"),
+        (&["nfstream", "test", "--help"], "from standard input"),
         (
             &["nfstream", "convert", "--help"],
             "[possible values: nfc, nfd, nfkc, nfkd]",
@@ -65,5 +70,6 @@ fn help_goes_to_the_output(rt: HostRuntime) {
         let text = std::str::from_utf8(shown.out.as_slice()).expect(&rt, "text");
         assert!(rt; text.contains(part), "{text}");
         assert!(rt; text.contains("Usage: nfstream"), "{text}");
+        assert!(rt; text.contains("\n\nStatus:\n  0  "), "{text}");
     }
 }

@@ -1,4 +1,4 @@
-use Rattle.std.proofs.Common.{rules, codes, true, ◌≡◌, ◌∙◌, ap, ap₂}
+use Rattle.std.proofs.Common.{rules, codes, Bool, true, ◌||◌, ◌≡◌, ◌∙◌, ap, ap₂}
 use Rattle.std.proofs.lemmas.Result.{IfOk-weaker}
 use Rattle.clap.specs.Words.{App, app_of, new_app, with_rule, with_subcommand}
 use Rattle.clap.specs.Simple.{on_top}
@@ -9,11 +9,12 @@ pub returns : goal.returns
 unfolding line convert
 returns c =
     let rule = c.form.ensures.rule in
-    let empty_is : app_of c.about.result ≡ new_app (codes "convert") = search rules in
+    let empty_is : app_of c.plain-convert.result ≡ new_app (codes "convert") = c.plain-convert.ensures.shape in
     let convert_is : app_of c.in_ok-convert.convert ≡ convert rule.0 =
     c.in_ok-convert.ensures.shape c.form.ensures.local ∙ ap₂ with_rule empty_is rule.2 in
     let top_is : app_of c.subcommand_required.result ≡ on_top (λ s. record s { subcommand_required = true }) (new_app (codes "nfstream")) = search rules in
-    let first = c.in_ok-line.ensures.shape (search rules) ∙ ap₂ with_subcommand top_is (ap (λ (a : App). a.top) convert_is) in
+    let first = c.in_ok-line.ensures.shape
+    (c.in_ok-convert.ensures.globals ∙ ap₂ (λ (a b : Bool). a || b) c.plain-convert.ensures.local c.form.ensures.local) ∙ ap₂ with_subcommand top_is (ap (λ (a : App). a.top) convert_is) in
     let second = c.in_ok-line-2.ensures.shape c.plain-check.ensures.local ∙ ap₂ with_subcommand first (ap (λ (a : App). a.top) c.plain-check.ensures.shape) in
     let third = c.in_ok-line-3.ensures.shape c.plain-measure.ensures.local ∙ ap₂ with_subcommand second (ap (λ (a : App). a.top) c.plain-measure.ensures.shape) in
     IfOk-weaker c.subcommand-4.result _ _

@@ -3,11 +3,11 @@ use Rattle.nf_text.proofs.WholeLemmas.{whole, faults}
 use Rattle.nf_text.proofs.passing.pass.Goals as goal
 
 pub returns-clause-faults : goal.returns-clause-faults
-returns-clause-faults g c = faults _ c.run-answer.ensures.unspent (c.no_sound_character_is_refused.ensures.driving _ _ _ _ _ _ _ _ _ c.every_character_is_sound.ensures.character c.run-answer.ensures.drives)
+returns-clause-faults g c = faults _ c.run-answer.ensures.unspent (c.no_sound_character_is_refused.ensures.driving _ _ _ _ _ _ _ _ _ _ c.every_character_is_sound.ensures.character c.run-answer.ensures.drives)
 
 pub returns-clause-whole : goal.returns-clause-whole
 returns-clause-whole g c =
-    let got = whole _ _ _ _ _ _ _ c.longest_text.ensures.reads c.run-answer.ensures.end c.run-answer.ensures.drives in
+    let got = whole _ _ _ _ _ _ _ _ c.longest_text.ensures.reads c.run-answer.ensures.end c.run-answer.ensures.drives in
     let read = rw c.new-source.ensures.reader at got in
     let written = rw c.new-sink.ensures.writer at read in
     search rules
