@@ -1,0 +1,29 @@
+use Rattle.std.proofs.Common.{◌≡◌, ℕ, List, [], Option, Some, Result, Ok, Err, sym, ap, ◌∙◌}
+use Rattle.std.specs.Prelude.{OnOk}
+use Rattle.nf_forms.specs.Properties.{Properties}
+use Rattle.nf_forms.specs.Ucd.{ucd}
+use Rattle.nf_forms.specs.declared.form.Form.{Form}
+use Rattle.nf_forms.specs.declared.form.Form.TheVariants.{Nfc}
+use Rattle.nf_utf8.specs.Reading.{text_of, ending_of}
+use Rattle.nf_utf8.specs.Reads.{Reads}
+use Rattle.nf_filter.specs.declared.fault.Fault.{Fault}
+use Rattle.nf_filter.specs.declared.tally.Tally.{Tally}
+use Rattle.nf_filter.specs.Devices.{SinkState}
+use Rattle.nf_filter.specs.ToWriter.{writer_of}
+use Rattle.nf_filter.specs.Whole.{Converts, IsFormOf}
+use Rattle.nf_filter.proofs.WholeLemmas.{IsFormOf-from}
+use Rattle.uses.proofs.sending.send.Goals as goal
+
+-- what a writer holds that held nothing
+form_of : (f : Form) (p : Properties) (bytes : List ℕ) (old new : SinkState) (held holds : Option (List ℕ)) → old.taken ≡ held → new.taken ≡ holds
+    → Reads bytes (text_of bytes) (ending_of bytes) → (r : Result Tally Fault) → Converts f p bytes old new r
+    → OnOk r ((out : List ℕ) → held ≡ Some [] → holds ≡ Some out → IsFormOf f p bytes out)
+form_of f p bytes old new held holds was is reads (Ok tally) converts = λ out before after. IsFormOf-from f p bytes old new out (was ∙ before) (is ∙ after) tally reads converts
+form_of f p bytes old new held holds was is reads (Err fault) converts = tt
+
+pub returns-clause-form : goal.returns-clause-form
+returns-clause-form g c =
+    form_of Nfc ucd c.args.text.now _ _ (g.W.Write.contents c.args.writer) (g.W.Write.contents c.into_inner.result)
+    (ap (λ s. g.W.Write.contents (writer_of s)) c.new-sink.ensures ∙ ap g.W.Write.contents c.new.ensures.writer)
+    (ap (λ s. g.W.Write.contents (writer_of s)) (sym c.into_parts-sink.ensures.sink) ∙ ap g.W.Write.contents (sym c.into_inner.ensures))
+    (c.longest_text.ensures.reads c.args.text.now) c.convert-answer.result c.convert-answer.ensures.converts

@@ -1,0 +1,4 @@
+pub mod Faults
+pub mod Count
+pub mod Counting
+pub mod Network
