@@ -1,5 +1,6 @@
 #!/usr/bin/env bash
-# Proves and builds the program, and leaves it as ./nfstream, or in the folder that is named: bash build.sh [FOLDER]
+# Proves and builds the program, and leaves it as ./nfstream, or in the folder that is named: bash build.sh [FOLDER]. Where
+# that is a bin/ it says where the manual's page goes.
 set -euo pipefail
 cd "$(dirname "$0")"
 rt=$(command -v rt || true)
@@ -23,3 +24,7 @@ if ! (cd crates/nfstream && "$rt" run -- --help) > "$log" 2>&1; then
 fi
 install -m 755 crates/nfstream/out/nfstream "$folder/nfstream"
 echo "built $folder/nfstream" >&2
+case $(realpath "$folder") in
+    */bin) echo "its manual: install -D -m 644 $PWD/docs/nfstream.1 $(realpath "$folder/..")/share/man/man1/nfstream.1" >&2 ;;
+    *) echo "its manual: man $PWD/docs/nfstream.1" >&2 ;;
+esac
