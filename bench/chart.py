@@ -13,7 +13,7 @@ from html import escape
 from pathlib import Path
 
 FORMS = {"nfc": ("NFC", "#2166ac"), "nfd": ("NFD", "#e08214")}
-NAMES, PLOT, VALUES = 270, 520, 70
+NAMES, PLOT, VALUES = 310, 520, 70
 TOP, BOTTOM = 66, 30
 BAR, GAP = 11, 9
 MOST_TICKS = 9
