@@ -146,14 +146,14 @@ fn assert_output_fails(
     input: &[u8],
     output: &str,
     kind: ErrorKind,
-)
-    requires { 0 < length words.now }
-{
+) {
+    assert!(rt; !words.is_empty());
     let calls = left_by(alloc, words, input, kind, NEVER, NEVER)
         .out
         .calls
         .made;
     for at in 0..calls {
+        assert!(rt; !words.is_empty());
         let left = left_by(alloc, words, input, kind, at, NEVER);
         let held = left.out.held.as_slice();
         assert!(rt; output.as_bytes().starts_with(held), "{words:?} call {at}");
@@ -186,11 +186,10 @@ fn assert_error_fails(
     input: &[u8],
     due: (u8, &str, &str),
     kind: ErrorKind,
-)
-    requires { 0 < length words.now }
-{
+) {
     let (status, output, line) = due;
     for at in 0..line.len().div_ceil(3).saturating_add(1) {
+        assert!(rt; !words.is_empty());
         let left = left_by(alloc, words, input, kind, NEVER, at);
         let taken = at.saturating_mul(3).min(line.len());
         assert_eq!(rt; left.status, status, "{words:?}");
@@ -208,7 +207,6 @@ fn each_ending_is_kept_over_devices_that_fail(rt: HostRuntime) -> Result<(), Fai
         bytes.extend_from_slice(rest)?;
         let input = bytes.as_slice();
         for kind in [ErrorKind::Interrupted, ErrorKind::WriteZero] {
-            assert!(rt; !words.is_empty());
             assert_output_fails(&rt, alloc, words, input, output, kind);
             assert_error_fails(&rt, alloc, words, input, (status, output, line), kind);
         }
