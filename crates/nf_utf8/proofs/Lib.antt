@@ -3,9 +3,11 @@ mod BegunLen
 mod CountingLemmas
 mod Endings
 mod Fronts
+mod LossyLemmas
 mod PushesLemmas
 mod ReadingLemmas
 mod ReadsLemmas
+mod ReplacedLemmas
 mod Sequences
 mod StandingLemmas
 mod TakingLemmas

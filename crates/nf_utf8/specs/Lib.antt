@@ -10,3 +10,4 @@ pub mod Tells
 pub mod Front
 pub mod Taking
 pub mod Pushes
+pub mod Replaced
