@@ -13,6 +13,8 @@ SEED = 15
 LETTERS = "abcdefghijklmnopqrstuvwxyz"
 HALF_WIDTH_KANA = [chr(c) for c in range(0xFF66, 0xFF9E)]
 HALF_WIDTH_MARKS = "\uff9e\uff9f"
+FULL_WIDTH_LETTERS = [chr(c) for c in (*range(0xFF10, 0xFF1A), *range(0xFF21, 0xFF3B), *range(0xFF41, 0xFF5B))]
+FULL_WIDTH_STOPS = "\u3000\uff0c\uff0e\uff08\uff09\uff01"
 # Marks of class 0 whose decompositions are marks of classes 129 and 130, or 129 and 132.
 TIBETAN_VOWELS = "\u0f73\u0f75\u0f81"
 LEADS, VOWELS, TAILS = range(0x1100, 0x1160), range(0x1160, 0x11A8), range(0x11A8, 0x1200)
@@ -78,6 +80,12 @@ class Maker:
             yield self.random.choice(HALF_WIDTH_KANA)
             yield "".join(self.random.choices(HALF_WIDTH_MARKS, k=self.random.randint(0, 3)))
 
+    def full_width(self) -> Iterator[str]:
+        """Words of full-width letters and digits, with full-width spaces and marks of punctuation between them."""
+        while True:
+            yield "".join(self.random.choices(FULL_WIDTH_LETTERS, k=self.random.randint(1, 9)))
+            yield self.random.choice(FULL_WIDTH_STOPS)
+
     def jamo(self) -> Iterator[str]:
         """Letters of Hangul, modern and old, most of them in the order of a syllable."""
         while True:
@@ -111,6 +119,7 @@ MADE = {
     "u+0f73": ("U+0F73 and other marks", Maker.tibetan),
     "jamo": ("Jamo", Maker.jamo),
     "half-width": ("Half-width marks", Maker.half_width),
+    "full-width": ("Full-width letters", Maker.full_width),
     "long-one-class": ("One run, one class", Maker.long_one_class),
     "long-mixed-classes": ("One run, mixed classes", Maker.long_mixed_classes),
 }

@@ -1,4 +1,6 @@
 pub mod SeenLemmas
 pub mod PieceLemmas
+pub mod LetterLemmas
+pub mod KeptLemmas
 pub mod JoinLemmas
 pub mod ApartLemmas

@@ -1,5 +1,5 @@
 -- A text closed piece by piece: its calm part, a piece more, and the front that comes of it.
-use Rattle.std.proofs.Common.{◌≡◌, ◌≢◌, ◌⊎◌, inl, inr, ⊎_elim, ℕ, ◌<◌, List, [], ◌∷◌, ◌++◌, length, take, drop, refl, sym, ap, subst, ◌∙◌, arith, append_assoc, append-nil, length-append, take_at, drop_at}
+use Rattle.std.proofs.Common.{◌≡◌, ◌≢◌, ◌⊎◌, inl, inr, ⊎_elim, ℕ, ◌<◌, ◌-◌, List, [], ◌∷◌, ◌++◌, length, take, drop, refl, sym, ap, subst, ◌∙◌, arith, append_assoc, append-nil, length-append, take_at, drop_at}
 use Rattle.std.specs.Prelude.{chars, encode_utf8_all, IsUtf8}
 use Rattle.std.specs.Str.{IsCharBoundary}
 use Rattle.std.proofs.lemmas.Str.{chars-nil, chars-append, encodes-chars, IsUtf8-append, IsUtf8-take, IsCharBoundary-at_seam}
@@ -15,6 +15,7 @@ use Rattle.nf_boundary.specs.declared.seen.Seen.{Seen}
 use Rattle.nf_boundary.specs.Front.{IsClosedFront}
 use Rattle.nf_boundary.specs.Seen.{IsAtBoundary}
 use Rattle.nf_boundary.specs.Pieces.{Closes, Reaches}
+use Rattle.nf_boundary.specs.Stands.{Stands}
 
 -- what stands before a whole text, within a text, is text
 pub IsUtf8-before : (text front back : List ℕ) → IsUtf8 text → IsUtf8 back → text ≡ front ++ back → IsUtf8 front
@@ -37,46 +38,69 @@ module _ (text a b : List ℕ) (n : ℕ) (e : text ≡ a ++ b) (same : length a 
 module _ (f : Form) where
   -- ---- calm text
 
-  -- nothing, or a text that is its own form
-  IsOwn : List ℕ → List ℕ → Type 0
-  IsOwn same formed = ((same ≡ []) × (same ≡ []) × (formed ≡ [])) ⊎ HasForm ucd f (chars same) (chars same ++ formed)
-
-  own_calm : (same : List ℕ) → IsUtf8 same → (class count : ℕ) → IsCalm ucd f (chars same) class count → ((x : List ℕ) → IsSoundText ucd x) → IsOwn same []
-  unfolding IsOwn
+  own_calm : (same : List ℕ) → IsUtf8 same → (class count : ℕ) → IsCalm ucd f (chars same) class count → ((x : List ℕ) → IsSoundText ucd x) → (same ≡ []) ⊎ HasForm ucd f (chars same) (chars same)
   own_calm same u class count calm sound = next (chars same) refl
     where
-      next : (cs : List ℕ) → chars same ≡ cs → IsOwn same []
-      next [] e = let none : same ≡ [] = sym (encodes-chars same u) ∙ ap encode_utf8_all e in inl (none, none, refl)
+      next : (cs : List ℕ) → chars same ≡ cs → (same ≡ []) ⊎ HasForm ucd f (chars same) (chars same)
+      next [] e = inl (sym (encodes-chars same u) ∙ ap encode_utf8_all e)
       next (c ∷ cs) e =
-          let here = HasForm-calm ucd f c cs class count (subst (λ k. IsCalm ucd f k class count) e calm) (sound (c ∷ cs)) in
-          inr (subst (λ k. HasForm ucd f k (k ++ [])) (sym e) (subst (HasForm ucd f (c ∷ cs)) (sym (append-nil (c ∷ cs))) here))
+          inr (subst (λ k. HasForm ucd f k k) (sym e) (HasForm-calm ucd f c cs class count (subst (λ k. IsCalm ucd f k class count) e calm) (sound (c ∷ cs))))
 
   module _ (whole settled tail rest : List ℕ) (calm : IsCalmFront ucd f whole settled tail rest) (first : IsUtf8 settled) (second : IsUtf8 tail) (sound : (x : List ℕ) → IsSoundText ucd x) where
     -- up to where it ends
-    pub reaches_end : (same : List ℕ) (next : Seen) → same ≡ settled ++ tail → next.text.now ≡ rest → IsAtBoundary f next → Reaches f whole same [] next
-    unfolding own_calm IsOwn
-    reaches_end same next e is behind =
+    pub stands_end : (next : Seen) → next.text.now ≡ rest → IsAtBoundary f next → Stands f whole next
+    unfolding own_calm
+    stands_end next is behind =
         let text = chars-append settled tail first in
         let u = IsUtf8-append settled tail first second in
-        subst (λ k. Reaches f whole k [] next) (sym e) (record {
+        record {
           front = settled ++ tail;
           split = calm.text ∙ sym (append_assoc settled tail rest) ∙ ap (λ k. (settled ++ tail) ++ k) (sym is);
           utf8 = u;
           form = own_calm (settled ++ tail) u calm.class calm.count (subst (λ k. IsCalm ucd f k calm.class calm.count) (sym text) calm.calm) sound;
           behind = behind;
-        })
+        }
 
     -- up to what of it is settled
-    pub reaches_settled : (same : List ℕ) (next : Seen) → same ≡ settled → next.text.now ≡ tail ++ rest → IsAtBoundary f next → Reaches f whole same [] next
-    unfolding own_calm IsOwn
-    reaches_settled same next e is behind =
+    pub stands_settled : (next : Seen) → next.text.now ≡ tail ++ rest → IsAtBoundary f next → Stands f whole next
+    unfolding own_calm
+    stands_settled next is behind =
         let front = calm-front ucd f (chars settled) (chars tail) calm.class calm.count calm.calm in
-        subst (λ k. Reaches f whole k [] next) (sym e) (record {
+        record {
           front = settled;
           split = calm.text ∙ ap (λ k. settled ++ k) (sym is);
           utf8 = first;
           form = own_calm settled first front.0 front.1 front.2 sound;
           behind = behind;
+        }
+
+  module _ (whole : List ℕ) (next : Seen) (here : Stands f whole next) where
+    n : ℕ
+    n = length whole - length next.text.now
+
+    long : length here.front ≡ n
+    unfolding n
+    long = omega (arith, ap length here.split, length-append here.front next.text.now)
+
+    -- where to cut
+    pub stands-seam : IsUtf8 next.text.now → IsCharBoundary whole (length whole - length next.text.now)
+    unfolding n long
+    stands-seam u = seam whole here.front next.text.now n here.split long u
+
+    -- what stands before it, and nothing more as yet
+    pub reaches_own : (same : List ℕ) → same ≡ take (length whole - length next.text.now) whole → Reaches f whole same [] next
+    unfolding n long
+    reaches_own same is =
+        let e : same ≡ here.front = is ∙ take-seam whole here.front next.text.now n here.split long in
+        subst (λ k. Reaches f whole k [] next) (sym e) (record {
+          front = here.front;
+          split = here.split;
+          utf8 = here.utf8;
+          form = elim here.form [
+            | inl none ↦ inl (none, none, refl)
+            | inr form ↦ inr (subst (HasForm ucd f (chars here.front)) (sym (append-nil (chars here.front))) form)
+          ];
+          behind = here.behind;
         })
 
   -- ---- a piece more

@@ -1,5 +1,5 @@
 -- A character as one look-up sees it: what stands behind it, and when a text may be cut before it.
-use Rattle.std.proofs.Common.{◌≡◌, ◌<◌, ◌||◌, ℕ, false, ◌∷◌, length, sym, ap, ◌∙◌, arith, length-append, eq-eqb}
+use Rattle.std.proofs.Common.{◌≡◌, ◌<◌, ◌||◌, ℕ, false, List, ◌∷◌, length, sym, ap, ◌∙◌, arith, length-append, eq-eqb}
 use Rattle.std.specs.Prelude.{chars, encode_utf8, IsTrue}
 use Rattle.std.proofs.lemmas.Bool.{and_from, or_parts, not_from_false}
 use Rattle.std.proofs.lemmas.Str.{chars_past_char, length-encode, len_utf8_bounds}
@@ -25,6 +25,9 @@ module _ (f : Form) (seen : Seen) (here : Sees f seen) where
   shorter next is =
       let width = len_utf8_bounds seen.character in
       omega (arith, ap length is, ap length here.text, length-append (encode_utf8 seen.character) seen.behind.now, length-encode seen.character, width.0)
+
+  pub shorter_two : (next : Seen) → next.text.now ≡ seen.behind.now → (text : List ℕ) → length seen.text.now < length text → length next.text.now < length text
+  shorter_two next is text before = let after = shorter next is in omega arith
 
   module _ (sound : (c : ℕ) → IsTrue (is_sound ucd c)) (class : seen.class ≡ 0) (plain : (is_among halfwidth_marks seen.character || is_among vowel_signs seen.character) ≡ false) where
     at : IsBoundary ucd f seen.character → IsAtBoundary f seen

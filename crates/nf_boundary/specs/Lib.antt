@@ -1,4 +1,5 @@
 pub mod Front
 pub mod Seen
 pub mod Pieces
+pub mod Stands
 pub mod Joins

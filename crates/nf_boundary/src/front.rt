@@ -1,12 +1,14 @@
-ghost use Rattle.std.specs.Prelude.{◌≡◌, [], IfSome, IsNone};
+ghost use Rattle.std.specs.Prelude.{◌≡◌, IfSome, IsNone};
 ghost use Rattle.nf_forms.specs.Ucd.{ucd};
 ghost use Rattle.nf_boundary.specs.Front.{IsClosedFront};
 ghost use Rattle.nf_boundary.specs.Seen.{IsAtBoundary};
-ghost use Rattle.nf_boundary.specs.Pieces.{Closes, Reaches};
+ghost use Rattle.nf_boundary.specs.Pieces.{Closes};
+ghost use Rattle.nf_boundary.specs.Stands.{Stands};
 
 use crate::apart::take_apart;
 use crate::closed::{Closed, Formed};
 use crate::composing::compose_cluster;
+use crate::kept::keep_halfwidth;
 use crate::seen::{Seen, composes};
 use nf_calm::calm_front;
 use nf_facts::laws;
@@ -32,7 +34,8 @@ fn front_in(form: Form, text: &str) -> Option<Closed<'_>>
 {
     // Most of what is not closed shows at once.
     Seen::boundary(form, text)?;
-    let (same, first) = calm_part(form, text)?;
+    let first = own_part(form, text)?;
+    let (same, _) = text.split_at(text.len() - first.text.len());
     let mut formed = Formed::new();
     let mut next = first;
     while let Some(behind) = take_cluster(form, next, &mut formed) {
@@ -48,22 +51,37 @@ fn front_in(form: Form, text: &str) -> Option<Closed<'_>>
     })
 }
 
-/// Calm text, and the first character of a boundary right behind it: all of the calm front, where a boundary follows, and
-/// else what of it is settled.
+/// The boundary behind what the text begins with and the form leaves as it is: calm text, and halfwidth marks behind it.
 #[inline(always)]
-fn calm_part(form: Form, text: &str) -> Option<(&str, Seen<'_>)>
-    ensures { IfSome result (λ part. Reaches form text.now part.0.now [] part.1) }
+fn own_part(form: Form, text: &str) -> Option<Seen<'_>>
+    ensures { IfSome result (λ next. Stands form text.now next) }
+{
+    let mut next = calm_part(form, text)?;
+    while let Some(behind) = keep_halfwidth(form, next) {
+        next = behind;
+        if let Some(further) = calm_part(form, behind.text) {
+            next = further;
+        }
+    }
+    Some(next)
+}
+
+/// The boundary behind calm text: right behind the calm front, where one follows, and else before the end of that, behind
+/// what is settled.
+#[inline(always)]
+fn calm_part(form: Form, text: &str) -> Option<Seen<'_>>
+    ensures { IfSome result (λ next. Stands form text.now next) }
 {
     laws::every_character_is_sound();
     let calm = calm_front(form, text);
-    if !composes(form) {
-        let (same, rest) = text.split_at(text.len() - calm.rest.len());
-        if let Some(next) = Seen::boundary(form, rest) {
-            return Some((same, next));
-        }
+    if !composes(form)
+        && let Some(next) = Seen::boundary(form, calm.rest)
+    {
+        return Some(next);
     }
-    let (same, rest) = text.split_at(calm.settled.len());
-    Some((same, Seen::boundary(form, rest)?))
+    let (_, rest) = text.split_at(calm.settled.len());
+    let next = Seen::boundary(form, rest)?;
+    Some(next)
 }
 
 /// The next piece that the form changes.

@@ -8,6 +8,7 @@ mod closed;
 mod cluster;
 mod composing;
 mod front;
+mod kept;
 mod seen;
 
 pub use closed::{Closed, Formed};

@@ -82,6 +82,14 @@ const fn begins_with_mark(c: char) -> bool
     )
 }
 
+/// Whether `c` is one of the two of them that the canonical forms leave as they are.
+#[inline]
+pub(crate) const fn is_halfwidth_mark(c: char) -> bool
+    ensures { result ≡ is_among halfwidth_marks c }
+{
+    c == '\u{FF9E}' || c == '\u{FF9F}'
+}
+
 /// Whether the form ends in composition.
 #[inline]
 pub(crate) const fn composes(form: Form) -> bool

@@ -107,7 +107,6 @@ fn none(rt: HostRuntime) {
             "\u{1100}\u{1161}",
             "\u{EA}\u{323}t",
             "a\u{301}\u{323}b",
-            "\u{FF76}\u{FF9E}b",
             "a\u{344}b",
             "a\u{1161}b",
         ],
@@ -125,6 +124,39 @@ fn none(rt: HostRuntime) {
             "\u{FF9E}b",
         ],
     );
+}
+
+/// U+FF9E and U+FF9F are their own rows in the canonical forms.
+#[test]
+fn halfwidth_marks_stay(rt: HostRuntime) -> Result<(), Fail> {
+    let fronts = [
+        ("\u{FF76}\u{FF9E}", "", "", "b"),
+        (
+            "a\u{FF76}\u{FF9E}\u{FF77}c\u{FF8A}\u{FF9F}\u{FF9E}",
+            "",
+            "",
+            "b",
+        ),
+        ("\u{FF76}\u{FF9E}", "", "", "x\u{FF9E}\u{301}y"),
+    ];
+    check(&rt, rt.alloc(), Form::Nfc, &fronts)?;
+    check(&rt, rt.alloc(), Form::Nfd, &fronts)?;
+    let composed = [("\u{FF76}\u{FF9E}", "e\u{301}", "\u{E9}", "b")];
+    check(&rt, rt.alloc(), Form::Nfc, &composed)?;
+    let decomposed = [("\u{FF76}\u{FF9E}a", "\u{E9}", "e\u{301}", "b")];
+    check(&rt, rt.alloc(), Form::Nfd, &decomposed)
+}
+
+/// A row has at most 18 members, so that 12 marks make no run too long behind any character.
+#[test]
+fn twelve_halfwidth_marks_stay(rt: HostRuntime) -> Result<(), Fail> {
+    let marks = "\u{FF9E}".repeat(rt.alloc(), 12)?;
+    let twelve = format!(in rt.alloc(); "\u{FF76}{marks}b")?;
+    assert_eq!(rt; checked(&rt, rt.alloc(), Form::Nfc, &twelve)?, Some("b"));
+    let marks = "\u{FF9E}".repeat(rt.alloc(), 13)?;
+    let thirteen = format!(in rt.alloc(); "\u{FF76}{marks}b")?;
+    assert_eq!(rt; closed_front(Form::Nfc, &thirteen).is_none(), true);
+    Ok(())
 }
 
 /// As many marks may be left as there is room for.

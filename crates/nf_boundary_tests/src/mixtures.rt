@@ -3,11 +3,11 @@ use crate::reference::{FORMS, checked};
 use std::test::Fail;
 
 /// Letters and marks of which the forms make many different things.
-const PARTS: [&str; 28] = [
+const PARTS: [&str; 33] = [
     "a", "e", "x", " ", "\u{E9}", "\u{EA}", "\u{1EC7}", "\u{301}", "\u{302}", "\u{323}", "\u{316}",
     "\u{334}", "\u{344}", "\u{1100}", "\u{1161}", "\u{11A8}", "\u{AC00}", "\u{AC01}", "\u{9C7}",
     "\u{9BE}", "\u{30AB}", "\u{3099}", "\u{FF76}", "\u{FF9E}", "\u{FB01}", "\u{FDFA}", "\u{F73}",
-    "\u{212B}",
+    "\u{212B}", "\u{FF21}", "\u{FF9F}", "\u{2126}", "\u{3131}", "\u{FFC2}",
 ];
 
 /// Numbers that look random, and are the same in each run: Marsaglia's xorshift.

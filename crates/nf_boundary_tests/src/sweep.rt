@@ -1,6 +1,8 @@
 //! Scalar values between letters, and letters with marks, against the forms of whole texts.
 use crate::reference::{FORMS, checked};
 use nf_forms::Form;
+use std::alloc::Global;
+use std::process::Abort;
 use std::test::Fail;
 use unicode_normalization::Form as TableForm;
 use unicode_normalization::char::{canonical_combining_class, decomposition};
@@ -63,14 +65,27 @@ const SECOND: [&str; 16] = [
 #[test]
 fn letters_with_marks(rt: HostRuntime) -> Result<(), Fail> {
     for code in 0..0x3100u32 {
-        let Some(c) = char::from_u32(code) else {
-            continue;
-        };
-        for second in SECOND {
-            let text = format!(in rt.alloc(); "{c}{second}\u{301}b")?;
-            for form in FORMS {
-                checked(&rt, rt.alloc(), form, &text)?;
-            }
+        with_marks(&rt, rt.alloc(), code)?;
+    }
+    Ok(())
+}
+
+#[test]
+fn halfwidth_and_fullwidth_forms_with_marks(rt: HostRuntime) -> Result<(), Fail> {
+    for code in 0xFF00..0x1_0000u32 {
+        with_marks(&rt, rt.alloc(), code)?;
+    }
+    Ok(())
+}
+
+fn with_marks<T: Abort>(rt: &T, alloc: Global, code: u32) -> Result<(), Fail> {
+    let Some(c) = char::from_u32(code) else {
+        return Ok(());
+    };
+    for second in SECOND {
+        let text = format!(in alloc; "{c}{second}\u{301}b")?;
+        for form in FORMS {
+            checked(rt, alloc, form, &text)?;
         }
     }
     Ok(())

@@ -6,6 +6,7 @@ mod SameForms
 mod SameSafe
 mod FormsAfter
 mod Refused
+mod Halfwidth
 mod Starters
 mod Marks
 mod Ranges

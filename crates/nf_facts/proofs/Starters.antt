@@ -59,7 +59,7 @@ never_second-yes Nfkd c is composes a = cc
 
 -- ---- its row begins with such a one
 
-begins_anew : (f : Form) (c : ℕ) → ccc c ≡ 0 → quick_check (kit_form f) c ≡ Yes → BeginsAnew ucd f c
+pub begins_anew : (f : Form) (c : ℕ) → ccc c ≡ 0 → quick_check (kit_form f) c ≡ Yes → BeginsAnew ucd f c
 unfolding ucd decompose
 begins_anew Nfc c starter is =
     let r = of_starter KitNfc IsComposed-Nfc c (ap is_yes is) (omega arith) in
@@ -78,7 +78,7 @@ counts_anew c begins =
     let some = (IsFull-decompose (kit_form Nfkd) c).some in
     record { lead = begins; some = true_from_ne_false _ (λ none. let all = lead-marks ucd (ucd.compat c) none in omega arith) }
 
-alone : (f : Form) (c : ℕ) → quick_check (kit_form f) c ≡ Yes → normal_form f ucd (c ∷ []) ≡ c ∷ []
+pub alone : (f : Form) (c : ℕ) → quick_check (kit_form f) c ≡ Yes → normal_form f ucd (c ∷ []) ≡ c ∷ []
 alone f c is = normal_form-ucd f (c ∷ []) ∙ normalize-passes (kit_form f) (c ∷ []) (and_from _ _ (ap is_yes is) refl) (is_ordered-one c)
 
 pub parting-ucd : (f : Form) (c : ℕ) → passes_check f c ≡ true → IsParting ucd f c

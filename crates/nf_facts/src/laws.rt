@@ -1,6 +1,6 @@
 //! Facts of Unicode's data, each the contract of a function without a body. `ucd` is that data, in the words of
 //! `nf_forms`; `kit_form` names a form as `unicode_normalization` does.
-ghost use Rattle.std.specs.Prelude.{◌≡◌, ◌≢◌, ◌<◌, ◌≤◌, ℕ, false, List, [], ◌∷◌, ◌++◌, flat_map, IsTrue};
+ghost use Rattle.std.specs.Prelude.{◌≡◌, ◌≢◌, ◌<◌, ◌≤◌, ℕ, false, List, [], ◌∷◌, ◌++◌, length, flat_map, IsTrue};
 ghost use Rattle.std.specs.List.{All};
 ghost use Rattle.ucd_table.specs.Rows.{in_ranges};
 ghost use Rattle.ucd_normal.specs.CanonicalCombiningClass.{canonical_combining_class};
@@ -21,7 +21,7 @@ ghost use Rattle.nf_forms.specs.SafeForm.{safe_form};
 ghost use Rattle.nf_forms.specs.Sound.{is_sound};
 ghost use Rattle.nf_forms.specs.Audit.{IsAudited};
 ghost use Rattle.nf_forms.specs.Ucd.{ucd};
-ghost use Rattle.nf_forms.specs.Parting.{NeverSecond, IsParting};
+ghost use Rattle.nf_forms.specs.Parting.{NeverSecond, BeginsAnew, IsParting};
 ghost use Rattle.nf_forms.specs.Closing.{IsClosing};
 ghost use Rattle.nf_forms.specs.Calm.{IsMark};
 ghost use Rattle.nf_forms.specs.Laws.Sound.{IsSoundText};
@@ -67,6 +67,20 @@ pub fn the_quick_check_tells()
     ensures parting { (f : Form) (c : ℕ) → IsTrue (passes_check f c) → IsParting ucd f c }
     ensures mark { (f : Form) (c : ℕ) → 0 < canonical_combining_class c → quick_check (kit_form f) c ≢ No → IsMark ucd c (canonical_combining_class c) }
     ensures never_second { (f : Form) (c : ℕ) → quick_check (kit_form f) c ≡ Yes → NeverSecond ucd f c }
+{}
+
+/// A starter that passes the quick check begins its row anew, and alone is its own form (UAX #15, section 9), a halfwidth
+/// mark too.
+#[inline]
+pub fn what_passes_begins_anew()
+    ensures anew { (f : Form) (c : ℕ) → canonical_combining_class c ≡ 0 → quick_check (kit_form f) c ≡ Yes → BeginsAnew ucd f c }
+    ensures alone { (f : Form) (c : ℕ) → quick_check (kit_form f) c ≡ Yes → normal_form f ucd (c ∷ []) ≡ c ∷ [] }
+{}
+
+/// The compatibility row of a halfwidth mark is one character.
+#[inline]
+pub fn halfwidth_marks_count_once()
+    ensures { (c : ℕ) → IsTrue (is_among halfwidth_marks c) → length (ucd.compat c) ≡ 1 }
 {}
 
 /// In these ranges, which the first bytes of a character in UTF-8 can tell, every character passes: a list for each form.
