@@ -7,3 +7,4 @@ mod Requests
 mod AnswerLemmas
 mod SoundLemmas
 mod CodeDigits
+mod Examples

@@ -18,7 +18,7 @@ use Rattle.nf_forms.specs.declared.form.Form.{Form}
 use Rattle.nf_forms.specs.declared.form.Form.TheVariants.{Nfc, Nfd, Nfkc, Nfkd}
 use Rattle.nf_cmd.specs.declared.line.Request.{Request}
 use Rattle.nf_cmd.specs.declared.line.Request.TheVariants.{Convert, Check, Measure, Test}
-use Rattle.nf_cmd.specs.Line.{IsLine, IsRefusal, convert, form_named, form_names, form_rule, line, request_of}
+use Rattle.nf_cmd.specs.Line.{IsLine, IsRefusal, convert, flag_rule, form_named, form_names, form_rule, line, policy_of, request_of}
 use Rattle.nf_cmd.proofs.Rows.{IsIn}
 use Rattle.nf_cmd.proofs.NoHelp.{IsNoHelp, StopsAtNoHelp, no_help-walk}
 use Rattle.nf_cmd.proofs.LevelRows.{Given, below_faultless, checked, given, nothing_wanted, walk_faultless}
@@ -86,15 +86,16 @@ help_differs name e helpless = go (bytes_eq (codes "help") name) refl e
 -- ---- this program's line
 
 pub simple_and_free : (names : Bor (List (Bor Text))) → is_simple_and_free (line names) ≡ true
-unfolding line convert form_rule
+unfolding line convert form_rule flag_rule
 simple_and_free names = refl
 
 abbrev first_of_subs : List Shape → Shape
 first_of_subs [] = new_shape []
 first_of_subs (s ∷ rest) = s
 
-text_differs : (t : Text) → t ≡ codes "help" → t ≡ codes "form" → ⊥
-text_differs t e h = true≢false (ap (λ x. bytes_eq x (codes "help")) (sym e ∙ h))
+-- the id of another option
+differs : (other t : Text) → bytes_eq (codes "form") other ≡ false → t ≡ other → t ≡ codes "form" → ⊥
+differs other t differ e h = true≢false (sym ((bytes_eq-Decides (codes "form") other).1 (sym h ∙ e)) ∙ differ)
 
 -- the names are those of forms
 named : (text : Text) → list_any (λ n. bytes_eq n text) form_names ≡ true → (f : Form) × (form_named text ≡ Some f)
@@ -119,27 +120,30 @@ module _ (names : Bor (List (Bor Text))) (are : texts names.now ≡ form_names) 
   form = with_index 1 (filled (form_rule names))
 
   form_given : (words : List Text) → level_fault made [] nothing_held words false [] ≡ [] → Given form (rows_after made.rules [] words)
-  unfolding line convert form_rule
+  unfolding line convert form_rule flag_rule
   form_given words none = given made refl [] words false [] none refl form (inl refl) (record { set = refl; least = refl; most = refl; no_default = refl }) refl only
     where
       only : (x : Rule) → IsIn x made.rules → x.id ≡ form.id → x ≡ form
       only x (inl same) e = same
-      only x (inr (inl same)) e = absurd (text_differs x.id (ap (λ (r : Rule). r.id) same) e)
-      only x (inr (inr bad)) e = absurd bad
+      only x (inr (inl same)) e = absurd (differs (codes "replace") x.id refl (ap (λ (r : Rule). r.id) same) e)
+      only x (inr (inr (inl same))) e = absurd (differs (codes "assigned") x.id refl (ap (λ (r : Rule). r.id) same) e)
+      only x (inr (inr (inr (inl same)))) e = absurd (differs (codes "help") x.id refl (ap (λ (r : Rule). r.id) same) e)
+      only x (inr (inr (inr (inr bad)))) e = absurd bad
 
   value_named : (text : Text) → value_passes form text ≡ true → (f : Form) × (form_named text ≡ Some f)
   unfolding form_rule
   value_named text e = named text (sym (list_any-map (λ n. bytes_eq n text) (λ (n : Bor Text). n.now) names.now ∙ ap (list_any (λ n. bytes_eq n text)) are) ∙ e)
 
   converts : (words : List Text) → level_fault made [] nothing_held words false [] ≡ [] → (r : Request) × (request_of (Some (made.name, rows_after made.rules [] words)) ≡ Some r)
-  unfolding line convert form_rule
+  unfolding line convert form_rule flag_rule
   converts words none =
       let g = form_given words none in
       let f = value_named g.text g.passes in
-      (Convert f.0, ap (λ o. option_map (λ x. Convert x) (option_and_then form_named o)) g.first ∙ ap (option_map (λ x. Convert x)) f.1)
+      let policy = policy_of (rows_after made.rules [] words) in
+      (Convert f.0 policy, ap (λ o. option_map (λ x. Convert x policy) (option_and_then form_named o)) g.first ∙ ap (option_map (λ x. Convert x policy)) f.1)
 
   pub asked : (words : List Text) → fault_of (line names) words ≡ [] → (r : Request) × (request_of (subcommand_of (line names) words) ≡ Some r)
-  unfolding line convert form_rule
+  unfolding line convert form_rule flag_rule
   asked words none =
       let e = enters (built (line names)) (argument_words (line names) words) refl refl refl none in
       let r = of e.sub e.inside e.name e.answers e.no_help e.words e.faultless in

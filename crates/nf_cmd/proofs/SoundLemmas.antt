@@ -7,6 +7,7 @@ use Rattle.nf_forms.specs.Ucd.{ucd}
 use Rattle.nf_safe.specs.declared.place.Place.{Place}
 use Rattle.nf_filter.specs.declared.fault.Fault.{Fault as Found}
 use Rattle.nf_filter.specs.declared.fault.Fault.TheVariants as found
+use Rattle.nf_filter.specs.declared.policy.Policy.{Policy}
 use Rattle.nf_filter.specs.Laws.Soundness.{AreSound, DrivingRefusesNone, CheckingRefusesNone, MeasuringRefusesNone}
 use Rattle.nf_vectors.specs.declared.fault.VectorFault.{VectorFault}
 use Rattle.nf_vectors.specs.declared.fault.VectorKind.{VectorKind}
@@ -32,6 +33,7 @@ told_row found.Write at e = cc
 told_row (found.Row a) at e = cc
 told_row (found.BadByte a start) at e = cc
 told_row (found.Cut a start) at e = cc
+told_row (found.Unassigned a) at e = cc
 
 -- and no fault of a vector file is
 not_of_file : (n : ℕ) (k : VectorKind) (at : ℕ) → ¬ (told_at n k ≡ Row at)
@@ -52,10 +54,10 @@ end_row end (Err fault) ended at ok err (inl is) row = told_row fault at (sym (e
 end_row end answer ended at ok err (inr is) row = cc
 
 module _ (p : Properties) (sound : AreSound p) (at : ℕ) (coming left taken now : Option (List ℕ)) (ended : Result ℕ Fault) where
-  converted : DrivingRefusesNone → (f : Form) → Converts f p coming left taken now ended → ¬ (ended ≡ Err (Row at))
-  converted law f does row =
+  converted : DrivingRefusesNone → (f : Form) (policy : Policy) → Converts f policy p coming left taken now ended → ¬ (ended ≡ Err (Row at))
+  converted law f policy does row =
       let runs = does.runs in
-      law 65536 f p 0 [] runs.source runs.rest runs.old runs.new does.answer sound runs.drives at (end_row end_of does.answer ended at (λ tally e. cc) (λ fault. refl) does.found_is row)
+      law 65536 policy f p 0 [] runs.source runs.rest runs.old runs.new does.answer sound runs.drives at (end_row end_of does.answer ended at (λ tally e. cc) (λ fault. refl) does.found_is row)
 
   checked : CheckingRefusesNone → Checks p coming left taken now ended → ¬ (ended ≡ Err (Row at))
   checked law does row = law 65536 p 0 does.surveyed.source does.surveyed.rest does.answer sound does.surveyed.surveys at (end_row check_end does.answer ended at by_place (λ fault. refl) does.found_is row)
@@ -81,7 +83,7 @@ module _ (p : Properties) (sound : AreSound p) (at : ℕ) (coming left taken now
 
 -- so what was done for a request did not
 pub never_row : DrivingRefusesNone → CheckingRefusesNone → MeasuringRefusesNone → AreSound ucd → NeverRow
-never_row driving checking measuring sound (Convert form) before after found does at = converted ucd sound at before.input after.input before.out after.out found driving form does
+never_row driving checking measuring sound (Convert form policy) before after found does at = converted ucd sound at before.input after.input before.out after.out found driving form policy does
 never_row driving checking measuring sound Check before after found does at = checked ucd sound at before.input after.input before.out after.out found checking does
 never_row driving checking measuring sound Measure before after found does at = measured ucd sound at before.input after.input before.out after.out found measuring does
 never_row driving checking measuring sound Test before after found does at = tested ucd sound at before.input after.input before.out after.out found does

@@ -57,7 +57,7 @@ pub record IsRefused (words : List Text) (before after : Devices) (status : ℕ)
 
 -- what a subcommand reads and writes, by how it ends
 abbrev pub Does : Request → Devices → Devices → Result ℕ Fault → Type 0
-Does (Convert form) before after found = Converts form ucd before.input after.input before.out after.out found
+Does (Convert form policy) before after found = Converts form policy ucd before.input after.input before.out after.out found
 Does Check before after found = Checks ucd before.input after.input before.out after.out found
 Does Measure before after found = Measures ucd before.input after.input before.out after.out found
 Does Test before after found = Tests ucd before.input after.input before.out after.out found

@@ -1,10 +1,11 @@
--- What `convert` reads and writes: what the library's `drive_buffered` does over the same devices, with a new filter and
--- a buffer of 64 KiB.
+-- What `convert` reads and writes: what the library's `drive_buffered` does over the same devices, with a new filter under a
+-- policy and a buffer of 64 KiB.
 use Rattle.std.specs.Prelude.{◌≡◌, ◌⊎◌, ℕ, false, List, [], Option, Some, Result, Ok, Err, IsTrue, OnOk, option_map}
 use Rattle.std.specs.Io.KnownBytes.{Keeps}
 use Rattle.nf_forms.specs.Properties.{Properties}
 use Rattle.nf_forms.specs.declared.form.Form.{Form}
 use Rattle.nf_filter.specs.declared.fault.Fault.{Fault as Found}
+use Rattle.nf_filter.specs.declared.policy.Policy.{Policy}
 use Rattle.nf_filter.specs.declared.tally.Tally.{Tally}
 use Rattle.nf_filter.specs.Devices.{SinkState, SourceState}
 use Rattle.nf_filter.specs.Drives.{Drives}
@@ -19,7 +20,7 @@ end_of (Err fault) = option_map Err (told fault)
 
 -- the library answers so, over what the input has still to give and what the output has taken, before and after, where
 -- they tell it
-pub record Runs (f : Form) (p : Properties) (coming left taken now : Option (List ℕ)) (answer : Result Tally Found) : Type 0 where
+pub record Runs (f : Form) (policy : Policy) (p : Properties) (coming left taken now : Option (List ℕ)) (answer : Result Tally Found) : Type 0 where
   pub source : SourceState
   pub rest : SourceState
   pub old : SinkState
@@ -28,12 +29,12 @@ pub record Runs (f : Form) (p : Properties) (coming left taken now : Option (Lis
   pub output_is : (old.taken ≡ taken) × (new.taken ≡ now)
   pub unfailed : old.is_failed ≡ false
   pub end : OnOk answer (IsTrue rest.is_at_end)
-  pub drives : Drives 65536 f p 0 [] source rest old new answer
+  pub drives : Drives 65536 policy f p 0 [] source rest old new answer
 
 -- the program ends by that answer, unless a flush failed; a flush writes nothing
-pub record Converts (f : Form) (p : Properties) (coming left taken now : Option (List ℕ)) (found : Result ℕ Fault) : Type 0 where
+pub record Converts (f : Form) (policy : Policy) (p : Properties) (coming left taken now : Option (List ℕ)) (found : Result ℕ Fault) : Type 0 where
   pub answer : Result Tally Found
   pub given : Option (List ℕ)
-  pub runs : Runs f p coming left taken given answer
+  pub runs : Runs f policy p coming left taken given answer
   pub flushed : Keeps given now
   pub found_is : (Some found ≡ end_of answer) ⊎ (found ≡ Err Write)

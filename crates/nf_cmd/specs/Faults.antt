@@ -3,7 +3,7 @@ use Rattle.std.specs.Prelude.{ℕ, Option, Some, None}
 use Rattle.nf_filter.specs.declared.fault.Fault.{Fault as Found}
 use Rattle.nf_filter.specs.declared.fault.Fault.TheVariants as found
 use Rattle.nf_cmd.specs.declared.fault.Fault.{Fault}
-use Rattle.nf_cmd.specs.declared.fault.Fault.TheVariants.{Row, BadByte, Cut, Read, Write, Memory, TooLong, Line}
+use Rattle.nf_cmd.specs.declared.fault.Fault.TheVariants.{Row, BadByte, Cut, Unassigned, Read, Write, Memory, TooLong, Line}
 use Rattle.nf_cmd.specs.declared.fault.LineFault.TheVariants as line
 use Rattle.nf_vectors.specs.declared.fault.VectorFault.{VectorFault}
 use Rattle.nf_vectors.specs.declared.fault.VectorKind.{VectorKind}
@@ -18,6 +18,7 @@ told found.Write = Some Write
 told (found.Row at) = Some (Row at)
 told (found.BadByte at start) = Some (BadByte at start)
 told (found.Cut at start) = Some (Cut at start)
+told (found.Unassigned at) = Some (Unassigned at)
 
 -- a vector file that was refused, at this line
 abbrev pub told_at : ℕ → VectorKind → Fault

@@ -1,17 +1,20 @@
 -- The command line, in clap's words for a simple command.
 use Rattle.std.specs.Prelude.{◌≡◌, ◌⊎◌, List, [], ◌∷◌, Option, Some, None, true, false, codes, if◌then◌else◌}
-use Rattle.std.specs.Prelude.{option_and_then, option_map}
+use Rattle.std.specs.Prelude.{Bool, option_and_then, option_map}
+use Rattle.std.specs.Option.{option_map_or}
 use Rattle.std.specs.Borrow.{Bor}
 use Rattle.std.specs.Str.{bytes_eq}
-use Rattle.clap.specs.Words.{App, Row, Rule, Text, first_of, new_app, new_rule, subcommand_of, takes}
+use Rattle.clap.specs.Words.{App, Row, Rule, Text, first_of, new_app, new_rule, one_of, subcommand_of, takes}
 use Rattle.clap.specs.Words.{IsAmong, fault_of, with_rule, with_subcommand}
 use Rattle.clap.specs.Simple.{on_top}
 use Rattle.clap.specs.Walk.{texts}
+use Rattle.clap.specs.declared.builder.action.ArgAction.TheVariants.{SetTrue}
 use Rattle.clap.specs.declared.builder.value_parser.ValueParser.TheVariants.{Names}
 use Rattle.clap.specs.declared.error.kind.ErrorKind.{ErrorKind}
 use Rattle.clap.specs.declared.error.kind.ErrorKind.TheVariants.{OutOfMemory}
 use Rattle.nf_forms.specs.declared.form.Form.{Form}
 use Rattle.nf_forms.specs.declared.form.Form.TheVariants.{Nfc, Nfd, Nfkc, Nfkd}
+use Rattle.nf_filter.specs.declared.policy.Policy.{Policy}
 use Rattle.nf_cmd.specs.declared.line.Request.{Request}
 use Rattle.nf_cmd.specs.declared.line.Request.TheVariants.{Convert, Check, Measure, Test}
 
@@ -35,9 +38,16 @@ form_rule names = record (new_rule (codes "form")) {
   required = true;
 }
 
--- `convert --form F`
+-- a flag, which may be there once and takes nothing
+unfoldable pub flag_rule : Text → Rule
+flag_rule name = record (new_rule name) { long = Some name; action = Some SetTrue }
+
+-- `convert --form F`, with the flags --replace and --assigned
 unfoldable pub convert : Bor (List (Bor Text)) → App
-convert names = with_rule (new_app (codes "convert")) (form_rule names)
+convert names =
+    with_rule (with_rule (with_rule (new_app (codes "convert")) (form_rule names))
+    (flag_rule (codes "replace")))
+    (flag_rule (codes "assigned"))
 
 -- the program's line: one of the subcommands
 unfoldable pub line : Bor (List (Bor Text)) → App
@@ -53,14 +63,27 @@ line names =
 abbrev pub IsLine : App → Type 0
 IsLine a = (names : Bor (List (Bor Text))) × (texts names.now ≡ form_names) × (a ≡ line names)
 
+-- a is `convert`, where the names are those of the forms
+abbrev pub IsConvert : App → Type 0
+IsConvert a = (names : Bor (List (Bor Text))) × (texts names.now ≡ form_names) × (a ≡ convert names)
+
 -- r is the option --form
 abbrev pub IsFormRule : Rule → Type 0
 IsFormRule r = (names : Bor (List (Bor Text))) × (texts names.now ≡ form_names) × (r ≡ form_rule names)
 
--- what a subcommand asks for, by its name and the value of --form
-abbrev pub request_by : Text → Option Text → Option Request
-request_by name form =
-    if bytes_eq name (codes "convert") then option_map (λ f. Convert f) (option_and_then form_named form)
+-- whether the words have the flag, by what was found for the options
+abbrev pub is_set : Text → List Row → Bool
+is_set flag rows = option_map_or (λ value. bytes_eq value (codes "true")) (one_of flag rows) false
+
+-- the policy that the flags name
+abbrev pub policy_of : List Row → Policy
+policy_of rows =
+    record { replace = is_set (codes "replace") rows; assigned = is_set (codes "assigned") rows }
+
+-- what a subcommand asks for, by its name, the value of --form and the policy
+abbrev pub request_by : Text → Option Text → Policy → Option Request
+request_by name form policy =
+    if bytes_eq name (codes "convert") then option_map (λ f. Convert f policy) (option_and_then form_named form)
     else (if bytes_eq name (codes "check") then Some Check
     else (if bytes_eq name (codes "measure") then Some Measure
     else (if bytes_eq name (codes "test") then Some Test else None)))
@@ -68,7 +91,7 @@ request_by name form =
 -- the same, by its name and what was found for its options
 abbrev pub request_of : Option (Text × List Row) → Option Request
 request_of None = None
-request_of (Some p) = request_by p.0 (first_of (codes "form") p.1)
+request_of (Some p) = request_by p.0 (first_of (codes "form") p.1) (policy_of p.1)
 
 -- clap finds no fault with the words, and they ask for this
 pub record Asks (words : List Text) (r : Request) : Type 0 where

@@ -1,12 +1,13 @@
 -- What the program says at its end: the status, and a line on standard error.
 use Rattle.std.specs.Prelude.{ℕ, List, [], ◌∷◌, ◌++◌, Result, Ok, Err, codes, decimal}
 use Rattle.nf_cmd.specs.declared.fault.Fault.{Fault}
-use Rattle.nf_cmd.specs.declared.fault.Fault.TheVariants.{Row, BadByte, Cut, Read, Write, Memory, TooLong, Line}
+use Rattle.nf_cmd.specs.declared.fault.Fault.TheVariants.{Row, BadByte, Cut, Unassigned, Read, Write, Memory, TooLong, Line}
 use Rattle.nf_cmd.specs.declared.fault.LineFault.{LineFault}
 use Rattle.nf_cmd.specs.declared.fault.LineFault.TheVariants.{Fields, Empty, Hex, Scalar}
 
 abbrev pub fault_status : Fault → ℕ
 fault_status (Row at) = 3
+fault_status (Unassigned at) = 3
 fault_status (BadByte at start) = 3
 fault_status (Cut at start) = 3
 fault_status Read = 4
@@ -28,6 +29,7 @@ line_message_of Scalar = codes "scalar"
 
 abbrev pub message_of : Fault → List ℕ
 message_of (Row at) = codes "unsound row at " ++ decimal at
+message_of (Unassigned at) = codes "unassigned character at " ++ decimal at
 message_of (BadByte at start) = codes "ill-formed byte at " ++ (decimal at ++ (codes ", character begun at " ++ decimal start))
 message_of (Cut at start) = codes "input ends at " ++ (decimal at ++ (codes " inside a character begun at " ++ decimal start))
 message_of Read = codes "read failed"

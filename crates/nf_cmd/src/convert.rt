@@ -1,26 +1,28 @@
 //! `convert`.
-ghost use Rattle.std.specs.Prelude.{◌≡◌};
+ghost use Rattle.std.specs.Prelude.{◌≡◌, []};
 ghost use Rattle.nf_forms.specs.Ucd.{ucd};
 ghost use Rattle.nf_filter.specs.declared.fault.Fault.TheVariants.{Spent};
+ghost use Rattle.nf_filter.specs.Filter.{StandsAfter, base_of, state_of};
 ghost use Rattle.nf_cmd.specs.Converts.{Converts, Runs};
 
 use crate::BUFFER;
 use crate::fault::Fault;
 use crate::writing::flush;
-use nf_filter::{Filter, LentReader, LentWriter, Tally, drive_buffered};
+use nf_filter::{Filter, LentReader, LentWriter, Policy, Tally, drive_buffered};
 use nf_row::{Form, Plain, Ucd};
 use std::io::{Read, Write};
 
-/// Writes the form of the stream-safe text that the reader gives, or what had settled before a fault, and flushes. A
-/// writer that failed is not touched again.
+/// Writes the form of the stream-safe text that the reader gives under the policy, or what had settled before a fault,
+/// and flushes. A writer that failed is not touched again.
 pub(crate) fn convert<I: Read, O: Write>(
     form: Form,
+    policy: Policy,
     input: &mut I,
     out: &mut O,
 ) -> Result<u8, Fault>
-    ensures { Converts form ucd (I.remaining input.old) (I.remaining input.new) (O.contents out.old) (O.contents out.new) result }
+    ensures { Converts form policy ucd (I.remaining input.old) (I.remaining input.new) (O.contents out.old) (O.contents out.new) result }
 {
-    let found = match filter(form, input, out) {
+    let found = match filter(form, policy, input, out) {
         Err(nf_filter::Fault::Write) => return Err(Fault::Write),
         Err(fault) => Err(Fault::told(fault)),
         Ok(_) => Ok(0),
@@ -34,18 +36,32 @@ pub(crate) fn convert<I: Read, O: Write>(
 // Lets the library go over the reader and the writer.
 fn filter<I: Read, O: Write>(
     form: Form,
+    policy: Policy,
     input: &mut I,
     out: &mut O,
 ) -> Result<Tally, nf_filter::Fault>
     ensures unspent { ¬ (result ≡ Err Spent) }
-    ensures runs { Runs form ucd (I.remaining input.old) (I.remaining input.new) (O.contents out.old) (O.contents out.new) result }
+    ensures runs { Runs form policy ucd (I.remaining input.old) (I.remaining input.new) (O.contents out.old) (O.contents out.new) result }
 {
     let mut source = LentReader::new(input);
     let mut sink = LentWriter::new(out);
     let mut buffer = [0; BUFFER];
-    let filter = match Plain::of(&Ucd) {
+    drive_buffered(
+        unused(&Ucd, form, policy),
+        &mut source,
+        &mut sink,
+        &mut buffer,
+    )
+}
+
+// A filter that has taken nothing.
+fn unused<'r>(rows: &'r Ucd, form: Form, policy: Policy) -> Filter<'r, Ucd>
+    ensures base { base_of (state_of result) ≡ 0 }
+    ensures stands { StandsAfter policy form ucd (state_of result) [] }
+{
+    let filter = match Plain::of(rows) {
         Some(plain) => Filter::fast(plain, form, 0),
-        None => Filter::new(&Ucd, form, 0),
+        None => Filter::new(rows, form, 0),
     };
-    drive_buffered(filter, &mut source, &mut sink, &mut buffer)
+    filter.policy(policy)
 }

@@ -9,6 +9,8 @@ use std::fmt;
 pub(crate) enum Fault {
     /// The character at `at` is unsound, or U+034F is to be put before it and is unsound.
     Row { at: u64 },
+    /// The character at `at` is not assigned, and such are refused.
+    Unassigned { at: u64 },
     /// The byte at `at` is the first that is ill-formed; the character that it breaks began at `start`.
     BadByte { at: u64, start: u64 },
     /// The input ends at `at`, inside a character that began at `start`.
@@ -54,6 +56,7 @@ impl Fault {
             nf_filter::Fault::Read => Fault::Read,
             nf_filter::Fault::Write => Fault::Write,
             nf_filter::Fault::Row { at } => Fault::Row { at },
+            nf_filter::Fault::Unassigned { at } => Fault::Unassigned { at },
             nf_filter::Fault::BadByte { at, start } => Fault::BadByte { at, start },
             nf_filter::Fault::Cut { at, start } => Fault::Cut { at, start },
         }
@@ -81,7 +84,8 @@ impl Fault {
         ensures { result ≡ fault_status self }
     {
         match self {
-            Fault::Row { .. } | Fault::BadByte { .. } | Fault::Cut { .. } | Fault::Line { .. } => 3,
+            Fault::Row { .. } | Fault::Unassigned { .. } => 3,
+            Fault::BadByte { .. } | Fault::Cut { .. } | Fault::Line { .. } => 3,
             Fault::Read | Fault::Write => 4,
             Fault::Memory => 5,
             Fault::TooLong => 6,
@@ -97,6 +101,7 @@ impl fmt::Display for Fault {
     fn fmt<W: fmt::Write>(&self, f: &mut fmt::Formatter<W>) -> fmt::Result {
         match self {
             Fault::Row { at } => write!(f, "unsound row at {at}"),
+            Fault::Unassigned { at } => write!(f, "unassigned character at {at}"),
             Fault::BadByte { at, start } => {
                 write!(f, "ill-formed byte at {at}, character begun at {start}")
             }

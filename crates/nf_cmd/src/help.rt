@@ -19,7 +19,7 @@ At a fault, what had settled before it is written.
 Status:
   0  all is written
   2  the command line is refused
-  3  the input is no UTF-8: standard error says at which byte
+  3  the input is refused: standard error says why, and at which byte
   4  a read or a write failed
   6  the input is longer than 2^64 - 1 bytes";
 

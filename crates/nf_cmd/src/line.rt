@@ -1,20 +1,22 @@
 //! The command line.
 ghost use Rattle.std.specs.Prelude.{◌≡◌, IfErr, IfOk, false, option_map};
-ghost use Rattle.clap.specs.Words.{app_of, kind_of, new_app, rule_of, subcommand_rows_of};
+ghost use Rattle.clap.specs.Words.{app_of, found_of, kind_of, new_app, rows_of, rule_of, subcommand_rows_of};
 ghost use Rattle.clap.specs.declared.builder.command.Command.TheViews.{out-Command};
 ghost use Rattle.clap.specs.Walk.{texts};
-ghost use Rattle.nf_cmd.specs.Line.{Asks, IsFormRule, IsLine, IsRefusal, form_named, request_by, request_of};
+ghost use Rattle.nf_cmd.specs.Line.{Asks, IsConvert, IsFormRule, IsLine, IsRefusal, flag_rule, form_named, is_set};
+ghost use Rattle.nf_cmd.specs.Line.{policy_of, request_by, request_of};
 
 use crate::help;
-use clap::{Arg, ArgMatches, Command, Error};
+use clap::{Arg, ArgAction, ArgMatches, Command, Error};
+use nf_filter::Policy;
 use nf_row::Form;
 use std::alloc::{AllocError, Global};
 
 /// What the words ask for.
 #[derive(Clone, Copy, Debug, PartialEq, Eq)]
 pub(crate) enum Request {
-    /// `convert`: the form of the stream-safe text.
-    Convert(Form),
+    /// `convert`: the form of the stream-safe text, read by a policy.
+    Convert(Form, Policy),
     /// `check`: whether the text is stream-safe, and where it is not.
     Check,
     /// `measure`: what is measured of the text.
@@ -38,13 +40,6 @@ pub(crate) fn parse<'w>(alloc: Global, words: &'w [&'w str]) -> Result<Request, 
 fn line<'w>(alloc: Global) -> Result<Command<'w>, AllocError>
     ensures { IfOk result (λ c. IsLine (app_of c)) }
 {
-    let convert = plain(
-        alloc,
-        "convert",
-        "Writes the normalization form of the stream-safe text",
-        help::CONVERT,
-    );
-    let convert = convert.arg(form(alloc))?;
     let check = plain(
         alloc,
         "check",
@@ -67,10 +62,33 @@ fn line<'w>(alloc: Global) -> Result<Command<'w>, AllocError>
         .about("Makes UTF-8 text on standard input stream-safe, normalizes it, and measures it")
         .after_help(help::PROGRAM)
         .subcommand_required(true)
-        .subcommand(convert)?;
+        .subcommand(convert(alloc)?)?;
     let line = line.subcommand(check)?;
     let line = line.subcommand(measure)?;
     line.subcommand(test)
+}
+
+fn convert<'w>(alloc: Global) -> Result<Command<'w>, AllocError>
+    ensures shape { IfOk result (λ c. IsConvert (app_of c)) }
+    ensures local { IfOk result (λ c. (out-Command c).has_globals ≡ false) }
+{
+    let convert = plain(
+        alloc,
+        "convert",
+        "Writes the normalization form of the stream-safe text",
+        help::CONVERT,
+    );
+    let convert = convert.arg(form(alloc))?;
+    let convert = convert.arg(flag(
+        alloc,
+        "replace",
+        "Reads each ill-formed sequence as U+FFFD instead of refusing it",
+    ))?;
+    convert.arg(flag(
+        alloc,
+        "assigned",
+        "Refuses characters that Unicode has not assigned",
+    ))
 }
 
 // A command that takes nothing yet, with the texts of its help before and behind its usage.
@@ -93,19 +111,29 @@ fn form<'w>(alloc: Global) -> Arg<'w>
         .help("The normalization form to write")
 }
 
+fn flag<'w>(alloc: Global, name: &'w str, about: &'w str) -> Arg<'w>
+    ensures rule { rule_of result ≡ flag_rule name.now }
+    ensures local { result.global ≡ false }
+{
+    Arg::new(alloc, name)
+        .long(name)
+        .action(ArgAction::SetTrue)
+        .help(about)
+}
+
 // What the subcommand asks for that the words name.
 fn requested(matches: &ArgMatches<'_>) -> Option<Request>
     ensures { result ≡ request_of (subcommand_rows_of matches.now) }
 {
     let (name, found) = matches.subcommand()?;
-    request_by(name, found.get_str("form"))
+    request_by(name, found.get_str("form"), policy(found))
 }
 
-fn request_by(name: &str, form: Option<&str>) -> Option<Request>
-    ensures { result ≡ request_by name.now (option_map (λ s. s.now) form.entry) }
+fn request_by(name: &str, form: Option<&str>, policy: Policy) -> Option<Request>
+    ensures { result ≡ request_by name.now (option_map (λ s. s.now) form.entry) policy }
 {
     match name {
-        "convert" => Some(Request::Convert(form_named(form?)?)),
+        "convert" => Some(Request::Convert(form_named(form?)?, policy)),
         "check" => Some(Request::Check),
         "measure" => Some(Request::Measure),
         "test" => Some(Request::Test),
@@ -123,4 +151,20 @@ fn form_named(name: &str) -> Option<Form>
         "nfkd" => Some(Form::Nfkd),
         _ => None,
     }
+}
+
+fn policy(found: &ArgMatches<'_>) -> Policy
+    ensures { result ≡ policy_of (rows_of (found_of found.now)) }
+{
+    Policy {
+        replace: is_set(found, "replace"),
+        assigned: is_set(found, "assigned"),
+    }
+}
+
+// Whether the words have the flag. Clap says what `get_flag` answers of the texts `true` and `false` alone.
+fn is_set(found: &ArgMatches<'_>, flag: &str) -> bool
+    ensures { result ≡ is_set flag.now (rows_of (found_of found.now)) }
+{
+    found.get_one(flag) == Some(true)
 }

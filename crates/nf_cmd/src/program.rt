@@ -45,7 +45,7 @@ pub fn command<'w, I: Read, O: Write, E: Write>(
 {
     no_character_is_refused();
     match parse(alloc, words) {
-        Ok(Request::Convert(form)) => report(convert(form, input, out), err),
+        Ok(Request::Convert(form, policy)) => report(convert(form, policy, input, out), err),
         Ok(Request::Check) => report(check(input, out), err),
         Ok(Request::Measure) => report(measure(input, out), err),
         Ok(Request::Test) => report(test(alloc, input, out), err),

@@ -8,6 +8,7 @@ mod endings;
 mod failures;
 mod faults;
 mod measure;
+mod policies;
 mod test;
 mod texts;
 mod words;

@@ -1,7 +1,7 @@
 -- What a check decides, character by character and front by front.
-use Rattle.std.proofs.Common.{◌≡◌, ℕ, suc, ◌+◌, Bool, true, false, ◌&&◌, cond, List, [], ◌∷◌, ◌++◌, length, take, Some, None, Ok, Err, refl, sym, ap, ◌∙◌, subst, arith, append_assoc, append-nil}
+use Rattle.std.proofs.Common.{◌≡◌, ℕ, ◌+◌, Bool, true, false, ◌&&◌, List, [], ◌∷◌, ◌++◌, length, Some, None, Ok, Err, refl, sym, ap, ◌∙◌, subst, append_assoc, append-nil}
 use Rattle.std.specs.Prelude.{if◌then◌else◌, Option, Result, option_map, encode_utf8_all}
-use Rattle.std.specs.List.{list_all, prefix_len}
+use Rattle.std.specs.List.{list_all}
 use Rattle.std.specs.Str.{chars}
 use Rattle.std.proofs.lemmas.Bool.{cond-true, or_left, and_parts, and_from}
 use Rattle.std.proofs.lemmas.List.Folds.{list_all-append}
@@ -36,27 +36,10 @@ use Rattle.nf_filter.specs.Taker.{stop_or, stop_in, StopsQuietly, TakesText}
 use Rattle.nf_filter.specs.Checks.{sound_front, check_fault, place_or_fault, check_decision, place_or_row, check_stop, HasChecked, Sees, HasSeenFront}
 use Rattle.nf_filter.proofs.TakingLemmas.{front-behind, front-more, front-whole}
 use Rattle.nf_filter.proofs.WritesLemmas.{Puts-none}
+use Rattle.nf_filter.proofs.PolicyLemmas.{take_while-all, take_while-append, take_while-stop}
 use Rattle.nf_filter.proofs.SurveysLemmas.{told}
 
 module _ (p : Properties) where
-  one_more : (n c : ℕ) (x : List ℕ) → take (1 + n) (c ∷ x) ≡ c ∷ take n x
-  one_more n c x = ap (λ m. take m (c ∷ x)) (let e : 1 + n ≡ suc n = omega arith in e)
-
-  sound_front-append : (x y : List ℕ) → list_all (is_sound p) x ≡ true → sound_front p (x ++ y) ≡ x ++ sound_front p y
-  sound_front-append [] y all = refl
-  sound_front-append (c ∷ x) y all =
-      let parts = and_parts (is_sound p c) (list_all (is_sound p) x) all in
-      ap (λ b. take (cond b (1 + prefix_len (is_sound p) (x ++ y)) 0) (c ∷ (x ++ y))) parts.0
-      ∙ one_more (prefix_len (is_sound p) (x ++ y)) c (x ++ y) ∙ ap (λ l. c ∷ l) (sound_front-append x y parts.1)
-
-  sound_front-all : (x : List ℕ) → list_all (is_sound p) x ≡ true → sound_front p x ≡ x
-  sound_front-all x all = ap (sound_front p) (sym (append-nil x)) ∙ sound_front-append x [] all ∙ append-nil x
-
-  sound_front-stop : (x : List ℕ) (c : ℕ) (y : List ℕ) → list_all (is_sound p) x ≡ true → is_sound p c ≡ false → sound_front p ((x ++ c ∷ []) ++ y) ≡ x
-  sound_front-stop x c y all unsound =
-      ap (sound_front p) (append_assoc x (c ∷ []) y) ∙ sound_front-append x (c ∷ y) all
-      ∙ ap (λ b. x ++ take (cond b (1 + prefix_len (is_sound p) y) 0) (c ∷ y)) unsound ∙ append-nil x
-
   pub all_sound-push : (x : List ℕ) (c : ℕ) → list_all (is_sound p) x ≡ true → is_sound p c ≡ true → list_all (is_sound p) (x ++ c ∷ []) ≡ true
   all_sound-push x c all sound = list_all-append (is_sound p) x (c ∷ []) ∙ and_from _ _ all (and_from _ _ sound refl)
 
@@ -84,14 +67,14 @@ module _ (p : Properties) where
         (λ z c before. ap (place_from base p) (sym (append_assoc x z (c ∷ []))) ∙ place_from-stays p base (x ++ z) c at before) z
 
     pub stop_none : (x : List ℕ) → list_all (is_sound p) x ≡ true → place_from base p x ≡ None → check_stop p base x ≡ None
-    stop_none x all none = stop_at x x None true (sound_front-all x all) none all
+    stop_none x all none = stop_at x x None true (take_while-all (is_sound p) x all) none all
 
     pub stop_place : (x y : List ℕ) (at : Place) → list_all (is_sound p) x ≡ true → place_from base p x ≡ Some at → check_stop p base (x ++ y) ≡ Some (Found at)
-    stop_place x y at all found = stop_at (x ++ y) (x ++ sound_front p y) (Some at) (list_all (is_sound p) (x ++ y)) (sound_front-append x y all) (place_stays x (sound_front p y) at found) refl
+    stop_place x y at all found = stop_at (x ++ y) (x ++ sound_front p y) (Some at) (list_all (is_sound p) (x ++ y)) (take_while-append (is_sound p) x y all) (place_stays x (sound_front p y) at found) refl
 
     pub stop_row : (x : List ℕ) (c : ℕ) (y : List ℕ) → list_all (is_sound p) x ≡ true → place_from base p x ≡ None → is_sound p c ≡ false
         → check_stop p base ((x ++ c ∷ []) ++ y) ≡ Some (Refused (Row (base + length (encode_utf8_all x))))
-    stop_row x c y all none unsound = stop_at ((x ++ c ∷ []) ++ y) x None false (sound_front-stop x c y all unsound) none (not_all x c y unsound)
+    stop_row x c y all none unsound = stop_at ((x ++ c ∷ []) ++ y) x None false (take_while-stop (is_sound p) x c y all unsound) none (not_all x c y unsound)
 
     -- what the bytes decide is what stops a checker in them
     pub decides : (bytes : List ℕ) → check_decision p base bytes ≡ option_map (told Some) (stop_in (check_stop p base) base bytes)

@@ -15,9 +15,10 @@ use Rattle.nf_filter.specs.declared.fault.Fault.TheVariants.{Row, Write}
 use Rattle.nf_filter.specs.declared.taker.Stop.{Stop}
 use Rattle.nf_filter.specs.declared.taker.Stop.TheVariants.{Refused}
 use Rattle.nf_filter.specs.Devices.{SinkState}
+use Rattle.nf_filter.specs.Policy.{as_is}
 use Rattle.nf_filter.specs.Settled.{is_usable}
 use Rattle.nf_filter.specs.Faults.{fault_in}
-use Rattle.nf_filter.specs.Normalizer.{unusable_at}
+use Rattle.nf_filter.specs.Normalizer.{unusable_at, utf8_place}
 use Rattle.nf_filter.specs.Taker.{stop_in, StopsQuietly, TakesText}
 use Rattle.nf_filter.specs.Measures.{HasMeasured, SeesText}
 use Rattle.nf_filter.proofs.WritesLemmas.{Puts-none}
@@ -67,17 +68,17 @@ module _ (p : Properties) where
 
   -- a character that is refused behind x
   pub stops_at : (base at : ℕ) (x : List ℕ) (c d : ℕ) (y : List ℕ) → IsSoundText p (stream_safe p x) → at ≡ base + length (encode_utf8_all x) → unsound_at p x c ≡ Some d
-      → unusable_at p base ((x ++ c ∷ []) ++ y) ≡ Some (Refused (Row at))
-  stops_at base at x c d y sound here refused = unusable_at-stop p base x c y (usable_is x sound) (unusable x c d refused) ∙ ap (λ n. Some (Refused (Row n))) (sym here)
+      → unusable_at p (utf8_place base) ((x ++ c ∷ []) ++ y) ≡ Some (Refused (Row at))
+  stops_at base at x c d y sound here refused = unusable_at-stop p (utf8_place base) x c y (usable_is x sound) (unusable x c d refused) ∙ ap (λ n. Some (Refused (Row n))) (sym here)
 
   pub refusal_at : (base at : ℕ) (x : List ℕ) (c : ℕ) (y : List ℕ) → IsSoundText p (stream_safe p x) → at ≡ base + length (encode_utf8_all x) → (r : Seen) → is_err r ≡ true
-      → result_err r ≡ option_map refusal (unsound_at p x c) → unusable_at p base ((x ++ c ∷ []) ++ y) ≡ Some (Refused (Row at))
+      → result_err r ≡ option_map refusal (unsound_at p x c) → unusable_at p (utf8_place base) ((x ++ c ∷ []) ++ y) ≡ Some (Refused (Row at))
   refusal_at base at x c y sound here (Ok u) refused is = cc
   refusal_at base at x c y sound here (Err e) refused is = let d = refused_is (unsound_at p x c) e is in stops_at base at x c d.0 y sound here d.1
 
   -- what the bytes decide is what stops a measurer in them
-  pub decides : {T : Type 0} (of_place : Place → T) (base : ℕ) (bytes : List ℕ) → option_map (refused {T = T}) (fault_in p base bytes) ≡ option_map (told of_place) (stop_in (unusable_at p base) base bytes)
-  decides {T} of_place base bytes = next (fault_in p base bytes) ∙ ap (option_map (told of_place)) (sym (stop_in-fault p base bytes))
+  pub decides : {T : Type 0} (of_place : Place → T) (base : ℕ) (bytes : List ℕ) → option_map (refused {T = T}) (fault_in as_is p base bytes) ≡ option_map (told of_place) (stop_in (unusable_at p (utf8_place base)) base bytes)
+  decides {T} of_place base bytes = next (fault_in as_is p base bytes) ∙ ap (option_map (told of_place)) (sym (stop_in-fault p base bytes))
     where
       next : (o : Option Fault) → option_map (refused {T = T}) o ≡ option_map (told of_place) (option_map Refused o)
       next None = refl
@@ -85,11 +86,11 @@ module _ (p : Properties) where
 
   -- a taker that writes nothing
   pub TakesText-seen : (measurer : Measurer) (base : ℕ) (x y : List ℕ) (sink : SinkState) (r : Result (Unit {0}) Stop) → ((stop : Stop) → r ≡ Err stop → StopsQuietly false stop)
-      → SeesText p measurer base (x ++ y) r → TakesText (HasMeasured p measurer base) (unusable_at p base) (λ _. []) x y sink sink r
+      → SeesText p measurer base (x ++ y) r → TakesText (HasMeasured p measurer base) (unusable_at p (utf8_place base)) (λ _. []) x y sink sink r
   TakesText-seen measurer base x y sink (Ok u) quiet sees = record {
     broken = λ e. cc;
     puts = λ _. Puts-none sink [];
-    stop = λ _. sym (unusable_at-usable p base (x ++ y) (usable_is (x ++ y) sees.sound));
+    stop = λ _. sym (unusable_at-usable p (utf8_place base) (x ++ y) (usable_is (x ++ y) sees.sound));
     taken = sees;
   }
   TakesText-seen measurer base x y sink (Err stop) quiet sees = record {

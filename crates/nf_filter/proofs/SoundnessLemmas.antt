@@ -1,5 +1,5 @@
 -- Where each character is sound, none is refused.
-use Rattle.std.proofs.Common.{◌≡◌, ℕ, ◌+◌, Bool, true, false, ◌&&◌, List, [], ◌∷◌, ◌++◌, length, Option, Some, None, Result, Err, refl, sym, ap, ◌∙◌, encode_utf8_all}
+use Rattle.std.proofs.Common.{◌≡◌, ℕ, ◌+◌, Bool, true, false, ◌&&◌, List, [], ◌∷◌, ◌++◌, length, ◌==◌, Option, Some, None, Result, Err, refl, sym, ap, ◌∙◌, encode_utf8_all}
 use Rattle.std.specs.Prelude.{option_map, if◌then◌else◌}
 use Rattle.std.specs.Result.{result_err}
 use Rattle.std.specs.List.{list_all}
@@ -12,12 +12,14 @@ use Rattle.nf_utf8.specs.Reading.{text_of, ending_of}
 use Rattle.nf_safe.specs.declared.place.Place.{Place}
 use Rattle.nf_safe.specs.Place.{place_from}
 use Rattle.nf_filter.specs.declared.fault.Fault.{Fault}
-use Rattle.nf_filter.specs.declared.fault.Fault.TheVariants.{Row}
+use Rattle.nf_filter.specs.declared.fault.Fault.TheVariants.{Row, Unassigned}
+use Rattle.nf_filter.specs.declared.policy.Policy.{Policy}
 use Rattle.nf_filter.specs.declared.tally.Tally.{Tally}
 use Rattle.nf_filter.specs.Devices.{SinkState, SourceState}
 use Rattle.nf_filter.specs.Settled.{is_usable, usable}
-use Rattle.nf_filter.specs.Faults.{answer_at_end, bad_byte, fault_in}
-use Rattle.nf_filter.specs.Finishes.{tally_of, end_of}
+use Rattle.nf_filter.specs.Faults.{answer_at_end, bad_byte, bad_under, first_fault, fault_in}
+use Rattle.nf_filter.specs.Finishes.{tally_of, answer_or, end_under, end_of}
+use Rattle.nf_filter.specs.Policy.{as_is, allowed, len_under, text_under, whole_under}
 use Rattle.nf_filter.specs.Feeds.{Feeds}
 use Rattle.nf_filter.specs.Drives.{Drives}
 use Rattle.nf_filter.specs.Surveys.{Surveys}
@@ -45,10 +47,40 @@ module _ (p : Properties) (sound : AreSound p) (base at : ℕ) where
   all_sound [] = refl
   all_sound (c ∷ x) = ap (λ b. b && list_all (is_sound p) x) (sound c) ∙ all_sound x
 
-  pub not_a_fault : (bytes : List ℕ) → ¬ (fault_in p base bytes ≡ Some (Row at))
-  unfolding fault_in is_usable
-  not_a_fault bytes e = not_bad_byte base at (ending_of bytes)
-      (sym (ap (λ u. if u then bad_byte base (ending_of bytes) else Some (Row (base + length (encode_utf8_all (usable p (text_of bytes)))))) (all_sound (stream_safe p (text_of bytes)))) ∙ e)
+  usable_is : (x : List ℕ) → is_usable p x ≡ true
+  unfolding is_usable
+  usable_is x = all_sound (stream_safe p x)
+
+  -- nor does a text
+  not_in_text : (assigned : Bool) (place : List ℕ → ℕ) (x : List ℕ) (other : Option Fault) → ¬ (other ≡ Some (Row at)) → ¬ (first_fault assigned p place x other ≡ Some (Row at))
+  not_in_text false place x other not e = not (sym (ap (λ u. if u then other else Some (Row (place (usable p x)))) (usable_is x)) ∙ e)
+  not_in_text true place x other not e =
+      next (length (allowed true p x) == length x)
+      (sym (ap (λ u. if u then (if length (allowed true p x) == length x then other else Some (Unassigned (place (allowed true p x)))) else Some (Row (place (usable p (allowed true p x))))) (usable_is (allowed true p x))) ∙ e)
+    where
+      next : (b : Bool) → ¬ ((if b then other else Some (Unassigned (place (allowed true p x)))) ≡ Some (Row at))
+      next true e = not e
+      next false e = cc
+
+  pub not_a_fault : (policy : Policy) (bytes : List ℕ) → ¬ (fault_in policy p base bytes ≡ Some (Row at))
+  unfolding fault_in
+  not_a_fault policy bytes = not_in_text policy.assigned (λ front. base + len_under policy.replace bytes front) (text_under policy.replace bytes) (bad_under policy.replace base bytes) (not_bad policy.replace)
+    where
+      not_bad : (replace : Bool) → ¬ (bad_under replace base bytes ≡ Some (Row at))
+      not_bad false e = not_bad_byte base at (ending_of bytes) e
+      not_bad true e = cc
+
+  pub not_in_end : (policy : Policy) (bytes : List ℕ) → ¬ (end_of policy p base bytes ≡ Err (Row at))
+  unfolding end_of
+  not_in_end policy bytes = by_replace policy.replace
+    where
+      told : (o : Option Fault) (tally : Tally) → ¬ (o ≡ Some (Row at)) → ¬ (answer_or o tally ≡ Err (Row at))
+      told None tally not e = cc
+      told (Some fault) tally not e = not (let same : fault ≡ Row at = cc in ap Some same)
+
+      by_replace : (replace : Bool) → ¬ (end_under replace policy.assigned p base bytes ≡ Err (Row at))
+      by_replace false e = not_at_end base at (tally_of false p bytes) (ending_of bytes) e
+      by_replace true e = told _ (tally_of true p bytes) (not_in_text policy.assigned (λ front. base + len_under true bytes front) (whole_under true bytes) None (λ e. cc)) e
 
   not_a_check_fault : (bytes : List ℕ) → ¬ (check_fault p base bytes ≡ Some (Row at))
   unfolding check_fault
@@ -64,21 +96,20 @@ module _ (p : Properties) (sound : AreSound p) (base at : ℕ) where
       by_place None e = not_a_check_fault bytes (unmapped (Row at) (check_fault p base bytes) e)
 
   pub not_measured : (bytes : List ℕ) → ¬ (measure_decision p base bytes ≡ Some (Err (Row at)))
-  not_measured bytes e = not_a_fault bytes (unmapped (Row at) (fault_in p base bytes) e)
+  not_measured bytes e = not_a_fault as_is bytes (unmapped (Row at) (fault_in as_is p base bytes) e)
 
-  pub not_fed : (f : Form) (bytes piece : List ℕ) (old new : SinkState) (result : Result (Unit {0}) Fault) → Feeds f p base bytes piece old new result → ¬ (result ≡ Err (Row at))
-  not_fed f bytes piece old new result feeds refused = not_a_fault (bytes ++ piece) (sym (feeds.answer (λ e. cc)) ∙ ap result_err refused)
+  pub not_fed : (policy : Policy) (f : Form) (bytes piece : List ℕ) (old new : SinkState) (result : Result (Unit {0}) Fault) → Feeds policy f p base bytes piece old new result → ¬ (result ≡ Err (Row at))
+  not_fed policy f bytes piece old new result feeds refused = not_a_fault policy (bytes ++ piece) (sym (feeds.answer (λ e. cc)) ∙ ap result_err refused)
 
-  pub not_driven : (most : ℕ) (f : Form) (bytes : List ℕ) (source left : SourceState) (old new : SinkState) (result : Result Tally Fault) → Drives most f p base bytes source left old new result → ¬ (result ≡ Err (Row at))
-  unfolding end_of
-  not_driven most f bytes source left old new result drives refused = by_end left.is_at_end refl
+  pub not_driven : (most : ℕ) (policy : Policy) (f : Form) (bytes : List ℕ) (source left : SourceState) (old new : SinkState) (result : Result Tally Fault) → Drives most policy f p base bytes source left old new result → ¬ (result ≡ Err (Row at))
+  not_driven most policy f bytes source left old new result drives refused = by_end left.is_at_end refl
     where
       read : List ℕ
       read = bytes ++ drives.fed
 
       by_end : (b : Bool) → left.is_at_end ≡ b → ⊥
-      by_end true end = not_at_end base at (tally_of p read) (ending_of read) (sym (drives.finished end (λ e. cc)) ∙ refused)
-      by_end false end = not_a_fault read (sym (drives.stopped end (λ e. cc) (λ e. cc) (λ e. cc)).1 ∙ ap result_err refused)
+      by_end true end = not_in_end policy read (sym (drives.finished end (λ e. cc)) ∙ refused)
+      by_end false end = not_a_fault policy read (sym (drives.stopped end (λ e. cc) (λ e. cc) (λ e. cc)).1 ∙ ap result_err refused)
 
 -- a survey whose decision is none
 pub not_surveyed : {T : Type 0} (most base at : ℕ) (decision : List ℕ → Option (Result T Fault)) (value : List ℕ → T) (source left : SourceState) (result : Result T Fault)

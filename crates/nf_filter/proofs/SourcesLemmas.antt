@@ -6,7 +6,7 @@ use Rattle.std.proofs.lemmas.List.{length-append}
 use Rattle.nf_utf8.specs.Ending.{Ending, Whole, Bad, Cut as CutShort}
 use Rattle.nf_utf8.specs.Reading.{text_of, ending_of}
 use Rattle.nf_filter.specs.declared.fault.Fault.{Fault}
-use Rattle.nf_filter.specs.declared.fault.Fault.TheVariants.{Spent, TooLong, Read, Write, Row, BadByte, Cut}
+use Rattle.nf_filter.specs.declared.fault.Fault.TheVariants.{Spent, TooLong, Read, Write, Row, BadByte, Cut, Unassigned}
 use Rattle.nf_filter.specs.declared.reading.Reading.{Reading}
 use Rattle.nf_filter.specs.declared.taker.Stop.{Stop}
 use Rattle.nf_filter.specs.declared.taker.Stop.TheVariants.{Refused, Found}
@@ -26,6 +26,7 @@ MayStopAll-from finds (Refused Write) may = may
 MayStopAll-from finds (Refused (Row at)) may = may
 MayStopAll-from finds (Refused (BadByte at start)) may = may
 MayStopAll-from finds (Refused (Cut at start)) may = tt
+MayStopAll-from finds (Refused (Unassigned at)) may = may
 MayStopAll-from true (Found place) may = may
 MayStopAll-from false (Found place) may = may
 
@@ -38,6 +39,7 @@ not_cut finds (Refused Write) may cut = cut
 not_cut finds (Refused (Row at)) may cut = cut
 not_cut finds (Refused (BadByte at start)) may cut = cut
 not_cut finds (Refused (Cut at start)) may cut = may
+not_cut finds (Refused (Unassigned at)) may cut = cut
 not_cut finds (Found place) may cut = cut
 
 -- nor a failed read

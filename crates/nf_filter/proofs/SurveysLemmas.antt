@@ -6,7 +6,7 @@ use Rattle.nf_utf8.specs.Ending.{Ending, Whole, Bad, Cut as CutShort}
 use Rattle.nf_utf8.specs.Reading.{ending_of}
 use Rattle.nf_safe.specs.declared.place.Place.{Place}
 use Rattle.nf_filter.specs.declared.fault.Fault.{Fault}
-use Rattle.nf_filter.specs.declared.fault.Fault.TheVariants.{Spent, TooLong, Read, Write, Row, BadByte, Cut}
+use Rattle.nf_filter.specs.declared.fault.Fault.TheVariants.{Spent, TooLong, Read, Write, Row, BadByte, Cut, Unassigned}
 use Rattle.nf_filter.specs.declared.reading.Reading.{Reading}
 use Rattle.nf_filter.specs.declared.taker.Stop.{Stop}
 use Rattle.nf_filter.specs.declared.taker.Stop.TheVariants.{Refused, Found}
@@ -88,6 +88,7 @@ IsOfSurvey-from finds Write may kept = absurd (kept refl)
 IsOfSurvey-from finds (Row at) may kept = tt
 IsOfSurvey-from finds (BadByte at start) may kept = tt
 IsOfSurvey-from finds (Cut at start) may kept = tt
+IsOfSurvey-from finds (Unassigned at) may kept = may
 
 -- the sink was given nothing, so it did not fail
 pub nothing_breaks : {most : ℕ} {stands : List ℕ → Type 0} {stops : List ℕ → Option Stop} {base : ℕ} {reading : Reading} {source left : SourceState} {old new : SinkState} (stop : Stop)

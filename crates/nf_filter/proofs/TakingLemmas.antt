@@ -12,7 +12,7 @@ use Rattle.nf_filter.specs.declared.fault.Fault.TheVariants.{Write as WriteFault
 use Rattle.nf_filter.specs.declared.taker.Stop.TheVariants.{Refused}
 use Rattle.nf_filter.specs.Settled.{is_usable}
 use Rattle.nf_filter.specs.Block.{Start, BlockState, Written, Broken}
-use Rattle.nf_filter.specs.Normalizer.{HasTaken, TakesOn, settled_text, usable_utf8}
+use Rattle.nf_filter.specs.Normalizer.{HasTaken, IsPlacedAt, TakesOn, settled_text, usable_utf8}
 use Rattle.nf_filter.specs.Taking.{HasTakenFront}
 use Rattle.nf_filter.proofs.SettledLemmas.{Extends}
 use Rattle.nf_filter.proofs.PushingLemmas.{Broken-extends}
@@ -23,11 +23,21 @@ front_len text front rest whole behind is =
     ap length (sym (encodes-chars text whole) ∙ ap encode_utf8_all is ∙ encodes-append front (chars rest) ∙ ap (λ b. encode_utf8_all front ++ b) (encodes-chars rest behind))
     ∙ length-append (encode_utf8_all front) rest
 
--- the offset behind it
-pub place_behind : (at base : ℕ) (x text front rest : List ℕ) → IsUtf8 text → IsUtf8 rest → chars text ≡ front ++ chars rest → at ≡ base + length (encode_utf8_all x)
-    → at + length text ≡ base + length (encode_utf8_all (x ++ front)) + length rest
-place_behind at base x text front rest whole behind is here =
-    omega (arith, here, front_len text front rest whole behind is, ap length (encodes-append x front), length-append (encode_utf8_all x) (encode_utf8_all front))
+-- the offset of the first character
+pub placed-first : (place : List ℕ → ℕ) (at : ℕ) (x : List ℕ) (c : ℕ) (rest : List ℕ) → IsPlacedAt place at x (c ∷ rest) → place x ≡ at
+placed-first place at x c rest here = ap place (sym (append-nil x)) ∙ here [] c rest refl ∙ (let n : at + 0 ≡ at = omega arith in n)
+
+-- and of those behind a front
+pub placed-behind : (place : List ℕ → ℕ) (at : ℕ) (x y front rest : List ℕ) (behind : ℕ) → y ≡ front ++ rest → behind ≡ at + length (encode_utf8_all front) → IsPlacedAt place at x y
+    → IsPlacedAt place behind (x ++ front) rest
+placed-behind place at x y front rest behind is offset here more c last text =
+    ap place (append_assoc x front more) ∙ here (front ++ more) c last (is ∙ ap (λ l. front ++ l) text ∙ sym (append_assoc front more (c ∷ last)))
+    ∙ (let n : at + length (encode_utf8_all (front ++ more)) ≡ behind + length (encode_utf8_all more) =
+    omega (arith, offset, ap length (encodes-append front more), length-append (encode_utf8_all front) (encode_utf8_all more)) in n)
+
+-- in a front
+pub placed-within : (place : List ℕ → ℕ) (at : ℕ) (x y front rest : List ℕ) → y ≡ front ++ rest → IsPlacedAt place at x y → IsPlacedAt place at x front
+placed-within place at x y front rest is here more c last text = here more c (last ++ rest) (is ∙ ap (λ l. l ++ rest) text ∙ append_assoc more (c ∷ last) rest)
 
 -- three parts
 pub chars-three : (text a b rest : List ℕ) → IsUtf8 a → IsUtf8 b → text ≡ a ++ (b ++ rest) → chars text ≡ (chars a ++ chars b) ++ chars rest
@@ -71,21 +81,21 @@ module _ (f : Form) (p : Properties) (normalizer : Normalizer) (start : Start) (
     written = subst (λ y. Written start now (settled_text f p y)) (append_assoc x front next.front) next.written;
   }
 
-  pub TakesOn-more : (base : ℕ) (x text front rest : List ℕ) (r : Result (Unit {0}) Stop) → chars text ≡ front ++ chars rest → TakesOn f p normalizer start now base ((x ++ front) ++ chars rest) r
-      → TakesOn f p normalizer start now base (x ++ chars text) r
-  TakesOn-more base x text front rest r is takes =
-      subst (λ y. TakesOn f p normalizer start now base y r) (front-behind text front rest is x) takes
+  pub TakesOn-more : (place : List ℕ → ℕ) (x text front rest : List ℕ) (r : Result (Unit {0}) Stop) → chars text ≡ front ++ chars rest → TakesOn f p normalizer start now place ((x ++ front) ++ chars rest) r
+      → TakesOn f p normalizer start now place (x ++ chars text) r
+  TakesOn-more place x text front rest r is takes =
+      subst (λ y. TakesOn f p normalizer start now place y r) (front-behind text front rest is x) takes
 
-  pub TakesOn-whole : (base : ℕ) (x text rest : List ℕ) → length rest ≡ 0 → HasTakenFront f p normalizer start now x text rest → TakesOn f p normalizer start now base (x ++ chars text) (Ok tt)
-  TakesOn-whole base x text rest none here =
-      subst (λ y. TakesOn f p normalizer start now base y (Ok tt))
+  pub TakesOn-whole : (place : List ℕ → ℕ) (x text rest : List ℕ) → length rest ≡ 0 → HasTakenFront f p normalizer start now x text rest → TakesOn f p normalizer start now place (x ++ chars text) (Ok tt)
+  TakesOn-whole place x text rest none here =
+      subst (λ y. TakesOn f p normalizer start now place y (Ok tt))
       (ap (λ l. x ++ l) (front-whole text here.front rest here.is_front none))
-      (TakesOn-all p f normalizer start now base (x ++ here.front) here.taken here.written)
+      (TakesOn-all p f normalizer start now place (x ++ here.front) here.taken here.written)
 
   -- the sink failed in what a front of the text settles
-  pub TakesOn-broken : (base : ℕ) (x text front rest : List ℕ) → chars text ≡ front ++ rest → is_usable p (x ++ front) ≡ true → Broken start now (settled_text f p (x ++ front))
-      → TakesOn f p normalizer start now base (x ++ chars text) (Err (Refused WriteFault))
-  TakesOn-broken base x text front rest is usable broken = record {
+  pub TakesOn-broken : (place : List ℕ → ℕ) (x text front rest : List ℕ) → chars text ≡ front ++ rest → is_usable p (x ++ front) ≡ true → Broken start now (settled_text f p (x ++ front))
+      → TakesOn f p normalizer start now place (x ++ chars text) (Err (Refused WriteFault))
+  TakesOn-broken place x text front rest is usable broken = record {
     broken = λ _. Broken-extends start (subst (λ y. Extends (settled_text f p (x ++ front)) (usable_utf8 f p y)) whole (usable_utf8-extends p f (x ++ front) rest usable)) broken;
     written = λ no. absurd (no refl);
     stop = λ no. absurd (no refl);

@@ -1,6 +1,6 @@
 -- A text more.
-use Rattle.std.proofs.Common.{◌≡◌, ℕ, ◌+◌, true, false, List, [], ◌∷◌, ◌++◌, length, Some, None, Ok, Err, refl, sym, ap, ◌∙◌, subst, append-nil}
-use Rattle.std.specs.Prelude.{Result, if◌then◌else◌, encode_utf8_all}
+use Rattle.std.proofs.Common.{◌≡◌, ℕ, true, false, List, [], ◌∷◌, ◌++◌, Some, None, Ok, Err, refl, sym, ap, ◌∙◌, subst, append-nil}
+use Rattle.std.specs.Prelude.{if◌then◌else◌, encode_utf8_all}
 use Rattle.nf_forms.specs.Properties.{Properties}
 use Rattle.nf_forms.specs.declared.form.Form.{Form}
 use Rattle.nf_forms.specs.Front.{front}
@@ -8,34 +8,32 @@ use Rattle.nf_forms.specs.Forms.{decomposed, finished}
 use Rattle.nf_forms.specs.StreamSafe.{stream_safe}
 use Rattle.nf_forms.specs.SafeForm.{safe_form}
 use Rattle.std.proofs.lemmas.Str.{encodes-append}
-use Rattle.nf_filter.specs.declared.fault.Fault.TheVariants.{Row, Write as WriteFault}
+use Rattle.nf_filter.specs.declared.fault.Fault.TheVariants.{Row}
 use Rattle.nf_filter.specs.declared.normalizer.Normalizer.{Normalizer}
 use Rattle.nf_filter.specs.declared.refusal.Refusal.{Refusal}
 use Rattle.nf_filter.specs.declared.refusal.Refusal.TheVariants.{Unsound, Write}
-use Rattle.nf_filter.specs.declared.taker.Stop.{Stop}
 use Rattle.nf_filter.specs.declared.taker.Stop.TheVariants.{Refused}
 use Rattle.nf_filter.specs.Settled.{settled, is_usable, usable}
 use Rattle.nf_filter.specs.Devices.{SinkState}
 use Rattle.nf_filter.specs.Writes.{Puts}
-use Rattle.nf_filter.specs.Block.{Start, BlockState, Written, Broken}
-use Rattle.nf_filter.specs.Taker.{TakesText}
-use Rattle.nf_filter.specs.Normalizer.{HasTaken, settled_text, usable_utf8, unusable_at, written_in, stop_at, TakesChar, TakesOn}
-use Rattle.nf_filter.proofs.WritesLemmas.{Puts-at, BreaksOff-at}
-use Rattle.nf_filter.proofs.BlockLemmas.{start_at, Written-at}
+use Rattle.nf_filter.specs.Block.{Start, BlockState, Written}
+use Rattle.nf_filter.specs.Normalizer.{HasTaken, settled_text, usable_utf8, unusable_at, stop_at, TakesChar, TakesOn}
+use Rattle.nf_filter.proofs.WritesLemmas.{Puts-at}
+use Rattle.nf_filter.proofs.BlockLemmas.{Written-at}
 use Rattle.nf_filter.proofs.SettledLemmas.{Extends, Extends-encodes, settled-extends, is_usable-stays_out, usable-all, usable-stop, usable-extends}
 use Rattle.nf_filter.proofs.PushingLemmas.{Broken-extends}
 
 module _ (p : Properties) where
-  pub unusable_at-usable : (base : ℕ) (x : List ℕ) → is_usable p x ≡ true → unusable_at p base x ≡ None
+  pub unusable_at-usable : (place : List ℕ → ℕ) (x : List ℕ) → is_usable p x ≡ true → unusable_at p place x ≡ None
   unfolding unusable_at
-  unusable_at-usable base x sound = ap (λ b. if b then None else Some (Refused (Row (base + length (encode_utf8_all (usable p x)))))) sound
+  unusable_at-usable place x sound = ap (λ b. if b then None else Some (Refused (Row (place (usable p x))))) sound
 
-  pub unusable_at-stop : (base : ℕ) (x : List ℕ) (c : ℕ) (rest : List ℕ) → is_usable p x ≡ true → is_usable p (x ++ c ∷ []) ≡ false
-      → unusable_at p base ((x ++ c ∷ []) ++ rest) ≡ Some (Refused (Row (base + length (encode_utf8_all x))))
+  pub unusable_at-stop : (place : List ℕ → ℕ) (x : List ℕ) (c : ℕ) (rest : List ℕ) → is_usable p x ≡ true → is_usable p (x ++ c ∷ []) ≡ false
+      → unusable_at p place ((x ++ c ∷ []) ++ rest) ≡ Some (Refused (Row (place x)))
   unfolding unusable_at
-  unusable_at-stop base x c rest sound out =
-      ap (λ b. if b then None else Some (Refused (Row (base + length (encode_utf8_all (usable p ((x ++ c ∷ []) ++ rest))))))) (is_usable-stays_out p (x ++ c ∷ []) rest out)
-      ∙ ap (λ y. Some (Refused (Row (base + length (encode_utf8_all y))))) (usable-stop p x c rest sound out)
+  unusable_at-stop place x c rest sound out =
+      ap (λ b. if b then None else Some (Refused (Row (place (usable p ((x ++ c ∷ []) ++ rest)))))) (is_usable-stays_out p (x ++ c ∷ []) rest out)
+      ∙ ap (λ y. Some (Refused (Row (place y)))) (usable-stop p x c rest sound out)
 
   module _ (f : Form) where
     -- what is settled, and then the rest
@@ -58,21 +56,21 @@ module _ (p : Properties) where
         let more = usable-extends p x rest sound in
         Extends-encodes (subst (λ y. Extends (settled f p x) (settled f p y)) (sym more.text) (settled-extends p f x more.more))
 
-    module _ (normalizer : Normalizer) (start : Start) (now : BlockState) (base : ℕ) where
-      pub TakesOn-all : (x : List ℕ) → HasTaken f p normalizer x → Written start now (settled_text f p x) → TakesOn f p normalizer start now base x (Ok tt)
+    module _ (normalizer : Normalizer) (start : Start) (now : BlockState) (place : List ℕ → ℕ) where
+      pub TakesOn-all : (x : List ℕ) → HasTaken f p normalizer x → Written start now (settled_text f p x) → TakesOn f p normalizer start now place x (Ok tt)
       TakesOn-all x taken written = record {
         broken = λ e. cc;
         written = λ _. Written-at (usable_utf8-usable x taken.usable) written;
-        stop = λ _. sym (unusable_at-usable base x taken.usable);
+        stop = λ _. sym (unusable_at-usable place x taken.usable);
         taken = taken;
       }
 
-      pub TakesOn-refused : (x : List ℕ) (c : ℕ) (rest : List ℕ) (at : ℕ) (refusal : Refusal) → is_usable p x ≡ true → at ≡ base + length (encode_utf8_all x)
-          → TakesChar f p normalizer start now x c (Err refusal) → TakesOn f p normalizer start now base ((x ++ c ∷ []) ++ rest) (Err (stop_at at refusal))
+      pub TakesOn-refused : (x : List ℕ) (c : ℕ) (rest : List ℕ) (at : ℕ) (refusal : Refusal) → is_usable p x ≡ true → place x ≡ at
+          → TakesChar f p normalizer start now x c (Err refusal) → TakesOn f p normalizer start now place ((x ++ c ∷ []) ++ rest) (Err (stop_at at refusal))
       TakesOn-refused x c rest at Unsound sound here takes = record {
         broken = λ e. cc;
         written = λ _. Written-at (usable_utf8-stop x c rest sound takes.0) takes.1;
-        stop = λ _. ap (λ n. Some (Refused (Row n))) here ∙ sym (unusable_at-stop base x c rest sound takes.0);
+        stop = λ _. ap (λ n. Some (Refused (Row n))) (sym here) ∙ sym (unusable_at-stop place x c rest sound takes.0);
         taken = tt;
       }
       TakesOn-refused x c rest at Write sound here takes = record {
@@ -87,39 +85,3 @@ pub Puts-emptied : {start : Start} {sink : SinkState} {kept w : List ℕ} → ke
     → Puts start.sink sink start.before (start.ahead ++ w)
 Puts-emptied {start} {sink} {kept} {w} none written =
     Puts-at refl (sym (written.text ∙ ap (λ l. written.given ++ l) none ∙ append-nil written.given)) written.puts
-
-module _ (f : Form) (p : Properties) (normalizer : Normalizer) (base : ℕ) (x y : List ℕ) (sink : SinkState) (sound : is_usable p x ≡ true) where
-  before_is : settled_text f p x ≡ usable_utf8 f p x
-  before_is = usable_utf8-usable p f x sound
-
-  -- the sink failed under way
-  pub TakesText-broken : (now : BlockState) (new : SinkState) (r : Result (Unit {0}) Stop) → r ≡ Err (Refused WriteFault) → now.sink ≡ new → TakesOn f p normalizer (start_at sink (settled_text f p x)) now base (x ++ y) r
-      → TakesText (λ z. HasTaken f p normalizer z) (unusable_at p base) (written_in (Some f) p) x y sink new r
-  TakesText-broken now new r is same takes = record {
-    broken = λ e. BreaksOff-at before_is refl (rw (← same) (takes.broken e));
-    puts = λ no. absurd (no is);
-    stop = λ no. absurd (no is);
-    taken = takes.taken;
-  }
-
-  -- or on what was kept
-  pub TakesText-failed : (now last : BlockState) (new : SinkState) (r : Result (Unit {0}) Stop) → ¬ (r ≡ Err (Refused WriteFault)) → last.sink ≡ new → TakesOn f p normalizer (start_at sink (settled_text f p x)) now base (x ++ y) r
-      → (Written (start_at sink (settled_text f p x)) now (usable_utf8 f p (x ++ y)) → Broken (start_at sink (settled_text f p x)) last (usable_utf8 f p (x ++ y)))
-      → TakesText (λ z. HasTaken f p normalizer z) (unusable_at p base) (written_in (Some f) p) x y sink new (Err (Refused WriteFault))
-  TakesText-failed now last new r whole same takes breaks = record {
-    broken = λ _. BreaksOff-at before_is refl (rw (← same) (breaks (takes.written whole)));
-    puts = λ no. absurd (no refl);
-    stop = λ no. absurd (no refl);
-    taken = tt;
-  }
-
-  -- all was given
-  pub TakesText-given : (now last : BlockState) (new : SinkState) (r : Result (Unit {0}) Stop) → ¬ (r ≡ Err (Refused WriteFault)) → last.sink ≡ new → last.kept ≡ [] → TakesOn f p normalizer (start_at sink (settled_text f p x)) now base (x ++ y) r
-      → (Written (start_at sink (settled_text f p x)) now (usable_utf8 f p (x ++ y)) → Written (start_at sink (settled_text f p x)) last (usable_utf8 f p (x ++ y)))
-      → TakesText (λ z. HasTaken f p normalizer z) (unusable_at p base) (written_in (Some f) p) x y sink new r
-  TakesText-given now last new r whole same none takes writes = record {
-    broken = λ e. absurd (whole e);
-    puts = λ _. rw (← same) (Puts-at before_is refl (Puts-emptied none (writes (takes.written whole))));
-    stop = takes.stop;
-    taken = takes.taken;
-  }

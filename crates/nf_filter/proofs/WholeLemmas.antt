@@ -15,6 +15,7 @@ use Rattle.nf_filter.specs.declared.fault.Fault.TheVariants.{Write, Row}
 use Rattle.nf_filter.specs.declared.tally.Tally.{Tally}
 use Rattle.nf_filter.specs.Devices.{SinkState}
 use Rattle.nf_filter.specs.Writes.{Puts, BreaksOff}
+use Rattle.nf_filter.specs.Policy.{as_is}
 use Rattle.nf_filter.specs.Settled.{settled, is_usable, usable, settled_utf8}
 use Rattle.nf_filter.specs.Faults.{answer_at_end, bad_byte, fault_in}
 use Rattle.nf_filter.specs.Finishes.{tally_of, end_of, whole_or, final_utf8, Finishes}
@@ -35,12 +36,12 @@ is_whole value b (Bad at start) false other told answer none = cc
 is_whole value b (CutEnd at start) usable other told answer none = cc
 
 module _ (p : Properties) where
-  pub ending_whole : (bytes : List ℕ) (tally : Tally) → Ok tally ≡ end_of p 0 bytes → fault_in p 0 bytes ≡ None → ending_of bytes ≡ Whole
+  pub ending_whole : (bytes : List ℕ) (tally : Tally) → Ok tally ≡ end_of as_is p 0 bytes → fault_in as_is p 0 bytes ≡ None → ending_of bytes ≡ Whole
   unfolding end_of fault_in
-  ending_whole bytes tally answer none = is_whole (tally_of p bytes) tally (ending_of bytes) (is_usable p (text_of bytes)) (0 + length (encode_utf8_all (usable p (text_of bytes)))) tally (sym answer) none
+  ending_whole bytes tally answer none = is_whole (tally_of false p bytes) tally (ending_of bytes) (is_usable p (text_of bytes)) (0 + length (encode_utf8_all (usable p (text_of bytes)))) tally (sym answer) none
 
   -- where reading found no fault, all characters can be used
-  is_usable-from : (bytes : List ℕ) → None ≡ fault_in p 0 bytes → is_usable p (text_of bytes) ≡ true
+  is_usable-from : (bytes : List ℕ) → None ≡ fault_in as_is p 0 bytes → is_usable p (text_of bytes) ≡ true
   unfolding fault_in
   is_usable-from bytes none = next (is_usable p (text_of bytes)) (bad_byte 0 (ending_of bytes)) _ none
     where
@@ -50,7 +51,7 @@ module _ (p : Properties) where
 
   whole_answer-faults : (bytes : List ℕ) → IfErr (whole_answer p bytes) IsOfWhole
   unfolding whole_answer end_of fault_in
-  whole_answer-faults bytes = next (is_usable p (text_of bytes)) (ending_of bytes) _ (tally_of p bytes)
+  whole_answer-faults bytes = next (is_usable p (text_of bytes)) (ending_of bytes) _ (tally_of false p bytes)
     where
       next : (b : Bool) (e : Ending) (at : ℕ) (tally : Tally) → IfErr (fault_or (if b then bad_byte 0 e else Some (Row at)) (answer_at_end 0 tally e)) IsOfWhole
       next true Whole at tally = tt
@@ -60,22 +61,22 @@ module _ (p : Properties) where
 
   whole_answer-sound : AreSound p → (bytes : List ℕ) → RefusesNone (whole_answer p bytes)
   unfolding whole_answer end_of
-  whole_answer-sound sound bytes at = next (fault_in p 0 bytes) refl
+  whole_answer-sound sound bytes at = next (fault_in as_is p 0 bytes) refl
     where
-      next : (o : Option Fault) → fault_in p 0 bytes ≡ o → ¬ (fault_or o (answer_at_end 0 (tally_of p bytes) (ending_of bytes)) ≡ Err (Row at))
-      next None told e = not_at_end 0 at (tally_of p bytes) (ending_of bytes) e
-      next (Some fault) told e = not_a_fault p sound 0 at bytes (told ∙ ap Some (let same : fault ≡ Row at = cc in same))
+      next : (o : Option Fault) → fault_in as_is p 0 bytes ≡ o → ¬ (fault_or o (answer_at_end 0 (tally_of false p bytes) (ending_of bytes)) ≡ Err (Row at))
+      next None told e = not_at_end 0 at (tally_of false p bytes) (ending_of bytes) e
+      next (Some fault) told e = not_a_fault p sound 0 at as_is bytes (told ∙ ap Some (let same : fault ≡ Row at = cc in same))
 
 module _ (f : Form) (p : Properties) where
-  pub final_is : (bytes : List ℕ) → ending_of bytes ≡ Whole → final_utf8 f p bytes ≡ encode_utf8_all (safe_form f p (text_of bytes))
+  pub final_is : (bytes : List ℕ) → ending_of bytes ≡ Whole → final_utf8 as_is f p bytes ≡ encode_utf8_all (safe_form f p (text_of bytes))
   unfolding final_utf8
-  final_is bytes end = ap (λ e. whole_or e (settled_utf8 f p bytes) (encode_utf8_all (safe_form f p (text_of bytes)))) end
+  final_is bytes end = ap (λ e. whole_or e (settled_utf8 as_is f p bytes) (encode_utf8_all (safe_form f p (text_of bytes)))) end
 
   settled-whole : (x : List ℕ) → Extends (settled f p x) (safe_form f p x)
   unfolding settled
   settled-whole x = record { more = back p (safe_form f p x); text = sym (front-append-back p (safe_form f p x)) }
 
-  final-extends : (bytes : List ℕ) → is_usable p (text_of bytes) ≡ true → Extends (settled_utf8 f p bytes) (final_utf8 f p bytes)
+  final-extends : (bytes : List ℕ) → is_usable p (text_of bytes) ≡ true → Extends (settled_utf8 as_is f p bytes) (final_utf8 as_is f p bytes)
   unfolding final_utf8 settled_utf8
   final-extends bytes sound = next (ending_of bytes)
     where
@@ -89,26 +90,26 @@ module _ (f : Form) (p : Properties) where
       next (CutEnd at start) = Extends-none _
 
   module _ (bytes : List ℕ) where
-    at_fault : (fault : Fault) → Some fault ≡ fault_in p 0 bytes → settled_utf8 f p bytes ≡ whole_utf8 f p bytes
+    at_fault : (fault : Fault) → Some fault ≡ fault_in as_is p 0 bytes → settled_utf8 as_is f p bytes ≡ whole_utf8 f p bytes
     unfolding whole_utf8
     at_fault fault told = rw (← told) refl
 
-    without : None ≡ fault_in p 0 bytes → final_utf8 f p bytes ≡ whole_utf8 f p bytes
+    without : None ≡ fault_in as_is p 0 bytes → final_utf8 as_is f p bytes ≡ whole_utf8 f p bytes
     unfolding whole_utf8
     without told = rw (← told) refl
 
-    whole-extends : Extends (settled_utf8 f p bytes) (whole_utf8 f p bytes)
-    whole-extends = next (fault_in p 0 bytes) refl
+    whole-extends : Extends (settled_utf8 as_is f p bytes) (whole_utf8 f p bytes)
+    whole-extends = next (fault_in as_is p 0 bytes) refl
       where
-        next : (o : Option Fault) → o ≡ fault_in p 0 bytes → Extends (settled_utf8 f p bytes) (whole_utf8 f p bytes)
-        next None told = subst (Extends (settled_utf8 f p bytes)) (without told) (final-extends bytes (is_usable-from p bytes told))
-        next (Some fault) told = subst (Extends (settled_utf8 f p bytes)) (at_fault fault told) (Extends-none (settled_utf8 f p bytes))
+        next : (o : Option Fault) → o ≡ fault_in as_is p 0 bytes → Extends (settled_utf8 as_is f p bytes) (whole_utf8 f p bytes)
+        next None told = subst (Extends (settled_utf8 as_is f p bytes)) (without told) (final-extends bytes (is_usable-from p bytes told))
+        next (Some fault) told = subst (Extends (settled_utf8 as_is f p bytes)) (at_fault fault told) (Extends-none (settled_utf8 as_is f p bytes))
 
-    answer_at : (fault : Fault) → Some fault ≡ fault_in p 0 bytes → Err fault ≡ whole_answer p bytes
+    answer_at : (fault : Fault) → Some fault ≡ fault_in as_is p 0 bytes → Err fault ≡ whole_answer p bytes
     unfolding whole_answer
     answer_at fault told = rw (← told) refl
 
-    answer_without : None ≡ fault_in p 0 bytes → end_of p 0 bytes ≡ whole_answer p bytes
+    answer_without : None ≡ fault_in as_is p 0 bytes → end_of as_is p 0 bytes ≡ whole_answer p bytes
     unfolding whole_answer
     answer_without told = rw (← told) refl
 
@@ -130,12 +131,12 @@ module _ (f : Form) (p : Properties) where
       }
 
       -- feeding was refused
-      pub Converts-refused : (fault : Fault) → Feeds f p 0 [] bytes old new (Err fault) → Converts f p bytes old new (Err fault)
+      pub Converts-refused : (fault : Fault) → Feeds as_is f p 0 [] bytes old new (Err fault) → Converts f p bytes old new (Err fault)
       Converts-refused fault feeds = ⊎_elim broken other (write_or_not fault)
         where
           broken : fault ≡ Write → Converts f p bytes old new (Err fault)
           broken is =
-              let breaks = BreaksOff-at (settled_utf8-none f p) refl (feeds.broken_off (ap (λ k. Err k) is)) in
+              let breaks = BreaksOff-at (settled_utf8-none as_is f p) refl (feeds.broken_off (ap (λ k. Err k) is)) in
               let all = subst (BreaksOff old new []) (sym whole-extends.text) (BreaksOff-longer whole-extends.more breaks) in
               subst (λ (k : Fault). Converts f p bytes old new (Err k)) (sym is) (Converts-broken all)
 
@@ -144,20 +145,20 @@ module _ (f : Form) (p : Properties) where
               let no : ¬ (let r : Result (Unit {0}) Fault = Err fault in r ≡ Err Write) = λ w. not (let same : fault ≡ Write = cc in same) in
               let told = feeds.answer no in
               Converts-put (Err fault) (λ w. not (let same : fault ≡ Write = cc in same))
-              (Puts-at (settled_utf8-none f p) (at_fault fault told) (feeds.written no)) (answer_at fault told)
+              (Puts-at (settled_utf8-none as_is f p) (at_fault fault told) (feeds.written no)) (answer_at fault told)
 
     -- feeding was not
-    module _ (old mid new : SinkState) (feeds : Feeds f p 0 [] bytes old mid (Ok tt)) where
-      fed : Puts old mid [] (settled_utf8 f p bytes)
-      fed = Puts-at (settled_utf8-none f p) refl (feeds.written (λ w. cc))
+    module _ (old mid new : SinkState) (feeds : Feeds as_is f p 0 [] bytes old mid (Ok tt)) where
+      fed : Puts old mid [] (settled_utf8 as_is f p bytes)
+      fed = Puts-at (settled_utf8-none as_is f p) refl (feeds.written (λ w. cc))
 
-      none : None ≡ fault_in p 0 bytes
+      none : None ≡ fault_in as_is p 0 bytes
       none = feeds.answer (λ w. cc)
 
-      finished : (r : Result Tally Fault) → ¬ (r ≡ Err Write) → Finishes f p 0 bytes mid new r → Converts f p bytes old new r
+      finished : (r : Result Tally Fault) → ¬ (r ≡ Err Write) → Finishes as_is f p 0 bytes mid new r → Converts f p bytes old new r
       finished r other finishes = Converts-put old new r other (Puts-at refl (without none) (Puts-join fed (finishes.written other))) (finishes.answer other ∙ answer_without none)
 
-      pub Converts-finished : (r : Result Tally Fault) → Finishes f p 0 bytes mid new r → Converts f p bytes old new r
+      pub Converts-finished : (r : Result Tally Fault) → Finishes as_is f p 0 bytes mid new r → Converts f p bytes old new r
       Converts-finished (Ok tally) finishes = finished (Ok tally) (λ w. cc) finishes
       Converts-finished (Err fault) finishes = ⊎_elim broken (λ not. finished (Err fault) (λ w. not (let same : fault ≡ Write = cc in same)) finishes) (write_or_not fault)
         where
@@ -180,7 +181,7 @@ module _ (f : Form) (p : Properties) where
     -- what a sink that was empty has then
     module _ (old new : SinkState) (out : List ℕ) (is_old : old.taken ≡ Some []) (is_new : new.taken ≡ Some out) where
       pub IsFormOf-from : (tally : Tally) → Reads bytes (text_of bytes) (ending_of bytes) → Converts f p bytes old new (Ok tally) → IsFormOf f p bytes out
-      IsFormOf-from tally reads converts = next (fault_in p 0 bytes) refl
+      IsFormOf-from tally reads converts = next (fault_in as_is p 0 bytes) refl
         where
           puts : Puts old new [] (whole_utf8 f p bytes)
           puts = converts.written (λ w. cc)
@@ -188,7 +189,7 @@ module _ (f : Form) (p : Properties) where
           taken : out ≡ puts.out
           taken = subst (λ (o : Option (List ℕ)). Appends (Some []) o puts.out) is_new (subst (λ (o : Option (List ℕ)). Appends o new.taken puts.out) is_old puts.given)
 
-          next : (o : Option Fault) → o ≡ fault_in p 0 bytes → IsFormOf f p bytes out
+          next : (o : Option Fault) → o ≡ fault_in as_is p 0 bytes → IsFormOf f p bytes out
           next (Some fault) told = let answer = converts.answer (λ w. cc) ∙ sym (answer_at fault told) in cc
           next None told =
               let end = ending_whole p bytes tally (converts.answer (λ w. cc) ∙ sym (answer_without told)) (sym told) in (

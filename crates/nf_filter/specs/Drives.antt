@@ -1,26 +1,49 @@
 -- What driving a filter over a source answers and writes.
-use Rattle.std.specs.Prelude.{◌≡◌, true, false, Bool, ℕ, ◌+◌, ◌<◌, ◌≤◌, ◌↔◌, ◌⊎◌, List, [], ◌++◌, length, None, IsTrue, IsFalse, IsErr, Result, Err, ◌^◌}
+use Rattle.std.specs.Prelude.{◌≡◌, true, false, Bool, ℕ, ◌+◌, ◌<◌, ◌≤◌, ◌↔◌, ◌⊎◌, List, [], ◌++◌, length, None, IsTrue, IsFalse, IsErr, OnOk, Result, Err, ◌^◌}
 use Rattle.std.specs.Io.KnownBytes.{Consumes, IsAtEnd}
 use Rattle.std.specs.Result.{result_err}
 use Rattle.nf_forms.specs.Properties.{Properties}
 use Rattle.nf_forms.specs.declared.form.Form.{Form}
 use Rattle.nf_filter.specs.declared.fault.Fault.{Fault}
 use Rattle.nf_filter.specs.declared.fault.Fault.TheVariants.{TooLong, Read, Write}
+use Rattle.nf_filter.specs.declared.policy.Policy.{Policy}
+use Rattle.nf_filter.specs.declared.filter.State.{State}
 use Rattle.nf_filter.specs.declared.tally.Tally.{Tally}
 use Rattle.nf_filter.specs.Devices.{SinkState, SourceState}
 use Rattle.nf_filter.specs.Writes.{Puts, BreaksOff}
 use Rattle.nf_filter.specs.Settled.{settled_utf8}
 use Rattle.nf_filter.specs.Faults.{fault_in}
+use Rattle.nf_filter.specs.Filter.{StandsAfter}
 use Rattle.nf_filter.specs.Finishes.{end_of, final_utf8}
 
+-- the filter stood after `bytes`, the first of which has the offset `base`, and was fed what the source gave, of which at
+-- most `most` bytes are asked for at once, to its end or to a refusal; `state` is where it stands then
+pub record FeedsAll (most : ℕ) (policy : Policy) (f : Form) (p : Properties) (base : ℕ) (bytes : List ℕ) (source left : SourceState) (old new : SinkState) (state : State) (result : Result (Unit {0}) Fault) : Type 0 where
+  -- what was fed, and the piece that was too long to be fed
+  pub fed : List ℕ
+  pub last : List ℕ
+  pub given : Consumes source.coming left.coming (fed ++ last)
+  pub few : length last ≤ most
+  -- at its end the source has nothing left
+  pub read_out : IsTrue left.is_at_end → IsAtEnd left.coming
+  pub too_long : (result ≡ Err TooLong) ↔ (2 ^ 64 ≤ base + length bytes + length fed + length last)
+  pub all_fed : ¬ (result ≡ Err TooLong) → last ≡ []
+  -- the sink failed on what is settled, or all of it was written
+  pub broken_off : result ≡ Err Write → BreaksOff old new (settled_utf8 policy f p bytes) (settled_utf8 policy f p (bytes ++ fed))
+  pub written : ¬ (result ≡ Err Write) → Puts old new (settled_utf8 policy f p bytes) (settled_utf8 policy f p (bytes ++ fed))
+  -- what was fed has no fault where the source failed or a piece was too long, and else its fault is told
+  pub no_fault : (result ≡ Err Read) ⊎ (result ≡ Err TooLong) → fault_in policy p base (bytes ++ fed) ≡ None
+  pub answer : ¬ (result ≡ Err Write) → ¬ (result ≡ Err Read) → ¬ (result ≡ Err TooLong) → result_err result ≡ fault_in policy p base (bytes ++ fed)
+  pub stands : OnOk result (StandsAfter policy f p state (bytes ++ fed))
+
 -- what is written once these bytes are read: all where the source ended
-abbrev pub due_utf8 : Bool → Form → Properties → List ℕ → List ℕ
-due_utf8 true f p bytes = final_utf8 f p bytes
-due_utf8 false f p bytes = settled_utf8 f p bytes
+abbrev pub due_utf8 : Bool → Policy → Form → Properties → List ℕ → List ℕ
+due_utf8 true policy f p bytes = final_utf8 policy f p bytes
+due_utf8 false policy f p bytes = settled_utf8 policy f p bytes
 
 -- the filter stands after `bytes`, the first of which has the offset `base`, and the source, of which at most `most`
 -- bytes are asked for at once, is at its end or not
-pub record Drives (most : ℕ) (f : Form) (p : Properties) (base : ℕ) (bytes : List ℕ) (source left : SourceState) (old new : SinkState) (result : Result Tally Fault) : Type 0 where
+pub record Drives (most : ℕ) (policy : Policy) (f : Form) (p : Properties) (base : ℕ) (bytes : List ℕ) (source left : SourceState) (old new : SinkState) (result : Result Tally Fault) : Type 0 where
   -- what was fed, and the piece that was too long to be fed
   pub fed : List ℕ
   pub last : List ℕ
@@ -31,12 +54,12 @@ pub record Drives (most : ℕ) (f : Form) (p : Properties) (base : ℕ) (bytes :
   pub too_long : (result ≡ Err TooLong) ↔ (2 ^ 64 ≤ base + length bytes + length fed + length last)
   pub all_fed : ¬ (result ≡ Err TooLong) → last ≡ []
   -- the sink failed on what was to be written, or stood failed
-  pub write : (result ≡ Err Write) ↔ (IsTrue new.is_failed × (length (settled_utf8 f p bytes) < length (due_utf8 left.is_at_end f p (bytes ++ fed))))
-  pub broken_off : result ≡ Err Write → BreaksOff old new (settled_utf8 f p bytes) (due_utf8 left.is_at_end f p (bytes ++ fed))
-  pub written : ¬ (result ≡ Err Write) → Puts old new (settled_utf8 f p bytes) (due_utf8 left.is_at_end f p (bytes ++ fed))
+  pub write : (result ≡ Err Write) ↔ (IsTrue new.is_failed × (length (settled_utf8 policy f p bytes) < length (due_utf8 left.is_at_end policy f p (bytes ++ fed))))
+  pub broken_off : result ≡ Err Write → BreaksOff old new (settled_utf8 policy f p bytes) (due_utf8 left.is_at_end policy f p (bytes ++ fed))
+  pub written : ¬ (result ≡ Err Write) → Puts old new (settled_utf8 policy f p bytes) (due_utf8 left.is_at_end policy f p (bytes ++ fed))
   -- what was fed has no fault where the source ended, or was stopped before more was fed
-  pub no_fault : IsTrue left.is_at_end ⊎ ((result ≡ Err Read) ⊎ (result ≡ Err TooLong)) → fault_in p base (bytes ++ fed) ≡ None
+  pub no_fault : IsTrue left.is_at_end ⊎ ((result ≡ Err Read) ⊎ (result ≡ Err TooLong)) → fault_in policy p base (bytes ++ fed) ≡ None
   -- the filter was finished where the source is at its end, and else stopped by a fault
-  pub finished : IsTrue left.is_at_end → ¬ (result ≡ Err Write) → result ≡ end_of p base (bytes ++ fed)
+  pub finished : IsTrue left.is_at_end → ¬ (result ≡ Err Write) → result ≡ end_of policy p base (bytes ++ fed)
   pub stopped : IsFalse left.is_at_end → ¬ (result ≡ Err Write) → ¬ (result ≡ Err Read) → ¬ (result ≡ Err TooLong)
-      → IsErr result × (result_err result ≡ fault_in p base (bytes ++ fed))
+      → IsErr result × (result_err result ≡ fault_in policy p base (bytes ++ fed))

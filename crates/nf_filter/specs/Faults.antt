@@ -1,10 +1,12 @@
 -- The fault at which the reading of bytes stops (The Unicode Standard, section 3.9; UAX #15, section 13).
-use Rattle.std.specs.Prelude.{ℕ, ◌+◌, List, length, Option, Some, None, Result, Ok, Err, if◌then◌else◌, encode_utf8_all}
+use Rattle.std.specs.Prelude.{true, false, Bool, ℕ, ◌+◌, ◌==◌, List, length, Option, Some, None, Result, Ok, Err, if◌then◌else◌}
 use Rattle.nf_forms.specs.Properties.{Properties}
 use Rattle.nf_utf8.specs.Ending.{Ending, Whole, Bad, Cut}
-use Rattle.nf_utf8.specs.Reading.{text_of, ending_of}
+use Rattle.nf_utf8.specs.Reading.{ending_of}
 use Rattle.nf_filter.specs.declared.fault.Fault.{Fault}
-use Rattle.nf_filter.specs.declared.fault.Fault.TheVariants.{Spent, TooLong, Read, Write, Row, BadByte, Cut as CutShort}
+use Rattle.nf_filter.specs.declared.fault.Fault.TheVariants.{Spent, TooLong, Read, Write, Row, BadByte, Cut as CutShort, Unassigned}
+use Rattle.nf_filter.specs.declared.policy.Policy.{Policy}
+use Rattle.nf_filter.specs.Policy.{text_under, len_under, allowed}
 use Rattle.nf_filter.specs.Settled.{is_usable, usable}
 
 -- that of an ending, where the first byte has the offset `base`
@@ -20,9 +22,55 @@ answer_at_end base value Whole = Ok value
 answer_at_end base value (Bad at start) = Ok value
 answer_at_end base value (Cut at start) = Err (CutShort (base + at) (base + start))
 
--- at the first character that cannot be used, or else at the first ill-formed byte
-unfoldable pub fault_in : Properties → ℕ → List ℕ → Option Fault
-fault_in p base bytes = if is_usable p (text_of bytes) then bad_byte base (ending_of bytes) else Some (Row (base + length (encode_utf8_all (usable p (text_of bytes)))))
+-- that of a bad byte, unless it is replaced
+abbrev pub bad_under : Bool → ℕ → List ℕ → Option Fault
+bad_under false base bytes = bad_byte base (ending_of bytes)
+bad_under true base bytes = None
+
+-- at the first character of a text that is not taken, or else another; `place` tells where what stands behind a front of
+-- it begins
+abbrev pub first_fault : Bool → Properties → (List ℕ → ℕ) → List ℕ → Option Fault → Option Fault
+first_fault false p place x other = if is_usable p x then other else Some (Row (place (usable p x)))
+first_fault true p place x other = if is_usable p (allowed true p x)
+    then (if length (allowed true p x) == length x then other else Some (Unassigned (place (allowed true p x))))
+    else Some (Row (place (usable p (allowed true p x))))
+
+-- at the first character that is not taken, or else at the first ill-formed byte
+unfoldable pub fault_in : Policy → Properties → ℕ → List ℕ → Option Fault
+fault_in policy p base bytes = first_fault policy.assigned p (λ front. base + len_under policy.replace bytes front) (text_under policy.replace bytes) (bad_under policy.replace base bytes)
+
+-- the faults of taking a character
+abbrev pub IsOfTaking : Fault → Type 0
+IsOfTaking Spent = ⊥
+IsOfTaking TooLong = ⊥
+IsOfTaking Read = ⊥
+IsOfTaking Write = Unit {0}
+IsOfTaking (Row at) = Unit {0}
+IsOfTaking (BadByte at start) = ⊥
+IsOfTaking (CutShort at start) = ⊥
+IsOfTaking (Unassigned at) = Unit {0}
+
+-- those of reading a piece
+abbrev pub IsOfReading : Fault → Type 0
+IsOfReading Spent = ⊥
+IsOfReading TooLong = ⊥
+IsOfReading Read = ⊥
+IsOfReading Write = Unit {0}
+IsOfReading (Row at) = Unit {0}
+IsOfReading (BadByte at start) = Unit {0}
+IsOfReading (CutShort at start) = ⊥
+IsOfReading (Unassigned at) = Unit {0}
+
+-- those of the end of all bytes
+abbrev pub IsOfClosing : Fault → Type 0
+IsOfClosing Spent = ⊥
+IsOfClosing TooLong = ⊥
+IsOfClosing Read = ⊥
+IsOfClosing Write = Unit {0}
+IsOfClosing (Row at) = Unit {0}
+IsOfClosing (BadByte at start) = ⊥
+IsOfClosing (CutShort at start) = Unit {0}
+IsOfClosing (Unassigned at) = Unit {0}
 
 -- the faults of feeding a piece
 abbrev pub IsOfFeeding : Fault → Type 0
@@ -33,16 +81,7 @@ IsOfFeeding Write = Unit {0}
 IsOfFeeding (Row at) = Unit {0}
 IsOfFeeding (BadByte at start) = Unit {0}
 IsOfFeeding (CutShort at start) = ⊥
-
--- those of feeding all that a source gives
-abbrev pub IsOfDriving : Fault → Type 0
-IsOfDriving Spent = ⊥
-IsOfDriving TooLong = Unit {0}
-IsOfDriving Read = Unit {0}
-IsOfDriving Write = Unit {0}
-IsOfDriving (Row at) = Unit {0}
-IsOfDriving (BadByte at start) = Unit {0}
-IsOfDriving (CutShort at start) = Unit {0}
+IsOfFeeding (Unassigned at) = Unit {0}
 
 -- those of finishing
 abbrev pub IsOfFinishing : Fault → Type 0
@@ -50,6 +89,7 @@ IsOfFinishing Spent = Unit {0}
 IsOfFinishing TooLong = ⊥
 IsOfFinishing Read = ⊥
 IsOfFinishing Write = Unit {0}
-IsOfFinishing (Row at) = ⊥
+IsOfFinishing (Row at) = Unit {0}
 IsOfFinishing (BadByte at start) = ⊥
 IsOfFinishing (CutShort at start) = Unit {0}
+IsOfFinishing (Unassigned at) = Unit {0}

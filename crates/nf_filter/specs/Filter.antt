@@ -1,11 +1,12 @@
 -- Where a filter stands.
-use Rattle.std.specs.Prelude.{◌≡◌, false, Bool, ℕ, List}
+use Rattle.std.specs.Prelude.{◌≡◌, false, Bool, ℕ, List, [], None}
 use Rattle.nf_forms.specs.Properties.{Properties}
 use Rattle.nf_forms.specs.declared.form.Form.{Form}
 use Rattle.nf_filter.specs.declared.filter.Filter.{Filter}
 use Rattle.nf_filter.specs.declared.filter.State.{State}
-use Rattle.nf_filter.specs.Normalizer.{HasTaken, unusable_at}
-use Rattle.nf_filter.specs.Taker.{HasRead}
+use Rattle.nf_filter.specs.declared.policy.Policy.{Policy}
+use Rattle.nf_filter.specs.Faults.{fault_in}
+use Rattle.nf_filter.specs.Feeding.{HasReadTo}
 
 abbrev pub rows_of : {R : Type 0} → Filter R → R
 rows_of filter = filter.rows.now
@@ -25,7 +26,9 @@ offset_of state = state.reading.offset
 abbrev pub is_spent : State → Bool
 is_spent state = state.spent
 
--- it has taken exactly these bytes, and no call was refused but for their length
-pub record StandsAfter (f : Form) (p : Properties) (state : State) (bytes : List ℕ) : Type 0 where
+-- under the policy it has taken exactly these bytes, and no call was refused but for their length
+pub record StandsAfter (policy : Policy) (f : Form) (p : Properties) (state : State) (bytes : List ℕ) : Type 0 where
   pub unspent : is_spent state ≡ false
-  pub reading : HasRead (HasTaken f p state.normalizer) (unusable_at p (base_of state)) (base_of state) state.reading bytes
+  pub policy_is : state.policy ≡ policy
+  pub reading : HasReadTo policy f p state.normalizer (base_of state) state.reading bytes []
+  pub no_fault : fault_in policy p (base_of state) bytes ≡ None

@@ -3,6 +3,7 @@ pub mod Writes
 pub mod ToWriter
 pub mod FromReader
 pub mod Block
+pub mod Policy
 pub mod Settled
 pub mod Laws
 pub mod Faults
@@ -10,6 +11,7 @@ pub mod Normalizer
 pub mod Taker
 pub mod Taking
 pub mod Closing
+pub mod Feeding
 pub mod Sources
 pub mod Filter
 pub mod Feeds

@@ -8,12 +8,13 @@ use Rattle.nf_safe.specs.Measurer.{values_of, StandsAfter}
 use Rattle.nf_safe.specs.Measures.{measure_of}
 use Rattle.nf_filter.specs.declared.fault.Fault.{Fault}
 use Rattle.nf_filter.specs.declared.taker.Stop.{Stop}
+use Rattle.nf_filter.specs.Policy.{as_is}
 use Rattle.nf_filter.specs.Faults.{fault_in}
-use Rattle.nf_filter.specs.Normalizer.{unusable_at}
+use Rattle.nf_filter.specs.Normalizer.{unusable_at, utf8_place}
 
 -- only a fault stops a measurement, the one at which a filter stops
 abbrev pub measure_decision : Properties → ℕ → List ℕ → Option (Result Measure Fault)
-measure_decision p base bytes = option_map Err (fault_in p base bytes)
+measure_decision p base bytes = option_map Err (fault_in as_is p base bytes)
 
 -- the measure of the text that the bytes spell
 abbrev pub text_measure : Properties → List ℕ → Measure
@@ -30,4 +31,4 @@ ends_at measurer at = (values_of measurer).bytes ≤ at
 -- the text x was measured, or what stops it in that
 abbrev pub SeesText : Properties → Measurer → ℕ → List ℕ → Result (Unit {0}) Stop → Type 0
 SeesText p measurer base x (Ok _) = HasMeasured p measurer base x
-SeesText p measurer base x (Err stop) = unusable_at p base x ≡ Some stop
+SeesText p measurer base x (Err stop) = unusable_at p (utf8_place base) x ≡ Some stop

@@ -97,21 +97,25 @@ abbrev pub stop_at : ℕ → Refusal → Stop
 stop_at at Unsound = Refused (Row at)
 stop_at at Write = Refused WriteFault
 
--- what stops it in a text, the first byte of which has the offset `base`
-unfoldable pub unusable_at : Properties → ℕ → List ℕ → Option Stop
-unusable_at p base x = if is_usable p x then None else Some (Refused (Row (base + length (encode_utf8_all (usable p x)))))
+-- where what stands behind a front of UTF-8 begins, the first byte of which has the offset `base`
+abbrev pub utf8_place : ℕ → List ℕ → ℕ
+utf8_place base front = base + length (encode_utf8_all front)
+
+-- so `place` tells it of each character of the text y, which begins at the offset `at` behind x
+abbrev pub IsPlacedAt : (List ℕ → ℕ) → ℕ → List ℕ → List ℕ → Type 0
+IsPlacedAt place at x y = (front : List ℕ) (c : ℕ) (rest : List ℕ) → y ≡ front ++ c ∷ rest → place (x ++ front) ≡ at + length (encode_utf8_all front)
+
+-- what stops it in a text, by where what stands behind a front of it begins
+unfoldable pub unusable_at : Properties → (List ℕ → ℕ) → List ℕ → Option Stop
+unusable_at p place x = if is_usable p x then None else Some (Refused (Row (place (usable p x))))
 
 -- what it has written of a text
 unfoldable pub usable_utf8 : Form → Properties → List ℕ → List ℕ
 usable_utf8 f p x = settled_text f p (usable p x)
 
-abbrev pub written_in : Option Form → Properties → List ℕ → List ℕ
-written_in (Some f) p x = usable_utf8 f p x
-written_in None p x = []
-
 -- the text x was taken, or why not all of it
-pub record TakesOn (f : Form) (p : Properties) (normalizer : Normalizer) (start : Start) (now : BlockState) (base : ℕ) (x : List ℕ) (result : Result (Unit {0}) Stop) : Type 0 where
+pub record TakesOn (f : Form) (p : Properties) (normalizer : Normalizer) (start : Start) (now : BlockState) (place : List ℕ → ℕ) (x : List ℕ) (result : Result (Unit {0}) Stop) : Type 0 where
   pub broken : result ≡ Err (Refused WriteFault) → Broken start now (usable_utf8 f p x)
   pub written : ¬ (result ≡ Err (Refused WriteFault)) → Written start now (usable_utf8 f p x)
-  pub stop : ¬ (result ≡ Err (Refused WriteFault)) → result_err result ≡ unusable_at p base x
+  pub stop : ¬ (result ≡ Err (Refused WriteFault)) → result_err result ≡ unusable_at p place x
   pub taken : OnOk result (HasTaken f p normalizer x)

@@ -8,8 +8,9 @@ use Rattle.nf_forms.specs.Front.{front}
 use Rattle.nf_forms.specs.StreamSafe.{stream_safe}
 use Rattle.nf_forms.specs.SafeForm.{safe_form}
 use Rattle.nf_forms.specs.Sound.{is_sound}
-use Rattle.nf_utf8.specs.Reading.{text_of}
 use Rattle.nf_safe.specs.LongestFront.{longest_front}
+use Rattle.nf_filter.specs.declared.policy.Policy.{Policy}
+use Rattle.nf_filter.specs.Policy.{text_under, allowed}
 
 -- what of the form of the stream-safe text stands before its last starter
 unfoldable pub settled : Form → Properties → List ℕ → List ℕ
@@ -23,6 +24,6 @@ is_usable p x = list_all (is_sound p) (stream_safe p x)
 unfoldable pub usable : Properties → List ℕ → List ℕ
 usable p x = take (longest_front (is_usable p) x) x
 
--- the UTF-8 of what is settled of the text that the bytes spell, as far as that can be used
-unfoldable pub settled_utf8 : Form → Properties → List ℕ → List ℕ
-settled_utf8 f p bytes = encode_utf8_all (settled f p (usable p (text_of bytes)))
+-- the UTF-8 of what is settled of the text that the bytes give, as far as that is taken
+unfoldable pub settled_utf8 : Policy → Form → Properties → List ℕ → List ℕ
+settled_utf8 policy f p bytes = encode_utf8_all (settled f p (usable p (allowed policy.assigned p (text_under policy.replace bytes))))

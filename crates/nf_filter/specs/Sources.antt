@@ -4,7 +4,7 @@ use Rattle.std.specs.Result.{result_err}
 use Rattle.std.specs.Io.KnownBytes.{Consumes, IsAtEnd}
 use Rattle.nf_utf8.specs.Reading.{text_of, ending_of}
 use Rattle.nf_filter.specs.declared.fault.Fault.{Fault}
-use Rattle.nf_filter.specs.declared.fault.Fault.TheVariants.{Spent, TooLong, Read, Write, Row, BadByte, Cut}
+use Rattle.nf_filter.specs.declared.fault.Fault.TheVariants.{Spent, TooLong, Read, Write, Row, BadByte, Cut, Unassigned}
 use Rattle.nf_filter.specs.declared.taker.Stop.{Stop}
 use Rattle.nf_filter.specs.declared.taker.Stop.TheVariants.{Refused, Found}
 use Rattle.nf_filter.specs.declared.reading.Reading.{Reading}
@@ -22,6 +22,7 @@ MayStopAll finds (Refused Write) = Unit {0}
 MayStopAll finds (Refused (Row at)) = Unit {0}
 MayStopAll finds (Refused (BadByte at start)) = Unit {0}
 MayStopAll finds (Refused (Cut at start)) = Unit {0}
+MayStopAll finds (Refused (Unassigned at)) = ⊥
 MayStopAll true (Found place) = Unit {0}
 MayStopAll false (Found place) = ⊥
 
@@ -34,6 +35,7 @@ IsCutStop (Refused Write) = ⊥
 IsCutStop (Refused (Row at)) = ⊥
 IsCutStop (Refused (BadByte at start)) = ⊥
 IsCutStop (Refused (Cut at start)) = Unit {0}
+IsCutStop (Refused (Unassigned at)) = ⊥
 IsCutStop (Found place) = ⊥
 
 -- the end, by the ending of all bytes

@@ -3,7 +3,7 @@ use Rattle.std.specs.Prelude.{◌≡◌, ℕ, ◌+◌, ◌≤◌, ◌↔◌, ◌
 use Rattle.std.specs.Io.KnownBytes.{Consumes, IsAtEnd}
 use Rattle.nf_utf8.specs.Reading.{ending_of}
 use Rattle.nf_filter.specs.declared.fault.Fault.{Fault}
-use Rattle.nf_filter.specs.declared.fault.Fault.TheVariants.{Spent, TooLong, Read, Write, Row, BadByte, Cut}
+use Rattle.nf_filter.specs.declared.fault.Fault.TheVariants.{Spent, TooLong, Read, Write, Row, BadByte, Cut, Unassigned}
 use Rattle.nf_filter.specs.Devices.{SourceState}
 use Rattle.nf_filter.specs.Faults.{answer_at_end}
 
@@ -34,6 +34,7 @@ IsOfSurvey Write = ⊥
 IsOfSurvey (Row at) = Unit {0}
 IsOfSurvey (BadByte at start) = Unit {0}
 IsOfSurvey (Cut at start) = Unit {0}
+IsOfSurvey (Unassigned at) = ⊥
 
 -- the input ended inside a character
 abbrev pub IsCut : Fault → Type 0
@@ -44,3 +45,4 @@ IsCut Write = ⊥
 IsCut (Row at) = ⊥
 IsCut (BadByte at start) = ⊥
 IsCut (Cut at start) = Unit {0}
+IsCut (Unassigned at) = ⊥

@@ -4,7 +4,7 @@ use Rattle.std.specs.Result.{result_err}
 use Rattle.nf_utf8.specs.Reading.{text_of, ending_of}
 use Rattle.nf_utf8.specs.Standing.{StandsAfter as DecoderStandsAfter}
 use Rattle.nf_filter.specs.declared.fault.Fault.{Fault}
-use Rattle.nf_filter.specs.declared.fault.Fault.TheVariants.{Spent, TooLong, Read, Write, Row, BadByte, Cut}
+use Rattle.nf_filter.specs.declared.fault.Fault.TheVariants.{Spent, TooLong, Read, Write, Row, BadByte, Cut, Unassigned}
 use Rattle.nf_filter.specs.declared.taker.Stop.{Stop}
 use Rattle.nf_filter.specs.declared.taker.Stop.TheVariants.{Refused, Found}
 use Rattle.nf_filter.specs.declared.reading.Reading.{Reading}
@@ -26,6 +26,7 @@ MayStop finds (Refused Write) = Unit {0}
 MayStop finds (Refused (Row at)) = Unit {0}
 MayStop finds (Refused (BadByte at start)) = ⊥
 MayStop finds (Refused (Cut at start)) = ⊥
+MayStop finds (Refused (Unassigned at)) = ⊥
 MayStop true (Found place) = Unit {0}
 MayStop false (Found place) = ⊥
 
@@ -38,6 +39,7 @@ StopsQuietly finds (Refused Write) = ⊥
 StopsQuietly finds (Refused (Row at)) = Unit {0}
 StopsQuietly finds (Refused (BadByte at start)) = ⊥
 StopsQuietly finds (Refused (Cut at start)) = ⊥
+StopsQuietly finds (Refused (Unassigned at)) = ⊥
 StopsQuietly true (Found place) = Unit {0}
 StopsQuietly false (Found place) = ⊥
 
@@ -86,5 +88,6 @@ MayStopReading finds (Refused Write) = Unit {0}
 MayStopReading finds (Refused (Row at)) = Unit {0}
 MayStopReading finds (Refused (BadByte at start)) = Unit {0}
 MayStopReading finds (Refused (Cut at start)) = ⊥
+MayStopReading finds (Refused (Unassigned at)) = ⊥
 MayStopReading true (Found place) = Unit {0}
 MayStopReading false (Found place) = ⊥

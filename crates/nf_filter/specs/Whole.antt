@@ -5,10 +5,11 @@ use Rattle.nf_forms.specs.declared.form.Form.{Form}
 use Rattle.nf_forms.specs.SafeForm.{safe_form}
 use Rattle.nf_utf8.specs.Text.{IsText}
 use Rattle.nf_filter.specs.declared.fault.Fault.{Fault}
-use Rattle.nf_filter.specs.declared.fault.Fault.TheVariants.{Spent, TooLong, Read, Write, Row, BadByte, Cut}
+use Rattle.nf_filter.specs.declared.fault.Fault.TheVariants.{Spent, TooLong, Read, Write, Row, BadByte, Cut, Unassigned}
 use Rattle.nf_filter.specs.declared.tally.Tally.{Tally}
 use Rattle.nf_filter.specs.Devices.{SinkState}
 use Rattle.nf_filter.specs.Writes.{Puts, BreaksOff}
+use Rattle.nf_filter.specs.Policy.{as_is}
 use Rattle.nf_filter.specs.Settled.{settled_utf8}
 use Rattle.nf_filter.specs.Faults.{fault_in}
 use Rattle.nf_filter.specs.Finishes.{end_of, final_utf8}
@@ -23,11 +24,11 @@ fault_or (Some fault) end = Err fault
 
 -- the first fault, or what was taken
 unfoldable pub whole_answer : Properties → List ℕ → Result Tally Fault
-whole_answer p bytes = fault_or (fault_in p 0 bytes) (end_of p 0 bytes)
+whole_answer p bytes = fault_or (fault_in as_is p 0 bytes) (end_of as_is p 0 bytes)
 
 -- the whole form, or what of it is settled before the fault
 unfoldable pub whole_utf8 : Form → Properties → List ℕ → List ℕ
-whole_utf8 f p bytes = if is_some (fault_in p 0 bytes) then settled_utf8 f p bytes else final_utf8 f p bytes
+whole_utf8 f p bytes = if is_some (fault_in as_is p 0 bytes) then settled_utf8 as_is f p bytes else final_utf8 as_is f p bytes
 
 pub record Converts (f : Form) (p : Properties) (bytes : List ℕ) (old new : SinkState) (result : Result Tally Fault) : Type 0 where
   -- the sink failed on what was to be written, or stood failed
@@ -45,3 +46,4 @@ IsOfWhole Write = Unit {0}
 IsOfWhole (Row at) = Unit {0}
 IsOfWhole (BadByte at start) = Unit {0}
 IsOfWhole (Cut at start) = Unit {0}
+IsOfWhole (Unassigned at) = ⊥

@@ -1,9 +1,11 @@
-ghost use Rattle.std.specs.Prelude.{◌≡◌, ◌<◌, ◌↔◌, ℕ, List, [], length, IsTrue, IsFalse, OnOk};
+ghost use Rattle.std.specs.Prelude.{◌≡◌, ◌<◌, ◌↔◌, ℕ, List, [], length, IsTrue, IsFalse, OnOk, is_ok};
 ghost use Rattle.nf_forms.specs.declared.form.Form.{Form};
 ghost use Rattle.nf_filter.specs.Filter.{rows_of, state_of, base_of, is_spent, StandsAfter};
-ghost use Rattle.nf_filter.specs.Drives.{Drives};
+ghost use Rattle.nf_filter.specs.declared.policy.Policy.{Policy};
+ghost use Rattle.nf_filter.specs.Policy.{as_is};
+ghost use Rattle.nf_filter.specs.Drives.{FeedsAll, Drives};
 
-use crate::devices::{Sink, Source};
+use crate::devices::{Failed, Sink, Source};
 use crate::fault::Fault;
 use crate::filter::Filter;
 use crate::sources::BLOCK;
@@ -21,8 +23,8 @@ pub fn drive<R: Rows, I: Source, S: Sink>(
     ensures read { IsFalse (is_spent (state_of filter.entry)) → ((result ≡ Err Fault.Read) ↔ IsTrue (I.state source.new).is_failed) }
     ensures end { OnOk result (IsTrue (I.state source.new).is_at_end) }
     ensures drives { let p = R.properties (rows_of filter.entry) in
-        (f : Form) (bytes : List ℕ) → StandsAfter f p (state_of filter.entry) bytes
-        → Drives 4096 f p (base_of (state_of filter.entry)) bytes (I.state source.old) (I.state source.new) (S.state sink.old) (S.state sink.new) result }
+        (policy : Policy) (f : Form) (bytes : List ℕ) → StandsAfter policy f p (state_of filter.entry) bytes
+        → Drives 4096 policy f p (base_of (state_of filter.entry)) bytes (I.state source.old) (I.state source.new) (S.state sink.old) (S.state sink.new) result }
     ensures lenders { ((I.state source.new).lender ≡ (I.state source.old).lender) × ((S.state sink.new).lender ≡ (S.state sink.old).lender) }
 {
     let mut buffer = [0; BLOCK];
@@ -42,15 +44,15 @@ pub fn drive_buffered<R: Rows, I: Source, S: Sink>(
     ensures read { IsFalse (is_spent (state_of filter.entry)) → ((result ≡ Err Fault.Read) ↔ IsTrue (I.state source.new).is_failed) }
     ensures end { OnOk result (IsTrue (I.state source.new).is_at_end) }
     ensures drives { let p = R.properties (rows_of filter.entry) in
-        (f : Form) (bytes : List ℕ) → StandsAfter f p (state_of filter.entry) bytes
-        → Drives (length buffer.old) f p (base_of (state_of filter.entry)) bytes (I.state source.old) (I.state source.new) (S.state sink.old) (S.state sink.new) result }
+        (policy : Policy) (f : Form) (bytes : List ℕ) → StandsAfter policy f p (state_of filter.entry) bytes
+        → Drives (length buffer.old) policy f p (base_of (state_of filter.entry)) bytes (I.state source.old) (I.state source.new) (S.state sink.old) (S.state sink.new) result }
     ensures lenders { ((I.state source.new).lender ≡ (I.state source.old).lender) × ((S.state sink.new).lender ≡ (S.state sink.old).lender) }
 {
     let mut filter = filter;
     if filter.spent() {
         return Err(Fault::Spent);
     }
-    if let Err(fault) = filter.feed_all(source, sink, buffer) {
+    if let Err(fault) = feed_all(&mut filter, source, sink, buffer) {
         return Err(fault);
     }
     filter.finish(sink)
@@ -67,8 +69,42 @@ pub fn run<R: Rows, I: Source, S: Sink>(
     ensures unspent { ¬ (result ≡ Err Fault.Spent) }
     ensures read { (result ≡ Err Fault.Read) ↔ IsTrue (I.state source.new).is_failed }
     ensures end { OnOk result (IsTrue (I.state source.new).is_at_end) }
-    ensures drives { Drives 4096 form (R.properties rows.now) base [] (I.state source.old) (I.state source.new) (S.state sink.old) (S.state sink.new) result }
+    ensures drives { Drives 4096 as_is form (R.properties rows.now) base [] (I.state source.old) (I.state source.new) (S.state sink.old) (S.state sink.new) result }
     ensures lenders { ((I.state source.new).lender ≡ (I.state source.old).lender) × ((S.state sink.new).lender ≡ (S.state sink.old).lender) }
 {
     drive(Filter::new(rows, form, base), source, sink)
+}
+
+/// Feeds what the source gives, in pieces that fit into the buffer, until its end.
+fn feed_all<R: Rows, I: Source, S: Sink>(
+    filter: &mut Filter<'_, R>,
+    source: &mut I,
+    sink: &mut S,
+    buffer: &mut [u8],
+) -> Result<(), Fault>
+    requires some { 0 < length buffer.old }
+    requires unspent { IsFalse (is_spent (state_of filter.old)) }
+    ensures rows { rows_of filter.new ≡ rows_of filter.old }
+    ensures base { base_of (state_of filter.new) ≡ base_of (state_of filter.old) }
+    ensures unspent { OnOk result (IsFalse (is_spent (state_of filter.new))) }
+    ensures not_spent { ¬ (result ≡ Err Fault.Spent) }
+    ensures read { (result ≡ Err Fault.Read) ↔ IsTrue (I.state source.new).is_failed }
+    ensures end { (I.state source.new).is_at_end ≡ is_ok result }
+    ensures feeds { let p = R.properties (rows_of filter.old) in
+        (policy : Policy) (f : Form) (bytes : List ℕ) → StandsAfter policy f p (state_of filter.old) bytes
+        → FeedsAll (length buffer.old) policy f p (base_of (state_of filter.old)) bytes (I.state source.old) (I.state source.new) (S.state sink.old) (S.state sink.new) (state_of filter.new) result }
+    ensures lenders { ((I.state source.new).lender ≡ (I.state source.old).lender) × ((S.state sink.new).lender ≡ (S.state sink.old).lender) }
+{
+    loop {
+        let given = match source.get(buffer) {
+            Ok(given) => given,
+            Err(Failed) => return Err(Fault::Read),
+        };
+        if given == 0 {
+            return Ok(());
+        }
+        if let Err(fault) = filter.feed(&buffer[..given], sink) {
+            return Err(fault);
+        }
+    }
 }

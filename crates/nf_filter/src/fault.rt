@@ -24,4 +24,7 @@ pub enum Fault {
     /// The input ends, at `at`, inside a character begun at `start`.
     #[error("the input ends at byte {at}, inside a character begun at byte {start}")]
     Cut { at: u64, start: u64 },
+    /// The character at `at` is not assigned, and such are refused.
+    #[error("the character at byte {at} is not assigned")]
+    Unassigned { at: u64 },
 }

@@ -1,6 +1,7 @@
 //! The filter: UTF-8 in pieces of any size, made stream-safe and normalized in bounded memory.
 #![tactic(auto)]
 
+mod allowing;
 mod ascii;
 mod block;
 mod character;
@@ -9,12 +10,14 @@ mod closing;
 mod devices;
 mod driving;
 mod fault;
+mod feeding;
 mod filter;
 mod from_reader;
 mod held;
 pub mod laws;
 mod measuring;
 mod normalizer;
+mod policy;
 mod pushing;
 mod reading;
 mod refusal;
@@ -33,6 +36,7 @@ pub use filter::Filter;
 pub use from_reader::{FromReader, LentReader};
 pub use held::Held;
 pub use measuring::{measure, measure_buffered};
+pub use policy::Policy;
 pub use tally::Tally;
 pub use to_writer::{LentWriter, ToWriter};
 pub use whole::{convert, converted};

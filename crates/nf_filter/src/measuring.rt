@@ -61,7 +61,7 @@ pub fn measure_buffered<R: Rows, I: Source>(
 
 impl Taker for Measurer {
     ghost use Rattle.std.specs.Prelude.{None, [], false};
-    ghost use Rattle.nf_filter.specs.Normalizer.{unusable_at};
+    ghost use Rattle.nf_filter.specs.Normalizer.{unusable_at, utf8_place};
     ghost use Rattle.nf_filter.specs.Measures.{HasMeasured, ends_at};
 
     ghost has_taken = { HasMeasured };
@@ -70,7 +70,7 @@ impl Taker for Measurer {
 
     ghost form = { λ _. None };
 
-    ghost stops = { unusable_at };
+    ghost stops = { λ p base. unusable_at p (utf8_place base) };
 
     ghost gives = { λ _ _ _. [] };
 

@@ -1,28 +1,24 @@
 //! How a normalizer takes a text: of what is closed the form is written at once, and each other character goes the
 //! ordinary way.
-ghost use Rattle.std.specs.Prelude.{◌≡◌, ◌↔◌, Err, IsTrue};
-ghost use Rattle.nf_filter.specs.declared.fault.Fault.TheVariants.{Write as WriteFault};
-ghost use Rattle.nf_filter.specs.declared.taker.Stop.TheVariants.{Refused};
-
 use crate::block::Block;
 use crate::devices::{Failed, Sink};
 use crate::fault::Fault;
 use crate::normalizer::Normalizer;
-use crate::taker::{Stop, Taker};
+use crate::taker::Stop;
 use nf_row::Rows;
 use nf_utf8::ascii_prefix;
 
 impl Normalizer {
-    ghost use Rattle.std.specs.Prelude.{◌≡◌, ◌+◌, ◌<◌, ◌≤◌, ℕ, List, ◌++◌, length, chars, false, IfErr, OnOk, encode_utf8_all};
+    ghost use Rattle.std.specs.Prelude.{◌≡◌, ◌+◌, ◌<◌, ◌≤◌, ℕ, List, ◌++◌, length, chars, false, IfErr, OnOk};
     ghost use Rattle.nf_forms.specs.declared.form.Form.{Form};
     ghost use Rattle.nf_filter.specs.Block.{Start, block_state, Written};
-    ghost use Rattle.nf_filter.specs.Normalizer.{HasTaken, IsWithin, TakesOn, settled_text};
+    ghost use Rattle.nf_filter.specs.Normalizer.{HasTaken, IsPlacedAt, IsWithin, TakesOn, settled_text};
     ghost use Rattle.nf_filter.specs.Taking.{PassesFront, TakesFrontBehind};
     ghost use Rattle.nf_filter.specs.Taker.{MayStop};
     ghost use Rattle.nf_utf8.specs.Taking.{first_text, first_bytes};
 
     /// Takes the first character, where there is one, and the text behind it, which begins with it at the offset `at`.
-    fn take_both<R: Rows, S: Sink>(
+    pub(crate) fn take_both<R: Rows, S: Sink>(
         &mut self,
         rows: &R,
         at: u64,
@@ -38,9 +34,9 @@ impl Normalizer {
         ensures chars { OnOk result (self.new.chars ≤ at + length (first_bytes first) + length text.now) }
         ensures stop { IfErr result (MayStop false) }
         ensures takes { let p = R.properties rows.now in
-            (f : Form) (base : ℕ) (x : List ℕ) (start : Start) → HasTaken f p self.old x → at ≡ base + length (encode_utf8_all x)
+            (f : Form) (place : List ℕ → ℕ) (x : List ℕ) (start : Start) → HasTaken f p self.old x → IsPlacedAt place at x (first_text first ++ chars text.now)
             → Written start (block_state S.state block.old) (settled_text f p x)
-            → TakesOn f p self.new start (block_state S.state block.new) base (x ++ (first_text first ++ chars text.now)) result }
+            → TakesOn f p self.new start (block_state S.state block.new) place (x ++ (first_text first ++ chars text.now)) result }
         ensures lent { (block.new.sink.ghost_name ≡ block.old.sink.ghost_name) × ((S.state block.new.sink.now).lender ≡ (S.state block.old.sink.now).lender) }
     {
         let Some(c) = first else {
@@ -53,7 +49,7 @@ impl Normalizer {
     }
 
     /// Takes a text that begins at the offset `at`.
-    fn take_text<R: Rows, S: Sink>(
+    pub(crate) fn take_text<R: Rows, S: Sink>(
         &mut self,
         rows: &R,
         at: u64,
@@ -68,9 +64,9 @@ impl Normalizer {
         ensures chars { OnOk result (self.new.chars ≤ at + length text.now) }
         ensures stop { IfErr result (MayStop false) }
         ensures takes { let p = R.properties rows.now in
-            (f : Form) (base : ℕ) (x : List ℕ) (start : Start) → HasTaken f p self.old x → at ≡ base + length (encode_utf8_all x)
+            (f : Form) (place : List ℕ → ℕ) (x : List ℕ) (start : Start) → HasTaken f p self.old x → IsPlacedAt place at x (chars text.now)
             → Written start (block_state S.state block.old) (settled_text f p x)
-            → TakesOn f p self.new start (block_state S.state block.new) base (x ++ chars text.now) result }
+            → TakesOn f p self.new start (block_state S.state block.new) place (x ++ chars text.now) result }
         ensures lent { (block.new.sink.ghost_name ≡ block.old.sink.ghost_name) × ((S.state block.new.sink.now).lender ≡ (S.state block.old.sink.now).lender) }
     {
         let mut rest = text;
@@ -163,47 +159,4 @@ impl Normalizer {
             Err(refusal) => Err(refusal.at(at)),
         }
     }
-}
-
-impl Taker for Normalizer {
-    ghost use Rattle.std.specs.Prelude.{Some, false};
-    ghost use Rattle.nf_filter.specs.Normalizer.{HasTaken, ends_at, unusable_at, written_in};
-
-    ghost has_taken = { λ p normalizer base x. HasTaken normalizer.form p normalizer x };
-
-    ghost ends_at = { ends_at };
-
-    ghost form = { λ normalizer. Some normalizer.form };
-
-    ghost stops = { unusable_at };
-
-    ghost gives = { written_in };
-
-    ghost finds = { false };
-
-    fn take<R: Rows, S: Sink>(
-        &mut self,
-        rows: &R,
-        at: u64,
-        first: Option<char>,
-        text: &str,
-        sink: &mut S,
-    ) -> Result<(), Stop> {
-        let mut block = Block::over(sink, self.is_plain);
-        let taken = self.take_both(rows, at, first, text, &mut block);
-        if is_broken(taken) {
-            return taken;
-        }
-        match block.empty() {
-            Ok(()) => taken,
-            Err(Failed) => Err(Stop::Refused(Fault::Write)),
-        }
-    }
-}
-
-/// Whether the sink failed: it is not touched again then.
-fn is_broken(taken: Result<(), Stop>) -> bool
-    ensures { IsTrue result ↔ (taken ≡ Err (Refused WriteFault)) }
-{
-    matches!(taken, Err(Stop::Refused(Fault::Write)))
 }

@@ -3,6 +3,7 @@ ghost use Rattle.std.specs.Prelude.{◌≡◌, [], IfOk, IfErr};
 ghost use Rattle.std.specs.Result.{result_err};
 ghost use Rattle.nf_filter.specs.declared.fault.Fault.TheVariants.{Write};
 ghost use Rattle.nf_filter.specs.Filter.{rows_of, state_of, base_of, StandsAfter};
+ghost use Rattle.nf_filter.specs.Policy.{as_is};
 ghost use Rattle.nf_filter.specs.Laws.Soundness.{AreSound, RefusesNone};
 ghost use Rattle.nf_filter.specs.Whole.{Converts, IsFormOf, IsOfWhole, whole_answer};
 
@@ -60,7 +61,7 @@ pub fn converted<R: Rows>(
 fn quickest<R: Rows>(rows: &R, form: Form) -> Filter<'_, R>
     ensures rows { rows_of result ≡ rows.now }
     ensures base { base_of (state_of result) ≡ 0 }
-    ensures stands { StandsAfter form (R.properties rows.now) (state_of result) [] }
+    ensures stands { StandsAfter as_is form (R.properties rows.now) (state_of result) [] }
 {
     if rows.all_ascii_plain() {
         if let Some(plain) = Plain::of(rows) {

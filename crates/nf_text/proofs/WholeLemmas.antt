@@ -1,31 +1,31 @@
 -- What driving a new filter comes to where all was read.
-use Rattle.std.proofs.Common.{◌≡◌, ℕ, ◌+◌, Bool, true, false, List, [], ◌++◌, length, Some, None, Result, Ok, Err, inl, refl, sym, ap, ◌∙◌, subst, append-nil, encode_utf8_all}
-use Rattle.std.specs.Prelude.{IsTrue, IfSome, OnOk, IfErr, if◌then◌else◌}
+use Rattle.std.proofs.Common.{◌≡◌, ℕ, List, [], ◌++◌, Result, Ok, Err, inl, refl, sym, ap, ◌∙◌, subst, append-nil, encode_utf8_all}
+use Rattle.std.specs.Prelude.{IsTrue, IfSome, OnOk, IfErr}
 use Rattle.std.specs.Io.KnownBytes.{Appends}
 use Rattle.std.proofs.KnownBytes.{Consumes-all}
 use Rattle.nf_forms.specs.Properties.{Properties}
 use Rattle.nf_forms.specs.declared.form.Form.{Form}
 use Rattle.nf_forms.specs.SafeForm.{safe_form}
-use Rattle.nf_utf8.specs.Ending.{Ending, Whole, Bad, Cut as CutEnd}
+use Rattle.nf_utf8.specs.Ending.{Whole}
 use Rattle.nf_utf8.specs.Reading.{text_of, ending_of}
 use Rattle.nf_utf8.specs.Reads.{Reads, EndsAs}
 use Rattle.nf_filter.specs.declared.fault.Fault.{Fault}
-use Rattle.nf_filter.specs.declared.fault.Fault.TheVariants.{Spent, TooLong, Read, Write, Row, BadByte, Cut}
+use Rattle.nf_filter.specs.declared.fault.Fault.TheVariants.{Spent, TooLong, Read, Write, Row, BadByte, Cut, Unassigned}
 use Rattle.nf_filter.specs.declared.tally.Tally.{Tally}
 use Rattle.nf_filter.specs.Devices.{SinkState, SourceState}
 use Rattle.nf_filter.specs.Writes.{Puts}
-use Rattle.nf_filter.specs.Settled.{is_usable, usable, settled_utf8}
-use Rattle.nf_filter.specs.Faults.{answer_at_end, bad_byte, fault_in}
-use Rattle.nf_filter.specs.Finishes.{tally_of, end_of, whole_or, final_utf8}
+use Rattle.nf_filter.specs.Settled.{settled_utf8}
+use Rattle.nf_filter.specs.Finishes.{final_utf8}
 use Rattle.nf_filter.specs.Drives.{due_utf8, Drives}
 use Rattle.nf_filter.specs.Laws.Settled.{settled_utf8-none}
 use Rattle.nf_filter.specs.Laws.Soundness.{RefusesNone}
+use Rattle.nf_filter.specs.Policy.{as_is}
 use Rattle.nf_filter.proofs.WholeLemmas.{ending_whole, final_is}
 use Rattle.nf_text.specs.Whole.{IsOfText, PassesWhole}
 
 module _ (f : Form) (p : Properties) where
   module _ (most : ℕ) (source rest : SourceState) (old new : SinkState) where
-    read_whole : (tally : Tally) → ((bytes : List ℕ) → Reads bytes (text_of bytes) (ending_of bytes)) → IsTrue rest.is_at_end → Drives most f p 0 [] source rest old new (Ok tally)
+    read_whole : (tally : Tally) → ((bytes : List ℕ) → Reads bytes (text_of bytes) (ending_of bytes)) → IsTrue rest.is_at_end → Drives most as_is f p 0 [] source rest old new (Ok tally)
         → PassesWhole f p source.coming old.taken new.taken
     read_whole tally reads end drives bytes told = (text_of bytes, (reads bytes).front.scalars, spelled, given)
       where
@@ -44,30 +44,31 @@ module _ (f : Form) (p : Properties) where
         spelled : bytes ≡ encode_utf8_all (text_of bytes)
         spelled = subst (λ e. EndsAs bytes (text_of bytes) e) is (reads bytes).end
 
-        puts : Puts old new (settled_utf8 f p []) (due_utf8 rest.is_at_end f p drives.fed)
+        puts : Puts old new (settled_utf8 as_is f p []) (due_utf8 rest.is_at_end as_is f p drives.fed)
         puts = drives.written (λ e. cc)
 
-        due : due_utf8 rest.is_at_end f p drives.fed ≡ encode_utf8_all (safe_form f p (text_of bytes))
-        due = ap (λ b. due_utf8 b f p drives.fed) end ∙ ap (final_utf8 f p) fed ∙ final_is f p bytes is
+        due : due_utf8 rest.is_at_end as_is f p drives.fed ≡ encode_utf8_all (safe_form f p (text_of bytes))
+        due = ap (λ b. due_utf8 b as_is f p drives.fed) end ∙ ap (final_utf8 as_is f p) fed ∙ final_is f p bytes is
 
         out : puts.out ≡ encode_utf8_all (safe_form f p (text_of bytes))
-        out = ap (λ l. l ++ puts.out) (sym (settled_utf8-none f p)) ∙ sym puts.behind ∙ due
+        out = ap (λ l. l ++ puts.out) (sym (settled_utf8-none as_is f p)) ∙ sym puts.behind ∙ due
 
         given : Appends old.taken new.taken (encode_utf8_all (safe_form f p (text_of bytes)))
         given = subst (Appends old.taken new.taken) out puts.given
 
-    pub whole : (answer : Result Tally Fault) → ((bytes : List ℕ) → Reads bytes (text_of bytes) (ending_of bytes)) → OnOk answer (IsTrue rest.is_at_end) → Drives most f p 0 [] source rest old new answer
+    pub whole : (answer : Result Tally Fault) → ((bytes : List ℕ) → Reads bytes (text_of bytes) (ending_of bytes)) → OnOk answer (IsTrue rest.is_at_end) → Drives most as_is f p 0 [] source rest old new answer
         → OnOk answer (PassesWhole f p source.coming old.taken new.taken)
     whole (Ok tally) reads end drives = read_whole tally reads end drives
     whole (Err fault) reads end drives = tt
 
--- no filter that is new is spent, and no sound character is refused
-pub faults : (answer : Result Tally Fault) → ¬ (answer ≡ Err Spent) → RefusesNone answer → IfErr answer IsOfText
-faults (Ok tally) unspent none = tt
-faults (Err Spent) unspent none = unspent refl
-faults (Err TooLong) unspent none = tt
-faults (Err Read) unspent none = tt
-faults (Err Write) unspent none = tt
-faults (Err (BadByte at start)) unspent none = tt
-faults (Err (Cut at start)) unspent none = tt
-faults (Err (Row at)) unspent none = none at refl
+-- no filter that is new is spent, and no character is refused for being unsound or not assigned
+pub faults : (answer : Result Tally Fault) → ¬ (answer ≡ Err Spent) → RefusesNone answer → ((at : ℕ) → ¬ (answer ≡ Err (Unassigned at))) → IfErr answer IsOfText
+faults (Ok tally) unspent none taken = tt
+faults (Err Spent) unspent none taken = unspent refl
+faults (Err TooLong) unspent none taken = tt
+faults (Err Read) unspent none taken = tt
+faults (Err Write) unspent none taken = tt
+faults (Err (BadByte at start)) unspent none taken = tt
+faults (Err (Cut at start)) unspent none taken = tt
+faults (Err (Row at)) unspent none taken = none at refl
+faults (Err (Unassigned at)) unspent none taken = taken at refl

@@ -6,7 +6,7 @@ use Rattle.nf_forms.specs.declared.form.Form.{Form}
 use Rattle.nf_forms.specs.SafeForm.{safe_form}
 use Rattle.nf_utf8.specs.Text.{IsText}
 use Rattle.nf_filter.specs.declared.fault.Fault.{Fault}
-use Rattle.nf_filter.specs.declared.fault.Fault.TheVariants.{Spent, TooLong, Read, Write, Row, BadByte, Cut}
+use Rattle.nf_filter.specs.declared.fault.Fault.TheVariants.{Spent, TooLong, Read, Write, Row, BadByte, Cut, Unassigned}
 
 -- where the reader tells what it had, this was the UTF-8 of a text, and the writer took that of the form of the
 -- stream-safe text
@@ -23,3 +23,4 @@ IsOfText Write = Unit {0}
 IsOfText (Row at) = ⊥
 IsOfText (BadByte at start) = Unit {0}
 IsOfText (Cut at start) = Unit {0}
+IsOfText (Unassigned at) = ⊥

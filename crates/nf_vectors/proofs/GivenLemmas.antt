@@ -21,7 +21,7 @@ use Rattle.nf_utf8.specs.Ending.{Whole}
 use Rattle.nf_utf8.specs.Reading.{text_of, ending_of}
 use Rattle.nf_utf8.specs.Laws.{ReadsBack}
 use Rattle.nf_filter.specs.declared.fault.Fault.{Fault}
-use Rattle.nf_filter.specs.declared.fault.Fault.TheVariants.{Spent, TooLong, Read, Write, Row, BadByte, Cut as CutShort}
+use Rattle.nf_filter.specs.declared.fault.Fault.TheVariants.{Spent, TooLong, Read, Write, Row, BadByte, Cut as CutShort, Unassigned}
 use Rattle.nf_filter.specs.declared.tally.Tally.{Tally}
 use Rattle.nf_forms.specs.SafeForm.{safe_form}
 use Rattle.nf_filter.specs.Settled.{settled, is_usable, usable, settled_utf8}
@@ -30,6 +30,7 @@ use Rattle.nf_filter.specs.Finishes.{tally_of, end_of, whole_or, final_utf8, Fin
 use Rattle.nf_filter.specs.Feeds.{Feeds}
 use Rattle.nf_filter.specs.Devices.{SinkState}
 use Rattle.nf_filter.specs.Laws.Settled.{settled_utf8-none}
+use Rattle.nf_filter.specs.Policy.{as_is}
 use Rattle.nf_vectors.specs.Comparison.{holds, leaves_format}
 use Rattle.nf_vectors.specs.Gives.{Gives}
 use Rattle.nf_vectors.proofs.ComparisonLemmas.{usable-in_format, sound-usable}
@@ -55,22 +56,22 @@ module _ (f : Form) (p : Properties) where
     unfolding ending_of chars utf8_valid_len
     ending_is = ap ending_of (sym (append-nil (encode_utf8_all x))) ∙ reads.ending x [] text
 
-    final_is : final_utf8 f p (encode_utf8_all x) ≡ encode_utf8_all (safe_form f p x)
+    final_is : final_utf8 as_is f p (encode_utf8_all x) ≡ encode_utf8_all (safe_form f p x)
     unfolding final_utf8
-    final_is = ap (λ end. whole_or end (settled_utf8 f p (encode_utf8_all x)) (encode_utf8_all (safe_form f p (text_of (encode_utf8_all x))))) ending_is
+    final_is = ap (λ end. whole_or end (settled_utf8 as_is f p (encode_utf8_all x)) (encode_utf8_all (safe_form f p (text_of (encode_utf8_all x))))) ending_is
         ∙ ap (λ t. encode_utf8_all (safe_form f p t)) text_is
 
-    end_is : end_of p 0 (encode_utf8_all x) ≡ Ok (tally_of p (encode_utf8_all x))
+    end_is : end_of as_is p 0 (encode_utf8_all x) ≡ Ok (tally_of false p (encode_utf8_all x))
     unfolding end_of
-    end_is = ap (answer_at_end 0 (tally_of p (encode_utf8_all x))) ending_is
+    end_is = ap (answer_at_end 0 (tally_of false p (encode_utf8_all x))) ending_is
 
-    no_fault : is_usable p x ≡ true → fault_in p 0 (encode_utf8_all x) ≡ None
+    no_fault : is_usable p x ≡ true → fault_in as_is p 0 (encode_utf8_all x) ≡ None
     unfolding fault_in
     no_fault usable_x =
         ap (λ b. if b then bad_byte 0 (ending_of (encode_utf8_all x)) else Some (Row (0 + length (encode_utf8_all (usable p (text_of (encode_utf8_all x))))))) (ap (is_usable p) text_is ∙ usable_x)
         ∙ ap (bad_byte 0) ending_is
 
-    usable_from : None ≡ fault_in p 0 (encode_utf8_all x) → is_usable p x ≡ true
+    usable_from : None ≡ fault_in as_is p 0 (encode_utf8_all x) → is_usable p x ≡ true
     unfolding fault_in
     usable_from none = next (is_usable p x) refl
       where
@@ -80,7 +81,7 @@ module _ (f : Form) (p : Properties) where
             let some = ap (λ b. if b then bad_byte 0 (ending_of (encode_utf8_all x)) else Some (Row (0 + length (encode_utf8_all (usable p (text_of (encode_utf8_all x))))))) (ap (is_usable p) text_is ∙ is) in
             cc
 
-    settled_is : is_usable p x ≡ true → settled_utf8 f p (encode_utf8_all x) ≡ encode_utf8_all (settled f p x)
+    settled_is : is_usable p x ≡ true → settled_utf8 as_is f p (encode_utf8_all x) ≡ encode_utf8_all (settled f p x)
     unfolding settled_utf8 usable
     settled_is usable_x = ap (λ t. encode_utf8_all (settled f p (take (longest_front (is_usable p) t) t))) text_is
         ∙ ap (λ n. encode_utf8_all (settled f p (take n x))) (longest_front-all (is_usable p) x usable_x) ∙ ap (λ t. encode_utf8_all (settled f p t)) (take-length x)
@@ -89,11 +90,11 @@ module _ (f : Form) (p : Properties) where
     unfolding settled
     whole_is = ap encode_utf8_all (sym (front-append-back p (safe_form f p x))) ∙ encoded-append (front p (safe_form f p x)) (back p (safe_form f p x))
 
-    fed_out : (s0 s1 : SinkState) (feeds : Feeds f p 0 [] (encode_utf8_all x) s0 s1 (Ok tt)) → (out : List ℕ) × (settled_utf8 f p (encode_utf8_all x) ≡ out) × Appends s0.taken s1.taken out
-    fed_out s0 s1 feeds = let writes = feeds.written (λ both. cc) in (writes.out, writes.behind ∙ ap (λ l. l ++ writes.out) (settled_utf8-none f p), writes.given)
+    fed_out : (s0 s1 : SinkState) (feeds : Feeds as_is f p 0 [] (encode_utf8_all x) s0 s1 (Ok tt)) → (out : List ℕ) × (settled_utf8 as_is f p (encode_utf8_all x) ≡ out) × Appends s0.taken s1.taken out
+    fed_out s0 s1 feeds = let writes = feeds.written (λ both. cc) in (writes.out, writes.behind ∙ ap (λ l. l ++ writes.out) (settled_utf8-none as_is f p), writes.given)
 
     -- feeding was refused
-    pub fed_badly : (old new : SinkState) (fault : Fault) → Feeds f p 0 [] (encode_utf8_all x) old new (Err fault) → Gives f p x old new (Err fault)
+    pub fed_badly : (old new : SinkState) (fault : Fault) → Feeds as_is f p 0 [] (encode_utf8_all x) old new (Err fault) → Gives f p x old new (Err fault)
     fed_badly old new fault feeds = record {
       ok = tt;
       write = λ w usable_x.
@@ -101,7 +102,7 @@ module _ (f : Form) (p : Properties) where
             failed = (feeds.write.0 w).0;
             out = broken.out;
             rest = broken.rest ++ encode_utf8_all (back p (safe_form f p x));
-            is = whole_is ∙ ap (λ l. l ++ encode_utf8_all (back p (safe_form f p x))) (sym (settled_is usable_x) ∙ broken.behind ∙ ap (λ l. (l ++ broken.out) ++ broken.rest) (settled_utf8-none f p))
+            is = whole_is ∙ ap (λ l. l ++ encode_utf8_all (back p (safe_form f p x))) (sym (settled_is usable_x) ∙ broken.behind ∙ ap (λ l. (l ++ broken.out) ++ broken.rest) (settled_utf8-none as_is f p))
                 ∙ append_assoc broken.out broken.rest (encode_utf8_all (back p (safe_form f p x)));
             more = omega (arith, broken.more, length-append broken.rest (encode_utf8_all (back p (safe_form f p x))));
             given = broken.given;
@@ -112,13 +113,13 @@ module _ (f : Form) (p : Properties) where
         next : ¬ (fault ≡ Write) → (b : Bool) → is_usable p x ≡ b → is_usable p x ≡ false
         next w false is = is
         next w true is =
-            let told : Some fault ≡ fault_in p 0 (encode_utf8_all x) = feeds.answer (λ both. w (let same : fault ≡ Write = cc in same)) in
+            let told : Some fault ≡ fault_in as_is p 0 (encode_utf8_all x) = feeds.answer (λ both. w (let same : fault ≡ Write = cc in same)) in
             let none = no_fault is in
             cc
 
-    module _ (s0 s1 s2 : SinkState) (feeds : Feeds f p 0 [] (encode_utf8_all x) s0 s1 (Ok tt)) where
+    module _ (s0 s1 s2 : SinkState) (feeds : Feeds as_is f p 0 [] (encode_utf8_all x) s0 s1 (Ok tt)) where
       -- finishing was refused
-      pub finished_badly : (fault : Fault) → Finishes f p 0 (encode_utf8_all x) s1 s2 (Err fault) → Gives f p x s0 s2 (Err fault)
+      pub finished_badly : (fault : Fault) → Finishes as_is f p 0 (encode_utf8_all x) s1 s2 (Err fault) → Gives f p x s0 s2 (Err fault)
       finished_badly fault finishes = record {
         ok = tt;
         write = λ w _.
@@ -133,13 +134,13 @@ module _ (f : Form) (p : Properties) where
               given = Appends-trans _ _ _ _ _ fed.2 broken.given;
             };
         err = λ w.
-            let told : Err fault ≡ end_of p 0 (encode_utf8_all x) = finishes.answer (λ both. w (let same : fault ≡ Write = cc in same)) in
+            let told : Err fault ≡ end_of as_is p 0 (encode_utf8_all x) = finishes.answer (λ both. w (let same : fault ≡ Write = cc in same)) in
             let whole = end_is in
             cc;
       }
 
       -- neither was refused
-      pub finished_well : (tally : Tally) → Finishes f p 0 (encode_utf8_all x) s1 s2 (Ok tally) → Gives f p x s0 s2 (Ok tt)
+      pub finished_well : (tally : Tally) → Finishes as_is f p 0 (encode_utf8_all x) s1 s2 (Ok tally) → Gives f p x s0 s2 (Ok tt)
       finished_well tally finishes =
           let writes = finishes.written (λ both. cc) in
           let fed = fed_out s0 s1 feeds in record {
@@ -192,3 +193,4 @@ module _ (f : Form) (p : Properties) where
       refused_any t old new (Row at) is_old is_new full gives = refused old new (Row at) (λ w. cc) gives
       refused_any t old new (BadByte at start) is_old is_new full gives = refused old new (BadByte at start) (λ w. cc) gives
       refused_any t old new (CutShort at start) is_old is_new full gives = refused old new (CutShort at start) (λ w. cc) gives
+      refused_any t old new (Unassigned at) is_old is_new full gives = refused old new (Unassigned at) (λ w. cc) gives

@@ -19,33 +19,33 @@ use Rattle.nf_filter.specs.Faults.{fault_in}
 use Rattle.nf_filter.specs.Filter.{base_of, StandsAfter}
 use Rattle.nf_filter.specs.Finishes.{final_utf8, Finishes}
 use Rattle.nf_filter.specs.Laws.Settled.{settled_utf8-none}
+use Rattle.nf_filter.specs.Policy.{as_is}
 use Rattle.nf_filter.proofs.WritesLemmas.{Puts-none, Puts-join, Puts-at}
-use Rattle.nf_filter.proofs.FilterLemmas.{no_fault, stop_in-fault}
 use Rattle.nf_filter.proofs.WholeLemmas.{ending_whole, final_is}
 use Rattle.nf_text.specs.Whole.{PassesWhole}
 use Rattle.uses.specs.Network.{HasRelayed}
 
 module _ (f : Form) (p : Properties) where
   -- a filter that was not stopped has found no fault
-  pub faultless : (state : State) (come : List ℕ) → base_of state ≡ 0 → StandsAfter f p state come → fault_in p 0 come ≡ None
+  pub faultless : (state : State) (come : List ℕ) → base_of state ≡ 0 → StandsAfter as_is f p state come → fault_in as_is p 0 come ≡ None
   faultless state come base stands =
-      subst (λ (n : ℕ). fault_in p n come ≡ None) base (no_fault (fault_in p (base_of state) come) (sym (stop_in-fault p (base_of state) come) ∙ stands.reading.unstopped))
+      subst (λ (n : ℕ). fault_in as_is p n come ≡ None) base stands.no_fault
 
-  pub relays_none : (sink : SinkState) → Puts sink sink [] (settled_utf8 f p [])
-  relays_none sink = Puts-at refl (sym (settled_utf8-none f p)) (Puts-none sink [])
+  pub relays_none : (sink : SinkState) → Puts sink sink [] (settled_utf8 as_is f p [])
+  relays_none sink = Puts-at refl (sym (settled_utf8-none as_is f p)) (Puts-none sink [])
 
   module _ (coming left : Option (List ℕ)) (old mid new : SinkState) (come : List ℕ) where
-    pub has_relayed : Consumes coming left come → Puts old mid [] (settled_utf8 f p come) → HasRelayed f p coming left old.taken mid.taken
+    pub has_relayed : Consumes coming left come → Puts old mid [] (settled_utf8 as_is f p come) → HasRelayed f p coming left old.taken mid.taken
     has_relayed read puts = record { come = come; read = read; written = subst (Appends old.taken mid.taken) (sym puts.behind) puts.given }
 
-    pub relays_whole : (result : Result Tally Fault) → ((bytes : List ℕ) → Reads bytes (text_of bytes) (ending_of bytes)) → Consumes coming left come → IsAtEnd left → fault_in p 0 come ≡ None
-        → Puts old mid [] (settled_utf8 f p come) → Finishes f p 0 come mid new result → OnOk result (PassesWhole f p coming old.taken new.taken)
+    pub relays_whole : (result : Result Tally Fault) → ((bytes : List ℕ) → Reads bytes (text_of bytes) (ending_of bytes)) → Consumes coming left come → IsAtEnd left → fault_in as_is p 0 come ≡ None
+        → Puts old mid [] (settled_utf8 as_is f p come) → Finishes as_is f p 0 come mid new result → OnOk result (PassesWhole f p coming old.taken new.taken)
     relays_whole (Err fault) reads read end none puts finishes = tt
     relays_whole (Ok tally) reads read end none puts finishes = λ bytes told.
         let all : come ≡ bytes = subst (λ c. IfSome c (λ xs. come ≡ xs)) told (Consumes-all coming left come [] come read end refl) in
         let is : ending_of bytes ≡ Whole = subst (λ l. ending_of l ≡ Whole) all (ending_whole p come tally (finishes.answer (λ w. cc)) none) in
-        let whole : Puts old new [] (final_utf8 f p come) = Puts-join puts (finishes.written (λ w. cc)) in
-        let given : final_utf8 f p come ≡ encode_utf8_all (safe_form f p (text_of bytes)) = ap (final_utf8 f p) all ∙ final_is f p bytes is in (
+        let whole : Puts old new [] (final_utf8 as_is f p come) = Puts-join puts (finishes.written (λ w. cc)) in
+        let given : final_utf8 as_is f p come ≡ encode_utf8_all (safe_form f p (text_of bytes)) = ap (final_utf8 as_is f p) all ∙ final_is f p bytes is in (
           text_of bytes,
           (reads bytes).front.scalars,
           subst (λ e. EndsAs bytes (text_of bytes) e) is (reads bytes).end,

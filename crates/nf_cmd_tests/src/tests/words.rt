@@ -4,7 +4,7 @@ use super::{assert_shown, run};
 #[test]
 fn words_that_are_no_command_are_refused(rt: HostRuntime) {
     let alloc = rt.alloc();
-    let mistakes: [&[&str]; 18] = [
+    let mistakes: [&[&str]; 29] = [
         &["nfstream"],
         &["nfstream", "--form", "nfc"],
         &["nfstream", "normalize"],
@@ -18,13 +18,40 @@ fn words_that_are_no_command_are_refused(rt: HostRuntime) {
         &["nfstream", "convert", "--fo", "nfc"],
         &["nfstream", "convert", "--form", "nfc", "--form", "nfd"],
         &["nfstream", "convert", "--form", "nfc", "text"],
+        &["nfstream", "convert", "--replace"],
+        &["nfstream", "convert", "--form", "--replace", "nfc"],
+        &["nfstream", "convert", "--form", "nfc", "--replace=x"],
+        &["nfstream", "convert", "--form", "nfc", "--assigned="],
+        &["nfstream", "convert", "--form", "nfc", "--assigned", "true"],
+        &["nfstream", "convert", "--form", "nfc", "--repl"],
+        &["nfstream", "convert", "--form", "nfc", "-r"],
+        &[
+            "nfstream",
+            "convert",
+            "--form",
+            "nfc",
+            "--replace",
+            "--replace",
+        ],
+        &[
+            "nfstream",
+            "convert",
+            "--assigned",
+            "--form",
+            "nfc",
+            "--replace",
+            "--assigned",
+        ],
+        &["nfstream", "--replace", "convert", "--form", "nfc"],
         &["nfstream", "check", "--form", "nfc"],
+        &["nfstream", "check", "--assigned"],
         &["nfstream", "check", "text"],
         &["nfstream", "measure", "--base", "1"],
         &["nfstream", "check", "measure"],
         &["nfstream", "test", "NormalizationTest.txt"],
     ];
     for words in mistakes {
+        assert!(rt; !words.is_empty());
         let mut input = b"a".as_slice();
         let shown = run(alloc, words, &mut input);
         assert_eq!(rt; shown.status, 2, "{words:?}");
@@ -43,9 +70,35 @@ fn a_form_may_follow_an_equals_sign(rt: HostRuntime) {
 }
 
 #[test]
+fn flags_stand_in_any_order(rt: HostRuntime) {
+    let alloc = rt.alloc();
+    let (form, replace, assigned) = ("--form=nfd", "--replace", "--assigned");
+    for (first, second, third) in [
+        (form, replace, assigned),
+        (form, assigned, replace),
+        (replace, form, assigned),
+        (replace, assigned, form),
+        (assigned, form, replace),
+        (assigned, replace, form),
+    ] {
+        let words = ["nfstream", "convert", first, second, third];
+        let shown = run(alloc, words.as_slice(), &mut "\u{C5}".as_bytes());
+        assert_shown(&rt, &shown, 0, b"A\xCC\x8A", "");
+    }
+    for flag in [replace, assigned] {
+        let words = ["nfstream", "convert", flag, "--form", "nfd"];
+        let shown = run(alloc, words.as_slice(), &mut "\u{C5}".as_bytes());
+        assert_shown(&rt, &shown, 0, b"A\xCC\x8A", "");
+        let words = ["nfstream", "convert", "--form", "nfd", flag];
+        let shown = run(alloc, words.as_slice(), &mut "\u{C5}".as_bytes());
+        assert_shown(&rt, &shown, 0, b"A\xCC\x8A", "");
+    }
+}
+
+#[test]
 fn help_goes_to_the_output(rt: HostRuntime) {
     let alloc = rt.alloc();
-    let asked: [(&[&str], &str); 13] = [
+    let asked: [(&[&str], &str); 15] = [
         (&["nfstream", "--help"], "convert"),
         (&["nfstream", "-h"], "convert"),
         (&["nfstream", "help"], "convert"),
@@ -61,6 +114,14 @@ fn help_goes_to_the_output(rt: HostRuntime) {
         (
             &["nfstream", "convert", "--help"],
             "[possible values: nfc, nfd, nfkc, nfkd]",
+        ),
+        (
+            &["nfstream", "convert", "--help"],
+            "--replace      Reads each ill-formed sequence as U+FFFD instead of refusing it\n",
+        ),
+        (
+            &["nfstream", "convert", "--help"],
+            "--assigned     Refuses characters that Unicode has not assigned\n",
         ),
     ];
     for (words, part) in asked {

@@ -1,26 +1,36 @@
--- What is settled of no bytes.
-use Rattle.std.specs.Prelude.{◌≡◌, [], refl, encode_utf8_all}
+-- What no bytes give, and what is settled of that.
+use Rattle.std.proofs.Common.{◌≡◌, true, false, Bool, [], refl, ap, ◌∙◌, encode_utf8_all}
 use Rattle.std.specs.Str.{chars}
 use Rattle.std.specs.Str.Lossy.{utf8_valid_len}
 use Rattle.nf_forms.specs.Properties.{Properties}
 use Rattle.nf_forms.specs.declared.form.Form.{Form}
 use Rattle.nf_forms.specs.declared.form.Form.TheVariants.{Nfc, Nfd, Nfkc, Nfkd}
-use Rattle.nf_forms.specs.Front.{front}
 use Rattle.nf_forms.specs.Order.{by_class}
-use Rattle.nf_forms.specs.Forms.{decomposed, finished}
-use Rattle.nf_forms.specs.StreamSafe.{stream_safe}
 use Rattle.nf_forms.specs.SafeForm.{safe_form}
 use Rattle.nf_safe.specs.LongestFront.{longest_front}
-use Rattle.nf_utf8.specs.Reading.{text_of}
+use Rattle.nf_utf8.specs.Reading.{text_of, ending_of}
+use Rattle.nf_utf8.specs.Replaced.{parts_of, replaced}
+use Rattle.nf_filter.specs.declared.policy.Policy.{Policy}
+use Rattle.nf_filter.specs.Policy.{text_under, allowed}
 use Rattle.nf_filter.specs.Settled.{settled, is_usable, usable, settled_utf8}
 
+-- no characters
+pub text_under-none : (replace : Bool) → text_under replace [] ≡ []
+unfolding text_of ending_of replaced parts_of chars utf8_valid_len
+text_under-none false = refl
+text_under-none true = refl
+
 -- nothing
-pub settled_utf8-none : (f : Form) (p : Properties) → settled_utf8 f p [] ≡ []
-unfolding settled_utf8 settled safe_form usable is_usable longest_front text_of chars utf8_valid_len by_class
-settled_utf8-none f p = by_form f
+pub settled_utf8-none : (policy : Policy) (f : Form) (p : Properties) → settled_utf8 policy f p [] ≡ []
+unfolding settled_utf8 settled safe_form usable is_usable longest_front by_class
+settled_utf8-none policy f p = ap (λ x. encode_utf8_all (settled f p (usable p (allowed policy.assigned p x)))) (text_under-none policy.replace) ∙ by_policy policy.assigned f
   where
-    by_form : (f : Form) → encode_utf8_all (front p (finished f p (decomposed f p (stream_safe p [])))) ≡ []
-    by_form Nfc = refl
-    by_form Nfd = refl
-    by_form Nfkc = refl
-    by_form Nfkd = refl
+    by_policy : (assigned : Bool) (f : Form) → encode_utf8_all (settled f p (usable p (allowed assigned p []))) ≡ []
+    by_policy false Nfc = refl
+    by_policy false Nfd = refl
+    by_policy false Nfkc = refl
+    by_policy false Nfkd = refl
+    by_policy true Nfc = refl
+    by_policy true Nfd = refl
+    by_policy true Nfkc = refl
+    by_policy true Nfkd = refl

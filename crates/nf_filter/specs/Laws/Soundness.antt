@@ -7,6 +7,7 @@ use Rattle.nf_safe.specs.declared.place.Place.{Place}
 use Rattle.nf_safe.specs.declared.measure.Measure.{Measure}
 use Rattle.nf_filter.specs.declared.fault.Fault.{Fault}
 use Rattle.nf_filter.specs.declared.fault.Fault.TheVariants.{Row}
+use Rattle.nf_filter.specs.declared.policy.Policy.{Policy}
 use Rattle.nf_filter.specs.declared.tally.Tally.{Tally}
 use Rattle.nf_filter.specs.Devices.{SinkState, SourceState}
 use Rattle.nf_filter.specs.Feeds.{Feeds}
@@ -25,13 +26,13 @@ RefusesNone result = (at : ℕ) → ¬ (result ≡ Err (Row at))
 
 -- by feeding a piece
 abbrev pub FeedingRefusesNone : Type 0
-FeedingRefusesNone = (f : Form) (p : Properties) (base : ℕ) (bytes piece : List ℕ) (old new : SinkState) (result : Result (Unit {0}) Fault)
-    → AreSound p → Feeds f p base bytes piece old new result → RefusesNone result
+FeedingRefusesNone = (policy : Policy) (f : Form) (p : Properties) (base : ℕ) (bytes piece : List ℕ) (old new : SinkState) (result : Result (Unit {0}) Fault)
+    → AreSound p → Feeds policy f p base bytes piece old new result → RefusesNone result
 
 -- by driving a filter
 abbrev pub DrivingRefusesNone : Type 0
-DrivingRefusesNone = (most : ℕ) (f : Form) (p : Properties) (base : ℕ) (bytes : List ℕ) (source left : SourceState) (old new : SinkState) (result : Result Tally Fault)
-    → AreSound p → Drives most f p base bytes source left old new result → RefusesNone result
+DrivingRefusesNone = (most : ℕ) (policy : Policy) (f : Form) (p : Properties) (base : ℕ) (bytes : List ℕ) (source left : SourceState) (old new : SinkState) (result : Result Tally Fault)
+    → AreSound p → Drives most policy f p base bytes source left old new result → RefusesNone result
 
 -- by checking
 abbrev pub CheckingRefusesNone : Type 0

@@ -1,21 +1,17 @@
-use Rattle.std.proofs.Common.{rules, codes, Bool, true, ◌||◌, ◌≡◌, ◌∙◌, ap, ap₂}
+use Rattle.std.proofs.Common.{rules, codes, true, ◌≡◌, ◌∙◌, ap, ap₂}
 use Rattle.std.proofs.lemmas.Result.{IfOk-weaker}
-use Rattle.clap.specs.Words.{App, app_of, new_app, with_rule, with_subcommand}
+use Rattle.clap.specs.Words.{App, app_of, new_app, with_subcommand}
 use Rattle.clap.specs.Simple.{on_top}
-use Rattle.nf_cmd.specs.Line.{convert, line}
+use Rattle.nf_cmd.specs.Line.{line}
 use Rattle.nf_cmd.proofs.line.line.Goals as goal
 
 pub returns : goal.returns
-unfolding line convert
+unfolding line
 returns c =
-    let rule = c.form.ensures.rule in
-    let empty_is : app_of c.plain-convert.result ≡ new_app (codes "convert") = c.plain-convert.ensures.shape in
-    let convert_is : app_of c.in_ok-convert.convert ≡ convert rule.0 =
-    c.in_ok-convert.ensures.shape c.form.ensures.local ∙ ap₂ with_rule empty_is rule.2 in
+    let made = c.in_ok-convert.ensures.shape in
     let top_is : app_of c.subcommand_required.result ≡ on_top (λ s. record s { subcommand_required = true }) (new_app (codes "nfstream")) = search rules in
-    let first = c.in_ok-line.ensures.shape
-    (c.in_ok-convert.ensures.globals ∙ ap₂ (λ (a b : Bool). a || b) c.plain-convert.ensures.local c.form.ensures.local) ∙ ap₂ with_subcommand top_is (ap (λ (a : App). a.top) convert_is) in
+    let first = c.in_ok-line.ensures.shape c.in_ok-convert.ensures.local ∙ ap₂ with_subcommand top_is (ap (λ (a : App). a.top) made.2) in
     let second = c.in_ok-line-2.ensures.shape c.plain-check.ensures.local ∙ ap₂ with_subcommand first (ap (λ (a : App). a.top) c.plain-check.ensures.shape) in
     let third = c.in_ok-line-3.ensures.shape c.plain-measure.ensures.local ∙ ap₂ with_subcommand second (ap (λ (a : App). a.top) c.plain-measure.ensures.shape) in
     IfOk-weaker c.subcommand-4.result _ _
-    (λ r h. (rule.0, rule.1, h.shape c.plain-test.ensures.local ∙ ap₂ with_subcommand third (ap (λ (a : App). a.top) c.plain-test.ensures.shape))) c.subcommand-4.ensures
+    (λ r h. (made.0, made.1, h.shape c.plain-test.ensures.local ∙ ap₂ with_subcommand third (ap (λ (a : App). a.top) c.plain-test.ensures.shape))) c.subcommand-4.ensures

@@ -14,7 +14,7 @@ returns-in-Err-clause-refused g c = refused_by _ _ _ _ _ c.in-Err.ensures.refuse
 pub returns-in-Ok-Convert-clause-answer : goal.returns-in-Ok-Convert-clause-answer
 returns-in-Ok-Convert-clause-answer g c =
     let asks = subst (Asks _) c.in-Ok-Convert.field-0-is c.in-Ok-Convert.ensures.asked in
-    done_answers c.no_character_is_refused.ensures _ (Convert c.in-Ok-Convert.form) _ _ _ _ asks c.convert.ensures c.report.ensures.status c.report.ensures.line
+    done_answers c.no_character_is_refused.ensures _ (Convert c.in-Ok-Convert.form c.in-Ok-Convert.policy) _ _ _ _ asks c.convert.ensures c.report.ensures.status c.report.ensures.line
 
 pub returns-in-Ok-Check-clause-answer : goal.returns-in-Ok-Check-clause-answer
 returns-in-Ok-Check-clause-answer g c =

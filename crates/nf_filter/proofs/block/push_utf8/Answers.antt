@@ -1,4 +1,4 @@
-use Rattle.std.proofs.Common.{[], ◌∷◌, ◌++◌, sym, ap, ◌∙◌, arith}
+use Rattle.std.proofs.Common.{◌++◌, sym, ap, ◌∙◌, arith}
 use Rattle.std.proofs.lemmas.Str.{encode_ascii}
 use Rattle.nf_filter.proofs.EncodingLemmas.{encode-two, encode-three, encode-four, pushed-two, pushed-three, pushed-four}
 use Rattle.nf_filter.proofs.block.push_utf8.Goals as goal

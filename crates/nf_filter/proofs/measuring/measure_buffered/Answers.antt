@@ -3,7 +3,7 @@ use Rattle.nf_safe.specs.declared.measure.Measure.{Measure}
 use Rattle.nf_safe.specs.declared.place.Place.{Place}
 use Rattle.nf_safe.specs.Measurer.{values_of}
 use Rattle.nf_filter.specs.declared.taker.Stop.TheVariants.{Refused}
-use Rattle.nf_filter.specs.Normalizer.{unusable_at}
+use Rattle.nf_filter.specs.Normalizer.{unusable_at, utf8_place}
 use Rattle.nf_filter.specs.Measures.{HasMeasured, measure_decision, text_measure}
 use Rattle.nf_filter.proofs.SettledLemmas.{is_usable-none}
 use Rattle.nf_filter.proofs.TextLemmas.{unusable_at-usable}
@@ -26,15 +26,15 @@ pub returns-in-Ok-clause-surveys : goal.returns-in-Ok-clause-surveys
 returns-in-Ok-clause-surveys g c =
     let p = g.R.Rows.properties c.args.rows.now in
     let base = c.args.base in
-    let reads = c.in-Ok.ensures.reads base [] (HasRead-none (HasMeasured p c.new-measurer.result base) (unusable_at p base) base c.new-reading.result c.new-reading.ensures.offset c.new-reading.ensures.decoder (c.new-measurer.ensures p) (unusable_at-usable p base [] (is_usable-none p))) in
-    Surveys-whole (no_measure c.values.result) (length c.args.buffer.now) base _ (unusable_at p base) (measure_decision p base) (text_measure p) (decides p (no_measure c.values.result) base) _ _ _ _ _ tt c.in-Ok.ensures.end reads c.values.result
+    let reads = c.in-Ok.ensures.reads base [] (HasRead-none (HasMeasured p c.new-measurer.result base) (unusable_at p (utf8_place base)) base c.new-reading.result c.new-reading.ensures.offset c.new-reading.ensures.decoder (c.new-measurer.ensures p) (unusable_at-usable p (utf8_place base) [] (is_usable-none p))) in
+    Surveys-whole (no_measure c.values.result) (length c.args.buffer.now) base _ (unusable_at p (utf8_place base)) (measure_decision p base) (text_measure p) (decides p (no_measure c.values.result) base) _ _ _ _ _ tt c.in-Ok.ensures.end reads c.values.result
     (sym reads.read.taken.values ∙ sym c.values.ensures)
 
 pub returns-in-Err-clause-faults : goal.returns-in-Err-clause-faults
 returns-in-Err-clause-faults g c =
     let p = g.R.Rows.properties c.args.rows.now in
     let base = c.args.base in
-    let reads = rw c.fault.ensures at (c.in-Err.ensures.reads base [] (HasRead-none (HasMeasured p c.new-measurer.result base) (unusable_at p base) base c.new-reading.result c.new-reading.ensures.offset c.new-reading.ensures.decoder (c.new-measurer.ensures p) (unusable_at-usable p base [] (is_usable-none p)))) in
+    let reads = rw c.fault.ensures at (c.in-Err.ensures.reads base [] (HasRead-none (HasMeasured p c.new-measurer.result base) (unusable_at p (utf8_place base)) base c.new-reading.result c.new-reading.ensures.offset c.new-reading.ensures.decoder (c.new-measurer.ensures p) (unusable_at-usable p (utf8_place base) [] (is_usable-none p)))) in
     IsOfSurvey-from false c.fault.result (rw c.fault.ensures at c.in-Err.ensures.stop) (nothing_breaks (Refused c.fault.result) reads)
 
 pub returns-in-Err-clause-surveys : goal.returns-in-Err-clause-surveys
@@ -42,5 +42,5 @@ returns-in-Err-clause-surveys g c =
     let p = g.R.Rows.properties c.args.rows.now in
     let base = c.args.base in
     let none = values_of c.new-measurer.result in
-    let reads = rw c.fault.ensures at (c.in-Err.ensures.reads base [] (HasRead-none (HasMeasured p c.new-measurer.result base) (unusable_at p base) base c.new-reading.result c.new-reading.ensures.offset c.new-reading.ensures.decoder (c.new-measurer.ensures p) (unusable_at-usable p base [] (is_usable-none p)))) in
-    Surveys-stopped (no_measure none) (length c.args.buffer.now) base _ (unusable_at p base) (measure_decision p base) (text_measure p) (decides p (no_measure none) base) _ _ _ _ _ (Refused c.fault.result) (nothing_breaks (Refused c.fault.result) reads) reads
+    let reads = rw c.fault.ensures at (c.in-Err.ensures.reads base [] (HasRead-none (HasMeasured p c.new-measurer.result base) (unusable_at p (utf8_place base)) base c.new-reading.result c.new-reading.ensures.offset c.new-reading.ensures.decoder (c.new-measurer.ensures p) (unusable_at-usable p (utf8_place base) [] (is_usable-none p)))) in
+    Surveys-stopped (no_measure none) (length c.args.buffer.now) base _ (unusable_at p (utf8_place base)) (measure_decision p base) (text_measure p) (decides p (no_measure none) base) _ _ _ _ _ (Refused c.fault.result) (nothing_breaks (Refused c.fault.result) reads) reads

@@ -5,6 +5,7 @@ use Rattle.nf_forms.specs.Ucd.{ucd}
 use Rattle.nf_forms.specs.declared.form.Form.TheVariants.{Nfc}
 use Rattle.nf_filter.specs.Filter.{state_of}
 use Rattle.nf_filter.specs.Finishes.{Finishes}
+use Rattle.nf_filter.specs.Policy.{as_is}
 use Rattle.nf_filter.proofs.WritesLemmas.{Puts-join}
 use Rattle.uses.proofs.RelayLemmas.{faultless, relays_none, relays_whole}
 use Rattle.uses.proofs.network.relay.Goals as goal
@@ -26,8 +27,8 @@ loop-come-preserved g c =
       relayed = (
         come ++ piece,
         Consumes-trans _ _ _ come piece so_far.relayed.1 c.in-Ok.ensures.bytes.0,
-        c.in_default-feed.ensures.stands Nfc come so_far.relayed.2,
-        Puts-join so_far.relayed.3 ((c.in_default-feed.ensures.feeds Nfc come so_far.relayed.2 (λ e. cc)).written (λ e. cc)),
+        c.in_default-feed.ensures.stands as_is Nfc come so_far.relayed.2,
+        Puts-join so_far.relayed.3 ((c.in_default-feed.ensures.feeds as_is Nfc come so_far.relayed.2 (λ e. cc)).written (λ e. cc)),
       );
     }
 
@@ -39,7 +40,7 @@ returns-then-come-eq0-clause-whole g c =
     let nothing = subst (λ n. Consumes (g.C.Read.remaining c.loop-come.connection) left (take n c.read.new.buf)) c.if-come-eq0.true c.in-Ok.ensures.bytes.0 in
     let read = subst (λ l. Consumes (g.C.Read.remaining c.args.connection.now) left l) (append-nil come) (Consumes-trans _ _ _ come [] so_far.relayed.1 nothing) in
     let ended = c.in-Ok.ensures.bytes.1 c.if-come-eq0.true (let room : 0 < length c.read.new.buf = omega (arith, c.read.auto.buf, so_far.room) in room) in
-    let finishes = subst (λ (n : ℕ). Finishes Nfc ucd n come (g.S.Sink.state c.loop-come.sink) (g.S.Sink.state c.finish.new.sink) c.finish.result) so_far.base
-    (c.finish.ensures.finishes Nfc come so_far.relayed.2) in
+    let finishes = subst (λ (n : ℕ). Finishes as_is Nfc ucd n come (g.S.Sink.state c.loop-come.sink) (g.S.Sink.state c.finish.new.sink) c.finish.result) so_far.base
+    (c.finish.ensures.finishes as_is Nfc come so_far.relayed.2) in
     relays_whole Nfc ucd (g.C.Read.remaining c.args.connection.now) left (g.S.Sink.state c.args.sink.now) (g.S.Sink.state c.loop-come.sink) (g.S.Sink.state c.finish.new.sink) come
     c.finish.result c.longest_text.ensures.reads read ended (faultless Nfc ucd (state_of c.loop-come.filter) come so_far.base so_far.relayed.2) so_far.relayed.3 finishes

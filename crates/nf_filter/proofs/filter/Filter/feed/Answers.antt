@@ -1,44 +1,42 @@
-use Rattle.std.proofs.Common.{◌≡◌, ◌++◌, Ok, Err, Some, sym, ap, ◌∙◌}
-use Rattle.std.specs.Prelude.{Result}
-use Rattle.nf_filter.specs.declared.fault.Fault.TheVariants.{TooLong}
-use Rattle.nf_filter.specs.declared.taker.Stop.{Stop}
-use Rattle.nf_filter.specs.declared.taker.Stop.TheVariants.{Refused}
-use Rattle.nf_filter.specs.Normalizer.{HasTaken}
-use Rattle.nf_filter.proofs.FilterLemmas.{HasRead-own, HasRead-form, Feeds-from}
+use Rattle.std.proofs.Common.{◌≡◌, ℕ, List, [], None, sym, subst}
+use Rattle.nf_forms.specs.Properties.{Properties}
+use Rattle.nf_forms.specs.declared.form.Form.{Form}
+use Rattle.nf_filter.specs.declared.filter.State.{State}
+use Rattle.nf_filter.specs.declared.policy.Policy.{Policy}
+use Rattle.nf_filter.specs.Faults.{fault_in}
+use Rattle.nf_filter.specs.Feeding.{HasReadTo}
+use Rattle.nf_filter.specs.Filter.{StandsAfter}
 use Rattle.nf_filter.proofs.filter.Filter.feed.Goals as goal
 
-some_is : {A : Type 0} {a b : A} → Some a ≡ Some b → a ≡ b
-some_is e = cc
+-- the policy of the filter
+module _ (policy : Policy) (f : Form) (p : Properties) (state : State) (bytes : List ℕ) (stands : StandsAfter policy f p state bytes) where
+  read_before : HasReadTo state.policy f p state.normalizer state.base state.reading bytes []
+  read_before = subst (λ (q : Policy). HasReadTo q f p state.normalizer state.base state.reading bytes []) (sym stands.policy_is) stands.reading
 
-abbrev stop_of : Stop → Result (Unit {0}) Stop
-stop_of stop = Err stop
+  no_fault_before : fault_in state.policy p state.base bytes ≡ None
+  no_fault_before = subst (λ (q : Policy). fault_in q p state.base bytes ≡ None) (sym stands.policy_is) stands.no_fault
 
 pub returns-in-Ok-clause-feeds : goal.returns-in-Ok-clause-feeds
-returns-in-Ok-clause-feeds g c = λ f bytes stands short.
+returns-in-Ok-clause-feeds g c = λ policy f bytes stands short.
     let p = g.R.Rows.properties c.args.self.now.rows.now in
     let state = c.args.self.now.state in
-    let read = stands.reading in
-    Feeds-from p f state.normalizer.form read.taken.form (λ x. HasTaken c.read.new.taker.form p c.read.new.taker x) state.base c.read.new.self bytes c.args.piece.now _ _ (Ok tt)
-    (c.in-Ok.ensures.reads state.base bytes (HasRead-own p f state.normalizer state.base state.reading bytes read) (λ e. cc))
+    rw (← stands.policy_is) (c.in-Ok.ensures.feeds f state.base bytes (read_before policy f p state bytes stands) (no_fault_before policy f p state bytes stands)).0
 
 pub returns-in-Ok-clause-stands : goal.returns-in-Ok-clause-stands
-returns-in-Ok-clause-stands g c = λ f bytes stands.
+returns-in-Ok-clause-stands g c = λ policy f bytes stands.
     let p = g.R.Rows.properties c.args.self.now.rows.now in
     let state = c.args.self.now.state in
-    let read = stands.reading in
-    let reads = c.in-Ok.ensures.reads state.base bytes (HasRead-own p f state.normalizer state.base state.reading bytes read) (λ e. cc) in
+    let both = c.in-Ok.ensures.feeds f state.base bytes (read_before policy f p state bytes stands) (no_fault_before policy f p state bytes stands) in
+    let feeds = both.0 in
     record {
       unspent = stands.unspent;
-      reading = HasRead-form p f c.read.new.taker state.base c.read.new.self (bytes ++ c.args.piece.now) (some_is c.in-Ok.ensures.form ∙ read.taken.form) reads.read;
+      policy_is = stands.policy_is;
+      reading = rw (← stands.policy_is) both.1;
+      no_fault = rw (← stands.policy_is) (sym (feeds.answer (λ e. cc)));
     }
 
 pub returns-in-Err-clause-feeds : goal.returns-in-Err-clause-feeds
-returns-in-Err-clause-feeds g c = λ f bytes stands short.
+returns-in-Err-clause-feeds g c = λ policy f bytes stands short.
     let p = g.R.Rows.properties c.args.self.now.rows.now in
     let state = c.args.self.now.state in
-    let read = stands.reading in
-    let is = c.fault.ensures in
-    let reads = c.in-Err.ensures.reads state.base bytes (HasRead-own p f state.normalizer state.base state.reading bytes read)
-    (λ e. short (let same : stop_of (Refused c.fault.result) ≡ stop_of (Refused TooLong) = ap stop_of (sym is) ∙ e in let fault : c.fault.result ≡ TooLong = cc in ap Err fault)) in
-    Feeds-from p f state.normalizer.form read.taken.form (λ x. HasTaken c.read.new.taker.form p c.read.new.taker x) state.base c.read.new.self bytes c.args.piece.now _ _ (Err c.fault.result)
-    (rw is at reads)
+    rw (← stands.policy_is) (c.in-Err.ensures.feeds f state.base bytes (read_before policy f p state bytes stands) (no_fault_before policy f p state bytes stands)).0

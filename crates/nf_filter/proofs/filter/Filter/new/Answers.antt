@@ -1,8 +1,7 @@
-use Rattle.std.proofs.Common.{[], refl, arith}
-use Rattle.nf_filter.specs.Normalizer.{HasTaken, unusable_at}
-use Rattle.nf_filter.proofs.SettledLemmas.{is_usable-none}
-use Rattle.nf_filter.proofs.TextLemmas.{unusable_at-usable}
-use Rattle.nf_filter.proofs.ReadingLemmas.{holds_nothing, HasRead-none}
+use Rattle.std.proofs.Common.{refl, arith}
+use Rattle.nf_filter.specs.Policy.{as_is}
+use Rattle.nf_filter.proofs.ReadingLemmas.{holds_nothing}
+use Rattle.nf_filter.proofs.StandingLemmas.{StandsAfter-none}
 use Rattle.nf_filter.proofs.filter.Filter.new.Goals as goal
 
 pub invariant_of-result : goal.invariant_of-result
@@ -16,8 +15,4 @@ invariant_of-result g c =
 pub returns-clause-stands : goal.returns-clause-stands
 returns-clause-stands g c =
     let p = g.R.Rows.properties c.args.rows.now in
-    let taken = c.new-2.ensures.taken p in
-    record {
-      unspent = refl;
-      reading = HasRead-none (HasTaken c.args.form p c.new-2.result) (unusable_at p c.args.base) c.args.base c.new.result c.new.ensures.offset c.new.ensures.decoder taken (unusable_at-usable p c.args.base [] (is_usable-none p));
-    }
+    StandsAfter-none p as_is c.args.form _ refl refl c.new.ensures.offset c.new.ensures.decoder (c.new-2.ensures.taken p)

@@ -14,7 +14,7 @@ ascii_front text n ascii =
     ∙ ap (λ l. l ++ chars (drop n text)) (chars-IsAscii (take n text) ascii)
 
 pub returns-in-Ok-clause-takes : goal.returns-in-Ok-clause-takes
-returns-in-Ok-clause-takes g c = λ f base x start taken here written.
+returns-in-Ok-clause-takes g c = λ f place x start taken here written.
     let text = c.args.text.now in
     let len = c.ascii_prefix-len.result in
     let alone = c.in-Some.ensures.alone f (g.R.Rows.properties c.args.rows.now) x taken in
@@ -23,14 +23,14 @@ returns-in-Ok-clause-takes g c = λ f base x start taken here written.
     record { front = take len text; is_front = ascii_front text len ascii ∙ ap (λ l. take len text ++ chars l) (sym c.in-Ok.ensures.rest); taken = after.0; written = after.1 }
 
 pub returns-in-Err-clause-takes : goal.returns-in-Err-clause-takes
-returns-in-Err-clause-takes g c = λ f base x start taken here written.
+returns-in-Err-clause-takes g c = λ f place x start taken here written.
     let p = g.R.Rows.properties c.args.rows.now in
     let text = c.args.text.now in
     let len = c.ascii_prefix-len.result in
     let alone = c.in-Some.ensures.alone f p x taken in
     let ascii = rw c.as_bytes.ensures.value at c.ascii_prefix-len.ensures.ascii in
     let stopped = c.in-Err.ensures.takes f x start taken alone written in
-    TakesOn-more f p _ start _ base x text (take len text) (drop len text) _ (ascii_front text len ascii) (record {
+    TakesOn-more f p _ start _ place x text (take len text) (drop len text) _ (ascii_front text len ascii) (record {
       broken = λ _. Broken-extends start (usable_utf8-extends p f (x ++ take len text) (chars (drop len text)) stopped.0) stopped.1;
       written = λ no. absurd (no refl);
       stop = λ no. absurd (no refl);

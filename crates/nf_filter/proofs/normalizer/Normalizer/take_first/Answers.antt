@@ -5,11 +5,11 @@ use Rattle.std.proofs.lemmas.Str.{chars_past_char}
 use Rattle.nf_filter.specs.Block.{block_state}
 use Rattle.nf_filter.specs.Normalizer.{TakesOn}
 use Rattle.nf_filter.proofs.TextLemmas.{TakesOn-refused}
-use Rattle.nf_filter.proofs.TakingLemmas.{begins, TakesOn-more}
+use Rattle.nf_filter.proofs.TakingLemmas.{begins, placed-first, TakesOn-more}
 use Rattle.nf_filter.proofs.normalizer.Normalizer.take_first.Goals as goal
 
 pub returns-in-Ok-clause-takes : goal.returns-in-Ok-clause-takes
-returns-in-Ok-clause-takes g c = λ f base x start taken here written.
+returns-in-Ok-clause-takes g c = λ f place x start taken here written.
     let after = c.in-Ok.ensures.takes f x start taken written in
     let first = begins _ _ _ _ c.unwrap-c.result c.unwrap-c.ensures c.next.ensures.steps.0 in
     record {
@@ -21,12 +21,12 @@ returns-in-Ok-clause-takes g c = λ f base x start taken here written.
     }
 
 pub returns-in-Err-clause-takes : goal.returns-in-Err-clause-takes
-returns-in-Err-clause-takes g c = λ f base x start taken here written.
+returns-in-Err-clause-takes g c = λ f place x start taken here written.
     let p = g.R.Rows.properties c.args.rows.now in
     let first = begins _ _ _ _ c.unwrap-c.result c.unwrap-c.ensures c.next.ensures.steps.0 in
     let rest = chars_rest c.next.new.self in
     let is_front = chars_past_char c.args.text.now rest c.unwrap-c.result c.utf8.text (sym c.chars-chars.ensures.rest ∙ first) in
     let now = block_state g.S.Sink.state c.take_char.new.block in
-    let refused = TakesOn-refused p f c.take_char.new.self start now base x c.unwrap-c.result (chars rest) c.args.at c.in-Err.refusal taken.usable here (c.in-Err.ensures.takes f x start taken written) in
-    TakesOn-more f p c.take_char.new.self start now base x c.args.text.now (c.unwrap-c.result ∷ []) rest _ is_front
-    (subst (λ stop. TakesOn f p c.take_char.new.self start now base ((x ++ c.unwrap-c.result ∷ []) ++ chars rest) (Err stop)) (sym c.at.ensures.value) refused)
+    let refused = TakesOn-refused p f c.take_char.new.self start now place x c.unwrap-c.result (chars rest) c.args.at c.in-Err.refusal taken.usable (placed-first place c.args.at x c.unwrap-c.result (chars rest) (rw is_front at here)) (c.in-Err.ensures.takes f x start taken written) in
+    TakesOn-more f p c.take_char.new.self start now place x c.args.text.now (c.unwrap-c.result ∷ []) rest _ is_front
+    (subst (λ stop. TakesOn f p c.take_char.new.self start now place ((x ++ c.unwrap-c.result ∷ []) ++ chars rest) (Err stop)) (sym c.at.ensures.value) refused)

@@ -1,0 +1,25 @@
+-- What some command lines ask for.
+use Rattle.std.proofs.Common.{◌≡◌, refl, true, false, List, [], ◌∷◌, Some, codes}
+use Rattle.std.specs.Borrow.{Bor}
+use Rattle.clap.specs.Walk.{Text, walked}
+use Rattle.clap.specs.Simple.{subcommand_of}
+use Rattle.nf_forms.specs.declared.form.Form.TheVariants.{Nfc}
+use Rattle.nf_cmd.specs.declared.line.Request.TheVariants.{Convert}
+use Rattle.nf_cmd.specs.Line.{convert, flag_rule, form_rule, line, request_of}
+
+module _ (names : Bor (List (Bor Text))) where
+  no_flag : request_of (subcommand_of (line names) (codes "nfstream" ∷ codes "convert" ∷ codes "--form" ∷ codes "nfc" ∷ [])) ≡ Some (Convert Nfc (record { replace = false; assigned = false }))
+  unfolding line convert form_rule flag_rule walked
+  no_flag = refl
+
+  replaces : request_of (subcommand_of (line names) (codes "nfstream" ∷ codes "convert" ∷ codes "--replace" ∷ codes "--form=nfc" ∷ [])) ≡ Some (Convert Nfc (record { replace = true; assigned = false }))
+  unfolding line convert form_rule flag_rule walked
+  replaces = refl
+
+  assigned : request_of (subcommand_of (line names) (codes "nfstream" ∷ codes "convert" ∷ codes "--form" ∷ codes "nfc" ∷ codes "--assigned" ∷ [])) ≡ Some (Convert Nfc (record { replace = false; assigned = true }))
+  unfolding line convert form_rule flag_rule walked
+  assigned = refl
+
+  both : request_of (subcommand_of (line names) (codes "nfstream" ∷ codes "convert" ∷ codes "--assigned" ∷ codes "--form" ∷ codes "nfc" ∷ codes "--replace" ∷ [])) ≡ Some (Convert Nfc (record { replace = true; assigned = true }))
+  unfolding line convert form_rule flag_rule walked
+  both = refl

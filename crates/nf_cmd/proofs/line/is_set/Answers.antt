@@ -1,0 +1,25 @@
+use Rattle.std.proofs.Common.{◌≡◌, ◌∙◌, Bool, true, false, refl, sym, ap, Option, Some, None, codes}
+use Rattle.std.specs.Bool.{beq}
+use Rattle.std.specs.Option.{option_eq, option_map_or}
+use Rattle.std.specs.Str.{bytes_eq}
+use Rattle.std.specs.Str.Parse.{ParsesBool}
+use Rattle.std.proofs.lemmas.Slice.Eq.{bytes_eq-Decides}
+use Rattle.clap.specs.Matches.{ReadsOne, found_of}
+use Rattle.clap.specs.Walk.{Text}
+use Rattle.clap.proofs.WalkLemmas.{one_text-rows}
+use Rattle.nf_cmd.proofs.line.is_set.Goals as goal
+
+-- what is read of a text as a truth value is true exactly of the text `true`
+read : (E : Type 0) (text : Option Text) (value : Option Bool) → (text ≡ None → value ≡ None) → ((t : Text) → text ≡ Some t → ReadsOne (ParsesBool {E = E}) t value)
+    → option_eq beq value (Some true) ≡ option_map_or (λ t. bytes_eq t (codes "true")) text false
+read E None value none some = ap (λ v. option_eq beq v (Some true)) (none refl)
+read E (Some t) (Some true) none some = sym (ap (λ x. bytes_eq x (codes "true")) (some t refl))
+read E (Some t) (Some false) none some = sym (ap (λ x. bytes_eq x (codes "true")) (some t refl))
+read E (Some t) None none some = go (bytes_eq t (codes "true")) refl
+  where
+    go : (b : Bool) → bytes_eq t (codes "true") ≡ b → false ≡ b
+    go true e = absurd ((some t refl).1.0 ((bytes_eq-Decides t (codes "true")).0 e))
+    go false e = refl
+
+pub returns : goal.returns
+returns c = c.eq.ensures ∙ read _ _ c.get_one.result c.get_one.ensures.none c.get_one.ensures.value ∙ ap (λ o. option_map_or (λ t. bytes_eq t (codes "true")) o false) (one_text-rows (found_of c.args.found.now) c.args.flag.now)

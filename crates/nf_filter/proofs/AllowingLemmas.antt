@@ -1,0 +1,136 @@
+-- A text of which only assigned characters may be taken.
+use Rattle.std.proofs.Common.{◌≡◌, ℕ, ◌==◌, ◌<◌, Bool, true, false, List, [], ◌++◌, length, Some, None, Ok, Err, ⊎_elim, refl, sym, ap, ◌∙◌, subst, arith, eq-eqb, ne_eqb}
+use Rattle.std.specs.Prelude.{Option, Result, option_map, if◌then◌else◌}
+use Rattle.nf_forms.specs.Properties.{Properties}
+use Rattle.nf_forms.specs.declared.form.Form.{Form}
+use Rattle.nf_filter.specs.declared.fault.Fault.{Fault}
+use Rattle.nf_filter.specs.declared.fault.Fault.TheVariants.{Row, Write as WriteFault, Unassigned}
+use Rattle.nf_filter.specs.declared.normalizer.Normalizer.{Normalizer}
+use Rattle.nf_filter.specs.declared.taker.Stop.TheVariants.{Refused}
+use Rattle.nf_filter.specs.Block.{Start, BlockState, Written}
+use Rattle.nf_filter.specs.Faults.{first_fault}
+use Rattle.nf_filter.specs.Feeding.{taken_utf8, TakesAllowed}
+use Rattle.nf_filter.specs.Normalizer.{TakesOn, settled_text, unusable_at, usable_utf8}
+use Rattle.nf_filter.specs.Policy.{allowed}
+use Rattle.nf_filter.specs.Settled.{is_usable, usable}
+use Rattle.nf_filter.specs.Sources.{stop_at_end}
+use Rattle.nf_filter.proofs.BlockLemmas.{Written-at}
+use Rattle.nf_filter.proofs.PushingLemmas.{Broken-at, Broken-extends}
+use Rattle.nf_filter.proofs.SettledLemmas.{usable-all}
+use Rattle.nf_filter.proofs.PolicyLemmas.{allowed-grows, first_fault-stays, taken-all, taken_utf8-grows}
+
+-- what stops as a fault
+pub fault_is : (o : Option Fault) (fault : Fault) → Some (Refused fault) ≡ option_map Refused o → Some fault ≡ o
+fault_is None fault e = cc
+fault_is (Some other) fault e = let same : fault ≡ other = cc in ap Some same
+
+pub no_fault : (o : Option Fault) → None ≡ option_map Refused o → None ≡ o
+no_fault None e = refl
+no_fault (Some other) e = cc
+
+module _ (f : Form) (p : Properties) where
+  -- as far as all may be taken, only what is unsound stops
+  unusable_is : (a : Bool) (place : List ℕ → ℕ) (x : List ℕ) → allowed a p x ≡ x → unusable_at p place x ≡ option_map Refused (first_fault a p place x None)
+  unfolding unusable_at
+  unusable_is false place x all = next (is_usable p x)
+    where
+      next : (b : Bool) → (if b then None else Some (Refused (Row (place (usable p x))))) ≡ option_map Refused (if b then None else Some (Row (place (usable p x))))
+      next true = refl
+      next false = refl
+  unusable_is true place x all =
+      next (is_usable p x)
+      ∙ ap (λ (b : Bool). option_map Refused (if is_usable p x then (if b then None else Some (Unassigned (place x))) else Some (Row (place (usable p x))))) (sym (eq-eqb (length x) (length x) refl))
+      ∙ ap (λ l. option_map Refused (if is_usable p l then (if length l == length x then None else Some (Unassigned (place l))) else Some (Row (place (usable p l))))) (sym all)
+    where
+      next : (b : Bool) → (if b then None else Some (Refused (Row (place (usable p x))))) ≡ option_map Refused (if b then None else Some (Row (place (usable p x))))
+      next true = refl
+      next false = refl
+
+  written_is : (a : Bool) (x : List ℕ) → allowed a p x ≡ x → usable_utf8 f p x ≡ taken_utf8 a f p x
+  unfolding usable_utf8
+  written_is a x all = ap (λ l. settled_text f p (usable p l)) (sym all)
+
+  module _ (normalizer : Normalizer) (start : Start) (now : BlockState) (place : List ℕ → ℕ) where
+    -- all of a text may be taken
+    pub TakesAllowed-all : (a : Bool) (x : List ℕ) (r : Result (Unit {0}) Fault) → allowed a p x ≡ x → TakesOn f p normalizer start now place x (stop_at_end r) → TakesAllowed a f p normalizer start now place x r
+    TakesAllowed-all a x (Ok u) all takes = record {
+      broken = λ e. cc;
+      written = λ _. Written-at (written_is a x all) (takes.written (λ e. cc));
+      fault = λ _. no_fault (first_fault a p place x None) (takes.stop (λ e. cc) ∙ unusable_is a place x all);
+      taken = (takes.taken, all);
+    }
+    TakesAllowed-all a x (Err fault) all takes = record {
+      broken = λ e. Broken-at start (written_is a x all) (takes.broken (let is : fault ≡ WriteFault = cc in ap (λ k. Err (Refused k)) is));
+      written = λ not. Written-at (written_is a x all) (takes.written (λ e. not (let is : fault ≡ WriteFault = cc in ap Err is)));
+      fault = λ not. fault_is (first_fault a p place x None) fault (takes.stop (λ e. not (let is : fault ≡ WriteFault = cc in ap Err is)) ∙ unusable_is a place x all);
+      taken = tt;
+    }
+
+    -- only the front z of it
+    module _ (w z : List ℕ) (front : allowed true p w ≡ z) (less : length z < length w) where
+      not_all : (length (allowed true p w) == length w) ≡ false
+      not_all = ne_eqb _ _ (λ e. omega (arith, less, e, ap length front))
+
+      written_front : settled_text f p (usable p z) ≡ taken_utf8 true f p w
+      written_front = ap (λ l. settled_text f p (usable p l)) (sym front)
+
+      usable_front : usable_utf8 f p z ≡ taken_utf8 true f p w
+      unfolding usable_utf8
+      usable_front = written_front
+
+      fault_front : first_fault true p place w None ≡ (if is_usable p z then Some (Unassigned (place z)) else Some (Row (place (usable p z))))
+      fault_front =
+          ap (λ (b : Bool). if is_usable p (allowed true p w) then (if b then None else Some (Unassigned (place (allowed true p w)))) else Some (Row (place (usable p (allowed true p w))))) not_all
+          ∙ ap (λ l. if is_usable p l then Some (Unassigned (place l)) else Some (Row (place (usable p l)))) front
+
+      unusable_front : (fault : Fault) → Some (Refused fault) ≡ unusable_at p place z → Some fault ≡ (if is_usable p z then Some (Unassigned (place z)) else Some (Row (place (usable p z))))
+      unfolding unusable_at
+      unusable_front fault is = next (is_usable p z) is
+        where
+          next : (b : Bool) → Some (Refused fault) ≡ (if b then None else Some (Refused (Row (place (usable p z))))) → Some fault ≡ (if b then Some (Unassigned (place z)) else Some (Row (place (usable p z))))
+          next true e = cc
+          next false e = let same : fault ≡ Row (place (usable p z)) = cc in ap Some same
+
+      -- which stopped
+      pub TakesAllowed-front : (fault : Fault) → TakesOn f p normalizer start now place z (Err (Refused fault)) → TakesAllowed true f p normalizer start now place w (Err fault)
+      TakesAllowed-front fault takes = record {
+        broken = λ e. Broken-at start usable_front (takes.broken (let is : fault ≡ WriteFault = cc in ap (λ k. Err (Refused k)) is));
+        written = λ not. Written-at usable_front (takes.written (λ e. not (let is : fault ≡ WriteFault = cc in ap Err is)));
+        fault = λ not. unusable_front fault (takes.stop (λ e. not (let is : fault ≡ WriteFault = cc in ap Err is))) ∙ sym fault_front;
+        taken = tt;
+      }
+
+      -- or was taken
+      pub TakesAllowed-unassigned : (at : ℕ) → is_usable p z ≡ true → Written start now (settled_text f p z) → place z ≡ at → TakesAllowed true f p normalizer start now place w (Err (Unassigned at))
+      TakesAllowed-unassigned at sound written here = record {
+        broken = λ e. cc;
+        written = λ _. Written-at (ap (settled_text f p) (sym (usable-all p z sound)) ∙ written_front) written;
+        fault = λ _. ap (λ n. Some (Unassigned n)) (sym here) ∙ sym (fault_front ∙ ap (λ (b : Bool). if b then Some (Unassigned (place z)) else Some (Row (place (usable p z)))) sound);
+        taken = tt;
+      }
+
+    -- a text that stopped where all that may be taken was taken before it
+    pub TakesAllowed-stopped : (w z : List ℕ) (fault : Fault) → allowed true p w ≡ z → TakesOn f p normalizer start now place z (Err (Refused fault)) → TakesAllowed true f p normalizer start now place w (Err fault)
+    TakesAllowed-stopped w z fault front takes = ⊎_elim
+        (λ all. TakesAllowed-all true w (Err fault) all (subst (λ y. TakesOn f p normalizer start now place y (Err (Refused fault))) (sym front ∙ all) takes))
+        (λ less. TakesAllowed-front w z front (omega (arith, less.0, ap length front)) fault takes)
+        (allowed-grows p true w [])
+
+    -- what stopped in a text stops in a longer one
+    pub TakesAllowed-more : (a : Bool) (w y : List ℕ) (fault : Fault) → TakesAllowed a f p normalizer start now place w (Err fault) → TakesAllowed a f p normalizer start now place (w ++ y) (Err fault)
+    TakesAllowed-more a w y fault takes = record {
+      broken = λ e. Broken-extends start (taken_utf8-grows p a f w y) (takes.broken e);
+      written = λ not. Written-at (sym (ap (settled_text f p) (stays not).1)) (takes.written not);
+      fault = λ not. sym (stays not).0;
+      taken = tt;
+    }
+      where
+        refused_by : Result (Unit {0}) Fault
+        refused_by = Err fault
+
+        stays : ¬ (refused_by ≡ Err WriteFault) → (first_fault a p place (w ++ y) None ≡ Some fault) × (usable p (allowed a p (w ++ y)) ≡ usable p (allowed a p w))
+        stays not = first_fault-stays p a place w y None fault (takes.fault not)
+
+    -- all of a text was taken
+    pub TakesAllowed-settled : (a : Bool) (x : List ℕ) (u : Unit {0}) → TakesAllowed a f p normalizer start now place x (Ok u) → Written start now (settled_text f p x)
+    TakesAllowed-settled a x u takes = let taken = takes.taken.0 in Written-at (ap (settled_text f p) (taken-all p a x taken.usable takes.taken.1)) (takes.written (λ e. cc))

@@ -1,0 +1,82 @@
+-- A character that the end cuts, taken as U+FFFD.
+use Rattle.std.proofs.Common.{◌≡◌, ℕ, ◌+◌, true, List, [], ◌∷◌, ◌++◌, length, None, Ok, Err, refl, sym, ap, ◌∙◌, subst, arith}
+use Rattle.std.specs.Prelude.{Result, encode_utf8_all}
+use Rattle.nf_forms.specs.Properties.{Properties}
+use Rattle.nf_forms.specs.declared.form.Form.{Form}
+use Rattle.nf_utf8.specs.Reading.{text_of}
+use Rattle.nf_utf8.specs.Replaced.{replacement}
+use Rattle.nf_utf8.specs.Laws.{ReplacesParts}
+use Rattle.nf_filter.specs.declared.fault.Fault.{Fault}
+use Rattle.nf_filter.specs.declared.fault.Fault.TheVariants.{Write}
+use Rattle.nf_filter.specs.declared.normalizer.Normalizer.{Normalizer}
+use Rattle.nf_filter.specs.declared.policy.Policy.{Policy}
+use Rattle.nf_filter.specs.declared.reading.Reading.{Reading}
+use Rattle.nf_filter.specs.Devices.{SinkState}
+use Rattle.nf_filter.specs.Block.{BlockState, Written, Broken}
+use Rattle.nf_filter.specs.Feeding.{taken_utf8, TakesAllowed, HasReadTo, ReplacesCut}
+use Rattle.nf_filter.specs.Normalizer.{HasTaken, IsPlacedAt, settled_text}
+use Rattle.nf_filter.specs.Policy.{allowed, len_under, whole_under}
+use Rattle.nf_filter.specs.Settled.{is_usable, settled_utf8}
+use Rattle.nf_filter.proofs.WritesLemmas.{Puts-none, Puts-at}
+use Rattle.nf_filter.proofs.BlockLemmas.{start_at, Written-at}
+use Rattle.nf_filter.proofs.TextLemmas.{Puts-emptied}
+use Rattle.nf_filter.proofs.PolicyLemmas.{first_fault-none, taken-all}
+use Rattle.nf_filter.proofs.ChunkLemmas.{one_placed}
+use Rattle.nf_filter.proofs.FedLemmas.{read-settled, read-place, whole-none, whole-some}
+
+module _ (policy : Policy) (f : Form) (p : Properties) (base : ℕ) (laws : ReplacesParts) (normalizer : Normalizer) (reading : Reading) (bytes : List ℕ) (read : HasReadTo policy f p normalizer base reading bytes []) (replaces : policy.replace ≡ true)
+    (carried : ℕ) (is_carried : length (encode_utf8_all (text_of read.tail)) + carried ≡ length read.tail) where
+  -- the end cuts none
+  pub cut-none : (sink : SinkState) → carried ≡ 0 → ReplacesCut policy f p normalizer base bytes sink sink (Ok tt)
+  cut-none sink none =
+      let taken = read.taken in
+      let whole : whole_under policy.replace bytes ≡ read.before ++ text_of read.tail = whole-none policy f p base laws normalizer reading bytes read replaces carried is_carried none in
+      let sound : is_usable p (whole_under policy.replace bytes) ≡ true = ap (is_usable p) whole ∙ taken.usable in
+      let all : allowed policy.assigned p (whole_under policy.replace bytes) ≡ whole_under policy.replace bytes = ap (allowed policy.assigned p) whole ∙ read.allowed ∙ sym whole in
+      record {
+        broken = λ e. cc;
+        puts = λ _. Puts-at refl (sym (read-settled policy f p base laws normalizer reading bytes read) ∙ ap (settled_text f p) (sym (taken-all p policy.assigned (whole_under policy.replace bytes) sound all ∙ whole))) (Puts-none sink (settled_utf8 policy f p bytes));
+        fault = λ _. sym (first_fault-none p policy.assigned (λ front. base + len_under policy.replace bytes front) (whole_under policy.replace bytes) None sound all);
+        taken = (subst (HasTaken f p normalizer) (sym whole) taken, all);
+      }
+
+  -- where it is cut
+  pub cut-placed : (at : ℕ) → at + carried ≡ reading.offset → IsPlacedAt (λ front. base + len_under policy.replace bytes front) at (read.before ++ text_of read.tail) (replacement ∷ [])
+  cut-placed at here = one_placed (λ front. base + len_under policy.replace bytes front) at (read.before ++ text_of read.tail) replacement
+      (omega (arith, read-place policy f p base laws normalizer reading bytes read, is_carried, here, read.offset))
+
+  pub cut-written : (sink : SinkState) (now : BlockState) → Written (start_at sink (settled_utf8 policy f p bytes)) now (settled_utf8 policy f p bytes) → Written (start_at sink (settled_utf8 policy f p bytes)) now (settled_text f p (read.before ++ text_of read.tail))
+  cut-written sink now written = Written-at (sym (read-settled policy f p base laws normalizer reading bytes read)) written
+
+  -- U+FFFD was taken for it, or refused
+  module _ (some : ¬ (carried ≡ 0)) (after : Normalizer) (sink new : SinkState) (now : BlockState) (r : Result (Unit {0}) Fault)
+      (takes : TakesAllowed policy.assigned f p after (start_at sink (settled_utf8 policy f p bytes)) now (λ front. base + len_under policy.replace bytes front) ((read.before ++ text_of read.tail) ++ replacement ∷ []) r) where
+    here : TakesAllowed policy.assigned f p after (start_at sink (settled_utf8 policy f p bytes)) now (λ front. base + len_under policy.replace bytes front) (whole_under policy.replace bytes) r
+    here = subst (λ x. TakesAllowed policy.assigned f p after (start_at sink (settled_utf8 policy f p bytes)) now (λ front. base + len_under policy.replace bytes front) x r)
+        (sym (whole-some policy f p base laws normalizer reading bytes read replaces carried is_carried some)) takes
+
+    pub cut-broken : r ≡ Err Write → now.sink ≡ new → ReplacesCut policy f p after base bytes sink new r
+    cut-broken is same = record {
+      broken = λ e. rw (← same) (here.broken e);
+      puts = λ not. absurd (not is);
+      fault = λ not. absurd (not is);
+      taken = here.taken;
+    }
+
+    pub cut-failed : (last : BlockState) → ¬ (r ≡ Err Write) → (Written (start_at sink (settled_utf8 policy f p bytes)) now (taken_utf8 policy.assigned f p (whole_under policy.replace bytes)) → Broken (start_at sink (settled_utf8 policy f p bytes)) last (taken_utf8 policy.assigned f p (whole_under policy.replace bytes)))
+        → last.sink ≡ new → ReplacesCut policy f p after base bytes sink new (Err Write)
+    cut-failed last whole breaks same = record {
+      broken = λ _. rw (← same) (breaks (here.written whole));
+      puts = λ not. absurd (not refl);
+      fault = λ not. absurd (not refl);
+      taken = tt;
+    }
+
+    pub cut-given : (last : BlockState) → ¬ (r ≡ Err Write) → (Written (start_at sink (settled_utf8 policy f p bytes)) now (taken_utf8 policy.assigned f p (whole_under policy.replace bytes)) → Written (start_at sink (settled_utf8 policy f p bytes)) last (taken_utf8 policy.assigned f p (whole_under policy.replace bytes)))
+        → last.kept ≡ [] → last.sink ≡ new → ReplacesCut policy f p after base bytes sink new r
+    cut-given last whole writes none same = record {
+      broken = λ e. absurd (whole e);
+      puts = λ _. rw (← same) (Puts-emptied none (writes (here.written whole)));
+      fault = here.fault;
+      taken = here.taken;
+    }

@@ -1,0 +1,154 @@
+-- A piece that was read: what it comes to by the bytes.
+use Rattle.std.proofs.Common.{◌≡◌, ℕ, ◌+◌, ◌-◌, ◌==◌, Bool, true, false, List, [], ◌∷◌, ◌++◌, length, None, Ok, Err, refl, sym, ap, ◌∙◌, subst, arith, append_assoc, append-nil, eq-eqb, ne_eqb}
+use Rattle.std.specs.Prelude.{OnOk, Result, if◌then◌else◌, encode_utf8_all}
+use Rattle.std.specs.Result.{result_err}
+use Rattle.nf_forms.specs.Properties.{Properties}
+use Rattle.nf_forms.specs.declared.form.Form.{Form}
+use Rattle.nf_utf8.specs.Reading.{text_of, ending_of}
+use Rattle.nf_utf8.specs.Replaced.{replacement, begun_at_end, replaced_whole}
+use Rattle.nf_utf8.specs.Laws.{ReplacesParts}
+use Rattle.nf_filter.specs.declared.fault.Fault.{Fault}
+use Rattle.nf_filter.specs.declared.fault.Fault.TheVariants.{Write}
+use Rattle.nf_filter.specs.declared.normalizer.Normalizer.{Normalizer}
+use Rattle.nf_filter.specs.declared.policy.Policy.{Policy}
+use Rattle.nf_filter.specs.declared.reading.Reading.{Reading}
+use Rattle.nf_filter.specs.Block.{Start, BlockState, Written, Broken}
+use Rattle.nf_filter.specs.Faults.{bad_byte, bad_under, fault_in}
+use Rattle.nf_filter.specs.Feeding.{taken_utf8, IsLeft, HasReadTo, ReadsTo, ReadsRest}
+use Rattle.nf_filter.specs.Normalizer.{settled_text}
+use Rattle.nf_filter.specs.Policy.{allowed, len_under, text_under, whole_under}
+use Rattle.nf_filter.specs.Settled.{is_usable, settled_utf8}
+use Rattle.nf_filter.specs.Devices.{SinkState}
+use Rattle.nf_filter.specs.Feeds.{Feeds}
+use Rattle.nf_filter.proofs.BlockLemmas.{start_at, Written-at}
+use Rattle.nf_filter.proofs.FilterLemmas.{Feeds-broken, Feeds-put}
+use Rattle.nf_filter.proofs.TextLemmas.{Puts-emptied}
+use Rattle.nf_filter.proofs.PushingLemmas.{Broken-at}
+use Rattle.nf_filter.proofs.PolicyLemmas.{first_fault-none, taken-all}
+use Rattle.nf_filter.proofs.PieceLemmas.{IsLeft-more, left-text, left-place, left-bad, left-whole, text_under-begun, begun_at_end-begun, len_under-first}
+
+good_under : (r : Bool) (n : ℕ) (tail : List ℕ) → bad_byte n (ending_of tail) ≡ None → bad_under r n tail ≡ None
+good_under false n tail good = good
+good_under true n tail good = refl
+
+-- what is settled is what is settled of the text that is taken
+pub settled_utf8-taken : (policy : Policy) (f : Form) (p : Properties) (bytes : List ℕ) → taken_utf8 policy.assigned f p (text_under policy.replace bytes) ≡ settled_utf8 policy f p bytes
+unfolding settled_utf8
+settled_utf8-taken policy f p bytes = refl
+
+module _ (policy : Policy) (f : Form) (p : Properties) (base : ℕ) (laws : ReplacesParts) (normalizer : Normalizer) (reading : Reading) (bytes : List ℕ) (read : HasReadTo policy f p normalizer base reading bytes []) where
+  abbrev pub text : List ℕ
+  text = read.before ++ text_of read.tail
+
+  pub left_is : IsLeft policy.replace bytes read.before read.n read.tail
+  left_is = subst (IsLeft policy.replace bytes read.before read.n) (append-nil read.tail) read.left
+
+  -- the text that was read
+  pub read-text : text_under policy.replace bytes ≡ text
+  read-text = left-text policy.replace bytes read.before read.n read.tail left_is ∙ ap (λ l. read.before ++ l) (text_under-begun laws read.tail read.decoder.begins policy.replace)
+
+  pub read-settled : settled_text f p text ≡ settled_utf8 policy f p bytes
+  read-settled =
+      let taken = read.taken in
+      ap (settled_text f p) (sym (taken-all p policy.assigned text taken.usable read.allowed)) ∙ ap (taken_utf8 policy.assigned f p) (sym read-text) ∙ settled_utf8-taken policy f p bytes
+
+  pub read-no_fault : fault_in policy p base bytes ≡ None
+  unfolding fault_in
+  read-no_fault =
+      let taken = read.taken in
+      first_fault-none p policy.assigned (λ front. base + len_under policy.replace bytes front) (text_under policy.replace bytes) (bad_under policy.replace base bytes) (subst (λ x. is_usable p x ≡ true) (sym read-text) taken.usable)
+      (ap (allowed policy.assigned p) read-text ∙ read.allowed ∙ sym read-text)
+      ∙ left-bad policy.replace bytes read.before read.n read.tail left_is base ∙ good_under policy.replace (base + read.n) read.tail (read.good (base + read.n))
+
+  -- a piece more is to be read
+  more : (piece : List ℕ) → HasReadTo policy f p normalizer base reading (bytes ++ piece) piece
+  more piece = record {
+    before = read.before;
+    n = read.n;
+    tail = read.tail;
+    left = IsLeft-more policy.replace bytes read.before read.n read.tail piece left_is;
+    decoder = read.decoder;
+    good = read.good;
+    offset = read.offset;
+    taken = read.taken;
+    allowed = read.allowed;
+  }
+
+  pub reads-more : (piece : List ℕ) (start : Start) (now : BlockState) → Written start now (settled_utf8 policy f p bytes) → ReadsTo policy f p normalizer start now base reading (bytes ++ piece) piece
+  unfolding more
+  reads-more piece start now written = (more piece, Written-at (sym read-settled) written)
+
+  -- where the bytes of a begun character begin
+  pub read-place : base + len_under policy.replace bytes text ≡ base + read.n + length (encode_utf8_all (text_of read.tail))
+  read-place = omega (
+    arith,
+    left-place policy.replace bytes read.before read.n read.tail left_is (text_of read.tail),
+    len_under-first laws policy.replace read.tail (text_of read.tail) [] (sym (append-nil (text_of read.tail))),
+  )
+
+  -- how many bytes are held
+  pub read-held : len_under policy.replace bytes (text_under policy.replace bytes) + length read.tail ≡ length bytes + length (encode_utf8_all (text_of read.tail))
+  read-held = omega (arith, ap (len_under policy.replace bytes) read-text, read-place, left_is.len)
+
+  -- the text where nothing follows
+  module _ (replaces : policy.replace ≡ true) where
+    whole_begun : (r : Bool) → r ≡ true → whole_under r read.tail ≡ text_of read.tail ++ (if length read.tail - length (encode_utf8_all (text_of read.tail)) == 0 then [] else replacement ∷ [])
+    unfolding replaced_whole
+    whole_begun true e =
+        ap (λ l. l ++ (if begun_at_end read.tail == 0 then [] else replacement ∷ [])) (text_under-begun laws read.tail read.decoder.begins true)
+        ∙ ap (λ n. text_of read.tail ++ (if n == 0 then [] else replacement ∷ [])) (begun_at_end-begun laws read.tail read.decoder.begins)
+    whole_begun false e = cc
+
+    whole_is : whole_under policy.replace bytes ≡ text ++ (if length read.tail - length (encode_utf8_all (text_of read.tail)) == 0 then [] else replacement ∷ [])
+    whole_is = left-whole policy.replace bytes read.before read.n read.tail left_is ∙ ap (λ l. read.before ++ l) (whole_begun policy.replace replaces) ∙ sym (append_assoc read.before (text_of read.tail) (if length read.tail - length (encode_utf8_all (text_of read.tail)) == 0 then [] else replacement ∷ []))
+
+    pub whole-none : (carried : ℕ) → length (encode_utf8_all (text_of read.tail)) + carried ≡ length read.tail → carried ≡ 0 → whole_under policy.replace bytes ≡ text
+    whole-none carried is none = whole_is ∙ ap (λ (b : Bool). text ++ (if b then [] else replacement ∷ [])) (eq-eqb (length read.tail - length (encode_utf8_all (text_of read.tail))) 0 (omega (arith, is, none))) ∙ append-nil text
+
+    pub whole-some : (carried : ℕ) → length (encode_utf8_all (text_of read.tail)) + carried ≡ length read.tail → ¬ (carried ≡ 0) → whole_under policy.replace bytes ≡ text ++ replacement ∷ []
+    whole-some carried is some = whole_is ∙ ap (λ (b : Bool). text ++ (if b then [] else replacement ∷ [])) (ne_eqb (length read.tail - length (encode_utf8_all (text_of read.tail))) 0 (λ e. some (omega (arith, is, e))))
+
+-- all of a piece was read, or it was refused
+module _ (policy : Policy) (f : Form) (p : Properties) (base : ℕ) (laws : ReplacesParts) (normalizer : Normalizer) (start : Start) (now : BlockState) (reading : Reading) (bytes : List ℕ) where
+  pub rest-written : (r : Result (Unit {0}) Fault) → ReadsRest policy f p normalizer start now base reading bytes r → ¬ (r ≡ Err Write) → Written start now (settled_utf8 policy f p bytes)
+  rest-written (Ok u) reads not = Written-at (read-settled policy f p base laws normalizer reading bytes reads.0) reads.1
+  rest-written (Err fault) reads not = Written-at (settled_utf8-taken policy f p bytes) (reads.written (λ e. not (ap Err e)))
+
+  pub rest-broken : (r : Result (Unit {0}) Fault) → ReadsRest policy f p normalizer start now base reading bytes r → r ≡ Err Write → Broken start now (settled_utf8 policy f p bytes)
+  rest-broken (Ok u) reads e = cc
+  rest-broken (Err fault) reads e = Broken-at start (settled_utf8-taken policy f p bytes) (reads.broken (let same : fault ≡ Write = cc in same))
+
+  pub rest-answer : (r : Result (Unit {0}) Fault) → ReadsRest policy f p normalizer start now base reading bytes r → ¬ (r ≡ Err Write) → result_err r ≡ fault_in policy p base bytes
+  rest-answer (Ok u) reads not = sym (read-no_fault policy f p base laws normalizer reading bytes reads.0)
+  rest-answer (Err fault) reads not = reads.is (λ e. not (ap Err e))
+
+-- a piece was fed
+module _ (policy : Policy) (f : Form) (p : Properties) (base : ℕ) (laws : ReplacesParts) (sink new : SinkState) (bytes piece : List ℕ) (normalizer : Normalizer) (now : BlockState) (reading : Reading) (r : Result (Unit {0}) Fault)
+    (reads : ReadsRest policy f p normalizer (start_at sink (settled_utf8 policy f p bytes)) now base reading (bytes ++ piece) r) where
+  abbrev start : Start
+  start = start_at sink (settled_utf8 policy f p bytes)
+
+  abbrev settled : List ℕ
+  settled = settled_utf8 policy f p (bytes ++ piece)
+
+  pub fed-stands : OnOk r (HasReadTo policy f p normalizer base reading (bytes ++ piece) [])
+  fed-stands = next r reads
+    where
+      next : (r : Result (Unit {0}) Fault) → ReadsRest policy f p normalizer (start_at sink (settled_utf8 policy f p bytes)) now base reading (bytes ++ piece) r → OnOk r (HasReadTo policy f p normalizer base reading (bytes ++ piece) [])
+      next (Ok u) reads = reads.0
+      next (Err fault) reads = tt
+
+  -- the sink failed under way
+  pub fed-broken : r ≡ Err Write → now.sink ≡ new → Feeds policy f p base bytes piece sink new r
+  fed-broken is same = subst (λ (s : Result (Unit {0}) Fault). Feeds policy f p base bytes piece sink new s) (sym is)
+      (Feeds-broken policy f p base bytes piece sink new (rw (← same) (rest-broken policy f p base laws normalizer start now reading (bytes ++ piece) r reads is)))
+
+  -- or on what was kept
+  pub fed-failed : (last : BlockState) → ¬ (r ≡ Err Write) → (Written start now settled → Broken start last settled) → last.sink ≡ new → Feeds policy f p base bytes piece sink new (Err Write)
+  fed-failed last whole breaks same = Feeds-broken policy f p base bytes piece sink new (rw (← same) (breaks (rest-written policy f p base laws normalizer start now reading (bytes ++ piece) r reads whole)))
+
+  -- all was given
+  pub fed-given : (last : BlockState) → ¬ (r ≡ Err Write) → (Written start now settled → Written start last settled) → last.kept ≡ [] → last.sink ≡ new → Feeds policy f p base bytes piece sink new r
+  fed-given last whole writes none same = Feeds-put policy f p base bytes piece sink new r whole
+      (rw (← same) (Puts-emptied none (writes (rest-written policy f p base laws normalizer start now reading (bytes ++ piece) r reads whole))))
+      (rest-answer policy f p base laws normalizer start now reading (bytes ++ piece) r reads whole)

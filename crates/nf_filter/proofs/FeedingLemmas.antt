@@ -1,0 +1,153 @@
+-- What feeding all that a source gives comes to, by where it stopped.
+use Rattle.std.proofs.Common.{◌≡◌, ℕ, ◌+◌, ◌<◌, ◌≤◌, ◌^◌, ◌↔◌, true, false, List, [], ◌++◌, length, None, Ok, Err, ⊎_elim, refl, sym, ap, ◌∙◌, subst, arith, append_assoc, append-nil}
+use Rattle.std.specs.Prelude.{IsTrue, IsFalse, Result}
+use Rattle.std.specs.Io.KnownBytes.{Consumes, IsAtEnd}
+use Rattle.std.proofs.lemmas.Bool.{cases_lt}
+use Rattle.std.proofs.lemmas.List.{length-append}
+use Rattle.nf_forms.specs.Properties.{Properties}
+use Rattle.nf_forms.specs.declared.form.Form.{Form}
+use Rattle.nf_filter.specs.declared.fault.Fault.{Fault}
+use Rattle.nf_filter.specs.declared.policy.Policy.{Policy}
+use Rattle.nf_filter.specs.declared.fault.Fault.TheVariants.{TooLong, Read, Write}
+use Rattle.nf_filter.specs.declared.filter.State.{State}
+use Rattle.nf_filter.specs.Devices.{SinkState, SourceState}
+use Rattle.nf_filter.specs.Writes.{Puts}
+use Rattle.nf_filter.specs.Settled.{settled_utf8}
+use Rattle.nf_filter.specs.Faults.{fault_in}
+use Rattle.nf_filter.specs.Filter.{base_of, offset_of, is_spent, StandsAfter}
+use Rattle.nf_filter.specs.Feeds.{Feeds}
+use Rattle.nf_filter.specs.Drives.{FeedsAll}
+use Rattle.nf_filter.proofs.WritesLemmas.{Puts-none, Puts-join, Puts-at, BreaksOff-join}
+use Rattle.nf_filter.proofs.FilterLemmas.{StandsAfter-no_fault, StandsAfter-offset, StandsAfter-fits}
+
+abbrev pub fed_by : Fault → Result (Unit {0}) Fault
+fed_by fault = Err fault
+
+-- a filter that stood after `bytes`, the first of which has the offset `base`, was fed `fed`, and nothing was refused
+pub record HasFed (policy : Policy) (f : Form) (p : Properties) (base : ℕ) (state : State) (bytes fed : List ℕ) (old new : SinkState) : Type 0 where
+  pub base_is : base_of state ≡ base
+  pub stands : StandsAfter policy f p state (bytes ++ fed)
+  pub no_fault : fault_in policy p base (bytes ++ fed) ≡ None
+  pub put : Puts old new (settled_utf8 policy f p bytes) (settled_utf8 policy f p (bytes ++ fed))
+
+pub HasFed-none : (policy : Policy) (f : Form) (p : Properties) (state : State) (bytes : List ℕ) (sink : SinkState) → StandsAfter policy f p state bytes → HasFed policy f p (base_of state) state bytes [] sink sink
+HasFed-none policy f p state bytes sink stands = record {
+  base_is = refl;
+  stands = subst (StandsAfter policy f p state) same stands;
+  no_fault = ap (fault_in policy p (base_of state)) (append-nil bytes) ∙ StandsAfter-no_fault stands;
+  put = Puts-at refl (ap (settled_utf8 policy f p) same) (Puts-none sink (settled_utf8 policy f p bytes));
+}
+  where
+    same : bytes ≡ bytes ++ []
+    same = sym (append-nil bytes)
+
+module _ (policy : Policy) (f : Form) (p : Properties) (base : ℕ) (state : State) (bytes fed : List ℕ) (old mid : SinkState) (so_far : HasFed policy f p base state bytes fed old mid) where
+  here : offset_of state ≡ base + length bytes + length fed
+  here = omega (arith, StandsAfter-offset so_far.stands, so_far.base_is, length-append bytes fed)
+
+  fits : base + length bytes + length fed < 2 ^ 64
+  fits = omega (arith, StandsAfter-fits so_far.stands, so_far.base_is, length-append bytes fed)
+
+  -- a piece more
+  pub HasFed-more : (after : State) (piece : List ℕ) (new : SinkState) → base_of after ≡ base → StandsAfter policy f p after ((bytes ++ fed) ++ piece) → Feeds policy f p base (bytes ++ fed) piece mid new (Ok tt)
+      → HasFed policy f p base after bytes (fed ++ piece) old new
+  HasFed-more after piece new base_is stands feeds = record {
+    base_is = base_is;
+    stands = subst (StandsAfter policy f p after) whole stands;
+    no_fault = ap (fault_in policy p base) (sym whole) ∙ sym (feeds.answer (λ e. cc));
+    put = Puts-at refl (ap (settled_utf8 policy f p) whole) (Puts-join so_far.put (feeds.written (λ e. cc)));
+  }
+    where
+      whole : (bytes ++ fed) ++ piece ≡ bytes ++ (fed ++ piece)
+      whole = append_assoc bytes fed piece
+
+  module _ (most : ℕ) (source left : SourceState) where
+    -- the source failed
+    pub FeedsAll-failed : left.is_at_end ≡ false → Consumes source.coming left.coming fed → FeedsAll most policy f p base bytes source left old mid state (Err Read)
+    FeedsAll-failed before_end consumed = record {
+      fed = fed;
+      last = [];
+      given = subst (Consumes source.coming left.coming) (sym (append-nil fed)) consumed;
+      few = omega arith;
+      read_out = λ end. let absent : true ≡ false = sym end ∙ before_end in cc;
+      too_long = (λ e. cc, λ over. absurd (omega (arith, over, fits)));
+      all_fed = λ _. refl;
+      broken_off = λ e. cc;
+      written = λ _. so_far.put;
+      no_fault = λ _. so_far.no_fault;
+      answer = λ _ unread _. absurd (unread refl);
+      stands = tt;
+    }
+
+    -- it ended
+    pub FeedsAll-ended : Consumes source.coming left.coming fed → IsAtEnd left.coming → FeedsAll most policy f p base bytes source left old mid state (Ok tt)
+    FeedsAll-ended consumed read_out = record {
+      fed = fed;
+      last = [];
+      given = subst (Consumes source.coming left.coming) (sym (append-nil fed)) consumed;
+      few = omega arith;
+      read_out = λ _. read_out;
+      too_long = (λ e. cc, λ over. absurd (omega (arith, over, fits)));
+      all_fed = λ _. refl;
+      broken_off = λ e. cc;
+      written = λ _. so_far.put;
+      no_fault = λ _. so_far.no_fault;
+      answer = λ _ _ _. sym so_far.no_fault;
+      stands = so_far.stands;
+    }
+
+    -- a piece was refused
+    module _ (after : State) (piece : List ℕ) (new : SinkState) (fault : Fault) (before_end : left.is_at_end ≡ false) (consumed : Consumes source.coming left.coming (fed ++ piece)) (few : length piece ≤ most)
+        (not_read : ¬ (fed_by fault ≡ Err Read)) (too_long : (fed_by fault ≡ Err TooLong) ↔ (IsFalse (is_spent state) × (18446744073709551615 < offset_of state + length piece)))
+        (kept : fed_by fault ≡ Err TooLong → new ≡ mid) (feeds : ¬ (fed_by fault ≡ Err TooLong) → Feeds policy f p base (bytes ++ fed) piece mid new (Err fault)) where
+      never : {A : Type 0} → IsTrue left.is_at_end → A
+      never end = let absent : true ≡ false = sym end ∙ before_end in cc
+
+      too_long_is : (fed_by fault ≡ Err TooLong) ↔ (2 ^ 64 ≤ base + length bytes + length fed + length piece)
+      too_long_is = (λ e. let over = (too_long.0 e).1 in omega (arith, over, here), λ over. too_long.1 (so_far.stands.unspent, omega (arith, over, here)))
+
+      whole : (bytes ++ fed) ++ piece ≡ bytes ++ (fed ++ piece)
+      whole = append_assoc bytes fed piece
+
+      -- for its length
+      refused_unread : 2 ^ 64 ≤ base + length bytes + length fed + length piece → FeedsAll most policy f p base bytes source left old new after (Err fault)
+      refused_unread over = record {
+        fed = fed;
+        last = piece;
+        given = consumed;
+        few = few;
+        read_out = never;
+        too_long = too_long_is;
+        all_fed = λ short. absurd (short is);
+        broken_off = λ e. let both : fed_by TooLong ≡ Err Write = sym is ∙ e in cc;
+        written = λ _. subst (λ s. Puts old s (settled_utf8 policy f p bytes) (settled_utf8 policy f p (bytes ++ fed))) (sym (kept is)) so_far.put;
+        no_fault = λ _. so_far.no_fault;
+        answer = λ _ _ short. absurd (short is);
+        stands = tt;
+      }
+        where
+          is : fed_by fault ≡ Err TooLong
+          is = too_long_is.1 over
+
+      -- for what is in it, or by the sink
+      refused_read : base + length bytes + length fed + length piece < 2 ^ 64 → FeedsAll most policy f p base bytes source left old new after (Err fault)
+      refused_read less = record {
+        fed = fed ++ piece;
+        last = [];
+        given = subst (Consumes source.coming left.coming) (sym (append-nil (fed ++ piece))) consumed;
+        few = omega arith;
+        read_out = never;
+        too_long = (λ e. absurd (short e), λ over. absurd (omega (arith, over, less, length-append fed piece)));
+        all_fed = λ _. refl;
+        broken_off = λ e. BreaksOff-join so_far.put (rw (← whole) ((feeds short).broken_off e));
+        written = λ no. Puts-join so_far.put (rw (← whole) ((feeds short).written no));
+        no_fault = ⊎_elim (λ e. absurd (not_read e)) (λ e. absurd (short e));
+        answer = λ no _ _. rw (← whole) ((feeds short).answer no);
+        stands = tt;
+      }
+        where
+          short : ¬ (fed_by fault ≡ Err TooLong)
+          short e = let over = too_long_is.0 e in absurd (omega (arith, over, less))
+
+      pub FeedsAll-refused : FeedsAll most policy f p base bytes source left old new after (Err fault)
+      FeedsAll-refused = ⊎_elim refused_read refused_unread (cases_lt (base + length bytes + length fed + length piece) (2 ^ 64))

@@ -1,0 +1,152 @@
+-- How far a text is taken under a policy.
+use Rattle.std.proofs.Common.{◌≡◌, ℕ, ◌+◌, ◌==◌, ◌<◌, Bool, true, false, List, [], ◌∷◌, ◌++◌, length, take, Option, Some, None, ◌⊎◌, inl, inr, ⊎_elim, refl, sym, ap, ◌∙◌, subst, arith, append-nil, append_assoc, eq-eqb, ne_eqb}
+use Rattle.std.specs.Prelude.{take_while, suc, if◌then◌else◌}
+use Rattle.std.specs.List.{list_all, prefix_len}
+use Rattle.std.proofs.lemmas.Bool.{and_parts, and_from}
+use Rattle.std.proofs.lemmas.List.{length-append}
+use Rattle.nf_forms.specs.Properties.{Properties}
+use Rattle.nf_forms.specs.declared.form.Form.{Form}
+use Rattle.nf_filter.specs.declared.fault.Fault.{Fault}
+use Rattle.nf_filter.specs.declared.fault.Fault.TheVariants.{Row, Unassigned}
+use Rattle.nf_filter.specs.Faults.{first_fault}
+use Rattle.nf_filter.specs.Feeding.{taken_utf8}
+use Rattle.nf_filter.specs.Policy.{allowed}
+use Rattle.nf_filter.specs.Settled.{settled, is_usable, usable}
+use Rattle.nf_filter.proofs.SettledLemmas.{Extends, Extends-none, Extends-encodes, settled-extends, is_usable-stays_out, usable-all, usable-grows, usable-stays}
+
+-- the first character of a text that does not pass a test
+pub record Fails (test : ℕ → Bool) (x : List ℕ) : Type 0 where
+  pub front : List ℕ
+  pub c : ℕ
+  pub rest : List ℕ
+  pub text : x ≡ (front ++ c ∷ []) ++ rest
+  pub passed : list_all test front ≡ true
+  pub failed : test c ≡ false
+
+module _ (test : ℕ → Bool) where
+  one_more : (n c : ℕ) (x : List ℕ) → take (1 + n) (c ∷ x) ≡ c ∷ take n x
+  one_more n c x = ap (λ m. take m (c ∷ x)) (let e : 1 + n ≡ suc n = omega arith in e)
+
+  pub take_while-append : (x y : List ℕ) → list_all test x ≡ true → take_while test (x ++ y) ≡ x ++ take_while test y
+  take_while-append [] y all = refl
+  take_while-append (c ∷ x) y all =
+      let parts = and_parts (test c) (list_all test x) all in
+      ap (λ b. take (if b then 1 + prefix_len test (x ++ y) else 0) (c ∷ (x ++ y))) parts.0
+      ∙ one_more (prefix_len test (x ++ y)) c (x ++ y) ∙ ap (λ l. c ∷ l) (take_while-append x y parts.1)
+
+  pub take_while-all : (x : List ℕ) → list_all test x ≡ true → take_while test x ≡ x
+  take_while-all x all = ap (take_while test) (sym (append-nil x)) ∙ take_while-append x [] all ∙ append-nil x
+
+  pub take_while-stop : (x : List ℕ) (c : ℕ) (y : List ℕ) → list_all test x ≡ true → test c ≡ false → take_while test ((x ++ c ∷ []) ++ y) ≡ x
+  take_while-stop x c y all fails =
+      ap (take_while test) (append_assoc x (c ∷ []) y) ∙ take_while-append x (c ∷ y) all
+      ∙ ap (λ b. x ++ take (if b then 1 + prefix_len test y else 0) (c ∷ y)) fails ∙ append-nil x
+
+  -- all pass, or one is the first that does not
+  pub passes_or_not : (x : List ℕ) → (list_all test x ≡ true) ⊎ Fails test x
+  passes_or_not [] = inl refl
+  passes_or_not (c ∷ x) = next (test c) refl (passes_or_not x)
+    where
+      next : (b : Bool) → test c ≡ b → (list_all test x ≡ true) ⊎ Fails test x → (list_all test (c ∷ x) ≡ true) ⊎ Fails test (c ∷ x)
+      next true e (inl all) = inl (and_from _ _ e all)
+      next true e (inr fails) = inr (record { front = c ∷ fails.front; c = fails.c; rest = fails.rest; text = ap (λ l. c ∷ l) fails.text; passed = and_from _ _ e fails.passed; failed = fails.failed })
+      next false e o = inr (record { front = []; c = c; rest = x; text = refl; passed = refl; failed = e })
+
+shorter : (front : List ℕ) (c : ℕ) (rest : List ℕ) → length front < length ((front ++ c ∷ []) ++ rest)
+shorter front c rest = omega (arith, length-append (front ++ c ∷ []) rest, length-append front (c ∷ []))
+
+module _ (p : Properties) where
+  -- where all are allowed, one more
+  pub allowed-append : (a : Bool) (x y : List ℕ) → allowed a p x ≡ x → allowed a p (x ++ y) ≡ x ++ allowed a p y
+  allowed-append false x y all = refl
+  allowed-append true x y all = ⊎_elim
+      (λ passes. take_while-append p.assigned x y passes)
+      (λ fails. let less = shorter fails.front fails.c fails.rest in absurd (omega (arith, less, ap length fails.text, ap length (sym all ∙ ap (take_while p.assigned) fails.text ∙ take_while-stop p.assigned fails.front fails.c fails.rest fails.passed fails.failed))))
+      (passes_or_not p.assigned x)
+
+  pub allowed-none : (a : Bool) → allowed a p [] ≡ []
+  allowed-none false = refl
+  allowed-none true = refl
+
+  -- a character that is refused for not being assigned
+  pub allowed-stop : (x : List ℕ) (c : ℕ) (y : List ℕ) → allowed true p x ≡ x → p.assigned c ≡ false → allowed true p ((x ++ c ∷ []) ++ y) ≡ x
+  allowed-stop x c y all out = ap (allowed true p) (append_assoc x (c ∷ []) y) ∙ allowed-append true x (c ∷ y) all ∙ ap (λ l. x ++ l) (take_while-stop p.assigned [] c y refl out) ∙ append-nil x
+
+  pub allowed-all : (x : List ℕ) → list_all p.assigned x ≡ true → allowed true p x ≡ x
+  allowed-all x all = take_while-all p.assigned x all
+
+  -- what was allowed stays, and where not all was, no more is
+  pub allowed-grows : (a : Bool) (x y : List ℕ) → (allowed a p x ≡ x) ⊎ ((length (allowed a p x) < length x) × (allowed a p (x ++ y) ≡ allowed a p x))
+  allowed-grows false x y = inl refl
+  allowed-grows true x y = ⊎_elim (λ passes. inl (take_while-all p.assigned x passes)) stopped (passes_or_not p.assigned x)
+    where
+      stopped : Fails p.assigned x → (allowed true p x ≡ x) ⊎ ((length (allowed true p x) < length x) × (allowed true p (x ++ y) ≡ allowed true p x))
+      stopped fails =
+          let here : allowed true p x ≡ fails.front = ap (allowed true p) fails.text ∙ take_while-stop p.assigned fails.front fails.c fails.rest fails.passed fails.failed in
+          let more : allowed true p (x ++ y) ≡ fails.front = ap (λ l. allowed true p (l ++ y)) fails.text ∙ ap (allowed true p) (append_assoc (fails.front ++ fails.c ∷ []) fails.rest y)
+          ∙ take_while-stop p.assigned fails.front fails.c (fails.rest ++ y) fails.passed fails.failed in
+          inr (omega (arith, ap length here, ap length fails.text, shorter fails.front fails.c fails.rest), more ∙ sym here)
+
+  -- a text all of which is taken
+  pub first_fault-none : (a : Bool) (place : List ℕ → ℕ) (x : List ℕ) (other : Option Fault) → is_usable p x ≡ true → allowed a p x ≡ x → first_fault a p place x other ≡ other
+  first_fault-none false place x other sound all = ap (λ b. if b then other else Some (Row (place (usable p x)))) sound
+  first_fault-none true place x other sound all =
+      ap (λ (b : Bool). if b then (if length (allowed true p x) == length x then other else Some (Unassigned (place (allowed true p x)))) else Some (Row (place (usable p (allowed true p x))))) (ap (is_usable p) all ∙ sound)
+      ∙ ap (λ (b : Bool). if b then other else Some (Unassigned (place (allowed true p x)))) (eq-eqb _ _ (ap length all))
+
+  -- what was not taken stays so, whatever follows
+  pub first_fault-stays : (a : Bool) (place : List ℕ → ℕ) (x y : List ℕ) (other : Option Fault) (fault : Fault) → Some fault ≡ first_fault a p place x None
+      → (first_fault a p place (x ++ y) other ≡ Some fault) × (usable p (allowed a p (x ++ y)) ≡ usable p (allowed a p x))
+  first_fault-stays false place x y other fault is = next (is_usable p x) refl is
+    where
+      next : (b : Bool) → is_usable p x ≡ b → Some fault ≡ (if b then None else Some (Row (place (usable p x)))) → (first_fault false p place (x ++ y) other ≡ Some fault) × (usable p (x ++ y) ≡ usable p x)
+      next true e is = cc
+      next false e is =
+          let same = usable-stays p x y e in
+          (ap (λ (b : Bool). if b then other else Some (Row (place (usable p (x ++ y))))) (is_usable-stays_out p x y e) ∙ ap (λ l. Some (Row (place l))) same ∙ sym is, same)
+  first_fault-stays true place x y other fault is = ⊎_elim all stopped (allowed-grows true x y)
+    where
+      all : allowed true p x ≡ x → (first_fault true p place (x ++ y) other ≡ Some fault) × (usable p (allowed true p (x ++ y)) ≡ usable p (allowed true p x))
+      all same = next (is_usable p x) refl (is ∙ told)
+        where
+          told : first_fault true p place x None ≡ (if is_usable p x then None else Some (Row (place (usable p x))))
+          told = ap (λ l. if is_usable p l then (if length l == length x then None else Some (Unassigned (place l))) else Some (Row (place (usable p l)))) same
+              ∙ ap (λ (b : Bool). if is_usable p x then (if b then None else Some (Unassigned (place x))) else Some (Row (place (usable p x)))) (eq-eqb (length x) (length x) refl)
+
+          next : (b : Bool) → is_usable p x ≡ b → Some fault ≡ (if b then None else Some (Row (place (usable p x)))) → (first_fault true p place (x ++ y) other ≡ Some fault) × (usable p (allowed true p (x ++ y)) ≡ usable p (allowed true p x))
+          next true e is = cc
+          next false e is =
+              let longer : allowed true p (x ++ y) ≡ x ++ allowed true p y = allowed-append true x y same in
+              let out : is_usable p (allowed true p (x ++ y)) ≡ false = ap (is_usable p) longer ∙ is_usable-stays_out p x (allowed true p y) e in
+              let stays : usable p (allowed true p (x ++ y)) ≡ usable p x = ap (usable p) longer ∙ usable-stays p x (allowed true p y) e in (
+                ap (λ (b : Bool). if b then (if length (allowed true p (x ++ y)) == length (x ++ y) then other else Some (Unassigned (place (allowed true p (x ++ y))))) else Some (Row (place (usable p (allowed true p (x ++ y)))))) out
+                    ∙ ap (λ l. Some (Row (place l))) stays ∙ sym is,
+                stays ∙ ap (usable p) (sym same),
+              )
+
+      stopped : (length (allowed true p x) < length x) × (allowed true p (x ++ y) ≡ allowed true p x) → (first_fault true p place (x ++ y) other ≡ Some fault) × (usable p (allowed true p (x ++ y)) ≡ usable p (allowed true p x))
+      stopped less =
+          let less_too : ¬ (length (allowed true p x) ≡ length (x ++ y)) = λ e. omega (arith, less.0, e, length-append x y) in
+          let not_all : ¬ (length (allowed true p x) ≡ length x) = λ e. omega (arith, less.0, e) in (
+            ap (λ l. if is_usable p l then (if length l == length (x ++ y) then other else Some (Unassigned (place l))) else Some (Row (place (usable p l)))) less.1
+                ∙ ap (λ (b : Bool). if is_usable p (allowed true p x) then (if b then other else Some (Unassigned (place (allowed true p x)))) else Some (Row (place (usable p (allowed true p x))))) (ne_eqb _ _ less_too)
+                ∙ sym (ap (λ (b : Bool). if is_usable p (allowed true p x) then (if b then None else Some (Unassigned (place (allowed true p x)))) else Some (Row (place (usable p (allowed true p x))))) (ne_eqb _ _ not_all))
+                ∙ sym is,
+            ap (usable p) less.1,
+          )
+
+  -- what of a text is taken is not lost when more follows
+  pub taken-grows : (a : Bool) (x y : List ℕ) → Extends (usable p (allowed a p x)) (usable p (allowed a p (x ++ y)))
+  taken-grows a x y = ⊎_elim
+      (λ all. subst (λ l. Extends (usable p (allowed a p x)) (usable p l)) (ap (λ l. l ++ allowed a p y) all ∙ sym (allowed-append a x y all)) (usable-grows p (allowed a p x) (allowed a p y)))
+      (λ less. subst (λ l. Extends (usable p (allowed a p x)) (usable p l)) (sym less.1) (Extends-none (usable p (allowed a p x))))
+      (allowed-grows a x y)
+
+  pub taken_utf8-grows : (a : Bool) (f : Form) (x y : List ℕ) → Extends (taken_utf8 a f p x) (taken_utf8 a f p (x ++ y))
+  taken_utf8-grows a f x y =
+      let more = taken-grows a x y in
+      Extends-encodes (subst (λ l. Extends (settled f p (usable p (allowed a p x))) (settled f p l)) (sym more.text) (settled-extends p f (usable p (allowed a p x)) more.more))
+
+  -- all of it
+  pub taken-all : (a : Bool) (x : List ℕ) → is_usable p x ≡ true → allowed a p x ≡ x → usable p (allowed a p x) ≡ x
+  taken-all a x sound all = ap (usable p) all ∙ usable-all p x sound

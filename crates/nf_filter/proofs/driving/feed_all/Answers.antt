@@ -1,0 +1,96 @@
+use Rattle.std.proofs.Common.{◌≡◌, ℕ, List, [], ◌++◌, length, take, Ok, Err, inr, refl, ap, ◌∙◌, subst, arith, rules, append-nil}
+use Rattle.std.specs.Prelude.{OnOk, Result}
+use Rattle.std.specs.Io.KnownBytes.{Consumes}
+use Rattle.std.proofs.KnownBytes.{Consumes-kept, Consumes-nil, Consumes-trans}
+use Rattle.std.proofs.lemmas.Bool.{ne_eqb}
+use Rattle.std.proofs.lemmas.List.{length-take}
+use Rattle.nf_forms.specs.Properties.{Properties}
+use Rattle.nf_forms.specs.declared.form.Form.{Form}
+use Rattle.nf_filter.specs.declared.fault.Fault.{Fault}
+use Rattle.nf_filter.specs.declared.policy.Policy.{Policy}
+use Rattle.nf_filter.specs.declared.fault.Fault.TheVariants.{TooLong, Read}
+use Rattle.nf_filter.specs.declared.filter.State.{State}
+use Rattle.nf_filter.specs.Devices.{SinkState}
+use Rattle.nf_filter.specs.Faults.{IsOfFeeding}
+use Rattle.nf_filter.specs.Filter.{rows_of, state_of, StandsAfter}
+use Rattle.nf_filter.specs.Feeds.{Feeds}
+use Rattle.nf_filter.proofs.FeedingLemmas.{fed_by, HasFed-none, HasFed-more, FeedsAll-failed, FeedsAll-ended, FeedsAll-refused}
+use Rattle.nf_filter.proofs.driving.feed_all.Goals as goal
+
+-- the rows and the base do not change
+module _ (policy : Policy) (f : Form) (q p : Properties) (rows : q ≡ p) (state : State) (bytes piece : List ℕ) (r : Result (Unit {0}) Fault) where
+  feeds_at : (m base : ℕ) (old new : SinkState) → m ≡ base → (StandsAfter policy f q state bytes → ¬ (r ≡ Err TooLong) → Feeds policy f q m bytes piece old new r)
+      → StandsAfter policy f p state bytes → ¬ (r ≡ Err TooLong) → Feeds policy f p base bytes piece old new r
+  feeds_at m base old new same feeds =
+      let P : Properties → Type 0 = λ q. StandsAfter policy f q state bytes → ¬ (r ≡ Err TooLong) → Feeds policy f q base bytes piece old new r in
+      subst P rows (λ stands short. subst (λ n. Feeds policy f q n bytes piece old new r) same (feeds stands short))
+
+  stands_at : (after : State) → (StandsAfter policy f q state bytes → OnOk r (StandsAfter policy f q after (bytes ++ piece))) → StandsAfter policy f p state bytes → OnOk r (StandsAfter policy f p after (bytes ++ piece))
+  stands_at after stands =
+      let P : Properties → Type 0 = λ q. StandsAfter policy f q state bytes → OnOk r (StandsAfter policy f q after (bytes ++ piece)) in
+      subst P rows stands
+
+not_read : (fault : Fault) → IsOfFeeding fault → ¬ (fed_by fault ≡ Err Read)
+not_read fault may e = let same : fault ≡ Read = cc in rw same at may
+
+pub loop-given-init : goal.loop-given-init
+loop-given-init g c = record {
+  room = refl;
+  unspent = c.requires.unspent;
+  rows = refl;
+  base = refl;
+  fed = (
+    [],
+    Consumes-nil (g.I.Source.state c.args.source.now).coming,
+    λ policy f bytes stands. HasFed-none policy f (g.R.Rows.properties (rows_of c.args.filter.now)) (state_of c.args.filter.now) bytes (g.S.Sink.state c.args.sink.now) stands,
+  );
+  lenders = (refl, refl);
+}
+
+pub returns-in-Err-clause-feeds : goal.returns-in-Err-clause-feeds
+returns-in-Err-clause-feeds g c = λ policy f bytes stands.
+    let fed = c.loop-given.invariant.fed in
+    FeedsAll-failed policy f _ _ _ bytes fed.0 _ _ (fed.2 policy f bytes stands) (length c.args.buffer.now) (g.I.Source.state c.args.source.now) (g.I.Source.state c.get.new.self)
+    c.in-Err.ensures.failed.1 (Consumes-kept _ _ _ fed.0 fed.1 c.in-Err.ensures.kept)
+
+pub returns-then-given-eq0-clause-feeds : goal.returns-then-given-eq0-clause-feeds
+returns-then-given-eq0-clause-feeds g c = λ policy f bytes stands.
+    let fed = c.loop-given.invariant.fed in
+    let consumed = subst (λ l. Consumes (g.I.Source.state c.args.source.now).coming (g.I.Source.state c.get.new.self).coming l) (append-nil fed.0)
+    (Consumes-trans _ _ _ fed.0 [] fed.1 (subst (λ n. Consumes (g.I.Source.state c.loop-given.source).coming (g.I.Source.state c.get.new.self).coming (take n c.get.new.buf)) c.if-given-eq0.true c.in-Ok.ensures.given)) in
+    FeedsAll-ended policy f _ _ _ bytes fed.0 _ _ (fed.2 policy f bytes stands) (length c.args.buffer.now) (g.I.Source.state c.args.source.now) (g.I.Source.state c.get.new.self)
+    consumed (c.in-Ok.ensures.read_out c.if-given-eq0.true)
+
+pub returns-in-Err-feed-clause-feeds : goal.returns-in-Err-feed-clause-feeds
+returns-in-Err-feed-clause-feeds g c = λ policy f bytes stands.
+    let fed = c.loop-given.invariant.fed in
+    let so_far = fed.2 policy f bytes stands in
+    let piece = take c.in-Ok.given c.get.new.buf in
+    let feeds = feeds_at policy f _ _ (ap g.R.Rows.properties c.loop-given.invariant.rows) (state_of c.loop-given.filter) (bytes ++ fed.0) piece (Err c.in-Err-feed.fault) _ _ _ _ c.loop-given.invariant.base
+    (c.in-Err-feed.ensures.feeds policy f (bytes ++ fed.0)) so_far.stands in
+    FeedsAll-refused policy f _ _ _ bytes fed.0 _ _ so_far (length c.args.buffer.now) (g.I.Source.state c.args.source.now) (g.I.Source.state c.get.new.self) _ piece _ c.in-Err-feed.fault
+    (c.in-Ok.ensures.end ∙ ne_eqb c.in-Ok.given 0 c.if-given-eq0.false) (Consumes-trans _ _ _ fed.0 piece fed.1 c.in-Ok.ensures.given)
+    (omega (arith, length-take c.in-Ok.given c.get.new.buf, c.get.auto.buf, c.loop-given.invariant.room)) (not_read c.in-Err-feed.fault c.in-Err-feed.ensures.faults) c.in-Err-feed.ensures.too_long
+    (λ e. ap g.S.Sink.state (c.in-Err-feed.ensures.kept (inr e)).1) feeds
+
+pub loop-given-preserved : goal.loop-given-preserved
+loop-given-preserved g c =
+    let fed = c.loop-given.invariant.fed in
+    let piece = take c.in-Ok.given c.get.new.buf in
+    let rows = ap g.R.Rows.properties c.loop-given.invariant.rows in
+    let base = c.in_default.ensures.base ∙ c.loop-given.invariant.base in
+    record {
+      room = c.get.auto.buf ∙ c.loop-given.invariant.room;
+      unspent = search rules;
+      rows = c.in_default.ensures.rows ∙ c.loop-given.invariant.rows;
+      base = base;
+      fed = (
+        fed.0 ++ piece,
+        Consumes-trans _ _ _ fed.0 piece fed.1 c.in-Ok.ensures.given,
+        λ policy f bytes stands.
+            let so_far = fed.2 policy f bytes stands in
+            let feeds = feeds_at policy f _ _ rows (state_of c.loop-given.filter) (bytes ++ fed.0) piece (Ok tt) _ _ _ _ c.loop-given.invariant.base (c.in_default.ensures.feeds policy f (bytes ++ fed.0)) so_far.stands (λ e. cc) in
+            HasFed-more policy f _ _ _ bytes fed.0 _ _ so_far (state_of c.feed.new.self) piece _ base (stands_at policy f _ _ rows (state_of c.loop-given.filter) (bytes ++ fed.0) piece (Ok tt) _ (c.in_default.ensures.stands policy f (bytes ++ fed.0)) so_far.stands) feeds,
+      );
+      lenders = (c.get.ensures.lender ∙ c.loop-given.invariant.lenders.0, c.feed.ensures.lender ∙ c.loop-given.invariant.lenders.1);
+    }

@@ -1,0 +1,16 @@
+use Rattle.std.proofs.Common.{[], ◌++◌, arith}
+use Rattle.std.proofs.lemmas.List.{length-append}
+use Rattle.nf_utf8.specs.Reading.{text_of}
+use Rattle.nf_filter.specs.Filter.{rows_of}
+use Rattle.nf_filter.proofs.StandingLemmas.{taken-text, taken-len}
+use Rattle.nf_filter.proofs.filter.Filter.held.Goals as goal
+
+pub returns-clause-bytes : goal.returns-clause-bytes
+returns-clause-bytes g c = λ policy f bytes stands.
+    let tail = stands.reading.tail in
+    omega (arith, taken-len c.replacing.ensures stands, c.carried.ensures.behind tail stands.reading.decoder, stands.reading.left.len, length-append tail [])
+
+pub returns-clause-pending : goal.returns-clause-pending
+returns-clause-pending g c = λ policy f bytes stands.
+    let p = g.R.Rows.properties (rows_of c.args.self.now) in
+    rw (taken-text c.replacing.ensures stands) (c.pending.ensures.value f p (stands.reading.before ++ text_of stands.reading.tail) stands.reading.taken)

@@ -1,0 +1,37 @@
+use Rattle.std.proofs.Common.{◌≡◌, ℕ, ◌+◌, true, [], ◌∷◌, ◌++◌, refl, arith, append_assoc}
+use Rattle.std.specs.Prelude.{Option, Some, None}
+use Rattle.std.specs.Str.{chars}
+use Rattle.std.proofs.lemmas.Str.{length-encode, len_utf8_bounds}
+use Rattle.nf_filter.specs.Block.{block_state}
+use Rattle.nf_filter.proofs.CharsLemmas.{utf8_len-push}
+use Rattle.nf_filter.proofs.TakingLemmas.{placed-behind, placed-within}
+use Rattle.nf_filter.proofs.AllowingLemmas.{TakesAllowed-more, TakesAllowed-settled}
+use Rattle.nf_filter.proofs.normalizer.Normalizer.take_assigned.Goals as goal
+
+is_none : (o : Option ℕ) → ((c : ℕ) → ¬ (o ≡ Some c)) → o ≡ None
+is_none None none = refl
+is_none (Some c) none = absurd (none c refl)
+
+pub returns-in_default-clause-takes : goal.returns-in_default-clause-takes
+returns-in_default-clause-takes g c = λ f place x start taken all here written.
+    rw (is_none c.args.first c.in_default.not-Some) (c.take_assigned_text.ensures.takes f place x start taken all (rw (is_none c.args.first c.in_default.not-Some) at here) written)
+
+pub take_one-requires-clause-chars : goal.take_one-requires-clause-chars
+take_one-requires-clause-chars g c =
+    let fits = rw c.in-Some.is at c.requires.fits in
+    omega (arith, fits, length-encode c.in-Some.c, (len_utf8_bounds c.in-Some.c).0, c.requires.chars)
+
+pub returns-in-Err-clause-takes : goal.returns-in-Err-clause-takes
+returns-in-Err-clause-takes g c = λ f place x start taken all here written.
+    let p = g.R.Rows.properties c.args.rows.now in
+    let one = c.in-Err.ensures.takes f place x start taken all (placed-within place c.args.at x (c.in-Some.c ∷ chars c.args.text.now) (c.in-Some.c ∷ []) (chars c.args.text.now) refl (rw c.in-Some.is at here)) written in
+    rw (c.in-Some.is, ← append_assoc x (c.in-Some.c ∷ []) (chars c.args.text.now))
+    (TakesAllowed-more f p c.take_one.new.self start (block_state g.S.Sink.state c.take_one.new.block) place true (x ++ c.in-Some.c ∷ []) (chars c.args.text.now) c.in-Err.fault one)
+
+pub returns-clause-takes : goal.returns-clause-takes
+returns-clause-takes g c = λ f place x start taken all here written.
+    let first = c.in_default-take_one.ensures.takes f place x start taken all (placed-within place c.args.at x (c.in-Some.c ∷ chars c.args.text.now) (c.in-Some.c ∷ []) (chars c.args.text.now) refl (rw c.in-Some.is at here)) written in
+    let one = utf8_len-push [] c.in-Some.c in
+    let behind = placed-behind place c.args.at x (c.in-Some.c ∷ chars c.args.text.now) (c.in-Some.c ∷ []) (chars c.args.text.now) (c.args.at + c.len_utf8.result) refl (omega (arith, one, length-encode c.in-Some.c, c.len_utf8.ensures.value)) (rw c.in-Some.is at here) in
+    let settled = TakesAllowed-settled f (g.R.Rows.properties c.args.rows.now) _ start _ place true (x ++ c.in-Some.c ∷ []) tt first in
+    rw (c.in-Some.is, ← append_assoc x (c.in-Some.c ∷ []) (chars c.args.text.now)) (c.take_assigned_text-2.ensures.takes f place (x ++ c.in-Some.c ∷ []) start first.taken.0 first.taken.1 behind settled)

@@ -1,0 +1,119 @@
+use Rattle.std.proofs.Common.{◌≡◌, ℕ, ◌+◌, ◌<◌, Bool, true, List, [], ◌∷◌, ◌++◌, length, take, drop, Ok, Err, refl, sym, ap, ◌∙◌, subst, arith, rules, append-nil}
+use Rattle.std.specs.Prelude.{take_while, encode_utf8_all}
+use Rattle.std.specs.List.{prefix_len}
+use Rattle.std.specs.Str.{IsUtf8, all_scalars, chars}
+use Rattle.std.proofs.lemmas.Bool.{and_parts}
+use Rattle.std.proofs.lemmas.List.{length-append, take-append-drop, take_at, drop_at}
+use Rattle.std.proofs.lemmas.Str.{IsCharBoundary-at_seam, chars-nil, chars_from_encodes, encodes-append, encodes-chars, scalars-chars}
+use Rattle.nf_filter.specs.declared.taker.Stop.{Stop}
+use Rattle.nf_filter.specs.Block.{block_state}
+use Rattle.nf_filter.specs.Normalizer.{TakesOn}
+use Rattle.nf_filter.specs.Policy.{allowed}
+use Rattle.nf_filter.proofs.BlockLemmas.{Written-at}
+use Rattle.nf_filter.proofs.TextLemmas.{usable_utf8-usable}
+use Rattle.nf_filter.proofs.TakingLemmas.{placed-within}
+use Rattle.nf_filter.proofs.AllowingLemmas.{TakesAllowed-all, TakesAllowed-stopped, TakesAllowed-unassigned}
+use Rattle.nf_filter.proofs.PolicyLemmas.{allowed-append}
+use Rattle.nf_filter.proofs.normalizer.Normalizer.take_assigned_text.Goals as goal
+
+nil : (b : List ℕ) → length b ≡ 0 → b ≡ []
+nil [] e = refl
+nil (c ∷ b) e = cc
+
+scalars_behind : (a b : List ℕ) → all_scalars (a ++ b) ≡ true → all_scalars b ≡ true
+scalars_behind [] b all = all
+scalars_behind (c ∷ a) b all = scalars_behind a b (and_parts _ _ all).1
+
+-- the bytes of the characters that pass a test, from the front on
+module _ (test : ℕ → Bool) (text : List ℕ) (utf8 : IsUtf8 text) where
+  abbrev front : List ℕ
+  front = take_while test (chars text)
+
+  abbrev rest : List ℕ
+  rest = drop (prefix_len test (chars text)) (chars text)
+
+  is_front : chars text ≡ front ++ rest
+  is_front = sym (take-append-drop (prefix_len test (chars text)) (chars text))
+
+  in_two : text ≡ encode_utf8_all front ++ encode_utf8_all rest
+  in_two = sym (encodes-chars text utf8) ∙ ap encode_utf8_all is_front ∙ encodes-append front rest
+
+  behind : IsUtf8 (encode_utf8_all rest)
+  behind = (rest, (scalars_behind front rest (ap all_scalars (sym is_front) ∙ scalars-chars text utf8), refl))
+
+  module _ (a b : List ℕ) (first : IsUtf8 a) (second : IsUtf8 b) (n : ℕ) (is_n : n ≡ length (encode_utf8_all front)) (is_a : a ≡ take n text) (is_b : b ≡ drop n text) where
+    a_is : chars a ≡ front
+    a_is = sym (chars_from_encodes front a first (sym (is_a ∙ ap (take n) in_two ∙ take_at (encode_utf8_all front) (encode_utf8_all rest) n (sym is_n))))
+
+    b_is : chars b ≡ rest
+    b_is = sym (chars_from_encodes rest b second (sym (is_b ∙ ap (drop n) in_two ∙ drop_at (encode_utf8_all front) (encode_utf8_all rest) n (sym is_n))))
+
+    whole_is : chars text ≡ chars a ++ chars b
+    whole_is = is_front ∙ ap (λ l. l ++ rest) (sym a_is) ∙ ap (λ l. chars a ++ l) (sym b_is)
+
+pub split_at-requires : goal.split_at-requires
+split_at-requires g c =
+    let test = (g.R.Rows.properties c.args.rows.now).assigned in
+    let text = c.args.text.now in
+    rw c.assigned_len.ensures (IsCharBoundary-at_seam text (encode_utf8_all (front test text c.utf8.text)) (encode_utf8_all (rest test text c.utf8.text)) (in_two test text c.utf8.text) (behind test text c.utf8.text))
+
+some_chars : (b : List ℕ) → IsUtf8 b → ¬ (length b ≡ 0) → (c : ℕ) × (rest : List ℕ) × (chars b ≡ c ∷ rest)
+some_chars b utf8 some = next (chars b) (encodes-chars b utf8)
+  where
+    next : (cs : List ℕ) → encode_utf8_all cs ≡ b → (c : ℕ) × (rest : List ℕ) × (cs ≡ c ∷ rest)
+    next [] e = absurd (some (sym (ap length e)))
+    next (c ∷ rest) e = (c, rest, refl)
+
+pub returns-in-Err-clause-takes : goal.returns-in-Err-clause-takes
+returns-in-Err-clause-takes g c = λ f place x start taken all here written.
+    let p = g.R.Rows.properties c.args.rows.now in
+    let text = c.args.text.now in
+    let a = c.split_at.result.0.now in
+    let b = c.split_at.result.1.now in
+    let first : IsUtf8 a = search rules in
+    let second : IsUtf8 b = search rules in
+    let a_is = a_is p.assigned text c.utf8.text a b first second c.assigned_len.result c.assigned_len.ensures c.split_at.ensures.front c.split_at.ensures.back in
+    let whole_is = whole_is p.assigned text c.utf8.text a b first second c.assigned_len.result c.assigned_len.ensures c.split_at.ensures.front c.split_at.ensures.back in
+    let front : allowed true p (x ++ chars text) ≡ x ++ chars a = allowed-append p true x (chars text) all ∙ ap (λ l. x ++ l) (sym a_is) in
+    let takes = c.in-Err.ensures.takes f place x start taken (placed-within place c.args.at x (chars text) (chars a) (chars b) whole_is here) written in
+    TakesAllowed-stopped f p c.take_text.new.self start (block_state g.S.Sink.state c.take_text.new.block) place (x ++ chars text) (x ++ chars a) c.fault.result front
+    (subst (λ (stop : Stop). TakesOn f p c.take_text.new.self start (block_state g.S.Sink.state c.take_text.new.block) place (x ++ chars a) (Err stop)) c.fault.ensures takes)
+
+pub returns-then-is_empty-clause-takes : goal.returns-then-is_empty-clause-takes
+returns-then-is_empty-clause-takes g c = λ f place x start taken all here written.
+    let p = g.R.Rows.properties c.args.rows.now in
+    let text = c.args.text.now in
+    let a = c.split_at.result.0.now in
+    let b = c.split_at.result.1.now in
+    let first : IsUtf8 a = search rules in
+    let second : IsUtf8 b = search rules in
+    let a_is = a_is p.assigned text c.utf8.text a b first second c.assigned_len.result c.assigned_len.ensures c.split_at.ensures.front c.split_at.ensures.back in
+    let whole_is = whole_is p.assigned text c.utf8.text a b first second c.assigned_len.result c.assigned_len.ensures c.split_at.ensures.front c.split_at.ensures.back in
+    let none : length b ≡ 0 = search rules in
+    let none_left : b ≡ [] = nil b none in
+    let same : chars a ≡ chars text = sym (whole_is ∙ ap (λ l. chars a ++ l) (ap chars none_left ∙ chars-nil) ∙ append-nil (chars a)) in
+    let front : allowed true p (x ++ chars text) ≡ x ++ chars text = allowed-append p true x (chars text) all ∙ ap (λ l. x ++ l) (sym a_is ∙ same) in
+    let takes = c.in_default.ensures.takes f place x start taken (placed-within place c.args.at x (chars text) (chars a) (chars b) whole_is here) written in
+    TakesAllowed-all f p c.take_text.new.self start (block_state g.S.Sink.state c.take_text.new.block) place true (x ++ chars text) (Ok tt) front
+    (subst (λ y. TakesOn f p c.take_text.new.self start (block_state g.S.Sink.state c.take_text.new.block) place (x ++ y) (Ok tt)) same takes)
+
+pub returns-clause-takes : goal.returns-clause-takes
+returns-clause-takes g c = λ f place x start taken all here written.
+    let p = g.R.Rows.properties c.args.rows.now in
+    let text = c.args.text.now in
+    let a = c.split_at.result.0.now in
+    let b = c.split_at.result.1.now in
+    let first : IsUtf8 a = search rules in
+    let second : IsUtf8 b = search rules in
+    let a_is = a_is p.assigned text c.utf8.text a b first second c.assigned_len.result c.assigned_len.ensures c.split_at.ensures.front c.split_at.ensures.back in
+    let whole_is = whole_is p.assigned text c.utf8.text a b first second c.assigned_len.result c.assigned_len.ensures c.split_at.ensures.front c.split_at.ensures.back in
+    let left : 0 < length b = search rules in
+    let some = some_chars b second (λ e. omega (arith, e, left)) in
+    let front : allowed true p (x ++ chars text) ≡ x ++ chars a = allowed-append p true x (chars text) all ∙ ap (λ l. x ++ l) (sym a_is) in
+    let more : chars text ≡ chars a ++ some.0 ∷ some.1 = whole_is ∙ ap (λ l. chars a ++ l) some.2 in
+    let less : length (x ++ chars a) < length (x ++ chars text) = omega (arith, length-append x (chars a), length-append x (chars text), ap length more, length-append (chars a) (some.0 ∷ some.1)) in
+    let takes = c.in_default.ensures.takes f place x start taken (placed-within place c.args.at x (chars text) (chars a) (chars b) whole_is here) written in
+    let taken_front = takes.taken in
+    TakesAllowed-unassigned f p c.take_text.new.self start (block_state g.S.Sink.state c.take_text.new.block) place (x ++ chars text) (x ++ chars a) front less _ taken_front.usable
+    (Written-at (sym (usable_utf8-usable p f (x ++ chars a) taken_front.usable)) (takes.written (λ e. cc)))
+    (here (chars a) some.0 some.1 more ∙ ap (λ n. c.args.at + n) (ap length (encodes-chars a first) ∙ (let len : length a ≡ _ = search rules in len)))

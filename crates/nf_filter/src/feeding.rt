@@ -1,0 +1,212 @@
+//! Reading a piece for a normalizer, under a policy.
+ghost use Rattle.std.specs.Prelude.{◌≡◌, ◌↔◌, Err, IsTrue};
+ghost use Rattle.nf_filter.specs.declared.fault.Fault.TheVariants.{Write as WriteFault};
+
+use crate::block::Block;
+use crate::devices::{Failed, Sink};
+use crate::fault::Fault;
+use crate::normalizer::Normalizer;
+use crate::policy::Policy;
+use crate::reading::Reading;
+use nf_row::Rows;
+use nf_utf8::{End, laws};
+
+impl Reading {
+    ghost use Rattle.std.specs.Prelude.{◌≡◌, ◌+◌, ◌<◌, ◌≤◌, true, ℕ, List, [], ◌++◌, length, Option, None, Some, IfErr, IfOk, OnOk, MatchOption};
+    ghost use Rattle.nf_forms.specs.declared.form.Form.{Form};
+    ghost use Rattle.nf_filter.specs.Block.{Start, block_state};
+    ghost use Rattle.nf_filter.specs.Faults.{IsOfClosing, IsOfReading, IsOfTaking, fault_in};
+    ghost use Rattle.nf_filter.specs.Feeding.{HasReadTo, ReadsChunk, ReadsRest, ReadsTo, GoesOn, ReplacesCut};
+    ghost use Rattle.nf_filter.specs.Feeds.{Feeds};
+    ghost use Rattle.nf_filter.specs.Finishes.{Closes};
+    ghost use Rattle.nf_filter.specs.Normalizer.{ends_at};
+    ghost use Rattle.nf_filter.specs.Taker.{IsReady};
+
+    /// Reads `piece` for the normalizer, and gives the sink what that settles.
+    pub fn feed<R: Rows, S: Sink>(
+        &mut self,
+        policy: Policy,
+        rows: &R,
+        piece: &[u8],
+        normalizer: &mut Normalizer,
+        sink: &mut S,
+    ) -> Result<(), Fault>
+        requires ready { IsReady (ends_at normalizer.old) self.old }
+        requires fits { self.old.offset + length piece.now ≤ u64.MAX }
+        ensures ready { OnOk result (IsReady (ends_at normalizer.new) self.new) }
+        ensures offset { OnOk result (self.new.offset ≡ self.old.offset + length piece.now) }
+        ensures faults { IfErr result IsOfReading }
+        ensures feeds { let p = R.properties rows.now in
+            (f : Form) (base : ℕ) (bytes : List ℕ) → HasReadTo policy f p normalizer.old base self.old bytes [] → fault_in policy p base bytes ≡ None
+            → Feeds policy f p base bytes piece.now (S.state sink.old) (S.state sink.new) result
+            × OnOk result (HasReadTo policy f p normalizer.new base self.new (bytes ++ piece.now) []) }
+        ensures lender { (S.state sink.new).lender ≡ (S.state sink.old).lender }
+    {
+        laws::replacing();
+        let mut block = Block::over(sink, normalizer.is_plain);
+        let read = self.read_rest(policy, rows, piece, normalizer, &mut block);
+        if is_broken(read) {
+            return read;
+        }
+        match block.empty() {
+            Ok(()) => read,
+            Err(Failed) => Err(Fault::Write),
+        }
+    }
+
+    /// Reads what is left of a piece.
+    fn read_rest<R: Rows, S: Sink>(
+        &mut self,
+        policy: Policy,
+        rows: &R,
+        piece: &[u8],
+        normalizer: &mut Normalizer,
+        block: &mut Block<'_, S>,
+    ) -> Result<(), Fault>
+        requires ready { IsReady (ends_at normalizer.old) self.old }
+        requires fits { self.old.offset + length piece.now ≤ u64.MAX }
+        ensures ready { OnOk result (IsReady (ends_at normalizer.new) self.new) }
+        ensures offset { OnOk result (self.new.offset ≡ self.old.offset + length piece.now) }
+        ensures faults { IfErr result IsOfReading }
+        ensures reads { let p = R.properties rows.now in
+            (f : Form) (base : ℕ) (bytes : List ℕ) (start : Start) → ReadsTo policy f p normalizer.old start (block_state S.state block.old) base self.old bytes piece.now
+            → ReadsRest policy f p normalizer.new start (block_state S.state block.new) base self.new bytes result }
+        ensures lent { (block.new.sink.ghost_name ≡ block.old.sink.ghost_name) × ((S.state block.new.sink.now).lender ≡ (S.state block.old.sink.now).lender) }
+    {
+        let mut rest = piece;
+        loop {
+            match self.read_chunk(policy, rows, rest, normalizer, block) {
+                Ok(Some(behind)) => rest = behind,
+                Ok(None) => return Ok(()),
+                Err(fault) => return Err(fault),
+            }
+        }
+    }
+
+    /// Reads what is left of a piece up to its first ill-formed byte. Where that is replaced, answers what stands behind
+    /// the ill-formed part.
+    fn read_chunk<'p, R: Rows, S: Sink>(
+        &mut self,
+        policy: Policy,
+        rows: &R,
+        rest: &'p [u8],
+        normalizer: &mut Normalizer,
+        block: &mut Block<'_, S>,
+    ) -> Result<Option<&'p [u8]>, Fault>
+        requires ready { IsReady (ends_at normalizer.old) self.old }
+        requires fits { self.old.offset + length rest.now ≤ u64.MAX }
+        ensures ready { OnOk result (IsReady (ends_at normalizer.new) self.new) }
+        ensures goes_on { IfOk result (GoesOn self.old self.new rest.now) }
+        ensures faults { IfErr result IsOfReading }
+        ensures reads { let p = R.properties rows.now in
+            (f : Form) (base : ℕ) (bytes : List ℕ) (start : Start) → ReadsTo policy f p normalizer.old start (block_state S.state block.old) base self.old bytes rest.now
+            → ReadsChunk policy f p normalizer.new start (block_state S.state block.new) base self.new bytes result }
+        ensures lent { (block.new.sink.ghost_name ≡ block.old.sink.ghost_name) × ((S.state block.new.sink.now).lender ≡ (S.state block.old.sink.now).lender) }
+    {
+        laws::split();
+        laws::replacing();
+        let begin = self.offset - self.decoder.carried() as u64;
+        let chunk = self.decoder.take(rest);
+        if let Err(fault) = normalizer.take_allowed(
+            rows,
+            policy.assigned,
+            begin,
+            chunk.first,
+            chunk.text,
+            block,
+        ) {
+            return Err(fault);
+        }
+        let chunk_end = chunk.end;
+        let End::Bad { at, back } = chunk_end else {
+            self.offset += rest.len() as u64;
+            return Ok(None);
+        };
+        let place = self.offset + at as u64;
+        let start = place - back as u64;
+        if !policy.replace {
+            return Err(Fault::BadByte { at: place, start });
+        }
+        if let Err(fault) = normalizer.take_one(
+            rows,
+            policy.assigned,
+            start,
+            char::REPLACEMENT_CHARACTER,
+            block,
+        ) {
+            return Err(fault);
+        }
+        // A byte that breaks a begun character off is read again.
+        let len = if back == 0 { at + 1 } else { at };
+        self.offset += len as u64;
+        Ok(Some(&rest[len..]))
+    }
+
+    /// At the end of all bytes: a character that it cuts is refused, or U+FFFD is taken for it.
+    pub fn close<R: Rows, S: Sink>(
+        &self,
+        policy: Policy,
+        rows: &R,
+        normalizer: &mut Normalizer,
+        sink: &mut S,
+    ) -> Result<(), Fault>
+        requires ready { IsReady (ends_at normalizer.old) self.now }
+        ensures faults { IfErr result IsOfClosing }
+        ensures closes { let p = R.properties rows.now in
+            (f : Form) (base : ℕ) (bytes : List ℕ) → HasReadTo policy f p normalizer.old base self.now bytes []
+            → Closes policy f p normalizer.new base bytes (S.state sink.old) (S.state sink.new) result }
+        ensures lender { (S.state sink.new).lender ≡ (S.state sink.old).lender }
+    {
+        laws::split();
+        laws::replacing();
+        if policy.replace {
+            return self.replace_cut(policy, rows, normalizer, sink);
+        }
+        self.end()
+    }
+
+    /// Takes U+FFFD for a character that the end cuts, and gives the sink what that settles.
+    fn replace_cut<R: Rows, S: Sink>(
+        &self,
+        policy: Policy,
+        rows: &R,
+        normalizer: &mut Normalizer,
+        sink: &mut S,
+    ) -> Result<(), Fault>
+        requires ready { IsReady (ends_at normalizer.old) self.now }
+        ensures faults { IfErr result IsOfTaking }
+        ensures cut { let p = R.properties rows.now in
+            (f : Form) (base : ℕ) (bytes : List ℕ) → HasReadTo policy f p normalizer.old base self.now bytes [] → policy.replace ≡ true
+            → ReplacesCut policy f p normalizer.new base bytes (S.state sink.old) (S.state sink.new) result }
+        ensures lender { (S.state sink.new).lender ≡ (S.state sink.old).lender }
+    {
+        laws::replacing();
+        let carried = self.decoder.carried();
+        if carried == 0 {
+            return Ok(());
+        }
+        let at = self.offset - carried as u64;
+        let mut block = Block::over(sink, false);
+        let taken = normalizer.take_one(
+            rows,
+            policy.assigned,
+            at,
+            char::REPLACEMENT_CHARACTER,
+            &mut block,
+        );
+        if is_broken(taken) {
+            return taken;
+        }
+        match block.empty() {
+            Ok(()) => taken,
+            Err(Failed) => Err(Fault::Write),
+        }
+    }
+}
+
+/// Whether the sink failed: it is not touched again then.
+fn is_broken(taken: Result<(), Fault>) -> bool
+    ensures { IsTrue result ↔ (taken ≡ Err WriteFault) }
+{
+    matches!(taken, Err(Fault::Write))
+}
