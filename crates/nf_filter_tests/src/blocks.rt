@@ -1,7 +1,6 @@
 //! How much is written at once, and when: in blocks, and before the next read.
-use crate::parts::{FORMS, Kept, joined};
-use crate::reference::after;
 use nf_filter::{Failed, FromReader, Sink, Source, Tally, run};
+use nf_filter_fixtures::{FORMS, Kept, after, joined};
 use nf_row::{Form, Ucd};
 use std::alloc::{AllocError, Global};
 use std::cell::Cell;

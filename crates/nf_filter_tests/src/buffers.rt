@@ -1,8 +1,7 @@
 //! A filter that is driven, and a text that is checked and measured, over a buffer of the caller's: its size changes nothing
 //! but how much is asked for at once.
-use crate::parts::{FORMS, Kept, Pieces, WAYS, filter_of, joined};
-use crate::reference::after;
 use nf_filter::{Fault, FromReader, Tally, check_buffered, drive_buffered, measure_buffered};
+use nf_filter_fixtures::{FORMS, Kept, Pieces, WAYS, after, filter_of, joined};
 use nf_row::{Form, Ucd};
 use nf_safe::{Measure, Place};
 use std::alloc::{AllocError, Global};

@@ -1,5 +1,5 @@
-use crate::parts::joined;
 use nf_filter::{Failed, Fault, Source, check, measure};
+use nf_filter_fixtures::joined;
 use nf_row::Change::{Class, Compat};
 use nf_row::{Change, Patched, Ucd};
 use nf_safe::{Measure, Place};

@@ -1,7 +1,6 @@
 //! A filter that was made over data of which ASCII is plain.
-use crate::both_ways::BASE;
-use crate::parts::{Kept, joined};
 use nf_filter::{Filter, Held, Tally};
+use nf_filter_fixtures::{BASE, Kept, joined};
 use nf_row::Change::Pair;
 use nf_row::{Form, Patched, Plain, Rows, Ucd};
 use std::alloc::Global;

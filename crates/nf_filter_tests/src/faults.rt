@@ -1,6 +1,6 @@
 //! Refusals: which, where, and what stands after them.
-use crate::parts::{Kept, WAYS, filter_of};
 use nf_filter::{Fault, Held, Tally};
+use nf_filter_fixtures::{Kept, WAYS, filter_of};
 use nf_row::Ucd;
 
 const NOTHING: Held = Held {

@@ -1,5 +1,5 @@
-use crate::parts::{course_by, filter_of, joined};
 use nf_filter::Tally;
+use nf_filter_fixtures::{course_by, filter_of, joined};
 use nf_row::{Form, Ucd};
 use std::test::Fail;
 

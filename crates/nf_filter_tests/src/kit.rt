@@ -1,5 +1,5 @@
-use crate::parts::{FORMS, Kept, filter_of};
 use nf_filter::{FromReader, run};
+use nf_filter_fixtures::{FORMS, Kept, filter_of};
 use nf_row::{Form, Ucd, sound};
 use std::alloc::{AllocError, Global};
 use std::test::Fail;

@@ -1,23 +1,13 @@
-//! The tests of `nf_filter` by its public calls: against plain definitions on whole texts, and over devices that give and
-//! take little, or fail.
+//! The tests of `nf_filter` by its public calls: forms, faults and counts that are known from outside, and devices that give
+//! and take little, or fail. Hostile use has a crate of its own, `nf_filter_hostile_tests`.
 #![tactic(auto)]
 
 #[cfg(test)]
 mod blocks;
 #[cfg(test)]
-mod both_ways;
-#[cfg(test)]
-mod bounds;
-#[cfg(test)]
-mod broken_runs;
-#[cfg(test)]
 mod buffers;
 #[cfg(test)]
-mod calm;
-#[cfg(test)]
 mod checks;
-#[cfg(test)]
-mod closed;
 #[cfg(test)]
 mod fast;
 #[cfg(test)]
@@ -27,20 +17,6 @@ mod forms;
 #[cfg(test)]
 mod kit;
 #[cfg(test)]
-mod lying_rows;
-#[cfg(test)]
-mod mixtures;
-#[cfg(test)]
-mod once;
-#[cfg(test)]
-mod parts;
-#[cfg(test)]
-mod pieces;
-#[cfg(test)]
-mod reference;
-#[cfg(test)]
-mod seeds;
-#[cfg(test)]
 mod settling;
 #[cfg(test)]
 mod slices;
@@ -48,7 +24,3 @@ mod slices;
 mod streams;
 #[cfg(test)]
 mod tables;
-#[cfg(test)]
-mod turns;
-#[cfg(test)]
-mod two_bytes;

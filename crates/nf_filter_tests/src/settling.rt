@@ -1,6 +1,6 @@
 //! What is written before the end, and what waits for it.
-use crate::parts::{WAYS, course_by, filter_of, joined};
 use nf_filter::{Held, Tally};
+use nf_filter_fixtures::{WAYS, course_by, filter_of, joined};
 use nf_row::{Form, Ucd};
 use std::alloc::{AllocError, Global};
 use std::process::Abort;

@@ -1,7 +1,6 @@
 //! How calm text reaches the sink: how much of it at once, how much by when, and what is left where the sink fails.
-use crate::both_ways::BASE;
-use crate::parts::{FORMS, Kept, course_of, joined};
 use nf_filter::{Fault, Filter, Held, Tally};
+use nf_filter_fixtures::{BASE, FORMS, Kept, course_of, joined};
 use nf_row::{Form, Patched, Ucd};
 use std::alloc::{AllocError, Global};
 use std::process::Abort;

@@ -1,7 +1,6 @@
 //! Sources and sinks that give and take little, and that fail in mid-stream.
-use crate::parts::{Kept, Pieces, WAYS, filter_of, joined};
-use crate::reference::after;
 use nf_filter::{Fault, Filter, FromReader, Sink, Source, Tally, ToWriter, drive, run};
+use nf_filter_fixtures::{Kept, Pieces, WAYS, after, filter_of, joined};
 use nf_row::{Form, Ucd};
 use std::test::Fail;
 

@@ -1,5 +1,5 @@
-use crate::parts::{FORMS, course_of, joined};
 use nf_filter::{Fault, Held};
+use nf_filter_fixtures::{FORMS, course_of, joined};
 use nf_row::Change::{Canonical, Class, Compat, Pair};
 use nf_row::{Change, Form, Patched};
 use std::test::Fail;

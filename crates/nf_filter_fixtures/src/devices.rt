@@ -1,28 +1,6 @@
-use nf_filter::{Failed, Fault, Filter, Held, Sink, Source, Tally};
-use nf_row::{Form, Plain, Rows};
-use std::alloc::{AllocError, Global};
-
-pub const FORMS: [Form; 4] = [Form::Nfc, Form::Nfd, Form::Nfkc, Form::Nfkd];
-
-/// The forms, by a filter as any is made, and by one that is made fast.
-pub const WAYS: [(Form, bool); 8] = [
-    (Form::Nfc, false),
-    (Form::Nfd, false),
-    (Form::Nfkc, false),
-    (Form::Nfkd, false),
-    (Form::Nfc, true),
-    (Form::Nfd, true),
-    (Form::Nfkc, true),
-    (Form::Nfkd, true),
-];
-
-/// A new filter, made fast where that is asked for and ASCII is plain.
-pub fn filter_of<R: Rows>(rows: &R, form: Form, base: u64, is_fast: bool) -> Filter<'_, R> {
-    if is_fast && let Some(plain) = Plain::of(rows) {
-        return Filter::fast(plain, form, base);
-    }
-    Filter::new(rows, form, base)
-}
+//! A sink and a source of which each call can be made to fail, and which count what they are asked.
+use nf_filter::{Failed, Sink, Source};
+use std::alloc::Global;
 
 /// A sink that keeps the bytes that it takes, at most `step` in a call, and fails where it has no room for more, or takes
 /// no more calls.
@@ -37,7 +15,8 @@ pub struct Kept {
     pub longest: usize,
     /// How many calls it refused.
     pub refused: usize,
-    failed: bool,
+    /// Whether it stands failed.
+    pub failed: bool,
 }
 
 impl Kept {
@@ -103,8 +82,9 @@ pub struct Pieces<'a> {
     /// How many calls it refused.
     pub refused: usize,
     fails: bool,
-    failed: bool,
-    at_end: bool,
+    /// Whether it stands failed, or at its end.
+    pub failed: bool,
+    pub at_end: bool,
 }
 
 impl<'a> Pieces<'a> {
@@ -146,69 +126,4 @@ impl Source for Pieces<'_> {
         self.at_end = n == 0;
         Ok(n)
     }
-}
-
-/// Texts, each repeated, joined.
-pub fn joined(alloc: Global, parts: &[(&str, usize)]) -> Result<Vec<u8>, AllocError> {
-    let mut bytes = Vec::new(alloc);
-    for (part, times) in parts {
-        for _ in 0..*times {
-            bytes.extend_from_slice(part.as_bytes())?;
-        }
-    }
-    Ok(bytes)
-}
-
-/// What a filter did with pieces.
-#[derive(Debug, Drop, PartialEq)]
-pub struct Course {
-    /// What it had written before `finish`.
-    pub settled: Vec<u8>,
-    pub held: Held,
-    pub offset: u64,
-    /// All that it wrote.
-    pub written: Vec<u8>,
-    pub answer: Result<Tally, Fault>,
-}
-
-/// Feeds the pieces to a new filter, as long as it takes them, and finishes it.
-pub fn course_of<R: Rows>(
-    alloc: Global,
-    rows: &R,
-    form: Form,
-    pieces: &[&[u8]],
-) -> Result<Course, AllocError> {
-    course_by(alloc, Filter::new(rows, form, 0), pieces)
-}
-
-/// The same to a given one.
-pub fn course_by<R: Rows>(
-    alloc: Global,
-    filter: Filter<'_, R>,
-    pieces: &[&[u8]],
-) -> Result<Course, AllocError> {
-    let mut sink = Kept::new(alloc);
-    let mut filter = filter;
-    let mut refused = None;
-    for piece in pieces {
-        if let Err(fault) = filter.feed(piece, &mut sink) {
-            refused = Some(fault);
-            break;
-        }
-    }
-    let settled = sink.bytes.clone()?;
-    let held = filter.held();
-    let offset = filter.offset();
-    let finished = filter.finish(&mut sink);
-    let answer = match refused {
-        Some(fault) => Err(fault),
-        None => finished,
-    };
-    Ok(Course {
-        settled,
-        held,
-        offset,
-        written: sink.bytes.clone()?,
-        answer,
-    })
 }

@@ -1,7 +1,6 @@
 //! Every text cut in every way, against the definitions on whole texts.
-use crate::parts::{FORMS, Kept, joined};
-use crate::reference::{Due, after};
 use nf_filter::{Fault, Filter};
+use nf_filter_fixtures::{Due, FORMS, Kept, after, joined};
 use nf_row::Change::{Canonical, Class, Compat, Pair};
 use nf_row::{Change, Form, Patched, Plain, Rows, Ucd};
 use std::alloc::{AllocError, Global};

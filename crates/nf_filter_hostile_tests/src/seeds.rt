@@ -2,8 +2,8 @@
 //! which nothing is, the same is written, and held, behind each piece.
 use crate::both_ways::same_over;
 use crate::mixtures::{Seeded, cut, push_part};
-use crate::parts::FORMS;
 use nf_filter::Fault;
+use nf_filter_fixtures::FORMS;
 use nf_row::{Patched, Plain};
 use std::alloc::{AllocError, Global};
 use std::ops::Range;

@@ -1,9 +1,8 @@
 //! Devices of which each call fails in turn, by each way to filter: what was told, what went out, and that no device is
 //! asked again.
-use crate::parts::{FORMS, Kept, Pieces, course_of};
 use crate::pieces::{Text, bytes_of};
-use crate::reference::after;
 use nf_filter::{Fault, Filter, Held, Tally, check, drive, measure, run};
+use nf_filter_fixtures::{FORMS, Kept, Pieces, after, course_of};
 use nf_row::{Form, Patched, Plain, Ucd};
 use nf_safe::Place;
 use std::alloc::{AllocError, Global};

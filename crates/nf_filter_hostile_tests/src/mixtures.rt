@@ -4,7 +4,7 @@ ghost use Rattle.std.specs.Prelude.{◌+◌, ◌^◌, ◌<◌};
 use crate::both_ways::{same_both_ways, same_over};
 use crate::calm::{BREAKS, CALM};
 use crate::closed::CLUSTERS;
-use crate::parts::{FORMS, joined};
+use nf_filter_fixtures::{FORMS, joined};
 use nf_row::{Patched, Plain};
 use std::alloc::{AllocError, Global};
 use std::test::Fail;

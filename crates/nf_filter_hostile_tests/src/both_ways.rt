@@ -1,13 +1,10 @@
 //! One text by `Ucd`, by the same data of which nothing is known, with which every character goes the plain way, and by both
 //! where ASCII was seen to be plain.
-use crate::parts::Kept;
 use nf_filter::{Fault, Filter, Held, Tally};
+use nf_filter_fixtures::{BASE, Kept};
 use nf_row::{Form, Patched, Plain, Rows, Ucd};
 use std::alloc::Global;
 use std::process::Abort;
-
-/// The offset of the first byte, so that a place is no count.
-pub const BASE: u64 = 1000;
 
 /// What a call answers, and how the filter stands behind it: the offset, and whether it is spent.
 type Step = (Result<(), Fault>, Held, u64, bool);

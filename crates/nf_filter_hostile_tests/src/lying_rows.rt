@@ -1,7 +1,7 @@
 //! Character data that breaks each part of soundness, and data that is sound and hostile.
-use crate::parts::{FORMS, Kept, course_of, joined};
 use crate::pieces::{Text, bytes_of, check_text};
 use nf_filter::{Fault, Filter, FromReader, check, drive, measure};
+use nf_filter_fixtures::{FORMS, Kept, course_of, joined};
 use nf_row::Change::{Assigned, Canonical, Class, Compat, Pair};
 use nf_row::{Change, Patched, Plain, Rows};
 use nf_safe::Place;

@@ -1,7 +1,7 @@
 //! Text that a form leaves as it stands, broken by what it does not: at each length, and about the end of a block.
-use crate::both_ways::{BASE, same_over};
-use crate::parts::{FORMS, joined};
+use crate::both_ways::same_over;
 use nf_filter::Fault;
+use nf_filter_fixtures::{BASE, FORMS, joined};
 use nf_row::{Form, Patched, Plain};
 use std::alloc::{AllocError, Global};
 use std::process::Abort;

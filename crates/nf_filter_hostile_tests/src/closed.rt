@@ -1,6 +1,6 @@
 //! Text that is closed: each kind of it, at each place about the end of a piece and of a block, and cut at each byte.
 use crate::both_ways::same_both_ways;
-use crate::parts::{FORMS, joined};
+use nf_filter_fixtures::{FORMS, joined};
 use nf_row::Form;
 use std::alloc::Global;
 use std::process::Abort;

@@ -1,7 +1,7 @@
 //! A million of what makes a run longer, behind a letter and alone: how many joiners are put, how much is written, and how
 //! little is held.
-use crate::parts::{FORMS, Kept, Pieces, joined};
 use nf_filter::{Filter, Tally, check, measure};
+use nf_filter_fixtures::{FORMS, Kept, Pieces, joined};
 use nf_row::{Patched, Plain, Rows, Ucd};
 use nf_safe::{Measure, Place};
 use std::alloc::{AllocError, Global};

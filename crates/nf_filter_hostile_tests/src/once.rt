@@ -1,12 +1,11 @@
 //! Readers and writers that fail, or give or take nothing, at one call, and then go on as if nothing had been.
 ghost use Rattle.std.specs.Prelude.{◌≡◌, IfOk};
 
-use crate::parts::{FORMS, Kept};
-use crate::reference::{Due, after};
 use nf_filter::{
     Failed, Fault, Filter, FromReader, LentReader, LentWriter, Sink, Source, Tally, ToWriter,
     check, drive, measure, run,
 };
+use nf_filter_fixtures::{Due, FORMS, Kept, after};
 use nf_row::{Form, Plain, Ucd};
 use std::alloc::{AllocError, Global};
 use std::io::{self, ErrorKind, Read, Write};

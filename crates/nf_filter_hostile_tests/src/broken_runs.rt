@@ -1,10 +1,10 @@
 //! A run of characters that a form leaves as they stand, broken by each kind of other character near the end of a piece and
 //! of a block, with short and long runs of marks behind it. By data of which all is known and of which nothing is, the same
 //! is written, and held, behind each piece.
-use crate::both_ways::{BASE, same_over};
+use crate::both_ways::same_over;
 use crate::calm::{BAD, BEGUN, BLOCK, filled};
-use crate::parts::{FORMS, joined};
 use nf_filter::Fault;
+use nf_filter_fixtures::{BASE, FORMS, joined};
 use nf_row::{Patched, Plain};
 use std::alloc::{AllocError, Global};
 use std::process::Abort;
