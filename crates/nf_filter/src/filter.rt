@@ -54,6 +54,8 @@ impl<'r, R: Rows> Filter<'r, R> {
     pub fn new(rows: &'r R, form: Form, base: u64) -> Filter<'r, R>
         ensures rows { rows_of result ≡ rows.now }
         ensures base { base_of (state_of result) ≡ base }
+        ensures offset { offset_of (state_of result) ≡ base }
+        ensures unspent { IsFalse (is_spent (state_of result)) }
         ensures stands { StandsAfter as_is form (R.properties rows.now) (state_of result) [] }
     {
         Filter {
@@ -72,6 +74,8 @@ impl<'r, R: Rows> Filter<'r, R> {
     pub fn fast(plain: Plain<'r, R>, form: Form, base: u64) -> Filter<'r, R>
         ensures rows { rows_of result ≡ plain_rows plain.entry }
         ensures base { base_of (state_of result) ≡ base }
+        ensures offset { offset_of (state_of result) ≡ base }
+        ensures unspent { IsFalse (is_spent (state_of result)) }
         ensures stands { StandsAfter as_is form (R.properties (rows_of result)) (state_of result) [] }
     {
         Filter {
