@@ -1,50 +1,30 @@
 -- A text of which only assigned characters may be taken.
 use Rattle.std.proofs.Common.{◌≡◌, ℕ, ◌==◌, ◌<◌, Bool, true, false, List, [], ◌++◌, length, Some, None, Ok, Err, ⊎_elim, refl, sym, ap, ◌∙◌, subst, arith, eq-eqb, ne_eqb}
-use Rattle.std.specs.Prelude.{Option, Result, option_map, if◌then◌else◌}
+use Rattle.std.specs.Prelude.{OnOk, Result, if◌then◌else◌}
 use Rattle.nf_forms.specs.Properties.{Properties}
 use Rattle.nf_forms.specs.declared.form.Form.{Form}
 use Rattle.nf_filter.specs.declared.fault.Fault.{Fault}
 use Rattle.nf_filter.specs.declared.fault.Fault.TheVariants.{Row, Write as WriteFault, Unassigned}
 use Rattle.nf_filter.specs.declared.normalizer.Normalizer.{Normalizer}
-use Rattle.nf_filter.specs.declared.taker.Stop.TheVariants.{Refused}
 use Rattle.nf_filter.specs.Block.{Start, BlockState, Written}
 use Rattle.nf_filter.specs.Faults.{first_fault}
 use Rattle.nf_filter.specs.Feeding.{taken_utf8, TakesAllowed}
-use Rattle.nf_filter.specs.Normalizer.{TakesOn, settled_text, unusable_at, usable_utf8}
+use Rattle.nf_filter.specs.Normalizer.{HasTaken, TakesOn, settled_text, unusable_at, usable_utf8}
 use Rattle.nf_filter.specs.Policy.{allowed}
 use Rattle.nf_filter.specs.Settled.{is_usable, usable}
-use Rattle.nf_filter.specs.Sources.{stop_at_end}
 use Rattle.nf_filter.proofs.BlockLemmas.{Written-at}
 use Rattle.nf_filter.proofs.PushingLemmas.{Broken-at, Broken-extends}
 use Rattle.nf_filter.proofs.SettledLemmas.{usable-all}
 use Rattle.nf_filter.proofs.PolicyLemmas.{allowed-grows, first_fault-stays, taken-all, taken_utf8-grows}
 
--- what stops as a fault
-pub fault_is : (o : Option Fault) (fault : Fault) → Some (Refused fault) ≡ option_map Refused o → Some fault ≡ o
-fault_is None fault e = cc
-fault_is (Some other) fault e = let same : fault ≡ other = cc in ap Some same
-
-pub no_fault : (o : Option Fault) → None ≡ option_map Refused o → None ≡ o
-no_fault None e = refl
-no_fault (Some other) e = cc
-
 module _ (f : Form) (p : Properties) where
   -- as far as all may be taken, only what is unsound stops
-  unusable_is : (a : Bool) (place : List ℕ → ℕ) (x : List ℕ) → allowed a p x ≡ x → unusable_at p place x ≡ option_map Refused (first_fault a p place x None)
+  unusable_is : (a : Bool) (place : List ℕ → ℕ) (x : List ℕ) → allowed a p x ≡ x → unusable_at p place x ≡ first_fault a p place x None
   unfolding unusable_at
-  unusable_is false place x all = next (is_usable p x)
-    where
-      next : (b : Bool) → (if b then None else Some (Refused (Row (place (usable p x))))) ≡ option_map Refused (if b then None else Some (Row (place (usable p x))))
-      next true = refl
-      next false = refl
+  unusable_is false place x all = refl
   unusable_is true place x all =
-      next (is_usable p x)
-      ∙ ap (λ (b : Bool). option_map Refused (if is_usable p x then (if b then None else Some (Unassigned (place x))) else Some (Row (place (usable p x))))) (sym (eq-eqb (length x) (length x) refl))
-      ∙ ap (λ l. option_map Refused (if is_usable p l then (if length l == length x then None else Some (Unassigned (place l))) else Some (Row (place (usable p l))))) (sym all)
-    where
-      next : (b : Bool) → (if b then None else Some (Refused (Row (place (usable p x))))) ≡ option_map Refused (if b then None else Some (Row (place (usable p x))))
-      next true = refl
-      next false = refl
+      ap (λ (b : Bool). if is_usable p x then (if b then None else Some (Unassigned (place x))) else Some (Row (place (usable p x)))) (sym (eq-eqb (length x) (length x) refl))
+      ∙ ap (λ l. if is_usable p l then (if length l == length x then None else Some (Unassigned (place l))) else Some (Row (place (usable p l)))) (sym all)
 
   written_is : (a : Bool) (x : List ℕ) → allowed a p x ≡ x → usable_utf8 f p x ≡ taken_utf8 a f p x
   unfolding usable_utf8
@@ -52,19 +32,17 @@ module _ (f : Form) (p : Properties) where
 
   module _ (normalizer : Normalizer) (start : Start) (now : BlockState) (place : List ℕ → ℕ) where
     -- all of a text may be taken
-    pub TakesAllowed-all : (a : Bool) (x : List ℕ) (r : Result (Unit {0}) Fault) → allowed a p x ≡ x → TakesOn f p normalizer start now place x (stop_at_end r) → TakesAllowed a f p normalizer start now place x r
-    TakesAllowed-all a x (Ok u) all takes = record {
-      broken = λ e. cc;
-      written = λ _. Written-at (written_is a x all) (takes.written (λ e. cc));
-      fault = λ _. no_fault (first_fault a p place x None) (takes.stop (λ e. cc) ∙ unusable_is a place x all);
-      taken = (takes.taken, all);
+    pub TakesAllowed-all : (a : Bool) (x : List ℕ) (r : Result (Unit {0}) Fault) → allowed a p x ≡ x → TakesOn f p normalizer start now place x r → TakesAllowed a f p normalizer start now place x r
+    TakesAllowed-all a x r all takes = record {
+      broken = λ e. Broken-at start (written_is a x all) (takes.broken e);
+      written = λ not. Written-at (written_is a x all) (takes.written not);
+      fault = λ not. takes.fault not ∙ unusable_is a place x all;
+      taken = with_all r takes.taken;
     }
-    TakesAllowed-all a x (Err fault) all takes = record {
-      broken = λ e. Broken-at start (written_is a x all) (takes.broken (let is : fault ≡ WriteFault = cc in ap (λ k. Err (Refused k)) is));
-      written = λ not. Written-at (written_is a x all) (takes.written (λ e. not (let is : fault ≡ WriteFault = cc in ap Err is)));
-      fault = λ not. fault_is (first_fault a p place x None) fault (takes.stop (λ e. not (let is : fault ≡ WriteFault = cc in ap Err is)) ∙ unusable_is a place x all);
-      taken = tt;
-    }
+      where
+        with_all : (r : Result (Unit {0}) Fault) → OnOk r (HasTaken f p normalizer x) → OnOk r (HasTaken f p normalizer x × (allowed a p x ≡ x))
+        with_all (Ok u) taken = (taken, all)
+        with_all (Err fault) taken = tt
 
     -- only the front z of it
     module _ (w z : List ℕ) (front : allowed true p w ≡ z) (less : length z < length w) where
@@ -83,20 +61,20 @@ module _ (f : Form) (p : Properties) where
           ap (λ (b : Bool). if is_usable p (allowed true p w) then (if b then None else Some (Unassigned (place (allowed true p w)))) else Some (Row (place (usable p (allowed true p w))))) not_all
           ∙ ap (λ l. if is_usable p l then Some (Unassigned (place l)) else Some (Row (place (usable p l)))) front
 
-      unusable_front : (fault : Fault) → Some (Refused fault) ≡ unusable_at p place z → Some fault ≡ (if is_usable p z then Some (Unassigned (place z)) else Some (Row (place (usable p z))))
+      unusable_front : (fault : Fault) → Some fault ≡ unusable_at p place z → Some fault ≡ (if is_usable p z then Some (Unassigned (place z)) else Some (Row (place (usable p z))))
       unfolding unusable_at
       unusable_front fault is = next (is_usable p z) is
         where
-          next : (b : Bool) → Some (Refused fault) ≡ (if b then None else Some (Refused (Row (place (usable p z))))) → Some fault ≡ (if b then Some (Unassigned (place z)) else Some (Row (place (usable p z))))
+          next : (b : Bool) → Some fault ≡ (if b then None else Some (Row (place (usable p z)))) → Some fault ≡ (if b then Some (Unassigned (place z)) else Some (Row (place (usable p z))))
           next true e = cc
-          next false e = let same : fault ≡ Row (place (usable p z)) = cc in ap Some same
+          next false e = e
 
-      -- which stopped
-      pub TakesAllowed-front : (fault : Fault) → TakesOn f p normalizer start now place z (Err (Refused fault)) → TakesAllowed true f p normalizer start now place w (Err fault)
+      -- which was refused
+      pub TakesAllowed-front : (fault : Fault) → TakesOn f p normalizer start now place z (Err fault) → TakesAllowed true f p normalizer start now place w (Err fault)
       TakesAllowed-front fault takes = record {
-        broken = λ e. Broken-at start usable_front (takes.broken (let is : fault ≡ WriteFault = cc in ap (λ k. Err (Refused k)) is));
-        written = λ not. Written-at usable_front (takes.written (λ e. not (let is : fault ≡ WriteFault = cc in ap Err is)));
-        fault = λ not. unusable_front fault (takes.stop (λ e. not (let is : fault ≡ WriteFault = cc in ap Err is))) ∙ sym fault_front;
+        broken = λ e. Broken-at start usable_front (takes.broken e);
+        written = λ not. Written-at usable_front (takes.written not);
+        fault = λ not. unusable_front fault (takes.fault not) ∙ sym fault_front;
         taken = tt;
       }
 
@@ -109,14 +87,14 @@ module _ (f : Form) (p : Properties) where
         taken = tt;
       }
 
-    -- a text that stopped where all that may be taken was taken before it
-    pub TakesAllowed-stopped : (w z : List ℕ) (fault : Fault) → allowed true p w ≡ z → TakesOn f p normalizer start now place z (Err (Refused fault)) → TakesAllowed true f p normalizer start now place w (Err fault)
-    TakesAllowed-stopped w z fault front takes = ⊎_elim
-        (λ all. TakesAllowed-all true w (Err fault) all (subst (λ y. TakesOn f p normalizer start now place y (Err (Refused fault))) (sym front ∙ all) takes))
+    -- a text refused where all that may be taken was taken before it
+    pub TakesAllowed-refused : (w z : List ℕ) (fault : Fault) → allowed true p w ≡ z → TakesOn f p normalizer start now place z (Err fault) → TakesAllowed true f p normalizer start now place w (Err fault)
+    TakesAllowed-refused w z fault front takes = ⊎_elim
+        (λ all. TakesAllowed-all true w (Err fault) all (subst (λ y. TakesOn f p normalizer start now place y (Err fault)) (sym front ∙ all) takes))
         (λ less. TakesAllowed-front w z front (omega (arith, less.0, ap length front)) fault takes)
         (allowed-grows p true w [])
 
-    -- what stopped in a text stops in a longer one
+    -- what is refused in a text is refused in a longer one
     pub TakesAllowed-more : (a : Bool) (w y : List ℕ) (fault : Fault) → TakesAllowed a f p normalizer start now place w (Err fault) → TakesAllowed a f p normalizer start now place (w ++ y) (Err fault)
     TakesAllowed-more a w y fault takes = record {
       broken = λ e. Broken-extends start (taken_utf8-grows p a f w y) (takes.broken e);

@@ -27,15 +27,13 @@ use Rattle.nf_safe.specs.Place.{is_in_format, place_from}
 use Rattle.nf_safe.specs.Checker.{CountsFromEnd}
 use Rattle.nf_safe.specs.Laws.Place.{is_in_format-stream_safe, place_from-in_format, place_from-stays}
 use Rattle.nf_filter.specs.declared.fault.Fault.{Fault}
-use Rattle.nf_filter.specs.declared.fault.Fault.TheVariants.{Row, Write}
+use Rattle.nf_filter.specs.declared.fault.Fault.TheVariants.{Row}
 use Rattle.nf_filter.specs.declared.taker.Stop.{Stop}
 use Rattle.nf_filter.specs.declared.taker.Stop.TheVariants.{Refused, Found}
-use Rattle.nf_filter.specs.Devices.{SinkState}
 use Rattle.nf_filter.specs.Faults.{bad_byte}
-use Rattle.nf_filter.specs.Taker.{stop_or, stop_in, StopsQuietly, TakesText}
+use Rattle.nf_filter.specs.Taker.{stop_or, stop_in, TakesText}
 use Rattle.nf_filter.specs.Checks.{sound_front, check_fault, place_or_fault, check_decision, place_or_row, check_stop, HasChecked, Sees, HasSeenFront}
 use Rattle.nf_filter.proofs.TakingLemmas.{front-behind, front-more, front-whole}
-use Rattle.nf_filter.proofs.WritesLemmas.{Puts-none}
 use Rattle.nf_filter.proofs.PolicyLemmas.{take_while-all, take_while-append, take_while-stop}
 use Rattle.nf_filter.proofs.SurveysLemmas.{told}
 
@@ -88,21 +86,11 @@ module _ (p : Properties) where
         next None true (Some fault) row = refl
         next None false bad row = refl
 
-  -- a taker that writes nothing
-  pub TakesText-seen : (checker : Checker) (base : ℕ) (x y : List ℕ) (sink : SinkState) (r : Result (Unit {0}) Stop) → (place : (z : List ℕ) → HasChecked p checker base z → place_from base p z ≡ None)
-      → ((stop : Stop) → r ≡ Err stop → StopsQuietly true stop) → Sees p checker base (x ++ y) r → TakesText (HasChecked p checker base) (check_stop p base) (λ _. []) x y sink sink r
-  TakesText-seen checker base x y sink (Ok u) place quiet sees = record {
-    broken = λ e. cc;
-    puts = λ _. Puts-none sink [];
-    stop = λ _. sym (stop_none base (x ++ y) sees.sound (place (x ++ y) sees));
-    taken = sees;
-  }
-  TakesText-seen checker base x y sink (Err stop) place quiet sees = record {
-    broken = λ e. let same : stop ≡ Refused Write = cc in absurd (rw same at (quiet stop refl));
-    puts = λ _. Puts-none sink [];
-    stop = λ _. sym sees;
-    taken = tt;
-  }
+  -- the text was seen
+  pub TakesText-seen : (checker : Checker) (base : ℕ) (x y : List ℕ) (r : Result (Unit {0}) Stop) → (place : (z : List ℕ) → HasChecked p checker base z → place_from base p z ≡ None)
+      → Sees p checker base (x ++ y) r → TakesText (HasChecked p checker base) (check_stop p base) x y r
+  TakesText-seen checker base x y (Ok u) place sees = record { stop = sym (stop_none base (x ++ y) sees.sound (place (x ++ y) sees)); taken = sees }
+  TakesText-seen checker base x y (Err stop) place sees = record { stop = sym sees; taken = tt }
 
   -- what stops it in what stands behind a front stops it in the text
   pub stop-more : (base : ℕ) (x text front rest : List ℕ) (stop : Stop) → chars text ≡ front ++ chars rest → check_stop p base ((x ++ front) ++ chars rest) ≡ Some stop → check_stop p base (x ++ chars text) ≡ Some stop

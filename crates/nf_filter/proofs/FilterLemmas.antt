@@ -16,7 +16,8 @@ use Rattle.nf_filter.specs.Writes.{Puts, BreaksOff}
 use Rattle.nf_filter.specs.Policy.{as_is}
 use Rattle.nf_filter.specs.Settled.{is_usable, settled_utf8}
 use Rattle.nf_filter.specs.Faults.{bad_byte, fault_in}
-use Rattle.nf_filter.specs.Normalizer.{unusable_at, utf8_place}
+use Rattle.nf_filter.specs.Normalizer.{unusable_at}
+use Rattle.nf_filter.specs.Measures.{unusable_stop}
 use Rattle.nf_filter.specs.Taker.{stop_or, stop_in}
 use Rattle.nf_filter.specs.Feeds.{Feeds}
 use Rattle.nf_filter.specs.Filter.{base_of, offset_of, StandsAfter}
@@ -43,11 +44,11 @@ write_or_not (Cut at start) = inr (λ e. cc)
 write_or_not (Unassigned at) = inr (λ e. cc)
 
 -- what stops a taker that is refused what a filter is
-pub stop_in-fault : (p : Properties) (base : ℕ) (bytes : List ℕ) → stop_in (unusable_at p (utf8_place base)) base bytes ≡ option_map Refused (fault_in as_is p base bytes)
+pub stop_in-fault : (p : Properties) (base : ℕ) (bytes : List ℕ) → stop_in (unusable_stop p base) base bytes ≡ option_map Refused (fault_in as_is p base bytes)
 unfolding unusable_at fault_in
 stop_in-fault p base bytes = next (is_usable p (text_of bytes)) (bad_byte base (ending_of bytes)) _
   where
-    next : (b : Bool) (o : Option Fault) (row : Fault) → stop_or (if b then None else Some (Refused row)) o ≡ option_map Refused (if b then o else Some row)
+    next : (b : Bool) (o : Option Fault) (row : Fault) → stop_or (option_map Refused (if b then None else Some row)) o ≡ option_map Refused (if b then o else Some row)
     next true o row = refl
     next false o row = refl
 

@@ -11,17 +11,15 @@ use Rattle.nf_safe.specs.declared.measurer.Measurer.{Measurer}
 use Rattle.nf_safe.specs.declared.place.Place.{Place}
 use Rattle.nf_safe.specs.Measurer.{refusal, unsound_at}
 use Rattle.nf_filter.specs.declared.fault.Fault.{Fault}
-use Rattle.nf_filter.specs.declared.fault.Fault.TheVariants.{Row, Write}
+use Rattle.nf_filter.specs.declared.fault.Fault.TheVariants.{Row}
 use Rattle.nf_filter.specs.declared.taker.Stop.{Stop}
 use Rattle.nf_filter.specs.declared.taker.Stop.TheVariants.{Refused}
-use Rattle.nf_filter.specs.Devices.{SinkState}
 use Rattle.nf_filter.specs.Policy.{as_is}
 use Rattle.nf_filter.specs.Settled.{is_usable}
 use Rattle.nf_filter.specs.Faults.{fault_in}
-use Rattle.nf_filter.specs.Normalizer.{unusable_at, utf8_place}
-use Rattle.nf_filter.specs.Taker.{stop_in, StopsQuietly, TakesText}
-use Rattle.nf_filter.specs.Measures.{HasMeasured, SeesText}
-use Rattle.nf_filter.proofs.WritesLemmas.{Puts-none}
+use Rattle.nf_filter.specs.Normalizer.{utf8_place}
+use Rattle.nf_filter.specs.Taker.{stop_in, TakesText}
+use Rattle.nf_filter.specs.Measures.{HasMeasured, SeesText, unusable_stop}
 use Rattle.nf_filter.proofs.SettledLemmas.{is_usable-push}
 use Rattle.nf_filter.proofs.TextLemmas.{unusable_at-usable, unusable_at-stop}
 use Rattle.nf_filter.proofs.FilterLemmas.{stop_in-fault}
@@ -68,34 +66,23 @@ module _ (p : Properties) where
 
   -- a character that is refused behind x
   pub stops_at : (base at : ℕ) (x : List ℕ) (c d : ℕ) (y : List ℕ) → IsSoundText p (stream_safe p x) → at ≡ base + length (encode_utf8_all x) → unsound_at p x c ≡ Some d
-      → unusable_at p (utf8_place base) ((x ++ c ∷ []) ++ y) ≡ Some (Refused (Row at))
-  stops_at base at x c d y sound here refused = unusable_at-stop p (utf8_place base) x c y (usable_is x sound) (unusable x c d refused) ∙ ap (λ n. Some (Refused (Row n))) (sym here)
+      → unusable_stop p base ((x ++ c ∷ []) ++ y) ≡ Some (Refused (Row at))
+  stops_at base at x c d y sound here refused = ap (option_map Refused) (unusable_at-stop p (utf8_place base) x c y (usable_is x sound) (unusable x c d refused)) ∙ ap (λ n. Some (Refused (Row n))) (sym here)
 
   pub refusal_at : (base at : ℕ) (x : List ℕ) (c : ℕ) (y : List ℕ) → IsSoundText p (stream_safe p x) → at ≡ base + length (encode_utf8_all x) → (r : Seen) → is_err r ≡ true
-      → result_err r ≡ option_map refusal (unsound_at p x c) → unusable_at p (utf8_place base) ((x ++ c ∷ []) ++ y) ≡ Some (Refused (Row at))
+      → result_err r ≡ option_map refusal (unsound_at p x c) → unusable_stop p base ((x ++ c ∷ []) ++ y) ≡ Some (Refused (Row at))
   refusal_at base at x c y sound here (Ok u) refused is = cc
   refusal_at base at x c y sound here (Err e) refused is = let d = refused_is (unsound_at p x c) e is in stops_at base at x c d.0 y sound here d.1
 
   -- what the bytes decide is what stops a measurer in them
-  pub decides : {T : Type 0} (of_place : Place → T) (base : ℕ) (bytes : List ℕ) → option_map (refused {T = T}) (fault_in as_is p base bytes) ≡ option_map (told of_place) (stop_in (unusable_at p (utf8_place base)) base bytes)
+  pub decides : {T : Type 0} (of_place : Place → T) (base : ℕ) (bytes : List ℕ) → option_map (refused {T = T}) (fault_in as_is p base bytes) ≡ option_map (told of_place) (stop_in (unusable_stop p base) base bytes)
   decides {T} of_place base bytes = next (fault_in as_is p base bytes) ∙ ap (option_map (told of_place)) (sym (stop_in-fault p base bytes))
     where
       next : (o : Option Fault) → option_map (refused {T = T}) o ≡ option_map (told of_place) (option_map Refused o)
       next None = refl
       next (Some fault) = refl
 
-  -- a taker that writes nothing
-  pub TakesText-seen : (measurer : Measurer) (base : ℕ) (x y : List ℕ) (sink : SinkState) (r : Result (Unit {0}) Stop) → ((stop : Stop) → r ≡ Err stop → StopsQuietly false stop)
-      → SeesText p measurer base (x ++ y) r → TakesText (HasMeasured p measurer base) (unusable_at p (utf8_place base)) (λ _. []) x y sink sink r
-  TakesText-seen measurer base x y sink (Ok u) quiet sees = record {
-    broken = λ e. cc;
-    puts = λ _. Puts-none sink [];
-    stop = λ _. sym (unusable_at-usable p (utf8_place base) (x ++ y) (usable_is (x ++ y) sees.sound));
-    taken = sees;
-  }
-  TakesText-seen measurer base x y sink (Err stop) quiet sees = record {
-    broken = λ e. let same : stop ≡ Refused Write = cc in absurd (rw same at (quiet stop refl));
-    puts = λ _. Puts-none sink [];
-    stop = λ _. sym sees;
-    taken = tt;
-  }
+  -- the text was seen
+  pub TakesText-seen : (measurer : Measurer) (base : ℕ) (x y : List ℕ) (r : Result (Unit {0}) Stop) → SeesText p measurer base (x ++ y) r → TakesText (HasMeasured p measurer base) (unusable_stop p base) x y r
+  TakesText-seen measurer base x y (Ok u) sees = record { stop = sym (ap (option_map Refused) (unusable_at-usable p (utf8_place base) (x ++ y) (usable_is (x ++ y) sees.sound))); taken = sees }
+  TakesText-seen measurer base x y (Err stop) sees = record { stop = sym sees; taken = tt }

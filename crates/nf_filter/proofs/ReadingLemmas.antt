@@ -15,10 +15,8 @@ use Rattle.nf_filter.specs.declared.fault.Fault.TheVariants.{BadByte}
 use Rattle.nf_filter.specs.declared.reading.Reading.{Reading}
 use Rattle.nf_filter.specs.declared.taker.Stop.{Stop}
 use Rattle.nf_filter.specs.declared.taker.Stop.TheVariants.{Refused}
-use Rattle.nf_filter.specs.Devices.{SinkState}
 use Rattle.nf_filter.specs.Faults.{bad_byte}
 use Rattle.nf_filter.specs.Taker.{TakesText, stop_or, stop_in, HasRead, ReadsPiece}
-use Rattle.nf_filter.proofs.WritesLemmas.{Puts-at, BreaksOff-at}
 
 -- no bytes spell nothing
 pub text_of-none : text_of [] ≡ []
@@ -68,38 +66,31 @@ pub ready_after : (ends_at : ℕ → Type 0) (offset carried first text left hel
     → ends_at (offset - carried + first + text) → (left ≤ end) × ends_at (end - left)
 ready_after ends_at offset carried first text left held piece end is counted within all ends = (omega arith, subst ends_at (omega arith) ends)
 
-module _ (stands : List ℕ → Type 0) (stops : List ℕ → Option Stop) (gives : List ℕ → List ℕ) (base : ℕ) (reading : Reading) (bytes piece more : List ℕ) (old new : SinkState)
-    (text : text_of (bytes ++ piece) ≡ text_of bytes ++ more) where
+module _ (stands : List ℕ → Type 0) (stops : List ℕ → Option Stop) (base : ℕ) (reading : Reading) (bytes piece more : List ℕ) (text : text_of (bytes ++ piece) ≡ text_of bytes ++ more) where
   -- the taker stopped
-  pub ReadsPiece-stopped : (stop : Stop) → TakesText stands stops gives (text_of bytes) more old new (Err stop) → ReadsPiece stands stops gives base reading bytes piece old new (Err stop)
+  pub ReadsPiece-stopped : (stop : Stop) → TakesText stands stops (text_of bytes) more (Err stop) → ReadsPiece stands stops base reading bytes piece (Err stop)
   ReadsPiece-stopped stop takes = record {
-    broken = λ e. BreaksOff-at refl (ap gives (sym text)) (takes.broken e);
-    puts = λ e. Puts-at refl (ap gives (sym text)) (takes.puts e);
-    stop = λ e. sym (ap (λ o. stop_or o (bad_byte base (ending_of (bytes ++ piece)))) (ap stops text ∙ sym (takes.stop e)));
+    stop = sym (ap (λ o. stop_or o (bad_byte base (ending_of (bytes ++ piece)))) (ap stops text ∙ sym takes.stop));
     read = tt;
   }
 
-  went_on : (u : Unit {0}) → TakesText stands stops gives (text_of bytes) more old new (Ok u) → stops (text_of (bytes ++ piece)) ≡ None
-  went_on u takes = ap stops text ∙ sym (takes.stop (λ e. cc))
+  went_on : (u : Unit {0}) → TakesText stands stops (text_of bytes) more (Ok u) → stops (text_of (bytes ++ piece)) ≡ None
+  went_on u takes = ap stops text ∙ sym takes.stop
 
   -- a byte is ill-formed
-  pub ReadsPiece-bad : (u : Unit {0}) (m n at start : ℕ) → TakesText stands stops gives (text_of bytes) more old new (Ok u) → ending_of (bytes ++ piece) ≡ Bad m n → at ≡ base + m → start ≡ base + n
-      → ReadsPiece stands stops gives base reading bytes piece old new (Err (Refused (BadByte at start)))
+  pub ReadsPiece-bad : (u : Unit {0}) (m n at start : ℕ) → TakesText stands stops (text_of bytes) more (Ok u) → ending_of (bytes ++ piece) ≡ Bad m n → at ≡ base + m → start ≡ base + n
+      → ReadsPiece stands stops base reading bytes piece (Err (Refused (BadByte at start)))
   ReadsPiece-bad u m n at start takes end here begun = record {
-    broken = λ e. cc;
-    puts = λ _. Puts-at refl (ap gives (sym text)) (takes.puts (λ e. cc));
-    stop = λ _. sym (ap (λ o. stop_or o (bad_byte base (ending_of (bytes ++ piece)))) (went_on u takes)
+    stop = sym (ap (λ o. stop_or o (bad_byte base (ending_of (bytes ++ piece)))) (went_on u takes)
         ∙ ap (λ e. stop_or None (bad_byte base e)) end ∙ ap (λ k. Some (Refused (BadByte k (base + n)))) (sym here) ∙ ap (λ k. Some (Refused (BadByte at k))) (sym begun));
     read = tt;
   }
 
   -- all of it was read
-  pub ReadsPiece-read : (u : Unit {0}) → TakesText stands stops gives (text_of bytes) more old new (Ok u) → bad_byte base (ending_of (bytes ++ piece)) ≡ None
-      → reading.offset ≡ base + length (bytes ++ piece) → DecoderStandsAfter reading.decoder (bytes ++ piece) → ReadsPiece stands stops gives base reading bytes piece old new (Ok u)
+  pub ReadsPiece-read : (u : Unit {0}) → TakesText stands stops (text_of bytes) more (Ok u) → bad_byte base (ending_of (bytes ++ piece)) ≡ None
+      → reading.offset ≡ base + length (bytes ++ piece) → DecoderStandsAfter reading.decoder (bytes ++ piece) → ReadsPiece stands stops base reading bytes piece (Ok u)
   ReadsPiece-read u takes fine offset decoder = record {
-    broken = λ e. cc;
-    puts = λ _. Puts-at refl (ap gives (sym text)) (takes.puts (λ e. cc));
-    stop = λ _. sym unstopped;
+    stop = sym unstopped;
     read = record { offset = offset; decoder = decoder; taken = rw text takes.taken; unstopped = unstopped };
   }
     where

@@ -10,7 +10,7 @@ use Rattle.nf_filter.specs.declared.fault.Fault.TheVariants.{Spent, TooLong, Rea
 use Rattle.nf_filter.specs.declared.reading.Reading.{Reading}
 use Rattle.nf_filter.specs.declared.taker.Stop.{Stop}
 use Rattle.nf_filter.specs.declared.taker.Stop.TheVariants.{Refused, Found}
-use Rattle.nf_filter.specs.Devices.{SinkState, SourceState}
+use Rattle.nf_filter.specs.Devices.{SourceState}
 use Rattle.nf_filter.specs.Faults.{answer_at_end}
 use Rattle.nf_filter.specs.Taker.{stop_in}
 use Rattle.nf_filter.specs.Sources.{stop_at_end, ReadsAll, MayStopAll}
@@ -43,12 +43,12 @@ whole_is base value (Bad at start) e = refl
 whole_is base value (CutShort at start) e = cc
 
 module _ {T : Type 0} (of_place : Place → T) (most base : ℕ) (stands : List ℕ → Type 0) (stops : List ℕ → Option Stop) (decision : List ℕ → Option (Result T Fault)) (value : List ℕ → T)
-    (decides : (bytes : List ℕ) → decision bytes ≡ option_map (told of_place) (stop_in stops base bytes)) (reading : Reading) (source left : SourceState) (old new : SinkState) where
+    (decides : (bytes : List ℕ) → decision bytes ≡ option_map (told of_place) (stop_in stops base bytes)) (reading : Reading) (source left : SourceState) where
   undecided : (before : List ℕ) → stop_in stops base before ≡ None → decision before ≡ None
   undecided before unstopped = decides before ∙ ap (option_map (told of_place)) unstopped
 
   -- all was read
-  pub Surveys-whole : (u : Unit {0}) → left.is_at_end ≡ true → (reads : ReadsAll most stands stops (λ _. []) base reading [] source left old new (Ok u)) → (result : T) → value reads.before ≡ result
+  pub Surveys-whole : (u : Unit {0}) → left.is_at_end ≡ true → (reads : ReadsAll most stands stops base reading [] source left (Ok u)) → (result : T) → value reads.before ≡ result
       → Surveys most base decision value source left (Ok result)
   Surveys-whole u ended reads result is = record {
     before = reads.before;
@@ -63,9 +63,9 @@ module _ {T : Type 0} (of_place : Place → T) (most base : ℕ) (stands : List 
     decided = λ before_end. let absent : true ≡ false = sym ended ∙ before_end in cc;
   }
 
-  -- it was stopped; nothing is written, so no sink fails
-  pub Surveys-stopped : (stop : Stop) → ¬ (stop ≡ Refused Write) → (reads : ReadsAll most stands stops (λ _. []) base reading [] source left old new (Err stop)) → Surveys most base decision value source left (told of_place stop)
-  Surveys-stopped stop kept reads = record {
+  -- it was stopped
+  pub Surveys-stopped : (stop : Stop) → (reads : ReadsAll most stands stops base reading [] source left (Err stop)) → Surveys most base decision value source left (told of_place stop)
+  Surveys-stopped stop reads = record {
     before = reads.before;
     last = reads.last;
     given = reads.given;
@@ -76,24 +76,16 @@ module _ {T : Type 0} (of_place : Place → T) (most base : ℕ) (stands : List 
     failed = λ e. reads.failed (ap stopped_by (refused_is of_place stop Read e));
     ended = λ end. ((reads.ended end).0, end_is of_place base (value reads.before) (ending_of reads.before) stop (reads.ended end).1);
     decided = λ before_end short unread. decides (reads.before ++ reads.last) ∙ ap (option_map (told of_place))
-        (sym (reads.stopped before_end (λ e. short (refusal_is of_place stop TooLong e)) (λ e. unread (refusal_is of_place stop Read e)) (λ e. kept (let same : stop ≡ Refused Write = cc in same))).1);
+        (sym (reads.stopped before_end (λ e. short (refusal_is of_place stop TooLong e)) (λ e. unread (refusal_is of_place stop Read e))).1);
   }
 
--- the faults of reading that is no writing
-pub IsOfSurvey-from : (finds : Bool) (fault : Fault) → MayStopAll finds (Refused fault) → ¬ (Refused fault ≡ Refused Write) → IsOfSurvey fault
-IsOfSurvey-from finds Spent may kept = may
-IsOfSurvey-from finds TooLong may kept = tt
-IsOfSurvey-from finds Read may kept = tt
-IsOfSurvey-from finds Write may kept = absurd (kept refl)
-IsOfSurvey-from finds (Row at) may kept = tt
-IsOfSurvey-from finds (BadByte at start) may kept = tt
-IsOfSurvey-from finds (Cut at start) may kept = tt
-IsOfSurvey-from finds (Unassigned at) may kept = may
-
--- the sink was given nothing, so it did not fail
-pub nothing_breaks : {most : ℕ} {stands : List ℕ → Type 0} {stops : List ℕ → Option Stop} {base : ℕ} {reading : Reading} {source left : SourceState} {old new : SinkState} (stop : Stop)
-    → ReadsAll most stands stops (λ _. []) base reading [] source left old new (Err stop) → ¬ (stop ≡ Refused Write)
-nothing_breaks {most} {stands} {stops} {base} {reading} {source} {left} {old} {new} stop reads e =
-    let breaks = reads.broken (ap stopped_by e) in
-    let none : [] ≡ breaks.out ++ breaks.rest = breaks.behind in
-    absurd (omega (arith, breaks.more, ap length none, length-append breaks.out breaks.rest))
+-- the faults of reading
+pub IsOfSurvey-from : (finds : Bool) (fault : Fault) → MayStopAll finds (Refused fault) → IsOfSurvey fault
+IsOfSurvey-from finds Spent may = may
+IsOfSurvey-from finds TooLong may = tt
+IsOfSurvey-from finds Read may = tt
+IsOfSurvey-from finds Write may = may
+IsOfSurvey-from finds (Row at) may = tt
+IsOfSurvey-from finds (BadByte at start) may = tt
+IsOfSurvey-from finds (Cut at start) may = tt
+IsOfSurvey-from finds (Unassigned at) may = may

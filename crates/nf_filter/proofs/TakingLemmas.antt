@@ -7,9 +7,8 @@ use Rattle.std.proofs.lemmas.Str.{chars-nil, chars-append, encodes-append, encod
 use Rattle.nf_forms.specs.Properties.{Properties}
 use Rattle.nf_forms.specs.declared.form.Form.{Form}
 use Rattle.nf_filter.specs.declared.normalizer.Normalizer.{Normalizer}
-use Rattle.nf_filter.specs.declared.taker.Stop.{Stop}
+use Rattle.nf_filter.specs.declared.fault.Fault.{Fault}
 use Rattle.nf_filter.specs.declared.fault.Fault.TheVariants.{Write as WriteFault}
-use Rattle.nf_filter.specs.declared.taker.Stop.TheVariants.{Refused}
 use Rattle.nf_filter.specs.Settled.{is_usable}
 use Rattle.nf_filter.specs.Block.{Start, BlockState, Written, Broken}
 use Rattle.nf_filter.specs.Normalizer.{HasTaken, IsPlacedAt, TakesOn, settled_text, usable_utf8}
@@ -81,7 +80,7 @@ module _ (f : Form) (p : Properties) (normalizer : Normalizer) (start : Start) (
     written = subst (λ y. Written start now (settled_text f p y)) (append_assoc x front next.front) next.written;
   }
 
-  pub TakesOn-more : (place : List ℕ → ℕ) (x text front rest : List ℕ) (r : Result (Unit {0}) Stop) → chars text ≡ front ++ chars rest → TakesOn f p normalizer start now place ((x ++ front) ++ chars rest) r
+  pub TakesOn-more : (place : List ℕ → ℕ) (x text front rest : List ℕ) (r : Result (Unit {0}) Fault) → chars text ≡ front ++ chars rest → TakesOn f p normalizer start now place ((x ++ front) ++ chars rest) r
       → TakesOn f p normalizer start now place (x ++ chars text) r
   TakesOn-more place x text front rest r is takes =
       subst (λ y. TakesOn f p normalizer start now place y r) (front-behind text front rest is x) takes
@@ -94,11 +93,11 @@ module _ (f : Form) (p : Properties) (normalizer : Normalizer) (start : Start) (
 
   -- the sink failed in what a front of the text settles
   pub TakesOn-broken : (place : List ℕ → ℕ) (x text front rest : List ℕ) → chars text ≡ front ++ rest → is_usable p (x ++ front) ≡ true → Broken start now (settled_text f p (x ++ front))
-      → TakesOn f p normalizer start now place (x ++ chars text) (Err (Refused WriteFault))
+      → TakesOn f p normalizer start now place (x ++ chars text) (Err WriteFault)
   TakesOn-broken place x text front rest is usable broken = record {
     broken = λ _. Broken-extends start (subst (λ y. Extends (settled_text f p (x ++ front)) (usable_utf8 f p y)) whole (usable_utf8-extends p f (x ++ front) rest usable)) broken;
     written = λ no. absurd (no refl);
-    stop = λ no. absurd (no refl);
+    fault = λ no. absurd (no refl);
     taken = tt;
   }
     where

@@ -12,12 +12,11 @@ use Rattle.nf_filter.specs.declared.fault.Fault.TheVariants.{Row}
 use Rattle.nf_filter.specs.declared.normalizer.Normalizer.{Normalizer}
 use Rattle.nf_filter.specs.declared.refusal.Refusal.{Refusal}
 use Rattle.nf_filter.specs.declared.refusal.Refusal.TheVariants.{Unsound, Write}
-use Rattle.nf_filter.specs.declared.taker.Stop.TheVariants.{Refused}
 use Rattle.nf_filter.specs.Settled.{settled, is_usable, usable}
 use Rattle.nf_filter.specs.Devices.{SinkState}
 use Rattle.nf_filter.specs.Writes.{Puts}
 use Rattle.nf_filter.specs.Block.{Start, BlockState, Written}
-use Rattle.nf_filter.specs.Normalizer.{HasTaken, settled_text, usable_utf8, unusable_at, stop_at, TakesChar, TakesOn}
+use Rattle.nf_filter.specs.Normalizer.{HasTaken, settled_text, usable_utf8, unusable_at, refused_at, TakesChar, TakesOn}
 use Rattle.nf_filter.proofs.WritesLemmas.{Puts-at}
 use Rattle.nf_filter.proofs.BlockLemmas.{Written-at}
 use Rattle.nf_filter.proofs.SettledLemmas.{Extends, Extends-encodes, settled-extends, is_usable-stays_out, usable-all, usable-stop, usable-extends}
@@ -26,14 +25,14 @@ use Rattle.nf_filter.proofs.PushingLemmas.{Broken-extends}
 module _ (p : Properties) where
   pub unusable_at-usable : (place : List ℕ → ℕ) (x : List ℕ) → is_usable p x ≡ true → unusable_at p place x ≡ None
   unfolding unusable_at
-  unusable_at-usable place x sound = ap (λ b. if b then None else Some (Refused (Row (place (usable p x))))) sound
+  unusable_at-usable place x sound = ap (λ b. if b then None else Some (Row (place (usable p x)))) sound
 
   pub unusable_at-stop : (place : List ℕ → ℕ) (x : List ℕ) (c : ℕ) (rest : List ℕ) → is_usable p x ≡ true → is_usable p (x ++ c ∷ []) ≡ false
-      → unusable_at p place ((x ++ c ∷ []) ++ rest) ≡ Some (Refused (Row (place x)))
+      → unusable_at p place ((x ++ c ∷ []) ++ rest) ≡ Some (Row (place x))
   unfolding unusable_at
   unusable_at-stop place x c rest sound out =
-      ap (λ b. if b then None else Some (Refused (Row (place (usable p ((x ++ c ∷ []) ++ rest)))))) (is_usable-stays_out p (x ++ c ∷ []) rest out)
-      ∙ ap (λ y. Some (Refused (Row (place y)))) (usable-stop p x c rest sound out)
+      ap (λ b. if b then None else Some (Row (place (usable p ((x ++ c ∷ []) ++ rest))))) (is_usable-stays_out p (x ++ c ∷ []) rest out)
+      ∙ ap (λ y. Some (Row (place y))) (usable-stop p x c rest sound out)
 
   module _ (f : Form) where
     -- what is settled, and then the rest
@@ -61,22 +60,22 @@ module _ (p : Properties) where
       TakesOn-all x taken written = record {
         broken = λ e. cc;
         written = λ _. Written-at (usable_utf8-usable x taken.usable) written;
-        stop = λ _. sym (unusable_at-usable place x taken.usable);
+        fault = λ _. sym (unusable_at-usable place x taken.usable);
         taken = taken;
       }
 
       pub TakesOn-refused : (x : List ℕ) (c : ℕ) (rest : List ℕ) (at : ℕ) (refusal : Refusal) → is_usable p x ≡ true → place x ≡ at
-          → TakesChar f p normalizer start now x c (Err refusal) → TakesOn f p normalizer start now place ((x ++ c ∷ []) ++ rest) (Err (stop_at at refusal))
+          → TakesChar f p normalizer start now x c (Err refusal) → TakesOn f p normalizer start now place ((x ++ c ∷ []) ++ rest) (Err (refused_at at refusal))
       TakesOn-refused x c rest at Unsound sound here takes = record {
         broken = λ e. cc;
         written = λ _. Written-at (usable_utf8-stop x c rest sound takes.0) takes.1;
-        stop = λ _. ap (λ n. Some (Refused (Row n))) (sym here) ∙ sym (unusable_at-stop place x c rest sound takes.0);
+        fault = λ _. ap (λ n. Some (Row n)) (sym here) ∙ sym (unusable_at-stop place x c rest sound takes.0);
         taken = tt;
       }
       TakesOn-refused x c rest at Write sound here takes = record {
         broken = λ _. Broken-extends _ (usable_utf8-extends (x ++ c ∷ []) rest takes.0) takes.1;
         written = λ no. absurd (no refl);
-        stop = λ no. absurd (no refl);
+        fault = λ no. absurd (no refl);
         taken = tt;
       }
 

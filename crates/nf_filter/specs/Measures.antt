@@ -8,6 +8,7 @@ use Rattle.nf_safe.specs.Measurer.{values_of, StandsAfter}
 use Rattle.nf_safe.specs.Measures.{measure_of}
 use Rattle.nf_filter.specs.declared.fault.Fault.{Fault}
 use Rattle.nf_filter.specs.declared.taker.Stop.{Stop}
+use Rattle.nf_filter.specs.declared.taker.Stop.TheVariants.{Refused}
 use Rattle.nf_filter.specs.Policy.{as_is}
 use Rattle.nf_filter.specs.Faults.{fault_in}
 use Rattle.nf_filter.specs.Normalizer.{unusable_at, utf8_place}
@@ -28,7 +29,11 @@ HasMeasured p measurer base x = StandsAfter p measurer x
 abbrev pub ends_at : Measurer → ℕ → Type 0
 ends_at measurer at = (values_of measurer).bytes ≤ at
 
+-- what stops it in a text that begins at the offset `base`
+abbrev pub unusable_stop : Properties → ℕ → List ℕ → Option Stop
+unusable_stop p base x = option_map Refused (unusable_at p (utf8_place base) x)
+
 -- the text x was measured, or what stops it in that
 abbrev pub SeesText : Properties → Measurer → ℕ → List ℕ → Result (Unit {0}) Stop → Type 0
 SeesText p measurer base x (Ok _) = HasMeasured p measurer base x
-SeesText p measurer base x (Err stop) = unusable_at p (utf8_place base) x ≡ Some stop
+SeesText p measurer base x (Err stop) = unusable_stop p base x ≡ Some stop

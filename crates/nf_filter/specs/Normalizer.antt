@@ -15,9 +15,8 @@ use Rattle.nf_filter.specs.declared.devices.Failed.{Failed}
 use Rattle.nf_filter.specs.declared.normalizer.Normalizer.{Normalizer}
 use Rattle.nf_filter.specs.declared.refusal.Refusal.{Refusal}
 use Rattle.nf_filter.specs.declared.refusal.Refusal.TheVariants.{Unsound, Write}
+use Rattle.nf_filter.specs.declared.fault.Fault.{Fault}
 use Rattle.nf_filter.specs.declared.fault.Fault.TheVariants.{Row, Write as WriteFault}
-use Rattle.nf_filter.specs.declared.taker.Stop.{Stop}
-use Rattle.nf_filter.specs.declared.taker.Stop.TheVariants.{Refused}
 use Rattle.nf_row.specs.Ascii.{IsPlainAscii}
 use Rattle.nf_filter.specs.Settled.{is_usable, settled, usable}
 use Rattle.nf_filter.specs.Block.{Start, BlockState, Written, Broken}
@@ -93,9 +92,9 @@ TakesChar f p normalizer start now x c (Err Unsound) = (is_usable p (x ++ c ∷ 
 TakesChar f p normalizer start now x c (Err Write) = (is_usable p (x ++ c ∷ []) ≡ true) × Broken start now (settled_text f p (x ++ c ∷ []))
 
 -- the refusal of a character at this offset
-abbrev pub stop_at : ℕ → Refusal → Stop
-stop_at at Unsound = Refused (Row at)
-stop_at at Write = Refused WriteFault
+abbrev pub refused_at : ℕ → Refusal → Fault
+refused_at at Unsound = Row at
+refused_at at Write = WriteFault
 
 -- where what stands behind a front of UTF-8 begins, the first byte of which has the offset `base`
 abbrev pub utf8_place : ℕ → List ℕ → ℕ
@@ -105,17 +104,17 @@ utf8_place base front = base + length (encode_utf8_all front)
 abbrev pub IsPlacedAt : (List ℕ → ℕ) → ℕ → List ℕ → List ℕ → Type 0
 IsPlacedAt place at x y = (front : List ℕ) (c : ℕ) (rest : List ℕ) → y ≡ front ++ c ∷ rest → place (x ++ front) ≡ at + length (encode_utf8_all front)
 
--- what stops it in a text, by where what stands behind a front of it begins
-unfoldable pub unusable_at : Properties → (List ℕ → ℕ) → List ℕ → Option Stop
-unusable_at p place x = if is_usable p x then None else Some (Refused (Row (place (usable p x))))
+-- the fault at which it stops in a text, by where what stands behind a front of it begins
+unfoldable pub unusable_at : Properties → (List ℕ → ℕ) → List ℕ → Option Fault
+unusable_at p place x = if is_usable p x then None else Some (Row (place (usable p x)))
 
 -- what it has written of a text
 unfoldable pub usable_utf8 : Form → Properties → List ℕ → List ℕ
 usable_utf8 f p x = settled_text f p (usable p x)
 
 -- the text x was taken, or why not all of it
-pub record TakesOn (f : Form) (p : Properties) (normalizer : Normalizer) (start : Start) (now : BlockState) (place : List ℕ → ℕ) (x : List ℕ) (result : Result (Unit {0}) Stop) : Type 0 where
-  pub broken : result ≡ Err (Refused WriteFault) → Broken start now (usable_utf8 f p x)
-  pub written : ¬ (result ≡ Err (Refused WriteFault)) → Written start now (usable_utf8 f p x)
-  pub stop : ¬ (result ≡ Err (Refused WriteFault)) → result_err result ≡ unusable_at p place x
+pub record TakesOn (f : Form) (p : Properties) (normalizer : Normalizer) (start : Start) (now : BlockState) (place : List ℕ → ℕ) (x : List ℕ) (result : Result (Unit {0}) Fault) : Type 0 where
+  pub broken : result ≡ Err WriteFault → Broken start now (usable_utf8 f p x)
+  pub written : ¬ (result ≡ Err WriteFault) → Written start now (usable_utf8 f p x)
+  pub fault : ¬ (result ≡ Err WriteFault) → result_err result ≡ unusable_at p place x
   pub taken : OnOk result (HasTaken f p normalizer x)

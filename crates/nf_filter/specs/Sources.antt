@@ -2,14 +2,13 @@
 use Rattle.std.specs.Prelude.{◌≡◌, ℕ, ◌+◌, ◌≤◌, ◌^◌, ◌↔◌, Bool, true, false, List, ◌++◌, [], length, Option, None, Result, Ok, Err, OnOk, IsTrue, IsFalse, IsErr}
 use Rattle.std.specs.Result.{result_err}
 use Rattle.std.specs.Io.KnownBytes.{Consumes, IsAtEnd}
-use Rattle.nf_utf8.specs.Reading.{text_of, ending_of}
+use Rattle.nf_utf8.specs.Reading.{ending_of}
 use Rattle.nf_filter.specs.declared.fault.Fault.{Fault}
 use Rattle.nf_filter.specs.declared.fault.Fault.TheVariants.{Spent, TooLong, Read, Write, Row, BadByte, Cut, Unassigned}
 use Rattle.nf_filter.specs.declared.taker.Stop.{Stop}
 use Rattle.nf_filter.specs.declared.taker.Stop.TheVariants.{Refused, Found}
 use Rattle.nf_filter.specs.declared.reading.Reading.{Reading}
-use Rattle.nf_filter.specs.Devices.{SinkState, SourceState}
-use Rattle.nf_filter.specs.Writes.{Puts, BreaksOff}
+use Rattle.nf_filter.specs.Devices.{SourceState}
 use Rattle.nf_filter.specs.Faults.{answer_at_end}
 use Rattle.nf_filter.specs.Taker.{stop_in, HasRead}
 
@@ -18,7 +17,7 @@ abbrev pub MayStopAll : Bool → Stop → Type 0
 MayStopAll finds (Refused Spent) = ⊥
 MayStopAll finds (Refused TooLong) = Unit {0}
 MayStopAll finds (Refused Read) = Unit {0}
-MayStopAll finds (Refused Write) = Unit {0}
+MayStopAll finds (Refused Write) = ⊥
 MayStopAll finds (Refused (Row at)) = Unit {0}
 MayStopAll finds (Refused (BadByte at start)) = Unit {0}
 MayStopAll finds (Refused (Cut at start)) = Unit {0}
@@ -44,8 +43,8 @@ stop_at_end (Ok _) = Ok tt
 stop_at_end (Err fault) = Err (Refused fault)
 
 -- the reading stands after `bytes`, the first of which has the offset `base`; at most `most` bytes are asked for at once
-pub record ReadsAll (most : ℕ) (stands : List ℕ → Type 0) (stops : List ℕ → Option Stop) (gives : List ℕ → List ℕ) (base : ℕ) (reading : Reading) (bytes : List ℕ)
-    (source left : SourceState) (old new : SinkState) (result : Result (Unit {0}) Stop) : Type 0 where
+pub record ReadsAll (most : ℕ) (stands : List ℕ → Type 0) (stops : List ℕ → Option Stop) (base : ℕ) (reading : Reading) (bytes : List ℕ)
+    (source left : SourceState) (result : Result (Unit {0}) Stop) : Type 0 where
   -- the pieces that the source gave: those before the last stop nothing
   pub before : List ℕ
   pub last : List ℕ
@@ -59,10 +58,6 @@ pub record ReadsAll (most : ℕ) (stands : List ℕ → Type 0) (stops : List �
   pub failed : result ≡ Err (Refused Read) → last ≡ []
   pub ended : IsTrue left.is_at_end → (last ≡ []) × (result ≡ stop_at_end (answer_at_end base (tt {0}) (ending_of (bytes ++ before))))
   -- or else it stops the reading
-  pub stopped : IsFalse left.is_at_end → ¬ (result ≡ Err (Refused TooLong)) → ¬ (result ≡ Err (Refused Read)) → ¬ (result ≡ Err (Refused Write))
+  pub stopped : IsFalse left.is_at_end → ¬ (result ≡ Err (Refused TooLong)) → ¬ (result ≡ Err (Refused Read))
       → IsErr result × (result_err result ≡ stop_in stops base (bytes ++ (before ++ last)))
   pub read : OnOk result (HasRead stands stops base reading (bytes ++ before))
-  -- what was written
-  pub broken : result ≡ Err (Refused Write) → BreaksOff old new (gives (text_of bytes)) (gives (text_of (bytes ++ (before ++ last))))
-  pub puts : ¬ (result ≡ Err (Refused Write)) → ¬ (result ≡ Err (Refused TooLong)) → Puts old new (gives (text_of bytes)) (gives (text_of (bytes ++ (before ++ last))))
-  pub puts_before : result ≡ Err (Refused TooLong) → Puts old new (gives (text_of bytes)) (gives (text_of (bytes ++ before)))

@@ -8,8 +8,6 @@ use Rattle.nf_filter.specs.declared.fault.Fault.TheVariants.{Spent, TooLong, Rea
 use Rattle.nf_filter.specs.declared.taker.Stop.{Stop}
 use Rattle.nf_filter.specs.declared.taker.Stop.TheVariants.{Refused, Found}
 use Rattle.nf_filter.specs.declared.reading.Reading.{Reading}
-use Rattle.nf_filter.specs.Devices.{SinkState}
-use Rattle.nf_filter.specs.Writes.{Puts, BreaksOff}
 use Rattle.nf_filter.specs.Faults.{bad_byte}
 
 -- it is a fault
@@ -22,7 +20,7 @@ abbrev pub MayStop : Bool → Stop → Type 0
 MayStop finds (Refused Spent) = ⊥
 MayStop finds (Refused TooLong) = ⊥
 MayStop finds (Refused Read) = ⊥
-MayStop finds (Refused Write) = Unit {0}
+MayStop finds (Refused Write) = ⊥
 MayStop finds (Refused (Row at)) = Unit {0}
 MayStop finds (Refused (BadByte at start)) = ⊥
 MayStop finds (Refused (Cut at start)) = ⊥
@@ -30,25 +28,9 @@ MayStop finds (Refused (Unassigned at)) = ⊥
 MayStop true (Found place) = Unit {0}
 MayStop false (Found place) = ⊥
 
--- why one that writes nothing may stop
-abbrev pub StopsQuietly : Bool → Stop → Type 0
-StopsQuietly finds (Refused Spent) = ⊥
-StopsQuietly finds (Refused TooLong) = ⊥
-StopsQuietly finds (Refused Read) = ⊥
-StopsQuietly finds (Refused Write) = ⊥
-StopsQuietly finds (Refused (Row at)) = Unit {0}
-StopsQuietly finds (Refused (BadByte at start)) = ⊥
-StopsQuietly finds (Refused (Cut at start)) = ⊥
-StopsQuietly finds (Refused (Unassigned at)) = ⊥
-StopsQuietly true (Found place) = Unit {0}
-StopsQuietly false (Found place) = ⊥
-
--- the text y was taken behind x, or why not. `stands` says that it has taken a text, `stops` what stops it in a text, and
--- `gives` what it has given to its sink by then.
-pub record TakesText (stands : List ℕ → Type 0) (stops : List ℕ → Option Stop) (gives : List ℕ → List ℕ) (x y : List ℕ) (old new : SinkState) (result : Result (Unit {0}) Stop) : Type 0 where
-  pub broken : result ≡ Err (Refused Write) → BreaksOff old new (gives x) (gives (x ++ y))
-  pub puts : ¬ (result ≡ Err (Refused Write)) → Puts old new (gives x) (gives (x ++ y))
-  pub stop : ¬ (result ≡ Err (Refused Write)) → result_err result ≡ stops (x ++ y)
+-- the text y was taken behind x, or why not. `stands` says that it has taken a text, and `stops` what stops it in a text.
+pub record TakesText (stands : List ℕ → Type 0) (stops : List ℕ → Option Stop) (x y : List ℕ) (result : Result (Unit {0}) Stop) : Type 0 where
+  pub stop : result_err result ≡ stops (x ++ y)
   pub taken : OnOk result (stands (x ++ y))
 
 -- what stops it in the text of the bytes, or else the first ill-formed byte; the first byte has the offset `base`
@@ -72,11 +54,8 @@ pub record IsReady (ends_at : ℕ → Type 0) (reading : Reading) : Type 0 where
   pub end : ends_at (reading.offset - length reading.decoder)
 
 -- a piece was read behind the bytes, or why not all of it
-pub record ReadsPiece (stands : List ℕ → Type 0) (stops : List ℕ → Option Stop) (gives : List ℕ → List ℕ) (base : ℕ) (reading : Reading) (bytes piece : List ℕ) (old new : SinkState)
-    (result : Result (Unit {0}) Stop) : Type 0 where
-  pub broken : result ≡ Err (Refused Write) → BreaksOff old new (gives (text_of bytes)) (gives (text_of (bytes ++ piece)))
-  pub puts : ¬ (result ≡ Err (Refused Write)) → Puts old new (gives (text_of bytes)) (gives (text_of (bytes ++ piece)))
-  pub stop : ¬ (result ≡ Err (Refused Write)) → result_err result ≡ stop_in stops base (bytes ++ piece)
+pub record ReadsPiece (stands : List ℕ → Type 0) (stops : List ℕ → Option Stop) (base : ℕ) (reading : Reading) (bytes piece : List ℕ) (result : Result (Unit {0}) Stop) : Type 0 where
+  pub stop : result_err result ≡ stop_in stops base (bytes ++ piece)
   pub read : OnOk result (HasRead stands stops base reading (bytes ++ piece))
 
 -- why reading may stop
@@ -84,7 +63,7 @@ abbrev pub MayStopReading : Bool → Stop → Type 0
 MayStopReading finds (Refused Spent) = ⊥
 MayStopReading finds (Refused TooLong) = Unit {0}
 MayStopReading finds (Refused Read) = ⊥
-MayStopReading finds (Refused Write) = Unit {0}
+MayStopReading finds (Refused Write) = ⊥
 MayStopReading finds (Refused (Row at)) = Unit {0}
 MayStopReading finds (Refused (BadByte at start)) = Unit {0}
 MayStopReading finds (Refused (Cut at start)) = ⊥

@@ -5,11 +5,11 @@ use Rattle.nf_forms.specs.Properties.{Properties}
 use Rattle.nf_forms.specs.declared.form.Form.{Form}
 use Rattle.nf_filter.specs.declared.devices.Failed.{Failed}
 use Rattle.nf_filter.specs.declared.normalizer.Normalizer.{Normalizer}
-use Rattle.nf_filter.specs.declared.taker.Stop.{Stop}
+use Rattle.nf_filter.specs.declared.fault.Fault.{Fault}
+use Rattle.nf_filter.specs.Faults.{IsOfTaking}
 use Rattle.nf_filter.specs.Settled.{is_usable}
 use Rattle.nf_filter.specs.Block.{Start, BlockState, Written, Broken}
 use Rattle.nf_filter.specs.Normalizer.{HasTaken, IsPlacedAt, IsWithin, settled_text, TakesOn}
-use Rattle.nf_filter.specs.Taker.{MayStop}
 
 -- the text z, all of which can be used, was taken, or the sink failed
 abbrev pub TakesUsable : {T : Type 0} → Form → Properties → Normalizer → Start → BlockState → List ℕ → Result T Failed → Type 0
@@ -29,9 +29,9 @@ pub record HasTakenFront (f : Form) (p : Properties) (normalizer : Normalizer) (
   pub written : Written start now (settled_text f p (x ++ front))
 
 -- so it was, or why not all of the text will be
-abbrev pub TakesFront : Form → Properties → Normalizer → Start → BlockState → (List ℕ → ℕ) → List ℕ → List ℕ → Result (Bor (List ℕ)) Stop → Type 0
+abbrev pub TakesFront : Form → Properties → Normalizer → Start → BlockState → (List ℕ → ℕ) → List ℕ → List ℕ → Result (Bor (List ℕ)) Fault → Type 0
 TakesFront f p normalizer start now place x text (Ok rest) = HasTakenFront f p normalizer start now x text rest.now
-TakesFront f p normalizer start now place x text (Err stop) = TakesOn f p normalizer start now place (x ++ chars text) (Err stop)
+TakesFront f p normalizer start now place x text (Err fault) = TakesOn f p normalizer start now place (x ++ chars text) (Err fault)
 
 -- a front of the text, which begins at the offset `at`, is behind it; `rest` is what is left
 pub record HasPassed (old new : Normalizer) (at : ℕ) (text rest : List ℕ) : Type 0 where
@@ -40,13 +40,13 @@ pub record HasPassed (old new : Normalizer) (at : ℕ) (text rest : List ℕ) : 
   pub form : new.form ≡ old.form
   pub chars : new.chars + length rest ≤ at + length text
 
--- so it is, or why it stopped
-abbrev pub PassesFront : Normalizer → Normalizer → ℕ → List ℕ → Result (Bor (List ℕ)) Stop → Type 0
+-- so it is, or why not
+abbrev pub PassesFront : Normalizer → Normalizer → ℕ → List ℕ → Result (Bor (List ℕ)) Fault → Type 0
 PassesFront old new at text (Ok rest) = HasPassed old new at text rest.now
-PassesFront old new at text (Err stop) = MayStop false stop
+PassesFront old new at text (Err fault) = IsOfTaking fault
 
 -- it takes a front of the text behind each text x that ends at the offset `at`
-abbrev pub TakesFrontBehind : Properties → Normalizer → Normalizer → BlockState → BlockState → ℕ → List ℕ → Result (Bor (List ℕ)) Stop → Type 0
+abbrev pub TakesFrontBehind : Properties → Normalizer → Normalizer → BlockState → BlockState → ℕ → List ℕ → Result (Bor (List ℕ)) Fault → Type 0
 TakesFrontBehind p old new before after at text result =
     (f : Form) (place : List ℕ → ℕ) (x : List ℕ) (start : Start) → HasTaken f p old x → IsPlacedAt place at x (chars text)
     → Written start before (settled_text f p x) → TakesFront f p new start after place x text result

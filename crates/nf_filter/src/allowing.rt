@@ -43,10 +43,7 @@ impl Normalizer {
         if assigned {
             return self.take_assigned(rows, at, first, text, block);
         }
-        match self.take_both(rows, at, first, text, block) {
-            Ok(()) => Ok(()),
-            Err(stop) => Err(stop.fault()),
-        }
+        self.take_both(rows, at, first, text, block)
     }
 
     /// The same where only assigned characters are allowed.
@@ -100,8 +97,8 @@ impl Normalizer {
         ensures lent { (block.new.sink.ghost_name ≡ block.old.sink.ghost_name) × ((S.state block.new.sink.now).lender ≡ (S.state block.old.sink.now).lender) }
     {
         let (front, rest) = text.split_at(assigned_len(rows, text));
-        if let Err(stop) = self.take_text(rows, at, front, block) {
-            return Err(stop.fault());
+        if let Err(fault) = self.take_text(rows, at, front, block) {
+            return Err(fault);
         }
         if rest.is_empty() {
             return Ok(());
@@ -136,7 +133,7 @@ impl Normalizer {
         }
         match self.take_char(rows, c, block) {
             Ok(()) => Ok(()),
-            Err(refusal) => Err(refusal.at(at).fault()),
+            Err(refusal) => Err(refusal.at(at)),
         }
     }
 }

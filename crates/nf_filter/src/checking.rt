@@ -3,10 +3,10 @@ ghost use Rattle.nf_forms.specs.declared.form.Form.TheVariants.{Nfc};
 ghost use Rattle.nf_calm.specs.Front.{IsCalmFront};
 ghost use Rattle.nf_filter.specs.Surveys.{Surveys, IsOfSurvey, IsCut};
 ghost use Rattle.nf_safe.specs.Checker.{place_of, offset_of};
-ghost use Rattle.nf_filter.specs.Taker.{StopsQuietly};
+ghost use Rattle.nf_filter.specs.Taker.{MayStop};
 ghost use Rattle.nf_filter.specs.Checks.{check_decision, no_place, HasChecked, Sees, SeesFront, check_stop};
 
-use crate::devices::{Nowhere, Sink, Source};
+use crate::devices::Source;
 use crate::fault::Fault;
 use crate::reading::Reading;
 use crate::sources::{BLOCK, read_all};
@@ -54,14 +54,7 @@ pub fn check_buffered<R: Rows, I: Source>(
 {
     let mut reading = Reading::new(base);
     let mut checker = Checker::new(base);
-    match read_all(
-        &mut reading,
-        rows,
-        source,
-        &mut checker,
-        &mut Nowhere,
-        buffer,
-    ) {
+    match read_all(&mut reading, rows, source, &mut checker, buffer) {
         Ok(()) => Ok(None),
         Err(Stop::Found(place)) => Ok(Some(place)),
         Err(Stop::Refused(fault)) => Err(fault),
@@ -69,28 +62,23 @@ pub fn check_buffered<R: Rows, I: Source>(
 }
 
 impl Taker for Checker {
-    ghost use Rattle.std.specs.Prelude.{◌≡◌, None, [], true};
+    ghost use Rattle.std.specs.Prelude.{true};
     ghost use Rattle.nf_filter.specs.Checks.{HasChecked, ends_at, check_stop};
 
     ghost has_taken = { HasChecked };
 
     ghost ends_at = { ends_at };
 
-    ghost form = { λ _. None };
-
     ghost stops = { check_stop };
-
-    ghost gives = { λ _ _ _. [] };
 
     ghost finds = { true };
 
-    fn take<R: Rows, S: Sink>(
+    fn take<R: Rows>(
         &mut self,
         rows: &R,
         _at: u64,
         first: Option<char>,
         text: &str,
-        _sink: &mut S,
     ) -> Result<(), Stop> {
         let Some(c) = first else {
             return see_text(self, rows, text);
@@ -108,7 +96,7 @@ fn see_text<R: Rows>(checker: &mut Checker, rows: &R, text: &str) -> Result<(), 
     requires fits { offset_of checker.old + length text.now ≤ u64.MAX }
     ensures none { OnOk result (place_of checker.new ≡ None) }
     ensures offset { OnOk result (offset_of checker.new ≡ offset_of checker.old + length text.now) }
-    ensures stop { IfErr result (StopsQuietly true) }
+    ensures stop { IfErr result (MayStop true) }
     ensures sees { let p = R.properties rows.now in (base : ℕ) (x : List ℕ) → HasChecked p checker.old base x → Sees p checker.new base (x ++ chars text.now) result }
 {
     let mut rest = text;
@@ -129,7 +117,7 @@ fn see_front<'t, R: Rows>(checker: &mut Checker, rows: &R, text: &'t str) -> Res
     ensures shorter { IfOk result (λ rest. length rest.now < length text.now) }
     ensures none { OnOk result (place_of checker.new ≡ None) }
     ensures offset { IfOk result (λ rest. offset_of checker.new + length rest.now ≡ offset_of checker.old + length text.now) }
-    ensures stop { IfErr result (StopsQuietly true) }
+    ensures stop { IfErr result (MayStop true) }
     ensures sees { let p = R.properties rows.now in (base : ℕ) (x : List ℕ) → HasChecked p checker.old base x → SeesFront p checker.new base x text.now result }
 {
     // The form whose calm text is widest.
@@ -169,7 +157,7 @@ fn see_first<'t, R: Rows>(checker: &mut Checker, rows: &R, text: &'t str) -> Res
     ensures shorter { IfOk result (λ rest. length rest.now < length text.now) }
     ensures none { OnOk result (place_of checker.new ≡ None) }
     ensures offset { IfOk result (λ rest. offset_of checker.new + length rest.now ≡ offset_of checker.old + length text.now) }
-    ensures stop { IfErr result (StopsQuietly true) }
+    ensures stop { IfErr result (MayStop true) }
     ensures sees { let p = R.properties rows.now in (base : ℕ) (x : List ℕ) → HasChecked p checker.old base x → SeesFront p checker.new base x text.now result }
 {
     let mut chars = text.chars();
@@ -186,7 +174,7 @@ fn see_chars<R: Rows>(checker: &mut Checker, rows: &R, text: &str) -> Result<(),
     requires fits { offset_of checker.old + length text.now ≤ u64.MAX }
     ensures none { OnOk result (place_of checker.new ≡ None) }
     ensures offset { OnOk result (offset_of checker.new ≡ offset_of checker.old + length text.now) }
-    ensures stop { IfErr result (StopsQuietly true) }
+    ensures stop { IfErr result (MayStop true) }
     ensures sees { let p = R.properties rows.now in (base : ℕ) (x : List ℕ) → HasChecked p checker.old base x → Sees p checker.new base (x ++ chars text.now) result }
 {
     for c in text.chars() {
@@ -203,7 +191,7 @@ fn see<R: Rows>(checker: &mut Checker, rows: &R, c: char) -> Result<(), Stop>
     requires fits { offset_of checker.old + length (encode_utf8 c) ≤ u64.MAX }
     ensures none { OnOk result (place_of checker.new ≡ None) }
     ensures offset { OnOk result (offset_of checker.new ≡ offset_of checker.old + length (encode_utf8 c)) }
-    ensures stop { IfErr result (StopsQuietly true) }
+    ensures stop { IfErr result (MayStop true) }
     ensures sees { let p = R.properties rows.now in (base : ℕ) (x y : List ℕ) → HasChecked p checker.old base x
         → (OnOk result (HasChecked p checker.new base (x ++ c ∷ []))) × (IfErr result (λ stop. check_stop p base ((x ++ c ∷ []) ++ y) ≡ Some stop)) }
 {

@@ -25,20 +25,6 @@ pub trait Sink {
         ensures lender { (state self.new).lender ≡ (state self.old).lender };
 }
 
-/// Where nothing is written.
-#[derive(Clone, Copy)]
-pub(crate) struct Nowhere;
-
-impl Sink for Nowhere {
-    ghost use Rattle.std.specs.Prelude.{None};
-
-    ghost state = { λ _. record { taken = None; is_failed = false; lender = 0 } };
-
-    fn put(&mut self, bytes: &[u8]) -> Result<usize, Failed> {
-        Ok(bytes.len())
-    }
-}
-
 /// Where bytes come from.
 pub trait Source {
     /// What is still to come, where it tells that, where it stands, and the borrow that it reads through, which is

@@ -1,10 +1,10 @@
 ghost use Rattle.std.specs.Prelude.{◌≡◌, ◌+◌, ◌<◌, ◌≤◌, ◌↔◌, ℕ, List, ◌++◌, length, chars, false, IsTrue, IfErr, OnOk, encode_utf8_all};
 ghost use Rattle.nf_safe.specs.Measurer.{values_of};
-ghost use Rattle.nf_filter.specs.Taker.{StopsQuietly};
+ghost use Rattle.nf_filter.specs.Taker.{MayStop};
 ghost use Rattle.nf_filter.specs.Surveys.{Surveys, IsOfSurvey, IsCut};
 ghost use Rattle.nf_filter.specs.Measures.{measure_decision, text_measure, HasMeasured, SeesText};
 
-use crate::devices::{Nowhere, Sink, Source};
+use crate::devices::Source;
 use crate::fault::Fault;
 use crate::reading::Reading;
 use crate::sources::{BLOCK, read_all};
@@ -46,43 +46,30 @@ pub fn measure_buffered<R: Rows, I: Source>(
 {
     let mut reading = Reading::new(base);
     let mut measurer = Measurer::new();
-    match read_all(
-        &mut reading,
-        rows,
-        source,
-        &mut measurer,
-        &mut Nowhere,
-        buffer,
-    ) {
+    match read_all(&mut reading, rows, source, &mut measurer, buffer) {
         Ok(()) => Ok(measurer.values()),
         Err(stop) => Err(stop.fault()),
     }
 }
 
 impl Taker for Measurer {
-    ghost use Rattle.std.specs.Prelude.{None, [], false};
-    ghost use Rattle.nf_filter.specs.Normalizer.{unusable_at, utf8_place};
-    ghost use Rattle.nf_filter.specs.Measures.{HasMeasured, ends_at};
+    ghost use Rattle.std.specs.Prelude.{false};
+    ghost use Rattle.nf_filter.specs.Measures.{HasMeasured, ends_at, unusable_stop};
 
     ghost has_taken = { HasMeasured };
 
     ghost ends_at = { ends_at };
 
-    ghost form = { λ _. None };
-
-    ghost stops = { λ p base. unusable_at p (utf8_place base) };
-
-    ghost gives = { λ _ _ _. [] };
+    ghost stops = { unusable_stop };
 
     ghost finds = { false };
 
-    fn take<R: Rows, S: Sink>(
+    fn take<R: Rows>(
         &mut self,
         rows: &R,
         at: u64,
         first: Option<char>,
         text: &str,
-        _sink: &mut S,
     ) -> Result<(), Stop> {
         let Some(c) = first else {
             return see_text(self, rows, at, text);
@@ -99,7 +86,7 @@ fn see_text<R: Rows>(measurer: &mut Measurer, rows: &R, at: u64, text: &str) -> 
     requires counts { (values_of measurer.old).bytes ≤ at }
     requires fits { at + length text.now ≤ u64.MAX }
     ensures counts { OnOk result ((values_of measurer.new).bytes ≤ at + length text.now) }
-    ensures stop { IfErr result (StopsQuietly false) }
+    ensures stop { IfErr result (MayStop false) }
     ensures sees { let p = R.properties rows.now in (base : ℕ) (x : List ℕ) → HasMeasured p measurer.old base x → at ≡ base + length (encode_utf8_all x)
         → SeesText p measurer.new base (x ++ chars text.now) result }
 {

@@ -1,6 +1,5 @@
 ghost use Rattle.std.specs.Prelude.{◌<◌, ◌^◌};
 
-use crate::devices::Sink;
 use crate::fault::Fault;
 use crate::taker::{Stop, Taker};
 use nf_row::Rows;
@@ -47,24 +46,21 @@ impl Reading {
 
     /// Reads `piece`: its text goes to the taker. Where it is too long nothing changes; otherwise a taker that stopped
     /// is given no more, and a bad byte is told once it has taken the text before.
-    pub fn read<T: Taker, R: Rows, S: Sink>(
+    pub fn read<T: Taker, R: Rows>(
         &mut self,
         rows: &R,
         piece: &[u8],
         taker: &mut T,
-        sink: &mut S,
     ) -> Result<(), Stop>
         requires { IsReady (T.ends_at taker.old) self.old }
         ensures too_long { (result ≡ Err (Refused TooLong)) ↔ (u64.MAX < self.old.offset + length piece.now) }
-        ensures kept { result ≡ Err (Refused TooLong) → (self.new ≡ self.old) × (taker.new ≡ taker.old) × (sink.new ≡ sink.old) }
+        ensures kept { result ≡ Err (Refused TooLong) → (self.new ≡ self.old) × (taker.new ≡ taker.old) }
         ensures offset { self.new.offset ≡ (if is_ok result then self.old.offset + length piece.now else self.old.offset) }
         ensures ready { OnOk result (IsReady (T.ends_at taker.new) self.new) }
-        ensures form { OnOk result (T.form taker.new ≡ T.form taker.old) }
         ensures stop { IfErr result (MayStopReading T.finds) }
         ensures reads { let p = R.properties rows.now in
             (base : ℕ) (bytes : List ℕ) → HasRead (T.has_taken p taker.old base) (T.stops p base) base self.old bytes → ¬ (result ≡ Err (Refused TooLong))
-            → ReadsPiece (T.has_taken p taker.new base) (T.stops p base) (T.gives (T.form taker.old) p) base self.new bytes piece.now (S.state sink.old) (S.state sink.new) result }
-        ensures lender { (S.state sink.new).lender ≡ (S.state sink.old).lender }
+            → ReadsPiece (T.has_taken p taker.new base) (T.stops p base) base self.new bytes piece.now result }
     {
         let Some(end) = self.offset.checked_add(piece.len() as u64) else {
             return Err(Stop::Refused(Fault::TooLong));
@@ -72,7 +68,7 @@ impl Reading {
         laws::split();
         let at = self.offset - self.decoder.carried() as u64;
         let chunk = self.decoder.take(piece);
-        if let Err(stop) = taker.take(rows, at, chunk.first, chunk.text, sink) {
+        if let Err(stop) = taker.take(rows, at, chunk.first, chunk.text) {
             return Err(stop);
         }
         let piece_end = chunk.end;

@@ -1,5 +1,4 @@
 use crate::fault::Fault;
-use crate::taker::Stop;
 
 /// Why a character was not taken.
 #[derive(Clone, Copy)]
@@ -12,17 +11,17 @@ pub enum Refusal {
 
 impl Refusal {
     ghost use Rattle.std.specs.Prelude.{◌≡◌, false};
-    ghost use Rattle.nf_filter.specs.Normalizer.{stop_at};
-    ghost use Rattle.nf_filter.specs.Taker.{MayStop};
+    ghost use Rattle.nf_filter.specs.Normalizer.{refused_at};
+    ghost use Rattle.nf_filter.specs.Faults.{IsOfTaking};
 
     /// That of the character at this offset.
-    pub fn at(self, at: u64) -> Stop
-        ensures value { result ≡ stop_at at self }
-        ensures stop { MayStop false result }
+    pub fn at(self, at: u64) -> Fault
+        ensures value { result ≡ refused_at at self }
+        ensures faults { IsOfTaking result }
     {
-        Stop::Refused(match self {
+        match self {
             Refusal::Unsound => Fault::Row { at },
             Refusal::Write => Fault::Write,
-        })
+        }
     }
 }

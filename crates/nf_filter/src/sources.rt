@@ -5,7 +5,7 @@ ghost use Rattle.nf_filter.specs.declared.taker.Stop.TheVariants.{Refused};
 ghost use Rattle.nf_filter.specs.Taker.{HasRead, IsReady};
 ghost use Rattle.nf_filter.specs.Sources.{ReadsAll, MayStopAll, IsCutStop};
 
-use crate::devices::{Failed, Sink, Source};
+use crate::devices::{Failed, Source};
 use crate::fault::Fault;
 use crate::reading::Reading;
 use crate::taker::{Stop, Taker};
@@ -15,12 +15,11 @@ use nf_row::Rows;
 pub const BLOCK: usize = 4096;
 
 /// Reads what the source gives, in pieces that fit into the buffer, until its end.
-pub fn read_all<I: Source, T: Taker, R: Rows, S: Sink>(
+pub fn read_all<I: Source, T: Taker, R: Rows>(
     reading: &mut Reading,
     rows: &R,
     source: &mut I,
     taker: &mut T,
-    sink: &mut S,
     buffer: &mut [u8],
 ) -> Result<(), Stop>
     requires some { 0 < length buffer.old }
@@ -30,13 +29,12 @@ pub fn read_all<I: Source, T: Taker, R: Rows, S: Sink>(
     ensures cut { IfErr result (λ stop. IsCutStop stop → IsTrue (I.state source.new).is_at_end) }
     ensures stop { IfErr result (MayStopAll T.finds) }
     ensures offset { reading.old.offset ≤ reading.new.offset }
-    ensures form { OnOk result (T.form taker.new ≡ T.form taker.old) }
     ensures ready { OnOk result (IsReady (T.ends_at taker.new) reading.new) }
     ensures reads { let p = R.properties rows.now in
         (base : ℕ) (bytes : List ℕ) → HasRead (T.has_taken p taker.old base) (T.stops p base) base reading.old bytes
-        → ReadsAll (length buffer.old) (T.has_taken p taker.new base) (T.stops p base) (T.gives (T.form taker.old) p) base reading.new bytes
-        (I.state source.old) (I.state source.new) (S.state sink.old) (S.state sink.new) result }
-    ensures lenders { ((I.state source.new).lender ≡ (I.state source.old).lender) × ((S.state sink.new).lender ≡ (S.state sink.old).lender) }
+        → ReadsAll (length buffer.old) (T.has_taken p taker.new base) (T.stops p base) base reading.new bytes
+        (I.state source.old) (I.state source.new) result }
+    ensures lender { (I.state source.new).lender ≡ (I.state source.old).lender }
 {
     loop {
         let given = match source.get(buffer) {
@@ -49,7 +47,7 @@ pub fn read_all<I: Source, T: Taker, R: Rows, S: Sink>(
                 Err(fault) => Err(Stop::Refused(fault)),
             };
         }
-        if let Err(stop) = reading.read(rows, &buffer[..given], taker, sink) {
+        if let Err(stop) = reading.read(rows, &buffer[..given], taker) {
             return Err(stop);
         }
     }

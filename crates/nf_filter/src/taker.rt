@@ -1,12 +1,10 @@
-//! What takes the text that is read.
+//! What sees the text that is read.
 ghost use Rattle.std.specs.Prelude.{◌≡◌, ◌+◌, ◌≤◌, ℕ, Bool, List, Option, ◌++◌, length, chars, IfErr, OnOk, encode_utf8_all};
 ghost use Rattle.nf_forms.specs.Properties.{Properties};
-ghost use Rattle.nf_forms.specs.declared.form.Form.{Form};
 ghost use Rattle.nf_utf8.specs.Taking.{first_text, first_bytes};
 ghost use Rattle.nf_filter.specs.declared.taker.Stop.{Stop};
 ghost use Rattle.nf_filter.specs.Taker.{MayStop, TakesText};
 
-use crate::devices::Sink;
 use crate::fault::Fault;
 use nf_row::Rows;
 use nf_safe::Place;
@@ -35,7 +33,7 @@ impl Stop {
     }
 }
 
-/// What takes a text, as it comes in, and may write of it to a sink.
+/// What takes a text, as it comes in, and writes nothing.
 pub trait Taker {
     /// It has taken this text, the first byte of which has this offset.
     ghost has_taken: { Properties → Self → ℕ → List ℕ → Type 0 };
@@ -43,34 +41,25 @@ pub trait Taker {
     /// The text that it has taken ends at this offset, and what it counts fits below it.
     ghost ends_at: { Self → ℕ → Type 0 };
 
-    /// The form that it writes, where it writes one.
-    ghost form: { Self → Option Form };
-
     /// What stops it in a text that begins at this offset.
     ghost stops: { Properties → ℕ → List ℕ → Option Stop };
-
-    /// What of a text it has written in that form, once that is taken or it stopped.
-    ghost gives: { Option Form → Properties → List ℕ → List ℕ };
 
     /// Whether it looks for a place.
     ghost finds: { Bool };
 
     /// Takes the first character, where there is one, and the text behind it, which begins with it at the offset `at`.
-    fn take<R: Rows, S: Sink>(
+    fn take<R: Rows>(
         &mut self,
         rows: &R,
         at: u64,
         first: Option<char>,
         text: &str,
-        sink: &mut S,
     ) -> Result<(), Stop>
         requires ready { ends_at self.old at }
         requires fits { at + length (first_bytes first) + length text.now ≤ u64.MAX }
         ensures ready { OnOk result (ends_at self.new (at + length (first_bytes first) + length text.now)) }
-        ensures form { OnOk result (form self.new ≡ form self.old) }
         ensures stop { IfErr result (MayStop finds) }
         ensures takes { let p = R.properties rows.now in
             (base : ℕ) (x : List ℕ) → has_taken p self.old base x → at ≡ base + length (encode_utf8_all x)
-            → TakesText (has_taken p self.new base) (stops p base) (gives (form self.old) p) x (first_text first ++ chars text.now) (S.state sink.old) (S.state sink.new) result }
-        ensures lender { (S.state sink.new).lender ≡ (S.state sink.old).lender };
+            → TakesText (has_taken p self.new base) (stops p base) x (first_text first ++ chars text.now) result };
 }

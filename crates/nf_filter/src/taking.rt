@@ -4,7 +4,6 @@ use crate::block::Block;
 use crate::devices::{Failed, Sink};
 use crate::fault::Fault;
 use crate::normalizer::Normalizer;
-use crate::taker::Stop;
 use nf_row::Rows;
 use nf_utf8::ascii_prefix;
 
@@ -12,9 +11,9 @@ impl Normalizer {
     ghost use Rattle.std.specs.Prelude.{◌≡◌, ◌+◌, ◌<◌, ◌≤◌, ℕ, List, ◌++◌, length, chars, false, IfErr, OnOk};
     ghost use Rattle.nf_forms.specs.declared.form.Form.{Form};
     ghost use Rattle.nf_filter.specs.Block.{Start, block_state, Written};
+    ghost use Rattle.nf_filter.specs.Faults.{IsOfTaking};
     ghost use Rattle.nf_filter.specs.Normalizer.{HasTaken, IsPlacedAt, IsWithin, TakesOn, settled_text};
     ghost use Rattle.nf_filter.specs.Taking.{PassesFront, TakesFrontBehind};
-    ghost use Rattle.nf_filter.specs.Taker.{MayStop};
     ghost use Rattle.nf_utf8.specs.Taking.{first_text, first_bytes};
 
     /// Takes the first character, where there is one, and the text behind it, which begins with it at the offset `at`.
@@ -25,14 +24,14 @@ impl Normalizer {
         first: Option<char>,
         text: &str,
         block: &mut Block<'_, S>,
-    ) -> Result<(), Stop>
+    ) -> Result<(), Fault>
         requires within { IsWithin self.old }
         requires chars { self.old.chars ≤ at }
         requires fits { at + length (first_bytes first) + length text.now ≤ u64.MAX }
         ensures within { OnOk result (IsWithin self.new) }
         ensures form { OnOk result (self.new.form ≡ self.old.form) }
         ensures chars { OnOk result (self.new.chars ≤ at + length (first_bytes first) + length text.now) }
-        ensures stop { IfErr result (MayStop false) }
+        ensures faults { IfErr result IsOfTaking }
         ensures takes { let p = R.properties rows.now in
             (f : Form) (place : List ℕ → ℕ) (x : List ℕ) (start : Start) → HasTaken f p self.old x → IsPlacedAt place at x (first_text first ++ chars text.now)
             → Written start (block_state S.state block.old) (settled_text f p x)
@@ -55,14 +54,14 @@ impl Normalizer {
         at: u64,
         text: &str,
         block: &mut Block<'_, S>,
-    ) -> Result<(), Stop>
+    ) -> Result<(), Fault>
         requires within { IsWithin self.old }
         requires chars { self.old.chars ≤ at }
         requires fits { at + length text.now ≤ u64.MAX }
         ensures within { OnOk result (IsWithin self.new) }
         ensures form { OnOk result (self.new.form ≡ self.old.form) }
         ensures chars { OnOk result (self.new.chars ≤ at + length text.now) }
-        ensures stop { IfErr result (MayStop false) }
+        ensures faults { IfErr result IsOfTaking }
         ensures takes { let p = R.properties rows.now in
             (f : Form) (place : List ℕ → ℕ) (x : List ℕ) (start : Start) → HasTaken f p self.old x → IsPlacedAt place at x (chars text.now)
             → Written start (block_state S.state block.old) (settled_text f p x)
@@ -74,7 +73,7 @@ impl Normalizer {
             let place = at + (text.len() - rest.len()) as u64;
             match self.take_front(rows, place, rest, block) {
                 Ok(behind) => rest = behind,
-                Err(stop) => return Err(stop),
+                Err(fault) => return Err(fault),
             }
         }
         Ok(())
@@ -88,7 +87,7 @@ impl Normalizer {
         at: u64,
         text: &'t str,
         block: &mut Block<'_, S>,
-    ) -> Result<&'t str, Stop>
+    ) -> Result<&'t str, Fault>
         requires some { 0 < length text.now }
         requires within { IsWithin self.old }
         requires chars { self.old.chars ≤ at }
@@ -102,7 +101,7 @@ impl Normalizer {
         };
         match self.take_closed(rows, text, closed, block) {
             Ok(rest) => Ok(rest),
-            Err(Failed) => Err(Stop::Refused(Fault::Write)),
+            Err(Failed) => Err(Fault::Write),
         }
     }
 
@@ -114,7 +113,7 @@ impl Normalizer {
         at: u64,
         text: &'t str,
         block: &mut Block<'_, S>,
-    ) -> Result<&'t str, Stop>
+    ) -> Result<&'t str, Fault>
         requires some { 0 < length text.now }
         requires within { IsWithin self.old }
         requires chars { self.old.chars ≤ at }
@@ -132,7 +131,7 @@ impl Normalizer {
         }
         match self.take_ascii(rows, starter, text, len, block) {
             Ok(rest) => Ok(rest),
-            Err(Failed) => Err(Stop::Refused(Fault::Write)),
+            Err(Failed) => Err(Fault::Write),
         }
     }
 
@@ -143,7 +142,7 @@ impl Normalizer {
         at: u64,
         text: &'t str,
         block: &mut Block<'_, S>,
-    ) -> Result<&'t str, Stop>
+    ) -> Result<&'t str, Fault>
         requires some { 0 < length text.now }
         requires within { IsWithin self.old }
         requires chars { self.old.chars ≤ at }

@@ -1,14 +1,15 @@
 use Rattle.std.proofs.Common.{[], length, false, sym, ap, ◌∙◌, arith}
+use Rattle.std.specs.Prelude.{option_map}
 use Rattle.nf_safe.specs.declared.measure.Measure.{Measure}
 use Rattle.nf_safe.specs.declared.place.Place.{Place}
 use Rattle.nf_safe.specs.Measurer.{values_of}
 use Rattle.nf_filter.specs.declared.taker.Stop.TheVariants.{Refused}
-use Rattle.nf_filter.specs.Normalizer.{unusable_at, utf8_place}
-use Rattle.nf_filter.specs.Measures.{HasMeasured, measure_decision, text_measure}
+use Rattle.nf_filter.specs.Normalizer.{utf8_place}
+use Rattle.nf_filter.specs.Measures.{HasMeasured, measure_decision, text_measure, unusable_stop}
 use Rattle.nf_filter.proofs.SettledLemmas.{is_usable-none}
 use Rattle.nf_filter.proofs.TextLemmas.{unusable_at-usable}
 use Rattle.nf_filter.proofs.ReadingLemmas.{holds_nothing, HasRead-none}
-use Rattle.nf_filter.proofs.SurveysLemmas.{IsOfSurvey-from, Surveys-whole, Surveys-stopped, nothing_breaks}
+use Rattle.nf_filter.proofs.SurveysLemmas.{IsOfSurvey-from, Surveys-whole, Surveys-stopped}
 use Rattle.nf_filter.proofs.MeasuresLemmas.{decides}
 use Rattle.nf_filter.proofs.measuring.measure_buffered.Goals as goal
 
@@ -26,21 +27,17 @@ pub returns-in-Ok-clause-surveys : goal.returns-in-Ok-clause-surveys
 returns-in-Ok-clause-surveys g c =
     let p = g.R.Rows.properties c.args.rows.now in
     let base = c.args.base in
-    let reads = c.in-Ok.ensures.reads base [] (HasRead-none (HasMeasured p c.new-measurer.result base) (unusable_at p (utf8_place base)) base c.new-reading.result c.new-reading.ensures.offset c.new-reading.ensures.decoder (c.new-measurer.ensures p) (unusable_at-usable p (utf8_place base) [] (is_usable-none p))) in
-    Surveys-whole (no_measure c.values.result) (length c.args.buffer.now) base _ (unusable_at p (utf8_place base)) (measure_decision p base) (text_measure p) (decides p (no_measure c.values.result) base) _ _ _ _ _ tt c.in-Ok.ensures.end reads c.values.result
+    let reads = c.in-Ok.ensures.reads base [] (HasRead-none (HasMeasured p c.new-measurer.result base) (unusable_stop p base) base c.new-reading.result c.new-reading.ensures.offset c.new-reading.ensures.decoder (c.new-measurer.ensures p) (ap (option_map Refused) (unusable_at-usable p (utf8_place base) [] (is_usable-none p)))) in
+    Surveys-whole (no_measure c.values.result) (length c.args.buffer.now) base _ (unusable_stop p base) (measure_decision p base) (text_measure p) (decides p (no_measure c.values.result) base) _ _ _ tt c.in-Ok.ensures.end reads c.values.result
     (sym reads.read.taken.values ∙ sym c.values.ensures)
 
 pub returns-in-Err-clause-faults : goal.returns-in-Err-clause-faults
-returns-in-Err-clause-faults g c =
-    let p = g.R.Rows.properties c.args.rows.now in
-    let base = c.args.base in
-    let reads = rw c.fault.ensures at (c.in-Err.ensures.reads base [] (HasRead-none (HasMeasured p c.new-measurer.result base) (unusable_at p (utf8_place base)) base c.new-reading.result c.new-reading.ensures.offset c.new-reading.ensures.decoder (c.new-measurer.ensures p) (unusable_at-usable p (utf8_place base) [] (is_usable-none p)))) in
-    IsOfSurvey-from false c.fault.result (rw c.fault.ensures at c.in-Err.ensures.stop) (nothing_breaks (Refused c.fault.result) reads)
+returns-in-Err-clause-faults g c = IsOfSurvey-from false c.fault.result (rw c.fault.ensures at c.in-Err.ensures.stop)
 
 pub returns-in-Err-clause-surveys : goal.returns-in-Err-clause-surveys
 returns-in-Err-clause-surveys g c =
     let p = g.R.Rows.properties c.args.rows.now in
     let base = c.args.base in
     let none = values_of c.new-measurer.result in
-    let reads = rw c.fault.ensures at (c.in-Err.ensures.reads base [] (HasRead-none (HasMeasured p c.new-measurer.result base) (unusable_at p (utf8_place base)) base c.new-reading.result c.new-reading.ensures.offset c.new-reading.ensures.decoder (c.new-measurer.ensures p) (unusable_at-usable p (utf8_place base) [] (is_usable-none p)))) in
-    Surveys-stopped (no_measure none) (length c.args.buffer.now) base _ (unusable_at p (utf8_place base)) (measure_decision p base) (text_measure p) (decides p (no_measure none) base) _ _ _ _ _ (Refused c.fault.result) (nothing_breaks (Refused c.fault.result) reads) reads
+    let reads = rw c.fault.ensures at (c.in-Err.ensures.reads base [] (HasRead-none (HasMeasured p c.new-measurer.result base) (unusable_stop p base) base c.new-reading.result c.new-reading.ensures.offset c.new-reading.ensures.decoder (c.new-measurer.ensures p) (ap (option_map Refused) (unusable_at-usable p (utf8_place base) [] (is_usable-none p))))) in
+    Surveys-stopped (no_measure none) (length c.args.buffer.now) base _ (unusable_stop p base) (measure_decision p base) (text_measure p) (decides p (no_measure none) base) _ _ _ (Refused c.fault.result) reads

@@ -3,10 +3,7 @@ use Rattle.std.specs.Io.KnownBytes.{Consumes}
 use Rattle.std.proofs.KnownBytes.{Consumes-kept, Consumes-nil, Consumes-trans}
 use Rattle.std.proofs.lemmas.Bool.{eq-eqb, ne_eqb}
 use Rattle.std.proofs.lemmas.List.{length-append, length-take}
-use Rattle.nf_utf8.specs.Reading.{text_of}
-use Rattle.nf_filter.specs.Writes.{Puts}
 use Rattle.nf_filter.specs.Taker.{HasRead}
-use Rattle.nf_filter.proofs.WritesLemmas.{Puts-none, Puts-join}
 use Rattle.nf_filter.proofs.SourcesLemmas.{ReadsAll-failed, ReadsAll-ended, ReadsAll-stopped}
 use Rattle.nf_filter.proofs.sources.read_all.Goals as goal
 
@@ -17,16 +14,13 @@ loop-given-init g c =
       room = refl;
       offset = omega arith;
       ready = c.requires.ready;
-      form = refl;
       read = (
         [],
         Consumes-nil (g.I.Source.state c.args.source.now).coming,
         λ base bytes before.
-            let P : List ℕ → Type 0 = λ b. HasRead (g.T.Taker.has_taken p c.args.taker.now base) (g.T.Taker.stops p base) base c.args.reading.now b
-            × Puts (g.S.Sink.state c.args.sink.now) (g.S.Sink.state c.args.sink.now) (g.T.Taker.gives (g.T.Taker.form c.args.taker.now) p (text_of bytes)) (g.T.Taker.gives (g.T.Taker.form c.args.taker.now) p (text_of b)) in
-            subst P (sym (append-nil bytes)) (before, Puts-none (g.S.Sink.state c.args.sink.now) (g.T.Taker.gives (g.T.Taker.form c.args.taker.now) p (text_of bytes))),
+            subst (HasRead (g.T.Taker.has_taken p c.args.taker.now base) (g.T.Taker.stops p base) base c.args.reading.now) (sym (append-nil bytes)) before,
       );
-      lenders = (refl, refl);
+      lender = refl;
     }
 
 pub returns-in-Err-clause-reads : goal.returns-in-Err-clause-reads
@@ -34,8 +28,8 @@ returns-in-Err-clause-reads g c = λ base bytes before.
     let p = g.R.Rows.properties c.args.rows.now in
     let fed = c.loop-given.invariant.read in
     let so_far = fed.2 base bytes before in
-    ReadsAll-failed (length c.args.buffer.now) (g.T.Taker.has_taken p c.loop-given.taker base) (g.T.Taker.has_taken p c.loop-given.taker base) (g.T.Taker.stops p base) (g.T.Taker.gives (g.T.Taker.form c.args.taker.now) p) base bytes fed.0
-    (g.I.Source.state c.args.source.now) (g.I.Source.state c.get.new.self) _ _ c.loop-given.reading so_far.0 so_far.1 c.loop-given.reading c.in-Err.ensures.failed.1 (Consumes-kept _ _ _ fed.0 fed.1 c.in-Err.ensures.kept)
+    ReadsAll-failed (length c.args.buffer.now) (g.T.Taker.has_taken p c.loop-given.taker base) (g.T.Taker.has_taken p c.loop-given.taker base) (g.T.Taker.stops p base) base bytes fed.0
+    (g.I.Source.state c.args.source.now) (g.I.Source.state c.get.new.self) c.loop-given.reading so_far c.loop-given.reading c.in-Err.ensures.failed.1 (Consumes-kept _ _ _ fed.0 fed.1 c.in-Err.ensures.kept)
 
 pub returns-in-Ok-end-clause-reads : goal.returns-in-Ok-end-clause-reads
 returns-in-Ok-end-clause-reads g c = λ base bytes before.
@@ -44,9 +38,9 @@ returns-in-Ok-end-clause-reads g c = λ base bytes before.
     let so_far = fed.2 base bytes before in
     let consumed = subst (λ l. Consumes (g.I.Source.state c.args.source.now).coming (g.I.Source.state c.get.new.self).coming l) (append-nil fed.0)
     (Consumes-trans _ _ _ fed.0 [] fed.1 (subst (λ n. Consumes (g.I.Source.state c.loop-given.source).coming (g.I.Source.state c.get.new.self).coming (take n c.get.new.buf)) c.if-given-eq0.true c.in-Ok.ensures.given)) in
-    ReadsAll-ended (length c.args.buffer.now) (g.T.Taker.has_taken p c.loop-given.taker base) (g.T.Taker.has_taken p c.loop-given.taker base) (g.T.Taker.stops p base) (g.T.Taker.gives (g.T.Taker.form c.args.taker.now) p) base bytes fed.0
-    (g.I.Source.state c.args.source.now) (g.I.Source.state c.get.new.self) _ _ c.loop-given.reading so_far.0 so_far.1 (Ok tt) (c.in-Ok.ensures.end ∙ eq-eqb c.in-Ok.given 0 c.if-given-eq0.true)
-    consumed (c.in-Ok.ensures.read_out c.if-given-eq0.true) (c.in-Ok-end.ensures.end base (bytes ++ fed.0) so_far.0.decoder so_far.0.offset) so_far.0.taken
+    ReadsAll-ended (length c.args.buffer.now) (g.T.Taker.has_taken p c.loop-given.taker base) (g.T.Taker.has_taken p c.loop-given.taker base) (g.T.Taker.stops p base) base bytes fed.0
+    (g.I.Source.state c.args.source.now) (g.I.Source.state c.get.new.self) c.loop-given.reading so_far (Ok tt) (c.in-Ok.ensures.end ∙ eq-eqb c.in-Ok.given 0 c.if-given-eq0.true)
+    consumed (c.in-Ok.ensures.read_out c.if-given-eq0.true) (c.in-Ok-end.ensures.end base (bytes ++ fed.0) so_far.decoder so_far.offset) so_far.taken
 
 pub returns-in-Err-end-clause-reads : goal.returns-in-Err-end-clause-reads
 returns-in-Err-end-clause-reads g c = λ base bytes before.
@@ -55,9 +49,9 @@ returns-in-Err-end-clause-reads g c = λ base bytes before.
     let so_far = fed.2 base bytes before in
     let consumed = subst (λ l. Consumes (g.I.Source.state c.args.source.now).coming (g.I.Source.state c.get.new.self).coming l) (append-nil fed.0)
     (Consumes-trans _ _ _ fed.0 [] fed.1 (subst (λ n. Consumes (g.I.Source.state c.loop-given.source).coming (g.I.Source.state c.get.new.self).coming (take n c.get.new.buf)) c.if-given-eq0.true c.in-Ok.ensures.given)) in
-    ReadsAll-ended (length c.args.buffer.now) (g.T.Taker.has_taken p c.loop-given.taker base) (g.T.Taker.has_taken p c.loop-given.taker base) (g.T.Taker.stops p base) (g.T.Taker.gives (g.T.Taker.form c.args.taker.now) p) base bytes fed.0
-    (g.I.Source.state c.args.source.now) (g.I.Source.state c.get.new.self) _ _ c.loop-given.reading so_far.0 so_far.1 (Err c.in-Err-end.fault) (c.in-Ok.ensures.end ∙ eq-eqb c.in-Ok.given 0 c.if-given-eq0.true)
-    consumed (c.in-Ok.ensures.read_out c.if-given-eq0.true) (c.in-Err-end.ensures.end base (bytes ++ fed.0) so_far.0.decoder so_far.0.offset) so_far.0.taken
+    ReadsAll-ended (length c.args.buffer.now) (g.T.Taker.has_taken p c.loop-given.taker base) (g.T.Taker.has_taken p c.loop-given.taker base) (g.T.Taker.stops p base) base bytes fed.0
+    (g.I.Source.state c.args.source.now) (g.I.Source.state c.get.new.self) c.loop-given.reading so_far (Err c.in-Err-end.fault) (c.in-Ok.ensures.end ∙ eq-eqb c.in-Ok.given 0 c.if-given-eq0.true)
+    consumed (c.in-Ok.ensures.read_out c.if-given-eq0.true) (c.in-Err-end.ensures.end base (bytes ++ fed.0) so_far.decoder so_far.offset) so_far.taken
 
 pub returns-in-Err-read-clause-reads : goal.returns-in-Err-read-clause-reads
 returns-in-Err-read-clause-reads g c = λ base bytes before.
@@ -66,16 +60,15 @@ returns-in-Err-read-clause-reads g c = λ base bytes before.
     let so_far = fed.2 base bytes before in
     let piece = take c.in-Ok.given c.get.new.buf in
     let over = c.in-Err-read.ensures.too_long in
-    let here : c.loop-given.reading.offset ≡ base + length bytes + length fed.0 = omega (arith, so_far.0.offset, length-append bytes fed.0) in
-    ReadsAll-stopped (length c.args.buffer.now) (g.T.Taker.has_taken p c.read.new.taker base) (g.T.Taker.has_taken p c.loop-given.taker base) (g.T.Taker.stops p base) (g.T.Taker.gives (g.T.Taker.form c.args.taker.now) p) base bytes fed.0
-    (g.I.Source.state c.args.source.now) (g.I.Source.state c.get.new.self) _ _ c.loop-given.reading so_far.0 so_far.1 c.read.new.self _ piece g.T.Taker.finds c.in-Err-read.stop
+    let here : c.loop-given.reading.offset ≡ base + length bytes + length fed.0 = omega (arith, so_far.offset, length-append bytes fed.0) in
+    ReadsAll-stopped (length c.args.buffer.now) (g.T.Taker.has_taken p c.read.new.taker base) (g.T.Taker.has_taken p c.loop-given.taker base) (g.T.Taker.stops p base) base bytes fed.0
+    (g.I.Source.state c.args.source.now) (g.I.Source.state c.get.new.self) c.loop-given.reading so_far c.read.new.self piece g.T.Taker.finds c.in-Err-read.stop
     (c.in-Ok.ensures.end ∙ ne_eqb c.in-Ok.given 0 c.if-given-eq0.false) (Consumes-trans _ _ _ fed.0 piece fed.1 c.in-Ok.ensures.given)
     (omega (arith, length-take c.in-Ok.given c.get.new.buf, c.get.auto.buf, c.loop-given.invariant.room)) c.in-Err-read.ensures.stop (
       (λ e. let long : 18446744073709551615 < c.loop-given.reading.offset + length piece = over.0 e in omega (arith, long, here)),
       (λ long. over.1 (let far : 18446744073709551615 < c.loop-given.reading.offset + length piece = omega (arith, long, here) in far)),
     )
-    (λ e. ap g.S.Sink.state (c.in-Err-read.ensures.kept e).2)
-    (λ short. rw (← c.loop-given.invariant.form) (c.in-Err-read.ensures.reads base (bytes ++ fed.0) so_far.0 short))
+    (c.in-Err-read.ensures.reads base (bytes ++ fed.0) so_far)
 
 pub loop-given-preserved : goal.loop-given-preserved
 loop-given-preserved g c =
@@ -86,16 +79,12 @@ loop-given-preserved g c =
       room = c.get.auto.buf ∙ c.loop-given.invariant.room;
       offset = omega (arith, c.loop-given.invariant.offset, c.in_default.ensures.offset);
       ready = c.in_default.ensures.ready;
-      form = c.in_default.ensures.form ∙ c.loop-given.invariant.form;
       read = (
         fed.0 ++ piece,
         Consumes-trans _ _ _ fed.0 piece fed.1 c.in-Ok.ensures.given,
         λ base bytes before.
-            let so_far = fed.2 base bytes before in
-            let reads = c.in_default.ensures.reads base (bytes ++ fed.0) so_far.0 (λ e. cc) in
-            let P : List ℕ → Type 0 = λ b. HasRead (g.T.Taker.has_taken p c.read.new.taker base) (g.T.Taker.stops p base) base c.read.new.self b
-            × Puts (g.S.Sink.state c.args.sink.now) (g.S.Sink.state c.read.new.sink) (g.T.Taker.gives (g.T.Taker.form c.args.taker.now) p (text_of bytes)) (g.T.Taker.gives (g.T.Taker.form c.args.taker.now) p (text_of b)) in
-            subst P (append_assoc bytes fed.0 piece) (reads.read, Puts-join so_far.1 (rw (← c.loop-given.invariant.form) (reads.puts (λ e. cc)))),
+            let reads = c.in_default.ensures.reads base (bytes ++ fed.0) (fed.2 base bytes before) (λ e. cc) in
+            subst (HasRead (g.T.Taker.has_taken p c.read.new.taker base) (g.T.Taker.stops p base) base c.read.new.self) (append_assoc bytes fed.0 piece) reads.read,
       );
-      lenders = (c.get.ensures.lender ∙ c.loop-given.invariant.lenders.0, c.read.ensures.lender ∙ c.loop-given.invariant.lenders.1);
+      lender = c.get.ensures.lender ∙ c.loop-given.invariant.lender;
     }

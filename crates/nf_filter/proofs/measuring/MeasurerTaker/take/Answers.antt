@@ -16,14 +16,14 @@ pub returns-in_default-clause-takes : goal.returns-in_default-clause-takes
 returns-in_default-clause-takes g c = λ base x before here.
     let p = g.R.Rows.properties c.args.rows.now in
     rw (is_none c.args.first c.in_default.not-Some)
-    (TakesText-seen p c.see_text.new.measurer base x (chars c.args.text.now) _ c.see_text.result (λ stop e. rw e at c.see_text.ensures.stop) (c.see_text.ensures.sees base x before here))
+    (TakesText-seen p c.see_text.new.measurer base x (chars c.args.text.now) c.see_text.result (c.see_text.ensures.sees base x before here))
 
 pub returns-then-is_err-clause-takes : goal.returns-then-is_err-clause-takes
 returns-then-is_err-clause-takes g c = λ base x before here.
     let p = g.R.Rows.properties c.args.rows.now in
     let stops = refusal_at p base c.args.at x c.in-Some.c (chars c.args.text.now) before.sound here c.see.result (sym c.is_err.ensures.value ∙ c.if-is_err.true) (c.see.ensures.refuses x before) in
     rw c.in-Some.is
-    (TakesText-seen p c.see.new.self base x (c.in-Some.c ∷ chars c.args.text.now) _ (Err (Refused (Row c.args.at))) (λ stop e. let same : stop ≡ Refused (Row c.args.at) = cc in rw same tt) (rw (append_assoc x (c.in-Some.c ∷ []) (chars c.args.text.now)) at stops))
+    (TakesText-seen p c.see.new.self base x (c.in-Some.c ∷ chars c.args.text.now) (Err (Refused (Row c.args.at))) (rw (append_assoc x (c.in-Some.c ∷ []) (chars c.args.text.now)) at stops))
 
 pub returns-clause-takes : goal.returns-clause-takes
 returns-clause-takes g c = λ base x before here.
@@ -34,4 +34,4 @@ returns-clause-takes g c = λ base x before here.
     let place : c.args.at + c.len_utf8.result ≡ base + length (encode_utf8_all (x ++ c.in-Some.c ∷ [])) = omega (arith, push, here, length-encode c.in-Some.c, c.len_utf8.ensures.value) in
     let sees = c.see_text-2.ensures.sees base (x ++ c.in-Some.c ∷ []) seen place in
     rw c.in-Some.is
-    (TakesText-seen p c.see_text-2.new.measurer base x (c.in-Some.c ∷ chars c.args.text.now) _ c.see_text-2.result (λ stop e. rw e at c.see_text-2.ensures.stop) (rw (append_assoc x (c.in-Some.c ∷ []) (chars c.args.text.now)) at sees))
+    (TakesText-seen p c.see_text-2.new.measurer base x (c.in-Some.c ∷ chars c.args.text.now) c.see_text-2.result (rw (append_assoc x (c.in-Some.c ∷ []) (chars c.args.text.now)) at sees))

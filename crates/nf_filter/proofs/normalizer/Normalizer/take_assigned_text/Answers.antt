@@ -5,14 +5,13 @@ use Rattle.std.specs.Str.{IsUtf8, all_scalars, chars}
 use Rattle.std.proofs.lemmas.Bool.{and_parts}
 use Rattle.std.proofs.lemmas.List.{length-append, take-append-drop, take_at, drop_at}
 use Rattle.std.proofs.lemmas.Str.{IsCharBoundary-at_seam, chars-nil, chars_from_encodes, encodes-append, encodes-chars, scalars-chars}
-use Rattle.nf_filter.specs.declared.taker.Stop.{Stop}
 use Rattle.nf_filter.specs.Block.{block_state}
 use Rattle.nf_filter.specs.Normalizer.{TakesOn}
 use Rattle.nf_filter.specs.Policy.{allowed}
 use Rattle.nf_filter.proofs.BlockLemmas.{Written-at}
 use Rattle.nf_filter.proofs.TextLemmas.{usable_utf8-usable}
 use Rattle.nf_filter.proofs.TakingLemmas.{placed-within}
-use Rattle.nf_filter.proofs.AllowingLemmas.{TakesAllowed-all, TakesAllowed-stopped, TakesAllowed-unassigned}
+use Rattle.nf_filter.proofs.AllowingLemmas.{TakesAllowed-all, TakesAllowed-refused, TakesAllowed-unassigned}
 use Rattle.nf_filter.proofs.PolicyLemmas.{allowed-append}
 use Rattle.nf_filter.proofs.normalizer.Normalizer.take_assigned_text.Goals as goal
 
@@ -76,8 +75,7 @@ returns-in-Err-clause-takes g c = λ f place x start taken all here written.
     let whole_is = whole_is p.assigned text c.utf8.text a b first second c.assigned_len.result c.assigned_len.ensures c.split_at.ensures.front c.split_at.ensures.back in
     let front : allowed true p (x ++ chars text) ≡ x ++ chars a = allowed-append p true x (chars text) all ∙ ap (λ l. x ++ l) (sym a_is) in
     let takes = c.in-Err.ensures.takes f place x start taken (placed-within place c.args.at x (chars text) (chars a) (chars b) whole_is here) written in
-    TakesAllowed-stopped f p c.take_text.new.self start (block_state g.S.Sink.state c.take_text.new.block) place (x ++ chars text) (x ++ chars a) c.fault.result front
-    (subst (λ (stop : Stop). TakesOn f p c.take_text.new.self start (block_state g.S.Sink.state c.take_text.new.block) place (x ++ chars a) (Err stop)) c.fault.ensures takes)
+    TakesAllowed-refused f p c.take_text.new.self start (block_state g.S.Sink.state c.take_text.new.block) place (x ++ chars text) (x ++ chars a) c.in-Err.fault front takes
 
 pub returns-then-is_empty-clause-takes : goal.returns-then-is_empty-clause-takes
 returns-then-is_empty-clause-takes g c = λ f place x start taken all here written.

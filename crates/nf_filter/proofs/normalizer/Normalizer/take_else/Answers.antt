@@ -33,6 +33,6 @@ returns-in-Err-clause-takes g c = λ f place x start taken here written.
     TakesOn-more f p _ start _ place x text (take len text) (drop len text) _ (ascii_front text len ascii) (record {
       broken = λ _. Broken-extends start (usable_utf8-extends p f (x ++ take len text) (chars (drop len text)) stopped.0) stopped.1;
       written = λ no. absurd (no refl);
-      stop = λ no. absurd (no refl);
+      fault = λ no. absurd (no refl);
       taken = tt;
     })

@@ -29,4 +29,4 @@ returns-in-Err-clause-takes g c = λ f place x start taken here written.
     let now = block_state g.S.Sink.state c.take_char.new.block in
     let refused = TakesOn-refused p f c.take_char.new.self start now place x c.unwrap-c.result (chars rest) c.args.at c.in-Err.refusal taken.usable (placed-first place c.args.at x c.unwrap-c.result (chars rest) (rw is_front at here)) (c.in-Err.ensures.takes f x start taken written) in
     TakesOn-more f p c.take_char.new.self start now place x c.args.text.now (c.unwrap-c.result ∷ []) rest _ is_front
-    (subst (λ stop. TakesOn f p c.take_char.new.self start now place ((x ++ c.unwrap-c.result ∷ []) ++ chars rest) (Err stop)) (sym c.at.ensures.value) refused)
+    (subst (λ fault. TakesOn f p c.take_char.new.self start now place ((x ++ c.unwrap-c.result ∷ []) ++ chars rest) (Err fault)) (sym c.at.ensures.value) refused)

@@ -1,8 +1,8 @@
 use Rattle.std.proofs.Common.{◌≡◌, ℕ, Bool, true, false, List, [], ◌∷◌, ◌++◌, Ok, Err, refl, sym, ap, ◌∙◌, subst, append-nil}
 use Rattle.nf_forms.specs.Properties.{Properties}
-use Rattle.nf_filter.specs.declared.taker.Stop.{Stop}
+use Rattle.nf_filter.specs.declared.fault.Fault.{Fault}
 use Rattle.nf_filter.specs.Block.{block_state}
-use Rattle.nf_filter.specs.Normalizer.{TakesOn, stop_at}
+use Rattle.nf_filter.specs.Normalizer.{TakesOn, refused_at}
 use Rattle.nf_filter.specs.Policy.{allowed}
 use Rattle.nf_filter.proofs.TextLemmas.{TakesOn-all, TakesOn-refused}
 use Rattle.nf_filter.proofs.TakingLemmas.{placed-first}
@@ -53,8 +53,8 @@ returns-in-Err-clause-takes g c = λ f place x start taken all here written.
       | else-assigned-via-else-assigned w ↦ any_one p c.args.assigned c.args.c w.if-assigned.false
     ] in
     let now = block_state g.S.Sink.state c.take_char.new.block in
-    let takes : TakesOn f p c.take_char.new.self start now place (x ++ c.args.c ∷ []) (Err (stop_at c.args.at c.in-Err.refusal)) =
-    subst (λ y. TakesOn f p c.take_char.new.self start now place y (Err (stop_at c.args.at c.in-Err.refusal))) (append-nil (x ++ c.args.c ∷ []))
+    let takes : TakesOn f p c.take_char.new.self start now place (x ++ c.args.c ∷ []) (Err (refused_at c.args.at c.in-Err.refusal)) =
+    subst (λ y. TakesOn f p c.take_char.new.self start now place y (Err (refused_at c.args.at c.in-Err.refusal))) (append-nil (x ++ c.args.c ∷ []))
     (TakesOn-refused p f c.take_char.new.self start now place x c.args.c [] c.args.at c.in-Err.refusal taken.usable (placed-first place c.args.at x c.args.c [] here) stopped) in
-    TakesAllowed-all f p c.take_char.new.self start now place c.args.assigned (x ++ c.args.c ∷ []) (Err c.fault.result) (one_more p c.args.assigned x c.args.c all one)
-    (subst (λ (stop : Stop). TakesOn f p c.take_char.new.self start now place (x ++ c.args.c ∷ []) (Err stop)) (sym c.at.ensures.value ∙ c.fault.ensures) takes)
+    TakesAllowed-all f p c.take_char.new.self start now place c.args.assigned (x ++ c.args.c ∷ []) (Err c.at.result) (one_more p c.args.assigned x c.args.c all one)
+    (subst (λ (fault : Fault). TakesOn f p c.take_char.new.self start now place (x ++ c.args.c ∷ []) (Err fault)) (sym c.at.ensures.value) takes)

@@ -16,7 +16,7 @@ returns-in-Err-clause-reads g c = λ base bytes before short.
     let p = g.R.Rows.properties c.args.rows.now in
     let took = c.take-chunk.ensures.takes bytes before.decoder in
     let text = took.spelled ∙ append_assoc (text_of bytes) (first_text c.take-chunk.result.first) (chars c.take-chunk.result.text.now) in
-    ReadsPiece-stopped (g.T.Taker.has_taken p c.take.new.self base) (g.T.Taker.stops p base) (g.T.Taker.gives (g.T.Taker.form c.args.taker.now) p) base _ bytes c.args.piece.now _ _ _ text c.in-Err.stop
+    ReadsPiece-stopped (g.T.Taker.has_taken p c.take.new.self base) (g.T.Taker.stops p base) base _ bytes c.args.piece.now _ text c.in-Err.stop
     (c.in-Err.ensures.takes base (text_of bytes) before.taken (begins_at c.args.self.now.offset c.carried.result base bytes before.offset (c.carried.ensures.behind bytes before.decoder)))
 
 pub returns-in-Bad-clause-reads : goal.returns-in-Bad-clause-reads
@@ -25,7 +25,7 @@ returns-in-Bad-clause-reads g c = λ base bytes before short.
     let took = c.take-chunk.ensures.takes bytes before.decoder in
     let text = took.spelled ∙ append_assoc (text_of bytes) (first_text c.take-chunk.result.first) (chars c.take-chunk.result.text.now) in
     let ends = rw c.in-Bad.is at took.ends in
-    ReadsPiece-bad (g.T.Taker.has_taken p c.take.new.self base) (g.T.Taker.stops p base) (g.T.Taker.gives (g.T.Taker.form c.args.taker.now) p) base _ bytes c.args.piece.now _ _ _ text _ (length bytes + c.in-Bad.at) (text_len (bytes ++ c.args.piece.now)) _ _
+    ReadsPiece-bad (g.T.Taker.has_taken p c.take.new.self base) (g.T.Taker.stops p base) base _ bytes c.args.piece.now _ text _ (length bytes + c.in-Bad.at) (text_len (bytes ++ c.args.piece.now)) _ _
     (c.in_default-take.ensures.takes base (text_of bytes) before.taken (begins_at c.args.self.now.offset c.carried.result base bytes before.offset (c.carried.ensures.behind bytes before.decoder)))
     ends.0 (omega (arith, before.offset)) (omega (arith, before.offset, ends.1))
 
@@ -41,7 +41,7 @@ returns-clause-reads g c = λ base bytes before short.
     let p = g.R.Rows.properties c.args.rows.now in
     let took = c.take-chunk.ensures.takes bytes before.decoder in
     let text = took.spelled ∙ append_assoc (text_of bytes) (first_text c.take-chunk.result.first) (chars c.take-chunk.result.text.now) in
-    ReadsPiece-read (g.T.Taker.has_taken p c.take.new.self base) (g.T.Taker.stops p base) (g.T.Taker.gives (g.T.Taker.form c.args.taker.now) p) base _ bytes c.args.piece.now _ _ _ text _
+    ReadsPiece-read (g.T.Taker.has_taken p c.take.new.self base) (g.T.Taker.stops p base) base _ bytes c.args.piece.now _ text _
     (c.in_default-take.ensures.takes base (text_of bytes) before.taken (begins_at c.args.self.now.offset c.carried.result base bytes before.offset (c.carried.ensures.behind bytes before.decoder)))
     (ends_well bytes c.args.piece.now c.take-chunk.result.end base c.in_default-piece_end.not-Bad took.ends)
     (omega (arith, before.offset, length-append bytes c.args.piece.now))
