@@ -7,7 +7,7 @@ use Rattle.nf_forms.specs.Runs.{has_starter, lead, trail}
 use Rattle.nf_forms.specs.declared.form.Form.{Form}
 use Rattle.nf_forms.specs.Forms.{composes}
 use Rattle.nf_forms.specs.Laws.Runs.{has_starter-append, lead-append, trail-le-length, trail-push}
-use Rattle.nf_forms.specs.Laws.Compose.{front-append}
+use Rattle.nf_forms.specs.Laws.Settling.{front-append}
 use Rattle.nf_filter.specs.Devices.{SinkState}
 use Rattle.nf_filter.specs.Writes.{BreaksOff}
 use Rattle.nf_filter.specs.Block.{Start}

@@ -15,7 +15,7 @@ use Rattle.nf_forms.specs.StreamSafe.{joiner, is_too_long, stream_safe}
 use Rattle.nf_forms.specs.Sound.{is_sound}
 use Rattle.nf_forms.specs.Laws.Last.{by_last}
 use Rattle.nf_forms.specs.Laws.StreamSafe.{stream_safe-push, decomposed-append}
-use Rattle.nf_forms.specs.Laws.Compose.{front-append}
+use Rattle.nf_forms.specs.Laws.Settling.{front-append}
 use Rattle.nf_safe.specs.LongestFront.{longest_front}
 use Rattle.nf_safe.specs.Laws.LongestFront.{longest_front-push, longest_front-all, longest_front-le, longest_front_is}
 use Rattle.nf_forms.specs.SafeForm.{safe_form}

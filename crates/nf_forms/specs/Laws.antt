@@ -5,6 +5,7 @@ pub mod Order
 pub mod Starters
 pub mod Ordering
 pub mod Compose
+pub mod Settling
 pub mod Sound
 pub mod StreamSafe
 pub mod Parting

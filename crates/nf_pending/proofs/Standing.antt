@@ -15,7 +15,8 @@ use Rattle.nf_forms.specs.Forms.{composes, finished}
 use Rattle.nf_forms.specs.Laws.Runs.{has_starter-append, trail-push}
 use Rattle.nf_forms.specs.Laws.Front.{front-append-back, marks_push}
 use Rattle.nf_forms.specs.Laws.Order.{by_class-push, has_starter-by_class}
-use Rattle.nf_forms.specs.Laws.Compose.{IsGroup, closed_off, closed_off-group, next_composite, next_composite-none, settled_by, front-push_starter, back-push_starter, front-behind, back-behind, back-starter, back-empty, has_starter-head}
+use Rattle.nf_forms.specs.Laws.Compose.{IsGroup}
+use Rattle.nf_forms.specs.Laws.Settling.{closed_off, closed_off-group, next_composite, next_composite-none, settled_by, front-push_starter, back-push_starter, front-behind, back-behind, back-starter, back-empty, has_starter-head}
 use Rattle.nf_pending.specs.declared.mark.Mark.{Mark}
 use Rattle.nf_pending.specs.declared.pending.Pending.{Pending}
 use Rattle.nf_pending.specs.Mark.{mark_of, is_rising}

@@ -1,13 +1,13 @@
 -- Text in NFD or NFKD over audited data: its NFKD is that of its source, so it is stream-safe where its source is, and it
 -- is its own form.
-use Rattle.std.proofs.Common.{◌≡◌, ℕ, ◌≤◌, ◌+◌, Bool, true, false, not, ◌||◌, ◌&&◌, ◌==◌, cond, max, List, [], ◌∷◌, ◌++◌, flat_map, filter, refl, sym, ap, ap₂, ◌∙◌, ⊎_elim, arith, append-nil, append_assoc, le-ltb, le-leb, leb-true}
-use Rattle.std.proofs.lemmas.Bool.{cases_Bool, cond-true, cond-false, and_from, and_parts, or_left, or_right, eq-eqb, true_from_ne_false}
+use Rattle.std.proofs.Common.{◌≡◌, ℕ, ◌≤◌, ◌+◌, Bool, true, false, not, ◌||◌, ◌&&◌, ◌==◌, cond, List, [], ◌∷◌, ◌++◌, flat_map, refl, sym, ap, ap₂, ◌∙◌, ⊎_elim, arith}
+use Rattle.std.proofs.lemmas.Bool.{cases_Bool, cond-true, and_from, and_parts, or_left, or_right, eq-eqb}
 use Rattle.std.proofs.lemmas.Grind.{flat_map-append}
-use Rattle.std.proofs.lemmas.List.Elements.{filter-append, All-head, All-tail}
+use Rattle.std.proofs.lemmas.List.Elements.{filter-append}
 use Rattle.std.proofs.lemmas.List.Folds.{list_all-append}
 use Rattle.std.proofs.lemmas.List.Sums.{list_all-from_AllPass}
 use Rattle.std.proofs.lemmas.Slice.Eq.{bytes_eq-Decides}
-use Rattle.std.specs.List.{list_all, All}
+use Rattle.std.specs.List.{list_all}
 use lib.Utf8.{scalar}
 use Rattle.std.specs.Prelude.{if◌then◌else◌, IsTrue, slice_index_or}
 use Rattle.std.specs.Str.{all_scalars, bytes_eq}
@@ -17,11 +17,11 @@ use Rattle.nf_forms.specs.Order.{order}
 use Rattle.nf_forms.specs.Ordering.{with_class}
 use Rattle.nf_forms.specs.declared.form.Form.{Form}
 use Rattle.nf_forms.specs.declared.form.Form.TheVariants.{Nfc, Nfd, Nfkc, Nfkd}
-use Rattle.nf_forms.specs.Forms.{row_of, decomposed, composes, normal_form}
+use Rattle.nf_forms.specs.Forms.{decomposed, composes, normal_form}
 use Rattle.nf_forms.specs.StreamSafe.{joiner, max_run, is_too_long, parted, safe_step, stream_safe}
 use Rattle.nf_forms.specs.SafeForm.{safe_form}
 use Rattle.nf_forms.specs.Sound.{is_sound}
-use Rattle.nf_forms.specs.Audit.{IsFull, HasOwnMarks, PassesAudit, IsAudited}
+use Rattle.nf_forms.specs.Audit.{IsFull, HasOwnMarks, IsAudited}
 use Rattle.nf_forms.specs.Laws.Last.{by_last}
 use Rattle.nf_forms.specs.Laws.Starters.{longest-order}
 use Rattle.nf_forms.specs.Laws.Ordering.{ordering, order-only, order-order}

@@ -1,6 +1,6 @@
 -- A text cut behind a character that closes it: its order, composition, form, stream-safe text and both together.
-use Rattle.std.proofs.Common.{◌≡◌, ℕ, ◌+◌, Bool, true, false, nat_lt, List, [], ◌∷◌, ◌++◌, length, None, refl, sym, ap, ap₂, ◌∙◌, ⊎_elim, arith, append-nil, append_assoc}
-use Rattle.std.proofs.lemmas.Bool.{cases_Bool, cond-true, cond-false}
+use Rattle.std.proofs.Common.{◌≡◌, ℕ, ◌+◌, Bool, true, false, nat_lt, List, [], ◌∷◌, ◌++◌, length, None, refl, sym, ap, ◌∙◌, ⊎_elim, arith, append-nil, append_assoc}
+use Rattle.std.proofs.lemmas.Bool.{cases_Bool, cond-true}
 use Rattle.std.proofs.lemmas.List.Sums.{fold-append}
 use Rattle.std.specs.Prelude.{fold, if◌then◌else◌}
 use Rattle.nf_forms.specs.Properties.{Properties, is_starter}
@@ -9,7 +9,7 @@ use Rattle.nf_forms.specs.Order.{order}
 use Rattle.nf_forms.specs.Compose.{composite, replaced, compose_step, compose}
 use Rattle.nf_forms.specs.declared.form.Form.{Form}
 use Rattle.nf_forms.specs.declared.form.Form.TheVariants.{Nfkd}
-use Rattle.nf_forms.specs.Forms.{row_of, decomposed, composes, arranged, finished, normal_form}
+use Rattle.nf_forms.specs.Forms.{decomposed, composes, arranged, finished, normal_form}
 use Rattle.nf_forms.specs.StreamSafe.{joiner, max_run, is_too_long, parted, safe_step, stream_safe}
 use Rattle.nf_forms.specs.SafeForm.{safe_form}
 use Rattle.nf_forms.specs.Closing.{IsClosing}

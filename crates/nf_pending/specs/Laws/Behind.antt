@@ -11,7 +11,7 @@ use Rattle.nf_forms.specs.Forms.{row_of, composes, finished}
 use Rattle.nf_forms.specs.Parting.{BeginsAnew}
 use Rattle.nf_forms.specs.Laws.Runs.{has_starter-append, trail-append}
 use Rattle.nf_forms.specs.Laws.Front.{front-append-back, back-at}
-use Rattle.nf_forms.specs.Laws.Compose.{back-starter, has_starter-head}
+use Rattle.nf_forms.specs.Laws.Settling.{back-starter, has_starter-head}
 use Rattle.nf_forms.specs.Laws.Parting.{arranged-boundary}
 use Rattle.nf_pending.specs.declared.pending.Pending.{Pending}
 use Rattle.nf_pending.specs.StandsAfter.{StandsAfter}

@@ -19,7 +19,7 @@ use Rattle.nf_forms.specs.Sound.{fits, is_sound}
 use Rattle.nf_forms.specs.Laws.Sound.{IsSoundText}
 use Rattle.nf_forms.specs.Laws.StreamSafe.{stream_safe-push, trail-stream_safe-le}
 use Rattle.nf_forms.specs.Laws.Front.{front-append-back}
-use Rattle.nf_forms.specs.Laws.Compose.{next_composite, settled_by, front-push_starter, back-push_starter}
+use Rattle.nf_forms.specs.Laws.Settling.{next_composite, settled_by, front-push_starter, back-push_starter}
 use Rattle.nf_row.specs.Ascii.{IsPlainAscii, AreAscii}
 
 -- the first character and those behind it

@@ -4,7 +4,7 @@ use Rattle.nf_forms.specs.Forms.{composes, decomposed, finished}
 use Rattle.nf_forms.specs.Front.{front, back}
 use Rattle.nf_forms.specs.StreamSafe.{stream_safe}
 use Rattle.nf_forms.specs.Laws.Front.{front-append-back}
-use Rattle.nf_forms.specs.Laws.Compose.{length-back}
+use Rattle.nf_forms.specs.Laws.Settling.{length-back}
 use Rattle.nf_forms.specs.Laws.StreamSafe.{trail-stream_safe-le}
 use Rattle.nf_forms.specs.SafeForm.{safe_form}
 use Rattle.nf_filter.specs.Settled.{settled, is_usable}
