@@ -4,8 +4,8 @@ ghost use Rattle.nf_boundary.specs.Seen.{IsAtBoundary};
 ghost use Rattle.nf_boundary.specs.Pieces.{Closes};
 
 use crate::closed::Formed;
-use crate::seen::{Seen, in_tables};
-use nf_facts::laws;
+use crate::seen::Seen;
+use nf_facts::{in_tables, laws};
 use nf_forms::Form;
 use ucd_normal::QuickCheck;
 use unicode_normalization::char::decomposition;

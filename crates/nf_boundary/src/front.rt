@@ -9,7 +9,7 @@ use crate::apart::take_apart;
 use crate::closed::{Closed, Formed};
 use crate::composing::compose_cluster;
 use crate::kept::keep_halfwidth;
-use crate::seen::{Seen, composes};
+use crate::seen::Seen;
 use nf_calm::calm_front;
 use nf_facts::laws;
 use nf_forms::Form;
@@ -74,7 +74,7 @@ fn calm_part(form: Form, text: &str) -> Option<Seen<'_>>
 {
     laws::every_character_is_sound();
     let calm = calm_front(form, text);
-    if !composes(form)
+    if !form.composes()
         && let Some(next) = Seen::boundary(form, calm.rest)
     {
         return Some(next);
@@ -91,7 +91,7 @@ fn take_cluster<'t>(form: Form, first: Seen<'t>, formed: &mut Formed) -> Option<
     ensures closes { IfSome result (λ next. Closes form first.entry.text.now next formed.old.items formed.new.items) }
     ensures stays { IsNone result → formed.new ≡ formed.old }
 {
-    if composes(form) {
+    if form.composes() {
         compose_cluster(form, first, formed)
     } else {
         take_apart(form, first, formed)

@@ -2,8 +2,8 @@ ghost use Rattle.std.specs.Prelude.{◌<◌, length, IfSome};
 ghost use Rattle.nf_boundary.specs.Seen.{IsAtBoundary};
 ghost use Rattle.nf_boundary.specs.Stands.{KeepsTo};
 
-use crate::seen::{Seen, is_halfwidth_mark};
-use nf_facts::laws;
+use crate::seen::Seen;
+use nf_facts::{is_halfwidth_mark, laws};
 use nf_forms::Form;
 use ucd_normal::QuickCheck;
 

@@ -3,7 +3,7 @@ ghost use Rattle.nf_forms.specs.Forms.{composes};
 ghost use Rattle.nf_facts.specs.KitForm.{kit_form};
 ghost use Rattle.nf_facts.specs.Passing.{is_among, halfwidth_marks, vowel_signs};
 
-use nf_facts::laws;
+use nf_facts::{in_tables, laws};
 use nf_forms::Form;
 use ucd_normal::{QuickCheck, class_and_quick_check};
 
@@ -67,7 +67,7 @@ impl<'t> Seen<'t> {
         if begins_with_mark(self.character) {
             return false;
         }
-        !composes(form) || self.answer == QuickCheck::Yes
+        !form.composes() || self.answer == QuickCheck::Yes
     }
 }
 
@@ -80,36 +80,4 @@ const fn begins_with_mark(c: char) -> bool
         c,
         '\u{FF9E}' | '\u{FF9F}' | '\u{F73}' | '\u{F75}' | '\u{F81}'
     )
-}
-
-/// Whether `c` is one of the two of them that the canonical forms leave as they are.
-#[inline]
-pub(crate) const fn is_halfwidth_mark(c: char) -> bool
-    ensures { result ≡ is_among halfwidth_marks c }
-{
-    c == '\u{FF9E}' || c == '\u{FF9F}'
-}
-
-/// Whether the form ends in composition.
-#[inline]
-pub(crate) const fn composes(form: Form) -> bool
-    ensures { result ≡ composes form }
-{
-    match form {
-        Form::Nfc | Form::Nfkc => true,
-        Form::Nfd | Form::Nfkd => false,
-    }
-}
-
-/// The form in the words of the tables.
-#[inline]
-pub(crate) const fn in_tables(form: Form) -> ucd_normal::Form
-    ensures { result ≡ kit_form form }
-{
-    match form {
-        Form::Nfc => ucd_normal::Form::Nfc,
-        Form::Nfd => ucd_normal::Form::Nfd,
-        Form::Nfkc => ucd_normal::Form::Nfkc,
-        Form::Nfkd => ucd_normal::Form::Nfkd,
-    }
 }

@@ -3,3 +3,6 @@
 #![tactic(auto)]
 
 pub mod laws;
+mod tables;
+
+pub use tables::{in_tables, is_halfwidth_mark};

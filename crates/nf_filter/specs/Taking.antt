@@ -1,5 +1,5 @@
 -- What taking a front of a text does.
-use Rattle.std.specs.Prelude.{◌≡◌, ◌+◌, ◌<◌, ◌≤◌, true, false, ℕ, List, ◌++◌, length, chars, Result, Ok, Err}
+use Rattle.std.specs.Prelude.{◌≡◌, ◌+◌, ◌<◌, ◌≤◌, true, ℕ, List, ◌++◌, length, chars, Result, Ok, Err}
 use Rattle.std.specs.Borrow.{Bor}
 use Rattle.nf_forms.specs.Properties.{Properties}
 use Rattle.nf_forms.specs.declared.form.Form.{Form}

@@ -10,3 +10,19 @@ pub enum Form {
     /// Compatibility decomposition.
     Nfkd,
 }
+
+impl Form {
+    ghost use Rattle.std.specs.Prelude.{◌≡◌};
+    ghost use Rattle.nf_forms.specs.Forms.{composes};
+
+    /// Whether it ends in composition.
+    #[inline]
+    pub const fn composes(self) -> bool
+        ensures { result ≡ composes self }
+    {
+        match self {
+            Form::Nfc | Form::Nfkc => true,
+            Form::Nfd | Form::Nfkd => false,
+        }
+    }
+}

@@ -1,11 +1,8 @@
-ghost use Rattle.std.specs.Prelude.{◌≡◌};
 ghost use Rattle.nf_forms.specs.Ucd.{ucd};
-ghost use Rattle.nf_facts.specs.KitForm.{kit_form};
-ghost use Rattle.nf_facts.specs.Passing.{is_among, halfwidth_marks};
 ghost use Rattle.nf_row.specs.Kind.{IsKind};
 
 use crate::kind::Kind;
-use nf_facts::laws;
+use nf_facts::{in_tables, is_halfwidth_mark, laws};
 use nf_forms::Form;
 use ucd_normal::{QuickCheck, class_and_quick_check};
 
@@ -28,27 +25,5 @@ pub(crate) fn kind_of(form: Form, c: char) -> Kind
         },
         QuickCheck::Yes if !is_halfwidth_mark(c) => Kind::Parts,
         _ => Kind::Other,
-    }
-}
-
-/// Whether `c` is one of the two starters that pass the quick check of NFC and NFD though their compatibility
-/// decompositions are non-starters.
-#[inline]
-const fn is_halfwidth_mark(c: char) -> bool
-    ensures { result ≡ is_among halfwidth_marks c }
-{
-    c == '\u{FF9E}' || c == '\u{FF9F}'
-}
-
-/// The form in the words of the tables.
-#[inline]
-const fn in_tables(form: Form) -> ucd_normal::Form
-    ensures { result ≡ kit_form form }
-{
-    match form {
-        Form::Nfc => ucd_normal::Form::Nfc,
-        Form::Nfd => ucd_normal::Form::Nfd,
-        Form::Nfkc => ucd_normal::Form::Nfkc,
-        Form::Nfkd => ucd_normal::Form::Nfkd,
     }
 }
