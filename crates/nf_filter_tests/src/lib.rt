@@ -1,13 +1,7 @@
-//! The tests of `nf_filter` by its public calls: forms, faults and counts that are known from outside, and devices that give
-//! and take little, or fail. Hostile use has a crate of its own, `nf_filter_hostile_tests`.
+//! The tests of `nf_filter` by its public calls: forms, faults and counts that are known from outside. Devices have a crate of
+//! tests of their own, `nf_filter_stream_tests`, as have policies and hostile use.
 #![tactic(auto)]
 
-#[cfg(test)]
-mod blocks;
-#[cfg(test)]
-mod buffers;
-#[cfg(test)]
-mod checks;
 #[cfg(test)]
 mod fast;
 #[cfg(test)]
@@ -18,9 +12,5 @@ mod forms;
 mod kit;
 #[cfg(test)]
 mod settling;
-#[cfg(test)]
-mod slices;
-#[cfg(test)]
-mod streams;
 #[cfg(test)]
 mod tables;
