@@ -13,6 +13,7 @@ pub mod Calm
 pub mod Sound
 pub mod Closed
 pub mod Audit
+pub mod Twice
 pub mod Cluster
 pub mod Ucd
 pub mod Laws

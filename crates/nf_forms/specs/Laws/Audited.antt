@@ -17,11 +17,12 @@ use Rattle.nf_forms.specs.Order.{order}
 use Rattle.nf_forms.specs.Ordering.{with_class}
 use Rattle.nf_forms.specs.declared.form.Form.{Form}
 use Rattle.nf_forms.specs.declared.form.Form.TheVariants.{Nfc, Nfd, Nfkc, Nfkd}
-use Rattle.nf_forms.specs.Forms.{decomposed, composes, normal_form}
+use Rattle.nf_forms.specs.Forms.{row_of, decomposed, composes, normal_form}
 use Rattle.nf_forms.specs.StreamSafe.{joiner, max_run, is_too_long, parted, safe_step, stream_safe}
 use Rattle.nf_forms.specs.SafeForm.{safe_form}
 use Rattle.nf_forms.specs.Sound.{is_sound}
 use Rattle.nf_forms.specs.Audit.{IsFull, HasOwnMarks, IsAudited}
+use Rattle.nf_forms.specs.Twice.{HasScalarRows, ChangesOnce}
 use Rattle.nf_forms.specs.Laws.Last.{by_last}
 use Rattle.nf_forms.specs.Laws.Starters.{longest-order}
 use Rattle.nf_forms.specs.Laws.Ordering.{ordering, order-only, order-order}
@@ -233,3 +234,36 @@ module _ (p : Properties) where
       pub safe_form-again : safe_form f p (safe_form f p x) ≡ safe_form f p x
       unfolding safe_form
       safe_form-again = ap (normal_form f p) stream_safe-again ∙ normal_form-again f decomposes (stream_safe p x) safe_scalars
+
+    -- ---- it is a text again
+
+    module _ (rows : HasScalarRows p) where
+      scalars-decomposed : (f : Form) → composes f ≡ false → (x : List ℕ) → all_scalars x ≡ true → list_all scalar (decomposed f p x) ≡ true
+      scalars-decomposed f decomposes [] scalars = refl
+      scalars-decomposed f decomposes (c ∷ x) scalars =
+          let parts = and_parts _ _ scalars in
+          list_all-append scalar (row_of f p c) _ ∙ and_from _ _ (sym (scalars-all (row_of f p c)) ∙ row f decomposes) (scalars-decomposed f decomposes x parts.1)
+        where
+          row : (f : Form) → composes f ≡ false → all_scalars (row_of f p c) ≡ true
+          row Nfd decomposes = rows.canonical c (and_parts _ _ scalars).0
+          row Nfkd decomposes = rows.compat c (and_parts _ _ scalars).0
+          row Nfc decomposes = cc
+          row Nfkc decomposes = cc
+
+      scalars-normal_form : (f : Form) → composes f ≡ false → (x : List ℕ) → all_scalars x ≡ true → all_scalars (normal_form f p x) ≡ true
+      scalars-normal_form Nfd decomposes x scalars = scalars-all (order p (decomposed Nfd p x)) ∙ list_all-order scalar (decomposed Nfd p x) (scalars-decomposed Nfd refl x scalars)
+      scalars-normal_form Nfkd decomposes x scalars = scalars-all (order p (decomposed Nfkd p x)) ∙ list_all-order scalar (decomposed Nfkd p x) (scalars-decomposed Nfkd refl x scalars)
+      scalars-normal_form Nfc decomposes x scalars = cc
+      scalars-normal_form Nfkc decomposes x scalars = cc
+
+      scalars-safe_form : (f : Form) → composes f ≡ false → (x : List ℕ) → all_scalars x ≡ true → all_scalars (safe_form f p x) ≡ true
+      unfolding safe_form
+      scalars-safe_form f decomposes x scalars = scalars-normal_form f decomposes (stream_safe p x) (safe_scalars f decomposes x scalars)
+
+      pub changes_once : (f : Form) → composes f ≡ false → ChangesOnce f p
+      changes_once f decomposes = record {
+        text = scalars-safe_form f decomposes;
+        sound = λ c scalar. (audited c scalar).sound;
+        safe = stream_safe-again f decomposes;
+        form = safe_form-again f decomposes;
+      }
