@@ -5,6 +5,7 @@ mod Fullness
 mod SameForms
 mod SameSafe
 mod FormsAfter
+mod Scalars
 mod Refused
 mod Halfwidth
 mod Starters

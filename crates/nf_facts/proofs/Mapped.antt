@@ -2,6 +2,7 @@
 use Rattle.std.proofs.Common.{◌≡◌, ℕ, Bool, true, false, not, ◌&&◌, ◌||◌, ◌==◌, List, flat_map, refl, ap, ap₂, ◌∙◌, inl, inr, eq-eqb, eqb-true}
 use Rattle.std.proofs.lemmas.Bool.{cases_Bool, and_from, and_parts, not_from_false}
 use Rattle.std.specs.List.{list_all}
+use lib.Utf8.{scalar}
 use Rattle.ucd_table.proofs.GroupsCheck.{same_string, same_string-true}
 use Rattle.ucd_table.proofs.RangedFacts.{Stepped-at_points}
 use Rattle.ucd_normal.specs.declared.forms.Form.TheVariants.{Nfd, Nfkd}
@@ -56,10 +57,14 @@ is_starter_so t c = t.class c == 0 || is_among mapped_marks c
 abbrev in_order : Properties → List ℕ → List ℕ → Bool
 in_order p canonical compat = is_ordered p canonical && is_ordered p compat
 
+-- the character and the members of both rows are scalar values
+abbrev are_scalars : ℕ → List ℕ → List ℕ → Bool
+are_scalars c canonical compat = scalar c && (list_all scalar canonical && list_all scalar compat)
+
 passes_all : Tables → ℕ → List ℕ → List ℕ → Bool
 passes_all t c canonical compat =
     ((ends_agree (classes_of t) canonical compat && is_within t canonical compat) && (begins_so t c compat && is_starter_so t c))
-    && in_order (classes_of t) canonical compat
+    && (in_order (classes_of t) canonical compat && are_scalars c canonical compat)
 
 abbrev row_passes : Tables → ℕ → Bool
 row_passes t c = passes_all t c (or_itself c (full t Nfd c)) (full t Nfkd c)
@@ -80,15 +85,21 @@ pub record IsMapped (c : ℕ) : Type 0 where
   pub starter : is_among mapped_marks c ≡ false → ccc c ≡ 0
   pub canonical_ordered : is_ordered ucd (decompose Nfd c) ≡ true
   pub compat_ordered : is_ordered ucd (decompose Nfkd c) ≡ true
+  pub is_scalar : scalar c ≡ true
+  pub canonical_scalars : list_all scalar (decompose Nfd c) ≡ true
+  pub compat_scalars : list_all scalar (decompose Nfkd c) ≡ true
 
-mapped : (c : ℕ) → is_syllable c ≡ false → is_empty (pick Nfkd (decomposition c)) ≡ false → IsMapped c
+pub mapped : (c : ℕ) → is_syllable c ≡ false → is_empty (pick Nfkd (decomposition c)) ≡ false → IsMapped c
 unfolding ucd passes_all
 mapped c other some =
     let rows : passes_all by_rows c (decompose Nfd c) (decompose Nfkd c) ≡ true =
     ap₂ (passes_all by_rows c) (decompose-other Nfd c other) (decompose-mapped Nfkd c other some) ∙ computed c some in
     let both = and_parts _ _ rows in
     let all = and_parts _ _ both.0 in
-    let ordered = and_parts _ _ both.1 in
+    let rest = and_parts _ _ both.1 in
+    let ordered = and_parts _ _ rest.0 in
+    let scalars = and_parts _ _ rest.1 in
+    let of_rows = and_parts _ _ scalars.1 in
     let first = and_parts _ _ all.0 in
     let second = and_parts _ _ all.1 in
     let within = and_parts _ _ first.1 in
@@ -100,6 +111,9 @@ mapped c other some =
       starter = λ mark. eqb-true (ccc c) 0 (first_of (ccc c == 0) (is_among mapped_marks c) second.1 mark);
       canonical_ordered = ordered.0;
       compat_ordered = ordered.1;
+      is_scalar = scalars.0;
+      canonical_scalars = of_rows.0;
+      compat_scalars = of_rows.1;
     }
   where
     fourth : (a b d e : Bool) → (not a || (b || (d || e))) ≡ true → a ≡ true → b ≡ false → d ≡ false → e ≡ true

@@ -1,7 +1,9 @@
 //! Facts of Unicode's data, each the contract of a function without a body. `ucd` is that data, in the words of
 //! `nf_forms`; `kit_form` names a form as `unicode_normalization` does.
-ghost use Rattle.std.specs.Prelude.{◌≡◌, ◌≢◌, ◌<◌, ◌≤◌, ℕ, false, List, [], ◌∷◌, ◌++◌, length, flat_map, IsTrue};
+ghost use Rattle.std.specs.Prelude.{◌≡◌, ◌≢◌, ◌<◌, ◌≤◌, ℕ, false, List, [], ◌∷◌, ◌++◌, length, flat_map, IsTrue, Some};
+ghost use Rattle.std.specs.Char.{IsScalar};
 ghost use Rattle.std.specs.List.{All};
+ghost use Rattle.std.specs.Str.{all_scalars};
 ghost use Rattle.ucd_table.specs.Rows.{in_ranges};
 ghost use Rattle.ucd_normal.specs.CanonicalCombiningClass.{canonical_combining_class};
 ghost use Rattle.ucd_normal.specs.QuickCheck.{quick_check};
@@ -20,6 +22,7 @@ ghost use Rattle.nf_forms.specs.StreamSafe.{stream_safe};
 ghost use Rattle.nf_forms.specs.SafeForm.{safe_form};
 ghost use Rattle.nf_forms.specs.Sound.{is_sound};
 ghost use Rattle.nf_forms.specs.Audit.{IsAudited};
+ghost use Rattle.nf_forms.specs.Twice.{HasScalarRows, ChangesOnce};
 ghost use Rattle.nf_forms.specs.Ucd.{ucd};
 ghost use Rattle.nf_forms.specs.Parting.{NeverSecond, BeginsAnew, IsParting};
 ghost use Rattle.nf_forms.specs.Closing.{IsClosing};
@@ -115,6 +118,21 @@ pub fn two_forms_are_one()
 pub fn a_second_filter_changes_nothing()
     ensures safe { (f : Form) (x : List ℕ) → stream_safe ucd (safe_form f ucd x) ≡ safe_form f ucd x }
     ensures form { (f : Form) (x : List ℕ) → safe_form f ucd (safe_form f ucd x) ≡ safe_form f ucd x }
+{}
+
+/// What the data has for scalar values are scalar values (The Unicode Standard, section 3.9, D76): the members of their
+/// decompositions, and what two of them compose to. So the form of a text is a text.
+#[inline]
+pub fn the_form_of_a_text_is_a_text()
+    ensures rows { HasScalarRows ucd }
+    ensures pair { (a b c : ℕ) → ucd.pair a b ≡ Some c → IsScalar c }
+    ensures form { (f : Form) (x : List ℕ) → IsTrue (all_scalars x) → IsTrue (all_scalars (normal_form f ucd x)) }
+{}
+
+/// So what a filter writes is a text again, and a second filter changes nothing of it, in all four forms.
+#[inline]
+pub fn each_form_changes_a_text_once()
+    ensures { (f : Form) → ChangesOnce f ucd }
 {}
 
 /// Unicode's data passes the audit: every character is sound, its rows are full, and the canonical one lies within the

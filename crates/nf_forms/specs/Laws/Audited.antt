@@ -30,7 +30,7 @@ use Rattle.nf_forms.specs.Laws.Sound.{IsSoundText}
 use Rattle.nf_forms.specs.Laws.StreamSafe.{stream_safe-push, longest-decomposed-push, longest-stream_safe-le}
 use Rattle.nf_forms.specs.Laws.Parting.{safe_step-room}
 
-scalars-all : (x : List ℕ) → all_scalars x ≡ list_all scalar x
+pub scalars-all : (x : List ℕ) → all_scalars x ≡ list_all scalar x
 scalars-all [] = refl
 scalars-all (c ∷ x) = ap (λ b. scalar c && b) (scalars-all x)
 
@@ -130,7 +130,7 @@ module _ (p : Properties) where
 
   -- ---- a text over audited data
 
-  list_all-stream_safe : (test : ℕ → Bool) → test joiner ≡ true → (x : List ℕ) → list_all test x ≡ true → list_all test (stream_safe p x) ≡ true
+  pub list_all-stream_safe : (test : ℕ → Bool) → test joiner ≡ true → (x : List ℕ) → list_all test x ≡ true → list_all test (stream_safe p x) ≡ true
   list_all-stream_safe test joins = by_last (λ x. list_all test x ≡ true → list_all test (stream_safe p x) ≡ true) (λ _. refl) more
     where
       push : (o : List ℕ) (c : ℕ) → list_all test o ≡ true → test c ≡ true → list_all test (o ++ c ∷ []) ≡ true
