@@ -29,3 +29,4 @@ pub mod SoundnessLemmas
 pub mod AssignedLemmas
 pub mod EncodingLemmas
 pub mod WholeLemmas
+pub mod AgainLemmas

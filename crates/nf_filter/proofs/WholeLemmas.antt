@@ -94,7 +94,7 @@ module _ (f : Form) (p : Properties) where
     unfolding whole_utf8
     at_fault fault told = rw (← told) refl
 
-    without : None ≡ fault_in as_is p 0 bytes → final_utf8 as_is f p bytes ≡ whole_utf8 f p bytes
+    pub without : None ≡ fault_in as_is p 0 bytes → final_utf8 as_is f p bytes ≡ whole_utf8 f p bytes
     unfolding whole_utf8
     without told = rw (← told) refl
 
@@ -105,11 +105,11 @@ module _ (f : Form) (p : Properties) where
         next None told = subst (Extends (settled_utf8 as_is f p bytes)) (without told) (final-extends bytes (is_usable-from p bytes told))
         next (Some fault) told = subst (Extends (settled_utf8 as_is f p bytes)) (at_fault fault told) (Extends-none (settled_utf8 as_is f p bytes))
 
-    answer_at : (fault : Fault) → Some fault ≡ fault_in as_is p 0 bytes → Err fault ≡ whole_answer p bytes
+    pub answer_at : (fault : Fault) → Some fault ≡ fault_in as_is p 0 bytes → Err fault ≡ whole_answer p bytes
     unfolding whole_answer
     answer_at fault told = rw (← told) refl
 
-    answer_without : None ≡ fault_in as_is p 0 bytes → end_of as_is p 0 bytes ≡ whole_answer p bytes
+    pub answer_without : None ≡ fault_in as_is p 0 bytes → end_of as_is p 0 bytes ≡ whole_answer p bytes
     unfolding whole_answer
     answer_without told = rw (← told) refl
 

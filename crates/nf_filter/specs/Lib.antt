@@ -18,6 +18,7 @@ pub mod Feeds
 pub mod Finishes
 pub mod Drives
 pub mod Whole
+pub mod Again
 pub mod Surveys
 pub mod Checks
 pub mod Measures

@@ -4,15 +4,19 @@ ghost use Rattle.nf_filter.specs.Filter.{rows_of, state_of, base_of, is_spent, S
 ghost use Rattle.nf_filter.specs.declared.policy.Policy.{Policy};
 ghost use Rattle.nf_filter.specs.Policy.{as_is};
 ghost use Rattle.nf_filter.specs.Drives.{FeedsAll, Drives};
+ghost use Rattle.nf_forms.specs.Twice.{ChangesOnce};
+ghost use Rattle.nf_filter.specs.Again.{AddsWhatStays, DrivesOnce};
 
 use crate::devices::{Failed, Sink, Source};
 use crate::fault::Fault;
 use crate::filter::Filter;
+use crate::laws::what_was_finished_stays;
 use crate::sources::BLOCK;
 use crate::tally::Tally;
 use nf_row::{Form, Rows};
 
-/// Feeds what the source gives, in pieces of at most 4,096 bytes, and finishes the filter at the source's end.
+/// Feeds what the source gives, in pieces of at most 4,096 bytes, and finishes the filter at the source's end. Where the
+/// form changes a text once, as over Unicode's data, a second filter changes nothing of all that the filter wrote.
 pub fn drive<R: Rows, I: Source, S: Sink>(
     filter: Filter<'_, R>,
     source: &mut I,
@@ -25,6 +29,9 @@ pub fn drive<R: Rows, I: Source, S: Sink>(
     ensures drives { let p = R.properties (rows_of filter.entry) in
         (policy : Policy) (f : Form) (bytes : List ℕ) → StandsAfter policy f p (state_of filter.entry) bytes
         → Drives 4096 policy f p (base_of (state_of filter.entry)) bytes (I.state source.old) (I.state source.new) (S.state sink.old) (S.state sink.new) result }
+    ensures again { let p = R.properties (rows_of filter.entry) in
+        (policy : Policy) (f : Form) (bytes : List ℕ) → StandsAfter policy f p (state_of filter.entry) bytes → ChangesOnce f p
+        → OnOk result (DrivesOnce policy f p bytes (I.state source.old) (I.state source.new) (S.state sink.old) (S.state sink.new)) }
     ensures lenders { ((I.state source.new).lender ≡ (I.state source.old).lender) × ((S.state sink.new).lender ≡ (S.state sink.old).lender) }
 {
     let mut buffer = [0; BLOCK];
@@ -46,8 +53,12 @@ pub fn drive_buffered<R: Rows, I: Source, S: Sink>(
     ensures drives { let p = R.properties (rows_of filter.entry) in
         (policy : Policy) (f : Form) (bytes : List ℕ) → StandsAfter policy f p (state_of filter.entry) bytes
         → Drives (length buffer.old) policy f p (base_of (state_of filter.entry)) bytes (I.state source.old) (I.state source.new) (S.state sink.old) (S.state sink.new) result }
+    ensures again { let p = R.properties (rows_of filter.entry) in
+        (policy : Policy) (f : Form) (bytes : List ℕ) → StandsAfter policy f p (state_of filter.entry) bytes → ChangesOnce f p
+        → OnOk result (DrivesOnce policy f p bytes (I.state source.old) (I.state source.new) (S.state sink.old) (S.state sink.new)) }
     ensures lenders { ((I.state source.new).lender ≡ (I.state source.old).lender) × ((S.state sink.new).lender ≡ (S.state sink.old).lender) }
 {
+    what_was_finished_stays();
     let mut filter = filter;
     if filter.spent() {
         return Err(Fault::Spent);
@@ -70,6 +81,7 @@ pub fn run<R: Rows, I: Source, S: Sink>(
     ensures read { (result ≡ Err Fault.Read) ↔ IsTrue (I.state source.new).is_failed }
     ensures end { OnOk result (IsTrue (I.state source.new).is_at_end) }
     ensures drives { Drives 4096 as_is form (R.properties rows.now) base [] (I.state source.old) (I.state source.new) (S.state sink.old) (S.state sink.new) result }
+    ensures again { ChangesOnce form (R.properties rows.now) → OnOk result (AddsWhatStays form (R.properties rows.now) (S.state sink.old).taken (S.state sink.new).taken) }
     ensures lenders { ((I.state source.new).lender ≡ (I.state source.old).lender) × ((S.state sink.new).lender ≡ (S.state sink.old).lender) }
 {
     drive(Filter::new(rows, form, base), source, sink)

@@ -5,6 +5,7 @@ ghost use Rattle.nf_filter.specs.Taker.{IsReady};
 use crate::devices::{Failed, Sink};
 use crate::fault::Fault;
 use crate::held::Held;
+use crate::laws::what_was_finished_stays;
 use crate::normalizer::Normalizer;
 use crate::policy::Policy;
 use crate::reading::Reading;
@@ -48,7 +49,9 @@ impl<'r, R: Rows> Filter<'r, R> {
     ghost use Rattle.nf_filter.specs.Faults.{IsOfFeeding, IsOfFinishing};
     ghost use Rattle.nf_filter.specs.Filter.{rows_of, state_of, base_of, offset_of, is_spent, StandsAfter};
     ghost use Rattle.nf_filter.specs.Feeds.{Feeds};
-    ghost use Rattle.nf_filter.specs.Finishes.{Finishes};
+    ghost use Rattle.nf_filter.specs.Finishes.{Finishes, final_utf8};
+    ghost use Rattle.nf_forms.specs.Twice.{ChangesOnce};
+    ghost use Rattle.nf_filter.specs.Again.{StaysAsItIs};
 
     /// A filter that has taken nothing. The first byte to come has the offset `base`.
     pub fn new(rows: &'r R, form: Form, base: u64) -> Filter<'r, R>
@@ -160,7 +163,8 @@ impl<'r, R: Rows> Filter<'r, R> {
         }
     }
 
-    /// Gives the sink the rest, and answers what was taken.
+    /// Gives the sink the rest, and answers what was taken. Where the form changes a text once, as over Unicode's data, a
+    /// second filter changes nothing of all that was written.
     pub fn finish<S: Sink>(self, sink: &mut S) -> Result<Tally, Fault>
         ensures spent { (result ≡ Err Fault.Spent) ↔ IsTrue (is_spent (state_of self.entry)) }
         ensures kept { IsTrue (is_spent (state_of self.entry)) → sink.new ≡ sink.old }
@@ -168,6 +172,9 @@ impl<'r, R: Rows> Filter<'r, R> {
         ensures finishes { let p = R.properties (rows_of self.entry) in
             (policy : Policy) (f : Form) (bytes : List ℕ) → StandsAfter policy f p (state_of self.entry) bytes
             → Finishes policy f p (base_of (state_of self.entry)) bytes (S.state sink.old) (S.state sink.new) result }
+        ensures again { let p = R.properties (rows_of self.entry) in
+            (policy : Policy) (f : Form) (bytes : List ℕ) → StandsAfter policy f p (state_of self.entry) bytes → ChangesOnce f p
+            → OnOk result (StaysAsItIs f p (final_utf8 policy f p bytes)) }
         ensures lender { (S.state sink.new).lender ≡ (S.state sink.old).lender }
     {
         let Filter { rows, state } = self;
@@ -184,6 +191,7 @@ impl<'r, R: Rows> Filter<'r, R> {
         if let Err(fault) = reading.close(policy, rows, &mut normalizer, sink) {
             return Err(fault);
         }
+        what_was_finished_stays();
         let tally = Tally {
             bytes: reading.offset - base,
             chars: normalizer.chars,

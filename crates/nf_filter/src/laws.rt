@@ -1,6 +1,9 @@
 //! Laws of what a filter writes, holds back and refuses, each the contract of a function without a body.
 ghost use Rattle.nf_filter.specs.Laws.{SettledOnlyGrows, LittleIsHeldBack, RunsStayShort};
 ghost use Rattle.nf_filter.specs.Laws.Soundness.{FeedingRefusesNone, DrivingRefusesNone, CheckingRefusesNone, MeasuringRefusesNone};
+ghost use Rattle.nf_filter.specs.Again.{FinishedStays};
+
+use nf_utf8::laws::{longest_text, read_back, replacing};
 
 /// Nothing that was written is taken back: whatever follows a text, what is settled of it stays.
 pub fn settled_only_grows()
@@ -25,3 +28,15 @@ pub fn no_sound_character_is_refused()
     ensures checking { CheckingRefusesNone }
     ensures measuring { MeasuringRefusesNone }
 {}
+
+/// What a filter wrote to an end without a fault is the UTF-8 of a text in the Stream-Safe Text Format, and a second filter
+/// of that form, fed it, writes just these bytes and puts nothing: over data of which the form changes a text once, as
+/// `nf_facts` shows it of Unicode's.
+#[inline]
+pub fn what_was_finished_stays()
+    ensures { FinishedStays }
+{
+    longest_text();
+    read_back();
+    replacing();
+}

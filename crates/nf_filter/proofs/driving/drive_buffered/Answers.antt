@@ -10,6 +10,7 @@ use Rattle.nf_filter.specs.Devices.{SinkState}
 use Rattle.nf_filter.specs.Filter.{rows_of, state_of, base_of, StandsAfter}
 use Rattle.nf_filter.specs.Finishes.{Finishes}
 use Rattle.nf_filter.proofs.DriveLemmas.{Drives-refused, Drives-finished}
+use Rattle.nf_filter.proofs.AgainLemmas.{drives_once}
 use Rattle.nf_filter.proofs.driving.drive_buffered.Goals as goal
 
 -- the rows and the base do not change
@@ -30,3 +31,7 @@ returns-clause-drives g c = λ policy f bytes stands.
     let finishes = finishes_at policy f _ p _ base (state_of c.feed_all.new.filter) (bytes ++ feeds.fed) _ _ c.finish.result (ap g.R.Rows.properties c.in_default.ensures.rows) c.in_default.ensures.base
     (c.finish.ensures.finishes policy f (bytes ++ feeds.fed)) feeds.stands in
     Drives-finished (length c.args.buffer.now) policy f p base bytes _ _ _ _ _ _ c.finish.result c.in_default.ensures.end (λ e. rw e at c.finish.ensures.faults) (λ e. rw e at c.finish.ensures.faults) feeds finishes
+
+pub returns-clause-again : goal.returns-clause-again
+returns-clause-again g c = λ policy f bytes stands once.
+    drives_once c.what_was_finished_stays.ensures _ policy f _ _ bytes _ _ _ _ c.finish.result once c.in_default.ensures.end (returns-clause-drives g c policy f bytes stands)

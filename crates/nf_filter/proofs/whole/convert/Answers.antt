@@ -11,6 +11,7 @@ use Rattle.nf_filter.specs.Finishes.{Finishes}
 use Rattle.nf_filter.specs.Policy.{as_is}
 use Rattle.nf_filter.proofs.FilterLemmas.{StandsAfter-offset}
 use Rattle.nf_filter.proofs.WholeLemmas.{Converts-refused, Converts-finished, Converts-faults, Converts-sound}
+use Rattle.nf_filter.proofs.AgainLemmas.{converts_once}
 use Rattle.nf_filter.proofs.whole.convert.Goals as goal
 
 -- the rows and the base do not change
@@ -59,3 +60,6 @@ returns-clause-faults g c = Converts-faults c.args.form _ c.args.bytes.now _ _ _
 
 pub returns-clause-sound : goal.returns-clause-sound
 returns-clause-sound g c = λ sound. Converts-sound c.args.form _ c.args.bytes.now _ _ _ sound (returns-clause-converts g c)
+
+pub returns-clause-again : goal.returns-clause-again
+returns-clause-again g c = λ once. converts_once c.args.form _ _ _ c.what_was_finished_stays.ensures c.args.bytes.now _ once (returns-clause-converts g c)

@@ -15,3 +15,9 @@ returns-clause-whole g c =
     let read = rw c.new-source.ensures.reader at got in
     let written = rw c.new-sink.ensures.writer at read in
     search rules
+
+pub returns-clause-again : goal.returns-clause-again
+returns-clause-again g c =
+    let got = c.run-answer.ensures.again (c.each_form_changes_a_text_once.ensures c.args.form) in
+    let written = rw c.new-sink.ensures.writer at got in
+    search rules

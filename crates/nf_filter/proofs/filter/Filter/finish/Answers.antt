@@ -47,3 +47,10 @@ returns-in-Err-end-clause-finishes g c = λ policy f bytes stands.
     let state = c.args.self.state in
     let closes = c.in_default.ensures.closes f state.base bytes (read_before policy f p state bytes stands) in
     rw (← stands.policy_is) (Finishes-broken state.policy f p state.base bytes c.close.new.normalizer _ _ _ closes (c.in-Err-end.ensures.puts f (whole_under state.policy.replace bytes) closes.0))
+
+pub returns-in-Ok-clause-again : goal.returns-in-Ok-clause-again
+returns-in-Ok-clause-again g c = λ policy f bytes stands once.
+    let p = g.R.Rows.properties c.args.self.rows.now in
+    let state = c.args.self.state in
+    let closes = c.in_default.ensures.closes f state.base bytes (read_before policy f p state bytes stands) in
+    rw (← stands.policy_is) (c.what_was_finished_stays.ensures state.policy f p state.base bytes (tally_of state.policy.replace p bytes) once closes.2)

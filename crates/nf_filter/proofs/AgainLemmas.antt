@@ -1,0 +1,261 @@
+-- What a filter wrote to the end is a text that is stream-safe and its own form, so that a second one changes nothing.
+use Rattle.std.proofs.Common.{◌≡◌, ℕ, ◌+◌, ◌-◌, Bool, true, false, ◌&&◌, ◌==◌, List, [], ◌∷◌, ◌++◌, map, length, Option, Some, None, Result, Ok, Err, refl, sym, ap, ap₂, ◌∙◌, subst, arith, append-nil, eq-eqb}
+use Rattle.std.proofs.lemmas.Bool.{and_from, and_parts}
+use Rattle.std.proofs.str.Laws.{scalars-append}
+use Rattle.std.specs.List.{list_all}
+use Rattle.std.specs.Io.KnownBytes.{Appends, Consumes}
+use Rattle.std.specs.Prelude.{IsTrue, OnOk, if◌then◌else◌, encode_utf8_all}
+use Rattle.std.specs.Str.{all_scalars, chars}
+use Rattle.std.specs.Str.Lossy.{utf8_valid_len}
+use Rattle.std.proofs.Math.Utf8.{scalar}
+use Rattle.nf_forms.specs.Properties.{Properties}
+use Rattle.nf_forms.specs.declared.form.Form.{Form}
+use Rattle.nf_forms.specs.Sound.{is_sound}
+use Rattle.nf_forms.specs.StreamSafe.{stream_safe}
+use Rattle.nf_forms.specs.SafeForm.{safe_form}
+use Rattle.nf_forms.specs.Twice.{ChangesOnce}
+use Rattle.nf_forms.specs.Laws.Sound.{IsSoundText}
+use Rattle.nf_safe.specs.Place.{is_in_format}
+use Rattle.nf_safe.specs.Laws.Pieces.{in_format-unchanged}
+use Rattle.nf_utf8.specs.Text.{IsText}
+use Rattle.nf_utf8.specs.Ending.{Ending, Whole, Bad, Cut, moved}
+use Rattle.nf_utf8.specs.Reading.{text_of, ending_of}
+use Rattle.nf_utf8.specs.Replaced.{replacement, parts_of, own_parts, bytes_in, begun_at_end, replaced, replaced_whole}
+use Rattle.nf_utf8.specs.Laws.{ReadsLongestText, ReadsBack, ReplacesParts}
+use Rattle.nf_filter.specs.declared.fault.Fault.{Fault}
+use Rattle.nf_filter.specs.declared.policy.Policy.{Policy}
+use Rattle.nf_filter.specs.declared.tally.Tally.{Tally}
+use Rattle.nf_filter.specs.Policy.{as_is, allowed, text_under, whole_under, len_under}
+use Rattle.nf_filter.specs.Settled.{is_usable, settled_utf8}
+use Rattle.nf_filter.specs.Faults.{answer_at_end, bad_byte, bad_under, first_fault, fault_in}
+use Rattle.nf_filter.specs.Finishes.{tally_of, answer_or, end_under, end_of, whole_or, is_taken, final_under, final_utf8}
+use Rattle.nf_filter.specs.Devices.{SinkState, SourceState}
+use Rattle.nf_filter.specs.Writes.{Puts}
+use Rattle.nf_filter.specs.Drives.{due_utf8, Drives}
+use Rattle.nf_filter.specs.Whole.{whole_utf8, Converts}
+use Rattle.nf_filter.specs.Again.{TakesAll, nothing_put, StaysAsItIs, AddsWhatStays, DrivesOnce, FinishedStays}
+use Rattle.nf_filter.specs.Laws.Settled.{settled_utf8-none}
+use Rattle.nf_filter.proofs.PolicyLemmas.{first_fault-none}
+use Rattle.nf_filter.proofs.WholeLemmas.{without, answer_at, answer_without}
+
+-- no bytes
+text-none : text_of [] ≡ []
+unfolding text_of chars utf8_valid_len
+text-none = refl
+
+ending-none : ending_of [] ≡ Whole
+unfolding ending_of chars utf8_valid_len
+ending-none = refl
+
+-- the end is no fault
+answered : {A : Type 0} (base : ℕ) (value told : A) (ending : Ending) → answer_at_end base value ending ≡ Ok told → (settled whole : List ℕ) → whole_or ending settled whole ≡ whole
+answered base value told Whole e settled whole = refl
+answered base value told (Bad at start) e settled whole = refl
+answered base value told (Cut at start) e settled whole = cc
+
+none_told : {A : Type 0} (fault : Option Fault) (value told : A) → answer_or fault value ≡ Ok told → fault ≡ None
+none_told None value told e = refl
+none_told (Some fault) value told e = cc
+
+module _ (p : Properties) where
+  -- what has no fault is taken
+  taken : (assigned : Bool) (place : List ℕ → ℕ) (x : List ℕ) → first_fault assigned p place x None ≡ None → is_taken assigned p x ≡ true
+  taken false place x none = and_from _ _ (usable_by (is_usable p x) _ none) (eq-eqb (length x) (length x) refl)
+    where
+      usable_by : (b : Bool) (fault : Fault) → (if b then None else Some fault) ≡ None → b ≡ true
+      usable_by true fault e = refl
+      usable_by false fault e = cc
+  taken true place x none = both (is_usable p (allowed true p x)) (length (allowed true p x) == length x) _ _ none
+    where
+      both : (b d : Bool) (first second : Fault) → (if b then (if d then None else Some first) else Some second) ≡ None → (b && d) ≡ true
+      both true true first second e = refl
+      both true false first second e = cc
+      both false d first second e = cc
+
+  sound_text : ((c : ℕ) → scalar c ≡ true → is_sound p c ≡ true) → (x : List ℕ) → all_scalars x ≡ true → IsSoundText p x
+  sound_text sound [] scalars = refl
+  sound_text sound (c ∷ x) scalars = let parts = and_parts (scalar c) (all_scalars x) scalars in and_from _ _ (sound c parts.0) (sound_text sound x parts.1)
+
+module _ (back : ReadsBack) (replacing : ReplacesParts) where
+  -- ---- the bytes of a text
+
+  module _ (o : List ℕ) (scalars : IsText o) where
+    abbrev bytes_is : List ℕ
+    bytes_is = encode_utf8_all o
+
+    text-is : text_of bytes_is ≡ o
+    text-is = ap text_of (sym (append-nil bytes_is)) ∙ back.text o [] scalars ∙ ap (λ l. o ++ l) text-none ∙ append-nil o
+
+    ending-is : ending_of bytes_is ≡ Whole
+    ending-is = ap ending_of (sym (append-nil bytes_is)) ∙ back.ending o [] scalars ∙ ap (moved (length bytes_is)) ending-none
+
+    parts-is : parts_of bytes_is ≡ own_parts o
+    parts-is = replacing.begun bytes_is ([], (o, (scalars, sym (append-nil bytes_is)))) ∙ ap own_parts text-is
+
+    replaced-is : replaced bytes_is ≡ o
+    unfolding replaced
+    replaced-is = ap (map (λ part. part.char)) parts-is ∙ replacing.own_chars o
+
+    begun-is : begun_at_end bytes_is ≡ 0
+    begun-is = let all = ap bytes_in parts-is ∙ replacing.own_len o in omega (arith, all)
+
+    whole-is : replaced_whole bytes_is ≡ o
+    unfolding replaced_whole
+    whole-is = ap₂ (λ w n. w ++ (if n == 0 then [] else replacement ∷ [])) replaced-is begun-is ∙ append-nil o
+
+    text_under-is : (replace : Bool) → text_under replace bytes_is ≡ o
+    text_under-is false = text-is
+    text_under-is true = replaced-is
+
+    whole_under-is : (replace : Bool) → whole_under replace bytes_is ≡ o
+    whole_under-is false = text-is
+    whole_under-is true = whole-is
+
+    -- ---- which is stream-safe and its own form
+
+    module _ (f : Form) (p : Properties) (sound : IsSoundText p o) (safe : stream_safe p o ≡ o) (form : safe_form f p o ≡ o) where
+      usable-is : is_usable p o ≡ true
+      unfolding is_usable
+      usable-is = ap (list_all (is_sound p)) safe ∙ sound
+
+      put-is : (replace : Bool) → tally_of replace p bytes_is ≡ nothing_put bytes_is
+      put-is replace =
+          ap (λ x. tally_by (length x) (length (stream_safe p x) - length x)) (whole_under-is replace)
+          ∙ ap₂ tally_by (sym (ap length text-is)) (let same = ap length safe in omega (arith, same))
+        where
+          tally_by : ℕ → ℕ → Tally
+          tally_by chars put = record { bytes = length bytes_is; chars = chars; put = put }
+
+      module _ (policy : Policy) (all : TakesAll policy p bytes_is) where
+        all-is : allowed policy.assigned p o ≡ o
+        all-is = ap (allowed policy.assigned p) (sym text-is) ∙ all ∙ text-is
+
+        no_fault-is : (base : ℕ) → fault_in policy p base bytes_is ≡ None
+        unfolding fault_in
+        no_fault-is base =
+            ap (λ x. first_fault policy.assigned p place x (bad_under policy.replace base bytes_is)) (text_under-is policy.replace)
+            ∙ first_fault-none p policy.assigned place o _ usable-is all-is
+            ∙ none_bad policy.replace
+          where
+            place : List ℕ → ℕ
+            place front = base + len_under policy.replace bytes_is front
+
+            none_bad : (replace : Bool) → bad_under replace base bytes_is ≡ None
+            none_bad false = ap (bad_byte base) ending-is
+            none_bad true = refl
+
+        end-is : (replace : Bool) (base : ℕ) → end_under replace policy.assigned p base bytes_is ≡ Ok (nothing_put bytes_is)
+        end-is false base = ap (answer_at_end base (tally_of false p bytes_is)) ending-is ∙ ap (λ t. Ok t) (put-is false)
+        end-is true base =
+            ap (λ x. answer_or (first_fault policy.assigned p place x None) (tally_of true p bytes_is)) whole-is
+            ∙ ap (λ fault. answer_or fault (tally_of true p bytes_is)) (first_fault-none p policy.assigned place o None usable-is all-is)
+            ∙ ap (λ t. Ok t) (put-is true)
+          where
+            place : List ℕ → ℕ
+            place front = base + len_under true bytes_is front
+
+        tally-is : (base : ℕ) → end_of policy p base bytes_is ≡ Ok (nothing_put bytes_is)
+        unfolding end_of
+        tally-is base = end-is policy.replace base
+
+        taken-is : is_taken policy.assigned p o ≡ true
+        taken-is = and_from _ _ (ap (is_usable p) all-is ∙ usable-is) (eq-eqb _ _ (ap length all-is))
+
+        final-is : (replace : Bool) (settled : List ℕ) → final_under replace policy.assigned p bytes_is settled bytes_is ≡ bytes_is
+        final-is false settled = ap (λ e. whole_or e settled bytes_is) ending-is
+        final-is true settled = ap (λ x. if is_taken policy.assigned p x then bytes_is else settled) whole-is ∙ ap (λ (b : Bool). if b then bytes_is else settled) taken-is
+
+        again-is : final_utf8 policy f p bytes_is ≡ bytes_is
+        unfolding final_utf8
+        again-is =
+            ap (λ x. final_under policy.replace policy.assigned p bytes_is (settled_utf8 policy f p bytes_is) (encode_utf8_all (safe_form f p x))) (whole_under-is policy.replace)
+            ∙ ap (λ x. final_under policy.replace policy.assigned p bytes_is (settled_utf8 policy f p bytes_is) (encode_utf8_all x)) form
+            ∙ final-is policy.replace (settled_utf8 policy f p bytes_is)
+
+      stays : StaysAsItIs f p bytes_is
+      stays = record {
+        spelled = ap encode_utf8_all (sym text-is);
+        whole = ending-is;
+        in_format = ap (is_in_format p) text-is ∙ in_format-unchanged p o sound safe;
+        safe = ap (stream_safe p) text-is ∙ safe ∙ sym text-is;
+        form = ap (safe_form f p) text-is ∙ form ∙ sym text-is;
+        no_fault = λ policy base all. no_fault-is policy all base;
+        again = again-is;
+        tally = λ policy base all. tally-is policy all base;
+      }
+
+  -- ---- what was written to the end
+
+  module _ (longest : ReadsLongestText) (f : Form) (p : Properties) (once : ChangesOnce f p) where
+    stays-form : (x : List ℕ) → IsText x → StaysAsItIs f p (encode_utf8_all (safe_form f p x))
+    stays-form x scalars =
+        let text = once.text x scalars in
+        stays (safe_form f p x) text f p (sound_text p once.sound (safe_form f p x) text) (once.safe x scalars) (once.form x scalars)
+
+    text-whole : (replace : Bool) (bytes : List ℕ) → IsText (whole_under replace bytes)
+    unfolding replaced_whole
+    text-whole false bytes = (longest.reads bytes).front.scalars
+    text-whole true bytes = scalars-append (replaced bytes) _ (replacing.text bytes) (last (begun_at_end bytes == 0))
+      where
+        last : (b : Bool) → IsText (if b then [] else replacement ∷ [])
+        last true = refl
+        last false = refl
+
+    module _ (base : ℕ) (bytes : List ℕ) (tally : Tally) where
+      final_under-whole : (replace assigned : Bool) → end_under replace assigned p base bytes ≡ Ok tally → (settled whole : List ℕ) → final_under replace assigned p bytes settled whole ≡ whole
+      final_under-whole false assigned end settled whole = answered base (tally_of false p bytes) tally (ending_of bytes) end settled whole
+      final_under-whole true assigned end settled whole =
+          ap (λ (b : Bool). if b then whole else settled) (taken p assigned (λ front. base + len_under true bytes front) (whole_under true bytes) (none_told _ (tally_of true p bytes) tally end))
+
+      final-whole : (policy : Policy) → end_of policy p base bytes ≡ Ok tally → final_utf8 policy f p bytes ≡ encode_utf8_all (safe_form f p (whole_under policy.replace bytes))
+      unfolding final_utf8 end_of
+      final-whole policy end = final_under-whole policy.replace policy.assigned end (settled_utf8 policy f p bytes) (encode_utf8_all (safe_form f p (whole_under policy.replace bytes)))
+
+      pub stays-final : (policy : Policy) → end_of policy p base bytes ≡ Ok tally → StaysAsItIs f p (final_utf8 policy f p bytes)
+      stays-final policy end = subst (StaysAsItIs f p) (sym (final-whole policy end)) (stays-form (whole_under policy.replace bytes) (text-whole policy.replace bytes))
+
+pub finished_stays : ReadsLongestText → ReadsBack → ReplacesParts → FinishedStays
+finished_stays longest back replacing = λ policy f p base bytes tally once end. stays-final back replacing longest f p once base bytes tally policy end
+
+-- ---- of a source that was driven to its end
+
+pub drives_once : FinishedStays → (most : ℕ) (policy : Policy) (f : Form) (p : Properties) (base : ℕ) (bytes : List ℕ) (source left : SourceState) (old new : SinkState) (result : Result Tally Fault)
+    → ChangesOnce f p → IsTrue left.is_at_end → Drives most policy f p base bytes source left old new result → OnOk result (DrivesOnce policy f p bytes source left old new)
+drives_once law most policy f p base bytes source left old new (Err fault) once end drives = tt
+drives_once law most policy f p base bytes source left old new (Ok tally) once end drives = record {
+  fed = drives.fed;
+  given = subst (Consumes source.coming left.coming) (ap (λ l. drives.fed ++ l) (drives.all_fed (λ e. cc)) ∙ append-nil drives.fed) drives.given;
+  read_out = drives.read_out end;
+  written = subst (λ b. Puts old new (settled_utf8 policy f p bytes) (due_utf8 b policy f p (bytes ++ drives.fed))) end (drives.written (λ e. cc));
+  stays = law policy f p base (bytes ++ drives.fed) tally once (sym (drives.finished end (λ e. cc)));
+}
+
+module _ (f : Form) (p : Properties) (old new : SinkState) where
+  put-stays : (out whole : List ℕ) → whole ≡ out → Appends old.taken new.taken out → StaysAsItIs f p whole → AddsWhatStays f p old.taken new.taken
+  put-stays out whole is given stays = (out, given, subst (StaysAsItIs f p) is stays)
+
+  pub adds_what_stays : (source left : SourceState) (result : Result Tally Fault) → OnOk result (DrivesOnce as_is f p [] source left old new) → OnOk result (AddsWhatStays f p old.taken new.taken)
+  adds_what_stays source left (Err fault) once = tt
+  adds_what_stays source left (Ok tally) once =
+      put-stays once.written.out _ (once.written.behind ∙ ap (λ l. l ++ once.written.out) (settled_utf8-none as_is f p)) once.written.given once.stays
+
+  -- ---- of bytes that were all there was
+
+  pub converts_once : FinishedStays → (bytes : List ℕ) (result : Result Tally Fault) → ChangesOnce f p → Converts f p bytes old new result → OnOk result (AddsWhatStays f p old.taken new.taken)
+  converts_once law bytes (Err fault) once converts = tt
+  converts_once law bytes (Ok tally) once converts = next (fault_in as_is p 0 bytes) refl
+    where
+      puts : Puts old new [] (whole_utf8 f p bytes)
+      puts = converts.written (λ e. cc)
+
+      next : (o : Option Fault) → o ≡ fault_in as_is p 0 bytes → AddsWhatStays f p old.taken new.taken
+      next (Some fault) told = let answer = converts.answer (λ e. cc) ∙ sym (answer_at f p bytes fault told) in cc
+      next None told =
+          put-stays puts.out _ (without f p bytes told ∙ puts.behind) puts.given
+          (law as_is f p 0 bytes tally once (answer_without f p bytes told ∙ sym (converts.answer (λ e. cc))))
+
+-- what stands where nothing stood before
+pub taken_stays : (f : Form) (p : Properties) (taken now : Option (List ℕ)) (out : List ℕ) → taken ≡ Some [] → now ≡ Some out → AddsWhatStays f p taken now → StaysAsItIs f p out
+taken_stays f p taken now out is_taken is_now adds =
+    let all : out ≡ adds.0 = subst (λ (o : Option (List ℕ)). Appends (Some []) o adds.0) is_now (subst (λ (o : Option (List ℕ)). Appends o now adds.0) is_taken adds.1) in
+    subst (StaysAsItIs f p) (sym all) adds.2
