@@ -2,24 +2,12 @@
 //! of a block, with short and long runs of marks behind it. By data of which all is known and of which nothing is, the same
 //! is written, and held, behind each piece.
 use crate::both_ways::same_over;
-use crate::calm::{BAD, BEGUN, BLOCK, filled};
-use nf_filter::Fault;
-use nf_filter_fixtures::{BASE, FORMS, joined};
+use crate::calm::{BLOCK, CALM, filled};
+use nf_filter_fixtures::{FORMS, joined};
 use nf_row::{Patched, Plain};
 use std::alloc::{AllocError, Global};
 use std::process::Abort;
 use std::test::Fail;
-
-/// What a run is made of: characters of each width, composed ones and syllables with and without a last letter.
-const PLAIN: [&str; 7] = [
-    "a",
-    "\u{E9}",
-    "\u{43B}",
-    "\u{6F22}",
-    "\u{AC00}",
-    "\u{D55C}",
-    "\u{1F600}",
-];
 
 /// What breaks it.
 const OTHERS: [&str; 18] = [
@@ -91,7 +79,7 @@ fn pieces_end_near_a_break(rt: HostRuntime) -> Result<(), Fail> {
     let unchanged = Plain::of(&rows).ok_or("not plain")?;
     for (i, other) in OTHERS.iter().enumerate() {
         for (k, count) in COUNTS.iter().enumerate() {
-            for plain in [PLAIN[0], PLAIN[1 + (i + k) % 6]] {
+            for plain in [CALM[0], CALM[1 + (i + k) % 9]] {
                 let broken = Broken {
                     plain,
                     len: FAR,
@@ -134,7 +122,7 @@ fn blocks_end_near_a_break(rt: HostRuntime) -> Result<(), Fail> {
     for (i, other) in OTHERS.iter().enumerate() {
         for len in BLOCK - FAR..=BLOCK + FAR {
             let broken = Broken {
-                plain: PLAIN[(len + i) % 7],
+                plain: CALM[(len + i) % 10],
                 len,
                 other: *other,
                 marks: MARKS[(len + i) % 3],
@@ -148,55 +136,6 @@ fn blocks_end_near_a_break(rt: HostRuntime) -> Result<(), Fail> {
                 assert!(rt; answer.is_ok(), "{broken:?}: {answer:?}");
             }
         }
-    }
-    Ok(())
-}
-
-/// Ill-formed bytes at each place about the end of a piece, and of a block, and a text that ends there inside a character.
-#[test]
-fn ill_formed_bytes_break_a_run(rt: HostRuntime) -> Result<(), Fail> {
-    let alloc = rt.alloc();
-    let rows = Patched::new(&[]);
-    let unchanged = Plain::of(&rows).ok_or("not plain")?;
-    for plain in PLAIN {
-        for len in [FAR, BLOCK - FAR, BLOCK, BLOCK + FAR] {
-            let text = filled(alloc, plain, len)?;
-            let start = BASE + len as u64;
-            for (bad, place) in BAD {
-                let fault = Fault::BadByte {
-                    at: start + place,
-                    start,
-                };
-                check_fault(&rt, alloc, unchanged, &text, bad, plain, fault)?;
-            }
-            for begun in BEGUN {
-                let at = start + begun.len() as u64;
-                let fault = Fault::Cut { at, start };
-                check_fault(&rt, alloc, unchanged, &text, begun, "", fault)?;
-            }
-        }
-    }
-    Ok(())
-}
-
-/// Cuts the bytes from 70 before those that are no text: at each place, or at each ninth of a long run, the forms in turn.
-fn check_fault(
-    rt: &impl Abort,
-    alloc: Global,
-    unchanged: Plain<'_, Patched<'_>>,
-    text: &[u8],
-    bad: &[u8],
-    behind: &str,
-    fault: Fault,
-) -> Result<(), AllocError> {
-    let bytes = [text, bad, behind.as_bytes()].concat(alloc)?;
-    let bytes = bytes.as_slice();
-    let step = if text.len() == FAR { 1 } else { 9 };
-    for at in (text.len().saturating_sub(FAR)..=bytes.len()).step_by(step) {
-        let (front, back) = bytes.split_at(at.min(bytes.len()));
-        let form = FORMS[at % 4];
-        let answer = same_over(rt, alloc, unchanged, form, &[front, back]);
-        assert_eq!(rt; answer, Err(fault), "{form:?}, cut at {at}");
     }
     Ok(())
 }

@@ -1,7 +1,6 @@
 //! Text that a form leaves as it stands, broken by what it does not: at each length, and about the end of a block.
 use crate::both_ways::same_over;
-use nf_filter::Fault;
-use nf_filter_fixtures::{BASE, FORMS, joined};
+use nf_filter_fixtures::{FORMS, joined};
 use nf_row::{Form, Patched, Plain};
 use std::alloc::{AllocError, Global};
 use std::process::Abort;
@@ -194,82 +193,6 @@ fn pieces_end_about_a_break_at_the_end_of_a_block(rt: HostRuntime) -> Result<(),
                 };
                 check_cuts(&rt, rt.alloc(), unchanged, *form, seam)?;
             }
-        }
-    }
-    Ok(())
-}
-
-/// Bytes that are ill-formed behind a character, and the place in them of the first that is.
-pub const BAD: [(&[u8], u64); 8] = [
-    (b"\xFF", 0),
-    (b"\x80", 0),
-    (b"\xC0\x80", 0),
-    (b"\xC3(", 1),
-    (b"\xE2\x82(", 2),
-    (b"\xED\xA0\x80", 1),
-    (b"\xF0\x90\x80\xC0", 3),
-    (b"\xF4\x90", 1),
-];
-
-/// Bytes of a character that is not whole.
-pub const BEGUN: [&[u8]; 4] = [b"\xC3", b"\xE2\x82", b"\xF0\x9F", b"\xF0\x9F\x98"];
-
-/// Lengths of calm text before bytes that are no text.
-const LENGTHS: [usize; 13] = [0, 1, 2, 3, 15, 16, 17, 31, 32, 33, 64, 100, 4096];
-
-#[test]
-fn ill_formed_bytes_have_their_places_behind_calm_text(rt: HostRuntime) -> Result<(), Fail> {
-    let alloc = rt.alloc();
-    let rows = Patched::new(&[]);
-    let unchanged = Plain::of(&rows).ok_or("not plain")?;
-    for calm in CALM {
-        for len in LENGTHS {
-            let text = filled(alloc, calm, len)?;
-            let start = BASE + len as u64;
-            for (bad, place) in BAD {
-                let fault = Fault::BadByte {
-                    at: start + place,
-                    start,
-                };
-                check_fault(&rt, alloc, unchanged, &text, bad, calm, fault)?;
-            }
-            for begun in BEGUN {
-                let at = start + begun.len() as u64;
-                check_fault(
-                    &rt,
-                    alloc,
-                    unchanged,
-                    &text,
-                    begun,
-                    "",
-                    Fault::Cut { at, start },
-                )?;
-            }
-        }
-    }
-    Ok(())
-}
-
-/// Checks that bytes behind a text are refused in that way, in one piece and in two, cut at each place about them.
-fn check_fault(
-    rt: &impl Abort,
-    alloc: Global,
-    unchanged: Plain<'_, Patched<'_>>,
-    text: &[u8],
-    bad: &[u8],
-    behind: &str,
-    fault: Fault,
-) -> Result<(), AllocError> {
-    let bytes = [text, bad, behind.as_bytes()].concat(alloc)?;
-    let bytes = bytes.as_slice();
-    let end = text.len().saturating_add(bad.len()).min(bytes.len());
-    for form in FORMS {
-        for at in text.len().saturating_sub(4)..=end {
-            let (front, back) = bytes.split_at(at);
-            assert_eq!(rt;
-                same_over(rt, alloc, unchanged, form, &[front, back]),
-                Err(fault)
-            );
         }
     }
     Ok(())

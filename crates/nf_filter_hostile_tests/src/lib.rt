@@ -14,6 +14,8 @@ mod calm;
 #[cfg(test)]
 mod closed;
 #[cfg(test)]
+mod ill_formed;
+#[cfg(test)]
 mod lying_rows;
 #[cfg(test)]
 mod mixtures;
