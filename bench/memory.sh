@@ -1,12 +1,13 @@
 #!/usr/bin/env bash
 # Peak resident memory and processor time of nfstream on a short and on a long stream of hostile text, as a Markdown table:
 #   bash bench/memory.sh [PROGRAM [MIB [MIB]]]
-# PROGRAM is ./nfstream of the repository; the long stream of a letter and its marks has 1024 MiB, that of each other kind 64.
+# PROGRAM is ./nfstream of the repository; the long stream of a letter and its marks has 1024 MiB, that of each other kind as
+# many, unless the last number says otherwise.
 # Needs GNU time (Debian's package time). Ends with status 1 where memory grows with the stream, or a program does not take all of it.
 set -uo pipefail
 bench=$(cd "$(dirname "$0")" && pwd)
 mib=${2:-1024}
-hostile=${3:-64}
+hostile=${3:-$mib}
 most_growth=1024 # KiB: what one run and another of a program that holds nothing may differ by
 
 . "$bench/setup.sh"
@@ -39,8 +40,15 @@ kinds=(
     "vowels|vowels of Hangul alone|"$'\u1161'
     "wide|characters of four bytes|"$'\U0001f600'
 )
-for kind in "${kinds[@]}"; do
+# And bytes that are no text, which --replace reads.
+ill_formed=(
+    "continuations|bytes 80 alone|\x80"
+    "begun|F0 90 80, again and again|\xf0\x90\x80"
+    "leads|bytes E0 alone|\xe0"
+)
+for kind in "${kinds[@]}" "${ill_formed[@]}"; do
     IFS='|' read -r name _ text <<< "$kind"
+    printf -v text %b "$text"
     repeat "$text" $((1024 * 1024 / $(printf %s "$text" | wc -c))) > "$scratch/$name"
 done
 
@@ -111,5 +119,9 @@ for kind in "${kinds[@]}"; do
             row "$hostile" "$title" nothing "$name" "$command"
         fi
     done
+done
+for kind in "${ill_formed[@]}"; do
+    IFS='|' read -r name title _ <<< "$kind"
+    row "$hostile" "$title" nothing "$name" convert --form nfc --replace
 done
 exit "$failed"
