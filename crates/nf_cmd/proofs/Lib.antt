@@ -6,5 +6,6 @@ mod LevelRows
 mod Requests
 mod AnswerLemmas
 mod SoundLemmas
+mod AgainLemmas
 mod CodeDigits
 mod Examples

@@ -9,3 +9,4 @@ pub mod Checks
 pub mod Measures
 pub mod Tests
 pub mod Answers
+pub mod Again

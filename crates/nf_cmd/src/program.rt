@@ -5,6 +5,7 @@ ghost use Rattle.clap.specs.Walk.{texts};
 ghost use Rattle.nf_cmd.specs.Line.{IsRefused as Refused};
 ghost use Rattle.nf_cmd.specs.Lines.{line_of, status_of};
 ghost use Rattle.nf_cmd.specs.Answers.{Answers, ComesOf, NeverRow};
+ghost use Rattle.nf_cmd.specs.Again.{ConvertsOnce, EachConvertsOnce};
 ghost use Rattle.nf_cmd.specs.Fronts.{AppendsFront};
 
 use crate::check::check;
@@ -17,8 +18,8 @@ use crate::writing::{write_front, write_whole};
 use arrayvec::ArrayVec;
 use clap::Error;
 use clap::error::ErrorKind;
-use nf_facts::laws::every_character_is_sound;
-use nf_filter::laws::no_sound_character_is_refused;
+use nf_facts::laws::{each_form_changes_a_text_once, every_character_is_sound};
+use nf_filter::laws::{no_sound_character_is_refused, what_was_finished_stays};
 use std::alloc::Global;
 use std::io::{Read, Write};
 
@@ -42,8 +43,15 @@ pub fn command<'w, I: Read, O: Write, E: Write>(
 
     // The command line is to blame only where clap's definition of it refuses the words.
     ensures refused { result ≡ 2 → Refused (texts words.entry.now) }
+
+    // A second run changes nothing of what `convert` wrote.
+    ensures again { ConvertsOnce (texts words.entry.now)
+        (record { input = I.remaining input.old; out = O.contents out.old; err = E.contents err.old })
+        (record { input = I.remaining input.new; out = O.contents out.new; err = E.contents err.new })
+        result }
 {
     no_character_is_refused();
+    what_was_converted_stays();
     match parse(alloc, words) {
         Ok(Request::Convert(form, policy)) => report(convert(form, policy, input, out), err),
         Ok(Request::Check) => report(check(input, out), err),
@@ -59,6 +67,14 @@ fn no_character_is_refused()
 {
     every_character_is_sound();
     no_sound_character_is_refused();
+}
+
+// What `convert` wrote without a fault is not changed by a second run.
+fn what_was_converted_stays()
+    ensures { EachConvertsOnce }
+{
+    each_form_changes_a_text_once();
+    what_was_finished_stays();
 }
 
 // Help goes to the output, and a mistake in the words to standard error.

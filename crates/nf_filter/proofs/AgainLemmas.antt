@@ -234,10 +234,11 @@ module _ (f : Form) (p : Properties) (old new : SinkState) where
   put-stays : (out whole : List ℕ) → whole ≡ out → Appends old.taken new.taken out → StaysAsItIs f p whole → AddsWhatStays f p old.taken new.taken
   put-stays out whole is given stays = (out, given, subst (StaysAsItIs f p) is stays)
 
-  pub adds_what_stays : (source left : SourceState) (result : Result Tally Fault) → OnOk result (DrivesOnce as_is f p [] source left old new) → OnOk result (AddsWhatStays f p old.taken new.taken)
-  adds_what_stays source left (Err fault) once = tt
-  adds_what_stays source left (Ok tally) once =
-      put-stays once.written.out _ (once.written.behind ∙ ap (λ l. l ++ once.written.out) (settled_utf8-none as_is f p)) once.written.given once.stays
+  pub adds_what_stays : (policy : Policy) (source left : SourceState) (result : Result Tally Fault) → OnOk result (DrivesOnce policy f p [] source left old new)
+      → OnOk result (AddsWhatStays f p old.taken new.taken)
+  adds_what_stays policy source left (Err fault) once = tt
+  adds_what_stays policy source left (Ok tally) once =
+      put-stays once.written.out _ (once.written.behind ∙ ap (λ l. l ++ once.written.out) (settled_utf8-none policy f p)) once.written.given once.stays
 
   -- ---- of bytes that were all there was
 

@@ -30,3 +30,18 @@ pub returns-in-Ok-Test-clause-answer : goal.returns-in-Ok-Test-clause-answer
 returns-in-Ok-Test-clause-answer g c =
     let asks = subst (Asks _) c.in-Ok-Test.field-0-is c.in-Ok-Test.ensures.asked in
     done_answers c.no_character_is_refused.ensures _ Test _ _ _ _ asks c.test.ensures c.report-in-Ok-Test.ensures.status c.report-in-Ok-Test.ensures.line
+
+pub returns-in-Err-clause-again : goal.returns-in-Err-clause-again
+returns-in-Err-clause-again g c = c.what_was_converted_stays.ensures _ _ _ _
+
+pub returns-in-Ok-Convert-clause-again : goal.returns-in-Ok-Convert-clause-again
+returns-in-Ok-Convert-clause-again g c = c.what_was_converted_stays.ensures _ _ _ _
+
+pub returns-in-Ok-Check-clause-again : goal.returns-in-Ok-Check-clause-again
+returns-in-Ok-Check-clause-again g c = c.what_was_converted_stays.ensures _ _ _ _
+
+pub returns-in-Ok-Measure-clause-again : goal.returns-in-Ok-Measure-clause-again
+returns-in-Ok-Measure-clause-again g c = c.what_was_converted_stays.ensures _ _ _ _
+
+pub returns-in-Ok-Test-clause-again : goal.returns-in-Ok-Test-clause-again
+returns-in-Ok-Test-clause-again g c = c.what_was_converted_stays.ensures _ _ _ _
