@@ -20,7 +20,7 @@ pub fn valid_len(bytes: &[u8]) -> usize
 }
 
 /// The first part has about this many bytes, and each behind it four times as many as the one before, up to `LARGEST`.
-const SMALLEST: usize = 256;
+const SMALLEST: usize = 16;
 
 const LARGEST: usize = 65536;
 
