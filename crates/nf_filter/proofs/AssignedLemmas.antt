@@ -7,13 +7,14 @@ use Rattle.nf_forms.specs.declared.form.Form.{Form}
 use Rattle.nf_utf8.specs.Ending.{Ending, Whole, Bad, Cut}
 use Rattle.nf_utf8.specs.Reading.{ending_of}
 use Rattle.nf_filter.specs.declared.fault.Fault.{Fault}
-use Rattle.nf_filter.specs.declared.fault.Fault.TheVariants.{Row, Unassigned}
+use Rattle.nf_filter.specs.declared.fault.Fault.TheVariants.{Row, Write, Unassigned}
 use Rattle.nf_filter.specs.declared.policy.Policy.{Policy}
 use Rattle.nf_filter.specs.declared.tally.Tally.{Tally}
 use Rattle.nf_filter.specs.Devices.{SinkState, SourceState}
 use Rattle.nf_filter.specs.Drives.{Drives}
+use Rattle.nf_filter.specs.Feeds.{Feeds}
 use Rattle.nf_filter.specs.Faults.{answer_at_end, bad_byte, bad_under, first_fault, fault_in}
-use Rattle.nf_filter.specs.Finishes.{tally_of, answer_or, end_under, end_of}
+use Rattle.nf_filter.specs.Finishes.{Finishes, tally_of, answer_or, end_under, end_of}
 use Rattle.nf_filter.specs.Policy.{len_under, text_under, whole_under}
 use Rattle.nf_filter.specs.Settled.{is_usable, usable}
 
@@ -27,7 +28,7 @@ module _ (p : Properties) (policy : Policy) (all : policy.assigned ≡ false) (b
       next true e = not e
       next false e = cc
 
-  pub not_unassigned : (bytes : List ℕ) → ¬ (fault_in policy p base bytes ≡ Some (Unassigned at))
+  not_unassigned : (bytes : List ℕ) → ¬ (fault_in policy p base bytes ≡ Some (Unassigned at))
   unfolding fault_in
   not_unassigned bytes = not_in_text policy.assigned all (λ front. base + len_under policy.replace bytes front) (text_under policy.replace bytes) (bad_under policy.replace base bytes) (not_bad policy.replace)
     where
@@ -57,9 +58,17 @@ module _ (p : Properties) (policy : Policy) (all : policy.assigned ≡ false) (b
       by_replace false e = cut (tally_of false p bytes) (ending_of bytes) e
       by_replace true e = told _ (tally_of true p bytes) (not_in_text policy.assigned all (λ front. base + len_under true bytes front) (whole_under true bytes) None (λ e. cc)) e
 
-  pub Drives-assigned : (most : ℕ) (f : Form) (bytes : List ℕ) (source left : SourceState) (old new : SinkState) (result : Result Tally Fault) → Drives most policy f p base bytes source left old new result
+  pub not_fed_unassigned : (f : Form) (bytes piece : List ℕ) (old new : SinkState) (result : Result (Unit {0}) Fault) → Feeds policy f p base bytes piece old new result → ¬ (result ≡ Err (Unassigned at))
+  not_fed_unassigned f bytes piece old new result feeds refused =
+      not_unassigned (bytes ++ piece) (sym (feeds.answer (λ e. let both : Err Write ≡ Err (Unassigned at) = sym e ∙ refused in cc)) ∙ ap result_err refused)
+
+  pub not_finished_unassigned : (f : Form) (bytes : List ℕ) (old new : SinkState) (result : Result Tally Fault) → Finishes policy f p base bytes old new result → ¬ (result ≡ Err (Unassigned at))
+  not_finished_unassigned f bytes old new result finishes refused =
+      not_at_end bytes (sym (finishes.answer (λ e. let both : Err Write ≡ Err (Unassigned at) = sym e ∙ refused in cc)) ∙ refused)
+
+  pub not_driven_unassigned : (most : ℕ) (f : Form) (bytes : List ℕ) (source left : SourceState) (old new : SinkState) (result : Result Tally Fault) → Drives most policy f p base bytes source left old new result
       → ¬ (result ≡ Err (Unassigned at))
-  Drives-assigned most f bytes source left old new result drives refused = by_end left.is_at_end refl
+  not_driven_unassigned most f bytes source left old new result drives refused = by_end left.is_at_end refl
     where
       read : List ℕ
       read = bytes ++ drives.fed

@@ -1,4 +1,5 @@
 -- Laws of what is settled. `src/laws.rt` has each as a contract.
+pub mod Assigned
 pub mod Settled
 pub mod Soundness
 use Rattle.std.specs.Prelude.{◌≡◌, ℕ, ◌+◌, ◌≤◌, List, ◌++◌, length, IsTrue}

@@ -1,5 +1,6 @@
 //! Laws of what a filter writes, holds back and refuses, each the contract of a function without a body.
 ghost use Rattle.nf_filter.specs.Laws.{SettledOnlyGrows, LittleIsHeldBack, RunsStayShort};
+ghost use Rattle.nf_filter.specs.Laws.Assigned.{FeedingFindsAllAssigned, FinishingFindsAllAssigned, DrivingFindsAllAssigned};
 ghost use Rattle.nf_filter.specs.Laws.Soundness.{FeedingRefusesNone, DrivingRefusesNone, CheckingRefusesNone, MeasuringRefusesNone};
 ghost use Rattle.nf_filter.specs.Again.{FinishedStays};
 
@@ -27,6 +28,13 @@ pub fn no_sound_character_is_refused()
     ensures driving { DrivingRefusesNone }
     ensures checking { CheckingRefusesNone }
     ensures measuring { MeasuringRefusesNone }
+{}
+
+/// Where the policy does not ask for assigned characters, `Unassigned` is never answered.
+pub fn unassigned_is_told_where_asked()
+    ensures feeding { FeedingFindsAllAssigned }
+    ensures finishing { FinishingFindsAllAssigned }
+    ensures driving { DrivingFindsAllAssigned }
 {}
 
 /// What a filter wrote to an end without a fault is the UTF-8 of a text in the Stream-Safe Text Format, and a second filter

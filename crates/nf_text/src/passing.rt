@@ -4,7 +4,7 @@ ghost use Rattle.nf_filter.specs.Again.{AddsWhatStays};
 ghost use Rattle.nf_text.specs.Whole.{IsOfText, PassesWhole};
 
 use nf_facts::laws::{each_form_changes_a_text_once, every_character_is_sound};
-use nf_filter::laws::no_sound_character_is_refused;
+use nf_filter::laws::{no_sound_character_is_refused, unassigned_is_told_where_asked};
 use nf_filter::{Fault, FromReader, Tally, ToWriter, run};
 use nf_row::{Form, Ucd};
 use nf_utf8::laws::longest_text;
@@ -30,6 +30,7 @@ pub fn pass<R: Read, W: Write>(form: Form, reader: R, writer: W) -> Passed<R, W>
     every_character_is_sound();
     each_form_changes_a_text_once();
     no_sound_character_is_refused();
+    unassigned_is_told_where_asked();
     let mut source = FromReader::new(reader);
     let mut sink = ToWriter::new(writer);
     let answer = run(&Ucd, form, 0, &mut source, &mut sink);

@@ -1,13 +1,11 @@
 use Rattle.std.proofs.Common.{refl, rules}
-use Rattle.nf_filter.specs.Policy.{as_is}
-use Rattle.nf_filter.proofs.AssignedLemmas.{Drives-assigned}
 use Rattle.nf_text.proofs.WholeLemmas.{whole, faults}
 use Rattle.nf_text.proofs.passing.pass.Goals as goal
 
 pub returns-clause-faults : goal.returns-clause-faults
 returns-clause-faults g c =
     faults _ c.run-answer.ensures.unspent (c.no_sound_character_is_refused.ensures.driving _ _ _ _ _ _ _ _ _ _ _ c.every_character_is_sound.ensures.character c.run-answer.ensures.drives)
-    (λ at. Drives-assigned _ as_is refl _ at _ _ _ _ _ _ _ _ c.run-answer.ensures.drives)
+    (c.unassigned_is_told_where_asked.ensures.driving _ _ _ _ _ _ _ _ _ _ _ refl c.run-answer.ensures.drives)
 
 pub returns-clause-whole : goal.returns-clause-whole
 returns-clause-whole g c =
