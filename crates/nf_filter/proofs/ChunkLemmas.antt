@@ -21,7 +21,7 @@ use Rattle.nf_filter.specs.declared.policy.Policy.{Policy}
 use Rattle.nf_filter.specs.declared.reading.Reading.{Reading}
 use Rattle.nf_filter.specs.Block.{Start, BlockState}
 use Rattle.nf_filter.specs.Faults.{bad_byte, bad_under, first_fault, fault_in}
-use Rattle.nf_filter.specs.Feeding.{taken_utf8, TakesAllowed, IsLeft, HasReadTo, ReadsTo, RefusesBytes}
+use Rattle.nf_filter.specs.Feeding.{taken_utf8, TakesAllowed, IsLeft, HasReadTo, ReadsTo, ReadsToPart, RefusesBytes}
 use Rattle.nf_filter.specs.Normalizer.{HasTaken, IsPlacedAt, settled_text}
 use Rattle.nf_filter.specs.Policy.{allowed, len_under, text_under}
 use Rattle.nf_filter.specs.Settled.{usable}
@@ -209,19 +209,22 @@ module _ (policy : Policy) (f : Form) (p : Properties) (base : ℕ) (bytes : Lis
 
             -- it was taken
             pub part-read : (next : Reading) → TakesAllowed policy.assigned f p last start final (λ front. base + len_under policy.replace bytes front) ((taken_text ++ next_text) ++ replacement ∷ []) (Ok tt)
-                → DecoderStandsAfter next.decoder [] → next.offset ≡ reading.offset + len → text_of [] ≡ [] → ReadsTo policy f p last start final base next bytes (drop len rest)
+                → DecoderStandsAfter next.decoder [] → next.offset ≡ reading.offset + len → text_of [] ≡ [] → ReadsToPart policy f p last start final base next bytes (drop len rest)
             part-read next takes decoder offset none =
                 let whole : (taken_text ++ next_text) ++ replacement ∷ [] ≡ (read.before ++ own) ++ text_of [] = behind_is ∙ sym (ap (λ l. (read.before ++ own) ++ l) none ∙ append-nil (read.before ++ own)) in (
-                  record {
-                    before = read.before ++ own;
-                    n = read.n + (length read.tail + len);
-                    tail = [];
-                    left = left_behind;
-                    decoder = decoder;
-                    good = λ n. ap (bad_byte n) ending_of-none;
-                    offset = omega (arith, offset, read.offset);
-                    taken = subst (HasTaken f p last) whole takes.taken.0;
-                    allowed = subst (λ x. allowed policy.assigned p x ≡ x) whole takes.taken.1;
-                  },
-                  Written-at (ap (settled_text f p) whole) (TakesAllowed-settled f p last start final (λ front. base + len_under policy.replace bytes front) policy.assigned ((taken_text ++ next_text) ++ replacement ∷ []) tt takes),
+                  (
+                    record {
+                      before = read.before ++ own;
+                      n = read.n + (length read.tail + len);
+                      tail = [];
+                      left = left_behind;
+                      decoder = decoder;
+                      good = λ n. ap (bad_byte n) ending_of-none;
+                      offset = omega (arith, offset, read.offset);
+                      taken = subst (HasTaken f p last) whole takes.taken.0;
+                      allowed = subst (λ x. allowed policy.assigned p x ≡ x) whole takes.taken.1;
+                    },
+                    Written-at (ap (settled_text f p) whole) (TakesAllowed-settled f p last start final (λ front. base + len_under policy.replace bytes front) policy.assigned ((taken_text ++ next_text) ++ replacement ∷ []) tt takes),
+                  ),
+                  refl,
                 )

@@ -136,10 +136,10 @@ module _ (p : Properties) (f : Form) where
       nothing Nfkc = refl
       nothing Nfkd = refl
 
-  Written-whole : (start : Start) (now : BlockState) (w a : List ℕ) → Written (past start w) now a → Written start now (w ++ a)
+  pub Written-whole : (start : Start) (now : BlockState) (w a : List ℕ) → Written (past start w) now a → Written start now (w ++ a)
   Written-whole start now w a written = record { given = written.given; puts = written.puts; text = sym (append_assoc start.ahead w a) ∙ written.text }
 
-  Broken-whole : (start : Start) (now : BlockState) (w a : List ℕ) → Broken (past start w) now a → Broken start now (w ++ a)
+  pub Broken-whole : (start : Start) (now : BlockState) (w a : List ℕ) → Broken (past start w) now a → Broken start now (w ++ a)
   Broken-whole start now w a broken = subst (λ l. BreaksOff start.sink now.sink start.before l) (append_assoc start.ahead w a) broken
 
   -- the UTF-8 of all that is due before c

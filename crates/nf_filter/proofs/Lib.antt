@@ -13,6 +13,8 @@ pub mod PlainLemmas
 pub mod AllowingLemmas
 pub mod PieceLemmas
 pub mod ChunkLemmas
+pub mod BrokenLemmas
+pub mod ReplacingLemmas
 pub mod FedLemmas
 pub mod ReadingLemmas
 pub mod SourcesLemmas

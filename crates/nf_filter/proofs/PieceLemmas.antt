@@ -51,7 +51,7 @@ module _ (r : Bool) (bytes x : List ℕ) (n : ℕ) (left : List ℕ) (is : IsLef
   pub left-whole : whole_under r bytes ≡ x ++ whole_under r left
   left-whole = ap (whole_under r) (sym (append-nil bytes)) ∙ is.whole [] ∙ ap (λ l. x ++ whole_under r l) (append-nil left)
 
-take_past : (a b : List Part) (k : ℕ) → take (length a + k) (a ++ b) ≡ a ++ take k b
+pub take_past : (a b : List Part) (k : ℕ) → take (length a + k) (a ++ b) ≡ a ++ take k b
 take_past [] b k = ap (λ n. take n b) (let same : 0 + k ≡ k = omega arith in same)
 take_past (part ∷ a) b k = ap (λ n. take n (part ∷ (a ++ b))) (let same : length (part ∷ a) + k ≡ suc (length a + k) = omega arith in same) ∙ ap (λ l. part ∷ l) (take_past a b k)
 

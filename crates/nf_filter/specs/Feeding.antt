@@ -57,6 +57,11 @@ abbrev pub ReadsTo : Policy → Form → Properties → Normalizer → Start →
 ReadsTo policy f p normalizer start now base reading bytes rest =
     (read : HasReadTo policy f p normalizer base reading bytes rest) × Written start now (settled_text f p (read.before ++ text_of read.tail))
 
+-- the same right behind a part that was replaced, so that the decoder is as a new one
+abbrev pub ReadsToPart : Policy → Form → Properties → Normalizer → Start → BlockState → ℕ → Reading → List ℕ → List ℕ → Type 0
+ReadsToPart policy f p normalizer start now base reading bytes rest =
+    (both : ReadsTo policy f p normalizer start now base reading bytes rest) × (both.0.tail ≡ [])
+
 -- or reading them was refused
 pub record RefusesBytes (policy : Policy) (f : Form) (p : Properties) (start : Start) (now : BlockState) (base : ℕ) (bytes : List ℕ) (fault : Fault) : Type 0 where
   pub broken : fault ≡ Write → Broken start now (taken_utf8 policy.assigned f p (text_under policy.replace bytes))
@@ -66,8 +71,13 @@ pub record RefusesBytes (policy : Policy) (f : Form) (p : Properties) (start : S
 -- all of the rest was read, or a front of it, or it was refused
 abbrev pub ReadsChunk : Policy → Form → Properties → Normalizer → Start → BlockState → ℕ → Reading → List ℕ → Result (Option (Bor (List ℕ))) Fault → Type 0
 ReadsChunk policy f p normalizer start now base reading bytes (Ok None) = ReadsTo policy f p normalizer start now base reading bytes []
-ReadsChunk policy f p normalizer start now base reading bytes (Ok (Some rest)) = ReadsTo policy f p normalizer start now base reading bytes rest.now
+ReadsChunk policy f p normalizer start now base reading bytes (Ok (Some rest)) = ReadsToPart policy f p normalizer start now base reading bytes rest.now
 ReadsChunk policy f p normalizer start now base reading bytes (Err fault) = RefusesBytes policy f p start now base bytes fault
+
+-- the same right behind such a part
+abbrev pub ReadsBroken : Policy → Form → Properties → Normalizer → Start → BlockState → ℕ → Reading → List ℕ → Result (Bor (List ℕ)) Fault → Type 0
+ReadsBroken policy f p normalizer start now base reading bytes (Ok rest) = ReadsTo policy f p normalizer start now base reading bytes rest.now
+ReadsBroken policy f p normalizer start now base reading bytes (Err fault) = RefusesBytes policy f p start now base bytes fault
 
 abbrev pub ReadsRest : Policy → Form → Properties → Normalizer → Start → BlockState → ℕ → Reading → List ℕ → Result (Unit {0}) Fault → Type 0
 ReadsRest policy f p normalizer start now base reading bytes (Ok _) = ReadsTo policy f p normalizer start now base reading bytes []

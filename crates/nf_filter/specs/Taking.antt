@@ -16,10 +16,10 @@ abbrev pub TakesUsable : {T : Type 0} → Form → Properties → Normalizer →
 TakesUsable f p normalizer start now z (Ok _) = HasTaken f p normalizer z × Written start now (settled_text f p z)
 TakesUsable f p normalizer start now z (Err _) = (is_usable p z ≡ true) × Broken start now (settled_text f p z)
 
--- the ASCII text y was taken behind x, or the sink failed
-abbrev pub TakesAscii : {T : Type 0} → Form → Properties → Normalizer → Start → BlockState → List ℕ → List ℕ → Result T Failed → Type 0
-TakesAscii f p normalizer start now x y (Ok _) = HasTaken f p normalizer (x ++ y) × Written start now (settled_text f p (x ++ y))
-TakesAscii f p normalizer start now x y (Err _) = (is_usable p (x ++ y) ≡ true) × Broken start now (settled_text f p (x ++ y))
+-- the text y was taken behind x, or the sink failed
+abbrev pub TakesBehind : {T : Type 0} → Form → Properties → Normalizer → Start → BlockState → List ℕ → List ℕ → Result T Failed → Type 0
+TakesBehind f p normalizer start now x y (Ok _) = HasTaken f p normalizer (x ++ y) × Written start now (settled_text f p (x ++ y))
+TakesBehind f p normalizer start now x y (Err _) = (is_usable p (x ++ y) ≡ true) × Broken start now (settled_text f p (x ++ y))
 
 -- behind x a front of the text was taken; `rest` is what stands behind that
 pub record HasTakenFront (f : Form) (p : Properties) (normalizer : Normalizer) (start : Start) (now : BlockState) (x text rest : List ℕ) : Type 0 where

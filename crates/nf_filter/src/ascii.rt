@@ -17,7 +17,7 @@ impl Normalizer {
     ghost use Rattle.nf_forms.specs.StreamSafe.{stream_safe};
     ghost use Rattle.nf_filter.specs.Block.{Start, block_state, Written};
     ghost use Rattle.nf_filter.specs.Normalizer.{HasTaken, IsWithin, settled_text};
-    ghost use Rattle.nf_filter.specs.Taking.{TakesAscii};
+    ghost use Rattle.nf_filter.specs.Taking.{TakesBehind};
 
     /// The ASCII character that is pending alone, where ASCII is known to be plain.
     #[inline]
@@ -60,7 +60,7 @@ impl Normalizer {
         ensures takes { let p = R.properties _rows.now in
             (f : Form) (x : List ℕ) (start : Start) → HasTaken f p self.old x → back p (finished f p (decomposed f p (stream_safe p x))) ≡ starter ∷ []
             → Written start (block_state S.state block.old) (settled_text f p x)
-            → TakesAscii f p self.new start (block_state S.state block.new) x (take len text.now) result }
+            → TakesBehind f p self.new start (block_state S.state block.new) x (take len text.now) result }
         ensures lent { (block.new.sink.ghost_name ≡ block.old.sink.ghost_name) × ((S.state block.new.sink.now).lender ≡ (S.state block.old.sink.now).lender) }
     {
         let (run, rest) = text.split_at(len);

@@ -62,7 +62,11 @@ impl Normalizer {
     }
 
     /// Writes all that is pending. The normalizer is then as a new one.
-    fn settle<R: Rows, S: Sink>(&mut self, rows: &R, block: &mut Block<'_, S>) -> Result<(), Failed>
+    pub(crate) fn settle<R: Rows, S: Sink>(
+        &mut self,
+        rows: &R,
+        block: &mut Block<'_, S>,
+    ) -> Result<(), Failed>
         ensures anew { (f : Form) (x : List ℕ) → HasTaken f (R.properties rows.now) self.old x → HasTaken f (R.properties rows.now) self.new [] }
         ensures within { IsWithin self.new }
         ensures form { self.new.form ≡ self.old.form }

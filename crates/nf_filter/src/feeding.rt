@@ -76,7 +76,12 @@ impl Reading {
         let mut rest = piece;
         loop {
             match self.read_chunk(policy, rows, rest, normalizer, block) {
-                Ok(Some(behind)) => rest = behind,
+                Ok(Some(behind)) => {
+                    match self.read_broken(policy, rows, behind, normalizer, block) {
+                        Ok(behind) => rest = behind,
+                        Err(fault) => return Err(fault),
+                    }
+                }
                 Ok(None) => return Ok(()),
                 Err(fault) => return Err(fault),
             }

@@ -21,6 +21,7 @@ mod policy;
 mod pushing;
 mod reading;
 mod refusal;
+mod replacing;
 mod sources;
 mod taker;
 mod taking;

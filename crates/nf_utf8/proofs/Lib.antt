@@ -1,5 +1,6 @@
 mod AsciiLemmas
 mod BegunLen
+mod BrokenLemmas
 mod CountingLemmas
 mod Endings
 mod Fronts

@@ -12,6 +12,7 @@
 #![tactic(auto)]
 
 mod ascii;
+mod broken;
 mod carry;
 mod chunk;
 mod counting;
@@ -23,6 +24,7 @@ mod step;
 mod valid;
 
 pub use ascii::ascii_prefix;
+pub use broken::{Broken, broken_front};
 pub use chunk::{Chunk, End};
 pub use counting::char_count;
 pub use decoder::Decoder;

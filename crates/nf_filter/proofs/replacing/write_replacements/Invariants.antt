@@ -1,0 +1,10 @@
+use Rattle.std.proofs.Common.{◌≡◌, List, ℕ, ◌++◌, encode_utf8_all}
+use Rattle.nf_utf8.specs.Broken.{replacements}
+use Rattle.nf_filter.specs.Block.{Start, block_state, Written}
+use Rattle.nf_filter.proofs.replacing.write_replacements.Given as goal
+
+abbrev pub invariant-loop : goal.invariant-loop
+invariant-loop g l = record {
+  writes : (start : Start) (w : List ℕ) → Written start (block_state g.S.Sink.state l.fn.block) w → Written start (block_state g.S.Sink.state l.block) (w ++ encode_utf8_all (replacements l.counter));
+  lent : (l.block.sink.ghost_name ≡ l.fn.block.sink.ghost_name) × ((g.S.Sink.state l.block.sink.now).lender ≡ (g.S.Sink.state l.fn.block.sink.now).lender);
+}

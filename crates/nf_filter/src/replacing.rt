@@ -1,0 +1,124 @@
+//! Ill-formed parts that come one behind the other, each read as U+FFFD: they are taken at once where a text may be cut
+//! before that character (UAX #15, section 9).
+ghost use Rattle.std.specs.Prelude.{◌≡◌, ◌+◌, ℕ, List, ◌++◌, encode_utf8_all};
+ghost use Rattle.nf_utf8.specs.Broken.{replacements};
+ghost use Rattle.nf_filter.specs.Block.{Start, block_state, Written, WritesOn};
+
+use crate::block::Block;
+use crate::devices::{Failed, Sink};
+use crate::fault::Fault;
+use crate::normalizer::Normalizer;
+use crate::policy::Policy;
+use crate::reading::Reading;
+use nf_row::{Kind, Rows};
+use nf_utf8::{broken_front, laws};
+
+/// So many parts are taken at once, at most.
+const MOST: usize = 1024;
+
+impl Reading {
+    ghost use Rattle.std.specs.Prelude.{◌≡◌, ◌+◌, ◌≤◌, ℕ, List, [], length, IfErr, IfOk, OnOk};
+    ghost use Rattle.nf_forms.specs.declared.form.Form.{Form};
+    ghost use Rattle.nf_filter.specs.Block.{Start, block_state};
+    ghost use Rattle.nf_filter.specs.Faults.{IsOfReading};
+    ghost use Rattle.nf_filter.specs.Feeding.{ReadsTo, ReadsBroken};
+    ghost use Rattle.nf_filter.specs.Normalizer.{ends_at};
+    ghost use Rattle.nf_filter.specs.Taker.{IsReady};
+
+    /// Behind a part that was replaced, reads the parts that come next and are replaced too. Answers what stands behind
+    /// them.
+    pub(crate) fn read_broken<'p, R: Rows, S: Sink>(
+        &mut self,
+        policy: Policy,
+        rows: &R,
+        rest: &'p [u8],
+        normalizer: &mut Normalizer,
+        block: &mut Block<'_, S>,
+    ) -> Result<&'p [u8], Fault>
+        requires ready { IsReady (ends_at normalizer.old) self.old }
+        requires fits { self.old.offset + length rest.now ≤ u64.MAX }
+        ensures ready { OnOk result (IsReady (ends_at normalizer.new) self.new) }
+        ensures goes_on { IfOk result (λ behind. (self.new.offset + length behind.now ≡ self.old.offset + length rest.now) × (length behind.now ≤ length rest.now) × (self.new.decoder ≡ self.old.decoder)) }
+        ensures faults { IfErr result IsOfReading }
+        ensures reads { let p = R.properties rows.now in
+            (f : Form) (base : ℕ) (bytes : List ℕ) (start : Start) → (both : ReadsTo policy f p normalizer.old start (block_state S.state block.old) base self.old bytes rest.now) → both.0.tail ≡ []
+            → ReadsBroken policy f p normalizer.new start (block_state S.state block.new) base self.new bytes result }
+        ensures lent { (block.new.sink.ghost_name ≡ block.old.sink.ghost_name) × ((S.state block.new.sink.now).lender ≡ (S.state block.old.sink.now).lender) }
+    {
+        laws::replacing();
+        if !policy.replace || policy.assigned {
+            return Ok(rest);
+        }
+        let Kind::Parts = rows.kind(normalizer.form, char::REPLACEMENT_CHARACTER) else {
+            return Ok(rest);
+        };
+        let broken = broken_front(rest, MOST);
+        if broken.parts < 2 {
+            return Ok(rest);
+        }
+        if let Err(Failed) = normalizer.take_replacements(rows, broken.parts, block) {
+            return Err(Fault::Write);
+        }
+        self.offset += broken.len as u64;
+        Ok(&rest[broken.len..])
+    }
+}
+
+impl Normalizer {
+    ghost use Rattle.std.specs.Prelude.{◌≡◌, ◌+◌, ◌<◌, ◌≤◌, ℕ, List, OnOk};
+    ghost use Rattle.nf_forms.specs.declared.form.Form.{Form};
+    ghost use Rattle.nf_row.specs.Kind.{IsKnownParting};
+    ghost use Rattle.nf_utf8.specs.Broken.{replacements};
+    ghost use Rattle.nf_utf8.specs.Replaced.{replacement};
+    ghost use Rattle.nf_filter.specs.Block.{Start, block_state, Written};
+    ghost use Rattle.nf_filter.specs.Normalizer.{HasTaken, IsWithin, settled_text};
+    ghost use Rattle.nf_filter.specs.Taking.{TakesBehind};
+
+    /// Takes so many U+FFFD, where a text may be cut before that: all but the last go out as they are.
+    fn take_replacements<R: Rows, S: Sink>(
+        &mut self,
+        rows: &R,
+        count: usize,
+        block: &mut Block<'_, S>,
+    ) -> Result<(), Failed>
+        requires parts { IsKnownParting (R.properties rows.now) self.old.form replacement }
+        requires some { 1 < count }
+        requires within { IsWithin self.old }
+        requires fits { self.old.chars + count ≤ u64.MAX }
+        ensures within { OnOk result (IsWithin self.new) }
+        ensures chars { OnOk result (self.new.chars ≡ self.old.chars + count) }
+        ensures takes { let p = R.properties rows.now in
+            (f : Form) (x : List ℕ) (start : Start) → HasTaken f p self.old x → Written start (block_state S.state block.old) (settled_text f p x)
+            → TakesBehind f p self.new start (block_state S.state block.new) x (replacements count) result }
+        ensures lent { (block.new.sink.ghost_name ≡ block.old.sink.ghost_name) × ((S.state block.new.sink.now).lender ≡ (S.state block.old.sink.now).lender) }
+    {
+        let chars = self.chars;
+        let put = self.put;
+        if let Err(failed) = self.settle(rows, block) {
+            return Err(failed);
+        }
+        if let Err(failed) = write_replacements(count - 1, block) {
+            return Err(failed);
+        }
+        if let Err(_) = self.take_char(rows, char::REPLACEMENT_CHARACTER, block) {
+            return Err(Failed);
+        }
+        self.chars = chars + count as u64;
+        self.put = put;
+        Ok(())
+    }
+}
+
+/// Writes U+FFFD so many times.
+fn write_replacements<S: Sink>(count: usize, block: &mut Block<'_, S>) -> Result<(), Failed>
+    ensures writes { (start : Start) (w : List ℕ) → Written start (block_state S.state block.old) w
+        → WritesOn start (block_state S.state block.new) (w ++ encode_utf8_all (replacements count)) result }
+    ensures lent { (block.new.sink.ghost_name ≡ block.old.sink.ghost_name) × ((S.state block.new.sink.now).lender ≡ (S.state block.old.sink.now).lender) }
+{
+    for _ in 0..count {
+        if let Err(failed) = block.push_text("\u{FFFD}") {
+            return Err(failed);
+        }
+    }
+    Ok(())
+}

@@ -1,0 +1,37 @@
+use Rattle.std.proofs.Common.{◌≤◌, length, arith}
+use Rattle.std.proofs.lemmas.List.{take_rest}
+use Rattle.nf_utf8.proofs.ReplacedLemmas.{part_end-after}
+use Rattle.nf_utf8.proofs.BrokenLemmas.{no_part, one_more}
+use Rattle.nf_utf8.proofs.broken.broken_front.Goals as goal
+
+pub loop-parts-init : goal.loop-parts-init
+loop-parts-init c = record { few = omega arith; some = omega arith; broken = no_part c.args.bytes.now }
+
+pub slice_bounds-front-start : goal.slice_bounds-front-start
+slice_bounds-front-start c = c.loop-parts.invariant.broken.within
+
+pub loop-parts-preserved : goal.loop-parts-preserved
+loop-parts-preserved c =
+    let len = c.part_len-len.ensures in
+    let front = rw take_rest at (rw c.in-Bad.is at c.front.ensures) in
+    record {
+      few = omega (arith, c.loop-parts-test.true);
+      some = omega (arith, c.loop-parts.invariant.some, len, part_end-after c.in-Bad.at 0 (omega arith));
+      broken = rw len (one_more c.args.bytes.now c.loop-parts.parts c.loop-parts.len c.in-Bad.at c.in-Bad.back c.loop-parts.invariant.broken front);
+    }
+
+pub returns-after-loop-parts-clause-few : goal.returns-after-loop-parts-clause-few
+returns-after-loop-parts-clause-few c = c.loop-parts.invariant.few
+
+pub returns-after-loop-parts-clause-within : goal.returns-after-loop-parts-clause-within
+returns-after-loop-parts-clause-within c = (c.loop-parts.invariant.some, c.loop-parts.invariant.broken.within)
+
+pub returns-after-loop-parts-clause-broken : goal.returns-after-loop-parts-clause-broken
+returns-after-loop-parts-clause-broken c = c.loop-parts.invariant.broken
+
+pub returns-in_default : goal.returns-in_default
+returns-in_default c = record {
+  few = c.loop-parts.invariant.few;
+  within = (c.loop-parts.invariant.some, c.loop-parts.invariant.broken.within);
+  broken = c.loop-parts.invariant.broken;
+}

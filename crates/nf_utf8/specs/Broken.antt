@@ -1,0 +1,17 @@
+-- Ill-formed bytes that come one behind the other: each maximal subpart is read as U+FFFD (The Unicode Standard,
+-- section 3.9, "Substitution of Maximal Subparts").
+use Rattle.std.specs.Prelude.{◌≡◌, ◌≤◌, ℕ, zero, suc, List, [], ◌∷◌, ◌++◌, map, length, drop}
+use Rattle.nf_utf8.specs.Replaced.{Part, replacement, parts_of, bytes_in}
+
+-- U+FFFD so many times
+abbrev pub replacements : ℕ → List ℕ
+replacements zero = []
+replacements (suc n) = replacement ∷ replacements n
+
+-- whatever follows, the first `len` bytes give U+FFFD so many times, and what is behind them gives what it gives alone
+pub record IsBrokenFront (bytes : List ℕ) (count len : ℕ) : Type 0 where
+  pub parts : List Part
+  pub chars : map (λ part. part.char) parts ≡ replacements count
+  pub size : bytes_in parts ≡ len
+  pub within : len ≤ length bytes
+  pub front : (more : List ℕ) → parts_of (bytes ++ more) ≡ parts ++ parts_of (drop len bytes ++ more)
