@@ -1,0 +1,281 @@
+-- Lines, and what stands behind them.
+use Rattle.std.proofs.Common.{◌≡◌, ℕ, ◌+◌, ◌<◌, ◌==◌, ◌&&◌, Bool, true, false, List, [], ◌∷◌, ◌++◌, length, Option, Some, None, inl, inr, ⊎_elim, encode_utf8_all, refl, sym, ap, subst, ◌∙◌, arith, append_assoc, append-nil, length-append, eq-eqb, ne_eqb}
+use Rattle.std.specs.Prelude.{if◌then◌else◌}
+use Rattle.std.specs.List.{list_all}
+use Rattle.std.specs.Str.{chars}
+use Rattle.std.specs.Str.Lossy.{utf8_valid_len}
+use Rattle.std.specs.Result.{result_err}
+use Rattle.std.proofs.lemmas.Bool.{cases_Bool, eqb-true}
+use Rattle.std.proofs.lemmas.Str.{encodes-append}
+use Rattle.nf_forms.specs.Properties.{Properties}
+use Rattle.nf_forms.specs.declared.form.Form.{Form}
+use Rattle.nf_forms.specs.declared.form.Form.TheVariants.{Nfc, Nfd, Nfkc, Nfkd}
+use Rattle.nf_forms.specs.Order.{by_class}
+use Rattle.nf_forms.specs.Front.{front}
+use Rattle.nf_forms.specs.Runs.{has_starter}
+use Rattle.nf_forms.specs.StreamSafe.{stream_safe}
+use Rattle.nf_forms.specs.SafeForm.{safe_form}
+use Rattle.nf_forms.specs.Sound.{is_sound}
+use Rattle.nf_forms.specs.Closing.{IsClosing}
+use Rattle.nf_forms.specs.Parting.{IsParting}
+use Rattle.nf_forms.specs.Laws.Closing.{safe_form-closed}
+use Rattle.nf_forms.specs.Laws.Front.{front-append_some, front-at, front-none}
+use Rattle.nf_forms.specs.Laws.Parting.{safe_form-push}
+use Rattle.nf_utf8.specs.Ending.{Ending, Whole, Bad, Cut}
+use Rattle.nf_utf8.specs.Reading.{text_of, ending_of}
+use Rattle.nf_utf8.specs.Replaced.{parts_of, replaced, replaced_whole}
+use Rattle.nf_facts.specs.LineFeed.{line_feed}
+use Rattle.nf_filter.specs.declared.fault.Fault.{Fault}
+use Rattle.nf_filter.specs.declared.fault.Fault.TheVariants.{Row, Unassigned}
+use Rattle.nf_filter.specs.declared.policy.Policy.{Policy}
+use Rattle.nf_filter.specs.declared.tally.Tally.{Tally}
+use Rattle.nf_filter.specs.Laws.Settled.{text_under-none, settled_utf8-none}
+use Rattle.nf_filter.specs.Laws.Soundness.{AreSound}
+use Rattle.nf_filter.specs.Faults.{answer_at_end, bad_byte, bad_under, first_fault, fault_in}
+use Rattle.nf_filter.specs.Feeding.{IsLeft}
+use Rattle.nf_filter.specs.Finishes.{answer_or, end_under, end_of, final_under, final_utf8, is_taken, tally_of, whole_or}
+use Rattle.nf_filter.specs.Policy.{allowed, len_under, text_under, whole_under}
+use Rattle.nf_filter.specs.Settled.{is_usable, usable, settled, settled_utf8}
+use Rattle.nf_filter.proofs.PieceLemmas.{left-text}
+use Rattle.nf_filter.proofs.PolicyLemmas.{allowed-append, allowed-grows, allowed-none, first_fault-none}
+use Rattle.nf_filter.proofs.ReadingLemmas.{ending_of-none}
+use Rattle.nf_filter.proofs.SettledLemmas.{usable-all}
+use Rattle.nf_lines.specs.Cut.{EndsInLineFeed}
+use Rattle.nf_lines.specs.Alone.{end_fault, SameOrLineFeed, StandAlone}
+use Rattle.nf_lines.proofs.WholeParts.{Reading, line_encodes}
+use Rattle.nf_lines.proofs.WholeLines.{ReadsLines, strict_lines, replaced_lines}
+
+-- one length more on both sides
+eqb_past : (n a b : ℕ) → (n + a == n + b) ≡ (a == b)
+eqb_past n a b = by (a == b) refl
+  where
+    by : (t : Bool) → (a == b) ≡ t → (n + a == n + b) ≡ (a == b)
+    by true e = let same : a ≡ b = eqb-true a b e in eq-eqb (n + a) (n + b) (omega (arith, same)) ∙ sym e
+    by false e =
+        let differs : ¬ (a ≡ b) = λ same. (let t : (a == b) ≡ true = eq-eqb a b same in cc) in
+        ne_eqb (n + a) (n + b) (λ same. differs (omega (arith, same))) ∙ sym e
+
+-- the fault at the end, where a character that it cuts is one
+strict_end : (base : ℕ) (tally : Tally) (e : Ending) → result_err (answer_at_end base tally e) ≡ result_err (answer_at_end base (tt {0}) e)
+strict_end base tally Whole = refl
+strict_end base tally (Bad at start) = refl
+strict_end base tally (Cut at start) = refl
+
+strict_whole : (base : ℕ) (e : Ending) (settled whole : List ℕ) → result_err (answer_at_end base (tt {0}) e) ≡ None → whole_or e settled whole ≡ whole
+strict_whole base Whole settled whole none = refl
+strict_whole base (Bad at start) settled whole none = refl
+strict_whole base (Cut at start) settled whole none = cc
+
+answered : (o : Option Fault) (tally : Tally) → result_err (answer_or o tally) ≡ o
+answered None tally = refl
+answered (Some fault) tally = refl
+
+-- no bytes give nothing
+whole_under-none : (r : Bool) → whole_under r [] ≡ []
+unfolding text_of ending_of replaced replaced_whole parts_of chars utf8_valid_len
+whole_under-none false = refl
+whole_under-none true = refl
+
+-- and no form
+safe_form-none : (p : Properties) (f : Form) → safe_form f p [] ≡ []
+unfolding safe_form by_class
+safe_form-none p Nfc = refl
+safe_form-none p Nfd = refl
+safe_form-none p Nfkc = refl
+safe_form-none p Nfkd = refl
+
+pub final-none : (policy : Policy) (f : Form) (p : Properties) → final_utf8 policy f p [] ≡ []
+unfolding final_utf8
+final-none policy f p =
+    ap (final_under policy.replace policy.assigned p [] (settled_utf8 policy f p [])) (ap (λ x. encode_utf8_all (safe_form f p x)) (whole_under-none policy.replace) ∙ ap encode_utf8_all (safe_form-none p f))
+    ∙ ap (λ s. final_under policy.replace policy.assigned p [] s []) (settled_utf8-none policy f p) ∙ by policy.replace policy.assigned
+  where
+    by : (r a : Bool) → final_under r a p [] [] [] ≡ []
+    by false a = ap (λ e. whole_or e (let none : List ℕ = [] in none) []) ending_of-none
+    by true a = next (is_taken a p (whole_under true []))
+      where
+        next : (b : Bool) → (let none : List ℕ = [] in if b then none else none) ≡ []
+        next true = refl
+        next false = refl
+
+module _ (p : Properties) (sound : AreSound p) where
+  all_sound : (x : List ℕ) → list_all (is_sound p) x ≡ true
+  all_sound [] = refl
+  all_sound (c ∷ x) = ap (λ b. b && list_all (is_sound p) x) (sound c) ∙ all_sound x
+
+  usable_is : (x : List ℕ) → is_usable p x ≡ true
+  unfolding is_usable
+  usable_is x = all_sound (stream_safe p x)
+
+  -- without a fault all was taken
+  taken_all : (a : Bool) (place : List ℕ → ℕ) (x : List ℕ) (other : Option Fault) → first_fault a p place x other ≡ None → (allowed a p x ≡ x) × (other ≡ None)
+  taken_all false place x other none = (refl, sym (first_fault-none p false place x other (usable_is x) refl) ∙ none)
+  taken_all true place x other none = ⊎_elim
+      (λ all. (all, sym (first_fault-none p true place x other (usable_is x) all) ∙ none))
+      (λ less. absurd (some (sym (told less.0) ∙ none)))
+      (allowed-grows p true x [])
+    where
+      told : length (allowed true p x) < length x → first_fault true p place x other ≡ Some (Unassigned (place (allowed true p x)))
+      told less =
+          ap (λ (b : Bool). if b then (if length (allowed true p x) == length x then other else Some (Unassigned (place (allowed true p x)))) else Some (Row (place (usable p (allowed true p x))))) (usable_is (allowed true p x))
+          ∙ ap (λ (b : Bool). if b then other else Some (Unassigned (place (allowed true p x)))) (ne_eqb (length (allowed true p x)) (length x) (λ same. omega (arith, same, less)))
+
+      some : ¬ (Some (Unassigned (place (allowed true p x))) ≡ None)
+      some e = cc
+
+  -- behind a text that is taken the fault is that of the rest
+  fault_behind : (a : Bool) (x y : List ℕ) (place behind : List ℕ → ℕ) (other : Option Fault) → allowed a p x ≡ x → ((z : List ℕ) → place (x ++ z) ≡ behind z)
+      → first_fault a p place (x ++ y) other ≡ first_fault a p behind y other
+  fault_behind false x y place behind other all places =
+      first_fault-none p false place (x ++ y) other (usable_is (x ++ y)) refl ∙ sym (first_fault-none p false behind y other (usable_is y) refl)
+  fault_behind true x y place behind other all places =
+      let taken : allowed true p (x ++ y) ≡ x ++ allowed true p y = allowed-append p true x y all in
+      let told : (place : List ℕ → ℕ) (z : List ℕ) → first_fault true p place z other ≡ (if length (allowed true p z) == length z then other else Some (Unassigned (place (allowed true p z)))) =
+      λ place z. ap (λ (b : Bool). if b then (if length (allowed true p z) == length z then other else Some (Unassigned (place (allowed true p z)))) else Some (Row (place (usable p (allowed true p z))))) (usable_is (allowed true p z)) in
+      let same : (length (allowed true p (x ++ y)) == length (x ++ y)) ≡ (length (allowed true p y) == length y) =
+      (λ i. (ap length taken ∙ length-append x (allowed true p y)) i == length-append x y i) ∙ eqb_past (length x) (length (allowed true p y)) (length y) in
+      told place (x ++ y) ∙ (λ i. if same i then other else Some (Unassigned ((ap place taken ∙ places (allowed true p y)) i))) ∙ sym (told behind y)
+
+  -- where the end is no fault the whole form is written
+  module _ (f : Form) where
+    abbrev pub form_utf8 : Bool → List ℕ → List ℕ
+    form_utf8 r bytes = encode_utf8_all (safe_form f p (whole_under r bytes))
+
+    final_whole : (policy : Policy) (base : ℕ) (bytes : List ℕ) → end_fault policy p base bytes ≡ None → final_utf8 policy f p bytes ≡ form_utf8 policy.replace bytes
+    unfolding final_utf8 end_of
+    final_whole policy base bytes none = by policy.replace policy.assigned (settled_utf8 policy f p bytes) none
+      where
+        by : (r a : Bool) (s : List ℕ) → result_err (end_under r a p base bytes) ≡ None → final_under r a p bytes s (form_utf8 r bytes) ≡ form_utf8 r bytes
+        by false a s none = strict_whole base (ending_of bytes) s (form_utf8 false bytes) (sym (strict_end base (tally_of false p bytes) (ending_of bytes)) ∙ none)
+        by true a s none =
+            let all = taken_all a (λ front. base + len_under true bytes front) (whole_under true bytes) None (sym (answered _ (tally_of true p bytes)) ∙ none) in
+            ap (λ (b : Bool). if b && (length (allowed a p (whole_under true bytes)) == length (whole_under true bytes)) then form_utf8 true bytes else s) (usable_is (allowed a p (whole_under true bytes)))
+            ∙ ap (λ (b : Bool). if b then form_utf8 true bytes else s) (eq-eqb _ _ (ap length all.0))
+
+    settled_is : (policy : Policy) (bytes : List ℕ) → settled_utf8 policy f p bytes ≡ encode_utf8_all (front p (safe_form f p (allowed policy.assigned p (text_under policy.replace bytes))))
+    unfolding settled_utf8 settled
+    settled_is policy bytes = ap (λ x. encode_utf8_all (settled f p x)) (usable-all p (allowed policy.assigned p (text_under policy.replace bytes)) (usable_is (allowed policy.assigned p (text_under policy.replace bytes))))
+
+    -- ---- lines of which nothing is left
+    module _ (parting : IsParting p f line_feed) (closing : IsClosing p f line_feed) (policy : Policy) (base : ℕ) (lines rest : List ℕ) (read : ReadsLines policy.replace lines) (unfaulted : fault_in policy p base lines ≡ None) where
+      r : Bool
+      r = policy.replace
+
+      x : List ℕ
+      x = read.before ++ line_feed ∷ []
+
+      n : ℕ
+      n = length lines
+
+      text_is : text_under policy.replace lines ≡ read.before ++ line_feed ∷ []
+      text_is = left-text policy.replace lines (read.before ++ line_feed ∷ []) (length lines) [] read.left ∙ ap (λ l. (read.before ++ line_feed ∷ []) ++ l) (text_under-none policy.replace) ∙ append-nil (read.before ++ line_feed ∷ [])
+
+      taken : (allowed policy.assigned p (read.before ++ line_feed ∷ []) ≡ read.before ++ line_feed ∷ []) × (bad_under policy.replace base lines ≡ None)
+      unfolding fault_in
+      taken =
+          let all = taken_all policy.assigned (λ front. base + len_under policy.replace lines front) (text_under policy.replace lines) (bad_under policy.replace base lines) unfaulted in
+          (subst (λ z. allowed policy.assigned p z ≡ z) text_is all.0, all.1)
+
+      pub alone_fault : fault_in policy p base (lines ++ rest) ≡ fault_in policy p (base + length lines) rest
+      unfolding fault_in
+      alone_fault =
+          (λ i. first_fault policy.assigned p (λ front. base + len_under policy.replace (lines ++ rest) front) (read.left.text rest i) (read.left.bad base rest i))
+          ∙ fault_behind policy.assigned (read.before ++ line_feed ∷ []) (text_under policy.replace rest) (λ front. base + len_under policy.replace (lines ++ rest) front) (λ front. base + length lines + len_under policy.replace rest front)
+          (bad_under policy.replace (base + length lines) rest) taken.0 (λ z. omega (arith, read.left.place rest z))
+
+      end_behind : (more : List ℕ) → end_fault policy p base (lines ++ more) ≡ end_fault policy p (base + length lines) more
+      unfolding end_of
+      end_behind more = by policy.replace refl
+        where
+          by : (b : Bool) → policy.replace ≡ b → result_err (end_under b policy.assigned p base (lines ++ more)) ≡ result_err (end_under b policy.assigned p (base + length lines) more)
+          by false strict =
+              strict_end base (tally_of false p (lines ++ more)) (ending_of (lines ++ more)) ∙ ap result_err (read.left.end strict base more) ∙ sym (strict_end (base + length lines) (tally_of false p more) (ending_of more))
+          by true replaces =
+              let left = subst (λ b. IsLeft b lines (read.before ++ line_feed ∷ []) (length lines) []) replaces read.left in
+              answered _ (tally_of true p (lines ++ more))
+              ∙ ap (λ z. first_fault policy.assigned p (λ front. base + len_under true (lines ++ more) front) z None) (left.whole more)
+              ∙ fault_behind policy.assigned (read.before ++ line_feed ∷ []) (whole_under true more) (λ front. base + len_under true (lines ++ more) front) (λ front. base + length lines + len_under true more front)
+              None taken.0 (λ z. omega (arith, left.place more z))
+              ∙ sym (answered _ (tally_of true p more))
+
+      end_nothing : end_fault policy p (base + length lines) [] ≡ None
+      unfolding end_of
+      end_nothing = by policy.replace policy.assigned
+        where
+          by : (b a : Bool) → result_err (end_under b a p (base + length lines) []) ≡ None
+          by false a = ap (λ e. result_err (answer_at_end (base + length lines) (tally_of false p []) e)) ending_of-none
+          by true a =
+              let none = whole_under-none true in
+              answered _ (tally_of true p [])
+              ∙ first_fault-none p a (λ front. base + length lines + len_under true [] front) (whole_under true []) None (usable_is (whole_under true [])) (ap (allowed a p) none ∙ allowed-none p a ∙ sym none)
+
+      pub alone_whole : end_fault policy p base lines ≡ None
+      alone_whole = ap (end_fault policy p base) (sym (append-nil lines)) ∙ end_behind [] ∙ end_nothing
+
+      pub alone_end : end_fault policy p base (lines ++ rest) ≡ end_fault policy p (base + length lines) rest
+      alone_end = end_behind rest
+
+      whole_is : whole_under policy.replace lines ≡ read.before ++ line_feed ∷ []
+      whole_is = ap (whole_under policy.replace) (sym (append-nil lines)) ∙ read.left.whole [] ∙ ap (λ l. (read.before ++ line_feed ∷ []) ++ l) (whole_under-none policy.replace) ∙ append-nil (read.before ++ line_feed ∷ [])
+
+      lines_form : final_utf8 policy f p lines ≡ encode_utf8_all (safe_form f p (read.before ++ line_feed ∷ []))
+      lines_form = final_whole policy base lines alone_whole ∙ ap (λ z. encode_utf8_all (safe_form f p z)) whole_is
+
+      pub alone_final : end_fault policy p (base + length lines) rest ≡ None → final_utf8 policy f p (lines ++ rest) ≡ final_utf8 policy f p lines ++ final_utf8 policy f p rest
+      alone_final none =
+          let z : List ℕ = whole_under policy.replace rest in
+          final_whole policy base (lines ++ rest) (alone_end ∙ none)
+          ∙ ap (λ z. encode_utf8_all (safe_form f p z)) (read.left.whole rest)
+          ∙ ap encode_utf8_all (safe_form-closed p f line_feed closing read.before z)
+          ∙ encodes-append (safe_form f p (read.before ++ line_feed ∷ [])) (safe_form f p z)
+          ∙ (λ i. sym lines_form i ++ sym (final_whole policy (base + length lines) rest none) i)
+
+      pub alone_settled : SameOrLineFeed (settled_utf8 policy f p (lines ++ rest)) (final_utf8 policy f p lines ++ settled_utf8 policy f p rest)
+      alone_settled =
+          ⊎_elim (λ some. inl (some_starter some)) (λ none. inr (no_starter none)) (cases_Bool (has_starter p tail))
+        where
+          y : List ℕ
+          y = allowed policy.assigned p (text_under policy.replace rest)
+
+          head : List ℕ
+          head = safe_form f p (read.before ++ line_feed ∷ [])
+
+          tail : List ℕ
+          tail = safe_form f p (allowed policy.assigned p (text_under policy.replace rest))
+
+          all_settled : settled_utf8 policy f p (lines ++ rest) ≡ encode_utf8_all (front p (head ++ tail))
+          all_settled =
+              settled_is policy (lines ++ rest)
+              ∙ ap (λ z. encode_utf8_all (front p (safe_form f p z))) (ap (allowed policy.assigned p) (read.left.text rest) ∙ allowed-append p policy.assigned (read.before ++ line_feed ∷ []) (text_under policy.replace rest) taken.0)
+              ∙ ap (λ z. encode_utf8_all (front p z)) (safe_form-closed p f line_feed closing read.before (allowed policy.assigned p (text_under policy.replace rest)))
+
+          some_starter : has_starter p tail ≡ true → final_utf8 policy f p lines ++ settled_utf8 policy f p rest ≡ settled_utf8 policy f p (lines ++ rest)
+          some_starter some =
+              (λ i. lines_form i ++ settled_is policy rest i) ∙ sym (encodes-append head (front p tail)) ∙ ap encode_utf8_all (sym (front-append_some p head tail some)) ∙ sym all_settled
+
+          no_starter : has_starter p tail ≡ false → final_utf8 policy f p lines ++ settled_utf8 policy f p rest ≡ settled_utf8 policy f p (lines ++ rest) ++ line_feed ∷ []
+          no_starter none =
+              let before : List ℕ = safe_form f p read.before in
+              let pushed : head ≡ before ++ line_feed ∷ [] = safe_form-push p f line_feed parting read.before (all_sound (stream_safe p read.before)) in
+              let fronted : front p (head ++ tail) ≡ before =
+              ap (λ z. front p (z ++ tail)) pushed ∙ ap (front p) (append_assoc before (line_feed ∷ []) tail) ∙ front-at p before line_feed tail parting.starts none in
+              (λ i. (lines_form ∙ ap encode_utf8_all pushed ∙ encodes-append before (line_feed ∷ []) ∙ ap (λ z. encode_utf8_all before ++ z) line_encodes) i ++ (settled_is policy rest ∙ ap encode_utf8_all (front-none p tail none)) i)
+              ∙ append-nil (encode_utf8_all before ++ line_feed ∷ [])
+              ∙ ap (λ z. encode_utf8_all z ++ line_feed ∷ []) (sym fronted)
+              ∙ ap (λ z. z ++ line_feed ∷ []) (sym all_settled)
+
+      pub alone : StandAlone policy f p base lines rest
+      alone = record { whole = alone_whole; fault = alone_fault; end = alone_end; final = alone_final; settled = alone_settled }
+
+  -- lines without a fault leave nothing
+  reads_lines : Reading → (policy : Policy) (base : ℕ) (lines : List ℕ) → EndsInLineFeed lines → fault_in policy p base lines ≡ None → ReadsLines policy.replace lines
+  unfolding fault_in
+  reads_lines laws policy base lines is none = by policy.replace (taken_all policy.assigned (λ front. base + len_under policy.replace lines front) (text_under policy.replace lines) (bad_under policy.replace base lines) none).1
+    where
+      by : (r : Bool) → bad_under r base lines ≡ None → ReadsLines r lines
+      by true good = replaced_lines laws lines is
+      by false good = strict_lines laws lines is (λ at start bad. (let e : bad_byte base (Bad at start) ≡ None = sym (ap (bad_byte base) bad) ∙ good in cc))
+
+  pub lines_alone : Reading → (f : Form) → IsParting p f line_feed → IsClosing p f line_feed → (policy : Policy) (base : ℕ) (lines rest : List ℕ) → EndsInLineFeed lines
+      → fault_in policy p base lines ≡ None → StandAlone policy f p base lines rest
+  lines_alone laws f parting closing policy base lines rest is none = alone f parting closing policy base lines rest (reads_lines laws policy base lines is none) none

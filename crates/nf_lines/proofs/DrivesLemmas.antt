@@ -1,0 +1,148 @@
+-- What driving line by line comes to.
+use Rattle.std.proofs.Common.{◌≡◌, ℕ, ◌≤◌, true, false, List, [], ◌++◌, length, None, Result, Ok, Err, inl, ⊎_elim, refl, sym, ap, subst, ◌∙◌, arith, append-nil}
+use Rattle.std.specs.Prelude.{OnOk, IsTrue}
+use Rattle.std.specs.Result.{result_err}
+use Rattle.std.specs.Io.KnownBytes.{Consumes, IsAtEnd}
+use Rattle.nf_forms.specs.Properties.{Properties}
+use Rattle.nf_forms.specs.declared.form.Form.{Form}
+use Rattle.nf_filter.specs.declared.fault.Fault.{Fault}
+use Rattle.nf_filter.specs.declared.fault.Fault.TheVariants.{TooLong, Read, Write}
+use Rattle.nf_filter.specs.declared.filter.State.{State}
+use Rattle.nf_filter.specs.declared.policy.Policy.{Policy}
+use Rattle.nf_filter.specs.declared.tally.Tally.{Tally}
+use Rattle.nf_filter.specs.Devices.{SinkState, SourceState}
+use Rattle.nf_filter.specs.Laws.Settled.{settled_utf8-none}
+use Rattle.nf_filter.specs.Settled.{settled_utf8}
+use Rattle.nf_filter.specs.Faults.{fault_in, IsOfFinishing}
+use Rattle.nf_filter.specs.Filter.{base_of, StandsAfter}
+use Rattle.nf_filter.specs.Finishes.{end_of, final_utf8, Finishes}
+use Rattle.nf_filter.specs.Drives.{due_utf8}
+use Rattle.nf_filter.proofs.FilterLemmas.{StandsAfter-no_fault}
+use Rattle.nf_filter.proofs.WritesLemmas.{Puts-none, Puts-join, Puts-at, BreaksOff-join, BreaksOff-at}
+use Rattle.nf_lines.specs.Cut.{EndsInLineFeed}
+use Rattle.nf_lines.specs.Alone.{end_fault, StandAlone}
+use Rattle.nf_lines.specs.Drives.{Lines, bytes_of, lines_utf8, HasLines, StopsLines, DrivesLines}
+use Rattle.nf_lines.proofs.AloneLemmas.{final-none}
+use Rattle.nf_lines.proofs.StepLemmas.{joins, Puts-past, BreaksOff-past, refused, ended_by}
+
+-- nothing was read
+pub HasLines-none : (policy : Policy) (f : Form) (p : Properties) (state : State) (sink : SinkState) → StandsAfter policy f p state [] → base_of state ≡ 0 → HasLines policy f p state (record { whole = []; rest = [] }) sink sink
+HasLines-none policy f p state sink stands base = record {
+  whole = inl refl;
+  rest = refl;
+  base = base;
+  stands = stands;
+  no_fault = ap (λ n. fault_in policy p n []) (sym base) ∙ StandsAfter-no_fault stands;
+  puts = Puts-at refl (sym (ap (λ b. b ++ settled_utf8 policy f p []) (final-none policy f p) ∙ settled_utf8-none policy f p)) (Puts-none sink []);
+}
+
+-- the answer without its tally
+abbrev pub untold : Result Tally Fault → Result (Unit {0}) Fault
+untold (Ok tally) = Ok tt
+untold (Err fault) = Err fault
+
+untold_err : (r : Result Tally Fault) → result_err (untold r) ≡ result_err r
+untold_err (Ok tally) = refl
+untold_err (Err fault) = refl
+
+write_told : (r : Result Tally Fault) → untold r ≡ Err Write → r ≡ Err Write
+write_told (Ok tally) e = cc
+write_told (Err fault) e = ap ended_by (let same : fault ≡ Write = cc in same)
+
+told_write : (r : Result Tally Fault) → r ≡ Err Write → untold r ≡ Err Write
+told_write r e = ap untold e
+
+pub not_long : (fault : Fault) → IsOfFinishing fault → ¬ (ended_by fault ≡ Err TooLong)
+not_long fault may e = let same : fault ≡ TooLong = cc in rw same at may
+
+module _ (policy : Policy) (f : Form) (p : Properties) (alone : (base : ℕ) (lines rest : List ℕ) → EndsInLineFeed lines → fault_in policy p base lines ≡ None → StandAlone policy f p base lines rest) (most : ℕ) (source left : SourceState) (old : SinkState) (t : Lines) where
+  never : {A : Type 0} → left.is_at_end ≡ false → IsTrue left.is_at_end → A
+  never going end = let absent : true ≡ false = sym end ∙ going in cc
+
+  due : left.is_at_end ≡ false → lines_utf8 policy f p t ≡ final_utf8 policy f p t.whole ++ due_utf8 left.is_at_end policy f p t.rest
+  due going = ap (λ b. final_utf8 policy f p t.whole ++ due_utf8 b policy f p t.rest) (sym going)
+
+  -- a piece was refused
+  pub drives-stopped : (last : List ℕ) (new : SinkState) (fault : Fault) → left.is_at_end ≡ false → Consumes source.coming left.coming (bytes_of t ++ last) → length last ≤ most
+      → StopsLines policy f p t last old new fault → DrivesLines most policy f p source left old new (Err fault)
+  drives-stopped last new fault going given few stops = record {
+    taken = t;
+    last = last;
+    given = given;
+    few = few;
+    read_out = never going;
+    whole = stops.whole;
+    lines_no_fault = stops.no_fault;
+    rest = ⊎_elim (never going) (⊎_elim (λ e. absurd (stops.unread (let same : fault ≡ Read = cc in same))) (λ e. let long = stops.too_long (let same : fault ≡ TooLong = cc in same) in (long.1, long.2)));
+    too_long = λ e. (stops.too_long (let same : fault ≡ TooLong = cc in same)).0;
+    broken_off = λ e. BreaksOff-at refl (due going) (stops.broken_off (let same : fault ≡ Write = cc in same));
+    written = λ not. Puts-at refl (due going) (stops.written (λ e. not (ap refused e)));
+    form = tt;
+    settled = (joins policy f p alone t.whole t.rest stops.whole stops.no_fault).settled;
+    finished = never going;
+    stopped = λ _ kept unread short. (refl, stops.answer (λ e. kept (ap refused e)) (λ e. short (ap refused e)));
+  }
+
+  module _ (state : State) (now : SinkState) (has : HasLines policy f p state t old now) where
+    good : fault_in policy p 0 (t.whole ++ t.rest) ≡ None
+    good = (joins policy f p alone t.whole t.rest has.whole has.no_fault).fault ∙ ap (λ n. fault_in policy p n t.rest) (sym has.base) ∙ StandsAfter-no_fault has.stands
+
+    -- the source failed
+    pub drives-failed : left.is_at_end ≡ false → Consumes source.coming left.coming (bytes_of t) → DrivesLines most policy f p source left old now (Err Read)
+    drives-failed going given = record {
+      taken = t;
+      last = [];
+      given = subst (Consumes source.coming left.coming) (sym (append-nil (t.whole ++ t.rest))) given;
+      few = omega arith;
+      read_out = never going;
+      whole = has.whole;
+      lines_no_fault = has.no_fault;
+      rest = λ _. (has.rest, good);
+      too_long = λ e. cc;
+      broken_off = λ e. cc;
+      written = λ _. Puts-at refl (due going) has.puts;
+      form = tt;
+      settled = (joins policy f p alone t.whole t.rest has.whole has.no_fault).settled;
+      finished = never going;
+      stopped = λ _ _ unread _. absurd (unread refl);
+    }
+
+    -- all was read, and the filter was finished
+    pub drives-finished : (new : SinkState) (r : Result Tally Fault) → left.is_at_end ≡ true → IsAtEnd left.coming → Consumes source.coming left.coming (bytes_of t) → ¬ (r ≡ Err TooLong)
+        → Finishes policy f p (base_of state) t.rest now new r → DrivesLines most policy f p source left old new (untold r)
+    drives-finished new r ended empty given short finishes = record {
+      taken = t;
+      last = [];
+      given = subst (Consumes source.coming left.coming) (sym (append-nil (t.whole ++ t.rest))) given;
+      few = omega arith;
+      read_out = λ _. (empty, refl);
+      whole = has.whole;
+      lines_no_fault = has.no_fault;
+      rest = λ _. (has.rest, good);
+      too_long = λ e. absurd (never_long r short e);
+      broken_off = λ e. BreaksOff-at refl all (BreaksOff-join has.puts (BreaksOff-past (final_utf8 policy f p t.whole) (finishes.broken_off (write_told r e))));
+      written = λ not. Puts-at refl all (Puts-join has.puts (Puts-past (final_utf8 policy f p t.whole) (finishes.written (λ e. not (told_write r e)))));
+      form = formed r finishes.answer;
+      settled = (joins policy f p alone t.whole t.rest has.whole has.no_fault).settled;
+      finished = λ _ kept. untold_err r ∙ answer (λ e. kept (told_write r e));
+      stopped = λ going. never going ended;
+    }
+      where
+        all : final_utf8 policy f p t.whole ++ final_utf8 policy f p t.rest ≡ final_utf8 policy f p t.whole ++ due_utf8 left.is_at_end policy f p t.rest
+        all = ap (λ b. final_utf8 policy f p t.whole ++ due_utf8 b policy f p t.rest) (sym ended)
+
+        at_base : end_fault policy p (base_of state) t.rest ≡ end_fault policy p (length t.whole) t.rest
+        at_base = ap (λ n. end_fault policy p n t.rest) has.base
+
+        answer : ¬ (r ≡ Err Write) → result_err r ≡ end_fault policy p 0 (t.whole ++ t.rest)
+        answer kept = ap result_err (finishes.answer kept) ∙ at_base ∙ sym (joins policy f p alone t.whole t.rest has.whole has.no_fault).end
+
+        never_long : (r : Result Tally Fault) → ¬ (r ≡ Err TooLong) → untold r ≡ Err TooLong → ⊥
+        never_long (Ok tally) short e = cc
+        never_long (Err fault) short e = short (ap ended_by (let same : fault ≡ TooLong = cc in same))
+
+        formed : (r : Result Tally Fault) → (¬ (r ≡ Err Write) → r ≡ end_of policy p (base_of state) t.rest)
+            → OnOk (untold r) (final_utf8 policy f p t.whole ++ due_utf8 left.is_at_end policy f p t.rest ≡ final_utf8 policy f p (t.whole ++ t.rest))
+        formed (Ok tally) answers =
+            sym all ∙ sym ((joins policy f p alone t.whole t.rest has.whole has.no_fault).final (sym at_base ∙ sym (ap result_err (answers (λ e. cc)))))
+        formed (Err fault) answers = tt

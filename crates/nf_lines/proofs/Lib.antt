@@ -1,0 +1,6 @@
+mod WholeParts
+mod WholeLines
+mod AloneLemmas
+mod CutLemmas
+mod StepLemmas
+mod DrivesLemmas

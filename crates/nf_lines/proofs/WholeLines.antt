@@ -1,0 +1,108 @@
+-- Of whole lines nothing is left to be read.
+use Rattle.std.proofs.Common.{◌≡◌, ℕ, zero, suc, ◌+◌, ◌<◌, ◌≤◌, ◌==◌, Bool, true, false, List, [], ◌∷◌, ◌++◌, length, take, drop, encode_utf8_all, refl, sym, ap, subst, ◌∙◌, arith, append_assoc, length-append, length-drop, take_at, take_all}
+use Rattle.std.specs.Prelude.{if◌then◌else◌}
+use Rattle.std.proofs.lemmas.List.{drop-append-le}
+use Rattle.std.proofs.lemmas.Str.{encodes-append}
+use Rattle.std.proofs.str.Laws.{scalars-append}
+use Rattle.nf_utf8.specs.Text.{IsText, BeginsText}
+use Rattle.nf_utf8.specs.Ending.{Ending, Whole, Bad, Cut}
+use Rattle.nf_utf8.specs.Reading.{text_of, ending_of}
+use Rattle.nf_utf8.specs.Replaced.{replacement, part_end}
+use Rattle.nf_facts.specs.LineFeed.{line_feed}
+use Rattle.nf_filter.specs.Faults.{answer_at_end, bad_under}
+use Rattle.nf_filter.specs.Feeding.{IsLeft}
+use Rattle.nf_filter.specs.Policy.{len_under, text_under, whole_under}
+use Rattle.nf_filter.proofs.PieceLemmas.{IsLeft-all, IsLeft-behind}
+use Rattle.nf_lines.specs.Cut.{EndsInLineFeed}
+use Rattle.nf_lines.proofs.WholeParts.{Reading, IsLine, line_text, line_utf8, line_encodes, text_left, begins_whole, begins_cut, end_is, is_broken, IsBroken, broken_end, text_begins}
+
+IsLeft-join : (r : Bool) (bytes x : List ℕ) (n : ℕ) (mid y : List ℕ) (m : ℕ) → IsLeft r bytes x n mid → IsLeft r mid y m [] → IsLeft r bytes (x ++ y) (n + m) []
+IsLeft-join r bytes x n mid y m a b = record {
+  text = λ more. a.text more ∙ ap (λ l. x ++ l) (b.text more) ∙ sym (append_assoc x y (text_under r more));
+  place = λ more z. ap (len_under r (bytes ++ more)) (append_assoc x y z) ∙ a.place more (y ++ z) ∙ ap (λ k. n + k) (b.place more z) ∙ (let same : n + (m + len_under r more z) ≡ n + m + len_under r more z = omega arith in same);
+  bad = λ base more. a.bad base more ∙ b.bad (base + n) more ∙ ap (λ k. bad_under r k more) (let same : base + n + m ≡ base + (n + m) = omega arith in same);
+  whole = λ more. a.whole more ∙ ap (λ l. x ++ l) (b.whole more) ∙ sym (append_assoc x y (whole_under r more));
+  end = λ strict base more. a.end strict base more ∙ b.end strict (base + n) more ∙ ap (λ k. answer_at_end k (tt {0}) (ending_of more)) (let same : base + n + m ≡ base + (n + m) = omega arith in same);
+  len = omega (arith, a.len, b.len);
+}
+
+-- they give a text that ends in a line feed, and the rest is read as if it stood alone
+pub record ReadsLines (r : Bool) (lines : List ℕ) : Type 0 where
+  pub before : List ℕ
+  pub left : IsLeft r lines (before ++ line_feed ∷ []) (length lines) []
+
+module _ (laws : Reading) where
+  lines_text : (r : Bool) (lines : List ℕ) → IsLine lines → ReadsLines r lines
+  lines_text r lines is = subst (ReadsLines r) is.spelt (record { before = is.before; left = text_left laws (is.before ++ line_feed ∷ []) is.scalars r })
+
+  lines_begun : (r : Bool) (lines : List ℕ) → EndsInLineFeed lines → BeginsText lines → ReadsLines r lines
+  lines_begun r lines is b = subst (ReadsLines r) (sym is.1) (lines_text r (is.0 ++ line_feed ∷ []) (line_text is.0 (line_utf8 is.0 (subst BeginsText is.1 b))))
+
+  -- where ill-formed bytes are faults, and there are none
+  pub strict_lines : (lines : List ℕ) → EndsInLineFeed lines → ((at start : ℕ) → ¬ (ending_of lines ≡ Bad at start)) → ReadsLines false lines
+  strict_lines lines is good = by (ending_of lines) refl
+    where
+      by : (e : Ending) → ending_of lines ≡ e → ReadsLines false lines
+      by Whole e = lines_begun false lines is (begins_whole laws lines e)
+      by (Cut at start) e = lines_begun false lines is (begins_cut laws lines at start e)
+      by (Bad at start) e = absurd (good at start e)
+
+  -- a line feed behind a text is no bad byte
+  line_good : (lines : List ℕ) (at start : ℕ) → EndsInLineFeed lines → ending_of lines ≡ Bad at start → start + 1 ≡ length lines → start ≡ length (encode_utf8_all (text_of lines)) → ⊥
+  line_good lines at start is bad last text =
+      let front : List ℕ = is.0 in
+      let t : List ℕ = encode_utf8_all (text_of lines) in
+      let reads = (laws.longest.reads lines).front in
+      let len : length front ≡ start = omega (arith, last, ap length is.1, length-append front (line_feed ∷ [])) in
+      let same : t ≡ front =
+      sym (take_at t reads.spelled.0 start (sym text)) ∙ ap (take start) (sym reads.spelled.1 ∙ is.1) ∙ take_at front (line_feed ∷ []) start len in
+      let scalars : IsText (text_of lines ++ line_feed ∷ []) = scalars-append (text_of lines) (line_feed ∷ []) reads.scalars refl in
+      let spelt : encode_utf8_all (text_of lines ++ line_feed ∷ []) ≡ lines = encodes-append (text_of lines) (line_feed ∷ []) ∙ (λ i. same i ++ line_encodes i) ∙ sym is.1 in
+      let here = (end_is laws lines (Bad at start) bad).0 in
+      here.here (subst BeginsText (spelt ∙ sym (take_all (at + 1) lines (omega (arith, (is_broken laws lines at start bad).order, last)))) (text_begins laws (text_of lines ++ line_feed ∷ []) scalars))
+
+  -- what a bad byte leaves of them ends in the line feed
+  lines_after : (lines : List ℕ) (at start : ℕ) → EndsInLineFeed lines → ending_of lines ≡ Bad at start → EndsInLineFeed (drop (part_end at start) lines)
+  lines_after lines at start is e =
+      (drop (part_end at start) is.0, ap (drop (part_end at start)) is.1 ∙ drop-append-le (part_end at start) is.0 (line_feed ∷ []) (within (at == start) refl))
+    where
+      broken : IsBroken laws lines at start
+      broken = is_broken laws lines at start e
+
+      len : length lines ≡ length is.0 + 1
+      len = omega (arith, ap length is.1, length-append is.0 (line_feed ∷ []))
+
+      within : (b : Bool) → (at == start) ≡ b → part_end at start ≤ length is.0
+      within true c =
+          let end : part_end at start ≡ start + 1 = ap (λ b. if b then start + 1 else at) c in
+          let before : ¬ (start + 1 ≡ length lines) = λ last. line_good lines at start is e last broken.text in
+          omega (arith, end, before, broken.within, broken.order, len)
+      within false c =
+          let end : part_end at start ≡ at = ap (λ b. if b then start + 1 else at) c in
+          omega (arith, end, broken.within, len)
+
+  by_length : (k : ℕ) (lines : List ℕ) → length lines < k → EndsInLineFeed lines → ReadsLines true lines
+  by_length zero lines short is = absurd (omega arith)
+  by_length (suc k) lines short is = by (ending_of lines) refl (λ left less. by_length k left (omega (arith, less, short)))
+    where
+      by : (e : Ending) → ending_of lines ≡ e → ((left : List ℕ) → length left < length lines → EndsInLineFeed left → ReadsLines true left) → ReadsLines true lines
+      by Whole e on = lines_begun true lines is (begins_whole laws lines e)
+      by (Cut at start) e on = lines_begun true lines is (begins_cut laws lines at start e)
+      by (Bad at start) e on =
+          let broken = is_broken laws lines at start e in
+          let end = broken_end laws lines at start broken in
+          let left : List ℕ = drop (part_end at start) lines in
+          let rest = on left (omega (arith, length-drop (part_end at start) lines, end.0, end.1)) (lines_after lines at start is e) in
+          let one = IsLeft-behind laws.replacing laws.split lines at start e (broken.text ∙ laws.split.len lines) end.1 (omega (arith, end.0)) lines [] 0 (IsLeft-all true lines) in
+          let own : List ℕ = text_of lines ++ replacement ∷ [] in
+          let all = IsLeft-join true lines own (0 + part_end at start) left (rest.before ++ line_feed ∷ []) (length left) one rest.left in
+          let len : (0 + part_end at start) + length left ≡ length lines = omega (arith, all.len) in
+          record {
+            before = own ++ rest.before;
+            left = subst (λ x. IsLeft true lines x (length lines) []) (sym (append_assoc own rest.before (line_feed ∷ [])))
+                (subst (λ n. IsLeft true lines (own ++ (rest.before ++ line_feed ∷ [])) n []) len all);
+          }
+
+  -- where they are replaced
+  pub replaced_lines : (lines : List ℕ) → EndsInLineFeed lines → ReadsLines true lines
+  replaced_lines lines is = by_length (suc (length lines)) lines (omega arith) is

@@ -1,0 +1,238 @@
+-- A line feed ends every character that was begun: of bytes that end in one nothing is left to be read.
+use Rattle.std.proofs.Common.{◌≡◌, ℕ, suc, ◌+◌, ◌-◌, ◌<◌, ◌≤◌, ◌==◌, ◌⊎◌, Bool, true, false, List, [], ◌∷◌, ◌++◌, map, length, take, drop, get_or, encode_utf8, encode_utf8_all, inl, inr, refl, sym, ap, subst, ◌∙◌, arith, append_assoc, append-nil, length-append, take_at, take-append-drop, IsUtf8, eq-eqb, ne_eqb}
+use Rattle.std.specs.Prelude.{if◌then◌else◌}
+use Rattle.std.proofs.Math.Seq.{get_or-append_seam}
+use Rattle.std.proofs.Math.Utf8.{encode}
+use Rattle.std.proofs.lemmas.Bool.{cases_lt, eqb-true}
+use Rattle.std.proofs.lemmas.List.{take-append-le, length-map, map-append}
+use Rattle.std.proofs.lemmas.Str.{IsUtf8-take, IsCharBoundary-after_ascii, IsCharBoundary-from_drop, encodes-append}
+use Rattle.std.proofs.str.Laws.{scalars-append}
+use Rattle.nf_utf8.specs.Text.{IsText, BeginsText}
+use Rattle.nf_utf8.specs.Ending.{Ending, Whole, Bad, Cut, moved}
+use Rattle.nf_utf8.specs.Reading.{text_of, ending_of}
+use Rattle.nf_utf8.specs.Replaced.{Part, replacement, own_parts, part_end, parts_of, replaced, bytes_in, replaced_len, begun_at_end, replaced_whole}
+use Rattle.nf_utf8.specs.Reads.{EndsAs}
+use Rattle.nf_utf8.specs.Laws.{ReadsBack, ReplacesParts, SplitsBytes, ReadsLongestText}
+use Rattle.nf_facts.specs.LineFeed.{line_feed}
+use Rattle.nf_filter.specs.Faults.{answer_at_end, bad_byte}
+use Rattle.nf_filter.specs.Feeding.{IsLeft}
+
+-- what is known of reading UTF-8
+pub record Reading : Type 0 where
+  pub longest : ReadsLongestText
+  pub split : SplitsBytes
+  pub back : ReadsBack
+  pub replacing : ReplacesParts
+
+-- ---- bytes that begin a text and end in a line feed are a text
+
+pub line_encodes : encode_utf8_all (line_feed ∷ []) ≡ line_feed ∷ []
+unfolding encode
+line_encodes = refl
+
+line_scalar : IsUtf8 (line_feed ∷ [])
+line_scalar = subst IsUtf8 line_encodes (line_feed ∷ [], (refl, refl))
+
+pub line_utf8 : (front : List ℕ) → BeginsText (front ++ line_feed ∷ []) → IsUtf8 (front ++ line_feed ∷ [])
+line_utf8 front b =
+    let bytes : List ℕ = front ++ line_feed ∷ [] in
+    let len : length bytes ≡ length front + 1 = length-append front (line_feed ∷ []) in
+    let here : get_or (bytes ++ b.0) (length front) 0 ≡ line_feed = ap (λ l. get_or l (length front) 0) (append_assoc front (line_feed ∷ []) b.0) ∙ get_or-append_seam front line_feed b.0 0 in
+    subst IsUtf8 (take_at bytes b.0 (length front + 1) len)
+    (IsUtf8-take (bytes ++ b.0) (length front + 1) b.1
+    (IsCharBoundary-after_ascii (bytes ++ b.0) (length front) b.1 (omega (arith, len, length-append bytes b.0)) (omega (arith, here))))
+
+-- what stands before the line feed is a text too
+front_utf8 : (front : List ℕ) → IsUtf8 (front ++ line_feed ∷ []) → IsUtf8 front
+front_utf8 front u =
+    subst IsUtf8 (take_at front (line_feed ∷ []) (length front) refl)
+    (IsUtf8-take (front ++ line_feed ∷ []) (length front) u
+    (IsCharBoundary-from_drop (front ++ line_feed ∷ []) (length front) (omega (arith, length-append front (line_feed ∷ [])))
+    (subst IsUtf8 (sym (drop_front front)) line_scalar)))
+  where
+    drop_front : (front : List ℕ) → drop (length front) (front ++ line_feed ∷ []) ≡ line_feed ∷ []
+    drop_front [] = refl
+    drop_front (a ∷ front) = drop_front front
+
+-- the text of a line
+pub record IsLine (lines : List ℕ) : Type 0 where
+  pub before : List ℕ
+  pub scalars : IsText (before ++ line_feed ∷ [])
+  pub spelt : encode_utf8_all (before ++ line_feed ∷ []) ≡ lines
+
+pub line_text : (front : List ℕ) → IsUtf8 (front ++ line_feed ∷ []) → IsLine (front ++ line_feed ∷ [])
+line_text front u =
+    let before = front_utf8 front u in
+    record {
+      before = before.0;
+      scalars = scalars-append before.0 (line_feed ∷ []) before.1.0 refl;
+      spelt = encodes-append before.0 (line_feed ∷ []) ∙ (λ i. before.1.1 i ++ line_encodes i);
+    }
+
+-- ---- behind a text
+
+bad_moved : (base n : ℕ) (e : Ending) → bad_byte base (moved n e) ≡ bad_byte (base + n) e
+bad_moved base n Whole = refl
+bad_moved base n (Bad at start) = (let a : base + (n + at) ≡ base + n + at = omega arith in let s : base + (n + start) ≡ base + n + start = omega arith in cc)
+bad_moved base n (Cut at start) = refl
+
+end_moved : (base n : ℕ) (e : Ending) → answer_at_end base (tt {0}) (moved n e) ≡ answer_at_end (base + n) (tt {0}) e
+end_moved base n Whole = refl
+end_moved base n (Bad at start) = refl
+end_moved base n (Cut at start) = (let a : base + (n + at) ≡ base + n + at = omega arith in let s : base + (n + start) ≡ base + n + start = omega arith in cc)
+
+-- ---- of lists and parts alone
+
+drop_more : (l : List ℕ) (n : ℕ) (more : List ℕ) → drop (length l + n) (l ++ more) ≡ drop n more
+drop_more [] n more = ap (λ k. drop k more) (let same : 0 + n ≡ n = omega arith in same)
+drop_more (a ∷ l) n more = ap (λ k. drop k (a ∷ (l ++ more))) (let same : length (a ∷ l) + n ≡ suc (length l + n) = omega arith in same) ∙ drop_more l n more
+
+part_end-moved : (n at start : ℕ) → part_end (n + at) (n + start) ≡ n + part_end at start
+part_end-moved n at start = by (at == start) refl
+  where
+    by : (b : Bool) → (at == start) ≡ b → part_end (n + at) (n + start) ≡ n + part_end at start
+    by true e =
+        let same : at ≡ start = eqb-true at start e in
+        ap (λ b. if b then (n + start) + 1 else n + at) (eq-eqb (n + at) (n + start) (omega (arith, same))) ∙ (let sum : (n + start) + 1 ≡ n + (start + 1) = omega arith in sum)
+        ∙ sym (ap (λ b. n + (if b then start + 1 else at)) e)
+    by false e =
+        let differs : ¬ (at ≡ start) = λ same. (let t : (at == start) ≡ true = eq-eqb at start same in cc) in
+        ap (λ b. if b then (n + start) + 1 else n + at) (ne_eqb (n + at) (n + start) (λ same. differs (omega (arith, same))))
+        ∙ sym (ap (λ b. n + (if b then start + 1 else at)) e)
+
+own_more : (x y : List ℕ) → own_parts (x ++ y) ≡ own_parts x ++ own_parts y
+own_more x y = map-append (λ c. record { char = c; len = length (encode_utf8 c) }) x y
+
+own_len : (x : List ℕ) → length (own_parts x) ≡ length x
+own_len x = length-map x _
+
+take_past : (a b : List Part) (k : ℕ) → take (length a + k) (a ++ b) ≡ a ++ take k b
+take_past [] b k = ap (λ n. take n b) (let same : 0 + k ≡ k = omega arith in same)
+take_past (part ∷ a) b k = ap (λ n. take n (part ∷ (a ++ b))) (let same : length (part ∷ a) + k ≡ suc (length a + k) = omega arith in same) ∙ ap (λ l. part ∷ l) (take_past a b k)
+
+module _ (laws : Reading) where
+  pub end_is : (bytes : List ℕ) (e : Ending) → ending_of bytes ≡ e → EndsAs bytes (text_of bytes) e
+  end_is bytes e is = subst (EndsAs bytes (text_of bytes)) is (laws.longest.reads bytes).end
+
+  pub text_begins : (t : List ℕ) → IsText t → BeginsText (encode_utf8_all t)
+  text_begins t s = ([], (t, (s, sym (append-nil (encode_utf8_all t)))))
+
+  pub begins_whole : (bytes : List ℕ) → ending_of bytes ≡ Whole → BeginsText bytes
+  begins_whole bytes e = subst BeginsText (sym (end_is bytes Whole e)) (text_begins (text_of bytes) (laws.longest.reads bytes).front.scalars)
+
+  pub begins_cut : (bytes : List ℕ) (at start : ℕ) → ending_of bytes ≡ Cut at start → BeginsText bytes
+  begins_cut bytes at start e = (end_is bytes (Cut at start) e).0.begins
+
+  -- where a bad byte stands
+  pub record IsBroken (bytes : List ℕ) (at start : ℕ) : Type 0 where
+    pub text : start ≡ length (encode_utf8_all (text_of bytes))
+    pub order : start ≤ at
+    pub within : at < length bytes
+
+  pub is_broken : (bytes : List ℕ) (at start : ℕ) → ending_of bytes ≡ Bad at start → IsBroken bytes at start
+  is_broken bytes at start e =
+      let is = end_is bytes (Bad at start) e in
+      record { text = is.1; order = by (cases_lt at start) is.1 is.0.here; within = is.0.inside }
+    where
+      by : (at < start) ⊎ (start ≤ at) → start ≡ length (encode_utf8_all (text_of bytes)) → ¬ BeginsText (take (at + 1) bytes) → start ≤ at
+      by (inr le) same none = le
+      by (inl less) same none =
+          let t : List ℕ = encode_utf8_all (text_of bytes) in
+          let rest = (laws.longest.reads bytes).front.spelled in
+          let front : take (at + 1) bytes ≡ take (at + 1) t = ap (take (at + 1)) rest.1 ∙ take-append-le (at + 1) t rest.0 (omega (arith, less, same)) in
+          absurd (none (subst BeginsText (sym front) (drop (at + 1) t, (text_of bytes, ((laws.longest.reads bytes).front.scalars, sym (take-append-drop (at + 1) t))))))
+
+  pub broken_end : (bytes : List ℕ) (at start : ℕ) → IsBroken bytes at start → (start < part_end at start) × (part_end at start ≤ length bytes)
+  broken_end bytes at start broken = by (at == start) refl
+    where
+      by : (b : Bool) → (at == start) ≡ b → (start < part_end at start) × (part_end at start ≤ length bytes)
+      by true e = let end : part_end at start ≡ start + 1 = ap (λ b. if b then start + 1 else at) e in (omega (arith, end), omega (arith, end, broken.order, broken.within))
+      by false e =
+          let end : part_end at start ≡ at = ap (λ b. if b then start + 1 else at) e in
+          let differs : ¬ (at ≡ start) = λ same. (let t : (at == start) ≡ true = eq-eqb at start same in cc) in
+          (omega (arith, end, differs, broken.order), omega (arith, end, broken.within))
+
+  abbrev broken_part : (at start : ℕ) → Part
+  broken_part at start = record { char = replacement; len = part_end at start - start }
+
+  parts_of-broken : (bytes : List ℕ) (at start : ℕ) → ending_of bytes ≡ Bad at start → parts_of bytes ≡ own_parts (text_of bytes) ++ broken_part at start ∷ parts_of (drop (part_end at start) bytes)
+  parts_of-broken bytes at start e =
+      ap parts_of (sym (append-nil bytes)) ∙ laws.replacing.bad bytes [] at start e ∙ ap (λ l. own_parts (text_of bytes) ++ broken_part at start ∷ parts_of (drop (part_end at start) l)) (append-nil bytes)
+
+  -- ---- behind a text
+
+  module _ (x : List ℕ) (s : IsText x) where
+    abbrev bytes : List ℕ
+    bytes = encode_utf8_all x
+
+    strict_left : IsLeft false (encode_utf8_all x) x (length (encode_utf8_all x)) []
+    strict_left = record {
+      text = λ more. laws.back.text x more s;
+      place = λ more y. omega (arith, ap length (encodes-append x y), length-append (encode_utf8_all x) (encode_utf8_all y));
+      bad = λ base more. ap (bad_byte base) (laws.back.ending x more s) ∙ bad_moved base (length (encode_utf8_all x)) (ending_of more);
+      whole = λ more. laws.back.text x more s;
+      end = λ _ base more. ap (answer_at_end base (tt {0})) (laws.back.ending x more s) ∙ end_moved base (length (encode_utf8_all x)) (ending_of more);
+      len = omega arith;
+    }
+
+    -- the parts of a text, and those of what stands behind it
+    parts_behind : (more : List ℕ) → parts_of (encode_utf8_all x ++ more) ≡ own_parts x ++ parts_of more
+    parts_behind more = by (ending_of more) refl
+      where
+        n : ℕ
+        n = length (encode_utf8_all x)
+
+        ending : ending_of (encode_utf8_all x ++ more) ≡ moved (length (encode_utf8_all x)) (ending_of more)
+        ending = laws.back.ending x more s
+
+        own : own_parts (text_of (encode_utf8_all x ++ more)) ≡ own_parts x ++ own_parts (text_of more)
+        own = ap own_parts (laws.back.text x more s) ∙ own_more x (text_of more)
+
+        begun : BeginsText (encode_utf8_all x ++ more) → BeginsText more → parts_of (encode_utf8_all x ++ more) ≡ own_parts x ++ parts_of more
+        begun all rest = laws.replacing.begun (encode_utf8_all x ++ more) all ∙ own ∙ ap (λ l. own_parts x ++ l) (sym (laws.replacing.begun more rest))
+
+        by : (e : Ending) → ending_of more ≡ e → parts_of (encode_utf8_all x ++ more) ≡ own_parts x ++ parts_of more
+        by Whole e = begun (begins_whole (encode_utf8_all x ++ more) (ending ∙ ap (moved (length (encode_utf8_all x))) e)) (begins_whole more e)
+        by (Cut at start) e = begun (begins_cut (encode_utf8_all x ++ more) (length (encode_utf8_all x) + at) (length (encode_utf8_all x) + start) (ending ∙ ap (moved (length (encode_utf8_all x))) e)) (begins_cut more at start e)
+        by (Bad at start) e =
+            let n : ℕ = length (encode_utf8_all x) in
+            let past = part_end-moved n at start in
+            let len : part_end (n + at) (n + start) - (n + start) ≡ part_end at start - start = omega (arith, past) in
+            parts_of-broken (encode_utf8_all x ++ more) (n + at) (n + start) (ending ∙ ap (moved n) e)
+            ∙ (λ i. own i ++ record { char = replacement; len = len i } ∷ parts_of (drop (past i) (encode_utf8_all x ++ more)))
+            ∙ ap (λ l. (own_parts x ++ own_parts (text_of more)) ++ broken_part at start ∷ parts_of l) (drop_more (encode_utf8_all x) (part_end at start) more)
+            ∙ append_assoc (own_parts x) (own_parts (text_of more)) (broken_part at start ∷ parts_of (drop (part_end at start) more))
+            ∙ ap (λ l. own_parts x ++ l) (sym (parts_of-broken more at start e))
+
+    chars_behind : (more : List ℕ) → replaced (encode_utf8_all x ++ more) ≡ x ++ replaced more
+    unfolding replaced
+    chars_behind more =
+        ap (map (λ part. part.char)) (parts_behind more) ∙ map-append (λ part. part.char) (own_parts x) (parts_of more) ∙ ap (λ l. l ++ map (λ part. part.char) (parts_of more)) (laws.replacing.own_chars x)
+
+    held_behind : (more : List ℕ) → begun_at_end (encode_utf8_all x ++ more) ≡ begun_at_end more
+    held_behind more = omega (arith, ap bytes_in (parts_behind more), laws.replacing.joined (own_parts x) (parts_of more), laws.replacing.own_len x, length-append (encode_utf8_all x) more)
+
+    places_behind : (more y : List ℕ) → replaced_len (length (x ++ y)) (encode_utf8_all x ++ more) ≡ length (encode_utf8_all x) + replaced_len (length y) more
+    unfolding replaced_len
+    places_behind more y =
+        let own : List Part = own_parts x in
+        let count : length (x ++ y) ≡ length own + length y = omega (arith, length-append x y, own_len x) in
+        (λ i. bytes_in (take (count i) (parts_behind more i)))
+        ∙ ap bytes_in (take_past own (parts_of more) (length y))
+        ∙ laws.replacing.joined own (take (length y) (parts_of more))
+        ∙ ap (λ n. n + bytes_in (take (length y) (parts_of more))) (laws.replacing.own_len x)
+
+    replaced_left : IsLeft true (encode_utf8_all x) x (length (encode_utf8_all x)) []
+    unfolding replaced_whole
+    replaced_left = record {
+      text = chars_behind;
+      place = places_behind;
+      bad = λ base more. refl;
+      whole = λ more. (λ i. chars_behind more i ++ (if held_behind more i == 0 then [] else replacement ∷ [])) ∙ append_assoc x (replaced more) (if begun_at_end more == 0 then [] else replacement ∷ []);
+      end = λ strict base more. cc;
+      len = omega arith;
+    }
+
+    pub text_left : (r : Bool) → IsLeft r (encode_utf8_all x) x (length (encode_utf8_all x)) []
+    text_left false = strict_left
+    text_left true = replaced_left

@@ -1,0 +1,23 @@
+use Rattle.std.proofs.Common.{◌≡◌, true, refl}
+use Rattle.ucd_table.specs.Rows.{in_ranges}
+use Rattle.nf_forms.specs.declared.form.Form.{Form}
+use Rattle.nf_forms.specs.declared.form.Form.TheVariants.{Nfc, Nfd, Nfkc, Nfkd}
+use Rattle.nf_forms.specs.Ucd.{ucd}
+use Rattle.nf_facts.specs.LineFeed.{line_feed}
+use Rattle.nf_facts.specs.PlainRanges.{plain_ranges}
+use Rattle.nf_lines.proofs.WholeParts.{Reading}
+use Rattle.nf_lines.proofs.AloneLemmas.{lines_alone}
+use Rattle.nf_lines.proofs.laws.lines_stand_alone.Goals as goal
+
+plain : (f : Form) → in_ranges (plain_ranges f) line_feed ≡ true
+unfolding in_ranges plain_ranges
+plain Nfc = refl
+plain Nfd = refl
+plain Nfkc = refl
+plain Nfkd = refl
+
+pub returns : goal.returns
+returns c = λ policy f base lines rest.
+    let reading : Reading = record { longest = c.longest_text.ensures; split = c.split.ensures; back = c.read_back.ensures; replacing = c.replacing.ensures } in
+    lines_alone ucd c.every_character_is_sound.ensures.character reading f (c.the_quick_check_tells.ensures.parting f line_feed (c.plain_ranges_pass.ensures f line_feed (plain f)))
+    (c.lines_are_formed_alone.ensures.closing f) policy base lines rest
