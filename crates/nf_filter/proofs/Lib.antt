@@ -32,3 +32,4 @@ pub mod AssignedLemmas
 pub mod EncodingLemmas
 pub mod WholeLemmas
 pub mod AgainLemmas
+pub mod SavedLemmas

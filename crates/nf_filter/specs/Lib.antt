@@ -22,3 +22,4 @@ pub mod Again
 pub mod Surveys
 pub mod Checks
 pub mod Measures
+pub mod Saved

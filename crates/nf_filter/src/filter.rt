@@ -15,8 +15,8 @@ use nf_utf8::laws;
 
 /// Makes the stream-safe text of UTF-8 that comes in pieces, in one normalization form.
 pub struct Filter<'r, R> {
-    rows: &'r R,
-    state: State,
+    pub(crate) rows: &'r R,
+    pub(crate) state: State,
 }
 
 /// Nothing is replaced, and characters that are not assigned are taken.
@@ -28,11 +28,11 @@ const AS_IS: Policy = Policy {
 /// Where a filter stands.
 #[derive(Drop)]
 pub struct State {
-    base: u64,
-    spent: bool,
-    policy: Policy,
-    reading: Reading,
-    normalizer: Normalizer,
+    pub(crate) base: u64,
+    pub(crate) spent: bool,
+    pub(crate) policy: Policy,
+    pub(crate) reading: Reading,
+    pub(crate) normalizer: Normalizer,
     ghost base_within: { base ≤ reading.offset },
     ghost ready: { spent ≡ false → IsReady (ends_at normalizer) reading },
 }

@@ -1,5 +1,5 @@
 -- When a pending machine stands after the decomposed text that was pushed to it.
-use Rattle.std.specs.Prelude.{◌≡◌, ℕ, ◌==◌, false, if◌then◌else◌, List, ◌++◌, length, map, Option, None}
+use Rattle.std.specs.Prelude.{◌≡◌, ℕ, ◌==◌, false, Bool, if◌then◌else◌, List, ◌++◌, length, map, Option, None}
 use Rattle.std.specs.Option.{option_to_list}
 use Rattle.nf_forms.specs.Properties.{Properties}
 use Rattle.nf_forms.specs.Runs.{has_starter, trail}
@@ -7,8 +7,19 @@ use Rattle.nf_forms.specs.Front.{back}
 use Rattle.nf_forms.specs.Order.{by_class}
 use Rattle.nf_forms.specs.declared.form.Form.{Form}
 use Rattle.nf_forms.specs.Forms.{composes, finished}
+use Rattle.nf_pending.specs.declared.mark.Mark.{Mark}
 use Rattle.nf_pending.specs.declared.pending.Pending.{Pending}
 use Rattle.nf_pending.specs.Mark.{mark_of}
+
+-- what the machine holds, and whether its form composes
+abbrev pub starter_of : Pending → Option ℕ
+starter_of pending = pending.starter
+
+abbrev pub marks_of : Pending → List Mark
+marks_of pending = pending.marks.items
+
+abbrev pub composes_of : Pending → Bool
+composes_of pending = pending.composes
 
 -- how many marks the machine holds
 abbrev pub run_len : Pending → ℕ

@@ -9,4 +9,5 @@ pub mod laws;
 mod mark;
 mod pending;
 
+pub use mark::{Mark, Run};
 pub use pending::{Pending, Segment};

@@ -1,4 +1,4 @@
-ghost use Rattle.std.specs.Prelude.{◌≡◌, ◌≤◌, List, ℕ, [], ◌∷◌, ◌++◌};
+ghost use Rattle.std.specs.Prelude.{◌≡◌, ◌≤◌, ◌↔◌, List, ℕ, [], ◌∷◌, ◌++◌, IsSome, IfSome};
 ghost use Rattle.nf_forms.specs.Properties.{Properties};
 ghost use Rattle.nf_row.specs.Ends.{HasEnds};
 ghost use Rattle.nf_forms.specs.StreamSafe.{max_run};
@@ -36,6 +36,19 @@ impl Counter {
         ensures stands { (p : Properties) → StandsAfter p result [] }
     {
         Counter { count: 0 }
+    }
+
+    /// A counter that has counted so many non-starters; none for more than 30.
+    #[inline]
+    pub fn at(count: u8) -> Option<Counter>
+        ensures some { IsSome result ↔ (count ≤ max_run) }
+        ensures count { IfSome result (λ counter. counter ≡ count) }
+    {
+        if count as usize <= MAX_RUN {
+            Some(Counter { count })
+        } else {
+            None
+        }
     }
 
     /// Takes `k`, the compatibility decomposition of the next character, and answers whether U+034F is to be put before

@@ -1,4 +1,4 @@
-ghost use Rattle.std.specs.Prelude.{◌≡◌, ◌≤◌, ◌↔◌, [], IsTrue, length};
+ghost use Rattle.std.specs.Prelude.{◌≡◌, ◌≤◌, ◌↔◌, [], IsTrue, IsSome, IfSome, length, take};
 ghost use Rattle.nf_utf8.specs.Part.{IsPart};
 ghost use Rattle.nf_utf8.specs.Carry.{bytes_of};
 ghost use Rattle.nf_utf8.specs.Tells.{Tells, part_after};
@@ -18,6 +18,33 @@ pub enum Carry {
 }
 
 impl Carry {
+    /// These bytes, where they begin a character or are none.
+    pub fn holding(bytes: &[u8]) -> Option<Carry>
+        ensures some { IsSome result ↔ IsPart bytes.now }
+        ensures bytes { IfSome result (λ carry. bytes_of carry ≡ bytes.now) }
+    {
+        match *bytes {
+            [] => Some(Carry::Empty),
+            [a] if sequence::is_lead(a) => Some(Carry::One(a)),
+            [a, b] if sequence::is_lead_of_three(a, b) => Some(Carry::Two(a, b)),
+            [a, b, c] if sequence::is_lead_of_four(a, b, c) => Some(Carry::Three(a, b, c)),
+            _ => None,
+        }
+    }
+
+    /// The bytes, at the front of the array, and how many they are.
+    pub fn bytes(self) -> ([u8; 3], usize)
+        ensures bytes { take result.1 result.0 ≡ bytes_of self }
+        ensures few { result.1 ≤ 3 }
+    {
+        match self {
+            Carry::Empty => ([0, 0, 0], 0),
+            Carry::One(a) => ([a, 0, 0], 1),
+            Carry::Two(a, b) => ([a, b, 0], 2),
+            Carry::Three(a, b, c) => ([a, b, c], 3),
+        }
+    }
+
     #[inline]
     pub fn len(self) -> usize
         ensures count { result ≡ length (bytes_of self) }

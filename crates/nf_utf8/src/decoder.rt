@@ -1,4 +1,4 @@
-ghost use Rattle.std.specs.Prelude.{◌≡◌, ◌≤◌, ◌+◌, ℕ, List, Option, [], length, take, drop, encode_utf8_all};
+ghost use Rattle.std.specs.Prelude.{◌≡◌, ◌≤◌, ◌+◌, ℕ, List, ◌↔◌, Option, IsSome, IfSome, [], length, take, drop, encode_utf8_all};
 
 use crate::carry::Carry;
 use crate::chunk::{Chunk, End};
@@ -30,6 +30,7 @@ impl Model for Decoder {
 }
 
 impl Decoder {
+    ghost use Rattle.nf_utf8.specs.Part.{IsPart};
     ghost use Rattle.nf_utf8.specs.declared.chunk.End.{End};
     ghost use Rattle.nf_utf8.specs.Reading.{text_of, ending_of};
     ghost use Rattle.nf_utf8.specs.Standing.{StandsAfter, Answers, bytes_after, ending_at};
@@ -44,6 +45,26 @@ impl Decoder {
         Decoder {
             carry: Carry::Empty,
         }
+    }
+
+    /// A decoder that holds these bytes; none unless they begin a character or there are none.
+    pub fn holding(bytes: &[u8]) -> Option<Decoder>
+        ensures some { IsSome result ↔ IsPart bytes.now }
+        ensures holds { IfSome result (λ decoder. decoder ≡ bytes.now) }
+    {
+        match Carry::holding(bytes) {
+            Some(carry) => Some(Decoder { carry }),
+            None => None,
+        }
+    }
+
+    /// The bytes that it holds, at the front of the array, and how many they are.
+    pub fn held(&self) -> ([u8; 3], usize)
+        ensures bytes { take result.1 result.0 ≡ self.now }
+        ensures few { result.1 ≤ 3 }
+        ensures part { IsPart self.now }
+    {
+        self.carry.bytes()
     }
 
     /// Takes one byte. Behind a bad byte the decoder is as a new one: that byte was not kept, and pushed again it

@@ -1,0 +1,146 @@
+//! A filter as plain data, and made of that again.
+ghost use Rattle.std.specs.Prelude.{◌↔◌, IsTrue};
+ghost use Rattle.nf_filter.specs.Saved.{IsPossible};
+
+use crate::filter::{Filter, State};
+use crate::normalizer::Normalizer;
+use crate::policy::Policy;
+use crate::reading::Reading;
+use arrayvec::ArrayVec;
+use nf_pending::{Pending, Run};
+use nf_row::{Form, Plain, Rows};
+use nf_safe::Counter;
+use nf_utf8::Decoder;
+
+/// Where a filter stands, all of it but the character data.
+#[derive(Debug, Drop)]
+pub struct Saved {
+    pub form: Form,
+    pub policy: Policy,
+    pub spent: bool,
+    /// The offset of the first byte, and that of the next.
+    pub base: u64,
+    pub offset: u64,
+    /// The characters taken, and how many U+034F were put.
+    pub chars: u64,
+    pub put: u64,
+    /// The non-starters that the NFKD of the stream-safe text ends in, 0 to 30.
+    pub count: u8,
+    /// The bytes of a begun character.
+    pub held: ArrayVec<u8, 3>,
+    /// What is not settled: a starter, and marks behind it in order of class.
+    pub starter: Option<char>,
+    pub marks: Run,
+}
+
+impl<'r, R: Rows> Filter<'r, R> {
+    ghost use Rattle.std.specs.Prelude.{◌≡◌, ◌↔◌, ℕ, List, IsSome, IfSome};
+    ghost use Rattle.nf_forms.specs.declared.form.Form.{Form};
+    ghost use Rattle.nf_row.specs.Plain.{rows_of as plain_rows};
+    ghost use Rattle.nf_filter.specs.declared.policy.Policy.{Policy};
+    ghost use Rattle.nf_filter.specs.declared.filter.State.{State};
+    ghost use Rattle.nf_filter.specs.Filter.{rows_of, state_of, StandsAfter};
+    ghost use Rattle.nf_filter.specs.Saved.{saved_of, IsRestorable};
+
+    /// Where it stands.
+    pub fn save(&self) -> Saved
+        ensures saved { result ≡ saved_of (state_of self.now) }
+        ensures restorable { IsRestorable result }
+    {
+        let State {
+            base,
+            spent,
+            policy,
+            ref reading,
+            ref normalizer,
+        } = self.state;
+        let (bytes, len) = reading.decoder.held();
+        let mut held = ArrayVec::new();
+        held.try_extend_from_slice(&bytes[..len]).unwrap();
+        let mut marks = Run::new();
+        marks
+            .try_extend_from_slice(normalizer.pending.marks())
+            .unwrap();
+        Saved {
+            form: normalizer.form,
+            policy,
+            spent,
+            base,
+            offset: reading.offset,
+            chars: normalizer.chars,
+            put: normalizer.put,
+            count: normalizer.counter.count(),
+            held,
+            starter: normalizer.pending.starter(),
+            marks,
+        }
+    }
+
+    /// The filter that stands there, over data of which ASCII is plain; none where no filter can.
+    pub fn restore(plain: Plain<'r, R>, saved: Saved) -> Option<Filter<'r, R>>
+        ensures some { IsSome result ↔ IsRestorable saved }
+        ensures rows { IfSome result (λ filter. rows_of filter ≡ plain_rows plain.entry) }
+        ensures saved { IfSome result (λ filter. saved_of (state_of filter) ≡ saved) }
+        ensures stands { let p = R.properties (plain_rows plain.entry) in
+            (policy : Policy) (f : Form) (state : State) (bytes : List ℕ) → StandsAfter policy f p state bytes → saved_of state ≡ saved
+            → IfSome result (λ filter. StandsAfter policy f p (state_of filter) bytes) }
+    {
+        let rows = plain.rows();
+        let Some(decoder) = Decoder::holding(saved.held.as_slice()) else {
+            return None;
+        };
+        let Some(counter) = Counter::at(saved.count) else {
+            return None;
+        };
+        if !is_possible(&saved) {
+            return None;
+        }
+        let Saved {
+            form,
+            policy,
+            spent,
+            base,
+            offset,
+            chars,
+            put,
+            count: _,
+            held: _,
+            starter,
+            marks,
+        } = saved;
+        Some(Filter {
+            rows,
+            state: State {
+                base,
+                spent,
+                policy,
+                reading: Reading { decoder, offset },
+                normalizer: Normalizer {
+                    form,
+                    is_plain: true,
+                    counter,
+                    pending: Pending::holding(form, starter, marks),
+                    chars,
+                    put,
+                },
+            },
+        })
+    }
+}
+
+/// Whether the counts fit together, as those of each filter do.
+fn is_possible(saved: &Saved) -> bool
+    ensures { IsTrue result ↔ IsPossible saved.now }
+{
+    if saved.base > saved.offset {
+        return false;
+    }
+    if saved.spent {
+        return true;
+    }
+    let held = saved.held.len() as u64;
+    held <= saved.offset
+        && saved.chars <= saved.offset - held
+        && saved.put <= saved.chars
+        && saved.marks.len() <= saved.count as usize
+}
