@@ -1,0 +1,54 @@
+-- What feeding takes of the caller's input, and gives to the caller's output.
+use Rattle.std.specs.Prelude.{◌≡◌, true, false, Bool, ℕ, ◌≤◌, List, ◌++◌, length, take, Option, Some, None}
+use Rattle.nf_forms.specs.Ucd.{ucd}
+use Rattle.nf_forms.specs.declared.form.Form.{Form}
+use Rattle.nf_filter.specs.declared.fault.Fault.{Fault}
+use Rattle.nf_filter.specs.declared.fault.Fault.TheVariants.{Spent, TooLong, Read, Write, Row, BadByte, Cut, Unassigned}
+use Rattle.nf_filter.specs.declared.filter.State.{State as FilterState}
+use Rattle.nf_filter.specs.declared.policy.Policy.{Policy}
+use Rattle.nf_filter.specs.Devices.{SinkState}
+use Rattle.nf_filter.specs.Writes.{Puts}
+use Rattle.nf_filter.specs.Settled.{settled_utf8}
+use Rattle.nf_filter.specs.Faults.{fault_in}
+use Rattle.nf_filter.specs.Filter.{base_of, StandsAfter as FilterStandsAfter}
+use Rattle.nf_c.specs.declared.feeding.Fed.{Fed}
+use Rattle.nf_c.specs.declared.moved.Moved.{Moved}
+use Rattle.nf_c.specs.declared.state.State.{State}
+use Rattle.nf_c.specs.Moved.{ended}
+use Rattle.nf_c.specs.State.{StandsAfter}
+
+-- the text ends there: a full output or too long an input does not end it
+abbrev pub ends : Option Fault → Bool
+ends None = false
+ends (Some Spent) = true
+ends (Some TooLong) = false
+ends (Some Read) = true
+ends (Some Write) = false
+ends (Some (Row at)) = true
+ends (Some (BadByte at start)) = true
+ends (Some (Cut at start)) = true
+ends (Some (Unassigned at)) = true
+
+-- a front of the piece was fed to the filter, which stood after the bytes: what that settles was written, and then there is
+-- a fault in it, or the filter stands behind it
+pub record FeedsFront (policy : Policy) (f : Form) (bytes piece : List ℕ) (old new : SinkState) (was now : FilterState) (fed : Fed) : Type 0 where
+  pub within : fed.len ≤ length piece
+  pub puts : Puts old new (settled_utf8 policy f ucd bytes) (settled_utf8 policy f ucd (bytes ++ take fed.len piece))
+  pub base : base_of now ≡ base_of was
+  pub stands : ends fed.fault ≡ false → FilterStandsAfter policy f ucd now (bytes ++ take fed.len piece)
+  pub fault : ends fed.fault ≡ true → fed.fault ≡ fault_in policy ucd (base_of was) (bytes ++ take fed.len piece)
+
+-- the state stood after the bytes: so many bytes were read of the input, and the first of the output are what these settle
+pub record Feeds (policy : Policy) (f : Form) (bytes input : List ℕ) (old new : State) (output : List ℕ) (moved : Moved) : Type 0 where
+  pub fault : Option Fault
+  pub read : ℕ
+  pub written : ℕ
+  pub is : moved ≡ ended fault read written
+  pub read_within : read ≤ length input
+  pub written_within : written ≤ length output
+  pub settles : settled_utf8 policy f ucd (bytes ++ take read input) ≡ settled_utf8 policy f ucd bytes ++ take written output
+  -- all was read where no fault is told
+  pub all : fault ≡ None → read ≡ length input
+  -- the state stands behind what was read, or a fault is in that, and the state is spent
+  pub stands : ends fault ≡ false → StandsAfter policy f new (bytes ++ take read input)
+  pub told : ends fault ≡ true → fault ≡ fault_in policy ucd old.base (bytes ++ take read input)

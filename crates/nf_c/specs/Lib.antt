@@ -1,0 +1,6 @@
+pub mod Status
+pub mod Moved
+pub mod State
+pub mod Room
+pub mod Feeds
+pub mod Starts

@@ -1,0 +1,17 @@
+//! The filter for callers from C: its state is plain data in the caller's memory, its input and output are the caller's
+//! slices, and each call tells how much of them it read and wrote. `nfstream_c` exports these calls.
+#![tactic(auto)]
+
+mod feeding;
+mod moved;
+mod packing;
+mod room;
+mod starting;
+mod state;
+mod status;
+
+pub use feeding::feed;
+pub use moved::Moved;
+pub use starting::start;
+pub use state::State;
+pub use status::Status;

@@ -1,0 +1,71 @@
+ghost use Rattle.std.specs.Prelude.{◌≡◌, ◌↔◌, ℕ, List, [], IsSome, IfSome};
+ghost use Rattle.nf_forms.specs.Ucd.{ucd};
+ghost use Rattle.nf_forms.specs.declared.form.Form.{Form};
+ghost use Rattle.nf_filter.specs.declared.filter.State.{State as FilterState};
+ghost use Rattle.nf_filter.specs.declared.policy.Policy.{Policy};
+ghost use Rattle.nf_filter.specs.Filter.{state_of, StandsAfter as FilterStandsAfter};
+ghost use Rattle.nf_filter.specs.Saved.{saved_of, IsRestorable};
+ghost use Rattle.nf_row.specs.Ascii.{IsPlainAscii};
+ghost use Rattle.nf_c.specs.State.{IsForm, IsPolicy, form_at, policy_at, CanStand, StandsAfter, unpacked};
+ghost use Rattle.nf_c.specs.Starts.{start_status};
+ghost use Rattle.nf_c.specs.declared.status.Status.TheVariants.{Done};
+
+use crate::packing::{form_of, pack, policy_of, unpack};
+use crate::state::State;
+use crate::status::Status;
+use nf_filter::{Filter, Saved};
+use nf_row::{Plain, Rows, Ucd};
+
+/// A state that has read nothing. The first byte to come has the offset `base`.
+pub fn start(state: &mut State, form: u32, policy: u32, base: u64) -> Status
+    ensures status { result ≡ start_status form policy }
+    ensures kept { ¬ (result ≡ Done) → state.new ≡ state.old }
+    ensures base { result ≡ Done → state.new.base ≡ base }
+    ensures stands { result ≡ Done → StandsAfter (policy_at policy) (form_at form) state.new [] }
+{
+    let Some(form) = form_of(form) else {
+        return Status::NoForm;
+    };
+    let Some(policy) = policy_of(policy) else {
+        return Status::NoPolicy;
+    };
+    let filter = Filter::fast(plain(), form, base).policy(policy);
+    *state = pack(&filter.save());
+    Status::Done
+}
+
+/// The filter that stands where the state says; none where no filter does.
+pub fn filter_of(state: &State) -> Option<Filter<'static, Ucd>>
+    ensures some { IsSome result ↔ CanStand state.now }
+    ensures saved { IfSome result (λ filter. saved_of (state_of filter) ≡ unpacked state.now) }
+    ensures stands { (policy : Policy) (f : Form) (bytes : List ℕ) → StandsAfter policy f state.now bytes → IfSome result (λ filter. FilterStandsAfter policy f ucd (state_of filter) bytes) }
+{
+    match unpack(state) {
+        Some(saved) => Filter::restore(plain(), saved),
+        None => None,
+    }
+}
+
+/// The filter that was saved.
+pub fn restored(saved: Saved) -> Filter<'static, Ucd>
+    requires { IsRestorable saved }
+    ensures stands { (policy : Policy) (f : Form) (state : FilterState) (bytes : List ℕ) → FilterStandsAfter policy f ucd state bytes → saved_of state ≡ saved
+        → FilterStandsAfter policy f ucd (state_of result) bytes }
+    ensures saved { saved_of (state_of result) ≡ saved }
+{
+    match Filter::restore(plain(), saved) {
+        Some(filter) => filter,
+        None => unreachable!(),
+    }
+}
+
+/// Unicode's data, of which ASCII is plain.
+fn plain() -> Plain<'static, Ucd>
+    ensures { IsPlainAscii ucd }
+{
+    let _known = Ucd.all_ascii_plain();
+    match Plain::of(&Ucd) {
+        Some(plain) => plain,
+        None => unreachable!(),
+    }
+}
