@@ -4,3 +4,4 @@ pub mod State
 pub mod Room
 pub mod Feeds
 pub mod Starts
+pub mod Finishes

@@ -146,7 +146,7 @@ fn try_piece(filter: &mut Filter<'_, Ucd>, piece: &[u8], room: &mut Room<'_>) ->
 }
 
 /// Whether there was no room.
-fn is_full(fault: Option<Fault>) -> bool
+pub fn is_full(fault: Option<Fault>) -> bool
     ensures { IsTrue result ↔ (fault ≡ Some Write) }
 {
     matches!(fault, Some(Fault::Write))

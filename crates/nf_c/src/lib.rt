@@ -3,6 +3,7 @@
 #![tactic(auto)]
 
 mod feeding;
+mod finishing;
 mod moved;
 mod packing;
 mod room;
@@ -11,6 +12,7 @@ mod state;
 mod status;
 
 pub use feeding::feed;
+pub use finishing::finish;
 pub use moved::Moved;
 pub use starting::start;
 pub use state::State;

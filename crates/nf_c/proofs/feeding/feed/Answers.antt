@@ -1,4 +1,4 @@
-use Rattle.std.proofs.Common.{◌≡◌, ◌++◌, take, refl, sym, ap, ◌∙◌, subst, rules}
+use Rattle.std.proofs.Common.{◌≡◌, ◌++◌, take, sym, ap, ◌∙◌, subst, rules}
 use Rattle.nf_forms.specs.Ucd.{ucd}
 use Rattle.nf_filter.specs.declared.saved.Saved.{Saved}
 use Rattle.nf_filter.specs.Devices.{SinkState}

@@ -1,4 +1,4 @@
-use Rattle.std.proofs.Common.{◌≡◌, ◌+◌, ◌≤◌, length, false, Some, None, refl, ap, ◌∙◌, arith, rules}
+use Rattle.std.proofs.Common.{◌≡◌, ◌+◌, ◌≤◌, length, Some, None, refl, ap, ◌∙◌, arith, rules}
 use Rattle.nf_filter.specs.declared.fault.Fault.TheVariants.{Write}
 use Rattle.nf_c.specs.Feeds.{ends}
 use Rattle.nf_c.proofs.FeedsLemmas.{FeedsFront-next, FeedsFront-goes}

@@ -1,5 +1,4 @@
 use Rattle.std.proofs.Common.{◌≡◌, ℕ, List, ◌++◌, [], inl, inr, true, false, min, take, Some, Err, sym, ap, ◌∙◌, append-nil}
-use Rattle.nf_filter.specs.declared.fault.Fault.TheVariants.{Write, TooLong}
 use Rattle.nf_filter.specs.declared.saved.Saved.{Saved}
 use Rattle.nf_filter.specs.Filter.{state_of}
 use Rattle.nf_c.specs.declared.room.Mark.{Mark}
