@@ -1,0 +1,84 @@
+//! The calls of `include/nfstream.h`: each is that of `nf_c`, and states its clauses again.
+#![tactic(auto)]
+
+ghost use Rattle.std.specs.Prelude.{◌≡◌, ℕ, List, []};
+ghost use Rattle.nf_forms.specs.declared.form.Form.{Form};
+ghost use Rattle.nf_filter.specs.declared.policy.Policy.{Policy};
+ghost use Rattle.nf_c.specs.Feeds.{Feeds};
+ghost use Rattle.nf_c.specs.Finishes.{Finishes};
+ghost use Rattle.nf_c.specs.State.{CanStand, StandsAfter, form_at, policy_at};
+ghost use Rattle.nf_c.specs.Starts.{start_status};
+ghost use Rattle.nf_c.specs.Status.{code_of};
+ghost use Rattle.nf_c.specs.Moved.{moved as moved_by};
+ghost use Rattle.nf_c.specs.declared.status.Status.TheVariants.{Done, NoState, Spent};
+ghost use Rattle.nf_c.specs.declared.moved.Moved.{Moved as NfMoved};
+ghost use Rattle.nfstream_c.specs.Told.{Tells};
+
+use nf_c::State;
+
+/// What a call read and wrote, and the place of a fault.
+#[repr(C)]
+#[derive(Clone, Copy)]
+pub struct Moved {
+    pub read: usize,
+    pub written: usize,
+    pub at: u64,
+    pub start: u64,
+}
+
+#[unsafe(no_mangle)]
+pub extern "C" fn nf_start(state: &mut State, form: u32, policy: u32, base: u64) -> u32
+    ensures status { result ≡ code_of (start_status form policy) }
+    ensures kept { ¬ (start_status form policy ≡ Done) → state.new ≡ state.old }
+    ensures base { start_status form policy ≡ Done → state.new.base ≡ base }
+    ensures stands { start_status form policy ≡ Done → StandsAfter (policy_at policy) (form_at form) state.new [] }
+{
+    nf_c::start(state, form, policy, base).code()
+}
+
+#[unsafe(no_mangle)]
+pub extern "C" fn nf_feed(
+    state: &mut State,
+    input: &[u8],
+    output: &mut [u8],
+    moved: &mut Moved,
+) -> u32
+    ensures none { ¬ CanStand state.old → Tells (moved_by NoState 0 0) moved.new result × (state.new ≡ state.old) }
+    ensures spent { CanStand state.old → state.old.spent ≡ 1 → Tells (moved_by Spent 0 0) moved.new result × (state.new ≡ state.old) }
+    ensures feeds { (policy : Policy) (f : Form) (bytes : List ℕ) → StandsAfter policy f state.old bytes
+        → (told : NfMoved) × Tells told moved.new result × Feeds policy f bytes input.now state.old state.new output.new told }
+{
+    let done = nf_c::feed(state, input, output);
+    tell(done, moved)
+}
+
+#[unsafe(no_mangle)]
+pub extern "C" fn nf_finish(state: &mut State, output: &mut [u8], moved: &mut Moved) -> u32
+    ensures none { ¬ CanStand state.old → Tells (moved_by NoState 0 0) moved.new result × (state.new ≡ state.old) }
+    ensures spent { CanStand state.old → state.old.spent ≡ 1 → Tells (moved_by Spent 0 0) moved.new result × (state.new ≡ state.old) }
+    ensures finishes { (policy : Policy) (f : Form) (bytes : List ℕ) → StandsAfter policy f state.old bytes
+        → (told : NfMoved) × Tells told moved.new result × Finishes policy f bytes state.old state.new output.new told }
+{
+    let done = nf_c::finish(state, output);
+    tell(done, moved)
+}
+
+/// The version of these calls.
+#[unsafe(no_mangle)]
+pub extern "C" fn nf_version() -> u32
+    ensures { result ≡ 1 }
+{
+    1
+}
+
+fn tell(done: nf_c::Moved, moved: &mut Moved) -> u32
+    ensures { Tells done moved.new result }
+{
+    *moved = Moved {
+        read: done.read,
+        written: done.written,
+        at: done.at,
+        start: done.start,
+    };
+    done.status.code()
+}

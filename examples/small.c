@@ -1,0 +1,92 @@
+/* Outputs of every size from 0 to 300 and inputs cut at every place give what one call gives; memory that is no state is
+ * refused; NULL with length 0 is taken. */
+#include "nfstream.h"
+#include <stdio.h>
+#include <stdlib.h>
+#include <string.h>
+
+static void must(int holds, const char *what) {
+  if (!holds) {
+    fprintf(stderr, "small: %s\n", what);
+    exit(1);
+  }
+}
+
+/* Blocks of exactly the size, so that AddressSanitizer sees a step beyond. */
+static uint8_t *block(size_t len) { return malloc(len ? len : 1) + (len ? 0 : 1); }
+static void drop(uint8_t *bytes, size_t len) { free(bytes - (len ? 0 : 1)); }
+
+/* The form of the text, in pieces of `cut` bytes and through an output of `room` bytes; 0 where a byte found no room. */
+static size_t run(uint32_t form, const uint8_t *text, size_t len, size_t cut, size_t room, uint8_t *whole) {
+  struct nf_state state;
+  struct nf_moved moved;
+  size_t at = 0, out = 0;
+  uint32_t status;
+  uint8_t *bytes = block(room);
+  must(nf_start(&state, form, NF_AS_IS, 0) == NF_DONE, "start");
+  while (at < len) {
+    size_t some = len - at < cut ? len - at : cut;
+    uint8_t *piece = block(some);
+    memcpy(piece, text + at, some);
+    status = nf_feed(&state, piece, some, bytes, room, &moved);
+    drop(piece, some);
+    must(status == NF_DONE || status == NF_FULL, "feed");
+    must((status == NF_DONE) == (moved.read == some), "all is read");
+    must(moved.read <= some && moved.written <= room, "within");
+    memcpy(whole + out, bytes, moved.written);
+    at += moved.read;
+    out += moved.written;
+    if (moved.read == 0) { /* less room than 256 bytes may be too little for one byte of input: go on with more */
+      must(room < NF_LEAST_ROOM, "one byte gets on");
+      drop(bytes, room);
+      room = NF_LEAST_ROOM;
+      bytes = block(room);
+    }
+  }
+  while ((status = nf_finish(&state, bytes, room, &moved)) == NF_FULL) {
+    must(room < NF_LEAST_ROOM && moved.written == 0, "the end has room");
+    drop(bytes, room);
+    room = NF_LEAST_ROOM;
+    bytes = block(room);
+  }
+  must(status == NF_DONE, "finish");
+  memcpy(whole + out, bytes, moved.written);
+  drop(bytes, room);
+  return out + moved.written;
+}
+
+int main(void) {
+  static uint8_t text[4096], due[1 << 16], got[1 << 16];
+  size_t len = 0, due_len;
+  struct nf_state state;
+  struct nf_moved moved;
+  /* ASCII, a letter with 70 marks in falling order of class, Hangul letters, and U+FDFA, which NFKC makes 18 code points of. */
+  len += (size_t)sprintf((char *)text, "plain Vie\xcc\x82\xcc\xa3t q");
+  for (int i = 0; i < 35; i++) len += (size_t)sprintf((char *)text + len, "\xcc\x81\xcc\xa3");
+  len += (size_t)sprintf((char *)text + len, "\xe1\x84\x92\xe1\x85\xa1\xe1\x86\xab \xef\xb7\xba\xef\xb7\xba \xf0\x9d\x85\x9e\xef\xac\x81 end\n");
+  for (uint32_t form = NF_NFC; form <= NF_NFKD; form++) {
+    due_len = run(form, text, len, len, sizeof due / 2, due);
+    for (size_t room = 0; room <= 300; room++) must(run(form, text, len, len, room, got) == due_len && memcmp(due, got, due_len) == 0, "each size of output");
+    for (size_t cut = 1; cut < len; cut++) must(run(form, text, len, cut, 256, got) == due_len && memcmp(due, got, due_len) == 0, "each cut");
+  }
+  memset(&state, 0, sizeof state);
+  must(nf_feed(&state, text, 1, got, 256, &moved) == NF_NO_STATE && moved.read == 0 && moved.written == 0, "zeros are no state");
+  memset(&state, 0xAB, sizeof state);
+  must(nf_finish(&state, got, 256, &moved) == NF_NO_STATE, "garbage is no state");
+  must(nf_start(&state, 0, NF_AS_IS, 0) == NF_NO_FORM && nf_start(&state, 5, NF_AS_IS, 0) == NF_NO_FORM, "no form");
+  must(nf_start(&state, NF_NFC, 4, 0) == NF_NO_POLICY, "no policy");
+  must(nf_start(&state, NF_NFC, NF_AS_IS, 7) == NF_DONE, "start");
+  must(nf_feed(&state, text, 0, got, 0, &moved) == NF_DONE, "nothing to feed");
+  must(nf_feed(&state, (const uint8_t *)"ab\xc3(", 4, got, 256, &moved) == NF_BAD_BYTE, "a bad byte");
+  must(moved.at == 10 && moved.start == 9 && moved.written == 1 && got[0] == 'a', "its place");
+  must(nf_feed(&state, text, 1, got, 256, &moved) == NF_SPENT && nf_finish(&state, got, 256, &moved) == NF_SPENT, "spent");
+  must(nf_start(&state, NF_NFC, NF_AS_IS, 0) == NF_DONE && nf_feed(&state, (const uint8_t *)"ab\xc3", 3, got, 256, &moved) == NF_DONE, "a part");
+  must(nf_finish(&state, got, 256, &moved) == NF_CUT && moved.at == 3 && moved.start == 2, "cut");
+  must(nf_start(&state, NF_NFC, NF_REPLACE, 0) == NF_DONE && nf_feed(&state, (const uint8_t *)"ab\xff\xc3", 4, got, 256, &moved) == NF_DONE, "replaced");
+  must(moved.written == 2 && nf_finish(&state, got, 256, &moved) == NF_DONE && moved.written == 6 && memcmp(got, "\xef\xbf\xbd\xef\xbf\xbd", 6) == 0, "two replacements");
+  must(nf_start(&state, NF_NFC, NF_ASSIGNED, 0) == NF_DONE && nf_feed(&state, (const uint8_t *)"a\xcd\xb8", 3, got, 256, &moved) == NF_UNASSIGNED && moved.at == 1, "unassigned");
+  must(nf_start(&state, NF_NFC, NF_AS_IS, UINT64_MAX) == NF_DONE && nf_feed(&state, text, 1, got, 256, &moved) == NF_TOO_LONG && moved.read == 0, "too long");
+  must(nf_version() == NF_VERSION, "version");
+  puts("small outputs, cuts, faults and garbage: as they should be");
+  return 0;
+}

@@ -1,0 +1,97 @@
+"""nfstream from Python: random texts in random pieces and through small outputs, with the state copied between calls, against
+unicodedata. python3 examples/state.py LIBRARY [TEXTS]"""
+
+import ctypes
+import random
+import sys
+import unicodedata
+
+FORMS = ("NFC", "NFD", "NFKC", "NFKD")
+DONE, FULL, SPENT, NO_STATE = 0, 3, 7, 8
+
+
+class State(ctypes.Structure):
+    _fields_ = (
+        [(name, ctypes.c_uint64) for name in ("base", "offset", "chars", "put")]
+        + [("starter", ctypes.c_uint32), ("marks", ctypes.c_uint32 * 30), ("held", ctypes.c_uint8 * 3)]
+        + [(name, ctypes.c_uint8) for name in ("held_len", "marks_len", "count", "form", "policy", "spent")]
+    )
+
+
+class Moved(ctypes.Structure):
+    _fields_ = [("read", ctypes.c_size_t), ("written", ctypes.c_size_t), ("at", ctypes.c_uint64), ("start", ctypes.c_uint64)]
+
+
+library = ctypes.CDLL(sys.argv[1])
+library.nf_start.argtypes = [ctypes.POINTER(State), ctypes.c_uint32, ctypes.c_uint32, ctypes.c_uint64]
+library.nf_feed.argtypes = [ctypes.POINTER(State), ctypes.c_char_p, ctypes.c_size_t, ctypes.c_char_p, ctypes.c_size_t, ctypes.POINTER(Moved)]
+library.nf_finish.argtypes = [ctypes.POINTER(State), ctypes.c_char_p, ctypes.c_size_t, ctypes.POINTER(Moved)]
+assert ctypes.sizeof(State) == 168
+
+
+def copied(state):
+    """The state's bytes, as they might come from a file."""
+    return State.from_buffer_copy(bytes(state))
+
+
+def form_of(data, form, draw):
+    state, moved, out = State(), Moved(), bytearray()
+    assert library.nf_start(state, form, 0, 0) == DONE
+    at = 0
+    while at < len(data):
+        piece = data[at : at + draw.randint(1, 40)]
+        room = ctypes.create_string_buffer(draw.choice((256, 257, 300, 1000)))
+        state = copied(state)
+        status = library.nf_feed(state, piece, len(piece), room, len(room), moved)
+        assert status in (DONE, FULL), status
+        assert (status == DONE) == (moved.read == len(piece))
+        out += room.raw[: moved.written]
+        at += moved.read
+    room = ctypes.create_string_buffer(256)
+    state = copied(state)
+    assert library.nf_finish(state, room, 256, moved) == DONE
+    assert library.nf_finish(state, room, 256, moved) == SPENT
+    return bytes(out + room.raw[: moved.written])
+
+
+def character(draw):
+    """One that is assigned in Python's version of Unicode, often a mark or one with a decomposition."""
+    while True:
+        low, high = draw.choice(((0x20, 0x7F), (0xA0, 0x250), (0x300, 0x370), (0x591, 0x660), (0x900, 0xE00), (0x1100, 0x1200), (0x1E00, 0x2000), (0xAC00, 0xD7A4), (0xF900, 0x10000), (0x1D100, 0x1D200), (0, 0x110000)))
+        c = chr(draw.randrange(low, high))
+        if unicodedata.category(c) not in ("Cn", "Cs"):
+            return c
+
+
+def longest_run(text):
+    run = longest = 0
+    for c in unicodedata.normalize("NFKD", text):
+        run = run + 1 if unicodedata.combining(c) else 0
+        longest = max(longest, run)
+    return longest
+
+
+def main():
+    draw = random.Random(1)
+    checked = 0
+    for _ in range(int(sys.argv[2]) if len(sys.argv) > 2 else 2000):
+        text = "".join(character(draw) for _ in range(draw.randint(0, 60)))
+        if longest_run(text) > 30:
+            continue
+        for number, form in enumerate(FORMS, 1):
+            due = unicodedata.normalize(form, text).encode()
+            assert form_of(text.encode(), number, draw) == due, (form, ascii(text))
+            checked += 1
+    # A state of random bytes is refused, or stands somewhere: nothing else happens.
+    refused = 0
+    for _ in range(20000):
+        state, moved, room = State.from_buffer_copy(draw.randbytes(168)), Moved(), ctypes.create_string_buffer(256)
+        before = bytes(state)
+        if library.nf_feed(state, b"a", 1, room, 256, moved) == NO_STATE:
+            assert bytes(state) == before and moved.read == moved.written == 0
+            refused += 1
+    assert library.nf_feed(State(), b"a", 1, room, 256, moved) == NO_STATE
+    print(f"{checked} forms of random texts agree with unicodedata; {refused} of 20000 random states are refused")
+
+
+main()
