@@ -50,8 +50,9 @@ def form_of(data, form, draw):
     room = ctypes.create_string_buffer(256)
     state = copied(state)
     assert library.nf_finish(state, room, 256, moved) == DONE
+    out += room.raw[: moved.written]
     assert library.nf_finish(state, room, 256, moved) == SPENT
-    return bytes(out + room.raw[: moved.written])
+    return bytes(out)
 
 
 def character(draw):
@@ -91,6 +92,19 @@ def main():
             assert bytes(state) == before and moved.read == moved.written == 0
             refused += 1
     assert library.nf_feed(State(), b"a", 1, room, 256, moved) == NO_STATE
+    # A real state with one byte changed is refused, or goes on from elsewhere within its room.
+    stands = 0
+    for _ in range(20000):
+        real = State()
+        library.nf_start(real, draw.randint(1, 4), draw.randint(0, 3), 5)
+        text = "".join(character(draw) for _ in range(10)).encode()
+        library.nf_feed(real, text, len(text) - 1, ctypes.create_string_buffer(1000), 1000, moved)
+        changed = bytearray(bytes(real))
+        changed[draw.randrange(168)] ^= 1 << draw.randrange(8)
+        status = library.nf_feed(State.from_buffer_copy(changed), text, len(text), ctypes.create_string_buffer(2000), 2000, moved)
+        assert moved.read <= len(text) and moved.written <= 2000
+        stands += status != NO_STATE
+    print(f"{stands} of 20000 states with one bit changed still say something")
     print(f"{checked} forms of random texts agree with unicodedata; {refused} of 20000 random states are refused")
 
 
