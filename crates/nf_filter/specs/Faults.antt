@@ -1,11 +1,12 @@
 -- The fault at which the reading of bytes stops (The Unicode Standard, section 3.9; UAX #15, section 13).
-use Rattle.std.specs.Prelude.{true, false, Bool, ℕ, ◌+◌, ◌==◌, List, length, Option, Some, None, Result, Ok, Err, if◌then◌else◌}
+use Rattle.std.specs.Prelude.{true, false, Bool, ℕ, ◌+◌, ◌==◌, List, length, Option, Some, None, Result, Ok, Err, if◌then◌else◌, [], ◌∷◌}
 use Rattle.nf_forms.specs.Properties.{Properties}
 use Rattle.nf_utf8.specs.Ending.{Ending, Whole, Bad, Cut}
 use Rattle.nf_utf8.specs.Reading.{ending_of}
 use Rattle.nf_filter.specs.declared.fault.Fault.{Fault}
-use Rattle.nf_filter.specs.declared.fault.Fault.TheVariants.{Spent, TooLong, Read, Write, Row, BadByte, Cut as CutShort, Unassigned}
+use Rattle.nf_filter.specs.declared.fault.Fault.TheVariants.{Row, BadByte, Cut as CutShort, Unassigned}
 use Rattle.nf_filter.specs.declared.policy.Policy.{Policy}
+use Rattle.nf_filter.specs.Kinds.{spent, too_long, write, row, ill_formed, cut, unassigned, IsAmong}
 use Rattle.nf_filter.specs.Policy.{text_under, len_under, allowed}
 use Rattle.nf_filter.specs.Settled.{is_usable, usable}
 
@@ -41,55 +42,20 @@ fault_in policy p base bytes = first_fault policy.assigned p (λ front. base + l
 
 -- the faults of taking a character
 abbrev pub IsOfTaking : Fault → Type 0
-IsOfTaking Spent = ⊥
-IsOfTaking TooLong = ⊥
-IsOfTaking Read = ⊥
-IsOfTaking Write = Unit {0}
-IsOfTaking (Row at) = Unit {0}
-IsOfTaking (BadByte at start) = ⊥
-IsOfTaking (CutShort at start) = ⊥
-IsOfTaking (Unassigned at) = Unit {0}
+IsOfTaking = IsAmong (write ∷ row ∷ unassigned ∷ [])
 
 -- those of reading a piece
 abbrev pub IsOfReading : Fault → Type 0
-IsOfReading Spent = ⊥
-IsOfReading TooLong = ⊥
-IsOfReading Read = ⊥
-IsOfReading Write = Unit {0}
-IsOfReading (Row at) = Unit {0}
-IsOfReading (BadByte at start) = Unit {0}
-IsOfReading (CutShort at start) = ⊥
-IsOfReading (Unassigned at) = Unit {0}
+IsOfReading = IsAmong (write ∷ row ∷ ill_formed ∷ unassigned ∷ [])
 
 -- those of the end of all bytes
 abbrev pub IsOfClosing : Fault → Type 0
-IsOfClosing Spent = ⊥
-IsOfClosing TooLong = ⊥
-IsOfClosing Read = ⊥
-IsOfClosing Write = Unit {0}
-IsOfClosing (Row at) = Unit {0}
-IsOfClosing (BadByte at start) = ⊥
-IsOfClosing (CutShort at start) = Unit {0}
-IsOfClosing (Unassigned at) = Unit {0}
+IsOfClosing = IsAmong (write ∷ row ∷ cut ∷ unassigned ∷ [])
 
 -- the faults of feeding a piece
 abbrev pub IsOfFeeding : Fault → Type 0
-IsOfFeeding Spent = Unit {0}
-IsOfFeeding TooLong = Unit {0}
-IsOfFeeding Read = ⊥
-IsOfFeeding Write = Unit {0}
-IsOfFeeding (Row at) = Unit {0}
-IsOfFeeding (BadByte at start) = Unit {0}
-IsOfFeeding (CutShort at start) = ⊥
-IsOfFeeding (Unassigned at) = Unit {0}
+IsOfFeeding = IsAmong (spent ∷ too_long ∷ write ∷ row ∷ ill_formed ∷ unassigned ∷ [])
 
 -- those of finishing
 abbrev pub IsOfFinishing : Fault → Type 0
-IsOfFinishing Spent = Unit {0}
-IsOfFinishing TooLong = ⊥
-IsOfFinishing Read = ⊥
-IsOfFinishing Write = Unit {0}
-IsOfFinishing (Row at) = Unit {0}
-IsOfFinishing (BadByte at start) = ⊥
-IsOfFinishing (CutShort at start) = Unit {0}
-IsOfFinishing (Unassigned at) = Unit {0}
+IsOfFinishing = IsAmong (spent ∷ write ∷ row ∷ cut ∷ unassigned ∷ [])

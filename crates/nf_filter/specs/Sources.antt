@@ -1,40 +1,26 @@
 -- What reading a source to its end comes to, or to what stops it.
-use Rattle.std.specs.Prelude.{◌≡◌, ℕ, ◌+◌, ◌≤◌, ◌^◌, ◌↔◌, Bool, true, false, List, ◌++◌, [], length, Option, None, Result, Ok, Err, OnOk, IsTrue, IsFalse, IsErr}
+use Rattle.std.specs.Prelude.{◌∷◌, ◌≡◌, ℕ, ◌+◌, ◌≤◌, ◌^◌, ◌↔◌, Bool, List, ◌++◌, [], length, Option, None, Result, Ok, Err, OnOk, IsTrue, IsFalse, IsErr}
 use Rattle.std.specs.Result.{result_err}
 use Rattle.std.specs.Io.KnownBytes.{Consumes, IsAtEnd}
 use Rattle.nf_utf8.specs.Reading.{ending_of}
 use Rattle.nf_filter.specs.declared.fault.Fault.{Fault}
-use Rattle.nf_filter.specs.declared.fault.Fault.TheVariants.{Spent, TooLong, Read, Write, Row, BadByte, Cut, Unassigned}
+use Rattle.nf_filter.specs.declared.fault.Fault.TheVariants.{TooLong, Read}
 use Rattle.nf_filter.specs.declared.taker.Stop.{Stop}
 use Rattle.nf_filter.specs.declared.taker.Stop.TheVariants.{Refused, Found}
 use Rattle.nf_filter.specs.declared.reading.Reading.{Reading}
+use Rattle.nf_filter.specs.Kinds.{too_long, read, row, ill_formed, cut, Holds, IsAmong}
 use Rattle.nf_filter.specs.Devices.{SourceState}
 use Rattle.nf_filter.specs.Faults.{answer_at_end}
 use Rattle.nf_filter.specs.Taker.{stop_in, HasRead}
 
 -- why it may stop
 abbrev pub MayStopAll : Bool → Stop → Type 0
-MayStopAll finds (Refused Spent) = ⊥
-MayStopAll finds (Refused TooLong) = Unit {0}
-MayStopAll finds (Refused Read) = Unit {0}
-MayStopAll finds (Refused Write) = ⊥
-MayStopAll finds (Refused (Row at)) = Unit {0}
-MayStopAll finds (Refused (BadByte at start)) = Unit {0}
-MayStopAll finds (Refused (Cut at start)) = Unit {0}
-MayStopAll finds (Refused (Unassigned at)) = ⊥
-MayStopAll true (Found place) = Unit {0}
-MayStopAll false (Found place) = ⊥
+MayStopAll finds (Refused fault) = IsAmong (too_long ∷ read ∷ row ∷ ill_formed ∷ cut ∷ []) fault
+MayStopAll finds (Found place) = Holds finds
 
 -- the input ended inside a character
 abbrev pub IsCutStop : Stop → Type 0
-IsCutStop (Refused Spent) = ⊥
-IsCutStop (Refused TooLong) = ⊥
-IsCutStop (Refused Read) = ⊥
-IsCutStop (Refused Write) = ⊥
-IsCutStop (Refused (Row at)) = ⊥
-IsCutStop (Refused (BadByte at start)) = ⊥
-IsCutStop (Refused (Cut at start)) = Unit {0}
-IsCutStop (Refused (Unassigned at)) = ⊥
+IsCutStop (Refused fault) = IsAmong (cut ∷ []) fault
 IsCutStop (Found place) = ⊥
 
 -- the end, by the ending of all bytes

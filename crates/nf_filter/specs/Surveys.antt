@@ -1,9 +1,10 @@
 -- What reading a source answers, to its end or to the first place or fault in what it gives.
-use Rattle.std.specs.Prelude.{◌≡◌, ℕ, ◌+◌, ◌≤◌, ◌↔◌, ◌^◌, List, [], ◌++◌, length, Option, Some, None, IsTrue, IsFalse, Result, Err}
+use Rattle.std.specs.Prelude.{◌≡◌, ℕ, ◌+◌, ◌≤◌, ◌↔◌, ◌^◌, List, [], ◌++◌, length, Option, Some, None, IsTrue, IsFalse, Result, Err, ◌∷◌}
 use Rattle.std.specs.Io.KnownBytes.{Consumes, IsAtEnd}
 use Rattle.nf_utf8.specs.Reading.{ending_of}
 use Rattle.nf_filter.specs.declared.fault.Fault.{Fault}
-use Rattle.nf_filter.specs.declared.fault.Fault.TheVariants.{Spent, TooLong, Read, Write, Row, BadByte, Cut, Unassigned}
+use Rattle.nf_filter.specs.declared.fault.Fault.TheVariants.{TooLong, Read}
+use Rattle.nf_filter.specs.Kinds.{too_long, read, row, ill_formed, cut, IsAmong}
 use Rattle.nf_filter.specs.Devices.{SourceState}
 use Rattle.nf_filter.specs.Faults.{answer_at_end}
 
@@ -27,22 +28,8 @@ pub record Surveys {T : Type 0} (most base : ℕ) (decision : List ℕ → Optio
 
 -- the faults of it
 abbrev pub IsOfSurvey : Fault → Type 0
-IsOfSurvey Spent = ⊥
-IsOfSurvey TooLong = Unit {0}
-IsOfSurvey Read = Unit {0}
-IsOfSurvey Write = ⊥
-IsOfSurvey (Row at) = Unit {0}
-IsOfSurvey (BadByte at start) = Unit {0}
-IsOfSurvey (Cut at start) = Unit {0}
-IsOfSurvey (Unassigned at) = ⊥
+IsOfSurvey = IsAmong (too_long ∷ read ∷ row ∷ ill_formed ∷ cut ∷ [])
 
 -- the input ended inside a character
 abbrev pub IsCut : Fault → Type 0
-IsCut Spent = ⊥
-IsCut TooLong = ⊥
-IsCut Read = ⊥
-IsCut Write = ⊥
-IsCut (Row at) = ⊥
-IsCut (BadByte at start) = ⊥
-IsCut (Cut at start) = Unit {0}
-IsCut (Unassigned at) = ⊥
+IsCut = IsAmong (cut ∷ [])

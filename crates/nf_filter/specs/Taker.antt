@@ -1,13 +1,13 @@
 -- What becomes of a text that is taken piece by piece.
-use Rattle.std.specs.Prelude.{◌≡◌, ℕ, ◌+◌, ◌-◌, ◌≤◌, Bool, true, false, List, ◌++◌, length, Option, Some, None, option_map, Result, OnOk}
+use Rattle.std.specs.Prelude.{[], ◌∷◌, ◌≡◌, ℕ, ◌+◌, ◌-◌, ◌≤◌, Bool, List, ◌++◌, length, Option, Some, None, option_map, Result, OnOk}
 use Rattle.std.specs.Result.{result_err}
 use Rattle.nf_utf8.specs.Reading.{text_of, ending_of}
 use Rattle.nf_utf8.specs.Standing.{StandsAfter as DecoderStandsAfter}
 use Rattle.nf_filter.specs.declared.fault.Fault.{Fault}
-use Rattle.nf_filter.specs.declared.fault.Fault.TheVariants.{Spent, TooLong, Read, Write, Row, BadByte, Cut, Unassigned}
 use Rattle.nf_filter.specs.declared.taker.Stop.{Stop}
 use Rattle.nf_filter.specs.declared.taker.Stop.TheVariants.{Refused, Found}
 use Rattle.nf_filter.specs.declared.reading.Reading.{Reading}
+use Rattle.nf_filter.specs.Kinds.{too_long, row, ill_formed, Holds, IsAmong}
 use Rattle.nf_filter.specs.Faults.{bad_byte}
 
 -- it is a fault
@@ -17,16 +17,8 @@ IsRefusal (Found place) = ⊥
 
 -- why a taker may stop, which looks for a place or not
 abbrev pub MayStop : Bool → Stop → Type 0
-MayStop finds (Refused Spent) = ⊥
-MayStop finds (Refused TooLong) = ⊥
-MayStop finds (Refused Read) = ⊥
-MayStop finds (Refused Write) = ⊥
-MayStop finds (Refused (Row at)) = Unit {0}
-MayStop finds (Refused (BadByte at start)) = ⊥
-MayStop finds (Refused (Cut at start)) = ⊥
-MayStop finds (Refused (Unassigned at)) = ⊥
-MayStop true (Found place) = Unit {0}
-MayStop false (Found place) = ⊥
+MayStop finds (Refused fault) = IsAmong (row ∷ []) fault
+MayStop finds (Found place) = Holds finds
 
 -- the text y was taken behind x, or why not. `stands` says that it has taken a text, and `stops` what stops it in a text.
 pub record TakesText (stands : List ℕ → Type 0) (stops : List ℕ → Option Stop) (x y : List ℕ) (result : Result (Unit {0}) Stop) : Type 0 where
@@ -60,13 +52,5 @@ pub record ReadsPiece (stands : List ℕ → Type 0) (stops : List ℕ → Optio
 
 -- why reading may stop
 abbrev pub MayStopReading : Bool → Stop → Type 0
-MayStopReading finds (Refused Spent) = ⊥
-MayStopReading finds (Refused TooLong) = Unit {0}
-MayStopReading finds (Refused Read) = ⊥
-MayStopReading finds (Refused Write) = ⊥
-MayStopReading finds (Refused (Row at)) = Unit {0}
-MayStopReading finds (Refused (BadByte at start)) = Unit {0}
-MayStopReading finds (Refused (Cut at start)) = ⊥
-MayStopReading finds (Refused (Unassigned at)) = ⊥
-MayStopReading true (Found place) = Unit {0}
-MayStopReading false (Found place) = ⊥
+MayStopReading finds (Refused fault) = IsAmong (too_long ∷ row ∷ ill_formed ∷ []) fault
+MayStopReading finds (Found place) = Holds finds

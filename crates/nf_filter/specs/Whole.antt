@@ -1,12 +1,13 @@
 -- What bytes that are all there is come to.
-use Rattle.std.specs.Prelude.{◌≡◌, ℕ, ◌<◌, ◌↔◌, List, [], length, Option, Some, None, IsTrue, Result, Err, is_some, if◌then◌else◌, encode_utf8_all}
+use Rattle.std.specs.Prelude.{◌≡◌, ℕ, ◌<◌, ◌↔◌, List, [], length, Option, Some, None, IsTrue, Result, Err, is_some, if◌then◌else◌, encode_utf8_all, ◌∷◌}
 use Rattle.nf_forms.specs.Properties.{Properties}
 use Rattle.nf_forms.specs.declared.form.Form.{Form}
 use Rattle.nf_forms.specs.SafeForm.{safe_form}
 use Rattle.nf_utf8.specs.Text.{IsText}
 use Rattle.nf_filter.specs.declared.fault.Fault.{Fault}
-use Rattle.nf_filter.specs.declared.fault.Fault.TheVariants.{Spent, TooLong, Read, Write, Row, BadByte, Cut, Unassigned}
+use Rattle.nf_filter.specs.declared.fault.Fault.TheVariants.{Write}
 use Rattle.nf_filter.specs.declared.tally.Tally.{Tally}
+use Rattle.nf_filter.specs.Kinds.{write, row, ill_formed, cut, IsAmong}
 use Rattle.nf_filter.specs.Devices.{SinkState}
 use Rattle.nf_filter.specs.Writes.{Puts, BreaksOff}
 use Rattle.nf_filter.specs.Policy.{as_is}
@@ -39,11 +40,4 @@ pub record Converts (f : Form) (p : Properties) (bytes : List ℕ) (old new : Si
 
 -- the faults that may be answered
 abbrev pub IsOfWhole : Fault → Type 0
-IsOfWhole Spent = ⊥
-IsOfWhole TooLong = ⊥
-IsOfWhole Read = ⊥
-IsOfWhole Write = Unit {0}
-IsOfWhole (Row at) = Unit {0}
-IsOfWhole (BadByte at start) = Unit {0}
-IsOfWhole (Cut at start) = Unit {0}
-IsOfWhole (Unassigned at) = ⊥
+IsOfWhole = IsAmong (write ∷ row ∷ ill_formed ∷ cut ∷ [])

@@ -1,5 +1,5 @@
 -- What stands behind all that a reader gave.
-use Rattle.std.specs.Prelude.{◌≡◌, ℕ, List, Option, Some, encode_utf8_all}
+use Rattle.std.specs.Prelude.{◌≡◌, ℕ, List, Option, Some, encode_utf8_all, [], ◌∷◌}
 use Rattle.std.specs.Io.KnownBytes.{Appends}
 use Rattle.nf_forms.specs.Properties.{Properties}
 use Rattle.nf_forms.specs.declared.form.Form.{Form}
@@ -7,6 +7,7 @@ use Rattle.nf_forms.specs.SafeForm.{safe_form}
 use Rattle.nf_utf8.specs.Text.{IsText}
 use Rattle.nf_filter.specs.declared.fault.Fault.{Fault}
 use Rattle.nf_filter.specs.declared.fault.Fault.TheVariants.{Spent, TooLong, Read, Write, Row, BadByte, Cut, Unassigned}
+use Rattle.nf_filter.specs.Kinds.{too_long, read, write, ill_formed, cut, IsAmong}
 
 -- where the reader tells what it had, this was the UTF-8 of a text, and the writer took that of the form of the
 -- stream-safe text
@@ -16,11 +17,4 @@ PassesWhole f p coming taken now = (bytes : List ℕ) → coming ≡ Some bytes
 
 -- the faults of text over Unicode's data
 abbrev pub IsOfText : Fault → Type 0
-IsOfText Spent = ⊥
-IsOfText TooLong = Unit {0}
-IsOfText Read = Unit {0}
-IsOfText Write = Unit {0}
-IsOfText (Row at) = ⊥
-IsOfText (BadByte at start) = Unit {0}
-IsOfText (Cut at start) = Unit {0}
-IsOfText (Unassigned at) = ⊥
+IsOfText = IsAmong (too_long ∷ read ∷ write ∷ ill_formed ∷ cut ∷ [])
