@@ -91,16 +91,21 @@ fn the_least_character_is_named(rt: HostRuntime) {
         fault_of(&[Compat('\u{C5}', &['B', '\u{30A}'])]),
         Some(('\u{C5}', Rule::A3))
     );
-    assert_eq!(rt; fault_of(&[Compat('x', &NINETEEN)]), Some(('x', Rule::A1)));
-    assert_eq!(rt;
-        fault_of(&[Canonical('x', &['\u{C5}'])]),
-        Some(('x', Rule::A2))
-    );
     let changes = [Compat('x', &NINETEEN), Canonical('w', &['\u{C5}'])];
     assert_eq!(rt; fault_of(&changes), Some(('w', Rule::A2)));
     assert_eq!(rt;
         fault_of(&[Compat('\u{10FFFF}', &NINETEEN)]),
         Some(('\u{10FFFF}', Rule::A1))
+    );
+}
+
+/// One of its rows is changed, and the other is that of Unicode.
+#[test]
+fn one_changed_row_is_enough(rt: HostRuntime) {
+    assert_eq!(rt; fault_of(&[Compat('x', &NINETEEN)]), Some(('x', Rule::A1)));
+    assert_eq!(rt;
+        fault_of(&[Canonical('x', &['\u{C5}'])]),
+        Some(('x', Rule::A2))
     );
 }
 
