@@ -4,7 +4,7 @@ use crate::block::Block;
 use crate::devices::{Failed, Sink};
 use crate::fault::Fault;
 use crate::normalizer::Normalizer;
-use nf_row::Rows;
+use nf_row::{Kind, Rows};
 use nf_utf8::ascii_prefix;
 
 impl Normalizer {
@@ -96,6 +96,12 @@ impl Normalizer {
         ensures takes { TakesFrontBehind (R.properties rows.now) self.old self.new (block_state S.state block.old) (block_state S.state block.new) at text.now result }
         ensures lent { (block.new.sink.ghost_name ≡ block.old.sink.ghost_name) × ((S.state block.new.sink.now).lender ≡ (S.state block.old.sink.now).lender) }
     {
+        // No closed text begins with a mark, and to ask for a front of it costs more than to see that.
+        if let Some(c) = text.chars().next()
+            && let Kind::Mark { .. } = rows.kind(self.form, c)
+        {
+            return self.take_first(rows, at, text, block);
+        }
         let Some(closed) = rows.closed_front(self.form, text) else {
             return self.take_else(rows, at, text, block);
         };
