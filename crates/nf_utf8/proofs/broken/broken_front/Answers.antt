@@ -1,4 +1,4 @@
-use Rattle.std.proofs.Common.{◌≤◌, length, arith}
+use Rattle.std.proofs.Common.{arith}
 use Rattle.std.proofs.lemmas.List.{take_rest}
 use Rattle.nf_utf8.proofs.ReplacedLemmas.{part_end-after}
 use Rattle.nf_utf8.proofs.BrokenLemmas.{no_part, one_more}
