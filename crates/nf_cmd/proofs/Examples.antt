@@ -4,7 +4,7 @@ use Rattle.std.specs.Borrow.{Bor}
 use Rattle.clap.specs.Walk.{Text, walked}
 use Rattle.clap.specs.Simple.{subcommand_of}
 use Rattle.nf_forms.specs.declared.form.Form.TheVariants.{Nfc}
-use Rattle.nf_cmd.specs.declared.line.Request.TheVariants.{Convert}
+use Rattle.nf_cmd.specs.declared.line.Request.TheVariants.{Convert, ConvertLines}
 use Rattle.nf_cmd.specs.Line.{convert, flag_rule, form_rule, line, request_of}
 
 module _ (names : Bor (List (Bor Text))) where
@@ -23,3 +23,7 @@ module _ (names : Bor (List (Bor Text))) where
   both : request_of (subcommand_of (line names) (codes "nfstream" ∷ codes "convert" ∷ codes "--assigned" ∷ codes "--form" ∷ codes "nfc" ∷ codes "--replace" ∷ [])) ≡ Some (Convert Nfc (record { replace = true; assigned = true }))
   unfolding line convert form_rule flag_rule walked
   both = refl
+
+  by_lines : request_of (subcommand_of (line names) (codes "nfstream" ∷ codes "convert" ∷ codes "--line-buffered" ∷ codes "--form" ∷ codes "nfc" ∷ codes "--replace" ∷ [])) ≡ Some (ConvertLines Nfc (record { replace = true; assigned = false }))
+  unfolding line convert form_rule flag_rule walked
+  by_lines = refl

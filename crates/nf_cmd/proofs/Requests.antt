@@ -17,8 +17,8 @@ use Rattle.clap.proofs.WalkLemmas.{list_any-map}
 use Rattle.nf_forms.specs.declared.form.Form.{Form}
 use Rattle.nf_forms.specs.declared.form.Form.TheVariants.{Nfc, Nfd, Nfkc, Nfkd}
 use Rattle.nf_cmd.specs.declared.line.Request.{Request}
-use Rattle.nf_cmd.specs.declared.line.Request.TheVariants.{Convert, Check, Measure, Test}
-use Rattle.nf_cmd.specs.Line.{IsLine, IsRefusal, convert, flag_rule, form_named, form_names, form_rule, line, policy_of, request_of}
+use Rattle.nf_cmd.specs.declared.line.Request.TheVariants.{Check, Measure, Test}
+use Rattle.nf_cmd.specs.Line.{IsLine, IsRefusal, conversion, convert, flag_rule, form_named, form_names, form_rule, is_set, line, policy_of, request_of}
 use Rattle.nf_cmd.proofs.Rows.{IsIn}
 use Rattle.nf_cmd.proofs.NoHelp.{IsNoHelp, StopsAtNoHelp, no_help-walk}
 use Rattle.nf_cmd.proofs.LevelRows.{Given, below_faultless, checked, given, nothing_wanted, walk_faultless}
@@ -127,8 +127,9 @@ module _ (names : Bor (List (Bor Text))) (are : texts names.now ≡ form_names) 
       only x (inl same) e = same
       only x (inr (inl same)) e = absurd (differs (codes "replace") x.id refl (ap (λ (r : Rule). r.id) same) e)
       only x (inr (inr (inl same))) e = absurd (differs (codes "assigned") x.id refl (ap (λ (r : Rule). r.id) same) e)
-      only x (inr (inr (inr (inl same)))) e = absurd (differs (codes "help") x.id refl (ap (λ (r : Rule). r.id) same) e)
-      only x (inr (inr (inr (inr bad)))) e = absurd bad
+      only x (inr (inr (inr (inl same)))) e = absurd (differs (codes "line-buffered") x.id refl (ap (λ (r : Rule). r.id) same) e)
+      only x (inr (inr (inr (inr (inl same))))) e = absurd (differs (codes "help") x.id refl (ap (λ (r : Rule). r.id) same) e)
+      only x (inr (inr (inr (inr (inr bad))))) e = absurd bad
 
   value_named : (text : Text) → value_passes form text ≡ true → (f : Form) × (form_named text ≡ Some f)
   unfolding form_rule
@@ -140,7 +141,8 @@ module _ (names : Bor (List (Bor Text))) (are : texts names.now ≡ form_names) 
       let g = form_given words none in
       let f = value_named g.text g.passes in
       let policy = policy_of (rows_after made.rules [] words) in
-      (Convert f.0 policy, ap (λ o. option_map (λ x. Convert x policy) (option_and_then form_named o)) g.first ∙ ap (option_map (λ x. Convert x policy)) f.1)
+      let lines = is_set (codes "line-buffered") (rows_after made.rules [] words) in
+      (conversion f.0 policy lines, ap (λ o. option_map (λ x. conversion x policy lines) (option_and_then form_named o)) g.first ∙ ap (option_map (λ x. conversion x policy lines)) f.1)
 
   pub asked : (words : List Text) → fault_of (line names) words ≡ [] → (r : Request) × (request_of (subcommand_of (line names) words) ≡ Some r)
   unfolding line convert form_rule flag_rule

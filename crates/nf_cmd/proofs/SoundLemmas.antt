@@ -1,5 +1,5 @@
 -- No command ends because a character is unsound, where none of the data is.
-use Rattle.std.proofs.Common.{◌≡◌, ℕ, List, [], Option, Some, None, Result, Ok, Err, inl, inr, refl, sym, ap, ◌∙◌}
+use Rattle.std.proofs.Common.{◌≡◌, ℕ, Bool, true, false, List, [], Option, Some, None, Result, Ok, Err, inl, inr, refl, sym, ap, ◌∙◌}
 use Rattle.std.specs.Prelude.{◌⊎◌, option_map}
 use Rattle.nf_forms.specs.Properties.{Properties}
 use Rattle.nf_forms.specs.declared.form.Form.{Form}
@@ -17,8 +17,15 @@ use Rattle.nf_cmd.specs.declared.fault.Fault.{Fault}
 use Rattle.nf_cmd.specs.declared.fault.Fault.TheVariants.{Row, Write}
 use Rattle.nf_cmd.specs.declared.test.Finding.{Finding}
 use Rattle.nf_cmd.specs.Faults.{told, told_at}
-use Rattle.nf_cmd.specs.declared.line.Request.TheVariants.{Convert, Check, Measure, Test}
+use Rattle.nf_cmd.specs.declared.line.Request.TheVariants.{Convert, ConvertLines, Check, Measure, Test}
 use Rattle.nf_cmd.specs.Converts.{end_of, Converts}
+use Rattle.nf_cmd.specs.ConvertsLines.{lines_end, ConvertsLines}
+use Rattle.nf_filter.specs.Devices.{SinkState, SourceState}
+use Rattle.nf_filter.specs.Finishes.{end_of as finished_by}
+use Rattle.nf_filter.proofs.SoundnessLemmas.{not_a_fault, not_in_end}
+use Rattle.nf_lines.specs.Drives.{bytes_of, DrivesLines}
+use Rattle.nf_filter.specs.declared.tally.Tally.{Tally}
+use Rattle.std.specs.Result.{result_err}
 use Rattle.nf_cmd.specs.Checks.{check_end, Checks}
 use Rattle.nf_cmd.specs.Measures.{measure_end, Measures}
 use Rattle.nf_cmd.specs.Tests.{Tests, Finds, finding_end}
@@ -59,6 +66,29 @@ module _ (p : Properties) (sound : AreSound p) (at : ℕ) (coming left taken now
       let runs = does.runs in
       law 65536 policy f p 0 [] runs.source runs.rest runs.old runs.new does.answer sound runs.drives at (end_row end_of does.answer ended at (λ tally e. cc) (λ fault. refl) does.found_is row)
 
+  -- nor does driving line by line
+  lines_row : (most : ℕ) (policy : Policy) (f : Form) (source rest : SourceState) (old new : SinkState) (answer : Result (Unit {0}) Found) → DrivesLines most policy f p source rest old new answer → ¬ (answer ≡ Err (found.Row at))
+  lines_row most policy f source rest old new answer drives row = by rest.is_at_end refl
+    where
+      is : result_err answer ≡ Some (found.Row at)
+      is = ap result_err row
+
+      other : (k : Found) → ¬ (found.Row at ≡ k) → ¬ (answer ≡ Err k)
+      other k differs e = differs (let same : found.Row at ≡ k = cc in same)
+
+      from_err : (r : Result Tally Found) → result_err r ≡ Some (found.Row at) → r ≡ Err (found.Row at)
+      from_err (Ok tally) e = cc
+      from_err (Err fault) e = (let same : fault ≡ found.Row at = cc in ap (λ k. let r : Result Tally Found = Err k in r) same)
+
+      by : (b : Bool) → rest.is_at_end ≡ b → ⊥
+      by true end = not_in_end p sound 0 at policy (bytes_of drives.taken) (from_err (finished_by policy p 0 (bytes_of drives.taken)) (sym (drives.finished end (other found.Write (λ e. cc))) ∙ is))
+      by false end = not_a_fault p sound 0 at policy (bytes_of drives.taken) (sym (drives.stopped end (other found.Write (λ e. cc)) (other found.Read (λ e. cc)) (other found.TooLong (λ e. cc))).1 ∙ is)
+
+  converted_lines : (f : Form) (policy : Policy) → ConvertsLines f policy p coming left taken now ended → ¬ (ended ≡ Err (Row at))
+  converted_lines f policy does row =
+      let runs = does.runs in
+      lines_row 65536 policy f runs.source runs.rest runs.old runs.new does.answer runs.drives (end_row lines_end does.answer ended at (λ u e. cc) (λ fault. refl) does.found_is row)
+
   checked : CheckingRefusesNone → Checks p coming left taken now ended → ¬ (ended ≡ Err (Row at))
   checked law does row = law 65536 p 0 does.surveyed.source does.surveyed.rest does.answer sound does.surveyed.surveys at (end_row check_end does.answer ended at by_place (λ fault. refl) does.found_is row)
     where
@@ -84,6 +114,7 @@ module _ (p : Properties) (sound : AreSound p) (at : ℕ) (coming left taken now
 -- so what was done for a request did not
 pub never_row : DrivingRefusesNone → CheckingRefusesNone → MeasuringRefusesNone → AreSound ucd → NeverRow
 never_row driving checking measuring sound (Convert form policy) before after found does at = converted ucd sound at before.input after.input before.out after.out found driving form policy does
+never_row driving checking measuring sound (ConvertLines form policy) before after found does at = converted_lines ucd sound at before.input after.input before.out after.out found form policy does
 never_row driving checking measuring sound Check before after found does at = checked ucd sound at before.input after.input before.out after.out found checking does
 never_row driving checking measuring sound Measure before after found does at = measured ucd sound at before.input after.input before.out after.out found measuring does
 never_row driving checking measuring sound Test before after found does at = tested ucd sound at before.input after.input before.out after.out found does

@@ -8,10 +8,11 @@ use Rattle.nf_forms.specs.Ucd.{ucd}
 use Rattle.nf_cmd.specs.declared.fault.Fault.{Fault}
 use Rattle.nf_cmd.specs.declared.fault.Fault.TheVariants.{Row, Write, Memory}
 use Rattle.nf_cmd.specs.declared.line.Request.{Request}
-use Rattle.nf_cmd.specs.declared.line.Request.TheVariants.{Convert, Check, Measure, Test}
+use Rattle.nf_cmd.specs.declared.line.Request.TheVariants.{Convert, ConvertLines, Check, Measure, Test}
 use Rattle.nf_cmd.specs.Line.{Asks, Refuses}
 use Rattle.nf_cmd.specs.Fronts.{AppendsFront}
 use Rattle.nf_cmd.specs.Converts.{Converts}
+use Rattle.nf_cmd.specs.ConvertsLines.{ConvertsLines}
 use Rattle.nf_cmd.specs.Checks.{Checks}
 use Rattle.nf_cmd.specs.Measures.{Measures}
 use Rattle.nf_cmd.specs.Tests.{Tests}
@@ -58,6 +59,7 @@ pub record IsRefused (words : List Text) (before after : Devices) (status : ℕ)
 -- what a subcommand reads and writes, by how it ends
 abbrev pub Does : Request → Devices → Devices → Result ℕ Fault → Type 0
 Does (Convert form policy) before after found = Converts form policy ucd before.input after.input before.out after.out found
+Does (ConvertLines form policy) before after found = ConvertsLines form policy ucd before.input after.input before.out after.out found
 Does Check before after found = Checks ucd before.input after.input before.out after.out found
 Does Measure before after found = Measures ucd before.input after.input before.out after.out found
 Does Test before after found = Tests ucd before.input after.input before.out after.out found

@@ -16,7 +16,7 @@ use Rattle.nf_forms.specs.declared.form.Form.{Form}
 use Rattle.nf_forms.specs.declared.form.Form.TheVariants.{Nfc, Nfd, Nfkc, Nfkd}
 use Rattle.nf_filter.specs.declared.policy.Policy.{Policy}
 use Rattle.nf_cmd.specs.declared.line.Request.{Request}
-use Rattle.nf_cmd.specs.declared.line.Request.TheVariants.{Convert, Check, Measure, Test}
+use Rattle.nf_cmd.specs.declared.line.Request.TheVariants.{Convert, ConvertLines, Check, Measure, Test}
 
 -- the values of --form
 abbrev pub form_names : List Text
@@ -42,12 +42,13 @@ form_rule names = record (new_rule (codes "form")) {
 unfoldable pub flag_rule : Text → Rule
 flag_rule name = record (new_rule name) { long = Some name; action = Some SetTrue }
 
--- `convert --form F`, with the flags --replace and --assigned
+-- `convert --form F`, with the flags --replace, --assigned and --line-buffered
 unfoldable pub convert : Bor (List (Bor Text)) → App
 convert names =
-    with_rule (with_rule (with_rule (new_app (codes "convert")) (form_rule names))
+    with_rule (with_rule (with_rule (with_rule (new_app (codes "convert")) (form_rule names))
     (flag_rule (codes "replace")))
-    (flag_rule (codes "assigned"))
+    (flag_rule (codes "assigned")))
+    (flag_rule (codes "line-buffered"))
 
 -- the program's line: one of the subcommands
 unfoldable pub line : Bor (List (Bor Text)) → App
@@ -80,10 +81,14 @@ abbrev pub policy_of : List Row → Policy
 policy_of rows =
     record { replace = is_set (codes "replace") rows; assigned = is_set (codes "assigned") rows }
 
--- what a subcommand asks for, by its name, the value of --form and the policy
-abbrev pub request_by : Text → Option Text → Policy → Option Request
-request_by name form policy =
-    if bytes_eq name (codes "convert") then option_map (λ f. Convert f policy) (option_and_then form_named form)
+-- `convert`, line by line or not
+abbrev pub conversion : Form → Policy → Bool → Request
+conversion f policy lines = if lines then ConvertLines f policy else Convert f policy
+
+-- what a subcommand asks for, by its name, the value of --form, the policy and the flag --line-buffered
+abbrev pub request_by : Text → Option Text → Policy → Bool → Option Request
+request_by name form policy lines =
+    if bytes_eq name (codes "convert") then option_map (λ f. conversion f policy lines) (option_and_then form_named form)
     else (if bytes_eq name (codes "check") then Some Check
     else (if bytes_eq name (codes "measure") then Some Measure
     else (if bytes_eq name (codes "test") then Some Test else None)))
@@ -91,7 +96,7 @@ request_by name form policy =
 -- the same, by its name and what was found for its options
 abbrev pub request_of : Option (Text × List Row) → Option Request
 request_of None = None
-request_of (Some p) = request_by p.0 (first_of (codes "form") p.1) (policy_of p.1)
+request_of (Some p) = request_by p.0 (first_of (codes "form") p.1) (policy_of p.1) (is_set (codes "line-buffered") p.1)
 
 -- clap finds no fault with the words, and they ask for this
 pub record Asks (words : List Text) (r : Request) : Type 0 where

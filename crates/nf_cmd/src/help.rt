@@ -14,7 +14,8 @@ Status:
 
 pub(crate) const CONVERT: &str = "\
 Reads UTF-8 from standard input, and writes the form to standard output as soon as it is settled.
-At a fault, what had settled before it is written.
+At a fault, what had settled before it is written. The last character of what was read may wait,
+since a mark may follow it; with --line-buffered none waits behind a line feed.
 
 Status:
   0  all is written

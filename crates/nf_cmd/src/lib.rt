@@ -2,6 +2,7 @@
 //! is wrong with input that it refuses.
 #![tactic(auto)]
 
+mod by_lines;
 mod check;
 mod convert;
 mod fault;

@@ -4,7 +4,7 @@ ghost use Rattle.clap.specs.Words.{app_of, found_of, kind_of, new_app, rows_of, 
 ghost use Rattle.clap.specs.declared.builder.command.Command.TheViews.{out-Command};
 ghost use Rattle.clap.specs.Walk.{texts};
 ghost use Rattle.nf_cmd.specs.Line.{Asks, IsConvert, IsFormRule, IsLine, IsRefusal, flag_rule, form_named, is_set};
-ghost use Rattle.nf_cmd.specs.Line.{policy_of, request_by, request_of};
+ghost use Rattle.nf_cmd.specs.Line.{conversion, policy_of, request_by, request_of};
 
 use crate::help;
 use clap::{Arg, ArgAction, ArgMatches, Command, Error};
@@ -17,6 +17,8 @@ use std::alloc::{AllocError, Global};
 pub(crate) enum Request {
     /// `convert`: the form of the stream-safe text, read by a policy.
     Convert(Form, Policy),
+    /// `convert` line by line.
+    ConvertLines(Form, Policy),
     /// `check`: whether the text is stream-safe, and where it is not.
     Check,
     /// `measure`: what is measured of the text.
@@ -84,10 +86,15 @@ fn convert<'w>(alloc: Global) -> Result<Command<'w>, AllocError>
         "replace",
         "Reads each ill-formed sequence as U+FFFD instead of refusing it",
     ))?;
-    convert.arg(flag(
+    let convert = convert.arg(flag(
         alloc,
         "assigned",
         "Refuses characters that Unicode has not assigned",
+    ))?;
+    convert.arg(flag(
+        alloc,
+        "line-buffered",
+        "Writes each line whole as soon as its line feed is read",
     ))
 }
 
@@ -126,18 +133,29 @@ fn requested(matches: &ArgMatches<'_>) -> Option<Request>
     ensures { result ≡ request_of (subcommand_rows_of matches.now) }
 {
     let (name, found) = matches.subcommand()?;
-    request_by(name, found.get_str("form"), policy(found))
+    let lines = is_set(found, "line-buffered");
+    request_by(name, found.get_str("form"), policy(found), lines)
 }
 
-fn request_by(name: &str, form: Option<&str>, policy: Policy) -> Option<Request>
-    ensures { result ≡ request_by name.now (option_map (λ s. s.now) form.entry) policy }
+fn request_by(name: &str, form: Option<&str>, policy: Policy, lines: bool) -> Option<Request>
+    ensures { result ≡ request_by name.now (option_map (λ s. s.now) form.entry) policy lines }
 {
     match name {
-        "convert" => Some(Request::Convert(form_named(form?)?, policy)),
+        "convert" => Some(conversion(form_named(form?)?, policy, lines)),
         "check" => Some(Request::Check),
         "measure" => Some(Request::Measure),
         "test" => Some(Request::Test),
         _ => None,
+    }
+}
+
+fn conversion(form: Form, policy: Policy, lines: bool) -> Request
+    ensures { result ≡ conversion form policy lines }
+{
+    if lines {
+        Request::ConvertLines(form, policy)
+    } else {
+        Request::Convert(form, policy)
     }
 }
 

@@ -8,6 +8,7 @@ ghost use Rattle.nf_cmd.specs.Answers.{Answers, ComesOf, NeverRow};
 ghost use Rattle.nf_cmd.specs.Again.{ConvertsOnce, EachConvertsOnce};
 ghost use Rattle.nf_cmd.specs.Fronts.{AppendsFront};
 
+use crate::by_lines::convert_lines;
 use crate::check::check;
 use crate::convert::convert;
 use crate::fault::Fault;
@@ -54,6 +55,9 @@ pub fn command<'w, I: Read, O: Write, E: Write>(
     what_was_converted_stays();
     match parse(alloc, words) {
         Ok(Request::Convert(form, policy)) => report(convert(form, policy, input, out), err),
+        Ok(Request::ConvertLines(form, policy)) => {
+            report(convert_lines(form, policy, input, out), err)
+        }
         Ok(Request::Check) => report(check(input, out), err),
         Ok(Request::Measure) => report(measure(input, out), err),
         Ok(Request::Test) => report(test(alloc, input, out), err),

@@ -1,4 +1,4 @@
-use Rattle.std.proofs.Common.{◌≡◌, ◌∙◌, ap, ap₂, sym, codes, List, Option, Some, None, option_map}
+use Rattle.std.proofs.Common.{◌≡◌, ◌∙◌, ap, sym, codes, List, Option, Some, None, option_map}
 use Rattle.std.specs.Prelude.{Box, unwrap_or}
 use Rattle.std.specs.Box.{box_value}
 use Rattle.clap.specs.declared.parser.matches.SubCommand.{SubCommand}
@@ -21,5 +21,6 @@ pub returns : goal.returns
 returns c =
     let found = c.in_ok-name.found.now in
     let subcommand = rows_named _ c.in_ok-name.name.now (rows_of (found_of found)) c.in_ok-name.ensures.name c.in_ok-name.ensures.rows in
-    c.request_by.ensures ∙ ap₂ (request_by c.in_ok-name.name.now) (c.get_str.ensures ∙ first_value-rows (found_of found) (codes "form")) c.policy.ensures
+    let form = c.get_str.ensures ∙ first_value-rows (found_of found) (codes "form") in
+    c.request_by.ensures ∙ (λ i. request_by c.in_ok-name.name.now (form i) (c.policy.ensures i) (c.is_set-lines.ensures i))
     ∙ sym (ap request_of subcommand)

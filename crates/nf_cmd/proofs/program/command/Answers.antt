@@ -1,6 +1,6 @@
 use Rattle.std.proofs.Common.{subst}
 use Rattle.std.proofs.KnownBytes.{Keeps-refl}
-use Rattle.nf_cmd.specs.declared.line.Request.TheVariants.{Convert, Check, Measure, Test}
+use Rattle.nf_cmd.specs.declared.line.Request.TheVariants.{Convert, ConvertLines, Check, Measure, Test}
 use Rattle.nf_cmd.specs.Line.{Asks}
 use Rattle.nf_cmd.proofs.AnswerLemmas.{done_answers, refused_answers, refused_by}
 use Rattle.nf_cmd.proofs.program.command.Goals as goal
@@ -15,6 +15,11 @@ pub returns-in-Ok-Convert-clause-answer : goal.returns-in-Ok-Convert-clause-answ
 returns-in-Ok-Convert-clause-answer g c =
     let asks = subst (Asks _) c.in-Ok-Convert.field-0-is c.in-Ok-Convert.ensures.asked in
     done_answers c.no_character_is_refused.ensures _ (Convert c.in-Ok-Convert.form c.in-Ok-Convert.policy) _ _ _ _ asks c.convert.ensures c.report.ensures.status c.report.ensures.line
+
+pub returns-in-Ok-ConvertLines-clause-answer : goal.returns-in-Ok-ConvertLines-clause-answer
+returns-in-Ok-ConvertLines-clause-answer g c =
+    let asks = subst (Asks _) c.in-Ok-ConvertLines.field-0-is c.in-Ok-ConvertLines.ensures.asked in
+    done_answers c.no_character_is_refused.ensures _ (ConvertLines c.in-Ok-ConvertLines.form c.in-Ok-ConvertLines.policy) _ _ _ _ asks c.convert_lines.ensures c.report-in-Ok-ConvertLines.ensures.status c.report-in-Ok-ConvertLines.ensures.line
 
 pub returns-in-Ok-Check-clause-answer : goal.returns-in-Ok-Check-clause-answer
 returns-in-Ok-Check-clause-answer g c =
@@ -45,3 +50,6 @@ returns-in-Ok-Measure-clause-again g c = c.what_was_converted_stays.ensures _ _ 
 
 pub returns-in-Ok-Test-clause-again : goal.returns-in-Ok-Test-clause-again
 returns-in-Ok-Test-clause-again g c = c.what_was_converted_stays.ensures _ _ _ _
+
+pub returns-in-Ok-ConvertLines-clause-again : goal.returns-in-Ok-ConvertLines-clause-again
+returns-in-Ok-ConvertLines-clause-again g c = c.what_was_converted_stays.ensures _ _ _ _
