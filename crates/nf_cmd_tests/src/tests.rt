@@ -1,6 +1,7 @@
 //! Runs of the program over memory.
 ghost use Rattle.std.specs.Prelude.{◌<◌, length};
 
+mod by_lines;
 mod check;
 mod convert;
 mod devices;

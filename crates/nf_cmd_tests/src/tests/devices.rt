@@ -99,3 +99,34 @@ impl Read for LineEnds {
         Ok(len)
     }
 }
+
+/// A reader that gives a piece at a time, of whose calls one fails.
+#[derive(Debug, Drop)]
+pub(super) struct Pieces<'a> {
+    pieces: &'a [&'a [u8]],
+    next: usize,
+    calls: Calls,
+}
+
+impl<'a> Pieces<'a> {
+    pub(super) fn new(pieces: &'a [&'a [u8]], calls: Calls) -> Pieces<'a> {
+        Pieces {
+            pieces,
+            next: 0,
+            calls,
+        }
+    }
+}
+
+impl Read for Pieces<'_> {
+    fn read(&mut self, buf: &mut [u8]) -> io::Result<usize> {
+        self.calls.make()?;
+        let Some(piece) = self.pieces.get(self.next) else {
+            return Ok(0);
+        };
+        self.next += 1;
+        let len = buf.len().min(piece.len());
+        buf[..len].copy_from_slice(&piece[..len]);
+        Ok(len)
+    }
+}

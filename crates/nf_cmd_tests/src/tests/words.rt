@@ -98,7 +98,7 @@ fn flags_stand_in_any_order(rt: HostRuntime) {
 #[test]
 fn help_goes_to_the_output(rt: HostRuntime) {
     let alloc = rt.alloc();
-    let asked: [(&[&str], &str); 15] = [
+    let asked: [(&[&str], &str); 16] = [
         (&["nfstream", "--help"], "convert"),
         (&["nfstream", "-h"], "convert"),
         (&["nfstream", "help"], "convert"),
@@ -117,11 +117,15 @@ fn help_goes_to_the_output(rt: HostRuntime) {
         ),
         (
             &["nfstream", "convert", "--help"],
-            "--replace      Reads each ill-formed sequence as U+FFFD instead of refusing it\n",
+            "--replace        Reads each ill-formed sequence as U+FFFD instead of refusing it\n",
         ),
         (
             &["nfstream", "convert", "--help"],
-            "--assigned     Refuses characters that Unicode has not assigned\n",
+            "--assigned       Refuses characters that Unicode has not assigned\n",
+        ),
+        (
+            &["nfstream", "convert", "--help"],
+            "--line-buffered  Writes each line whole as soon as its line feed is read\n",
         ),
     ];
     for (words, part) in asked {
