@@ -10,12 +10,10 @@ trap 'kill "$(cat "$folder/pid" 2> /dev/null)" 2> /dev/null || true; rm -rf "$fo
 cat > "$folder/conf" <<END
 global(workDirectory="$folder")
 module(load="imuxsock" SysSock.Use="off")
-module(load="mmutf8fix")
 module(load="omprog")
 input(type="imuxsock" Socket="$folder/socket" UseSpecialParser="off")
 template(name="line" type="string" string="%msg%\n")
-action(type="mmutf8fix" mode="utf-8")
-action(type="omprog" name="nfc" template="line" binary="$program convert --form nfc" output="$folder/nfc.log")
+action(type="omprog" name="nfc" template="line" binary="$program convert --form nfc --replace --line-buffered" output="$folder/nfc.log")
 END
 rsyslogd -n -f "$folder/conf" -i "$folder/pid" &
 for _ in $(seq 100); do [ -S "$folder/socket" ] && break; sleep 0.1; done
@@ -24,9 +22,7 @@ logger -u "$folder/socket" "user $(printf 'ab\303(') logged in"
 logger -u "$folder/socket" "user $(printf 'Vie\314\202\314\243t') logged in"
 logger -u "$folder/socket" "user $(printf 'q'; for _ in $(seq 40); do printf '\314\201'; done) logged in"
 sleep 1
-echo "behind three messages, with what follows the last letter still to come:"
-xxd "$folder/nfc.log" | tail -3
+echo "behind three messages:"
+xxd "$folder/nfc.log"
 kill "$(cat "$folder/pid")"
 wait
-echo "and when rsyslogd has ended:"
-xxd "$folder/nfc.log" | tail -1
