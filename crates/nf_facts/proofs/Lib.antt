@@ -16,3 +16,4 @@ mod Ascii
 mod Rows
 mod LineFeed
 mod Lost
+mod Leading
