@@ -1,12 +1,13 @@
 -- Where bytes tell of a character, and where one begins.
-use Rattle.std.proofs.Common.{◌≡◌, ℕ, zero, suc, ◌+◌, ◌-◌, ◌/◌, ◌<◌, ◌≤◌, ⊎_elim, inl, inr, Bool, true, false, not, ◌&&◌, ◌==◌, List, get_or, bit_and, bit_or, refl, sym, ap, subst, ◌∙◌, arith, eqb-true, true≢false, eq-zero-or-pos}
+use Rattle.std.proofs.Common.{◌≡◌, ℕ, zero, suc, ◌+◌, ◌-◌, ◌/◌, ◌<◌, ◌≤◌, ⊎_elim, inl, inr, Bool, true, false, not, ◌&&◌, ◌==◌, if◌then◌else◌, List, get_or, bit_and, bit_or, refl, sym, ap, subst, ◌∙◌, arith, eqb-true, true≢false, eq-zero-or-pos}
 use Rattle.std.proofs.str.Laws.{order}
 use Rattle.std.proofs.lemmas.Bool.{and_parts, not-false}
 use Rattle.std.proofs.lemmas.Nat.{and_le_l, le_or_l, le_or_r}
 use Rattle.nf_forms.specs.declared.form.Form.{Form}
 use Rattle.nf_forms.specs.declared.form.Form.TheVariants.{Nfc, Nfd, Nfkc, Nfkd}
 use Rattle.nf_calm.specs.Leads.{lead_bits, wants_look}
-use Rattle.nf_calm.specs.Closer.{high_of, low_of, pairs_of, triples_of, pair_hits, triple_hits, wants_pair, wants_triple, look_at}
+use Rattle.nf_calm.specs.Closer.{high_of, low_of, pairs_of, triples_of, pair_hits, triple_hits, wants_pair, wants_triple, wants_triples, kana_of, asked_of, look_at}
+use Rattle.nf_calm.specs.declared.closer.Triples.{Triples}
 
 abbrev pub all_below : (ℕ → Bool) → ℕ → Bool
 all_below p zero = true
@@ -34,13 +35,28 @@ no_bits x y none =
 some_bits : (x y : ℕ) → not (bit_or x y == 0) ≡ true → x ≡ 0 → y ≡ 0 → ⊥
 some_bits x y some a b = true≢false (sym some ∙ ap (λ n. not (bit_or n y == 0)) a ∙ ap (λ n. not (bit_or 0 n == 0)) b)
 
+-- no set has a pair that begins with a byte below C0
+abbrev HasNoLead : Triples → Type 0
+HasNoLead t = all_below (λ h. get_or t.pairs.lead_high h 0 == 0) 12 ≡ true
+
+-- what holds of both sets holds of those that are asked
+asked_either : (f : Form) (lead : ℕ) (P : Triples → Type 0) → P (kana_of f) → P (triples_of f) → P (asked_of f lead)
+asked_either f lead P kana others = pick (lead == 0xE3)
+  where
+    pick : (b : Bool) → P (if b then kana_of f else triples_of f)
+    pick true = kana
+    pick false = others
+
 module _ (f : Form) where
   module _ (bytes : List ℕ) (k : ℕ) where
     abbrev pair_here : Bool
     pair_here = wants_pair f (get_or bytes k 0) (get_or bytes (k + 1) 0)
 
+    abbrev triple_in : Triples → Bool
+    triple_in t = wants_triple t f (get_or bytes k 0) (get_or bytes (k + 1) 0) (get_or bytes (k + 2) 0)
+
     abbrev triple_here : Bool
-    triple_here = wants_triple f (get_or bytes k 0) (get_or bytes (k + 1) 0) (get_or bytes (k + 2) 0)
+    triple_here = wants_triples f (get_or bytes k 0) (get_or bytes (k + 1) 0) (get_or bytes (k + 2) 0)
 
     pub told_by_lead : wants_look f (get_or bytes k 0) ≡ false → look_at f bytes k ≡ false
     told_by_lead e = ap (λ b. b && (pair_here && triple_here)) e
@@ -48,20 +64,28 @@ module _ (f : Form) where
     pub told_by_pair : pair_here ≡ false → look_at f bytes k ≡ false
     told_by_pair e = and_no (wants_look f (get_or bytes k 0)) (pair_here && triple_here) (ap (λ b. b && triple_here) e)
 
-    pub told_by_triple : triple_here ≡ false → look_at f bytes k ≡ false
-    told_by_triple e = and_no (wants_look f (get_or bytes k 0)) (pair_here && triple_here) (and_no pair_here triple_here e)
+    told_by_triples : triple_here ≡ false → look_at f bytes k ≡ false
+    told_by_triples e = and_no (wants_look f (get_or bytes k 0)) (pair_here && triple_here) (and_no pair_here triple_here e)
+
+    -- whichever sets are asked
+    pub told_by_triple : (t : Triples) (lead : ℕ) → t ≡ asked_of f lead → triple_in t ≡ false → look_at f bytes k ≡ false
+    told_by_triple t lead is e =
+        asked_either f lead (λ t. triple_in t ≡ false → look_at f bytes k ≡ false) (λ none. told_by_triples (and_no (triple_in (triples_of f)) (triple_in (kana_of f)) none))
+        (λ none. told_by_triples (ap (λ b. b && triple_in (kana_of f)) none))
+        (sym (ap triple_in is) ∙ e)
 
   -- the tables have nothing for a byte that is no lead byte
   record NoLead : Type 0 where
     rows : all_below (λ h. get_or (pairs_of f).lead_high h 0 == 0) 12 ≡ true
-    triples : all_below (λ h. get_or (triples_of f).pairs.lead_high h 0 == 0) 12 ≡ true
+    triples : HasNoLead (triples_of f)
+    kana : HasNoLead (kana_of f)
     leads : all_below (λ byte. lead_bits f byte == 0) 192 ≡ true
 
 no_lead : (f : Form) → NoLead f
-no_lead Nfc = record { rows = refl; triples = refl; leads = refl }
-no_lead Nfd = record { rows = refl; triples = refl; leads = refl }
-no_lead Nfkc = record { rows = refl; triples = refl; leads = refl }
-no_lead Nfkd = record { rows = refl; triples = refl; leads = refl }
+no_lead Nfc = record { rows = refl; triples = refl; kana = refl; leads = refl }
+no_lead Nfd = record { rows = refl; triples = refl; kana = refl; leads = refl }
+no_lead Nfkc = record { rows = refl; triples = refl; kana = refl; leads = refl }
+no_lead Nfkd = record { rows = refl; triples = refl; kana = refl; leads = refl }
 
 module _ (f : Form) where
   no_lead_bits : (byte : ℕ) → byte < 192 → lead_bits f byte ≡ 0
@@ -86,13 +110,12 @@ module _ (f : Form) where
       (λ large. large)
       (order lead 192)
 
-  pub triple_begins : (lead next last : ℕ) → wants_triple f lead next last ≡ true → 192 ≤ lead
-  triple_begins lead next last look =
+  triple_begins_in : (t : Triples) → HasNoLead t → (lead next last : ℕ) → wants_triple t f lead next last ≡ true → 192 ≤ lead
+  triple_begins_in t rows lead next last look =
       ⊎_elim
       (λ small.
-      let t = triples_of f in
       let p = t.pairs in
-      let none : high_of p.lead_high lead ≡ 0 = eqb-true _ 0 (every_below (λ h. get_or p.lead_high h 0 == 0) 12 (no_lead f).triples (lead / 16) (omega arith)) in
+      let none : high_of p.lead_high lead ≡ 0 = eqb-true _ 0 (every_below (λ h. get_or p.lead_high h 0 == 0) 12 rows (lead / 16) (omega arith)) in
       let first = bit_and (high_of p.lead_high lead) (low_of p.lead_low lead) in
       let second = bit_and first (high_of p.next_high next) in
       let pair = pair_hits p lead next in
@@ -103,3 +126,9 @@ module _ (f : Form) where
       absurd (some_bits (triple_hits t lead next last) (bit_and (lead_bits f lead) 11) look hits others))
       (λ large. large)
       (order lead 192)
+
+  pub triple_begins : (t : Triples) (asked : ℕ) → t ≡ asked_of f asked → (lead next last : ℕ) → wants_triple t f lead next last ≡ true → 192 ≤ lead
+  triple_begins t asked is lead next last look =
+      asked_either f asked (λ t. wants_triple t f lead next last ≡ true → 192 ≤ lead) (triple_begins_in (kana_of f) (no_lead f).kana lead next last)
+      (triple_begins_in (triples_of f) (no_lead f).triples lead next last)
+      (sym (ap (λ t. wants_triple t f lead next last) is) ∙ look)

@@ -14,12 +14,12 @@ use Rattle.nf_forms.specs.Calm.{BeginsRun, IsCalmFrom}
 use Rattle.nf_forms.specs.Ucd.{ucd}
 use Rattle.nf_facts.specs.PlainRanges.{plain_ranges}
 use Rattle.nf_calm.specs.Leads.{wants_look}
-use Rattle.nf_calm.specs.Closer.{wants_pair, wants_triple, look_at}
+use Rattle.nf_calm.specs.Closer.{wants_pair, wants_triples, look_at}
 use Rattle.nf_calm.proofs.ToldLemmas.{by_told}
 
 module _ (f : Form) where
   abbrev look3 : ℕ → ℕ → ℕ → Bool
-  look3 lead next last = wants_look f lead && (wants_pair f lead next && wants_triple f lead next last)
+  look3 lead next last = wants_look f lead && (wants_pair f lead next && wants_triples f lead next last)
 
   -- behind a piece
   look_at-behind : (piece rest : List ℕ) (j : ℕ) → look_at f rest j ≡ look_at f (piece ++ rest) (length piece + j)

@@ -8,7 +8,8 @@ use Rattle.nf_forms.specs.declared.form.Form.{Form}
 use Rattle.nf_forms.specs.declared.form.Form.TheVariants.{Nfc, Nfd, Nfkc, Nfkd}
 use Rattle.nf_facts.specs.PlainRanges.{plain_ranges}
 use Rattle.nf_calm.specs.Leads.{lead_bits, wants_look}
-use Rattle.nf_calm.specs.Closer.{high_of, low_of, pairs_of, triples_of, pair_hits, triple_hits, wants_pair, wants_triple, look_at}
+use Rattle.nf_calm.specs.Closer.{high_of, low_of, pairs_of, triples_of, pair_hits, triple_hits, wants_pair, wants_triple, wants_triples, kana_of, look_at}
+use Rattle.nf_calm.specs.declared.closer.Triples.{Triples}
 use Rattle.nf_calm.proofs.LookLemmas.{all_below, every_below, no_bits}
 
 -- the range lies within one of these
@@ -61,22 +62,24 @@ module _ (f : Form) where
       or_else (within (64 * k) (64 * k + 63)) (λ _.
       wants_look f (192 + k) && (not (bit_and (lead_bits f (192 + k)) 11 == 0) && all_below (told_second k) 64))
 
-  abbrev told_third : ℕ → ℕ → ℕ → Bool
-  told_third hits base j =
-      or_else (not (bit_and (bit_and hits (high_of (triples_of f).last_high (128 + j))) (low_of (triples_of f).last_low (128 + j)) == 0)) (λ _. within (base + j) (base + j))
+  -- by the sets t alone
+  module _ (t : Triples) where
+    abbrev told_third : ℕ → ℕ → ℕ → Bool
+    told_third hits base j =
+        or_else (not (bit_and (bit_and hits (high_of t.last_high (128 + j))) (low_of t.last_low (128 + j)) == 0)) (λ _. within (base + j) (base + j))
 
-  abbrev told_thirds : ℕ → ℕ → Bool
-  told_thirds hits base = all_below (told_third hits base) 64
+    abbrev told_thirds : ℕ → ℕ → Bool
+    told_thirds hits base = all_below (told_third hits base) 64
 
-  -- the second bytes of E0 begin at A0
-  abbrev told_block : ℕ → ℕ → Bool
-  told_block k i =
-      or_else (within (4096 * k + 64 * i) (4096 * k + 64 * i + 63)) (λ _.
-      or_else (nat_lt (4096 * k + 64 * i) 2048) (λ _. told_thirds (pair_hits (triples_of f).pairs (224 + k) (128 + i)) (4096 * k + 64 * i)))
+    -- the second bytes of E0 begin at A0
+    abbrev told_block : ℕ → ℕ → Bool
+    told_block k i =
+        or_else (within (4096 * k + 64 * i) (4096 * k + 64 * i + 63)) (λ _.
+        or_else (nat_lt (4096 * k + 64 * i) 2048) (λ _. told_thirds (pair_hits t.pairs (224 + k) (128 + i)) (4096 * k + 64 * i)))
 
-  abbrev told_three : ℕ → Bool
-  told_three k =
-      or_else (within (4096 * k) (4096 * k + 4095)) (λ _. wants_look f (224 + k) && (not (bit_and (lead_bits f (224 + k)) 13 == 0) && all_below (told_block k) 64))
+    abbrev told_three : ℕ → Bool
+    told_three k =
+        or_else (within (4096 * k) (4096 * k + 4095)) (λ _. wants_look f (224 + k) && (not (bit_and (lead_bits f (224 + k)) 13 == 0) && all_below (told_block k) 64))
 
   abbrev told_four : ℕ → Bool
   told_four k =
@@ -86,15 +89,16 @@ module _ (f : Form) where
 record Told (f : Form) : Type 0 where
   ascii : lies_within (plain_ranges f) 0 127 ≡ true
   of_two : all_below (told_two f) 32 ≡ true
-  of_three : all_below (told_three f) 16 ≡ true
+  of_three : all_below (told_three f (triples_of f)) 16 ≡ true
+  of_kana : all_below (told_three f (kana_of f)) 16 ≡ true
   of_four : all_below (told_four f) 8 ≡ true
 
 told : (f : Form) → Told f
 unfolding plain_ranges
-told Nfc = record { ascii = refl; of_two = refl; of_three = refl; of_four = refl }
-told Nfd = record { ascii = refl; of_two = refl; of_three = refl; of_four = refl }
-told Nfkc = record { ascii = refl; of_two = refl; of_three = refl; of_four = refl }
-told Nfkd = record { ascii = refl; of_two = refl; of_three = refl; of_four = refl }
+told Nfc = record { ascii = refl; of_two = refl; of_three = refl; of_kana = refl; of_four = refl }
+told Nfd = record { ascii = refl; of_two = refl; of_three = refl; of_kana = refl; of_four = refl }
+told Nfkc = record { ascii = refl; of_two = refl; of_three = refl; of_kana = refl; of_four = refl }
+told Nfkd = record { ascii = refl; of_two = refl; of_three = refl; of_kana = refl; of_four = refl }
 
 module _ (f : Form) where
   lies : (first last c : ℕ) → lies_within (plain_ranges f) first last ≡ true → first ≤ c → c ≤ last → in_ranges (plain_ranges f) c ≡ true
@@ -102,15 +106,18 @@ module _ (f : Form) where
 
   -- what is said of the bytes at a place
   abbrev look3 : ℕ → ℕ → ℕ → Bool
-  look3 lead next last = wants_look f lead && (wants_pair f lead next && wants_triple f lead next last)
+  look3 lead next last = wants_look f lead && (wants_pair f lead next && wants_triples f lead next last)
 
   asked_pair : (lead next : ℕ) → not (bit_and (lead_bits f lead) 13 == 0) ≡ true → wants_pair f lead next ≡ true
   asked_pair lead next others =
       true_from_ne_false _ (λ none. true≢false (sym others ∙ ap (λ n. not (n == 0)) ((no_bits (pair_hits (pairs_of f) lead next) (bit_and (lead_bits f lead) 13) none).1)))
 
-  asked_triple : (lead next last : ℕ) → not (bit_and (lead_bits f lead) 11 == 0) ≡ true → wants_triple f lead next last ≡ true
-  asked_triple lead next last others =
-      true_from_ne_false _ (λ none. true≢false (sym others ∙ ap (λ n. not (n == 0)) ((no_bits (triple_hits (triples_of f) lead next last) (bit_and (lead_bits f lead) 11) none).1)))
+  asked_in : (t : Triples) (lead next last : ℕ) → not (bit_and (lead_bits f lead) 11 == 0) ≡ true → wants_triple t f lead next last ≡ true
+  asked_in t lead next last others =
+      true_from_ne_false _ (λ none. true≢false (sym others ∙ ap (λ n. not (n == 0)) ((no_bits (triple_hits t lead next last) (bit_and (lead_bits f lead) 11) none).1)))
+
+  asked_triple : (lead next last : ℕ) → not (bit_and (lead_bits f lead) 11 == 0) ≡ true → wants_triples f lead next last ≡ true
+  asked_triple lead next last others = and_from _ _ (asked_in (triples_of f) lead next last others) (asked_in (kana_of f) lead next last others)
 
   by_two : (k i last : ℕ) → k < 32 → i < 64 → look3 (192 + k) (128 + i) last ≡ false → in_ranges (plain_ranges f) (64 * k + i) ≡ true
   by_two k i last short little plain =
@@ -119,30 +126,44 @@ module _ (f : Form) where
       let looked = and_parts (wants_look f (192 + k)) _ rest in
       let parts = and_parts (not (bit_and (lead_bits f (192 + k)) 11 == 0)) _ looked.1 in
       let behind = second_of (wants_look f (192 + k)) _ plain looked.0 in
-      let pair = first_of_two (wants_pair f (192 + k) (128 + i)) (wants_triple f (192 + k) (128 + i) last) behind (asked_triple (192 + k) (128 + i) last parts.0) in
+      let pair = first_of_two (wants_pair f (192 + k) (128 + i)) (wants_triples f (192 + k) (128 + i) last) behind (asked_triple (192 + k) (128 + i) last parts.0) in
       ⊎_elim (λ hit. absurd (true≢false (sym hit ∙ pair))) (λ here. lies (64 * k + i) (64 * k + i) (64 * k + i) here (omega arith) (omega arith))
       (either (wants_pair f (192 + k) (128 + i)) _ (every_below (told_second f k) 64 parts.1 i little)))
       (either (lies_within (plain_ranges f) (64 * k) (64 * k + 63)) _ (every_below (told_two f) 32 (told f).of_two k short))
 
-  by_three : (k i j : ℕ) → k < 16 → i < 64 → j < 64 → 2048 ≤ 4096 * k + 64 * i + j → look3 (224 + k) (128 + i) (128 + j) ≡ false → in_ranges (plain_ranges f) (4096 * k + 64 * i + j) ≡ true
-  by_three k i j short little small large plain =
+  by_three_in : (t : Triples) → all_below (told_three f t) 16 ≡ true → (k i j : ℕ) → k < 16 → i < 64 → j < 64 → 2048 ≤ 4096 * k + 64 * i + j
+      → (wants_look f (224 + k) && (wants_pair f (224 + k) (128 + i) && wants_triple t f (224 + k) (128 + i) (128 + j))) ≡ false → in_ranges (plain_ranges f) (4096 * k + 64 * i + j) ≡ true
+  by_three_in t all k i j short little small large plain =
       ⊎_elim (λ whole. lies (4096 * k) (4096 * k + 4095) (4096 * k + 64 * i + j) whole (omega arith) (omega arith))
       (λ rest.
       let looked = and_parts (wants_look f (224 + k)) _ rest in
       let parts = and_parts (not (bit_and (lead_bits f (224 + k)) 13 == 0)) _ looked.1 in
       let behind = second_of (wants_look f (224 + k)) _ plain looked.0 in
-      let triple = second_of (wants_pair f (224 + k) (128 + i)) (wants_triple f (224 + k) (128 + i) (128 + j)) behind (asked_pair (224 + k) (128 + i) parts.0) in
-      let missed : triple_hits (triples_of f) (224 + k) (128 + i) (128 + j) ≡ 0 = (no_bits _ (bit_and (lead_bits f (224 + k)) 11) triple).0 in
+      let triple = second_of (wants_pair f (224 + k) (128 + i)) (wants_triple t f (224 + k) (128 + i) (128 + j)) behind (asked_pair (224 + k) (128 + i) parts.0) in
+      let missed : triple_hits t (224 + k) (128 + i) (128 + j) ≡ 0 = (no_bits _ (bit_and (lead_bits f (224 + k)) 11) triple).0 in
       ⊎_elim (λ block. lies (4096 * k + 64 * i) (4096 * k + 64 * i + 63) (4096 * k + 64 * i + j) block (omega arith) (omega arith))
       (λ others.
       ⊎_elim (λ low. let under : 4096 * k + 64 * i < 2048 = ltb-true _ _ low in absurd (omega arith))
       (λ thirds.
       ⊎_elim (λ hit. absurd (true≢false (sym hit ∙ ap (λ n. not (n == 0)) missed)))
       (λ here. lies (4096 * k + 64 * i + j) (4096 * k + 64 * i + j) (4096 * k + 64 * i + j) here (omega arith) (omega arith))
-      (either _ _ (every_below (told_third f (pair_hits (triples_of f).pairs (224 + k) (128 + i)) (4096 * k + 64 * i)) 64 thirds j small)))
+      (either _ _ (every_below (told_third f t (pair_hits t.pairs (224 + k) (128 + i)) (4096 * k + 64 * i)) 64 thirds j small)))
       (either (nat_lt (4096 * k + 64 * i) 2048) _ others))
-      (either (lies_within (plain_ranges f) (4096 * k + 64 * i) (4096 * k + 64 * i + 63)) _ (every_below (told_block f k) 64 parts.1 i little)))
-      (either (lies_within (plain_ranges f) (4096 * k) (4096 * k + 4095)) _ (every_below (told_three f) 16 (told f).of_three k short))
+      (either (lies_within (plain_ranges f) (4096 * k + 64 * i) (4096 * k + 64 * i + 63)) _ (every_below (told_block f t k) 64 parts.1 i little)))
+      (either (lies_within (plain_ranges f) (4096 * k) (4096 * k + 4095)) _ (every_below (told_three f t) 16 all k short))
+
+  -- one of the two sets tells it
+  by_three : (k i j : ℕ) → k < 16 → i < 64 → j < 64 → 2048 ≤ 4096 * k + 64 * i + j → look3 (224 + k) (128 + i) (128 + j) ≡ false → in_ranges (plain_ranges f) (4096 * k + 64 * i + j) ≡ true
+  by_three k i j short little small large =
+      of (wants_look f (224 + k)) (wants_pair f (224 + k) (128 + i)) (wants_triple (triples_of f) f (224 + k) (128 + i) (128 + j)) (wants_triple (kana_of f) f (224 + k) (128 + i) (128 + j)) _
+      (by_three_in (triples_of f) (told f).of_three k i j short little small large)
+      (by_three_in (kana_of f) (told f).of_kana k i j short little small large)
+    where
+      of : (a b c d : Bool) (P : Type 0) → ((a && (b && c)) ≡ false → P) → ((a && (b && d)) ≡ false → P) → (a && (b && (c && d))) ≡ false → P
+      of false b c d P first second e = first refl
+      of true false c d P first second e = first refl
+      of true true false d P first second e = first refl
+      of true true true d P first second e = second e
 
   by_four : (k next last c : ℕ) → k < 8 → 262144 * k ≤ c → c ≤ 262144 * k + 262143 → look3 (240 + k) next last ≡ false → in_ranges (plain_ranges f) c ≡ true
   by_four k next last c short low high plain =
@@ -151,7 +172,7 @@ module _ (f : Form) where
       let looked = and_parts (wants_look f (240 + k)) _ rest in
       let parts = and_parts (not (bit_and (lead_bits f (240 + k)) 13 == 0)) _ looked.1 in
       let behind = second_of (wants_look f (240 + k)) _ plain looked.0 in
-      let triple = second_of (wants_pair f (240 + k) next) (wants_triple f (240 + k) next last) behind (asked_pair (240 + k) next parts.0) in
+      let triple = second_of (wants_pair f (240 + k) next) (wants_triples f (240 + k) next last) behind (asked_pair (240 + k) next parts.0) in
       absurd (true≢false (sym (asked_triple (240 + k) next last parts.1) ∙ triple)))
       (either (lies_within (plain_ranges f) (262144 * k) (262144 * k + 262143)) _ (every_below (told_four f) 8 (told f).of_four k short))
 

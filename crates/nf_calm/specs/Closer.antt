@@ -1,11 +1,12 @@
 -- What the bytes behind a lead byte tell (The Unicode Standard, section 3.9, Table 3-6).
-use Rattle.std.specs.Prelude.{ℕ, ◌+◌, ◌/◌, Bool, not, ◌&&◌, ◌==◌, List, slice_index, bit_and, bit_or}
+use Rattle.std.specs.Prelude.{ℕ, ◌+◌, ◌/◌, Bool, not, ◌&&◌, ◌==◌, List, slice_index, bit_and, bit_or, if◌then◌else◌}
 use Rattle.std.specs.List.{range_with_len}
 use Rattle.nf_forms.specs.declared.form.Form.{Form}
 use Rattle.nf_forms.specs.declared.form.Form.TheVariants.{Nfc, Nfd, Nfkc, Nfkd}
 use Rattle.nf_calm.specs.declared.closer.Pairs.{Pairs}
 use Rattle.nf_calm.specs.declared.closer.Triples.{Triples}
 use Rattle.nf_calm.specs.declared.closer.TheConstants.{COMPOSED_PAIRS, DECOMPOSED_PAIRS, NFC_TRIPLES, NFKC_TRIPLES, DECOMPOSED_TRIPLES}
+use Rattle.nf_calm.specs.declared.kana.TheConstants.{NFKC_KANA, NFD_KANA, NFKD_KANA}
 use Rattle.nf_calm.specs.Leads.{lead_bits, wants_look}
 
 -- 16 places, from one on
@@ -23,6 +24,17 @@ triples_of Nfc = NFC_TRIPLES
 triples_of Nfkc = NFKC_TRIPLES
 triples_of Nfd = DECOMPOSED_TRIPLES
 triples_of Nfkd = DECOMPOSED_TRIPLES
+
+-- those that tell most of E3
+abbrev pub kana_of : Form → Triples
+kana_of Nfc = NFC_TRIPLES
+kana_of Nfkc = NFKC_KANA
+kana_of Nfd = NFD_KANA
+kana_of Nfkd = NFKD_KANA
+
+-- the one that is asked for the sake of a lead byte
+abbrev pub asked_of : Form → ℕ → Triples
+asked_of f lead = if lead == 0xE3 then kana_of f else triples_of f
 
 -- the entries of a table for the halves of a byte
 abbrev pub high_of : List ℕ → ℕ → ℕ
@@ -44,11 +56,14 @@ abbrev pub wants_pair : Form → ℕ → ℕ → Bool
 wants_pair f lead next = not (bit_or (pair_hits (pairs_of f) lead next) (bit_and (lead_bits f lead) 13) == 0)
 
 -- the same of E0 to EF, whose row is 4
-abbrev pub wants_triple : Form → ℕ → ℕ → ℕ → Bool
-wants_triple f lead next last = not (bit_or (triple_hits (triples_of f) lead next last) (bit_and (lead_bits f lead) 11) == 0)
+abbrev pub wants_triple : Triples → Form → ℕ → ℕ → ℕ → Bool
+wants_triple t f lead next last = not (bit_or (triple_hits t lead next last) (bit_and (lead_bits f lead) 11) == 0)
+
+abbrev pub wants_triples : Form → ℕ → ℕ → ℕ → Bool
+wants_triples f lead next last = wants_triple (triples_of f) f lead next last && wants_triple (kana_of f) f lead next last
 
 -- neither the byte at k nor it and those behind tell that a character passes which begins there
 abbrev pub look_at : Form → List ℕ → ℕ → Bool
 look_at f bytes k =
     wants_look f (slice_index bytes k)
-    && (wants_pair f (slice_index bytes k) (slice_index bytes (k + 1)) && wants_triple f (slice_index bytes k) (slice_index bytes (k + 1)) (slice_index bytes (k + 2)))
+    && (wants_pair f (slice_index bytes k) (slice_index bytes (k + 1)) && wants_triples f (slice_index bytes k) (slice_index bytes (k + 1)) (slice_index bytes (k + 2)))

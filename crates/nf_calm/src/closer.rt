@@ -50,7 +50,7 @@ static DECOMPOSED_PAIRS: Pairs = Pairs {
 // In NFC: E1, E2, EA and EF before 80 to AF, E0 and EF before B0 to BF, E1 and E2 before B0 to B7 and BC to BF, E0 before A0
 // to A3 and A6 to AF; E0 A4 and E0 A5 before 8C, 8D, BC and BD, E0 A5 before 90 to 9F, E3 80 before AA to AF, E3 82 before
 // 99 and 9A.
-static NFC_TRIPLES: Triples = Triples {
+pub(crate) static NFC_TRIPLES: Triples = Triples {
     pairs: Pairs {
         lead_high: [0, 0, 0, 0, 0, 0, 0, 0, 0, 0, 0, 0, 0, 0, 255, 0],
         lead_low: [58, 5, 5, 192, 0, 0, 0, 0, 0, 0, 1, 0, 0, 0, 0, 3],
@@ -67,18 +67,20 @@ static NFC_TRIPLES: Triples = Triples {
     ],
 };
 
-// In NFKC: E1 to E3, EA and EF before 80 to AF, E0 to E3 and EF before B0 to BF, E0 before A0 to A3 and A6 to AF; E0 A4 and
-// E0 A5 before 8C, 8D, BC and BD, E0 A5 before 90 to 9F.
+// In NFKC: E1 to E3, EA and EF before 80 to AF, E0, E2, E3 and EF before B0 to BF, E1 before B0 to B7 and BC to BF, E0 before
+// A0 to A3 and A6 to AF; E0 A4 and E0 A5 before 8C, 8D, BC and BD, E0 A5 before 90 to 9F, E1 BA before 9A and 9B.
 static NFKC_TRIPLES: Triples = Triples {
     pairs: Pairs {
-        lead_high: [0, 0, 0, 0, 0, 0, 0, 0, 0, 0, 0, 0, 0, 0, 31, 0],
-        lead_low: [30, 3, 3, 3, 0, 0, 0, 0, 0, 0, 1, 0, 0, 0, 0, 3],
-        next_high: [0, 0, 0, 0, 0, 0, 0, 0, 1, 1, 29, 2, 0, 0, 0, 0],
-        next_low: [7, 7, 7, 7, 11, 27, 7, 7, 7, 7, 7, 7, 7, 7, 7, 7],
+        lead_high: [0, 0, 0, 0, 0, 0, 0, 0, 0, 0, 0, 0, 0, 0, 127, 0],
+        lead_low: [30, 97, 3, 3, 0, 0, 0, 0, 0, 0, 1, 0, 0, 0, 0, 3],
+        next_high: [0, 0, 0, 0, 0, 0, 0, 0, 1, 1, 29, 98, 0, 0, 0, 0],
+        next_low: [39, 39, 39, 39, 43, 59, 39, 39, 7, 7, 71, 7, 39, 39, 39, 39],
     },
-    last_high: [7, 7, 7, 7, 7, 7, 7, 7, 15, 23, 7, 15, 7, 7, 7, 7],
+    last_high: [
+        39, 39, 39, 39, 39, 39, 39, 39, 47, 119, 39, 47, 39, 39, 39, 39,
+    ],
     last_low: [
-        23, 23, 23, 23, 23, 23, 23, 23, 23, 23, 23, 23, 31, 31, 23, 23,
+        55, 55, 55, 55, 55, 55, 55, 55, 55, 55, 119, 119, 63, 63, 55, 55,
     ],
 };
 

@@ -2,10 +2,11 @@ ghost use Rattle.std.specs.Prelude.{◌≡◌, ◌<◌, ◌≤◌, ◌+◌, ◌/
 ghost use Rattle.std.specs.Int.Count.{count_trailing_zeros};
 ghost use Rattle.std.specs.Simd.Lanes.{mask_l};
 ghost use Rattle.nf_calm.specs.Leads.{lead_bits, wants_look};
-ghost use Rattle.nf_calm.specs.Closer.{places, pair_hits, triple_hits, wants_pair, wants_triple, look_at};
+ghost use Rattle.nf_calm.specs.Closer.{places, pair_hits, triple_hits, wants_pair, wants_triple, asked_of, look_at};
 
 use crate::bytes::by_bytes;
 use crate::closer::{Pairs, Triples, pairs_of, triples_of};
+use crate::kana::kana_of;
 use crate::leads::{ROWS, columns};
 use nf_forms::Form;
 use std::simd::prelude::*;
@@ -51,9 +52,10 @@ fn plain_run(form: Form, bytes: &[u8], at: usize) -> usize
     if run == LANES {
         return run;
     }
-    match bytes[at + run] / 16 {
+    let lead = bytes[at + run];
+    match lead / 16 {
         0xD => before(pair_looks(form, bytes, at)),
-        0xE => before(triple_looks(form, bytes, at)),
+        0xE => before(asked_looks(form, lead, bytes, at)),
         _ => run,
     }
 }
@@ -92,13 +94,26 @@ fn pair_looks(form: Form, bytes: &[u8], at: usize) -> u64
     (hits | others).simd_ne(u8x16::splat(0)).to_bitmask()
 }
 
+/// The same for the sake of a lead byte from E0 to EF: E3, of kana, has sets of its own. Each copy has its tables at hand.
+#[inline(always)]
+fn asked_looks(form: Form, lead: u8, bytes: &[u8], at: usize) -> u64
+    requires room { at + 18 ≤ length bytes.now }
+    ensures { result ≡ mask_l (map (λ k. wants_triple (asked_of form lead) form (slice_index bytes.now k) (slice_index bytes.now (k + 1)) (slice_index bytes.now (k + 2))) (places at)) }
+{
+    if lead == 0xE3 {
+        triple_looks(form, kana_of(form), bytes, at)
+    } else {
+        triple_looks(form, triples_of(form), bytes, at)
+    }
+}
+
 /// The same, where a lead byte from E0 to EF and the two bytes behind it are asked.
 #[inline(always)]
-fn triple_looks(form: Form, bytes: &[u8], at: usize) -> u64
+fn triple_looks(form: Form, triples: &Triples, bytes: &[u8], at: usize) -> u64
     requires room { at + 18 ≤ length bytes.now }
-    ensures { result ≡ mask_l (map (λ k. wants_triple form (slice_index bytes.now k) (slice_index bytes.now (k + 1)) (slice_index bytes.now (k + 2))) (places at)) }
+    ensures { result ≡ mask_l (map (λ k. wants_triple triples.now form (slice_index bytes.now k) (slice_index bytes.now (k + 1)) (slice_index bytes.now (k + 2))) (places at)) }
 {
-    let hits = in_triples(triples_of(form), bytes, at);
+    let hits = in_triples(triples, bytes, at);
     let others = leads(form, u8x16::from_slice(&bytes[at..])) & u8x16::splat(11);
     (hits | others).simd_ne(u8x16::splat(0)).to_bitmask()
 }

@@ -9,6 +9,7 @@ mod calm;
 mod closer;
 mod cut;
 mod front;
+mod kana;
 mod lanes;
 mod leads;
 mod marks;
