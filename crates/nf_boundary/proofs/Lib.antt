@@ -4,3 +4,4 @@ pub mod LetterLemmas
 pub mod KeptLemmas
 pub mod JoinLemmas
 pub mod ApartLemmas
+pub mod HangulLemmas

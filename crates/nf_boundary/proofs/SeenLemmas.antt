@@ -1,7 +1,7 @@
 -- A character as one look-up sees it: what stands behind it, and when a text may be cut before it.
-use Rattle.std.proofs.Common.{◌≡◌, ◌<◌, ◌||◌, ℕ, false, List, ◌∷◌, length, sym, ap, ◌∙◌, arith, length-append, eq-eqb}
+use Rattle.std.proofs.Common.{◌≡◌, ◌<◌, ◌||◌, ◌≤◌, ◌≢◌, ◌==◌, ℕ, false, List, ◌∷◌, length, refl, sym, ap, ◌∙◌, arith, length-append, eq-eqb, ne_eqb}
 use Rattle.std.specs.Prelude.{chars, encode_utf8, IsTrue}
-use Rattle.std.proofs.lemmas.Bool.{and_from, or_parts, not_from_false}
+use Rattle.std.proofs.lemmas.Bool.{and_from, or_from, or_parts, not_from_false}
 use Rattle.std.proofs.lemmas.Str.{chars_past_char, length-encode, len_utf8_bounds}
 use Rattle.ucd_normal.specs.declared.forms.QuickCheck.TheVariants.{Yes}
 use Rattle.ucd_normal.specs.CanonicalCombiningClass.{canonical_combining_class}
@@ -53,3 +53,13 @@ module _ (f : Form) (seen : Seen) (here : Sees f seen) where
     boundary_apart begins apart =
         let marks = or_parts (is_among halfwidth_marks seen.character) (is_among vowel_signs seen.character) plain in
         at (boundary-decomposing ucd f apart seen.character (sound seen.character) (begins seen.character starter marks.1 marks.0))
+
+  -- where it is a leading consonant of Hangul
+  pub boundary_leading : ((c : ℕ) → IsTrue (is_sound ucd c)) → ((c : ℕ) → IsTrue (passes_check f c) → IsParting ucd f c) → 0x1100 ≤ seen.character → seen.character < 0x1113 → seen.class ≡ 0 → seen.answer ≡ Yes
+      → IsAtBoundary f seen
+  boundary_leading sound parting low high class is =
+      let other : (x : ℕ) → seen.character ≢ x → (seen.character == x) ≡ false = ne_eqb seen.character in
+      boundary_composing sound class
+      (or_from _ _ (or_from _ _ (other 0xFF9E (λ e. omega arith)) (or_from _ _ (other 0xFF9F (λ e. omega arith)) refl))
+      (or_from _ _ (other 0xF73 (λ e. omega arith)) (or_from _ _ (other 0xF75 (λ e. omega arith)) (or_from _ _ (other 0xF81 (λ e. omega arith)) refl))))
+      parting is

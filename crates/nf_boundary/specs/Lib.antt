@@ -3,3 +3,4 @@ pub mod Seen
 pub mod Pieces
 pub mod Stands
 pub mod Joins
+pub mod Hangul

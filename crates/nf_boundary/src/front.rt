@@ -8,6 +8,7 @@ ghost use Rattle.nf_boundary.specs.Stands.{Stands};
 use crate::apart::take_apart;
 use crate::closed::{Closed, Formed};
 use crate::composing::compose_cluster;
+use crate::hangul::take_syllable;
 use crate::kept::keep_halfwidth;
 use crate::seen::Seen;
 use nf_calm::calm_front;
@@ -91,9 +92,11 @@ fn take_cluster<'t>(form: Form, first: Seen<'t>, formed: &mut Formed) -> Option<
     ensures closes { IfSome result (λ next. Closes form first.entry.text.now next formed.old.items formed.new.items) }
     ensures stays { IsNone result → formed.new ≡ formed.old }
 {
-    if form.composes() {
-        compose_cluster(form, first, formed)
-    } else {
-        take_apart(form, first, formed)
+    if !form.composes() {
+        return take_apart(form, first, formed);
+    }
+    match take_syllable(form, first, formed) {
+        Some(next) => Some(next),
+        None => compose_cluster(form, first, formed),
     }
 }

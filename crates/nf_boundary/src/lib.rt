@@ -8,6 +8,7 @@ mod closed;
 mod cluster;
 mod composing;
 mod front;
+mod hangul;
 mod kept;
 mod seen;
 

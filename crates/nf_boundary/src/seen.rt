@@ -51,6 +51,29 @@ impl<'t> Seen<'t> {
         Some(seen)
     }
 
+    /// The first character, where it is a leading consonant of Hangul: with no look-up, for a text may be cut before it.
+    #[inline(always)]
+    pub fn leading(form: Form, text: &'t str) -> Option<Seen<'t>>
+        ensures { IfSome result (λ seen. (seen.text.now ≡ text.now) × IsAtBoundary form seen) }
+    {
+        laws::every_character_is_sound();
+        laws::the_quick_check_tells();
+        laws::hangul_letters_are_their_own_rows();
+        laws::leading_consonants_pass();
+        let mut chars = text.chars();
+        let character = chars.next()?;
+        if character < '\u{1100}' || character > '\u{1112}' {
+            return None;
+        }
+        Some(Seen {
+            text,
+            character,
+            class: 0,
+            answer: QuickCheck::Yes,
+            behind: chars.as_str(),
+        })
+    }
+
     /// Whether one look-up tells that a text may be cut before it: a starter whose compatibility decomposition begins with
     /// a starter, and which in a form that composes passes the quick check.
     #[inline(always)]

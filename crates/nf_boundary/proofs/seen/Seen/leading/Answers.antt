@@ -1,0 +1,19 @@
+use Rattle.std.proofs.Common.{◌++◌, ◌≤◌, ◌<◌, ℕ, refl, sym, ap, ◌∙◌, arith}
+use Rattle.std.specs.Prelude.{encode_utf8}
+use Rattle.nf_boundary.specs.Seen.{Sees}
+use Rattle.nf_boundary.proofs.SeenLemmas.{boundary_leading}
+use Rattle.nf_boundary.proofs.seen.Seen.leading.Goals as goal
+
+pub returns : goal.returns
+returns c =
+    let letter : ℕ = c.in_ok-character.character in
+    let low : 0x1100 ≤ letter = omega (arith, c.if-character-lt4352.false) in
+    let high : letter < 0x1113 = omega (arith, c.if-character-gt4370.false) in
+    let e = sym c.chars-chars.ensures.rest ∙ c.in_ok-character.ensures.steps.0 ∙ ap (λ k. encode_utf8 letter ++ k) (sym c.as_str.ensures) in
+    let sees : Sees c.args.form _ = record {
+      text = e;
+      text_utf8 = c.utf8.text;
+      behind_utf8 = c.as_str.utf8;
+      class = sym (c.hangul_letters_are_their_own_rows.ensures.starter letter low (omega arith));
+      answer = sym (c.leading_consonants_pass.ensures c.args.form letter low high);
+    } in (refl, boundary_leading c.args.form _ sees c.every_character_is_sound.ensures.character (c.the_quick_check_tells.ensures.parting c.args.form) low high refl refl)
