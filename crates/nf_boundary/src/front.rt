@@ -16,30 +16,31 @@ use nf_facts::laws;
 use nf_forms::Form;
 
 /// A closed front of the text, as far as one is known: calm text, and behind it characters that the form changes, until
-/// calm text comes again or the result is full. Nothing where none is found, as where no boundary comes.
-pub fn closed_front(form: Form, text: &str) -> Option<Closed<'_>>
-    ensures { IfSome result (λ closed. IsClosedFront ucd form text.now closed.same.now closed.formed.items closed.rest.now) }
+/// calm text comes again or `formed` is full. Their form is put into `formed`, in place of what it holds. Nothing where none
+/// is found, as where no boundary comes.
+pub fn closed_front<'t>(form: Form, text: &'t str, formed: &mut Formed) -> Option<Closed<'t>>
+    ensures { IfSome result (λ closed. IsClosedFront ucd form text.now closed.same.now formed.new.items closed.rest.now) }
 {
     match form {
-        Form::Nfc => front_in(Form::Nfc, text),
-        Form::Nfd => front_in(Form::Nfd, text),
-        Form::Nfkc => front_in(Form::Nfkc, text),
-        Form::Nfkd => front_in(Form::Nfkd, text),
+        Form::Nfc => front_in(Form::Nfc, text, formed),
+        Form::Nfd => front_in(Form::Nfd, text, formed),
+        Form::Nfkc => front_in(Form::Nfkc, text, formed),
+        Form::Nfkd => front_in(Form::Nfkd, text, formed),
     }
 }
 
 /// Each form has a copy of the loops of its own.
 #[inline(always)]
-fn front_in(form: Form, text: &str) -> Option<Closed<'_>>
-    ensures { IfSome result (λ closed. IsClosedFront ucd form text.now closed.same.now closed.formed.items closed.rest.now) }
+fn front_in<'t>(form: Form, text: &'t str, formed: &mut Formed) -> Option<Closed<'t>>
+    ensures { IfSome result (λ closed. IsClosedFront ucd form text.now closed.same.now formed.new.items closed.rest.now) }
 {
     // Most of what is not closed shows at once.
     Seen::boundary(form, text)?;
     let first = own_part(form, text)?;
     let (same, _) = text.split_at(text.len() - first.text.len());
-    let mut formed = Formed::new();
+    formed.clear();
     let mut next = first;
-    while let Some(behind) = take_cluster(form, next, &mut formed) {
+    while let Some(behind) = take_cluster(form, next, formed) {
         next = behind;
     }
     if next.text.len() == text.len() {
@@ -47,7 +48,6 @@ fn front_in(form: Form, text: &str) -> Option<Closed<'_>>
     }
     Some(Closed {
         same,
-        formed,
         rest: next.text,
     })
 }

@@ -1,6 +1,6 @@
 //! Texts whose closed front was found by hand, from UnicodeData.txt and DerivedNormalizationProps.txt.
 use crate::reference::checked;
-use nf_boundary::closed_front;
+use nf_boundary::{Formed, closed_front};
 use nf_forms::Form;
 use std::alloc::Global;
 use std::process::Abort;
@@ -15,11 +15,12 @@ type Front = (&'static str, &'static str, &'static str, &'static str);
 fn check<T: Abort>(rt: &T, alloc: Global, form: Form, fronts: &[Front]) -> Result<(), Fail> {
     for (same, changed, formed, rest) in fronts {
         let text = format!(in alloc; "{same}{changed}{rest}")?;
-        let closed = closed_front(form, &text);
+        let mut characters = Formed::new();
+        let closed = closed_front(form, &text, &mut characters);
         assert!(rt; closed.is_some(), "{form:?}: {text:?}");
         if let Some(closed) = closed {
             let mut found = String::new(alloc);
-            for c in &closed.formed {
+            for c in &characters {
                 found.push(*c)?;
             }
             assert_eq!(rt;
@@ -33,9 +34,13 @@ fn check<T: Abort>(rt: &T, alloc: Global, form: Form, fronts: &[Front]) -> Resul
     Ok(())
 }
 
+fn is_none(form: Form, text: &str) -> bool {
+    closed_front(form, text, &mut Formed::new()).is_none()
+}
+
 fn check_none<T: Abort>(rt: &T, form: Form, texts: &[&str]) {
     for text in texts {
-        assert!(rt; closed_front(form, text).is_none(), "{form:?}: {text:?}");
+        assert!(rt; is_none(form, text), "{form:?}: {text:?}");
     }
 }
 
@@ -155,7 +160,7 @@ fn twelve_halfwidth_marks_stay(rt: HostRuntime) -> Result<(), Fail> {
     assert_eq!(rt; checked(&rt, rt.alloc(), Form::Nfc, &twelve)?, Some("b"));
     let marks = "\u{FF9E}".repeat(rt.alloc(), 13)?;
     let thirteen = format!(in rt.alloc(); "\u{FF76}{marks}b")?;
-    assert_eq!(rt; closed_front(Form::Nfc, &thirteen).is_none(), true);
+    assert_eq!(rt; is_none(Form::Nfc, &thirteen), true);
     Ok(())
 }
 
@@ -165,6 +170,6 @@ fn twelve_marks_are_left(rt: HostRuntime) -> Result<(), Fail> {
     let twelve = format!(in rt.alloc(); "b{TWELVE}c")?;
     assert_eq!(rt; checked(&rt, rt.alloc(), Form::Nfc, &twelve)?, Some("c"));
     let thirteen = format!(in rt.alloc(); "a\u{301}{TWELVE}\u{316}c")?;
-    assert_eq!(rt; closed_front(Form::Nfc, &thirteen).is_none(), true);
+    assert_eq!(rt; is_none(Form::Nfc, &thirteen), true);
     Ok(())
 }

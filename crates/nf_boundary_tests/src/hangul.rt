@@ -1,5 +1,5 @@
 //! All Hangul syllables, by the arithmetic of The Unicode Standard, section 3.12.
-use nf_boundary::closed_front;
+use nf_boundary::{Formed, closed_front};
 use nf_forms::Form;
 use std::test::Fail;
 
@@ -18,16 +18,15 @@ fn each_syllable_both_ways(rt: HostRuntime) -> Result<(), Fail> {
         if trailing > 0 {
             letters.push(char::from_u32(0x11A7 + trailing).unwrap_or('?'))?;
         }
+        let mut formed = Formed::new();
         let text = format!(in rt.alloc(); "{letters}\u{1100}")?;
-        let put_together = closed_front(Form::Nfc, &text).and_then(|closed| closed
-            .formed
-            .first()
-            .copied());
-        assert_eq!(rt; put_together, Some(syllable), "{index}");
+        let closed = closed_front(Form::Nfc, &text, &mut formed);
+        assert!(rt; closed.is_some(), "{index}");
+        assert_eq!(rt; formed.first().copied(), Some(syllable), "{index}");
         let text = format!(in rt.alloc(); "{syllable}\u{1100}")?;
         let mut taken_apart = String::new(rt.alloc());
-        if let Some(closed) = closed_front(Form::Nfd, &text) {
-            for c in &closed.formed {
+        if closed_front(Form::Nfd, &text, &mut formed).is_some() {
+            for c in &formed {
                 taken_apart.push(*c)?;
             }
         }

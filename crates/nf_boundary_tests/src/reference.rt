@@ -1,5 +1,5 @@
 //! A closed front against the forms of whole texts.
-use nf_boundary::{Closed, closed_front};
+use nf_boundary::{Formed, closed_front};
 use nf_forms::Form;
 use std::alloc::{AllocError, Global};
 use std::process::Abort;
@@ -21,10 +21,10 @@ pub fn form_of(form: Form, alloc: Global, text: &str) -> Result<String, AllocErr
 }
 
 /// What the front is said to become.
-fn spelled(alloc: Global, closed: &Closed<'_>) -> Result<String, AllocError> {
+fn spelled(alloc: Global, same: &str, formed: &Formed) -> Result<String, AllocError> {
     let mut text = String::new(alloc);
-    text.push_str(closed.same)?;
-    for c in &closed.formed {
+    text.push_str(same)?;
+    for c in formed {
         text.push(*c)?;
     }
     Ok(text)
@@ -38,7 +38,8 @@ pub fn checked<'t, T: Abort>(
     form: Form,
     text: &'t str,
 ) -> Result<Option<&'t str>, Fail> {
-    let Some(closed) = closed_front(form, text) else {
+    let mut characters = Formed::new();
+    let Some(closed) = closed_front(form, text, &mut characters) else {
         return Ok(None);
     };
     let front = text.strip_suffix(closed.rest).unwrap_or("");
@@ -46,7 +47,7 @@ pub fn checked<'t, T: Abort>(
         !front.is_empty() && !closed.rest.is_empty(),
         "{form:?}: {text:?}"
     );
-    let formed = spelled(alloc, &closed)?;
+    let formed = spelled(alloc, closed.same, &characters)?;
     assert_eq!(rt; formed, form_of(form, alloc, front)?, "{form:?}: {front:?}");
     let before = form_of(form, alloc, BEFORE)?;
     let behind = form_of(form, alloc, closed.rest)?;

@@ -23,16 +23,17 @@ impl Normalizer {
     ghost use Rattle.nf_filter.specs.Taking.{HasPassed, TakesUsable};
     ghost use Rattle.nf_filter.specs.Closing.{TakesClosed};
 
-    /// Takes the closed front of a text, each that comes right behind it, and the first character behind them, at which a
-    /// machine begins anew. Answers what stands behind that.
+    /// Takes the closed front of a text, of whose form `formed` has the end, each that comes right behind it, and the first
+    /// character behind them, at which a machine begins anew. Answers what stands behind that.
     pub(crate) fn take_closed<'t, R: Rows, S: Sink>(
         &mut self,
         rows: &R,
         text: &'t str,
         closed: Closed<'t>,
+        formed: &mut Formed,
         block: &mut Block<'_, S>,
     ) -> Result<&'t str, Failed>
-        requires closed { IsClosedFront (R.properties rows.now) self.old.form text.now closed.same.now closed.formed.items closed.rest.now }
+        requires closed { IsClosedFront (R.properties rows.now) self.old.form text.now closed.same.now formed.old.items closed.rest.now }
         requires within { IsWithin self.old }
         requires fits { self.old.chars + length text.now ≤ u64.MAX }
         ensures passes { IfOk result (λ rest. HasPassed self.old self.new self.old.chars text.now rest.now) }
@@ -47,7 +48,7 @@ impl Normalizer {
         if let Err(failed) = self.settle(rows, block) {
             return Err(failed);
         }
-        let next = match write_closed(rows, form, closed, block) {
+        let next = match write_closed(rows, form, closed, formed, block) {
             Ok(next) => next,
             Err(failed) => return Err(failed),
         };
@@ -111,24 +112,26 @@ impl Normalizer {
     }
 }
 
-/// Writes the form of a closed front, and of each that comes right behind it. Answers what stands behind them.
+/// Writes the form of a closed front, whose end is in `formed`, and of each that comes right behind it. Answers what stands
+/// behind them.
 fn write_closed<'t, R: Rows, S: Sink>(
     rows: &R,
     form: Form,
     closed: Closed<'t>,
+    formed: &mut Formed,
     block: &mut Block<'_, S>,
 ) -> Result<&'t str, Failed>
     ensures writes { let p = R.properties rows.now in
-        (whole : List ℕ) → IsClosedFront p form whole closed.entry.same.now closed.entry.formed.items closed.entry.rest.now
+        (whole : List ℕ) → IsClosedFront p form whole closed.entry.same.now formed.old.items closed.entry.rest.now
         → WritesClosed p form (block_state S.state block.old) (block_state S.state block.new) whole result }
     ensures lent { (block.new.sink.ghost_name ≡ block.old.sink.ghost_name) × ((S.state block.new.sink.now).lender ≡ (S.state block.old.sink.now).lender) }
 {
-    if let Err(failed) = write_form(closed.same, &closed.formed, block) {
+    if let Err(failed) = write_form(closed.same, formed, block) {
         return Err(failed);
     }
     let mut rest = closed.rest;
-    while let Some(next) = rows.closed_front(form, rest) {
-        if let Err(failed) = write_form(next.same, &next.formed, block) {
+    while let Some(next) = rows.closed_front(form, rest, formed) {
+        if let Err(failed) = write_form(next.same, formed, block) {
             return Err(failed);
         }
         rest = next.rest;

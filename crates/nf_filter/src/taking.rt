@@ -4,7 +4,7 @@ use crate::block::Block;
 use crate::devices::{Failed, Sink};
 use crate::fault::Fault;
 use crate::normalizer::Normalizer;
-use nf_row::{Kind, Rows};
+use nf_row::{Formed, Kind, Rows};
 use nf_utf8::ascii_prefix;
 
 impl Normalizer {
@@ -69,9 +69,10 @@ impl Normalizer {
         ensures lent { (block.new.sink.ghost_name ≡ block.old.sink.ghost_name) × ((S.state block.new.sink.now).lender ≡ (S.state block.old.sink.now).lender) }
     {
         let mut rest = text;
+        let mut formed = Formed::new();
         while !rest.is_empty() {
             let place = at + (text.len() - rest.len()) as u64;
-            match self.take_front(rows, place, rest, block) {
+            match self.take_front(rows, place, rest, &mut formed, block) {
                 Ok(behind) => rest = behind,
                 Err(fault) => return Err(fault),
             }
@@ -80,12 +81,13 @@ impl Normalizer {
     }
 
     /// Takes a front of a text that begins at the offset `at`: what of it is closed, or else its first character. Answers
-    /// what stands behind.
+    /// what stands behind. What `formed` holds is lost: it is room that each front uses anew.
     fn take_front<'t, R: Rows, S: Sink>(
         &mut self,
         rows: &R,
         at: u64,
         text: &'t str,
+        formed: &mut Formed,
         block: &mut Block<'_, S>,
     ) -> Result<&'t str, Fault>
         requires some { 0 < length text.now }
@@ -102,10 +104,10 @@ impl Normalizer {
         {
             return self.take_first(rows, at, text, block);
         }
-        let Some(closed) = rows.closed_front(self.form, text) else {
+        let Some(closed) = rows.closed_front(self.form, text, formed) else {
             return self.take_else(rows, at, text, block);
         };
-        match self.take_closed(rows, text, closed, block) {
+        match self.take_closed(rows, text, closed, formed, block) {
             Ok(rest) => Ok(rest),
             Err(Failed) => Err(Fault::Write),
         }

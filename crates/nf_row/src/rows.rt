@@ -10,7 +10,7 @@ ghost use Rattle.nf_row.specs.Ascii.{IsPlainAscii};
 
 use crate::kind::Kind;
 use arrayvec::ArrayVec;
-use nf_boundary::Closed;
+use nf_boundary::{Closed, Formed};
 use nf_calm::Calm;
 use nf_forms::Form;
 
@@ -73,11 +73,17 @@ pub trait Rows {
         Calm::none(text)
     }
 
-    /// A front of the text that ends before a normalization boundary (UAX #15, section 9), with its form, as far as one is
-    /// known. Data of which nothing is known leaves it out.
+    /// A front of the text that ends before a normalization boundary (UAX #15, section 9), as far as one is known. What of
+    /// its form does not stand in the text is put in place of what `_formed` holds. Data of which nothing is known leaves it
+    /// out.
     #[inline]
-    fn closed_front<'t>(&self, _form: Form, _text: &'t str) -> Option<Closed<'t>>
-        ensures { IfSome result (λ closed. IsClosedFront (properties self.now) _form _text.now closed.same.now closed.formed.items closed.rest.now) }
+    fn closed_front<'t>(
+        &self,
+        _form: Form,
+        _text: &'t str,
+        _formed: &mut Formed,
+    ) -> Option<Closed<'t>>
+        ensures { IfSome result (λ closed. IsClosedFront (properties self.now) _form _text.now closed.same.now _formed.new.items closed.rest.now) }
     {
         None
     }

@@ -5,7 +5,7 @@ ghost use Rattle.nf_forms.specs.Ucd.{ucd};
 use crate::kind::Kind;
 use crate::known::kind_of;
 use crate::rows::{Long, Row, Rows, row_from};
-use nf_boundary::{Closed, closed_front};
+use nf_boundary::{Closed, Formed, closed_front};
 use nf_calm::{Calm, calm_front};
 use nf_facts::laws;
 use unicode::properties::GeneralCategory;
@@ -76,8 +76,13 @@ impl Rows for Ucd {
     }
 
     #[inline]
-    fn closed_front<'t>(&self, form: nf_forms::Form, text: &'t str) -> Option<Closed<'t>> {
-        closed_front(form, text)
+    fn closed_front<'t>(
+        &self,
+        form: nf_forms::Form,
+        text: &'t str,
+        formed: &mut Formed,
+    ) -> Option<Closed<'t>> {
+        closed_front(form, text, formed)
     }
 
     #[inline]

@@ -10,7 +10,7 @@ split_at-requires c = stands-seam c.args.form c.args.text.now c.in_ok-first.firs
 
 pub loop-behind-init : goal.loop-behind-init
 loop-behind-init c =
-    let none : [] ≡ c.new-formed.result.items = search rules in
+    let none : [] ≡ c.clear.new.self.items = search rules in
     subst (λ formed. Reaches c.args.form c.args.text.now c.split_at.result.0.now formed c.in_ok-first.first) none
     (reaches_own c.args.form c.args.text.now c.in_ok-first.first c.in_ok-first.ensures c.split_at.result.0.now c.split_at.ensures.front)
 

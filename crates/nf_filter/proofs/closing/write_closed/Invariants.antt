@@ -8,7 +8,7 @@ use Rattle.nf_filter.proofs.closing.write_closed.Given as goal
 abbrev pub invariant-loop-next : goal.invariant-loop-next
 invariant-loop-next g l = record {
   utf8 : IsUtf8 l.rest;
-  writes : (whole : List ℕ) → IsClosedFront (g.R.Rows.properties l.rows) l.fn.form whole l.fn.closed.same.now l.fn.closed.formed.items l.fn.closed.rest.now
+  writes : (whole : List ℕ) → IsClosedFront (g.R.Rows.properties l.rows) l.fn.form whole l.fn.closed.same.now l.fn.formed.items l.fn.closed.rest.now
       → HasWrittenForm (g.R.Rows.properties l.rows) l.fn.form (block_state g.S.Sink.state l.fn.block) (block_state g.S.Sink.state l.block) whole l.rest;
   lent : (l.block.sink.ghost_name ≡ l.fn.block.sink.ghost_name) × ((g.S.Sink.state l.block.sink.now).lender ≡ (g.S.Sink.state l.fn.block.sink.now).lender);
 }

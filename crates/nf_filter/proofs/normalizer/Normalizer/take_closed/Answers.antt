@@ -41,7 +41,7 @@ returns-in-Err-clause-takes g c = λ f x start taken before.
     let p = g.R.Rows.properties c.args.rows.now in
     let closed = closed_in taken.form c.requires.closed in
     BreaksInFront-before p f c.args.text.now x (chars closed.front) _ _ closed.characters taken.usable closed.form closed.next start _ (encode_utf8_all (safe_form f p x))
-    (record { more = encode_utf8_all (chars c.args.closed.same.now ++ c.args.closed.formed.items); text = refl }) (c.in-Err.ensures.writes f x start taken before)
+    (record { more = encode_utf8_all (chars c.args.closed.same.now ++ c.args.formed.now.items); text = refl }) (c.in-Err.ensures.writes f x start taken before)
 
 pub returns-in-Err-write_closed-clause-takes : goal.returns-in-Err-write_closed-clause-takes
 returns-in-Err-write_closed-clause-takes g c = λ f x start taken before.
