@@ -68,6 +68,75 @@ fn composed(rt: HostRuntime) -> Result<(), Fail> {
     check(&rt, rt.alloc(), Form::Nfkc, &fronts)
 }
 
+/// U+1112, U+1161 and U+11AB make up U+D55C, without the third U+D558; U+1100 and U+1173, U+ADF8. Of the letters, U+1113,
+/// U+1176, U+11A7 and U+11C3 are in no syllable.
+#[test]
+fn syllables(rt: HostRuntime) -> Result<(), Fail> {
+    let fronts = [
+        (
+            "",
+            "\u{1112}\u{1161}\u{1112}\u{1161}",
+            "\u{D558}\u{D558}",
+            "a",
+        ),
+        (
+            "a",
+            "\u{1112}\u{1161}\u{11AB}\u{1112}\u{1161}\u{1100}\u{1173}",
+            "\u{D55C}\u{D558}\u{ADF8}",
+            "\u{D55C}",
+        ),
+        (
+            "\u{1112}\u{1100}",
+            "\u{1112}\u{1161}",
+            "\u{D558}",
+            "\u{1100}",
+        ),
+        (
+            "",
+            "\u{1112}\u{1161}\u{11AB}\u{301}",
+            "\u{D55C}\u{301}",
+            "b",
+        ),
+        (
+            "",
+            "\u{1112}\u{1161}",
+            "\u{D558}",
+            "\u{1112}\u{1161}\u{1161}b",
+        ),
+        ("", "\u{1112}\u{1161}", "\u{D558}", "\u{11A7}b"),
+        ("", "\u{1112}\u{1161}", "\u{D558}", "\u{11C3}b"),
+        ("", "\u{1112}\u{1161}", "\u{D558}", "\u{1113}\u{1161}b"),
+        ("\u{1112}\u{1176}", "\u{1112}\u{1161}", "\u{D558}", "b"),
+    ];
+    check(&rt, rt.alloc(), Form::Nfc, &fronts)?;
+    check(&rt, rt.alloc(), Form::Nfkc, &fronts)?;
+    let texts = [
+        "\u{1112}\u{1161}\u{1161}b",
+        "\u{1112}\u{1161}\u{11AB}\u{1161}b",
+        "\u{1112}\u{1161}\u{11AB}\u{11AB}b",
+        "\u{1112}\u{1161}\u{301}\u{11AB}b",
+        "\u{1112}\u{11AB}b",
+    ];
+    check_none(&rt, Form::Nfc, &texts);
+    check_none(&rt, Form::Nfkc, &texts);
+    Ok(())
+}
+
+/// As many syllables as there is room for.
+#[test]
+fn syllables_up_to_the_room(rt: HostRuntime) -> Result<(), Fail> {
+    let letters = "\u{1112}\u{1161}\u{11AB}";
+    let many = letters.repeat(rt.alloc(), 40)?;
+    let text = format!(in rt.alloc(); "{many}b")?;
+    let left = letters.repeat(rt.alloc(), 9)?;
+    let behind = format!(in rt.alloc(); "{left}b")?;
+    assert_eq!(rt;
+        checked(&rt, rt.alloc(), Form::Nfc, &text)?,
+        Some(behind.as_str())
+    );
+    Ok(())
+}
+
 #[test]
 fn decomposed(rt: HostRuntime) -> Result<(), Fail> {
     let fronts = [
