@@ -95,8 +95,8 @@ impl Normalizer {
     }
 
     /// The same of a character of this class that is its own canonical and compatibility row: no rows are read.
-    #[inline]
-    fn take_own<R: Rows, S: Sink>(
+    #[inline(always)]
+    pub(crate) fn take_own<R: Rows, S: Sink>(
         &mut self,
         rows: &R,
         c: char,

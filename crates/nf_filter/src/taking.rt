@@ -99,10 +99,13 @@ impl Normalizer {
         ensures lent { (block.new.sink.ghost_name ≡ block.old.sink.ghost_name) × ((S.state block.new.sink.now).lender ≡ (S.state block.old.sink.now).lender) }
     {
         // No closed text begins with a mark, and to ask for a front of it costs more than to see that.
-        if let Some(c) = text.chars().next()
-            && let Kind::Mark { .. } = rows.kind(self.form, c)
-        {
-            return self.take_first(rows, at, text, block);
+        let mut chars = text.chars();
+        let c = chars.next().unwrap();
+        if let Kind::Mark { class, .. } = rows.kind(self.form, c) {
+            return match self.take_own(rows, c, class, block) {
+                Ok(()) => Ok(chars.as_str()),
+                Err(refusal) => Err(refusal.at(at)),
+            };
         }
         let Some(closed) = rows.closed_front(self.form, text, formed) else {
             return self.take_else(rows, at, text, block);
