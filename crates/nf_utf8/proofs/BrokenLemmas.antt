@@ -1,16 +1,22 @@
 -- Ill-formed parts, one behind the other.
-use Rattle.std.proofs.Common.{◌≡◌, ℕ, ◌+◌, ◌≤◌, List, [], ◌∷◌, ◌++◌, length, drop, refl, sym, ap, ◌∙◌, arith, append_assoc, length-drop}
+use Rattle.std.proofs.Common.{◌≡◌, ℕ, ◌+◌, ◌<◌, ◌≤◌, List, [], ◌∷◌, ◌++◌, length, drop, get_or, refl, sym, ap, ◌∙◌, arith, append_assoc, length-drop, take-append-drop}
 use Rattle.std.specs.Prelude.{zero, suc}
 use Rattle.std.proofs.lemmas.List.{map-append, drop-drop, drop-append-le}
-use Rattle.nf_utf8.specs.declared.front.Front.TheVariants.{Bad as BadFront}
+use Rattle.nf_utf8.specs.declared.carry.Carry.{Carry}
+use Rattle.nf_utf8.specs.declared.front.Front.TheVariants.{Begun, Bad as BadFront, Char as CharFront}
 use Rattle.nf_utf8.specs.Ending.{Bad}
 use Rattle.nf_utf8.specs.Front.{IsFront}
+use Rattle.nf_utf8.specs.Part.{IsPart}
 use Rattle.nf_utf8.specs.Reading.{text_of, ending_of}
 use Rattle.nf_utf8.specs.Replaced.{replacement, own_parts, part_end, parts_of, bytes_in}
-use Rattle.nf_utf8.specs.Broken.{replacements, IsBrokenFront}
-use Rattle.nf_utf8.proofs.ReplacedLemmas.{bytes_in-append, broken_part, broken_end, parts_of-bad}
+use Rattle.nf_utf8.specs.Broken.{replacements, BeginsBroken, IsBrokenFront}
+use Rattle.nf_utf8.specs.Text.{BeginsText}
+use Rattle.nf_utf8.proofs.BegunLen.{begun_len-is, begins_for_all}
+use Rattle.nf_utf8.proofs.ReplacedLemmas.{bytes_in-append, is_broken, broken_part, broken_end, parts_of-bad}
+use Rattle.nf_utf8.proofs.Sequences.{BeginsText-part}
 use Rattle.nf_utf8.proofs.StandingLemmas.{text_of-none}
-use Rattle.nf_utf8.proofs.TakingLemmas.{ending_of-broken, text_len-broken}
+use Rattle.nf_utf8.proofs.TakingLemmas.{ending_of-broken}
+use Rattle.nf_utf8.proofs.TextLen.{no_char-text_len}
 
 replacements-more : (n : ℕ) → replacements n ++ replacement ∷ [] ≡ replacements (n + 1)
 replacements-more n = next n ∙ ap replacements (let same : suc n ≡ n + 1 = omega arith in same)
@@ -28,19 +34,41 @@ no_part bytes = record {
   front = λ more. refl;
 }
 
+-- ---- the part that bytes begin with
+
+pub broken_at : (bytes : List ℕ) (at back : ℕ) → IsFront [] bytes (BadFront at back) → ending_of bytes ≡ Bad at 0
+broken_at bytes at back is = ending_of-broken [] bytes at is.0 is.1 is.2 ∙ ap (λ n. Bad n 0) (let same : 0 + at ≡ at = omega arith in same)
+
+-- told by the first byte, or by the second
+pub broken_first : (bytes : List ℕ) → 0 < length bytes → ¬ BeginsText (get_or bytes 0 0 ∷ []) → ending_of bytes ≡ Bad 0 0
+broken_first [] some none = absurd (omega arith)
+broken_first (a ∷ rest) some none = broken_at (a ∷ rest) 0 0 (omega arith, tt, none, refl)
+
+pub broken_second : (bytes : List ℕ) → 1 < length bytes → IsPart (get_or bytes 0 0 ∷ []) → ¬ BeginsText (get_or bytes 0 0 ∷ get_or bytes 1 0 ∷ []) → ending_of bytes ≡ Bad 1 0
+broken_second [] some part none = absurd (omega arith)
+broken_second (a ∷ []) some part none = absurd (omega arith)
+broken_second (a ∷ b ∷ rest) some part none = broken_at (a ∷ b ∷ rest) 1 1 (omega arith, part, none, refl)
+
+-- a character at their front, and bytes that begin one, are no part
+pub char_whole : (bytes : List ℕ) (c len : ℕ) → IsFront [] bytes (CharFront c len) → ¬ BeginsBroken bytes
+char_whole bytes c len is broken =
+    no_char-text_len bytes (sym (is_broken bytes broken.0 0 broken.1).text) c (drop len bytes) is.1 (sym (take-append-drop len bytes) ∙ ap (λ l. l ++ drop len bytes) is.2)
+
+pub begun_whole : (bytes : List ℕ) (carry : Carry) → IsFront [] bytes (Begun carry) → ¬ BeginsBroken bytes
+begun_whole bytes carry is broken =
+    let b = is_broken bytes broken.0 0 broken.1 in
+    omega (arith, b.begun, b.within, begun_len-is bytes (length bytes) (begins_for_all bytes (BeginsText-part bytes is.0)))
+
 -- behind such a front comes one part more
-module _ (bytes : List ℕ) (count len at back : ℕ) (is : IsBrokenFront bytes count len) (broken : IsFront [] (drop len bytes) (BadFront at back)) where
+module _ (bytes : List ℕ) (count len at : ℕ) (is : IsBrokenFront bytes count len) (bad : ending_of (drop len bytes) ≡ Bad at 0) where
   abbrev rest : List ℕ
   rest = drop len bytes
-
-  bad : ending_of rest ≡ Bad at 0
-  bad = ending_of-broken [] rest at broken.0 broken.1 broken.2 ∙ ap (λ n. Bad n 0) (let same : 0 + at ≡ at = omega arith in same)
 
   inside : part_end at 0 ≤ length rest
   inside = (broken_end rest at 0 bad).1
 
   none : text_of rest ≡ []
-  none = text_of-none rest (text_len-broken [] rest at broken.0 broken.1 broken.2)
+  none = text_of-none rest (sym (is_broken rest at 0 bad).text)
 
   next : (more : List ℕ) → parts_of (rest ++ more) ≡ broken_part at 0 ∷ parts_of (drop (len + part_end at 0) bytes ++ more)
   next more =

@@ -1,6 +1,8 @@
 -- Ill-formed bytes that come one behind the other: each maximal subpart is read as U+FFFD (The Unicode Standard,
 -- section 3.9, "Substitution of Maximal Subparts").
 use Rattle.std.specs.Prelude.{◌≡◌, ◌≤◌, ℕ, zero, suc, List, [], ◌∷◌, ◌++◌, map, length, drop}
+use Rattle.nf_utf8.specs.Ending.{Bad}
+use Rattle.nf_utf8.specs.Reading.{ending_of}
 use Rattle.nf_utf8.specs.Replaced.{Part, replacement, parts_of, bytes_in}
 
 -- U+FFFD so many times
@@ -15,3 +17,7 @@ pub record IsBrokenFront (bytes : List ℕ) (count len : ℕ) : Type 0 where
   pub size : bytes_in parts ≡ len
   pub within : len ≤ length bytes
   pub front : (more : List ℕ) → parts_of (bytes ++ more) ≡ parts ++ parts_of (drop len bytes ++ more)
+
+-- a part stands at their front
+abbrev pub BeginsBroken : List ℕ → Type 0
+BeginsBroken bytes = (at : ℕ) × (ending_of bytes ≡ Bad at 0)

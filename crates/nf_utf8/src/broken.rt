@@ -1,11 +1,15 @@
 //! Ill-formed bytes that come one behind the other.
 
-ghost use Rattle.std.specs.Prelude.{◌≡◌, ◌≤◌, length};
+ghost use Rattle.std.specs.Prelude.{◌≡◌, ◌<◌, ◌≤◌, IfSome, None, length, drop};
+ghost use Rattle.nf_utf8.specs.Ending.{Bad};
+ghost use Rattle.nf_utf8.specs.Reading.{ending_of};
 ghost use Rattle.nf_utf8.specs.Replaced.{part_end};
-ghost use Rattle.nf_utf8.specs.Broken.{IsBrokenFront};
+ghost use Rattle.nf_utf8.specs.Broken.{BeginsBroken, IsBrokenFront};
 
 use crate::carry::Carry;
 use crate::front::Front;
+use crate::sequence;
+use crate::step::Step;
 
 /// Maximal subparts of ill-formed sequences.
 #[derive(Clone, Copy, Debug, PartialEq, Eq)]
@@ -21,17 +25,43 @@ pub fn broken_front(bytes: &[u8], most: usize) -> Broken
     ensures few { result.parts ≤ most }
     ensures within { (result.parts ≤ result.len) × (result.len ≤ length bytes.now) }
     ensures broken { IsBrokenFront bytes.now result.parts result.len }
+    ensures longest { result.parts < most → ¬ BeginsBroken (drop result.len bytes.now) }
 {
     let mut parts = 0;
     let mut len = 0;
     while parts < most {
-        let Front::Bad { at, .. } = Carry::Empty.front(&bytes[len..]) else {
+        let Some(at) = bad_at(&bytes[len..]) else {
             break;
         };
         len += part_len(at);
         parts += 1;
     }
     Broken { parts, len }
+}
+
+/// Where the byte stands that breaks off the part which the bytes begin with; none where they begin with no part. Most are
+/// told by their first two bytes.
+#[inline]
+fn bad_at(bytes: &[u8]) -> Option<usize>
+    ensures some { IfSome result (λ at. ending_of bytes.now ≡ Bad at 0) }
+    ensures none { result ≡ None → ¬ BeginsBroken bytes.now }
+{
+    if bytes.len() > 1 {
+        match sequence::first(bytes[0]) {
+            Step::Bad { .. } => return Some(0),
+            Step::More => {
+                if let Step::Bad { .. } = sequence::second(bytes[0], bytes[1]) {
+                    return Some(1);
+                }
+            }
+            Step::Char(_) => {}
+        }
+    }
+    match Carry::Empty.front(bytes) {
+        Front::Bad { at, .. } => Some(at),
+        Front::Char { .. } => None,
+        Front::Begun(_) => None,
+    }
 }
 
 /// How many bytes a part has that the byte at `at` breaks off. That byte begins the next, unless it is the first.

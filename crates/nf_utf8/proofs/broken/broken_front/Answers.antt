@@ -1,23 +1,28 @@
 use Rattle.std.proofs.Common.{arith}
 use Rattle.std.proofs.lemmas.List.{take_rest}
 use Rattle.nf_utf8.proofs.ReplacedLemmas.{part_end-after}
-use Rattle.nf_utf8.proofs.BrokenLemmas.{no_part, one_more}
+use Rattle.nf_utf8.proofs.BrokenLemmas.{no_part, one_more, one_more-within}
 use Rattle.nf_utf8.proofs.broken.broken_front.Goals as goal
 
 pub loop-parts-init : goal.loop-parts-init
 loop-parts-init c = record { few = omega arith; some = omega arith; broken = no_part c.args.bytes.now }
 
-pub slice_bounds-front-start : goal.slice_bounds-front-start
-slice_bounds-front-start c = c.loop-parts.invariant.broken.within
+pub slice_bounds-bad_at-start : goal.slice_bounds-bad_at-start
+slice_bounds-bad_at-start c = c.loop-parts.invariant.broken.within
+
+pub overflow_add-len : goal.overflow_add-len
+overflow_add-len c =
+    let bad = rw take_rest at (rw c.in-Some.is at c.bad_at.ensures.some) in
+    omega (arith, c.part_len-len.ensures, one_more-within c.args.bytes.now c.loop-parts.parts c.loop-parts.len c.in-Some.at c.loop-parts.invariant.broken bad)
 
 pub loop-parts-preserved : goal.loop-parts-preserved
 loop-parts-preserved c =
     let len = c.part_len-len.ensures in
-    let front = rw take_rest at (rw c.in-Bad.is at c.front.ensures) in
+    let bad = rw take_rest at (rw c.in-Some.is at c.bad_at.ensures.some) in
     record {
       few = omega (arith, c.loop-parts-test.true);
-      some = omega (arith, c.loop-parts.invariant.some, len, part_end-after c.in-Bad.at 0 (omega arith));
-      broken = rw len (one_more c.args.bytes.now c.loop-parts.parts c.loop-parts.len c.in-Bad.at c.in-Bad.back c.loop-parts.invariant.broken front);
+      some = omega (arith, c.loop-parts.invariant.some, len, part_end-after c.in-Some.at 0 (omega arith));
+      broken = rw len (one_more c.args.bytes.now c.loop-parts.parts c.loop-parts.len c.in-Some.at c.loop-parts.invariant.broken bad);
     }
 
 pub returns-after-loop-parts-clause-few : goal.returns-after-loop-parts-clause-few
@@ -34,4 +39,5 @@ returns-in_default c = record {
   few = c.loop-parts.invariant.few;
   within = (c.loop-parts.invariant.some, c.loop-parts.invariant.broken.within);
   broken = c.loop-parts.invariant.broken;
+  longest = λ _. rw take_rest at (c.bad_at.ensures.none c.in_default.is);
 }
