@@ -4,6 +4,8 @@
 #[cfg(test)]
 mod blocks;
 #[cfg(test)]
+mod broken;
+#[cfg(test)]
 mod counting;
 #[cfg(test)]
 mod prefix;
