@@ -1,7 +1,8 @@
 -- U+FFFD so many times, where a text may be cut before it.
-use Rattle.std.proofs.Common.{◌≡◌, ℕ, ◌+◌, ◌-◌, ◌<◌, true, false, List, [], ◌∷◌, ◌++◌, length, Err, refl, sym, ap, ◌∙◌, subst, arith, append_assoc}
+use Rattle.std.proofs.Common.{◌≡◌, ℕ, ◌+◌, ◌-◌, ◌*◌, ◌<◌, ◌≤◌, true, false, List, [], ◌∷◌, ◌++◌, length, take, Err, refl, sym, ap, ◌∙◌, subst, arith, append_assoc, length-append, take_at}
 use Rattle.std.specs.Prelude.{zero, suc, encode_utf8_all}
-use Rattle.std.proofs.lemmas.Str.{encodes-append}
+use Rattle.std.specs.Str.{IsCharBoundary, all_scalars}
+use Rattle.std.proofs.lemmas.Str.{encodes-append, IsCharBoundary-at_seam}
 use Rattle.std.specs.Str.Lossy.{replacement_bytes}
 use Rattle.std.proofs.str.Laws.{three}
 use Rattle.nf_forms.specs.Properties.{Properties}
@@ -32,27 +33,44 @@ pub length-replacements : (n : ℕ) → length (replacements n) ≡ n
 length-replacements zero = refl
 length-replacements (suc n) = ap suc (length-replacements n)
 
-encodes_one : encode_utf8_all (replacement ∷ []) ≡ replacement_bytes
-encodes_one = ap (λ l. l ++ []) (three replacement (omega arith) (omega arith))
+-- so many more, and all that are to come
+pub encodes-more : (w : List ℕ) (n m : ℕ) → (w ++ encode_utf8_all (replacements n)) ++ encode_utf8_all (replacements m) ≡ w ++ encode_utf8_all (replacements (n + m))
+encodes-more w n m =
+    append_assoc w (encode_utf8_all (replacements n)) (encode_utf8_all (replacements m))
+    ∙ ap (λ l. w ++ l) (sym (encodes-append (replacements n) (replacements m)) ∙ ap encode_utf8_all (replacements-append n m))
 
--- one more, and all that are to come
-pub encodes-more : (w : List ℕ) (n : ℕ) → (w ++ encode_utf8_all (replacements n)) ++ replacement_bytes ≡ w ++ encode_utf8_all (replacements (n + 1))
-encodes-more w n =
-    append_assoc w (encode_utf8_all (replacements n)) replacement_bytes
-    ∙ ap (λ l. w ++ (encode_utf8_all (replacements n) ++ l)) (sym encodes_one)
-    ∙ ap (λ l. w ++ l) (sym (encodes-append (replacements n) (replacement ∷ [])) ∙ ap encode_utf8_all (replacements-append n 1))
-
-pub encodes-rest : (w : List ℕ) (n count : ℕ) → n < count → Extends ((w ++ encode_utf8_all (replacements n)) ++ replacement_bytes) (w ++ encode_utf8_all (replacements count))
-encodes-rest w n count less =
-    let rest : ℕ = count - (n + 1) in
-    let all : (n + 1) + rest ≡ count = omega (arith, less) in
+pub encodes-rest : (w : List ℕ) (n m count : ℕ) → n + m ≤ count → Extends ((w ++ encode_utf8_all (replacements n)) ++ encode_utf8_all (replacements m)) (w ++ encode_utf8_all (replacements count))
+encodes-rest w n m count le =
+    let rest : ℕ = count - (n + m) in
+    let all : (n + m) + rest ≡ count = omega (arith, le) in
     record {
       more = encode_utf8_all (replacements rest);
-      text = ap (λ l. w ++ encode_utf8_all l) (sym (replacements-append (n + 1) rest ∙ ap replacements all))
-          ∙ ap (λ l. w ++ l) (encodes-append (replacements (n + 1)) (replacements rest))
-          ∙ sym (append_assoc w (encode_utf8_all (replacements (n + 1))) (encode_utf8_all (replacements rest)))
-          ∙ ap (λ l. l ++ encode_utf8_all (replacements rest)) (sym (encodes-more w n));
+      text = ap (λ l. w ++ encode_utf8_all l) (sym (replacements-append (n + m) rest ∙ ap replacements all))
+          ∙ ap (λ l. w ++ l) (encodes-append (replacements (n + m)) (replacements rest))
+          ∙ sym (append_assoc w (encode_utf8_all (replacements (n + m))) (encode_utf8_all (replacements rest)))
+          ∙ ap (λ l. l ++ encode_utf8_all (replacements rest)) (sym (encodes-more w n m));
     }
+
+-- a text of them, cut behind the first n
+length-encodes : (n : ℕ) → length (encode_utf8_all (replacements n)) ≡ 3 * n
+length-encodes zero = refl
+length-encodes (suc n) = omega (arith, length-encodes n, length-append replacement_bytes (encode_utf8_all (replacements n)), ap (λ l. length (l ++ encode_utf8_all (replacements n))) (three replacement (omega arith) (omega arith)))
+
+scalars : (n : ℕ) → all_scalars (replacements n) ≡ true
+scalars zero = refl
+scalars (suc n) = scalars n
+
+module _ (text : List ℕ) (many n : ℕ) (is : text ≡ encode_utf8_all (replacements many)) (few : n ≤ many) where
+  in_two : text ≡ encode_utf8_all (replacements n) ++ encode_utf8_all (replacements (many - n))
+  in_two = is ∙ ap (λ k. encode_utf8_all (replacements k)) (let all : many ≡ n + (many - n) = omega (arith, few) in all) ∙ sym (encodes-more [] n (many - n))
+
+  pub front_boundary : IsCharBoundary text (3 * n)
+  front_boundary =
+      subst (IsCharBoundary text) (length-encodes n)
+      (IsCharBoundary-at_seam text (encode_utf8_all (replacements n)) (encode_utf8_all (replacements (many - n))) in_two (replacements (many - n), (scalars (many - n), refl)))
+
+  pub front_is : take (3 * n) text ≡ encode_utf8_all (replacements n)
+  front_is = ap (take (3 * n)) in_two ∙ take_at (encode_utf8_all (replacements n)) (encode_utf8_all (replacements (many - n))) (3 * n) (length-encodes n)
 
 -- what the character did that was taken first of all
 pub char_broken : (f : Form) (p : Properties) (normalizer : Normalizer) (start : Start) (now : BlockState) (c : ℕ) (why : Refusal) → is_usable p (c ∷ []) ≡ true

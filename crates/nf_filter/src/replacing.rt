@@ -1,6 +1,6 @@
 //! Ill-formed parts that come one behind the other, each read as U+FFFD: they are taken at once where a text may be cut
 //! before that character (UAX #15, section 9).
-ghost use Rattle.std.specs.Prelude.{◌≡◌, ◌+◌, ℕ, List, ◌++◌, encode_utf8_all};
+ghost use Rattle.std.specs.Prelude.{◌≡◌, ◌≤◌, ℕ, List, ◌++◌, encode_utf8_all};
 ghost use Rattle.nf_utf8.specs.Broken.{replacements};
 ghost use Rattle.nf_filter.specs.Block.{Start, block_state, Written, WritesOn};
 
@@ -15,6 +15,17 @@ use nf_utf8::{broken_front, laws};
 
 /// So many parts are taken at once, at most.
 const MOST: usize = 1024;
+
+/// U+FFFD so many times are written at once, at most.
+const MANY: usize = 64;
+
+const REPLACEMENTS: &str =
+    "\u{FFFD}\u{FFFD}\u{FFFD}\u{FFFD}\u{FFFD}\u{FFFD}\u{FFFD}\u{FFFD}\u{FFFD}\u{FFFD}\u{FFFD}\
+    \u{FFFD}\u{FFFD}\u{FFFD}\u{FFFD}\u{FFFD}\u{FFFD}\u{FFFD}\u{FFFD}\u{FFFD}\u{FFFD}\u{FFFD}\
+    \u{FFFD}\u{FFFD}\u{FFFD}\u{FFFD}\u{FFFD}\u{FFFD}\u{FFFD}\u{FFFD}\u{FFFD}\u{FFFD}\u{FFFD}\
+    \u{FFFD}\u{FFFD}\u{FFFD}\u{FFFD}\u{FFFD}\u{FFFD}\u{FFFD}\u{FFFD}\u{FFFD}\u{FFFD}\u{FFFD}\
+    \u{FFFD}\u{FFFD}\u{FFFD}\u{FFFD}\u{FFFD}\u{FFFD}\u{FFFD}\u{FFFD}\u{FFFD}\u{FFFD}\u{FFFD}\
+    \u{FFFD}\u{FFFD}\u{FFFD}\u{FFFD}\u{FFFD}\u{FFFD}\u{FFFD}\u{FFFD}\u{FFFD}";
 
 impl Reading {
     ghost use Rattle.std.specs.Prelude.{◌≡◌, ◌+◌, ◌≤◌, ℕ, List, [], length, IfErr, IfOk, OnOk};
@@ -115,10 +126,23 @@ fn write_replacements<S: Sink>(count: usize, block: &mut Block<'_, S>) -> Result
         → WritesOn start (block_state S.state block.new) (w ++ encode_utf8_all (replacements count)) result }
     ensures lent { (block.new.sink.ghost_name ≡ block.old.sink.ghost_name) × ((S.state block.new.sink.now).lender ≡ (S.state block.old.sink.now).lender) }
 {
-    for _ in 0..count {
-        if let Err(failed) = block.push_text("\u{FFFD}") {
+    let mut left = count;
+    while left > 0 {
+        let many = left.min(MANY);
+        if let Err(failed) = block.push_text(some_replacements(many)) {
             return Err(failed);
         }
+        left -= many;
     }
     Ok(())
+}
+
+/// The text of U+FFFD so many times.
+#[inline]
+fn some_replacements(many: usize) -> &'static str
+    requires { many ≤ 64 }
+    ensures { result.now ≡ encode_utf8_all (replacements many) }
+{
+    let (text, _) = REPLACEMENTS.split_at(3 * many);
+    text
 }
