@@ -6,7 +6,7 @@ use std::test::Fail;
 use unicode_normalization::{to_nfc, to_nfd, to_nfkc, to_nfkd};
 
 /// The form of the whole text as the kit has it.
-fn whole_form(alloc: Global, form: Form, text: &str) -> Result<String, AllocError> {
+pub fn whole_form(alloc: Global, form: Form, text: &str) -> Result<String, AllocError> {
     match form {
         Form::Nfc => to_nfc(alloc, text),
         Form::Nfd => to_nfd(alloc, text),

@@ -13,6 +13,8 @@ mod forms;
 #[cfg(test)]
 mod kit;
 #[cfg(test)]
+mod saving;
+#[cfg(test)]
 mod settling;
 #[cfg(test)]
 mod tables;
