@@ -6,9 +6,8 @@ pub mod JudgementLemmas
 pub mod RowLemmas
 pub mod StandingLemmas
 pub mod EndingLemmas
-pub mod Utf8Lemmas
 pub mod ComparisonLemmas
-pub mod GivenLemmas
+pub mod HoldsLemmas
 pub mod ReportLemmas
 pub mod SweepLemmas
 pub mod TableLemmas

@@ -1,18 +1,23 @@
 -- No form changes a sound starter that is its own decomposition.
-use Rattle.std.proofs.Common.{◌≡◌, ℕ, Bool, true, false, [], ◌∷◌, ◌++◌, refl, ap, ◌∙◌, if◌then◌else◌}
-use Rattle.std.proofs.lemmas.Bool.{and_from, eq-eqb}
+use Rattle.std.proofs.Common.{◌≡◌, ℕ, ◌+◌, Bool, true, false, List, [], ◌∷◌, ◌++◌, length, refl, ap, ◌∙◌, arith, if◌then◌else◌}
+use Rattle.std.proofs.lemmas.Bool.{and_from, eq-eqb, le-ltb}
 use Rattle.std.proofs.lemmas.Slice.Eq.{bytes_eq-Decides}
+use Rattle.std.specs.List.{list_all}
 use Rattle.nf_forms.specs.Properties.{Properties}
+use Rattle.nf_forms.specs.Sound.{is_sound}
 use Rattle.nf_forms.specs.declared.form.Form.{Form}
 use Rattle.nf_forms.specs.declared.form.Form.TheVariants.{Nfc, Nfd, Nfkc, Nfkd}
 use Rattle.nf_forms.specs.Order.{by_class, order}
 use Rattle.nf_forms.specs.Compose.{compose}
 use Rattle.nf_forms.specs.Forms.{arranged, composes, finished, decomposed, normal_form}
+use Rattle.nf_forms.specs.StreamSafe.{joiner, max_run, stream_safe}
+use Rattle.nf_forms.specs.Runs.{lead}
+use Rattle.nf_forms.specs.Laws.Runs.{lead-le-length}
+use Rattle.nf_filter.specs.Settled.{is_usable}
 use Rattle.nf_forms.specs.SafeForm.{safe_form}
 use Rattle.nf_vectors.specs.Comparison.{holds}
 use Rattle.nf_vectors.specs.Sweep.{is_unchanged}
 use Rattle.nf_vectors.specs.Plain.{IsPlain}
-use Rattle.nf_vectors.proofs.ComparisonLemmas.{one-safe}
 
 module _ (p : Properties) (c : ℕ) (plain : IsPlain p c) where
   order-one : order p (c ∷ []) ≡ c ∷ []
@@ -29,10 +34,16 @@ module _ (p : Properties) (c : ℕ) (plain : IsPlain p c) where
   decomposed-one Nfkc = ap (λ row. row ++ []) plain.compat
   decomposed-one Nfkd = ap (λ row. row ++ []) plain.compat
 
+  -- no joiner stands before it
+  safe-one : stream_safe p (c ∷ []) ≡ c ∷ []
+  safe-one =
+      let few : length (p.compat c) ≡ 1 = ap (λ (l : List ℕ). length l) plain.compat in
+      ap (λ b. (if b then joiner ∷ [] else []) ++ c ∷ []) (le-ltb max_run (0 + lead p (p.compat c)) (omega (arith, few, lead-le-length p (p.compat c))))
+
   held-one : (f : Form) → holds f p (c ∷ []) (c ∷ []) ≡ true
-  unfolding holds safe_form
-  held-one f = and_from _ _ (and_from _ _ plain.sound refl) ((bytes_eq-Decides (safe_form f p (c ∷ [])) (c ∷ [])).1
-      (ap (normal_form f p) (one-safe p c plain.sound) ∙ ap (finished f p) (decomposed-one f) ∙ arranged-one (composes f)))
+  unfolding holds is_usable safe_form
+  held-one f = and_from _ _ (ap (list_all (is_sound p)) safe-one ∙ and_from _ _ plain.sound refl) ((bytes_eq-Decides (safe_form f p (c ∷ [])) (c ∷ [])).1
+      (ap (normal_form f p) safe-one ∙ ap (finished f p) (decomposed-one f) ∙ arranged-one (composes f)))
 
   pub unchanged-plain : is_unchanged p c ≡ true
   unfolding is_unchanged

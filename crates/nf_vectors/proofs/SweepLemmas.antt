@@ -1,7 +1,8 @@
 -- A sweep of one code more.
-use Rattle.std.proofs.Common.{◌≡◌, ℕ, suc, ◌+◌, Bool, true, false, cond, not, ◌&&◌, List, [], ◌∷◌, ◌++◌, Option, Some, None, refl, sym, ap, ◌∙◌, arith, count_by, find}
+use Rattle.std.proofs.Common.{◌≡◌, ℕ, zero, suc, ◌+◌, ◌≤◌, length, Bool, true, false, cond, not, ◌&&◌, List, [], ◌∷◌, ◌++◌, Option, Some, None, refl, sym, ap, ◌∙◌, arith, count_by, find}
 use Rattle.std.specs.Option.{option_or}
-use Rattle.std.proofs.lemmas.List.Sums.{sum_by_push}
+use Rattle.std.proofs.lemmas.List.{length_push}
+use Rattle.std.proofs.lemmas.List.Sums.{sum_by_push, count_by-le-length}
 use Rattle.std.proofs.lemmas.List.Folds.{find-append}
 use Rattle.nf_forms.specs.Properties.{Properties}
 use Rattle.nf_vectors.specs.declared.sweep.Sweep.{Sweep}
@@ -11,6 +12,11 @@ use Rattle.nf_vectors.specs.Sweep.{is_unlisted, is_unchanged, is_failed, below, 
 or_none : (o : Option ℕ) → option_or o None ≡ o
 or_none None = refl
 or_none (Some c) = refl
+
+length-below : (n : ℕ) → length (below n) ≡ n
+unfolding below
+length-below zero = refl
+length-below (suc n) = omega (arith, length-below n, length_push (below n) n)
 
 module _ (p : Properties) (rows : List VectorRow) (n : ℕ) where
   below-more : below (n + 1) ≡ below n ++ n ∷ []
@@ -36,6 +42,14 @@ module _ (p : Properties) (rows : List VectorRow) (n : ℕ) where
       sweep-more ∙ (λ i. record { unlisted = (sweep_below p rows n).unlisted + cond (is_u i) 1 0; failed = (sweep_below p rows n).failed + cond (is_f i) 1 0; first = option_or (sweep_below p rows n).first (cond (is_f i) (Some n) None) })
 
   module _ (s : Sweep) (so_far : s ≡ sweep_below p rows n) where
+    -- there are no more than characters
+    pub sweep-few : (s.unlisted ≤ n) × (s.failed ≤ n)
+    unfolding sweep_below
+    sweep-few = (
+      omega (arith, count_by-le-length (is_unlisted rows) (below n), length-below n, ap (λ (s : Sweep). s.unlisted) so_far),
+      omega (arith, count_by-le-length (is_failed p rows) (below n), length-below n, ap (λ (s : Sweep). s.failed) so_far),
+    )
+
     -- it is listed, or no scalar value
     pub sweep-past : is_unlisted rows n ≡ false → s ≡ sweep_below p rows (n + 1)
     sweep-past listed =

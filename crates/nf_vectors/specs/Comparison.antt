@@ -1,5 +1,5 @@
 -- The comparisons that a row of NormalizationTest.txt asks for.
-use Rattle.std.specs.Prelude.{ℕ, Bool, not, ◌&&◌, ◌||◌, ◌==◌, nat_le, List, [], ◌∷◌, take, Option, is_some, if◌then◌else◌, bytes_eq, find}
+use Rattle.std.specs.Prelude.{ℕ, Bool, true, false, not, ◌&&◌, ◌||◌, List, [], ◌∷◌, take, Option, is_some, if◌then◌else◌, bytes_eq, find}
 use Rattle.std.specs.List.{list_all}
 use Rattle.nf_forms.specs.Properties.{Properties}
 use Rattle.nf_forms.specs.declared.form.Form.{Form}
@@ -8,30 +8,33 @@ use Rattle.nf_forms.specs.Sound.{is_sound}
 use Rattle.nf_safe.specs.LongestFront.{longest_front}
 use Rattle.nf_safe.specs.Place.{place}
 use Rattle.nf_forms.specs.SafeForm.{safe_form}
-use Rattle.nf_vectors.specs.Columns.{Columns}
+use Rattle.nf_filter.specs.Settled.{is_usable}
+use Rattle.nf_vectors.specs.declared.columns.Column.{Column}
+use Rattle.nf_vectors.specs.declared.columns.Column.TheVariants as columns
+use Rattle.nf_vectors.specs.Columns.{Columns, at}
 
--- the column is of sound characters, and the form of its stream-safe text is this
+-- the characters of the column's stream-safe text are sound, and its form is this
 unfoldable pub holds : Form → Properties → List ℕ → List ℕ → Bool
-holds f p column expected = list_all (is_sound p) column && bytes_eq (safe_form f p column) expected
+holds f p column expected = is_usable p column && bytes_eq (safe_form f p column) expected
 
--- a column by its number, from 1
-abbrev pub column_at : Columns → ℕ → List ℕ
-column_at columns n =
-    if n == 1 then columns.source else (if n == 2 then columns.nfc else (if n == 3 then columns.nfd else (if n == 4 then columns.nfkc else columns.nfkd)))
+abbrev pub is_compat : Column → Bool
+is_compat columns.Nfkc = true
+is_compat columns.Nfkd = true
+is_compat _ = false
 
--- what the form must give of it
-abbrev pub expected_at : Form → Columns → ℕ → List ℕ
-expected_at Nfc columns n = if nat_le n 3 then columns.nfc else columns.nfkc
-expected_at Nfd columns n = if nat_le n 3 then columns.nfd else columns.nfkd
-expected_at Nfkc columns n = columns.nfkc
-expected_at Nfkd columns n = columns.nfkd
+-- the column whose text the form must give of another: of the last two the compatibility form alone
+abbrev pub expected : Form → Column → Column
+expected Nfc column = if is_compat column then columns.Nfkc else columns.Nfc
+expected Nfd column = if is_compat column then columns.Nfkd else columns.Nfd
+expected Nfkc column = columns.Nfkc
+expected Nfkd column = columns.Nfkd
 
-abbrev pub holds_at : Form → Properties → Columns → ℕ → Bool
-holds_at f p columns n = holds f p (column_at columns n) (expected_at f columns n)
+abbrev pub holds_at : Form → Properties → Columns → Column → Bool
+holds_at f p row column = holds f p (at row column) (at row (expected f column))
 
 -- the first column of which the comparison does not hold
-unfoldable pub broken_column : Form → Properties → Columns → Option ℕ
-broken_column f p columns = find (λ n. not (holds_at f p columns n)) (1 ∷ 2 ∷ 3 ∷ 4 ∷ 5 ∷ [])
+unfoldable pub broken_column : Form → Properties → Columns → Option Column
+broken_column f p row = find (λ column. not (holds_at f p row column)) (columns.Source ∷ columns.Nfc ∷ columns.Nfd ∷ columns.Nfkc ∷ columns.Nfkd ∷ [])
 
 -- what stands before the first unsound character
 unfoldable pub sound_front : Properties → List ℕ → List ℕ

@@ -13,6 +13,4 @@ pub mod Standing
 pub mod Comparison
 pub mod Report
 pub mod Sweep
-pub mod Gives
-pub mod Sinks
 pub mod Plain

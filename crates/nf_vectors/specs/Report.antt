@@ -13,7 +13,7 @@ use Rattle.nf_vectors.specs.Suite.{VectorRow}
 use Rattle.nf_vectors.specs.Comparison.{broken_column, is_skipped}
 
 abbrev pub failure_in : Form → Properties → ℕ → Columns → Option Failure
-failure_in f p line columns = option_map (λ n. record { line = line; form = f; column = n }) (broken_column f p columns)
+failure_in f p line columns = option_map (λ column. record { line = line; form = f; column = column }) (broken_column f p columns)
 
 -- the first comparison of a row that does not hold
 unfoldable pub failure_of : Properties → ℕ → Columns → Option Failure

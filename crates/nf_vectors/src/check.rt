@@ -1,17 +1,25 @@
 ghost use Rattle.std.specs.Prelude.{◌≡◌, ◌+◌, ◌<◌, ◌^◌, false, IfOk, string_bytes, encode_utf8_all};
 ghost use Rattle.nf_vectors.specs.Suite.{VectorRow};
-ghost use Rattle.nf_vectors.specs.Comparison.{broken_column, is_skipped};
+ghost use Rattle.nf_vectors.specs.Comparison.{broken_column, expected, holds_at, is_skipped};
 ghost use Rattle.nf_vectors.specs.Report.{failure_in, failure_of, verdict_of, report_and};
 ghost use Rattle.nf_vectors.specs.Columns.{Columns as Texts, each, AreShort};
 
-use crate::columns::Columns;
+use crate::columns::{Column, Columns};
 use crate::comparison::{holds, leaves_format};
 use crate::fault::Memory;
-use crate::gathered::Gathered;
 use crate::report::{Failure, Report, Verdict};
 use crate::suite::Suite;
 use nf_row::{Form, Rows};
 use std::alloc::Global;
+
+/// The columns in the order of the file.
+const COLUMNS: [Column; 5] = [
+    Column::Source,
+    Column::Nfc,
+    Column::Nfd,
+    Column::Nfkc,
+    Column::Nfkd,
+];
 
 impl Suite {
     ghost use Rattle.nf_vectors.specs.SuiteView.{rows_of};
@@ -30,10 +38,9 @@ impl Suite {
             first_failure: None,
         };
         let mut encoded = Columns::<String>::new(alloc);
-        let mut sink = Gathered::new(alloc);
         for entry in self.entries.as_slice() {
             let columns = Columns::<&[char]>::of(self.text.as_slice(), entry.columns);
-            let verdict = verdict(rows, entry.line, columns, &mut encoded, &mut sink)?;
+            let verdict = verdict(alloc, rows, entry.line, columns, &mut encoded)?;
             report = and(report, verdict);
         }
         Ok(report)
@@ -61,21 +68,18 @@ fn and(report: Report, verdict: Verdict) -> Report
         Verdict::Failed(failure) => Report {
             rows,
             failed: report.failed + 1,
-            first_failure: match report.first_failure {
-                None => Some(failure),
-                Some(first) => Some(first),
-            },
+            first_failure: report.first_failure.or(Some(failure)),
             ..report
         },
     }
 }
 
 fn verdict<R: Rows>(
+    alloc: Global,
     rows: &R,
     line: u32,
     columns: Columns<&[char]>,
     encoded: &mut Columns<String>,
-    sink: &mut Gathered,
 ) -> Result<Verdict, Memory>
     requires { AreShort (each columns (λ column. column.now)) }
     ensures { (row : VectorRow) → row.line ≡ line → row.columns ≡ each columns.entry (λ column. column.now)
@@ -88,7 +92,7 @@ fn verdict<R: Rows>(
         Ok(()) => {}
         Err(_) => return Err(Memory),
     }
-    match failure(rows, line, encoded, sink)? {
+    match failure(alloc, rows, line, encoded)? {
         None => Ok(Verdict::Passed),
         Some(failure) => Ok(Verdict::Failed(failure)),
     }
@@ -109,38 +113,38 @@ fn is_skipped<R: Rows>(rows: &R, columns: Columns<&[char]>) -> bool
 
 /// The first comparison that does not hold.
 fn failure<R: Rows>(
+    alloc: Global,
     rows: &R,
     line: u32,
     encoded: &Columns<String>,
-    sink: &mut Gathered,
 ) -> Result<Option<Failure>, Memory>
-    ensures { (columns : Texts) → each encoded.now string_bytes ≡ each columns encode_utf8_all → is_skipped (R.properties rows.now) columns ≡ false
+    ensures { (columns : Texts) → each encoded.now string_bytes ≡ each columns encode_utf8_all
         → IfOk result (λ failure. failure ≡ failure_of (R.properties rows.now) line columns) }
 {
-    if let Some(failure) = failure_in(rows, Form::Nfc, line, encoded, sink)? {
+    if let Some(failure) = failure_in(alloc, rows, Form::Nfc, line, encoded)? {
         return Ok(Some(failure));
     }
-    if let Some(failure) = failure_in(rows, Form::Nfd, line, encoded, sink)? {
+    if let Some(failure) = failure_in(alloc, rows, Form::Nfd, line, encoded)? {
         return Ok(Some(failure));
     }
-    if let Some(failure) = failure_in(rows, Form::Nfkc, line, encoded, sink)? {
+    if let Some(failure) = failure_in(alloc, rows, Form::Nfkc, line, encoded)? {
         return Ok(Some(failure));
     }
-    failure_in(rows, Form::Nfkd, line, encoded, sink)
+    failure_in(alloc, rows, Form::Nfkd, line, encoded)
 }
 
 /// The first comparison that does not hold in this form.
 fn failure_in<R: Rows>(
+    alloc: Global,
     rows: &R,
     form: Form,
     line: u32,
     encoded: &Columns<String>,
-    sink: &mut Gathered,
 ) -> Result<Option<Failure>, Memory>
-    ensures { (columns : Texts) → each encoded.now string_bytes ≡ each columns encode_utf8_all → is_skipped (R.properties rows.now) columns ≡ false
+    ensures { (columns : Texts) → each encoded.now string_bytes ≡ each columns encode_utf8_all
         → IfOk result (λ failure. failure ≡ failure_in form (R.properties rows.now) line columns) }
 {
-    match broken_column(rows, form, encoded, sink)? {
+    match broken_column(alloc, rows, form, encoded)? {
         None => Ok(None),
         Some(column) => Ok(Some(Failure { line, form, column })),
     }
@@ -148,24 +152,46 @@ fn failure_in<R: Rows>(
 
 /// The first column of which it does not hold in this form.
 fn broken_column<R: Rows>(
+    alloc: Global,
     rows: &R,
     form: Form,
     encoded: &Columns<String>,
-    sink: &mut Gathered,
-) -> Result<Option<u8>, Memory>
-    ensures { (columns : Texts) → each encoded.now string_bytes ≡ each columns encode_utf8_all → is_skipped (R.properties rows.now) columns ≡ false
+) -> Result<Option<Column>, Memory>
+    ensures { (columns : Texts) → each encoded.now string_bytes ≡ each columns encode_utf8_all
         → IfOk result (λ column. column ≡ broken_column form (R.properties rows.now) columns) }
 {
-    for column in 1..6 {
-        if !holds(
-            rows,
-            form,
-            encoded.column(column),
-            encoded.expected(form, column),
-            sink,
-        )? {
-            return Ok(Some(column));
+    for column in COLUMNS.as_slice() {
+        if !holds_at(alloc, rows, form, encoded, *column)? {
+            return Ok(Some(*column));
         }
     }
     Ok(None)
+}
+
+/// Whether it holds of this column in this form.
+fn holds_at<R: Rows>(
+    alloc: Global,
+    rows: &R,
+    form: Form,
+    encoded: &Columns<String>,
+    column: Column,
+) -> Result<bool, Memory>
+    ensures { (columns : Texts) → each encoded.now string_bytes ≡ each columns encode_utf8_all
+        → IfOk result (λ held. held ≡ holds_at form (R.properties rows.now) columns column) }
+{
+    let wanted = encoded.at(expected(form, column));
+    holds(alloc, rows, form, encoded.at(column), wanted)
+}
+
+/// The column whose text the form must give of this one.
+fn expected(form: Form, column: Column) -> Column
+    ensures { result ≡ expected form column }
+{
+    let is_compat = matches!(column, Column::Nfkc | Column::Nfkd);
+    match form {
+        Form::Nfc if !is_compat => Column::Nfc,
+        Form::Nfd if !is_compat => Column::Nfd,
+        Form::Nfc | Form::Nfkc => Column::Nfkc,
+        Form::Nfd | Form::Nfkd => Column::Nfkd,
+    }
 }

@@ -1,4 +1,30 @@
-ghost use Rattle.std.specs.Prelude.{◌≤◌};
+ghost use Rattle.std.specs.Prelude.{◌≡◌, ◌≤◌};
+ghost use Rattle.nf_vectors.specs.Columns.{number_of};
+
+/// A column of a row.
+#[derive(Clone, Copy, Debug, PartialEq, Eq)]
+pub enum Column {
+    Source,
+    Nfc,
+    Nfd,
+    Nfkc,
+    Nfkd,
+}
+
+impl Column {
+    /// Its number in the file, 1 to 5.
+    pub fn number(self) -> u8
+        ensures { result ≡ number_of self }
+    {
+        match self {
+            Column::Source => 1,
+            Column::Nfc => 2,
+            Column::Nfd => 3,
+            Column::Nfkc => 4,
+            Column::Nfkd => 5,
+        }
+    }
+}
 
 /// What there is of each of the five columns of a row.
 #[derive(Clone, Copy, Debug, Drop)]

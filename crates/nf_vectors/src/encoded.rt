@@ -1,8 +1,7 @@
 //! The columns of one row: their code points, and their UTF-8.
 ghost use Rattle.std.specs.Prelude.{◌≡◌, ◌≤◌, ◌<◌, ◌^◌, length, slice_range, encode_utf8_all, string_bytes, OnOk};
 
-use crate::columns::{Columns, Ends};
-use nf_row::Form;
+use crate::columns::{Column, Columns, Ends};
 use std::alloc::{AllocError, Global};
 
 impl<'a> Columns<&'a [char]> {
@@ -27,9 +26,7 @@ impl<'a> Columns<&'a [char]> {
 
 impl Columns<String> {
     ghost use Rattle.std.specs.Prelude.{IsOk};
-    ghost use Rattle.nf_forms.specs.declared.form.Form.{Form};
-    ghost use Rattle.nf_vectors.specs.Comparison.{column_at, expected_at};
-    ghost use Rattle.nf_vectors.specs.Columns.{each};
+    ghost use Rattle.nf_vectors.specs.Columns.{at, each};
 
     /// Buffers that serve one row after the other.
     pub(crate) fn new(alloc: Global) -> Columns<String> {
@@ -53,30 +50,16 @@ impl Columns<String> {
         encode(columns.nfkd, &mut self.nfkd)
     }
 
-    /// A column by its number, 1 to 5.
-    pub(crate) fn column(&self, column: u8) -> &str
-        ensures column { result.now ≡ column_at (each self.now string_bytes) column }
-        ensures short { length result.now < 2 ^ 63 }
+    /// The text of a column.
+    pub(crate) fn at(&self, column: Column) -> &str
+        ensures { result.now ≡ at (each self.now string_bytes) column }
     {
         let text = match column {
-            1 => &self.source,
-            2 => &self.nfc,
-            3 => &self.nfd,
-            4 => &self.nfkc,
-            _ => &self.nfkd,
-        };
-        text.as_str()
-    }
-
-    /// What the form must give of that column.
-    pub(crate) fn expected(&self, form: Form, column: u8) -> &str
-        ensures { result.now ≡ expected_at form (each self.now string_bytes) column }
-    {
-        let text = match form {
-            Form::Nfc if column <= 3 => &self.nfc,
-            Form::Nfd if column <= 3 => &self.nfd,
-            Form::Nfc | Form::Nfkc => &self.nfkc,
-            Form::Nfd | Form::Nfkd => &self.nfkd,
+            Column::Source => &self.source,
+            Column::Nfc => &self.nfc,
+            Column::Nfd => &self.nfd,
+            Column::Nfkc => &self.nfkc,
+            Column::Nfkd => &self.nfkd,
         };
         text.as_str()
     }

@@ -7,16 +7,15 @@ mod columns;
 mod comparison;
 mod encoded;
 mod fault;
-mod gathered;
 mod line;
 mod reading;
 mod report;
 mod scan;
-mod short;
 mod suite;
 mod sweep;
 mod word;
 
+pub use columns::Column;
 pub use fault::{Memory, VectorFault, VectorKind};
 pub use report::{Failure, Report};
 pub use suite::Suite;

@@ -1,3 +1,4 @@
+use crate::columns::Column;
 use nf_row::Form;
 
 /// What the rows of a vector file come to.
@@ -20,8 +21,7 @@ pub struct Failure {
     /// The row's line, from 1.
     pub line: u32,
     pub form: Form,
-    /// 1 to 5.
-    pub column: u8,
+    pub column: Column,
 }
 
 /// What one row comes to.

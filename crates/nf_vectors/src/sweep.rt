@@ -3,7 +3,7 @@ ghost use Rattle.nf_vectors.specs.Sweep.{is_listed, is_unchanged};
 ghost use Rattle.nf_vectors.specs.Plain.{IsPlain};
 
 use crate::columns::Columns;
-use crate::comparison::is_kept;
+use crate::comparison::holds;
 use crate::fault::Memory;
 use crate::suite::Suite;
 use nf_row::{Form, Rows, sound_compat};
@@ -27,7 +27,8 @@ impl Suite {
     ghost use Rattle.nf_vectors.specs.SuiteView.{rows_of};
     ghost use Rattle.nf_vectors.specs.Sweep.{sweep_of};
 
-    /// Looks for a change of a character that Part 1 does not list. Takes memory for the set of those that it lists.
+    /// Looks for a change of a character that Part 1 does not list. Takes memory for the set of those that it lists, and
+    /// for one form at a time.
     pub fn sweep<R: Rows>(&self, alloc: Global, rows: &R) -> Result<Sweep, Memory>
         ensures { IfOk result (λ sweep. sweep ≡ sweep_of (R.properties rows.now) (rows_of self.now)) }
     {
@@ -47,17 +48,15 @@ impl Suite {
                 continue;
             }
             let unlisted = sweep.unlisted + 1;
-            if is_unchanged(rows, c) {
+            let unchanged = is_unchanged(alloc, rows, c)?;
+            if unchanged {
                 sweep = Sweep { unlisted, ..sweep };
                 continue;
             }
             sweep = Sweep {
                 unlisted,
                 failed: sweep.failed + 1,
-                first: match sweep.first {
-                    None => Some(c),
-                    Some(first) => Some(first),
-                },
+                first: sweep.first.or(Some(c)),
             };
         }
         Ok(sweep)
@@ -88,20 +87,20 @@ fn none_of(alloc: Global, codes: usize) -> Result<Vec<bool>, AllocError>
 }
 
 /// Whether no form changes the text of `c` alone.
-fn is_unchanged<R: Rows>(rows: &R, c: char) -> bool
-    ensures { result ≡ is_unchanged (R.properties rows.now) c }
+fn is_unchanged<R: Rows>(alloc: Global, rows: &R, c: char) -> Result<bool, Memory>
+    ensures { IfOk result (λ same. same ≡ is_unchanged (R.properties rows.now) c) }
 {
     if is_plain(rows, c) {
-        return true;
+        return Ok(true);
     }
     let mut room = [0; 4];
     let text = c.encode_utf8(&mut room);
-    let nfc = is_kept(rows, Form::Nfc, text);
-    let nfd = is_kept(rows, Form::Nfd, text);
-    let nfkc = is_kept(rows, Form::Nfkc, text);
-    let nfkd = is_kept(rows, Form::Nfkd, text);
+    let nfc = holds(alloc, rows, Form::Nfc, text, text)?;
+    let nfd = holds(alloc, rows, Form::Nfd, text, text)?;
+    let nfkc = holds(alloc, rows, Form::Nfkc, text, text)?;
+    let nfkd = holds(alloc, rows, Form::Nfkd, text, text)?;
     // All four are known by now: `&`, since each `&&` would be a case of its own to prove.
-    nfc & nfd & nfkc & nfkd
+    Ok(nfc & nfd & nfkc & nfkd)
 }
 
 /// Whether `c` is a sound starter whose decompositions are `c` alone, as most characters are: no form changes it.

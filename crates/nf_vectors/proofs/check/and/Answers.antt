@@ -5,5 +5,5 @@ use Rattle.nf_vectors.proofs.check.and.Goals as goal
 pub returns-in-Skipped : goal.returns-in-Skipped
 returns-in-Skipped = search rules
 
-pub returns-in-Some : goal.returns-in-Some
-returns-in-Some = search rules
+pub returns-in-Failed : goal.returns-in-Failed
+returns-in-Failed = search rules

@@ -1,26 +1,25 @@
-use Rattle.std.proofs.Common.{◌≡◌, ◌∙◌, true, sym, ap, subst, arith, ⊎_elim}
-use Rattle.std.proofs.lemmas.Bool.{cases_lt}
-use Rattle.nf_vectors.specs.Comparison.{column_at, expected_at, holds_at}
-use Rattle.nf_vectors.proofs.TableLemmas.{broken-at, broken-none, stays_at, column_utf8, expected_utf8}
+use Rattle.std.proofs.Common.{◌∙◌, List, drop, refl, sym, subst}
+use Rattle.std.proofs.lemmas.List.{drop_all}
+use Rattle.nf_vectors.specs.declared.columns.Column.{Column}
+use Rattle.nf_vectors.specs.Comparison.{broken_column}
+use Rattle.nf_vectors.proofs.TableLemmas.{Decides, broken-at, broken-behind}
 use Rattle.nf_vectors.proofs.check.broken_column.Goals as goal
 
+pub loop-column-init : goal.loop-column-init
+unfolding broken_column
+loop-column-init g c = λ columns same.
+    subst (λ (cs : List Column). Decides c.args.form (g.R.Rows.properties c.args.rows.now) columns (drop 0 cs)) (sym c.as_slice-column-items.ensures) refl
+
 pub returns-then-not-branch : goal.returns-then-not-branch
-returns-then-not-branch g c = λ columns same stays.
-    let p = g.R.Rows.properties c.args.rows.now in
-    let n = c.loop-column.column in
-    let is = c.in_ok-holds.ensures (column_at columns n) (expected_at c.args.form columns n) (c.column.ensures.column ∙ ap (λ b. column_at b n) same ∙ column_utf8 columns n)
-    (c.expected.ensures ∙ ap (λ b. expected_at c.args.form b n) same ∙ expected_utf8 c.args.form columns n) (stays_at p columns n stays) in
-    broken-at c.args.form p columns n (omega (arith, c.loop-column.auto.column)) (omega (arith, c.loop-column-test.true)) (c.loop-column.invariant columns same stays) (sym is ∙ c.if-not-branch.true)
+returns-then-not-branch g c = λ columns same.
+    broken-at c.args.form (g.R.Rows.properties c.args.rows.now) columns c.as_slice-column-items.result.now c.loop-column.column-index _ c.loop-column-test.true
+    (c.loop-column.invariant columns same) (sym (c.in_ok-holds_at.ensures columns same) ∙ c.if-not-branch.true)
 
 pub loop-column-preserved : goal.loop-column-preserved
-loop-column-preserved g c = λ columns same stays k some below.
-    let p = g.R.Rows.properties c.args.rows.now in
-    let n = c.loop-column.column in
-    let is = c.in_ok-holds.ensures (column_at columns n) (expected_at c.args.form columns n) (c.column.ensures.column ∙ ap (λ b. column_at b n) same ∙ column_utf8 columns n)
-    (c.expected.ensures ∙ ap (λ b. expected_at c.args.form b n) same ∙ expected_utf8 c.args.form columns n) (stays_at p columns n stays) in
-    ⊎_elim (λ lt. c.loop-column.invariant columns same stays k some lt)
-    (λ ge. let at : n ≡ k = omega (arith, ge, below) in subst (λ m. holds_at c.args.form p columns m ≡ true) at (sym is ∙ c.if-not-branch.false)) (cases_lt k n)
+loop-column-preserved g c = λ columns same.
+    broken-behind c.args.form (g.R.Rows.properties c.args.rows.now) columns c.as_slice-column-items.result.now c.loop-column.column-index _ c.loop-column-test.true
+    (c.loop-column.invariant columns same) (sym (c.in_ok-holds_at.ensures columns same) ∙ c.if-not-branch.false)
 
 pub returns : goal.returns
-returns g c = λ columns same stays.
-    broken-none c.args.form (g.R.Rows.properties c.args.rows.now) columns (λ k some below. c.loop-column.invariant columns same stays k some (omega (arith, below, c.loop-column-test.false)))
+returns g c = λ columns same.
+    subst (Decides c.args.form (g.R.Rows.properties c.args.rows.now) columns) (drop_all c.loop-column.column-index c.as_slice-column-items.result.now c.loop-column-test.false) (c.loop-column.invariant columns same)

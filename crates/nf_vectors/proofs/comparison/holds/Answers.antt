@@ -1,15 +1,14 @@
-use Rattle.std.proofs.Common.{◌∙◌, Some, refl, ap}
-use Rattle.nf_vectors.specs.Sinks.{gathered_of}
+use Rattle.std.proofs.Common.{◌∙◌}
 use Rattle.nf_vectors.proofs.RowLemmas.{eq_is}
-use Rattle.nf_vectors.proofs.GivenLemmas.{held, refused}
+use Rattle.nf_vectors.proofs.HoldsLemmas.{given, refused}
 use Rattle.nf_vectors.proofs.comparison.holds.Goals as goal
 
 pub returns-in-Ok : goal.returns-in-Ok
-returns-in-Ok g c = λ x e is is_expected stays.
+returns-in-Ok g c = λ x e is is_expected.
     let p = g.R.Rows.properties c.args.rows.now in
-    eq_is c.eq.result _ _ (gathered_of c.give.new.sink) _ c.eq.ensures c.bytes.ensures (c.as_bytes.ensures.value ∙ is_expected)
-    ∙ held c.args.form p x e (gathered_of c.give.new.sink) _ _ (ap Some c.clear.ensures) refl (c.in-Ok.ensures x is)
+    eq_is c.eq.result _ _ c.in-Ok.out.items _ c.eq.ensures c.as_slice.ensures.value (c.as_bytes-in-Ok.ensures.value ∙ is_expected)
+    ∙ given c.read_back.ensures c.args.form p c.as_bytes.result.now x e c.as_bytes.ensures.utf8 (c.as_bytes.ensures.value ∙ is) c.in-Ok.out.items c.in-Ok.ensures.form (c.in-Ok.ensures.fault (λ w. cc))
 
 pub returns-in_default : goal.returns-in_default
-returns-in_default g c = λ x e is is_expected stays.
-    refused c.args.form (g.R.Rows.properties c.args.rows.now) x e stays _ _ c.in-Err.fault c.in_default.not-Write (c.in-Err.ensures x is)
+returns-in_default g c = λ x e is is_expected.
+    refused c.read_back.ensures c.args.form (g.R.Rows.properties c.args.rows.now) c.as_bytes.result.now x e c.as_bytes.ensures.utf8 (c.as_bytes.ensures.value ∙ is) c.in-Err.fault (c.in-Err.ensures.fault (λ w. c.in_default.not-Write (cc)))

@@ -1,15 +1,22 @@
-use Rattle.std.proofs.Common.{◌≡◌, ◌+◌, ◌++◌, ◌∷◌, [], ◌∙◌, true, None, take, refl, sym, ap, subst, arith}
+use Rattle.std.proofs.Common.{◌≡◌, ℕ, ◌+◌, ◌*◌, ◌≤◌, List, ◌++◌, ◌∷◌, [], ◌∙◌, true, None, take, length, encode_utf8, encode_utf8_all, refl, sym, ap, subst, arith}
 use Rattle.std.specs.Prelude.{IsNone, Option}
 use Rattle.nf_safe.specs.declared.place.Place.{Place}
 use Rattle.std.specs.List.{list_all}
 use Rattle.std.proofs.lemmas.Bool.{and_from, true_from_ne_false, false≢true}
-use Rattle.std.proofs.lemmas.List.{take_more, take_all, length-take-le, get_or_default}
+use Rattle.std.proofs.lemmas.List.{take_more, take_all, length-take-le, length-append, get_or_default}
 use Rattle.std.proofs.lemmas.List.Folds.{list_all-append}
 use Rattle.nf_forms.specs.Sound.{is_sound}
 use Rattle.nf_safe.specs.Place.{place, place_from}
-use Rattle.nf_vectors.proofs.Utf8Lemmas.{encode_utf8-le, encode_utf8_all-le}
+use Rattle.std.proofs.lemmas.Str.{length-encode, len_utf8_bounds}
 use Rattle.nf_vectors.proofs.ComparisonLemmas.{front-unsound, front-all, leaves-none, leaves-at, place-from_none, place-from_some}
 use Rattle.nf_vectors.proofs.comparison.leaves_format.Goals as goal
+
+encode_utf8-le : (c : ℕ) → length (encode_utf8 c) ≤ 4
+encode_utf8-le c = omega (arith, length-encode c, (len_utf8_bounds c).1)
+
+encode_utf8_all-le : (x : List ℕ) → length (encode_utf8_all x) ≤ 4 * length x
+encode_utf8_all-le [] = omega arith
+encode_utf8_all-le (c ∷ x) = omega (arith, encode_utf8_all-le x, encode_utf8-le c, length-append (encode_utf8 c) (encode_utf8_all x))
 
 is_none_at : {o : Option Place} → o ≡ None → IsNone o
 is_none_at e = subst (λ (o : Option Place). IsNone o) (sym e) refl

@@ -1,6 +1,5 @@
 use Rattle.std.proofs.Common.{◌∙◌, ◌&&◌, ◌∷◌, [], sym, append-nil, encode_utf8}
 use Rattle.nf_vectors.specs.Sweep.{is_unchanged}
-use Rattle.nf_vectors.proofs.ComparisonLemmas.{one-stays}
 use Rattle.nf_vectors.proofs.PlainLemmas.{unchanged-plain}
 use Rattle.nf_vectors.proofs.sweep.is_unchanged.Goals as goal
 
@@ -9,11 +8,10 @@ unfolding is_unchanged
 returns g c =
     let x = c.args.c ∷ [] in
     let is = c.encode_utf8-text.ensures.value ∙ sym (append-nil (encode_utf8 c.args.c)) in
-    let stays = one-stays (g.R.Rows.properties c.args.rows.now) c.args.c in
-    let nfc = c.is_kept-nfc.ensures x is stays in
-    let nfd = c.is_kept-nfd.ensures x is stays in
-    let nfkc = c.is_kept-nfkc.ensures x is stays in
-    let nfkd = c.is_kept-nfkd.ensures x is stays in
+    let nfc = c.in_ok-nfc.ensures x x is is in
+    let nfd = c.in_ok-nfd.ensures x x is is in
+    let nfkc = c.in_ok-nfkc.ensures x x is is in
+    let nfkd = c.in_ok-nfkd.ensures x x is is in
     (λ i. ((nfc i && nfd i) && nfkc i) && nfkd i)
 
 pub returns-then-is_plain : goal.returns-then-is_plain

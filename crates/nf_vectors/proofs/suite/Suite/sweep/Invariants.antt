@@ -1,11 +1,7 @@
-use Rattle.std.proofs.Common.{◌≡◌, ◌≤◌}
+use Rattle.std.proofs.Common.{◌≡◌}
 use Rattle.nf_vectors.specs.SuiteView.{rows_of}
 use Rattle.nf_vectors.specs.Sweep.{sweep_below}
 use Rattle.nf_vectors.proofs.suite.Suite.sweep.Given as goal
 
 abbrev pub invariant-loop-code : goal.invariant-loop-code
-invariant-loop-code g l = record {
-  sweep : l.sweep ≡ sweep_below (g.R.Rows.properties l.rows) (rows_of l.self) l.code;
-  few : l.sweep.unlisted ≤ l.code;
-  failed : l.sweep.failed ≤ l.code;
-}
+invariant-loop-code g l = l.sweep ≡ sweep_below (g.R.Rows.properties l.rows) (rows_of l.self) l.code
