@@ -15,6 +15,7 @@ use Rattle.nf_filter.proofs.AgainLemmas.{drives_once, adds_what_stays}
 use Rattle.nf_cmd.specs.declared.fault.Fault.{Fault}
 use Rattle.nf_cmd.specs.declared.fault.Fault.TheVariants.{Row, BadByte, Cut, Unassigned, Read, Write, Memory, TooLong, Line}
 use Rattle.nf_cmd.specs.declared.line.Request.TheVariants.{Convert}
+use Rattle.nf_filter.specs.Drives.{Drives}
 use Rattle.nf_cmd.specs.Converts.{end_of, Runs, Converts}
 use Rattle.nf_cmd.specs.Lines.{status_of}
 use Rattle.nf_cmd.specs.Answers.{Does}
@@ -47,7 +48,7 @@ found_ok (Err TooLong) e = cc
 found_ok (Err (Line n fault)) e = cc
 
 -- and no fault of the library is told as none
-told_ok : (fault : Found) → ¬ (Some (Ok 0) ≡ end_of (Err fault))
+told_ok : (fault : Found) → ¬ (Some (Ok 0) ≡ end_of {T = Tally} (Err fault))
 told_ok found.Spent e = cc
 told_ok found.TooLong e = cc
 told_ok found.Read e = cc
@@ -58,17 +59,17 @@ told_ok (found.Cut at start) e = cc
 told_ok (found.Unassigned at) e = cc
 
 module _ (law : FinishedStays) (once : (f : Form) → ChangesOnce f ucd) where
-  runs_once : (f : Form) (policy : Policy) (coming left taken now : Option (List ℕ)) (tally : Tally) → Runs f policy ucd coming left taken now (Ok tally) → AddsWhatStays f ucd taken now
+  runs_once : (f : Form) (policy : Policy) (coming left taken now : Option (List ℕ)) (tally : Tally) → Runs (Drives 65536 policy f ucd 0 []) coming left taken now (Ok tally) → AddsWhatStays f ucd taken now
   runs_once f policy coming left taken now tally runs =
       let adds : AddsWhatStays f ucd runs.old.taken runs.new.taken =
       adds_what_stays f ucd runs.old runs.new policy runs.source runs.rest (Ok tally)
-      (drives_once law 65536 policy f ucd 0 [] runs.source runs.rest runs.old runs.new (Ok tally) (once f) runs.end runs.drives) in
+      (drives_once law 65536 policy f ucd 0 [] runs.source runs.rest runs.old runs.new (Ok tally) (once f) runs.end runs.driven) in
       subst (λ o. AddsWhatStays f ucd o now) runs.output_is.0 (subst (λ o. AddsWhatStays f ucd runs.old.taken o) runs.output_is.1 adds)
 
   converts_once : (f : Form) (policy : Policy) (coming left taken now : Option (List ℕ)) → Converts f policy ucd coming left taken now (Ok 0) → AddsWhatStays f ucd taken now
   converts_once f policy coming left taken now does = by_end does.found_is
     where
-      by_answer : (answer : Result Tally Found) → Some (Ok 0) ≡ end_of answer → Runs f policy ucd coming left taken does.given answer → AddsWhatStays f ucd taken now
+      by_answer : (answer : Result Tally Found) → Some (Ok 0) ≡ end_of answer → Runs (Drives 65536 policy f ucd 0 []) coming left taken does.given answer → AddsWhatStays f ucd taken now
       by_answer (Ok tally) is runs = kept_adds f ucd taken does.given now does.flushed (runs_once f policy coming left taken does.given tally runs)
       by_answer (Err fault) is runs = absurd (told_ok fault is)
 

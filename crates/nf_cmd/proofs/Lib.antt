@@ -5,6 +5,7 @@ mod NoHelp
 mod LevelRows
 mod Requests
 mod AnswerLemmas
+mod RunsLemmas
 mod SoundLemmas
 mod AgainLemmas
 mod CodeDigits

@@ -18,8 +18,7 @@ use Rattle.nf_cmd.specs.declared.fault.Fault.TheVariants.{Row, Write}
 use Rattle.nf_cmd.specs.declared.test.Finding.{Finding}
 use Rattle.nf_cmd.specs.Faults.{told, told_at}
 use Rattle.nf_cmd.specs.declared.line.Request.TheVariants.{Convert, ConvertLines, Check, Measure, Test}
-use Rattle.nf_cmd.specs.Converts.{end_of, Converts}
-use Rattle.nf_cmd.specs.ConvertsLines.{lines_end, ConvertsLines}
+use Rattle.nf_cmd.specs.Converts.{end_of, Converts, ConvertsLines}
 use Rattle.nf_filter.specs.Devices.{SinkState, SourceState}
 use Rattle.nf_filter.specs.Finishes.{end_of as finished_by}
 use Rattle.nf_filter.proofs.SoundnessLemmas.{not_a_fault, not_in_end}
@@ -27,7 +26,7 @@ use Rattle.nf_lines.specs.Drives.{bytes_of, DrivesLines}
 use Rattle.nf_filter.specs.declared.tally.Tally.{Tally}
 use Rattle.std.specs.Result.{result_err}
 use Rattle.nf_cmd.specs.Checks.{check_end, Checks}
-use Rattle.nf_cmd.specs.Measures.{measure_end, Measures}
+use Rattle.nf_cmd.specs.Measures.{Measures}
 use Rattle.nf_cmd.specs.Tests.{Tests, Finds, finding_end}
 use Rattle.nf_cmd.specs.Answers.{NeverRow}
 
@@ -64,7 +63,7 @@ module _ (p : Properties) (sound : AreSound p) (at : ℕ) (coming left taken now
   converted : DrivingRefusesNone → (f : Form) (policy : Policy) → Converts f policy p coming left taken now ended → ¬ (ended ≡ Err (Row at))
   converted law f policy does row =
       let runs = does.runs in
-      law 65536 policy f p 0 [] runs.source runs.rest runs.old runs.new does.answer sound runs.drives at (end_row end_of does.answer ended at (λ tally e. cc) (λ fault. refl) does.found_is row)
+      law 65536 policy f p 0 [] runs.source runs.rest runs.old runs.new does.answer sound runs.driven at (end_row end_of does.answer ended at (λ tally e. cc) (λ fault. refl) does.found_is row)
 
   -- nor does driving line by line
   lines_row : (most : ℕ) (policy : Policy) (f : Form) (source rest : SourceState) (old new : SinkState) (answer : Result (Unit {0}) Found) → DrivesLines most policy f p source rest old new answer → ¬ (answer ≡ Err (found.Row at))
@@ -87,7 +86,7 @@ module _ (p : Properties) (sound : AreSound p) (at : ℕ) (coming left taken now
   converted_lines : (f : Form) (policy : Policy) → ConvertsLines f policy p coming left taken now ended → ¬ (ended ≡ Err (Row at))
   converted_lines f policy does row =
       let runs = does.runs in
-      lines_row 65536 policy f runs.source runs.rest runs.old runs.new does.answer runs.drives (end_row lines_end does.answer ended at (λ u e. cc) (λ fault. refl) does.found_is row)
+      lines_row 65536 policy f runs.source runs.rest runs.old runs.new does.answer runs.driven (end_row end_of does.answer ended at (λ u e. cc) (λ fault. refl) does.found_is row)
 
   checked : CheckingRefusesNone → Checks p coming left taken now ended → ¬ (ended ≡ Err (Row at))
   checked law does row = law 65536 p 0 does.surveyed.source does.surveyed.rest does.answer sound does.surveyed.surveys at (end_row check_end does.answer ended at by_place (λ fault. refl) does.found_is row)
@@ -97,7 +96,7 @@ module _ (p : Properties) (sound : AreSound p) (at : ℕ) (coming left taken now
       by_place (Some place) e = cc
 
   measured : MeasuringRefusesNone → Measures p coming left taken now ended → ¬ (ended ≡ Err (Row at))
-  measured law does row = law 65536 p 0 does.surveyed.source does.surveyed.rest does.answer sound does.surveyed.surveys at (end_row measure_end does.answer ended at (λ m e. cc) (λ fault. refl) does.found_is row)
+  measured law does row = law 65536 p 0 does.surveyed.source does.surveyed.rest does.answer sound does.surveyed.surveys at (end_row end_of does.answer ended at (λ m e. cc) (λ fault. refl) does.found_is row)
 
   tested : Tests p coming left taken now ended → ¬ (ended ≡ Err (Row at))
   tested does row = by_end does.found_is

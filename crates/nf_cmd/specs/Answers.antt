@@ -11,8 +11,7 @@ use Rattle.nf_cmd.specs.declared.line.Request.{Request}
 use Rattle.nf_cmd.specs.declared.line.Request.TheVariants.{Convert, ConvertLines, Check, Measure, Test}
 use Rattle.nf_cmd.specs.Line.{Asks, Refuses}
 use Rattle.nf_cmd.specs.Fronts.{AppendsFront}
-use Rattle.nf_cmd.specs.Converts.{Converts}
-use Rattle.nf_cmd.specs.ConvertsLines.{ConvertsLines}
+use Rattle.nf_cmd.specs.Converts.{Converts, ConvertsLines}
 use Rattle.nf_cmd.specs.Checks.{Checks}
 use Rattle.nf_cmd.specs.Measures.{Measures}
 use Rattle.nf_cmd.specs.Tests.{Tests}

@@ -4,7 +4,6 @@ pub mod Faults
 pub mod Lines
 pub mod Text
 pub mod Converts
-pub mod ConvertsLines
 pub mod Surveys
 pub mod Checks
 pub mod Measures

@@ -1,11 +1,11 @@
 -- What `measure` shows.
-use Rattle.std.specs.Prelude.{ℕ, List, [], ◌++◌, Option, Some, Result, Ok, Err, codes, option_map}
+use Rattle.std.specs.Prelude.{ℕ, List, [], ◌++◌, Option, Result, Ok, Err, codes}
 use Rattle.nf_forms.specs.Properties.{Properties}
 use Rattle.nf_safe.specs.declared.measure.Measure.{Measure}
 use Rattle.nf_filter.specs.declared.fault.Fault.{Fault as Found}
 use Rattle.nf_filter.specs.Measures.{measure_decision, text_measure}
 use Rattle.nf_cmd.specs.declared.fault.Fault.{Fault}
-use Rattle.nf_cmd.specs.Faults.{told}
+use Rattle.nf_cmd.specs.Converts.{end_of}
 use Rattle.nf_cmd.specs.Surveys.{Tells}
 use Rattle.nf_cmd.specs.Text.{line}
 
@@ -19,9 +19,5 @@ measure_lines (Ok m) =
     ++ line (codes "unassigned") m.unassigned
 measure_lines (Err fault) = []
 
-abbrev pub measure_end : Result Measure Found → Option (Result ℕ Fault)
-measure_end (Ok measure) = Some (Ok 0)
-measure_end (Err fault) = option_map Err (told fault)
-
 abbrev pub Measures : Properties → Option (List ℕ) → Option (List ℕ) → Option (List ℕ) → Option (List ℕ) → Result ℕ Fault → Type 0
-Measures p coming left taken now found = Tells (measure_decision p 0) (text_measure p) measure_lines measure_end coming left taken now found
+Measures p coming left taken now found = Tells (measure_decision p 0) (text_measure p) measure_lines end_of coming left taken now found

@@ -2,18 +2,19 @@
 ghost use Rattle.std.specs.Prelude.{◌≡◌};
 ghost use Rattle.nf_forms.specs.Ucd.{ucd};
 ghost use Rattle.nf_filter.specs.declared.fault.Fault.TheVariants.{Spent};
-ghost use Rattle.nf_cmd.specs.ConvertsLines.{ConvertsLines, RunsLines};
+ghost use Rattle.nf_lines.specs.Drives.{DrivesLines};
+ghost use Rattle.nf_cmd.specs.Converts.{ConvertsLines, Runs};
 
 use crate::BUFFER;
+use crate::convert::ended;
 use crate::fault::Fault;
-use crate::writing::flush;
 use nf_filter::{LentReader, LentWriter, Policy};
 use nf_lines::drive_lines;
 use nf_row::Form;
 use std::io::{Read, Write};
 
 /// Writes the form of the stream-safe text that the reader gives under the policy, each line once its line feed was read,
-/// or what of it was settled before a fault, and flushes. A writer that failed is not touched again.
+/// or what of it was settled before a fault, and flushes.
 pub(crate) fn convert_lines<I: Read, O: Write>(
     form: Form,
     policy: Policy,
@@ -22,15 +23,8 @@ pub(crate) fn convert_lines<I: Read, O: Write>(
 ) -> Result<u8, Fault>
     ensures { ConvertsLines form policy ucd (I.remaining input.old) (I.remaining input.new) (O.contents out.old) (O.contents out.new) result }
 {
-    let found = match filter_lines(form, policy, input, out) {
-        Err(nf_filter::Fault::Write) => return Err(Fault::Write),
-        Err(fault) => Err(Fault::told(fault)),
-        Ok(()) => Ok(0),
-    };
-    match flush(out) {
-        Ok(()) => found,
-        Err(_) => Err(Fault::Write),
-    }
+    let answer = filter_lines(form, policy, input, out);
+    ended(answer, out)
 }
 
 // Lets the library go over the reader and the writer.
@@ -41,7 +35,7 @@ fn filter_lines<I: Read, O: Write>(
     out: &mut O,
 ) -> Result<(), nf_filter::Fault>
     ensures unspent { ¬ (result ≡ Err Spent) }
-    ensures runs { RunsLines form policy ucd (I.remaining input.old) (I.remaining input.new) (O.contents out.old) (O.contents out.new) result }
+    ensures runs { Runs (DrivesLines 65536 policy form ucd) (I.remaining input.old) (I.remaining input.new) (O.contents out.old) (O.contents out.new) result }
 {
     let mut source = LentReader::new(input);
     let mut sink = LentWriter::new(out);

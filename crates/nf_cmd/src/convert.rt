@@ -1,9 +1,11 @@
 //! `convert`.
-ghost use Rattle.std.specs.Prelude.{◌≡◌, []};
+ghost use Rattle.std.specs.Prelude.{◌≡◌, ◌⊎◌, []};
+ghost use Rattle.std.specs.Io.KnownBytes.{Keeps};
 ghost use Rattle.nf_forms.specs.Ucd.{ucd};
 ghost use Rattle.nf_filter.specs.declared.fault.Fault.TheVariants.{Spent};
 ghost use Rattle.nf_filter.specs.Filter.{StandsAfter, base_of, state_of};
-ghost use Rattle.nf_cmd.specs.Converts.{Converts, Runs};
+ghost use Rattle.nf_filter.specs.Drives.{Drives};
+ghost use Rattle.nf_cmd.specs.Converts.{Converts, Runs, end_of};
 
 use crate::BUFFER;
 use crate::fault::Fault;
@@ -13,7 +15,7 @@ use nf_row::{Form, Plain, Ucd};
 use std::io::{Read, Write};
 
 /// Writes the form of the stream-safe text that the reader gives under the policy, or what had settled before a fault,
-/// and flushes. A writer that failed is not touched again.
+/// and flushes.
 pub(crate) fn convert<I: Read, O: Write>(
     form: Form,
     policy: Policy,
@@ -22,7 +24,20 @@ pub(crate) fn convert<I: Read, O: Write>(
 ) -> Result<u8, Fault>
     ensures { Converts form policy ucd (I.remaining input.old) (I.remaining input.new) (O.contents out.old) (O.contents out.new) result }
 {
-    let found = match filter(form, policy, input, out) {
+    let answer = filter(form, policy, input, out);
+    ended(answer, out)
+}
+
+/// Flushes, and ends by the library's answer. A writer that failed is not touched again.
+pub(crate) fn ended<T: Copy, O: Write>(
+    answer: Result<T, nf_filter::Fault>,
+    out: &mut O,
+) -> Result<u8, Fault>
+    requires { ¬ (answer ≡ Err Spent) }
+    ensures flushed { Keeps (O.contents out.old) (O.contents out.new) }
+    ensures found { (Some result ≡ end_of answer) ⊎ (result ≡ Err Fault.Write) }
+{
+    let found = match answer {
         Err(nf_filter::Fault::Write) => return Err(Fault::Write),
         Err(fault) => Err(Fault::told(fault)),
         Ok(_) => Ok(0),
@@ -41,7 +56,7 @@ fn filter<I: Read, O: Write>(
     out: &mut O,
 ) -> Result<Tally, nf_filter::Fault>
     ensures unspent { ¬ (result ≡ Err Spent) }
-    ensures runs { Runs form policy ucd (I.remaining input.old) (I.remaining input.new) (O.contents out.old) (O.contents out.new) result }
+    ensures runs { Runs (Drives 65536 policy form ucd 0 []) (I.remaining input.old) (I.remaining input.new) (O.contents out.old) (O.contents out.new) result }
 {
     let mut source = LentReader::new(input);
     let mut sink = LentWriter::new(out);
