@@ -9,7 +9,6 @@ use Rattle.nf_vectors.specs.declared.fault.VectorFault.{VectorFault}
 use Rattle.nf_vectors.specs.declared.report.Failure.{Failure}
 use Rattle.nf_vectors.specs.declared.suite.Suite.{Suite}
 use Rattle.nf_vectors.specs.declared.sweep.Sweep.{Sweep}
-use Rattle.nf_vectors.specs.Columns.{number_of}
 use Rattle.nf_vectors.specs.ReadsSuite.{ReadsSuite}
 use Rattle.nf_vectors.specs.Report.{report_of}
 use Rattle.nf_vectors.specs.SuiteView.{rows_of, has_part1_of}
@@ -32,7 +31,7 @@ column_end column = codes " column " ++ (decimal column ++ 10 ∷ [])
 
 abbrev pub failure_lines : Option Failure → List ℕ
 failure_lines None = []
-failure_lines (Some f) = codes "first failure line " ++ (decimal f.line ++ (codes " form " ++ (name_of f.form ++ column_end (number_of f.column))))
+failure_lines (Some f) = codes "first failure line " ++ (decimal f.line ++ (codes " form " ++ (name_of f.form ++ column_end f.column)))
 
 abbrev pub first_lines : Option ℕ → List ℕ
 first_lines None = []

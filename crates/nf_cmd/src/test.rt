@@ -114,7 +114,7 @@ fn push_failure(lines: &mut Lines, failure: Option<Failure>)
     lines.number(line as u128);
     lines.text(" form ");
     lines.text(name(form));
-    push_column(lines, column.number());
+    push_column(lines, column);
 }
 
 fn push_column(lines: &mut Lines, column: u8)

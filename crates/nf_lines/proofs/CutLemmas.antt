@@ -1,36 +1,25 @@
 -- The last line feed, looked for from the end.
 use Rattle.std.proofs.Common.{◌≡◌, ℕ, zero, suc, ◌-◌, ◌<◌, ◌≤◌, ◌==◌, List, [], ◌∷◌, ◌++◌, length, take, drop, get_or, inl, inr, refl, sym, ap, subst, ◌∙◌, arith, ne_eqb}
+use Rattle.std.proofs.Math.Seq.{drop-cons, drop-length, take-suc}
 use Rattle.std.proofs.lemmas.Bool.{or_from, or_parts}
 use Rattle.std.specs.List.{list_any}
 use Rattle.nf_facts.specs.LineFeed.{line_feed}
 use Rattle.nf_lines.specs.Cut.{HasNoLineFeed, IsCutAt}
 
--- the byte before the n-th
-drop_at : (bytes : List ℕ) (k : ℕ) → k < length bytes → drop k bytes ≡ get_or bytes k 0 ∷ drop (suc k) bytes
-drop_at [] k inside = absurd (omega arith)
-drop_at (b ∷ bytes) zero inside = refl
-drop_at (b ∷ bytes) (suc k) inside = drop_at bytes k (omega arith)
-
-take_at : (bytes : List ℕ) (k : ℕ) → k < length bytes → take (suc k) bytes ≡ take k bytes ++ get_or bytes k 0 ∷ []
-take_at [] k inside = absurd (omega arith)
-take_at (b ∷ bytes) zero inside = refl
-take_at (b ∷ bytes) (suc k) inside = ap (λ l. b ∷ l) (take_at bytes k (omega arith))
-
 before : (n : ℕ) → 0 < n → suc (n - 1) ≡ n
 before n some = omega (arith, some)
 
 pub none_behind : (bytes : List ℕ) → HasNoLineFeed (drop (length bytes) bytes)
-none_behind [] = refl
-none_behind (b ∷ bytes) = none_behind bytes
+none_behind bytes = subst HasNoLineFeed (sym (drop-length bytes)) refl
 
 pub one_more : (bytes : List ℕ) (n : ℕ) → 0 < n → n ≤ length bytes → ¬ (get_or bytes (n - 1) 0 ≡ line_feed) → HasNoLineFeed (drop n bytes) → HasNoLineFeed (drop (n - 1) bytes)
 one_more bytes n some within other rest =
-    subst HasNoLineFeed (sym (drop_at bytes (n - 1) (omega (arith, some, within)))) (or_from _ _ (ne_eqb (get_or bytes (n - 1) 0) line_feed other) (subst (λ k. HasNoLineFeed (drop k bytes)) (sym (before n some)) rest))
+    subst HasNoLineFeed (sym (drop-cons bytes (n - 1) 0 (omega (arith, some, within)))) (or_from _ _ (ne_eqb (get_or bytes (n - 1) 0) line_feed other) (subst (λ k. HasNoLineFeed (drop k bytes)) (sym (before n some)) rest))
 
 pub cut_here : (bytes : List ℕ) (n : ℕ) → 0 < n → n ≤ length bytes → get_or bytes (n - 1) 0 ≡ line_feed → HasNoLineFeed (drop n bytes) → IsCutAt bytes n
 cut_here bytes n some within here rest = record {
   within = within;
-  lines = inr (take (n - 1) bytes, ap (λ k. take k bytes) (sym (before n some)) ∙ take_at bytes (n - 1) (omega (arith, some, within)) ∙ ap (λ b. take (n - 1) bytes ++ b ∷ []) here);
+  lines = inr (take (n - 1) bytes, ap (λ k. take k bytes) (sym (before n some)) ∙ take-suc bytes (n - 1) 0 (omega (arith, some, within)) ∙ ap (λ b. take (n - 1) bytes ++ b ∷ []) here);
   rest = rest;
 }
 

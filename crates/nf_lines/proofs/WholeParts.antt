@@ -1,7 +1,7 @@
 -- A line feed ends every character that was begun: of bytes that end in one nothing is left to be read.
 use Rattle.std.proofs.Common.{◌≡◌, ℕ, suc, ◌+◌, ◌-◌, ◌<◌, ◌≤◌, ◌==◌, ◌⊎◌, Bool, true, false, List, [], ◌∷◌, ◌++◌, map, length, take, drop, get_or, encode_utf8, encode_utf8_all, inl, inr, refl, sym, ap, subst, ◌∙◌, arith, append_assoc, append-nil, length-append, take_at, take-append-drop, IsUtf8, eq-eqb, ne_eqb}
 use Rattle.std.specs.Prelude.{if◌then◌else◌}
-use Rattle.std.proofs.Math.Seq.{get_or-append_seam}
+use Rattle.std.proofs.Math.Seq.{get_or-append_seam, take-append-add, drop-append-add}
 use Rattle.std.proofs.Math.Utf8.{encode}
 use Rattle.std.proofs.lemmas.Bool.{cases_lt, eqb-true}
 use Rattle.std.proofs.lemmas.List.{take-append-le, length-map, map-append}
@@ -83,10 +83,6 @@ end_moved base n (Cut at start) = (let a : base + (n + at) ≡ base + n + at = o
 
 -- ---- of lists and parts alone
 
-drop_more : (l : List ℕ) (n : ℕ) (more : List ℕ) → drop (length l + n) (l ++ more) ≡ drop n more
-drop_more [] n more = ap (λ k. drop k more) (let same : 0 + n ≡ n = omega arith in same)
-drop_more (a ∷ l) n more = ap (λ k. drop k (a ∷ (l ++ more))) (let same : length (a ∷ l) + n ≡ suc (length l + n) = omega arith in same) ∙ drop_more l n more
-
 part_end-moved : (n at start : ℕ) → part_end (n + at) (n + start) ≡ n + part_end at start
 part_end-moved n at start = by (at == start) refl
   where
@@ -105,10 +101,6 @@ own_more x y = map-append (λ c. record { char = c; len = length (encode_utf8 c)
 
 own_len : (x : List ℕ) → length (own_parts x) ≡ length x
 own_len x = length-map x _
-
-take_past : (a b : List Part) (k : ℕ) → take (length a + k) (a ++ b) ≡ a ++ take k b
-take_past [] b k = ap (λ n. take n b) (let same : 0 + k ≡ k = omega arith in same)
-take_past (part ∷ a) b k = ap (λ n. take n (part ∷ (a ++ b))) (let same : length (part ∷ a) + k ≡ suc (length a + k) = omega arith in same) ∙ ap (λ l. part ∷ l) (take_past a b k)
 
 module _ (laws : Reading) where
   pub end_is : (bytes : List ℕ) (e : Ending) → ending_of bytes ≡ e → EndsAs bytes (text_of bytes) e
@@ -200,7 +192,7 @@ module _ (laws : Reading) where
             let len : part_end (n + at) (n + start) - (n + start) ≡ part_end at start - start = omega (arith, past) in
             parts_of-broken (encode_utf8_all x ++ more) (n + at) (n + start) (ending ∙ ap (moved n) e)
             ∙ (λ i. own i ++ record { char = replacement; len = len i } ∷ parts_of (drop (past i) (encode_utf8_all x ++ more)))
-            ∙ ap (λ l. (own_parts x ++ own_parts (text_of more)) ++ broken_part at start ∷ parts_of l) (drop_more (encode_utf8_all x) (part_end at start) more)
+            ∙ ap (λ l. (own_parts x ++ own_parts (text_of more)) ++ broken_part at start ∷ parts_of l) (drop-append-add (encode_utf8_all x) more (part_end at start))
             ∙ append_assoc (own_parts x) (own_parts (text_of more)) (broken_part at start ∷ parts_of (drop (part_end at start) more))
             ∙ ap (λ l. own_parts x ++ l) (sym (parts_of-broken more at start e))
 
@@ -218,7 +210,7 @@ module _ (laws : Reading) where
         let own : List Part = own_parts x in
         let count : length (x ++ y) ≡ length own + length y = omega (arith, length-append x y, own_len x) in
         (λ i. bytes_in (take (count i) (parts_behind more i)))
-        ∙ ap bytes_in (take_past own (parts_of more) (length y))
+        ∙ ap bytes_in (take-append-add own (parts_of more) (length y))
         ∙ laws.replacing.joined own (take (length y) (parts_of more))
         ∙ ap (λ n. n + bytes_in (take (length y) (parts_of more))) (laws.replacing.own_len x)
 

@@ -39,6 +39,13 @@ digits-more word i within all digit =
     ap (list_all is_digit) (take_more word i 0 within) ∙ list_all-append is_digit (take i word) (get_or word i 0 ∷ [])
     ∙ and_from _ _ all (and_from _ _ (search (rules, nat_tests)) refl)
 
+-- the scalar values, as ranges
+pub scalar_in : (c : ℕ) → InScalarRange c → is_scalar c ≡ true
+scalar_in c h = grind (arith, nat_tests)
+
+pub scalar_out : (c : ℕ) → OutOfScalarRange c → is_scalar c ≡ false
+scalar_out c h = grind (arith, nat_tests)
+
 module _ (word : List ℕ) where
   by_number : (b : Bool) → (nat_le 1 (length word) && nat_le (length word) 6 && list_all is_digit word) ≡ b
       → code_point word ≡ (if b then (if is_scalar (value_of word) then Ok (value_of word) else Err Scalar) else Err Hex)
@@ -64,21 +71,8 @@ module _ (word : List ℕ) where
 
   pub code_point-scalar : 1 ≤ length word → length word ≤ 6 → list_all is_digit word ≡ true → InScalarRange (value_of word) → code_point word ≡ Ok (value_of word)
   code_point-scalar some few all within =
-      by_number true (is_number some few all) ∙ ap (λ b. if b then Ok (value_of word) else Err Scalar) (scalar (value_of word) within)
-    where
-      scalar : (c : ℕ) → InScalarRange c → is_scalar c ≡ true
-      scalar c h = grind (arith, nat_tests)
+      by_number true (is_number some few all) ∙ ap (λ b. if b then Ok (value_of word) else Err Scalar) (scalar_in (value_of word) within)
 
   pub code_point-surrogate : 1 ≤ length word → length word ≤ 6 → list_all is_digit word ≡ true → OutOfScalarRange (value_of word) → code_point word ≡ Err Scalar
   code_point-surrogate some few all out =
-      by_number true (is_number some few all) ∙ ap (λ b. if b then Ok (value_of word) else Err Scalar) (scalar (value_of word) out)
-    where
-      scalar : (c : ℕ) → OutOfScalarRange c → is_scalar c ≡ false
-      scalar c h = grind (arith, nat_tests)
-
--- the scalar values, as ranges
-pub scalar_in : (c : ℕ) → InScalarRange c → is_scalar c ≡ true
-scalar_in c h = grind (arith, nat_tests)
-
-pub scalar_out : (c : ℕ) → OutOfScalarRange c → is_scalar c ≡ false
-scalar_out c h = grind (arith, nat_tests)
+      by_number true (is_number some few all) ∙ ap (λ b. if b then Ok (value_of word) else Err Scalar) (scalar_out (value_of word) out)

@@ -1,7 +1,9 @@
 -- Where the reading of a vector file ends.
 use Rattle.std.proofs.Common.{◌≡◌, ℕ, suc, ◌+◌, ◌-◌, ◌<◌, ◌≤◌, Bool, true, false, ◌||◌, List, [], ◌∷◌, ◌++◌, length, take, drop, get_or, Option, Some, None, Result, Ok, Err, refl, sym, ap, ◌∙◌, subst, arith, append_assoc, append-nil, ⊎_elim, ◌⊎◌, inl, inr}
-use Rattle.std.specs.Prelude.{OnOk, IfErr, is_ok, if◌then◌else◌}
+use Rattle.std.specs.Prelude.{OnOk, is_ok, if◌then◌else◌}
 use Rattle.std.proofs.lemmas.Bool.{lt-ltb, le-ltb, false≢true, cases_lt}
+use Rattle.std.proofs.Math.Bool.{or-false}
+use Rattle.std.proofs.Math.Seq.{take-append-add}
 use Rattle.std.proofs.lemmas.List.{length-append, take_all, take_at, drop_more, take-append-drop}
 use Rattle.nf_vectors.specs.declared.fault.VectorFault.{VectorFault}
 use Rattle.nf_vectors.specs.declared.fault.VectorKind.{VectorKind}
@@ -35,10 +37,6 @@ pub at_ok : {A E : Type 0} {P : Type 0} (r : Result A E) → is_ok r ≡ true �
 at_ok (Ok x) e p = p
 at_ok (Err e) is p = absurd (false≢true is)
 
-pub on_err : {A E : Type 0} {P : E → Type 0} {Q : E → Type 0} (r : Result A E) → ((e : E) → P e → Q e) → IfErr r P → IfErr r Q
-on_err (Ok x) f p = tt
-on_err (Err e) f p = f e p
-
 pub is_size : (kind : VectorKind) → (kind ≡ Size) ⊎ (¬ (kind ≡ Size))
 is_size Fields = inr (λ e. cc)
 is_size Empty = inr (λ e. cc)
@@ -58,13 +56,6 @@ EndsLine-grown j old mid new more text entries in_part1 has_part1 line within en
   in_part1 = ends.in_part1 ∙ ap (λ p. part_behind p j) in_part1;
   has_part1 = ends.has_part1 ∙ ap (λ p. p || is_part1_line j) has_part1;
 }
-
-take-behind : (xs ys : List ℕ) (n : ℕ) → take (length xs + n) (xs ++ ys) ≡ xs ++ take n ys
-take-behind [] ys n = let none : 0 + n ≡ n = omega arith in ap (λ m. take m ys) none
-take-behind (x ∷ xs) ys n = ap (λ m. take m (x ∷ (xs ++ ys))) (more (length xs)) ∙ ap (λ l. x ∷ l) (take-behind xs ys n)
-  where
-    more : (m : ℕ) → suc m + n ≡ suc (m + n)
-    more m = omega arith
 
 module _ (reading : Reading) (bytes : List ℕ) (stands : StandsAfter reading bytes) where
   -- a bad line is the first fault, whatever follows
@@ -123,14 +114,10 @@ module _ (reading : Reading) (bytes : List ℕ) (stands : StandsAfter reading by
           ∙ ap (λ r. rows_in reading.text.items reading.entries.items ++ r) (append-nil (row_at reading.line reading.in_part1 (judged reading.line reading.bytes.items)))
           ∙ sym ends.rows)
 
-      or_false : (b : Bool) → (b || false) ≡ b
-      or_false true = refl
-      or_false false = refl
-
       pub all_parts : new.has_part1 ≡ names_part1_from 1 (lines_within bytes)
       all_parts = sym (ap (λ l. names_part1_from 1 (lines_of l)) (within ∙ sym (append-nil bytes)) ∙ stands.part1 []
           ∙ ap (λ ls. reading.has_part1 || names_part1_from reading.line ls) (lines_of-last reading.bytes.items stands.one_line)
-          ∙ ap (λ b. reading.has_part1 || b) (or_false (is_part1_line (judged reading.line reading.bytes.items)))
+          ∙ ap (λ b. reading.has_part1 || b) (or-false (is_part1_line (judged reading.line reading.bytes.items)))
           ∙ sym ends.has_part1)
 
   -- a byte past the limit
@@ -147,7 +134,7 @@ module _ (reading : Reading) (bytes : List ℕ) (stands : StandsAfter reading by
       ap (λ l. first_fault 1 stop (lines_of l)) (taken (limit - length bytes - 1) (omega (arith, room))) ∙ found stop (take (limit - length bytes - 1) rest)
     where
       taken : (n : ℕ) → limit ≡ length bytes + suc n → take limit (bytes ++ b ∷ rest) ≡ bytes ++ b ∷ take n rest
-      taken n is = ap (λ m. take m (bytes ++ b ∷ rest)) is ∙ take-behind bytes (b ∷ rest) (suc n)
+      taken n is = ap (λ m. take m (bytes ++ b ∷ rest)) is ∙ take-append-add bytes (b ∷ rest) (suc n)
 
 pub Tells-found : (bytes : List ℕ) (failed : Bool) (fault : VectorFault) → Finds bytes fault → first_fault 1 (stop_of bytes failed) (lines_within bytes) ≡ Some fault
 Tells-found bytes failed fault finds = finds (stop_of bytes failed) (λ past. ap (λ b. if b then Some Size else (if failed then Some Read else None)) (lt-ltb limit (length bytes) past))

@@ -1,7 +1,6 @@
 -- How a line is judged, by what it says.
-use Rattle.std.proofs.Common.{◌≡◌, ℕ, ◌<◌, List, [], ◌∷◌, ◌++◌, length, Ok, Err, sym, ap, ◌∙◌, arith, if◌then◌else◌, slice_range, append_assoc, append-nil, length-append}
+use Rattle.std.proofs.Common.{◌≡◌, ℕ, ◌<◌, List, [], ◌∷◌, ◌++◌, length, Ok, sym, ap, ◌∙◌, arith, if◌then◌else◌, slice_range, append_assoc, append-nil, length-append}
 use Rattle.std.proofs.lemmas.Bool.{eq-eqb, ne_eqb}
-use Rattle.nf_vectors.specs.declared.fault.VectorKind.{VectorKind}
 use Rattle.nf_vectors.specs.Columns.{Columns}
 use Rattle.nf_vectors.specs.Line.{content}
 use Rattle.nf_vectors.specs.Words.{column_in}
@@ -32,35 +31,10 @@ pub judged-first : (n : ℕ) (line : List ℕ) → n ≡ 1 → judged n line ≡
 unfolding judged
 judged-first n line e = ap (λ t. judgement (if t then unmarked line else line)) (eq-eqb n 1 e)
 
-module _ (a b c d e : List ℕ) where
-  pub columns_of-source : (kind : VectorKind) → column_in a ≡ Err kind → columns_of a b c d e ≡ Err kind
-  unfolding columns_of
-  columns_of-source kind p = simp p
-
-  module _ (source : List ℕ) (p : column_in a ≡ Ok source) where
-    pub columns_of-nfc : (kind : VectorKind) → column_in b ≡ Err kind → columns_of a b c d e ≡ Err kind
-    unfolding columns_of
-    columns_of-nfc kind q = simp (p, q)
-
-    module _ (nfc : List ℕ) (q : column_in b ≡ Ok nfc) where
-      pub columns_of-nfd : (kind : VectorKind) → column_in c ≡ Err kind → columns_of a b c d e ≡ Err kind
-      unfolding columns_of
-      columns_of-nfd kind r = simp (p, q, r)
-
-      module _ (nfd : List ℕ) (r : column_in c ≡ Ok nfd) where
-        pub columns_of-nfkc : (kind : VectorKind) → column_in d ≡ Err kind → columns_of a b c d e ≡ Err kind
-        unfolding columns_of
-        columns_of-nfkc kind s = simp (p, q, r, s)
-
-        module _ (nfkc : List ℕ) (s : column_in d ≡ Ok nfkc) where
-          pub columns_of-nfkd : (kind : VectorKind) → column_in e ≡ Err kind → columns_of a b c d e ≡ Err kind
-          unfolding columns_of
-          columns_of-nfkd kind t = simp (p, q, r, s, t)
-
-          pub columns_of-all : (nfkd : List ℕ) → column_in e ≡ Ok nfkd
-              → columns_of a b c d e ≡ Ok (record { source = source; nfc = nfc; nfd = nfd; nfkc = nfkc; nfkd = nfkd })
-          unfolding columns_of
-          columns_of-all nfkd t = simp (p, q, r, s, t)
+pub columns_of-all : (a b c d e source nfc nfd nfkc nfkd : List ℕ) → column_in a ≡ Ok source → column_in b ≡ Ok nfc → column_in c ≡ Ok nfd → column_in d ≡ Ok nfkc → column_in e ≡ Ok nfkd
+    → columns_of a b c d e ≡ Ok (record { source = source; nfc = nfc; nfd = nfd; nfkc = nfkc; nfkd = nfkd })
+unfolding columns_of
+columns_of-all a b c d e source nfc nfd nfkc nfkd p q r s t = simp (p, q, r, s, t)
 
 -- a column stands where it was put, whatever was put behind it
 held : (t0 t1 text column more : List ℕ) (i j : ℕ) → t1 ≡ t0 ++ column → text ≡ t1 ++ more → i ≡ length t0 → j ≡ length t1 → column ≡ slice_range text i j

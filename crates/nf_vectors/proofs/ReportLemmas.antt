@@ -11,9 +11,9 @@ use Rattle.nf_vectors.specs.declared.report.Verdict.TheVariants.{Skipped, Passed
 use Rattle.nf_vectors.specs.Suite.{VectorRow}
 use Rattle.nf_vectors.specs.Report.{verdict_of, is_skip, is_pass, is_failure, failure_or, first_failure_of, report_of, report_and}
 
-or_none : (o : Option Failure) → option_or o None ≡ o
+pub or_none : {T : Type 0} (o : Option T) → option_or o None ≡ o
 or_none None = refl
-or_none (Some failure) = refl
+or_none (Some x) = refl
 
 module _ (p : Properties) where
   first_failure-push : (rows : List VectorRow) (row : VectorRow) → first_failure_of p (rows ++ row ∷ []) ≡ option_or (first_failure_of p rows) (failure_or (verdict_of p row) None)

@@ -1,6 +1,6 @@
 -- How the reading of a vector file goes on, byte by byte.
-use Rattle.std.proofs.Common.{◌≡◌, ℕ, ◌+◌, Bool, true, false, ◌||◌, cond, List, [], ◌∷◌, ◌++◌, length, Option, refl, sym, ap, ◌∙◌, subst, arith, rules, append_assoc, append-nil, All}
-use Rattle.std.specs.List.{slice_split, onto_first}
+use Rattle.std.proofs.Common.{◌≡◌, ℕ, ◌+◌, true, false, ◌||◌, List, [], ◌∷◌, ◌++◌, length, Option, sym, ap, ◌∙◌, subst, arith, rules, append_assoc, append-nil, All}
+use Rattle.std.proofs.Math.Bool.{or_assoc}
 use Rattle.std.proofs.lemmas.List.{length-append}
 use Rattle.std.proofs.lemmas.List.Splits.{slice_split_at, slice_split_none}
 use Rattle.nf_vectors.specs.declared.fault.VectorFault.{VectorFault}
@@ -11,17 +11,7 @@ use Rattle.nf_vectors.specs.Judgement.{Judgement}
 use Rattle.nf_vectors.specs.Suite.{judged, row_at, part_behind, is_part1_line, rows_from, names_part1_from, fault_or, first_fault}
 use Rattle.nf_vectors.specs.SuiteView.{rows_in}
 use Rattle.nf_vectors.specs.Standing.{StandsAfter, EndsLine}
-
--- bytes have a first line
-pub lines_of-some : (bytes : List ℕ) → (line : List ℕ) × (more : List (List ℕ)) × (lines_of bytes ≡ line ∷ more)
-unfolding lines_of
-lines_of-some [] = ([], [], refl)
-lines_of-some (b ∷ bytes) = next (is_line_end b) (slice_split is_line_end bytes)
-  where
-    next : (e : Bool) (parts : List (List ℕ)) → (line : List ℕ) × (more : List (List ℕ)) × (cond e ([] ∷ parts) (onto_first b parts) ≡ line ∷ more)
-    next true parts = ([], parts, refl)
-    next false [] = (b ∷ [], [], refl)
-    next false (part ∷ parts) = (b ∷ part, parts, refl)
+use Rattle.nf_vectors.proofs.PieceLemmas.{split-some}
 
 module _ (line : List ℕ) (one : All (λ b. is_line_end b ≡ false) line) where
   pub lines_of-ended : (b : ℕ) (more : List ℕ) → is_line_end b ≡ true → lines_of (line ++ b ∷ more) ≡ line ∷ lines_of more
@@ -34,13 +24,10 @@ module _ (line : List ℕ) (one : All (λ b. is_line_end b ≡ false) line) wher
 
 pub first_fault-ended : (n : ℕ) (stop : Option VectorKind) (line bytes : List ℕ)
     → first_fault n stop (line ∷ lines_of bytes) ≡ fault_or n (judged n line) (first_fault (n + 1) stop (lines_of bytes))
+unfolding lines_of
 first_fault-ended n stop line bytes =
-    let some = lines_of-some bytes in
+    let some = split-some is_line_end bytes in
     ap (λ more. first_fault n stop (line ∷ more)) some.2 ∙ ap (λ more. fault_or n (judged n line) (first_fault (n + 1) stop more)) (sym some.2)
-
-or_assoc : (a b c : Bool) → (a || (b || c)) ≡ ((a || b) || c)
-or_assoc true b c = refl
-or_assoc false b c = refl
 
 module _ (old new : Reading) (bytes : List ℕ) (b : ℕ) (before : StandsAfter old bytes) (taken : new.taken ≡ old.taken + 1) where
   taken-more : new.taken ≡ length (bytes ++ b ∷ [])
@@ -86,7 +73,7 @@ module _ (old new : Reading) (bytes : List ℕ) (b : ℕ) (before : StandsAfter 
         ∙ ap (λ l. rows_in new.text.items new.entries.items ++ rows_from new.line new.in_part1 (lines_of l)) (here more);
     part1 = λ more. ap (λ l. names_part1_from 1 (lines_of l)) (append_assoc bytes (b ∷ []) more) ∙ before.part1 (b ∷ more)
         ∙ ap (λ ls. old.has_part1 || names_part1_from old.line ls) (split more)
-        ∙ or_assoc old.has_part1 (is_part1_line j) (names_part1_from (old.line + 1) (lines_of more))
+        ∙ sym (or_assoc old.has_part1 (is_part1_line j) (names_part1_from (old.line + 1) (lines_of more)))
         ∙ ap (λ p. p || names_part1_from (old.line + 1) (lines_of more)) (sym ends.has_part1)
         ∙ ap (λ n. new.has_part1 || names_part1_from n (lines_of more)) (sym line)
         ∙ ap (λ l. new.has_part1 || names_part1_from new.line (lines_of l)) (here more);

@@ -1,5 +1,5 @@
 -- A sweep of one code more.
-use Rattle.std.proofs.Common.{◌≡◌, ℕ, zero, suc, ◌+◌, ◌≤◌, length, Bool, true, false, cond, not, ◌&&◌, List, [], ◌∷◌, ◌++◌, Option, Some, None, refl, sym, ap, ◌∙◌, arith, count_by, find}
+use Rattle.std.proofs.Common.{◌≡◌, ℕ, zero, suc, ◌+◌, ◌≤◌, length, Bool, true, false, cond, not, ◌&&◌, List, [], ◌∷◌, ◌++◌, Some, None, refl, sym, ap, ◌∙◌, arith, count_by, find}
 use Rattle.std.specs.Option.{option_or}
 use Rattle.std.proofs.lemmas.List.{length_push}
 use Rattle.std.proofs.lemmas.List.Sums.{sum_by_push, count_by-le-length}
@@ -7,11 +7,8 @@ use Rattle.std.proofs.lemmas.List.Folds.{find-append}
 use Rattle.nf_forms.specs.Properties.{Properties}
 use Rattle.nf_vectors.specs.declared.sweep.Sweep.{Sweep}
 use Rattle.nf_vectors.specs.Suite.{VectorRow}
+use Rattle.nf_vectors.proofs.ReportLemmas.{or_none}
 use Rattle.nf_vectors.specs.Sweep.{is_unlisted, is_unchanged, is_failed, below, sweep_below}
-
-or_none : (o : Option ℕ) → option_or o None ≡ o
-or_none None = refl
-or_none (Some c) = refl
 
 length-below : (n : ℕ) → length (below n) ≡ n
 unfolding below

@@ -146,7 +146,11 @@ fn failure_in<R: Rows>(
 {
     match broken_column(alloc, rows, form, encoded)? {
         None => Ok(None),
-        Some(column) => Ok(Some(Failure { line, form, column })),
+        Some(column) => Ok(Some(Failure {
+            line,
+            form,
+            column: column.number(),
+        })),
     }
 }
 

@@ -3,7 +3,7 @@ ghost use Rattle.nf_vectors.specs.Columns.{number_of};
 
 /// A column of a row.
 #[derive(Clone, Copy, Debug, PartialEq, Eq)]
-pub enum Column {
+pub(crate) enum Column {
     Source,
     Nfc,
     Nfd,
@@ -13,7 +13,7 @@ pub enum Column {
 
 impl Column {
     /// Its number in the file, 1 to 5.
-    pub fn number(self) -> u8
+    pub(crate) fn number(self) -> u8
         ensures { result ≡ number_of self }
     {
         match self {

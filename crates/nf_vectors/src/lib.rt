@@ -15,7 +15,6 @@ mod suite;
 mod sweep;
 mod word;
 
-pub use columns::Column;
 pub use fault::{Memory, VectorFault, VectorKind};
 pub use report::{Failure, Report};
 pub use suite::Suite;

@@ -1,4 +1,3 @@
-use crate::columns::Column;
 use nf_row::Form;
 
 /// What the rows of a vector file come to.
@@ -21,7 +20,8 @@ pub struct Failure {
     /// The row's line, from 1.
     pub line: u32,
     pub form: Form,
-    pub column: Column,
+    /// The column, 1 to 5.
+    pub column: u8,
 }
 
 /// What one row comes to.

@@ -4,7 +4,7 @@
 
 use nf_filter::FromReader;
 use nf_row::{Form, Ucd};
-use nf_vectors::{Column, Failure, Report, Suite, Sweep, VectorFault, VectorKind};
+use nf_vectors::{Failure, Report, Suite, Sweep, VectorFault, VectorKind};
 use std::alloc::Global;
 use std::process::Abort;
 use std::test::Fail;
@@ -44,7 +44,7 @@ fn a_report_comes_after_a_refusal(rt: HostRuntime) -> Result<(), Fail> {
         first_failure: Some(Failure {
             line: 5,
             form: Form::Nfc,
-            column: Column::Source,
+            column: 1,
         }),
     };
     assert_eq!(rt; report, expected);

@@ -1,7 +1,8 @@
 use Rattle.std.proofs.Common.{rules}
 use Rattle.std.proofs.lemmas.Bool.{eq-eqb}
+use Rattle.std.proofs.lemmas.Result.{IfErr-weaker}
 use Rattle.nf_vectors.proofs.StandingLemmas.{StandsAfter-line}
-use Rattle.nf_vectors.proofs.EndingLemmas.{on_ok, at_ok, on_err, bad_line}
+use Rattle.nf_vectors.proofs.EndingLemmas.{on_ok, at_ok, bad_line}
 use Rattle.nf_vectors.proofs.reading.Reading.take_byte.Goals as goal
 
 pub returns-then-byte-eq10-clause-stands : goal.returns-then-byte-eq10-clause-stands
@@ -15,7 +16,7 @@ returns-then-byte-eq10-clause-stands c = λ bytes stands.
 
 pub returns-then-byte-eq10-clause-finds : goal.returns-then-byte-eq10-clause-finds
 returns-then-byte-eq10-clause-finds c = λ bytes stands.
-    on_err c.end_line.result (λ kind bad sound _. bad_line c.args.self.now bytes stands c.args.byte kind (eq-eqb c.args.byte 10 c.if-byte-eq10.true) (bad sound)) c.end_line.ensures.bad
+    IfErr-weaker c.end_line.result _ _ (λ kind bad sound _. bad_line c.args.self.now bytes stands c.args.byte kind (eq-eqb c.args.byte 10 c.if-byte-eq10.true) (bad sound)) c.end_line.ensures.bad
 
 -- These two would be found without a word here: they stand so that a wrong body is refused at once.
 pub returns-then-self-eq-LIMIT-clause-unread : goal.returns-then-self-eq-LIMIT-clause-unread
