@@ -1,1 +1,2 @@
 pub mod FeedsLemmas
+pub mod FinishesLemmas

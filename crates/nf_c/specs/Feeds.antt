@@ -1,16 +1,15 @@
 -- What feeding takes of the caller's input, and gives to the caller's output.
-use Rattle.std.specs.Prelude.{◌≡◌, true, false, Bool, ℕ, ◌≤◌, List, ◌++◌, length, take, Option, Some, None}
+use Rattle.std.specs.Prelude.{◌≡◌, true, false, Bool, ℕ, ◌+◌, ◌≤◌, ◌<◌, List, [], ◌∷◌, ◌++◌, length, take, Option, Some, None, IfSome}
 use Rattle.nf_forms.specs.Ucd.{ucd}
 use Rattle.nf_forms.specs.declared.form.Form.{Form}
 use Rattle.nf_filter.specs.declared.fault.Fault.{Fault}
 use Rattle.nf_filter.specs.declared.fault.Fault.TheVariants.{Spent, TooLong, Read, Write, Row, BadByte, Cut, Unassigned}
 use Rattle.nf_filter.specs.declared.filter.State.{State as FilterState}
 use Rattle.nf_filter.specs.declared.policy.Policy.{Policy}
-use Rattle.nf_filter.specs.Devices.{SinkState}
-use Rattle.nf_filter.specs.Writes.{Puts}
+use Rattle.nf_filter.specs.Kinds.{too_long, write, ill_formed, unassigned, IsAmong}
 use Rattle.nf_filter.specs.Settled.{settled_utf8}
 use Rattle.nf_filter.specs.Faults.{fault_in}
-use Rattle.nf_filter.specs.Filter.{base_of, StandsAfter as FilterStandsAfter}
+use Rattle.nf_filter.specs.Filter.{base_of, is_spent, StandsAfter as FilterStandsAfter}
 use Rattle.nf_c.specs.declared.feeding.Fed.{Fed}
 use Rattle.nf_c.specs.declared.moved.Moved.{Moved}
 use Rattle.nf_c.specs.declared.state.State.{State}
@@ -29,14 +28,21 @@ ends (Some (BadByte at start)) = true
 ends (Some (Cut at start)) = true
 ends (Some (Unassigned at)) = true
 
+-- why feeding may end: no character of Unicode's data is unsound
+abbrev pub IsOfFeeding : Fault → Type 0
+IsOfFeeding = IsAmong (too_long ∷ write ∷ ill_formed ∷ unassigned ∷ [])
+
 -- a front of the piece was fed to the filter, which stood after the bytes: what that settles was written, and then there is
 -- a fault in it, or the filter stands behind it
-pub record FeedsFront (policy : Policy) (f : Form) (bytes piece : List ℕ) (old new : SinkState) (was now : FilterState) (fed : Fed) : Type 0 where
-  pub within : fed.len ≤ length piece
-  pub puts : Puts old new (settled_utf8 policy f ucd bytes) (settled_utf8 policy f ucd (bytes ++ take fed.len piece))
+pub record FeedsFront (policy : Policy) (f : Form) (bytes piece output : List ℕ) (was now : FilterState) (fed : Fed) : Type 0 where
+  pub read : fed.read ≤ length piece
+  pub written : fed.written ≤ length output
+  pub settles : settled_utf8 policy f ucd (bytes ++ take fed.read piece) ≡ settled_utf8 policy f ucd bytes ++ take fed.written output
   pub base : base_of now ≡ base_of was
-  pub stands : ends fed.fault ≡ false → FilterStandsAfter policy f ucd now (bytes ++ take fed.len piece)
-  pub fault : ends fed.fault ≡ true → fed.fault ≡ fault_in policy ucd (base_of was) (bytes ++ take fed.len piece)
+  pub stands : ends fed.fault ≡ false → FilterStandsAfter policy f ucd now (bytes ++ take fed.read piece)
+  pub fault : ends fed.fault ≡ true → fed.fault ≡ fault_in policy ucd (base_of was) (bytes ++ take fed.read piece)
+  pub spent : ends fed.fault ≡ true → is_spent now ≡ true
+  pub among : IfSome fed.fault IsOfFeeding
 
 -- the state stood after the bytes: so many bytes were read of the input, and the first of the output are what these settle
 pub record Feeds (policy : Policy) (f : Form) (bytes input : List ℕ) (old new : State) (output : List ℕ) (moved : Moved) : Type 0 where
@@ -44,11 +50,15 @@ pub record Feeds (policy : Policy) (f : Form) (bytes input : List ℕ) (old new 
   pub read : ℕ
   pub written : ℕ
   pub is : moved ≡ ended fault read written
+  pub among : IfSome fault IsOfFeeding
   pub read_within : read ≤ length input
   pub written_within : written ≤ length output
   pub settles : settled_utf8 policy f ucd (bytes ++ take read input) ≡ settled_utf8 policy f ucd bytes ++ take written output
   -- all was read where no fault is told
   pub all : fault ≡ None → read ≡ length input
+  -- the output has no room for what one byte more settles
+  pub full : fault ≡ Some Write → length (settled_utf8 policy f ucd bytes) + length output < length (settled_utf8 policy f ucd (bytes ++ take (read + 1) input))
   -- the state stands behind what was read, or a fault is in that, and the state is spent
   pub stands : ends fault ≡ false → StandsAfter policy f new (bytes ++ take read input)
   pub told : ends fault ≡ true → fault ≡ fault_in policy ucd old.base (bytes ++ take read input)
+  pub spent : ends fault ≡ true → new.spent ≡ 1

@@ -4,6 +4,7 @@
 
 mod feeding;
 mod finishing;
+mod guess;
 mod moved;
 mod packing;
 mod room;

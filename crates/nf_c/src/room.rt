@@ -1,4 +1,4 @@
-ghost use Rattle.std.specs.Prelude.{◌≡◌, ◌-◌, ◌≤◌, min, false, [], length, take};
+ghost use Rattle.std.specs.Prelude.{◌≡◌, ◌≤◌, true, false, [], length, take};
 
 use nf_filter::{Failed, Sink};
 
@@ -10,13 +10,7 @@ pub struct Room<'o> {
     written: usize,
     failed: bool,
     ghost within: { written ≤ length bytes.now },
-}
-
-/// How far a room was filled.
-#[derive(Clone, Copy)]
-pub struct Mark {
-    written: usize,
-    failed: bool,
+    ghost full: { failed ≡ true → written ≡ length bytes.now },
 }
 
 impl<'o> Room<'o> {
@@ -39,31 +33,6 @@ impl<'o> Room<'o> {
         ensures within { result ≤ length self.now.bytes.now }
     {
         self.written
-    }
-
-    /// How many bytes there is room for.
-    pub fn left(&self) -> usize {
-        self.bytes.len() - self.written
-    }
-
-    /// How far it is filled.
-    pub fn mark(&self) -> Mark
-        ensures { result ≡ record { written = self.now.written; failed = self.now.failed } }
-    {
-        Mark {
-            written: self.written,
-            failed: self.failed,
-        }
-    }
-
-    /// What was written since is given up.
-    pub fn go_back(&mut self, mark: Mark)
-        ensures bytes { self.new.bytes ≡ self.old.bytes }
-        ensures written { self.new.written ≡ min mark.written self.old.written }
-        ensures failed { self.new.failed ≡ mark.failed }
-    {
-        self.written = mark.written.min(self.written);
-        self.failed = mark.failed;
     }
 }
 

@@ -60,7 +60,7 @@ pub fn restored(saved: Saved) -> Filter<'static, Ucd>
 }
 
 /// Unicode's data, of which ASCII is plain.
-fn plain() -> Plain<'static, Ucd>
+pub fn plain() -> Plain<'static, Ucd>
     ensures { IsPlainAscii ucd }
 {
     let _known = Ucd.all_ascii_plain();

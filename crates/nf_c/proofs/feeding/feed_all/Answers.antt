@@ -1,28 +1,64 @@
-use Rattle.std.proofs.Common.{◌≡◌, ◌+◌, ◌≤◌, length, Some, None, refl, ap, ◌∙◌, arith, rules}
+use Rattle.std.proofs.Common.{◌≡◌, ◌+◌, ◌-◌, ◌≤◌, length, Some, None, refl, ap, arith, rules}
 use Rattle.nf_filter.specs.declared.fault.Fault.TheVariants.{Write}
+use Rattle.nf_filter.specs.Filter.{state_of}
 use Rattle.nf_c.specs.Feeds.{ends}
-use Rattle.nf_c.proofs.FeedsLemmas.{FeedsFront-next, FeedsFront-goes}
+use Rattle.nf_c.proofs.FeedsLemmas.{FeedsFront-goes, FeedsFront-next, full_next, length_put}
+use Rattle.nf_c.proofs.feeding.feed_all.Goals.{else-is_full-via-then-is_full+else-len-gt1, else-is_full-via-else-is_full}
 use Rattle.nf_c.proofs.feeding.feed_all.Goals as goal
 
-pub returns-then-len-gt0-clause-feeds : goal.returns-then-len-gt0-clause-feeds
-returns-then-len-gt0-clause-feeds c = λ policy f bytes stands.
-    FeedsFront-goes policy f bytes c.args.input.now _ _ _ _ c.loop-len.len (record { len = c.loop-len.len; fault = None }) (Some Write) refl refl refl (c.loop-len.invariant.feeds policy f bytes stands)
+pub loop-read-preserved-then-len-gt1 : goal.loop-read-preserved-then-len-gt1
+loop-read-preserved-then-len-gt1 c =
+    let at = c.loop-read.read in
+    let written = c.loop-read.written in
+    let end = at + c.len-len.result in
+    let fits : end ≤ length c.args.input.now = omega (arith, c.len-len.ensures.within, c.loop-read-test.true) in
+    let rest : length c.try_piece-fed.new.output ≡ length c.loop-read.output - written = search rules in
+    let full : c.try_piece-fed.result.fault ≡ Some Write = search rules in
+    let nothing = c.try_piece-fed.ensures.nothing full in record {
+      read = c.loop-read.invariant.read;
+      written = omega (arith, c.loop-read.invariant.written, length_put c.loop-read.output c.try_piece-fed.new.output written c.loop-read.invariant.written rest);
+      feeds = λ policy f bytes stands.
+          FeedsFront-goes policy f bytes c.args.input.now _ _ _ (record { read = at + c.try_piece-fed.result.read; written = written + c.try_piece-fed.result.written; fault = c.try_piece-fed.result.fault })
+          at written (ap ends full) (omega (arith, nothing.0)) (omega (arith, nothing.1))
+          (FeedsFront-next policy f bytes c.args.input.now c.loop-read.output c.try_piece-fed.new.output _ _ _ at written end c.try_piece-fed.result (c.loop-read.invariant.feeds policy f bytes stands)
+          (omega arith) fits rest (c.try_piece-fed.ensures.feeds policy f));
+    }
 
 pub returns-then-is_some-clause-feeds : goal.returns-then-is_some-clause-feeds
 returns-then-is_some-clause-feeds c = λ policy f bytes stands.
-    let len = c.loop-len.len in
-    FeedsFront-next policy f bytes c.args.input.now _ _ _ _ _ _ len (len + c.piece_len.result) (len + c.feed_some-fed.result.len) c.feed_some-fed.result (c.loop-len.invariant.feeds policy f bytes stands)
-    (c.feed_some-fed.ensures.feeds policy f) (omega arith) (omega (arith, c.piece_len.ensures.within, c.loop-len-test.true)) refl
+    let at = c.loop-read.read in
+    let end = at + c.len-len.result in
+    let fits : end ≤ length c.args.input.now = omega (arith, c.len-len.ensures.within, c.loop-read-test.true) in
+    let rest : length c.try_piece-fed.new.output ≡ length c.loop-read.output - c.loop-read.written = search rules in
+    FeedsFront-next policy f bytes c.args.input.now c.loop-read.output c.try_piece-fed.new.output _ _ _ at c.loop-read.written end c.try_piece-fed.result (c.loop-read.invariant.feeds policy f bytes stands)
+    (omega arith) fits rest (c.try_piece-fed.ensures.feeds policy f)
 
-pub loop-len-preserved : goal.loop-len-preserved
-loop-len-preserved c =
-    let len = c.loop-len.len in
-    let fits : len + c.piece_len.result ≤ length c.args.input.now = omega (arith, c.piece_len.ensures.within, c.loop-len-test.true) in
-    let none : c.feed_some-fed.result.fault ≡ None = search rules in record {
-      within = search rules;
-      lent = c.feed_some-fed.ensures.lent ∙ c.loop-len.invariant.lent;
+pub returns-then-is_some-clause-full : goal.returns-then-is_some-clause-full
+returns-then-is_some-clause-full c = λ policy f bytes stands is.
+    let at = c.loop-read.read in
+    let end = at + c.len-len.result in
+    let fits : end ≤ length c.args.input.now = omega (arith, c.len-len.ensures.within, c.loop-read-test.true) in
+    let rest : length c.try_piece-fed.new.output ≡ length c.loop-read.output - c.loop-read.written = search rules in
+    let one : c.len-len.result ≡ 1 = elim c.else-is_full.branch [
+      | else-is_full-via-then-is_full+else-len-gt1 w ↦ omega (arith, w.if-len-gt1.false, c.len-len.ensures.some)
+      | else-is_full-via-else-is_full w ↦ let told = c.is_full.ensures.1 is in let not = w.if-is_full.false in cc
+    ] in
+    let nothing = (c.try_piece-fed.ensures.nothing is).0 in
+    full_next policy f bytes c.args.input.now c.loop-read.output c.try_piece-fed.new.output _ _ (state_of c.try_piece-fed.new.filter) at c.loop-read.written end c.try_piece-fed.result (c.loop-read.invariant.feeds policy f bytes stands)
+    (omega arith) fits rest (λ bs stood. c.try_piece-fed.ensures.full policy f bs stood is) (ap (λ n. at + n) one) _ (omega (arith, nothing))
+
+pub loop-read-preserved : goal.loop-read-preserved
+loop-read-preserved c =
+    let at = c.loop-read.read in
+    let written = c.loop-read.written in
+    let end = at + c.len-len.result in
+    let fits : end ≤ length c.args.input.now = omega (arith, c.len-len.ensures.within, c.loop-read-test.true) in
+    let rest : length c.try_piece-fed.new.output ≡ length c.loop-read.output - written = search rules in
+    let none : c.try_piece-fed.result.fault ≡ None = search rules in record {
+      read = search rules;
+      written = omega (arith, c.loop-read.invariant.written, c.try_piece-fed.ensures.written, rest, length_put c.loop-read.output c.try_piece-fed.new.output written c.loop-read.invariant.written rest);
       feeds = λ policy f bytes stands.
-          FeedsFront-goes policy f bytes c.args.input.now _ _ _ _ (len + c.feed_some-fed.result.len) (record { len = len + c.feed_some-fed.result.len; fault = c.feed_some-fed.result.fault }) None (ap ends none) refl refl
-          (FeedsFront-next policy f bytes c.args.input.now _ _ _ _ _ _ len (len + c.piece_len.result) (len + c.feed_some-fed.result.len) c.feed_some-fed.result (c.loop-len.invariant.feeds policy f bytes stands)
-          (c.feed_some-fed.ensures.feeds policy f) (omega arith) fits refl);
+          FeedsFront-goes policy f bytes c.args.input.now _ _ _ (record { read = at + c.try_piece-fed.result.read; written = written + c.try_piece-fed.result.written; fault = c.try_piece-fed.result.fault }) _ _ (ap ends none) refl refl
+          (FeedsFront-next policy f bytes c.args.input.now c.loop-read.output c.try_piece-fed.new.output _ _ _ at written end c.try_piece-fed.result (c.loop-read.invariant.feeds policy f bytes stands)
+          (omega arith) fits rest (c.try_piece-fed.ensures.feeds policy f));
     }

@@ -1,19 +1,18 @@
-use Rattle.std.proofs.Common.{◌≡◌, ◌-◌, ◌≤◌, ℕ, List, length, None}
+use Rattle.std.proofs.Common.{◌+◌, ◌-◌, ◌≤◌, ℕ, List, length, None}
 use Rattle.nf_forms.specs.Ucd.{ucd}
 use Rattle.nf_forms.specs.declared.form.Form.{Form}
 use Rattle.nf_filter.specs.declared.policy.Policy.{Policy}
 use Rattle.nf_filter.specs.Filter.{state_of, StandsAfter}
-use Rattle.nf_c.specs.Room.{state_of as room_state}
 use Rattle.nf_c.specs.Feeds.{FeedsFront}
 use Rattle.nf_c.proofs.feeding.feed_all.Given as goal
 
-abbrev pub invariant-loop-len : goal.invariant-loop-len
-invariant-loop-len l = record {
-  within : l.len ≤ length l.input;
-  lent : l.room.bytes.ghost_name ≡ l.fn.room.bytes.ghost_name;
+abbrev pub invariant-loop-read : goal.invariant-loop-read
+invariant-loop-read l = record {
+  read : l.read ≤ length l.input;
+  written : l.written ≤ length l.output;
   feeds : (policy : Policy) (f : Form) (bytes : List ℕ) → StandsAfter policy f ucd (state_of l.fn.filter) bytes
-      → FeedsFront policy f bytes l.input (room_state l.fn.room) (room_state l.room) (state_of l.fn.filter) (state_of l.filter) (record { len = l.len; fault = None });
+      → FeedsFront policy f bytes l.input l.output (state_of l.fn.filter) (state_of l.filter) (record { read = l.read; written = l.written; fault = None });
 }
 
-abbrev pub decreases-loop-len : goal.decreases-loop-len
-decreases-loop-len l = length l.input - l.len
+abbrev pub decreases-loop-read : goal.decreases-loop-read
+decreases-loop-read l = (length l.input - l.read) + l.guess.most

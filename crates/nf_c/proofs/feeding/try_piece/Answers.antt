@@ -1,37 +1,40 @@
-use Rattle.std.proofs.Common.{◌≡◌, ℕ, List, ◌++◌, [], inl, inr, true, false, min, take, Some, Err, sym, ap, ◌∙◌, append-nil}
+use Rattle.std.proofs.Common.{◌≡◌, true, false, Some, Err, refl, sym, ap, ◌∙◌, rules}
+use Rattle.nf_forms.specs.Ucd.{ucd}
+use Rattle.nf_filter.specs.declared.fault.Fault.TheVariants.{Write, TooLong}
 use Rattle.nf_filter.specs.declared.saved.Saved.{Saved}
+use Rattle.nf_filter.specs.Devices.{SinkState}
 use Rattle.nf_filter.specs.Filter.{state_of}
-use Rattle.nf_c.specs.declared.room.Mark.{Mark}
-use Rattle.nf_c.specs.declared.room.Room.{Room}
-use Rattle.nf_c.specs.Room.{state_of as room_state}
+use Rattle.nf_filter.proofs.SoundnessLemmas.{not_fed}
 use Rattle.nf_c.specs.Feeds.{ends}
-use Rattle.nf_c.proofs.FeedsLemmas.{stays, not_write, not_long, room_back, FeedsFront-whole, FeedsFront-fault, FeedsFront-none}
+use Rattle.nf_c.proofs.FeedsLemmas.{not_write, not_long, of_staying, of_feeding, too_little, FeedsFront-whole, FeedsFront-fault, FeedsFront-none}
 use Rattle.nf_c.proofs.feeding.try_piece.Goals as goal
 
 pub returns-in_default-clause-feeds : goal.returns-in_default-clause-feeds
 returns-in_default-clause-feeds c = λ policy f bytes stands.
     let feeds = c.in_default.ensures.feeds policy f bytes stands (λ e. cc) in
-    FeedsFront-whole policy f bytes c.args.piece.now _ _ _ _ (feeds.written (λ e. cc)) c.feed.ensures.base (c.in_default.ensures.stands policy f bytes stands)
+    FeedsFront-whole policy f bytes c.args.piece.now _ _ _ _ c.feed.new.sink c.written.result (ap (λ (s : SinkState). s.taken) c.over-room.ensures.state) (search rules) c.written.ensures.taken c.written.ensures.within
+    (feeds.written (λ e. cc)) c.feed.ensures.base (c.in_default.ensures.stands policy f bytes stands)
 
 pub returns-then-ends-clause-feeds : goal.returns-then-ends-clause-feeds
 returns-then-ends-clause-feeds c = λ policy f bytes stands.
-    let over : ends (Some c.in-Err.fault) ≡ true = sym c.ends.ensures ∙ c.if-ends.true in
-    let feeds = c.in-Err.ensures.feeds policy f bytes stands (not_long c.in-Err.fault over) in
-    FeedsFront-fault policy f bytes c.args.piece.now _ _ _ _ c.in-Err.fault over (feeds.written (not_write c.in-Err.fault over)) c.feed.ensures.base (feeds.answer (not_write c.in-Err.fault over))
+    let fault = c.in-Err.fault in
+    let over : ends (Some fault) ≡ true = sym c.ends.ensures ∙ c.if-ends.true in
+    let feeds = c.in-Err.ensures.feeds policy f bytes stands (not_long fault over) in
+    let among = of_feeding fault c.in-Err.ensures.faults (λ e. let spent = c.in-Err.ensures.spent.0 (ap Err e) in let unspent = stands.unspent in cc)
+    (λ at e. not_fed ucd c.every_character_is_sound.ensures.character _ at policy f bytes c.args.piece.now _ _ _ feeds (ap Err e)) in
+    FeedsFront-fault policy f bytes c.args.piece.now _ _ _ _ c.feed.new.sink c.written-then-ends.result (ap (λ (s : SinkState). s.taken) c.over-room.ensures.state) (search rules) c.written-then-ends.ensures.taken c.written-then-ends.ensures.within
+    (feeds.written (not_write fault over)) c.feed.ensures.base fault over among (c.in-Err.ensures.spends.1 (refl, not_long fault over)) (feeds.answer (not_write fault over))
 
 pub returns-clause-feeds : goal.returns-clause-feeds
 returns-clause-feeds c = λ policy f bytes stands.
-    let goes : ends (Some c.in-Err.fault) ≡ false = sym c.ends.ensures ∙ c.if-ends.false in
+    let fault = c.in-Err.fault in
+    let goes : ends (Some fault) ≡ false = sym c.ends.ensures ∙ c.if-ends.false in
     let saved = c.save-before.ensures.saved in
-    let mark = c.mark-mark.ensures in
-    let old = c.args.room.now in
-    let mid = c.feed.new.sink in
-    let written = c.go_back.ensures.written ∙ ap (λ (m : Mark). min m.written mid.written) mark in
-    let failed = c.go_back.ensures.failed ∙ ap (λ (m : Mark). m.failed) mark in
-    let back : (out : List ℕ) → take mid.written mid.bytes.now ≡ take old.written old.bytes.now ++ out → room_state c.go_back.new.self ≡ room_state old = λ out grown. room_back old mid c.go_back.new.self out c.go_back.ensures.bytes written failed c.feed.ensures.lender grown in
-    let same : room_state c.go_back.new.self ≡ room_state old = elim (stays c.in-Err.fault goes) [
-      | inl w ↦ let broken = (c.in-Err.ensures.feeds policy f bytes stands (λ e. cc)).broken_off (ap Err w) in back broken.out broken.given
-      | inr t ↦ let kept = (c.in-Err.ensures.kept (inr (ap Err t))).1 in back [] (ap (λ (r : Room). take r.written r.bytes.now) kept ∙ sym (append-nil (take old.written old.bytes.now)))
-    ] in
-    FeedsFront-none policy f bytes c.args.piece.now _ _ _ _ (Some c.in-Err.fault) goes same (ap (λ (s : Saved). s.base) (c.restored.ensures.saved ∙ saved))
+    FeedsFront-none policy f bytes c.args.piece.now _ _ _ (Some fault) goes (of_staying fault goes) (ap (λ (s : Saved). s.base) (c.restored.ensures.saved ∙ saved))
     (c.restored.ensures.stands policy f (state_of c.args.filter.now) bytes stands (sym saved))
+
+pub returns-clause-full : goal.returns-clause-full
+returns-clause-full c = λ policy f bytes stands is.
+    let full : c.in-Err.fault ≡ Write = let same : c.in-Err.fault ≡ Write = cc in same in
+    too_little _ c.feed.new.sink _ _ _ (ap (λ (s : SinkState). s.taken) c.over-room.ensures.state) (search rules)
+    ((c.in-Err.ensures.feeds policy f bytes stands (λ e. let same : Write ≡ TooLong = sym full ∙ (let long : c.in-Err.fault ≡ TooLong = cc in long) in cc)).broken_off (ap Err full))

@@ -1,28 +1,27 @@
-use Rattle.std.proofs.Common.{◌≡◌, ◌++◌, take, Some, Err, refl, sym, ap, ◌∙◌, rules}
-use Rattle.std.specs.Result.{result_err}
-use Rattle.nf_forms.specs.Ucd.{ucd}
+use Rattle.std.proofs.Common.{◌≡◌, Some, refl, ap, rules}
 use Rattle.nf_filter.specs.declared.fault.Fault.TheVariants.{Write}
 use Rattle.nf_filter.specs.declared.saved.Saved.{Saved}
-use Rattle.nf_filter.specs.Devices.{SinkState}
-use Rattle.nf_filter.specs.Finishes.{end_of}
-use Rattle.nf_filter.specs.Settled.{settled_utf8}
-use Rattle.nf_c.proofs.FeedsLemmas.{written_is}
+use Rattle.nf_c.proofs.FinishesLemmas.{FinishesFilter-at}
 use Rattle.nf_c.proofs.finishing.finish.Goals as goal
+
+pub returns-then-is_full-clause-finishes : goal.returns-then-is_full-clause-finishes
+returns-then-is_full-clause-finishes c = λ policy f bytes stands.
+    let full : c.finish_filter-finished.result.fault ≡ Some Write = search rules in record {
+      finished = c.finish_filter-finished.result;
+      finishes = FinishesFilter-at policy f bytes _ c.finish_filter-finished.result _ _ (ap (λ (s : Saved). s.base) c.in-Some.ensures.saved) (c.finish_filter-finished.ensures.finishes policy f bytes (c.in-Some.ensures.stands policy f bytes stands));
+      full = λ _. (c.of-then-is_full.ensures, refl);
+      told = λ not. absurd (not full);
+      written = λ not. absurd (not full);
+      spent = λ not. absurd (not full);
+    }
 
 pub returns-clause-finishes : goal.returns-clause-finishes
 returns-clause-finishes c = λ policy f bytes stands.
-    let finishes = c.finish.ensures.finishes policy f bytes (c.in-Some.ensures.stands policy f bytes stands) in
-    let not_full : ¬ (c.fault_of-fault.result ≡ Some Write) = search rules in
-    let not : ¬ (c.finish.result ≡ Err Write) = λ e. not_full (c.fault_of-fault.ensures ∙ ap result_err e) in
-    let puts = finishes.written not in
-    let same : c.output-2-1.given.0 ≡ c.finish.new.sink.bytes.now = search rules in
-    let out = written_is _ _ _ puts.out (ap (λ (s : SinkState). s.taken) c.over-room.ensures.state) c.written.ensures.taken puts.given in record {
-      fault = c.fault_of-fault.result;
-      written = c.written.result;
+    let not_full : ¬ (c.finish_filter-finished.result.fault ≡ Some Write) = search rules in record {
+      finished = c.finish_filter-finished.result;
+      finishes = FinishesFilter-at policy f bytes _ c.finish_filter-finished.result _ _ (ap (λ (s : Saved). s.base) c.in-Some.ensures.saved) (c.finish_filter-finished.ensures.finishes policy f bytes (c.in-Some.ensures.stands policy f bytes stands));
       full = λ e. absurd (not_full e);
-      is = λ _. c.fault_of-fault.ensures ∙ ap result_err (finishes.answer not) ∙ ap (λ n. result_err (end_of policy ucd n bytes)) (ap (λ (s : Saved). s.base) c.in-Some.ensures.saved);
       told = λ _. c.ended.ensures;
-      within = λ _. rw same c.written.ensures.within;
-      settles = λ _. puts.behind ∙ ap (λ l. settled_utf8 policy f ucd bytes ++ l) (out ∙ ap (take c.written.result) (sym same));
+      written = λ _. c.finish_filter-finished.ensures.written;
       spent = λ _. refl;
     }
