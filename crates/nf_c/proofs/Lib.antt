@@ -1,2 +1,4 @@
 pub mod FeedsLemmas
 pub mod FinishesLemmas
+pub mod ConvertsLemmas
+pub mod ChecksLemmas

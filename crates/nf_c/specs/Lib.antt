@@ -5,3 +5,5 @@ pub mod Room
 pub mod Feeds
 pub mod Starts
 pub mod Finishes
+pub mod Converts
+pub mod Checks

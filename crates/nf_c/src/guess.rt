@@ -6,16 +6,26 @@ use nf_row::Form;
 /// What is pending, a joiner and a decomposition, 4 bytes a code point: room that one byte of input never fills.
 const LEAST: usize = 256;
 
-/// So many bytes are tried where it is not sure that they find room.
+/// So many bytes are tried first, and where it is not sure that they find room.
 const CHUNK: usize = 1024;
+
+/// What an earlier piece may have left: a code point that is pending, and a begun one.
+const CARRY: usize = 16;
+
+/// How the text seems to go.
+#[derive(Clone, Copy)]
+enum Pace {
+    New,
+    Calm,
+    Grows,
+}
 
 /// A guess, by what the call has seen.
 #[derive(Clone, Copy)]
 pub struct Guess {
     /// How many bytes one byte becomes at most, when it is settled (UAX #15, section 9).
     growth: usize,
-    /// Whether the text seems not to grow.
-    calm: bool,
+    pace: Pace,
     /// At most so many: some more were refused, where there was no less room.
     pub most: usize,
     ghost some: { 0 < most },
@@ -23,17 +33,14 @@ pub struct Guess {
 }
 
 impl Guess {
-    /// Text seldom grows in a form that composes.
     pub fn new(form: Form) -> Guess {
-        let (growth, calm) = match form {
-            Form::Nfc => (3, true),
-            Form::Nfd => (3, false),
-            Form::Nfkc => (11, true),
-            Form::Nfkd => (11, false),
+        let growth = match form {
+            Form::Nfc | Form::Nfd => 3,
+            Form::Nfkc | Form::Nfkd => 11,
         };
         Guess {
             growth,
-            calm,
+            pace: Pace::New,
             most: usize::MAX,
         }
     }
@@ -46,11 +53,12 @@ impl Guess {
         ensures most { result ≤ self.now.most }
     {
         let sure = room.saturating_sub(LEAST) / self.growth;
-        let wanted = if self.calm {
-            room
-        } else {
-            sure.max(room.min(CHUNK))
+        let wanted = match self.pace {
+            Pace::New => 0,
+            Pace::Calm => room.saturating_sub(CARRY),
+            Pace::Grows => sure,
         };
+        let wanted = wanted.max(room.min(CHUNK));
         wanted.min(there).min(self.most).max(1)
     }
 
@@ -60,14 +68,18 @@ impl Guess {
         ensures { self.new.most < len }
     {
         self.most = len / 2;
-        self.calm = false;
+        self.pace = Pace::Grows;
     }
 
     /// So many bytes were fed, and became so many. If twice as many were refused, as many again will be.
     pub fn fed(&mut self, len: usize, written: usize)
         ensures { self.new.most ≤ self.old.most }
     {
-        self.calm = self.most == usize::MAX && written <= len;
+        self.pace = if self.most == usize::MAX && written.saturating_sub(CARRY) <= len {
+            Pace::Calm
+        } else {
+            Pace::Grows
+        };
         if len == self.most {
             self.most = (len / 2).max(1);
         }

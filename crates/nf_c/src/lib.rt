@@ -2,6 +2,8 @@
 //! slices, and each call tells how much of them it read and wrote. `nfstream_c` exports these calls.
 #![tactic(auto)]
 
+mod checking;
+mod converting;
 mod feeding;
 mod finishing;
 mod guess;
@@ -12,6 +14,8 @@ mod starting;
 mod state;
 mod status;
 
+pub use checking::check;
+pub use converting::convert;
 pub use feeding::feed;
 pub use finishing::finish;
 pub use moved::Moved;

@@ -16,6 +16,8 @@ pub enum Status {
     /// The memory holds no state that a call has left.
     NoState,
     TooLong,
+    /// The text is not in the Stream-Safe Text Format.
+    Unsafe,
 }
 
 impl Status {
@@ -37,6 +39,7 @@ impl Status {
             Status::Spent => 7,
             Status::NoState => 8,
             Status::TooLong => 9,
+            Status::Unsafe => 10,
         }
     }
 }
