@@ -1,5 +1,5 @@
 /* A filter from standard input to standard output: cat FORM [replace] [assigned], with FORM as nfc, nfd, nfkc or nfkd.
- * CAT_IN and CAT_OUT are the sizes of its buffers. */
+ * CAT_IN and CAT_OUT are the sizes of its buffers. With CAT_WHOLE the input, of at most CAT_IN bytes, is converted by one call. */
 #include "nfstream.h"
 #include <stdio.h>
 #include <string.h>
@@ -30,6 +30,14 @@ int main(int argc, char **argv) {
   for (uint32_t i = 0; argc > 1 && i < 4; i++)
     if (strcmp(argv[1], forms[i]) == 0) form = i + 1;
   for (int i = 2; i < argc; i++) policy |= strcmp(argv[i], "replace") == 0 ? NF_REPLACE : NF_ASSIGNED;
+#ifdef CAT_WHOLE
+  (void)state, (void)at;
+  len = fread(in, 1, sizeof in, stdin);
+  if (ferror(stdin) || !feof(stdin)) return 4;
+  status = nf_convert(form, policy, in, len, out, sizeof out, &moved);
+  if (!put(moved.written) || fflush(stdout) != 0) return 4;
+  return status == NF_DONE ? 0 : fault(status, &moved);
+#else
   if (nf_start(&state, form, policy, 0) != NF_DONE) return 2;
   while ((len = fread(in, 1, sizeof in, stdin)) > 0)
     for (at = 0; at < len; at += moved.read) {
@@ -41,4 +49,5 @@ int main(int argc, char **argv) {
   status = nf_finish(&state, out, sizeof out, &moved);
   if (!put(moved.written) || fflush(stdout) != 0) return 4;
   return status == NF_DONE ? 0 : fault(status, &moved);
+#endif
 }

@@ -10,6 +10,7 @@ bash build.sh --library "$folder"
 strict=(-std=c11 -O2 -Wall -Wextra -Werror -I"$folder")
 gcc "${strict[@]}" examples/cat.c "$folder/libnfstream.a" -o "$folder/cat"
 gcc "${strict[@]}" -DCAT_IN=7 -DCAT_OUT=256 examples/cat.c "$folder/libnfstream.a" -o "$folder/tiny"
+gcc "${strict[@]}" -DCAT_WHOLE -DCAT_IN=16777216 -DCAT_OUT=67108864 examples/cat.c "$folder/libnfstream.a" -o "$folder/whole"
 gcc "${strict[@]}" -g -fsanitize=address,undefined examples/small.c "$folder/libnfstream.a" -o "$folder/small"
 gcc -shared -o "$folder/libnfstream.so" -Wl,--whole-archive "$folder/libnfstream.a" -Wl,--no-whole-archive
 "$folder/small"
@@ -35,6 +36,8 @@ for text in "$folder/own.txt" "$folder/made.txt"; do
     for form in nfc nfd nfkc nfkd; do
         "$folder/cat" $form < "$text" > "$folder/one"
         "$folder/tiny" $form < "$text" > "$folder/two"
+        cmp "$folder/one" "$folder/two"
+        "$folder/whole" $form < "$text" > "$folder/two"
         cmp "$folder/one" "$folder/two"
         if [ -n "$program" ]; then
             "$program" convert --form $form < "$text" > "$folder/three"

@@ -69,6 +69,28 @@ int main(void) {
     for (size_t room = 0; room <= 300; room++) must(run(form, text, len, len, room, got) == due_len && memcmp(due, got, due_len) == 0, "each size of output");
     for (size_t cut = 1; cut < len; cut++) must(run(form, text, len, cut, 256, got) == due_len && memcmp(due, got, due_len) == 0, "each cut");
   }
+  /* A whole text by one call: the same, in just its room; one byte less is too little, and what is there is a front of it. */
+  for (uint32_t form = NF_NFC; form <= NF_NFKD; form++) {
+    due_len = run(form, text, len, len, sizeof due / 2, due);
+    for (size_t room = 0; room <= due_len; room++) {
+      uint8_t *bytes = block(room);
+      uint32_t status = nf_convert(form, NF_AS_IS, text, len, bytes, room, &moved);
+      must(status == (room == due_len ? NF_DONE : NF_FULL), "room for the whole");
+      must(moved.written <= room && memcmp(due, bytes, moved.written) == 0, "a front of the whole");
+      must(room < due_len || (moved.written == due_len && moved.read == len), "the whole");
+      drop(bytes, room);
+    }
+  }
+  must(nf_convert(0, NF_AS_IS, text, len, got, sizeof got, &moved) == NF_NO_FORM && nf_convert(NF_NFC, 4, text, len, got, sizeof got, &moved) == NF_NO_POLICY, "convert to no form");
+  must(nf_convert(NF_NFC, NF_AS_IS, (const uint8_t *)"ab\xff", 3, got, sizeof got, &moved) == NF_BAD_BYTE && moved.at == 2 && moved.written == 1, "convert a bad byte");
+  must(nf_convert(NF_NFC, NF_AS_IS, (const uint8_t *)"ab\xc3", 3, got, sizeof got, &moved) == NF_CUT && moved.at == 3 && moved.start == 2, "convert a cut");
+  must(nf_convert(NF_NFC, NF_REPLACE, (const uint8_t *)"\xff", 1, got, sizeof got, &moved) == NF_DONE && moved.written == 3 && memcmp(got, "\xef\xbf\xbd", 3) == 0, "convert and replace");
+  must(nf_convert(NF_NFC, NF_AS_IS, text, 0, got, 0, &moved) == NF_DONE && moved.written == 0, "convert nothing");
+  /* The 31st mark behind "plain Vi", e, two marks, "t q" stands at byte 16 + 2 * 30. */
+  must(nf_check(text, len, &moved) == NF_UNSAFE && moved.at == 76 && moved.start == 76 && moved.read == 0 && moved.written == 0, "unsafe");
+  must(nf_check(text, 76, &moved) == NF_DONE && moved.read == 76, "safe");
+  must(nf_check((const uint8_t *)"ab\xff", 3, &moved) == NF_BAD_BYTE && moved.at == 2, "check a bad byte");
+  must(nf_check((const uint8_t *)"ab\xc3", 3, &moved) == NF_CUT && moved.at == 3 && moved.start == 2, "check a cut");
   memset(&state, 0, sizeof state);
   must(nf_feed(&state, text, 1, got, sizeof got, &moved) == NF_NO_STATE && moved.read == 0 && moved.written == 0, "zeros are no state");
   memset(&state, 0xAB, sizeof state);

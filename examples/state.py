@@ -26,6 +26,8 @@ library = ctypes.CDLL(sys.argv[1])
 library.nf_start.argtypes = [ctypes.POINTER(State), ctypes.c_uint32, ctypes.c_uint32, ctypes.c_uint64]
 library.nf_feed.argtypes = [ctypes.POINTER(State), ctypes.c_char_p, ctypes.c_size_t, ctypes.c_char_p, ctypes.c_size_t, ctypes.POINTER(Moved)]
 library.nf_finish.argtypes = [ctypes.POINTER(State), ctypes.c_char_p, ctypes.c_size_t, ctypes.POINTER(Moved)]
+library.nf_convert.argtypes = [ctypes.c_uint32, ctypes.c_uint32, ctypes.c_char_p, ctypes.c_size_t, ctypes.c_char_p, ctypes.c_size_t, ctypes.POINTER(Moved)]
+library.nf_check.argtypes = [ctypes.c_char_p, ctypes.c_size_t, ctypes.POINTER(Moved)]
 assert ctypes.sizeof(State) == 168
 
 
@@ -81,7 +83,13 @@ def main():
             continue
         for number, form in enumerate(FORMS, 1):
             due = unicodedata.normalize(form, text).encode()
-            assert form_of(text.encode(), number, draw) == due, (form, ascii(text))
+            data = text.encode()
+            assert form_of(data, number, draw) == due, (form, ascii(text))
+            moved, room = Moved(), ctypes.create_string_buffer(len(due) + 1)
+            assert library.nf_convert(number, 0, data, len(data), room, len(due), moved) == DONE
+            assert room.raw[: moved.written] == due and moved.read == len(data)
+            assert not due or library.nf_convert(number, 0, data, len(data), room, len(due) - 1, moved) == FULL
+            assert library.nf_check(data, len(data), moved) == DONE
             checked += 1
     # A state of random bytes is refused, or stands somewhere: nothing else happens.
     refused = 0

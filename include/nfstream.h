@@ -33,7 +33,8 @@ enum nf_status {
   NF_UNASSIGNED = 6, /* the character at `at` is not assigned */
   NF_SPENT = 7,      /* an earlier call ended the text */
   NF_NO_STATE = 8,   /* the memory holds no state */
-  NF_TOO_LONG = 9    /* the offset would pass 2^64 - 1 */
+  NF_TOO_LONG = 9,   /* the offset would pass 2^64 - 1 */
+  NF_UNSAFE = 10     /* the text is not in the Stream-Safe Text Format: U+034F would be put at `at` */
 };
 
 /* Where a text stands. The fields may be read, and are the library's to change. Memory of zeros is no state. */
@@ -76,6 +77,17 @@ uint32_t nf_feed(struct nf_state *state, const uint8_t *in, size_t in_len, uint8
 /* Writes the rest of the form, at the text's end, after which the state is spent. At NF_FULL nothing was written, and the
  * state is as it was. */
 uint32_t nf_finish(struct nf_state *state, uint8_t *out, size_t out_len, struct nf_moved *moved);
+
+/* Writes the form of the whole text `in` to the front of `out`: nf_start with base 0, nf_feed and nf_finish in one. At NF_DONE
+ * the whole form was written. At NF_FULL it needs more room than `out` has: `moved` tells how much was read, and what is
+ * settled of that was written; no state is kept, so call again with more room. Other statuses are those of the three. */
+uint32_t nf_convert(uint32_t form, uint32_t policy, const uint8_t *in, size_t in_len, uint8_t *out, size_t out_len,
+                    struct nf_moved *moved);
+
+/* Whether the whole text `in` is in the Stream-Safe Text Format (UAX #15, section 13): NF_DONE, or NF_UNSAFE with the place
+ * where U+034F would be put, or a fault that stands before that: NF_BAD_BYTE or NF_CUT. `read` is in_len at NF_DONE, and else
+ * 0. Nothing is written. */
+uint32_t nf_check(const uint8_t *in, size_t in_len, struct nf_moved *moved);
 
 /* NF_VERSION of the library. */
 uint32_t nf_version(void);

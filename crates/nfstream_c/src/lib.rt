@@ -5,6 +5,8 @@ ghost use Rattle.std.specs.Prelude.{◌≡◌, ℕ, List, []};
 ghost use Rattle.nf_forms.specs.declared.form.Form.{Form};
 ghost use Rattle.nf_filter.specs.declared.policy.Policy.{Policy};
 ghost use Rattle.nf_c.specs.Feeds.{Feeds};
+ghost use Rattle.nf_c.specs.Checks.{Checks};
+ghost use Rattle.nf_c.specs.Converts.{Converts};
 ghost use Rattle.nf_c.specs.Finishes.{Finishes};
 ghost use Rattle.nf_c.specs.State.{CanStand, StandsAfter, form_at, policy_at};
 ghost use Rattle.nf_c.specs.Starts.{start_status};
@@ -61,6 +63,28 @@ pub extern "C" fn nf_finish(state: &mut State, output: &mut [u8], moved: &mut Mo
 {
     let done = nf_c::finish(state, output);
     tell(done, moved)
+}
+
+#[unsafe(no_mangle)]
+pub extern "C" fn nf_convert(
+    form: u32,
+    policy: u32,
+    input: &[u8],
+    output: &mut [u8],
+    moved: &mut Moved,
+) -> u32
+    ensures refused { ¬ (start_status form policy ≡ Done) → Tells (moved_by (start_status form policy) 0 0) moved.new result }
+    ensures converts { start_status form policy ≡ Done → (told : NfMoved) × Tells told moved.new result × Converts (policy_at policy) (form_at form) input.now output.new told }
+{
+    let done = nf_c::convert(form, policy, input, output);
+    tell(done, moved)
+}
+
+#[unsafe(no_mangle)]
+pub extern "C" fn nf_check(input: &[u8], moved: &mut Moved) -> u32
+    ensures { (told : NfMoved) × Tells told moved.new result × Checks input.now told }
+{
+    tell(nf_c::check(input), moved)
 }
 
 /// The version of these calls.
