@@ -1,0 +1,62 @@
+//! Whole texts by one call.
+use crate::kit::{AS_IS, NFC, REPLACE};
+use nf_c::{Moved, Status, check, convert};
+use std::test::Fail;
+
+fn told(status: Status, read: usize, written: usize, at: u64, start: u64) -> Moved {
+    Moved {
+        status,
+        read,
+        written,
+        at,
+        start,
+    }
+}
+
+#[test]
+fn a_whole_text_is_converted_in_just_its_room(rt: HostRuntime) -> Result<(), Fail> {
+    let (mut four, mut three, mut two) = ([0; 4], [0; 3], [0; 2]);
+    let done = convert(NFC, AS_IS, b"ae\xCC\x81b", &mut four);
+    assert_eq!(rt; done, told(Status::Done, 5, 4, 0, 0));
+    assert!(rt; four == *b"a\xC3\xA9b");
+    let full = convert(NFC, AS_IS, b"ae\xCC\x81b", &mut three);
+    assert_eq!(rt; full, told(Status::Full, 5, 3, 0, 0));
+    let less = convert(NFC, AS_IS, b"ae\xCC\x81b", &mut two);
+    assert_eq!(rt; less, told(Status::Full, 4, 1, 0, 0));
+    let replaced = convert(NFC, REPLACE, b"\xFF", &mut four);
+    assert_eq!(rt; replaced, told(Status::Done, 1, 3, 0, 0));
+    Ok(())
+}
+
+#[test]
+fn what_cannot_be_converted_is_refused(rt: HostRuntime) -> Result<(), Fail> {
+    let mut output = [0; 8];
+    let bad = convert(NFC, AS_IS, b"ab\xFF", &mut output);
+    assert_eq!(rt; bad, told(Status::BadByte, 3, 1, 2, 2));
+    let cut = convert(NFC, AS_IS, b"ab\xC3", &mut output);
+    assert_eq!(rt; cut, told(Status::Cut, 3, 1, 3, 2));
+    let form = convert(9, AS_IS, b"a", &mut output);
+    assert_eq!(rt; form, told(Status::NoForm, 0, 0, 0, 0));
+    let policy = convert(NFC, 9, b"a", &mut output);
+    assert_eq!(rt; policy, told(Status::NoPolicy, 0, 0, 0, 0));
+    Ok(())
+}
+
+#[test]
+fn the_place_where_a_text_leaves_the_format_is_told(rt: HostRuntime) -> Result<(), Fail> {
+    let mut text = Vec::new(rt.alloc());
+    text.extend_from_slice(b"q")?;
+    for _ in 0..30 {
+        text.extend_from_slice(b"\xCC\x81")?;
+    }
+    let safe = check(text.as_slice());
+    assert_eq!(rt; safe, told(Status::Done, 61, 0, 0, 0));
+    text.extend_from_slice(b"\xCC\x81")?;
+    let left = check(text.as_slice());
+    assert_eq!(rt; left, told(Status::Unsafe, 0, 0, 61, 61));
+    let bad = check(b"ab\xC3(");
+    assert_eq!(rt; bad, told(Status::BadByte, 0, 0, 3, 2));
+    let cut = check(b"ab\xC3");
+    assert_eq!(rt; cut, told(Status::Cut, 0, 0, 3, 2));
+    Ok(())
+}
