@@ -3,15 +3,70 @@
 use nf_filter::{Fault, Filter, Held, Tally};
 use nf_filter_fixtures::{BASE, Kept};
 use nf_row::{Form, Patched, Plain, Rows, Ucd};
-use std::alloc::Global;
+use std::alloc::{AllocError, Global};
 use std::process::Abort;
 
-/// What a call answers, and how the filter stands behind it: the offset, and whether it is spent.
-type Step = (Result<(), Fault>, Held, u64, bool);
+/// What a call answers, how the filter stands behind it (the offset, and whether it is spent), and how many bytes it has
+/// written.
+type Step = (Result<(), Fault>, Held, u64, bool, usize);
 
-fn step<R: Rows>(filter: &mut Filter<'_, R>, piece: &[u8], sink: &mut Kept) -> Step {
-    let answer = filter.feed(piece, sink);
-    (answer, filter.held(), filter.offset(), filter.spent())
+/// What a filter did.
+#[derive(Drop)]
+struct Course {
+    /// Behind each call, up to the first that was refused.
+    steps: Vec<Step>,
+    written: Vec<u8>,
+    /// What `finish` answered.
+    end: Result<Tally, Fault>,
+    /// The first refusal, or what `finish` answered.
+    answer: Result<Tally, Fault>,
+    /// The longest slice that it gave, in bytes.
+    longest: usize,
+}
+
+/// Feeds the pieces, as far as they are taken, and then finishes.
+fn course_of<R: Rows>(
+    alloc: Global,
+    filter: Filter<'_, R>,
+    pieces: &[&[u8]],
+) -> Result<Course, AllocError> {
+    let mut filter = filter;
+    let mut sink = Kept::new(alloc);
+    let mut steps = Vec::new(alloc);
+    let mut refused = None;
+    for piece in pieces {
+        let fed = filter.feed(piece, &mut sink);
+        let len = sink.bytes.len();
+        steps.push((fed, filter.held(), filter.offset(), filter.spent(), len))?;
+        if let Err(fault) = fed {
+            refused = Some(fault);
+            break;
+        }
+    }
+    let end = filter.finish(&mut sink);
+    Ok(Course {
+        steps,
+        written: sink.bytes,
+        end,
+        answer: refused.map_or(end, Err),
+        longest: sink.longest,
+    })
+}
+
+/// Behind each call the same was written, and the filter stands in the same way. Answers the length of the longest slice
+/// that it gave, in bytes.
+fn check_course<R: Rows>(
+    rt: &impl Abort,
+    alloc: Global,
+    filter: Filter<'_, R>,
+    form: Form,
+    pieces: &[&[u8]],
+    due: &Course,
+) -> usize {
+    let given = course_of(alloc, filter, pieces).expect(rt, "memory");
+    let is_same = given.steps == due.steps && given.written == due.written && given.end == due.end;
+    assert!(rt; is_same, "{form:?} of {pieces:?}");
+    given.longest
 }
 
 /// Feeds the pieces every way, as far as they are taken, and then finishes. Behind each call all have written the same and
@@ -41,49 +96,13 @@ pub fn same_over(
     form: Form,
     pieces: &[&[u8]],
 ) -> Result<Tally, Fault> {
-    let mut plain = Filter::new(unchanged.rows(), form, BASE);
-    let mut quick = Filter::new(&Ucd, form, BASE);
-    let mut ascii = Filter::fast(unchanged, form, BASE);
-    let mut whole = Filter::fast(Plain::of(&Ucd).expect(rt, "plain"), form, BASE);
-    let mut due = Kept::new(alloc);
-    let mut by_quick = Kept::new(alloc);
-    let mut by_ascii = Kept::new(alloc);
-    let mut by_whole = Kept::new(alloc);
-    let mut refused = None;
-    for piece in pieces {
-        let stands = step(&mut plain, piece, &mut due);
-        assert_eq!(rt; step(&mut quick, piece, &mut by_quick), stands);
-        assert_eq!(rt; step(&mut ascii, piece, &mut by_ascii), stands);
-        assert_eq!(rt; step(&mut whole, piece, &mut by_whole), stands);
-        check_written(rt, form, pieces, &mut by_quick, &due);
-        check_written(rt, form, pieces, &mut by_ascii, &due);
-        check_written(rt, form, pieces, &mut by_whole, &due);
-        due.bytes.clear();
-        if let Err(fault) = stands.0 {
-            refused = Some(fault);
-            break;
-        }
-    }
-    let end = plain.finish(&mut due);
-    assert_eq!(rt; quick.finish(&mut by_quick), end);
-    assert_eq!(rt; ascii.finish(&mut by_ascii), end);
-    assert_eq!(rt; whole.finish(&mut by_whole), end);
-    check_written(rt, form, pieces, &mut by_quick, &due);
-    check_written(rt, form, pieces, &mut by_ascii, &due);
-    check_written(rt, form, pieces, &mut by_whole, &due);
-    assert!(rt;
-        by_quick.longest <= 4096,
-        "{} bytes at once",
-        by_quick.longest
-    );
-    refused.map_or(end, Err)
-}
-
-/// What was written since the last call is the same, and the sink keeps it no longer.
-fn check_written(rt: &impl Abort, form: Form, pieces: &[&[u8]], given: &mut Kept, due: &Kept) {
-    assert!(rt;
-        given.bytes.as_slice() == due.bytes.as_slice(),
-        "{form:?} of {pieces:?}"
-    );
-    given.bytes.clear();
+    let ascii = Filter::fast(unchanged, form, BASE);
+    let whole = Filter::fast(Plain::of(&Ucd).expect(rt, "plain"), form, BASE);
+    let plain = Filter::new(unchanged.rows(), form, BASE);
+    let due = course_of(alloc, plain, pieces).expect(rt, "memory");
+    let longest = check_course(rt, alloc, Filter::new(&Ucd, form, BASE), form, pieces, &due);
+    assert!(rt; longest <= 4096, "{form:?}: {longest} bytes at once");
+    check_course(rt, alloc, ascii, form, pieces, &due);
+    check_course(rt, alloc, whole, form, pieces, &due);
+    due.answer
 }

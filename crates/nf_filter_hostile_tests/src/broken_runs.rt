@@ -4,7 +4,7 @@
 use crate::both_ways::same_over;
 use crate::calm::{BLOCK, CALM, filled};
 use nf_filter_fixtures::{FORMS, joined};
-use nf_row::{Patched, Plain};
+use nf_row::{Form, Patched, Plain};
 use std::alloc::{AllocError, Global};
 use std::process::Abort;
 use std::test::Fail;
@@ -128,14 +128,26 @@ fn blocks_end_near_a_break(rt: HostRuntime) -> Result<(), Fail> {
                 marks: MARKS[(len + i) % 3],
                 count: COUNTS[(len / 7 + i) % 7],
             };
-            let text = broken.text(rt.alloc())?;
-            let (front, back) = text.split_at(BLOCK.min(text.len()));
-            for pieces in [[text.as_slice(), b""], [front, back]] {
-                let form = FORMS[(len + i) % 4];
-                let answer = same_over(&rt, rt.alloc(), unchanged, form, &pieces);
-                assert!(rt; answer.is_ok(), "{broken:?}: {answer:?}");
-            }
+            let form = FORMS[(len + i) % 4];
+            check_block(&rt, rt.alloc(), unchanged, form, broken)?;
         }
+    }
+    Ok(())
+}
+
+/// Checks the text in one piece, and cut at the end of the block.
+fn check_block(
+    rt: &impl Abort,
+    alloc: Global,
+    unchanged: Plain<'_, Patched<'_>>,
+    form: Form,
+    broken: Broken<'_>,
+) -> Result<(), AllocError> {
+    let text = broken.text(alloc)?;
+    let (front, back) = text.split_at(BLOCK.min(text.len()));
+    for pieces in [[text.as_slice(), b""], [front, back]] {
+        let answer = same_over(rt, alloc, unchanged, form, &pieces);
+        assert!(rt; answer.is_ok(), "{broken:?}: {answer:?}");
     }
     Ok(())
 }

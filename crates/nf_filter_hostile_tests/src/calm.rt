@@ -135,21 +135,36 @@ fn calm_text_of_each_length_is_broken(rt: HostRuntime) -> Result<(), Fail> {
     for calm in CALM {
         for broken_by in BREAKS {
             for form in FORMS {
-                for len in 0..=100 {
-                    let seam = Seam {
-                        calm,
-                        len,
-                        broken_by,
-                    };
-                    check_whole(&rt, alloc, unchanged, form, seam)?;
-                    if len == 40 {
-                        check_cuts(&rt, alloc, unchanged, form, seam)?;
-                    }
-                }
+                check_lengths(&rt, alloc, unchanged, form, calm, broken_by)?;
             }
         }
     }
     Ok(())
+}
+
+/// The calm text has each length up to 100 bytes. At one of them it is cut too.
+fn check_lengths(
+    rt: &impl Abort,
+    alloc: Global,
+    unchanged: Plain<'_, Patched<'_>>,
+    form: Form,
+    calm: &str,
+    broken_by: (&str, usize),
+) -> Result<(), AllocError> {
+    for len in 0..=100 {
+        let seam = Seam {
+            calm,
+            len,
+            broken_by,
+        };
+        check_whole(rt, alloc, unchanged, form, seam)?;
+    }
+    let seam = Seam {
+        calm,
+        len: 40,
+        broken_by,
+    };
+    check_cuts(rt, alloc, unchanged, form, seam)
 }
 
 /// ASCII meets each break at each place about the end of a block, in two forms in turn. Other calm text meets each break

@@ -2,7 +2,7 @@
 use crate::both_ways::same_both_ways;
 use nf_filter_fixtures::{FORMS, joined};
 use nf_row::Form;
-use std::alloc::Global;
+use std::alloc::{AllocError, Global};
 use std::process::Abort;
 use std::test::Fail;
 
@@ -49,21 +49,39 @@ fn check_cut(rt: &impl Abort, alloc: Global, form: Form, text: &[u8], at: usize)
     assert!(rt; answer.is_ok(), "{form:?}, cut at {at}: {answer:?}");
 }
 
+/// The same in each form.
+fn check_forms(rt: &impl Abort, alloc: Global, text: &[u8], at: usize) {
+    for form in FORMS {
+        check_cut(rt, alloc, form, text, at);
+    }
+}
+
 #[test]
 fn a_piece_ends_at_each_place_behind_closed_text(rt: HostRuntime) -> Result<(), Fail> {
     let alloc = rt.alloc();
     for cluster in CLUSTERS {
         for next in NEXT {
             for len in 0..=40 {
-                let front = joined(alloc, &[("a", 1), (cluster, 2), ("b", len)])?;
-                let behind = joined(alloc, &[(next, 1), (cluster, 1), ("z", 1)])?;
-                let text = [front.as_slice(), behind.as_slice()].concat(alloc)?;
-                for form in FORMS {
-                    check_cut(&rt, alloc, form, text.as_slice(), front.len());
-                }
+                check_closed(&rt, alloc, cluster, next, len)?;
             }
         }
     }
+    Ok(())
+}
+
+/// Closed text, so much ASCII, and behind the cut what begins the next piece.
+fn check_closed<'t>(
+    rt: &impl Abort,
+    alloc: Global,
+    cluster: &'t str,
+    next: &'t str,
+    len: usize,
+) -> Result<(), AllocError> {
+    let mut text = joined(alloc, &[("a", 1), (cluster, 2), ("b", len)])?;
+    let at = text.len();
+    let behind = joined(alloc, &[(next, 1), (cluster, 1), ("z", 1)])?;
+    text.extend_from_slice(behind.as_slice())?;
+    check_forms(rt, alloc, text.as_slice(), at);
     Ok(())
 }
 
@@ -72,13 +90,21 @@ fn closed_text_is_cut_at_each_byte(rt: HostRuntime) -> Result<(), Fail> {
     let alloc = rt.alloc();
     for first in CLUSTERS {
         for second in CLUSTERS {
-            let text = joined(alloc, &[("a", 1), (first, 1), (second, 1), ("b", 1)])?;
-            for form in FORMS {
-                for at in 0..=text.len() {
-                    check_cut(&rt, alloc, form, text.as_slice(), at);
-                }
-            }
+            check_pair(&rt, alloc, first, second)?;
         }
+    }
+    Ok(())
+}
+
+fn check_pair<'t>(
+    rt: &impl Abort,
+    alloc: Global,
+    first: &'t str,
+    second: &'t str,
+) -> Result<(), AllocError> {
+    let text = joined(alloc, &[("a", 1), (first, 1), (second, 1), ("b", 1)])?;
+    for at in 0..=text.len() {
+        check_forms(rt, alloc, text.as_slice(), at);
     }
     Ok(())
 }
@@ -91,9 +117,7 @@ fn a_block_ends_at_each_place_about_closed_text(rt: HostRuntime) -> Result<(), F
         for before in 0..=40 {
             let len = BLOCK.saturating_sub(before);
             let text = joined(alloc, &[("a", len), (cluster, 20), ("b", 1)])?;
-            for form in FORMS {
-                check_cut(&rt, alloc, form, text.as_slice(), BLOCK);
-            }
+            check_forms(&rt, alloc, text.as_slice(), BLOCK);
         }
     }
     Ok(())
@@ -107,9 +131,7 @@ fn blocks_are_filled_with_closed_text(rt: HostRuntime) -> Result<(), Fail> {
         let times = (BLOCK / cluster.len().max(1)).saturating_add(40);
         for before in 0..=40 {
             let text = joined(alloc, &[("a", before), (cluster, times)])?;
-            for form in FORMS {
-                check_cut(&rt, alloc, form, text.as_slice(), text.len());
-            }
+            check_forms(&rt, alloc, text.as_slice(), text.len());
         }
     }
     Ok(())

@@ -52,20 +52,40 @@ fn ill_formed_bytes_have_their_places_behind_calm_text(rt: HostRuntime) -> Resul
     for calm in CALM {
         for len in LENGTHS {
             let text = filled(alloc, calm, len)?;
-            let start = BASE + len as u64;
-            for (bad, place) in BAD {
-                let fault = Fault::BadByte {
-                    at: start + place,
-                    start,
-                };
-                check_fault(&rt, alloc, unchanged, &text, bad, calm, fault)?;
-            }
-            for begun in BEGUN {
-                let at = start + begun.len() as u64;
-                let fault = Fault::Cut { at, start };
-                check_fault(&rt, alloc, unchanged, &text, begun, "", fault)?;
-            }
+            check_bad(&rt, alloc, unchanged, text.as_slice(), calm)?;
+            check_begun(&rt, alloc, unchanged, text.as_slice())?;
         }
+    }
+    Ok(())
+}
+
+fn check_bad(
+    rt: &impl Abort,
+    alloc: Global,
+    unchanged: Plain<'_, Patched<'_>>,
+    text: &[u8],
+    calm: &str,
+) -> Result<(), AllocError> {
+    let start = BASE.saturating_add(text.len() as u64);
+    for (bad, place) in BAD {
+        let at = start.saturating_add(place);
+        let fault = Fault::BadByte { at, start };
+        check_fault(rt, alloc, unchanged, text, bad, calm, fault)?;
+    }
+    Ok(())
+}
+
+fn check_begun(
+    rt: &impl Abort,
+    alloc: Global,
+    unchanged: Plain<'_, Patched<'_>>,
+    text: &[u8],
+) -> Result<(), AllocError> {
+    let start = BASE.saturating_add(text.len() as u64);
+    for begun in BEGUN {
+        let at = start.saturating_add(begun.len() as u64);
+        let fault = Fault::Cut { at, start };
+        check_fault(rt, alloc, unchanged, text, begun, "", fault)?;
     }
     Ok(())
 }

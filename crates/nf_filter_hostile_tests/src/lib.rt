@@ -14,11 +14,15 @@ mod calm;
 #[cfg(test)]
 mod closed;
 #[cfg(test)]
+mod growing;
+#[cfg(test)]
 mod ill_formed;
 #[cfg(test)]
 mod lying_rows;
 #[cfg(test)]
 mod mixtures;
+#[cfg(test)]
+mod odd;
 #[cfg(test)]
 mod once;
 #[cfg(test)]

@@ -3,7 +3,7 @@ use crate::pieces::{Text, bytes_of, check_text};
 use nf_filter::{Fault, Filter, FromReader, check, drive, measure};
 use nf_filter_fixtures::{FORMS, Kept, course_of, joined};
 use nf_row::Change::{Assigned, Canonical, Class, Compat, Pair};
-use nf_row::{Change, Patched, Plain, Rows};
+use nf_row::{Change, Form, Patched, Plain, Rows};
 use nf_safe::Place;
 use std::alloc::{AllocError, Global};
 use std::process::Abort;
@@ -82,63 +82,85 @@ fn check_text_of<R: Rows>(
 ) -> Result<(), AllocError> {
     let (front, back) = text.split_at(at.min(text.len()));
     for form in FORMS {
-        for pieces in [[front, back], [text, b""]] {
-            let course = course_of(alloc, rows, form, &pieces)?;
-            assert_eq!(rt; course.answer.err(), Some(fault), "{text:?}");
-            assert_eq!(rt; course.written.as_slice(), written.as_bytes());
-        }
+        check_course(rt, alloc, rows, form, &[front, back], fault, written)?;
+        check_course(rt, alloc, rows, form, &[text, b""], fault, written)?;
         if let Some(plain) = plain {
-            let mut sink = Kept::new(alloc);
-            let filter = Filter::fast(plain, form, 0);
-            let answer = drive(filter, &mut FromReader::new(text), &mut sink);
-            assert_eq!(rt; answer.err(), Some(fault), "{text:?}");
-            assert_eq!(rt; sink.bytes.as_slice(), written.as_bytes());
+            check_fast(rt, alloc, plain, form, text, fault, written);
         }
     }
-    let checked = check(rows, 0, &mut FromReader::new(text));
-    assert_eq!(rt; checked.err(), Some(fault), "{text:?}");
-    let measured = measure(rows, 0, &mut FromReader::new(text));
-    assert_eq!(rt; measured.err(), Some(fault), "{text:?}");
+    let checked = check(rows, 0, &mut FromReader::new(text)).err();
+    let measured = measure(rows, 0, &mut FromReader::new(text)).err();
+    assert_eq!(rt; (checked, measured), (Some(fault), Some(fault)), "{text:?}");
     Ok(())
 }
 
-/// A joiner that is not alone its own rows, or no starter, is refused where one would be put: a text that asks for none
-/// goes through. A check puts none.
+fn check_course<R: Rows>(
+    rt: &impl Abort,
+    alloc: Global,
+    rows: &R,
+    form: Form,
+    pieces: &[&[u8]],
+    fault: Fault,
+    written: &str,
+) -> Result<(), AllocError> {
+    let course = course_of(alloc, rows, form, pieces)?;
+    assert_eq!(rt; course.answer.err(), Some(fault), "{pieces:?}");
+    assert_eq!(rt; course.written.as_slice(), written.as_bytes());
+    Ok(())
+}
+
+fn check_fast<R: Rows>(
+    rt: &impl Abort,
+    alloc: Global,
+    plain: Plain<'_, R>,
+    form: Form,
+    text: &[u8],
+    fault: Fault,
+    written: &str,
+) {
+    let mut sink = Kept::new(alloc);
+    let filter = Filter::fast(plain, form, 0);
+    let answer = drive(filter, &mut FromReader::new(text), &mut sink);
+    assert_eq!(rt; answer.err(), Some(fault), "{text:?}");
+    assert_eq!(rt; sink.bytes.as_slice(), written.as_bytes());
+}
+
+/// Rows and a class with which a joiner is not alone its own rows, or no starter.
+const JOINERS: [Change<'static>; 6] = [
+    Compat(J, &[J, J]),
+    Canonical(J, &[J, J]),
+    Canonical(J, &['a']),
+    Compat(J, &[M]),
+    Compat(J, &LONG),
+    Class(J, 230),
+];
+
 #[test]
 fn a_joiner_that_lies_is_refused_where_one_is_put(rt: HostRuntime) -> Result<(), Fail> {
-    let alloc = rt.alloc();
+    for lie in JOINERS {
+        check_joiner(&rt, rt.alloc(), &Patched::new(&[lie]))?;
+    }
+    Ok(())
+}
+
+/// A text that asks for no joiner goes through, and one that does is refused. A check puts none.
+fn check_joiner(rt: &impl Abort, alloc: Global, rows: &Patched<'_>) -> Result<(), AllocError> {
     let long = joined(alloc, &[("q", 1), ("\u{301}", 31)])?;
+    let long = long.as_slice();
+    let fault = Fault::Row { at: 61 };
+    for form in FORMS {
+        let short = course_of(alloc, rows, form, &[b"qx"])?;
+        assert!(rt; short.written.as_slice() == b"qx".as_slice() && short.answer.is_ok());
+        check_course(rt, alloc, rows, form, &[long], fault, "")?;
+    }
     let place = Place {
         chars: 31,
         bytes: 61,
     };
-    let lies: [Change<'_>; 6] = [
-        Compat(J, &[J, J]),
-        Canonical(J, &[J, J]),
-        Canonical(J, &['a']),
-        Compat(J, &[M]),
-        Compat(J, &LONG),
-        Class(J, 230),
-    ];
-    for lie in lies {
-        let changes = [lie];
-        let rows = Patched::new(&changes);
-        for form in FORMS {
-            let course = course_of(alloc, &rows, form, &[b"qx"])?;
-            assert_eq!(rt; course.written.as_slice(), b"qx".as_slice());
-            assert!(rt; course.answer.is_ok());
-            let course = course_of(alloc, &rows, form, &[long.as_slice()])?;
-            assert_eq!(rt; course.answer, Err(Fault::Row { at: 61 }));
-            assert_eq!(rt; course.written.len(), 0);
-        }
-        let mut source = FromReader::new(long.as_slice());
-        assert_eq!(rt; check(&rows, 0, &mut source), Ok(Some(place)));
-        let mut source = FromReader::new(long.as_slice());
-        assert_eq!(rt;
-            measure(&rows, 0, &mut source).err(),
-            Some(Fault::Row { at: 61 })
-        );
-    }
+    let checked = check(rows, 0, &mut FromReader::new(long));
+    assert_eq!(rt; checked, Ok(Some(place)));
+    let measured = measure(rows, 0, &mut FromReader::new(long));
+    assert_eq!(rt; measured.err(), Some(fault));
     Ok(())
 }
 

@@ -2,7 +2,7 @@
 //! asked again.
 use crate::pieces::{Text, bytes_of};
 use nf_filter::{Fault, Filter, Held, Tally, check, drive, measure, run};
-use nf_filter_fixtures::{FORMS, Kept, Pieces, after, course_of};
+use nf_filter_fixtures::{Due, FORMS, Kept, Pieces, after, course_of};
 use nf_row::{Form, Patched, Plain, Ucd};
 use nf_safe::Place;
 use std::alloc::{AllocError, Global};
@@ -26,20 +26,20 @@ const TEXTS: [Text<'static>; 7] = [
 
 /// A way for pieces to go through a filter.
 #[derive(Clone, Copy, Debug)]
-enum Way {
+pub enum Way {
     Fed,
     FedFast,
     Run,
     DrivenFast,
 }
 
-const WAYS: [Way; 4] = [Way::Fed, Way::FedFast, Way::Run, Way::DrivenFast];
+pub const WAYS: [Way; 4] = [Way::Fed, Way::FedFast, Way::Run, Way::DrivenFast];
 
 fn fast(rt: &impl Abort, form: Form) -> Filter<'static, Ucd> {
     Filter::fast(Plain::of(&Ucd).expect(rt, "plain"), form, 0)
 }
 
-fn filtered(
+pub fn filtered(
     rt: &impl Abort,
     way: Way,
     form: Form,
@@ -55,8 +55,7 @@ fn filtered(
     }
 }
 
-/// Feeds the pieces. A filter that was refused is spent, holds nothing, stands where it stood before the call, and writes
-/// nothing more.
+/// Feeds the pieces, and looks at a filter that was refused.
 fn fed(
     rt: &impl Abort,
     filter: Filter<'_, Ucd>,
@@ -67,20 +66,27 @@ fn fed(
     for piece in pieces {
         let offset = filter.offset();
         if let Err(fault) = filter.feed(piece, sink) {
-            let (refused, taken) = (sink.refused, sink.bytes.len());
-            let nothing = Held {
-                bytes: 0,
-                pending: 0,
-            };
-            assert_eq!(rt; (filter.spent(), filter.offset()), (true, offset));
-            assert_eq!(rt; filter.held(), nothing);
-            assert_eq!(rt; filter.feed(b"a", sink), Err(Fault::Spent));
-            assert_eq!(rt; filter.finish(sink), Err(Fault::Spent));
-            assert_eq!(rt; (sink.refused, sink.bytes.len()), (refused, taken));
+            check_spent(rt, filter, sink, offset);
             return Err(fault);
         }
     }
     filter.finish(sink)
+}
+
+/// A filter that was refused is spent, holds nothing, stands where it stood before the call, and writes nothing more.
+fn check_spent(rt: &impl Abort, filter: Filter<'_, Ucd>, sink: &mut Kept, offset: u64) {
+    let mut filter = filter;
+    let (refused, taken) = (sink.refused, sink.bytes.len());
+    let nothing = Held {
+        bytes: 0,
+        pending: 0,
+    };
+    let stands = filter.spent() && filter.offset() == offset && filter.held() == nothing;
+    assert!(rt; stands);
+    let fed = filter.feed(b"a", sink);
+    let end = filter.finish(sink);
+    assert!(rt; fed == Err(Fault::Spent) && end == Err(Fault::Spent));
+    assert!(rt; sink.refused == refused && sink.bytes.len() == taken);
 }
 
 #[test]
@@ -91,90 +97,96 @@ fn each_write_fails_in_turn(rt: HostRuntime) -> Result<(), Fail> {
         let pieces: Vec<&[u8]> = text.chunks(50).collect(alloc)?;
         for form in FORMS {
             let due = after(alloc, &Ucd, form, 0, text.as_slice())?;
-            let answer = due.answer.and(due.end);
-            let whole = due.whole.as_bytes();
-            check_writes(
-                &rt,
-                alloc,
-                &WAYS,
-                form,
-                pieces.as_slice(),
-                whole,
-                answer,
-                (0, 1000),
-            );
+            let whole = Whole {
+                bytes: due.whole.as_bytes(),
+                answer: due.answer.and(due.end),
+            };
+            let (ways, pieces) = (WAYS.as_slice(), pieces.as_slice());
+            check_writes(&rt, alloc, ways, form, pieces, whole, (0, 1000));
         }
     }
     Ok(())
 }
 
-/// Lets a sink that takes a byte in a call fail behind each number of calls in a range: it has taken that many bytes, and
-/// is asked once more. Where there are no more to write, the filter answers as it does over any sink.
+/// What a filter that is not stopped writes and answers.
+#[derive(Clone, Copy)]
+struct Whole<'a> {
+    bytes: &'a [u8],
+    answer: Result<Tally, Fault>,
+}
+
+/// Lets a sink fail behind each number of calls in a range, each way.
 fn check_writes(
     rt: &impl Abort,
     alloc: Global,
     ways: &[Way],
     form: Form,
     pieces: &[&[u8]],
-    whole: &[u8],
-    answer: Result<Tally, Fault>,
+    whole: Whole<'_>,
     calls: (usize, usize),
 ) {
     for way in ways {
-        for calls in calls.0..calls.1.min(whole.len().saturating_add(1)) {
-            let is_whole = calls >= whole.len();
-            let expected = if is_whole { answer } else { Err(Fault::Write) };
-            let mut sink = Kept::with_calls(alloc, calls, 1);
-            let answer = filtered(rt, *way, form, pieces, &mut sink);
-            assert_eq!(rt; answer, expected, "{way:?} {form:?}, {calls} calls");
-            assert!(rt;
-                sink.bytes.as_slice() == &whole[..calls.min(whole.len())],
-                "{way:?} {form:?}, {calls} calls"
-            );
-            assert_eq!(rt; sink.refused, usize::from(!is_whole));
+        for calls in calls.0..calls.1.min(whole.bytes.len().saturating_add(1)) {
+            check_write(rt, alloc, *way, form, pieces, whole, calls);
         }
     }
 }
 
-/// Slices that are longer than a block, byte by byte. A source gives no more than a block at once.
+/// Lets a sink that takes a byte in a call fail behind so many calls: it has taken that many bytes, and is asked once
+/// more. Where there are no more to write, the filter answers as it does over any sink.
+fn check_write(
+    rt: &impl Abort,
+    alloc: Global,
+    way: Way,
+    form: Form,
+    pieces: &[&[u8]],
+    whole: Whole<'_>,
+    calls: usize,
+) {
+    let len = whole.bytes.len();
+    let expected = if calls >= len {
+        (whole.answer, 0)
+    } else {
+        (Err(Fault::Write), 1)
+    };
+    let mut sink = Kept::with_calls(alloc, calls, 1);
+    let answer = filtered(rt, way, form, pieces, &mut sink);
+    assert_eq!(rt;
+        (answer, sink.refused),
+        expected,
+        "{way:?} {form:?}, {calls} calls"
+    );
+    assert!(rt;
+        sink.bytes.as_slice() == &whole.bytes[..calls.min(len)],
+        "{way:?} {form:?}, {calls} calls"
+    );
+}
+
+/// Slices that are longer than a block, byte by byte.
 #[test]
 fn each_write_of_a_long_slice_fails_in_turn(rt: HostRuntime) -> Result<(), Fail> {
     let alloc = rt.alloc();
     let text = bytes_of(alloc, (&[("a", 9000), (M, 31), ("b", 50)], b""))?;
-    let blocks: Vec<&[u8]> = text.chunks(4096).collect(alloc)?;
     for form in FORMS {
-        let due = course_of(alloc, &Patched::new(&[]), form, &[text.as_slice()])?;
-        let (whole, answer) = (due.written.as_slice(), due.answer);
-        let end = whole.len();
-        for calls in [
-            (0, 4),
-            (4090, 4100),
-            (8995, 9005),
-            (end.saturating_sub(4), 9999),
-        ] {
-            let ways = [Way::Fed, Way::FedFast];
-            check_writes(
-                &rt,
-                alloc,
-                &ways,
-                form,
-                &[text.as_slice()],
-                whole,
-                answer,
-                calls,
-            );
-            let ways = [Way::Run, Way::DrivenFast];
-            check_writes(
-                &rt,
-                alloc,
-                &ways,
-                form,
-                blocks.as_slice(),
-                whole,
-                answer,
-                calls,
-            );
-        }
+        check_long(&rt, alloc, form, text.as_slice())?;
+    }
+    Ok(())
+}
+
+/// A source gives no more than a block at once.
+fn check_long(rt: &impl Abort, alloc: Global, form: Form, text: &[u8]) -> Result<(), AllocError> {
+    let blocks: Vec<&[u8]> = text.chunks(4096).collect(alloc)?;
+    let due = course_of(alloc, &Patched::new(&[]), form, &[text])?;
+    let whole = Whole {
+        bytes: due.written.as_slice(),
+        answer: due.answer,
+    };
+    let last = due.written.len().saturating_sub(4);
+    for calls in [(0, 4), (4090, 4100), (8995, 9005), (last, 9999)] {
+        let ways = [Way::Fed, Way::FedFast];
+        check_writes(rt, alloc, &ways, form, &[text], whole, calls);
+        let ways = [Way::Run, Way::DrivenFast];
+        check_writes(rt, alloc, &ways, form, blocks.as_slice(), whole, calls);
     }
     Ok(())
 }
@@ -191,32 +203,34 @@ fn each_read_fails_in_turn(rt: HostRuntime) -> Result<(), Fail> {
     Ok(())
 }
 
-/// Lets a source that gives a byte in a call fail behind each of its calls: what it gave has been settled. A bad byte is
-/// told before, and nothing is asked for behind it.
+/// Lets a source that gives a byte in a call fail behind each of its calls.
 fn check_reads(rt: &impl Abort, alloc: Global, form: Form, text: &[u8]) -> Result<(), AllocError> {
     let calls: Vec<&[u8]> = text.chunks(1).collect(alloc)?;
     for given in 0..=text.len().min(calls.len()) {
         let due = after(alloc, &Ucd, form, 0, &text[..given])?;
-        let fault = due.answer.err().unwrap_or(Fault::Read);
-        let refused = usize::from(fault == Fault::Read);
-
-        let mut source = Pieces::new(&calls.as_slice()[..given], true);
-        let mut sink = Kept::new(alloc);
-        assert_eq!(rt; run(&Ucd, form, 0, &mut source, &mut sink), Err(fault));
-        assert_eq!(rt; sink.bytes.as_slice(), due.written.as_bytes());
-        assert_eq!(rt; source.refused, refused);
-
-        let mut source = Pieces::new(&calls.as_slice()[..given], true);
-        let mut sink = Kept::new(alloc);
-        assert_eq!(rt; drive(fast(rt, form), &mut source, &mut sink), Err(fault));
-        assert_eq!(rt; sink.bytes.as_slice(), due.written.as_bytes());
-        assert_eq!(rt; source.refused, refused);
-
-        let mut source = Pieces::new(&calls.as_slice()[..given], true);
-        assert_eq!(rt; measure(&Ucd, 0, &mut source).err(), Some(fault));
-        assert_eq!(rt; source.refused, refused);
+        check_read(rt, alloc, form, &calls.as_slice()[..given], &due);
     }
     Ok(())
+}
+
+/// What the source gave has been settled. A bad byte is told before, and nothing is asked for behind it.
+fn check_read(rt: &impl Abort, alloc: Global, form: Form, calls: &[&[u8]], due: &Due) {
+    let fault = due.answer.err().unwrap_or(Fault::Read);
+    let refused = usize::from(fault == Fault::Read);
+    for is_fast in [false, true] {
+        let mut source = Pieces::new(&*calls, true);
+        let mut sink = Kept::new(alloc);
+        let answer = if is_fast {
+            drive(fast(rt, form), &mut source, &mut sink)
+        } else {
+            run(&Ucd, form, 0, &mut source, &mut sink)
+        };
+        assert_eq!(rt; (answer, source.refused), (Err(fault), refused));
+        assert_eq!(rt; sink.bytes.as_slice(), due.written.as_bytes());
+    }
+    let mut source = Pieces::new(calls, true);
+    assert_eq!(rt; measure(&Ucd, 0, &mut source).err(), Some(fault));
+    assert_eq!(rt; source.refused, refused);
 }
 
 /// The mark with which a run is too long is the 63rd byte: before it a failed read is told, and behind it nothing is read.
@@ -261,37 +275,6 @@ fn a_letter_with_two_joiners_is_counted(rt: HostRuntime) -> Result<(), Fail> {
             let mut sink = Kept::with_calls(alloc, 127, 1);
             let answer = filtered(&rt, way, form, &[text.as_slice()], &mut sink);
             assert_eq!(rt; (answer, sink.bytes.len()), (Ok(tally), 127));
-        }
-    }
-    Ok(())
-}
-
-/// One byte, two, and so on: up to the most that is asked for.
-#[test]
-fn a_source_gives_more_at_every_call(rt: HostRuntime) -> Result<(), Fail> {
-    let alloc = rt.alloc();
-    for text in [
-        ("a\u{301}", 9000),
-        ("q\u{301}\u{316}\u{E9}", 3000),
-        ("\u{1112}\u{1161}\u{11AB}", 2000),
-        ("\u{FDFA}\u{6F22}\u{FF9E}", 2000),
-    ] {
-        let text = bytes_of(alloc, (&[text], b""))?;
-        let mut pieces: Vec<&[u8]> = Vec::new(alloc);
-        let mut rest = text.as_slice();
-        for len in 1..=4096usize {
-            let (piece, behind) = rest.split_at(len.min(rest.len()));
-            pieces.push(piece)?;
-            rest = behind;
-        }
-        for form in FORMS {
-            let due = course_of(alloc, &Patched::new(&[]), form, &[text.as_slice()])?;
-            for way in WAYS {
-                let mut sink = Kept::with_step(alloc, usize::MAX, 1);
-                let answer = filtered(&rt, way, form, pieces.as_slice(), &mut sink);
-                assert_eq!(rt; answer, due.answer, "{way:?} {form:?}");
-                assert!(rt; sink.bytes == due.written, "{way:?} {form:?}");
-            }
         }
     }
     Ok(())
