@@ -1,6 +1,7 @@
 #!/usr/bin/env bash
 # Builds the examples over the library and runs them: bash examples/run.sh [PROGRAM]. Where a program nfstream is named, the
-# C filter's output is compared with the program's. Needs gcc and python3.
+# C filter's output is compared with the program's. Needs gcc and python3; the filter in Rust is left out where there is no
+# rustc.
 set -euo pipefail
 cd "$(dirname "$0")/.."
 program=${1:-}
@@ -13,6 +14,11 @@ gcc "${strict[@]}" -DCAT_IN=7 -DCAT_OUT=256 examples/cat.c "$folder/libnfstream.
 gcc "${strict[@]}" -DCAT_WHOLE -DCAT_IN=16777216 -DCAT_OUT=67108864 examples/cat.c "$folder/libnfstream.a" -o "$folder/whole"
 gcc "${strict[@]}" -g -fsanitize=address,undefined examples/small.c "$folder/libnfstream.a" -o "$folder/small"
 gcc -shared -o "$folder/libnfstream.so" -Wl,--whole-archive "$folder/libnfstream.a" -Wl,--no-whole-archive
+filters=(tiny whole)
+if command -v rustc > /dev/null; then
+    rustc --edition 2021 -O -D warnings -L "$folder" -l static=nfstream examples/cat.rs -o "$folder/rust"
+    filters+=(rust)
+fi
 "$folder/small"
 python3 examples/state.py "$folder/libnfstream.so"
 
@@ -35,14 +41,14 @@ PYTHON
 for text in "$folder/own.txt" "$folder/made.txt"; do
     for form in nfc nfd nfkc nfkd; do
         "$folder/cat" $form < "$text" > "$folder/one"
-        "$folder/tiny" $form < "$text" > "$folder/two"
-        cmp "$folder/one" "$folder/two"
-        "$folder/whole" $form < "$text" > "$folder/two"
-        cmp "$folder/one" "$folder/two"
+        for filter in "${filters[@]}"; do
+            "$folder/$filter" $form < "$text" > "$folder/two"
+            cmp "$folder/one" "$folder/two"
+        done
         if [ -n "$program" ]; then
             "$program" convert --form $form < "$text" > "$folder/three"
             cmp "$folder/one" "$folder/three"
         fi
     done
-    echo "$(basename "$text"): $(wc -c < "$text") bytes, four forms${program:+, as the program gives them}"
+    echo "$(basename "$text"): $(wc -c < "$text") bytes, four forms, by cat and ${filters[*]}${program:+, as the program gives them}"
 done
