@@ -54,7 +54,8 @@ struct nf_state {
   uint8_t spent;
 };
 
-/* What a call read and wrote, and the place of a fault, in bytes from the base. */
+/* What a call read and wrote, and the place of a fault, in bytes from the base. Behind the first `written` bytes of `out` a
+ * call may leave anything: what found no room was tried there. */
 struct nf_moved {
   size_t read;
   size_t written;
@@ -74,7 +75,7 @@ uint32_t nf_start(struct nf_state *state, uint32_t form, uint32_t policy, uint64
 uint32_t nf_feed(struct nf_state *state, const uint8_t *in, size_t in_len, uint8_t *out, size_t out_len,
                  struct nf_moved *moved);
 
-/* Writes the rest of the form, at the text's end, after which the state is spent. At NF_FULL nothing was written, and the
+/* Writes the rest of the form, at the text's end, after which the state is spent. At NF_FULL `written` is 0, and the
  * state is as it was. */
 uint32_t nf_finish(struct nf_state *state, uint8_t *out, size_t out_len, struct nf_moved *moved);
 
