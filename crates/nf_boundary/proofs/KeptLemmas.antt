@@ -108,16 +108,3 @@ module _ (f : Form) (text : List ℕ) where
     ]);
     behind = more.behind;
   }
-
-  pub stands_more : (first next : Seen) → Stands f text first → Stands f first.text.now next → Stands f text next
-  stands_more first next here more =
-      elim more.form [
-        | inl none ↦ record {
-          front = here.front;
-          split = here.split ∙ ap (λ k. here.front ++ k) (more.split ∙ ap (λ k. k ++ next.text.now) none);
-          utf8 = here.utf8;
-          form = here.form;
-          behind = more.behind;
-        }
-        | inr form ↦ stands_kept first next here (record { front = more.front; split = more.split; utf8 = more.utf8; form = form; behind = more.behind })
-      ]

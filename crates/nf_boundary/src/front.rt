@@ -10,6 +10,7 @@ use crate::closed::{Closed, Formed};
 use crate::composing::compose_cluster;
 use crate::hangul::take_syllable;
 use crate::kept::keep_halfwidth;
+use crate::lone::{may_begin_syllable, take_lone};
 use crate::seen::Seen;
 use nf_calm::calm_front;
 use nf_facts::laws;
@@ -60,9 +61,6 @@ fn own_part(form: Form, text: &str) -> Option<Seen<'_>>
     let mut next = calm_part(form, text)?;
     while let Some(behind) = keep_halfwidth(form, next) {
         next = behind;
-        if let Some(further) = calm_part(form, behind.text) {
-            next = further;
-        }
     }
     Some(next)
 }
@@ -94,6 +92,11 @@ fn take_cluster<'t>(form: Form, first: Seen<'t>, formed: &mut Formed) -> Option<
 {
     if !form.composes() {
         return take_apart(form, first, formed);
+    }
+    if may_begin_syllable(first.behind)
+        && let Some(next) = take_lone(form, first, formed)
+    {
+        return Some(next);
     }
     match take_syllable(form, first, formed) {
         Some(next) => Some(next),

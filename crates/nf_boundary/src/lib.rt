@@ -10,6 +10,7 @@ mod composing;
 mod front;
 mod hangul;
 mod kept;
+mod lone;
 mod seen;
 
 pub use closed::{Closed, Formed};
