@@ -12,16 +12,16 @@ use Rattle.nf_forms.specs.Forms.{composes}
 use Rattle.nf_forms.specs.Compose.{composite, joined}
 use Rattle.nf_forms.specs.Calm.{IsMark}
 use Rattle.nf_forms.specs.Closed.{BeginsAtBoundary}
-use Rattle.nf_forms.specs.Cluster.{IsOwnRow, blocks, IsCluster}
+use Rattle.nf_forms.specs.Cluster.{IsOwnRow, blocks, AreClusters}
 use Rattle.nf_forms.specs.Ucd.{ucd}
-use Rattle.nf_forms.specs.Laws.Cluster.{cluster-joined, cluster-left, HasForm-cluster}
+use Rattle.nf_forms.specs.Laws.Cluster.{cluster-joined, cluster-left, cluster-next, HasForm-cluster}
 use Rattle.nf_forms.specs.Laws.Sound.{IsSoundText}
 use Rattle.nf_facts.specs.KitForm.{kit_form}
 use Rattle.nf_boundary.specs.declared.seen.Seen.{Seen}
 use Rattle.nf_boundary.specs.declared.cluster.Cluster.{Cluster}
 use Rattle.nf_boundary.specs.Seen.{Sees, IsAtBoundary}
 use Rattle.nf_boundary.specs.Pieces.{Closes}
-use Rattle.nf_boundary.specs.Joins.{IsMadeOf, JoinsFront, Gathers}
+use Rattle.nf_boundary.specs.Joins.{AreMadeOf, JoinsFront, Joins, Gathers}
 use Rattle.nf_boundary.proofs.PieceLemmas.{IsUtf8-before}
 use Rattle.nf_boundary.proofs.SeenLemmas.{chars-seen}
 
@@ -30,7 +30,7 @@ unfolding ucd
 class_of c = refl
 
 -- what `joined` is, by what blocks c
-module _ (cs : List ℕ) (cluster : Cluster) (here : IsMadeOf cs cluster) (c : ℕ) where
+module _ (done cs : List ℕ) (cluster : Cluster) (here : AreMadeOf done cs cluster) (c : ℕ) where
   joined_by : (b : Bool) → blocks ucd cluster.left.items cluster.highest c ≡ b → joined ucd cluster.starter cluster.left.items c ≡ cond b None (composite ucd cluster.starter c)
   joined_by b e = ap (λ t. cond t None (composite ucd cluster.starter c)) (here.blocked c ∙ e)
 
@@ -61,7 +61,7 @@ module _ (f : Form) (seen : Seen) (sees : Sees f seen) where
         record { canonical = mark.canonical; compat = mark.compat }
   ]
 
-  module _ (cs : List ℕ) (cluster : Cluster) (here : IsMadeOf cs cluster) (own : IsOwnRow ucd seen.character) (follows : (cluster.last ≤ seen.class) ⊎ (seen.class ≡ 0)) (room : cluster.count < 30) where
+  module _ (done cs : List ℕ) (cluster : Cluster) (here : AreMadeOf done cs cluster) (own : IsOwnRow ucd seen.character) (follows : (cluster.last ≤ seen.class) ⊎ (seen.class ≡ 0)) (room : cluster.count < 30) where
     class_is : ucd.class seen.character ≡ seen.class
     class_is = class_of seen.character ∙ sym sees.class
 
@@ -69,40 +69,55 @@ module _ (f : Form) (seen : Seen) (sees : Sees f seen) where
     in_order = subst (λ k. (cluster.last ≤ k) ⊎ (k ≡ 0)) (sym class_is) follows
 
     pub made_joined : (d : ℕ) → joined ucd cluster.starter cluster.left.items seen.character ≡ Some d
-        → IsCluster ucd (cs ++ seen.character ∷ []) d cluster.left.items seen.class cluster.highest (cluster.count + 1)
+        → AreClusters ucd done (cs ++ seen.character ∷ []) d cluster.left.items seen.class cluster.highest (cluster.count + 1)
     made_joined d both =
-        subst (λ k. IsCluster ucd (cs ++ seen.character ∷ []) d cluster.left.items k cluster.highest (cluster.count + 1)) class_is
+        subst (λ k. AreClusters ucd done (cs ++ seen.character ∷ []) d cluster.left.items k cluster.highest (cluster.count + 1)) class_is
         (cluster-joined ucd cs cluster.starter cluster.left.items cluster.last cluster.highest cluster.count here seen.character own in_order room d both)
 
     pub made_left : seen.class ≢ 0 → joined ucd cluster.starter cluster.left.items seen.character ≡ None
-        → IsCluster ucd (cs ++ seen.character ∷ []) cluster.starter (cluster.left.items ++ seen.character ∷ []) seen.class seen.class (cluster.count + 1)
+        → AreClusters ucd done (cs ++ seen.character ∷ []) cluster.starter (cluster.left.items ++ seen.character ∷ []) seen.class seen.class (cluster.count + 1)
     made_left mark none =
-        subst (λ k. IsCluster ucd (cs ++ seen.character ∷ []) cluster.starter (cluster.left.items ++ seen.character ∷ []) k k (cluster.count + 1)) class_is
+        subst (λ k. AreClusters ucd done (cs ++ seen.character ∷ []) cluster.starter (cluster.left.items ++ seen.character ∷ []) k k (cluster.count + 1)) class_is
         (cluster-left ucd cs cluster.starter cluster.left.items cluster.last cluster.highest cluster.count here seen.character own in_order room
         (ne_eqb (ucd.class seen.character) 0 (λ e. mark (sym class_is ∙ e))) none)
+
+    pub made_next : seen.class ≡ 0 → joined ucd cluster.starter cluster.left.items seen.character ≡ None
+        → AreClusters ucd (done ++ cluster.starter ∷ cluster.left.items) (cs ++ seen.character ∷ []) seen.character [] 0 cluster.highest 1
+    made_next starter none =
+        let class = class_is ∙ starter in
+        subst (λ k. AreClusters ucd (done ++ cluster.starter ∷ cluster.left.items) (cs ++ seen.character ∷ []) seen.character [] k cluster.highest 1) class
+        (cluster-next ucd cs cluster.starter cluster.left.items cluster.last cluster.highest cluster.count here seen.character own in_order room (eq-eqb (ucd.class seen.character) 0 class) none)
+
+-- a character that joins, so that nothing is appended
+pub joins_kept : (c : ℕ) (old new : Cluster) (before after : List ℕ) → after ≡ before → ((done cs : List ℕ) → AreMadeOf done cs old → AreMadeOf done (cs ++ c ∷ []) new) → Joins c old new before after
+joins_kept c old new before after same joins = record {
+  more = [];
+  formed = same ∙ sym (append-nil before);
+  joins = λ done cs made. subst (λ k. AreMadeOf k (cs ++ c ∷ []) new) (sym (append-nil done)) (joins done cs made);
+}
 
 -- ---- Hangul letters
 
 -- a letter that composes, where no mark is left
-pub made_letter : (cs : List ℕ) (cluster : Cluster) → IsMadeOf cs cluster → (c : ℕ) → IsOwnRow ucd c → canonical_combining_class c ≡ 0 → cluster.count < 30 → length cluster.left.items ≡ 0
-    → (d : ℕ) → composite ucd cluster.starter c ≡ Some d → IsCluster ucd (cs ++ c ∷ []) d cluster.left.items 0 cluster.highest (cluster.count + 1)
-made_letter cs cluster here c own starter room none d both =
+pub made_letter : (done cs : List ℕ) (cluster : Cluster) → AreMadeOf done cs cluster → (c : ℕ) → IsOwnRow ucd c → canonical_combining_class c ≡ 0 → cluster.count < 30 → length cluster.left.items ≡ 0
+    → (d : ℕ) → composite ucd cluster.starter c ≡ Some d → AreClusters ucd done (cs ++ c ∷ []) d cluster.left.items 0 cluster.highest (cluster.count + 1)
+made_letter done cs cluster here c own starter room none d both =
     let class = class_of c ∙ starter in
-    subst (λ k. IsCluster ucd (cs ++ c ∷ []) d cluster.left.items k cluster.highest (cluster.count + 1)) class
-    (cluster-joined ucd cs cluster.starter cluster.left.items cluster.last cluster.highest cluster.count here c own (inr class) room d (joined_none cs cluster here c none ∙ both))
+    subst (λ k. AreClusters ucd done (cs ++ c ∷ []) d cluster.left.items k cluster.highest (cluster.count + 1)) class
+    (cluster-joined ucd cs cluster.starter cluster.left.items cluster.last cluster.highest cluster.count here c own (inr class) room d (joined_none done cs cluster here c none ∙ both))
 
-pub joins_letter : (text rest : List ℕ) (old new : Cluster) (c : ℕ) → IsUtf8 text → IsUtf8 rest → text ≡ encode_utf8 c ++ rest → ((cs : List ℕ) → IsMadeOf cs old → IsMadeOf (cs ++ c ∷ []) new) → JoinsFront text rest old new
+pub joins_letter : (text rest : List ℕ) (old new : Cluster) (c : ℕ) → IsUtf8 text → IsUtf8 rest → text ≡ encode_utf8 c ++ rest → ((done cs : List ℕ) → AreMadeOf done cs old → AreMadeOf done (cs ++ c ∷ []) new) → JoinsFront text rest old new
 joins_letter text rest old new c whole behind e joins =
     let u = IsUtf8-before text (encode_utf8 c) rest whole behind e in
     let one = chars_past_char (encode_utf8 c) [] c u (sym (append-nil (encode_utf8 c))) ∙ ap (λ t. c ∷ t) chars-nil in
-    record { front = encode_utf8 c; split = e; utf8 = u; joins = λ cs made. subst (λ k. IsMadeOf (cs ++ k) new) (sym one) (joins cs made) }
+    record { front = encode_utf8 c; split = e; utf8 = u; joins = λ done cs made. subst (λ k. AreMadeOf done (cs ++ k) new) (sym one) (joins done cs made) }
 
 pub joins_none : (text : List ℕ) (cluster : Cluster) → JoinsFront text text cluster cluster
 joins_none text cluster = record {
   front = [];
   split = refl;
   utf8 = IsUtf8-nil;
-  joins = λ cs made. subst (λ k. IsMadeOf k cluster) (sym (ap (λ k. cs ++ k) chars-nil ∙ append-nil cs)) made;
+  joins = λ done cs made. subst (λ k. AreMadeOf done k cluster) (sym (ap (λ k. cs ++ k) chars-nil ∙ append-nil cs)) made;
 }
 
 pub joins_both : (text middle rest : List ℕ) (a b c : Cluster) → JoinsFront text middle a b → JoinsFront middle rest b c → JoinsFront text rest a c
@@ -110,9 +125,9 @@ joins_both text middle rest a b c first second = record {
   front = first.front ++ second.front;
   split = first.split ∙ ap (λ k. first.front ++ k) second.split ∙ sym (append_assoc first.front second.front rest);
   utf8 = IsUtf8-append first.front second.front first.utf8 second.utf8;
-  joins = λ cs made.
-      subst (λ k. IsMadeOf k c) (append_assoc cs (chars first.front) (chars second.front) ∙ ap (λ k. cs ++ k) (sym (chars-append first.front second.front first.utf8)))
-      (second.joins (cs ++ chars first.front) (first.joins cs made));
+  joins = λ done cs made.
+      subst (λ k. AreMadeOf done k c) (append_assoc cs (chars first.front) (chars second.front) ∙ ap (λ k. cs ++ k) (sym (chars-append first.front second.front first.utf8)))
+      (second.joins done (cs ++ chars first.front) (first.joins done cs made));
 }
 
 -- ---- the characters from one boundary to the next
@@ -131,14 +146,15 @@ module _ (f : Form) (first : Seen) (at : IsAtBoundary f first) where
       let head : at.begins.first ≡ first.character = cc in
       record { first = at.begins.first; rest = []; text = chars-one first at.sees ∙ ap (λ k. k ∷ []) (sym head); boundary = at.begins.boundary; sound = at.begins.sound }
 
-  pub gathers_first : (one cluster : Cluster) (next : Seen) (rest : List ℕ) → IsMadeOf (first.character ∷ []) one → JoinsFront first.behind.now rest one cluster → next.text.now ≡ rest → Sees f next
-      → Gathers f first next cluster
-  gathers_first one cluster next rest made letters is sees =
+  pub gathers_first : (one cluster : Cluster) (next : Seen) (rest formed : List ℕ) → AreMadeOf [] (first.character ∷ []) one → JoinsFront first.behind.now rest one cluster → next.text.now ≡ rest → Sees f next
+      → Gathers f first next cluster formed formed
+  gathers_first one cluster next rest formed made letters is sees =
       let letter = encode_utf8 first.character in
       let u = char_utf8 first at.sees in
       let grown = chars-append letter letters.front u ∙ ap (λ k. k ++ chars letters.front) (chars-one first at.sees) in
       record {
         front = letter ++ letters.front;
+        done = [];
         split = at.sees.text ∙ ap (λ k. letter ++ k) (letters.split ∙ ap (λ k. letters.front ++ k) (sym is)) ∙ sym (append_assoc letter letters.front next.text.now);
         utf8 = IsUtf8-append letter letters.front u letters.utf8;
         begins = record {
@@ -149,17 +165,19 @@ module _ (f : Form) (first : Seen) (at : IsAtBoundary f first) where
           sound = begins_one.sound;
         };
         sees = sees;
-        made = subst (λ k. IsMadeOf k cluster) (sym grown) (letters.joins (first.character ∷ []) made);
+        formed = sym (append-nil formed);
+        made = subst (λ k. AreMadeOf [] k cluster) (sym grown) (letters.joins [] (first.character ∷ []) made);
       }
 
-  module _ (cluster : Cluster) (seen : Seen) (here : Gathers f first seen cluster) where
-    pub gathers_more : (cluster' : Cluster) (next : Seen) → ((cs : List ℕ) → IsMadeOf cs cluster → IsMadeOf (cs ++ seen.character ∷ []) cluster') → next.text.now ≡ seen.behind.now → Sees f next
-        → Gathers f first next cluster'
-    gathers_more cluster' next joins is sees =
+  module _ (cluster : Cluster) (seen : Seen) (old new : List ℕ) (here : Gathers f first seen cluster old new) where
+    pub gathers_more : (cluster' : Cluster) (next : Seen) (new' : List ℕ) → Joins seen.character cluster cluster' new new' → next.text.now ≡ seen.behind.now → Sees f next
+        → Gathers f first next cluster' old new'
+    gathers_more cluster' next new' more is sees =
         let letter = encode_utf8 seen.character in
         let grown = chars-append here.front letter here.utf8 ∙ ap (λ k. chars here.front ++ k) (chars-one seen here.sees) in
         record {
           front = here.front ++ letter;
+          done = here.done ++ more.more;
           split = here.split ∙ ap (λ k. here.front ++ k) (here.sees.text ∙ ap (λ k. letter ++ k) (sym is)) ∙ sym (append_assoc here.front letter next.text.now);
           utf8 = IsUtf8-append here.front letter here.utf8 (char_utf8 seen here.sees);
           begins = record {
@@ -170,16 +188,17 @@ module _ (f : Form) (first : Seen) (at : IsAtBoundary f first) where
             sound = here.begins.sound;
           };
           sees = sees;
-          made = subst (λ k. IsMadeOf k cluster') (sym grown) (joins (chars here.front) here.made);
+          formed = more.formed ∙ ap (λ k. k ++ more.more) here.formed ∙ append_assoc old here.done more.more;
+          made = subst (λ k. AreMadeOf (here.done ++ more.more) k cluster') (sym grown) (more.joins here.done (chars here.front) here.made);
         }
 
-    pub gathers_closed : composes f ≡ true → ((x : List ℕ) → IsSoundText ucd x) → IsAtBoundary f seen → (old new : List ℕ) → new ≡ old ++ cluster.starter ∷ cluster.left.items → Closes f first.text.now seen old new
-    gathers_closed composing sound behind old new formed = record {
+    pub gathers_closed : composes f ≡ true → ((x : List ℕ) → IsSoundText ucd x) → IsAtBoundary f seen → (new' : List ℕ) → new' ≡ new ++ cluster.starter ∷ cluster.left.items → Closes f first.text.now seen old new'
+    gathers_closed composing sound behind new' formed = record {
       piece = here.front;
-      more = cluster.starter ∷ cluster.left.items;
+      more = here.done ++ cluster.starter ∷ cluster.left.items;
       split = here.split;
       utf8 = here.utf8;
       form = HasForm-cluster ucd f composing (chars here.front) cluster.starter cluster.left.items cluster.last cluster.highest cluster.count here.made here.begins (sound (chars here.front));
-      formed = formed;
+      formed = formed ∙ ap (λ k. k ++ cluster.starter ∷ cluster.left.items) here.formed ∙ append_assoc old here.done (cluster.starter ∷ cluster.left.items);
       behind = behind;
     }

@@ -31,14 +31,14 @@ impl Cluster {
     ghost use Rattle.nf_forms.specs.Ucd.{ucd};
     ghost use Rattle.nf_forms.specs.Compose.{joined};
     ghost use Rattle.nf_boundary.specs.Seen.{Sees};
-    ghost use Rattle.nf_boundary.specs.Joins.{IsMadeOf, JoinsFront};
+    ghost use Rattle.nf_boundary.specs.Joins.{AreMadeOf, JoinsFront, Joins};
 
     /// A starter alone.
     #[inline(always)]
     pub fn new(starter: char) -> Cluster
         requires class { canonical_combining_class starter ≡ 0 }
         requires own { quick_check Nfkd starter ≡ Yes }
-        ensures { IsMadeOf (starter ∷ []) result }
+        ensures { AreMadeOf [] (starter ∷ []) result }
     {
         laws::what_passes_in_nfkd_is_its_own_row();
         Cluster {
@@ -85,30 +85,35 @@ impl Cluster {
         Some(chars.as_str())
     }
 
-    /// One character more, where it is known what becomes of it: a mark that stands in order, or a starter that composes.
+    /// One character more, where it is known what becomes of it: a mark that stands in order, or a starter. Where that does
+    /// not compose, what the cluster has become is appended, and the next one begins.
     #[inline(always)]
-    pub fn join(&mut self, form: nf_forms::Form, seen: Seen<'_>) -> bool
+    pub fn join(&mut self, form: nf_forms::Form, seen: Seen<'_>, formed: &mut Formed) -> Option<()>
         requires { Sees form seen }
-        ensures { IsTrue result → (cs : List ℕ) → IsMadeOf cs self.old → IsMadeOf (cs ++ seen.entry.character ∷ []) self.new }
+        ensures joins { IsSome result → Joins seen.entry.character self.old self.new formed.old.items formed.new.items }
+        ensures stays { IsNone result → formed.new ≡ formed.old }
     {
         laws::the_quick_check_tells();
         laws::what_passes_in_nfkd_is_its_own_row();
         if seen.answer == QuickCheck::No || self.count >= MAX_RUN || !self.may_follow(seen) {
-            return false;
+            return None;
         }
         match self.composite_with(seen.character, seen.class) {
             Some(composite) => self.starter = composite,
+            None if seen.class == 0 => {
+                self.append_to(formed)?;
+                self.starter = seen.character;
+                self.left.clear();
+                self.count = 0;
+            }
             None => {
-                if seen.class == 0 || self.left.is_full() {
-                    return false;
-                }
-                self.left.push(seen.character);
+                self.left.try_push(seen.character).ok()?;
                 self.highest = seen.class;
             }
         }
         self.last = seen.class;
         self.count += 1;
-        true
+        Some(())
     }
 
     /// A starter that is its own decomposition, or a mark of no smaller class than the last.
@@ -127,7 +132,7 @@ impl Cluster {
     #[inline(always)]
     fn composite_with(&self, c: char, class: u8) -> Option<char>
         requires { class ≡ canonical_combining_class c }
-        ensures { (cs : List ℕ) → IsMadeOf cs self.now → result ≡ joined ucd self.now.starter self.now.left.items c }
+        ensures { (done cs : List ℕ) → AreMadeOf done cs self.now → result ≡ joined ucd self.now.starter self.now.left.items c }
     {
         laws::each_pair_has_a_primary_composite();
         if !self.left.is_empty() && class <= self.highest {

@@ -1,4 +1,4 @@
-ghost use Rattle.std.specs.Prelude.{◌≡◌, true, IfSome, IsNone};
+ghost use Rattle.std.specs.Prelude.{◌≡◌, true, take, length, IfSome, IsNone};
 ghost use Rattle.nf_forms.specs.Forms.{composes};
 ghost use Rattle.nf_boundary.specs.Seen.{IsAtBoundary};
 ghost use Rattle.nf_boundary.specs.Pieces.{Closes};
@@ -22,6 +22,26 @@ pub(crate) fn compose_cluster<'t>(
     ensures closes { IfSome result (λ next. Closes form first.entry.text.now next formed.old.items formed.new.items) }
     ensures stays { IsNone result → formed.new ≡ formed.old }
 {
+    let length = formed.len();
+    let next = append_clusters(form, first, formed);
+    if next.is_none() {
+        formed.truncate(length);
+    }
+    next
+}
+
+/// The same, but some of it may be appended where no boundary comes.
+#[inline(always)]
+fn append_clusters<'t>(
+    form: nf_forms::Form,
+    first: Seen<'t>,
+    formed: &mut Formed,
+) -> Option<Seen<'t>>
+    requires first { IsAtBoundary form first }
+    requires composing { composes form ≡ true }
+    ensures closes { IfSome result (λ next. Closes form first.entry.text.now next formed.old.items formed.new.items) }
+    ensures keeps { IsNone result → take (length formed.old.items) formed.new.items ≡ formed.old.items }
+{
     laws::every_character_is_sound();
     if quick_check(first.character, Form::Nfkd) != QuickCheck::Yes {
         return None;
@@ -33,9 +53,7 @@ pub(crate) fn compose_cluster<'t>(
         return None;
     }
     while !next.is_boundary(form) {
-        if !cluster.join(form, next) {
-            return None;
-        }
+        cluster.join(form, next, formed)?;
         next = Seen::first(form, next.behind)?;
     }
     cluster.append_to(formed)?;

@@ -97,28 +97,78 @@ fn syllables(rt: HostRuntime) -> Result<(), Fail> {
             "\u{D55C}\u{301}",
             "b",
         ),
-        (
-            "",
-            "\u{1112}\u{1161}",
-            "\u{D558}",
-            "\u{1112}\u{1161}\u{1161}b",
-        ),
         ("", "\u{1112}\u{1161}", "\u{D558}", "\u{11A7}b"),
         ("", "\u{1112}\u{1161}", "\u{D558}", "\u{11C3}b"),
-        ("", "\u{1112}\u{1161}", "\u{D558}", "\u{1113}\u{1161}b"),
+        ("", "\u{1112}\u{1161}", "\u{D558}", "\u{1113}b"),
         ("\u{1112}\u{1176}", "\u{1112}\u{1161}", "\u{D558}", "b"),
+    ];
+    check(&rt, rt.alloc(), Form::Nfc, &fronts)?;
+    check(&rt, rt.alloc(), Form::Nfkc, &fronts)
+}
+
+/// A vowel composes with a leading consonant alone, and a trailing consonant with a syllable of two letters that no mark
+/// parts from it: any other is left, and what stands behind it meets it alone. U+11A8 and U+D558 make up U+D559; U+1161 and
+/// U+0301 have no composite. U+09BE composes with U+09C7 alone of these letters.
+#[test]
+fn letters_that_do_not_compose(rt: HostRuntime) -> Result<(), Fail> {
+    let fronts = [
+        ("", "\u{1112}\u{1161}\u{1161}", "\u{D558}\u{1161}", "b"),
+        (
+            "",
+            "\u{1112}\u{1161}\u{11AB}\u{1161}\u{11AB}\u{1112}\u{1161}\u{11A8}\u{11A8}",
+            "\u{D55C}\u{1161}\u{11AB}\u{D559}\u{11A8}",
+            "\u{1112}\u{1161}",
+        ),
+        (
+            "",
+            "\u{1112}\u{1161}\u{301}\u{11AB}\u{301}",
+            "\u{D558}\u{301}\u{11AB}\u{301}",
+            "b",
+        ),
+        ("", "\u{1112}\u{11AB}", "\u{1112}\u{11AB}", "b"),
+        ("", "a\u{1161}\u{11AB}", "a\u{1161}\u{11AB}", "b"),
+        (
+            "",
+            "a\u{301}\u{1161}\u{327}\u{301}e\u{301}",
+            "\u{E1}\u{1161}\u{327}\u{301}\u{E9}",
+            "b",
+        ),
+        (
+            "",
+            "\u{995}\u{9BE}\u{9C7}\u{9BE}\u{9BE}",
+            "\u{995}\u{9BE}\u{9CB}\u{9BE}",
+            "\u{995}",
+        ),
     ];
     check(&rt, rt.alloc(), Form::Nfc, &fronts)?;
     check(&rt, rt.alloc(), Form::Nfkc, &fronts)?;
     let texts = [
-        "\u{1112}\u{1161}\u{1161}b",
-        "\u{1112}\u{1161}\u{11AB}\u{1161}b",
-        "\u{1112}\u{1161}\u{11AB}\u{11AB}b",
-        "\u{1112}\u{1161}\u{301}\u{11AB}b",
-        "\u{1112}\u{11AB}b",
+        "\u{1161}\u{1161}b",
+        "\u{1112}\u{1161}\u{1161}",
+        "a\u{1161}\u{301}\u{327}b",
+        "a\u{301}\u{1161}\u{344}b",
     ];
     check_none(&rt, Form::Nfc, &texts);
     check_none(&rt, Form::Nfkc, &texts);
+    Ok(())
+}
+
+/// As many as there is room for, or the front ends before them. With each letter a new run of marks begins.
+#[test]
+fn letters_up_to_the_room(rt: HostRuntime) -> Result<(), Fail> {
+    let vowels = "\u{1161}".repeat(rt.alloc(), 30)?;
+    let text = format!(in rt.alloc(); "a{vowels}b")?;
+    assert_eq!(rt; checked(&rt, rt.alloc(), Form::Nfc, &text)?, Some("b"));
+    let text = format!(in rt.alloc(); "e\u{301}a{vowels}b")?;
+    let behind = format!(in rt.alloc(); "a{vowels}b")?;
+    assert_eq!(rt;
+        checked(&rt, rt.alloc(), Form::Nfc, &text)?,
+        Some(behind.as_str())
+    );
+    let text = format!(in rt.alloc(); "a{vowels}\u{1161}b")?;
+    assert_eq!(rt; is_none(Form::Nfc, &text), true);
+    let text = format!(in rt.alloc(); "b{TWELVE}\u{1161}{TWELVE}c")?;
+    assert_eq!(rt; checked(&rt, rt.alloc(), Form::Nfc, &text)?, Some("c"));
     Ok(())
 }
 
@@ -182,7 +232,6 @@ fn none(rt: HostRuntime) {
             "\u{EA}\u{323}t",
             "a\u{301}\u{323}b",
             "a\u{344}b",
-            "a\u{1161}b",
         ],
     );
     check_none(

@@ -2,7 +2,7 @@
 -- composition (The Unicode Standard, section 3.11, D115 to D117).
 use Rattle.std.specs.Prelude.{◌≡◌, ◌≤◌, ℕ, nat_le, Bool, true, false, not, ◌&&◌, ◌==◌, List, [], ◌∷◌, ◌++◌, length}
 use Rattle.nf_forms.specs.Properties.{Properties, is_starter}
-use Rattle.nf_forms.specs.Runs.{has_starter}
+use Rattle.nf_forms.specs.Runs.{has_starter, trail}
 use Rattle.nf_forms.specs.Ordering.{is_ordered}
 use Rattle.nf_forms.specs.Compose.{is_blocked, compose}
 use Rattle.nf_forms.specs.declared.form.Form.{Form}
@@ -18,13 +18,14 @@ pub record IsOwnRow (p : Properties) (c : ℕ) : Type 0 where
 abbrev pub blocks : Properties → List ℕ → ℕ → ℕ → Bool
 blocks p left highest c = not (length left == 0) && nat_le (p.class c) highest
 
--- the first `count` characters of a cluster have become a starter and the marks that are left behind it; the last of
--- them is of class `last`, and `highest` is the greatest class of a mark that is left
-pub record IsCluster (p : Properties) (cs : List ℕ) (starter : ℕ) (left : List ℕ) (last highest count : ℕ) : Type 0 where
+-- clusters, one behind the other, have become `done`, and behind it a starter and the marks that are left: the last cluster.
+-- `last` is the class of the last character, `highest` the greatest class of a mark that is left, and no more than `count`
+-- non-starters come last
+pub record AreClusters (p : Properties) (done cs : List ℕ) (starter : ℕ) (left : List ℕ) (last highest count : ℕ) : Type 0 where
   pub rows : (f : Form) → decomposed f p cs ≡ cs
   pub safe : stream_safe p cs ≡ cs
   pub ordered : is_ordered p cs ≡ true
-  pub composed : compose p cs ≡ starter ∷ left
+  pub composed : compose p cs ≡ done ++ starter ∷ left
   pub starts : is_starter p starter ≡ true
   pub no_starter : has_starter p left ≡ false
   pub blocked : (c : ℕ) → is_blocked p left c ≡ blocks p left highest c
@@ -33,4 +34,8 @@ pub record IsCluster (p : Properties) (cs : List ℕ) (starter : ℕ) (left : Li
   pub end : ℕ
   pub text : cs ≡ before ++ end ∷ []
   pub class : p.class end ≡ last
-  pub long : length cs ≡ count
+  pub run : trail p cs ≤ count
+
+-- one cluster
+abbrev pub IsCluster : Properties → List ℕ → ℕ → List ℕ → ℕ → ℕ → ℕ → Type 0
+IsCluster p cs starter left last highest count = AreClusters p [] cs starter left last highest count

@@ -1,4 +1,4 @@
--- A cluster of a starter and what may compose with it: one character alone, one more, and its form.
+-- A cluster of a starter and what may compose with it: one character alone, one more, the next cluster, and the form.
 use Rattle.std.proofs.Common.{◌≡◌, ℕ, ◌≤◌, ◌<◌, ◌+◌, ◌⊎◌, ⊎_elim, inl, inr, Bool, true, false, not, ◌&&◌, ◌||◌, ◌==◌, nat_le, nat_lt, cond, List, [], ◌∷◌, ◌++◌, length, Some, None, refl, sym, ap, ◌∙◌, arith, append-nil, append_assoc, length-append, le-leb, le-ltb, leb-true, eq-eqb, true≢false}
 use Rattle.std.proofs.lemmas.Bool.{and_from, and_parts, eqb-true, ne_eqb}
 use Rattle.std.proofs.lemmas.List.Folds.{list_any-append}
@@ -11,8 +11,8 @@ use Rattle.nf_forms.specs.declared.form.Form.TheVariants.{Nfc, Nfd, Nfkc, Nfkd}
 use Rattle.nf_forms.specs.Forms.{row_of, composes, arranged}
 use Rattle.nf_forms.specs.StreamSafe.{max_run, safe_step}
 use Rattle.nf_forms.specs.Closed.{BeginsAtBoundary, HasForm}
-use Rattle.nf_forms.specs.Cluster.{IsOwnRow, blocks, IsCluster}
-use Rattle.nf_forms.specs.Laws.Runs.{trail-le-length}
+use Rattle.nf_forms.specs.Cluster.{IsOwnRow, blocks, AreClusters, IsCluster}
+use Rattle.nf_forms.specs.Laws.Runs.{trail-le-length, trail-push}
 use Rattle.nf_forms.specs.Laws.Front.{marks_push}
 use Rattle.nf_forms.specs.Laws.Ordering.{order-ordered}
 use Rattle.nf_forms.specs.Laws.Compose.{compose-push, compose_step-at, joined-starter}
@@ -73,25 +73,24 @@ module _ (p : Properties) where
     end = c;
     text = refl;
     class = eqb-true (p.class c) 0 starts;
-    long = refl;
+    run = trail-le-length p (c ∷ []);
   }
 
   -- ---- a character more
 
-  module _ (cs : List ℕ) (starter : ℕ) (left : List ℕ) (last highest count : ℕ) (here : IsCluster p cs starter left last highest count)
+  module _ {done : List ℕ} (cs : List ℕ) (starter : ℕ) (left : List ℕ) (last highest count : ℕ) (here : AreClusters p done cs starter left last highest count)
       (c : ℕ) (own : IsOwnRow p c) (follows : (last ≤ p.class c) ⊎ (p.class c ≡ 0)) (room : count < max_run) where
-    joins : compose p (cs ++ c ∷ []) ≡ replaced (joined p starter left c) starter left c
-    joins = compose-push p cs c ∙ ap (λ z. compose_step p z c) here.composed ∙ compose_step-at p [] starter left c here.starts here.no_starter
+    joins : compose p (cs ++ c ∷ []) ≡ done ++ replaced (joined p starter left c) starter left c
+    joins = compose-push p cs c ∙ ap (λ z. compose_step p z c) here.composed ∙ compose_step-at p done starter left c here.starts here.no_starter
 
-    more : (starter' : ℕ) (left' : List ℕ) (highest' : ℕ) → compose p (cs ++ c ∷ []) ≡ starter' ∷ left' → is_starter p starter' ≡ true → has_starter p left' ≡ false
-        → ((x : ℕ) → is_blocked p left' x ≡ blocks p left' highest' x) → ((length left' == 0) ≡ false → highest' ≤ p.class c)
-        → IsCluster p (cs ++ c ∷ []) starter' left' (p.class c) highest' (count + 1)
-    more starter' left' highest' composed starts no_starter blocked within = record {
+    more : (done' : List ℕ) (starter' : ℕ) (left' : List ℕ) (highest' count' : ℕ) → compose p (cs ++ c ∷ []) ≡ done' ++ starter' ∷ left' → is_starter p starter' ≡ true → has_starter p left' ≡ false
+        → ((x : ℕ) → is_blocked p left' x ≡ blocks p left' highest' x) → ((length left' == 0) ≡ false → highest' ≤ p.class c) → trail p (cs ++ c ∷ []) ≤ count'
+        → AreClusters p done' (cs ++ c ∷ []) starter' left' (p.class c) highest' count'
+    more done' starter' left' highest' count' composed starts no_starter blocked within run = record {
       rows = λ f. decomposed-push p f cs c ∙ ap (λ w. w ++ row_of f p c) (here.rows f) ∙ ap (λ row. cs ++ row) (row-own f c own);
       safe =
-          let run = ap (trail p) (here.rows Nfkd) in
-          let few = trail-le-length p cs in
-          let long = here.long in
+          let same = ap (trail p) (here.rows Nfkd) in
+          let few = here.run in
           let begins = ap (lead p) own.compat in
           let one = lead-one c in
           stream_safe-push p cs c ∙ ap (λ o. safe_step p o c) here.safe ∙ safe_step-room p cs c (omega arith);
@@ -107,8 +106,15 @@ module _ (p : Properties) where
       end = c;
       text = refl;
       class = refl;
-      long = length-append cs (c ∷ []) ∙ ap (λ n. n + 1) here.long;
+      run = run;
     }
+
+    longer : trail p (cs ++ c ∷ []) ≤ count + 1
+    longer = next (is_starter p c) (trail-push p cs c)
+      where
+        next : (b : Bool) → trail p (cs ++ c ∷ []) ≡ cond b 0 (trail p cs + 1) → trail p (cs ++ c ∷ []) ≤ count + 1
+        next true e = omega arith
+        next false e = let few = here.run in omega arith
 
     unblocked : (d : ℕ) → joined p starter left c ≡ Some d → blocks p left highest c ≡ false
     unblocked d both = sym (here.blocked c) ∙ next (is_blocked p left c) both
@@ -118,9 +124,9 @@ module _ (p : Properties) where
         next false e = refl
 
     -- it composes
-    pub cluster-joined : (d : ℕ) → joined p starter left c ≡ Some d → IsCluster p (cs ++ c ∷ []) d left (p.class c) highest (count + 1)
+    pub cluster-joined : (d : ℕ) → joined p starter left c ≡ Some d → AreClusters p done (cs ++ c ∷ []) d left (p.class c) highest (count + 1)
     cluster-joined d both =
-        more d left highest (joins ∙ ap (λ o. replaced o starter left c) both) (joined-starter p starter left c d both) here.no_starter here.blocked (λ some. up some follows)
+        more done d left highest (count + 1) (joins ∙ ap (λ o. done ++ replaced o starter left c) both) (joined-starter p starter left c d both) here.no_starter here.blocked (λ some. up some follows) longer
       where
         clash : (a b : Bool) → a ≡ false → b ≡ true → (not a && b) ≡ false → ⊥
         clash true b e f g = cc
@@ -132,11 +138,11 @@ module _ (p : Properties) where
         up some (inr starts) = absurd (clash (length left == 0) (nat_le (p.class c) highest) some (le-leb (p.class c) highest (omega arith)) (unblocked d both))
 
     -- it is a mark, and is left
-    pub cluster-left : is_starter p c ≡ false → joined p starter left c ≡ None → IsCluster p (cs ++ c ∷ []) starter (left ++ c ∷ []) (p.class c) (p.class c) (count + 1)
+    pub cluster-left : is_starter p c ≡ false → joined p starter left c ≡ None → AreClusters p done (cs ++ c ∷ []) starter (left ++ c ∷ []) (p.class c) (p.class c) (count + 1)
     cluster-left mark none =
-        more starter (left ++ c ∷ []) (p.class c) (joins ∙ ap (λ o. replaced o starter left c) none) here.starts (marks_push p left c here.no_starter mark)
+        more done starter (left ++ c ∷ []) (p.class c) (count + 1) (joins ∙ ap (λ o. done ++ replaced o starter left c) none) here.starts (marks_push p left c here.no_starter mark)
         (λ x. list_any-append (λ m. nat_le (p.class x) (p.class m)) left (c ∷ []) ∙ ap (λ b. b || (nat_le (p.class x) (p.class c) || false)) (here.blocked x) ∙ behind x)
-        (λ some. omega arith)
+        (λ some. omega arith) longer
       where
         next : (a b d e : Bool) → e ≡ false → (a ≡ false → b ≡ true → d ≡ true) → ((not a && b) || (d || false)) ≡ (not e && d)
         next true b true true h f = cc
@@ -159,10 +165,16 @@ module _ (p : Properties) where
             (ne_eqb _ 0 (λ none. absurd (omega (arith, length-append left (c ∷ [])))))
             (λ some below. le-leb (p.class x) (p.class c) (omega (arith, up some, leb-true (p.class x) highest below)))
 
+    -- it is a starter that does not compose: the next cluster begins
+    pub cluster-next : is_starter p c ≡ true → joined p starter left c ≡ None → AreClusters p (done ++ starter ∷ left) (cs ++ c ∷ []) c [] (p.class c) highest 1
+    cluster-next starts none =
+        more (done ++ starter ∷ left) c [] highest 1 (joins ∙ ap (λ o. done ++ replaced o starter left c) none ∙ sym (append_assoc done (starter ∷ left) (c ∷ []))) starts refl (λ x. refl) (λ some. cc)
+        (let anew = trail-push p cs c ∙ ap (λ b. cond b 0 (trail p cs + 1)) starts in omega arith)
+
   -- ---- its form
 
-  pub HasForm-cluster : (f : Form) → composes f ≡ true → (cs : List ℕ) (starter : ℕ) (left : List ℕ) (last highest count : ℕ) → IsCluster p cs starter left last highest count
-      → BeginsAtBoundary p f cs → IsSoundText p cs → HasForm p f cs (starter ∷ left)
+  pub HasForm-cluster : {done : List ℕ} (f : Form) → composes f ≡ true → (cs : List ℕ) (starter : ℕ) (left : List ℕ) (last highest count : ℕ) → AreClusters p done cs starter left last highest count
+      → BeginsAtBoundary p f cs → IsSoundText p cs → HasForm p f cs (done ++ starter ∷ left)
   HasForm-cluster f composing cs starter left last highest count here begins sound = record {
     begins = begins;
     sound = sound;

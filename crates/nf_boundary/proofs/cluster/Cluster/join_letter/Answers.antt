@@ -20,7 +20,7 @@ returns-clause-joins c =
     let both : composite ucd self.starter letter ≡ Some c.in_ok-self.field-0 =
     c.each_pair_has_a_primary_composite.ensures self.starter letter ∙ sym c.compose.ensures ∙ c.in_ok-self.was in (
       joins_letter c.args.text.now rest self _ letter c.utf8.text c.as_str.utf8 e
-          (λ cs here. made_letter cs self here letter (c.hangul_letters_are_their_own_rows.ensures.own letter low high) (c.hangul_letters_are_their_own_rows.ensures.starter letter low high) room none
+          (λ done cs here. made_letter done cs self here letter (c.hangul_letters_are_their_own_rows.ensures.own letter low high) (c.hangul_letters_are_their_own_rows.ensures.starter letter low high) room none
           c.in_ok-self.field-0 both),
       omega (arith, ap length e, length-append (encode_utf8 letter) rest, length-encode letter, (len_utf8_bounds letter).0),
     )
