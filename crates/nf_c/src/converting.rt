@@ -10,10 +10,9 @@ use crate::feeding::{Fed, feed_all, is_full};
 use crate::finishing::finish_filter;
 use crate::moved::Moved;
 use crate::packing::{form_of, policy_of};
-use crate::starting::plain;
 use crate::status::Status;
 use nf_filter::{Filter, Policy};
-use nf_row::Form;
+use nf_row::{Form, Ucd};
 use nf_utf8::laws::longest_text;
 
 /// Writes the form of the input, which is a whole text, to the front of the output. Where there is no room for all of it,
@@ -37,7 +36,7 @@ fn convert_text(form: Form, policy: Policy, input: &[u8], output: &mut [u8]) -> 
     ensures { ConvertsText policy form input.now output.new result }
 {
     longest_text();
-    let mut filter = Filter::fast(plain(), form, 0).policy(policy);
+    let mut filter = Filter::quickest(&Ucd, form, 0).policy(policy);
     let fed = feed_all(form, &mut filter, input, output);
     if fed.fault.is_some() {
         return fed;

@@ -29,7 +29,7 @@ pub fn start(state: &mut State, form: u32, policy: u32, base: u64) -> Status
     let Some(policy) = policy_of(policy) else {
         return Status::NoPolicy;
     };
-    let filter = Filter::fast(plain(), form, base).policy(policy);
+    let filter = Filter::quickest(&Ucd, form, base).policy(policy);
     *state = pack(&filter.save());
     Status::Done
 }
@@ -59,8 +59,8 @@ pub fn restored(saved: Saved) -> Filter<'static, Ucd>
     }
 }
 
-/// Unicode's data, of which ASCII is plain.
-pub fn plain() -> Plain<'static, Ucd>
+// Unicode's data, of which ASCII is plain.
+fn plain() -> Plain<'static, Ucd>
     ensures { IsPlainAscii ucd }
 {
     let _known = Ucd.all_ascii_plain();

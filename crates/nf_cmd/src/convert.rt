@@ -3,7 +3,6 @@ ghost use Rattle.std.specs.Prelude.{◌≡◌, ◌⊎◌, []};
 ghost use Rattle.std.specs.Io.KnownBytes.{Keeps};
 ghost use Rattle.nf_forms.specs.Ucd.{ucd};
 ghost use Rattle.nf_filter.specs.declared.fault.Fault.TheVariants.{Spent};
-ghost use Rattle.nf_filter.specs.Filter.{StandsAfter, base_of, state_of};
 ghost use Rattle.nf_filter.specs.Drives.{Drives};
 ghost use Rattle.nf_cmd.specs.Converts.{Converts, Runs, end_of};
 
@@ -11,7 +10,7 @@ use crate::BUFFER;
 use crate::fault::Fault;
 use crate::writing::flush;
 use nf_filter::{Filter, LentReader, LentWriter, Policy, Tally, drive_buffered};
-use nf_row::{Form, Plain, Ucd};
+use nf_row::{Form, Ucd};
 use std::io::{Read, Write};
 
 /// Writes the form of the stream-safe text that the reader gives under the policy, or what had settled before a fault,
@@ -62,21 +61,9 @@ fn filter<I: Read, O: Write>(
     let mut sink = LentWriter::new(out);
     let mut buffer = [0; BUFFER];
     drive_buffered(
-        unused(&Ucd, form, policy),
+        Filter::quickest(&Ucd, form, 0).policy(policy),
         &mut source,
         &mut sink,
         &mut buffer,
     )
-}
-
-// A filter that has taken nothing.
-fn unused<'r>(rows: &'r Ucd, form: Form, policy: Policy) -> Filter<'r, Ucd>
-    ensures base { base_of (state_of result) ≡ 0 }
-    ensures stands { StandsAfter policy form ucd (state_of result) [] }
-{
-    let filter = match Plain::of(rows) {
-        Some(plain) => Filter::fast(plain, form, 0),
-        None => Filter::new(rows, form, 0),
-    };
-    filter.policy(policy)
 }

@@ -93,6 +93,22 @@ impl<'r, R: Rows> Filter<'r, R> {
         }
     }
 
+    /// The quickest of both: as `fast` where the data says that ASCII is plain, else as `new`.
+    pub fn quickest(rows: &'r R, form: Form, base: u64) -> Filter<'r, R>
+        ensures rows { rows_of result ≡ rows.now }
+        ensures base { base_of (state_of result) ≡ base }
+        ensures offset { offset_of (state_of result) ≡ base }
+        ensures unspent { IsFalse (is_spent (state_of result)) }
+        ensures stands { StandsAfter as_is form (R.properties rows.now) (state_of result) [] }
+    {
+        if rows.all_ascii_plain()
+            && let Some(plain) = Plain::of(rows)
+        {
+            return Filter::fast(plain, form, base);
+        }
+        Filter::new(rows, form, base)
+    }
+
     /// The same filter, which has taken no byte yet, under this policy.
     pub fn policy(self, policy: Policy) -> Filter<'r, R>
         requires unspent { IsFalse (is_spent (state_of self)) }

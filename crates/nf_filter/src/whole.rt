@@ -1,9 +1,7 @@
 //! Texts that stand in memory whole.
-ghost use Rattle.std.specs.Prelude.{◌≡◌, [], IfOk, IfErr, OnOk};
+ghost use Rattle.std.specs.Prelude.{◌≡◌, IfOk, IfErr, OnOk};
 ghost use Rattle.std.specs.Result.{result_err};
 ghost use Rattle.nf_filter.specs.declared.fault.Fault.TheVariants.{Write};
-ghost use Rattle.nf_filter.specs.Filter.{rows_of, state_of, base_of, StandsAfter};
-ghost use Rattle.nf_filter.specs.Policy.{as_is};
 ghost use Rattle.nf_filter.specs.Laws.Soundness.{AreSound, RefusesNone};
 ghost use Rattle.nf_filter.specs.Whole.{Converts, IsFormOf, IsOfWhole, whole_answer};
 ghost use Rattle.nf_forms.specs.Twice.{ChangesOnce};
@@ -15,7 +13,7 @@ use crate::filter::Filter;
 use crate::laws::what_was_finished_stays;
 use crate::tally::Tally;
 use crate::to_writer::ToWriter;
-use nf_row::{Form, Plain, Rows};
+use nf_row::{Form, Rows};
 use nf_utf8::laws::longest_text;
 use std::alloc::Global;
 
@@ -36,7 +34,7 @@ pub fn convert<R: Rows, S: Sink>(
     ensures lender { (S.state sink.new).lender ≡ (S.state sink.old).lender }
 {
     what_was_finished_stays();
-    let mut filter = quickest(rows, form);
+    let mut filter = Filter::quickest(rows, form, 0);
     if let Err(fault) = filter.feed(bytes, sink) {
         return Err(fault);
     }
@@ -62,18 +60,4 @@ pub fn converted<R: Rows>(
         Ok(_) => Ok(sink.into_inner()),
         Err(fault) => Err(fault),
     }
-}
-
-// A filter that takes the short ways for ASCII where the data is known to let it.
-fn quickest<R: Rows>(rows: &R, form: Form) -> Filter<'_, R>
-    ensures rows { rows_of result ≡ rows.now }
-    ensures base { base_of (state_of result) ≡ 0 }
-    ensures stands { StandsAfter as_is form (R.properties rows.now) (state_of result) [] }
-{
-    if rows.all_ascii_plain() {
-        if let Some(plain) = Plain::of(rows) {
-            return Filter::fast(plain, form, 0);
-        }
-    }
-    Filter::new(rows, form, 0)
 }

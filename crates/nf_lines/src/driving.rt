@@ -1,8 +1,8 @@
 //! Driving a filter line by line.
-ghost use Rattle.std.specs.Prelude.{◌≡◌, ◌+◌, ◌<◌, ◌++◌, ℕ, List, [], length, IsTrue, IsFalse, OnOk, IfOk, is_ok};
+ghost use Rattle.std.specs.Prelude.{◌≡◌, ◌+◌, ◌<◌, length, IsTrue, IsFalse, OnOk};
 ghost use Rattle.nf_forms.specs.Ucd.{ucd};
 ghost use Rattle.nf_filter.specs.Devices.{SinkState};
-ghost use Rattle.nf_filter.specs.Filter.{rows_of, state_of, base_of, offset_of, is_spent, StandsAfter};
+ghost use Rattle.nf_filter.specs.Filter.{state_of, offset_of, is_spent};
 ghost use Rattle.nf_filter.specs.declared.fault.Fault.TheVariants.{Spent, Read};
 ghost use Rattle.nf_lines.specs.Cut.{EndsInLineFeed};
 ghost use Rattle.nf_lines.specs.Drives.{HasLines, Lines, FeedsLines, DrivesLines};
@@ -10,7 +10,7 @@ ghost use Rattle.nf_lines.specs.Drives.{HasLines, Lines, FeedsLines, DrivesLines
 use crate::cutting::lines_len;
 use crate::laws::lines_stand_alone;
 use nf_filter::{Failed, Fault, Filter, Policy, Sink, Source};
-use nf_row::{Form, Plain, Ucd};
+use nf_row::{Form, Ucd};
 use std::mem;
 
 /// Feeds what the source gives to a new filter, in pieces of at most as many bytes as the buffer has, which is not empty,
@@ -30,7 +30,7 @@ pub fn drive_lines<I: Source, S: Sink>(
     ensures lenders { ((I.state source.new).lender ≡ (I.state source.old).lender) × ((S.state sink.new).lender ≡ (S.state sink.old).lender) }
 {
     lines_stand_alone();
-    let mut filter = fresh(&Ucd, form, policy, 0);
+    let mut filter = Filter::quickest(&Ucd, form, 0).policy(policy);
     loop {
         let given = match source.get(buffer) {
             Ok(given) => given,
@@ -97,23 +97,9 @@ fn end_lines<S: Sink>(
     if let Err(fault) = filter.feed(piece, sink) {
         return Err(fault);
     }
-    let next = fresh(&Ucd, form, policy, filter.offset());
+    let next = Filter::quickest(&Ucd, form, filter.offset()).policy(policy);
     match mem::replace(filter, next).finish(sink) {
         Ok(_) => Ok(()),
         Err(fault) => Err(fault),
     }
-}
-
-// A filter that has taken nothing. The first byte to come has the offset `base`.
-fn fresh<'r>(rows: &'r Ucd, form: Form, policy: Policy, base: u64) -> Filter<'r, Ucd>
-    ensures base { base_of (state_of result) ≡ base }
-    ensures offset { offset_of (state_of result) ≡ base }
-    ensures unspent { IsFalse (is_spent (state_of result)) }
-    ensures stands { StandsAfter policy form ucd (state_of result) [] }
-{
-    let filter = match Plain::of(rows) {
-        Some(plain) => Filter::fast(plain, form, base),
-        None => Filter::new(rows, form, base),
-    };
-    filter.policy(policy)
 }

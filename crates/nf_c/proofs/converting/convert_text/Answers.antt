@@ -8,17 +8,17 @@ pub returns-then-is_some : goal.returns-then-is_some
 returns-then-is_some c =
     let policy = c.args.policy in
     let f = c.args.form in
-    let stands = c.policy-filter.ensures.stands as_is f [] c.fast.ensures.stands in
-    stops_within policy f c.args.input.now _ _ _ c.feed_all-fed.result (c.policy-filter.ensures.base ∙ c.fast.ensures.base) (c.feed_all-fed.ensures.feeds policy f [] stands) (search rules) (c.feed_all-fed.ensures.full policy f [] stands)
+    let stands = c.policy-filter.ensures.stands as_is f [] c.quickest.ensures.stands in
+    stops_within policy f c.args.input.now _ _ _ c.feed_all-fed.result (c.policy-filter.ensures.base ∙ c.quickest.ensures.base) (c.feed_all-fed.ensures.feeds policy f [] stands) (search rules) (c.feed_all-fed.ensures.full policy f [] stands)
 
 pub returns-then-is_full : goal.returns-then-is_full
 returns-then-is_full c =
     let policy = c.args.policy in
     let f = c.args.form in
-    let stands = c.policy-filter.ensures.stands as_is f [] c.fast.ensures.stands in
+    let stands = c.policy-filter.ensures.stands as_is f [] c.quickest.ensures.stands in
     let none : c.feed_all-fed.result.fault ≡ None = search rules in
     let all = c.feed_all-fed.ensures.all none in
-    let base = c.policy-filter.ensures.base ∙ c.fast.ensures.base in
+    let base = c.policy-filter.ensures.base ∙ c.quickest.ensures.base in
     let front = c.feed_all-fed.ensures.feeds policy f [] stands in
     let rest : length c.finish_filter-finished.new.output ≡ length c.feed_all-fed.new.output - c.feed_all-fed.result.written = search rules in
     full_at_end policy f c.args.input.now c.feed_all-fed.new.output _ _ c.feed_all-fed.result base front none all c.finish_filter-finished.new.output c.finish_filter-finished.result rest
@@ -28,10 +28,10 @@ pub returns : goal.returns
 returns c =
     let policy = c.args.policy in
     let f = c.args.form in
-    let stands = c.policy-filter.ensures.stands as_is f [] c.fast.ensures.stands in
+    let stands = c.policy-filter.ensures.stands as_is f [] c.quickest.ensures.stands in
     let none : c.feed_all-fed.result.fault ≡ None = search rules in
     let all = c.feed_all-fed.ensures.all none in
-    let base = c.policy-filter.ensures.base ∙ c.fast.ensures.base in
+    let base = c.policy-filter.ensures.base ∙ c.quickest.ensures.base in
     let front = c.feed_all-fed.ensures.feeds policy f [] stands in
     let rest : length c.finish_filter-finished.new.output ≡ length c.feed_all-fed.new.output - c.feed_all-fed.result.written = search rules in
     let not_full : ¬ (c.finish_filter-finished.result.fault ≡ Some Write) = search rules in

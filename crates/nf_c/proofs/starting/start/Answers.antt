@@ -9,5 +9,5 @@ returns-clause-stands c = λ _. record {
   can = (c.pack.ensures.state, subst IsRestorable (sym c.pack.ensures.saved) c.save.ensures.restorable);
   filter = state_of c.policy-filter.result;
   saved = sym (c.pack.ensures.saved ∙ c.save.ensures.saved);
-  stands = rw (← c.in-Some.ensures.form) (rw (← c.in-Some-policy_of.ensures.policy) (c.policy-filter.ensures.stands as_is _ _ c.fast.ensures.stands));
+  stands = rw (← c.in-Some.ensures.form) (rw (← c.in-Some-policy_of.ensures.policy) (c.policy-filter.ensures.stands as_is _ _ c.quickest.ensures.stands));
 }

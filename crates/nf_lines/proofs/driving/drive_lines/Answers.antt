@@ -2,6 +2,7 @@ use Rattle.std.proofs.Common.{◌∙◌, [], length, take, Ok, Err, refl, sym, s
 use Rattle.std.specs.Io.KnownBytes.{Consumes}
 use Rattle.std.proofs.KnownBytes.{Consumes-kept, Consumes-nil, Consumes-trans}
 use Rattle.nf_forms.specs.Ucd.{ucd}
+use Rattle.nf_filter.specs.Policy.{as_is}
 use Rattle.nf_lines.specs.Drives.{bytes_of}
 use Rattle.nf_lines.proofs.DrivesLemmas.{HasLines-none, drives-stopped, drives-failed, drives-finished, not_long}
 use Rattle.nf_lines.proofs.driving.drive_lines.Goals as goal
@@ -9,8 +10,8 @@ use Rattle.nf_lines.proofs.driving.drive_lines.Goals as goal
 pub loop-given-init : goal.loop-given-init
 loop-given-init g c = record {
   room = refl;
-  unspent = c.fresh-filter.ensures.unspent;
-  read = (record { whole = []; rest = [] }, Consumes-nil (g.I.Source.state c.args.source.now).coming, HasLines-none c.args.policy c.args.form ucd _ _ c.fresh-filter.ensures.stands c.fresh-filter.ensures.base);
+  unspent = search rules;
+  read = (record { whole = []; rest = [] }, Consumes-nil (g.I.Source.state c.args.source.now).coming, HasLines-none c.args.policy c.args.form ucd _ _ (c.policy-filter.ensures.stands as_is c.args.form [] c.quickest.ensures.stands) (c.policy-filter.ensures.base ∙ c.quickest.ensures.base));
   lenders = (refl, refl);
 }
 

@@ -4,6 +4,7 @@ use Rattle.nf_forms.specs.declared.form.Form.{Form}
 use Rattle.nf_filter.specs.declared.fault.Fault.{Fault}
 use Rattle.nf_filter.specs.declared.filter.State.{State}
 use Rattle.nf_filter.specs.declared.policy.Policy.{Policy}
+use Rattle.nf_filter.specs.Policy.{as_is}
 use Rattle.nf_filter.specs.declared.tally.Tally.{Tally}
 use Rattle.nf_filter.specs.Finishes.{Finishes}
 use Rattle.nf_forms.specs.Ucd.{ucd}
@@ -38,7 +39,7 @@ returns-in-Ok-clause-feeds g c = λ first l has.
     let next = ap (λ f. state_of f) c.replace.ensures.after in
     let stands = fed.stands c.args.policy c.args.form l.rest has.stands in
     let base : base_of (state_of c.replace.new.dest) ≡ offset_of (state_of c.args.filter.now) + length c.args.piece.now =
-    ap base_of next ∙ c.fresh-next.ensures.base ∙ c.offset.ensures ∙ fed.offset in
+    ap base_of next ∙ c.policy-next.ensures.base ∙ c.quickest.ensures.base ∙ c.offset.ensures ∙ fed.offset in
     ends-written c.args.policy c.args.form ucd (c.lines_stand_alone.ensures c.args.policy c.args.form) (state_of c.args.filter.now) (state_of c.feed.new.self) l c.args.piece.now first _ _ has c.requires.lines (record {
       feeds = fed.feeds c.args.policy c.args.form l.rest has.stands;
       stands = stands;
@@ -48,7 +49,7 @@ returns-in-Ok-clause-feeds g c = λ first l has.
       may = tt;
     }) (state_of c.replace.new.dest) _ c.in-Ok.field-0
     (finishes_at c.args.policy c.args.form bytes _ _ (Ok c.in-Ok.field-0) _ (state_of c.feed.new.self) _ (ap (λ f. state_of f) c.replace.ensures.value) fed.base (c.in-Ok.ensures.finishes c.args.policy c.args.form bytes) stands) base
-    (subst (λ s. StandsAfter c.args.policy c.args.form ucd s []) (sym next) c.fresh-next.ensures.stands)
+    (subst (λ s. StandsAfter c.args.policy c.args.form ucd s []) (sym next) (c.policy-next.ensures.stands as_is c.args.form [] c.quickest.ensures.stands))
 
 pub returns-in-Err-finish-clause-feeds : goal.returns-in-Err-finish-clause-feeds
 returns-in-Err-finish-clause-feeds g c = λ first l has.
