@@ -1,13 +1,11 @@
 -- Ill-formed parts that are replaced one behind the other.
-use Rattle.std.proofs.Common.{◌≡◌, ℕ, ◌+◌, ◌==◌, Bool, true, false, List, [], ◌∷◌, ◌++◌, length, map, take, drop, refl, sym, ap, ◌∙◌, subst, arith, append_assoc, append-nil}
-use Rattle.std.specs.Prelude.{if◌then◌else◌}
-use Rattle.std.proofs.lemmas.List.{length-append, length-drop, length-map, map-append}
+use Rattle.std.proofs.Common.{◌≡◌, ℕ, ◌+◌, Bool, true, false, List, [], ◌++◌, length, drop, refl, sym, ap, ◌∙◌, subst, arith, append-nil}
+use Rattle.std.proofs.lemmas.List.{length-drop}
 use Rattle.nf_forms.specs.Properties.{Properties}
 use Rattle.nf_forms.specs.declared.form.Form.{Form}
 use Rattle.nf_utf8.specs.Broken.{replacements, IsBrokenFront}
 use Rattle.nf_utf8.specs.Laws.{ReplacesParts}
 use Rattle.nf_utf8.specs.Reading.{text_of}
-use Rattle.nf_utf8.specs.Replaced.{replacement, parts_of, replaced, bytes_in, replaced_len, begun_at_end, replaced_whole}
 use Rattle.nf_utf8.specs.Standing.{StandsAfter as DecoderStandsAfter}
 use Rattle.nf_filter.specs.declared.fault.Fault.TheVariants.{Write}
 use Rattle.nf_filter.specs.declared.normalizer.Normalizer.{Normalizer}
@@ -23,56 +21,18 @@ use Rattle.nf_filter.proofs.BlockLemmas.{Written-at}
 use Rattle.nf_filter.proofs.PushingLemmas.{Broken-at}
 use Rattle.nf_filter.proofs.PolicyLemmas.{taken-all}
 use Rattle.nf_filter.proofs.ReadingLemmas.{ending_of-none, text_of-none}
-use Rattle.nf_filter.proofs.PieceLemmas.{take_past, left-text}
+use Rattle.nf_filter.proofs.PieceLemmas.{IsLeft-join, IsLeft-parts, left-text}
 use Rattle.nf_filter.proofs.ChunkLemmas.{RefusesBytes-front}
 
 module _ (laws : ReplacesParts) (bytes : List ℕ) (count len : ℕ) (is : IsBrokenFront bytes count len) where
   abbrev own : List ℕ
   own = replacements count
 
-  chars_are : (more : List ℕ) → replaced (bytes ++ more) ≡ own ++ replaced (drop len bytes ++ more)
-  unfolding replaced
-  chars_are more =
-      ap (map (λ part. part.char)) (is.front more) ∙ map-append (λ part. part.char) is.parts (parts_of (drop len bytes ++ more))
-      ∙ ap (λ l. l ++ replaced (drop len bytes ++ more)) is.chars
-
-  many : length own ≡ length is.parts
-  many = sym (ap length is.chars) ∙ length-map is.parts _
-
-  total_is : (more : List ℕ) → bytes_in (parts_of (bytes ++ more)) ≡ len + bytes_in (parts_of (drop len bytes ++ more))
-  total_is more = omega (arith, ap bytes_in (is.front more), laws.joined is.parts (parts_of (drop len bytes ++ more)), is.size)
-
-  places : (more y : List ℕ) → replaced_len (length (own ++ y)) (bytes ++ more) ≡ len + replaced_len (length y) (drop len bytes ++ more)
-  unfolding replaced_len
-  places more y =
-      let rest = parts_of (drop len bytes ++ more) in
-      let all : length (own ++ y) ≡ length is.parts + length y = omega (arith, length-append own y, many) in
-      ap (λ l. bytes_in (take (length (own ++ y)) l)) (is.front more)
-      ∙ ap (λ n. bytes_in (take n (is.parts ++ rest))) all
-      ∙ ap bytes_in (take_past is.parts rest (length y))
-      ∙ laws.joined is.parts (take (length y) rest) ∙ ap (λ n. n + bytes_in (take (length y) rest)) is.size
-
-  whole_is : (more : List ℕ) → replaced_whole (bytes ++ more) ≡ own ++ replaced_whole (drop len bytes ++ more)
-  unfolding replaced_whole
-  whole_is more =
-      ap (λ l. l ++ (if begun_at_end (bytes ++ more) == 0 then [] else replacement ∷ [])) (chars_are more)
-      ∙ ap (λ n. (own ++ replaced (drop len bytes ++ more)) ++ (if n == 0 then [] else replacement ∷ [])) held
-      ∙ append_assoc own (replaced (drop len bytes ++ more)) (if begun_at_end (drop len bytes ++ more) == 0 then [] else replacement ∷ [])
-    where
-      held : begun_at_end (bytes ++ more) ≡ begun_at_end (drop len bytes ++ more)
-      held = omega (arith, total_is more, length-append bytes more, length-append (drop len bytes) more, length-drop len bytes, is.within)
-
   -- what is left behind them
   pub IsLeft-broken : (all x : List ℕ) (n : ℕ) → IsLeft true all x n bytes → IsLeft true all (x ++ own) (n + len) (drop len bytes)
-  IsLeft-broken all x n left = record {
-    text = λ more. left.text more ∙ ap (λ l. x ++ l) (chars_are more) ∙ sym (append_assoc x own (replaced (drop len bytes ++ more)));
-    place = λ more y. ap (λ l. replaced_len (length l) (all ++ more)) (append_assoc x own y) ∙ left.place more (own ++ y) ∙ ap (λ k. n + k) (places more y)
-        ∙ (let same : n + (len + replaced_len (length y) (drop len bytes ++ more)) ≡ (n + len) + replaced_len (length y) (drop len bytes ++ more) = omega arith in same);
-    bad = λ base more. refl;
-    whole = λ more. left.whole more ∙ ap (λ l. x ++ l) (whole_is more) ∙ sym (append_assoc x own (replaced_whole (drop len bytes ++ more)));
-    end = λ strict base more. cc;
-    len = omega (arith, left.len, length-drop len bytes, is.within);
-  }
+  IsLeft-broken all x n left =
+      IsLeft-join true all x n bytes own len (drop len bytes) left
+      (IsLeft-parts laws bytes own is.parts len (drop len bytes) is.front is.chars is.size (omega (arith, length-drop len bytes, is.within)))
 
 all_allowed : (a : Bool) (p : Properties) (x : List ℕ) → a ≡ false → allowed a p x ≡ x
 all_allowed false p x e = refl

@@ -1,6 +1,7 @@
 -- Bytes, part by part: what a front of them gives does not change what the rest gives.
 use Rattle.std.proofs.Common.{◌≡◌, ℕ, ◌+◌, ◌-◌, ◌≤◌, ◌==◌, Bool, true, false, List, [], ◌∷◌, ◌++◌, length, map, take, drop, refl, sym, ap, ◌∙◌, arith, append_assoc, append-nil}
-use Rattle.std.specs.Prelude.{suc, if◌then◌else◌, encode_utf8, encode_utf8_all}
+use Rattle.std.specs.Prelude.{if◌then◌else◌, encode_utf8, encode_utf8_all}
+use Rattle.std.proofs.Math.Seq.{take-append-add}
 use Rattle.std.proofs.lemmas.List.{length-append, length-drop, length-map, map-append, take_at, drop-append-le}
 use Rattle.nf_utf8.specs.Text.{BeginsText}
 use Rattle.nf_utf8.specs.Ending.{Bad}
@@ -51,14 +52,49 @@ module _ (r : Bool) (bytes x : List ℕ) (n : ℕ) (left : List ℕ) (is : IsLef
   pub left-whole : whole_under r bytes ≡ x ++ whole_under r left
   left-whole = ap (whole_under r) (sym (append-nil bytes)) ∙ is.whole [] ∙ ap (λ l. x ++ whole_under r l) (append-nil left)
 
-pub take_past : (a b : List Part) (k : ℕ) → take (length a + k) (a ++ b) ≡ a ++ take k b
-take_past [] b k = ap (λ n. take n b) (let same : 0 + k ≡ k = omega arith in same)
-take_past (part ∷ a) b k = ap (λ n. take n (part ∷ (a ++ b))) (let same : length (part ∷ a) + k ≡ suc (length a + k) = omega arith in same) ∙ ap (λ l. part ∷ l) (take_past a b k)
+-- what one leaves of the bytes is left by the other
+pub IsLeft-join : (r : Bool) (bytes x : List ℕ) (n : ℕ) (mid y : List ℕ) (m : ℕ) (left : List ℕ) → IsLeft r bytes x n mid → IsLeft r mid y m left → IsLeft r bytes (x ++ y) (n + m) left
+IsLeft-join r bytes x n mid y m left a b = record {
+  text = λ more. a.text more ∙ ap (λ l. x ++ l) (b.text more) ∙ sym (append_assoc x y (text_under r (left ++ more)));
+  place = λ more z. ap (len_under r (bytes ++ more)) (append_assoc x y z) ∙ a.place more (y ++ z) ∙ ap (λ k. n + k) (b.place more z)
+      ∙ (let same : n + (m + len_under r (left ++ more) z) ≡ (n + m) + len_under r (left ++ more) z = omega arith in same);
+  bad = λ base more. a.bad base more ∙ b.bad (base + n) more ∙ ap (λ k. bad_under r k (left ++ more)) (let same : base + n + m ≡ base + (n + m) = omega arith in same);
+  whole = λ more. a.whole more ∙ ap (λ l. x ++ l) (b.whole more) ∙ sym (append_assoc x y (whole_under r (left ++ more)));
+  end = λ strict base more. a.end strict base more ∙ b.end strict (base + n) more ∙ ap (λ k. answer_at_end k (tt {0}) (ending_of (left ++ more))) (let same : base + n + m ≡ base + (n + m) = omega arith in same);
+  len = omega (arith, a.len, b.len);
+}
 
-own_parts-append : (x y : List ℕ) → own_parts (x ++ y) ≡ own_parts x ++ own_parts y
+-- parts that are replaced, whatever follows
+module _ (laws : ReplacesParts) (bytes x : List ℕ) (parts : List Part) (n : ℕ) (left : List ℕ) (front : (more : List ℕ) → parts_of (bytes ++ more) ≡ parts ++ parts_of (left ++ more))
+    (chars : map (λ part. part.char) parts ≡ x) (size : bytes_in parts ≡ n) (len : length bytes ≡ n + length left) where
+  chars_are : (more : List ℕ) → replaced (bytes ++ more) ≡ x ++ replaced (left ++ more)
+  unfolding replaced
+  chars_are more = ap (map (λ part. part.char)) (front more) ∙ map-append (λ part. part.char) parts (parts_of (left ++ more)) ∙ ap (λ l. l ++ replaced (left ++ more)) chars
+
+  places : (more y : List ℕ) → replaced_len (length (x ++ y)) (bytes ++ more) ≡ n + replaced_len (length y) (left ++ more)
+  unfolding replaced_len
+  places more y =
+      let rest = parts_of (left ++ more) in
+      let count : length (x ++ y) ≡ length parts + length y = omega (arith, length-append x y, ap length chars, length-map parts (λ part. part.char)) in
+      (λ i. bytes_in (take (count i) (front more i))) ∙ ap bytes_in (take-append-add parts rest (length y))
+      ∙ laws.joined parts (take (length y) rest) ∙ ap (λ n. n + bytes_in (take (length y) rest)) size
+
+  held : (more : List ℕ) → begun_at_end (bytes ++ more) ≡ begun_at_end (left ++ more)
+  held more = omega (arith, ap bytes_in (front more), laws.joined parts (parts_of (left ++ more)), size, length-append bytes more, length-append left more, len)
+
+  whole_is : (more : List ℕ) → replaced_whole (bytes ++ more) ≡ x ++ replaced_whole (left ++ more)
+  unfolding replaced_whole
+  whole_is more =
+      (λ i. chars_are more i ++ (if held more i == 0 then [] else replacement ∷ []))
+      ∙ append_assoc x (replaced (left ++ more)) (if begun_at_end (left ++ more) == 0 then [] else replacement ∷ [])
+
+  pub IsLeft-parts : IsLeft true bytes x n left
+  IsLeft-parts = record { text = chars_are; place = places; bad = λ base more. refl; whole = whole_is; end = λ strict base more. cc; len = len }
+
+pub own_parts-append : (x y : List ℕ) → own_parts (x ++ y) ≡ own_parts x ++ own_parts y
 own_parts-append x y = map-append (λ c. record { char = c; len = length (encode_utf8 c) }) x y
 
-own_parts-length : (x : List ℕ) → length (own_parts x) ≡ length x
+pub own_parts-length : (x : List ℕ) → length (own_parts x) ≡ length x
 own_parts-length x = length-map x _
 
 module _ (laws : ReplacesParts) where
@@ -118,50 +154,12 @@ module _ (laws : ReplacesParts) where
     parts_are : (more : List ℕ) → parts_of (bytes ++ more) ≡ own_parts (text_of bytes) ++ part ∷ parts_of (drop end bytes ++ more)
     parts_are more = laws.bad bytes more at start bad ∙ ap (λ l. own_parts (text_of bytes) ++ part ∷ parts_of l) (drop-append-le end bytes more inside)
 
-    chars_are : (more : List ℕ) → replaced (bytes ++ more) ≡ own ++ replaced (drop end bytes ++ more)
-    unfolding replaced
-    chars_are more =
-        ap (map (λ part. part.char)) (parts_are more) ∙ map-append (λ part. part.char) (own_parts (text_of bytes)) (part ∷ parts_of (drop end bytes ++ more))
-        ∙ ap (λ l. l ++ replacement ∷ replaced (drop end bytes ++ more)) (laws.own_chars (text_of bytes))
-        ∙ sym (append_assoc (text_of bytes) (replacement ∷ []) (replaced (drop end bytes ++ more)))
-
-    -- the bytes of the parts before
-    own_bytes : bytes_in (own_parts (text_of bytes)) ≡ start
-    own_bytes = omega (arith, laws.own_len (text_of bytes), split.len bytes, is_start)
-
-    total_is : (more : List ℕ) → bytes_in (parts_of (bytes ++ more)) ≡ end + bytes_in (parts_of (drop end bytes ++ more))
-    total_is more = omega (arith, ap bytes_in (parts_are more), laws.joined (own_parts (text_of bytes)) (part ∷ parts_of (drop end bytes ++ more)), own_bytes, past)
-
-    places : (more y : List ℕ) → replaced_len (length (own ++ y)) (bytes ++ more) ≡ end + replaced_len (length y) (drop end bytes ++ more)
-    unfolding replaced_len
-    places more y =
-        let rest = parts_of (drop end bytes ++ more) in
-        let count : length (own ++ y) ≡ length (own_parts (text_of bytes) ++ part ∷ []) + length y =
-        omega (arith, length-append own y, length-append (text_of bytes) (replacement ∷ []), length-append (own_parts (text_of bytes)) (part ∷ []), own_parts-length (text_of bytes)) in
-        ap (λ l. bytes_in (take (length (own ++ y)) l)) (parts_are more ∙ sym (append_assoc (own_parts (text_of bytes)) (part ∷ []) rest))
-        ∙ ap (λ n. bytes_in (take n ((own_parts (text_of bytes) ++ part ∷ []) ++ rest))) count
-        ∙ ap bytes_in (take_past (own_parts (text_of bytes) ++ part ∷ []) rest (length y))
-        ∙ laws.joined (own_parts (text_of bytes) ++ part ∷ []) (take (length y) rest)
-        ∙ ap (λ n. n + bytes_in (take (length y) rest)) (laws.joined (own_parts (text_of bytes)) (part ∷ []) ∙ omega (arith, own_bytes, past))
-
-    whole_is : (more : List ℕ) → replaced_whole (bytes ++ more) ≡ own ++ replaced_whole (drop end bytes ++ more)
-    unfolding replaced_whole
-    whole_is more =
-        ap (λ l. l ++ (if begun_at_end (bytes ++ more) == 0 then [] else replacement ∷ [])) (chars_are more)
-        ∙ ap (λ n. (own ++ replaced (drop end bytes ++ more)) ++ (if n == 0 then [] else replacement ∷ [])) held
-        ∙ append_assoc own (replaced (drop end bytes ++ more)) (if begun_at_end (drop end bytes ++ more) == 0 then [] else replacement ∷ [])
-      where
-        held : begun_at_end (bytes ++ more) ≡ begun_at_end (drop end bytes ++ more)
-        held = omega (arith, total_is more, length-append bytes more, length-append (drop end bytes) more, length-drop end bytes, inside)
-
     -- what is left behind it
     pub IsLeft-behind : (all x : List ℕ) (n : ℕ) → IsLeft true all x n bytes → IsLeft true all (x ++ own) (n + end) (drop end bytes)
-    IsLeft-behind all x n is = record {
-      text = λ more. is.text more ∙ ap (λ l. x ++ l) (chars_are more) ∙ sym (append_assoc x own (replaced (drop end bytes ++ more)));
-      place = λ more y. ap (λ l. replaced_len (length l) (all ++ more)) (append_assoc x own y) ∙ is.place more (own ++ y) ∙ ap (λ k. n + k) (places more y)
-          ∙ (let same : n + (end + replaced_len (length y) (drop end bytes ++ more)) ≡ (n + end) + replaced_len (length y) (drop end bytes ++ more) = omega arith in same);
-      bad = λ base more. refl;
-      whole = λ more. is.whole more ∙ ap (λ l. x ++ l) (whole_is more) ∙ sym (append_assoc x own (replaced_whole (drop end bytes ++ more)));
-      end = λ strict base more. cc;
-      len = omega (arith, is.len, length-drop end bytes, inside);
-    }
+    IsLeft-behind all x n is =
+        let parts : List Part = own_parts (text_of bytes) in
+        IsLeft-join true all x n bytes own end (drop end bytes) is (IsLeft-parts laws bytes own (parts ++ part ∷ []) end (drop end bytes)
+        (λ more. parts_are more ∙ sym (append_assoc parts (part ∷ []) (parts_of (drop end bytes ++ more))))
+        (map-append (λ part. part.char) parts (part ∷ []) ∙ ap (λ l. l ++ replacement ∷ []) (laws.own_chars (text_of bytes)))
+        (omega (arith, laws.joined parts (part ∷ []), laws.own_len (text_of bytes), split.len bytes, is_start, past))
+        (omega (arith, length-drop end bytes, inside)))

@@ -9,22 +9,10 @@ use Rattle.nf_utf8.specs.Ending.{Ending, Whole, Bad, Cut}
 use Rattle.nf_utf8.specs.Reading.{text_of, ending_of}
 use Rattle.nf_utf8.specs.Replaced.{replacement, part_end}
 use Rattle.nf_facts.specs.LineFeed.{line_feed}
-use Rattle.nf_filter.specs.Faults.{answer_at_end, bad_under}
 use Rattle.nf_filter.specs.Feeding.{IsLeft}
-use Rattle.nf_filter.specs.Policy.{len_under, text_under, whole_under}
-use Rattle.nf_filter.proofs.PieceLemmas.{IsLeft-all, IsLeft-behind}
+use Rattle.nf_filter.proofs.PieceLemmas.{IsLeft-all, IsLeft-behind, IsLeft-join}
 use Rattle.nf_lines.specs.Cut.{EndsInLineFeed}
 use Rattle.nf_lines.proofs.WholeParts.{Reading, IsLine, line_text, line_utf8, line_encodes, text_left, begins_whole, begins_cut, end_is, is_broken, IsBroken, broken_end, text_begins}
-
-IsLeft-join : (r : Bool) (bytes x : List ℕ) (n : ℕ) (mid y : List ℕ) (m : ℕ) → IsLeft r bytes x n mid → IsLeft r mid y m [] → IsLeft r bytes (x ++ y) (n + m) []
-IsLeft-join r bytes x n mid y m a b = record {
-  text = λ more. a.text more ∙ ap (λ l. x ++ l) (b.text more) ∙ sym (append_assoc x y (text_under r more));
-  place = λ more z. ap (len_under r (bytes ++ more)) (append_assoc x y z) ∙ a.place more (y ++ z) ∙ ap (λ k. n + k) (b.place more z) ∙ (let same : n + (m + len_under r more z) ≡ n + m + len_under r more z = omega arith in same);
-  bad = λ base more. a.bad base more ∙ b.bad (base + n) more ∙ ap (λ k. bad_under r k more) (let same : base + n + m ≡ base + (n + m) = omega arith in same);
-  whole = λ more. a.whole more ∙ ap (λ l. x ++ l) (b.whole more) ∙ sym (append_assoc x y (whole_under r more));
-  end = λ strict base more. a.end strict base more ∙ b.end strict (base + n) more ∙ ap (λ k. answer_at_end k (tt {0}) (ending_of more)) (let same : base + n + m ≡ base + (n + m) = omega arith in same);
-  len = omega (arith, a.len, b.len);
-}
 
 -- they give a text that ends in a line feed, and the rest is read as if it stood alone
 pub record ReadsLines (r : Bool) (lines : List ℕ) : Type 0 where
@@ -95,7 +83,7 @@ module _ (laws : Reading) where
           let rest = on left (omega (arith, length-drop (part_end at start) lines, end.0, end.1)) (lines_after lines at start is e) in
           let one = IsLeft-behind laws.replacing laws.split lines at start e (broken.text ∙ laws.split.len lines) end.1 (omega (arith, end.0)) lines [] 0 (IsLeft-all true lines) in
           let own : List ℕ = text_of lines ++ replacement ∷ [] in
-          let all = IsLeft-join true lines own (0 + part_end at start) left (rest.before ++ line_feed ∷ []) (length left) one rest.left in
+          let all = IsLeft-join true lines own (0 + part_end at start) left (rest.before ++ line_feed ∷ []) (length left) [] one rest.left in
           let len : (0 + part_end at start) + length left ≡ length lines = omega (arith, all.len) in
           record {
             before = own ++ rest.before;

@@ -1,21 +1,22 @@
 -- A line feed ends every character that was begun: of bytes that end in one nothing is left to be read.
-use Rattle.std.proofs.Common.{◌≡◌, ℕ, ◌+◌, ◌-◌, ◌<◌, ◌≤◌, ◌==◌, ◌⊎◌, Bool, true, false, List, [], ◌∷◌, ◌++◌, map, length, take, drop, get_or, encode_utf8, encode_utf8_all, inl, inr, refl, sym, ap, subst, ◌∙◌, arith, append_assoc, append-nil, length-append, take_at, take-append-drop, IsUtf8, eq-eqb, ne_eqb}
+use Rattle.std.proofs.Common.{◌≡◌, ℕ, ◌+◌, ◌-◌, ◌<◌, ◌≤◌, ◌==◌, ◌⊎◌, Bool, true, false, List, [], ◌∷◌, ◌++◌, length, take, drop, get_or, encode_utf8_all, inl, inr, refl, sym, ap, subst, ◌∙◌, arith, append_assoc, append-nil, length-append, take_at, take-append-drop, IsUtf8, eq-eqb, ne_eqb}
 use Rattle.std.specs.Prelude.{if◌then◌else◌}
-use Rattle.std.proofs.Math.Seq.{get_or-append_seam, take-append-add, drop-append-add}
+use Rattle.std.proofs.Math.Seq.{get_or-append_seam, drop-append-add}
 use Rattle.std.proofs.Math.Utf8.{encode}
 use Rattle.std.proofs.lemmas.Bool.{cases_lt, eqb-true}
-use Rattle.std.proofs.lemmas.List.{take-append-le, length-map, map-append}
+use Rattle.std.proofs.lemmas.List.{take-append-le}
 use Rattle.std.proofs.lemmas.Str.{IsUtf8-take, IsCharBoundary-after_ascii, IsCharBoundary-from_drop, encodes-append}
 use Rattle.std.proofs.str.Laws.{scalars-append}
 use Rattle.nf_utf8.specs.Text.{IsText, BeginsText}
 use Rattle.nf_utf8.specs.Ending.{Ending, Whole, Bad, Cut, moved}
 use Rattle.nf_utf8.specs.Reading.{text_of, ending_of}
-use Rattle.nf_utf8.specs.Replaced.{Part, replacement, own_parts, part_end, parts_of, replaced, bytes_in, replaced_len, begun_at_end, replaced_whole}
+use Rattle.nf_utf8.specs.Replaced.{Part, replacement, own_parts, part_end, parts_of}
 use Rattle.nf_utf8.specs.Reads.{EndsAs}
 use Rattle.nf_utf8.specs.Laws.{ReadsBack, ReplacesParts, SplitsBytes, ReadsLongestText}
 use Rattle.nf_facts.specs.LineFeed.{line_feed}
 use Rattle.nf_filter.specs.Faults.{answer_at_end, bad_byte}
 use Rattle.nf_filter.specs.Feeding.{IsLeft}
+use Rattle.nf_filter.proofs.PieceLemmas.{IsLeft-parts, own_parts-append}
 
 -- what is known of reading UTF-8
 pub record Reading : Type 0 where
@@ -96,12 +97,6 @@ part_end-moved n at start = by (at == start) refl
         ap (λ b. if b then (n + start) + 1 else n + at) (ne_eqb (n + at) (n + start) (λ same. differs (omega (arith, same))))
         ∙ sym (ap (λ b. n + (if b then start + 1 else at)) e)
 
-own_more : (x y : List ℕ) → own_parts (x ++ y) ≡ own_parts x ++ own_parts y
-own_more x y = map-append (λ c. record { char = c; len = length (encode_utf8 c) }) x y
-
-own_len : (x : List ℕ) → length (own_parts x) ≡ length x
-own_len x = length-map x _
-
 module _ (laws : Reading) where
   pub end_is : (bytes : List ℕ) (e : Ending) → ending_of bytes ≡ e → EndsAs bytes (text_of bytes) e
   end_is bytes e is = subst (EndsAs bytes (text_of bytes)) is (laws.longest.reads bytes).end
@@ -178,7 +173,7 @@ module _ (laws : Reading) where
         ending = laws.back.ending x more s
 
         own : own_parts (text_of (encode_utf8_all x ++ more)) ≡ own_parts x ++ own_parts (text_of more)
-        own = ap own_parts (laws.back.text x more s) ∙ own_more x (text_of more)
+        own = ap own_parts (laws.back.text x more s) ∙ own_parts-append x (text_of more)
 
         begun : BeginsText (encode_utf8_all x ++ more) → BeginsText more → parts_of (encode_utf8_all x ++ more) ≡ own_parts x ++ parts_of more
         begun all rest = laws.replacing.begun (encode_utf8_all x ++ more) all ∙ own ∙ ap (λ l. own_parts x ++ l) (sym (laws.replacing.begun more rest))
@@ -196,35 +191,6 @@ module _ (laws : Reading) where
             ∙ append_assoc (own_parts x) (own_parts (text_of more)) (broken_part at start ∷ parts_of (drop (part_end at start) more))
             ∙ ap (λ l. own_parts x ++ l) (sym (parts_of-broken more at start e))
 
-    chars_behind : (more : List ℕ) → replaced (encode_utf8_all x ++ more) ≡ x ++ replaced more
-    unfolding replaced
-    chars_behind more =
-        ap (map (λ part. part.char)) (parts_behind more) ∙ map-append (λ part. part.char) (own_parts x) (parts_of more) ∙ ap (λ l. l ++ map (λ part. part.char) (parts_of more)) (laws.replacing.own_chars x)
-
-    held_behind : (more : List ℕ) → begun_at_end (encode_utf8_all x ++ more) ≡ begun_at_end more
-    held_behind more = omega (arith, ap bytes_in (parts_behind more), laws.replacing.joined (own_parts x) (parts_of more), laws.replacing.own_len x, length-append (encode_utf8_all x) more)
-
-    places_behind : (more y : List ℕ) → replaced_len (length (x ++ y)) (encode_utf8_all x ++ more) ≡ length (encode_utf8_all x) + replaced_len (length y) more
-    unfolding replaced_len
-    places_behind more y =
-        let own : List Part = own_parts x in
-        let count : length (x ++ y) ≡ length own + length y = omega (arith, length-append x y, own_len x) in
-        (λ i. bytes_in (take (count i) (parts_behind more i)))
-        ∙ ap bytes_in (take-append-add own (parts_of more) (length y))
-        ∙ laws.replacing.joined own (take (length y) (parts_of more))
-        ∙ ap (λ n. n + bytes_in (take (length y) (parts_of more))) (laws.replacing.own_len x)
-
-    replaced_left : IsLeft true (encode_utf8_all x) x (length (encode_utf8_all x)) []
-    unfolding replaced_whole
-    replaced_left = record {
-      text = chars_behind;
-      place = places_behind;
-      bad = λ base more. refl;
-      whole = λ more. (λ i. chars_behind more i ++ (if held_behind more i == 0 then [] else replacement ∷ [])) ∙ append_assoc x (replaced more) (if begun_at_end more == 0 then [] else replacement ∷ []);
-      end = λ strict base more. cc;
-      len = omega arith;
-    }
-
     pub text_left : (r : Bool) → IsLeft r (encode_utf8_all x) x (length (encode_utf8_all x)) []
     text_left false = strict_left
-    text_left true = replaced_left
+    text_left true = IsLeft-parts laws.replacing (encode_utf8_all x) x (own_parts x) (length (encode_utf8_all x)) [] parts_behind (laws.replacing.own_chars x) (laws.replacing.own_len x) (omega arith)
