@@ -1,8 +1,6 @@
 -- What a filter that ends gives to a room.
-use Rattle.std.proofs.Common.{◌≡◌, ℕ, ◌+◌, ◌<◌, ◌⊎◌, inl, inr, List, [], ◌++◌, length, take, Some, Result, Ok, Err, refl, sym, ap, ◌∙◌, subst, arith}
-use Rattle.std.specs.Prelude.{◌↔◌, IfSome, IfErr}
+use Rattle.std.proofs.Common.{◌≡◌, ℕ, ◌+◌, ◌<◌, ◌⊎◌, inl, inr, List, [], ◌++◌, length, take, Some, Result, Ok, Err, refl, sym, ap, ◌∙◌, subst, arith, ◌↔◌, IfSome, IfErr, length-append, length-take}
 use Rattle.std.specs.Result.{result_err}
-use Rattle.std.proofs.lemmas.List.{length-append, length-take}
 use Rattle.nf_forms.specs.Ucd.{ucd}
 use Rattle.nf_forms.specs.declared.form.Form.{Form}
 use Rattle.nf_filter.specs.declared.fault.Fault.{Fault}
@@ -14,6 +12,7 @@ use Rattle.nf_filter.specs.Faults.{IsOfFinishing as IsOfFilter}
 use Rattle.nf_filter.specs.Finishes.{final_utf8, Finishes as FilterFinishes}
 use Rattle.nf_filter.specs.Settled.{settled_utf8}
 use Rattle.nf_filter.specs.Laws.Soundness.{AreSound}
+use Rattle.nf_filter.proofs.FilterLemmas.{write_or_kept}
 use Rattle.nf_filter.proofs.SoundnessLemmas.{not_in_end}
 use Rattle.nf_c.specs.declared.finishing.Finished.{Finished}
 use Rattle.nf_c.specs.declared.room.Room.{Room}
@@ -37,17 +36,6 @@ from_err : (result : Result Tally Fault) → result_err result ≡ Some Write �
 from_err (Ok tally) e = cc
 from_err (Err fault) e = ap Err (let same : fault ≡ Write = cc in same)
 
-write_or_not : (result : Result Tally Fault) → (result ≡ Err Write) ⊎ (¬ (result ≡ Err Write))
-write_or_not (Ok tally) = inr (λ e. cc)
-write_or_not (Err Spent) = inr (λ e. cc)
-write_or_not (Err TooLong) = inr (λ e. cc)
-write_or_not (Err Read) = inr (λ e. cc)
-write_or_not (Err Write) = inl refl
-write_or_not (Err (Row at)) = inr (λ e. cc)
-write_or_not (Err (BadByte at start)) = inr (λ e. cc)
-write_or_not (Err (Cut at start)) = inr (λ e. cc)
-write_or_not (Err (Unassigned at)) = inr (λ e. cc)
-
 -- of a text with this base
 pub FinishesFilter-at : (policy : Policy) (f : Form) (bytes output : List ℕ) (finished : Finished) (base other : ℕ) → base ≡ other → FinishesFilter policy f base bytes output finished → FinishesFilter policy f other bytes output finished
 FinishesFilter-at policy f bytes output finished base other same = subst (λ n. FinishesFilter policy f n bytes output finished) same
@@ -62,7 +50,7 @@ module _ (policy : Policy) (f : Form) (base : ℕ) (bytes output : List ℕ) (ol
   full : (result ≡ Err Write) ↔ (length (settled_utf8 policy f ucd bytes) + length output < length (final_utf8 policy f ucd bytes))
   full = (
     λ e. too_little old room output _ _ was_empty is (finishes.broken_off e),
-    λ more. elim (write_or_not result) [
+    λ more. elim (write_or_kept result) [
       | inl e ↦ e
       | inr not ↦ absurd (omega (arith, more, ap length (settles not), length-append (settled_utf8 policy f ucd bytes) (take n output), length-take n output))
     ],
@@ -77,7 +65,7 @@ module _ (policy : Policy) (f : Form) (base : ℕ) (bytes output : List ℕ) (ol
   }
     where
       row : (at : ℕ) → ¬ (result ≡ Err (Row at))
-      row at e = elim (write_or_not result) [
+      row at e = elim (write_or_kept result) [
         | inl w ↦ let same : Err Write ≡ Err (Row at) = sym w ∙ e in cc
         | inr not ↦ not_in_end ucd sound base at policy bytes (sym (finishes.answer not) ∙ e)
       ]

@@ -1,6 +1,5 @@
 -- What the numbers of a state in the caller's memory say.
-use Rattle.std.specs.Prelude.{◌≡◌, ℕ, ◌/◌, ◌%◌, ◌≤◌, ◌⊎◌, ◌==◌, nat_le, List, take, map, Option, Some, None, if◌then◌else◌}
-use Rattle.std.specs.List.{All}
+use Rattle.std.specs.Prelude.{◌≡◌, ℕ, ◌/◌, ◌%◌, ◌≤◌, ◌⊎◌, ◌==◌, nat_le, List, take, map, Option, Some, None, if◌then◌else◌, All}
 use Rattle.std.specs.Char.{IsScalar}
 use Rattle.nf_forms.specs.Ucd.{ucd}
 use Rattle.nf_forms.specs.declared.form.Form.{Form}

@@ -1,6 +1,5 @@
 -- What some command lines ask for.
-use Rattle.std.proofs.Common.{◌≡◌, refl, true, false, List, [], ◌∷◌, Some, codes}
-use Rattle.std.specs.Borrow.{Bor}
+use Rattle.std.proofs.Common.{◌≡◌, refl, true, false, List, [], ◌∷◌, Some, codes, Bor}
 use Rattle.clap.specs.Walk.{Text, walked}
 use Rattle.clap.specs.Simple.{subcommand_of}
 use Rattle.nf_forms.specs.declared.form.Form.TheVariants.{Nfc}

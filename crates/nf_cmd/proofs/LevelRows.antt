@@ -1,9 +1,7 @@
 -- What a level without a fault ends with: the value of each required option of one value.
-use Rattle.std.proofs.Common.{◌≡◌, ◌∙◌, ◌&&◌, ◌||◌, Bool, cond, true, false, not, refl, sym, ap, subst, List, [], ◌∷◌, fold, Option, Some, None, inl, inr, true≢false}
-use Rattle.std.specs.Prelude.{find, option_and_then, slice_get}
+use Rattle.std.proofs.Common.{◌≡◌, ◌∙◌, ◌&&◌, ◌||◌, Bool, cond, true, false, not, refl, sym, ap, subst, List, [], ◌∷◌, fold, Option, Some, None, inl, inr, true≢false, find, option_and_then, slice_get, bytes_eq}
 use Rattle.std.specs.List.{list_any}
 use Rattle.std.specs.Option.{option_map_or}
-use Rattle.std.specs.Str.{bytes_eq}
 use Rattle.std.proofs.lemmas.Slice.Eq.{bytes_eq-Decides}
 use Rattle.clap.specs.declared.parser.matches.ValueSource.TheVariants.{DefaultValue}
 use Rattle.clap.specs.Facts.{explicit_source}

@@ -1,7 +1,5 @@
 -- Where help is on, the subcommand at which a walk without a fault stops is not help.
-use Rattle.std.proofs.Common.{◌≡◌, ◌&&◌, ℕ, Bool, cond, true, false, not, refl, List, [], ◌∷◌, fold, Option, Some, None, codes, true≢false}
-use Rattle.std.specs.Prelude.{is_some}
-use Rattle.std.specs.Str.{bytes_eq}
+use Rattle.std.proofs.Common.{◌≡◌, ◌&&◌, ℕ, Bool, cond, true, false, not, refl, List, [], ◌∷◌, fold, Option, Some, None, codes, true≢false, is_some, bytes_eq}
 use Rattle.clap.specs.declared.error.kind.ErrorKind.TheVariants as kind
 use Rattle.clap.specs.Kinds.{or_else}
 use Rattle.clap.specs.Lexer.{long_of, short_of}

@@ -1,6 +1,5 @@
 -- What the library did, over devices of which only the bytes are told.
-use Rattle.std.proofs.Common.{◌≡◌, ℕ, List, Option, Result, false}
-use Rattle.std.specs.Prelude.{IsTrue, OnOk}
+use Rattle.std.proofs.Common.{◌≡◌, ℕ, List, Option, Result, false, IsTrue, OnOk}
 use Rattle.nf_filter.specs.declared.fault.Fault.{Fault as Found}
 use Rattle.nf_filter.specs.Devices.{SinkState, SourceState}
 use Rattle.nf_cmd.specs.Converts.{Runs}

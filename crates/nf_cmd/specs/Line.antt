@@ -1,9 +1,8 @@
 -- The command line, in clap's words for a simple command.
-use Rattle.std.specs.Prelude.{◌≡◌, ◌⊎◌, List, [], ◌∷◌, Option, Some, None, true, false, codes, if◌then◌else◌}
+use Rattle.std.specs.Prelude.{◌≡◌, ◌⊎◌, List, [], ◌∷◌, Option, Some, None, true, false, codes, if◌then◌else◌, bytes_eq}
 use Rattle.std.specs.Prelude.{Bool, option_and_then, option_map}
 use Rattle.std.specs.Option.{option_map_or}
 use Rattle.std.specs.Borrow.{Bor}
-use Rattle.std.specs.Str.{bytes_eq}
 use Rattle.clap.specs.Words.{App, Row, Rule, Text, first_of, new_app, new_rule, one_of, subcommand_of, takes}
 use Rattle.clap.specs.Words.{IsAmong, fault_of, with_rule, with_subcommand}
 use Rattle.clap.specs.Simple.{on_top}

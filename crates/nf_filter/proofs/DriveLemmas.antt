@@ -14,7 +14,7 @@ use Rattle.nf_filter.specs.Settled.{settled_utf8}
 use Rattle.nf_filter.specs.Finishes.{final_utf8, Finishes}
 use Rattle.nf_filter.specs.Drives.{due_utf8, FeedsAll, Drives}
 use Rattle.nf_filter.proofs.WritesLemmas.{Puts-join, Puts-at, BreaksOff-join, BreaksOff-at}
-use Rattle.nf_filter.proofs.FilterLemmas.{never_failed, failed_with_more, write_or_not}
+use Rattle.nf_filter.proofs.FilterLemmas.{write_or_kept, never_failed, failed_with_more, write_or_not}
 use Rattle.nf_filter.proofs.FeedingLemmas.{fed_by}
 
 abbrev pub refused_by : Fault → Result Tally Fault
@@ -64,10 +64,6 @@ module _ (most : ℕ) (policy : Policy) (f : Form) (p : Properties) (base : ℕ)
   -- all was fed, and the filter was finished
   module _ (last : SinkState) (r : Result Tally Fault) (ended : left.is_at_end ≡ true) (short : ¬ (r ≡ Err TooLong)) (unread : ¬ (r ≡ Err Read))
       (feeds : FeedsAll most policy f p base bytes source left old new state (Ok tt)) (finishes : Finishes policy f p base (bytes ++ feeds.fed) new last r) where
-    write_or_kept : (r : Result Tally Fault) → (r ≡ Err Write) ⊎ (¬ (r ≡ Err Write))
-    write_or_kept (Ok tally) = inr (λ e. cc)
-    write_or_kept (Err fault) = ⊎_elim (λ e. inl (ap Err e)) (λ not. inr (λ e. let is : fault ≡ Write = cc in not is)) (write_or_not fault)
-
     first : Puts old new (settled_utf8 policy f p bytes) (settled_utf8 policy f p (bytes ++ feeds.fed))
     first = feeds.written (λ e. cc)
 

@@ -1,5 +1,5 @@
 -- What a filter answers.
-use Rattle.std.proofs.Common.{◌≡◌, ℕ, ◌+◌, ◌<◌, ◌^◌, Bool, true, false, List, [], ◌++◌, length, Some, None, Err, ◌⊎◌, inl, inr, refl, sym, ap, ◌∙◌, arith}
+use Rattle.std.proofs.Common.{◌≡◌, ℕ, ◌+◌, ◌<◌, ◌^◌, Bool, true, false, List, [], ◌++◌, length, Some, None, Ok, Err, ◌⊎◌, inl, inr, ⊎_elim, refl, sym, ap, ◌∙◌, arith}
 use Rattle.std.specs.Prelude.{IsTrue, Option, Result, option_map, if◌then◌else◌}
 use Rattle.std.specs.Result.{result_err}
 use Rattle.std.proofs.lemmas.List.{length-append}
@@ -10,6 +10,7 @@ use Rattle.nf_filter.specs.declared.fault.Fault.{Fault}
 use Rattle.nf_filter.specs.declared.fault.Fault.TheVariants.{Spent, TooLong, Read, Write, Row, BadByte, Cut, Unassigned}
 use Rattle.nf_filter.specs.declared.filter.State.{State}
 use Rattle.nf_filter.specs.declared.policy.Policy.{Policy}
+use Rattle.nf_filter.specs.declared.tally.Tally.{Tally}
 use Rattle.nf_filter.specs.declared.taker.Stop.TheVariants.{Refused}
 use Rattle.nf_filter.specs.Devices.{SinkState}
 use Rattle.nf_filter.specs.Writes.{Puts, BreaksOff}
@@ -42,6 +43,10 @@ write_or_not (Row at) = inr (λ e. cc)
 write_or_not (BadByte at start) = inr (λ e. cc)
 write_or_not (Cut at start) = inr (λ e. cc)
 write_or_not (Unassigned at) = inr (λ e. cc)
+
+pub write_or_kept : (r : Result Tally Fault) → (r ≡ Err Write) ⊎ (¬ (r ≡ Err Write))
+write_or_kept (Ok tally) = inr (λ e. cc)
+write_or_kept (Err fault) = ⊎_elim (λ e. inl (ap Err e)) (λ not. inr (λ e. let is : fault ≡ Write = cc in not is)) (write_or_not fault)
 
 -- what stops a taker that is refused what a filter is
 pub stop_in-fault : (p : Properties) (base : ℕ) (bytes : List ℕ) → stop_in (unusable_stop p base) base bytes ≡ option_map Refused (fault_in as_is p base bytes)

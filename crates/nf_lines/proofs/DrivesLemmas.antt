@@ -1,6 +1,5 @@
 -- What driving line by line comes to.
-use Rattle.std.proofs.Common.{◌≡◌, ℕ, ◌≤◌, true, false, List, [], ◌++◌, length, None, Result, Ok, Err, inl, ⊎_elim, refl, sym, ap, subst, ◌∙◌, arith, append-nil}
-use Rattle.std.specs.Prelude.{OnOk, IsTrue}
+use Rattle.std.proofs.Common.{◌≡◌, ℕ, ◌≤◌, true, false, List, [], ◌++◌, length, None, Result, Ok, Err, inl, ⊎_elim, refl, sym, ap, subst, ◌∙◌, arith, append-nil, OnOk, IsTrue}
 use Rattle.std.specs.Result.{result_err}
 use Rattle.std.specs.Io.KnownBytes.{Consumes, IsAtEnd}
 use Rattle.nf_forms.specs.Properties.{Properties}

@@ -1,6 +1,5 @@
 -- What driving a new filter comes to where all was read.
-use Rattle.std.proofs.Common.{◌≡◌, ℕ, List, [], ◌++◌, Result, Ok, Err, inl, refl, sym, ap, ◌∙◌, subst, append-nil, encode_utf8_all}
-use Rattle.std.specs.Prelude.{IsTrue, IfSome, OnOk, IfErr}
+use Rattle.std.proofs.Common.{◌≡◌, ℕ, List, [], ◌++◌, Result, Ok, Err, inl, refl, sym, ap, ◌∙◌, subst, append-nil, encode_utf8_all, IsTrue, IfSome, OnOk, IfErr}
 use Rattle.std.specs.Io.KnownBytes.{Appends}
 use Rattle.std.proofs.KnownBytes.{Consumes-all}
 use Rattle.nf_forms.specs.Properties.{Properties}

@@ -1,8 +1,7 @@
 -- What `converted` answers of a text, and whether that is as expected.
-use Rattle.std.proofs.Common.{◌≡◌, ℕ, ◌+◌, Bool, true, false, ◌&&◌, List, [], length, Option, Some, None, refl, sym, ap, ◌∙◌, subst, append-nil, bytes_eq, encode_utf8_all, IsUtf8}
-use Rattle.std.specs.Prelude.{if◌then◌else◌}
-use Rattle.std.specs.Result.{result_err}
+use Rattle.std.proofs.Common.{◌≡◌, ℕ, ◌+◌, Bool, true, false, ◌&&◌, List, [], length, Option, Some, None, refl, sym, ap, ◌∙◌, subst, append-nil, bytes_eq, encode_utf8_all, IsUtf8, if◌then◌else◌}
 use Rattle.std.specs.Str.{chars}
+use Rattle.std.specs.Result.{result_err}
 use Rattle.std.specs.Str.Lossy.{utf8_valid_len}
 use Rattle.std.proofs.lemmas.Bool.Decides.{same_from_decides}
 use Rattle.std.proofs.lemmas.Slice.Eq.{bytes_eq-Decides}

@@ -1,6 +1,5 @@
 -- How a line is judged, by what it says.
-use Rattle.std.proofs.Common.{◌≡◌, ℕ, ◌<◌, List, [], ◌∷◌, ◌++◌, length, Ok, sym, ap, ◌∙◌, arith, if◌then◌else◌, slice_range, append_assoc, append-nil, length-append}
-use Rattle.std.proofs.lemmas.Bool.{eq-eqb, ne_eqb}
+use Rattle.std.proofs.Common.{◌≡◌, ℕ, ◌<◌, List, [], ◌∷◌, ◌++◌, length, Ok, sym, ap, ◌∙◌, arith, if◌then◌else◌, slice_range, append_assoc, append-nil, length-append, eq-eqb, ne_eqb}
 use Rattle.nf_vectors.specs.Columns.{Columns}
 use Rattle.nf_vectors.specs.Line.{content}
 use Rattle.nf_vectors.specs.Words.{column_in}

@@ -1,10 +1,8 @@
 -- A fault that a call answers is passed on.
-use Rattle.std.proofs.Common.{◌≡◌, ℕ, Bool, List, nat_eq, bytes_eq, sym, ap, ◌∙◌, subst}
+use Rattle.std.proofs.Common.{◌≡◌, ℕ, Bool, List, nat_eq, bytes_eq, sym, ap, ◌∙◌, subst, eqb-true, eq-eqb, Result, Ok, Err, MatchResult, IsErr, IsErrAnd}
 use Rattle.std.specs.Cmp.Lexicographic.{pointwise}
-use Rattle.std.proofs.lemmas.Bool.{eqb-true, eq-eqb}
 use Rattle.std.proofs.lemmas.Bool.Decides.{same_from_decides}
 use Rattle.std.proofs.lemmas.Slice.Eq.{slice_eq-Decides, bytes_eq-Decides}
-use Rattle.std.specs.Prelude.{Result, Ok, Err, MatchResult, IsErr, IsErrAnd}
 use Rattle.nf_vectors.specs.declared.fault.VectorKind.{VectorKind}
 use Rattle.nf_vectors.specs.declared.fault.VectorKind.TheVariants.{Memory}
 

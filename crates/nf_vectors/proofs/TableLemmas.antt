@@ -1,7 +1,6 @@
 -- The comparisons of a row, one after the other.
-use Rattle.std.proofs.Common.{◌≡◌, ℕ, ◌+◌, ◌<◌, Bool, true, false, not, List, length, drop, get_or, Option, Some, None, refl, sym, ap, ◌∙◌, encode_utf8_all, if◌then◌else◌, find}
+use Rattle.std.proofs.Common.{◌≡◌, ℕ, ◌+◌, ◌<◌, Bool, true, false, not, List, length, drop, get_or, Option, Some, None, refl, sym, ap, ◌∙◌, encode_utf8_all, if◌then◌else◌, find, Result, Ok, Err, IfOk}
 use Rattle.std.proofs.lemmas.List.{drop_more}
-use Rattle.std.specs.Prelude.{Result, Ok, Err, IfOk}
 use Rattle.std.specs.Option.{option_or}
 use Rattle.nf_forms.specs.Properties.{Properties}
 use Rattle.nf_forms.specs.declared.form.Form.{Form}

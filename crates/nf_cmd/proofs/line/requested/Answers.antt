@@ -1,6 +1,4 @@
-use Rattle.std.proofs.Common.{◌≡◌, ◌∙◌, ap, sym, codes, List, Option, Some, None, option_map}
-use Rattle.std.specs.Prelude.{Box, unwrap_or}
-use Rattle.std.specs.Box.{box_value}
+use Rattle.std.proofs.Common.{◌≡◌, ◌∙◌, ap, sym, codes, List, Option, Some, None, option_map, Box, unwrap_or, box_value}
 use Rattle.clap.specs.declared.parser.matches.SubCommand.{SubCommand}
 use Rattle.clap.specs.declared.parser.matches.ArgMatches.TheViews.{out-SubCommand}
 use Rattle.clap.specs.Matches.{found_of}

@@ -1,17 +1,14 @@
-use Rattle.std.proofs.Common.{◌≡◌, ◌∙◌, Bool, not, true, false, rules, refl, sym, true≢false}
+use Rattle.std.proofs.Common.{◌∙◌, rules, refl, sym}
+use Rattle.std.proofs.lemmas.Bool.{not-false}
 use denote.Enum.Bare.{same_true}
 use Rattle.clap.specs.contracts.error.kind.ErrorKind.{the_type}
 use Rattle.clap.specs.declared.error.kind.ErrorKind.TheVariants.{DisplayHelp}
 use Rattle.nf_cmd.proofs.AnswerLemmas.{help_answers}
 use Rattle.nf_cmd.proofs.program.refuse.Goals as goal
 
-not_false : (b : Bool) → not b ≡ false → b ≡ true
-not_false true e = refl
-not_false false e = absurd (true≢false e)
-
 pub returns-in-Ok-write_whole : goal.returns-in-Ok-write_whole
 returns-in-Ok-write_whole g c input input_after =
-    let help = same_true the_type (search rules) c.kind-kind.result DisplayHelp (not_false _ (sym c.ne.ensures ∙ c.if-ne.false)) in
+    let help = same_true the_type (search rules) c.kind-kind.result DisplayHelp (not-false _ (sym c.ne.ensures ∙ c.if-ne.false)) in
     help_answers _ _ _ (sym help ∙ c.kind-kind.ensures) refl
 
 -- Without an answer the check would try this goal a second time, at a wrong body, to offer one.

@@ -1,5 +1,4 @@
-use Rattle.std.proofs.Common.{◌≤◌, length}
-use Rattle.std.specs.Prelude.{drop}
+use Rattle.std.proofs.Common.{◌≤◌, length, drop}
 use Rattle.nf_lines.specs.Cut.{HasNoLineFeed}
 use Rattle.nf_lines.proofs.cutting.lines_len.Given as goal
 

@@ -1,5 +1,4 @@
-use Rattle.std.proofs.Common.{◌≡◌, ◌-◌, ◌^◌, length}
-use Rattle.std.specs.Prelude.{IsFalse}
+use Rattle.std.proofs.Common.{◌≡◌, ◌-◌, ◌^◌, length, IsFalse}
 use Rattle.std.specs.Io.KnownBytes.{Consumes}
 use Rattle.nf_forms.specs.Ucd.{ucd}
 use Rattle.nf_filter.specs.Filter.{state_of, offset_of, is_spent}

@@ -1,5 +1,4 @@
-use Rattle.std.proofs.Common.{◌≡◌, ℕ, ◌+◌, ◌*◌, ◌≤◌, List, ◌++◌, ◌∷◌, [], ◌∙◌, true, None, take, length, encode_utf8, encode_utf8_all, refl, sym, ap, subst, arith}
-use Rattle.std.specs.Prelude.{IsNone, Option}
+use Rattle.std.proofs.Common.{◌≡◌, ℕ, ◌+◌, ◌*◌, ◌≤◌, List, ◌++◌, ◌∷◌, [], ◌∙◌, true, None, take, length, encode_utf8, encode_utf8_all, refl, sym, ap, subst, arith, IsNone, Option}
 use Rattle.nf_safe.specs.declared.place.Place.{Place}
 use Rattle.std.specs.List.{list_all}
 use Rattle.std.proofs.lemmas.Bool.{and_from, true_from_ne_false, false≢true}

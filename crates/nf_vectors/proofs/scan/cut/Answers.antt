@@ -1,5 +1,4 @@
-use Rattle.std.proofs.Common.{◌+◌, ◌==◌, ℕ, Bool, take, drop, length, arith, sym, ap, ◌∙◌}
-use Rattle.std.proofs.lemmas.Bool.{eq-eqb}
+use Rattle.std.proofs.Common.{◌+◌, ◌==◌, ℕ, Bool, take, drop, length, arith, sym, ap, ◌∙◌, eq-eqb}
 use Rattle.std.proofs.lemmas.List.{take_rest}
 use Rattle.std.proofs.lemmas.List.Sums.{position_or_len_is}
 use Rattle.nf_vectors.proofs.scan.cut.Goals as goal

@@ -1,7 +1,6 @@
-use Rattle.std.proofs.Common.{◌≡◌, ◌+◌, ◌*◌, ◌<◌, ◌∙◌, take, get_or, length, Ok, sym, ap, subst, arith, rules}
+use Rattle.std.proofs.Common.{◌≡◌, ◌+◌, ◌*◌, ◌<◌, ◌∙◌, take, get_or, length, Ok, sym, ap, subst, arith, rules, take_all}
 use Rattle.std.specs.Char.{digit_value, InScalarRange, OutOfScalarRange}
 use Rattle.std.proofs.lemmas.Bool.{eqb-true, eqb-false}
-use Rattle.std.proofs.lemmas.List.{take_all}
 use Rattle.nf_vectors.specs.Words.{is_digit, value_of}
 use Rattle.std.specs.List.{list_all}
 use Rattle.nf_vectors.proofs.DigitLemmas.{power-more, power-few, value_of-more, digits-more, some-from_not_none, code_point-empty, code_point-long, code_point-other, code_point-scalar, code_point-surrogate}

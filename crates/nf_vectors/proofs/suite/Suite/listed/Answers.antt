@@ -1,7 +1,6 @@
-use Rattle.std.proofs.Common.{◌∙◌, ◌≤◌, List, length, ap, subst}
+use Rattle.std.proofs.Common.{◌∙◌, ◌≤◌, List, length, ap, subst, take_all}
 use Rattle.nf_vectors.specs.declared.suite.Entry.{Entry}
 use Rattle.std.specs.List.{list_any}
-use Rattle.std.proofs.lemmas.List.{take_all}
 use Rattle.nf_vectors.specs.SuiteView.{rows_in, rows_of}
 use Rattle.nf_vectors.specs.Sweep.{lists, is_listed}
 use Rattle.nf_vectors.proofs.suite.Suite.listed.Goals as goal

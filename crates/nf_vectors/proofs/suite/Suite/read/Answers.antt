@@ -1,7 +1,5 @@
-use Rattle.std.proofs.Common.{◌≡◌, ◌∙◌, ◌++◌, ◌≤◌, length, true, false, [], take, Some, sym, ap, subst, arith, append-nil}
-use Rattle.std.specs.Prelude.{Bool, IfErr}
+use Rattle.std.proofs.Common.{◌≡◌, ◌∙◌, ◌++◌, ◌≤◌, length, true, false, [], take, Some, sym, ap, subst, arith, append-nil, Bool, IfErr, length-take-le}
 use Rattle.std.specs.Io.KnownBytes.{Consumes}
-use Rattle.std.proofs.lemmas.List.{length-take-le}
 use Rattle.std.proofs.lemmas.Bool.{eq-eqb, ne_eqb, false≢true}
 use Rattle.nf_vectors.specs.Limits.{limit, block}
 use Rattle.nf_vectors.specs.ReadsSuite.{stop_of, lines_within, Tells}
