@@ -1,9 +1,8 @@
 -- The rows of Unicode's data are full, and the canonical row of a character lies within its compatibility row.
-use Rattle.std.proofs.Common.{◌≡◌, ℕ, Bool, true, false, ◌&&◌, ◌||◌, List, [], ◌∷◌, ◌++◌, flat_map, refl, sym, ap, ap₂, ◌∙◌, append-nil}
+use Rattle.std.proofs.Common.{◌≡◌, ℕ, Bool, true, false, ◌&&◌, ◌||◌, List, [], ◌∷◌, ◌++◌, flat_map, refl, sym, ap, ap₂, ◌∙◌, append-nil, IsTrue}
 use Rattle.std.proofs.lemmas.Bool.{and_from, and_parts, or_right, not-true, not_from_false}
 use Rattle.std.proofs.lemmas.List.Sums.{AllPass-from_list_all}
 use Rattle.std.specs.List.{list_all, All}
-use Rattle.std.specs.Prelude.{IsTrue}
 use Rattle.ucd_normal.specs.declared.forms.Form.TheVariants.{Nfd, Nfkd}
 use Rattle.ucd_normal.specs.Decomposition.{decomposition}
 use Rattle.ucd_normal.proofs.CompositionLemmas.{is_empty}

@@ -1,8 +1,7 @@
 -- The forms over Unicode's data are those of `unicode_normalization`.
-use Rattle.std.proofs.Common.{◌≡◌, ℕ, ◌<◌, ◌≤◌, Bool, true, false, not, ◌&&◌, ◌||◌, ◌==◌, cond, nat_le, List, [], ◌∷◌, ◌++◌, Option, Some, None, refl, sym, ap, ap₂, ◌∙◌, inl, inr, arith, append-nil, append_assoc}
+use Rattle.std.proofs.Common.{◌≡◌, ℕ, ◌<◌, ◌≤◌, Bool, true, false, not, ◌&&◌, ◌||◌, ◌==◌, cond, nat_le, List, [], ◌∷◌, ◌++◌, Option, Some, None, refl, sym, ap, ap₂, ◌∙◌, inl, inr, arith, append-nil, append_assoc, fold}
 use Rattle.std.proofs.lemmas.Bool.{cases_Bool, cond-true, or_parts}
 use Rattle.std.proofs.lemmas.Bool.Decides.{nat_tests}
-use Rattle.std.specs.Prelude.{fold}
 use Rattle.ucd_normal.specs.CanonicalCombiningClass.{canonical_combining_class as ccc}
 use Rattle.unicode_normalization.specs.Compose.{primary_composite, is_blocked as kit_is_blocked, joined as kit_joined, compose_after, compose as kit_compose}
 use Rattle.unicode_normalization.specs.Decompose.{decompose}

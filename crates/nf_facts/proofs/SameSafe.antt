@@ -1,7 +1,6 @@
 -- The Stream-Safe Text Process over Unicode's data is that of `unicode_normalization`.
-use Rattle.std.proofs.Common.{◌≡◌, ℕ, suc, ◌<◌, ◌+◌, Bool, true, false, not, ◌||◌, cond, List, [], ◌∷◌, ◌++◌, length, refl, sym, ap, ◌∙◌, inl, inr, arith, append-nil, append_assoc}
+use Rattle.std.proofs.Common.{◌≡◌, ℕ, suc, ◌<◌, ◌+◌, Bool, true, false, not, ◌||◌, cond, List, [], ◌∷◌, ◌++◌, length, refl, sym, ap, ◌∙◌, inl, inr, arith, append-nil, append_assoc, fold, if◌then◌else◌}
 use Rattle.std.proofs.lemmas.Bool.{cases_Bool, cond-true, cond-false}
-use Rattle.std.specs.Prelude.{fold, if◌then◌else◌}
 use Rattle.unicode_normalization.specs.StreamSafe.{leading_nonstarters, trailing_nonstarters, is_too_many, count_after, stream_safe_after, stream_safe as kit_stream_safe}
 use Rattle.unicode_normalization.proofs.StreamSafeLemmas.{count_after-all, count_after-some, stream_safe_after-nil, stream_safe_after-parted, stream_safe_after-together}
 use Rattle.nf_forms.specs.Properties.{Properties, is_starter}

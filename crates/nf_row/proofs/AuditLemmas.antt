@@ -1,6 +1,5 @@
 -- Rows joined, one member after the other.
-use Rattle.std.proofs.Common.{◌≡◌, ℕ, ◌+◌, ◌≤◌, ◌<◌, true, List, length, take, get_or, flat_map, ap, arith, Result, Ok, Err}
-use Rattle.std.specs.Result.{IsOk, is_err}
+use Rattle.std.proofs.Common.{◌≡◌, ℕ, ◌+◌, ◌≤◌, ◌<◌, true, List, length, take, get_or, flat_map, ap, arith, Result, Ok, Err, IsOk, is_err}
 use Rattle.std.proofs.lemmas.List.Folds.{length-flat_map-take}
 
 -- what a front and the row behind it have, all have

@@ -1,6 +1,5 @@
 -- The ends of a row with one member more.
-use Rattle.std.proofs.Common.{◌≡◌, ℕ, ◌+◌, ◌≤◌, Bool, true, false, ◌||◌, List, [], ◌∷◌, ◌++◌, length, refl, sym, ap, ◌∙◌, arith, cond, not}
-use Rattle.std.specs.Prelude.{if◌then◌else◌}
+use Rattle.std.proofs.Common.{◌≡◌, ℕ, ◌+◌, ◌≤◌, Bool, true, false, ◌||◌, List, [], ◌∷◌, ◌++◌, length, refl, sym, ap, ◌∙◌, arith, cond, not, if◌then◌else◌}
 use Rattle.nf_row.specs.declared.ends.Ends.{Ends}
 use Rattle.nf_forms.specs.Properties.{Properties, is_starter}
 use Rattle.nf_forms.specs.Runs.{has_starter, lead}

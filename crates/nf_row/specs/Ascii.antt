@@ -1,6 +1,5 @@
 -- Data of which normalization leaves ASCII text as it is: no character of it decomposes, and no two compose.
-use Rattle.std.specs.Prelude.{◌≡◌, ◌<◌, ℕ, IsTrue, List, [], ◌∷◌, None}
-use Rattle.std.specs.List.{All}
+use Rattle.std.specs.Prelude.{◌≡◌, ◌<◌, ℕ, IsTrue, List, [], ◌∷◌, None, All}
 use Rattle.nf_forms.specs.Properties.{Properties}
 
 -- c is assigned, a starter, and alone its own decompositions

@@ -1,6 +1,5 @@
 -- What soundness asks of one row.
-use Rattle.std.specs.Prelude.{◌≡◌, ◌≤◌, ◌==◌, ◌&&◌, ◌||◌, ℕ, Bool, not, nat_le, List, [], ◌∷◌, length}
-use Rattle.std.specs.Str.{bytes_eq}
+use Rattle.std.specs.Prelude.{◌≡◌, ◌≤◌, ◌==◌, ◌&&◌, ◌||◌, ℕ, Bool, not, nat_le, List, [], ◌∷◌, length, bytes_eq}
 use Rattle.nf_row.specs.declared.soundness.Shape.{Shape}
 use Rattle.nf_forms.specs.Properties.{Properties}
 use Rattle.nf_forms.specs.StreamSafe.{joiner}

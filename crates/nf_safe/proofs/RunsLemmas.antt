@@ -1,6 +1,5 @@
 -- The runs of decomposed text that grows at its end.
-use Rattle.std.proofs.Common.{◌≡◌, ℕ, ◌+◌, max, not, Bool, true, false, cond, List, [], ◌∷◌, ◌++◌, sym, ap, ◌∙◌, arith}
-use Rattle.std.specs.Prelude.{if◌then◌else◌, count_by}
+use Rattle.std.proofs.Common.{◌≡◌, ℕ, ◌+◌, max, not, Bool, true, false, cond, List, [], ◌∷◌, ◌++◌, sym, ap, ◌∙◌, arith, if◌then◌else◌, count_by}
 use Rattle.std.proofs.lemmas.List.Sums.{sum_by_push}
 use Rattle.nf_forms.specs.Properties.{Properties, is_starter, is_nonstarter}
 use Rattle.nf_forms.specs.Runs.{trail, longest}

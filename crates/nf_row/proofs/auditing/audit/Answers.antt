@@ -1,5 +1,4 @@
-use Rattle.std.proofs.Common.{◌≤◌, arith, sym, ◌∙◌, subst, inl, inr, rules}
-use Rattle.std.proofs.Math.Nat.{eq-or-lt_of_le}
+use Rattle.std.proofs.Common.{◌≤◌, arith, sym, ◌∙◌, subst, inl, inr, rules, eq-or-lt_of_le}
 use Rattle.nf_forms.specs.Audit.{PassesAudit}
 use Rattle.nf_row.proofs.auditing.audit.Goals as goal
 

@@ -1,5 +1,4 @@
-use Rattle.std.proofs.Common.{◌≤◌, arith, ap, length, refl}
-use Rattle.std.specs.List.{flat_map}
+use Rattle.std.proofs.Common.{◌≤◌, arith, ap, length, refl, flat_map}
 use Rattle.nf_row.proofs.OrderingLemmas.{length-order}
 use Rattle.nf_row.proofs.auditing.is_within.Goals as goal
 

@@ -1,5 +1,4 @@
-use Rattle.std.proofs.Common.{◌≤◌, refl, sym, ◌∙◌, inl, inr, subst, arith}
-use Rattle.std.proofs.Math.Nat.{eq-or-lt_of_le}
+use Rattle.std.proofs.Common.{◌≤◌, refl, sym, ◌∙◌, inl, inr, subst, arith, eq-or-lt_of_le}
 use Rattle.nf_row.specs.Ascii.{IsUnchanged, IsFirstInNone}
 use Rattle.nf_row.proofs.plain.reads_plain.Goals as goal
 

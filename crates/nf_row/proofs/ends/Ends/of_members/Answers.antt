@@ -1,6 +1,4 @@
-use Rattle.std.proofs.Common.{◌≡◌, ◌==◌, ℕ, ◌+◌, ◌||◌, List, [], ◌∷◌, ◌++◌, take, sym, ap, ◌∙◌, subst, add-one, arith}
-use Rattle.std.specs.Prelude.{if◌then◌else◌}
-use Rattle.std.proofs.Math.Seq.{take-suc}
+use Rattle.std.proofs.Common.{◌≡◌, ◌==◌, ℕ, ◌+◌, ◌||◌, List, [], ◌∷◌, ◌++◌, take, sym, ap, ◌∙◌, subst, add-one, arith, if◌then◌else◌, take-suc}
 use Rattle.nf_row.specs.Ends.{HasEnds}
 use Rattle.nf_row.proofs.EndsLemmas.{HasEnds-push, grown-le, begun-le}
 use Rattle.nf_row.proofs.ends.Ends.of_members.Goals as goal

@@ -1,5 +1,4 @@
-use Rattle.std.proofs.Common.{◌≡◌, sym, ap, ◌∙◌}
-use Rattle.std.specs.Prelude.{if◌then◌else◌}
+use Rattle.std.proofs.Common.{◌≡◌, sym, ap, ◌∙◌, if◌then◌else◌}
 use Rattle.nf_row.proofs.EndsLemmas.{HasEnds-one}
 use Rattle.nf_row.proofs.ends.Ends.of_one.Goals as goal
 use Rattle.nf_row.proofs.ends.Ends.of_one.Goals.{then-starts, else-starts}

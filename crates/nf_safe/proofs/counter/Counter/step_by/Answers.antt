@@ -1,6 +1,4 @@
-use Rattle.std.proofs.Common.{◌≡◌, ℕ, ◌+◌, Bool, List, true, false, sym, ap, ◌∙◌, arith}
-use Rattle.std.specs.Prelude.{if◌then◌else◌, nat_lt}
-use Rattle.std.proofs.lemmas.Bool.{lt-ltb, le-ltb}
+use Rattle.std.proofs.Common.{◌≡◌, ℕ, ◌+◌, Bool, List, true, false, sym, ap, ◌∙◌, arith, if◌then◌else◌, nat_lt, lt-ltb, le-ltb}
 use Rattle.nf_forms.specs.Properties.{Properties}
 use Rattle.nf_forms.specs.Runs.{has_starter, lead}
 use Rattle.nf_forms.specs.StreamSafe.{max_run}
