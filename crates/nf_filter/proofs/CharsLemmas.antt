@@ -1,7 +1,5 @@
 -- A text, character by character.
-use Rattle.std.proofs.Common.{◌≡◌, ℕ, ◌+◌, ◌<◌, ◌≤◌, List, [], ◌∷◌, ◌++◌, length, take, drop, get_or, map, map-id, sym, ap, ◌∙◌, arith, encode_utf8, append_assoc}
-use Rattle.std.specs.Prelude.{encode_utf8_all}
-use Rattle.std.specs.Str.{IsUtf8, chars}
+use Rattle.std.proofs.Common.{◌≡◌, ℕ, ◌+◌, ◌<◌, ◌≤◌, List, [], ◌∷◌, ◌++◌, length, take, drop, get_or, map, map-id, sym, ap, ◌∙◌, arith, encode_utf8, append_assoc, encode_utf8_all, IsUtf8, chars}
 use Rattle.std.proofs.lemmas.List.{length-append, take_more, take-append-drop}
 use Rattle.std.proofs.lemmas.Str.{encodes-append, encodes-chars}
 

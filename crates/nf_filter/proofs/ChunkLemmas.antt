@@ -1,8 +1,5 @@
 -- What is left of a piece, up to its first ill-formed byte.
-use Rattle.std.proofs.Common.{◌≡◌, ℕ, ◌+◌, ◌<◌, ◌≤◌, Bool, true, false, List, [], ◌∷◌, ◌++◌, length, drop, Some, Ok, Err, refl, sym, ap, ◌∙◌, subst, arith, append_assoc, append-nil, eq-eqb, ne_eqb}
-use Rattle.std.specs.Prelude.{zero, suc, Option, if◌then◌else◌, encode_utf8_all}
-use Rattle.std.specs.Str.{chars}
-use Rattle.std.proofs.lemmas.List.{length-append, drop-drop, drop_at}
+use Rattle.std.proofs.Common.{◌≡◌, ℕ, ◌+◌, ◌<◌, ◌≤◌, Bool, true, false, List, [], ◌∷◌, ◌++◌, length, drop, Some, Ok, Err, refl, sym, ap, ◌∙◌, subst, arith, append_assoc, append-nil, eq-eqb, ne_eqb, zero, suc, Option, if◌then◌else◌, encode_utf8_all, chars, length-append, drop-drop, drop_at}
 use Rattle.std.proofs.lemmas.Str.{encodes-append}
 use Rattle.nf_forms.specs.Properties.{Properties}
 use Rattle.nf_forms.specs.declared.form.Form.{Form}

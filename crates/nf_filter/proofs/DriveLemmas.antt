@@ -1,6 +1,5 @@
 -- What driving answers, by what was fed.
-use Rattle.std.proofs.Common.{◌≡◌, ℕ, true, false, List, ◌++◌, Ok, Err, ◌⊎◌, inl, inr, ⊎_elim, refl, sym, ap, ◌∙◌}
-use Rattle.std.specs.Prelude.{IsTrue, Result}
+use Rattle.std.proofs.Common.{◌≡◌, ℕ, true, false, List, ◌++◌, Ok, Err, inl, inr, ⊎_elim, refl, sym, ap, ◌∙◌, IsTrue, Result}
 use Rattle.nf_forms.specs.Properties.{Properties}
 use Rattle.nf_forms.specs.declared.form.Form.{Form}
 use Rattle.nf_filter.specs.declared.fault.Fault.{Fault}

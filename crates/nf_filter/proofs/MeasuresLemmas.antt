@@ -1,7 +1,6 @@
 -- What a measurement decides, character by character.
-use Rattle.std.proofs.Common.{◌≡◌, ℕ, ◌+◌, Bool, true, false, not, ◌&&◌, ◌||◌, List, [], ◌∷◌, ◌++◌, length, Some, None, Ok, Err, refl, sym, ap, ◌∙◌}
+use Rattle.std.proofs.Common.{◌≡◌, ℕ, ◌+◌, Bool, true, false, not, ◌&&◌, ◌||◌, List, [], ◌∷◌, ◌++◌, length, Some, None, Ok, Err, refl, sym, ap, ◌∙◌, if◌then◌else◌, is_ok, is_err, OnOk, Option, Result, option_map, encode_utf8_all}
 use Rattle.std.specs.Result.{result_err}
-use Rattle.std.specs.Prelude.{if◌then◌else◌, is_ok, is_err, OnOk, Option, Result, option_map, encode_utf8_all}
 use Rattle.nf_forms.specs.Properties.{Properties}
 use Rattle.nf_forms.specs.StreamSafe.{joiner, is_too_long, stream_safe}
 use Rattle.nf_forms.specs.Sound.{is_sound}

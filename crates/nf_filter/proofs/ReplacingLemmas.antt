@@ -1,6 +1,5 @@
 -- U+FFFD so many times, where a text may be cut before it.
-use Rattle.std.proofs.Common.{◌≡◌, ℕ, ◌+◌, ◌-◌, ◌*◌, ◌<◌, ◌≤◌, true, false, List, [], ◌∷◌, ◌++◌, length, take, Err, refl, sym, ap, ◌∙◌, subst, arith, append_assoc, length-append, take_at}
-use Rattle.std.specs.Prelude.{zero, suc, encode_utf8_all}
+use Rattle.std.proofs.Common.{◌≡◌, ℕ, ◌+◌, ◌-◌, ◌*◌, ◌<◌, ◌≤◌, true, false, List, [], ◌∷◌, ◌++◌, length, take, Err, refl, sym, ap, ◌∙◌, subst, arith, append_assoc, length-append, take_at, zero, suc, encode_utf8_all}
 use Rattle.std.specs.Str.{IsCharBoundary, all_scalars}
 use Rattle.std.proofs.lemmas.Str.{encodes-append, IsCharBoundary-at_seam}
 use Rattle.std.specs.Str.Lossy.{replacement_bytes}

@@ -1,8 +1,6 @@
 -- What reading a source comes to, by where it stopped.
-use Rattle.std.proofs.Common.{◌≡◌, ℕ, ◌+◌, ◌<◌, ◌≤◌, ◌^◌, ◌↔◌, true, false, List, [], ◌++◌, length, Ok, Err, refl, sym, ap, ◌∙◌, subst, arith, append_assoc, append-nil}
-use Rattle.std.specs.Prelude.{Option, Bool, Result}
+use Rattle.std.proofs.Common.{◌≡◌, ℕ, ◌+◌, ◌<◌, ◌≤◌, ◌^◌, ◌↔◌, true, false, List, [], ◌++◌, length, Ok, Err, refl, sym, ap, ◌∙◌, subst, arith, append_assoc, append-nil, Option, Bool, Result, length-append}
 use Rattle.std.specs.Io.KnownBytes.{Consumes, IsAtEnd}
-use Rattle.std.proofs.lemmas.List.{length-append}
 use Rattle.nf_utf8.specs.Ending.{Ending, Whole, Bad, Cut as CutShort}
 use Rattle.nf_utf8.specs.Reading.{text_of, ending_of}
 use Rattle.nf_filter.specs.declared.fault.Fault.{Fault}

@@ -1,6 +1,5 @@
 -- What reading a source answers, by what was read of it.
-use Rattle.std.proofs.Common.{◌≡◌, ℕ, Bool, true, false, List, [], ◌++◌, None, Ok, Err, refl, sym, ap, ◌∙◌, arith}
-use Rattle.std.specs.Prelude.{Option, Result, option_map}
+use Rattle.std.proofs.Common.{◌≡◌, ℕ, Bool, true, false, List, [], ◌++◌, None, Ok, Err, refl, sym, ap, ◌∙◌, arith, Option, Result, option_map}
 use Rattle.nf_utf8.specs.Ending.{Ending, Whole, Bad, Cut as CutShort}
 use Rattle.nf_utf8.specs.Reading.{ending_of}
 use Rattle.nf_safe.specs.declared.place.Place.{Place}

@@ -1,6 +1,5 @@
 -- What feeding all bytes at once, and finishing, come to.
-use Rattle.std.proofs.Common.{◌≡◌, ℕ, ◌+◌, Bool, true, false, List, [], length, Option, Some, None, Result, Ok, Err, refl, sym, ap, ◌∙◌, subst, ⊎_elim}
-use Rattle.std.specs.Prelude.{IfErr, if◌then◌else◌, encode_utf8_all}
+use Rattle.std.proofs.Common.{◌≡◌, ℕ, ◌+◌, Bool, true, false, List, [], length, Option, Some, None, Result, Ok, Err, refl, sym, ap, ◌∙◌, subst, ⊎_elim, IfErr, if◌then◌else◌, encode_utf8_all}
 use Rattle.std.specs.Io.KnownBytes.{Appends}
 use Rattle.nf_forms.specs.Properties.{Properties}
 use Rattle.nf_forms.specs.declared.form.Form.{Form}

@@ -1,6 +1,4 @@
-use Rattle.std.proofs.Common.{◌≡◌, true, false, [], ◌∷◌, length, map-id, rules, refl, sym, ap, ◌∙◌, arith}
-use Rattle.std.specs.Prelude.{take_while, encode_utf8_all}
-use Rattle.std.specs.Str.{chars}
+use Rattle.std.proofs.Common.{◌≡◌, true, false, [], ◌∷◌, length, map-id, rules, refl, sym, ap, ◌∙◌, arith, take_while, encode_utf8_all, chars}
 use Rattle.std.proofs.lemmas.Bool.{and_from}
 use Rattle.std.proofs.lemmas.List.Folds.{list_all-append}
 use Rattle.std.proofs.lemmas.Str.{length-encode}

@@ -1,5 +1,4 @@
-use Rattle.std.proofs.Common.{◌≡◌, true, length}
-use Rattle.std.specs.Prelude.{encode_utf8_all}
+use Rattle.std.proofs.Common.{◌≡◌, true, length, encode_utf8_all}
 use Rattle.std.specs.List.{list_all}
 use Rattle.nf_filter.proofs.allowing.assigned_len.Given as goal
 

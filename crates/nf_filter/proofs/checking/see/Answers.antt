@@ -1,5 +1,4 @@
-use Rattle.std.proofs.Common.{◌≡◌, ◌+◌, [], ◌∷◌, ◌++◌, length, Bool, true, false, is_some, refl, Some, sym, ap, ◌∙◌}
-use Rattle.std.specs.Prelude.{encode_utf8_all}
+use Rattle.std.proofs.Common.{◌≡◌, ◌+◌, [], ◌∷◌, ◌++◌, length, Bool, true, false, is_some, refl, Some, sym, ap, ◌∙◌, encode_utf8_all}
 use Rattle.nf_forms.specs.Sound.{is_sound}
 use Rattle.nf_safe.specs.Checker.{offset_of}
 use Rattle.nf_safe.specs.Place.{place_from}

@@ -1,5 +1,4 @@
-use Rattle.std.proofs.Common.{◌≡◌, ℕ, ◌+◌, List, ◌++◌, length, None}
-use Rattle.std.specs.Prelude.{encode_utf8_all}
+use Rattle.std.proofs.Common.{◌≡◌, ℕ, ◌+◌, List, ◌++◌, length, None, encode_utf8_all}
 use Rattle.nf_safe.specs.Checker.{place_of, offset_of}
 use Rattle.nf_filter.specs.Checks.{HasChecked}
 use Rattle.nf_filter.proofs.checking.see_chars.Given as goal

@@ -1,5 +1,4 @@
-use Rattle.std.proofs.Common.{◌++◌, rules}
-use Rattle.std.specs.Str.{IsUtf8, chars}
+use Rattle.std.proofs.Common.{◌++◌, rules, IsUtf8, chars}
 use Rattle.nf_filter.proofs.TakingLemmas.{chars-three}
 use Rattle.nf_filter.proofs.checking.see_front.Goals as goal
 

@@ -1,5 +1,4 @@
-use Rattle.std.proofs.Common.{◌≡◌, ℕ, ◌+◌, List, length, None}
-use Rattle.std.specs.Str.{IsUtf8}
+use Rattle.std.proofs.Common.{◌≡◌, ℕ, ◌+◌, List, length, None, IsUtf8}
 use Rattle.nf_safe.specs.Checker.{place_of, offset_of}
 use Rattle.nf_filter.specs.Checks.{HasChecked, HasSeenFront}
 use Rattle.nf_filter.proofs.checking.see_text.Given as goal

@@ -1,5 +1,4 @@
-use Rattle.std.proofs.Common.{◌∙◌, rules}
-use Rattle.std.specs.Str.{IsUtf8}
+use Rattle.std.proofs.Common.{◌∙◌, rules, IsUtf8}
 use Rattle.nf_filter.proofs.ClosedLemmas.{closed_shorter, HasWrittenForm-one, HasWrittenForm-more, BreaksInForm-one, BreaksInForm-more}
 use Rattle.nf_filter.proofs.closing.write_closed.Goals as goal
 

@@ -1,5 +1,4 @@
-use Rattle.std.proofs.Common.{◌≡◌, ℕ, List, length}
-use Rattle.std.specs.Str.{IsUtf8}
+use Rattle.std.proofs.Common.{◌≡◌, ℕ, List, length, IsUtf8}
 use Rattle.nf_boundary.specs.Front.{IsClosedFront}
 use Rattle.nf_filter.specs.Block.{block_state}
 use Rattle.nf_filter.specs.Closing.{HasWrittenForm}

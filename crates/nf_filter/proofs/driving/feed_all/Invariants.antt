@@ -1,5 +1,4 @@
-use Rattle.std.proofs.Common.{◌≡◌, ℕ, ◌-◌, ◌^◌, List, length}
-use Rattle.std.specs.Prelude.{IsFalse}
+use Rattle.std.proofs.Common.{◌≡◌, ℕ, ◌-◌, ◌^◌, List, length, IsFalse}
 use Rattle.std.specs.Io.KnownBytes.{Consumes}
 use Rattle.nf_forms.specs.declared.form.Form.{Form}
 use Rattle.nf_filter.specs.declared.policy.Policy.{Policy}

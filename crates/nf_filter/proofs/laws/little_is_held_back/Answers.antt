@@ -1,5 +1,4 @@
-use Rattle.std.proofs.Common.{length, ap, arith}
-use Rattle.std.proofs.lemmas.List.{length-append}
+use Rattle.std.proofs.Common.{length, ap, arith, length-append}
 use Rattle.nf_forms.specs.Forms.{composes, decomposed, finished}
 use Rattle.nf_forms.specs.Front.{front, back}
 use Rattle.nf_forms.specs.StreamSafe.{stream_safe}

@@ -1,5 +1,4 @@
-use Rattle.std.proofs.Common.{[], length, false, sym, ap, ◌∙◌, arith}
-use Rattle.std.specs.Prelude.{option_map}
+use Rattle.std.proofs.Common.{[], length, false, sym, ap, ◌∙◌, arith, option_map}
 use Rattle.nf_safe.specs.declared.measure.Measure.{Measure}
 use Rattle.nf_safe.specs.declared.place.Place.{Place}
 use Rattle.nf_safe.specs.Measurer.{values_of}

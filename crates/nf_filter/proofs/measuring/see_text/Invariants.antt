@@ -1,5 +1,4 @@
-use Rattle.std.proofs.Common.{◌≡◌, ℕ, ◌+◌, ◌≤◌, List, ◌++◌, length}
-use Rattle.std.specs.Prelude.{encode_utf8_all}
+use Rattle.std.proofs.Common.{◌≡◌, ℕ, ◌+◌, ◌≤◌, List, ◌++◌, length, encode_utf8_all}
 use Rattle.nf_safe.specs.Measurer.{values_of}
 use Rattle.nf_filter.specs.Measures.{HasMeasured}
 use Rattle.nf_filter.proofs.measuring.see_text.Given as goal

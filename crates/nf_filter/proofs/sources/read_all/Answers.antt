@@ -1,8 +1,6 @@
-use Rattle.std.proofs.Common.{◌≡◌, ◌+◌, ◌<◌, [], ◌++◌, length, take, refl, sym, ◌∙◌, subst, arith, append_assoc, append-nil, Ok, Err}
+use Rattle.std.proofs.Common.{◌≡◌, ◌+◌, ◌<◌, [], ◌++◌, length, take, refl, sym, ◌∙◌, subst, arith, append_assoc, append-nil, Ok, Err, eq-eqb, ne_eqb, length-append, length-take}
 use Rattle.std.specs.Io.KnownBytes.{Consumes}
 use Rattle.std.proofs.KnownBytes.{Consumes-kept, Consumes-nil, Consumes-trans}
-use Rattle.std.proofs.lemmas.Bool.{eq-eqb, ne_eqb}
-use Rattle.std.proofs.lemmas.List.{length-append, length-take}
 use Rattle.nf_filter.specs.Taker.{HasRead}
 use Rattle.nf_filter.proofs.SourcesLemmas.{ReadsAll-failed, ReadsAll-ended, ReadsAll-stopped}
 use Rattle.nf_filter.proofs.sources.read_all.Goals as goal

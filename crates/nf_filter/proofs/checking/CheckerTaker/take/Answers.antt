@@ -1,6 +1,4 @@
-use Rattle.std.proofs.Common.{◌≡◌, ℕ, List, [], ◌∷◌, ◌++◌, Some, None, Err, refl, sym, ◌∙◌, append_assoc}
-use Rattle.std.specs.Prelude.{Option}
-use Rattle.std.specs.Str.{chars}
+use Rattle.std.proofs.Common.{◌≡◌, ℕ, List, [], ◌∷◌, ◌++◌, Some, None, Err, refl, sym, ◌∙◌, append_assoc, Option, chars}
 use Rattle.nf_forms.specs.Properties.{Properties}
 use Rattle.nf_safe.specs.declared.checker.Checker.{Checker}
 use Rattle.nf_safe.specs.Place.{place_from}

@@ -1,5 +1,4 @@
-use Rattle.std.proofs.Common.{[], ◌++◌, arith}
-use Rattle.std.proofs.lemmas.List.{length-append}
+use Rattle.std.proofs.Common.{[], ◌++◌, arith, length-append}
 use Rattle.nf_utf8.specs.Reading.{text_of}
 use Rattle.nf_filter.specs.Filter.{rows_of}
 use Rattle.nf_filter.proofs.StandingLemmas.{taken-text, taken-len}

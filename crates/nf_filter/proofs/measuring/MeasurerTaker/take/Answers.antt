@@ -1,6 +1,4 @@
-use Rattle.std.proofs.Common.{◌≡◌, ℕ, ◌+◌, [], ◌∷◌, ◌++◌, length, Some, None, Err, refl, sym, ◌∙◌, arith, append_assoc}
-use Rattle.std.specs.Prelude.{Option, encode_utf8_all}
-use Rattle.std.specs.Str.{chars}
+use Rattle.std.proofs.Common.{◌≡◌, ℕ, ◌+◌, [], ◌∷◌, ◌++◌, length, Some, None, Err, refl, sym, ◌∙◌, arith, append_assoc, Option, encode_utf8_all, chars}
 use Rattle.std.proofs.lemmas.Str.{length-encode}
 use Rattle.nf_filter.specs.declared.fault.Fault.TheVariants.{Row}
 use Rattle.nf_filter.specs.declared.taker.Stop.TheVariants.{Refused}

@@ -1,5 +1,4 @@
-use Rattle.std.proofs.Common.{◌≡◌, List, ℕ, [], Ok, Err, rules, refl, ap}
-use Rattle.std.specs.Prelude.{Result, MatchResult}
+use Rattle.std.proofs.Common.{◌≡◌, List, ℕ, [], Ok, Err, rules, refl, ap, Result, MatchResult}
 use Rattle.nf_filter.specs.declared.devices.Failed.{Failed}
 use Rattle.nf_filter.specs.Devices.{SinkState}
 use Rattle.nf_filter.specs.Writes.{Puts, BreaksOff}

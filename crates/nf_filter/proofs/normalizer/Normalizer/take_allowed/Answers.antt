@@ -1,5 +1,4 @@
-use Rattle.std.proofs.Common.{◌++◌, false, refl}
-use Rattle.std.specs.Str.{chars}
+use Rattle.std.proofs.Common.{◌++◌, false, refl, chars}
 use Rattle.nf_utf8.specs.Taking.{first_text}
 use Rattle.nf_filter.specs.Block.{block_state}
 use Rattle.nf_filter.proofs.AllowingLemmas.{TakesAllowed-all}

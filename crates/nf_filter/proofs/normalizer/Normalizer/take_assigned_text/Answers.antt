@@ -1,9 +1,7 @@
-use Rattle.std.proofs.Common.{◌≡◌, ℕ, ◌+◌, ◌<◌, Bool, true, List, [], ◌∷◌, ◌++◌, length, take, drop, Ok, refl, sym, ap, ◌∙◌, subst, arith, rules, append-nil}
-use Rattle.std.specs.Prelude.{take_while, encode_utf8_all}
+use Rattle.std.proofs.Common.{◌≡◌, ℕ, ◌+◌, ◌<◌, Bool, true, List, [], ◌∷◌, ◌++◌, length, take, drop, Ok, refl, sym, ap, ◌∙◌, subst, arith, rules, append-nil, take_while, encode_utf8_all, length-append, take-append-drop, take_at, drop_at}
 use Rattle.std.specs.List.{prefix_len}
 use Rattle.std.specs.Str.{IsUtf8, all_scalars, chars}
 use Rattle.std.proofs.lemmas.Bool.{and_parts}
-use Rattle.std.proofs.lemmas.List.{length-append, take-append-drop, take_at, drop_at}
 use Rattle.std.proofs.lemmas.Str.{IsCharBoundary-at_seam, chars-nil, chars_from_encodes, encodes-append, encodes-chars, scalars-chars}
 use Rattle.nf_filter.specs.Block.{block_state}
 use Rattle.nf_filter.specs.Normalizer.{TakesOn}

@@ -1,4 +1,4 @@
-use Rattle.std.proofs.Common.{◌≡◌, ℕ, Bool, true, false, List, [], ◌∷◌, ◌++◌, Ok, Err, refl, sym, ap, ◌∙◌, subst, append-nil}
+use Rattle.std.proofs.Common.{◌≡◌, ℕ, Bool, true, false, List, [], ◌∷◌, ◌++◌, Ok, Err, refl, sym, ap, ◌∙◌, subst, append-nil, length-append}
 use Rattle.nf_forms.specs.Properties.{Properties}
 use Rattle.nf_filter.specs.declared.fault.Fault.{Fault}
 use Rattle.nf_filter.specs.Block.{block_state}
@@ -12,7 +12,6 @@ use Rattle.nf_filter.proofs.normalizer.Normalizer.take_one.Goals as goal
 use Rattle.nf_filter.proofs.normalizer.Normalizer.take_one.Goals.{else-assigned-via-then-assigned+else-not-assigned, else-assigned-via-else-assigned}
 use Rattle.std.proofs.Common.{arith}
 use Rattle.std.proofs.lemmas.Bool.{and_from}
-use Rattle.std.proofs.lemmas.List.{length-append}
 
 -- one character more that may be taken
 one_more : (p : Properties) (a : Bool) (x : List ℕ) (c : ℕ) → allowed a p x ≡ x → allowed a p (c ∷ []) ≡ c ∷ [] → allowed a p (x ++ c ∷ []) ≡ x ++ c ∷ []

@@ -1,5 +1,4 @@
-use Rattle.std.proofs.Common.{◌++◌, rules, refl, arith, ◌∙◌}
-use Rattle.std.specs.Str.{chars}
+use Rattle.std.proofs.Common.{◌++◌, rules, refl, arith, ◌∙◌, chars}
 use Rattle.nf_filter.specs.Block.{block_state}
 use Rattle.nf_filter.proofs.TakingLemmas.{front_len, placed-behind, HasTakenFront-none, HasTakenFront-more, TakesOn-more, TakesOn-whole}
 use Rattle.nf_filter.proofs.normalizer.Normalizer.take_text.Goals as goal

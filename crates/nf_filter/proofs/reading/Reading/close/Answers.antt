@@ -1,6 +1,4 @@
-use Rattle.std.proofs.Common.{◌≡◌, ◌+◌, ◌-◌, length, ap, arith}
-use Rattle.std.specs.Prelude.{encode_utf8_all}
-use Rattle.std.proofs.lemmas.List.{length-append}
+use Rattle.std.proofs.Common.{◌≡◌, ◌+◌, ◌-◌, length, ap, arith, encode_utf8_all, length-append}
 use Rattle.nf_utf8.specs.Reading.{text_of, rest_of}
 use Rattle.nf_filter.specs.declared.fault.Fault.{Fault}
 use Rattle.nf_filter.specs.declared.fault.Fault.TheVariants.{Write}

@@ -1,9 +1,6 @@
-use Rattle.std.proofs.Common.{◌≡◌, ℕ, ◌+◌, ◌-◌, List, ◌++◌, length, ◌∙◌, arith, append_assoc}
-use Rattle.std.specs.Prelude.{encode_utf8_all}
-use Rattle.std.specs.Str.{chars}
+use Rattle.std.proofs.Common.{◌≡◌, ℕ, ◌+◌, ◌-◌, List, ◌++◌, length, ◌∙◌, arith, append_assoc, encode_utf8_all, chars, length-append}
 use Rattle.nf_utf8.specs.Reading.{text_of, text_len}
 use Rattle.nf_utf8.specs.Taking.{first_text, first_bytes}
-use Rattle.std.proofs.lemmas.List.{length-append}
 use Rattle.nf_filter.proofs.ReadingLemmas.{ends_well, all_behind, all_counted, ready_after, ReadsPiece-stopped, ReadsPiece-bad, ReadsPiece-read}
 use Rattle.nf_filter.proofs.reading.Reading.read.Goals as goal
 

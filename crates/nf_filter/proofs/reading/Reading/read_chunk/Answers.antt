@@ -1,7 +1,5 @@
-use Rattle.std.proofs.Common.{◌≡◌, ◌+◌, ◌-◌, ◌≤◌, true, ◌++◌, length, take, drop, refl, sym, ◌∙◌, arith}
-use Rattle.std.specs.Str.{chars}
+use Rattle.std.proofs.Common.{◌≡◌, ◌+◌, ◌-◌, ◌≤◌, true, ◌++◌, length, take, drop, refl, sym, ◌∙◌, arith, chars, length-drop, take_all}
 use Rattle.std.proofs.lemmas.Bool.{not-false, not-true}
-use Rattle.std.proofs.lemmas.List.{length-drop, take_all}
 use Rattle.nf_utf8.specs.Reading.{text_of, text_len}
 use Rattle.nf_utf8.specs.Taking.{first_bytes, first_text}
 use Rattle.nf_filter.specs.Block.{block_state}
