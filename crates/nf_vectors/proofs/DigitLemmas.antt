@@ -17,10 +17,6 @@ power (suc n) = 16 * power n
 pub power-more : (n : ℕ) → power (n + 1) ≡ 16 * power n
 power-more n = let more : n + 1 ≡ suc n = omega arith in ap power more
 
-pub some-from_not_none : (n : ℕ) → (n ≡ 0 → ⊥) → 1 ≤ n
-some-from_not_none zero none = absurd (none refl)
-some-from_not_none (suc n) none = omega arith
-
 -- five digits and one more fit 32 bits
 pub power-few : (n : ℕ) → n ≤ 5 → power n ≤ 1048576
 power-few zero few = omega arith

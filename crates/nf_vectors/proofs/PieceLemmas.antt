@@ -10,11 +10,9 @@ use Rattle.nf_vectors.specs.Line.{is_semicolon, is_blank}
 use Rattle.nf_vectors.specs.Judgement.{columns_of, columns_in}
 
 -- bytes are cut at the first semicolon
-pub split-cut : (bytes first rest : List ℕ) → position_or_len is_semicolon bytes < length bytes → first ≡ before_first is_semicolon bytes → rest ≡ after_first is_semicolon bytes
+pub split-cut : (bytes first rest : List ℕ) → (position_or_len is_semicolon bytes < length bytes) × (first ≡ before_first is_semicolon bytes) × (rest ≡ after_first is_semicolon bytes)
     → slice_split is_semicolon bytes ≡ first ∷ slice_split is_semicolon rest
-split-cut bytes first rest inside is_first is_rest =
-    slice_split_first is_semicolon bytes 0 inside ∙ ap (λ l. l ∷ slice_split is_semicolon (after_first is_semicolon bytes)) (sym is_first)
-    ∙ ap (λ l. first ∷ slice_split is_semicolon l) (sym is_rest)
+split-cut bytes first rest parts = slice_split_first is_semicolon bytes 0 parts.0 ∙ (λ i. sym parts.1 i ∷ slice_split is_semicolon (sym parts.2 i))
 
 pub split-none : (bytes : List ℕ) → position_or_len is_semicolon bytes ≡ length bytes → slice_split is_semicolon bytes ≡ bytes ∷ []
 split-none bytes end = slice_split_none is_semicolon bytes (λ k d within. fails_before_first is_semicolon bytes k d (omega (arith, end, within)))

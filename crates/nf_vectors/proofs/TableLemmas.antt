@@ -33,25 +33,13 @@ module _ (f : Form) (p : Properties) (columns : Columns) (items : List Column) (
   broken-behind held = by_test true held
 
 -- the first of two that there is
-or-first : {T : Type 0} {x : T} {o : Option T} (r : Option T) → Some x ≡ o → Some x ≡ option_or o r
+pub or-first : {T : Type 0} {x : T} {o : Option T} (r : Option T) → Some x ≡ o → Some x ≡ option_or o r
 or-first {T} {x} {o} r e = ap (λ o. option_or o r) e
 
-or-second : {T : Type 0} {x o r : Option T} → None ≡ o → x ≡ r → x ≡ option_or o r
+pub or-second : {T : Type 0} {x o r : Option T} → None ≡ o → x ≡ r → x ≡ option_or o r
 or-second {T} {x} {o} {r} none e = e ∙ ap (λ o. option_or o r) none
 
 module _ (p : Properties) (line : ℕ) (columns : Columns) where
-  pub failure-nfc : {x : Failure} → Some x ≡ failure_in Nfc p line columns → Some x ≡ failure_of p line columns
-  unfolding failure_of
-  failure-nfc a = or-first _ a
-
-  pub failure-nfd : {x : Failure} → None ≡ failure_in Nfc p line columns → Some x ≡ failure_in Nfd p line columns → Some x ≡ failure_of p line columns
-  unfolding failure_of
-  failure-nfd a b = or-second a (or-first _ b)
-
-  pub failure-nfkc : {x : Failure} → None ≡ failure_in Nfc p line columns → None ≡ failure_in Nfd p line columns → Some x ≡ failure_in Nfkc p line columns → Some x ≡ failure_of p line columns
-  unfolding failure_of
-  failure-nfkc a b c = or-second a (or-second b (or-first _ c))
-
   pub failure-last : None ≡ failure_in Nfc p line columns → None ≡ failure_in Nfd p line columns → None ≡ failure_in Nfkc p line columns
       → {E : Type 0} (r : Result (Option Failure) E) → IfOk r (λ last. last ≡ failure_in Nfkd p line columns) → IfOk r (λ last. last ≡ failure_of p line columns)
   unfolding failure_of

@@ -13,36 +13,26 @@ returns-in_err-source-clause-holds c =
 pub returns-in_err-nfc-clause-holds : goal.returns-in_err-nfc-clause-holds
 unfolding columns_of
 returns-in_err-nfc-clause-holds c =
-    let a = c.in_ok-source.ensures.column in
     refused_by _ c.from_residual-in_err-nfc.result c.in_err-nfc.field-0.0 (row_in c.args.line.now) c.from_residual-in_err-nfc.ensures (λ sound.
-    c.in-Some.ensures.pieces ∙ simp (a.1, c.in_err-nfc.ensures.column sound))
+    c.in-Some.ensures.pieces ∙ simp (c.in_ok-source.ensures.column.1, c.in_err-nfc.ensures.column sound))
 
 pub returns-in_err-nfd-clause-holds : goal.returns-in_err-nfd-clause-holds
 unfolding columns_of
 returns-in_err-nfd-clause-holds c =
-    let a = c.in_ok-source.ensures.column in
-    let b = c.in_ok-nfc.ensures.column in
     refused_by _ c.from_residual-in_err-nfd.result c.in_err-nfd.field-0.0 (row_in c.args.line.now) c.from_residual-in_err-nfd.ensures (λ sound.
-    c.in-Some.ensures.pieces ∙ simp (a.1, b.1, c.in_err-nfd.ensures.column sound))
+    c.in-Some.ensures.pieces ∙ simp (c.in_ok-source.ensures.column.1, c.in_ok-nfc.ensures.column.1, c.in_err-nfd.ensures.column sound))
 
 pub returns-in_err-nfkc-clause-holds : goal.returns-in_err-nfkc-clause-holds
 unfolding columns_of
 returns-in_err-nfkc-clause-holds c =
-    let a = c.in_ok-source.ensures.column in
-    let b = c.in_ok-nfc.ensures.column in
-    let d = c.in_ok-nfd.ensures.column in
     refused_by _ c.from_residual-in_err-nfkc.result c.in_err-nfkc.field-0.0 (row_in c.args.line.now) c.from_residual-in_err-nfkc.ensures (λ sound.
-    c.in-Some.ensures.pieces ∙ simp (a.1, b.1, d.1, c.in_err-nfkc.ensures.column sound))
+    c.in-Some.ensures.pieces ∙ simp (c.in_ok-source.ensures.column.1, c.in_ok-nfc.ensures.column.1, c.in_ok-nfd.ensures.column.1, c.in_err-nfkc.ensures.column sound))
 
 pub returns-in_err-nfkd-clause-holds : goal.returns-in_err-nfkd-clause-holds
 unfolding columns_of
 returns-in_err-nfkd-clause-holds c =
-    let a = c.in_ok-source.ensures.column in
-    let b = c.in_ok-nfc.ensures.column in
-    let d = c.in_ok-nfd.ensures.column in
-    let e = c.in_ok-nfkc.ensures.column in
     refused_by _ c.from_residual-in_err-nfkd.result c.in_err-nfkd.field-0.0 (row_in c.args.line.now) c.from_residual-in_err-nfkd.ensures (λ sound.
-    c.in-Some.ensures.pieces ∙ simp (a.1, b.1, d.1, e.1, c.in_err-nfkd.ensures.column sound))
+    c.in-Some.ensures.pieces ∙ simp (c.in_ok-source.ensures.column.1, c.in_ok-nfc.ensures.column.1, c.in_ok-nfd.ensures.column.1, c.in_ok-nfkc.ensures.column.1, c.in_err-nfkd.ensures.column sound))
 
 pub returns-clause-holds : goal.returns-clause-holds
 returns-clause-holds c =

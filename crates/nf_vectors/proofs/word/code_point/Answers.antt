@@ -1,9 +1,9 @@
-use Rattle.std.proofs.Common.{◌≡◌, ◌+◌, ◌*◌, ◌<◌, ◌∙◌, take, get_or, length, Ok, sym, ap, subst, arith, rules, take_all}
+use Rattle.std.proofs.Common.{◌≡◌, ◌+◌, ◌*◌, ◌<◌, ◌∙◌, take, get_or, length, Ok, sym, ap, subst, arith, rules, take_all, pos_of_ne-zero}
 use Rattle.std.specs.Char.{digit_value, InScalarRange, OutOfScalarRange}
 use Rattle.std.proofs.lemmas.Bool.{eqb-true, eqb-false}
 use Rattle.nf_vectors.specs.Words.{is_digit, value_of}
 use Rattle.std.specs.List.{list_all}
-use Rattle.nf_vectors.proofs.DigitLemmas.{power-more, power-few, value_of-more, digits-more, some-from_not_none, code_point-empty, code_point-long, code_point-other, code_point-scalar, code_point-surrogate}
+use Rattle.nf_vectors.proofs.DigitLemmas.{power-more, power-few, value_of-more, digits-more, code_point-empty, code_point-long, code_point-other, code_point-scalar, code_point-surrogate}
 use Rattle.nf_vectors.proofs.word.code_point.Goals as goal
 use Rattle.nf_vectors.proofs.word.code_point.Goals.{then-is_empty-via-then-is_empty, then-is_empty-via-else-is_empty+then-word-gt6}
 
@@ -42,7 +42,7 @@ returns-in-Some-from_u32-clause-value c =
     let word = c.args.word.now in
     let all = take_all c.loop-byte.byte-index word c.loop-byte-test.false in
     let value : c.loop-byte.value ≡ value_of word = c.loop-byte.invariant.value ∙ ap value_of all in
-    let some = some-from_not_none (length word) (eqb-false _ _ (sym c.is_empty.ensures ∙ c.if-is_empty.false)) in
+    let some = pos_of_ne-zero (eqb-false _ _ (sym c.is_empty.ensures ∙ c.if-is_empty.false)) in
     ap Ok (c.in-Some-from_u32.ensures.value.1 ∙ value)
     ∙ sym (code_point-scalar word some (omega (arith, c.if-word-gt6.false)) (ap (list_all is_digit) (sym all) ∙ c.loop-byte.invariant.digits) (subst InScalarRange value c.in-Some-from_u32.ensures.cases))
 
@@ -51,5 +51,5 @@ returns-in-None-clause-value c =
     let word = c.args.word.now in
     let all = take_all c.loop-byte.byte-index word c.loop-byte-test.false in
     let value : c.loop-byte.value ≡ value_of word = c.loop-byte.invariant.value ∙ ap value_of all in
-    let some = some-from_not_none (length word) (eqb-false _ _ (sym c.is_empty.ensures ∙ c.if-is_empty.false)) in
+    let some = pos_of_ne-zero (eqb-false _ _ (sym c.is_empty.ensures ∙ c.if-is_empty.false)) in
     sym (code_point-surrogate word some (omega (arith, c.if-word-gt6.false)) (ap (list_all is_digit) (sym all) ∙ c.loop-byte.invariant.digits) (subst OutOfScalarRange value c.in-None.ensures.cases))
