@@ -1,5 +1,5 @@
 -- A report of one row more.
-use Rattle.std.proofs.Common.{◌≡◌, ℕ, ◌+◌, cond, List, [], ◌∷◌, ◌++◌, length, Option, Some, None, refl, ap, ◌∙◌, arith, count_by}
+use Rattle.std.proofs.Common.{◌≡◌, ℕ, ◌+◌, cond, List, [], ◌∷◌, ◌++◌, length, Option, Some, None, refl, ap, ◌∙◌, arith, add-zero, count_by}
 use Rattle.std.specs.Option.{option_or}
 use Rattle.std.proofs.lemmas.List.{length_push}
 use Rattle.std.proofs.lemmas.List.Sums.{sum_by_push}
@@ -39,20 +39,9 @@ module _ (p : Properties) where
       next : (v : Verdict) (n a b d : ℕ) (o : Option Failure)
           → (let P : Report = record { rows = n + 1; passed = a + cond (is_pass v) 1 0; failed = b + cond (is_failure v) 1 0; skipped = d + cond (is_skip v) 1 0; first_failure = option_or o (failure_or v None) } in P)
           ≡ report_and (record { rows = n; passed = a; failed = b; skipped = d; first_failure = o }) v
-      next Skipped n a b d o =
-          let x : a + 0 ≡ a = omega arith in
-          let y : b + 0 ≡ b = omega arith in
-          let z = or_none o in
-          (λ i. record { rows = n + 1; passed = x i; failed = y i; skipped = d + 1; first_failure = z i })
-      next Passed n a b d o =
-          let x : b + 0 ≡ b = omega arith in
-          let y : d + 0 ≡ d = omega arith in
-          let z = or_none o in
-          (λ i. record { rows = n + 1; passed = a + 1; failed = x i; skipped = y i; first_failure = z i })
-      next (Failed failure) n a b d o =
-          let x : a + 0 ≡ a = omega arith in
-          let y : d + 0 ≡ d = omega arith in
-          (λ i. record { rows = n + 1; passed = x i; failed = b + 1; skipped = y i; first_failure = option_or o (Some failure) })
+      next Skipped n a b d o = simp (add-zero, or_none)
+      next Passed n a b d o = simp (add-zero, or_none)
+      next (Failed failure) n a b d o = simp add-zero
 
 pub rows-and : (report : Report) (v : Verdict) (new : Report) → new ≡ report_and report v → new.rows ≡ report.rows + 1
 rows-and report Skipped new is = ap (λ (r : Report). r.rows) is

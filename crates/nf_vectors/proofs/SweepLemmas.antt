@@ -1,5 +1,5 @@
 -- A sweep of one code more.
-use Rattle.std.proofs.Common.{◌≡◌, ℕ, zero, suc, ◌+◌, ◌≤◌, length, Bool, true, false, cond, not, ◌&&◌, List, [], ◌∷◌, ◌++◌, Some, None, refl, sym, ap, ◌∙◌, arith, count_by, find}
+use Rattle.std.proofs.Common.{◌≡◌, ℕ, zero, suc, ◌+◌, ◌≤◌, length, Bool, true, false, cond, not, ◌&&◌, List, [], ◌∷◌, ◌++◌, Some, None, refl, sym, ap, ◌∙◌, arith, add-zero, count_by, find}
 use Rattle.std.specs.Option.{option_or}
 use Rattle.std.proofs.lemmas.List.{length_push}
 use Rattle.std.proofs.lemmas.List.Sums.{sum_by_push, count_by-le-length}
@@ -49,19 +49,12 @@ module _ (p : Properties) (rows : List VectorRow) (n : ℕ) where
 
     -- it is listed, or no scalar value
     pub sweep-past : is_unlisted rows n ≡ false → s ≡ sweep_below p rows (n + 1)
-    sweep-past listed =
-        let x : (sweep_below p rows n).unlisted + 0 ≡ (sweep_below p rows n).unlisted = omega arith in
-        let y : (sweep_below p rows n).failed + 0 ≡ (sweep_below p rows n).failed = omega arith in
-        let z = or_none (sweep_below p rows n).first in
-        so_far ∙ sym (by_tests false false listed (ap (λ b. b && not (is_unchanged p n)) listed) ∙ (λ i. record { unlisted = x i; failed = y i; first = z i }))
+    sweep-past listed = so_far ∙ sym (by_tests false false listed (ap (λ b. b && not (is_unchanged p n)) listed) ∙ simp (add-zero, or_none))
 
     -- no form changes it
     pub sweep-fine : is_unlisted rows n ≡ true → is_unchanged p n ≡ true → (let P : Sweep = record s { unlisted = s.unlisted + 1 } in P) ≡ sweep_below p rows (n + 1)
     sweep-fine unlisted fine =
-        let y : (sweep_below p rows n).failed + 0 ≡ (sweep_below p rows n).failed = omega arith in
-        let z = or_none (sweep_below p rows n).first in
-        (λ i. record { unlisted = (so_far i).unlisted + 1; failed = (so_far i).failed; first = (so_far i).first })
-        ∙ sym (by_tests true false unlisted (ap (λ b. b && not (is_unchanged p n)) unlisted ∙ ap not fine) ∙ (λ i. record { unlisted = (sweep_below p rows n).unlisted + 1; failed = y i; first = z i }))
+        ap (λ (s : Sweep). record s { unlisted = s.unlisted + 1 }) so_far ∙ sym (by_tests true false unlisted (ap (λ b. b && not (is_unchanged p n)) unlisted ∙ ap not fine) ∙ simp (add-zero, or_none))
 
     -- a form changes it
     pub sweep-failed : is_unlisted rows n ≡ true → is_unchanged p n ≡ false
