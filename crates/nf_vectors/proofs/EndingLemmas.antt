@@ -49,9 +49,7 @@ is_size Memory = inr (λ e. cc)
 pub EndsLine-grown : (judgement : Judgement) (old mid new : Reading) (more : List ℕ) → mid.text.items ≡ old.text.items ++ more → mid.entries.items ≡ old.entries.items
     → mid.in_part1 ≡ old.in_part1 → mid.has_part1 ≡ old.has_part1 → mid.line ≡ old.line → AreWithin old.text.items old.entries.items → EndsLine judgement mid new → EndsLine judgement old new
 EndsLine-grown j old mid new more text entries in_part1 has_part1 line within ends = record {
-  rows = ends.rows ∙ ap (λ t. rows_in t mid.entries.items ++ row_at mid.line mid.in_part1 j) text ∙ ap (λ es. rows_in (old.text.items ++ more) es ++ row_at mid.line mid.in_part1 j) entries
-      ∙ ap (λ rows. rows ++ row_at mid.line mid.in_part1 j) (rows_in-append old.text.items more old.entries.items within)
-      ∙ ap (λ n. rows_in old.text.items old.entries.items ++ row_at n mid.in_part1 j) line ∙ ap (λ p. rows_in old.text.items old.entries.items ++ row_at old.line p j) in_part1;
+  rows = rw (ends.rows, text, entries, rows_in-append old.text.items more old.entries.items within, line, in_part1) refl;
   in_part1 = ends.in_part1 ∙ ap (λ p. part_behind p j) in_part1;
   has_part1 = ends.has_part1 ∙ ap (λ p. p || is_part1_line j) has_part1;
 }
@@ -61,15 +59,11 @@ module _ (reading : Reading) (bytes : List ℕ) (stands : StandsAfter reading by
   pub bad_line : (b : ℕ) (kind : VectorKind) → is_line_end b ≡ true → judged reading.line reading.bytes.items ≡ Bad kind
       → (stop : Option VectorKind) (more : List ℕ) → first_fault 1 stop (lines_of (bytes ++ b ∷ more)) ≡ Some (record { line = reading.line; kind = kind })
   bad_line b kind end bad stop more =
-      stands.faults stop (b ∷ more) ∙ ap (first_fault reading.line stop) (lines_of-ended reading.bytes.items stands.one_line b more end)
-      ∙ first_fault-ended reading.line stop reading.bytes.items more
-      ∙ ap (λ j. fault_or reading.line j (first_fault (reading.line + 1) stop (lines_of more))) bad
+      rw (stands.faults stop (b ∷ more), lines_of-ended reading.bytes.items stands.one_line b more end, first_fault-ended reading.line stop reading.bytes.items more, bad) refl
 
   -- where the bytes end, the fault is that of the last line
   pub last_line : (stop : Option VectorKind) → first_fault 1 stop (lines_of bytes) ≡ last_fault reading.line stop reading.bytes.items
-  last_line stop =
-      ap (λ l. first_fault 1 stop (lines_of l)) (sym (append-nil bytes)) ∙ stands.faults stop []
-      ∙ ap (first_fault reading.line stop) (lines_of-last reading.bytes.items stands.one_line)
+  last_line stop = rw (← append-nil bytes, stands.faults stop [], lines_of-last reading.bytes.items stands.one_line) refl
 
   module _ (few : length bytes ≤ limit) where
     pub within : take limit bytes ≡ bytes
@@ -79,19 +73,15 @@ module _ (reading : Reading) (bytes : List ℕ) (stands : StandsAfter reading by
     stop_is failed = ap (λ b. if b then Some Size else (if failed then Some Read else None)) (le-ltb limit (length bytes) few)
 
     pub read_failed : first_fault 1 (stop_of bytes true) (lines_within bytes) ≡ Some (record { line = reading.line; kind = Read })
-    read_failed = ap (λ l. first_fault 1 (stop_of bytes true) (lines_of l)) within ∙ ap (λ s. first_fault 1 s (lines_of bytes)) (stop_is true) ∙ last_line (Some Read)
+    read_failed = rw (within, stop_is true) (last_line (Some Read))
 
     pub last_bad : (kind : VectorKind) → judged reading.line reading.bytes.items ≡ Bad kind
         → first_fault 1 (stop_of bytes false) (lines_within bytes) ≡ Some (record { line = reading.line; kind = kind })
-    last_bad kind bad =
-        ap (λ l. first_fault 1 (stop_of bytes false) (lines_of l)) within ∙ ap (λ s. first_fault 1 s (lines_of bytes)) (stop_is false) ∙ last_line None
-        ∙ ap (λ j. fault_or reading.line j None) bad
+    last_bad kind bad = rw (within, stop_is false, last_line None, bad) refl
 
     pub last_fine : ((other : Option VectorFault) → fault_or reading.line (judged reading.line reading.bytes.items) other ≡ other)
         → first_fault 1 (stop_of bytes false) (lines_within bytes) ≡ None
-    last_fine fine =
-        ap (λ l. first_fault 1 (stop_of bytes false) (lines_of l)) within ∙ ap (λ s. first_fault 1 s (lines_of bytes)) (stop_is false) ∙ last_line None
-        ∙ fine None
+    last_fine fine = rw (within, stop_is false, last_line None) (fine None)
 
     -- where memory runs out over the next byte, or at the end
     pub runs_out : (rest all : List ℕ) → length rest ≤ block → all ≡ bytes ++ rest → (at_end : Bool) → (at_end ≡ true → rest ≡ []) → (fault : VectorFault) → fault ≡ record { line = reading.line; kind = fault.kind }
@@ -108,22 +98,15 @@ module _ (reading : Reading) (bytes : List ℕ) (stands : StandsAfter reading by
 
     module _ (new : Reading) (ends : EndsLine (judged reading.line reading.bytes.items) reading new) where
       pub all_rows : rows_in new.text.items new.entries.items ≡ rows_from 1 false (lines_within bytes)
-      all_rows = sym (ap (λ l. rows_from 1 false (lines_of l)) (within ∙ sym (append-nil bytes)) ∙ stands.rows []
-          ∙ ap (λ ls. rows_in reading.text.items reading.entries.items ++ rows_from reading.line reading.in_part1 ls) (lines_of-last reading.bytes.items stands.one_line)
-          ∙ ap (λ r. rows_in reading.text.items reading.entries.items ++ r) (append-nil (row_at reading.line reading.in_part1 (judged reading.line reading.bytes.items)))
-          ∙ sym ends.rows)
+      all_rows = rw (within, ← append-nil bytes, stands.rows [], lines_of-last reading.bytes.items stands.one_line, append-nil, ends.rows) refl
 
       pub all_parts : new.has_part1 ≡ names_part1_from 1 (lines_within bytes)
-      all_parts = sym (ap (λ l. names_part1_from 1 (lines_of l)) (within ∙ sym (append-nil bytes)) ∙ stands.part1 []
-          ∙ ap (λ ls. reading.has_part1 || names_part1_from reading.line ls) (lines_of-last reading.bytes.items stands.one_line)
-          ∙ ap (λ b. reading.has_part1 || b) (or-false (is_part1_line (judged reading.line reading.bytes.items)))
-          ∙ sym ends.has_part1)
+      all_parts = rw (within, ← append-nil bytes, stands.part1 [], lines_of-last reading.bytes.items stands.one_line, or-false, ends.has_part1) refl
 
   -- a byte past the limit
   pub too_long : (piece : List ℕ) → length bytes ≡ limit → 0 < length piece → Finds (bytes ++ piece) (record { line = reading.line; kind = Size })
   too_long piece full some stop past =
-      ap (λ s. first_fault 1 s (lines_within (bytes ++ piece))) (past (omega (arith, full, some, length-append bytes piece)))
-      ∙ ap (λ l. first_fault 1 (Some Size) (lines_of l)) (take_at bytes piece limit full) ∙ last_line (Some Size)
+      rw (past (omega (arith, full, some, length-append bytes piece)), take_at bytes piece limit full) (last_line (Some Size))
 
   -- another fault, behind which any bytes may stand
   pub found_before : (b : ℕ) (kind : VectorKind) (rest : List ℕ) → length bytes < limit

@@ -1,5 +1,5 @@
 -- How the reading of a vector file goes on, byte by byte.
-use Rattle.std.proofs.Common.{◌≡◌, ℕ, ◌+◌, true, false, ◌||◌, List, [], ◌∷◌, ◌++◌, length, Option, sym, ap, ◌∙◌, subst, arith, rules, append_assoc, append-nil, All, length-append}
+use Rattle.std.proofs.Common.{◌≡◌, ℕ, ◌+◌, true, false, ◌||◌, List, [], ◌∷◌, ◌++◌, length, Option, refl, sym, ap, ◌∙◌, subst, arith, rules, append_assoc, append-nil, All, length-append}
 use Rattle.std.proofs.Math.Bool.{or_assoc}
 use Rattle.std.proofs.lemmas.List.Splits.{slice_split_at, slice_split_none}
 use Rattle.nf_vectors.specs.declared.fault.VectorFault.{VectorFault}
@@ -37,17 +37,9 @@ module _ (old new : Reading) (bytes : List ℕ) (b : ℕ) (before : StandsAfter 
       → new.has_part1 ≡ old.has_part1 → new.in_part1 ≡ old.in_part1 → new.line ≡ old.line → new.bytes.items ≡ old.bytes.items ++ b ∷ []
       → All (λ b. is_line_end b ≡ false) new.bytes.items → StandsAfter new (bytes ++ b ∷ [])
   StandsAfter-byte inside rows has_part1 in_part1 line begun one = record {
-    faults = λ stop more. ap (λ l. first_fault 1 stop (lines_of l)) (append_assoc bytes (b ∷ []) more) ∙ before.faults stop (b ∷ more)
-        ∙ ap (λ l. first_fault old.line stop (lines_of l)) (here more) ∙ ap (λ n. first_fault n stop (lines_of (new.bytes.items ++ more))) (sym line);
-    rows = λ more. ap (λ l. rows_from 1 false (lines_of l)) (append_assoc bytes (b ∷ []) more) ∙ before.rows (b ∷ more)
-        ∙ ap (λ l. rows_in old.text.items old.entries.items ++ rows_from old.line old.in_part1 (lines_of l)) (here more)
-        ∙ ap (λ r. r ++ rows_from old.line old.in_part1 (lines_of (new.bytes.items ++ more))) (sym rows)
-        ∙ ap (λ n. rows_in new.text.items new.entries.items ++ rows_from n old.in_part1 (lines_of (new.bytes.items ++ more))) (sym line)
-        ∙ ap (λ p. rows_in new.text.items new.entries.items ++ rows_from new.line p (lines_of (new.bytes.items ++ more))) (sym in_part1);
-    part1 = λ more. ap (λ l. names_part1_from 1 (lines_of l)) (append_assoc bytes (b ∷ []) more) ∙ before.part1 (b ∷ more)
-        ∙ ap (λ l. old.has_part1 || names_part1_from old.line (lines_of l)) (here more)
-        ∙ ap (λ p. p || names_part1_from old.line (lines_of (new.bytes.items ++ more))) (sym has_part1)
-        ∙ ap (λ n. new.has_part1 || names_part1_from n (lines_of (new.bytes.items ++ more))) (sym line);
+    faults = λ stop more. rw (append_assoc bytes (b ∷ []) more, before.faults stop (b ∷ more), line, ← here more) refl;
+    rows = λ more. rw (append_assoc bytes (b ∷ []) more, before.rows (b ∷ more), rows, line, in_part1, ← here more) refl;
+    part1 = λ more. rw (append_assoc bytes (b ∷ []) more, before.part1 (b ∷ more), has_part1, line, ← here more) refl;
     taken = taken-more;
     one_line = one;
   }
@@ -60,34 +52,16 @@ module _ (old new : Reading) (bytes : List ℕ) (b : ℕ) (before : StandsAfter 
       → ((other : Option VectorFault) → fault_or old.line (judged old.line old.bytes.items) other ≡ other)
       → new.line ≡ old.line + 1 → new.bytes.items ≡ [] → StandsAfter new (bytes ++ b ∷ [])
   StandsAfter-line end ends fine line empty = record {
-    faults = λ stop more. ap (λ l. first_fault 1 stop (lines_of l)) (append_assoc bytes (b ∷ []) more) ∙ before.faults stop (b ∷ more)
-        ∙ ap (first_fault old.line stop) (split more) ∙ first_fault-ended old.line stop old.bytes.items more ∙ fine (first_fault (old.line + 1) stop (lines_of more))
-        ∙ ap (λ n. first_fault n stop (lines_of more)) (sym line) ∙ ap (λ l. first_fault new.line stop (lines_of l)) (here more);
-    rows = λ more. ap (λ l. rows_from 1 false (lines_of l)) (append_assoc bytes (b ∷ []) more) ∙ before.rows (b ∷ more)
-        ∙ ap (λ ls. rows_in old.text.items old.entries.items ++ rows_from old.line old.in_part1 ls) (split more)
-        ∙ sym (append_assoc (rows_in old.text.items old.entries.items) (row_at old.line old.in_part1 j) (rows_from (old.line + 1) (part_behind old.in_part1 j) (lines_of more)))
-        ∙ ap (λ r. r ++ rows_from (old.line + 1) (part_behind old.in_part1 j) (lines_of more)) (sym ends.rows)
-        ∙ ap (λ n. rows_in new.text.items new.entries.items ++ rows_from n (part_behind old.in_part1 j) (lines_of more)) (sym line)
-        ∙ ap (λ p. rows_in new.text.items new.entries.items ++ rows_from new.line p (lines_of more)) (sym ends.in_part1)
-        ∙ ap (λ l. rows_in new.text.items new.entries.items ++ rows_from new.line new.in_part1 (lines_of l)) (here more);
-    part1 = λ more. ap (λ l. names_part1_from 1 (lines_of l)) (append_assoc bytes (b ∷ []) more) ∙ before.part1 (b ∷ more)
-        ∙ ap (λ ls. old.has_part1 || names_part1_from old.line ls) (split more)
-        ∙ sym (or_assoc old.has_part1 (is_part1_line j) (names_part1_from (old.line + 1) (lines_of more)))
-        ∙ ap (λ p. p || names_part1_from (old.line + 1) (lines_of more)) (sym ends.has_part1)
-        ∙ ap (λ n. new.has_part1 || names_part1_from n (lines_of more)) (sym line)
-        ∙ ap (λ l. new.has_part1 || names_part1_from new.line (lines_of l)) (here more);
+    faults = λ stop more.
+        rw (append_assoc bytes (b ∷ []) more, before.faults stop (b ∷ more), split more, first_fault-ended old.line stop old.bytes.items more, fine (first_fault (old.line + 1) stop (lines_of more)), line, empty) refl;
+    rows = λ more. rw (append_assoc bytes (b ∷ []) more, before.rows (b ∷ more), split more, ends.rows, ends.in_part1, line, empty, append_assoc) refl;
+    part1 = λ more. rw (append_assoc bytes (b ∷ []) more, before.part1 (b ∷ more), split more, ends.has_part1, line, empty, or_assoc) refl;
     taken = taken-more;
     one_line = subst (All (λ b. is_line_end b ≡ false)) (sym empty) none;
   }
     where
-      j : Judgement
-      j = judged old.line old.bytes.items
-
       split : (more : List ℕ) → lines_of (old.bytes.items ++ b ∷ more) ≡ old.bytes.items ∷ lines_of more
       split more = lines_of-ended old.bytes.items before.one_line b more end
-
-      here : (more : List ℕ) → more ≡ new.bytes.items ++ more
-      here more = sym (ap (λ l. l ++ more) empty)
 
       none : All (λ b. is_line_end b ≡ false) []
       none = search (rules)
