@@ -41,21 +41,25 @@ unmapped : {T : Type 0} (fault : Fault) (o : Option Fault) → option_map (λ g.
 unmapped fault (Some other) e = cc
 unmapped fault None e = cc
 
-module _ (p : Properties) (sound : AreSound p) (base at : ℕ) where
-  all_sound : (x : List ℕ) → list_all (is_sound p) x ≡ true
+module _ (p : Properties) (sound : AreSound p) where
+  pub all_sound : (x : List ℕ) → list_all (is_sound p) x ≡ true
   all_sound [] = refl
   all_sound (c ∷ x) = ap (λ b. b && list_all (is_sound p) x) (sound c) ∙ all_sound x
 
-  usable_is : (x : List ℕ) → is_usable p x ≡ true
+  pub usable_is : (x : List ℕ) → is_usable p x ≡ true
   unfolding is_usable
   usable_is x = all_sound (stream_safe p x)
 
+  -- what is not assigned alone is a fault of its own
+  pub first_fault-assigned : (place : List ℕ → ℕ) (x : List ℕ) (other : Option Fault)
+      → first_fault true p place x other ≡ (if length (allowed true p x) == length x then other else Some (Unassigned (place (allowed true p x))))
+  first_fault-assigned place x other = rw (usable_is (allowed true p x)) refl
+
+module _ (p : Properties) (sound : AreSound p) (base at : ℕ) where
   -- nor does a text
   not_in_text : (assigned : Bool) (place : List ℕ → ℕ) (x : List ℕ) (other : Option Fault) → ¬ (other ≡ Some (Row at)) → ¬ (first_fault assigned p place x other ≡ Some (Row at))
-  not_in_text false place x other not e = not (sym (ap (λ u. if u then other else Some (Row (place (usable p x)))) (usable_is x)) ∙ e)
-  not_in_text true place x other not e =
-      next (length (allowed true p x) == length x)
-      (sym (ap (λ u. if u then (if length (allowed true p x) == length x then other else Some (Unassigned (place (allowed true p x)))) else Some (Row (place (usable p (allowed true p x))))) (usable_is (allowed true p x))) ∙ e)
+  not_in_text false place x other not e = not (sym (ap (λ u. if u then other else Some (Row (place (usable p x)))) (usable_is p sound x)) ∙ e)
+  not_in_text true place x other not e = next (length (allowed true p x) == length x) (sym (first_fault-assigned p sound place x other) ∙ e)
     where
       next : (b : Bool) → ¬ ((if b then other else Some (Unassigned (place (allowed true p x)))) ≡ Some (Row at))
       next true e = not e
@@ -84,7 +88,7 @@ module _ (p : Properties) (sound : AreSound p) (base at : ℕ) where
   not_a_check_fault : (bytes : List ℕ) → ¬ (check_fault p base bytes ≡ Some (Row at))
   unfolding check_fault
   not_a_check_fault bytes e = not_bad_byte base at (ending_of bytes)
-      (sym (ap (λ u. if u then bad_byte base (ending_of bytes) else Some (Row (base + length (encode_utf8_all (sound_front p (text_of bytes)))))) (all_sound (text_of bytes))) ∙ e)
+      (sym (ap (λ u. if u then bad_byte base (ending_of bytes) else Some (Row (base + length (encode_utf8_all (sound_front p (text_of bytes)))))) (all_sound p sound (text_of bytes))) ∙ e)
 
   pub not_checked : (bytes : List ℕ) → ¬ (check_decision p base bytes ≡ Some (Err (Row at)))
   unfolding check_decision

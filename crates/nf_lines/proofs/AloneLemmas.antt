@@ -39,20 +39,11 @@ use Rattle.nf_filter.proofs.PieceLemmas.{left-text}
 use Rattle.nf_filter.proofs.PolicyLemmas.{allowed-append, allowed-grows, allowed-none, first_fault-none}
 use Rattle.nf_filter.proofs.ReadingLemmas.{ending_of-none}
 use Rattle.nf_filter.proofs.SettledLemmas.{usable-all}
+use Rattle.nf_filter.proofs.SoundnessLemmas.{all_sound, usable_is, first_fault-assigned}
 use Rattle.nf_lines.specs.Cut.{EndsInLineFeed}
 use Rattle.nf_lines.specs.Alone.{end_fault, SameOrLineFeed, StandAlone}
-use Rattle.nf_lines.proofs.WholeParts.{Reading, line_encodes}
+use Rattle.nf_lines.proofs.WholeParts.{Reading, eqb_past, line_encodes}
 use Rattle.nf_lines.proofs.WholeLines.{ReadsLines, strict_lines, replaced_lines}
-
--- one length more on both sides
-eqb_past : (n a b : ℕ) → (n + a == n + b) ≡ (a == b)
-eqb_past n a b = by (a == b) refl
-  where
-    by : (t : Bool) → (a == b) ≡ t → (n + a == n + b) ≡ (a == b)
-    by true e = let same : a ≡ b = eqb-true a b e in eq-eqb (n + a) (n + b) (omega (arith, same)) ∙ sym e
-    by false e =
-        let differs : ¬ (a ≡ b) = λ same. (let t : (a == b) ≡ true = eq-eqb a b same in cc) in
-        ne_eqb (n + a) (n + b) (λ same. differs (omega (arith, same))) ∙ sym e
 
 -- the fault at the end, where a character that it cuts is one
 strict_end : (base : ℕ) (tally : Tally) (e : Ending) → result_err (answer_at_end base tally e) ≡ result_err (answer_at_end base (tt {0}) e)
@@ -98,27 +89,15 @@ final-none policy f p =
         next false = refl
 
 module _ (p : Properties) (sound : AreSound p) where
-  all_sound : (x : List ℕ) → list_all (is_sound p) x ≡ true
-  all_sound [] = refl
-  all_sound (c ∷ x) = ap (λ b. b && list_all (is_sound p) x) (sound c) ∙ all_sound x
-
-  usable_is : (x : List ℕ) → is_usable p x ≡ true
-  unfolding is_usable
-  usable_is x = all_sound (stream_safe p x)
-
   -- without a fault all was taken
   taken_all : (a : Bool) (place : List ℕ → ℕ) (x : List ℕ) (other : Option Fault) → first_fault a p place x other ≡ None → (allowed a p x ≡ x) × (other ≡ None)
-  taken_all false place x other none = (refl, sym (first_fault-none p false place x other (usable_is x) refl) ∙ none)
+  taken_all false place x other none = (refl, sym (first_fault-none p false place x other (usable_is p sound x) refl) ∙ none)
   taken_all true place x other none = ⊎_elim
-      (λ all. (all, sym (first_fault-none p true place x other (usable_is x) all) ∙ none))
-      (λ less. absurd (some (sym (told less.0) ∙ none)))
+      (λ all. (all, sym (first_fault-none p true place x other (usable_is p sound x) all) ∙ none))
+      (λ less. absurd (some
+      (sym (first_fault-assigned p sound place x other ∙ ap (λ (b : Bool). if b then other else Some (Unassigned (place (allowed true p x)))) (ne_eqb (length (allowed true p x)) (length x) (λ same. omega (arith, same, less)))) ∙ none)))
       (allowed-grows p true x [])
     where
-      told : length (allowed true p x) < length x → first_fault true p place x other ≡ Some (Unassigned (place (allowed true p x)))
-      told less =
-          ap (λ (b : Bool). if b then (if length (allowed true p x) == length x then other else Some (Unassigned (place (allowed true p x)))) else Some (Row (place (usable p (allowed true p x))))) (usable_is (allowed true p x))
-          ∙ ap (λ (b : Bool). if b then other else Some (Unassigned (place (allowed true p x)))) (ne_eqb (length (allowed true p x)) (length x) (λ same. omega (arith, same, less)))
-
       some : ¬ (Some (Unassigned (place (allowed true p x))) ≡ None)
       some e = cc
 
@@ -126,14 +105,12 @@ module _ (p : Properties) (sound : AreSound p) where
   fault_behind : (a : Bool) (x y : List ℕ) (place behind : List ℕ → ℕ) (other : Option Fault) → allowed a p x ≡ x → ((z : List ℕ) → place (x ++ z) ≡ behind z)
       → first_fault a p place (x ++ y) other ≡ first_fault a p behind y other
   fault_behind false x y place behind other all places =
-      first_fault-none p false place (x ++ y) other (usable_is (x ++ y)) refl ∙ sym (first_fault-none p false behind y other (usable_is y) refl)
+      first_fault-none p false place (x ++ y) other (usable_is p sound (x ++ y)) refl ∙ sym (first_fault-none p false behind y other (usable_is p sound y) refl)
   fault_behind true x y place behind other all places =
       let taken : allowed true p (x ++ y) ≡ x ++ allowed true p y = allowed-append p true x y all in
-      let told : (place : List ℕ → ℕ) (z : List ℕ) → first_fault true p place z other ≡ (if length (allowed true p z) == length z then other else Some (Unassigned (place (allowed true p z)))) =
-      λ place z. ap (λ (b : Bool). if b then (if length (allowed true p z) == length z then other else Some (Unassigned (place (allowed true p z)))) else Some (Row (place (usable p (allowed true p z))))) (usable_is (allowed true p z)) in
       let same : (length (allowed true p (x ++ y)) == length (x ++ y)) ≡ (length (allowed true p y) == length y) =
       (λ i. (ap length taken ∙ length-append x (allowed true p y)) i == length-append x y i) ∙ eqb_past (length x) (length (allowed true p y)) (length y) in
-      told place (x ++ y) ∙ (λ i. if same i then other else Some (Unassigned ((ap place taken ∙ places (allowed true p y)) i))) ∙ sym (told behind y)
+      first_fault-assigned p sound place (x ++ y) other ∙ (λ i. if same i then other else Some (Unassigned ((ap place taken ∙ places (allowed true p y)) i))) ∙ sym (first_fault-assigned p sound behind y other)
 
   -- where the end is no fault the whole form is written
   module _ (f : Form) where
@@ -148,12 +125,12 @@ module _ (p : Properties) (sound : AreSound p) where
         by false a s none = strict_whole base (ending_of bytes) s (form_utf8 false bytes) (sym (strict_end base (tally_of false p bytes) (ending_of bytes)) ∙ none)
         by true a s none =
             let all = taken_all a (λ front. base + len_under true bytes front) (whole_under true bytes) None (sym (answered _ (tally_of true p bytes)) ∙ none) in
-            ap (λ (b : Bool). if b && (length (allowed a p (whole_under true bytes)) == length (whole_under true bytes)) then form_utf8 true bytes else s) (usable_is (allowed a p (whole_under true bytes)))
+            ap (λ (b : Bool). if b && (length (allowed a p (whole_under true bytes)) == length (whole_under true bytes)) then form_utf8 true bytes else s) (usable_is p sound (allowed a p (whole_under true bytes)))
             ∙ ap (λ (b : Bool). if b then form_utf8 true bytes else s) (eq-eqb _ _ (ap length all.0))
 
     settled_is : (policy : Policy) (bytes : List ℕ) → settled_utf8 policy f p bytes ≡ encode_utf8_all (front p (safe_form f p (allowed policy.assigned p (text_under policy.replace bytes))))
     unfolding settled_utf8 settled
-    settled_is policy bytes = ap (λ x. encode_utf8_all (settled f p x)) (usable-all p (allowed policy.assigned p (text_under policy.replace bytes)) (usable_is (allowed policy.assigned p (text_under policy.replace bytes))))
+    settled_is policy bytes = ap (λ x. encode_utf8_all (settled f p x)) (usable-all p (allowed policy.assigned p (text_under policy.replace bytes)) (usable_is p sound (allowed policy.assigned p (text_under policy.replace bytes))))
 
     -- ---- lines of which nothing is left
     module _ (parting : IsParting p f line_feed) (closing : IsClosing p f line_feed) (policy : Policy) (base : ℕ) (lines rest : List ℕ) (read : ReadsLines policy.replace lines) (unfaulted : fault_in policy p base lines ≡ None) where
@@ -206,7 +183,7 @@ module _ (p : Properties) (sound : AreSound p) where
           by true a =
               let none = whole_under-none true in
               answered _ (tally_of true p [])
-              ∙ first_fault-none p a (λ front. base + length lines + len_under true [] front) (whole_under true []) None (usable_is (whole_under true [])) (ap (allowed a p) none ∙ allowed-none p a ∙ sym none)
+              ∙ first_fault-none p a (λ front. base + length lines + len_under true [] front) (whole_under true []) None (usable_is p sound (whole_under true [])) (ap (allowed a p) none ∙ allowed-none p a ∙ sym none)
 
       pub alone_whole : end_fault policy p base lines ≡ None
       alone_whole = ap (end_fault policy p base) (sym (append-nil lines)) ∙ end_behind [] ∙ end_nothing
@@ -244,9 +221,8 @@ module _ (p : Properties) (sound : AreSound p) where
 
           all_settled : settled_utf8 policy f p (lines ++ rest) ≡ encode_utf8_all (front p (head ++ tail))
           all_settled =
-              settled_is policy (lines ++ rest)
-              ∙ ap (λ z. encode_utf8_all (front p (safe_form f p z))) (ap (allowed policy.assigned p) (read.left.text rest) ∙ allowed-append p policy.assigned (read.before ++ line_feed ∷ []) (text_under policy.replace rest) taken.0)
-              ∙ ap (λ z. encode_utf8_all (front p z)) (safe_form-closed p f line_feed closing read.before (allowed policy.assigned p (text_under policy.replace rest)))
+              rw (settled_is policy (lines ++ rest), read.left.text rest, allowed-append p policy.assigned (read.before ++ line_feed ∷ []) (text_under policy.replace rest) taken.0,
+              safe_form-closed p f line_feed closing read.before (allowed policy.assigned p (text_under policy.replace rest))) refl
 
           some_starter : has_starter p tail ≡ true → final_utf8 policy f p lines ++ settled_utf8 policy f p rest ≡ settled_utf8 policy f p (lines ++ rest)
           some_starter some =
@@ -255,7 +231,7 @@ module _ (p : Properties) (sound : AreSound p) where
           no_starter : has_starter p tail ≡ false → final_utf8 policy f p lines ++ settled_utf8 policy f p rest ≡ settled_utf8 policy f p (lines ++ rest) ++ line_feed ∷ []
           no_starter none =
               let before : List ℕ = safe_form f p read.before in
-              let pushed : head ≡ before ++ line_feed ∷ [] = safe_form-push p f line_feed parting read.before (all_sound (stream_safe p read.before)) in
+              let pushed : head ≡ before ++ line_feed ∷ [] = safe_form-push p f line_feed parting read.before (all_sound p sound (stream_safe p read.before)) in
               let fronted : front p (head ++ tail) ≡ before =
               ap (λ z. front p (z ++ tail)) pushed ∙ ap (front p) (append_assoc before (line_feed ∷ []) tail) ∙ front-at p before line_feed tail parting.starts none in
               (λ i. (lines_form ∙ ap encode_utf8_all pushed ∙ encodes-append before (line_feed ∷ []) ∙ ap (λ z. encode_utf8_all before ++ z) line_encodes) i ++ (settled_is policy rest ∙ ap encode_utf8_all (front-none p tail none)) i)

@@ -157,12 +157,12 @@ module _ (policy : Policy) (f : Form) (p : Properties) (alone : (base : ℕ) (li
     feeds-by (Err fault) none fed = feeds-refused fault fed
 
     -- it ends in a line feed: then the filter was finished, and a new one begun
-    module _ (line : EndsInLineFeed piece) (fed : Fed state after l.rest piece old new (Ok tt)) where
+    module _ (line : EndsInLineFeed piece) (feeds : Feeds policy f p (base_of state) l.rest piece old new (Ok tt)) where
       all_line : EndsInLineFeed (l.rest ++ piece)
       all_line = (l.rest ++ line.0, ap (λ b. l.rest ++ b) line.1 ∙ sym (append_assoc l.rest line.0 (line_feed ∷ [])))
 
       good : fault_in policy p (base_of state) (l.rest ++ piece) ≡ None
-      good = sym ((fed.feeds (λ e. cc)).answer (λ e. cc))
+      good = sym (feeds.answer (λ e. cc))
 
       ends : end_fault policy p (base_of state) (l.rest ++ piece) ≡ None
       ends = (alone (base_of state) (l.rest ++ piece) [] all_line good).whole
@@ -180,7 +180,7 @@ module _ (policy : Policy) (f : Form) (p : Properties) (alone : (base : ℕ) (li
           ∙ ap (λ b. final_utf8 policy f p (l.whole ++ (l.rest ++ piece)) ++ b) (sym (settled_utf8-none policy f p))
 
       so_far : Puts first new [] (final_utf8 policy f p l.whole ++ settled_utf8 policy f p (l.rest ++ piece))
-      so_far = Puts-join has.puts (Puts-past (final_utf8 policy f p l.whole) ((fed.feeds (λ e. cc)).written (λ e. cc)))
+      so_far = Puts-join has.puts (Puts-past (final_utf8 policy f p l.whole) (feeds.written (λ e. cc)))
 
       pub ends-written : (fresh : State) (last : SinkState) (tally : Tally) → Finishes policy f p (base_of state) (l.rest ++ piece) new last (Ok tally) → base_of fresh ≡ offset_of state + length piece → StandsAfter policy f p fresh []
           → FeedsLines policy f p fresh l piece first last (Ok tt)

@@ -83,18 +83,20 @@ end_moved base n (Cut at start) = (let a : base + (n + at) ≡ base + n + at = o
 
 -- ---- of lists and parts alone
 
-part_end-moved : (n at start : ℕ) → part_end (n + at) (n + start) ≡ n + part_end at start
-part_end-moved n at start = by (at == start) refl
+-- one length more on both sides
+pub eqb_past : (n a b : ℕ) → (n + a == n + b) ≡ (a == b)
+eqb_past n a b = by (a == b) refl
   where
-    by : (b : Bool) → (at == start) ≡ b → part_end (n + at) (n + start) ≡ n + part_end at start
-    by true e =
-        let same : at ≡ start = eqb-true at start e in
-        ap (λ b. if b then (n + start) + 1 else n + at) (eq-eqb (n + at) (n + start) (omega (arith, same))) ∙ (let sum : (n + start) + 1 ≡ n + (start + 1) = omega arith in sum)
-        ∙ sym (ap (λ b. n + (if b then start + 1 else at)) e)
-    by false e =
-        let differs : ¬ (at ≡ start) = λ same. (let t : (at == start) ≡ true = eq-eqb at start same in cc) in
-        ap (λ b. if b then (n + start) + 1 else n + at) (ne_eqb (n + at) (n + start) (λ same. differs (omega (arith, same))))
-        ∙ sym (ap (λ b. n + (if b then start + 1 else at)) e)
+    by : (t : Bool) → (a == b) ≡ t → (n + a == n + b) ≡ t
+    by true e = let same : a ≡ b = eqb-true a b e in eq-eqb (n + a) (n + b) (omega (arith, same))
+    by false e = ne_eqb (n + a) (n + b) (λ same. let t : (a == b) ≡ true = eq-eqb a b (omega (arith, same)) in cc)
+
+part_end-moved : (n at start : ℕ) → part_end (n + at) (n + start) ≡ n + part_end at start
+part_end-moved n at start = ap (λ b. if b then (n + start) + 1 else n + at) (eqb_past n at start) ∙ by (at == start)
+  where
+    by : (b : Bool) → (if b then (n + start) + 1 else n + at) ≡ n + (if b then start + 1 else at)
+    by true = omega arith
+    by false = refl
 
 module _ (laws : Reading) where
   pub end_is : (bytes : List ℕ) (e : Ending) → ending_of bytes ≡ e → EndsAs bytes (text_of bytes) e

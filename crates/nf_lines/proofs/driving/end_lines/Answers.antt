@@ -39,14 +39,8 @@ returns-in-Ok-clause-feeds g c = λ first l has.
     let stands = fed.stands c.args.policy c.args.form l.rest has.stands in
     let base : base_of (state_of c.replace.new.dest) ≡ offset_of (state_of c.args.filter.now) + length c.args.piece.now =
     ap base_of next ∙ c.policy-next.ensures.base ∙ c.quickest.ensures.base ∙ c.offset.ensures ∙ fed.offset in
-    ends-written c.args.policy c.args.form ucd (c.lines_stand_alone.ensures c.args.policy c.args.form) (state_of c.args.filter.now) (state_of c.feed.new.self) l c.args.piece.now first _ _ has c.requires.lines (record {
-      feeds = fed.feeds c.args.policy c.args.form l.rest has.stands;
-      stands = stands;
-      base = fed.base;
-      long = λ e. cc;
-      kept = λ e. cc;
-      may = tt;
-    }) (state_of c.replace.new.dest) _ c.in-Ok.field-0
+    ends-written c.args.policy c.args.form ucd (c.lines_stand_alone.ensures c.args.policy c.args.form) (state_of c.args.filter.now) (state_of c.feed.new.self) l c.args.piece.now first _ _ has c.requires.lines
+    (fed.feeds c.args.policy c.args.form l.rest has.stands (λ e. cc)) (state_of c.replace.new.dest) _ c.in-Ok.field-0
     (finishes_at c.args.policy c.args.form bytes _ _ (Ok c.in-Ok.field-0) _ (state_of c.feed.new.self) _ (ap (λ f. state_of f) c.replace.ensures.value) fed.base (c.in-Ok.ensures.finishes c.args.policy c.args.form bytes) stands) base
     (subst (λ s. StandsAfter c.args.policy c.args.form ucd s []) (sym next) (c.policy-next.ensures.stands as_is c.args.form [] c.quickest.ensures.stands))
 
@@ -55,12 +49,6 @@ returns-in-Err-finish-clause-feeds g c = λ first l has.
     let bytes = l.rest ++ c.args.piece.now in
     let fed = c.in_default.ensures in
     let stands = fed.stands c.args.policy c.args.form l.rest has.stands in
-    ends-refused c.args.policy c.args.form ucd (c.lines_stand_alone.ensures c.args.policy c.args.form) (state_of c.args.filter.now) (state_of c.feed.new.self) l c.args.piece.now first _ _ has c.requires.lines (record {
-      feeds = fed.feeds c.args.policy c.args.form l.rest has.stands;
-      stands = stands;
-      base = fed.base;
-      long = λ e. cc;
-      kept = λ e. cc;
-      may = tt;
-    }) (state_of c.replace.new.dest) _ c.in-Err-finish.fault
+    ends-refused c.args.policy c.args.form ucd (c.lines_stand_alone.ensures c.args.policy c.args.form) (state_of c.args.filter.now) (state_of c.feed.new.self) l c.args.piece.now first _ _ has c.requires.lines
+    (fed.feeds c.args.policy c.args.form l.rest has.stands (λ e. cc)) (state_of c.replace.new.dest) _ c.in-Err-finish.fault
     (finishes_at c.args.policy c.args.form bytes _ _ (Err c.in-Err-finish.fault) _ (state_of c.feed.new.self) _ (ap (λ f. state_of f) c.replace.ensures.value) fed.base (c.in-Err-finish.ensures.finishes c.args.policy c.args.form bytes) stands)
