@@ -1,10 +1,9 @@
 -- Lines, and what stands behind them.
-use Rattle.std.proofs.Common.{◌≡◌, ℕ, ◌+◌, ◌<◌, ◌==◌, ◌&&◌, Bool, true, false, List, [], ◌∷◌, ◌++◌, length, Option, Some, None, inl, inr, ⊎_elim, encode_utf8_all, refl, sym, ap, subst, ◌∙◌, arith, append_assoc, append-nil, length-append, eq-eqb, ne_eqb, if◌then◌else◌}
+use Rattle.std.proofs.Common.{◌≡◌, ℕ, ◌+◌, ◌==◌, ◌&&◌, Bool, true, false, List, [], ◌∷◌, ◌++◌, length, Option, Some, None, inl, inr, ⊎_elim, encode_utf8_all, refl, sym, ap, subst, ◌∙◌, arith, append_assoc, append-nil, length-append, eq-eqb, ne_eqb, if◌then◌else◌}
 use Rattle.std.specs.Str.{chars}
-use Rattle.std.specs.List.{list_all}
 use Rattle.std.specs.Str.Lossy.{utf8_valid_len}
 use Rattle.std.specs.Result.{result_err}
-use Rattle.std.proofs.lemmas.Bool.{cases_Bool, eqb-true}
+use Rattle.std.proofs.lemmas.Bool.{cases_Bool}
 use Rattle.std.proofs.lemmas.Str.{encodes-append}
 use Rattle.nf_forms.specs.Properties.{Properties}
 use Rattle.nf_forms.specs.declared.form.Form.{Form}
@@ -14,7 +13,6 @@ use Rattle.nf_forms.specs.Front.{front}
 use Rattle.nf_forms.specs.Runs.{has_starter}
 use Rattle.nf_forms.specs.StreamSafe.{stream_safe}
 use Rattle.nf_forms.specs.SafeForm.{safe_form}
-use Rattle.nf_forms.specs.Sound.{is_sound}
 use Rattle.nf_forms.specs.Closing.{IsClosing}
 use Rattle.nf_forms.specs.Parting.{IsParting}
 use Rattle.nf_forms.specs.Laws.Closing.{safe_form-closed}
@@ -25,7 +23,7 @@ use Rattle.nf_utf8.specs.Reading.{text_of, ending_of}
 use Rattle.nf_utf8.specs.Replaced.{parts_of, replaced, replaced_whole}
 use Rattle.nf_facts.specs.LineFeed.{line_feed}
 use Rattle.nf_filter.specs.declared.fault.Fault.{Fault}
-use Rattle.nf_filter.specs.declared.fault.Fault.TheVariants.{Row, Unassigned}
+use Rattle.nf_filter.specs.declared.fault.Fault.TheVariants.{Unassigned}
 use Rattle.nf_filter.specs.declared.policy.Policy.{Policy}
 use Rattle.nf_filter.specs.declared.tally.Tally.{Tally}
 use Rattle.nf_filter.specs.Laws.Settled.{text_under-none, settled_utf8-none}
@@ -34,7 +32,7 @@ use Rattle.nf_filter.specs.Faults.{answer_at_end, bad_byte, bad_under, first_fau
 use Rattle.nf_filter.specs.Feeding.{IsLeft}
 use Rattle.nf_filter.specs.Finishes.{answer_or, end_under, end_of, final_under, final_utf8, is_taken, tally_of, whole_or}
 use Rattle.nf_filter.specs.Policy.{allowed, len_under, text_under, whole_under}
-use Rattle.nf_filter.specs.Settled.{is_usable, usable, settled, settled_utf8}
+use Rattle.nf_filter.specs.Settled.{settled, settled_utf8}
 use Rattle.nf_filter.proofs.PieceLemmas.{left-text}
 use Rattle.nf_filter.proofs.PolicyLemmas.{allowed-append, allowed-grows, allowed-none, first_fault-none}
 use Rattle.nf_filter.proofs.ReadingLemmas.{ending_of-none}
@@ -221,8 +219,12 @@ module _ (p : Properties) (sound : AreSound p) where
 
           all_settled : settled_utf8 policy f p (lines ++ rest) ≡ encode_utf8_all (front p (head ++ tail))
           all_settled =
-              rw (settled_is policy (lines ++ rest), read.left.text rest, allowed-append p policy.assigned (read.before ++ line_feed ∷ []) (text_under policy.replace rest) taken.0,
-              safe_form-closed p f line_feed closing read.before (allowed policy.assigned p (text_under policy.replace rest))) refl
+              rw (
+                settled_is policy (lines ++ rest),
+                read.left.text rest,
+                allowed-append p policy.assigned (read.before ++ line_feed ∷ []) (text_under policy.replace rest) taken.0,
+                safe_form-closed p f line_feed closing read.before (allowed policy.assigned p (text_under policy.replace rest)),
+              ) refl
 
           some_starter : has_starter p tail ≡ true → final_utf8 policy f p lines ++ settled_utf8 policy f p rest ≡ settled_utf8 policy f p (lines ++ rest)
           some_starter some =

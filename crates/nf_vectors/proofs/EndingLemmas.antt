@@ -10,7 +10,7 @@ use Rattle.nf_vectors.specs.declared.fault.VectorKind.TheVariants.{Fields, Empty
 use Rattle.nf_vectors.specs.declared.reading.Reading.{Reading}
 use Rattle.nf_vectors.specs.Line.{is_line_end, lines_of}
 use Rattle.nf_vectors.specs.Judgement.{Judgement, Bad}
-use Rattle.nf_vectors.specs.Suite.{judged, row_at, part_behind, is_part1_line, rows_from, names_part1_from, fault_or, last_fault, first_fault}
+use Rattle.nf_vectors.specs.Suite.{judged, part_behind, is_part1_line, rows_from, names_part1_from, fault_or, last_fault, first_fault}
 use Rattle.nf_vectors.specs.SuiteView.{rows_in}
 use Rattle.nf_vectors.specs.Within.{AreWithin}
 use Rattle.nf_vectors.specs.Standing.{StandsAfter, EndsLine}

@@ -1,13 +1,12 @@
 -- How the reading of a vector file goes on, byte by byte.
-use Rattle.std.proofs.Common.{◌≡◌, ℕ, ◌+◌, true, false, ◌||◌, List, [], ◌∷◌, ◌++◌, length, Option, refl, sym, ap, ◌∙◌, subst, arith, rules, append_assoc, append-nil, All, length-append}
+use Rattle.std.proofs.Common.{◌≡◌, ℕ, ◌+◌, true, false, List, [], ◌∷◌, ◌++◌, length, Option, refl, sym, ap, ◌∙◌, subst, arith, rules, append_assoc, append-nil, All, length-append}
 use Rattle.std.proofs.Math.Bool.{or_assoc}
 use Rattle.std.proofs.lemmas.List.Splits.{slice_split_at, slice_split_none}
 use Rattle.nf_vectors.specs.declared.fault.VectorFault.{VectorFault}
 use Rattle.nf_vectors.specs.declared.fault.VectorKind.{VectorKind}
 use Rattle.nf_vectors.specs.declared.reading.Reading.{Reading}
 use Rattle.nf_vectors.specs.Line.{is_line_end, lines_of}
-use Rattle.nf_vectors.specs.Judgement.{Judgement}
-use Rattle.nf_vectors.specs.Suite.{judged, row_at, part_behind, is_part1_line, rows_from, names_part1_from, fault_or, first_fault}
+use Rattle.nf_vectors.specs.Suite.{judged, fault_or, first_fault}
 use Rattle.nf_vectors.specs.SuiteView.{rows_in}
 use Rattle.nf_vectors.specs.Standing.{StandsAfter, EndsLine}
 use Rattle.nf_vectors.proofs.PieceLemmas.{split-some}

@@ -1,4 +1,4 @@
-use Rattle.std.proofs.Common.{◌≡◌, ◌+◌, ◌*◌, ◌<◌, ◌∙◌, take, get_or, length, Ok, sym, ap, subst, arith, rules, take_all, pos_of_ne-zero}
+use Rattle.std.proofs.Common.{◌≡◌, ◌+◌, ◌*◌, ◌<◌, ◌∙◌, take, get_or, Ok, sym, ap, subst, arith, rules, take_all, pos_of_ne-zero}
 use Rattle.std.specs.Char.{digit_value, InScalarRange, OutOfScalarRange}
 use Rattle.std.proofs.lemmas.Bool.{eqb-true, eqb-false}
 use Rattle.nf_vectors.specs.Words.{is_digit, value_of}
