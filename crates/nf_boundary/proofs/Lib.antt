@@ -5,3 +5,4 @@ pub mod KeptLemmas
 pub mod JoinLemmas
 pub mod ApartLemmas
 pub mod HangulLemmas
+pub mod MarkedLemmas

@@ -4,3 +4,6 @@ pub mod Pieces
 pub mod Stands
 pub mod Joins
 pub mod Hangul
+pub mod Mark
+pub mod Laws
+pub mod Marked

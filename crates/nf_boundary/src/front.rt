@@ -11,6 +11,7 @@ use crate::composing::compose_cluster;
 use crate::hangul::take_syllable;
 use crate::kept::keep_halfwidth;
 use crate::lone::{may_begin_syllable, take_lone};
+use crate::marks::take_marked;
 use crate::seen::Seen;
 use nf_calm::calm_front;
 use nf_facts::laws;
@@ -44,12 +45,20 @@ fn front_in<'t>(form: Form, text: &'t str, formed: &mut Formed) -> Option<Closed
     while let Some(behind) = take_cluster(form, next, formed) {
         next = behind;
     }
-    if next.text.len() == text.len() {
+    if next.text.len() < text.len() {
+        return Some(Closed {
+            same,
+            rest: next.text,
+        });
+    }
+    // Nothing is known of marks out of order as yet. They are looked for last, to keep the loop above short.
+    let last = take_marked(form, next, formed);
+    if last.text.len() == text.len() {
         return None;
     }
     Some(Closed {
         same,
-        rest: next.text,
+        rest: last.text,
     })
 }
 

@@ -5,13 +5,17 @@
 
 mod apart;
 mod closed;
+mod closing;
 mod cluster;
 mod composing;
 mod front;
 mod hangul;
 mod kept;
 mod lone;
+mod mark;
+mod marks;
 mod seen;
 
 pub use closed::{Closed, Formed};
 pub use front::closed_front;
+pub use mark::{Mark, Run, append_marks, hold};

@@ -4,7 +4,7 @@ use Rattle.std.specs.Char.{IsScalar}
 use Rattle.nf_forms.specs.Ucd.{ucd}
 use Rattle.nf_forms.specs.declared.form.Form.{Form}
 use Rattle.nf_forms.specs.declared.form.Form.TheVariants.{Nfc, Nfd, Nfkc, Nfkd}
-use Rattle.nf_pending.specs.declared.mark.Mark.{Mark}
+use Rattle.nf_boundary.specs.declared.mark.Mark.{Mark}
 use Rattle.nf_filter.specs.declared.filter.State.{State as FilterState}
 use Rattle.nf_filter.specs.declared.policy.Policy.{Policy}
 use Rattle.nf_filter.specs.declared.saved.Saved.{Saved}

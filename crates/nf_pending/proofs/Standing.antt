@@ -1,7 +1,7 @@
 -- What a machine holds of the text that it stands after.
-use Rattle.std.proofs.Common.{◌≡◌, ℕ, ◌+◌, Bool, true, false, cond, leb, List, [], ◌∷◌, ◌++◌, length, Option, Some, None, refl, sym, ap, ◌∙◌, subst, arith, append_assoc, map, take, drop}
+use Rattle.std.proofs.Common.{◌≡◌, ℕ, Bool, true, false, leb, List, [], ◌∷◌, ◌++◌, length, Option, Some, None, refl, sym, ap, ◌∙◌, subst, arith, append_assoc, map}
 use Rattle.std.proofs.lemmas.Bool.{cond-true, cond-false, ne_eqb}
-use Rattle.std.proofs.lemmas.List.{append-nil, map-append, take-map, drop-map}
+use Rattle.std.proofs.lemmas.List.{append-nil}
 use Rattle.std.specs.Prelude.{IfSome, insert, is_some, unwrap_or, ◌||◌}
 use Rattle.std.specs.List.{prefix_len}
 use Rattle.std.specs.Option.{option_to_list}
@@ -14,15 +14,15 @@ use Rattle.nf_forms.specs.declared.form.Form.{Form}
 use Rattle.nf_forms.specs.Forms.{composes, finished}
 use Rattle.nf_forms.specs.Laws.Runs.{has_starter-append, trail-push}
 use Rattle.nf_forms.specs.Laws.Front.{front-append-back, marks_push}
-use Rattle.nf_forms.specs.Laws.Order.{by_class-push, has_starter-by_class}
+use Rattle.nf_forms.specs.Laws.Order.{has_starter-by_class}
 use Rattle.nf_forms.specs.Laws.Compose.{IsGroup}
 use Rattle.nf_forms.specs.Laws.Settling.{closed_off, closed_off-group, next_composite, next_composite-none, settled_by, front-push_starter, back-push_starter, front-behind, back-behind, back-starter, back-empty, has_starter-head}
-use Rattle.nf_pending.specs.declared.mark.Mark.{Mark}
+use Rattle.nf_boundary.specs.declared.mark.Mark.{Mark}
 use Rattle.nf_pending.specs.declared.pending.Pending.{Pending}
-use Rattle.nf_pending.specs.Mark.{mark_of, is_rising}
+use Rattle.nf_boundary.specs.Mark.{mark_of, is_rising}
 use Rattle.nf_pending.specs.Meeting.{composite_with}
 use Rattle.nf_pending.specs.StandsAfter.{StandsAfter}
-use Rattle.nf_pending.proofs.Rising.{rising-held}
+use Rattle.nf_boundary.specs.Laws.Held.{held-push, held-characters}
 
 module _ (f : Form) (p : Properties) where
   module _ (pending : Pending) (w : List ℕ) (s : StandsAfter f p pending w) where
@@ -55,17 +55,6 @@ module _ (f : Form) (p : Properties) where
         at true None starts = sym (next_composite-none p (by_class p s.run) c (has_starter-by_class p s.run))
         at true (Some k) starts = alone _ (closed_off-group p true k (by_class p s.run) (starts k refl) (has_starter-by_class p s.run))
 
-  prefix_len-mark : (k : ℕ) (m : List ℕ) → prefix_len (λ mark. leb mark.class k) (map (mark_of p) m) ≡ prefix_len (λ x. leb (p.class x) k) m
-  prefix_len-mark k [] = refl
-  prefix_len-mark k (x ∷ m) = ap (λ n. cond (leb (p.class x) k) (1 + n) 0) (prefix_len-mark k m)
-
-  insert-mark : (m : List ℕ) (i c : ℕ) → insert (map (mark_of p) m) i (mark_of p c) ≡ map (mark_of p) (insert m i c)
-  insert-mark m i c =
-      let front_part : take i (map (mark_of p) m) ≡ map (mark_of p) (take i m) = take-map (mark_of p) i m in
-      let back_part : drop i (map (mark_of p) m) ≡ map (mark_of p) (drop i m) = drop-map (mark_of p) i m in
-      let joined = map-append (mark_of p) (take i m) (c ∷ drop i m) in
-      cc
-
   -- a mark more
   pub stands_mark : (old new : Pending) (w : List ℕ) (c : ℕ) → is_starter p c ≡ false → StandsAfter f p old w → new.composes ≡ old.composes → new.starter ≡ old.starter
       → (is_rising old.marks.items ≡ true → new.marks.items ≡ insert old.marks.items (prefix_len (λ mark. leb mark.class (p.class c)) old.marks.items) (mark_of p c))
@@ -78,11 +67,7 @@ module _ (f : Form) (p : Properties) where
     marks = marks_push p s.run c s.marks mark;
     composes = same_form ∙ s.composes;
     starter = ap option_to_list same_starter ∙ s.starter;
-    held = inserted (ap is_rising s.held ∙ rising-held p s.run s.marks)
-        ∙ ap (λ v. insert v (prefix_len (λ mark. leb mark.class (p.class c)) v) (mark_of p c)) s.held
-        ∙ ap (λ i. insert (map (mark_of p) (by_class p s.run)) i (mark_of p c)) (prefix_len-mark (p.class c) (by_class p s.run))
-        ∙ insert-mark (by_class p s.run) _ c
-        ∙ ap (λ v. map (mark_of p) v) (sym (by_class-push p s.run c mark));
+    held = held-push p s.run c old.marks.items new.marks.items s.marks mark s.held inserted;
   }
 
   pub settles_mark : (old : Pending) (w : List ℕ) (c : ℕ) → is_starter p c ≡ false → StandsAfter f p old w → front p (finished f p w) ≡ front p (finished f p (w ++ c ∷ []))
@@ -193,17 +178,13 @@ module _ (f : Form) (p : Properties) where
       pub begun_stands : (new : Pending) → new.composes ≡ pending.composes → new.starter ≡ Some (unwrap_or o c) → new.marks.items ≡ [] → StandsAfter f p new (w ++ c ∷ [])
       begun_stands new = stands_starter pending new w c starts s o next_is
 
-characters : (p : Properties) (m : List ℕ) → map (λ mark. mark.character) (map (mark_of p) m) ≡ m
-characters p [] = refl
-characters p (c ∷ m) = ap (λ v. c ∷ v) (characters p m)
-
 pub in_order_closes : (p : Properties) (starter : Option ℕ) (m : List ℕ) (marks : List Mark) → marks ≡ map (mark_of p) m
     → option_to_list starter ++ map (λ mark. mark.character) marks ≡ closed_off p false starter m
-in_order_closes p starter m marks same = ap (λ v. option_to_list starter ++ map (λ mark. mark.character) v) same ∙ ap (λ v. option_to_list starter ++ v) (characters p m) ∙ next starter
+in_order_closes p starter m marks same = ap (λ v. option_to_list starter ++ v) (held-characters p m marks same) ∙ next starter
   where
     next : (o : Option ℕ) → option_to_list o ++ m ≡ closed_off p false o m
     next None = refl
     next (Some s) = refl
 
 pub in_order_none : (p : Properties) (b : Bool) (m : List ℕ) (marks : List Mark) → marks ≡ map (mark_of p) m → option_to_list {X = ℕ} None ++ map (λ mark. mark.character) marks ≡ closed_off p b None m
-in_order_none p b m marks same = ap (λ v. map (λ mark. mark.character) v) same ∙ characters p m
+in_order_none p b m marks same = held-characters p m marks same

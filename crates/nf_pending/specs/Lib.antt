@@ -1,4 +1,3 @@
-pub mod Mark
 pub mod Meeting
 pub mod StandsAfter
 pub mod Laws

@@ -7,9 +7,9 @@ use Rattle.nf_forms.specs.Front.{back}
 use Rattle.nf_forms.specs.Order.{by_class}
 use Rattle.nf_forms.specs.declared.form.Form.{Form}
 use Rattle.nf_forms.specs.Forms.{composes, finished}
-use Rattle.nf_pending.specs.declared.mark.Mark.{Mark}
+use Rattle.nf_boundary.specs.declared.mark.Mark.{Mark}
 use Rattle.nf_pending.specs.declared.pending.Pending.{Pending}
-use Rattle.nf_pending.specs.Mark.{mark_of}
+use Rattle.nf_boundary.specs.Mark.{mark_of}
 
 -- what the machine holds, and whether its form composes
 abbrev pub starter_of : Pending → Option ℕ

@@ -6,8 +6,7 @@
 
 mod closing;
 pub mod laws;
-mod mark;
 mod pending;
 
-pub use mark::{Mark, Run};
+pub use nf_boundary::{Mark, Run};
 pub use pending::{Pending, Segment};

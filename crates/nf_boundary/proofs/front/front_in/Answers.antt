@@ -22,9 +22,16 @@ loop-behind-preserved c =
     reaches_more c.args.form c.args.text.now c.split_at.result.0.now c.loop-behind.formed.items c.loop-behind.next c.loop-behind.invariant c.in-Some.behind c.take_cluster.new.formed.items
     c.in-Some.ensures.closes
 
-pub returns : goal.returns
-returns c =
+pub returns-then-next-text : goal.returns-then-next-text
+returns-then-next-text c =
     let same : c.take_cluster.new.formed ≡ c.loop-behind.formed = search rules in
     let some : length c.loop-behind.next.text.now ≢ length c.args.text.now = search rules in
     subst (λ formed. IsClosedFront ucd c.args.form c.args.text.now c.split_at.result.0.now formed.items c.loop-behind.next.text.now) (sym same)
     (closed_front c.args.form c.args.text.now c.split_at.result.0.now c.loop-behind.formed.items c.loop-behind.next c.loop-behind.invariant some)
+
+pub returns : goal.returns
+returns c =
+    let same : c.take_cluster.new.formed ≡ c.loop-behind.formed = search rules in
+    let some : length c.take_marked-last.result.text.now ≢ length c.args.text.now = search rules in
+    let before = subst (λ formed. Reaches c.args.form c.args.text.now c.split_at.result.0.now formed.items c.loop-behind.next) (sym same) c.loop-behind.invariant in
+    closed_front c.args.form c.args.text.now c.split_at.result.0.now _ c.take_marked-last.result (c.take_marked-last.ensures c.args.text.now c.split_at.result.0.now before) some
