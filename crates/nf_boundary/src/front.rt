@@ -51,7 +51,7 @@ fn front_in<'t>(form: Form, text: &'t str, formed: &mut Formed) -> Option<Closed
             rest: next.text,
         });
     }
-    // Nothing is known of marks out of order as yet. They are looked for last, to keep the loop above short.
+    // Nothing is known as yet of marks out of order.
     let last = take_marked(form, next, formed);
     if last.text.len() == text.len() {
         return None;

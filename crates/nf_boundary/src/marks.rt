@@ -7,19 +7,30 @@ use crate::closing::close_off;
 use crate::mark::{Mark, Run, hold};
 use crate::seen::Seen;
 use nf_facts::laws;
-use ucd_normal::{Form, QuickCheck, quick_check};
+use nf_forms::Form;
+use ucd_normal::{Form as TableForm, QuickCheck, quick_check};
 
 /// Where more characters than this are there, the next run is left for another front: it may have no room, and would then
 /// have been read in vain.
 const MOST_BEFORE: usize = 15;
 
 /// Appends what the starters become that the text begins with, each with the marks behind it, as far as a boundary comes
-/// behind those; answers the last boundary.
-pub(crate) fn take_marked<'t>(
-    form: nf_forms::Form,
-    first: Seen<'t>,
-    formed: &mut Formed,
-) -> Seen<'t>
+/// behind those; answers the last boundary. It stands out of line, to keep its callers' loops short.
+pub(crate) fn take_marked<'t>(form: Form, first: Seen<'t>, formed: &mut Formed) -> Seen<'t>
+    requires { IsAtBoundary form first }
+    ensures { (whole same : List ℕ) → Reaches form whole same formed.old.items first.entry → Reaches form whole same formed.new.items result }
+{
+    match form {
+        Form::Nfc => marked_in(Form::Nfc, first, formed),
+        Form::Nfd => marked_in(Form::Nfd, first, formed),
+        Form::Nfkc => marked_in(Form::Nfkc, first, formed),
+        Form::Nfkd => marked_in(Form::Nfkd, first, formed),
+    }
+}
+
+/// Each form has a copy of the loops of its own.
+#[inline(always)]
+fn marked_in<'t>(form: Form, first: Seen<'t>, formed: &mut Formed) -> Seen<'t>
     requires { IsAtBoundary form first }
     ensures { (whole same : List ℕ) → Reaches form whole same formed.old.items first.entry → Reaches form whole same formed.new.items result }
 {
@@ -45,7 +56,7 @@ fn take_run<'t>(form: nf_forms::Form, first: Seen<'t>, formed: &mut Formed) -> O
         return None;
     }
     let mut next = Seen::first(form, first.behind)?;
-    if next.class == 0 || quick_check(first.character, Form::Nfkd) != QuickCheck::Yes {
+    if next.class == 0 || quick_check(first.character, TableForm::Nfkd) != QuickCheck::Yes {
         return None;
     }
     let mut run = Run::new();

@@ -1,7 +1,7 @@
 use Rattle.std.proofs.Common.{ℕ, List, length}
 use Rattle.nf_boundary.specs.Seen.{IsAtBoundary}
 use Rattle.nf_boundary.specs.Pieces.{Reaches}
-use Rattle.nf_boundary.proofs.marks.take_marked.Given as goal
+use Rattle.nf_boundary.proofs.marks.marked_in.Given as goal
 
 abbrev pub invariant-loop-behind : goal.invariant-loop-behind
 invariant-loop-behind l = record {

@@ -1,7 +1,7 @@
 use Rattle.std.proofs.Common.{rules, ◌≡◌, sym, subst}
 use Rattle.nf_boundary.specs.Pieces.{Reaches}
 use Rattle.nf_boundary.proofs.PieceLemmas.{closes_shorter, reaches_more}
-use Rattle.nf_boundary.proofs.marks.take_marked.Goals as goal
+use Rattle.nf_boundary.proofs.marks.marked_in.Goals as goal
 
 pub loop-behind-smaller : goal.loop-behind-smaller
 loop-behind-smaller c = closes_shorter c.args.form c.loop-behind.next.text.now c.in-Some.behind c.loop-behind.formed.items c.take_run.new.formed.items c.in-Some.ensures.closes
