@@ -8,6 +8,7 @@ ghost use Rattle.nf_filter.specs.Closing.{WritesClosed};
 use crate::block::Block;
 use crate::devices::{Failed, Sink};
 use crate::normalizer::Normalizer;
+use crate::taking::FEW;
 use nf_row::{Closed, Form, Formed, Rows};
 use nf_safe::Counter;
 use nf_utf8::char_count;
@@ -130,7 +131,10 @@ fn write_closed<'t, R: Rows, S: Sink>(
         return Err(failed);
     }
     let mut rest = closed.rest;
-    while let Some(next) = rows.closed_front(form, rest, formed) {
+    while rest.len() > FEW {
+        let Some(next) = rows.closed_front(form, rest, formed) else {
+            break;
+        };
         if let Err(failed) = write_form(next.same, formed, block) {
             return Err(failed);
         }

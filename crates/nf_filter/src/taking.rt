@@ -7,6 +7,9 @@ use crate::normalizer::Normalizer;
 use nf_row::{Formed, Kind, Rows};
 use nf_utf8::ascii_prefix;
 
+/// Of a text of so many bytes no closed front is asked for: each of its characters goes the ordinary way for less.
+pub(crate) const FEW: usize = 4;
+
 impl Normalizer {
     ghost use Rattle.std.specs.Prelude.{◌≡◌, ◌+◌, ◌<◌, ◌≤◌, ℕ, List, ◌++◌, length, chars, false, IfErr, OnOk};
     ghost use Rattle.nf_forms.specs.declared.form.Form.{Form};
@@ -98,6 +101,9 @@ impl Normalizer {
         ensures takes { TakesFrontBehind (R.properties rows.now) self.old self.new (block_state S.state block.old) (block_state S.state block.new) at text.now result }
         ensures lent { (block.new.sink.ghost_name ≡ block.old.sink.ghost_name) × ((S.state block.new.sink.now).lender ≡ (S.state block.old.sink.now).lender) }
     {
+        if text.len() <= FEW {
+            return self.take_else(rows, at, text, block);
+        }
         // No closed text begins with a mark, and to ask for a front of it costs more than to see that.
         let mut chars = text.chars();
         let c = chars.next().unwrap();
