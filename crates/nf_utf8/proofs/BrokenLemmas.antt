@@ -1,15 +1,17 @@
 -- Ill-formed parts, one behind the other.
-use Rattle.std.proofs.Common.{◌≡◌, ℕ, ◌+◌, ◌<◌, ◌≤◌, List, [], ◌∷◌, ◌++◌, length, drop, get_or, refl, sym, ap, ◌∙◌, arith, append_assoc, length-drop, take-append-drop}
+use Rattle.std.proofs.Common.{◌≡◌, ℕ, ◌+◌, ◌<◌, ◌≤◌, List, [], ◌∷◌, ◌++◌, length, take, drop, get_or, refl, sym, ap, subst, ◌∙◌, arith, append_assoc, length-drop, take-append-drop}
 use Rattle.std.specs.Prelude.{zero, suc}
-use Rattle.std.proofs.lemmas.List.{map-append, drop-drop, drop-append-le}
+use Rattle.std.proofs.lemmas.List.{take_more, map-append, drop-drop, drop-append-le}
 use Rattle.nf_utf8.specs.declared.carry.Carry.{Carry}
 use Rattle.nf_utf8.specs.declared.front.Front.TheVariants.{Begun, Bad as BadFront, Char as CharFront}
+use Rattle.nf_utf8.specs.declared.step.Step.TheVariants.{Char as CharStep, Bad as BadStep}
 use Rattle.nf_utf8.specs.Ending.{Bad}
 use Rattle.nf_utf8.specs.Front.{IsFront}
 use Rattle.nf_utf8.specs.Part.{IsPart}
 use Rattle.nf_utf8.specs.Reading.{text_of, ending_of}
 use Rattle.nf_utf8.specs.Replaced.{replacement, own_parts, part_end, parts_of, bytes_in}
 use Rattle.nf_utf8.specs.Broken.{replacements, BeginsBroken, IsBrokenFront}
+use Rattle.nf_utf8.specs.Tells.{Tells}
 use Rattle.nf_utf8.specs.Text.{BeginsText}
 use Rattle.nf_utf8.proofs.BegunLen.{begun_len-is, begins_for_all}
 use Rattle.nf_utf8.proofs.ReplacedLemmas.{bytes_in-append, is_broken, broken_part, broken_end, parts_of-bad}
@@ -39,16 +41,6 @@ no_part bytes = record {
 pub broken_at : (bytes : List ℕ) (at back : ℕ) → IsFront [] bytes (BadFront at back) → ending_of bytes ≡ Bad at 0
 broken_at bytes at back is = ending_of-broken [] bytes at is.0 is.1 is.2 ∙ ap (λ n. Bad n 0) (let same : 0 + at ≡ at = omega arith in same)
 
--- told by the first byte, or by the second
-pub broken_first : (bytes : List ℕ) → 0 < length bytes → ¬ BeginsText (get_or bytes 0 0 ∷ []) → ending_of bytes ≡ Bad 0 0
-broken_first [] some none = absurd (omega arith)
-broken_first (a ∷ rest) some none = broken_at (a ∷ rest) 0 0 (omega arith, tt, none, refl)
-
-pub broken_second : (bytes : List ℕ) → 1 < length bytes → IsPart (get_or bytes 0 0 ∷ []) → ¬ BeginsText (get_or bytes 0 0 ∷ get_or bytes 1 0 ∷ []) → ending_of bytes ≡ Bad 1 0
-broken_second [] some part none = absurd (omega arith)
-broken_second (a ∷ []) some part none = absurd (omega arith)
-broken_second (a ∷ b ∷ rest) some part none = broken_at (a ∷ b ∷ rest) 1 1 (omega arith, part, none, refl)
-
 -- a character at their front, and bytes that begin one, are no part
 pub char_whole : (bytes : List ℕ) (c len : ℕ) → IsFront [] bytes (CharFront c len) → ¬ BeginsBroken bytes
 char_whole bytes c len is broken =
@@ -58,6 +50,25 @@ pub begun_whole : (bytes : List ℕ) (carry : Carry) → IsFront [] bytes (Begun
 begun_whole bytes carry is broken =
     let b = is_broken bytes broken.0 0 broken.1 in
     omega (arith, b.begun, b.within, begun_len-is bytes (length bytes) (begins_for_all bytes (BeginsText-part bytes is.0)))
+
+-- the same, told by the byte behind the first n of them
+module _ (bytes front : List ℕ) (n : ℕ) (is : take n bytes ≡ front) (within : n < length bytes) where
+  front_more : take (n + 1) bytes ≡ front ++ get_or bytes n 0 ∷ []
+  front_more = take_more bytes n 0 within ∙ ap (λ l. l ++ get_or bytes n 0 ∷ []) is
+
+  pub told_bad : (back : ℕ) → IsPart front → Tells front (get_or bytes n 0) (BadStep back) → ending_of bytes ≡ Bad n 0
+  told_bad back part told = broken_at bytes n n (within, subst IsPart (sym is) part, subst (λ l. ¬ BeginsText l) (sym front_more) told.1, omega arith)
+
+  pub told_char : (c : ℕ) → Tells front (get_or bytes n 0) (CharStep c) → ¬ BeginsBroken bytes
+  told_char c told = char_whole bytes c (n + 1) (omega (arith, within), told.0, front_more ∙ told.1)
+
+-- four bytes at their front
+pub front_four : (bytes : List ℕ) → 4 ≤ length bytes → bytes ≡ get_or bytes 0 0 ∷ get_or bytes 1 0 ∷ get_or bytes 2 0 ∷ get_or bytes 3 0 ∷ drop 4 bytes
+front_four [] some = absurd (omega arith)
+front_four (a ∷ []) some = absurd (omega arith)
+front_four (a ∷ b ∷ []) some = absurd (omega arith)
+front_four (a ∷ b ∷ c ∷ []) some = absurd (omega arith)
+front_four (a ∷ b ∷ c ∷ d ∷ rest) some = refl
 
 -- behind such a front comes one part more
 module _ (bytes : List ℕ) (count len at : ℕ) (is : IsBrokenFront bytes count len) (bad : ending_of (drop len bytes) ≡ Bad at 0) where

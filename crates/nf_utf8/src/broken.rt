@@ -39,24 +39,42 @@ pub fn broken_front(bytes: &[u8], most: usize) -> Broken
     Broken { parts, len }
 }
 
-/// Where the byte stands that breaks off the part which the bytes begin with; none where they begin with no part. Most are
-/// told by their first two bytes.
+/// Where the byte stands that breaks off the part which the bytes begin with; none where they begin with no part. No more
+/// than four bytes tell it.
 #[inline]
 fn bad_at(bytes: &[u8]) -> Option<usize>
     ensures some { IfSome result (λ at. ending_of bytes.now ≡ Bad at 0) }
     ensures none { result ≡ None → ¬ BeginsBroken bytes.now }
 {
-    if bytes.len() > 1 {
-        match sequence::first(bytes[0]) {
-            Step::Bad { .. } => return Some(0),
-            Step::More => {
-                if let Step::Bad { .. } = sequence::second(bytes[0], bytes[1]) {
-                    return Some(1);
-                }
-            }
-            Step::Char(_) => {}
-        }
+    if bytes.len() < 4 {
+        return last_bad_at(bytes);
     }
+    match sequence::first(bytes[0]) {
+        Step::Bad { .. } => Some(0),
+        Step::Char(_) => None,
+        Step::More => match sequence::second(bytes[0], bytes[1]) {
+            Step::Bad { .. } => Some(1),
+            Step::Char(_) => None,
+            Step::More => match sequence::third(bytes[0], bytes[1], bytes[2]) {
+                Step::Bad { .. } => Some(2),
+                Step::Char(_) => None,
+                Step::More => {
+                    match sequence::fourth(bytes[0], bytes[1], bytes[2], bytes[3]) {
+                        Step::Bad { .. } => Some(3),
+                        Step::Char(_) => None,
+                        Step::More => unreachable!(),
+                    }
+                }
+            },
+        },
+    }
+}
+
+/// The same of any bytes.
+fn last_bad_at(bytes: &[u8]) -> Option<usize>
+    ensures some { IfSome result (λ at. ending_of bytes.now ≡ Bad at 0) }
+    ensures none { result ≡ None → ¬ BeginsBroken bytes.now }
+{
     match Carry::Empty.front(bytes) {
         Front::Bad { at, .. } => Some(at),
         Front::Char { .. } => None,

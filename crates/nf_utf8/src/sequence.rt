@@ -83,17 +83,14 @@ pub fn fourth(a: u8, b: u8, c: u8, byte: u8) -> Step
 fn is_second(first: u8, byte: u8) -> bool
     ensures { IsTrue result ↔ IsSecond first byte }
 {
-    let least = match first {
-        0xE0 => 0xA0,
-        0xF0 => 0x90,
-        _ => 0x80,
-    };
-    let greatest = match first {
-        0xED => 0x9F,
-        0xF4 => 0x8F,
-        _ => 0xBF,
-    };
-    least <= byte && byte <= greatest
+    is_continuation(byte)
+        && match first {
+            0xE0 => byte >= 0xA0,
+            0xED => byte < 0xA0,
+            0xF0 => byte >= 0x90,
+            0xF4 => byte < 0x90,
+            _ => true,
+        }
 }
 
 #[inline]

@@ -1,24 +1,27 @@
-use Rattle.std.proofs.Common.{arith}
-use Rattle.nf_utf8.proofs.BrokenLemmas.{broken_at, broken_first, broken_second, char_whole, begun_whole}
+use Rattle.std.proofs.Common.{refl, take, ap, arith}
+use Rattle.nf_utf8.proofs.BrokenLemmas.{told_bad, told_char, front_four}
 use Rattle.nf_utf8.proofs.broken.bad_at.Goals as goal
 
 pub returns-in-Bad-clause-some : goal.returns-in-Bad-clause-some
-returns-in-Bad-clause-some c =
-    let told = rw c.in-Bad.is at c.first.ensures in
-    broken_first c.args.bytes.now (omega (arith, c.if-bytes-gt1.true)) told.1
+returns-in-Bad-clause-some c = told_bad c.args.bytes.now _ 0 refl (omega (arith, c.if-bytes-lt4.false)) _ tt (rw c.in-Bad.is at c.first.ensures)
+
+pub returns-in-Char-clause-none : goal.returns-in-Char-clause-none
+returns-in-Char-clause-none c = λ _. told_char c.args.bytes.now _ 0 refl (omega (arith, c.if-bytes-lt4.false)) _ (rw c.in-Char.is at c.first.ensures)
 
 pub returns-in-Bad-second-clause-some : goal.returns-in-Bad-second-clause-some
-returns-in-Bad-second-clause-some c =
-    let part = rw c.in-More.is at c.first.ensures in
-    let told = rw c.in-Bad-second.is at c.second.ensures in
-    broken_second c.args.bytes.now (omega (arith, c.if-bytes-gt1.true)) part told.1
+returns-in-Bad-second-clause-some c = told_bad c.args.bytes.now _ 1 (ap (take 1) (front_four c.args.bytes.now c.if-bytes-lt4.false)) (omega (arith, c.if-bytes-lt4.false)) _ (rw c.in-More.is at c.first.ensures) (rw c.in-Bad-second.is at c.second.ensures)
 
-pub returns-in-Bad-front-clause-some : goal.returns-in-Bad-front-clause-some
-returns-in-Bad-front-clause-some c =
-    broken_at c.args.bytes.now c.in-Bad-front.at c.in-Bad-front.back (rw c.in-Bad-front.is at c.front.ensures)
+pub returns-in-Char-second-clause-none : goal.returns-in-Char-second-clause-none
+returns-in-Char-second-clause-none c = λ _. told_char c.args.bytes.now _ 1 (ap (take 1) (front_four c.args.bytes.now c.if-bytes-lt4.false)) (omega (arith, c.if-bytes-lt4.false)) _ (rw c.in-Char-second.is at c.second.ensures)
 
-pub returns-in-Char-front-clause-none : goal.returns-in-Char-front-clause-none
-returns-in-Char-front-clause-none c = λ _. char_whole c.args.bytes.now c.in-Char-front.c c.in-Char-front.len (rw c.in-Char-front.is at c.front.ensures)
+pub returns-in-Bad-third-clause-some : goal.returns-in-Bad-third-clause-some
+returns-in-Bad-third-clause-some c = told_bad c.args.bytes.now _ 2 (ap (take 2) (front_four c.args.bytes.now c.if-bytes-lt4.false)) (omega (arith, c.if-bytes-lt4.false)) _ (rw c.in-More-second.is at c.second.ensures) (rw c.in-Bad-third.is at c.third.ensures)
 
-pub returns-in-Begun-clause-none : goal.returns-in-Begun-clause-none
-returns-in-Begun-clause-none c = λ _. begun_whole c.args.bytes.now _ (rw c.in-Begun.is at c.front.ensures)
+pub returns-in-Char-third-clause-none : goal.returns-in-Char-third-clause-none
+returns-in-Char-third-clause-none c = λ _. told_char c.args.bytes.now _ 2 (ap (take 2) (front_four c.args.bytes.now c.if-bytes-lt4.false)) (omega (arith, c.if-bytes-lt4.false)) _ (rw c.in-Char-third.is at c.third.ensures)
+
+pub returns-in-Bad-fourth-clause-some : goal.returns-in-Bad-fourth-clause-some
+returns-in-Bad-fourth-clause-some c = told_bad c.args.bytes.now _ 3 (ap (take 3) (front_four c.args.bytes.now c.if-bytes-lt4.false)) (omega (arith, c.if-bytes-lt4.false)) _ (rw c.in-More-third.is at c.third.ensures) (rw c.in-Bad-fourth.is at c.fourth.ensures)
+
+pub returns-in-Char-fourth-clause-none : goal.returns-in-Char-fourth-clause-none
+returns-in-Char-fourth-clause-none c = λ _. told_char c.args.bytes.now _ 3 (ap (take 3) (front_four c.args.bytes.now c.if-bytes-lt4.false)) (omega (arith, c.if-bytes-lt4.false)) _ (rw c.in-Char-fourth.is at c.fourth.ensures)
