@@ -1,5 +1,5 @@
 -- The text with U+FFFD for each maximal subpart of an ill-formed sequence, and std's.
-use Rattle.std.proofs.Common.{◌≡◌, ℕ, ◌+◌, ◌<◌, ◌≤◌, ◌==◌, nat_lt, Bool, true, false, cond, List, [], ◌∷◌, ◌++◌, map, length, drop, Option, Some, None, unwrap_or, IsUtf8, encode_utf8_all, refl, sym, ap, subst, ◌∙◌, arith, append-nil, append_assoc, length-drop, take_all}
+use Rattle.std.proofs.Common.{◌≡◌, ℕ, ◌+◌, ◌<◌, ◌≤◌, ◌==◌, nat_lt, Bool, true, false, cond, List, [], ◌∷◌, ◌++◌, map, length, take, drop, Option, Some, None, unwrap_or, IsUtf8, encode_utf8_all, refl, sym, ap, subst, ◌∙◌, arith, append-nil, append_assoc, length-drop, take_all, take-append-drop}
 use Rattle.std.specs.Int.{is_in_range}
 use Rattle.std.specs.List.{slice_index}
 use Rattle.std.specs.Str.Lossy.{utf8_lossy, utf8_invalid_len, error_len_of_some, error_len_after_one, error_len_after_two, second_byte_min, second_byte_max, utf8_error_len, after_first_chunk, replacement_bytes}
@@ -15,7 +15,7 @@ use Rattle.nf_utf8.specs.Reading.{text_len, text_of, part_len, begun_len, ending
 use Rattle.nf_utf8.specs.Replaced.{Part, replacement, own_parts, part_end, parts_of, replaced, begun_at_end, replaced_whole}
 use Rattle.nf_utf8.proofs.Fronts.{cond_at}
 use Rattle.nf_utf8.proofs.Endings.{Ends, whole, cut, bad}
-use Rattle.nf_utf8.proofs.ReadingLemmas.{text_of-IsText, encodes-text_of, front_of, front_of-IsUtf8, ending_of-ends}
+use Rattle.nf_utf8.proofs.ReadingLemmas.{text_same, text_of-IsText, encodes-text_of, front_of, front_of-IsUtf8, ending_of-ends}
 use Rattle.nf_utf8.proofs.ReplacedLemmas.{chars-own, IsBroken, is_broken, broken_part, by_parts, parts_of-whole, parts_of-cut, parts_of-broken, bytes_in-whole, bytes_in-cut, bytes_in-broken}
 
 -- ---- how many bytes begin a character
@@ -38,6 +38,14 @@ invalid_few rest =
     (λ _. cond_at P second (error_len_after_two rest) (Some 1) (λ _. after_two) (λ _. omega arith)) in
     cond_at P (length rest == 0) None (error_len_of_some rest) (λ t. let none : length rest ≡ 0 = grind (arith, nat_tests) in omega arith)
     (λ _. cond_at P (is_in_range 0xC2 0xF4 x) (error_len_after_one rest) (Some 1) (λ _. after_one) (λ _. omega arith))
+
+-- where more bytes than that stand behind the text, it ends there whatever follows
+pub text_len-front : (bytes : List ℕ) (n : ℕ) → text_len (take n bytes) + 3 < length (take n bytes) → text_len bytes ≡ text_len (take n bytes)
+text_len-front bytes n far =
+    let front : List ℕ = take n bytes in
+    let rest : List ℕ = drop (text_len front) front in
+    let few : part_len rest ≤ 3 = cond_at (λ k. k ≤ 3) (is_in_range 0xC2 0xF4 (slice_index rest 0)) (utf8_invalid_len rest) 0 (λ _. invalid_few rest) (λ _. omega arith) in
+    ap (λ l. text_len l) (sym (take-append-drop n bytes)) ∙ text_same front (drop n bytes) (omega (arith, far)) (omega (arith, far, few))
 
 -- and it is this crate's, where any do; where none does, one byte is invalid
 invalid_begun : (rest : List ℕ) → 0 < part_len rest → utf8_invalid_len rest ≡ part_len rest

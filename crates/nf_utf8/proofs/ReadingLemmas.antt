@@ -109,7 +109,7 @@ module _ (bytes piece : List ℕ) (text : text_len bytes < length bytes) (begun 
       (subst BeginsText (sym (front_same g (omega arith))) h.holds)
       (λ b. let k : suc g ≤ g = h.longest (suc g) begun (subst BeginsText (front_same (suc g) begun) b) in omega arith))
 
-  text_same : text_len (bytes ++ piece) ≡ text_len bytes
+  pub text_same : text_len (bytes ++ piece) ≡ text_len bytes
   text_same =
       let t : ℕ = text_len bytes in
       let h = text_len-longest bytes in

@@ -12,6 +12,13 @@ use crate::sequence::is_continuation;
 pub fn valid_len(bytes: &[u8]) -> usize
     ensures { result ≡ text_len bytes.now }
 {
+    let front = &bytes[..bytes.len().min(FIRST)];
+    if let Err(e) = std::str::from_utf8(front) {
+        // No more than three bytes begin a character and are none.
+        if front.len() - e.valid_up_to() > 3 {
+            return e.valid_up_to();
+        }
+    }
     let at = valid_parts(bytes);
     match std::str::from_utf8(&bytes[at..]) {
         Ok(_) => bytes.len(),
@@ -19,8 +26,11 @@ pub fn valid_len(bytes: &[u8]) -> usize
     }
 }
 
+/// A bad byte among so many is found at once, by a reading that stops there.
+const FIRST: usize = 64;
+
 /// The first part has about this many bytes, and each behind it four times as many as the one before, up to `LARGEST`.
-const SMALLEST: usize = 16;
+const SMALLEST: usize = 256;
 
 const LARGEST: usize = 65536;
 
