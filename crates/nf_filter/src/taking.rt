@@ -10,6 +10,9 @@ use nf_utf8::ascii_prefix;
 /// Of a text of so many bytes no closed front is asked for: each of its characters goes the ordinary way for less.
 pub(crate) const FEW: usize = 4;
 
+/// The same of one that begins with plain ASCII, most of which is a run of that.
+const SHORT: usize = 128;
+
 impl Normalizer {
     ghost use Rattle.std.specs.Prelude.{◌≡◌, ◌+◌, ◌<◌, ◌≤◌, ℕ, List, ◌++◌, length, chars, false, IfErr, OnOk};
     ghost use Rattle.nf_forms.specs.declared.form.Form.{Form};
@@ -101,7 +104,7 @@ impl Normalizer {
         ensures takes { TakesFrontBehind (R.properties rows.now) self.old self.new (block_state S.state block.old) (block_state S.state block.new) at text.now result }
         ensures lent { (block.new.sink.ghost_name ≡ block.old.sink.ghost_name) × ((S.state block.new.sink.now).lender ≡ (S.state block.old.sink.now).lender) }
     {
-        if text.len() <= FEW {
+        if self.is_short(text) {
             return self.take_else(rows, at, text, block);
         }
         // No closed text begins with a mark, and to ask for a front of it costs more than to see that.
@@ -120,6 +123,14 @@ impl Normalizer {
             Ok(rest) => Ok(rest),
             Err(Failed) => Err(Fault::Write),
         }
+    }
+
+    /// Whether it costs more to ask for a closed front of the text than to do without.
+    #[inline]
+    fn is_short(&self, text: &str) -> bool
+        requires { 0 < length text.now }
+    {
+        text.len() <= FEW || self.is_plain && text.len() <= SHORT && text.as_bytes()[0] < 0x80
     }
 
     /// Takes a front of a text that is not known to be closed: a run of plain ASCII behind a pending character of such, or
