@@ -7,6 +7,9 @@ use std::simd::prelude::*;
 /// The bytes that are looked at together.
 const LANES: usize = 32;
 
+/// And those where fewer than that are left.
+const FEW: usize = 8;
+
 /// The length in bytes of the longest prefix of bytes below 80 (hexadecimal).
 pub fn ascii_prefix(bytes: &[u8]) -> usize
     ensures within { result ≤ length bytes.now }
@@ -21,7 +24,7 @@ pub fn ascii_prefix(bytes: &[u8]) -> usize
         }
         at += LANES;
     }
-    by_bytes(bytes, at)
+    by_few(bytes, at)
 }
 
 /// A bit for each lane, the lowest for the first: whether its byte is 80 or above.
@@ -32,7 +35,34 @@ fn not_ascii(lanes: u8x32) -> u64
     lanes.simd_ge(u8x32::splat(0x80)).to_bitmask()
 }
 
-/// The end of the prefix, byte by byte from `from` on.
+/// The end of the prefix, a few bytes at a time from `from` on.
+fn by_few(bytes: &[u8], from: usize) -> usize
+    requires within { from ≤ length bytes.now }
+    requires ascii { (k : ℕ) → k < from → slice_index bytes.now k < 0x80 }
+    ensures within { result ≤ length bytes.now }
+    ensures ascii { IsAscii (take result bytes.now) }
+    ensures longest { result < length bytes.now → 0x80 ≤ slice_index bytes.now result }
+{
+    let mut at = from;
+    while bytes.len() - at >= FEW {
+        let others = not_ascii_of_few(u8x8::from_slice(&bytes[at..]));
+        if others != 0 {
+            return at + others.trailing_zeros() as usize;
+        }
+        at += FEW;
+    }
+    by_bytes(bytes, at)
+}
+
+/// A bit for each of these few lanes.
+#[inline(always)]
+fn not_ascii_of_few(lanes: u8x8) -> u64
+    ensures { result ≡ mask_l (map (λ byte. leb 0x80 byte) lanes) }
+{
+    lanes.simd_ge(u8x8::splat(0x80)).to_bitmask()
+}
+
+/// The same byte by byte.
 fn by_bytes(bytes: &[u8], from: usize) -> usize
     requires within { from ≤ length bytes.now }
     requires ascii { (k : ℕ) → k < from → slice_index bytes.now k < 0x80 }

@@ -14,6 +14,7 @@ const LANES: usize = 32;
 const FEW: usize = 8;
 
 /// How many characters a text has: as many as it has bytes that begin one.
+#[inline(never)]
 pub fn char_count(text: &str) -> usize
     ensures { result ≡ length (chars text.now) }
 {
