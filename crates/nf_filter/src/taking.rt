@@ -4,7 +4,7 @@ use crate::block::Block;
 use crate::devices::{Failed, Sink};
 use crate::fault::Fault;
 use crate::normalizer::Normalizer;
-use nf_row::{Formed, Kind, Rows};
+use nf_row::{Closed, Formed, Kind, Rows};
 use nf_utf8::ascii_prefix;
 
 /// Of a text of so many bytes no closed front is asked for: each of its characters goes the ordinary way for less.
@@ -14,8 +14,9 @@ pub(crate) const FEW: usize = 4;
 const SHORT: usize = 128;
 
 impl Normalizer {
-    ghost use Rattle.std.specs.Prelude.{◌≡◌, ◌+◌, ◌<◌, ◌≤◌, ℕ, List, ◌++◌, length, chars, false, IfErr, OnOk};
+    ghost use Rattle.std.specs.Prelude.{◌≡◌, ◌+◌, ◌<◌, ◌≤◌, ℕ, List, ◌++◌, length, chars, false, IfErr, IfSome, OnOk};
     ghost use Rattle.nf_forms.specs.declared.form.Form.{Form};
+    ghost use Rattle.nf_boundary.specs.Front.{IsClosedFront};
     ghost use Rattle.nf_filter.specs.Block.{Start, block_state, Written};
     ghost use Rattle.nf_filter.specs.Faults.{IsOfTaking};
     ghost use Rattle.nf_filter.specs.Normalizer.{HasTaken, IsPlacedAt, IsWithin, TakesOn, settled_text};
@@ -104,9 +105,6 @@ impl Normalizer {
         ensures takes { TakesFrontBehind (R.properties rows.now) self.old self.new (block_state S.state block.old) (block_state S.state block.new) at text.now result }
         ensures lent { (block.new.sink.ghost_name ≡ block.old.sink.ghost_name) × ((S.state block.new.sink.now).lender ≡ (S.state block.old.sink.now).lender) }
     {
-        if self.is_short(text) {
-            return self.take_else(rows, at, text, block);
-        }
         // No closed text begins with a mark, and to ask for a front of it costs more than to see that.
         let mut chars = text.chars();
         let c = chars.next().unwrap();
@@ -116,7 +114,7 @@ impl Normalizer {
                 Err(refusal) => Err(refusal.at(at)),
             };
         }
-        let Some(closed) = rows.closed_front(self.form, text, formed) else {
+        let Some(closed) = self.closed_front(rows, text, formed) else {
             return self.take_else(rows, at, text, block);
         };
         match self.take_closed(rows, text, closed, formed, block) {
@@ -125,12 +123,26 @@ impl Normalizer {
         }
     }
 
-    /// Whether it costs more to ask for a closed front of the text than to do without.
-    #[inline]
-    fn is_short(&self, text: &str) -> bool
+    /// The closed front of a text, where to ask for that costs less than to do without.
+    #[inline(always)]
+    fn closed_front<'t, R: Rows>(
+        &self,
+        rows: &R,
+        text: &'t str,
+        formed: &mut Formed,
+    ) -> Option<Closed<'t>>
         requires { 0 < length text.now }
+        ensures { IfSome result (λ closed. IsClosedFront (R.properties rows.now) self.now.form text.now closed.same.now formed.new.items closed.rest.now) }
     {
-        text.len() <= FEW || self.is_plain && text.len() <= SHORT && text.as_bytes()[0] < 0x80
+        let few = if self.is_plain && text.as_bytes()[0] < 0x80 {
+            SHORT
+        } else {
+            FEW
+        };
+        if text.len() <= few {
+            return None;
+        }
+        rows.closed_front(self.form, text, formed)
     }
 
     /// Takes a front of a text that is not known to be closed: a run of plain ASCII behind a pending character of such, or

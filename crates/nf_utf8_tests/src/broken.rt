@@ -3,7 +3,7 @@ use nf_utf8::{Broken, broken_front};
 
 #[test]
 fn parts_are_counted_up_to_the_first_character(rt: HostRuntime) {
-    let cases: [(&[u8], usize, usize, usize); 10] = [
+    let cases: [(&[u8], usize, usize, usize); 14] = [
         (b"", 9, 0, 0),
         (b"A\x80", 9, 0, 0),
         (b"\xC3\xA9\x80", 9, 0, 0),
@@ -14,6 +14,11 @@ fn parts_are_counted_up_to_the_first_character(rt: HostRuntime) {
         (b"\x80\x80\x80", 2, 2, 2),
         (b"\xE0\xE0\x80A", 9, 3, 3),
         (b"\xF0\x90\x80\xF0\x90\x80A", 9, 2, 6),
+        // Each character has its own second bytes.
+        (b"\xE0\xA0\x80\x80", 9, 0, 0),
+        (b"\xF0\x9F\x98\x80\x80", 9, 0, 0),
+        (b"\xED\xA0\x80A", 9, 3, 3),
+        (b"\xF4\x90\x80\x80A", 9, 4, 4),
         // The example of "Substitution of Maximal Subparts".
         (b"\xE1\x80\xE2\xF0\x91\x92\xF1\xBF\x41", 9, 4, 8),
     ];
