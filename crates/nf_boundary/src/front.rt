@@ -10,7 +10,6 @@ use crate::closed::{Closed, Formed};
 use crate::composing::compose_cluster;
 use crate::hangul::take_syllable;
 use crate::kept::keep_halfwidth;
-use crate::lone::{may_begin_syllable, take_lone};
 use crate::marks::take_marked;
 use crate::seen::Seen;
 use nf_calm::calm_front;
@@ -101,11 +100,6 @@ fn take_cluster<'t>(form: Form, first: Seen<'t>, formed: &mut Formed) -> Option<
 {
     if !form.composes() {
         return take_apart(form, first, formed);
-    }
-    if may_begin_syllable(first.behind)
-        && let Some(next) = take_lone(form, first, formed)
-    {
-        return Some(next);
     }
     match take_syllable(form, first, formed) {
         Some(next) => Some(next),

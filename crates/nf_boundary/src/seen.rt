@@ -74,6 +74,12 @@ impl<'t> Seen<'t> {
         })
     }
 
+    /// Whether it is a leading consonant of Hangul that modern syllables have.
+    #[inline(always)]
+    pub fn is_leading(self) -> bool {
+        matches!(self.character, '\u{1100}'..='\u{1112}')
+    }
+
     /// Whether one look-up tells that a text may be cut before it: a starter whose compatibility decomposition begins with
     /// a starter, and which in a form that composes passes the quick check.
     #[inline(always)]

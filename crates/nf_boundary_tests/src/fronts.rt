@@ -250,16 +250,16 @@ fn none(rt: HostRuntime) {
     );
 }
 
-/// U+FF9E and U+FF9F are their own rows in the canonical forms.
+/// U+FF9E and U+FF9F are their own rows in the canonical forms. Calm text behind them begins another front.
 #[test]
 fn halfwidth_marks_stay(rt: HostRuntime) -> Result<(), Fail> {
     let fronts = [
         ("\u{FF76}\u{FF9E}", "", "", "b"),
         (
-            "a\u{FF76}\u{FF9E}\u{FF77}c\u{FF8A}\u{FF9F}\u{FF9E}",
+            "a\u{FF76}\u{FF9E}\u{FF8A}\u{FF9F}\u{FF9E}",
             "",
             "",
-            "b",
+            "\u{FF77}c\u{FF8A}\u{FF9F}b",
         ),
         ("\u{FF76}\u{FF9E}", "", "", "x\u{FF9E}\u{301}y"),
     ];
@@ -267,7 +267,7 @@ fn halfwidth_marks_stay(rt: HostRuntime) -> Result<(), Fail> {
     check(&rt, rt.alloc(), Form::Nfd, &fronts)?;
     let composed = [("\u{FF76}\u{FF9E}", "e\u{301}", "\u{E9}", "b")];
     check(&rt, rt.alloc(), Form::Nfc, &composed)?;
-    let decomposed = [("\u{FF76}\u{FF9E}a", "\u{E9}", "e\u{301}", "b")];
+    let decomposed = [("\u{FF76}\u{FF9E}", "\u{E9}", "e\u{301}", "b")];
     check(&rt, rt.alloc(), Form::Nfd, &decomposed)
 }
 
