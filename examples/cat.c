@@ -38,6 +38,8 @@ int main(int argc, char **argv) {
   if (!put(moved.written) || fflush(stdout) != 0) return 4;
   return status == NF_DONE ? 0 : fault(status, &moved);
 #else
+  setvbuf(stdin, NULL, _IONBF, 0); /* pieces of this size need no other buffer */
+  setvbuf(stdout, NULL, _IONBF, 0);
   if (nf_start(&state, form, policy, 0) != NF_DONE) return 2;
   while ((len = fread(in, 1, sizeof in, stdin)) > 0)
     for (at = 0; at < len; at += moved.read) {
