@@ -50,13 +50,17 @@ def words_of(allowed: list[str]) -> Callable[[str], list[str]]:
     return words
 
 
+def cache() -> Path:
+    """Where corpora.sh puts the texts, unless it is told."""
+    return Path(os.environ.get("XDG_CACHE_HOME") or Path.home() / ".cache") / "nfstream-bench"
+
+
 def arguments() -> argparse.Namespace:
     parser = argparse.ArgumentParser(prog="run.sh")
     parser.add_argument("--quick", action="store_true", help="1 MiB of each text and the best of 3 runs")
     parser.add_argument("--forms", type=words_of(FORMS), default=FORMS[:2], metavar="FORM,..", help=", ".join(FORMS))
     parser.add_argument("--texts", type=words_of(WORDS), default=WORDS, metavar="TEXT,..", help=", ".join(WORDS))
-    cache = Path(os.environ.get("XDG_CACHE_HOME") or Path.home() / ".cache") / "nfstream-bench"
-    parser.add_argument("--corpora", type=Path, default=cache, metavar="FOLDER", help="where corpora.sh put the texts")
+    parser.add_argument("--corpora", type=Path, default=cache(), metavar="FOLDER", help="where corpora.sh put the texts")
     parser.add_argument("--data", type=Path, metavar="FILE", help="also write the figures as a table with tabs")
     parser.add_argument("--plan", action="store_true", help="say what would be measured, and measure nothing")
     parser.add_argument("--scratch", type=Path, help=argparse.SUPPRESS)

@@ -1,0 +1,120 @@
+"""Measures text that a sender chose to be slow beside friendly text of the same script, and prints a Markdown table:
+
+    python3 bench/hostile.py [--corpora FOLDER] [PROGRAM]      (./nfstream of the repository where none is named)
+
+Both take turns in one run. A ratio below a quarter is named at the end, and makes the status 1.
+"""
+
+import argparse
+import sys
+import tempfile
+from dataclasses import dataclass
+from pathlib import Path
+from unicodedata import normalize
+
+from measure import FULL, Effort, Input, speeds
+from table import FORMS, cache, line, number
+from texts import REAL, front, missing
+
+MARK, BELOW = "\u0301", "\u0316"
+SIZE = 4 << 20
+BAR = 0.25
+
+
+@dataclass
+class Hostile:
+    """What is said of it, its front, what stands behind that again and again, and the real text that is its friend."""
+
+    title: str
+    front: bytes
+    again: bytes
+    friend: str
+
+    def ill_formed(self) -> bool:
+        return self.again[0] >= 0x80 and not is_text(self.again)
+
+    def content(self) -> bytes:
+        return self.front + self.again * (SIZE // len(self.again))
+
+    def friendly(self, text: str, form: str) -> tuple[str, bytes]:
+        """The friend as the form changes it: decomposed where it composes, and else composed. Bytes that are no text stand
+        beside text that is written as it was read."""
+        composed = self.ill_formed() or form in ("nfd", "nfkd")
+        return ("composed", normalize("NFC", text).encode()) if composed else ("decomposed", normalize("NFD", text).encode())
+
+
+def is_text(data: bytes) -> bool:
+    try:
+        data.decode()
+    except UnicodeDecodeError:
+        return False
+    return True
+
+
+def again(title: str, text: str, friend: str, before: str = "") -> Hostile:
+    return Hostile(title, before.encode(), text.encode(), friend)
+
+
+HOSTILE = [
+    again("a letter and marks of one class without an end", MARK * 64, "vietnamese", "q"),
+    again("marks of four classes, none in its place", "\u0345\u0301\u0316\u05b0", "vietnamese"),
+    again("a letter with 31 marks, and one with 12", "q" + MARK * 31 + "e" + BELOW * 12, "vietnamese"),
+    again("U+034F alone", "\u034f", "vietnamese"),
+    again("U+0F73, a starter that is two marks", "\u0f73", "vietnamese"),
+    again("U+1FB7, three characters in NFD", "\u1fb7", "french"),
+    again("U+FDFA, 18 characters in NFKC and NFKD", "\ufdfa", "arabic"),
+    again("U+FF9E, a starter that is a mark in NFKD", "\uff9e", "japanese"),
+    again("letters of Hangul that make syllables", "\u1112\u1161\u11ab", "korean"),
+    again("vowels of Hangul alone", "\u1161", "korean"),
+    Hostile("bytes 80 alone, `--replace`", b"", b"\x80", "french"),
+    Hostile("F0 90 80, again and again, `--replace`", b"", b"\xf0\x90\x80", "french"),
+    Hostile("bytes E0 alone, `--replace`", b"", b"\xe0", "french"),
+]
+
+
+def arguments() -> argparse.Namespace:
+    parser = argparse.ArgumentParser(prog="hostile.py")
+    parser.add_argument("--corpora", type=Path, default=cache(), metavar="FOLDER", help="where corpora.sh put the texts")
+    parser.add_argument("program", nargs="?", type=Path, default=Path(__file__).parent.parent / "nfstream")
+    words = parser.parse_args()
+    absent = missing(words.corpora, sorted({hostile.friend for hostile in HOSTILE}))
+    if absent:
+        parser.error(f"{words.corpora} has no texts for {', '.join(absent)}: make them by 'bash bench/corpora.sh'")
+    return words
+
+
+def speed_of_both(program: Path, form: str, hostile: bytes, friendly: bytes, flags: list[str], effort: Effort) -> list[float]:
+    """Megabytes of input by second of processor time, of the hostile text and of its friend, in turns."""
+    with tempfile.TemporaryDirectory() as first, tempfile.TemporaryDirectory() as second:
+        command = [str(program), "convert", "--form", form, *flags]
+        found = [0.0, 0.0]
+        inputs = [Input(Path(first), hostile), Input(Path(second), friendly)]
+        for _ in range(2):
+            for at, text in enumerate(inputs):
+                found[at] = max(found[at], speeds({"": command}, text, effort)[""])
+        return found
+
+
+def main() -> int:
+    words = arguments()
+    program = words.program.resolve()
+    real = {name: front(words.corpora, name, SIZE) for name in REAL}
+    line(["Hostile", "To", "MB/s", "Friendly", "MB/s", "Ratio"])
+    line(["---", "---", "---:", "---", "---:", "---:"])
+    slow = []
+    for hostile in HOSTILE:
+        for form in FORMS:
+            state, text = hostile.friendly(real[hostile.friend], form)
+            flags = ["--replace"] if hostile.ill_formed() else []
+            mine, other = speed_of_both(program, form, hostile.content(), text, flags, FULL)
+            share = mine / other
+            friend = f"{REAL[hostile.friend]}, {state}"
+            line([hostile.title, form.upper(), number(mine), friend, number(other), f"{share:.2f}"])
+            if share < BAR:
+                slow.append(f"{hostile.title}, {form.upper()}: {share:.2f}")
+    print(f"\n{len(slow)} of {len(HOSTILE) * len(FORMS)} below a quarter{': ' if slow else ''}{'; '.join(slow)}.")
+    return 1 if slow else 0
+
+
+if __name__ == "__main__":
+    sys.exit(main())
