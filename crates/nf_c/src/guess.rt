@@ -75,7 +75,7 @@ impl Guess {
     pub fn fed(&mut self, len: usize, written: usize)
         ensures { self.new.most ≤ self.old.most }
     {
-        self.pace = if self.most == usize::MAX && written.saturating_sub(CARRY) <= len {
+        self.pace = if self.most == usize::MAX && written <= len {
             Pace::Calm
         } else {
             Pace::Grows
