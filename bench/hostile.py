@@ -2,10 +2,12 @@
 
     python3 bench/hostile.py [--corpora FOLDER] [PROGRAM]      (./nfstream of the repository where none is named)
 
-Both take turns in one run. A ratio below a quarter is named at the end, and makes the status 1.
+Both take turns in one run. The first ratio is of the bytes read by second, the other of the bytes written, since a form may
+make a text many times longer. Where the first is below a quarter, both are named at the end, and the status is 1.
 """
 
 import argparse
+import subprocess
 import sys
 import tempfile
 from dataclasses import dataclass
@@ -83,10 +85,14 @@ def arguments() -> argparse.Namespace:
     return words
 
 
-def speed_of_both(program: Path, form: str, hostile: bytes, friendly: bytes, flags: list[str], effort: Effort) -> list[float]:
+def growth(command: list[str], content: bytes) -> float:
+    """How many bytes are written for each that is read."""
+    return len(subprocess.run(command, input=content, stdout=subprocess.PIPE, check=True).stdout) / len(content)
+
+
+def speed_of_both(command: list[str], hostile: bytes, friendly: bytes, effort: Effort) -> list[float]:
     """Megabytes of input by second of processor time, of the hostile text and of its friend, in turns."""
     with tempfile.TemporaryDirectory() as first, tempfile.TemporaryDirectory() as second:
-        command = [str(program), "convert", "--form", form, *flags]
         found = [0.0, 0.0]
         inputs = [Input(Path(first), hostile), Input(Path(second), friendly)]
         for _ in range(2):
@@ -99,19 +105,22 @@ def main() -> int:
     words = arguments()
     program = words.program.resolve()
     real = {name: front(words.corpora, name, SIZE) for name in REAL}
-    line(["Hostile", "To", "MB/s", "Friendly", "MB/s", "Ratio"])
-    line(["---", "---", "---:", "---", "---:", "---:"])
+    line(["Hostile", "To", "MB/s", "Friendly", "MB/s", "Ratio, read", "Ratio, written"])
+    line(["---", "---", "---:", "---", "---:", "---:", "---:"])
     slow = []
     for hostile in HOSTILE:
         for form in FORMS:
             state, text = hostile.friendly(real[hostile.friend], form)
             flags = ["--replace"] if hostile.ill_formed() else []
-            mine, other = speed_of_both(program, form, hostile.content(), text, flags, FULL)
-            share = mine / other
+            command = [str(program), "convert", "--form", form, *flags]
+            content = hostile.content()
+            mine, other = speed_of_both(command, content, text, FULL)
+            read = mine / other
+            written = read * growth(command, content) / growth(command, text)
             friend = f"{REAL[hostile.friend]}, {state}"
-            line([hostile.title, form.upper(), number(mine), friend, number(other), f"{share:.2f}"])
-            if share < BAR:
-                slow.append(f"{hostile.title}, {form.upper()}: {share:.2f}")
+            line([hostile.title, form.upper(), number(mine), friend, number(other), f"{read:.2f}", f"{written:.2f}"])
+            if read < BAR:
+                slow.append(f"{hostile.title}, {form.upper()}: {read:.2f} ({written:.2f})")
     print(f"\n{len(slow)} of {len(HOSTILE) * len(FORMS)} below a quarter{': ' if slow else ''}{'; '.join(slow)}.")
     return 1 if slow else 0
 
