@@ -9,23 +9,20 @@ use Rattle.nf_utf8.specs.Ending.{Bad}
 use Rattle.nf_utf8.specs.Front.{IsFront}
 use Rattle.nf_utf8.specs.Part.{IsPart}
 use Rattle.nf_utf8.specs.Reading.{text_of, ending_of}
-use Rattle.nf_utf8.specs.Replaced.{replacement, own_parts, part_end, parts_of, bytes_in}
-use Rattle.nf_utf8.specs.Broken.{replacements, BeginsBroken, IsBrokenFront}
+use Rattle.nf_utf8.specs.Replaced.{replacement, own_parts, part_end, parts_of}
+use Rattle.nf_utf8.specs.Broken.{replacements, BeginsBroken, BeginsAlone, IsBrokenFront}
 use Rattle.nf_utf8.specs.Tells.{Tells}
 use Rattle.nf_utf8.specs.Text.{BeginsText}
-use Rattle.nf_utf8.proofs.BegunLen.{begun_len-is, begins_for_all}
+use Rattle.nf_utf8.proofs.BegunLen.{begun_len-is, begins_for_all, begun_len-longest}
 use Rattle.nf_utf8.proofs.ReplacedLemmas.{bytes_in-append, is_broken, broken_part, broken_end, parts_of-bad}
 use Rattle.nf_utf8.proofs.Sequences.{BeginsText-part}
 use Rattle.nf_utf8.proofs.StandingLemmas.{text_of-none}
 use Rattle.nf_utf8.proofs.TakingLemmas.{ending_of-broken}
 use Rattle.nf_utf8.proofs.TextLen.{no_char-text_len}
 
-replacements-more : (n : ℕ) → replacements n ++ replacement ∷ [] ≡ replacements (n + 1)
-replacements-more n = next n ∙ ap replacements (let same : suc n ≡ n + 1 = omega arith in same)
-  where
-    next : (n : ℕ) → replacements n ++ replacement ∷ [] ≡ replacements (suc n)
-    next zero = refl
-    next (suc n) = ap (λ l. replacement ∷ l) (next n)
+replacements-append : (n m : ℕ) → replacements n ++ replacements m ≡ replacements (n + m)
+replacements-append zero m = ap replacements (let same : m ≡ 0 + m = omega arith in same)
+replacements-append (suc n) m = ap (λ l. replacement ∷ l) (replacements-append n m) ∙ ap replacements (let same : suc (n + m) ≡ suc n + m = omega arith in same)
 
 pub no_part : (bytes : List ℕ) → IsBrokenFront bytes 0 0
 no_part bytes = record {
@@ -70,31 +67,58 @@ front_four (a ∷ b ∷ []) some = absurd (omega arith)
 front_four (a ∷ b ∷ c ∷ []) some = absurd (omega arith)
 front_four (a ∷ b ∷ c ∷ d ∷ rest) some = refl
 
--- behind such a front comes one part more
-module _ (bytes : List ℕ) (count len at : ℕ) (is : IsBrokenFront bytes count len) (bad : ending_of (drop len bytes) ≡ Bad at 0) where
-  abbrev rest : List ℕ
-  rest = drop len bytes
+-- a part at their front
+module _ (bytes : List ℕ) (at : ℕ) (bad : ending_of bytes ≡ Bad at 0) where
+  none : text_of bytes ≡ []
+  none = text_of-none bytes (sym (is_broken bytes at 0 bad).text)
 
-  inside : part_end at 0 ≤ length rest
-  inside = (broken_end rest at 0 bad).1
-
-  none : text_of rest ≡ []
-  none = text_of-none rest (sym (is_broken rest at 0 bad).text)
-
-  next : (more : List ℕ) → parts_of (rest ++ more) ≡ broken_part at 0 ∷ parts_of (drop (len + part_end at 0) bytes ++ more)
-  next more =
-      parts_of-bad rest more at 0 bad
-      ∙ ap (λ x. own_parts x ++ broken_part at 0 ∷ parts_of (drop (part_end at 0) (rest ++ more))) none
-      ∙ ap (λ l. broken_part at 0 ∷ parts_of l) (drop-append-le (part_end at 0) rest more inside ∙ ap (λ l. l ++ more) (drop-drop (part_end at 0) len bytes))
-
-  pub one_more : IsBrokenFront bytes (count + 1) (len + part_end at 0)
-  one_more = record {
-    parts = is.parts ++ broken_part at 0 ∷ [];
-    chars = map-append (λ part. part.char) is.parts (broken_part at 0 ∷ []) ∙ ap (λ l. l ++ replacement ∷ []) is.chars ∙ replacements-more count;
-    size = let one : bytes_in (broken_part at 0 ∷ []) ≡ part_end at 0 = omega arith in omega (arith, bytes_in-append is.parts (broken_part at 0 ∷ []), is.size, one);
-    within = omega (arith, inside, length-drop len bytes, is.within);
-    front = λ more. is.front more ∙ ap (λ l. is.parts ++ l) (next more) ∙ sym (append_assoc is.parts (broken_part at 0 ∷ []) (parts_of (drop (len + part_end at 0) bytes ++ more)));
+  one_part : IsBrokenFront bytes 1 (part_end at 0)
+  one_part = record {
+    parts = broken_part at 0 ∷ [];
+    chars = refl;
+    size = omega arith;
+    within = (broken_end bytes at 0 bad).1;
+    front = λ more.
+      parts_of-bad bytes more at 0 bad
+      ∙ ap (λ x. own_parts x ++ broken_part at 0 ∷ parts_of (drop (part_end at 0) (bytes ++ more))) none
+      ∙ ap (λ l. broken_part at 0 ∷ parts_of l) (drop-append-le (part_end at 0) bytes more (broken_end bytes at 0 bad).1);
   }
 
-  pub one_more-within : len + part_end at 0 ≤ length bytes
-  one_more-within = one_more.within
+-- one such front behind another
+pub both_fronts : (bytes : List ℕ) (p l q m : ℕ) → IsBrokenFront bytes p l → IsBrokenFront (drop l bytes) q m → IsBrokenFront bytes (p + q) (l + m)
+both_fronts bytes p l q m is next = record {
+  parts = is.parts ++ next.parts;
+  chars = map-append (λ part. part.char) is.parts next.parts ∙ (λ i. is.chars i ++ next.chars i) ∙ replacements-append p q;
+  size = omega (arith, bytes_in-append is.parts next.parts, is.size, next.size);
+  within = omega (arith, next.within, length-drop l bytes, is.within);
+  front = λ more.
+    is.front more ∙ ap (λ l. is.parts ++ l) (next.front more ∙ ap (λ l. next.parts ++ parts_of (l ++ more)) (drop-drop m l bytes))
+    ∙ sym (append_assoc is.parts next.parts (parts_of (drop (l + m) bytes ++ more)));
+}
+
+pub one_more : (bytes : List ℕ) (count len at : ℕ) → IsBrokenFront bytes count len → ending_of (drop len bytes) ≡ Bad at 0 → IsBrokenFront bytes (count + 1) (len + part_end at 0)
+one_more bytes count len at is bad = both_fronts bytes count len 1 (part_end at 0) is (one_part (drop len bytes) at bad)
+
+pub one_more-within : (bytes : List ℕ) (count len at : ℕ) → IsBrokenFront bytes count len → ending_of (drop len bytes) ≡ Bad at 0 → len + part_end at 0 ≤ length bytes
+one_more-within bytes count len at is bad = (one_more bytes count len at is bad).within
+
+-- ---- parts of one byte each
+
+alone_end : (at : ℕ) → at < 2 → part_end at 0 ≡ 1
+alone_end zero few = refl
+alone_end (suc zero) few = refl
+alone_end (suc (suc at)) few = absurd (omega arith)
+
+pub one_alone : (bytes : List ℕ) (n : ℕ) → IsBrokenFront bytes n n → BeginsAlone (drop n bytes) → IsBrokenFront bytes (n + 1) (n + 1)
+one_alone bytes n is alone = subst (λ len. IsBrokenFront bytes (n + 1) (n + len)) (alone_end alone.1 alone.2) (one_more bytes n n alone.1 is alone.3)
+
+pub two_of : (bytes : List ℕ) → 1 < length bytes → bytes ≡ get_or bytes 0 0 ∷ get_or bytes 1 0 ∷ drop 2 bytes
+two_of [] some = absurd (omega arith)
+two_of (a ∷ []) some = absurd (omega arith)
+two_of (a ∷ b ∷ rest) some = refl
+
+-- a byte that may stand behind the first goes on with it
+pub goes_on : (bytes : List ℕ) → IsPart (take 2 bytes) → 1 < length bytes → ¬ BeginsAlone bytes
+goes_on bytes part some alone =
+    let b = is_broken bytes alone.1 0 alone.3 in
+    omega (arith, b.begun, alone.2, (begun_len-longest bytes).longest 2 (omega (arith, some)) (BeginsText-part (take 2 bytes) part))

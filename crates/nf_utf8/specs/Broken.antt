@@ -1,6 +1,6 @@
 -- Ill-formed bytes that come one behind the other: each maximal subpart is read as U+FFFD (The Unicode Standard,
 -- section 3.9, "Substitution of Maximal Subparts").
-use Rattle.std.specs.Prelude.{◌≡◌, ◌≤◌, ℕ, zero, suc, List, [], ◌∷◌, ◌++◌, map, length, drop}
+use Rattle.std.specs.Prelude.{◌≡◌, ◌<◌, ◌≤◌, ℕ, zero, suc, List, [], ◌∷◌, ◌++◌, map, length, drop}
 use Rattle.nf_utf8.specs.Ending.{Bad}
 use Rattle.nf_utf8.specs.Reading.{ending_of}
 use Rattle.nf_utf8.specs.Replaced.{Part, replacement, parts_of, bytes_in}
@@ -21,3 +21,7 @@ pub record IsBrokenFront (bytes : List ℕ) (count len : ℕ) : Type 0 where
 -- a part stands at their front
 abbrev pub BeginsBroken : List ℕ → Type 0
 BeginsBroken bytes = (at : ℕ) × (ending_of bytes ≡ Bad at 0)
+
+-- a part of one byte does, as the byte behind it tells
+abbrev pub BeginsAlone : List ℕ → Type 0
+BeginsAlone bytes = (1 < length bytes) × (at : ℕ) × (at < 2) × (ending_of bytes ≡ Bad at 0)

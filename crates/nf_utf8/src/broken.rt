@@ -6,6 +6,7 @@ ghost use Rattle.nf_utf8.specs.Reading.{ending_of};
 ghost use Rattle.nf_utf8.specs.Replaced.{part_end};
 ghost use Rattle.nf_utf8.specs.Broken.{BeginsBroken, IsBrokenFront};
 
+use crate::alone::alone_front;
 use crate::carry::Carry;
 use crate::front::Front;
 use crate::sequence;
@@ -35,6 +36,11 @@ pub fn broken_front(bytes: &[u8], most: usize) -> Broken
         };
         len += part_len(at);
         parts += 1;
+        if at < 2 {
+            let alone = alone_front(&bytes[len..], most - parts);
+            len += alone;
+            parts += alone;
+        }
     }
     Broken { parts, len }
 }

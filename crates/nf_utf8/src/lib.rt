@@ -11,6 +11,7 @@
 //! bytes gives.
 #![tactic(auto)]
 
+mod alone;
 mod ascii;
 mod broken;
 mod carry;

@@ -1,7 +1,8 @@
-use Rattle.std.proofs.Common.{arith}
+use Rattle.std.proofs.Common.{◌+◌, ◌≤◌, length, arith}
 use Rattle.std.proofs.lemmas.List.{take_rest}
+use Rattle.nf_utf8.specs.Broken.{IsBrokenFront}
 use Rattle.nf_utf8.proofs.ReplacedLemmas.{part_end-after}
-use Rattle.nf_utf8.proofs.BrokenLemmas.{no_part, one_more, one_more-within}
+use Rattle.nf_utf8.proofs.BrokenLemmas.{no_part, both_fronts, one_more, one_more-within}
 use Rattle.nf_utf8.proofs.broken.broken_front.Goals as goal
 
 pub loop-parts-init : goal.loop-parts-init
@@ -14,6 +15,32 @@ pub overflow_add-len : goal.overflow_add-len
 overflow_add-len c =
     let bad = rw take_rest at (rw c.in-Some.is at c.bad_at.ensures.some) in
     omega (arith, c.part_len-len.ensures, one_more-within c.args.bytes.now c.loop-parts.parts c.loop-parts.len c.in-Some.at c.loop-parts.invariant.broken bad)
+
+pub slice_bounds-alone_front-start : goal.slice_bounds-alone_front-start
+slice_bounds-alone_front-start c =
+    let bad = rw take_rest at (rw c.in-Some.is at c.bad_at.ensures.some) in
+    let inside : c.loop-parts.len + c.part_len-len.result ≤ length c.args.bytes.now =
+    omega (arith, c.part_len-len.ensures, one_more-within c.args.bytes.now c.loop-parts.parts c.loop-parts.len c.in-Some.at c.loop-parts.invariant.broken bad) in
+    inside
+
+pub slice_bounds-alone_front-count : goal.slice_bounds-alone_front-count
+slice_bounds-alone_front-count c =
+    let bad = rw take_rest at (rw c.in-Some.is at c.bad_at.ensures.some) in
+    omega (arith, c.part_len-len.ensures, one_more-within c.args.bytes.now c.loop-parts.parts c.loop-parts.len c.in-Some.at c.loop-parts.invariant.broken bad)
+
+pub loop-parts-preserved-then-at-lt2 : goal.loop-parts-preserved-then-at-lt2
+loop-parts-preserved-then-at-lt2 c =
+    let bytes = c.args.bytes.now in
+    let len = c.part_len-len.ensures in
+    let bad = rw take_rest at (rw c.in-Some.is at c.bad_at.ensures.some) in
+    let front : IsBrokenFront bytes (c.loop-parts.parts + 1) (c.loop-parts.len + c.part_len-len.result) =
+    rw len (one_more bytes c.loop-parts.parts c.loop-parts.len c.in-Some.at c.loop-parts.invariant.broken bad) in
+    record {
+      few = omega (arith, c.loop-parts-test.true, c.alone_front-alone.ensures.few);
+      some = omega (arith, c.loop-parts.invariant.some, len, part_end-after c.in-Some.at 0 (omega arith));
+      broken = both_fronts bytes (c.loop-parts.parts + 1) (c.loop-parts.len + c.part_len-len.result) c.alone_front-alone.result c.alone_front-alone.result front
+        (rw take_rest at c.alone_front-alone.ensures.broken);
+    }
 
 pub loop-parts-preserved : goal.loop-parts-preserved
 loop-parts-preserved c =

@@ -1,0 +1,41 @@
+//! Ill-formed bytes that are a part each, one behind the other.
+
+ghost use Rattle.std.specs.Prelude.{◌≡◌, ◌<◌, ◌≤◌, ◌↔◌, length, drop, IsTrue};
+ghost use Rattle.nf_utf8.specs.Broken.{BeginsAlone, IsBrokenFront};
+
+use crate::sequence;
+use crate::step::Step;
+
+/// How many bytes at the front are a maximal subpart each, as far as the byte behind each tells, but at most so many. That
+/// takes no more than two bytes a part, where hostile text has nothing else.
+#[inline(never)]
+pub fn alone_front(bytes: &[u8], most: usize) -> usize
+    ensures few { result ≤ most }
+    ensures broken { IsBrokenFront bytes.now result result }
+    ensures longest { result < most → ¬ BeginsAlone (drop result bytes.now) }
+{
+    let mut at = 0;
+    while at < most && begins_alone(&bytes[at..]) {
+        at += 1;
+    }
+    at
+}
+
+/// Whether the first byte is a part by itself, as the second tells: it begins no character, or none that goes on so.
+#[inline(always)]
+fn begins_alone(bytes: &[u8]) -> bool
+    ensures { IsTrue result ↔ BeginsAlone bytes.now }
+{
+    if bytes.len() < 2 {
+        return false;
+    }
+    match sequence::first(bytes[0]) {
+        Step::Bad { .. } => true,
+        Step::Char(_) => false,
+        Step::More => match sequence::second(bytes[0], bytes[1]) {
+            Step::Bad { .. } => true,
+            Step::Char(_) => false,
+            Step::More => false,
+        },
+    }
+}
