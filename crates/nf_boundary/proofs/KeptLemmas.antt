@@ -92,8 +92,6 @@ module _ (f : Form) (sound : (c : ℕ) → IsTrue (is_sound ucd c)) (first : See
 -- ---- from one boundary to another
 
 module _ (f : Form) (text : List ℕ) where
-  pub keeps_to : (next : Seen) (room : ℕ) → Keeps f text next room → IsAtBoundary f next → KeepsTo f text next
-  keeps_to next room here behind = record { front = here.front; split = here.split; utf8 = here.utf8; form = here.form; behind = behind }
 
   pub stands_kept : (first next : Seen) → Stands f text first → KeepsTo f first.text.now next → Stands f text next
   stands_kept first next here more = record {

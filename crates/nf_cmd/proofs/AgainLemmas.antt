@@ -1,23 +1,11 @@
 -- What `convert` wrote to the end without a fault is not changed by a second run.
-use Rattle.std.proofs.Common.{◌≡◌, ℕ, List, [], Option, Some, None, Result, Ok, Err, inl, inr, sym, ap, ◌∙◌, subst, ◌⊎◌}
-use Rattle.std.specs.Io.KnownBytes.{Appends, Keeps}
-use Rattle.nf_forms.specs.Properties.{Properties}
-use Rattle.nf_forms.specs.declared.form.Form.{Form}
+use Rattle.nf_cmd.proofs.Common.{◌≡◌, ℕ, List, [], Option, Some, None, Result, Ok, Err, inl, inr, sym, ap, ◌∙◌, subst, ◌⊎◌, Appends, Keeps, Properties, Form, ucd, Policy, Tally, Fault, BadByte, Cut, Unassigned, Read, Write, Memory, TooLong, Line, Convert, Drives, end_of, Runs, Converts, status_of, Does}
 use Rattle.nf_forms.specs.Twice.{ChangesOnce}
-use Rattle.nf_forms.specs.Ucd.{ucd}
 use Rattle.nf_filter.specs.declared.fault.Fault.{Fault as Found}
 use Rattle.nf_filter.specs.declared.fault.Fault.TheVariants as found
-use Rattle.nf_filter.specs.declared.policy.Policy.{Policy}
-use Rattle.nf_filter.specs.declared.tally.Tally.{Tally}
 use Rattle.nf_filter.specs.Again.{AddsWhatStays, FinishedStays}
 use Rattle.nf_filter.proofs.AgainLemmas.{drives_once, adds_what_stays}
-use Rattle.nf_cmd.specs.declared.fault.Fault.{Fault}
-use Rattle.nf_cmd.specs.declared.fault.Fault.TheVariants.{Row, BadByte, Cut, Unassigned, Read, Write, Memory, TooLong, Line}
-use Rattle.nf_cmd.specs.declared.line.Request.TheVariants.{Convert}
-use Rattle.nf_filter.specs.Drives.{Drives}
-use Rattle.nf_cmd.specs.Converts.{end_of, Runs, Converts}
-use Rattle.nf_cmd.specs.Lines.{status_of}
-use Rattle.nf_cmd.specs.Answers.{Does}
+use Rattle.nf_cmd.specs.declared.fault.Fault.TheVariants.{Row}
 use Rattle.nf_cmd.specs.Again.{EachConvertsOnce}
 
 -- a flush behind it changes nothing

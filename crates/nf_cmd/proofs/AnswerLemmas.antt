@@ -1,16 +1,6 @@
 -- What the parts of a run show, put together.
-use Rattle.std.proofs.Common.{◌≡◌, ℕ, List, [], Result, inl, inr, refl, sym, subst, arith}
-use Rattle.std.specs.Io.KnownBytes.{Appends, Keeps}
-use Rattle.std.proofs.KnownBytes.{Appends-nil}
-use Rattle.clap.specs.declared.error.kind.ErrorKind.{ErrorKind}
-use Rattle.clap.specs.declared.error.kind.ErrorKind.TheVariants.{DisplayHelp}
-use Rattle.clap.specs.Walk.{Text}
-use Rattle.nf_cmd.specs.declared.fault.Fault.{Fault}
-use Rattle.nf_cmd.specs.declared.line.Request.{Request}
-use Rattle.nf_cmd.specs.Lines.{line_of, status_of}
-use Rattle.nf_cmd.specs.Line.{Asks, IsRefusal, IsRefused}
+use Rattle.nf_cmd.proofs.Common.{◌≡◌, ℕ, List, [], Result, inl, inr, refl, sym, subst, arith, Appends, Keeps, Appends-nil, ErrorKind, DisplayHelp, Text, Fault, Request, line_of, status_of, Asks, IsRefusal, IsRefused, Answers, ComesOf, Devices, Does, NeverRow}
 use Rattle.nf_cmd.specs.Fronts.{AppendsFront}
-use Rattle.nf_cmd.specs.Answers.{Answers, ComesOf, Devices, Does, NeverRow}
 
 -- status 2 is not that of memory
 pub refused_by : (words : List Text) (k : ErrorKind) (before after : Devices) (status : ℕ) → IsRefusal words k → ComesOf k before after status → status ≡ 2 → IsRefused words

@@ -1,9 +1,7 @@
 -- Of the last six hexadecimal digits of a code point, those that are written.
-use Rattle.std.proofs.Common.{◌≡◌, ◌∙◌, ℕ, zero, suc, ◌-◌, ◌/◌, ◌%◌, ◌<◌, ◌≤◌, true, cond, nat_lt, List, [], ◌∷◌, ◌++◌, drop, length, replicate, ◌⊎◌, inl, inr, refl, sym, ap, arith}
+use Rattle.nf_cmd.proofs.Common.{◌≡◌, ◌∙◌, ℕ, zero, suc, ◌-◌, ◌/◌, ◌%◌, ◌<◌, ◌≤◌, true, cond, nat_lt, List, [], ◌∷◌, ◌++◌, drop, length, replicate, ◌⊎◌, inl, inr, refl, sym, ap, arith, cases_lt, lt-ltb, le-ltb, code_digits, six_digits, zeros_before}
 use Rattle.std.specs.Fmt.{digit_glyph, digits, digits_onto}
-use Rattle.std.proofs.lemmas.Bool.{cases_lt, lt-ltb, le-ltb}
 use Rattle.std.proofs.DigitsParse.{digits_onto-nil, digits_onto_last, digits_onto_step}
-use Rattle.nf_cmd.specs.Text.{code_digits, six_digits, zeros_before}
 
 abbrev digit : ℕ → ℕ
 digit n = digit_glyph true (n % 16)

@@ -1,10 +1,5 @@
 -- What some command lines ask for.
-use Rattle.std.proofs.Common.{◌≡◌, refl, true, false, List, [], ◌∷◌, Some, codes, Bor}
-use Rattle.clap.specs.Walk.{Text, walked}
-use Rattle.clap.specs.Simple.{subcommand_of}
-use Rattle.nf_forms.specs.declared.form.Form.TheVariants.{Nfc}
-use Rattle.nf_cmd.specs.declared.line.Request.TheVariants.{Convert, ConvertLines}
-use Rattle.nf_cmd.specs.Line.{convert, flag_rule, form_rule, line, request_of}
+use Rattle.nf_cmd.proofs.Common.{◌≡◌, refl, true, false, List, [], ◌∷◌, Some, codes, Bor, Text, walked, subcommand_of, Nfc, Convert, ConvertLines, convert, flag_rule, form_rule, line, request_of}
 
 module _ (names : Bor (List (Bor Text))) where
   no_flag : request_of (subcommand_of (line names) (codes "nfstream" ∷ codes "convert" ∷ codes "--form" ∷ codes "nfc" ∷ [])) ≡ Some (Convert Nfc (record { replace = false; assigned = false }))

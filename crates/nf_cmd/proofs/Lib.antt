@@ -1,3 +1,4 @@
+mod Common
 mod Rows
 mod WordRows
 mod WalkRows

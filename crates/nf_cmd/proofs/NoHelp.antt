@@ -1,11 +1,6 @@
 -- Where help is on, the subcommand at which a walk without a fault stops is not help.
-use Rattle.std.proofs.Common.{◌≡◌, ◌&&◌, ℕ, Bool, cond, true, false, not, refl, List, [], ◌∷◌, fold, Option, Some, None, codes, true≢false, is_some, bytes_eq}
+use Rattle.nf_cmd.proofs.Common.{◌≡◌, ◌&&◌, ℕ, Bool, cond, true, false, not, refl, List, [], ◌∷◌, fold, Option, Some, None, codes, true≢false, is_some, bytes_eq, or_else, long_of, short_of, Held, Names, Outcome, Rule, Step, Text, Waiting, Walk, after_flag, after_step, arg_by_index, done, plain, refused, waits, idle, long_or_other, next, option, plain_word, positional, short_or_plain, subcommand, subcommand_met, subcommand_or_other, to_positional, trailing, value, walked, walked_from, word_met, Shape, other_fault, step_fault, turn_fault, walk_fault, word_fault}
 use Rattle.clap.specs.declared.error.kind.ErrorKind.TheVariants as kind
-use Rattle.clap.specs.Kinds.{or_else}
-use Rattle.clap.specs.Lexer.{long_of, short_of}
-use Rattle.clap.specs.Walk.{Held, Names, Outcome, Rule, Step, Text, Waiting, Walk, after_flag, after_step, arg_by_index, done, plain, refused, waits, idle, long_or_other, next, option, plain_word, positional, short_or_plain, subcommand, subcommand_met, subcommand_or_other, to_positional, trailing, value, walked, walked_from, word_met}
-use Rattle.clap.specs.Simple.{Shape}
-use Rattle.clap.specs.Faults.{other_fault, step_fault, turn_fault, walk_fault, word_fault}
 use Rattle.nf_cmd.proofs.Rows.{both_none}
 
 -- the subcommand that was met is not help

@@ -1,21 +1,5 @@
 -- Words in which clap finds no fault ask for something.
-use Rattle.std.proofs.Common.{◌≡◌, ◌∙◌, ◌&&◌, ◌||◌, ◌⊎◌, Bool, cond, true, false, not, refl, sym, ap, subst, List, [], ◌∷◌, Option, Some, None, inl, inr, codes, is_some, true≢false, find, option_and_then, option_map, Bor, bytes_eq}
-use Rattle.std.specs.List.{list_any}
-use Rattle.std.specs.Option.{option_map_or}
-use Rattle.std.proofs.lemmas.Slice.Eq.{bytes_eq-Decides}
-use Rattle.clap.specs.declared.error.kind.ErrorKind.{ErrorKind}
-use Rattle.clap.specs.declared.error.kind.ErrorKind.TheVariants.{OutOfMemory}
-use Rattle.clap.specs.Kinds.{IsAmong}
-use Rattle.clap.specs.Takes.{takes, value_passes}
-use Rattle.clap.specs.Walk.{Row, Rule, Text, answers_to, nothing_held, rows_after, stop_after, texts, walk_from}
-use Rattle.clap.specs.Simple.{App, Shape, argument_words, built, entered, label_of, names_of, rows_at, subcommand_of, new_shape, with_index, filled}
-use Rattle.clap.specs.Faults.{built_fault, entered_fault, fault_of, is_simple_and_free, level_fault}
-use Rattle.clap.proofs.WalkLemmas.{list_any-map}
-use Rattle.nf_forms.specs.declared.form.Form.{Form}
-use Rattle.nf_forms.specs.declared.form.Form.TheVariants.{Nfc, Nfd, Nfkc, Nfkd}
-use Rattle.nf_cmd.specs.declared.line.Request.{Request}
-use Rattle.nf_cmd.specs.declared.line.Request.TheVariants.{Check, Measure, Test}
-use Rattle.nf_cmd.specs.Line.{IsLine, IsRefusal, conversion, convert, flag_rule, form_named, form_names, form_rule, is_set, line, policy_of, request_of}
+use Rattle.nf_cmd.proofs.Common.{◌≡◌, ◌∙◌, ◌&&◌, ◌||◌, ◌⊎◌, Bool, cond, true, false, not, refl, sym, ap, subst, List, [], ◌∷◌, Option, Some, None, inl, inr, codes, is_some, true≢false, find, option_and_then, option_map, Bor, bytes_eq, list_any, option_map_or, bytes_eq-Decides, ErrorKind, OutOfMemory, IsAmong, takes, value_passes, Row, Rule, Text, answers_to, nothing_held, rows_after, stop_after, texts, walk_from, App, Shape, argument_words, built, entered, label_of, names_of, rows_at, subcommand_of, new_shape, with_index, filled, built_fault, entered_fault, fault_of, is_simple_and_free, level_fault, list_any-map, Form, Nfc, Nfd, Nfkc, Nfkd, Request, Check, Measure, Test, IsLine, IsRefusal, conversion, convert, flag_rule, form_named, form_names, form_rule, is_set, line, policy_of, request_of}
 use Rattle.nf_cmd.proofs.Rows.{IsIn}
 use Rattle.nf_cmd.proofs.NoHelp.{IsNoHelp, StopsAtNoHelp, no_help-walk}
 use Rattle.nf_cmd.proofs.LevelRows.{Given, below_faultless, checked, given, nothing_wanted, walk_faultless}

@@ -1,18 +1,10 @@
 -- Rows that fit the rules of one level: for an option of one value, one that passes.
-use Rattle.std.proofs.Common.{◌≡◌, ◌∙◌, ◌&&◌, ◌||◌, ◌⊎◌, ◌==◌, ℕ, Bool, cond, true, false, not, refl, sym, ap, ap₂, subst, min, ◌+◌, append-nil, arith, List, [], ◌∷◌, ◌++◌, length, Some, None, true≢false, eqb-true, bytes_eq}
-use Rattle.std.proofs.lemmas.Slice.Eq.{bytes_eq-Decides}
+use Rattle.nf_cmd.proofs.Common.{◌≡◌, ◌∙◌, ◌&&◌, ◌||◌, ◌⊎◌, ◌==◌, ℕ, Bool, cond, true, false, not, refl, sym, ap, ap₂, subst, min, ◌+◌, append-nil, arith, List, [], ◌∷◌, ◌++◌, length, Some, None, true≢false, eqb-true, bytes_eq, bytes_eq-Decides, CommandLine, parser_of_value, unwrap_or_range, refused_kind, Kinds, or_else, range_kinds, value_passes, Row, Rule, Text, action_of, at_row, count_of, counted, has_row, more_values, most_values, new_count, reading_by, used, used_as, values_or_missing, with_count, with_values, without, action_fault, repeat_fault, use_fault, values_fault}
 use Rattle.clap.specs.declared.builder.action.ArgAction.{ArgAction}
 use Rattle.clap.specs.declared.builder.action.ArgAction.TheVariants.{Set, Append, SetTrue, SetFalse, Count, Help, HelpShort, HelpLong, Version}
 use Rattle.clap.specs.declared.builder.value_parser.Reading.{Reading}
 use Rattle.clap.specs.declared.error.kind.ErrorKind.TheVariants as kind
 use Rattle.clap.specs.declared.parser.matches.ValueSource.{ValueSource}
-use Rattle.clap.specs.declared.parser.matches.ValueSource.TheVariants.{CommandLine}
-use Rattle.clap.specs.Facts.{parser_of_value, unwrap_or_range}
-use Rattle.clap.specs.Values.{refused_kind}
-use Rattle.clap.specs.Kinds.{Kinds, or_else, range_kinds}
-use Rattle.clap.specs.Takes.{value_passes}
-use Rattle.clap.specs.Walk.{Row, Rule, Text, action_of, at_row, count_of, counted, has_row, more_values, most_values, new_count, reading_by, used, used_as, values_or_missing, with_count, with_values, without}
-use Rattle.clap.specs.Faults.{action_fault, repeat_fault, use_fault, values_fault}
 
 pub both_none : (a b : Kinds) → or_else a b ≡ [] → (a ≡ []) × (b ≡ [])
 both_none [] b e = (refl, e)

@@ -1,8 +1,6 @@
 -- What the library did, over devices of which only the bytes are told.
-use Rattle.std.proofs.Common.{◌≡◌, ℕ, List, Option, Result, false, IsTrue, OnOk}
+use Rattle.nf_cmd.proofs.Common.{◌≡◌, ℕ, List, Option, Result, false, IsTrue, OnOk, SinkState, SourceState, Runs}
 use Rattle.nf_filter.specs.declared.fault.Fault.{Fault as Found}
-use Rattle.nf_filter.specs.Devices.{SinkState, SourceState}
-use Rattle.nf_cmd.specs.Converts.{Runs}
 
 pub runs_from : {T : Type 0} (drives : SourceState → SourceState → SinkState → SinkState → Result T Found → Type 0) (coming left taken now : Option (List ℕ)) (source rest : SourceState) (old new : SinkState) (answer : Result T Found)
     → drives source rest old new answer → OnOk answer (IsTrue rest.is_at_end)

@@ -1,33 +1,22 @@
 -- No command ends because a character is unsound, where none of the data is.
-use Rattle.std.proofs.Common.{◌≡◌, ℕ, Bool, true, false, List, [], Option, Some, None, Result, Ok, Err, inl, inr, refl, sym, ap, ◌∙◌, ◌⊎◌, option_map}
-use Rattle.nf_forms.specs.Properties.{Properties}
-use Rattle.nf_forms.specs.declared.form.Form.{Form}
-use Rattle.nf_forms.specs.Ucd.{ucd}
+use Rattle.nf_cmd.proofs.Common.{◌≡◌, ℕ, Bool, true, false, List, [], Option, Some, None, Result, Ok, Err, inl, inr, refl, sym, ap, ◌∙◌, ◌⊎◌, option_map, Properties, Form, ucd, Policy, Fault, Write, Convert, ConvertLines, Check, Measure, Test, end_of, Converts, ConvertsLines, SinkState, SourceState, bytes_of, DrivesLines, Tally, NeverRow}
 use Rattle.nf_safe.specs.declared.place.Place.{Place}
 use Rattle.nf_filter.specs.declared.fault.Fault.{Fault as Found}
 use Rattle.nf_filter.specs.declared.fault.Fault.TheVariants as found
-use Rattle.nf_filter.specs.declared.policy.Policy.{Policy}
 use Rattle.nf_filter.specs.Laws.Soundness.{AreSound, DrivingRefusesNone, CheckingRefusesNone, MeasuringRefusesNone}
 use Rattle.nf_vectors.specs.declared.fault.VectorFault.{VectorFault}
 use Rattle.nf_vectors.specs.declared.fault.VectorKind.{VectorKind}
 use Rattle.nf_vectors.specs.declared.fault.VectorKind.TheVariants as kind
 use Rattle.nf_vectors.specs.declared.suite.Suite.{Suite}
-use Rattle.nf_cmd.specs.declared.fault.Fault.{Fault}
-use Rattle.nf_cmd.specs.declared.fault.Fault.TheVariants.{Row, Write}
+use Rattle.nf_cmd.specs.declared.fault.Fault.TheVariants.{Row}
 use Rattle.nf_cmd.specs.declared.test.Finding.{Finding}
 use Rattle.nf_cmd.specs.Faults.{told, told_at}
-use Rattle.nf_cmd.specs.declared.line.Request.TheVariants.{Convert, ConvertLines, Check, Measure, Test}
-use Rattle.nf_cmd.specs.Converts.{end_of, Converts, ConvertsLines}
-use Rattle.nf_filter.specs.Devices.{SinkState, SourceState}
 use Rattle.nf_filter.specs.Finishes.{end_of as finished_by}
 use Rattle.nf_filter.proofs.SoundnessLemmas.{not_a_fault, not_in_end}
-use Rattle.nf_lines.specs.Drives.{bytes_of, DrivesLines}
-use Rattle.nf_filter.specs.declared.tally.Tally.{Tally}
 use Rattle.std.specs.Result.{result_err}
 use Rattle.nf_cmd.specs.Checks.{check_end, Checks}
 use Rattle.nf_cmd.specs.Measures.{Measures}
 use Rattle.nf_cmd.specs.Tests.{Tests, Finds, finding_end}
-use Rattle.nf_cmd.specs.Answers.{NeverRow}
 
 -- only the library's fault of a character is told as one
 told_row : {T : Type 0} (fault : Found) (at : ℕ) → option_map (λ g. let r : Result ℕ Fault = Err g in r) (told fault) ≡ Some (Err (Row at)) → (let r : Result T Found = Err fault in r) ≡ Err (found.Row at)

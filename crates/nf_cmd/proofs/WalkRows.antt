@@ -1,11 +1,5 @@
 -- A walk over words in which there is no fault leaves rows that fit.
-use Rattle.std.proofs.Common.{◌≡◌, ℕ, Bool, cond, true, false, List, [], ◌∷◌, fold, Option, Some, None, is_some, bytes_eq}
-use Rattle.std.specs.Option.{option_map_or}
-use Rattle.clap.specs.Kinds.{or_else}
-use Rattle.clap.specs.Lexer.{long_of}
-use Rattle.clap.specs.Walk.{Held, Names, Rule, Step, Text, Waiting, Walk, after_step, arg_by_index, long_or_other, next, subcommand, subcommand_met, subcommand_or_other, to_positional, trailing, value, walked, walked_from, word_met}
-use Rattle.clap.specs.Simple.{Shape}
-use Rattle.clap.specs.Faults.{flag_word_fault, other_fault, positional_fault, step_fault, stray_fault, turn_fault, walk_fault, word_fault}
+use Rattle.nf_cmd.proofs.Common.{◌≡◌, ℕ, Bool, cond, true, false, List, [], ◌∷◌, fold, Option, Some, None, is_some, bytes_eq, option_map_or, or_else, long_of, Held, Names, Rule, Step, Text, Waiting, Walk, after_step, arg_by_index, long_or_other, next, subcommand, subcommand_met, subcommand_or_other, to_positional, trailing, value, walked, walked_from, word_met, Shape, flag_word_fault, other_fault, positional_fault, step_fault, stray_fault, turn_fault, walk_fault, word_fault}
 use Rattle.nf_cmd.proofs.Rows.{both_none, EachFits}
 use Rattle.nf_cmd.proofs.WordRows.{each-long_or_other, each-positional}
 

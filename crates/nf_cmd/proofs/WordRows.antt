@@ -1,11 +1,6 @@
 -- A word in which there is no fault leaves rows that fit.
-use Rattle.std.proofs.Common.{◌≡◌, ◌&&◌, ℕ, Bool, cond, true, false, zero, suc, refl, List, [], ◌∷◌, length, drop, Option, Some, None, inl, inr, encode_utf8, find, slice_get, is_some, chars}
-use Rattle.std.specs.Option.{option_map_or}
+use Rattle.nf_cmd.proofs.Common.{◌≡◌, ◌&&◌, ℕ, Bool, cond, true, false, zero, suc, refl, List, [], ◌∷◌, length, drop, Option, Some, None, inl, inr, encode_utf8, find, slice_get, is_some, chars, option_map_or, Kinds, or_else, short_of, Held, Outcome, Row, Rule, Text, Waiting, after_flag, arg_by_id, arg_by_long, arg_by_short, attached_value, bundle, bundle_met, bundle_step, done, plain, refused, waits, flag_met, idle, is_pending, long_met, long_or_other, option, option_met, option_word, plain_word, positional, positional_held, reacted, settled, settled_rows, short_met, short_or_plain, takes_several, takes_values, used_by_id, bundle_fault, bundle_step_fault, flag_word_fault, flags_fault, long_fault, option_fault, positional_fault, react_fault, settle_fault, short_fault, use_fault}
 use Rattle.clap.specs.declared.error.kind.ErrorKind.TheVariants as kind
-use Rattle.clap.specs.Kinds.{Kinds, or_else}
-use Rattle.clap.specs.Lexer.{short_of}
-use Rattle.clap.specs.Walk.{Held, Outcome, Row, Rule, Text, Waiting, after_flag, arg_by_id, arg_by_long, arg_by_short, attached_value, bundle, bundle_met, bundle_step, done, plain, refused, waits, flag_met, idle, is_pending, long_met, long_or_other, option, option_met, option_word, plain_word, positional, positional_held, reacted, settled, settled_rows, short_met, short_or_plain, takes_several, takes_values, used_by_id}
-use Rattle.clap.specs.Faults.{bundle_fault, bundle_step_fault, flag_word_fault, flags_fault, long_fault, option_fault, positional_fault, react_fault, settle_fault, short_fault, use_fault}
 use Rattle.nf_cmd.proofs.Rows.{both_none, IsIn, EachFits, each-used}
 
 find-in : (p : Rule → Bool) (c : List Rule) (a : Rule) → find p c ≡ Some a → IsIn a c

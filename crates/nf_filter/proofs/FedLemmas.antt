@@ -85,10 +85,6 @@ module _ (policy : Policy) (f : Form) (p : Properties) (base : ℕ) (laws : Repl
     len_under-first laws policy.replace read.tail (text_of read.tail) [] (sym (append-nil (text_of read.tail))),
   )
 
-  -- how many bytes are held
-  pub read-held : len_under policy.replace bytes (text_under policy.replace bytes) + length read.tail ≡ length bytes + length (encode_utf8_all (text_of read.tail))
-  read-held = omega (arith, ap (len_under policy.replace bytes) read-text, read-place, left_is.len)
-
   -- the text where nothing follows
   module _ (replaces : policy.replace ≡ true) where
     whole_begun : (r : Bool) → r ≡ true → whole_under r read.tail ≡ text_of read.tail ++ (if length read.tail - length (encode_utf8_all (text_of read.tail)) == 0 then [] else replacement ∷ [])

@@ -70,9 +70,6 @@ module _ (p : Properties) where
   pub allowed-stop : (x : List ℕ) (c : ℕ) (y : List ℕ) → allowed true p x ≡ x → p.assigned c ≡ false → allowed true p ((x ++ c ∷ []) ++ y) ≡ x
   allowed-stop x c y all out = ap (allowed true p) (append_assoc x (c ∷ []) y) ∙ allowed-append true x (c ∷ y) all ∙ ap (λ l. x ++ l) (take_while-stop p.assigned [] c y refl out) ∙ append-nil x
 
-  pub allowed-all : (x : List ℕ) → list_all p.assigned x ≡ true → allowed true p x ≡ x
-  allowed-all x all = take_while-all p.assigned x all
-
   -- what was allowed stays, and where not all was, no more is
   pub allowed-grows : (a : Bool) (x y : List ℕ) → (allowed a p x ≡ x) ⊎ ((length (allowed a p x) < length x) × (allowed a p (x ++ y) ≡ allowed a p x))
   allowed-grows false x y = inl refl

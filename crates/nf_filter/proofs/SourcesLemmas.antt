@@ -13,32 +13,7 @@ use Rattle.nf_filter.specs.Faults.{answer_at_end}
 use Rattle.nf_filter.specs.Taker.{HasRead, ReadsPiece, MayStopReading}
 use Rattle.nf_filter.specs.Sources.{MayStopAll, IsCutStop, stop_at_end, ReadsAll}
 
--- what stops the reading of a piece may stop that of a source
-pub MayStopAll-from : (finds : Bool) (stop : Stop) → MayStopReading finds stop → MayStopAll finds stop
-MayStopAll-from finds (Refused Spent) may = may
-MayStopAll-from finds (Refused TooLong) may = may
-MayStopAll-from finds (Refused Read) may = tt
-MayStopAll-from finds (Refused Write) may = may
-MayStopAll-from finds (Refused (Row at)) may = may
-MayStopAll-from finds (Refused (BadByte at start)) may = may
-MayStopAll-from finds (Refused (Cut at start)) may = tt
-MayStopAll-from finds (Refused (Unassigned at)) may = may
-MayStopAll-from true (Found place) may = may
-MayStopAll-from false (Found place) may = may
-
--- and is no end inside a character
-pub not_cut : (finds : Bool) (stop : Stop) → MayStopReading finds stop → ¬ (IsCutStop stop)
-not_cut finds (Refused Spent) may cut = cut
-not_cut finds (Refused TooLong) may cut = cut
-not_cut finds (Refused Read) may cut = cut
-not_cut finds (Refused Write) may cut = cut
-not_cut finds (Refused (Row at)) may cut = cut
-not_cut finds (Refused (BadByte at start)) may cut = cut
-not_cut finds (Refused (Cut at start)) may cut = may
-not_cut finds (Refused (Unassigned at)) may cut = cut
-not_cut finds (Found place) may cut = cut
-
--- nor a failed read
+-- what stops the reading of a piece is no failed read
 pub not_read : (finds : Bool) (stop : Stop) → MayStopReading finds stop → ¬ (stop ≡ Refused Read)
 not_read finds stop may is = subst (MayStopReading finds) is may
 

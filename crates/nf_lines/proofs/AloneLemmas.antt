@@ -1,13 +1,7 @@
 -- Lines, and what stands behind them.
-use Rattle.std.proofs.Common.{◌≡◌, ℕ, ◌+◌, ◌==◌, ◌&&◌, Bool, true, false, List, [], ◌∷◌, ◌++◌, length, Option, Some, None, inl, inr, ⊎_elim, encode_utf8_all, refl, sym, ap, subst, ◌∙◌, arith, append_assoc, append-nil, length-append, eq-eqb, ne_eqb, if◌then◌else◌}
+use Rattle.nf_lines.proofs.Common.{◌≡◌, ℕ, ◌+◌, ◌==◌, ◌&&◌, Bool, true, false, List, [], ◌∷◌, ◌++◌, length, Option, Some, None, inl, inr, ⊎_elim, encode_utf8_all, refl, sym, ap, subst, ◌∙◌, arith, append_assoc, append-nil, length-append, eq-eqb, ne_eqb, if◌then◌else◌, result_err, cases_Bool, encodes-append, Properties, Form, Nfc, Nfd, Nfkc, Nfkd, Ending, Whole, Bad, Cut, text_of, ending_of, parts_of, replaced, replaced_whole, line_feed, Fault, Unassigned, Policy, Tally, text_under-none, settled_utf8-none, answer_at_end, bad_byte, bad_under, first_fault, fault_in, IsLeft, answer_or, end_under, end_of, final_under, final_utf8, is_taken, tally_of, whole_or, allowed, len_under, text_under, whole_under, settled, settled_utf8, left-text, EndsInLineFeed, end_fault, SameOrLineFeed, StandAlone}
 use Rattle.std.specs.Str.{chars}
 use Rattle.std.specs.Str.Lossy.{utf8_valid_len}
-use Rattle.std.specs.Result.{result_err}
-use Rattle.std.proofs.lemmas.Bool.{cases_Bool}
-use Rattle.std.proofs.lemmas.Str.{encodes-append}
-use Rattle.nf_forms.specs.Properties.{Properties}
-use Rattle.nf_forms.specs.declared.form.Form.{Form}
-use Rattle.nf_forms.specs.declared.form.Form.TheVariants.{Nfc, Nfd, Nfkc, Nfkd}
 use Rattle.nf_forms.specs.Order.{by_class}
 use Rattle.nf_forms.specs.Front.{front}
 use Rattle.nf_forms.specs.Runs.{has_starter}
@@ -18,28 +12,11 @@ use Rattle.nf_forms.specs.Parting.{IsParting}
 use Rattle.nf_forms.specs.Laws.Closing.{safe_form-closed}
 use Rattle.nf_forms.specs.Laws.Front.{front-append_some, front-at, front-none}
 use Rattle.nf_forms.specs.Laws.Parting.{safe_form-push}
-use Rattle.nf_utf8.specs.Ending.{Ending, Whole, Bad, Cut}
-use Rattle.nf_utf8.specs.Reading.{text_of, ending_of}
-use Rattle.nf_utf8.specs.Replaced.{parts_of, replaced, replaced_whole}
-use Rattle.nf_facts.specs.LineFeed.{line_feed}
-use Rattle.nf_filter.specs.declared.fault.Fault.{Fault}
-use Rattle.nf_filter.specs.declared.fault.Fault.TheVariants.{Unassigned}
-use Rattle.nf_filter.specs.declared.policy.Policy.{Policy}
-use Rattle.nf_filter.specs.declared.tally.Tally.{Tally}
-use Rattle.nf_filter.specs.Laws.Settled.{text_under-none, settled_utf8-none}
 use Rattle.nf_filter.specs.Laws.Soundness.{AreSound}
-use Rattle.nf_filter.specs.Faults.{answer_at_end, bad_byte, bad_under, first_fault, fault_in}
-use Rattle.nf_filter.specs.Feeding.{IsLeft}
-use Rattle.nf_filter.specs.Finishes.{answer_or, end_under, end_of, final_under, final_utf8, is_taken, tally_of, whole_or}
-use Rattle.nf_filter.specs.Policy.{allowed, len_under, text_under, whole_under}
-use Rattle.nf_filter.specs.Settled.{settled, settled_utf8}
-use Rattle.nf_filter.proofs.PieceLemmas.{left-text}
 use Rattle.nf_filter.proofs.PolicyLemmas.{allowed-append, allowed-grows, allowed-none, first_fault-none}
 use Rattle.nf_filter.proofs.ReadingLemmas.{ending_of-none}
 use Rattle.nf_filter.proofs.SettledLemmas.{usable-all}
 use Rattle.nf_filter.proofs.SoundnessLemmas.{all_sound, usable_is, first_fault-assigned}
-use Rattle.nf_lines.specs.Cut.{EndsInLineFeed}
-use Rattle.nf_lines.specs.Alone.{end_fault, SameOrLineFeed, StandAlone}
 use Rattle.nf_lines.proofs.WholeParts.{Reading, eqb_past, line_encodes}
 use Rattle.nf_lines.proofs.WholeLines.{ReadsLines, strict_lines, replaced_lines}
 

@@ -1,10 +1,6 @@
 -- The last line feed, looked for from the end.
-use Rattle.std.proofs.Common.{◌≡◌, ℕ, suc, ◌-◌, ◌<◌, ◌≤◌, ◌==◌, List, [], ◌∷◌, ◌++◌, length, take, drop, get_or, inl, inr, refl, sym, ap, subst, ◌∙◌, arith, ne_eqb}
-use Rattle.std.proofs.Math.Seq.{drop-cons, drop-length, take-suc}
-use Rattle.std.proofs.lemmas.Bool.{or_from, or_parts}
+use Rattle.nf_lines.proofs.Common.{◌≡◌, ℕ, suc, ◌-◌, ◌<◌, ◌≤◌, ◌==◌, List, [], ◌∷◌, ◌++◌, length, take, drop, get_or, inl, inr, refl, sym, ap, subst, ◌∙◌, arith, ne_eqb, drop-cons, drop-length, take-suc, or_from, or_parts, line_feed, HasNoLineFeed, IsCutAt}
 use Rattle.std.specs.List.{list_any}
-use Rattle.nf_facts.specs.LineFeed.{line_feed}
-use Rattle.nf_lines.specs.Cut.{HasNoLineFeed, IsCutAt}
 
 before : (n : ℕ) → 0 < n → suc (n - 1) ≡ n
 before n some = omega (arith, some)

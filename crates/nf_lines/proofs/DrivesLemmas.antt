@@ -1,26 +1,6 @@
 -- What driving line by line comes to.
-use Rattle.std.proofs.Common.{◌≡◌, ℕ, ◌≤◌, true, false, List, [], ◌++◌, length, None, Result, Ok, Err, inl, ⊎_elim, refl, sym, ap, subst, ◌∙◌, arith, append-nil, OnOk, IsTrue}
-use Rattle.std.specs.Result.{result_err}
-use Rattle.std.specs.Io.KnownBytes.{Consumes, IsAtEnd}
-use Rattle.nf_forms.specs.Properties.{Properties}
-use Rattle.nf_forms.specs.declared.form.Form.{Form}
-use Rattle.nf_filter.specs.declared.fault.Fault.{Fault}
-use Rattle.nf_filter.specs.declared.fault.Fault.TheVariants.{TooLong, Read, Write}
-use Rattle.nf_filter.specs.declared.filter.State.{State}
-use Rattle.nf_filter.specs.declared.policy.Policy.{Policy}
-use Rattle.nf_filter.specs.declared.tally.Tally.{Tally}
-use Rattle.nf_filter.specs.Devices.{SinkState, SourceState}
-use Rattle.nf_filter.specs.Laws.Settled.{settled_utf8-none}
-use Rattle.nf_filter.specs.Settled.{settled_utf8}
-use Rattle.nf_filter.specs.Faults.{fault_in, IsOfFinishing}
-use Rattle.nf_filter.specs.Filter.{base_of, StandsAfter}
-use Rattle.nf_filter.specs.Finishes.{end_of, final_utf8, Finishes}
+use Rattle.nf_lines.proofs.Common.{◌≡◌, ℕ, ◌≤◌, true, false, List, [], ◌++◌, length, None, Result, Ok, Err, inl, ⊎_elim, refl, sym, ap, subst, ◌∙◌, arith, append-nil, OnOk, IsTrue, result_err, Consumes, IsAtEnd, Properties, Form, Fault, TooLong, Read, Write, State, Policy, Tally, SinkState, SourceState, settled_utf8-none, settled_utf8, fault_in, IsOfFinishing, base_of, StandsAfter, end_of, final_utf8, Finishes, StandsAfter-no_fault, Puts-none, Puts-join, Puts-at, BreaksOff-join, BreaksOff-at, EndsInLineFeed, end_fault, StandAlone, Lines, bytes_of, lines_utf8, HasLines, StopsLines, DrivesLines}
 use Rattle.nf_filter.specs.Drives.{due_utf8}
-use Rattle.nf_filter.proofs.FilterLemmas.{StandsAfter-no_fault}
-use Rattle.nf_filter.proofs.WritesLemmas.{Puts-none, Puts-join, Puts-at, BreaksOff-join, BreaksOff-at}
-use Rattle.nf_lines.specs.Cut.{EndsInLineFeed}
-use Rattle.nf_lines.specs.Alone.{end_fault, StandAlone}
-use Rattle.nf_lines.specs.Drives.{Lines, bytes_of, lines_utf8, HasLines, StopsLines, DrivesLines}
 use Rattle.nf_lines.proofs.AloneLemmas.{final-none}
 use Rattle.nf_lines.proofs.StepLemmas.{joins, Puts-past, BreaksOff-past, refused, ended_by}
 

@@ -1,3 +1,4 @@
+mod Common
 mod WholeParts
 mod WholeLines
 mod AloneLemmas

@@ -1,27 +1,8 @@
 -- A piece more.
-use Rattle.std.proofs.Common.{◌≡◌, ℕ, ◌+◌, ◌≤◌, ◌^◌, List, [], ◌∷◌, ◌++◌, length, Some, None, Result, Ok, Err, ◌⊎◌, inl, inr, ⊎_elim, refl, sym, ap, subst, ◌∙◌, arith, append_assoc, append-nil, length-append, IfErr, OnOk}
-use Rattle.std.specs.Result.{result_err}
-use Rattle.nf_forms.specs.Properties.{Properties}
-use Rattle.nf_forms.specs.declared.form.Form.{Form}
-use Rattle.nf_facts.specs.LineFeed.{line_feed}
-use Rattle.nf_filter.specs.declared.fault.Fault.{Fault}
-use Rattle.nf_filter.specs.declared.fault.Fault.TheVariants.{Spent, TooLong, Read, Write, Row, BadByte, Cut, Unassigned}
-use Rattle.nf_filter.specs.declared.filter.State.{State}
-use Rattle.nf_filter.specs.declared.policy.Policy.{Policy}
-use Rattle.nf_filter.specs.declared.tally.Tally.{Tally}
-use Rattle.nf_filter.specs.Devices.{SinkState}
+use Rattle.nf_lines.proofs.Common.{◌≡◌, ℕ, ◌+◌, ◌≤◌, ◌^◌, List, [], ◌∷◌, ◌++◌, length, Some, None, Result, Ok, Err, ◌⊎◌, inl, inr, ⊎_elim, refl, sym, ap, subst, ◌∙◌, arith, append_assoc, append-nil, length-append, IfErr, OnOk, result_err, Properties, Form, line_feed, Fault, Spent, TooLong, Read, Write, Row, BadByte, Unassigned, State, Policy, Tally, SinkState, settled_utf8-none, settled_utf8, IsOfFeeding, fault_in, base_of, offset_of, StandsAfter, end_of, final_utf8, Finishes, StandsAfter-no_fault, StandsAfter-offset, write_or_not, Puts-join, Puts-at, BreaksOff-join, BreaksOff-at, EndsInLineFeed, AreLines, HasNoLineFeed, end_fault, SameOrLineFeed, StandAlone, Lines, bytes_of, lines_utf8, HasLines, StopsLines, FeedsLines}
+use Rattle.nf_filter.specs.declared.fault.Fault.TheVariants.{Cut}
 use Rattle.nf_filter.specs.Writes.{Puts, BreaksOff}
-use Rattle.nf_filter.specs.Laws.Settled.{settled_utf8-none}
-use Rattle.nf_filter.specs.Settled.{settled_utf8}
-use Rattle.nf_filter.specs.Faults.{IsOfFeeding, fault_in}
-use Rattle.nf_filter.specs.Filter.{base_of, offset_of, StandsAfter}
 use Rattle.nf_filter.specs.Feeds.{Feeds}
-use Rattle.nf_filter.specs.Finishes.{end_of, final_utf8, Finishes}
-use Rattle.nf_filter.proofs.FilterLemmas.{StandsAfter-no_fault, StandsAfter-offset, write_or_not}
-use Rattle.nf_filter.proofs.WritesLemmas.{Puts-join, Puts-at, BreaksOff-join, BreaksOff-at}
-use Rattle.nf_lines.specs.Cut.{EndsInLineFeed, AreLines, HasNoLineFeed}
-use Rattle.nf_lines.specs.Alone.{end_fault, SameOrLineFeed, StandAlone}
-use Rattle.nf_lines.specs.Drives.{Lines, bytes_of, lines_utf8, HasLines, StopsLines, FeedsLines}
 use Rattle.nf_lines.proofs.AloneLemmas.{final-none}
 use Rattle.nf_lines.proofs.CutLemmas.{none_more}
 

@@ -1,16 +1,5 @@
 -- Of whole lines nothing is left to be read.
-use Rattle.std.proofs.Common.{◌≡◌, ℕ, zero, suc, ◌+◌, ◌<◌, ◌≤◌, ◌==◌, Bool, true, false, List, [], ◌∷◌, ◌++◌, length, take, drop, encode_utf8_all, refl, sym, ap, subst, ◌∙◌, arith, append_assoc, length-append, length-drop, take_at, take_all, if◌then◌else◌}
-use Rattle.std.proofs.lemmas.List.{drop-append-le}
-use Rattle.std.proofs.lemmas.Str.{encodes-append}
-use Rattle.std.proofs.str.Laws.{scalars-append}
-use Rattle.nf_utf8.specs.Text.{IsText, BeginsText}
-use Rattle.nf_utf8.specs.Ending.{Ending, Whole, Bad, Cut}
-use Rattle.nf_utf8.specs.Reading.{text_of, ending_of}
-use Rattle.nf_utf8.specs.Replaced.{replacement, part_end}
-use Rattle.nf_facts.specs.LineFeed.{line_feed}
-use Rattle.nf_filter.specs.Feeding.{IsLeft}
-use Rattle.nf_filter.proofs.PieceLemmas.{IsLeft-all, IsLeft-behind, IsLeft-join}
-use Rattle.nf_lines.specs.Cut.{EndsInLineFeed}
+use Rattle.nf_lines.proofs.Common.{◌≡◌, ℕ, zero, suc, ◌+◌, ◌<◌, ◌≤◌, ◌==◌, Bool, true, false, List, [], ◌∷◌, ◌++◌, length, take, drop, encode_utf8_all, refl, sym, ap, subst, ◌∙◌, arith, append_assoc, length-append, length-drop, take_at, take_all, if◌then◌else◌, drop-append-le, encodes-append, scalars-append, IsText, BeginsText, Ending, Whole, Bad, Cut, text_of, ending_of, replacement, part_end, line_feed, IsLeft, IsLeft-all, IsLeft-behind, IsLeft-join, EndsInLineFeed}
 use Rattle.nf_lines.proofs.WholeParts.{Reading, IsLine, line_text, line_utf8, line_encodes, text_left, begins_whole, begins_cut, end_is, is_broken, IsBroken, broken_end, text_begins}
 
 -- they give a text that ends in a line feed, and the rest is read as if it stood alone

@@ -1,21 +1,8 @@
 -- A line feed ends every character that was begun: of bytes that end in one nothing is left to be read.
-use Rattle.std.proofs.Common.{◌≡◌, ℕ, ◌+◌, ◌-◌, ◌<◌, ◌≤◌, ◌==◌, ◌⊎◌, Bool, true, false, List, [], ◌∷◌, ◌++◌, length, take, drop, get_or, encode_utf8_all, inl, inr, refl, sym, ap, subst, ◌∙◌, arith, append_assoc, append-nil, length-append, take_at, take-append-drop, IsUtf8, eq-eqb, ne_eqb, if◌then◌else◌}
-use Rattle.std.proofs.Math.Seq.{get_or-append_seam, drop-append-add}
+use Rattle.nf_lines.proofs.Common.{◌≡◌, ℕ, ◌+◌, ◌-◌, ◌<◌, ◌≤◌, ◌==◌, ◌⊎◌, Bool, true, false, List, [], ◌∷◌, ◌++◌, length, take, drop, get_or, encode_utf8_all, inl, inr, refl, sym, ap, subst, ◌∙◌, arith, append_assoc, append-nil, length-append, take_at, take-append-drop, IsUtf8, eq-eqb, ne_eqb, if◌then◌else◌, get_or-append_seam, drop-append-add, cases_lt, eqb-true, take-append-le, IsUtf8-take, IsCharBoundary-after_ascii, IsCharBoundary-from_drop, encodes-append, scalars-append, IsText, BeginsText, Ending, Whole, Bad, Cut, moved, text_of, ending_of, Part, replacement, own_parts, part_end, parts_of, line_feed, answer_at_end, bad_byte, IsLeft, IsLeft-parts, own_parts-append}
 use Rattle.std.proofs.Math.Utf8.{encode}
-use Rattle.std.proofs.lemmas.Bool.{cases_lt, eqb-true}
-use Rattle.std.proofs.lemmas.List.{take-append-le}
-use Rattle.std.proofs.lemmas.Str.{IsUtf8-take, IsCharBoundary-after_ascii, IsCharBoundary-from_drop, encodes-append}
-use Rattle.std.proofs.str.Laws.{scalars-append}
-use Rattle.nf_utf8.specs.Text.{IsText, BeginsText}
-use Rattle.nf_utf8.specs.Ending.{Ending, Whole, Bad, Cut, moved}
-use Rattle.nf_utf8.specs.Reading.{text_of, ending_of}
-use Rattle.nf_utf8.specs.Replaced.{Part, replacement, own_parts, part_end, parts_of}
 use Rattle.nf_utf8.specs.Reads.{EndsAs}
 use Rattle.nf_utf8.specs.Laws.{ReadsBack, ReplacesParts, SplitsBytes, ReadsLongestText}
-use Rattle.nf_facts.specs.LineFeed.{line_feed}
-use Rattle.nf_filter.specs.Faults.{answer_at_end, bad_byte}
-use Rattle.nf_filter.specs.Feeding.{IsLeft}
-use Rattle.nf_filter.proofs.PieceLemmas.{IsLeft-parts, own_parts-append}
 
 -- what is known of reading UTF-8
 pub record Reading : Type 0 where

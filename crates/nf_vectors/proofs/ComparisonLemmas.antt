@@ -1,20 +1,11 @@
 -- Whether the sound front of a text leaves the Stream-Safe Text Format.
-use Rattle.std.proofs.Common.{◌≡◌, ℕ, ◌+◌, ◌≤◌, ◌<◌, true, false, List, [], ◌∷◌, ◌++◌, length, take, Option, Some, None, is_some, refl, sym, ap, ◌∙◌, arith, ◌-◌, ◌⊎◌, inl, inr, ⊎_elim, drop, get_or, append_assoc, option_map}
-use Rattle.std.specs.List.{list_all}
-use Rattle.std.proofs.lemmas.Bool.{and_parts, false≢true, false_from_ne_true, cases_order, cases_lt}
-use Rattle.std.proofs.lemmas.List.{take_more, append-nil}
-use Rattle.std.proofs.lemmas.List.Folds.{list_all-append}
-use Rattle.std.proofs.Math.Seq.{take-length, take-add}
-use Rattle.nf_forms.specs.Properties.{Properties}
-use Rattle.nf_forms.specs.Sound.{is_sound}
+use Rattle.nf_vectors.proofs.Common.{◌≡◌, ℕ, ◌+◌, ◌≤◌, ◌<◌, true, false, List, [], ◌∷◌, ◌++◌, length, take, Option, Some, None, is_some, refl, sym, ap, ◌∙◌, arith, ◌-◌, ◌⊎◌, inl, inr, ⊎_elim, drop, get_or, append_assoc, option_map, list_all, and_parts, false≢true, false_from_ne_true, cases_order, cases_lt, take_more, list_all-append, take-length, take-add, Properties, is_sound, Place, is_in_format, place, place_at, place_from, sound_front, leaves_format}
+use Rattle.std.proofs.lemmas.List.{append-nil}
 use Rattle.nf_forms.specs.Laws.Last.{by_last}
 use Rattle.nf_forms.specs.Laws.Sound.{IsSoundText, sound_last}
 use Rattle.nf_safe.specs.LongestFront.{longest_front, IsLongestFront}
-use Rattle.nf_safe.specs.declared.place.Place.{Place}
-use Rattle.nf_safe.specs.Place.{is_in_format, place, place_at, place_from}
 use Rattle.nf_safe.specs.Laws.LongestFront.{longest_front-all, longest_front_is}
 use Rattle.nf_safe.specs.Laws.Place.{is_in_format-front, place-none, place-in_format}
-use Rattle.nf_vectors.specs.Comparison.{sound_front, leaves_format}
 
 -- a front, and what of the text stands behind it up to another place
 cut : (x : List ℕ) (m k : ℕ) → m ≤ k → take m x ++ take (k - m) (drop m x) ≡ take k x

@@ -1,14 +1,5 @@
 -- The value of a word's digits.
-use Rattle.std.proofs.Common.{◌≡◌, ℕ, zero, suc, ◌+◌, ◌*◌, ◌<◌, ◌≤◌, Bool, true, false, ◌&&◌, nat_le, List, [], ◌∷◌, length, take, get_or, Ok, Err, refl, ap, ◌∙◌, arith, rules, if◌then◌else◌}
-use Rattle.std.specs.Char.{digit_value, InScalarRange, OutOfScalarRange}
-use Rattle.std.specs.List.{list_all}
-use Rattle.std.proofs.lemmas.Bool.{lt-leb, le-leb, and_from, and_parts, ltb-true}
-use Rattle.std.proofs.lemmas.Bool.Decides.{nat_tests}
-use Rattle.std.proofs.lemmas.List.{take_more}
-use Rattle.std.proofs.lemmas.List.Folds.{list_all-append}
-use Rattle.std.proofs.lemmas.List.Sums.{fold_push, AllPass-from_list_all}
-use Rattle.nf_vectors.specs.declared.fault.VectorKind.TheVariants.{Hex, Scalar}
-use Rattle.nf_vectors.specs.Words.{is_digit, value_of, is_scalar, code_point}
+use Rattle.nf_vectors.proofs.Common.{◌≡◌, ℕ, zero, suc, ◌+◌, ◌*◌, ◌<◌, ◌≤◌, Bool, true, false, ◌&&◌, nat_le, List, [], ◌∷◌, length, take, get_or, Ok, Err, refl, ap, ◌∙◌, arith, rules, if◌then◌else◌, digit_value, InScalarRange, OutOfScalarRange, list_all, lt-leb, le-leb, and_from, and_parts, ltb-true, nat_tests, take_more, list_all-append, fold_push, AllPass-from_list_all, Hex, Scalar, is_digit, value_of, is_scalar, code_point}
 
 abbrev pub power : ℕ → ℕ
 power zero = 1

@@ -1,22 +1,6 @@
 -- Where the reading of a vector file ends.
-use Rattle.std.proofs.Common.{◌≡◌, ℕ, suc, ◌+◌, ◌-◌, ◌<◌, ◌≤◌, Bool, true, false, ◌||◌, List, [], ◌∷◌, ◌++◌, length, take, drop, get_or, Option, Some, None, Result, Ok, Err, refl, sym, ap, ◌∙◌, subst, arith, append_assoc, append-nil, ⊎_elim, ◌⊎◌, inl, inr, OnOk, is_ok, if◌then◌else◌}
-use Rattle.std.proofs.lemmas.Bool.{lt-ltb, le-ltb, false≢true, cases_lt}
-use Rattle.std.proofs.Math.Bool.{or-false}
-use Rattle.std.proofs.Math.Seq.{take-append-add}
-use Rattle.std.proofs.lemmas.List.{length-append, take_all, take_at, drop_more, take-append-drop}
-use Rattle.nf_vectors.specs.declared.fault.VectorFault.{VectorFault}
-use Rattle.nf_vectors.specs.declared.fault.VectorKind.{VectorKind}
-use Rattle.nf_vectors.specs.declared.fault.VectorKind.TheVariants.{Fields, Empty, Hex, Scalar, Size, Read, Memory}
-use Rattle.nf_vectors.specs.declared.reading.Reading.{Reading}
-use Rattle.nf_vectors.specs.Line.{is_line_end, lines_of}
-use Rattle.nf_vectors.specs.Judgement.{Judgement, Bad}
-use Rattle.nf_vectors.specs.Suite.{judged, part_behind, is_part1_line, rows_from, names_part1_from, fault_or, last_fault, first_fault}
-use Rattle.nf_vectors.specs.SuiteView.{rows_in}
-use Rattle.nf_vectors.specs.Within.{AreWithin}
-use Rattle.nf_vectors.specs.Standing.{StandsAfter, EndsLine}
-use Rattle.nf_vectors.specs.Limits.{limit, block}
-use Rattle.nf_vectors.specs.ReadsSuite.{lines_within, stop_of, Finds}
-use Rattle.nf_vectors.specs.RunsOut.{RunsOut}
+use Rattle.nf_vectors.proofs.Common.{◌≡◌, ℕ, suc, ◌+◌, ◌-◌, ◌<◌, ◌≤◌, Bool, true, false, ◌||◌, List, [], ◌∷◌, ◌++◌, length, take, drop, get_or, Option, Some, None, Result, Ok, Err, refl, sym, ap, ◌∙◌, subst, arith, append_assoc, append-nil, ⊎_elim, ◌⊎◌, inl, inr, OnOk, is_ok, if◌then◌else◌, lt-ltb, le-ltb, false≢true, cases_lt, or-false, take-append-add, length-append, take_at, drop_more, take-append-drop, VectorFault, VectorKind, Fields, Empty, Hex, Scalar, Size, Read, Memory, Reading, is_line_end, lines_of, Judgement, Bad, judged, part_behind, is_part1_line, rows_from, names_part1_from, fault_or, last_fault, first_fault, rows_in, AreWithin, StandsAfter, EndsLine, limit, block, lines_within, stop_of, Finds, RunsOut}
+use Rattle.std.proofs.lemmas.List.{take_all}
 use Rattle.nf_vectors.proofs.TextLemmas.{rows_in-append}
 use Rattle.nf_vectors.proofs.StandingLemmas.{lines_of-ended, lines_of-last, first_fault-ended}
 

@@ -1,10 +1,5 @@
 -- Worked lines, computed from the definitions.
-use Rattle.std.proofs.Common.{◌≡◌, [], ◌∷◌, ◌++◌, true, false, None, Some, Ok, Err, refl, codes}
-use Rattle.nf_vectors.specs.declared.fault.VectorKind.TheVariants.{Fields, Empty, Hex, Scalar, Size}
-use Rattle.nf_vectors.specs.Line.{content, lines_of}
-use Rattle.nf_vectors.specs.Words.{code_point, column_in}
-use Rattle.nf_vectors.specs.Judgement.{Nothing, Part, Row, Bad, is_part1, row_in, columns_of, judgement}
-use Rattle.nf_vectors.specs.Suite.{judged, first_fault}
+use Rattle.nf_vectors.proofs.Common.{◌≡◌, [], ◌∷◌, ◌++◌, true, false, None, Some, Ok, Err, refl, codes, Fields, Empty, Hex, Scalar, Size, content, lines_of, code_point, column_in, Nothing, Part, Row, Bad, is_part1, row_in, columns_of, judgement, judged, first_fault}
 
 a_word : code_point (codes "1E9b") ≡ Ok 0x1E9B
 unfolding code_point

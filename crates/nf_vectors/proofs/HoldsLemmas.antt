@@ -1,14 +1,8 @@
 -- What `converted` answers of a text, and whether that is as expected.
-use Rattle.std.proofs.Common.{◌≡◌, ℕ, ◌+◌, Bool, true, false, ◌&&◌, List, [], length, Option, Some, None, refl, sym, ap, ◌∙◌, subst, append-nil, bytes_eq, encode_utf8_all, IsUtf8, if◌then◌else◌}
+use Rattle.nf_vectors.proofs.Common.{◌≡◌, ℕ, ◌+◌, Bool, true, false, ◌&&◌, List, [], length, Option, Some, None, refl, sym, ap, ◌∙◌, subst, append-nil, bytes_eq, encode_utf8_all, IsUtf8, if◌then◌else◌, same_from_decides, bytes_eq-Decides, encodes_same, Properties, Form, safe_form, is_usable, usable, holds}
 use Rattle.std.specs.Str.{chars}
 use Rattle.std.specs.Result.{result_err}
 use Rattle.std.specs.Str.Lossy.{utf8_valid_len}
-use Rattle.std.proofs.lemmas.Bool.Decides.{same_from_decides}
-use Rattle.std.proofs.lemmas.Slice.Eq.{bytes_eq-Decides}
-use Rattle.std.proofs.lemmas.Str.{encodes_same}
-use Rattle.nf_forms.specs.Properties.{Properties}
-use Rattle.nf_forms.specs.declared.form.Form.{Form}
-use Rattle.nf_forms.specs.SafeForm.{safe_form}
 use Rattle.nf_utf8.specs.Text.{IsText}
 use Rattle.nf_utf8.specs.Ending.{Ending, Whole}
 use Rattle.nf_utf8.specs.Reading.{text_of, ending_of}
@@ -16,11 +10,9 @@ use Rattle.nf_utf8.specs.Laws.{ReadsBack}
 use Rattle.nf_filter.specs.declared.fault.Fault.{Fault}
 use Rattle.nf_filter.specs.declared.fault.Fault.TheVariants.{Row}
 use Rattle.nf_filter.specs.declared.tally.Tally.{Tally}
-use Rattle.nf_filter.specs.Settled.{is_usable, usable}
 use Rattle.nf_filter.specs.Faults.{answer_at_end, bad_byte, fault_in}
 use Rattle.nf_filter.specs.Finishes.{tally_of, end_of}
 use Rattle.nf_filter.specs.Whole.{IsFormOf, fault_or, whole_answer}
-use Rattle.nf_vectors.specs.Comparison.{holds}
 
 -- the fault, by whether all characters can be used and how the bytes end
 told : Bool → Ending → ℕ → Tally → Option Fault

@@ -1,10 +1,6 @@
 -- How a line is judged, by what it says.
-use Rattle.std.proofs.Common.{◌≡◌, ℕ, ◌<◌, List, [], ◌∷◌, ◌++◌, length, Ok, sym, ap, ◌∙◌, arith, if◌then◌else◌, slice_range, append_assoc, append-nil, length-append, eq-eqb, ne_eqb}
-use Rattle.nf_vectors.specs.Columns.{Columns}
-use Rattle.nf_vectors.specs.Line.{content}
-use Rattle.nf_vectors.specs.Words.{column_in}
-use Rattle.nf_vectors.specs.Judgement.{Nothing, Part, columns_of, is_part1, row_in, row_or_bad, judgement_of, judgement}
-use Rattle.nf_vectors.specs.Suite.{unmarked, judged}
+use Rattle.nf_vectors.proofs.Common.{◌≡◌, ℕ, ◌<◌, List, [], ◌∷◌, ◌++◌, length, Ok, sym, ap, ◌∙◌, arith, if◌then◌else◌, slice_range, append_assoc, append-nil, eq-eqb, ne_eqb, Columns, content, column_in, Nothing, Part, columns_of, is_part1, row_in, row_or_bad, judgement_of, judgement, unmarked, judged}
+use Rattle.std.proofs.Common.{length-append}
 use Rattle.nf_vectors.proofs.TextLemmas.{slice_range-append, slice_range-last}
 
 module _ (line : List ℕ) where

@@ -1,3 +1,4 @@
+pub mod Common
 pub mod TextLemmas
 pub mod DigitLemmas
 pub mod WordLemmas

@@ -1,13 +1,5 @@
 -- The pieces of a row.
-use Rattle.std.proofs.Common.{◌≡◌, ℕ, ◌<◌, Bool, true, false, List, [], ◌∷◌, length, Err, refl, sym, ap, ◌∙◌, arith, cond, if◌then◌else◌, slice_index_or, ◌⊎◌, inl, inr, ⊎_elim, not}
-use Rattle.std.specs.List.{slice_split, onto_first, before_first, after_first, position_or_len, list_all}
-use Rattle.std.proofs.lemmas.Bool.{cases_lt}
-use Rattle.std.proofs.lemmas.Bool.Decides.{nat_tests}
-use Rattle.std.proofs.lemmas.List.Splits.{slice_split_first, slice_split_none}
-use Rattle.std.proofs.lemmas.List.Sums.{fails_before_first, AllPass-from_list_all, prefix_len-le-length}
-use Rattle.nf_vectors.specs.declared.fault.VectorKind.TheVariants.{Fields}
-use Rattle.nf_vectors.specs.Line.{is_semicolon, is_blank}
-use Rattle.nf_vectors.specs.Judgement.{columns_of, columns_in}
+use Rattle.nf_vectors.proofs.Common.{◌≡◌, ℕ, ◌<◌, Bool, true, false, List, [], ◌∷◌, length, Err, refl, sym, ap, ◌∙◌, arith, cond, if◌then◌else◌, slice_index_or, ◌⊎◌, inl, inr, ⊎_elim, not, slice_split, onto_first, before_first, after_first, position_or_len, list_all, cases_lt, nat_tests, slice_split_first, slice_split_none, fails_before_first, AllPass-from_list_all, prefix_len-le-length, Fields, is_semicolon, is_blank, columns_of, columns_in}
 
 -- bytes are cut at the first semicolon
 pub split-cut : (bytes first rest : List ℕ) → (position_or_len is_semicolon bytes < length bytes) × (first ≡ before_first is_semicolon bytes) × (rest ≡ after_first is_semicolon bytes)

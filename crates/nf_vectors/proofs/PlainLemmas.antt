@@ -1,22 +1,12 @@
 -- No form changes a sound starter that is its own decomposition.
-use Rattle.std.proofs.Common.{◌≡◌, ℕ, ◌+◌, Bool, true, false, List, [], ◌∷◌, ◌++◌, length, refl, ap, ◌∙◌, arith, if◌then◌else◌}
-use Rattle.std.proofs.lemmas.Bool.{and_from, eq-eqb, le-ltb}
-use Rattle.std.proofs.lemmas.Slice.Eq.{bytes_eq-Decides}
-use Rattle.std.specs.List.{list_all}
-use Rattle.nf_forms.specs.Properties.{Properties}
-use Rattle.nf_forms.specs.Sound.{is_sound}
-use Rattle.nf_forms.specs.declared.form.Form.{Form}
-use Rattle.nf_forms.specs.declared.form.Form.TheVariants.{Nfc, Nfd, Nfkc, Nfkd}
+use Rattle.nf_vectors.proofs.Common.{◌≡◌, ℕ, ◌+◌, Bool, true, false, List, [], ◌∷◌, ◌++◌, length, refl, ap, ◌∙◌, arith, if◌then◌else◌, and_from, le-ltb, bytes_eq-Decides, list_all, Properties, is_sound, Form, Nfc, Nfd, Nfkc, Nfkd, is_usable, safe_form, holds, is_unchanged}
+use Rattle.std.proofs.lemmas.Bool.{eq-eqb}
 use Rattle.nf_forms.specs.Order.{by_class, order}
 use Rattle.nf_forms.specs.Compose.{compose}
 use Rattle.nf_forms.specs.Forms.{arranged, composes, finished, decomposed, normal_form}
 use Rattle.nf_forms.specs.StreamSafe.{joiner, max_run, stream_safe}
 use Rattle.nf_forms.specs.Runs.{lead}
 use Rattle.nf_forms.specs.Laws.Runs.{lead-le-length}
-use Rattle.nf_filter.specs.Settled.{is_usable}
-use Rattle.nf_forms.specs.SafeForm.{safe_form}
-use Rattle.nf_vectors.specs.Comparison.{holds}
-use Rattle.nf_vectors.specs.Sweep.{is_unchanged}
 use Rattle.nf_vectors.specs.Plain.{IsPlain}
 
 module _ (p : Properties) (c : ℕ) (plain : IsPlain p c) where

@@ -1,15 +1,7 @@
 -- A report of one row more.
-use Rattle.std.proofs.Common.{◌≡◌, ℕ, ◌+◌, cond, List, [], ◌∷◌, ◌++◌, length, Option, Some, None, refl, ap, ◌∙◌, arith, add-zero, count_by}
-use Rattle.std.specs.Option.{option_or}
-use Rattle.std.proofs.lemmas.List.{length_push}
-use Rattle.std.proofs.lemmas.List.Sums.{sum_by_push}
-use Rattle.nf_forms.specs.Properties.{Properties}
-use Rattle.nf_vectors.specs.declared.report.Failure.{Failure}
+use Rattle.nf_vectors.proofs.Common.{◌≡◌, ℕ, ◌+◌, cond, List, [], ◌∷◌, ◌++◌, length, Option, Some, None, refl, ap, ◌∙◌, arith, add-zero, count_by, option_or, length_push, sum_by_push, Properties, Failure, Skipped, Passed, Failed, VectorRow, verdict_of, is_skip, is_pass, is_failure, failure_or, first_failure_of, report_of, report_and}
 use Rattle.nf_vectors.specs.declared.report.Report.{Report}
 use Rattle.nf_vectors.specs.declared.report.Verdict.{Verdict}
-use Rattle.nf_vectors.specs.declared.report.Verdict.TheVariants.{Skipped, Passed, Failed}
-use Rattle.nf_vectors.specs.Suite.{VectorRow}
-use Rattle.nf_vectors.specs.Report.{verdict_of, is_skip, is_pass, is_failure, failure_or, first_failure_of, report_of, report_and}
 
 pub or_none : {T : Type 0} (o : Option T) → option_or o None ≡ o
 or_none None = refl

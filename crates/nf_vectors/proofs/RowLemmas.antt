@@ -1,10 +1,7 @@
 -- A fault that a call answers is passed on.
-use Rattle.std.proofs.Common.{◌≡◌, ℕ, Bool, List, nat_eq, bytes_eq, sym, ap, ◌∙◌, subst, eqb-true, eq-eqb, Result, Ok, Err, MatchResult, IsErr, IsErrAnd}
+use Rattle.nf_vectors.proofs.Common.{◌≡◌, ℕ, Bool, List, nat_eq, bytes_eq, sym, ap, ◌∙◌, subst, eq-eqb, Result, Ok, Err, MatchResult, IsErr, IsErrAnd, same_from_decides, slice_eq-Decides, bytes_eq-Decides, VectorKind, Memory}
+use Rattle.std.proofs.Common.{eqb-true}
 use Rattle.std.specs.Cmp.Lexicographic.{pointwise}
-use Rattle.std.proofs.lemmas.Bool.Decides.{same_from_decides}
-use Rattle.std.proofs.lemmas.Slice.Eq.{slice_eq-Decides, bytes_eq-Decides}
-use Rattle.nf_vectors.specs.declared.fault.VectorKind.{VectorKind}
-use Rattle.nf_vectors.specs.declared.fault.VectorKind.TheVariants.{Memory}
 
 pub refused_by : {A B : Type 0} (P : A → Type 0) (r : Result A VectorKind) (kind : VectorKind) (read : Result B VectorKind) → IsErr r × IsErrAnd r (λ k. k ≡ kind)
     → (¬ (kind ≡ Memory) → read ≡ Err kind) → MatchResult r P (λ k. ¬ (k ≡ Memory) → read ≡ Err k)

@@ -1,14 +1,6 @@
 -- How the reading of a vector file goes on, byte by byte.
-use Rattle.std.proofs.Common.{◌≡◌, ℕ, ◌+◌, true, false, List, [], ◌∷◌, ◌++◌, length, Option, refl, sym, ap, ◌∙◌, subst, arith, rules, append_assoc, append-nil, All, length-append}
-use Rattle.std.proofs.Math.Bool.{or_assoc}
-use Rattle.std.proofs.lemmas.List.Splits.{slice_split_at, slice_split_none}
-use Rattle.nf_vectors.specs.declared.fault.VectorFault.{VectorFault}
-use Rattle.nf_vectors.specs.declared.fault.VectorKind.{VectorKind}
-use Rattle.nf_vectors.specs.declared.reading.Reading.{Reading}
-use Rattle.nf_vectors.specs.Line.{is_line_end, lines_of}
-use Rattle.nf_vectors.specs.Suite.{judged, fault_or, first_fault}
-use Rattle.nf_vectors.specs.SuiteView.{rows_in}
-use Rattle.nf_vectors.specs.Standing.{StandsAfter, EndsLine}
+use Rattle.nf_vectors.proofs.Common.{◌≡◌, ℕ, ◌+◌, true, false, List, [], ◌∷◌, ◌++◌, length, Option, refl, sym, ap, ◌∙◌, subst, arith, rules, append_assoc, append-nil, All, or_assoc, slice_split_at, slice_split_none, VectorFault, VectorKind, Reading, is_line_end, lines_of, judged, fault_or, first_fault, rows_in, StandsAfter, EndsLine}
+use Rattle.std.proofs.Common.{length-append}
 use Rattle.nf_vectors.proofs.PieceLemmas.{split-some}
 
 module _ (line : List ℕ) (one : All (λ b. is_line_end b ≡ false) line) where
@@ -30,21 +22,6 @@ first_fault-ended n stop line bytes =
 module _ (old new : Reading) (bytes : List ℕ) (b : ℕ) (before : StandsAfter old bytes) (taken : new.taken ≡ old.taken + 1) where
   taken-more : new.taken ≡ length (bytes ++ b ∷ [])
   taken-more = omega (arith, before.taken, taken, length-append bytes (b ∷ []))
-
-  -- a byte of the line
-  pub StandsAfter-byte : is_line_end b ≡ false → rows_in new.text.items new.entries.items ≡ rows_in old.text.items old.entries.items
-      → new.has_part1 ≡ old.has_part1 → new.in_part1 ≡ old.in_part1 → new.line ≡ old.line → new.bytes.items ≡ old.bytes.items ++ b ∷ []
-      → All (λ b. is_line_end b ≡ false) new.bytes.items → StandsAfter new (bytes ++ b ∷ [])
-  StandsAfter-byte inside rows has_part1 in_part1 line begun one = record {
-    faults = λ stop more. rw (append_assoc bytes (b ∷ []) more, before.faults stop (b ∷ more), line, ← here more) refl;
-    rows = λ more. rw (append_assoc bytes (b ∷ []) more, before.rows (b ∷ more), rows, line, in_part1, ← here more) refl;
-    part1 = λ more. rw (append_assoc bytes (b ∷ []) more, before.part1 (b ∷ more), has_part1, line, ← here more) refl;
-    taken = taken-more;
-    one_line = one;
-  }
-    where
-      here : (more : List ℕ) → old.bytes.items ++ b ∷ more ≡ new.bytes.items ++ more
-      here more = sym (ap (λ l. l ++ more) begun ∙ append_assoc old.bytes.items (b ∷ []) more)
 
   -- the end of the line
   pub StandsAfter-line : is_line_end b ≡ true → EndsLine (judged old.line old.bytes.items) old new

@@ -1,14 +1,7 @@
 -- A sweep of one code more.
-use Rattle.std.proofs.Common.{◌≡◌, ℕ, zero, suc, ◌+◌, ◌≤◌, length, Bool, true, false, cond, not, ◌&&◌, List, [], ◌∷◌, ◌++◌, Some, None, refl, sym, ap, ◌∙◌, arith, add-zero, count_by, find}
-use Rattle.std.specs.Option.{option_or}
-use Rattle.std.proofs.lemmas.List.{length_push}
-use Rattle.std.proofs.lemmas.List.Sums.{sum_by_push, count_by-le-length}
-use Rattle.std.proofs.lemmas.List.Folds.{find-append}
-use Rattle.nf_forms.specs.Properties.{Properties}
+use Rattle.nf_vectors.proofs.Common.{◌≡◌, ℕ, zero, suc, ◌+◌, ◌≤◌, length, Bool, true, false, cond, not, ◌&&◌, List, [], ◌∷◌, ◌++◌, Some, None, refl, sym, ap, ◌∙◌, arith, add-zero, count_by, find, option_or, length_push, sum_by_push, count_by-le-length, find-append, Properties, VectorRow, is_unlisted, is_unchanged, is_failed, below, sweep_below}
 use Rattle.nf_vectors.specs.declared.sweep.Sweep.{Sweep}
-use Rattle.nf_vectors.specs.Suite.{VectorRow}
 use Rattle.nf_vectors.proofs.ReportLemmas.{or_none}
-use Rattle.nf_vectors.specs.Sweep.{is_unlisted, is_unchanged, is_failed, below, sweep_below}
 
 length-below : (n : ℕ) → length (below n) ≡ n
 unfolding below

@@ -1,18 +1,6 @@
 -- The comparisons of a row, one after the other.
-use Rattle.std.proofs.Common.{◌≡◌, ℕ, ◌+◌, ◌<◌, Bool, true, false, not, List, length, drop, get_or, Option, Some, None, refl, sym, ap, ◌∙◌, encode_utf8_all, if◌then◌else◌, find, Result, Ok, Err, IfOk}
-use Rattle.std.proofs.lemmas.List.{drop_more}
-use Rattle.std.specs.Option.{option_or}
-use Rattle.nf_forms.specs.Properties.{Properties}
-use Rattle.nf_forms.specs.declared.form.Form.{Form}
-use Rattle.nf_forms.specs.declared.form.Form.TheVariants.{Nfc, Nfd, Nfkc, Nfkd}
-use Rattle.nf_vectors.specs.declared.report.Failure.{Failure}
-use Rattle.nf_vectors.specs.declared.report.Verdict.TheVariants.{Skipped}
-use Rattle.nf_vectors.specs.declared.columns.Column.{Column}
+use Rattle.nf_vectors.proofs.Common.{◌≡◌, ℕ, ◌+◌, ◌<◌, Bool, true, false, not, List, length, drop, get_or, Option, Some, None, refl, sym, ap, ◌∙◌, encode_utf8_all, if◌then◌else◌, find, Result, Ok, Err, IfOk, drop_more, option_or, Properties, Form, Nfc, Nfd, Nfkc, Nfkd, Failure, Skipped, Column, Columns, at, each, VectorRow, holds_at, broken_column, is_skipped, failure_in, failure_of, by_failure, verdict_of}
 use Rattle.nf_vectors.specs.declared.columns.Column.TheVariants as columns
-use Rattle.nf_vectors.specs.Columns.{Columns, at, each}
-use Rattle.nf_vectors.specs.Suite.{VectorRow}
-use Rattle.nf_vectors.specs.Comparison.{holds_at, broken_column, is_skipped}
-use Rattle.nf_vectors.specs.Report.{failure_in, failure_of, by_failure, verdict_of}
 
 module _ (f : Form) (p : Properties) (columns : Columns) (rest : List Column) where
   -- the rest of the columns decides, where it holds of those before

@@ -1,16 +1,6 @@
 -- The columns of a suite whose text grows.
-use Rattle.std.proofs.Common.{◌≡◌, ℕ, ◌-◌, ◌≤◌, nat_le, true, ◌&&◌, List, [], ◌∷◌, ◌++◌, length, take, drop, slice_range, append-nil, refl, sym, ap, ◌∙◌, arith}
-use Rattle.std.specs.List.{list_all}
-use Rattle.std.proofs.lemmas.Bool.{and_parts, leb-true, le-leb}
-use Rattle.std.proofs.lemmas.List.{length-append, length-drop, drop-append-le, take-append-le, take_at, drop_at}
-use Rattle.std.proofs.lemmas.List.Folds.{list_all-append}
+use Rattle.nf_vectors.proofs.Common.{◌≡◌, ℕ, ◌-◌, ◌≤◌, nat_le, true, ◌&&◌, List, [], ◌∷◌, ◌++◌, length, take, drop, slice_range, append-nil, refl, sym, ap, ◌∙◌, arith, list_all, and_parts, leb-true, le-leb, length-append, length-drop, drop-append-le, take-append-le, take_at, drop_at, list_all-append, Entry, Columns, columns_at, VectorRow, row_of, rows_in, AreWithin}
 use Rattle.nf_vectors.specs.declared.columns.Ends.{Ends}
-use Rattle.nf_vectors.specs.declared.suite.Entry.{Entry}
-use Rattle.nf_vectors.specs.Columns.{Columns}
-use Rattle.nf_vectors.specs.Held.{columns_at}
-use Rattle.nf_vectors.specs.Suite.{VectorRow}
-use Rattle.nf_vectors.specs.SuiteView.{row_of, rows_in}
-use Rattle.nf_vectors.specs.Within.{AreWithin}
 
 pub slice_range-append : (xs ys : List ℕ) (i j : ℕ) → i ≤ j → j ≤ length xs → slice_range (xs ++ ys) i j ≡ slice_range xs i j
 slice_range-append xs ys i j order within =
@@ -51,9 +41,3 @@ AreWithin-append text more (entry ∷ entries) within =
     let parts = and_parts _ _ within in
     ap (λ b. b && list_all (λ entry. nat_le entry.columns.nfkd (length (text ++ more))) entries) (le-leb entry.columns.nfkd (length (text ++ more)) (omega (arith, leb-true _ _ parts.0, length-append text more)))
     ∙ AreWithin-append text more entries parts.1
-
-pub AreWithin-push : (text : List ℕ) (entries : List Entry) (entry : Entry) → AreWithin text entries → entry.columns.nfkd ≡ length text → AreWithin text (entries ++ entry ∷ [])
-AreWithin-push text entries entry within end =
-    list_all-append (λ entry. nat_le entry.columns.nfkd (length text)) entries (entry ∷ [])
-    ∙ ap (λ b. b && (nat_le entry.columns.nfkd (length text) && true)) within
-    ∙ ap (λ b. b && true) (le-leb entry.columns.nfkd (length text) (omega (arith, end)))

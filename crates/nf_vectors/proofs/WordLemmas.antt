@@ -1,21 +1,10 @@
 -- The code points of a column, word by word.
-use Rattle.std.proofs.Common.{◌≡◌, ℕ, ◌+◌, ◌<◌, ◌≤◌, Bool, true, false, cond, List, [], ◌∷◌, ◌++◌, length, drop, get_or, Result, Ok, Err, refl, sym, ap, ◌∙◌, arith, append_assoc, append-nil, sum_by}
-use Rattle.std.specs.List.{slice_split, onto_first}
-use Rattle.std.proofs.lemmas.List.{drop_more}
-use Rattle.std.proofs.lemmas.List.Sums.{sum_by-cons}
-use Rattle.nf_vectors.specs.declared.fault.VectorKind.{VectorKind}
-use Rattle.nf_vectors.specs.declared.fault.VectorKind.TheVariants.{Empty}
-use Rattle.nf_vectors.specs.Line.{is_gap}
-use Rattle.nf_vectors.specs.Words.{code_point, before, then_codes, code_points, some_or_empty, column_in}
+use Rattle.nf_vectors.proofs.Common.{◌≡◌, ℕ, ◌+◌, ◌<◌, ◌≤◌, Bool, true, false, cond, List, [], ◌∷◌, ◌++◌, length, drop, get_or, Result, Ok, Err, refl, sym, ap, ◌∙◌, arith, append_assoc, append-nil, sum_by, slice_split, onto_first, drop_more, sum_by-cons, VectorKind, Empty, is_gap, code_point, before, then_codes, code_points, some_or_empty, column_in}
 
 -- code points, and then those behind them
 abbrev pub prefixed : List ℕ → Result (List ℕ) VectorKind → Result (List ℕ) VectorKind
 prefixed cs (Ok more) = Ok (cs ++ more)
 prefixed cs (Err kind) = Err kind
-
-pub prefixed-none : (r : Result (List ℕ) VectorKind) → r ≡ prefixed [] r
-prefixed-none (Ok cs) = refl
-prefixed-none (Err kind) = refl
 
 prefixed-before : (cs : List ℕ) (c : ℕ) (r : Result (List ℕ) VectorKind) → prefixed cs (before c r) ≡ prefixed (cs ++ c ∷ []) r
 prefixed-before cs c (Ok more) = ap Ok (sym (append_assoc cs (c ∷ []) more))

@@ -1,6 +1,4 @@
-use Rattle.std.proofs.Common.{rules}
-use Rattle.nf_forms.specs.Ucd.{ucd}
-use Rattle.nf_lines.specs.Drives.{DrivesLines}
+use Rattle.nf_cmd.proofs.Common.{rules, ucd, DrivesLines}
 use Rattle.nf_cmd.proofs.RunsLemmas.{runs_from}
 use Rattle.nf_cmd.proofs.by_lines.filter_lines.Goals as goal
 

@@ -1,6 +1,4 @@
-use Rattle.std.proofs.Common.{◌≡◌, ◌∙◌, [], rules}
-use Rattle.nf_forms.specs.Ucd.{ucd}
-use Rattle.nf_filter.specs.Drives.{Drives}
+use Rattle.nf_cmd.proofs.Common.{◌≡◌, ◌∙◌, [], rules, ucd, Drives}
 use Rattle.nf_filter.specs.Filter.{base_of, state_of}
 use Rattle.nf_filter.specs.Policy.{as_is}
 use Rattle.nf_cmd.proofs.RunsLemmas.{runs_from}

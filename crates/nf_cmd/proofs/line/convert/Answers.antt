@@ -1,7 +1,4 @@
-use Rattle.std.proofs.Common.{codes, ◌≡◌, ◌∙◌, ap₂}
-use Rattle.std.proofs.lemmas.Result.{IfOk-weaker}
-use Rattle.clap.specs.Words.{app_of, new_app, with_rule}
-use Rattle.nf_cmd.specs.Line.{convert, form_rule}
+use Rattle.nf_cmd.proofs.Common.{codes, ◌≡◌, ◌∙◌, ap₂, IfOk-weaker, app_of, new_app, with_rule, convert, form_rule}
 use Rattle.nf_cmd.proofs.line.convert.Goals as goal
 
 pub returns-clause-shape : goal.returns-clause-shape

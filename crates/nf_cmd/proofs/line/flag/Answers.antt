@@ -1,5 +1,4 @@
-use Rattle.std.proofs.Common.{rules}
-use Rattle.nf_cmd.specs.Line.{flag_rule}
+use Rattle.nf_cmd.proofs.Common.{rules, flag_rule}
 use Rattle.nf_cmd.proofs.line.flag.Goals as goal
 
 pub returns-clause-rule : goal.returns-clause-rule

@@ -1,5 +1,4 @@
-use Rattle.std.proofs.Common.{rules}
-use Rattle.nf_cmd.specs.Line.{form_rule}
+use Rattle.nf_cmd.proofs.Common.{rules, form_rule}
 use Rattle.nf_cmd.proofs.line.form.Goals as goal
 
 pub returns-clause-rule : goal.returns-clause-rule

@@ -1,11 +1,6 @@
-use Rattle.std.proofs.Common.{◌≡◌, ◌∙◌, Bool, true, false, refl, sym, ap, Option, Some, None, codes, bytes_eq}
+use Rattle.nf_cmd.proofs.Common.{◌≡◌, ◌∙◌, Bool, true, false, refl, sym, ap, Option, Some, None, codes, bytes_eq, option_eq, option_map_or, bytes_eq-Decides, ReadsOne, found_of, Text, one_text-rows}
 use Rattle.std.specs.Bool.{beq}
-use Rattle.std.specs.Option.{option_eq, option_map_or}
 use Rattle.std.specs.Str.Parse.{ParsesBool}
-use Rattle.std.proofs.lemmas.Slice.Eq.{bytes_eq-Decides}
-use Rattle.clap.specs.Matches.{ReadsOne, found_of}
-use Rattle.clap.specs.Walk.{Text}
-use Rattle.clap.proofs.WalkLemmas.{one_text-rows}
 use Rattle.nf_cmd.proofs.line.is_set.Goals as goal
 
 -- what is read of a text as a truth value is true exactly of the text `true`

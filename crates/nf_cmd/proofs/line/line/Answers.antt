@@ -1,8 +1,5 @@
-use Rattle.std.proofs.Common.{rules, codes, true, ◌≡◌, ◌∙◌, ap, ap₂}
-use Rattle.std.proofs.lemmas.Result.{IfOk-weaker}
-use Rattle.clap.specs.Words.{App, app_of, new_app, with_subcommand}
-use Rattle.clap.specs.Simple.{on_top}
-use Rattle.nf_cmd.specs.Line.{line}
+use Rattle.nf_cmd.proofs.Common.{rules, codes, true, ◌≡◌, ◌∙◌, ap, ap₂, IfOk-weaker, app_of, new_app, with_subcommand, on_top, line}
+use Rattle.clap.specs.Words.{App}
 use Rattle.nf_cmd.proofs.line.line.Goals as goal
 
 pub returns : goal.returns

@@ -1,12 +1,5 @@
-use Rattle.std.proofs.Common.{◌∙◌, ap, subst, refl, sym, IsSome}
-use Rattle.clap.specs.Words.{app_of, is_simple}
-use Rattle.clap.specs.Faults.{is_free_app}
-use Rattle.clap.specs.Simple.{built}
-use Rattle.clap.specs.Values.{kind_of}
-use Rattle.clap.specs.Walk.{texts}
+use Rattle.nf_cmd.proofs.Common.{◌∙◌, ap, subst, refl, sym, IsSome, app_of, is_simple, is_free_app, built, kind_of, texts, both, IsRefusal, request_of}
 use Rattle.clap.proofs.TakesLemmas.{passed_up}
-use Rattle.clap.proofs.WalkLemmas.{both}
-use Rattle.nf_cmd.specs.Line.{IsRefusal, request_of}
 use Rattle.nf_cmd.proofs.Requests.{line_asked, line_refused, line_simple}
 use Rattle.nf_cmd.proofs.line.parse.Goals as goal
 

@@ -1,11 +1,6 @@
-use Rattle.std.proofs.Common.{◌≡◌, ◌∙◌, ap, sym, codes, List, Option, Some, None, option_map, Box, unwrap_or, box_value}
+use Rattle.nf_cmd.proofs.Common.{◌≡◌, ◌∙◌, ap, sym, codes, List, Option, Some, None, option_map, Box, unwrap_or, box_value, found_of, Row, Text, rows_of, subcommand_rows, first_value-rows, request_by, request_of}
 use Rattle.clap.specs.declared.parser.matches.SubCommand.{SubCommand}
 use Rattle.clap.specs.declared.parser.matches.ArgMatches.TheViews.{out-SubCommand}
-use Rattle.clap.specs.Matches.{found_of}
-use Rattle.clap.specs.Walk.{Row, Text, rows_of}
-use Rattle.clap.specs.Simple.{subcommand_rows}
-use Rattle.clap.proofs.WalkLemmas.{first_value-rows}
-use Rattle.nf_cmd.specs.Line.{request_by, request_of}
 use Rattle.nf_cmd.proofs.line.requested.Goals as goal
 
 -- the subcommand by its name and its rows

@@ -1,7 +1,4 @@
-use Rattle.std.proofs.Common.{subst}
-use Rattle.std.proofs.KnownBytes.{Keeps-refl}
-use Rattle.nf_cmd.specs.declared.line.Request.TheVariants.{Convert, ConvertLines, Check, Measure, Test}
-use Rattle.nf_cmd.specs.Line.{Asks}
+use Rattle.nf_cmd.proofs.Common.{subst, Keeps-refl, Convert, ConvertLines, Check, Measure, Test, Asks}
 use Rattle.nf_cmd.proofs.AnswerLemmas.{done_answers, refused_answers, refused_by}
 use Rattle.nf_cmd.proofs.program.command.Goals as goal
 

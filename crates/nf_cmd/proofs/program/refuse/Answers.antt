@@ -1,8 +1,6 @@
-use Rattle.std.proofs.Common.{◌∙◌, rules, refl, sym}
-use Rattle.std.proofs.lemmas.Bool.{not-false}
+use Rattle.nf_cmd.proofs.Common.{◌∙◌, rules, refl, sym, not-false, DisplayHelp}
 use denote.Enum.Bare.{same_true}
 use Rattle.clap.specs.contracts.error.kind.ErrorKind.{the_type}
-use Rattle.clap.specs.declared.error.kind.ErrorKind.TheVariants.{DisplayHelp}
 use Rattle.nf_cmd.proofs.AnswerLemmas.{help_answers}
 use Rattle.nf_cmd.proofs.program.refuse.Goals as goal
 

@@ -1,7 +1,4 @@
-use Rattle.std.proofs.Common.{◌≡◌, ◌∙◌, ◌++◌, Result, Ok, Err, true, [], refl, ap, subst, sym, true≢false, OnOk, is_ok}
-use Rattle.std.specs.Io.KnownBytes.{Appends}
-use Rattle.std.proofs.KnownBytes.{Appends-nil}
-use Rattle.nf_cmd.specs.Lines.{line_of}
+use Rattle.nf_cmd.proofs.Common.{◌≡◌, ◌∙◌, ◌++◌, Result, Ok, Err, true, [], refl, ap, subst, sym, true≢false, OnOk, is_ok, Appends, Appends-nil, line_of}
 use Rattle.nf_cmd.proofs.program.report.Goals as goal
 use Rattle.nf_cmd.proofs.program.report.Goals.{then-is_ok, else-is_ok}
 

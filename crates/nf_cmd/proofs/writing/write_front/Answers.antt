@@ -1,4 +1,4 @@
-use Rattle.std.proofs.Common.{take, drop, sym, take-append-drop}
+use Rattle.nf_cmd.proofs.Common.{take, drop, sym, take-append-drop}
 use Rattle.nf_cmd.proofs.writing.write_front.Goals as goal
 
 pub returns-else-write_some-bytes-clause-front : goal.returns-else-write_some-bytes-clause-front

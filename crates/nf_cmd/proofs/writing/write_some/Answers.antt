@@ -1,7 +1,5 @@
-use Rattle.std.proofs.Common.{◌∙◌, ◌-◌, ◌++◌, ap, rules, length, take, drop, sym, subst, append-nil, take-add}
+use Rattle.nf_cmd.proofs.Common.{◌∙◌, ◌-◌, ◌++◌, ap, rules, length, take, drop, sym, subst, append-nil, take-add, Appends, Appends-kept, Appends-trans}
 use Rattle.std.proofs.lemmas.List.{take_rest}
-use Rattle.std.specs.Io.KnownBytes.{Appends}
-use Rattle.std.proofs.KnownBytes.{Appends-kept, Appends-trans}
 use Rattle.nf_cmd.proofs.writing.write_some.Goals as goal
 
 pub loop-at-preserved : goal.loop-at-preserved

@@ -1,5 +1,4 @@
-use Rattle.std.proofs.Common.{length, take, ◌-◌, ◌≤◌}
-use Rattle.std.specs.Io.KnownBytes.{Appends}
+use Rattle.nf_cmd.proofs.Common.{length, take, ◌-◌, ◌≤◌, Appends}
 use Rattle.nf_cmd.proofs.writing.write_some.Given as goal
 
 abbrev pub invariant-loop-at : goal.invariant-loop-at

@@ -1,4 +1,4 @@
-use Rattle.std.proofs.Common.{arith}
+use Rattle.nf_lines.proofs.Common.{arith}
 use Rattle.nf_lines.proofs.CutLemmas.{none_behind, one_more, cut_here, cut_nowhere}
 use Rattle.nf_lines.proofs.cutting.lines_len.Goals as goal
 

@@ -1,5 +1,4 @@
-use Rattle.std.proofs.Common.{◌≤◌, length, drop}
-use Rattle.nf_lines.specs.Cut.{HasNoLineFeed}
+use Rattle.nf_lines.proofs.Common.{◌≤◌, length, drop, HasNoLineFeed}
 use Rattle.nf_lines.proofs.cutting.lines_len.Given as goal
 
 abbrev pub invariant-loop-n : goal.invariant-loop-n

@@ -1,9 +1,5 @@
-use Rattle.std.proofs.Common.{◌∙◌, [], length, take, Ok, Err, refl, sym, subst, arith, rules, append-nil, length-take, eq-eqb, ne_eqb}
-use Rattle.std.specs.Io.KnownBytes.{Consumes}
+use Rattle.nf_lines.proofs.Common.{◌∙◌, [], length, take, Ok, Err, refl, sym, subst, arith, rules, append-nil, length-take, eq-eqb, ne_eqb, Consumes, ucd, as_is, bytes_of}
 use Rattle.std.proofs.KnownBytes.{Consumes-kept, Consumes-nil, Consumes-trans}
-use Rattle.nf_forms.specs.Ucd.{ucd}
-use Rattle.nf_filter.specs.Policy.{as_is}
-use Rattle.nf_lines.specs.Drives.{bytes_of}
 use Rattle.nf_lines.proofs.DrivesLemmas.{HasLines-none, drives-stopped, drives-failed, drives-finished, not_long}
 use Rattle.nf_lines.proofs.driving.drive_lines.Goals as goal
 

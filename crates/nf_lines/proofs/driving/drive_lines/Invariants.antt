@@ -1,8 +1,4 @@
-use Rattle.std.proofs.Common.{◌≡◌, ◌-◌, ◌^◌, length, IsFalse}
-use Rattle.std.specs.Io.KnownBytes.{Consumes}
-use Rattle.nf_forms.specs.Ucd.{ucd}
-use Rattle.nf_filter.specs.Filter.{state_of, offset_of, is_spent}
-use Rattle.nf_lines.specs.Drives.{Lines, bytes_of, HasLines}
+use Rattle.nf_lines.proofs.Common.{◌≡◌, ◌-◌, ◌^◌, length, IsFalse, Consumes, ucd, state_of, offset_of, is_spent, Lines, bytes_of, HasLines}
 use Rattle.nf_lines.proofs.driving.drive_lines.Given as goal
 
 abbrev pub invariant-loop-given : goal.invariant-loop-given

@@ -1,14 +1,4 @@
-use Rattle.std.proofs.Common.{◌≡◌, ◌∙◌, ◌+◌, ◌++◌, ℕ, List, [], length, Ok, Err, inr, ap, sym, subst, arith, Result}
-use Rattle.nf_forms.specs.declared.form.Form.{Form}
-use Rattle.nf_filter.specs.declared.fault.Fault.{Fault}
-use Rattle.nf_filter.specs.declared.filter.State.{State}
-use Rattle.nf_filter.specs.declared.policy.Policy.{Policy}
-use Rattle.nf_filter.specs.Policy.{as_is}
-use Rattle.nf_filter.specs.declared.tally.Tally.{Tally}
-use Rattle.nf_filter.specs.Finishes.{Finishes}
-use Rattle.nf_forms.specs.Ucd.{ucd}
-use Rattle.nf_filter.specs.Devices.{SinkState}
-use Rattle.nf_filter.specs.Filter.{state_of, base_of, offset_of, StandsAfter}
+use Rattle.nf_lines.proofs.Common.{◌≡◌, ◌∙◌, ◌+◌, ◌++◌, ℕ, List, [], length, Ok, Err, inr, ap, sym, subst, arith, Result, Form, Fault, State, Policy, as_is, Tally, Finishes, ucd, SinkState, state_of, base_of, offset_of, StandsAfter}
 use Rattle.nf_lines.proofs.StepLemmas.{feeds-refused, ends-written, ends-refused}
 use Rattle.nf_lines.proofs.driving.end_lines.Goals as goal
 

@@ -1,7 +1,4 @@
-use Rattle.std.proofs.Common.{◌≡◌, ◌∙◌, ◌-◌, ◌++◌, ℕ, List, length, take, drop, inr, ap, sym, subst, arith, take-append-drop, take_all, length-drop}
-use Rattle.nf_forms.specs.Ucd.{ucd}
-use Rattle.nf_filter.specs.Filter.{state_of}
-use Rattle.nf_lines.specs.Cut.{HasNoLineFeed}
+use Rattle.nf_lines.proofs.Common.{◌≡◌, ◌∙◌, ◌-◌, ◌++◌, ℕ, List, length, take, drop, inr, ap, sym, subst, arith, take-append-drop, take_all, length-drop, ucd, state_of, HasNoLineFeed}
 use Rattle.nf_lines.proofs.StepLemmas.{feeds-by, feeds-both, feeds-front, stops-longer}
 use Rattle.nf_lines.proofs.driving.feed_lines.Goals as goal
 

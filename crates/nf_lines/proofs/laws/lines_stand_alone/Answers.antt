@@ -1,9 +1,5 @@
-use Rattle.std.proofs.Common.{◌≡◌, true, refl}
+use Rattle.nf_lines.proofs.Common.{◌≡◌, true, refl, Form, Nfc, Nfd, Nfkc, Nfkd, ucd, line_feed}
 use Rattle.ucd_table.specs.Rows.{in_ranges}
-use Rattle.nf_forms.specs.declared.form.Form.{Form}
-use Rattle.nf_forms.specs.declared.form.Form.TheVariants.{Nfc, Nfd, Nfkc, Nfkd}
-use Rattle.nf_forms.specs.Ucd.{ucd}
-use Rattle.nf_facts.specs.LineFeed.{line_feed}
 use Rattle.nf_facts.specs.PlainRanges.{plain_ranges}
 use Rattle.nf_lines.proofs.WholeParts.{Reading}
 use Rattle.nf_lines.proofs.AloneLemmas.{lines_alone}

@@ -1,4 +1,4 @@
-use Rattle.std.proofs.Common.{rules}
+use Rattle.nf_vectors.proofs.Common.{rules}
 use Rattle.nf_vectors.proofs.check.and.Goals as goal
 
 -- These two would be found without a word here: they stand so that a wrong body is refused at once.

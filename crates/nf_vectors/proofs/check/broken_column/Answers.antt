@@ -1,7 +1,4 @@
-use Rattle.std.proofs.Common.{◌∙◌, List, drop, refl, sym, subst}
-use Rattle.std.proofs.lemmas.List.{drop_all}
-use Rattle.nf_vectors.specs.declared.columns.Column.{Column}
-use Rattle.nf_vectors.specs.Comparison.{broken_column}
+use Rattle.nf_vectors.proofs.Common.{◌∙◌, List, drop, refl, sym, subst, drop_all, Column, broken_column}
 use Rattle.nf_vectors.proofs.TableLemmas.{Decides, broken-at, broken-behind}
 use Rattle.nf_vectors.proofs.check.broken_column.Goals as goal
 

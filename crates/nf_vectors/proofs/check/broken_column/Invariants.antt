@@ -1,5 +1,4 @@
-use Rattle.std.proofs.Common.{◌≡◌, drop, string_bytes, encode_utf8_all}
-use Rattle.nf_vectors.specs.Columns.{Columns, each}
+use Rattle.nf_vectors.proofs.Common.{◌≡◌, drop, string_bytes, encode_utf8_all, Columns, each}
 use Rattle.nf_vectors.proofs.TableLemmas.{Decides}
 use Rattle.nf_vectors.proofs.check.broken_column.Given as goal
 

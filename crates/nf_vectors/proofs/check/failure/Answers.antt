@@ -1,5 +1,4 @@
-use Rattle.std.proofs.Common.{◌∙◌, sym}
-use Rattle.nf_vectors.specs.Report.{failure_of}
+use Rattle.nf_vectors.proofs.Common.{◌∙◌, sym, failure_of}
 use Rattle.nf_vectors.proofs.TableLemmas.{or-first, or-second, failure-last}
 use Rattle.nf_vectors.proofs.check.failure.Goals as goal
 

@@ -1,6 +1,4 @@
-use Rattle.std.proofs.Common.{◌∙◌, ap, encode_utf8_all}
-use Rattle.nf_vectors.specs.Columns.{at, each}
-use Rattle.nf_vectors.specs.Comparison.{expected}
+use Rattle.nf_vectors.proofs.Common.{◌∙◌, ap, encode_utf8_all, at, each, expected}
 use Rattle.nf_vectors.proofs.TableLemmas.{at_utf8}
 use Rattle.nf_vectors.proofs.check.holds_at.Goals as goal
 

@@ -1,5 +1,4 @@
-use Rattle.std.proofs.Common.{◌||◌}
-use Rattle.nf_vectors.specs.Comparison.{is_skipped}
+use Rattle.nf_vectors.proofs.Common.{◌||◌, is_skipped}
 use Rattle.nf_vectors.proofs.check.is_skipped.Goals as goal
 
 pub returns : goal.returns

@@ -1,7 +1,4 @@
-use Rattle.std.proofs.Common.{◌∙◌, Some, None, sym, ap}
-use Rattle.nf_vectors.specs.Comparison.{is_skipped}
-use Rattle.nf_vectors.specs.Report.{failure_of}
-use Rattle.nf_vectors.specs.Columns.{each}
+use Rattle.nf_vectors.proofs.Common.{◌∙◌, Some, None, sym, ap, is_skipped, failure_of, each}
 use Rattle.nf_vectors.proofs.TableLemmas.{verdict-skipped, verdict-checked}
 use Rattle.nf_vectors.proofs.check.verdict.Goals as goal
 

@@ -1,4 +1,4 @@
-use Rattle.std.proofs.Common.{◌∙◌}
+use Rattle.nf_vectors.proofs.Common.{◌∙◌}
 use Rattle.nf_vectors.proofs.RowLemmas.{eq_is}
 use Rattle.nf_vectors.proofs.HoldsLemmas.{given, refused}
 use Rattle.nf_vectors.proofs.comparison.holds.Goals as goal

@@ -1,12 +1,5 @@
-use Rattle.std.proofs.Common.{◌≡◌, ℕ, ◌+◌, ◌*◌, ◌≤◌, List, ◌++◌, ◌∷◌, [], ◌∙◌, true, None, take, length, encode_utf8, encode_utf8_all, refl, sym, ap, subst, arith, IsNone, Option}
-use Rattle.nf_safe.specs.declared.place.Place.{Place}
-use Rattle.std.specs.List.{list_all}
-use Rattle.std.proofs.lemmas.Bool.{and_from, true_from_ne_false, false≢true}
-use Rattle.std.proofs.lemmas.List.{take_more, take_all, length-take-le, length-append, get_or_default}
-use Rattle.std.proofs.lemmas.List.Folds.{list_all-append}
-use Rattle.nf_forms.specs.Sound.{is_sound}
-use Rattle.nf_safe.specs.Place.{place, place_from}
-use Rattle.std.proofs.lemmas.Str.{length-encode, len_utf8_bounds}
+use Rattle.nf_vectors.proofs.Common.{◌≡◌, ℕ, ◌+◌, ◌*◌, ◌≤◌, List, ◌++◌, ◌∷◌, [], ◌∙◌, true, None, take, length, encode_utf8, encode_utf8_all, refl, sym, ap, subst, arith, IsNone, Option, Place, list_all, and_from, true_from_ne_false, false≢true, take_more, length-take-le, length-append, get_or_default, list_all-append, is_sound, place, place_from, length-encode, len_utf8_bounds}
+use Rattle.std.proofs.lemmas.List.{take_all}
 use Rattle.nf_vectors.proofs.ComparisonLemmas.{front-unsound, front-all, leaves-none, leaves-at, place-from_none, place-from_some}
 use Rattle.nf_vectors.proofs.comparison.leaves_format.Goals as goal
 

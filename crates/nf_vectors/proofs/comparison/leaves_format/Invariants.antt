@@ -1,6 +1,4 @@
-use Rattle.std.proofs.Common.{◌≡◌, true, None, take}
-use Rattle.std.specs.List.{list_all}
-use Rattle.nf_forms.specs.Sound.{is_sound}
+use Rattle.nf_vectors.proofs.Common.{◌≡◌, true, None, take, list_all, is_sound}
 use Rattle.nf_safe.specs.Checker.{place_of, StandsAfter}
 use Rattle.nf_vectors.proofs.comparison.leaves_format.Given as goal
 

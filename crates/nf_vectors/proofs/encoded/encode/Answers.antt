@@ -1,6 +1,4 @@
-use Rattle.std.proofs.Common.{◌∙◌, ◌++◌, ◌∷◌, [], take, sym, ap, encode_utf8, encode_utf8_all, append-nil}
-use Rattle.std.proofs.lemmas.List.{take_more}
-use Rattle.std.proofs.lemmas.Str.{encodes-append}
+use Rattle.nf_vectors.proofs.Common.{◌∙◌, ◌++◌, ◌∷◌, [], take, sym, ap, encode_utf8, encode_utf8_all, append-nil, take_more, encodes-append}
 use Rattle.nf_vectors.proofs.encoded.encode.Goals as goal
 
 pub loop-c-preserved : goal.loop-c-preserved

@@ -1,4 +1,4 @@
-use Rattle.std.proofs.Common.{◌≡◌, take, string_bytes, encode_utf8_all}
+use Rattle.nf_vectors.proofs.Common.{◌≡◌, take, string_bytes, encode_utf8_all}
 use Rattle.nf_vectors.proofs.encoded.encode.Given as goal
 
 abbrev pub invariant-loop-c : goal.invariant-loop-c

@@ -1,8 +1,5 @@
-use Rattle.std.proofs.Common.{◌∙◌, sym, ap, bytes_eq, codes, eqb-true, eq-eqb}
-use Rattle.std.proofs.lemmas.List.{nil_from_length}
-use Rattle.std.proofs.lemmas.Bool.Decides.{same_from_decides}
-use Rattle.std.proofs.lemmas.Slice.Eq.{slice_eq-Decides, bytes_eq-Decides}
-use Rattle.nf_vectors.specs.Judgement.{Part, is_part1, row_in, row_or_bad}
+use Rattle.nf_vectors.proofs.Common.{◌∙◌, sym, ap, bytes_eq, codes, eq-eqb, nil_from_length, same_from_decides, slice_eq-Decides, bytes_eq-Decides, Part, is_part1, row_in, row_or_bad}
+use Rattle.std.proofs.Common.{eqb-true}
 use Rattle.nf_vectors.proofs.JudgementLemmas.{judgement-nothing, judgement-part, judgement-row}
 use Rattle.nf_vectors.proofs.line.judge.Goals as goal
 

@@ -1,5 +1,4 @@
-use Rattle.std.proofs.Common.{◌∙◌, ap, sym}
-use Rattle.nf_vectors.specs.Judgement.{columns_of, row_in}
+use Rattle.nf_vectors.proofs.Common.{◌∙◌, ap, sym, columns_of, row_in}
 use Rattle.nf_vectors.proofs.PieceLemmas.{split-cut, split-none, split-blank, columns_in-more, found_or_not}
 use Rattle.nf_vectors.proofs.line.pieces_of.Goals as goal
 use Rattle.nf_vectors.proofs.line.pieces_of.Goals.{in-None, in-Some-cut-4+else-not-is_all_blank}

@@ -1,11 +1,6 @@
-use Rattle.std.proofs.Common.{◌++◌, ◌∙◌, ℕ, List, [], ◌∷◌, drop, length, sym, ap, arith, rules, tests, append_assoc}
-use Rattle.std.specs.List.{slice_split}
-use Rattle.std.proofs.lemmas.Bool.{eqb-true, eqb-false}
-use Rattle.std.proofs.lemmas.List.{length_push, drop_all, length-append}
+use Rattle.nf_vectors.proofs.Common.{◌++◌, ◌∙◌, ℕ, List, [], ◌∷◌, drop, length, sym, ap, arith, rules, tests, append_assoc, slice_split, eqb-true, eqb-false, length_push, drop_all, length-append, is_gap, code_points, column_in}
 use Rattle.std.proofs.lemmas.Iterator.Consumers.{YieldsList-turn, YieldsList-end}
 use Rattle.std.proofs.lemmas.Iterator.Splits.{YieldsList-from_slice_split}
-use Rattle.nf_vectors.specs.Line.{is_gap}
-use Rattle.nf_vectors.specs.Words.{code_points, column_in}
 use Rattle.nf_vectors.proofs.RowLemmas.{refused_by}
 use Rattle.nf_vectors.proofs.WordLemmas.{prefixed, skipped, pushed, refused, whole, column_in-refused, column_in-some, column_in-empty, codes-le}
 use Rattle.nf_vectors.proofs.line.push_column.Goals as goal

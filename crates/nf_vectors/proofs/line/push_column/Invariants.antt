@@ -1,7 +1,4 @@
-use Rattle.std.proofs.Common.{◌≡◌, ℕ, List, ◌++◌, drop, length}
-use Rattle.std.specs.List.{slice_split}
-use Rattle.nf_vectors.specs.Line.{is_gap}
-use Rattle.nf_vectors.specs.Words.{code_points}
+use Rattle.nf_vectors.proofs.Common.{◌≡◌, ℕ, List, ◌++◌, drop, length, slice_split, is_gap, code_points}
 use Rattle.nf_vectors.proofs.WordLemmas.{prefixed}
 use Rattle.nf_vectors.proofs.line.push_column.Given as goal
 

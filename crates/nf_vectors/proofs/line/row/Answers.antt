@@ -1,5 +1,4 @@
-use Rattle.std.proofs.Common.{◌∙◌, Ok, ap, arith}
-use Rattle.nf_vectors.specs.Judgement.{columns_of, row_in}
+use Rattle.nf_vectors.proofs.Common.{◌∙◌, Ok, ap, arith, columns_of, row_in}
 use Rattle.nf_vectors.proofs.RowLemmas.{refused_by}
 use Rattle.nf_vectors.proofs.JudgementLemmas.{columns_of-all, columns-held}
 use Rattle.nf_vectors.proofs.line.row.Goals as goal

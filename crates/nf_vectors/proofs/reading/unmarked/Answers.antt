@@ -1,7 +1,5 @@
-use Rattle.std.proofs.Common.{◌≡◌, ◌∙◌, ℕ, List, [], ◌∷◌, true, false, take, drop, sym, ap, arith, refl, if◌then◌else◌, bytes_eq}
-use Rattle.std.proofs.lemmas.Bool.{false_from_ne_true, eqb-true, eq-eqb, false≢true}
-use Rattle.std.proofs.lemmas.Slice.Eq.{slice_eq-Decides, bytes_eq-Decides}
-use Rattle.nf_vectors.specs.Judgement.{judgement}
+use Rattle.nf_vectors.proofs.Common.{◌≡◌, ◌∙◌, ℕ, List, [], ◌∷◌, true, false, take, drop, sym, ap, arith, refl, if◌then◌else◌, bytes_eq, false_from_ne_true, eqb-true, false≢true, slice_eq-Decides, bytes_eq-Decides, judgement}
+use Rattle.std.proofs.lemmas.Bool.{eq-eqb}
 use Rattle.nf_vectors.proofs.JudgementLemmas.{judged-other, judged-first}
 use Rattle.nf_vectors.proofs.reading.unmarked.Goals as goal
 

@@ -1,6 +1,4 @@
-use Rattle.std.proofs.Common.{take, length, arith, sym, ap, ◌∙◌, take_all}
-use Rattle.std.proofs.lemmas.List.Sums.{position_or_len_is}
-use Rattle.nf_vectors.specs.Line.{is_gap}
+use Rattle.nf_vectors.proofs.Common.{take, length, arith, sym, ap, ◌∙◌, take_all, position_or_len_is, is_gap}
 use Rattle.nf_vectors.proofs.scan.before_gap.Goals as goal
 
 pub returns-then-is_gap : goal.returns-then-is_gap

@@ -1,5 +1,4 @@
-use Rattle.std.proofs.Common.{◌≡◌, ◌<◌, ℕ, false, get_or}
-use Rattle.nf_vectors.specs.Line.{is_gap}
+use Rattle.nf_vectors.proofs.Common.{◌≡◌, ◌<◌, ℕ, false, get_or, is_gap}
 use Rattle.nf_vectors.proofs.scan.before_gap.Given as goal
 
 abbrev pub invariant-loop-at : goal.invariant-loop-at

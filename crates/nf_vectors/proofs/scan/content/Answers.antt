@@ -1,5 +1,4 @@
-use Rattle.std.proofs.Common.{◌∙◌, sym, ap, arith, take_all}
-use Rattle.nf_vectors.specs.Line.{trimmed, content}
+use Rattle.nf_vectors.proofs.Common.{◌∙◌, sym, ap, arith, take_all, trimmed, content}
 use Rattle.nf_vectors.proofs.scan.content.Goals as goal
 
 pub returns-in-Some-clause-text : goal.returns-in-Some-clause-text

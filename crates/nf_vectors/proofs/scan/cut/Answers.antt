@@ -1,6 +1,4 @@
-use Rattle.std.proofs.Common.{◌+◌, ◌==◌, ℕ, Bool, take, drop, length, arith, sym, ap, ◌∙◌, eq-eqb}
-use Rattle.std.proofs.lemmas.List.{take_rest}
-use Rattle.std.proofs.lemmas.List.Sums.{position_or_len_is}
+use Rattle.nf_vectors.proofs.Common.{◌+◌, ◌==◌, ℕ, Bool, take, drop, length, arith, sym, ap, ◌∙◌, eq-eqb, take_rest, position_or_len_is}
 use Rattle.nf_vectors.proofs.scan.cut.Goals as goal
 
 pub returns-then-byte-separator-clause-parts : goal.returns-then-byte-separator-clause-parts

@@ -1,4 +1,4 @@
-use Rattle.std.proofs.Common.{◌≡◌, ◌<◌, ◌==◌, ℕ, false, get_or}
+use Rattle.nf_vectors.proofs.Common.{◌≡◌, ◌<◌, ◌==◌, ℕ, false, get_or}
 use Rattle.nf_vectors.proofs.scan.cut.Given as goal
 
 abbrev pub invariant-loop-at : goal.invariant-loop-at

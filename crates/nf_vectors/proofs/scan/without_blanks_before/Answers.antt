@@ -1,7 +1,4 @@
-use Rattle.std.proofs.Common.{drop, length, arith, sym, ap, ◌∙◌}
-use Rattle.std.proofs.lemmas.List.{take_rest}
-use Rattle.std.proofs.lemmas.List.Sums.{prefix_len_is}
-use Rattle.nf_vectors.specs.Line.{is_blank}
+use Rattle.nf_vectors.proofs.Common.{drop, length, arith, sym, ap, ◌∙◌, take_rest, prefix_len_is, is_blank}
 use Rattle.nf_vectors.proofs.scan.without_blanks_before.Goals as goal
 
 pub returns-then-not-is_blank : goal.returns-then-not-is_blank

@@ -1,5 +1,4 @@
-use Rattle.std.proofs.Common.{◌≡◌, ◌<◌, ℕ, true, get_or}
-use Rattle.nf_vectors.specs.Line.{is_blank}
+use Rattle.nf_vectors.proofs.Common.{◌≡◌, ◌<◌, ℕ, true, get_or, is_blank}
 use Rattle.nf_vectors.proofs.scan.without_blanks_before.Given as goal
 
 abbrev pub invariant-loop-at : goal.invariant-loop-at

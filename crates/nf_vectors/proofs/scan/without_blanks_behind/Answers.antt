@@ -1,6 +1,4 @@
-use Rattle.std.proofs.Common.{◌≡◌, ◌-◌, take, length, arith, sym, ap, ◌∙◌}
-use Rattle.std.proofs.lemmas.List.Sums.{suffix_len_is}
-use Rattle.nf_vectors.specs.Line.{is_blank}
+use Rattle.nf_vectors.proofs.Common.{◌≡◌, ◌-◌, take, length, arith, sym, ap, ◌∙◌, suffix_len_is, is_blank}
 use Rattle.nf_vectors.proofs.scan.without_blanks_behind.Goals as goal
 
 pub returns-then-not-is_blank : goal.returns-then-not-is_blank

@@ -1,5 +1,4 @@
-use Rattle.std.proofs.Common.{◌≡◌, ◌-◌, ◌<◌, ◌≤◌, ℕ, true, get_or, length}
-use Rattle.nf_vectors.specs.Line.{is_blank}
+use Rattle.nf_vectors.proofs.Common.{◌≡◌, ◌-◌, ◌<◌, ◌≤◌, ℕ, true, get_or, length, is_blank}
 use Rattle.nf_vectors.proofs.scan.without_blanks_behind.Given as goal
 
 abbrev pub invariant-loop-behind : goal.invariant-loop-behind

@@ -1,5 +1,4 @@
-use Rattle.std.proofs.Common.{◌∙◌, ◌&&◌, ◌∷◌, [], sym, append-nil, encode_utf8}
-use Rattle.nf_vectors.specs.Sweep.{is_unchanged}
+use Rattle.nf_vectors.proofs.Common.{◌∙◌, ◌&&◌, ◌∷◌, [], sym, append-nil, encode_utf8, is_unchanged}
 use Rattle.nf_vectors.proofs.PlainLemmas.{unchanged-plain}
 use Rattle.nf_vectors.proofs.sweep.is_unchanged.Goals as goal
 

@@ -1,8 +1,4 @@
-use Rattle.std.proofs.Common.{◌≡◌, ◌+◌, ◌*◌, ◌<◌, ◌∙◌, take, get_or, Ok, sym, ap, subst, arith, rules, take_all, pos_of_ne-zero}
-use Rattle.std.specs.Char.{digit_value, InScalarRange, OutOfScalarRange}
-use Rattle.std.proofs.lemmas.Bool.{eqb-true, eqb-false}
-use Rattle.nf_vectors.specs.Words.{is_digit, value_of}
-use Rattle.std.specs.List.{list_all}
+use Rattle.nf_vectors.proofs.Common.{◌≡◌, ◌+◌, ◌*◌, ◌<◌, ◌∙◌, take, get_or, Ok, sym, ap, subst, arith, rules, take_all, pos_of_ne-zero, digit_value, InScalarRange, OutOfScalarRange, eqb-true, eqb-false, is_digit, value_of, list_all}
 use Rattle.nf_vectors.proofs.DigitLemmas.{power-more, power-few, value_of-more, digits-more, code_point-empty, code_point-long, code_point-other, code_point-scalar, code_point-surrogate}
 use Rattle.nf_vectors.proofs.word.code_point.Goals as goal
 use Rattle.nf_vectors.proofs.word.code_point.Goals.{then-is_empty-via-then-is_empty, then-is_empty-via-else-is_empty+then-word-gt6}

@@ -1,6 +1,4 @@
-use Rattle.std.proofs.Common.{◌≡◌, ◌+◌, ◌≤◌, true, take}
-use Rattle.std.specs.List.{list_all}
-use Rattle.nf_vectors.specs.Words.{is_digit, value_of}
+use Rattle.nf_vectors.proofs.Common.{◌≡◌, ◌+◌, ◌≤◌, true, take, list_all, is_digit, value_of}
 use Rattle.nf_vectors.proofs.DigitLemmas.{power}
 use Rattle.nf_vectors.proofs.word.code_point.Given as goal
 

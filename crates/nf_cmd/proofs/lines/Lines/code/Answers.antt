@@ -1,5 +1,4 @@
-use Rattle.std.proofs.Common.{◌≡◌, ◌++◌, drop, List, ℕ, arith, rules, subst}
-use Rattle.nf_cmd.specs.Text.{six_digits, zeros_before}
+use Rattle.nf_cmd.proofs.Common.{◌≡◌, ◌++◌, drop, List, ℕ, arith, rules, subst, six_digits, zeros_before}
 use Rattle.nf_cmd.proofs.CodeDigits.{code_digits-six}
 use Rattle.nf_cmd.proofs.lines.Lines.code.Goals as goal
 

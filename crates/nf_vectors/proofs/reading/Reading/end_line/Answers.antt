@@ -1,8 +1,4 @@
-use Rattle.std.proofs.Common.{◌≡◌, ◌∙◌, ◌++◌, ◌||◌, refl, sym, ap, subst}
-use Rattle.nf_vectors.specs.Judgement.{judgement}
-use Rattle.nf_vectors.specs.Suite.{judged, row_at, part_behind, is_part1_line}
-use Rattle.nf_vectors.specs.SuiteView.{rows_in}
-use Rattle.nf_vectors.specs.Within.{AreWithin}
+use Rattle.nf_vectors.proofs.Common.{◌≡◌, ◌∙◌, ◌++◌, ◌||◌, refl, sym, ap, subst, judgement, judged, row_at, part_behind, is_part1_line, rows_in, AreWithin}
 use Rattle.nf_vectors.proofs.TextLemmas.{AreWithin-append}
 use Rattle.nf_vectors.proofs.EndingLemmas.{EndsLine-grown}
 use Rattle.nf_vectors.proofs.reading.Reading.end_line.Goals as goal

@@ -1,6 +1,4 @@
-use Rattle.std.proofs.Common.{◌∙◌, Some, [], true, length, ◌≤◌, refl, sym, ap, arith, append-nil}
-use Rattle.nf_vectors.specs.SuiteView.{rows_of}
-use Rattle.nf_vectors.specs.Limits.{limit}
+use Rattle.nf_vectors.proofs.Common.{◌∙◌, Some, [], true, length, ◌≤◌, refl, sym, ap, arith, append-nil, rows_of, limit}
 use Rattle.nf_vectors.proofs.EndingLemmas.{limit-is, last_bad, last_fine, all_rows, all_parts, runs_out}
 use Rattle.nf_vectors.proofs.reading.Reading.finish.Goals as goal
 

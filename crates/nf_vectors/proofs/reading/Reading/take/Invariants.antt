@@ -1,5 +1,4 @@
-use Rattle.std.proofs.Common.{◌≡◌, ◌+◌, ℕ, List, ◌++◌, take}
-use Rattle.nf_vectors.specs.Standing.{StandsAfter, IsWithin}
+use Rattle.nf_vectors.proofs.Common.{◌≡◌, ◌+◌, ℕ, List, ◌++◌, take, StandsAfter, IsWithin}
 use Rattle.nf_vectors.proofs.reading.Reading.take.Given as goal
 
 abbrev pub invariant-loop-byte : goal.invariant-loop-byte

@@ -1,4 +1,4 @@
-use Rattle.std.proofs.Common.{rules, eq-eqb}
+use Rattle.nf_vectors.proofs.Common.{rules, eq-eqb}
 use Rattle.std.proofs.lemmas.Result.{IfErr-weaker}
 use Rattle.nf_vectors.proofs.StandingLemmas.{StandsAfter-line}
 use Rattle.nf_vectors.proofs.EndingLemmas.{on_ok, at_ok, bad_line}

@@ -1,9 +1,5 @@
-use Rattle.std.proofs.Common.{◌≡◌, ◌∙◌, ◌+◌, ◌++◌, ◌∷◌, [], take, get_or, length, List, ◌<◌, ◌≤◌, refl, sym, ap, subst}
-use Rattle.nf_vectors.specs.declared.suite.Entry.{Entry}
-use Rattle.std.proofs.lemmas.List.{take_more, take_all, map_push}
-use Rattle.nf_vectors.specs.Held.{columns_at}
-use Rattle.nf_vectors.specs.SuiteView.{row_of, rows_in, rows_of}
-use Rattle.nf_vectors.specs.Report.{verdict_of, report_of, report_and}
+use Rattle.nf_vectors.proofs.Common.{◌≡◌, ◌∙◌, ◌+◌, ◌++◌, ◌∷◌, [], take, get_or, length, List, ◌<◌, ◌≤◌, refl, sym, ap, subst, Entry, take_more, map_push, columns_at, row_of, rows_in, rows_of, verdict_of, report_of, report_and}
+use Rattle.std.proofs.lemmas.List.{take_all}
 use Rattle.nf_vectors.proofs.ReportLemmas.{report_of-push, rows-and, sum-and}
 use Rattle.nf_vectors.proofs.suite.Suite.check.Goals as goal
 

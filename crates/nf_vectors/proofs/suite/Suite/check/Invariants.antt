@@ -1,6 +1,4 @@
-use Rattle.std.proofs.Common.{◌≡◌, ◌+◌, take}
-use Rattle.nf_vectors.specs.SuiteView.{rows_in}
-use Rattle.nf_vectors.specs.Report.{report_of}
+use Rattle.nf_vectors.proofs.Common.{◌≡◌, ◌+◌, take, rows_in, report_of}
 use Rattle.nf_vectors.proofs.suite.Suite.check.Given as goal
 
 abbrev pub invariant-loop-entry : goal.invariant-loop-entry

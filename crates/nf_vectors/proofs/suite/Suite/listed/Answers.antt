@@ -1,8 +1,4 @@
-use Rattle.std.proofs.Common.{◌∙◌, ◌≤◌, List, length, ap, subst, take_all}
-use Rattle.nf_vectors.specs.declared.suite.Entry.{Entry}
-use Rattle.std.specs.List.{list_any}
-use Rattle.nf_vectors.specs.SuiteView.{rows_in, rows_of}
-use Rattle.nf_vectors.specs.Sweep.{lists, is_listed}
+use Rattle.nf_vectors.proofs.Common.{◌∙◌, ◌≤◌, List, length, ap, subst, take_all, Entry, list_any, rows_in, rows_of, lists, is_listed}
 use Rattle.nf_vectors.proofs.suite.Suite.listed.Goals as goal
 
 pub returns-clause-listed : goal.returns-clause-listed

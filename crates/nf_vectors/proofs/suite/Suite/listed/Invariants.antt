@@ -1,7 +1,4 @@
-use Rattle.std.proofs.Common.{◌≡◌, ◌<◌, ℕ, false, length, take, get_or}
-use Rattle.std.specs.List.{list_any}
-use Rattle.nf_vectors.specs.SuiteView.{rows_in}
-use Rattle.nf_vectors.specs.Sweep.{lists}
+use Rattle.nf_vectors.proofs.Common.{◌≡◌, ◌<◌, ℕ, false, length, take, get_or, list_any, rows_in, lists}
 use Rattle.nf_vectors.proofs.suite.Suite.listed.Given as goal
 
 abbrev pub invariant-loop-entry : goal.invariant-loop-entry

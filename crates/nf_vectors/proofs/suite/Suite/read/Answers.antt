@@ -1,11 +1,6 @@
-use Rattle.std.proofs.Common.{◌≡◌, ◌∙◌, ◌++◌, ◌≤◌, length, true, false, [], take, Some, sym, ap, subst, arith, append-nil, Bool, IfErr, length-take-le}
-use Rattle.std.specs.Io.KnownBytes.{Consumes}
-use Rattle.std.proofs.lemmas.Bool.{eq-eqb, ne_eqb, false≢true}
-use Rattle.nf_vectors.specs.Limits.{limit, block}
-use Rattle.nf_vectors.specs.ReadsSuite.{stop_of, lines_within, Tells}
-use Rattle.nf_vectors.specs.RunsOut.{RunsOut}
-use Rattle.nf_vectors.specs.declared.fault.VectorKind.TheVariants.{Memory}
-use Rattle.nf_vectors.specs.Suite.{first_fault}
+use Rattle.nf_vectors.proofs.Common.{◌≡◌, ◌∙◌, ◌++◌, ◌≤◌, length, true, false, [], take, Some, sym, ap, subst, arith, append-nil, Bool, IfErr, Consumes, false≢true, limit, block, stop_of, lines_within, Tells, RunsOut, Memory, first_fault}
+use Rattle.std.proofs.Common.{length-take-le}
+use Rattle.std.proofs.lemmas.Bool.{eq-eqb, ne_eqb}
 use Rattle.nf_vectors.proofs.EndingLemmas.{limit-is, block-is, on_ok, read_failed, Tells-found}
 use Rattle.std.proofs.KnownBytes.{Consumes-kept, Consumes-trans}
 use Rattle.nf_vectors.proofs.suite.Suite.read.Goals as goal

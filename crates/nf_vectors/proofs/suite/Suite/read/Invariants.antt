@@ -1,6 +1,4 @@
-use Rattle.std.proofs.Common.{◌≡◌, ◌-◌, ℕ, List, length}
-use Rattle.std.specs.Io.KnownBytes.{Consumes}
-use Rattle.nf_vectors.specs.Standing.{StandsAfter, IsWithin}
+use Rattle.nf_vectors.proofs.Common.{◌≡◌, ◌-◌, ℕ, List, length, Consumes, StandsAfter, IsWithin}
 use Rattle.nf_vectors.proofs.suite.Suite.read.Given as goal
 
 abbrev pub invariant-loop-given : goal.invariant-loop-given

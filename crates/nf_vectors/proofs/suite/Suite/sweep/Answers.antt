@@ -1,10 +1,4 @@
-use Rattle.std.proofs.Common.{◌≡◌, ◌∙◌, ◌+◌, ◌<◌, ℕ, Bool, true, false, not, ◌&&◌, List, length, get_or, Some, refl, sym, ap, arith}
-use Rattle.std.specs.Option.{option_or}
-use Rattle.std.proofs.lemmas.Bool.{and_from, and_right}
-use Rattle.nf_vectors.specs.Suite.{VectorRow}
-use Rattle.nf_vectors.specs.SuiteView.{rows_of}
-use Rattle.nf_vectors.specs.Words.{is_scalar}
-use Rattle.nf_vectors.specs.Sweep.{is_listed, is_unchanged, below, sweep_below, sweep_of}
+use Rattle.nf_vectors.proofs.Common.{◌≡◌, ◌∙◌, ◌+◌, ◌<◌, ℕ, Bool, true, false, not, ◌&&◌, List, length, get_or, Some, refl, sym, ap, arith, option_or, and_from, and_right, VectorRow, rows_of, is_scalar, is_listed, is_unchanged, below, sweep_below, sweep_of}
 use Rattle.nf_vectors.proofs.DigitLemmas.{scalar_in, scalar_out}
 use Rattle.nf_vectors.proofs.SweepLemmas.{sweep-few, sweep-past, sweep-fine, sweep-failed}
 use Rattle.nf_vectors.proofs.suite.Suite.sweep.Goals as goal

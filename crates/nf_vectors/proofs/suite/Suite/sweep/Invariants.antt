@@ -1,6 +1,4 @@
-use Rattle.std.proofs.Common.{◌≡◌}
-use Rattle.nf_vectors.specs.SuiteView.{rows_of}
-use Rattle.nf_vectors.specs.Sweep.{sweep_below}
+use Rattle.nf_vectors.proofs.Common.{◌≡◌, rows_of, sweep_below}
 use Rattle.nf_vectors.proofs.suite.Suite.sweep.Given as goal
 
 abbrev pub invariant-loop-code : goal.invariant-loop-code

@@ -1,0 +1,57 @@
+-- The names that most of these proofs cite, passed on from one place. Declares nothing.
+pub use Rattle.std.proofs.Common.{◌≡◌, ℕ, ◌+◌, ◌≤◌, ◌<◌, true, false, List, [], ◌∷◌, ◌++◌, length, take, Option, Some, None, is_some, refl, sym, ap, ◌∙◌, arith, ◌-◌, ◌⊎◌, inl, inr, ⊎_elim, drop, get_or, append_assoc, option_map, append-nil, zero, suc, ◌*◌, Bool, ◌&&◌, nat_le, Ok, Err, rules, if◌then◌else◌, ◌||◌, Result, subst, OnOk, is_ok, take_all, codes, bytes_eq, encode_utf8_all, IsUtf8, slice_range, eq-eqb, ne_eqb, cond, slice_index_or, not, add-zero, count_by, nat_eq, MatchResult, IsErr, IsErrAnd, All, find, IfOk, sum_by, string_bytes, encode_utf8, IsNone, tests, ◌==◌, IfErr, pos_of_ne-zero}
+pub use Rattle.std.proofs.Math.Bool.{or-false, or_assoc}
+pub use Rattle.std.proofs.Math.Seq.{take-length, take-add, take-append-add}
+pub use Rattle.std.proofs.lemmas.Bool.{and_parts, false≢true, false_from_ne_true, cases_order, cases_lt, lt-leb, le-leb, and_from, ltb-true, lt-ltb, le-ltb, eqb-true, leb-true, true_from_ne_false, eqb-false, and_right}
+pub use Rattle.std.proofs.lemmas.Bool.Decides.{nat_tests, same_from_decides}
+pub use Rattle.std.proofs.lemmas.List.{take_more, length-append, take_at, drop_more, take-append-drop, length_push, length-drop, drop-append-le, take-append-le, drop_at, drop_all, length-take-le, get_or_default, nil_from_length, take_rest, map_push}
+pub use Rattle.std.proofs.lemmas.List.Folds.{list_all-append, find-append}
+pub use Rattle.std.proofs.lemmas.List.Splits.{slice_split_first, slice_split_none, slice_split_at}
+pub use Rattle.std.proofs.lemmas.List.Sums.{fold_push, AllPass-from_list_all, fails_before_first, prefix_len-le-length, sum_by_push, count_by-le-length, sum_by-cons, position_or_len_is, prefix_len_is, suffix_len_is}
+pub use Rattle.std.proofs.lemmas.Slice.Eq.{bytes_eq-Decides, slice_eq-Decides}
+pub use Rattle.std.proofs.lemmas.Str.{encodes_same, length-encode, len_utf8_bounds, encodes-append}
+pub use Rattle.std.specs.Char.{digit_value, InScalarRange, OutOfScalarRange}
+pub use Rattle.std.specs.Io.KnownBytes.{Consumes}
+pub use Rattle.std.specs.List.{list_all, slice_split, onto_first, before_first, after_first, position_or_len, list_any}
+pub use Rattle.std.specs.Option.{option_or}
+unfoldable pub use Rattle.nf_filter.specs.Settled.{is_usable}
+pub use Rattle.nf_filter.specs.Settled.{usable}
+pub use Rattle.nf_forms.specs.Properties.{Properties}
+unfoldable pub use Rattle.nf_forms.specs.SafeForm.{safe_form}
+pub use Rattle.nf_forms.specs.Sound.{is_sound}
+pub use Rattle.nf_forms.specs.declared.form.Form.{Form}
+pub use Rattle.nf_forms.specs.declared.form.Form.TheVariants.{Nfc, Nfd, Nfkc, Nfkd}
+pub use Rattle.nf_safe.specs.Place.{is_in_format, place, place_at, place_from}
+pub use Rattle.nf_safe.specs.declared.place.Place.{Place}
+pub use Rattle.nf_vectors.specs.Columns.{Columns, at, each}
+unfoldable pub use Rattle.nf_vectors.specs.Comparison.{sound_front, leaves_format, holds, broken_column, is_skipped}
+pub use Rattle.nf_vectors.specs.Comparison.{holds_at, expected}
+pub use Rattle.nf_vectors.specs.Held.{columns_at}
+unfoldable pub use Rattle.nf_vectors.specs.Judgement.{is_part1, row_in, columns_of, judgement}
+pub use Rattle.nf_vectors.specs.Judgement.{Judgement, Bad, Nothing, Part, Row, row_or_bad, judgement_of, columns_in}
+unfoldable pub use Rattle.nf_vectors.specs.Limits.{limit, block}
+unfoldable pub use Rattle.nf_vectors.specs.Line.{lines_of, content}
+pub use Rattle.nf_vectors.specs.Line.{is_line_end, is_semicolon, is_blank, is_gap, trimmed}
+pub use Rattle.nf_vectors.specs.ReadsSuite.{lines_within, stop_of, Finds, Tells}
+unfoldable pub use Rattle.nf_vectors.specs.Report.{verdict_of, report_of, failure_of}
+pub use Rattle.nf_vectors.specs.Report.{is_skip, is_pass, is_failure, failure_or, first_failure_of, report_and, failure_in, by_failure}
+pub use Rattle.nf_vectors.specs.RunsOut.{RunsOut}
+pub use Rattle.nf_vectors.specs.Standing.{StandsAfter, EndsLine, IsWithin}
+unfoldable pub use Rattle.nf_vectors.specs.Suite.{judged}
+pub use Rattle.nf_vectors.specs.Suite.{part_behind, is_part1_line, rows_from, names_part1_from, fault_or, last_fault, first_fault, unmarked, VectorRow, row_at}
+unfoldable pub use Rattle.nf_vectors.specs.SuiteView.{rows_of}
+pub use Rattle.nf_vectors.specs.SuiteView.{rows_in, row_of}
+unfoldable pub use Rattle.nf_vectors.specs.Sweep.{is_unchanged, below, sweep_below, sweep_of}
+unfoldable pub use Rattle.nf_vectors.specs.Sweep.{is_listed}
+pub use Rattle.nf_vectors.specs.Sweep.{is_unlisted, is_failed, lists}
+pub use Rattle.nf_vectors.specs.Within.{AreWithin}
+unfoldable pub use Rattle.nf_vectors.specs.Words.{code_point, column_in}
+pub use Rattle.nf_vectors.specs.Words.{is_digit, value_of, is_scalar, before, then_codes, code_points, some_or_empty}
+pub use Rattle.nf_vectors.specs.declared.columns.Column.{Column}
+pub use Rattle.nf_vectors.specs.declared.fault.VectorFault.{VectorFault}
+pub use Rattle.nf_vectors.specs.declared.fault.VectorKind.{VectorKind}
+pub use Rattle.nf_vectors.specs.declared.fault.VectorKind.TheVariants.{Hex, Scalar, Fields, Empty, Size, Read, Memory}
+pub use Rattle.nf_vectors.specs.declared.reading.Reading.{Reading}
+pub use Rattle.nf_vectors.specs.declared.report.Failure.{Failure}
+pub use Rattle.nf_vectors.specs.declared.report.Verdict.TheVariants.{Skipped, Passed, Failed}
+pub use Rattle.nf_vectors.specs.declared.suite.Entry.{Entry}
