@@ -86,6 +86,16 @@ pub fn halfwidth_marks_count_once()
     ensures { (c : ℕ) → IsTrue (is_among halfwidth_marks c) → length (ucd.compat c) ≡ 1 }
 {}
 
+/// A halfwidth mark is a starter and its own canonical row. Its compatibility row is the combining mark of kana that it
+/// stands for (U+3099, U+309A), which is of class 8.
+#[inline]
+pub fn halfwidth_marks_stand_for_marks()
+    ensures starter { (c : ℕ) → IsTrue (is_among halfwidth_marks c) → ucd.class c ≡ 0 }
+    ensures own { (c : ℕ) → IsTrue (is_among halfwidth_marks c) → ucd.canonical c ≡ c ∷ [] }
+    ensures voiced { (ucd.compat 0xFF9E ≡ 0x3099 ∷ []) × (ucd.class 0x3099 ≡ 8) }
+    ensures semi_voiced { (ucd.compat 0xFF9F ≡ 0x309A ∷ []) × (ucd.class 0x309A ≡ 8) }
+{}
+
 /// In these ranges, which the first bytes of a character in UTF-8 can tell, every character passes: a list for each form.
 #[inline]
 pub fn plain_ranges_pass()
