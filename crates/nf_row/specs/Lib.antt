@@ -1,6 +1,7 @@
 pub mod Changes
 pub mod Patched
 pub mod Kind
+pub mod Single
 pub mod Ends
 pub mod Shape
 pub mod Ascii

@@ -4,7 +4,9 @@ ghost use Rattle.nf_forms.specs.Ucd.{ucd};
 
 use crate::kind::Kind;
 use crate::known::kind_of;
+use crate::mark_row::mark_row;
 use crate::rows::{Long, Row, Rows, row_from};
+use crate::single::Single;
 use nf_boundary::{Closed, Formed, closed_front};
 use nf_calm::{Calm, calm_front};
 use nf_facts::laws;
@@ -68,6 +70,11 @@ impl Rows for Ucd {
     #[inline]
     fn kind(&self, form: nf_forms::Form, c: char) -> Kind {
         kind_of(form, c)
+    }
+
+    #[inline]
+    fn single(&self, form: nf_forms::Form, c: char) -> Option<Single> {
+        mark_row(form, c)
     }
 
     #[inline]
