@@ -8,7 +8,10 @@ use Rattle.nf_forms.specs.Runs.{has_starter, lead, trail}
 use Rattle.nf_forms.specs.Forms.{row_of, decomposed}
 use Rattle.nf_forms.specs.StreamSafe.{joiner, max_run, is_too_long, parted, stream_safe}
 use Rattle.nf_forms.specs.Sound.{is_sound}
-use Rattle.nf_row.specs.Kind.{IsOwn}
+use Rattle.nf_row.specs.declared.ends.Ends.{Ends}
+use Rattle.nf_row.specs.declared.single.Single.{Single}
+use Rattle.nf_row.specs.Ends.{HasEnds}
+use Rattle.nf_row.specs.Single.{IsSingle}
 use Rattle.nf_forms.specs.Laws.Runs.{has_starter-append, lead-marks, lead-le-length, trail-marks, trail-push}
 use Rattle.nf_forms.specs.Laws.StreamSafe.{stream_safe-push, decomposed-push}
 use Rattle.nf_forms.specs.Laws.Sound.{JoinerIsPlain, IsSound, IsSound-from_test, JoinerIsPlain-from_sound}
@@ -98,12 +101,9 @@ module _ (p : Properties) where
       by_form Nfkc = same (has_starter p (p.compat c)) _ _
       by_form Nfkd = same (has_starter p (p.compat c)) _ _
 
-  -- a character that is its own row is the row that each form asks for
-  pub row_of-own : (f : Form) (c k : ℕ) → IsOwn p c k → row_of f p c ≡ c ∷ []
-  row_of-own Nfc c k own = own.canonical
-  row_of-own Nfd c k own = own.canonical
-  row_of-own Nfkc c k own = own.compat
-  row_of-own Nfkd c k own = own.compat
+  -- one member is the row of a character of which a form has one code point, also behind what keeps the form
+  pub row_of-single : (old new : Normalizer) (c : ℕ) (single : Single) → IsSingle p old.form c single → new.form ≡ old.form → row_of new.form p c ≡ single.member ∷ []
+  row_of-single old new c single is same = ap (λ f. row_of f p c) same ∙ is.row
 
   lead-row : (f : Form) (c : ℕ) → is_sound p c ≡ true → lead p (row_of f p c) ≤ lead p (p.compat c)
   lead-row f c sound = by_form f
@@ -122,21 +122,26 @@ module _ (p : Properties) where
       next true has t e f = sym (ap (λ s. if s then t else n + 1) e ∙ f)
       next false has t e f = sym (ap (λ s. if s then t else n + 1) e)
 
-  pub within-own : (part new : Normalizer) (c k : ℕ) → IsOwn p c k → HasRoom p part c
-      → run_len new.pending ≡ (if is_starter p c then 0 else run_len part.pending + 1) → new.counter ≡ part.counter → new.put ≡ part.put → new.chars ≡ part.chars + 1 → IsWithin new
-  within-own part new c k own room run count put chars = record {
-    run = let same = run ∙ one_behind (run_len part.pending) c ∙ ap (run_behind p (run_len part.pending)) (sym (row_of-own part.form c k own)) in omega (arith, room.run);
+  pub within-single : (part new : Normalizer) (c d : ℕ) → row_of part.form p c ≡ d ∷ [] → HasRoom p part c
+      → run_len new.pending ≡ (if is_starter p d then 0 else run_len part.pending + 1) → new.counter ≡ part.counter → new.put ≡ part.put → new.chars ≡ part.chars + 1 → IsWithin new
+  within-single part new c d row room run count put chars = record {
+    run = let same = run ∙ one_behind (run_len part.pending) d ∙ ap (run_behind p (run_len part.pending)) (sym row) in omega (arith, room.run);
     put = omega (arith, room.put);
   }
 
-  pub room_for-own : (part : Normalizer) (c k : ℕ) → IsOwn p c k → HasRoom p part c → is_nonstarter p c ≡ true → run_len part.pending < 30
-  room_for-own part c k own room mark =
-      let alone = ap (lead p) (row_of-own part.form c k own) ∙ lead_is (is_nonstarter p c) mark in
+  pub room_for-single : (part : Normalizer) (c d : ℕ) → row_of part.form p c ≡ d ∷ [] → HasRoom p part c → is_nonstarter p d ≡ true → run_len part.pending < 30
+  room_for-single part c d row room mark =
+      let alone = ap (lead p) row ∙ lead_is (is_nonstarter p d) mark in
       omega (arith, room.lead)
     where
       lead_is : (b : Bool) → b ≡ true → cond b (1 + 0) 0 ≡ 1
       lead_is true e = refl
       lead_is false e = cc
+
+  -- the ends of its compatibility row are those of one member
+  pub ends-single : (f : Form) (c : ℕ) (single : Single) (ends : Ends) → IsSingle p f c single
+      → ((q : Properties) (d : ℕ) → single.compat_starts ≡ is_starter q d → HasEnds q (d ∷ []) ends) → HasEnds p (p.compat c) ends
+  ends-single f c single ends is one = subst (λ row. HasEnds p row ends) (sym is.compat) (one p is.compat_member is.compat_starts)
 
   abbrev counting : Normalizer → ℕ → Normalizer
   counting taken c = record taken { counter = count_step p taken.counter (p.compat c) }

@@ -1,16 +1,16 @@
-//! How a normalizer takes one character: by its class alone where it is its own row, else by its row, lent where the
-//! data lends it.
+//! How a normalizer takes one character: without its row where one code point is known to be all of it, else by its row,
+//! lent where the data lends it.
 use crate::block::Block;
 use crate::devices::{Failed, Sink};
 use crate::normalizer::Normalizer;
 use crate::pushing::{push, push_decomposition, push_of_class, push_row, row_of};
 use crate::refusal::Refusal;
-use nf_row::{Ends, JOINER, Row, Rows, SoundRow, lent_ends, own_class, sound, sound_row};
+use nf_row::{Ends, JOINER, Row, Rows, Single, SoundRow, lent_ends, own_class, sound, sound_row};
 
 impl Normalizer {
     ghost use Rattle.std.specs.Prelude.{◌≡◌, ◌+◌, ◌<◌, ℕ, List, IsTrue, IfOk, OnOk};
     ghost use Rattle.nf_row.specs.Ends.{HasEnds};
-    ghost use Rattle.nf_row.specs.Kind.{IsOwn};
+    ghost use Rattle.nf_row.specs.Single.{IsSingle};
     ghost use Rattle.nf_forms.specs.declared.form.Form.{Form};
     ghost use Rattle.nf_forms.specs.Forms.{row_of};
     ghost use Rattle.nf_forms.specs.Sound.{is_sound};
@@ -36,7 +36,7 @@ impl Normalizer {
         ensures lent { (block.new.sink.ghost_name ≡ block.old.sink.ghost_name) × ((S.state block.new.sink.now).lender ≡ (S.state block.old.sink.now).lender) }
     {
         match own_class(rows, c) {
-            Some(class) => self.take_own(rows, c, class, block),
+            Some(class) => self.take_single(rows, c, Single::of_own(c, class), block),
             None => self.take_other(rows, c, block),
         }
     }
@@ -58,6 +58,9 @@ impl Normalizer {
             → TakesChar f p self.new start (block_state S.state block.new) x c result }
         ensures lent { (block.new.sink.ghost_name ≡ block.old.sink.ghost_name) × ((S.state block.new.sink.now).lender ≡ (S.state block.old.sink.now).lender) }
     {
+        if let Some(single) = rows.single(self.form, c) {
+            return self.take_single(rows, c, single, block);
+        }
         match lent_ends(rows, c) {
             Some(compat) => self.take_lent(rows, c, compat, block),
             None => self.take_rows(rows, c, block),
@@ -94,16 +97,16 @@ impl Normalizer {
         }
     }
 
-    /// The same of a character of this class that is its own canonical and compatibility row: no rows are read.
+    /// The same of a character of which the form has this one code point: no rows are read.
     #[inline(always)]
-    pub(crate) fn take_own<R: Rows, S: Sink>(
+    pub(crate) fn take_single<R: Rows, S: Sink>(
         &mut self,
         rows: &R,
         c: char,
-        class: u8,
+        single: Single,
         block: &mut Block<'_, S>,
     ) -> Result<(), Refusal>
-        requires own { IsOwn (R.properties rows.now) c class }
+        requires single { IsSingle (R.properties rows.now) self.old.form c single }
         requires within { IsWithin self.old }
         requires chars { self.old.chars < u64.MAX }
         ensures within { OnOk result (IsWithin self.new) }
@@ -114,11 +117,11 @@ impl Normalizer {
             → TakesChar f p self.new start (block_state S.state block.new) x c result }
         ensures lent { (block.new.sink.ghost_name ≡ block.old.sink.ghost_name) × ((S.state block.new.sink.now).lender ≡ (S.state block.old.sink.now).lender) }
     {
-        if let Err(stop) = self.make_room(rows, c, Ends::of_one(class == 0), block) {
+        if let Err(stop) = self.make_room(rows, c, Ends::of_one(single.compat_starts), block) {
             return Err(stop);
         }
         self.chars += 1;
-        match push_of_class(&mut self.pending, rows, c, class, block) {
+        match push_of_class(&mut self.pending, rows, single.member, single.class, block) {
             Ok(()) => Ok(()),
             Err(Failed) => Err(Refusal::Write),
         }

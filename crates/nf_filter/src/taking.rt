@@ -4,7 +4,7 @@ use crate::block::Block;
 use crate::devices::{Failed, Sink};
 use crate::fault::Fault;
 use crate::normalizer::Normalizer;
-use nf_row::{Closed, Formed, Kind, Rows};
+use nf_row::{Closed, Formed, Kind, Rows, Single};
 use nf_utf8::ascii_prefix;
 
 /// Of a text of so many bytes no closed front is asked for: each of its characters goes the ordinary way for less.
@@ -17,6 +17,7 @@ impl Normalizer {
     ghost use Rattle.std.specs.Prelude.{◌≡◌, ◌+◌, ◌<◌, ◌≤◌, ℕ, List, ◌++◌, length, chars, false, IfErr, IfSome, OnOk};
     ghost use Rattle.nf_forms.specs.declared.form.Form.{Form};
     ghost use Rattle.nf_boundary.specs.Front.{IsClosedFront};
+    ghost use Rattle.nf_row.specs.Single.{IsSingle};
     ghost use Rattle.nf_filter.specs.Block.{Start, block_state, Written};
     ghost use Rattle.nf_filter.specs.Faults.{IsOfTaking};
     ghost use Rattle.nf_filter.specs.Normalizer.{HasTaken, IsPlacedAt, IsWithin, TakesOn, settled_text};
@@ -108,8 +109,8 @@ impl Normalizer {
         // No closed text begins with a mark, and to ask for a front of it costs more than to see that.
         let mut chars = text.chars();
         let c = chars.next().unwrap();
-        if let Kind::Mark { class, .. } = rows.kind(self.form, c) {
-            return match self.take_own(rows, c, class, block) {
+        if let Some(mark) = self.mark_of(rows, c) {
+            return match self.take_single(rows, c, mark, block) {
                 Ok(()) => Ok(chars.as_str()),
                 Err(refusal) => Err(refusal.at(at)),
             };
@@ -120,6 +121,21 @@ impl Normalizer {
         match self.take_closed(rows, text, closed, formed, block) {
             Ok(rest) => Ok(rest),
             Err(Failed) => Err(Fault::Write),
+        }
+    }
+
+    /// The mark that the form has of `c`, where it is known to have one and nothing else.
+    #[inline(always)]
+    fn mark_of<R: Rows>(&self, rows: &R, c: char) -> Option<Single>
+        ensures { IfSome result (λ mark. IsSingle (R.properties rows.now) self.now.form c mark) }
+    {
+        match rows.kind(self.form, c) {
+            Kind::Mark { class, .. } => Some(Single::of_own(c, class)),
+            Kind::Parts => None,
+            Kind::Other => match rows.single(self.form, c) {
+                Some(single) if single.class != 0 => Some(single),
+                _ => None,
+            },
         }
     }
 

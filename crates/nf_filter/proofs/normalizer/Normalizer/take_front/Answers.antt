@@ -25,10 +25,10 @@ returns-in-Err-clause-takes g c = λ f place x start taken here written.
     let first = begins _ _ _ _ c.unwrap-c.result c.unwrap-c.ensures c.next.ensures.steps.0 in
     let rest = chars_rest c.next.new.self in
     let is_front = chars_past_char c.args.text.now rest c.unwrap-c.result c.utf8.text (sym c.chars-chars.ensures.rest ∙ first) in
-    let now = block_state g.S.Sink.state c.take_own.new.block in
-    let refused = TakesOn-refused p f c.take_own.new.self start now place x c.unwrap-c.result (chars rest) c.args.at c.in-Err.refusal taken.usable (placed-first place c.args.at x c.unwrap-c.result (chars rest) (rw is_front at here)) (c.in-Err.ensures.takes f x start taken written) in
-    TakesOn-more f p c.take_own.new.self start now place x c.args.text.now (c.unwrap-c.result ∷ []) rest _ is_front
-    (subst (λ fault. TakesOn f p c.take_own.new.self start now place ((x ++ c.unwrap-c.result ∷ []) ++ chars rest) (Err fault)) (sym c.at.ensures.value) refused)
+    let now = block_state g.S.Sink.state c.take_single.new.block in
+    let refused = TakesOn-refused p f c.take_single.new.self start now place x c.unwrap-c.result (chars rest) c.args.at c.in-Err.refusal taken.usable (placed-first place c.args.at x c.unwrap-c.result (chars rest) (rw is_front at here)) (c.in-Err.ensures.takes f x start taken written) in
+    TakesOn-more f p c.take_single.new.self start now place x c.args.text.now (c.unwrap-c.result ∷ []) rest _ is_front
+    (subst (λ fault. TakesOn f p c.take_single.new.self start now place ((x ++ c.unwrap-c.result ∷ []) ++ chars rest) (Err fault)) (sym c.at.ensures.value) refused)
 
 pub returns-in-Err-take_closed-clause-takes : goal.returns-in-Err-take_closed-clause-takes
 returns-in-Err-take_closed-clause-takes g c = λ f place x start taken here written.
