@@ -1,4 +1,5 @@
-use nf_row::{Change, Ends, Form, Kind, Patched, Rows, Ucd, composite, own_class};
+use nf_row::{Change, Ends, Form, Kind, Patched, Rows, Single, Ucd, composite, own_class};
+use std::process::Abort;
 use std::test::Fail;
 
 /// Classes by UnicodeData.txt.
@@ -143,6 +144,35 @@ fn kinds(rt: HostRuntime) {
             assert_eq!(rt; Ucd.kind(form, c), kind, "{c:?} {form:?}");
         }
     }
+}
+
+/// By UnicodeData.txt: a halfwidth mark, a starter, is its own canonical row, and a mark of class 8 is its compatibility row.
+#[test]
+fn halfwidth_marks_are_single(rt: HostRuntime) {
+    for (c, mark) in [('\u{FF9E}', '\u{3099}'), ('\u{FF9F}', '\u{309A}')] {
+        for form in [Form::Nfc, Form::Nfd] {
+            check_single(&rt, form, c, c, 0);
+        }
+        for form in [Form::Nfkc, Form::Nfkd] {
+            check_single(&rt, form, c, mark, 8);
+        }
+    }
+    // Others are told by their kind, or not at all.
+    for c in [
+        'a', '\u{E9}', '\u{3099}', '\u{FF76}', '\u{FF9D}', '\u{FFA0}',
+    ] {
+        assert!(rt; Ucd.single(Form::Nfkc, c).is_none(), "{c:?}");
+    }
+    assert!(rt; Patched::new(&[]).single(Form::Nfkc, '\u{FF9E}').is_none());
+}
+
+fn check_single(rt: &impl Abort, form: Form, c: char, member: char, class: u8) {
+    let single = Single {
+        member,
+        class,
+        compat_starts: false,
+    };
+    assert_eq!(rt; Ucd.single(form, c), Some(single), "{c:?} {form:?}");
 }
 
 /// Of data under changes nothing is known, and soundness is looked for in the rows.
