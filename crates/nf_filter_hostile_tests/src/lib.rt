@@ -16,6 +16,8 @@ mod closed;
 #[cfg(test)]
 mod growing;
 #[cfg(test)]
+mod halfwidth;
+#[cfg(test)]
 mod ill_formed;
 #[cfg(test)]
 mod lying_rows;
