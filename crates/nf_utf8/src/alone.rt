@@ -29,6 +29,10 @@ fn begins_alone(bytes: &[u8]) -> bool
     if bytes.len() < 2 {
         return false;
     }
+    // Most are, and this one comparison tells.
+    if sequence::is_continuation(bytes[0]) {
+        return true;
+    }
     match sequence::first(bytes[0]) {
         Step::Bad { .. } => true,
         Step::Char(_) => false,
