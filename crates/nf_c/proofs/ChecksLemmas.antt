@@ -1,8 +1,14 @@
 -- What checking a text in memory comes to.
-use Rattle.nf_c.proofs.Common.{◌≡◌, ◌⊎◌, inl, inr, Bool, true, false, ℕ, ◌<◌, ◌^◌, List, ◌++◌, length, Option, Some, None, Result, Ok, Err, refl, sym, ap, ◌∙◌, arith, append-nil, IfErr, length-append, ucd, ending_of, Fault, Spent, TooLong, Read, Write, Row, BadByte, Cut, Unassigned, answer_at_end, RefusesNone}
+use Rattle.std.proofs.Common.{◌≡◌, ◌⊎◌, inl, inr, Bool, true, false, ℕ, ◌<◌, ◌^◌, List, ◌++◌, length, Option, Some, None, Result, Ok, Err, refl, sym, ap, ◌∙◌, arith, append-nil, IfErr, length-append}
+use Rattle.nf_forms.specs.Ucd.{ucd}
+use Rattle.nf_utf8.specs.Reading.{ending_of}
 use Rattle.nf_safe.specs.declared.place.Place.{Place}
+use Rattle.nf_filter.specs.declared.fault.Fault.{Fault}
+use Rattle.nf_filter.specs.declared.fault.Fault.TheVariants.{Spent, TooLong, Read, Write, Row, BadByte, Cut, Unassigned}
+use Rattle.nf_filter.specs.Faults.{answer_at_end}
 use Rattle.nf_filter.specs.Checks.{check_decision, no_place}
 use Rattle.nf_filter.specs.Surveys.{IsOfSurvey, Surveys}
+use Rattle.nf_filter.specs.Laws.Soundness.{RefusesNone}
 use Rattle.nf_c.specs.declared.checking.Text.{Text}
 use Rattle.nf_c.specs.declared.moved.Moved.{Moved}
 use Rattle.nf_c.specs.Checks.{state_of, checked, IsOfCheck, Checks}

@@ -1,10 +1,23 @@
 -- What a filter that ends gives to a room.
-use Rattle.nf_c.proofs.Common.{◌≡◌, ℕ, ◌+◌, ◌<◌, inl, inr, List, [], ◌++◌, length, take, Some, Result, Ok, Err, refl, sym, ap, ◌∙◌, subst, arith, ◌↔◌, IfSome, IfErr, length-append, result_err, ucd, Form, Fault, Spent, TooLong, Read, Write, Row, BadByte, Cut, Unassigned, Policy, Tally, SinkState, settled_utf8, AreSound, not_in_end, Finished, Room, IsOfFinishing, FinishesFilter}
-use Rattle.std.proofs.Common.{length-take}
+use Rattle.std.proofs.Common.{◌≡◌, ℕ, ◌+◌, ◌<◌, inl, inr, List, [], ◌++◌, length, take, Some, Result, Ok, Err, refl, sym, ap, ◌∙◌, subst, arith, ◌↔◌, IfSome, IfErr, length-append, length-take}
+use Rattle.std.specs.Result.{result_err}
+use Rattle.nf_forms.specs.Ucd.{ucd}
+use Rattle.nf_forms.specs.declared.form.Form.{Form}
+use Rattle.nf_filter.specs.declared.fault.Fault.{Fault}
+use Rattle.nf_filter.specs.declared.fault.Fault.TheVariants.{Spent, TooLong, Read, Write, Row, BadByte, Cut, Unassigned}
+use Rattle.nf_filter.specs.declared.policy.Policy.{Policy}
+use Rattle.nf_filter.specs.declared.tally.Tally.{Tally}
+use Rattle.nf_filter.specs.Devices.{SinkState}
 use Rattle.nf_filter.specs.Faults.{IsOfFinishing as IsOfFilter}
 use Rattle.nf_filter.specs.Finishes.{final_utf8, Finishes as FilterFinishes}
+use Rattle.nf_filter.specs.Settled.{settled_utf8}
+use Rattle.nf_filter.specs.Laws.Soundness.{AreSound}
 use Rattle.nf_filter.proofs.FilterLemmas.{write_or_kept}
+use Rattle.nf_filter.proofs.SoundnessLemmas.{not_in_end}
+use Rattle.nf_c.specs.declared.finishing.Finished.{Finished}
+use Rattle.nf_c.specs.declared.room.Room.{Room}
 use Rattle.nf_c.specs.Room.{state_of as room_state}
+use Rattle.nf_c.specs.Finishes.{IsOfFinishing, FinishesFilter}
 use Rattle.nf_c.proofs.FeedsLemmas.{written_is, too_little}
 
 -- a filter that is not spent ends by these faults, where no character is unsound

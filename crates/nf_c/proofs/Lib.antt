@@ -1,4 +1,3 @@
-pub mod Common
 pub mod FeedsLemmas
 pub mod FinishesLemmas
 pub mod ConvertsLemmas

@@ -1,4 +1,5 @@
-use Rattle.nf_c.proofs.Common.{◌<◌, ◌^◌, false, length, refl, rules, ucd}
+use Rattle.std.proofs.Common.{◌<◌, ◌^◌, false, length, refl, rules}
+use Rattle.nf_forms.specs.Ucd.{ucd}
 use Rattle.nf_c.proofs.ChecksLemmas.{Checks-from}
 use Rattle.nf_c.proofs.checking.check.Goals as goal
 

@@ -1,4 +1,9 @@
-use Rattle.nf_c.proofs.Common.{◌++◌, take, sym, ap, ◌∙◌, subst, ucd, Saved, fault_in, state_of, IsRestorable}
+use Rattle.std.proofs.Common.{◌++◌, take, sym, ap, ◌∙◌, subst}
+use Rattle.nf_forms.specs.Ucd.{ucd}
+use Rattle.nf_filter.specs.declared.saved.Saved.{Saved}
+use Rattle.nf_filter.specs.Faults.{fault_in}
+use Rattle.nf_filter.specs.Filter.{state_of}
+use Rattle.nf_filter.specs.Saved.{IsRestorable}
 use Rattle.nf_c.proofs.FeedsLemmas.{is_one}
 use Rattle.nf_c.proofs.feeding.feed.Goals as goal
 

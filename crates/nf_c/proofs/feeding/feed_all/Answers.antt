@@ -1,4 +1,7 @@
-use Rattle.nf_c.proofs.Common.{◌≡◌, ◌+◌, ◌-◌, ◌≤◌, length, Some, None, refl, ap, arith, rules, Write, state_of, ends}
+use Rattle.std.proofs.Common.{◌≡◌, ◌+◌, ◌-◌, ◌≤◌, length, Some, None, refl, ap, arith, rules}
+use Rattle.nf_filter.specs.declared.fault.Fault.TheVariants.{Write}
+use Rattle.nf_filter.specs.Filter.{state_of}
+use Rattle.nf_c.specs.Feeds.{ends}
 use Rattle.nf_c.proofs.FeedsLemmas.{FeedsFront-goes, FeedsFront-next, full_next, length_put}
 use Rattle.nf_c.proofs.feeding.feed_all.Goals.{else-is_full-via-then-is_full+else-len-gt1, else-is_full-via-else-is_full}
 use Rattle.nf_c.proofs.feeding.feed_all.Goals as goal

@@ -1,4 +1,9 @@
-use Rattle.nf_c.proofs.Common.{◌+◌, ◌-◌, ◌≤◌, ℕ, List, length, None, ucd, Form, Policy, state_of, StandsAfter, FeedsFront}
+use Rattle.std.proofs.Common.{◌+◌, ◌-◌, ◌≤◌, ℕ, List, length, None}
+use Rattle.nf_forms.specs.Ucd.{ucd}
+use Rattle.nf_forms.specs.declared.form.Form.{Form}
+use Rattle.nf_filter.specs.declared.policy.Policy.{Policy}
+use Rattle.nf_filter.specs.Filter.{state_of, StandsAfter}
+use Rattle.nf_c.specs.Feeds.{FeedsFront}
 use Rattle.nf_c.proofs.feeding.feed_all.Given as goal
 
 abbrev pub invariant-loop-read : goal.invariant-loop-read

@@ -1,4 +1,11 @@
-use Rattle.nf_c.proofs.Common.{◌≡◌, true, false, Some, Err, refl, sym, ap, ◌∙◌, rules, ucd, Write, TooLong, Saved, SinkState, state_of, not_fed, ends}
+use Rattle.std.proofs.Common.{◌≡◌, true, false, Some, Err, refl, sym, ap, ◌∙◌, rules}
+use Rattle.nf_forms.specs.Ucd.{ucd}
+use Rattle.nf_filter.specs.declared.fault.Fault.TheVariants.{Write, TooLong}
+use Rattle.nf_filter.specs.declared.saved.Saved.{Saved}
+use Rattle.nf_filter.specs.Devices.{SinkState}
+use Rattle.nf_filter.specs.Filter.{state_of}
+use Rattle.nf_filter.proofs.SoundnessLemmas.{not_fed}
+use Rattle.nf_c.specs.Feeds.{ends}
 use Rattle.nf_c.proofs.FeedsLemmas.{not_write, not_long, of_staying, of_feeding, too_little, FeedsFront-whole, FeedsFront-fault, FeedsFront-none}
 use Rattle.nf_c.proofs.feeding.try_piece.Goals as goal
 

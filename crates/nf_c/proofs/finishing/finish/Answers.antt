@@ -1,4 +1,6 @@
-use Rattle.nf_c.proofs.Common.{◌≡◌, Some, refl, ap, rules, Write, Saved}
+use Rattle.std.proofs.Common.{◌≡◌, Some, refl, ap, rules}
+use Rattle.nf_filter.specs.declared.fault.Fault.TheVariants.{Write}
+use Rattle.nf_filter.specs.declared.saved.Saved.{Saved}
 use Rattle.nf_c.proofs.FinishesLemmas.{FinishesFilter-at}
 use Rattle.nf_c.proofs.finishing.finish.Goals as goal
 

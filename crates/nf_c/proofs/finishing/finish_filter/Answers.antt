@@ -1,4 +1,5 @@
-use Rattle.nf_c.proofs.Common.{ap, rules, SinkState}
+use Rattle.std.proofs.Common.{ap, rules}
+use Rattle.nf_filter.specs.Devices.{SinkState}
 use Rattle.nf_c.proofs.FinishesLemmas.{FinishesFilter-from}
 use Rattle.nf_c.proofs.finishing.finish_filter.Goals as goal
 

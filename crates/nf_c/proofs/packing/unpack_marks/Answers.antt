@@ -1,5 +1,7 @@
-use Rattle.nf_c.proofs.Common.{[], ◌∷◌, ◌++◌, map, take, sym, ap, ◌∙◌, rules, take_more, map-append, IsMark, mark_at}
+use Rattle.std.proofs.Common.{[], ◌∷◌, ◌++◌, map, take, sym, ap, ◌∙◌, rules}
+use Rattle.std.proofs.lemmas.List.{take_more, map-append}
 use Rattle.std.proofs.lemmas.List.Elements.{All-more}
+use Rattle.nf_c.specs.State.{IsMark, mark_at}
 use Rattle.nf_c.proofs.packing.unpack_marks.Goals as goal
 
 pub loop-number-preserved : goal.loop-number-preserved

@@ -1,4 +1,5 @@
-use Rattle.nf_c.proofs.Common.{◌≡◌, map, take, All, IsMark, mark_at}
+use Rattle.std.proofs.Common.{◌≡◌, map, take, All}
+use Rattle.nf_c.specs.State.{IsMark, mark_at}
 use Rattle.nf_c.proofs.packing.unpack_marks.Given as goal
 
 abbrev pub invariant-loop-number : goal.invariant-loop-number

@@ -1,4 +1,7 @@
-use Rattle.nf_c.proofs.Common.{sym, ◌∙◌, subst, state_of, as_is, IsRestorable}
+use Rattle.std.proofs.Common.{sym, ◌∙◌, subst}
+use Rattle.nf_filter.specs.Filter.{state_of}
+use Rattle.nf_filter.specs.Policy.{as_is}
+use Rattle.nf_filter.specs.Saved.{IsRestorable}
 use Rattle.nf_c.proofs.starting.start.Goals as goal
 
 pub returns-clause-stands : goal.returns-clause-stands
