@@ -1,13 +1,15 @@
 -- Ill-formed parts, one behind the other.
-use Rattle.std.proofs.Common.{◌≡◌, ℕ, ◌+◌, ◌<◌, ◌≤◌, List, [], ◌∷◌, ◌++◌, length, take, drop, get_or, refl, sym, ap, subst, ◌∙◌, arith, append_assoc, length-drop, take-append-drop}
+use Rattle.std.proofs.Common.{◌≡◌, ℕ, ◌+◌, ◌<◌, ◌≤◌, List, [], ◌∷◌, ◌++◌, length, take, drop, get_or, refl, sym, ap, subst, ◌∙◌, arith, append_assoc, length-drop, take-append-drop, ⊎_elim}
 use Rattle.std.specs.Prelude.{zero, suc}
+use Rattle.std.specs.Int.{IsInRange}
+use Rattle.std.proofs.str.Laws.{order}
 use Rattle.std.proofs.lemmas.List.{take_more, map-append, drop-drop, drop-append-le}
 use Rattle.nf_utf8.specs.declared.carry.Carry.{Carry}
 use Rattle.nf_utf8.specs.declared.front.Front.TheVariants.{Begun, Bad as BadFront, Char as CharFront}
 use Rattle.nf_utf8.specs.declared.step.Step.TheVariants.{Char as CharStep, Bad as BadStep}
 use Rattle.nf_utf8.specs.Ending.{Bad}
 use Rattle.nf_utf8.specs.Front.{IsFront}
-use Rattle.nf_utf8.specs.Part.{IsPart}
+use Rattle.nf_utf8.specs.Part.{IsPart, IsContinuation}
 use Rattle.nf_utf8.specs.Reading.{text_of, ending_of}
 use Rattle.nf_utf8.specs.Replaced.{replacement, own_parts, part_end, parts_of}
 use Rattle.nf_utf8.specs.Broken.{replacements, BeginsBroken, BeginsAlone, IsBrokenFront}
@@ -15,7 +17,7 @@ use Rattle.nf_utf8.specs.Tells.{Tells}
 use Rattle.nf_utf8.specs.Text.{BeginsText}
 use Rattle.nf_utf8.proofs.BegunLen.{begun_len-is, begins_for_all, begun_len-longest}
 use Rattle.nf_utf8.proofs.ReplacedLemmas.{bytes_in-append, is_broken, broken_part, broken_end, parts_of-bad}
-use Rattle.nf_utf8.proofs.Sequences.{BeginsText-part}
+use Rattle.nf_utf8.proofs.Sequences.{BeginsText-part, no_first, no_second, second_facts}
 use Rattle.nf_utf8.proofs.StandingLemmas.{text_of-none}
 use Rattle.nf_utf8.proofs.TakingLemmas.{ending_of-broken}
 use Rattle.nf_utf8.proofs.TextLen.{no_char-text_len}
@@ -116,6 +118,20 @@ pub two_of : (bytes : List ℕ) → 1 < length bytes → bytes ≡ get_or bytes 
 two_of [] some = absurd (omega arith)
 two_of (a ∷ []) some = absurd (omega arith)
 two_of (a ∷ b ∷ rest) some = refl
+
+-- no continuation byte behind a byte that is not ASCII leaves that alone
+pub not_followed : (bytes : List ℕ) → 1 < length bytes → 0x80 ≤ get_or bytes 0 0 → ¬ IsContinuation (get_or bytes 1 0) → BeginsAlone bytes
+not_followed bytes some high apart = ⊎_elim (λ low. begins_none (λ lead. omega (arith, lead, low))) (λ lead. ⊎_elim (goes_off lead) (λ past. begins_none (λ _. past)) (order (get_or bytes 0 0) 0xF5))
+    (order (get_or bytes 0 0) 0xC2)
+  where
+    begins_none : (0xC2 ≤ get_or bytes 0 0 → 0xF5 ≤ get_or bytes 0 0) → BeginsAlone bytes
+    begins_none outside = (some, 0, omega arith, told_bad bytes [] 0 refl (omega (arith, some)) 0 tt (refl, no_first (get_or bytes 0 0) high outside))
+
+    goes_off : 0xC2 ≤ get_or bytes 0 0 → get_or bytes 0 0 < 0xF5 → BeginsAlone bytes
+    goes_off lead within =
+        let first : IsInRange 0xC2 0xF4 (get_or bytes 0 0) = (lead, omega (arith, within)) in
+        let none_goes_on = no_second (get_or bytes 0 0) (get_or bytes 1 0) first (λ second. let s = second_facts (get_or bytes 0 0) (get_or bytes 1 0) second in apart (s.low, omega (arith, s.high))) in
+        (some, 1, omega arith, told_bad bytes (get_or bytes 0 0 ∷ []) 1 (ap (take 1) (two_of bytes some)) some 1 first (refl, none_goes_on))
 
 -- a byte that may stand behind the first goes on with it
 pub goes_on : (bytes : List ℕ) → IsPart (take 2 bytes) → 1 < length bytes → ¬ BeginsAlone bytes

@@ -29,8 +29,11 @@ fn begins_alone(bytes: &[u8]) -> bool
     if bytes.len() < 2 {
         return false;
     }
-    // Most are, and this one comparison tells.
+    // Most are, and one or two comparisons tell.
     if sequence::is_continuation(bytes[0]) {
+        return true;
+    }
+    if bytes[0] >= 0x80 && !sequence::is_continuation(bytes[1]) {
         return true;
     }
     match sequence::first(bytes[0]) {

@@ -1,5 +1,5 @@
-use Rattle.std.proofs.Common.{◌<◌, [], length, refl, take, ap, subst, sym, true≢false, arith}
-use Rattle.nf_utf8.proofs.BrokenLemmas.{told_bad, told_char, two_of, goes_on}
+use Rattle.std.proofs.Common.{◌<◌, [], length, refl, take, ap, subst, sym, ◌∙◌, true≢false, arith}
+use Rattle.nf_utf8.proofs.BrokenLemmas.{told_bad, told_char, two_of, not_followed, goes_on}
 use Rattle.nf_utf8.proofs.Sequences.{no_first}
 use Rattle.nf_utf8.specs.Part.{IsPart}
 use Rattle.nf_utf8.proofs.alone.begins_alone.Goals as goal
@@ -9,6 +9,12 @@ returns-then-is_continuation c =
     let range = c.is_continuation.ensures.0 c.if-is_continuation.true in
     let bad = told_bad c.args.bytes.now [] 0 refl (omega (arith, c.if-bytes-lt2.false)) 0 tt (refl, no_first _ range.0 (λ lead. omega (arith, range.1, lead))) in
     (λ _. (omega (arith, c.if-bytes-lt2.false), 0, omega arith, bad), λ _. refl)
+
+pub returns-then-not-is_continuation : goal.returns-then-not-is_continuation
+returns-then-not-is_continuation c =
+    let alone = not_followed c.args.bytes.now (omega (arith, c.if-bytes-lt2.false)) c.if-bytes-ge128.true
+    (λ goes. true≢false (sym (c.is_continuation-then-bytes-ge128.ensures.1 goes) ∙ c.if-not-is_continuation.true)) in
+    (λ _. alone, λ _. refl)
 
 pub returns-in-Bad : goal.returns-in-Bad
 returns-in-Bad c =
