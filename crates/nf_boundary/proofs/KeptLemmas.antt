@@ -92,7 +92,6 @@ module _ (f : Form) (sound : (c : ℕ) → IsTrue (is_sound ucd c)) (first : See
 -- ---- from one boundary to another
 
 module _ (f : Form) (text : List ℕ) where
-
   pub stands_kept : (first next : Seen) → Stands f text first → KeepsTo f first.text.now next → Stands f text next
   stands_kept first next here more = record {
     front = here.front ++ more.front;

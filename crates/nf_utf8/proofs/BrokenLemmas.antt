@@ -81,9 +81,9 @@ module _ (bytes : List ℕ) (at : ℕ) (bad : ending_of bytes ≡ Bad at 0) wher
     size = omega arith;
     within = (broken_end bytes at 0 bad).1;
     front = λ more.
-      parts_of-bad bytes more at 0 bad
-      ∙ ap (λ x. own_parts x ++ broken_part at 0 ∷ parts_of (drop (part_end at 0) (bytes ++ more))) none
-      ∙ ap (λ l. broken_part at 0 ∷ parts_of l) (drop-append-le (part_end at 0) bytes more (broken_end bytes at 0 bad).1);
+        parts_of-bad bytes more at 0 bad
+        ∙ ap (λ x. own_parts x ++ broken_part at 0 ∷ parts_of (drop (part_end at 0) (bytes ++ more))) none
+        ∙ ap (λ l. broken_part at 0 ∷ parts_of l) (drop-append-le (part_end at 0) bytes more (broken_end bytes at 0 bad).1);
   }
 
 -- one such front behind another
@@ -94,8 +94,8 @@ both_fronts bytes p l q m is next = record {
   size = omega (arith, bytes_in-append is.parts next.parts, is.size, next.size);
   within = omega (arith, next.within, length-drop l bytes, is.within);
   front = λ more.
-    is.front more ∙ ap (λ l. is.parts ++ l) (next.front more ∙ ap (λ l. next.parts ++ parts_of (l ++ more)) (drop-drop m l bytes))
-    ∙ sym (append_assoc is.parts next.parts (parts_of (drop (l + m) bytes ++ more)));
+      is.front more ∙ ap (λ l. is.parts ++ l) (next.front more ∙ ap (λ l. next.parts ++ parts_of (l ++ more)) (drop-drop m l bytes))
+      ∙ sym (append_assoc is.parts next.parts (parts_of (drop (l + m) bytes ++ more)));
 }
 
 pub one_more : (bytes : List ℕ) (count len at : ℕ) → IsBrokenFront bytes count len → ending_of (drop len bytes) ≡ Bad at 0 → IsBrokenFront bytes (count + 1) (len + part_end at 0)

@@ -39,7 +39,7 @@ loop-parts-preserved-then-at-lt2 c =
       few = omega (arith, c.loop-parts-test.true, c.alone_front-alone.ensures.few);
       some = omega (arith, c.loop-parts.invariant.some, len, part_end-after c.in-Some.at 0 (omega arith));
       broken = both_fronts bytes (c.loop-parts.parts + 1) (c.loop-parts.len + c.part_len-len.result) c.alone_front-alone.result c.alone_front-alone.result front
-        (rw take_rest at c.alone_front-alone.ensures.broken);
+          (rw take_rest at c.alone_front-alone.ensures.broken);
     }
 
 pub loop-parts-preserved : goal.loop-parts-preserved
