@@ -124,7 +124,7 @@ impl Normalizer {
         }
     }
 
-    /// The mark that the form has of `c`, where it is known to have one and nothing else.
+    /// What the form has of `c`, where that is known and no closed text begins so: a mark, or a starter that counts as one.
     #[inline(always)]
     fn mark_of<R: Rows>(&self, rows: &R, c: char) -> Option<Single>
         ensures { IfSome result (λ mark. IsSingle (R.properties rows.now) self.now.form c mark) }
@@ -132,10 +132,7 @@ impl Normalizer {
         match rows.kind(self.form, c) {
             Kind::Mark { class, .. } => Some(Single::of_own(c, class)),
             Kind::Parts => None,
-            Kind::Other => match rows.single(self.form, c) {
-                Some(single) if single.class != 0 => Some(single),
-                _ => None,
-            },
+            Kind::Other => rows.single(self.form, c),
         }
     }
 
