@@ -1,18 +1,23 @@
 //! Texts whose closed front was found by hand, from UnicodeData.txt and DerivedNormalizationProps.txt.
-use crate::reference::{FORMS, checked};
+use crate::reference::checked;
 use nf_boundary::{Formed, closed_front};
 use nf_forms::Form;
 use std::alloc::Global;
 use std::process::Abort;
 use std::test::Fail;
 
-const TWELVE: &str =
+pub(crate) const TWELVE: &str =
     "\u{316}\u{316}\u{316}\u{316}\u{316}\u{316}\u{316}\u{316}\u{316}\u{316}\u{316}\u{316}";
 
 /// What stands as it is, what the form changes, its form, and the rest of the text that they make up.
 type Front = (&'static str, &'static str, &'static str, &'static str);
 
-fn check<T: Abort>(rt: &T, alloc: Global, form: Form, fronts: &[Front]) -> Result<(), Fail> {
+pub(crate) fn check<T: Abort>(
+    rt: &T,
+    alloc: Global,
+    form: Form,
+    fronts: &[Front],
+) -> Result<(), Fail> {
     for (same, changed, formed, rest) in fronts {
         let text = format!(in alloc; "{same}{changed}{rest}")?;
         let mut characters = Formed::new();
@@ -34,7 +39,7 @@ fn check<T: Abort>(rt: &T, alloc: Global, form: Form, fronts: &[Front]) -> Resul
     Ok(())
 }
 
-fn is_none(form: Form, text: &str) -> bool {
+pub(crate) fn is_none(form: Form, text: &str) -> bool {
     closed_front(form, text, &mut Formed::new()).is_none()
 }
 
@@ -248,123 +253,4 @@ fn none(rt: HostRuntime) {
             "\u{FF9E}b",
         ],
     );
-}
-
-/// U+FF9E and U+FF9F are their own rows in the canonical forms. Calm text behind them begins another front.
-#[test]
-fn halfwidth_marks_stay(rt: HostRuntime) -> Result<(), Fail> {
-    let fronts = [
-        ("\u{FF76}\u{FF9E}", "", "", "b"),
-        (
-            "a\u{FF76}\u{FF9E}\u{FF8A}\u{FF9F}\u{FF9E}",
-            "",
-            "",
-            "\u{FF77}c\u{FF8A}\u{FF9F}b",
-        ),
-        ("\u{FF76}\u{FF9E}", "", "", "x\u{FF9E}\u{301}y"),
-    ];
-    check(&rt, rt.alloc(), Form::Nfc, &fronts)?;
-    check(&rt, rt.alloc(), Form::Nfd, &fronts)?;
-    let composed = [("\u{FF76}\u{FF9E}", "e\u{301}", "\u{E9}", "b")];
-    check(&rt, rt.alloc(), Form::Nfc, &composed)?;
-    let decomposed = [("\u{FF76}\u{FF9E}", "\u{E9}", "e\u{301}", "b")];
-    check(&rt, rt.alloc(), Form::Nfd, &decomposed)
-}
-
-/// A row has at most 18 members, so that 12 marks make no run too long behind any character.
-#[test]
-fn twelve_halfwidth_marks_stay(rt: HostRuntime) -> Result<(), Fail> {
-    let marks = "\u{FF9E}".repeat(rt.alloc(), 12)?;
-    let twelve = format!(in rt.alloc(); "\u{FF76}{marks}b")?;
-    assert_eq!(rt; checked(&rt, rt.alloc(), Form::Nfc, &twelve)?, Some("b"));
-    let marks = "\u{FF9E}".repeat(rt.alloc(), 13)?;
-    let thirteen = format!(in rt.alloc(); "\u{FF76}{marks}b")?;
-    assert_eq!(rt; is_none(Form::Nfc, &thirteen), true);
-    Ok(())
-}
-
-/// As many marks may be left as stand in a run.
-#[test]
-fn thirteen_marks_are_left(rt: HostRuntime) -> Result<(), Fail> {
-    let twelve = format!(in rt.alloc(); "b{TWELVE}c")?;
-    assert_eq!(rt; checked(&rt, rt.alloc(), Form::Nfc, &twelve)?, Some("c"));
-    let thirteen = format!(in rt.alloc(); "a\u{301}{TWELVE}\u{316}c")?;
-    assert_eq!(rt; checked(&rt, rt.alloc(), Form::Nfc, &thirteen)?, Some("c"));
-    Ok(())
-}
-
-/// The classes of U+0334, U+093C, U+094D, U+05B0, U+05B7, U+05BC, U+0327, U+0323, U+0301, U+0300 and U+0302, and U+0345 are
-/// 1, 7, 9, 10, 17, 21, 202, 220, 230 and 240.
-#[test]
-fn marks_out_of_order(rt: HostRuntime) -> Result<(), Fail> {
-    let points = "\u{5D0}\u{5B7}\u{5BC}\u{5B0}";
-    let ordered = "\u{5D0}\u{5B0}\u{5B7}\u{5BC}";
-    let (virama, nukta) = (
-        "\u{915}\u{301}\u{94D}\u{93C}",
-        "\u{915}\u{93C}\u{94D}\u{301}",
-    );
-    let (four, stable) = (
-        "x\u{301}\u{300}\u{334}\u{323}",
-        "x\u{334}\u{323}\u{301}\u{300}",
-    );
-    let composed = [
-        ("", "a\u{301}\u{323}", "\u{1EA1}\u{301}", "b"),
-        ("", four, stable, "b"),
-        (
-            "",
-            "e\u{301}\u{327}x\u{301}\u{323}",
-            "\u{229}\u{301}x\u{323}\u{301}",
-            "b",
-        ),
-        (
-            "",
-            "a\u{323}\u{323}\u{334}\u{302}",
-            "\u{1EAD}\u{334}\u{323}",
-            "b",
-        ),
-        ("", "c\u{345}\u{301}\u{327}", "\u{1E09}\u{345}", "b\u{323}"),
-        ("", points, ordered, "\u{5D1}"),
-        ("", virama, nukta, "\u{915}"),
-    ];
-    check(&rt, rt.alloc(), Form::Nfc, &composed)?;
-    check(&rt, rt.alloc(), Form::Nfkc, &composed)?;
-    let decomposed = [
-        ("", "a\u{301}\u{323}", "a\u{323}\u{301}", "b"),
-        ("", four, stable, "b"),
-        (
-            "",
-            "e\u{301}\u{327}x\u{301}\u{323}",
-            "e\u{327}\u{301}x\u{323}\u{301}",
-            "b",
-        ),
-        (
-            "",
-            "a\u{323}\u{323}\u{334}\u{302}",
-            "a\u{334}\u{323}\u{323}\u{302}",
-            "b",
-        ),
-        (
-            "",
-            "c\u{345}\u{301}\u{327}",
-            "c\u{327}\u{301}\u{345}",
-            "\u{E9}",
-        ),
-        ("", points, ordered, "\u{5D1}"),
-        ("", virama, nukta, "\u{958}"),
-    ];
-    check(&rt, rt.alloc(), Form::Nfd, &decomposed)?;
-    check(&rt, rt.alloc(), Form::Nfkd, &decomposed)
-}
-
-/// At most 30 marks (UAX #15, section 13).
-#[test]
-fn thirty_marks_out_of_order(rt: HostRuntime) -> Result<(), Fail> {
-    let marks = "\u{301}\u{323}".repeat(rt.alloc(), 15)?;
-    let thirty = format!(in rt.alloc(); "q{marks}b")?;
-    let more = format!(in rt.alloc(); "q{marks}\u{323}b")?;
-    for form in FORMS {
-        assert_eq!(rt; checked(&rt, rt.alloc(), form, &thirty)?, Some("b"));
-        assert_eq!(rt; is_none(form, &more), true);
-    }
-    Ok(())
 }

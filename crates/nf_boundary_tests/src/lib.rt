@@ -7,6 +7,8 @@ mod fronts;
 #[cfg(test)]
 mod hangul;
 #[cfg(test)]
+mod marked;
+#[cfg(test)]
 mod mixtures;
 #[cfg(test)]
 mod reference;
