@@ -15,7 +15,8 @@ use Rattle.nf_boundary.specs.Seen.{IsAtBoundary}
 use Rattle.nf_boundary.specs.Pieces.{Closes}
 use Rattle.nf_boundary.proofs.LetterLemmas.{boundary-first, closes_letter}
 
-row_is : (f : Form) (c : ℕ) → decompose (kit_form f) c ≡ row_of f ucd c
+-- what the kit calls the decomposition of a character is the row
+pub row_is : (f : Form) (c : ℕ) → decompose (kit_form f) c ≡ row_of f ucd c
 unfolding ucd decompose
 row_is Nfc c = refl
 row_is Nfd c = refl

@@ -4,5 +4,6 @@ pub mod LetterLemmas
 pub mod KeptLemmas
 pub mod JoinLemmas
 pub mod ApartLemmas
+pub mod RowLemmas
 pub mod HangulLemmas
 pub mod MarkedLemmas

@@ -9,9 +9,9 @@ use Rattle.nf_forms.specs.Runs.{lead}
 use Rattle.nf_forms.specs.declared.form.Form.{Form}
 use Rattle.nf_forms.specs.Forms.{composes}
 use Rattle.nf_forms.specs.Sound.{is_sound}
-use Rattle.nf_forms.specs.Parting.{IsBoundary, IsParting}
+use Rattle.nf_forms.specs.Parting.{BeginsAnew, IsBoundary, IsParting}
 use Rattle.nf_forms.specs.Ucd.{ucd}
-use Rattle.nf_forms.specs.Laws.ClosedForms.{parting-boundary, boundary-decomposing}
+use Rattle.nf_forms.specs.Laws.ClosedForms.{counts_anew-lead, parting-boundary, boundary-decomposing}
 use Rattle.nf_facts.specs.Passing.{is_among, is_yes, halfwidth_marks, vowel_signs, passes_check}
 use Rattle.nf_boundary.specs.declared.seen.Seen.{Seen}
 use Rattle.nf_boundary.specs.Seen.{Sees, IsAtBoundary}
@@ -46,6 +46,13 @@ module _ (f : Form) (seen : Seen) (here : Sees f seen) where
         let marks = or_parts (is_among halfwidth_marks seen.character) (is_among vowel_signs seen.character) plain in
         at (parting-boundary ucd f seen.character (parting seen.character
         (and_from _ _ (and_from _ _ (eq-eqb (canonical_combining_class seen.character) 0 starter) (ap is_yes (sym here.answer ∙ is))) (not_from_false _ marks.0))))
+
+    -- where it is changed, by its decomposition
+    pub boundary_row : ((c : ℕ) → canonical_combining_class c ≡ 0 → is_among vowel_signs c ≡ false → is_among halfwidth_marks c ≡ false → lead ucd (ucd.compat c) ≡ 0)
+        → BeginsAnew ucd f seen.character → IsAtBoundary f seen
+    boundary_row begins anew =
+        let marks = or_parts (is_among halfwidth_marks seen.character) (is_among vowel_signs seen.character) plain in
+        at (record { anew = anew; counts = counts_anew-lead ucd f seen.character (sound seen.character) (begins seen.character starter marks.1 marks.0) })
 
     -- in one that does not
     pub boundary_apart : ((c : ℕ) → canonical_combining_class c ≡ 0 → is_among vowel_signs c ≡ false → is_among halfwidth_marks c ≡ false → lead ucd (ucd.compat c) ≡ 0)

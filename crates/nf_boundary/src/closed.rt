@@ -1,7 +1,7 @@
 use arrayvec::ArrayVec;
 
-/// Up to 31 characters of a normalization form.
-pub type Formed = ArrayVec<char, 31>;
+/// Up to 255 characters of a normalization form.
+pub type Formed = ArrayVec<char, 255>;
 
 /// A front of a text that begins at a normalization boundary and ends before another. Its form is `same`, which stands in
 /// the text as it is, and behind it the characters that were put into the caller's `Formed`.

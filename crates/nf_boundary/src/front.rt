@@ -11,6 +11,7 @@ use crate::composing::compose_cluster;
 use crate::hangul::take_syllable;
 use crate::kept::keep_halfwidth;
 use crate::marks::take_marked;
+use crate::rows::rows_front;
 use crate::seen::Seen;
 use nf_calm::calm_front;
 use nf_facts::laws;
@@ -22,12 +23,16 @@ use nf_forms::Form;
 pub fn closed_front<'t>(form: Form, text: &'t str, formed: &mut Formed) -> Option<Closed<'t>>
     ensures { IfSome result (λ closed. IsClosedFront ucd form text.now closed.same.now formed.new.items closed.rest.now) }
 {
-    match form {
+    let closed = match form {
         Form::Nfc => front_in(Form::Nfc, text, formed),
         Form::Nfd => front_in(Form::Nfd, text, formed),
         Form::Nfkc => front_in(Form::Nfkc, text, formed),
         Form::Nfkd => front_in(Form::Nfkd, text, formed),
+    };
+    if closed.is_none() && form.composes() {
+        return rows_front(form, text, formed);
     }
+    closed
 }
 
 /// Each form has a copy of the loops of its own.

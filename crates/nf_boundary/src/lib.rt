@@ -13,6 +13,7 @@ mod hangul;
 mod kept;
 mod mark;
 mod marks;
+mod rows;
 mod seen;
 
 pub use closed::{Closed, Formed};

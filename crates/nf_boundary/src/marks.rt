@@ -10,9 +10,12 @@ use nf_facts::laws;
 use nf_forms::Form;
 use ucd_normal::{Form as TableForm, QuickCheck, quick_check};
 
+/// As many non-starters may follow one another in NFKD (UAX #15, section 13).
+const MAX_RUN: usize = 30;
+
 /// Where more characters than this are there, the next run is left for another front: it may have no room, and would then
 /// have been read in vain.
-const MOST_BEFORE: usize = 15;
+const MOST_BEFORE: usize = 224;
 
 /// Appends what the starters become that the text begins with, each with the marks behind it, as far as a boundary comes
 /// behind those; answers the last boundary. It stands out of line, to keep its callers' loops short.
@@ -61,7 +64,7 @@ fn take_run<'t>(form: nf_forms::Form, first: Seen<'t>, formed: &mut Formed) -> O
     }
     let mut run = Run::new();
     while next.class != 0 {
-        if next.answer == QuickCheck::No || run.len() + 1 >= formed.remaining_capacity() {
+        if next.answer == QuickCheck::No || run.len() >= MAX_RUN {
             return None;
         }
         let mark = Mark {

@@ -102,7 +102,7 @@ impl<'t> Seen<'t> {
 
 /// Whether `c` is one of the five starters whose compatibility decompositions begin with a non-starter.
 #[inline]
-const fn begins_with_mark(c: char) -> bool
+pub(crate) const fn begins_with_mark(c: char) -> bool
     ensures { result ≡ (is_among halfwidth_marks c || is_among vowel_signs c) }
 {
     matches!(

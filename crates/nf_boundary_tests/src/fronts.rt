@@ -43,7 +43,7 @@ pub(crate) fn is_none(form: Form, text: &str) -> bool {
     closed_front(form, text, &mut Formed::new()).is_none()
 }
 
-fn check_none<T: Abort>(rt: &T, form: Form, texts: &[&str]) {
+pub(crate) fn check_none<T: Abort>(rt: &T, form: Form, texts: &[&str]) {
     for text in texts {
         assert!(rt; is_none(form, text), "{form:?}: {text:?}");
     }
@@ -161,7 +161,7 @@ fn letters_that_do_not_compose(rt: HostRuntime) -> Result<(), Fail> {
 /// As many as there is room for, or the front ends before them. With each letter a new run of marks begins.
 #[test]
 fn letters_up_to_the_room(rt: HostRuntime) -> Result<(), Fail> {
-    let vowels = "\u{1161}".repeat(rt.alloc(), 30)?;
+    let vowels = "\u{1161}".repeat(rt.alloc(), 254)?;
     let text = format!(in rt.alloc(); "a{vowels}b")?;
     assert_eq!(rt; checked(&rt, rt.alloc(), Form::Nfc, &text)?, Some("b"));
     let text = format!(in rt.alloc(); "e\u{301}a{vowels}b")?;
@@ -181,9 +181,9 @@ fn letters_up_to_the_room(rt: HostRuntime) -> Result<(), Fail> {
 #[test]
 fn syllables_up_to_the_room(rt: HostRuntime) -> Result<(), Fail> {
     let letters = "\u{1112}\u{1161}\u{11AB}";
-    let many = letters.repeat(rt.alloc(), 40)?;
+    let many = letters.repeat(rt.alloc(), 300)?;
     let text = format!(in rt.alloc(); "{many}b")?;
-    let left = letters.repeat(rt.alloc(), 9)?;
+    let left = letters.repeat(rt.alloc(), 45)?;
     let behind = format!(in rt.alloc(); "{left}b")?;
     assert_eq!(rt;
         checked(&rt, rt.alloc(), Form::Nfc, &text)?,
@@ -215,7 +215,7 @@ fn decomposed(rt: HostRuntime) -> Result<(), Fail> {
             "",
             "\u{FDFA}",
             "\u{635}\u{644}\u{649} \u{627}\u{644}\u{644}\u{647} \u{639}\u{644}\u{64A}\u{647} \u{648}\u{633}\u{644}\u{645}",
-            "\u{FDFA}x",
+            "x",
         ),
     ];
     check(&rt, rt.alloc(), Form::Nfkd, &compatible)

@@ -13,4 +13,6 @@ mod mixtures;
 #[cfg(test)]
 mod reference;
 #[cfg(test)]
+mod rows;
+#[cfg(test)]
 mod sweep;

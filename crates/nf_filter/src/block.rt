@@ -3,7 +3,6 @@ ghost use Rattle.nf_filter.specs.Writes.{Puts, BreaksOff};
 
 use crate::devices::{Failed, Sink};
 use arrayvec::ArrayVec;
-use nf_pending::Segment;
 
 /// The most bytes that are given to a sink at once.
 const ROOM: usize = 4096;
@@ -36,7 +35,8 @@ impl<'s, S: Sink> Block<'s, S> {
 
     /// Appends the UTF-8 of the segment. Where that might not fit, the sink is given first what is kept.
     #[inline]
-    pub fn push(&mut self, segment: &Segment) -> Result<(), Failed>
+    pub fn push<const MOST: usize>(&mut self, segment: &ArrayVec<char, MOST>) -> Result<(), Failed>
+        requires few { MOST ≤ 1024 }
         ensures lent { self.new.sink.ghost_name ≡ self.old.sink.ghost_name }
         ensures lender { (S.state self.new.sink.now).lender ≡ (S.state self.old.sink.now).lender }
         ensures writes { (start : Start) (w : List ℕ) → Written start (block_state S.state self.old) w
@@ -47,7 +47,7 @@ impl<'s, S: Sink> Block<'s, S> {
                 return Err(failed);
             }
         }
-        push_utf8_all(&mut self.bytes, segment);
+        push_utf8_all(&mut self.bytes, segment.as_slice());
         Ok(())
     }
 
@@ -84,13 +84,13 @@ impl<'s, S: Sink> Block<'s, S> {
     }
 }
 
-/// Appends the UTF-8 of the segment.
+/// Appends the UTF-8 of the characters.
 #[inline]
-fn push_utf8_all(bytes: &mut ArrayVec<u8, ROOM>, segment: &Segment)
-    requires { length bytes.old.items + 4 * length segment.now.items ≤ 4096 }
-    ensures { bytes.new.items ≡ bytes.old.items ++ encode_utf8_all segment.now.items }
+fn push_utf8_all(bytes: &mut ArrayVec<u8, ROOM>, characters: &[char])
+    requires { length bytes.old.items + 4 * length characters.now ≤ 4096 }
+    ensures { bytes.new.items ≡ bytes.old.items ++ encode_utf8_all characters.now }
 {
-    for c in segment.as_slice() {
+    for c in characters {
         push_utf8(bytes, *c);
     }
 }

@@ -1,3 +1,4 @@
+mod AloneLemmas
 mod AsciiLemmas
 mod BegunLen
 mod BrokenLemmas

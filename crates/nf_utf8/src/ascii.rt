@@ -2,12 +2,10 @@ ghost use Rattle.std.specs.Prelude.{◌≡◌, ◌+◌, ◌<◌, ◌≤◌, ℕ,
 ghost use Rattle.std.specs.Str.{IsAscii};
 ghost use Rattle.std.specs.Simd.Lanes.{mask_l};
 
+use crate::lanes::{LANES, at_least};
 use std::simd::prelude::*;
 
-/// The bytes that are looked at together.
-const LANES: usize = 32;
-
-/// And those where fewer than that are left.
+/// The bytes that are looked at together, where fewer than 32 are left.
 const FEW: usize = 8;
 
 /// The length in bytes of the longest prefix of bytes below 80 (hexadecimal).
@@ -18,21 +16,13 @@ pub fn ascii_prefix(bytes: &[u8]) -> usize
 {
     let mut at = 0;
     while bytes.len() - at >= LANES {
-        let others = not_ascii(u8x32::from_slice(&bytes[at..]));
+        let others = at_least(u8x32::from_slice(&bytes[at..]), 0x80);
         if others != 0 {
             return at + others.trailing_zeros() as usize;
         }
         at += LANES;
     }
     by_few(bytes, at)
-}
-
-/// A bit for each lane, the lowest for the first: whether its byte is 80 or above.
-#[inline(always)]
-fn not_ascii(lanes: u8x32) -> u64
-    ensures { result ≡ mask_l (map (λ byte. leb 0x80 byte) lanes) }
-{
-    lanes.simd_ge(u8x32::splat(0x80)).to_bitmask()
 }
 
 /// The end of the prefix, a few bytes at a time from `from` on.
@@ -54,7 +44,7 @@ fn by_few(bytes: &[u8], from: usize) -> usize
     by_bytes(bytes, at)
 }
 
-/// A bit for each of these few lanes.
+/// A bit for each of these few lanes, the lowest for the first: whether its byte is 80 or above.
 #[inline(always)]
 fn not_ascii_of_few(lanes: u8x8) -> u64
     ensures { result ≡ mask_l (map (λ byte. leb 0x80 byte) lanes) }

@@ -19,6 +19,7 @@ mod chunk;
 mod counting;
 mod decoder;
 mod front;
+mod lanes;
 pub mod laws;
 mod sequence;
 mod step;

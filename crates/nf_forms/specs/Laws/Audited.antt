@@ -92,6 +92,9 @@ module _ (p : Properties) where
       let parts = and_parts (is_own row c) (list_all (is_own row) w) all in
       ap₂ (λ u v. u ++ v) (own-true row c parts.0) (flat_map-own row w parts.1)
 
+  pub flat_map-full : (row : ℕ → List ℕ) (w : List ℕ) → IsFull row w → flat_map row w ≡ w
+  flat_map-full row w full = flat_map-own row w (is_own-full row w full)
+
   abbrev has_own_mark : ℕ → Bool
   has_own_mark c = is_starter p c || is_own p.compat c
 

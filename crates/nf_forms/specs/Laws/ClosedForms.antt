@@ -1,4 +1,4 @@
--- Closed texts whose form is known: nothing, calm text, and a character that is taken apart where the form does not compose.
+-- Closed texts whose form is known: nothing, calm text, and a character whose form is its row.
 use Rattle.std.proofs.Common.{◌≡◌, ℕ, ◌≤◌, ◌+◌, Bool, true, false, not, cond, List, [], ◌∷◌, ◌++◌, length, refl, sym, ap, ◌∙◌, arith, append-nil}
 use Rattle.std.proofs.lemmas.Bool.{and_from, and_parts, or_left}
 use Rattle.nf_forms.specs.Properties.{Properties, is_starter}
@@ -6,7 +6,7 @@ use Rattle.nf_forms.specs.Runs.{has_starter, lead}
 use Rattle.nf_forms.specs.Ordering.{is_ordered}
 use Rattle.nf_forms.specs.declared.form.Form.{Form}
 use Rattle.nf_forms.specs.declared.form.Form.TheVariants.{Nfc, Nfd, Nfkc, Nfkd}
-use Rattle.nf_forms.specs.Forms.{row_of, composes, arranged, normal_form}
+use Rattle.nf_forms.specs.Forms.{row_of, decomposed, composes, arranged, normal_form}
 use Rattle.nf_forms.specs.StreamSafe.{max_run, stream_safe}
 use Rattle.nf_forms.specs.SafeForm.{safe_form}
 use Rattle.nf_forms.specs.Sound.{is_sound}
@@ -102,3 +102,17 @@ module _ (p : Properties) (f : Form) where
     safe = stream_safe-one c (let none = boundary.counts.lead in omega arith);
     form = ap (λ row. arranged (composes f) p row) (append-nil (row_of f p c)) ∙ ap (λ b. arranged b p (row_of f p c)) plain ∙ order-ordered p (row_of f p c) ordered;
   }
+
+  -- in each form it is so where the row is calm text, each member of which is its own row
+  pub HasForm-calm_row : (c : ℕ) → IsBoundary p f c → is_sound p c ≡ true → decomposed f p (row_of f p c) ≡ row_of f p c → (class count : ℕ) → IsCalm p f (row_of f p c) class count
+      → HasForm p f (c ∷ []) (row_of f p c)
+  unfolding safe_form
+  HasForm-calm_row c boundary sound own class count calm =
+      let row = row_of f p c in
+      let alone = safe_form-calm_alone p f row class count calm in
+      record {
+        begins = record { first = c; rest = []; text = refl; boundary = boundary; sound = sound };
+        sound = and_from _ _ sound refl;
+        safe = stream_safe-one c (let none = boundary.counts.lead in omega arith);
+        form = ap (λ w. arranged (composes f) p w) (append-nil row ∙ sym own) ∙ ap (normal_form f p) (sym alone.0) ∙ alone.1;
+      }

@@ -1,4 +1,4 @@
-use Rattle.std.proofs.Common.{rules, ◌≡◌, ◌≢◌, ◌+◌, ◌<◌, [], length, sym, ap, subst, refl, ◌∙◌}
+use Rattle.std.proofs.Common.{rules, ◌≡◌, ◌≢◌, ◌≤◌, ◌<◌, [], length, sym, subst, refl, ◌∙◌}
 use Rattle.ucd_normal.specs.declared.forms.QuickCheck.TheVariants.{Yes, No}
 use Rattle.ucd_normal.specs.declared.forms.Form.TheVariants.{Nfkd}
 use Rattle.ucd_normal.specs.QuickCheck.{quick_check}
@@ -12,8 +12,7 @@ pub loop-next-init : goal.loop-next-init
 loop-next-init c =
     let passes : quick_check Nfkd c.args.first.character ≡ Yes = search rules in
     let none : [] ≡ c.new-run.result.items = sym c.new-run.ensures in
-    let empty : length c.new-run.result.items ≡ 0 = ap length c.new-run.ensures in
-    let room : length c.args.formed.now.items + length c.new-run.result.items < 31 = search rules in
+    let room : length c.args.formed.now.items ≤ 224 = search rules in
     record {
       holds = subst (HoldsMarks c.args.form c.args.first c.in_ok-next.next) none
           (marks_none c.args.form c.args.first c.requires (c.what_passes_in_nfkd_is_its_own_row.ensures c.args.first.character passes) c.in_ok-next.next c.in_ok-next.ensures.0 c.in_ok-next.ensures.1);
@@ -30,12 +29,11 @@ loop-next-preserved c =
     let some : seen.class ≢ 0 = search rules in
     let may : seen.answer ≢ No = search rules in
     let few : length c.loop-next.run.items < 30 = search rules in
-    let room : length c.args.formed.now.items + length c.hold.new.run.items < 31 = search rules in
     record {
       holds = marks_more c.args.form c.args.first c.requires seen c.loop-next.run.items c.loop-next.invariant.holds some
           (mark_seen c.args.form seen c.loop-next.invariant.holds.spans.sees (c.the_quick_check_tells.ensures.mark c.args.form) some may) few
           c.hold.new.run.items c.hold.ensures.items c.in_ok-next-2.next c.in_ok-next-2.ensures.0 c.in_ok-next-2.ensures.1;
-      room = room;
+      room = c.loop-next.invariant.room;
       formed = refl;
     }
 

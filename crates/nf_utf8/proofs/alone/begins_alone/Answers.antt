@@ -1,14 +1,13 @@
-use Rattle.std.proofs.Common.{◌<◌, [], length, refl, take, ap, subst, sym, ◌∙◌, true≢false, arith}
+use Rattle.std.proofs.Common.{◌<◌, length, refl, take, ap, subst, sym, ◌∙◌, true≢false, arith}
 use Rattle.nf_utf8.proofs.BrokenLemmas.{told_bad, told_char, two_of, not_followed, goes_on}
-use Rattle.nf_utf8.proofs.Sequences.{no_first}
+use Rattle.nf_utf8.proofs.AloneLemmas.{continues_none}
 use Rattle.nf_utf8.specs.Part.{IsPart}
 use Rattle.nf_utf8.proofs.alone.begins_alone.Goals as goal
 
 pub returns-then-is_continuation : goal.returns-then-is_continuation
 returns-then-is_continuation c =
     let range = c.is_continuation.ensures.0 c.if-is_continuation.true in
-    let bad = told_bad c.args.bytes.now [] 0 refl (omega (arith, c.if-bytes-lt2.false)) 0 tt (refl, no_first _ range.0 (λ lead. omega (arith, range.1, lead))) in
-    (λ _. (omega (arith, c.if-bytes-lt2.false), 0, omega arith, bad), λ _. refl)
+    (λ _. continues_none c.args.bytes.now (omega (arith, c.if-bytes-lt2.false)) range.0 (omega (arith, range.1)), λ _. refl)
 
 pub returns-then-not-is_continuation : goal.returns-then-not-is_continuation
 returns-then-not-is_continuation c =

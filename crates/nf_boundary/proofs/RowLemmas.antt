@@ -1,0 +1,97 @@
+-- Characters the form of each of which is its row, since each member of that passes the quick check.
+use Rattle.std.proofs.Common.{◌≡◌, ℕ, ◌≤◌, ◌==◌, ◌&&◌, true, false, List, [], ◌∷◌, ◌++◌, length, get_or, refl, ap, sym, subst, ◌∙◌, inl, inr, arith}
+use Rattle.std.proofs.lemmas.Bool.{and_parts, and_from, not_from_false, eq-eqb}
+use Rattle.std.proofs.lemmas.Str.{IsUtf8-nil}
+use Rattle.std.specs.Prelude.{IsTrue, encode_utf8}
+use Rattle.ucd_normal.specs.declared.forms.QuickCheck.{QuickCheck}
+use Rattle.ucd_normal.specs.declared.forms.QuickCheck.TheVariants.{Yes, No, Maybe}
+use Rattle.ucd_normal.specs.CanonicalCombiningClass.{canonical_combining_class}
+use Rattle.ucd_normal.specs.QuickCheck.{quick_check}
+use Rattle.std.specs.List.{list_all, All}
+use Rattle.std.proofs.lemmas.List.Sums.{list_all-from_AllPass}
+use Rattle.nf_forms.specs.declared.form.Form.{Form}
+use Rattle.nf_forms.specs.declared.form.Form.TheVariants.{Nfc, Nfd, Nfkc, Nfkd}
+use Rattle.nf_forms.specs.Forms.{row_of, decomposed}
+use Rattle.nf_forms.specs.Sound.{max_row, is_sound}
+use Rattle.nf_forms.specs.Calm.{IsCalm}
+use Rattle.nf_forms.specs.Closed.{HasForm}
+use Rattle.nf_forms.specs.Laws.Sound.{IsSoundText}
+use Rattle.nf_forms.specs.Parting.{NeverSecond, BeginsAnew, IsParting}
+use Rattle.nf_forms.specs.Audit.{IsFull}
+use Rattle.nf_forms.specs.Ucd.{ucd}
+use Rattle.nf_forms.specs.Laws.Audited.{flat_map-full}
+use Rattle.nf_forms.specs.Laws.CalmSteps.{begins_run, calm-all}
+use Rattle.nf_forms.specs.Laws.ClosedForms.{HasForm-calm, HasForm-calm_row}
+use Rattle.nf_facts.specs.KitForm.{kit_form}
+use Rattle.nf_facts.specs.Passing.{is_among, halfwidth_marks, is_yes, passes_check}
+use Rattle.unicode_normalization.specs.Decompose.{decompose}
+use Rattle.nf_boundary.specs.declared.seen.Seen.{Seen}
+use Rattle.nf_boundary.specs.Seen.{IsAtBoundary}
+use Rattle.nf_boundary.specs.Pieces.{Closes}
+use Rattle.nf_boundary.specs.Stands.{Stands}
+use Rattle.nf_boundary.proofs.ApartLemmas.{row_is}
+use Rattle.nf_boundary.proofs.LetterLemmas.{letter_utf8, chars-letter, boundary-first, closes_letter}
+
+row_own : ((c : ℕ) → IsFull ucd.canonical (ucd.canonical c)) → ((c : ℕ) → IsFull ucd.compat (ucd.compat c)) → (f : Form) (c : ℕ) → decomposed f ucd (row_of f ucd c) ≡ row_of f ucd c
+row_own canonical compat Nfc c = flat_map-full ucd ucd.canonical (ucd.canonical c) (canonical c)
+row_own canonical compat Nfd c = flat_map-full ucd ucd.canonical (ucd.canonical c) (canonical c)
+row_own canonical compat Nfkc c = flat_map-full ucd ucd.compat (ucd.compat c) (compat c)
+row_own canonical compat Nfkd c = flat_map-full ucd ucd.compat (ucd.compat c) (compat c)
+
+passes_yes : (f : Form) (c : ℕ) → IsTrue (passes_check f c) → quick_check (kit_form f) c ≡ Yes
+passes_yes f c passes = is_yes-true (quick_check (kit_form f) c) (and_parts (canonical_combining_class c == 0) (is_yes (quick_check (kit_form f) c)) (and_parts (canonical_combining_class c == 0 && is_yes (quick_check (kit_form f) c)) _ passes).0).1
+  where
+    is_yes-true : (a : QuickCheck) → is_yes a ≡ true → a ≡ Yes
+    is_yes-true Yes e = refl
+    is_yes-true No e = cc
+    is_yes-true Maybe e = cc
+
+pub closes_row : (f : Form) (first : Seen) → IsAtBoundary f first → ((c : ℕ) → IsTrue (is_sound ucd c)) → ((c : ℕ) → IsFull ucd.canonical (ucd.canonical c)) → ((c : ℕ) → IsFull ucd.compat (ucd.compat c))
+    → ((c : ℕ) → IsTrue (passes_check f c) → IsParting ucd f c) → (next : Seen) → next.text.now ≡ first.behind.now → IsAtBoundary f next
+    → (row : List ℕ) → row ≡ decompose (kit_form f) first.character → All (λ x. IsTrue (passes_check f x)) row → (old new : List ℕ) → new ≡ old ++ row → Closes f first.text.now next old new
+closes_row f first at sound canonical compat parting next is behind row decomposed all old new formed =
+    let c = first.character in
+    let same = decomposed ∙ row_is f c in
+    let calm = calm-all ucd f (passes_check f) (λ x passes. begins_run ucd f x (parting x passes) (sound x)) (row_of f ucd c) (ap (λ w. list_all (passes_check f) w) (sym same) ∙ list_all-from_AllPass (passes_check f) row all) in
+    closes_letter f first at next is behind (row_of f ucd c)
+    (HasForm-calm_row ucd f c (boundary-first f first at) (sound c) (row_own canonical compat f c) calm.0 calm.1 calm.2)
+    old new (formed ∙ ap (λ w. old ++ w) same)
+
+module _ (f : Form) (c : ℕ) (row : List ℕ) (decomposed : row ≡ decompose (kit_form f) c) where
+  -- its row begins with a starter that composes with nothing before it
+  anew_with : (first : ℕ) (rest : List ℕ) → row ≡ first ∷ rest → IsParting ucd f first → NeverSecond ucd f first → BeginsAnew ucd f c
+  anew_with first rest is parting never = record { first = first; rest = rest; row = sym (row_is f c) ∙ sym decomposed ∙ is; starter = parting.starts; never_second = never }
+
+  pub anew_row : ((x : ℕ) → IsTrue (passes_check f x) → IsParting ucd f x) → ((x : ℕ) → quick_check (kit_form f) x ≡ Yes → NeverSecond ucd f x) → 1 ≤ length row → (first : ℕ) → first ≡ get_or row 0 first
+      → IsTrue (passes_check f first) → BeginsAnew ucd f c
+  anew_row parting never some first head passes = next row refl some head
+    where
+      next : (w : List ℕ) → row ≡ w → 1 ≤ length w → first ≡ get_or w 0 first → BeginsAnew ucd f c
+      next [] is some head = absurd (omega arith)
+      next (x ∷ w) is some head = anew_with first w (is ∙ ap (λ k. k ∷ w) (sym head)) (parting first passes) (never first (passes_yes f first passes))
+
+-- ---- what stands before them
+
+-- nothing
+pub stands_none : (f : Form) (text : List ℕ) (next : Seen) → next.text.now ≡ text → IsAtBoundary f next → Stands f text next
+stands_none f text next is behind = record { front = []; split = sym is; utf8 = IsUtf8-nil; form = inl refl; behind = behind }
+
+passing : (f : Form) (first : Seen) → IsAtBoundary f first → first.answer ≡ Yes → is_among halfwidth_marks first.character ≡ false → IsTrue (passes_check f first.character)
+passing f first at own other =
+    and_from _ _ (and_from _ _ (eq-eqb (canonical_combining_class first.character) 0 (sym at.sees.class ∙ at.class)) (ap is_yes (sym at.sees.answer ∙ own))) (not_from_false _ other)
+
+-- or a character that passes
+pub stands_one : (f : Form) (first : Seen) → IsAtBoundary f first → ((x : List ℕ) → IsSoundText ucd x) → ((c : ℕ) → IsTrue (is_sound ucd c)) → ((c : ℕ) → IsTrue (passes_check f c) → IsParting ucd f c)
+    → first.answer ≡ Yes → is_among halfwidth_marks first.character ≡ false → (text : List ℕ) → first.text.now ≡ text → (next : Seen) → next.text.now ≡ first.behind.now → IsAtBoundary f next → Stands f text next
+stands_one f first at sound sound_one parting own other text here next is behind =
+    let c = first.character in
+    let parts = parting c (passing f first at own other) in
+    let calm : IsCalm ucd f (c ∷ []) 0 max_row = (0, max_row, inl (begins_run ucd f c parts (sound_one c)), (refl, refl)) in
+    let letter = chars-letter f first at.sees in
+    record {
+      front = encode_utf8 c;
+      split = sym here ∙ at.sees.text ∙ ap (λ k. encode_utf8 c ++ k) (sym is);
+      utf8 = letter_utf8 f first at.sees;
+      form = inr (subst (λ k. HasForm ucd f k k) (sym letter) (HasForm-calm ucd f c [] 0 max_row calm (sound (c ∷ []))));
+      behind = behind;
+    }
