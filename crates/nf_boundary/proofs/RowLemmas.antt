@@ -1,5 +1,5 @@
 -- Characters the form of each of which is its row, since each member of that passes the quick check.
-use Rattle.std.proofs.Common.{◌≡◌, ℕ, ◌≤◌, ◌==◌, ◌&&◌, true, false, List, [], ◌∷◌, ◌++◌, length, get_or, refl, ap, sym, subst, ◌∙◌, inl, inr, arith}
+use Rattle.std.proofs.Common.{◌≡◌, ℕ, ◌==◌, ◌&&◌, true, false, List, [], ◌∷◌, ◌++◌, if◌then◌else◌, refl, ap, sym, subst, ◌∙◌, inl, inr}
 use Rattle.std.proofs.lemmas.Bool.{and_parts, and_from, not_from_false, eq-eqb}
 use Rattle.std.proofs.lemmas.Str.{IsUtf8-nil}
 use Rattle.std.specs.Prelude.{IsTrue, encode_utf8}
@@ -24,7 +24,10 @@ use Rattle.nf_forms.specs.Laws.CalmSteps.{begins_run, calm-all}
 use Rattle.nf_forms.specs.Laws.ClosedForms.{HasForm-calm, HasForm-calm_row}
 use Rattle.nf_facts.specs.KitForm.{kit_form}
 use Rattle.nf_facts.specs.Passing.{is_among, halfwidth_marks, is_yes, passes_check}
-use Rattle.unicode_normalization.specs.Decompose.{decompose}
+use Rattle.ucd_normal.specs.declared.forms.Form.{Form as KitForm}
+use Rattle.ucd_normal.specs.Decomposition.{or_itself}
+use Rattle.unicode_normalization.specs.Decompose.{table_of, decompose}
+use Rattle.unicode_normalization.specs.Hangul.{is_syllable, decompose_hangul}
 use Rattle.nf_boundary.specs.declared.seen.Seen.{Seen}
 use Rattle.nf_boundary.specs.Seen.{IsAtBoundary}
 use Rattle.nf_boundary.specs.Pieces.{Closes}
@@ -57,18 +60,22 @@ closes_row f first at sound canonical compat parting next is behind row decompos
     (HasForm-calm_row ucd f c (boundary-first f first at) (sound c) (row_own canonical compat f c) calm.0 calm.1 calm.2)
     old new (formed ∙ ap (λ w. old ++ w) same)
 
-module _ (f : Form) (c : ℕ) (row : List ℕ) (decomposed : row ≡ decompose (kit_form f) c) where
-  -- its row begins with a starter that composes with nothing before it
-  anew_with : (first : ℕ) (rest : List ℕ) → row ≡ first ∷ rest → IsParting ucd f first → NeverSecond ucd f first → BeginsAnew ucd f c
-  anew_with first rest is parting never = record { first = first; rest = rest; row = sym (row_is f c) ∙ sym decomposed ∙ is; starter = parting.starts; never_second = never }
+-- its row begins with a starter that composes with nothing before it
+pub anew_row : (f : Form) (c : ℕ) (row : List ℕ) → row ≡ decompose (kit_form f) c → ((x : ℕ) → IsTrue (passes_check f x) → IsParting ucd f x) → ((x : ℕ) → quick_check (kit_form f) x ≡ Yes → NeverSecond ucd f x)
+    → (first : ℕ) (rest : List ℕ) → row ≡ first ∷ rest → IsTrue (passes_check f first) → BeginsAnew ucd f c
+anew_row f c row decomposed parting never first rest is passes = record {
+  first = first;
+  rest = rest;
+  row = sym (row_is f c) ∙ sym decomposed ∙ is;
+  starter = (parting first passes).starts;
+  never_second = never first (passes_yes f first passes);
+}
 
-  pub anew_row : ((x : ℕ) → IsTrue (passes_check f x) → IsParting ucd f x) → ((x : ℕ) → quick_check (kit_form f) x ≡ Yes → NeverSecond ucd f x) → 1 ≤ length row → (first : ℕ) → first ≡ get_or row 0 first
-      → IsTrue (passes_check f first) → BeginsAnew ucd f c
-  anew_row parting never some first head passes = next row refl some head
-    where
-      next : (w : List ℕ) → row ≡ w → 1 ≤ length w → first ≡ get_or w 0 first → BeginsAnew ucd f c
-      next [] is some head = absurd (omega arith)
-      next (x ∷ w) is some head = anew_with first w (is ∙ ap (λ k. k ∷ w) (sym head)) (parting first passes) (never first (passes_yes f first passes))
+-- what the tables have of a character is its row, where it is no syllable of Hangul
+pub table_row : (form : KitForm) (c : ℕ) → is_syllable c ≡ false → (first : ℕ) (rest : List ℕ) → table_of form c ≡ first ∷ rest → table_of form c ≡ decompose form c
+unfolding decompose
+table_row form c other first rest is =
+    is ∙ ap (or_itself c) (sym is) ∙ sym (ap (λ b. if b then decompose_hangul c else or_itself c (table_of form c)) other)
 
 -- ---- what stands before them
 

@@ -7,3 +7,4 @@ pub mod Hangul
 pub mod Mark
 pub mod Laws
 pub mod Marked
+pub mod Rows
