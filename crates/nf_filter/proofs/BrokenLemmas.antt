@@ -1,8 +1,8 @@
--- Ill-formed parts that are replaced one behind the other.
+-- A front of the bytes that is replaced: ill-formed parts, one behind the other or with text between them.
 use Rattle.std.proofs.Common.{◌≡◌, ℕ, ◌+◌, Bool, true, false, List, [], ◌++◌, length, drop, refl, sym, ap, ◌∙◌, subst, arith, append-nil, length-drop}
 use Rattle.nf_forms.specs.Properties.{Properties}
 use Rattle.nf_forms.specs.declared.form.Form.{Form}
-use Rattle.nf_utf8.specs.Broken.{replacements, IsBrokenFront}
+use Rattle.nf_utf8.specs.Broken.{IsReplacedFront}
 use Rattle.nf_utf8.specs.Laws.{ReplacesParts}
 use Rattle.nf_utf8.specs.Reading.{text_of}
 use Rattle.nf_utf8.specs.Standing.{StandsAfter as DecoderStandsAfter}
@@ -12,7 +12,7 @@ use Rattle.nf_filter.specs.declared.policy.Policy.{Policy}
 use Rattle.nf_filter.specs.declared.reading.Reading.{Reading}
 use Rattle.nf_filter.specs.Block.{Start, BlockState, Written, Broken}
 use Rattle.nf_filter.specs.Faults.{bad_byte}
-use Rattle.nf_filter.specs.Feeding.{IsLeft, HasReadTo, ReadsTo, RefusesBytes}
+use Rattle.nf_filter.specs.Feeding.{IsLeft, HasReadTo, ReadsToPart, RefusesBytes}
 use Rattle.nf_filter.specs.Normalizer.{HasTaken, settled_text}
 use Rattle.nf_filter.specs.Policy.{allowed, text_under}
 use Rattle.nf_filter.specs.Settled.{is_usable}
@@ -23,10 +23,7 @@ use Rattle.nf_filter.proofs.ReadingLemmas.{ending_of-none, text_of-none}
 use Rattle.nf_filter.proofs.PieceLemmas.{IsLeft-join, IsLeft-parts, left-text}
 use Rattle.nf_filter.proofs.ChunkLemmas.{RefusesBytes-front}
 
-module _ (laws : ReplacesParts) (bytes : List ℕ) (count len : ℕ) (is : IsBrokenFront bytes count len) where
-  abbrev own : List ℕ
-  own = replacements count
-
+module _ (laws : ReplacesParts) (bytes own : List ℕ) (len : ℕ) (is : IsReplacedFront bytes own len) where
   -- what is left behind them
   pub IsLeft-broken : (all x : List ℕ) (n : ℕ) → IsLeft true all x n bytes → IsLeft true all (x ++ own) (n + len) (drop len bytes)
   IsLeft-broken all x n left =
@@ -49,31 +46,34 @@ module _ (policy : Policy) (f : Form) (p : Properties) (base : ℕ) (bytes : Lis
   pub written_before : (now : BlockState) → Written start now (settled_text f p (read.before ++ text_of read.tail)) → Written start now (settled_text f p read.before)
   written_before now written = Written-at (ap (settled_text f p) before_is) written
 
-  module _ (count len : ℕ) (is : IsBrokenFront rest count len) (now : BlockState) (after : Normalizer) where
+  module _ (own : List ℕ) (len : ℕ) (is : IsReplacedFront rest own len) (now : BlockState) (after : Normalizer) where
     abbrev next_text : List ℕ
-    next_text = read.before ++ replacements count
+    next_text = read.before ++ own
 
     left : IsLeft policy.replace bytes next_text (read.n + len) (drop len rest)
     left = subst (λ r. IsLeft r bytes next_text (read.n + len) (drop len rest)) (sym replaces)
-        (IsLeft-broken laws rest count len is bytes read.before read.n
+        (IsLeft-broken laws rest own len is bytes read.before read.n
         (subst (λ r. IsLeft r bytes read.before read.n rest) replaces (subst (λ l. IsLeft policy.replace bytes read.before read.n (l ++ rest)) none read.left)))
 
     -- they were taken
     pub broken-read : (next : Reading) → HasTaken f p after next_text → Written start now (settled_text f p next_text) → next.decoder ≡ reading.decoder → next.offset ≡ reading.offset + len
-        → ReadsTo policy f p after start now base next bytes (drop len rest)
+        → ReadsToPart policy f p after start now base next bytes (drop len rest)
     broken-read next taken written decoder offset = (
-      record {
-        before = next_text;
-        n = read.n + len;
-        tail = [];
-        left = left;
-        decoder = subst (λ l. DecoderStandsAfter next.decoder l) none (subst (λ d. DecoderStandsAfter d read.tail) (sym decoder) read.decoder);
-        good = λ n. ap (bad_byte n) ending_of-none;
-        offset = omega (arith, offset, read.offset, ap length none);
-        taken = subst (HasTaken f p after) (sym whole) taken;
-        allowed = all_allowed policy.assigned p (next_text ++ text_of []) any;
-      },
-      Written-at (ap (settled_text f p) (sym whole)) written,
+      (
+        record {
+          before = next_text;
+          n = read.n + len;
+          tail = [];
+          left = left;
+          decoder = subst (λ l. DecoderStandsAfter next.decoder l) none (subst (λ d. DecoderStandsAfter d read.tail) (sym decoder) read.decoder);
+          good = λ n. ap (bad_byte n) ending_of-none;
+          offset = omega (arith, offset, read.offset, ap length none);
+          taken = subst (HasTaken f p after) (sym whole) taken;
+          allowed = all_allowed policy.assigned p (next_text ++ text_of []) any;
+        },
+        Written-at (ap (settled_text f p) (sym whole)) written,
+      ),
+      refl,
     )
       where
         whole : next_text ++ text_of [] ≡ next_text

@@ -28,6 +28,7 @@ pub mod SurveysLemmas
 pub mod ChecksLemmas
 pub mod MeasuresLemmas
 pub mod SoundnessLemmas
+pub mod MendingLemmas
 pub mod AssignedLemmas
 pub mod EncodingLemmas
 pub mod WholeLemmas

@@ -74,9 +74,9 @@ ReadsChunk policy f p normalizer start now base reading bytes (Ok None) = ReadsT
 ReadsChunk policy f p normalizer start now base reading bytes (Ok (Some rest)) = ReadsToPart policy f p normalizer start now base reading bytes rest.now
 ReadsChunk policy f p normalizer start now base reading bytes (Err fault) = RefusesBytes policy f p start now base bytes fault
 
--- the same right behind such a part
+-- the same right behind such a part, and behind those that come next
 abbrev pub ReadsBroken : Policy → Form → Properties → Normalizer → Start → BlockState → ℕ → Reading → List ℕ → Result (Bor (List ℕ)) Fault → Type 0
-ReadsBroken policy f p normalizer start now base reading bytes (Ok rest) = ReadsTo policy f p normalizer start now base reading bytes rest.now
+ReadsBroken policy f p normalizer start now base reading bytes (Ok rest) = ReadsToPart policy f p normalizer start now base reading bytes rest.now
 ReadsBroken policy f p normalizer start now base reading bytes (Err fault) = RefusesBytes policy f p start now base bytes fault
 
 abbrev pub ReadsRest : Policy → Form → Properties → Normalizer → Start → BlockState → ℕ → Reading → List ℕ → Result (Unit {0}) Fault → Type 0

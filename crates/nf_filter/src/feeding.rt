@@ -77,7 +77,7 @@ impl Reading {
         loop {
             match self.read_chunk(policy, rows, rest, normalizer, block) {
                 Ok(Some(behind)) => {
-                    match self.read_broken(policy, rows, behind, normalizer, block) {
+                    match self.read_parts(policy, rows, behind, normalizer, block) {
                         Ok(behind) => rest = behind,
                         Err(fault) => return Err(fault),
                     }

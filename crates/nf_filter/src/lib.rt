@@ -16,6 +16,7 @@ mod from_reader;
 mod held;
 pub mod laws;
 mod measuring;
+mod mending;
 mod normalizer;
 mod policy;
 mod pushing;

@@ -14,7 +14,7 @@ use nf_row::{Kind, Rows};
 use nf_utf8::{broken_front, laws};
 
 /// So many parts are taken at once, at most.
-const MOST: usize = 1024;
+const MOST: usize = 65536;
 
 /// U+FFFD so many times are written at once, at most.
 const MANY: usize = 64;
@@ -32,13 +32,13 @@ impl Reading {
     ghost use Rattle.nf_forms.specs.declared.form.Form.{Form};
     ghost use Rattle.nf_filter.specs.Block.{Start, block_state};
     ghost use Rattle.nf_filter.specs.Faults.{IsOfReading};
-    ghost use Rattle.nf_filter.specs.Feeding.{ReadsTo, ReadsBroken};
+    ghost use Rattle.nf_filter.specs.Feeding.{ReadsToPart, ReadsBroken};
     ghost use Rattle.nf_filter.specs.Normalizer.{ends_at};
     ghost use Rattle.nf_filter.specs.Taker.{IsReady};
 
-    /// Behind a part that was replaced, reads the parts that come next and are replaced too. Answers what stands behind
-    /// them.
-    pub(crate) fn read_broken<'p, R: Rows, S: Sink>(
+    /// Behind a part that was replaced, reads what comes next and is replaced too: parts one behind the other, and then
+    /// parts with little text between them. Answers what stands behind that.
+    pub(crate) fn read_parts<'p, R: Rows, S: Sink>(
         &mut self,
         policy: Policy,
         rows: &R,
@@ -52,7 +52,32 @@ impl Reading {
         ensures goes_on { IfOk result (λ behind. (self.new.offset + length behind.now ≡ self.old.offset + length rest.now) × (length behind.now ≤ length rest.now) × (self.new.decoder ≡ self.old.decoder)) }
         ensures faults { IfErr result IsOfReading }
         ensures reads { let p = R.properties rows.now in
-            (f : Form) (base : ℕ) (bytes : List ℕ) (start : Start) → (both : ReadsTo policy f p normalizer.old start (block_state S.state block.old) base self.old bytes rest.now) → both.0.tail ≡ []
+            (f : Form) (base : ℕ) (bytes : List ℕ) (start : Start) → ReadsToPart policy f p normalizer.old start (block_state S.state block.old) base self.old bytes rest.now
+            → ReadsBroken policy f p normalizer.new start (block_state S.state block.new) base self.new bytes result }
+        ensures lent { (block.new.sink.ghost_name ≡ block.old.sink.ghost_name) × ((S.state block.new.sink.now).lender ≡ (S.state block.old.sink.now).lender) }
+    {
+        match self.read_broken(policy, rows, rest, normalizer, block) {
+            Ok(behind) => self.read_mended(policy, rows, behind, normalizer, block),
+            Err(fault) => Err(fault),
+        }
+    }
+
+    /// Reads the parts that come next.
+    fn read_broken<'p, R: Rows, S: Sink>(
+        &mut self,
+        policy: Policy,
+        rows: &R,
+        rest: &'p [u8],
+        normalizer: &mut Normalizer,
+        block: &mut Block<'_, S>,
+    ) -> Result<&'p [u8], Fault>
+        requires ready { IsReady (ends_at normalizer.old) self.old }
+        requires fits { self.old.offset + length rest.now ≤ u64.MAX }
+        ensures ready { OnOk result (IsReady (ends_at normalizer.new) self.new) }
+        ensures goes_on { IfOk result (λ behind. (self.new.offset + length behind.now ≡ self.old.offset + length rest.now) × (length behind.now ≤ length rest.now) × (self.new.decoder ≡ self.old.decoder)) }
+        ensures faults { IfErr result IsOfReading }
+        ensures reads { let p = R.properties rows.now in
+            (f : Form) (base : ℕ) (bytes : List ℕ) (start : Start) → ReadsToPart policy f p normalizer.old start (block_state S.state block.old) base self.old bytes rest.now
             → ReadsBroken policy f p normalizer.new start (block_state S.state block.new) base self.new bytes result }
         ensures lent { (block.new.sink.ghost_name ≡ block.old.sink.ghost_name) × ((S.state block.new.sink.now).lender ≡ (S.state block.old.sink.now).lender) }
     {

@@ -1,6 +1,6 @@
 //! Long text of assigned characters, which both parts of a policy leave alone, and made-up mixtures of all kinds of bytes,
 //! under each policy.
-use crate::kit::{AS_IS, ASSIGNED, BOTH, REPLACE, course_of, filter_of, same_in_pieces};
+use crate::kit::{AS_IS, ASSIGNED, BOTH, REPLACE, course_of, filter_of, joined, same_in_pieces};
 use crate::subparts::read;
 use nf_filter::Policy;
 use nf_row::Ucd;
@@ -158,6 +158,70 @@ fn mixtures_go_by_the_plain_reading(rt: HostRuntime) -> Result<(), Fail> {
             refused > 500 && refused < 4500
         };
         assert!(rt; is_mixed, "{policy:?}: {refused}");
+    }
+    Ok(())
+}
+
+/// Parts up to so many bytes: more than are mended at once.
+fn long_mixture(alloc: Global, seeded: &mut Seeded, len: usize) -> Result<Vec<u8>, AllocError> {
+    let mut bytes = Vec::new(alloc);
+    for _ in 0..len {
+        let part = seeded.pick(&PARTS);
+        if bytes.len() < len {
+            bytes.extend_from_slice(part)?;
+        }
+    }
+    Ok(bytes)
+}
+
+/// Fed in pieces of this size, the bytes give their plain reading's form.
+fn check_by_size(rt: &impl Abort, alloc: Global, bytes: &[u8], size: usize) -> Result<(), Fail> {
+    let pieces: Vec<&[u8]> = bytes.chunks(size.max(1)).collect(alloc)?;
+    let filter = filter_of(rt, &Ucd, REPLACE, true);
+    let course = course_of(rt, alloc, filter, pieces.as_slice());
+    let (text, answer) = read(alloc, REPLACE, bytes)?;
+    assert_eq!(rt; course.answer, answer, "{bytes:?}, {size}");
+    let form = to_nfc(alloc, text.as_str())?;
+    assert!(rt;
+        course.written.as_slice() == form.as_bytes(),
+        "{bytes:?}, {size}"
+    );
+    Ok(())
+}
+
+#[test]
+fn long_mixtures_go_by_the_plain_reading(rt: HostRuntime) -> Result<(), Fail> {
+    let alloc = rt.alloc();
+    let mut seeded = Seeded(0x2545_F491_4F6C_DD1D);
+    for _ in 0..60 {
+        let bytes = long_mixture(alloc, &mut seeded, 4000)?;
+        for size in [1, 61, 1021, 4096] {
+            check_by_size(&rt, alloc, bytes.as_slice(), size)?;
+        }
+    }
+    Ok(())
+}
+
+/// Text of each length up to some that is not near, between ill-formed parts of one byte, of two and of three.
+#[test]
+fn stretches_of_each_length_go_by_the_plain_reading(rt: HostRuntime) -> Result<(), Fail> {
+    let alloc = rt.alloc();
+    let parts: [&[u8]; 4] = [b"\xFF", b"\xC3", b"\xE2\x82", b"\xF0\x9F\x98"];
+    for len in 0..80 {
+        for part in parts {
+            let letters = joined(
+                alloc,
+                &[
+                    (part, 1),
+                    (b"a", len),
+                    (part, 1),
+                    (b"a", len),
+                    (b"\xC3\xA9", 1),
+                ],
+            )?;
+            let bytes = joined(alloc, &[(letters.as_slice(), 20)])?;
+            check_by_size(&rt, alloc, bytes.as_slice(), 4096)?;
+        }
     }
     Ok(())
 }

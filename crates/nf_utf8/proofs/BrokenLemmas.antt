@@ -12,7 +12,7 @@ use Rattle.nf_utf8.specs.Front.{IsFront}
 use Rattle.nf_utf8.specs.Part.{IsPart, IsContinuation}
 use Rattle.nf_utf8.specs.Reading.{text_of, ending_of}
 use Rattle.nf_utf8.specs.Replaced.{replacement, own_parts, part_end, parts_of}
-use Rattle.nf_utf8.specs.Broken.{replacements, BeginsBroken, BeginsAlone, IsBrokenFront}
+use Rattle.nf_utf8.specs.Broken.{replacements, BeginsBroken, BeginsAlone, IsReplacedFront, IsBrokenFront}
 use Rattle.nf_utf8.specs.Tells.{Tells}
 use Rattle.nf_utf8.specs.Text.{BeginsText}
 use Rattle.nf_utf8.proofs.BegunLen.{begun_len-is, begins_for_all, begun_len-longest}
@@ -71,7 +71,7 @@ front_four (a ∷ b ∷ c ∷ d ∷ rest) some = refl
 
 -- a part at their front
 module _ (bytes : List ℕ) (at : ℕ) (bad : ending_of bytes ≡ Bad at 0) where
-  none : text_of bytes ≡ []
+  pub none : text_of bytes ≡ []
   none = text_of-none bytes (sym (is_broken bytes at 0 bad).text)
 
   one_part : IsBrokenFront bytes 1 (part_end at 0)
@@ -86,17 +86,21 @@ module _ (bytes : List ℕ) (at : ℕ) (bad : ending_of bytes ≡ Bad at 0) wher
         ∙ ap (λ l. broken_part at 0 ∷ parts_of l) (drop-append-le (part_end at 0) bytes more (broken_end bytes at 0 bad).1);
   }
 
--- one such front behind another
-pub both_fronts : (bytes : List ℕ) (p l q m : ℕ) → IsBrokenFront bytes p l → IsBrokenFront (drop l bytes) q m → IsBrokenFront bytes (p + q) (l + m)
-both_fronts bytes p l q m is next = record {
+-- one front behind another
+pub both_texts : (bytes x y : List ℕ) (l m : ℕ) → IsReplacedFront bytes x l → IsReplacedFront (drop l bytes) y m → IsReplacedFront bytes (x ++ y) (l + m)
+both_texts bytes x y l m is next = record {
   parts = is.parts ++ next.parts;
-  chars = map-append (λ part. part.char) is.parts next.parts ∙ (λ i. is.chars i ++ next.chars i) ∙ replacements-append p q;
+  chars = map-append (λ part. part.char) is.parts next.parts ∙ (λ i. is.chars i ++ next.chars i);
   size = omega (arith, bytes_in-append is.parts next.parts, is.size, next.size);
   within = omega (arith, next.within, length-drop l bytes, is.within);
   front = λ more.
       is.front more ∙ ap (λ l. is.parts ++ l) (next.front more ∙ ap (λ l. next.parts ++ parts_of (l ++ more)) (drop-drop m l bytes))
       ∙ sym (append_assoc is.parts next.parts (parts_of (drop (l + m) bytes ++ more)));
 }
+
+pub both_fronts : (bytes : List ℕ) (p l q m : ℕ) → IsBrokenFront bytes p l → IsBrokenFront (drop l bytes) q m → IsBrokenFront bytes (p + q) (l + m)
+both_fronts bytes p l q m is next =
+    subst (λ x. IsReplacedFront bytes x (l + m)) (replacements-append p q) (both_texts bytes (replacements p) (replacements q) l m is next)
 
 pub one_more : (bytes : List ℕ) (count len at : ℕ) → IsBrokenFront bytes count len → ending_of (drop len bytes) ≡ Bad at 0 → IsBrokenFront bytes (count + 1) (len + part_end at 0)
 one_more bytes count len at is bad = both_fronts bytes count len 1 (part_end at 0) is (one_part (drop len bytes) at bad)

@@ -6,6 +6,7 @@ mod CountingLemmas
 mod Endings
 mod Fronts
 mod LossyLemmas
+mod MendingLemmas
 mod PushesLemmas
 mod ReadingLemmas
 mod ReadsLemmas

@@ -10,13 +10,17 @@ abbrev pub replacements : ℕ → List ℕ
 replacements zero = []
 replacements (suc n) = replacement ∷ replacements n
 
--- whatever follows, the first `len` bytes give U+FFFD so many times, and what is behind them gives what it gives alone
-pub record IsBrokenFront (bytes : List ℕ) (count len : ℕ) : Type 0 where
+-- whatever follows, the first `len` bytes give the text x, and what is behind them gives what it gives alone
+pub record IsReplacedFront (bytes x : List ℕ) (len : ℕ) : Type 0 where
   pub parts : List Part
-  pub chars : map (λ part. part.char) parts ≡ replacements count
+  pub chars : map (λ part. part.char) parts ≡ x
   pub size : bytes_in parts ≡ len
   pub within : len ≤ length bytes
   pub front : (more : List ℕ) → parts_of (bytes ++ more) ≡ parts ++ parts_of (drop len bytes ++ more)
+
+-- they give U+FFFD so many times
+abbrev pub IsBrokenFront : List ℕ → ℕ → ℕ → Type 0
+IsBrokenFront bytes count len = IsReplacedFront bytes (replacements count) len
 
 -- a part stands at their front
 abbrev pub BeginsBroken : List ℕ → Type 0

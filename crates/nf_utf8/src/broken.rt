@@ -48,7 +48,7 @@ pub fn broken_front(bytes: &[u8], most: usize) -> Broken
 /// Where the byte stands that breaks off the part which the bytes begin with; none where they begin with no part. No more
 /// than four bytes tell it.
 #[inline]
-fn bad_at(bytes: &[u8]) -> Option<usize>
+pub(crate) fn bad_at(bytes: &[u8]) -> Option<usize>
     ensures some { IfSome result (λ at. ending_of bytes.now ≡ Bad at 0) }
     ensures none { result ≡ None → ¬ BeginsBroken bytes.now }
 {
@@ -90,7 +90,7 @@ fn last_bad_at(bytes: &[u8]) -> Option<usize>
 
 /// How many bytes a part has that the byte at `at` breaks off. That byte begins the next, unless it is the first.
 #[inline]
-fn part_len(at: usize) -> usize
+pub(crate) fn part_len(at: usize) -> usize
     ensures { result ≡ part_end at 0 }
 {
     if at == 0 { 1 } else { at }

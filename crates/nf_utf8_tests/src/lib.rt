@@ -8,6 +8,8 @@ mod broken;
 #[cfg(test)]
 mod counting;
 #[cfg(test)]
+mod mending;
+#[cfg(test)]
 mod prefix;
 #[cfg(test)]
 mod reading;

@@ -7,14 +7,14 @@ loop-behind-preserved g c = record {
   offset = let goes_on = rw c.in-Ok-Some.field-0-is at c.in-Ok-Some.ensures.goes_on in omega (arith, goes_on.0, c.in-Ok.ensures.goes_on.0, c.loop-behind.invariant.offset);
   reads = λ f base bytes start both.
       let part = rw c.in-Ok-Some.field-0-is at (c.in-Ok-Some.ensures.reads f base bytes start (c.loop-behind.invariant.reads f base bytes start both)) in
-      c.in-Ok.ensures.reads f base bytes start part.0 part.1;
+      (c.in-Ok.ensures.reads f base bytes start part).0;
   lent = (c.in-Ok.ensures.lent.0 ∙ c.in-Ok-Some.ensures.lent.0 ∙ c.loop-behind.invariant.lent.0, c.in-Ok.ensures.lent.1 ∙ c.in-Ok-Some.ensures.lent.1 ∙ c.loop-behind.invariant.lent.1);
 }
 
-pub returns-in-Err-read_broken-clause-reads : goal.returns-in-Err-read_broken-clause-reads
-returns-in-Err-read_broken-clause-reads g c = λ f base bytes start both.
+pub returns-in-Err-read_parts-clause-reads : goal.returns-in-Err-read_parts-clause-reads
+returns-in-Err-read_parts-clause-reads g c = λ f base bytes start both.
     let part = rw c.in-Ok-Some.field-0-is at (c.in-Ok-Some.ensures.reads f base bytes start (c.loop-behind.invariant.reads f base bytes start both)) in
-    c.in-Err-read_broken.ensures.reads f base bytes start part.0 part.1
+    c.in-Err-read_parts.ensures.reads f base bytes start part
 
 pub returns-in-Ok-None-clause-reads : goal.returns-in-Ok-None-clause-reads
 returns-in-Ok-None-clause-reads g c = λ f base bytes start both. rw c.in-Ok-None.field-0-is at (c.in-Ok-None.ensures.reads f base bytes start (c.loop-behind.invariant.reads f base bytes start both))

@@ -1,0 +1,86 @@
+//! Ill-formed parts with little text between them, mended many at once: to take each stretch of text and each part by
+//! itself costs far more than to copy them.
+
+ghost use Rattle.std.specs.Prelude.{◌≡◌, ◌+◌, ◌≤◌, ◌<◌, ℕ, false, ◌++◌, IfSome, IsTrue, chars, length, take, drop};
+ghost use Rattle.std.specs.Str.{IsUtf8};
+ghost use Rattle.std.specs.Str.Lossy.{replacement_bytes};
+ghost use Rattle.nf_utf8.specs.Ending.{Bad};
+ghost use Rattle.nf_utf8.specs.Reading.{ending_of};
+ghost use Rattle.nf_utf8.specs.Replaced.{part_end};
+ghost use Rattle.nf_utf8.specs.Broken.{IsReplacedFront};
+
+use crate::broken::{bad_at, part_len};
+use arrayvec::ArrayVec;
+
+/// Room for the UTF-8 of mended text.
+pub type Mended = ArrayVec<u8, 1024>;
+
+/// Where so many bytes have no ill-formed part, text is taken as it stands for less.
+const NEAR: usize = 64;
+
+/// U+FFFD in UTF-8.
+const REPLACEMENT: [u8; 3] = [0xEF, 0xBF, 0xBD];
+
+/// Text, and the ill-formed part behind it.
+#[derive(Clone, Copy)]
+struct Stretch {
+    /// How many bytes the text has.
+    text: usize,
+    /// How many both have.
+    len: usize,
+}
+
+/// A front of the bytes, up to the end of an ill-formed part, as the text that it gives where each maximal subpart of an
+/// ill-formed sequence is read as U+FFFD (The Unicode Standard, section 3.9). That text is put into `mended`, in place of
+/// what it holds. Answers how many bytes the front has: none where an ill-formed part is not near.
+pub fn mend_front(bytes: &[u8], mended: &mut Mended) -> usize
+    ensures text { IsUtf8 mended.new.items }
+    ensures replaced { IsReplacedFront bytes.now (chars mended.new.items) result }
+    ensures few { length (chars mended.new.items) ≤ result }
+{
+    mended.clear();
+    let mut len = 0;
+    while let Some(stretch) = short_stretch(&bytes[len..]) {
+        if !append(mended, &bytes[len..len + stretch.text]) {
+            break;
+        }
+        len += stretch.len;
+    }
+    len
+}
+
+/// The text that was mended.
+pub fn mended_text(mended: &Mended) -> &str
+    requires { IsUtf8 mended.now.items }
+    ensures { result.now ≡ mended.now.items }
+{
+    simdutf8::compat::from_utf8(mended.as_slice()).unwrap()
+}
+
+/// The text that the bytes begin with, which may be none, and the ill-formed part behind it, where that is near.
+fn short_stretch(bytes: &[u8]) -> Option<Stretch>
+    ensures { IfSome result (λ stretch. (stretch.text ≤ length bytes.now) × IsUtf8 (take stretch.text bytes.now)
+        × ((at : ℕ) × (ending_of (drop stretch.text bytes.now) ≡ Bad at 0) × (stretch.len ≡ stretch.text + part_end at 0))) }
+{
+    let near = &bytes[..bytes.len().min(NEAR)];
+    let Err(error) = std::str::from_utf8(near) else {
+        return None;
+    };
+    let text = error.valid_up_to();
+    let at = bad_at(&bytes[text..])?;
+    Some(Stretch {
+        text,
+        len: text + part_len(at),
+    })
+}
+
+/// Appends the text, and U+FFFD behind it, where there is room.
+fn append(mended: &mut Mended, text: &[u8]) -> bool
+    ensures grown { IsTrue result → mended.new.items ≡ mended.old.items ++ text.now ++ replacement_bytes }
+    ensures stays { result ≡ false → mended.new ≡ mended.old }
+{
+    if mended.remaining_capacity() < text.len() + REPLACEMENT.len() {
+        return false;
+    }
+    mended.try_extend_from_slice(text).is_ok() && mended.try_extend_from_slice(&REPLACEMENT).is_ok()
+}

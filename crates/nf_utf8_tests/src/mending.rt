@@ -1,0 +1,65 @@
+//! Ill-formed parts with little text between them.
+use nf_utf8::{Mended, mend_front, mended_text};
+use std::process::Abort;
+use std::test::Fail;
+
+/// What the bytes are mended to, and how many of them.
+fn check(rt: &impl Abort, bytes: &[u8], text: &str, len: usize) {
+    let mut mended = Mended::new();
+    let front = mend_front(bytes, &mut mended);
+    assert_eq!(rt; (mended_text(&mended), front), (text, len), "{bytes:?}");
+}
+
+#[test]
+fn text_is_mended_up_to_the_last_part_that_is_near(rt: HostRuntime) {
+    let cases: [(&[u8], &str, usize); 10] = [
+        (b"", "", 0),
+        (b"A", "", 0),
+        (b"A\x80", "A\u{FFFD}", 2),
+        (b"A\x80B", "A\u{FFFD}", 2),
+        // Bytes that the next piece may complete are no part yet.
+        (b"A\x80B\xF0\x90\x80", "A\u{FFFD}", 2),
+        (
+            b"\xC3\xA9\xC3\xC3\xA9A\xFF",
+            "\u{E9}\u{FFFD}\u{E9}A\u{FFFD}",
+            7,
+        ),
+        (b"\xF0\x9F\x98\x80\xF0\x9F\x98A", "\u{1F600}\u{FFFD}", 7),
+        (
+            b"\xE0\x80\xED\xA0\x80",
+            "\u{FFFD}\u{FFFD}\u{FFFD}\u{FFFD}\u{FFFD}",
+            5,
+        ),
+        (b"\xEF\xBF\xBD\x80", "\u{FFFD}\u{FFFD}", 4),
+        // The example of "Substitution of Maximal Subparts" (The Unicode Standard, section 3.9).
+        (
+            b"\xE1\x80\xE2\xF0\x91\x92\xF1\xBF\x41\x80",
+            "\u{FFFD}\u{FFFD}\u{FFFD}\u{FFFD}A\u{FFFD}",
+            10,
+        ),
+    ];
+    for (bytes, text, len) in cases {
+        check(&rt, bytes, text, len);
+    }
+}
+
+/// Behind long text no part is near, and no more is mended than there is room for.
+#[test]
+fn long_text_is_left(rt: HostRuntime) -> Result<(), Fail> {
+    let alloc = rt.alloc();
+    let near = "a".repeat(alloc, 63)?;
+    let far = "a".repeat(alloc, 64)?;
+    let bytes: Vec<u8> = vec![in alloc; 0xFF; 400]?;
+    let mut front: Vec<u8> = Vec::new(alloc);
+    front.extend_from_slice(near.as_bytes())?;
+    front.push(0xFF)?;
+    let text = format!(in alloc; "{near}\u{FFFD}")?;
+    check(&rt, front.as_slice(), text.as_str(), 64);
+    front.clear();
+    front.extend_from_slice(far.as_bytes())?;
+    front.push(0xFF)?;
+    check(&rt, front.as_slice(), "", 0);
+    let full = "\u{FFFD}".repeat(alloc, 341)?;
+    check(&rt, bytes.as_slice(), full.as_str(), 341);
+    Ok(())
+}
