@@ -87,18 +87,25 @@ passing : (f : Form) (first : Seen) → IsAtBoundary f first → first.answer �
 passing f first at own other =
     and_from _ _ (and_from _ _ (eq-eqb (canonical_combining_class first.character) 0 (sym at.sees.class ∙ at.class)) (ap is_yes (sym at.sees.answer ∙ own))) (not_from_false _ other)
 
--- or a character that passes
-pub stands_one : (f : Form) (first : Seen) → IsAtBoundary f first → ((x : List ℕ) → IsSoundText ucd x) → ((c : ℕ) → IsTrue (is_sound ucd c)) → ((c : ℕ) → IsTrue (passes_check f c) → IsParting ucd f c)
-    → first.answer ≡ Yes → is_among halfwidth_marks first.character ≡ false → (text : List ℕ) → first.text.now ≡ text → (next : Seen) → next.text.now ≡ first.behind.now → IsAtBoundary f next → Stands f text next
-stands_one f first at sound sound_one parting own other text here next is behind =
-    let c = first.character in
-    let parts = parting c (passing f first at own other) in
-    let calm : IsCalm ucd f (c ∷ []) 0 max_row = (0, max_row, inl (begins_run ucd f c parts (sound_one c)), (refl, refl)) in
-    let letter = chars-letter f first at.sees in
-    record {
-      front = encode_utf8 c;
-      split = sym here ∙ at.sees.text ∙ ap (λ k. encode_utf8 c ++ k) (sym is);
-      utf8 = letter_utf8 f first at.sees;
-      form = inr (subst (λ k. HasForm ucd f k k) (sym letter) (HasForm-calm ucd f c [] 0 max_row calm (sound (c ∷ []))));
-      behind = behind;
-    }
+-- a character that passes, as a text of its own
+module _ (f : Form) (first : Seen) (at : IsAtBoundary f first) (sound : (x : List ℕ) → IsSoundText ucd x) (sound_one : (c : ℕ) → IsTrue (is_sound ucd c))
+    (parting : (c : ℕ) → IsTrue (passes_check f c) → IsParting ucd f c) (own : first.answer ≡ Yes) (other : is_among halfwidth_marks first.character ≡ false) where
+  own_form : HasForm ucd f (first.character ∷ []) (first.character ∷ [])
+  own_form =
+      let c = first.character in
+      let calm : IsCalm ucd f (c ∷ []) 0 max_row = (0, max_row, inl (begins_run ucd f c (parting c (passing f first at own other)) (sound_one c)), (refl, refl)) in
+      HasForm-calm ucd f c [] 0 max_row calm (sound (c ∷ []))
+
+  -- it is closed, where a boundary comes behind it
+  pub closes_own : (next : Seen) → next.text.now ≡ first.behind.now → IsAtBoundary f next → (old new : List ℕ) → new ≡ old ++ first.character ∷ [] → Closes f first.text.now next old new
+  closes_own next is behind old new formed = closes_letter f first at next is behind (first.character ∷ []) own_form old new formed
+
+  -- or stands before them
+  pub stands_one : (text : List ℕ) → first.text.now ≡ text → (next : Seen) → next.text.now ≡ first.behind.now → IsAtBoundary f next → Stands f text next
+  stands_one text here next is behind = record {
+    front = encode_utf8 first.character;
+    split = sym here ∙ at.sees.text ∙ ap (λ k. encode_utf8 first.character ++ k) (sym is);
+    utf8 = letter_utf8 f first at.sees;
+    form = inr (subst (λ k. HasForm ucd f k k) (sym (chars-letter f first at.sees)) own_form);
+    behind = behind;
+  }

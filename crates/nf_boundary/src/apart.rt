@@ -11,7 +11,8 @@ use ucd_normal::QuickCheck;
 use unicode_normalization::char::decomposition;
 
 /// Appends the decomposition of a character that the form changes, where a boundary comes behind it, and answers that: in
-/// a form that does not compose, so much is closed.
+/// a form that does not compose, so much is closed. Calm text is left, to be taken as it stands, but for one character
+/// before another that is changed: to go from one to the other and back costs more than to copy it.
 #[inline(always)]
 pub(crate) fn take_apart<'t>(form: Form, first: Seen<'t>, formed: &mut Formed) -> Option<Seen<'t>>
     requires first { IsAtBoundary form first }
@@ -21,13 +22,24 @@ pub(crate) fn take_apart<'t>(form: Form, first: Seen<'t>, formed: &mut Formed) -
 {
     laws::every_character_is_sound();
     laws::rows_are_ordered();
-    if first.answer == QuickCheck::Yes {
+    let is_calm = first.answer == QuickCheck::Yes;
+    if is_calm && begins_with_ascii(first.behind) {
         return None;
     }
     let next = Seen::boundary(form, first.behind)?;
+    if is_calm && next.answer == QuickCheck::Yes {
+        return None;
+    }
     let mut room = [first.character; 3];
     formed
         .try_extend_from_slice(decomposition(first.character, in_tables(form), &mut room))
         .ok()?;
     Some(next)
+}
+
+/// Whether an ASCII character comes first: no form changes it.
+#[inline(always)]
+fn begins_with_ascii(text: &str) -> bool {
+    let bytes = text.as_bytes();
+    !bytes.is_empty() && bytes[0] < 0x80
 }

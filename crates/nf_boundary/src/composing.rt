@@ -10,7 +10,8 @@ use nf_facts::laws;
 use ucd_normal::{Form, QuickCheck, quick_check};
 
 /// Appends what a starter and the characters behind it become, up to the next boundary, and answers that: in a form that
-/// composes, so much is closed. It answers only where something comes between, or a leading consonant of Hangul behind.
+/// composes, so much is closed. It answers only where something comes between, or behind it a leading consonant of Hangul or
+/// a character with a mark.
 #[inline(always)]
 pub(crate) fn compose_cluster<'t>(
     form: nf_forms::Form,
@@ -49,8 +50,8 @@ fn append_clusters<'t>(
     let mut cluster = Cluster::new(first.character);
     let behind = cluster.join_letters(first.behind);
     let mut next = Seen::first(form, behind)?;
-    // One character is calm text, but the space between two words in letters of Hangul need not be sought as such.
-    if cluster.is_alone() && next.is_boundary(form) && !next.is_leading() {
+    // One character is calm text, but one between two that compose need not be sought as such.
+    if cluster.is_alone() && next.is_boundary(form) && !next.goes_on(form) {
         return None;
     }
     while !next.is_boundary(form) {

@@ -5,7 +5,7 @@ ghost use Rattle.nf_boundary.specs.Pieces.{Closes, Reaches};
 use crate::closed::Formed;
 use crate::closing::close_off;
 use crate::mark::{Mark, Run, hold};
-use crate::seen::Seen;
+use crate::seen::{Seen, may_begin_with_mark};
 use nf_facts::laws;
 use nf_forms::Form;
 use ucd_normal::{Form as TableForm, QuickCheck, quick_check};
@@ -79,11 +79,4 @@ fn take_run<'t>(form: nf_forms::Form, first: Seen<'t>, formed: &mut Formed) -> O
     }
     close_off(form, first.character, run.as_slice(), formed);
     Some(next)
-}
-
-/// Whether one byte leaves it open that a mark comes first: none comes before U+0300.
-#[inline(always)]
-fn may_begin_with_mark(text: &str) -> bool {
-    let bytes = text.as_bytes();
-    !bytes.is_empty() && bytes[0] >= 0xCC
 }

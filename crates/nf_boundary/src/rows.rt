@@ -2,6 +2,7 @@ ghost use Rattle.std.specs.Prelude.{◌≡◌, ℕ, List, ◌∷◌, IsTrue, IfS
 ghost use Rattle.std.specs.List.{All};
 ghost use Rattle.unicode_normalization.specs.Decompose.{table_of, decompose};
 ghost use Rattle.unicode_normalization.specs.Hangul.{is_syllable};
+ghost use Rattle.nf_forms.specs.declared.form.Form.{Form};
 ghost use Rattle.nf_forms.specs.Ucd.{ucd};
 ghost use Rattle.nf_facts.specs.KitForm.{kit_form};
 ghost use Rattle.nf_facts.specs.Passing.{passes_check};
@@ -71,7 +72,8 @@ fn before_rows(form: Form, text: &str) -> Option<Row<'_>>
 }
 
 /// Appends the decomposition of a character that the form changes, where each of its members passes the quick check, so
-/// that it is the character's form, and a boundary comes behind the character; answers that.
+/// that it is the character's form, and a boundary comes behind the character; answers that. Calm text is left, but for one
+/// character before another that is changed.
 #[inline(always)]
 fn take_row<'t>(form: Form, first: Row<'t>, formed: &mut Formed) -> Option<Row<'t>>
     requires { IsRow form first }
@@ -82,13 +84,38 @@ fn take_row<'t>(form: Form, first: Row<'t>, formed: &mut Formed) -> Option<Row<'
     laws::every_character_is_sound();
     laws::rows_are_full();
     laws::the_quick_check_tells();
-    // That the first passes is known.
-    let (_, others) = first.members.split_first()?;
     let next = boundary(form, first.seen.behind)?;
+    // That the first passes is known.
+    let Some((_, others)) = first.members.split_first() else {
+        return take_lone(form, first, next, formed);
+    };
     if !all_pass(form, others) {
         return None;
     }
     formed.try_extend_from_slice(first.members).ok()?;
+    Some(next)
+}
+
+/// Appends a character that the form leaves as it is, where the next one is changed; answers that.
+#[inline(always)]
+fn take_lone<'t>(form: Form, first: Row<'t>, next: Row<'t>, formed: &mut Formed) -> Option<Row<'t>>
+    requires first { IsRow form first }
+    requires next { IsRow form next }
+    requires behind { next.seen.text.now ≡ first.seen.behind.now }
+    ensures closes { IfSome result (λ next. Closes form first.entry.seen.text.now next.seen formed.old.items formed.new.items) }
+    ensures row { IfSome result (λ next. IsRow form next) }
+    ensures stays { IsNone result → formed.new ≡ formed.old }
+{
+    laws::every_character_is_sound();
+    laws::the_quick_check_tells();
+    let lone = first.seen;
+    if next.members.is_empty() || lone.answer != QuickCheck::Yes {
+        return None;
+    }
+    if is_halfwidth_mark(lone.character) {
+        return None;
+    }
+    formed.try_push(lone.character).ok()?;
     Some(next)
 }
 
@@ -171,6 +198,19 @@ fn all_pass(form: Form, row: &[char]) -> bool
 fn passes(form: Form, c: char) -> bool
     ensures { result ≡ passes_check form c }
 {
+    if is_plain(c) {
+        return true;
+    }
     let (class, answer) = class_and_quick_check(c, in_tables(form));
     class == 0 && answer == QuickCheck::Yes && !is_halfwidth_mark(c)
+}
+
+/// Whether it shows with no look-up that `c` passes, in each form: in ASCII, and among the letters of Arabic and of Han, of
+/// which most decompositions are made.
+#[inline(always)]
+fn is_plain(c: char) -> bool
+    ensures { IsTrue result → (f : Form) → IsTrue (passes_check f c) }
+{
+    laws::plain_ranges_pass();
+    matches!(c, '\0'..='\x7F' | '\u{627}'..='\u{64A}' | '\u{3400}'..='\u{9FFF}')
 }

@@ -80,6 +80,22 @@ impl<'t> Seen<'t> {
         matches!(self.character, '\u{1100}'..='\u{1112}')
     }
 
+    /// Whether it composes with what comes behind it, by all that is likely: a leading consonant of Hangul, or a character
+    /// with a mark behind it.
+    #[inline(always)]
+    pub fn goes_on(self, form: Form) -> bool {
+        if self.is_leading() {
+            return true;
+        }
+        if !may_begin_with_mark(self.behind) {
+            return false;
+        }
+        match Seen::first(form, self.behind) {
+            Some(next) => next.class != 0,
+            None => false,
+        }
+    }
+
     /// Whether one look-up tells that a text may be cut before it: a starter whose compatibility decomposition begins with
     /// a starter, and which in a form that composes passes the quick check.
     #[inline(always)]
@@ -98,6 +114,13 @@ impl<'t> Seen<'t> {
         }
         !form.composes() || self.answer == QuickCheck::Yes
     }
+}
+
+/// Whether one byte leaves it open that a mark comes first: none comes before U+0300.
+#[inline(always)]
+pub(crate) fn may_begin_with_mark(text: &str) -> bool {
+    let bytes = text.as_bytes();
+    !bytes.is_empty() && bytes[0] >= 0xCC
 }
 
 /// Whether `c` is one of the five starters whose compatibility decompositions begin with a non-starter.

@@ -68,6 +68,13 @@ fn composed(rt: HostRuntime) -> Result<(), Fail> {
         ("", "\u{9C7}\u{9BE}", "\u{9CB}", "\u{995}"),
         ("\u{EA}", "e\u{301}", "\u{E9}", "\u{EA}\u{323}"),
         ("a", "", "", "b\u{323}\u{334}c"),
+        // One character between two that compose, and not more.
+        (
+            "",
+            "e\u{301}ae\u{301}\u{4E00}a\u{301}",
+            "\u{E9}a\u{E9}\u{4E00}\u{E1}",
+            "cde\u{301}b",
+        ),
     ];
     check(&rt, rt.alloc(), Form::Nfc, &fronts)?;
     check(&rt, rt.alloc(), Form::Nfkc, &fronts)
@@ -206,6 +213,13 @@ fn decomposed(rt: HostRuntime) -> Result<(), Fail> {
         ("", "\u{D55C}", "\u{1112}\u{1161}\u{11AB}", "\u{E9}\u{301}"),
         ("a", "", "", "\u{E9}\u{301}b"),
         ("e\u{301}", "\u{E9}", "e\u{301}", "e\u{301}"),
+        // One character between two that are changed, and not more.
+        (
+            "",
+            "\u{E9}a\u{E9}\u{4E00}\u{D55C}",
+            "e\u{301}ae\u{301}\u{4E00}\u{1112}\u{1161}\u{11AB}",
+            "\u{4E00}\u{4E01}\u{E9}b",
+        ),
     ];
     check(&rt, rt.alloc(), Form::Nfd, &fronts)?;
     check(&rt, rt.alloc(), Form::Nfkd, &fronts)?;

@@ -13,6 +13,14 @@ fn rows_that_pass(rt: HostRuntime) -> Result<(), Fail> {
         ("b", "\u{2126}\u{F900}", "\u{3A9}\u{8C48}", "e\u{301}c"),
         ("a", "", "", "b\u{2126}c"),
         ("a", "\u{2126}", "\u{3A9}", "\u{2126}\u{301}"),
+        // One character between two, and not more.
+        ("", "\u{2126}a\u{2126}", "\u{3A9}a\u{3A9}", "bc\u{2126}"),
+        (
+            "",
+            "\u{2126}\u{4E00}\u{F900}",
+            "\u{3A9}\u{4E00}\u{8C48}",
+            "b\u{301}",
+        ),
     ];
     check(&rt, rt.alloc(), Form::Nfc, &fronts)?;
     check(&rt, rt.alloc(), Form::Nfkc, &fronts)?;

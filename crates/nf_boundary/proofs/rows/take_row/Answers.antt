@@ -10,7 +10,7 @@ pub returns-clause-closes : goal.returns-clause-closes
 returns-clause-closes c =
     let form = c.args.form in
     let first = c.args.first in
-    let is = c.in_ok-others.ensures.cases.0 in
+    let is = c.in-Some.ensures.cases.0 in
     let grown : c.try_extend_from_slice.new.self.items ≡ c.args.formed.now.items ++ first.members.now = search rules in
     let all = subst (All (λ x. IsTrue (passes_check form x))) (sym is) (All-cons (λ x. IsTrue (passes_check form x)) _ _ (c.requires.passes _ _ is) (c.if-not-all_pass.ensures refl)) in
     closes_row form first.seen c.requires.at c.every_character_is_sound.ensures.character c.rows_are_full.ensures.canonical c.rows_are_full.ensures.compat (c.the_quick_check_tells.ensures.parting form)

@@ -1,0 +1,43 @@
+use Rattle.std.proofs.Common.{◌≡◌, ℕ, ◌≤◌, Bool, true, false, ◌&&◌, ◌||◌, nat_le, List, [], ◌∷◌, refl, ap, arith, leb-true, le-leb}
+use Rattle.std.proofs.lemmas.Bool.{and_parts, and_from}
+use Rattle.ucd_table.specs.Rows.{Range, in_ranges}
+use Rattle.nf_forms.specs.declared.form.Form.{Form}
+use Rattle.nf_forms.specs.declared.form.Form.TheVariants.{Nfc, Nfd, Nfkc, Nfkd}
+use Rattle.nf_facts.specs.PlainRanges.{plain_ranges}
+use Rattle.nf_boundary.proofs.rows.is_plain.Goals as goal
+
+-- the range lies within one of these
+abbrev lies_within : List Range → ℕ → ℕ → Bool
+lies_within [] first last = false
+lies_within (r ∷ rs) first last = (nat_le r.0 first && nat_le last r.1) || lies_within rs first last
+
+or_each : (a b x y : Bool) → (a ≡ true → x ≡ true) → (b ≡ true → y ≡ true) → (a || b) ≡ true → (x || y) ≡ true
+or_each true b x y left right e = ap (λ z. z || y) (left refl)
+or_each false b true y left right e = refl
+or_each false b false y left right e = right e
+
+in_ranges-lies_within : (rs : List Range) (first last c : ℕ) → first ≤ c → c ≤ last → lies_within rs first last ≡ true → in_ranges rs c ≡ true
+unfolding in_ranges
+in_ranges-lies_within [] first last c low high within = cc
+in_ranges-lies_within (r ∷ rs) first last c low high within =
+    or_each (nat_le r.0 first && nat_le last r.1) (lies_within rs first last) (nat_le r.0 c && nat_le c r.1) (in_ranges rs c)
+    (λ here.
+    let both = and_parts (nat_le r.0 first) (nat_le last r.1) here in
+    and_from (nat_le r.0 c) (nat_le c r.1) (le-leb r.0 c (omega (arith, leb-true r.0 first both.0))) (le-leb c r.1 (omega (arith, leb-true last r.1 both.1))))
+    (in_ranges-lies_within rs first last c low high) within
+
+plain_in : (f : Form) → (lies_within (plain_ranges f) 0 0x7F ≡ true) × (lies_within (plain_ranges f) 0x627 0x64A ≡ true) × (lies_within (plain_ranges f) 0x3400 0x9FFF ≡ true)
+unfolding plain_ranges
+plain_in Nfc = (refl, refl, refl)
+plain_in Nfd = (refl, refl, refl)
+plain_in Nfkc = (refl, refl, refl)
+plain_in Nfkd = (refl, refl, refl)
+
+pub returns-in-0-to-127 : goal.returns-in-0-to-127
+returns-in-0-to-127 c = λ _ f. c.plain_ranges_pass.ensures f c.args.c (in_ranges-lies_within (plain_ranges f) 0 0x7F c.args.c (omega arith) (omega arith) (plain_in f).0)
+
+pub returns-in-0-to-127-2 : goal.returns-in-0-to-127-2
+returns-in-0-to-127-2 c = λ _ f. c.plain_ranges_pass.ensures f c.args.c (in_ranges-lies_within (plain_ranges f) 0x627 0x64A c.args.c (omega arith) (omega arith) (plain_in f).1)
+
+pub returns-in-0-to-127-3 : goal.returns-in-0-to-127-3
+returns-in-0-to-127-3 c = λ _ f. c.plain_ranges_pass.ensures f c.args.c (in_ranges-lies_within (plain_ranges f) 0x3400 0x9FFF c.args.c (omega arith) (omega arith) (plain_in f).2)
