@@ -1,10 +1,9 @@
 -- Characters the form of each of which is its row, since each member of that passes the quick check.
-use Rattle.std.proofs.Common.{◌≡◌, ℕ, ◌==◌, ◌&&◌, true, false, List, [], ◌∷◌, ◌++◌, if◌then◌else◌, refl, ap, sym, subst, ◌∙◌, inl, inr}
-use Rattle.std.proofs.lemmas.Bool.{and_parts, and_from, not_from_false, eq-eqb}
+use Rattle.std.proofs.Common.{◌≡◌, ℕ, false, List, [], ◌∷◌, ◌++◌, if◌then◌else◌, refl, ap, sym, subst, ◌∙◌, inl, inr}
+use Rattle.std.proofs.lemmas.Bool.{and_from, not_from_false, eq-eqb}
 use Rattle.std.proofs.lemmas.Str.{IsUtf8-nil}
 use Rattle.std.specs.Prelude.{IsTrue, encode_utf8}
-use Rattle.ucd_normal.specs.declared.forms.QuickCheck.{QuickCheck}
-use Rattle.ucd_normal.specs.declared.forms.QuickCheck.TheVariants.{Yes, No, Maybe}
+use Rattle.ucd_normal.specs.declared.forms.QuickCheck.TheVariants.{Yes}
 use Rattle.ucd_normal.specs.CanonicalCombiningClass.{canonical_combining_class}
 use Rattle.ucd_normal.specs.QuickCheck.{quick_check}
 use Rattle.std.specs.List.{list_all, All}
@@ -33,6 +32,7 @@ use Rattle.nf_boundary.specs.Seen.{IsAtBoundary}
 use Rattle.nf_boundary.specs.Pieces.{Closes}
 use Rattle.nf_boundary.specs.Stands.{Stands}
 use Rattle.nf_boundary.proofs.ApartLemmas.{row_is}
+use Rattle.nf_boundary.proofs.SeenLemmas.{passes_yes}
 use Rattle.nf_boundary.proofs.LetterLemmas.{letter_utf8, chars-letter, boundary-first, closes_letter}
 
 row_own : ((c : ℕ) → IsFull ucd.canonical (ucd.canonical c)) → ((c : ℕ) → IsFull ucd.compat (ucd.compat c)) → (f : Form) (c : ℕ) → decomposed f ucd (row_of f ucd c) ≡ row_of f ucd c
@@ -40,14 +40,6 @@ row_own canonical compat Nfc c = flat_map-full ucd ucd.canonical (ucd.canonical 
 row_own canonical compat Nfd c = flat_map-full ucd ucd.canonical (ucd.canonical c) (canonical c)
 row_own canonical compat Nfkc c = flat_map-full ucd ucd.compat (ucd.compat c) (compat c)
 row_own canonical compat Nfkd c = flat_map-full ucd ucd.compat (ucd.compat c) (compat c)
-
-passes_yes : (f : Form) (c : ℕ) → IsTrue (passes_check f c) → quick_check (kit_form f) c ≡ Yes
-passes_yes f c passes = is_yes-true (quick_check (kit_form f) c) (and_parts (canonical_combining_class c == 0) (is_yes (quick_check (kit_form f) c)) (and_parts (canonical_combining_class c == 0 && is_yes (quick_check (kit_form f) c)) _ passes).0).1
-  where
-    is_yes-true : (a : QuickCheck) → is_yes a ≡ true → a ≡ Yes
-    is_yes-true Yes e = refl
-    is_yes-true No e = cc
-    is_yes-true Maybe e = cc
 
 pub closes_row : (f : Form) (first : Seen) → IsAtBoundary f first → ((c : ℕ) → IsTrue (is_sound ucd c)) → ((c : ℕ) → IsFull ucd.canonical (ucd.canonical c)) → ((c : ℕ) → IsFull ucd.compat (ucd.compat c))
     → ((c : ℕ) → IsTrue (passes_check f c) → IsParting ucd f c) → (next : Seen) → next.text.now ≡ first.behind.now → IsAtBoundary f next

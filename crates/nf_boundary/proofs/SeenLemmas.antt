@@ -1,10 +1,13 @@
 -- A character as one look-up sees it: what stands behind it, and when a text may be cut before it.
-use Rattle.std.proofs.Common.{◌≡◌, ◌<◌, ◌||◌, ◌≤◌, ◌≢◌, ◌==◌, ℕ, false, List, ◌∷◌, length, refl, sym, ap, ◌∙◌, arith, length-append, eq-eqb, ne_eqb}
+use Rattle.std.proofs.Common.{◌≡◌, ◌<◌, ◌||◌, ◌&&◌, ◌≤◌, ◌≢◌, ◌==◌, ℕ, Bool, true, false, List, ◌∷◌, length, refl, sym, ap, ◌∙◌, arith, length-append, eq-eqb, ne_eqb}
 use Rattle.std.specs.Prelude.{chars, encode_utf8, IsTrue}
-use Rattle.std.proofs.lemmas.Bool.{and_from, or_from, or_parts, not_from_false}
+use Rattle.std.proofs.lemmas.Bool.{and_from, and_parts, or_from, or_parts, not_from_false}
+use Rattle.std.proofs.lemmas.Bool.Decides.{nat_tests}
 use Rattle.std.proofs.lemmas.Str.{chars_past_char, length-encode, len_utf8_bounds}
-use Rattle.ucd_normal.specs.declared.forms.QuickCheck.TheVariants.{Yes}
+use Rattle.ucd_normal.specs.declared.forms.QuickCheck.{QuickCheck}
+use Rattle.ucd_normal.specs.declared.forms.QuickCheck.TheVariants.{Yes, No, Maybe}
 use Rattle.ucd_normal.specs.CanonicalCombiningClass.{canonical_combining_class}
+use Rattle.ucd_normal.specs.QuickCheck.{quick_check}
 use Rattle.nf_forms.specs.Runs.{lead}
 use Rattle.nf_forms.specs.declared.form.Form.{Form}
 use Rattle.nf_forms.specs.Forms.{composes}
@@ -12,9 +15,29 @@ use Rattle.nf_forms.specs.Sound.{is_sound}
 use Rattle.nf_forms.specs.Parting.{BeginsAnew, IsBoundary, IsParting}
 use Rattle.nf_forms.specs.Ucd.{ucd}
 use Rattle.nf_forms.specs.Laws.ClosedForms.{counts_anew-lead, parting-boundary, boundary-decomposing}
+use Rattle.nf_facts.specs.KitForm.{kit_form}
 use Rattle.nf_facts.specs.Passing.{is_among, is_yes, halfwidth_marks, vowel_signs, passes_check}
 use Rattle.nf_boundary.specs.declared.seen.Seen.{Seen}
 use Rattle.nf_boundary.specs.Seen.{Sees, IsAtBoundary}
+
+-- what passes is a starter of which the quick check says yes
+module _ (f : Form) (c : ℕ) (passes : IsTrue (passes_check f c)) where
+  abbrev class_and_yes : Bool
+  class_and_yes = canonical_combining_class c == 0 && is_yes (quick_check (kit_form f) c)
+
+  both : (canonical_combining_class c == 0 ≡ true) × (is_yes (quick_check (kit_form f) c) ≡ true)
+  both = and_parts (canonical_combining_class c == 0) (is_yes (quick_check (kit_form f) c)) (and_parts class_and_yes _ passes).0
+
+  pub passes_class : canonical_combining_class c ≡ 0
+  passes_class = grind (arith, nat_tests, both.0)
+
+  pub passes_yes : quick_check (kit_form f) c ≡ Yes
+  passes_yes = is_yes-true (quick_check (kit_form f) c) both.1
+    where
+      is_yes-true : (a : QuickCheck) → is_yes a ≡ true → a ≡ Yes
+      is_yes-true Yes e = refl
+      is_yes-true No e = cc
+      is_yes-true Maybe e = cc
 
 module _ (f : Form) (seen : Seen) (here : Sees f seen) where
   pub chars-seen : chars seen.text.now ≡ seen.character ∷ chars seen.behind.now

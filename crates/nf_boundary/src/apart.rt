@@ -4,6 +4,7 @@ ghost use Rattle.nf_boundary.specs.Seen.{IsAtBoundary};
 ghost use Rattle.nf_boundary.specs.Pieces.{Closes};
 
 use crate::closed::Formed;
+use crate::lone::take_lone;
 use crate::seen::Seen;
 use nf_facts::{in_tables, laws};
 use nf_forms::Form;
@@ -22,24 +23,13 @@ pub(crate) fn take_apart<'t>(form: Form, first: Seen<'t>, formed: &mut Formed) -
 {
     laws::every_character_is_sound();
     laws::rows_are_ordered();
-    let is_calm = first.answer == QuickCheck::Yes;
-    if is_calm && begins_with_ascii(first.behind) {
-        return None;
+    if first.answer == QuickCheck::Yes {
+        return take_lone(form, first, formed);
     }
     let next = Seen::boundary(form, first.behind)?;
-    if is_calm && next.answer == QuickCheck::Yes {
-        return None;
-    }
     let mut room = [first.character; 3];
     formed
         .try_extend_from_slice(decomposition(first.character, in_tables(form), &mut room))
         .ok()?;
     Some(next)
-}
-
-/// Whether an ASCII character comes first: no form changes it.
-#[inline(always)]
-fn begins_with_ascii(text: &str) -> bool {
-    let bytes = text.as_bytes();
-    !bytes.is_empty() && bytes[0] < 0x80
 }

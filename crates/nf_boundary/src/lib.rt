@@ -11,6 +11,7 @@ mod composing;
 mod front;
 mod hangul;
 mod kept;
+mod lone;
 mod mark;
 mod marks;
 mod rows;

@@ -2,7 +2,6 @@ ghost use Rattle.std.specs.Prelude.{◌≡◌, ℕ, List, ◌∷◌, IsTrue, IfS
 ghost use Rattle.std.specs.List.{All};
 ghost use Rattle.unicode_normalization.specs.Decompose.{table_of, decompose};
 ghost use Rattle.unicode_normalization.specs.Hangul.{is_syllable};
-ghost use Rattle.nf_forms.specs.declared.form.Form.{Form};
 ghost use Rattle.nf_forms.specs.Ucd.{ucd};
 ghost use Rattle.nf_facts.specs.KitForm.{kit_form};
 ghost use Rattle.nf_facts.specs.Passing.{passes_check};
@@ -13,7 +12,8 @@ ghost use Rattle.nf_boundary.specs.Stands.{Stands};
 ghost use Rattle.nf_boundary.specs.Rows.{IsRow};
 
 use crate::closed::{Closed, Formed};
-use crate::seen::{Seen, begins_with_mark};
+use crate::lone::take_own;
+use crate::seen::{Seen, begins_with_mark, is_plain};
 use nf_facts::{in_tables, is_halfwidth_mark, laws};
 use nf_forms::Form;
 use ucd_normal::{
@@ -106,16 +106,10 @@ fn take_lone<'t>(form: Form, first: Row<'t>, next: Row<'t>, formed: &mut Formed)
     ensures row { IfSome result (λ next. IsRow form next) }
     ensures stays { IsNone result → formed.new ≡ formed.old }
 {
-    laws::every_character_is_sound();
-    laws::the_quick_check_tells();
-    let lone = first.seen;
-    if next.members.is_empty() || lone.answer != QuickCheck::Yes {
+    if next.members.is_empty() {
         return None;
     }
-    if is_halfwidth_mark(lone.character) {
-        return None;
-    }
-    formed.try_push(lone.character).ok()?;
+    take_own(form, first.seen, next.seen, formed)?;
     Some(next)
 }
 
@@ -203,14 +197,4 @@ fn passes(form: Form, c: char) -> bool
     }
     let (class, answer) = class_and_quick_check(c, in_tables(form));
     class == 0 && answer == QuickCheck::Yes && !is_halfwidth_mark(c)
-}
-
-/// Whether it shows with no look-up that `c` passes, in each form: in ASCII, and among the letters of Arabic and of Han, of
-/// which most decompositions are made.
-#[inline(always)]
-fn is_plain(c: char) -> bool
-    ensures { IsTrue result → (f : Form) → IsTrue (passes_check f c) }
-{
-    laws::plain_ranges_pass();
-    matches!(c, '\0'..='\x7F' | '\u{627}'..='\u{64A}' | '\u{3400}'..='\u{9FFF}')
 }

@@ -1,7 +1,10 @@
-ghost use Rattle.std.specs.Prelude.{◌≡◌, ◌||◌};
+ghost use Rattle.std.specs.Prelude.{◌≡◌, ◌||◌, IsTrue};
+ghost use Rattle.ucd_normal.specs.CanonicalCombiningClass.{canonical_combining_class};
+ghost use Rattle.ucd_normal.specs.QuickCheck.{quick_check};
+ghost use Rattle.nf_forms.specs.declared.form.Form.{Form};
 ghost use Rattle.nf_forms.specs.Forms.{composes};
 ghost use Rattle.nf_facts.specs.KitForm.{kit_form};
-ghost use Rattle.nf_facts.specs.Passing.{is_among, halfwidth_marks, vowel_signs};
+ghost use Rattle.nf_facts.specs.Passing.{is_among, halfwidth_marks, vowel_signs, passes_check};
 
 use nf_facts::{in_tables, laws};
 use nf_forms::Form;
@@ -29,7 +32,7 @@ impl<'t> Seen<'t> {
     {
         let mut chars = text.chars();
         let character = chars.next()?;
-        let (class, answer) = class_and_quick_check(character, in_tables(form));
+        let (class, answer) = look_up(form, character);
         Some(Seen {
             text,
             character,
@@ -114,6 +117,28 @@ impl<'t> Seen<'t> {
         }
         !form.composes() || self.answer == QuickCheck::Yes
     }
+}
+
+/// The class and the answer of the quick check: of ASCII with no look-up.
+#[inline(always)]
+fn look_up(form: Form, c: char) -> (u8, QuickCheck)
+    ensures class { result.0 ≡ canonical_combining_class c }
+    ensures answer { result.1 ≡ quick_check (kit_form form) c }
+{
+    if c < '\u{80}' && is_plain(c) {
+        return (0, QuickCheck::Yes);
+    }
+    class_and_quick_check(c, in_tables(form))
+}
+
+/// Whether it shows with no look-up that `c` passes, in each form: in ASCII, and among the letters of Arabic and of Han, of
+/// which most decompositions are made.
+#[inline(always)]
+pub(crate) fn is_plain(c: char) -> bool
+    ensures { IsTrue result → (f : Form) → IsTrue (passes_check f c) }
+{
+    laws::plain_ranges_pass();
+    matches!(c, '\0'..='\x7F' | '\u{627}'..='\u{64A}' | '\u{3400}'..='\u{9FFF}')
 }
 
 /// Whether one byte leaves it open that a mark comes first: none comes before U+0300.

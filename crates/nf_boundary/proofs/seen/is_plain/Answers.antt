@@ -4,7 +4,7 @@ use Rattle.ucd_table.specs.Rows.{Range, in_ranges}
 use Rattle.nf_forms.specs.declared.form.Form.{Form}
 use Rattle.nf_forms.specs.declared.form.Form.TheVariants.{Nfc, Nfd, Nfkc, Nfkd}
 use Rattle.nf_facts.specs.PlainRanges.{plain_ranges}
-use Rattle.nf_boundary.proofs.rows.is_plain.Goals as goal
+use Rattle.nf_boundary.proofs.seen.is_plain.Goals as goal
 
 -- the range lies within one of these
 abbrev lies_within : List Range → ℕ → ℕ → Bool
