@@ -33,7 +33,7 @@ class Hostile:
     friend: str
 
     def ill_formed(self) -> bool:
-        return self.again[0] >= 0x80 and not is_text(self.again)
+        return not is_text(self.again)
 
     def content(self) -> bytes:
         return self.front + self.again * (SIZE // len(self.again))
@@ -68,9 +68,15 @@ HOSTILE = [
     again("U+FF9E, a starter that is a mark in NFKD", "\uff9e", "japanese"),
     again("letters of Hangul that make syllables", "\u1112\u1161\u11ab", "korean"),
     again("vowels of Hangul alone", "\u1161", "korean"),
+    again("U+00E9 and a, in turns", "\u00e9a", "french"),
+    again("e with U+0301, and a, in turns", "e\u0301a", "french"),
+    again("a syllable of Hangul and a, in turns", "\uac00a", "korean"),
+    again("a full-width letter and a, in turns", "\uff21a", "japanese"),
+    again("U+FDFA and a, in turns", "\ufdfaa", "arabic"),
     Hostile("bytes 80 alone, `--replace`", b"", b"\x80", "french"),
     Hostile("F0 90 80, again and again, `--replace`", b"", b"\xf0\x90\x80", "french"),
     Hostile("bytes E0 alone, `--replace`", b"", b"\xe0", "french"),
+    Hostile("a and 80, in turns, `--replace`", b"", b"a\x80", "french"),
 ]
 
 
