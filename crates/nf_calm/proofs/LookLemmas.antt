@@ -6,7 +6,7 @@ use Rattle.std.proofs.lemmas.Nat.{and_le_l, le_or_l, le_or_r}
 use Rattle.nf_forms.specs.declared.form.Form.{Form}
 use Rattle.nf_forms.specs.declared.form.Form.TheVariants.{Nfc, Nfd, Nfkc, Nfkd}
 use Rattle.nf_calm.specs.Leads.{lead_bits, wants_look}
-use Rattle.nf_calm.specs.Closer.{high_of, low_of, pairs_of, triples_of, pair_hits, triple_hits, wants_pair, wants_triple, wants_triples, kana_of, asked_of, look_at}
+use Rattle.nf_calm.specs.Closer.{high_of, low_of, pairs_of, triples_of, pair_hits, triple_hits, wants_pair, wants_triple, wants_triples, kana_of, wide_of, asked_of, look_at}
 use Rattle.nf_calm.specs.declared.closer.Triples.{Triples}
 
 abbrev pub all_below : (ℕ → Bool) → ℕ → Bool
@@ -39,13 +39,19 @@ some_bits x y some a b = true≢false (sym some ∙ ap (λ n. not (bit_or n y ==
 abbrev HasNoLead : Triples → Type 0
 HasNoLead t = all_below (λ h. get_or t.pairs.lead_high h 0 == 0) 12 ≡ true
 
--- what holds of both sets holds of those that are asked
-asked_either : (f : Form) (lead : ℕ) (P : Triples → Type 0) → P (kana_of f) → P (triples_of f) → P (asked_of f lead)
-asked_either f lead P kana others = pick (lead == 0xE3)
+-- what holds of all the sets holds of those that are asked
+asked_each : (f : Form) (lead : ℕ) (P : Triples → Type 0) → P (kana_of f) → P (wide_of f) → P (triples_of f) → P (asked_of f lead)
+asked_each f lead P kana wide others = pick (lead == 0xE3) (lead == 0xEF)
   where
-    pick : (b : Bool) → P (if b then kana_of f else triples_of f)
-    pick true = kana
-    pick false = others
+    pick : (a b : Bool) → P (if a then kana_of f else (if b then wide_of f else triples_of f))
+    pick true b = kana
+    pick false true = wide
+    pick false false = others
+
+-- those that are asked for the sake of a lead byte with no sets of its own
+pub asked_of-others : (f : Form) (lead : ℕ) → (lead == 0xE3) ≡ false → (lead == 0xEF) ≡ false → triples_of f ≡ asked_of f lead
+asked_of-others f lead kana wide =
+    sym (ap (λ b. if b then kana_of f else (if lead == 0xEF then wide_of f else triples_of f)) kana ∙ ap (λ b. if b then wide_of f else triples_of f) wide)
 
 module _ (f : Form) where
   module _ (bytes : List ℕ) (k : ℕ) where
@@ -57,6 +63,9 @@ module _ (f : Form) where
 
     abbrev triple_here : Bool
     triple_here = wants_triples f (get_or bytes k 0) (get_or bytes (k + 1) 0) (get_or bytes (k + 2) 0)
+
+    abbrev others_here : Bool
+    others_here = triple_in (kana_of f) && triple_in (wide_of f)
 
     pub told_by_lead : wants_look f (get_or bytes k 0) ≡ false → look_at f bytes k ≡ false
     told_by_lead e = ap (λ b. b && (pair_here && triple_here)) e
@@ -70,8 +79,10 @@ module _ (f : Form) where
     -- whichever sets are asked
     pub told_by_triple : (t : Triples) (lead : ℕ) → t ≡ asked_of f lead → triple_in t ≡ false → look_at f bytes k ≡ false
     told_by_triple t lead is e =
-        asked_either f lead (λ t. triple_in t ≡ false → look_at f bytes k ≡ false) (λ none. told_by_triples (and_no (triple_in (triples_of f)) (triple_in (kana_of f)) none))
-        (λ none. told_by_triples (ap (λ b. b && triple_in (kana_of f)) none))
+        asked_each f lead (λ t. triple_in t ≡ false → look_at f bytes k ≡ false)
+        (λ none. told_by_triples (and_no (triple_in (triples_of f)) others_here (ap (λ b. b && triple_in (wide_of f)) none)))
+        (λ none. told_by_triples (and_no (triple_in (triples_of f)) others_here (and_no (triple_in (kana_of f)) (triple_in (wide_of f)) none)))
+        (λ none. told_by_triples (ap (λ b. b && others_here) none))
         (sym (ap triple_in is) ∙ e)
 
   -- the tables have nothing for a byte that is no lead byte
@@ -79,13 +90,14 @@ module _ (f : Form) where
     rows : all_below (λ h. get_or (pairs_of f).lead_high h 0 == 0) 12 ≡ true
     triples : HasNoLead (triples_of f)
     kana : HasNoLead (kana_of f)
+    wide : HasNoLead (wide_of f)
     leads : all_below (λ byte. lead_bits f byte == 0) 192 ≡ true
 
 no_lead : (f : Form) → NoLead f
-no_lead Nfc = record { rows = refl; triples = refl; kana = refl; leads = refl }
-no_lead Nfd = record { rows = refl; triples = refl; kana = refl; leads = refl }
-no_lead Nfkc = record { rows = refl; triples = refl; kana = refl; leads = refl }
-no_lead Nfkd = record { rows = refl; triples = refl; kana = refl; leads = refl }
+no_lead Nfc = record { rows = refl; triples = refl; kana = refl; wide = refl; leads = refl }
+no_lead Nfd = record { rows = refl; triples = refl; kana = refl; wide = refl; leads = refl }
+no_lead Nfkc = record { rows = refl; triples = refl; kana = refl; wide = refl; leads = refl }
+no_lead Nfkd = record { rows = refl; triples = refl; kana = refl; wide = refl; leads = refl }
 
 module _ (f : Form) where
   no_lead_bits : (byte : ℕ) → byte < 192 → lead_bits f byte ≡ 0
@@ -129,6 +141,7 @@ module _ (f : Form) where
 
   pub triple_begins : (t : Triples) (asked : ℕ) → t ≡ asked_of f asked → (lead next last : ℕ) → wants_triple t f lead next last ≡ true → 192 ≤ lead
   triple_begins t asked is lead next last look =
-      asked_either f asked (λ t. wants_triple t f lead next last ≡ true → 192 ≤ lead) (triple_begins_in (kana_of f) (no_lead f).kana lead next last)
+      asked_each f asked (λ t. wants_triple t f lead next last ≡ true → 192 ≤ lead) (triple_begins_in (kana_of f) (no_lead f).kana lead next last)
+      (triple_begins_in (wide_of f) (no_lead f).wide lead next last)
       (triple_begins_in (triples_of f) (no_lead f).triples lead next last)
       (sym (ap (λ t. wants_triple t f lead next last) is) ∙ look)

@@ -8,7 +8,7 @@ use Rattle.nf_forms.specs.declared.form.Form.{Form}
 use Rattle.nf_forms.specs.declared.form.Form.TheVariants.{Nfc, Nfd, Nfkc, Nfkd}
 use Rattle.nf_facts.specs.PlainRanges.{plain_ranges}
 use Rattle.nf_calm.specs.Leads.{lead_bits, wants_look}
-use Rattle.nf_calm.specs.Closer.{high_of, low_of, pairs_of, triples_of, pair_hits, triple_hits, wants_pair, wants_triple, wants_triples, kana_of, look_at}
+use Rattle.nf_calm.specs.Closer.{high_of, low_of, pairs_of, triples_of, pair_hits, triple_hits, wants_pair, wants_triple, wants_triples, kana_of, wide_of, look_at}
 use Rattle.nf_calm.specs.declared.closer.Triples.{Triples}
 use Rattle.nf_calm.proofs.LookLemmas.{all_below, every_below, no_bits}
 
@@ -91,14 +91,15 @@ record Told (f : Form) : Type 0 where
   of_two : all_below (told_two f) 32 ≡ true
   of_three : all_below (told_three f (triples_of f)) 16 ≡ true
   of_kana : all_below (told_three f (kana_of f)) 16 ≡ true
+  of_wide : all_below (told_three f (wide_of f)) 16 ≡ true
   of_four : all_below (told_four f) 8 ≡ true
 
 told : (f : Form) → Told f
 unfolding plain_ranges
-told Nfc = record { ascii = refl; of_two = refl; of_three = refl; of_kana = refl; of_four = refl }
-told Nfd = record { ascii = refl; of_two = refl; of_three = refl; of_kana = refl; of_four = refl }
-told Nfkc = record { ascii = refl; of_two = refl; of_three = refl; of_kana = refl; of_four = refl }
-told Nfkd = record { ascii = refl; of_two = refl; of_three = refl; of_kana = refl; of_four = refl }
+told Nfc = record { ascii = refl; of_two = refl; of_three = refl; of_kana = refl; of_wide = refl; of_four = refl }
+told Nfd = record { ascii = refl; of_two = refl; of_three = refl; of_kana = refl; of_wide = refl; of_four = refl }
+told Nfkc = record { ascii = refl; of_two = refl; of_three = refl; of_kana = refl; of_wide = refl; of_four = refl }
+told Nfkd = record { ascii = refl; of_two = refl; of_three = refl; of_kana = refl; of_wide = refl; of_four = refl }
 
 module _ (f : Form) where
   lies : (first last c : ℕ) → lies_within (plain_ranges f) first last ≡ true → first ≤ c → c ≤ last → in_ranges (plain_ranges f) c ≡ true
@@ -117,7 +118,8 @@ module _ (f : Form) where
       true_from_ne_false _ (λ none. true≢false (sym others ∙ ap (λ n. not (n == 0)) ((no_bits (triple_hits t lead next last) (bit_and (lead_bits f lead) 11) none).1)))
 
   asked_triple : (lead next last : ℕ) → not (bit_and (lead_bits f lead) 11 == 0) ≡ true → wants_triples f lead next last ≡ true
-  asked_triple lead next last others = and_from _ _ (asked_in (triples_of f) lead next last others) (asked_in (kana_of f) lead next last others)
+  asked_triple lead next last others =
+      and_from _ _ (asked_in (triples_of f) lead next last others) (and_from _ _ (asked_in (kana_of f) lead next last others) (asked_in (wide_of f) lead next last others))
 
   by_two : (k i last : ℕ) → k < 32 → i < 64 → look3 (192 + k) (128 + i) last ≡ false → in_ranges (plain_ranges f) (64 * k + i) ≡ true
   by_two k i last short little plain =
@@ -152,18 +154,21 @@ module _ (f : Form) where
       (either (lies_within (plain_ranges f) (4096 * k + 64 * i) (4096 * k + 64 * i + 63)) _ (every_below (told_block f t k) 64 parts.1 i little)))
       (either (lies_within (plain_ranges f) (4096 * k) (4096 * k + 4095)) _ (every_below (told_three f t) 16 all k short))
 
-  -- one of the two sets tells it
+  -- one of the sets tells it
   by_three : (k i j : ℕ) → k < 16 → i < 64 → j < 64 → 2048 ≤ 4096 * k + 64 * i + j → look3 (224 + k) (128 + i) (128 + j) ≡ false → in_ranges (plain_ranges f) (4096 * k + 64 * i + j) ≡ true
   by_three k i j short little small large =
-      of (wants_look f (224 + k)) (wants_pair f (224 + k) (128 + i)) (wants_triple (triples_of f) f (224 + k) (128 + i) (128 + j)) (wants_triple (kana_of f) f (224 + k) (128 + i) (128 + j)) _
+      of (wants_look f (224 + k)) (wants_pair f (224 + k) (128 + i)) (wants_triple (triples_of f) f (224 + k) (128 + i) (128 + j)) (wants_triple (kana_of f) f (224 + k) (128 + i) (128 + j))
+      (wants_triple (wide_of f) f (224 + k) (128 + i) (128 + j)) _
       (by_three_in (triples_of f) (told f).of_three k i j short little small large)
       (by_three_in (kana_of f) (told f).of_kana k i j short little small large)
+      (by_three_in (wide_of f) (told f).of_wide k i j short little small large)
     where
-      of : (a b c d : Bool) (P : Type 0) → ((a && (b && c)) ≡ false → P) → ((a && (b && d)) ≡ false → P) → (a && (b && (c && d))) ≡ false → P
-      of false b c d P first second e = first refl
-      of true false c d P first second e = first refl
-      of true true false d P first second e = first refl
-      of true true true d P first second e = second e
+      of : (a b c d w : Bool) (P : Type 0) → ((a && (b && c)) ≡ false → P) → ((a && (b && d)) ≡ false → P) → ((a && (b && w)) ≡ false → P) → (a && (b && (c && (d && w)))) ≡ false → P
+      of false b c d w P first second third e = first refl
+      of true false c d w P first second third e = first refl
+      of true true false d w P first second third e = first refl
+      of true true true false w P first second third e = second refl
+      of true true true true w P first second third e = third e
 
   by_four : (k next last c : ℕ) → k < 8 → 262144 * k ≤ c → c ≤ 262144 * k + 262143 → look3 (240 + k) next last ≡ false → in_ranges (plain_ranges f) c ≡ true
   by_four k next last c short low high plain =

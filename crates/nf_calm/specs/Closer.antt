@@ -7,6 +7,7 @@ use Rattle.nf_calm.specs.declared.closer.Pairs.{Pairs}
 use Rattle.nf_calm.specs.declared.closer.Triples.{Triples}
 use Rattle.nf_calm.specs.declared.closer.TheConstants.{COMPOSED_PAIRS, DECOMPOSED_PAIRS, NFC_TRIPLES, NFKC_TRIPLES, DECOMPOSED_TRIPLES}
 use Rattle.nf_calm.specs.declared.kana.TheConstants.{NFKC_KANA, NFD_KANA, NFKD_KANA}
+use Rattle.nf_calm.specs.declared.wide.TheConstants.{NFC_WIDE, NFD_WIDE, COMPATIBILITY_WIDE}
 use Rattle.nf_calm.specs.Leads.{lead_bits, wants_look}
 
 -- 16 places, from one on
@@ -27,14 +28,21 @@ triples_of Nfkd = DECOMPOSED_TRIPLES
 
 -- those that tell most of E3
 abbrev pub kana_of : Form → Triples
-kana_of Nfc = NFC_TRIPLES
+kana_of Nfc = NFC_WIDE
 kana_of Nfkc = NFKC_KANA
 kana_of Nfd = NFD_KANA
 kana_of Nfkd = NFKD_KANA
 
+-- those that tell most of EF
+abbrev pub wide_of : Form → Triples
+wide_of Nfc = NFC_WIDE
+wide_of Nfkc = COMPATIBILITY_WIDE
+wide_of Nfd = NFD_WIDE
+wide_of Nfkd = COMPATIBILITY_WIDE
+
 -- the one that is asked for the sake of a lead byte
 abbrev pub asked_of : Form → ℕ → Triples
-asked_of f lead = if lead == 0xE3 then kana_of f else triples_of f
+asked_of f lead = if lead == 0xE3 then kana_of f else (if lead == 0xEF then wide_of f else triples_of f)
 
 -- the entries of a table for the halves of a byte
 abbrev pub high_of : List ℕ → ℕ → ℕ
@@ -60,7 +68,8 @@ abbrev pub wants_triple : Triples → Form → ℕ → ℕ → ℕ → Bool
 wants_triple t f lead next last = not (bit_or (triple_hits t lead next last) (bit_and (lead_bits f lead) 11) == 0)
 
 abbrev pub wants_triples : Form → ℕ → ℕ → ℕ → Bool
-wants_triples f lead next last = wants_triple (triples_of f) f lead next last && wants_triple (kana_of f) f lead next last
+wants_triples f lead next last =
+    wants_triple (triples_of f) f lead next last && (wants_triple (kana_of f) f lead next last && wants_triple (wide_of f) f lead next last)
 
 -- neither the byte at k nor it and those behind tell that a character passes which begins there
 abbrev pub look_at : Form → List ℕ → ℕ → Bool

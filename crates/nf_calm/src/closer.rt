@@ -50,7 +50,7 @@ static DECOMPOSED_PAIRS: Pairs = Pairs {
 // In NFC: E1, E2, EA and EF before 80 to AF, E0 and EF before B0 to BF, E1 and E2 before B0 to B7 and BC to BF, E0 before A0
 // to A3 and A6 to AF; E0 A4 and E0 A5 before 8C, 8D, BC and BD, E0 A5 before 90 to 9F, E3 80 before AA to AF, E3 82 before
 // 99 and 9A.
-pub(crate) static NFC_TRIPLES: Triples = Triples {
+static NFC_TRIPLES: Triples = Triples {
     pairs: Pairs {
         lead_high: [0, 0, 0, 0, 0, 0, 0, 0, 0, 0, 0, 0, 0, 0, 255, 0],
         lead_low: [58, 5, 5, 192, 0, 0, 0, 0, 0, 0, 1, 0, 0, 0, 0, 3],

@@ -3,7 +3,8 @@
 ghost use Rattle.std.specs.Prelude.{◌≡◌};
 ghost use Rattle.nf_calm.specs.Closer.{kana_of};
 
-use crate::closer::{NFC_TRIPLES, Pairs, Triples};
+use crate::closer::{Pairs, Triples};
+use crate::wide::NFC_WIDE;
 use nf_forms::Form;
 
 // The last set of each is of the other lead bytes that tell nothing, before any bytes. Of E3 stand in the sets before it, as
@@ -84,7 +85,7 @@ pub(crate) fn kana_of(form: Form) -> &'static Triples
     ensures { result.now ≡ kana_of form }
 {
     match form {
-        Form::Nfc => &NFC_TRIPLES,
+        Form::Nfc => &NFC_WIDE,
         Form::Nfkc => &NFKC_KANA,
         Form::Nfd => &NFD_KANA,
         Form::Nfkd => &NFKD_KANA,

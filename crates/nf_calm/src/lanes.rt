@@ -8,6 +8,7 @@ use crate::bytes::by_bytes;
 use crate::closer::{Pairs, Triples, pairs_of, triples_of};
 use crate::kana::kana_of;
 use crate::leads::{ROWS, columns};
+use crate::wide::wide_of;
 use nf_forms::Form;
 use std::simd::prelude::*;
 
@@ -94,16 +95,17 @@ fn pair_looks(form: Form, bytes: &[u8], at: usize) -> u64
     (hits | others).simd_ne(u8x16::splat(0)).to_bitmask()
 }
 
-/// The same for the sake of a lead byte from E0 to EF: E3, of kana, has sets of its own. Each copy has its tables at hand.
+/// The same for the sake of a lead byte from E0 to EF: E3, of kana, and EF, of fullwidth letters, have sets of their own.
+/// Each copy has its tables at hand.
 #[inline(always)]
 fn asked_looks(form: Form, lead: u8, bytes: &[u8], at: usize) -> u64
     requires room { at + 18 ≤ length bytes.now }
     ensures { result ≡ mask_l (map (λ k. wants_triple (asked_of form lead) form (slice_index bytes.now k) (slice_index bytes.now (k + 1)) (slice_index bytes.now (k + 2))) (places at)) }
 {
-    if lead == 0xE3 {
-        triple_looks(form, kana_of(form), bytes, at)
-    } else {
-        triple_looks(form, triples_of(form), bytes, at)
+    match lead {
+        0xE3 => triple_looks(form, kana_of(form), bytes, at),
+        0xEF => triple_looks(form, wide_of(form), bytes, at),
+        _ => triple_looks(form, triples_of(form), bytes, at),
     }
 }
 

@@ -14,6 +14,7 @@ mod lanes;
 mod leads;
 mod marks;
 mod scan;
+mod wide;
 
 pub use calm::Calm;
 pub use front::calm_front;

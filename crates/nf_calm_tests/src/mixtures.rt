@@ -8,10 +8,10 @@ use std::test::Fail;
 use unicode_normalization::char::canonical_combining_class;
 
 /// Letters of many scripts, of each width.
-const LETTERS: [&str; 20] = [
+const LETTERS: [&str; 22] = [
     "a", " ", "\u{E9}", "\u{433}", "\u{439}", "\u{5D0}", "\u{628}", "\u{623}", "\u{645}",
     "\u{669}", "\u{915}", "\u{939}", "\u{94C}", "\u{1100}", "\u{1EBF}", "\u{3002}", "\u{3044}",
-    "\u{30AC}", "\u{4E2D}", "\u{AC00}",
+    "\u{30AC}", "\u{4E2D}", "\u{AC00}", "\u{FF0C}", "\u{FFFD}",
 ];
 
 /// Marks that stand alone in each form, of classes 220, 10, 30, 35, 9, 107 and 218.
@@ -20,7 +20,7 @@ const MARKS: [&str; 7] = [
 ];
 
 /// Blocks that have characters of all kinds: the first code point, and how many.
-const BLOCKS: [(u32, u32); 10] = [
+const BLOCKS: [(u32, u32); 12] = [
     (0x300, 0x70),
     (0x400, 0x100),
     (0x590, 0x70),
@@ -29,6 +29,8 @@ const BLOCKS: [(u32, u32); 10] = [
     (0x1100, 0x100),
     (0x1E00, 0x200),
     (0x3000, 0x100),
+    (0xFB00, 0x100),
+    (0xFE00, 0x40),
     (0xFF60, 0x60),
     (0x1D150, 0x80),
 ];
@@ -86,16 +88,16 @@ fn mixtures_end_where_their_characters_say(rt: HostRuntime) -> Result<(), Fail> 
     let mut seeded = Seeded(0x9E37_79B9_7F4A_7C15);
     for round in 0..4000u32 {
         let mut text = String::new(rt.alloc());
-        let letter = LETTERS[seeded.below(20) as usize];
+        let letter = LETTERS[seeded.below(22) as usize];
         let others = 2 + seeded.below(40);
         for _ in 0..10 + seeded.below(190) {
             match seeded.below(others) {
                 0 => {
-                    let (first, len) = BLOCKS[seeded.below(10) as usize];
+                    let (first, len) = BLOCKS[seeded.below(12) as usize];
                     text.push(seeded.char_in(first, len).unwrap_or('b'))?;
                 }
                 1 => text.push_str(MARKS[seeded.below(7) as usize])?,
-                2..=9 => text.push_str(LETTERS[seeded.below(20) as usize])?,
+                2..=9 => text.push_str(LETTERS[seeded.below(22) as usize])?,
                 _ => text.push_str(letter)?,
             }
         }

@@ -4,8 +4,9 @@ use nf_calm::calm_front;
 use nf_forms::Form;
 use std::test::Fail;
 
-/// Each letter passes in each form, and its lead byte, of two bytes and of three, does not tell it; E3 has sets of its own.
-const LETTERS: [&str; 3] = ["\u{628}", "\u{915}", "\u{306E}"];
+/// Each letter passes in each form, and its lead byte, of two bytes and of three, does not tell it; E3 and EF
+/// have sets of their own.
+const LETTERS: [&str; 4] = ["\u{628}", "\u{915}", "\u{306E}", "\u{FFFD}"];
 
 #[test]
 fn each_scalar_value_among_letters(rt: HostRuntime) -> Result<(), Fail> {
