@@ -12,3 +12,4 @@ pub mod Taking
 pub mod Pushes
 pub mod Replaced
 pub mod Broken
+pub mod Stretch

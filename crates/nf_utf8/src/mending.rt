@@ -1,14 +1,13 @@
 //! Ill-formed parts with little text between them, mended many at once: to take each stretch of text and each part by
 //! itself costs far more than to copy them.
 
-ghost use Rattle.std.specs.Prelude.{◌≡◌, ◌+◌, ◌≤◌, ◌<◌, ℕ, false, ◌++◌, IfSome, IsTrue, chars, length, take, drop};
+ghost use Rattle.std.specs.Prelude.{◌≡◌, ◌≤◌, false, ◌++◌, IfSome, IsTrue, chars, length, take};
 ghost use Rattle.std.specs.Str.{IsUtf8};
 ghost use Rattle.std.specs.Str.Lossy.{replacement_bytes};
-ghost use Rattle.nf_utf8.specs.Ending.{Bad};
-ghost use Rattle.nf_utf8.specs.Reading.{ending_of};
-ghost use Rattle.nf_utf8.specs.Replaced.{part_end};
 ghost use Rattle.nf_utf8.specs.Broken.{IsReplacedFront};
+ghost use Rattle.nf_utf8.specs.Stretch.{IsStretch};
 
+use crate::ascii::ascii_prefix;
 use crate::broken::{bad_at, part_len};
 use arrayvec::ArrayVec;
 
@@ -59,14 +58,28 @@ pub fn mended_text(mended: &Mended) -> &str
 
 /// The text that the bytes begin with, which may be none, and the ill-formed part behind it, where that is near.
 fn short_stretch(bytes: &[u8]) -> Option<Stretch>
-    ensures { IfSome result (λ stretch. (stretch.text ≤ length bytes.now) × IsUtf8 (take stretch.text bytes.now)
-        × ((at : ℕ) × (ending_of (drop stretch.text bytes.now) ≡ Bad at 0) × (stretch.len ≡ stretch.text + part_end at 0))) }
+    ensures { IfSome result (λ stretch. IsStretch bytes.now stretch) }
 {
     let near = &bytes[..bytes.len().min(NEAR)];
-    let Err(error) = std::str::from_utf8(near) else {
-        return None;
-    };
-    let text = error.valid_up_to();
+    // Most is ASCII, which costs less to tell than to validate.
+    match stretch_of(bytes, ascii_prefix(near)) {
+        Some(stretch) => Some(stretch),
+        None => {
+            let Err(error) = std::str::from_utf8(near) else {
+                return None;
+            };
+            stretch_of(bytes, error.valid_up_to())
+        }
+    }
+}
+
+/// So many bytes, which are text, and the part behind them, where there is one.
+#[inline(always)]
+fn stretch_of(bytes: &[u8], text: usize) -> Option<Stretch>
+    requires within { text ≤ length bytes.now }
+    requires utf8 { IsUtf8 (take text bytes.now) }
+    ensures { IfSome result (λ stretch. IsStretch bytes.now stretch) }
+{
     let at = bad_at(&bytes[text..])?;
     Some(Stretch {
         text,

@@ -1,7 +1,8 @@
-use Rattle.std.proofs.Common.{◌≡◌, ◌+◌, [], length, refl, sym, subst, ap, chars, IsUtf8, arith, ◌∙◌}
+use Rattle.std.proofs.Common.{◌≡◌, ◌+◌, [], length, drop, refl, sym, subst, ap, chars, IsUtf8, arith, ◌∙◌}
 use Rattle.std.proofs.lemmas.List.{take_rest}
 use Rattle.std.proofs.lemmas.Str.{IsUtf8-nil, chars-encodes}
 use Rattle.nf_utf8.specs.Broken.{IsReplacedFront}
+use Rattle.nf_utf8.specs.Stretch.{IsStretch}
 use Rattle.nf_utf8.proofs.BrokenLemmas.{no_part}
 use Rattle.nf_utf8.proofs.MendingLemmas.{IsMendedWith, one_stretch}
 use Rattle.nf_utf8.proofs.mending.mend_front.Goals as goal
@@ -19,9 +20,9 @@ loop-stretch-init c =
 mended_with : (c : goal.After-struct_known-in-Some-1) → IsMendedWith c.args.bytes.now c.append.new.mended.items c.loop-stretch.len (c.loop-stretch.len + c.in-Some.stretch.len)
 mended_with c =
     let i = c.loop-stretch.invariant in
-    let s = rw take_rest at c.in-Some.ensures in
-    one_stretch c.args.bytes.now c.loop-stretch.mended.items c.loop-stretch.len i.text i.replaced i.few c.in-Some.stretch.text s.0 s.1 s.2.0 s.2.1 c.append.new.mended.items
-    (c.if-not-append.ensures.grown refl) c.in-Some.stretch.len s.2.2
+    let s : IsStretch (drop c.loop-stretch.len c.args.bytes.now) c.in-Some.stretch = rw take_rest at c.in-Some.ensures in
+    one_stretch c.args.bytes.now c.loop-stretch.mended.items c.loop-stretch.len i.text i.replaced i.few c.in-Some.stretch.text s.within s.utf8 s.at s.bad c.append.new.mended.items
+    (c.if-not-append.ensures.grown refl) c.in-Some.stretch.len s.len
 
 pub overflow_add-len-in-Some : goal.overflow_add-len-in-Some
 overflow_add-len-in-Some c = omega (arith, (mended_with c).within)
