@@ -12,8 +12,8 @@ use ucd_normal::QuickCheck;
 use unicode_normalization::char::decomposition;
 
 /// Appends the decomposition of a character that the form changes, where a boundary comes behind it, and answers that: in
-/// a form that does not compose, so much is closed. Calm text is left, to be taken as it stands, but for one character
-/// before another that is changed: to go from one to the other and back costs more than to copy it.
+/// a form that does not compose, so much is closed. Calm text is left, to be taken as it stands, but for a few characters
+/// before another that is changed.
 #[inline(always)]
 pub(crate) fn take_apart<'t>(form: Form, first: Seen<'t>, formed: &mut Formed) -> Option<Seen<'t>>
     requires first { IsAtBoundary form first }

@@ -1,8 +1,9 @@
 use crate::closed::Formed;
-use crate::seen::Seen;
+use crate::seen::{Seen, is_own_row};
 use arrayvec::ArrayVec;
 use nf_facts::laws;
-use ucd_normal::{Form, QuickCheck, quick_check};
+use nf_forms::Form;
+use ucd_normal::QuickCheck;
 use unicode_normalization::char::compose;
 
 /// As many non-starters may follow one another in NFKD (UAX #15, section 13).
@@ -88,7 +89,7 @@ impl Cluster {
     /// One character more, where it is known what becomes of it: a mark that stands in order, or a starter. Where that does
     /// not compose, what the cluster has become is appended, and the next one begins.
     #[inline(always)]
-    pub fn join(&mut self, form: nf_forms::Form, seen: Seen<'_>, formed: &mut Formed) -> Option<()>
+    pub fn join(&mut self, form: Form, seen: Seen<'_>, formed: &mut Formed) -> Option<()>
         requires { Sees form seen }
         ensures joins { IsSome result → Joins seen.entry.character self.old self.new formed.old.items formed.new.items }
         ensures stays { IsNone result → formed.new ≡ formed.old }
@@ -122,7 +123,7 @@ impl Cluster {
         ensures { IsTrue result → (seen.entry.class ≡ 0 → quick_check Nfkd seen.entry.character ≡ Yes) × ((self.now.last ≤ seen.entry.class) ⊎ (seen.entry.class ≡ 0)) }
     {
         if seen.class == 0 {
-            quick_check(seen.character, Form::Nfkd) == QuickCheck::Yes
+            is_own_row(seen.character)
         } else {
             seen.class >= self.last
         }

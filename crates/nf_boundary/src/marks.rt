@@ -5,10 +5,10 @@ ghost use Rattle.nf_boundary.specs.Pieces.{Closes, Reaches};
 use crate::closed::Formed;
 use crate::closing::close_off;
 use crate::mark::{Mark, Run, hold};
-use crate::seen::{Seen, may_begin_with_mark};
+use crate::seen::{Seen, is_own_row, may_begin_with_mark};
 use nf_facts::laws;
 use nf_forms::Form;
-use ucd_normal::{Form as TableForm, QuickCheck, quick_check};
+use ucd_normal::QuickCheck;
 
 /// As many non-starters may follow one another in NFKD (UAX #15, section 13).
 const MAX_RUN: usize = 30;
@@ -47,7 +47,7 @@ fn marked_in<'t>(form: Form, first: Seen<'t>, formed: &mut Formed) -> Seen<'t>
 /// Appends what a starter and the marks behind it become, in whatever order of class those stand (The Unicode Standard,
 /// section 3.11, D109), where a boundary comes behind them, and answers that.
 #[inline(always)]
-fn take_run<'t>(form: nf_forms::Form, first: Seen<'t>, formed: &mut Formed) -> Option<Seen<'t>>
+fn take_run<'t>(form: Form, first: Seen<'t>, formed: &mut Formed) -> Option<Seen<'t>>
     requires { IsAtBoundary form first }
     ensures closes { IfSome result (λ next. Closes form first.entry.text.now next formed.old.items formed.new.items) }
     ensures stays { IsNone result → formed.new ≡ formed.old }
@@ -59,7 +59,7 @@ fn take_run<'t>(form: nf_forms::Form, first: Seen<'t>, formed: &mut Formed) -> O
         return None;
     }
     let mut next = Seen::first(form, first.behind)?;
-    if next.class == 0 || quick_check(first.character, TableForm::Nfkd) != QuickCheck::Yes {
+    if next.class == 0 || !is_own_row(first.character) {
         return None;
     }
     let mut run = Run::new();

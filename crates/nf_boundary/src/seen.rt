@@ -1,4 +1,6 @@
-ghost use Rattle.std.specs.Prelude.{◌≡◌, ◌||◌, IsTrue};
+ghost use Rattle.std.specs.Prelude.{◌≡◌, ◌||◌, ◌↔◌, IsTrue};
+ghost use Rattle.ucd_normal.specs.declared.forms.Form.TheVariants.{Nfkd};
+ghost use Rattle.ucd_normal.specs.declared.forms.QuickCheck.TheVariants.{Yes};
 ghost use Rattle.ucd_normal.specs.CanonicalCombiningClass.{canonical_combining_class};
 ghost use Rattle.ucd_normal.specs.QuickCheck.{quick_check};
 ghost use Rattle.nf_forms.specs.declared.form.Form.{Form};
@@ -8,7 +10,7 @@ ghost use Rattle.nf_facts.specs.Passing.{is_among, halfwidth_marks, vowel_signs,
 
 use nf_facts::{in_tables, laws};
 use nf_forms::Form;
-use ucd_normal::{QuickCheck, class_and_quick_check};
+use ucd_normal::{Form as TableForm, QuickCheck, class_and_quick_check, quick_check};
 
 /// The first character of a text, as one look-up sees it.
 #[derive(Clone, Copy)]
@@ -141,11 +143,29 @@ pub(crate) fn is_plain(c: char) -> bool
     matches!(c, '\0'..='\x7F' | '\u{627}'..='\u{64A}' | '\u{3400}'..='\u{9FFF}')
 }
 
-/// Whether one byte leaves it open that a mark comes first: none comes before U+0300.
+/// Whether the first bytes leave it open that a mark comes first: none comes before U+0300, nor where most letters of
+/// Cyrillic, Arabic, Chinese and Japanese stand.
 #[inline(always)]
 pub(crate) fn may_begin_with_mark(text: &str) -> bool {
     let bytes = text.as_bytes();
-    !bytes.is_empty() && bytes[0] >= 0xCC
+    if bytes.len() < 2 {
+        return false;
+    }
+    match bytes[0] {
+        0x00..=0xCB | 0xD0 | 0xD1 | 0xE4..=0xE9 => false,
+        0xD8 => bytes[1] < 0xA0,
+        0xD9 => bytes[1] > 0x8A,
+        0xE3 => bytes[1] == 0x80 || bytes[1] == 0x82,
+        _ => true,
+    }
+}
+
+/// Whether `c` passes the quick check of NFKD (UAX #15, section 9), so that it decomposes no further, in any form.
+#[inline(always)]
+pub(crate) fn is_own_row(c: char) -> bool
+    ensures { IsTrue result ↔ (quick_check Nfkd c ≡ Yes) }
+{
+    is_plain(c) || quick_check(c, TableForm::Nfkd) == QuickCheck::Yes
 }
 
 /// Whether `c` is one of the five starters whose compatibility decompositions begin with a non-starter.

@@ -68,13 +68,16 @@ fn composed(rt: HostRuntime) -> Result<(), Fail> {
         ("", "\u{9C7}\u{9BE}", "\u{9CB}", "\u{995}"),
         ("\u{EA}", "e\u{301}", "\u{E9}", "\u{EA}\u{323}"),
         ("a", "", "", "b\u{323}\u{334}c"),
-        // One character between two that compose, and not more.
+        // One character between two that compose, where it is not ASCII.
         (
             "",
             "e\u{301}ae\u{301}\u{4E00}a\u{301}",
             "\u{E9}a\u{E9}\u{4E00}\u{E1}",
             "cde\u{301}b",
         ),
+        // ASCII before a mark that is near, and before one that is not.
+        ("", "e\u{301}cole\u{301}", "\u{E9}col\u{E9}", "s, et puis"),
+        ("", "e\u{301}", "\u{E9}", "abcdefghie\u{301}s et puis"),
     ];
     check(&rt, rt.alloc(), Form::Nfc, &fronts)?;
     check(&rt, rt.alloc(), Form::Nfkc, &fronts)
@@ -213,13 +216,21 @@ fn decomposed(rt: HostRuntime) -> Result<(), Fail> {
         ("", "\u{D55C}", "\u{1112}\u{1161}\u{11AB}", "\u{E9}\u{301}"),
         ("a", "", "", "\u{E9}\u{301}b"),
         ("e\u{301}", "\u{E9}", "e\u{301}", "e\u{301}"),
-        // One character between two that are changed, and not more.
+        // One character between two that are changed, where it is not ASCII.
         (
             "",
             "\u{E9}a\u{E9}\u{4E00}\u{D55C}",
             "e\u{301}ae\u{301}\u{4E00}\u{1112}\u{1161}\u{11AB}",
             "\u{4E00}\u{4E01}\u{E9}b",
         ),
+        // ASCII before such a letter that is near, and before one that is not.
+        (
+            "",
+            "\u{E9}col\u{1EC7}",
+            "e\u{301}cole\u{323}\u{302}",
+            "s, et puis",
+        ),
+        ("", "\u{E9}", "e\u{301}", "abcdefghij\u{E9}s et puis"),
     ];
     check(&rt, rt.alloc(), Form::Nfd, &fronts)?;
     check(&rt, rt.alloc(), Form::Nfkd, &fronts)?;
