@@ -124,7 +124,8 @@ impl Normalizer {
         }
     }
 
-    /// What the form has of `c`, where that is known and no closed text begins so: a mark, or a starter that counts as one.
+    /// What the form has of `c`, where that is known and no closed text begins so: a mark, a starter that counts as one, or a
+    /// letter of Hangul that may compose with the one before it.
     #[inline(always)]
     fn mark_of<R: Rows>(&self, rows: &R, c: char) -> Option<Single>
         ensures { IfSome result (λ mark. IsSingle (R.properties rows.now) self.now.form c mark) }

@@ -11,6 +11,7 @@ mod ends;
 mod kind;
 mod known;
 mod lent;
+mod letter_row;
 mod mark_row;
 mod ordering;
 mod own;

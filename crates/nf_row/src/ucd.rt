@@ -4,6 +4,7 @@ ghost use Rattle.nf_forms.specs.Ucd.{ucd};
 
 use crate::kind::Kind;
 use crate::known::kind_of;
+use crate::letter_row::letter_row;
 use crate::mark_row::mark_row;
 use crate::rows::{Long, Row, Rows, row_from};
 use crate::single::Single;
@@ -74,7 +75,10 @@ impl Rows for Ucd {
 
     #[inline]
     fn single(&self, form: nf_forms::Form, c: char) -> Option<Single> {
-        mark_row(form, c)
+        match letter_row(c) {
+            Some(letter) => Some(letter),
+            None => mark_row(form, c),
+        }
     }
 
     #[inline]

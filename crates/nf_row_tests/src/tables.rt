@@ -159,11 +159,26 @@ fn halfwidth_marks_are_single(rt: HostRuntime) {
     }
     // Others are told by their kind, or not at all.
     for c in [
-        'a', '\u{E9}', '\u{3099}', '\u{FF76}', '\u{FF9D}', '\u{FFA0}',
+        'a', '\u{E9}', '\u{3099}', '\u{FF76}', '\u{FF9D}', '\u{FFA0}', '\u{1160}', '\u{11C3}',
     ] {
         assert!(rt; Ucd.single(Form::Nfkc, c).is_none(), "{c:?}");
     }
     assert!(rt; Patched::new(&[]).single(Form::Nfkc, '\u{FF9E}').is_none());
+}
+
+/// By UnicodeData.txt: the vowels and trailing consonants of Hangul have no decomposition, and are starters.
+#[test]
+fn letters_that_end_a_syllable_are_single(rt: HostRuntime) {
+    for form in [Form::Nfc, Form::Nfd, Form::Nfkc, Form::Nfkd] {
+        for c in ['\u{1161}', '\u{1175}', '\u{11A8}', '\u{11C2}'] {
+            let single = Single {
+                member: c,
+                class: 0,
+                compat_starts: true,
+            };
+            assert_eq!(rt; Ucd.single(form, c), Some(single), "{c:?} {form:?}");
+        }
+    }
 }
 
 fn check_single(rt: &impl Abort, form: Form, c: char, member: char, class: u8) {
