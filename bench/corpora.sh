@@ -18,6 +18,7 @@ packages_of() { # packages_of LANGUAGE
         vietnamese) echo libreoffice-help-vi libreoffice-l10n-vi ;;
         korean) echo libreoffice-help-ko ;;
         japanese) echo libreoffice-help-ja ;;
+        chinese) echo libreoffice-help-zh-cn ;;
         russian) echo libreoffice-help-ru ;;
         hindi) echo libreoffice-help-hi libreoffice-l10n-hi firefox-esr-l10n-hi-in ;;
         arabic) echo libreoffice-l10n-ar firefox-esr-l10n-ar thunderbird-l10n-ar ;;
@@ -45,7 +46,7 @@ unpack() { # unpack LANGUAGE: its packages, each in a folder of $folder/unpacked
 mkdir -p "$folder/packages"
 folder=$(cd "$folder" && pwd)
 rm -rf "$folder/unpacked"
-for language in ascii french vietnamese korean japanese russian hindi arabic hebrew; do
+for language in ascii french vietnamese korean japanese chinese russian hindi arabic hebrew; do
     unpack "$language"
 done
 say "taking the texts out of the packages; this takes some minutes"

@@ -20,6 +20,7 @@ REFERENCE = "ascii"
 SCRIPTS = {
     "korean": "\uac00-\ud7a3",
     "japanese": "\u3040-\u30ff\u4e00-\u9fff",
+    "chinese": "\u4e00-\u9fff",
     "arabic": "\u0600-\u06ff",
     "hebrew": "\u0590-\u05ff",
     "hindi": "\u0900-\u097f",

@@ -13,6 +13,7 @@ REAL = {
     "vietnamese": "Vietnamese",
     "korean": "Korean",
     "japanese": "Japanese",
+    "chinese": "Chinese",
     "russian": "Russian",
     "hindi": "Hindi",
     "arabic": "Arabic",
