@@ -43,22 +43,35 @@ fn text_is_mended_up_to_the_last_part_that_is_near(rt: HostRuntime) {
     }
 }
 
-/// Behind long text no part is near, and no more is mended than there is room for.
+/// Behind long text no part is near: behind more than 64 bytes of ASCII, or 64 of other text.
 #[test]
 fn long_text_is_left(rt: HostRuntime) -> Result<(), Fail> {
     let alloc = rt.alloc();
-    let near = "a".repeat(alloc, 63)?;
-    let far = "a".repeat(alloc, 64)?;
+    for (letter, count, is_near) in [
+        ("a", 64, true),
+        ("a", 65, false),
+        ("\u{E9}", 31, true),
+        ("\u{E9}", 32, false),
+    ] {
+        let text = letter.repeat(alloc, count)?;
+        let mut front: Vec<u8> = Vec::new(alloc);
+        front.extend_from_slice(text.as_bytes())?;
+        front.push(0xFF)?;
+        if is_near {
+            let mended = format!(in alloc; "{text}\u{FFFD}")?;
+            check(&rt, front.as_slice(), mended.as_str(), front.len());
+        } else {
+            check(&rt, front.as_slice(), "", 0);
+        }
+    }
+    Ok(())
+}
+
+/// No more is mended than there is room for.
+#[test]
+fn the_room_is_filled(rt: HostRuntime) -> Result<(), Fail> {
+    let alloc = rt.alloc();
     let bytes: Vec<u8> = vec![in alloc; 0xFF; 400]?;
-    let mut front: Vec<u8> = Vec::new(alloc);
-    front.extend_from_slice(near.as_bytes())?;
-    front.push(0xFF)?;
-    let text = format!(in alloc; "{near}\u{FFFD}")?;
-    check(&rt, front.as_slice(), text.as_str(), 64);
-    front.clear();
-    front.extend_from_slice(far.as_bytes())?;
-    front.push(0xFF)?;
-    check(&rt, front.as_slice(), "", 0);
     let full = "\u{FFFD}".repeat(alloc, 341)?;
     check(&rt, bytes.as_slice(), full.as_str(), 341);
     Ok(())
