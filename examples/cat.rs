@@ -8,7 +8,7 @@ const FULL: u32 = 3;
 
 /// `struct nf_state`, whose fields are the library's to change.
 #[repr(C, align(8))]
-struct State([u8; 168]);
+struct State([u8; 176]);
 
 #[repr(C)]
 #[derive(Default)]
@@ -63,7 +63,7 @@ struct Filter {
 impl Filter {
     /// `None` where the number is that of no form.
     fn new(form: u32) -> Option<Filter> {
-        let mut state = State([0; 168]);
+        let mut state = State([0; 176]);
         // SAFETY: the state is memory of the size and alignment that nfstream.h says.
         let status = unsafe { nf_start(&mut state, form, 0, 0) };
         (status == DONE).then(|| Filter {

@@ -12,7 +12,8 @@ DONE, FULL, SPENT, NO_STATE = 0, 3, 7, 8
 
 class State(ctypes.Structure):
     _fields_ = (
-        [(name, ctypes.c_uint64) for name in ("base", "offset", "chars", "put")]
+        [(name, ctypes.c_uint32) for name in ("magic", "unicode")]
+        + [(name, ctypes.c_uint64) for name in ("base", "offset", "chars", "put")]
         + [("starter", ctypes.c_uint32), ("marks", ctypes.c_uint32 * 30), ("held", ctypes.c_uint8 * 3)]
         + [(name, ctypes.c_uint8) for name in ("held_len", "marks_len", "count", "form", "policy", "spent")]
     )
@@ -28,7 +29,7 @@ library.nf_feed.argtypes = [ctypes.POINTER(State), ctypes.c_char_p, ctypes.c_siz
 library.nf_finish.argtypes = [ctypes.POINTER(State), ctypes.c_char_p, ctypes.c_size_t, ctypes.POINTER(Moved)]
 library.nf_convert.argtypes = [ctypes.c_uint32, ctypes.c_uint32, ctypes.c_char_p, ctypes.c_size_t, ctypes.c_char_p, ctypes.c_size_t, ctypes.POINTER(Moved)]
 library.nf_check.argtypes = [ctypes.c_char_p, ctypes.c_size_t, ctypes.POINTER(Moved)]
-assert ctypes.sizeof(State) == 168
+assert ctypes.sizeof(State) == 176
 
 
 def copied(state):
@@ -91,16 +92,28 @@ def main():
             assert not due or library.nf_convert(number, 0, data, len(data), room, len(due) - 1, moved) == FULL
             assert library.nf_check(data, len(data), moved) == DONE
             checked += 1
-    # A state of random bytes is refused, or stands somewhere: nothing else happens.
-    refused = 0
+    # A state of random bytes is refused, also behind the words that mark a state: nothing else happens.
+    fresh, refused = State(), 0
+    assert library.nf_start(fresh, 1, 0, 0) == DONE and fresh.unicode == library.nf_unicode_version()
     for _ in range(20000):
-        state, moved, room = State.from_buffer_copy(draw.randbytes(168)), Moved(), ctypes.create_string_buffer(256)
+        state, moved, room = State.from_buffer_copy(bytes(fresh)[:8] + draw.randbytes(168)), Moved(), ctypes.create_string_buffer(256)
         before = bytes(state)
         if library.nf_feed(state, b"a", 1, room, 256, moved) == NO_STATE:
             assert bytes(state) == before and moved.read == moved.written == 0
             refused += 1
     assert library.nf_feed(State(), b"a", 1, room, 256, moved) == NO_STATE
-    # A real state with one byte changed is refused, or goes on from elsewhere within its room.
+    # NULL with length 0 is taken.
+    assert library.nf_feed(fresh, None, 0, None, 0, moved) == DONE and library.nf_finish(fresh, None, 0, moved) == DONE
+    assert library.nf_convert(1, 0, None, 0, None, 0, moved) == DONE and library.nf_check(None, 0, moved) == DONE
+    # Each character, assigned or not, finds room in 3 or 11 times its bytes, alone and among marks.
+    for code in range(0, 0x110000, 1 if len(sys.argv) > 3 else 17):
+        if 0xD800 <= code < 0xE000:
+            continue
+        data = chr(code).encode() * 3 + "\u0344".encode() * draw.randint(0, 20) + chr(code).encode() * 40
+        for form in range(1, 5):
+            bound = len(data) * (3 if form < 3 else 11)
+            assert library.nf_convert(form, 0, data, len(data), ctypes.create_string_buffer(bound), bound, moved) == DONE, hex(code)
+    # A real state with one bit changed is refused, or goes on from elsewhere within its room.
     stands = 0
     for _ in range(20000):
         real = State()
@@ -108,7 +121,7 @@ def main():
         text = "".join(character(draw) for _ in range(10)).encode()
         library.nf_feed(real, text, len(text) - 1, ctypes.create_string_buffer(1000), 1000, moved)
         changed = bytearray(bytes(real))
-        changed[draw.randrange(168)] ^= 1 << draw.randrange(8)
+        changed[draw.randrange(176)] ^= 1 << draw.randrange(8)
         status = library.nf_feed(State.from_buffer_copy(changed), text, len(text), ctypes.create_string_buffer(2000), 2000, moved)
         assert moved.read <= len(text) and moved.written <= 2000
         stands += status != NO_STATE

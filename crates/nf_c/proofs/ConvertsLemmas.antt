@@ -1,5 +1,5 @@
 -- A whole text, fed and finished.
-use Rattle.std.proofs.Common.{◌≡◌, inl, inr, ℕ, ◌+◌, ◌-◌, ◌≤◌, ◌<◌, List, [], ◌++◌, length, take, Some, None, Result, Ok, Err, refl, sym, ap, ◌∙◌, subst, arith, length-take-le}
+use Rattle.std.proofs.Common.{◌≡◌, inl, inr, ℕ, ◌+◌, ◌-◌, ◌≤◌, ◌<◌, List, [], ◌++◌, length, take, Some, None, Result, Ok, Err, refl, sym, ap, ◌∙◌, subst, arith, length-take-le, IfSome}
 use Rattle.std.specs.Result.{result_err}
 use Rattle.std.proofs.lemmas.Slice.{take-put_mid_below}
 use Rattle.std.proofs.Math.Seq.{take-length}
@@ -9,7 +9,7 @@ use Rattle.nf_forms.specs.declared.form.Form.{Form}
 use Rattle.nf_utf8.specs.Reading.{text_of, ending_of}
 use Rattle.nf_utf8.specs.Reads.{Reads, EndsAs}
 use Rattle.nf_filter.specs.declared.fault.Fault.{Fault}
-use Rattle.nf_filter.specs.declared.fault.Fault.TheVariants.{Write}
+use Rattle.nf_filter.specs.declared.fault.Fault.TheVariants.{TooLong, Write}
 use Rattle.nf_filter.specs.declared.filter.State.{State as FilterState}
 use Rattle.nf_filter.specs.declared.policy.Policy.{Policy}
 use Rattle.nf_filter.specs.declared.tally.Tally.{Tally}
@@ -24,7 +24,7 @@ use Rattle.nf_filter.proofs.WholeLemmas.{ending_whole, final_is}
 use Rattle.nf_c.specs.declared.feeding.Fed.{Fed}
 use Rattle.nf_c.specs.declared.finishing.Finished.{Finished}
 use Rattle.nf_c.specs.Feeds.{ends, FeedsFront}
-use Rattle.nf_c.specs.Finishes.{FinishesFilter}
+use Rattle.nf_c.specs.Finishes.{IsOfFinishing, FinishesFilter}
 use Rattle.nf_c.specs.Converts.{ConvertsText}
 use Rattle.nf_c.proofs.FeedsLemmas.{take_put, length_put}
 
@@ -49,10 +49,11 @@ module _ (policy : Policy) (f : Form) (input output : List ℕ) (was now : Filte
 
   -- reading ended before the text's end
   pub stops_within : ¬ (fed.fault ≡ None) → (fed.fault ≡ Some Write → length (settled_utf8 policy f ucd []) + length output < length (settled_utf8 policy f ucd (take (fed.read + 1) input)))
-      → ConvertsText policy f input output fed
-  stops_within stopped full = record {
+      → ¬ (fed.fault ≡ Some TooLong) → ConvertsText policy f input output fed
+  stops_within stopped full fits = record {
     read = front.read;
     written = front.written;
+    fits = fits;
     how = inl (record {
       stopped = stopped;
       settles = settles;
@@ -87,6 +88,7 @@ module _ (policy : Policy) (f : Form) (input output : List ℕ) (was now : Filte
       full_at_end is = record {
         read = front.read;
         written = omega (arith, front.written, length_put output part fed.written front.written rest);
+        fits = λ e. absurd (let clash : Some Write ≡ Some TooLong = sym is ∙ e in cc);
         how = inr (record {
           all = all;
           no_fault = no_fault;
@@ -104,6 +106,7 @@ module _ (policy : Policy) (f : Form) (input output : List ℕ) (was now : Filte
       reaches_end not fits reads = record {
         read = front.read;
         written = omega (arith, front.written, rest, fits, length_put output part fed.written front.written rest);
+        fits = λ e. (let among = subst (λ o. IfSome o IsOfFinishing) e finishes.among in among);
         how = inr (record {
           all = all;
           no_fault = no_fault;

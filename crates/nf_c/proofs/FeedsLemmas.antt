@@ -17,6 +17,7 @@ use Rattle.nf_filter.specs.Faults.{fault_in, IsOfFeeding as IsOfFilter}
 use Rattle.nf_filter.specs.Filter.{base_of, is_spent, StandsAfter as FilterStandsAfter}
 use Rattle.nf_c.specs.declared.feeding.Fed.{Fed}
 use Rattle.nf_c.specs.declared.room.Room.{Room}
+use Rattle.nf_c.specs.Moved.{ended, read_before}
 use Rattle.nf_c.specs.Room.{state_of as room_state}
 use Rattle.nf_c.specs.Feeds.{ends, IsOfFeeding, FeedsFront}
 
@@ -35,6 +36,27 @@ module _ (xs ys : List ℕ) (w : ℕ) (within : w ≤ length xs) (whole : length
 
   pub length_put : length (put_mid w (length xs - w) xs ys) ≡ length xs
   length_put = omega (arith, within, whole, length-append (take w xs) (ys ++ post_of w (length xs - w) xs), length-take-le w xs within, length-append ys (post_of w (length xs - w) xs), length-drop (length xs - w) (drop w xs), length-drop w xs)
+
+-- no more stand before a fault than the input has
+pub read_before-within : (fault : Option Fault) (offset len read : ℕ) → read ≤ len → read_before fault offset len read ≤ len
+read_before-within None offset len read fits = fits
+read_before-within (Some Spent) offset len read fits = fits
+read_before-within (Some TooLong) offset len read fits = fits
+read_before-within (Some Read) offset len read fits = fits
+read_before-within (Some Write) offset len read fits = fits
+read_before-within (Some (Row at)) offset len read fits = fits
+read_before-within (Some (BadByte at start)) offset len read fits = omega arith
+read_before-within (Some (Cut at start)) offset len read fits = fits
+read_before-within (Some (Unassigned at)) offset len read fits = omega arith
+
+-- how a call ended does not change what it read and wrote
+pub read_ended : (fault : Option Fault) (read written : ℕ) → (ended fault read written).read ≡ read
+read_ended None read written = refl
+read_ended (Some fault) read written = refl
+
+pub written_ended : (fault : Option Fault) (read written : ℕ) → (ended fault read written).written ≡ written
+written_ended None read written = refl
+written_ended (Some fault) read written = refl
 
 bool_clash : (b : Bool) → b ≡ false → b ≡ true → ⊥
 bool_clash b low high = cc

@@ -18,7 +18,26 @@ use Rattle.nf_c.specs.declared.finishing.Finished.{Finished}
 use Rattle.nf_c.specs.declared.room.Room.{Room}
 use Rattle.nf_c.specs.Room.{state_of as room_state}
 use Rattle.nf_c.specs.Finishes.{IsOfFinishing, FinishesFilter}
+use Rattle.nf_c.specs.State.{CanStand}
+use Rattle.nf_c.specs.declared.state.State.{State}
 use Rattle.nf_c.proofs.FeedsLemmas.{written_is, too_little}
+
+-- a state stays one when its text has ended
+pub CanStand-spent : (state : State) → CanStand state → CanStand (record state { spent = 1 })
+CanStand-spent state can = (
+  record {
+    magic_is = can.0.magic_is;
+    unicode_is = can.0.unicode_is;
+    form = can.0.form;
+    policy = can.0.policy;
+    spent = omega arith;
+    held = can.0.held;
+    marks_len = can.0.marks_len;
+    marks = can.0.marks;
+    starter = can.0.starter;
+  },
+  record { held = can.1.held; count = can.1.count; base = can.1.base; fits = inl refl },
+)
 
 -- a filter that is not spent ends by these faults, where no character is unsound
 of_finishing : (result : Result Tally Fault) → IfErr result IsOfFilter → ¬ (result ≡ Err Spent) → ((at : ℕ) → ¬ (result ≡ Err (Row at))) → IfSome (result_err result) IsOfFinishing

@@ -3,7 +3,7 @@ use Rattle.std.specs.Prelude.{◌≡◌, ◌⊎◌, true, ℕ, ◌+◌, ◌≤�
 use Rattle.std.specs.Result.{result_err}
 use Rattle.nf_forms.specs.Ucd.{ucd}
 use Rattle.nf_forms.specs.declared.form.Form.{Form}
-use Rattle.nf_filter.specs.declared.fault.Fault.TheVariants.{Write}
+use Rattle.nf_filter.specs.declared.fault.Fault.TheVariants.{TooLong, Write}
 use Rattle.nf_filter.specs.declared.policy.Policy.{Policy}
 use Rattle.nf_filter.specs.Policy.{as_is}
 use Rattle.nf_filter.specs.Settled.{settled_utf8}
@@ -13,7 +13,7 @@ use Rattle.nf_filter.specs.Whole.{IsFormOf}
 use Rattle.nf_c.specs.declared.feeding.Fed.{Fed}
 use Rattle.nf_c.specs.declared.moved.Moved.{Moved}
 use Rattle.nf_c.specs.Feeds.{ends}
-use Rattle.nf_c.specs.Moved.{ended}
+use Rattle.nf_c.specs.Moved.{ended, read_before}
 
 -- reading ended before the text's end, or at a fault in it: what is settled of what was read was written
 pub record StopsWithin (policy : Policy) (f : Form) (input output : List ℕ) (fed : Fed) : Type 0 where
@@ -36,11 +36,14 @@ pub record ReachesEnd (policy : Policy) (f : Form) (input output : List ℕ) (fe
 pub record ConvertsText (policy : Policy) (f : Form) (input output : List ℕ) (fed : Fed) : Type 0 where
   pub read : fed.read ≤ length input
   pub written : fed.written ≤ length output
+  -- no input in memory is too long
+  pub fits : ¬ (fed.fault ≡ Some TooLong)
   pub how : StopsWithin policy f input output fed ⊎ ReachesEnd policy f input output fed
   -- without a fault the input is the UTF-8 of a text, and the form of that was written
   pub form : policy ≡ as_is → fed.fault ≡ None → IsFormOf f ucd input (take fed.written output)
 
 pub record Converts (policy : Policy) (f : Form) (input output : List ℕ) (moved : Moved) : Type 0 where
   pub fed : Fed
-  pub is : moved ≡ ended fed.fault fed.read fed.written
+  -- where a fault in the input ended it, the bytes before that are told as read
+  pub is : moved ≡ ended fed.fault (read_before fed.fault 0 (length input) fed.read) fed.written
   pub converts : ConvertsText policy f input output fed

@@ -1,5 +1,5 @@
 -- What feeding takes of the caller's input, and gives to the caller's output.
-use Rattle.std.specs.Prelude.{◌≡◌, true, false, Bool, ℕ, ◌+◌, ◌≤◌, ◌<◌, List, [], ◌∷◌, ◌++◌, length, take, Option, Some, None, IfSome}
+use Rattle.std.specs.Prelude.{◌≡◌, ◌↔◌, true, false, Bool, ℕ, ◌+◌, ◌≤◌, ◌<◌, ◌^◌, List, [], ◌∷◌, ◌++◌, length, take, Option, Some, None, IfSome}
 use Rattle.nf_forms.specs.Ucd.{ucd}
 use Rattle.nf_forms.specs.declared.form.Form.{Form}
 use Rattle.nf_filter.specs.declared.fault.Fault.{Fault}
@@ -13,8 +13,8 @@ use Rattle.nf_filter.specs.Filter.{base_of, is_spent, StandsAfter as FilterStand
 use Rattle.nf_c.specs.declared.feeding.Fed.{Fed}
 use Rattle.nf_c.specs.declared.moved.Moved.{Moved}
 use Rattle.nf_c.specs.declared.state.State.{State}
-use Rattle.nf_c.specs.Moved.{ended}
-use Rattle.nf_c.specs.State.{StandsAfter}
+use Rattle.nf_c.specs.Moved.{ended, read_before}
+use Rattle.nf_c.specs.State.{CanStand, StandsAfter}
 
 -- the text ends there: a full output or too long an input does not end it
 abbrev pub ends : Option Fault → Bool
@@ -44,21 +44,25 @@ pub record FeedsFront (policy : Policy) (f : Form) (bytes piece output : List �
   pub spent : ends fed.fault ≡ true → is_spent now ≡ true
   pub among : IfSome fed.fault IsOfFeeding
 
--- the state stood after the bytes: so many bytes were read of the input, and the first of the output are what these settle
+-- the state stood after the bytes: so many bytes were seen of the input, and the first of the output are what these settle
 pub record Feeds (policy : Policy) (f : Form) (bytes input : List ℕ) (old new : State) (output : List ℕ) (moved : Moved) : Type 0 where
   pub fault : Option Fault
-  pub read : ℕ
+  pub seen : ℕ
   pub written : ℕ
-  pub is : moved ≡ ended fault read written
+  -- those are told that stand before a fault in them, or else all
+  pub is : moved ≡ ended fault (read_before fault old.offset (length input) seen) written
   pub among : IfSome fault IsOfFeeding
-  pub read_within : read ≤ length input
+  pub seen_within : seen ≤ length input
   pub written_within : written ≤ length output
-  pub settles : settled_utf8 policy f ucd (bytes ++ take read input) ≡ settled_utf8 policy f ucd bytes ++ take written output
+  pub settles : settled_utf8 policy f ucd (bytes ++ take seen input) ≡ settled_utf8 policy f ucd bytes ++ take written output
   -- all was read where no fault is told
-  pub all : fault ≡ None → read ≡ length input
+  pub all : fault ≡ None → seen ≡ length input
   -- the output has no room for what one byte more settles
-  pub full : fault ≡ Some Write → length (settled_utf8 policy f ucd bytes) + length output < length (settled_utf8 policy f ucd (bytes ++ take (read + 1) input))
+  pub full : fault ≡ Some Write → length (settled_utf8 policy f ucd bytes) + length output < length (settled_utf8 policy f ucd (bytes ++ take (seen + 1) input))
   -- the state stands behind what was read, or a fault is in that, and the state is spent
-  pub stands : ends fault ≡ false → StandsAfter policy f new (bytes ++ take read input)
-  pub told : ends fault ≡ true → fault ≡ fault_in policy ucd old.base (bytes ++ take read input)
-  pub spent : ends fault ≡ true → new.spent ≡ 1
+  pub stands : ends fault ≡ false → StandsAfter policy f new (bytes ++ take seen input)
+  pub told : ends fault ≡ true → fault ≡ fault_in policy ucd old.base (bytes ++ take seen input)
+  pub spent : ends fault ≡ true → CanStand new × (new.spent ≡ 1)
+  -- too long is told where the offset behind the input would be no `u64`, and then nothing was read
+  pub too_long : (fault ≡ Some TooLong) ↔ (2 ^ 64 ≤ old.offset + length input)
+  pub nothing : fault ≡ Some TooLong → (seen ≡ 0) × (written ≡ 0) × (new ≡ old)

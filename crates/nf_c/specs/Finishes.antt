@@ -14,6 +14,7 @@ use Rattle.nf_c.specs.declared.moved.Moved.{Moved}
 use Rattle.nf_c.specs.declared.state.State.{State}
 use Rattle.nf_c.specs.declared.status.Status.TheVariants.{Full}
 use Rattle.nf_c.specs.Moved.{moved as moved_by, ended}
+use Rattle.nf_c.specs.State.{CanStand}
 
 -- why finishing may fail: no character of Unicode's data is unsound
 abbrev pub IsOfFinishing : Fault → Type 0
@@ -36,4 +37,5 @@ pub record Finishes (policy : Policy) (f : Form) (bytes : List ℕ) (old new : S
   pub full : finished.fault ≡ Some Write → (moved ≡ moved_by Full 0 0) × (new ≡ old)
   pub told : ¬ (finished.fault ≡ Some Write) → moved ≡ ended finished.fault 0 finished.written
   pub written : ¬ (finished.fault ≡ Some Write) → finished.written ≤ length output
-  pub spent : ¬ (finished.fault ≡ Some Write) → new.spent ≡ 1
+  -- the state is spent then: each later call tells so
+  pub spent : ¬ (finished.fault ≡ Some Write) → CanStand new × (new.spent ≡ 1)

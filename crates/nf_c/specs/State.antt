@@ -38,8 +38,17 @@ IsStarter n = (n ≡ 0xFFFFFFFF) ⊎ IsScalar n
 abbrev pub starter_at : ℕ → Option ℕ
 starter_at n = if n == 0xFFFFFFFF then None else Some n
 
+-- the word of a state, and Unicode 18.0.0
+abbrev pub magic : ℕ
+magic = 0x3273666E
+
+abbrev pub unicode : ℕ
+unicode = 180000
+
 -- the numbers say something
 pub record IsState (state : State) : Type 0 where
+  pub magic_is : state.magic ≡ magic
+  pub unicode_is : state.unicode ≡ unicode
   pub form : IsForm state.form
   pub policy : IsPolicy state.policy
   pub spent : state.spent ≤ 1
@@ -64,9 +73,9 @@ unpacked state = record {
   marks = record { items = map mark_at (take state.marks_len state.marks) };
 }
 
--- some filter can stand there
+-- the numbers and counts say where a filter may stand
 abbrev pub CanStand : State → Type 0
-CanStand state = IsState state × IsRestorable (unpacked state)
+CanStand state = IsState state × IsRestorable ucd (unpacked state)
 
 -- it is where a filter to this form, under this policy, stands after these bytes
 pub record StandsAfter (policy : Policy) (f : Form) (state : State) (bytes : List ℕ) : Type 0 where

@@ -28,7 +28,7 @@ pub fn convert(form: u32, policy: u32, input: &[u8], output: &mut [u8]) -> Moved
         return Moved::of(Status::NoPolicy, 0, 0);
     };
     let done = convert_text(form, policy, input, output);
-    Moved::ended(done.fault, done.read, done.written)
+    Moved::within(done.fault, 0, input.len(), done.read, done.written)
 }
 
 /// Feeds all of it, and finishes.

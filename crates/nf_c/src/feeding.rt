@@ -1,20 +1,20 @@
-ghost use Rattle.std.specs.Prelude.{◌≡◌, ◌+◌, ◌≤◌, ◌<◌, ◌↔◌, ℕ, List, ◌++◌, length, take, Some, None, true, false, IsTrue};
+ghost use Rattle.std.specs.Prelude.{◌≡◌, ◌+◌, ◌≤◌, ◌<◌, ◌↔◌, ℕ, List, ◌++◌, length, take, Some, None, true, false, IsTrue, IsFalse};
 ghost use Rattle.nf_forms.specs.Ucd.{ucd};
 ghost use Rattle.nf_forms.specs.declared.form.Form.{Form};
-ghost use Rattle.nf_filter.specs.declared.fault.Fault.TheVariants.{Write};
+ghost use Rattle.nf_filter.specs.declared.fault.Fault.TheVariants.{Write, TooLong as TooLongFault};
 ghost use Rattle.nf_filter.specs.declared.policy.Policy.{Policy};
-ghost use Rattle.nf_filter.specs.Filter.{state_of, StandsAfter as FilterStandsAfter};
+ghost use Rattle.nf_filter.specs.Filter.{state_of, offset_of, StandsAfter as FilterStandsAfter};
 ghost use Rattle.nf_filter.specs.Settled.{settled_utf8};
 ghost use Rattle.nf_c.specs.Feeds.{ends, FeedsFront, Feeds};
 ghost use Rattle.nf_c.specs.State.{CanStand, StandsAfter, unpacked};
 ghost use Rattle.nf_c.specs.Moved.{moved};
-ghost use Rattle.nf_c.specs.declared.status.Status.TheVariants.{NoState, Spent};
+ghost use Rattle.nf_c.specs.declared.status.Status.TheVariants.{NoState, Spent, TooLong};
 
 use crate::guess::Guess;
 use crate::moved::Moved;
 use crate::packing::pack;
 use crate::room::Room;
-use crate::starting::{filter_of, restored};
+use crate::starting::{filter_of, go_back};
 use crate::state::State;
 use crate::status::Status;
 use nf_facts::laws::every_character_is_sound;
@@ -31,6 +31,10 @@ pub struct Fed {
 
 /// Takes as much of the input as there is room for, and writes what that settles to the front of the output.
 pub fn feed(state: &mut State, input: &[u8], output: &mut [u8]) -> Moved
+    ensures read { result.read ≤ length input.now }
+    ensures written { result.written ≤ length output.new }
+    ensures state { state.new.spent ≡ 1 → CanStand state.old → CanStand state.new }
+    ensures too_long { CanStand state.old → state.old.spent ≡ 0 → u64.MAX < state.old.offset + length input.now → (result ≡ moved TooLong 0 0) × (state.new ≡ state.old) }
     ensures none { ¬ CanStand state.old → (result ≡ moved NoState 0 0) × (state.new ≡ state.old) }
     ensures spent { CanStand state.old → state.old.spent ≡ 1 → (result ≡ moved Spent 0 0) × (state.new ≡ state.old) }
     ensures feeds { (policy : Policy) (f : Form) (bytes : List ℕ) → StandsAfter policy f state.old bytes → Feeds policy f bytes input.now state.old state.new output.new result }
@@ -41,10 +45,23 @@ pub fn feed(state: &mut State, input: &[u8], output: &mut [u8]) -> Moved
     if filter.spent() {
         return Moved::of(Status::Spent, 0, 0);
     }
+    if is_too_long(state, input) {
+        return Moved::of(Status::TooLong, 0, 0);
+    }
+    let offset = state.offset;
     let form = filter.save().form;
     let fed = feed_all(form, &mut filter, input, output);
-    *state = pack(&filter.save());
-    Moved::ended(fed.fault, fed.read, fed.written)
+    let after = filter.save();
+    *state = pack(&after);
+    Moved::within(fed.fault, offset, input.len(), fed.read, fed.written)
+}
+
+/// Whether the offset would pass `u64::MAX` behind the input.
+fn is_too_long(state: &State, input: &[u8]) -> bool
+    ensures long { IsTrue result → u64.MAX < state.now.offset + length input.now }
+    ensures fits { IsFalse result → state.now.offset + length input.now ≤ u64.MAX }
+{
+    state.offset.checked_add(input.len() as u64).is_none()
 }
 
 /// Feeds as much of the input as there is room for, piece by piece.
@@ -52,6 +69,7 @@ pub fn feed_all(form: Form, filter: &mut Filter<'_, Ucd>, input: &[u8], output: 
     ensures all { result.fault ≡ None → result.read ≡ length input.now }
     ensures read { result.read ≤ length input.now }
     ensures written { result.written ≤ length output.new }
+    ensures fits { offset_of (state_of filter.old) + length input.now ≤ u64.MAX → ¬ (result.fault ≡ Some TooLongFault) }
     ensures feeds { (policy : Policy) (f : Form) (bytes : List ℕ) → FilterStandsAfter policy f ucd (state_of filter.old) bytes
         → FeedsFront policy f bytes input.now output.new (state_of filter.old) (state_of filter.new) result }
     ensures full { (policy : Policy) (f : Form) (bytes : List ℕ) → FilterStandsAfter policy f ucd (state_of filter.old) bytes → result.fault ≡ Some Write
@@ -91,6 +109,8 @@ fn try_piece(filter: &mut Filter<'_, Ucd>, piece: &[u8], output: &mut [u8]) -> F
     ensures written { result.written ≤ length output.new }
     ensures whole { result.fault ≡ None → result.read ≡ length piece.now }
     ensures nothing { result.fault ≡ Some Write → (result.read ≡ 0) × (result.written ≡ 0) }
+    ensures too_long { result.fault ≡ Some TooLongFault → u64.MAX < offset_of (state_of filter.old) + length piece.now }
+    ensures offset { ends result.fault ≡ false → offset_of (state_of filter.new) ≡ offset_of (state_of filter.old) + result.read }
     ensures feeds { (policy : Policy) (f : Form) (bytes : List ℕ) → FilterStandsAfter policy f ucd (state_of filter.old) bytes
         → FeedsFront policy f bytes piece.now output.new (state_of filter.old) (state_of filter.new) result }
     ensures full { (policy : Policy) (f : Form) (bytes : List ℕ) → FilterStandsAfter policy f ucd (state_of filter.old) bytes → result.fault ≡ Some Write
@@ -113,7 +133,7 @@ fn try_piece(filter: &mut Filter<'_, Ucd>, piece: &[u8], output: &mut [u8]) -> F
             fault: Some(fault),
         };
     }
-    *filter = restored(before);
+    go_back(filter, before);
     Fed {
         read: 0,
         written: 0,

@@ -29,6 +29,8 @@ pub struct Finished {
 /// Writes the rest of the form to the front of the output, at the end of the text, after which the state is spent. Where
 /// there is no room for all of it, nothing changes.
 pub fn finish(state: &mut State, output: &mut [u8]) -> Moved
+    ensures written { result.written ≤ length output.new }
+    ensures state { CanStand state.old → CanStand state.new }
     ensures none { ¬ CanStand state.old → (result ≡ moved NoState 0 0) × (state.new ≡ state.old) }
     ensures spent { CanStand state.old → state.old.spent ≡ 1 → (result ≡ moved Spent 0 0) × (state.new ≡ state.old) }
     ensures finishes { (policy : Policy) (f : Form) (bytes : List ℕ) → StandsAfter policy f state.old bytes → Finishes policy f bytes state.old state.new output.new result }

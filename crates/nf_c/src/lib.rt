@@ -20,5 +20,5 @@ pub use feeding::feed;
 pub use finishing::finish;
 pub use moved::Moved;
 pub use starting::start;
-pub use state::State;
+pub use state::{State, UNICODE};
 pub use status::Status;

@@ -14,7 +14,28 @@ pub struct Moved {
 
 impl Moved {
     ghost use Rattle.std.specs.Prelude.{◌≡◌};
-    ghost use Rattle.nf_c.specs.Moved.{moved, ended};
+    ghost use Rattle.nf_c.specs.Moved.{moved, ended, read_before};
+
+    /// A call that read so many bytes of an input of `len`, the first of which has this offset. Where a fault in the input
+    /// ended it, it tells how many stand before that.
+    pub fn within(
+        fault: Option<Fault>,
+        offset: u64,
+        len: usize,
+        read: usize,
+        written: usize,
+    ) -> Moved
+        ensures { result ≡ ended fault (read_before fault offset len read) written }
+    {
+        let before = match fault {
+            Some(Fault::BadByte { at, start: _ }) => at
+                .saturating_sub(offset)
+                .min(len as u64) as usize,
+            Some(Fault::Unassigned { at }) => at.saturating_sub(offset).min(len as u64) as usize,
+            _ => read,
+        };
+        Moved::ended(fault, before, written)
+    }
 
     /// A call that met no fault.
     pub fn of(status: Status, read: usize, written: usize) -> Moved

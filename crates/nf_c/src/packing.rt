@@ -3,7 +3,7 @@ ghost use Rattle.std.specs.Prelude.{◌≡◌, ◌==◌, ◌≤◌, ◌↔◌, l
 ghost use Rattle.std.specs.List.{All};
 ghost use Rattle.nf_c.specs.State.{IsForm, IsPolicy, IsMark, IsStarter, IsState, form_at, policy_at, mark_at, starter_at, unpacked};
 
-use crate::state::{NO_STARTER, State};
+use crate::state::{MAGIC, NO_STARTER, State, UNICODE};
 use arrayvec::ArrayVec;
 use nf_filter::{Policy, Saved};
 use nf_pending::{Mark, Run};
@@ -93,6 +93,8 @@ pub fn pack(saved: &Saved) -> State
     let held = saved.held.as_slice();
     let marks = saved.marks.as_slice();
     State {
+        magic: MAGIC,
+        unicode: UNICODE,
         base: saved.base,
         offset: saved.offset,
         chars: saved.chars,
@@ -137,6 +139,9 @@ pub fn unpack(state: &State) -> Option<Saved>
     ensures some { IsSome result ↔ IsState state.now }
     ensures saved { IfSome result (λ saved. saved ≡ unpacked state.now) }
 {
+    if state.magic != MAGIC || state.unicode != UNICODE {
+        return None;
+    }
     if state.held_len > 3 || state.marks_len > 30 || state.spent > 1 {
         return None;
     }

@@ -3,7 +3,7 @@ ghost use Rattle.nf_forms.specs.Ucd.{ucd};
 ghost use Rattle.nf_forms.specs.declared.form.Form.{Form};
 ghost use Rattle.nf_filter.specs.declared.filter.State.{State as FilterState};
 ghost use Rattle.nf_filter.specs.declared.policy.Policy.{Policy};
-ghost use Rattle.nf_filter.specs.Filter.{state_of, StandsAfter as FilterStandsAfter};
+ghost use Rattle.nf_filter.specs.Filter.{state_of, base_of, offset_of, StandsAfter as FilterStandsAfter};
 ghost use Rattle.nf_filter.specs.Saved.{saved_of, IsRestorable};
 ghost use Rattle.nf_row.specs.Ascii.{IsPlainAscii};
 ghost use Rattle.nf_c.specs.State.{IsForm, IsPolicy, form_at, policy_at, CanStand, StandsAfter, unpacked};
@@ -46,16 +46,25 @@ pub fn filter_of(state: &State) -> Option<Filter<'static, Ucd>>
     }
 }
 
-/// The filter that was saved.
-pub fn restored(saved: Saved) -> Filter<'static, Ucd>
-    requires { IsRestorable saved }
+/// The filter that was saved; none where by what is counted and pending no filter can stand there.
+pub fn restored(saved: Saved) -> Option<Filter<'static, Ucd>>
+    ensures some { IsSome result ↔ IsRestorable ucd saved }
     ensures stands { (policy : Policy) (f : Form) (state : FilterState) (bytes : List ℕ) → FilterStandsAfter policy f ucd state bytes → saved_of state ≡ saved
-        → FilterStandsAfter policy f ucd (state_of result) bytes }
-    ensures saved { saved_of (state_of result) ≡ saved }
+        → IfSome result (λ filter. FilterStandsAfter policy f ucd (state_of filter) bytes) }
+    ensures saved { IfSome result (λ filter. saved_of (state_of filter) ≡ saved) }
 {
-    match Filter::restore(plain(), saved) {
-        Some(filter) => filter,
-        None => unreachable!(),
+    Filter::restore(plain(), saved)
+}
+
+/// Puts the filter back to where it was saved, if a filter can stand there.
+pub fn go_back(filter: &mut Filter<'_, Ucd>, before: Saved)
+    ensures stands { (policy : Policy) (f : Form) (state : FilterState) (bytes : List ℕ) → FilterStandsAfter policy f ucd state bytes → saved_of state ≡ before → IsRestorable ucd before
+        → FilterStandsAfter policy f ucd (state_of filter.new) bytes }
+    ensures base { base_of (state_of filter.old) ≡ before.base → base_of (state_of filter.new) ≡ before.base }
+    ensures offset { offset_of (state_of filter.old) ≡ before.offset → offset_of (state_of filter.new) ≡ before.offset }
+{
+    if let Some(back) = restored(before) {
+        *filter = back;
     }
 }
 

@@ -2,6 +2,10 @@
 #[repr(C)]
 #[derive(Clone, Copy, Debug)]
 pub struct State {
+    /// A word that zeros do not have, and that belongs to this layout.
+    pub magic: u32,
+    /// The version of Unicode of the data under which the state came about.
+    pub unicode: u32,
     /// The offset of the first byte, and that of the next.
     pub base: u64,
     pub offset: u64,
@@ -18,13 +22,19 @@ pub struct State {
     pub marks_len: u8,
     /// The non-starters that the stream-safe text's NFKD ends in.
     pub count: u8,
-    /// 1 for NFC, 2 for NFD, 3 for NFKC, 4 for NFKD: memory of zeros is no state.
+    /// 1 for NFC, 2 for NFD, 3 for NFKC, 4 for NFKD.
     pub form: u8,
     /// 1 where ill-formed bytes are replaced, and 2 where characters that are not assigned are refused.
     pub policy: u8,
     /// 1 once the text has ended.
     pub spent: u8,
 }
+
+/// "nfs2", in the order of bytes of a small-endian machine.
+pub const MAGIC: u32 = 0x3273_666E;
+
+/// Unicode 18.0.0, of which the kit's tables are. They carry no number of their own: who takes other tables changes it.
+pub const UNICODE: u32 = 180_000;
 
 /// The number of no starter.
 pub const NO_STARTER: u32 = 0xFFFF_FFFF;

@@ -5,6 +5,8 @@ use std::process::Abort;
 
 /// Memory of zeros.
 pub const ZEROS: State = State {
+    magic: 0,
+    unicode: 0,
     base: 0,
     offset: 0,
     chars: 0,

@@ -1,6 +1,8 @@
 //! Whole texts by one call.
-use crate::kit::{AS_IS, NFC, REPLACE};
+use crate::kit::{AS_IS, NFC, NFKD, REPLACE};
 use nf_c::{Moved, Status, check, convert};
+use std::alloc::{AllocError, Global};
+use std::process::Abort;
 use std::test::Fail;
 
 fn told(status: Status, read: usize, written: usize, at: u64, start: u64) -> Moved {
@@ -28,11 +30,54 @@ fn a_whole_text_is_converted_in_just_its_room(rt: HostRuntime) -> Result<(), Fai
     Ok(())
 }
 
+/// How much is left of so many times its bytes, where a text of 40 times `some` is converted.
+fn left(
+    rt: &impl Abort,
+    alloc: Global,
+    form: u32,
+    growth: usize,
+    some: &[u8],
+) -> Result<usize, AllocError> {
+    let mut text = Vec::new(alloc);
+    for _ in 0..40 {
+        text.extend_from_slice(some)?;
+    }
+    let room = text.len().saturating_mul(growth);
+    let mut output = Vec::from_elem(alloc, 0, room)?;
+    let done = convert(form, REPLACE, text.as_slice(), output.as_mut_slice());
+    assert_eq!(rt; done.status, Status::Done);
+    Ok(room.saturating_sub(done.written))
+}
+
+/// The bounds of `NF_BOUND` are room enough for characters that grow most, for joiners and for replaced bytes, and are reached.
+#[test]
+fn no_form_is_larger_than_its_bound(rt: HostRuntime) -> Result<(), Fail> {
+    let alloc = rt.alloc();
+    let texts: [&[u8]; 6] = [
+        b"\xCE\x90",
+        b"\xF0\x9D\x85\xA0",
+        b"\xEF\xB7\xBA\xCD\x84",
+        b"\xCD\x84",
+        b"\xEA\xB0\x81",
+        b"\xFF",
+    ];
+    for some in texts {
+        left(&rt, alloc, NFC, 3, some)?;
+        left(&rt, alloc, 2, 3, some)?;
+        left(&rt, alloc, 3, 11, some)?;
+        left(&rt, alloc, NFKD, 11, some)?;
+    }
+    let canonical = left(&rt, alloc, 2, 3, b"\xCE\x90")?;
+    let compat = left(&rt, alloc, NFKD, 11, b"\xEF\xB7\xBA")?;
+    assert_eq!(rt; (canonical, compat), (0, 0));
+    Ok(())
+}
+
 #[test]
 fn what_cannot_be_converted_is_refused(rt: HostRuntime) -> Result<(), Fail> {
     let mut output = [0; 8];
     let bad = convert(NFC, AS_IS, b"ab\xFF", &mut output);
-    assert_eq!(rt; bad, told(Status::BadByte, 3, 1, 2, 2));
+    assert_eq!(rt; bad, told(Status::BadByte, 2, 1, 2, 2));
     let cut = convert(NFC, AS_IS, b"ab\xC3", &mut output);
     assert_eq!(rt; cut, told(Status::Cut, 3, 1, 3, 2));
     let form = convert(9, AS_IS, b"a", &mut output);

@@ -45,7 +45,7 @@ pub fn command<'w, I: Read, O: Write, E: Write>(
     // The command line is to blame only where clap's definition of it refuses the words.
     ensures refused { result ≡ 2 → Refused (texts words.entry.now) }
 
-    // A second run changes nothing of what `convert` wrote.
+    // A second run changes nothing of what `convert` wrote, with `--line-buffered` or without it.
     ensures again { ConvertsOnce (texts words.entry.now)
         (record { input = I.remaining input.old; out = O.contents out.old; err = E.contents err.old })
         (record { input = I.remaining input.new; out = O.contents out.new; err = E.contents err.new })

@@ -1,5 +1,5 @@
 -- What a filter wrote to the end is a text that is stream-safe and its own form, so that a second one changes nothing.
-use Rattle.std.proofs.Common.{◌≡◌, ℕ, ◌+◌, ◌-◌, Bool, true, false, ◌&&◌, ◌==◌, List, [], ◌∷◌, ◌++◌, map, length, Option, Some, None, Result, Ok, Err, refl, sym, ap, ap₂, ◌∙◌, subst, arith, append-nil, eq-eqb, IsTrue, OnOk, if◌then◌else◌, encode_utf8_all}
+use Rattle.std.proofs.Common.{◌≡◌, ℕ, ◌+◌, ◌-◌, Bool, true, false, ◌&&◌, ◌==◌, List, [], ◌∷◌, ◌++◌, map, length, Option, Some, None, Result, Ok, Err, refl, sym, ap, ap₂, ◌∙◌, subst, arith, append-nil, eq-eqb, IsTrue, OnOk, if◌then◌else◌, encode_utf8_all, inl}
 use Rattle.std.proofs.lemmas.Bool.{and_from, and_parts}
 use Rattle.std.proofs.str.Laws.{scalars-append}
 use Rattle.std.specs.List.{list_all}
@@ -30,7 +30,7 @@ use Rattle.nf_filter.specs.Faults.{answer_at_end, bad_byte, bad_under, first_fau
 use Rattle.nf_filter.specs.Finishes.{tally_of, answer_or, end_under, end_of, whole_or, is_taken, final_under, final_utf8}
 use Rattle.nf_filter.specs.Devices.{SinkState, SourceState}
 use Rattle.nf_filter.specs.Writes.{Puts}
-use Rattle.nf_filter.specs.Drives.{due_utf8, Drives}
+use Rattle.nf_filter.specs.Drives.{due_utf8, Drives, DrivesToEnd}
 use Rattle.nf_filter.specs.Whole.{whole_utf8, Converts}
 use Rattle.nf_filter.specs.Again.{TakesAll, nothing_put, StaysAsItIs, AddsWhatStays, DrivesOnce, FinishedStays}
 use Rattle.nf_filter.specs.Laws.Settled.{settled_utf8-none}
@@ -52,24 +52,35 @@ answered base value told Whole e settled whole = refl
 answered base value told (Bad at start) e settled whole = refl
 answered base value told (Cut at start) e settled whole = cc
 
-none_told : {A : Type 0} (fault : Option Fault) (value told : A) → answer_or fault value ≡ Ok told → fault ≡ None
+pub none_told : {A : Type 0} (fault : Option Fault) (value told : A) → answer_or fault value ≡ Ok told → fault ≡ None
 none_told None value told e = refl
 none_told (Some fault) value told e = cc
 
 module _ (p : Properties) where
   -- what has no fault is taken
-  taken : (assigned : Bool) (place : List ℕ → ℕ) (x : List ℕ) → first_fault assigned p place x None ≡ None → is_taken assigned p x ≡ true
-  taken false place x none = and_from _ _ (usable_by (is_usable p x) _ none) (eq-eqb (length x) (length x) refl)
+  pub taken : (assigned : Bool) (place : List ℕ → ℕ) (x : List ℕ) (other : Option Fault) → first_fault assigned p place x other ≡ None → is_taken assigned p x ≡ true
+  taken false place x other none = and_from _ _ (usable_by (is_usable p x) _ none) (eq-eqb (length x) (length x) refl)
     where
-      usable_by : (b : Bool) (fault : Fault) → (if b then None else Some fault) ≡ None → b ≡ true
+      usable_by : (b : Bool) (fault : Fault) → (if b then other else Some fault) ≡ None → b ≡ true
       usable_by true fault e = refl
       usable_by false fault e = cc
-  taken true place x none = both (is_usable p (allowed true p x)) (length (allowed true p x) == length x) _ _ none
+  taken true place x other none = both (is_usable p (allowed true p x)) (length (allowed true p x) == length x) _ _ none
     where
-      both : (b d : Bool) (first second : Fault) → (if b then (if d then None else Some first) else Some second) ≡ None → (b && d) ≡ true
+      both : (b d : Bool) (first second : Fault) → (if b then (if d then other else Some first) else Some second) ≡ None → (b && d) ≡ true
       both true true first second e = refl
       both true false first second e = cc
       both false d first second e = cc
+
+  -- then the whole form was written
+  module _ (base : ℕ) (bytes : List ℕ) (tally : Tally) where
+    final_under-whole : (replace assigned : Bool) → end_under replace assigned p base bytes ≡ Ok tally → (settled whole : List ℕ) → final_under replace assigned p bytes settled whole ≡ whole
+    final_under-whole false assigned end settled whole = answered base (tally_of false p bytes) tally (ending_of bytes) end settled whole
+    final_under-whole true assigned end settled whole =
+        ap (λ (b : Bool). if b then whole else settled) (taken assigned (λ front. base + len_under true bytes front) (whole_under true bytes) None (none_told _ (tally_of true p bytes) tally end))
+
+    pub final-whole : (f : Form) (policy : Policy) → end_of policy p base bytes ≡ Ok tally → final_utf8 policy f p bytes ≡ encode_utf8_all (safe_form f p (whole_under policy.replace bytes))
+    unfolding final_utf8 end_of
+    final-whole f policy end = final_under-whole policy.replace policy.assigned end (settled_utf8 policy f p bytes) (encode_utf8_all (safe_form f p (whole_under policy.replace bytes)))
 
   sound_text : ((c : ℕ) → scalar c ≡ true → is_sound p c ≡ true) → (x : List ℕ) → all_scalars x ≡ true → IsSoundText p x
   sound_text sound [] scalars = refl
@@ -200,34 +211,30 @@ module _ (back : ReadsBack) (replacing : ReplacesParts) where
         last true = refl
         last false = refl
 
-    module _ (base : ℕ) (bytes : List ℕ) (tally : Tally) where
-      final_under-whole : (replace assigned : Bool) → end_under replace assigned p base bytes ≡ Ok tally → (settled whole : List ℕ) → final_under replace assigned p bytes settled whole ≡ whole
-      final_under-whole false assigned end settled whole = answered base (tally_of false p bytes) tally (ending_of bytes) end settled whole
-      final_under-whole true assigned end settled whole =
-          ap (λ (b : Bool). if b then whole else settled) (taken p assigned (λ front. base + len_under true bytes front) (whole_under true bytes) (none_told _ (tally_of true p bytes) tally end))
-
-      final-whole : (policy : Policy) → end_of policy p base bytes ≡ Ok tally → final_utf8 policy f p bytes ≡ encode_utf8_all (safe_form f p (whole_under policy.replace bytes))
-      unfolding final_utf8 end_of
-      final-whole policy end = final_under-whole policy.replace policy.assigned end (settled_utf8 policy f p bytes) (encode_utf8_all (safe_form f p (whole_under policy.replace bytes)))
-
-      pub stays-final : (policy : Policy) → end_of policy p base bytes ≡ Ok tally → StaysAsItIs f p (final_utf8 policy f p bytes)
-      stays-final policy end = subst (StaysAsItIs f p) (sym (final-whole policy end)) (stays-form (whole_under policy.replace bytes) (text-whole policy.replace bytes))
+    pub stays-final : (base : ℕ) (bytes : List ℕ) (tally : Tally) (policy : Policy) → end_of policy p base bytes ≡ Ok tally → StaysAsItIs f p (final_utf8 policy f p bytes)
+    stays-final base bytes tally policy end = subst (StaysAsItIs f p) (sym (final-whole p base bytes tally f policy end)) (stays-form (whole_under policy.replace bytes) (text-whole policy.replace bytes))
 
 pub finished_stays : ReadsLongestText → ReadsBack → ReplacesParts → FinishedStays
 finished_stays longest back replacing = λ policy f p base bytes tally once end. stays-final back replacing longest f p once base bytes tally policy end
 
 -- ---- of a source that was driven to its end
 
-pub drives_once : FinishedStays → (most : ℕ) (policy : Policy) (f : Form) (p : Properties) (base : ℕ) (bytes : List ℕ) (source left : SourceState) (old new : SinkState) (result : Result Tally Fault)
-    → ChangesOnce f p → IsTrue left.is_at_end → Drives most policy f p base bytes source left old new result → OnOk result (DrivesOnce policy f p bytes source left old new)
-drives_once law most policy f p base bytes source left old new (Err fault) once end drives = tt
-drives_once law most policy f p base bytes source left old new (Ok tally) once end drives = record {
+pub drives_to_end : {Says : List ℕ → Type 0} → (most : ℕ) (policy : Policy) (f : Form) (p : Properties) (base : ℕ) (bytes : List ℕ) (source left : SourceState) (old new : SinkState) (result : Result Tally Fault)
+    → ((all : List ℕ) (tally : Tally) → fault_in policy p base all ≡ None → end_of policy p base all ≡ Ok tally → Says all)
+    → IsTrue left.is_at_end → Drives most policy f p base bytes source left old new result → OnOk result (DrivesToEnd policy f p bytes source left old new Says)
+drives_to_end most policy f p base bytes source left old new (Err fault) law end drives = tt
+drives_to_end most policy f p base bytes source left old new (Ok tally) law end drives = record {
   fed = drives.fed;
   given = subst (Consumes source.coming left.coming) (ap (λ l. drives.fed ++ l) (drives.all_fed (λ e. cc)) ∙ append-nil drives.fed) drives.given;
   read_out = drives.read_out end;
   written = subst (λ b. Puts old new (settled_utf8 policy f p bytes) (due_utf8 b policy f p (bytes ++ drives.fed))) end (drives.written (λ e. cc));
-  stays = law policy f p base (bytes ++ drives.fed) tally once (sym (drives.finished end (λ e. cc)));
+  says = law (bytes ++ drives.fed) tally (drives.no_fault (inl end)) (sym (drives.finished end (λ e. cc)));
 }
+
+pub drives_once : FinishedStays → (most : ℕ) (policy : Policy) (f : Form) (p : Properties) (base : ℕ) (bytes : List ℕ) (source left : SourceState) (old new : SinkState) (result : Result Tally Fault)
+    → ChangesOnce f p → IsTrue left.is_at_end → Drives most policy f p base bytes source left old new result → OnOk result (DrivesOnce policy f p bytes source left old new)
+drives_once law most policy f p base bytes source left old new result once end drives =
+    drives_to_end most policy f p base bytes source left old new result (λ all tally _ end. law policy f p base all tally once end) end drives
 
 module _ (f : Form) (p : Properties) (old new : SinkState) where
   put-stays : (out whole : List ℕ) → whole ≡ out → Appends old.taken new.taken out → StaysAsItIs f p whole → AddsWhatStays f p old.taken new.taken
@@ -237,7 +244,7 @@ module _ (f : Form) (p : Properties) (old new : SinkState) where
       → OnOk result (AddsWhatStays f p old.taken new.taken)
   adds_what_stays policy source left (Err fault) once = tt
   adds_what_stays policy source left (Ok tally) once =
-      put-stays once.written.out _ (once.written.behind ∙ ap (λ l. l ++ once.written.out) (settled_utf8-none policy f p)) once.written.given once.stays
+      put-stays once.written.out _ (once.written.behind ∙ ap (λ l. l ++ once.written.out) (settled_utf8-none policy f p)) once.written.given once.says
 
   -- ---- of bytes that were all there was
 

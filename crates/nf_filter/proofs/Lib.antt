@@ -33,4 +33,5 @@ pub mod AssignedLemmas
 pub mod EncodingLemmas
 pub mod WholeLemmas
 pub mod AgainLemmas
+pub mod JoinedLemmas
 pub mod SavedLemmas

@@ -1,16 +1,203 @@
--- The counts of a filter's state fit together.
-use Rattle.std.proofs.Common.{◌≡◌, Bool, true, false, ◌⊎◌, inl, inr, refl}
+-- Each filter that is spent or stands after bytes has a state of which one can be made.
+use Rattle.std.proofs.Common.{◌≡◌, zero, suc, ℕ, ◌+◌, ◌-◌, ◌≤◌, ◌<◌, Bool, true, false, not, ◌&&◌, ◌==◌, eqb, ltb, inl, inr, List, [], ◌∷◌, ◌++◌, length, map, take, drop, encode_utf8, Option, Some, None, IfSome, if◌then◌else◌, refl, sym, ap, ◌∙◌, subst, arith, length-append, encode_utf8_all}
+use Rattle.std.proofs.lemmas.Bool.{and_parts, and_from, or_parts, eqb-true, eq-eqb, le-leb}
+use Rattle.std.proofs.lemmas.Bool.Decides.{nat_tests}
+use Rattle.std.proofs.lemmas.List.{length-map}
+use Rattle.std.proofs.lemmas.Str.{length-le-encodes}
+use Rattle.std.proofs.Math.Seq.{take-length}
+use Rattle.std.specs.List.{list_all}
+use Rattle.std.specs.Option.{option_to_list}
+use Rattle.std.specs.Prelude.{is_some}
+use Rattle.nf_forms.specs.Properties.{Properties, is_starter}
+use Rattle.nf_forms.specs.Runs.{has_starter, trail}
+use Rattle.nf_forms.specs.declared.form.Form.{Form}
+use Rattle.nf_forms.specs.declared.form.Form.TheVariants.{Nfc, Nfd, Nfkc, Nfkd}
+use Rattle.nf_forms.specs.Forms.{row_of, decomposed, composes}
+use Rattle.nf_forms.specs.Order.{by_class}
+use Rattle.nf_forms.specs.Ordering.{is_ordered}
+use Rattle.nf_forms.specs.Sound.{is_sound}
+use Rattle.nf_forms.specs.StreamSafe.{max_run, stream_safe}
+use Rattle.nf_forms.specs.Laws.Order.{order-marks, has_starter-by_class}
+use Rattle.nf_forms.specs.Laws.Ordering.{ordering}
+use Rattle.nf_forms.specs.Laws.Runs.{trail-marks}
+use Rattle.nf_forms.specs.Laws.Settling.{back-starter}
+use Rattle.nf_forms.specs.Laws.Sound.{IsSound, IsSound-from_test}
+use Rattle.nf_boundary.specs.Mark.{mark_of}
+use Rattle.nf_utf8.specs.Ending.{Ending, Whole, Bad, Cut}
+use Rattle.nf_utf8.specs.Laws.{ReplacesParts}
+use Rattle.nf_utf8.specs.Part.{IsPart}
+use Rattle.nf_utf8.specs.Reading.{text_len, begun_len, text_of, ending_of}
+use Rattle.nf_utf8.specs.Replaced.{Part, own_parts, part_end, behind_text, parts_within, parts_of, replaced, replaced_len, bytes_in}
+use Rattle.nf_pending.specs.StandsAfter.{StandsAfter as PendingStandsAfter}
+use Rattle.nf_pending.specs.Laws.Standing.{run_len-trail}
+use Rattle.nf_pending.proofs.Standing.{starter_held}
 use Rattle.nf_filter.specs.declared.filter.State.{State}
-use Rattle.nf_filter.specs.Normalizer.{ends_at}
-use Rattle.nf_filter.specs.Taker.{IsReady}
-use Rattle.nf_filter.specs.Saved.{saved_of, CountsFit, IsPossible}
+use Rattle.nf_filter.specs.declared.policy.Policy.{Policy}
+use Rattle.nf_filter.specs.Filter.{is_spent, StandsAfter}
+use Rattle.nf_filter.specs.Policy.{len_under, text_under}
+use Rattle.nf_filter.specs.Saved.{saved_of, are_marks, IsCounted, CountsFit, IsPending, IsRestorable}
+use Rattle.nf_filter.specs.Settled.{is_usable}
+use Rattle.nf_filter.proofs.StandingLemmas.{taken-text, taken-len}
 
-counts_fit : (state : State) → IsReady (ends_at state.normalizer) state.reading → CountsFit (saved_of state)
-counts_fit state ready = record { held = ready.held; chars = ready.end.1; put = ready.end.0.put; run = ready.end.0.run }
+bad_order : (bytes : List ℕ) (at start : ℕ) → ending_of bytes ≡ Bad at start → start ≤ at
+unfolding ending_of
+bad_order bytes at start = next (text_len bytes == length bytes) (begun_len bytes == length bytes)
+  where
+    next : (b c : Bool) → (if b then Whole else (if c then Cut (begun_len bytes) (text_len bytes) else Bad (begun_len bytes) (text_len bytes))) ≡ Bad at start → start ≤ at
+    next true c e = cc
+    next false true e = cc
+    next false false e =
+        let first : begun_len bytes ≡ at = cc in
+        let second : text_len bytes ≡ start = cc in
+        omega arith
 
-spent_or_fits : (state : State) (spent : Bool) → (spent ≡ false → IsReady (ends_at state.normalizer) state.reading) → (spent ≡ true) ⊎ CountsFit (saved_of state)
-spent_or_fits state true ready = inl refl
-spent_or_fits state false ready = inr (counts_fit state (ready refl))
+part_some : (at start : ℕ) → start ≤ at → 0 < part_end at start - start
+part_some at start order = by (at == start) refl
+  where
+    by : (b : Bool) → (at == start) ≡ b → 0 < (if b then start + 1 else at) - start
+    by true e = omega arith
+    by false e = let differs : ¬ (at ≡ start) = grind (arith, nat_tests) in omega arith
 
-pub always_possible : (state : State) → IsPossible (saved_of state)
-always_possible state = (state.base_within, spent_or_fits state state.spent state.ready)
+-- bytes give no more characters than they are
+module _ (laws : ReplacesParts) where
+  own_some : (x : List ℕ) → length (own_parts x) ≤ bytes_in (own_parts x)
+  own_some x = omega (arith, length-map {B = Part} x (λ c. record { char = c; len = length (encode_utf8 c) }), laws.own_len x, length-le-encodes x)
+
+  parts_some : (k : ℕ) (bytes : List ℕ) → length (parts_within k bytes) ≤ bytes_in (parts_within k bytes)
+  parts_some zero bytes = omega arith
+  parts_some (suc k) bytes =
+      let behind = behind_text (ending_of bytes) (λ n. parts_within k (drop n bytes)) in
+      omega (arith, length-append (own_parts (text_of bytes)) behind, laws.joined (own_parts (text_of bytes)) behind, own_some (text_of bytes), next (ending_of bytes) refl (λ n. parts_some k (drop n bytes)))
+    where
+      next : (e : Ending) → ending_of bytes ≡ e → ((n : ℕ) → length (parts_within k (drop n bytes)) ≤ bytes_in (parts_within k (drop n bytes)))
+          → length (behind_text e (λ n. parts_within k (drop n bytes))) ≤ bytes_in (behind_text e (λ n. parts_within k (drop n bytes)))
+      next Whole e more = omega arith
+      next (Cut at start) e more = omega arith
+      next (Bad at start) e more = omega (arith, part_some at start (bad_order bytes at start e), more (part_end at start))
+
+  chars_few : (replace : Bool) (bytes : List ℕ) → length (text_under replace bytes) ≤ len_under replace bytes (text_under replace bytes)
+  unfolding replaced replaced_len parts_of
+  chars_few false bytes = length-le-encodes (text_of bytes)
+  chars_few true bytes =
+      let parts = parts_of bytes in
+      let same : length (replaced bytes) ≡ length parts = length-map parts (λ part. part.char) in
+      subst (λ n. length (replaced bytes) ≤ bytes_in (take n parts)) (sym same)
+      (subst (λ l. length (replaced bytes) ≤ bytes_in l) (sym (take-length parts)) (omega (arith, same, parts_some (suc (length bytes)) bytes)))
+
+module _ (p : Properties) where
+  row_some : (f : Form) (c : ℕ) → IsSound p c → 1 ≤ length (row_of f p c)
+  row_some Nfc c sound = sound.canonical_some
+  row_some Nfd c sound = sound.canonical_some
+  row_some Nfkc c sound = sound.compat_some
+  row_some Nfkd c sound = sound.compat_some
+
+  -- nor a decomposition less than the text
+  rows_some : (f : Form) (x : List ℕ) → list_all (is_sound p) x ≡ true → length x ≤ length (decomposed f p x)
+  rows_some f [] sound = omega arith
+  rows_some f (c ∷ x) sound =
+      let parts = and_parts (is_sound p c) (list_all (is_sound p) x) sound in
+      omega (arith, length-append (row_of f p c) (decomposed f p x), row_some f c (IsSound-from_test p c parts.0), rows_some f x parts.1)
+
+  -- marks in order
+  marks_from : (least a : ℕ) (m : List ℕ) → is_ordered p (a ∷ m) ≡ true → has_starter p (a ∷ m) ≡ false → least ≤ p.class a → are_marks p least (map (mark_of p) (a ∷ m)) ≡ true
+  marks_from least a [] ordered marks more = and_from _ _ (and_from _ _ (eq-eqb (p.class a) (p.class a) refl) (le-leb least (p.class a) more)) refl
+  marks_from least a (b ∷ m) ordered marks more =
+      let parts = and_parts _ _ ordered in
+      let other = (or_parts (is_starter p a) (has_starter p (b ∷ m)) marks).1 in
+      let rest = marks_from (p.class a) b m parts.1 other (next (p.class a) (p.class b) parts.0 ((or_parts (is_starter p b) (has_starter p m) other).0)) in
+      and_from _ _ (and_from _ _ (eq-eqb (p.class a) (p.class a) refl) (le-leb least (p.class a) more)) rest
+    where
+      next : (x y : ℕ) → not (ltb 0 y && ltb y x) ≡ true → eqb y 0 ≡ false → x ≤ y
+      next x y apart some = grind (arith, nat_tests)
+
+  marks_of_run : (m : List ℕ) → is_ordered p m ≡ true → has_starter p m ≡ false → are_marks p 1 (map (mark_of p) m) ≡ true
+  marks_of_run [] ordered marks = refl
+  marks_of_run (a ∷ m) ordered marks = marks_from 1 a m ordered marks (some (p.class a) ((or_parts (is_starter p a) (has_starter p m) marks).0))
+    where
+      some : (n : ℕ) → eqb n 0 ≡ false → 1 ≤ n
+      some n e = grind (arith, nat_tests)
+
+nothing : (l : List ℕ) → length l ≡ 0 → l ≡ []
+nothing [] e = refl
+nothing (c ∷ l) e = absurd (omega (arith, e))
+
+none : (o : Option ℕ) → false ≡ is_some o → o ≡ None
+none None e = refl
+none (Some c) e = cc
+
+module _ (laws : ReplacesParts) {policy : Policy} {f : Form} {p : Properties} {state : State} {bytes : List ℕ} (stands : StandsAfter policy f p state bytes) where
+  abbrev tail : List ℕ
+  tail = stands.reading.tail
+
+  abbrev text : List ℕ
+  text = stands.reading.before ++ text_of tail
+
+  abbrev decomposition : List ℕ
+  decomposition = decomposed f p (stream_safe p text)
+
+  abbrev run : ℕ
+  run = length state.normalizer.pending.marks.items
+
+  pending : PendingStandsAfter f p state.normalizer.pending decomposition
+  pending = stands.reading.taken.pending
+
+  run_is : run ≡ trail p decomposition
+  run_is = run_len-trail f p _ decomposition pending
+
+  starts : has_starter p decomposition ≡ is_some state.normalizer.pending.starter
+  starts = starter_held f p state.normalizer.pending decomposition pending
+
+  counted_by : (g : Form) → run ≤ state.normalizer.counter → run ≡ trail p (decomposed g p (stream_safe p text)) → IsCounted g run state.normalizer.counter
+  counted_by Nfc few same = few
+  counted_by Nfd few same = few
+  counted_by Nfkc few same = same ∙ sym stands.reading.taken.count
+  counted_by Nfkd few same = same ∙ sym stands.reading.taken.count
+
+  new_text : text ≡ [] → (state.normalizer.counter ≡ 0) × (state.normalizer.pending.starter ≡ None)
+  new_text e = (
+    stands.reading.taken.count ∙ ap (λ x. trail p (decomposed Nfkd p (stream_safe p x))) e,
+    none state.normalizer.pending.starter (sym (ap (λ x. has_starter p (decomposed f p (stream_safe p x))) e) ∙ starts),
+  )
+
+  all_pending : state.normalizer.pending.starter ≡ None → length (stream_safe p text) ≤ run
+  unfolding is_usable
+  all_pending e =
+      let plain : has_starter p decomposition ≡ false = starts ∙ ap is_some e in
+      omega (arith, run_is, trail-marks p decomposition plain, rows_some p f (stream_safe p text) stands.reading.taken.usable)
+
+  pub counts_fit : length (encode_utf8_all (text_of tail)) + length state.reading.decoder ≡ length tail → run ≤ state.normalizer.counter → state.normalizer.put ≤ state.normalizer.chars → CountsFit (saved_of state)
+  counts_fit held few put =
+      let taken = stands.reading.taken in
+      let chars : length text ≤ stands.reading.n + length (encode_utf8_all (text_of tail)) =
+      subst (λ x. length x ≤ stands.reading.n + length (encode_utf8_all (text_of tail))) (taken-text laws stands) (subst (λ n. length (text_under policy.replace bytes) ≤ n) (taken-len laws stands) (chars_few laws policy.replace bytes)) in record {
+        held = omega (arith, held, stands.reading.offset);
+        chars = omega (arith, held, chars, taken.chars, stands.reading.offset);
+        put = put;
+        counted = subst (λ g. IsCounted g run state.normalizer.counter) (sym taken.form) (counted_by f few run_is);
+        new = λ e. new_text (nothing text (sym taken.chars ∙ e));
+        unstarted = λ e. omega (arith, all_pending e, taken.chars, taken.put);
+      }
+
+  pub is_pending : IsPending p (saved_of state)
+  is_pending = record { starter = starter state.normalizer.pending.starter refl; marks = marks }
+    where
+      starter : (o : Option ℕ) → state.normalizer.pending.starter ≡ o → IfSome o (λ c. p.class c ≡ 0)
+      starter None e = tt
+      starter (Some c) e = eqb-true (p.class c) 0 (back-starter p (composes f) pending.head pending.ends c (sym pending.starter ∙ ap option_to_list e))
+
+      ordered : is_ordered p (by_class p pending.run) ≡ true
+      ordered = ap (is_ordered p) (sym (order-marks p pending.run pending.marks)) ∙ (ordering p pending.run).ordered
+
+      marks : are_marks p 1 state.normalizer.pending.marks.items ≡ true
+      marks = ap (are_marks p 1) pending.held ∙ marks_of_run p (by_class p pending.run) ordered (has_starter-by_class p pending.run)
+
+-- a filter that is spent
+pub IsRestorable-spent : (p : Properties) (state : State) → IsPart state.reading.decoder → state.normalizer.counter ≤ max_run → is_spent state ≡ true → IsRestorable p (saved_of state)
+IsRestorable-spent p state held count spent = record { held = held; count = count; base = state.base_within; fits = inl spent }
+
+-- or one that stands after bytes
+pub IsRestorable-stands : (laws : ReplacesParts) {policy : Policy} {f : Form} {p : Properties} {state : State} {bytes : List ℕ} (stands : StandsAfter policy f p state bytes) → IsPart state.reading.decoder → state.normalizer.counter ≤ max_run
+    → length (encode_utf8_all (text_of stands.reading.tail)) + length state.reading.decoder ≡ length stands.reading.tail → IsRestorable p (saved_of state)
+IsRestorable-stands laws {state = state} stands held count few =
+    let ready = state.ready stands.unspent in
+    record { held = held; count = count; base = state.base_within; fits = inr (counts_fit laws stands few ready.end.0.run ready.end.0.put, is_pending laws stands) }

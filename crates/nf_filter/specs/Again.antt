@@ -1,6 +1,6 @@
 -- Bytes of which a second filter changes nothing (UAX #15, sections 1.2 and 13).
-use Rattle.std.specs.Prelude.{◌≡◌, ℕ, List, ◌++◌, length, Option, None, Ok, IsTrue, encode_utf8_all}
-use Rattle.std.specs.Io.KnownBytes.{Appends, Consumes, IsAtEnd}
+use Rattle.std.specs.Prelude.{◌≡◌, ℕ, List, length, Option, None, Ok, IsTrue, encode_utf8_all}
+use Rattle.std.specs.Io.KnownBytes.{Appends}
 use Rattle.nf_forms.specs.Properties.{Properties}
 use Rattle.nf_forms.specs.declared.form.Form.{Form}
 use Rattle.nf_forms.specs.StreamSafe.{stream_safe}
@@ -12,11 +12,10 @@ use Rattle.nf_safe.specs.Place.{is_in_format}
 use Rattle.nf_filter.specs.declared.policy.Policy.{Policy}
 use Rattle.nf_filter.specs.declared.tally.Tally.{Tally}
 use Rattle.nf_filter.specs.Devices.{SinkState, SourceState}
-use Rattle.nf_filter.specs.Writes.{Puts}
 use Rattle.nf_filter.specs.Policy.{allowed}
-use Rattle.nf_filter.specs.Settled.{settled_utf8}
 use Rattle.nf_filter.specs.Faults.{fault_in}
 use Rattle.nf_filter.specs.Finishes.{end_of, final_utf8}
+use Rattle.nf_filter.specs.Drives.{DrivesToEnd}
 
 -- the policy takes each character of the text that these bytes spell: any does that does not ask for assigned ones
 abbrev pub TakesAll : Policy → Properties → List ℕ → Type 0
@@ -43,14 +42,10 @@ pub record StaysAsItIs (f : Form) (p : Properties) (bytes : List ℕ) : Type 0 w
 abbrev pub AddsWhatStays : Form → Properties → Option (List ℕ) → Option (List ℕ) → Type 0
 AddsWhatStays f p taken now = (out : List ℕ) × Appends taken now out × StaysAsItIs f p out
 
--- a filter that stood after `bytes` was fed what the source had, to its end, and all that it wrote stays so: what it had
--- written before, and what it gave to the sink now
-pub record DrivesOnce (policy : Policy) (f : Form) (p : Properties) (bytes : List ℕ) (source left : SourceState) (old new : SinkState) : Type 0 where
-  pub fed : List ℕ
-  pub given : Consumes source.coming left.coming fed
-  pub read_out : IsAtEnd left.coming
-  pub written : Puts old new (settled_utf8 policy f p bytes) (final_utf8 policy f p (bytes ++ fed))
-  pub stays : StaysAsItIs f p (final_utf8 policy f p (bytes ++ fed))
+-- a filter that stood after `bytes` was driven to the source's end, and all that it wrote stays so: what it had written
+-- before, and what it gave to the sink now
+abbrev pub DrivesOnce : Policy → Form → Properties → List ℕ → SourceState → SourceState → SinkState → SinkState → Type 0
+DrivesOnce policy f p bytes source left old new = DrivesToEnd policy f p bytes source left old new (λ all. StaysAsItIs f p (final_utf8 policy f p all))
 
 -- where the end of all bytes is no fault, all that was written stays so
 abbrev pub FinishedStays : Type 0

@@ -63,3 +63,12 @@ pub record Drives (most : ℕ) (policy : Policy) (f : Form) (p : Properties) (ba
   pub finished : IsTrue left.is_at_end → ¬ (result ≡ Err Write) → result ≡ end_of policy p base (bytes ++ fed)
   pub stopped : IsFalse left.is_at_end → ¬ (result ≡ Err Write) → ¬ (result ≡ Err Read) → ¬ (result ≡ Err TooLong)
       → IsErr result × (result_err result ≡ fault_in policy p base (bytes ++ fed))
+
+-- the filter stood after `bytes` and was fed what the source had, to its end; all that it wrote, before and now, is the
+-- whole form, of which something more is said
+pub record DrivesToEnd (policy : Policy) (f : Form) (p : Properties) (bytes : List ℕ) (source left : SourceState) (old new : SinkState) (Says : List ℕ → Type 0) : Type 0 where
+  pub fed : List ℕ
+  pub given : Consumes source.coming left.coming fed
+  pub read_out : IsAtEnd left.coming
+  pub written : Puts old new (settled_utf8 policy f p bytes) (final_utf8 policy f p (bytes ++ fed))
+  pub says : Says (bytes ++ fed)

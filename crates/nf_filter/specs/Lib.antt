@@ -20,6 +20,7 @@ pub mod Finishes
 pub mod Drives
 pub mod Whole
 pub mod Again
+pub mod Joined
 pub mod Surveys
 pub mod Checks
 pub mod Measures

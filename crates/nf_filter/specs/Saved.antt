@@ -1,6 +1,10 @@
--- A filter's state as plain data.
-use Rattle.std.specs.Prelude.{◌≡◌, true, ◌⊎◌, ◌-◌, ◌≤◌, length}
+-- A filter's state as plain data, and what of such data no filter can have.
+use Rattle.std.specs.Prelude.{◌≡◌, true, Bool, ◌&&◌, ◌==◌, nat_le, ◌⊎◌, ℕ, ◌+◌, ◌-◌, ◌≤◌, List, [], ◌∷◌, length, None, IfSome}
+use Rattle.nf_forms.specs.Properties.{Properties}
 use Rattle.nf_forms.specs.StreamSafe.{max_run}
+use Rattle.nf_forms.specs.declared.form.Form.{Form}
+use Rattle.nf_forms.specs.declared.form.Form.TheVariants.{Nfc, Nfd, Nfkc, Nfkd}
+use Rattle.nf_boundary.specs.declared.mark.Mark.{Mark}
 use Rattle.nf_utf8.specs.Part.{IsPart}
 use Rattle.nf_pending.specs.StandsAfter.{starter_of, marks_of}
 use Rattle.nf_filter.specs.declared.filter.State.{State}
@@ -22,19 +26,37 @@ saved_of state = record {
   marks = record { items = marks_of state.normalizer.pending };
 }
 
--- how many bytes a filter that is not spent has read, and what it counts of them
+-- the process counts in NFKD, so that a compatibility form holds as many marks as are counted, and a canonical one no more
+abbrev pub IsCounted : Form → ℕ → ℕ → Type 0
+IsCounted Nfc marks count = marks ≤ count
+IsCounted Nfd marks count = marks ≤ count
+IsCounted Nfkc marks count = marks ≡ count
+IsCounted Nfkd marks count = marks ≡ count
+
+-- what was counted of the bytes that were read
 pub record CountsFit (saved : Saved) : Type 0 where
-  pub held : length saved.held.items ≤ saved.offset
-  pub chars : saved.chars ≤ saved.offset - length saved.held.items
+  pub held : length saved.held.items ≤ saved.offset - saved.base
+  pub chars : saved.chars ≤ saved.offset - saved.base - length saved.held.items
   pub put : saved.put ≤ saved.chars
-  pub run : length saved.marks.items ≤ saved.count
+  pub counted : IsCounted saved.form (length saved.marks.items) saved.count
+  -- before the first character nothing is counted or pending
+  pub new : saved.chars ≡ 0 → (saved.count ≡ 0) × (saved.starter ≡ None)
+  -- before the first starter all that was taken or put is pending
+  pub unstarted : saved.starter ≡ None → saved.chars + saved.put ≤ length saved.marks.items
 
--- the counts fit together
-abbrev pub IsPossible : Saved → Type 0
-IsPossible saved = (saved.base ≤ saved.offset) × ((saved.spent ≡ true) ⊎ CountsFit saved)
+-- each is of the class that the data gives its character, and of no smaller one than what stands before it: `least` at first
+abbrev pub are_marks : Properties → ℕ → List Mark → Bool
+are_marks p least [] = true
+are_marks p least (mark ∷ marks) = (p.class mark.character == mark.class) && nat_le least mark.class && are_marks p mark.class marks
 
--- each filter's state is so, and of such data a filter can be made
-pub record IsRestorable (saved : Saved) : Type 0 where
+-- what is pending: a starter, and marks in order of class, none of class 0
+pub record IsPending (p : Properties) (saved : Saved) : Type 0 where
+  pub starter : IfSome saved.starter (λ c. p.class c ≡ 0)
+  pub marks : are_marks p 1 saved.marks.items ≡ true
+
+-- of such data a filter can be made, and each that is spent or stands after bytes has such
+pub record IsRestorable (p : Properties) (saved : Saved) : Type 0 where
   pub held : IsPart saved.held.items
   pub count : saved.count ≤ max_run
-  pub possible : IsPossible saved
+  pub base : saved.base ≤ saved.offset
+  pub fits : (saved.spent ≡ true) ⊎ (CountsFit saved × IsPending p saved)

@@ -6,6 +6,7 @@ ghost use Rattle.nf_filter.specs.Policy.{as_is};
 ghost use Rattle.nf_filter.specs.Drives.{FeedsAll, Drives};
 ghost use Rattle.nf_forms.specs.Twice.{ChangesOnce};
 ghost use Rattle.nf_filter.specs.Again.{AddsWhatStays, DrivesOnce};
+ghost use Rattle.nf_filter.specs.Joined.{DrivesPieces};
 
 use crate::devices::{Failed, Sink, Source};
 use crate::fault::Fault;
@@ -32,6 +33,9 @@ pub fn drive<R: Rows, I: Source, S: Sink>(
     ensures again { let p = R.properties (rows_of filter.entry) in
         (policy : Policy) (f : Form) (bytes : List ℕ) → StandsAfter policy f p (state_of filter.entry) bytes → ChangesOnce f p
         → OnOk result (DrivesOnce policy f p bytes (I.state source.old) (I.state source.new) (S.state sink.old) (S.state sink.new)) }
+    ensures joined { let p = R.properties (rows_of filter.entry) in
+        (policy : Policy) (f : Form) (bytes : List ℕ) → StandsAfter policy f p (state_of filter.entry) bytes
+        → OnOk result (DrivesPieces policy f p bytes (I.state source.old) (I.state source.new) (S.state sink.old) (S.state sink.new)) }
     ensures lenders { ((I.state source.new).lender ≡ (I.state source.old).lender) × ((S.state sink.new).lender ≡ (S.state sink.old).lender) }
 {
     let mut buffer = [0; BLOCK];
@@ -56,6 +60,9 @@ pub fn drive_buffered<R: Rows, I: Source, S: Sink>(
     ensures again { let p = R.properties (rows_of filter.entry) in
         (policy : Policy) (f : Form) (bytes : List ℕ) → StandsAfter policy f p (state_of filter.entry) bytes → ChangesOnce f p
         → OnOk result (DrivesOnce policy f p bytes (I.state source.old) (I.state source.new) (S.state sink.old) (S.state sink.new)) }
+    ensures joined { let p = R.properties (rows_of filter.entry) in
+        (policy : Policy) (f : Form) (bytes : List ℕ) → StandsAfter policy f p (state_of filter.entry) bytes
+        → OnOk result (DrivesPieces policy f p bytes (I.state source.old) (I.state source.new) (S.state sink.old) (S.state sink.new)) }
     ensures lenders { ((I.state source.new).lender ≡ (I.state source.old).lender) × ((S.state sink.new).lender ≡ (S.state sink.old).lender) }
 {
     what_was_finished_stays();
@@ -82,6 +89,7 @@ pub fn run<R: Rows, I: Source, S: Sink>(
     ensures end { OnOk result (IsTrue (I.state source.new).is_at_end) }
     ensures drives { Drives 4096 as_is form (R.properties rows.now) base [] (I.state source.old) (I.state source.new) (S.state sink.old) (S.state sink.new) result }
     ensures again { ChangesOnce form (R.properties rows.now) → OnOk result (AddsWhatStays form (R.properties rows.now) (S.state sink.old).taken (S.state sink.new).taken) }
+    ensures joined { OnOk result (DrivesPieces as_is form (R.properties rows.now) [] (I.state source.old) (I.state source.new) (S.state sink.old) (S.state sink.new)) }
     ensures lenders { ((I.state source.new).lender ≡ (I.state source.old).lender) × ((S.state sink.new).lender ≡ (S.state sink.old).lender) }
 {
     drive(Filter::new(rows, form, base), source, sink)

@@ -52,6 +52,7 @@ impl<'r, R: Rows> Filter<'r, R> {
     ghost use Rattle.nf_filter.specs.Finishes.{Finishes, final_utf8};
     ghost use Rattle.nf_forms.specs.Twice.{ChangesOnce};
     ghost use Rattle.nf_filter.specs.Again.{StaysAsItIs};
+    ghost use Rattle.nf_filter.specs.Joined.{JoinsPieces};
 
     /// A filter that has taken nothing. The first byte to come has the offset `base`.
     pub fn new(rows: &'r R, form: Form, base: u64) -> Filter<'r, R>
@@ -191,6 +192,8 @@ impl<'r, R: Rows> Filter<'r, R> {
         ensures again { let p = R.properties (rows_of self.entry) in
             (policy : Policy) (f : Form) (bytes : List ℕ) → StandsAfter policy f p (state_of self.entry) bytes → ChangesOnce f p
             → OnOk result (StaysAsItIs f p (final_utf8 policy f p bytes)) }
+        ensures joined { let p = R.properties (rows_of self.entry) in
+            (policy : Policy) (f : Form) (bytes : List ℕ) → StandsAfter policy f p (state_of self.entry) bytes → OnOk result (JoinsPieces policy f p bytes) }
         ensures lender { (S.state sink.new).lender ≡ (S.state sink.old).lender }
     {
         let Filter { rows, state } = self;

@@ -1,16 +1,16 @@
 //! A filter as plain data, and made of that again.
-ghost use Rattle.std.specs.Prelude.{◌↔◌, IsTrue};
-ghost use Rattle.nf_filter.specs.Saved.{IsPossible};
+ghost use Rattle.std.specs.Prelude.{◌≡◌, ◌↔◌, IsTrue};
+ghost use Rattle.nf_filter.specs.Saved.{IsCounted, CountsFit, IsPending, are_marks};
 
 use crate::filter::{Filter, State};
 use crate::normalizer::Normalizer;
 use crate::policy::Policy;
 use crate::reading::Reading;
 use arrayvec::ArrayVec;
-use nf_pending::{Pending, Run};
+use nf_pending::{Mark, Pending, Run};
 use nf_row::{Form, Plain, Rows};
 use nf_safe::Counter;
-use nf_utf8::Decoder;
+use nf_utf8::{Decoder, laws};
 
 /// Where a filter stands, all of it but the character data.
 #[derive(Debug, Drop)]
@@ -34,19 +34,23 @@ pub struct Saved {
 }
 
 impl<'r, R: Rows> Filter<'r, R> {
-    ghost use Rattle.std.specs.Prelude.{◌≡◌, ◌↔◌, ℕ, List, IsSome, IfSome};
+    ghost use Rattle.std.specs.Prelude.{◌≡◌, ◌↔◌, ℕ, List, IsSome, IfSome, IsTrue};
     ghost use Rattle.nf_forms.specs.declared.form.Form.{Form};
     ghost use Rattle.nf_row.specs.Plain.{rows_of as plain_rows};
     ghost use Rattle.nf_filter.specs.declared.policy.Policy.{Policy};
     ghost use Rattle.nf_filter.specs.declared.filter.State.{State};
-    ghost use Rattle.nf_filter.specs.Filter.{rows_of, state_of, StandsAfter};
+    ghost use Rattle.nf_filter.specs.Filter.{rows_of, state_of, is_spent, StandsAfter};
     ghost use Rattle.nf_filter.specs.Saved.{saved_of, IsRestorable};
 
     /// Where it stands.
     pub fn save(&self) -> Saved
         ensures saved { result ≡ saved_of (state_of self.now) }
-        ensures restorable { IsRestorable result }
+        ensures spent { IsTrue (is_spent (state_of self.now)) → IsRestorable (R.properties (rows_of self.now)) result }
+        ensures restorable { let p = R.properties (rows_of self.now) in
+            (policy : Policy) (f : Form) (bytes : List ℕ) → StandsAfter policy f p (state_of self.now) bytes → IsRestorable p result }
     {
+        laws::split();
+        laws::replacing();
         let State {
             base,
             spent,
@@ -76,9 +80,9 @@ impl<'r, R: Rows> Filter<'r, R> {
         }
     }
 
-    /// The filter that stands there, over data of which ASCII is plain; none where no filter can.
+    /// The filter that stands there, over data of which ASCII is plain; none where by what is counted and pending no filter can.
     pub fn restore(plain: Plain<'r, R>, saved: Saved) -> Option<Filter<'r, R>>
-        ensures some { IsSome result ↔ IsRestorable saved }
+        ensures some { IsSome result ↔ IsRestorable (R.properties (plain_rows plain.entry)) saved }
         ensures rows { IfSome result (λ filter. rows_of filter ≡ plain_rows plain.entry) }
         ensures saved { IfSome result (λ filter. saved_of (state_of filter) ≡ saved) }
         ensures stands { let p = R.properties (plain_rows plain.entry) in
@@ -92,7 +96,10 @@ impl<'r, R: Rows> Filter<'r, R> {
         let Some(counter) = Counter::at(saved.count) else {
             return None;
         };
-        if !is_possible(&saved) {
+        if saved.base > saved.offset {
+            return None;
+        }
+        if !saved.spent && !(do_counts_fit(&saved) && is_pending(rows, &saved)) {
             return None;
         }
         let Saved {
@@ -128,19 +135,57 @@ impl<'r, R: Rows> Filter<'r, R> {
     }
 }
 
-/// Whether the counts fit together, as those of each filter do.
-fn is_possible(saved: &Saved) -> bool
-    ensures { IsTrue result ↔ IsPossible saved.now }
+/// Whether what was counted fits the bytes that were read.
+fn do_counts_fit(saved: &Saved) -> bool
+    ensures { IsTrue result ↔ CountsFit saved.now }
 {
-    if saved.base > saved.offset {
+    let read = saved.offset.saturating_sub(saved.base);
+    let held = saved.held.len() as u64;
+    let marks = saved.marks.len() as u64;
+    if held > read || saved.chars > read - held || saved.put > saved.chars {
         return false;
     }
-    if saved.spent {
-        return true;
+    if saved.chars == 0 && (saved.count > 0 || saved.starter.is_some()) {
+        return false;
     }
-    let held = saved.held.len() as u64;
-    held <= saved.offset
-        && saved.chars <= saved.offset - held
-        && saved.put <= saved.chars
-        && saved.marks.len() <= saved.count as usize
+    if saved.starter.is_none() && (saved.chars > marks || saved.put > marks - saved.chars) {
+        return false;
+    }
+    is_counted(saved.form, marks, u64::from(saved.count))
+}
+
+/// Whether so many marks may be pending where so many non-starters are counted.
+fn is_counted(form: Form, marks: u64, count: u64) -> bool
+    ensures { IsTrue result ↔ IsCounted form marks count }
+{
+    match form {
+        Form::Nfc | Form::Nfd => marks <= count,
+        Form::Nfkc | Form::Nfkd => marks == count,
+    }
+}
+
+/// Whether it is a starter that is pending, and marks in order of class.
+fn is_pending<R: Rows>(rows: &R, saved: &Saved) -> bool
+    ensures { IsTrue result ↔ IsPending (R.properties rows.now) saved.now }
+{
+    if let Some(starter) = saved.starter
+        && rows.class(starter) != 0
+    {
+        return false;
+    }
+    are_marks(rows, saved.marks.as_slice())
+}
+
+/// Whether they are in order of class, each of the class of its character, and none of class 0.
+fn are_marks<R: Rows>(rows: &R, marks: &[Mark]) -> bool
+    ensures { result ≡ are_marks (R.properties rows.now) 1 marks.now }
+{
+    let mut least = 1;
+    for mark in marks {
+        if rows.class(mark.character) != mark.class || mark.class < least {
+            return false;
+        }
+        least = mark.class;
+    }
+    true
 }

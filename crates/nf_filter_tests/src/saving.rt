@@ -100,7 +100,7 @@ fn what_is_saved_is_where_it_stands(rt: HostRuntime) -> Result<(), Fail> {
 }
 
 #[test]
-fn counts_that_no_filter_has_are_refused(rt: HostRuntime) -> Result<(), Fail> {
+fn what_no_filter_has_is_refused(rt: HostRuntime) -> Result<(), Fail> {
     let alloc = rt.alloc();
     let stood = || stood(&rt, alloc);
     let refused = [
@@ -113,19 +113,43 @@ fn counts_that_no_filter_has_are_refused(rt: HostRuntime) -> Result<(), Fail> {
             count: 1,
             ..stood()?
         },
+        // The first byte behind the next; fewer bytes than are held, and than are left for the characters.
         Saved {
             base: 8,
             ..stood()?
         },
-        // More characters than bytes that are not held, more joiners than characters, and more bytes held than read.
+        Saved {
+            base: 6,
+            ..stood()?
+        },
+        Saved {
+            base: 3,
+            ..stood()?
+        },
         Saved {
             chars: 6,
             ..stood()?
         },
+        // More joiners than characters.
         Saved { put: 4, ..stood()? },
+        // No character, but what one leaves; and no starter, but more than the marks.
         Saved {
-            offset: 1,
             chars: 0,
+            ..stood()?
+        },
+        Saved {
+            starter: None,
+            ..stood()?
+        },
+        // In NFKD as many are pending as are counted.
+        Saved {
+            form: Form::Nfkd,
+            count: 3,
+            ..stood()?
+        },
+        // Not a starter.
+        Saved {
+            starter: Some('\u{301}'),
             ..stood()?
         },
     ];
@@ -138,7 +162,11 @@ fn counts_that_no_filter_has_are_refused(rt: HostRuntime) -> Result<(), Fail> {
             ..stood()?
         },
         Saved {
-            base: 7,
+            base: 2,
+            ..stood()?
+        },
+        Saved {
+            form: Form::Nfkd,
             ..stood()?
         },
         Saved {

@@ -12,9 +12,13 @@ use Rattle.nf_forms.specs.Sound.{is_sound}
 abbrev pub IsFull : (ℕ → List ℕ) → List ℕ → Type 0
 IsFull row w = All (λ c. row c ≡ c ∷ []) w
 
+-- and a scalar value (The Unicode Standard, section 3.9, D76)
+abbrev pub IsFullText : (ℕ → List ℕ) → List ℕ → Type 0
+IsFullText row w = All (λ c. IsScalar c × (row c ≡ c ∷ [])) w
+
 -- both rows of c are full
 abbrev pub HasFullRows : Properties → ℕ → Type 0
-HasFullRows p c = IsFull p.canonical (p.canonical c) × IsFull p.compat (p.compat c)
+HasFullRows p c = IsFullText p.canonical (p.canonical c) × IsFullText p.compat (p.compat c)
 
 -- the compatibility rows of the members of its canonical row make up its compatibility row, both put in order
 abbrev pub HasRowWithin : Properties → ℕ → Type 0
@@ -34,6 +38,6 @@ pub record PassesAudit (p : Properties) (c : ℕ) : Type 0 where
   pub within : HasRowWithin p c
   pub marks : HasOwnMarks p c
 
--- every scalar value passes (The Unicode Standard, section 3.9, D76)
+-- every scalar value passes
 abbrev pub IsAudited : Properties → Type 0
 IsAudited p = (c : ℕ) → IsScalar c → PassesAudit p c

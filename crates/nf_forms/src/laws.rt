@@ -15,7 +15,7 @@ ghost use Rattle.nf_forms.specs.Parting.{BeginsAnew, IsParting};
 ghost use Rattle.nf_forms.specs.Closing.{IsClosing};
 ghost use Rattle.nf_forms.specs.Calm.{IsCalm, CalmEnd};
 ghost use Rattle.nf_forms.specs.Audit.{IsAudited};
-ghost use Rattle.nf_forms.specs.Twice.{HasScalarRows, ChangesOnce};
+ghost use Rattle.nf_forms.specs.Twice.{ChangesOnce};
 ghost use Rattle.nf_forms.specs.Laws.Sound.{IsSoundText};
 
 /// Canonical ordering makes of a text an ordered one in which the starters, and the non-starters of each class between
@@ -75,10 +75,9 @@ pub fn a_second_decomposition_changes_nothing()
         → safe_form f p (safe_form f p x) ≡ safe_form f p x }
 {}
 
-/// So over audited data whose rows have scalar values alone, what a filter writes in NFD or NFKD is a text again, and a
-/// second filter changes nothing of it.
+/// So over audited data what a filter writes in NFD or NFKD is a text again, and a second filter changes nothing of it.
 pub fn decompositions_change_a_text_once()
-    ensures { (p : Properties) → IsAudited p → HasScalarRows p → (f : Form) → composes f ≡ false → ChangesOnce f p }
+    ensures { (p : Properties) → IsAudited p → (f : Form) → composes f ≡ false → ChangesOnce f p }
 {}
 
 /// A text may be cut behind a character that closes it, as at the end of a line, and each part brought into the form by

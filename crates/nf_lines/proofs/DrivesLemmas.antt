@@ -1,8 +1,8 @@
 -- What driving line by line comes to.
-use Rattle.nf_lines.proofs.Common.{◌≡◌, ℕ, ◌≤◌, true, false, List, [], ◌++◌, length, None, Result, Ok, Err, inl, ⊎_elim, refl, sym, ap, subst, ◌∙◌, arith, append-nil, OnOk, IsTrue, result_err, Consumes, IsAtEnd, Properties, Form, Fault, TooLong, Read, Write, State, Policy, Tally, SinkState, SourceState, settled_utf8-none, settled_utf8, fault_in, IsOfFinishing, base_of, StandsAfter, end_of, final_utf8, Finishes, StandsAfter-no_fault, Puts-none, Puts-join, Puts-at, BreaksOff-join, BreaksOff-at, EndsInLineFeed, end_fault, StandAlone, Lines, bytes_of, lines_utf8, HasLines, StopsLines, DrivesLines}
+use Rattle.nf_lines.proofs.Common.{◌≡◌, ℕ, ◌<◌, ◌≤◌, ◌^◌, true, false, List, [], ◌++◌, length, Some, None, Result, Ok, Err, inl, ⊎_elim, refl, sym, ap, subst, ◌∙◌, arith, append-nil, length-append, OnOk, IsTrue, result_err, Consumes, IsAtEnd, Properties, Form, Fault, TooLong, Read, Write, State, Policy, Tally, SinkState, SourceState, settled_utf8-none, settled_utf8, fault_in, IsOfFinishing, base_of, StandsAfter, end_of, final_utf8, Finishes, StandsAfter-no_fault, StandsAfter-fits, Puts-none, Puts-join, Puts-at, BreaksOff-join, BreaksOff-at, EndsInLineFeed, end_fault, StandAlone, Lines, bytes_of, lines_utf8, HasLines, StopsLines, DrivesLines}
 use Rattle.nf_filter.specs.Drives.{due_utf8}
 use Rattle.nf_lines.proofs.AloneLemmas.{final-none}
-use Rattle.nf_lines.proofs.StepLemmas.{joins, Puts-past, BreaksOff-past, refused, ended_by}
+use Rattle.nf_lines.proofs.StepLemmas.{joins, Puts-past, BreaksOff-past, refused, ended_by, too_long_or_not}
 
 -- nothing was read
 pub HasLines-none : (policy : Policy) (f : Form) (p : Properties) (state : State) (sink : SinkState) → StandsAfter policy f p state [] → base_of state ≡ 0 → HasLines policy f p state (record { whole = []; rest = [] }) sink sink
@@ -50,10 +50,14 @@ module _ (policy : Policy) (f : Form) (p : Properties) (alone : (base : ℕ) (li
     given = given;
     few = few;
     read_out = never going;
+    all_taken = ⊎_elim (never going) (λ e. absurd (stops.unread (let same : fault ≡ Read = cc in same)));
     whole = stops.whole;
     lines_no_fault = stops.no_fault;
     rest = ⊎_elim (never going) (⊎_elim (λ e. absurd (stops.unread (let same : fault ≡ Read = cc in same))) (λ e. let long = stops.too_long (let same : fault ≡ TooLong = cc in same) in (long.1, long.2)));
-    too_long = λ e. (stops.too_long (let same : fault ≡ TooLong = cc in same)).0;
+    too_long = (
+      λ e. (let long = stops.too_long (let same : fault ≡ TooLong = cc in same) in (long.0, long.2, λ broken. let both : refused TooLong ≡ Err Write = sym e ∙ broken in cc)),
+      λ over. ⊎_elim (λ is. ap refused is) (λ short. let told : Some fault ≡ None = stops.answer (λ e. over.2 (ap refused e)) short ∙ over.1 in cc) (too_long_or_not fault),
+    );
     broken_off = λ e. BreaksOff-at refl (due going) (stops.broken_off (let same : fault ≡ Write = cc in same));
     written = λ not. Puts-at refl (due going) (stops.written (λ e. not (ap refused e)));
     form = tt;
@@ -66,6 +70,9 @@ module _ (policy : Policy) (f : Form) (p : Properties) (alone : (base : ℕ) (li
     good : fault_in policy p 0 (t.whole ++ t.rest) ≡ None
     good = (joins policy f p alone t.whole t.rest has.whole has.no_fault).fault ∙ ap (λ n. fault_in policy p n t.rest) (sym has.base) ∙ StandsAfter-no_fault has.stands
 
+    fits : length (t.whole ++ t.rest) < 2 ^ 64
+    fits = omega (arith, StandsAfter-fits has.stands, has.base, length-append t.whole t.rest)
+
     -- the source failed
     pub drives-failed : left.is_at_end ≡ false → Consumes source.coming left.coming (bytes_of t) → DrivesLines most policy f p source left old now (Err Read)
     drives-failed going given = record {
@@ -74,10 +81,11 @@ module _ (policy : Policy) (f : Form) (p : Properties) (alone : (base : ℕ) (li
       given = subst (Consumes source.coming left.coming) (sym (append-nil (t.whole ++ t.rest))) given;
       few = omega arith;
       read_out = never going;
+      all_taken = λ _. refl;
       whole = has.whole;
       lines_no_fault = has.no_fault;
       rest = λ _. (has.rest, good);
-      too_long = λ e. cc;
+      too_long = (λ e. cc, λ over. absurd (omega (arith, over.0, fits)));
       broken_off = λ e. cc;
       written = λ _. Puts-at refl (due going) has.puts;
       form = tt;
@@ -94,11 +102,12 @@ module _ (policy : Policy) (f : Form) (p : Properties) (alone : (base : ℕ) (li
       last = [];
       given = subst (Consumes source.coming left.coming) (sym (append-nil (t.whole ++ t.rest))) given;
       few = omega arith;
-      read_out = λ _. (empty, refl);
+      read_out = λ _. empty;
+      all_taken = λ _. refl;
       whole = has.whole;
       lines_no_fault = has.no_fault;
       rest = λ _. (has.rest, good);
-      too_long = λ e. absurd (never_long r short e);
+      too_long = (λ e. absurd (never_long r short e), λ over. absurd (omega (arith, over.0, fits)));
       broken_off = λ e. BreaksOff-at refl all (BreaksOff-join has.puts (BreaksOff-past (final_utf8 policy f p t.whole) (finishes.broken_off (write_told r e))));
       written = λ not. Puts-at refl all (Puts-join has.puts (Puts-past (final_utf8 policy f p t.whole) (finishes.written (λ e. not (told_write r e)))));
       form = formed r finishes.answer;

@@ -26,7 +26,7 @@ refused fault = Err fault
 abbrev pub ended_by : Fault → Result Tally Fault
 ended_by fault = Err fault
 
-too_long_or_not : (fault : Fault) → (fault ≡ TooLong) ⊎ (¬ (fault ≡ TooLong))
+pub too_long_or_not : (fault : Fault) → (fault ≡ TooLong) ⊎ (¬ (fault ≡ TooLong))
 too_long_or_not Spent = inr (λ e. cc)
 too_long_or_not TooLong = inl refl
 too_long_or_not Read = inr (λ e. cc)

@@ -1,5 +1,5 @@
 -- What driving a filter line by line answers and writes.
-use Rattle.std.specs.Prelude.{◌≡◌, ℕ, ◌+◌, ◌≤◌, ◌⊎◌, List, [], ◌++◌, length, Some, None, IsTrue, IsFalse, IsErr, OnOk, Result, Ok, Err, ◌^◌}
+use Rattle.std.specs.Prelude.{◌≡◌, ℕ, ◌+◌, ◌≤◌, ◌↔◌, ◌⊎◌, List, [], ◌++◌, length, Some, None, IsTrue, IsFalse, IsErr, OnOk, Result, Ok, Err, ◌^◌}
 use Rattle.std.specs.Io.KnownBytes.{Consumes, IsAtEnd}
 use Rattle.std.specs.Result.{result_err}
 use Rattle.nf_forms.specs.Properties.{Properties}
@@ -62,13 +62,15 @@ pub record DrivesLines (most : ℕ) (policy : Policy) (f : Form) (p : Properties
   pub last : List ℕ
   pub given : Consumes source.coming left.coming (bytes_of taken ++ last)
   pub few : length last ≤ most
-  -- at its end the source has nothing left, and all was taken
-  pub read_out : IsTrue left.is_at_end → IsAtEnd left.coming × (last ≡ [])
+  -- at its end the source has nothing left
+  pub read_out : IsTrue left.is_at_end → IsAtEnd left.coming
+  -- all that was read was taken, unless a fault stood in it or it was too long
+  pub all_taken : IsTrue left.is_at_end ⊎ (result ≡ Err Read) → last ≡ []
   pub whole : AreLines taken.whole
   pub lines_no_fault : fault_in policy p 0 taken.whole ≡ None
   -- where no fault was found, the rest has no whole line: each that was read was written to its end
   pub rest : IsTrue left.is_at_end ⊎ ((result ≡ Err Read) ⊎ (result ≡ Err TooLong)) → HasNoLineFeed taken.rest × (fault_in policy p 0 (bytes_of taken) ≡ None)
-  pub too_long : result ≡ Err TooLong → 2 ^ 64 ≤ length (bytes_of taken) + length last
+  pub too_long : (result ≡ Err TooLong) ↔ ((2 ^ 64 ≤ length (bytes_of taken) + length last) × (fault_in policy p 0 (bytes_of taken) ≡ None) × ¬ (result ≡ Err Write))
   -- the sink failed on what was to be written, or all of that was
   pub broken_off : result ≡ Err Write → BreaksOff old new [] (final_utf8 policy f p taken.whole ++ due_utf8 left.is_at_end policy f p taken.rest)
   pub written : ¬ (result ≡ Err Write) → Puts old new [] (final_utf8 policy f p taken.whole ++ due_utf8 left.is_at_end policy f p taken.rest)

@@ -1,5 +1,5 @@
 //! Driving a filter line by line.
-ghost use Rattle.std.specs.Prelude.{◌≡◌, ◌+◌, ◌<◌, length, IsTrue, IsFalse, OnOk};
+ghost use Rattle.std.specs.Prelude.{◌≡◌, ◌+◌, ◌<◌, ◌↔◌, length, IsTrue, IsFalse, OnOk};
 ghost use Rattle.nf_forms.specs.Ucd.{ucd};
 ghost use Rattle.nf_filter.specs.Devices.{SinkState};
 ghost use Rattle.nf_filter.specs.Filter.{state_of, offset_of, is_spent};
@@ -25,6 +25,7 @@ pub fn drive_lines<I: Source, S: Sink>(
 ) -> Result<(), Fault>
     requires { 0 < length buffer.old }
     ensures unspent { ¬ (result ≡ Err Spent) }
+    ensures read { (result ≡ Err Read) ↔ IsTrue (I.state source.new).is_failed }
     ensures end { OnOk result (IsTrue (I.state source.new).is_at_end) }
     ensures drives { DrivesLines (length buffer.old) policy form ucd (I.state source.old) (I.state source.new) (S.state sink.old) (S.state sink.new) result }
     ensures lenders { ((I.state source.new).lender ≡ (I.state source.old).lender) × ((S.state sink.new).lender ≡ (S.state sink.old).lender) }

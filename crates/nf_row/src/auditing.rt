@@ -1,7 +1,8 @@
 ghost use Rattle.std.specs.Prelude.{◌≡◌, ◌<◌, ◌↔◌, [], ◌∷◌, length, flat_map, IsTrue, IsOk, IfErr, IfSome, IsNone};
+ghost use Rattle.std.specs.Char.{IsScalar};
 ghost use Rattle.nf_forms.specs.Forms.{row_of};
 ghost use Rattle.nf_forms.specs.Order.{order};
-ghost use Rattle.nf_forms.specs.Audit.{IsFull, AreOwnMarks, IsAudited};
+ghost use Rattle.nf_forms.specs.Audit.{IsFullText, AreOwnMarks, IsAudited};
 ghost use Rattle.nf_row.specs.Audit.{IsFirstFailed, IsLeastFault};
 
 use crate::ordering::ordered;
@@ -58,9 +59,9 @@ fn first_failed<R: Rows>(rows: &R, c: char) -> Option<Rule>
     None
 }
 
-/// Whether each member is its own row, of the kind that the form asks for.
+/// Whether each member is its own row, of the kind that the form asks for. Each is a scalar value, as a `char` is.
 fn is_full<R: Rows>(rows: &R, form: Form, row: &Row) -> bool
-    ensures { IsTrue result ↔ IsFull (row_of form (R.properties rows.now)) row.now.items }
+    ensures { IsTrue result ↔ IsFullText (row_of form (R.properties rows.now)) row.now.items }
 {
     row.as_slice().iter().all(|c| is_own_row(rows, form, *c))
 }
@@ -88,7 +89,8 @@ fn has_own_marks<R: Rows>(rows: &R, row: &Row) -> bool
 
 /// Whether `c` is its own row, of the kind that the form asks for.
 fn is_own_row<R: Rows>(rows: &R, form: Form, c: char) -> bool
-    ensures { IsTrue result ↔ (row_of form (R.properties rows.now) c ≡ c ∷ []) }
+    ensures own { IsTrue result ↔ (row_of form (R.properties rows.now) c ≡ c ∷ []) }
+    ensures scalar { IsScalar c }
 {
     let row = match form {
         Form::Nfc | Form::Nfd => rows.canonical(c),

@@ -1,5 +1,5 @@
 -- What driving a new filter comes to where all was read.
-use Rattle.std.proofs.Common.{◌≡◌, ℕ, List, [], ◌++◌, Result, Ok, Err, inl, refl, sym, ap, ◌∙◌, subst, append-nil, encode_utf8_all, IsTrue, IfSome, OnOk, IfErr}
+use Rattle.std.proofs.Common.{◌≡◌, false, Option, ℕ, List, [], ◌++◌, Result, Ok, Err, inl, refl, sym, ap, ◌∙◌, subst, append-nil, encode_utf8_all, IsTrue, IfSome, OnOk, IfErr}
 use Rattle.std.specs.Io.KnownBytes.{Appends}
 use Rattle.std.proofs.KnownBytes.{Consumes-all}
 use Rattle.nf_forms.specs.Properties.{Properties}
@@ -20,7 +20,7 @@ use Rattle.nf_filter.specs.Laws.Settled.{settled_utf8-none}
 use Rattle.nf_filter.specs.Laws.Soundness.{RefusesNone}
 use Rattle.nf_filter.specs.Policy.{as_is}
 use Rattle.nf_filter.proofs.WholeLemmas.{ending_whole, final_is}
-use Rattle.nf_text.specs.Whole.{IsOfText, PassesWhole}
+use Rattle.nf_text.specs.Whole.{IsOfText, Passes, PassesWhole}
 
 module _ (f : Form) (p : Properties) where
   module _ (most : ℕ) (source rest : SourceState) (old new : SinkState) where
@@ -71,3 +71,18 @@ faults (Err (BadByte at start)) unspent none taken = tt
 faults (Err (Cut at start)) unspent none taken = tt
 faults (Err (Row at)) unspent none taken = none at refl
 faults (Err (Unassigned at)) unspent none taken = taken at refl
+
+pub passes_from : (f : Form) (p : Properties) (coming left taken now : Option (List ℕ)) (source rest : SourceState) (old new : SinkState) (answer : Result Tally Fault)
+    → Drives 4096 as_is f p 0 [] source rest old new answer → OnOk answer (IsTrue rest.is_at_end)
+    → source.coming ≡ coming → rest.coming ≡ left → old.taken ≡ taken → new.taken ≡ now → source.is_failed ≡ false → old.is_failed ≡ false → Passes f p coming left taken now answer
+passes_from f p coming left taken now source rest old new answer driven end source_is rest_is old_is new_is unread unfailed = record {
+  source = source;
+  rest = rest;
+  old = old;
+  new = new;
+  input_is = (source_is, rest_is);
+  output_is = (old_is, new_is);
+  unfailed = (unread, unfailed);
+  end = end;
+  driven = driven;
+}

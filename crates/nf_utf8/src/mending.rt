@@ -14,7 +14,8 @@ use arrayvec::ArrayVec;
 /// Room for the UTF-8 of mended text.
 pub type Mended = ArrayVec<u8, 1024>;
 
-/// Where so many bytes have no ill-formed part, text is taken as it stands for less.
+/// How far an ill-formed part is looked for: it is near behind at most 64 bytes of ASCII, or 62 of other text. Where it is
+/// farther off, to take the text as it stands costs less.
 const NEAR: usize = 64;
 
 /// U+FFFD in UTF-8.

@@ -1,22 +1,28 @@
--- What `converted` answers of a text, and whether that is as expected.
-use Rattle.nf_vectors.proofs.Common.{◌≡◌, ℕ, ◌+◌, Bool, true, false, ◌&&◌, List, [], length, Option, Some, None, refl, sym, ap, ◌∙◌, subst, append-nil, bytes_eq, encode_utf8_all, IsUtf8, if◌then◌else◌, same_from_decides, bytes_eq-Decides, encodes_same, Properties, Form, safe_form, is_usable, usable, holds}
+-- What the filter gives of a text to a sink that compares, and whether that is as expected.
+use Rattle.nf_vectors.proofs.Common.{◌≡◌, ℕ, ◌+◌, Bool, true, false, ◌&&◌, List, [], ◌++◌, length, take, drop, Some, refl, sym, ap, ◌∙◌, subst, append-nil, bytes_eq, encode_utf8_all, IsUtf8, if◌then◌else◌, Ok, Err, is_ok, ⊎_elim, and_right, false_from_ne_true, same_from_decides, bytes_eq-Decides, encodes_same, Properties, Form, safe_form, is_usable, usable, holds}
+use Rattle.std.proofs.Math.Seq.{take-append_seam}
+use Rattle.std.proofs.lemmas.List.{append_cancel_left}
+use Rattle.std.specs.Io.KnownBytes.{Appends}
 use Rattle.std.specs.Str.{chars}
-use Rattle.std.specs.Result.{result_err}
 use Rattle.std.specs.Str.Lossy.{utf8_valid_len}
 use Rattle.nf_utf8.specs.Text.{IsText}
 use Rattle.nf_utf8.specs.Ending.{Ending, Whole}
 use Rattle.nf_utf8.specs.Reading.{text_of, ending_of}
 use Rattle.nf_utf8.specs.Laws.{ReadsBack}
 use Rattle.nf_filter.specs.declared.fault.Fault.{Fault}
-use Rattle.nf_filter.specs.declared.fault.Fault.TheVariants.{Row}
+use Rattle.nf_filter.specs.declared.fault.Fault.TheVariants.{Row, Write}
 use Rattle.nf_filter.specs.declared.tally.Tally.{Tally}
 use Rattle.nf_filter.specs.Faults.{answer_at_end, bad_byte, fault_in}
 use Rattle.nf_filter.specs.Finishes.{tally_of, end_of}
-use Rattle.nf_filter.specs.Whole.{IsFormOf, fault_or, whole_answer}
+use Rattle.nf_filter.specs.Whole.{Converts, fault_or, whole_answer, whole_utf8}
+use Rattle.nf_filter.proofs.FilterLemmas.{write_or_not}
+use Rattle.nf_filter.proofs.WholeLemmas.{without, final_is}
+use Rattle.nf_vectors.specs.declared.comparing.Comparing.{Comparing}
+use Rattle.nf_vectors.specs.Comparing.{taken_by, state_of}
 
--- the fault, by whether all characters can be used and how the bytes end
-told : Bool → Ending → ℕ → Tally → Option Fault
-told usable end at tally = result_err (fault_or (if usable then bad_byte 0 end else Some (Row at)) (answer_at_end 0 tally end))
+-- whether there is no fault, by whether all characters can be used and how the bytes end
+told : Bool → Ending → ℕ → Tally → Bool
+told usable end at tally = is_ok (fault_or (if usable then bad_byte 0 end else Some (Row at)) (answer_at_end 0 tally end))
 
 module _ (reads : ReadsBack) (f : Form) (p : Properties) (bytes x e : List ℕ) (utf8 : IsUtf8 bytes) (is : bytes ≡ encode_utf8_all x) where
   text : IsText x
@@ -30,37 +36,62 @@ module _ (reads : ReadsBack) (f : Form) (p : Properties) (bytes x e : List ℕ) 
   unfolding ending_of chars utf8_valid_len
   ending_is = ap ending_of (is ∙ sym (append-nil (encode_utf8_all x))) ∙ reads.ending x [] text
 
-  by_use : (b : Bool) → is_usable p x ≡ b → result_err (whole_answer p bytes) ≡ (if b then None else Some (Row (0 + length (encode_utf8_all (usable p (text_of bytes))))))
+  answer_is : is_ok (whole_answer p bytes) ≡ is_usable p x
   unfolding told whole_answer fault_in end_of
-  by_use b used =
+  answer_is =
       let at = 0 + length (encode_utf8_all (usable p (text_of bytes))) in
-      ap (λ u. told u (ending_of bytes) at (tally_of false p bytes)) (ap (is_usable p) text_is ∙ used) ∙ ap (λ end. told b end at (tally_of false p bytes)) ending_is ∙ by b at
+      ap (λ u. told u (ending_of bytes) at (tally_of false p bytes)) (ap (is_usable p) text_is) ∙ ap (λ end. told (is_usable p x) end at (tally_of false p bytes)) ending_is ∙ by (is_usable p x) at
     where
-      by : (b : Bool) (at : ℕ) → told b Whole at (tally_of false p bytes) ≡ (if b then None else Some (Row at))
+      by : (b : Bool) (at : ℕ) → told b Whole at (tally_of false p bytes) ≡ b
       by true at = refl
       by false at = refl
 
-  -- its form is given
-  pub given : (out : List ℕ) → IsFormOf f p bytes out → None ≡ result_err (whole_answer p bytes) → bytes_eq out (encode_utf8_all e) ≡ holds f p x e
-  unfolding holds
-  given out form whole =
-      let same = ap (safe_form f p) (encodes_same form.0 x (sym form.2 ∙ is)) in
-      let all : out ≡ encode_utf8_all (safe_form f p x) = form.3 ∙ ap encode_utf8_all same in
-      same_from_decides (bytes_eq out (encode_utf8_all e)) (bytes_eq (safe_form f p x) e) (
-        (λ b. encodes_same (safe_form f p x) e (sym all ∙ (bytes_eq-Decides out (encode_utf8_all e)).0 b)),
-        (λ same. (bytes_eq-Decides out (encode_utf8_all e)).1 (all ∙ ap encode_utf8_all same)),
-      ) (bytes_eq-Decides (safe_form f p x) e)
-      ∙ ap (λ b. b && bytes_eq (safe_form f p x) e) (sym (next (is_usable p x) refl))
-    where
-      next : (b : Bool) → is_usable p x ≡ b → is_usable p x ≡ true
-      next true used = used
-      next false used = let other = whole ∙ by_use false used in cc
+  form_is : is_usable p x ≡ true → whole_utf8 f p bytes ≡ encode_utf8_all (safe_form f p x)
+  unfolding fault_in
+  form_is used =
+      let none = ap (λ u. if u then bad_byte 0 (ending_of bytes) else Some (Row (0 + length (encode_utf8_all (usable p (text_of bytes)))))) (ap (is_usable p) text_is ∙ used) ∙ ap (bad_byte 0) ending_is in
+      sym (without f p bytes (sym none)) ∙ final_is f p bytes ending_is ∙ ap (λ t. encode_utf8_all (safe_form f p t)) text_is
 
-  -- it is refused
-  pub refused : (fault : Fault) → Some fault ≡ result_err (whole_answer p bytes) → false ≡ holds f p x e
+  -- it holds where all is taken and what is given is as expected
+  holds_is : holds f p x e ≡ (is_ok (whole_answer p bytes) && bytes_eq (whole_utf8 f p bytes) (encode_utf8_all e))
   unfolding holds
-  refused fault told = next (is_usable p x) refl
+  holds_is = next (is_usable p x) refl ∙ ap (λ b. b && bytes_eq (whole_utf8 f p bytes) (encode_utf8_all e)) (sym answer_is)
     where
-      next : (b : Bool) → is_usable p x ≡ b → false ≡ (is_usable p x && bytes_eq (safe_form f p x) e)
-      next true used = let other = told ∙ by_use true used in cc
-      next false used = sym (ap (λ b. b && bytes_eq (safe_form f p x) e) used)
+      next : (b : Bool) → is_usable p x ≡ b → (is_usable p x && bytes_eq (safe_form f p x) e) ≡ (is_usable p x && bytes_eq (whole_utf8 f p bytes) (encode_utf8_all e))
+      next true used = ap (λ b. is_usable p x && b) (same_from_decides (bytes_eq (safe_form f p x) e) (bytes_eq (whole_utf8 f p bytes) (encode_utf8_all e)) (bytes_eq-Decides (safe_form f p x) e) (
+        (λ b. encodes_same (safe_form f p x) e (sym (form_is used) ∙ (bytes_eq-Decides (whole_utf8 f p bytes) (encode_utf8_all e)).0 b)),
+        (λ same. (bytes_eq-Decides (whole_utf8 f p bytes) (encode_utf8_all e)).1 (form_is used ∙ ap encode_utf8_all same)),
+      ))
+      next false used = ap (λ b. b && bytes_eq (safe_form f p x) e) used ∙ sym (ap (λ b. b && bytes_eq (whole_utf8 f p bytes) (encode_utf8_all e)) used)
+
+  module _ (old new : Comparing) (expected : old.expected.now ≡ encode_utf8_all e) (fresh : taken_by old ≡ []) where
+    -- what it is to compare with is kept, and it has taken just what was given
+    kept : (out : List ℕ) → Appends (state_of old).taken (state_of new).taken out → (new.expected.now ≡ encode_utf8_all e) × (taken_by new ≡ out)
+    kept out given =
+        let all : new.expected.now ++ taken_by new ≡ old.expected.now ++ out =
+        ap (drop 1) given ∙ ap (λ t. (old.expected.now ++ t) ++ out) fresh ∙ ap (λ t. t ++ out) (append-nil old.expected.now) in
+        let len : length new.expected.now ≡ length old.expected.now = cc in
+        let same : new.expected.now ≡ old.expected.now =
+        sym (take-append_seam new.expected.now (taken_by new)) ∙ (λ i. take (len i) (all i)) ∙ take-append_seam old.expected.now out in
+        (same ∙ expected, append_cancel_left old.expected.now (taken_by new) out (ap (λ t. t ++ taken_by new) (sym same) ∙ all))
+
+    pub holds-given : (tally : Tally) → Converts f p bytes (state_of old) (state_of new) (Ok tally) → bytes_eq (taken_by new) new.expected.now ≡ holds f p x e
+    holds-given tally converts =
+        let puts = converts.written (λ w. cc) in
+        let both = kept puts.out puts.given in
+        ap (bytes_eq (taken_by new)) both.0 ∙ ap (λ t. bytes_eq t (encode_utf8_all e)) (both.1 ∙ sym puts.behind)
+        ∙ ap (λ r. is_ok r && bytes_eq (whole_utf8 f p bytes) (encode_utf8_all e)) (converts.answer (λ w. cc)) ∙ sym holds_is
+
+    pub holds-refused : (fault : Fault) → Converts f p bytes (state_of old) (state_of new) (Err fault) → false ≡ holds f p x e
+    holds-refused fault converts = ⊎_elim broken other (write_or_not fault)
+      where
+        other : ¬ (fault ≡ Write) → false ≡ holds f p x e
+        other not = ap (λ r. is_ok r && bytes_eq (whole_utf8 f p bytes) (encode_utf8_all e)) (converts.answer (λ w. not (let same : fault ≡ Write = cc in same))) ∙ sym holds_is
+
+        broken : fault ≡ Write → false ≡ holds f p x e
+        broken write =
+            let breaks = converts.broken_off (ap Err write) in
+            let both = kept breaks.out breaks.given in
+            let apart = new.apart (new.refused breaks.failed) breaks.rest in
+            sym (holds_is ∙ and_right (is_ok (whole_answer p bytes)) _ (false_from_ne_true _ (λ same.
+            apart (ap (λ t. t ++ breaks.rest) both.1 ∙ sym breaks.behind ∙ (bytes_eq-Decides (whole_utf8 f p bytes) (encode_utf8_all e)).0 same ∙ sym both.0))))

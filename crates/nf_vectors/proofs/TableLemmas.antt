@@ -1,5 +1,6 @@
 -- The comparisons of a row, one after the other.
-use Rattle.nf_vectors.proofs.Common.{◌≡◌, ℕ, ◌+◌, ◌<◌, Bool, true, false, not, List, length, drop, get_or, Option, Some, None, refl, sym, ap, ◌∙◌, encode_utf8_all, if◌then◌else◌, find, Result, Ok, Err, IfOk, drop_more, option_or, Properties, Form, Nfc, Nfd, Nfkc, Nfkd, Failure, Skipped, Column, Columns, at, each, VectorRow, holds_at, broken_column, is_skipped, failure_in, failure_of, by_failure, verdict_of}
+use Rattle.nf_vectors.proofs.Common.{◌≡◌, ℕ, ◌+◌, ◌<◌, Bool, true, false, not, List, length, drop, get_or, Option, Some, refl, sym, ap, ◌∙◌, encode_utf8_all, if◌then◌else◌, find, drop_more, option_map, failure_in, Properties, Form, Failure, Skipped, Column, Columns, at, each, VectorRow, holds_at, broken_column, is_skipped, failure_of, by_failure, verdict_of}
+use Rattle.nf_vectors.specs.Columns.{number_of}
 use Rattle.nf_vectors.specs.declared.columns.Column.TheVariants as columns
 
 module _ (f : Form) (p : Properties) (columns : Columns) (rest : List Column) where
@@ -14,25 +15,12 @@ module _ (f : Form) (p : Properties) (columns : Columns) (items : List Column) (
       ap (λ b. if not b then Some (get_or items i d) else find (λ column. not (holds_at f p columns column)) (drop (i + 1) items)) (sym e)
       ∙ ap (find (λ column. not (holds_at f p columns column))) (sym (drop_more items i d within)) ∙ decides
 
-  pub broken-at : holds_at f p columns (get_or items i d) ≡ false → Some (get_or items i d) ≡ broken_column f p columns
-  broken-at broken = by_test false broken
+  pub broken-at : (line : ℕ) (failure : Failure) → failure ≡ record { line = line; form = f; column = number_of (get_or items i d) }
+      → holds_at f p columns (get_or items i d) ≡ false → Some failure ≡ failure_in f p line columns
+  broken-at line failure is broken = ap Some is ∙ ap (option_map (λ column. record { line = line; form = f; column = number_of column })) (by_test false broken)
 
   pub broken-behind : holds_at f p columns (get_or items i d) ≡ true → Decides f p columns (drop (i + 1) items)
   broken-behind held = by_test true held
-
--- the first of two that there is
-pub or-first : {T : Type 0} {x : T} {o : Option T} (r : Option T) → Some x ≡ o → Some x ≡ option_or o r
-or-first {T} {x} {o} r e = ap (λ o. option_or o r) e
-
-pub or-second : {T : Type 0} {x o r : Option T} → None ≡ o → x ≡ r → x ≡ option_or o r
-or-second {T} {x} {o} {r} none e = e ∙ ap (λ o. option_or o r) none
-
-module _ (p : Properties) (line : ℕ) (columns : Columns) where
-  pub failure-last : None ≡ failure_in Nfc p line columns → None ≡ failure_in Nfd p line columns → None ≡ failure_in Nfkc p line columns
-      → {E : Type 0} (r : Result (Option Failure) E) → IfOk r (λ last. last ≡ failure_in Nfkd p line columns) → IfOk r (λ last. last ≡ failure_of p line columns)
-  unfolding failure_of
-  failure-last a b c (Ok last) d = or-second a (or-second b (or-second c d))
-  failure-last a b c (Err _) d = tt
 
 module _ (p : Properties) (row : VectorRow) where
   pub verdict-skipped : is_skipped p row.columns ≡ true → Skipped ≡ verdict_of p row

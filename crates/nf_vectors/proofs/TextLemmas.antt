@@ -1,5 +1,5 @@
 -- The columns of a suite whose text grows.
-use Rattle.nf_vectors.proofs.Common.{◌≡◌, ℕ, ◌-◌, ◌≤◌, nat_le, true, ◌&&◌, List, [], ◌∷◌, ◌++◌, length, take, drop, slice_range, append-nil, refl, sym, ap, ◌∙◌, arith, list_all, and_parts, leb-true, le-leb, length-append, length-drop, drop-append-le, take-append-le, take_at, drop_at, list_all-append, Entry, Columns, columns_at, VectorRow, row_of, rows_in, AreWithin}
+use Rattle.nf_vectors.proofs.Common.{◌≡◌, ℕ, ◌-◌, ◌≤◌, nat_le, ◌&&◌, List, [], ◌∷◌, ◌++◌, length, take, drop, slice_range, append-nil, refl, sym, ap, ◌∙◌, arith, list_all, and_parts, leb-true, le-leb, length-append, length-drop, drop-append-le, take-append-le, take_at, drop_at, Entry, Columns, columns_at, VectorRow, row_of, rows_in, AreWithin}
 use Rattle.nf_vectors.specs.declared.columns.Ends.{Ends}
 
 pub slice_range-append : (xs ys : List ℕ) (i j : ℕ) → i ≤ j → j ≤ length xs → slice_range (xs ++ ys) i j ≡ slice_range xs i j

@@ -1,6 +1,6 @@
 ghost use Rattle.std.specs.Prelude.{◌≡◌, ◌+◌, ◌<◌, ◌^◌, false, IfOk, string_bytes, encode_utf8_all};
 ghost use Rattle.nf_vectors.specs.Suite.{VectorRow};
-ghost use Rattle.nf_vectors.specs.Comparison.{broken_column, expected, holds_at, is_skipped};
+ghost use Rattle.nf_vectors.specs.Comparison.{expected, holds_at, is_skipped};
 ghost use Rattle.nf_vectors.specs.Report.{failure_in, failure_of, verdict_of, report_and};
 ghost use Rattle.nf_vectors.specs.Columns.{Columns as Texts, each, AreShort};
 
@@ -40,7 +40,7 @@ impl Suite {
         let mut encoded = Columns::<String>::new(alloc);
         for entry in self.entries.as_slice() {
             let columns = Columns::<&[char]>::of(self.text.as_slice(), entry.columns);
-            let verdict = verdict(alloc, rows, entry.line, columns, &mut encoded)?;
+            let verdict = verdict(rows, entry.line, columns, &mut encoded)?;
             report = and(report, verdict);
         }
         Ok(report)
@@ -75,7 +75,6 @@ fn and(report: Report, verdict: Verdict) -> Report
 }
 
 fn verdict<R: Rows>(
-    alloc: Global,
     rows: &R,
     line: u32,
     columns: Columns<&[char]>,
@@ -92,7 +91,7 @@ fn verdict<R: Rows>(
         Ok(()) => {}
         Err(_) => return Err(Memory),
     }
-    match failure(alloc, rows, line, encoded)? {
+    match failure(rows, line, encoded) {
         None => Ok(Verdict::Passed),
         Some(failure) => Ok(Verdict::Failed(failure)),
     }
@@ -112,79 +111,46 @@ fn is_skipped<R: Rows>(rows: &R, columns: Columns<&[char]>) -> bool
 }
 
 /// The first comparison that does not hold.
-fn failure<R: Rows>(
-    alloc: Global,
-    rows: &R,
-    line: u32,
-    encoded: &Columns<String>,
-) -> Result<Option<Failure>, Memory>
+fn failure<R: Rows>(rows: &R, line: u32, encoded: &Columns<String>) -> Option<Failure>
     ensures { (columns : Texts) → each encoded.now string_bytes ≡ each columns encode_utf8_all
-        → IfOk result (λ failure. failure ≡ failure_of (R.properties rows.now) line columns) }
+        → result ≡ failure_of (R.properties rows.now) line columns }
 {
-    if let Some(failure) = failure_in(alloc, rows, Form::Nfc, line, encoded)? {
-        return Ok(Some(failure));
-    }
-    if let Some(failure) = failure_in(alloc, rows, Form::Nfd, line, encoded)? {
-        return Ok(Some(failure));
-    }
-    if let Some(failure) = failure_in(alloc, rows, Form::Nfkc, line, encoded)? {
-        return Ok(Some(failure));
-    }
-    failure_in(alloc, rows, Form::Nfkd, line, encoded)
+    let nfc = failure_in(rows, Form::Nfc, line, encoded);
+    let nfd = failure_in(rows, Form::Nfd, line, encoded);
+    let nfkc = failure_in(rows, Form::Nfkc, line, encoded);
+    let nfkd = failure_in(rows, Form::Nfkd, line, encoded);
+    nfc.or(nfd.or(nfkc.or(nfkd)))
 }
 
 /// The first comparison that does not hold in this form.
 fn failure_in<R: Rows>(
-    alloc: Global,
     rows: &R,
     form: Form,
     line: u32,
     encoded: &Columns<String>,
-) -> Result<Option<Failure>, Memory>
+) -> Option<Failure>
     ensures { (columns : Texts) → each encoded.now string_bytes ≡ each columns encode_utf8_all
-        → IfOk result (λ failure. failure ≡ failure_in form (R.properties rows.now) line columns) }
-{
-    match broken_column(alloc, rows, form, encoded)? {
-        None => Ok(None),
-        Some(column) => Ok(Some(Failure {
-            line,
-            form,
-            column: column.number(),
-        })),
-    }
-}
-
-/// The first column of which it does not hold in this form.
-fn broken_column<R: Rows>(
-    alloc: Global,
-    rows: &R,
-    form: Form,
-    encoded: &Columns<String>,
-) -> Result<Option<Column>, Memory>
-    ensures { (columns : Texts) → each encoded.now string_bytes ≡ each columns encode_utf8_all
-        → IfOk result (λ column. column ≡ broken_column form (R.properties rows.now) columns) }
+        → result ≡ failure_in form (R.properties rows.now) line columns }
 {
     for column in COLUMNS.as_slice() {
-        if !holds_at(alloc, rows, form, encoded, *column)? {
-            return Ok(Some(*column));
+        if !holds_at(rows, form, encoded, *column) {
+            return Some(Failure {
+                line,
+                form,
+                column: column.number(),
+            });
         }
     }
-    Ok(None)
+    None
 }
 
 /// Whether it holds of this column in this form.
-fn holds_at<R: Rows>(
-    alloc: Global,
-    rows: &R,
-    form: Form,
-    encoded: &Columns<String>,
-    column: Column,
-) -> Result<bool, Memory>
+fn holds_at<R: Rows>(rows: &R, form: Form, encoded: &Columns<String>, column: Column) -> bool
     ensures { (columns : Texts) → each encoded.now string_bytes ≡ each columns encode_utf8_all
-        → IfOk result (λ held. held ≡ holds_at form (R.properties rows.now) columns column) }
+        → result ≡ holds_at form (R.properties rows.now) columns column }
 {
     let wanted = encoded.at(expected(form, column));
-    holds(alloc, rows, form, encoded.at(column), wanted)
+    holds(rows, form, encoded.at(column), wanted)
 }
 
 /// The column whose text the form must give of this one.

@@ -1,32 +1,23 @@
 //! One comparison: what a form makes of a text, with what it must give.
-ghost use Rattle.std.specs.Prelude.{◌≡◌, ◌<◌, ◌^◌, ℕ, List, encode_utf8_all, length, IfOk};
+ghost use Rattle.std.specs.Prelude.{◌≡◌, ◌<◌, ◌^◌, ℕ, List, encode_utf8_all, length};
 ghost use Rattle.nf_vectors.specs.Comparison.{holds, leaves_format};
 
-use crate::fault::Memory;
-use nf_filter::{Fault, converted};
+use crate::comparing::Comparing;
+use nf_filter::convert;
 use nf_row::{Form, Rows};
 use nf_safe::Checker;
 use nf_utf8::laws;
-use std::alloc::Global;
 
 /// Whether the filter takes the text and gives exactly what is expected.
-pub(crate) fn holds<R: Rows>(
-    alloc: Global,
-    rows: &R,
-    form: Form,
-    text: &str,
-    expected: &str,
-) -> Result<bool, Memory>
+pub(crate) fn holds<R: Rows>(rows: &R, form: Form, text: &str, expected: &str) -> bool
     ensures { (x e : List ℕ) → text.now ≡ encode_utf8_all x → expected.now ≡ encode_utf8_all e
-        → IfOk result (λ held. held ≡ holds form (R.properties rows.now) x e) }
+        → result ≡ holds form (R.properties rows.now) x e }
 {
     laws::read_back();
-    match converted(alloc, rows, form, text.as_bytes()) {
-        Ok(out) => Ok(out.as_slice() == expected.as_bytes()),
-        Err(fault) => match fault {
-            Fault::Write => Err(Memory),
-            _ => Ok(false),
-        },
+    let mut sink = Comparing::with(expected.as_bytes());
+    match convert(rows, form, text.as_bytes(), &mut sink) {
+        Ok(_) => sink.is_met(),
+        Err(_) => false,
     }
 }
 

@@ -4,6 +4,7 @@
 
 mod check;
 mod columns;
+mod comparing;
 mod comparison;
 mod encoded;
 mod fault;

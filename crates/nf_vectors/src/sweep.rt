@@ -27,8 +27,7 @@ impl Suite {
     ghost use Rattle.nf_vectors.specs.SuiteView.{rows_of};
     ghost use Rattle.nf_vectors.specs.Sweep.{sweep_of};
 
-    /// Looks for a change of a character that Part 1 does not list. Takes memory for the set of those that it lists, and
-    /// for one form at a time.
+    /// Looks for a change of a character that Part 1 does not list. Takes memory for the set of those that it lists alone.
     pub fn sweep<R: Rows>(&self, alloc: Global, rows: &R) -> Result<Sweep, Memory>
         ensures { IfOk result (λ sweep. sweep ≡ sweep_of (R.properties rows.now) (rows_of self.now)) }
     {
@@ -48,7 +47,7 @@ impl Suite {
                 continue;
             }
             let unlisted = sweep.unlisted + 1;
-            let unchanged = is_unchanged(alloc, rows, c)?;
+            let unchanged = is_unchanged(rows, c);
             if unchanged {
                 sweep = Sweep { unlisted, ..sweep };
                 continue;
@@ -87,20 +86,20 @@ fn none_of(alloc: Global, codes: usize) -> Result<Vec<bool>, AllocError>
 }
 
 /// Whether no form changes the text of `c` alone.
-fn is_unchanged<R: Rows>(alloc: Global, rows: &R, c: char) -> Result<bool, Memory>
-    ensures { IfOk result (λ same. same ≡ is_unchanged (R.properties rows.now) c) }
+fn is_unchanged<R: Rows>(rows: &R, c: char) -> bool
+    ensures { result ≡ is_unchanged (R.properties rows.now) c }
 {
     if is_plain(rows, c) {
-        return Ok(true);
+        return true;
     }
     let mut room = [0; 4];
     let text = c.encode_utf8(&mut room);
-    let nfc = holds(alloc, rows, Form::Nfc, text, text)?;
-    let nfd = holds(alloc, rows, Form::Nfd, text, text)?;
-    let nfkc = holds(alloc, rows, Form::Nfkc, text, text)?;
-    let nfkd = holds(alloc, rows, Form::Nfkd, text, text)?;
+    let nfc = holds(rows, Form::Nfc, text, text);
+    let nfd = holds(rows, Form::Nfd, text, text);
+    let nfkc = holds(rows, Form::Nfkc, text, text);
+    let nfkd = holds(rows, Form::Nfkd, text, text);
     // All four are known by now: `&`, since each `&&` would be a case of its own to prove.
-    Ok(nfc & nfd & nfkc & nfkd)
+    nfc & nfd & nfkc & nfkd
 }
 
 /// Whether `c` is a sound starter whose decompositions are `c` alone, as most characters are: no form changes it.

@@ -1,18 +1,18 @@
 //! The calls of `include/nfstream.h`: each is that of `nf_c`, and states its clauses again.
 #![tactic(auto)]
 
-ghost use Rattle.std.specs.Prelude.{◌≡◌, ℕ, List, []};
+ghost use Rattle.std.specs.Prelude.{◌≡◌, ◌+◌, ◌≤◌, ◌<◌, ℕ, List, [], length};
 ghost use Rattle.nf_forms.specs.declared.form.Form.{Form};
 ghost use Rattle.nf_filter.specs.declared.policy.Policy.{Policy};
 ghost use Rattle.nf_c.specs.Feeds.{Feeds};
 ghost use Rattle.nf_c.specs.Checks.{Checks};
 ghost use Rattle.nf_c.specs.Converts.{Converts};
 ghost use Rattle.nf_c.specs.Finishes.{Finishes};
-ghost use Rattle.nf_c.specs.State.{CanStand, StandsAfter, form_at, policy_at};
+ghost use Rattle.nf_c.specs.State.{CanStand, StandsAfter, form_at, policy_at, unicode};
 ghost use Rattle.nf_c.specs.Starts.{start_status};
 ghost use Rattle.nf_c.specs.Status.{code_of};
 ghost use Rattle.nf_c.specs.Moved.{moved as moved_by};
-ghost use Rattle.nf_c.specs.declared.status.Status.TheVariants.{Done, NoState, Spent};
+ghost use Rattle.nf_c.specs.declared.status.Status.TheVariants.{Done, NoState, Spent, TooLong};
 ghost use Rattle.nf_c.specs.declared.moved.Moved.{Moved as NfMoved};
 ghost use Rattle.nfstream_c.specs.Told.{Tells};
 
@@ -45,8 +45,12 @@ pub extern "C" fn nf_feed(
     output: &mut [u8],
     moved: &mut Moved,
 ) -> u32
+    ensures read { moved.new.read ≤ length input.now }
+    ensures written { moved.new.written ≤ length output.new }
+    ensures state { state.new.spent ≡ 1 → CanStand state.old → CanStand state.new }
     ensures none { ¬ CanStand state.old → Tells (moved_by NoState 0 0) moved.new result × (state.new ≡ state.old) }
     ensures spent { CanStand state.old → state.old.spent ≡ 1 → Tells (moved_by Spent 0 0) moved.new result × (state.new ≡ state.old) }
+    ensures too_long { CanStand state.old → state.old.spent ≡ 0 → u64.MAX < state.old.offset + length input.now → Tells (moved_by TooLong 0 0) moved.new result × (state.new ≡ state.old) }
     ensures feeds { (policy : Policy) (f : Form) (bytes : List ℕ) → StandsAfter policy f state.old bytes
         → (told : NfMoved) × Tells told moved.new result × Feeds policy f bytes input.now state.old state.new output.new told }
 {
@@ -56,6 +60,8 @@ pub extern "C" fn nf_feed(
 
 #[unsafe(no_mangle)]
 pub extern "C" fn nf_finish(state: &mut State, output: &mut [u8], moved: &mut Moved) -> u32
+    ensures written { moved.new.written ≤ length output.new }
+    ensures state { CanStand state.old → CanStand state.new }
     ensures none { ¬ CanStand state.old → Tells (moved_by NoState 0 0) moved.new result × (state.new ≡ state.old) }
     ensures spent { CanStand state.old → state.old.spent ≡ 1 → Tells (moved_by Spent 0 0) moved.new result × (state.new ≡ state.old) }
     ensures finishes { (policy : Policy) (f : Form) (bytes : List ℕ) → StandsAfter policy f state.old bytes
@@ -90,9 +96,17 @@ pub extern "C" fn nf_check(input: &[u8], moved: &mut Moved) -> u32
 /// The version of these calls.
 #[unsafe(no_mangle)]
 pub extern "C" fn nf_version() -> u32
-    ensures { result ≡ 1 }
+    ensures { result ≡ 2 }
 {
-    1
+    2
+}
+
+/// The version of Unicode of the data: 18.0.0.
+#[unsafe(no_mangle)]
+pub extern "C" fn nf_unicode_version() -> u32
+    ensures { result ≡ unicode }
+{
+    nf_c::UNICODE
 }
 
 fn tell(done: nf_c::Moved, moved: &mut Moved) -> u32

@@ -2,3 +2,4 @@ pub mod Faults
 pub mod Count
 pub mod Counting
 pub mod Network
+pub mod Sends

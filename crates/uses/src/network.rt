@@ -4,7 +4,7 @@ ghost use Rattle.nf_forms.specs.Ucd.{ucd};
 ghost use Rattle.nf_forms.specs.declared.form.Form.TheVariants.{Nfc};
 ghost use Rattle.nf_filter.specs.declared.fault.Fault.TheVariants.{Read as ReadFault};
 ghost use Rattle.nf_text.specs.Whole.{PassesWhole};
-ghost use Rattle.uses.specs.Network.{HasRelayed};
+ghost use Rattle.uses.specs.Network.{HasRelayed, Relays};
 
 use nf_filter::{Fault, Filter, Sink, Tally};
 use nf_row::{Form, Ucd};
@@ -15,10 +15,13 @@ use std::io::Read;
 const PACKET: usize = 1500;
 
 /// Gives the sink the NFC of the stream-safe text that comes over the connection, each time as much as is settled. Where
-/// the connection breaks, all that had come and was settled is with the sink.
+/// the connection breaks, all that had come and was settled is with the sink; where a fault stands in what came, what is
+/// settled before it. Nothing goes out behind that, and `Write` is answered only where the sink failed.
 pub fn relay<C: Read, S: Sink>(connection: &mut C, sink: &mut S) -> Result<Tally, Fault>
     ensures whole { OnOk result (PassesWhole Nfc ucd (C.remaining connection.old) (S.state sink.old).taken (S.state sink.new).taken) }
+    ensures relays { Relays Nfc ucd (C.remaining connection.old) (C.remaining connection.new) (S.state sink.old) (S.state sink.new) result }
     ensures broken { result ≡ Err ReadFault → HasRelayed Nfc ucd (C.remaining connection.old) (C.remaining connection.new) (S.state sink.old).taken (S.state sink.new).taken }
+    ensures lender { (S.state sink.new).lender ≡ (S.state sink.old).lender }
 {
     longest_text();
     let mut filter = Filter::new(&Ucd, Form::Nfc, 0);

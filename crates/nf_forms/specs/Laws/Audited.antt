@@ -21,8 +21,8 @@ use Rattle.nf_forms.specs.Forms.{row_of, decomposed, composes, normal_form}
 use Rattle.nf_forms.specs.StreamSafe.{joiner, max_run, is_too_long, parted, safe_step, stream_safe}
 use Rattle.nf_forms.specs.SafeForm.{safe_form}
 use Rattle.nf_forms.specs.Sound.{is_sound}
-use Rattle.nf_forms.specs.Audit.{IsFull, HasOwnMarks, IsAudited}
-use Rattle.nf_forms.specs.Twice.{HasScalarRows, ChangesOnce}
+use Rattle.nf_forms.specs.Audit.{IsFull, IsFullText, HasFullRows, HasOwnMarks, IsAudited}
+use Rattle.nf_forms.specs.Twice.{ChangesOnce}
 use Rattle.nf_forms.specs.Laws.Last.{by_last}
 use Rattle.nf_forms.specs.Laws.Starters.{longest-order}
 use Rattle.nf_forms.specs.Laws.Ordering.{ordering, order-only, order-order}
@@ -82,6 +82,12 @@ module _ (p : Properties) where
 
   is_own-full : (row : ℕ → List ℕ) (w : List ℕ) → IsFull row w → list_all (is_own row) w ≡ true
   is_own-full row w full = list_all-from_AllPass (is_own row) w (λ k d within. (bytes_eq-Decides (row (slice_index_or w k d)) (slice_index_or w k d ∷ [])).1 (full k d within))
+
+  own-full : (row : ℕ → List ℕ) (w : List ℕ) → IsFullText row w → list_all (is_own row) w ≡ true
+  own-full row w full = is_own-full row w (λ k d within. (full k d within).1)
+
+  scalar-full : (row : ℕ → List ℕ) (w : List ℕ) → IsFullText row w → list_all scalar w ≡ true
+  scalar-full row w full = list_all-from_AllPass scalar w (λ k d within. (full k d within).0)
 
   own-true : (row : ℕ → List ℕ) (c : ℕ) → is_own row c ≡ true → row c ≡ c ∷ []
   own-true row c own = (bytes_eq-Decides (row c) (c ∷ [])).0 own
@@ -176,13 +182,13 @@ module _ (p : Properties) where
     own-canonical [] scalars = refl
     own-canonical (c ∷ x) scalars =
         let parts = and_parts _ _ scalars in
-        list_all-append (is_own p.canonical) (p.canonical c) _ ∙ and_from _ _ (is_own-full p.canonical (p.canonical c) (audited c parts.0).full.0) (own-canonical x parts.1)
+        list_all-append (is_own p.canonical) (p.canonical c) _ ∙ and_from _ _ (own-full p.canonical (p.canonical c) (audited c parts.0).full.0) (own-canonical x parts.1)
 
     own-compat : (x : List ℕ) → all_scalars x ≡ true → list_all (is_own p.compat) (decomposed Nfkd p x) ≡ true
     own-compat [] scalars = refl
     own-compat (c ∷ x) scalars =
         let parts = and_parts _ _ scalars in
-        list_all-append (is_own p.compat) (p.compat c) _ ∙ and_from _ _ (is_own-full p.compat (p.compat c) (audited c parts.0).full.1) (own-compat x parts.1)
+        list_all-append (is_own p.compat) (p.compat c) _ ∙ and_from _ _ (own-full p.compat (p.compat c) (audited c parts.0).full.1) (own-compat x parts.1)
 
     own-marks : (x : List ℕ) → all_scalars x ≡ true → list_all has_own_mark (decomposed Nfd p x) ≡ true
     own-marks [] scalars = refl
@@ -240,33 +246,32 @@ module _ (p : Properties) where
 
     -- ---- it is a text again
 
-    module _ (rows : HasScalarRows p) where
-      scalars-decomposed : (f : Form) → composes f ≡ false → (x : List ℕ) → all_scalars x ≡ true → list_all scalar (decomposed f p x) ≡ true
-      scalars-decomposed f decomposes [] scalars = refl
-      scalars-decomposed f decomposes (c ∷ x) scalars =
-          let parts = and_parts _ _ scalars in
-          list_all-append scalar (row_of f p c) _ ∙ and_from _ _ (sym (scalars-all (row_of f p c)) ∙ row f decomposes) (scalars-decomposed f decomposes x parts.1)
-        where
-          row : (f : Form) → composes f ≡ false → all_scalars (row_of f p c) ≡ true
-          row Nfd decomposes = rows.canonical c (and_parts _ _ scalars).0
-          row Nfkd decomposes = rows.compat c (and_parts _ _ scalars).0
-          row Nfc decomposes = cc
-          row Nfkc decomposes = cc
+    scalars-decomposed : (f : Form) → composes f ≡ false → (x : List ℕ) → all_scalars x ≡ true → list_all scalar (decomposed f p x) ≡ true
+    scalars-decomposed f decomposes [] scalars = refl
+    scalars-decomposed f decomposes (c ∷ x) scalars =
+        let parts = and_parts _ _ scalars in
+        list_all-append scalar (row_of f p c) _ ∙ and_from _ _ (row f decomposes (audited c parts.0).full) (scalars-decomposed f decomposes x parts.1)
+      where
+        row : (f : Form) → composes f ≡ false → HasFullRows p c → list_all scalar (row_of f p c) ≡ true
+        row Nfd decomposes full = scalar-full p.canonical (p.canonical c) full.0
+        row Nfkd decomposes full = scalar-full p.compat (p.compat c) full.1
+        row Nfc decomposes full = cc
+        row Nfkc decomposes full = cc
 
-      scalars-normal_form : (f : Form) → composes f ≡ false → (x : List ℕ) → all_scalars x ≡ true → all_scalars (normal_form f p x) ≡ true
-      scalars-normal_form Nfd decomposes x scalars = scalars-all (order p (decomposed Nfd p x)) ∙ list_all-order scalar (decomposed Nfd p x) (scalars-decomposed Nfd refl x scalars)
-      scalars-normal_form Nfkd decomposes x scalars = scalars-all (order p (decomposed Nfkd p x)) ∙ list_all-order scalar (decomposed Nfkd p x) (scalars-decomposed Nfkd refl x scalars)
-      scalars-normal_form Nfc decomposes x scalars = cc
-      scalars-normal_form Nfkc decomposes x scalars = cc
+    scalars-normal_form : (f : Form) → composes f ≡ false → (x : List ℕ) → all_scalars x ≡ true → all_scalars (normal_form f p x) ≡ true
+    scalars-normal_form Nfd decomposes x scalars = scalars-all (order p (decomposed Nfd p x)) ∙ list_all-order scalar (decomposed Nfd p x) (scalars-decomposed Nfd refl x scalars)
+    scalars-normal_form Nfkd decomposes x scalars = scalars-all (order p (decomposed Nfkd p x)) ∙ list_all-order scalar (decomposed Nfkd p x) (scalars-decomposed Nfkd refl x scalars)
+    scalars-normal_form Nfc decomposes x scalars = cc
+    scalars-normal_form Nfkc decomposes x scalars = cc
 
-      scalars-safe_form : (f : Form) → composes f ≡ false → (x : List ℕ) → all_scalars x ≡ true → all_scalars (safe_form f p x) ≡ true
-      unfolding safe_form
-      scalars-safe_form f decomposes x scalars = scalars-normal_form f decomposes (stream_safe p x) (safe_scalars f decomposes x scalars)
+    scalars-safe_form : (f : Form) → composes f ≡ false → (x : List ℕ) → all_scalars x ≡ true → all_scalars (safe_form f p x) ≡ true
+    unfolding safe_form
+    scalars-safe_form f decomposes x scalars = scalars-normal_form f decomposes (stream_safe p x) (safe_scalars f decomposes x scalars)
 
-      pub changes_once : (f : Form) → composes f ≡ false → ChangesOnce f p
-      changes_once f decomposes = record {
-        text = scalars-safe_form f decomposes;
-        sound = λ c scalar. (audited c scalar).sound;
-        safe = stream_safe-again f decomposes;
-        form = safe_form-again f decomposes;
-      }
+    pub changes_once : (f : Form) → composes f ≡ false → ChangesOnce f p
+    changes_once f decomposes = record {
+      text = scalars-safe_form f decomposes;
+      sound = λ c scalar. (audited c scalar).sound;
+      safe = stream_safe-again f decomposes;
+      form = safe_form-again f decomposes;
+    }

@@ -1,22 +1,22 @@
 -- The stream-safe text is the text's greedy cut with a joiner between each two pieces.
-use Rattle.std.proofs.Common.{◌≡◌, ℕ, zero, suc, ◌+◌, ◌<◌, ◌≤◌, Bool, true, false, not, ◌&&◌, List, [], ◌∷◌, ◌++◌, length, take, drop, refl, sym, ap, ap₂, ◌∙◌, subst, arith, append-nil, append_assoc, le-ltb, length-drop}
+use Rattle.std.proofs.Common.{◌≡◌, ℕ, zero, suc, ◌+◌, ◌<◌, ◌≤◌, Bool, true, false, not, ◌&&◌, List, [], ◌∷◌, ◌++◌, length, take, drop, refl, sym, ap, ap₂, ◌∙◌, subst, arith, append-nil, append_assoc, le-ltb, length-drop, ◌⊎◌, inl, inr, ⊎_elim}
 use Rattle.std.specs.Prelude.{if◌then◌else◌, fold, IsTrue, IsFalse}
 use Rattle.std.specs.List.{list_all}
 use Rattle.std.proofs.lemmas.Bool.{cond-true, cond-false, and_parts, and_from, leb-true, le-leb, true_from_ne_false, false≢true}
 use Rattle.std.proofs.lemmas.List.{length-append, length-take, take-append-drop}
 use Rattle.std.proofs.lemmas.List.Folds.{list_all-append}
 use Rattle.std.proofs.lemmas.List.Sums.{fold-append}
-use Rattle.std.proofs.Math.Seq.{take-append_seam, drop-append_seam}
+use Rattle.std.proofs.Math.Seq.{take-append_seam, drop-append_seam, take-length}
 use Rattle.nf_forms.specs.Properties.{Properties}
 use Rattle.nf_forms.specs.declared.form.Form.TheVariants.{Nfkd}
 use Rattle.nf_forms.specs.Runs.{lead, trail, longest}
 use Rattle.nf_forms.specs.Forms.{decomposed}
-use Rattle.nf_forms.specs.StreamSafe.{joiner, max_run, is_too_long, safe_step, stream_safe}
+use Rattle.nf_forms.specs.StreamSafe.{joiner, max_run, is_too_long, parted, safe_step, stream_safe}
 use Rattle.nf_forms.specs.Sound.{max_row, is_sound}
 use Rattle.nf_forms.specs.Laws.Last.{by_last}
 use Rattle.nf_forms.specs.Laws.Runs.{lead-le-length}
 use Rattle.nf_forms.specs.Laws.Sound.{JoinerIsPlain, IsSoundText, IsSound-from_test, JoinerIsPlain-from_sound, sound_last}
-use Rattle.nf_forms.specs.Laws.StreamSafe.{stream_safe-push, trail-decomposed-joiner}
+use Rattle.nf_forms.specs.Laws.StreamSafe.{stream_safe-push, sound-safe_step, trail-decomposed-joiner}
 use Rattle.nf_forms.specs.Laws.Parting.{safe_step-room}
 use Rattle.nf_forms.specs.Laws.Closing.{safe-closed}
 use Rattle.nf_forms.specs.Laws.Audited.{stream_safe-short}
@@ -171,3 +171,46 @@ module _ (p : Properties) where
               let kept : stream_safe p x ≡ x = sym (take-append_seam (stream_safe p x) (c ∷ [])) ∙ ap₂ take (omega (arith, ap length e, length-append (stream_safe p x) (c ∷ []), length-append x (c ∷ []))) e ∙ take-append_seam x (c ∷ []) in
               is_in_format-push p x c (few c last)
               ∙ and_from _ _ (before front kept) (ap not (ap (λ o. is_too_long p o c) (sym kept) ∙ room))
+
+  -- ---- where the process gives sound characters alone
+
+  pub sound-source : (x : List ℕ) → IsSoundText p (stream_safe p x) → IsSoundText p x
+  sound-source = by_last (λ x. IsSoundText p (stream_safe p x) → IsSoundText p x) (λ _. refl) more
+    where
+      more : (x : List ℕ) (c : ℕ) → (IsSoundText p (stream_safe p x) → IsSoundText p x) → IsSoundText p (stream_safe p (x ++ c ∷ [])) → IsSoundText p (x ++ c ∷ [])
+      more x c before sound =
+          let out = stream_safe p x in
+          let step : IsSoundText p (safe_step p out c) = sym (ap (list_all (is_sound p)) (stream_safe-push p x c)) ∙ sound in
+          list_all-append (is_sound p) x (c ∷ [])
+          ∙ and_from _ _ (before (sound-safe_step p out c step).0) (and_from _ _ (sound_last p (parted p out c) c step).1 refl)
+
+  -- it has put a joiner, which is sound, or nothing
+  joiner_or_same : (x : List ℕ) → IsSoundText p (stream_safe p x) → (is_sound p joiner ≡ true) ⊎ (stream_safe p x ≡ x)
+  joiner_or_same = by_last (λ x. IsSoundText p (stream_safe p x) → (is_sound p joiner ≡ true) ⊎ (stream_safe p x ≡ x)) (λ _. inr refl) more
+    where
+      next : (b : Bool) (o x : List ℕ) (c : ℕ) → IsSoundText p (if b then o ++ joiner ∷ [] else o) → (IsSoundText p o → (is_sound p joiner ≡ true) ⊎ (o ≡ x))
+          → (is_sound p joiner ≡ true) ⊎ ((if b then o ++ joiner ∷ [] else o) ++ c ∷ [] ≡ x ++ c ∷ [])
+      next true o x c sound before = inl (sound_last p o joiner sound).1
+      next false o x c sound before = ⊎_elim inl (λ same. inr (ap (λ o. o ++ c ∷ []) same)) (before sound)
+
+      more : (x : List ℕ) (c : ℕ) → (IsSoundText p (stream_safe p x) → (is_sound p joiner ≡ true) ⊎ (stream_safe p x ≡ x))
+          → IsSoundText p (stream_safe p (x ++ c ∷ [])) → (is_sound p joiner ≡ true) ⊎ (stream_safe p (x ++ c ∷ []) ≡ x ++ c ∷ [])
+      more x c before sound =
+          let out = stream_safe p x in
+          let step : IsSoundText p (safe_step p out c) = sym (ap (list_all (is_sound p)) (stream_safe-push p x c)) ∙ sound in
+          ⊎_elim inl (λ same. inr (stream_safe-push p x c ∙ same)) (next (is_too_long p out c) out x c (sound_last p (parted p out c) c step).0 before)
+
+  -- text in the format is one piece
+  in_format-rejoined : (x : List ℕ) → is_in_format p x ≡ true → (pieces : List (List ℕ)) → IsGreedyCut p x pieces → rejoined pieces ≡ x
+  in_format-rejoined x inside [] cut = sym cut
+  in_format-rejoined x inside (piece ∷ []) cut = sym (cut.1 ∙ ap (λ r. piece ++ r) cut.4 ∙ append-nil piece)
+  in_format-rejoined x inside (piece ∷ next ∷ pieces) cut =
+      let is = longest_front_is (is_in_format p) x (is_in_format-none p) in
+      let less : longest_front (is_in_format p) x < length x =
+      omega (arith, cut.3, ap length cut.1, length-append piece cut.0, cut.4.2, ap length cut.4.1, length-append next cut.4.0) in
+      absurd (false≢true (sym (is.longer (length x) less (omega arith)) ∙ ap (is_in_format p) (take-length x) ∙ inside))
+
+  pub stream_safe-cut : (x : List ℕ) → IsSoundText p (stream_safe p x) → (pieces : List (List ℕ)) → IsGreedyCut p x pieces → stream_safe p x ≡ rejoined pieces
+  stream_safe-cut x sound pieces cut =
+      let source = sound-source x sound in
+      ⊎_elim (λ joins. stream_safe-rejoined joins x source pieces cut) (λ same. same ∙ sym (in_format-rejoined x (in_format-unchanged x source same) pieces cut)) (joiner_or_same x sound)

@@ -1,4 +1,4 @@
-use Rattle.std.proofs.Common.{◌≡◌, ◌-◌, [], length, Some, None, ◌∙◌, rules}
+use Rattle.std.proofs.Common.{arith, ◌≡◌, ◌-◌, ◌<◌, ◌^◌, [], length, Some, None, ◌∙◌, rules}
 use Rattle.nf_filter.specs.declared.fault.Fault.TheVariants.{Write}
 use Rattle.nf_filter.specs.Policy.{as_is}
 use Rattle.nf_c.proofs.ConvertsLemmas.{stops_within, stands_whole, full_at_end, reaches_end}
@@ -9,7 +9,7 @@ returns-then-is_some c =
     let policy = c.args.policy in
     let f = c.args.form in
     let stands = c.policy-filter.ensures.stands as_is f [] c.quickest.ensures.stands in
-    stops_within policy f c.args.input.now _ _ _ c.feed_all-fed.result (c.policy-filter.ensures.base ∙ c.quickest.ensures.base) (c.feed_all-fed.ensures.feeds policy f [] stands) (search rules) (c.feed_all-fed.ensures.full policy f [] stands)
+    stops_within policy f c.args.input.now _ _ _ c.feed_all-fed.result (c.policy-filter.ensures.base ∙ c.quickest.ensures.base) (c.feed_all-fed.ensures.feeds policy f [] stands) (search rules) (c.feed_all-fed.ensures.full policy f [] stands) (c.feed_all-fed.ensures.fits (let small : length c.args.input.now < 2 ^ 64 = search rules in omega (arith, small, c.policy-filter.ensures.offset, c.quickest.ensures.offset)))
 
 pub returns-then-is_full : goal.returns-then-is_full
 returns-then-is_full c =

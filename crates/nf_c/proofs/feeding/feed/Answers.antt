@@ -1,34 +1,82 @@
-use Rattle.std.proofs.Common.{◌++◌, take, sym, ap, ◌∙◌, subst}
+use Rattle.std.proofs.Common.{arith, ◌≡◌, ℕ, ◌+◌, ◌<◌, ◌^◌, ◌==◌, length, ◌++◌, take, Some, refl, sym, ap, ◌∙◌, subst, append-nil}
 use Rattle.nf_forms.specs.Ucd.{ucd}
+use Rattle.nf_filter.specs.declared.fault.Fault.TheVariants.{TooLong}
 use Rattle.nf_filter.specs.declared.saved.Saved.{Saved}
 use Rattle.nf_filter.specs.Faults.{fault_in}
 use Rattle.nf_filter.specs.Filter.{state_of}
 use Rattle.nf_filter.specs.Saved.{IsRestorable}
-use Rattle.nf_c.proofs.FeedsLemmas.{is_one}
+use Rattle.nf_filter.specs.Settled.{settled_utf8}
+use Rattle.nf_c.specs.declared.moved.Moved.{Moved}
+use Rattle.nf_c.specs.Moved.{read_before}
+use Rattle.nf_c.specs.State.{StandsAfter}
+use Rattle.nf_c.proofs.FeedsLemmas.{is_one, read_before-within, read_ended, written_ended}
 use Rattle.nf_c.proofs.feeding.feed.Goals as goal
+
+pub returns-then-is_too_long-clause-feeds : goal.returns-then-is_too_long-clause-feeds
+returns-then-is_too_long-clause-feeds c = λ policy f bytes stands. record {
+  fault = Some TooLong;
+  seen = 0;
+  written = 0;
+  is = c.of-then-is_too_long.ensures;
+  among = tt;
+  seen_within = omega arith;
+  written_within = omega arith;
+  settles = ap (settled_utf8 policy f ucd) (append-nil bytes) ∙ sym (append-nil (settled_utf8 policy f ucd bytes));
+  all = λ e. cc;
+  full = λ e. cc;
+  stands = λ _. subst (StandsAfter policy f c.args.state.now) (sym (append-nil bytes)) stands;
+  told = λ e. cc;
+  spent = λ e. cc;
+  too_long = (λ _. omega (arith, c.is_too_long.ensures.long c.if-is_too_long.true), λ _. refl);
+  nothing = λ _. (refl, refl, refl);
+}
+
+pub returns-clause-read : goal.returns-clause-read
+returns-clause-read c =
+    let fed = c.feed_all-fed.result in
+    let before : ℕ = read_before fed.fault c.args.state.now.offset (length c.args.input.now) fed.read in
+    omega (arith, read_before-within fed.fault c.args.state.now.offset (length c.args.input.now) fed.read c.feed_all-fed.ensures.read, read_ended fed.fault before fed.written, ap (λ (m : Moved). m.read) c.within.ensures)
+
+pub returns-clause-written : goal.returns-clause-written
+returns-clause-written c =
+    let fed = c.feed_all-fed.result in
+    let before : ℕ = read_before fed.fault c.args.state.now.offset (length c.args.input.now) fed.read in
+    omega (arith, c.feed_all-fed.ensures.written, written_ended fed.fault before fed.written, ap (λ (m : Moved). m.written) c.within.ensures)
+
+-- a filter that is spent was saved
+pub returns-clause-state : goal.returns-clause-state
+returns-clause-state c = λ over _.
+    let packed = c.pack.ensures.saved ∙ c.save-after.ensures.saved in
+    (c.pack.ensures.state, subst (IsRestorable ucd) (sym c.pack.ensures.saved) (c.save-after.ensures.spent (sym (ap (λ (s : Saved). s.spent) packed) ∙ ap (λ n. n == 1) over)))
 
 pub returns-clause-feeds : goal.returns-clause-feeds
 returns-clause-feeds c = λ policy f bytes stands.
     let fed = c.feed_all-fed.result in
     let stood = c.in-Some.ensures.stands policy f bytes stands in
     let front = c.feed_all-fed.ensures.feeds policy f bytes stood in
-    let packed = c.pack.ensures.saved ∙ c.save.ensures.saved in record {
+    let packed = c.pack.ensures.saved ∙ c.save-after.ensures.saved in
+    let small : c.args.state.now.offset + length c.args.input.now < 2 ^ 64 = omega (arith, c.is_too_long.ensures.fits c.if-is_too_long.false) in
+    let not_long : ¬ (fed.fault ≡ Some TooLong) = c.feed_all-fed.ensures.fits (omega (arith, small, ap (λ (s : Saved). s.offset) c.in-Some.ensures.saved)) in record {
       fault = fed.fault;
-      read = fed.read;
+      seen = fed.read;
       written = fed.written;
-      is = c.ended.ensures;
+      is = c.within.ensures;
       among = front.among;
-      read_within = front.read;
+      seen_within = front.read;
       written_within = front.written;
       settles = front.settles;
       all = c.feed_all-fed.ensures.all;
       full = c.feed_all-fed.ensures.full policy f bytes stood;
       stands = λ goes. record {
-        can = (c.pack.ensures.state, subst IsRestorable (sym c.pack.ensures.saved) c.save.ensures.restorable);
+        can = (c.pack.ensures.state, subst (IsRestorable ucd) (sym c.pack.ensures.saved) (c.save-after.ensures.restorable policy f (bytes ++ take fed.read c.args.input.now) (front.stands goes)));
         filter = state_of c.feed_all-fed.new.filter;
         saved = sym packed;
         stands = front.stands goes;
       };
       told = λ over. front.fault over ∙ ap (λ n. fault_in policy ucd n (bytes ++ take fed.read c.args.input.now)) (ap (λ (s : Saved). s.base) c.in-Some.ensures.saved);
-      spent = λ over. is_one _ (ap (λ (s : Saved). s.spent) packed ∙ front.spent over);
+      spent = λ over.
+          let spent = front.spent over in
+          ((c.pack.ensures.state, subst (IsRestorable ucd) (sym c.pack.ensures.saved) (c.save-after.ensures.spent spent)), is_one _ (ap (λ (s : Saved). s.spent) packed ∙ spent));
+      too_long = (λ e. absurd (not_long e), λ long. absurd (omega (arith, small, long)));
+      nothing = λ e. absurd (not_long e);
     }

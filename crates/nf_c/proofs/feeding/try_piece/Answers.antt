@@ -1,9 +1,9 @@
-use Rattle.std.proofs.Common.{◌≡◌, true, false, Some, Err, refl, sym, ap, ◌∙◌, rules}
+use Rattle.std.proofs.Common.{◌≡◌, true, false, Some, Err, arith, refl, sym, ap, ◌∙◌, rules}
 use Rattle.nf_forms.specs.Ucd.{ucd}
 use Rattle.nf_filter.specs.declared.fault.Fault.TheVariants.{Write, TooLong}
 use Rattle.nf_filter.specs.declared.saved.Saved.{Saved}
 use Rattle.nf_filter.specs.Devices.{SinkState}
-use Rattle.nf_filter.specs.Filter.{state_of}
+use Rattle.nf_filter.specs.Filter.{state_of, offset_of}
 use Rattle.nf_filter.proofs.SoundnessLemmas.{not_fed}
 use Rattle.nf_c.specs.Feeds.{ends}
 use Rattle.nf_c.proofs.FeedsLemmas.{not_write, not_long, of_staying, of_feeding, too_little, FeedsFront-whole, FeedsFront-fault, FeedsFront-none}
@@ -30,8 +30,19 @@ returns-clause-feeds c = λ policy f bytes stands.
     let fault = c.in-Err.fault in
     let goes : ends (Some fault) ≡ false = sym c.ends.ensures ∙ c.if-ends.false in
     let saved = c.save-before.ensures.saved in
-    FeedsFront-none policy f bytes c.args.piece.now _ _ _ (Some fault) goes (of_staying fault goes) (ap (λ (s : Saved). s.base) (c.restored.ensures.saved ∙ saved))
-    (c.restored.ensures.stands policy f (state_of c.args.filter.now) bytes stands (sym saved))
+    FeedsFront-none policy f bytes c.args.piece.now _ _ _ (Some fault) goes (of_staying fault goes)
+    (c.go_back.ensures.base (c.feed.ensures.base ∙ sym (ap (λ (s : Saved). s.base) saved)) ∙ ap (λ (s : Saved). s.base) saved)
+    (c.go_back.ensures.stands policy f (state_of c.args.filter.now) bytes stands (sym saved) (c.save-before.ensures.restorable policy f bytes stands))
+
+pub returns-clause-offset : goal.returns-clause-offset
+returns-clause-offset c = λ _.
+    let saved = c.save-before.ensures.saved in
+    let kept : offset_of (state_of c.feed.new.self) ≡ offset_of (state_of c.args.filter.now) = search rules in
+    omega (arith, c.go_back.ensures.offset (kept ∙ sym (ap (λ (s : Saved). s.offset) saved)), ap (λ (s : Saved). s.offset) saved)
+
+-- the fault is that of the filter
+pub returns-clause-too_long : goal.returns-clause-too_long
+returns-clause-too_long c = λ e. (c.in-Err.ensures.too_long.0 (let same : c.in-Err.fault ≡ TooLong = cc in ap Err same)).1
 
 pub returns-clause-full : goal.returns-clause-full
 returns-clause-full c = λ policy f bytes stands is.

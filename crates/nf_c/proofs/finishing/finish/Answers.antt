@@ -1,7 +1,9 @@
-use Rattle.std.proofs.Common.{◌≡◌, Some, refl, ap, rules}
+use Rattle.std.proofs.Common.{arith, ◌≡◌, Some, refl, ap, rules}
 use Rattle.nf_filter.specs.declared.fault.Fault.TheVariants.{Write}
 use Rattle.nf_filter.specs.declared.saved.Saved.{Saved}
-use Rattle.nf_c.proofs.FinishesLemmas.{FinishesFilter-at}
+use Rattle.nf_c.specs.declared.moved.Moved.{Moved}
+use Rattle.nf_c.proofs.FeedsLemmas.{written_ended}
+use Rattle.nf_c.proofs.FinishesLemmas.{CanStand-spent, FinishesFilter-at}
 use Rattle.nf_c.proofs.finishing.finish.Goals as goal
 
 pub returns-then-is_full-clause-finishes : goal.returns-then-is_full-clause-finishes
@@ -15,6 +17,12 @@ returns-then-is_full-clause-finishes c = λ policy f bytes stands.
       spent = λ not. absurd (not full);
     }
 
+pub returns-clause-written : goal.returns-clause-written
+returns-clause-written c = omega (arith, c.finish_filter-finished.ensures.written, written_ended c.finish_filter-finished.result.fault 0 c.finish_filter-finished.result.written, ap (λ (m : Moved). m.written) c.ended.ensures)
+
+pub returns-clause-state : goal.returns-clause-state
+returns-clause-state c = CanStand-spent c.args.state.now
+
 pub returns-clause-finishes : goal.returns-clause-finishes
 returns-clause-finishes c = λ policy f bytes stands.
     let not_full : ¬ (c.finish_filter-finished.result.fault ≡ Some Write) = search rules in record {
@@ -23,5 +31,5 @@ returns-clause-finishes c = λ policy f bytes stands.
       full = λ e. absurd (not_full e);
       told = λ _. c.ended.ensures;
       written = λ _. c.finish_filter-finished.ensures.written;
-      spent = λ _. refl;
+      spent = λ _. (CanStand-spent c.args.state.now stands.can, refl);
     }

@@ -9,7 +9,8 @@ use Rattle.nf_filter.specs.Devices.{SinkState}
 use Rattle.nf_filter.specs.Filter.{rows_of, state_of, base_of, StandsAfter}
 use Rattle.nf_filter.specs.Finishes.{Finishes}
 use Rattle.nf_filter.proofs.DriveLemmas.{Drives-refused, Drives-finished}
-use Rattle.nf_filter.proofs.AgainLemmas.{drives_once}
+use Rattle.nf_filter.proofs.AgainLemmas.{drives_to_end, drives_once}
+use Rattle.nf_filter.proofs.JoinedLemmas.{joins_pieces}
 use Rattle.nf_filter.proofs.driving.drive_buffered.Goals as goal
 
 -- the rows and the base do not change
@@ -34,3 +35,9 @@ returns-clause-drives g c = λ policy f bytes stands.
 pub returns-clause-again : goal.returns-clause-again
 returns-clause-again g c = λ policy f bytes stands once.
     drives_once c.what_was_finished_stays.ensures _ policy f _ _ bytes _ _ _ _ c.finish.result once c.in_default.ensures.end (returns-clause-drives g c policy f bytes stands)
+
+pub returns-clause-joined : goal.returns-clause-joined
+returns-clause-joined g c = λ policy f bytes stands.
+    let p = g.R.Rows.properties (rows_of c.args.filter) in
+    let base = base_of (state_of c.args.filter) in
+    drives_to_end _ policy f p base bytes _ _ _ _ c.finish.result (λ all tally none end. joins_pieces p base all tally policy f none end) c.in_default.ensures.end (returns-clause-drives g c policy f bytes stands)

@@ -1,7 +1,27 @@
-use Rattle.nf_lines.proofs.Common.{◌∙◌, [], length, take, Ok, Err, refl, sym, subst, arith, rules, append-nil, length-take, eq-eqb, ne_eqb, Consumes, ucd, as_is, bytes_of}
+use Rattle.nf_lines.proofs.Common.{◌≡◌, true, false, ◌∙◌, [], length, take, Ok, Err, Result, Fault, Read, IsOfFinishing, refl, sym, subst, arith, rules, append-nil, length-take, eq-eqb, ne_eqb, Consumes, ucd, as_is, bytes_of}
 use Rattle.std.proofs.KnownBytes.{Consumes-kept, Consumes-nil, Consumes-trans}
 use Rattle.nf_lines.proofs.DrivesLemmas.{HasLines-none, drives-stopped, drives-failed, drives-finished, not_long}
 use Rattle.nf_lines.proofs.driving.drive_lines.Goals as goal
+
+not_read_end : (fault : Fault) → IsOfFinishing fault → ¬ (◌≡◌ {A = Result (Unit {0}) Fault} (Err fault) (Err Read))
+not_read_end fault may e = let same : fault ≡ Read = cc in rw same at may
+
+pub returns-in-Err-feed_lines-clause-read : goal.returns-in-Err-feed_lines-clause-read
+returns-in-Err-feed_lines-clause-read g c =
+    let read = c.loop-given.invariant.read in
+    let feeds = c.in-Err-feed_lines.ensures.feeds _ read.0 read.2 in (
+      λ e. absurd (feeds.4.unread (let same : c.in-Err-feed_lines.fault ≡ Read = cc in same)),
+      λ failed. (let absent : true ≡ false = sym failed ∙ c.in-Ok.ensures.stands.1 in cc),
+    )
+
+pub returns-in-Ok-finish-clause-read : goal.returns-in-Ok-finish-clause-read
+returns-in-Ok-finish-clause-read g c = (λ e. cc, λ failed. (let absent : true ≡ false = sym failed ∙ c.in-Ok.ensures.stands.1 in cc))
+
+pub returns-in-Err-finish-clause-read : goal.returns-in-Err-finish-clause-read
+returns-in-Err-finish-clause-read g c = (
+  λ e. absurd (not_read_end c.in-Err-finish.fault c.in-Err-finish.ensures.faults e),
+  λ failed. (let absent : true ≡ false = sym failed ∙ c.in-Ok.ensures.stands.1 in cc),
+)
 
 pub loop-given-init : goal.loop-given-init
 loop-given-init g c = record {

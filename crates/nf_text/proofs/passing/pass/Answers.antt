@@ -1,5 +1,5 @@
 use Rattle.std.proofs.Common.{refl, rules}
-use Rattle.nf_text.proofs.WholeLemmas.{whole, faults}
+use Rattle.nf_text.proofs.WholeLemmas.{whole, faults, passes_from}
 use Rattle.nf_text.proofs.passing.pass.Goals as goal
 
 pub returns-clause-faults : goal.returns-clause-faults
@@ -19,3 +19,7 @@ returns-clause-again g c =
     let got = c.run-answer.ensures.again (c.each_form_changes_a_text_once.ensures c.args.form) in
     let written = rw c.new-sink.ensures.writer at got in
     search rules
+
+pub returns-clause-passes : goal.returns-clause-passes
+returns-clause-passes g c =
+    passes_from _ _ _ _ _ _ _ _ _ _ _ c.run-answer.ensures.drives c.run-answer.ensures.end (search rules) (search rules) (search rules) (search rules) (search rules) (search rules)

@@ -7,10 +7,10 @@ unfolding is_unchanged
 returns g c =
     let x = c.args.c ∷ [] in
     let is = c.encode_utf8-text.ensures.value ∙ sym (append-nil (encode_utf8 c.args.c)) in
-    let nfc = c.in_ok-nfc.ensures x x is is in
-    let nfd = c.in_ok-nfd.ensures x x is is in
-    let nfkc = c.in_ok-nfkc.ensures x x is is in
-    let nfkd = c.in_ok-nfkd.ensures x x is is in
+    let nfc = c.holds-nfc.ensures x x is is in
+    let nfd = c.holds-nfd.ensures x x is is in
+    let nfkc = c.holds-nfkc.ensures x x is is in
+    let nfkd = c.holds-nfkd.ensures x x is is in
     (λ i. ((nfc i && nfd i) && nfkc i) && nfkd i)
 
 pub returns-then-is_plain : goal.returns-then-is_plain

@@ -14,6 +14,7 @@ invariant-loop-come g l = record {
   base : base_of (state_of l.filter) ≡ 0;
   relayed : (come : List ℕ) × Consumes (g.C.Read.remaining l.fn.connection) (g.C.Read.remaining l.connection) come × StandsAfter as_is Nfc ucd (state_of l.filter) come
       × Puts (g.S.Sink.state l.fn.sink) (g.S.Sink.state l.sink) [] (settled_utf8 as_is Nfc ucd come);
+  lender : (g.S.Sink.state l.sink).lender ≡ (g.S.Sink.state l.fn.sink).lender;
 }
 
 abbrev pub decreases-loop-come : goal.decreases-loop-come

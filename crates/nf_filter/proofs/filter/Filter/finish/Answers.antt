@@ -1,4 +1,4 @@
-use Rattle.std.proofs.Common.{◌≡◌, ℕ, ◌-◌, Bool, List, [], sym, subst, arith}
+use Rattle.std.proofs.Common.{◌≡◌, ℕ, ◌-◌, Bool, List, [], None, sym, subst, arith}
 use Rattle.nf_forms.specs.Properties.{Properties}
 use Rattle.nf_forms.specs.declared.form.Form.{Form}
 use Rattle.nf_filter.specs.declared.filter.State.{State}
@@ -7,10 +7,12 @@ use Rattle.nf_filter.specs.declared.policy.Policy.{Policy}
 use Rattle.nf_filter.specs.declared.tally.Tally.{Tally}
 use Rattle.nf_filter.specs.Feeding.{HasReadTo}
 use Rattle.nf_filter.specs.Filter.{base_of, offset_of, StandsAfter}
+use Rattle.nf_filter.specs.Faults.{fault_in}
 use Rattle.nf_filter.specs.Finishes.{tally_of}
 use Rattle.nf_filter.specs.Normalizer.{HasTaken}
 use Rattle.nf_filter.specs.Policy.{whole_under}
 use Rattle.nf_filter.proofs.FilterLemmas.{StandsAfter-offset}
+use Rattle.nf_filter.proofs.JoinedLemmas.{joins_pieces}
 use Rattle.nf_filter.proofs.FinishLemmas.{Finishes-whole, Finishes-broken}
 use Rattle.nf_filter.proofs.filter.Filter.finish.Goals as goal
 
@@ -54,3 +56,11 @@ returns-in-Ok-clause-again g c = λ policy f bytes stands once.
     let state = c.args.self.state in
     let closes = c.in_default.ensures.closes f state.base bytes (read_before policy f p state bytes stands) in
     rw (← stands.policy_is) (c.what_was_finished_stays.ensures state.policy f p state.base bytes (tally_of state.policy.replace p bytes) once closes.2)
+
+pub returns-in-Ok-clause-joined : goal.returns-in-Ok-clause-joined
+returns-in-Ok-clause-joined g c = λ policy f bytes stands.
+    let p = g.R.Rows.properties c.args.self.rows.now in
+    let state = c.args.self.state in
+    let closes = c.in_default.ensures.closes f state.base bytes (read_before policy f p state bytes stands) in
+    let none = subst (λ (q : Policy). fault_in q p state.base bytes ≡ None) (sym stands.policy_is) stands.no_fault in
+    rw (← stands.policy_is) (joins_pieces p state.base bytes (tally_of state.policy.replace p bytes) state.policy f none closes.2)

@@ -1,11 +1,24 @@
-use Rattle.std.proofs.Common.{◌≤◌, subst, rules}
+use Rattle.std.proofs.Common.{◌≡◌, ◌+◌, ◌≤◌, length, subst, ap, arith, rules, encode_utf8_all, length-append}
 use Rattle.nf_forms.specs.StreamSafe.{max_run}
+use Rattle.nf_utf8.specs.Reading.{text_of, rest_of}
+use Rattle.nf_filter.specs.Filter.{rows_of}
 use Rattle.nf_filter.specs.Saved.{saved_of, IsRestorable}
-use Rattle.nf_filter.proofs.SavedLemmas.{always_possible}
+use Rattle.nf_filter.proofs.SavedLemmas.{IsRestorable-spent, IsRestorable-stands}
 use Rattle.nf_filter.proofs.filter.Filter.save.Goals as goal
 
-pub returns-clause-restorable : goal.returns-clause-restorable
-returns-clause-restorable g c =
+pub returns-clause-spent : goal.returns-clause-spent
+returns-clause-spent g c = λ spent.
     let state = c.args.self.now.state in
-    let whole : IsRestorable (saved_of state) = record { held = c.held-len.ensures.part; count = subst (λ n. n ≤ max_run) c.count.ensures.value c.count.ensures.bound; possible = always_possible state } in
+    let p = g.R.Rows.properties (rows_of c.args.self.now) in
+    let whole : IsRestorable p (saved_of state) = IsRestorable-spent p state c.held-len.ensures.part (subst (λ n. n ≤ max_run) c.count.ensures.value c.count.ensures.bound) spent in
+    search rules
+
+pub returns-clause-restorable : goal.returns-clause-restorable
+returns-clause-restorable g c = λ policy f bytes stands.
+    let state = c.args.self.now.state in
+    let p = g.R.Rows.properties (rows_of c.args.self.now) in
+    let tail = stands.reading.tail in
+    let begun : length (encode_utf8_all (text_of tail)) + length state.reading.decoder ≡ length tail =
+    omega (arith, ap length (c.split.ensures.split tail), length-append (encode_utf8_all (text_of tail)) (rest_of tail), ap length stands.reading.decoder.rest) in
+    let whole : IsRestorable p (saved_of state) = IsRestorable-stands c.replacing.ensures stands c.held-len.ensures.part (subst (λ n. n ≤ max_run) c.count.ensures.value c.count.ensures.bound) begun in
     search rules

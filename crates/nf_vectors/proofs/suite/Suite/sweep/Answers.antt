@@ -36,7 +36,7 @@ loop-code-preserved-then-unchanged g c =
     let code = c.loop-code.code in
     let listed = listed_is rows code c.as_slice-is_listed-items.result.now _ c.loop-code-test.true c.as_slice-is_listed-items.ensures.value c.in-Ok.ensures.size c.in-Ok.ensures.listed false c.if-is_listed.false in
     sweep-fine p rows code c.loop-code.sweep c.loop-code.invariant (and_from _ _ (scalar_in code c.in-Some.ensures.cases) (ap not listed))
-    (ap (is_unchanged p) (sym c.in-Some.ensures.value.1) ∙ sym c.in_ok-unchanged.ensures ∙ c.if-unchanged.true)
+    (ap (is_unchanged p) (sym c.in-Some.ensures.value.1) ∙ sym c.is_unchanged-unchanged.ensures ∙ c.if-unchanged.true)
 
 pub loop-code-preserved : goal.loop-code-preserved
 loop-code-preserved g c =
@@ -48,7 +48,7 @@ loop-code-preserved g c =
     let first = c.or.ensures ∙ ap (λ n. option_or sweep.first (Some n)) c.in-Some.ensures.value.1 in
     (λ i. record { unlisted = sweep.unlisted + 1; failed = sweep.failed + 1; first = first i })
     ∙ sweep-failed p rows code sweep c.loop-code.invariant (and_from _ _ (scalar_in code c.in-Some.ensures.cases) (ap not listed))
-    (ap (is_unchanged p) (sym c.in-Some.ensures.value.1) ∙ sym c.in_ok-unchanged.ensures ∙ c.if-unchanged.false)
+    (ap (is_unchanged p) (sym c.in-Some.ensures.value.1) ∙ sym c.is_unchanged-unchanged.ensures ∙ c.if-unchanged.false)
 
 pub overflow_add-unlisted : goal.overflow_add-unlisted
 overflow_add-unlisted g c =

@@ -1,6 +1,6 @@
 use Rattle.nf_vectors.proofs.Common.{◌≡◌, drop, string_bytes, encode_utf8_all, Columns, each}
 use Rattle.nf_vectors.proofs.TableLemmas.{Decides}
-use Rattle.nf_vectors.proofs.check.broken_column.Given as goal
+use Rattle.nf_vectors.proofs.check.failure_in.Given as goal
 
 abbrev pub invariant-loop-column : goal.invariant-loop-column
 invariant-loop-column g l = (columns : Columns) → each l.encoded string_bytes ≡ each columns encode_utf8_all

@@ -1,0 +1,6 @@
+use Rattle.std.proofs.Common.{◌≡◌, drop}
+use Rattle.nf_filter.specs.Saved.{are_marks}
+use Rattle.nf_filter.proofs.saved.are_marks.Given as goal
+
+abbrev pub invariant-loop-mark : goal.invariant-loop-mark
+invariant-loop-mark g l = are_marks (g.R.Rows.properties l.rows) 1 l.marks ≡ are_marks (g.R.Rows.properties l.rows) l.least (drop l.mark-index l.marks)
