@@ -1,11 +1,142 @@
 #!/usr/bin/env bash
-# Runs the gate: every proof from nothing, the must-fail edits, the tests and the program. Its last line counts them.
+# Runs the gate: every proof from nothing, the must-fail edits, the tests and the program. Then, where what they need is there,
+# the tests of what stands outside the crates: the callers of examples/, refused memory, Python, Rust, the recipes and
+# install.sh. Each of these counts as one. The last line counts all.
 set -uo pipefail
 cd "$(dirname "$0")" || exit 2
-rt=$(command -v rt || true)
-[ -n "$rt" ] || rt=/opt/rattle/bin/rt
-if [ ! -x "$rt" ]; then
-    echo "test.sh: the command rt of the Rattle kit is missing: put its folder bin/ on PATH, or the kit at /opt/rattle" >&2
-    exit 2
+. tools/proving.sh
+find_rt
+most=1800 # seconds for what stands outside the crates, and half of that for each
+passed=0 failed=0 wrong=()
+child=''
+work=$(mktemp -d)
+chmod 755 "$work"
+trap '[ -z "$child" ] || kill "$child" 2> /dev/null; rm -rf "$work"' EXIT
+trap 'exit 130' INT TERM
+
+counted() { # counted STATUS NAME
+    if [ "$1" -eq 0 ]; then
+        passed=$((passed + 1))
+    else
+        failed=$((failed + 1))
+        wrong+=("$2")
+    fi
+}
+
+gate() {
+    local status last
+    "$rt" ci 2>&1 < /dev/null | tee "$work/gate"
+    status=${PIPESTATUS[0]}
+    last=$(tail -n 1 "$work/gate")
+    if [[ $last =~ ^([0-9]+)\ passed,\ ([0-9]+)\ failed$ ]]; then
+        passed=${BASH_REMATCH[1]} failed=${BASH_REMATCH[2]}
+        [ "$failed" -eq 0 ] || wrong+=("the gate")
+    fi
+    [ "$status" -eq 0 ] || [ "$failed" -gt 0 ] || counted 1 "the gate"
+    rm -f "$work/gate"
+}
+
+# Runs a command for as long as it may, and counts it. Where it fails the end of what it said is shown; with status 77 it is
+# left out, since something is not there.
+try() { # try NAME COMMAND..
+    local name=$1 left=$((deadline - SECONDS)) began=$SECONDS status
+    shift
+    [ "$left" -lt $((most / 2)) ] || left=$((most / 2))
+    if [ "$left" -le 0 ]; then
+        echo "$name: FAILED: the $most seconds for these tests are over"
+        counted 1 "$name"
+        return
+    fi
+    timeout -k 5 "$left" "$@" > "$work/said" 2>&1 < /dev/null &
+    child=$!
+    wait "$child"
+    status=$?
+    child=''
+    if [ "$status" -eq 77 ]; then
+        left_out "$name" "$(tail -n 1 "$work/said")"
+        return
+    fi
+    if [ "$status" -eq 0 ]; then
+        echo "$name: passed in $((SECONDS - began)) s"
+    else
+        echo "$name: FAILED with status $status after $((SECONDS - began)) s; the end of what it said:"
+        tail -n 40 "$work/said"
+    fi
+    counted "$status" "$name"
+}
+
+left_out() { echo "$1: left out: $2"; }
+
+has() { # has COMMAND..
+    local it
+    for it; do PATH=$PATH:/usr/sbin command -v "$it" > /dev/null || { lacks=$it; return 1; }; done
+}
+
+# As root, what must not be root runs as nobody.
+drop=()
+[ "$(id -u)" != 0 ] || drop=(setpriv --reuid=65534 --regid=65534 --clear-groups env "HOME=$work")
+
+gate
+program=crates/nfstream/out/nfstream
+if [ -x "$program" ] && install -m 755 "$program" "$work/nfstream"; then
+    program=$work/nfstream
+else
+    program=
 fi
-exec "$rt" ci
+echo "the library for C, for the tests outside the crates:"
+if timeout -k 5 5400 bash build.sh --library "$work" < /dev/null; then library=1; else library=; fi
+[ -n "$library" ] || counted 1 "build.sh --library"
+deadline=$((SECONDS + most))
+
+if [ -n "$library" ] && has cc && make_shared "$work/libnfstream.a" "$work/libnfstream.so.1"; then shared=1; else shared=; fi
+if [ -z "$library" ]; then
+    for it in examples/run.sh python rust install.sh; do left_out "$it" "the library was not built"; done
+else
+    if has gcc python3; then try examples/run.sh bash examples/run.sh $program; else left_out examples/run.sh "no $lacks"; fi
+    if [ -z "$shared" ]; then
+        left_out python "there is no C compiler to make the shared library"
+    elif has python3; then
+        try python env -C python PYTHONDONTWRITEBYTECODE=1 "NFSTREAM_LIBRARY=$work/libnfstream.so.1" python3 -m unittest
+    else
+        left_out python "no python3"
+    fi
+    if has cargo rustc cc; then
+        cp -r rust "$work/rust" && rm -f "$work/rust/Cargo.lock"
+        try rust env -C "$work/rust" "NFSTREAM_DIR=$work" "CARGO_TARGET_DIR=$work/target" cargo test --offline
+    else
+        left_out rust "no $lacks"
+    fi
+    if [ -z "$program" ]; then
+        left_out install.sh "the gate left no program"
+    elif has cc pkg-config; then
+        try install.sh bash tools/try_install.sh
+    else
+        left_out install.sh "no $lacks"
+    fi
+fi
+if [ -z "$program" ]; then
+    for it in bench/growths.sh docs/commands.py recipes/*.sh; do left_out "$it" "the gate left no program"; done
+else
+    if has cc; then try bench/growths.sh bash bench/growths.sh "$program"; else left_out bench/growths.sh "no cc"; fi
+    if has python3; then try docs/commands.py python3 docs/commands.py "$program"; else left_out docs/commands.py "no $lacks"; fi
+    cp -r recipes "$work/recipes"
+    for it in recipes/*.sh; do
+        says='' # a text that what it prints has to have
+        case $it in
+            */postgresql.sh)
+                needs=(setpriv) says="rows that are in NFC as they are kept  4"
+                [ -d /usr/lib/postgresql ] || needs=(postgresql) ;;
+            */rsyslog.sh) needs=(rsyslogd logger xxd setpriv) says="2075 7365 7220 6162 efbf bd28 206c 6f67" ;;
+            *) needs=(setpriv) says= ;;
+        esac
+        if has "${needs[@]}"; then
+            try "$it" "${drop[@]}" bash -c 'said=$(bash "$1" "$2") || exit; echo "$said"; [[ $said == *"$3"* ]]' \
+                sh "$work/$it" "$program" "$says"
+        else
+            left_out "$it" "no $lacks"
+        fi
+    done
+fi
+[ "${#wrong[@]}" -eq 0 ] || echo "FAILED: $(printf '%s; ' "${wrong[@]}" | sed 's/; $//')"
+echo "$passed passed, $failed failed"
+[ "$failed" -eq 0 ]
