@@ -22,7 +22,7 @@ logger -u "$folder/socket" "user $(printf 'ab\303(') logged in"
 logger -u "$folder/socket" "user $(printf 'Vie\314\202\314\243t') logged in"
 logger -u "$folder/socket" "user $(printf 'q'; for _ in $(seq 40); do printf '\314\201'; done) logged in"
 sleep 1
-echo "behind three messages:"
+echo "after three messages:"
 xxd "$folder/nfc.log"
 kill "$(cat "$folder/pid")"
 wait
