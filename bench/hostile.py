@@ -25,7 +25,7 @@ BAR = 0.25
 
 @dataclass
 class Hostile:
-    """What is said of it, its front, what stands behind that again and again, and the real text that is its friend."""
+    """What is said of it, its front, what stands after that again and again, and the real text that is its friend."""
 
     title: str
     front: bytes

@@ -1,5 +1,5 @@
 // ICU beside nfstream: `icu FORM` writes the form of standard input (nfc, nfd, nfkc, nfkd); `icu --version` names the library.
-// A block is normalized up to its last boundary of the form; what stands behind that waits for the next block.
+// A block is normalized up to its last boundary of the form; what stands after that waits for the next block.
 #include <unicode/bytestream.h>
 #include <unicode/normalizer2.h>
 #include <unicode/utf8.h>
@@ -69,7 +69,7 @@ class Output : public icu::ByteSink {
     int32_t used_ = 0;
 };
 
-// The last place behind `from` in text[0, end) at which the form can be cut; 0 where there is none.
+// The last place after `from` in text[0, end) at which the form can be cut; 0 where there is none.
 int32_t last_boundary(const icu::Normalizer2 &form, const char *text, int32_t from, int32_t end) {
     for (int32_t at = end; at > from;) {
         UChar32 c;

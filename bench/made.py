@@ -1,6 +1,6 @@
 """Texts made by chance from a fixed seed: characters of all kinds, and what costs a normalizer most.
 
-Each begins with a starter, and ends with one but for the long runs, so that it can stand behind itself.
+Each begins with a starter, and ends with one but for the long runs, so that it can stand after itself.
 """
 
 import re
@@ -142,15 +142,15 @@ def made(word: str, size: int) -> str:
 
 
 def marked(text: str, letters: str, first: str, last: str) -> str:
-    """The text with a mark by chance, of those from `first` to `last`, behind two of three of its letters; at times two."""
+    """The text with a mark by chance, of those from `first` to `last`, after two of three of its letters; at times two."""
     random = Random(SEED)
     marks = [chr(code) for code in range(ord(first), ord(last) + 1)]
 
-    def behind(letter: re.Match) -> str:
+    def after(letter: re.Match) -> str:
         count = random.choices((0, 1, 2), (6, 11, 1))[0]
         return letter[0] + "".join(random.sample(marks, count))
 
-    return re.sub(f"[{letters}]", behind, text)
+    return re.sub(f"[{letters}]", after, text)
 
 
 def shuffled(texts: list[str]) -> str:

@@ -1,7 +1,7 @@
 #!/usr/bin/env bash
 # Builds the examples over the library and runs them: bash examples/run.sh [PROGRAM]. Where a program nfstream is named, the
-# C filter's output is compared with the program's. Needs gcc and python3; the filters in Rust and Go are left out where there
-# is no rustc, or no go.
+# C filter's output is compared with the program's. Needs gcc and python3; C++, and the filters in Rust and Go, are left out where
+# there is no g++, rustc or go, and that is said.
 set -euo pipefail
 cd "$(dirname "$0")/.."
 program=${1:-}
@@ -18,11 +18,22 @@ filters=(tiny whole)
 if command -v rustc > /dev/null; then
     rustc --edition 2021 -O -D warnings -L "$folder" -l static=nfstream examples/cat.rs -o "$folder/rust"
     filters+=(rust)
+else
+    echo "left out: the filter in Rust: no rustc"
 fi
 if command -v go > /dev/null; then
     CGO_CFLAGS="-O2 -I$folder" CGO_LDFLAGS="$folder/libnfstream.a" GOCACHE="$folder/cache" GO111MODULE=off \
         go build -o "$folder/go" examples/cat.go
     filters+=(go)
+else
+    echo "left out: the filter in Go: no go"
+fi
+if command -v g++ > /dev/null; then
+    for standard in c++98 c++17; do
+        g++ -std=$standard -O2 -Wall -Wextra -pedantic -Werror -I"$folder" -x c++ -include nfstream.h -c /dev/null -o "$folder/header.o"
+    done
+else
+    echo "left out: the header in C++: no g++"
 fi
 "$folder/small"
 python3 examples/state.py "$folder/libnfstream.so"

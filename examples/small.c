@@ -166,7 +166,7 @@ int main(void) {
   must(nf_convert(NF_NFC, NF_AS_IS, (const uint8_t *)"ab\xc3", 3, got, sizeof got, &moved) == NF_CUT && moved.at == 3 && moved.start == 2, "convert a cut");
   must(nf_convert(NF_NFC, NF_REPLACE, (const uint8_t *)"\xff", 1, got, sizeof got, &moved) == NF_DONE && moved.written == 3 && memcmp(got, "\xef\xbf\xbd", 3) == 0, "convert and replace");
   must(nf_convert(NF_NFC, NF_AS_IS, text, 0, got, 0, &moved) == NF_DONE && moved.written == 0, "convert nothing");
-  /* The 31st mark behind "plain Vi", e, two marks, "t q" stands at byte 16 + 2 * 30. */
+  /* The 31st mark after "plain Vi", e, two marks, "t q" stands at byte 16 + 2 * 30. */
   must(nf_check(text, len, &moved) == NF_UNSAFE && moved.at == 76 && moved.start == 76 && moved.read == 0 && moved.written == 0, "unsafe");
   must(nf_check(text, 76, &moved) == NF_DONE && moved.read == 76, "safe");
   must(nf_check((const uint8_t *)"ab\xff", 3, &moved) == NF_BAD_BYTE && moved.at == 2, "check a bad byte");

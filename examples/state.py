@@ -92,7 +92,7 @@ def main():
             assert not due or library.nf_convert(number, 0, data, len(data), room, len(due) - 1, moved) == FULL
             assert library.nf_check(data, len(data), moved) == DONE
             checked += 1
-    # A state of random bytes is refused, also behind the words that mark a state: nothing else happens.
+    # A state of random bytes is refused, also after the words that mark a state: nothing else happens.
     fresh, refused = State(), 0
     assert library.nf_start(fresh, 1, 0, 0) == DONE and fresh.unicode == library.nf_unicode_version()
     for _ in range(20000):

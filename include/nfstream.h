@@ -6,7 +6,7 @@
  * What the caller owes: each pointer is valid for its length, and with length 0 it may be NULL; `state`, `in`, `out` and `moved`
  * of a call do not overlap, not even by a byte, and no other thread writes to them while the call runs. Else the behaviour is
  * undefined, as a call in place or an input that changes is: a text is looked at once to see that it is well-formed, and what
- * is done with it afterwards relies on that, so it may read behind its end. No call fails for anything else: numbers that mean
+ * is done with it afterwards relies on that, so it may read past its end. No call fails for anything else: numbers that mean
  * nothing, and memory that holds no state, are refused by a status.
  *
  * The library runs on x86-64 with SSSE3, SSE4.1 and POPCNT (all of x86-64-v2 has them), and looks for none of them. This header
@@ -62,7 +62,7 @@ struct nf_state {
   uint64_t chars;     /* the characters taken */
   uint64_t put;       /* how many U+034F were put */
   uint32_t starter;   /* what is not settled: a starter, or 2^32 - 1 for none, */
-  uint32_t marks[30]; /* and the marks behind it: class times 2^21, and the code point */
+  uint32_t marks[30]; /* and the marks after it: class times 2^21, and the code point */
   uint8_t held[3];    /* the bytes of a begun character */
   uint8_t held_len;
   uint8_t marks_len;
@@ -72,7 +72,7 @@ struct nf_state {
   uint8_t spent;
 };
 
-/* What a call read and wrote, and the place of a fault, in bytes from the base. Behind the first `written` bytes of `out` a
+/* What a call read and wrote, and the place of a fault, in bytes from the base. After the first `written` bytes of `out` a
  * call may leave anything: what found no room was tried there. */
 struct nf_moved {
   size_t read;
@@ -93,7 +93,7 @@ struct nf_moved {
 uint32_t nf_start(struct nf_state *state, uint32_t form, uint32_t policy, uint64_t base);
 
 /* Reads `in` as far as there is room, and writes what that settles of the form to the front of `out`. What is written after
- * NF_DONE and NF_FULL is the settled part of what was read, no more and no less, and the state stands behind that. At
+ * NF_DONE and NF_FULL is the settled part of what was read, no more and no less, and the state stands after that. At
  * NF_BAD_BYTE and NF_UNASSIGNED what is settled before the place was written, and the state is spent: `read` is then the number
  * of bytes of `in` before `at`, and 0 where the character at `at` began in an earlier call. */
 uint32_t nf_feed(struct nf_state *state, const uint8_t *in, size_t in_len, uint8_t *out, size_t out_len,

@@ -28,7 +28,7 @@ def _replaces(errors: str, name: str) -> bool:
 
 
 class _Decoder(codecs.IncrementalDecoder):
-    """Reads in bounded memory. What may be cut off behind a line feed is: so a line comes out whole.
+    """Reads in bounded memory. What may be cut off after a line feed is: so a line comes out whole.
 
     A state is a place in the bytes, and a number: how many non-starters stand before the place, and how many bytes of what
     comes from there have been given. That a filter which begins there goes on as this one does is looked at for each state
@@ -42,7 +42,7 @@ class _Decoder(codecs.IncrementalDecoder):
         super().__init__(errors)
         self._replace = _replaces(errors, self.name)
         self._room = c.Room(16 * _TAIL)
-        self._behind: dict[int, tuple[bytes, int]] = {}
+        self._after: dict[int, tuple[bytes, int]] = {}
         self._calls = _Calls(self.name)
         self._begin(0, 0)
 
@@ -51,15 +51,15 @@ class _Decoder(codecs.IncrementalDecoder):
         self._begin(0, 0)
 
     def _begin(self, count: int, cut: int) -> None:
-        """Stands behind so many non-starters, of whose text nothing is to come, nor the first `cut` bytes."""
+        """Stands after so many non-starters, of whose text nothing is to come, nor the first `cut` bytes."""
         self._begun = cut << 5 | count
-        self._filter, before = self._filter_behind(count)
+        self._filter, before = self._filter_after(count)
         self._cut = before + cut
         self._tail = b""  # the last bytes that were read
         self._written = False  # whether something came out since
 
-    def _filter_behind(self, count: int) -> tuple[Filter, int]:
-        """A filter behind so many non-starters, and how many bytes of what it will write are theirs."""
+    def _filter_after(self, count: int) -> tuple[Filter, int]:
+        """A filter after so many non-starters, and how many bytes of what it will write are theirs."""
         filter = Filter(self.form, replace=self._replace)
         if not count:
             return filter, 0
@@ -109,11 +109,11 @@ class _Decoder(codecs.IncrementalDecoder):
         return b"", _NOWHERE
 
     def _try(self, count: int, tail: bytes) -> tuple[tuple[bytes, bytes, int], int]:
-        """How a filter stands that reads the tail behind so many non-starters, and how much it gives of the tail."""
-        if count not in self._behind:
-            filter, before = self._filter_behind(count)
-            self._behind[count] = bytes(filter._state), before
-        begin, before = self._behind[count]
+        """How a filter stands that reads the tail after so many non-starters, and how much it gives of the tail."""
+        if count not in self._after:
+            filter, before = self._filter_after(count)
+            self._after[count] = bytes(filter._state), before
+        begin, before = self._after[count]
         state, moved = c.State.from_buffer_copy(begin), c.Moved()
         c.library.nf_feed(state, tail, len(tail), self._room.address, self._room.size, moved)
         return _standing(bytes(state)), moved.written - before
@@ -142,17 +142,17 @@ def _standing(state: bytes) -> tuple[bytes, bytes, int]:
 
 
 class _Calls:
-    """Tells a `tell` that comes behind a `seek`, with nothing read between, by the order of the calls, and refuses it.
+    """Tells a `tell` that comes after a `seek`, with nothing read between, by the order of the calls, and refuses it.
 
-    There CPython measures by the text that it read before the seek, and may look behind the end of its own bytes. A `tell`
+    There CPython measures by the text that it read before the seek, and may look past the end of its own bytes. A `tell`
     gets the state and then sets others, to try them, until it sets that again; a `seek` sets one, and may decode a few bytes
-    behind it; a read gets the state and then decodes.
+    after it; a read gets the state and then decodes.
     """
 
     def __init__(self, name: str) -> None:
         self._name = name
         self._last = "decode"
-        self._mode = "reading"  # or "trying", in a tell; or "sought", behind a seek that has decoded
+        self._mode = "reading"  # or "trying", in a tell; or "sought", after a seek that has decoded
 
     def sees_get(self) -> None:
         if self._last == "set" and self._mode == "trying":
@@ -170,7 +170,7 @@ class _Calls:
         last, self._last = self._last, "set"
         if last == "get" and self._mode == "sought":
             self._last = "refused"
-            raise io.UnsupportedOperation(f"{self._name}: tell() right behind seek() is refused: read on first")
+            raise io.UnsupportedOperation(f"{self._name}: tell() right after seek() is refused: read on first")
         if last == "get" and self._mode == "reading":
             self._mode = "trying"
         elif last in ("set", "decode") and self._mode in ("trying", "sought"):

@@ -17,7 +17,7 @@ class IllFormedError(NfstreamError, UnicodeDecodeError):
     """Ill-formed UTF-8, or a text that ends within a character.
 
     `encoding`, `object`, `start`, `end` and `reason` are those that `bytes.decode` gives: `object[start:end]` is the
-    ill-formed part, in bytes. In a filter `object` is what was held of a begun character and the piece behind it, and
+    ill-formed part, in bytes. In a filter `object` is what was held of a begun character and the piece after it, and
     `offset` is that of the part in the whole text.
     """
 

@@ -31,7 +31,7 @@ def policy_number(replace: bool, assigned: bool) -> int:
 class Filter:
     """A text that comes in pieces, made stream-safe and brought into a normalization form.
 
-    What the calls of `feed` and that of `finish` give, one behind the other, is the form of the whole text, however it was
+    What the calls of `feed` and that of `finish` give, one after the other, is the form of the whole text, however it was
     cut. A filter holds at most 31 characters and 3 bytes of a begun one, whatever it reads, and nothing grows with the text.
 
     `form` is "nfc", "nfd", "nfkc" or "nfkd", in either case. With `replace` each ill-formed part is read as U+FFFD. With

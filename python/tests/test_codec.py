@@ -116,7 +116,7 @@ class Errors(unittest.TestCase):
                 self.assertEqual(got.object[got.start : got.end], data[wanted.start : wanted.end])
                 self.assertEqual(got.reason, wanted.reason)
 
-    def test_nothing_comes_behind_a_fault(self) -> None:
+    def test_nothing_comes_after_a_fault(self) -> None:
         file = reader(b"ab\n" + b"\xff" + b"c\n" * 9000)
         with self.assertRaises(UnicodeDecodeError):
             file.readline()

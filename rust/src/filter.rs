@@ -19,7 +19,7 @@ pub enum Form {
     Nfkd = 4,
 }
 
-/// What is made of what is no proper text.
+/// What becomes of ill-formed bytes and of unassigned characters.
 #[derive(Clone, Copy, Debug, Default, PartialEq, Eq, Hash)]
 pub struct Policy {
     /// Each maximal subpart of ill-formed bytes, and a character that the end cuts, is read as one U+FFFD.
@@ -39,13 +39,13 @@ impl Policy {
 pub struct Moved {
     /// How many bytes of the input were read.
     pub read: usize,
-    /// How many bytes were written to the front of the output. Behind them it may hold anything.
+    /// How many bytes were written to the front of the output. After them it may hold anything.
     pub written: usize,
     /// Whether the output was too small: go on with what was not read, and other room.
     pub is_full: bool,
 }
 
-/// A text that comes in pieces: what the calls write, one behind the other, is the form of the whole, however it was cut.
+/// A text that comes in pieces: what the calls write, one after the other, is the form of the whole, however it was cut.
 ///
 /// A clone goes on by itself.
 #[derive(Clone)]
@@ -123,7 +123,7 @@ impl Filter {
 
     /// The state as bytes, to be kept on this machine.
     pub fn to_bytes(&self) -> [u8; STATE_LEN] {
-        // SAFETY: the state is plain numbers with no unnamed bytes between or behind them.
+        // SAFETY: the state is plain numbers with no unnamed bytes between or after them.
         unsafe { std::mem::transmute(self.state) }
     }
 
@@ -153,7 +153,7 @@ fn answer(status: u32, moved: &sys::Moved) -> Result<Moved, Fault> {
     }
 }
 
-/// Appends to the vector what the call writes to `room` bytes behind it.
+/// Appends to the vector what the call writes to `room` bytes after it.
 pub(crate) fn append(
     out: &mut Vec<u8>,
     room: usize,

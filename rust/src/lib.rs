@@ -32,3 +32,8 @@ pub use writer::Writer;
 
 /// Room in which a call always gets on by a byte at least, and in which the end always fits, in bytes.
 pub const LEAST_ROOM: usize = 256;
+
+/// What README.md shows, as tests.
+#[cfg(doctest)]
+#[doc = include_str!("../README.md")]
+struct Readme;

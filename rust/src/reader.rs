@@ -5,7 +5,7 @@ use std::io::{self, Read};
 
 /// Reads another reader's text in its form. `N` is how many bytes are asked of that at once.
 ///
-/// A text that is refused ends in an error of the kind `InvalidData` that holds an [`Error`], behind all that had settled
+/// A text that is refused ends in an error of the kind `InvalidData` that holds an [`Error`], after all that had settled
 /// before the fault; each later read answers that again. An error of the other reader loses nothing: read again.
 #[derive(Debug)]
 pub struct Reader<R, const N: usize = 8192> {

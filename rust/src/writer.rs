@@ -6,7 +6,7 @@ use std::io::{self, Write};
 ///
 /// The text's end has to be told by [`Writer::finish`]: else what had not settled is lost. Where the other writer fails,
 /// nothing is lost: what is due goes first at the next call. A text that is refused gives an error of the kind `InvalidData`
-/// that holds an [`Error`], behind all that had settled before the fault.
+/// that holds an [`Error`], after all that had settled before the fault.
 #[derive(Debug)]
 pub struct Writer<W: Write, const N: usize = 8192> {
     inner: W,

@@ -93,7 +93,7 @@ fn the_reader_reads_the_form() {
 }
 
 #[test]
-fn the_reader_tells_a_fault_behind_what_had_settled() {
+fn the_reader_tells_a_fault_after_what_had_settled() {
     for (data, error) in [
         (&b"abc\xff tail"[..], Error::IllFormed { at: 3, start: 3 }),
         (b"abc\xe2\x82", Error::Cut { at: 5, start: 3 }),
@@ -160,7 +160,7 @@ fn a_flush_writes_what_has_settled() {
 }
 
 #[test]
-fn the_writer_tells_a_fault_behind_what_had_settled() {
+fn the_writer_tells_a_fault_after_what_had_settled() {
     let mut writer = Writer::new(Vec::new(), Filter::new(Form::Nfc));
     let fault = writer.write_all(b"abc\xff tail").unwrap_err();
     assert_eq!(fault.kind(), ErrorKind::InvalidData);

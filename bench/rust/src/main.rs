@@ -49,7 +49,7 @@ impl<R: Read> Iterator for Characters<R> {
     }
 }
 
-/// The text that the bytes begin with, and how many bytes of a cut character are behind it.
+/// The text that the bytes begin with, and how many bytes of a cut character are after it.
 fn whole(bytes: &[u8]) -> io::Result<(&str, usize)> {
     let invalid = |error| Error::new(ErrorKind::InvalidData, error);
     match std::str::from_utf8(bytes) {
