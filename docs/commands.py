@@ -3,7 +3,7 @@
 
     python3 docs/commands.py PROGRAM
 
-A block of commands begins with `$ `; what stands behind a command, up to the next, is what it must print, on the output
+A block of commands begins with `$ `; what stands after a command, up to the next, is what it must print, on the output
 and on standard error together. A command that goes on over lines is taken whole. The blocks of one document run in its own
 folder, one after another, with the files that `prepare` puts there. A comment before a block (`<!-- .. -->`, in the manual
 `.\\" ..`) says what is not run: `left out: WHY`; `needs: WORD ..`, programs or files that must be there, or else the block is
@@ -14,7 +14,7 @@ import os, re, shutil, signal, subprocess, sys, tempfile
 
 ROOT = os.path.dirname(os.path.dirname(os.path.abspath(__file__)))
 MARK = "\x01command "
-SECONDS = 60
+SECONDS = 300
 PATH = os.environ["PATH"] + ":/usr/sbin:/sbin"
 
 
@@ -83,10 +83,8 @@ def of_manual(name):
 
 def prepare(program, folder):
     """The files that the documents' commands take as there."""
-    os.symlink(program, os.path.join(folder, "nfstream"))
-    for name in ("recipes", "examples", "python"):
-        if os.path.exists(os.path.join(ROOT, name)):
-            os.symlink(os.path.join(ROOT, name), os.path.join(folder, name))
+    shutil.copy(program, os.path.join(folder, "nfstream"))
+    shutil.copytree(os.path.join(ROOT, "recipes"), os.path.join(folder, "recipes"))
     line = "Vie\u0302\u0323t Nam\n".encode()
     marks = b"q" + "\u0301".encode() * 40 + b"\n"
     os.mkdir(os.path.join(folder, "texts"))

@@ -3,8 +3,8 @@
 # workers, and where a worker is killed in the middle of a part; then what it tells of a fault. The scheduler and its workers
 # are processes of this machine, which talk over TCP. Needs Debian's package python3-distributed; ends with status 77 without it.
 set -euo pipefail
+program=$(realpath -e "${1:?which nfstream?}")
 cd "$(dirname "$0")"
-program=$(realpath "${1:?which nfstream?}")
 python=/usr/bin/python3
 "$python" -c 'import distributed' 2> /dev/null || { echo "dask.sh: Debian's package python3-distributed is missing" >&2; exit 77; }
 folder=$(mktemp -d)
