@@ -3,7 +3,7 @@
 # and its file for pkg-config: bash install.sh [--prefix /usr/local]. What is not built is built. DESTDIR goes before each
 # path, as packagers expect.
 # bash install.sh --uninstall [--prefix /usr/local] takes these files away.
-# bash install.sh --deb [FOLDER] leaves a Debian package of them there, or in this folder.
+# bash install.sh --deb [FOLDER] leaves a Debian package of them, with the Python package, there, or in this folder.
 set -euo pipefail
 here=$PWD
 cd "$(dirname "$0")"
@@ -79,10 +79,11 @@ tell_loader() { # so that programs find the shared library
 }
 
 deb() {
-    local root=$stage/root version glibc
+    local root=$stage/root modules=/usr/lib/python3/dist-packages/nfstream version glibc
     prefix=/usr library=/usr/lib/x86_64-linux-gnu zsh=vendor-completions
     build
     put "$root"
+    install -D -m 644 -t "$root$modules" python/nfstream/*.py python/nfstream/py.typed
     gzip -9n "$root"/usr/share/man/man?/nfstream.?
     version=$(sed -n 's/^#define NF_VERSION //p' include/nfstream.h)
     glibc=$(objdump -T "$stage/nfstream" "$stage/libnfstream.so.1" | grep -o 'GLIBC_[0-9.]*' | sort -uV | tail -n 1)
@@ -93,15 +94,19 @@ Version: $version
 Architecture: amd64
 Maintainer: $(git log -1 --format='%an <%ae>' 2> /dev/null || echo 'nfstream <root@localhost>')
 Depends: libc6 (>= ${glibc#GLIBC_})
+Suggests: python3 (>= 3.9)
 Section: text
 Priority: optional
 Installed-Size: $(du -sk --exclude=DEBIAN "$root" | cut -f1)
 Description: stream-safe, normalized text of UTF-8 in bounded memory
  The program nfstream reads UTF-8, applies the Stream-Safe Text Process of
  Unicode (UAX #15, section 13) and a normalization form, and writes UTF-8 or
- says the exact place of the first fault. The library does so for C. Both run
- on x86-64 with SSSE3, SSE4.1 and POPCNT.
+ says the exact place of the first fault. The library does so for C, and the
+ module nfstream over it for Python. All run on x86-64 with SSSE3, SSE4.1 and
+ POPCNT.
 END
+    printf '%s\n' '#!/bin/sh' '# Takes away what Python made of the modules.' "rm -rf \"\$DPKG_ROOT$modules/__pycache__\"" > "$root/DEBIAN/prerm"
+    chmod 755 "$root/DEBIAN/prerm"
     echo "activate-noawait ldconfig" > "$root/DEBIAN/triggers"
     (cd "$root" && find usr -type f -print0 | sort -z | xargs -0 md5sum > DEBIAN/md5sums)
     chmod -R u+rwX,go+rX,go-w "$root"

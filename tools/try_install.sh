@@ -123,10 +123,13 @@ bash install.sh --deb "$work"
 dpkg-deb -f "$work"/nfstream_*.deb Depends | grep -q '^libc6 (>= 2\.'
 mkdir -p "$work/other/var/lib/dpkg"
 touch "$work/other/var/lib/dpkg/status"
-at_other() { PATH=$PATH:/usr/sbin:/sbin dpkg --root="$work/other" --force-not-root --force-depends "$@" > "$work/said" 2>&1 || wrong "$(cat "$work/said")"; }
+at_other() { PATH=$PATH:/usr/sbin:/sbin dpkg --root="$work/other" --force-not-root --force-script-chrootless --force-depends "$@" > "$work/said" 2>&1 || wrong "$(cat "$work/said")"; }
 at_other -i "$work"/nfstream_*.deb
 try_files "$work/other" /usr/bin /usr/lib/x86_64-linux-gnu /usr/include
 try_manuals "$work/other/usr/share/man"
+export NFSTREAM_LIBRARY="$work/other/usr/lib/x86_64-linux-gnu/libnfstream.so.1" LC_ALL=C.UTF-8
+shown '**Python**' > "$work/shown"
+(cd "$work" && PYTHONPATH=$work/other/usr/lib/python3/dist-packages python3 -m doctest shown)
 at_other -P nfstream
 [ -z "$(find "$work/other" -path '*/var' -prune -o -not -type d -print)" ] || wrong "files are left"
 echo "the Debian package: installed and gone again"
