@@ -65,12 +65,14 @@ offers() { # offers WORD..: what bash's completion offers for these words, of wh
     bash -c '. "$1"; shift; COMP_WORDS=("$@") COMP_CWORD=$(($# - 1)); _nfstream; printf "%s\n" "${COMPREPLY[@]}"' sh "$completion" "$@"
 }
 
+part() { awk -v head="$1:" '$0 == head { on = 1; next } !NF { on = 0 } on'; } # part NAME: of what --help prints
+
 try_completions() { # try_completions BASH ZSH
     local completion=$1 command
-    "$prefix/bin/nfstream" --help | awk '/^Commands:/ { on = 1; next } !NF { on = 0 } on { print $1 }' | grep -vx help | sort > "$work/wanted"
+    "$prefix/bin/nfstream" --help | part Commands | awk '{ print $1 }' | grep -vx help | sort > "$work/wanted"
     offers nfstream '' | grep -v '^-' | sort | cmp - "$work/wanted"
     for command in $(cat "$work/wanted"); do
-        "$prefix/bin/nfstream" "$command" --help | grep -o -- '^ .*--[a-z-]*' | grep -o -- '--[a-z-]*' | sort > "$work/options"
+        "$prefix/bin/nfstream" "$command" --help | part Options | grep -o '^.*--[a-z-]*' | grep -o -- '--[a-z-]*' | sort > "$work/options"
         offers nfstream "$command" -- | sort | cmp - "$work/options"
     done
     offers nfstream convert --form '' | paste -sd ' ' | grep -qx 'nfc nfd nfkc nfkd'
