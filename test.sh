@@ -74,11 +74,10 @@ has() { # has COMMAND..
 }
 
 gate
-program=crates/nfstream/out/nfstream
-if [ -x "$program" ] && install -m 755 "$program" "$work/nfstream"; then
-    program=$work/nfstream
-else
-    program=
+program=$work/nfstream
+if ! install -m 755 crates/nfstream/out/nfstream "$program" 2> /dev/null; then
+    echo "the program, which the gate did not leave:"
+    timeout -k 5 5400 bash build.sh "$work" < /dev/null || { counted 1 build.sh; program=; }
 fi
 echo "the library for C, for the tests outside the crates:"
 if timeout -k 5 5400 bash build.sh --library "$work" < /dev/null; then library=1; else library=; fi
@@ -104,7 +103,7 @@ else
         left_out rust "no $lacks"
     fi
     if [ -z "$program" ]; then
-        left_out install.sh "the gate left no program"
+        left_out install.sh "the program was not built"
     elif has cc pkg-config python3; then
         try install.sh bash tools/try_install.sh
     else
@@ -112,7 +111,7 @@ else
     fi
 fi
 if [ -z "$program" ]; then
-    for it in bench/growths.sh docs/commands.py; do left_out "$it" "the gate left no program"; done
+    for it in bench/growths.sh docs/commands.py; do left_out "$it" "the program was not built"; done
 else
     if has cc; then try bench/growths.sh bash bench/growths.sh "$program"; else left_out bench/growths.sh "no cc"; fi
     if has python3; then try docs/commands.py python3 docs/commands.py "$program"; else left_out docs/commands.py "no $lacks"; fi
