@@ -53,7 +53,7 @@ enum nf_status {
  * `chars` is 0; no starter, and chars + put above `marks_len`; a starter that the data gives a class other than 0; a mark of
  * class 0, of another class than the data gives it, or of a smaller one than the mark before it.
  * Whatever else is in a state is taken as it is: no call reads or writes elsewhere for it, but what is written may then be the
- * form of no text. So a state is to be trusted as far as the one who kept it. */
+ * form of no text, and what is told the truth of none. So a state is to be trusted as far as the one who kept it. */
 struct nf_state {
   uint32_t magic;     /* a word that marks a state of this layout, and that zeros do not have */
   uint32_t unicode;   /* nf_unicode_version() of the library that made it */
