@@ -4,16 +4,16 @@ use Rattle.nf_forms.specs.Properties.{Properties}
 use Rattle.nf_forms.specs.declared.form.Form.{Form}
 use Rattle.nf_filter.specs.declared.fault.Fault.{Fault}
 use Rattle.nf_filter.specs.declared.fault.Fault.TheVariants.{Row, Write as WriteFault, Unassigned}
-use Rattle.nf_filter.specs.declared.normalizer.Normalizer.{Normalizer}
+use Rattle.nf_filter.specs.declared.counted.Counted.{Counted}
 use Rattle.nf_filter.specs.Block.{Start, BlockState, Written}
 use Rattle.nf_filter.specs.Faults.{first_fault}
 use Rattle.nf_filter.specs.Feeding.{taken_utf8, TakesAllowed}
-use Rattle.nf_filter.specs.Normalizer.{HasTaken, TakesOn, settled_text, unusable_at, usable_utf8}
+use Rattle.nf_filter.specs.Counted.{HasTaken, TakesOn, settled_text, unusable_at, usable_utf8}
 use Rattle.nf_filter.specs.Policy.{allowed}
 use Rattle.nf_filter.specs.Settled.{is_usable, usable}
 use Rattle.nf_filter.proofs.BlockLemmas.{Written-at}
-use Rattle.nf_filter.proofs.PushingLemmas.{Broken-at, Broken-extends}
-use Rattle.nf_filter.proofs.SettledLemmas.{usable-all}
+use Rattle.nf_filter.proofs.BlockLemmas.{Broken-at, Broken-extends}
+use Rattle.nf_normalizer.specs.Laws.Settled.{usable-all}
 use Rattle.nf_filter.proofs.PolicyLemmas.{allowed-grows, first_fault-stays, taken-all, taken_utf8-grows}
 
 module _ (f : Form) (p : Properties) where
@@ -29,9 +29,9 @@ module _ (f : Form) (p : Properties) where
   unfolding usable_utf8
   written_is a x all = ap (λ l. settled_text f p (usable p l)) (sym all)
 
-  module _ (normalizer : Normalizer) (start : Start) (now : BlockState) (place : List ℕ → ℕ) where
+  module _ (counted : Counted) (start : Start) (now : BlockState) (place : List ℕ → ℕ) where
     -- all of a text may be taken
-    pub TakesAllowed-all : (a : Bool) (x : List ℕ) (r : Result (Unit {0}) Fault) → allowed a p x ≡ x → TakesOn f p normalizer start now place x r → TakesAllowed a f p normalizer start now place x r
+    pub TakesAllowed-all : (a : Bool) (x : List ℕ) (r : Result (Unit {0}) Fault) → allowed a p x ≡ x → TakesOn f p counted start now place x r → TakesAllowed a f p counted start now place x r
     TakesAllowed-all a x r all takes = record {
       broken = λ e. Broken-at start (written_is a x all) (takes.broken e);
       written = λ not. Written-at (written_is a x all) (takes.written not);
@@ -39,7 +39,7 @@ module _ (f : Form) (p : Properties) where
       taken = with_all r takes.taken;
     }
       where
-        with_all : (r : Result (Unit {0}) Fault) → OnOk r (HasTaken f p normalizer x) → OnOk r (HasTaken f p normalizer x × (allowed a p x ≡ x))
+        with_all : (r : Result (Unit {0}) Fault) → OnOk r (HasTaken f p counted x) → OnOk r (HasTaken f p counted x × (allowed a p x ≡ x))
         with_all (Ok u) taken = (taken, all)
         with_all (Err fault) taken = tt
 
@@ -69,7 +69,7 @@ module _ (f : Form) (p : Properties) where
           next false e = e
 
       -- which was refused
-      pub TakesAllowed-front : (fault : Fault) → TakesOn f p normalizer start now place z (Err fault) → TakesAllowed true f p normalizer start now place w (Err fault)
+      pub TakesAllowed-front : (fault : Fault) → TakesOn f p counted start now place z (Err fault) → TakesAllowed true f p counted start now place w (Err fault)
       TakesAllowed-front fault takes = record {
         broken = λ e. Broken-at start usable_front (takes.broken e);
         written = λ not. Written-at usable_front (takes.written not);
@@ -78,8 +78,8 @@ module _ (f : Form) (p : Properties) where
       }
 
       -- or was taken
-      pub TakesAllowed-unassigned : (at : ℕ) → is_usable p z ≡ true → Written start now (settled_text f p z) → place z ≡ at → TakesAllowed true f p normalizer start now place w (Err (Unassigned at))
-      TakesAllowed-unassigned at sound written here = record {
+      unassigned-true : (at : ℕ) → is_usable p z ≡ true → Written start now (settled_text f p z) → place z ≡ at → TakesAllowed true f p counted start now place w (Err (Unassigned at))
+      unassigned-true at sound written here = record {
         broken = λ e. cc;
         written = λ _. Written-at (ap (settled_text f p) (sym (usable-all p z sound)) ∙ written_front) written;
         fault = λ _. ap (λ n. Some (Unassigned n)) (sym here) ∙ sym (fault_front ∙ ap (λ (b : Bool). if b then Some (Unassigned (place z)) else Some (Row (place (usable p z)))) sound);
@@ -87,14 +87,24 @@ module _ (f : Form) (p : Properties) where
       }
 
     -- a text refused where all that may be taken was taken before it
-    pub TakesAllowed-refused : (w z : List ℕ) (fault : Fault) → allowed true p w ≡ z → TakesOn f p normalizer start now place z (Err fault) → TakesAllowed true f p normalizer start now place w (Err fault)
-    TakesAllowed-refused w z fault front takes = ⊎_elim
-        (λ all. TakesAllowed-all true w (Err fault) all (subst (λ y. TakesOn f p normalizer start now place y (Err fault)) (sym front ∙ all) takes))
+    refused-true : (w z : List ℕ) (fault : Fault) → allowed true p w ≡ z → TakesOn f p counted start now place z (Err fault) → TakesAllowed true f p counted start now place w (Err fault)
+    refused-true w z fault front takes = ⊎_elim
+        (λ all. TakesAllowed-all true w (Err fault) all (subst (λ y. TakesOn f p counted start now place y (Err fault)) (sym front ∙ all) takes))
         (λ less. TakesAllowed-front w z front (omega (arith, less.0, ap length front)) fault takes)
         (allowed-grows p true w [])
 
+    -- the same, whatever may be taken
+    pub TakesAllowed-refused : (a : Bool) (w z : List ℕ) (fault : Fault) → allowed a p w ≡ z → TakesOn f p counted start now place z (Err fault) → TakesAllowed a f p counted start now place w (Err fault)
+    TakesAllowed-refused true w z fault front takes = refused-true w z fault front takes
+    TakesAllowed-refused false w z fault front takes = TakesAllowed-all false w (Err fault) refl (subst (λ y. TakesOn f p counted start now place y (Err fault)) (sym front) takes)
+
+    pub TakesAllowed-unassigned : (a : Bool) (w z : List ℕ) → allowed a p w ≡ z → length z < length w → (at : ℕ) → is_usable p z ≡ true → Written start now (settled_text f p z) → place z ≡ at
+        → TakesAllowed a f p counted start now place w (Err (Unassigned at))
+    TakesAllowed-unassigned true w z front less at sound written here = unassigned-true w z front less at sound written here
+    TakesAllowed-unassigned false w z front less at sound written here = absurd (omega (arith, less, ap length front))
+
     -- what is refused in a text is refused in a longer one
-    pub TakesAllowed-more : (a : Bool) (w y : List ℕ) (fault : Fault) → TakesAllowed a f p normalizer start now place w (Err fault) → TakesAllowed a f p normalizer start now place (w ++ y) (Err fault)
+    pub TakesAllowed-more : (a : Bool) (w y : List ℕ) (fault : Fault) → TakesAllowed a f p counted start now place w (Err fault) → TakesAllowed a f p counted start now place (w ++ y) (Err fault)
     TakesAllowed-more a w y fault takes = record {
       broken = λ e. Broken-extends start (taken_utf8-grows p a f w y) (takes.broken e);
       written = λ not. Written-at (sym (ap (settled_text f p) (stays not).1)) (takes.written not);
@@ -109,5 +119,5 @@ module _ (f : Form) (p : Properties) where
         stays not = first_fault-stays p a place w y None fault (takes.fault not)
 
     -- all of a text was taken
-    pub TakesAllowed-settled : (a : Bool) (x : List ℕ) (u : Unit {0}) → TakesAllowed a f p normalizer start now place x (Ok u) → Written start now (settled_text f p x)
-    TakesAllowed-settled a x u takes = let taken = takes.taken.0 in Written-at (ap (settled_text f p) (taken-all p a x taken.usable takes.taken.1)) (takes.written (λ e. cc))
+    pub TakesAllowed-settled : (a : Bool) (x : List ℕ) (u : Unit {0}) → TakesAllowed a f p counted start now place x (Ok u) → Written start now (settled_text f p x)
+    TakesAllowed-settled a x u takes = let taken = takes.taken.0 in Written-at (ap (settled_text f p) (taken-all p a x taken.machine.usable takes.taken.1)) (takes.written (λ e. cc))

@@ -7,17 +7,17 @@ use Rattle.nf_utf8.specs.Laws.{ReplacesParts}
 use Rattle.nf_utf8.specs.Reading.{text_of}
 use Rattle.nf_utf8.specs.Standing.{StandsAfter as DecoderStandsAfter}
 use Rattle.nf_filter.specs.declared.fault.Fault.TheVariants.{Write}
-use Rattle.nf_filter.specs.declared.normalizer.Normalizer.{Normalizer}
+use Rattle.nf_filter.specs.declared.counted.Counted.{Counted}
 use Rattle.nf_filter.specs.declared.policy.Policy.{Policy}
 use Rattle.nf_filter.specs.declared.reading.Reading.{Reading}
 use Rattle.nf_filter.specs.Block.{Start, BlockState, Written, Broken}
 use Rattle.nf_filter.specs.Faults.{bad_byte}
 use Rattle.nf_filter.specs.Feeding.{IsLeft, HasReadTo, ReadsToPart, RefusesBytes}
-use Rattle.nf_filter.specs.Normalizer.{HasTaken, settled_text}
+use Rattle.nf_filter.specs.Counted.{HasTaken, settled_text}
 use Rattle.nf_filter.specs.Policy.{allowed, text_under}
 use Rattle.nf_filter.specs.Settled.{is_usable}
 use Rattle.nf_filter.proofs.BlockLemmas.{Written-at}
-use Rattle.nf_filter.proofs.PushingLemmas.{Broken-at}
+use Rattle.nf_filter.proofs.BlockLemmas.{Broken-at}
 use Rattle.nf_filter.proofs.PolicyLemmas.{taken-all}
 use Rattle.nf_filter.proofs.ReadingLemmas.{ending_of-none, text_of-none}
 use Rattle.nf_filter.proofs.PieceLemmas.{IsLeft-join, IsLeft-parts, left-text}
@@ -35,18 +35,18 @@ all_allowed false p x e = refl
 all_allowed true p x e = cc
 
 module _ (policy : Policy) (f : Form) (p : Properties) (base : ℕ) (bytes : List ℕ) (start : Start) (laws : ReplacesParts) (replaces : policy.replace ≡ true) (any : policy.assigned ≡ false)
-    (normalizer : Normalizer) (reading : Reading) (rest : List ℕ) (read : HasReadTo policy f p normalizer base reading bytes rest) (none : read.tail ≡ []) where
+    (counted : Counted) (reading : Reading) (rest : List ℕ) (read : HasReadTo policy f p counted base reading bytes rest) (none : read.tail ≡ []) where
   before_is : read.before ++ text_of read.tail ≡ read.before
   before_is = ap (λ l. read.before ++ text_of l) none ∙ ap (λ l. read.before ++ l) text_of-none ∙ append-nil read.before
 
   -- what was taken before them
-  pub taken_before : HasTaken f p normalizer read.before
-  taken_before = subst (HasTaken f p normalizer) before_is read.taken
+  pub taken_before : HasTaken f p counted read.before
+  taken_before = subst (HasTaken f p counted) before_is read.taken
 
   pub written_before : (now : BlockState) → Written start now (settled_text f p (read.before ++ text_of read.tail)) → Written start now (settled_text f p read.before)
   written_before now written = Written-at (ap (settled_text f p) before_is) written
 
-  module _ (own : List ℕ) (len : ℕ) (is : IsReplacedFront rest own len) (now : BlockState) (after : Normalizer) where
+  module _ (own : List ℕ) (len : ℕ) (is : IsReplacedFront rest own len) (now : BlockState) (after : Counted) where
     abbrev next_text : List ℕ
     next_text = read.before ++ own
 

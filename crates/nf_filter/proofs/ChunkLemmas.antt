@@ -13,18 +13,18 @@ use Rattle.nf_utf8.specs.Standing.{StandsAfter as DecoderStandsAfter}
 use Rattle.nf_utf8.specs.Taking.{first_text, Takes, bytes_behind}
 use Rattle.nf_filter.specs.declared.fault.Fault.{Fault}
 use Rattle.nf_filter.specs.declared.fault.Fault.TheVariants.{BadByte, Write}
-use Rattle.nf_filter.specs.declared.normalizer.Normalizer.{Normalizer}
+use Rattle.nf_filter.specs.declared.counted.Counted.{Counted}
 use Rattle.nf_filter.specs.declared.policy.Policy.{Policy}
 use Rattle.nf_filter.specs.declared.reading.Reading.{Reading}
 use Rattle.nf_filter.specs.Block.{Start, BlockState}
 use Rattle.nf_filter.specs.Faults.{bad_byte, bad_under, first_fault, fault_in}
 use Rattle.nf_filter.specs.Feeding.{taken_utf8, TakesAllowed, IsLeft, HasReadTo, ReadsTo, ReadsToPart, RefusesBytes}
-use Rattle.nf_filter.specs.Normalizer.{HasTaken, IsPlacedAt, settled_text}
+use Rattle.nf_filter.specs.Counted.{HasTaken, IsPlacedAt, settled_text}
 use Rattle.nf_filter.specs.Policy.{allowed, len_under, text_under}
 use Rattle.nf_filter.specs.Settled.{usable}
 use Rattle.nf_filter.proofs.BlockLemmas.{Written-at}
-use Rattle.nf_filter.proofs.PushingLemmas.{Broken-extends}
-use Rattle.nf_filter.proofs.SettledLemmas.{Extends}
+use Rattle.nf_filter.proofs.BlockLemmas.{Broken-extends}
+use Rattle.nf_normalizer.specs.Laws.Settled.{Extends}
 use Rattle.nf_filter.proofs.PolicyLemmas.{first_fault-none, first_fault-stays, taken_utf8-grows}
 use Rattle.nf_filter.proofs.AllowingLemmas.{TakesAllowed-settled}
 use Rattle.nf_filter.proofs.ReadingLemmas.{ends_well, ending_of-none}
@@ -69,10 +69,10 @@ part_end-is held at start (suc back) len is one rest =
 
 module _ (policy : Policy) (f : Form) (p : Properties) (base : ℕ) (bytes : List ℕ) (start : Start) (now : BlockState) where
   -- a front of the text was refused
-  pub RefusesBytes-front : (normalizer : Normalizer) (v more : List ℕ) (fault : Fault) → text_under policy.replace bytes ≡ v ++ more → TakesAllowed policy.assigned f p normalizer start now (λ front. base + len_under policy.replace bytes front) v (Err fault)
+  pub RefusesBytes-front : (counted : Counted) (v more : List ℕ) (fault : Fault) → text_under policy.replace bytes ≡ v ++ more → TakesAllowed policy.assigned f p counted start now (λ front. base + len_under policy.replace bytes front) v (Err fault)
       → RefusesBytes policy f p start now base bytes fault
   unfolding fault_in
-  RefusesBytes-front normalizer v more fault text takes = record {
+  RefusesBytes-front counted v more fault text takes = record {
     broken = λ e. Broken-extends start (subst (λ x. Extends (taken_utf8 policy.assigned f p v) (taken_utf8 policy.assigned f p x)) (sym text) (taken_utf8-grows p policy.assigned f v more)) (takes.broken (ap Err e));
     written = λ not. Written-at (sym (ap (taken_utf8 policy.assigned f p) text ∙ ap (settled_text f p) (stays not).1)) (takes.written (λ e. not (let same : fault ≡ Write = cc in same)));
     is = λ not. sym (ap (λ x. first_fault policy.assigned p (λ front. base + len_under policy.replace bytes front) x (bad_under policy.replace base bytes)) text ∙ (stays not).0);
@@ -82,19 +82,19 @@ module _ (policy : Policy) (f : Form) (p : Properties) (base : ℕ) (bytes : Lis
       stays not = first_fault-stays p policy.assigned (λ front. base + len_under policy.replace bytes front) v more (bad_under policy.replace base bytes) fault (takes.fault (λ e. not (let same : fault ≡ Write = cc in same)))
 
   -- all of the text was taken, and a bad byte stands behind it
-  pub RefusesBytes-bad : (normalizer : Normalizer) (fault : Fault) → ¬ (fault ≡ Write) → TakesAllowed policy.assigned f p normalizer start now (λ front. base + len_under policy.replace bytes front) (text_under policy.replace bytes) (Ok tt)
+  pub RefusesBytes-bad : (counted : Counted) (fault : Fault) → ¬ (fault ≡ Write) → TakesAllowed policy.assigned f p counted start now (λ front. base + len_under policy.replace bytes front) (text_under policy.replace bytes) (Ok tt)
       → bad_under policy.replace base bytes ≡ Some fault → RefusesBytes policy f p start now base bytes fault
   unfolding fault_in
-  RefusesBytes-bad normalizer fault other takes told =
+  RefusesBytes-bad counted fault other takes told =
       let taken = takes.taken.0 in
       record {
         broken = λ e. absurd (other e);
         written = λ _. takes.written (λ e. cc);
-        is = λ _. sym (first_fault-none p policy.assigned (λ front. base + len_under policy.replace bytes front) (text_under policy.replace bytes) (bad_under policy.replace base bytes) taken.usable takes.taken.1 ∙ told);
+        is = λ _. sym (first_fault-none p policy.assigned (λ front. base + len_under policy.replace bytes front) (text_under policy.replace bytes) (bad_under policy.replace base bytes) taken.machine.usable takes.taken.1 ∙ told);
       }
 
 module _ (policy : Policy) (f : Form) (p : Properties) (base : ℕ) (bytes : List ℕ) (start : Start) (now : BlockState) where
-  module _ (laws : ReplacesParts) (normalizer : Normalizer) (reading : Reading) (rest : List ℕ) (read : HasReadTo policy f p normalizer base reading bytes rest)
+  module _ (laws : ReplacesParts) (counted : Counted) (reading : Reading) (rest : List ℕ) (read : HasReadTo policy f p counted base reading bytes rest)
       (first : Option ℕ) (text : List ℕ) (end : End) (took : Takes read.tail rest first text end) where
     abbrev pub taken_text : List ℕ
     taken_text = read.before ++ text_of read.tail
@@ -126,12 +126,12 @@ module _ (policy : Policy) (f : Form) (p : Properties) (base : ℕ) (bytes : Lis
     more = text_under-first laws policy.replace (read.tail ++ rest)
 
     -- a character of it was refused
-    pub chunk-refused : (after : Normalizer) (fault : Fault) → TakesAllowed policy.assigned f p after start now (λ front. base + len_under policy.replace bytes front) (taken_text ++ next_text) (Err fault) → RefusesBytes policy f p start now base bytes fault
+    pub chunk-refused : (after : Counted) (fault : Fault) → TakesAllowed policy.assigned f p after start now (λ front. base + len_under policy.replace bytes front) (taken_text ++ next_text) (Err fault) → RefusesBytes policy f p start now base bytes fault
     chunk-refused after fault takes = RefusesBytes-front policy f p base bytes start now after (taken_text ++ next_text) more.more fault
         (left-text policy.replace bytes read.before read.n (read.tail ++ rest) read.left ∙ ap (λ l. read.before ++ l) more.text
         ∙ sym (append_assoc read.before (text_of (read.tail ++ rest)) more.more) ∙ ap (λ l. l ++ more.more) (sym joined_is)) takes
 
-    module _ (after : Normalizer) (takes : TakesAllowed policy.assigned f p after start now (λ front. base + len_under policy.replace bytes front) (taken_text ++ next_text) (Ok tt)) where
+    module _ (after : Counted) (takes : TakesAllowed policy.assigned f p after start now (λ front. base + len_under policy.replace bytes front) (taken_text ++ next_text) (Ok tt)) where
       -- all of the rest was read
       pub chunk-read : (next : Reading) → ((at back : ℕ) → ¬ (end ≡ EndsBad at back)) → DecoderStandsAfter next.decoder (bytes_behind read.tail rest end) → next.offset ≡ reading.offset + length rest
           → ReadsTo policy f p after start now base next bytes []
@@ -197,7 +197,7 @@ module _ (policy : Policy) (f : Form) (p : Properties) (base : ℕ) (bytes : Lis
                 read.offset,
               ))
 
-          module _ (last : Normalizer) (final : BlockState) where
+          module _ (last : Counted) (final : BlockState) where
             -- U+FFFD was refused
             pub part-refused : (fault : Fault) → TakesAllowed policy.assigned f p last start final (λ front. base + len_under policy.replace bytes front) ((taken_text ++ next_text) ++ replacement ∷ []) (Err fault)
                 → RefusesBytes policy f p start final base bytes fault

@@ -7,13 +7,13 @@ use Rattle.nf_utf8.specs.Replaced.{replacement}
 use Rattle.nf_utf8.specs.Laws.{ReplacesParts}
 use Rattle.nf_filter.specs.declared.fault.Fault.{Fault}
 use Rattle.nf_filter.specs.declared.fault.Fault.TheVariants.{Write}
-use Rattle.nf_filter.specs.declared.normalizer.Normalizer.{Normalizer}
+use Rattle.nf_filter.specs.declared.counted.Counted.{Counted}
 use Rattle.nf_filter.specs.declared.policy.Policy.{Policy}
 use Rattle.nf_filter.specs.declared.reading.Reading.{Reading}
 use Rattle.nf_filter.specs.Devices.{SinkState}
 use Rattle.nf_filter.specs.Block.{BlockState, Written, Broken}
 use Rattle.nf_filter.specs.Feeding.{taken_utf8, TakesAllowed, HasReadTo, ReplacesCut}
-use Rattle.nf_filter.specs.Normalizer.{HasTaken, IsPlacedAt, settled_text}
+use Rattle.nf_filter.specs.Counted.{HasTaken, IsPlacedAt, settled_text}
 use Rattle.nf_filter.specs.Policy.{allowed, len_under, whole_under}
 use Rattle.nf_filter.specs.Settled.{is_usable, settled_utf8}
 use Rattle.nf_filter.proofs.WritesLemmas.{Puts-none, Puts-at}
@@ -23,36 +23,36 @@ use Rattle.nf_filter.proofs.PolicyLemmas.{first_fault-none, taken-all}
 use Rattle.nf_filter.proofs.ChunkLemmas.{one_placed}
 use Rattle.nf_filter.proofs.FedLemmas.{read-settled, read-place, whole-none, whole-some}
 
-module _ (policy : Policy) (f : Form) (p : Properties) (base : ℕ) (laws : ReplacesParts) (normalizer : Normalizer) (reading : Reading) (bytes : List ℕ) (read : HasReadTo policy f p normalizer base reading bytes []) (replaces : policy.replace ≡ true)
+module _ (policy : Policy) (f : Form) (p : Properties) (base : ℕ) (laws : ReplacesParts) (counted : Counted) (reading : Reading) (bytes : List ℕ) (read : HasReadTo policy f p counted base reading bytes []) (replaces : policy.replace ≡ true)
     (carried : ℕ) (is_carried : length (encode_utf8_all (text_of read.tail)) + carried ≡ length read.tail) where
   -- the end cuts none
-  pub cut-none : (sink : SinkState) → carried ≡ 0 → ReplacesCut policy f p normalizer base bytes sink sink (Ok tt)
+  pub cut-none : (sink : SinkState) → carried ≡ 0 → ReplacesCut policy f p counted base bytes sink sink (Ok tt)
   cut-none sink none =
       let taken = read.taken in
-      let whole : whole_under policy.replace bytes ≡ read.before ++ text_of read.tail = whole-none policy f p base laws normalizer reading bytes read replaces carried is_carried none in
-      let sound : is_usable p (whole_under policy.replace bytes) ≡ true = ap (is_usable p) whole ∙ taken.usable in
+      let whole : whole_under policy.replace bytes ≡ read.before ++ text_of read.tail = whole-none policy f p base laws counted reading bytes read replaces carried is_carried none in
+      let sound : is_usable p (whole_under policy.replace bytes) ≡ true = ap (is_usable p) whole ∙ taken.machine.usable in
       let all : allowed policy.assigned p (whole_under policy.replace bytes) ≡ whole_under policy.replace bytes = ap (allowed policy.assigned p) whole ∙ read.allowed ∙ sym whole in
       record {
         broken = λ e. cc;
-        puts = λ _. Puts-at refl (sym (read-settled policy f p base laws normalizer reading bytes read) ∙ ap (settled_text f p) (sym (taken-all p policy.assigned (whole_under policy.replace bytes) sound all ∙ whole))) (Puts-none sink (settled_utf8 policy f p bytes));
+        puts = λ _. Puts-at refl (sym (read-settled policy f p base laws counted reading bytes read) ∙ ap (settled_text f p) (sym (taken-all p policy.assigned (whole_under policy.replace bytes) sound all ∙ whole))) (Puts-none sink (settled_utf8 policy f p bytes));
         fault = λ _. sym (first_fault-none p policy.assigned (λ front. base + len_under policy.replace bytes front) (whole_under policy.replace bytes) None sound all);
-        taken = (subst (HasTaken f p normalizer) (sym whole) taken, all);
+        taken = (subst (HasTaken f p counted) (sym whole) taken, all);
       }
 
   -- where it is cut
   pub cut-placed : (at : ℕ) → at + carried ≡ reading.offset → IsPlacedAt (λ front. base + len_under policy.replace bytes front) at (read.before ++ text_of read.tail) (replacement ∷ [])
   cut-placed at here = one_placed (λ front. base + len_under policy.replace bytes front) at (read.before ++ text_of read.tail) replacement
-      (omega (arith, read-place policy f p base laws normalizer reading bytes read, is_carried, here, read.offset))
+      (omega (arith, read-place policy f p base laws counted reading bytes read, is_carried, here, read.offset))
 
   pub cut-written : (sink : SinkState) (now : BlockState) → Written (start_at sink (settled_utf8 policy f p bytes)) now (settled_utf8 policy f p bytes) → Written (start_at sink (settled_utf8 policy f p bytes)) now (settled_text f p (read.before ++ text_of read.tail))
-  cut-written sink now written = Written-at (sym (read-settled policy f p base laws normalizer reading bytes read)) written
+  cut-written sink now written = Written-at (sym (read-settled policy f p base laws counted reading bytes read)) written
 
   -- U+FFFD was taken for it, or refused
-  module _ (some : ¬ (carried ≡ 0)) (after : Normalizer) (sink new : SinkState) (now : BlockState) (r : Result (Unit {0}) Fault)
+  module _ (some : ¬ (carried ≡ 0)) (after : Counted) (sink new : SinkState) (now : BlockState) (r : Result (Unit {0}) Fault)
       (takes : TakesAllowed policy.assigned f p after (start_at sink (settled_utf8 policy f p bytes)) now (λ front. base + len_under policy.replace bytes front) ((read.before ++ text_of read.tail) ++ replacement ∷ []) r) where
     here : TakesAllowed policy.assigned f p after (start_at sink (settled_utf8 policy f p bytes)) now (λ front. base + len_under policy.replace bytes front) (whole_under policy.replace bytes) r
     here = subst (λ x. TakesAllowed policy.assigned f p after (start_at sink (settled_utf8 policy f p bytes)) now (λ front. base + len_under policy.replace bytes front) x r)
-        (sym (whole-some policy f p base laws normalizer reading bytes read replaces carried is_carried some)) takes
+        (sym (whole-some policy f p base laws counted reading bytes read replaces carried is_carried some)) takes
 
     pub cut-broken : r ≡ Err Write → now.sink ≡ new → ReplacesCut policy f p after base bytes sink new r
     cut-broken is same = record {

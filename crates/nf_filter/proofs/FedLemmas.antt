@@ -8,13 +8,13 @@ use Rattle.nf_utf8.specs.Replaced.{replacement, begun_at_end, replaced_whole}
 use Rattle.nf_utf8.specs.Laws.{ReplacesParts}
 use Rattle.nf_filter.specs.declared.fault.Fault.{Fault}
 use Rattle.nf_filter.specs.declared.fault.Fault.TheVariants.{Write}
-use Rattle.nf_filter.specs.declared.normalizer.Normalizer.{Normalizer}
+use Rattle.nf_filter.specs.declared.counted.Counted.{Counted}
 use Rattle.nf_filter.specs.declared.policy.Policy.{Policy}
 use Rattle.nf_filter.specs.declared.reading.Reading.{Reading}
 use Rattle.nf_filter.specs.Block.{Start, BlockState, Written, Broken}
 use Rattle.nf_filter.specs.Faults.{bad_byte, bad_under, fault_in}
 use Rattle.nf_filter.specs.Feeding.{taken_utf8, IsLeft, HasReadTo, ReadsTo, ReadsRest}
-use Rattle.nf_filter.specs.Normalizer.{settled_text}
+use Rattle.nf_filter.specs.Counted.{settled_text}
 use Rattle.nf_filter.specs.Policy.{allowed, len_under, text_under, whole_under}
 use Rattle.nf_filter.specs.Settled.{is_usable, settled_utf8}
 use Rattle.nf_filter.specs.Devices.{SinkState}
@@ -22,7 +22,7 @@ use Rattle.nf_filter.specs.Feeds.{Feeds}
 use Rattle.nf_filter.proofs.BlockLemmas.{start_at, Written-at}
 use Rattle.nf_filter.proofs.FilterLemmas.{Feeds-broken, Feeds-put}
 use Rattle.nf_filter.proofs.TextLemmas.{Puts-emptied}
-use Rattle.nf_filter.proofs.PushingLemmas.{Broken-at}
+use Rattle.nf_filter.proofs.BlockLemmas.{Broken-at}
 use Rattle.nf_filter.proofs.PolicyLemmas.{first_fault-none, taken-all}
 use Rattle.nf_filter.proofs.PieceLemmas.{IsLeft-more, left-text, left-place, left-bad, left-whole, text_under-begun, begun_at_end-begun, len_under-first}
 
@@ -35,7 +35,7 @@ pub settled_utf8-taken : (policy : Policy) (f : Form) (p : Properties) (bytes : 
 unfolding settled_utf8
 settled_utf8-taken policy f p bytes = refl
 
-module _ (policy : Policy) (f : Form) (p : Properties) (base : ℕ) (laws : ReplacesParts) (normalizer : Normalizer) (reading : Reading) (bytes : List ℕ) (read : HasReadTo policy f p normalizer base reading bytes []) where
+module _ (policy : Policy) (f : Form) (p : Properties) (base : ℕ) (laws : ReplacesParts) (counted : Counted) (reading : Reading) (bytes : List ℕ) (read : HasReadTo policy f p counted base reading bytes []) where
   abbrev pub text : List ℕ
   text = read.before ++ text_of read.tail
 
@@ -49,18 +49,18 @@ module _ (policy : Policy) (f : Form) (p : Properties) (base : ℕ) (laws : Repl
   pub read-settled : settled_text f p text ≡ settled_utf8 policy f p bytes
   read-settled =
       let taken = read.taken in
-      ap (settled_text f p) (sym (taken-all p policy.assigned text taken.usable read.allowed)) ∙ ap (taken_utf8 policy.assigned f p) (sym read-text) ∙ settled_utf8-taken policy f p bytes
+      ap (settled_text f p) (sym (taken-all p policy.assigned text taken.machine.usable read.allowed)) ∙ ap (taken_utf8 policy.assigned f p) (sym read-text) ∙ settled_utf8-taken policy f p bytes
 
   pub read-no_fault : fault_in policy p base bytes ≡ None
   unfolding fault_in
   read-no_fault =
       let taken = read.taken in
-      first_fault-none p policy.assigned (λ front. base + len_under policy.replace bytes front) (text_under policy.replace bytes) (bad_under policy.replace base bytes) (subst (λ x. is_usable p x ≡ true) (sym read-text) taken.usable)
+      first_fault-none p policy.assigned (λ front. base + len_under policy.replace bytes front) (text_under policy.replace bytes) (bad_under policy.replace base bytes) (subst (λ x. is_usable p x ≡ true) (sym read-text) taken.machine.usable)
       (ap (allowed policy.assigned p) read-text ∙ read.allowed ∙ sym read-text)
       ∙ left-bad policy.replace bytes read.before read.n read.tail left_is base ∙ good_under policy.replace (base + read.n) read.tail (read.good (base + read.n))
 
   -- a piece more is to be read
-  more : (piece : List ℕ) → HasReadTo policy f p normalizer base reading (bytes ++ piece) piece
+  more : (piece : List ℕ) → HasReadTo policy f p counted base reading (bytes ++ piece) piece
   more piece = record {
     before = read.before;
     n = read.n;
@@ -73,7 +73,7 @@ module _ (policy : Policy) (f : Form) (p : Properties) (base : ℕ) (laws : Repl
     allowed = read.allowed;
   }
 
-  pub reads-more : (piece : List ℕ) (start : Start) (now : BlockState) → Written start now (settled_utf8 policy f p bytes) → ReadsTo policy f p normalizer start now base reading (bytes ++ piece) piece
+  pub reads-more : (piece : List ℕ) (start : Start) (now : BlockState) → Written start now (settled_utf8 policy f p bytes) → ReadsTo policy f p counted start now base reading (bytes ++ piece) piece
   unfolding more
   reads-more piece start now written = (more piece, Written-at (sym read-settled) written)
 
@@ -104,46 +104,46 @@ module _ (policy : Policy) (f : Form) (p : Properties) (base : ℕ) (laws : Repl
     whole-some carried is some = whole_is ∙ ap (λ (b : Bool). text ++ (if b then [] else replacement ∷ [])) (ne_eqb (length read.tail - length (encode_utf8_all (text_of read.tail))) 0 (λ e. some (omega (arith, is, e))))
 
 -- all of a piece was read, or it was refused
-module _ (policy : Policy) (f : Form) (p : Properties) (base : ℕ) (laws : ReplacesParts) (normalizer : Normalizer) (start : Start) (now : BlockState) (reading : Reading) (bytes : List ℕ) where
-  pub rest-written : (r : Result (Unit {0}) Fault) → ReadsRest policy f p normalizer start now base reading bytes r → ¬ (r ≡ Err Write) → Written start now (settled_utf8 policy f p bytes)
-  rest-written (Ok u) reads not = Written-at (read-settled policy f p base laws normalizer reading bytes reads.0) reads.1
+module _ (policy : Policy) (f : Form) (p : Properties) (base : ℕ) (laws : ReplacesParts) (counted : Counted) (start : Start) (now : BlockState) (reading : Reading) (bytes : List ℕ) where
+  pub rest-written : (r : Result (Unit {0}) Fault) → ReadsRest policy f p counted start now base reading bytes r → ¬ (r ≡ Err Write) → Written start now (settled_utf8 policy f p bytes)
+  rest-written (Ok u) reads not = Written-at (read-settled policy f p base laws counted reading bytes reads.0) reads.1
   rest-written (Err fault) reads not = Written-at (settled_utf8-taken policy f p bytes) (reads.written (λ e. not (ap Err e)))
 
-  pub rest-broken : (r : Result (Unit {0}) Fault) → ReadsRest policy f p normalizer start now base reading bytes r → r ≡ Err Write → Broken start now (settled_utf8 policy f p bytes)
+  pub rest-broken : (r : Result (Unit {0}) Fault) → ReadsRest policy f p counted start now base reading bytes r → r ≡ Err Write → Broken start now (settled_utf8 policy f p bytes)
   rest-broken (Ok u) reads e = cc
   rest-broken (Err fault) reads e = Broken-at start (settled_utf8-taken policy f p bytes) (reads.broken (let same : fault ≡ Write = cc in same))
 
-  pub rest-answer : (r : Result (Unit {0}) Fault) → ReadsRest policy f p normalizer start now base reading bytes r → ¬ (r ≡ Err Write) → result_err r ≡ fault_in policy p base bytes
-  rest-answer (Ok u) reads not = sym (read-no_fault policy f p base laws normalizer reading bytes reads.0)
+  pub rest-answer : (r : Result (Unit {0}) Fault) → ReadsRest policy f p counted start now base reading bytes r → ¬ (r ≡ Err Write) → result_err r ≡ fault_in policy p base bytes
+  rest-answer (Ok u) reads not = sym (read-no_fault policy f p base laws counted reading bytes reads.0)
   rest-answer (Err fault) reads not = reads.is (λ e. not (ap Err e))
 
 -- a piece was fed
-module _ (policy : Policy) (f : Form) (p : Properties) (base : ℕ) (laws : ReplacesParts) (sink new : SinkState) (bytes piece : List ℕ) (normalizer : Normalizer) (now : BlockState) (reading : Reading) (r : Result (Unit {0}) Fault)
-    (reads : ReadsRest policy f p normalizer (start_at sink (settled_utf8 policy f p bytes)) now base reading (bytes ++ piece) r) where
+module _ (policy : Policy) (f : Form) (p : Properties) (base : ℕ) (laws : ReplacesParts) (sink new : SinkState) (bytes piece : List ℕ) (counted : Counted) (now : BlockState) (reading : Reading) (r : Result (Unit {0}) Fault)
+    (reads : ReadsRest policy f p counted (start_at sink (settled_utf8 policy f p bytes)) now base reading (bytes ++ piece) r) where
   abbrev start : Start
   start = start_at sink (settled_utf8 policy f p bytes)
 
   abbrev settled : List ℕ
   settled = settled_utf8 policy f p (bytes ++ piece)
 
-  pub fed-stands : OnOk r (HasReadTo policy f p normalizer base reading (bytes ++ piece) [])
+  pub fed-stands : OnOk r (HasReadTo policy f p counted base reading (bytes ++ piece) [])
   fed-stands = next r reads
     where
-      next : (r : Result (Unit {0}) Fault) → ReadsRest policy f p normalizer (start_at sink (settled_utf8 policy f p bytes)) now base reading (bytes ++ piece) r → OnOk r (HasReadTo policy f p normalizer base reading (bytes ++ piece) [])
+      next : (r : Result (Unit {0}) Fault) → ReadsRest policy f p counted (start_at sink (settled_utf8 policy f p bytes)) now base reading (bytes ++ piece) r → OnOk r (HasReadTo policy f p counted base reading (bytes ++ piece) [])
       next (Ok u) reads = reads.0
       next (Err fault) reads = tt
 
   -- the sink failed under way
   pub fed-broken : r ≡ Err Write → now.sink ≡ new → Feeds policy f p base bytes piece sink new r
   fed-broken is same = subst (λ (s : Result (Unit {0}) Fault). Feeds policy f p base bytes piece sink new s) (sym is)
-      (Feeds-broken policy f p base bytes piece sink new (rw (← same) (rest-broken policy f p base laws normalizer start now reading (bytes ++ piece) r reads is)))
+      (Feeds-broken policy f p base bytes piece sink new (rw (← same) (rest-broken policy f p base laws counted start now reading (bytes ++ piece) r reads is)))
 
   -- or on what was kept
   pub fed-failed : (last : BlockState) → ¬ (r ≡ Err Write) → (Written start now settled → Broken start last settled) → last.sink ≡ new → Feeds policy f p base bytes piece sink new (Err Write)
-  fed-failed last whole breaks same = Feeds-broken policy f p base bytes piece sink new (rw (← same) (breaks (rest-written policy f p base laws normalizer start now reading (bytes ++ piece) r reads whole)))
+  fed-failed last whole breaks same = Feeds-broken policy f p base bytes piece sink new (rw (← same) (breaks (rest-written policy f p base laws counted start now reading (bytes ++ piece) r reads whole)))
 
   -- all was given
   pub fed-given : (last : BlockState) → ¬ (r ≡ Err Write) → (Written start now settled → Written start last settled) → last.kept ≡ [] → last.sink ≡ new → Feeds policy f p base bytes piece sink new r
   fed-given last whole writes none same = Feeds-put policy f p base bytes piece sink new r whole
-      (rw (← same) (Puts-emptied none (writes (rest-written policy f p base laws normalizer start now reading (bytes ++ piece) r reads whole))))
-      (rest-answer policy f p base laws normalizer start now reading (bytes ++ piece) r reads whole)
+      (rw (← same) (Puts-emptied none (writes (rest-written policy f p base laws counted start now reading (bytes ++ piece) r reads whole))))
+      (rest-answer policy f p base laws counted start now reading (bytes ++ piece) r reads whole)

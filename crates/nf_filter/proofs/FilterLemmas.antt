@@ -15,7 +15,7 @@ use Rattle.nf_filter.specs.Writes.{Puts, BreaksOff}
 use Rattle.nf_filter.specs.Policy.{as_is}
 use Rattle.nf_filter.specs.Settled.{is_usable, settled_utf8}
 use Rattle.nf_filter.specs.Faults.{bad_byte, fault_in}
-use Rattle.nf_filter.specs.Normalizer.{unusable_at}
+use Rattle.nf_filter.specs.Counted.{unusable_at}
 use Rattle.nf_filter.specs.Measures.{unusable_stop}
 use Rattle.nf_filter.specs.Taker.{stop_or, stop_in}
 use Rattle.nf_filter.specs.Feeds.{Feeds}

@@ -12,7 +12,7 @@ use Rattle.nf_utf8.specs.Replaced.{replacement}
 use Rattle.nf_utf8.specs.Laws.{ReplacesParts}
 use Rattle.nf_filter.specs.declared.fault.Fault.{Fault}
 use Rattle.nf_filter.specs.declared.fault.Fault.TheVariants.{Row, Write, Unassigned}
-use Rattle.nf_filter.specs.declared.normalizer.Normalizer.{Normalizer}
+use Rattle.nf_filter.specs.declared.counted.Counted.{Counted}
 use Rattle.nf_filter.specs.declared.policy.Policy.{Policy}
 use Rattle.nf_filter.specs.declared.reading.Reading.{Reading}
 use Rattle.nf_filter.specs.declared.tally.Tally.{Tally}
@@ -22,11 +22,11 @@ use Rattle.nf_filter.specs.Policy.{allowed, len_under, text_under, whole_under}
 use Rattle.nf_filter.specs.Settled.{settled, is_usable, usable, settled_utf8}
 use Rattle.nf_filter.specs.Faults.{answer_at_end, first_fault}
 use Rattle.nf_filter.specs.Feeding.{taken_utf8, HasReadTo, ReplacesCut}
-use Rattle.nf_filter.specs.Normalizer.{HasTaken, settled_text}
+use Rattle.nf_filter.specs.Counted.{HasTaken, settled_text}
 use Rattle.nf_filter.specs.Finishes.{tally_of, answer_or, end_under, end_of, whole_or, is_taken, final_under, final_utf8, Closes, Finishes}
 use Rattle.nf_filter.proofs.WritesLemmas.{Puts-none, Puts-join, Puts-at, BreaksOff-join, BreaksOff-at}
-use Rattle.nf_filter.proofs.PushingLemmas.{BreaksOff-extends}
-use Rattle.nf_filter.proofs.SettledLemmas.{Extends, Extends-encodes, usable-all, usable-stop}
+use Rattle.nf_filter.proofs.BlockLemmas.{BreaksOff-extends}
+use Rattle.nf_normalizer.specs.Laws.Settled.{Extends, Extends-encodes, usable-all, usable-stop}
 use Rattle.nf_filter.proofs.FilterLemmas.{never_failed, failed_with_more, write_or_not}
 use Rattle.nf_filter.proofs.PolicyLemmas.{allowed-append, allowed-grows, taken-all}
 use Rattle.nf_filter.proofs.PieceLemmas.{left-end}
@@ -136,24 +136,24 @@ module _ (f : Form) (p : Properties) where
           only [] e = allowed-append p a x (c ∷ []) all ∙ ap (λ l. x ++ l) e ∙ append-nil x
           only (d ∷ l) e = absurd (omega (arith, short.0, ap length (allowed-append p a x (c ∷ []) all), length-append x (allowed a p (c ∷ [])), ap length e, length-append x (c ∷ [])))
 
-module _ (policy : Policy) (f : Form) (p : Properties) (base : ℕ) (laws : ReplacesParts) (normalizer : Normalizer) (reading : Reading) (bytes : List ℕ) (read : HasReadTo policy f p normalizer base reading bytes []) where
+module _ (policy : Policy) (f : Form) (p : Properties) (base : ℕ) (laws : ReplacesParts) (counted : Counted) (reading : Reading) (bytes : List ℕ) (read : HasReadTo policy f p counted base reading bytes []) where
   whole : List ℕ
   whole = whole_under policy.replace bytes
 
   -- nothing is replaced
   module _ (strict : policy.replace ≡ false) (sink : SinkState) where
     end_is : answer_at_end base (tt {0}) (ending_of bytes) ≡ answer_at_end (base + read.n) (tt {0}) (ending_of read.tail)
-    end_is = left-end policy.replace bytes read.before read.n read.tail (left_is policy f p base laws normalizer reading bytes read) strict base
+    end_is = left-end policy.replace bytes read.before read.n read.tail (left_is policy f p base laws counted reading bytes read) strict base
 
     whole_is : whole_under policy.replace bytes ≡ read.before ++ text_of read.tail
-    whole_is = strict_whole policy.replace bytes strict ∙ read-text policy f p base laws normalizer reading bytes read
+    whole_is = strict_whole policy.replace bytes strict ∙ read-text policy f p base laws counted reading bytes read
 
-    pub close-strict : (r : Result (Unit {0}) Fault) → r ≡ answer_at_end (base + read.n) (tt {0}) (ending_of read.tail) → ((fault : Fault) → r ≡ Err fault → ¬ (fault ≡ Write)) → Closes policy f p normalizer base bytes sink sink r
+    pub close-strict : (r : Result (Unit {0}) Fault) → r ≡ answer_at_end (base + read.n) (tt {0}) (ending_of read.tail) → ((fault : Fault) → r ≡ Err fault → ¬ (fault ≡ Write)) → Closes policy f p counted base bytes sink sink r
     unfolding end_of final_utf8
     close-strict (Ok u) is other =
         let told : Ok (tt {0}) ≡ answer_at_end base (tt {0}) (ending_of bytes) = is ∙ sym end_is in (
-          subst (HasTaken f p normalizer) (sym whole_is) read.taken,
-          Puts-at refl (sym (read-settled policy f p base laws normalizer reading bytes read) ∙ ap (settled_text f p) (sym whole_is)) (Puts-none sink (settled_utf8 policy f p bytes)),
+          subst (HasTaken f p counted) (sym whole_is) read.taken,
+          Puts-at refl (sym (read-settled policy f p base laws counted reading bytes read) ∙ ap (settled_text f p) (sym whole_is)) (Puts-none sink (settled_utf8 policy f p bytes)),
           strict_end policy.replace policy.assigned p base bytes strict ∙ no_end base (tt {0}) (tally_of policy.replace p bytes) (ending_of bytes) told,
           strict_final policy.replace policy.assigned p bytes (settled_utf8 policy f p bytes) (encode_utf8_all (safe_form f p (whole_under policy.replace bytes))) strict ∙ not_cut_short base (ending_of bytes) _ _ told,
         )
@@ -175,18 +175,18 @@ module _ (policy : Policy) (f : Form) (p : Properties) (base : ℕ) (laws : Repl
     unfolding text
     kept out = next carried is_carried
       where
-        taken : HasTaken f p normalizer (read.before ++ text_of read.tail)
+        taken : HasTaken f p counted (read.before ++ text_of read.tail)
         taken = read.taken
 
         next : (n : ℕ) → length (encode_utf8_all (text_of read.tail)) + n ≡ length read.tail → taken_utf8 policy.assigned f p (whole_under policy.replace bytes) ≡ settled_utf8 policy f p bytes
         next zero is =
-            ap (taken_utf8 policy.assigned f p) (whole-none policy f p base laws normalizer reading bytes read replaces zero is refl)
-            ∙ ap (settled_text f p) (taken-all p policy.assigned (read.before ++ text_of read.tail) taken.usable read.allowed) ∙ read-settled policy f p base laws normalizer reading bytes read
+            ap (taken_utf8 policy.assigned f p) (whole-none policy f p base laws counted reading bytes read replaces zero is refl)
+            ∙ ap (settled_text f p) (taken-all p policy.assigned (read.before ++ text_of read.tail) taken.machine.usable read.allowed) ∙ read-settled policy f p base laws counted reading bytes read
         next (suc n) is =
-            let some : whole_under policy.replace bytes ≡ (read.before ++ text_of read.tail) ++ replacement ∷ [] = whole-some policy f p base laws normalizer reading bytes read replaces (suc n) is (λ e. omega (arith, e)) in
+            let some : whole_under policy.replace bytes ≡ (read.before ++ text_of read.tail) ++ replacement ∷ [] = whole-some policy f p base laws counted reading bytes read replaces (suc n) is (λ e. omega (arith, e)) in
             ap (taken_utf8 policy.assigned f p) some
-            ∙ ap (settled_text f p) (kept_before f p policy.assigned (read.before ++ text_of read.tail) replacement taken.usable read.allowed (ap (is_taken policy.assigned p) (sym some) ∙ out))
-            ∙ read-settled policy f p base laws normalizer reading bytes read
+            ∙ ap (settled_text f p) (kept_before f p policy.assigned (read.before ++ text_of read.tail) replacement taken.machine.usable read.allowed (ap (is_taken policy.assigned p) (sym some) ∙ out))
+            ∙ read-settled policy f p base laws counted reading bytes read
 
     final_is : final_utf8 policy f p bytes ≡ (if is_taken policy.assigned p (whole_under policy.replace bytes) then encode_utf8_all (safe_form f p (whole_under policy.replace bytes)) else settled_utf8 policy f p bytes)
     unfolding final_utf8
@@ -196,14 +196,14 @@ module _ (policy : Policy) (f : Form) (p : Properties) (base : ℕ) (laws : Repl
     unfolding end_of
     end_at = replaced_end policy.replace policy.assigned p base bytes replaces
 
-    pub close-replaced : (after : Normalizer) (old new : SinkState) (r : Result (Unit {0}) Fault) → ReplacesCut policy f p after base bytes old new r → Closes policy f p after base bytes old new r
+    pub close-replaced : (after : Counted) (old new : SinkState) (r : Result (Unit {0}) Fault) → ReplacesCut policy f p after base bytes old new r → Closes policy f p after base bytes old new r
     close-replaced after old new (Ok u) cut =
         let none = sym (cut.fault (λ e. cc)) in
         let taken = cut.taken.0 in
         ⊎_elim
         (λ both. (
           cut.taken.0,
-          Puts-at refl (ap (settled_text f p) (taken-all p policy.assigned (whole_under policy.replace bytes) taken.usable cut.taken.1)) (cut.puts (λ e. cc)),
+          Puts-at refl (ap (settled_text f p) (taken-all p policy.assigned (whole_under policy.replace bytes) taken.machine.usable cut.taken.1)) (cut.puts (λ e. cc)),
           end_at ∙ ap (λ (o : Option Fault). answer_or o (tally_of policy.replace p bytes)) none,
           final_is ∙ ap (λ (b : Bool). if b then encode_utf8_all (safe_form f p (whole_under policy.replace bytes)) else settled_utf8 policy f p bytes) both.1,
         ))
@@ -239,7 +239,7 @@ module _ (policy : Policy) (f : Form) (p : Properties) (base : ℕ) (laws : Repl
             (taken_or_not f p policy.assigned (λ front. base + len_under policy.replace bytes front) (whole_under policy.replace bytes))
 
 -- the rest of the form, behind what came before
-module _ (policy : Policy) (f : Form) (p : Properties) (base : ℕ) (bytes : List ℕ) (after : Normalizer) (old mid new : SinkState) (closes : Closes policy f p after base bytes old mid (Ok tt)) where
+module _ (policy : Policy) (f : Form) (p : Properties) (base : ℕ) (bytes : List ℕ) (after : Counted) (old mid new : SinkState) (closes : Closes policy f p after base bytes old mid (Ok tt)) where
   pub Finishes-whole : (tally : Tally) → tally ≡ tally_of policy.replace p bytes → Puts mid new (settled_text f p (whole_under policy.replace bytes)) (encode_utf8_all (safe_form f p (whole_under policy.replace bytes)))
       → Finishes policy f p base bytes old new (Ok tally)
   Finishes-whole tally same given =

@@ -1,5 +1,5 @@
 -- What was written to the end is the form of the longest pieces, joined.
-use Rattle.std.proofs.Common.{◌≡◌, ℕ, ◌+◌, ◌==◌, Bool, true, false, List, [], ◌++◌, length, Option, None, Ok, sym, ap, ◌∙◌, arith, append-nil, ⊎_elim, encode_utf8_all}
+use Rattle.std.proofs.Common.{◌≡◌, ℕ, ◌+◌, Bool, true, false, List, [], length, None, Ok, sym, ap, ◌∙◌, arith, ⊎_elim, encode_utf8_all}
 use Rattle.std.proofs.lemmas.Bool.{and_parts, eqb-true}
 use Rattle.nf_forms.specs.Properties.{Properties}
 use Rattle.nf_forms.specs.declared.form.Form.{Form}

@@ -1,15 +1,11 @@
 pub mod WritesLemmas
 pub mod BlockLemmas
-pub mod SettledLemmas
-pub mod PushingLemmas
-pub mod NormalizerLemmas
 pub mod CharsLemmas
 pub mod PolicyLemmas
 pub mod TextLemmas
 pub mod CalmLemmas
 pub mod TakingLemmas
-pub mod ClosedLemmas
-pub mod PlainLemmas
+pub mod SteppingLemmas
 pub mod AllowingLemmas
 pub mod PieceLemmas
 pub mod ChunkLemmas
@@ -30,7 +26,6 @@ pub mod MeasuresLemmas
 pub mod SoundnessLemmas
 pub mod MendingLemmas
 pub mod AssignedLemmas
-pub mod EncodingLemmas
 pub mod WholeLemmas
 pub mod AgainLemmas
 pub mod JoinedLemmas

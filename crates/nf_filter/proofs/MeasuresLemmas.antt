@@ -16,10 +16,10 @@ use Rattle.nf_filter.specs.declared.taker.Stop.TheVariants.{Refused}
 use Rattle.nf_filter.specs.Policy.{as_is}
 use Rattle.nf_filter.specs.Settled.{is_usable}
 use Rattle.nf_filter.specs.Faults.{fault_in}
-use Rattle.nf_filter.specs.Normalizer.{utf8_place}
+use Rattle.nf_filter.specs.Counted.{utf8_place}
 use Rattle.nf_filter.specs.Taker.{stop_in, TakesText}
 use Rattle.nf_filter.specs.Measures.{HasMeasured, SeesText, unusable_stop}
-use Rattle.nf_filter.proofs.SettledLemmas.{is_usable-push}
+use Rattle.nf_normalizer.specs.Laws.Settled.{is_usable-push}
 use Rattle.nf_filter.proofs.TextLemmas.{unusable_at-usable, unusable_at-stop}
 use Rattle.nf_filter.proofs.FilterLemmas.{stop_in-fault}
 use Rattle.nf_filter.proofs.SurveysLemmas.{told}

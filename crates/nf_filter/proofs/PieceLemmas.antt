@@ -10,7 +10,7 @@ use Rattle.nf_utf8.specs.Laws.{ReplacesParts, SplitsBytes}
 use Rattle.nf_filter.specs.Faults.{answer_at_end, bad_under}
 use Rattle.nf_filter.specs.Feeding.{IsLeft}
 use Rattle.nf_filter.specs.Policy.{len_under, text_under, whole_under}
-use Rattle.nf_filter.proofs.SettledLemmas.{Extends}
+use Rattle.nf_normalizer.specs.Laws.Settled.{Extends}
 
 -- all of the bytes are left
 pub IsLeft-all : (r : Bool) (bytes : List ℕ) → IsLeft r bytes [] 0 bytes

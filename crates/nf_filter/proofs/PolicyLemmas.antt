@@ -10,7 +10,7 @@ use Rattle.nf_filter.specs.Faults.{first_fault}
 use Rattle.nf_filter.specs.Feeding.{taken_utf8}
 use Rattle.nf_filter.specs.Policy.{allowed}
 use Rattle.nf_filter.specs.Settled.{settled, is_usable, usable}
-use Rattle.nf_filter.proofs.SettledLemmas.{Extends, Extends-none, Extends-encodes, settled-extends, is_usable-stays_out, usable-all, usable-grows, usable-stays}
+use Rattle.nf_normalizer.specs.Laws.Settled.{Extends, Extends-none, Extends-encodes, settled-extends, is_usable-stays_out, usable-all, usable-grows, usable-stays}
 
 -- the first character of a text that does not pass a test
 pub record Fails (test : ℕ → Bool) (x : List ℕ) : Type 0 where

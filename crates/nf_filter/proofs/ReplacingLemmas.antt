@@ -1,5 +1,5 @@
 -- U+FFFD so many times, where a text may be cut before it.
-use Rattle.std.proofs.Common.{◌≡◌, ℕ, ◌+◌, ◌-◌, ◌*◌, ◌<◌, ◌≤◌, true, false, List, [], ◌∷◌, ◌++◌, length, take, Err, refl, sym, ap, ◌∙◌, subst, arith, append_assoc, length-append, take_at, zero, suc, encode_utf8_all}
+use Rattle.std.proofs.Common.{◌≡◌, ℕ, ◌+◌, ◌-◌, ◌*◌, ◌<◌, ◌≤◌, true, List, [], ◌∷◌, ◌++◌, length, take, refl, sym, ap, ◌∙◌, subst, arith, append_assoc, length-append, take_at, zero, suc, inr, encode_utf8_all}
 use Rattle.std.specs.Str.{IsCharBoundary, all_scalars}
 use Rattle.std.proofs.lemmas.Str.{encodes-append, IsCharBoundary-at_seam}
 use Rattle.std.specs.Str.Lossy.{replacement_bytes}
@@ -8,21 +8,21 @@ use Rattle.nf_forms.specs.Properties.{Properties}
 use Rattle.nf_forms.specs.declared.form.Form.{Form}
 use Rattle.nf_forms.specs.SafeForm.{safe_form}
 use Rattle.nf_forms.specs.Closed.{BeginsAtBoundary, HasForm}
-use Rattle.nf_forms.specs.Laws.Closed.{HasForm-append, HasForm-alone}
+use Rattle.nf_forms.specs.Laws.Closed.{HasForm-append, HasForm-alone, sound-closed, safe_form-closed, stream_safe-closed}
 use Rattle.nf_forms.specs.Laws.ClosedForms.{parting-boundary}
 use Rattle.nf_row.specs.Kind.{IsKnownParting}
 use Rattle.nf_utf8.specs.Broken.{replacements}
 use Rattle.nf_utf8.specs.Replaced.{replacement}
-use Rattle.nf_filter.specs.declared.normalizer.Normalizer.{Normalizer}
-use Rattle.nf_filter.specs.declared.refusal.Refusal.{Refusal}
-use Rattle.nf_filter.specs.declared.refusal.Refusal.TheVariants.{Unsound, Write}
-use Rattle.nf_filter.specs.Settled.{settled, is_usable}
-use Rattle.nf_filter.specs.Block.{Start, BlockState, Written, Broken}
-use Rattle.nf_filter.specs.Normalizer.{HasTaken, TakesChar, settled_text}
-use Rattle.nf_filter.proofs.BlockLemmas.{Written-at}
-use Rattle.nf_filter.proofs.SettledLemmas.{Extends}
-use Rattle.nf_filter.proofs.PushingLemmas.{Broken-at, Broken-extends}
-use Rattle.nf_filter.proofs.ClosedLemmas.{Closes, closes, past, Written-whole, Broken-whole, before_utf8}
+use Rattle.nf_filter.specs.declared.counted.Counted.{Counted}
+use Rattle.nf_normalizer.specs.Normalizer.{HasTaken as Takes}
+use Rattle.nf_normalizer.specs.Laws.Boundary.{settled_text-behind}
+use Rattle.nf_filter.specs.Settled.{is_usable}
+use Rattle.nf_filter.specs.Stepping.{Standing}
+use Rattle.nf_forms.specs.StreamSafe.{stream_safe}
+use Rattle.nf_forms.specs.Laws.Sound.{IsSoundText}
+use Rattle.nf_filter.specs.Block.{Start, BlockState, Written}
+use Rattle.nf_filter.specs.Counted.{settled_text}
+use Rattle.nf_normalizer.specs.Laws.Settled.{Extends, Extends-join}
 
 pub replacements-append : (m n : ℕ) → replacements m ++ replacements n ≡ replacements (m + n)
 replacements-append zero n = ap replacements (let same : n ≡ 0 + n = omega arith in same)
@@ -71,12 +71,6 @@ module _ (text : List ℕ) (many n : ℕ) (is : text ≡ encode_utf8_all (replac
   pub front_is : take (3 * n) text ≡ encode_utf8_all (replacements n)
   front_is = ap (take (3 * n)) in_two ∙ take_at (encode_utf8_all (replacements n)) (encode_utf8_all (replacements (many - n))) (3 * n) (length-encodes n)
 
--- what the character did that was taken first of all
-pub char_broken : (f : Form) (p : Properties) (normalizer : Normalizer) (start : Start) (now : BlockState) (c : ℕ) (why : Refusal) → is_usable p (c ∷ []) ≡ true
-    → TakesChar f p normalizer start now [] c (Err why) → Broken start now (settled_text f p (c ∷ []))
-char_broken f p normalizer start now c Unsound usable takes = absurd (let both : true ≡ false = sym usable ∙ takes.0 in cc)
-char_broken f p normalizer start now c Write usable takes = takes.1
-
 module _ (p : Properties) (f : Form) (known : IsKnownParting p f replacement) where
   abbrev next : BeginsAtBoundary p f (replacement ∷ [])
   next = record { first = replacement; rest = []; text = refl; boundary = parting-boundary p f replacement known.parting; sound = known.sound }
@@ -89,44 +83,52 @@ module _ (p : Properties) (f : Form) (known : IsKnownParting p f replacement) wh
   form (suc zero) some = one
   form (suc (suc n)) some = HasForm-append p f (replacement ∷ []) (replacements (suc n)) (replacement ∷ []) (replacements (suc n)) one (form (suc n) (omega arith))
 
+  -- so many behind x
+  module _ (x : List ℕ) (usable : is_usable p x ≡ true) (n : ℕ) (some : 0 < n) where
+    sound : IsSoundText p (stream_safe p x)
+    unfolding is_usable
+    sound = usable
+
+    usable-more : is_usable p (x ++ replacements n) ≡ true
+    unfolding is_usable
+    usable-more = sound-closed p f x (replacements n) (replacements n) sound (form n some)
+
+    due-more : encode_utf8_all (safe_form f p x) ++ encode_utf8_all (replacements n) ≡ encode_utf8_all (safe_form f p (x ++ replacements n))
+    due-more = sym (encodes-append (safe_form f p x) (replacements n)) ∙ ap encode_utf8_all (sym (safe_form-closed p f x (replacements n) (replacements n) sound (form n some)))
+
+    safe-more : stream_safe p (x ++ replacements n) ≡ stream_safe p x ++ replacements n
+    safe-more = stream_safe-closed p f x (replacements n) (replacements n) sound (form n some)
+
+    pub usable_all : is_usable p (x ++ replacements n) ≡ true
+    usable_all = usable-more
+
+    -- all but the last were written
+    pub standing-before : (counted : Counted) (start : Start) (now : BlockState) → Takes f p counted.normalizer [] → length (stream_safe p x) ≡ length x + counted.put
+        → Written start now (encode_utf8_all (safe_form f p x) ++ encode_utf8_all (replacements n)) → Standing f p counted start now (x ++ replacements n) (replacement ∷ [])
+    standing-before counted start now anew put written = record {
+      given = written.given;
+      puts = written.puts;
+      stands = inr (record {
+        anew = anew;
+        usable = usable-more;
+        boundary = next;
+        holds = record { text = ap (λ l. start.ahead ++ l) (sym due-more) ∙ written.text };
+      });
+      put = omega (arith, put, ap length safe-more, length-append (stream_safe p x) (replacements n), length-append x (replacements n));
+    }
+
   module _ (x : List ℕ) (usable : is_usable p x ≡ true) (count : ℕ) (many : 1 < count) where
-    abbrev front : List ℕ
-    front = replacements (count - 1)
+    pub all_is : (x ++ replacements (count - 1)) ++ replacement ∷ [] ≡ x ++ replacements count
+    all_is = append_assoc x (replacements (count - 1)) (replacement ∷ []) ∙ ap (λ l. x ++ l) (replacements-append (count - 1) 1 ∙ ap replacements (let same : (count - 1) + 1 ≡ count = omega (arith, many) in same))
 
-    here : Closes p f x front front replacement
-    here = closes p f x front front (replacement ∷ []) usable (form (count - 1) (omega (arith, many))) next
+    pub all_usable : is_usable p (x ++ replacements count) ≡ true
+    all_usable = usable_all x usable count (omega (arith, many))
 
-    all_is : front ++ replacement ∷ [] ≡ replacements count
-    all_is = replacements-append (count - 1) 1 ∙ ap replacements (let same : (count - 1) + 1 ≡ count = omega (arith, many) in same)
-
-    due : before_utf8 p f x front ++ settled_text f p (replacement ∷ []) ≡ settled_text f p (x ++ replacements count)
-    due =
-        ap (λ b. b ++ settled_text f p (replacement ∷ [])) (sym (encodes-append (safe_form f p x) front))
-        ∙ sym (encodes-append (safe_form f p x ++ front) (settled f p (replacement ∷ []))) ∙ ap encode_utf8_all (sym here.settled_is)
-        ∙ ap (λ l. settled_text f p (x ++ l)) all_is
-
-    pub alone : is_usable p (replacement ∷ []) ≡ true
-    alone = here.alone
-
-    pub usable_all : is_usable p (x ++ replacements count) ≡ true
-    usable_all = ap (λ l. is_usable p (x ++ l)) (sym all_is) ∙ here.usable
-
-    module _ (start : Start) (now : BlockState) where
-      -- the sink failed before the last
-      pub broken_before : (w : List ℕ) → Extends w (before_utf8 p f x front) → Broken start now w → Broken start now (settled_text f p (x ++ replacements count))
-      broken_before w extends broken =
-          Broken-extends start (record { more = extends.more ++ settled_text f p (replacement ∷ []); text = sym due ∙ ap (λ l. l ++ settled_text f p (replacement ∷ [])) extends.text ∙ append_assoc w extends.more (settled_text f p (replacement ∷ [])) }) broken
-
-      -- or at the last
-      pub broken_with : Broken (past p f start (before_utf8 p f x front)) now (settled_text f p (replacement ∷ [])) → Broken start now (settled_text f p (x ++ replacements count))
-      broken_with broken = Broken-at start due (Broken-whole p f start now (before_utf8 p f x front) (settled_text f p (replacement ∷ [])) broken)
-
-      -- all were taken
-      pub taken_all : (old new : Normalizer) (chars : ℕ) → HasTaken f p old x → HasTaken f p new (replacement ∷ []) → chars ≡ old.chars + count
-          → Written (past p f start (before_utf8 p f x front)) now (settled_text f p (replacement ∷ []))
-          → HasTaken f p (record new { chars = chars; put = old.put }) (x ++ replacements count) × Written start now (settled_text f p (x ++ replacements count))
-      taken_all old new chars before anew counted written = (
-        subst (λ l. HasTaken f p (record new { chars = chars; put = old.put }) (x ++ l)) all_is
-            (here.taken old new chars before anew (omega (arith, counted, ap length all_is, length-replacements count))),
-        Written-at due (Written-whole p f start now (before_utf8 p f x front) (settled_text f p (replacement ∷ [])) written),
-      )
+    -- what is due first
+    pub Extends-due : (w : List ℕ) → Extends w (encode_utf8_all (safe_form f p x) ++ encode_utf8_all (replacements (count - 1))) → Extends w (settled_text f p (x ++ replacements count))
+    Extends-due w due = Extends-join due (record {
+      more = settled_text f p (replacement ∷ []);
+      text = ap (settled_text f p) (sym all_is)
+          ∙ sym (settled_text-behind p f (x ++ replacements (count - 1)) (usable_all x usable (count - 1) (omega (arith, many))) (replacement ∷ []) [] [] next refl)
+          ∙ ap (λ l. l ++ settled_text f p (replacement ∷ [])) (sym (due-more x usable (count - 1) (omega (arith, many))));
+    })

@@ -136,36 +136,36 @@ module _ (laws : ReplacesParts) {policy : Policy} {f : Form} {p : Properties} {s
   decomposition = decomposed f p (stream_safe p text)
 
   abbrev run : ℕ
-  run = length state.normalizer.pending.marks.items
+  run = length state.counted.normalizer.pending.marks.items
 
-  pending : PendingStandsAfter f p state.normalizer.pending decomposition
-  pending = stands.reading.taken.pending
+  pending : PendingStandsAfter f p state.counted.normalizer.pending decomposition
+  pending = stands.reading.taken.machine.pending
 
   run_is : run ≡ trail p decomposition
   run_is = run_len-trail f p _ decomposition pending
 
-  starts : has_starter p decomposition ≡ is_some state.normalizer.pending.starter
-  starts = starter_held f p state.normalizer.pending decomposition pending
+  starts : has_starter p decomposition ≡ is_some state.counted.normalizer.pending.starter
+  starts = starter_held f p state.counted.normalizer.pending decomposition pending
 
-  counted_by : (g : Form) → run ≤ state.normalizer.counter → run ≡ trail p (decomposed g p (stream_safe p text)) → IsCounted g run state.normalizer.counter
+  counted_by : (g : Form) → run ≤ state.counted.normalizer.counter → run ≡ trail p (decomposed g p (stream_safe p text)) → IsCounted g run state.counted.normalizer.counter
   counted_by Nfc few same = few
   counted_by Nfd few same = few
-  counted_by Nfkc few same = same ∙ sym stands.reading.taken.count
-  counted_by Nfkd few same = same ∙ sym stands.reading.taken.count
+  counted_by Nfkc few same = same ∙ sym stands.reading.taken.machine.count
+  counted_by Nfkd few same = same ∙ sym stands.reading.taken.machine.count
 
-  new_text : text ≡ [] → (state.normalizer.counter ≡ 0) × (state.normalizer.pending.starter ≡ None)
+  new_text : text ≡ [] → (state.counted.normalizer.counter ≡ 0) × (state.counted.normalizer.pending.starter ≡ None)
   new_text e = (
-    stands.reading.taken.count ∙ ap (λ x. trail p (decomposed Nfkd p (stream_safe p x))) e,
-    none state.normalizer.pending.starter (sym (ap (λ x. has_starter p (decomposed f p (stream_safe p x))) e) ∙ starts),
+    stands.reading.taken.machine.count ∙ ap (λ x. trail p (decomposed Nfkd p (stream_safe p x))) e,
+    none state.counted.normalizer.pending.starter (sym (ap (λ x. has_starter p (decomposed f p (stream_safe p x))) e) ∙ starts),
   )
 
-  all_pending : state.normalizer.pending.starter ≡ None → length (stream_safe p text) ≤ run
+  all_pending : state.counted.normalizer.pending.starter ≡ None → length (stream_safe p text) ≤ run
   unfolding is_usable
   all_pending e =
       let plain : has_starter p decomposition ≡ false = starts ∙ ap is_some e in
-      omega (arith, run_is, trail-marks p decomposition plain, rows_some p f (stream_safe p text) stands.reading.taken.usable)
+      omega (arith, run_is, trail-marks p decomposition plain, rows_some p f (stream_safe p text) stands.reading.taken.machine.usable)
 
-  pub counts_fit : length (encode_utf8_all (text_of tail)) + length state.reading.decoder ≡ length tail → run ≤ state.normalizer.counter → state.normalizer.put ≤ state.normalizer.chars → CountsFit (saved_of state)
+  pub counts_fit : length (encode_utf8_all (text_of tail)) + length state.reading.decoder ≡ length tail → run ≤ state.counted.normalizer.counter → state.counted.put ≤ state.counted.chars → CountsFit (saved_of state)
   counts_fit held few put =
       let taken = stands.reading.taken in
       let chars : length text ≤ stands.reading.n + length (encode_utf8_all (text_of tail)) =
@@ -173,31 +173,31 @@ module _ (laws : ReplacesParts) {policy : Policy} {f : Form} {p : Properties} {s
         held = omega (arith, held, stands.reading.offset);
         chars = omega (arith, held, chars, taken.chars, stands.reading.offset);
         put = put;
-        counted = subst (λ g. IsCounted g run state.normalizer.counter) (sym taken.form) (counted_by f few run_is);
+        counted = subst (λ g. IsCounted g run state.counted.normalizer.counter) (sym taken.machine.form) (counted_by f few run_is);
         new = λ e. new_text (nothing text (sym taken.chars ∙ e));
         unstarted = λ e. omega (arith, all_pending e, taken.chars, taken.put);
       }
 
   pub is_pending : IsPending p (saved_of state)
-  is_pending = record { starter = starter state.normalizer.pending.starter refl; marks = marks }
+  is_pending = record { starter = starter state.counted.normalizer.pending.starter refl; marks = marks }
     where
-      starter : (o : Option ℕ) → state.normalizer.pending.starter ≡ o → IfSome o (λ c. p.class c ≡ 0)
+      starter : (o : Option ℕ) → state.counted.normalizer.pending.starter ≡ o → IfSome o (λ c. p.class c ≡ 0)
       starter None e = tt
       starter (Some c) e = eqb-true (p.class c) 0 (back-starter p (composes f) pending.head pending.ends c (sym pending.starter ∙ ap option_to_list e))
 
       ordered : is_ordered p (by_class p pending.run) ≡ true
       ordered = ap (is_ordered p) (sym (order-marks p pending.run pending.marks)) ∙ (ordering p pending.run).ordered
 
-      marks : are_marks p 1 state.normalizer.pending.marks.items ≡ true
+      marks : are_marks p 1 state.counted.normalizer.pending.marks.items ≡ true
       marks = ap (are_marks p 1) pending.held ∙ marks_of_run p (by_class p pending.run) ordered (has_starter-by_class p pending.run)
 
 -- a filter that is spent
-pub IsRestorable-spent : (p : Properties) (state : State) → IsPart state.reading.decoder → state.normalizer.counter ≤ max_run → is_spent state ≡ true → IsRestorable p (saved_of state)
+pub IsRestorable-spent : (p : Properties) (state : State) → IsPart state.reading.decoder → state.counted.normalizer.counter ≤ max_run → is_spent state ≡ true → IsRestorable p (saved_of state)
 IsRestorable-spent p state held count spent = record { held = held; count = count; base = state.base_within; fits = inl spent }
 
 -- or one that stands after bytes
-pub IsRestorable-stands : (laws : ReplacesParts) {policy : Policy} {f : Form} {p : Properties} {state : State} {bytes : List ℕ} (stands : StandsAfter policy f p state bytes) → IsPart state.reading.decoder → state.normalizer.counter ≤ max_run
+pub IsRestorable-stands : (laws : ReplacesParts) {policy : Policy} {f : Form} {p : Properties} {state : State} {bytes : List ℕ} (stands : StandsAfter policy f p state bytes) → IsPart state.reading.decoder → state.counted.normalizer.counter ≤ max_run
     → length (encode_utf8_all (text_of stands.reading.tail)) + length state.reading.decoder ≡ length stands.reading.tail → IsRestorable p (saved_of state)
 IsRestorable-stands laws {state = state} stands held count few =
     let ready = state.ready stands.unspent in
-    record { held = held; count = count; base = state.base_within; fits = inr (counts_fit laws stands few ready.end.0.run ready.end.0.put, is_pending laws stands) }
+    record { held = held; count = count; base = state.base_within; fits = inr (counts_fit laws stands few ready.end.0.machine.run ready.end.0.put, is_pending laws stands) }

@@ -4,14 +4,14 @@ use Rattle.std.specs.Io.KnownBytes.{Consumes, IsAtEnd}
 use Rattle.nf_utf8.specs.Ending.{Ending, Whole, Bad, Cut as CutShort}
 use Rattle.nf_utf8.specs.Reading.{text_of, ending_of}
 use Rattle.nf_filter.specs.declared.fault.Fault.{Fault}
-use Rattle.nf_filter.specs.declared.fault.Fault.TheVariants.{Spent, TooLong, Read, Write, Row, BadByte, Cut, Unassigned}
+use Rattle.nf_filter.specs.declared.fault.Fault.TheVariants.{TooLong, Read, Cut}
 use Rattle.nf_filter.specs.declared.reading.Reading.{Reading}
 use Rattle.nf_filter.specs.declared.taker.Stop.{Stop}
-use Rattle.nf_filter.specs.declared.taker.Stop.TheVariants.{Refused, Found}
+use Rattle.nf_filter.specs.declared.taker.Stop.TheVariants.{Refused}
 use Rattle.nf_filter.specs.Devices.{SourceState}
 use Rattle.nf_filter.specs.Faults.{answer_at_end}
 use Rattle.nf_filter.specs.Taker.{HasRead, ReadsPiece, MayStopReading}
-use Rattle.nf_filter.specs.Sources.{MayStopAll, IsCutStop, stop_at_end, ReadsAll}
+use Rattle.nf_filter.specs.Sources.{stop_at_end, ReadsAll}
 
 -- what stops the reading of a piece is no failed read
 pub not_read : (finds : Bool) (stop : Stop) → MayStopReading finds stop → ¬ (stop ≡ Refused Read)

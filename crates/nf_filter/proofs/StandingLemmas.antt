@@ -12,7 +12,7 @@ use Rattle.nf_filter.specs.Faults.{bad_byte, bad_under, first_fault, fault_in}
 use Rattle.nf_filter.specs.Feeding.{HasReadTo}
 use Rattle.nf_filter.specs.Filter.{base_of, offset_of, is_spent, StandsAfter}
 use Rattle.nf_filter.specs.Laws.Settled.{text_under-none}
-use Rattle.nf_filter.specs.Normalizer.{HasTaken}
+use Rattle.nf_filter.specs.Counted.{HasTaken}
 use Rattle.nf_filter.specs.Policy.{allowed, len_under, text_under}
 use Rattle.nf_filter.specs.Settled.{is_usable}
 use Rattle.nf_filter.proofs.FilterLemmas.{StandsAfter-offset}
@@ -41,7 +41,7 @@ module _ (p : Properties) where
 
   module _ (policy : Policy) (f : Form) (state : State) where
     -- a new filter
-    pub StandsAfter-none : is_spent state ≡ false → state.policy ≡ policy → offset_of state ≡ base_of state → DecoderStandsAfter state.reading.decoder [] → HasTaken f p state.normalizer []
+    pub StandsAfter-none : is_spent state ≡ false → state.policy ≡ policy → offset_of state ≡ base_of state → DecoderStandsAfter state.reading.decoder [] → HasTaken f p state.counted []
         → StandsAfter policy f p state []
     StandsAfter-none unspent is offset decoder taken = record {
       unspent = unspent;
@@ -54,7 +54,7 @@ module _ (p : Properties) where
         decoder = decoder;
         good = λ n. ap (bad_byte n) ending_of-none;
         offset = omega (arith, offset);
-        taken = subst (HasTaken f p state.normalizer) (sym text_of-none) taken;
+        taken = subst (HasTaken f p state.counted) (sym text_of-none) taken;
         allowed = all_allowed policy.assigned (text_of []) text_of-none;
       };
       no_fault = fault_in-none policy (base_of state);
@@ -93,12 +93,12 @@ module _ (p : Properties) where
       pub nothing_read : DecoderStandsAfter state.reading.decoder []
       nothing_read = subst (DecoderStandsAfter state.reading.decoder) tail_is stands.reading.decoder
 
-      pub nothing_taken : HasTaken f p state.normalizer []
-      nothing_taken = subst (HasTaken f p state.normalizer) (ap (λ l. l ++ text_of stands.reading.tail) before_is ∙ ap text_of tail_is ∙ text_of-none) stands.reading.taken
+      pub nothing_taken : HasTaken f p state.counted []
+      nothing_taken = subst (HasTaken f p state.counted) (ap (λ l. l ++ text_of stands.reading.tail) before_is ∙ ap text_of tail_is ∙ text_of-none) stands.reading.taken
 
 -- what was taken is the text of the bytes, and what the decoder holds gave nothing of it
 module _ (laws : ReplacesParts) {policy : Policy} {f : Form} {p : Properties} {state : State} {bytes : List ℕ} (stands : StandsAfter policy f p state bytes) where
-  abbrev read : HasReadTo policy f p state.normalizer (base_of state) state.reading bytes []
+  abbrev read : HasReadTo policy f p state.counted (base_of state) state.reading bytes []
   read = stands.reading
 
   own : text_under policy.replace (read.tail ++ []) ≡ text_of read.tail

@@ -1,18 +1,7 @@
 -- A text, front by front.
-use Rattle.std.proofs.Common.{◌≡◌, ℕ, ◌+◌, true, List, [], ◌∷◌, ◌++◌, length, Option, Some, Ok, Err, refl, sym, ap, ◌∙◌, subst, arith, append-nil, append_assoc, encode_utf8, Result, MatchOption, encode_utf8_all, IsUtf8, chars, length-append}
+use Rattle.std.proofs.Common.{◌≡◌, ℕ, ◌+◌, ◌<◌, ◌^◌, List, [], ◌∷◌, ◌++◌, length, Option, Some, refl, sym, ap, ◌∙◌, subst, arith, append-nil, append_assoc, encode_utf8, MatchOption, encode_utf8_all, IsUtf8, chars, length-append}
 use Rattle.std.proofs.lemmas.Str.{chars-nil, chars-append, encodes-append, encodes-chars}
-use Rattle.nf_forms.specs.Properties.{Properties}
-use Rattle.nf_forms.specs.declared.form.Form.{Form}
-use Rattle.nf_filter.specs.declared.normalizer.Normalizer.{Normalizer}
-use Rattle.nf_filter.specs.declared.fault.Fault.{Fault}
-use Rattle.nf_filter.specs.declared.fault.Fault.TheVariants.{Write as WriteFault}
-use Rattle.nf_filter.specs.Settled.{is_usable}
-use Rattle.nf_filter.specs.Block.{Start, BlockState, Written, Broken}
-use Rattle.nf_filter.specs.Normalizer.{HasTaken, IsPlacedAt, TakesOn, settled_text, usable_utf8}
-use Rattle.nf_filter.specs.Taking.{HasTakenFront}
-use Rattle.nf_filter.proofs.SettledLemmas.{Extends}
-use Rattle.nf_filter.proofs.PushingLemmas.{Broken-extends}
-use Rattle.nf_filter.proofs.TextLemmas.{TakesOn-all, usable_utf8-extends}
+use Rattle.nf_filter.specs.Counted.{HasPlaces, IsPlacedAt}
 
 pub front_len : (text front rest : List ℕ) → IsUtf8 text → IsUtf8 rest → chars text ≡ front ++ chars rest → length text ≡ length (encode_utf8_all front) + length rest
 front_len text front rest whole behind is =
@@ -44,6 +33,11 @@ chars-three text a b rest first second is =
 pub begins : (none : Type 0) (bytes rest : List ℕ) (r : Option ℕ) (c : ℕ) → r ≡ Some c → MatchOption r none (λ d. bytes ≡ encode_utf8 d ++ rest) → bytes ≡ encode_utf8 c ++ rest
 begins none bytes rest r c is step = subst (λ o. MatchOption o none (λ d. bytes ≡ encode_utf8 d ++ rest)) is step
 
+-- in bytes of so many, each offset can be told
+pub HasPlaces-all : (at : ℕ) (text : List ℕ) → IsUtf8 text → at + length text < 2 ^ 64 → HasPlaces at text
+HasPlaces-all at text utf8 fits front c rest is =
+    omega (arith, fits, ap length (sym (encodes-chars text utf8) ∙ ap encode_utf8_all is ∙ encodes-append front (c ∷ rest)), length-append (encode_utf8_all front) (encode_utf8_all (c ∷ rest)))
+
 nothing : (w : List ℕ) → length w ≡ 0 → w ≡ []
 nothing [] e = refl
 nothing (c ∷ w) e = cc
@@ -58,45 +52,3 @@ module _ (text front rest : List ℕ) (is : chars text ≡ front ++ chars rest) 
 
   pub front-whole : length rest ≡ 0 → front ≡ chars text
   front-whole none = sym (is ∙ ap (λ l. front ++ l) (ap chars (nothing rest none) ∙ chars-nil) ∙ append-nil front)
-
-module _ (f : Form) (p : Properties) (normalizer : Normalizer) (start : Start) (now : BlockState) where
-  pub HasTakenFront-none : (x text : List ℕ) → HasTaken f p normalizer x → Written start now (settled_text f p x) → HasTakenFront f p normalizer start now x text text
-  HasTakenFront-none x text taken written = record {
-    front = [];
-    is_front = refl;
-    taken = subst (HasTaken f p normalizer) (sym (append-nil x)) taken;
-    written = subst (λ y. Written start now (settled_text f p y)) (sym (append-nil x)) written;
-  }
-
-  pub HasTakenFront-more : (x text front rest behind : List ℕ) → chars text ≡ front ++ chars rest → HasTakenFront f p normalizer start now (x ++ front) rest behind
-      → HasTakenFront f p normalizer start now x text behind
-  HasTakenFront-more x text front rest behind is next = record {
-    front = front ++ next.front;
-    is_front = front-more text front rest is next.front behind next.is_front;
-    taken = subst (HasTaken f p normalizer) (append_assoc x front next.front) next.taken;
-    written = subst (λ y. Written start now (settled_text f p y)) (append_assoc x front next.front) next.written;
-  }
-
-  pub TakesOn-more : (place : List ℕ → ℕ) (x text front rest : List ℕ) (r : Result (Unit {0}) Fault) → chars text ≡ front ++ chars rest → TakesOn f p normalizer start now place ((x ++ front) ++ chars rest) r
-      → TakesOn f p normalizer start now place (x ++ chars text) r
-  TakesOn-more place x text front rest r is takes =
-      subst (λ y. TakesOn f p normalizer start now place y r) (front-behind text front rest is x) takes
-
-  pub TakesOn-whole : (place : List ℕ → ℕ) (x text rest : List ℕ) → length rest ≡ 0 → HasTakenFront f p normalizer start now x text rest → TakesOn f p normalizer start now place (x ++ chars text) (Ok tt)
-  TakesOn-whole place x text rest none here =
-      subst (λ y. TakesOn f p normalizer start now place y (Ok tt))
-      (ap (λ l. x ++ l) (front-whole text here.front rest here.is_front none))
-      (TakesOn-all p f normalizer start now place (x ++ here.front) here.taken here.written)
-
-  -- the sink failed in what a front of the text settles
-  pub TakesOn-broken : (place : List ℕ → ℕ) (x text front rest : List ℕ) → chars text ≡ front ++ rest → is_usable p (x ++ front) ≡ true → Broken start now (settled_text f p (x ++ front))
-      → TakesOn f p normalizer start now place (x ++ chars text) (Err WriteFault)
-  TakesOn-broken place x text front rest is usable broken = record {
-    broken = λ _. Broken-extends start (subst (λ y. Extends (settled_text f p (x ++ front)) (usable_utf8 f p y)) whole (usable_utf8-extends p f (x ++ front) rest usable)) broken;
-    written = λ no. absurd (no refl);
-    fault = λ no. absurd (no refl);
-    taken = tt;
-  }
-    where
-      whole : (x ++ front) ++ rest ≡ x ++ chars text
-      whole = append_assoc x front rest ∙ ap (λ l. x ++ l) (sym is)

@@ -23,7 +23,7 @@ use Rattle.nf_filter.specs.Whole.{IsFormOf, IsOfWhole, fault_or, whole_answer, w
 use Rattle.nf_filter.specs.Laws.Settled.{settled_utf8-none}
 use Rattle.nf_filter.specs.Laws.Soundness.{AreSound, RefusesNone}
 use Rattle.nf_filter.proofs.WritesLemmas.{Puts-join, Puts-at, BreaksOff-join, BreaksOff-at, BreaksOff-longer}
-use Rattle.nf_filter.proofs.SettledLemmas.{Extends, Extends-none, Extends-encodes, usable-all}
+use Rattle.nf_normalizer.specs.Laws.Settled.{Extends, Extends-none, Extends-encodes, usable-all}
 use Rattle.nf_filter.proofs.FilterLemmas.{never_failed, failed_with_more, write_or_not}
 use Rattle.nf_filter.proofs.SoundnessLemmas.{not_at_end, not_a_fault}
 

@@ -1,11 +1,11 @@
--- Where the output block stands.
+-- Where the output block and the sink stand.
 use Rattle.std.specs.Prelude.{◌≡◌, List, ◌++◌, ℕ, Result, Ok, Err}
 use Rattle.nf_filter.specs.declared.block.Block.{Block}
 use Rattle.nf_filter.specs.declared.devices.Failed.{Failed}
 use Rattle.nf_filter.specs.Devices.{SinkState}
 use Rattle.nf_filter.specs.Writes.{Puts, BreaksOff}
 
--- where the sink stood when the block was laid over it, what was written before, and what of the text that is written
+-- where the sink stood when the block was begun, what was written before, and what of the text that is written
 -- now stands ahead of the part that is told
 pub record Start : Type 0 where
   pub sink : SinkState
@@ -17,8 +17,8 @@ pub record BlockState : Type 0 where
   pub sink : SinkState
   pub kept : List ℕ
 
-abbrev pub block_state : {S : Type 0} → (S → SinkState) → Block S → BlockState
-block_state state block = record { sink = state block.sink.now; kept = block.bytes.items }
+abbrev pub block_state : SinkState → Block → BlockState
+block_state sink block = record { sink = sink; kept = block.room.items }
 
 -- all of `after` that stands behind what was written before is given to the sink, or kept
 pub record Written (start : Start) (now : BlockState) (after : List ℕ) : Type 0 where

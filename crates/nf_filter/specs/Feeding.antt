@@ -1,4 +1,4 @@
--- How a piece is read for a normalizer, under a policy.
+-- How a piece is read for a counted, under a policy.
 use Rattle.std.specs.Prelude.{◌≡◌, false, Bool, ℕ, ◌+◌, ◌<◌, List, [], ◌++◌, length, Option, Some, None, Result, Ok, Err, OnOk}
 use Rattle.std.specs.Borrow.{Bor}
 use Rattle.std.specs.Result.{result_err}
@@ -8,14 +8,14 @@ use Rattle.nf_utf8.specs.Reading.{text_of, ending_of}
 use Rattle.nf_utf8.specs.Standing.{StandsAfter as DecoderStandsAfter}
 use Rattle.nf_filter.specs.declared.fault.Fault.{Fault}
 use Rattle.nf_filter.specs.declared.fault.Fault.TheVariants.{Write}
-use Rattle.nf_filter.specs.declared.normalizer.Normalizer.{Normalizer}
+use Rattle.nf_filter.specs.declared.counted.Counted.{Counted}
 use Rattle.nf_filter.specs.declared.policy.Policy.{Policy}
 use Rattle.nf_filter.specs.declared.reading.Reading.{Reading}
 use Rattle.nf_filter.specs.Devices.{SinkState}
 use Rattle.nf_filter.specs.Writes.{Puts, BreaksOff}
 use Rattle.nf_filter.specs.Block.{Start, BlockState, Written, Broken}
 use Rattle.nf_filter.specs.Faults.{answer_at_end, bad_byte, bad_under, first_fault, fault_in}
-use Rattle.nf_filter.specs.Normalizer.{HasTaken, settled_text}
+use Rattle.nf_filter.specs.Counted.{HasTaken, settled_text}
 use Rattle.nf_filter.specs.Policy.{allowed, len_under, text_under, whole_under}
 use Rattle.nf_filter.specs.Settled.{usable, settled_utf8}
 
@@ -24,12 +24,12 @@ abbrev pub taken_utf8 : Bool → Form → Properties → List ℕ → List ℕ
 taken_utf8 assigned f p x = settled_text f p (usable p (allowed assigned p x))
 
 -- the text x was taken, or why not all of it; `place` tells where what stands behind a front of it begins
-pub record TakesAllowed (assigned : Bool) (f : Form) (p : Properties) (normalizer : Normalizer) (start : Start) (now : BlockState) (place : List ℕ → ℕ) (x : List ℕ)
+pub record TakesAllowed (assigned : Bool) (f : Form) (p : Properties) (counted : Counted) (start : Start) (now : BlockState) (place : List ℕ → ℕ) (x : List ℕ)
     (result : Result (Unit {0}) Fault) : Type 0 where
   pub broken : result ≡ Err Write → Broken start now (taken_utf8 assigned f p x)
   pub written : ¬ (result ≡ Err Write) → Written start now (taken_utf8 assigned f p x)
   pub fault : ¬ (result ≡ Err Write) → result_err result ≡ first_fault assigned p place x None
-  pub taken : OnOk result (HasTaken f p normalizer x × (allowed assigned p x ≡ x))
+  pub taken : OnOk result (HasTaken f p counted x × (allowed assigned p x ≡ x))
 
 -- of the bytes the first n gave the text x, whatever follows: the rest is read as if it stood alone
 pub record IsLeft (replace : Bool) (bytes x : List ℕ) (n : ℕ) (left : List ℕ) : Type 0 where
@@ -41,7 +41,7 @@ pub record IsLeft (replace : Bool) (bytes x : List ℕ) (n : ℕ) (left : List �
   pub len : length bytes ≡ n + length left
 
 -- of the bytes, the first of which has the offset `base`, all but `rest` were read: `tail` since the decoder was new
-pub record HasReadTo (policy : Policy) (f : Form) (p : Properties) (normalizer : Normalizer) (base : ℕ) (reading : Reading) (bytes rest : List ℕ) : Type 0 where
+pub record HasReadTo (policy : Policy) (f : Form) (p : Properties) (counted : Counted) (base : ℕ) (reading : Reading) (bytes rest : List ℕ) : Type 0 where
   pub before : List ℕ
   pub n : ℕ
   pub tail : List ℕ
@@ -49,18 +49,18 @@ pub record HasReadTo (policy : Policy) (f : Form) (p : Properties) (normalizer :
   pub decoder : DecoderStandsAfter reading.decoder tail
   pub good : (n : ℕ) → bad_byte n (ending_of tail) ≡ None
   pub offset : reading.offset ≡ base + n + length tail
-  pub taken : HasTaken f p normalizer (before ++ text_of tail)
+  pub taken : HasTaken f p counted (before ++ text_of tail)
   pub allowed : allowed policy.assigned p (before ++ text_of tail) ≡ before ++ text_of tail
 
 -- so they were read, and what that settles was written
-abbrev pub ReadsTo : Policy → Form → Properties → Normalizer → Start → BlockState → ℕ → Reading → List ℕ → List ℕ → Type 0
-ReadsTo policy f p normalizer start now base reading bytes rest =
-    (read : HasReadTo policy f p normalizer base reading bytes rest) × Written start now (settled_text f p (read.before ++ text_of read.tail))
+abbrev pub ReadsTo : Policy → Form → Properties → Counted → Start → BlockState → ℕ → Reading → List ℕ → List ℕ → Type 0
+ReadsTo policy f p counted start now base reading bytes rest =
+    (read : HasReadTo policy f p counted base reading bytes rest) × Written start now (settled_text f p (read.before ++ text_of read.tail))
 
 -- the same right behind a part that was replaced, so that the decoder is as a new one
-abbrev pub ReadsToPart : Policy → Form → Properties → Normalizer → Start → BlockState → ℕ → Reading → List ℕ → List ℕ → Type 0
-ReadsToPart policy f p normalizer start now base reading bytes rest =
-    (both : ReadsTo policy f p normalizer start now base reading bytes rest) × (both.0.tail ≡ [])
+abbrev pub ReadsToPart : Policy → Form → Properties → Counted → Start → BlockState → ℕ → Reading → List ℕ → List ℕ → Type 0
+ReadsToPart policy f p counted start now base reading bytes rest =
+    (both : ReadsTo policy f p counted start now base reading bytes rest) × (both.0.tail ≡ [])
 
 -- or reading them was refused
 pub record RefusesBytes (policy : Policy) (f : Form) (p : Properties) (start : Start) (now : BlockState) (base : ℕ) (bytes : List ℕ) (fault : Fault) : Type 0 where
@@ -69,19 +69,19 @@ pub record RefusesBytes (policy : Policy) (f : Form) (p : Properties) (start : S
   pub is : ¬ (fault ≡ Write) → Some fault ≡ fault_in policy p base bytes
 
 -- all of the rest was read, or a front of it, or it was refused
-abbrev pub ReadsChunk : Policy → Form → Properties → Normalizer → Start → BlockState → ℕ → Reading → List ℕ → Result (Option (Bor (List ℕ))) Fault → Type 0
-ReadsChunk policy f p normalizer start now base reading bytes (Ok None) = ReadsTo policy f p normalizer start now base reading bytes []
-ReadsChunk policy f p normalizer start now base reading bytes (Ok (Some rest)) = ReadsToPart policy f p normalizer start now base reading bytes rest.now
-ReadsChunk policy f p normalizer start now base reading bytes (Err fault) = RefusesBytes policy f p start now base bytes fault
+abbrev pub ReadsChunk : Policy → Form → Properties → Counted → Start → BlockState → ℕ → Reading → List ℕ → Result (Option (Bor (List ℕ))) Fault → Type 0
+ReadsChunk policy f p counted start now base reading bytes (Ok None) = ReadsTo policy f p counted start now base reading bytes []
+ReadsChunk policy f p counted start now base reading bytes (Ok (Some rest)) = ReadsToPart policy f p counted start now base reading bytes rest.now
+ReadsChunk policy f p counted start now base reading bytes (Err fault) = RefusesBytes policy f p start now base bytes fault
 
 -- the same right behind such a part, and behind those that come next
-abbrev pub ReadsBroken : Policy → Form → Properties → Normalizer → Start → BlockState → ℕ → Reading → List ℕ → Result (Bor (List ℕ)) Fault → Type 0
-ReadsBroken policy f p normalizer start now base reading bytes (Ok rest) = ReadsToPart policy f p normalizer start now base reading bytes rest.now
-ReadsBroken policy f p normalizer start now base reading bytes (Err fault) = RefusesBytes policy f p start now base bytes fault
+abbrev pub ReadsBroken : Policy → Form → Properties → Counted → Start → BlockState → ℕ → Reading → List ℕ → Result (Bor (List ℕ)) Fault → Type 0
+ReadsBroken policy f p counted start now base reading bytes (Ok rest) = ReadsToPart policy f p counted start now base reading bytes rest.now
+ReadsBroken policy f p counted start now base reading bytes (Err fault) = RefusesBytes policy f p start now base bytes fault
 
-abbrev pub ReadsRest : Policy → Form → Properties → Normalizer → Start → BlockState → ℕ → Reading → List ℕ → Result (Unit {0}) Fault → Type 0
-ReadsRest policy f p normalizer start now base reading bytes (Ok _) = ReadsTo policy f p normalizer start now base reading bytes []
-ReadsRest policy f p normalizer start now base reading bytes (Err fault) = RefusesBytes policy f p start now base bytes fault
+abbrev pub ReadsRest : Policy → Form → Properties → Counted → Start → BlockState → ℕ → Reading → List ℕ → Result (Unit {0}) Fault → Type 0
+ReadsRest policy f p counted start now base reading bytes (Ok _) = ReadsTo policy f p counted start now base reading bytes []
+ReadsRest policy f p counted start now base reading bytes (Err fault) = RefusesBytes policy f p start now base bytes fault
 
 -- what is left of a piece becomes shorter, with the bytes that the decoder holds
 abbrev pub GoesOn : Reading → Reading → List ℕ → Option (Bor (List ℕ)) → Type 0
@@ -89,8 +89,8 @@ GoesOn old new rest None = new.offset ≡ old.offset + length rest
 GoesOn old new rest (Some behind) = (new.offset + length behind.now ≡ old.offset + length rest) × (length behind.now + length new.decoder < length rest + length old.decoder)
 
 -- behind the bytes U+FFFD was taken for a character that the end cuts, or why not
-pub record ReplacesCut (policy : Policy) (f : Form) (p : Properties) (normalizer : Normalizer) (base : ℕ) (bytes : List ℕ) (old new : SinkState) (result : Result (Unit {0}) Fault) : Type 0 where
+pub record ReplacesCut (policy : Policy) (f : Form) (p : Properties) (counted : Counted) (base : ℕ) (bytes : List ℕ) (old new : SinkState) (result : Result (Unit {0}) Fault) : Type 0 where
   pub broken : result ≡ Err Write → BreaksOff old new (settled_utf8 policy f p bytes) (taken_utf8 policy.assigned f p (whole_under policy.replace bytes))
   pub puts : ¬ (result ≡ Err Write) → Puts old new (settled_utf8 policy f p bytes) (taken_utf8 policy.assigned f p (whole_under policy.replace bytes))
   pub fault : ¬ (result ≡ Err Write) → result_err result ≡ first_fault policy.assigned p (λ front. base + len_under policy.replace bytes front) (whole_under policy.replace bytes) None
-  pub taken : OnOk result (HasTaken f p normalizer (whole_under policy.replace bytes) × (allowed policy.assigned p (whole_under policy.replace bytes) ≡ whole_under policy.replace bytes))
+  pub taken : OnOk result (HasTaken f p counted (whole_under policy.replace bytes) × (allowed policy.assigned p (whole_under policy.replace bytes) ≡ whole_under policy.replace bytes))

@@ -30,5 +30,5 @@ is_spent state = state.spent
 pub record StandsAfter (policy : Policy) (f : Form) (p : Properties) (state : State) (bytes : List ℕ) : Type 0 where
   pub unspent : is_spent state ≡ false
   pub policy_is : state.policy ≡ policy
-  pub reading : HasReadTo policy f p state.normalizer (base_of state) state.reading bytes []
+  pub reading : HasReadTo policy f p state.counted (base_of state) state.reading bytes []
   pub no_fault : fault_in policy p (base_of state) bytes ≡ None

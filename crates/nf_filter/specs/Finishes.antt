@@ -7,13 +7,13 @@ use Rattle.nf_utf8.specs.Ending.{Ending, Whole, Bad, Cut}
 use Rattle.nf_utf8.specs.Reading.{ending_of}
 use Rattle.nf_filter.specs.declared.fault.Fault.{Fault}
 use Rattle.nf_filter.specs.declared.fault.Fault.TheVariants.{Write}
-use Rattle.nf_filter.specs.declared.normalizer.Normalizer.{Normalizer}
+use Rattle.nf_filter.specs.declared.counted.Counted.{Counted}
 use Rattle.nf_filter.specs.declared.policy.Policy.{Policy}
 use Rattle.nf_filter.specs.declared.tally.Tally.{Tally}
 use Rattle.nf_filter.specs.Devices.{SinkState}
 use Rattle.nf_filter.specs.Policy.{allowed, len_under, whole_under}
 use Rattle.nf_filter.specs.Faults.{answer_at_end, first_fault}
-use Rattle.nf_filter.specs.Normalizer.{HasTaken, settled_text}
+use Rattle.nf_filter.specs.Counted.{HasTaken, settled_text}
 use Rattle.nf_filter.specs.Writes.{Puts, BreaksOff}
 use Rattle.nf_forms.specs.SafeForm.{safe_form}
 use Rattle.nf_filter.specs.Settled.{is_usable, settled_utf8}
@@ -64,10 +64,10 @@ pub record Finishes (policy : Policy) (f : Form) (p : Properties) (base : ℕ) (
   pub answer : ¬ (result ≡ Err Write) → result ≡ end_of policy p base bytes
 
 -- what comes before the rest of the form: nothing of a character is held any more, or the filter was refused
-abbrev pub Closes : Policy → Form → Properties → Normalizer → ℕ → List ℕ → SinkState → SinkState → Result (Unit {0}) Fault → Type 0
-Closes policy f p normalizer base bytes old new (Ok _) =
-    HasTaken f p normalizer (whole_under policy.replace bytes)
+abbrev pub Closes : Policy → Form → Properties → Counted → ℕ → List ℕ → SinkState → SinkState → Result (Unit {0}) Fault → Type 0
+Closes policy f p counted base bytes old new (Ok _) =
+    HasTaken f p counted (whole_under policy.replace bytes)
     × Puts old new (settled_utf8 policy f p bytes) (settled_text f p (whole_under policy.replace bytes))
     × (end_of policy p base bytes ≡ Ok (tally_of policy.replace p bytes))
     × (final_utf8 policy f p bytes ≡ encode_utf8_all (safe_form f p (whole_under policy.replace bytes)))
-Closes policy f p normalizer base bytes old new (Err fault) = Finishes policy f p base bytes old new (Err fault)
+Closes policy f p counted base bytes old new (Err fault) = Finishes policy f p base bytes old new (Err fault)

@@ -8,10 +8,9 @@ pub mod Policy
 pub mod Settled
 pub mod Laws
 pub mod Faults
-pub mod Normalizer
+pub mod Counted
 pub mod Taker
-pub mod Taking
-pub mod Closing
+pub mod Stepping
 pub mod Feeding
 pub mod Sources
 pub mod Filter

@@ -11,7 +11,7 @@ use Rattle.nf_filter.specs.declared.taker.Stop.{Stop}
 use Rattle.nf_filter.specs.declared.taker.Stop.TheVariants.{Refused}
 use Rattle.nf_filter.specs.Policy.{as_is}
 use Rattle.nf_filter.specs.Faults.{fault_in}
-use Rattle.nf_filter.specs.Normalizer.{unusable_at, utf8_place}
+use Rattle.nf_filter.specs.Counted.{unusable_at, utf8_place}
 
 -- only a fault stops a measurement, the one at which a filter stops
 abbrev pub measure_decision : Properties → ℕ → List ℕ → Option (Result Measure Fault)

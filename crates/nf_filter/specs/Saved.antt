@@ -13,17 +13,17 @@ use Rattle.nf_filter.specs.declared.saved.Saved.{Saved}
 -- all of it; that ASCII is plain is told of the rows, and that its form composes by the form
 abbrev pub saved_of : State → Saved
 saved_of state = record {
-  form = state.normalizer.form;
+  form = state.counted.normalizer.form;
   policy = state.policy;
   spent = state.spent;
   base = state.base;
   offset = state.reading.offset;
-  chars = state.normalizer.chars;
-  put = state.normalizer.put;
-  count = state.normalizer.counter;
+  chars = state.counted.chars;
+  put = state.counted.put;
+  count = state.counted.normalizer.counter;
   held = record { items = state.reading.decoder };
-  starter = starter_of state.normalizer.pending;
-  marks = record { items = marks_of state.normalizer.pending };
+  starter = starter_of state.counted.normalizer.pending;
+  marks = record { items = marks_of state.counted.normalizer.pending };
 }
 
 -- the process counts in NFKD, so that a compatibility form holds as many marks as are counted, and a canonical one no more

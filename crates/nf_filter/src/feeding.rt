@@ -3,9 +3,9 @@ ghost use Rattle.std.specs.Prelude.{◌≡◌, ◌↔◌, Err, IsTrue};
 ghost use Rattle.nf_filter.specs.declared.fault.Fault.TheVariants.{Write as WriteFault};
 
 use crate::block::Block;
+use crate::counted::Counted;
 use crate::devices::{Failed, Sink};
 use crate::fault::Fault;
-use crate::normalizer::Normalizer;
 use crate::policy::Policy;
 use crate::reading::Reading;
 use nf_row::Rows;
@@ -19,7 +19,7 @@ impl Reading {
     ghost use Rattle.nf_filter.specs.Feeding.{HasReadTo, ReadsChunk, ReadsRest, ReadsTo, GoesOn, ReplacesCut};
     ghost use Rattle.nf_filter.specs.Feeds.{Feeds};
     ghost use Rattle.nf_filter.specs.Finishes.{Closes};
-    ghost use Rattle.nf_filter.specs.Normalizer.{ends_at};
+    ghost use Rattle.nf_filter.specs.Counted.{ends_at};
     ghost use Rattle.nf_filter.specs.Taker.{IsReady};
 
     /// Reads `piece` for the normalizer, and gives the sink what that settles.
@@ -28,27 +28,27 @@ impl Reading {
         policy: Policy,
         rows: &R,
         piece: &[u8],
-        normalizer: &mut Normalizer,
+        counted: &mut Counted,
         sink: &mut S,
     ) -> Result<(), Fault>
-        requires ready { IsReady (ends_at normalizer.old) self.old }
+        requires ready { IsReady (ends_at counted.old) self.old }
         requires fits { self.old.offset + length piece.now ≤ u64.MAX }
-        ensures ready { OnOk result (IsReady (ends_at normalizer.new) self.new) }
+        ensures ready { OnOk result (IsReady (ends_at counted.new) self.new) }
         ensures offset { OnOk result (self.new.offset ≡ self.old.offset + length piece.now) }
         ensures faults { IfErr result IsOfReading }
         ensures feeds { let p = R.properties rows.now in
-            (f : Form) (base : ℕ) (bytes : List ℕ) → HasReadTo policy f p normalizer.old base self.old bytes [] → fault_in policy p base bytes ≡ None
+            (f : Form) (base : ℕ) (bytes : List ℕ) → HasReadTo policy f p counted.old base self.old bytes [] → fault_in policy p base bytes ≡ None
             → Feeds policy f p base bytes piece.now (S.state sink.old) (S.state sink.new) result
-            × OnOk result (HasReadTo policy f p normalizer.new base self.new (bytes ++ piece.now) []) }
+            × OnOk result (HasReadTo policy f p counted.new base self.new (bytes ++ piece.now) []) }
         ensures lender { (S.state sink.new).lender ≡ (S.state sink.old).lender }
     {
         laws::replacing();
-        let mut block = Block::over(sink, normalizer.is_plain);
-        let read = self.read_rest(policy, rows, piece, normalizer, &mut block);
+        let mut block = Block::new(counted.normalizer.is_plain);
+        let read = self.read_rest(policy, rows, piece, counted, &mut block, sink);
         if is_broken(read) {
             return read;
         }
-        match block.empty() {
+        match block.empty(sink) {
             Ok(()) => read,
             Err(Failed) => Err(Fault::Write),
         }
@@ -60,24 +60,25 @@ impl Reading {
         policy: Policy,
         rows: &R,
         piece: &[u8],
-        normalizer: &mut Normalizer,
-        block: &mut Block<'_, S>,
+        counted: &mut Counted,
+        block: &mut Block,
+        sink: &mut S,
     ) -> Result<(), Fault>
-        requires ready { IsReady (ends_at normalizer.old) self.old }
+        requires ready { IsReady (ends_at counted.old) self.old }
         requires fits { self.old.offset + length piece.now ≤ u64.MAX }
-        ensures ready { OnOk result (IsReady (ends_at normalizer.new) self.new) }
+        ensures ready { OnOk result (IsReady (ends_at counted.new) self.new) }
         ensures offset { OnOk result (self.new.offset ≡ self.old.offset + length piece.now) }
         ensures faults { IfErr result IsOfReading }
         ensures reads { let p = R.properties rows.now in
-            (f : Form) (base : ℕ) (bytes : List ℕ) (start : Start) → ReadsTo policy f p normalizer.old start (block_state S.state block.old) base self.old bytes piece.now
-            → ReadsRest policy f p normalizer.new start (block_state S.state block.new) base self.new bytes result }
-        ensures lent { (block.new.sink.ghost_name ≡ block.old.sink.ghost_name) × ((S.state block.new.sink.now).lender ≡ (S.state block.old.sink.now).lender) }
+            (f : Form) (base : ℕ) (bytes : List ℕ) (start : Start) → ReadsTo policy f p counted.old start (block_state (S.state sink.old) block.old) base self.old bytes piece.now
+            → ReadsRest policy f p counted.new start (block_state (S.state sink.new) block.new) base self.new bytes result }
+        ensures lender { (S.state sink.new).lender ≡ (S.state sink.old).lender }
     {
         let mut rest = piece;
         loop {
-            match self.read_chunk(policy, rows, rest, normalizer, block) {
+            match self.read_chunk(policy, rows, rest, counted, block, sink) {
                 Ok(Some(behind)) => {
-                    match self.read_parts(policy, rows, behind, normalizer, block) {
+                    match self.read_parts(policy, rows, behind, counted, block, sink) {
                         Ok(behind) => rest = behind,
                         Err(fault) => return Err(fault),
                     }
@@ -95,30 +96,32 @@ impl Reading {
         policy: Policy,
         rows: &R,
         rest: &'p [u8],
-        normalizer: &mut Normalizer,
-        block: &mut Block<'_, S>,
+        counted: &mut Counted,
+        block: &mut Block,
+        sink: &mut S,
     ) -> Result<Option<&'p [u8]>, Fault>
-        requires ready { IsReady (ends_at normalizer.old) self.old }
+        requires ready { IsReady (ends_at counted.old) self.old }
         requires fits { self.old.offset + length rest.now ≤ u64.MAX }
-        ensures ready { OnOk result (IsReady (ends_at normalizer.new) self.new) }
+        ensures ready { OnOk result (IsReady (ends_at counted.new) self.new) }
         ensures goes_on { IfOk result (GoesOn self.old self.new rest.now) }
         ensures faults { IfErr result IsOfReading }
         ensures reads { let p = R.properties rows.now in
-            (f : Form) (base : ℕ) (bytes : List ℕ) (start : Start) → ReadsTo policy f p normalizer.old start (block_state S.state block.old) base self.old bytes rest.now
-            → ReadsChunk policy f p normalizer.new start (block_state S.state block.new) base self.new bytes result }
-        ensures lent { (block.new.sink.ghost_name ≡ block.old.sink.ghost_name) × ((S.state block.new.sink.now).lender ≡ (S.state block.old.sink.now).lender) }
+            (f : Form) (base : ℕ) (bytes : List ℕ) (start : Start) → ReadsTo policy f p counted.old start (block_state (S.state sink.old) block.old) base self.old bytes rest.now
+            → ReadsChunk policy f p counted.new start (block_state (S.state sink.new) block.new) base self.new bytes result }
+        ensures lender { (S.state sink.new).lender ≡ (S.state sink.old).lender }
     {
         laws::split();
         laws::replacing();
         let begin = self.offset - self.decoder.carried() as u64;
         let chunk = self.decoder.take(rest);
-        if let Err(fault) = normalizer.take_allowed(
+        if let Err(fault) = counted.take_both(
             rows,
             policy.assigned,
             begin,
             chunk.first,
             chunk.text,
             block,
+            sink,
         ) {
             return Err(fault);
         }
@@ -132,12 +135,13 @@ impl Reading {
         if !policy.replace {
             return Err(Fault::BadByte { at: place, start });
         }
-        if let Err(fault) = normalizer.take_one(
+        if let Err(fault) = counted.take_one(
             rows,
             policy.assigned,
             start,
             char::REPLACEMENT_CHARACTER,
             block,
+            sink,
         ) {
             return Err(fault);
         }
@@ -152,20 +156,20 @@ impl Reading {
         &self,
         policy: Policy,
         rows: &R,
-        normalizer: &mut Normalizer,
+        counted: &mut Counted,
         sink: &mut S,
     ) -> Result<(), Fault>
-        requires ready { IsReady (ends_at normalizer.old) self.now }
+        requires ready { IsReady (ends_at counted.old) self.now }
         ensures faults { IfErr result IsOfClosing }
         ensures closes { let p = R.properties rows.now in
-            (f : Form) (base : ℕ) (bytes : List ℕ) → HasReadTo policy f p normalizer.old base self.now bytes []
-            → Closes policy f p normalizer.new base bytes (S.state sink.old) (S.state sink.new) result }
+            (f : Form) (base : ℕ) (bytes : List ℕ) → HasReadTo policy f p counted.old base self.now bytes []
+            → Closes policy f p counted.new base bytes (S.state sink.old) (S.state sink.new) result }
         ensures lender { (S.state sink.new).lender ≡ (S.state sink.old).lender }
     {
         laws::split();
         laws::replacing();
         if policy.replace {
-            return self.replace_cut(policy, rows, normalizer, sink);
+            return self.replace_cut(policy, rows, counted, sink);
         }
         self.end()
     }
@@ -175,14 +179,14 @@ impl Reading {
         &self,
         policy: Policy,
         rows: &R,
-        normalizer: &mut Normalizer,
+        counted: &mut Counted,
         sink: &mut S,
     ) -> Result<(), Fault>
-        requires ready { IsReady (ends_at normalizer.old) self.now }
+        requires ready { IsReady (ends_at counted.old) self.now }
         ensures faults { IfErr result IsOfTaking }
         ensures cut { let p = R.properties rows.now in
-            (f : Form) (base : ℕ) (bytes : List ℕ) → HasReadTo policy f p normalizer.old base self.now bytes [] → policy.replace ≡ true
-            → ReplacesCut policy f p normalizer.new base bytes (S.state sink.old) (S.state sink.new) result }
+            (f : Form) (base : ℕ) (bytes : List ℕ) → HasReadTo policy f p counted.old base self.now bytes [] → policy.replace ≡ true
+            → ReplacesCut policy f p counted.new base bytes (S.state sink.old) (S.state sink.new) result }
         ensures lender { (S.state sink.new).lender ≡ (S.state sink.old).lender }
     {
         laws::replacing();
@@ -191,18 +195,19 @@ impl Reading {
             return Ok(());
         }
         let at = self.offset - carried as u64;
-        let mut block = Block::over(sink, false);
-        let taken = normalizer.take_one(
+        let mut block = Block::new(false);
+        let taken = counted.take_one(
             rows,
             policy.assigned,
             at,
             char::REPLACEMENT_CHARACTER,
             &mut block,
+            sink,
         );
         if is_broken(taken) {
             return taken;
         }
-        match block.empty() {
+        match block.empty(sink) {
             Ok(()) => taken,
             Err(Failed) => Err(Fault::Write),
         }

@@ -1,15 +1,16 @@
 ghost use Rattle.std.specs.Prelude.{◌≡◌, ◌≤◌, false};
-ghost use Rattle.nf_filter.specs.Normalizer.{ends_at};
+ghost use Rattle.nf_filter.specs.Counted.{ends_at};
 ghost use Rattle.nf_filter.specs.Taker.{IsReady};
 
+use crate::counted::Counted;
 use crate::devices::{Failed, Sink};
 use crate::fault::Fault;
 use crate::held::Held;
 use crate::laws::what_was_finished_stays;
-use crate::normalizer::Normalizer;
 use crate::policy::Policy;
 use crate::reading::Reading;
 use crate::tally::Tally;
+use nf_normalizer::Normalizer;
 use nf_row::{Form, Plain, Rows};
 use nf_utf8::laws;
 
@@ -32,9 +33,9 @@ pub struct State {
     pub(crate) spent: bool,
     pub(crate) policy: Policy,
     pub(crate) reading: Reading,
-    pub(crate) normalizer: Normalizer,
+    pub(crate) counted: Counted,
     ghost base_within: { base ≤ reading.offset },
-    ghost ready: { spent ≡ false → IsReady (ends_at normalizer) reading },
+    ghost ready: { spent ≡ false → IsReady (ends_at counted) reading },
 }
 
 impl<'r, R: Rows> Filter<'r, R> {
@@ -69,7 +70,7 @@ impl<'r, R: Rows> Filter<'r, R> {
                 spent: false,
                 policy: AS_IS,
                 reading: Reading::new(base),
-                normalizer: Normalizer::new(form),
+                counted: Counted::new(Normalizer::new(form)),
             },
         }
     }
@@ -89,7 +90,7 @@ impl<'r, R: Rows> Filter<'r, R> {
                 spent: false,
                 policy: AS_IS,
                 reading: Reading::new(base),
-                normalizer: Normalizer::fast(plain, form),
+                counted: Counted::new(Normalizer::fast(plain, form)),
             },
         }
     }
@@ -128,7 +129,7 @@ impl<'r, R: Rows> Filter<'r, R> {
             spent,
             policy: _,
             reading,
-            normalizer,
+            counted,
         } = state;
         Filter {
             rows,
@@ -137,7 +138,7 @@ impl<'r, R: Rows> Filter<'r, R> {
                 spent,
                 policy,
                 reading,
-                normalizer,
+                counted,
             },
         }
     }
@@ -168,7 +169,7 @@ impl<'r, R: Rows> Filter<'r, R> {
             return Err(Fault::TooLong);
         }
         let mut reading = state.reading;
-        match reading.feed(state.policy, self.rows, piece, &mut state.normalizer, sink) {
+        match reading.feed(state.policy, self.rows, piece, &mut state.counted, sink) {
             Ok(()) => {
                 state.reading = reading;
                 Ok(())
@@ -202,21 +203,21 @@ impl<'r, R: Rows> Filter<'r, R> {
             spent,
             policy,
             reading,
-            mut normalizer,
+            mut counted,
         } = state;
         if spent {
             return Err(Fault::Spent);
         }
-        if let Err(fault) = reading.close(policy, rows, &mut normalizer, sink) {
+        if let Err(fault) = reading.close(policy, rows, &mut counted, sink) {
             return Err(fault);
         }
         what_was_finished_stays();
         let tally = Tally {
             bytes: reading.offset - base,
-            chars: normalizer.chars,
-            put: normalizer.put,
+            chars: counted.chars,
+            put: counted.put,
         };
-        match normalizer.end(rows, sink) {
+        match counted.end(rows, sink) {
             Ok(()) => Ok(tally),
             Err(Failed) => Err(Fault::Write),
         }
@@ -241,7 +242,7 @@ impl<'r, R: Rows> Filter<'r, R> {
         laws::replacing();
         Held {
             bytes: self.state.reading.decoder.carried(),
-            pending: self.state.normalizer.pending(),
+            pending: self.state.counted.pending(),
         }
     }
 

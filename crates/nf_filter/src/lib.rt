@@ -1,12 +1,9 @@
 //! The filter: UTF-8 in pieces of any size, made stream-safe and normalized in bounded memory.
 #![tactic(auto)]
 
-mod allowing;
-mod ascii;
 mod block;
-mod character;
 mod checking;
-mod closing;
+mod counted;
 mod devices;
 mod driving;
 mod fault;
@@ -17,11 +14,8 @@ mod held;
 pub mod laws;
 mod measuring;
 mod mending;
-mod normalizer;
 mod policy;
-mod pushing;
 mod reading;
-mod refusal;
 mod replacing;
 mod saved;
 mod sources;

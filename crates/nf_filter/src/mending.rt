@@ -3,20 +3,20 @@ ghost use Rattle.std.specs.Prelude.{◌≡◌, ◌+◌, ◌≤◌, ℕ, List, le
 ghost use Rattle.nf_filter.specs.Block.{Start, block_state, Written};
 
 use crate::block::Block;
+use crate::counted::Counted;
 use crate::devices::{Failed, Sink};
 use crate::fault::Fault;
-use crate::normalizer::Normalizer;
 use crate::policy::Policy;
 use crate::reading::Reading;
 use nf_row::Rows;
-use nf_utf8::{Mended, char_count, laws, mend_front, mended_text};
+use nf_utf8::{Mended, laws, mend_front, mended_text};
 
 impl Reading {
     ghost use Rattle.std.specs.Prelude.{IfErr, IfOk, OnOk};
     ghost use Rattle.nf_forms.specs.declared.form.Form.{Form};
     ghost use Rattle.nf_filter.specs.Faults.{IsOfReading};
     ghost use Rattle.nf_filter.specs.Feeding.{ReadsToPart, ReadsBroken};
-    ghost use Rattle.nf_filter.specs.Normalizer.{ends_at};
+    ghost use Rattle.nf_filter.specs.Counted.{ends_at};
     ghost use Rattle.nf_filter.specs.Taker.{IsReady};
 
     /// Behind a part that was replaced, reads the stretches of text that come next, each with the part behind it. Only where
@@ -27,18 +27,19 @@ impl Reading {
         policy: Policy,
         rows: &R,
         rest: &'p [u8],
-        normalizer: &mut Normalizer,
-        block: &mut Block<'_, S>,
+        counted: &mut Counted,
+        block: &mut Block,
+        sink: &mut S,
     ) -> Result<&'p [u8], Fault>
-        requires ready { IsReady (ends_at normalizer.old) self.old }
+        requires ready { IsReady (ends_at counted.old) self.old }
         requires fits { self.old.offset + length rest.now ≤ u64.MAX }
-        ensures ready { OnOk result (IsReady (ends_at normalizer.new) self.new) }
+        ensures ready { OnOk result (IsReady (ends_at counted.new) self.new) }
         ensures goes_on { IfOk result (λ behind. (self.new.offset + length behind.now ≡ self.old.offset + length rest.now) × (length behind.now ≤ length rest.now) × (self.new.decoder ≡ self.old.decoder)) }
         ensures faults { IfErr result IsOfReading }
         ensures reads { let p = R.properties rows.now in
-            (f : Form) (base : ℕ) (bytes : List ℕ) (start : Start) → ReadsToPart policy f p normalizer.old start (block_state S.state block.old) base self.old bytes rest.now
-            → ReadsBroken policy f p normalizer.new start (block_state S.state block.new) base self.new bytes result }
-        ensures lent { (block.new.sink.ghost_name ≡ block.old.sink.ghost_name) × ((S.state block.new.sink.now).lender ≡ (S.state block.old.sink.now).lender) }
+            (f : Form) (base : ℕ) (bytes : List ℕ) (start : Start) → ReadsToPart policy f p counted.old start (block_state (S.state sink.old) block.old) base self.old bytes rest.now
+            → ReadsBroken policy f p counted.new start (block_state (S.state sink.new) block.new) base self.new bytes result }
+        ensures lender { (S.state sink.new).lender ≡ (S.state sink.old).lender }
     {
         laws::replacing();
         if !policy.replace || policy.assigned || !rows.all_sound() {
@@ -47,10 +48,10 @@ impl Reading {
         let mut mended = Mended::new();
         let len = mend_front(rest, &mut mended);
         let text = mended_text(&mended);
-        if len == 0 || normalizer.chars.checked_add(text.len() as u64).is_none() {
+        if len == 0 || counted.chars.checked_add(text.len() as u64).is_none() {
             return Ok(rest);
         }
-        if let Err(Failed) = normalizer.take_sound(rows, text, block) {
+        if let Err(Failed) = counted.take_sound(rows, text, block, sink) {
             return Err(Fault::Write);
         }
         self.offset += len as u64;
@@ -58,12 +59,12 @@ impl Reading {
     }
 }
 
-impl Normalizer {
+impl Counted {
     ghost use Rattle.std.specs.Prelude.{OnOk};
     ghost use Rattle.nf_forms.specs.declared.form.Form.{Form};
     ghost use Rattle.nf_filter.specs.Laws.Soundness.{AreSound};
-    ghost use Rattle.nf_filter.specs.Normalizer.{HasTaken, IsWithin, settled_text};
-    ghost use Rattle.nf_filter.specs.Taking.{TakesBehind};
+    ghost use Rattle.nf_filter.specs.Counted.{HasTaken, IsWithin, settled_text};
+    ghost use Rattle.nf_filter.specs.Stepping.{TakesBehind};
 
     /// Takes a text where every character is sound. No place is told, so it need not be that of the bytes that were read,
     /// which may be fewer.
@@ -71,7 +72,8 @@ impl Normalizer {
         &mut self,
         rows: &R,
         text: &str,
-        block: &mut Block<'_, S>,
+        block: &mut Block,
+        sink: &mut S,
     ) -> Result<(), Failed>
         requires sound { AreSound (R.properties rows.now) }
         requires within { IsWithin self.old }
@@ -79,17 +81,13 @@ impl Normalizer {
         ensures within { OnOk result (IsWithin self.new) }
         ensures chars { OnOk result (self.new.chars ≡ self.old.chars + length (chars text.now)) }
         ensures takes { let p = R.properties rows.now in
-            (f : Form) (x : List ℕ) (start : Start) → HasTaken f p self.old x → Written start (block_state S.state block.old) (settled_text f p x)
-            → TakesBehind f p self.new start (block_state S.state block.new) x (chars text.now) result }
-        ensures lent { (block.new.sink.ghost_name ≡ block.old.sink.ghost_name) × ((S.state block.new.sink.now).lender ≡ (S.state block.old.sink.now).lender) }
+            (f : Form) (x : List ℕ) (start : Start) → HasTaken f p self.old x → Written start (block_state (S.state sink.old) block.old) (settled_text f p x)
+            → TakesBehind f p self.new start (block_state (S.state sink.new) block.new) x (chars text.now) result }
+        ensures lender { (S.state sink.new).lender ≡ (S.state sink.old).lender }
     {
-        let chars = self.chars + char_count(text) as u64;
-        if let Err(_) = self.take_text(rows, self.chars, text, block) {
-            return Err(Failed);
+        match self.take_text(rows, 0, text, block, sink) {
+            Ok(()) => Ok(()),
+            Err(_) => Err(Failed),
         }
-        // As they are counted already: so it is known of any normalizer that they fit.
-        self.chars = chars;
-        self.put = self.put.min(chars);
-        Ok(())
     }
 }

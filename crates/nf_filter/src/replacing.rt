@@ -5,9 +5,9 @@ ghost use Rattle.nf_utf8.specs.Broken.{replacements};
 ghost use Rattle.nf_filter.specs.Block.{Start, block_state, Written, WritesOn};
 
 use crate::block::Block;
+use crate::counted::Counted;
 use crate::devices::{Failed, Sink};
 use crate::fault::Fault;
-use crate::normalizer::Normalizer;
 use crate::policy::Policy;
 use crate::reading::Reading;
 use nf_row::{Kind, Rows};
@@ -33,7 +33,7 @@ impl Reading {
     ghost use Rattle.nf_filter.specs.Block.{Start, block_state};
     ghost use Rattle.nf_filter.specs.Faults.{IsOfReading};
     ghost use Rattle.nf_filter.specs.Feeding.{ReadsToPart, ReadsBroken};
-    ghost use Rattle.nf_filter.specs.Normalizer.{ends_at};
+    ghost use Rattle.nf_filter.specs.Counted.{ends_at};
     ghost use Rattle.nf_filter.specs.Taker.{IsReady};
 
     /// Behind a part that was replaced, reads what comes next and is replaced too: parts one behind the other, and then
@@ -43,21 +43,22 @@ impl Reading {
         policy: Policy,
         rows: &R,
         rest: &'p [u8],
-        normalizer: &mut Normalizer,
-        block: &mut Block<'_, S>,
+        counted: &mut Counted,
+        block: &mut Block,
+        sink: &mut S,
     ) -> Result<&'p [u8], Fault>
-        requires ready { IsReady (ends_at normalizer.old) self.old }
+        requires ready { IsReady (ends_at counted.old) self.old }
         requires fits { self.old.offset + length rest.now ≤ u64.MAX }
-        ensures ready { OnOk result (IsReady (ends_at normalizer.new) self.new) }
+        ensures ready { OnOk result (IsReady (ends_at counted.new) self.new) }
         ensures goes_on { IfOk result (λ behind. (self.new.offset + length behind.now ≡ self.old.offset + length rest.now) × (length behind.now ≤ length rest.now) × (self.new.decoder ≡ self.old.decoder)) }
         ensures faults { IfErr result IsOfReading }
         ensures reads { let p = R.properties rows.now in
-            (f : Form) (base : ℕ) (bytes : List ℕ) (start : Start) → ReadsToPart policy f p normalizer.old start (block_state S.state block.old) base self.old bytes rest.now
-            → ReadsBroken policy f p normalizer.new start (block_state S.state block.new) base self.new bytes result }
-        ensures lent { (block.new.sink.ghost_name ≡ block.old.sink.ghost_name) × ((S.state block.new.sink.now).lender ≡ (S.state block.old.sink.now).lender) }
+            (f : Form) (base : ℕ) (bytes : List ℕ) (start : Start) → ReadsToPart policy f p counted.old start (block_state (S.state sink.old) block.old) base self.old bytes rest.now
+            → ReadsBroken policy f p counted.new start (block_state (S.state sink.new) block.new) base self.new bytes result }
+        ensures lender { (S.state sink.new).lender ≡ (S.state sink.old).lender }
     {
-        match self.read_broken(policy, rows, rest, normalizer, block) {
-            Ok(behind) => self.read_mended(policy, rows, behind, normalizer, block),
+        match self.read_broken(policy, rows, rest, counted, block, sink) {
+            Ok(behind) => self.read_mended(policy, rows, behind, counted, block, sink),
             Err(fault) => Err(fault),
         }
     }
@@ -68,31 +69,32 @@ impl Reading {
         policy: Policy,
         rows: &R,
         rest: &'p [u8],
-        normalizer: &mut Normalizer,
-        block: &mut Block<'_, S>,
+        counted: &mut Counted,
+        block: &mut Block,
+        sink: &mut S,
     ) -> Result<&'p [u8], Fault>
-        requires ready { IsReady (ends_at normalizer.old) self.old }
+        requires ready { IsReady (ends_at counted.old) self.old }
         requires fits { self.old.offset + length rest.now ≤ u64.MAX }
-        ensures ready { OnOk result (IsReady (ends_at normalizer.new) self.new) }
+        ensures ready { OnOk result (IsReady (ends_at counted.new) self.new) }
         ensures goes_on { IfOk result (λ behind. (self.new.offset + length behind.now ≡ self.old.offset + length rest.now) × (length behind.now ≤ length rest.now) × (self.new.decoder ≡ self.old.decoder)) }
         ensures faults { IfErr result IsOfReading }
         ensures reads { let p = R.properties rows.now in
-            (f : Form) (base : ℕ) (bytes : List ℕ) (start : Start) → ReadsToPart policy f p normalizer.old start (block_state S.state block.old) base self.old bytes rest.now
-            → ReadsBroken policy f p normalizer.new start (block_state S.state block.new) base self.new bytes result }
-        ensures lent { (block.new.sink.ghost_name ≡ block.old.sink.ghost_name) × ((S.state block.new.sink.now).lender ≡ (S.state block.old.sink.now).lender) }
+            (f : Form) (base : ℕ) (bytes : List ℕ) (start : Start) → ReadsToPart policy f p counted.old start (block_state (S.state sink.old) block.old) base self.old bytes rest.now
+            → ReadsBroken policy f p counted.new start (block_state (S.state sink.new) block.new) base self.new bytes result }
+        ensures lender { (S.state sink.new).lender ≡ (S.state sink.old).lender }
     {
         laws::replacing();
         if !policy.replace || policy.assigned {
             return Ok(rest);
         }
-        let Kind::Parts = rows.kind(normalizer.form, char::REPLACEMENT_CHARACTER) else {
+        let Kind::Parts = rows.kind(counted.normalizer.form, char::REPLACEMENT_CHARACTER) else {
             return Ok(rest);
         };
         let broken = broken_front(rest, MOST);
         if broken.parts < 2 {
             return Ok(rest);
         }
-        if let Err(Failed) = normalizer.take_replacements(rows, broken.parts, block) {
+        if let Err(Failed) = counted.take_replacements(rows, broken.parts, block, sink) {
             return Err(Fault::Write);
         }
         self.offset += broken.len as u64;
@@ -100,61 +102,60 @@ impl Reading {
     }
 }
 
-impl Normalizer {
+impl Counted {
     ghost use Rattle.std.specs.Prelude.{◌≡◌, ◌+◌, ◌<◌, ◌≤◌, ℕ, List, OnOk};
     ghost use Rattle.nf_forms.specs.declared.form.Form.{Form};
     ghost use Rattle.nf_row.specs.Kind.{IsKnownParting};
     ghost use Rattle.nf_utf8.specs.Broken.{replacements};
     ghost use Rattle.nf_utf8.specs.Replaced.{replacement};
     ghost use Rattle.nf_filter.specs.Block.{Start, block_state, Written};
-    ghost use Rattle.nf_filter.specs.Normalizer.{HasTaken, IsWithin, settled_text};
-    ghost use Rattle.nf_filter.specs.Taking.{TakesBehind};
+    ghost use Rattle.nf_filter.specs.Counted.{HasTaken, IsWithin, settled_text};
+    ghost use Rattle.nf_filter.specs.Stepping.{TakesBehind};
 
     /// Takes so many U+FFFD, where a text may be cut before that: all but the last go out as they are.
     fn take_replacements<R: Rows, S: Sink>(
         &mut self,
         rows: &R,
         count: usize,
-        block: &mut Block<'_, S>,
+        block: &mut Block,
+        sink: &mut S,
     ) -> Result<(), Failed>
-        requires parts { IsKnownParting (R.properties rows.now) self.old.form replacement }
+        requires parts { IsKnownParting (R.properties rows.now) self.old.normalizer.form replacement }
         requires some { 1 < count }
         requires within { IsWithin self.old }
         requires fits { self.old.chars + count ≤ u64.MAX }
         ensures within { OnOk result (IsWithin self.new) }
         ensures chars { OnOk result (self.new.chars ≡ self.old.chars + count) }
         ensures takes { let p = R.properties rows.now in
-            (f : Form) (x : List ℕ) (start : Start) → HasTaken f p self.old x → Written start (block_state S.state block.old) (settled_text f p x)
-            → TakesBehind f p self.new start (block_state S.state block.new) x (replacements count) result }
-        ensures lent { (block.new.sink.ghost_name ≡ block.old.sink.ghost_name) × ((S.state block.new.sink.now).lender ≡ (S.state block.old.sink.now).lender) }
+            (f : Form) (x : List ℕ) (start : Start) → HasTaken f p self.old x → Written start (block_state (S.state sink.old) block.old) (settled_text f p x)
+            → TakesBehind f p self.new start (block_state (S.state sink.new) block.new) x (replacements count) result }
+        ensures lender { (S.state sink.new).lender ≡ (S.state sink.old).lender }
     {
-        let chars = self.chars;
-        let put = self.put;
-        if let Err(failed) = self.settle(rows, block) {
+        if let Err(failed) = block.make_room(sink) {
             return Err(failed);
         }
-        if let Err(failed) = write_replacements(count - 1, block) {
+        self.normalizer.settle(rows, &mut block.room);
+        if let Err(failed) = write_replacements(count - 1, block, sink) {
             return Err(failed);
         }
-        if let Err(_) = self.take_char(rows, char::REPLACEMENT_CHARACTER, block) {
-            return Err(Failed);
+        self.chars += count as u64 - 1;
+        match self.take_text(rows, 0, "\u{FFFD}", block, sink) {
+            Ok(()) => Ok(()),
+            Err(_) => Err(Failed),
         }
-        self.chars = chars + count as u64;
-        self.put = put;
-        Ok(())
     }
 }
 
 /// Writes U+FFFD so many times.
-fn write_replacements<S: Sink>(count: usize, block: &mut Block<'_, S>) -> Result<(), Failed>
-    ensures writes { (start : Start) (w : List ℕ) → Written start (block_state S.state block.old) w
-        → WritesOn start (block_state S.state block.new) (w ++ encode_utf8_all (replacements count)) result }
-    ensures lent { (block.new.sink.ghost_name ≡ block.old.sink.ghost_name) × ((S.state block.new.sink.now).lender ≡ (S.state block.old.sink.now).lender) }
+fn write_replacements<S: Sink>(count: usize, block: &mut Block, sink: &mut S) -> Result<(), Failed>
+    ensures writes { (start : Start) (w : List ℕ) → Written start (block_state (S.state sink.old) block.old) w
+        → WritesOn start (block_state (S.state sink.new) block.new) (w ++ encode_utf8_all (replacements count)) result }
+    ensures lender { (S.state sink.new).lender ≡ (S.state sink.old).lender }
 {
     let mut left = count;
     while left > 0 {
         let many = left.min(MANY);
-        if let Err(failed) = block.push_text(some_replacements(many)) {
+        if let Err(failed) = block.push_text(some_replacements(many), sink) {
             return Err(failed);
         }
         left -= many;

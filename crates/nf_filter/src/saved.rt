@@ -2,11 +2,12 @@
 ghost use Rattle.std.specs.Prelude.{◌≡◌, ◌↔◌, IsTrue};
 ghost use Rattle.nf_filter.specs.Saved.{IsCounted, CountsFit, IsPending, are_marks};
 
+use crate::counted::Counted;
 use crate::filter::{Filter, State};
-use crate::normalizer::Normalizer;
 use crate::policy::Policy;
 use crate::reading::Reading;
 use arrayvec::ArrayVec;
+use nf_normalizer::Normalizer;
 use nf_pending::{Mark, Pending, Run};
 use nf_row::{Form, Plain, Rows};
 use nf_safe::Counter;
@@ -56,26 +57,26 @@ impl<'r, R: Rows> Filter<'r, R> {
             spent,
             policy,
             ref reading,
-            ref normalizer,
+            ref counted,
         } = self.state;
         let (bytes, len) = reading.decoder.held();
         let mut held = ArrayVec::new();
         held.try_extend_from_slice(&bytes[..len]).unwrap();
         let mut marks = Run::new();
         marks
-            .try_extend_from_slice(normalizer.pending.marks())
+            .try_extend_from_slice(counted.normalizer.pending.marks())
             .unwrap();
         Saved {
-            form: normalizer.form,
+            form: counted.normalizer.form,
             policy,
             spent,
             base,
             offset: reading.offset,
-            chars: normalizer.chars,
-            put: normalizer.put,
-            count: normalizer.counter.count(),
+            chars: counted.chars,
+            put: counted.put,
+            count: counted.normalizer.counter.count(),
             held,
-            starter: normalizer.pending.starter(),
+            starter: counted.normalizer.pending.starter(),
             marks,
         }
     }
@@ -122,11 +123,13 @@ impl<'r, R: Rows> Filter<'r, R> {
                 spent,
                 policy,
                 reading: Reading { decoder, offset },
-                normalizer: Normalizer {
-                    form,
-                    is_plain: true,
-                    counter,
-                    pending: Pending::holding(form, starter, marks),
+                counted: Counted {
+                    normalizer: Normalizer {
+                        form,
+                        is_plain: true,
+                        counter,
+                        pending: Pending::holding(form, starter, marks),
+                    },
                     chars,
                     put,
                 },

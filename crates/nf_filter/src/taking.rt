@@ -1,58 +1,118 @@
-//! How a normalizer takes a text: of what is closed the form is written at once, and each other character goes the
-//! ordinary way.
+//! How text goes through a normalizer to a sink, step by step.
+ghost use Rattle.std.specs.Prelude.{◌≡◌, length, chars, take_while, encode_utf8_all};
+ghost use Rattle.nf_filter.specs.Policy.{allowed};
+
 use crate::block::Block;
+use crate::counted::Counted;
 use crate::devices::{Failed, Sink};
 use crate::fault::Fault;
-use crate::normalizer::Normalizer;
-use nf_row::{Closed, Formed, Kind, Rows, Single};
-use nf_utf8::ascii_prefix;
+use nf_normalizer::Step;
+use nf_row::{Formed, Rows};
+use nf_utf8::char_count;
 
-/// Of a text of so many bytes no closed front is asked for: each of its characters goes the ordinary way for less.
-pub(crate) const FEW: usize = 4;
-
-/// The same of one that begins with plain ASCII, most of which is a run of that.
-const SHORT: usize = 128;
-
-impl Normalizer {
-    ghost use Rattle.std.specs.Prelude.{◌≡◌, ◌+◌, ◌<◌, ◌≤◌, ℕ, List, ◌++◌, length, chars, false, IfErr, IfSome, OnOk};
+impl Counted {
+    ghost use Rattle.std.specs.Prelude.{◌≡◌, ◌+◌, ◌<◌, ◌≤◌, Bool, ℕ, List, [], ◌∷◌, ◌++◌, length, chars, IfErr, OnOk};
     ghost use Rattle.nf_forms.specs.declared.form.Form.{Form};
-    ghost use Rattle.nf_boundary.specs.Front.{IsClosedFront};
-    ghost use Rattle.nf_row.specs.Single.{IsSingle};
-    ghost use Rattle.nf_filter.specs.Block.{Start, block_state, Written};
-    ghost use Rattle.nf_filter.specs.Faults.{IsOfTaking};
-    ghost use Rattle.nf_filter.specs.Normalizer.{HasTaken, IsPlacedAt, IsWithin, TakesOn, settled_text};
-    ghost use Rattle.nf_filter.specs.Taking.{PassesFront, TakesFrontBehind};
     ghost use Rattle.nf_utf8.specs.Taking.{first_text, first_bytes};
+    ghost use Rattle.nf_normalizer.specs.Normalizer.{IsWithin as IsReady};
+    ghost use Rattle.nf_filter.specs.Block.{Start, block_state, Written};
+    ghost use Rattle.nf_filter.specs.Counted.{HasPlaces, HasTaken, IsPlacedAt, IsWithin, TakesOn, settled_text};
+    ghost use Rattle.nf_filter.specs.Faults.{IsOfTaking};
+    ghost use Rattle.nf_filter.specs.Feeding.{TakesAllowed};
+    ghost use Rattle.nf_filter.specs.Policy.{allowed};
+    ghost use Rattle.nf_filter.specs.Stepping.{Passes, Standing, StepsOn};
 
     /// Takes the first character, where there is one, and the text behind it, which begins with it at the offset `at`.
+    /// Where only assigned characters are allowed, the first other is refused.
     pub(crate) fn take_both<R: Rows, S: Sink>(
         &mut self,
         rows: &R,
+        assigned: bool,
         at: u64,
         first: Option<char>,
         text: &str,
-        block: &mut Block<'_, S>,
+        block: &mut Block,
+        sink: &mut S,
     ) -> Result<(), Fault>
         requires within { IsWithin self.old }
         requires chars { self.old.chars ≤ at }
         requires fits { at + length (first_bytes first) + length text.now ≤ u64.MAX }
         ensures within { OnOk result (IsWithin self.new) }
-        ensures form { OnOk result (self.new.form ≡ self.old.form) }
         ensures chars { OnOk result (self.new.chars ≤ at + length (first_bytes first) + length text.now) }
         ensures faults { IfErr result IsOfTaking }
         ensures takes { let p = R.properties rows.now in
-            (f : Form) (place : List ℕ → ℕ) (x : List ℕ) (start : Start) → HasTaken f p self.old x → IsPlacedAt place at x (first_text first ++ chars text.now)
-            → Written start (block_state S.state block.old) (settled_text f p x)
-            → TakesOn f p self.new start (block_state S.state block.new) place (x ++ (first_text first ++ chars text.now)) result }
-        ensures lent { (block.new.sink.ghost_name ≡ block.old.sink.ghost_name) × ((S.state block.new.sink.now).lender ≡ (S.state block.old.sink.now).lender) }
+            (f : Form) (place : List ℕ → ℕ) (x : List ℕ) (start : Start) → HasTaken f p self.old x → allowed assigned p x ≡ x
+            → IsPlacedAt place at x (first_text first ++ chars text.now) → Written start (block_state (S.state sink.old) block.old) (settled_text f p x)
+            → TakesAllowed assigned f p self.new start (block_state (S.state sink.new) block.new) place (x ++ (first_text first ++ chars text.now)) result }
+        ensures lender { (S.state sink.new).lender ≡ (S.state sink.old).lender }
     {
         let Some(c) = first else {
-            return self.take_text(rows, at, text, block);
+            return self.take_allowed(rows, assigned, at, text, block, sink);
         };
-        if let Err(refusal) = self.take_char(rows, c, block) {
-            return Err(refusal.at(at));
+        if let Err(fault) = self.take_one(rows, assigned, at, c, block, sink) {
+            return Err(fault);
         }
-        self.take_text(rows, at + c.len_utf8() as u64, text, block)
+        self.take_allowed(rows, assigned, at + c.len_utf8() as u64, text, block, sink)
+    }
+
+    /// Takes the character at the offset `at`. Where only assigned characters are allowed, another is refused.
+    pub(crate) fn take_one<R: Rows, S: Sink>(
+        &mut self,
+        rows: &R,
+        assigned: bool,
+        at: u64,
+        c: char,
+        block: &mut Block,
+        sink: &mut S,
+    ) -> Result<(), Fault>
+        requires within { IsWithin self.old }
+        requires counts { self.old.chars < u64.MAX }
+        ensures within { OnOk result (IsWithin self.new) }
+        ensures chars { OnOk result (self.new.chars ≡ self.old.chars + 1) }
+        ensures faults { IfErr result IsOfTaking }
+        ensures takes { let p = R.properties rows.now in
+            (f : Form) (place : List ℕ → ℕ) (x : List ℕ) (start : Start) → HasTaken f p self.old x → allowed assigned p x ≡ x
+            → IsPlacedAt place at x (c ∷ []) → Written start (block_state (S.state sink.old) block.old) (settled_text f p x)
+            → TakesAllowed assigned f p self.new start (block_state (S.state sink.new) block.new) place (x ++ c ∷ []) result }
+        ensures lender { (S.state sink.new).lender ≡ (S.state sink.old).lender }
+    {
+        let mut bytes = [0; 4];
+        let text = c.encode_utf8(&mut bytes);
+        self.take_allowed(rows, assigned, at, text, block, sink)
+    }
+
+    /// Takes a text that begins at the offset `at`. Where only assigned characters are allowed, the first other is refused.
+    fn take_allowed<R: Rows, S: Sink>(
+        &mut self,
+        rows: &R,
+        assigned: bool,
+        at: u64,
+        text: &str,
+        block: &mut Block,
+        sink: &mut S,
+    ) -> Result<(), Fault>
+        requires within { IsWithin self.old }
+        requires counts { self.old.chars + length (chars text.now) ≤ u64.MAX }
+        requires fits { HasPlaces at text.now }
+        ensures within { OnOk result (IsWithin self.new) }
+        ensures chars { OnOk result (self.new.chars ≡ self.old.chars + length (chars text.now)) }
+        ensures faults { IfErr result IsOfTaking }
+        ensures takes { let p = R.properties rows.now in
+            (f : Form) (place : List ℕ → ℕ) (x : List ℕ) (start : Start) → HasTaken f p self.old x → allowed assigned p x ≡ x
+            → IsPlacedAt place at x (chars text.now) → Written start (block_state (S.state sink.old) block.old) (settled_text f p x)
+            → TakesAllowed assigned f p self.new start (block_state (S.state sink.new) block.new) place (x ++ chars text.now) result }
+        ensures lender { (S.state sink.new).lender ≡ (S.state sink.old).lender }
+    {
+        let (front, rest) = text.split_at(allowed_len(rows, assigned, text));
+        if let Err(fault) = self.take_text(rows, at, front, block, sink) {
+            return Err(fault);
+        }
+        if rest.is_empty() {
+            return Ok(());
+        }
+        Err(Fault::Unassigned {
+            at: at + front.len() as u64,
+        })
     }
 
     /// Takes a text that begins at the offset `at`.
@@ -61,155 +121,101 @@ impl Normalizer {
         rows: &R,
         at: u64,
         text: &str,
-        block: &mut Block<'_, S>,
+        block: &mut Block,
+        sink: &mut S,
     ) -> Result<(), Fault>
         requires within { IsWithin self.old }
-        requires chars { self.old.chars ≤ at }
-        requires fits { at + length text.now ≤ u64.MAX }
+        requires counts { self.old.chars + length (chars text.now) ≤ u64.MAX }
+        requires fits { HasPlaces at text.now }
         ensures within { OnOk result (IsWithin self.new) }
-        ensures form { OnOk result (self.new.form ≡ self.old.form) }
-        ensures chars { OnOk result (self.new.chars ≤ at + length text.now) }
+        ensures chars { OnOk result (self.new.chars ≡ self.old.chars + length (chars text.now)) }
         ensures faults { IfErr result IsOfTaking }
         ensures takes { let p = R.properties rows.now in
-            (f : Form) (place : List ℕ → ℕ) (x : List ℕ) (start : Start) → HasTaken f p self.old x → IsPlacedAt place at x (chars text.now)
-            → Written start (block_state S.state block.old) (settled_text f p x)
-            → TakesOn f p self.new start (block_state S.state block.new) place (x ++ chars text.now) result }
-        ensures lent { (block.new.sink.ghost_name ≡ block.old.sink.ghost_name) × ((S.state block.new.sink.now).lender ≡ (S.state block.old.sink.now).lender) }
+            (f : Form) (place : List ℕ → ℕ) (x : List ℕ) (start : Start) → self.old.chars ≡ length x
+            → Standing f p self.old start (block_state (S.state sink.old) block.old) x (chars text.now) → IsPlacedAt place at x (chars text.now)
+            → TakesOn f p self.new start (block_state (S.state sink.new) block.new) place (x ++ chars text.now) result }
+        ensures lender { (S.state sink.new).lender ≡ (S.state sink.old).lender }
     {
         let mut rest = text;
         let mut formed = Formed::new();
         while !rest.is_empty() {
             let place = at + (text.len() - rest.len()) as u64;
-            match self.take_front(rows, place, rest, &mut formed, block) {
+            match self.step(rows, place, rest, &mut formed, block, sink) {
                 Ok(behind) => rest = behind,
                 Err(fault) => return Err(fault),
             }
         }
+        self.chars += char_count(text) as u64;
         Ok(())
     }
 
-    /// Takes a front of a text that begins at the offset `at`: what of it is closed, or else its first character. Answers
-    /// what stands behind. What `formed` holds is lost: it is room that each front uses anew.
-    fn take_front<'t, R: Rows, S: Sink>(
+    /// Takes a front of a text that begins at the offset `at`, and writes what it settles. Answers what stands after it.
+    /// What `formed` holds is lost: it is room that each step uses anew.
+    fn step<'t, R: Rows, S: Sink>(
         &mut self,
         rows: &R,
         at: u64,
         text: &'t str,
         formed: &mut Formed,
-        block: &mut Block<'_, S>,
+        block: &mut Block,
+        sink: &mut S,
     ) -> Result<&'t str, Fault>
         requires some { 0 < length text.now }
-        requires within { IsWithin self.old }
-        requires chars { self.old.chars ≤ at }
-        requires fits { at + length text.now ≤ u64.MAX }
-        ensures passes { PassesFront self.old self.new at text.now result }
-        ensures takes { TakesFrontBehind (R.properties rows.now) self.old self.new (block_state S.state block.old) (block_state S.state block.new) at text.now result }
-        ensures lent { (block.new.sink.ghost_name ≡ block.old.sink.ghost_name) × ((S.state block.new.sink.now).lender ≡ (S.state block.old.sink.now).lender) }
+        requires within { IsReady self.old.normalizer }
+        requires counts { self.old.put + length (chars text.now) ≤ u64.MAX }
+        requires fits { HasPlaces at text.now }
+        ensures passes { Passes self.old self.new text.now result }
+        ensures steps { let p = R.properties rows.now in
+            (f : Form) (place : List ℕ → ℕ) (x : List ℕ) (start : Start) → Standing f p self.old start (block_state (S.state sink.old) block.old) x (chars text.now)
+            → IsPlacedAt place at x (chars text.now) → StepsOn f p self.new start (block_state (S.state sink.new) block.new) place x text.now result }
+        ensures lender { (S.state sink.new).lender ≡ (S.state sink.old).lender }
     {
-        // No closed text begins with a mark, and to ask for a front of it costs more than to see that.
-        let mut chars = text.chars();
-        let c = chars.next().unwrap();
-        if let Some(mark) = self.mark_of(rows, c) {
-            return match self.take_single(rows, c, mark, block) {
-                Ok(()) => Ok(chars.as_str()),
-                Err(refusal) => Err(refusal.at(at)),
-            };
+        if let Err(Failed) = block.make_room(sink) {
+            return Err(Fault::Write);
         }
-        let Some(closed) = self.closed_front(rows, text, formed) else {
-            return self.take_else(rows, at, text, block);
-        };
-        match self.take_closed(rows, text, closed, formed, block) {
-            Ok(rest) => Ok(rest),
-            Err(Failed) => Err(Fault::Write),
+        match self.normalizer.step(rows, text, &mut block.room, formed) {
+            Step::Taken { same, rest, put } => {
+                self.put += put;
+                match block.push_text(same, sink) {
+                    Ok(()) => Ok(rest),
+                    Err(Failed) => Err(Fault::Write),
+                }
+            }
+            Step::Closed { closed, put } => {
+                self.put += put;
+                match block.push_form(closed.same, formed, sink) {
+                    Ok(()) => Ok(closed.rest),
+                    Err(Failed) => Err(Fault::Write),
+                }
+            }
+            Step::Unsound { rest } => Err(Fault::Row {
+                at: at + (text.len() - rest.len()) as u64,
+            }),
         }
     }
+}
 
-    /// What the form has of `c`, where that is known and no closed text begins so: a mark, a starter that counts as one, or a
-    /// letter of Hangul that may compose with the one before it.
-    #[inline(always)]
-    fn mark_of<R: Rows>(&self, rows: &R, c: char) -> Option<Single>
-        ensures { IfSome result (λ mark. IsSingle (R.properties rows.now) self.now.form c mark) }
-    {
-        match rows.kind(self.form, c) {
-            Kind::Mark { class, .. } => Some(Single::of_own(c, class)),
-            Kind::Parts => None,
-            Kind::Other => rows.single(self.form, c),
-        }
+/// How many bytes the characters at the front of the text have that are taken: all, or the assigned ones.
+fn allowed_len<R: Rows>(rows: &R, assigned: bool, text: &str) -> usize
+    ensures { result ≡ length (encode_utf8_all (allowed assigned (R.properties rows.now) (chars text.now))) }
+{
+    if assigned {
+        assigned_len(rows, text)
+    } else {
+        text.len()
     }
+}
 
-    /// The closed front of a text, where to ask for that costs less than to do without.
-    #[inline(always)]
-    fn closed_front<'t, R: Rows>(
-        &self,
-        rows: &R,
-        text: &'t str,
-        formed: &mut Formed,
-    ) -> Option<Closed<'t>>
-        requires { 0 < length text.now }
-        ensures { IfSome result (λ closed. IsClosedFront (R.properties rows.now) self.now.form text.now closed.same.now formed.new.items closed.rest.now) }
-    {
-        let few = if self.is_plain && text.as_bytes()[0] < 0x80 {
-            SHORT
-        } else {
-            FEW
-        };
-        if text.len() <= few {
-            return None;
+/// How many bytes the assigned characters at the front of the text have (general category other than Cn).
+fn assigned_len<R: Rows>(rows: &R, text: &str) -> usize
+    ensures { result ≡ length (encode_utf8_all (take_while (R.properties rows.now).assigned (chars text.now))) }
+{
+    let mut len = 0;
+    for c in text.chars() {
+        if !rows.assigned(c) {
+            return len;
         }
-        rows.closed_front(self.form, text, formed)
+        len += c.len_utf8();
     }
-
-    /// Takes a front of a text that is not known to be closed: a run of plain ASCII behind a pending character of such, or
-    /// else its first character. Answers what stands behind.
-    fn take_else<'t, R: Rows, S: Sink>(
-        &mut self,
-        rows: &R,
-        at: u64,
-        text: &'t str,
-        block: &mut Block<'_, S>,
-    ) -> Result<&'t str, Fault>
-        requires some { 0 < length text.now }
-        requires within { IsWithin self.old }
-        requires chars { self.old.chars ≤ at }
-        requires fits { at + length text.now ≤ u64.MAX }
-        ensures passes { PassesFront self.old self.new at text.now result }
-        ensures takes { TakesFrontBehind (R.properties rows.now) self.old self.new (block_state S.state block.old) (block_state S.state block.new) at text.now result }
-        ensures lent { (block.new.sink.ghost_name ≡ block.old.sink.ghost_name) × ((S.state block.new.sink.now).lender ≡ (S.state block.old.sink.now).lender) }
-    {
-        let Some(starter) = self.plain_starter() else {
-            return self.take_first(rows, at, text, block);
-        };
-        let len = ascii_prefix(text.as_bytes());
-        if len == 0 {
-            return self.take_first(rows, at, text, block);
-        }
-        match self.take_ascii(rows, starter, text, len, block) {
-            Ok(rest) => Ok(rest),
-            Err(Failed) => Err(Fault::Write),
-        }
-    }
-
-    /// Takes the first character of a text that begins at the offset `at`. Answers what stands behind.
-    fn take_first<'t, R: Rows, S: Sink>(
-        &mut self,
-        rows: &R,
-        at: u64,
-        text: &'t str,
-        block: &mut Block<'_, S>,
-    ) -> Result<&'t str, Fault>
-        requires some { 0 < length text.now }
-        requires within { IsWithin self.old }
-        requires chars { self.old.chars ≤ at }
-        requires fits { at + length text.now ≤ u64.MAX }
-        ensures passes { PassesFront self.old self.new at text.now result }
-        ensures takes { TakesFrontBehind (R.properties rows.now) self.old self.new (block_state S.state block.old) (block_state S.state block.new) at text.now result }
-        ensures lent { (block.new.sink.ghost_name ≡ block.old.sink.ghost_name) × ((S.state block.new.sink.now).lender ≡ (S.state block.old.sink.now).lender) }
-    {
-        let mut chars = text.chars();
-        let c = chars.next().unwrap();
-        match self.take_char(rows, c, block) {
-            Ok(()) => Ok(chars.as_str()),
-            Err(refusal) => Err(refusal.at(at)),
-        }
-    }
+    len
 }

@@ -15,7 +15,7 @@ use Rattle.nf_forms.specs.Laws.Parting.{safe_form-push}
 use Rattle.nf_filter.specs.Laws.Soundness.{AreSound}
 use Rattle.nf_filter.proofs.PolicyLemmas.{allowed-append, allowed-grows, allowed-none, first_fault-none}
 use Rattle.nf_filter.proofs.ReadingLemmas.{ending_of-none}
-use Rattle.nf_filter.proofs.SettledLemmas.{usable-all}
+use Rattle.nf_normalizer.specs.Laws.Settled.{usable-all}
 use Rattle.nf_filter.proofs.SoundnessLemmas.{all_sound, usable_is, first_fault-assigned}
 use Rattle.nf_lines.proofs.WholeParts.{Reading, eqb_past, line_encodes}
 use Rattle.nf_lines.proofs.WholeLines.{ReadsLines, strict_lines, replaced_lines}

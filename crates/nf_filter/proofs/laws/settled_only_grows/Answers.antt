@@ -1,4 +1,4 @@
-use Rattle.nf_filter.proofs.SettledLemmas.{settled-extends}
+use Rattle.nf_normalizer.specs.Laws.Settled.{settled-extends}
 use Rattle.nf_filter.proofs.laws.settled_only_grows.Goals as goal
 
 pub returns : goal.returns

@@ -3,9 +3,9 @@ use Rattle.nf_safe.specs.declared.measure.Measure.{Measure}
 use Rattle.nf_safe.specs.declared.place.Place.{Place}
 use Rattle.nf_safe.specs.Measurer.{values_of}
 use Rattle.nf_filter.specs.declared.taker.Stop.TheVariants.{Refused}
-use Rattle.nf_filter.specs.Normalizer.{utf8_place}
+use Rattle.nf_filter.specs.Counted.{utf8_place}
 use Rattle.nf_filter.specs.Measures.{HasMeasured, measure_decision, text_measure, unusable_stop}
-use Rattle.nf_filter.proofs.SettledLemmas.{is_usable-none}
+use Rattle.nf_normalizer.specs.Laws.Settled.{is_usable-none}
 use Rattle.nf_filter.proofs.TextLemmas.{unusable_at-usable}
 use Rattle.nf_filter.proofs.ReadingLemmas.{holds_nothing, HasRead-none}
 use Rattle.nf_filter.proofs.SurveysLemmas.{IsOfSurvey-from, Surveys-whole, Surveys-stopped}

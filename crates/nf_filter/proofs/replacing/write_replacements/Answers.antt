@@ -1,7 +1,7 @@
 use Rattle.std.proofs.Common.{◌≡◌, ℕ, ◌+◌, ◌-◌, ◌≤◌, ◌++◌, encode_utf8_all, ap, ◌∙◌, arith}
 use Rattle.nf_utf8.specs.Broken.{replacements}
 use Rattle.nf_filter.proofs.BlockLemmas.{Written-at}
-use Rattle.nf_filter.proofs.PushingLemmas.{Broken-extends}
+use Rattle.nf_filter.proofs.BlockLemmas.{Broken-extends}
 use Rattle.nf_filter.proofs.ReplacingLemmas.{encodes-more, encodes-rest}
 use Rattle.nf_filter.proofs.replacing.write_replacements.Goals as goal
 
@@ -22,5 +22,5 @@ loop-left-preserved g c = record {
       let all : done + many ≡ c.args.count - (c.loop-left.left - many) = omega (arith, c.loop-left.invariant.few, c.min-many.ensures) in
       Written-at (encodes-more w done many ∙ ap (λ n. w ++ encode_utf8_all (replacements n)) all)
       (rw c.some_replacements.ensures at (c.in_default.ensures.writes start (w ++ encode_utf8_all (replacements done)) (c.loop-left.invariant.writes start w written)));
-  lent = (c.in_default.ensures.lent ∙ c.loop-left.invariant.lent.0, c.in_default.ensures.lender ∙ c.loop-left.invariant.lent.1);
+  lender = c.in_default.ensures.lender ∙ c.loop-left.invariant.lender;
 }

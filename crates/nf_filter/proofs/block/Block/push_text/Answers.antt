@@ -4,7 +4,7 @@ use Rattle.nf_filter.specs.Devices.{SinkState}
 use Rattle.nf_filter.specs.Writes.{Puts, BreaksOff}
 use Rattle.nf_filter.specs.Block.{Start, BlockState, Written, WritesOn}
 use Rattle.nf_filter.proofs.WritesLemmas.{Puts-join, Puts-behind, BreaksOff-join, BreaksOff-behind}
-use Rattle.nf_filter.proofs.PushingLemmas.{Broken-extends}
+use Rattle.nf_filter.proofs.BlockLemmas.{Broken-extends}
 use Rattle.nf_filter.proofs.block.Block.push_text.Goals as goal
 
 -- past an empty block

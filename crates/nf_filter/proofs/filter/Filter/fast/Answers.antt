@@ -1,5 +1,5 @@
 use Rattle.std.proofs.Common.{[], refl, sym, subst, arith}
-use Rattle.nf_filter.specs.Normalizer.{HasTaken}
+use Rattle.nf_normalizer.specs.Normalizer.{HasTaken}
 use Rattle.nf_filter.specs.Policy.{as_is}
 use Rattle.nf_filter.proofs.ReadingLemmas.{holds_nothing}
 use Rattle.nf_filter.proofs.StandingLemmas.{StandsAfter-none}
@@ -10,11 +10,11 @@ invariant_of-result g c =
     let none = holds_nothing c.new.result.decoder c.new.ensures.decoder in
     record {
       base_within = omega (arith, c.new.ensures.offset);
-      ready = λ _. record { held = omega (arith, none); end = (c.fast.ensures.within, omega (arith, c.fast.ensures.chars)) };
+      ready = λ _. record { held = omega (arith, none); end = (c.new-2.ensures.within, omega (arith, c.new-2.ensures.chars)) };
     }
 
 pub returns-clause-stands : goal.returns-clause-stands
 returns-clause-stands g c =
     let p = g.R.Rows.properties c.rows.result.now in
     let taken = subst (λ rows. HasTaken c.args.form (g.R.Rows.properties rows) c.fast.result []) (sym c.rows.ensures.rows) c.fast.ensures.taken in
-    StandsAfter-none p as_is c.args.form _ refl refl c.new.ensures.offset c.new.ensures.decoder taken
+    StandsAfter-none p as_is c.args.form _ refl refl c.new.ensures.offset c.new.ensures.decoder (c.new-2.ensures.taken c.args.form p taken)

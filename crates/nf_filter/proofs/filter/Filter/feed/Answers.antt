@@ -10,8 +10,8 @@ use Rattle.nf_filter.proofs.filter.Filter.feed.Goals as goal
 
 -- the policy of the filter
 module _ (policy : Policy) (f : Form) (p : Properties) (state : State) (bytes : List ℕ) (stands : StandsAfter policy f p state bytes) where
-  read_before : HasReadTo state.policy f p state.normalizer state.base state.reading bytes []
-  read_before = subst (λ (q : Policy). HasReadTo q f p state.normalizer state.base state.reading bytes []) (sym stands.policy_is) stands.reading
+  read_before : HasReadTo state.policy f p state.counted state.base state.reading bytes []
+  read_before = subst (λ (q : Policy). HasReadTo q f p state.counted state.base state.reading bytes []) (sym stands.policy_is) stands.reading
 
   no_fault_before : fault_in state.policy p state.base bytes ≡ None
   no_fault_before = subst (λ (q : Policy). fault_in q p state.base bytes ≡ None) (sym stands.policy_is) stands.no_fault

@@ -2,14 +2,14 @@ use Rattle.std.proofs.Common.{◌≡◌, ℕ, ◌-◌, Bool, List, [], None, sym
 use Rattle.nf_forms.specs.Properties.{Properties}
 use Rattle.nf_forms.specs.declared.form.Form.{Form}
 use Rattle.nf_filter.specs.declared.filter.State.{State}
-use Rattle.nf_filter.specs.declared.normalizer.Normalizer.{Normalizer}
+use Rattle.nf_filter.specs.declared.counted.Counted.{Counted}
 use Rattle.nf_filter.specs.declared.policy.Policy.{Policy}
 use Rattle.nf_filter.specs.declared.tally.Tally.{Tally}
 use Rattle.nf_filter.specs.Feeding.{HasReadTo}
 use Rattle.nf_filter.specs.Filter.{base_of, offset_of, StandsAfter}
 use Rattle.nf_filter.specs.Faults.{fault_in}
 use Rattle.nf_filter.specs.Finishes.{tally_of}
-use Rattle.nf_filter.specs.Normalizer.{HasTaken}
+use Rattle.nf_filter.specs.Counted.{HasTaken}
 use Rattle.nf_filter.specs.Policy.{whole_under}
 use Rattle.nf_filter.proofs.FilterLemmas.{StandsAfter-offset}
 use Rattle.nf_filter.proofs.JoinedLemmas.{joins_pieces}
@@ -21,10 +21,10 @@ tally_from bytes chars put = record { bytes = bytes; chars = chars; put = put }
 
 -- what was counted
 module _ (policy : Policy) (f : Form) (p : Properties) (state : State) (bytes : List ℕ) (stands : StandsAfter policy f p state bytes) where
-  read_before : HasReadTo state.policy f p state.normalizer state.base state.reading bytes []
-  read_before = subst (λ (q : Policy). HasReadTo q f p state.normalizer state.base state.reading bytes []) (sym stands.policy_is) stands.reading
+  read_before : HasReadTo state.policy f p state.counted state.base state.reading bytes []
+  read_before = subst (λ (q : Policy). HasReadTo q f p state.counted state.base state.reading bytes []) (sym stands.policy_is) stands.reading
 
-  counted : (replace : Bool) (after : Normalizer) → HasTaken f p after (whole_under replace bytes) → tally_from (offset_of state - base_of state) after.chars after.put ≡ tally_of replace p bytes
+  counted : (replace : Bool) (after : Counted) → HasTaken f p after (whole_under replace bytes) → tally_from (offset_of state - base_of state) after.chars after.put ≡ tally_of replace p bytes
   counted replace after taken = same (omega (arith, StandsAfter-offset stands)) taken.chars (omega (arith, taken.put, taken.chars))
     where
       same : {a b c x y z : ℕ} → a ≡ x → b ≡ y → c ≡ z → tally_from a b c ≡ tally_from x y z
@@ -41,14 +41,14 @@ returns-in-Ok-clause-finishes g c = λ policy f bytes stands.
     let p = g.R.Rows.properties c.args.self.rows.now in
     let state = c.args.self.state in
     let closes = c.in_default.ensures.closes f state.base bytes (read_before policy f p state bytes stands) in
-    rw (← stands.policy_is) (Finishes-whole state.policy f p state.base bytes c.close.new.normalizer _ _ _ closes _ (counted policy f p state bytes stands state.policy.replace c.close.new.normalizer closes.0) (c.in-Ok.ensures.puts f (whole_under state.policy.replace bytes) closes.0))
+    rw (← stands.policy_is) (Finishes-whole state.policy f p state.base bytes c.close.new.counted _ _ _ closes _ (counted policy f p state bytes stands state.policy.replace c.close.new.counted closes.0) (c.in-Ok.ensures.puts f (whole_under state.policy.replace bytes) closes.0))
 
 pub returns-in-Err-end-clause-finishes : goal.returns-in-Err-end-clause-finishes
 returns-in-Err-end-clause-finishes g c = λ policy f bytes stands.
     let p = g.R.Rows.properties c.args.self.rows.now in
     let state = c.args.self.state in
     let closes = c.in_default.ensures.closes f state.base bytes (read_before policy f p state bytes stands) in
-    rw (← stands.policy_is) (Finishes-broken state.policy f p state.base bytes c.close.new.normalizer _ _ _ closes (c.in-Err-end.ensures.puts f (whole_under state.policy.replace bytes) closes.0))
+    rw (← stands.policy_is) (Finishes-broken state.policy f p state.base bytes c.close.new.counted _ _ _ closes (c.in-Err-end.ensures.puts f (whole_under state.policy.replace bytes) closes.0))
 
 pub returns-in-Ok-clause-again : goal.returns-in-Ok-clause-again
 returns-in-Ok-clause-again g c = λ policy f bytes stands once.

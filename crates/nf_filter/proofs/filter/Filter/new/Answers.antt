@@ -9,10 +9,10 @@ invariant_of-result g c =
     let none = holds_nothing c.new.result.decoder c.new.ensures.decoder in
     record {
       base_within = omega (arith, c.new.ensures.offset);
-      ready = λ _. record { held = omega (arith, none); end = (c.new-2.ensures.within, omega (arith, c.new-2.ensures.chars)) };
+      ready = λ _. record { held = omega (arith, none); end = (c.new-3.ensures.within, omega (arith, c.new-3.ensures.chars)) };
     }
 
 pub returns-clause-stands : goal.returns-clause-stands
 returns-clause-stands g c =
     let p = g.R.Rows.properties c.args.rows.now in
-    StandsAfter-none p as_is c.args.form _ refl refl c.new.ensures.offset c.new.ensures.decoder (c.new-2.ensures.taken p)
+    StandsAfter-none p as_is c.args.form _ refl refl c.new.ensures.offset c.new.ensures.decoder (c.new-3.ensures.taken c.args.form p (c.new-2.ensures.taken p))

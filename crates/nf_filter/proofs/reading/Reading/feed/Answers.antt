@@ -1,4 +1,4 @@
-use Rattle.std.proofs.Common.{◌≡◌, ◌++◌, rules, sym, ap, ◌∙◌}
+use Rattle.std.proofs.Common.{◌++◌, refl, sym, ◌∙◌}
 use Rattle.std.proofs.lemmas.Bool.{false≢true}
 use Rattle.nf_filter.specs.Block.{block_state}
 use Rattle.nf_filter.specs.Settled.{settled_utf8}
@@ -10,36 +10,33 @@ pub returns-then-is_broken-clause-feeds : goal.returns-then-is_broken-clause-fee
 returns-then-is_broken-clause-feeds g c = λ f base bytes read no_fault.
     let p = g.R.Rows.properties c.args.rows.now in
     let laws = c.replacing.ensures in
-    let same : g.S.Sink.state c.sink-1.given.0 ≡ g.S.Sink.state c.read_rest-read.new.block.sink.now = search rules in
-    let written = Written-none (g.S.Sink.state c.args.sink.now) _ _ (settled_utf8 c.args.policy f p bytes) (ap g.S.Sink.state c.over-block.ensures.sink) c.over-block.ensures.empty in
+    let written = Written-none (g.S.Sink.state c.args.sink.now) _ _ (settled_utf8 c.args.policy f p bytes) refl c.new-block.ensures.empty in
     let start = start_at (g.S.Sink.state c.args.sink.now) (settled_utf8 c.args.policy f p bytes) in
-    let reads = c.read_rest-read.ensures.reads f base (bytes ++ c.args.piece.now) start (reads-more c.args.policy f p base laws c.args.normalizer.now c.args.self.now bytes read c.args.piece.now start _ written) in (
-      fed-broken c.args.policy f p base laws _ _ bytes c.args.piece.now _ _ _ c.read_rest-read.result reads (c.is_broken.ensures.0 c.if-is_broken.true) (sym same),
-      fed-stands c.args.policy f p base laws _ (g.S.Sink.state c.read_rest-read.new.block.sink.now) bytes c.args.piece.now _ _ _ c.read_rest-read.result reads,
+    let reads = c.read_rest-read.ensures.reads f base (bytes ++ c.args.piece.now) start (reads-more c.args.policy f p base laws c.args.counted.now c.args.self.now bytes read c.args.piece.now start _ written) in (
+      fed-broken c.args.policy f p base laws _ _ bytes c.args.piece.now _ _ _ c.read_rest-read.result reads (c.is_broken.ensures.0 c.if-is_broken.true) refl,
+      fed-stands c.args.policy f p base laws _ (g.S.Sink.state c.read_rest-read.new.sink) bytes c.args.piece.now _ _ _ c.read_rest-read.result reads,
     )
 
 pub returns-in-Ok-clause-feeds : goal.returns-in-Ok-clause-feeds
 returns-in-Ok-clause-feeds g c = λ f base bytes read no_fault.
     let p = g.R.Rows.properties c.args.rows.now in
     let laws = c.replacing.ensures in
-    let same : g.S.Sink.state c.sink-2-1.given.0 ≡ g.S.Sink.state c.empty.new.self.sink.now = search rules in
-    let written = Written-none (g.S.Sink.state c.args.sink.now) _ _ (settled_utf8 c.args.policy f p bytes) (ap g.S.Sink.state c.over-block.ensures.sink) c.over-block.ensures.empty in
+    let written = Written-none (g.S.Sink.state c.args.sink.now) _ _ (settled_utf8 c.args.policy f p bytes) refl c.new-block.ensures.empty in
     let start = start_at (g.S.Sink.state c.args.sink.now) (settled_utf8 c.args.policy f p bytes) in
-    let reads = c.read_rest-read.ensures.reads f base (bytes ++ c.args.piece.now) start (reads-more c.args.policy f p base laws c.args.normalizer.now c.args.self.now bytes read c.args.piece.now start _ written) in (
-      fed-given c.args.policy f p base laws _ _ bytes c.args.piece.now _ _ _ c.read_rest-read.result reads (block_state g.S.Sink.state c.empty.new.self) (λ e. false≢true (sym c.if-is_broken.false ∙ c.is_broken.ensures.1 e))
-          (c.in-Ok.ensures.writes start _) c.in-Ok.ensures.none (sym same),
-      fed-stands c.args.policy f p base laws _ (g.S.Sink.state c.empty.new.self.sink.now) bytes c.args.piece.now _ _ _ c.read_rest-read.result reads,
+    let reads = c.read_rest-read.ensures.reads f base (bytes ++ c.args.piece.now) start (reads-more c.args.policy f p base laws c.args.counted.now c.args.self.now bytes read c.args.piece.now start _ written) in (
+      fed-given c.args.policy f p base laws _ _ bytes c.args.piece.now _ _ _ c.read_rest-read.result reads (block_state (g.S.Sink.state c.empty.new.sink) c.empty.new.self) (λ e. false≢true (sym c.if-is_broken.false ∙ c.is_broken.ensures.1 e))
+          (c.in-Ok.ensures.writes start _) c.in-Ok.ensures.none refl,
+      fed-stands c.args.policy f p base laws _ (g.S.Sink.state c.empty.new.sink) bytes c.args.piece.now _ _ _ c.read_rest-read.result reads,
     )
 
 pub returns-in-Err-clause-feeds : goal.returns-in-Err-clause-feeds
 returns-in-Err-clause-feeds g c = λ f base bytes read no_fault.
     let p = g.R.Rows.properties c.args.rows.now in
     let laws = c.replacing.ensures in
-    let same : g.S.Sink.state c.sink-2-1.given.0 ≡ g.S.Sink.state c.empty.new.self.sink.now = search rules in
-    let written = Written-none (g.S.Sink.state c.args.sink.now) _ _ (settled_utf8 c.args.policy f p bytes) (ap g.S.Sink.state c.over-block.ensures.sink) c.over-block.ensures.empty in
+    let written = Written-none (g.S.Sink.state c.args.sink.now) _ _ (settled_utf8 c.args.policy f p bytes) refl c.new-block.ensures.empty in
     let start = start_at (g.S.Sink.state c.args.sink.now) (settled_utf8 c.args.policy f p bytes) in
-    let reads = c.read_rest-read.ensures.reads f base (bytes ++ c.args.piece.now) start (reads-more c.args.policy f p base laws c.args.normalizer.now c.args.self.now bytes read c.args.piece.now start _ written) in (
-      fed-failed c.args.policy f p base laws _ _ bytes c.args.piece.now _ _ _ c.read_rest-read.result reads (block_state g.S.Sink.state c.empty.new.self) (λ e. false≢true (sym c.if-is_broken.false ∙ c.is_broken.ensures.1 e))
-          (c.in-Err.ensures.writes start _) (sym same),
+    let reads = c.read_rest-read.ensures.reads f base (bytes ++ c.args.piece.now) start (reads-more c.args.policy f p base laws c.args.counted.now c.args.self.now bytes read c.args.piece.now start _ written) in (
+      fed-failed c.args.policy f p base laws _ _ bytes c.args.piece.now _ _ _ c.read_rest-read.result reads (block_state (g.S.Sink.state c.empty.new.sink) c.empty.new.self) (λ e. false≢true (sym c.if-is_broken.false ∙ c.is_broken.ensures.1 e))
+          (c.in-Err.ensures.writes start _) refl,
       tt,
     )

@@ -16,11 +16,11 @@ returns-in-Err-clause-reads g c = λ f base bytes start part.
     let found = c.broken_front-broken.result in
     let replaces : c.args.policy.replace ≡ true = not-false c.args.policy.replace c.if-not-policy.false in
     let any : c.args.policy.assigned ≡ false = c.if-policy.false in
-    let before = taken_before c.args.policy f p base bytes start laws replaces any c.args.normalizer.now c.args.self.now c.args.rest.now read none in
-    let written = written_before c.args.policy f p base bytes start laws replaces any c.args.normalizer.now c.args.self.now c.args.rest.now read none (block_state g.S.Sink.state c.args.block.now) both.1 in
+    let before = taken_before c.args.policy f p base bytes start laws replaces any c.args.counted.now c.args.self.now c.args.rest.now read none in
+    let written = written_before c.args.policy f p base bytes start laws replaces any c.args.counted.now c.args.self.now c.args.rest.now read none (block_state (g.S.Sink.state c.args.sink.now) c.args.block.now) both.1 in
     let stopped = c.in-Err.ensures.takes f read.before start before written in
-    broken-refused c.args.policy f p base bytes start laws replaces any c.args.normalizer.now c.args.self.now c.args.rest.now read none
-    (replacements found.parts) found.len c.broken_front-broken.ensures.broken (block_state g.S.Sink.state c.take_replacements.new.block) c.take_replacements.new.self stopped.0 stopped.1
+    broken-refused c.args.policy f p base bytes start laws replaces any c.args.counted.now c.args.self.now c.args.rest.now read none
+    (replacements found.parts) found.len c.broken_front-broken.ensures.broken (block_state (g.S.Sink.state c.take_replacements.new.sink) c.take_replacements.new.block) c.take_replacements.new.self stopped.0 stopped.1
 
 pub returns-clause-reads : goal.returns-clause-reads
 returns-clause-reads g c = λ f base bytes start part.
@@ -32,9 +32,9 @@ returns-clause-reads g c = λ f base bytes start part.
     let found = c.broken_front-broken.result in
     let replaces : c.args.policy.replace ≡ true = not-false c.args.policy.replace c.if-not-policy.false in
     let any : c.args.policy.assigned ≡ false = c.if-policy.false in
-    let before = taken_before c.args.policy f p base bytes start laws replaces any c.args.normalizer.now c.args.self.now c.args.rest.now read none in
-    let written = written_before c.args.policy f p base bytes start laws replaces any c.args.normalizer.now c.args.self.now c.args.rest.now read none (block_state g.S.Sink.state c.args.block.now) both.1 in
+    let before = taken_before c.args.policy f p base bytes start laws replaces any c.args.counted.now c.args.self.now c.args.rest.now read none in
+    let written = written_before c.args.policy f p base bytes start laws replaces any c.args.counted.now c.args.self.now c.args.rest.now read none (block_state (g.S.Sink.state c.args.sink.now) c.args.block.now) both.1 in
     let after = c.in_default-take_replacements.ensures.takes f read.before start before written in
     let slice = take_rest c.args.rest.now found.len in
-    rw slice (broken-read c.args.policy f p base bytes start laws replaces any c.args.normalizer.now c.args.self.now c.args.rest.now read none
-    (replacements found.parts) found.len c.broken_front-broken.ensures.broken (block_state g.S.Sink.state c.take_replacements.new.block) c.take_replacements.new.self _ after.0 after.1 refl refl)
+    rw slice (broken-read c.args.policy f p base bytes start laws replaces any c.args.counted.now c.args.self.now c.args.rest.now read none
+    (replacements found.parts) found.len c.broken_front-broken.ensures.broken (block_state (g.S.Sink.state c.take_replacements.new.sink) c.take_replacements.new.block) c.take_replacements.new.self _ after.0 after.1 refl refl)

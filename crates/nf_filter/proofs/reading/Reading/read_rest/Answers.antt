@@ -8,7 +8,7 @@ loop-behind-preserved g c = record {
   reads = λ f base bytes start both.
       let part = rw c.in-Ok-Some.field-0-is at (c.in-Ok-Some.ensures.reads f base bytes start (c.loop-behind.invariant.reads f base bytes start both)) in
       (c.in-Ok.ensures.reads f base bytes start part).0;
-  lent = (c.in-Ok.ensures.lent.0 ∙ c.in-Ok-Some.ensures.lent.0 ∙ c.loop-behind.invariant.lent.0, c.in-Ok.ensures.lent.1 ∙ c.in-Ok-Some.ensures.lent.1 ∙ c.loop-behind.invariant.lent.1);
+  lender = c.in-Ok.ensures.lender ∙ c.in-Ok-Some.ensures.lender ∙ c.loop-behind.invariant.lender;
 }
 
 pub returns-in-Err-read_parts-clause-reads : goal.returns-in-Err-read_parts-clause-reads

@@ -2,18 +2,18 @@ use Rattle.std.proofs.Common.{◌≡◌, ℕ, ◌+◌, List, length}
 use Rattle.nf_forms.specs.declared.form.Form.{Form}
 use Rattle.nf_filter.specs.Block.{Start, block_state}
 use Rattle.nf_filter.specs.Feeding.{ReadsTo}
-use Rattle.nf_filter.specs.Normalizer.{ends_at}
+use Rattle.nf_filter.specs.Counted.{ends_at}
 use Rattle.nf_filter.specs.Taker.{IsReady}
 use Rattle.nf_filter.proofs.reading.Reading.read_rest.Given as goal
 
 abbrev pub invariant-loop-behind : goal.invariant-loop-behind
 invariant-loop-behind g l = record {
-  ready : IsReady (ends_at l.normalizer) l.self;
+  ready : IsReady (ends_at l.counted) l.self;
   offset : l.self.offset + length l.rest ≡ l.fn.self.offset + length l.piece;
   reads : (f : Form) (base : ℕ) (bytes : List ℕ) (start : Start)
-      → ReadsTo l.policy f (g.R.Rows.properties l.rows) l.fn.normalizer start (block_state g.S.Sink.state l.fn.block) base l.fn.self bytes l.piece
-      → ReadsTo l.policy f (g.R.Rows.properties l.rows) l.normalizer start (block_state g.S.Sink.state l.block) base l.self bytes l.rest;
-  lent : (l.block.sink.ghost_name ≡ l.fn.block.sink.ghost_name) × ((g.S.Sink.state l.block.sink.now).lender ≡ (g.S.Sink.state l.fn.block.sink.now).lender);
+      → ReadsTo l.policy f (g.R.Rows.properties l.rows) l.fn.counted start (block_state (g.S.Sink.state l.fn.sink) l.fn.block) base l.fn.self bytes l.piece
+      → ReadsTo l.policy f (g.R.Rows.properties l.rows) l.counted start (block_state (g.S.Sink.state l.sink) l.block) base l.self bytes l.rest;
+  lender : (g.S.Sink.state l.sink).lender ≡ (g.S.Sink.state l.fn.sink).lender;
 }
 
 abbrev pub decreases-loop-behind : goal.decreases-loop-behind

@@ -1,0 +1,29 @@
+use Rattle.std.proofs.Common.{◌≡◌, List, ℕ, [], ◌++◌, Ok, Err, refl, sym, ap, ◌∙◌, append-nil, Result, MatchResult, encode_utf8_all}
+use Rattle.nf_forms.specs.SafeForm.{safe_form}
+use Rattle.nf_normalizer.specs.Room.{Start as Given}
+use Rattle.nf_filter.specs.declared.devices.Failed.{Failed}
+use Rattle.nf_filter.specs.Devices.{SinkState}
+use Rattle.nf_filter.specs.Writes.{Puts, BreaksOff}
+use Rattle.nf_filter.specs.Block.{BlockState, WritesOn}
+use Rattle.nf_filter.specs.Counted.{settled_text}
+use Rattle.nf_filter.proofs.WritesLemmas.{Puts-none}
+use Rattle.nf_filter.proofs.BlockLemmas.{start_at}
+use Rattle.nf_filter.proofs.TextLemmas.{Puts-emptied}
+use Rattle.nf_filter.proofs.counted.Counted.end.Goals as goal
+
+ended : (sink : SinkState) (last : BlockState) (before after : List ℕ) (r : Result (Unit {0}) Failed) → (r ≡ Ok tt → last.kept ≡ []) → WritesOn (start_at sink before) last after r
+    → MatchResult r (λ _. Puts sink last.sink before after) (λ _. BreaksOff sink last.sink before after)
+ended sink last before after (Ok _) none written = Puts-emptied (none refl) written
+ended sink last before after (Err _) none broken = broken
+
+abbrev given : List ℕ → Given
+given before = record { given = before; ahead = [] }
+
+pub returns-clause-puts : goal.returns-clause-puts
+returns-clause-puts g c = λ f x taken.
+    let p = g.R.Rows.properties c.args.rows.now in
+    let sink = g.S.Sink.state c.args.sink.now in
+    let before = settled_text f p x in
+    let holds = c.settle.ensures.settles f x (given before) taken.machine (record { text = sym (append-nil before) ∙ ap (λ l. before ++ l) (sym c.new-block.ensures.empty) }) in
+    let emptied = c.empty.ensures.writes (start_at sink before) (encode_utf8_all (safe_form f p x)) (record { given = before; puts = Puts-none sink before; text = holds.text }) in
+    ended sink _ before (encode_utf8_all (safe_form f p x)) c.empty.result (λ e. rw e at c.empty.ensures.none) emptied

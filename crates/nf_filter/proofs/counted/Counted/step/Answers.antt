@@ -1,0 +1,116 @@
+use Rattle.std.proofs.Common.{◌+◌, ◌-◌, ◌++◌, refl, ap, ◌∙◌, arith, rules, append_assoc, length, length-append, chars, encode_utf8_all, IsUtf8}
+use Rattle.nf_filter.specs.declared.counted.Counted.{Counted}
+use Rattle.nf_filter.specs.Block.{block_state}
+use Rattle.nf_filter.proofs.TakingLemmas.{front_len, placed-first, placed-behind}
+use Rattle.nf_filter.proofs.SteppingLemmas.{first-left, written-all, Standing-moved, Standing-failed, step-refused, step-stands, step-failed, given_to, apart}
+use Rattle.nf_filter.proofs.counted.Counted.step.Goals as goal
+
+pub returns-in-Err-clause-steps : goal.returns-in-Err-clause-steps
+returns-in-Err-clause-steps g c = λ f place x start standing here.
+    let p = g.R.Rows.properties c.args.rows.now in
+    let old = block_state (g.S.Sink.state c.args.sink.now) c.args.block.now in
+    let text = c.args.text.now in
+    Standing-failed f p start c.args.self.now _ old (block_state (g.S.Sink.state c.make_room.new.sink) c.make_room.new.self) place x (chars text) standing
+    (c.in-Err.ensures.writes (apart start) (standing.given ++ c.args.block.now.room.items) (written-all f p start c.args.self.now old x (chars text) standing))
+
+pub overflow_sub-result : goal.overflow_sub-result
+overflow_sub-result g c = let stops = rw c.in-Unsound.is at c.step.ensures.passes in omega (arith, stops.left)
+
+pub overflow_add-result : goal.overflow_add-result
+overflow_add-result g c =
+    let stops = rw c.in-Unsound.is at c.step.ensures.passes in
+    let rest : IsUtf8 c.in-Unsound.rest.now = search rules in
+    let first = first-left c.in-Unsound.rest.now rest stops.some in
+    let len = front_len c.args.text.now stops.front c.in-Unsound.rest.now c.utf8.text rest stops.is_front in
+    omega (arith, c.requires.fits stops.front first.0 first.1 (stops.is_front ∙ ap (λ l. stops.front ++ l) first.2), len)
+
+pub returns-in-Unsound-clause-steps : goal.returns-in-Unsound-clause-steps
+returns-in-Unsound-clause-steps g c = λ f place x start standing here.
+    let p = g.R.Rows.properties c.args.rows.now in
+    let old = block_state (g.S.Sink.state c.args.sink.now) c.args.block.now in
+    let text = c.args.text.now in
+    let moved = Standing-moved f p start c.args.self.now old (block_state (g.S.Sink.state c.make_room.new.sink) c.make_room.new.self) x (chars text) standing
+    (c.in_default.ensures.writes (apart start) (standing.given ++ c.args.block.now.room.items) (written-all f p start c.args.self.now old x (chars text) standing)) in
+    let stopped = rw c.in-Unsound.is at (c.step.ensures.steps f x (given_to start moved.given) moved.stands) in
+    let rest = c.in-Unsound.rest.now in
+    let utf8 : IsUtf8 rest = search rules in
+    let len = front_len text stopped.front rest c.utf8.text utf8 stopped.is_front in
+    let behind = placed-behind place c.args.at x (chars text) stopped.front (chars rest) (c.args.at + (length text - length rest)) stopped.is_front (omega (arith, len)) here in
+    step-refused f p start place x text _ _ rest (c.args.at + (length text - length rest)) moved.given moved.puts stopped
+    (placed-first place (c.args.at + (length text - length rest)) (x ++ stopped.front) stopped.refuses.first stopped.refuses.rest (rw stopped.refuses.is_first at behind))
+
+pub returns-in-Ok-clause-passes : goal.returns-in-Ok-clause-passes
+returns-in-Ok-clause-passes g c = record {
+  n = c.in-Taken.put;
+  leaves = rw c.in-Taken.is at c.step.ensures.passes;
+  within = rw c.in-Taken.is at c.step.ensures.within;
+  count = refl;
+  put = refl;
+}
+
+pub returns-in-Ok-clause-steps : goal.returns-in-Ok-clause-steps
+returns-in-Ok-clause-steps g c = λ f place x start standing here.
+    let p = g.R.Rows.properties c.args.rows.now in
+    let old = block_state (g.S.Sink.state c.args.sink.now) c.args.block.now in
+    let text = c.args.text.now in
+    let moved = Standing-moved f p start c.args.self.now old (block_state (g.S.Sink.state c.make_room.new.sink) c.make_room.new.self) x (chars text) standing
+    (c.in_default.ensures.writes (apart start) (standing.given ++ c.args.block.now.room.items) (written-all f p start c.args.self.now old x (chars text) standing)) in
+    let new : Counted = record c.args.self.now { normalizer = c.step.new.self; put = c.args.self.now.put + c.in-Taken.put } in
+    let steps = rw c.in-Taken.is at (c.step.ensures.steps f x (given_to start moved.given) moved.stands) in
+    step-stands f p start place x text c.args.self.now new (block_state (g.S.Sink.state c.push_text.new.sink) c.push_text.new.self) moved.given (c.step.new.room.items ++ c.in-Taken.same.now) c.in-Taken.rest.now c.in-Taken.put standing.put refl steps
+    ((moved.given ++ c.step.new.room.items) ++ c.in-Taken.same.now) (append_assoc moved.given c.step.new.room.items c.in-Taken.same.now)
+    (c.in-Ok.ensures.writes (apart start) (moved.given ++ c.step.new.room.items) (record { given = moved.given; puts = moved.puts; text = refl }))
+
+pub returns-in-Err-push_text-clause-steps : goal.returns-in-Err-push_text-clause-steps
+returns-in-Err-push_text-clause-steps g c = λ f place x start standing here.
+    let p = g.R.Rows.properties c.args.rows.now in
+    let old = block_state (g.S.Sink.state c.args.sink.now) c.args.block.now in
+    let text = c.args.text.now in
+    let moved = Standing-moved f p start c.args.self.now old (block_state (g.S.Sink.state c.make_room.new.sink) c.make_room.new.self) x (chars text) standing
+    (c.in_default.ensures.writes (apart start) (standing.given ++ c.args.block.now.room.items) (written-all f p start c.args.self.now old x (chars text) standing)) in
+    let new : Counted = record c.args.self.now { normalizer = c.step.new.self; put = c.args.self.now.put + c.in-Taken.put } in
+    let steps = rw c.in-Taken.is at (c.step.ensures.steps f x (given_to start moved.given) moved.stands) in
+    step-failed f p start place x text c.args.self.now new (block_state (g.S.Sink.state c.push_text.new.sink) c.push_text.new.self) moved.given (c.step.new.room.items ++ c.in-Taken.same.now) c.in-Taken.rest.now c.in-Taken.put standing.put refl steps
+    ((moved.given ++ c.step.new.room.items) ++ c.in-Taken.same.now) (append_assoc moved.given c.step.new.room.items c.in-Taken.same.now)
+    (c.in-Err-push_text.ensures.writes (apart start) (moved.given ++ c.step.new.room.items) (record { given = moved.given; puts = moved.puts; text = refl }))
+
+pub returns-in-Ok-push_form-clause-passes : goal.returns-in-Ok-push_form-clause-passes
+returns-in-Ok-push_form-clause-passes g c = record {
+  n = c.in-Closed.put;
+  leaves = rw c.in-Closed.is at c.step.ensures.passes;
+  within = rw c.in-Closed.is at c.step.ensures.within;
+  count = refl;
+  put = refl;
+}
+
+pub returns-in-Ok-push_form-clause-steps : goal.returns-in-Ok-push_form-clause-steps
+returns-in-Ok-push_form-clause-steps g c = λ f place x start standing here.
+    let p = g.R.Rows.properties c.args.rows.now in
+    let old = block_state (g.S.Sink.state c.args.sink.now) c.args.block.now in
+    let text = c.args.text.now in
+    let moved = Standing-moved f p start c.args.self.now old (block_state (g.S.Sink.state c.make_room.new.sink) c.make_room.new.self) x (chars text) standing
+    (c.in_default.ensures.writes (apart start) (standing.given ++ c.args.block.now.room.items) (written-all f p start c.args.self.now old x (chars text) standing)) in
+    let new : Counted = record c.args.self.now { normalizer = c.step.new.self; put = c.args.self.now.put + c.in-Closed.put } in
+    let steps = rw c.in-Closed.is at (c.step.ensures.steps f x (given_to start moved.given) moved.stands) in
+    step-stands f p start place x text c.args.self.now new (block_state (g.S.Sink.state c.push_form.new.sink) c.push_form.new.self) moved.given (c.step.new.room.items ++ (c.in-Closed.closed.same.now ++ encode_utf8_all c.step.new.formed.items)) c.in-Closed.closed.rest.now c.in-Closed.put standing.put refl steps
+    ((moved.given ++ c.step.new.room.items) ++ (c.in-Closed.closed.same.now ++ encode_utf8_all c.step.new.formed.items)) (append_assoc moved.given c.step.new.room.items (c.in-Closed.closed.same.now ++ encode_utf8_all c.step.new.formed.items))
+    (c.in-Ok-push_form.ensures.writes (apart start) (moved.given ++ c.step.new.room.items) (record { given = moved.given; puts = moved.puts; text = refl }))
+
+pub returns-in-Err-push_form-clause-steps : goal.returns-in-Err-push_form-clause-steps
+returns-in-Err-push_form-clause-steps g c = λ f place x start standing here.
+    let p = g.R.Rows.properties c.args.rows.now in
+    let old = block_state (g.S.Sink.state c.args.sink.now) c.args.block.now in
+    let text = c.args.text.now in
+    let moved = Standing-moved f p start c.args.self.now old (block_state (g.S.Sink.state c.make_room.new.sink) c.make_room.new.self) x (chars text) standing
+    (c.in_default.ensures.writes (apart start) (standing.given ++ c.args.block.now.room.items) (written-all f p start c.args.self.now old x (chars text) standing)) in
+    let new : Counted = record c.args.self.now { normalizer = c.step.new.self; put = c.args.self.now.put + c.in-Closed.put } in
+    let steps = rw c.in-Closed.is at (c.step.ensures.steps f x (given_to start moved.given) moved.stands) in
+    step-failed f p start place x text c.args.self.now new (block_state (g.S.Sink.state c.push_form.new.sink) c.push_form.new.self) moved.given (c.step.new.room.items ++ (c.in-Closed.closed.same.now ++ encode_utf8_all c.step.new.formed.items)) c.in-Closed.closed.rest.now c.in-Closed.put standing.put refl steps
+    ((moved.given ++ c.step.new.room.items) ++ (c.in-Closed.closed.same.now ++ encode_utf8_all c.step.new.formed.items)) (append_assoc moved.given c.step.new.room.items (c.in-Closed.closed.same.now ++ encode_utf8_all c.step.new.formed.items))
+    (c.in-Err-push_form.ensures.writes (apart start) (moved.given ++ c.step.new.room.items) (record { given = moved.given; puts = moved.puts; text = refl }))
+
+pub overflow_add-self : goal.overflow_add-self
+overflow_add-self g c = let leaves = rw c.in-Taken.is at c.step.ensures.passes in omega (arith, leaves.few, ap length leaves.is_front, length-append leaves.front (chars c.in-Taken.rest.now), c.requires.counts)
+
+pub overflow_add-self-in-Closed : goal.overflow_add-self-in-Closed
+overflow_add-self-in-Closed g c = let leaves = rw c.in-Closed.is at c.step.ensures.passes in omega (arith, leaves.few, ap length leaves.is_front, length-append leaves.front (chars c.in-Closed.closed.rest.now), c.requires.counts)

@@ -1,0 +1,71 @@
+use Rattle.std.proofs.Common.{◌≡◌, ℕ, ◌+◌, ◌≤◌, [], ◌∷◌, ◌++◌, length, refl, arith, append_assoc, Option, Some, None, Result, Ok, Err, OnOk, chars}
+use Rattle.std.proofs.lemmas.Str.{length-encode, len_utf8_bounds}
+use Rattle.nf_utf8.specs.Taking.{first_bytes}
+use Rattle.nf_filter.specs.declared.fault.Fault.{Fault}
+use Rattle.nf_filter.specs.Block.{block_state}
+use Rattle.nf_filter.proofs.CalmLemmas.{few}
+use Rattle.nf_filter.proofs.CharsLemmas.{utf8_len-push}
+use Rattle.nf_filter.proofs.TakingLemmas.{HasPlaces-all, placed-behind, placed-within}
+use Rattle.nf_filter.proofs.AllowingLemmas.{TakesAllowed-more, TakesAllowed-settled}
+use Rattle.nf_filter.proofs.counted.Counted.take_both.Goals as goal
+
+is_none : (o : Option ℕ) → ((c : ℕ) → ¬ (o ≡ Some c)) → o ≡ None
+is_none None none = refl
+is_none (Some c) none = absurd (none c refl)
+
+pub returns-in_default-clause-takes : goal.returns-in_default-clause-takes
+returns-in_default-clause-takes g c = λ f place x start taken all here written.
+    rw (is_none c.args.first c.in_default.not-Some) (c.take_allowed.ensures.takes f place x start taken all (rw (is_none c.args.first c.in_default.not-Some) at here) written)
+
+pub take_allowed-requires-clause-counts : goal.take_allowed-requires-clause-counts
+take_allowed-requires-clause-counts g c = omega (arith, few c.args.text.now c.utf8.text, c.requires.chars, c.requires.fits)
+
+pub take_allowed-requires-clause-fits : goal.take_allowed-requires-clause-fits
+take_allowed-requires-clause-fits g c = HasPlaces-all c.args.at c.args.text.now c.utf8.text (omega (arith, c.requires.fits))
+
+pub take_one-requires-clause-counts : goal.take_one-requires-clause-counts
+take_one-requires-clause-counts g c =
+    let fits = rw c.in-Some.is at c.requires.fits in
+    omega (arith, fits, length-encode c.in-Some.c, (len_utf8_bounds c.in-Some.c).0, c.requires.chars)
+
+pub take_allowed-requires-2-clause-counts : goal.take_allowed-requires-2-clause-counts
+take_allowed-requires-2-clause-counts g c =
+    let fits = rw c.in-Some.is at c.requires.fits in
+    omega (arith, fits, length-encode c.in-Some.c, (len_utf8_bounds c.in-Some.c).0, c.requires.chars, c.in_default-take_one.ensures.chars, few c.args.text.now c.utf8.text)
+
+pub take_allowed-requires-2-clause-fits : goal.take_allowed-requires-2-clause-fits
+take_allowed-requires-2-clause-fits g c =
+    let fits = rw c.in-Some.is at c.requires.fits in
+    HasPlaces-all (c.args.at + c.len_utf8.result) c.args.text.now c.utf8.text (omega (arith, fits, length-encode c.in-Some.c, c.len_utf8.ensures.value))
+
+pub returns-in-Err-clause-takes : goal.returns-in-Err-clause-takes
+returns-in-Err-clause-takes g c = λ f place x start taken all here written.
+    let p = g.R.Rows.properties c.args.rows.now in
+    let one = c.in-Err.ensures.takes f place x start taken all (placed-within place c.args.at x (c.in-Some.c ∷ chars c.args.text.now) (c.in-Some.c ∷ []) (chars c.args.text.now) refl (rw c.in-Some.is at here)) written in
+    rw (c.in-Some.is, ← append_assoc x (c.in-Some.c ∷ []) (chars c.args.text.now))
+    (TakesAllowed-more f p c.take_one.new.self start (block_state (g.S.Sink.state c.take_one.new.sink) c.take_one.new.block) place c.args.assigned (x ++ c.in-Some.c ∷ []) (chars c.args.text.now) c.in-Err.fault one)
+
+pub returns-clause-takes : goal.returns-clause-takes
+returns-clause-takes g c = λ f place x start taken all here written.
+    let first = c.in_default-take_one.ensures.takes f place x start taken all (placed-within place c.args.at x (c.in-Some.c ∷ chars c.args.text.now) (c.in-Some.c ∷ []) (chars c.args.text.now) refl (rw c.in-Some.is at here)) written in
+    let one = utf8_len-push [] c.in-Some.c in
+    let behind = placed-behind place c.args.at x (c.in-Some.c ∷ chars c.args.text.now) (c.in-Some.c ∷ []) (chars c.args.text.now) (c.args.at + c.len_utf8.result) refl (omega (arith, one, length-encode c.in-Some.c, c.len_utf8.ensures.value)) (rw c.in-Some.is at here) in
+    let settled = TakesAllowed-settled f (g.R.Rows.properties c.args.rows.now) _ start _ place c.args.assigned (x ++ c.in-Some.c ∷ []) tt first in
+    rw (c.in-Some.is, ← append_assoc x (c.in-Some.c ∷ []) (chars c.args.text.now)) (c.take_allowed-2.ensures.takes f place (x ++ c.in-Some.c ∷ []) start first.taken.0 first.taken.1 behind settled)
+
+counted_below : (r : Result (Unit {0}) Fault) (old new n first text at : ℕ) → OnOk r (new ≡ old + n) → n ≤ text → old ≤ at → OnOk r (new ≤ at + first + text)
+counted_below (Ok u) old new n first text at counts below start = omega (arith, counts, below, start)
+counted_below (Err fault) old new n first text at counts below start = tt
+
+widened : (r : Result (Unit {0}) Fault) (new at first text : ℕ) → OnOk r (new ≤ at + 1 + 0 + text) → 1 ≤ first → OnOk r (new ≤ at + first + text)
+widened (Ok u) new at first text below one = omega (arith, below, one)
+widened (Err fault) new at first text below one = tt
+
+pub returns-in_default-clause-chars : goal.returns-in_default-clause-chars
+returns-in_default-clause-chars g c = counted_below c.take_allowed.result _ _ _ _ _ _ c.take_allowed.ensures.chars (few c.args.text.now c.utf8.text) c.requires.chars
+
+pub returns-clause-chars : goal.returns-clause-chars
+returns-clause-chars g c =
+    let one : 1 ≤ length (first_bytes c.args.first) = rw c.in-Some.is (omega (arith, length-encode c.in-Some.c, (len_utf8_bounds c.in-Some.c).0)) in
+    let past = counted_below c.take_allowed-2.result _ _ _ 0 (length c.args.text.now) (c.args.at + 1) c.take_allowed-2.ensures.chars (few c.args.text.now c.utf8.text) (omega (arith, c.in_default-take_one.ensures.chars, c.requires.chars)) in
+    widened c.take_allowed-2.result _ _ _ _ past one

@@ -1,0 +1,67 @@
+use Rattle.std.proofs.Common.{◌≡◌, [], ◌∷◌, ◌++◌, append_assoc, length-append, encode_utf8_all, length, rules, refl, sym, ap, subst, arith, ◌∙◌, chars, Err}
+use Rattle.std.proofs.lemmas.Str.{encodes-append}
+use Rattle.nf_filter.specs.Block.{block_state}
+use Rattle.nf_filter.specs.Counted.{TakesOn}
+use Rattle.nf_filter.proofs.TakingLemmas.{front_len, front-behind, front-more, placed-behind}
+use Rattle.nf_filter.proofs.SteppingLemmas.{StandsInFront-none, StandsInFront-more, TakesOn-whole, nothing-left, first-left}
+use Rattle.nf_filter.proofs.counted.Counted.take_text.Goals as goal
+
+pub loop-rest-init : goal.loop-rest-init
+loop-rest-init g c = record {
+  utf8 = c.utf8.text;
+  left = omega arith;
+  gone = ([], refl);
+  within = c.requires.within.machine;
+  chars = refl;
+  put = omega arith;
+  stands = λ f place x start standing here. StandsInFront-none f (g.R.Rows.properties c.args.rows.now) start _ _ x c.args.text.now standing;
+  lender = refl;
+}
+
+pub step-requires-clause-counts : goal.step-requires-clause-counts
+step-requires-clause-counts g c = omega (arith, c.loop-rest.invariant.put, c.requires.within.put, c.requires.counts)
+
+pub step-requires-clause-fits : goal.step-requires-clause-fits
+step-requires-clause-fits g c = λ front d more is.
+    let gone = c.loop-rest.invariant.gone in
+    let len = front_len c.args.text.now gone.0 c.loop-rest.rest.now c.utf8.text c.loop-rest.invariant.utf8 gone.1 in
+    let all = c.requires.fits (gone.0 ++ front) d more (gone.1 ∙ ap (λ l. gone.0 ++ l) is ∙ sym (append_assoc gone.0 front (d ∷ more))) in
+    omega (arith, all, len, ap length (encodes-append gone.0 front), length-append (encode_utf8_all gone.0) (encode_utf8_all front), c.loop-rest.invariant.left)
+
+pub loop-rest-preserved : goal.loop-rest-preserved
+loop-rest-preserved g c = record {
+  utf8 = search rules;
+  left = omega (arith, c.in-Ok.ensures.passes.leaves.shorter, c.loop-rest.invariant.left);
+  gone = (c.loop-rest.invariant.gone.0 ++ c.in-Ok.ensures.passes.leaves.front, front-more c.args.text.now c.loop-rest.invariant.gone.0 c.loop-rest.rest.now c.loop-rest.invariant.gone.1 c.in-Ok.ensures.passes.leaves.front c.in-Ok.behind.now c.in-Ok.ensures.passes.leaves.is_front);
+  within = c.in-Ok.ensures.passes.within;
+  chars = c.in-Ok.ensures.passes.count ∙ c.loop-rest.invariant.chars;
+  put = let leaves = c.in-Ok.ensures.passes.leaves in
+      omega (arith, c.in-Ok.ensures.passes.put, leaves.few, ap length leaves.is_front, length-append leaves.front (chars c.in-Ok.behind.now), c.loop-rest.invariant.put);
+  stands = λ f place x start standing here.
+      let before = c.loop-rest.invariant.stands f place x start standing here in
+      let len = front_len c.args.text.now before.front c.loop-rest.rest.now c.utf8.text c.loop-rest.invariant.utf8 before.is_front in
+      StandsInFront-more f (g.R.Rows.properties c.args.rows.now) start _ _ x c.args.text.now before.front c.loop-rest.rest.now c.in-Ok.behind.now before.is_front
+      (c.in-Ok.ensures.steps f place (x ++ before.front) start before.standing (placed-behind place c.args.at x (chars c.args.text.now) before.front (chars c.loop-rest.rest.now) _ before.is_front (omega (arith, len, c.loop-rest.invariant.left)) here));
+  lender = c.in-Ok.ensures.lender ∙ c.loop-rest.invariant.lender;
+}
+
+pub returns-in-Err-clause-takes : goal.returns-in-Err-clause-takes
+returns-in-Err-clause-takes g c = λ f place x start counted standing here.
+    let p = g.R.Rows.properties c.args.rows.now in
+    let before = c.loop-rest.invariant.stands f place x start standing here in
+    let len = front_len c.args.text.now before.front c.loop-rest.rest.now c.utf8.text c.loop-rest.invariant.utf8 before.is_front in
+    subst (λ y. TakesOn f p c.step.new.self start (block_state (g.S.Sink.state c.step.new.sink) c.step.new.block) place y (Err c.in-Err.fault)) (front-behind c.args.text.now before.front c.loop-rest.rest.now before.is_front x)
+    (c.in-Err.ensures.steps f place (x ++ before.front) start before.standing (placed-behind place c.args.at x (chars c.args.text.now) before.front (chars c.loop-rest.rest.now) _ before.is_front (omega (arith, len, c.loop-rest.invariant.left)) here))
+
+pub returns-clause-takes : goal.returns-clause-takes
+returns-clause-takes g c = λ f place x start counted standing here.
+    let none : length c.loop-rest.rest.now ≡ 0 = search rules in
+    TakesOn-whole f (g.R.Rows.properties c.args.rows.now) start c.loop-rest.self _ _ place x c.args.text.now c.loop-rest.rest.now none (nothing-left c.loop-rest.rest.now none) refl refl
+    (omega (arith, counted, c.loop-rest.invariant.chars, c.char_count.ensures)) (c.loop-rest.invariant.stands f place x start standing here)
+
+pub overflow_add-place : goal.overflow_add-place
+overflow_add-place g c =
+    let gone = c.loop-rest.invariant.gone in
+    let first = first-left c.loop-rest.rest.now c.loop-rest.invariant.utf8 (search rules) in
+    let len = front_len c.args.text.now gone.0 c.loop-rest.rest.now c.utf8.text c.loop-rest.invariant.utf8 gone.1 in
+    omega (arith, c.requires.fits gone.0 first.0 first.1 (gone.1 ∙ ap (λ l. gone.0 ++ l) first.2), len)

@@ -1,4 +1,0 @@
-use Rattle.nf_filter.proofs.normalizer.Normalizer.pending.Goals as goal
-
-pub returns-clause-value : goal.returns-clause-value
-returns-clause-value c = λ f p x taken. c.len.ensures.value f p _ taken.pending

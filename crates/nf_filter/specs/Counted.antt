@@ -1,0 +1,55 @@
+-- Where the characters taken leave a normalizer whose characters are counted.
+use Rattle.std.specs.Prelude.{◌≡◌, ℕ, ◌+◌, ◌≤◌, ◌<◌, ◌^◌, List, ◌∷◌, ◌++◌, length, chars, encode_utf8_all, Option, Some, None, Result, Err, OnOk, if◌then◌else◌}
+use Rattle.std.specs.Result.{result_err}
+use Rattle.nf_forms.specs.Properties.{Properties}
+use Rattle.nf_forms.specs.declared.form.Form.{Form}
+use Rattle.nf_forms.specs.StreamSafe.{stream_safe}
+use Rattle.nf_normalizer.specs.Normalizer.{HasTaken as Takes, IsWithin as IsReady}
+use Rattle.nf_filter.specs.declared.counted.Counted.{Counted}
+use Rattle.nf_filter.specs.declared.fault.Fault.{Fault}
+use Rattle.nf_filter.specs.declared.fault.Fault.TheVariants.{Row, Write as WriteFault}
+use Rattle.nf_filter.specs.Settled.{is_usable, usable}
+use Rattle.nf_filter.specs.Block.{Start, BlockState, Written, Broken}
+pub use Rattle.nf_normalizer.specs.Normalizer.{settled_text}
+
+-- the characters x were taken, and counted
+pub record HasTaken (f : Form) (p : Properties) (counted : Counted) (x : List ℕ) : Type 0 where
+  pub machine : Takes f p counted.normalizer x
+  pub chars : counted.chars ≡ length x
+  pub put : length (stream_safe p x) ≡ length x + counted.put
+
+-- no more joiners were put than characters taken
+pub record IsWithin (counted : Counted) : Type 0 where
+  pub machine : IsReady counted.normalizer
+  pub put : counted.put ≤ counted.chars
+
+-- what it has taken ends at this offset, and what it counts fits below it
+abbrev pub ends_at : Counted → ℕ → Type 0
+ends_at counted at = IsWithin counted × (counted.chars ≤ at)
+
+-- where what stands behind a front of UTF-8 begins, the first byte of which has the offset `base`
+abbrev pub utf8_place : ℕ → List ℕ → ℕ
+utf8_place base front = base + length (encode_utf8_all front)
+
+-- the offset of each character of a text that begins at `at` can be told
+abbrev pub HasPlaces : ℕ → List ℕ → Type 0
+HasPlaces at text = (front : List ℕ) (c : ℕ) (rest : List ℕ) → chars text ≡ front ++ c ∷ rest → at + length (encode_utf8_all front) < 2 ^ 64
+
+-- so `place` tells it of each character of the text y, which begins at the offset `at` behind x
+abbrev pub IsPlacedAt : (List ℕ → ℕ) → ℕ → List ℕ → List ℕ → Type 0
+IsPlacedAt place at x y = (front : List ℕ) (c : ℕ) (rest : List ℕ) → y ≡ front ++ c ∷ rest → place (x ++ front) ≡ at + length (encode_utf8_all front)
+
+-- the fault at which it stops in a text, by where what stands behind a front of it begins
+unfoldable pub unusable_at : Properties → (List ℕ → ℕ) → List ℕ → Option Fault
+unusable_at p place x = if is_usable p x then None else Some (Row (place (usable p x)))
+
+-- what it has written of a text
+unfoldable pub usable_utf8 : Form → Properties → List ℕ → List ℕ
+usable_utf8 f p x = settled_text f p (usable p x)
+
+-- the text x was taken, or why not all of it
+pub record TakesOn (f : Form) (p : Properties) (counted : Counted) (start : Start) (now : BlockState) (place : List ℕ → ℕ) (x : List ℕ) (result : Result (Unit {0}) Fault) : Type 0 where
+  pub broken : result ≡ Err WriteFault → Broken start now (usable_utf8 f p x)
+  pub written : ¬ (result ≡ Err WriteFault) → Written start now (usable_utf8 f p x)
+  pub fault : ¬ (result ≡ Err WriteFault) → result_err result ≡ unusable_at p place x
+  pub taken : OnOk result (HasTaken f p counted x)

@@ -1,0 +1,52 @@
+-- A text, step by step, to a sink.
+use Rattle.std.specs.Prelude.{◌≡◌, ◌+◌, true, ℕ, List, ◌++◌, length, chars, Result, Ok, Err}
+use Rattle.std.specs.Borrow.{Bor}
+use Rattle.nf_forms.specs.Properties.{Properties}
+use Rattle.nf_forms.specs.declared.form.Form.{Form}
+use Rattle.nf_forms.specs.StreamSafe.{stream_safe}
+use Rattle.nf_normalizer.specs.Front.{Leaves, Stands}
+use Rattle.nf_filter.specs.declared.counted.Counted.{Counted}
+use Rattle.nf_filter.specs.declared.fault.Fault.{Fault}
+use Rattle.nf_filter.specs.Writes.{Puts}
+use Rattle.nf_filter.specs.Faults.{IsOfTaking}
+use Rattle.nf_filter.specs.declared.devices.Failed.{Failed}
+use Rattle.nf_filter.specs.Settled.{is_usable}
+use Rattle.nf_filter.specs.Block.{Start, BlockState, Written, Broken}
+use Rattle.nf_filter.specs.Counted.{HasTaken, TakesOn, settled_text}
+use Rattle.nf_normalizer.specs.Normalizer.{IsWithin as IsReady}
+
+-- the text y was taken behind x, or the sink failed
+abbrev pub TakesBehind : {T : Type 0} → Form → Properties → Counted → Start → BlockState → List ℕ → List ℕ → Result T Failed → Type 0
+TakesBehind f p counted start now x y (Ok _) = HasTaken f p counted (x ++ y) × Written start now (settled_text f p (x ++ y))
+TakesBehind f p counted start now x y (Err _) = (is_usable p (x ++ y) ≡ true) × Broken start now (settled_text f p (x ++ y))
+
+-- the normalizer stands after x, before `next`, and what of x is settled was written
+pub record Standing (f : Form) (p : Properties) (counted : Counted) (start : Start) (now : BlockState) (x next : List ℕ) : Type 0 where
+  pub given : List ℕ
+  pub puts : Puts start.sink now.sink start.before given
+  pub stands : Stands f p counted.normalizer (record { given = given; ahead = start.ahead }) now.kept x next
+  pub put : length (stream_safe p x) ≡ length x + counted.put
+
+-- behind x a front of the text was taken; `rest` is what stands behind that
+pub record StandsInFront (f : Form) (p : Properties) (counted : Counted) (start : Start) (now : BlockState) (x text rest : List ℕ) : Type 0 where
+  pub front : List ℕ
+  pub is_front : chars text ≡ front ++ chars rest
+  pub standing : Standing f p counted start now (x ++ front) (chars rest)
+
+-- so it was, or why not all of the text will be
+abbrev pub StepsOn : Form → Properties → Counted → Start → BlockState → (List ℕ → ℕ) → List ℕ → List ℕ → Result (Bor (List ℕ)) Fault → Type 0
+StepsOn f p counted start now place x text (Ok rest) = StandsInFront f p counted start now x text rest.now
+StepsOn f p counted start now place x text (Err fault) = TakesOn f p counted start now place (x ++ chars text) (Err fault)
+
+-- a front of the text is behind it, with at most a joiner a character
+pub record HasStepped (old new : Counted) (text rest : List ℕ) : Type 0 where
+  pub n : ℕ
+  pub leaves : Leaves text rest n
+  pub within : IsReady new.normalizer
+  pub count : new.chars ≡ old.chars
+  pub put : new.put ≡ old.put + n
+
+-- so it is, or why not
+abbrev pub Passes : Counted → Counted → List ℕ → Result (Bor (List ℕ)) Fault → Type 0
+Passes old new text (Ok rest) = HasStepped old new text rest.now
+Passes old new text (Err fault) = IsOfTaking fault

@@ -1,0 +1,262 @@
+-- One character more.
+use Rattle.std.proofs.Common.{◌≡◌, ℕ, ◌+◌, ◌<◌, ◌≤◌, Bool, true, false, cond, not, ◌&&◌, ◌||◌, List, [], ◌∷◌, ◌++◌, Ok, Err, refl, sym, ap, ◌∙◌, subst, arith, if◌then◌else◌, encode_utf8_all}
+use Rattle.std.proofs.lemmas.Bool.{false≢true, ltb-false}
+use Rattle.std.proofs.lemmas.Str.{encodes-append}
+use Rattle.nf_forms.specs.Properties.{Properties, is_starter, is_nonstarter}
+use Rattle.nf_forms.specs.declared.form.Form.{Form}
+use Rattle.nf_forms.specs.declared.form.Form.TheVariants.{Nfc, Nfd, Nfkc, Nfkd}
+use Rattle.nf_forms.specs.Runs.{has_starter, lead, trail}
+use Rattle.nf_forms.specs.Front.{front}
+use Rattle.nf_forms.specs.Forms.{row_of, decomposed, finished}
+use Rattle.nf_forms.specs.StreamSafe.{joiner, max_run, is_too_long, parted, stream_safe}
+use Rattle.nf_forms.specs.Sound.{is_sound}
+use Rattle.nf_forms.specs.SafeForm.{safe_form}
+use Rattle.nf_row.specs.declared.ends.Ends.{Ends}
+use Rattle.nf_row.specs.declared.single.Single.{Single}
+use Rattle.nf_row.specs.Ends.{HasEnds}
+use Rattle.nf_row.specs.Single.{IsSingle}
+use Rattle.nf_forms.specs.Laws.Runs.{has_starter-append, lead-marks, lead-le-length, trail-marks, trail-push}
+use Rattle.nf_forms.specs.Laws.StreamSafe.{stream_safe-push, decomposed-push}
+use Rattle.nf_forms.specs.Laws.Sound.{JoinerIsPlain, IsSound, IsSound-from_test, JoinerIsPlain-from_sound}
+use Rattle.nf_safe.specs.Count.{counted, passes, count_step}
+use Rattle.nf_safe.specs.Laws.Count.{count_step-le, count_step-within, trail-decomposed-safe_step}
+use Rattle.nf_pending.specs.StandsAfter.{run_len, StandsAfter as PendingStandsAfter}
+use Rattle.nf_normalizer.specs.declared.normalizer.Normalizer.{Normalizer}
+use Rattle.nf_normalizer.specs.declared.front.Unsound.{Unsound}
+use Rattle.nf_normalizer.specs.Settled.{settled, is_usable}
+use Rattle.nf_normalizer.specs.Room.{Start, Holds}
+use Rattle.nf_normalizer.specs.Normalizer.{HasTaken, HasParted, IsWithin, HasRoom, run_behind, front_utf8, settled_text, Pushes, PutsJoiner, Parts, TakesChar}
+use Rattle.nf_normalizer.specs.Laws.Settled.{is_usable-push}
+use Rattle.nf_normalizer.proofs.RoomLemmas.{Holds-at}
+
+module _ (p : Properties) where
+  and_false : (a s : Bool) → s ≡ false → (a && s) ≡ false
+  and_false true s e = e
+  and_false false s e = refl
+
+  and_true : (a b s : Bool) → a ≡ true → b ≡ true → s ≡ true → (a && b && s) ≡ true
+  and_true a b s e f g = ap (λ x. x && b && s) e ∙ ap (λ x. true && x && s) f ∙ g
+
+  pub is_usable-unsound : (x : List ℕ) (c : ℕ) → is_sound p c ≡ false → is_usable p (x ++ c ∷ []) ≡ false
+  is_usable-unsound x c unsound = is_usable-push p x c ∙ and_false _ (is_sound p c) unsound
+
+  pub is_usable-unsound_joiner : (x : List ℕ) (c : ℕ) → is_too_long p (stream_safe p x) c ≡ true → is_sound p joiner ≡ false → is_usable p (x ++ c ∷ []) ≡ false
+  is_usable-unsound_joiner x c long unsound =
+      is_usable-push p x c ∙ next (is_usable p x) (is_too_long p (stream_safe p x) c) (is_sound p joiner) (is_sound p c) long unsound
+    where
+      next : (a b j s : Bool) → b ≡ true → j ≡ false → (a && (not b || j) && s) ≡ false
+      next true true true s e f = cc
+      next true true false s e f = refl
+      next true false j s e f = cc
+      next false b j s e f = refl
+
+  pub is_usable-sound : (x : List ℕ) (c : ℕ) → is_usable p x ≡ true → is_sound p c ≡ true → (is_too_long p (stream_safe p x) c ≡ true → is_sound p joiner ≡ true)
+      → is_usable p (x ++ c ∷ []) ≡ true
+  is_usable-sound x c usable sound joins = is_usable-push p x c ∙ and_true _ _ _ usable (next (is_too_long p (stream_safe p x) c) joins) sound
+    where
+      next : (b : Bool) → (b ≡ true → is_sound p joiner ≡ true) → (not b || is_sound p joiner) ≡ true
+      next true e = e refl
+      next false e = refl
+
+  parted-without : (o : List ℕ) (c : ℕ) → is_too_long p o c ≡ false → parted p o c ≡ o
+  parted-without o c short = ap (λ b. if b then o ++ joiner ∷ [] else o) short
+
+  parted-with : (o : List ℕ) (c : ℕ) → is_too_long p o c ≡ true → parted p o c ≡ o ++ joiner ∷ []
+  parted-with o c long = ap (λ b. if b then o ++ joiner ∷ [] else o) long
+
+  decomposed-joiner : JoinerIsPlain p → (f : Form) (o : List ℕ) → decomposed f p (o ++ joiner ∷ []) ≡ decomposed f p o ++ joiner ∷ []
+  decomposed-joiner plain f o = decomposed-push p f o joiner ∙ ap (λ row. decomposed f p o ++ row) (row f)
+    where
+      row : (f : Form) → row_of f p joiner ≡ joiner ∷ []
+      row Nfc = plain.canonical
+      row Nfd = plain.canonical
+      row Nfkc = plain.compat
+      row Nfkd = plain.compat
+
+  -- the run behind the row of a sound character is no longer than what is counted
+  pub run_behind-le : (f : Form) (c run n : ℕ) → is_sound p c ≡ true → run ≤ n → run_behind p run (row_of f p c) ≤ counted p n (p.compat c)
+  run_behind-le f c run n sound below = by_form f
+    where
+      row : IsSound p c
+      row = IsSound-from_test p c sound
+
+      same : (b : Bool) (t l : ℕ) → (if b then t else run + l) ≤ (if b then t else n + l)
+      same true t l = omega arith
+      same false t l = omega arith
+
+      next : (b d : Bool) (tc lc hc tk lk hk : ℕ) → (b ≡ false → d ≡ false) → (b ≡ false → hc ≡ lc) → (d ≡ false → hk ≡ lk) → (d ≡ false → tk ≡ lk) → tc ≤ tk → hc ≤ hk
+          → (if b then tc else run + lc) ≤ (if d then tk else n + lk)
+      next true true tc lc hc tk lk hk agree e f g t h = omega arith
+      next true false tc lc hc tk lk hk agree e f g t h = omega (arith, g refl)
+      next false true tc lc hc tk lk hk agree e f g t h = let absent : true ≡ false = agree refl in cc
+      next false false tc lc hc tk lk hk agree e f g t h = omega (arith, e refl, f refl)
+
+      canonical : run_behind p run (p.canonical c) ≤ counted p n (p.compat c)
+      canonical = next (has_starter p (p.canonical c)) (has_starter p (p.compat c)) _ _ (lead p (p.canonical c)) _ _ (lead p (p.compat c)) row.marks_agree
+          (lead-marks p (p.canonical c)) (lead-marks p (p.compat c)) (trail-marks p (p.compat c)) row.trail_within row.lead_within
+
+      by_form : (f : Form) → run_behind p run (row_of f p c) ≤ counted p n (p.compat c)
+      by_form Nfc = canonical
+      by_form Nfd = canonical
+      by_form Nfkc = same (has_starter p (p.compat c)) _ _
+      by_form Nfkd = same (has_starter p (p.compat c)) _ _
+
+  -- one member is the row of a character of which a form has one code point, also behind what keeps the form
+  pub row_of-single : (old new : Normalizer) (c : ℕ) (single : Single) → IsSingle p old.form c single → new.form ≡ old.form → row_of new.form p c ≡ single.member ∷ []
+  row_of-single old new c single is same = ap (λ f. row_of f p c) same ∙ is.row
+
+  lead-row : (f : Form) (c : ℕ) → is_sound p c ≡ true → lead p (row_of f p c) ≤ lead p (p.compat c)
+  lead-row f c sound = by_form f
+    where
+      by_form : (f : Form) → lead p (row_of f p c) ≤ lead p (p.compat c)
+      by_form Nfc = (IsSound-from_test p c sound).lead_within
+      by_form Nfd = (IsSound-from_test p c sound).lead_within
+      by_form Nfkc = omega arith
+      by_form Nfkd = omega arith
+
+  -- a row of one member behind a run, and where there is room for it
+  one_behind : (n c : ℕ) → (if is_starter p c then 0 else n + 1) ≡ run_behind p n (c ∷ [])
+  one_behind n c = next (is_starter p c) (has_starter p (c ∷ [])) (trail p (c ∷ [])) (has_starter-append p [] (c ∷ [])) (trail-push p [] c)
+    where
+      next : (b has : Bool) (t : ℕ) → has ≡ (false || (b || false)) → t ≡ (if b then 0 else 0 + 1) → (if b then 0 else n + 1) ≡ (if has then t else n + 1)
+      next true has t e f = sym (ap (λ s. if s then t else n + 1) e ∙ f)
+      next false has t e f = sym (ap (λ s. if s then t else n + 1) e)
+
+  pub within-single : (part new : Normalizer) (c d : ℕ) → row_of part.form p c ≡ d ∷ [] → HasRoom p part c
+      → run_len new.pending ≡ (if is_starter p d then 0 else run_len part.pending + 1) → new.counter ≡ part.counter → IsWithin new
+  within-single part new c d row room run count = record {
+    run = let same = run ∙ one_behind (run_len part.pending) d ∙ ap (run_behind p (run_len part.pending)) (sym row) in omega (arith, room.run);
+    bound = omega (arith, room.bound);
+  }
+
+  pub room_for-single : (part : Normalizer) (c d : ℕ) → row_of part.form p c ≡ d ∷ [] → HasRoom p part c → is_nonstarter p d ≡ true → run_len part.pending < 30
+  room_for-single part c d row room mark =
+      let alone = ap (lead p) row ∙ lead_is (is_nonstarter p d) mark in
+      omega (arith, room.lead)
+    where
+      lead_is : (b : Bool) → b ≡ true → cond b (1 + 0) 0 ≡ 1
+      lead_is true e = refl
+      lead_is false e = cc
+
+  -- the ends of its compatibility row are those of one member
+  pub ends-single : (f : Form) (c : ℕ) (single : Single) (ends : Ends) → IsSingle p f c single
+      → ((q : Properties) (d : ℕ) → single.compat_starts ≡ is_starter q d → HasEnds q (d ∷ []) ends) → HasEnds p (p.compat c) ends
+  ends-single f c single ends is one = subst (λ row. HasEnds p row ends) (sym is.compat) (one p is.compat_member is.compat_starts)
+
+  abbrev counting : Normalizer → ℕ → Normalizer
+  counting taken c = record taken { counter = count_step p taken.counter (p.compat c) }
+
+  pub counting-is : (taken : Normalizer) (c n : ℕ) → n ≡ count_step p taken.counter (p.compat c) → record taken { counter = n } ≡ counting taken c
+  counting-is taken c n counts = ap (λ m. record taken { counter = m }) counts
+
+  -- there is room without a joiner
+  pub HasRoom-without : (taken new : Normalizer) (c : ℕ) → IsWithin taken → is_sound p c ≡ true → passes p taken.counter (p.compat c) ≡ false
+      → new ≡ counting taken c → HasRoom p new c
+  HasRoom-without taken new c within sound short is = subst (λ t. HasRoom p t c) (sym is) (record {
+    lead = omega (arith, within.run, lead-row taken.form c sound, ltb-false max_run (taken.counter + lead p (p.compat c)) short);
+    run = subst (λ n. run_behind p (run_len taken.pending) (row_of taken.form p c) ≤ n) (sym (count_step-within p taken.counter (p.compat c) short))
+        (run_behind-le taken.form c (run_len taken.pending) taken.counter sound within.run);
+    bound = count_step-le p taken.counter (p.compat c) (IsSound-from_test p c sound).compat_few;
+  })
+
+  -- and with one
+  pub HasRoom-with : (taken mid new : Normalizer) (c : ℕ) → IsWithin taken → is_sound p c ≡ true → passes p taken.counter (p.compat c) ≡ true
+      → mid ≡ counting taken c → new ≡ record mid { pending = new.pending } → run_len new.pending ≡ 0 → HasRoom p new c
+  HasRoom-with taken mid new c within sound long counts joins run = record {
+    lead = omega (arith, run, lead-row new.form c sound, lead-le-length p (p.compat c), (IsSound-from_test p c sound).compat_few);
+    run = subst (λ n. run_behind p (run_len new.pending) (row_of new.form p c) ≤ n) (sym counter) (run_behind-le new.form c (run_len new.pending) 0 sound (omega (arith, run)));
+    bound = let few = count_step-le p taken.counter (p.compat c) (IsSound-from_test p c sound).compat_few in omega (arith, few, ap (λ t. t.counter) joins, ap (λ t. t.counter) counts);
+  }
+    where
+      counter : new.counter ≡ counted p 0 (p.compat c)
+      counter = ap (λ t. t.counter) joins ∙ ap (λ t. t.counter) counts ∙ ap (λ b. counted p (if b then 0 else taken.counter) (p.compat c)) long
+
+  module _ (f : Form) where
+    pub settled_text-front : (x : List ℕ) → settled_text f p x ≡ front_utf8 f p (decomposed f p (stream_safe p x))
+    unfolding settled safe_form
+    settled_text-front x = refl
+
+    -- what is settled, and then the rest
+    pub settled_text-rest : (x rest : List ℕ) → let w = decomposed f p (stream_safe p x) in front p (finished f p w) ++ rest ≡ finished f p w
+        → settled_text f p x ++ encode_utf8_all rest ≡ encode_utf8_all (safe_form f p x)
+    unfolding settled safe_form
+    settled_text-rest x rest is = sym (encodes-append (front p (finished f p (decomposed f p (stream_safe p x)))) rest) ∙ ap encode_utf8_all is
+
+    pub decomposed-safe : (x : List ℕ) (c : ℕ) → decomposed f p (stream_safe p (x ++ c ∷ [])) ≡ decomposed f p (parted p (stream_safe p x) c) ++ row_of f p c
+    decomposed-safe x c = ap (decomposed f p) (stream_safe-push p x c) ∙ decomposed-push p f (parted p (stream_safe p x) c) c
+
+    module _ (taken : Normalizer) (x : List ℕ) (c : ℕ) (before : HasTaken f p taken x) (sound : is_sound p c ≡ true) where
+      long_is : passes p taken.counter (p.compat c) ≡ is_too_long p (stream_safe p x) c
+      long_is = ap (λ n. passes p n (p.compat c)) before.count
+
+      count_is : (is_too_long p (stream_safe p x) c ≡ true → JoinerIsPlain p) → count_step p taken.counter (p.compat c) ≡ trail p (decomposed Nfkd p (stream_safe p (x ++ c ∷ [])))
+      count_is plain =
+          ap (λ n. count_step p n (p.compat c)) before.count ∙ sym (trail-decomposed-safe_step p (stream_safe p x) c plain)
+          ∙ ap (λ o. trail p (decomposed Nfkd p o)) (sym (stream_safe-push p x c))
+
+      pub Parts-without : {T : Type 0} (joined : T → Bool) (answer : T) (new : Normalizer) (start : Start) (room : List ℕ) → joined answer ≡ false → passes p taken.counter (p.compat c) ≡ false
+          → new ≡ counting taken c → Holds start room (settled_text f p x) → Parts joined f p new start room x c (Ok answer)
+      Parts-without joined answer new start room none short is holds =
+          let short_is : is_too_long p (stream_safe p x) c ≡ false = sym long_is ∙ short in
+          let same = parted-without (stream_safe p x) c short_is in (
+            subst (λ t. HasParted f p t x c) (sym is) (record {
+              usable = is_usable-sound x c before.usable sound (λ e. absurd (false≢true (sym short_is ∙ e)));
+              form = before.form;
+              plain = before.plain;
+              count = count_is (λ e. absurd (false≢true (sym short_is ∙ e)));
+              pending = subst (λ o. PendingStandsAfter f p taken.pending (decomposed f p o)) (sym same) before.pending;
+            }),
+            Holds-at (settled_text-front x ∙ ap (λ o. front_utf8 f p (decomposed f p o)) (sym same)) holds,
+            none ∙ sym short_is,
+          )
+
+      pub Parts-with : {T : Type 0} (joined : T → Bool) (answer : T) (mid new : Normalizer) (start : Start) (room : List ℕ) → joined answer ≡ true → passes p taken.counter (p.compat c) ≡ true
+          → mid ≡ counting taken c → new ≡ record mid { pending = new.pending } → PutsJoiner f p new.pending start room (decomposed f p (stream_safe p x)) (Ok tt)
+          → Parts joined f p new start room x c (Ok answer)
+      Parts-with joined answer mid new start room some long is joins puts =
+          let long_here : is_too_long p (stream_safe p x) c ≡ true = sym long_is ∙ long in
+          let plain = JoinerIsPlain-from_sound p puts.0 in
+          let longer = parted-with (stream_safe p x) c long_here in
+          let text = ap (decomposed f p) longer ∙ decomposed-joiner plain f (stream_safe p x) in (
+            record {
+              usable = is_usable-sound x c before.usable sound (λ _. puts.0);
+              form = ap (λ t. t.form) joins ∙ ap (λ t. t.form) is ∙ before.form;
+              plain = λ e. before.plain (sym (ap (λ t. t.is_plain) joins ∙ ap (λ t. t.is_plain) is) ∙ e);
+              count = ap (λ t. t.counter) joins ∙ ap (λ t. t.counter) is ∙ count_is (λ _. plain);
+              pending = subst (λ w. PendingStandsAfter f p new.pending w) (sym text) puts.1.0;
+            },
+            Holds-at (ap (front_utf8 f p) (sym text)) puts.1.1,
+            some ∙ sym long_here,
+          )
+
+      pub Parts-stopped : {T : Type 0} (joined : T → Bool) (new : Normalizer) (start : Start) (room : List ℕ) (stop : Unsound) → passes p taken.counter (p.compat c) ≡ true
+          → PutsJoiner f p new.pending start room (decomposed f p (stream_safe p x)) (Err stop) → Parts {T = T} joined f p new start room x c (Err stop)
+      Parts-stopped joined new start room stop long puts = (is_usable-unsound_joiner x c (sym long_is ∙ long) puts.0, Holds-at (sym (settled_text-front x)) puts.1)
+
+    pub row_text : (part : Normalizer) (x row : List ℕ) (c : ℕ) → HasParted f p part x c → row ≡ row_of part.form p c
+        → decomposed f p (parted p (stream_safe p x) c) ++ row ≡ decomposed f p (stream_safe p (x ++ c ∷ []))
+    row_text part x row c here is =
+        ap (λ r. decomposed f p (parted p (stream_safe p x) c) ++ r) (is ∙ ap (λ h. row_of h p c) here.form) ∙ sym (decomposed-safe x c)
+
+    -- the row follows
+    pub HasTaken-row : (part new : Normalizer) (x row : List ℕ) (c : ℕ) → HasParted f p part x c → row ≡ row_of part.form p c
+        → new ≡ record part { pending = new.pending }
+        → PendingStandsAfter f p new.pending (decomposed f p (parted p (stream_safe p x) c) ++ row) → HasTaken f p new (x ++ c ∷ [])
+    HasTaken-row part new x row c here is same stands = record {
+      usable = here.usable;
+      form = ap (λ t. t.form) same ∙ here.form;
+      plain = λ e. here.plain (sym (ap (λ t. t.is_plain) same) ∙ e);
+      count = ap (λ t. t.counter) same ∙ here.count;
+      pending = subst (λ w. PendingStandsAfter f p new.pending w) (row_text part x row c here is) stands;
+    }
+
+    -- so the character was taken
+    pub TakesChar-row : {T : Type 0} (joined : T → Bool) (answer : T) (part new : Normalizer) (start : Start) (middle room x row : List ℕ) (c : ℕ) → Parts joined f p part start middle x c (Ok answer)
+        → row ≡ row_of part.form p c → new ≡ record part { pending = new.pending }
+        → Pushes f p new.pending start room (decomposed f p (parted p (stream_safe p x) c) ++ row) → TakesChar f p new start room x c (Ok (joined answer))
+    TakesChar-row joined answer part new start middle room x row c parts is same pushed =
+        let text = row_text part x row c parts.0 is in (
+          HasTaken-row part new x row c parts.0 is same pushed.0,
+          Holds-at (ap (front_utf8 f p) text ∙ sym (settled_text-front (x ++ c ∷ []))) pushed.1,
+          parts.2,
+        )

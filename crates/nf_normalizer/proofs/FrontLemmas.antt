@@ -1,0 +1,263 @@
+-- What is taken of a text at once, and a character at a boundary after any text.
+use Rattle.std.proofs.Common.{◌≡◌, ℕ, ◌+◌, ◌<◌, ◌≤◌, true, false, Bool, List, [], ◌∷◌, ◌++◌, length, take, drop, Option, Some, Result, Ok, Err, IfOk, inl, inr, refl, sym, ap, ◌∙◌, subst, arith, append-nil, append_assoc, encode_utf8, encode_utf8_all, IsUtf8, IsAscii, chars, length-append, take-append-drop, MatchOption, if◌then◌else◌}
+use Rattle.std.proofs.lemmas.Bool.{false≢true}
+use Rattle.std.proofs.lemmas.Str.{chars-nil, chars-append, chars-IsAscii, encodes-append, encodes-chars, IsUtf8-from_ascii, chars_past_char, length-encode, len_utf8_bounds}
+use Rattle.nf_forms.specs.Properties.{Properties}
+use Rattle.nf_forms.specs.declared.form.Form.{Form}
+use Rattle.nf_forms.specs.declared.form.Form.TheVariants.{Nfc, Nfd, Nfkc, Nfkd}
+use Rattle.nf_forms.specs.Order.{by_class}
+use Rattle.nf_forms.specs.Front.{front}
+use Rattle.nf_forms.specs.StreamSafe.{joiner, is_too_long, stream_safe}
+use Rattle.nf_forms.specs.SafeForm.{safe_form}
+use Rattle.nf_forms.specs.Closed.{BeginsAtBoundary}
+use Rattle.nf_forms.specs.Laws.Sound.{IsSoundText}
+use Rattle.nf_forms.specs.Laws.StreamSafe.{stream_safe-push}
+use Rattle.nf_forms.specs.Laws.Closed.{stream_safe-closed, sound-closed, safe_form-closed}
+use Rattle.nf_boundary.specs.Front.{IsClosedFront}
+use Rattle.nf_normalizer.specs.declared.normalizer.Normalizer.{Normalizer}
+use Rattle.nf_normalizer.specs.declared.front.Front.{Front}
+use Rattle.nf_normalizer.specs.declared.front.Front.TheVariants.{Taken, Closed}
+use Rattle.nf_normalizer.specs.declared.front.Unsound.{Unsound}
+use Rattle.nf_normalizer.specs.Settled.{settled, is_usable}
+use Rattle.nf_normalizer.specs.Laws.Boundary.{usable-alone, joins-behind, settled_text-behind, HasTaken-behind}
+use Rattle.nf_normalizer.specs.Room.{Start, Holds}
+use Rattle.nf_normalizer.specs.Normalizer.{HasTaken, TakesChar, settled_text}
+use Rattle.nf_normalizer.specs.Front.{Inside, Stands, one_if, Leaves, Passes, Joins, TakesFront, StepsTo, Refuses, Closes, Takes, TakesOn}
+use Rattle.nf_normalizer.proofs.RoomLemmas.{Holds-at, Holds-more, Holds-alone}
+
+-- ---- fronts of a text
+
+-- its first character
+pub begins : (none : Type 0) (bytes rest : List ℕ) (r : Option ℕ) (c : ℕ) → r ≡ Some c → MatchOption r none (λ d. bytes ≡ encode_utf8 d ++ rest) → bytes ≡ encode_utf8 c ++ rest
+begins none bytes rest r c is step = subst (λ o. MatchOption o none (λ d. bytes ≡ encode_utf8 d ++ rest)) is step
+
+-- ASCII bytes spell themselves
+pub ascii_front : (text : List ℕ) (n : ℕ) → IsAscii (take n text) → chars text ≡ take n text ++ chars (drop n text)
+ascii_front text n ascii =
+    ap chars (sym (take-append-drop n text)) ∙ chars-append (take n text) (drop n text) (IsUtf8-from_ascii (take n text) ascii)
+    ∙ ap (λ l. l ++ chars (drop n text)) (chars-IsAscii (take n text) ascii)
+
+one_few : (joined : Bool) → one_if joined ≤ 1
+one_few true = omega arith
+one_few false = omega arith
+
+-- one character is past
+pub leaves-one : (text rest : List ℕ) (c : ℕ) → IsUtf8 text → (joined : Bool) → text ≡ encode_utf8 c ++ rest → Leaves text rest (one_if joined)
+leaves-one text rest c utf8 joined is = record {
+  few = one_few joined;
+  front = c ∷ [];
+  some = omega arith;
+  is_front = chars_past_char text rest c utf8 is;
+  shorter = omega (arith, ap length is, length-append (encode_utf8 c) rest, length-encode c, (len_utf8_bounds c).0);
+}
+
+-- a closed front is past
+pub leaves-closed : (p : Properties) (f : Form) (text same formed rest : List ℕ) → IsClosedFront p f text same formed rest → Leaves text rest 0
+leaves-closed p f text same formed rest closed = record {
+  front = chars closed.front;
+  some = omega (arith, ap length closed.form.begins.text);
+  few = omega arith;
+  is_front = closed.characters;
+  shorter = next closed.front (ap length closed.text) closed.form.begins.text;
+}
+  where
+    next : (b : List ℕ) → length text ≡ length (b ++ rest) → chars b ≡ closed.form.begins.first ∷ closed.form.begins.rest → length rest < length text
+    next [] is begins = let none = chars-nil in cc
+    next (c ∷ b) is begins = omega (arith, is, length-append (c ∷ b) rest)
+
+module _ (p : Properties) where
+  -- whether a joiner is put before a character
+  pub joins-one : (x : List ℕ) (c : ℕ) (joined : Bool) → joined ≡ is_too_long p (stream_safe p x) c → Joins p x (c ∷ []) (one_if joined)
+  joins-one x c joined is = next joined (is_too_long p (stream_safe p x) c) is (stream_safe-push p x c)
+    where
+      next : (j b : Bool) → j ≡ b → stream_safe p (x ++ c ∷ []) ≡ (if b then stream_safe p x ++ joiner ∷ [] else stream_safe p x) ++ c ∷ []
+          → length (stream_safe p (x ++ c ∷ [])) ≡ length (stream_safe p x) + 1 + (if j then 1 else 0)
+      next true true e text = omega (arith, ap length text, length-append (stream_safe p x ++ joiner ∷ []) (c ∷ []), length-append (stream_safe p x) (joiner ∷ []))
+      next false false e text = omega (arith, ap length text, length-append (stream_safe p x) (c ∷ []))
+      next true false e text = cc
+      next false true e text = cc
+
+  -- one character was taken, or refused
+  pub takes-one : (f : Form) (normalizer : Normalizer) (start : Start) (room x text rest : List ℕ) (c : ℕ) (joined : Bool) → IsUtf8 text → text ≡ encode_utf8 c ++ rest
+      → TakesChar f p normalizer start room x c (Ok joined) → TakesFront f p normalizer start (room ++ []) x text rest (one_if joined)
+  takes-one f normalizer start room x text rest c joined utf8 is taken = record {
+    front = c ∷ [];
+    is_front = chars_past_char text rest c utf8 is;
+    inside = record { taken = taken.0; holds = Holds-alone taken.1 };
+    joins = joins-one x c joined taken.2;
+  }
+
+  pub refuses-one : (f : Form) (start : Start) (room x text rest : List ℕ) (c : ℕ) → IsUtf8 text → text ≡ encode_utf8 c ++ rest → is_usable p x ≡ true
+      → (is_usable p (x ++ c ∷ []) ≡ false) × Holds start room (settled_text f p x) → Refuses f p start room x text
+  refuses-one f start room x text rest c utf8 is usable refused = record {
+    first = c;
+    rest = chars rest;
+    is_first = chars_past_char text rest c utf8 is;
+    usable = usable;
+    unusable = refused.0;
+    holds = refused.1;
+  }
+
+  module _ (f : Form) (x : List ℕ) (usable : is_usable p x ≡ true) where
+    sound : IsSoundText p (stream_safe p x)
+    unfolding is_usable
+    sound = usable
+
+    -- ---- a closed front
+    module _ (text same formed rest : List ℕ) (closed : IsClosedFront p f text same formed rest) where
+      whole : safe_form f p (x ++ chars closed.front) ≡ safe_form f p x ++ (chars same ++ formed)
+      whole = safe_form-closed p f x (chars closed.front) (chars same ++ formed) sound closed.form
+
+      pub usable-closed : is_usable p (x ++ chars closed.front) ≡ true
+      unfolding is_usable
+      usable-closed = sound-closed p f x (chars closed.front) (chars same ++ formed) sound closed.form
+
+      pub joins-closed : Joins p x (chars closed.front) 0
+      joins-closed =
+          omega (arith, ap length (stream_safe-closed p f x (chars closed.front) (chars same ++ formed) sound closed.form), length-append (stream_safe p x) (chars closed.front))
+
+      pub due-closed : IsUtf8 same → encode_utf8_all (safe_form f p x) ++ (same ++ encode_utf8_all formed) ≡ encode_utf8_all (safe_form f p (x ++ chars closed.front))
+      due-closed utf8 =
+          ap (λ b. encode_utf8_all (safe_form f p x) ++ (b ++ encode_utf8_all formed)) (sym (encodes-chars same utf8))
+          ∙ ap (λ b. encode_utf8_all (safe_form f p x) ++ b) (sym (encodes-append (chars same) formed))
+          ∙ sym (encodes-append (safe_form f p x) (chars same ++ formed)) ∙ ap encode_utf8_all (sym whole)
+
+-- ---- a front of a text
+
+-- the form of no text
+module _ (f : Form) (p : Properties) where
+  safe_form-none : encode_utf8_all (safe_form f p []) ≡ []
+  unfolding safe_form by_class
+  safe_form-none = next f
+    where
+      next : (f : Form) → encode_utf8_all (safe_form f p []) ≡ []
+      next Nfc = refl
+      next Nfd = refl
+      next Nfkc = refl
+      next Nfkd = refl
+
+  settled_text-none : settled_text f p [] ≡ []
+  unfolding settled safe_form by_class
+  settled_text-none = next f
+    where
+      next : (f : Form) → settled_text f p [] ≡ []
+      next Nfc = refl
+      next Nfd = refl
+      next Nfkc = refl
+      next Nfkd = refl
+
+-- the text w was given or stands in the room, and what is told next stands behind it
+abbrev past : Start → List ℕ → Start
+past start w = record start { ahead = start.ahead ++ w }
+
+Holds-past : {start : Start} {room w : List ℕ} (none : List ℕ) → none ≡ [] → Holds start room w → Holds (past start w) room none
+Holds-past {start} {room} {w} none is holds = record { text = ap (λ l. (start.ahead ++ w) ++ l) is ∙ append-nil (start.ahead ++ w) ∙ holds.text }
+
+Holds-whole : {start : Start} {room a : List ℕ} (w : List ℕ) → Holds (past start w) room a → Holds start room (w ++ a)
+Holds-whole {start} {room} {a} w holds = record { text = sym (append_assoc start.ahead w a) ∙ holds.text }
+
+-- what was taken begins where the text does
+front_is : (front rest text : List ℕ) (c : ℕ) (more : List ℕ) → 0 < length front → text ≡ front ++ rest → text ≡ c ∷ more → (tail : List ℕ) × (front ≡ c ∷ tail)
+front_is [] rest text c more some is first = absurd (omega (arith, some))
+front_is (d ∷ tail) rest text c more some is first = (tail, cc)
+
+module _ (p : Properties) (f : Form) (new : Normalizer) (start : Start) (after formed x text : List ℕ) where
+  closes : (same rest : List ℕ) → Closes f p new start after formed x text same rest → StepsTo f p new start (after ++ (same ++ encode_utf8_all formed)) x text rest 0
+  closes same rest takes = record {
+    front = chars takes.closed.front;
+    is_front = takes.closed.characters;
+    stands = inr (record {
+      anew = takes.anew;
+      usable = usable-closed p f x takes.usable text same formed rest takes.closed;
+      boundary = takes.closed.next;
+      holds = Holds-at (due-closed p f x takes.usable text same formed rest takes.closed takes.utf8) (Holds-more (same ++ encode_utf8_all formed) refl takes.holds);
+    });
+    joins = joins-closed p f x takes.usable text same formed rest takes.closed;
+  }
+
+  -- where something may be pending
+  pub steps-inside : (r : Result Front Unsound) → Takes f p new start after formed x text r → TakesOn f p new start after formed x text r
+  steps-inside (Ok (Taken same rest joined)) takes = record { front = takes.front; is_front = takes.is_front; stands = inl takes.inside; joins = takes.joins }
+  steps-inside (Ok (Closed closed)) takes = closes closed.same.now closed.rest.now takes
+  steps-inside (Err stop) takes = takes
+
+  -- and at a boundary, where the normalizer is as a new one
+  module _ (usable : is_usable p x ≡ true) (boundary : BeginsAtBoundary p f (chars text)) where
+    abbrev there : Start
+    there = past start (encode_utf8_all (safe_form f p x))
+
+    taken-behind : (same rest : List ℕ) (n : ℕ) (takes : TakesFront f p new there (after ++ same) [] text rest n) → 0 < length takes.front
+        → StepsTo f p new start (after ++ same) x text rest n
+    taken-behind same rest n takes some =
+        let begins = front_is takes.front (chars rest) (chars text) boundary.first boundary.rest some takes.is_front boundary.text in
+        let is = takes.is_front ∙ ap (λ l. l ++ chars rest) begins.1 in
+        let inside = subst (λ l. Inside f p new there (after ++ same) l) begins.1 takes.inside in
+        record {
+          front = boundary.first ∷ begins.0;
+          is_front = is;
+          stands = inl (record {
+            taken = HasTaken-behind p f x usable (chars text) begins.0 (chars rest) boundary is new inside.taken;
+            holds = Holds-at (settled_text-behind p f x usable (chars text) begins.0 (chars rest) boundary is) (Holds-whole (encode_utf8_all (safe_form f p x)) inside.holds);
+          });
+          joins = joins-behind p f x usable (chars text) begins.0 (chars rest) boundary is n (subst (λ l. Joins p [] l n) begins.1 takes.joins);
+        }
+
+    refused : Refuses f p there after [] text → Refuses f p start after x text
+    refused refuses =
+        let first : refuses.first ≡ boundary.first = let both = sym refuses.is_first ∙ boundary.text in cc in
+        absurd (false≢true (sym refuses.unusable ∙ ap (λ c. is_usable p (c ∷ [])) first ∙ usable-alone p f boundary.first boundary.boundary boundary.sound))
+
+    pub steps-between : (r : Result Front Unsound) → IfOk r (Passes text) → Takes f p new there after formed [] text r → TakesOn f p new start after formed x text r
+    steps-between (Ok (Taken same rest joined)) passes takes = taken-behind same.now rest.now (one_if joined) takes (some_in passes takes)
+      where
+        some_in : Leaves text rest.now (one_if joined) → (takes : TakesFront f p new there (after ++ same.now) [] text rest.now (one_if joined)) → 0 < length takes.front
+        some_in leaves takes = omega (arith, leaves.some, ap length leaves.is_front, ap length takes.is_front, length-append leaves.front (chars rest.now), length-append takes.front (chars rest.now))
+    steps-between (Ok (Closed closed)) passes takes = closes closed.same.now closed.rest.now (record {
+      closed = takes.closed;
+      utf8 = takes.utf8;
+      anew = takes.anew;
+      usable = usable;
+      holds = Holds-at (append-nil _) (Holds-whole (encode_utf8_all (safe_form f p x)) (Holds-at (safe_form-none f p) takes.holds));
+    })
+    steps-between (Err stop) passes takes = refused takes
+
+  -- after either
+  pub steps-on : (old : Normalizer) (before : List ℕ) (r : Result Front Unsound) → IfOk r (Passes text)
+      → ((f : Form) (x : List ℕ) (start : Start) → HasTaken f p old x → Holds start before (settled_text f p x) → Takes f p new start after formed x text r)
+      → Stands f p old start before x (chars text) → TakesOn f p new start after formed x text r
+  steps-on old before r passes takes (inl inside) = steps-inside r (takes f x start inside.taken inside.holds)
+  steps-on old before r passes takes (inr between) = steps-between between.usable between.boundary r passes
+      (takes f [] (past start (encode_utf8_all (safe_form f p x))) between.anew (Holds-past (settled_text f p []) (settled_text-none f p) between.holds))
+
+-- ---- one front after another
+
+module _ (p : Properties) (f : Form) (start : Start) (x text : List ℕ) where
+  pub StepsTo-none : (normalizer : Normalizer) (out : List ℕ) → Stands f p normalizer start out x (chars text) → StepsTo f p normalizer start out x text text 0
+  StepsTo-none normalizer out stands = record {
+    front = [];
+    is_front = refl;
+    stands = subst (λ y. Stands f p normalizer start out y (chars text)) (sym (append-nil x)) stands;
+    joins = omega (arith, ap (λ y. length (stream_safe p y)) (append-nil x));
+  }
+
+  pub StepsTo-more : (old new : Normalizer) (room out rest behind : List ℕ) (m n : ℕ) (first : StepsTo f p old start room x text rest m) → StepsTo f p new start out (x ++ first.front) rest behind n
+      → StepsTo f p new start out x text behind (m + n)
+  StepsTo-more old new room out rest behind m n first next = record {
+    front = first.front ++ next.front;
+    is_front = first.is_front ∙ ap (λ l. first.front ++ l) next.is_front ∙ sym (append_assoc first.front next.front (chars behind));
+    stands = subst (λ y. Stands f p new start out y (chars behind)) (append_assoc x first.front next.front) next.stands;
+    joins = omega (arith, first.joins, next.joins, ap (λ y. length (stream_safe p y)) (append_assoc x first.front next.front), length-append first.front next.front);
+  }
+
+  pub StepsTo-at : (normalizer : Normalizer) (out same rest : List ℕ) (n : ℕ) → out ≡ same → StepsTo f p normalizer start out x text rest n → StepsTo f p normalizer start same x text rest n
+  StepsTo-at normalizer out same rest n is steps = subst (λ o. StepsTo f p normalizer start o x text rest n) is steps
+
+  pub StepsTo-as : (normalizer : Normalizer) (out rest : List ℕ) (m n : ℕ) → m ≡ n → StepsTo f p normalizer start out x text rest m → StepsTo f p normalizer start out x text rest n
+  StepsTo-as normalizer out rest m n is steps = subst (λ k. StepsTo f p normalizer start out x text rest k) is steps
+
+pub leaves-all : (text rest : List ℕ) (n : ℕ) (front : List ℕ) → IsUtf8 text → IsUtf8 rest → chars text ≡ front ++ chars rest → n ≤ length front → length rest < length text → Leaves text rest n
+leaves-all text rest n front utf8 behind is few shorter = record { front = front; some = next front is; few = few; is_front = is; shorter = shorter }
+  where
+    next : (front : List ℕ) → chars text ≡ front ++ chars rest → 0 < length front
+    next [] is = absurd (omega (arith, shorter, ap length (sym (encodes-chars text utf8) ∙ ap encode_utf8_all is ∙ encodes-chars rest behind)))
+    next (c ∷ front) is = omega arith

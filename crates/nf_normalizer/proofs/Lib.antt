@@ -1,0 +1,6 @@
+pub mod EncodingLemmas
+pub mod RoomLemmas
+pub mod PushingLemmas
+pub mod CharacterLemmas
+pub mod AsciiLemmas
+pub mod FrontLemmas

@@ -1,0 +1,15 @@
+use Rattle.std.proofs.Common.{encode_utf8_all}
+use Rattle.nf_normalizer.specs.Laws.Settled.{is_usable-none}
+use Rattle.nf_normalizer.proofs.RoomLemmas.{Holds-at, Holds-more}
+use Rattle.nf_normalizer.proofs.CharacterLemmas.{settled_text-rest}
+use Rattle.nf_normalizer.proofs.normalizer.Normalizer.settle.Goals as goal
+
+pub returns-clause-anew : goal.returns-clause-anew
+returns-clause-anew g c = λ f x taken.
+    let p = g.R.Rows.properties c.args.rows.now in
+    record { usable = is_usable-none p; form = taken.form; plain = taken.plain; count = c.new-self.ensures.count; pending = c.restart-held.ensures.stands f p _ taken.pending }
+
+pub returns-clause-settles : goal.returns-clause-settles
+returns-clause-settles g c = λ f x start taken holds.
+    let whole = settled_text-rest (g.R.Rows.properties c.args.rows.now) f x c.restart-held.result.items (c.restart-held.ensures.settles f _ taken.pending) in
+    Holds-at whole (Holds-more (encode_utf8_all c.restart-held.result.items) (rw c.as_slice.ensures.value at c.put_utf8.ensures.text) holds)

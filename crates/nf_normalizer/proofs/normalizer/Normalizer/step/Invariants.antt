@@ -1,0 +1,21 @@
+use Rattle.std.proofs.Common.{◌≡◌, ◌+◌, ◌<◌, ◌≤◌, ◌⊎◌, ℕ, List, ◌++◌, length}
+use Rattle.std.specs.Str.{IsUtf8, chars as characters}
+use Rattle.nf_forms.specs.declared.form.Form.{Form}
+use Rattle.nf_normalizer.specs.Front.{Stands, StepsTo}
+use Rattle.nf_normalizer.specs.Normalizer.{IsWithin}
+use Rattle.nf_normalizer.specs.Room.{Start}
+use Rattle.nf_normalizer.proofs.normalizer.Normalizer.step.Given as goal
+
+abbrev pub invariant-loop-room : goal.invariant-loop-room
+invariant-loop-room g l = record {
+  utf8 : IsUtf8 l.rest;
+  left : length l.rest ≤ length l.text;
+  gone : (front : List ℕ) × (characters l.text ≡ front ++ characters l.rest) × (l.put ≤ length front);
+  within : IsWithin l.self;
+  begun : (length l.rest < length l.text) ⊎ (length l.room.items + 200 ≤ 4096);
+  steps : (f : Form) (x : List ℕ) (start : Start) → Stands f (g.R.Rows.properties l.rows) l.fn.self start l.fn.room.items x (characters l.text)
+      → StepsTo f (g.R.Rows.properties l.rows) l.self start l.room.items x l.text l.rest l.put;
+}
+
+abbrev pub decreases-loop-room : goal.decreases-loop-room
+decreases-loop-room g l = length l.rest

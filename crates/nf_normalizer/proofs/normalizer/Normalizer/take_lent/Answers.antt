@@ -1,0 +1,13 @@
+use Rattle.std.proofs.Common.{refl}
+use Rattle.nf_forms.specs.Forms.{row_of, decomposed}
+use Rattle.nf_forms.specs.StreamSafe.{parted, stream_safe}
+use Rattle.nf_normalizer.specs.Normalizer.{itself}
+use Rattle.nf_normalizer.proofs.CharacterLemmas.{TakesChar-row}
+use Rattle.nf_normalizer.proofs.normalizer.Normalizer.take_lent.Goals as goal
+
+pub returns-clause-takes : goal.returns-clause-takes
+returns-clause-takes g c = λ f x start before holds.
+    let p = g.R.Rows.properties c.args.rows.now in
+    let parts = c.in-Ok.ensures.parts f x start before holds in
+    TakesChar-row p f itself _ c.make_room.new.self _ start _ _ x (row_of c.make_room.new.self.form p c.args.c) c.args.c parts refl refl
+    (c.push_decomposition.ensures.pushes f (decomposed f p (parted p (stream_safe p x) c.args.c)) start parts.0.pending parts.1)

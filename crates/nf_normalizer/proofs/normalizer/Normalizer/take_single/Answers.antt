@@ -1,0 +1,29 @@
+use Rattle.std.proofs.Common.{[], ◌∷◌, refl, sym}
+use Rattle.nf_forms.specs.Forms.{decomposed}
+use Rattle.nf_forms.specs.StreamSafe.{parted, stream_safe}
+use Rattle.nf_normalizer.specs.Normalizer.{itself}
+use Rattle.nf_normalizer.proofs.CharacterLemmas.{row_of-single, room_for-single, within-single, ends-single, TakesChar-row}
+use Rattle.nf_normalizer.proofs.normalizer.Normalizer.take_single.Goals as goal
+
+pub make_room-requires-clause-compat : goal.make_room-requires-clause-compat
+make_room-requires-clause-compat g c = ends-single (g.R.Rows.properties c.args.rows.now) c.args.self.now.form c.args.c c.args.single _ c.requires.single c.of_one.ensures
+
+pub push_of_class-requires-clause-mark : goal.push_of_class-requires-clause-mark
+push_of_class-requires-clause-mark g c = λ mark.
+    let p = g.R.Rows.properties c.args.rows.now in
+    let row = row_of-single p c.args.self.now c.make_room.new.self c.args.c c.args.single c.requires.single c.in-Ok.ensures.form in
+    room_for-single p c.make_room.new.self c.args.c c.args.single.member row c.in-Ok.ensures.has_room mark
+
+pub returns-clause-within : goal.returns-clause-within
+returns-clause-within g c =
+    let p = g.R.Rows.properties c.args.rows.now in
+    let row = row_of-single p c.args.self.now c.make_room.new.self c.args.c c.args.single c.requires.single c.in-Ok.ensures.form in
+    within-single p c.make_room.new.self (record c.make_room.new.self { pending = c.push_of_class.new.pending }) c.args.c c.args.single.member row c.in-Ok.ensures.has_room c.push_of_class.ensures.run refl
+
+pub returns-clause-takes : goal.returns-clause-takes
+returns-clause-takes g c = λ f x start before holds.
+    let p = g.R.Rows.properties c.args.rows.now in
+    let parts = c.in-Ok.ensures.parts f x start before holds in
+    let row = sym (row_of-single p c.args.self.now c.make_room.new.self c.args.c c.args.single c.requires.single c.in-Ok.ensures.form) in
+    TakesChar-row p f itself _ c.make_room.new.self _ start _ _ x (c.args.single.member ∷ []) c.args.c parts row refl
+    (c.push_of_class.ensures.pushes f (decomposed f p (parted p (stream_safe p x) c.args.c)) start parts.0.pending parts.1)

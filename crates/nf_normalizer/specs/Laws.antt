@@ -1,0 +1,3 @@
+-- Laws of what is settled and what can be used.
+pub mod Settled
+pub mod Boundary
