@@ -1,7 +1,8 @@
-//! What `--help` says of each command behind its usage.
+//! What `--help` says of each command after its usage.
 
 pub(crate) const PROGRAM: &str = "\
-Every command reads standard input, as in: nfstream check < FILE
+Every command reads standard input and takes no names of files, as in: nfstream check < FILE
+Names of commands, forms and options are in lower case.
 
 Status:
   0  done
@@ -13,9 +14,13 @@ Status:
   6  the input is too long";
 
 pub(crate) const CONVERT: &str = "\
-Reads UTF-8 from standard input, and writes the form to standard output as soon as it is settled.
-At a fault, what had settled before it is written. The last character of what was read may wait,
-since a mark may follow it; with --line-buffered none waits behind a line feed.
+Reads UTF-8 from standard input, and writes the form to standard output:
+
+  nfstream convert --form nfc < FILE > FILE.nfc
+
+Into runs of more than 30 combining marks it puts U+034F COMBINING GRAPHEME JOINER. What was read is
+written at once, but for the last character, since a mark may follow it; with --line-buffered none
+waits after a line feed. At a fault, what came before it is written, but for such a last character.
 
 Status:
   0  all is written
@@ -26,7 +31,9 @@ Status:
 
 pub(crate) const CHECK: &str = "\
 Reads UTF-8 from standard input, and writes one line to standard output: stream-safe, or the first
-place that is not, as a character and a byte counted from 0.
+place that is not, as a character and a byte counted from 0. There convert would put U+034F.
+
+  nfstream check < FILE
 
 Status:
   0  the text is stream-safe
@@ -37,7 +44,10 @@ Status:
   6  the input is longer than 2^64 - 1 bytes";
 
 pub(crate) const MEASURE: &str = "\
-Reads UTF-8 from standard input to its end, and writes a line for each count to standard output.
+Reads UTF-8 from standard input to its end, and writes a line for each count to standard output:
+bytes, characters, non-starters, their longest run, U+034F that convert would put, and unassigned.
+
+  nfstream measure < FILE
 
 Status:
   0  counted
@@ -49,6 +59,8 @@ Status:
 pub(crate) const TEST: &str = "\
 Reads the file from standard input to its end, and writes to standard output how many rows pass,
 and the first that fails.
+
+  nfstream test < NormalizationTest.txt
 
 Status:
   0  all pass

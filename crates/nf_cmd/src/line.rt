@@ -45,22 +45,26 @@ fn line<'w>(alloc: Global) -> Result<Command<'w>, AllocError>
     let check = plain(
         alloc,
         "check",
+        "nfstream check < FILE",
         "Says whether the text is in the Stream-Safe Text Format, and where it is not",
         help::CHECK,
     );
     let measure = plain(
         alloc,
         "measure",
+        "nfstream measure < FILE",
         "Counts the text's characters and non-starters, and what convert would put in",
         help::MEASURE,
     );
     let test = plain(
         alloc,
         "test",
+        "nfstream test < FILE",
         "Tests the forms by a file in the layout of NormalizationTest.txt",
         help::TEST,
     );
     let line = Command::new(alloc, "nfstream")
+        .override_usage("nfstream <COMMAND> < FILE")
         .about("Makes UTF-8 text on standard input stream-safe, normalizes it, and measures it")
         .after_help(help::PROGRAM)
         .subcommand_required(true)
@@ -77,6 +81,7 @@ fn convert<'w>(alloc: Global) -> Result<Command<'w>, AllocError>
     let convert = plain(
         alloc,
         "convert",
+        "nfstream convert [OPTIONS] --form <FORM> < FILE",
         "Writes the normalization form of the stream-safe text",
         help::CONVERT,
     );
@@ -98,12 +103,21 @@ fn convert<'w>(alloc: Global) -> Result<Command<'w>, AllocError>
     ))
 }
 
-// A command that takes nothing yet, with the texts of its help before and behind its usage.
-fn plain<'w>(alloc: Global, name: &'w str, about: &'w str, notes: &'w str) -> Command<'w>
+// A command that takes nothing yet, with the usage, and the texts of its help before and after it.
+fn plain<'w>(
+    alloc: Global,
+    name: &'w str,
+    usage: &'w str,
+    about: &'w str,
+    notes: &'w str,
+) -> Command<'w>
     ensures shape { app_of result ≡ new_app name.now }
     ensures local { (out-Command result).has_globals ≡ false }
 {
-    Command::new(alloc, name).about(about).after_help(notes)
+    Command::new(alloc, name)
+        .override_usage(usage)
+        .about(about)
+        .after_help(notes)
 }
 
 fn form<'w>(alloc: Global) -> Arg<'w>
@@ -115,7 +129,7 @@ fn form<'w>(alloc: Global) -> Arg<'w>
         .value_name("FORM")
         .value_parser(FORMS.as_slice())
         .required(true)
-        .help("The normalization form to write")
+        .help("The normalization form to write, in lower case")
 }
 
 fn flag<'w>(alloc: Global, name: &'w str, about: &'w str) -> Arg<'w>
