@@ -66,10 +66,6 @@ module _ (p : Properties) where
   allowed-none false = refl
   allowed-none true = refl
 
-  -- a character that is refused for not being assigned
-  pub allowed-stop : (x : List ℕ) (c : ℕ) (y : List ℕ) → allowed true p x ≡ x → p.assigned c ≡ false → allowed true p ((x ++ c ∷ []) ++ y) ≡ x
-  allowed-stop x c y all out = ap (allowed true p) (append_assoc x (c ∷ []) y) ∙ allowed-append true x (c ∷ y) all ∙ ap (λ l. x ++ l) (take_while-stop p.assigned [] c y refl out) ∙ append-nil x
-
   -- what was allowed stays, and where not all was, no more is
   pub allowed-grows : (a : Bool) (x y : List ℕ) → (allowed a p x ≡ x) ⊎ ((length (allowed a p x) < length x) × (allowed a p (x ++ y) ≡ allowed a p x))
   allowed-grows false x y = inl refl

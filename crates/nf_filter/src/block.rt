@@ -2,7 +2,7 @@ ghost use Rattle.std.specs.Prelude.{◌≡◌, ◌+◌, ◌<◌, ◌≤◌, [], 
 ghost use Rattle.nf_filter.specs.Writes.{Puts, BreaksOff};
 
 use crate::devices::{Failed, Sink};
-use nf_normalizer::{ROOM, Room, STEP, put_utf8};
+use nf_normalizer::{ROOM, Room, put_utf8};
 use nf_row::Formed;
 
 /// What is to go to a sink: it keeps up to 4,096 bytes, in place, that go there together.
@@ -27,33 +27,18 @@ impl Block {
         }
     }
 
-    /// Makes room for a step: where there is less, the sink is given what is kept.
+    /// Makes room for so many bytes: where there is less, the sink is given what is kept.
     #[inline]
-    pub fn make_room<S: Sink>(&mut self, sink: &mut S) -> Result<(), Failed>
-        ensures room { OnOk result (length self.new.room.items + 200 ≤ 4096) }
+    pub fn make_room<S: Sink>(&mut self, len: usize, sink: &mut S) -> Result<(), Failed>
+        requires { len ≤ 4096 }
+        ensures room { OnOk result (length self.new.room.items + len ≤ 4096) }
         ensures lender { (S.state sink.new).lender ≡ (S.state sink.old).lender }
         ensures writes { (start : Start) (w : List ℕ) → Written start (block_state (S.state sink.old) self.old) w
             → WritesOn start (block_state (S.state sink.new) self.new) w result }
     {
-        if ROOM - self.room.len() < STEP {
+        if ROOM - self.room.len() < len {
             return self.empty(sink);
         }
-        Ok(())
-    }
-
-    /// Appends the UTF-8 of the characters. Where that might not fit, the sink is given first what is kept.
-    #[inline]
-    pub fn push<S: Sink>(&mut self, characters: &Formed, sink: &mut S) -> Result<(), Failed>
-        ensures lender { (S.state sink.new).lender ≡ (S.state sink.old).lender }
-        ensures writes { (start : Start) (w : List ℕ) → Written start (block_state (S.state sink.old) self.old) w
-            → WritesOn start (block_state (S.state sink.new) self.new) (w ++ encode_utf8_all characters.now.items) result }
-    {
-        if ROOM - self.room.len() < 4 * characters.len() {
-            if let Err(failed) = self.empty(sink) {
-                return Err(failed);
-            }
-        }
-        put_utf8(&mut self.room, characters.as_slice());
         Ok(())
     }
 
@@ -73,7 +58,7 @@ impl Block {
         put_all(sink, text.as_bytes(), self.most)
     }
 
-    /// Appends the text, and then the characters.
+    /// Appends the text, and then the UTF-8 of the characters. Where that might not fit, the sink is given first what is kept.
     #[inline]
     pub fn push_form<S: Sink>(
         &mut self,
@@ -88,7 +73,11 @@ impl Block {
         if let Err(failed) = self.push_text(same, sink) {
             return Err(failed);
         }
-        self.push(formed, sink)
+        if let Err(failed) = self.make_room(4 * formed.len(), sink) {
+            return Err(failed);
+        }
+        put_utf8(&mut self.room, formed.as_slice());
+        Ok(())
     }
 
     /// Gives the sink all that is kept.

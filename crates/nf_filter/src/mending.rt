@@ -85,9 +85,7 @@ impl Counted {
             → TakesBehind f p self.new start (block_state (S.state sink.new) block.new) x (chars text.now) result }
         ensures lender { (S.state sink.new).lender ≡ (S.state sink.old).lender }
     {
-        match self.take_text(rows, 0, text, block, sink) {
-            Ok(()) => Ok(()),
-            Err(_) => Err(Failed),
-        }
+        self.take_text(rows, 0, text, block, sink)
+            .map_err(|_| Failed)
     }
 }

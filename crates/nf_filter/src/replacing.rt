@@ -10,6 +10,7 @@ use crate::devices::{Failed, Sink};
 use crate::fault::Fault;
 use crate::policy::Policy;
 use crate::reading::Reading;
+use nf_normalizer::STEP;
 use nf_row::{Kind, Rows};
 use nf_utf8::{broken_front, laws};
 
@@ -131,7 +132,7 @@ impl Counted {
             → TakesBehind f p self.new start (block_state (S.state sink.new) block.new) x (replacements count) result }
         ensures lender { (S.state sink.new).lender ≡ (S.state sink.old).lender }
     {
-        if let Err(failed) = block.make_room(sink) {
+        if let Err(failed) = block.make_room(STEP, sink) {
             return Err(failed);
         }
         self.normalizer.settle(rows, &mut block.room);
@@ -139,10 +140,8 @@ impl Counted {
             return Err(failed);
         }
         self.chars += count as u64 - 1;
-        match self.take_text(rows, 0, "\u{FFFD}", block, sink) {
-            Ok(()) => Ok(()),
-            Err(_) => Err(Failed),
-        }
+        self.take_text(rows, 0, "\u{FFFD}", block, sink)
+            .map_err(|_| Failed)
     }
 }
 

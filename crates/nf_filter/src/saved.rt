@@ -103,35 +103,25 @@ impl<'r, R: Rows> Filter<'r, R> {
         if !saved.spent && !(do_counts_fit(&saved) && is_pending(rows, &saved)) {
             return None;
         }
-        let Saved {
-            form,
-            policy,
-            spent,
-            base,
-            offset,
-            chars,
-            put,
-            count: _,
-            held: _,
-            starter,
-            marks,
-        } = saved;
         Some(Filter {
             rows,
             state: State {
-                base,
-                spent,
-                policy,
-                reading: Reading { decoder, offset },
+                base: saved.base,
+                spent: saved.spent,
+                policy: saved.policy,
+                reading: Reading {
+                    decoder,
+                    offset: saved.offset,
+                },
                 counted: Counted {
                     normalizer: Normalizer {
-                        form,
+                        form: saved.form,
                         is_plain: true,
                         counter,
-                        pending: Pending::holding(form, starter, marks),
+                        pending: Pending::holding(saved.form, saved.starter, saved.marks),
                     },
-                    chars,
-                    put,
+                    chars: saved.chars,
+                    put: saved.put,
                 },
             },
         })

@@ -1,12 +1,12 @@
 //! How text goes through a normalizer to a sink, step by step.
-ghost use Rattle.std.specs.Prelude.{◌≡◌, length, chars, take_while, encode_utf8_all};
+ghost use Rattle.std.specs.Prelude.{◌≡◌, ◌++◌, length, chars, take_while, encode_utf8_all};
 ghost use Rattle.nf_filter.specs.Policy.{allowed};
 
 use crate::block::Block;
 use crate::counted::Counted;
 use crate::devices::{Failed, Sink};
 use crate::fault::Fault;
-use nf_normalizer::Step;
+use nf_normalizer::{STEP, Step};
 use nf_row::{Formed, Rows};
 use nf_utf8::char_count;
 
@@ -103,7 +103,7 @@ impl Counted {
             → TakesAllowed assigned f p self.new start (block_state (S.state sink.new) block.new) place (x ++ chars text.now) result }
         ensures lender { (S.state sink.new).lender ≡ (S.state sink.old).lender }
     {
-        let (front, rest) = text.split_at(allowed_len(rows, assigned, text));
+        let (front, rest) = split_allowed(rows, assigned, text);
         if let Err(fault) = self.take_text(rows, at, front, block, sink) {
             return Err(fault);
         }
@@ -170,21 +170,14 @@ impl Counted {
             → IsPlacedAt place at x (chars text.now) → StepsOn f p self.new start (block_state (S.state sink.new) block.new) place x text.now result }
         ensures lender { (S.state sink.new).lender ≡ (S.state sink.old).lender }
     {
-        if let Err(Failed) = block.make_room(sink) {
+        if let Err(Failed) = block.make_room(STEP, sink) {
             return Err(Fault::Write);
         }
         match self.normalizer.step(rows, text, &mut block.room, formed) {
             Step::Taken { same, rest, put } => {
                 self.put += put;
-                match block.push_text(same, sink) {
+                match block.push_form(same, formed, sink) {
                     Ok(()) => Ok(rest),
-                    Err(Failed) => Err(Fault::Write),
-                }
-            }
-            Step::Closed { closed, put } => {
-                self.put += put;
-                match block.push_form(closed.same, formed, sink) {
-                    Ok(()) => Ok(closed.rest),
                     Err(Failed) => Err(Fault::Write),
                 }
             }
@@ -195,7 +188,15 @@ impl Counted {
     }
 }
 
-/// How many bytes the characters at the front of the text have that are taken: all, or the assigned ones.
+/// The characters at the front of the text that are taken, all or the assigned ones, and what stands behind them.
+fn split_allowed<'t, R: Rows>(rows: &R, assigned: bool, text: &'t str) -> (&'t str, &'t str)
+    ensures front { chars result.0.now ≡ allowed assigned (R.properties rows.now) (chars text.now) }
+    ensures whole { chars text.now ≡ chars result.0.now ++ chars result.1.now }
+{
+    text.split_at(allowed_len(rows, assigned, text))
+}
+
+/// How many bytes these have.
 fn allowed_len<R: Rows>(rows: &R, assigned: bool, text: &str) -> usize
     ensures { result ≡ length (encode_utf8_all (allowed assigned (R.properties rows.now) (chars text.now))) }
 {

@@ -194,9 +194,9 @@ module _ (p : Properties) where
           ap (λ n. count_step p n (p.compat c)) before.count ∙ sym (trail-decomposed-safe_step p (stream_safe p x) c plain)
           ∙ ap (λ o. trail p (decomposed Nfkd p o)) (sym (stream_safe-push p x c))
 
-      pub Parts-without : {T : Type 0} (joined : T → Bool) (answer : T) (new : Normalizer) (start : Start) (room : List ℕ) → joined answer ≡ false → passes p taken.counter (p.compat c) ≡ false
-          → new ≡ counting taken c → Holds start room (settled_text f p x) → Parts joined f p new start room x c (Ok answer)
-      Parts-without joined answer new start room none short is holds =
+      pub Parts-without : (new : Normalizer) (start : Start) (room : List ℕ) → passes p taken.counter (p.compat c) ≡ false
+          → new ≡ counting taken c → Holds start room (settled_text f p x) → Parts f p new start room x c (Ok false)
+      Parts-without new start room short is holds =
           let short_is : is_too_long p (stream_safe p x) c ≡ false = sym long_is ∙ short in
           let same = parted-without (stream_safe p x) c short_is in (
             subst (λ t. HasParted f p t x c) (sym is) (record {
@@ -207,13 +207,13 @@ module _ (p : Properties) where
               pending = subst (λ o. PendingStandsAfter f p taken.pending (decomposed f p o)) (sym same) before.pending;
             }),
             Holds-at (settled_text-front x ∙ ap (λ o. front_utf8 f p (decomposed f p o)) (sym same)) holds,
-            none ∙ sym short_is,
+            sym short_is,
           )
 
-      pub Parts-with : {T : Type 0} (joined : T → Bool) (answer : T) (mid new : Normalizer) (start : Start) (room : List ℕ) → joined answer ≡ true → passes p taken.counter (p.compat c) ≡ true
+      pub Parts-with : (mid new : Normalizer) (start : Start) (room : List ℕ) → passes p taken.counter (p.compat c) ≡ true
           → mid ≡ counting taken c → new ≡ record mid { pending = new.pending } → PutsJoiner f p new.pending start room (decomposed f p (stream_safe p x)) (Ok tt)
-          → Parts joined f p new start room x c (Ok answer)
-      Parts-with joined answer mid new start room some long is joins puts =
+          → Parts f p new start room x c (Ok true)
+      Parts-with mid new start room long is joins puts =
           let long_here : is_too_long p (stream_safe p x) c ≡ true = sym long_is ∙ long in
           let plain = JoinerIsPlain-from_sound p puts.0 in
           let longer = parted-with (stream_safe p x) c long_here in
@@ -226,12 +226,12 @@ module _ (p : Properties) where
               pending = subst (λ w. PendingStandsAfter f p new.pending w) (sym text) puts.1.0;
             },
             Holds-at (ap (front_utf8 f p) (sym text)) puts.1.1,
-            some ∙ sym long_here,
+            sym long_here,
           )
 
-      pub Parts-stopped : {T : Type 0} (joined : T → Bool) (new : Normalizer) (start : Start) (room : List ℕ) (stop : Unsound) → passes p taken.counter (p.compat c) ≡ true
-          → PutsJoiner f p new.pending start room (decomposed f p (stream_safe p x)) (Err stop) → Parts {T = T} joined f p new start room x c (Err stop)
-      Parts-stopped joined new start room stop long puts = (is_usable-unsound_joiner x c (sym long_is ∙ long) puts.0, Holds-at (sym (settled_text-front x)) puts.1)
+      pub Parts-stopped : (new : Normalizer) (start : Start) (room : List ℕ) (stop : Unsound) → passes p taken.counter (p.compat c) ≡ true
+          → PutsJoiner f p new.pending start room (decomposed f p (stream_safe p x)) (Err stop) → Parts f p new start room x c (Err stop)
+      Parts-stopped new start room stop long puts = (is_usable-unsound_joiner x c (sym long_is ∙ long) puts.0, Holds-at (sym (settled_text-front x)) puts.1)
 
     pub row_text : (part : Normalizer) (x row : List ℕ) (c : ℕ) → HasParted f p part x c → row ≡ row_of part.form p c
         → decomposed f p (parted p (stream_safe p x) c) ++ row ≡ decomposed f p (stream_safe p (x ++ c ∷ []))
@@ -251,10 +251,10 @@ module _ (p : Properties) where
     }
 
     -- so the character was taken
-    pub TakesChar-row : {T : Type 0} (joined : T → Bool) (answer : T) (part new : Normalizer) (start : Start) (middle room x row : List ℕ) (c : ℕ) → Parts joined f p part start middle x c (Ok answer)
+    pub TakesChar-row : (part new : Normalizer) (start : Start) (middle room x row : List ℕ) (c : ℕ) (joined : Bool) → Parts f p part start middle x c (Ok joined)
         → row ≡ row_of part.form p c → new ≡ record part { pending = new.pending }
-        → Pushes f p new.pending start room (decomposed f p (parted p (stream_safe p x) c) ++ row) → TakesChar f p new start room x c (Ok (joined answer))
-    TakesChar-row joined answer part new start middle room x row c parts is same pushed =
+        → Pushes f p new.pending start room (decomposed f p (parted p (stream_safe p x) c) ++ row) → TakesChar f p new start room x c (Ok joined)
+    TakesChar-row part new start middle room x row c joined parts is same pushed =
         let text = row_text part x row c parts.0 is in (
           HasTaken-row part new x row c parts.0 is same pushed.0,
           Holds-at (ap (front_utf8 f p) text ∙ sym (settled_text-front (x ++ c ∷ []))) pushed.1,

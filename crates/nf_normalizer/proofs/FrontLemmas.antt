@@ -16,13 +16,12 @@ use Rattle.nf_forms.specs.Laws.Closed.{stream_safe-closed, sound-closed, safe_fo
 use Rattle.nf_boundary.specs.Front.{IsClosedFront}
 use Rattle.nf_normalizer.specs.declared.normalizer.Normalizer.{Normalizer}
 use Rattle.nf_normalizer.specs.declared.front.Front.{Front}
-use Rattle.nf_normalizer.specs.declared.front.Front.TheVariants.{Taken, Closed}
 use Rattle.nf_normalizer.specs.declared.front.Unsound.{Unsound}
 use Rattle.nf_normalizer.specs.Settled.{settled, is_usable}
-use Rattle.nf_normalizer.specs.Laws.Boundary.{usable-alone, joins-behind, settled_text-behind, HasTaken-behind}
+use Rattle.nf_normalizer.specs.Laws.Boundary.{usable-alone, usable_both, joins-behind, safe_form-behind, settled_text-behind, HasTaken-behind}
 use Rattle.nf_normalizer.specs.Room.{Start, Holds}
 use Rattle.nf_normalizer.specs.Normalizer.{HasTaken, TakesChar, settled_text}
-use Rattle.nf_normalizer.specs.Front.{Inside, Stands, one_if, Leaves, Passes, Joins, TakesFront, StepsTo, Refuses, Closes, Takes, TakesOn}
+use Rattle.nf_normalizer.specs.Front.{Stands, one_if, Leaves, Passes, Joins, StepsTo, Refuses, Takes}
 use Rattle.nf_normalizer.proofs.RoomLemmas.{Holds-at, Holds-more, Holds-alone}
 
 -- ---- fronts of a text
@@ -79,11 +78,11 @@ module _ (p : Properties) where
 
   -- one character was taken, or refused
   pub takes-one : (f : Form) (normalizer : Normalizer) (start : Start) (room x text rest : List ℕ) (c : ℕ) (joined : Bool) → IsUtf8 text → text ≡ encode_utf8 c ++ rest
-      → TakesChar f p normalizer start room x c (Ok joined) → TakesFront f p normalizer start (room ++ []) x text rest (one_if joined)
+      → TakesChar f p normalizer start room x c (Ok joined) → StepsTo f p normalizer start (room ++ []) x text rest (one_if joined)
   takes-one f normalizer start room x text rest c joined utf8 is taken = record {
     front = c ∷ [];
     is_front = chars_past_char text rest c utf8 is;
-    inside = record { taken = taken.0; holds = Holds-alone taken.1 };
+    stands = inl (record { taken = taken.0; holds = Holds-alone taken.1 });
     joins = joins-one x c joined taken.2;
   }
 
@@ -122,20 +121,25 @@ module _ (p : Properties) where
           ∙ ap (λ b. encode_utf8_all (safe_form f p x) ++ b) (sym (encodes-append (chars same) formed))
           ∙ sym (encodes-append (safe_form f p x) (chars same ++ formed)) ∙ ap encode_utf8_all (sym whole)
 
--- ---- a front of a text
+      -- it was taken
+      pub takes-closed : (new : Normalizer) (start : Start) (room : List ℕ) → IsUtf8 same → HasTaken f p new [] → Holds start room (encode_utf8_all (safe_form f p x))
+          → StepsTo f p new start (room ++ (same ++ encode_utf8_all formed)) x text rest 0
+      takes-closed new start room utf8 anew holds = record {
+        front = chars closed.front;
+        is_front = closed.characters;
+        stands = inr (record {
+          anew = anew;
+          usable = usable-closed;
+          boundary = closed.next;
+          holds = Holds-at (due-closed utf8) (Holds-more (same ++ encode_utf8_all formed) refl holds);
+        });
+        joins = joins-closed;
+      }
+
+-- ---- at a boundary, where the normalizer is as a new one
 
 -- the form of no text
 module _ (f : Form) (p : Properties) where
-  safe_form-none : encode_utf8_all (safe_form f p []) ≡ []
-  unfolding safe_form by_class
-  safe_form-none = next f
-    where
-      next : (f : Form) → encode_utf8_all (safe_form f p []) ≡ []
-      next Nfc = refl
-      next Nfd = refl
-      next Nfkc = refl
-      next Nfkd = refl
-
   settled_text-none : settled_text f p [] ≡ []
   unfolding settled safe_form by_class
   settled_text-none = next f
@@ -161,45 +165,35 @@ front_is : (front rest text : List ℕ) (c : ℕ) (more : List ℕ) → 0 < leng
 front_is [] rest text c more some is first = absurd (omega (arith, some))
 front_is (d ∷ tail) rest text c more some is first = (tail, cc)
 
-module _ (p : Properties) (f : Form) (new : Normalizer) (start : Start) (after formed x text : List ℕ) where
-  closes : (same rest : List ℕ) → Closes f p new start after formed x text same rest → StepsTo f p new start (after ++ (same ++ encode_utf8_all formed)) x text rest 0
-  closes same rest takes = record {
-    front = chars takes.closed.front;
-    is_front = takes.closed.characters;
-    stands = inr (record {
-      anew = takes.anew;
-      usable = usable-closed p f x takes.usable text same formed rest takes.closed;
-      boundary = takes.closed.next;
-      holds = Holds-at (due-closed p f x takes.usable text same formed rest takes.closed takes.utf8) (Holds-more (same ++ encode_utf8_all formed) refl takes.holds);
-    });
-    joins = joins-closed p f x takes.usable text same formed rest takes.closed;
-  }
-
-  -- where something may be pending
-  pub steps-inside : (r : Result Front Unsound) → Takes f p new start after formed x text r → TakesOn f p new start after formed x text r
-  steps-inside (Ok (Taken same rest joined)) takes = record { front = takes.front; is_front = takes.is_front; stands = inl takes.inside; joins = takes.joins }
-  steps-inside (Ok (Closed closed)) takes = closes closed.same.now closed.rest.now takes
-  steps-inside (Err stop) takes = takes
-
-  -- and at a boundary, where the normalizer is as a new one
+module _ (p : Properties) (f : Form) (new : Normalizer) (start : Start) (after x text : List ℕ) where
   module _ (usable : is_usable p x ≡ true) (boundary : BeginsAtBoundary p f (chars text)) where
     abbrev there : Start
     there = past start (encode_utf8_all (safe_form f p x))
 
-    taken-behind : (same rest : List ℕ) (n : ℕ) (takes : TakesFront f p new there (after ++ same) [] text rest n) → 0 < length takes.front
-        → StepsTo f p new start (after ++ same) x text rest n
-    taken-behind same rest n takes some =
-        let begins = front_is takes.front (chars rest) (chars text) boundary.first boundary.rest some takes.is_front boundary.text in
-        let is = takes.is_front ∙ ap (λ l. l ++ chars rest) begins.1 in
-        let inside = subst (λ l. Inside f p new there (after ++ same) l) begins.1 takes.inside in
+    module _ (more next : List ℕ) (is : chars text ≡ (boundary.first ∷ more) ++ next) where
+      stands-behind : (out : List ℕ) → Stands f p new there out (boundary.first ∷ more) next → Stands f p new start out (x ++ boundary.first ∷ more) next
+      stands-behind out (inl inside) = inl (record {
+        taken = HasTaken-behind p f x usable (chars text) more next boundary is new inside.taken;
+        holds = Holds-at (settled_text-behind p f x usable (chars text) more next boundary is) (Holds-whole (encode_utf8_all (safe_form f p x)) inside.holds);
+      })
+      stands-behind out (inr between) = inr (record {
+        anew = between.anew;
+        usable = usable_both p f x usable (chars text) more next boundary is between.usable;
+        boundary = between.boundary;
+        holds = Holds-at (safe_form-behind p f x usable (chars text) more next boundary is) (Holds-whole (encode_utf8_all (safe_form f p x)) between.holds);
+      })
+
+    steps-behind : (out rest : List ℕ) (n : ℕ) → Leaves text rest n → StepsTo f p new there out [] text rest n → StepsTo f p new start out x text rest n
+    steps-behind out rest n leaves steps =
+        let some : 0 < length steps.front =
+        omega (arith, leaves.some, ap length leaves.is_front, ap length steps.is_front, length-append leaves.front (chars rest), length-append steps.front (chars rest)) in
+        let begins = front_is steps.front (chars rest) (chars text) boundary.first boundary.rest some steps.is_front boundary.text in
+        let is = steps.is_front ∙ ap (λ l. l ++ chars rest) begins.1 in
         record {
           front = boundary.first ∷ begins.0;
           is_front = is;
-          stands = inl (record {
-            taken = HasTaken-behind p f x usable (chars text) begins.0 (chars rest) boundary is new inside.taken;
-            holds = Holds-at (settled_text-behind p f x usable (chars text) begins.0 (chars rest) boundary is) (Holds-whole (encode_utf8_all (safe_form f p x)) inside.holds);
-          });
-          joins = joins-behind p f x usable (chars text) begins.0 (chars rest) boundary is n (subst (λ l. Joins p [] l n) begins.1 takes.joins);
+          stands = stands-behind begins.0 (chars rest) is out (subst (λ l. Stands f p new there out l (chars rest)) begins.1 steps.stands);
+          joins = joins-behind p f x usable (chars text) begins.0 (chars rest) boundary is n (subst (λ l. Joins p [] l n) begins.1 steps.joins);
         }
 
     refused : Refuses f p there after [] text → Refuses f p start after x text
@@ -207,27 +201,17 @@ module _ (p : Properties) (f : Form) (new : Normalizer) (start : Start) (after f
         let first : refuses.first ≡ boundary.first = let both = sym refuses.is_first ∙ boundary.text in cc in
         absurd (false≢true (sym refuses.unusable ∙ ap (λ c. is_usable p (c ∷ [])) first ∙ usable-alone p f boundary.first boundary.boundary boundary.sound))
 
-    pub steps-between : (r : Result Front Unsound) → IfOk r (Passes text) → Takes f p new there after formed [] text r → TakesOn f p new start after formed x text r
-    steps-between (Ok (Taken same rest joined)) passes takes = taken-behind same.now rest.now (one_if joined) takes (some_in passes takes)
-      where
-        some_in : Leaves text rest.now (one_if joined) → (takes : TakesFront f p new there (after ++ same.now) [] text rest.now (one_if joined)) → 0 < length takes.front
-        some_in leaves takes = omega (arith, leaves.some, ap length leaves.is_front, ap length takes.is_front, length-append leaves.front (chars rest.now), length-append takes.front (chars rest.now))
-    steps-between (Ok (Closed closed)) passes takes = closes closed.same.now closed.rest.now (record {
-      closed = takes.closed;
-      utf8 = takes.utf8;
-      anew = takes.anew;
-      usable = usable;
-      holds = Holds-at (append-nil _) (Holds-whole (encode_utf8_all (safe_form f p x)) (Holds-at (safe_form-none f p) takes.holds));
-    })
-    steps-between (Err stop) passes takes = refused takes
-
-  -- after either
-  pub steps-on : (old : Normalizer) (before : List ℕ) (r : Result Front Unsound) → IfOk r (Passes text)
+  -- what is done to a text behind all that was taken is done wherever the normalizer stands
+  pub steps-on : (formed : List ℕ) (old : Normalizer) (before : List ℕ) (r : Result Front Unsound) → IfOk r (Passes text)
       → ((f : Form) (x : List ℕ) (start : Start) → HasTaken f p old x → Holds start before (settled_text f p x) → Takes f p new start after formed x text r)
-      → Stands f p old start before x (chars text) → TakesOn f p new start after formed x text r
-  steps-on old before r passes takes (inl inside) = steps-inside r (takes f x start inside.taken inside.holds)
-  steps-on old before r passes takes (inr between) = steps-between between.usable between.boundary r passes
+      → Stands f p old start before x (chars text) → Takes f p new start after formed x text r
+  steps-on formed old before r passes takes (inl inside) = takes f x start inside.taken inside.holds
+  steps-on formed old before r passes takes (inr between) = next r passes
       (takes f [] (past start (encode_utf8_all (safe_form f p x))) between.anew (Holds-past (settled_text f p []) (settled_text-none f p) between.holds))
+    where
+      next : (r : Result Front Unsound) → IfOk r (Passes text) → Takes f p new (past start (encode_utf8_all (safe_form f p x))) after formed [] text r → Takes f p new start after formed x text r
+      next (Ok front) passes takes = steps-behind between.usable between.boundary (after ++ (front.same.now ++ encode_utf8_all formed)) front.rest.now (one_if front.joined) passes takes
+      next (Err stop) passes takes = refused between.usable between.boundary takes
 
 -- ---- one front after another
 
@@ -240,20 +224,17 @@ module _ (p : Properties) (f : Form) (start : Start) (x text : List ℕ) where
     joins = omega (arith, ap (λ y. length (stream_safe p y)) (append-nil x));
   }
 
-  pub StepsTo-more : (old new : Normalizer) (room out rest behind : List ℕ) (m n : ℕ) (first : StepsTo f p old start room x text rest m) → StepsTo f p new start out (x ++ first.front) rest behind n
-      → StepsTo f p new start out x text behind (m + n)
-  StepsTo-more old new room out rest behind m n first next = record {
+  pub StepsTo-more : (old new : Normalizer) (room out rest behind : List ℕ) (m n k : ℕ) → m + n ≡ k → (first : StepsTo f p old start room x text rest m) → StepsTo f p new start out (x ++ first.front) rest behind n
+      → StepsTo f p new start out x text behind k
+  StepsTo-more old new room out rest behind m n k sum first next = record {
     front = first.front ++ next.front;
     is_front = first.is_front ∙ ap (λ l. first.front ++ l) next.is_front ∙ sym (append_assoc first.front next.front (chars behind));
     stands = subst (λ y. Stands f p new start out y (chars behind)) (append_assoc x first.front next.front) next.stands;
-    joins = omega (arith, first.joins, next.joins, ap (λ y. length (stream_safe p y)) (append_assoc x first.front next.front), length-append first.front next.front);
+    joins = omega (arith, first.joins, next.joins, sum, ap (λ y. length (stream_safe p y)) (append_assoc x first.front next.front), length-append first.front next.front);
   }
 
   pub StepsTo-at : (normalizer : Normalizer) (out same rest : List ℕ) (n : ℕ) → out ≡ same → StepsTo f p normalizer start out x text rest n → StepsTo f p normalizer start same x text rest n
   StepsTo-at normalizer out same rest n is steps = subst (λ o. StepsTo f p normalizer start o x text rest n) is steps
-
-  pub StepsTo-as : (normalizer : Normalizer) (out rest : List ℕ) (m n : ℕ) → m ≡ n → StepsTo f p normalizer start out x text rest m → StepsTo f p normalizer start out x text rest n
-  StepsTo-as normalizer out rest m n is steps = subst (λ k. StepsTo f p normalizer start out x text rest k) is steps
 
 pub leaves-all : (text rest : List ℕ) (n : ℕ) (front : List ℕ) → IsUtf8 text → IsUtf8 rest → chars text ≡ front ++ chars rest → n ≤ length front → length rest < length text → Leaves text rest n
 leaves-all text rest n front utf8 behind is few shorter = record { front = front; some = next front is; few = few; is_front = is; shorter = shorter }

@@ -1,15 +1,12 @@
 -- What taking a front of a text does, and where a normalizer stands in a text.
 use Rattle.std.specs.Prelude.{◌≡◌, ◌+◌, ◌<◌, ◌≤◌, true, false, Bool, ℕ, List, [], ◌∷◌, ◌++◌, ◌⊎◌, length, chars, Result, Ok, Err, if◌then◌else◌, encode_utf8_all}
-use Rattle.std.specs.Str.{IsUtf8}
 use Rattle.nf_forms.specs.Properties.{Properties}
 use Rattle.nf_forms.specs.declared.form.Form.{Form}
 use Rattle.nf_forms.specs.Closed.{BeginsAtBoundary}
 use Rattle.nf_forms.specs.StreamSafe.{stream_safe}
 use Rattle.nf_forms.specs.SafeForm.{safe_form}
-use Rattle.nf_boundary.specs.Front.{IsClosedFront}
 use Rattle.nf_normalizer.specs.declared.normalizer.Normalizer.{Normalizer}
 use Rattle.nf_normalizer.specs.declared.front.Front.{Front}
-use Rattle.nf_normalizer.specs.declared.front.Front.TheVariants.{Taken, Closed}
 use Rattle.nf_normalizer.specs.declared.front.Unsound.{Unsound}
 use Rattle.nf_normalizer.specs.Normalizer.{HasTaken, settled_text}
 use Rattle.nf_normalizer.specs.Room.{Start, Holds}
@@ -45,21 +42,13 @@ pub record Leaves (text rest : List ℕ) (n : ℕ) : Type 0 where
   pub shorter : length rest < length text
 
 abbrev pub Passes : List ℕ → Front → Type 0
-Passes text (Taken same rest joined) = Leaves text rest.now (one_if joined)
-Passes text (Closed closed) = Leaves text closed.rest.now 0
+Passes text front = Leaves text front.rest.now (one_if front.joined)
 
 -- so many joiners were put in the characters y behind x
 abbrev pub Joins : Properties → List ℕ → List ℕ → ℕ → Type 0
 Joins p x y n = length (stream_safe p (x ++ y)) ≡ length (stream_safe p x) + length y + n
 
 -- a front of the text was taken behind x, for which `out` is in the room or comes next
-pub record TakesFront (f : Form) (p : Properties) (normalizer : Normalizer) (start : Start) (out x text rest : List ℕ) (n : ℕ) : Type 0 where
-  pub front : List ℕ
-  pub is_front : chars text ≡ front ++ chars rest
-  pub inside : Inside f p normalizer start out (x ++ front)
-  pub joins : Joins p x front n
-
--- so it was, and it stands there
 pub record StepsTo (f : Form) (p : Properties) (normalizer : Normalizer) (start : Start) (out x text rest : List ℕ) (n : ℕ) : Type 0 where
   pub front : List ℕ
   pub is_front : chars text ≡ front ++ chars rest
@@ -75,25 +64,11 @@ pub record Refuses (f : Form) (p : Properties) (start : Start) (room x text : Li
   pub unusable : is_usable p (x ++ first ∷ []) ≡ false
   pub holds : Holds start room (settled_text f p x)
 
--- a closed front is to go out behind x, which is settled
-pub record Closes (f : Form) (p : Properties) (normalizer : Normalizer) (start : Start) (room formed x text same rest : List ℕ) : Type 0 where
-  pub closed : IsClosedFront p f text same formed rest
-  pub utf8 : IsUtf8 same
-  pub anew : HasTaken f p normalizer []
-  pub usable : is_usable p x ≡ true
-  pub holds : Holds start room (encode_utf8_all (safe_form f p x))
-
--- what is done to a text where x was taken
+-- what is done to a text behind x
 abbrev pub Takes : Form → Properties → Normalizer → Start → List ℕ → List ℕ → List ℕ → List ℕ → Result Front Unsound → Type 0
-Takes f p normalizer start room formed x text (Ok (Taken same rest joined)) = TakesFront f p normalizer start (room ++ same.now) x text rest.now (one_if joined)
-Takes f p normalizer start room formed x text (Ok (Closed closed)) = Closes f p normalizer start room formed x text closed.same.now closed.rest.now
+Takes f p normalizer start room formed x text (Ok front) =
+    StepsTo f p normalizer start (room ++ (front.same.now ++ encode_utf8_all formed)) x text front.rest.now (one_if front.joined)
 Takes f p normalizer start room formed x text (Err _) = Refuses f p start room x text
-
--- the same after x, wherever the normalizer stands there
-abbrev pub TakesOn : Form → Properties → Normalizer → Start → List ℕ → List ℕ → List ℕ → List ℕ → Result Front Unsound → Type 0
-TakesOn f p normalizer start room formed x text (Ok (Taken same rest joined)) = StepsTo f p normalizer start (room ++ same.now) x text rest.now (one_if joined)
-TakesOn f p normalizer start room formed x text (Ok (Closed closed)) = StepsTo f p normalizer start (room ++ (closed.same.now ++ encode_utf8_all formed)) x text closed.rest.now 0
-TakesOn f p normalizer start room formed x text (Err _) = Refuses f p start room x text
 
 -- a run of y was taken behind x, for which `same` comes next
 pub record TakesRun (f : Form) (p : Properties) (normalizer : Normalizer) (start : Start) (room x y same : List ℕ) : Type 0 where

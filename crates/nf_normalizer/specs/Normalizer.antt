@@ -64,11 +64,11 @@ abbrev pub PutsJoiner : Form → Properties → Pending → Start → List ℕ �
 PutsJoiner f p pending start room w (Ok _) = (is_sound p joiner ≡ true) × Pushes f p pending start room (w ++ joiner ∷ [])
 PutsJoiner f p pending start room w (Err _) = (is_sound p joiner ≡ false) × Holds start room (front_utf8 f p w)
 
--- c was counted and parted, or why not; and whether a joiner was put, and what else is answered
-abbrev pub Parts : {T : Type 0} → (T → Bool) → Form → Properties → Normalizer → Start → List ℕ → List ℕ → ℕ → Result T Unsound → Type 0
-Parts joined f p normalizer start room x c (Ok answer) =
-    HasParted f p normalizer x c × Holds start room (front_utf8 f p (decomposed f p (parted p (stream_safe p x) c))) × (joined answer ≡ is_too_long p (stream_safe p x) c)
-Parts joined f p normalizer start room x c (Err _) = (is_usable p (x ++ c ∷ []) ≡ false) × Holds start room (settled_text f p x)
+-- c was counted and parted, or why not; and whether a joiner was put
+abbrev pub Parts : Form → Properties → Normalizer → Start → List ℕ → List ℕ → ℕ → Result Bool Unsound → Type 0
+Parts f p normalizer start room x c (Ok joined) =
+    HasParted f p normalizer x c × Holds start room (front_utf8 f p (decomposed f p (parted p (stream_safe p x) c))) × (joined ≡ is_too_long p (stream_safe p x) c)
+Parts f p normalizer start room x c (Err _) = (is_usable p (x ++ c ∷ []) ≡ false) × Holds start room (settled_text f p x)
 
 -- the character c was taken behind x, and whether a joiner was put before it; or it is refused
 abbrev pub TakesChar : Form → Properties → Normalizer → Start → List ℕ → List ℕ → ℕ → Result Bool Unsound → Type 0
@@ -76,9 +76,7 @@ TakesChar f p normalizer start room x c (Ok joined) =
     HasTaken f p normalizer (x ++ c ∷ []) × Holds start room (settled_text f p (x ++ c ∷ [])) × (joined ≡ is_too_long p (stream_safe p x) c)
 TakesChar f p normalizer start room x c (Err _) = (is_usable p (x ++ c ∷ []) ≡ false) × Holds start room (settled_text f p x)
 
--- which part of an answer says that a joiner was put
-abbrev pub itself : Bool → Bool
-itself joined = joined
-
-abbrev pub is_joined : {T : Type 0} → Bool × T → Bool
-is_joined parted = parted.0
+-- so c was taken behind all that the normalizer had taken
+abbrev pub TakesNext : Properties → Normalizer → Normalizer → List ℕ → List ℕ → ℕ → Result Bool Unsound → Type 0
+TakesNext p old new before after c result =
+    (f : Form) (x : List ℕ) (start : Start) → HasTaken f p old x → Holds start before (settled_text f p x) → TakesChar f p new start after x c result

@@ -4,7 +4,7 @@ use Rattle.nf_forms.specs.Properties.{Properties}
 use Rattle.nf_forms.specs.declared.form.Form.{Form}
 use Rattle.nf_normalizer.specs.declared.normalizer.Normalizer.{Normalizer}
 use Rattle.nf_normalizer.specs.declared.step.Step.{Step}
-use Rattle.nf_normalizer.specs.declared.step.Step.TheVariants.{Taken, Closed, Unsound}
+use Rattle.nf_normalizer.specs.declared.step.Step.TheVariants.{Taken, Unsound}
 use Rattle.nf_normalizer.specs.Front.{Leaves, Refuses, StepsTo}
 use Rattle.nf_normalizer.specs.Normalizer.{IsWithin}
 use Rattle.nf_normalizer.specs.Room.{Start}
@@ -20,12 +20,10 @@ pub record StopsIn (text rest : List ℕ) : Type 0 where
 -- a front of the text is behind it, unless the rest is refused
 abbrev pub StepsPast : List ℕ → Step → Type 0
 StepsPast text (Taken same rest put) = Leaves text rest.now put
-StepsPast text (Closed closed put) = Leaves text closed.rest.now put
 StepsPast text (Unsound rest) = StopsIn text rest.now
 
 abbrev pub StaysWithin : Normalizer → Step → Type 0
 StaysWithin normalizer (Taken same rest put) = IsWithin normalizer
-StaysWithin normalizer (Closed closed put) = IsWithin normalizer
 StaysWithin normalizer (Unsound rest) = Unit {0}
 
 -- a front of the text was taken, and the first character behind it cannot be used
@@ -36,6 +34,6 @@ pub record RefusesRest (f : Form) (p : Properties) (start : Start) (room x text 
 
 -- a step after x
 abbrev pub Steps : Form → Properties → Normalizer → Start → List ℕ → List ℕ → List ℕ → List ℕ → Step → Type 0
-Steps f p normalizer start room formed x text (Taken same rest put) = StepsTo f p normalizer start (room ++ same.now) x text rest.now put
-Steps f p normalizer start room formed x text (Closed closed put) = StepsTo f p normalizer start (room ++ (closed.same.now ++ encode_utf8_all formed)) x text closed.rest.now put
+Steps f p normalizer start room formed x text (Taken same rest put) =
+    StepsTo f p normalizer start (room ++ (same.now ++ encode_utf8_all formed)) x text rest.now put
 Steps f p normalizer start room formed x text (Unsound rest) = RefusesRest f p start room x text rest.now

@@ -1,23 +1,25 @@
-//! How a normalizer takes one character: without its row where one code point is known to be all of it, else by its row,
-//! lent where the data lends it. Each call answers whether U+034F was put before the character.
+//! How a normalizer takes one character: without its row where one code point is known to be all of it, else by its row.
+ghost use Rattle.std.specs.Prelude.{IfSome};
+ghost use Rattle.nf_row.specs.Single.{IsSingle};
+
 use crate::front::Unsound;
 use crate::normalizer::Normalizer;
-use crate::pushing::{push, push_decomposition, push_members, push_of_class, row_of};
+use crate::pushing::{push, push_decomposition, push_of_class};
 use crate::room::Room;
-use nf_row::{Ends, JOINER, Row, Rows, Single, SoundRow, lent_ends, own_class, sound, sound_row};
+use nf_row::{Ends, Form, JOINER, Rows, Single, own_class, sound, sound_ends};
 
+/// Each call answers whether U+034F was put before the character. Where it is unsound nothing is put.
 impl Normalizer {
-    ghost use Rattle.std.specs.Prelude.{◌≡◌, ◌+◌, ◌*◌, ◌<◌, ◌≤◌, ℕ, List, length, IsTrue, IfOk, OnOk};
+    ghost use Rattle.std.specs.Prelude.{◌≡◌, ◌+◌, ◌*◌, ◌<◌, ◌≤◌, ℕ, List, length, IsTrue, OnOk};
     ghost use Rattle.nf_row.specs.Ends.{HasEnds};
     ghost use Rattle.nf_row.specs.Single.{IsSingle};
     ghost use Rattle.nf_forms.specs.declared.form.Form.{Form};
-    ghost use Rattle.nf_forms.specs.Forms.{row_of};
     ghost use Rattle.nf_forms.specs.Sound.{is_sound};
     ghost use Rattle.nf_pending.specs.StandsAfter.{run_len, StandsAfter};
     ghost use Rattle.nf_normalizer.specs.Room.{Start, Holds};
-    ghost use Rattle.nf_normalizer.specs.Normalizer.{HasTaken, IsWithin, HasRoom, PutsJoiner, Parts, TakesChar, front_utf8, settled_text, itself, is_joined};
+    ghost use Rattle.nf_normalizer.specs.Normalizer.{HasTaken, IsWithin, HasRoom, PutsJoiner, Parts, TakesNext, front_utf8, settled_text};
 
-    /// Takes the next character, and puts what it settles into the room: nothing where the character is unsound.
+    /// Takes the next character, and puts what it settles into the room.
     pub(crate) fn take_char<R: Rows>(
         &mut self,
         rows: &R,
@@ -27,63 +29,15 @@ impl Normalizer {
         requires within { IsWithin self.old }
         requires room { length room.old.items + 200 ≤ 4096 }
         ensures within { OnOk result (IsWithin self.new) }
-        ensures form { OnOk result (self.new.form ≡ self.old.form) }
-        ensures takes { let p = R.properties rows.now in
-            (f : Form) (x : List ℕ) (start : Start) → HasTaken f p self.old x → Holds start room.old.items (settled_text f p x)
-            → TakesChar f p self.new start room.new.items x c result }
+        ensures takes { TakesNext (R.properties rows.now) self.old self.new room.old.items room.new.items c result }
     {
-        match own_class(rows, c) {
-            Some(class) => self.take_single(rows, c, Single::of_own(c, class), room),
-            None => self.take_other(rows, c, room),
+        match single_of(rows, self.form, c) {
+            Some(single) => self.take_single(rows, c, single, room),
+            None => self.take_row(rows, c, room),
         }
     }
 
-    /// The same of a character that is not its own row, as far as that is known.
-    fn take_other<R: Rows>(&mut self, rows: &R, c: char, room: &mut Room) -> Result<bool, Unsound>
-        requires within { IsWithin self.old }
-        requires room { length room.old.items + 200 ≤ 4096 }
-        ensures within { OnOk result (IsWithin self.new) }
-        ensures form { OnOk result (self.new.form ≡ self.old.form) }
-        ensures takes { let p = R.properties rows.now in
-            (f : Form) (x : List ℕ) (start : Start) → HasTaken f p self.old x → Holds start room.old.items (settled_text f p x)
-            → TakesChar f p self.new start room.new.items x c result }
-    {
-        if let Some(single) = rows.single(self.form, c) {
-            return self.take_single(rows, c, single, room);
-        }
-        match lent_ends(rows, c) {
-            Some(compat) => self.take_lent(rows, c, compat, room),
-            None => self.take_rows(rows, c, room),
-        }
-    }
-
-    /// The same of a sound character whose compatibility row has these ends: its row is lent, and not held.
-    fn take_lent<R: Rows>(
-        &mut self,
-        rows: &R,
-        c: char,
-        compat: Ends,
-        room: &mut Room,
-    ) -> Result<bool, Unsound>
-        requires sound { IsTrue (is_sound (R.properties rows.now) c) }
-        requires compat { HasEnds (R.properties rows.now) ((R.properties rows.now).compat c) compat }
-        requires within { IsWithin self.old }
-        requires room { length room.old.items + 200 ≤ 4096 }
-        ensures within { OnOk result (IsWithin self.new) }
-        ensures form { OnOk result (self.new.form ≡ self.old.form) }
-        ensures takes { let p = R.properties rows.now in
-            (f : Form) (x : List ℕ) (start : Start) → HasTaken f p self.old x → Holds start room.old.items (settled_text f p x)
-            → TakesChar f p self.new start room.new.items x c result }
-    {
-        let joined = match self.make_room(rows, c, compat, room) {
-            Ok(joined) => joined,
-            Err(unsound) => return Err(unsound),
-        };
-        push_decomposition(&mut self.pending, rows, self.form, c, room);
-        Ok(joined)
-    }
-
-    /// The same of a character of which the form has this one code point: no rows are read.
+    /// Takes a character of which the form has this one code point: no rows are read.
     #[inline(always)]
     pub(crate) fn take_single<R: Rows>(
         &mut self,
@@ -96,10 +50,7 @@ impl Normalizer {
         requires within { IsWithin self.old }
         requires room { length room.old.items + 200 ≤ 4096 }
         ensures within { OnOk result (IsWithin self.new) }
-        ensures form { OnOk result (self.new.form ≡ self.old.form) }
-        ensures takes { let p = R.properties rows.now in
-            (f : Form) (x : List ℕ) (start : Start) → HasTaken f p self.old x → Holds start room.old.items (settled_text f p x)
-            → TakesChar f p self.new start room.new.items x c result }
+        ensures takes { TakesNext (R.properties rows.now) self.old self.new room.old.items room.new.items c result }
     {
         let joined = match self.make_room(rows, c, Ends::of_one(single.compat_starts), room) {
             Ok(joined) => joined,
@@ -109,59 +60,22 @@ impl Normalizer {
         Ok(joined)
     }
 
-    /// The same of any character, by its rows.
-    fn take_rows<R: Rows>(&mut self, rows: &R, c: char, room: &mut Room) -> Result<bool, Unsound>
+    /// Takes any character, by its row.
+    fn take_row<R: Rows>(&mut self, rows: &R, c: char, room: &mut Room) -> Result<bool, Unsound>
         requires within { IsWithin self.old }
         requires room { length room.old.items + 200 ≤ 4096 }
         ensures within { OnOk result (IsWithin self.new) }
-        ensures form { OnOk result (self.new.form ≡ self.old.form) }
-        ensures takes { let p = R.properties rows.now in
-            (f : Form) (x : List ℕ) (start : Start) → HasTaken f p self.old x → Holds start room.old.items (settled_text f p x)
-            → TakesChar f p self.new start room.new.items x c result }
+        ensures takes { TakesNext (R.properties rows.now) self.old self.new room.old.items room.new.items c result }
     {
-        let Some(read) = sound_row(rows, self.form, c) else {
+        let Some(compat) = sound_ends(rows, c) else {
             return Err(Unsound);
         };
-        let (joined, row) = match self.part(rows, c, read, room) {
-            Ok(parted) => parted,
+        let joined = match self.make_room(rows, c, compat, room) {
+            Ok(joined) => joined,
             Err(unsound) => return Err(unsound),
         };
-        push_members(&mut self.pending, rows, row.as_slice(), room);
+        push_decomposition(&mut self.pending, rows, self.form, c, room);
         Ok(joined)
-    }
-
-    /// Counts the sound character `c`, of which `read` was read, puts U+034F before it where it would make a run too
-    /// long, and answers the decomposition that the form asks for. Where U+034F is put, whose own decompositions are read
-    /// for it, that of `c` is dropped first and looked up again behind it: one is held at a time.
-    fn part<R: Rows>(
-        &mut self,
-        rows: &R,
-        c: char,
-        read: SoundRow,
-        room: &mut Room,
-    ) -> Result<(bool, Row), Unsound>
-        requires row { read.row.items ≡ row_of self.old.form (R.properties rows.now) c }
-        requires compat { HasEnds (R.properties rows.now) ((R.properties rows.now).compat c) read.compat }
-        requires sound { IsTrue (is_sound (R.properties rows.now) c) }
-        requires within { IsWithin self.old }
-        requires room { length room.old.items + 200 ≤ 4096 }
-        ensures form { OnOk result (self.new.form ≡ self.old.form) }
-        ensures row { IfOk result (λ parted. parted.1.items ≡ row_of self.new.form (R.properties rows.now) c) }
-        ensures has_room { OnOk result (HasRoom (R.properties rows.now) self.new c) }
-        ensures few { OnOk result (length room.new.items + 4 * run_len self.new.pending + 72 ≤ 4096) }
-        ensures parts { let p = R.properties rows.now in
-            (f : Form) (x : List ℕ) (start : Start) → HasTaken f p self.old x → Holds start room.old.items (settled_text f p x)
-            → Parts is_joined f p self.new start room.new.items x c result }
-    {
-        let is_full = self.counter.step_by(read.compat);
-        if !is_full {
-            return Ok((false, read.row));
-        }
-        drop(read);
-        match self.put_joiner(rows, room) {
-            Ok(()) => Ok((true, row_of(self.form, rows, c))),
-            Err(unsound) => Err(unsound),
-        }
     }
 
     /// Counts the sound character `c`, whose compatibility row has these ends, and puts U+034F before it where it would
@@ -183,7 +97,7 @@ impl Normalizer {
         ensures few { OnOk result (length room.new.items + 4 * run_len self.new.pending + 72 ≤ 4096) }
         ensures parts { let p = R.properties rows.now in
             (f : Form) (x : List ℕ) (start : Start) → HasTaken f p self.old x → Holds start room.old.items (settled_text f p x)
-            → Parts itself f p self.new start room.new.items x _c result }
+            → Parts f p self.new start room.new.items x _c result }
     {
         if !self.counter.step_by(compat) {
             return Ok(false);
@@ -209,5 +123,16 @@ impl Normalizer {
         }
         push(&mut self.pending, rows, JOINER, room);
         Ok(())
+    }
+}
+
+/// The one code point that the form has of `c`, where that is told before its rows are read.
+#[inline]
+fn single_of<R: Rows>(rows: &R, form: Form, c: char) -> Option<Single>
+    ensures { IfSome result (λ single. IsSingle (R.properties rows.now) form c single) }
+{
+    match own_class(rows, c) {
+        Some(class) => Some(Single::of_own(c, class)),
+        None => rows.single(form, c),
     }
 }

@@ -10,19 +10,15 @@ const FEW: usize = 4;
 /// The same of one that begins with plain ASCII, most of which is a run of that.
 const SHORT: usize = 128;
 
-/// What was taken of a text, and what goes out for it. First comes what the room holds.
+/// What was taken of a text. For it goes out first what the room holds, then `same`, which stands in the text as it is, and
+/// then the characters that were put into the caller's `Formed`.
 #[derive(Debug, Drop)]
-pub(crate) enum Front<'t> {
-    /// Then comes `same`, which stands in the text as it is. `rest` is what is left of the text, and `joined` says
-    /// whether U+034F was put.
-    Taken {
-        same: &'t str,
-        rest: &'t str,
-        joined: bool,
-    },
-    /// Text between two normalization boundaries: then comes its part that stands in the text as it is, and after it the
-    /// characters that were put into the caller's `Formed`. Nothing is pending.
-    Closed(Closed<'t>),
+pub(crate) struct Front<'t> {
+    pub same: &'t str,
+    /// What is left of the text.
+    pub rest: &'t str,
+    /// Whether U+034F was put.
+    pub joined: bool,
 }
 
 /// The refusal of a text whose first character is unsound, or has U+034F before it, which is unsound.
@@ -30,9 +26,10 @@ pub(crate) enum Front<'t> {
 pub(crate) struct Unsound;
 
 impl Normalizer {
-    ghost use Rattle.std.specs.Prelude.{◌≡◌, ◌+◌, ◌<◌, ◌≤◌, ℕ, List, length, chars, Ok, IfSome, IsNone, IfOk, OnOk};
+    ghost use Rattle.std.specs.Prelude.{◌≡◌, ◌+◌, ◌<◌, ◌≤◌, ℕ, List, length, Ok, IfSome, IsNone, IfOk, OnOk};
     ghost use Rattle.nf_forms.specs.declared.form.Form.{Form};
     ghost use Rattle.nf_boundary.specs.Front.{IsClosedFront};
+    ghost use Rattle.nf_row.specs.Kind.{IsOwn};
     ghost use Rattle.nf_row.specs.Single.{IsSingle};
     ghost use Rattle.nf_normalizer.specs.Room.{Start, Holds};
     ghost use Rattle.nf_normalizer.specs.Normalizer.{HasTaken, IsWithin, settled_text};
@@ -56,44 +53,101 @@ impl Normalizer {
             (f : Form) (x : List ℕ) (start : Start) → HasTaken f p self.old x → Holds start room.old.items (settled_text f p x)
             → Takes f p self.new start room.new.items formed.new.items x text.now result }
     {
-        // No closed text begins with a mark, and to ask for a front of it costs more than to see that.
         let mut chars = text.chars();
         let c = chars.next().unwrap();
-        if let Some(mark) = self.mark_of(rows, c) {
-            return match self.take_single(rows, c, mark, room) {
-                Ok(joined) => Ok(Front::Taken {
-                    same: "",
-                    rest: chars.as_str(),
-                    joined,
-                }),
-                Err(unsound) => Err(unsound),
-            };
-        }
-        if let Some(closed) = self.closed_front(rows, text, formed) {
-            self.settle(rows, room);
-            return Ok(Front::Closed(closed));
-        }
-        match self.take_run(rows, text, room) {
-            Some(step) => Ok(step),
-            None => self.take_first(rows, text, room),
+        // No closed text begins with a mark, and to ask for a front of it costs more than to see that.
+        let taken = match self.mark_class(rows, c) {
+            Some(class) => self.take_single(rows, c, Single::of_own(c, class), room),
+            None => match self.letter_of(rows, c) {
+                Some(letter) => self.take_single(rows, c, letter, room),
+                None => {
+                    if let Some(front) = self.take_many(rows, text, room, formed) {
+                        return Ok(front);
+                    }
+                    self.take_char(rows, c, room)
+                }
+            },
+        };
+        formed.clear();
+        match taken {
+            Ok(joined) => Ok(Front {
+                same: "",
+                rest: chars.as_str(),
+                joined,
+            }),
+            Err(unsound) => Err(unsound),
         }
     }
 
-    /// What the form has of `c`, where that is known and no closed text begins so: a mark, a starter that counts as one, or a
-    /// letter of Hangul that may compose with the one before it.
+    /// The class of `c`, where that is known to be a mark that is its own row.
     #[inline(always)]
-    fn mark_of<R: Rows>(&self, rows: &R, c: char) -> Option<Single>
-        ensures { IfSome result (λ single. IsSingle (R.properties rows.now) self.now.form c single) }
+    fn mark_class<R: Rows>(&self, rows: &R, c: char) -> Option<u8>
+        ensures { IfSome result (λ class. IsOwn (R.properties rows.now) c class) }
     {
-        if self.pending.len() == 0 {
-            // At a boundary no such character stands, and at the begin of all text it may go the ordinary way.
+        if self.pending.is_empty() {
+            // At a boundary no mark stands, and at the begin of all text it may go the ordinary way.
             return None;
         }
         match rows.kind(self.form, c) {
-            Kind::Mark { class, .. } => Some(Single::of_own(c, class)),
-            Kind::Parts => None,
-            Kind::Other => rows.single(self.form, c),
+            Kind::Mark { class, .. } => Some(class),
+            _ => None,
         }
+    }
+
+    /// What the form has of `c`, where that is known and no closed text begins so: a starter that counts as a mark, or a
+    /// letter of Hangul that may compose with the one before it.
+    #[inline(always)]
+    fn letter_of<R: Rows>(&self, rows: &R, c: char) -> Option<Single>
+        ensures { IfSome result (λ single. IsSingle (R.properties rows.now) self.now.form c single) }
+    {
+        if self.pending.is_empty() {
+            return None;
+        }
+        rows.single(self.form, c)
+    }
+
+    /// Takes a front that is closed, where to ask for that costs less than to do without, or a run of plain ASCII behind one
+    /// such character that is pending alone.
+    #[inline(always)]
+    fn take_many<'t, R: Rows>(
+        &mut self,
+        rows: &R,
+        text: &'t str,
+        room: &mut Room,
+        formed: &mut Formed,
+    ) -> Option<Front<'t>>
+        requires some { 0 < length text.now }
+        requires within { IsWithin self.old }
+        requires room { length room.old.items + 200 ≤ 4096 }
+        ensures none { IsNone result → (self.new ≡ self.old) × (room.new ≡ room.old) }
+        ensures passes { IfSome result (Passes text.now) }
+        ensures within { IsWithin self.new }
+        ensures takes { let p = R.properties rows.now in
+            (f : Form) (x : List ℕ) (start : Start) → HasTaken f p self.old x → Holds start room.old.items (settled_text f p x)
+            → IfSome result (λ front. Takes f p self.new start room.new.items formed.new.items x text.now (Ok front)) }
+    {
+        if let Some(Closed { same, rest }) = self.closed_front(rows, text, formed) {
+            self.settle(rows, room);
+            return Some(Front {
+                same,
+                rest,
+                joined: false,
+            });
+        }
+        formed.clear();
+        let Some(starter) = self.plain_starter() else {
+            return None;
+        };
+        let len = ascii_prefix(text.as_bytes());
+        if len == 0 {
+            return None;
+        }
+        let (same, rest) = self.take_ascii(rows, starter, text, len, room);
+        Some(Front {
+            same,
+            rest,
+            joined: false,
+        })
     }
 
     /// The closed front of a text, where to ask for that costs less than to do without.
@@ -116,64 +170,5 @@ impl Normalizer {
             return None;
         }
         rows.closed_front(self.form, text, formed)
-    }
-
-    /// Takes a run of plain ASCII at the front of a text, where such a character is pending alone.
-    fn take_run<'t, R: Rows>(
-        &mut self,
-        rows: &R,
-        text: &'t str,
-        room: &mut Room,
-    ) -> Option<Front<'t>>
-        requires within { IsWithin self.old }
-        requires room { length room.old.items + 200 ≤ 4096 }
-        ensures none { IsNone result → (self.new ≡ self.old) × (room.new ≡ room.old) }
-        ensures passes { IfSome result (Passes text.now) }
-        ensures within { IsWithin self.new }
-        ensures takes { let p = R.properties rows.now in
-            (f : Form) (x formed : List ℕ) (start : Start) → HasTaken f p self.old x → Holds start room.old.items (settled_text f p x)
-            → IfSome result (λ step. Takes f p self.new start room.new.items formed x text.now (Ok step)) }
-    {
-        let Some(starter) = self.plain_starter() else {
-            return None;
-        };
-        let len = ascii_prefix(text.as_bytes());
-        if len == 0 {
-            return None;
-        }
-        let (same, rest) = self.take_ascii(rows, starter, text, len, room);
-        Some(Front::Taken {
-            same,
-            rest,
-            joined: false,
-        })
-    }
-
-    /// Takes the first character of a text.
-    fn take_first<'t, R: Rows>(
-        &mut self,
-        rows: &R,
-        text: &'t str,
-        room: &mut Room,
-    ) -> Result<Front<'t>, Unsound>
-        requires some { 0 < length text.now }
-        requires within { IsWithin self.old }
-        requires room { length room.old.items + 200 ≤ 4096 }
-        ensures passes { IfOk result (Passes text.now) }
-        ensures within { OnOk result (IsWithin self.new) }
-        ensures takes { let p = R.properties rows.now in
-            (f : Form) (x formed : List ℕ) (start : Start) → HasTaken f p self.old x → Holds start room.old.items (settled_text f p x)
-            → Takes f p self.new start room.new.items formed x text.now result }
-    {
-        let mut chars = text.chars();
-        let c = chars.next().unwrap();
-        match self.take_char(rows, c, room) {
-            Ok(joined) => Ok(Front::Taken {
-                same: "",
-                rest: chars.as_str(),
-                joined,
-            }),
-            Err(unsound) => Err(unsound),
-        }
     }
 }

@@ -61,6 +61,7 @@ impl Normalizer {
     }
 
     /// Puts all that is pending into the room. The normalizer is then as a new one.
+    #[inline]
     pub fn settle<R: Rows>(&mut self, rows: &R, room: &mut Room)
         requires { length room.old.items + 124 ≤ 4096 }
         ensures anew { (f : Form) (x : List ℕ) → HasTaken f (R.properties rows.now) self.old x → HasTaken f (R.properties rows.now) self.new [] }
@@ -70,8 +71,11 @@ impl Normalizer {
             (f : Form) (x : List ℕ) (start : Start) → HasTaken f p self.old x → Holds start room.old.items (settled_text f p x)
             → Holds start room.new.items (encode_utf8_all (safe_form f p x)) }
     {
-        let held = self.pending.restart(rows);
         self.counter = Counter::new();
+        if self.pending.is_empty() {
+            return;
+        }
+        let held = self.pending.restart(rows);
         put_utf8(room, held.as_slice());
     }
 }

@@ -78,7 +78,7 @@ pub fn push<R: Rows>(pending: &mut Pending, rows: &R, c: char, room: &mut Room)
 }
 
 /// Pushes `c`, which is of this class, and puts what it settles into the room: only a starter settles anything.
-#[inline]
+#[inline(always)]
 pub fn push_of_class<R: Rows>(pending: &mut Pending, rows: &R, c: char, class: u8, room: &mut Room)
     requires class { (R.properties rows.now).class c ≡ class }
     requires mark { IsTrue (is_nonstarter (R.properties rows.now) c) → run_len pending.old < 30 }

@@ -1,24 +1,16 @@
-ghost use Rattle.std.specs.Prelude.{◌≡◌, ◌++◌, IsTrue, IsFalse, encode_utf8_all};
-
-use crate::front::{Front, Unsound};
+use crate::front::Unsound;
 use crate::normalizer::Normalizer;
-use crate::room::{ROOM, Room, STEP, put_utf8};
-use nf_row::{Closed, Formed, Rows};
+use crate::room::{ROOM, Room, STEP};
+use nf_row::{Formed, Rows};
 
 /// What a step made of a text. First goes out what the room holds.
 #[derive(Debug, Drop)]
 pub enum Step<'t> {
-    /// A front of the text was taken, before whose characters U+034F was put so many times. Then goes out `same`, which
-    /// stands in the text as it is. `rest` is what is left.
+    /// A front of the text was taken, before whose characters U+034F was put so many times. Then go out `same`, which stands
+    /// in the text as it is, and the characters that were put into the caller's `Formed`. `rest` is what is left.
     Taken {
         same: &'t str,
         rest: &'t str,
-        put: u64,
-    },
-    /// The same, and it ends with text between two normalization boundaries, too long for the room: then go out its part
-    /// that stands in the text as it is, and after it the characters that were put into the caller's `Formed`.
-    Closed {
-        closed: Closed<'t>,
         put: u64,
     },
     /// The first character of `rest` is unsound, or has U+034F before it, which is. What stands before `rest` was taken.
@@ -34,7 +26,8 @@ impl Normalizer {
     ghost use Rattle.nf_normalizer.specs.Normalizer.{IsWithin};
     ghost use Rattle.nf_normalizer.specs.Step.{Stands, StaysWithin, Steps, StepsPast};
 
-    /// Takes as much of a text as there is room for what it settles. What `formed` held is lost.
+    /// Takes characters of a text as long as there is room for what they settle, up to a front for which text goes out as it
+    /// stands or in its form. What `formed` held is lost.
     pub fn step<'t, R: Rows>(
         &mut self,
         rows: &R,
@@ -58,44 +51,21 @@ impl Normalizer {
                 Ok(front) => front,
                 Err(Unsound) => return Step::Unsound { rest },
             };
-            match front {
-                Front::Taken {
-                    same,
-                    rest: behind,
-                    joined,
-                } => {
-                    put += u64::from(joined);
-                    rest = behind;
-                    if !same.is_empty() {
-                        return Step::Taken { same, rest, put };
-                    }
-                }
-                Front::Closed(closed) => {
-                    if !put_form(closed.same, formed, room) {
-                        return Step::Closed { closed, put };
-                    }
-                    rest = closed.rest;
-                }
+            put += u64::from(front.joined);
+            rest = front.rest;
+            if !(front.same.is_empty() && formed.is_empty()) {
+                return Step::Taken {
+                    same: front.same,
+                    rest,
+                    put,
+                };
             }
         }
+        formed.clear();
         Step::Taken {
             same: "",
             rest,
             put,
         }
     }
-}
-
-/// Puts the text into the room, and then the characters, where there is room for both, and answers whether there was.
-#[inline]
-fn put_form(same: &str, formed: &Formed, room: &mut Room) -> bool
-    ensures put { IsTrue result → room.new.items ≡ room.old.items ++ (same.now ++ encode_utf8_all formed.now.items) }
-    ensures kept { IsFalse result → room.new ≡ room.old }
-{
-    if same.len() + 4 * formed.len() > ROOM - room.len() {
-        return false;
-    }
-    room.try_extend_from_slice(same.as_bytes()).unwrap();
-    put_utf8(room, formed.as_slice());
-    true
 }

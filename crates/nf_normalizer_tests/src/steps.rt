@@ -33,20 +33,14 @@ fn one_step<'t, R: Rows>(
     match step {
         Step::Taken { same, rest, put } => {
             so_far.text.extend_from_slice(same.as_bytes())?;
-            so_far.put = so_far.put.saturating_add(put);
-            so_far.left = rest.len();
-            Ok(Some(rest))
-        }
-        Step::Closed { closed, put } => {
-            so_far.text.extend_from_slice(closed.same.as_bytes())?;
             for c in formed.iter() {
                 so_far
                     .text
                     .extend_from_slice(c.encode_utf8(&mut [0; 4]).as_bytes())?;
             }
             so_far.put = so_far.put.saturating_add(put);
-            so_far.left = closed.rest.len();
-            Ok(Some(closed.rest))
+            so_far.left = rest.len();
+            Ok(Some(rest))
         }
         Step::Unsound { rest } => {
             so_far.left = rest.len();

@@ -137,6 +137,26 @@ module _ (f : Form) (p : Properties) where
       at None e = tt
       at (Some a) e = e ∙ left (composes f) a
 
+  -- where nothing is held, all is settled
+  pub none_held : (pending : Pending) (w : List ℕ) → StandsAfter f p pending w → is_some pending.starter ≡ false → length pending.marks.items ≡ 0
+      → StandsAfter f p pending [] × (front p (finished f p w) ≡ finished f p w)
+  none_held pending w s starter empty = (
+    stands_new pending s.composes (none pending.starter starter) (nil pending.marks.items empty),
+    sym (append-nil (front p (finished f p w))) ∙ ap (λ b. front p (finished f p w) ++ b) (sym left) ∙ front-append-back p (finished f p w),
+  )
+    where
+      none : (o : Option ℕ) → is_some o ≡ false → o ≡ None
+      none None e = refl
+      none (Some a) e = cc
+
+      nil : (m : List Mark) → length m ≡ 0 → m ≡ []
+      nil [] e = refl
+      nil (x ∷ m) e = cc
+
+      left : back p (finished f p w) ≡ []
+      left = back_held pending w s ∙ ap (λ o. closed_off p (composes f) o (by_class p s.run)) (none pending.starter starter)
+          ∙ nothing (by_class p s.run) (ap (λ m. length m) (sym s.held) ∙ empty)
+
   -- a starter that a text leaves alone
   pub stands_alone : (old new : Pending) (w v : List ℕ) (c : ℕ) → StandsAfter f p old w → back p (finished f p v) ≡ c ∷ [] → trail p v ≡ 0
       → new.composes ≡ old.composes → new.starter ≡ Some c → new.marks.items ≡ [] → StandsAfter f p new v

@@ -1,6 +1,5 @@
 ghost use Rattle.std.specs.Prelude.{◌≡◌, ◌==◌, ◌&&◌, is_some, IfSome, IsTrue};
 ghost use Rattle.nf_forms.specs.StreamSafe.{joiner};
-ghost use Rattle.nf_forms.specs.Forms.{row_of};
 ghost use Rattle.nf_row.specs.Ends.{HasEnds};
 ghost use Rattle.nf_row.specs.Shape.{IsShapeOf, shapes_agree};
 ghost use Rattle.nf_forms.specs.Sound.{is_sound};
@@ -9,13 +8,11 @@ use crate::ends::Ends;
 use crate::rows::{Row, Rows};
 use nf_forms::{Form, JOINER};
 
-/// What is read of a sound character.
+/// The compatibility decomposition of a sound character, and its ends.
 #[derive(Debug, Drop)]
 pub struct SoundRow {
-    /// The decomposition that the form asks for.
     pub row: Row,
-    /// The ends of the compatibility decomposition.
-    pub compat: Ends,
+    pub ends: Ends,
 }
 
 /// What soundness asks of one row.
@@ -32,81 +29,58 @@ struct Shape {
 pub fn sound<R: Rows>(rows: &R, c: char) -> bool
     ensures { result ≡ is_sound (R.properties rows.now) c }
 {
-    rows.all_sound() || read_row(rows, Form::Nfkd, c).is_some()
+    rows.all_sound() || read_row(rows, c).is_some()
 }
 
-/// The compatibility row of a sound character, and none of any other.
-pub fn sound_compat<R: Rows>(rows: &R, c: char) -> Option<Row>
+/// The ends of the compatibility row of a sound character, and none of any other. Where all are known to be sound and the
+/// data lends its rows, no row is copied for it.
+pub fn sound_ends<R: Rows>(rows: &R, c: char) -> Option<Ends>
     ensures sound { is_some result ≡ is_sound (R.properties rows.now) c }
-    ensures row { IfSome result (λ row. row.items ≡ (R.properties rows.now).compat c) }
-{
-    sound_row(rows, Form::Nfkd, c).map(|read| read.row)
-}
-
-/// The row of a sound character that the form asks for, with the ends of its compatibility row, and none of any other
-/// character. Each row is read at most once, and that row last: so a caller that goes on with it does not look it up
-/// again, and one row is held at a time. Where all are known to be sound the other row is read for its ends alone.
-pub fn sound_row<R: Rows>(rows: &R, form: Form, c: char) -> Option<SoundRow>
-    ensures sound { is_some result ≡ is_sound (R.properties rows.now) c }
-    ensures row { IfSome result (λ read. read.row.items ≡ row_of form (R.properties rows.now) c) }
-    ensures compat { IfSome result (λ read. HasEnds (R.properties rows.now) ((R.properties rows.now).compat c) read.compat) }
+    ensures ends { IfSome result (λ ends. HasEnds (R.properties rows.now) ((R.properties rows.now).compat c) ends) }
 {
     if rows.all_sound() {
-        known_row(rows, form, c)
-    } else {
-        read_row(rows, form, c)
+        let mut room = [c; 3];
+        if let Some(row) = rows.lent_row(Form::Nfkd, c, &mut room) {
+            return Some(Ends::of_members(rows, row));
+        }
+    }
+    match sound_row(rows, c) {
+        Some(read) => Some(read.ends),
+        None => None,
     }
 }
 
-/// The same of a character that is known to be sound.
-fn known_row<R: Rows>(rows: &R, form: Form, c: char) -> Option<SoundRow>
-    requires sound { IsTrue (is_sound (R.properties rows.now) c) }
-    ensures some { IsTrue (is_some result) }
-    ensures row { IfSome result (λ read. read.row.items ≡ row_of form (R.properties rows.now) c) }
-    ensures compat { IfSome result (λ read. HasEnds (R.properties rows.now) ((R.properties rows.now).compat c) read.compat) }
+/// The compatibility row of a sound character with its ends, and none of any other. It is read last: so one row is held
+/// at a time, and a caller that goes on with it does not look it up again. Where all are known to be sound it is read alone.
+pub fn sound_row<R: Rows>(rows: &R, c: char) -> Option<SoundRow>
+    ensures sound { is_some result ≡ is_sound (R.properties rows.now) c }
+    ensures row { IfSome result (λ read. read.row.items ≡ (R.properties rows.now).compat c) }
+    ensures ends { IfSome result (λ read. HasEnds (R.properties rows.now) ((R.properties rows.now).compat c) read.ends) }
 {
-    let (row, compat) = match form {
-        Form::Nfc | Form::Nfd => {
-            let ends = Ends::of_row(rows, &rows.compat(c).ok()?);
-            (rows.canonical(c).ok()?, ends)
-        }
-        Form::Nfkc | Form::Nfkd => {
-            let asked = rows.compat(c).ok()?;
-            let ends = Ends::of_row(rows, &asked);
-            (asked, ends)
-        }
-    };
-    Some(SoundRow { row, compat })
+    if !rows.all_sound() {
+        return read_row(rows, c);
+    }
+    let row = rows.compat(c).ok()?;
+    let ends = Ends::of_row(rows, &row);
+    Some(SoundRow { row, ends })
 }
 
 /// The same of any character, whose two rows are compared.
-fn read_row<R: Rows>(rows: &R, form: Form, c: char) -> Option<SoundRow>
+fn read_row<R: Rows>(rows: &R, c: char) -> Option<SoundRow>
     ensures sound { is_some result ≡ is_sound (R.properties rows.now) c }
-    ensures row { IfSome result (λ read. read.row.items ≡ row_of form (R.properties rows.now) c) }
-    ensures compat { IfSome result (λ read. HasEnds (R.properties rows.now) ((R.properties rows.now).compat c) read.compat) }
+    ensures row { IfSome result (λ read. read.row.items ≡ (R.properties rows.now).compat c) }
+    ensures ends { IfSome result (λ read. HasEnds (R.properties rows.now) ((R.properties rows.now).compat c) read.ends) }
 {
-    let (row, canonical, compat) = match form {
-        Form::Nfc | Form::Nfd => {
-            let compat = shape_of(rows, &rows.compat(c).ok()?);
-            let row = rows.canonical(c).ok()?;
-            let canonical = shape_of(rows, &row);
-            (row, canonical, compat)
-        }
-        Form::Nfkc | Form::Nfkd => {
-            let canonical = shape_of(rows, &rows.canonical(c).ok()?);
-            let row = rows.compat(c).ok()?;
-            let compat = shape_of(rows, &row);
-            (row, canonical, compat)
-        }
-    };
-    if are_sound(rows, c, canonical, compat) {
-        Some(SoundRow {
-            row,
-            compat: compat.ends,
-        })
-    } else {
-        None
+    let canonical = shape_of(rows, &rows.canonical(c).ok()?);
+    let row = rows.compat(c).ok()?;
+    let compat = shape_of(rows, &row);
+    if !are_sound(rows, c, canonical, compat) {
+        return None;
     }
+    Some(SoundRow {
+        row,
+        ends: compat.ends,
+    })
 }
 
 /// Whether `c` is sound, whose canonical and compatibility rows have these shapes.

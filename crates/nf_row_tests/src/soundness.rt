@@ -1,6 +1,6 @@
 use crate::parts::{Broken, broken_parts};
 use nf_row::Change::{Canonical, Class, Compat};
-use nf_row::{Form, JOINER, Patched, Rows, Ucd, sound, sound_compat, sound_row};
+use nf_row::{Ends, JOINER, Patched, Rows, Ucd, sound, sound_ends, sound_row};
 use std::test::Fail;
 use unicode_normalization::Form as TableForm;
 use unicode_normalization::char::decomposition;
@@ -14,10 +14,7 @@ const EIGHTEEN: [char; 18] = ['a'; 18];
 /// Whether each way to ask it says that the character is sound; none where they differ.
 fn says_sound<R: Rows>(rows: &R, c: char) -> Option<bool> {
     let says = sound(rows, c);
-    let mut agree = sound_compat(rows, c).is_some() == says;
-    for form in [Form::Nfc, Form::Nfd, Form::Nfkc, Form::Nfkd] {
-        agree = agree && sound_row(rows, form, c).is_some() == says;
-    }
+    let agree = sound_row(rows, c).is_some() == says && sound_ends(rows, c).is_some() == says;
     agree.then_some(says)
 }
 
@@ -95,34 +92,24 @@ fn every_character_of_unicode_is_sound(rt: HostRuntime) {
 }
 
 #[test]
-fn a_sound_character_comes_with_the_row_of_the_form(rt: HostRuntime) -> Result<(), Fail> {
+fn a_sound_character_comes_with_its_row_and_ends(rt: HostRuntime) -> Result<(), Fail> {
     // U+0344 is two marks in each form; U+00A8 and U+FF9E are their own canonical rows.
-    let cases: [(Form, char, &[char], (bool, usize, usize)); 9] = [
-        (Form::Nfc, '\u{344}', &['\u{308}', MARK], (false, 2, 2)),
-        (Form::Nfkc, '\u{344}', &['\u{308}', MARK], (false, 2, 2)),
-        (Form::Nfkd, '\u{344}', &['\u{308}', MARK], (false, 2, 2)),
-        (Form::Nfc, '\u{A8}', &['\u{A8}'], (true, 0, 1)),
-        (Form::Nfd, '\u{A8}', &['\u{A8}'], (true, 0, 1)),
-        (Form::Nfkc, '\u{A8}', &[' ', '\u{308}'], (true, 0, 1)),
-        (Form::Nfkd, '\u{A8}', &[' ', '\u{308}'], (true, 0, 1)),
-        (Form::Nfd, '\u{FF9E}', &['\u{FF9E}'], (false, 1, 1)),
-        (Form::Nfkd, '\u{FF9E}', &['\u{3099}'], (false, 1, 1)),
+    let cases: [(char, &[char], (bool, usize, usize)); 4] = [
+        ('a', &['a'], (true, 0, 0)),
+        ('\u{344}', &['\u{308}', MARK], (false, 2, 2)),
+        ('\u{A8}', &[' ', '\u{308}'], (true, 0, 1)),
+        ('\u{FF9E}', &['\u{3099}'], (false, 1, 1)),
     ];
-    for (form, c, row, (has_starter, lead, trail)) in cases {
-        let read = sound_row(&Ucd, form, c).ok_or("unsound")?;
-        assert_eq!(rt;
-            (
-                read.row.as_slice(),
-                read.compat.has_starter,
-                read.compat.lead,
-                read.compat.trail
-            ),
-            (row, has_starter, lead, trail)
-        );
-        if form == Form::Nfkd {
-            let compat = sound_compat(&Ucd, c).ok_or("unsound")?;
-            assert_eq!(rt; compat.as_slice(), row);
-        }
+    for (c, row, ends) in cases {
+        let read = sound_row(&Ucd, c).ok_or("unsound")?;
+        assert_eq!(rt; (read.row.as_slice(), numbers(read.ends)), (row, ends));
+        let lent = sound_ends(&Ucd, c).ok_or("unsound")?;
+        let copied = sound_ends(&Patched::new(&[]), c).ok_or("unsound")?;
+        assert_eq!(rt; (numbers(lent), numbers(copied)), (ends, ends));
     }
     Ok(())
+}
+
+fn numbers(ends: Ends) -> (bool, usize, usize) {
+    (ends.has_starter, ends.lead, ends.trail)
 }

@@ -2,7 +2,7 @@ ghost use Rattle.std.specs.Prelude.{◌≤◌};
 
 use crate::counter::Counter;
 use crate::place::Place;
-use nf_row::{Form, Rows, Rule, Unsound, sound_row};
+use nf_row::{Rows, Rule, Unsound, sound_ends};
 
 /// Finds where a text leaves the Stream-Safe Text Format, character by character.
 #[derive(Clone, Copy, Debug)]
@@ -63,10 +63,10 @@ impl Checker {
         if self.is_over {
             return Ok(Some(self.reached));
         }
-        let Some(read) = sound_row(rows, Form::Nfkd, c) else {
+        let Some(ends) = sound_ends(rows, c) else {
             return Err(Unsound { c, rule: Rule::A1 });
         };
-        if self.counter.step_by(read.compat) {
+        if self.counter.step_by(ends) {
             self.is_over = true;
             return Ok(Some(self.reached));
         }

@@ -26,7 +26,7 @@ use Rattle.nf_filter.proofs.FeedingLemmas.{fed_by, HasFed, FeedsAll-failed, Feed
 use Rattle.nf_filter.proofs.WholeLemmas.{ending_whole, final_is}
 use Rattle.nf_filter.proofs.WritesLemmas.{Puts-none, Puts-join, Puts-at}
 use Rattle.nf_text.specs.Whole.{PassesWhole}
-use Rattle.uses.specs.Network.{HasRelayed, Relays}
+use Rattle.uses.specs.Network.{Relays}
 
 -- a connection as a source
 abbrev pub source_at : Option (List ℕ) → Bool → SourceState
@@ -42,9 +42,6 @@ module _ (f : Form) (p : Properties) where
   relays_none sink = Puts-at refl (sym (settled_utf8-none as_is f p)) (Puts-none sink [])
 
   module _ (coming left : Option (List ℕ)) (old mid new : SinkState) (come : List ℕ) where
-    pub has_relayed : Consumes coming left come → Puts old mid [] (settled_utf8 as_is f p come) → HasRelayed f p coming left old.taken mid.taken
-    has_relayed read puts = record { come = come; read = read; written = subst (Appends old.taken mid.taken) (sym puts.behind) puts.given }
-
     pub relays_whole : (result : Result Tally Fault) → ((bytes : List ℕ) → Reads bytes (text_of bytes) (ending_of bytes)) → Consumes coming left come → IsAtEnd left → fault_in as_is p 0 come ≡ None
         → Puts old mid [] (settled_utf8 as_is f p come) → Finishes as_is f p 0 come mid new result → OnOk result (PassesWhole f p coming old.taken new.taken)
     relays_whole (Err fault) reads read end none puts finishes = tt

@@ -1,9 +1,9 @@
 -- A starter that walks over the marks behind it, and composes with those that nothing blocks (The Unicode Standard, section
 -- 3.11, D117).
 use Rattle.std.proofs.Common.{◌≡◌, ℕ, zero, suc, ◌||◌, ◌+◌, ◌<◌, ◌≤◌, max, false, leb, List, [], ◌∷◌, ◌++◌, length, map, take, get_or, Option, Some, None, refl, sym, ap, ◌∙◌, subst, arith, append_assoc}
-use Rattle.std.proofs.lemmas.Bool.{or_parts, eqb-false, lt-leb}
+use Rattle.std.proofs.lemmas.Bool.{or_parts, eqb-false}
 use Rattle.std.proofs.lemmas.Bool.Decides.{nat_tests}
-use Rattle.std.proofs.lemmas.List.{length-map, length-append, get_or-map, take_more, take_all}
+use Rattle.std.proofs.lemmas.List.{length-map, length-append, get_or-map, take_more}
 use Rattle.std.proofs.lemmas.List.Folds.{list_any-append}
 use Rattle.std.proofs.lemmas.List.Sums.{fold-append}
 use Rattle.std.specs.Prelude.{slice_set, if◌then◌else◌, fold}
@@ -23,9 +23,6 @@ pub record Walks (p : Properties) (before : List ℕ) (first : ℕ) (marks : Lis
   pub blocks : (m : List ℕ) → marks ≡ map (mark_of p) m → has_starter p m ≡ false → (k : ℕ) → 0 < k → list_any (λ x. leb k (p.class x)) left ≡ leb k highest
 
 module _ (p : Properties) (before : List ℕ) (first : ℕ) (marks : List Mark) where
-  pub walks_none : Walks p before first marks 0 0 first (before ++ first ∷ [])
-  walks_none = record { left = []; text_is = refl; room = omega arith; made = λ m same plain. refl; blocks = λ m same plain k above. sym (lt-leb k 0 above) }
-
   mark_at : (m : List ℕ) (i : ℕ) (mark : Mark) → marks ≡ map (mark_of p) m → i < length marks → mark ≡ get_or marks i mark → mark ≡ mark_of p (get_or m i 0)
   mark_at m i mark same below read =
       let long : length marks ≡ length m = ap (λ v. length v) same ∙ length-map m (mark_of p) in
@@ -88,10 +85,3 @@ module _ (p : Properties) (before : List ℕ) (first : ℕ) (marks : List Mark) 
   set-behind : (xs : List ℕ) (v : List ℕ) (c : ℕ) → slice_set (xs ++ first ∷ v) (length xs) c ≡ xs ++ c ∷ v
   set-behind [] v c = refl
   set-behind (x ∷ xs) v c = ap (λ w. x ∷ w) (set-behind xs v c)
-
-  pub walks_all : (highest starter : ℕ) (text : List ℕ) (i : ℕ) → Walks p before first marks i highest starter text → length marks ≤ i
-      → (m : List ℕ) → marks ≡ map (mark_of p) m → has_starter p m ≡ false → slice_set text (length before) starter ≡ before ++ fold (join p) (first ∷ []) m
-  walks_all highest starter text i w past m same plain =
-      let long : length marks ≡ length m = ap (λ v. length v) same ∙ length-map m (mark_of p) in
-      ap (λ v. slice_set v (length before) starter) w.text_is ∙ set-behind before w.left starter
-      ∙ sym (ap (λ v. before ++ fold (join p) (first ∷ []) v) (sym (take_all i m (omega arith))) ∙ ap (λ v. before ++ v) (w.made m same plain))

@@ -1,8 +1,6 @@
 -- Calm text is its own form, whatever stands before it, and what is settled there; a character more.
 use Rattle.std.proofs.Common.{◌≡◌, ℕ, ◌≤◌, ◌+◌, inl, inr, Bool, true, false, cond, List, [], ◌∷◌, ◌++◌, refl, sym, ap, subst, ◌∙◌, arith, append-nil, append_assoc, length, not}
-use Rattle.std.proofs.lemmas.Bool.{cond-true, cond-false, or_left, or_from, and_from, ne_eqb, le-leb}
-use Rattle.std.proofs.lemmas.List.Folds.{list_all-append}
-use Rattle.std.specs.List.{list_all}
+use Rattle.std.proofs.lemmas.Bool.{cond-true, cond-false, or_left, or_from, ne_eqb, le-leb}
 use Rattle.std.specs.Prelude.{if◌then◌else◌}
 use Rattle.nf_forms.specs.Properties.{Properties, is_starter}
 use Rattle.nf_forms.specs.Runs.{has_starter, lead, trail}
@@ -12,7 +10,6 @@ use Rattle.nf_forms.specs.declared.form.Form.TheVariants.{Nfc, Nfd, Nfkc, Nfkd}
 use Rattle.nf_forms.specs.Forms.{row_of, decomposed, composes, arranged, normal_form}
 use Rattle.nf_forms.specs.StreamSafe.{max_run, stream_safe}
 use Rattle.nf_forms.specs.Order.{by_class}
-use Rattle.nf_forms.specs.Sound.{is_sound}
 use Rattle.nf_forms.specs.Laws.Runs.{has_starter-append}
 use Rattle.nf_forms.specs.Laws.Front.{has_starter-at, front-append_some, marks_push}
 use Rattle.nf_forms.specs.Laws.Sound.{IsSoundText}
@@ -196,10 +193,6 @@ module _ (p : Properties) where
 
     pub safe_form-calm : safe_form f p (x ++ cs) ≡ safe_form f p x ++ cs
     safe_form-calm = (both cs calm).1
-
-    pub sound-calm : IsSoundText p cs → IsSoundText p (stream_safe p (x ++ cs))
-    sound-calm members =
-        ap (list_all (is_sound p)) stream_safe-calm ∙ list_all-append (is_sound p) (stream_safe p x) cs ∙ and_from _ _ sound members
 
   module _ (f : Form) (c : ℕ) (cs : List ℕ) (class count : ℕ) (calm : IsCalm p f (c ∷ cs) class count) (x : List ℕ) (sound : IsSoundText p (stream_safe p x)) where
     -- what is settled

@@ -105,7 +105,6 @@ module _ (p : Properties) (f : Form) where
     pub count : last_run p (stream_safe p (x ++ y)) ≡ last_run p (last ∷ marks)
     pub alone_safe : stream_safe p (last ∷ marks) ≡ last ∷ marks
     pub alone_settled : front p (safe_form f p (last ∷ marks)) ≡ []
-    pub alone_rows : decomposed f p (last ∷ marks) ≡ row_of f p last ++ marks
     pub anew : BeginsAnew p f last
 
   goes_on : (c : ℕ) (cs : List ℕ) (class count : ℕ) → IsCalm p f (c ∷ cs) class count → (end : CalmEnd p f (c ∷ cs)) → IsCalm p f (end.last ∷ end.marks) class count
@@ -119,7 +118,6 @@ module _ (p : Properties) (f : Form) where
         count = counted-end c cs class count calm end x sound;
         alone_safe = alone.0;
         alone_settled = ap (front p) alone.1 ∙ front-at p [] end.last end.marks end.parting.starts end.no_starter;
-        alone_rows = ap (λ v. row_of f p end.last ++ v) end.own_rows;
         anew = end.parting.anew;
       }
 

@@ -1,13 +1,13 @@
 -- Calm text grows at its end: the steps of a loop that looks at a character after the other.
-use Rattle.std.proofs.Common.{◌≡◌, ℕ, ◌<◌, ◌≤◌, ◌+◌, inl, inr, Bool, true, List, [], ◌∷◌, ◌++◌, refl, sym, subst, arith}
+use Rattle.std.proofs.Common.{◌≡◌, ℕ, inl, Bool, true, List, [], ◌∷◌, ◌++◌, refl, sym, subst, arith}
 use Rattle.std.proofs.lemmas.Bool.{and_parts}
 use Rattle.std.specs.List.{list_all}
 use Rattle.nf_forms.specs.Properties.{Properties}
 use Rattle.nf_forms.specs.declared.form.Form.{Form}
 use Rattle.nf_forms.specs.StreamSafe.{max_run}
 use Rattle.nf_forms.specs.Sound.{max_row, is_sound}
-use Rattle.nf_forms.specs.Parting.{IsParting, NeverSecond}
-use Rattle.nf_forms.specs.Calm.{IsMark, BeginsRun, GoesOn, IsCalmFrom, IsCalm}
+use Rattle.nf_forms.specs.Parting.{IsParting}
+use Rattle.nf_forms.specs.Calm.{BeginsRun, GoesOn, IsCalmFrom, IsCalm}
 use Rattle.nf_forms.specs.Laws.Runs.{trail-le-length}
 use Rattle.nf_forms.specs.Laws.Sound.{IsSound-from_test}
 
@@ -21,17 +21,6 @@ module _ (p : Properties) (f : Form) where
       (class', count', subst (λ a. GoesOn p f a n d class' count') (sym (calm.0)) (subst (λ a. GoesOn p f class a d class' count') (sym (calm.1)) more), (refl, refl))
   calm_from-push k n (c ∷ cs) class count calm d class' count' more =
       (calm.0, calm.1, calm.2, calm_from-push calm.0 calm.1 cs class count calm.3 d class' count' more)
-
-  -- one more that parts a text
-  pub calm-push_parting : (cs : List ℕ) (class count : ℕ) → IsCalm p f cs class count → (d count' : ℕ) → BeginsRun p f d count'
-      → IsCalm p f (cs ++ d ∷ []) 0 count'
-  calm-push_parting cs class count calm d count' begins = calm_from-push 0 max_run cs class count calm d 0 count' (inl begins)
-
-  -- one more mark
-  pub calm-push_mark : (cs : List ℕ) (class count : ℕ) → IsCalm p f cs class count → (d class' : ℕ) → IsMark p d class' → NeverSecond p f d → class ≤ class' → count < max_run
-      → IsCalm p f (cs ++ d ∷ []) class' (count + 1)
-  calm-push_mark cs class count calm d class' mark never up room =
-      calm_from-push 0 max_run cs class count calm d class' (count + 1) (inr (record { mark = mark; never_second = never; ordered = up; counted = omega arith; room = omega arith }))
 
   -- behind a sound character that parts a text NFKD ends in no more marks than a row has members
   pub begins_run : (c : ℕ) → IsParting p f c → is_sound p c ≡ true → BeginsRun p f c max_row

@@ -1,23 +1,19 @@
 -- Text from one normalization boundary to another: two such texts side by side, and such a text behind any other.
 use Rattle.std.proofs.Common.{◌≡◌, ℕ, true, List, [], ◌∷◌, ◌++◌, refl, sym, ap, subst, ◌∙◌, arith}
-use Rattle.std.proofs.lemmas.Bool.{and_from, or_left}
+use Rattle.std.proofs.lemmas.Bool.{and_from}
 use Rattle.std.proofs.lemmas.List.Folds.{list_all-append}
 use Rattle.nf_forms.specs.Properties.{Properties}
 use Rattle.nf_forms.specs.declared.form.Form.{Form}
 use Rattle.nf_forms.specs.declared.form.Form.TheVariants.{Nfkd}
-use Rattle.nf_forms.specs.Runs.{has_starter}
-use Rattle.nf_forms.specs.Front.{front}
-use Rattle.nf_forms.specs.Forms.{decomposed, composes, finished, normal_form}
+use Rattle.nf_forms.specs.Forms.{normal_form}
 use Rattle.nf_forms.specs.StreamSafe.{stream_safe}
 use Rattle.nf_forms.specs.SafeForm.{safe_form}
 use Rattle.nf_forms.specs.Sound.{is_sound}
 use Rattle.nf_forms.specs.Parting.{IsBoundary}
 use Rattle.nf_forms.specs.Closed.{BeginsAtBoundary, HasForm}
-use Rattle.nf_forms.specs.Laws.Runs.{has_starter-append}
-use Rattle.nf_forms.specs.Laws.Front.{front-append_some}
 use Rattle.nf_forms.specs.Laws.Sound.{IsSoundText}
-use Rattle.nf_forms.specs.Laws.StreamSafe.{decomposed-append, trail-stream_safe-le}
-use Rattle.nf_forms.specs.Laws.Parting.{last_run, run-behind, has_starter-arranged, safe_step-room, stream_safe-boundary, normal_form-boundary}
+use Rattle.nf_forms.specs.Laws.StreamSafe.{trail-stream_safe-le}
+use Rattle.nf_forms.specs.Laws.Parting.{safe_step-room, stream_safe-boundary, normal_form-boundary}
 
 module _ (p : Properties) (f : Form) where
   -- the count begins anew at a boundary, so the stream-safe text is cut there
@@ -76,30 +72,3 @@ module _ (p : Properties) (f : Form) where
       safe = safe-alone;
       form = refl;
     }
-
-    some-alone : has_starter p (normal_form f p (c ∷ [])) ≡ true
-    some-alone =
-        ap (λ row. has_starter p (finished f p (row ++ []))) boundary.anew.row
-        ∙ has_starter-arranged p (composes f) boundary.anew.first (boundary.anew.rest ++ []) boundary.anew.starter
-
-    module _ (x : List ℕ) (sound : IsSoundText p (stream_safe p x)) where
-      safe-behind : stream_safe p (x ++ c ∷ []) ≡ stream_safe p x ++ stream_safe p (c ∷ [])
-      safe-behind = stream_safe-at_boundary x (c ∷ []) sound HasForm-alone.begins
-
-      -- it settles all that stands before it
-      pub front-behind_boundary : front p (safe_form f p (x ++ c ∷ [])) ≡ safe_form f p x ++ front p (safe_form f p (c ∷ []))
-      unfolding safe_form
-      front-behind_boundary =
-          ap (front p) (safe_form-closed x (c ∷ []) (normal_form f p (c ∷ [])) sound HasForm-alone)
-          ∙ front-append_some p (safe_form f p x) (normal_form f p (c ∷ [])) some-alone
-          ∙ ap (λ k. safe_form f p x ++ front p (normal_form f p k)) (sym safe-alone)
-
-      pub decomposed-behind_boundary : decomposed f p (stream_safe p (x ++ c ∷ [])) ≡ decomposed f p (stream_safe p x) ++ decomposed f p (stream_safe p (c ∷ []))
-      decomposed-behind_boundary = ap (decomposed f p) safe-behind ∙ decomposed-append p f (stream_safe p x) (stream_safe p (c ∷ []))
-
-      -- the count of the Stream-Safe Text Process begins anew
-      pub last_run-behind_boundary : last_run p (stream_safe p (x ++ c ∷ [])) ≡ last_run p (stream_safe p (c ∷ []))
-      last_run-behind_boundary =
-          ap (last_run p) safe-behind
-          ∙ run-behind p (stream_safe p x) (stream_safe p (c ∷ []))
-          (ap (λ k. has_starter p (decomposed Nfkd p k)) safe-alone ∙ has_starter-append p (p.compat c) [] ∙ or_left _ _ boundary.counts.some)

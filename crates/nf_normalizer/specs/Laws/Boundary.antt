@@ -80,6 +80,13 @@ module _ (p : Properties) where
           ap (λ l. front p (normal_form f p l)) safe ∙ ap (front p) (normal_form-at_boundary p f (stream_safe p x) (stream_safe p (boundary.first ∷ more)) begun_safe)
           ∙ front-append_some p (normal_form f p (stream_safe p x)) (normal_form f p (stream_safe p (boundary.first ∷ more))) some))
 
+      -- the whole forms stand one behind the other
+      pub safe_form-behind : encode_utf8_all (safe_form f p x) ++ encode_utf8_all (safe_form f p (boundary.first ∷ more)) ≡ encode_utf8_all (safe_form f p (x ++ boundary.first ∷ more))
+      unfolding safe_form
+      safe_form-behind =
+          sym (encodes-append (safe_form f p x) (safe_form f p (boundary.first ∷ more)))
+          ∙ ap encode_utf8_all (sym (ap (normal_form f p) safe ∙ normal_form-at_boundary p f (stream_safe p x) (stream_safe p (boundary.first ∷ more)) begun_safe))
+
       pub usable_both : is_usable p (boundary.first ∷ more) ≡ true → is_usable p (x ++ boundary.first ∷ more) ≡ true
       unfolding is_usable
       usable_both all = subst (IsSoundText p) (sym safe) (sound-append p f (stream_safe p x) (stream_safe p (boundary.first ∷ more)) sound all)

@@ -1,26 +1,24 @@
 -- The stream-safe text is the text's greedy cut with a joiner between each two pieces.
 use Rattle.std.proofs.Common.{◌≡◌, ℕ, zero, suc, ◌+◌, ◌<◌, ◌≤◌, Bool, true, false, not, ◌&&◌, List, [], ◌∷◌, ◌++◌, length, take, drop, refl, sym, ap, ap₂, ◌∙◌, subst, arith, append-nil, append_assoc, le-ltb, length-drop, ◌⊎◌, inl, inr, ⊎_elim}
-use Rattle.std.specs.Prelude.{if◌then◌else◌, fold, IsTrue, IsFalse}
+use Rattle.std.specs.Prelude.{if◌then◌else◌, fold}
 use Rattle.std.specs.List.{list_all}
-use Rattle.std.proofs.lemmas.Bool.{cond-true, cond-false, and_parts, and_from, leb-true, le-leb, true_from_ne_false, false≢true}
+use Rattle.std.proofs.lemmas.Bool.{cond-true, and_parts, and_from, leb-true, false≢true}
 use Rattle.std.proofs.lemmas.List.{length-append, length-take, take-append-drop}
 use Rattle.std.proofs.lemmas.List.Folds.{list_all-append}
 use Rattle.std.proofs.lemmas.List.Sums.{fold-append}
 use Rattle.std.proofs.Math.Seq.{take-append_seam, drop-append_seam, take-length}
 use Rattle.nf_forms.specs.Properties.{Properties}
 use Rattle.nf_forms.specs.declared.form.Form.TheVariants.{Nfkd}
-use Rattle.nf_forms.specs.Runs.{lead, trail, longest}
-use Rattle.nf_forms.specs.Forms.{decomposed}
+use Rattle.nf_forms.specs.Runs.{lead}
 use Rattle.nf_forms.specs.StreamSafe.{joiner, max_run, is_too_long, parted, safe_step, stream_safe}
 use Rattle.nf_forms.specs.Sound.{max_row, is_sound}
 use Rattle.nf_forms.specs.Laws.Last.{by_last}
 use Rattle.nf_forms.specs.Laws.Runs.{lead-le-length}
-use Rattle.nf_forms.specs.Laws.Sound.{JoinerIsPlain, IsSoundText, IsSound-from_test, JoinerIsPlain-from_sound, sound_last}
+use Rattle.nf_forms.specs.Laws.Sound.{IsSoundText, IsSound-from_test, JoinerIsPlain-from_sound, sound_last}
 use Rattle.nf_forms.specs.Laws.StreamSafe.{stream_safe-push, sound-safe_step, trail-decomposed-joiner}
 use Rattle.nf_forms.specs.Laws.Parting.{safe_step-room}
 use Rattle.nf_forms.specs.Laws.Closing.{safe-closed}
 use Rattle.nf_forms.specs.Laws.Audited.{stream_safe-short}
-use Rattle.nf_safe.specs.Count.{passes}
 use Rattle.nf_safe.specs.LongestFront.{longest_front, IsLongestFront}
 use Rattle.nf_safe.specs.Place.{is_in_format}
 use Rattle.nf_safe.specs.Pieces.{IsGreedyCut, rejoined}

@@ -1,4 +1,4 @@
-use Rattle.std.proofs.Common.{◌≤◌, ◌<◌, ◌∙◌, arith}
+use Rattle.std.proofs.Common.{◌≤◌, ◌<◌, arith}
 use Rattle.nf_forms.specs.Ucd.{ucd}
 use Rattle.nf_row.specs.Kind.{IsOwn}
 use Rattle.nf_row.proofs.letter_row.letter_row.Goals as goal

@@ -57,44 +57,9 @@ returns-in-Ok-clause-steps g c = λ f place x start standing here.
     (c.in_default.ensures.writes (apart start) (standing.given ++ c.args.block.now.room.items) (written-all f p start c.args.self.now old x (chars text) standing)) in
     let new : Counted = record c.args.self.now { normalizer = c.step.new.self; put = c.args.self.now.put + c.in-Taken.put } in
     let steps = rw c.in-Taken.is at (c.step.ensures.steps f x (given_to start moved.given) moved.stands) in
-    step-stands f p start place x text c.args.self.now new (block_state (g.S.Sink.state c.push_text.new.sink) c.push_text.new.self) moved.given (c.step.new.room.items ++ c.in-Taken.same.now) c.in-Taken.rest.now c.in-Taken.put standing.put refl steps
-    ((moved.given ++ c.step.new.room.items) ++ c.in-Taken.same.now) (append_assoc moved.given c.step.new.room.items c.in-Taken.same.now)
+    step-stands f p start place x text c.args.self.now new (block_state (g.S.Sink.state c.push_form.new.sink) c.push_form.new.self) moved.given (c.step.new.room.items ++ (c.in-Taken.same.now ++ encode_utf8_all c.step.new.formed.items)) c.in-Taken.rest.now c.in-Taken.put standing.put refl steps
+    ((moved.given ++ c.step.new.room.items) ++ (c.in-Taken.same.now ++ encode_utf8_all c.step.new.formed.items)) (append_assoc moved.given c.step.new.room.items (c.in-Taken.same.now ++ encode_utf8_all c.step.new.formed.items))
     (c.in-Ok.ensures.writes (apart start) (moved.given ++ c.step.new.room.items) (record { given = moved.given; puts = moved.puts; text = refl }))
-
-pub returns-in-Err-push_text-clause-steps : goal.returns-in-Err-push_text-clause-steps
-returns-in-Err-push_text-clause-steps g c = λ f place x start standing here.
-    let p = g.R.Rows.properties c.args.rows.now in
-    let old = block_state (g.S.Sink.state c.args.sink.now) c.args.block.now in
-    let text = c.args.text.now in
-    let moved = Standing-moved f p start c.args.self.now old (block_state (g.S.Sink.state c.make_room.new.sink) c.make_room.new.self) x (chars text) standing
-    (c.in_default.ensures.writes (apart start) (standing.given ++ c.args.block.now.room.items) (written-all f p start c.args.self.now old x (chars text) standing)) in
-    let new : Counted = record c.args.self.now { normalizer = c.step.new.self; put = c.args.self.now.put + c.in-Taken.put } in
-    let steps = rw c.in-Taken.is at (c.step.ensures.steps f x (given_to start moved.given) moved.stands) in
-    step-failed f p start place x text c.args.self.now new (block_state (g.S.Sink.state c.push_text.new.sink) c.push_text.new.self) moved.given (c.step.new.room.items ++ c.in-Taken.same.now) c.in-Taken.rest.now c.in-Taken.put standing.put refl steps
-    ((moved.given ++ c.step.new.room.items) ++ c.in-Taken.same.now) (append_assoc moved.given c.step.new.room.items c.in-Taken.same.now)
-    (c.in-Err-push_text.ensures.writes (apart start) (moved.given ++ c.step.new.room.items) (record { given = moved.given; puts = moved.puts; text = refl }))
-
-pub returns-in-Ok-push_form-clause-passes : goal.returns-in-Ok-push_form-clause-passes
-returns-in-Ok-push_form-clause-passes g c = record {
-  n = c.in-Closed.put;
-  leaves = rw c.in-Closed.is at c.step.ensures.passes;
-  within = rw c.in-Closed.is at c.step.ensures.within;
-  count = refl;
-  put = refl;
-}
-
-pub returns-in-Ok-push_form-clause-steps : goal.returns-in-Ok-push_form-clause-steps
-returns-in-Ok-push_form-clause-steps g c = λ f place x start standing here.
-    let p = g.R.Rows.properties c.args.rows.now in
-    let old = block_state (g.S.Sink.state c.args.sink.now) c.args.block.now in
-    let text = c.args.text.now in
-    let moved = Standing-moved f p start c.args.self.now old (block_state (g.S.Sink.state c.make_room.new.sink) c.make_room.new.self) x (chars text) standing
-    (c.in_default.ensures.writes (apart start) (standing.given ++ c.args.block.now.room.items) (written-all f p start c.args.self.now old x (chars text) standing)) in
-    let new : Counted = record c.args.self.now { normalizer = c.step.new.self; put = c.args.self.now.put + c.in-Closed.put } in
-    let steps = rw c.in-Closed.is at (c.step.ensures.steps f x (given_to start moved.given) moved.stands) in
-    step-stands f p start place x text c.args.self.now new (block_state (g.S.Sink.state c.push_form.new.sink) c.push_form.new.self) moved.given (c.step.new.room.items ++ (c.in-Closed.closed.same.now ++ encode_utf8_all c.step.new.formed.items)) c.in-Closed.closed.rest.now c.in-Closed.put standing.put refl steps
-    ((moved.given ++ c.step.new.room.items) ++ (c.in-Closed.closed.same.now ++ encode_utf8_all c.step.new.formed.items)) (append_assoc moved.given c.step.new.room.items (c.in-Closed.closed.same.now ++ encode_utf8_all c.step.new.formed.items))
-    (c.in-Ok-push_form.ensures.writes (apart start) (moved.given ++ c.step.new.room.items) (record { given = moved.given; puts = moved.puts; text = refl }))
 
 pub returns-in-Err-push_form-clause-steps : goal.returns-in-Err-push_form-clause-steps
 returns-in-Err-push_form-clause-steps g c = λ f place x start standing here.
@@ -103,14 +68,11 @@ returns-in-Err-push_form-clause-steps g c = λ f place x start standing here.
     let text = c.args.text.now in
     let moved = Standing-moved f p start c.args.self.now old (block_state (g.S.Sink.state c.make_room.new.sink) c.make_room.new.self) x (chars text) standing
     (c.in_default.ensures.writes (apart start) (standing.given ++ c.args.block.now.room.items) (written-all f p start c.args.self.now old x (chars text) standing)) in
-    let new : Counted = record c.args.self.now { normalizer = c.step.new.self; put = c.args.self.now.put + c.in-Closed.put } in
-    let steps = rw c.in-Closed.is at (c.step.ensures.steps f x (given_to start moved.given) moved.stands) in
-    step-failed f p start place x text c.args.self.now new (block_state (g.S.Sink.state c.push_form.new.sink) c.push_form.new.self) moved.given (c.step.new.room.items ++ (c.in-Closed.closed.same.now ++ encode_utf8_all c.step.new.formed.items)) c.in-Closed.closed.rest.now c.in-Closed.put standing.put refl steps
-    ((moved.given ++ c.step.new.room.items) ++ (c.in-Closed.closed.same.now ++ encode_utf8_all c.step.new.formed.items)) (append_assoc moved.given c.step.new.room.items (c.in-Closed.closed.same.now ++ encode_utf8_all c.step.new.formed.items))
+    let new : Counted = record c.args.self.now { normalizer = c.step.new.self; put = c.args.self.now.put + c.in-Taken.put } in
+    let steps = rw c.in-Taken.is at (c.step.ensures.steps f x (given_to start moved.given) moved.stands) in
+    step-failed f p start place x text c.args.self.now new (block_state (g.S.Sink.state c.push_form.new.sink) c.push_form.new.self) moved.given (c.step.new.room.items ++ (c.in-Taken.same.now ++ encode_utf8_all c.step.new.formed.items)) c.in-Taken.rest.now c.in-Taken.put standing.put refl steps
+    ((moved.given ++ c.step.new.room.items) ++ (c.in-Taken.same.now ++ encode_utf8_all c.step.new.formed.items)) (append_assoc moved.given c.step.new.room.items (c.in-Taken.same.now ++ encode_utf8_all c.step.new.formed.items))
     (c.in-Err-push_form.ensures.writes (apart start) (moved.given ++ c.step.new.room.items) (record { given = moved.given; puts = moved.puts; text = refl }))
 
 pub overflow_add-self : goal.overflow_add-self
 overflow_add-self g c = let leaves = rw c.in-Taken.is at c.step.ensures.passes in omega (arith, leaves.few, ap length leaves.is_front, length-append leaves.front (chars c.in-Taken.rest.now), c.requires.counts)
-
-pub overflow_add-self-in-Closed : goal.overflow_add-self-in-Closed
-overflow_add-self-in-Closed g c = let leaves = rw c.in-Closed.is at c.step.ensures.passes in omega (arith, leaves.few, ap length leaves.is_front, length-append leaves.front (chars c.in-Closed.closed.rest.now), c.requires.counts)

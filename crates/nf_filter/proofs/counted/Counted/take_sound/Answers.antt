@@ -4,7 +4,7 @@ use Rattle.nf_filter.specs.Block.{block_state}
 use Rattle.nf_filter.proofs.SoundnessLemmas.{usable_is}
 use Rattle.nf_filter.proofs.TakingLemmas.{HasPlaces-all}
 use Rattle.nf_filter.proofs.SteppingLemmas.{Standing-taken}
-use Rattle.nf_filter.proofs.MendingLemmas.{place_behind, placed_behind, sound-broken, sound-written}
+use Rattle.nf_filter.proofs.MendingLemmas.{place_behind, placed_behind, sound-behind}
 use Rattle.nf_filter.proofs.counted.Counted.take_sound.Goals as goal
 
 pub take_text-requires-clause-counts : goal.take_text-requires-clause-counts
@@ -15,22 +15,9 @@ take_text-requires-clause-counts g c =
 pub take_text-requires-clause-fits : goal.take_text-requires-clause-fits
 take_text-requires-clause-fits g c = HasPlaces-all 0 c.args.text.now c.utf8.text (omega (arith, c.requires.fits))
 
-pub returns-in-Err-clause-takes : goal.returns-in-Err-clause-takes
-returns-in-Err-clause-takes g c = λ f x start taken written.
+pub returns-clause-takes : goal.returns-clause-takes
+returns-clause-takes g c = λ f x start taken written.
     let p = g.R.Rows.properties c.args.rows.now in
     let text = chars c.args.text.now in
-    let place = place_behind x 0 in
-    let stopped = c.in-Err.ensures.takes f place x start taken.chars (Standing-taken f p start c.args.self.now _ x text taken written) (placed_behind x text 0) in (
-      usable_is p c.requires.sound (x ++ text),
-      sound-broken f p start (block_state (g.S.Sink.state c.take_text.new.sink) c.take_text.new.block) place (x ++ text) (usable_is p c.requires.sound (x ++ text)) c.take_text.new.self c.in-Err.field-0 stopped,
-    )
-
-pub returns-in-Ok-clause-takes : goal.returns-in-Ok-clause-takes
-returns-in-Ok-clause-takes g c = λ f x start taken written.
-    let p = g.R.Rows.properties c.args.rows.now in
-    let text = chars c.args.text.now in
-    let place = place_behind x 0 in
-    let after = c.in-Ok.ensures.takes f place x start taken.chars (Standing-taken f p start c.args.self.now _ x text taken written) (placed_behind x text 0) in (
-      after.taken,
-      sound-written f p start (block_state (g.S.Sink.state c.take_text.new.sink) c.take_text.new.block) place (x ++ text) (usable_is p c.requires.sound (x ++ text)) c.take_text.new.self after,
-    )
+    sound-behind f p start (block_state (g.S.Sink.state c.take_text.new.sink) c.take_text.new.block) (place_behind x 0) x text (usable_is p c.requires.sound (x ++ text)) c.take_text.new.self c.take_text.result c.map_err.result c.map_err.ensures.variant
+    (c.take_text.ensures.takes f (place_behind x 0) x start taken.chars (Standing-taken f p start c.args.self.now _ x text taken written) (placed_behind x text 0))

@@ -1,7 +1,6 @@
-use Rattle.std.proofs.Common.{refl, sym, ◌∙◌, arith}
+use Rattle.std.proofs.Common.{sym, ◌∙◌, arith}
 use Rattle.nf_forms.specs.Forms.{decomposed}
 use Rattle.nf_forms.specs.StreamSafe.{stream_safe}
-use Rattle.nf_normalizer.specs.Normalizer.{itself}
 use Rattle.nf_normalizer.proofs.RoomLemmas.{Holds-at}
 use Rattle.nf_normalizer.proofs.CharacterLemmas.{counting-is, HasRoom-without, HasRoom-with, Parts-without, Parts-with, Parts-stopped, settled_text-front}
 use Rattle.nf_normalizer.proofs.normalizer.Normalizer.make_room.Goals as goal
@@ -16,7 +15,7 @@ returns-then-not-step_by-clause-has_room g c =
 pub returns-then-not-step_by-clause-parts : goal.returns-then-not-step_by-clause-parts
 returns-then-not-step_by-clause-parts g c = λ f x start before holds.
     let p = g.R.Rows.properties c.args.rows.now in
-    Parts-without p f c.args.self.now x c.args._c before c.requires.sound itself _ _ start _ refl
+    Parts-without p f c.args.self.now x c.args._c before c.requires.sound _ start _
     (sym (c.step_by.ensures.answer p (p.compat c.args._c) c.requires.compat) ∙ c.if-not-step_by.true)
     (counting-is p c.args.self.now c.args._c _ (c.step_by.ensures.count p (p.compat c.args._c) c.requires.compat)) holds
 
@@ -31,7 +30,7 @@ returns-in-Ok-clause-has_room g c =
 pub returns-in-Ok-clause-parts : goal.returns-in-Ok-clause-parts
 returns-in-Ok-clause-parts g c = λ f x start before holds.
     let p = g.R.Rows.properties c.args.rows.now in
-    Parts-with p f c.args.self.now x c.args._c before c.requires.sound itself _ _ _ start _ refl
+    Parts-with p f c.args.self.now x c.args._c before c.requires.sound _ _ start _
     (sym (c.step_by.ensures.answer p (p.compat c.args._c) c.requires.compat) ∙ c.if-not-step_by.false)
     (counting-is p c.args.self.now c.args._c _ (c.step_by.ensures.count p (p.compat c.args._c) c.requires.compat))
     c.in-Ok.ensures.same (c.in-Ok.ensures.puts f (decomposed f p (stream_safe p x)) start before.pending (Holds-at (settled_text-front p f x) holds))
@@ -39,7 +38,7 @@ returns-in-Ok-clause-parts g c = λ f x start before holds.
 pub returns-in-Err-clause-parts : goal.returns-in-Err-clause-parts
 returns-in-Err-clause-parts g c = λ f x start before holds.
     let p = g.R.Rows.properties c.args.rows.now in
-    Parts-stopped p f c.args.self.now x c.args._c before c.requires.sound itself c.put_joiner.new.self start _ _
+    Parts-stopped p f c.args.self.now x c.args._c before c.requires.sound c.put_joiner.new.self start _ _
     (sym (c.step_by.ensures.answer p (p.compat c.args._c) c.requires.compat) ∙ c.if-not-step_by.false)
     (c.in-Err.ensures.puts f (decomposed f p (stream_safe p x)) start before.pending (Holds-at (settled_text-front p f x) holds))
 

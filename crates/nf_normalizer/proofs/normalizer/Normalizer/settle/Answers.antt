@@ -1,8 +1,20 @@
-use Rattle.std.proofs.Common.{encode_utf8_all}
+use Rattle.std.proofs.Common.{[], sym, ◌∙◌, append-nil, encode_utf8_all}
+use Rattle.nf_normalizer.specs.Normalizer.{settled_text}
 use Rattle.nf_normalizer.specs.Laws.Settled.{is_usable-none}
 use Rattle.nf_normalizer.proofs.RoomLemmas.{Holds-at, Holds-more}
 use Rattle.nf_normalizer.proofs.CharacterLemmas.{settled_text-rest}
 use Rattle.nf_normalizer.proofs.normalizer.Normalizer.settle.Goals as goal
+
+pub returns-then-is_empty-clause-anew : goal.returns-then-is_empty-clause-anew
+returns-then-is_empty-clause-anew g c = λ f x taken.
+    let p = g.R.Rows.properties c.args.rows.now in
+    record { usable = is_usable-none p; form = taken.form; plain = taken.plain; count = c.new-self.ensures.count; pending = (c.is_empty.ensures.none c.if-is_empty.true f p _ taken.pending).0 }
+
+pub returns-then-is_empty-clause-settles : goal.returns-then-is_empty-clause-settles
+returns-then-is_empty-clause-settles g c = λ f x start taken holds.
+    let p = g.R.Rows.properties c.args.rows.now in
+    let all = (c.is_empty.ensures.none c.if-is_empty.true f p _ taken.pending).1 in
+    Holds-at (sym (append-nil (settled_text f p x)) ∙ settled_text-rest p f x [] (append-nil _ ∙ all)) holds
 
 pub returns-clause-anew : goal.returns-clause-anew
 returns-clause-anew g c = λ f x taken.

@@ -2,7 +2,7 @@ use Rattle.std.proofs.Common.{◌≡◌, ℕ, ◌+◌, ◌<◌, [], ◌∷◌, �
 use Rattle.std.proofs.lemmas.Str.{encodes-chars, length-le-encodes}
 use mir.Val.{bool_byte}
 use Rattle.nf_normalizer.specs.Front.{one_if}
-use Rattle.nf_normalizer.proofs.FrontLemmas.{steps-on, StepsTo-none, StepsTo-more, StepsTo-at, StepsTo-as, leaves-all}
+use Rattle.nf_normalizer.proofs.FrontLemmas.{steps-on, StepsTo-none, StepsTo-more, StepsTo-at, leaves-all}
 use Rattle.nf_normalizer.proofs.normalizer.Normalizer.step.Goals as goal
 use Rattle.nf_normalizer.proofs.normalizer.Normalizer.step.Goals.{then-loop-room-test+else-len-ge-STEP, else-loop-room-test}
 
@@ -10,9 +10,13 @@ byte_of : (b : Bool) → bool_byte b ≡ one_if b
 byte_of true = refl
 byte_of false = refl
 
+-- nothing goes out
 nothing : (w : List ℕ) → length w ≡ 0 → w ≡ []
 nothing [] e = refl
 nothing (c ∷ w) e = cc
+
+nothing_out : (room same formed : List ℕ) → length same ≡ 0 → length formed ≡ 0 → room ++ (same ++ encode_utf8_all formed) ≡ room
+nothing_out room same formed e g = ap (λ l. room ++ (l ++ encode_utf8_all formed)) (nothing same e) ∙ ap (λ l. room ++ encode_utf8_all l) (nothing formed g) ∙ append-nil room
 
 pub loop-room-init : goal.loop-room-init
 loop-room-init g c = record {
@@ -27,82 +31,46 @@ loop-room-init g c = record {
 pub overflow_add-put : goal.overflow_add-put
 overflow_add-put g c =
     let gone = c.loop-room.invariant.gone in
-    let leaves = rw c.in-Taken.is at c.in-Ok.ensures.passes in
+    let leaves = c.in-Ok.ensures.passes in
     let text = c.args.text.now in
-    omega (arith, gone.2, leaves.few, c.from-put.ensures ∙ byte_of c.in-Taken.joined, ap length gone.1, ap length leaves.is_front, length-append gone.0 (chars c.loop-room.rest.now), length-append leaves.front (chars c.in-Taken.behind.now), length-le-encodes (chars text), ap length (encodes-chars text c.utf8.text), c.type_inv.text)
+    omega (arith, gone.2, leaves.few, c.from.ensures ∙ byte_of c.in-Ok.front.joined, ap length gone.1, ap length leaves.is_front, length-append gone.0 (chars c.loop-room.rest.now), length-append leaves.front (chars c.in-Ok.front.rest.now), length-le-encodes (chars text), ap length (encodes-chars text c.utf8.text))
 
 pub returns-then-not-is_empty-clause-passes : goal.returns-then-not-is_empty-clause-passes
 returns-then-not-is_empty-clause-passes g c =
-    let leaves = rw c.in-Taken.is at c.in-Ok.ensures.passes in
+    let leaves = c.in-Ok.ensures.passes in
     let gone = c.loop-room.invariant.gone in
-    leaves-all c.args.text.now c.in-Taken.behind.now (c.loop-room.put + c.from-put.result) (gone.0 ++ leaves.front) c.utf8.text (search rules)
-    (gone.1 ∙ ap (λ l. gone.0 ++ l) leaves.is_front ∙ sym (append_assoc gone.0 leaves.front (chars c.in-Taken.behind.now))) (omega (arith, gone.2, leaves.few, c.from-put.ensures ∙ byte_of c.in-Taken.joined, length-append gone.0 leaves.front)) (omega (arith, leaves.shorter, c.loop-room.invariant.left))
+    leaves-all c.args.text.now c.in-Ok.front.rest.now (c.loop-room.put + c.from.result) (gone.0 ++ leaves.front) c.utf8.text (search rules)
+    (gone.1 ∙ ap (λ l. gone.0 ++ l) leaves.is_front ∙ sym (append_assoc gone.0 leaves.front (chars c.in-Ok.front.rest.now))) (omega (arith, gone.2, leaves.few, c.from.ensures ∙ byte_of c.in-Ok.front.joined, length-append gone.0 leaves.front)) (omega (arith, leaves.shorter, c.loop-room.invariant.left))
 
 pub returns-then-not-is_empty-clause-steps : goal.returns-then-not-is_empty-clause-steps
 returns-then-not-is_empty-clause-steps g c = λ f x start stands.
     let p = g.R.Rows.properties c.args.rows.now in
+    let front = c.in-Ok.front in
     let before = c.loop-room.invariant.steps f x start stands in
-    let on = rw c.in-Taken.is at (steps-on p f c.take_front.new.self start c.take_front.new.room.items c.take_front.new.formed.items (x ++ before.front) c.loop-room.rest.now c.loop-room.self c.loop-room.room.items
-    (Ok c.in-Ok.front) c.in-Ok.ensures.passes c.in-Ok.ensures.takes before.stands) in
-    let more = StepsTo-more p f start x c.args.text.now c.loop-room.self c.take_front.new.self c.loop-room.room.items (c.take_front.new.room.items ++ c.in-Taken.same.now) c.loop-room.rest.now c.in-Taken.behind.now c.loop-room.put (one_if c.in-Taken.joined) before on in
-    StepsTo-as p f start x c.args.text.now c.take_front.new.self (c.take_front.new.room.items ++ c.in-Taken.same.now) c.in-Taken.behind.now (c.loop-room.put + one_if c.in-Taken.joined) (c.loop-room.put + c.from-put.result) (ap (λ n. c.loop-room.put + n) (sym (c.from-put.ensures ∙ byte_of c.in-Taken.joined))) more
-
-pub loop-room-preserved-else-not-is_empty : goal.loop-room-preserved-else-not-is_empty
-loop-room-preserved-else-not-is_empty g c =
-    let leaves = rw c.in-Taken.is at c.in-Ok.ensures.passes in
-    let gone = c.loop-room.invariant.gone in
-    let none : length c.in-Taken.same.now ≡ 0 = search rules in
-    record {
-      utf8 = search rules;
-      left = omega (arith, leaves.shorter, c.loop-room.invariant.left);
-      gone = (gone.0 ++ leaves.front, gone.1 ∙ ap (λ l. gone.0 ++ l) leaves.is_front ∙ sym (append_assoc gone.0 leaves.front (chars c.in-Taken.behind.now)), omega (arith, gone.2, leaves.few, c.from-put.ensures ∙ byte_of c.in-Taken.joined, length-append gone.0 leaves.front));
-      within = c.in-Ok.ensures.within;
-      begun = inl (omega (arith, leaves.shorter, c.loop-room.invariant.left));
-      steps = λ f x start stands.
-          let p = g.R.Rows.properties c.args.rows.now in
-          let before = c.loop-room.invariant.steps f x start stands in
-          let on = rw c.in-Taken.is at (steps-on p f c.take_front.new.self start c.take_front.new.room.items c.take_front.new.formed.items (x ++ before.front) c.loop-room.rest.now c.loop-room.self c.loop-room.room.items
-          (Ok c.in-Ok.front) c.in-Ok.ensures.passes c.in-Ok.ensures.takes before.stands) in
-          let more = StepsTo-more p f start x c.args.text.now c.loop-room.self c.take_front.new.self c.loop-room.room.items (c.take_front.new.room.items ++ c.in-Taken.same.now) c.loop-room.rest.now c.in-Taken.behind.now c.loop-room.put (one_if c.in-Taken.joined) before on in
-          StepsTo-as p f start x c.args.text.now c.take_front.new.self c.take_front.new.room.items c.in-Taken.behind.now (c.loop-room.put + one_if c.in-Taken.joined) (c.loop-room.put + c.from-put.result) (ap (λ n. c.loop-room.put + n) (sym (c.from-put.ensures ∙ byte_of c.in-Taken.joined)))
-          (StepsTo-at p f start x c.args.text.now c.take_front.new.self (c.take_front.new.room.items ++ c.in-Taken.same.now) c.take_front.new.room.items c.in-Taken.behind.now (c.loop-room.put + one_if c.in-Taken.joined)
-          (ap (λ l. c.take_front.new.room.items ++ l) (nothing c.in-Taken.same.now none) ∙ append-nil c.take_front.new.room.items) more);
-    }
-
-pub returns-then-not-put_form-clause-passes : goal.returns-then-not-put_form-clause-passes
-returns-then-not-put_form-clause-passes g c =
-    let leaves = rw c.in-Closed.is at c.in-Ok.ensures.passes in
-    let gone = c.loop-room.invariant.gone in
-    leaves-all c.args.text.now c.in-Closed.closed.rest.now c.loop-room.put (gone.0 ++ leaves.front) c.utf8.text (search rules)
-    (gone.1 ∙ ap (λ l. gone.0 ++ l) leaves.is_front ∙ sym (append_assoc gone.0 leaves.front (chars c.in-Closed.closed.rest.now))) (omega (arith, gone.2, length-append gone.0 leaves.front)) (omega (arith, leaves.shorter, c.loop-room.invariant.left))
-
-pub returns-then-not-put_form-clause-steps : goal.returns-then-not-put_form-clause-steps
-returns-then-not-put_form-clause-steps g c = λ f x start stands.
-    let p = g.R.Rows.properties c.args.rows.now in
-    let before = c.loop-room.invariant.steps f x start stands in
-    let on = rw c.in-Closed.is at (steps-on p f c.take_front.new.self start c.take_front.new.room.items c.take_front.new.formed.items (x ++ before.front) c.loop-room.rest.now c.loop-room.self c.loop-room.room.items
-    (Ok c.in-Ok.front) c.in-Ok.ensures.passes c.in-Ok.ensures.takes before.stands) in
-    let more = StepsTo-more p f start x c.args.text.now c.loop-room.self c.take_front.new.self c.loop-room.room.items (c.take_front.new.room.items ++ (c.in-Closed.closed.same.now ++ encode_utf8_all c.take_front.new.formed.items)) c.loop-room.rest.now c.in-Closed.closed.rest.now c.loop-room.put 0 before on in
-    rw (c.if-not-put_form.ensures.kept) (StepsTo-as p f start x c.args.text.now c.take_front.new.self (c.take_front.new.room.items ++ (c.in-Closed.closed.same.now ++ encode_utf8_all c.take_front.new.formed.items)) c.in-Closed.closed.rest.now (c.loop-room.put + 0) c.loop-room.put (let same : c.loop-room.put + 0 ≡ c.loop-room.put = omega arith in same) more)
+    let on = steps-on p f c.take_front.new.self start c.take_front.new.room.items (x ++ before.front) c.loop-room.rest.now c.take_front.new.formed.items c.loop-room.self c.loop-room.room.items (Ok front)
+    c.in-Ok.ensures.passes c.in-Ok.ensures.takes before.stands in
+    StepsTo-more p f start x c.args.text.now c.loop-room.self c.take_front.new.self c.loop-room.room.items (c.take_front.new.room.items ++ (front.same.now ++ encode_utf8_all c.take_front.new.formed.items)) c.loop-room.rest.now front.rest.now
+    c.loop-room.put (one_if front.joined) (c.loop-room.put + c.from.result) (ap (λ n. c.loop-room.put + n) (sym (c.from.ensures ∙ byte_of front.joined))) before on
 
 pub loop-room-preserved : goal.loop-room-preserved
 loop-room-preserved g c =
-    let leaves = rw c.in-Closed.is at c.in-Ok.ensures.passes in
+    let leaves = c.in-Ok.ensures.passes in
     let gone = c.loop-room.invariant.gone in
+    let front = c.in-Ok.front in
     record {
       utf8 = search rules;
       left = omega (arith, leaves.shorter, c.loop-room.invariant.left);
-      gone = (gone.0 ++ leaves.front, gone.1 ∙ ap (λ l. gone.0 ++ l) leaves.is_front ∙ sym (append_assoc gone.0 leaves.front (chars c.in-Closed.closed.rest.now)), omega (arith, gone.2, length-append gone.0 leaves.front));
+      gone = (gone.0 ++ leaves.front, gone.1 ∙ ap (λ l. gone.0 ++ l) leaves.is_front ∙ sym (append_assoc gone.0 leaves.front (chars front.rest.now)), omega (arith, gone.2, leaves.few, c.from.ensures ∙ byte_of front.joined, length-append gone.0 leaves.front));
       within = c.in-Ok.ensures.within;
       begun = inl (omega (arith, leaves.shorter, c.loop-room.invariant.left));
       steps = λ f x start stands.
           let p = g.R.Rows.properties c.args.rows.now in
           let before = c.loop-room.invariant.steps f x start stands in
-          let on = rw c.in-Closed.is at (steps-on p f c.take_front.new.self start c.take_front.new.room.items c.take_front.new.formed.items (x ++ before.front) c.loop-room.rest.now c.loop-room.self c.loop-room.room.items
-          (Ok c.in-Ok.front) c.in-Ok.ensures.passes c.in-Ok.ensures.takes before.stands) in
-          let more = StepsTo-more p f start x c.args.text.now c.loop-room.self c.take_front.new.self c.loop-room.room.items (c.take_front.new.room.items ++ (c.in-Closed.closed.same.now ++ encode_utf8_all c.take_front.new.formed.items)) c.loop-room.rest.now c.in-Closed.closed.rest.now c.loop-room.put 0 before on in
-          StepsTo-as p f start x c.args.text.now c.take_front.new.self c.put_form.new.room.items c.in-Closed.closed.rest.now (c.loop-room.put + 0) c.loop-room.put (let same : c.loop-room.put + 0 ≡ c.loop-room.put = omega arith in same)
-          (StepsTo-at p f start x c.args.text.now c.take_front.new.self (c.take_front.new.room.items ++ (c.in-Closed.closed.same.now ++ encode_utf8_all c.take_front.new.formed.items)) c.put_form.new.room.items c.in-Closed.closed.rest.now (c.loop-room.put + 0) (sym (c.if-not-put_form.ensures.put refl)) more);
+          let on = steps-on p f c.take_front.new.self start c.take_front.new.room.items (x ++ before.front) c.loop-room.rest.now c.take_front.new.formed.items c.loop-room.self c.loop-room.room.items (Ok front)
+          c.in-Ok.ensures.passes c.in-Ok.ensures.takes before.stands in
+          StepsTo-at p f start x c.args.text.now c.take_front.new.self (c.take_front.new.room.items ++ (front.same.now ++ encode_utf8_all c.take_front.new.formed.items)) c.take_front.new.room.items front.rest.now (c.loop-room.put + c.from.result) (nothing_out c.take_front.new.room.items front.same.now c.take_front.new.formed.items (search rules) (search rules))
+          (StepsTo-more p f start x c.args.text.now c.loop-room.self c.take_front.new.self c.loop-room.room.items (c.take_front.new.room.items ++ (front.same.now ++ encode_utf8_all c.take_front.new.formed.items)) c.loop-room.rest.now front.rest.now
+          c.loop-room.put (one_if front.joined) (c.loop-room.put + c.from.result) (ap (λ n. c.loop-room.put + n) (sym (c.from.ensures ∙ byte_of front.joined))) before on);
     }
 
 pub returns-in-Err-clause-steps : goal.returns-in-Err-clause-steps
@@ -112,8 +80,8 @@ returns-in-Err-clause-steps g c = λ f x start stands.
     record {
       front = before.front;
       is_front = before.is_front;
-      refuses = steps-on p f c.take_front.new.self start c.take_front.new.room.items c.take_front.new.formed.items (x ++ before.front) c.loop-room.rest.now c.loop-room.self c.loop-room.room.items
-          (Err c.in-Err.field-0) c.in-Err.ensures.passes c.in-Err.ensures.takes before.stands;
+      refuses = steps-on p f c.take_front.new.self start c.take_front.new.room.items (x ++ before.front) c.loop-room.rest.now c.take_front.new.formed.items c.loop-room.self c.loop-room.room.items (Err c.in-Err.field-0)
+          c.in-Err.ensures.passes c.in-Err.ensures.takes before.stands;
     }
 
 pub returns-clause-passes : goal.returns-clause-passes
@@ -127,8 +95,8 @@ returns-clause-passes g c =
 
 pub returns-clause-steps : goal.returns-clause-steps
 returns-clause-steps g c = λ f x start stands.
-    StepsTo-at (g.R.Rows.properties c.args.rows.now) f start x c.args.text.now c.loop-room.self c.loop-room.room.items (c.loop-room.room.items ++ []) c.loop-room.rest.now c.loop-room.put
-    (sym (append-nil c.loop-room.room.items)) (c.loop-room.invariant.steps f x start stands)
+    StepsTo-at (g.R.Rows.properties c.args.rows.now) f start x c.args.text.now c.loop-room.self c.loop-room.room.items (c.loop-room.room.items ++ encode_utf8_all c.clear.new.self.items) c.loop-room.rest.now c.loop-room.put
+    (sym (nothing_out c.loop-room.room.items [] c.clear.new.self.items refl (search rules))) (c.loop-room.invariant.steps f x start stands)
 
 pub returns-in-Err-clause-passes : goal.returns-in-Err-clause-passes
 returns-in-Err-clause-passes g c =

@@ -1,7 +1,6 @@
 use Rattle.std.proofs.Common.{[], ◌∷◌, refl, sym}
 use Rattle.nf_forms.specs.Forms.{decomposed}
 use Rattle.nf_forms.specs.StreamSafe.{parted, stream_safe}
-use Rattle.nf_normalizer.specs.Normalizer.{itself}
 use Rattle.nf_normalizer.proofs.CharacterLemmas.{row_of-single, room_for-single, within-single, ends-single, TakesChar-row}
 use Rattle.nf_normalizer.proofs.normalizer.Normalizer.take_single.Goals as goal
 
@@ -25,5 +24,5 @@ returns-clause-takes g c = λ f x start before holds.
     let p = g.R.Rows.properties c.args.rows.now in
     let parts = c.in-Ok.ensures.parts f x start before holds in
     let row = sym (row_of-single p c.args.self.now c.make_room.new.self c.args.c c.args.single c.requires.single c.in-Ok.ensures.form) in
-    TakesChar-row p f itself _ c.make_room.new.self _ start _ _ x (c.args.single.member ∷ []) c.args.c parts row refl
+    TakesChar-row p f c.make_room.new.self _ start _ _ x (c.args.single.member ∷ []) c.args.c _ parts row refl
     (c.push_of_class.ensures.pushes f (decomposed f p (parted p (stream_safe p x) c.args.c)) start parts.0.pending parts.1)

@@ -1,5 +1,4 @@
 use Rattle.std.proofs.Common.{◌≡◌, ℕ, None, Some, refl, sym, ◌∙◌, rules, Option, option_map}
-use Rattle.nf_safe.specs.declared.place.Place.{Place}
 use Rattle.nf_safe.specs.Place.{place, place_at}
 use Rattle.nf_safe.specs.Laws.Place.{place-none, place_from-in_format}
 use Rattle.nf_safe.specs.Laws.Pieces.{stream_safe-in_format, in_format-unchanged}

@@ -12,15 +12,15 @@ returns-then-step_by-clause-stands g c =
     let p = g.R.Rows.properties c.args.rows.now in
     let few : length (p.compat c.args.c) ≤ max_row = (IsSound-from_test p c.args.c (sym c.in-Some.ensures.sound)).compat_few in
     λ base x before. leaves base p c.args.self.now x c.args.c before _ c.if-self.false few
-    (sym (c.step_by.ensures.answer p (p.compat c.args.c) c.in-Some.ensures.compat) ∙ c.if-step_by.true) refl
+    (sym (c.step_by.ensures.answer p (p.compat c.args.c) c.in-Some.ensures.ends) ∙ c.if-step_by.true) refl
 
 pub returns-clause-stands : goal.returns-clause-stands
 returns-clause-stands g c =
     let p = g.R.Rows.properties c.args.rows.now in
     let few : length (p.compat c.args.c) ≤ max_row = (IsSound-from_test p c.args.c (sym c.in-Some.ensures.sound)).compat_few in
     λ base x before. goes_on base p c.args.self.now x c.args.c before _ c.if-self.false few
-    (sym (c.step_by.ensures.answer p (p.compat c.args.c) c.in-Some.ensures.compat) ∙ c.if-step_by.false) c.if-self.false refl
-    (ap (λ n. c.args.self.now.reached.bytes + n) c.len_utf8-len.ensures.len) (c.step_by.ensures.count p (p.compat c.args.c) c.in-Some.ensures.compat)
+    (sym (c.step_by.ensures.answer p (p.compat c.args.c) c.in-Some.ensures.ends) ∙ c.if-step_by.false) c.if-self.false refl
+    (ap (λ n. c.args.self.now.reached.bytes + n) c.len_utf8-len.ensures.len) (c.step_by.ensures.count p (p.compat c.args.c) c.in-Some.ensures.ends)
 
 -- It stands so that a wrong body is refused at once: without it the prover would run once more, to offer an answer.
 pub returns-in_default-clause-refused : goal.returns-in_default-clause-refused

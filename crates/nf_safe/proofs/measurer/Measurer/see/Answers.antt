@@ -21,7 +21,7 @@ returns-clause-stands g c = λ x before.
       | else-is_parted-via-then-is_parted+else-not-sound w ↦ sym w.sound.ensures ∙ w.if-not-sound.false
       | else-is_parted-via-else-is_parted w ↦ let absent : true ≡ false = sym parted ∙ w.if-is_parted.false in cc
     ] in
-    let ends = c.in-Some.ensures.compat in
+    let ends = c.in-Some.ensures.ends in
     goes_on p c.args.self.now x c.args.c before _ c.step_by-is_parted.result (sym c.in-Some.ensures.sound) (sym (c.step_by-is_parted.ensures.answer p _ ends)) joins
     (c.step_by-is_parted.ensures.count p _ ends)
     (subst (λ k. HasRuns p c.push_row.new.self (decomposed Nfkd p x ++ k)) c.in-Some.ensures.row (c.push_row.ensures.runs _ before.runs))

@@ -1,10 +1,8 @@
-use Rattle.std.proofs.Common.{ℕ, refl, sym}
-use Rattle.arrayvec.specs.ArrayVec.{ArrayVec}
-use Rattle.nf_forms.specs.Forms.{decomposed}
+use Rattle.std.proofs.Common.{refl, sym}
+use Rattle.nf_forms.specs.Forms.{row_of, decomposed}
 use Rattle.nf_forms.specs.StreamSafe.{parted, stream_safe}
-use Rattle.nf_normalizer.specs.Normalizer.{is_joined}
 use Rattle.nf_normalizer.proofs.CharacterLemmas.{is_usable-unsound, TakesChar-row}
-use Rattle.nf_normalizer.proofs.normalizer.Normalizer.take_rows.Goals as goal
+use Rattle.nf_normalizer.proofs.normalizer.Normalizer.take_row.Goals as goal
 
 pub returns-in_default-clause-takes : goal.returns-in_default-clause-takes
 returns-in_default-clause-takes g c = λ f x start before holds.
@@ -14,5 +12,5 @@ pub returns-clause-takes : goal.returns-clause-takes
 returns-clause-takes g c = λ f x start before holds.
     let p = g.R.Rows.properties c.args.rows.now in
     let parts = c.in-Ok.ensures.parts f x start before holds in
-    TakesChar-row p f (is_joined {T = ArrayVec ℕ}) c.in-Ok.parted c.part.new.self _ start _ _ x c.in-Ok.parted.1.items c.args.c parts c.in-Ok.ensures.row refl
-    (rw c.as_slice.ensures.value at (c.push_members.ensures.pushes f (decomposed f p (parted p (stream_safe p x) c.args.c)) start parts.0.pending parts.1))
+    TakesChar-row p f c.make_room.new.self _ start _ _ x (row_of c.make_room.new.self.form p c.args.c) c.args.c _ parts refl refl
+    (c.push_decomposition.ensures.pushes f (decomposed f p (parted p (stream_safe p x) c.args.c)) start parts.0.pending parts.1)
