@@ -1,5 +1,5 @@
 -- A front of the bytes that is replaced: ill-formed parts, one behind the other or with text between them.
-use Rattle.std.proofs.Common.{◌≡◌, ℕ, ◌+◌, Bool, true, false, List, [], ◌++◌, length, drop, refl, sym, ap, ◌∙◌, subst, arith, append-nil, length-drop}
+use Rattle.std.proofs.Common.{◌≡◌, ℕ, ◌+◌, true, List, [], ◌++◌, length, drop, refl, sym, ap, ◌∙◌, subst, arith, append-nil, length-drop}
 use Rattle.nf_forms.specs.Properties.{Properties}
 use Rattle.nf_forms.specs.declared.form.Form.{Form}
 use Rattle.nf_utf8.specs.Broken.{IsReplacedFront}
@@ -18,7 +18,7 @@ use Rattle.nf_filter.specs.Policy.{allowed, text_under}
 use Rattle.nf_filter.specs.Settled.{is_usable}
 use Rattle.nf_filter.proofs.BlockLemmas.{Written-at}
 use Rattle.nf_filter.proofs.BlockLemmas.{Broken-at}
-use Rattle.nf_filter.proofs.PolicyLemmas.{taken-all}
+use Rattle.nf_filter.proofs.PolicyLemmas.{allowed-append, taken-all}
 use Rattle.nf_filter.proofs.ReadingLemmas.{ending_of-none, text_of-none}
 use Rattle.nf_filter.proofs.PieceLemmas.{IsLeft-join, IsLeft-parts, left-text}
 use Rattle.nf_filter.proofs.ChunkLemmas.{RefusesBytes-front}
@@ -30,11 +30,7 @@ module _ (laws : ReplacesParts) (bytes own : List ℕ) (len : ℕ) (is : IsRepla
       IsLeft-join true all x n bytes own len (drop len bytes) left
       (IsLeft-parts laws bytes own is.parts len (drop len bytes) is.front is.chars is.size (omega (arith, length-drop len bytes, is.within)))
 
-all_allowed : (a : Bool) (p : Properties) (x : List ℕ) → a ≡ false → allowed a p x ≡ x
-all_allowed false p x e = refl
-all_allowed true p x e = cc
-
-module _ (policy : Policy) (f : Form) (p : Properties) (base : ℕ) (bytes : List ℕ) (start : Start) (laws : ReplacesParts) (replaces : policy.replace ≡ true) (any : policy.assigned ≡ false)
+module _ (policy : Policy) (f : Form) (p : Properties) (base : ℕ) (bytes : List ℕ) (start : Start) (laws : ReplacesParts) (replaces : policy.replace ≡ true)
     (counted : Counted) (reading : Reading) (rest : List ℕ) (read : HasReadTo policy f p counted base reading bytes rest) (none : read.tail ≡ []) where
   before_is : read.before ++ text_of read.tail ≡ read.before
   before_is = ap (λ l. read.before ++ text_of l) none ∙ ap (λ l. read.before ++ l) text_of-none ∙ append-nil read.before
@@ -46,9 +42,14 @@ module _ (policy : Policy) (f : Form) (p : Properties) (base : ℕ) (bytes : Lis
   pub written_before : (now : BlockState) → Written start now (settled_text f p (read.before ++ text_of read.tail)) → Written start now (settled_text f p read.before)
   written_before now written = Written-at (ap (settled_text f p) before_is) written
 
-  module _ (own : List ℕ) (len : ℕ) (is : IsReplacedFront rest own len) (now : BlockState) (after : Counted) where
+  module _ (own : List ℕ) (len : ℕ) (is : IsReplacedFront rest own len) (assigned : allowed policy.assigned p own ≡ own) (now : BlockState) (after : Counted) where
     abbrev next_text : List ℕ
     next_text = read.before ++ own
+
+    next_allowed : allowed policy.assigned p next_text ≡ next_text
+    next_allowed =
+        allowed-append p policy.assigned read.before own (subst (λ x. allowed policy.assigned p x ≡ x) before_is read.allowed)
+        ∙ ap (λ l. read.before ++ l) assigned
 
     left : IsLeft policy.replace bytes next_text (read.n + len) (drop len rest)
     left = subst (λ r. IsLeft r bytes next_text (read.n + len) (drop len rest)) (sym replaces)
@@ -69,7 +70,7 @@ module _ (policy : Policy) (f : Form) (p : Properties) (base : ℕ) (bytes : Lis
           good = λ n. ap (bad_byte n) ending_of-none;
           offset = omega (arith, offset, read.offset, ap length none);
           taken = subst (HasTaken f p after) (sym whole) taken;
-          allowed = all_allowed policy.assigned p (next_text ++ text_of []) any;
+          allowed = subst (λ x. allowed policy.assigned p x ≡ x) (sym whole) next_allowed;
         },
         Written-at (ap (settled_text f p) (sym whole)) written,
       ),
@@ -85,7 +86,7 @@ module _ (policy : Policy) (f : Form) (p : Properties) (base : ℕ) (bytes : Lis
         RefusesBytes-front policy f p base bytes start now after next_text (text_under policy.replace (drop len rest)) Write
         (left-text policy.replace bytes next_text (read.n + len) (drop len rest) left)
         (record {
-          broken = λ e. Broken-at start (ap (settled_text f p) (sym (taken-all p policy.assigned next_text usable (all_allowed policy.assigned p next_text any)))) broken;
+          broken = λ e. Broken-at start (ap (settled_text f p) (sym (taken-all p policy.assigned next_text usable next_allowed))) broken;
           written = λ not. absurd (not refl);
           fault = λ not. absurd (not refl);
           taken = tt;

@@ -1,24 +1,23 @@
 -- A character that the end cuts, taken as U+FFFD.
-use Rattle.std.proofs.Common.{◌≡◌, ℕ, ◌+◌, true, List, [], ◌∷◌, ◌++◌, length, None, Ok, Err, refl, sym, ap, ◌∙◌, subst, arith, Result, encode_utf8_all}
+use Rattle.std.proofs.Common.{◌≡◌, ℕ, ◌+◌, true, List, [], ◌∷◌, ◌++◌, length, None, Ok, refl, sym, ap, ◌∙◌, subst, arith, Result, encode_utf8_all, ⊎_elim}
 use Rattle.nf_forms.specs.Properties.{Properties}
 use Rattle.nf_forms.specs.declared.form.Form.{Form}
 use Rattle.nf_utf8.specs.Reading.{text_of}
 use Rattle.nf_utf8.specs.Replaced.{replacement}
 use Rattle.nf_utf8.specs.Laws.{ReplacesParts}
 use Rattle.nf_filter.specs.declared.fault.Fault.{Fault}
-use Rattle.nf_filter.specs.declared.fault.Fault.TheVariants.{Write}
 use Rattle.nf_filter.specs.declared.counted.Counted.{Counted}
 use Rattle.nf_filter.specs.declared.policy.Policy.{Policy}
 use Rattle.nf_filter.specs.declared.reading.Reading.{Reading}
 use Rattle.nf_filter.specs.Devices.{SinkState}
-use Rattle.nf_filter.specs.Block.{BlockState, Written, Broken}
+use Rattle.nf_filter.specs.Block.{BlockState, Written, WritesTo, GivesAll}
 use Rattle.nf_filter.specs.Feeding.{taken_utf8, TakesAllowed, HasReadTo, ReplacesCut}
 use Rattle.nf_filter.specs.Counted.{HasTaken, IsPlacedAt, settled_text}
 use Rattle.nf_filter.specs.Policy.{allowed, len_under, whole_under}
 use Rattle.nf_filter.specs.Settled.{is_usable, settled_utf8}
 use Rattle.nf_filter.proofs.WritesLemmas.{Puts-none, Puts-at}
 use Rattle.nf_filter.proofs.BlockLemmas.{start_at, Written-at}
-use Rattle.nf_filter.proofs.TextLemmas.{Puts-emptied}
+use Rattle.nf_filter.proofs.FilterLemmas.{write_or_kept}
 use Rattle.nf_filter.proofs.PolicyLemmas.{first_fault-none, taken-all}
 use Rattle.nf_filter.proofs.ChunkLemmas.{one_placed}
 use Rattle.nf_filter.proofs.FedLemmas.{read-settled, read-place, whole-none, whole-some}
@@ -54,28 +53,13 @@ module _ (policy : Policy) (f : Form) (p : Properties) (base : ℕ) (laws : Repl
     here = subst (λ x. TakesAllowed policy.assigned f p after (start_at sink (settled_utf8 policy f p bytes)) now (λ front. base + len_under policy.replace bytes front) x r)
         (sym (whole-some policy f p base laws counted reading bytes read replaces carried is_carried some)) takes
 
-    pub cut-broken : r ≡ Err Write → now.sink ≡ new → ReplacesCut policy f p after base bytes sink new r
-    cut-broken is same = record {
-      broken = λ e. rw (← same) (here.broken e);
-      puts = λ not. absurd (not is);
-      fault = λ not. absurd (not is);
-      taken = here.taken;
-    }
+    pub cut-writes : WritesTo (start_at sink (settled_utf8 policy f p bytes)) now (taken_utf8 policy.assigned f p (whole_under policy.replace bytes)) r
+    cut-writes = record { broken = here.broken; written = here.written }
 
-    pub cut-failed : (last : BlockState) → ¬ (r ≡ Err Write) → (Written (start_at sink (settled_utf8 policy f p bytes)) now (taken_utf8 policy.assigned f p (whole_under policy.replace bytes)) → Broken (start_at sink (settled_utf8 policy f p bytes)) last (taken_utf8 policy.assigned f p (whole_under policy.replace bytes)))
-        → last.sink ≡ new → ReplacesCut policy f p after base bytes sink new (Err Write)
-    cut-failed last whole breaks same = record {
-      broken = λ _. rw (← same) (breaks (here.written whole));
-      puts = λ not. absurd (not refl);
-      fault = λ not. absurd (not refl);
-      taken = tt;
-    }
-
-    pub cut-given : (last : BlockState) → ¬ (r ≡ Err Write) → (Written (start_at sink (settled_utf8 policy f p bytes)) now (taken_utf8 policy.assigned f p (whole_under policy.replace bytes)) → Written (start_at sink (settled_utf8 policy f p bytes)) last (taken_utf8 policy.assigned f p (whole_under policy.replace bytes)))
-        → last.kept ≡ [] → last.sink ≡ new → ReplacesCut policy f p after base bytes sink new r
-    cut-given last whole writes none same = record {
-      broken = λ e. absurd (whole e);
-      puts = λ _. rw (← same) (Puts-emptied none (writes (here.written whole)));
-      fault = here.fault;
-      taken = here.taken;
+    pub cut-closed : (result : Result (Unit {0}) Fault) → GivesAll (start_at sink (settled_utf8 policy f p bytes)) new (taken_utf8 policy.assigned f p (whole_under policy.replace bytes)) r result → ReplacesCut policy f p after base bytes sink new result
+    cut-closed result closed = record {
+      broken = closed.broken;
+      puts = λ not. (closed.given not).0;
+      fault = λ not. rw (closed.given not).1 (here.fault (λ e. not ((closed.given not).1 ∙ e)));
+      taken = ⊎_elim (λ e. rw e tt) (λ not. rw (closed.given not).1 here.taken) (write_or_kept result);
     }

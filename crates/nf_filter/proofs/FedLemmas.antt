@@ -1,5 +1,5 @@
 -- A piece that was read: what it comes to by the bytes.
-use Rattle.std.proofs.Common.{◌≡◌, ℕ, ◌+◌, ◌-◌, ◌==◌, Bool, true, false, List, [], ◌∷◌, ◌++◌, length, None, Ok, Err, refl, sym, ap, ◌∙◌, subst, arith, append_assoc, append-nil, eq-eqb, ne_eqb, OnOk, Result, if◌then◌else◌, encode_utf8_all}
+use Rattle.std.proofs.Common.{◌≡◌, ℕ, ◌+◌, ◌-◌, ◌==◌, Bool, true, false, List, [], ◌∷◌, ◌++◌, length, None, Ok, Err, refl, sym, ap, ◌∙◌, subst, arith, append_assoc, append-nil, eq-eqb, ne_eqb, OnOk, Result, if◌then◌else◌, encode_utf8_all, ⊎_elim}
 use Rattle.std.specs.Result.{result_err}
 use Rattle.nf_forms.specs.Properties.{Properties}
 use Rattle.nf_forms.specs.declared.form.Form.{Form}
@@ -11,7 +11,7 @@ use Rattle.nf_filter.specs.declared.fault.Fault.TheVariants.{Write}
 use Rattle.nf_filter.specs.declared.counted.Counted.{Counted}
 use Rattle.nf_filter.specs.declared.policy.Policy.{Policy}
 use Rattle.nf_filter.specs.declared.reading.Reading.{Reading}
-use Rattle.nf_filter.specs.Block.{Start, BlockState, Written, Broken}
+use Rattle.nf_filter.specs.Block.{Start, BlockState, Written, Broken, WritesTo, GivesAll}
 use Rattle.nf_filter.specs.Faults.{bad_byte, bad_under, fault_in}
 use Rattle.nf_filter.specs.Feeding.{taken_utf8, IsLeft, HasReadTo, ReadsTo, ReadsRest}
 use Rattle.nf_filter.specs.Counted.{settled_text}
@@ -20,8 +20,7 @@ use Rattle.nf_filter.specs.Settled.{is_usable, settled_utf8}
 use Rattle.nf_filter.specs.Devices.{SinkState}
 use Rattle.nf_filter.specs.Feeds.{Feeds}
 use Rattle.nf_filter.proofs.BlockLemmas.{start_at, Written-at}
-use Rattle.nf_filter.proofs.FilterLemmas.{Feeds-broken, Feeds-put}
-use Rattle.nf_filter.proofs.TextLemmas.{Puts-emptied}
+use Rattle.nf_filter.proofs.FilterLemmas.{Feeds-broken, Feeds-put, write_or_kept}
 use Rattle.nf_filter.proofs.BlockLemmas.{Broken-at}
 use Rattle.nf_filter.proofs.PolicyLemmas.{first_fault-none, taken-all}
 use Rattle.nf_filter.proofs.PieceLemmas.{IsLeft-more, left-text, left-place, left-bad, left-whole, text_under-begun, begun_at_end-begun, len_under-first}
@@ -126,24 +125,27 @@ module _ (policy : Policy) (f : Form) (p : Properties) (base : ℕ) (laws : Repl
   abbrev settled : List ℕ
   settled = settled_utf8 policy f p (bytes ++ piece)
 
-  pub fed-stands : OnOk r (HasReadTo policy f p counted base reading (bytes ++ piece) [])
+  fed-stands : OnOk r (HasReadTo policy f p counted base reading (bytes ++ piece) [])
   fed-stands = next r reads
     where
       next : (r : Result (Unit {0}) Fault) → ReadsRest policy f p counted (start_at sink (settled_utf8 policy f p bytes)) now base reading (bytes ++ piece) r → OnOk r (HasReadTo policy f p counted base reading (bytes ++ piece) [])
       next (Ok u) reads = reads.0
       next (Err fault) reads = tt
 
-  -- the sink failed under way
-  pub fed-broken : r ≡ Err Write → now.sink ≡ new → Feeds policy f p base bytes piece sink new r
-  fed-broken is same = subst (λ (s : Result (Unit {0}) Fault). Feeds policy f p base bytes piece sink new s) (sym is)
-      (Feeds-broken policy f p base bytes piece sink new (rw (← same) (rest-broken policy f p base laws counted start now reading (bytes ++ piece) r reads is)))
+  pub fed-writes : WritesTo start now settled r
+  fed-writes = record {
+    broken = rest-broken policy f p base laws counted start now reading (bytes ++ piece) r reads;
+    written = rest-written policy f p base laws counted start now reading (bytes ++ piece) r reads;
+  }
 
-  -- or on what was kept
-  pub fed-failed : (last : BlockState) → ¬ (r ≡ Err Write) → (Written start now settled → Broken start last settled) → last.sink ≡ new → Feeds policy f p base bytes piece sink new (Err Write)
-  fed-failed last whole breaks same = Feeds-broken policy f p base bytes piece sink new (rw (← same) (breaks (rest-written policy f p base laws counted start now reading (bytes ++ piece) r reads whole)))
-
-  -- all was given
-  pub fed-given : (last : BlockState) → ¬ (r ≡ Err Write) → (Written start now settled → Written start last settled) → last.kept ≡ [] → last.sink ≡ new → Feeds policy f p base bytes piece sink new r
-  fed-given last whole writes none same = Feeds-put policy f p base bytes piece sink new r whole
-      (rw (← same) (Puts-emptied none (writes (rest-written policy f p base laws counted start now reading (bytes ++ piece) r reads whole))))
-      (rest-answer policy f p base laws counted start now reading (bytes ++ piece) r reads whole)
+  -- the sink failed, or all was given
+  pub fed-closed : (result : Result (Unit {0}) Fault) → GivesAll start new settled r result
+      → Feeds policy f p base bytes piece sink new result × OnOk result (HasReadTo policy f p counted base reading (bytes ++ piece) [])
+  fed-closed result closed = ⊎_elim
+      (λ e. rw e (Feeds-broken policy f p base bytes piece sink new (closed.broken e), tt))
+      (λ not. (
+        Feeds-put policy f p base bytes piece sink new result not (closed.given not).0
+            (rw (closed.given not).1 (rest-answer policy f p base laws counted start now reading (bytes ++ piece) r reads (λ e. not ((closed.given not).1 ∙ e)))),
+        rw (closed.given not).1 fed-stands,
+      ))
+      (write_or_kept result)

@@ -8,7 +8,6 @@ use Rattle.nf_filter.specs.declared.fault.Fault.{Fault}
 use Rattle.nf_filter.specs.declared.fault.Fault.TheVariants.{Spent, TooLong, Read, Write, Row, BadByte, Cut, Unassigned}
 use Rattle.nf_filter.specs.declared.filter.State.{State}
 use Rattle.nf_filter.specs.declared.policy.Policy.{Policy}
-use Rattle.nf_filter.specs.declared.tally.Tally.{Tally}
 use Rattle.nf_filter.specs.declared.taker.Stop.TheVariants.{Refused}
 use Rattle.nf_filter.specs.Devices.{SinkState}
 use Rattle.nf_filter.specs.Writes.{Puts, BreaksOff}
@@ -42,8 +41,8 @@ write_or_not (BadByte at start) = inr (λ e. cc)
 write_or_not (Cut at start) = inr (λ e. cc)
 write_or_not (Unassigned at) = inr (λ e. cc)
 
-pub write_or_kept : (r : Result Tally Fault) → (r ≡ Err Write) ⊎ (¬ (r ≡ Err Write))
-write_or_kept (Ok tally) = inr (λ e. cc)
+pub write_or_kept : {T : Type 0} (r : Result T Fault) → (r ≡ Err Write) ⊎ (¬ (r ≡ Err Write))
+write_or_kept (Ok value) = inr (λ e. cc)
 write_or_kept (Err fault) = ⊎_elim (λ e. inl (ap Err e)) (λ not. inr (λ e. let is : fault ≡ Write = cc in not is)) (write_or_not fault)
 
 -- what stops a taker that is refused what a filter is

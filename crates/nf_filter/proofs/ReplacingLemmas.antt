@@ -1,6 +1,8 @@
 -- U+FFFD so many times, where a text may be cut before it.
-use Rattle.std.proofs.Common.{◌≡◌, ℕ, ◌+◌, ◌-◌, ◌*◌, ◌<◌, ◌≤◌, true, List, [], ◌∷◌, ◌++◌, length, take, refl, sym, ap, ◌∙◌, subst, arith, append_assoc, length-append, take_at, zero, suc, inr, encode_utf8_all}
+use Rattle.std.proofs.Common.{◌≡◌, ℕ, ◌+◌, ◌-◌, ◌*◌, ◌<◌, ◌≤◌, Bool, true, false, not, ◌||◌, List, [], ◌∷◌, ◌++◌, length, take, refl, sym, ap, ◌∙◌, subst, arith, append_assoc, length-append, take_at, zero, suc, inr, encode_utf8_all}
 use Rattle.std.specs.Str.{IsCharBoundary, all_scalars}
+use Rattle.std.specs.List.{list_all}
+use Rattle.std.proofs.lemmas.Bool.{and_from}
 use Rattle.std.proofs.lemmas.Str.{encodes-append, IsCharBoundary-at_seam}
 use Rattle.std.specs.Str.Lossy.{replacement_bytes}
 use Rattle.std.proofs.str.Laws.{three}
@@ -17,12 +19,14 @@ use Rattle.nf_filter.specs.declared.counted.Counted.{Counted}
 use Rattle.nf_normalizer.specs.Normalizer.{HasTaken as Takes}
 use Rattle.nf_normalizer.specs.Laws.Boundary.{settled_text-behind}
 use Rattle.nf_filter.specs.Settled.{is_usable}
+use Rattle.nf_filter.specs.Policy.{allowed}
 use Rattle.nf_filter.specs.Stepping.{Standing}
 use Rattle.nf_forms.specs.StreamSafe.{stream_safe}
 use Rattle.nf_forms.specs.Laws.Sound.{IsSoundText}
 use Rattle.nf_filter.specs.Block.{Start, BlockState, Written}
 use Rattle.nf_filter.specs.Counted.{settled_text}
 use Rattle.nf_normalizer.specs.Laws.Settled.{Extends, Extends-join}
+use Rattle.nf_filter.proofs.PolicyLemmas.{take_while-all}
 
 pub replacements-append : (m n : ℕ) → replacements m ++ replacements n ≡ replacements (m + n)
 replacements-append zero n = ap replacements (let same : n ≡ 0 + n = omega arith in same)
@@ -31,6 +35,15 @@ replacements-append (suc m) n = ap (λ l. replacement ∷ l) (replacements-appen
 pub length-replacements : (n : ℕ) → length (replacements n) ≡ n
 length-replacements zero = refl
 length-replacements (suc n) = ap suc (length-replacements n)
+
+-- all of them are taken where one is
+pub replacements-allowed : (p : Properties) (assigned : Bool) (n : ℕ) → (not assigned || p.assigned replacement) ≡ true → allowed assigned p (replacements n) ≡ replacements n
+replacements-allowed p false n is = refl
+replacements-allowed p true n is = take_while-all p.assigned (replacements n) (all n)
+  where
+    all : (n : ℕ) → list_all p.assigned (replacements n) ≡ true
+    all zero = refl
+    all (suc n) = and_from _ _ is (all n)
 
 -- so many more, and all that are to come
 pub encodes-more : (w : List ℕ) (n m : ℕ) → (w ++ encode_utf8_all (replacements n)) ++ encode_utf8_all (replacements m) ≡ w ++ encode_utf8_all (replacements (n + m))

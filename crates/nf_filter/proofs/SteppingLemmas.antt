@@ -26,6 +26,9 @@ pub nothing-left : (rest : List ℕ) → length rest ≡ 0 → chars rest ≡ []
 nothing-left [] e = chars-nil
 nothing-left (b ∷ rest) e = cc
 
+pub none-left : (x front rest : List ℕ) → x ≡ front ++ chars rest → length rest ≡ 0 → front ≡ x
+none-left x front rest is none = sym (is ∙ ap (λ l. front ++ l) (nothing-left rest none) ∙ append-nil front)
+
 pub first-left : (rest : List ℕ) → IsUtf8 rest → 0 < length rest → (c : ℕ) × (more : List ℕ) × (chars rest ≡ c ∷ more)
 first-left rest utf8 some = next (chars rest) (encodes-chars rest utf8)
   where

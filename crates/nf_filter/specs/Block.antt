@@ -2,6 +2,8 @@
 use Rattle.std.specs.Prelude.{◌≡◌, List, ◌++◌, ℕ, Result, Ok, Err}
 use Rattle.nf_filter.specs.declared.block.Block.{Block}
 use Rattle.nf_filter.specs.declared.devices.Failed.{Failed}
+use Rattle.nf_filter.specs.declared.fault.Fault.{Fault}
+use Rattle.nf_filter.specs.declared.fault.Fault.TheVariants.{Write}
 use Rattle.nf_filter.specs.Devices.{SinkState}
 use Rattle.nf_filter.specs.Writes.{Puts, BreaksOff}
 
@@ -34,3 +36,13 @@ Broken start now after = BreaksOff start.sink now.sink start.before (start.ahead
 abbrev pub WritesOn : Start → BlockState → List ℕ → Result (Unit {0}) Failed → Type 0
 WritesOn start now after (Ok _) = Written start now after
 WritesOn start now after (Err _) = Broken start now after
+
+-- what was found once it is written, unless the sink failed
+pub record WritesTo (start : Start) (now : BlockState) (after : List ℕ) (found : Result (Unit {0}) Fault) : Type 0 where
+  pub broken : found ≡ Err Write → Broken start now after
+  pub written : ¬ (found ≡ Err Write) → Written start now after
+
+-- then all of it is given to the sink, or that failed
+pub record GivesAll (start : Start) (new : SinkState) (after : List ℕ) (found result : Result (Unit {0}) Fault) : Type 0 where
+  pub broken : result ≡ Err Write → BreaksOff start.sink new start.before (start.ahead ++ after)
+  pub given : ¬ (result ≡ Err Write) → Puts start.sink new start.before (start.ahead ++ after) × (result ≡ found)

@@ -1,7 +1,9 @@
-ghost use Rattle.std.specs.Prelude.{◌≡◌, ◌+◌, ◌<◌, ◌≤◌, [], length, MatchResult, OnOk, encode_utf8_all, ◌++◌, ℕ, List};
+ghost use Rattle.std.specs.Prelude.{◌≡◌, ◌+◌, ◌<◌, ◌≤◌, ◌↔◌, ◌⊎◌, [], length, MatchResult, Ok, Err, IfErr, OnOk, IsTrue, encode_utf8_all, ◌++◌, ℕ, List};
+ghost use Rattle.nf_filter.specs.declared.fault.Fault.TheVariants.{Write as WriteFault};
 ghost use Rattle.nf_filter.specs.Writes.{Puts, BreaksOff};
 
 use crate::devices::{Failed, Sink};
+use crate::fault::Fault;
 use nf_normalizer::{ROOM, Room, put_utf8};
 use nf_row::Formed;
 
@@ -15,7 +17,7 @@ pub struct Block {
 }
 
 impl Block {
-    ghost use Rattle.nf_filter.specs.Block.{Start, block_state, Written, WritesOn};
+    ghost use Rattle.nf_filter.specs.Block.{Start, block_state, Written, WritesOn, WritesTo, GivesAll};
 
     /// An empty block. At most 4,096 bytes are given to a sink at once, or as many as a text has, if it is `whole`.
     pub fn new(whole: bool) -> Block
@@ -80,6 +82,24 @@ impl Block {
         Ok(())
     }
 
+    /// Ends what was written: gives the sink all that is kept, unless it has failed. Answers what was found so far, or that
+    /// the sink failed.
+    pub fn close<S: Sink>(&mut self, found: Result<(), Fault>, sink: &mut S) -> Result<(), Fault>
+        ensures lender { (S.state sink.new).lender ≡ (S.state sink.old).lender }
+        ensures ok { OnOk result (found ≡ Ok tt) }
+        ensures err { IfErr result (λ fault. (fault ≡ WriteFault) ⊎ (found ≡ Err fault)) }
+        ensures gives { (start : Start) (w : List ℕ) → WritesTo start (block_state (S.state sink.old) self.old) w found
+            → GivesAll start (S.state sink.new) w found result }
+    {
+        if is_broken(found) {
+            return found;
+        }
+        match self.empty(sink) {
+            Ok(()) => found,
+            Err(Failed) => Err(Fault::Write),
+        }
+    }
+
     /// Gives the sink all that is kept.
     pub fn empty<S: Sink>(&mut self, sink: &mut S) -> Result<(), Failed>
         ensures lender { (S.state sink.new).lender ≡ (S.state sink.old).lender }
@@ -93,6 +113,13 @@ impl Block {
         self.room.clear();
         Ok(())
     }
+}
+
+/// Whether the sink failed: it is not touched again then.
+fn is_broken(found: Result<(), Fault>) -> bool
+    ensures { IsTrue result ↔ (found ≡ Err WriteFault) }
+{
+    matches!(found, Err(Fault::Write))
 }
 
 /// Gives `bytes` to the sink, at most so many at once, in as many calls as it asks for.

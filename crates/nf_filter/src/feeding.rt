@@ -1,10 +1,7 @@
 //! Reading a piece for a normalizer, under a policy.
-ghost use Rattle.std.specs.Prelude.{◌≡◌, ◌↔◌, Err, IsTrue};
-ghost use Rattle.nf_filter.specs.declared.fault.Fault.TheVariants.{Write as WriteFault};
-
 use crate::block::Block;
 use crate::counted::Counted;
-use crate::devices::{Failed, Sink};
+use crate::devices::Sink;
 use crate::fault::Fault;
 use crate::policy::Policy;
 use crate::reading::Reading;
@@ -45,13 +42,7 @@ impl Reading {
         laws::replacing();
         let mut block = Block::new(counted.normalizer.is_plain);
         let read = self.read_rest(policy, rows, piece, counted, &mut block, sink);
-        if is_broken(read) {
-            return read;
-        }
-        match block.empty(sink) {
-            Ok(()) => read,
-            Err(Failed) => Err(Fault::Write),
-        }
+        block.close(read, sink)
     }
 
     /// Reads what is left of a piece.
@@ -204,19 +195,6 @@ impl Reading {
             &mut block,
             sink,
         );
-        if is_broken(taken) {
-            return taken;
-        }
-        match block.empty(sink) {
-            Ok(()) => taken,
-            Err(Failed) => Err(Fault::Write),
-        }
+        block.close(taken, sink)
     }
-}
-
-/// Whether the sink failed: it is not touched again then.
-fn is_broken(taken: Result<(), Fault>) -> bool
-    ensures { IsTrue result ↔ (taken ≡ Err WriteFault) }
-{
-    matches!(taken, Err(Fault::Write))
 }

@@ -8,6 +8,7 @@ use crate::devices::{Failed, Sink};
 use crate::fault::Fault;
 use crate::policy::Policy;
 use crate::reading::Reading;
+use crate::taking::split_allowed;
 use nf_row::Rows;
 use nf_utf8::{Mended, laws, mend_front, mended_text};
 
@@ -19,9 +20,8 @@ impl Reading {
     ghost use Rattle.nf_filter.specs.Counted.{ends_at};
     ghost use Rattle.nf_filter.specs.Taker.{IsReady};
 
-    /// Behind a part that was replaced, reads the stretches of text that come next, each with the part behind it. Only where
-    /// every character is sound, so that none is refused, at a place that the text would not tell. Answers what stands
-    /// behind them.
+    /// After a part that was replaced, reads the stretches of text that come next, each with the part behind it. Only where
+    /// none of their characters is refused, since the text would not tell at which byte. Answers what stands after them.
     pub(crate) fn read_mended<'p, R: Rows, S: Sink>(
         &mut self,
         policy: Policy,
@@ -42,13 +42,14 @@ impl Reading {
         ensures lender { (S.state sink.new).lender ≡ (S.state sink.old).lender }
     {
         laws::replacing();
-        if !policy.replace || policy.assigned || !rows.all_sound() {
+        if !policy.replace || !rows.all_sound() {
             return Ok(rest);
         }
         let mut mended = Mended::new();
         let len = mend_front(rest, &mut mended);
         let text = mended_text(&mended);
-        if len == 0 || counted.chars.checked_add(text.len() as u64).is_none() {
+        let (_, refused) = split_allowed(rows, policy.assigned, text);
+        if !refused.is_empty() || counted.chars.checked_add(text.len() as u64).is_none() {
             return Ok(rest);
         }
         if let Err(Failed) = counted.take_sound(rows, text, block, sink) {

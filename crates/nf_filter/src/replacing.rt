@@ -10,6 +10,7 @@ use crate::devices::{Failed, Sink};
 use crate::fault::Fault;
 use crate::policy::Policy;
 use crate::reading::Reading;
+use crate::taking::is_allowed;
 use nf_normalizer::STEP;
 use nf_row::{Kind, Rows};
 use nf_utf8::{broken_front, laws};
@@ -85,7 +86,7 @@ impl Reading {
         ensures lender { (S.state sink.new).lender ≡ (S.state sink.old).lender }
     {
         laws::replacing();
-        if !policy.replace || policy.assigned {
+        if !policy.replace || !is_allowed(rows, policy.assigned, char::REPLACEMENT_CHARACTER) {
             return Ok(rest);
         }
         let Kind::Parts = rows.kind(counted.normalizer.form, char::REPLACEMENT_CHARACTER) else {

@@ -23,7 +23,7 @@ const JOINER: [Change<'static>; 1] = [Assigned('\u{34F}', false)];
 const NONE: [Change<'static>; 0] = [];
 
 /// Changes to the data, a policy, a text, the fault, and what was written before it.
-const REFUSED: [(&[Change<'static>], Policy, &[u8], Fault, &[u8]); 21] = [
+const REFUSED: [(&[Change<'static>], Policy, &[u8], Fault, &[u8]); 24] = [
     // U+FFFF and U+1FFFE.
     (
         &NONE,
@@ -119,6 +119,21 @@ const REFUSED: [(&[Change<'static>], Policy, &[u8], Fault, &[u8]); 21] = [
         Unassigned { at: 5 },
         b"ab\xEF\xBF\xBD",
     ),
+    // Behind many ill-formed parts, with no text between them and with some.
+    (
+        &NONE,
+        BOTH,
+        b"\x80\x80\xF0\x90\x80\xCD\xB8",
+        Unassigned { at: 5 },
+        b"\xEF\xBF\xBD\xEF\xBF\xBD",
+    ),
+    (
+        &NONE,
+        BOTH,
+        b"\x80a\x80bc\xE0\xCD\xB8\x80",
+        Unassigned { at: 6 },
+        b"\xEF\xBF\xBDa\xEF\xBF\xBDbc",
+    ),
     // It comes before an unsound row of the same character, and after one of an earlier character.
     (&LETTER, ASSIGNED, b"\x61\x78", Unassigned { at: 1 }, b""),
     (&LETTER, AS_IS, b"\x61\x78", Fault::Row { at: 1 }, b""),
@@ -151,6 +166,7 @@ const REFUSED: [(&[Change<'static>], Policy, &[u8], Fault, &[u8]); 21] = [
         Unassigned { at: 2 },
         b"\x61",
     ),
+    (&REPLACEMENT, BOTH, b"\x80\x80", Unassigned { at: 0 }, b""),
     (
         &REPLACEMENT,
         ASSIGNED,

@@ -2,7 +2,7 @@
 use Rattle.std.proofs.Common.{◌≡◌, ℕ, Bool, true, false, leb, List, [], ◌∷◌, ◌++◌, length, Option, Some, None, refl, sym, ap, ◌∙◌, subst, arith, append_assoc, map}
 use Rattle.std.proofs.lemmas.Bool.{cond-true, cond-false, ne_eqb}
 use Rattle.std.proofs.lemmas.List.{append-nil}
-use Rattle.std.specs.Prelude.{IfSome, insert, is_some, unwrap_or, ◌||◌}
+use Rattle.std.specs.Prelude.{IfSome, insert, is_some, is_none, unwrap_or, ◌||◌}
 use Rattle.std.specs.List.{prefix_len}
 use Rattle.std.specs.Option.{option_to_list}
 use Rattle.nf_forms.specs.Properties.{Properties, is_starter}
@@ -138,14 +138,14 @@ module _ (f : Form) (p : Properties) where
       at (Some a) e = e ∙ left (composes f) a
 
   -- where nothing is held, all is settled
-  pub none_held : (pending : Pending) (w : List ℕ) → StandsAfter f p pending w → is_some pending.starter ≡ false → length pending.marks.items ≡ 0
+  pub none_held : (pending : Pending) (w : List ℕ) → StandsAfter f p pending w → is_none pending.starter ≡ true → length pending.marks.items ≡ 0
       → StandsAfter f p pending [] × (front p (finished f p w) ≡ finished f p w)
   none_held pending w s starter empty = (
     stands_new pending s.composes (none pending.starter starter) (nil pending.marks.items empty),
     sym (append-nil (front p (finished f p w))) ∙ ap (λ b. front p (finished f p w) ++ b) (sym left) ∙ front-append-back p (finished f p w),
   )
     where
-      none : (o : Option ℕ) → is_some o ≡ false → o ≡ None
+      none : (o : Option ℕ) → is_none o ≡ true → o ≡ None
       none None e = refl
       none (Some a) e = cc
 

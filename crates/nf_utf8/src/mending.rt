@@ -54,7 +54,7 @@ pub fn mended_text(mended: &Mended) -> &str
     requires { IsUtf8 mended.now.items }
     ensures { result.now ≡ mended.now.items }
 {
-    simdutf8::compat::from_utf8(mended.as_slice()).unwrap()
+    unsafe { std::str::from_utf8_unchecked(mended.as_slice()) }
 }
 
 /// The text that the bytes begin with, which may be none, and the ill-formed part behind it, where that is near.
@@ -96,5 +96,7 @@ fn append(mended: &mut Mended, text: &[u8]) -> bool
     if mended.remaining_capacity() < text.len() + REPLACEMENT.len() {
         return false;
     }
-    mended.try_extend_from_slice(text).is_ok() && mended.try_extend_from_slice(&REPLACEMENT).is_ok()
+    // Parts one after the other have no text between them.
+    (text.is_empty() || mended.try_extend_from_slice(text).is_ok())
+        && mended.try_extend_from_slice(&REPLACEMENT).is_ok()
 }
