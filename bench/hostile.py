@@ -25,18 +25,23 @@ BAR = 0.25
 
 @dataclass
 class Hostile:
-    """What is said of it, its front, what stands after that again and again, and the real text that is its friend."""
+    """What is said of it, its front, what stands after that again and again, the real text that is its friend, and whether
+    both are read with `--assigned`."""
 
     title: str
     front: bytes
     again: bytes
     friend: str
+    assigned: bool = False
 
     def ill_formed(self) -> bool:
         return not is_text(self.again)
 
     def content(self) -> bytes:
         return self.front + self.again * (SIZE // len(self.again))
+
+    def flags(self) -> list[str]:
+        return ["--replace"] * self.ill_formed() + ["--assigned"] * self.assigned
 
     def friendly(self, text: str, form: str) -> tuple[str, bytes]:
         """The friend as the form changes it: decomposed where it composes, and else composed. Bytes that are no text stand
@@ -77,6 +82,19 @@ HOSTILE = [
     Hostile("F0 90 80, again and again, `--replace`", b"", b"\xf0\x90\x80", "french"),
     Hostile("bytes E0 alone, `--replace`", b"", b"\xe0", "french"),
     Hostile("a and 80, in turns, `--replace`", b"", b"a\x80", "french"),
+    # What bench/search.py found.
+    again("a, U+FDFA, U+0344", "a\ufdfa\u0344", "arabic"),
+    again("U+3313, four kana in NFKC", "\u3313", "japanese"),
+    again("a and U+0344, in turns", "a\u0344", "french"),
+    again("a and U+0340, in turns", "a\u0340", "french"),
+    again("a and U+1FD3, in turns", "a\u1fd3", "french"),
+    again("U+FB2C, three characters in each form", "\ufb2c", "hebrew"),
+    again("U+0958, two characters in each form", "\u0958", "hindi"),
+    again("14 of U+0316, and aaa", BELOW * 14 + "aaa", "vietnamese"),
+    again("k, 200 of U+09BE, U+0301, U+0316", "k" + "\u09be" * 200 + MARK + BELOW, "hindi"),
+    Hostile("U+0344 and bytes F0 80, `--replace`", b"", "\u0344".encode() + b"\xf0\x80", "french"),
+    Hostile("bytes 80 alone, `--replace --assigned`", b"", b"\x80", "french", True),
+    Hostile("a and 80, in turns, `--replace --assigned`", b"", b"a\x80", "french", True),
 ]
 
 
@@ -117,8 +135,7 @@ def main() -> int:
     for hostile in HOSTILE:
         for form in FORMS:
             state, text = hostile.friendly(real[hostile.friend], form)
-            flags = ["--replace"] if hostile.ill_formed() else []
-            command = [str(program), "convert", "--form", form, *flags]
+            command = [str(program), "convert", "--form", form, *hostile.flags()]
             content = hostile.content()
             mine, other = speed_of_both(command, content, text, FULL)
             read = mine / other
