@@ -9,8 +9,6 @@ pub mod SteppingLemmas
 pub mod AllowingLemmas
 pub mod PieceLemmas
 pub mod ChunkLemmas
-pub mod BrokenLemmas
-pub mod ReplacingLemmas
 pub mod FedLemmas
 pub mod ReadingLemmas
 pub mod SourcesLemmas

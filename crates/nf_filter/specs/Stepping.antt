@@ -1,5 +1,5 @@
 -- A text, step by step, to a sink.
-use Rattle.std.specs.Prelude.{◌≡◌, ◌+◌, true, ℕ, List, ◌++◌, length, chars, Result, Ok, Err}
+use Rattle.std.specs.Prelude.{◌≡◌, ◌+◌, ℕ, List, ◌++◌, length, chars, Result, Ok, Err}
 use Rattle.std.specs.Borrow.{Bor}
 use Rattle.nf_forms.specs.Properties.{Properties}
 use Rattle.nf_forms.specs.declared.form.Form.{Form}
@@ -9,16 +9,9 @@ use Rattle.nf_filter.specs.declared.counted.Counted.{Counted}
 use Rattle.nf_filter.specs.declared.fault.Fault.{Fault}
 use Rattle.nf_filter.specs.Writes.{Puts}
 use Rattle.nf_filter.specs.Faults.{IsOfTaking}
-use Rattle.nf_filter.specs.declared.devices.Failed.{Failed}
-use Rattle.nf_filter.specs.Settled.{is_usable}
-use Rattle.nf_filter.specs.Block.{Start, BlockState, Written, Broken}
-use Rattle.nf_filter.specs.Counted.{HasTaken, TakesOn, settled_text}
+use Rattle.nf_filter.specs.Block.{Start, BlockState}
+use Rattle.nf_filter.specs.Counted.{TakesOn}
 use Rattle.nf_normalizer.specs.Normalizer.{IsWithin as IsReady}
-
--- the text y was taken behind x, or the sink failed
-abbrev pub TakesBehind : {T : Type 0} → Form → Properties → Counted → Start → BlockState → List ℕ → List ℕ → Result T Failed → Type 0
-TakesBehind f p counted start now x y (Ok _) = HasTaken f p counted (x ++ y) × Written start now (settled_text f p (x ++ y))
-TakesBehind f p counted start now x y (Err _) = (is_usable p (x ++ y) ≡ true) × Broken start now (settled_text f p (x ++ y))
 
 -- the normalizer stands after x, before `next`, and what of x is settled was written
 pub record Standing (f : Form) (p : Properties) (counted : Counted) (start : Start) (now : BlockState) (x next : List ℕ) : Type 0 where

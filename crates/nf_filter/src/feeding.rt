@@ -69,7 +69,7 @@ impl Reading {
         loop {
             match self.read_chunk(policy, rows, rest, counted, block, sink) {
                 Ok(Some(behind)) => {
-                    match self.read_parts(policy, rows, behind, counted, block, sink) {
+                    match self.read_mended(policy, rows, behind, counted, block, sink) {
                         Ok(behind) => rest = behind,
                         Err(fault) => return Err(fault),
                     }

@@ -16,7 +16,6 @@ mod measuring;
 mod mending;
 mod policy;
 mod reading;
-mod replacing;
 mod saved;
 mod sources;
 mod taker;

@@ -1,10 +1,13 @@
-//! Ill-formed parts with little text between them, each read as U+FFFD: they are taken as one text.
+//! Ill-formed parts, one after the other or with little text between them, each read as U+FFFD: they are taken as one text.
 ghost use Rattle.std.specs.Prelude.{◌≡◌, ◌+◌, ◌≤◌, ℕ, List, length, chars};
-ghost use Rattle.nf_filter.specs.Block.{Start, block_state, Written};
+ghost use Rattle.std.specs.Str.{IsUtf8};
+ghost use Rattle.nf_utf8.specs.Mending.{IsReplacedFront};
+ghost use Rattle.nf_filter.specs.Block.{Start, block_state};
+ghost use Rattle.nf_filter.specs.Policy.{allowed};
 
 use crate::block::Block;
 use crate::counted::Counted;
-use crate::devices::{Failed, Sink};
+use crate::devices::Sink;
 use crate::fault::Fault;
 use crate::policy::Policy;
 use crate::reading::Reading;
@@ -20,8 +23,9 @@ impl Reading {
     ghost use Rattle.nf_filter.specs.Counted.{ends_at};
     ghost use Rattle.nf_filter.specs.Taker.{IsReady};
 
-    /// After a part that was replaced, reads the stretches of text that come next, each with the part behind it. Only where
-    /// none of their characters is refused, since the text would not tell at which byte. Answers what stands after them.
+    /// After a part that was replaced, reads the parts that come next, with the little text between them. Only where every
+    /// character is sound, and those alone that are allowed, since the mended text would not tell at which byte one is refused.
+    /// Answers what stands after them.
     pub(crate) fn read_mended<'p, R: Rows, S: Sink>(
         &mut self,
         policy: Policy,
@@ -46,13 +50,9 @@ impl Reading {
             return Ok(rest);
         }
         let mut mended = Mended::new();
-        let len = mend_front(rest, &mut mended);
-        let text = mended_text(&mended);
-        let (_, refused) = split_allowed(rows, policy.assigned, text);
-        if !refused.is_empty() || counted.chars.checked_add(text.len() as u64).is_none() {
-            return Ok(rest);
-        }
-        if let Err(Failed) = counted.take_sound(rows, text, block, sink) {
+        let len = mend_allowed(rows, policy.assigned, rest, &mut mended);
+        // No character of it is refused, so that no place is told.
+        if let Err(_) = counted.take_text(rows, 0, mended_text(&mended), block, sink) {
             return Err(Fault::Write);
         }
         self.offset += len as u64;
@@ -60,33 +60,20 @@ impl Reading {
     }
 }
 
-impl Counted {
-    ghost use Rattle.std.specs.Prelude.{OnOk};
-    ghost use Rattle.nf_forms.specs.declared.form.Form.{Form};
-    ghost use Rattle.nf_filter.specs.Laws.Soundness.{AreSound};
-    ghost use Rattle.nf_filter.specs.Counted.{HasTaken, IsWithin, settled_text};
-    ghost use Rattle.nf_filter.specs.Stepping.{TakesBehind};
-
-    /// Takes a text where every character is sound. No place is told, so it need not be that of the bytes that were read,
-    /// which may be fewer.
-    fn take_sound<R: Rows, S: Sink>(
-        &mut self,
-        rows: &R,
-        text: &str,
-        block: &mut Block,
-        sink: &mut S,
-    ) -> Result<(), Failed>
-        requires sound { AreSound (R.properties rows.now) }
-        requires within { IsWithin self.old }
-        requires fits { self.old.chars + length text.now ≤ u64.MAX }
-        ensures within { OnOk result (IsWithin self.new) }
-        ensures chars { OnOk result (self.new.chars ≡ self.old.chars + length (chars text.now)) }
-        ensures takes { let p = R.properties rows.now in
-            (f : Form) (x : List ℕ) (start : Start) → HasTaken f p self.old x → Written start (block_state (S.state sink.old) block.old) (settled_text f p x)
-            → TakesBehind f p self.new start (block_state (S.state sink.new) block.new) x (chars text.now) result }
-        ensures lender { (S.state sink.new).lender ≡ (S.state sink.old).lender }
-    {
-        self.take_text(rows, 0, text, block, sink)
-            .map_err(|_| Failed)
+/// Mends as long a front of the bytes as gives allowed characters alone.
+fn mend_allowed<R: Rows>(rows: &R, assigned: bool, bytes: &[u8], mended: &mut Mended) -> usize
+    ensures text { IsUtf8 mended.new.items }
+    ensures replaced { IsReplacedFront bytes.now (chars mended.new.items) result }
+    ensures few { length (chars mended.new.items) ≤ result }
+    ensures allowed { allowed assigned (R.properties rows.now) (chars mended.new.items) ≡ chars mended.new.items }
+{
+    let mut most = usize::MAX;
+    loop {
+        let len = mend_front(bytes, most, mended);
+        let (front, refused) = split_allowed(rows, assigned, mended_text(mended));
+        if refused.is_empty() {
+            return len;
+        }
+        most = front.len();
     }
 }

@@ -1,5 +1,5 @@
 //! How text goes through a normalizer to a sink, step by step.
-ghost use Rattle.std.specs.Prelude.{◌≡◌, ◌++◌, ◌||◌, not, length, chars, take_while, encode_utf8_all};
+ghost use Rattle.std.specs.Prelude.{◌≡◌, ◌++◌, length, chars, take_while, encode_utf8_all};
 ghost use Rattle.nf_filter.specs.Policy.{allowed};
 
 use crate::block::Block;
@@ -198,13 +198,6 @@ pub(crate) fn split_allowed<'t, R: Rows>(
     ensures whole { chars text.now ≡ chars result.0.now ++ chars result.1.now }
 {
     text.split_at(allowed_len(rows, assigned, text))
-}
-
-/// Whether the character is taken.
-pub(crate) fn is_allowed<R: Rows>(rows: &R, assigned: bool, c: char) -> bool
-    ensures { result ≡ (not assigned || (R.properties rows.now).assigned c) }
-{
-    !assigned || rows.assigned(c)
 }
 
 /// How many bytes these have.

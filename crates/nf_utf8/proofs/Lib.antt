@@ -1,7 +1,5 @@
-mod AloneLemmas
 mod AsciiLemmas
 mod BegunLen
-mod BrokenLemmas
 mod CountingLemmas
 mod Endings
 mod Fronts

@@ -1,5 +1,5 @@
 -- The text with U+FFFD for each maximal subpart of an ill-formed sequence, and std's.
-use Rattle.std.proofs.Common.{◌≡◌, ℕ, ◌+◌, ◌<◌, ◌≤◌, ◌==◌, nat_lt, Bool, true, false, cond, List, [], ◌∷◌, ◌++◌, map, length, take, drop, Option, Some, None, unwrap_or, IsUtf8, encode_utf8_all, refl, sym, ap, subst, ◌∙◌, arith, append-nil, append_assoc, length-drop, take_all, take-append-drop}
+use Rattle.std.proofs.Common.{◌≡◌, ℕ, ◌+◌, ◌<◌, ◌≤◌, ◌==◌, nat_lt, ltb-false, Bool, true, false, cond, List, [], ◌∷◌, ◌++◌, map, length, take, drop, Option, Some, None, unwrap_or, IsUtf8, encode_utf8_all, refl, sym, ap, subst, ◌∙◌, arith, append-nil, append_assoc, length-drop, take_all, take-append-drop}
 use Rattle.std.specs.Int.{is_in_range}
 use Rattle.std.specs.List.{slice_index}
 use Rattle.std.specs.Str.Lossy.{utf8_lossy, utf8_invalid_len, error_len_of_some, error_len_after_one, error_len_after_two, second_byte_min, second_byte_max, utf8_error_len, after_first_chunk, replacement_bytes}
@@ -95,6 +95,50 @@ broken_invalid bytes at start e = by (at == start) refl
     by false t =
         let differs : ¬ (at ≡ start) = grind (arith, nat_tests) in
         omega (arith, b.begun, invalid_begun (rest_at bytes) (omega (arith, b.text, b.begun, b.order)))
+
+-- where std tells how many bytes are invalid, a byte breaks them off
+told_within : (rest : List ℕ) (n : ℕ) → utf8_error_len rest ≡ Some n → is_in_range 0xC2 0xF4 (slice_index rest 0) ≡ true → n < length rest
+unfolding utf8_error_len
+told_within rest n told lead =
+    let P : Option ℕ → Type 0 = λ o. o ≡ Some n → n < length rest in
+    let x : ℕ = slice_index rest 0 in
+    let on_three : Option ℕ = cond (nat_lt (length rest) 4) None (Some 3) in
+    let third : Bool = is_in_range 0x80 0xBF (slice_index rest 2) in
+    let second : Bool = is_in_range (second_byte_min x) (second_byte_max x) (slice_index rest 1) in
+    let none : P None = λ e. absurd (cc) in
+    let past : (m : ℕ) → nat_lt (length rest) (m + 1) ≡ false → P (Some m) = λ m f e. let same : m ≡ n = cc in omega (arith, same, ltb-false (length rest) (m + 1) f) in
+    let after_three : P on_three = cond_at P (nat_lt (length rest) 4) None (Some 3) (λ _. none) (past 3) in
+    let after_two : P (error_len_after_two rest) =
+    cond_at P (nat_lt (length rest) 3) None (cond third on_three (Some 2)) (λ _. none) (λ f. cond_at P third on_three (Some 2) (λ _. after_three) (λ _. past 2 f)) in
+    let after_one : P (error_len_after_one rest) =
+    cond_at P (nat_lt (length rest) 2) None (cond second (error_len_after_two rest) (Some 1)) (λ _. none)
+    (λ f. cond_at P second (error_len_after_two rest) (Some 1) (λ _. after_two) (λ _. past 1 f)) in
+    cond_at P (length rest == 0) None (error_len_of_some rest) (λ _. none)
+    (λ _. cond_at P (is_in_range 0xC2 0xF4 x) (error_len_after_one rest) (Some 1) (λ _. after_one) (λ f _. absurd (cc))) told
+
+pub record IsTold (bytes : List ℕ) (n : ℕ) : Type 0 where
+  pub at : ℕ
+  pub bad : ending_of bytes ≡ Bad at (text_len bytes)
+  pub end : part_end at (text_len bytes) ≡ text_len bytes + n
+
+pub told_bad : (bytes : List ℕ) (n : ℕ) → text_len bytes < length bytes → utf8_error_len (rest_at bytes) ≡ Some n → IsTold bytes n
+told_bad bytes n short told = by (ending_of-ends bytes)
+  where
+    invalid : utf8_invalid_len (rest_at bytes) ≡ n
+    invalid = ap (λ o. unwrap_or o (length (rest_at bytes))) told
+
+    not_cut : (lead : Bool) → is_in_range 0xC2 0xF4 (slice_index (rest_at bytes) 0) ≡ lead → ¬ (text_len bytes + cond lead (utf8_invalid_len (rest_at bytes)) 0 ≡ length bytes)
+    not_cut true lead all = omega (arith, told_within (rest_at bytes) n told lead, invalid, length-drop (text_len bytes) bytes, all)
+    not_cut false lead all = omega (arith, all, short)
+
+    by : Ends (length bytes) (text_len bytes) (begun_len bytes) (ending_of bytes) → IsTold bytes n
+    by (whole all _) = absurd (omega (arith, all, short))
+    by (cut _ all _) = absurd (not_cut _ refl all)
+    by (bad _ _ f) = record {
+      at = begun_len bytes;
+      bad = f;
+      end = sym (broken_invalid bytes (begun_len bytes) (text_len bytes) f) ∙ ap (λ k. text_len bytes + k) invalid;
+    }
 
 pub few_at_end : (bytes : List ℕ) → begun_at_end bytes ≤ 3
 few_at_end = by_parts (λ bytes. begun_at_end bytes ≤ 3)

@@ -1,77 +1,104 @@
--- Stretches of text, each with the ill-formed part behind it.
-use Rattle.std.proofs.Common.{◌≡◌, ℕ, ◌+◌, ◌-◌, ◌<◌, ◌≤◌, ◌==◌, Bool, true, false, cond, List, [], ◌∷◌, ◌++◌, length, take, drop, refl, sym, ap, subst, ◌∙◌, arith, append-nil, append_assoc, length-append, length-drop, length-take-le, take-append-drop, chars, IsUtf8, encode_utf8_all}
+-- Stretches of text, each with the ill-formed part after it.
+use Rattle.std.proofs.Common.{◌≡◌, ℕ, ◌+◌, ◌-◌, ◌<◌, ◌≤◌, List, [], ◌∷◌, ◌++◌, length, take, drop, refl, sym, ap, subst, ◌∙◌, arith, append_assoc, length-append, length-drop, length-take-le, take-append-drop, length-take, take-take, subst₂, chars, IsUtf8, encode_utf8_all}
 use Rattle.std.specs.Str.Lossy.{replacement_bytes}
 use Rattle.std.proofs.str.Laws.{three}
-use Rattle.std.proofs.lemmas.Bool.Decides.{nat_tests}
-use Rattle.std.proofs.lemmas.List.{map-append, drop-append-le}
+use Rattle.std.proofs.lemmas.List.{map-append, drop-drop, drop-append-le}
 use Rattle.std.proofs.lemmas.Str.{encodes-chars, chars-append, chars-encodes, length-le-encodes, IsUtf8-append}
-use Rattle.nf_utf8.specs.Ending.{Bad, moved}
-use Rattle.nf_utf8.specs.Reading.{text_of, ending_of}
+use Rattle.nf_utf8.specs.Reading.{text_len, text_of}
 use Rattle.nf_utf8.specs.Replaced.{Part, replacement, own_parts, part_end, parts_of}
-use Rattle.nf_utf8.specs.Broken.{IsReplacedFront}
-use Rattle.nf_utf8.proofs.BrokenLemmas.{both_texts, none}
-use Rattle.nf_utf8.proofs.ReadingLemmas.{text_of-behind, ending_of-behind}
+use Rattle.nf_utf8.specs.Mending.{IsReplacedFront, IsStretch}
+use Rattle.nf_utf8.specs.declared.mending.Stretch.{Stretch}
+use Rattle.nf_utf8.proofs.LossyLemmas.{IsTold}
+use Rattle.nf_utf8.proofs.ReadingLemmas.{front_of-IsUtf8, length-encodes-text_of}
 use Rattle.nf_utf8.proofs.ReplacedLemmas.{bytes_in-append, bytes_in-own, chars-own, broken_part, broken_end, parts_of-bad}
 
--- where a part ends, with n more bytes before it
-part_end-moved : (n at : ℕ) → part_end (n + at) (n + 0) ≡ n + part_end at 0
-part_end-moved n at = by (at == 0) refl
-  where
-    by : (b : Bool) → (at == 0) ≡ b → cond (n + at == n + 0) (n + 0 + 1) (n + at) ≡ n + cond b 1 at
-    by true e = let first : at ≡ 0 = grind (arith, nat_tests) in grind (arith, nat_tests)
-    by false e = let behind : ¬ (at ≡ 0) = grind (arith, nat_tests) in grind (arith, nat_tests)
+-- ---- fronts
+
+pub no_front : (bytes : List ℕ) → IsReplacedFront bytes [] 0
+no_front bytes = record {
+  parts = [];
+  chars = refl;
+  size = refl;
+  within = omega arith;
+  front = λ more. refl;
+}
+
+-- one front after another
+both_fronts : (bytes x y : List ℕ) (l m : ℕ) → IsReplacedFront bytes x l → IsReplacedFront (drop l bytes) y m → IsReplacedFront bytes (x ++ y) (l + m)
+both_fronts bytes x y l m is next = record {
+  parts = is.parts ++ next.parts;
+  chars = map-append (λ part. part.char) is.parts next.parts ∙ (λ i. is.chars i ++ next.chars i);
+  size = omega (arith, bytes_in-append is.parts next.parts, is.size, next.size);
+  within = omega (arith, next.within, length-drop l bytes, is.within);
+  front = λ more.
+      is.front more ∙ ap (λ l. is.parts ++ l) (next.front more ∙ ap (λ l. next.parts ++ parts_of (l ++ more)) (drop-drop m l bytes))
+      ∙ sym (append_assoc is.parts next.parts (parts_of (drop (l + m) bytes ++ more)));
+}
+
+-- a front of the first bytes is one of all
+longer : (bytes behind x : List ℕ) (len : ℕ) → IsReplacedFront bytes x len → IsReplacedFront (bytes ++ behind) x len
+longer bytes behind x len is = record {
+  parts = is.parts;
+  chars = is.chars;
+  size = is.size;
+  within = omega (arith, is.within, length-append bytes behind);
+  front = λ more.
+      ap parts_of (append_assoc bytes behind more) ∙ is.front (behind ++ more)
+      ∙ ap (λ l. is.parts ++ parts_of l) (sym (append_assoc (drop len bytes) behind more) ∙ ap (λ l. l ++ more) (sym (drop-append-le len bytes behind is.within)));
+}
+
+-- ---- one stretch
 
 -- U+FFFD as text
 replacement_is : encode_utf8_all (replacement ∷ []) ≡ replacement_bytes
 replacement_is = ap (λ l. l ++ []) (three replacement (omega arith) (omega arith))
 
-pub replacement-utf8 : IsUtf8 replacement_bytes
+replacement-utf8 : IsUtf8 replacement_bytes
 replacement-utf8 = (replacement ∷ [], (refl, replacement_is))
 
 replacement-chars : chars replacement_bytes ≡ replacement ∷ []
 replacement-chars = ap chars (sym replacement_is) ∙ chars-encodes (replacement ∷ []) refl
 
-module _ (bytes : List ℕ) (n : ℕ) (within : n ≤ length bytes) (utf8 : IsUtf8 (take n bytes)) (at : ℕ) (bad : ending_of (drop n bytes) ≡ Bad at 0) where
-  abbrev text : List ℕ
-  text = take n bytes
+-- the text of bytes, and the part after it, where a byte breaks that off
+broken_front : (bytes : List ℕ) (n : ℕ) → IsTold bytes n → IsReplacedFront bytes (text_of bytes ++ replacement ∷ []) (text_len bytes + n)
+broken_front bytes n told =
+    let text : List ℕ = text_of bytes in
+    let part : Part = broken_part told.at (text_len bytes) in
+    let end = broken_end bytes told.at (text_len bytes) told.bad in
+    subst (IsReplacedFront bytes (text ++ replacement ∷ [])) told.end
+    (record {
+      parts = own_parts text ++ part ∷ [];
+      chars = map-append (λ part. part.char) (own_parts text) (part ∷ []) ∙ ap (λ l. l ++ replacement ∷ []) (chars-own text);
+      size = omega (arith, bytes_in-append (own_parts text) (part ∷ []), bytes_in-own text, length-encodes-text_of bytes, end.0);
+      within = end.1;
+      front = λ more.
+          parts_of-bad bytes more told.at (text_len bytes) told.bad
+          ∙ ap (λ l. own_parts text ++ part ∷ parts_of l) (drop-append-le (part_end told.at (text_len bytes)) bytes more end.1)
+          ∙ sym (append_assoc (own_parts text) (part ∷ []) (parts_of (drop (part_end told.at (text_len bytes)) bytes ++ more)));
+    })
 
-  -- the part ends within the bytes
-  pub stretch-within : n + part_end at 0 ≤ length bytes
-  stretch-within = omega (arith, (broken_end (drop n bytes) at 0 bad).1, length-drop n bytes, within)
+-- as they are found in the first `near` bytes
+pub stretch_is : (bytes : List ℕ) (near : ℕ) (stretch : Stretch) (n : ℕ) → IsTold (take near bytes) n → stretch.text ≡ text_len (take near bytes) → stretch.len ≡ stretch.text + n
+    → IsStretch bytes stretch
+unfolding text_of
+stretch_is bytes near stretch n told text len =
+    let start : List ℕ = take near bytes in
+    let some = (broken_end start told.at (text_len start) told.bad).0 in
+    let within = (broken_end start told.at (text_len start) told.bad).1 in
+    let few : stretch.text ≤ length start = omega (arith, text, some, within) in
+    let same : take (text_len start) start ≡ take stretch.text bytes = ap (λ k. take k start) (sym text) ∙ take-take stretch.text near bytes (omega (arith, few, length-take near bytes)) in
+    record {
+      within = omega (arith, few, length-take near bytes);
+      utf8 = subst IsUtf8 same (front_of-IsUtf8 start);
+      part = omega (arith, len, some, told.end);
+      front = subst (λ l. IsReplacedFront bytes (chars l ++ replacement ∷ []) stretch.len) same
+          (subst₂ (λ l k. IsReplacedFront l (text_of start ++ replacement ∷ []) k) (take-append-drop near bytes) (sym (len ∙ ap (λ k. k + n) text))
+          (longer start (drop near bytes) (text_of start ++ replacement ∷ []) (text_len start + n) (broken_front start n told)));
+    }
 
-  pub stretch-some : 0 < part_end at 0
-  stretch-some = (broken_end (drop n bytes) at 0 bad).0
+-- ---- one more stretch
 
-  ending : ending_of bytes ≡ Bad (n + at) (n + 0)
-  ending =
-      ap ending_of (sym (take-append-drop n bytes)) ∙ ending_of-behind text (drop n bytes) utf8
-      ∙ (λ i. moved (length-take-le n bytes within i) (bad i))
-
-  text_is : text_of bytes ≡ chars text
-  text_is =
-      ap text_of (sym (take-append-drop n bytes)) ∙ text_of-behind text (drop n bytes) utf8
-      ∙ ap (λ l. chars text ++ l) (none (drop n bytes) at bad) ∙ append-nil (chars text)
-
-  abbrev part : Part
-  part = broken_part (n + at) (n + 0)
-
-  stretch_front : IsReplacedFront bytes (chars text ++ replacement ∷ []) (n + part_end at 0)
-  stretch_front = record {
-    parts = own_parts (chars text) ++ part ∷ [];
-    chars = map-append (λ part. part.char) (own_parts (chars text)) (part ∷ []) ∙ ap (λ l. l ++ replacement ∷ []) (chars-own (chars text));
-    size = omega (arith, bytes_in-append (own_parts (chars text)) (part ∷ []), bytes_in-own (chars text), ap length (encodes-chars text utf8), length-take-le n bytes within, part_end-moved n at);
-    within = stretch-within;
-    front = λ more.
-        parts_of-bad bytes more (n + at) (n + 0) ending
-        ∙ (λ i. own_parts (text_is i) ++ part ∷ parts_of (drop (part_end-moved n at i) (bytes ++ more)))
-        ∙ ap (λ l. own_parts (chars text) ++ part ∷ parts_of l) (drop-append-le (n + part_end at 0) bytes more stretch-within)
-        ∙ sym (append_assoc (own_parts (chars text)) (part ∷ []) (parts_of (drop (n + part_end at 0) bytes ++ more)));
-  }
-
-  stretch_text : chars (text ++ replacement_bytes) ≡ chars text ++ replacement ∷ []
-  stretch_text = chars-append text replacement_bytes utf8 ∙ ap (λ l. chars text ++ l) replacement-chars
-
--- what one more stretch makes of them
+-- what it makes of them
 pub record IsMendedWith (bytes new : List ℕ) (len next : ℕ) : Type 0 where
   pub text : IsUtf8 new
   pub replaced : IsReplacedFront bytes (chars new) next
@@ -79,40 +106,39 @@ pub record IsMendedWith (bytes new : List ℕ) (len next : ℕ) : Type 0 where
   pub more : len < next
   pub within : next ≤ length bytes
 
-module _ (bytes mended : List ℕ) (len : ℕ) (before : IsUtf8 mended) (is : IsReplacedFront bytes (chars mended) len) (few : length (chars mended) ≤ len)
-    (n : ℕ) (within : n ≤ length (drop len bytes)) (utf8 : IsUtf8 (take n (drop len bytes))) (at : ℕ) (bad : ending_of (drop n (drop len bytes)) ≡ Bad at 0)
-    (new : List ℕ) (appended : new ≡ mended ++ take ((len + n) - len) (drop len bytes) ++ replacement_bytes) where
-  abbrev stretch : List ℕ
-  stretch = take n (drop len bytes)
+pub one_stretch : (bytes mended new : List ℕ) (len : ℕ) (stretch : Stretch) → IsUtf8 mended → IsReplacedFront bytes (chars mended) len → length (chars mended) ≤ len
+    → IsStretch (drop len bytes) stretch → new ≡ mended ++ take ((len + stretch.text) - len) (drop len bytes) ++ replacement_bytes
+    → IsMendedWith bytes new len (len + stretch.len)
+one_stretch bytes mended new len stretch before is few next appended = record {
+  text = subst IsUtf8 (sym new_is) (IsUtf8-append mended (text ++ replacement_bytes) before (IsUtf8-append text replacement_bytes next.utf8 replacement-utf8));
+  replaced = all;
+  few = omega (
+    arith,
+    few,
+    ap length new_chars,
+    length-append (chars mended) (chars text ++ replacement ∷ []),
+    length-append (chars text) (replacement ∷ []),
+    length-le-encodes (chars text),
+    ap length (encodes-chars text next.utf8),
+    length-take-le stretch.text (drop len bytes) next.within,
+    next.part,
+  );
+  more = omega (arith, next.part);
+  within = all.within;
+}
+  where
+    text : List ℕ
+    text = take stretch.text (drop len bytes)
 
-  new_is : new ≡ mended ++ (stretch ++ replacement_bytes)
-  new_is =
-      appended ∙ ap (λ k. mended ++ take k (drop len bytes) ++ replacement_bytes) (let same : (len + n) - len ≡ n = omega arith in same)
-      ∙ append_assoc mended stretch replacement_bytes
+    new_is : new ≡ mended ++ (text ++ replacement_bytes)
+    new_is =
+        appended ∙ ap (λ k. mended ++ take k (drop len bytes) ++ replacement_bytes) (let same : (len + stretch.text) - len ≡ stretch.text = omega arith in same)
+        ∙ append_assoc mended text replacement_bytes
 
-  new_chars : chars new ≡ chars mended ++ (chars stretch ++ replacement ∷ [])
-  new_chars =
-      ap chars new_is ∙ chars-append mended (stretch ++ replacement_bytes) before
-      ∙ ap (λ l. chars mended ++ l) (stretch_text (drop len bytes) n within utf8 at bad)
+    new_chars : chars new ≡ chars mended ++ (chars text ++ replacement ∷ [])
+    new_chars =
+        ap chars new_is ∙ chars-append mended (text ++ replacement_bytes) before
+        ∙ ap (λ l. chars mended ++ l) (chars-append text replacement_bytes next.utf8 ∙ ap (λ l. chars text ++ l) replacement-chars)
 
-  pub one_stretch : (stretch_len : ℕ) → stretch_len ≡ n + part_end at 0 → IsMendedWith bytes new len (len + stretch_len)
-  one_stretch stretch_len is_len =
-      subst (λ k. IsMendedWith bytes new len (len + k)) (sym is_len)
-      (record {
-        text = subst IsUtf8 (sym new_is) (IsUtf8-append mended (stretch ++ replacement_bytes) before (IsUtf8-append stretch replacement_bytes utf8 replacement-utf8));
-        replaced = subst (λ x. IsReplacedFront bytes x (len + (n + part_end at 0))) (sym new_chars)
-            (both_texts bytes (chars mended) (chars stretch ++ replacement ∷ []) len (n + part_end at 0) is (stretch_front (drop len bytes) n within utf8 at bad));
-        few = omega (
-          arith,
-          few,
-          ap length new_chars,
-          length-append (chars mended) (chars stretch ++ replacement ∷ []),
-          length-append (chars stretch) (replacement ∷ []),
-          length-le-encodes (chars stretch),
-          ap length (encodes-chars stretch utf8),
-          length-take-le n (drop len bytes) within,
-          stretch-some (drop len bytes) n within utf8 at bad,
-        );
-        more = omega (arith, stretch-some (drop len bytes) n within utf8 at bad);
-        within = omega (arith, stretch-within (drop len bytes) n within utf8 at bad, length-drop len bytes, is.within);
-      })
+    all : IsReplacedFront bytes (chars new) (len + stretch.len)
+    all = subst (λ x. IsReplacedFront bytes x (len + stretch.len)) (sym new_chars) (both_fronts bytes (chars mended) (chars text ++ replacement ∷ []) len stretch.len is next.front)

@@ -11,5 +11,4 @@ pub mod Front
 pub mod Taking
 pub mod Pushes
 pub mod Replaced
-pub mod Broken
-pub mod Stretch
+pub mod Mending

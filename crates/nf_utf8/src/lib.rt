@@ -11,9 +11,7 @@
 //! bytes gives.
 #![tactic(auto)]
 
-mod alone;
 mod ascii;
-mod broken;
 mod carry;
 mod chunk;
 mod counting;
@@ -27,7 +25,6 @@ mod step;
 mod valid;
 
 pub use ascii::ascii_prefix;
-pub use broken::{Broken, broken_front};
 pub use chunk::{Chunk, End};
 pub use counting::char_count;
 pub use decoder::Decoder;

@@ -4,8 +4,6 @@
 #[cfg(test)]
 mod blocks;
 #[cfg(test)]
-mod broken;
-#[cfg(test)]
 mod counting;
 #[cfg(test)]
 mod mending;

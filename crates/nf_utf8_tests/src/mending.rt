@@ -1,12 +1,17 @@
-//! Ill-formed parts with little text between them.
+//! Ill-formed parts, one after the other or with little text between them.
 use nf_utf8::{Mended, mend_front, mended_text};
 use std::process::Abort;
 use std::test::Fail;
 
 /// What the bytes are mended to, and how many of them.
 fn check(rt: &impl Abort, bytes: &[u8], text: &str, len: usize) {
+    check_most(rt, bytes, usize::MAX, text, len);
+}
+
+/// The same, for text of at most so many bytes.
+fn check_most(rt: &impl Abort, bytes: &[u8], most: usize, text: &str, len: usize) {
     let mut mended = Mended::new();
-    let front = mend_front(bytes, &mut mended);
+    let front = mend_front(bytes, most, &mut mended);
     assert_eq!(rt; (mended_text(&mended), front), (text, len), "{bytes:?}");
 }
 
@@ -43,13 +48,52 @@ fn text_is_mended_up_to_the_last_part_that_is_near(rt: HostRuntime) {
     }
 }
 
-/// Behind long text no part is near: behind more than 64 bytes of ASCII, or 64 of other text.
+#[test]
+fn parts_are_mended_one_after_the_other(rt: HostRuntime) {
+    let cases: [(&[u8], &str, usize); 9] = [
+        // Bytes that the next piece may complete are no part yet.
+        (b"\xF0\x90\x80", "", 0),
+        (b"\x80\xC3", "\u{FFFD}", 1),
+        (
+            b"\x80\xBF\xC1\xF5\xFFA",
+            "\u{FFFD}\u{FFFD}\u{FFFD}\u{FFFD}\u{FFFD}",
+            5,
+        ),
+        (b"\xE0\xE0\x80A", "\u{FFFD}\u{FFFD}\u{FFFD}", 3),
+        (b"\xF0\x90\x80\xF0\x90\x80A", "\u{FFFD}\u{FFFD}", 6),
+        // Each character has its own second bytes.
+        (b"\xE0\xA0\x80\x80", "\u{800}\u{FFFD}", 4),
+        (b"\xED\xA0\x80A", "\u{FFFD}\u{FFFD}\u{FFFD}", 3),
+        (b"\xED\x9F\xBF\x80", "\u{D7FF}\u{FFFD}", 4),
+        (b"\xF4\x90\x80\x80A", "\u{FFFD}\u{FFFD}\u{FFFD}\u{FFFD}", 4),
+    ];
+    for (bytes, text, len) in cases {
+        check(&rt, bytes, text, len);
+    }
+}
+
+#[test]
+fn no_more_text_is_mended_than_is_asked_for(rt: HostRuntime) {
+    let cases: [(usize, &str, usize); 6] = [
+        (0, "", 0),
+        (3, "", 0),
+        (4, "A\u{FFFD}", 2),
+        (7, "A\u{FFFD}", 2),
+        (8, "A\u{FFFD}B\u{FFFD}", 4),
+        (usize::MAX, "A\u{FFFD}B\u{FFFD}", 4),
+    ];
+    for (most, text, len) in cases {
+        check_most(&rt, b"A\x80B\x80", most, text, len);
+    }
+}
+
+/// Where an ill-formed part ends more than 64 bytes on, it is not near.
 #[test]
 fn long_text_is_left(rt: HostRuntime) -> Result<(), Fail> {
     let alloc = rt.alloc();
     for (letter, count, is_near) in [
-        ("a", 64, true),
-        ("a", 65, false),
+        ("a", 63, true),
+        ("a", 64, false),
         ("\u{E9}", 31, true),
         ("\u{E9}", 32, false),
     ] {

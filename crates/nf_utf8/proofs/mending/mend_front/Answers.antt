@@ -1,10 +1,8 @@
 use Rattle.std.proofs.Common.{◌≡◌, ◌+◌, [], length, drop, refl, sym, subst, ap, chars, IsUtf8, arith, ◌∙◌}
 use Rattle.std.proofs.lemmas.List.{take_rest}
 use Rattle.std.proofs.lemmas.Str.{IsUtf8-nil, chars-encodes}
-use Rattle.nf_utf8.specs.Broken.{IsReplacedFront}
-use Rattle.nf_utf8.specs.Stretch.{IsStretch}
-use Rattle.nf_utf8.proofs.BrokenLemmas.{no_part}
-use Rattle.nf_utf8.proofs.MendingLemmas.{IsMendedWith, one_stretch}
+use Rattle.nf_utf8.specs.Mending.{IsReplacedFront, IsStretch}
+use Rattle.nf_utf8.proofs.MendingLemmas.{no_front, IsMendedWith, one_stretch}
 use Rattle.nf_utf8.proofs.mending.mend_front.Goals as goal
 
 pub loop-stretch-init : goal.loop-stretch-init
@@ -13,16 +11,16 @@ loop-stretch-init c =
     let no_chars : [] ≡ chars c.clear.new.self.items = sym (chars-encodes [] refl) ∙ ap chars none in
     record {
       text = subst IsUtf8 none IsUtf8-nil;
-      replaced = subst (λ x. IsReplacedFront c.args.bytes.now x 0) no_chars (no_part c.args.bytes.now);
+      within = omega (arith, ap length none);
+      replaced = subst (λ x. IsReplacedFront c.args.bytes.now x 0) no_chars (no_front c.args.bytes.now);
       few = omega (arith, ap length no_chars);
     }
 
 mended_with : (c : goal.After-struct_known-in-Some-1) → IsMendedWith c.args.bytes.now c.append.new.mended.items c.loop-stretch.len (c.loop-stretch.len + c.in-Some.stretch.len)
 mended_with c =
     let i = c.loop-stretch.invariant in
-    let s : IsStretch (drop c.loop-stretch.len c.args.bytes.now) c.in-Some.stretch = rw take_rest at c.in-Some.ensures in
-    one_stretch c.args.bytes.now c.loop-stretch.mended.items c.loop-stretch.len i.text i.replaced i.few c.in-Some.stretch.text s.within s.utf8 s.at s.bad c.append.new.mended.items
-    (c.if-not-append.ensures.grown refl) c.in-Some.stretch.len s.len
+    let next : IsStretch (drop c.loop-stretch.len c.args.bytes.now) c.in-Some.stretch = rw take_rest at c.in-Some.ensures in
+    one_stretch c.args.bytes.now c.loop-stretch.mended.items c.append.new.mended.items c.loop-stretch.len c.in-Some.stretch i.text i.replaced i.few next (c.if-not-append.ensures.grown refl)
 
 pub overflow_add-len-in-Some : goal.overflow_add-len-in-Some
 overflow_add-len-in-Some c = omega (arith, (mended_with c).within)
@@ -31,4 +29,4 @@ pub loop-stretch-smaller : goal.loop-stretch-smaller
 loop-stretch-smaller c = omega (arith, (mended_with c).more, (mended_with c).within)
 
 pub loop-stretch-preserved : goal.loop-stretch-preserved
-loop-stretch-preserved c = let m = mended_with c in record { text = m.text; replaced = m.replaced; few = m.few }
+loop-stretch-preserved c = let m = mended_with c in record { text = m.text; within = c.if-not-append.ensures.within refl; replaced = m.replaced; few = m.few }

@@ -1,10 +1,11 @@
 use Rattle.std.proofs.Common.{◌≤◌, ◌-◌, chars, length, IsUtf8}
-use Rattle.nf_utf8.specs.Broken.{IsReplacedFront}
+use Rattle.nf_utf8.specs.Mending.{IsReplacedFront}
 use Rattle.nf_utf8.proofs.mending.mend_front.Given as goal
 
 abbrev pub invariant-loop-stretch : goal.invariant-loop-stretch
 invariant-loop-stretch l = record {
   text : IsUtf8 l.mended.items;
+  within : length l.mended.items ≤ l.most;
   replaced : IsReplacedFront l.bytes (chars l.mended.items) l.len;
   few : length (chars l.mended.items) ≤ l.len;
 }

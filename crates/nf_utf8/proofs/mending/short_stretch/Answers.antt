@@ -1,8 +1,15 @@
-use Rattle.std.proofs.Common.{◌≤◌, arith, take-take, length-take}
-use Rattle.std.proofs.lemmas.Str.{IsUtf8-from_ascii}
+use Rattle.std.proofs.Common.{◌+◌, List, ℕ, take, drop, refl, sym, ap, ◌∙◌, arith}
+use Rattle.std.specs.Str.Lossy.{utf8_error_len}
+use Rattle.nf_utf8.proofs.LossyLemmas.{told_bad}
+use Rattle.nf_utf8.proofs.MendingLemmas.{stretch_is}
 use Rattle.nf_utf8.proofs.mending.short_stretch.Goals as goal
 
-pub stretch_of-requires-clause-utf8 : goal.stretch_of-requires-clause-utf8
-stretch_of-requires-clause-utf8 c =
-    let few : c.ascii_prefix.result ≤ c.min.result = omega (arith, c.ascii_prefix.ensures.within, length-take c.min.result c.args.bytes.now) in
-    rw take-take at (IsUtf8-from_ascii _ c.ascii_prefix.ensures.ascii)
+pub returns : goal.returns
+returns c =
+    let near : List ℕ = take c.min.result c.args.bytes.now in
+    let text = c.valid_up_to-text.result in
+    let part = c.in_ok-part.part in
+    let error = c.in-Err.ensures in
+    let told = ap (λ n. utf8_error_len (drop n near)) (sym error.valid_len) ∙ sym error.fault ∙ sym c.error_len.ensures ∙ c.in_ok-part.was in
+    stretch_is c.args.bytes.now c.min.result (record { text = text; len = text + part }) part (told_bad near part (omega (arith, error.cases.1.short, error.valid_len)) told)
+    (c.valid_up_to-text.ensures ∙ error.valid_len) refl

@@ -1,11 +1,13 @@
-use Rattle.std.proofs.Common.{◌≡◌, true, refl, sym, subst, ◌∙◌, rules, chars}
+use Rattle.std.proofs.Common.{◌≡◌, true, refl, chars, length, arith, ap}
 use Rattle.std.proofs.lemmas.Bool.{not-false}
 use Rattle.std.proofs.lemmas.List.{take_rest}
-use Rattle.nf_utf8.specs.Broken.{IsReplacedFront}
 use Rattle.nf_filter.specs.Block.{block_state}
-use Rattle.nf_filter.proofs.BrokenLemmas.{taken_before, written_before, broken-read, broken-refused}
-use Rattle.nf_filter.proofs.SteppingLemmas.{none-left}
+use Rattle.nf_filter.proofs.TakingLemmas.{HasPlaces-all}
+use Rattle.nf_filter.proofs.MendingLemmas.{place_behind, placed_behind, counted_before, standing_before, mended-read, mended-refused}
 use Rattle.nf_filter.proofs.reading.Reading.read_mended.Goals as goal
+
+pub take_text-requires-clause-fits : goal.take_text-requires-clause-fits
+take_text-requires-clause-fits g c = HasPlaces-all 0 c.mended_text.result.now c.mended_text.utf8 (omega (arith, ap length c.mended_text.ensures))
 
 pub returns-in-Err-clause-reads : goal.returns-in-Err-clause-reads
 returns-in-Err-clause-reads g c = λ f base bytes start part.
@@ -13,15 +15,15 @@ returns-in-Err-clause-reads g c = λ f base bytes start part.
     let read = part.0.0 in
     let laws = c.replacing.ensures in
     let replaces : c.args.policy.replace ≡ true = not-false c.args.policy.replace c.if-not-policy.false in
-    let len = c.mend_front-len.result in
-    let text = c.mended_text-text.result.now in
-    let front : IsReplacedFront c.args.rest.now (chars text) len = subst (λ t. IsReplacedFront c.args.rest.now (chars t) len) (sym c.mended_text-text.ensures) c.mend_front-len.ensures.replaced in
-    let allowed = sym c.split_allowed.ensures.front ∙ none-left (chars text) (chars c.split_allowed.result.0.now) c.split_allowed.result.1.now c.split_allowed.ensures.whole (search rules) in
-    let before = taken_before c.args.policy f p base bytes start laws replaces c.args.counted.now c.args.self.now c.args.rest.now read part.1 in
-    let written = written_before c.args.policy f p base bytes start laws replaces c.args.counted.now c.args.self.now c.args.rest.now read part.1 (block_state (g.S.Sink.state c.args.sink.now) c.args.block.now) part.0.1 in
-    let stopped = c.in-Err.ensures.takes f read.before start before written in
-    broken-refused c.args.policy f p base bytes start laws replaces c.args.counted.now c.args.self.now c.args.rest.now read part.1
-    (chars text) len front allowed (block_state (g.S.Sink.state c.take_sound.new.sink) c.take_sound.new.block) c.take_sound.new.self stopped.0 stopped.1
+    let sound = c.all_sound.ensures c.if-not-all_sound.false in
+    let mended = c.mend_allowed-len.ensures in
+    let text = chars c.mend_allowed-len.new.mended.items in
+    let place = place_behind read.before 0 in
+    let standing = standing_before c.args.policy f p base bytes start laws replaces c.args.counted.now c.args.self.now c.args.rest.now read part.1 (block_state (g.S.Sink.state c.args.sink.now) c.args.block.now) text part.0.1 in
+    let counted = counted_before c.args.policy f p base bytes start laws replaces c.args.counted.now c.args.self.now c.args.rest.now read part.1 in
+    let takes = rw c.mended_text.ensures at (c.in-Err.ensures.takes f place read.before start counted (rw c.mended_text.ensures standing) (rw c.mended_text.ensures (placed_behind read.before text 0))) in
+    mended-refused c.args.policy f p base bytes start laws replaces c.args.counted.now c.args.self.now c.args.rest.now read part.1
+    text c.mend_allowed-len.result mended.replaced mended.allowed sound (block_state (g.S.Sink.state c.take_text.new.sink) c.take_text.new.block) c.take_text.new.self place c.in-Err.field-0 takes
 
 pub returns-clause-reads : goal.returns-clause-reads
 returns-clause-reads g c = λ f base bytes start part.
@@ -29,13 +31,13 @@ returns-clause-reads g c = λ f base bytes start part.
     let read = part.0.0 in
     let laws = c.replacing.ensures in
     let replaces : c.args.policy.replace ≡ true = not-false c.args.policy.replace c.if-not-policy.false in
-    let len = c.mend_front-len.result in
-    let text = c.mended_text-text.result.now in
-    let front : IsReplacedFront c.args.rest.now (chars text) len = subst (λ t. IsReplacedFront c.args.rest.now (chars t) len) (sym c.mended_text-text.ensures) c.mend_front-len.ensures.replaced in
-    let allowed = sym c.split_allowed.ensures.front ∙ none-left (chars text) (chars c.split_allowed.result.0.now) c.split_allowed.result.1.now c.split_allowed.ensures.whole (search rules) in
-    let before = taken_before c.args.policy f p base bytes start laws replaces c.args.counted.now c.args.self.now c.args.rest.now read part.1 in
-    let written = written_before c.args.policy f p base bytes start laws replaces c.args.counted.now c.args.self.now c.args.rest.now read part.1 (block_state (g.S.Sink.state c.args.sink.now) c.args.block.now) part.0.1 in
-    let after = c.in_default.ensures.takes f read.before start before written in
-    let slice = take_rest c.args.rest.now len in
-    rw slice (broken-read c.args.policy f p base bytes start laws replaces c.args.counted.now c.args.self.now c.args.rest.now read part.1
-    (chars text) len front allowed (block_state (g.S.Sink.state c.take_sound.new.sink) c.take_sound.new.block) c.take_sound.new.self _ after.0 after.1 refl refl)
+    let sound = c.all_sound.ensures c.if-not-all_sound.false in
+    let mended = c.mend_allowed-len.ensures in
+    let text = chars c.mend_allowed-len.new.mended.items in
+    let place = place_behind read.before 0 in
+    let standing = standing_before c.args.policy f p base bytes start laws replaces c.args.counted.now c.args.self.now c.args.rest.now read part.1 (block_state (g.S.Sink.state c.args.sink.now) c.args.block.now) text part.0.1 in
+    let counted = counted_before c.args.policy f p base bytes start laws replaces c.args.counted.now c.args.self.now c.args.rest.now read part.1 in
+    let takes = rw c.mended_text.ensures at (c.in_default.ensures.takes f place read.before start counted (rw c.mended_text.ensures standing) (rw c.mended_text.ensures (placed_behind read.before text 0))) in
+    let slice = take_rest c.args.rest.now c.mend_allowed-len.result in
+    rw slice (mended-read c.args.policy f p base bytes start laws replaces c.args.counted.now c.args.self.now c.args.rest.now read part.1
+    text c.mend_allowed-len.result mended.replaced mended.allowed sound (block_state (g.S.Sink.state c.take_text.new.sink) c.take_text.new.block) c.take_text.new.self place _ takes refl refl)

@@ -11,10 +11,10 @@ loop-behind-preserved g c = record {
   lender = c.in-Ok.ensures.lender ∙ c.in-Ok-Some.ensures.lender ∙ c.loop-behind.invariant.lender;
 }
 
-pub returns-in-Err-read_parts-clause-reads : goal.returns-in-Err-read_parts-clause-reads
-returns-in-Err-read_parts-clause-reads g c = λ f base bytes start both.
+pub returns-in-Err-read_mended-clause-reads : goal.returns-in-Err-read_mended-clause-reads
+returns-in-Err-read_mended-clause-reads g c = λ f base bytes start both.
     let part = rw c.in-Ok-Some.field-0-is at (c.in-Ok-Some.ensures.reads f base bytes start (c.loop-behind.invariant.reads f base bytes start both)) in
-    c.in-Err-read_parts.ensures.reads f base bytes start part
+    c.in-Err-read_mended.ensures.reads f base bytes start part
 
 pub returns-in-Ok-None-clause-reads : goal.returns-in-Ok-None-clause-reads
 returns-in-Ok-None-clause-reads g c = λ f base bytes start both. rw c.in-Ok-None.field-0-is at (c.in-Ok-None.ensures.reads f base bytes start (c.loop-behind.invariant.reads f base bytes start both))

@@ -1,0 +1,22 @@
+use Rattle.std.proofs.Common.{◌<◌, length, chars, sym, ap, ◌∙◌, rules, arith, IsUtf8}
+use Rattle.std.proofs.lemmas.Str.{encodes-chars}
+use Rattle.nf_filter.proofs.SteppingLemmas.{none-left}
+use Rattle.nf_filter.proofs.TakingLemmas.{front_len}
+use Rattle.nf_filter.proofs.mending.mend_allowed.Goals as goal
+
+pub returns-then-is_empty-clause-allowed : goal.returns-then-is_empty-clause-allowed
+returns-then-is_empty-clause-allowed g c =
+    let split = c.split_allowed.ensures in
+    let front = c.split_allowed.result.0.now in
+    rw (sym c.mended_text.ensures) (sym split.front ∙ none-left (chars c.mended_text.result.now) (chars front) c.split_allowed.result.1.now split.whole (search rules))
+
+pub loop-front-smaller : goal.loop-front-smaller
+loop-front-smaller g c =
+    let text = c.mended_text.result.now in
+    let front = c.split_allowed.result.0.now in
+    let rest = c.split_allowed.result.1.now in
+    let front-utf8 : IsUtf8 front = search rules in
+    let rest-utf8 : IsUtf8 rest = search rules in
+    let some : 0 < length rest = search rules in
+    let whole = front_len text (chars front) rest c.mended_text.utf8 rest-utf8 c.split_allowed.ensures.whole in
+    omega (arith, whole, some, ap length (encodes-chars front front-utf8), ap length c.mended_text.ensures, c.mend_front-len.ensures.within)
