@@ -1,6 +1,7 @@
 -- A piece that was read: what it comes to by the bytes.
-use Rattle.std.proofs.Common.{◌≡◌, ℕ, ◌+◌, ◌-◌, ◌==◌, Bool, true, false, List, [], ◌∷◌, ◌++◌, length, None, Ok, Err, refl, sym, ap, ◌∙◌, subst, arith, append_assoc, append-nil, eq-eqb, ne_eqb, OnOk, Result, if◌then◌else◌, encode_utf8_all, ⊎_elim}
+use Rattle.std.proofs.Common.{◌≡◌, ℕ, suc, ◌+◌, ◌-◌, ◌<◌, ◌==◌, Bool, true, false, cond, MatchResult, List, [], ◌∷◌, ◌++◌, length, None, Ok, Err, refl, sym, ap, ◌∙◌, subst, arith, append_assoc, append-nil, eq-eqb, ne_eqb, OnOk, Result, if◌then◌else◌, encode_utf8_all, ⊎_elim}
 use Rattle.std.specs.Result.{result_err}
+use Rattle.std.proofs.lemmas.Bool.Decides.{nat_tests}
 use Rattle.nf_forms.specs.Properties.{Properties}
 use Rattle.nf_forms.specs.declared.form.Form.{Form}
 use Rattle.nf_utf8.specs.Reading.{text_of, ending_of}
@@ -13,7 +14,7 @@ use Rattle.nf_filter.specs.declared.policy.Policy.{Policy}
 use Rattle.nf_filter.specs.declared.reading.Reading.{Reading}
 use Rattle.nf_filter.specs.Block.{Start, BlockState, Written, Broken, WritesTo, GivesAll}
 use Rattle.nf_filter.specs.Faults.{bad_byte, bad_under, fault_in}
-use Rattle.nf_filter.specs.Feeding.{taken_utf8, IsLeft, HasReadTo, ReadsTo, ReadsRest}
+use Rattle.nf_filter.specs.Feeding.{taken_utf8, IsLeft, HasReadTo, ReadsTo, RefusesBytes}
 use Rattle.nf_filter.specs.Counted.{settled_text}
 use Rattle.nf_filter.specs.Policy.{allowed, len_under, text_under, whole_under}
 use Rattle.nf_filter.specs.Settled.{is_usable, settled_utf8}
@@ -102,23 +103,40 @@ module _ (policy : Policy) (f : Form) (p : Properties) (base : ℕ) (laws : Repl
     pub whole-some : (carried : ℕ) → length (encode_utf8_all (text_of read.tail)) + carried ≡ length read.tail → ¬ (carried ≡ 0) → whole_under policy.replace bytes ≡ text ++ replacement ∷ []
     whole-some carried is some = whole_is ∙ ap (λ (b : Bool). text ++ (if b then [] else replacement ∷ [])) (ne_eqb (length read.tail - length (encode_utf8_all (text_of read.tail))) 0 (λ e. some (omega (arith, is, e))))
 
+-- how much is left of a piece, with the bytes that the decoder holds: nothing where all was read
+abbrev pub left_of : ℕ → ℕ → ℕ
+left_of rest held = cond (rest == 0) 0 (suc (rest + held))
+
+pub left_of-less : (rest held left next : ℕ) → 0 < rest → (0 < left → left + next < rest + held) → left_of left next < left_of rest held
+left_of-less rest held left next some less = by (left == 0) refl
+  where
+    all : left_of rest held ≡ suc (rest + held)
+    all = ap (λ b. cond b 0 (suc (rest + held))) (ne_eqb rest 0 (omega (arith, some)))
+
+    by : (b : Bool) → (left == 0) ≡ b → cond b 0 (suc (left + next)) < left_of rest held
+    by true e = omega (arith, all)
+    by false e = let more : ¬ (left ≡ 0) = grind (arith, nat_tests) in omega (arith, all, less (omega (arith, more)))
+
 -- all of a piece was read, or it was refused
 module _ (policy : Policy) (f : Form) (p : Properties) (base : ℕ) (laws : ReplacesParts) (counted : Counted) (start : Start) (now : BlockState) (reading : Reading) (bytes : List ℕ) where
-  pub rest-written : (r : Result (Unit {0}) Fault) → ReadsRest policy f p counted start now base reading bytes r → ¬ (r ≡ Err Write) → Written start now (settled_utf8 policy f p bytes)
+  abbrev pub ReadsAll : Result (Unit {0}) Fault → Type 0
+  ReadsAll r = MatchResult r (λ _. ReadsTo policy f p counted start now base reading bytes []) (RefusesBytes policy f p start now base bytes)
+
+  pub rest-written : (r : Result (Unit {0}) Fault) → ReadsAll r → ¬ (r ≡ Err Write) → Written start now (settled_utf8 policy f p bytes)
   rest-written (Ok u) reads not = Written-at (read-settled policy f p base laws counted reading bytes reads.0) reads.1
   rest-written (Err fault) reads not = Written-at (settled_utf8-taken policy f p bytes) (reads.written (λ e. not (ap Err e)))
 
-  pub rest-broken : (r : Result (Unit {0}) Fault) → ReadsRest policy f p counted start now base reading bytes r → r ≡ Err Write → Broken start now (settled_utf8 policy f p bytes)
+  pub rest-broken : (r : Result (Unit {0}) Fault) → ReadsAll r → r ≡ Err Write → Broken start now (settled_utf8 policy f p bytes)
   rest-broken (Ok u) reads e = cc
   rest-broken (Err fault) reads e = Broken-at start (settled_utf8-taken policy f p bytes) (reads.broken (let same : fault ≡ Write = cc in same))
 
-  pub rest-answer : (r : Result (Unit {0}) Fault) → ReadsRest policy f p counted start now base reading bytes r → ¬ (r ≡ Err Write) → result_err r ≡ fault_in policy p base bytes
+  pub rest-answer : (r : Result (Unit {0}) Fault) → ReadsAll r → ¬ (r ≡ Err Write) → result_err r ≡ fault_in policy p base bytes
   rest-answer (Ok u) reads not = sym (read-no_fault policy f p base laws counted reading bytes reads.0)
   rest-answer (Err fault) reads not = reads.is (λ e. not (ap Err e))
 
 -- a piece was fed
 module _ (policy : Policy) (f : Form) (p : Properties) (base : ℕ) (laws : ReplacesParts) (sink new : SinkState) (bytes piece : List ℕ) (counted : Counted) (now : BlockState) (reading : Reading) (r : Result (Unit {0}) Fault)
-    (reads : ReadsRest policy f p counted (start_at sink (settled_utf8 policy f p bytes)) now base reading (bytes ++ piece) r) where
+    (reads : ReadsAll policy f p base laws counted (start_at sink (settled_utf8 policy f p bytes)) now reading (bytes ++ piece) r) where
   abbrev start : Start
   start = start_at sink (settled_utf8 policy f p bytes)
 
@@ -128,7 +146,7 @@ module _ (policy : Policy) (f : Form) (p : Properties) (base : ℕ) (laws : Repl
   fed-stands : OnOk r (HasReadTo policy f p counted base reading (bytes ++ piece) [])
   fed-stands = next r reads
     where
-      next : (r : Result (Unit {0}) Fault) → ReadsRest policy f p counted (start_at sink (settled_utf8 policy f p bytes)) now base reading (bytes ++ piece) r → OnOk r (HasReadTo policy f p counted base reading (bytes ++ piece) [])
+      next : (r : Result (Unit {0}) Fault) → ReadsAll policy f p base laws counted (start_at sink (settled_utf8 policy f p bytes)) now reading (bytes ++ piece) r → OnOk r (HasReadTo policy f p counted base reading (bytes ++ piece) [])
       next (Ok u) reads = reads.0
       next (Err fault) reads = tt
 

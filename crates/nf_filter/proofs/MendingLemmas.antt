@@ -14,7 +14,7 @@ use Rattle.nf_filter.specs.declared.policy.Policy.{Policy}
 use Rattle.nf_filter.specs.declared.reading.Reading.{Reading}
 use Rattle.nf_filter.specs.Block.{Start, BlockState, Written}
 use Rattle.nf_filter.specs.Faults.{bad_byte}
-use Rattle.nf_filter.specs.Feeding.{IsLeft, HasReadTo, ReadsToPart, RefusesBytes}
+use Rattle.nf_filter.specs.Feeding.{IsLeft, HasReadTo, ReadsTo, RefusesBytes}
 use Rattle.nf_filter.specs.Counted.{HasTaken, IsPlacedAt, TakesOn, settled_text, usable_utf8}
 use Rattle.nf_filter.specs.Policy.{allowed, text_under}
 use Rattle.nf_filter.specs.Settled.{is_usable}
@@ -81,23 +81,20 @@ module _ (policy : Policy) (f : Form) (p : Properties) (base : ℕ) (bytes : Lis
 
     -- they were taken
     pub mended-read : (place : List ℕ → ℕ) (next : Reading) → TakesOn f p after start now place next_text (Ok tt) → next.decoder ≡ reading.decoder → next.offset ≡ reading.offset + len
-        → ReadsToPart policy f p after start now base next bytes (drop len rest)
+        → ReadsTo policy f p after start now base next bytes (drop len rest)
     mended-read place next takes decoder offset = (
-      (
-        record {
-          before = next_text;
-          n = read.n + len;
-          tail = [];
-          left = left;
-          decoder = subst (λ l. DecoderStandsAfter next.decoder l) none (subst (λ d. DecoderStandsAfter d read.tail) (sym decoder) read.decoder);
-          good = λ n. ap (bad_byte n) ending_of-none;
-          offset = omega (arith, offset, read.offset, ap length none);
-          taken = subst (HasTaken f p after) (sym whole) takes.taken;
-          allowed = subst (λ x. allowed policy.assigned p x ≡ x) (sym whole) next_allowed;
-        },
-        Written-at (settled_is ∙ ap (settled_text f p) (sym whole)) (takes.written (λ e. cc)),
-      ),
-      refl,
+      record {
+        before = next_text;
+        n = read.n + len;
+        tail = [];
+        left = left;
+        decoder = subst (λ l. DecoderStandsAfter next.decoder l) none (subst (λ d. DecoderStandsAfter d read.tail) (sym decoder) read.decoder);
+        good = λ n. ap (bad_byte n) ending_of-none;
+        offset = omega (arith, offset, read.offset, ap length none);
+        taken = subst (HasTaken f p after) (sym whole) takes.taken;
+        allowed = subst (λ x. allowed policy.assigned p x ≡ x) (sym whole) next_allowed;
+      },
+      Written-at (settled_is ∙ ap (settled_text f p) (sym whole)) (takes.written (λ e. cc)),
     )
       where
         whole : next_text ++ text_of [] ≡ next_text

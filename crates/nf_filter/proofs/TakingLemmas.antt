@@ -38,7 +38,7 @@ pub HasPlaces-all : (at : ℕ) (text : List ℕ) → IsUtf8 text → at + length
 HasPlaces-all at text utf8 fits front c rest is =
     omega (arith, fits, ap length (sym (encodes-chars text utf8) ∙ ap encode_utf8_all is ∙ encodes-append front (c ∷ rest)), length-append (encode_utf8_all front) (encode_utf8_all (c ∷ rest)))
 
-nothing : (w : List ℕ) → length w ≡ 0 → w ≡ []
+pub nothing : (w : List ℕ) → length w ≡ 0 → w ≡ []
 nothing [] e = refl
 nothing (c ∷ w) e = cc
 

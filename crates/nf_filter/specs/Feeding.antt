@@ -68,26 +68,6 @@ pub record RefusesBytes (policy : Policy) (f : Form) (p : Properties) (start : S
   pub written : ¬ (fault ≡ Write) → Written start now (taken_utf8 policy.assigned f p (text_under policy.replace bytes))
   pub is : ¬ (fault ≡ Write) → Some fault ≡ fault_in policy p base bytes
 
--- all of the rest was read, or a front of it, or it was refused
-abbrev pub ReadsChunk : Policy → Form → Properties → Counted → Start → BlockState → ℕ → Reading → List ℕ → Result (Option (Bor (List ℕ))) Fault → Type 0
-ReadsChunk policy f p counted start now base reading bytes (Ok None) = ReadsTo policy f p counted start now base reading bytes []
-ReadsChunk policy f p counted start now base reading bytes (Ok (Some rest)) = ReadsToPart policy f p counted start now base reading bytes rest.now
-ReadsChunk policy f p counted start now base reading bytes (Err fault) = RefusesBytes policy f p start now base bytes fault
-
--- the same right behind such a part, and behind those that come next
-abbrev pub ReadsBroken : Policy → Form → Properties → Counted → Start → BlockState → ℕ → Reading → List ℕ → Result (Bor (List ℕ)) Fault → Type 0
-ReadsBroken policy f p counted start now base reading bytes (Ok rest) = ReadsToPart policy f p counted start now base reading bytes rest.now
-ReadsBroken policy f p counted start now base reading bytes (Err fault) = RefusesBytes policy f p start now base bytes fault
-
-abbrev pub ReadsRest : Policy → Form → Properties → Counted → Start → BlockState → ℕ → Reading → List ℕ → Result (Unit {0}) Fault → Type 0
-ReadsRest policy f p counted start now base reading bytes (Ok _) = ReadsTo policy f p counted start now base reading bytes []
-ReadsRest policy f p counted start now base reading bytes (Err fault) = RefusesBytes policy f p start now base bytes fault
-
--- what is left of a piece becomes shorter, with the bytes that the decoder holds
-abbrev pub GoesOn : Reading → Reading → List ℕ → Option (Bor (List ℕ)) → Type 0
-GoesOn old new rest None = new.offset ≡ old.offset + length rest
-GoesOn old new rest (Some behind) = (new.offset + length behind.now ≡ old.offset + length rest) × (length behind.now + length new.decoder < length rest + length old.decoder)
-
 -- behind the bytes U+FFFD was taken for a character that the end cuts, or why not
 pub record ReplacesCut (policy : Policy) (f : Form) (p : Properties) (counted : Counted) (base : ℕ) (bytes : List ℕ) (old new : SinkState) (result : Result (Unit {0}) Fault) : Type 0 where
   pub broken : result ≡ Err Write → BreaksOff old new (settled_utf8 policy f p bytes) (taken_utf8 policy.assigned f p (whole_under policy.replace bytes))

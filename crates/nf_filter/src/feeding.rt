@@ -9,11 +9,11 @@ use nf_row::Rows;
 use nf_utf8::{End, laws};
 
 impl Reading {
-    ghost use Rattle.std.specs.Prelude.{◌≡◌, ◌+◌, ◌<◌, ◌≤◌, true, ℕ, List, [], ◌++◌, length, Option, None, Some, IfErr, IfOk, OnOk, MatchOption};
+    ghost use Rattle.std.specs.Prelude.{◌≡◌, ◌+◌, ◌<◌, ◌≤◌, true, ℕ, List, [], ◌++◌, length, None, IfErr, IfOk, OnOk, MatchResult};
     ghost use Rattle.nf_forms.specs.declared.form.Form.{Form};
     ghost use Rattle.nf_filter.specs.Block.{Start, block_state};
     ghost use Rattle.nf_filter.specs.Faults.{IsOfClosing, IsOfReading, IsOfTaking, fault_in};
-    ghost use Rattle.nf_filter.specs.Feeding.{HasReadTo, ReadsChunk, ReadsRest, ReadsTo, GoesOn, ReplacesCut};
+    ghost use Rattle.nf_filter.specs.Feeding.{HasReadTo, ReadsTo, RefusesBytes, ReplacesCut};
     ghost use Rattle.nf_filter.specs.Feeds.{Feeds};
     ghost use Rattle.nf_filter.specs.Finishes.{Closes};
     ghost use Rattle.nf_filter.specs.Counted.{ends_at};
@@ -62,26 +62,22 @@ impl Reading {
         ensures faults { IfErr result IsOfReading }
         ensures reads { let p = R.properties rows.now in
             (f : Form) (base : ℕ) (bytes : List ℕ) (start : Start) → ReadsTo policy f p counted.old start (block_state (S.state sink.old) block.old) base self.old bytes piece.now
-            → ReadsRest policy f p counted.new start (block_state (S.state sink.new) block.new) base self.new bytes result }
+            → MatchResult result (λ _. ReadsTo policy f p counted.new start (block_state (S.state sink.new) block.new) base self.new bytes [])
+            (RefusesBytes policy f p start (block_state (S.state sink.new) block.new) base bytes) }
         ensures lender { (S.state sink.new).lender ≡ (S.state sink.old).lender }
     {
-        let mut rest = piece;
-        loop {
-            match self.read_chunk(policy, rows, rest, counted, block, sink) {
-                Ok(Some(behind)) => {
-                    match self.read_mended(policy, rows, behind, counted, block, sink) {
-                        Ok(behind) => rest = behind,
-                        Err(fault) => return Err(fault),
-                    }
-                }
-                Ok(None) => return Ok(()),
+        let mut left = piece;
+        while !left.is_empty() {
+            match self.read_chunk(policy, rows, left, counted, block, sink) {
+                Ok(rest) => left = rest,
                 Err(fault) => return Err(fault),
             }
         }
+        Ok(())
     }
 
-    /// Reads what is left of a piece up to its first ill-formed byte. Where that is replaced, answers what stands behind
-    /// the ill-formed part.
+    /// Reads what is left of a piece up to its first ill-formed byte. Where that is replaced, reads the ill-formed part too,
+    /// and those that are near. Answers what stands after them.
     fn read_chunk<'p, R: Rows, S: Sink>(
         &mut self,
         policy: Policy,
@@ -90,15 +86,17 @@ impl Reading {
         counted: &mut Counted,
         block: &mut Block,
         sink: &mut S,
-    ) -> Result<Option<&'p [u8]>, Fault>
+    ) -> Result<&'p [u8], Fault>
         requires ready { IsReady (ends_at counted.old) self.old }
         requires fits { self.old.offset + length rest.now ≤ u64.MAX }
         ensures ready { OnOk result (IsReady (ends_at counted.new) self.new) }
-        ensures goes_on { IfOk result (GoesOn self.old self.new rest.now) }
+        ensures goes_on { IfOk result (λ left. (self.new.offset + length left.now ≡ self.old.offset + length rest.now)
+            × (0 < length left.now → length left.now + length self.new.decoder < length rest.now + length self.old.decoder)) }
         ensures faults { IfErr result IsOfReading }
         ensures reads { let p = R.properties rows.now in
             (f : Form) (base : ℕ) (bytes : List ℕ) (start : Start) → ReadsTo policy f p counted.old start (block_state (S.state sink.old) block.old) base self.old bytes rest.now
-            → ReadsChunk policy f p counted.new start (block_state (S.state sink.new) block.new) base self.new bytes result }
+            → MatchResult result (λ left. ReadsTo policy f p counted.new start (block_state (S.state sink.new) block.new) base self.new bytes left.now)
+            (RefusesBytes policy f p start (block_state (S.state sink.new) block.new) base bytes) }
         ensures lender { (S.state sink.new).lender ≡ (S.state sink.old).lender }
     {
         laws::split();
@@ -119,7 +117,7 @@ impl Reading {
         let chunk_end = chunk.end;
         let End::Bad { at, back } = chunk_end else {
             self.offset += rest.len() as u64;
-            return Ok(None);
+            return Ok(&[]);
         };
         let place = self.offset + at as u64;
         let start = place - back as u64;
@@ -139,7 +137,7 @@ impl Reading {
         // A byte that breaks a begun character off is read again.
         let len = if back == 0 { at + 1 } else { at };
         self.offset += len as u64;
-        Ok(Some(&rest[len..]))
+        self.read_mended(policy, rows, &rest[len..], counted, block, sink)
     }
 
     /// At the end of all bytes: a character that it cuts is refused, or U+FFFD is taken for it.

@@ -16,10 +16,10 @@ use nf_row::Rows;
 use nf_utf8::{Mended, laws, mend_front, mended_text};
 
 impl Reading {
-    ghost use Rattle.std.specs.Prelude.{IfErr, IfOk, OnOk};
+    ghost use Rattle.std.specs.Prelude.{IfErr, IfOk, OnOk, MatchResult};
     ghost use Rattle.nf_forms.specs.declared.form.Form.{Form};
     ghost use Rattle.nf_filter.specs.Faults.{IsOfReading};
-    ghost use Rattle.nf_filter.specs.Feeding.{ReadsToPart, ReadsBroken};
+    ghost use Rattle.nf_filter.specs.Feeding.{ReadsTo, ReadsToPart, RefusesBytes};
     ghost use Rattle.nf_filter.specs.Counted.{ends_at};
     ghost use Rattle.nf_filter.specs.Taker.{IsReady};
 
@@ -38,11 +38,12 @@ impl Reading {
         requires ready { IsReady (ends_at counted.old) self.old }
         requires fits { self.old.offset + length rest.now ≤ u64.MAX }
         ensures ready { OnOk result (IsReady (ends_at counted.new) self.new) }
-        ensures goes_on { IfOk result (λ behind. (self.new.offset + length behind.now ≡ self.old.offset + length rest.now) × (length behind.now ≤ length rest.now) × (self.new.decoder ≡ self.old.decoder)) }
+        ensures goes_on { IfOk result (λ left. (self.new.offset + length left.now ≡ self.old.offset + length rest.now) × (length left.now ≤ length rest.now) × (self.new.decoder ≡ self.old.decoder)) }
         ensures faults { IfErr result IsOfReading }
         ensures reads { let p = R.properties rows.now in
             (f : Form) (base : ℕ) (bytes : List ℕ) (start : Start) → ReadsToPart policy f p counted.old start (block_state (S.state sink.old) block.old) base self.old bytes rest.now
-            → ReadsBroken policy f p counted.new start (block_state (S.state sink.new) block.new) base self.new bytes result }
+            → MatchResult result (λ left. ReadsTo policy f p counted.new start (block_state (S.state sink.new) block.new) base self.new bytes left.now)
+            (RefusesBytes policy f p start (block_state (S.state sink.new) block.new) base bytes) }
         ensures lender { (S.state sink.new).lender ≡ (S.state sink.old).lender }
     {
         laws::replacing();
