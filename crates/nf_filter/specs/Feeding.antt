@@ -1,6 +1,5 @@
 -- How a piece is read for a counted, under a policy.
-use Rattle.std.specs.Prelude.{◌≡◌, false, Bool, ℕ, ◌+◌, ◌<◌, List, [], ◌++◌, length, Option, Some, None, Result, Ok, Err, OnOk}
-use Rattle.std.specs.Borrow.{Bor}
+use Rattle.std.specs.Prelude.{◌≡◌, false, Bool, ℕ, ◌+◌, List, [], ◌++◌, length, Some, None, Result, Err, OnOk}
 use Rattle.std.specs.Result.{result_err}
 use Rattle.nf_forms.specs.Properties.{Properties}
 use Rattle.nf_forms.specs.declared.form.Form.{Form}
