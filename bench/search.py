@@ -4,9 +4,10 @@
     python3 bench/search.py [--seed N] [--minutes N] [--forms F,..] [--top N] [PROGRAM]      (./nfstream where none is named)
 
 Each unit is counted by callgrind, so that other work on the machine changes nothing: the instructions of a run over 16 KiB of
-it, less what starting takes, by a byte of the input, or of the output where that is longer. A search begins with pairs by
-chance, and goes on from the worst that it has found: a character more, one less, another, twice as many. The table has the
-worst units of each command. Wants valgrind; ten minutes are some 2,000 units on 4 processors."""
+it, less what starting takes, by a byte of the input, or of the output where that is longer; with --assigned also those of half a
+KiB of it before a character that is refused, where these are more. A search begins with pairs by chance, and goes on from the
+worst that it has found: a character more, one less, another, twice as many. The table has the worst units of each command.
+Wants valgrind; ten minutes are some 2,000 units on 4 processors."""
 
 import argparse
 import re
@@ -24,6 +25,8 @@ from hostile import is_text
 from table import FORMS, line
 
 SIZE = 1 << 14
+# As much as the program replaces ill-formed bytes in at once, and a character that is refused, with an ill-formed byte after it.
+SHORT, REFUSED = 1 << 9, "\u0378".encode() + b"\x80"
 LONGEST = 12
 KEPT = 24
 BROKEN = [b"\x80", b"\xc3", b"\xe0", b"\xe0\xa0", b"\xed\xa0", b"\xf0", b"\xf0\x80", b"\xf0\x90\x80", b"\xf4\x90", b"\xff"]
@@ -94,7 +97,12 @@ class Search:
 
     def count(self, unit: Unit) -> Found:
         again = b"".join(unit)
-        data = again * (SIZE // len(again))
+        texts = [again * (SIZE // len(again))]
+        if "--assigned" in self.command:
+            texts.append(again * (SHORT // len(again)) + REFUSED)
+        return max(self.count_text(unit, text) for text in texts)
+
+    def count_text(self, unit: Unit, data: bytes) -> Found:
         instructions, written = counted(self.command, data)
         instructions -= self.start
         return Found(instructions / max(len(data), written), instructions / len(data), unit)
