@@ -29,7 +29,6 @@ impl Normalizer {
     ghost use Rattle.std.specs.Prelude.{◌≡◌, ◌+◌, ◌<◌, ◌≤◌, ℕ, List, length, Ok, IfSome, IsNone, IfOk, OnOk};
     ghost use Rattle.nf_forms.specs.declared.form.Form.{Form};
     ghost use Rattle.nf_boundary.specs.Front.{IsClosedFront};
-    ghost use Rattle.nf_row.specs.Kind.{IsOwn};
     ghost use Rattle.nf_row.specs.Single.{IsSingle};
     ghost use Rattle.nf_normalizer.specs.Room.{Start, Holds};
     ghost use Rattle.nf_normalizer.specs.Normalizer.{HasTaken, IsWithin, settled_text};
@@ -55,18 +54,14 @@ impl Normalizer {
     {
         let mut chars = text.chars();
         let c = chars.next().unwrap();
-        // No closed text begins with a mark, and to ask for a front of it costs more than to see that.
-        let taken = match self.mark_class(rows, c) {
-            Some(class) => self.take_single(rows, c, Single::of_own(c, class), room),
-            None => match self.letter_of(rows, c) {
-                Some(letter) => self.take_single(rows, c, letter, room),
-                None => {
-                    if let Some(front) = self.take_many(rows, text, room, formed) {
-                        return Ok(front);
-                    }
-                    self.take_char(rows, c, room)
+        let taken = match self.single_of(rows, c) {
+            Some(single) => self.take_single(rows, c, single, room),
+            None => {
+                if let Some(front) = self.take_many(rows, text, room, formed) {
+                    return Ok(front);
                 }
-            },
+                self.take_char(rows, c, room)
+            }
         };
         formed.clear();
         match taken {
@@ -79,31 +74,20 @@ impl Normalizer {
         }
     }
 
-    /// The class of `c`, where that is known to be a mark that is its own row.
+    /// What the form has of `c`, where that is known and no closed text begins so, for to ask for a front of it would cost more:
+    /// a mark that is its own row, a starter that counts as a mark, or a letter of Hangul that may compose with the one before.
     #[inline(always)]
-    fn mark_class<R: Rows>(&self, rows: &R, c: char) -> Option<u8>
-        ensures { IfSome result (λ class. IsOwn (R.properties rows.now) c class) }
-    {
-        if self.pending.is_empty() {
-            // At a boundary no mark stands, and at the begin of all text it may go the ordinary way.
-            return None;
-        }
-        match rows.kind(self.form, c) {
-            Kind::Mark { class, .. } => Some(class),
-            _ => None,
-        }
-    }
-
-    /// What the form has of `c`, where that is known and no closed text begins so: a starter that counts as a mark, or a
-    /// letter of Hangul that may compose with the one before it.
-    #[inline(always)]
-    fn letter_of<R: Rows>(&self, rows: &R, c: char) -> Option<Single>
+    fn single_of<R: Rows>(&self, rows: &R, c: char) -> Option<Single>
         ensures { IfSome result (λ single. IsSingle (R.properties rows.now) self.now.form c single) }
     {
         if self.pending.is_empty() {
+            // At a boundary none of these stands, and at the begin of all text they may go the ordinary way.
             return None;
         }
-        rows.single(self.form, c)
+        match rows.kind(self.form, c) {
+            Kind::Mark { class, .. } => Some(Single::of_own(c, class)),
+            _ => rows.single(self.form, c),
+        }
     }
 
     /// Takes a front that is closed, where to ask for that costs less than to do without, or a run of plain ASCII behind one

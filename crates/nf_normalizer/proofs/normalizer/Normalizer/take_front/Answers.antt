@@ -3,10 +3,7 @@ use Rattle.std.specs.Str.Iter.{chars_rest}
 use Rattle.nf_normalizer.specs.Normalizer.{TakesNext}
 use Rattle.nf_normalizer.proofs.FrontLemmas.{begins, leaves-one, takes-one, refuses-one}
 use Rattle.nf_normalizer.proofs.normalizer.Normalizer.take_front.Goals as goal
-use Rattle.nf_normalizer.proofs.normalizer.Normalizer.take_front.Goals.{in-Some, in-None+in-Some-letter_of, in-None+in-None-letter_of+in_default}
-
-pub take_single-taken-requires-clause-single : goal.take_single-taken-requires-clause-single
-take_single-taken-requires-clause-single g c = c.of_own.ensures (g.R.Rows.properties c.args.rows.now) c.args.self.now.form c.in-Some.ensures
+use Rattle.nf_normalizer.proofs.normalizer.Normalizer.take_front.Goals.{in-Some, in-None+in_default}
 
 pub returns-in-Ok-clause-passes : goal.returns-in-Ok-clause-passes
 returns-in-Ok-clause-passes g c =
@@ -18,16 +15,15 @@ pub returns-in-Ok-clause-takes : goal.returns-in-Ok-clause-takes
 returns-in-Ok-clause-takes g c = λ f x start taken holds.
     let p = g.R.Rows.properties c.args.rows.now in
     let first = begins _ _ _ _ c.unwrap-c.result c.unwrap-c.ensures c.next.ensures.steps.0 in
-    let next : TakesNext p c.args.self.now c.match-mark_class.self c.args.room.now.items c.match-mark_class.room.items c.unwrap-c.result c.match-mark_class.taken = elim c.match-mark_class.branch [
+    let next : TakesNext p c.args.self.now c.match-single_of.self c.args.room.now.items c.match-single_of.room.items c.unwrap-c.result c.match-single_of.taken = elim c.match-single_of.branch [
       | in-Some w ↦ rw (w.self-is, w.room-is, w.taken-is) w.take_single-taken.ensures.takes
-      | in-None+in-Some-letter_of w ↦ rw (w.self-is, w.room-is, w.taken-is) w.take_single.ensures.takes
-      | in-None+in-None-letter_of+in_default w ↦
+      | in-None+in_default w ↦
           let same : w.take_many.new.self ≡ c.args.self.now = search rules in
           let room : w.take_many.new.room ≡ c.args.room.now = search rules in
-          rw (w.self-is, w.room-is, w.taken-is) (rw (same, room) at w.take_char.ensures.takes)
+          rw (w.self-is, w.room-is, w.taken-is) (rw (same, room) at w.take_char-taken.ensures.takes)
     ] in
     let empty : c.clear.new.self.items ≡ [] = search rules in
-    rw empty (takes-one p f c.match-mark_class.self start c.match-mark_class.room.items x c.args.text.now c.as_str.result.now c.unwrap-c.result c.in-Ok.joined c.utf8.text
+    rw empty (takes-one p f c.match-single_of.self start c.match-single_of.room.items x c.args.text.now c.as_str.result.now c.unwrap-c.result c.in-Ok.joined c.utf8.text
     (sym c.chars-chars.ensures.rest ∙ first ∙ ap (λ l. encode_utf8 c.unwrap-c.result ++ l) (sym c.as_str.ensures))
     (rw c.in-Ok.is at (next f x start taken holds)))
 
@@ -35,13 +31,12 @@ pub returns-in-Err-clause-takes : goal.returns-in-Err-clause-takes
 returns-in-Err-clause-takes g c = λ f x start taken holds.
     let p = g.R.Rows.properties c.args.rows.now in
     let first = begins _ _ _ _ c.unwrap-c.result c.unwrap-c.ensures c.next.ensures.steps.0 in
-    let next : TakesNext p c.args.self.now c.match-mark_class.self c.args.room.now.items c.match-mark_class.room.items c.unwrap-c.result c.match-mark_class.taken = elim c.match-mark_class.branch [
+    let next : TakesNext p c.args.self.now c.match-single_of.self c.args.room.now.items c.match-single_of.room.items c.unwrap-c.result c.match-single_of.taken = elim c.match-single_of.branch [
       | in-Some w ↦ rw (w.self-is, w.room-is, w.taken-is) w.take_single-taken.ensures.takes
-      | in-None+in-Some-letter_of w ↦ rw (w.self-is, w.room-is, w.taken-is) w.take_single.ensures.takes
-      | in-None+in-None-letter_of+in_default w ↦
+      | in-None+in_default w ↦
           let same : w.take_many.new.self ≡ c.args.self.now = search rules in
           let room : w.take_many.new.room ≡ c.args.room.now = search rules in
-          rw (w.self-is, w.room-is, w.taken-is) (rw (same, room) at w.take_char.ensures.takes)
+          rw (w.self-is, w.room-is, w.taken-is) (rw (same, room) at w.take_char-taken.ensures.takes)
     ] in
-    refuses-one p f start c.match-mark_class.room.items x c.args.text.now (chars_rest c.next.new.self) c.unwrap-c.result c.utf8.text
+    refuses-one p f start c.match-single_of.room.items x c.args.text.now (chars_rest c.next.new.self) c.unwrap-c.result c.utf8.text
     (sym c.chars-chars.ensures.rest ∙ first) taken.usable (rw c.in-Err.is at (next f x start taken holds))
