@@ -18,7 +18,7 @@ use Rattle.nf_filter.specs.declared.policy.Policy.{Policy}
 use Rattle.nf_filter.specs.declared.reading.Reading.{Reading}
 use Rattle.nf_filter.specs.Block.{Start, BlockState}
 use Rattle.nf_filter.specs.Faults.{bad_byte, bad_under, first_fault, fault_in}
-use Rattle.nf_filter.specs.Feeding.{taken_utf8, TakesAllowed, IsLeft, HasReadTo, ReadsTo, ReadsToPart, RefusesBytes}
+use Rattle.nf_filter.specs.Feeding.{taken_utf8, TakesAllowed, IsLeft, HasReadTo, ReadsTo, RefusesBytes}
 use Rattle.nf_filter.specs.Counted.{HasTaken, IsPlacedAt, settled_text}
 use Rattle.nf_filter.specs.Policy.{allowed, len_under, text_under}
 use Rattle.nf_filter.specs.Settled.{usable}
@@ -206,15 +206,16 @@ module _ (policy : Policy) (f : Form) (p : Properties) (base : ℕ) (bytes : Lis
 
             -- it was taken
             pub part-read : (next : Reading) → TakesAllowed policy.assigned f p last start final (λ front. base + len_under policy.replace bytes front) ((taken_text ++ next_text) ++ replacement ∷ []) (Ok tt)
-                → DecoderStandsAfter next.decoder [] → next.offset ≡ reading.offset + len → text_of [] ≡ [] → ReadsToPart policy f p last start final base next bytes (drop len rest)
-            part-read next takes decoder offset none =
+                → DecoderStandsAfter next.decoder [] → next.offset ≡ reading.offset + len → text_of [] ≡ [] → (behind : List ℕ) → behind ≡ drop len rest
+                → (both : ReadsTo policy f p last start final base next bytes behind) × (both.0.tail ≡ [])
+            part-read next takes decoder offset none behind is_behind =
                 let whole : (taken_text ++ next_text) ++ replacement ∷ [] ≡ (read.before ++ own) ++ text_of [] = behind_is ∙ sym (ap (λ l. (read.before ++ own) ++ l) none ∙ append-nil (read.before ++ own)) in (
                   (
                     record {
                       before = read.before ++ own;
                       n = read.n + (length read.tail + len);
                       tail = [];
-                      left = left_behind;
+                      left = subst (IsLeft policy.replace bytes (read.before ++ own) (read.n + (length read.tail + len))) (sym is_behind) left_behind;
                       decoder = decoder;
                       good = λ n. ap (bad_byte n) ending_of-none;
                       offset = omega (arith, offset, read.offset);

@@ -1,5 +1,5 @@
 -- How a piece is read for a counted, under a policy.
-use Rattle.std.specs.Prelude.{◌≡◌, false, Bool, ℕ, ◌+◌, List, [], ◌++◌, length, Some, None, Result, Err, OnOk}
+use Rattle.std.specs.Prelude.{◌≡◌, false, Bool, ℕ, ◌+◌, List, ◌++◌, length, Some, None, Result, Err, OnOk}
 use Rattle.std.specs.Result.{result_err}
 use Rattle.nf_forms.specs.Properties.{Properties}
 use Rattle.nf_forms.specs.declared.form.Form.{Form}
@@ -55,11 +55,6 @@ pub record HasReadTo (policy : Policy) (f : Form) (p : Properties) (counted : Co
 abbrev pub ReadsTo : Policy → Form → Properties → Counted → Start → BlockState → ℕ → Reading → List ℕ → List ℕ → Type 0
 ReadsTo policy f p counted start now base reading bytes rest =
     (read : HasReadTo policy f p counted base reading bytes rest) × Written start now (settled_text f p (read.before ++ text_of read.tail))
-
--- the same right behind a part that was replaced, so that the decoder is as a new one
-abbrev pub ReadsToPart : Policy → Form → Properties → Counted → Start → BlockState → ℕ → Reading → List ℕ → List ℕ → Type 0
-ReadsToPart policy f p counted start now base reading bytes rest =
-    (both : ReadsTo policy f p counted start now base reading bytes rest) × (both.0.tail ≡ [])
 
 -- or reading them was refused
 pub record RefusesBytes (policy : Policy) (f : Form) (p : Properties) (start : Start) (now : BlockState) (base : ℕ) (bytes : List ℕ) (fault : Fault) : Type 0 where

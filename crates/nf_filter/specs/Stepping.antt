@@ -1,16 +1,12 @@
 -- A text, step by step, to a sink.
-use Rattle.std.specs.Prelude.{◌≡◌, ◌+◌, ℕ, List, ◌++◌, length, chars, Result, Ok, Err}
-use Rattle.std.specs.Borrow.{Bor}
+use Rattle.std.specs.Prelude.{◌≡◌, ◌+◌, ℕ, List, ◌++◌, length, chars}
 use Rattle.nf_forms.specs.Properties.{Properties}
 use Rattle.nf_forms.specs.declared.form.Form.{Form}
 use Rattle.nf_forms.specs.StreamSafe.{stream_safe}
 use Rattle.nf_normalizer.specs.Front.{Leaves, Stands}
 use Rattle.nf_filter.specs.declared.counted.Counted.{Counted}
-use Rattle.nf_filter.specs.declared.fault.Fault.{Fault}
 use Rattle.nf_filter.specs.Writes.{Puts}
-use Rattle.nf_filter.specs.Faults.{IsOfTaking}
 use Rattle.nf_filter.specs.Block.{Start, BlockState}
-use Rattle.nf_filter.specs.Counted.{TakesOn}
 use Rattle.nf_normalizer.specs.Normalizer.{IsWithin as IsReady}
 
 -- the normalizer stands after x, before `next`, and what of x is settled was written
@@ -26,11 +22,6 @@ pub record StandsInFront (f : Form) (p : Properties) (counted : Counted) (start 
   pub is_front : chars text ≡ front ++ chars rest
   pub standing : Standing f p counted start now (x ++ front) (chars rest)
 
--- so it was, or why not all of the text will be
-abbrev pub StepsOn : Form → Properties → Counted → Start → BlockState → (List ℕ → ℕ) → List ℕ → List ℕ → Result (Bor (List ℕ)) Fault → Type 0
-StepsOn f p counted start now place x text (Ok rest) = StandsInFront f p counted start now x text rest.now
-StepsOn f p counted start now place x text (Err fault) = TakesOn f p counted start now place (x ++ chars text) (Err fault)
-
 -- a front of the text is behind it, with at most a joiner a character
 pub record HasStepped (old new : Counted) (text rest : List ℕ) : Type 0 where
   pub n : ℕ
@@ -38,8 +29,3 @@ pub record HasStepped (old new : Counted) (text rest : List ℕ) : Type 0 where
   pub within : IsReady new.normalizer
   pub count : new.chars ≡ old.chars
   pub put : new.put ≡ old.put + n
-
--- so it is, or why not
-abbrev pub Passes : Counted → Counted → List ℕ → Result (Bor (List ℕ)) Fault → Type 0
-Passes old new text (Ok rest) = HasStepped old new text rest.now
-Passes old new text (Err fault) = IsOfTaking fault

@@ -1,5 +1,5 @@
 //! Ill-formed parts, one after the other or with little text between them, each read as U+FFFD: they are taken as one text.
-ghost use Rattle.std.specs.Prelude.{◌≡◌, ◌+◌, ◌≤◌, ℕ, List, length, chars};
+ghost use Rattle.std.specs.Prelude.{◌≡◌, ◌+◌, ◌≤◌, ℕ, List, [], length, chars};
 ghost use Rattle.std.specs.Str.{IsUtf8};
 ghost use Rattle.nf_utf8.specs.Mending.{IsReplacedFront};
 ghost use Rattle.nf_filter.specs.Block.{Start, block_state};
@@ -19,7 +19,7 @@ impl Reading {
     ghost use Rattle.std.specs.Prelude.{IfErr, IfOk, OnOk, MatchResult};
     ghost use Rattle.nf_forms.specs.declared.form.Form.{Form};
     ghost use Rattle.nf_filter.specs.Faults.{IsOfReading};
-    ghost use Rattle.nf_filter.specs.Feeding.{ReadsTo, ReadsToPart, RefusesBytes};
+    ghost use Rattle.nf_filter.specs.Feeding.{ReadsTo, RefusesBytes};
     ghost use Rattle.nf_filter.specs.Counted.{ends_at};
     ghost use Rattle.nf_filter.specs.Taker.{IsReady};
 
@@ -41,7 +41,7 @@ impl Reading {
         ensures goes_on { IfOk result (λ left. (self.new.offset + length left.now ≡ self.old.offset + length rest.now) × (length left.now ≤ length rest.now) × (self.new.decoder ≡ self.old.decoder)) }
         ensures faults { IfErr result IsOfReading }
         ensures reads { let p = R.properties rows.now in
-            (f : Form) (base : ℕ) (bytes : List ℕ) (start : Start) → ReadsToPart policy f p counted.old start (block_state (S.state sink.old) block.old) base self.old bytes rest.now
+            (f : Form) (base : ℕ) (bytes : List ℕ) (start : Start) (both : ReadsTo policy f p counted.old start (block_state (S.state sink.old) block.old) base self.old bytes rest.now) → both.0.tail ≡ []
             → MatchResult result (λ left. ReadsTo policy f p counted.new start (block_state (S.state sink.new) block.new) base self.new bytes left.now)
             (RefusesBytes policy f p start (block_state (S.state sink.new) block.new) base bytes) }
         ensures lender { (S.state sink.new).lender ≡ (S.state sink.old).lender }

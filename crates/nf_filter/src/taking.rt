@@ -11,7 +11,7 @@ use nf_row::{Formed, Rows};
 use nf_utf8::char_count;
 
 impl Counted {
-    ghost use Rattle.std.specs.Prelude.{◌≡◌, ◌+◌, ◌<◌, ◌≤◌, Bool, ℕ, List, [], ◌∷◌, ◌++◌, length, chars, IfErr, OnOk};
+    ghost use Rattle.std.specs.Prelude.{◌≡◌, ◌+◌, ◌<◌, ◌≤◌, Bool, ℕ, List, [], ◌∷◌, ◌++◌, length, chars, Err, IfErr, OnOk, MatchResult};
     ghost use Rattle.nf_forms.specs.declared.form.Form.{Form};
     ghost use Rattle.nf_utf8.specs.Taking.{first_text, first_bytes};
     ghost use Rattle.nf_normalizer.specs.Normalizer.{IsWithin as IsReady};
@@ -20,7 +20,7 @@ impl Counted {
     ghost use Rattle.nf_filter.specs.Faults.{IsOfTaking};
     ghost use Rattle.nf_filter.specs.Feeding.{TakesAllowed};
     ghost use Rattle.nf_filter.specs.Policy.{allowed};
-    ghost use Rattle.nf_filter.specs.Stepping.{Passes, Standing, StepsOn};
+    ghost use Rattle.nf_filter.specs.Stepping.{HasStepped, Standing, StandsInFront};
 
     /// Takes the first character, where there is one, and the text behind it, which begins with it at the offset `at`.
     /// Where only assigned characters are allowed, the first other is refused.
@@ -164,10 +164,11 @@ impl Counted {
         requires within { IsReady self.old.normalizer }
         requires counts { self.old.put + length (chars text.now) ≤ u64.MAX }
         requires fits { HasPlaces at text.now }
-        ensures passes { Passes self.old self.new text.now result }
+        ensures passes { MatchResult result (λ rest. HasStepped self.old self.new text.now rest.now) IsOfTaking }
         ensures steps { let p = R.properties rows.now in
             (f : Form) (place : List ℕ → ℕ) (x : List ℕ) (start : Start) → Standing f p self.old start (block_state (S.state sink.old) block.old) x (chars text.now)
-            → IsPlacedAt place at x (chars text.now) → StepsOn f p self.new start (block_state (S.state sink.new) block.new) place x text.now result }
+            → IsPlacedAt place at x (chars text.now) → MatchResult result (λ rest. StandsInFront f p self.new start (block_state (S.state sink.new) block.new) x text.now rest.now)
+            (λ fault. TakesOn f p self.new start (block_state (S.state sink.new) block.new) place (x ++ chars text.now) (Err fault)) }
         ensures lender { (S.state sink.new).lender ≡ (S.state sink.old).lender }
     {
         if let Err(Failed) = block.make_room(STEP, sink) {

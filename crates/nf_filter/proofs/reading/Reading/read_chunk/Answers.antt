@@ -117,8 +117,9 @@ returns-clause-reads g c = λ f base bytes start both.
     c.in-Bad.at c.in-Bad.back ends c.split.ensures yes len end_is inside (omega (arith, is_len, bounds, ends.1)) (c.args.self.now.offset + c.in-Bad.at - c.in-Bad.back) (omega (arith, ends.1, read.offset)) in
     let slice : take (length c.args.rest.now - len) (drop len c.args.rest.now) ≡ drop len c.args.rest.now = take_all (length c.args.rest.now - len) (drop len c.args.rest.now) (omega (arith, length-drop len c.args.rest.now)) in
     let decoder = rw c.in-Bad.is at (c.take-chunk.ensures.stands read.tail read.decoder) in
-    c.read_mended.ensures.reads f base bytes start (rw slice (part-read c.args.policy f p base bytes start now laws c.args.counted.now c.args.self.now c.args.rest.now read chunk.first chunk.text.now chunk.end took c.take_both.new.self takes
+    let part = part-read c.args.policy f p base bytes start now laws c.args.counted.now c.args.self.now c.args.rest.now read chunk.first chunk.text.now chunk.end took c.take_both.new.self takes
     c.in-Bad.at c.in-Bad.back ends c.split.ensures yes len end_is inside (omega (arith, is_len, bounds, ends.1)) c.take_one.new.self (block_state (g.S.Sink.state c.take_one.new.sink) c.take_one.new.block) _
     (c.in_default-take_one.ensures.takes f (λ front. base + len_under c.args.policy.replace bytes front) text start takes.taken.0 takes.taken.1 part_placed
     (TakesAllowed-settled f p c.take_both.new.self start now (λ front. base + len_under c.args.policy.replace bytes front) c.args.policy.assigned text tt takes))
-    decoder refl text_of-none))
+    decoder refl text_of-none _ slice in
+    c.read_mended.ensures.reads f base bytes start part.0 part.1
