@@ -1,5 +1,6 @@
 -- What is measured of bytes, and where they cannot be measured (UAX #15, section 13; The Unicode Standard, section 3.9).
-use Rattle.std.specs.Prelude.{◌≡◌, ◌≤◌, ℕ, List, Option, Some, option_map, Result, Ok, Err}
+use Rattle.std.specs.Prelude.{◌≡◌, ◌≤◌, ℕ, List, ◌++◌, chars, Option, Some, option_map, Result, Ok, Err}
+use Rattle.std.specs.Borrow.{Bor}
 use Rattle.nf_forms.specs.Properties.{Properties}
 use Rattle.nf_utf8.specs.Reading.{text_of}
 use Rattle.nf_safe.specs.declared.measure.Measure.{Measure}
@@ -37,3 +38,14 @@ unusable_stop p base x = option_map Refused (unusable_at p (utf8_place base) x)
 abbrev pub SeesText : Properties → Measurer → ℕ → List ℕ → Result (Unit {0}) Stop → Type 0
 SeesText p measurer base x (Ok _) = HasMeasured p measurer base x
 SeesText p measurer base x (Err stop) = unusable_stop p base x ≡ Some stop
+
+-- behind x a front of the text was measured; `rest` is what stands behind that
+pub record HasSeenFront (p : Properties) (measurer : Measurer) (base : ℕ) (x text rest : List ℕ) : Type 0 where
+  pub front : List ℕ
+  pub is_front : chars text ≡ front ++ chars rest
+  pub seen : HasMeasured p measurer base (x ++ front)
+
+-- so it was, or what stops it in the text
+abbrev pub SeesFront : Properties → Measurer → ℕ → List ℕ → List ℕ → Result (Bor (List ℕ)) Stop → Type 0
+SeesFront p measurer base x text (Ok rest) = HasSeenFront p measurer base x text rest.now
+SeesFront p measurer base x text (Err stop) = unusable_stop p base (x ++ chars text) ≡ Some stop

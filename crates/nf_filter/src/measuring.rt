@@ -1,8 +1,8 @@
-ghost use Rattle.std.specs.Prelude.{◌≡◌, ◌+◌, ◌<◌, ◌≤◌, ◌↔◌, ℕ, List, ◌++◌, length, chars, false, IsTrue, IfErr, OnOk, encode_utf8_all};
+ghost use Rattle.std.specs.Prelude.{◌≡◌, ◌+◌, ◌<◌, ◌≤◌, ◌↔◌, ℕ, List, ◌++◌, length, chars, false, IsTrue, IfOk, IfErr, OnOk, encode_utf8_all};
 ghost use Rattle.nf_safe.specs.Measurer.{values_of};
 ghost use Rattle.nf_filter.specs.Taker.{MayStop};
 ghost use Rattle.nf_filter.specs.Surveys.{Surveys, IsOfSurvey, IsCut};
-ghost use Rattle.nf_filter.specs.Measures.{measure_decision, text_measure, HasMeasured, SeesText};
+ghost use Rattle.nf_filter.specs.Measures.{measure_decision, text_measure, HasMeasured, SeesText, SeesFront};
 
 use crate::devices::Source;
 use crate::fault::Fault;
@@ -11,6 +11,7 @@ use crate::sources::{BLOCK, read_all};
 use crate::taker::{Stop, Taker};
 use nf_row::Rows;
 use nf_safe::{Measure, Measurer};
+use nf_utf8::ascii_prefix;
 
 /// Reads all that the source gives, and answers what is measured of it. The first byte has the offset `base`. The first
 /// fault is answered in its stead: `Row`, where a filter would answer it, `BadByte`, `Cut`, `Read` and `TooLong`. At most
@@ -90,12 +91,48 @@ fn see_text<R: Rows>(measurer: &mut Measurer, rows: &R, at: u64, text: &str) -> 
     ensures sees { let p = R.properties rows.now in (base : ℕ) (x : List ℕ) → HasMeasured p measurer.old base x → at ≡ base + length (encode_utf8_all x)
         → SeesText p measurer.new base (x ++ chars text.now) result }
 {
-    let mut place = at;
-    for c in text.chars() {
-        if measurer.see(rows, c).is_err() {
-            return Err(Stop::Refused(Fault::Row { at: place }));
+    let (mut place, mut rest) = (at, text);
+    while !rest.is_empty() {
+        match see_front(measurer, rows, place, rest) {
+            Ok(behind) => {
+                place += (rest.len() - behind.len()) as u64;
+                rest = behind;
+            }
+            Err(stop) => return Err(stop),
         }
-        place += c.len_utf8() as u64;
     }
     Ok(())
+}
+
+/// Sees a front of a text that begins at the offset `at`: what of it is ASCII, where that is known to be plain, or else its
+/// first character. Answers what stands behind.
+fn see_front<'t, R: Rows>(
+    measurer: &mut Measurer,
+    rows: &R,
+    at: u64,
+    text: &'t str,
+) -> Result<&'t str, Stop>
+    requires some { 0 < length text.now }
+    requires counts { (values_of measurer.old).bytes ≤ at }
+    requires fits { at + length text.now ≤ u64.MAX }
+    ensures shorter { IfOk result (λ rest. length rest.now < length text.now) }
+    ensures counts { IfOk result (λ rest. (values_of measurer.new).bytes + length rest.now ≤ at + length text.now) }
+    ensures stop { IfErr result (MayStop false) }
+    ensures sees { let p = R.properties rows.now in (base : ℕ) (x : List ℕ) → HasMeasured p measurer.old base x → at ≡ base + length (encode_utf8_all x)
+        → SeesFront p measurer.new base x text.now result }
+{
+    if rows.all_ascii_plain() {
+        let len = ascii_prefix(text.as_bytes());
+        if len > 0 {
+            let (_, rest) = text.split_at(len);
+            measurer.see_ascii(len as u64);
+            return Ok(rest);
+        }
+    }
+    let mut chars = text.chars();
+    let c = chars.next().unwrap();
+    match measurer.see(rows, c) {
+        Ok(()) => Ok(chars.as_str()),
+        Err(_) => Err(Stop::Refused(Fault::Row { at })),
+    }
 }

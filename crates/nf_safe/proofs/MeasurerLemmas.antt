@@ -1,23 +1,27 @@
 -- A measurer's step.
-use Rattle.std.proofs.Common.{◌≡◌, ℕ, ◌+◌, ◌-◌, not, Bool, true, false, cond, List, [], ◌∷◌, ◌++◌, length, encode_utf8, encode_utf8_all, refl, sym, ap, ◌∙◌, subst, arith, if◌then◌else◌, length-append}
+use Rattle.std.proofs.Common.{◌≡◌, ℕ, ◌+◌, ◌-◌, ◌<◌, ◌==◌, not, Bool, true, false, cond, List, [], ◌∷◌, ◌++◌, length, encode_utf8, encode_utf8_all, refl, sym, ap, ◌∙◌, subst, arith, if◌then◌else◌, length-append, eqb-true, count_by, All}
 use Rattle.std.specs.List.{list_all}
-use Rattle.std.proofs.lemmas.Bool.{and_from}
-use Rattle.std.proofs.lemmas.List.Folds.{list_all-append}
-use Rattle.std.proofs.lemmas.List.Sums.{sum_by_push}
-use Rattle.std.proofs.lemmas.Str.{encodes-append}
-use Rattle.nf_forms.specs.Properties.{Properties}
+use Rattle.std.proofs.lemmas.Bool.{and_from, or_left}
+use Rattle.std.proofs.lemmas.List.Elements.{All-head, All-weaker}
+use Rattle.std.proofs.lemmas.List.Folds.{list_all-append, sum_by-zero}
+use Rattle.std.proofs.lemmas.List.Sums.{sum_by_push, sum_by-append, list_all-from_AllPass}
+use Rattle.std.proofs.lemmas.Str.{encodes-append, encodes-IsAscii}
+use Rattle.std.proofs.lemmas.Str.Ascii.{IsAscii-from_all}
+use Rattle.nf_forms.specs.Properties.{Properties, is_starter}
 use Rattle.nf_forms.specs.declared.form.Form.TheVariants.{Nfkd}
-use Rattle.nf_forms.specs.Runs.{trail}
+use Rattle.nf_forms.specs.Runs.{has_starter, trail}
 use Rattle.nf_forms.specs.Forms.{decomposed}
 use Rattle.nf_forms.specs.StreamSafe.{joiner, is_too_long, stream_safe}
 use Rattle.nf_forms.specs.Sound.{is_sound}
 use Rattle.nf_forms.specs.Laws.Sound.{IsSoundText, JoinerIsPlain-from_sound}
 use Rattle.nf_forms.specs.Laws.Starters.{longest-order}
-use Rattle.nf_forms.specs.Laws.StreamSafe.{stream_safe-push, decomposed-push}
+use Rattle.nf_forms.specs.Laws.StreamSafe.{stream_safe-push, decomposed-append, decomposed-push}
+use Rattle.nf_row.specs.Ascii.{IsPlainAscii, AreAscii}
+use Rattle.nf_row.specs.Laws.Ascii.{starter-ascii, sound-ascii, decomposed-ascii, stream_safe-ascii}
 use Rattle.nf_safe.specs.declared.measure.Measure.{Measure}
 use Rattle.nf_safe.specs.declared.measurer.Measurer.{Measurer}
 use Rattle.nf_safe.specs.Count.{passes, count_step}
-use Rattle.nf_safe.specs.Laws.Count.{trail-decomposed-safe_step}
+use Rattle.nf_safe.specs.Laws.Count.{trail-decomposed-safe_step, trail-decomposed-behind}
 use Rattle.nf_safe.specs.Laws.Pieces.{length-stream_safe-ge}
 use Rattle.nf_safe.specs.Runs.{HasRuns}
 use Rattle.nf_safe.specs.Measurer.{StandsAfter}
@@ -88,3 +92,42 @@ module _ (p : Properties) (old : Measurer) (x : List ℕ) (c : ℕ) (before : St
     where
       runs_are : HasRuns p new.runs (decomposed Nfkd p (x ++ c ∷ []))
       runs_are = subst (HasRuns p new.runs) (sym (decomposed-push p Nfkd x c)) runs
+
+-- plain ASCII
+module _ (p : Properties) (plain : IsPlainAscii p) (old : Measurer) (x : List ℕ) (before : StandsAfter p old x) (y : List ℕ) (ascii : AreAscii y) where
+  each : (test : ℕ → Bool) → ((c : ℕ) → c < 0x80 → test c ≡ true) → list_all test y ≡ true
+  each test passes = list_all-from_AllPass test y (All-weaker (λ c. c < 0x80) (λ c. test c ≡ true) passes y ascii)
+
+  safe : stream_safe p (x ++ y) ≡ stream_safe p x ++ y
+  safe = stream_safe-ascii p plain y ascii x before.sound
+
+  all_assigned : count_by (λ c. not (p.assigned c)) y ≡ 0
+  all_assigned = eqb-true _ _ (sum_by-zero (λ c. cond (not (p.assigned c)) 1 0) y ∙ each (λ c. cond (not (p.assigned c)) 1 0 == 0) (λ c below. ap (λ b. cond (not b) 1 0 == 0) (plain.unchanged c below).assigned))
+
+  pub all_start : All (λ c. is_starter p c ≡ true) y
+  all_start = All-weaker (λ c. c < 0x80) (λ c. is_starter p c ≡ true) (starter-ascii p plain) y ascii
+
+  begins : (v : List ℕ) → 0 < length v → All (λ c. is_starter p c ≡ true) v → has_starter p v ≡ true
+  begins [] some all = absurd (omega arith)
+  begins (c ∷ v) some all = or_left _ _ (All-head (λ c. is_starter p c ≡ true) c v all)
+
+  pub goes_on-ascii : (new : Measurer) → 0 < length y → new.counter ≡ 0 → new.runs.last ≡ 0 → HasRuns p new.runs (decomposed Nfkd p x ++ y)
+      → new.bytes ≡ old.bytes + length y → new.chars ≡ old.chars + length y → new.put ≡ old.put → new.unassigned ≡ old.unassigned → StandsAfter p new (x ++ y)
+  goes_on-ascii new some count last runs bytes chars put unassigned =
+      let own = decomposed-ascii p plain Nfkd y ascii in
+      let runs_are : HasRuns p new.runs (decomposed Nfkd p (x ++ y)) =
+      subst (HasRuns p new.runs) (sym (decomposed-append p Nfkd x y ∙ ap (λ v. decomposed Nfkd p x ++ v) own)) runs in
+      let starts = ap (has_starter p) own ∙ begins y some all_start in
+      record {
+        sound = ap (list_all (is_sound p)) safe ∙ list_all-append (is_sound p) (stream_safe p x) y ∙ and_from _ _ before.sound (each (is_sound p) (sound-ascii p plain));
+        values = same_values
+            (omega (arith, bytes, ap (λ m. m.bytes) before.values, ap length (encodes-append x y), length-append (encode_utf8_all x) (encode_utf8_all y), ap length (encodes-IsAscii y (IsAscii-from_all y ascii))))
+            (omega (arith, chars, ap (λ m. m.chars) before.values, length-append x y))
+            runs_are.nonstarters
+            (runs_are.longest ∙ sym (longest-order p (decomposed Nfkd p (x ++ y))))
+            (omega (arith, put, ap (λ m. m.put) before.values, ap length safe, length-append (stream_safe p x) y, length-append x y))
+            (omega (arith, unassigned, ap (λ m. m.unassigned) before.values, sum_by-append (λ c. cond (not (p.assigned c)) 1 0) x y, all_assigned));
+        count = count ∙ sym last ∙ runs_are.last ∙ trail-decomposed-behind p x y starts
+            ∙ sym (ap (λ o. trail p (decomposed Nfkd p o)) safe ∙ trail-decomposed-behind p (stream_safe p x) y starts);
+        runs = runs_are;
+      }

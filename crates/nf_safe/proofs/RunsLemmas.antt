@@ -1,5 +1,6 @@
 -- The runs of decomposed text that grows at its end.
-use Rattle.std.proofs.Common.{◌≡◌, ℕ, ◌+◌, max, not, Bool, true, false, cond, List, [], ◌∷◌, ◌++◌, sym, ap, ◌∙◌, arith, if◌then◌else◌, count_by}
+use Rattle.std.proofs.Common.{◌≡◌, ℕ, ◌+◌, ◌<◌, max, not, Bool, true, false, cond, List, [], ◌∷◌, ◌++◌, length, refl, sym, ap, ◌∙◌, subst, arith, append_assoc, if◌then◌else◌, count_by, All}
+use Rattle.std.proofs.lemmas.List.Elements.{All-head, All-tail}
 use Rattle.std.proofs.lemmas.List.Sums.{sum_by_push}
 use Rattle.nf_forms.specs.Properties.{Properties, is_starter, is_nonstarter}
 use Rattle.nf_forms.specs.Runs.{trail, longest}
@@ -38,3 +39,13 @@ module _ (p : Properties) (runs : Runs) (w : List ℕ) (c : ℕ) (before : HasRu
     longest = longest ∙ sym (widest false e);
     last = omega (arith, last, before.last, trail-push p w c ∙ ap (λ b. if b then 0 else trail p w + 1) e);
   }
+
+-- starters alone behind it
+pub push_starters : (p : Properties) (new : Runs) (v : List ℕ) → 0 < length v → All (λ c. is_starter p c ≡ true) v → (runs : Runs) (w : List ℕ) → HasRuns p runs w
+    → new.nonstarters ≡ runs.nonstarters → new.longest ≡ runs.longest → new.last ≡ 0 → HasRuns p new (w ++ v)
+push_starters p new [] some all runs w before nonstarters longest last = absurd (omega arith)
+push_starters p new (c ∷ []) some all runs w before nonstarters longest last =
+    push_starter p runs w c before new (All-head (λ c. is_starter p c ≡ true) c [] all) nonstarters longest last
+push_starters p new (c ∷ d ∷ v) some all runs w before nonstarters longest last =
+    let first = push_starter p runs w c before new (All-head (λ c. is_starter p c ≡ true) c (d ∷ v) all) nonstarters longest last in
+    subst (HasRuns p new) (append_assoc w (c ∷ []) (d ∷ v)) (push_starters p new (d ∷ v) (omega arith) (All-tail (λ c. is_starter p c ≡ true) c (d ∷ v) all) new (w ++ c ∷ []) first refl refl last)

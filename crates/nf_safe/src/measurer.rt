@@ -23,9 +23,10 @@ pub struct Measurer {
 }
 
 impl Measurer {
-    ghost use Rattle.std.specs.Prelude.{◌≡◌, ◌+◌, ℕ, List, [], ◌∷◌, ◌++◌, length, IsErr, OnOk, option_map, encode_utf8};
+    ghost use Rattle.std.specs.Prelude.{◌≡◌, ◌+◌, ◌<◌, ℕ, List, [], ◌∷◌, ◌++◌, length, IsErr, OnOk, option_map, encode_utf8};
     ghost use Rattle.std.specs.Result.{result_err};
     ghost use Rattle.nf_forms.specs.Properties.{Properties};
+    ghost use Rattle.nf_row.specs.Ascii.{IsPlainAscii, AreAscii};
     ghost use Rattle.nf_safe.specs.Measurer.{values_of, refusal, unsound_at, StandsAfter};
 
     /// A measurer that has seen nothing.
@@ -74,6 +75,22 @@ impl Measurer {
         self.put += u64::from(is_parted);
         self.unassigned += u64::from(!rows.assigned(c));
         Ok(())
+    }
+
+    /// Sees so many ASCII characters, at least one, of data that leaves ASCII as it is (`Plain`). There each is assigned
+    /// and a starter, alone its own decompositions: nothing is refused or put, and the count and the run begin anew.
+    #[inline]
+    pub fn see_ascii(&mut self, count: u64)
+        requires some { 0 < count }
+        requires fits { (values_of self.old).bytes + count ≤ u64.MAX }
+        ensures bytes { (values_of self.new).bytes ≡ (values_of self.old).bytes + count }
+        ensures stands { (p : Properties) (x y : List ℕ) → IsPlainAscii p → AreAscii y → length y ≡ count
+            → StandsAfter p self.old x → StandsAfter p self.new (x ++ y) }
+    {
+        self.counter = Counter::new();
+        self.runs.push_starters();
+        self.bytes += count;
+        self.chars += count;
     }
 
     /// What it has measured.

@@ -15,7 +15,7 @@ pub struct Runs {
 }
 
 impl Runs {
-    ghost use Rattle.std.specs.Prelude.{◌≡◌, ◌+◌, ◌<◌, ◌≤◌, ℕ, List, [], ◌∷◌, ◌++◌};
+    ghost use Rattle.std.specs.Prelude.{◌≡◌, ◌+◌, ◌<◌, ◌≤◌, ℕ, List, [], ◌∷◌, ◌++◌, length, All, IsTrue};
     ghost use Rattle.nf_forms.specs.Properties.{Properties, is_starter};
     ghost use Rattle.nf_safe.specs.Runs.{HasRuns};
 
@@ -41,6 +41,17 @@ impl Runs {
         for c in row.as_slice() {
             self.push(rows.class(*c) == 0);
         }
+    }
+
+    /// Appends starters, at least one.
+    #[inline]
+    pub fn push_starters(&mut self)
+        ensures nonstarters { self.new.nonstarters ≡ self.old.nonstarters }
+        ensures last { self.new.last ≡ 0 }
+        ensures runs { (p : Properties) (w v : List ℕ) → 0 < length v → All (λ c. IsTrue (is_starter p c)) v
+            → HasRuns p self.old w → HasRuns p self.new (w ++ v) }
+    {
+        self.last = 0;
     }
 
     /// Appends a starter or a non-starter.
