@@ -121,13 +121,12 @@ fn see_front<'t, R: Rows>(
     ensures sees { let p = R.properties rows.now in (base : ℕ) (x : List ℕ) → HasMeasured p measurer.old base x → at ≡ base + length (encode_utf8_all x)
         → SeesFront p measurer.new base x text.now result }
 {
-    if rows.all_ascii_plain() {
-        let len = ascii_prefix(text.as_bytes());
-        if len > 0 {
-            let (_, rest) = text.split_at(len);
-            measurer.see_ascii(len as u64);
-            return Ok(rest);
-        }
+    let bytes = text.as_bytes();
+    if bytes[0] < 0x80 && rows.all_ascii_plain() {
+        let len = ascii_prefix(bytes);
+        let (_, rest) = text.split_at(len);
+        measurer.see_ascii(len as u64);
+        return Ok(rest);
     }
     let mut chars = text.chars();
     let c = chars.next().unwrap();

@@ -3,7 +3,7 @@ ghost use Rattle.std.specs.Prelude.{◌≤◌, ◌*◌};
 use crate::counter::Counter;
 use crate::measure::Measure;
 use crate::runs::Runs;
-use nf_row::{JOINER, Rows, Rule, SoundRow, Unsound, sound, sound_row};
+use nf_row::{JOINER, Rows, Rule, Unsound, sound};
 
 /// Measures a text, character by character. The text need not be in the Stream-Safe Text Format: its runs are counted
 /// whole.
@@ -54,13 +54,10 @@ impl Measurer {
         ensures stands { let p = R.properties rows.now in
             (x : List ℕ) → StandsAfter p self.old x → OnOk result (StandsAfter p self.new (x ++ c ∷ [])) }
     {
-        let Some(SoundRow { row, ends }) = sound_row(rows, c) else {
+        let Some((runs, ends)) = self.runs.with_char(rows, c) else {
             return Err(Unsound { c, rule: Rule::A1 });
         };
-        let (mut runs, mut counter) = (self.runs, self.counter);
-        runs.push_row(rows, &row);
-        // The joiner's rows are read without this one in hand.
-        drop(row);
+        let mut counter = self.counter;
         let is_parted = counter.step_by(ends);
         if is_parted && !sound(rows, JOINER) {
             return Err(Unsound {

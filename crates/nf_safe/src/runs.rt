@@ -1,6 +1,6 @@
 ghost use Rattle.std.specs.Prelude.{◌≤◌};
 
-use nf_row::{Row, Rows};
+use nf_row::{Ends, Form, Rows, SoundRow, own_class, sound_row};
 
 /// The non-starters of decomposed text, and its runs of them.
 #[derive(Clone, Copy, Debug)]
@@ -15,8 +15,10 @@ pub struct Runs {
 }
 
 impl Runs {
-    ghost use Rattle.std.specs.Prelude.{◌≡◌, ◌+◌, ◌<◌, ◌≤◌, ℕ, List, [], ◌∷◌, ◌++◌, length, All, IsTrue};
+    ghost use Rattle.std.specs.Prelude.{◌≡◌, ◌+◌, ◌<◌, ◌≤◌, ℕ, List, [], ◌∷◌, ◌++◌, length, All, IsTrue, is_some, IfSome};
     ghost use Rattle.nf_forms.specs.Properties.{Properties, is_starter};
+    ghost use Rattle.nf_forms.specs.Sound.{is_sound};
+    ghost use Rattle.nf_row.specs.Ends.{HasEnds};
     ghost use Rattle.nf_safe.specs.Runs.{HasRuns};
 
     /// Those of no text.
@@ -31,14 +33,43 @@ impl Runs {
         }
     }
 
+    /// With the compatibility decomposition of `c` behind, and the ends of that; none where `c` is unsound. No row is read
+    /// where it is known to be `c` alone, and none is copied where the data lends it.
+    #[inline]
+    pub fn with_char<R: Rows>(self, rows: &R, c: char) -> Option<(Runs, Ends)>
+        requires { self.nonstarters + 18 ≤ u128.MAX }
+        ensures sound { is_some result ≡ is_sound (R.properties rows.now) c }
+        ensures few { IfSome result (λ with. with.0.nonstarters ≤ self.nonstarters + 18) }
+        ensures runs { let p = R.properties rows.now in
+            IfSome result (λ with. (w : List ℕ) → HasRuns p self w → HasRuns p with.0 (w ++ p.compat c)) }
+        ensures ends { let p = R.properties rows.now in IfSome result (λ with. HasEnds p (p.compat c) with.1) }
+    {
+        let mut runs = self;
+        if let Some(class) = own_class(rows, c) {
+            runs.push(class == 0);
+            return Some((runs, Ends::of_one(class == 0)));
+        }
+        if rows.all_sound() {
+            let mut room = [c; 3];
+            if let Some(row) = rows.lent_row(Form::Nfkd, c, &mut room) {
+                runs.push_row(rows, row);
+                return Some((runs, Ends::of_members(rows, row)));
+            }
+        }
+        let SoundRow { row, ends } = sound_row(rows, c)?;
+        runs.push_row(rows, row.as_slice());
+        Some((runs, ends))
+    }
+
     /// Appends the members of `row`.
-    pub fn push_row<R: Rows>(&mut self, rows: &R, row: &Row)
-        requires { self.old.nonstarters + 18 ≤ u128.MAX }
+    fn push_row<R: Rows>(&mut self, rows: &R, row: &[char])
+        requires few { length row.now ≤ 18 }
+        requires fits { self.old.nonstarters + 18 ≤ u128.MAX }
         ensures few { self.new.nonstarters ≤ self.old.nonstarters + 18 }
         ensures runs { let p = R.properties rows.now in
-            (w : List ℕ) → HasRuns p self.old w → HasRuns p self.new (w ++ row.now.items) }
+            (w : List ℕ) → HasRuns p self.old w → HasRuns p self.new (w ++ row.now) }
     {
-        for c in row.as_slice() {
+        for c in row {
             self.push(rows.class(*c) == 0);
         }
     }

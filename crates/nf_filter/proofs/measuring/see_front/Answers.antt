@@ -9,16 +9,16 @@ use Rattle.nf_filter.proofs.measuring.see_front.Goals as goal
 
 pub split_at-requires : goal.split_at-requires
 split_at-requires g c =
-    let ascii = rw c.as_bytes.ensures.value at c.ascii_prefix-len.ensures.ascii in
-    let within = rw c.as_bytes.ensures.value at c.ascii_prefix-len.ensures.within in
+    let ascii = rw c.as_bytes-bytes.ensures.value at c.ascii_prefix-len.ensures.ascii in
+    let within = rw c.as_bytes-bytes.ensures.value at c.ascii_prefix-len.ensures.within in
     IsCharBoundary-from_take c.args.text.now c.ascii_prefix-len.result c.utf8.text within (IsUtf8-from_ascii (take c.ascii_prefix-len.result c.args.text.now) ascii)
 
-pub returns-then-len-gt0-clause-sees : goal.returns-then-len-gt0-clause-sees
-returns-then-len-gt0-clause-sees g c = λ base x before here.
+pub returns-then-all_ascii_plain-clause-sees : goal.returns-then-all_ascii_plain-clause-sees
+returns-then-all_ascii_plain-clause-sees g c = λ base x before here.
     let text = c.args.text.now in
     let len = c.ascii_prefix-len.result in
-    let ascii = rw c.as_bytes.ensures.value at c.ascii_prefix-len.ensures.ascii in
-    let within = rw c.as_bytes.ensures.value at c.ascii_prefix-len.ensures.within in
+    let ascii = rw c.as_bytes-bytes.ensures.value at c.ascii_prefix-len.ensures.ascii in
+    let within = rw c.as_bytes-bytes.ensures.value at c.ascii_prefix-len.ensures.within in
     record {
       front = take len text;
       is_front = ap chars (sym (take-append-drop len text) ∙ ap (λ l. take len text ++ l) (sym c.split_at.ensures.back))

@@ -24,7 +24,7 @@ returns-clause-stands g c = λ x before.
     let ends = c.in-Some.ensures.ends in
     goes_on p c.args.self.now x c.args.c before _ c.step_by-is_parted.result (sym c.in-Some.ensures.sound) (sym (c.step_by-is_parted.ensures.answer p _ ends)) joins
     (c.step_by-is_parted.ensures.count p _ ends)
-    (subst (λ k. HasRuns p c.push_row.new.self (decomposed Nfkd p x ++ k)) c.in-Some.ensures.row (c.push_row.ensures.runs _ before.runs))
+    (c.in-Some.ensures.runs _ before.runs)
     (ap (λ n. c.args.self.now.bytes + n) c.len_utf8.ensures.len) refl
     (ap (λ n. c.args.self.now.put + n) (c.from.ensures ∙ byte c.step_by-is_parted.result))
     (ap (λ n. c.args.self.now.unassigned + n) (c.from-2.ensures ∙ byte (not c.assigned.result) ∙ ap (λ b. cond (not b) 1 0) c.assigned.ensures))

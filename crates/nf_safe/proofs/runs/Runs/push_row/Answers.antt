@@ -11,13 +11,8 @@ more p runs w row i c within is has =
     subst (HasRuns p runs)
     (append_assoc w (take i row) (c ∷ []) ∙ ap (λ v. w ++ v) (ap (λ d. take i row ++ d ∷ []) is ∙ sym (take_more row i c within))) has
 
-pub push-requires : goal.push-requires
-push-requires g c =
-    omega (arith, c.requires, c.loop-c.invariant.few, c.loop-c-test.true, ap length c.loop-c.invariant.items, c.as_slice-c-items.ensures.fits)
-
 pub loop-c-init : goal.loop-c-init
 loop-c-init g c = record {
-  items = c.as_slice-c-items.ensures.value;
   few = omega arith;
   runs = λ w before. subst (HasRuns (g.R.Rows.properties c.args.rows.now) c.args.self.now) (sym (append-nil w)) before;
 }
@@ -25,23 +20,16 @@ loop-c-init g c = record {
 pub loop-c-preserved : goal.loop-c-preserved
 loop-c-preserved g c =
     let p = g.R.Rows.properties c.args.rows.now in
-    let row = c.args.row.now.items in
-    let items = c.loop-c.invariant.items in
+    let row = c.args.row.now in
     record {
-      items = items;
       few = omega (arith, c.push.ensures.few, c.loop-c.invariant.few);
       runs = λ w before.
-          more p c.push.new.self w row c.loop-c.c-index c.c-item.result (omega (arith, ap length items, c.loop-c-test.true))
-          (c.c-item.is ∙ ap (λ l. get_or l c.loop-c.c-index c.c-item.result) items)
+          more p c.push.new.self w row c.loop-c.c-index c.c-item.result c.loop-c-test.true c.c-item.is
           (c.push.ensures.runs p (w ++ take c.loop-c.c-index row) c.c-item.result (ap (λ k. k == 0) (sym c.class.ensures)) (c.loop-c.invariant.runs w before));
     }
-
-pub returns-clause-few : goal.returns-clause-few
-returns-clause-few g c =
-    omega (arith, c.loop-c.invariant.few, c.loop-c.auto.c-index-end, c.as_slice-c-items.ensures.fits)
 
 pub returns-clause-runs : goal.returns-clause-runs
 returns-clause-runs g c = λ w before.
     subst (λ v. HasRuns (g.R.Rows.properties c.args.rows.now) c.loop-c.self (w ++ v))
-    (take_all c.loop-c.c-index c.args.row.now.items (omega (arith, ap length c.loop-c.invariant.items, c.loop-c-test.false)))
+    (take_all c.loop-c.c-index c.args.row.now (omega (arith, c.loop-c-test.false)))
     (c.loop-c.invariant.runs w before)

@@ -4,7 +4,6 @@ use Rattle.nf_safe.proofs.runs.Runs.push_row.Given as goal
 
 abbrev pub invariant-loop-c : goal.invariant-loop-c
 invariant-loop-c g l = record {
-  items : l.c-items ≡ l.row.items;
   few : l.self.nonstarters ≤ l.fn.self.nonstarters + l.c-index;
-  runs : (w : List ℕ) → HasRuns (g.R.Rows.properties l.rows) l.fn.self w → HasRuns (g.R.Rows.properties l.rows) l.self (w ++ take l.c-index l.row.items);
+  runs : (w : List ℕ) → HasRuns (g.R.Rows.properties l.rows) l.fn.self w → HasRuns (g.R.Rows.properties l.rows) l.self (w ++ take l.c-index l.row);
 }
