@@ -22,6 +22,8 @@ mod ill_formed;
 #[cfg(test)]
 mod lying_rows;
 #[cfg(test)]
+mod measures;
+#[cfg(test)]
 mod mixtures;
 #[cfg(test)]
 mod odd;

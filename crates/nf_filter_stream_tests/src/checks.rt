@@ -84,7 +84,7 @@ type Case<'a> = (&'a [(&'a str, usize)], Option<(u64, u64)>, [u64; 6]);
 #[test]
 fn a_text_is_checked_and_measured(rt: HostRuntime) -> Result<(), Fail> {
     let alloc = rt.alloc();
-    let cases: [Case<'_>; 9] = [
+    let cases: [Case<'_>; 12] = [
         (&[], None, [0, 0, 0, 0, 0, 0]),
         (&[("q", 1), (M, 31)], Some((31, 61)), [63, 32, 31, 31, 1, 0]),
         (&[("q", 1), (M, 30)], None, [61, 31, 30, 30, 0, 0]),
@@ -110,6 +110,22 @@ fn a_text_is_checked_and_measured(rt: HostRuntime) -> Result<(), Fail> {
             &[("\u{1F600}a", 1000), (M, 31), ("q", 5000)],
             Some((2030, 5060)),
             [10_062, 7031, 31, 31, 1, 0],
+        ),
+        // Runs with ASCII between them, of each length about the 32 bytes that are looked at together.
+        (
+            &[("a", 40), (M, 20), ("b", 1), (M, 20), ("c", 31)],
+            None,
+            [152, 112, 40, 20, 0, 0],
+        ),
+        (
+            &[("a", 33), (M, 31), ("b", 64), (M, 31), ("\u{FFFF}c", 2)],
+            Some((63, 93)),
+            [229, 163, 62, 31, 2, 2],
+        ),
+        (
+            &[(M, 25), ("a", 100), (M, 3)],
+            None,
+            [156, 128, 28, 25, 0, 0],
         ),
     ];
     for (text, left, values) in cases {
