@@ -1,17 +1,19 @@
 //! A measurement passes over much that it need not look at: it answers the same over the same data of which nothing is
 //! known, with which each character is looked at.
 use crate::mixtures::{Seeded, cut, push_part};
-use nf_filter::{Fault, measure};
+use nf_filter::{Fault, FromReader, measure, measure_buffered};
 use nf_filter_fixtures::{Pieces, joined};
-use nf_row::{Patched, Rows, Ucd};
+use nf_row::{Patched, Ucd};
 use nf_safe::Measure;
 use std::alloc::AllocError;
 use std::test::Fail;
 
 const M: &str = "\u{301}";
 
-fn measured<R: Rows>(rows: &R, pieces: &[&[u8]]) -> Result<Measure, Fault> {
-    measure(rows, 0, &mut Pieces::new(pieces, false))
+/// The measure of the pieces, each of which comes at once.
+fn measured(pieces: &[&[u8]]) -> Result<Measure, Fault> {
+    let mut buffer = [0; 5000];
+    measure_buffered(&Ucd, 0, &mut Pieces::new(pieces, false), &mut buffer)
 }
 
 /// Appends one of these some times, or what other mixtures have.
@@ -41,9 +43,9 @@ fn mixtures_are_measured_in_the_same_way(rt: HostRuntime) -> Result<(), Fail> {
             push_some(&mut text, &mut seeded)?;
         }
         let pieces = cut(alloc, &mut seeded, text.as_bytes())?;
-        let looked_at = measured(&Patched::new(&[]), &[text.as_bytes()]);
+        let looked_at = measure(&Patched::new(&[]), 0, &mut FromReader::new(text.as_bytes()));
         assert!(rt; looked_at.is_ok(), "seed {seed}");
-        assert_eq!(rt; measured(&Ucd, pieces.as_slice()), looked_at, "seed {seed}");
+        assert_eq!(rt; measured(pieces.as_slice()), looked_at, "seed {seed}");
     }
     Ok(())
 }
@@ -69,7 +71,7 @@ fn a_text_is_measured_wherever_it_is_cut(rt: HostRuntime) -> Result<(), Fail> {
     };
     for at in 1..text.len() {
         let (front, behind) = text.split_at(at);
-        assert_eq!(rt; measured(&Ucd, &[front, behind]), Ok(values), "at {at}");
+        assert_eq!(rt; measured(&[front, behind]), Ok(values), "at {at}");
     }
     Ok(())
 }

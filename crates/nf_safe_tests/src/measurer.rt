@@ -115,7 +115,11 @@ fn ascii_is_counted_at_once(rt: HostRuntime) {
         assert!(rt; count > 0 && measurer.values().bytes <= u64::MAX - count);
         measurer.see_ascii(count);
         see_marks(&rt, &mut measurer, behind);
-        assert_eq!(rt; measurer.values(), measure(values), "{before} {count} {behind}");
+        assert_eq!(rt;
+            measurer.values(),
+            measure(values),
+            "{before} {count} {behind}"
+        );
     }
 }
 

@@ -1,5 +1,4 @@
-use Rattle.std.proofs.Common.{◌≡◌, ℕ, ◌+◌, [], ◌++◌, length, rules, refl, sym, ap, ◌∙◌, subst, arith, append-nil, append_assoc, length-append, encode_utf8_all, chars}
-use Rattle.std.proofs.lemmas.Str.{encodes-append}
+use Rattle.std.proofs.Common.{[], ◌++◌, rules, refl, sym, ap, ◌∙◌, subst, arith, append-nil, append_assoc}
 use Rattle.nf_filter.specs.Measures.{HasMeasured, unusable_stop}
 use Rattle.nf_filter.proofs.CharsLemmas.{place_at}
 use Rattle.nf_filter.proofs.TakingLemmas.{front_len, front-behind, front-more, front-whole}
