@@ -2,6 +2,7 @@ pub mod WritesLemmas
 pub mod BlockLemmas
 pub mod CharsLemmas
 pub mod PolicyLemmas
+pub mod PassedLemmas
 pub mod TextLemmas
 pub mod CalmLemmas
 pub mod TakingLemmas

@@ -5,6 +5,7 @@ pub mod ToWriter
 pub mod FromReader
 pub mod Block
 pub mod Policy
+pub mod Passed
 pub mod Settled
 pub mod Laws
 pub mod Faults

@@ -1,5 +1,6 @@
 //! How text goes through a normalizer to a sink, step by step.
-ghost use Rattle.std.specs.Prelude.{◌≡◌, ◌++◌, length, chars, take_while, encode_utf8_all};
+ghost use Rattle.std.specs.Prelude.{◌≡◌, ◌<◌, ◌≤◌, ◌++◌, length, chars, take_while, encode_utf8_all};
+ghost use Rattle.nf_filter.specs.Passed.{IsBehindAssigned};
 ghost use Rattle.nf_filter.specs.Policy.{allowed};
 
 use crate::block::Block;
@@ -9,6 +10,12 @@ use crate::fault::Fault;
 use nf_normalizer::{STEP, Step};
 use nf_row::{Formed, Rows};
 use nf_utf8::char_count;
+
+/// So many bytes make it worth to ask what is known of a text.
+const WORTH: usize = 16;
+
+/// So many characters are looked up where it was not.
+const FEW: usize = 8;
 
 impl Counted {
     ghost use Rattle.std.specs.Prelude.{◌≡◌, ◌+◌, ◌<◌, ◌≤◌, Bool, ℕ, List, [], ◌∷◌, ◌++◌, length, chars, Err, IfErr, OnOk, MatchResult};
@@ -216,12 +223,36 @@ fn allowed_len<R: Rows>(rows: &R, assigned: bool, text: &str) -> usize
 fn assigned_len<R: Rows>(rows: &R, text: &str) -> usize
     ensures { result ≡ length (encode_utf8_all (take_while (R.properties rows.now).assigned (chars text.now))) }
 {
-    let mut len = 0;
-    for c in text.chars() {
+    let mut rest = text;
+    let mut few = 0;
+    while !rest.is_empty() {
+        let (more, behind) = past_known(rows, few, rest);
+        let mut chars = behind.chars();
+        let Some(c) = chars.next() else {
+            return text.len();
+        };
         if !rows.assigned(c) {
-            return len;
+            return text.len() - behind.len();
         }
-        len += c.len_utf8();
+        rest = chars.as_str();
+        few = more - 1;
     }
-    len
+    text.len()
+}
+
+/// What stands behind the characters that are known to be assigned, which are asked for where no few are left to be looked
+/// up. It tells how many are then to be looked up, one by one: where little was known, more than one, so that hostile text
+/// makes few calls in vain.
+#[inline(always)]
+fn past_known<'t, R: Rows>(rows: &R, few: usize, text: &'t str) -> (usize, &'t str)
+    ensures some { 0 < result.0 }
+    ensures shorter { length result.1.now ≤ length text.now }
+    ensures behind { IsBehindAssigned (R.properties rows.now) text.now result.1.now }
+{
+    if few > 0 {
+        return (few, text);
+    }
+    let known = rows.assigned_front(text);
+    let more = if known < WORTH { FEW } else { 1 };
+    (more, &text[known..])
 }

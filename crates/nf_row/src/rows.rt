@@ -1,4 +1,6 @@
-ghost use Rattle.std.specs.Prelude.{◌≡◌, ◌<◌, ◌↔◌, ℕ, length, IsErr, IfOk, IfSome, IsTrue};
+ghost use Rattle.std.specs.Prelude.{◌≡◌, ◌<◌, ◌↔◌, ℕ, true, length, take, chars, IsErr, IfOk, IfSome, IsTrue};
+ghost use Rattle.std.specs.List.{list_all};
+ghost use Rattle.std.specs.Str.{IsCharBoundary};
 ghost use Rattle.nf_forms.specs.Properties.{Properties};
 ghost use Rattle.nf_forms.specs.Forms.{row_of};
 ghost use Rattle.nf_forms.specs.Sound.{is_sound};
@@ -58,6 +60,16 @@ pub trait Rows {
     /// Whether `c` is assigned: its general category is not Cn. Noncharacters are Cn, private use characters are not.
     fn assigned(&self, c: char) -> bool
         ensures { result ≡ (properties self.now).assigned c };
+
+    /// How many bytes at the front of the text are of characters that are known to be assigned, without a look-up for each.
+    /// Data of which nothing is known leaves it out.
+    #[inline]
+    fn assigned_front(&self, _text: &str) -> usize
+        ensures boundary { IsCharBoundary _text.now result }
+        ensures assigned { list_all (properties self.now).assigned (chars (take result _text.now)) ≡ true }
+    {
+        0
+    }
 
     /// What is known of `c`, in that form, without its rows. Data of which nothing is known leaves it out.
     #[inline]

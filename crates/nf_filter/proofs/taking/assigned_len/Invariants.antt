@@ -1,10 +1,14 @@
-use Rattle.std.proofs.Common.{◌≡◌, true, length, encode_utf8_all}
-use Rattle.std.specs.List.{list_all}
+use Rattle.std.proofs.Common.{length}
+use denote.Shadow.{shadow}
+use denote.Text.{Utf8}
+use Rattle.nf_filter.specs.Passed.{IsBehindAssigned}
 use Rattle.nf_filter.proofs.taking.assigned_len.Given as goal
 
-abbrev pub invariant-loop-c : goal.invariant-loop-c
-invariant-loop-c g l = record {
-  steps : (goal.iterator-loop-c g).can_next l.c-iterator × (goal.iterator-loop-c g).is_finite l.c-iterator;
-  len : l.len ≡ length (encode_utf8_all l.yielded);
-  passed : list_all (g.R.Rows.properties l.rows).assigned l.yielded ≡ true;
+abbrev pub invariant-loop-rest : goal.invariant-loop-rest
+invariant-loop-rest g l = record {
+  utf8 : shadow (Utf8 l.rest);
+  behind : IsBehindAssigned (g.R.Rows.properties l.rows) l.text l.rest;
 }
+
+abbrev pub decreases-loop-rest : goal.decreases-loop-rest
+decreases-loop-rest g l = length l.rest
