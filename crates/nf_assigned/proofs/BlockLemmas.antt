@@ -3,30 +3,30 @@ use Rattle.std.proofs.Common.{◌≡◌, ℕ, ◌+◌, ◌-◌, ◌<◌, ◌≤�
 use Rattle.std.proofs.str.Laws.{order}
 use Rattle.std.proofs.lemmas.Nat.{and_le_l}
 use Rattle.nf_calm.proofs.LookLemmas.{all_below, every_below}
-use Rattle.nf_assigned.specs.Pairs.{high_of, low_of, byte_bits, pair_bits, wants_look, look_at, AreTold}
-use Rattle.nf_assigned.specs.declared.pairs.TheConstants.{NEXT_HIGH, NEXT_LOW}
+use Rattle.nf_assigned.specs.Pairs.{high_of, low_of, byte_bits, pair_bits, is_in, wants_look, look_at, AreTold}
+use Rattle.nf_assigned.specs.declared.pairs.TheConstants.{FIRST, SECOND}
 
 -- ASCII and the lead bytes below CD begin no pair
-ascii_begins_none : all_below (λ b. byte_bits b == 0) 128 ≡ true
+ascii_begins_none : all_below (λ b. byte_bits FIRST b == 0) 128 ≡ true
 ascii_begins_none = refl
 
-low_leads_begin_none : all_below (λ b. byte_bits (192 + b) == 0) 13 ≡ true
+low_leads_begin_none : all_below (λ b. byte_bits FIRST (192 + b) == 0) 13 ≡ true
 low_leads_begin_none = refl
 
-none_begun : (byte next : ℕ) → byte_bits byte ≡ 0 → wants_look byte next ≡ false
+none_begun : (byte next : ℕ) → byte_bits FIRST byte ≡ 0 → wants_look byte next ≡ false
 none_begun byte next e =
-    let two = bit_and (byte_bits byte) (high_of NEXT_HIGH next) in
-    let none : pair_bits byte next ≡ 0 = omega (arith, e, and_le_l (byte_bits byte) (high_of NEXT_HIGH next), and_le_l two (low_of NEXT_LOW next)) in
-    ap (λ n. not (n == 0)) none
+    let two = bit_and (byte_bits FIRST byte) (high_of FIRST.next_high next) in
+    let none : pair_bits FIRST byte next ≡ 0 = omega (arith, e, and_le_l (byte_bits FIRST byte) (high_of FIRST.next_high next), and_le_l two (low_of FIRST.next_low next)) in
+    ap (λ n. not (n == 0) && is_in SECOND byte next) none
 
 pub ascii-look : (byte next : ℕ) → byte < 128 → wants_look byte next ≡ false
-ascii-look byte next low = none_begun byte next (eqb-true _ 0 (every_below (λ b. byte_bits b == 0) 128 ascii_begins_none byte low))
+ascii-look byte next low = none_begun byte next (eqb-true _ 0 (every_below (λ b. byte_bits FIRST b == 0) 128 ascii_begins_none byte low))
 
 pub low_lead-look : (byte next : ℕ) → 192 ≤ byte → byte < 205 → wants_look byte next ≡ false
 low_lead-look byte next high low =
     let i = byte - 192 in
     let e : 192 + i ≡ byte = omega arith in
-    none_begun byte next (subst (λ b. byte_bits b ≡ 0) e (eqb-true _ 0 (every_below (λ b. byte_bits (192 + b) == 0) 13 low_leads_begin_none i (omega arith))))
+    none_begun byte next (subst (λ b. byte_bits FIRST b ≡ 0) e (eqb-true _ 0 (every_below (λ b. byte_bits FIRST (192 + b) == 0) 13 low_leads_begin_none i (omega arith))))
 
 module _ (bytes : List ℕ) (at : ℕ) (told : AreTold bytes at) where
   -- behind it pairs of which none has to be looked up

@@ -4,9 +4,9 @@ ghost use Rattle.std.specs.Prelude.{◌≡◌, ◌<◌, ◌≤◌, ◌+◌, ◌/
 ghost use Rattle.std.specs.Int.Count.{count_trailing_zeros};
 ghost use Rattle.std.specs.Simd.Lanes.{mask_l};
 ghost use Rattle.nf_calm.specs.Closer.{places};
-ghost use Rattle.nf_assigned.specs.Pairs.{high_of, low_of, pair_bits, look_at, AreTold};
+ghost use Rattle.nf_assigned.specs.Pairs.{high_of, low_of, pair_bits, is_in, look_at, AreTold};
 
-use crate::pairs::{BYTE_HIGH, BYTE_LOW, NEXT_HIGH, NEXT_LOW};
+use crate::pairs::{FIRST, Pairs, SECOND};
 use std::simd::prelude::*;
 
 /// The bytes that are looked at together.
@@ -15,8 +15,7 @@ const LANES: usize = 16;
 /// The bytes that are passed over by one branch.
 const BLOCK: usize = 64;
 
-/// How many bytes there are before a pair that a character may begin which is not known to be assigned. The last few are left
-/// out.
+/// How many bytes there are before a pair that has to be looked up. The last few are left out.
 #[inline(always)]
 pub(crate) fn told_len(bytes: &[u8]) -> usize
     ensures within { result ≤ length bytes.now }
@@ -33,7 +32,7 @@ pub(crate) fn told_len(bytes: &[u8]) -> usize
     at
 }
 
-/// The same by blocks.
+/// How many there are in the blocks that have no such pair.
 #[inline(always)]
 fn told_blocks(bytes: &[u8]) -> usize
     ensures within { result ≤ length bytes.now }
@@ -95,27 +94,43 @@ fn before(bits: u64) -> usize
     }
 }
 
-/// The same: whether it and the byte behind it have to be looked up.
+/// The same: whether it and the byte behind it have to be looked up. The second family is asked only where the first does
+/// not tell.
 #[inline(always)]
 fn looks(bytes: &[u8], at: usize) -> u64
     requires room { at + 16 < length bytes.now }
     ensures { result ≡ mask_l (map (look_at bytes.now) (places at)) }
 {
-    in_pairs(bytes, at).simd_ne(u8x16::splat(0)).to_bitmask()
+    let first = hits(&FIRST, bytes, at);
+    if first == 0 {
+        return 0;
+    }
+    first & hits(&SECOND, bytes, at)
+}
+
+/// The same: whether they are in a set of the family.
+#[inline(always)]
+fn hits(pairs: &Pairs, bytes: &[u8], at: usize) -> u64
+    requires room { at + 16 < length bytes.now }
+    ensures { result ≡ mask_l (map (λ k. is_in pairs.now (slice_index bytes.now k) (slice_index bytes.now (k + 1))) (places at)) }
+{
+    in_pairs(pairs, bytes, at)
+        .simd_ne(u8x16::splat(0))
+        .to_bitmask()
 }
 
 /// The sets of which the pair of bytes from each place on has all four halves.
 #[inline(always)]
-fn in_pairs(bytes: &[u8], at: usize) -> u8x16
+fn in_pairs(pairs: &Pairs, bytes: &[u8], at: usize) -> u8x16
     requires room { at + 16 < length bytes.now }
-    ensures { result ≡ map (λ k. pair_bits (slice_index bytes.now k) (slice_index bytes.now (k + 1))) (places at) }
+    ensures { result ≡ map (λ k. pair_bits pairs.now (slice_index bytes.now k) (slice_index bytes.now (k + 1))) (places at) }
 {
     let byte = u8x16::from_slice(&bytes[at..]);
     let next = u8x16::from_slice(&bytes[at + 1..]);
-    let byte_high = by_high(&BYTE_HIGH, byte);
-    let byte_low = by_low(&BYTE_LOW, byte);
-    let next_high = by_high(&NEXT_HIGH, next);
-    let next_low = by_low(&NEXT_LOW, next);
+    let byte_high = by_high(&pairs.byte_high, byte);
+    let byte_low = by_low(&pairs.byte_low, byte);
+    let next_high = by_high(&pairs.next_high, next);
+    let next_low = by_low(&pairs.next_low, next);
     byte_high & byte_low & next_high & next_low
 }
 

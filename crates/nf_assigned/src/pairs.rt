@@ -1,18 +1,36 @@
-//! Eight sets of pairs of bytes, each a bit: by the high and the low half of a byte and of the one behind it, the sets that
-//! allow it. A character of which no byte but the last is the first of such a pair is assigned.
+//! Two families of eight sets of pairs of bytes. A pair that is in a set of each has to be looked up; where no pair of a
+//! character is, but for what its last byte begins, the character is assigned.
 //!
-//! Most are a lead byte and its second. The third byte is asked by sets of the last two, where a block of 64 code points has
-//! few holes and is much used: 81 before 80, for U+3040, 82 before 97 and 98, for U+3097 and U+3098, and BC before 80, for
-//! U+FF00.
+//! Most pairs are a lead byte and its second. The third byte is asked by pairs of the last two, where a block of 64 code
+//! points is much used and has few holes: 81 before 80, for U+3040, 82 before 97 and 98, for U+3097 and U+3098, and BC before
+//! 80, for U+FF00. Eight sets cannot tell all that is assigned; the second family tells most of what the first leaves.
 
-pub(crate) static BYTE_HIGH: [u8; 16] = [0, 0, 0, 0, 0, 0, 0, 0, 64, 0, 0, 64, 8, 90, 39, 128];
+/// Eight sets, each a bit: by the high and the low half of a byte and of the one behind it, the sets that allow it.
+pub(crate) struct Pairs {
+    pub byte_high: [u8; 16],
+    pub byte_low: [u8; 16],
+    pub next_high: [u8; 16],
+    pub next_low: [u8; 16],
+}
 
-pub(crate) static BYTE_LOW: [u8; 16] = [
-    133, 225, 197, 130, 144, 64, 64, 18, 0, 0, 32, 0, 80, 28, 26, 50,
-];
+pub(crate) static FIRST: Pairs = Pairs {
+    byte_high: [0, 0, 0, 0, 0, 0, 0, 0, 64, 0, 0, 64, 8, 90, 39, 128],
+    byte_low: [
+        133, 225, 197, 130, 144, 64, 64, 18, 0, 0, 32, 0, 80, 28, 26, 50,
+    ],
+    next_high: [0, 0, 0, 0, 0, 0, 0, 0, 251, 228, 188, 159, 0, 0, 0, 0],
+    next_low: [
+        253, 173, 173, 169, 163, 163, 167, 230, 238, 174, 166, 190, 181, 189, 151, 167,
+    ],
+};
 
-pub(crate) static NEXT_HIGH: [u8; 16] = [0, 0, 0, 0, 0, 0, 0, 0, 251, 228, 188, 159, 0, 0, 0, 0];
-
-pub(crate) static NEXT_LOW: [u8; 16] = [
-    253, 173, 173, 169, 163, 163, 167, 230, 238, 174, 166, 190, 181, 189, 151, 167,
-];
+pub(crate) static SECOND: Pairs = Pairs {
+    byte_high: [0, 0, 0, 0, 0, 0, 0, 0, 34, 0, 0, 16, 72, 52, 71, 128],
+    byte_low: [
+        132, 135, 165, 129, 132, 4, 4, 48, 0, 0, 4, 0, 16, 82, 12, 96,
+    ],
+    next_high: [0, 0, 0, 0, 0, 0, 0, 0, 155, 166, 236, 228, 0, 0, 0, 0],
+    next_low: [
+        158, 141, 140, 141, 133, 164, 165, 229, 229, 229, 181, 253, 245, 253, 246, 246,
+    ],
+};
