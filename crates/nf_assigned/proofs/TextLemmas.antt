@@ -1,5 +1,5 @@
 -- What pairs of bytes tell of a text is so.
-use Rattle.std.proofs.Common.{◌≡◌, ℕ, ◌+◌, ◌/◌, ◌<◌, ◌≤◌, ◌⊎◌, ⊎_elim, inl, inr, Bool, true, false, List, [], ◌∷◌, ◌++◌, length, get_or, take, drop, refl, sym, ap, subst, ◌∙◌, arith, length-append, append_assoc, take-append-drop, length-take-le}
+use Rattle.std.proofs.Common.{◌≡◌, ℕ, ◌+◌, ◌<◌, ◌≤◌, ◌⊎◌, ⊎_elim, inl, inr, true, List, [], ◌∷◌, ◌++◌, length, get_or, take, drop, refl, sym, ap, subst, ◌∙◌, arith, length-append, append_assoc, take-append-drop, length-take-le}
 use Rattle.std.specs.Prelude.{chars, encode_utf8, encode_utf8_all, IsUtf8}
 use Rattle.std.specs.List.{list_all}
 use Rattle.std.specs.Str.{all_scalars, IsCharBoundary}

@@ -15,7 +15,7 @@ use nf_utf8::char_count;
 const WORTH: usize = 16;
 
 /// So many characters are looked up where it was not.
-const FEW: usize = 8;
+const FEW: usize = 16;
 
 impl Counted {
     ghost use Rattle.std.specs.Prelude.{◌≡◌, ◌+◌, ◌<◌, ◌≤◌, Bool, ℕ, List, [], ◌∷◌, ◌++◌, length, chars, Err, IfErr, OnOk, MatchResult};

@@ -1,5 +1,4 @@
-use Rattle.std.proofs.Common.{◌+◌, ℕ, ⊎_elim, eqb-true, leb, leb-false, get_or, arith}
-use Rattle.std.proofs.lemmas.Nat.{le_or_l, le_or_r}
+use Rattle.std.proofs.Common.{◌+◌, ⊎_elim, eqb-true, leb, leb-false, get_or, arith}
 use Rattle.std.proofs.str.Laws.{order}
 use Rattle.nf_calm.proofs.LanesLemmas.{none_set}
 use Rattle.nf_assigned.proofs.BlockLemmas.{ascii-look, low_lead-look}

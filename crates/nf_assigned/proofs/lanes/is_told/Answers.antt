@@ -1,4 +1,4 @@
-use Rattle.std.proofs.Common.{◌+◌, ⊎_elim, eqb-true, arith, get_or}
+use Rattle.std.proofs.Common.{◌+◌, ⊎_elim, eqb-true, arith}
 use Rattle.std.proofs.lemmas.Bool.{and_parts}
 use Rattle.std.proofs.str.Laws.{order}
 use Rattle.nf_calm.proofs.LanesLemmas.{none_set}

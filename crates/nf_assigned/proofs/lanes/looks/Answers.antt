@@ -1,4 +1,4 @@
-use Rattle.std.proofs.Common.{◌≡◌, ◌+◌, ◌∙◌, ℕ, Bool, map, bit_and, get_or, sym, ap, arith}
+use Rattle.std.proofs.Common.{◌+◌, ℕ, Bool, map, get_or, arith}
 use lib.Lanes.{mask_l}
 use Rattle.std.proofs.lemmas.Nat.{and_le_l}
 use Rattle.nf_calm.specs.Closer.{places}

@@ -1,0 +1,53 @@
+//! A character that is unassigned, and letters of many scripts, at each place in a block.
+use crate::sweep::LETTERS;
+use nf_assigned::assigned_front;
+use std::test::Fail;
+
+/// Unassigned in Unicode 18 (DerivedGeneralCategory.txt): of two bytes; of three, by the second or the third; and of four.
+const HOLES: [char; 8] = [
+    '\u{378}',
+    '\u{590}',
+    '\u{2065}',
+    '\u{3040}',
+    '\u{3097}',
+    '\u{D7FF}',
+    '\u{FF00}',
+    '\u{1FFFF}',
+];
+
+/// Letters that are told to be assigned, whatever stands beside them.
+const TOLD: [char; 16] = [
+    'a', '\u{E9}', '\u{44F}', '\u{5D0}', '\u{628}', '\u{915}', '\u{1EBF}', '\u{2019}', '\u{3002}',
+    '\u{3042}', '\u{30A2}', '\u{4E2D}', '\u{AC00}', '\u{D55C}', '\u{FF0C}', '\u{FF61}',
+];
+
+/// The front of letters of one, two and three bytes ends right before it.
+#[test]
+fn the_front_ends_before_a_hole(rt: HostRuntime) -> Result<(), Fail> {
+    for hole in HOLES {
+        for letter in ['a', '\u{E9}', '\u{4E2D}'] {
+            let mut letters = String::new(rt.alloc());
+            for _ in 0..70u8 {
+                let text = format!(in rt.alloc(); "{letters}{hole}{LETTERS}")?;
+                assert_eq!(rt; assigned_front(&text), letters.len(), "{hole:?} {letter}");
+                letters.push(letter)?;
+            }
+        }
+    }
+    Ok(())
+}
+
+/// It goes on over them to the last 16 bytes, and ends between two characters.
+#[test]
+fn the_front_goes_on_over_letters(rt: HostRuntime) -> Result<(), Fail> {
+    for letter in TOLD {
+        let mut letters = String::new(rt.alloc());
+        for _ in 0..150u8 {
+            letters.push(letter)?;
+            let front = assigned_front(&letters);
+            let left = letters.len().saturating_sub(front);
+            assert!(rt; left <= 18 && letters.is_char_boundary(front), "{letter}");
+        }
+    }
+    Ok(())
+}

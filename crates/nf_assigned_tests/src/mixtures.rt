@@ -1,0 +1,90 @@
+//! Made-up mixtures of letters and of characters of any kind, against the assigned front found by one after another.
+ghost use Rattle.std.specs.Prelude.{◌<◌};
+
+use crate::sweep::is_assigned;
+use nf_assigned::assigned_front;
+use std::test::Fail;
+
+/// Letters of each width, of many scripts.
+const LETTERS: [char; 12] = [
+    'a',
+    ' ',
+    '\u{E9}',
+    '\u{433}',
+    '\u{5D0}',
+    '\u{628}',
+    '\u{915}',
+    '\u{1EBF}',
+    '\u{3044}',
+    '\u{4E2D}',
+    '\u{AC00}',
+    '\u{1F600}',
+];
+
+/// Blocks that have holes: the first code point, and how many.
+const BLOCKS: [(u32, u32); 8] = [
+    (0x370, 0x90),
+    (0x530, 0xD0),
+    (0x900, 0x700),
+    (0x2000, 0xC00),
+    (0x3000, 0x200),
+    (0xA480, 0x380),
+    (0xD780, 0x80),
+    (0xFA00, 0x600),
+];
+
+/// Numbers that look random, and are the same in each run: Marsaglia's xorshift.
+#[derive(Drop)]
+struct Seeded(u64);
+
+impl Seeded {
+    fn below(&mut self, bound: u32) -> u32
+        requires { 0 < bound }
+        ensures { result < bound }
+    {
+        self.0 ^= self.0 << 13;
+        self.0 ^= self.0 >> 7;
+        self.0 ^= self.0 << 17;
+        (self.0 % bound as u64) as u32
+    }
+
+    /// A letter, or, one time of so many, a character of a block.
+    fn next_char(&mut self, letter: char, others: u32) -> char {
+        if self.below(others.max(1)) > 0 {
+            return letter;
+        }
+        let (first, len) = BLOCKS[self.below(8) as usize];
+        char::from_u32(first.saturating_add(self.below(len.max(1)))).unwrap_or(letter)
+    }
+}
+
+/// How many bytes the assigned characters at the front have.
+fn front_len(text: &str) -> usize {
+    let mut len = 0usize;
+    for c in text.chars() {
+        if !is_assigned(c) {
+            return len;
+        }
+        len = len.saturating_add(c.len_utf8());
+    }
+    len
+}
+
+#[test]
+fn no_front_is_longer_than_that_of_its_characters(rt: HostRuntime) -> Result<(), Fail> {
+    let mut seeded = Seeded(0x9E37_79B9_7F4A_7C15);
+    for round in 0..6000u32 {
+        let mut text = String::new(rt.alloc());
+        let letter = LETTERS[seeded.below(12) as usize];
+        let others = 1 + seeded.below(60);
+        for _ in 0..10 + seeded.below(190) {
+            text.push(seeded.next_char(letter, others))?;
+        }
+        let front = assigned_front(&text);
+        assert!(rt;
+            front <= front_len(&text) && text.is_char_boundary(front),
+            "{round}"
+        );
+    }
+    Ok(())
+}
