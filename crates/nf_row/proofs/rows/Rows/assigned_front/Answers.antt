@@ -1,4 +1,4 @@
-use Rattle.std.proofs.Common.{true, refl, ◌≡◌, ap}
+use Rattle.std.proofs.Common.{ap}
 use Rattle.std.specs.List.{list_all}
 use Rattle.std.proofs.lemmas.Str.{chars-nil, IsCharBoundary-start}
 use Rattle.nf_row.proofs.rows.Rows.assigned_front.Goals as goal
