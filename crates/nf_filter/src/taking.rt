@@ -11,10 +11,10 @@ use nf_normalizer::{STEP, Step};
 use nf_row::{Formed, Rows};
 use nf_utf8::char_count;
 
-/// So many bytes make it worth to ask what is known of a text.
+/// Where at least so many bytes were known, bytes are asked again behind the next character.
 const WORTH: usize = 16;
 
-/// So many characters are looked up where it was not.
+/// So many characters are looked up where fewer were.
 const FEW: usize = 16;
 
 impl Counted {
