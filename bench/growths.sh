@@ -74,6 +74,8 @@ for form in nfc nfd nfkc nfkd; do
 done
 row 3 ill-formed convert --form nfc
 row 0 text check
+row 0 text check --form nfc
+row 2 text check --assigned
 row 0 text measure
 row 1 rows test
 row 1 part1 test

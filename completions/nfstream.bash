@@ -7,6 +7,7 @@ _nfstream() {
         *)
             case ${COMP_WORDS[1]} in
                 convert) words="--form --replace --assigned --line-buffered --help" ;;
+                check) words="--form --assigned --help" ;;
                 *) words="--help" ;;
             esac ;;
     esac

@@ -171,6 +171,18 @@ int main(void) {
   must(nf_check(text, 76, &moved) == NF_DONE && moved.read == 76, "safe");
   must(nf_check((const uint8_t *)"ab\xff", 3, &moved) == NF_BAD_BYTE && moved.at == 2, "check a bad byte");
   must(nf_check((const uint8_t *)"ab\xc3", 3, &moved) == NF_CUT && moved.at == 3 && moved.start == 2, "check a cut");
+  /* Each form is in itself. NFC composes the e at byte 8, and NFD puts the marks behind it in order. */
+  for (uint32_t form = NF_NFC; form <= NF_NFKD; form++) {
+    due_len = run(form, text, len, len, sizeof due / 2, due);
+    must(nf_check_form(form, NF_ASSIGNED, due, due_len, &moved) == NF_DONE && moved.read == due_len && moved.at == 0, "in the form");
+    must(nf_check_form(form, NF_AS_IS, text, 8, &moved) == NF_DONE && moved.read == 8, "plain is in each form");
+    must(nf_check_form(form, NF_AS_IS, text, len, &moved) == NF_NOT_NORMALIZED && moved.at == (form % 2 ? 8 : 9) && moved.start == moved.at, "not in the form");
+    must(moved.read == 0 && moved.written == 0, "nothing is read of what is not in the form");
+  }
+  must(nf_check_form(5, NF_AS_IS, text, len, &moved) == NF_NO_FORM && nf_check_form(NF_NFC, NF_REPLACE, text, len, &moved) == NF_NO_POLICY, "check no form");
+  must(nf_check_form(NF_NFC, NF_AS_IS, (const uint8_t *)"ab\xff", 3, &moved) == NF_BAD_BYTE && moved.at == 2, "check the form of a bad byte");
+  must(nf_check_form(NF_NFC, NF_AS_IS, (const uint8_t *)"ab\xc3", 3, &moved) == NF_CUT && moved.at == 3 && moved.start == 2, "check the form of a cut");
+  must(nf_check_form(NF_NFC, NF_ASSIGNED, (const uint8_t *)"a\xcd\xb8", 3, &moved) == NF_UNASSIGNED && moved.at == 1, "check the form of what is unassigned");
   states();
   /* 1,620 bytes, a bad one and 500 more: the call that meets it tells those before it, whatever it tried. */
   memset(got, 'a', 2121);
@@ -184,7 +196,7 @@ int main(void) {
   }
   must(left_of_bound(NF_NFD, "\xce\x90", 100) == 0 && left_of_bound(NF_NFC, "\xff", 100) == 0 && left_of_bound(NF_NFKC, "\xef\xb7\xba", 100) == 0, "the bound is reached");
   must(nf_start(&state, NF_NFC, NF_AS_IS, 0) == NF_DONE && nf_feed(&state, NULL, 0, NULL, 0, &moved) == NF_DONE && nf_finish(&state, NULL, 0, &moved) == NF_DONE, "NULL with length 0");
-  must(nf_convert(NF_NFC, NF_AS_IS, NULL, 0, NULL, 0, &moved) == NF_DONE && nf_check(NULL, 0, &moved) == NF_DONE, "NULL as a whole text");
+  must(nf_convert(NF_NFC, NF_AS_IS, NULL, 0, NULL, 0, &moved) == NF_DONE && nf_check(NULL, 0, &moved) == NF_DONE && nf_check_form(NF_NFC, NF_AS_IS, NULL, 0, &moved) == NF_DONE, "NULL as a whole text");
   must(nf_start(&state, 0, NF_AS_IS, 0) == NF_NO_FORM && nf_start(&state, 5, NF_AS_IS, 0) == NF_NO_FORM, "no form");
   must(nf_start(&state, NF_NFC, 4, 0) == NF_NO_POLICY, "no policy");
   must(nf_start(&state, NF_NFC, NF_AS_IS, 7) == NF_DONE, "start");

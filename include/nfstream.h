@@ -40,7 +40,8 @@ enum nf_status {
   NF_SPENT = 7,      /* an earlier call ended the text */
   NF_NO_STATE = 8,   /* the memory holds no state */
   NF_TOO_LONG = 9,   /* the offset would pass 2^64 - 1: nothing was read, and the state is as it was */
-  NF_UNSAFE = 10     /* the text is not in the Stream-Safe Text Format: U+034F would be put at `at` */
+  NF_UNSAFE = 10,    /* the text is not in the Stream-Safe Text Format: U+034F would be put at `at` */
+  NF_NOT_NORMALIZED = 11 /* the text is not in the form, or not stream-safe: it is changed from `at` on */
 };
 
 /* Where a text stands. The fields may be read, and are the library's to change; once `spent` is 1 the others say nothing.
@@ -115,6 +116,12 @@ uint32_t nf_convert(uint32_t form, uint32_t policy, const uint8_t *in, size_t in
  * 0. Nothing is written. */
 uint32_t nf_check(const uint8_t *in, size_t in_len, struct nf_moved *moved);
 
+/* Whether the whole text `in` is in a form and stream-safe, so that nf_convert would leave it as it is: NF_DONE, or
+ * NF_NOT_NORMALIZED with the place of the first character that the form changes, or a fault that comes before that is settled:
+ * NF_BAD_BYTE, NF_CUT, and under NF_ASSIGNED NF_UNASSIGNED. NF_REPLACE is NF_NO_POLICY, since a place in what was replaced is
+ * none in the text. `read` is in_len at NF_DONE, and else 0. Nothing is written. */
+uint32_t nf_check_form(uint32_t form, uint32_t policy, const uint8_t *in, size_t in_len, struct nf_moved *moved);
+
 /* NF_VERSION of the library. */
 uint32_t nf_version(void);
 
@@ -135,6 +142,7 @@ static inline const char *nf_strerror(uint32_t status) {
     case NF_NO_STATE: return "the memory holds no state";
     case NF_TOO_LONG: return "the text is longer than offsets can count";
     case NF_UNSAFE: return "the text is not in the Stream-Safe Text Format";
+    case NF_NOT_NORMALIZED: return "the text is not in the form, or not stream-safe";
     default: return "no status";
   }
 }

@@ -11,7 +11,7 @@ FORMS = {"nfc": 1, "nfd": 2, "nfkc": 3, "nfkd": 4}
 REPLACE = 1
 ASSIGNED = 2
 
-DONE, NO_FORM, NO_POLICY, FULL, BAD_BYTE, CUT, UNASSIGNED, SPENT, NO_STATE, TOO_LONG, UNSAFE = range(11)
+DONE, NO_FORM, NO_POLICY, FULL, BAD_BYTE, CUT, UNASSIGNED, SPENT, NO_STATE, TOO_LONG, UNSAFE, NOT_NORMALIZED = range(12)
 
 LEAST_ROOM = 256
 """Room in which a call always gets on, and in which the end always fits, in bytes."""
@@ -64,6 +64,7 @@ _CALLS = {
     "nf_finish": [_STATE, _BYTES, _SIZE, _MOVED],
     "nf_convert": [_U32, _U32, _BYTES, _SIZE, _BYTES, _SIZE, _MOVED],
     "nf_check": [_BYTES, _SIZE, _MOVED],
+    "nf_check_form": [_U32, _U32, _BYTES, _SIZE, _MOVED],
     "nf_version": [],
     "nf_unicode_version": [],
 }

@@ -15,7 +15,7 @@ _CONTINUATIONS = bytes(range(0x80, 0xC0))
 
 
 class Place(NamedTuple):
-    """Where a run of non-starters becomes too long: the character there, from 0, and its first byte, from 0."""
+    """A character of a text: which it is, from 0, and its first byte, from 0."""
 
     character: int
     byte: int
@@ -64,21 +64,54 @@ def find_unsafe(data: Data) -> Place | None:
     Raises IllFormedError, a UnicodeDecodeError, where an ill-formed part stands before that character.
     """
     text = bytes(data)
-    byte = _unsafe_byte(text)
-    if byte is None:
-        return None
-    blocks = (text[at : min(at + _BLOCK, byte)] for at in range(0, byte, _BLOCK))
-    return Place(sum(len(block.translate(None, _CONTINUATIONS)) for block in blocks), byte)
+    return _place(text, _unsafe_byte(text))
+
+
+def is_normalized(data: Data, form: str = "nfc", *, assigned: bool = False) -> bool:
+    """Whether the text is in the form and stream-safe: whether `convert` leaves it as it is.
+
+    `form` is "nfc", "nfd", "nfkc" or "nfkd", in either case. With `assigned` a character that Unicode has not assigned is
+    refused.
+
+    Raises IllFormedError, a UnicodeDecodeError, and UnassignedError, where such a fault comes before it is settled that the
+    text is not in the form; and FormError for another form.
+    """
+    return _changed_byte(bytes(data), form, assigned) is None
+
+
+def find_change(data: Data, form: str = "nfc", *, assigned: bool = False) -> Place | None:
+    """The first character that `convert` changes, or None where the text is in the form and stream-safe.
+
+    `form` and `assigned` are those of `is_normalized`, and so is what is raised.
+    """
+    text = bytes(data)
+    return _place(text, _changed_byte(text, form, assigned))
 
 
 def _unsafe_byte(text: bytes) -> int | None:
     moved = c.Moved()
-    status = c.library.nf_check(text, len(text), moved)
-    if status == c.UNSAFE:
+    return _found_byte(c.library.nf_check(text, len(text), moved), moved, text)
+
+
+def _changed_byte(text: bytes, form: str, assigned: bool) -> int | None:
+    moved = c.Moved()
+    status = c.library.nf_check_form(form_number(form), policy_number(False, assigned), text, len(text), moved)
+    return _found_byte(status, moved, text)
+
+
+def _found_byte(status: int, moved: c.Moved, text: bytes) -> int | None:
+    if status in (c.UNSAFE, c.NOT_NORMALIZED):
         return int(moved.at)
     if status != c.DONE:
         raise fault(status, moved, text, 0, b"")
     return None
+
+
+def _place(text: bytes, byte: int | None) -> Place | None:
+    if byte is None:
+        return None
+    blocks = (text[at : min(at + _BLOCK, byte)] for at in range(0, byte, _BLOCK))
+    return Place(sum(len(block.translate(None, _CONTINUATIONS)) for block in blocks), byte)
 
 
 def unicode_version() -> str:

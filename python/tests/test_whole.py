@@ -1,4 +1,4 @@
-"""Whole texts: convert, is_stream_safe and find_unsafe."""
+"""Whole texts: convert, is_stream_safe and find_unsafe, is_normalized and find_change."""
 
 import random
 import unicodedata
@@ -25,7 +25,11 @@ class Convert(unittest.TestCase):
             self.assertEqual(nfstream.convert(data), b"\xc3\xa9")
             self.assertTrue(nfstream.is_stream_safe(data))
             self.assertEqual(nfstream.Filter().feed(data), b"")
-        for call in (nfstream.convert, nfstream.is_stream_safe, nfstream.find_unsafe, nfstream.Filter().feed):
+            self.assertFalse(nfstream.is_normalized(data))
+        for call in (
+            nfstream.convert, nfstream.is_stream_safe, nfstream.find_unsafe, nfstream.is_normalized, nfstream.find_change,
+            nfstream.Filter().feed,
+        ):
             with self.assertRaises(TypeError):
                 call("text")  # type: ignore[arg-type]
 
@@ -169,3 +173,75 @@ class StreamSafe(unittest.TestCase):
                     call(data)
                 self.assertEqual((caught.exception.start, caught.exception.end), (1, len(data)))
         self.assertFalse(nfstream.is_stream_safe(b"\xcc\x81" * 31 + b"\xff"))
+
+
+class Normalized(unittest.TestCase):
+    def compare(self, text: str, form: str) -> bool:
+        """Whether the text is its form, by unicodedata."""
+        data, wanted = text.encode(), due(text, form).decode()
+        place = None
+        if text != wanted:
+            at = next(i for i, (a, b) in enumerate(zip(text + "\0", wanted + "\0")) if a != b)
+            place = (at, len(text[:at].encode()))
+        self.assertEqual(nfstream.find_change(data, form), place, (form, ascii(text)))
+        self.assertEqual(nfstream.is_normalized(data, form), place is None)
+        return place is None
+
+    def test_by_hand(self) -> None:
+        text = "d\u00e9j\u00e0".encode()
+        self.assertTrue(nfstream.is_normalized(text))
+        self.assertFalse(nfstream.is_normalized(text, "nfd"))
+        self.assertEqual(nfstream.find_change(text, "NFD"), nfstream.Place(character=1, byte=1))
+        self.assertEqual(nfstream.find_change("\u00e9te\u0301".encode(), form="nfc"), (2, 3))
+        self.assertEqual(nfstream.find_change("\u00e9 \ufb01".encode(), "nfkc"), (2, 3))
+        self.assertIsNone(nfstream.find_change("\u00e9 \ufb01".encode(), "nfc"))
+        self.assertEqual(nfstream.find_change(b"q" + b"\xcc\x81" * 31, "nfkd"), (31, 61))
+        self.assertTrue(nfstream.is_normalized(b"q" + b"\xcc\x81" * 30, "nfkd"))
+        for form in FORMS:
+            self.assertTrue(nfstream.is_normalized(b"", form))
+
+    def test_each_character(self) -> None:
+        known = [it for it in map(chr, range(0x110000)) if is_known(it)]
+        for form in FORMS:
+            kept = [it for it in known if due(it, form) == it.encode()]
+            self.assertTrue(nfstream.is_normalized("\n".join(kept).encode(), form))
+            for it in set(known) - set(kept):
+                self.assertEqual(nfstream.find_change(f"\u65e5\n{it}".encode(), form), (2, 4), (form, ascii(it)))
+
+    def test_random_texts(self) -> None:
+        draw = random.Random(5)
+        kept = 0
+        for _ in range(3000):
+            text = any_text(draw, 8)
+            for form in FORMS:
+                kept += self.compare(text, form)
+                self.assertTrue(self.compare(due(text, form).decode(), form))
+        self.assertTrue(1000 < kept < 11000, kept)
+
+    def test_far(self) -> None:
+        front = "\u65e5" * 100000
+        self.assertEqual(nfstream.find_change((front + "e\u0301").encode(), "nfc"), (100000, 300000))
+
+    def test_assigned(self) -> None:
+        text = "ab\u0378\u00e9".encode()
+        self.assertEqual(nfstream.find_change(text, "nfd"), (3, 4))
+        for call in (nfstream.is_normalized, nfstream.find_change):
+            with self.assertRaises(nfstream.UnassignedError) as caught:
+                call(text, "nfd", assigned=True)
+            self.assertEqual((caught.exception.character, caught.exception.offset), ("\u0378", 2))
+        self.assertEqual(nfstream.find_change("\u00e9a\u0378".encode(), "nfd", assigned=True), (0, 0))
+
+    def test_ill_formed(self) -> None:
+        for data in (b"a\xff", b"a\xe2\x82"):
+            for call in (nfstream.is_normalized, nfstream.find_change):
+                with self.assertRaises(UnicodeDecodeError) as caught:
+                    call(data)
+                self.assertEqual((caught.exception.start, caught.exception.end), (1, len(data)))
+            self.assertFalse(nfstream.is_normalized("\u00e9a".encode() + data, "nfd"))
+        with self.assertRaises(nfstream.IllFormedError):  # what follows U+0301 may belong to it
+            nfstream.is_normalized("e\u0301".encode() + b"\xff", "nfc")
+
+    def test_forms(self) -> None:
+        for call in (nfstream.is_normalized, nfstream.find_change):
+            with self.assertRaises(nfstream.FormError):
+                call(b"", "nfx")

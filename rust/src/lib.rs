@@ -27,7 +27,7 @@ mod writer;
 pub use error::{Error, Fault};
 pub use filter::{Filter, Form, Moved, Policy, STATE_LEN};
 pub use reader::Reader;
-pub use whole::{bound, convert, find_unsafe, unicode_version};
+pub use whole::{bound, convert, find_change, find_unsafe, is_normalized, unicode_version};
 pub use writer::Writer;
 
 /// Room in which a call always gets on by a byte at least, and in which the end always fits, in bytes.

@@ -11,6 +11,7 @@ pub(crate) const SPENT: u32 = 7;
 pub(crate) const NO_STATE: u32 = 8;
 pub(crate) const TOO_LONG: u32 = 9;
 pub(crate) const UNSAFE: u32 = 10;
+pub(crate) const NOT_NORMALIZED: u32 = 11;
 
 /// `struct nf_state`, with the bytes at its end that C leaves unnamed.
 #[repr(C)]
@@ -91,6 +92,7 @@ extern "C" {
         moved: *mut Moved,
     ) -> u32;
     pub(crate) fn nf_check(input: *const u8, input_len: usize, moved: *mut Moved) -> u32;
+    pub(crate) fn nf_check_form(form: u32, policy: u32, input: *const u8, input_len: usize, moved: *mut Moved) -> u32;
     pub(crate) fn nf_version() -> u32;
     pub(crate) fn nf_unicode_version() -> u32;
 }

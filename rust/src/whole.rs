@@ -53,10 +53,35 @@ pub fn find_unsafe(input: &[u8]) -> Result<Option<u64>, Error> {
     let mut moved = sys::Moved::default();
     // SAFETY: the slice is valid for its length.
     let status = unsafe { sys::nf_check(input.as_ptr(), input.len(), &mut moved) };
+    found(status, &moved)
+}
+
+/// Whether the whole text `input` is in the form and stream-safe: whether [`convert`] leaves it as it is.
+///
+/// `assigned` and the errors are those of [`find_change`].
+pub fn is_normalized(form: Form, assigned: bool, input: &[u8]) -> Result<bool, Error> {
+    Ok(find_change(form, assigned, input)?.is_none())
+}
+
+/// The first character that [`convert`] changes, in bytes from 0: `None` where the whole text `input` is in the form and
+/// stream-safe.
+///
+/// An ill-formed part that comes before such a place is settled is an error; and so is a character that Unicode has not
+/// assigned, with `assigned`.
+pub fn find_change(form: Form, assigned: bool, input: &[u8]) -> Result<Option<u64>, Error> {
+    sys::see_version();
+    let policy = Policy { replace: false, assigned };
+    let mut moved = sys::Moved::default();
+    // SAFETY: the slice is valid for its length.
+    let status = unsafe { sys::nf_check_form(form as u32, policy.number(), input.as_ptr(), input.len(), &mut moved) };
+    found(status, &moved)
+}
+
+fn found(status: u32, moved: &sys::Moved) -> Result<Option<u64>, Error> {
     match status {
         sys::DONE => Ok(None),
-        sys::UNSAFE => Ok(Some(moved.at)),
-        _ => Err(Error::of(status, &moved)),
+        sys::UNSAFE | sys::NOT_NORMALIZED => Ok(Some(moved.at)),
+        _ => Err(Error::of(status, moved)),
     }
 }
 

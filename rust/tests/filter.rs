@@ -1,5 +1,7 @@
 //! Forms that were written by hand, in every cut; faults; and states.
-use nfstream::{bound, convert, find_unsafe, unicode_version, Error, Fault, Filter, Form, Policy, LEAST_ROOM};
+use nfstream::{
+    bound, convert, find_change, find_unsafe, is_normalized, unicode_version, Error, Fault, Filter, Form, Policy, LEAST_ROOM,
+};
 
 const FORMS: [Form; 4] = [Form::Nfc, Form::Nfd, Form::Nfkc, Form::Nfkd];
 const REPLACE: Policy = Policy { replace: true, assigned: false };
@@ -179,6 +181,25 @@ fn unsafe_places() {
     assert_eq!(find_unsafe(b""), Ok(None));
     assert_eq!(find_unsafe(b"ab\xc3("), Err(Error::IllFormed { at: 3, start: 2 }));
     assert_eq!(find_unsafe(b"ab\xc3"), Err(Error::Cut { at: 3, start: 2 }));
+}
+
+#[test]
+fn changed_places() {
+    for (text, forms) in table() {
+        for (form, due) in FORMS.into_iter().zip(&forms) {
+            let same = text.bytes().zip(due.bytes()).take_while(|(a, b)| a == b).count();
+            let first = (0..=same).rev().find(|&at| text.is_char_boundary(at)).unwrap();
+            let place = if text == *due { None } else { Some(first as u64) };
+            assert_eq!(find_change(form, false, text.as_bytes()), Ok(place), "{form:?} {text:?}");
+            assert_eq!(is_normalized(form, true, text.as_bytes()), Ok(text == *due));
+            assert_eq!(is_normalized(form, true, due.as_bytes()), Ok(true));
+        }
+    }
+    assert_eq!(find_change(Form::Nfd, false, "a\u{e9}b\u{378}".as_bytes()), Ok(Some(1)));
+    assert_eq!(find_change(Form::Nfd, true, "a\u{378}\u{e9}".as_bytes()), Err(Error::Unassigned { at: 1 }));
+    assert_eq!(is_normalized(Form::Nfd, false, "a\u{378}".as_bytes()), Ok(true));
+    assert_eq!(find_change(Form::Nfc, false, b"ab\xc3("), Err(Error::IllFormed { at: 3, start: 2 }));
+    assert_eq!(is_normalized(Form::Nfc, false, b"ab\xc3"), Err(Error::Cut { at: 3, start: 2 }));
 }
 
 #[test]

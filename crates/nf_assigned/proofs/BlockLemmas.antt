@@ -1,32 +1,39 @@
 -- Blocks behind bytes that are told.
-use Rattle.std.proofs.Common.{◌≡◌, ℕ, ◌+◌, ◌-◌, ◌<◌, ◌≤◌, ◌⊎◌, inl, inr, true, false, not, ◌&&◌, ◌==◌, List, get_or, bit_and, refl, ap, subst, arith, eqb-true}
+use Rattle.std.proofs.Common.{◌≡◌, ℕ, ◌+◌, ◌-◌, ◌<◌, ◌≤◌, ◌⊎◌, ⊎_elim, inl, inr, true, false, not, ◌&&◌, ◌==◌, List, get_or, refl, ap, subst, arith, eqb-true}
 use Rattle.std.proofs.str.Laws.{order}
 use Rattle.std.proofs.lemmas.Nat.{and_le_l}
-use Rattle.nf_calm.proofs.LookLemmas.{all_below, every_below}
-use Rattle.nf_assigned.specs.Pairs.{high_of, low_of, byte_bits, pair_bits, is_in, wants_look, look_at, AreTold}
+use Rattle.ucd_table.proofs.TrieCheck.{all_below, all_below-at}
+use Rattle.nf_lanes.specs.Sets.{byte_sets, pair_sets}
+use Rattle.nf_assigned.specs.Pairs.{is_in, wants_look, look_at, AreTold}
 use Rattle.nf_assigned.specs.declared.pairs.TheConstants.{FIRST, SECOND}
 
+-- what of the first family a byte begins
+abbrev begun : ℕ → ℕ
+begun = byte_sets FIRST.first_high FIRST.first_low
+
 -- ASCII and the lead bytes below CD begin no pair
-ascii_begins_none : all_below (λ b. byte_bits FIRST b == 0) 128 ≡ true
+ascii_begins_none : all_below (λ b. begun b == 0) 128 ≡ true
+unfolding all_below
 ascii_begins_none = refl
 
-low_leads_begin_none : all_below (λ b. byte_bits FIRST (192 + b) == 0) 13 ≡ true
+low_leads_begin_none : all_below (λ b. begun (192 + b) == 0) 13 ≡ true
+unfolding all_below
 low_leads_begin_none = refl
 
-none_begun : (byte next : ℕ) → byte_bits FIRST byte ≡ 0 → wants_look byte next ≡ false
-none_begun byte next e =
-    let two = bit_and (byte_bits FIRST byte) (high_of FIRST.next_high next) in
-    let none : pair_bits FIRST byte next ≡ 0 = omega (arith, e, and_le_l (byte_bits FIRST byte) (high_of FIRST.next_high next), and_le_l two (low_of FIRST.next_low next)) in
-    ap (λ n. not (n == 0) && is_in SECOND byte next) none
-
-pub ascii-look : (byte next : ℕ) → byte < 128 → wants_look byte next ≡ false
-ascii-look byte next low = none_begun byte next (eqb-true _ 0 (every_below (λ b. byte_bits FIRST b == 0) 128 ascii_begins_none byte low))
-
-pub low_lead-look : (byte next : ℕ) → 192 ≤ byte → byte < 205 → wants_look byte next ≡ false
-low_lead-look byte next high low =
+low_begins_none : (byte : ℕ) → byte < 0xCD → (0x80 ≤ byte → 0xC0 ≤ byte) → begun byte ≡ 0
+low_begins_none byte low lead =
+    ⊎_elim (λ ascii. eqb-true _ 0 (all_below-at (λ b. begun b == 0) 128 byte ascii_begins_none ascii))
+    (λ high.
+    let above : 192 ≤ byte = lead high in
     let i = byte - 192 in
     let e : 192 + i ≡ byte = omega arith in
-    none_begun byte next (subst (λ b. byte_bits FIRST b ≡ 0) e (eqb-true _ 0 (every_below (λ b. byte_bits FIRST (192 + b) == 0) 13 low_leads_begin_none i (omega arith))))
+    subst (λ b. begun b ≡ 0) e (eqb-true _ 0 (all_below-at (λ b. begun (192 + b) == 0) 13 i low_leads_begin_none (omega arith))))
+    (order byte 128)
+
+low-look : (byte next : ℕ) → byte < 0xCD → (0x80 ≤ byte → 0xC0 ≤ byte) → wants_look byte next ≡ false
+low-look byte next low lead =
+    let none : pair_sets FIRST byte next ≡ 0 = omega (arith, low_begins_none byte low lead, and_le_l (begun byte) (byte_sets FIRST.next_high FIRST.next_low next)) in
+    ap (λ n. not (n == 0) && is_in SECOND byte next) none
 
 module _ (bytes : List ℕ) (at : ℕ) (told : AreTold bytes at) where
   -- behind it pairs of which none has to be looked up
@@ -42,13 +49,13 @@ module _ (bytes : List ℕ) (at : ℕ) (told : AreTold bytes at) where
       second _ (inr behind) more = none (k + 1) behind more
       second (inr behind) (inl short) more = absurd (omega arith)
 
-  -- behind it bytes below CD, of which the first begins no pair that has to be looked up
-  pub low_told : (n : ℕ) → look_at bytes at ≡ false → ((k : ℕ) → at ≤ k → k < at + n → get_or bytes k 0 < 0xCD) → AreTold bytes (at + n)
-  low_told n none low k inside high = here (order k at)
+  -- behind it bytes below CD, of which the first ends no character
+  pub low_told : (n : ℕ) → 0 < n → (0x80 ≤ get_or bytes at 0 → 0xC0 ≤ get_or bytes at 0) → ((k : ℕ) → at ≤ k → k < at + n → get_or bytes k 0 < 0xCD) → AreTold bytes (at + n)
+  low_told n some begins low k inside high = here (order k at)
     where
       second : k < at → (k + 1 < at) ⊎ (at ≤ k + 1) → look_at bytes (k + 1) ≡ false
       second before (inl short) = (told k before high).1 short
-      second before (inr behind) = let e : at ≡ k + 1 = omega arith in subst (λ n. look_at bytes n ≡ false) e none
+      second before (inr behind) = let e : at ≡ k + 1 = omega arith in subst (λ n. look_at bytes n ≡ false) e (low-look (get_or bytes at 0) _ (low at (omega arith) (omega arith)) begins)
 
       here : (k < at) ⊎ (at ≤ k) → (look_at bytes k ≡ false) × (k + 1 < at + n → look_at bytes (k + 1) ≡ false)
       here (inl before) = ((told k before high).0, λ more. second before (order (k + 1) at))

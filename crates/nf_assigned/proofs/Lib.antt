@@ -1,5 +1,5 @@
 pub mod BlockLemmas
-pub mod HighLemmas
+pub mod MaskLemmas
 pub mod RangeLemmas
 pub mod ToldLemmas
 pub mod TextLemmas

@@ -1,48 +1,18 @@
 -- What pairs of bytes tell of a character is so.
-use Rattle.std.proofs.Common.{◌≡◌, ℕ, ◌+◌, ◌*◌, ◌/◌, ◌%◌, ◌<◌, ◌≤◌, ◌⊎◌, ⊎_elim, inl, inr, Bool, true, false, ◌&&◌, ◌||◌, nat_le, nat_lt, List, [], ◌∷◌, ◌++◌, refl, sym, ap, subst, ◌∙◌, arith, leb-true, le-leb, ltb-true, true≢false}
+use Rattle.std.proofs.Common.{◌≡◌, ℕ, ◌+◌, ◌*◌, ◌/◌, ◌%◌, ◌<◌, ◌≤◌, ◌⊎◌, ⊎_elim, inl, inr, Bool, true, false, nat_lt, List, ◌++◌, refl, sym, subst, ◌∙◌, arith, ltb-true, true≢false}
 use Rattle.std.specs.Prelude.{encode_utf8}
 use Rattle.std.proofs.str.Laws.{order, two, three, four}
-use Rattle.std.proofs.lemmas.Bool.{and_parts, and_from}
-use Rattle.ucd_table.specs.Rows.{Range, in_ranges}
 use Rattle.nf_forms.specs.Ucd.{is_assigned}
-use Rattle.nf_calm.proofs.LookLemmas.{all_below, every_below}
+use Rattle.nf_facts.specs.Within.{lies_within, in_ranges-lies_within, or_else, either}
+use Rattle.ucd_table.proofs.TrieCheck.{all_below, all_below-at}
 use Rattle.nf_assigned.specs.Pairs.{wants_look, look_at}
 use Rattle.nf_assigned.proofs.RangeLemmas.{told_ranges, told-assigned}
-
--- the range lies within one of these
-abbrev lies_within : List Range → ℕ → ℕ → Bool
-lies_within [] first last = false
-lies_within (r ∷ rs) first last = (nat_le r.0 first && nat_le last r.1) || lies_within rs first last
-
-in_ranges-lies_within : (rs : List Range) (first last c : ℕ) → lies_within rs first last ≡ true → first ≤ c → c ≤ last → in_ranges rs c ≡ true
-unfolding in_ranges
-in_ranges-lies_within [] first last c h low high = cc
-in_ranges-lies_within (r ∷ rs) first last c h low high = next (nat_le r.0 first && nat_le last r.1) (in_ranges rs c) refl (in_ranges-lies_within rs first last c)
-  where
-    either_of : (a : Bool) {t : Bool} → t ≡ true → (a || t) ≡ true
-    either_of true e = refl
-    either_of false e = e
-
-    next : (b t : Bool) → (nat_le r.0 first && nat_le last r.1) ≡ b → (lies_within rs first last ≡ true → first ≤ c → c ≤ last → t ≡ true) → ((nat_le r.0 c && nat_le c r.1) || t) ≡ true
-    next true t e more =
-        let both = and_parts (nat_le r.0 first) (nat_le last r.1) e in
-        ap (λ a. a || t) (and_from (nat_le r.0 c) (nat_le c r.1) (le-leb r.0 c (omega (arith, leb-true r.0 first both.0))) (le-leb c r.1 (omega (arith, leb-true last r.1 both.1))))
-    next false t e more = either_of (nat_le r.0 c && nat_le c r.1) (more (sym (ap (λ a. a || lies_within rs first last) e) ∙ h) low high)
 
 abbrev within : ℕ → ℕ → Bool
 within = lies_within told_ranges
 
 lies : (first last c : ℕ) → within first last ≡ true → first ≤ c → c ≤ last → is_assigned c ≡ true
 lies first last c e low high = told-assigned c (in_ranges-lies_within told_ranges first last c e low high)
-
--- a test that is made only where the first fails, so that the computation below is short
-abbrev or_else : Bool → (Unit {0} → Bool) → Bool
-or_else true more = true
-or_else false more = more tt
-
-either : (b : Bool) (more : Unit {0} → Bool) → or_else b more ≡ true → (b ≡ true) ⊎ (more tt ≡ true)
-either true more e = inl refl
-either false more e = inr e
 
 -- by lead bytes: all that begins with one lies in the ranges; or each that no pair finds lies there
 abbrev told_second : ℕ → ℕ → Bool
@@ -74,7 +44,7 @@ record Told : Type 0 where
   of_four : all_below told_four 5 ≡ true
 
 told : Told
-unfolding told_ranges
+unfolding told_ranges all_below
 told = record { low = refl; of_two = refl; of_three = refl; of_four = refl }
 
 by_two : (k i : ℕ) → k < 32 → i < 64 → wants_look (192 + k) (128 + i) ≡ false → is_assigned (64 * k + i) ≡ true
@@ -82,8 +52,8 @@ by_two k i short little plain =
     ⊎_elim (λ whole. lies (64 * k) (64 * k + 63) (64 * k + i) whole (omega arith) (omega arith))
     (λ seconds.
     ⊎_elim (λ hit. absurd (true≢false (sym hit ∙ plain))) (λ here. lies (64 * k + i) (64 * k + i) (64 * k + i) here (omega arith) (omega arith))
-    (either (wants_look (192 + k) (128 + i)) _ (every_below (told_second k) 64 seconds i little)))
-    (either (within (64 * k) (64 * k + 63)) _ (every_below told_two 32 told.of_two k short))
+    (either (wants_look (192 + k) (128 + i)) _ (all_below-at (told_second k) 64 i seconds little)))
+    (either (within (64 * k) (64 * k + 63)) _ (all_below-at told_two 32 k told.of_two short))
 
 by_three : (k i j : ℕ) → k < 16 → i < 64 → j < 64 → 2048 ≤ 4096 * k + 64 * i + j → wants_look (224 + k) (128 + i) ≡ false → wants_look (128 + i) (128 + j) ≡ false
     → is_assigned (4096 * k + 64 * i + j) ≡ true
@@ -98,14 +68,14 @@ by_three k i j short little small large first second =
     (λ thirds.
     ⊎_elim (λ hit. absurd (true≢false (sym hit ∙ second)))
     (λ here. lies (4096 * k + 64 * i + j) (4096 * k + 64 * i + j) (4096 * k + 64 * i + j) here (omega arith) (omega arith))
-    (either (wants_look (128 + i) (128 + j)) _ (every_below (told_third (4096 * k + 64 * i) i) 64 thirds j small)))
+    (either (wants_look (128 + i) (128 + j)) _ (all_below-at (told_third (4096 * k + 64 * i) i) 64 j thirds small)))
     (either (nat_lt (4096 * k + 64 * i) 2048) _ more))
     (either (wants_look (224 + k) (128 + i)) _ others))
-    (either (within (4096 * k + 64 * i) (4096 * k + 64 * i + 63)) _ (every_below (told_block k) 64 blocks i little)))
-    (either (within (4096 * k) (4096 * k + 4095)) _ (every_below told_three 16 told.of_three k short))
+    (either (within (4096 * k + 64 * i) (4096 * k + 64 * i + 63)) _ (all_below-at (told_block k) 64 i blocks little)))
+    (either (within (4096 * k) (4096 * k + 4095)) _ (all_below-at told_three 16 k told.of_three short))
 
 by_four : (k i : ℕ) → k < 5 → i < 64 → wants_look (240 + k) (128 + i) ≡ true
-by_four k i short little = every_below (λ n. wants_look (240 + k) (128 + n)) 64 (every_below told_four 5 told.of_four k short) i little
+by_four k i short little = all_below-at (λ n. wants_look (240 + k) (128 + n)) 64 i (all_below-at told_four 5 k told.of_four short) little
 
 -- a character that stands at the front of these bytes
 pub by_told : (c : ℕ) (more : List ℕ) → c < 1114112 → (0x340 ≤ c → look_at (encode_utf8 c ++ more) 0 ≡ false) → (0x800 ≤ c → look_at (encode_utf8 c ++ more) 1 ≡ false) → is_assigned c ≡ true

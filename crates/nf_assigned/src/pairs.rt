@@ -5,17 +5,11 @@
 //! points is much used and has few holes: 81 before 80, for U+3040, 82 before 97 and 98, for U+3097 and U+3098, and BC before
 //! 80, for U+FF00. Eight sets cannot tell all that is assigned; the second family tells most of what the first leaves.
 
-/// Eight sets, each a bit: by the high and the low half of a byte and of the one behind it, the sets that allow it.
-pub(crate) struct Pairs {
-    pub byte_high: [u8; 16],
-    pub byte_low: [u8; 16],
-    pub next_high: [u8; 16],
-    pub next_low: [u8; 16],
-}
+use nf_lanes::Pairs;
 
 pub(crate) static FIRST: Pairs = Pairs {
-    byte_high: [0, 0, 0, 0, 0, 0, 0, 0, 64, 0, 0, 64, 8, 90, 39, 128],
-    byte_low: [
+    first_high: [0, 0, 0, 0, 0, 0, 0, 0, 64, 0, 0, 64, 8, 90, 39, 128],
+    first_low: [
         133, 225, 197, 130, 144, 64, 64, 18, 0, 0, 32, 0, 80, 28, 26, 50,
     ],
     next_high: [0, 0, 0, 0, 0, 0, 0, 0, 251, 228, 188, 159, 0, 0, 0, 0],
@@ -25,8 +19,8 @@ pub(crate) static FIRST: Pairs = Pairs {
 };
 
 pub(crate) static SECOND: Pairs = Pairs {
-    byte_high: [0, 0, 0, 0, 0, 0, 0, 0, 34, 0, 0, 16, 72, 52, 71, 128],
-    byte_low: [
+    first_high: [0, 0, 0, 0, 0, 0, 0, 0, 34, 0, 0, 16, 72, 52, 71, 128],
+    first_low: [
         132, 135, 165, 129, 132, 4, 4, 48, 0, 0, 4, 0, 16, 82, 12, 96,
     ],
     next_high: [0, 0, 0, 0, 0, 0, 0, 0, 155, 166, 236, 228, 0, 0, 0, 0],

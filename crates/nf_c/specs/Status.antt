@@ -3,7 +3,7 @@ use Rattle.std.specs.Prelude.{ℕ}
 use Rattle.nf_filter.specs.declared.fault.Fault.{Fault}
 use Rattle.nf_filter.specs.declared.fault.Fault.TheVariants.{Spent as SpentFault, TooLong as TooLongFault, Read, Write, Row, BadByte as BadByteFault, Cut as CutFault, Unassigned as UnassignedFault}
 use Rattle.nf_c.specs.declared.status.Status.{Status}
-use Rattle.nf_c.specs.declared.status.Status.TheVariants.{Done, NoForm, NoPolicy, Full, BadByte, Cut, Unassigned, Spent, NoState, TooLong, Unsafe}
+use Rattle.nf_c.specs.declared.status.Status.TheVariants.{Done, NoForm, NoPolicy, Full, BadByte, Cut, Unassigned, Spent, NoState, TooLong, Unsafe, NotNormalized}
 
 abbrev pub code_of : Status → ℕ
 code_of Done = 0
@@ -17,6 +17,7 @@ code_of Spent = 7
 code_of NoState = 8
 code_of TooLong = 9
 code_of Unsafe = 10
+code_of NotNormalized = 11
 
 -- the status of a fault; the sink fails where the output is full, and two faults never come
 abbrev pub status_of : Fault → Status

@@ -14,7 +14,7 @@ mod starting;
 mod state;
 mod status;
 
-pub use checking::check;
+pub use checking::{check, check_form};
 pub use converting::convert;
 pub use feeding::feed;
 pub use finishing::finish;

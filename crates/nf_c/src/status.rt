@@ -18,6 +18,8 @@ pub enum Status {
     TooLong,
     /// The text is not in the Stream-Safe Text Format.
     Unsafe,
+    /// The text is not in the form, or not stream-safe.
+    NotNormalized,
 }
 
 impl Status {
@@ -40,6 +42,7 @@ impl Status {
             Status::NoState => 8,
             Status::TooLong => 9,
             Status::Unsafe => 10,
+            Status::NotNormalized => 11,
         }
     }
 }

@@ -1,9 +1,13 @@
 //! Whole texts by one call.
-use crate::kit::{AS_IS, NFC, NFKD, REPLACE};
-use nf_c::{Moved, Status, check, convert};
+use crate::kit::{AS_IS, ASSIGNED, NFC, NFKD, REPLACE};
+use nf_c::{Moved, Status, check, check_form, convert};
 use std::alloc::{AllocError, Global};
 use std::process::Abort;
 use std::test::Fail;
+
+const NFD: u32 = 2;
+
+const NFKC: u32 = 3;
 
 fn told(status: Status, read: usize, written: usize, at: u64, start: u64) -> Moved {
     Moved {
@@ -103,5 +107,101 @@ fn the_place_where_a_text_leaves_the_format_is_told(rt: HostRuntime) -> Result<(
     assert_eq!(rt; bad, told(Status::BadByte, 0, 0, 3, 2));
     let cut = check(b"ab\xC3");
     assert_eq!(rt; cut, told(Status::Cut, 0, 0, 3, 2));
+    Ok(())
+}
+
+/// How a change of the character at this byte is told.
+fn changed(at: u64) -> Moved {
+    told(Status::NotNormalized, 0, 0, at, at)
+}
+
+/// Composed, decomposed, and with U+FB01, which only NFKC and NFKD decompose.
+#[test]
+fn the_first_character_that_a_form_changes_is_told(rt: HostRuntime) -> Result<(), Fail> {
+    let (composed, decomposed) = (b"a\xC3\xA9b", b"ae\xCC\x81b");
+    let (compat, plain) = (b"\xE6\x97\xA5\xEF\xAC\x81", b"\xE6\x97\xA5fi");
+    for form in [NFC, NFKC] {
+        assert_eq!(rt;
+            check_form(form, AS_IS, composed),
+            told(Status::Done, 4, 0, 0, 0)
+        );
+        assert_eq!(rt; check_form(form, AS_IS, decomposed), changed(1));
+    }
+    for form in [NFD, NFKD] {
+        assert_eq!(rt; check_form(form, AS_IS, composed), changed(1));
+        assert_eq!(rt;
+            check_form(form, AS_IS, decomposed),
+            told(Status::Done, 5, 0, 0, 0)
+        );
+    }
+    for form in [NFC, NFD] {
+        assert_eq!(rt;
+            check_form(form, AS_IS, compat),
+            told(Status::Done, 6, 0, 0, 0)
+        );
+    }
+    for form in [NFKC, NFKD] {
+        assert_eq!(rt; check_form(form, AS_IS, compat), changed(3));
+        assert_eq!(rt;
+            check_form(form, AS_IS, plain),
+            told(Status::Done, 5, 0, 0, 0)
+        );
+        assert_eq!(rt;
+            check_form(form, ASSIGNED, b""),
+            told(Status::Done, 0, 0, 0, 0)
+        );
+    }
+    Ok(())
+}
+
+/// A letter with 31 marks that it does not compose with is in NFC, and not stream-safe.
+#[test]
+fn what_is_not_stream_safe_is_changed(rt: HostRuntime) -> Result<(), Fail> {
+    let mut text = Vec::new(rt.alloc());
+    text.extend_from_slice(b"q")?;
+    for _ in 0..30 {
+        text.extend_from_slice(b"\xCC\x81")?;
+    }
+    let safe = check_form(NFC, AS_IS, text.as_slice());
+    assert_eq!(rt; safe, told(Status::Done, 61, 0, 0, 0));
+    text.extend_from_slice(b"\xCC\x81")?;
+    let left = check_form(NFC, AS_IS, text.as_slice());
+    assert_eq!(rt; left, changed(61));
+    Ok(())
+}
+
+/// A fault that comes before the place is settled is told, and no later one.
+#[test]
+fn the_first_fault_or_change_is_told(rt: HostRuntime) -> Result<(), Fail> {
+    let bad = check_form(NFD, AS_IS, b"ab\xC3(\xC3\xA9");
+    assert_eq!(rt; bad, told(Status::BadByte, 0, 0, 3, 2));
+    let unsettled = check_form(NFC, AS_IS, b"e\xCC\x81\xFF");
+    assert_eq!(rt; unsettled, told(Status::BadByte, 0, 0, 3, 3));
+    let cut = check_form(NFD, AS_IS, b"ab\xC3");
+    assert_eq!(rt; cut, told(Status::Cut, 0, 0, 3, 2));
+    let unassigned = check_form(NFD, ASSIGNED, b"a\xCD\xB8\xC3\xA9");
+    assert_eq!(rt; unassigned, told(Status::Unassigned, 0, 0, 1, 1));
+    assert_eq!(rt; check_form(NFD, AS_IS, b"a\xCD\xB8\xC3\xA9"), changed(3));
+    for behind in [b"\xC3\xA9ab\xFF", b"\xC3\xA9ab\xC3"] {
+        assert_eq!(rt; check_form(NFD, AS_IS, behind), changed(0));
+    }
+    assert_eq!(rt; check_form(NFD, ASSIGNED, b"\xC3\xA9a\xCD\xB8"), changed(0));
+    Ok(())
+}
+
+#[test]
+fn what_cannot_be_checked_is_refused(rt: HostRuntime) -> Result<(), Fail> {
+    for form in [0, 5] {
+        assert_eq!(rt;
+            check_form(form, AS_IS, b"a"),
+            told(Status::NoForm, 0, 0, 0, 0)
+        );
+    }
+    for policy in [REPLACE, 3, 4] {
+        assert_eq!(rt;
+            check_form(NFC, policy, b"a"),
+            told(Status::NoPolicy, 0, 0, 0, 0)
+        );
+    }
     Ok(())
 }

@@ -1,6 +1,5 @@
 pub mod ScanLemmas
 pub mod CutLemmas
-pub mod LanesLemmas
 pub mod LookLemmas
 pub mod ToldLemmas
 pub mod PlainLemmas

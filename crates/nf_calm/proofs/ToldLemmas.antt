@@ -1,45 +1,19 @@
 -- What bytes tell of a character is so: a character of which they tell that it passes lies in the form's ranges.
-use Rattle.std.proofs.Common.{◌≡◌, ℕ, ◌+◌, ◌*◌, ◌/◌, ◌%◌, ◌<◌, ◌≤◌, ◌⊎◌, ⊎_elim, inl, inr, Bool, true, false, not, ◌&&◌, ◌||◌, ◌==◌, nat_le, nat_lt, List, [], ◌∷◌, ◌++◌, bit_and, refl, sym, ap, subst, ◌∙◌, arith, leb-true, le-leb, ltb-true, true≢false}
+use Rattle.std.proofs.Common.{◌≡◌, ℕ, ◌+◌, ◌*◌, ◌/◌, ◌%◌, ◌<◌, ◌≤◌, ◌⊎◌, ⊎_elim, inl, inr, Bool, true, false, not, ◌&&◌, ◌==◌, nat_lt, List, ◌++◌, bit_and, refl, sym, ap, subst, ◌∙◌, arith, ltb-true, true≢false}
 use Rattle.std.specs.Prelude.{encode_utf8}
 use Rattle.std.proofs.str.Laws.{order, two, three, four}
 use Rattle.std.proofs.lemmas.Bool.{and_parts, and_from, true_from_ne_false}
-use Rattle.ucd_table.specs.Rows.{Range, in_ranges}
+use Rattle.ucd_table.specs.Rows.{in_ranges}
+use Rattle.ucd_table.proofs.TrieCheck.{all_below, all_below-at}
 use Rattle.nf_forms.specs.declared.form.Form.{Form}
 use Rattle.nf_forms.specs.declared.form.Form.TheVariants.{Nfc, Nfd, Nfkc, Nfkd}
 use Rattle.nf_facts.specs.PlainRanges.{plain_ranges}
+use Rattle.nf_facts.specs.Within.{lies_within, in_ranges-lies_within, or_else, either}
 use Rattle.nf_calm.specs.Leads.{lead_bits, wants_look}
-use Rattle.nf_calm.specs.Closer.{high_of, low_of, pairs_of, triples_of, pair_hits, triple_hits, wants_pair, wants_triple, wants_triples, kana_of, wide_of, look_at}
-use Rattle.nf_calm.specs.declared.closer.Triples.{Triples}
-use Rattle.nf_calm.proofs.LookLemmas.{all_below, every_below, no_bits}
-
--- the range lies within one of these
-abbrev lies_within : List Range → ℕ → ℕ → Bool
-lies_within [] first last = false
-lies_within (r ∷ rs) first last = (nat_le r.0 first && nat_le last r.1) || lies_within rs first last
-
-in_ranges-lies_within : (rs : List Range) (first last c : ℕ) → lies_within rs first last ≡ true → first ≤ c → c ≤ last → in_ranges rs c ≡ true
-unfolding in_ranges
-in_ranges-lies_within [] first last c h low high = cc
-in_ranges-lies_within (r ∷ rs) first last c h low high = next (nat_le r.0 first && nat_le last r.1) (in_ranges rs c) refl (in_ranges-lies_within rs first last c)
-  where
-    either : (a : Bool) {t : Bool} → t ≡ true → (a || t) ≡ true
-    either true e = refl
-    either false e = e
-
-    next : (b t : Bool) → (nat_le r.0 first && nat_le last r.1) ≡ b → (lies_within rs first last ≡ true → first ≤ c → c ≤ last → t ≡ true) → ((nat_le r.0 c && nat_le c r.1) || t) ≡ true
-    next true t e more =
-        let both = and_parts (nat_le r.0 first) (nat_le last r.1) e in
-        ap (λ a. a || t) (and_from (nat_le r.0 c) (nat_le c r.1) (le-leb r.0 c (omega (arith, leb-true r.0 first both.0))) (le-leb c r.1 (omega (arith, leb-true last r.1 both.1))))
-    next false t e more = either (nat_le r.0 c && nat_le c r.1) (more (sym (ap (λ a. a || lies_within rs first last) e) ∙ h) low high)
-
--- a test that is made only where the first fails, so that the computation below is short
-abbrev or_else : Bool → (Unit {0} → Bool) → Bool
-or_else true more = true
-or_else false more = more tt
-
-either : (b : Bool) (more : Unit {0} → Bool) → or_else b more ≡ true → (b ≡ true) ⊎ (more tt ≡ true)
-either true more e = inl refl
-either false more e = inr e
+use Rattle.nf_calm.specs.Closer.{pairs_of, triples_of, wants_pair, wants_triple, wants_triples, kana_of, wide_of, look_at}
+use Rattle.nf_lanes.specs.Sets.{byte_sets, pair_sets, triple_sets}
+use Rattle.nf_lanes.specs.declared.sets.Triples.{Triples}
+use Rattle.nf_calm.proofs.LookLemmas.{no_bits}
 
 second_of : (a b : Bool) → (a && b) ≡ false → a ≡ true → b ≡ false
 second_of a b none first = sym (ap (λ x. x && b) first) ∙ none
@@ -66,7 +40,7 @@ module _ (f : Form) where
   module _ (t : Triples) where
     abbrev told_third : ℕ → ℕ → ℕ → Bool
     told_third hits base j =
-        or_else (not (bit_and (bit_and hits (high_of t.last_high (128 + j))) (low_of t.last_low (128 + j)) == 0)) (λ _. within (base + j) (base + j))
+        or_else (not (bit_and hits (byte_sets t.last_high t.last_low (128 + j)) == 0)) (λ _. within (base + j) (base + j))
 
     abbrev told_thirds : ℕ → ℕ → Bool
     told_thirds hits base = all_below (told_third hits base) 64
@@ -75,7 +49,7 @@ module _ (f : Form) where
     abbrev told_block : ℕ → ℕ → Bool
     told_block k i =
         or_else (within (4096 * k + 64 * i) (4096 * k + 64 * i + 63)) (λ _.
-        or_else (nat_lt (4096 * k + 64 * i) 2048) (λ _. told_thirds (pair_hits t.pairs (224 + k) (128 + i)) (4096 * k + 64 * i)))
+        or_else (nat_lt (4096 * k + 64 * i) 2048) (λ _. told_thirds (pair_sets t.pairs (224 + k) (128 + i)) (4096 * k + 64 * i)))
 
     abbrev told_three : ℕ → Bool
     told_three k =
@@ -95,7 +69,7 @@ record Told (f : Form) : Type 0 where
   of_four : all_below (told_four f) 8 ≡ true
 
 told : (f : Form) → Told f
-unfolding plain_ranges
+unfolding plain_ranges all_below
 told Nfc = record { ascii = refl; of_two = refl; of_three = refl; of_kana = refl; of_wide = refl; of_four = refl }
 told Nfd = record { ascii = refl; of_two = refl; of_three = refl; of_kana = refl; of_wide = refl; of_four = refl }
 told Nfkc = record { ascii = refl; of_two = refl; of_three = refl; of_kana = refl; of_wide = refl; of_four = refl }
@@ -111,11 +85,11 @@ module _ (f : Form) where
 
   asked_pair : (lead next : ℕ) → not (bit_and (lead_bits f lead) 13 == 0) ≡ true → wants_pair f lead next ≡ true
   asked_pair lead next others =
-      true_from_ne_false _ (λ none. true≢false (sym others ∙ ap (λ n. not (n == 0)) ((no_bits (pair_hits (pairs_of f) lead next) (bit_and (lead_bits f lead) 13) none).1)))
+      true_from_ne_false _ (λ none. true≢false (sym others ∙ ap (λ n. not (n == 0)) ((no_bits (pair_sets (pairs_of f) lead next) (bit_and (lead_bits f lead) 13) none).1)))
 
   asked_in : (t : Triples) (lead next last : ℕ) → not (bit_and (lead_bits f lead) 11 == 0) ≡ true → wants_triple t f lead next last ≡ true
   asked_in t lead next last others =
-      true_from_ne_false _ (λ none. true≢false (sym others ∙ ap (λ n. not (n == 0)) ((no_bits (triple_hits t lead next last) (bit_and (lead_bits f lead) 11) none).1)))
+      true_from_ne_false _ (λ none. true≢false (sym others ∙ ap (λ n. not (n == 0)) ((no_bits (triple_sets t lead next last) (bit_and (lead_bits f lead) 11) none).1)))
 
   asked_triple : (lead next last : ℕ) → not (bit_and (lead_bits f lead) 11 == 0) ≡ true → wants_triples f lead next last ≡ true
   asked_triple lead next last others =
@@ -130,8 +104,8 @@ module _ (f : Form) where
       let behind = second_of (wants_look f (192 + k)) _ plain looked.0 in
       let pair = first_of_two (wants_pair f (192 + k) (128 + i)) (wants_triples f (192 + k) (128 + i) last) behind (asked_triple (192 + k) (128 + i) last parts.0) in
       ⊎_elim (λ hit. absurd (true≢false (sym hit ∙ pair))) (λ here. lies (64 * k + i) (64 * k + i) (64 * k + i) here (omega arith) (omega arith))
-      (either (wants_pair f (192 + k) (128 + i)) _ (every_below (told_second f k) 64 parts.1 i little)))
-      (either (lies_within (plain_ranges f) (64 * k) (64 * k + 63)) _ (every_below (told_two f) 32 (told f).of_two k short))
+      (either (wants_pair f (192 + k) (128 + i)) _ (all_below-at (told_second f k) 64 i parts.1 little)))
+      (either (lies_within (plain_ranges f) (64 * k) (64 * k + 63)) _ (all_below-at (told_two f) 32 k (told f).of_two short))
 
   by_three_in : (t : Triples) → all_below (told_three f t) 16 ≡ true → (k i j : ℕ) → k < 16 → i < 64 → j < 64 → 2048 ≤ 4096 * k + 64 * i + j
       → (wants_look f (224 + k) && (wants_pair f (224 + k) (128 + i) && wants_triple t f (224 + k) (128 + i) (128 + j))) ≡ false → in_ranges (plain_ranges f) (4096 * k + 64 * i + j) ≡ true
@@ -142,17 +116,17 @@ module _ (f : Form) where
       let parts = and_parts (not (bit_and (lead_bits f (224 + k)) 13 == 0)) _ looked.1 in
       let behind = second_of (wants_look f (224 + k)) _ plain looked.0 in
       let triple = second_of (wants_pair f (224 + k) (128 + i)) (wants_triple t f (224 + k) (128 + i) (128 + j)) behind (asked_pair (224 + k) (128 + i) parts.0) in
-      let missed : triple_hits t (224 + k) (128 + i) (128 + j) ≡ 0 = (no_bits _ (bit_and (lead_bits f (224 + k)) 11) triple).0 in
+      let missed : triple_sets t (224 + k) (128 + i) (128 + j) ≡ 0 = (no_bits _ (bit_and (lead_bits f (224 + k)) 11) triple).0 in
       ⊎_elim (λ block. lies (4096 * k + 64 * i) (4096 * k + 64 * i + 63) (4096 * k + 64 * i + j) block (omega arith) (omega arith))
       (λ others.
       ⊎_elim (λ low. let under : 4096 * k + 64 * i < 2048 = ltb-true _ _ low in absurd (omega arith))
       (λ thirds.
       ⊎_elim (λ hit. absurd (true≢false (sym hit ∙ ap (λ n. not (n == 0)) missed)))
       (λ here. lies (4096 * k + 64 * i + j) (4096 * k + 64 * i + j) (4096 * k + 64 * i + j) here (omega arith) (omega arith))
-      (either _ _ (every_below (told_third f t (pair_hits t.pairs (224 + k) (128 + i)) (4096 * k + 64 * i)) 64 thirds j small)))
+      (either _ _ (all_below-at (told_third f t (pair_sets t.pairs (224 + k) (128 + i)) (4096 * k + 64 * i)) 64 j thirds small)))
       (either (nat_lt (4096 * k + 64 * i) 2048) _ others))
-      (either (lies_within (plain_ranges f) (4096 * k + 64 * i) (4096 * k + 64 * i + 63)) _ (every_below (told_block f t k) 64 parts.1 i little)))
-      (either (lies_within (plain_ranges f) (4096 * k) (4096 * k + 4095)) _ (every_below (told_three f t) 16 all k short))
+      (either (lies_within (plain_ranges f) (4096 * k + 64 * i) (4096 * k + 64 * i + 63)) _ (all_below-at (told_block f t k) 64 i parts.1 little)))
+      (either (lies_within (plain_ranges f) (4096 * k) (4096 * k + 4095)) _ (all_below-at (told_three f t) 16 k all short))
 
   -- one of the sets tells it
   by_three : (k i j : ℕ) → k < 16 → i < 64 → j < 64 → 2048 ≤ 4096 * k + 64 * i + j → look3 (224 + k) (128 + i) (128 + j) ≡ false → in_ranges (plain_ranges f) (4096 * k + 64 * i + j) ≡ true
@@ -179,7 +153,7 @@ module _ (f : Form) where
       let behind = second_of (wants_look f (240 + k)) _ plain looked.0 in
       let triple = second_of (wants_pair f (240 + k) next) (wants_triples f (240 + k) next last) behind (asked_pair (240 + k) next parts.0) in
       absurd (true≢false (sym (asked_triple (240 + k) next last parts.1) ∙ triple)))
-      (either (lies_within (plain_ranges f) (262144 * k) (262144 * k + 262143)) _ (every_below (told_four f) 8 (told f).of_four k short))
+      (either (lies_within (plain_ranges f) (262144 * k) (262144 * k + 262143)) _ (all_below-at (told_four f) 8 k (told f).of_four short))
 
   -- a character that stands at the front of these bytes
   pub by_told : (c : ℕ) (more : List ℕ) → c < 1114112 → look_at f (encode_utf8 c ++ more) 0 ≡ false → in_ranges (plain_ranges f) c ≡ true

@@ -1,18 +1,15 @@
 -- What the bytes behind a lead byte tell (The Unicode Standard, section 3.9, Table 3-6).
-use Rattle.std.specs.Prelude.{ℕ, ◌+◌, ◌/◌, Bool, not, ◌&&◌, ◌==◌, List, slice_index, bit_and, bit_or, if◌then◌else◌}
-use Rattle.std.specs.List.{range_with_len}
+use Rattle.std.specs.Prelude.{◌<◌, ◌≤◌, ℕ, ◌+◌, Bool, not, ◌&&◌, ◌==◌, List, slice_index, bit_and, bit_or, if◌then◌else◌}
 use Rattle.nf_forms.specs.declared.form.Form.{Form}
 use Rattle.nf_forms.specs.declared.form.Form.TheVariants.{Nfc, Nfd, Nfkc, Nfkd}
-use Rattle.nf_calm.specs.declared.closer.Pairs.{Pairs}
-use Rattle.nf_calm.specs.declared.closer.Triples.{Triples}
+use Rattle.nf_lanes.specs.Lanes.{NonePass}
+use Rattle.nf_lanes.specs.Sets.{pair_sets, triple_sets}
+use Rattle.nf_lanes.specs.declared.sets.Pairs.{Pairs}
+use Rattle.nf_lanes.specs.declared.sets.Triples.{Triples}
 use Rattle.nf_calm.specs.declared.closer.TheConstants.{COMPOSED_PAIRS, DECOMPOSED_PAIRS, NFC_TRIPLES, NFKC_TRIPLES, DECOMPOSED_TRIPLES}
 use Rattle.nf_calm.specs.declared.kana.TheConstants.{NFKC_KANA, NFD_KANA, NFKD_KANA}
 use Rattle.nf_calm.specs.declared.wide.TheConstants.{NFC_WIDE, NFD_WIDE, COMPATIBILITY_WIDE}
 use Rattle.nf_calm.specs.Leads.{lead_bits, wants_look}
-
--- 16 places, from one on
-unfoldable pub places : ℕ → List ℕ
-places at = range_with_len at 16
 
 abbrev pub pairs_of : Form → Pairs
 pairs_of Nfc = COMPOSED_PAIRS
@@ -44,28 +41,14 @@ wide_of Nfkd = COMPATIBILITY_WIDE
 abbrev pub asked_of : Form → ℕ → Triples
 asked_of f lead = if lead == 0xE3 then kana_of f else (if lead == 0xEF then wide_of f else triples_of f)
 
--- the entries of a table for the halves of a byte
-abbrev pub high_of : List ℕ → ℕ → ℕ
-high_of t byte = slice_index t (byte / 16)
-
-abbrev pub low_of : List ℕ → ℕ → ℕ
-low_of t byte = slice_index t (bit_and byte 15)
-
--- the sets that two, or three, bytes are in
-abbrev pub pair_hits : Pairs → ℕ → ℕ → ℕ
-pair_hits t lead next = bit_and (bit_and (bit_and (high_of t.lead_high lead) (low_of t.lead_low lead)) (high_of t.next_high next)) (low_of t.next_low next)
-
-abbrev pub triple_hits : Triples → ℕ → ℕ → ℕ → ℕ
-triple_hits t lead next last = bit_and (bit_and (pair_hits t.pairs lead next) (high_of t.last_high last)) (low_of t.last_low last)
-
 -- a character that begins with these bytes has to be looked up: where the lead byte is not of D0 to DF it tells by itself,
 -- its row being another than 2
 abbrev pub wants_pair : Form → ℕ → ℕ → Bool
-wants_pair f lead next = not (bit_or (pair_hits (pairs_of f) lead next) (bit_and (lead_bits f lead) 13) == 0)
+wants_pair f lead next = not (bit_or (pair_sets (pairs_of f) lead next) (bit_and (lead_bits f lead) 13) == 0)
 
 -- the same of E0 to EF, whose row is 4
 abbrev pub wants_triple : Triples → Form → ℕ → ℕ → ℕ → Bool
-wants_triple t f lead next last = not (bit_or (triple_hits t lead next last) (bit_and (lead_bits f lead) 11) == 0)
+wants_triple t f lead next last = not (bit_or (triple_sets t lead next last) (bit_and (lead_bits f lead) 11) == 0)
 
 abbrev pub wants_triples : Form → ℕ → ℕ → ℕ → Bool
 wants_triples f lead next last =
@@ -76,3 +59,9 @@ abbrev pub look_at : Form → List ℕ → ℕ → Bool
 look_at f bytes k =
     wants_look f (slice_index bytes k)
     && (wants_pair f (slice_index bytes k) (slice_index bytes (k + 1)) && wants_triples f (slice_index bytes k) (slice_index bytes (k + 1)) (slice_index bytes (k + 2)))
+
+-- of the 16 bytes from one on none before run begins a character that has to be looked up; there a lead byte stands
+pub record IsPlainRun (f : Form) (bytes : List ℕ) (at run : ℕ) : Type 0 where
+  pub within : run ≤ 16
+  pub plain : NonePass (look_at f bytes) at run
+  pub begins : run < 16 → 192 ≤ slice_index bytes (at + run)

@@ -1,9 +1,10 @@
-ghost use Rattle.std.specs.Prelude.{◌≡◌, ◌<◌, ◌≤◌, ◌+◌, ℕ, false, length, slice_index, IsTrue};
+ghost use Rattle.std.specs.Prelude.{◌≡◌, ◌<◌, ◌≤◌, ◌+◌, ℕ, false, length, slice_index, IsTrue, ◌↔◌};
+ghost use Rattle.nf_lanes.specs.Lanes.{NonePass};
 ghost use Rattle.nf_calm.specs.Leads.{wants_look};
 
 use crate::lanes::looks;
-use crate::leads::wants_look;
 use nf_forms::Form;
+use nf_lanes::none_of;
 
 /// The bytes of a block, which are looked at by one branch.
 const BLOCK: usize = 64;
@@ -25,10 +26,12 @@ pub(crate) fn plain_blocks(form: Form, bytes: &[u8]) -> usize
 #[inline(always)]
 fn is_plain(form: Form, bytes: &[u8], at: usize) -> bool
     requires room { at + 64 ≤ length bytes.now }
-    ensures { IsTrue result → (k : ℕ) → at ≤ k → k < at + 64 → wants_look form (slice_index bytes.now k) ≡ false }
+    ensures { IsTrue result ↔ NonePass (λ k. wants_look form (slice_index bytes.now k)) at 64 }
 {
-    (looks(form, bytes, at) == 0)
-        & (looks(form, bytes, at + 16) == 0)
-        & (looks(form, bytes, at + 32) == 0)
-        & (looks(form, bytes, at + 48) == 0)
+    none_of(
+        looks(form, bytes, at),
+        looks(form, bytes, at + 16),
+        looks(form, bytes, at + 32),
+        looks(form, bytes, at + 48),
+    )
 }

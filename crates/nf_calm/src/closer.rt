@@ -1,31 +1,17 @@
-//! What the bytes behind a lead byte tell, where that alone does not tell that a character passes.
+//! What the bytes behind a lead byte tell, where that alone does not tell that a character passes: it has to be looked up if
+//! its first bytes are in some set.
 
 ghost use Rattle.std.specs.Prelude.{◌≡◌};
 ghost use Rattle.nf_calm.specs.Closer.{pairs_of, triples_of};
 
 use nf_forms::Form;
-
-/// Eight sets of pairs of bytes, each a bit: by the high and the low half of a lead byte and of the byte behind it, the sets
-/// that allow it. A character has to be looked up if its first bytes are a pair of some set.
-pub(crate) struct Pairs {
-    pub lead_high: [u8; 16],
-    pub lead_low: [u8; 16],
-    pub next_high: [u8; 16],
-    pub next_low: [u8; 16],
-}
-
-/// Eight sets of three bytes, by the halves of each.
-pub(crate) struct Triples {
-    pub pairs: Pairs,
-    pub last_high: [u8; 16],
-    pub last_low: [u8; 16],
-}
+use nf_lanes::{Pairs, Triples};
 
 // In forms that compose: D6 and DB before 90 to AF, D5, D8 and D9 before 90 to 9F, D9 before 8B to 8F, D2, D6 and D7 before
 // 80 to 8F, DC, DD and DF, D6 before B0 to BF, D9 before B0 and B5 to B8.
 static COMPOSED_PAIRS: Pairs = Pairs {
-    lead_high: [0, 0, 0, 0, 0, 0, 0, 0, 0, 0, 0, 0, 0, 127, 0, 0],
-    lead_low: [0, 0, 8, 0, 0, 2, 41, 8, 2, 70, 0, 1, 16, 16, 0, 16],
+    first_high: [0, 0, 0, 0, 0, 0, 0, 0, 0, 0, 0, 0, 0, 127, 0, 0],
+    first_low: [0, 0, 8, 0, 0, 2, 41, 8, 2, 70, 0, 1, 16, 16, 0, 16],
     next_high: [
         16, 16, 16, 16, 16, 16, 16, 16, 28, 19, 17, 112, 16, 16, 16, 16,
     ],
@@ -37,8 +23,8 @@ static COMPOSED_PAIRS: Pairs = Pairs {
 // In forms that decompose: D1, D6, D9 and DB before 90 to BF, D5 and D8 before 90 to 9F, D9 before 8B to 8F, D0, D6 and D7
 // before 80 to 8F, D2, D3, DC, DD and DF, D8 before A2 to A6, DB before 80 to 82, D0 before 99 and B9.
 static DECOMPOSED_PAIRS: Pairs = Pairs {
-    lead_high: [0, 0, 0, 0, 0, 0, 0, 0, 0, 0, 0, 0, 0, 255, 0, 0],
-    lead_low: [136, 1, 16, 16, 0, 2, 9, 8, 34, 5, 0, 65, 16, 16, 0, 16],
+    first_high: [0, 0, 0, 0, 0, 0, 0, 0, 0, 0, 0, 0, 0, 255, 0, 0],
+    first_low: [136, 1, 16, 16, 0, 2, 9, 8, 34, 5, 0, 65, 16, 16, 0, 16],
     next_high: [
         16, 16, 16, 16, 16, 16, 16, 16, 92, 147, 49, 145, 16, 16, 16, 16,
     ],
@@ -52,8 +38,8 @@ static DECOMPOSED_PAIRS: Pairs = Pairs {
 // 99 and 9A.
 static NFC_TRIPLES: Triples = Triples {
     pairs: Pairs {
-        lead_high: [0, 0, 0, 0, 0, 0, 0, 0, 0, 0, 0, 0, 0, 0, 255, 0],
-        lead_low: [58, 5, 5, 192, 0, 0, 0, 0, 0, 0, 1, 0, 0, 0, 0, 3],
+        first_high: [0, 0, 0, 0, 0, 0, 0, 0, 0, 0, 0, 0, 0, 0, 255, 0],
+        first_low: [58, 5, 5, 192, 0, 0, 0, 0, 0, 0, 1, 0, 0, 0, 0, 3],
         next_high: [0, 0, 0, 0, 0, 0, 0, 0, 193, 1, 57, 6, 0, 0, 0, 0],
         next_low: [
             79, 15, 143, 15, 23, 55, 15, 15, 11, 11, 11, 11, 15, 15, 15, 15,
@@ -71,8 +57,8 @@ static NFC_TRIPLES: Triples = Triples {
 // A0 to A3 and A6 to AF; E0 A4 and E0 A5 before 8C, 8D, BC and BD, E0 A5 before 90 to 9F, E1 BA before 9A and 9B.
 static NFKC_TRIPLES: Triples = Triples {
     pairs: Pairs {
-        lead_high: [0, 0, 0, 0, 0, 0, 0, 0, 0, 0, 0, 0, 0, 0, 127, 0],
-        lead_low: [30, 97, 3, 3, 0, 0, 0, 0, 0, 0, 1, 0, 0, 0, 0, 3],
+        first_high: [0, 0, 0, 0, 0, 0, 0, 0, 0, 0, 0, 0, 0, 0, 127, 0],
+        first_low: [30, 97, 3, 3, 0, 0, 0, 0, 0, 0, 1, 0, 0, 0, 0, 3],
         next_high: [0, 0, 0, 0, 0, 0, 0, 0, 1, 1, 29, 98, 0, 0, 0, 0],
         next_low: [39, 39, 39, 39, 43, 59, 39, 39, 7, 7, 71, 7, 39, 39, 39, 39],
     },
@@ -89,8 +75,8 @@ static NFKC_TRIPLES: Triples = Triples {
 // before 8D and 90 to 9F.
 static DECOMPOSED_TRIPLES: Triples = Triples {
     pairs: Pairs {
-        lead_high: [0, 0, 0, 0, 0, 0, 0, 0, 0, 0, 0, 0, 0, 0, 255, 0],
-        lead_low: [250, 38, 1, 1, 0, 0, 0, 0, 0, 0, 1, 1, 1, 1, 0, 1],
+        first_high: [0, 0, 0, 0, 0, 0, 0, 0, 0, 0, 0, 0, 0, 0, 255, 0],
+        first_low: [250, 38, 1, 1, 0, 0, 0, 0, 0, 0, 1, 1, 1, 1, 0, 1],
         next_high: [1, 1, 1, 1, 1, 1, 1, 1, 5, 3, 253, 3, 1, 1, 1, 1],
         next_low: [
             15, 15, 15, 15, 51, 195, 11, 11, 15, 15, 15, 15, 15, 15, 15, 15,

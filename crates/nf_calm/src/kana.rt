@@ -3,9 +3,9 @@
 ghost use Rattle.std.specs.Prelude.{◌≡◌};
 ghost use Rattle.nf_calm.specs.Closer.{kana_of};
 
-use crate::closer::{Pairs, Triples};
 use crate::wide::NFC_WIDE;
 use nf_forms::Form;
+use nf_lanes::{Pairs, Triples};
 
 // The last set of each is of the other lead bytes that tell nothing, before any bytes. Of E3 stand in the sets before it, as
 // products of halves of bytes, the characters that change, and few of those that stand with them in a row or a column.
@@ -14,8 +14,8 @@ use nf_forms::Form;
 // before BF.
 static NFKC_KANA: Triples = Triples {
     pairs: Pairs {
-        lead_high: [0, 0, 0, 0, 0, 0, 0, 0, 0, 0, 0, 0, 0, 0, 63, 0],
-        lead_low: [32, 32, 32, 31, 0, 0, 0, 0, 0, 0, 32, 0, 0, 0, 0, 32],
+        first_high: [0, 0, 0, 0, 0, 0, 0, 0, 0, 0, 0, 0, 0, 0, 63, 0],
+        first_low: [32, 32, 32, 31, 0, 0, 0, 0, 0, 0, 32, 0, 0, 0, 0, 32],
         next_high: [
             32, 32, 32, 32, 32, 32, 32, 32, 63, 32, 32, 32, 32, 32, 32, 32,
         ],
@@ -37,8 +37,8 @@ static NFKC_KANA: Triples = Triples {
 // A or D, and E3 82 and 83 before 9 with 0, 1, 3, 4, 6, 7, 9, A, C or D.
 static NFD_KANA: Triples = Triples {
     pairs: Pairs {
-        lead_high: [0, 0, 0, 0, 0, 0, 0, 0, 0, 0, 0, 0, 0, 0, 255, 0],
-        lead_low: [
+        first_high: [0, 0, 0, 0, 0, 0, 0, 0, 0, 0, 0, 0, 0, 0, 255, 0],
+        first_low: [
             128, 128, 128, 127, 0, 0, 0, 0, 0, 0, 128, 128, 128, 128, 0, 128,
         ],
         next_high: [
@@ -61,8 +61,8 @@ static NFD_KANA: Triples = Triples {
 // E or F; E3 80 and 81 before A and B with 0, 1, 2, 3, 5, 7, 9, C or D; E3 before 84 to 8F.
 static NFKD_KANA: Triples = Triples {
     pairs: Pairs {
-        lead_high: [0, 0, 0, 0, 0, 0, 0, 0, 0, 0, 0, 0, 0, 0, 255, 0],
-        lead_low: [
+        first_high: [0, 0, 0, 0, 0, 0, 0, 0, 0, 0, 0, 0, 0, 0, 255, 0],
+        first_low: [
             128, 128, 128, 127, 0, 0, 0, 0, 0, 0, 128, 128, 128, 128, 0, 128,
         ],
         next_high: [

@@ -3,16 +3,16 @@
 ghost use Rattle.std.specs.Prelude.{◌≡◌};
 ghost use Rattle.nf_calm.specs.Closer.{wide_of};
 
-use crate::closer::{Pairs, Triples};
 use nf_forms::Form;
+use nf_lanes::{Pairs, Triples};
 
 // The last set of each is of the other lead bytes that tell nothing, before any bytes.
 
 // In NFC: E3 80 before AA to AF, E3 82 before 99 and 9A; EF before A4 to AD, EF B8 before A0 to AF, EF BE before 9E and 9F.
 pub(crate) static NFC_WIDE: Triples = Triples {
     pairs: Pairs {
-        lead_high: [0, 0, 0, 0, 0, 0, 0, 0, 0, 0, 0, 0, 0, 0, 63, 0],
-        lead_low: [32, 32, 32, 3, 0, 0, 0, 0, 0, 0, 32, 0, 0, 0, 0, 28],
+        first_high: [0, 0, 0, 0, 0, 0, 0, 0, 0, 0, 0, 0, 0, 0, 63, 0],
+        first_low: [32, 32, 32, 3, 0, 0, 0, 0, 0, 0, 32, 0, 0, 0, 0, 28],
         next_high: [
             32, 32, 32, 32, 32, 32, 32, 32, 35, 32, 36, 56, 32, 32, 32, 32,
         ],
@@ -31,8 +31,8 @@ pub(crate) static NFC_WIDE: Triples = Triples {
 // In NFD: E3 80 before AA to AF, E3 before 81 to 83; of EF the same.
 static NFD_WIDE: Triples = Triples {
     pairs: Pairs {
-        lead_high: [0, 0, 0, 0, 0, 0, 0, 0, 0, 0, 0, 0, 0, 0, 63, 0],
-        lead_low: [32, 32, 32, 3, 0, 0, 0, 0, 0, 0, 32, 32, 32, 32, 0, 28],
+        first_high: [0, 0, 0, 0, 0, 0, 0, 0, 0, 0, 0, 0, 0, 0, 63, 0],
+        first_low: [32, 32, 32, 3, 0, 0, 0, 0, 0, 0, 32, 32, 32, 32, 0, 28],
         next_high: [
             32, 32, 32, 32, 32, 32, 32, 32, 35, 32, 36, 56, 32, 32, 32, 32,
         ],
@@ -51,8 +51,8 @@ static NFD_WIDE: Triples = Triples {
 // In the compatibility forms: EF before A4 to AF, B0 to B7 and B9 to BE, EF B8 before 90 to BF, EF BF before 80 to AF.
 static COMPATIBILITY_WIDE: Triples = Triples {
     pairs: Pairs {
-        lead_high: [0, 0, 0, 0, 0, 0, 0, 0, 0, 0, 0, 0, 0, 0, 31, 0],
-        lead_low: [16, 16, 16, 16, 0, 0, 0, 0, 0, 0, 16, 16, 16, 16, 0, 15],
+        first_high: [0, 0, 0, 0, 0, 0, 0, 0, 0, 0, 0, 0, 0, 0, 31, 0],
+        first_low: [16, 16, 16, 16, 0, 0, 0, 0, 0, 0, 16, 16, 16, 16, 0, 15],
         next_high: [
             16, 16, 16, 16, 16, 16, 16, 16, 16, 16, 17, 30, 16, 16, 16, 16,
         ],

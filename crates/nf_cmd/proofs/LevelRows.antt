@@ -1,4 +1,4 @@
--- What a level without a fault ends with: the value of each required option of one value.
+-- What a level without a fault ends with: the value of an option of one value, which is there where it is required.
 use Rattle.nf_cmd.proofs.Common.{◌≡◌, ◌∙◌, ◌&&◌, ◌||◌, Bool, cond, true, false, not, refl, sym, ap, subst, List, [], ◌∷◌, fold, Option, Some, None, inl, inr, true≢false, find, option_and_then, slice_get, bytes_eq, list_any, option_map_or, bytes_eq-Decides, DefaultValue, explicit_source, Kinds, check_kinds, or_else, is_given, value_passes, Held, Names, Row, Rule, Text, has_row, reading_by, settled, default_rows, finished, first_of, nothing_held, rows_after, walk, walk_from, with_default, Shape, level_fault, check_fault, defaults_fault, settle_fault, walk_fault}
 use Rattle.nf_cmd.proofs.Rows.{both_none, IsIn, IsSingle, HasOne, Fits, EachFits, each-with_values}
 use Rattle.nf_cmd.proofs.WordRows.{each-settled}
@@ -101,22 +101,34 @@ module _ (s : Shape) (off : s.args_override_self ≡ false) (names : Names) (wor
       go true e = refl
       go false e = absurd (true≢false (sym (ap (λ r. r && true) required) ∙ e))
 
-  pub given : s.subcommand_negates_reqs ≡ false → (a : Rule) → IsIn a s.rules → IsSingle a → a.required ≡ true
-      → ((x : Rule) → IsIn x s.rules → x.id ≡ a.id → x ≡ a) → Given a rows
-  given lifts a inside single required only = go (find (λ r. bytes_eq r.id a.id) rows) refl (is_given-required lifts a inside required)
-    where
-      of : (r : Row) → find (λ x. bytes_eq x.id a.id) rows ≡ Some r → (x : Rule) → x ≡ a → (IsSingle x → HasOne x r.values) → Given a rows
-      of r e x same one =
-          let h : HasOne a r.values = subst (λ y. IsSingle y → HasOne y r.values) same one single in
-          record {
-            text = h.text;
-            first = ap (λ o. option_and_then (λ (q : Row). slice_get q.values 0) o) e ∙ ap (λ vs. slice_get vs 0) h.alone;
-            passes = h.passes;
-          }
+  module _ (a : Rule) (single : IsSingle a) (only : (x : Rule) → IsIn x s.rules → x.id ≡ a.id → x ≡ a) where
+    -- the first value of a row of it
+    abbrev value_of : Option Row → Option Text
+    value_of = option_and_then (λ (r : Row). slice_get r.values 0)
 
-      go : (o : Option Row) → find (λ x. bytes_eq x.id a.id) rows ≡ o → option_map_or (λ (r : Row). explicit_source r.source) o false ≡ true → Given a rows
-      go None e h = absurd (true≢false (sym h))
-      go (Some r) e h =
-          let row = found_row s.rules a.id rows r each-row e in
-          let f : Fits s.rules r = row.0 in
-          of r e f.rule (only f.rule f.inside (f.same ∙ row.1)) f.one
+    one_value : (r : Row) → find (λ x. bytes_eq x.id a.id) rows ≡ Some r → HasOne a r.values
+    one_value r e =
+        let row = found_row s.rules a.id rows r each-row e in
+        let f : Fits s.rules r = row.0 in
+        subst (λ y. IsSingle y → HasOne y r.values) (only f.rule f.inside (f.same ∙ row.1)) f.one single
+
+    -- where it is there, its value passes
+    pub passes : (text : Text) → first_of a.id rows ≡ Some text → value_passes a text ≡ true
+    passes text first = go (find (λ x. bytes_eq x.id a.id) rows) refl
+      where
+        go : (o : Option Row) → find (λ x. bytes_eq x.id a.id) rows ≡ o → value_passes a text ≡ true
+        go None e = let bad : None ≡ Some text = sym (ap value_of e) ∙ first in cc
+        go (Some r) e =
+            let h = one_value r e in
+            let is : Some h.text ≡ Some text = sym (ap value_of e ∙ ap (λ vs. slice_get vs 0) h.alone) ∙ first in
+            let same : h.text ≡ text = cc in
+            subst (λ t. value_passes a t ≡ true) same h.passes
+
+    pub given : s.subcommand_negates_reqs ≡ false → IsIn a s.rules → a.required ≡ true → Given a rows
+    given lifts inside required = go (find (λ r. bytes_eq r.id a.id) rows) refl (is_given-required lifts a inside required)
+      where
+        go : (o : Option Row) → find (λ x. bytes_eq x.id a.id) rows ≡ o → option_map_or (λ (r : Row). explicit_source r.source) o false ≡ true → Given a rows
+        go None e h = absurd (true≢false (sym h))
+        go (Some r) e h =
+            let one = one_value r e in
+            record { text = one.text; first = ap value_of e ∙ ap (λ vs. slice_get vs 0) one.alone; passes = one.passes }

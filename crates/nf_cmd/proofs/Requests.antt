@@ -1,8 +1,8 @@
--- Words in which clap finds no fault ask for something.
-use Rattle.nf_cmd.proofs.Common.{◌≡◌, ◌∙◌, ◌&&◌, ◌||◌, ◌⊎◌, Bool, cond, true, false, not, refl, sym, ap, subst, List, [], ◌∷◌, Option, Some, None, inl, inr, codes, is_some, true≢false, find, option_and_then, option_map, Bor, bytes_eq, list_any, option_map_or, bytes_eq-Decides, ErrorKind, OutOfMemory, IsAmong, takes, value_passes, Row, Rule, Text, answers_to, nothing_held, rows_after, stop_after, texts, walk_from, App, Shape, argument_words, built, entered, label_of, names_of, rows_at, subcommand_of, new_shape, with_index, filled, built_fault, entered_fault, fault_of, is_simple_and_free, level_fault, list_any-map, Form, Nfc, Nfd, Nfkc, Nfkd, Request, Check, Measure, Test, IsLine, IsRefusal, conversion, convert, flag_rule, form_named, form_names, form_rule, is_set, line, policy_of, request_of}
-use Rattle.nf_cmd.proofs.Rows.{IsIn}
+-- Words in which clap finds no fault ask for something, or are `check` that lacks a form.
+use Rattle.nf_cmd.proofs.Common.{◌≡◌, ◌∙◌, ◌&&◌, ◌||◌, ◌⊎◌, Bool, cond, true, false, not, refl, sym, ap, subst, List, [], ◌∷◌, drop, Option, Some, None, inl, inr, codes, is_some, true≢false, ap₂, find, option_and_then, option_map, Bor, bytes_eq, list_any, option_map_or, bytes_eq-Decides, ErrorKind, MissingRequiredArgument, OutOfMemory, IsAmong, takes, value_passes, Row, Rule, Text, answers_to, first_of, nothing_held, rows_after, stop_after, texts, walk_from, App, Shape, argument_words, built, entered, label_of, names_of, rows_at, subcommand_of, new_shape, with_index, filled, built_fault, entered_fault, fault_of, is_simple_and_free, level_fault, list_any-map, Form, Nfc, Nfd, Nfkc, Nfkd, Request, Check, CheckForm, Measure, Test, IsLine, IsRefusal, check, checking, conversion, convert, flag_rule, form_named, form_names, form_rule, is_set, lacks_form, line, policy_of, request_of}
+use Rattle.nf_cmd.proofs.Rows.{IsIn, IsSingle}
 use Rattle.nf_cmd.proofs.NoHelp.{IsNoHelp, StopsAtNoHelp, no_help-walk}
-use Rattle.nf_cmd.proofs.LevelRows.{Given, below_faultless, checked, given, nothing_wanted, walk_faultless}
+use Rattle.nf_cmd.proofs.LevelRows.{below_faultless, checked, given, passes, nothing_wanted, walk_faultless}
 
 -- s is one of the subcommands
 abbrev IsSub : Shape → List Shape → Type 0
@@ -67,16 +67,32 @@ help_differs name e helpless = go (bytes_eq (codes "help") name) refl e
 -- ---- this program's line
 
 pub simple_and_free : (names : Bor (List (Bor Text))) → is_simple_and_free (line names) ≡ true
-unfolding line convert form_rule flag_rule
+unfolding line check convert form_rule flag_rule
 simple_and_free names = refl
 
 abbrev first_of_subs : List Shape → Shape
 first_of_subs [] = new_shape []
 first_of_subs (s ∷ rest) = s
 
--- the id of another option
-differs : (other t : Text) → bytes_eq (codes "form") other ≡ false → t ≡ other → t ≡ codes "form" → ⊥
-differs other t differ e h = true≢false (sym ((bytes_eq-Decides (codes "form") other).1 (sym h ∙ e)) ∙ differ)
+abbrev second_of_subs : List Shape → Shape
+second_of_subs [] = new_shape []
+second_of_subs (s ∷ rest) = first_of_subs rest
+
+-- where no other rule has its id, the first is the one of that id
+only_first : (a : Rule) (rest : List Rule) → list_any (λ r. bytes_eq a.id r.id) rest ≡ false → (x : Rule) → IsIn x (a ∷ rest) → x.id ≡ a.id → x ≡ a
+only_first a rest differ x (inl same) e = same
+only_first a [] differ x (inr inside) e = absurd inside
+only_first a (r ∷ rest) differ x (inr inside) e = go (λ h i. only_first a rest h x (inr i) e) (bytes_eq a.id r.id) refl differ inside
+  where
+    go : (list_any (λ y. bytes_eq a.id y.id) rest ≡ false → IsIn x rest → x ≡ a) → (b : Bool) → bytes_eq a.id r.id ≡ b
+        → (b || list_any (λ y. bytes_eq a.id y.id) rest) ≡ false → IsIn x (r ∷ rest) → x ≡ a
+    go behind true t h i = absurd (true≢false h)
+    go behind false t h (inl same) = absurd (true≢false (sym ((bytes_eq-Decides a.id r.id).1 (sym e ∙ ap (λ (y : Rule). y.id) same)) ∙ t))
+    go behind false t h (inr i) = behind h i
+
+-- what a subcommand's words come to: a request, or that a form is lacking
+abbrev pub IsAsked : Option (Text × List Row) → Type 0
+IsAsked found = ((r : Request) × (request_of found ≡ Some r)) ⊎ (lacks_form found ≡ true)
 
 -- the names are those of forms
 named : (text : Text) → list_any (λ n. bytes_eq n text) form_names ≡ true → (f : Form) × (form_named text ≡ Some f)
@@ -94,57 +110,63 @@ named text e = go (bytes_eq (codes "nfc") text) (bytes_eq (codes "nfd") text) (b
     go false false false false t u v w h = absurd (true≢false (sym h))
 
 module _ (names : Bor (List (Bor Text))) (are : texts names.now ≡ form_names) where
-  abbrev made : Shape
-  made = first_of_subs (built (line names)).subs
+  abbrev converting : Shape
+  converting = first_of_subs (built (line names)).subs
 
-  abbrev form : Rule
-  form = with_index 1 (filled (form_rule names))
+  abbrev checker : Shape
+  checker = second_of_subs (built (line names)).subs
 
-  form_given : (words : List Text) → level_fault made [] nothing_held words false [] ≡ [] → Given form (rows_after made.rules [] words)
-  unfolding line convert form_rule flag_rule
-  form_given words none = given made refl [] words false [] none refl form (inl refl) (record { set = refl; least = refl; most = refl; no_default = refl }) refl only
-    where
-      only : (x : Rule) → IsIn x made.rules → x.id ≡ form.id → x ≡ form
-      only x (inl same) e = same
-      only x (inr (inl same)) e = absurd (differs (codes "replace") x.id refl (ap (λ (r : Rule). r.id) same) e)
-      only x (inr (inr (inl same))) e = absurd (differs (codes "assigned") x.id refl (ap (λ (r : Rule). r.id) same) e)
-      only x (inr (inr (inr (inl same)))) e = absurd (differs (codes "line-buffered") x.id refl (ap (λ (r : Rule). r.id) same) e)
-      only x (inr (inr (inr (inr (inl same))))) e = absurd (differs (codes "help") x.id refl (ap (λ (r : Rule). r.id) same) e)
-      only x (inr (inr (inr (inr (inr bad))))) e = absurd bad
+  abbrev form : Bool → Rule
+  form required = with_index 1 (filled (form_rule names required))
 
-  value_named : (text : Text) → value_passes form text ≡ true → (f : Form) × (form_named text ≡ Some f)
+  single : (required : Bool) → IsSingle (form required)
   unfolding form_rule
-  value_named text e = named text (sym (list_any-map (λ n. bytes_eq n text) (λ (n : Bor Text). n.now) names.now ∙ ap (list_any (λ n. bytes_eq n text)) are) ∙ e)
+  single required = record { set = refl; least = refl; most = refl; no_default = refl }
 
-  converts : (words : List Text) → level_fault made [] nothing_held words false [] ≡ [] → (r : Request) × (request_of (Some (made.name, rows_after made.rules [] words)) ≡ Some r)
-  unfolding line convert form_rule flag_rule
+  value_named : (required : Bool) (text : Text) → value_passes (form required) text ≡ true → (f : Form) × (form_named text ≡ Some f)
+  unfolding form_rule
+  value_named required text e = named text (sym (list_any-map (λ n. bytes_eq n text) (λ (n : Bor Text). n.now) names.now ∙ ap (list_any (λ n. bytes_eq n text)) are) ∙ e)
+
+  converts : (words : List Text) → level_fault converting [] nothing_held words false [] ≡ [] → IsAsked (Some (converting.name, rows_after converting.rules [] words))
+  unfolding line check convert form_rule flag_rule
   converts words none =
-      let g = form_given words none in
-      let f = value_named g.text g.passes in
-      let policy = policy_of (rows_after made.rules [] words) in
-      let lines = is_set (codes "line-buffered") (rows_after made.rules [] words) in
-      (conversion f.0 policy lines, ap (λ o. option_map (λ x. conversion x policy lines) (option_and_then form_named o)) g.first ∙ ap (option_map (λ x. conversion x policy lines)) f.1)
+      let g = given converting refl [] words false [] none (form true) (single true) (only_first (form true) (drop 1 converting.rules) refl) refl (inl refl) refl in
+      let f = value_named true g.text g.passes in
+      let policy = policy_of (rows_after converting.rules [] words) in
+      let lines = is_set (codes "line-buffered") (rows_after converting.rules [] words) in
+      inl (conversion f.0 policy lines, ap (λ o. option_map (λ x. conversion x policy lines) (option_and_then form_named o)) g.first ∙ ap (option_map (λ x. conversion x policy lines)) f.1)
 
-  pub asked : (words : List Text) → fault_of (line names) words ≡ [] → (r : Request) × (request_of (subcommand_of (line names) words) ≡ Some r)
-  unfolding line convert form_rule flag_rule
+  checks : (words : List Text) → level_fault checker [] nothing_held words false [] ≡ [] → IsAsked (Some (checker.name, rows_after checker.rules [] words))
+  unfolding line check convert form_rule flag_rule
+  checks words none = go (first_of (codes "form") rows) refl (is_set (codes "assigned") rows) refl
+    where
+      rows : List Row
+      rows = rows_after checker.rules [] words
+
+      go : (o : Option Text) → first_of (codes "form") rows ≡ o → (b : Bool) → is_set (codes "assigned") rows ≡ b → IsAsked (Some (checker.name, rows))
+      go (Some text) first b set =
+          let f = value_named false text (passes checker refl [] words false [] none (form false) (single false) (only_first (form false) (drop 1 checker.rules) refl) text first) in
+          inl (CheckForm f.0 b, ap₂ checking first set ∙ ap (option_map (λ x. CheckForm x b)) f.1)
+      go None first true set = inr (ap₂ (λ a o. a && not (is_some o)) set first)
+      go None first false set = inl (Check, ap₂ checking first set)
+
+  pub asked : (words : List Text) → fault_of (line names) words ≡ [] → IsAsked (subcommand_of (line names) words)
+  unfolding line check convert form_rule flag_rule
   asked words none =
       let e = enters (built (line names)) (argument_words (line names) words) refl refl refl none in
-      let r = of e.sub e.inside e.name e.answers e.no_help e.words e.faultless in
-      (r.0, ap request_of e.is ∙ r.1)
+      subst IsAsked (sym e.is) (of e.sub e.inside e.name e.answers e.no_help e.words e.faultless)
     where
-      -- a subcommand that takes nothing
-      asks : (s : Shape) {x : Shape} → s ≡ x → (r : Request) → ((rows : List Row) → request_of (Some (x.name, rows)) ≡ Some r) → (left : List Text)
-          → (q : Request) × (request_of (Some (s.name, rows_after s.rules [] left)) ≡ Some q)
-      asks s same r is left = (r, ap (λ (x : Shape). request_of (Some (x.name, rows_after s.rules [] left))) same ∙ is (rows_after s.rules [] left))
+      Comes : List Text → Shape → Type 0
+      Comes left s = IsAsked (Some (s.name, rows_after s.rules [] left))
 
       of : (s : Shape) → IsSub s (built (line names)).subs → (name : Text) → answers_to name (label_of s) ≡ true → IsNoHelp name
-          → (left : List Text) → level_fault s [] nothing_held left false [] ≡ [] → (r : Request) × (request_of (Some (s.name, rows_after s.rules [] left)) ≡ Some r)
+          → (left : List Text) → level_fault s [] nothing_held left false [] ≡ [] → Comes left s
       of s (inl same) name answers helpless left below =
-          let P : Shape → Type 0 = λ x. (r : Request) × (request_of (Some (x.name, rows_after x.rules [] left)) ≡ Some r) in
-          subst P (sym same) (converts left (subst (λ (x : Shape). level_fault x [] nothing_held left false [] ≡ []) same below))
-      of s (inr (inl same)) name answers helpless left below = asks s same Check (λ _. refl) left
-      of s (inr (inr (inl same))) name answers helpless left below = asks s same Measure (λ _. refl) left
-      of s (inr (inr (inr (inl same)))) name answers helpless left below = asks s same Test (λ _. refl) left
+          subst (Comes left) (sym same) (converts left (subst (λ (x : Shape). level_fault x [] nothing_held left false [] ≡ []) same below))
+      of s (inr (inl same)) name answers helpless left below =
+          subst (Comes left) (sym same) (checks left (subst (λ (x : Shape). level_fault x [] nothing_held left false [] ≡ []) same below))
+      of s (inr (inr (inl same))) name answers helpless left below = subst (Comes left) (sym same) (inl (Measure, refl))
+      of s (inr (inr (inr (inl same)))) name answers helpless left below = subst (Comes left) (sym same) (inl (Test, refl))
       of s (inr (inr (inr (inr (inl same))))) name answers helpless left below =
           absurd (help_differs name (ap (λ (x : Shape). answers_to name (label_of x)) (sym same) ∙ answers) helpless)
       of s (inr (inr (inr (inr (inr bad))))) name answers helpless left below = absurd bad
@@ -154,10 +176,17 @@ module _ (names : Bor (List (Bor Text))) (are : texts names.now ≡ form_names) 
 pub line_simple : (a : App) → IsLine a → is_simple_and_free a ≡ true
 line_simple a is = ap is_simple_and_free is.2 ∙ simple_and_free is.0
 
-pub line_asked : (a : App) → IsLine a → (words : List Text) → fault_of a words ≡ [] → (r : Request) × (request_of (subcommand_of a words) ≡ Some r)
-line_asked a is words none =
-    let r = asked is.0 is.1 words (sym (ap (λ x. fault_of x words) is.2) ∙ none) in
-    (r.0, ap (λ x. request_of (subcommand_of x words)) is.2 ∙ r.1)
+pub line_asked : (a : App) → IsLine a → (words : List Text) → fault_of a words ≡ [] → IsAsked (subcommand_of a words)
+line_asked a is words none = subst (λ x. IsAsked (subcommand_of x words)) (sym is.2) (asked is.0 is.1 words (sym (ap (λ x. fault_of x words) is.2) ∙ none))
+
+-- where they ask for nothing, it is a form that is lacking
+pub line_lacks : (a : App) → IsLine a → (words : List Text) (k : ErrorKind) → fault_of a words ≡ [] → request_of (subcommand_of a words) ≡ None → k ≡ MissingRequiredArgument
+    → IsRefusal words k
+line_lacks a is words k none nothing kind = by (line_asked a is words none)
+  where
+    by : IsAsked (subcommand_of a words) → IsRefusal words k
+    by (inl asks) = let bad : None ≡ Some asks.0 = sym nothing ∙ asks.1 in cc
+    by (inr lacks) = inr (inr (record { app = a; is_line = is; faultless = none; lacks = lacks; kind = kind }))
 
 -- an error of the parse is a refusal
 pub line_refused : (a : App) → IsLine a → (words : List Text) (k : ErrorKind) → (takes a words ≡ true → k ≡ OutOfMemory) → (k ≡ OutOfMemory) ⊎ IsAmong k (fault_of a words)
@@ -167,4 +196,4 @@ line_refused a is words k passes (inr among) = go (takes a words) refl
   where
     go : (b : Bool) → takes a words ≡ b → IsRefusal words k
     go true e = inl (passes e)
-    go false e = inr (record { app = a; is_line = is; refused = e; kind = among })
+    go false e = inr (inl (record { app = a; is_line = is; refused = e; kind = among }))

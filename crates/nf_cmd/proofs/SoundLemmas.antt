@@ -1,5 +1,5 @@
 -- No command ends because a character is unsound, where none of the data is.
-use Rattle.nf_cmd.proofs.Common.{◌≡◌, ℕ, Bool, true, false, List, [], Option, Some, None, Result, Ok, Err, inl, inr, refl, sym, ap, ◌∙◌, ◌⊎◌, option_map, Properties, Form, ucd, Policy, Fault, Write, Convert, ConvertLines, Check, Measure, Test, end_of, Converts, ConvertsLines, SinkState, SourceState, bytes_of, DrivesLines, Tally, NeverRow}
+use Rattle.nf_cmd.proofs.Common.{◌≡◌, ℕ, Bool, true, false, List, [], Option, Some, None, Result, Ok, Err, inl, inr, refl, sym, ap, ◌∙◌, ◌⊎◌, option_map, Properties, Form, ucd, Policy, Fault, Write, Convert, ConvertLines, Check, CheckForm, Measure, Test, end_of, Converts, ConvertsLines, SinkState, SourceState, bytes_of, DrivesLines, Tally, NeverRow}
 use Rattle.nf_safe.specs.declared.place.Place.{Place}
 use Rattle.nf_filter.specs.declared.fault.Fault.{Fault as Found}
 use Rattle.nf_filter.specs.declared.fault.Fault.TheVariants as found
@@ -12,9 +12,12 @@ use Rattle.nf_cmd.specs.declared.fault.Fault.TheVariants.{Row}
 use Rattle.nf_cmd.specs.declared.test.Finding.{Finding}
 use Rattle.nf_cmd.specs.Faults.{told, told_at}
 use Rattle.nf_filter.specs.Finishes.{end_of as finished_by}
-use Rattle.nf_filter.proofs.SoundnessLemmas.{not_a_fault, not_in_end}
+use Rattle.nf_filter.proofs.SoundnessLemmas.{not_a_fault, not_in_end, not_surveyed}
 use Rattle.std.specs.Result.{result_err}
-use Rattle.nf_cmd.specs.Checks.{check_end, Checks}
+use Rattle.nf_filter.specs.Checks.{place_or_fault}
+use Rattle.nf_filter.specs.Faults.{fault_in}
+use Rattle.nf_normalized.specs.Change.{form_decision, form_value, under}
+use Rattle.nf_cmd.specs.Checks.{check_end, Checks, ChecksForm}
 use Rattle.nf_cmd.specs.Measures.{Measures}
 use Rattle.nf_cmd.specs.Tests.{Tests, Finds, finding_end}
 
@@ -47,6 +50,11 @@ end_row end (Ok value) ended at ok err (inl is) row = absurd (ok value (sym is �
 end_row end (Err fault) ended at ok err (inl is) row = told_row fault at (sym (err fault) ∙ sym is ∙ ap Some row)
 end_row end answer ended at ok err (inr is) row = cc
 
+-- nor is a place
+place_is_none : (at : ℕ) (place : Option Place) → ¬ (check_end (Ok place) ≡ Some (Err (Row at)))
+place_is_none at None e = cc
+place_is_none at (Some place) e = cc
+
 module _ (p : Properties) (sound : AreSound p) (at : ℕ) (coming left taken now : Option (List ℕ)) (ended : Result ℕ Fault) where
   converted : DrivingRefusesNone → (f : Form) (policy : Policy) → Converts f policy p coming left taken now ended → ¬ (ended ≡ Err (Row at))
   converted law f policy does row =
@@ -77,11 +85,7 @@ module _ (p : Properties) (sound : AreSound p) (at : ℕ) (coming left taken now
       lines_row 65536 policy f runs.source runs.rest runs.old runs.new does.answer runs.driven (end_row end_of does.answer ended at (λ u e. cc) (λ fault. refl) does.found_is row)
 
   checked : CheckingRefusesNone → Checks p coming left taken now ended → ¬ (ended ≡ Err (Row at))
-  checked law does row = law 65536 p 0 does.surveyed.source does.surveyed.rest does.answer sound does.surveyed.surveys at (end_row check_end does.answer ended at by_place (λ fault. refl) does.found_is row)
-    where
-      by_place : (place : Option Place) → ¬ (check_end (Ok place) ≡ Some (Err (Row at)))
-      by_place None e = cc
-      by_place (Some place) e = cc
+  checked law does row = law 65536 p 0 does.surveyed.source does.surveyed.rest does.answer sound does.surveyed.surveys at (end_row check_end does.answer ended at (place_is_none at) (λ fault. refl) does.found_is row)
 
   measured : MeasuringRefusesNone → Measures p coming left taken now ended → ¬ (ended ≡ Err (Row at))
   measured law does row = law 65536 p 0 does.surveyed.source does.surveyed.rest does.answer sound does.surveyed.surveys at (end_row end_of does.answer ended at (λ m e. cc) (λ fault. refl) does.found_is row)
@@ -98,10 +102,27 @@ module _ (p : Properties) (sound : AreSound p) (at : ℕ) (coming left taken now
       by_end (inl is) = ends does.suite does.finding does.finds (sym is ∙ row)
       by_end (inr is) = cc
 
+-- nor does checking a form
+checked_form : AreSound ucd → (at : ℕ) (coming left taken now : Option (List ℕ)) (ended : Result ℕ Fault) (f : Form) (assigned : Bool)
+    → ChecksForm f assigned coming left taken now ended → ¬ (ended ≡ Err (Row at))
+unfolding form_decision
+checked_form sound at coming left taken now ended f assigned does row =
+    not_surveyed 65536 0 at (form_decision assigned f 0) (form_value f 0) does.surveyed.source does.surveyed.rest does.answer (λ bytes. undecided bytes _) does.surveyed.surveys
+    (end_row check_end does.answer ended at (place_is_none at) (λ fault. refl) does.found_is row)
+  where
+    by_fault : (o : Option Found) → ¬ (o ≡ Some (found.Row at)) → ¬ (place_or_fault None o ≡ Some (Err (found.Row at)))
+    by_fault None not e = cc
+    by_fault (Some fault) not e = not (let same : fault ≡ found.Row at = cc in ap Some same)
+
+    undecided : (bytes : List ℕ) (place : Option Place) → ¬ (place_or_fault place (fault_in (under assigned) ucd 0 bytes) ≡ Some (Err (found.Row at)))
+    undecided bytes (Some place) e = cc
+    undecided bytes None e = by_fault (fault_in (under assigned) ucd 0 bytes) (not_a_fault ucd sound 0 at (under assigned) bytes) e
+
 -- so what was done for a request did not
 pub never_row : DrivingRefusesNone → CheckingRefusesNone → MeasuringRefusesNone → AreSound ucd → NeverRow
 never_row driving checking measuring sound (Convert form policy) before after found does at = converted ucd sound at before.input after.input before.out after.out found driving form policy does
 never_row driving checking measuring sound (ConvertLines form policy) before after found does at = converted_lines ucd sound at before.input after.input before.out after.out found form policy does
 never_row driving checking measuring sound Check before after found does at = checked ucd sound at before.input after.input before.out after.out found checking does
+never_row driving checking measuring sound (CheckForm form assigned) before after found does at = checked_form sound at before.input after.input before.out after.out found form assigned does
 never_row driving checking measuring sound Measure before after found does at = measured ucd sound at before.input after.input before.out after.out found measuring does
 never_row driving checking measuring sound Test before after found does at = tested ucd sound at before.input after.input before.out after.out found does

@@ -8,11 +8,11 @@ use Rattle.nf_forms.specs.Ucd.{ucd}
 use Rattle.nf_cmd.specs.declared.fault.Fault.{Fault}
 use Rattle.nf_cmd.specs.declared.fault.Fault.TheVariants.{Row, Write, Memory}
 use Rattle.nf_cmd.specs.declared.line.Request.{Request}
-use Rattle.nf_cmd.specs.declared.line.Request.TheVariants.{Convert, ConvertLines, Check, Measure, Test}
+use Rattle.nf_cmd.specs.declared.line.Request.TheVariants.{Convert, ConvertLines, Check, CheckForm, Measure, Test}
 use Rattle.nf_cmd.specs.Line.{Asks, Refuses}
 use Rattle.nf_cmd.specs.Fronts.{AppendsFront}
 use Rattle.nf_cmd.specs.Converts.{Converts, ConvertsLines}
-use Rattle.nf_cmd.specs.Checks.{Checks}
+use Rattle.nf_cmd.specs.Checks.{Checks, ChecksForm}
 use Rattle.nf_cmd.specs.Measures.{Measures}
 use Rattle.nf_cmd.specs.Tests.{Tests}
 use Rattle.nf_cmd.specs.Lines.{line_of, status_of}
@@ -48,7 +48,7 @@ ComesOf OutOfMemory before after status = IsOutOfMemory before after status
 ComesOf DisplayHelp before after status = IsOutOfMemory before after status ⊎ IsHelp before after status
 ComesOf _ before after status = IsOutOfMemory before after status ⊎ IsMistake before after status
 
--- clap refuses the words, and nothing is read
+-- the words are refused, and nothing is read
 pub record IsRefused (words : List Text) (before after : Devices) (status : ℕ) : Type 0 where
   pub kind : ErrorKind
   pub refuses : Refuses words kind
@@ -60,6 +60,7 @@ abbrev pub Does : Request → Devices → Devices → Result ℕ Fault → Type 
 Does (Convert form policy) before after found = Converts form policy ucd before.input after.input before.out after.out found
 Does (ConvertLines form policy) before after found = ConvertsLines form policy ucd before.input after.input before.out after.out found
 Does Check before after found = Checks ucd before.input after.input before.out after.out found
+Does (CheckForm form assigned) before after found = ChecksForm form assigned before.input after.input before.out after.out found
 Does Measure before after found = Measures ucd before.input after.input before.out after.out found
 Does Test before after found = Tests ucd before.input after.input before.out after.out found
 
@@ -77,6 +78,6 @@ pub record IsDone (words : List Text) (before after : Devices) (status : ℕ) : 
   pub sound : (at : ℕ) → ¬ (found ≡ Err (Row at))
   pub ends : EndsWith before after found status
 
--- memory ran out over the words, or clap refuses them, or what they ask for was done
+-- memory ran out over the words, or they are refused, or what they ask for was done
 abbrev pub Answers : List Text → Devices → Devices → ℕ → Type 0
 Answers words before after status = IsOutOfMemory before after status ⊎ (IsRefused words before after status ⊎ IsDone words before after status)

@@ -1,6 +1,6 @@
 -- The command line, in clap's words for a simple command.
 use Rattle.std.specs.Prelude.{◌≡◌, ◌⊎◌, List, [], ◌∷◌, Option, Some, None, true, false, codes, if◌then◌else◌, bytes_eq}
-use Rattle.std.specs.Prelude.{Bool, option_and_then, option_map}
+use Rattle.std.specs.Prelude.{Bool, ◌&&◌, not, is_some, option_and_then, option_map}
 use Rattle.std.specs.Option.{option_map_or}
 use Rattle.std.specs.Borrow.{Bor}
 use Rattle.clap.specs.Words.{App, Row, Rule, Text, first_of, new_app, new_rule, one_of, subcommand_of, takes}
@@ -10,12 +10,12 @@ use Rattle.clap.specs.Walk.{texts}
 use Rattle.clap.specs.declared.builder.action.ArgAction.TheVariants.{SetTrue}
 use Rattle.clap.specs.declared.builder.value_parser.ValueParser.TheVariants.{Names}
 use Rattle.clap.specs.declared.error.kind.ErrorKind.{ErrorKind}
-use Rattle.clap.specs.declared.error.kind.ErrorKind.TheVariants.{OutOfMemory}
+use Rattle.clap.specs.declared.error.kind.ErrorKind.TheVariants.{MissingRequiredArgument, OutOfMemory}
 use Rattle.nf_forms.specs.declared.form.Form.{Form}
 use Rattle.nf_forms.specs.declared.form.Form.TheVariants.{Nfc, Nfd, Nfkc, Nfkd}
 use Rattle.nf_filter.specs.declared.policy.Policy.{Policy}
 use Rattle.nf_cmd.specs.declared.line.Request.{Request}
-use Rattle.nf_cmd.specs.declared.line.Request.TheVariants.{Convert, ConvertLines, Check, Measure, Test}
+use Rattle.nf_cmd.specs.declared.line.Request.TheVariants.{Convert, ConvertLines, Check, CheckForm, Measure, Test}
 
 -- the values of --form
 abbrev pub form_names : List Text
@@ -28,13 +28,13 @@ form_named name =
     else (if bytes_eq name (codes "nfkc") then Some Nfkc
     else (if bytes_eq name (codes "nfkd") then Some Nfkd else None)))
 
--- the option --form, which has to be there and takes one of the names
-unfoldable pub form_rule : Bor (List (Bor Text)) → Rule
-form_rule names = record (new_rule (codes "form")) {
+-- the option --form, which takes one of the names, and has to be there or not
+unfoldable pub form_rule : Bor (List (Bor Text)) → Bool → Rule
+form_rule names required = record (new_rule (codes "form")) {
   long = Some (codes "form");
   value_names = 1;
   parser = Some (Names names);
-  required = true;
+  required = required;
 }
 
 -- a flag, which may be there once and takes nothing
@@ -44,10 +44,16 @@ flag_rule name = record (new_rule name) { long = Some name; action = Some SetTru
 -- `convert --form F`, with the flags --replace, --assigned and --line-buffered
 unfoldable pub convert : Bor (List (Bor Text)) → App
 convert names =
-    with_rule (with_rule (with_rule (with_rule (new_app (codes "convert")) (form_rule names))
+    with_rule (with_rule (with_rule (with_rule (new_app (codes "convert")) (form_rule names true))
     (flag_rule (codes "replace")))
     (flag_rule (codes "assigned")))
     (flag_rule (codes "line-buffered"))
+
+-- `check`, with the option --form and the flag --assigned
+unfoldable pub check : Bor (List (Bor Text)) → App
+check names =
+    with_rule (with_rule (new_app (codes "check")) (form_rule names false))
+    (flag_rule (codes "assigned"))
 
 -- the program's line: one of the subcommands
 unfoldable pub line : Bor (List (Bor Text)) → App
@@ -55,21 +61,13 @@ line names =
     with_subcommand (with_subcommand (with_subcommand (with_subcommand
     (on_top (λ s. record s { subcommand_required = true }) (new_app (codes "nfstream")))
     (convert names).top)
-    (new_app (codes "check")).top)
+    (check names).top)
     (new_app (codes "measure")).top)
     (new_app (codes "test")).top
 
 -- a is the program's line, where the names are those of the forms
 abbrev pub IsLine : App → Type 0
 IsLine a = (names : Bor (List (Bor Text))) × (texts names.now ≡ form_names) × (a ≡ line names)
-
--- a is `convert`, where the names are those of the forms
-abbrev pub IsConvert : App → Type 0
-IsConvert a = (names : Bor (List (Bor Text))) × (texts names.now ≡ form_names) × (a ≡ convert names)
-
--- r is the option --form
-abbrev pub IsFormRule : Rule → Type 0
-IsFormRule r = (names : Bor (List (Bor Text))) × (texts names.now ≡ form_names) × (r ≡ form_rule names)
 
 -- whether the words have the flag, by what was found for the options
 abbrev pub is_set : Text → List Row → Bool
@@ -84,11 +82,16 @@ policy_of rows =
 abbrev pub conversion : Form → Policy → Bool → Request
 conversion f policy lines = if lines then ConvertLines f policy else Convert f policy
 
+-- `check`, of a form where one is named; without a form it refuses no character that is not assigned
+abbrev pub checking : Option Text → Bool → Option Request
+checking None assigned = if assigned then None else Some Check
+checking (Some name) assigned = option_map (λ f. CheckForm f assigned) (form_named name)
+
 -- what a subcommand asks for, by its name, the value of --form, the policy and the flag --line-buffered
 abbrev pub request_by : Text → Option Text → Policy → Bool → Option Request
 request_by name form policy lines =
     if bytes_eq name (codes "convert") then option_map (λ f. conversion f policy lines) (option_and_then form_named form)
-    else (if bytes_eq name (codes "check") then Some Check
+    else (if bytes_eq name (codes "check") then checking form policy.assigned
     else (if bytes_eq name (codes "measure") then Some Measure
     else (if bytes_eq name (codes "test") then Some Test else None)))
 
@@ -105,16 +108,33 @@ pub record Asks (words : List Text) (r : Request) : Type 0 where
   pub request : request_of (subcommand_of app words) ≡ Some r
 
 -- clap's definition of a simple command refuses the words, by an error of this kind
-pub record Refuses (words : List Text) (k : ErrorKind) : Type 0 where
+pub record ClapRefuses (words : List Text) (k : ErrorKind) : Type 0 where
   pub app : App
   pub is_line : IsLine app
   pub refused : takes app words ≡ false
   pub kind : IsAmong k (fault_of app words)
 
--- clap refuses the words
+-- `check` with the flag --assigned and without the option --form
+abbrev pub lacks_form : Option (Text × List Row) → Bool
+lacks_form None = false
+lacks_form (Some p) = bytes_eq p.0 (codes "check") && (is_set (codes "assigned") p.1 && not (is_some (first_of (codes "form") p.1)))
+
+-- clap finds no fault with the words, and they are that
+pub record LacksForm (words : List Text) (k : ErrorKind) : Type 0 where
+  pub app : App
+  pub is_line : IsLine app
+  pub faultless : fault_of app words ≡ []
+  pub lacks : lacks_form (subcommand_of app words) ≡ true
+  pub kind : k ≡ MissingRequiredArgument
+
+-- the words are refused, by an error of this kind
+abbrev pub Refuses : List Text → ErrorKind → Type 0
+Refuses words k = ClapRefuses words k ⊎ LacksForm words k
+
+-- they are refused
 abbrev pub IsRefused : List Text → Type 0
 IsRefused words = (k : ErrorKind) × Refuses words k
 
--- memory ran out, or clap refuses the words
+-- memory ran out, or the words are refused
 abbrev pub IsRefusal : List Text → ErrorKind → Type 0
 IsRefusal words k = (k ≡ OutOfMemory) ⊎ Refuses words k

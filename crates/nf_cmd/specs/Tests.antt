@@ -2,8 +2,6 @@
 use Rattle.std.specs.Prelude.{◌≡◌, ◌⊎◌, ℕ, Bool, true, ◌&&◌, ◌==◌, List, [], ◌∷◌, ◌++◌, Option, Some, None, Result, Ok, Err, if◌then◌else◌, codes, decimal}
 use Rattle.std.specs.Io.KnownBytes.{Appends}
 use Rattle.nf_forms.specs.Properties.{Properties}
-use Rattle.nf_forms.specs.declared.form.Form.{Form}
-use Rattle.nf_forms.specs.declared.form.Form.TheVariants.{Nfc, Nfd, Nfkc, Nfkd}
 use Rattle.nf_filter.specs.Devices.{SourceState}
 use Rattle.nf_vectors.specs.declared.fault.VectorFault.{VectorFault}
 use Rattle.nf_vectors.specs.declared.report.Failure.{Failure}
@@ -18,13 +16,7 @@ use Rattle.nf_cmd.specs.declared.fault.Fault.TheVariants.{Write, Memory}
 use Rattle.nf_cmd.specs.declared.test.Finding.{Finding}
 use Rattle.nf_cmd.specs.Faults.{told_of_file}
 use Rattle.nf_cmd.specs.Fronts.{AppendsFront}
-use Rattle.nf_cmd.specs.Text.{code_digits, line}
-
-abbrev pub name_of : Form → List ℕ
-name_of Nfc = codes "nfc"
-name_of Nfd = codes "nfd"
-name_of Nfkc = codes "nfkc"
-name_of Nfkd = codes "nfkd"
+use Rattle.nf_cmd.specs.Text.{code_digits, line, name_of}
 
 abbrev pub column_end : ℕ → List ℕ
 column_end column = codes " column " ++ (decimal column ++ 10 ∷ [])

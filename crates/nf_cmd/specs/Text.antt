@@ -1,10 +1,19 @@
 -- What lines are made of.
-use Rattle.std.specs.Prelude.{ℕ, ◌/◌, ◌%◌, ◌-◌, true, List, [], ◌∷◌, ◌++◌, length, nat_lt, decimal, replicate, if◌then◌else◌}
+use Rattle.std.specs.Prelude.{ℕ, ◌/◌, ◌%◌, ◌-◌, true, List, [], ◌∷◌, ◌++◌, length, nat_lt, codes, decimal, replicate, if◌then◌else◌}
 use Rattle.std.specs.Fmt.{digit_glyph, digits}
+use Rattle.nf_forms.specs.declared.form.Form.{Form}
+use Rattle.nf_forms.specs.declared.form.Form.TheVariants.{Nfc, Nfd, Nfkc, Nfkd}
 
 -- a line of a name and a number
 abbrev pub line : List ℕ → ℕ → List ℕ
 line name number = name ++ (32 ∷ (decimal number ++ 10 ∷ []))
+
+-- the name of a form
+abbrev pub name_of : Form → List ℕ
+name_of Nfc = codes "nfc"
+name_of Nfd = codes "nfd"
+name_of Nfkc = codes "nfkc"
+name_of Nfkd = codes "nfkd"
 
 -- a code point in upper case hexadecimal digits, with zeros before them up to four (The Unicode Standard, appendix A)
 unfoldable pub code_digits : ℕ → List ℕ

@@ -1,17 +1,21 @@
 //! `check`.
-ghost use Rattle.std.specs.Prelude.{◌≡◌, IfErr};
+ghost use Rattle.std.specs.Prelude.{◌≡◌, ◌⊎◌, ◌≤◌, length};
+ghost use Rattle.std.specs.Io.KnownBytes.{Appends};
 ghost use Rattle.nf_forms.specs.Ucd.{ucd};
-ghost use Rattle.nf_filter.specs.Surveys.{IsOfSurvey};
+ghost use Rattle.nf_filter.specs.declared.fault.Fault.TheVariants.{Spent};
 ghost use Rattle.nf_filter.specs.Checks.{check_decision, no_place};
+ghost use Rattle.nf_normalized.specs.Change.{form_decision, form_value};
+ghost use Rattle.nf_cmd.specs.Fronts.{AppendsFront};
 ghost use Rattle.nf_cmd.specs.Surveys.{Surveyed};
-ghost use Rattle.nf_cmd.specs.Checks.{Checks, check_line};
+ghost use Rattle.nf_cmd.specs.Checks.{Checks, ChecksForm, check_end, check_line};
 
 use crate::BUFFER;
 use crate::fault::Fault;
-use crate::lines::Lines;
+use crate::lines::{Lines, form_name};
 use crate::writing::write_whole;
 use nf_filter::{LentReader, check_buffered};
-use nf_row::Ucd;
+use nf_normalized::check_form_buffered;
+use nf_row::{Form, Ucd};
 use nf_safe::Place;
 use std::io::{Read, Write};
 
@@ -21,7 +25,59 @@ pub(crate) fn check<I: Read, O: Write>(input: &mut I, out: &mut O) -> Result<u8,
     ensures { Checks ucd (I.remaining input.old) (I.remaining input.new) (O.contents out.old) (O.contents out.new) result }
 {
     let answer = answer(input);
-    if write_whole(out, lines(answer).as_slice()).is_err() {
+    tell("stream-safe", answer, out)
+}
+
+/// Says whether it is stream-safe and in this form, and where it is not.
+pub(crate) fn check_form<I: Read, O: Write>(
+    form: Form,
+    assigned: bool,
+    input: &mut I,
+    out: &mut O,
+) -> Result<u8, Fault>
+    ensures { ChecksForm form assigned (I.remaining input.old) (I.remaining input.new) (O.contents out.old) (O.contents out.new) result }
+{
+    let answer = form_answer(form, assigned, input);
+    tell(form_name(form), answer, out)
+}
+
+// What the library answers over the reader.
+fn answer<I: Read>(input: &mut I) -> Result<Option<Place>, nf_filter::Fault>
+    ensures unspent { ¬ (result ≡ Err Spent) }
+    ensures surveyed { Surveyed (check_decision ucd 0) no_place (I.remaining input.old) (I.remaining input.new) result }
+{
+    let mut source = LentReader::new(input);
+    let mut buffer = [0; BUFFER];
+    check_buffered(&Ucd, 0, &mut source, &mut buffer)
+}
+
+// The same of a form.
+fn form_answer<I: Read>(
+    form: Form,
+    assigned: bool,
+    input: &mut I,
+) -> Result<Option<Place>, nf_filter::Fault>
+    ensures unspent { ¬ (result ≡ Err Spent) }
+    ensures surveyed { Surveyed (form_decision assigned form 0) (form_value form 0) (I.remaining input.old) (I.remaining input.new) result }
+{
+    let mut source = LentReader::new(input);
+    let mut buffer = [0; BUFFER];
+    check_form_buffered(form, assigned, 0, &mut source, &mut buffer)
+}
+
+// Writes the line of that answer, and ends by it.
+fn tell<O: Write>(
+    so: &str,
+    answer: Result<Option<Place>, nf_filter::Fault>,
+    out: &mut O,
+) -> Result<u8, Fault>
+    requires short { length so.now ≤ 11 }
+    requires unspent { ¬ (answer ≡ Err Spent) }
+    ensures front { AppendsFront (O.contents out.old) (O.contents out.new) (check_line so.now answer) }
+    ensures output { ¬ (result ≡ Err Fault.Write) → Appends (O.contents out.old) (O.contents out.new) (check_line so.now answer) }
+    ensures found { (Some result ≡ check_end answer) ⊎ (result ≡ Err Fault.Write) }
+{
+    if write_whole(out, lines(so, answer).as_slice()).is_err() {
         return Err(Fault::Write);
     }
     match answer {
@@ -31,30 +87,24 @@ pub(crate) fn check<I: Read, O: Write>(input: &mut I, out: &mut O) -> Result<u8,
     }
 }
 
-// What the library answers over the reader.
-fn answer<I: Read>(input: &mut I) -> Result<Option<Place>, nf_filter::Fault>
-    ensures faults { IfErr result IsOfSurvey }
-    ensures surveyed { Surveyed (check_decision ucd 0) no_place (I.remaining input.old) (I.remaining input.new) result }
-{
-    let mut source = LentReader::new(input);
-    let mut buffer = [0; BUFFER];
-    check_buffered(&Ucd, 0, &mut source, &mut buffer)
-}
-
-// The line that says so, and none where the input was refused.
-fn lines(answer: Result<Option<Place>, nf_filter::Fault>) -> Lines
-    ensures { result.bytes.items ≡ check_line answer }
+// The line that says whether it is so, and none where the input was refused.
+fn lines(so: &str, answer: Result<Option<Place>, nf_filter::Fault>) -> Lines
+    requires { length so.now ≤ 11 }
+    ensures { result.bytes.items ≡ check_line so.now answer }
 {
     let mut lines = Lines::new();
     let Ok(found) = answer else {
         return lines;
     };
     let Some(place) = found else {
-        lines.text("stream-safe\n");
+        lines.text(so);
+        lines.text("\n");
         return lines;
     };
     let Place { chars, bytes } = place;
-    lines.text("not stream-safe at character ");
+    lines.text("not ");
+    lines.text(so);
+    lines.text(" at character ");
     lines.number(chars as u128);
     lines.text(" byte ");
     lines.number(bytes as u128);

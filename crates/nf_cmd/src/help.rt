@@ -32,14 +32,17 @@ Status:
 pub(crate) const CHECK: &str = "\
 Reads UTF-8 from standard input, and writes one line to standard output: stream-safe, or the first
 place that is not, as a character and a byte counted from 0. There convert would put U+034F.
+With --form it says whether convert would leave the text as it is: the name of the form, or the
+place of the first character that convert would change.
 
   nfstream check < FILE
+  nfstream check --form nfc < FILE
 
 Status:
-  0  the text is stream-safe
+  0  the text is stream-safe; with --form, and in that form
   1  it is not
   2  the command line is refused
-  3  the input is no UTF-8 before such a place: standard error says at which byte
+  3  the input is refused before such a place: standard error says why, and at which byte
   4  a read or a write failed
   6  the input is longer than 2^64 - 1 bytes";
 

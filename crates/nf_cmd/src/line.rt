@@ -3,10 +3,11 @@ ghost use Rattle.std.specs.Prelude.{◌≡◌, IfErr, IfOk, false, option_map};
 ghost use Rattle.clap.specs.Words.{app_of, found_of, kind_of, new_app, rows_of, rule_of, subcommand_rows_of};
 ghost use Rattle.clap.specs.declared.builder.command.Command.TheViews.{out-Command};
 ghost use Rattle.clap.specs.Walk.{texts};
-ghost use Rattle.nf_cmd.specs.Line.{Asks, IsConvert, IsFormRule, IsLine, IsRefusal, flag_rule, form_named, is_set};
-ghost use Rattle.nf_cmd.specs.Line.{conversion, policy_of, request_by, request_of};
+ghost use Rattle.nf_cmd.specs.Line.{Asks, IsLine, IsRefusal, check, convert, flag_rule, form_named, form_rule, is_set};
+ghost use Rattle.nf_cmd.specs.Line.{checking, conversion, policy_of, request_by, request_of};
 
 use crate::help;
+use clap::error::ErrorKind;
 use clap::{Arg, ArgAction, ArgMatches, Command, Error};
 use nf_filter::Policy;
 use nf_row::Form;
@@ -21,6 +22,9 @@ pub(crate) enum Request {
     ConvertLines(Form, Policy),
     /// `check`: whether the text is stream-safe, and where it is not.
     Check,
+    /// `check --form`: whether the form leaves the text as it is, and where it does not; and whether a character that is not
+    /// assigned is a fault.
+    CheckForm(Form, bool),
     /// `measure`: what is measured of the text.
     Measure,
     /// `test`: what the rows of a vector file come to.
@@ -35,20 +39,29 @@ pub(crate) fn parse<'w>(alloc: Global, words: &'w [&'w str]) -> Result<Request, 
     ensures refused { IfErr result (λ e. IsRefusal (texts words.entry.now) (kind_of e)) }
 {
     let matches = line(alloc)?.try_get_matches_from(words)?;
-    Ok(requested(&matches).unwrap())
+    match requested(&matches) {
+        Some(request) => Ok(request),
+        None => Err(form_is_missing(alloc)?),
+    }
+}
+
+// What clap says of an option that is not there. Of a line in which one option requires another clap does not say which words
+// it refuses, so that `check --assigned` wants `--form` is no part of the line.
+fn form_is_missing(alloc: Global) -> Result<Error, AllocError>
+    ensures { IfOk result (λ e. kind_of e ≡ ErrorKind.MissingRequiredArgument) }
+{
+    let mut check = check(alloc, FORMS.as_slice())?;
+    check.error(
+        ErrorKind::MissingRequiredArgument,
+        "the following required arguments were not provided:\n  --form <FORM>",
+    )
 }
 
 // The line that the program takes.
 fn line<'w>(alloc: Global) -> Result<Command<'w>, AllocError>
     ensures { IfOk result (λ c. IsLine (app_of c)) }
 {
-    let check = plain(
-        alloc,
-        "check",
-        "nfstream check < FILE",
-        "Says whether the text is in the Stream-Safe Text Format, and where it is not",
-        help::CHECK,
-    );
+    let names = FORMS.as_slice();
     let measure = plain(
         alloc,
         "measure",
@@ -68,14 +81,14 @@ fn line<'w>(alloc: Global) -> Result<Command<'w>, AllocError>
         .about("Makes UTF-8 text on standard input stream-safe, normalizes it, and measures it")
         .after_help(help::PROGRAM)
         .subcommand_required(true)
-        .subcommand(convert(alloc)?)?;
-    let line = line.subcommand(check)?;
+        .subcommand(convert(alloc, names)?)?;
+    let line = line.subcommand(check(alloc, names)?)?;
     let line = line.subcommand(measure)?;
     line.subcommand(test)
 }
 
-fn convert<'w>(alloc: Global) -> Result<Command<'w>, AllocError>
-    ensures shape { IfOk result (λ c. IsConvert (app_of c)) }
+fn convert<'w>(alloc: Global, names: &'w [&'w str]) -> Result<Command<'w>, AllocError>
+    ensures shape { IfOk result (λ c. app_of c ≡ convert names.entry) }
     ensures local { IfOk result (λ c. (out-Command c).has_globals ≡ false) }
 {
     let convert = plain(
@@ -85,7 +98,12 @@ fn convert<'w>(alloc: Global) -> Result<Command<'w>, AllocError>
         "Writes the normalization form of the stream-safe text",
         help::CONVERT,
     );
-    let convert = convert.arg(form(alloc))?;
+    let convert = convert.arg(form(
+        alloc,
+        names,
+        true,
+        "The normalization form to write, in lower case",
+    ))?;
     let convert = convert.arg(flag(
         alloc,
         "replace",
@@ -100,6 +118,30 @@ fn convert<'w>(alloc: Global) -> Result<Command<'w>, AllocError>
         alloc,
         "line-buffered",
         "Writes each line whole as soon as its line feed is read",
+    ))
+}
+
+fn check<'w>(alloc: Global, names: &'w [&'w str]) -> Result<Command<'w>, AllocError>
+    ensures shape { IfOk result (λ c. app_of c ≡ check names.entry) }
+    ensures local { IfOk result (λ c. (out-Command c).has_globals ≡ false) }
+{
+    let check = plain(
+        alloc,
+        "check",
+        "nfstream check [--form <FORM> [--assigned]] < FILE",
+        "Says whether the text is in the Stream-Safe Text Format or in a form, and where it is not",
+        help::CHECK,
+    );
+    let check = check.arg(form(
+        alloc,
+        names,
+        false,
+        "The normalization form that the text is to be in, in lower case",
+    ))?;
+    check.arg(flag(
+        alloc,
+        "assigned",
+        "Refuses characters that Unicode has not assigned; needs --form",
     ))
 }
 
@@ -120,16 +162,16 @@ fn plain<'w>(
         .after_help(notes)
 }
 
-fn form<'w>(alloc: Global) -> Arg<'w>
-    ensures rule { IsFormRule (rule_of result) }
+fn form<'w>(alloc: Global, names: &'w [&'w str], required: bool, about: &'w str) -> Arg<'w>
+    ensures rule { rule_of result ≡ form_rule names.entry required }
     ensures local { result.global ≡ false }
 {
     Arg::new(alloc, "form")
         .long("form")
         .value_name("FORM")
-        .value_parser(FORMS.as_slice())
-        .required(true)
-        .help("The normalization form to write, in lower case")
+        .value_parser(names)
+        .required(required)
+        .help(about)
 }
 
 fn flag<'w>(alloc: Global, name: &'w str, about: &'w str) -> Arg<'w>
@@ -156,7 +198,7 @@ fn request_by(name: &str, form: Option<&str>, policy: Policy, lines: bool) -> Op
 {
     match name {
         "convert" => Some(conversion(form_named(form?)?, policy, lines)),
-        "check" => Some(Request::Check),
+        "check" => checking(form, policy.assigned),
         "measure" => Some(Request::Measure),
         "test" => Some(Request::Test),
         _ => None,
@@ -170,6 +212,17 @@ fn conversion(form: Form, policy: Policy, lines: bool) -> Request
         Request::ConvertLines(form, policy)
     } else {
         Request::Convert(form, policy)
+    }
+}
+
+// `check --assigned` asks for nothing without a form.
+fn checking(form: Option<&str>, assigned: bool) -> Option<Request>
+    ensures { result ≡ checking (option_map (λ s. s.now) form.entry) assigned }
+{
+    match form {
+        Some(name) => Some(Request::CheckForm(form_named(name)?, assigned)),
+        None if assigned => None,
+        None => Some(Request::Check),
     }
 }
 

@@ -1,10 +1,11 @@
 //! The lines that a run writes on its output, gathered so that they go out at once.
 ghost use Rattle.std.specs.Prelude.{◌≡◌, ◌+◌, ◌%◌, ◌≤◌, ◌++◌, [], true, length, decimal};
 ghost use Rattle.std.specs.Fmt.{digit_glyph};
-ghost use Rattle.nf_cmd.specs.Text.{code_digits, line, six_digits, zeros_before};
+ghost use Rattle.nf_cmd.specs.Text.{code_digits, line, name_of, six_digits, zeros_before};
 
 use arrayvec::ArrayVec;
 use itoa::Buffer;
+use nf_row::Form;
 
 /// What the lines of a run may take, in bytes: more than any of the program do.
 const ROOM: usize = 512;
@@ -67,6 +68,19 @@ impl Lines {
         ensures { result.now ≡ self.now.bytes.items }
     {
         self.bytes.as_slice()
+    }
+}
+
+/// The name of a form.
+pub(crate) fn form_name(form: Form) -> &'static str
+    ensures name { result.now ≡ name_of form }
+    ensures len { length result.now ≤ 4 }
+{
+    match form {
+        Form::Nfc => "nfc",
+        Form::Nfd => "nfd",
+        Form::Nfkc => "nfkc",
+        Form::Nfkd => "nfkd",
     }
 }
 

@@ -9,7 +9,7 @@ ghost use Rattle.nf_cmd.specs.Again.{ConvertsOnce, EachConvertsOnce};
 ghost use Rattle.nf_cmd.specs.Fronts.{AppendsFront};
 
 use crate::by_lines::convert_lines;
-use crate::check::check;
+use crate::check::{check, check_form};
 use crate::convert::convert;
 use crate::fault::Fault;
 use crate::line::{Request, parse};
@@ -42,7 +42,8 @@ pub fn command<'w, I: Read, O: Write, E: Write>(
         (record { input = I.remaining input.new; out = O.contents out.new; err = E.contents err.new })
         result }
 
-    // The command line is to blame only where clap's definition of it refuses the words.
+    // The command line is to blame only where clap's definition of it refuses the words, or `--assigned` stands there without
+    // the form that it needs.
     ensures refused { result ≡ 2 → Refused (texts words.entry.now) }
 
     // A second run changes nothing of what `convert` wrote, with `--line-buffered` or without it.
@@ -59,6 +60,9 @@ pub fn command<'w, I: Read, O: Write, E: Write>(
             report(convert_lines(form, policy, input, out), err)
         }
         Ok(Request::Check) => report(check(input, out), err),
+        Ok(Request::CheckForm(form, assigned)) => {
+            report(check_form(form, assigned, input, out), err)
+        }
         Ok(Request::Measure) => report(measure(input, out), err),
         Ok(Request::Test) => report(test(alloc, input, out), err),
         Err(error) => refuse(alloc, &error, out, err),

@@ -1,13 +1,13 @@
 //! `test`.
 ghost use Rattle.std.specs.Prelude.{◌≡◌, ◌+◌, ◌≤◌, ◌++◌, length};
 ghost use Rattle.nf_forms.specs.Ucd.{ucd};
-ghost use Rattle.nf_cmd.specs.Tests.{Tests, Reads, Finds, finding_of, finding_lines, finding_end, column_end, failure_lines, sweep_lines, first_lines, name_of};
+ghost use Rattle.nf_cmd.specs.Tests.{Tests, Reads, Finds, finding_of, finding_lines, finding_end, column_end, failure_lines, sweep_lines, first_lines};
 
 use crate::fault::Fault;
-use crate::lines::Lines;
+use crate::lines::{Lines, form_name};
 use crate::writing::write_whole;
 use nf_filter::LentReader;
-use nf_row::{Form, Ucd};
+use nf_row::Ucd;
 use nf_vectors::{Failure, Memory, Report, Suite, Sweep, VectorFault};
 use std::alloc::Global;
 use std::io::{Read, Write};
@@ -113,7 +113,7 @@ fn push_failure(lines: &mut Lines, failure: Option<Failure>)
     lines.text("first failure line ");
     lines.number(line as u128);
     lines.text(" form ");
-    lines.text(name(form));
+    lines.text(form_name(form));
     push_column(lines, column);
 }
 
@@ -125,18 +125,6 @@ fn push_column(lines: &mut Lines, column: u8)
     lines.text(" column ");
     lines.number(column as u128);
     lines.text("\n");
-}
-
-fn name(form: Form) -> &'static str
-    ensures name { result.now ≡ name_of form }
-    ensures len { length result.now ≤ 4 }
-{
-    match form {
-        Form::Nfc => "nfc",
-        Form::Nfd => "nfd",
-        Form::Nfkc => "nfkc",
-        Form::Nfkd => "nfkd",
-    }
 }
 
 // The lines of the sweep, where there was one.

@@ -3,6 +3,7 @@ ghost use Rattle.std.specs.Prelude.{◌<◌, length};
 
 mod by_lines;
 mod check;
+mod check_form;
 mod convert;
 mod devices;
 mod endings;
@@ -23,6 +24,8 @@ use std::process::Abort;
 const FORMS: [&str; 4] = ["nfc", "nfd", "nfkc", "nfkd"];
 
 const CHECK: [&str; 2] = ["nfstream", "check"];
+
+const CHECK_NFC: [&str; 4] = ["nfstream", "check", "--form", "nfc"];
 
 const MEASURE: [&str; 2] = ["nfstream", "measure"];
 

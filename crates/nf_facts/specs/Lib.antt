@@ -4,3 +4,4 @@ pub mod Passing
 pub mod Plain
 pub mod PlainRanges
 pub mod LineFeed
+pub mod Within

@@ -246,6 +246,16 @@ impl<'r, R: Rows> Filter<'r, R> {
         }
     }
 
+    /// How many characters it has taken.
+    #[inline]
+    pub fn chars(&self) -> u64
+        ensures { (policy : Policy) (f : Form) (bytes : List ℕ) → StandsAfter policy f (R.properties (rows_of self.now)) (state_of self.now) bytes
+            → result ≡ length (text_under policy.replace bytes) }
+    {
+        laws::replacing();
+        self.state.counted.chars
+    }
+
     /// The offset of the next byte.
     #[inline]
     pub fn offset(&self) -> u64

@@ -16,7 +16,7 @@ use nf_row::Rows;
 use nf_utf8::{Mended, laws, mend_front, mended_text};
 
 impl Reading {
-    ghost use Rattle.std.specs.Prelude.{IfErr, IfOk, OnOk, MatchResult};
+    ghost use Rattle.std.specs.Prelude.{true, IfErr, IfOk, OnOk, MatchResult};
     ghost use Rattle.nf_forms.specs.declared.form.Form.{Form};
     ghost use Rattle.nf_filter.specs.Faults.{IsOfReading};
     ghost use Rattle.nf_filter.specs.Feeding.{ReadsTo, RefusesBytes};
@@ -37,6 +37,7 @@ impl Reading {
     ) -> Result<&'p [u8], Fault>
         requires ready { IsReady (ends_at counted.old) self.old }
         requires fits { self.old.offset + length rest.now ≤ u64.MAX }
+        requires replaces { policy.replace ≡ true }
         ensures ready { OnOk result (IsReady (ends_at counted.new) self.new) }
         ensures goes_on { IfOk result (λ left. (self.new.offset + length left.now ≡ self.old.offset + length rest.now) × (length left.now ≤ length rest.now) × (self.new.decoder ≡ self.old.decoder)) }
         ensures faults { IfErr result IsOfReading }
@@ -47,7 +48,7 @@ impl Reading {
         ensures lender { (S.state sink.new).lender ≡ (S.state sink.old).lender }
     {
         laws::replacing();
-        if !policy.replace || !rows.all_sound() {
+        if !rows.all_sound() {
             return Ok(rest);
         }
         let mut mended = Mended::new();

@@ -5,7 +5,7 @@ ghost use Rattle.std.specs.Prelude.{◌≡◌, ◌+◌, ◌≤◌, ◌<◌, ℕ,
 ghost use Rattle.nf_forms.specs.declared.form.Form.{Form};
 ghost use Rattle.nf_filter.specs.declared.policy.Policy.{Policy};
 ghost use Rattle.nf_c.specs.Feeds.{Feeds};
-ghost use Rattle.nf_c.specs.Checks.{Checks};
+ghost use Rattle.nf_c.specs.Checks.{Checks, ChecksForm, check_form_status};
 ghost use Rattle.nf_c.specs.Converts.{Converts};
 ghost use Rattle.nf_c.specs.Finishes.{Finishes};
 ghost use Rattle.nf_c.specs.State.{CanStand, StandsAfter, form_at, policy_at, unicode};
@@ -91,6 +91,14 @@ pub extern "C" fn nf_check(input: &[u8], moved: &mut Moved) -> u32
     ensures { (told : NfMoved) × Tells told moved.new result × Checks input.now told }
 {
     tell(nf_c::check(input), moved)
+}
+
+#[unsafe(no_mangle)]
+pub extern "C" fn nf_check_form(form: u32, policy: u32, input: &[u8], moved: &mut Moved) -> u32
+    ensures refused { ¬ (check_form_status form policy ≡ Done) → Tells (moved_by (check_form_status form policy) 0 0) moved.new result }
+    ensures checks { check_form_status form policy ≡ Done → (told : NfMoved) × Tells told moved.new result × ChecksForm (policy_at policy).assigned (form_at form) input.now told }
+{
+    tell(nf_c::check_form(form, policy, input), moved)
 }
 
 /// The version of these calls.

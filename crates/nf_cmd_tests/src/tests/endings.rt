@@ -2,7 +2,7 @@
 ghost use Rattle.std.specs.Prelude.{◌<◌, length};
 
 use super::devices::{Calls, Writing};
-use super::{CHECK, MEASURE, Parts, TEST, repeated};
+use super::{CHECK, CHECK_NFC, MEASURE, Parts, TEST, repeated};
 use nf_cmd::command;
 use std::alloc::Global;
 use std::io::ErrorKind;
@@ -19,7 +19,7 @@ const NEVER: usize = 1000;
 /// The words and the input of a run; its status, its output and its line where no device fails.
 type Ending<'a> = (&'a [&'a str], Parts<'a>, &'a [u8], u8, &'a str, &'a str);
 
-const ENDINGS: [Ending<'static>; 13] = [
+const ENDINGS: [Ending<'static>; 16] = [
     (&CONVERT, &[("\u{C5}b", 1)], b"", 0, "A\u{30A}b", ""),
     (
         &CONVERT,
@@ -61,6 +61,23 @@ const ENDINGS: [Ending<'static>; 13] = [
         3,
         "",
         "nfstream: input ends at 2 inside a character begun at 0\n",
+    ),
+    (&CHECK_NFC, &[("ab", 1)], b"", 0, "nfc\n", ""),
+    (
+        &CHECK_NFC,
+        &[("\u{212B}", 1)],
+        b"",
+        1,
+        "not nfc at character 0 byte 0\n",
+        "",
+    ),
+    (
+        &CHECK_NFC,
+        &[("\u{212B}", 1)],
+        b"\xFF",
+        3,
+        "",
+        "nfstream: ill-formed byte at 3, character begun at 3\n",
     ),
     (
         &MEASURE,

@@ -2,7 +2,7 @@
 ghost use Rattle.std.specs.Prelude.{◌<◌, length};
 
 use super::devices::{Calls, Reading, Writing};
-use super::{CHECK, Case, MEASURE, TEST, assert_shown, repeated, run};
+use super::{CHECK, CHECK_NFC, Case, MEASURE, TEST, assert_shown, repeated, run};
 use nf_cmd::command;
 use std::alloc::Global;
 use std::io::ErrorKind;
@@ -56,9 +56,10 @@ fn assert_failed_reads(
 
 #[test]
 fn each_read_that_fails_is_told_and_not_tried_again(rt: HostRuntime) {
-    let runs: [(&[&str], &[u8], bool); 4] = [
+    let runs: [(&[&str], &[u8], bool); 5] = [
         (&CONVERT, b"abcdefgh", true),
         (&CHECK, b"abcdefgh", false),
+        (&CHECK_NFC, b"abcdefgh", false),
         (&MEASURE, b"abcdefgh", false),
         (&TEST, ROW, false),
     ];
@@ -75,8 +76,9 @@ fn what_stands_before_a_failed_read_decides(rt: HostRuntime) -> Result<(), Fail>
     let failed = "nfstream: read failed\n";
     let bad = "nfstream: ill-formed byte at 1, character begun at 1\n";
     let place = "not stream-safe at character 31 byte 61\n";
+    let first = "not nfc at character 0 byte 0\n";
     // The read that fails, by its number from 0.
-    let runs: [(&[&str], usize, Case<'_>); 5] = [
+    let runs: [(&[&str], usize, Case<'_>); 8] = [
         (&CONVERT, 2, (&[("ab", 1)], b"\xC3", 4, "a", failed)),
         (&CONVERT, 1, (&[("a", 1)], b"\xFF", 3, "", bad)),
         (&CHECK, 1, (&[("a", 1)], b"\xFF", 3, "", bad)),
@@ -84,6 +86,13 @@ fn what_stands_before_a_failed_read_decides(rt: HostRuntime) -> Result<(), Fail>
             &CHECK,
             32,
             (&[("q", 1), ("\u{301}", 31)], b"", 1, place, ""),
+        ),
+        (&CHECK_NFC, 1, (&[("a", 1)], b"\xFF", 3, "", bad)),
+        (&CHECK_NFC, 2, (&[("\u{212B}b", 1)], b"", 1, first, "")),
+        (
+            &CHECK_NFC,
+            2,
+            (&[("\u{212B}\u{301}", 1)], b"", 4, "", failed),
         ),
         (
             &MEASURE,

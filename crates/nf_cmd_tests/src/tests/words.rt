@@ -4,7 +4,7 @@ use super::{assert_shown, run};
 #[test]
 fn words_that_are_no_command_are_refused(rt: HostRuntime) {
     let alloc = rt.alloc();
-    let mistakes: [&[&str]; 29] = [
+    let mistakes: [&[&str]; 36] = [
         &["nfstream"],
         &["nfstream", "--form", "nfc"],
         &["nfstream", "normalize"],
@@ -43,8 +43,15 @@ fn words_that_are_no_command_are_refused(rt: HostRuntime) {
             "--assigned",
         ],
         &["nfstream", "--replace", "convert", "--form", "nfc"],
-        &["nfstream", "check", "--form", "nfc"],
+        &["nfstream", "check", "--form"],
+        &["nfstream", "check", "--form", "nfx"],
+        &["nfstream", "check", "--form", "nfc", "--form", "nfd"],
+        &["nfstream", "check", "--form", "nfc", "text"],
+        &["nfstream", "check", "--form", "nfc", "--replace"],
+        &["nfstream", "check", "--form", "nfc", "--line-buffered"],
+        &["nfstream", "check", "--replace"],
         &["nfstream", "check", "--assigned"],
+        &["nfstream", "measure", "--form", "nfc"],
         &["nfstream", "check", "text"],
         &["nfstream", "measure", "--base", "1"],
         &["nfstream", "check", "measure"],
@@ -59,6 +66,15 @@ fn words_that_are_no_command_are_refused(rt: HostRuntime) {
         assert!(rt; shown.err.starts_with(b"error: "), "{words:?}");
         assert_eq!(rt; input.len(), 1, "{words:?}");
     }
+}
+
+#[test]
+fn assigned_wants_a_form_to_check(rt: HostRuntime) {
+    let words = ["nfstream", "check", "--assigned"];
+    let shown = run(rt.alloc(), words.as_slice(), &mut b"a".as_slice());
+    let line =
+        "error: the following required arguments were not provided:\n  --form <FORM>\n\nUsage: nfstream check ";
+    assert!(rt; shown.err.starts_with(line.as_bytes()), "{shown:?}");
 }
 
 #[test]
@@ -98,13 +114,19 @@ fn flags_stand_in_any_order(rt: HostRuntime) {
 #[test]
 fn help_goes_to_the_output(rt: HostRuntime) {
     let alloc = rt.alloc();
-    let asked: [(&[&str], &str); 16] = [
+    let asked: [(&[&str], &str); 19] = [
         (&["nfstream", "--help"], "convert"),
         (&["nfstream", "-h"], "convert"),
         (&["nfstream", "help"], "convert"),
         (&["nfstream", "help"], "measure"),
         (&["nfstream", "help", "convert"], "--form <FORM>"),
         (&["nfstream", "check", "--help"], "Stream-Safe Text Format"),
+        (&["nfstream", "check", "--help"], "--form <FORM>"),
+        (&["nfstream", "check", "--help"], "needs --form\n"),
+        (
+            &["nfstream", "help", "check"],
+            "nfstream check --form nfc < FILE",
+        ),
         (&["nfstream", "test", "--help"], "NormalizationTest.txt"),
         (&["nfstream", "--help"], "nfstream check < FILE"),
         (&["nfstream", "convert", "--help"], "from standard input"),

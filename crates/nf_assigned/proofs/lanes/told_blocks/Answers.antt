@@ -10,7 +10,7 @@ loop-at-preserved c =
     record {
       within = omega (arith, c.loop-at-test.true);
       told = elim c.if-is_low.branch [
-        | then-is_low w ↦ low_told bytes at c.loop-at.invariant.told 64 (c.is_low.ensures.first w.if-is_low.true) (c.is_low.ensures.low w.if-is_low.true)
-        | else-is_low w ↦ pairs_told bytes at c.loop-at.invariant.told 64 (w.is_told.ensures (sym w.value-is ∙ c.if-is_told.true))
+        | then-is_low w ↦ let low = c.is_low.ensures.0 w.if-is_low.true in low_told bytes at c.loop-at.invariant.told 64 (omega arith) low.0 low.1
+        | else-is_low w ↦ pairs_told bytes at c.loop-at.invariant.told 64 (w.is_told.ensures.0 (sym w.value-is ∙ c.if-is_told.true))
       ];
     }

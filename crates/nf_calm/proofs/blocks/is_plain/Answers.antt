@@ -1,22 +1,7 @@
-use Rattle.std.proofs.Common.{◌+◌, ⊎_elim, eqb-true, arith, get_or}
-use Rattle.std.proofs.lemmas.Bool.{and_parts}
-use Rattle.std.proofs.str.Laws.{order}
+use Rattle.std.proofs.Common.{get_or}
 use Rattle.nf_calm.specs.Leads.{wants_look}
-use Rattle.nf_calm.proofs.LanesLemmas.{none_set}
 use Rattle.nf_calm.proofs.blocks.is_plain.Goals as goal
 
 pub returns : goal.returns
-returns c none k low high =
-    let at = c.args.at in
-    let three = and_parts _ _ none in
-    let two = and_parts _ _ three.0 in
-    let one = and_parts _ _ two.0 in
-    ⊎_elim (λ first. none_set (λ n. wants_look c.args.form (get_or c.args.bytes.now n 0)) at c.looks.result c.looks.ensures (eqb-true _ 0 one.0) k low first)
-    (λ more.
-    ⊎_elim (λ second. none_set (λ n. wants_look c.args.form (get_or c.args.bytes.now n 0)) (at + 16) c.looks-2.result c.looks-2.ensures (eqb-true _ 0 one.1) k more (omega arith))
-    (λ more'.
-    ⊎_elim (λ third. none_set (λ n. wants_look c.args.form (get_or c.args.bytes.now n 0)) (at + 32) c.looks-3.result c.looks-3.ensures (eqb-true _ 0 two.1) k more' (omega arith))
-    (λ last. none_set (λ n. wants_look c.args.form (get_or c.args.bytes.now n 0)) (at + 48) c.looks-4.result c.looks-4.ensures (eqb-true _ 0 three.1) k last (omega arith))
-    (order k (at + 48)))
-    (order k (at + 32)))
-    (order k (at + 16))
+returns c =
+    c.none_of.ensures (λ k. wants_look c.args.form (get_or c.args.bytes.now k 0)) c.args.at c.looks.ensures c.looks-2.ensures c.looks-3.ensures c.looks-4.ensures

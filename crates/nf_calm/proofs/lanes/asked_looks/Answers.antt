@@ -1,6 +1,7 @@
 use Rattle.std.proofs.Common.{rules, ◌≡◌, ◌+◌, ◌==◌, false, map, slice_index, ap, ◌∙◌}
 use Rattle.std.specs.Simd.Lanes.{mask_l}
-use Rattle.nf_calm.specs.Closer.{places, wants_triple, triples_of, asked_of}
+use Rattle.nf_lanes.specs.Lanes.{places}
+use Rattle.nf_calm.specs.Closer.{wants_triple}
 use Rattle.nf_calm.proofs.LookLemmas.{asked_of-others}
 use Rattle.nf_calm.proofs.lanes.asked_looks.Goals as goal
 

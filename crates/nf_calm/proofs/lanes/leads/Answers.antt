@@ -1,9 +1,8 @@
-use Rattle.std.proofs.Common.{map, get_or, bit_and, ap, ◌∙◌}
-use Rattle.std.proofs.lemmas.Simd.{zip2_of_maps}
-use Rattle.nf_calm.specs.Leads.{row_of, column_of}
+use Rattle.std.proofs.Common.{map, get_or, ap, ◌∙◌}
+use Rattle.nf_lanes.specs.Lanes.{places}
+use Rattle.nf_lanes.specs.Sets.{byte_sets}
+use Rattle.nf_calm.specs.declared.leads.TheConstants.{ROWS}
 use Rattle.nf_calm.proofs.lanes.leads.Goals as goal
 
 pub returns : goal.returns
-returns c =
-    zip2_of_maps bit_and row_of (column_of c.args.form) c.args.lanes c.by_high-rows.ensures
-    (c.by_low-columns.ensures ∙ ap (λ t. map (λ b. get_or t (bit_and b 15) 0) c.args.lanes) c.columns.ensures)
+returns c = c.byte_sets.ensures ∙ ap (λ t. map (λ k. byte_sets ROWS t (get_or c.args.bytes.now k 0)) (places c.args.at)) c.columns.ensures

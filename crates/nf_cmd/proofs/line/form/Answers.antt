@@ -5,4 +5,4 @@ pub returns-clause-rule : goal.returns-clause-rule
 unfolding form_rule
 returns-clause-rule c =
     let given = c.value_parser.ensures.given in
-    (c.as_slice.result, search rules, search (rules, given.1, given.2))
+    search (rules, given.1, given.2)

@@ -1,4 +1,4 @@
-use Rattle.nf_cmd.proofs.Common.{subst, Keeps-refl, Convert, ConvertLines, Check, Measure, Test, Asks}
+use Rattle.nf_cmd.proofs.Common.{subst, Keeps-refl, Convert, ConvertLines, Check, CheckForm, Measure, Test, Asks}
 use Rattle.nf_cmd.proofs.AnswerLemmas.{done_answers, refused_answers, refused_by}
 use Rattle.nf_cmd.proofs.program.command.Goals as goal
 
@@ -23,6 +23,11 @@ returns-in-Ok-Check-clause-answer g c =
     let asks = subst (Asks _) c.in-Ok-Check.field-0-is c.in-Ok-Check.ensures.asked in
     done_answers c.no_character_is_refused.ensures _ Check _ _ _ _ asks c.check.ensures c.report-in-Ok-Check.ensures.status c.report-in-Ok-Check.ensures.line
 
+pub returns-in-Ok-CheckForm-clause-answer : goal.returns-in-Ok-CheckForm-clause-answer
+returns-in-Ok-CheckForm-clause-answer g c =
+    let asks = subst (Asks _) c.in-Ok-CheckForm.field-0-is c.in-Ok-CheckForm.ensures.asked in
+    done_answers c.no_character_is_refused.ensures _ (CheckForm c.in-Ok-CheckForm.form c.in-Ok-CheckForm.assigned) _ _ _ _ asks c.check_form.ensures c.report-in-Ok-CheckForm.ensures.status c.report-in-Ok-CheckForm.ensures.line
+
 pub returns-in-Ok-Measure-clause-answer : goal.returns-in-Ok-Measure-clause-answer
 returns-in-Ok-Measure-clause-answer g c =
     let asks = subst (Asks _) c.in-Ok-Measure.field-0-is c.in-Ok-Measure.ensures.asked in
@@ -41,6 +46,9 @@ returns-in-Ok-Convert-clause-again g c = c.what_was_converted_stays.ensures _ _ 
 
 pub returns-in-Ok-Check-clause-again : goal.returns-in-Ok-Check-clause-again
 returns-in-Ok-Check-clause-again g c = c.what_was_converted_stays.ensures _ _ _ _
+
+pub returns-in-Ok-CheckForm-clause-again : goal.returns-in-Ok-CheckForm-clause-again
+returns-in-Ok-CheckForm-clause-again g c = c.what_was_converted_stays.ensures _ _ _ _
 
 pub returns-in-Ok-Measure-clause-again : goal.returns-in-Ok-Measure-clause-again
 returns-in-Ok-Measure-clause-again g c = c.what_was_converted_stays.ensures _ _ _ _

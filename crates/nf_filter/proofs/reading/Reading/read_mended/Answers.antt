@@ -1,5 +1,4 @@
-use Rattle.std.proofs.Common.{◌≡◌, true, refl, chars, length, arith, ap}
-use Rattle.std.proofs.lemmas.Bool.{not-false}
+use Rattle.std.proofs.Common.{refl, chars, length, arith, ap}
 use Rattle.std.proofs.lemmas.List.{take_rest}
 use Rattle.nf_filter.specs.Block.{block_state}
 use Rattle.nf_filter.proofs.TakingLemmas.{HasPlaces-all}
@@ -14,7 +13,7 @@ returns-in-Err-clause-reads g c = λ f base bytes start both none.
     let p = g.R.Rows.properties c.args.rows.now in
     let read = both.0 in
     let laws = c.replacing.ensures in
-    let replaces : c.args.policy.replace ≡ true = not-false c.args.policy.replace c.if-not-policy.false in
+    let replaces = c.requires.replaces in
     let sound = c.all_sound.ensures c.if-not-all_sound.false in
     let mended = c.mend_allowed-len.ensures in
     let text = chars c.mend_allowed-len.new.mended.items in
@@ -30,7 +29,7 @@ returns-clause-reads g c = λ f base bytes start both none.
     let p = g.R.Rows.properties c.args.rows.now in
     let read = both.0 in
     let laws = c.replacing.ensures in
-    let replaces : c.args.policy.replace ≡ true = not-false c.args.policy.replace c.if-not-policy.false in
+    let replaces = c.requires.replaces in
     let sound = c.all_sound.ensures c.if-not-all_sound.false in
     let mended = c.mend_allowed-len.ensures in
     let text = chars c.mend_allowed-len.new.mended.items in

@@ -1,0 +1,2 @@
+pub mod PlacesLemmas
+pub mod LookUpLemmas

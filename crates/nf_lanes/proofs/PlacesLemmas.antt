@@ -1,0 +1,77 @@
+-- 16 places, what is read from them, and the first whose bit is set.
+use Rattle.std.proofs.Common.{◌≡◌, ℕ, zero, suc, ◌+◌, ◌-◌, ◌<◌, ◌≤◌, ⊎_elim, Bool, true, false, not, cond, List, ◌∷◌, map, length, get_or, eqb, refl, sym, ap, subst, ◌∙◌, arith}
+use Rattle.std.specs.List.{prefix_len, range_with_len}
+use Rattle.std.proofs.str.Laws.{order}
+use Rattle.std.proofs.lemmas.List.Sums.{prefix_len-le-length, prefix_len_passes, prefix_len_stops}
+use Rattle.std.proofs.lemmas.List.FromFn.{get_or-range_with_len, length-range_with_len}
+use Rattle.std.proofs.lemmas.Bool.{not-true, not-false}
+use Rattle.std.proofs.lemmas.Simd.{map-map, pick_l-range_with_len, first_set_mask_l}
+use lib.Lanes.{chunk, mask_l}
+use lib.Count.{count_trailing_zeros}
+use Rattle.nf_lanes.specs.Lanes.{places, bits_at, NonePass, StopsAt}
+
+pub length-places : (at : ℕ) → length (places at) ≡ 16
+unfolding places
+length-places at = length-range_with_len at 16
+
+get_or-places : (at i : ℕ) → i < 16 → get_or (places at) i 0 ≡ at + i
+unfolding places
+get_or-places at i within = get_or-range_with_len at 16 i 0 within
+
+-- the bytes that are loaded from a place on
+pub loaded : {V : Type 0} (g : ℕ → V) (bytes : List ℕ) (at : ℕ) → at + 16 ≤ length bytes → map g (chunk at 16 bytes) ≡ map (λ k. g (get_or bytes k 0)) (places at)
+unfolding places
+loaded g bytes at room = ap (map g) (sym (pick_l-range_with_len 0 bytes at 16 room)) ∙ map-map g (λ k. get_or bytes k 0) (range_with_len at 16)
+
+-- the places n behind those
+range_behind : {V : Type 0} (h : ℕ → V) (at n len : ℕ) → map h (range_with_len (at + n) len) ≡ map (λ k. h (k + n)) (range_with_len at len)
+range_behind h at n zero = refl
+range_behind h at n (suc len) =
+    let next : at + n + 1 ≡ at + 1 + n = omega arith in
+    ap (λ m. h (at + n) ∷ map h (range_with_len m len)) next ∙ ap (λ t. h (at + n) ∷ t) (range_behind h (at + 1) n len)
+
+pub places_behind : {V : Type 0} (h : ℕ → V) (at n : ℕ) → map h (places (at + n)) ≡ map (λ k. h (k + n)) (places at)
+unfolding places
+places_behind h at n = range_behind h at n 16
+
+module _ (p : ℕ → Bool) (at found : ℕ) (is : found ≡ bits_at p at) where
+  -- how many stand before the first whose bit is set
+  pub stops_at : (run : ℕ) → run ≡ cond (eqb found 0) 16 (count_trailing_zeros 64 found) → StopsAt p at run
+  stops_at run counted = record {
+    within = omega (arith, run_is, long, prefix_len-le-length fails (places at));
+    none = λ k low high.
+        let i = k - at in
+        let short : i < unset = omega (arith, run_is) in
+        let place : get_or (places at) i 0 ≡ k = get_or-places at i (omega (arith, long, prefix_len-le-length fails (places at))) ∙ omega arith in
+        not-true (p k) (subst (λ x. fails x ≡ true) place (prefix_len_passes fails (places at) i 0 short));
+    stops = λ short.
+        let place : get_or (places at) unset 0 ≡ at + run = get_or-places at unset (omega (arith, run_is)) ∙ ap (λ n. at + n) (sym run_is) in
+        not-false (p (at + run)) (subst (λ x. fails x ≡ false) place (prefix_len_stops fails (places at) 0 (omega (arith, run_is, long))));
+  }
+    where
+      fails : ℕ → Bool
+      fails k = not (p k)
+
+      unset : ℕ
+      unset = prefix_len fails (places at)
+
+      long : length (places at) ≡ 16
+      long = length-places at
+
+      run_is : run ≡ unset
+      run_is = counted ∙ ap (λ n. cond (eqb n 0) 16 (count_trailing_zeros 64 n)) is ∙ first_set_mask_l p (places at) 16 long (omega arith)
+
+  pub none_from_zero : found ≡ 0 → NonePass p at 16
+  none_from_zero none = (stops_at 16 (ap (λ n. cond (eqb n 0) 16 (count_trailing_zeros 64 n)) (sym none))).none
+
+  pub zero_from_none : NonePass p at 16 → found ≡ 0
+  unfolding places
+  zero_from_none none = is ∙ clear at 16 none
+    where
+      clear : (from n : ℕ) → NonePass p from n → mask_l (map p (range_with_len from n)) ≡ 0
+      clear from zero none = refl
+      clear from (suc n) none =
+          omega (arith, ap {B = ℕ} (λ b. cond b 1 0) (none from (omega arith) (omega arith)), clear (from + 1) n (λ k low high. none k (omega arith) (omega arith)))
+
+pub NonePass-join : (p : ℕ → Bool) (at m n : ℕ) → NonePass p at m → NonePass p (at + m) n → NonePass p at (m + n)
+NonePass-join p at m n first second k low high = ⊎_elim (first k low) (λ behind. second k behind (omega arith)) (order k (at + m))

@@ -1,0 +1,56 @@
+//! A bit for each of 16 places, the lowest for the first.
+
+ghost use Rattle.std.specs.Prelude.{◌≡◌, ◌≤◌, ◌+◌, ℕ, Bool, length, slice_index, map, not, ◌==◌, bit_and, bit_or, nat_le, IsTrue, ◌↔◌};
+ghost use Rattle.nf_lanes.specs.Lanes.{places, bits_at, NonePass, StopsAt};
+
+use std::simd::prelude::*;
+
+/// The places that are asked together.
+pub const LANES: usize = 16;
+
+/// A bit for each lane that is not 0.
+#[inline(always)]
+pub fn bits(lanes: u8x16) -> u64
+    ensures { (h : ℕ → ℕ) (at : ℕ) → lanes ≡ map h (places at) → result ≡ bits_at (λ k. not (h k == 0)) at }
+{
+    lanes.simd_ne(u8x16::splat(0)).to_bitmask()
+}
+
+/// A bit for each lane that is not 0, or of which `others` has a bit of the mask.
+#[inline(always)]
+pub fn bits_of_either(lanes: u8x16, others: u8x16, mask: u8) -> u64
+    ensures { (h g : ℕ → ℕ) (at : ℕ) → lanes ≡ map h (places at) → others ≡ map g (places at) → result ≡ bits_at (λ k. not (bit_or (h k) (bit_and (g k) mask) == 0)) at }
+{
+    bits(lanes | (others & u8x16::splat(mask)))
+}
+
+/// A bit for each byte from `at` on that is `least` or above.
+#[inline(always)]
+pub fn at_least(least: u8, bytes: &[u8], at: usize) -> u64
+    requires room { at + 16 ≤ length bytes.now }
+    ensures { result ≡ bits_at (λ k. nat_le least (slice_index bytes.now k)) at }
+{
+    u8x16::from_slice(&bytes[at..])
+        .simd_ge(u8x16::splat(least))
+        .to_bitmask()
+}
+
+/// How many places stand before the first whose bit is set.
+#[inline(always)]
+pub fn before(bits: u64) -> usize
+    ensures { (p : ℕ → Bool) (at : ℕ) → bits ≡ bits_at p at → StopsAt p at result }
+{
+    if bits == 0 {
+        LANES
+    } else {
+        bits.trailing_zeros() as usize
+    }
+}
+
+/// Whether no bit is set of four times 16 places, one behind the other.
+#[inline(always)]
+pub fn none_of(first: u64, second: u64, third: u64, last: u64) -> bool
+    ensures { (p : ℕ → Bool) (at : ℕ) → first ≡ bits_at p at → second ≡ bits_at p (at + 16) → third ≡ bits_at p (at + 32) → last ≡ bits_at p (at + 48) → (IsTrue result ↔ NonePass p at 64) }
+{
+    (first == 0) & (second == 0) & (third == 0) & (last == 0)
+}

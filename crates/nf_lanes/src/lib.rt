@@ -1,0 +1,9 @@
+//! Eight sets of bytes, of pairs of bytes or of three bytes, each a bit: what tables by the high and by the low half of a byte
+//! both allow. 16 places of a text are asked at once.
+#![tactic(auto)]
+
+mod lanes;
+mod sets;
+
+pub use lanes::{LANES, at_least, before, bits, bits_of_either, none_of};
+pub use sets::{Pairs, Triples, byte_sets, pair_sets, triple_sets};

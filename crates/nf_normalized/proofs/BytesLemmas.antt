@@ -1,0 +1,176 @@
+-- Bytes and the texts that they spell.
+use Rattle.std.proofs.Common.{◌≡◌, ◌⊎◌, ⊎_elim, inl, inr, ◌^◌, eqb-true, eq-eqb, true≢false, ℕ, suc, ◌+◌, ◌<◌, ◌≤◌, ◌==◌, Bool, true, false, List, [], ◌∷◌, ◌++◌, length, take, drop, take_all, refl, sym, ap, ap₂, ◌∙◌, subst, arith, append_assoc, append-nil, length-append, Option, Some, None, IsUtf8, chars, encode_utf8, encode_utf8_all, if◌then◌else◌}
+use Rattle.std.proofs.lemmas.Bool.{and_parts, and_from}
+use Rattle.std.proofs.lemmas.List.{take_at, take-append-drop}
+use Rattle.std.proofs.lemmas.Str.{encodes-append, encodes-chars, length-le-encodes, chars-nil}
+use Rattle.nf_utf8.specs.declared.chunk.End.{End}
+use Rattle.nf_utf8.specs.declared.chunk.End.TheVariants.{Whole, Cut, Bad}
+use Rattle.nf_utf8.specs.declared.decoder.Decoder.{Decoder}
+use Rattle.nf_utf8.specs.Reading.{text_len, text_of, rest_of}
+use Rattle.nf_utf8.specs.Standing.{StandsAfter}
+use Rattle.nf_utf8.specs.Taking.{first_text, first_bytes, bytes_behind, Takes}
+use Rattle.nf_utf8.specs.Text.{IsText}
+use Rattle.nf_utf8.specs.Laws.{SplitsBytes, ReadsBack, ReadsPieces}
+use Rattle.nf_normalized.specs.Change.{common}
+use Rattle.nf_normalized.specs.Bytes.{goes_on_with}
+use Rattle.nf_normalized.proofs.CommonLemmas.{common-behind, common-front}
+
+pub text_of-none : text_of [] ≡ []
+unfolding text_of
+text_of-none = ap chars (take_all (text_len []) [] (omega arith)) ∙ chars-nil
+
+pub counted_few : (text : List ℕ) → IsUtf8 text → length (chars text) ≤ length text
+counted_few text utf8 = omega (arith, length-le-encodes (chars text), ap length (encodes-chars text utf8))
+
+pub counted_bytes : (first : Option ℕ) (text : List ℕ) → IsUtf8 text → length (encode_utf8_all (first_text first ++ chars text)) ≡ length (first_bytes first) + length text
+counted_bytes None text utf8 = omega (arith, ap length (encodes-chars text utf8))
+counted_bytes (Some c) text utf8 = length-append (encode_utf8 c) (encode_utf8_all (chars text)) ∙ ap (λ l. length (encode_utf8 c) + length l) (encodes-chars text utf8)
+
+-- ---- a chunk, and another
+
+pub one_piece : {first : List ℕ} {c : Option ℕ} {text : List ℕ} {end : End} → Takes [] first c text end → text_of first ≡ first_text c ++ chars text
+one_piece {first} {c} {text} takes = takes.spelled ∙ ap (λ l. (l ++ first_text c) ++ chars text) text_of-none
+
+module _ (pieces : ReadsPieces) (first second : List ℕ) where
+  pub bad_piece : {c : Option ℕ} {text : List ℕ} (end : End) {at back : ℕ} → end ≡ Bad at back → Takes [] first c text end → text_of (first ++ second) ≡ first_text c ++ chars text
+  bad_piece Whole is takes = cc
+  bad_piece Cut is takes = cc
+  bad_piece (Bad at back) is takes = pieces.bad_text first second _ _ (takes.ends.0) ∙ one_piece takes
+
+  pub two_pieces : {c d : Option ℕ} {text more : List ℕ} (end : End) {decoder : Decoder} {end_more : End} → ((at back : ℕ) → end ≡ Bad at back → ⊥) → Takes [] first c text end
+      → StandsAfter decoder (bytes_behind [] first end) → ((bytes : List ℕ) → StandsAfter decoder bytes → Takes bytes second d more end_more)
+      → text_of (first ++ second) ≡ (first_text c ++ chars text) ++ (first_text d ++ chars more)
+  two_pieces {c} {d} {text} {more} Whole not_bad takes stands next = (next first stands).spelled ∙ ap (λ l. (l ++ first_text d) ++ chars more) (one_piece takes) ∙ append_assoc (first_text c ++ chars text) (first_text d) (chars more)
+  two_pieces {c} {d} {text} {more} Cut not_bad takes stands next = (next first stands).spelled ∙ ap (λ l. (l ++ first_text d) ++ chars more) (one_piece takes) ∙ append_assoc (first_text c ++ chars text) (first_text d) (chars more)
+  two_pieces (Bad at back) not_bad takes stands next = absurd (not_bad at back refl)
+
+-- two chunks are counted
+pub record Counted (all : List ℕ) (chars_a chars_b bytes_a bytes_b : ℕ) : Type 0 where
+  pub chars : chars_a + chars_b ≡ length (text_of all)
+  pub bytes : bytes_a + bytes_b ≡ length (encode_utf8_all (text_of all))
+  pub chars_fit : chars_a + chars_b < 2 ^ 64
+  pub bytes_fit : bytes_a + bytes_b < 2 ^ 64
+
+pub both_counted : SplitsBytes → (first second front behind : List ℕ) (a b c d : ℕ) → text_of (first ++ second) ≡ front ++ behind → a ≡ length front → b ≡ length behind
+    → c ≡ length (encode_utf8_all front) → d ≡ length (encode_utf8_all behind) → length first + length second < 2 ^ 64 → Counted (first ++ second) a b c d
+both_counted split first second front behind a b c d both e f g h fits =
+    let chars_is : a + b ≡ length (text_of (first ++ second)) = omega (arith, e, f, ap length both, length-append front behind) in
+    let bytes_is : c + d ≡ length (encode_utf8_all (text_of (first ++ second))) =
+    omega (arith, g, h, ap (λ x. length (encode_utf8_all x)) both, ap length (sym (encodes-append front behind)), length-append (encode_utf8_all front) (encode_utf8_all behind)) in
+    let few : length (encode_utf8_all (text_of (first ++ second))) ≤ length first + length second =
+    omega (arith, ap length (split.split (first ++ second)), length-append (encode_utf8_all (text_of (first ++ second))) (rest_of (first ++ second)), length-append first second) in
+    record {
+      chars = chars_is;
+      bytes = bytes_is;
+      chars_fit = omega (arith, chars_is, length-le-encodes (text_of (first ++ second)), few, fits);
+      bytes_fit = omega (arith, bytes_is, few, fits);
+    }
+
+-- ---- two texts that go on otherwise
+
+-- of two texts, x and s, the first begins with `same`, the second is no front of it, and they have no more in common
+pub record Departs (x s same : List ℕ) : Type 0 where
+  pub count : common x s ≡ length same
+  pub front : take (length same) x ≡ same
+  pub other : ¬ (s ≡ take (length s) x)
+
+common-taken : (x s : List ℕ) → s ≡ take (length s) x → common x s ≡ length s
+common-taken x s is =
+    ap (λ l. common l s) (sym (take-append-drop (length s) x) ∙ ap (λ l. l ++ drop (length s) x) (sym is)) ∙ common-front s (drop (length s) x)
+
+head : (a b : ℕ) (x y : List ℕ) → a ∷ x ≡ b ∷ y → a ≡ b
+head a b x y e = cc
+
+tail : (a b : ℕ) (x y : List ℕ) → a ∷ x ≡ b ∷ y → x ≡ y
+tail a b x y e = cc
+
+one_scalar : (a : ℕ) (x : List ℕ) → IsText (a ∷ x) → IsText (a ∷ [])
+one_scalar a x scalars = and_from _ true ((and_parts _ _ scalars).0) refl
+
+module _ (split : SplitsBytes) (back : ReadsBack) (pieces : ReadsPieces) where
+  -- behind its text bytes spell nothing
+  rest_none : (m : List ℕ) → text_of (rest_of m) ≡ []
+  rest_none m = nothing (text_of m) (text_of (rest_of m)) (sym (ap (λ l. text_of m ++ text_of l) (append-nil (rest_of m))) ∙ sym (pieces.text m []) ∙ ap text_of (append-nil m))
+    where
+      nothing : (t u : List ℕ) → t ++ u ≡ t → u ≡ []
+      nothing t [] e = refl
+      nothing t (a ∷ u) e = absurd (omega (arith, ap length e, length-append t (a ∷ u)))
+
+  pub text_of-encodes : (x : List ℕ) → IsText x → text_of (encode_utf8_all x) ≡ x
+  text_of-encodes x scalars = ap text_of (sym (append-nil (encode_utf8_all x))) ∙ back.text x [] scalars ∙ ap (λ l. x ++ l) text_of-none ∙ append-nil x
+
+  -- of two lists of bytes that begin alike each begins with the shorter front, or with what goes on behind it
+  record GoesOn (r e i j : List ℕ) : Type 0 where
+    next : ℕ
+    more : List ℕ
+    other : List ℕ
+    first : i ≡ next ∷ more
+    second : j ≡ next ∷ other
+
+  fronts : (r e i j p q : List ℕ) → r ++ i ≡ e ++ p → r ++ j ≡ e ++ q → ((more : List ℕ) × (r ≡ e ++ more)) ⊎ GoesOn r e i j
+  fronts r [] i j p q a b = inl (r, refl)
+  fronts [] (d ∷ e) i j p q a b = inr (record { next = d; more = e ++ p; other = e ++ q; first = a; second = b })
+  fronts (k ∷ r) (d ∷ e) i j p q a b =
+      ⊎_elim (λ h. inl (h.0, ap₂ (λ x l. x ∷ l) (head k d (r ++ i) (e ++ p) a) h.1)) (λ h. inr (record { next = h.next; more = h.more; other = h.other; first = h.first; second = h.second }))
+      (fronts r e i j p q (tail k d (r ++ i) (e ++ p) a) (tail k d (r ++ j) (e ++ q) b))
+
+  -- behind the text of bytes that another text goes on with otherwise, nothing is in common
+  module _ (m i : List ℕ) (b : ℕ) (t : List ℕ) (differ : goes_on_with b i ≡ false) where
+    abbrev r : List ℕ
+    r = rest_of m
+
+    apart : (a : ℕ) (x y p q : List ℕ) → IsText (a ∷ x) → r ++ i ≡ encode_utf8_all (a ∷ x) ++ p → r ++ b ∷ t ≡ encode_utf8_all (a ∷ y) ++ q → ⊥
+    apart a x y p q scalars first second =
+        ⊎_elim inside behind (fronts r (encode_utf8 a) i (b ∷ t) (encode_utf8_all x ++ p) (encode_utf8_all y ++ q)
+        (first ∙ append_assoc (encode_utf8 a) (encode_utf8_all x) p) (second ∙ append_assoc (encode_utf8 a) (encode_utf8_all y) q))
+      where
+        inside : (more : List ℕ) × (r ≡ encode_utf8 a ++ more) → ⊥
+        inside h =
+            let one : encode_utf8_all (a ∷ []) ≡ encode_utf8 a = append-nil (encode_utf8 a) in
+            let is = ap text_of (h.1 ∙ ap (λ l. l ++ h.0) (sym one)) ∙ back.text (a ∷ []) h.0 (one_scalar a x scalars) in
+            omega (arith, ap length is, ap length (rest_none m))
+
+        behind : GoesOn r (encode_utf8 a) i (b ∷ t) → ⊥
+        behind h = true≢false (sym (ap (goes_on_with b) h.first ∙ eq-eqb h.next b (sym (head b h.next t h.other h.second))) ∙ differ)
+
+    none_common : (x y p q : List ℕ) → IsText x → r ++ i ≡ encode_utf8_all x ++ p → r ++ b ∷ t ≡ encode_utf8_all y ++ q → common x y ≡ 0
+    none_common [] y p q scalars first second = refl
+    none_common (a ∷ x) [] p q scalars first second = refl
+    none_common (a ∷ x) (c ∷ y) p q scalars first second = next (a == c) refl
+      where
+        next : (s : Bool) → (a == c) ≡ s → (if s then suc (common x y) else 0) ≡ 0
+        next true e = absurd (apart a x y p q scalars first (subst (λ d. r ++ b ∷ t ≡ encode_utf8_all (d ∷ y) ++ q) (sym (eqb-true a c e)) second))
+        next false e = refl
+
+    pub departs : (s : List ℕ) → IsText s → encode_utf8_all s ≡ m ++ b ∷ t → Departs (text_of (m ++ i)) s (text_of m)
+    departs s scalars is =
+        let x2 = text_of (r ++ i) in
+        let s2 = text_of (r ++ b ∷ t) in
+        let x_is = pieces.text m i in
+        let s_is = sym (text_of-encodes s scalars) ∙ ap text_of is ∙ pieces.text m (b ∷ t) in
+        let none = none_common x2 s2 (rest_of (r ++ i)) (rest_of (r ++ b ∷ t)) (split.scalars (r ++ i)) (split.split (r ++ i)) (split.split (r ++ b ∷ t)) in
+        let count : common (text_of (m ++ i)) s ≡ length (text_of m) = ap₂ common x_is s_is ∙ common-behind (text_of m) x2 s2 ∙ omega (arith, none) in
+        record {
+          count = count;
+          front = ap (take (length (text_of m))) x_is ∙ take_at (text_of m) x2 (length (text_of m)) refl;
+          other = λ same. absurd (omega (
+            arith,
+            count,
+            common-taken (text_of (m ++ i)) s same,
+            ap length is,
+            length-append m (b ∷ t),
+            ap (λ l. length (encode_utf8_all l)) s_is,
+            ap length (encodes-append (text_of m) s2),
+            length-append (encode_utf8_all (text_of m)) (encode_utf8_all s2),
+            ap length (split.split m),
+            length-append (encode_utf8_all (text_of m)) (rest_of m),
+            ap length s_is,
+            length-append (text_of m) s2,
+            some s2,
+          ));
+        }
+      where
+        -- no characters are no bytes
+        some : (l : List ℕ) → length l ≡ 0 → length (encode_utf8_all l) ≡ 0
+        some [] e = refl
+        some (a ∷ l) e = absurd (omega (arith, e))

@@ -1,0 +1,209 @@
+-- How many characters can stand behind what is settled of a form.
+use Rattle.std.proofs.Common.{◌≡◌, ◌⊎◌, inl, inr, leb-true, ap₂, append_assoc, ◌||◌, ◌==◌, subst, eqb-true, true≢false, eq-zero-or-pos, ℕ, ◌+◌, ◌*◌, ◌<◌, ◌≤◌, Bool, true, false, List, [], ◌∷◌, ◌++◌, length, refl, sym, ap, ◌∙◌, arith, if◌then◌else◌, ⊎_elim, IsTrue}
+use Rattle.std.proofs.lemmas.Bool.{cases_Bool, or_parts}
+use Rattle.std.proofs.lemmas.List.{length-append}
+use Rattle.unicode_normalization.proofs.Computing.{unicode_normalization}
+use Rattle.ucd_normal.specs.CanonicalCombiningClass.{canonical_combining_class}
+use Rattle.nf_forms.specs.Properties.{Properties, is_starter}
+use Rattle.nf_forms.specs.Runs.{has_starter}
+use Rattle.nf_forms.specs.Front.{front, back}
+use Rattle.nf_forms.specs.declared.form.Form.{Form}
+use Rattle.nf_forms.specs.declared.form.Form.TheVariants.{Nfc, Nfd, Nfkc, Nfkd}
+use Rattle.nf_forms.specs.Order.{order, by_class}
+use Rattle.nf_forms.specs.Forms.{row_of, decomposed, normal_form}
+use Rattle.nf_forms.specs.StreamSafe.{joiner, is_too_long, parted, stream_safe}
+use Rattle.nf_forms.specs.SafeForm.{safe_form}
+use Rattle.nf_forms.specs.Sound.{is_sound}
+use Rattle.nf_forms.specs.Ucd.{ucd}
+use Rattle.nf_forms.specs.Calm.{IsMark}
+use Rattle.nf_forms.specs.Laws.Runs.{has_starter-append}
+use Rattle.nf_forms.specs.Laws.Last.{by_last}
+use Rattle.nf_forms.specs.Laws.Front.{front-append-back, IsCut, cut}
+use Rattle.nf_forms.specs.Laws.Starters.{length-by_class}
+use Rattle.nf_forms.specs.Laws.Order.{order-push_starter, order-behind}
+use Rattle.nf_forms.specs.Laws.Sound.{IsSound-from_test, IsSoundText}
+use Rattle.nf_forms.specs.Laws.StreamSafe.{stream_safe-push, decomposed-append, decomposed-push}
+use Rattle.nf_facts.specs.Passing.{is_among, mapped_marks}
+use Rattle.nf_facts.specs.After.{after}
+use Rattle.nf_filter.specs.Settled.{settled, is_usable}
+use Rattle.nf_filter.specs.Laws.{LittleIsHeldBack}
+
+-- ---- ordering keeps the length
+
+module _ (p : Properties) where
+  by_run : (w : List ℕ) → IsCut p w → (run : List ℕ) → has_starter p run ≡ false → length (order p (w ++ run)) ≡ length (order p w) + length run
+  by_run w r run marks =
+      let both = marks_append r.run run r.marks marks in
+      let text = ap (λ l. l ++ run) r.text ∙ append_assoc r.head r.run run in
+      let whole = ap (λ l. length (order p l)) text ∙ ap length (order-behind p r.head (r.run ++ run) r.ends both) ∙ length-append (order p r.head) (by_class p (r.run ++ run)) in
+      let before = ap (λ l. length (order p l)) r.text ∙ ap length (order-behind p r.head r.run r.ends r.marks) ∙ length-append (order p r.head) (by_class p r.run) in
+      omega (arith, whole, before, length-by_class p (r.run ++ run) both, length-by_class p r.run r.marks, length-append r.run run)
+    where
+      marks_append : (m n : List ℕ) → has_starter p m ≡ false → has_starter p n ≡ false → has_starter p (m ++ n) ≡ false
+      marks_append m n a b = has_starter-append p m n ∙ ap₂ (λ s t. s || t) a b
+
+  pub length-order : (w : List ℕ) → length (order p w) ≡ length w
+  unfolding by_class
+  length-order = by_last (λ w. length (order p w) ≡ length w) refl push
+    where
+      push : (w : List ℕ) (c : ℕ) → length (order p w) ≡ length w → length (order p (w ++ c ∷ [])) ≡ length (w ++ c ∷ [])
+      push w c before = elim (cases_Bool (is_starter p c)) [
+        | inl starter ↦ ap length (order-push_starter p w c starter) ∙ omega (arith, before, length-append (order p w) (c ∷ []), length-append w (c ∷ []))
+        | inr mark ↦ omega (arith, before, by_run w (cut p w) (c ∷ []) (ap (λ b. b || false) mark), length-append w (c ∷ []))
+      ]
+
+  -- from the last starter on there is at most that, and non-starters
+  pub record EndsInMarks (w : List ℕ) : Type 0 where
+    pub first : ℕ
+    pub marks : List ℕ
+    pub text : w ≡ first ∷ marks
+    pub no_starter : has_starter p marks ≡ false
+
+  pub back-marks : (w : List ℕ) → (back p w ≡ []) ⊎ EndsInMarks (back p w)
+  back-marks [] = inl refl
+  back-marks (c ∷ w) = next (has_starter p w) refl (back-marks w)
+    where
+      next : (b : Bool) → has_starter p w ≡ b → (back p w ≡ []) ⊎ EndsInMarks (back p w)
+          → ((if b then back p w else c ∷ w) ≡ []) ⊎ EndsInMarks (if b then back p w else c ∷ w)
+      next true e more = more
+      next false e more = inr (record { first = c; marks = w; text = refl; no_starter = e })
+
+-- what holds of d, and of c where it is another, holds of c
+or_this : (c d : ℕ) (others : Bool) (P : ℕ → Type 0) → P d → (others ≡ true → P c) → (c == d || others) ≡ true → P c
+or_this c d others P here there = next (c == d) refl
+  where
+    next : (b : Bool) → (c == d) ≡ b → (b || others) ≡ true → P c
+    next true same e = subst P (sym (eqb-true c d same)) here
+    next false other e = there e
+
+among_mapped : (P : ℕ → Type 0) → P 0x340 → P 0x341 → P 0x343 → P 0x344 → (c : ℕ) → is_among mapped_marks c ≡ true → P c
+among_mapped P one two three four c =
+    or_this c 0x340 _ P one (or_this c 0x341 _ P two (or_this c 0x343 _ P three (or_this c 0x344 _ P four (λ none. absurd (true≢false (sym none))))))
+
+-- ---- rows
+
+module _ (sound : (c : ℕ) → IsTrue (is_sound ucd c)) (f : Form) where
+  abbrev row : ℕ → List ℕ
+  row = row_of f ucd
+
+  some_of : (f : Form) (c : ℕ) → 1 ≤ length (row_of f ucd c)
+  some_of Nfc c = (IsSound-from_test ucd c (sound c)).canonical_some
+  some_of Nfd c = (IsSound-from_test ucd c (sound c)).canonical_some
+  some_of Nfkc c = (IsSound-from_test ucd c (sound c)).compat_some
+  some_of Nfkd c = (IsSound-from_test ucd c (sound c)).compat_some
+
+  few_of : (f : Form) (c : ℕ) → length (row_of f ucd c) ≤ 18
+  few_of Nfc c = (IsSound-from_test ucd c (sound c)).canonical_few
+  few_of Nfd c = (IsSound-from_test ucd c (sound c)).canonical_few
+  few_of Nfkc c = (IsSound-from_test ucd c (sound c)).compat_few
+  few_of Nfkd c = (IsSound-from_test ucd c (sound c)).compat_few
+
+  pub length-decomposed : (x : List ℕ) → length x ≤ length (decomposed f ucd x)
+  length-decomposed [] = omega arith
+  length-decomposed (c ∷ x) = omega (arith, some_of f c, length-decomposed x, length-append (row c) (decomposed f ucd x))
+
+  -- the process only adds
+  length-stream_safe : (x : List ℕ) → length (decomposed f ucd x) ≤ length (decomposed f ucd (stream_safe ucd x))
+  length-stream_safe = by_last (λ x. length (decomposed f ucd x) ≤ length (decomposed f ucd (stream_safe ucd x))) (omega arith) push
+    where
+      parted_longer : (o : List ℕ) (b : Bool) → length (decomposed f ucd o) ≤ length (decomposed f ucd (if b then o ++ joiner ∷ [] else o))
+      parted_longer o true = omega (arith, ap length (decomposed-append ucd f o (joiner ∷ [])), length-append (decomposed f ucd o) (decomposed f ucd (joiner ∷ [])))
+      parted_longer o false = omega arith
+
+      push : (x : List ℕ) (c : ℕ) → length (decomposed f ucd x) ≤ length (decomposed f ucd (stream_safe ucd x))
+          → length (decomposed f ucd (x ++ c ∷ [])) ≤ length (decomposed f ucd (stream_safe ucd (x ++ c ∷ [])))
+      push x c before =
+          let o = stream_safe ucd x in
+          let out = parted ucd o c in
+          let behind = ap (λ l. length (decomposed f ucd l)) (stream_safe-push ucd x c) ∙ ap length (decomposed-push ucd f out c) ∙ length-append (decomposed f ucd out) (row c) in
+          let here = ap length (decomposed-push ucd f x c) ∙ length-append (decomposed f ucd x) (row c) in
+          omega (arith, before, parted_longer o (is_too_long ucd o c), behind, here)
+
+  -- ---- forms keep the length of what is decomposed
+
+  module _ (twice : (f g : Form) (x : List ℕ) → normal_form g ucd (normal_form f ucd x) ≡ normal_form (after g f) ucd x) where
+    length-form_of : (f : Form) (y : List ℕ) → length (decomposed f ucd (normal_form f ucd y)) ≡ length (decomposed f ucd y)
+    length-form_of Nfc y =
+        sym (length-order ucd (decomposed Nfd ucd (normal_form Nfc ucd y))) ∙ ap length (twice Nfc Nfd y) ∙ length-order ucd (decomposed Nfd ucd y)
+    length-form_of Nfd y =
+        sym (length-order ucd (decomposed Nfd ucd (normal_form Nfd ucd y))) ∙ ap length (twice Nfd Nfd y) ∙ length-order ucd (decomposed Nfd ucd y)
+    length-form_of Nfkc y =
+        sym (length-order ucd (decomposed Nfkd ucd (normal_form Nfkc ucd y))) ∙ ap length (twice Nfkc Nfkd y) ∙ length-order ucd (decomposed Nfkd ucd y)
+    length-form_of Nfkd y =
+        sym (length-order ucd (decomposed Nfkd ucd (normal_form Nfkd ucd y))) ∙ ap length (twice Nfkd Nfkd y) ∙ length-order ucd (decomposed Nfkd ucd y)
+
+    pub length-form : (x : List ℕ) → length (decomposed f ucd (safe_form f ucd x)) ≡ length (decomposed f ucd (stream_safe ucd x))
+    unfolding safe_form
+    length-form x = length-form_of f (stream_safe ucd x)
+
+    -- ---- what is not settled
+
+    module _ (is_mark : (c : ℕ) → 0 < canonical_combining_class c → is_among mapped_marks c ≡ false → IsMark ucd c (canonical_combining_class c)) where
+      class_of : (c : ℕ) → is_starter ucd c ≡ false → 0 < canonical_combining_class c
+      unfolding ucd
+      class_of c mark = ⊎_elim (λ none. absurd (true≢false (sym (ap (λ n. n == 0) none) ∙ mark))) (λ some. some) (eq-zero-or-pos (canonical_combining_class c))
+
+      mapped : (f : Form) (c : ℕ) → is_among mapped_marks c ≡ true → length (row_of f ucd c) ≤ 2
+      unfolding ucd unicode_normalization
+      mapped Nfc = among_mapped (λ d. length (row_of Nfc ucd d) ≤ 2) (leb-true _ 2 refl) (leb-true _ 2 refl) (leb-true _ 2 refl) (leb-true _ 2 refl)
+      mapped Nfd = among_mapped (λ d. length (row_of Nfd ucd d) ≤ 2) (leb-true _ 2 refl) (leb-true _ 2 refl) (leb-true _ 2 refl) (leb-true _ 2 refl)
+      mapped Nfkc = among_mapped (λ d. length (row_of Nfkc ucd d) ≤ 2) (leb-true _ 2 refl) (leb-true _ 2 refl) (leb-true _ 2 refl) (leb-true _ 2 refl)
+      mapped Nfkd = among_mapped (λ d. length (row_of Nfkd ucd d) ≤ 2) (leb-true _ 2 refl) (leb-true _ 2 refl) (leb-true _ 2 refl) (leb-true _ 2 refl)
+
+      short_of : (f : Form) (c : ℕ) → is_starter ucd c ≡ false → length (row_of f ucd c) ≤ 2
+      short_of f c mark = next (is_among mapped_marks c) refl
+        where
+          own : (f : Form) → IsMark ucd c (canonical_combining_class c) → length (row_of f ucd c) ≤ 2
+          own Nfc m = omega (arith, ap length m.canonical)
+          own Nfd m = omega (arith, ap length m.canonical)
+          own Nfkc m = omega (arith, ap length m.compat)
+          own Nfkd m = omega (arith, ap length m.compat)
+
+          next : (b : Bool) → is_among mapped_marks c ≡ b → length (row_of f ucd c) ≤ 2
+          next true e = mapped f c e
+          next false e = own f (is_mark c (class_of c mark) e)
+
+      marks_short : (m : List ℕ) → has_starter ucd m ≡ false → length (decomposed f ucd m) ≤ 2 * length m
+      marks_short [] none = omega arith
+      marks_short (c ∷ m) none =
+          let parts = or_parts (is_starter ucd c) (has_starter ucd m) none in
+          omega (arith, short_of f c parts.0, marks_short m parts.1, length-append (row c) (decomposed f ucd m))
+
+      back_short : (w : List ℕ) → length (back ucd w) ≤ 31 → length (decomposed f ucd (back ucd w)) ≤ 78
+      back_short w few = ⊎_elim (λ none. omega (arith, ap (λ l. length (decomposed f ucd l)) none)) at (back-marks ucd w)
+        where
+          at : EndsInMarks ucd (back ucd w) → length (decomposed f ucd (back ucd w)) ≤ 78
+          at r = omega (
+            arith,
+            few,
+            ap length r.text,
+            ap (λ l. length (decomposed f ucd l)) r.text,
+            length-append (row r.first) (decomposed f ucd r.marks),
+            few_of f r.first,
+            marks_short r.marks r.no_starter,
+          )
+
+      module _ (texts : (x : List ℕ) → IsSoundText ucd x) (held_back : LittleIsHeldBack) where
+        pub kept_short : (x u : List ℕ) → x ≡ settled f ucd x ++ u → length u ≤ 78
+        unfolding settled is_usable
+        kept_short x u split =
+            let form = safe_form f ucd x in
+            let s = front ucd form in
+            let v = back ucd form in
+            let few : length v ≤ 31 = omega (arith, held_back f ucd x (usable x), ap length (sym (front-append-back ucd form)), length-append s v) in
+            omega (
+              arith,
+              back_short form few,
+              length-decomposed u,
+              length-stream_safe x,
+              length-form x,
+              ap (λ l. length (decomposed f ucd l)) split,
+              ap length (decomposed-append ucd f s u),
+              length-append (decomposed f ucd s) (decomposed f ucd u),
+              ap (λ l. length (decomposed f ucd l)) (sym (front-append-back ucd form)),
+              ap length (decomposed-append ucd f s v),
+              length-append (decomposed f ucd s) (decomposed f ucd v),
+            )
+          where
+            usable : (x : List ℕ) → IsTrue (is_usable ucd x)
+            usable x = texts (stream_safe ucd x)

@@ -1,0 +1,10 @@
+pub mod CommonLemmas
+pub mod KeptLemmas
+pub mod ChangeLemmas
+pub mod BytesLemmas
+pub mod ComparingLemmas
+pub mod WroteLemmas
+pub mod CheckerLemmas
+pub mod FeedLemmas
+pub mod FinishLemmas
+pub mod SurveyLemmas

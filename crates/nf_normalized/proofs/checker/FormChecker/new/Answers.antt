@@ -1,0 +1,27 @@
+use Rattle.std.proofs.Common.{[], ◌∙◌, sym, ap, refl}
+use Rattle.nf_filter.specs.Filter.{state_of}
+use Rattle.nf_normalized.specs.Change.{form_decision}
+use Rattle.nf_normalized.proofs.CheckerLemmas.{begins}
+use Rattle.nf_normalized.proofs.FeedLemmas.{undecided}
+use Rattle.nf_normalized.proofs.checker.FormChecker.new.Goals as goal
+
+pub invariant_of-result : goal.invariant_of-result
+invariant_of-result c = record {
+  holds = λ _ _. ∣ record {
+    assigned = c.args.assigned;
+    form = c.args.form;
+    bytes = [];
+    holds = begins c.args.assigned c.args.form (state_of c.policy-filter.result) _ c.new.ensures (c.policy-filter.ensures.stands _ c.args.form [] c.quickest.ensures.stands);
+  } ∣₁;
+}
+
+pub returns-clause-stands : goal.returns-clause-stands
+returns-clause-stands c =
+    let holds = begins c.args.assigned c.args.form (state_of c.policy-filter.result) _ c.new.ensures (c.policy-filter.ensures.stands _ c.args.form [] c.quickest.ensures.stands) in
+    let base_is = c.policy-filter.ensures.base ∙ c.quickest.ensures.base in
+    record {
+      none = refl;
+      base_is = base_is;
+      holds = holds;
+      undecided = ap (λ b. form_decision c.args.assigned c.args.form b []) (sym base_is) ∙ undecided c.split.ensures c.read_back.ensures c.pieces.ensures c.each_form_changes_a_text_once.ensures holds;
+    }

@@ -1,0 +1,5 @@
+pub mod Change
+pub mod Bytes
+pub mod Comparing
+pub mod Holds
+pub mod Checker

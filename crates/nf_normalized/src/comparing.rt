@@ -1,0 +1,119 @@
+//! A sink that compares what it is given with what is expected.
+ghost use Rattle.std.specs.Prelude.{◌≡◌, ◌<◌, ◌≤◌, ◌++◌, true, false, length, drop, IsSome};
+ghost use Rattle.std.specs.Option.{ForSome};
+ghost use Rattle.nf_normalized.specs.Change.{common};
+ghost use Rattle.nf_normalized.specs.Bytes.{goes_on_with};
+
+use nf_filter::{Failed, Sink};
+
+/// The bytes to come are expected to be those of two slices, one behind the other. The first that is another it takes, and fails
+/// from then on.
+#[derive(Drop)]
+pub(crate) struct Comparing<'t> {
+    first: &'t [u8],
+    second: &'t [u8],
+    /// How many bytes of each were given as expected.
+    in_first: usize,
+    in_second: usize,
+    /// The one that was another.
+    other: Option<u8>,
+    failed: bool,
+    ghost within: { (in_first ≤ length first.now) × (in_second ≤ length second.now) },
+    ghost in_turn: { in_first < length first.now → in_second ≡ 0 },
+    ghost other_is: { ForSome other (λ byte. goes_on_with byte (drop in_first first.now ++ drop in_second second.now) ≡ false) },
+    ghost failed_behind: { failed ≡ true → IsSome other },
+}
+
+impl<'t> Comparing<'t> {
+    ghost use Rattle.std.specs.Prelude.{◌≡◌, ◌==◌, ◌++◌, [], length, is_some, false, None};
+    ghost use Rattle.nf_normalized.specs.Comparing.{same, left};
+
+    /// Nothing was given.
+    pub fn new(first: &'t [u8], second: &'t [u8]) -> Comparing<'t>
+        ensures expected { result.first.now ++ result.second.now ≡ first.now ++ second.now }
+        ensures none { (same result ≡ []) × (result.other ≡ None) × (result.failed ≡ false) }
+    {
+        Comparing {
+            first,
+            second,
+            in_first: 0,
+            in_second: 0,
+            other: None,
+            failed: false,
+        }
+    }
+
+    /// Whether a byte was another than expected.
+    pub fn has_parted(&self) -> bool
+        ensures { result ≡ is_some self.now.other }
+    {
+        self.other.is_some()
+    }
+
+    /// What was given as expected, of both slices.
+    pub fn same(&self) -> (&'t [u8], &'t [u8])
+        ensures { result.0.now ++ result.1.now ≡ same self.now }
+    {
+        (&self.first[..self.in_first], &self.second[..self.in_second])
+    }
+
+    /// What is expected behind that.
+    pub fn left(&self) -> (&'t [u8], &'t [u8])
+        ensures { result.0.now ++ result.1.now ≡ left self.now }
+    {
+        (&self.first[self.in_first..], &self.second[self.in_second..])
+    }
+
+    /// Whether no more is expected.
+    pub fn is_at_end(&self) -> bool
+        ensures { result ≡ (length (left self.now) == 0) }
+    {
+        let (first, second) = self.left();
+        first.is_empty() && second.is_empty()
+    }
+}
+
+impl Sink for Comparing<'_> {
+    ghost use Rattle.nf_normalized.specs.Comparing.{sink_state};
+
+    ghost state = { sink_state };
+
+    fn put(&mut self, bytes: &[u8]) -> Result<usize, Failed> {
+        let Some((byte, _)) = bytes.split_first() else {
+            return Ok(0);
+        };
+        if self.other.is_some() {
+            self.failed = true;
+            return Err(Failed);
+        }
+        let in_first = common_len(&self.first[self.in_first..], bytes);
+        if in_first > 0 {
+            self.in_first += in_first;
+            return Ok(in_first);
+        }
+        if self.in_first == self.first.len() {
+            let in_second = common_len(&self.second[self.in_second..], bytes);
+            if in_second > 0 {
+                self.in_second += in_second;
+                return Ok(in_second);
+            }
+        }
+        self.other = Some(*byte);
+        Ok(1)
+    }
+}
+
+/// How many bytes two slices have in common at their front.
+fn common_len(a: &[u8], b: &[u8]) -> usize
+    ensures { result ≡ common a.now b.now }
+{
+    let len = a.len().min(b.len());
+    if a[..len] == b[..len] {
+        return len;
+    }
+    let mut at = 0;
+    while at < len && a[at] == b[at] {
+        at += 1;
+    }
+    at
+}
