@@ -72,7 +72,7 @@ try_completions() { # try_completions BASH ZSH
     "$prefix/bin/nfstream" --help | part Commands | awk '{ print $1 }' | grep -vx help | sort > "$work/wanted"
     offers nfstream '' | grep -v '^-' | sort | cmp - "$work/wanted"
     for command in $(cat "$work/wanted"); do
-        "$prefix/bin/nfstream" "$command" --help | part Options | grep -o -- '--[a-z-]*' | sort > "$work/options"
+        "$prefix/bin/nfstream" "$command" --help | part Options | sed -n 's/^ *\(-[a-z], \)\{0,1\}\(--[a-z-]*\).*/\2/p' | sort > "$work/options"
         offers nfstream "$command" -- | sort | cmp - "$work/options"
     done
     offers nfstream convert --form '' | paste -sd ' ' | grep -qx 'nfc nfd nfkc nfkd'
