@@ -26,7 +26,7 @@ pub(crate) struct Front<'t> {
 pub(crate) struct Unsound;
 
 impl Normalizer {
-    ghost use Rattle.std.specs.Prelude.{◌≡◌, ◌+◌, ◌<◌, ◌≤◌, ℕ, List, length, Ok, IfSome, IsNone, IfOk, OnOk};
+    ghost use Rattle.std.specs.Prelude.{◌≡◌, ◌+◌, ◌<◌, ◌≤◌, ℕ, List, [], length, Ok, IfSome, IsNone, IfOk, OnOk};
     ghost use Rattle.nf_forms.specs.declared.form.Form.{Form};
     ghost use Rattle.nf_boundary.specs.Front.{IsClosedFront};
     ghost use Rattle.nf_row.specs.Single.{IsSingle};
@@ -34,7 +34,7 @@ impl Normalizer {
     ghost use Rattle.nf_normalizer.specs.Normalizer.{HasTaken, IsWithin, settled_text};
     ghost use Rattle.nf_normalizer.specs.Front.{Passes, Takes};
 
-    /// Takes a front of a text, and puts what that settles into the room. What `formed` held is lost.
+    /// Takes a front of a text, and puts what that settles into the room.
     #[inline(always)]
     pub(crate) fn take_front<'t, R: Rows>(
         &mut self,
@@ -46,6 +46,7 @@ impl Normalizer {
         requires some { 0 < length text.now }
         requires within { IsWithin self.old }
         requires room { length room.old.items + 200 ≤ 4096 }
+        requires empty { formed.old.items ≡ [] }
         ensures passes { IfOk result (Passes text.now) }
         ensures within { OnOk result (IsWithin self.new) }
         ensures takes { let p = R.properties rows.now in
@@ -63,7 +64,6 @@ impl Normalizer {
                 self.take_char(rows, c, room)
             }
         };
-        formed.clear();
         match taken {
             Ok(joined) => Ok(Front {
                 same: "",
@@ -103,7 +103,7 @@ impl Normalizer {
         requires some { 0 < length text.now }
         requires within { IsWithin self.old }
         requires room { length room.old.items + 200 ≤ 4096 }
-        ensures none { IsNone result → (self.new ≡ self.old) × (room.new ≡ room.old) }
+        ensures none { IsNone result → (self.new ≡ self.old) × (room.new ≡ room.old) × (formed.new.items ≡ []) }
         ensures passes { IfSome result (Passes text.now) }
         ensures within { IsWithin self.new }
         ensures takes { let p = R.properties rows.now in

@@ -46,6 +46,7 @@ impl Normalizer {
     {
         let mut rest = text;
         let mut put = 0;
+        formed.clear();
         while !rest.is_empty() && ROOM - room.len() >= STEP {
             let front = match self.take_front(rows, rest, room, formed) {
                 Ok(front) => front,
@@ -61,7 +62,6 @@ impl Normalizer {
                 };
             }
         }
-        formed.clear();
         Step::Taken {
             same: "",
             rest,

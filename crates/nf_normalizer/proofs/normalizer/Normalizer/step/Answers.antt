@@ -24,6 +24,7 @@ loop-room-init g c = record {
   left = omega arith;
   gone = ([], refl, omega arith);
   within = c.requires.within;
+  empty = search rules;
   begun = inr c.requires.room;
   steps = λ f x start stands. StepsTo-none (g.R.Rows.properties c.args.rows.now) f start x c.args.text.now _ _ stands;
 }
@@ -62,6 +63,7 @@ loop-room-preserved g c =
       left = omega (arith, leaves.shorter, c.loop-room.invariant.left);
       gone = (gone.0 ++ leaves.front, gone.1 ∙ ap (λ l. gone.0 ++ l) leaves.is_front ∙ sym (append_assoc gone.0 leaves.front (chars front.rest.now)), omega (arith, gone.2, leaves.few, c.from.ensures ∙ byte_of front.joined, length-append gone.0 leaves.front));
       within = c.in-Ok.ensures.within;
+      empty = nothing c.take_front.new.formed.items (search rules);
       begun = inl (omega (arith, leaves.shorter, c.loop-room.invariant.left));
       steps = λ f x start stands.
           let p = g.R.Rows.properties c.args.rows.now in
@@ -95,8 +97,8 @@ returns-clause-passes g c =
 
 pub returns-clause-steps : goal.returns-clause-steps
 returns-clause-steps g c = λ f x start stands.
-    StepsTo-at (g.R.Rows.properties c.args.rows.now) f start x c.args.text.now c.loop-room.self c.loop-room.room.items (c.loop-room.room.items ++ encode_utf8_all c.clear.new.self.items) c.loop-room.rest.now c.loop-room.put
-    (sym (nothing_out c.loop-room.room.items [] c.clear.new.self.items refl (search rules))) (c.loop-room.invariant.steps f x start stands)
+    StepsTo-at (g.R.Rows.properties c.args.rows.now) f start x c.args.text.now c.loop-room.self c.loop-room.room.items (c.loop-room.room.items ++ encode_utf8_all c.loop-room.formed.items) c.loop-room.rest.now c.loop-room.put
+    (sym (nothing_out c.loop-room.room.items [] c.loop-room.formed.items refl (ap length c.loop-room.invariant.empty))) (c.loop-room.invariant.steps f x start stands)
 
 pub returns-in-Err-clause-passes : goal.returns-in-Err-clause-passes
 returns-in-Err-clause-passes g c =

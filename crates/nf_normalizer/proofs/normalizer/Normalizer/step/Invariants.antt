@@ -1,4 +1,4 @@
-use Rattle.std.proofs.Common.{◌≡◌, ◌+◌, ◌<◌, ◌≤◌, ◌⊎◌, ℕ, List, ◌++◌, length}
+use Rattle.std.proofs.Common.{◌≡◌, ◌+◌, ◌<◌, ◌≤◌, ◌⊎◌, ℕ, List, [], ◌++◌, length}
 use Rattle.std.specs.Str.{IsUtf8, chars as characters}
 use Rattle.nf_forms.specs.declared.form.Form.{Form}
 use Rattle.nf_normalizer.specs.Front.{Stands, StepsTo}
@@ -12,6 +12,7 @@ invariant-loop-room g l = record {
   left : length l.rest ≤ length l.text;
   gone : (front : List ℕ) × (characters l.text ≡ front ++ characters l.rest) × (l.put ≤ length front);
   within : IsWithin l.self;
+  empty : l.formed.items ≡ [];
   begun : (length l.rest < length l.text) ⊎ (length l.room.items + 200 ≤ 4096);
   steps : (f : Form) (x : List ℕ) (start : Start) → Stands f (g.R.Rows.properties l.rows) l.fn.self start l.fn.room.items x (characters l.text)
       → StepsTo f (g.R.Rows.properties l.rows) l.self start l.room.items x l.text l.rest l.put;

@@ -22,7 +22,12 @@ returns-in-Ok-clause-takes g c = λ f x start taken holds.
           let room : w.take_many.new.room ≡ c.args.room.now = search rules in
           rw (w.self-is, w.room-is, w.taken-is) (rw (same, room) at w.take_char-taken.ensures.takes)
     ] in
-    let empty : c.clear.new.self.items ≡ [] = search rules in
+    let empty : c.match-single_of.formed.items ≡ [] = elim c.match-single_of.branch [
+      | in-Some w ↦ rw w.formed-is c.requires.empty
+      | in-None+in_default w ↦
+          let none : w.take_many.new.formed.items ≡ [] = search rules in
+          rw w.formed-is none
+    ] in
     rw empty (takes-one p f c.match-single_of.self start c.match-single_of.room.items x c.args.text.now c.as_str.result.now c.unwrap-c.result c.in-Ok.joined c.utf8.text
     (sym c.chars-chars.ensures.rest ∙ first ∙ ap (λ l. encode_utf8 c.unwrap-c.result ++ l) (sym c.as_str.ensures))
     (rw c.in-Ok.is at (next f x start taken holds)))
