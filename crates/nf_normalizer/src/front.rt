@@ -29,9 +29,8 @@ impl Normalizer {
     ghost use Rattle.std.specs.Prelude.{◌≡◌, ◌+◌, ◌<◌, ◌≤◌, ℕ, List, [], length, Ok, IfSome, IsNone, IfOk, OnOk};
     ghost use Rattle.nf_forms.specs.declared.form.Form.{Form};
     ghost use Rattle.nf_boundary.specs.Front.{IsClosedFront};
-    ghost use Rattle.nf_row.specs.Single.{IsSingle};
     ghost use Rattle.nf_normalizer.specs.Room.{Start, Holds};
-    ghost use Rattle.nf_normalizer.specs.Normalizer.{HasTaken, IsWithin, settled_text};
+    ghost use Rattle.nf_normalizer.specs.Normalizer.{HasTaken, IsWithin, TakesNext, settled_text};
     ghost use Rattle.nf_normalizer.specs.Front.{Passes, Takes};
 
     /// Takes a front of a text, and puts what that settles into the room.
@@ -55,8 +54,8 @@ impl Normalizer {
     {
         let mut chars = text.chars();
         let c = chars.next().unwrap();
-        let taken = match self.single_of(rows, c) {
-            Some(single) => self.take_single(rows, c, single, room),
+        let taken = match self.take_alone(rows, c, room) {
+            Some(taken) => taken,
             None => {
                 if let Some(front) = self.take_many(rows, text, room, formed) {
                     return Ok(front);
@@ -74,19 +73,33 @@ impl Normalizer {
         }
     }
 
-    /// What the form has of `c`, where that is known and no closed text begins so, for to ask for a front of it would cost more:
-    /// a mark that is its own row, a starter that counts as a mark, or a letter of Hangul that may compose with the one before.
+    /// Takes `c` where it is known what the form has of it, and no closed text begins so, for to ask for a front of it would
+    /// cost more: a mark that is its own row, a starter that counts as a mark, or a letter of Hangul that may compose with the
+    /// one before.
     #[inline(always)]
-    fn single_of<R: Rows>(&self, rows: &R, c: char) -> Option<Single>
-        ensures { IfSome result (λ single. IsSingle (R.properties rows.now) self.now.form c single) }
+    fn take_alone<R: Rows>(
+        &mut self,
+        rows: &R,
+        c: char,
+        room: &mut Room,
+    ) -> Option<Result<bool, Unsound>>
+        requires within { IsWithin self.old }
+        requires room { length room.old.items + 200 ≤ 4096 }
+        ensures none { IsNone result → (self.new ≡ self.old) × (room.new ≡ room.old) }
+        ensures within { IfSome result (λ taken. OnOk taken (IsWithin self.new)) }
+        ensures takes { IfSome result (TakesNext (R.properties rows.now) self.old self.new room.old.items room.new.items c) }
     {
         if self.pending.is_empty() {
             // At a boundary none of these stands, and at the begin of all text they may go the ordinary way.
             return None;
         }
-        match rows.kind(self.form, c) {
-            Kind::Mark { class, .. } => Some(Single::of_own(c, class)),
-            _ => rows.single(self.form, c),
+        // Marks have a way of their own into the same call: what is known of each stays in registers.
+        if let Kind::Mark { class, .. } = rows.kind(self.form, c) {
+            return Some(self.take_single(rows, c, Single::of_own(c, class), room));
+        }
+        match rows.single(self.form, c) {
+            Some(single) => Some(self.take_single(rows, c, single, room)),
+            None => None,
         }
     }
 

@@ -15,20 +15,20 @@ pub returns-in-Ok-clause-takes : goal.returns-in-Ok-clause-takes
 returns-in-Ok-clause-takes g c = λ f x start taken holds.
     let p = g.R.Rows.properties c.args.rows.now in
     let first = begins _ _ _ _ c.unwrap-c.result c.unwrap-c.ensures c.next.ensures.steps.0 in
-    let next : TakesNext p c.args.self.now c.match-single_of.self c.args.room.now.items c.match-single_of.room.items c.unwrap-c.result c.match-single_of.taken = elim c.match-single_of.branch [
-      | in-Some w ↦ rw (w.self-is, w.room-is, w.taken-is) w.take_single-taken.ensures.takes
+    let next : TakesNext p c.args.self.now c.match-take_alone.self c.args.room.now.items c.match-take_alone.room.items c.unwrap-c.result c.match-take_alone.taken = elim c.match-take_alone.branch [
+      | in-Some w ↦ rw (w.self-is, w.room-is, w.taken-is) w.in-Some.ensures.takes
       | in-None+in_default w ↦
           let same : w.take_many.new.self ≡ c.args.self.now = search rules in
           let room : w.take_many.new.room ≡ c.args.room.now = search rules in
           rw (w.self-is, w.room-is, w.taken-is) (rw (same, room) at w.take_char-taken.ensures.takes)
     ] in
-    let empty : c.match-single_of.formed.items ≡ [] = elim c.match-single_of.branch [
+    let empty : c.match-take_alone.formed.items ≡ [] = elim c.match-take_alone.branch [
       | in-Some w ↦ rw w.formed-is c.requires.empty
       | in-None+in_default w ↦
           let none : w.take_many.new.formed.items ≡ [] = search rules in
           rw w.formed-is none
     ] in
-    rw empty (takes-one p f c.match-single_of.self start c.match-single_of.room.items x c.args.text.now c.as_str.result.now c.unwrap-c.result c.in-Ok.joined c.utf8.text
+    rw empty (takes-one p f c.match-take_alone.self start c.match-take_alone.room.items x c.args.text.now c.as_str.result.now c.unwrap-c.result c.in-Ok.joined c.utf8.text
     (sym c.chars-chars.ensures.rest ∙ first ∙ ap (λ l. encode_utf8 c.unwrap-c.result ++ l) (sym c.as_str.ensures))
     (rw c.in-Ok.is at (next f x start taken holds)))
 
@@ -36,12 +36,12 @@ pub returns-in-Err-clause-takes : goal.returns-in-Err-clause-takes
 returns-in-Err-clause-takes g c = λ f x start taken holds.
     let p = g.R.Rows.properties c.args.rows.now in
     let first = begins _ _ _ _ c.unwrap-c.result c.unwrap-c.ensures c.next.ensures.steps.0 in
-    let next : TakesNext p c.args.self.now c.match-single_of.self c.args.room.now.items c.match-single_of.room.items c.unwrap-c.result c.match-single_of.taken = elim c.match-single_of.branch [
-      | in-Some w ↦ rw (w.self-is, w.room-is, w.taken-is) w.take_single-taken.ensures.takes
+    let next : TakesNext p c.args.self.now c.match-take_alone.self c.args.room.now.items c.match-take_alone.room.items c.unwrap-c.result c.match-take_alone.taken = elim c.match-take_alone.branch [
+      | in-Some w ↦ rw (w.self-is, w.room-is, w.taken-is) w.in-Some.ensures.takes
       | in-None+in_default w ↦
           let same : w.take_many.new.self ≡ c.args.self.now = search rules in
           let room : w.take_many.new.room ≡ c.args.room.now = search rules in
           rw (w.self-is, w.room-is, w.taken-is) (rw (same, room) at w.take_char-taken.ensures.takes)
     ] in
-    refuses-one p f start c.match-single_of.room.items x c.args.text.now (chars_rest c.next.new.self) c.unwrap-c.result c.utf8.text
+    refuses-one p f start c.match-take_alone.room.items x c.args.text.now (chars_rest c.next.new.self) c.unwrap-c.result c.utf8.text
     (sym c.chars-chars.ensures.rest ∙ first) taken.usable (rw c.in-Err.is at (next f x start taken holds))
