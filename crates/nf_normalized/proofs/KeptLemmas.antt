@@ -69,7 +69,7 @@ module _ (p : Properties) where
       next false e more = inr (record { first = c; marks = w; text = refl; no_starter = e })
 
 -- what holds of d, and of c where it is another, holds of c
-or_this : (c d : ℕ) (others : Bool) (P : ℕ → Type 0) → P d → (others ≡ true → P c) → (c == d || others) ≡ true → P c
+pub or_this : (c d : ℕ) (others : Bool) (P : ℕ → Type 0) → P d → (others ≡ true → P c) → (c == d || others) ≡ true → P c
 or_this c d others P here there = next (c == d) refl
   where
     next : (b : Bool) → (c == d) ≡ b → (b || others) ≡ true → P c
@@ -86,7 +86,7 @@ module _ (sound : (c : ℕ) → IsTrue (is_sound ucd c)) (f : Form) where
   abbrev row : ℕ → List ℕ
   row = row_of f ucd
 
-  some_of : (f : Form) (c : ℕ) → 1 ≤ length (row_of f ucd c)
+  pub some_of : (f : Form) (c : ℕ) → 1 ≤ length (row_of f ucd c)
   some_of Nfc c = (IsSound-from_test ucd c (sound c)).canonical_some
   some_of Nfd c = (IsSound-from_test ucd c (sound c)).canonical_some
   some_of Nfkc c = (IsSound-from_test ucd c (sound c)).compat_some
@@ -122,7 +122,7 @@ module _ (sound : (c : ℕ) → IsTrue (is_sound ucd c)) (f : Form) where
   -- ---- forms keep the length of what is decomposed
 
   module _ (twice : (f g : Form) (x : List ℕ) → normal_form g ucd (normal_form f ucd x) ≡ normal_form (after g f) ucd x) where
-    length-form_of : (f : Form) (y : List ℕ) → length (decomposed f ucd (normal_form f ucd y)) ≡ length (decomposed f ucd y)
+    pub length-form_of : (f : Form) (y : List ℕ) → length (decomposed f ucd (normal_form f ucd y)) ≡ length (decomposed f ucd y)
     length-form_of Nfc y =
         sym (length-order ucd (decomposed Nfd ucd (normal_form Nfc ucd y))) ∙ ap length (twice Nfc Nfd y) ∙ length-order ucd (decomposed Nfd ucd y)
     length-form_of Nfd y =

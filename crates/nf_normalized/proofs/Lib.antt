@@ -8,3 +8,6 @@ pub mod CheckerLemmas
 pub mod FeedLemmas
 pub mod FinishLemmas
 pub mod SurveyLemmas
+pub mod MarkLemmas
+pub mod TakenLemmas
+pub mod FrontLemmas

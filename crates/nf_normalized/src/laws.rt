@@ -8,8 +8,9 @@ ghost use Rattle.nf_safe.specs.declared.place.Place.{Place};
 ghost use Rattle.nf_normalized.specs.Change.{change_at, settled_change_at};
 
 use nf_facts::laws::{
-    a_second_filter_changes_nothing, every_character_is_sound, exceptions_are_few,
-    two_forms_are_one,
+    a_second_filter_changes_nothing, each_pair_has_a_primary_composite, every_character_is_sound,
+    exceptions_are_few, forms_are_those_of_the_kit, halfwidth_marks_stand_for_marks,
+    the_quick_check_tells, two_forms_are_one,
 };
 use nf_filter::laws::{little_is_held_back, settled_only_grows};
 use nf_safe::laws::{place_is_longest_front, the_process_joins_the_longest_pieces};
@@ -40,4 +41,20 @@ pub fn little_is_kept()
     exceptions_are_few();
     two_forms_are_one();
     little_is_held_back();
+}
+
+/// Every front of a text that is its own form is its own form.
+pub fn fronts_of_a_form_are_in_it()
+    ensures { (f : Form) (x y : List ℕ) → safe_form f ucd (x ++ y) ≡ x ++ y → safe_form f ucd x ≡ x }
+{
+    every_character_is_sound();
+    a_second_filter_changes_nothing();
+    two_forms_are_one();
+    exceptions_are_few();
+    halfwidth_marks_stand_for_marks();
+    the_quick_check_tells();
+    each_pair_has_a_primary_composite();
+    forms_are_those_of_the_kit();
+    place_is_longest_front();
+    the_process_joins_the_longest_pieces();
 }

@@ -1,0 +1,179 @@
+-- Fronts of a text in a form, over Unicode's data.
+use Rattle.std.proofs.Common.{◌≡◌, ◌≢◌, ◌↔◌, ℕ, ◌+◌, ◌≤◌, ◌<◌, Bool, true, false, not, ◌==◌, cond, List, [], ◌∷◌, ◌++◌, length, take, Some, refl, sym, ap, ◌∙◌, subst, arith, inl, inr, IsTrue, append-nil, append_assoc, eqb-true, true≢false, if◌then◌else◌}
+use Rattle.std.proofs.lemmas.Bool.{cases_Bool, and_parts}
+use Rattle.std.proofs.lemmas.Bool.Decides.{nat_tests}
+use Rattle.std.proofs.lemmas.List.{length-append, take_at}
+use Rattle.std.specs.List.{list_all}
+use Rattle.ucd_normal.specs.declared.forms.Form.{Form as KitForm}
+use Rattle.ucd_normal.specs.declared.forms.Form.TheVariants.{Nfd as KitNfd, Nfkd as KitNfkd}
+use Rattle.ucd_normal.specs.declared.forms.QuickCheck.{QuickCheck}
+use Rattle.ucd_normal.specs.declared.forms.QuickCheck.TheVariants.{Yes, No, Maybe}
+use Rattle.ucd_normal.specs.CanonicalCombiningClass.{canonical_combining_class}
+use Rattle.ucd_normal.specs.QuickCheck.{quick_check}
+use Rattle.unicode_normalization.specs.Forms.{normalize}
+use Rattle.unicode_normalization.specs.Order.{is_ordered}
+use Rattle.unicode_normalization.specs.QuickCheck.{worse, worst, quick_check_text}
+use Rattle.unicode_normalization.proofs.Computing.{unicode_normalization}
+use Rattle.unicode_normalization.proofs.DecomposeLemmas.{decompose-primary_composite}
+use Rattle.unicode_normalization.proofs.FormsLemmas.{quick_check_text-No}
+use Rattle.unicode_normalization.proofs.TableFacts.{is_no}
+use Rattle.nf_forms.specs.Properties.{is_starter}
+use Rattle.nf_forms.specs.Runs.{lead}
+use Rattle.nf_forms.specs.declared.form.Form.{Form}
+use Rattle.nf_forms.specs.declared.form.Form.TheVariants.{Nfc, Nfd, Nfkc, Nfkd}
+use Rattle.nf_forms.specs.Compose.{composite}
+use Rattle.nf_forms.specs.Forms.{row_of, decomposed, composes, finished, normal_form}
+use Rattle.nf_forms.specs.StreamSafe.{stream_safe}
+use Rattle.nf_forms.specs.SafeForm.{safe_form}
+use Rattle.nf_forms.specs.Sound.{is_sound}
+use Rattle.nf_forms.specs.Calm.{IsMark}
+use Rattle.nf_forms.specs.Ucd.{ucd}
+use Rattle.nf_forms.specs.Laws.Last.{by_last}
+use Rattle.nf_forms.specs.Laws.Sound.{IsSoundText, IsSound-from_test}
+use Rattle.nf_forms.specs.Laws.StreamSafe.{decomposed-push}
+use Rattle.nf_safe.specs.Place.{is_in_format}
+use Rattle.nf_facts.specs.KitForm.{kit_form}
+use Rattle.nf_facts.specs.After.{after}
+use Rattle.nf_facts.specs.Passing.{is_among, halfwidth_marks, vowel_signs}
+use Rattle.nf_normalized.proofs.KeptLemmas.{or_this, some_of, length-form_of}
+use Rattle.nf_normalized.proofs.TakenLemmas.{IsRow, last_taken}
+
+-- ---- no character of a text in a form is refused by its quick check
+
+worse-No : (v : QuickCheck) → worse v No ≡ No
+worse-No Yes = refl
+worse-No No = refl
+worse-No Maybe = refl
+
+worst-last : (f : KitForm) (y : List ℕ) (c : ℕ) → quick_check f c ≡ No → worst f (y ++ c ∷ []) ≡ No
+unfolding worst
+worst-last f [] c refused = ap (λ v. worse v Yes) refused
+worst-last f (x ∷ y) c refused = ap (worse (quick_check f x)) (worst-last f y c refused) ∙ worse-No (quick_check f x)
+
+text-refused : (f : KitForm) (y : List ℕ) (c : ℕ) → quick_check f c ≡ No → quick_check_text f (y ++ c ∷ []) ≡ No
+unfolding quick_check_text
+text-refused f y c refused = next (is_ordered (y ++ c ∷ []))
+  where
+    next : (b : Bool) → (if b then worst f (y ++ c ∷ []) else No) ≡ No
+    next true = worst-last f y c refused
+    next false = refl
+
+-- the quick check refuses each of these
+abbrev refuses : Form → List ℕ → Bool
+refuses f cs = list_all (λ x. is_no (quick_check (kit_form f) x)) cs
+
+refused : (f : Form) (cs : List ℕ) → refuses f cs ≡ true → (c : ℕ) → is_among cs c ≡ true → quick_check (kit_form f) c ≡ No
+refused f [] all c among = absurd (true≢false (sym among))
+refused f (x ∷ cs) all c among =
+    let parts = and_parts (is_no (quick_check (kit_form f) x)) (refuses f cs) all in
+    or_this c x (is_among cs c) (λ d. quick_check (kit_form f) d ≡ No) (no (quick_check (kit_form f) x) parts.0) (refused f cs parts.1 c) among
+  where
+    no : (v : QuickCheck) → is_no v ≡ true → v ≡ No
+    no No h = refl
+    no Yes h = cc
+    no Maybe h = cc
+
+vowel_signs-refused : (f : Form) → refuses f vowel_signs ≡ true
+unfolding unicode_normalization
+vowel_signs-refused Nfc = refl
+vowel_signs-refused Nfd = refl
+vowel_signs-refused Nfkc = refl
+vowel_signs-refused Nfkd = refl
+
+halfwidth_marks-refused : (refuses Nfkc halfwidth_marks ≡ true) × (refuses Nfkd halfwidth_marks ≡ true)
+unfolding unicode_normalization
+halfwidth_marks-refused = (refl, refl)
+
+-- ---- the row of one that is not refused
+
+module _ (sound : (c : ℕ) → IsTrue (is_sound ucd c))
+    (starters : (c : ℕ) → canonical_combining_class c ≡ 0 → is_among vowel_signs c ≡ false → is_among halfwidth_marks c ≡ false → lead ucd (ucd.compat c) ≡ 0)
+    (halfwidth : (c : ℕ) → IsTrue (is_among halfwidth_marks c) → ucd.canonical c ≡ c ∷ [])
+    (marks : (f : Form) (c : ℕ) → 0 < canonical_combining_class c → quick_check (kit_form f) c ≢ No → IsMark ucd c (canonical_combining_class c)) where
+  row_of_mark : (f : Form) (c : ℕ) → IsMark ucd c (canonical_combining_class c) → row_of f ucd c ≡ c ∷ []
+  row_of_mark Nfc c m = m.canonical
+  row_of_mark Nfd c m = m.canonical
+  row_of_mark Nfkc c m = m.compat
+  row_of_mark Nfkd c m = m.compat
+
+  -- what begins with no mark begins with a starter
+  begins : (w : List ℕ) → 1 ≤ length w → lead ucd w ≡ 0 → (s : ℕ) × (v : List ℕ) × (w ≡ s ∷ v) × (is_starter ucd s ≡ true)
+  begins [] some none = absurd (omega (arith, some))
+  begins (s ∷ v) some none = (s, v, refl, next (is_starter ucd s) (lead ucd v) none)
+    where
+      next : (b : Bool) (n : ℕ) → cond (not b) (1 + n) 0 ≡ 0 → b ≡ true
+      next true n e = refl
+      next false n e = let bad : ⊥ = omega arith in absurd bad
+
+  row_of_starter : (f : Form) (c : ℕ) → canonical_combining_class c ≡ 0 → is_starter ucd c ≡ true → quick_check (kit_form f) c ≢ No
+      → (s : ℕ) × (v : List ℕ) × (row_of f ucd c ≡ s ∷ v) × (is_starter ucd s ≡ true)
+  row_of_starter f c none starts may = at f (not_among f vowel_signs may (vowel_signs-refused f)) may
+    where
+      not_among : (f : Form) (cs : List ℕ) → quick_check (kit_form f) c ≢ No → refuses f cs ≡ true → is_among cs c ≡ false
+      not_among f cs may all = elim (cases_Bool (is_among cs c)) [ inl among ↦ absurd (may (refused f cs all c among)) | inr other ↦ other ]
+
+      canonical : is_among vowel_signs c ≡ false → (s : ℕ) × (v : List ℕ) × (ucd.canonical c ≡ s ∷ v) × (is_starter ucd s ≡ true)
+      canonical no_sign =
+          let own = IsSound-from_test ucd c (sound c) in
+          elim (cases_Bool (is_among halfwidth_marks c)) [
+            | inl among ↦ (c, [], halfwidth c among, starts)
+            | inr other ↦ begins (ucd.canonical c) own.canonical_some (omega (arith, own.lead_within, starters c none no_sign other))
+          ]
+
+      compat : is_among vowel_signs c ≡ false → is_among halfwidth_marks c ≡ false → (s : ℕ) × (v : List ℕ) × (ucd.compat c ≡ s ∷ v) × (is_starter ucd s ≡ true)
+      compat no_sign no_mark = begins (ucd.compat c) (IsSound-from_test ucd c (sound c)).compat_some (starters c none no_sign no_mark)
+
+      at : (f : Form) → is_among vowel_signs c ≡ false → quick_check (kit_form f) c ≢ No → (s : ℕ) × (v : List ℕ) × (row_of f ucd c ≡ s ∷ v) × (is_starter ucd s ≡ true)
+      at Nfc no_sign may = canonical no_sign
+      at Nfd no_sign may = canonical no_sign
+      at Nfkc no_sign may = compat no_sign (not_among Nfkc halfwidth_marks may halfwidth_marks-refused.0)
+      at Nfkd no_sign may = compat no_sign (not_among Nfkd halfwidth_marks may halfwidth_marks-refused.1)
+
+  row_from : (f : Form) (c : ℕ) → quick_check (kit_form f) c ≢ No → IsRow ucd c (row_of f ucd c)
+  unfolding ucd
+  row_from f c may =
+      elim (cases_Bool (is_starter ucd c)) [
+        | inl starts ↦ inl (row_of_starter f c (eqb-true (canonical_combining_class c) 0 starts) starts may)
+        | inr mark ↦ inr (row_of_mark f c (marks f c (positive (canonical_combining_class c) mark) may), mark)
+      ]
+    where
+      positive : (n : ℕ) → (n == 0) ≡ false → 0 < n
+      positive n h = grind (arith, nat_tests)
+
+  -- ---- a composite's row is longer than that of its first part
+
+  module _ (pairs : (a b : ℕ) → composite ucd a b ≡ ucd.pair a b)
+      (kit : (f : Form) (x : List ℕ) → normal_form f ucd x ≡ normalize (kit_form f) x)
+      (twice : (f g : Form) (x : List ℕ) → normal_form g ucd (normal_form f ucd x) ≡ normal_form (after g f) ucd x) where
+    longer : (f : Form) (a b d : ℕ) → composite ucd a b ≡ Some d → length (row_of f ucd a) < length (row_of f ucd d)
+    unfolding ucd
+    longer f a b d made = omega (arith, some_of sound f f b, ap length (rows f), length-append (row_of f ucd a) (row_of f ucd b))
+      where
+        rows : (f : Form) → row_of f ucd d ≡ row_of f ucd a ++ row_of f ucd b
+        rows Nfc = decompose-primary_composite KitNfd a b d (sym (pairs a b) ∙ made)
+        rows Nfd = decompose-primary_composite KitNfd a b d (sym (pairs a b) ∙ made)
+        rows Nfkc = decompose-primary_composite KitNfkd a b d (sym (pairs a b) ∙ made)
+        rows Nfkd = decompose-primary_composite KitNfkd a b d (sym (pairs a b) ∙ made)
+
+    -- ---- fronts
+
+    -- a text in a form is in it without its last character
+    form-last_taken : (f : Form) (y : List ℕ) (c : ℕ) → normal_form f ucd (y ++ c ∷ []) ≡ y ++ c ∷ [] → normal_form f ucd y ≡ y
+    form-last_taken f y c same =
+        let may : quick_check (kit_form f) c ≢ No = λ no. quick_check_text-No (kit_form f) (y ++ c ∷ []) (text-refused (kit_form f) y c no) (sym (kit f (y ++ c ∷ [])) ∙ same) in
+        last_taken ucd (row_of f ucd) (some_of sound f f) (longer f) (composes f) (decomposed f ucd y) y c (row_from f c may) (length-form_of sound f twice f y)
+        (ap (finished f ucd) (sym (decomposed-push ucd f y c)) ∙ same)
+
+    form-front : (f : Form) (x y : List ℕ) → normal_form f ucd (x ++ y) ≡ x ++ y → normal_form f ucd x ≡ x
+    form-front f x = by_last (λ y. normal_form f ucd (x ++ y) ≡ x ++ y → normal_form f ucd x ≡ x) (λ same. subst (λ k. normal_form f ucd k ≡ k) (append-nil x) same)
+        (λ y c before same. before (form-last_taken f (x ++ y) c (subst (λ k. normal_form f ucd k ≡ k) (sym (append_assoc x y (c ∷ []))) same)))
+
+    module _ (texts : (x : List ℕ) → IsSoundText ucd x) (safe : (f : Form) (x : List ℕ) → stream_safe ucd (safe_form f ucd x) ≡ safe_form f ucd x)
+        (in_format : (x : List ℕ) (n : ℕ) → IsTrue (is_in_format ucd x) → IsTrue (is_in_format ucd (take n x)))
+        (unchanged : (x : List ℕ) → IsSoundText ucd x → (stream_safe ucd x ≡ x) ↔ IsTrue (is_in_format ucd x)) where
+      pub front_in_form : (f : Form) (x y : List ℕ) → safe_form f ucd (x ++ y) ≡ x ++ y → safe_form f ucd x ≡ x
+      unfolding safe_form
+      front_in_form f x y same =
+          let whole : stream_safe ucd (x ++ y) ≡ x ++ y = ap (stream_safe ucd) (sym same) ∙ safe f (x ++ y) ∙ same in
+          let front = subst (λ k. IsTrue (is_in_format ucd k)) (take_at x y (length x) refl) (in_format (x ++ y) (length x) ((unchanged (x ++ y) (texts (x ++ y))).0 whole)) in
+          ap (normal_form f ucd) ((unchanged x (texts x)).1 front) ∙ form-front f x y (ap (normal_form f ucd) (sym whole) ∙ same)

@@ -1,0 +1,122 @@
+-- A text in a form, and what the form makes of it without its last character, over any character data.
+use Rattle.std.proofs.Common.{◌≡◌, ℕ, ◌+◌, ◌≤◌, ◌<◌, Bool, true, false, List, [], ◌∷◌, ◌++◌, length, flat_map, Option, Some, None, refl, sym, ap, ◌∙◌, arith, ◌⊎◌, inl, inr, append-nil, append_assoc}
+use Rattle.std.proofs.lemmas.Bool.{cases_Bool, or_left}
+use Rattle.std.proofs.lemmas.Grind.{flat_map-append}
+use Rattle.std.proofs.lemmas.List.{length-append}
+use Rattle.std.proofs.lemmas.List.Sums.{fold-append}
+use Rattle.std.specs.Prelude.{fold}
+use Rattle.nf_forms.specs.Properties.{Properties, is_starter}
+use Rattle.nf_forms.specs.Runs.{has_starter}
+use Rattle.nf_forms.specs.Order.{order}
+use Rattle.nf_forms.specs.Compose.{composite, joined, replaced, compose_step, compose}
+use Rattle.nf_forms.specs.Forms.{arranged}
+use Rattle.nf_forms.specs.Laws.Front.{EndsInGroup, last_starter}
+use Rattle.nf_forms.specs.Laws.Order.{order_after-at}
+use Rattle.nf_forms.specs.Laws.Compose.{compose_step-at, compose_step-none, joined-starter, joined-behind_marks}
+use Rattle.nf_forms.specs.Laws.Parting.{step-behind}
+use Rattle.nf_normalized.proofs.MarkLemmas.{cons_parts, behind, inserted, same_front, joined-some, mark_taken}
+
+module _ (p : Properties) where
+  -- a row that begins with a starter, or that of a mark which decomposes no further
+  abbrev pub IsRow : ℕ → List ℕ → Type 0
+  IsRow c row = ((s : ℕ) × (v : List ℕ) × (row ≡ s ∷ v) × (is_starter p s ≡ true)) ⊎ ((row ≡ c ∷ []) × (is_starter p c ≡ false))
+
+  -- behind a starter composition goes on alone
+  fold-behind : (z u v : List ℕ) → has_starter p u ≡ true → fold (compose_step p) (z ++ u) v ≡ z ++ fold (compose_step p) u v
+  fold-behind z u [] some = refl
+  fold-behind z u (c ∷ v) some =
+      let step = step-behind p z u c some in
+      ap (λ k. fold (compose_step p) k v) step.0 ∙ fold-behind z (compose_step p u c) v step.1
+
+  -- ---- a starter taken away
+
+  module _ (row : ℕ → List ℕ) (some : (c : ℕ) → 1 ≤ length (row c)) (longer : (a b d : ℕ) → composite p a b ≡ Some d → length (row a) < length (row d)) where
+    -- of how many members the decomposition is
+    abbrev size : List ℕ → ℕ
+    size x = length (flat_map row x)
+
+    size-append : (x y : List ℕ) → size (x ++ y) ≡ size x + size y
+    size-append x y = ap length (flat_map-append row x y) ∙ length-append (flat_map row x) (flat_map row y)
+
+    -- a front of a text with as many members is the text
+    same_size : (y z rest : List ℕ) → y ≡ z ++ rest → size z ≡ size y → z ≡ y
+    same_size y z [] text same = sym (text ∙ append-nil z)
+    same_size y z (a ∷ rest) text same = absurd (omega (arith, same, ap size text, size-append z (a ∷ rest), some a, length-append (row a) (flat_map row rest)))
+
+    -- the first starter stays, or becomes one of a longer row
+    first_step : (d : ℕ) (m : List ℕ) (c : ℕ) → is_starter p d ≡ true
+        → (t : ℕ) × (rest : List ℕ) × (compose_step p (d ∷ m) c ≡ t ∷ rest) × (is_starter p t ≡ true) × (length (row d) ≤ length (row t))
+    first_step d m c starts =
+        elim (cases_Bool (has_starter p m)) [
+          | inl more ↦ (d, compose_step p m c, (step-behind p (d ∷ []) m c more).0, starts, omega arith)
+          | inr none ↦ next (joined p d m c) refl (compose_step-at p [] d m c starts none)
+        ]
+      where
+        next : (o : Option ℕ) → joined p d m c ≡ o → compose_step p (d ∷ m) c ≡ replaced o d m c
+            → (t : ℕ) × (rest : List ℕ) × (compose_step p (d ∷ m) c ≡ t ∷ rest) × (is_starter p t ≡ true) × (length (row d) ≤ length (row t))
+        next None is step = (d, m ++ c ∷ [], step, starts, omega arith)
+        next (Some t) is step = (t, m, step, joined-starter p d m c t is, omega (arith, longer d c t (joined-some p d m c t is).1))
+
+    -- so through all that follows
+    first_of : (d : ℕ) (m v : List ℕ) → is_starter p d ≡ true → (t : ℕ) × (rest : List ℕ) × (fold (compose_step p) (d ∷ m) v ≡ t ∷ rest) × (length (row d) ≤ length (row t))
+    first_of d m [] starts = (d, m, refl, omega arith)
+    first_of d m (c ∷ v) starts =
+        let one = first_step d m c starts in
+        let more = first_of one.0 one.1 v one.3 in
+        (more.0, more.1, ap (λ z. fold (compose_step p) z v) one.2 ∙ more.2, omega (arith, one.4, more.3))
+
+    -- z is y, where with a starter and more behind it is composed to y and c
+    starter_taken : (z y : List ℕ) (c s : ℕ) (v : List ℕ) → is_starter p s ≡ true → size z ≡ size y → fold (compose_step p) z (s ∷ v) ≡ y ++ c ∷ [] → z ≡ y
+    starter_taken z y c s v starts same text = elim (cases_Bool (has_starter p z)) [ inl begun ↦ at (last_starter p z begun) | inr none ↦ apart (compose_step-none p z s none) ]
+      where
+        -- behind a front e that stays y goes on, and with c begins with d or what d became
+        goes_on : (e : List ℕ) (d : ℕ) → is_starter p d ≡ true → compose_step p z s ≡ e ++ d ∷ []
+            → (rest : List ℕ) × (a : ℕ) × (k : List ℕ) × (y ≡ e ++ rest) × (rest ++ c ∷ [] ≡ a ∷ k) × (length (row d) ≤ length (row a))
+        goes_on e d begins step =
+            let first = first_of d [] v begins in
+            let rest = behind e y c first.0 first.1 (sym text ∙ ap (λ k. fold (compose_step p) k v) step ∙ fold-behind e (d ∷ []) v (or_left _ _ begins) ∙ ap (λ k. e ++ k) first.2) in
+            (rest.0, first.0, first.1, rest.1, rest.2, first.3)
+
+        apart : compose_step p z s ≡ z ++ s ∷ [] → z ≡ y
+        apart step = let r = goes_on z s starts step in same_size y z r.0 r.3 same
+
+        -- that would be longer than the starter that was there
+        too_long : (t a : ℕ) (rest k : List ℕ) → rest ++ c ∷ [] ≡ a ∷ k → length (row t) < length (row a) → size rest ≡ length (row t) → ⊥
+        too_long t a [] k ends above whole = omega (arith, some t, whole)
+        too_long t a (b ∷ rest) k ends above whole =
+            omega (arith, above, whole, ap (λ i. length (row i)) (cons_parts b a (rest ++ c ∷ []) k ends).0, length-append (row b) (flat_map row rest))
+
+        made : (e : List ℕ) (t d : ℕ) → z ≡ e ++ t ∷ [] → compose_step p z s ≡ e ++ d ∷ [] → is_starter p d ≡ true → length (row t) < length (row d) → z ≡ y
+        made e t d whole step begins above =
+            let r = goes_on e d begins step in
+            let kept : size r.0 ≡ length (row t) = omega (arith, same, ap size whole, size-append e (t ∷ []), length-append (row t) [], ap size r.3, size-append e r.0) in
+            absurd (too_long t r.1 r.0 r.2 r.4 (omega (arith, above, r.5)) kept)
+
+        next : (e : List ℕ) (t : ℕ) (m : List ℕ) (o : Option ℕ) → z ≡ e ++ t ∷ m → joined p t m s ≡ o → compose_step p z s ≡ e ++ replaced o t m s → z ≡ y
+        next e t m None whole is step = apart (step ∙ sym (append_assoc e (t ∷ m) (s ∷ [])) ∙ ap (λ k. k ++ s ∷ []) (sym whole))
+        next e t [] (Some d) whole is step = made e t d whole step (joined-starter p t [] s d is) (longer t s d (joined-some p t [] s d is).1)
+        next e t (x ∷ m) (Some d) whole is step = let clash = sym is ∙ joined-behind_marks p t x m s starts in cc
+
+        at : EndsInGroup p z → z ≡ y
+        at g =
+            next g.before g.starter g.marks (joined p g.starter g.marks s) g.text refl
+            (ap (λ k. compose_step p k s) g.text ∙ compose_step-at p g.before g.starter g.marks s g.starts g.no_starter)
+
+    -- ---- the last character taken away
+
+    -- where the form of a text and the row of c is y and c, the form of the text alone is y
+    pub last_taken : (b : Bool) (w y : List ℕ) (c : ℕ) → IsRow c (row c) → size (arranged b p w) ≡ size y → arranged b p (w ++ row c) ≡ y ++ c ∷ [] → arranged b p w ≡ y
+    last_taken false w y c (inl r) same text =
+        let rest = behind (order p w) y c r.0 (order p r.1) (sym text ∙ ap (λ k. order p (w ++ k)) r.2 ∙ order_after-at p [] w r.0 r.1 r.3) in
+        same_size y (order p w) rest.0 rest.1 same
+    last_taken true w y c (inl r) same text =
+        starter_taken (compose p (order p w)) y c r.0 (order p r.1) r.3 same
+        (sym (fold-append (compose_step p) [] (order p w) (r.0 ∷ order p r.1)) ∙ ap (compose p) (sym (order_after-at p [] w r.0 r.1 r.3)) ∙ ap (λ k. compose p (order p (w ++ k))) (sym r.2) ∙ text)
+    last_taken false w y c (inr r) same text =
+        let l = inserted p w c r.1 in
+        same_front p c l.head l.tail y (order p w) l.above l.without (sym text ∙ ap (λ k. order p (w ++ k)) r.0 ∙ l.with_c)
+    last_taken true w y c (inr r) same text =
+        let l = inserted p w c r.1 in
+        ap (compose p) l.without ∙ fold-append (compose_step p) [] l.head l.tail
+        ∙ mark_taken p (compose p l.head) l.tail y c r.1 l.marks l.above
+        (sym (fold-append (compose_step p) [] l.head (c ∷ l.tail)) ∙ ap (compose p) (sym l.with_c) ∙ ap (λ k. compose p (order p (w ++ k))) (sym r.0) ∙ text)
