@@ -1,7 +1,6 @@
 -- Fronts of a text in a form, over Unicode's data.
-use Rattle.std.proofs.Common.{◌≡◌, ◌≢◌, ◌↔◌, ℕ, ◌+◌, ◌≤◌, ◌<◌, Bool, true, false, not, ◌==◌, cond, List, [], ◌∷◌, ◌++◌, length, take, Some, refl, sym, ap, ◌∙◌, subst, arith, inl, inr, IsTrue, append-nil, append_assoc, eqb-true, true≢false, if◌then◌else◌}
-use Rattle.std.proofs.lemmas.Bool.{cases_Bool, and_parts}
-use Rattle.std.proofs.lemmas.Bool.Decides.{nat_tests}
+use Rattle.std.proofs.Common.{◌≡◌, ◌≢◌, ◌↔◌, ℕ, ◌<◌, Bool, true, false, List, [], ◌∷◌, ◌++◌, length, take, Some, refl, sym, ap, ◌∙◌, subst, arith, inl, inr, IsTrue, append-nil, append_assoc, eqb-true, pos_of_ne-zero, if◌then◌else◌}
+use Rattle.std.proofs.lemmas.Bool.{cases_Bool, and_parts, or_from, ne_eqb, eqb-false}
 use Rattle.std.proofs.lemmas.List.{length-append, take_at}
 use Rattle.std.specs.List.{list_all}
 use Rattle.ucd_normal.specs.declared.forms.Form.{Form as KitForm}
@@ -29,13 +28,15 @@ use Rattle.nf_forms.specs.Sound.{is_sound}
 use Rattle.nf_forms.specs.Calm.{IsMark}
 use Rattle.nf_forms.specs.Ucd.{ucd}
 use Rattle.nf_forms.specs.Laws.Last.{by_last}
-use Rattle.nf_forms.specs.Laws.Sound.{IsSoundText, IsSound-from_test}
+use Rattle.nf_forms.specs.Laws.Calm.{row-mark}
+use Rattle.nf_forms.specs.Laws.ClosedForms.{BeginsInStarter, begins_in_starter}
+use Rattle.nf_forms.specs.Laws.Sound.{IsSound, IsSoundText, IsSound-from_test}
 use Rattle.nf_forms.specs.Laws.StreamSafe.{decomposed-push}
 use Rattle.nf_safe.specs.Place.{is_in_format}
 use Rattle.nf_facts.specs.KitForm.{kit_form}
 use Rattle.nf_facts.specs.After.{after}
 use Rattle.nf_facts.specs.Passing.{is_among, halfwidth_marks, vowel_signs}
-use Rattle.nf_normalized.proofs.KeptLemmas.{or_this, some_of, length-form_of}
+use Rattle.nf_normalized.proofs.KeptLemmas.{some_of, length-form_of}
 use Rattle.nf_normalized.proofs.TakenLemmas.{IsRow, last_taken}
 
 -- ---- no character of a text in a form is refused by its quick check
@@ -62,11 +63,11 @@ text-refused f y c refused = next (is_ordered (y ++ c ∷ []))
 abbrev refuses : Form → List ℕ → Bool
 refuses f cs = list_all (λ x. is_no (quick_check (kit_form f) x)) cs
 
-refused : (f : Form) (cs : List ℕ) → refuses f cs ≡ true → (c : ℕ) → is_among cs c ≡ true → quick_check (kit_form f) c ≡ No
-refused f [] all c among = absurd (true≢false (sym among))
-refused f (x ∷ cs) all c among =
+not_among : (f : Form) (c : ℕ) → quick_check (kit_form f) c ≢ No → (cs : List ℕ) → refuses f cs ≡ true → is_among cs c ≡ false
+not_among f c may [] all = refl
+not_among f c may (x ∷ cs) all =
     let parts = and_parts (is_no (quick_check (kit_form f) x)) (refuses f cs) all in
-    or_this c x (is_among cs c) (λ d. quick_check (kit_form f) d ≡ No) (no (quick_check (kit_form f) x) parts.0) (refused f cs parts.1 c) among
+    or_from _ _ (ne_eqb c x (λ same. may (ap (quick_check (kit_form f)) same ∙ no (quick_check (kit_form f) x) parts.0))) (not_among f c may cs parts.1)
   where
     no : (v : QuickCheck) → is_no v ≡ true → v ≡ No
     no No h = refl
@@ -90,55 +91,35 @@ module _ (sound : (c : ℕ) → IsTrue (is_sound ucd c))
     (starters : (c : ℕ) → canonical_combining_class c ≡ 0 → is_among vowel_signs c ≡ false → is_among halfwidth_marks c ≡ false → lead ucd (ucd.compat c) ≡ 0)
     (halfwidth : (c : ℕ) → IsTrue (is_among halfwidth_marks c) → ucd.canonical c ≡ c ∷ [])
     (marks : (f : Form) (c : ℕ) → 0 < canonical_combining_class c → quick_check (kit_form f) c ≢ No → IsMark ucd c (canonical_combining_class c)) where
-  row_of_mark : (f : Form) (c : ℕ) → IsMark ucd c (canonical_combining_class c) → row_of f ucd c ≡ c ∷ []
-  row_of_mark Nfc c m = m.canonical
-  row_of_mark Nfd c m = m.canonical
-  row_of_mark Nfkc c m = m.compat
-  row_of_mark Nfkd c m = m.compat
-
-  -- what begins with no mark begins with a starter
-  begins : (w : List ℕ) → 1 ≤ length w → lead ucd w ≡ 0 → (s : ℕ) × (v : List ℕ) × (w ≡ s ∷ v) × (is_starter ucd s ≡ true)
-  begins [] some none = absurd (omega (arith, some))
-  begins (s ∷ v) some none = (s, v, refl, next (is_starter ucd s) (lead ucd v) none)
-    where
-      next : (b : Bool) (n : ℕ) → cond (not b) (1 + n) 0 ≡ 0 → b ≡ true
-      next true n e = refl
-      next false n e = let bad : ⊥ = omega arith in absurd bad
-
   row_of_starter : (f : Form) (c : ℕ) → canonical_combining_class c ≡ 0 → is_starter ucd c ≡ true → quick_check (kit_form f) c ≢ No
-      → (s : ℕ) × (v : List ℕ) × (row_of f ucd c ≡ s ∷ v) × (is_starter ucd s ≡ true)
-  row_of_starter f c none starts may = at f (not_among f vowel_signs may (vowel_signs-refused f)) may
+      → BeginsInStarter ucd (row_of f ucd c)
+  row_of_starter f c none starts may = at f (not_among f c may vowel_signs (vowel_signs-refused f)) may
     where
-      not_among : (f : Form) (cs : List ℕ) → quick_check (kit_form f) c ≢ No → refuses f cs ≡ true → is_among cs c ≡ false
-      not_among f cs may all = elim (cases_Bool (is_among cs c)) [ inl among ↦ absurd (may (refused f cs all c among)) | inr other ↦ other ]
+      own : IsSound ucd c
+      own = IsSound-from_test ucd c (sound c)
 
-      canonical : is_among vowel_signs c ≡ false → (s : ℕ) × (v : List ℕ) × (ucd.canonical c ≡ s ∷ v) × (is_starter ucd s ≡ true)
-      canonical no_sign =
-          let own = IsSound-from_test ucd c (sound c) in
-          elim (cases_Bool (is_among halfwidth_marks c)) [
-            | inl among ↦ (c, [], halfwidth c among, starts)
-            | inr other ↦ begins (ucd.canonical c) own.canonical_some (omega (arith, own.lead_within, starters c none no_sign other))
-          ]
+      canonical : is_among vowel_signs c ≡ false → BeginsInStarter ucd (ucd.canonical c)
+      canonical no_sign = elim (cases_Bool (is_among halfwidth_marks c)) [
+        | inl among ↦ record { first = c; rest = []; text = halfwidth c among; starter = starts }
+        | inr other ↦ begins_in_starter ucd (ucd.canonical c) own.canonical_some (omega (arith, own.lead_within, starters c none no_sign other))
+      ]
 
-      compat : is_among vowel_signs c ≡ false → is_among halfwidth_marks c ≡ false → (s : ℕ) × (v : List ℕ) × (ucd.compat c ≡ s ∷ v) × (is_starter ucd s ≡ true)
-      compat no_sign no_mark = begins (ucd.compat c) (IsSound-from_test ucd c (sound c)).compat_some (starters c none no_sign no_mark)
+      compat : is_among vowel_signs c ≡ false → is_among halfwidth_marks c ≡ false → BeginsInStarter ucd (ucd.compat c)
+      compat no_sign no_mark = begins_in_starter ucd (ucd.compat c) own.compat_some (starters c none no_sign no_mark)
 
-      at : (f : Form) → is_among vowel_signs c ≡ false → quick_check (kit_form f) c ≢ No → (s : ℕ) × (v : List ℕ) × (row_of f ucd c ≡ s ∷ v) × (is_starter ucd s ≡ true)
+      at : (f : Form) → is_among vowel_signs c ≡ false → quick_check (kit_form f) c ≢ No → BeginsInStarter ucd (row_of f ucd c)
       at Nfc no_sign may = canonical no_sign
       at Nfd no_sign may = canonical no_sign
-      at Nfkc no_sign may = compat no_sign (not_among Nfkc halfwidth_marks may halfwidth_marks-refused.0)
-      at Nfkd no_sign may = compat no_sign (not_among Nfkd halfwidth_marks may halfwidth_marks-refused.1)
+      at Nfkc no_sign may = compat no_sign (not_among Nfkc c may halfwidth_marks halfwidth_marks-refused.0)
+      at Nfkd no_sign may = compat no_sign (not_among Nfkd c may halfwidth_marks halfwidth_marks-refused.1)
 
   row_from : (f : Form) (c : ℕ) → quick_check (kit_form f) c ≢ No → IsRow ucd c (row_of f ucd c)
   unfolding ucd
   row_from f c may =
       elim (cases_Bool (is_starter ucd c)) [
         | inl starts ↦ inl (row_of_starter f c (eqb-true (canonical_combining_class c) 0 starts) starts may)
-        | inr mark ↦ inr (row_of_mark f c (marks f c (positive (canonical_combining_class c) mark) may), mark)
+        | inr mark ↦ inr (row-mark ucd f c (canonical_combining_class c) (marks f c (pos_of_ne-zero (eqb-false (canonical_combining_class c) 0 mark)) may), mark)
       ]
-    where
-      positive : (n : ℕ) → (n == 0) ≡ false → 0 < n
-      positive n h = grind (arith, nat_tests)
 
   -- ---- a composite's row is longer than that of its first part
 

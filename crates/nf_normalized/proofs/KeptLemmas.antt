@@ -1,75 +1,32 @@
 -- How many characters can stand behind what is settled of a form.
-use Rattle.std.proofs.Common.{◌≡◌, ◌⊎◌, inl, inr, leb-true, ap₂, append_assoc, ◌||◌, ◌==◌, subst, eqb-true, true≢false, eq-zero-or-pos, ℕ, ◌+◌, ◌*◌, ◌<◌, ◌≤◌, Bool, true, false, List, [], ◌∷◌, ◌++◌, length, refl, sym, ap, ◌∙◌, arith, if◌then◌else◌, ⊎_elim, IsTrue}
-use Rattle.std.proofs.lemmas.Bool.{cases_Bool, or_parts}
+use Rattle.std.proofs.Common.{◌≡◌, inl, inr, leb-true, ◌||◌, ◌==◌, subst, eqb-true, true≢false, pos_of_ne-zero, ℕ, ◌*◌, ◌<◌, ◌≤◌, Bool, true, false, List, [], ◌∷◌, ◌++◌, length, refl, sym, ap, ◌∙◌, arith, if◌then◌else◌, IsTrue}
+use Rattle.std.proofs.lemmas.Bool.{cases_Bool, or_parts, eqb-false}
 use Rattle.std.proofs.lemmas.List.{length-append}
 use Rattle.unicode_normalization.proofs.Computing.{unicode_normalization}
 use Rattle.ucd_normal.specs.CanonicalCombiningClass.{canonical_combining_class}
-use Rattle.nf_forms.specs.Properties.{Properties, is_starter}
+use Rattle.nf_forms.specs.Properties.{is_starter}
 use Rattle.nf_forms.specs.Runs.{has_starter}
 use Rattle.nf_forms.specs.Front.{front, back}
 use Rattle.nf_forms.specs.declared.form.Form.{Form}
 use Rattle.nf_forms.specs.declared.form.Form.TheVariants.{Nfc, Nfd, Nfkc, Nfkd}
-use Rattle.nf_forms.specs.Order.{order, by_class}
 use Rattle.nf_forms.specs.Forms.{row_of, decomposed, normal_form}
 use Rattle.nf_forms.specs.StreamSafe.{joiner, is_too_long, parted, stream_safe}
 use Rattle.nf_forms.specs.SafeForm.{safe_form}
 use Rattle.nf_forms.specs.Sound.{is_sound}
 use Rattle.nf_forms.specs.Ucd.{ucd}
 use Rattle.nf_forms.specs.Calm.{IsMark}
-use Rattle.nf_forms.specs.Laws.Runs.{has_starter-append}
 use Rattle.nf_forms.specs.Laws.Last.{by_last}
-use Rattle.nf_forms.specs.Laws.Front.{front-append-back, IsCut, cut}
-use Rattle.nf_forms.specs.Laws.Starters.{length-by_class}
-use Rattle.nf_forms.specs.Laws.Order.{order-push_starter, order-behind}
+use Rattle.nf_forms.specs.Laws.Front.{front-append-back, back-at, back-none, EndsInGroup, last_starter}
 use Rattle.nf_forms.specs.Laws.Sound.{IsSound-from_test, IsSoundText}
 use Rattle.nf_forms.specs.Laws.StreamSafe.{stream_safe-push, decomposed-append, decomposed-push}
 use Rattle.nf_facts.specs.Passing.{is_among, mapped_marks}
 use Rattle.nf_facts.specs.After.{after}
+use Rattle.nf_row.proofs.OrderingLemmas.{length-order}
 use Rattle.nf_filter.specs.Settled.{settled, is_usable}
 use Rattle.nf_filter.specs.Laws.{LittleIsHeldBack}
 
--- ---- ordering keeps the length
-
-module _ (p : Properties) where
-  by_run : (w : List ℕ) → IsCut p w → (run : List ℕ) → has_starter p run ≡ false → length (order p (w ++ run)) ≡ length (order p w) + length run
-  by_run w r run marks =
-      let both = marks_append r.run run r.marks marks in
-      let text = ap (λ l. l ++ run) r.text ∙ append_assoc r.head r.run run in
-      let whole = ap (λ l. length (order p l)) text ∙ ap length (order-behind p r.head (r.run ++ run) r.ends both) ∙ length-append (order p r.head) (by_class p (r.run ++ run)) in
-      let before = ap (λ l. length (order p l)) r.text ∙ ap length (order-behind p r.head r.run r.ends r.marks) ∙ length-append (order p r.head) (by_class p r.run) in
-      omega (arith, whole, before, length-by_class p (r.run ++ run) both, length-by_class p r.run r.marks, length-append r.run run)
-    where
-      marks_append : (m n : List ℕ) → has_starter p m ≡ false → has_starter p n ≡ false → has_starter p (m ++ n) ≡ false
-      marks_append m n a b = has_starter-append p m n ∙ ap₂ (λ s t. s || t) a b
-
-  pub length-order : (w : List ℕ) → length (order p w) ≡ length w
-  unfolding by_class
-  length-order = by_last (λ w. length (order p w) ≡ length w) refl push
-    where
-      push : (w : List ℕ) (c : ℕ) → length (order p w) ≡ length w → length (order p (w ++ c ∷ [])) ≡ length (w ++ c ∷ [])
-      push w c before = elim (cases_Bool (is_starter p c)) [
-        | inl starter ↦ ap length (order-push_starter p w c starter) ∙ omega (arith, before, length-append (order p w) (c ∷ []), length-append w (c ∷ []))
-        | inr mark ↦ omega (arith, before, by_run w (cut p w) (c ∷ []) (ap (λ b. b || false) mark), length-append w (c ∷ []))
-      ]
-
-  -- from the last starter on there is at most that, and non-starters
-  pub record EndsInMarks (w : List ℕ) : Type 0 where
-    pub first : ℕ
-    pub marks : List ℕ
-    pub text : w ≡ first ∷ marks
-    pub no_starter : has_starter p marks ≡ false
-
-  pub back-marks : (w : List ℕ) → (back p w ≡ []) ⊎ EndsInMarks (back p w)
-  back-marks [] = inl refl
-  back-marks (c ∷ w) = next (has_starter p w) refl (back-marks w)
-    where
-      next : (b : Bool) → has_starter p w ≡ b → (back p w ≡ []) ⊎ EndsInMarks (back p w)
-          → ((if b then back p w else c ∷ w) ≡ []) ⊎ EndsInMarks (if b then back p w else c ∷ w)
-      next true e more = more
-      next false e more = inr (record { first = c; marks = w; text = refl; no_starter = e })
-
 -- what holds of d, and of c where it is another, holds of c
-pub or_this : (c d : ℕ) (others : Bool) (P : ℕ → Type 0) → P d → (others ≡ true → P c) → (c == d || others) ≡ true → P c
+or_this : (c d : ℕ) (others : Bool) (P : ℕ → Type 0) → P d → (others ≡ true → P c) → (c == d || others) ≡ true → P c
 or_this c d others P here there = next (c == d) refl
   where
     next : (b : Bool) → (c == d) ≡ b → (b || others) ≡ true → P c
@@ -141,7 +98,7 @@ module _ (sound : (c : ℕ) → IsTrue (is_sound ucd c)) (f : Form) where
     module _ (is_mark : (c : ℕ) → 0 < canonical_combining_class c → is_among mapped_marks c ≡ false → IsMark ucd c (canonical_combining_class c)) where
       class_of : (c : ℕ) → is_starter ucd c ≡ false → 0 < canonical_combining_class c
       unfolding ucd
-      class_of c mark = ⊎_elim (λ none. absurd (true≢false (sym (ap (λ n. n == 0) none) ∙ mark))) (λ some. some) (eq-zero-or-pos (canonical_combining_class c))
+      class_of c mark = pos_of_ne-zero (eqb-false (canonical_combining_class c) 0 mark)
 
       mapped : (f : Form) (c : ℕ) → is_among mapped_marks c ≡ true → length (row_of f ucd c) ≤ 2
       unfolding ucd unicode_normalization
@@ -170,18 +127,23 @@ module _ (sound : (c : ℕ) → IsTrue (is_sound ucd c)) (f : Form) where
           omega (arith, short_of f c parts.0, marks_short m parts.1, length-append (row c) (decomposed f ucd m))
 
       back_short : (w : List ℕ) → length (back ucd w) ≤ 31 → length (decomposed f ucd (back ucd w)) ≤ 78
-      back_short w few = ⊎_elim (λ none. omega (arith, ap (λ l. length (decomposed f ucd l)) none)) at (back-marks ucd w)
+      back_short w few = elim (cases_Bool (has_starter ucd w)) [
+        | inl some ↦ at (last_starter ucd w some)
+        | inr none ↦ let whole = back-none ucd w none in omega (arith, few, ap length whole, ap (λ l. length (decomposed f ucd l)) whole, marks_short w none)
+      ]
         where
-          at : EndsInMarks ucd (back ucd w) → length (decomposed f ucd (back ucd w)) ≤ 78
-          at r = omega (
-            arith,
-            few,
-            ap length r.text,
-            ap (λ l. length (decomposed f ucd l)) r.text,
-            length-append (row r.first) (decomposed f ucd r.marks),
-            few_of f r.first,
-            marks_short r.marks r.no_starter,
-          )
+          at : EndsInGroup ucd w → length (decomposed f ucd (back ucd w)) ≤ 78
+          at r =
+              let text = ap (back ucd) r.text ∙ back-at ucd r.before r.starter r.marks r.starts r.no_starter in
+              omega (
+                arith,
+                few,
+                ap length text,
+                ap (λ l. length (decomposed f ucd l)) text,
+                length-append (row r.starter) (decomposed f ucd r.marks),
+                few_of f r.starter,
+                marks_short r.marks r.no_starter,
+              )
 
       module _ (texts : (x : List ℕ) → IsSoundText ucd x) (held_back : LittleIsHeldBack) where
         pub kept_short : (x u : List ℕ) → x ≡ settled f ucd x ++ u → length u ≤ 78

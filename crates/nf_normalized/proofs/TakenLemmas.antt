@@ -12,21 +12,15 @@ use Rattle.nf_forms.specs.Compose.{composite, joined, replaced, compose_step, co
 use Rattle.nf_forms.specs.Forms.{arranged}
 use Rattle.nf_forms.specs.Laws.Front.{EndsInGroup, last_starter}
 use Rattle.nf_forms.specs.Laws.Order.{order_after-at}
-use Rattle.nf_forms.specs.Laws.Compose.{compose_step-at, compose_step-none, joined-starter, joined-behind_marks}
-use Rattle.nf_forms.specs.Laws.Parting.{step-behind}
-use Rattle.nf_normalized.proofs.MarkLemmas.{cons_parts, behind, inserted, same_front, joined-some, mark_taken}
+use Rattle.nf_forms.specs.Laws.Compose.{compose_step-at, compose_step-none, joined-some, joined-starter, joined-behind_marks}
+use Rattle.nf_forms.specs.Laws.Parting.{step-behind, fold-behind}
+use Rattle.nf_forms.specs.Laws.ClosedForms.{BeginsInStarter}
+use Rattle.nf_normalized.proofs.MarkLemmas.{behind, inserted, same_front, mark_taken}
 
 module _ (p : Properties) where
   -- a row that begins with a starter, or that of a mark which decomposes no further
   abbrev pub IsRow : ℕ → List ℕ → Type 0
-  IsRow c row = ((s : ℕ) × (v : List ℕ) × (row ≡ s ∷ v) × (is_starter p s ≡ true)) ⊎ ((row ≡ c ∷ []) × (is_starter p c ≡ false))
-
-  -- behind a starter composition goes on alone
-  fold-behind : (z u v : List ℕ) → has_starter p u ≡ true → fold (compose_step p) (z ++ u) v ≡ z ++ fold (compose_step p) u v
-  fold-behind z u [] some = refl
-  fold-behind z u (c ∷ v) some =
-      let step = step-behind p z u c some in
-      ap (λ k. fold (compose_step p) k v) step.0 ∙ fold-behind z (compose_step p u c) v step.1
+  IsRow c row = BeginsInStarter p row ⊎ ((row ≡ c ∷ []) × (is_starter p c ≡ false))
 
   -- ---- a starter taken away
 
@@ -74,7 +68,7 @@ module _ (p : Properties) where
             → (rest : List ℕ) × (a : ℕ) × (k : List ℕ) × (y ≡ e ++ rest) × (rest ++ c ∷ [] ≡ a ∷ k) × (length (row d) ≤ length (row a))
         goes_on e d begins step =
             let first = first_of d [] v begins in
-            let rest = behind e y c first.0 first.1 (sym text ∙ ap (λ k. fold (compose_step p) k v) step ∙ fold-behind e (d ∷ []) v (or_left _ _ begins) ∙ ap (λ k. e ++ k) first.2) in
+            let rest = behind e y c first.0 first.1 (sym text ∙ ap (λ k. fold (compose_step p) k v) step ∙ fold-behind p e (d ∷ []) v (or_left _ _ begins) ∙ ap (λ k. e ++ k) first.2) in
             (rest.0, first.0, first.1, rest.1, rest.2, first.3)
 
         apart : compose_step p z s ≡ z ++ s ∷ [] → z ≡ y
@@ -84,7 +78,8 @@ module _ (p : Properties) where
         too_long : (t a : ℕ) (rest k : List ℕ) → rest ++ c ∷ [] ≡ a ∷ k → length (row t) < length (row a) → size rest ≡ length (row t) → ⊥
         too_long t a [] k ends above whole = omega (arith, some t, whole)
         too_long t a (b ∷ rest) k ends above whole =
-            omega (arith, above, whole, ap (λ i. length (row i)) (cons_parts b a (rest ++ c ∷ []) k ends).0, length-append (row b) (flat_map row rest))
+            let first : b ≡ a = cc in
+            omega (arith, above, whole, ap (λ i. length (row i)) first, length-append (row b) (flat_map row rest))
 
         made : (e : List ℕ) (t d : ℕ) → z ≡ e ++ t ∷ [] → compose_step p z s ≡ e ++ d ∷ [] → is_starter p d ≡ true → length (row t) < length (row d) → z ≡ y
         made e t d whole step begins above =
@@ -107,11 +102,11 @@ module _ (p : Properties) where
     -- where the form of a text and the row of c is y and c, the form of the text alone is y
     pub last_taken : (b : Bool) (w y : List ℕ) (c : ℕ) → IsRow c (row c) → size (arranged b p w) ≡ size y → arranged b p (w ++ row c) ≡ y ++ c ∷ [] → arranged b p w ≡ y
     last_taken false w y c (inl r) same text =
-        let rest = behind (order p w) y c r.0 (order p r.1) (sym text ∙ ap (λ k. order p (w ++ k)) r.2 ∙ order_after-at p [] w r.0 r.1 r.3) in
+        let rest = behind (order p w) y c r.first (order p r.rest) (sym text ∙ ap (λ k. order p (w ++ k)) r.text ∙ order_after-at p [] w r.first r.rest r.starter) in
         same_size y (order p w) rest.0 rest.1 same
     last_taken true w y c (inl r) same text =
-        starter_taken (compose p (order p w)) y c r.0 (order p r.1) r.3 same
-        (sym (fold-append (compose_step p) [] (order p w) (r.0 ∷ order p r.1)) ∙ ap (compose p) (sym (order_after-at p [] w r.0 r.1 r.3)) ∙ ap (λ k. compose p (order p (w ++ k))) (sym r.2) ∙ text)
+        starter_taken (compose p (order p w)) y c r.first (order p r.rest) r.starter same
+        (sym (fold-append (compose_step p) [] (order p w) (r.first ∷ order p r.rest)) ∙ ap (compose p) (sym (order_after-at p [] w r.first r.rest r.starter)) ∙ ap (λ k. compose p (order p (w ++ k))) (sym r.text) ∙ text)
     last_taken false w y c (inr r) same text =
         let l = inserted p w c r.1 in
         same_front p c l.head l.tail y (order p w) l.above l.without (sym text ∙ ap (λ k. order p (w ++ k)) r.0 ∙ l.with_c)

@@ -18,6 +18,22 @@ use Rattle.nf_forms.specs.Laws.Sound.{IsSound, IsSound-from_test, IsSoundText}
 use Rattle.nf_forms.specs.Laws.Parting.{safe_step-room}
 use Rattle.nf_forms.specs.Laws.Calm.{calm-begins, safe_form-calm_alone}
 
+module _ (p : Properties) where
+  pub record BeginsInStarter (w : List ℕ) : Type 0 where
+    pub first : ℕ
+    pub rest : List ℕ
+    pub text : w ≡ first ∷ rest
+    pub starter : is_starter p first ≡ true
+
+  -- what begins with no mark begins with a starter
+  pub begins_in_starter : (w : List ℕ) → 1 ≤ length w → lead p w ≡ 0 → BeginsInStarter w
+  begins_in_starter [] some none = absurd (omega arith)
+  begins_in_starter (a ∷ w) some none = record { first = a; rest = w; text = refl; starter = next (is_starter p a) (lead p w) none }
+    where
+      next : (b : Bool) (n : ℕ) → cond (not b) (1 + n) 0 ≡ 0 → b ≡ true
+      next true n e = refl
+      next false n e = absurd (omega arith)
+
 module _ (p : Properties) (f : Form) where
   pub parting-boundary : (c : ℕ) → IsParting p f c → IsBoundary p f c
   parting-boundary c parting = record { anew = parting.anew; counts = parting.counts }
@@ -52,23 +68,9 @@ module _ (p : Properties) (f : Form) where
 
   -- ---- one character
 
-  record BeginsInStarter (w : List ℕ) : Type 0 where
-    first : ℕ
-    rest : List ℕ
-    text : w ≡ first ∷ rest
-    starter : is_starter p first ≡ true
-
-  begins_in_starter : (w : List ℕ) → 1 ≤ length w → lead p w ≡ 0 → BeginsInStarter w
-  begins_in_starter [] some none = absurd (omega arith)
-  begins_in_starter (a ∷ w) some none = record { first = a; rest = w; text = refl; starter = next (is_starter p a) (lead p w) none }
-    where
-      next : (b : Bool) (n : ℕ) → cond (not b) (1 + n) 0 ≡ 0 → b ≡ true
-      next true n e = refl
-      next false n e = absurd (omega arith)
-
   pub counts_anew-lead : (c : ℕ) → is_sound p c ≡ true → lead p (p.compat c) ≡ 0 → CountsAnew p c
   counts_anew-lead c sound none =
-      let begins = begins_in_starter (p.compat c) (IsSound-from_test p c sound).compat_some none in
+      let begins = begins_in_starter p (p.compat c) (IsSound-from_test p c sound).compat_some none in
       record { lead = none; some = ap (has_starter p) begins.text ∙ or_left _ _ begins.starter }
 
   -- where the form does not compose, a text may be cut before each sound character whose compatibility row begins with a
@@ -79,11 +81,11 @@ module _ (p : Properties) (f : Form) where
       parts : IsSound p c
       parts = IsSound-from_test p c sound
 
-      canonical : BeginsInStarter (p.canonical c)
-      canonical = begins_in_starter (p.canonical c) parts.canonical_some (omega (arith, parts.lead_within))
+      canonical : BeginsInStarter p (p.canonical c)
+      canonical = begins_in_starter p (p.canonical c) parts.canonical_some (omega (arith, parts.lead_within))
 
-      compat : BeginsInStarter (p.compat c)
-      compat = begins_in_starter (p.compat c) parts.compat_some none
+      compat : BeginsInStarter p (p.compat c)
+      compat = begins_in_starter p (p.compat c) parts.compat_some none
 
       anew : (f : Form) → composes f ≡ false → BeginsAnew p f c
       anew Nfc plain = cc

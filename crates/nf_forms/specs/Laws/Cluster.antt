@@ -5,7 +5,7 @@ use Rattle.std.proofs.lemmas.List.Folds.{list_any-append}
 use Rattle.nf_forms.specs.Properties.{Properties, is_starter}
 use Rattle.nf_forms.specs.Runs.{has_starter, lead, trail}
 use Rattle.nf_forms.specs.Ordering.{is_reorderable, is_ordered}
-use Rattle.nf_forms.specs.Compose.{composite, is_blocked, joined, replaced, compose_step, compose}
+use Rattle.nf_forms.specs.Compose.{is_blocked, joined, replaced, compose_step, compose}
 use Rattle.nf_forms.specs.declared.form.Form.{Form}
 use Rattle.nf_forms.specs.declared.form.Form.TheVariants.{Nfc, Nfd, Nfkc, Nfkd}
 use Rattle.nf_forms.specs.Forms.{row_of, composes, arranged}
@@ -15,7 +15,7 @@ use Rattle.nf_forms.specs.Cluster.{IsOwnRow, blocks, AreClusters, IsCluster}
 use Rattle.nf_forms.specs.Laws.Runs.{trail-le-length, trail-push}
 use Rattle.nf_forms.specs.Laws.Front.{marks_push}
 use Rattle.nf_forms.specs.Laws.Ordering.{order-ordered}
-use Rattle.nf_forms.specs.Laws.Compose.{compose-push, compose_step-at, joined-starter}
+use Rattle.nf_forms.specs.Laws.Compose.{compose-push, compose_step-at, joined-some, joined-starter}
 use Rattle.nf_forms.specs.Laws.Sound.{IsSoundText}
 use Rattle.nf_forms.specs.Laws.StreamSafe.{stream_safe-push, decomposed-push}
 use Rattle.nf_forms.specs.Laws.Parting.{safe_step-room}
@@ -117,11 +117,7 @@ module _ (p : Properties) where
         next false e = let few = here.run in omega arith
 
     unblocked : (d : ℕ) → joined p starter left c ≡ Some d → blocks p left highest c ≡ false
-    unblocked d both = sym (here.blocked c) ∙ next (is_blocked p left c) both
-      where
-        next : (b : Bool) → cond b None (composite p starter c) ≡ Some d → b ≡ false
-        next true e = cc
-        next false e = refl
+    unblocked d both = sym (here.blocked c) ∙ (joined-some p starter left c d both).0
 
     -- it composes
     pub cluster-joined : (d : ℕ) → joined p starter left c ≡ Some d → AreClusters p done (cs ++ c ∷ []) d left (p.class c) highest (count + 1)

@@ -24,7 +24,8 @@ module _ (p : Properties) where
       ∙ ap (λ v. v ++ join p (back p (e ++ s ∷ m)) c) (front-at p e s m starts marks)
       ∙ ap (λ v. e ++ join p v c) (back-at p e s m starts marks)
 
-  fold-none : (z w : List ℕ) → has_starter p z ≡ false → has_starter p w ≡ false → fold (compose_step p) z w ≡ z ++ w
+  -- before the first starter nothing composes
+  pub fold-none : (z w : List ℕ) → has_starter p z ≡ false → has_starter p w ≡ false → fold (compose_step p) z w ≡ z ++ w
   fold-none z [] none marks = sym (append-nil z)
   fold-none z (c ∷ w) none marks =
       let parts = or_parts (is_starter p c) (has_starter p w) marks in
@@ -32,7 +33,6 @@ module _ (p : Properties) where
       ∙ fold-none (z ++ c ∷ []) w (marks_push p z c none (parts.0)) (parts.1)
       ∙ append_assoc z (c ∷ []) w
 
-  -- before the first starter nothing composes
   pub compose-none : (w : List ℕ) → has_starter p w ≡ false → compose p w ≡ w
   compose-none w marks = fold-none [] w refl marks
 
@@ -48,12 +48,16 @@ module _ (p : Properties) where
   pub composite-starter : (a b d : ℕ) → composite p a b ≡ Some d → is_starter p d ≡ true
   composite-starter a b d e = starter_only-starter (p.pair a b) d e
 
-  pub joined-starter : (s : ℕ) (m : List ℕ) (c d : ℕ) → joined p s m c ≡ Some d → is_starter p d ≡ true
-  joined-starter s m c d e = next (is_blocked p m c) e
+  -- what composes is not blocked, and is a composite
+  pub joined-some : (s : ℕ) (m : List ℕ) (c d : ℕ) → joined p s m c ≡ Some d → (is_blocked p m c ≡ false) × (composite p s c ≡ Some d)
+  joined-some s m c d e = next (is_blocked p m c) refl e
     where
-      next : (b : Bool) → (if b then None else composite p s c) ≡ Some d → is_starter p d ≡ true
-      next true e = cc
-      next false e = composite-starter s c d e
+      next : (b : Bool) → is_blocked p m c ≡ b → (if b then None else composite p s c) ≡ Some d → (is_blocked p m c ≡ false) × (composite p s c ≡ Some d)
+      next true is e = cc
+      next false is e = (is, e)
+
+  pub joined-starter : (s : ℕ) (m : List ℕ) (c d : ℕ) → joined p s m c ≡ Some d → is_starter p d ≡ true
+  joined-starter s m c d e = composite-starter s c d (joined-some s m c d e).1
 
   -- a starter does not compose across what is left behind the one before it
   pub joined-behind_marks : (s x : ℕ) (m : List ℕ) (c : ℕ) → is_starter p c ≡ true → joined p s (x ∷ m) c ≡ None

@@ -17,7 +17,7 @@ use Rattle.nf_forms.specs.Forms.{arranged}
 use Rattle.nf_forms.specs.Laws.Runs.{has_starter-append, trail-push}
 use Rattle.nf_forms.specs.Laws.Front.{has_starter-at, back-at, marks_push, EndsInGroup, last_starter}
 use Rattle.nf_forms.specs.Laws.Order.{order-behind, order-marks, by_class-push, has_starter-by_class, not_above}
-use Rattle.nf_forms.specs.Laws.Ordering.{ordering}
+use Rattle.nf_forms.specs.Laws.Ordering.{ordered-tail, ordering}
 use Rattle.nf_forms.specs.Laws.Starters.{has_starter-order}
 use Rattle.nf_forms.specs.Laws.Compose.{compose_step-at, compose_step-none, joined-starter}
 
@@ -51,12 +51,13 @@ module _ (p : Properties) where
 
   -- ---- ordering puts the mark before those of a greater class
 
-  record IsPlaced (c : ℕ) (run out : List ℕ) : Type 0 where
-    head : List ℕ
-    tail : List ℕ
-    before : run ≡ head ++ tail
-    after : out ≡ head ++ c ∷ tail
-    above : all_above (p.class c) tail ≡ true
+  -- out is run with c in it, before nothing but marks of greater classes
+  pub record IsPlaced (c : ℕ) (run out : List ℕ) : Type 0 where
+    pub head : List ℕ
+    pub tail : List ℕ
+    pub before : run ≡ head ++ tail
+    pub after : out ≡ head ++ c ∷ tail
+    pub above : all_above (p.class c) tail ≡ true
 
   above-ordered : (k x : ℕ) (l : List ℕ) → k < p.class x → has_starter p l ≡ false → is_ordered p (x ∷ l) ≡ true → all_above k l ≡ true
   above-ordered k x [] high marks ordered = refl
@@ -69,15 +70,12 @@ module _ (p : Properties) where
       rises : (n y : ℕ) → k < y → eqb n 0 ≡ false → not (ltb 0 n && ltb n y) ≡ true → k < n
       rises n y high some kept = grind (arith, nat_tests)
 
-  placed : (c : ℕ) (run : List ℕ) → has_starter p run ≡ false → is_ordered p run ≡ true → IsPlaced c run (insert run (prefix_len (not_above p c) run) c)
+  -- c goes behind the marks that are of no greater class, and before the rest
+  pub placed : (c : ℕ) (run : List ℕ) → has_starter p run ≡ false → is_ordered p run ≡ true → IsPlaced c run (insert run (prefix_len (not_above p c) run) c)
   placed c [] marks ordered = record { head = []; tail = []; before = refl; after = refl; above = refl }
   placed c (x ∷ run) marks ordered =
-      next (not_above p c x) refl (prefix_len (not_above p c) run) (placed c run (or_parts (is_starter p x) (has_starter p run) marks).1 (rest x run ordered))
+      next (not_above p c x) refl (prefix_len (not_above p c) run) (placed c run (or_parts (is_starter p x) (has_starter p run) marks).1 (ordered-tail p x run ordered))
     where
-      rest : (x : ℕ) (run : List ℕ) → is_ordered p (x ∷ run) ≡ true → is_ordered p run ≡ true
-      rest x [] ordered = refl
-      rest x (b ∷ run) ordered = (and_parts _ _ ordered).1
-
       next : (b : Bool) → not_above p c x ≡ b → (n : ℕ) → IsPlaced c run (insert run n c) → IsPlaced c (x ∷ run) (insert (x ∷ run) (cond b (1 + n) 0) c)
       next true e n r =
           let one_more : 1 + n ≡ suc n = omega arith in
@@ -92,12 +90,14 @@ module _ (p : Properties) where
             above = and_from _ _ (lt-ltb (p.class c) (p.class x) high) (above-ordered (p.class c) x run high (or_parts (is_starter p x) (has_starter p run) marks).1 ordered);
           }
 
-  is_ordered-by_class : (run : List ℕ) → has_starter p run ≡ false → is_ordered p (by_class p run) ≡ true
+  -- marks by class are in order
+  pub is_ordered-by_class : (run : List ℕ) → has_starter p run ≡ false → is_ordered p (by_class p run) ≡ true
   is_ordered-by_class run marks = ap (is_ordered p) (sym (order-marks p run marks)) ∙ (ordering p run).ordered
 
   -- ---- the steps of both kinds of form
 
-  abbrev step : Bool → List ℕ → ℕ → List ℕ
+  -- a character more: `b` says whether the form composes
+  abbrev pub step : Bool → List ℕ → ℕ → List ℕ
   step true z c = compose_step p z c
   step false z c = z ++ c ∷ []
 
@@ -180,14 +180,14 @@ module _ (p : Properties) where
   joins-past true s m1 m2 c d above = ap (λ h. if h then None else composite p s d) (unblocked m1 m2 c d above)
 
   -- two texts that differ by c alone
-  record Lands (e m1 : List ℕ) (c : ℕ) (without with_c : List ℕ) : Type 0 where
-    starter : ℕ
-    rest : List ℕ
-    one : without ≡ e ++ starter ∷ (m1 ++ rest)
-    other : with_c ≡ e ++ starter ∷ (m1 ++ c ∷ rest)
-    starts : is_starter p starter ≡ true
-    marks : has_starter p rest ≡ false
-    above : all_above (p.class c) rest ≡ true
+  pub record Lands (e m1 : List ℕ) (c : ℕ) (without with_c : List ℕ) : Type 0 where
+    pub starter : ℕ
+    pub rest : List ℕ
+    pub one : without ≡ e ++ starter ∷ (m1 ++ rest)
+    pub other : with_c ≡ e ++ starter ∷ (m1 ++ c ∷ rest)
+    pub starts : is_starter p starter ≡ true
+    pub marks : has_starter p rest ≡ false
+    pub above : all_above (p.class c) rest ≡ true
 
   moved : (e m1 : List ℕ) (c : ℕ) (x x' y y' : List ℕ) → x' ≡ x → y' ≡ y → Lands e m1 c x y → Lands e m1 c x' y'
   moved e m1 c x x' y y' f g r =
@@ -197,7 +197,8 @@ module _ (p : Properties) where
   no_starter-in m1 m2 h i = has_starter-append p m1 m2 ∙ or_from _ _ h i
 
   module _ (b : Bool) (e m1 : List ℕ) (c : ℕ) (first : has_starter p m1 ≡ false) (mark : is_starter p c ≡ false) where
-    lands : (s : ℕ) (m2 tail : List ℕ) → is_starter p s ≡ true → has_starter p m2 ≡ false → has_starter p tail ≡ false
+    -- with c or without it, the starter becomes one and the same
+    pub lands : (s : ℕ) (m2 tail : List ℕ) → is_starter p s ≡ true → has_starter p m2 ≡ false → has_starter p tail ≡ false
         → all_above (p.class c) m2 ≡ true → all_above (p.class c) tail ≡ true
         → Lands e m1 c (fold (step b) (e ++ s ∷ (m1 ++ m2)) tail) (fold (step b) (e ++ s ∷ (m1 ++ c ∷ m2)) tail)
     lands s m2 [] starts marks more above all = record { starter = s; rest = m2; one = refl; other = refl; starts = starts; marks = marks; above = above }

@@ -63,7 +63,8 @@ module _ (p : Properties) where
                 ∙ kept r.before r.starter r.marks (joined p r.starter r.marks c) r.starts refl,
           )
 
-  fold-behind : (z u v : List ℕ) → has_starter p u ≡ true → fold (compose_step p) (z ++ u) v ≡ z ++ fold (compose_step p) u v
+  -- behind a starter composition goes on alone
+  pub fold-behind : (z u v : List ℕ) → has_starter p u ≡ true → fold (compose_step p) (z ++ u) v ≡ z ++ fold (compose_step p) u v
   fold-behind z u [] some = refl
   fold-behind z u (c ∷ v) some =
       let step = step-behind z u c some in
