@@ -3,6 +3,9 @@ use Rattle.std.proofs.Common.{◌≡◌, ◌⊎◌, ⊎_elim, inl, inr, ◌^◌,
 use Rattle.std.proofs.lemmas.Bool.{and_parts, and_from}
 use Rattle.std.proofs.lemmas.List.{take_at, take-append-drop}
 use Rattle.std.proofs.lemmas.Str.{encodes-append, encodes-chars, length-le-encodes, chars-nil}
+use Rattle.nf_forms.specs.Ucd.{ucd}
+use Rattle.nf_forms.specs.declared.form.Form.{Form}
+use Rattle.nf_forms.specs.Twice.{ChangesOnce}
 use Rattle.nf_utf8.specs.declared.chunk.End.{End}
 use Rattle.nf_utf8.specs.declared.chunk.End.TheVariants.{Whole, Cut, Bad}
 use Rattle.nf_utf8.specs.declared.decoder.Decoder.{Decoder}
@@ -14,6 +17,22 @@ use Rattle.nf_utf8.specs.Laws.{SplitsBytes, ReadsBack, ReadsPieces}
 use Rattle.nf_normalized.specs.Change.{common}
 use Rattle.nf_normalized.specs.Bytes.{goes_on_with}
 use Rattle.nf_normalized.proofs.CommonLemmas.{common-behind, common-front}
+
+-- what is known of bytes and of the forms
+pub record Known : Type 0 where
+  pub split : SplitsBytes
+  pub back : ReadsBack
+  pub pieces : ReadsPieces
+  pub once : (f : Form) → ChangesOnce f ucd
+
+-- a front that is no shorter is all, and nothing stands behind all
+pub front_all : (x y z : List ℕ) → x ++ y ≡ z → length x ≡ length z → x ≡ z
+front_all x [] z e same = sym (append-nil x) ∙ e
+front_all x (c ∷ y) z e same = absurd (omega (arith, same, ap length e, length-append x (c ∷ y)))
+
+pub none_behind : (x y : List ℕ) → x ++ y ≡ x → y ≡ []
+none_behind x [] e = refl
+none_behind x (c ∷ y) e = absurd (omega (arith, ap length e, length-append x (c ∷ y)))
 
 pub text_of-none : text_of [] ≡ []
 unfolding text_of
@@ -68,10 +87,14 @@ both_counted split first second front behind a b c d both e f g h fits =
 
 -- ---- two texts that go on otherwise
 
--- of two texts, x and s, the first begins with `same`, the second is no front of it, and they have no more in common
-pub record Departs (x s same : List ℕ) : Type 0 where
+-- two texts begin with `same`, and have no more in common
+pub record Shares (x s same : List ℕ) : Type 0 where
   pub count : common x s ≡ length same
   pub front : take (length same) x ≡ same
+
+-- and the second, s, is no front of the first
+pub record Departs (x s same : List ℕ) : Type 0 where
+  pub shares : Shares x s same
   pub other : ¬ (s ≡ take (length s) x)
 
 common-taken : (x s : List ℕ) → s ≡ take (length s) x → common x s ≡ length s
@@ -87,17 +110,13 @@ tail a b x y e = cc
 one_scalar : (a : ℕ) (x : List ℕ) → IsText (a ∷ x) → IsText (a ∷ [])
 one_scalar a x scalars = and_from _ true ((and_parts _ _ scalars).0) refl
 
-module _ (split : SplitsBytes) (back : ReadsBack) (pieces : ReadsPieces) where
+module _ (known : Known) where
   -- behind its text bytes spell nothing
   rest_none : (m : List ℕ) → text_of (rest_of m) ≡ []
-  rest_none m = nothing (text_of m) (text_of (rest_of m)) (sym (ap (λ l. text_of m ++ text_of l) (append-nil (rest_of m))) ∙ sym (pieces.text m []) ∙ ap text_of (append-nil m))
-    where
-      nothing : (t u : List ℕ) → t ++ u ≡ t → u ≡ []
-      nothing t [] e = refl
-      nothing t (a ∷ u) e = absurd (omega (arith, ap length e, length-append t (a ∷ u)))
+  rest_none m = none_behind (text_of m) (text_of (rest_of m)) (sym (ap (λ l. text_of m ++ text_of l) (append-nil (rest_of m))) ∙ sym (known.pieces.text m []) ∙ ap text_of (append-nil m))
 
   pub text_of-encodes : (x : List ℕ) → IsText x → text_of (encode_utf8_all x) ≡ x
-  text_of-encodes x scalars = ap text_of (sym (append-nil (encode_utf8_all x))) ∙ back.text x [] scalars ∙ ap (λ l. x ++ l) text_of-none ∙ append-nil x
+  text_of-encodes x scalars = ap text_of (sym (append-nil (encode_utf8_all x))) ∙ known.back.text x [] scalars ∙ ap (λ l. x ++ l) text_of-none ∙ append-nil x
 
   -- of two lists of bytes that begin alike each begins with the shorter front, or with what goes on behind it
   record GoesOn (r e i j : List ℕ) : Type 0 where
@@ -127,7 +146,7 @@ module _ (split : SplitsBytes) (back : ReadsBack) (pieces : ReadsPieces) where
         inside : (more : List ℕ) × (r ≡ encode_utf8 a ++ more) → ⊥
         inside h =
             let one : encode_utf8_all (a ∷ []) ≡ encode_utf8 a = append-nil (encode_utf8 a) in
-            let is = ap text_of (h.1 ∙ ap (λ l. l ++ h.0) (sym one)) ∙ back.text (a ∷ []) h.0 (one_scalar a x scalars) in
+            let is = ap text_of (h.1 ∙ ap (λ l. l ++ h.0) (sym one)) ∙ known.back.text (a ∷ []) h.0 (one_scalar a x scalars) in
             omega (arith, ap length is, ap length (rest_none m))
 
         behind : GoesOn r (encode_utf8 a) i (b ∷ t) → ⊥
@@ -146,31 +165,13 @@ module _ (split : SplitsBytes) (back : ReadsBack) (pieces : ReadsPieces) where
     departs s scalars is =
         let x2 = text_of (r ++ i) in
         let s2 = text_of (r ++ b ∷ t) in
-        let x_is = pieces.text m i in
-        let s_is = sym (text_of-encodes s scalars) ∙ ap text_of is ∙ pieces.text m (b ∷ t) in
-        let none = none_common x2 s2 (rest_of (r ++ i)) (rest_of (r ++ b ∷ t)) (split.scalars (r ++ i)) (split.split (r ++ i)) (split.split (r ++ b ∷ t)) in
+        let x_is = known.pieces.text m i in
+        let s_is = sym (text_of-encodes s scalars) ∙ ap text_of is ∙ known.pieces.text m (b ∷ t) in
+        let none = none_common x2 s2 (rest_of (r ++ i)) (rest_of (r ++ b ∷ t)) (known.split.scalars (r ++ i)) (known.split.split (r ++ i)) (known.split.split (r ++ b ∷ t)) in
         let count : common (text_of (m ++ i)) s ≡ length (text_of m) = ap₂ common x_is s_is ∙ common-behind (text_of m) x2 s2 ∙ omega (arith, none) in
         record {
-          count = count;
-          front = ap (take (length (text_of m))) x_is ∙ take_at (text_of m) x2 (length (text_of m)) refl;
-          other = λ same. absurd (omega (
-            arith,
-            count,
-            common-taken (text_of (m ++ i)) s same,
-            ap length is,
-            length-append m (b ∷ t),
-            ap (λ l. length (encode_utf8_all l)) s_is,
-            ap length (encodes-append (text_of m) s2),
-            length-append (encode_utf8_all (text_of m)) (encode_utf8_all s2),
-            ap length (split.split m),
-            length-append (encode_utf8_all (text_of m)) (rest_of m),
-            ap length s_is,
-            length-append (text_of m) s2,
-            some s2,
-          ));
+          shares = record { count = count; front = ap (take (length (text_of m))) x_is ∙ take_at (text_of m) x2 (length (text_of m)) refl };
+          other = λ same.
+              let all = front_all (text_of m) s2 s (sym s_is) (sym count ∙ common-taken (text_of (m ++ i)) s same) in
+              absurd (omega (arith, ap (λ l. length (encode_utf8_all l)) all, ap length is, length-append m (b ∷ t), ap length (known.split.split m), length-append (encode_utf8_all (text_of m)) (rest_of m)));
         }
-      where
-        -- no characters are no bytes
-        some : (l : List ℕ) → length l ≡ 0 → length (encode_utf8_all l) ≡ 0
-        some [] e = refl
-        some (a ∷ l) e = absurd (omega (arith, e))

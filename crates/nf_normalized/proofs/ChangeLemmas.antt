@@ -27,15 +27,18 @@ same_or P x y same other = next (bytes_eq x y) (bytes_eq-Decides x y)
     next true h = same (h.0 refl)
     next false h = other (λ e. true≢false (sym (h.1 e)))
 
+pub if_same : {A : Type 0} (x y : List ℕ) (a b : A) → x ≡ y → (if bytes_eq x y then a else b) ≡ a
+if_same x y a b same = ap (λ t. if t then a else b) ((bytes_eq-Decides x y).1 same)
+
+pub if_other : {A : Type 0} (x y : List ℕ) (a b : A) → ¬ (x ≡ y) → (if bytes_eq x y then a else b) ≡ b
+if_other x y a b other = same_or (λ t. (if t then a else b) ≡ b) x y (λ same. absurd (other same)) (λ _. refl)
+
 pub no_change : (base : ℕ) (f : Form) (x : List ℕ) → (change_at base f x ≡ None) ↔ (safe_form f ucd x ≡ x)
 unfolding change_at
 no_change base f x =
     same_or (λ b. ((if b then None else Some (place_at base x (common x (safe_form f ucd x)))) ≡ None) ↔ (safe_form f ucd x ≡ x)) (safe_form f ucd x) x
     (λ same. (λ _. same, λ _. refl))
-    (λ other. (λ none. absurd (some≢none none), λ same. absurd (other same)))
-  where
-    some≢none : {place : Place} → Some place ≡ None → ⊥
-    some≢none e = cc
+    (λ other. (λ none. cc, λ same. absurd (other same)))
 
 -- ---- a settled place stays
 

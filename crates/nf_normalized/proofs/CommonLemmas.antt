@@ -1,5 +1,5 @@
 -- How many members two lists have in common at their front.
-use Rattle.std.proofs.Common.{◌≡◌, ℕ, sym, drop, ◌<◌, zero, get_or, suc, ◌+◌, ◌≤◌, ◌==◌, Bool, true, false, List, [], ◌∷◌, ◌++◌, length, take, refl, ap, ◌∙◌, arith, eq-eqb, eqb-true, if◌then◌else◌}
+use Rattle.std.proofs.Common.{◌≡◌, ℕ, sym, drop, ◌<◌, zero, get_or, suc, ◌+◌, ◌≤◌, ◌==◌, Bool, true, false, List, [], ◌∷◌, ◌++◌, length, take, length-take, refl, ap, ◌∙◌, arith, eq-eqb, eqb-true, if◌then◌else◌}
 use Rattle.nf_normalized.specs.Change.{common}
 use Rattle.nf_normalized.specs.Bytes.{goes_on_with}
 
@@ -15,15 +15,6 @@ common-le-left (a ∷ x) (b ∷ y) = next (a == b) (common-le-left x y)
     next true few = omega (arith, few)
     next false few = omega arith
 
-pub common-le-right : (x y : List ℕ) → common x y ≤ length y
-common-le-right [] y = omega arith
-common-le-right (a ∷ x) [] = omega arith
-common-le-right (a ∷ x) (b ∷ y) = next (a == b) (common-le-right x y)
-  where
-    next : (t : Bool) → common x y ≤ length y → (if t then suc (common x y) else 0) ≤ suc (length y)
-    next true few = omega (arith, few)
-    next false few = omega arith
-
 pub take-common : (x y : List ℕ) → take (common x y) x ≡ take (common x y) y
 take-common [] [] = refl
 take-common [] (b ∷ y) = refl
@@ -33,6 +24,9 @@ take-common (a ∷ x) (b ∷ y) = next (a == b) refl (take-common x y)
     next : (t : Bool) → (a == b) ≡ t → take (common x y) x ≡ take (common x y) y → take (if t then suc (common x y) else 0) (a ∷ x) ≡ take (if t then suc (common x y) else 0) (b ∷ y)
     next true e same = ap (λ l. a ∷ l) same ∙ ap (λ h. h ∷ take (common x y) y) (eqb-true a b e)
     next false e same = refl
+
+pub common-le-right : (x y : List ℕ) → common x y ≤ length y
+common-le-right x y = omega (arith, common-le-left x y, ap length (take-common x y), length-take (common x y) x, length-take (common x y) y)
 
 pub common-behind : (t x y : List ℕ) → common (t ++ x) (t ++ y) ≡ length t + common x y
 common-behind [] x y = omega arith

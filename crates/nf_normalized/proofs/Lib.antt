@@ -5,8 +5,7 @@ pub mod BytesLemmas
 pub mod ComparingLemmas
 pub mod WroteLemmas
 pub mod CheckerLemmas
-pub mod FeedLemmas
-pub mod FinishLemmas
+pub mod CallLemmas
 pub mod SurveyLemmas
 pub mod MarkLemmas
 pub mod TakenLemmas

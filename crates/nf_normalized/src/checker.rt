@@ -1,9 +1,8 @@
 //! The machine that is fed a text.
-ghost use Rattle.std.specs.Prelude.{◌≡◌, ◌+◌, ◌≤◌, ◌++◌, false, length, None, encode_utf8_all};
-ghost use Rattle.nf_utf8.specs.Reading.{text_of};
+ghost use Rattle.std.specs.Prelude.{◌≡◌, ◌+◌, ◌≤◌, ◌++◌, false, length, None};
 ghost use Rattle.nf_filter.specs.Filter.{state_of, is_spent};
 ghost use Rattle.nf_normalized.specs.Holds.{HoldsSome};
-ghost use Rattle.nf_normalized.specs.Comparing.{same};
+ghost use Rattle.nf_normalized.specs.Comparing.{same, HasRoom, IsBehind};
 
 use crate::comparing::Comparing;
 use crate::counting::text_in;
@@ -87,10 +86,11 @@ impl FormChecker {
             return Ok(self.place);
         }
         let (chars, offset) = (self.filter.chars(), self.filter.offset());
-        let mut sink = Comparing::new(self.held.as_slice(), piece);
+        let held = self.held.as_slice();
+        let mut sink = Comparing::new(held, piece);
         let fed = self.filter.feed(piece, &mut sink);
         if sink.has_parted() {
-            self.place = Some(place_behind(chars, offset, &self.held, &sink));
+            self.place = Some(place_behind(chars, offset, held, &sink));
             return Ok(self.place);
         }
         if let Err(fault) = fed {
@@ -124,7 +124,8 @@ impl FormChecker {
             return Ok(place);
         }
         let (chars, offset) = (filter.chars(), filter.offset());
-        let mut sink = Comparing::new(held.as_slice(), &[]);
+        let held = held.as_slice();
+        let mut sink = Comparing::new(held, &[]);
         let finished = filter.finish(&mut sink);
         if !sink.has_parted() {
             if let Err(fault) = finished {
@@ -134,7 +135,7 @@ impl FormChecker {
                 return Ok(None);
             }
         }
-        Ok(Some(place_behind(chars, offset, &held, &sink)))
+        Ok(Some(place_behind(chars, offset, held, &sink)))
     }
 
     /// How many bytes it keeps: at most 315.
@@ -148,12 +149,8 @@ impl FormChecker {
 
 /// Behind what was as expected, where so many characters were taken before, up to this offset, and these bytes kept.
 fn place_behind(chars: u64, offset: u64, held: &[u8], sink: &Comparing<'_>) -> Place
-    requires chars { length (text_of held.now) ≤ chars }
-    requires offset { length held.now ≤ offset }
-    requires fits { offset + length (same sink.now) ≤ u64.MAX + length held.now }
-    requires few { chars + length (text_of (same sink.now)) ≤ u64.MAX + length (text_of held.now) }
-    ensures chars { result.chars + length (text_of held.now) ≡ chars + length (text_of (same sink.now)) }
-    ensures bytes { result.bytes + length held.now ≡ offset + length (encode_utf8_all (text_of (same sink.now))) }
+    requires { HasRoom held.now (same sink.now) chars offset }
+    ensures { IsBehind held.now (same sink.now) chars offset result }
 {
     split();
     let kept = text_in(held, &[]);

@@ -4,7 +4,7 @@ use Rattle.std.proofs.KnownBytes.{Consumes-kept, Consumes-trans}
 use Rattle.nf_normalized.specs.Checker.{filter_state, IsOfPiece, decided as decided_by}
 use Rattle.nf_normalized.specs.Change.{form_decision, form_value}
 use Rattle.nf_normalized.proofs.CheckerLemmas.{offset_is}
-use Rattle.nf_normalized.proofs.FeedLemmas.{is_none, ok_or, same_fault}
+use Rattle.nf_normalized.proofs.CallLemmas.{is_none, ok_or, same_fault}
 use Rattle.nf_normalized.proofs.SurveyLemmas.{failed, ended, decided}
 use Rattle.nf_normalized.proofs.checking.check_form_buffered.Goals as goal
 

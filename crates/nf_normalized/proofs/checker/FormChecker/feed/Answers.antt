@@ -1,161 +1,129 @@
-use Rattle.std.proofs.Common.{subst, [], ◌∷◌, ◌≡◌, ◌<◌, ◌≤◌, ◌+◌, ◌++◌, ◌^◌, option_map, inl, inr, ⊎_elim, false, length, refl, sym, ap, ◌∙◌, arith, Err, length-append}
-use Rattle.std.proofs.lemmas.Bool.{cases_lt, cases_Bool}
+use Rattle.std.proofs.Common.{subst, [], ◌∷◌, ◌⊎◌, ◌≡◌, ◌<◌, ◌+◌, ◌++◌, ◌^◌, Bool, ℕ, List, IsTrue, option_map, inl, inr, ⊎_elim, true, false, length, refl, sym, ap, ◌∙◌, arith, None, Ok, Err, is_some, append_assoc, length-append}
+use Rattle.std.proofs.lemmas.Bool.{cases_lt, false_from_ne_true}
 use Rattle.std.proofs.Math.Logic.{∥∥₁_elim, ∥∥₁_map}
 use Rattle.std.specs.Coded.{le_prop}
-use Rattle.nf_utf8.specs.Reading.{text_of}
-use Rattle.nf_filter.specs.Filter.{state_of, is_spent, offset_of}
-use Rattle.nf_filter.specs.Kinds.{spent, too_long, ill_formed, unassigned}
-use Rattle.nf_normalized.specs.Checker.{IsOfPiece}
-use Rattle.nf_normalized.specs.Comparing.{same, left}
 use Rattle.std.specs.Result.{result_err}
+use Rattle.nf_forms.specs.declared.form.Form.{Form}
+use Rattle.nf_filter.specs.Filter.{state_of, base_of, is_spent, offset_of}
+use Rattle.nf_filter.specs.Kinds.{spent, too_long, ill_formed, unassigned}
 use Rattle.nf_filter.specs.declared.fault.Fault.TheVariants.{TooLong}
-use Rattle.nf_normalized.specs.Change.{form_decision}
-use Rattle.nf_normalized.proofs.CheckerLemmas.{offset_is, written}
-use Rattle.nf_normalized.specs.Holds.{Holds}
-use Rattle.nf_normalized.proofs.FeedLemmas.{stable, piece_kinds, ok_or, same_fault, none_is, parted_apart, Room, Expects, room, few, parted_decides, split_now, unparted_decides, held_few}
+use Rattle.nf_normalized.specs.Change.{under}
+use Rattle.nf_normalized.specs.Checker.{IsOfPiece}
+use Rattle.nf_normalized.specs.Comparing.{left}
+use Rattle.nf_normalized.specs.Holds.{Holds, HoldsSome}
+use Rattle.nf_normalized.proofs.BytesLemmas.{Known}
+use Rattle.nf_normalized.proofs.CheckerLemmas.{offset_is, written, held_few}
+use Rattle.nf_normalized.proofs.CallLemmas.{stable, ok_or, same_fault, none_is, parted_apart, roomy, room, Fed, piece_kinds, parted_decides, split_now, unparted_decides}
 use Rattle.nf_normalized.proofs.checker.FormChecker.feed.Goals as goal
+use Rattle.nf_normalized.proofs.checker.FormChecker.feed.Goals.{After-feed-fed, After-has_parted}
+
+known : (c : After-feed-fed) → Known
+known c = record { split = c.split.ensures; back = c.read_back.ensures; pieces = c.pieces.ensures; once = c.each_form_changes_a_text_once.ensures }
+
+-- what the call told, where the filter stood after these bytes
+abbrev Seen : After-feed-fed → Bool → Form → List ℕ → ℕ → Type 0
+Seen c assigned f bytes base = Fed assigned f base c.as_slice-held.result.now bytes c.args.piece.now c.new-sink.result c.feed-fed.new.sink c.feed-fed.result c.chars-chars.result c.offset-offset.result
+
+seen : (c : After-feed-fed) → (c.feed-fed.result ≡ Err TooLong → ⊥) → {assigned : Bool} {f : Form} {bytes : List ℕ} → Holds assigned f (state_of c.args.self.now.filter) c.args.self.now.held.items bytes
+    → {base : ℕ} → base_of (state_of c.args.self.now.filter) ≡ base → Seen c assigned f bytes base
+seen c short {assigned} {f} {bytes} holds base_is =
+    let before = written assigned f bytes in
+    let feeds = c.feed-fed.ensures.feeds _ f bytes holds.filter short in
+    let split = holds.split ∙ ap (λ l. before ++ l) (sym c.as_slice-held.ensures.value) in
+    subst (Seen c assigned f bytes) base_is (record {
+      call = record {
+        known = known c;
+        split = split;
+        wrote = record {
+          begun = c.new-sink.ensures.none;
+          expects = ap (λ l. l ++ c.args.piece.now) split ∙ append_assoc before c.as_slice-held.result.now c.args.piece.now ∙ ap (λ l. before ++ l) (sym c.new-sink.ensures.expected);
+          failed = λ e. (feeds.write.0 e).0;
+          broken = feeds.broken_off;
+          puts = feeds.written;
+        };
+        chars_are = c.chars-chars.ensures _ f bytes holds.filter;
+        offset_is = c.offset-offset.ensures ∙ offset_is holds.filter;
+      };
+      answer = feeds.answer;
+    })
+
+-- where no call was refused it stands after some
+some : (c : After-feed-fed) → (IsTrue (is_spent (state_of c.args.self.now.filter)) → ⊥) → ∥ HoldsSome (state_of c.args.self.now.filter) c.args.self.now.held.items ∥₁
+some c unspent = c.args.self.now.holds (none_is c.args.self.now.place (sym c.is_some.ensures ∙ c.if-is_some.false)) (false_from_ne_true _ unspent)
+
+-- a call that is refused leaves the sink as it was
+unrefused : (c : After-has_parted) → c.has_parted.result ≡ true → (IsTrue (is_spent (state_of c.args.self.now.filter)) ⊎ (c.feed-fed.result ≡ Err TooLong)) → ⊥
+unrefused c is refused = parted_apart c.new-sink.ensures.none.1 (sym c.has_parted.ensures ∙ is) (c.feed-fed.ensures.kept refused).1
+
+-- where the piece was taken, what is left of what was read is held
+now : (c : After-feed-fed) → c.feed-fed.new.sink.other ≡ None → {done : Unit {0}} → c.feed-fed.result ≡ Ok done → {assigned : Bool} {f : Form} {bytes : List ℕ}
+    → Holds assigned f (state_of c.args.self.now.filter) c.args.self.now.held.items bytes → {held : List ℕ} → left c.feed-fed.new.sink ≡ held → Holds assigned f (state_of c.feed-fed.new.self) held (bytes ++ c.args.piece.now)
+now c none ok {assigned} {f} {bytes} holds is = record {
+  filter = rw ok at c.feed-fed.ensures.stands (under assigned) f bytes holds.filter;
+  split = split_now (seen c (λ e. ok_or (sym ok ∙ e)) holds refl) none ∙ ap (λ l. written assigned f (bytes ++ c.args.piece.now) ++ l) is;
+}
 
 pub place_behind-requires : goal.place_behind-requires
 place_behind-requires c =
-    let old = c.args.self.now in
-    let none = none_is old.place (sym c.is_some.ensures ∙ c.if-is_some.false) in
-    let expects : Expects c.new-sink.result (old.held.items ++ c.args.piece.now) = record { none = c.new-sink.ensures.none; bytes_are = c.new-sink.ensures.expected ∙ ap (λ l. l ++ c.args.piece.now) c.as_slice.ensures.value } in
-    let is = sym c.has_parted.ensures ∙ c.if-has_parted.true in
-    let unspent : is_spent (state_of old.filter) ≡ false = elim (cases_Bool (is_spent (state_of old.filter))) [
-      | inl ended ↦ absurd (parted_apart c.new-sink.ensures.none.1 is (c.feed-fed.ensures.kept (inl ended)).1)
-      | inr other ↦ other
-    ] in
-    let short = λ (e : c.feed-fed.result ≡ Err TooLong). parted_apart c.new-sink.ensures.none.1 is (c.feed-fed.ensures.kept (inr e)).1 in
-    let fits : offset_of (state_of old.filter) + length c.args.piece.now < 2 ^ 64 =
-    ⊎_elim (λ less. less) (λ more. absurd (short (c.feed-fed.ensures.too_long.1 (unspent, omega (arith, more))))) (cases_lt (offset_of (state_of old.filter) + length c.args.piece.now) (2 ^ 64)) in
-    let roomy : ∥ Room old.held.items (same c.feed-fed.new.sink) c.chars-chars.result c.offset-offset.result ∥₁ = ∥∥₁_map (old.holds none unspent) (λ h.
-    room c.split.ensures c.read_back.ensures c.pieces.ensures c.each_form_changes_a_text_once.ensures h.holds c.chars-chars.result c.offset-offset.result
-    (length c.args.piece.now) (same c.feed-fed.new.sink) (left c.feed-fed.new.sink) (c.chars-chars.ensures _ h.form h.bytes h.holds.filter) (c.offset-offset.ensures ∙ offset_is h.holds.filter)
-    (few c.split.ensures c.read_back.ensures c.pieces.ensures c.each_form_changes_a_text_once.ensures h.holds c.args.piece.now c.new-sink.result c.feed-fed.new.sink expects c.feed-fed.result
-    (c.feed-fed.ensures.feeds _ h.form h.bytes h.holds.filter short)) (omega (arith, c.offset-offset.ensures, fits))) in
-    record {
-      chars = ∥∥₁_elim roomy le_prop (λ r. omega (arith, r.chars_held, ap (λ l. length (text_of l)) c.deref.ensures.0));
-      offset = ∥∥₁_elim roomy le_prop (λ r. omega (arith, r.bytes_held, ap length c.deref.ensures.0));
-      fits = ∥∥₁_elim roomy le_prop (λ r. omega (arith, r.bytes_fit, ap length c.deref.ensures.0));
-      few = ∥∥₁_elim roomy le_prop (λ r. omega (arith, r.chars_fit, ap (λ l. length (text_of l)) c.deref.ensures.0));
-    }
+    let at = (goal.at.place_behind-requires c).After-feed-fed in
+    let refused = unrefused (goal.at.place_behind-requires c).After-has_parted c.if-has_parted.true in
+    let fits : offset_of (state_of c.args.self.now.filter) + length c.args.piece.now < 2 ^ 64 =
+    ⊎_elim (λ less. less) (λ more. absurd (refused (inr (c.feed-fed.ensures.too_long.1 (false_from_ne_true _ (λ ended. refused (inl ended)), omega (arith, more)))))) (cases_lt _ (2 ^ 64)) in
+    roomy (∥∥₁_map (some at (λ ended. refused (inl ended))) (λ h. room (seen at (λ long. refused (inr long)) h.holds refl).call (omega (arith, fits, offset_is h.holds.filter, length-append h.bytes c.args.piece.now))))
 
 pub returns-then-has_parted-clause-decides : goal.returns-then-has_parted-clause-decides
 returns-then-has_parted-clause-decides c = λ assigned f base bytes stands other.
-    let old = c.args.self.now in
-    let none = none_is old.place (sym c.is_some.ensures ∙ c.if-is_some.false) in
-    let expects : Expects c.new-sink.result (old.held.items ++ c.args.piece.now) = record { none = c.new-sink.ensures.none; bytes_are = c.new-sink.ensures.expected ∙ ap (λ l. l ++ c.args.piece.now) c.as_slice.ensures.value } in
-    let is = sym c.has_parted.ensures ∙ c.if-has_parted.true in
-    let unspent : is_spent (state_of old.filter) ≡ false = elim (cases_Bool (is_spent (state_of old.filter))) [
-      | inl ended ↦ absurd (parted_apart c.new-sink.ensures.none.1 is (c.feed-fed.ensures.kept (inl ended)).1)
-      | inr other ↦ other
-    ] in
-    let short = λ (e : c.feed-fed.result ≡ Err TooLong). parted_apart c.new-sink.ensures.none.1 is (c.feed-fed.ensures.kept (inr e)).1 in
-    sym (ap (λ b. form_decision assigned f b (bytes ++ c.args.piece.now)) (sym stands.base_is)
-    ∙ parted_decides c.split.ensures c.read_back.ensures c.pieces.ensures c.each_form_changes_a_text_once.ensures stands.holds c.args.piece.now c.new-sink.result c.feed-fed.new.sink expects
-    c.feed-fed.result (c.feed-fed.ensures.feeds _ f bytes stands.holds.filter short) c.chars-chars.result c.offset-offset.result c.place_behind.result is
-    (c.chars-chars.ensures _ f bytes stands.holds.filter) (c.offset-offset.ensures ∙ offset_is stands.holds.filter)
-    (omega (arith, c.place_behind.ensures.chars, ap (λ l. length (text_of l)) c.deref.ensures.0)) (omega (arith, c.place_behind.ensures.bytes, ap length c.deref.ensures.0)))
+    let at = goal.at.returns-then-has_parted-clause-decides c in
+    parted_decides (seen at.After-feed-fed (λ long. unrefused at.After-has_parted c.if-has_parted.true (inr long)) stands.holds stands.base_is)
+    (sym c.has_parted.ensures ∙ c.if-has_parted.true) c.place_behind.result c.place_behind.ensures
 
 pub returns-in-Err-clause-faults : goal.returns-in-Err-clause-faults
 returns-in-Err-clause-faults c =
-    let old = c.args.self.now in
-    let none = none_is old.place (sym c.is_some.ensures ∙ c.if-is_some.false) in
-    let expects : Expects c.new-sink.result (old.held.items ++ c.args.piece.now) = record { none = c.new-sink.ensures.none; bytes_are = c.new-sink.ensures.expected ∙ ap (λ l. l ++ c.args.piece.now) c.as_slice.ensures.value } in
-    let none_other = none_is c.feed-fed.new.sink.other (sym c.has_parted.ensures ∙ c.if-has_parted.false) in
+    let at = (goal.at.returns-in-Err-clause-faults c).After-feed-fed in
     stable (spent ∷ too_long ∷ ill_formed ∷ unassigned ∷ []) c.in-Err.fault (λ out.
-    let unspent : is_spent (state_of old.filter) ≡ false = elim (cases_Bool (is_spent (state_of old.filter))) [
-      | inl ended ↦ absurd (out (subst IsOfPiece (same_fault (sym (c.feed-fed.ensures.spent.1 ended) ∙ c.in-Err.is)) tt))
-      | inr other ↦ other
-    ] in
-    let never : 1 ≤ 0 = ∥∥₁_elim (old.holds none unspent) le_prop (λ h. absurd (out (piece_kinds c.split.ensures c.read_back.ensures c.pieces.ensures c.each_form_changes_a_text_once.ensures h.holds c.args.piece.now c.new-sink.result c.feed-fed.new.sink expects c.feed-fed.result
-    (c.feed-fed.ensures.feeds _ h.form h.bytes h.holds.filter (λ long. out (subst IsOfPiece (same_fault (sym long ∙ c.in-Err.is)) tt)))
-    c.every_character_is_sound.ensures.text none_other c.in-Err.fault c.in-Err.is))) in
-    omega (arith, never))
+    ∥∥₁_elim (some at (λ ended. out (subst IsOfPiece (same_fault (sym (c.feed-fed.ensures.spent.1 ended) ∙ c.in-Err.is)) tt))) (λ x y. absurd x) (λ h.
+    out (piece_kinds (seen at (λ long. out (subst IsOfPiece (same_fault (sym long ∙ c.in-Err.is)) tt)) h.holds refl) (none_is _ (sym c.has_parted.ensures ∙ c.if-has_parted.false))
+    c.every_character_is_sound.ensures.text c.in-Err.fault c.in-Err.is)))
 
 pub returns-in-Err-clause-kept : goal.returns-in-Err-clause-kept
 returns-in-Err-clause-kept c = λ long. ((c.feed-fed.ensures.kept (inr (c.in-Err.is ∙ ap Err (same_fault long)))).0, refl, refl)
 
 pub returns-in-Err-clause-decides : goal.returns-in-Err-clause-decides
 returns-in-Err-clause-decides c = λ assigned f base bytes stands other.
-    let old = c.args.self.now in
-    let none = none_is old.place (sym c.is_some.ensures ∙ c.if-is_some.false) in
-    let expects : Expects c.new-sink.result (old.held.items ++ c.args.piece.now) = record { none = c.new-sink.ensures.none; bytes_are = c.new-sink.ensures.expected ∙ ap (λ l. l ++ c.args.piece.now) c.as_slice.ensures.value } in
-    let none_other = none_is c.feed-fed.new.sink.other (sym c.has_parted.ensures ∙ c.if-has_parted.false) in
-    sym (ap (λ b. form_decision assigned f b (bytes ++ c.args.piece.now)) (sym stands.base_is)
-    ∙ unparted_decides c.split.ensures c.read_back.ensures c.pieces.ensures c.each_form_changes_a_text_once.ensures stands.holds c.args.piece.now c.new-sink.result c.feed-fed.new.sink expects c.feed-fed.result
-    (c.feed-fed.ensures.feeds _ f bytes stands.holds.filter (λ e. other (ap Err (same_fault (sym c.in-Err.is ∙ e))))) none_other ∙ ap (λ r. option_map Err (result_err r)) c.in-Err.is)
+    let at = (goal.at.returns-in-Err-clause-decides c).After-feed-fed in
+    sym (ap (λ r. option_map Err (result_err r)) c.in-Err.is)
+    ∙ unparted_decides (seen at (λ e. other (ap Err (same_fault (sym c.in-Err.is ∙ e)))) stands.holds stands.base_is) (none_is _ (sym c.has_parted.ensures ∙ c.if-has_parted.false))
 
 pub joined-self-requires : goal.joined-self-requires
 joined-self-requires c =
-    let old = c.args.self.now in
-    let none = none_is old.place (sym c.is_some.ensures ∙ c.if-is_some.false) in
-    let expects : Expects c.new-sink.result (old.held.items ++ c.args.piece.now) = record { none = c.new-sink.ensures.none; bytes_are = c.new-sink.ensures.expected ∙ ap (λ l. l ++ c.args.piece.now) c.as_slice.ensures.value } in
-    let none_other = none_is c.feed-fed.new.sink.other (sym c.has_parted.ensures ∙ c.if-has_parted.false) in
-    let not_long = λ (e : c.feed-fed.result ≡ Err TooLong). ok_or (sym c.in_default.is ∙ e) in
-    let unspent : is_spent (state_of old.filter) ≡ false = elim (cases_Bool (is_spent (state_of old.filter))) [
-      | inl ended ↦ absurd (ok_or (sym c.in_default.is ∙ c.feed-fed.ensures.spent.1 ended))
-      | inr other ↦ other
-    ] in
-    let few = ∥∥₁_elim (old.holds none unspent) le_prop (λ h.
-    let now : Holds h.assigned h.form (state_of c.feed-fed.new.self) (left c.feed-fed.new.sink) (h.bytes ++ c.args.piece.now) =
-    record {
-      filter = c.in_default.ensures.stands _ h.form h.bytes h.holds.filter;
-      split = split_now c.split.ensures c.read_back.ensures c.pieces.ensures c.each_form_changes_a_text_once.ensures h.holds c.args.piece.now c.new-sink.result c.feed-fed.new.sink expects c.feed-fed.result
-          (c.feed-fed.ensures.feeds _ h.form h.bytes h.holds.filter not_long) none_other;
-    } in
-    held_few c.split.ensures c.read_back.ensures c.pieces.ensures c.each_form_changes_a_text_once.ensures c.longest_text.ensures c.replacing.ensures c.every_character_is_sound.ensures.text c.little_is_kept.ensures now) in
+    let at = (goal.at.joined-self-requires c).After-feed-fed in
+    let few = ∥∥₁_elim (some at (λ ended. ok_or (sym c.in_default.is ∙ c.feed-fed.ensures.spent.1 ended))) le_prop (λ h.
+    held_few (known at) (now at (none_is _ (sym c.has_parted.ensures ∙ c.if-has_parted.false)) c.in_default.is h.holds refl)
+    c.longest_text.ensures c.replacing.ensures c.every_character_is_sound.ensures.text c.little_is_kept.ensures) in
     omega (arith, few, length-append c.left.result.0.now c.left.result.1.now, ap length c.left.ensures)
 
 pub invariant_of-self-2 : goal.invariant_of-self-2
 invariant_of-self-2 c = record {
   holds = λ none _.
-      let old = c.args.self.now in
-      let expects : Expects c.new-sink.result (old.held.items ++ c.args.piece.now) = record { none = c.new-sink.ensures.none; bytes_are = c.new-sink.ensures.expected ∙ ap (λ l. l ++ c.args.piece.now) c.as_slice.ensures.value } in
-      let none_other = none_is c.feed-fed.new.sink.other (sym c.has_parted.ensures ∙ c.if-has_parted.false) in
-      let not_long = λ (e : c.feed-fed.result ≡ Err TooLong). ok_or (sym c.in_default.is ∙ e) in
-      let unspent : is_spent (state_of old.filter) ≡ false = elim (cases_Bool (is_spent (state_of old.filter))) [
-        | inl ended ↦ absurd (ok_or (sym c.in_default.is ∙ c.feed-fed.ensures.spent.1 ended))
-        | inr other ↦ other
-      ] in
-      ∥∥₁_map (old.holds none unspent) (λ h. record {
+      let at = (goal.at.invariant_of-self-2 c).After-feed-fed in
+      ∥∥₁_map (some at (λ ended. ok_or (sym c.in_default.is ∙ c.feed-fed.ensures.spent.1 ended))) (λ h. record {
         assigned = h.assigned;
         form = h.form;
         bytes = h.bytes ++ c.args.piece.now;
-        holds = record {
-          filter = c.in_default.ensures.stands _ h.form h.bytes h.holds.filter;
-          split = split_now c.split.ensures c.read_back.ensures c.pieces.ensures c.each_form_changes_a_text_once.ensures h.holds c.args.piece.now c.new-sink.result c.feed-fed.new.sink expects c.feed-fed.result
-              (c.feed-fed.ensures.feeds _ h.form h.bytes h.holds.filter not_long) none_other ∙ ap (λ l. written h.assigned h.form (h.bytes ++ c.args.piece.now) ++ l) (sym (c.joined-self.ensures ∙ c.left.ensures));
-        };
+        holds = now at (none_is _ (sym c.has_parted.ensures ∙ c.if-has_parted.false)) c.in_default.is h.holds (sym (c.joined-self.ensures ∙ c.left.ensures));
       });
 }
 
 pub returns-clause-decides : goal.returns-clause-decides
 returns-clause-decides c = λ assigned f base bytes stands other.
-    let old = c.args.self.now in
-    let none = none_is old.place (sym c.is_some.ensures ∙ c.if-is_some.false) in
-    let expects : Expects c.new-sink.result (old.held.items ++ c.args.piece.now) = record { none = c.new-sink.ensures.none; bytes_are = c.new-sink.ensures.expected ∙ ap (λ l. l ++ c.args.piece.now) c.as_slice.ensures.value } in
-    let none_other = none_is c.feed-fed.new.sink.other (sym c.has_parted.ensures ∙ c.if-has_parted.false) in
-    sym (ap (λ b. form_decision assigned f b (bytes ++ c.args.piece.now)) (sym stands.base_is)
-    ∙ unparted_decides c.split.ensures c.read_back.ensures c.pieces.ensures c.each_form_changes_a_text_once.ensures stands.holds c.args.piece.now c.new-sink.result c.feed-fed.new.sink expects c.feed-fed.result
-    (c.feed-fed.ensures.feeds _ f bytes stands.holds.filter (λ e. ok_or (sym c.in_default.is ∙ e))) none_other ∙ ap (λ r. option_map Err (result_err r)) c.in_default.is)
+    let at = (goal.at.returns-clause-decides c).After-feed-fed in
+    sym (ap (λ r. option_map Err (result_err r)) c.in_default.is)
+    ∙ unparted_decides (seen at (λ e. ok_or (sym c.in_default.is ∙ e)) stands.holds stands.base_is) (none_is _ (sym c.has_parted.ensures ∙ c.if-has_parted.false))
 
 pub returns-clause-stands : goal.returns-clause-stands
-returns-clause-stands c = λ assigned f base bytes stands ok.
-    let old = c.args.self.now in
-    let none = none_is old.place (sym c.is_some.ensures ∙ c.if-is_some.false) in
-    let expects : Expects c.new-sink.result (old.held.items ++ c.args.piece.now) = record { none = c.new-sink.ensures.none; bytes_are = c.new-sink.ensures.expected ∙ ap (λ l. l ++ c.args.piece.now) c.as_slice.ensures.value } in
-    let none_other = none_is c.feed-fed.new.sink.other (sym c.has_parted.ensures ∙ c.if-has_parted.false) in
-    let not_long = λ (e : c.feed-fed.result ≡ Err TooLong). ok_or (sym c.in_default.is ∙ e) in
-    record {
-      none = none;
-      undecided = ap (λ b. form_decision assigned f b (bytes ++ c.args.piece.now)) (sym stands.base_is)
-          ∙ unparted_decides c.split.ensures c.read_back.ensures c.pieces.ensures c.each_form_changes_a_text_once.ensures stands.holds c.args.piece.now c.new-sink.result c.feed-fed.new.sink expects c.feed-fed.result
-          (c.feed-fed.ensures.feeds _ f bytes stands.holds.filter not_long) none_other ∙ ap (λ r. option_map Err (result_err r)) c.in_default.is;
-      base_is = c.feed-fed.ensures.base ∙ stands.base_is;
-      holds = record {
-        filter = c.in_default.ensures.stands _ f bytes stands.holds.filter;
-        split = split_now c.split.ensures c.read_back.ensures c.pieces.ensures c.each_form_changes_a_text_once.ensures stands.holds c.args.piece.now c.new-sink.result c.feed-fed.new.sink expects c.feed-fed.result
-            (c.feed-fed.ensures.feeds _ f bytes stands.holds.filter not_long) none_other ∙ ap (λ l. written assigned f (bytes ++ c.args.piece.now) ++ l) (sym (c.joined-self.ensures ∙ c.left.ensures));
-      };
-    }
+returns-clause-stands c = λ assigned f base bytes stands ok. record {
+  none = none_is c.args.self.now.place (sym c.is_some.ensures ∙ c.if-is_some.false);
+  undecided = sym (returns-clause-decides c assigned f base bytes stands (λ e. cc));
+  base_is = c.feed-fed.ensures.base ∙ stands.base_is;
+  holds = now (goal.at.returns-clause-stands c).After-feed-fed (none_is _ (sym c.has_parted.ensures ∙ c.if-has_parted.false)) c.in_default.is stands.holds (sym (c.joined-self.ensures ∙ c.left.ensures));
+}

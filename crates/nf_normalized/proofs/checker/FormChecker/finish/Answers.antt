@@ -1,88 +1,86 @@
-use Rattle.std.proofs.Common.{subst, [], ◌∷◌, ◌≡◌, ◌==◌, ◌≤◌, inl, inr, false, length, sym, ap, ◌∙◌, arith, append-nil, true≢false}
-use Rattle.std.proofs.lemmas.Bool.{cases_Bool}
+use Rattle.std.proofs.Common.{subst, [], ◌∷◌, ◌≡◌, ◌++◌, Bool, ℕ, List, IsTrue, refl, sym, ap, ◌∙◌, arith, append-nil, encode_utf8_all}
+use Rattle.std.proofs.lemmas.Bool.{eqb-true, eqb-false, false_from_ne_true}
 use Rattle.std.proofs.Math.Logic.{∥∥₁_elim, ∥∥₁_map}
-use Rattle.std.specs.Coded.{le_prop}
+use Rattle.nf_forms.specs.Ucd.{ucd}
+use Rattle.nf_forms.specs.declared.form.Form.{Form}
+use Rattle.nf_forms.specs.SafeForm.{safe_form}
 use Rattle.nf_utf8.specs.Reading.{text_of, ending_of}
-use Rattle.nf_filter.specs.Faults.{answer_at_end}
-use Rattle.nf_filter.specs.Filter.{state_of, is_spent}
-use Rattle.nf_normalized.specs.Change.{form_value}
+use Rattle.nf_filter.specs.Filter.{state_of, base_of, is_spent}
+use Rattle.nf_filter.specs.Finishes.{final_utf8, end_of}
 use Rattle.nf_filter.specs.Kinds.{spent, cut}
+use Rattle.nf_normalized.specs.Change.{under}
 use Rattle.nf_normalized.specs.Checker.{IsOfEnd}
-use Rattle.nf_normalized.specs.Comparing.{same, left}
-use Rattle.nf_normalized.proofs.CheckerLemmas.{offset_is}
-use Rattle.nf_normalized.proofs.FeedLemmas.{stable, same_fault, ok_or, none_is, parted_apart, Room, Expects, room}
-use Rattle.nf_normalized.proofs.FinishLemmas.{fault_end_kinds, no_bytes, few_end, placed, parted_end, fault_end, done_end, short_end}
+use Rattle.nf_normalized.specs.Holds.{Holds, HoldsSome}
+use Rattle.nf_normalized.proofs.CheckerLemmas.{offset_is, written, no_fault_parts}
+use Rattle.nf_normalized.proofs.CallLemmas.{stable, same_fault, ok_or, none_is, parted_apart, roomy, room, Finished, due_at, fault_end, done_end, short_end, parted_end}
 use Rattle.nf_normalized.proofs.checker.FormChecker.finish.Goals as goal
-use Rattle.nf_normalized.proofs.checker.FormChecker.finish.Goals.{then-not-has_parted+in_default+else-is_at_end, else-not-has_parted}
+use Rattle.nf_normalized.proofs.checker.FormChecker.finish.Goals.{After-finish-finished, then-not-has_parted+in_default+else-is_at_end, else-not-has_parted}
+
+-- what the call told, where the filter stood after these bytes
+abbrev Seen : After-finish-finished → Bool → Form → List ℕ → ℕ → Type 0
+Seen c assigned f bytes base = Finished assigned f base c.as_slice-held.result.now bytes (final_utf8 (under assigned) f ucd bytes) c.new-sink.result c.finish-finished.new.sink c.finish-finished.result c.chars-chars.result c.offset-offset.result
+
+seen : (c : After-finish-finished) → {assigned : Bool} {f : Form} {bytes : List ℕ} → Holds assigned f (state_of c.args.self.filter) c.args.self.held.items bytes → {base : ℕ} → base_of (state_of c.args.self.filter) ≡ base
+    → Seen c assigned f bytes base
+unfolding final_utf8 end_of
+seen c {assigned} {f} {bytes} holds base_is =
+    let before = written assigned f bytes in
+    let fin = c.finish-finished.ensures.finishes _ f bytes holds.filter in
+    let good = (no_fault_parts c.every_character_is_sound.ensures.text assigned (base_of (state_of c.args.self.filter)) bytes holds.filter.no_fault).1 in
+    let split = holds.split ∙ ap (λ l. before ++ l) (sym c.as_slice-held.ensures.value) in
+    subst (Seen c assigned f bytes) base_is (record {
+      call = record {
+        known = record { split = c.split.ensures; back = c.read_back.ensures; pieces = c.pieces.ensures; once = c.each_form_changes_a_text_once.ensures };
+        split = split;
+        wrote = record {
+          begun = c.new-sink.ensures.none;
+          expects = split ∙ ap (λ l. before ++ l) (sym (c.new-sink.ensures.expected ∙ append-nil _));
+          failed = λ e. (fin.write.0 e).0;
+          broken = fin.broken_off;
+          puts = fin.written;
+        };
+        chars_are = c.chars-chars.ensures _ f bytes holds.filter;
+        offset_is = c.offset-offset.ensures ∙ offset_is holds.filter;
+      };
+      due_is = due_at _ before (encode_utf8_all (safe_form f ucd (text_of bytes))) bytes (ending_of bytes) good (c.longest_text.ensures.reads bytes).end;
+      answer = fin.answer;
+    })
+
+-- where no call was refused it stands after some
+some : (c : After-finish-finished) → (IsTrue (is_spent (state_of c.args.self.filter)) → ⊥) → ∥ HoldsSome (state_of c.args.self.filter) c.args.self.held.items ∥₁
+some c unspent = c.args.self.holds (none_is c.args.self.place (sym c.is_some.ensures ∙ c.if-is_some.false)) (false_from_ne_true _ unspent)
 
 pub returns-in-Err-clause-faults : goal.returns-in-Err-clause-faults
 returns-in-Err-clause-faults c =
-    let old = c.args.self in
-    let none = none_is old.place (sym c.is_some.ensures ∙ c.if-is_some.false) in
-    let expects : Expects c.new-sink.result old.held.items = record { none = c.new-sink.ensures.none; bytes_are = c.new-sink.ensures.expected ∙ append-nil _ ∙ c.as_slice.ensures.value } in
-    let none_other = none_is c.finish-finished.new.sink.other (sym c.has_parted.ensures ∙ c.if-not-has_parted.true) in
+    let at = (goal.at.returns-in-Err-clause-faults c).After-finish-finished in
     stable (spent ∷ cut ∷ []) c.in-Err.fault (λ out.
-    let unspent : is_spent (state_of old.filter) ≡ false = elim (cases_Bool (is_spent (state_of old.filter))) [
-      | inl ended ↦ absurd (out (subst IsOfEnd (same_fault (sym (c.finish-finished.ensures.spent.1 ended) ∙ c.in-Err.is)) tt))
-      | inr other ↦ other
-    ] in
-    let never : 1 ≤ 0 = ∥∥₁_elim (old.holds none unspent) le_prop (λ h. absurd (out (fault_end_kinds c.split.ensures c.read_back.ensures c.pieces.ensures c.each_form_changes_a_text_once.ensures h.holds c.longest_text.ensures c.every_character_is_sound.ensures.text
-    c.new-sink.result c.finish-finished.new.sink expects c.finish-finished.result (c.finish-finished.ensures.finishes _ h.form h.bytes h.holds.filter) none_other c.in-Err.fault c.in-Err.is))) in
-    omega (arith, never))
+    ∥∥₁_elim (some at (λ ended. out (subst IsOfEnd (same_fault (sym (c.finish-finished.ensures.spent.1 ended) ∙ c.in-Err.is)) tt))) (λ x y. absurd x) (λ h.
+    out (fault_end (seen at h.holds refl) (none_is _ (sym c.has_parted.ensures ∙ c.if-not-has_parted.true)) c.in-Err.fault c.in-Err.is).1))
 
 pub returns-in-Err-clause-decides : goal.returns-in-Err-clause-decides
 returns-in-Err-clause-decides c = λ assigned f base bytes stands.
-    let old = c.args.self in
-    let none = none_is old.place (sym c.is_some.ensures ∙ c.if-is_some.false) in
-    let expects : Expects c.new-sink.result old.held.items = record { none = c.new-sink.ensures.none; bytes_are = c.new-sink.ensures.expected ∙ append-nil _ ∙ c.as_slice.ensures.value } in
-    let none_other = none_is c.finish-finished.new.sink.other (sym c.has_parted.ensures ∙ c.if-not-has_parted.true) in
-    fault_end c.split.ensures c.read_back.ensures c.pieces.ensures c.each_form_changes_a_text_once.ensures stands.holds c.longest_text.ensures c.every_character_is_sound.ensures.text c.new-sink.result c.finish-finished.new.sink expects c.finish-finished.result (c.finish-finished.ensures.finishes _ f bytes stands.holds.filter) none_other c.in-Err.fault c.in-Err.is
-    ∙ ap (λ b. answer_at_end b (form_value f b bytes) (ending_of bytes)) stands.base_is
+    let at = (goal.at.returns-in-Err-clause-decides c).After-finish-finished in
+    (fault_end (seen at stands.holds stands.base_is) (none_is _ (sym c.has_parted.ensures ∙ c.if-not-has_parted.true)) c.in-Err.fault c.in-Err.is).0
 
 pub returns-then-is_at_end-clause-decides : goal.returns-then-is_at_end-clause-decides
 returns-then-is_at_end-clause-decides c = λ assigned f base bytes stands.
-    let old = c.args.self in
-    let none = none_is old.place (sym c.is_some.ensures ∙ c.if-is_some.false) in
-    let expects : Expects c.new-sink.result old.held.items = record { none = c.new-sink.ensures.none; bytes_are = c.new-sink.ensures.expected ∙ append-nil _ ∙ c.as_slice.ensures.value } in
-    let none_other = none_is c.finish-finished.new.sink.other (sym c.has_parted.ensures ∙ c.if-not-has_parted.true) in
-    done_end c.split.ensures c.read_back.ensures c.pieces.ensures c.each_form_changes_a_text_once.ensures stands.holds c.longest_text.ensures c.every_character_is_sound.ensures.text c.new-sink.result c.finish-finished.new.sink expects c.finish-finished.result (c.finish-finished.ensures.finishes _ f bytes stands.holds.filter) none_other _ c.in_default.is (no_bytes _ (sym c.is_at_end.ensures ∙ c.if-is_at_end.true))
-    ∙ ap (λ b. answer_at_end b (form_value f b bytes) (ending_of bytes)) stands.base_is
+    let at = (goal.at.returns-then-is_at_end-clause-decides c).After-finish-finished in
+    done_end (seen at stands.holds stands.base_is) (none_is _ (sym c.has_parted.ensures ∙ c.if-not-has_parted.true)) _ c.in_default.is (eqb-true _ 0 (sym c.is_at_end.ensures ∙ c.if-is_at_end.true))
 
 pub place_behind-requires : goal.place_behind-requires
 place_behind-requires c =
-    let old = c.args.self in
-    let none = none_is old.place (sym c.is_some.ensures ∙ c.if-is_some.false) in
-    let expects : Expects c.new-sink.result old.held.items = record { none = c.new-sink.ensures.none; bytes_are = c.new-sink.ensures.expected ∙ append-nil _ ∙ c.as_slice.ensures.value } in
-    let unspent : is_spent (state_of old.filter) ≡ false = elim (cases_Bool (is_spent (state_of old.filter))) [
-      | inl ended ↦ elim c.if-not-has_parted.branch [
-        | then-not-has_parted+in_default+else-is_at_end w ↦ absurd (ok_or (sym w.in_default.is ∙ c.finish-finished.ensures.spent.1 ended))
-        | else-not-has_parted w ↦ absurd (parted_apart c.new-sink.ensures.none.1 (sym c.has_parted.ensures ∙ w.if-not-has_parted.false) (c.finish-finished.ensures.kept ended))
-      ]
-      | inr other ↦ other
-    ] in
-    let roomy : ∥ Room old.held.items (same c.finish-finished.new.sink) c.chars-chars.result c.offset-offset.result ∥₁ = ∥∥₁_map (old.holds none unspent) (λ h.
-    room c.split.ensures c.read_back.ensures c.pieces.ensures c.each_form_changes_a_text_once.ensures h.holds c.chars-chars.result c.offset-offset.result
-    0 (same c.finish-finished.new.sink) (left c.finish-finished.new.sink) (c.chars-chars.ensures _ h.form h.bytes h.holds.filter) (c.offset-offset.ensures ∙ offset_is h.holds.filter)
-    (few_end c.split.ensures c.read_back.ensures c.pieces.ensures c.each_form_changes_a_text_once.ensures h.holds c.longest_text.ensures c.every_character_is_sound.ensures.text c.new-sink.result c.finish-finished.new.sink expects c.finish-finished.result
-    (c.finish-finished.ensures.finishes _ h.form h.bytes h.holds.filter)) (omega (arith, c.offset-offset.type_inv))) in
-    record {
-      chars = ∥∥₁_elim roomy le_prop (λ r. omega (arith, r.chars_held, ap (λ l. length (text_of l)) c.deref.ensures.0));
-      offset = ∥∥₁_elim roomy le_prop (λ r. omega (arith, r.bytes_held, ap length c.deref.ensures.0));
-      fits = ∥∥₁_elim roomy le_prop (λ r. omega (arith, r.bytes_fit, ap length c.deref.ensures.0));
-      few = ∥∥₁_elim roomy le_prop (λ r. omega (arith, r.chars_fit, ap (λ l. length (text_of l)) c.deref.ensures.0));
-    }
+    let at = (goal.at.place_behind-requires c).After-finish-finished in
+    let some = some at (λ ended. elim c.if-not-has_parted.branch [
+      | then-not-has_parted+in_default+else-is_at_end w ↦ ok_or (sym w.in_default.is ∙ c.finish-finished.ensures.spent.1 ended)
+      | else-not-has_parted w ↦ parted_apart c.new-sink.ensures.none.1 (sym c.has_parted.ensures ∙ w.if-not-has_parted.false) (c.finish-finished.ensures.kept ended)
+    ]) in
+    roomy (∥∥₁_map some (λ h. room (seen at h.holds refl).call (omega (arith, offset_is h.holds.filter, c.offset-offset.ensures, c.offset-offset.type_inv))))
 
 pub returns-clause-decides : goal.returns-clause-decides
 returns-clause-decides c = λ assigned f base bytes stands.
-    let old = c.args.self in
-    let none = none_is old.place (sym c.is_some.ensures ∙ c.if-is_some.false) in
-    let expects : Expects c.new-sink.result old.held.items = record { none = c.new-sink.ensures.none; bytes_are = c.new-sink.ensures.expected ∙ append-nil _ ∙ c.as_slice.ensures.value } in
-    let at = placed c.split.ensures c.read_back.ensures c.pieces.ensures c.each_form_changes_a_text_once.ensures stands.holds c.longest_text.ensures c.every_character_is_sound.ensures.text c.new-sink.result c.finish-finished.new.sink expects c.finish-finished.result (c.finish-finished.ensures.finishes _ f bytes stands.holds.filter) c.chars-chars.result c.offset-offset.result c.place_behind.result
-    (c.chars-chars.ensures _ f bytes stands.holds.filter) (c.offset-offset.ensures ∙ offset_is stands.holds.filter)
-    (omega (arith, c.place_behind.ensures.chars, ap (λ l. length (text_of l)) c.deref.ensures.0)) (omega (arith, c.place_behind.ensures.bytes, ap length c.deref.ensures.0)) in
+    let told = seen (goal.at.returns-clause-decides c).After-finish-finished stands.holds stands.base_is in
     elim c.if-not-has_parted.branch [
-      | then-not-has_parted+in_default+else-is_at_end w ↦ short_end c.split.ensures c.read_back.ensures c.pieces.ensures c.each_form_changes_a_text_once.ensures stands.holds c.longest_text.ensures c.every_character_is_sound.ensures.text c.new-sink.result c.finish-finished.new.sink expects c.finish-finished.result (c.finish-finished.ensures.finishes _ f bytes stands.holds.filter)
-          (none_is c.finish-finished.new.sink.other (sym c.has_parted.ensures ∙ w.if-not-has_parted.true)) _ c.place_behind.result w.in_default.is
-          (λ none. true≢false (sym (ap (λ l. length l == 0) none) ∙ (sym w.is_at_end.ensures ∙ w.if-is_at_end.false))) at
-      | else-not-has_parted w ↦ parted_end c.split.ensures c.read_back.ensures c.pieces.ensures c.each_form_changes_a_text_once.ensures stands.holds c.longest_text.ensures c.every_character_is_sound.ensures.text c.new-sink.result c.finish-finished.new.sink expects c.finish-finished.result (c.finish-finished.ensures.finishes _ f bytes stands.holds.filter) c.place_behind.result (sym c.has_parted.ensures ∙ w.if-not-has_parted.false) at
-    ] ∙ ap (λ b. answer_at_end b (form_value f b bytes) (ending_of bytes)) stands.base_is
+      | then-not-has_parted+in_default+else-is_at_end w ↦ short_end told (none_is _ (sym c.has_parted.ensures ∙ w.if-not-has_parted.true)) _ w.in_default.is
+          (eqb-false _ 0 (sym w.is_at_end.ensures ∙ w.if-is_at_end.false)) c.place_behind.result c.place_behind.ensures
+      | else-not-has_parted w ↦ parted_end told (sym c.has_parted.ensures ∙ w.if-not-has_parted.false) c.place_behind.result c.place_behind.ensures
+    ]

@@ -1,0 +1,253 @@
+-- What a call of a filter tells of a text, by what it wrote to a sink that compares.
+use Rattle.std.proofs.Common.{IsNone, subst, ◌≡◌, ℕ, ◌+◌, ◌<◌, ◌^◌, Bool, true, false, List, ◌∷◌, ◌++◌, length, take, refl, sym, ap, ap₂, ◌∙◌, arith, ◌==◌, length-append, Option, Some, None, is_some, option_map, encode_utf8_all, true≢false, Result, Ok, Err}
+use Rattle.std.specs.List.{list_any}
+use Rattle.std.specs.Result.{result_err}
+use Rattle.std.proofs.lemmas.List.{take_at}
+use Rattle.std.proofs.lemmas.Str.{encodes_same, length-le-encodes}
+use Rattle.std.proofs.Math.Logic.{∥∥₁_elim}
+use Rattle.std.proofs.Math.Seq.{take-length}
+use Rattle.std.specs.Coded.{le_prop}
+use Rattle.nf_forms.specs.Ucd.{ucd}
+use Rattle.nf_forms.specs.declared.form.Form.{Form}
+use Rattle.nf_forms.specs.SafeForm.{safe_form}
+use Rattle.nf_forms.specs.Laws.Sound.{IsSoundText}
+use Rattle.nf_utf8.specs.Text.{IsText}
+use Rattle.nf_utf8.specs.Ending.{Ending, Whole, Bad, Cut as CutOff}
+use Rattle.nf_utf8.specs.Reading.{text_of, rest_of, ending_of}
+use Rattle.nf_utf8.specs.Reads.{EndsAs}
+use Rattle.nf_safe.specs.declared.place.Place.{Place}
+use Rattle.nf_safe.specs.Place.{place_at}
+use Rattle.nf_filter.specs.declared.fault.Fault.{Fault}
+use Rattle.nf_filter.specs.declared.fault.Fault.TheVariants.{Write}
+use Rattle.nf_filter.specs.declared.tally.Tally.{Tally}
+use Rattle.nf_filter.specs.Checks.{place_or_fault}
+use Rattle.nf_filter.specs.Faults.{fault_in, answer_at_end, bad_byte}
+use Rattle.nf_filter.specs.Finishes.{whole_or, tally_of}
+use Rattle.nf_filter.specs.Kinds.{kind, Holds, IsAmong}
+use Rattle.nf_normalized.specs.declared.comparing.Comparing.{Comparing}
+use Rattle.nf_normalized.specs.Comparing.{same, left, HasRoom, IsBehind}
+use Rattle.nf_normalized.specs.Change.{under, made_of, common, change_at, form_value, form_decision}
+use Rattle.nf_normalized.specs.Checker.{IsOfPiece, IsOfEnd}
+use Rattle.nf_normalized.proofs.BytesLemmas.{Known, Shares, Departs, departs, text_of-encodes, front_all, none_behind}
+use Rattle.nf_normalized.proofs.ChangeLemmas.{if_same, if_other}
+use Rattle.nf_normalized.proofs.CommonLemmas.{common-front}
+use Rattle.nf_normalized.proofs.WroteLemmas.{Wrote, read, other_written, unfailed, all_written}
+use Rattle.nf_normalized.proofs.CheckerLemmas.{written, written_is, is_text, chars_behind, bytes_behind, unparted, fault_kinds}
+
+pub is_none : {A : Type 0} {o : Option A} → o ≡ None → IsNone o
+is_none e = subst (λ o. IsNone o) (sym e) refl
+
+pub none_is : {A : Type 0} (o : Option A) → is_some o ≡ false → o ≡ None
+none_is None e = refl
+none_is (Some x) e = absurd (true≢false e)
+
+pub ok_or : {T : Type 0} {value : T} {fault : Fault} → Ok value ≡ Err fault → ⊥
+ok_or e = cc
+
+pub same_fault : {T : Type 0} {a b : Fault} → ◌≡◌ {A = Result T Fault} (Err a) (Err b) → a ≡ b
+same_fault e = cc
+
+-- a fault is of some kinds where it cannot be of none
+pub stable : (kinds : List ℕ) (fault : Fault) → ((IsAmong kinds fault → ⊥) → ⊥) → IsAmong kinds fault
+stable kinds fault not_out = next (list_any (λ k. k == kind fault) kinds) not_out
+  where
+    next : (b : Bool) → ((Holds b → ⊥) → ⊥) → Holds b
+    next true h = tt
+    next false h = h (λ x. x)
+
+-- nothing was given to a sink that stays as it was
+pub parted_apart : {old new : Comparing} → old.other ≡ None → is_some new.other ≡ true → new ≡ old → ⊥
+parted_apart none is e = true≢false (sym is ∙ ap (λ s. is_some s.other) e ∙ ap is_some none)
+
+pub roomy : {held now : List ℕ} {chars offset : ℕ} → ∥ HasRoom held now chars offset ∥₁ → HasRoom held now chars offset
+roomy some = record {
+  chars_held = ∥∥₁_elim some le_prop (λ r. r.chars_held);
+  bytes_held = ∥∥₁_elim some le_prop (λ r. r.bytes_held);
+  bytes_fit = ∥∥₁_elim some le_prop (λ r. r.bytes_fit);
+  chars_fit = ∥∥₁_elim some le_prop (λ r. r.chars_fit);
+}
+
+-- a filter that took `bytes`, so many characters up to this offset, and holds the last of them, wrote on by the call r, which comes
+-- to `all`
+pub record Call (assigned : Bool) (f : Form) (base : ℕ) (held bytes all due : List ℕ) (old new : Comparing) {T : Type 0} (r : Result T Fault) (chars offset : ℕ) : Type 0 where
+  pub known : Known
+  pub split : bytes ≡ written assigned f bytes ++ held
+  pub wrote : Wrote old new all (written assigned f bytes) due r
+  pub chars_are : chars ≡ length (text_of bytes)
+  pub offset_is : offset ≡ base + length bytes
+
+module _ {assigned : Bool} {f : Form} {base : ℕ} {held bytes all due : List ℕ} {old new : Comparing} {T : Type 0} {r : Result T Fault} {chars offset : ℕ}
+    (call : Call assigned f base held bytes all due old new r chars offset) where
+  chars_held : chars ≡ length (made_of assigned f (text_of bytes)) + length (text_of held)
+  chars_held = call.chars_are ∙ ap (λ l. length (text_of l)) call.split ∙ chars_behind call.known assigned f bytes held
+
+  bytes_held : offset ≡ base + (length (written assigned f bytes) + length held)
+  bytes_held = call.offset_is ∙ ap (λ n. base + n) (ap length call.split ∙ length-append (written assigned f bytes) held)
+
+  pub room : base + length all < 2 ^ 64 → HasRoom held (same new) chars offset
+  room fits =
+      let now = same new in
+      let few : base + (length (written assigned f bytes) + length now) < 2 ^ 64 =
+      omega (arith, fits, ap length (read call.wrote), length-append (written assigned f bytes ++ now) (left new), length-append (written assigned f bytes) now) in
+      record {
+        chars_held = omega (arith, chars_held);
+        bytes_held = omega (arith, bytes_held);
+        bytes_fit = omega (arith, bytes_held, few);
+        chars_fit = omega (
+          arith,
+          chars_held,
+          few,
+          length-le-encodes (text_of now),
+          ap length (call.known.split.split now),
+          length-append (encode_utf8_all (text_of now)) (rest_of now),
+          length-le-encodes (made_of assigned f (text_of bytes)),
+          ap length (written_is assigned f bytes),
+        );
+      }
+
+  -- a text is due
+  module _ (s : List ℕ) (scalars : IsText s) (is : due ≡ encode_utf8_all s) where
+    -- the place behind what it shares with what was read
+    pub placed : Shares (text_of all) s (text_of (written assigned f bytes ++ same new)) → (place : Place) → IsBehind held (same new) chars offset place
+        → Some (place_at base (text_of all) (common (text_of all) s)) ≡ Some place
+    placed shares place behind =
+        let count : common (text_of all) s ≡ place.chars = omega (arith, shares.count, chars_behind call.known assigned f bytes (same new), chars_held, behind.0) in
+        let end : base + length (encode_utf8_all (take (common (text_of all) s) (text_of all))) ≡ place.bytes =
+        omega (
+          arith,
+          ap (λ n. length (encode_utf8_all (take n (text_of all)))) shares.count,
+          ap (λ l. length (encode_utf8_all l)) shares.front,
+          bytes_behind call.known assigned f bytes (same new),
+          bytes_held,
+          behind.1,
+        ) in
+        ap₂ (λ chars bytes. Some (record { chars = chars; bytes = bytes })) count end
+
+    pub parted : is_some new.other ≡ true → Departs (text_of all) s (text_of (written assigned f bytes ++ same new))
+    parted is_other =
+        let o = other_written call.wrote is_other in
+        let seen = written assigned f bytes ++ same new in
+        subst (λ l. Departs (text_of l) s (text_of seen)) (sym (read call.wrote)) (departs call.known seen (left new) o.0 o.1 o.2 s scalars (sym is ∙ o.3))
+
+    module _ (none : new.other ≡ None) where
+      pub read_on : all ≡ encode_utf8_all s ++ left new
+      read_on = read call.wrote ∙ ap (λ l. l ++ left new) (sym (all_written call.wrote none) ∙ is)
+
+      -- it is a front of the text that was read
+      pub is_front : Shares (text_of all) s (text_of (written assigned f bytes ++ same new))
+      is_front =
+          let text : text_of all ≡ s ++ text_of (left new) = ap text_of read_on ∙ call.known.back.text s (left new) scalars in
+          subst (λ l. Shares (text_of all) s l) (sym (text_of-encodes call.known s scalars) ∙ ap text_of (sym is ∙ all_written call.wrote none)) (record {
+            count = ap (λ l. common l s) text ∙ common-front s (text_of (left new));
+            front = ap (take (length s)) text ∙ take_at s (text_of (left new)) (length s) refl;
+          })
+
+-- ---- a piece was fed
+
+pub record Fed (assigned : Bool) (f : Form) (base : ℕ) (held bytes piece : List ℕ) (old new : Comparing) (r : Result (Unit {0}) Fault) (chars offset : ℕ) : Type 0 where
+  pub call : Call assigned f base held bytes (bytes ++ piece) (written assigned f (bytes ++ piece)) old new r chars offset
+  pub answer : (r ≡ Err Write → ⊥) → result_err r ≡ fault_in (under assigned) ucd base (bytes ++ piece)
+
+module _ {assigned : Bool} {f : Form} {base : ℕ} {held bytes piece : List ℕ} {old new : Comparing} {r : Result (Unit {0}) Fault} {chars offset : ℕ}
+    (fed : Fed assigned f base held bytes piece old new r chars offset) where
+  pub parted_decides : is_some new.other ≡ true → (place : Place) → IsBehind held (same new) chars offset place → Some (Ok (Some place)) ≡ form_decision assigned f base (bytes ++ piece)
+  unfolding form_decision
+  parted_decides is place behind =
+      let all = bytes ++ piece in
+      let made = made_of assigned f (text_of all) in
+      let text = is_text fed.call.known assigned f all in
+      let d = parted fed.call made text (written_is assigned f all) is in
+      ap (λ o. place_or_fault o (fault_in (under assigned) ucd base all)) (sym (if_other made (take (length made) (text_of all)) _ _ d.other ∙ placed fed.call made text (written_is assigned f all) d.shares place behind))
+
+  module _ (none : new.other ≡ None) where
+    pub piece_kinds : (sound : (x : List ℕ) → IsSoundText ucd x) (fault : Fault) → r ≡ Err fault → IsOfPiece fault
+    piece_kinds sound fault is = fault_kinds sound assigned base (bytes ++ piece) fault (sym (fed.answer (unfailed fed.call.wrote none)) ∙ ap result_err is)
+
+    pub split_now : bytes ++ piece ≡ written assigned f (bytes ++ piece) ++ left new
+    split_now = read fed.call.wrote ∙ ap (λ l. l ++ left new) (sym (all_written fed.call.wrote none))
+
+    pub unparted_decides : option_map Err (result_err r) ≡ form_decision assigned f base (bytes ++ piece)
+    unfolding form_decision
+    unparted_decides = sym (ap₂ place_or_fault (unparted fed.call.known assigned f (bytes ++ piece) base (left new) split_now) (sym (fed.answer (unfailed fed.call.wrote none))))
+
+-- ---- the end
+
+-- the whole form is due, or, where a character is cut, no more than is settled
+pub data Due (settled whole bytes due : List ℕ) : Ending → Type 0 where
+  all_due : bytes ≡ encode_utf8_all (text_of bytes) → due ≡ whole → Due settled whole bytes due Whole
+  none_due : {at start : ℕ} → due ≡ settled → Due settled whole bytes due (CutOff at start)
+
+pub due_at : (base : ℕ) (settled whole bytes : List ℕ) (ending : Ending) → bad_byte base ending ≡ None → EndsAs bytes (text_of bytes) ending → Due settled whole bytes (whole_or ending settled whole) ending
+due_at base settled whole bytes Whole good ends = all_due ends refl
+due_at base settled whole bytes (Bad at start) good ends = cc
+due_at base settled whole bytes (CutOff at start) good ends = none_due refl
+
+pub record Finished (assigned : Bool) (f : Form) (base : ℕ) (held bytes due : List ℕ) (old new : Comparing) (r : Result Tally Fault) (chars offset : ℕ) : Type 0 where
+  pub call : Call assigned f base held bytes bytes due old new r chars offset
+  pub due_is : Due (written assigned f bytes) (encode_utf8_all (safe_form f ucd (text_of bytes))) bytes due (ending_of bytes)
+  pub answer : (r ≡ Err Write → ⊥) → r ≡ answer_at_end base (tally_of false ucd bytes) (ending_of bytes)
+
+module _ {assigned : Bool} {f : Form} {base : ℕ} {held bytes due : List ℕ} {old new : Comparing} {r : Result Tally Fault} {chars offset : ℕ}
+    (end : Finished assigned f base held bytes due old new r chars offset) where
+  abbrev form : List ℕ
+  form = safe_form f ucd (text_of bytes)
+
+  scalars : IsText form
+  scalars = (end.call.known.once f).text (text_of bytes) (end.call.known.split.scalars bytes)
+
+  pub parted_end : is_some new.other ≡ true → (place : Place) → IsBehind held (same new) chars offset place → Ok (Some place) ≡ answer_at_end base (form_value f base bytes) (ending_of bytes)
+  unfolding change_at
+  parted_end is place behind = by end.due_is
+    where
+      value : due ≡ encode_utf8_all form → form_value f base bytes ≡ Some place
+      value due =
+          let d = parted end.call form scalars due is in
+          if_other form (text_of bytes) _ _ (λ same. d.other (same ∙ sym (take-length (text_of bytes)) ∙ ap (λ l. take (length l) (text_of bytes)) (sym same))) ∙ placed end.call form scalars due d.shares place behind
+
+      by : {ending : Ending} → Due (written assigned f bytes) (encode_utf8_all form) bytes due ending → Ok (Some place) ≡ answer_at_end base (form_value f base bytes) ending
+      by (all_due ends due) = ap Ok (sym (value due))
+      by (none_due due) =
+          let o = other_written end.call.wrote is in
+          absurd (omega (arith, ap length (sym due ∙ o.3), length-append (written assigned f bytes ++ same new) (o.0 ∷ o.1), length-append (written assigned f bytes) (same new)))
+
+  module _ (none : new.other ≡ None) where
+    told : r ≡ answer_at_end base (tally_of false ucd bytes) (ending_of bytes)
+    told = end.answer (unfailed end.call.wrote none)
+
+    -- a fault is that of the end
+    pub fault_end : (fault : Fault) → r ≡ Err fault → (Err fault ≡ answer_at_end base (form_value f base bytes) (ending_of bytes)) × IsOfEnd fault
+    fault_end fault is = by end.due_is (sym is ∙ told)
+      where
+        by : {ending : Ending} → Due (written assigned f bytes) (encode_utf8_all form) bytes due ending → Err fault ≡ answer_at_end base (tally_of false ucd bytes) ending
+            → (Err fault ≡ answer_at_end base (form_value f base bytes) ending) × IsOfEnd fault
+        by (all_due ends due) e = cc
+        by (none_due due) e = (ap Err (same_fault e), subst IsOfEnd (sym (same_fault e)) tt)
+
+    -- none, and all is read, or the form is at its end before the text
+    pub done_end : (given : Tally) → r ≡ Ok given → length (left new) ≡ 0 → Ok None ≡ answer_at_end base (form_value f base bytes) (ending_of bytes)
+    unfolding change_at
+    done_end given is no_more = by end.due_is (sym is ∙ told)
+      where
+        value : bytes ≡ encode_utf8_all (text_of bytes) → due ≡ encode_utf8_all form → form_value f base bytes ≡ None
+        value ends due =
+            let read = read_on end.call form scalars due none in
+            if_same form (text_of bytes) _ _ (encodes_same form (text_of bytes) (front_all (encode_utf8_all form) (left new) bytes (sym read) (omega (arith, no_more, ap length read, length-append (encode_utf8_all form) (left new))) ∙ ends))
+
+        by : {ending : Ending} → Due (written assigned f bytes) (encode_utf8_all form) bytes due ending → Ok given ≡ answer_at_end base (tally_of false ucd bytes) ending → Ok None ≡ answer_at_end base (form_value f base bytes) ending
+        by (all_due ends due) e = ap Ok (sym (value ends due))
+        by (none_due due) e = cc
+
+    pub short_end : (given : Tally) → r ≡ Ok given → (length (left new) ≡ 0 → ⊥) → (place : Place) → IsBehind held (same new) chars offset place
+        → Ok (Some place) ≡ answer_at_end base (form_value f base bytes) (ending_of bytes)
+    unfolding change_at
+    short_end given is more place behind = by end.due_is (sym is ∙ told)
+      where
+        value : bytes ≡ encode_utf8_all (text_of bytes) → due ≡ encode_utf8_all form → form_value f base bytes ≡ Some place
+        value ends due =
+            if_other form (text_of bytes) _ _ (λ same. more (ap length (none_behind (encode_utf8_all form) (left new) (sym (read_on end.call form scalars due none) ∙ ends ∙ ap encode_utf8_all (sym same)))))
+            ∙ placed end.call form scalars due (is_front end.call form scalars due none) place behind
+
+        by : {ending : Ending} → Due (written assigned f bytes) (encode_utf8_all form) bytes due ending → Ok given ≡ answer_at_end base (tally_of false ucd bytes) ending
+            → Ok (Some place) ≡ answer_at_end base (form_value f base bytes) ending
+        by (all_due ends due) e = ap Ok (sym (value ends due))
+        by (none_due due) e = cc
