@@ -1,8 +1,9 @@
 -- Where a form changes a text.
-use Rattle.std.proofs.Common.{◌≡◌, ap₂, suc, ◌==◌, eqb-true, ◌⊎◌, ◌↔◌, inl, inr, ℕ, ◌+◌, ◌≤◌, Bool, true, false, List, [], ◌∷◌, ◌++◌, length, take, refl, sym, ap, ◌∙◌, subst, arith, if◌then◌else◌, Some, None, IsTrue, bytes_eq, true≢false, append_assoc, append-nil, encode_utf8_all}
+use Rattle.std.proofs.Common.{◌≡◌, ap₂, ⊎_elim, ◌↔◌, ℕ, ◌+◌, ◌<◌, ◌≤◌, Bool, true, false, List, [], ◌∷◌, ◌++◌, length, take, drop, refl, sym, ap, ◌∙◌, subst, arith, if◌then◌else◌, Some, None, IsTrue, bytes_eq, true≢false, append_assoc, append-nil, encode_utf8_all}
 use Rattle.std.proofs.lemmas.Slice.Eq.{bytes_eq-Decides}
 use Rattle.std.proofs.Math.Seq.{take-length}
-use Rattle.std.proofs.lemmas.List.{length-append, take_at}
+use Rattle.std.proofs.lemmas.Bool.{cases_lt}
+use Rattle.std.proofs.lemmas.List.{length-append, take_at, take_all, take-append-le, take-append-drop}
 use Rattle.nf_forms.specs.declared.form.Form.{Form}
 use Rattle.nf_forms.specs.Forms.{decomposed}
 use Rattle.nf_forms.specs.StreamSafe.{stream_safe}
@@ -17,7 +18,7 @@ use Rattle.nf_safe.specs.Place.{place_at, is_in_format}
 use Rattle.nf_filter.specs.Settled.{settled}
 use Rattle.nf_filter.specs.Laws.{SettledOnlyGrows}
 use Rattle.nf_normalized.specs.Change.{common, change_at, settled_change_at}
-use Rattle.nf_normalized.proofs.CommonLemmas.{common-behind, common-front}
+use Rattle.nf_normalized.proofs.CommonLemmas.{common-le-right, take-common, common-front, common-within}
 
 -- two texts are one, or they are not
 pub same_or : (P : Bool → Type 0) (x y : List ℕ) → (x ≡ y → P true) → (¬ (x ≡ y) → P false) → P (bytes_eq x y)
@@ -41,42 +42,6 @@ no_change base f x =
     (λ other. (λ none. cc, λ same. absurd (other same)))
 
 -- ---- a settled place stays
-
--- behind what is common, one text ends or both go on, each otherwise
-record Parts (x m : List ℕ) : Type 0 where
-  same : List ℕ
-  a : ℕ
-  b : ℕ
-  left : List ℕ
-  right : List ℕ
-  text : x ≡ same ++ a ∷ left
-  other : m ≡ same ++ b ∷ right
-  differ : (a == b) ≡ false
-
-parts : (x m : List ℕ) → ((more : List ℕ) × (m ≡ x ++ more)) ⊎ (((more : List ℕ) × (x ≡ m ++ more)) ⊎ Parts x m)
-parts [] m = inl (m, refl)
-parts (a ∷ x) [] = inr (inl (a ∷ x, refl))
-parts (a ∷ x) (b ∷ m) = next (a == b) refl (parts x m)
-  where
-    next : (t : Bool) → (a == b) ≡ t → ((more : List ℕ) × (m ≡ x ++ more)) ⊎ (((more : List ℕ) × (x ≡ m ++ more)) ⊎ Parts x m)
-        → ((more : List ℕ) × (b ∷ m ≡ a ∷ x ++ more)) ⊎ (((more : List ℕ) × (a ∷ x ≡ b ∷ m ++ more)) ⊎ Parts (a ∷ x) (b ∷ m))
-    next true e (inl r) = inl (r.0, ap (λ l. b ∷ l) r.1 ∙ ap (λ h. h ∷ (x ++ r.0)) (sym (eqb-true a b e)))
-    next true e (inr (inl r)) = inr (inl (r.0, ap (λ l. a ∷ l) r.1 ∙ ap (λ h. h ∷ (m ++ r.0)) (eqb-true a b e)))
-    next true e (inr (inr r)) = inr (inr (record {
-      same = a ∷ r.same;
-      a = r.a;
-      b = r.b;
-      left = r.left;
-      right = r.right;
-      text = ap (λ l. a ∷ l) r.text;
-      other = ap (λ l. b ∷ l) r.other ∙ ap (λ h. h ∷ (r.same ++ r.b ∷ r.right)) (sym (eqb-true a b e));
-      differ = r.differ;
-    }))
-    next false e more = inr (inr (record { same = []; a = a; b = b; left = x; right = m; text = refl; other = refl; differ = e }))
-
--- what both begin with
-common-parts : (same : List ℕ) (a b : ℕ) (left right : List ℕ) → (a == b) ≡ false → common (same ++ a ∷ left) (same ++ b ∷ right) ≡ length same
-common-parts same a b left right e = common-behind same (a ∷ left) (b ∷ right) ∙ omega (arith, ap (λ t. if t then suc (common left right) else 0) e)
 
 common-same : (x : List ℕ) → common x x ≡ length x
 common-same x = ap (λ l. common l x) (sym (append-nil x)) ∙ common-front x []
@@ -119,7 +84,7 @@ module _ (sound : (x : List ℕ) → IsSoundText ucd x) (safe : (f : Form) (x : 
   place_stays grows base x y place =
       same_or (λ b. (if b then None else Some (place_at base x (common x m))) ≡ Some place → change_at base f (x ++ y) ≡ Some place) m (take (length m) x)
       (λ same none. cc)
-      (λ other e. by other (parts x m) ∙ e)
+      (λ other e. stays other ∙ e)
     where
       m : List ℕ
       m = front ucd (safe_form f ucd x)
@@ -134,21 +99,19 @@ module _ (sound : (x : List ℕ) → IsSoundText ucd x) (safe : (f : Form) (x : 
       whole_is : whole ≡ m ++ more
       whole_is = sym (front-append-back ucd whole) ∙ ap (λ l. l ++ back ucd whole) ((grows f ucd x y).1) ∙ append_assoc m ((grows f ucd x y).0) (back ucd whole)
 
-      by : ¬ (m ≡ take (length m) x) → ((more : List ℕ) × (m ≡ x ++ more)) ⊎ (((more : List ℕ) × (x ≡ m ++ more)) ⊎ Parts x m)
-          → change_at base f (x ++ y) ≡ Some (place_at base x (common x m))
-      by other (inl r) =
-          let form_is = sym (front-append-back ucd (safe_form f ucd x)) ∙ ap (λ l. l ++ back ucd (safe_form f ucd x)) r.1 ∙ append_assoc x r.0 (back ucd (safe_form f ucd x)) in
-          let none = append-none r.0 (back ucd (safe_form f ucd x)) (goes_on x (r.0 ++ back ucd (safe_form f ucd x)) form_is) in
-          let same = r.1 ∙ ap (λ l. x ++ l) none ∙ append-nil x in
-          absurd (other (same ∙ sym (ap (λ n. take n x) (ap length same) ∙ take-length x)))
-      by other (inr (inl r)) = absurd (other (sym (ap (take (length m)) r.1 ∙ take_at m r.0 (length m) refl)))
-      by other (inr (inr r)) =
-          let text = ap (λ l. l ++ y) r.text ∙ append_assoc r.same (r.a ∷ r.left) y in
-          let made = whole_is ∙ ap (λ l. l ++ more) r.other ∙ append_assoc r.same (r.b ∷ r.right) more in
-          let short = ap₂ common r.text r.other ∙ common-parts r.same r.a r.b r.left r.right r.differ in
-          let long = ap₂ common text made ∙ common-parts r.same r.a r.b (r.left ++ y) (r.right ++ more) r.differ in
-          let front_x = ap (take (common x m)) r.text ∙ take_at r.same (r.a ∷ r.left) (common x m) (sym short) in
-          let front_xy = ap (take (common (x ++ y) whole)) text ∙ take_at r.same (r.a ∷ r.left ++ y) (common (x ++ y) whole) (sym long) in
-          same_or (λ b. (if b then None else Some (place_at base (x ++ y) (common (x ++ y) whole))) ≡ Some (place_at base x (common x m))) whole (x ++ y)
-          (λ same. absurd (omega (arith, ap (common (x ++ y)) same ∙ common-same (x ++ y), long, ap length text, length-append r.same (r.a ∷ r.left ++ y))))
-          (λ _. ap Some (place_same base (x ++ y) x (common (x ++ y) whole) (common x m) (long ∙ sym short) (front_xy ∙ sym front_x)))
+      -- x is no front of that
+      longer : ¬ (m ≡ take (length m) x) → (rest : List ℕ) → m ≡ x ++ rest → ⊥
+      longer other rest r =
+          let form_is = sym (front-append-back ucd (safe_form f ucd x)) ∙ ap (λ l. l ++ back ucd (safe_form f ucd x)) r ∙ append_assoc x rest (back ucd (safe_form f ucd x)) in
+          let none = append-none rest (back ucd (safe_form f ucd x)) (goes_on x (rest ++ back ucd (safe_form f ucd x)) form_is) in
+          let same = r ∙ ap (λ l. x ++ l) none ∙ append-nil x in
+          other (same ∙ sym (ap (λ n. take n x) (ap length same) ∙ take-length x))
+
+      stays : ¬ (m ≡ take (length m) x) → change_at base f (x ++ y) ≡ Some (place_at base x (common x m))
+      stays other =
+          let n = common x m in
+          let in_m : n < length m = ⊎_elim (λ less. less) (λ all. absurd (other (sym (take_all n m all) ∙ sym (take-common x m) ∙ ap (λ k. take k x) (omega (arith, all, common-le-right x m))))) (cases_lt n (length m)) in
+          let in_x : n < length x = ⊎_elim (λ less. less) (λ all. absurd (longer other (drop n m) (sym (take-append-drop n m) ∙ ap (λ l. l ++ drop n m) (sym (take-common x m) ∙ take_all n x all)))) (cases_lt n (length x)) in
+          let long : common (x ++ y) whole ≡ n = ap (common (x ++ y)) whole_is ∙ common-within x m y more in_x in_m in
+          if_other whole (x ++ y) _ _ (λ same. absurd (omega (arith, ap (common (x ++ y)) same ∙ common-same (x ++ y), long, in_x, length-append x y)))
+          ∙ ap Some (place_same base (x ++ y) x (common (x ++ y) whole) n long (ap (λ k. take k (x ++ y)) long ∙ take-append-le n x y (omega (arith, in_x))))

@@ -37,6 +37,17 @@ common-front [] [] = refl
 common-front [] (a ∷ more) = refl
 common-front (a ∷ x) more = ap (λ b. if b then suc (common (x ++ more) x) else 0) (same_head a) ∙ ap suc (common-front x more)
 
+-- what ends within two lists goes on no further where they do
+pub common-within : (x m y more : List ℕ) → common x m < length x → common x m < length m → common (x ++ y) (m ++ more) ≡ common x m
+common-within [] m y more p q = absurd (omega (arith, p))
+common-within (a ∷ x) [] y more p q = absurd (omega (arith, q))
+common-within (a ∷ x) (b ∷ m) y more p q = next (a == b) (common-within x m y more) p q
+  where
+    next : (t : Bool) → (common x m < length x → common x m < length m → common (x ++ y) (m ++ more) ≡ common x m) → (if t then suc (common x m) else 0) < suc (length x)
+        → (if t then suc (common x m) else 0) < suc (length m) → (if t then suc (common (x ++ y) (m ++ more)) else 0) ≡ (if t then suc (common x m) else 0)
+    next true stays p q = ap suc (stays (omega (arith, p)) (omega (arith, q)))
+    next false stays p q = refl
+
 -- where nothing is in common, one list goes on with another member than the second begins with
 pub common-none : (x : List ℕ) (b : ℕ) (y : List ℕ) → common x (b ∷ y) ≡ 0 → goes_on_with b x ≡ false
 common-none [] b y e = refl

@@ -1,4 +1,4 @@
-use Rattle.std.proofs.Common.{subst, [], ◌∷◌, ◌⊎◌, ◌≡◌, ◌<◌, ◌+◌, ◌++◌, ◌^◌, Bool, ℕ, List, IsTrue, option_map, inl, inr, ⊎_elim, true, false, length, refl, sym, ap, ◌∙◌, arith, None, Ok, Err, is_some, append_assoc, length-append}
+use Rattle.std.proofs.Common.{subst, [], ◌∷◌, ◌⊎◌, ◌≡◌, ◌<◌, ◌+◌, ◌++◌, ◌^◌, Bool, ℕ, List, IsTrue, option_map, inl, inr, ⊎_elim, true, length, refl, sym, ap, ◌∙◌, arith, None, Ok, Err, append_assoc, length-append}
 use Rattle.std.proofs.lemmas.Bool.{cases_lt, false_from_ne_true}
 use Rattle.std.proofs.Math.Logic.{∥∥₁_elim, ∥∥₁_map}
 use Rattle.std.specs.Coded.{le_prop}
