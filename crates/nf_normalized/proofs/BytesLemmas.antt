@@ -7,7 +7,7 @@ use Rattle.nf_forms.specs.Ucd.{ucd}
 use Rattle.nf_forms.specs.declared.form.Form.{Form}
 use Rattle.nf_forms.specs.Twice.{ChangesOnce}
 use Rattle.nf_utf8.specs.declared.chunk.End.{End}
-use Rattle.nf_utf8.specs.declared.chunk.End.TheVariants.{Whole, Cut, Bad}
+use Rattle.nf_utf8.specs.declared.chunk.End.TheVariants.{Bad}
 use Rattle.nf_utf8.specs.declared.decoder.Decoder.{Decoder}
 use Rattle.nf_utf8.specs.Reading.{text_len, text_of, rest_of}
 use Rattle.nf_utf8.specs.Standing.{StandsAfter}
@@ -52,16 +52,15 @@ one_piece {first} {c} {text} takes = takes.spelled ∙ ap (λ l. (l ++ first_tex
 
 module _ (pieces : ReadsPieces) (first second : List ℕ) where
   pub bad_piece : {c : Option ℕ} {text : List ℕ} (end : End) {at back : ℕ} → end ≡ Bad at back → Takes [] first c text end → text_of (first ++ second) ≡ first_text c ++ chars text
-  bad_piece Whole is takes = cc
-  bad_piece Cut is takes = cc
   bad_piece (Bad at back) is takes = pieces.bad_text first second _ _ (takes.ends.0) ∙ one_piece takes
+  bad_piece _ is takes = cc
 
   pub two_pieces : {c d : Option ℕ} {text more : List ℕ} (end : End) {decoder : Decoder} {end_more : End} → ((at back : ℕ) → end ≡ Bad at back → ⊥) → Takes [] first c text end
       → StandsAfter decoder (bytes_behind [] first end) → ((bytes : List ℕ) → StandsAfter decoder bytes → Takes bytes second d more end_more)
       → text_of (first ++ second) ≡ (first_text c ++ chars text) ++ (first_text d ++ chars more)
-  two_pieces {c} {d} {text} {more} Whole not_bad takes stands next = (next first stands).spelled ∙ ap (λ l. (l ++ first_text d) ++ chars more) (one_piece takes) ∙ append_assoc (first_text c ++ chars text) (first_text d) (chars more)
-  two_pieces {c} {d} {text} {more} Cut not_bad takes stands next = (next first stands).spelled ∙ ap (λ l. (l ++ first_text d) ++ chars more) (one_piece takes) ∙ append_assoc (first_text c ++ chars text) (first_text d) (chars more)
   two_pieces (Bad at back) not_bad takes stands next = absurd (not_bad at back refl)
+  two_pieces {c} {d} {text} {more} _ not_bad takes stands next =
+      (next first stands).spelled ∙ ap (λ l. (l ++ first_text d) ++ chars more) (one_piece takes) ∙ append_assoc (first_text c ++ chars text) (first_text d) (chars more)
 
 -- two chunks are counted
 pub record Counted (all : List ℕ) (chars_a chars_b bytes_a bytes_b : ℕ) : Type 0 where

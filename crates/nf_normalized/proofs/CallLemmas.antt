@@ -13,7 +13,7 @@ use Rattle.nf_forms.specs.SafeForm.{safe_form}
 use Rattle.nf_forms.specs.Laws.Sound.{IsSoundText}
 use Rattle.nf_utf8.specs.Text.{IsText}
 use Rattle.nf_utf8.specs.Ending.{Ending, Whole, Bad, Cut as CutOff}
-use Rattle.nf_utf8.specs.Reading.{text_of, rest_of, ending_of}
+use Rattle.nf_utf8.specs.Reading.{text_of, rest_of}
 use Rattle.nf_utf8.specs.Reads.{EndsAs}
 use Rattle.nf_safe.specs.declared.place.Place.{Place}
 use Rattle.nf_safe.specs.Place.{place_at}
@@ -22,7 +22,7 @@ use Rattle.nf_filter.specs.declared.fault.Fault.TheVariants.{Write}
 use Rattle.nf_filter.specs.declared.tally.Tally.{Tally}
 use Rattle.nf_filter.specs.Checks.{place_or_fault}
 use Rattle.nf_filter.specs.Faults.{fault_in, answer_at_end, bad_byte}
-use Rattle.nf_filter.specs.Finishes.{whole_or, tally_of}
+use Rattle.nf_filter.specs.Finishes.{whole_or}
 use Rattle.nf_filter.specs.Kinds.{kind, Holds, IsAmong}
 use Rattle.nf_normalized.specs.declared.comparing.Comparing.{Comparing}
 use Rattle.nf_normalized.specs.Comparing.{same, left, HasRoom, IsBehind}
@@ -67,17 +67,18 @@ roomy some = record {
   chars_fit = ∥∥₁_elim some le_prop (λ r. r.chars_fit);
 }
 
--- a filter that took `bytes`, so many characters up to this offset, and holds the last of them, wrote on by the call r, which comes
--- to `all`
-pub record Call (assigned : Bool) (f : Form) (base : ℕ) (held bytes all due : List ℕ) (old new : Comparing) {T : Type 0} (r : Result T Fault) (chars offset : ℕ) : Type 0 where
+-- a filter that took `bytes`, so many characters up to this offset, and holds the last of them, wrote on by the call r, which comes to
+-- `all`; it tells more where the sink did not fail
+pub record Call (assigned : Bool) (f : Form) (base : ℕ) (held bytes all due : List ℕ) (old new : Comparing) {T : Type 0} (r : Result T Fault) (chars offset : ℕ) (Tells : Type 0) : Type 0 where
   pub known : Known
   pub split : bytes ≡ written assigned f bytes ++ held
   pub wrote : Wrote old new all (written assigned f bytes) due r
   pub chars_are : chars ≡ length (text_of bytes)
   pub offset_is : offset ≡ base + length bytes
+  pub answer : (r ≡ Err Write → ⊥) → Tells
 
-module _ {assigned : Bool} {f : Form} {base : ℕ} {held bytes all due : List ℕ} {old new : Comparing} {T : Type 0} {r : Result T Fault} {chars offset : ℕ}
-    (call : Call assigned f base held bytes all due old new r chars offset) where
+module _ {assigned : Bool} {f : Form} {base : ℕ} {held bytes all due : List ℕ} {old new : Comparing} {T : Type 0} {r : Result T Fault} {chars offset : ℕ} {Tells : Type 0}
+    (call : Call assigned f base held bytes all due old new r chars offset Tells) where
   chars_held : chars ≡ length (made_of assigned f (text_of bytes)) + length (text_of held)
   chars_held = call.chars_are ∙ ap (λ l. length (text_of l)) call.split ∙ chars_behind call.known assigned f bytes held
 
@@ -104,6 +105,9 @@ module _ {assigned : Bool} {f : Form} {base : ℕ} {held bytes all due : List �
           ap length (written_is assigned f bytes),
         );
       }
+
+  pub told : new.other ≡ None → Tells
+  told none = call.answer (unfailed call.wrote none)
 
   -- a text is due
   module _ (s : List ℕ) (scalars : IsText s) (is : due ≡ encode_utf8_all s) where
@@ -144,31 +148,27 @@ module _ {assigned : Bool} {f : Form} {base : ℕ} {held bytes all due : List �
 
 -- ---- a piece was fed
 
-pub record Fed (assigned : Bool) (f : Form) (base : ℕ) (held bytes piece : List ℕ) (old new : Comparing) (r : Result (Unit {0}) Fault) (chars offset : ℕ) : Type 0 where
-  pub call : Call assigned f base held bytes (bytes ++ piece) (written assigned f (bytes ++ piece)) old new r chars offset
-  pub answer : (r ≡ Err Write → ⊥) → result_err r ≡ fault_in (under assigned) ucd base (bytes ++ piece)
-
-module _ {assigned : Bool} {f : Form} {base : ℕ} {held bytes piece : List ℕ} {old new : Comparing} {r : Result (Unit {0}) Fault} {chars offset : ℕ}
-    (fed : Fed assigned f base held bytes piece old new r chars offset) where
-  pub parted_decides : is_some new.other ≡ true → (place : Place) → IsBehind held (same new) chars offset place → Some (Ok (Some place)) ≡ form_decision assigned f base (bytes ++ piece)
+module _ {assigned : Bool} {f : Form} {base : ℕ} {held bytes all : List ℕ} {old new : Comparing} {r : Result (Unit {0}) Fault} {chars offset : ℕ}
+    (call : Call assigned f base held bytes all (written assigned f all) old new r chars offset (result_err r ≡ fault_in (under assigned) ucd base all)) where
+  pub parted_decides : is_some new.other ≡ true → (place : Place) → IsBehind held (same new) chars offset place → Some (Ok (Some place)) ≡ form_decision assigned f base all
   unfolding form_decision
   parted_decides is place behind =
-      let all = bytes ++ piece in
       let made = made_of assigned f (text_of all) in
-      let text = is_text fed.call.known assigned f all in
-      let d = parted fed.call made text (written_is assigned f all) is in
-      ap (λ o. place_or_fault o (fault_in (under assigned) ucd base all)) (sym (if_other made (take (length made) (text_of all)) _ _ d.other ∙ placed fed.call made text (written_is assigned f all) d.shares place behind))
+      let scalars = is_text call.known assigned f all in
+      let d = parted call made scalars (written_is assigned f all) is in
+      ap (λ o. place_or_fault o (fault_in (under assigned) ucd base all))
+      (sym (if_other made (take (length made) (text_of all)) _ _ d.other ∙ placed call made scalars (written_is assigned f all) d.shares place behind))
 
   module _ (none : new.other ≡ None) where
     pub piece_kinds : (sound : (x : List ℕ) → IsSoundText ucd x) (fault : Fault) → r ≡ Err fault → IsOfPiece fault
-    piece_kinds sound fault is = fault_kinds sound assigned base (bytes ++ piece) fault (sym (fed.answer (unfailed fed.call.wrote none)) ∙ ap result_err is)
+    piece_kinds sound fault is = fault_kinds sound assigned base all fault (sym (told call none) ∙ ap result_err is)
 
-    pub split_now : bytes ++ piece ≡ written assigned f (bytes ++ piece) ++ left new
-    split_now = read fed.call.wrote ∙ ap (λ l. l ++ left new) (sym (all_written fed.call.wrote none))
+    pub split_now : all ≡ written assigned f all ++ left new
+    split_now = read call.wrote ∙ ap (λ l. l ++ left new) (sym (all_written call.wrote none))
 
-    pub unparted_decides : option_map Err (result_err r) ≡ form_decision assigned f base (bytes ++ piece)
+    pub unparted_decides : option_map Err (result_err r) ≡ form_decision assigned f base all
     unfolding form_decision
-    unparted_decides = sym (ap₂ place_or_fault (unparted fed.call.known assigned f (bytes ++ piece) base (left new) split_now) (sym (fed.answer (unfailed fed.call.wrote none))))
+    unparted_decides = sym (ap₂ place_or_fault (unparted call.known assigned f all base (left new) split_now) (sym (told call none)))
 
 -- ---- the end
 
@@ -182,72 +182,47 @@ due_at base settled whole bytes Whole good ends = all_due ends refl
 due_at base settled whole bytes (Bad at start) good ends = cc
 due_at base settled whole bytes (CutOff at start) good ends = none_due refl
 
-pub record Finished (assigned : Bool) (f : Form) (base : ℕ) (held bytes due : List ℕ) (old new : Comparing) (r : Result Tally Fault) (chars offset : ℕ) : Type 0 where
-  pub call : Call assigned f base held bytes bytes due old new r chars offset
-  pub due_is : Due (written assigned f bytes) (encode_utf8_all (safe_form f ucd (text_of bytes))) bytes due (ending_of bytes)
-  pub answer : (r ≡ Err Write → ⊥) → r ≡ answer_at_end base (tally_of false ucd bytes) (ending_of bytes)
+-- a fault is that of the end
+pub fault_end : {settled whole bytes due : List ℕ} {fault : Fault} {ending : Ending} (base : ℕ) (tally : Tally) (value : Option Place) → Due settled whole bytes due ending → Err fault ≡ answer_at_end base tally ending
+    → (Err fault ≡ answer_at_end base value ending) × IsOfEnd fault
+fault_end base tally value (all_due ends due) e = cc
+fault_end base tally value (none_due due) e = (ap Err (same_fault e), subst IsOfEnd (sym (same_fault e)) tt)
 
-module _ {assigned : Bool} {f : Form} {base : ℕ} {held bytes due : List ℕ} {old new : Comparing} {r : Result Tally Fault} {chars offset : ℕ}
-    (end : Finished assigned f base held bytes due old new r chars offset) where
+module _ {assigned : Bool} {f : Form} {base : ℕ} {held bytes due : List ℕ} {old new : Comparing} {r : Result Tally Fault} {chars offset : ℕ} {Tells : Type 0}
+    (call : Call assigned f base held bytes bytes due old new r chars offset Tells) where
   abbrev form : List ℕ
   form = safe_form f ucd (text_of bytes)
 
   scalars : IsText form
-  scalars = (end.call.known.once f).text (text_of bytes) (end.call.known.split.scalars bytes)
+  scalars = (call.known.once f).text (text_of bytes) (call.known.split.scalars bytes)
 
-  pub parted_end : is_some new.other ≡ true → (place : Place) → IsBehind held (same new) chars offset place → Ok (Some place) ≡ answer_at_end base (form_value f base bytes) (ending_of bytes)
+  pub parted_end : is_some new.other ≡ true → (place : Place) → IsBehind held (same new) chars offset place → {ending : Ending} → Due (written assigned f bytes) (encode_utf8_all form) bytes due ending
+      → Ok (Some place) ≡ answer_at_end base (form_value f base bytes) ending
   unfolding change_at
-  parted_end is place behind = by end.due_is
-    where
-      value : due ≡ encode_utf8_all form → form_value f base bytes ≡ Some place
-      value due =
-          let d = parted end.call form scalars due is in
-          if_other form (text_of bytes) _ _ (λ same. d.other (same ∙ sym (take-length (text_of bytes)) ∙ ap (λ l. take (length l) (text_of bytes)) (sym same))) ∙ placed end.call form scalars due d.shares place behind
-
-      by : {ending : Ending} → Due (written assigned f bytes) (encode_utf8_all form) bytes due ending → Ok (Some place) ≡ answer_at_end base (form_value f base bytes) ending
-      by (all_due ends due) = ap Ok (sym (value due))
-      by (none_due due) =
-          let o = other_written end.call.wrote is in
-          absurd (omega (arith, ap length (sym due ∙ o.3), length-append (written assigned f bytes ++ same new) (o.0 ∷ o.1), length-append (written assigned f bytes) (same new)))
+  parted_end is place behind (all_due ends due) =
+      let d = parted call form scalars due is in
+      let other : ¬ (form ≡ text_of bytes) = λ same. d.other (same ∙ sym (take-length (text_of bytes)) ∙ ap (λ l. take (length l) (text_of bytes)) (sym same)) in
+      ap Ok (sym (if_other form (text_of bytes) _ _ other ∙ placed call form scalars due d.shares place behind))
+  parted_end is place behind (none_due due) =
+      let o = other_written call.wrote is in
+      absurd (omega (arith, ap length (sym due ∙ o.3), length-append (written assigned f bytes ++ same new) (o.0 ∷ o.1), length-append (written assigned f bytes) (same new)))
 
   module _ (none : new.other ≡ None) where
-    told : r ≡ answer_at_end base (tally_of false ucd bytes) (ending_of bytes)
-    told = end.answer (unfailed end.call.wrote none)
-
-    -- a fault is that of the end
-    pub fault_end : (fault : Fault) → r ≡ Err fault → (Err fault ≡ answer_at_end base (form_value f base bytes) (ending_of bytes)) × IsOfEnd fault
-    fault_end fault is = by end.due_is (sym is ∙ told)
-      where
-        by : {ending : Ending} → Due (written assigned f bytes) (encode_utf8_all form) bytes due ending → Err fault ≡ answer_at_end base (tally_of false ucd bytes) ending
-            → (Err fault ≡ answer_at_end base (form_value f base bytes) ending) × IsOfEnd fault
-        by (all_due ends due) e = cc
-        by (none_due due) e = (ap Err (same_fault e), subst IsOfEnd (sym (same_fault e)) tt)
-
-    -- none, and all is read, or the form is at its end before the text
-    pub done_end : (given : Tally) → r ≡ Ok given → length (left new) ≡ 0 → Ok None ≡ answer_at_end base (form_value f base bytes) (ending_of bytes)
+    -- all is read, or the form is at its end before the text
+    pub done_end : length (left new) ≡ 0 → {given : Tally} {ending : Ending} (tally : Tally) → Due (written assigned f bytes) (encode_utf8_all form) bytes due ending → Ok given ≡ answer_at_end base tally ending
+        → Ok None ≡ answer_at_end base (form_value f base bytes) ending
     unfolding change_at
-    done_end given is no_more = by end.due_is (sym is ∙ told)
-      where
-        value : bytes ≡ encode_utf8_all (text_of bytes) → due ≡ encode_utf8_all form → form_value f base bytes ≡ None
-        value ends due =
-            let read = read_on end.call form scalars due none in
-            if_same form (text_of bytes) _ _ (encodes_same form (text_of bytes) (front_all (encode_utf8_all form) (left new) bytes (sym read) (omega (arith, no_more, ap length read, length-append (encode_utf8_all form) (left new))) ∙ ends))
+    done_end no_more tally (all_due ends due) e =
+        let read = read_on call form scalars due none in
+        let all = front_all (encode_utf8_all form) (left new) bytes (sym read) (omega (arith, no_more, ap length read, length-append (encode_utf8_all form) (left new))) in
+        ap Ok (sym (if_same form (text_of bytes) _ _ (encodes_same form (text_of bytes) (all ∙ ends))))
+    done_end no_more tally (none_due due) e = cc
 
-        by : {ending : Ending} → Due (written assigned f bytes) (encode_utf8_all form) bytes due ending → Ok given ≡ answer_at_end base (tally_of false ucd bytes) ending → Ok None ≡ answer_at_end base (form_value f base bytes) ending
-        by (all_due ends due) e = ap Ok (sym (value ends due))
-        by (none_due due) e = cc
-
-    pub short_end : (given : Tally) → r ≡ Ok given → (length (left new) ≡ 0 → ⊥) → (place : Place) → IsBehind held (same new) chars offset place
-        → Ok (Some place) ≡ answer_at_end base (form_value f base bytes) (ending_of bytes)
+    pub short_end : (length (left new) ≡ 0 → ⊥) → (place : Place) → IsBehind held (same new) chars offset place → {given : Tally} {ending : Ending} (tally : Tally)
+        → Due (written assigned f bytes) (encode_utf8_all form) bytes due ending → Ok given ≡ answer_at_end base tally ending → Ok (Some place) ≡ answer_at_end base (form_value f base bytes) ending
     unfolding change_at
-    short_end given is more place behind = by end.due_is (sym is ∙ told)
-      where
-        value : bytes ≡ encode_utf8_all (text_of bytes) → due ≡ encode_utf8_all form → form_value f base bytes ≡ Some place
-        value ends due =
-            if_other form (text_of bytes) _ _ (λ same. more (ap length (none_behind (encode_utf8_all form) (left new) (sym (read_on end.call form scalars due none) ∙ ends ∙ ap encode_utf8_all (sym same)))))
-            ∙ placed end.call form scalars due (is_front end.call form scalars due none) place behind
-
-        by : {ending : Ending} → Due (written assigned f bytes) (encode_utf8_all form) bytes due ending → Ok given ≡ answer_at_end base (tally_of false ucd bytes) ending
-            → Ok (Some place) ≡ answer_at_end base (form_value f base bytes) ending
-        by (all_due ends due) e = ap Ok (sym (value ends due))
-        by (none_due due) e = cc
+    short_end more place behind tally (all_due ends due) e =
+        let read = read_on call form scalars due none in
+        let other : ¬ (form ≡ text_of bytes) = λ same. more (ap length (none_behind (encode_utf8_all form) (left new) (sym read ∙ ends ∙ ap encode_utf8_all (sym same)))) in
+        ap Ok (sym (if_other form (text_of bytes) _ _ other ∙ placed call form scalars due (is_front call form scalars due none) place behind))
+    short_end more place behind tally (none_due due) e = cc

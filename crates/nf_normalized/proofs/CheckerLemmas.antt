@@ -105,31 +105,25 @@ module _ (sound : (x : List ℕ) → IsSoundText ucd x) where
   unfolding usable
   usable_is x = ap (λ n. take n x) (longest_front-all (is_usable ucd) x (all_usable x)) ∙ take-length x
 
-  -- the first fault is an ill-formed byte, where each character was taken, or an unassigned character
+  -- the first fault is another, where each character was taken, or an unassigned character
+  first_is : (assigned : Bool) (place : List ℕ → ℕ) (x : List ℕ) (bad : Option Fault)
+      → ((allowed assigned ucd x ≡ x) × (first_fault assigned ucd place x bad ≡ bad)) ⊎ ((at : ℕ) × (first_fault assigned ucd place x bad ≡ Some (Unassigned at)))
+  first_is false place x bad = inl (refl, ap (λ b. if b then bad else Some (Row (place (usable ucd x)))) (all_usable x))
+  first_is true place x bad = rw (all_usable taken) (next (length taken == length x) refl)
+    where
+      taken : List ℕ
+      taken = take_while ucd.assigned x
+
+      next : (b : Bool) → (length taken == length x) ≡ b
+          → ((taken ≡ x) × ((if b then bad else Some (Unassigned (place taken))) ≡ bad)) ⊎ ((at : ℕ) × ((if b then bad else Some (Unassigned (place taken))) ≡ Some (Unassigned at)))
+      next true e = inl (while_all ucd.assigned x (eqb-true _ _ e), refl)
+      next false e = inr (place taken, refl)
+
   module _ (assigned : Bool) (base : ℕ) (bytes : List ℕ) where
-    fault_is : ((allowed assigned ucd (text_of bytes) ≡ text_of bytes) × (fault_in (under assigned) ucd base bytes ≡ bad_byte base (ending_of bytes))) ⊎ ((at : ℕ) × (fault_in (under assigned) ucd base bytes ≡ Some (Unassigned at)))
+    fault_is : ((allowed assigned ucd (text_of bytes) ≡ text_of bytes) × (fault_in (under assigned) ucd base bytes ≡ bad_byte base (ending_of bytes)))
+        ⊎ ((at : ℕ) × (fault_in (under assigned) ucd base bytes ≡ Some (Unassigned at)))
     unfolding fault_in
-    fault_is = by assigned
-      where
-        x : List ℕ
-        x = text_of bytes
-
-        place : List ℕ → ℕ
-        place front = base + len_under false bytes front
-
-        bad : Option Fault
-        bad = bad_byte base (ending_of bytes)
-
-        taken : List ℕ
-        taken = take_while ucd.assigned x
-
-        next : (b : Bool) → (length taken == length x) ≡ b → ((taken ≡ x) × ((if b then bad else Some (Unassigned (place taken))) ≡ bad)) ⊎ ((at : ℕ) × ((if b then bad else Some (Unassigned (place taken))) ≡ Some (Unassigned at)))
-        next true e = inl (while_all ucd.assigned x (eqb-true _ _ e), refl)
-        next false e = inr (place taken, refl)
-
-        by : (assigned : Bool) → ((allowed assigned ucd x ≡ x) × (first_fault assigned ucd place x bad ≡ bad)) ⊎ ((at : ℕ) × (first_fault assigned ucd place x bad ≡ Some (Unassigned at)))
-        by false = inl (refl, ap (λ b. if b then bad else Some (Row (place (usable ucd x)))) (all_usable x))
-        by true = rw (all_usable taken) (next (length taken == length x) refl)
+    fault_is = first_is assigned (λ front. base + len_under false bytes front) (text_of bytes) (bad_byte base (ending_of bytes))
 
     pub fault_kinds : (fault : Fault) → fault_in (under assigned) ucd base bytes ≡ Some fault → IsOfPiece fault
     fault_kinds fault is = ⊎_elim (λ none. bad (ending_of bytes) (sym none.1 ∙ is)) (λ other. subst IsOfPiece (the_fault (sym other.1 ∙ is)) tt) fault_is

@@ -1,5 +1,5 @@
 -- What a comparing sink tells of what a filter wrote.
-use Rattle.std.proofs.Common.{◌≡◌, ◌⊎◌, ⊎_elim, inl, inr, ℕ, true, false, List, [], ◌∷◌, ◌++◌, refl, sym, ap, ap₂, ◌∙◌, subst, append_assoc, append-nil, Option, Some, None, is_some, IsSome, IsTrue, option_to_list, true≢false, Result, Err}
+use Rattle.std.proofs.Common.{◌≡◌, ◌⊎◌, inl, inr, ℕ, true, false, List, [], ◌∷◌, ◌++◌, refl, sym, ap, ap₂, ◌∙◌, subst, append_assoc, append-nil, Option, Some, None, is_some, IsSome, IsTrue, option_to_list, true≢false, Result, Err}
 use Rattle.std.specs.Io.KnownBytes.{Appends}
 use Rattle.nf_filter.specs.declared.fault.Fault.{Fault}
 use Rattle.nf_filter.specs.declared.fault.Fault.TheVariants.{Write}
@@ -33,13 +33,10 @@ module _ {old new : Comparing} {all before due : List ℕ} {T : Type 0} {r : Res
 
   -- what was given was due, and perhaps more is
   gave : (rest : List ℕ) × (new.first.now ++ new.second.now ≡ old.first.now ++ old.second.now) × (due ≡ (before ++ given new) ++ rest)
-  gave = ⊎_elim at_write at_end (write_or r)
-    where
-      at_write : r ≡ Err Write → (rest : List ℕ) × (new.first.now ++ new.second.now ≡ old.first.now ++ old.second.now) × (due ≡ (before ++ given new) ++ rest)
-      at_write e = let b = w.broken e in let t = told b.out b.given in (b.rest, t.0, b.behind ∙ ap (λ l. (before ++ l) ++ b.rest) (sym t.1))
-
-      at_end : (r ≡ Err Write → ⊥) → (rest : List ℕ) × (new.first.now ++ new.second.now ≡ old.first.now ++ old.second.now) × (due ≡ (before ++ given new) ++ rest)
-      at_end other = let p = w.puts other in let t = told p.out p.given in ([], t.0, p.behind ∙ ap (λ l. before ++ l) (sym t.1) ∙ sym (append-nil (before ++ given new)))
+  gave = elim (write_or r) [
+    | inl e ↦ let b = w.broken e in let t = told b.out b.given in (b.rest, t.0, b.behind ∙ ap (λ l. (before ++ l) ++ b.rest) (sym t.1))
+    | inr other ↦ let p = w.puts other in let t = told p.out p.given in ([], t.0, p.behind ∙ ap (λ l. before ++ l) (sym t.1) ∙ sym (append-nil (before ++ given new)))
+  ]
 
   pub read : all ≡ (before ++ same new) ++ left new
   read =

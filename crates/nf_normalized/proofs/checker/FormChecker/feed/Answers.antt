@@ -3,7 +3,9 @@ use Rattle.std.proofs.lemmas.Bool.{cases_lt, false_from_ne_true}
 use Rattle.std.proofs.Math.Logic.{∥∥₁_elim, ∥∥₁_map}
 use Rattle.std.specs.Coded.{le_prop}
 use Rattle.std.specs.Result.{result_err}
+use Rattle.nf_forms.specs.Ucd.{ucd}
 use Rattle.nf_forms.specs.declared.form.Form.{Form}
+use Rattle.nf_filter.specs.Faults.{fault_in}
 use Rattle.nf_filter.specs.Filter.{state_of, base_of, is_spent, offset_of}
 use Rattle.nf_filter.specs.Kinds.{spent, too_long, ill_formed, unassigned}
 use Rattle.nf_filter.specs.declared.fault.Fault.TheVariants.{TooLong}
@@ -13,39 +15,30 @@ use Rattle.nf_normalized.specs.Comparing.{left}
 use Rattle.nf_normalized.specs.Holds.{Holds, HoldsSome}
 use Rattle.nf_normalized.proofs.BytesLemmas.{Known}
 use Rattle.nf_normalized.proofs.CheckerLemmas.{offset_is, written, held_few}
-use Rattle.nf_normalized.proofs.CallLemmas.{stable, ok_or, same_fault, none_is, parted_apart, roomy, room, Fed, piece_kinds, parted_decides, split_now, unparted_decides}
+use Rattle.nf_normalized.proofs.CallLemmas.{stable, ok_or, same_fault, none_is, parted_apart, roomy, room, Call, piece_kinds, parted_decides, split_now, unparted_decides}
 use Rattle.nf_normalized.proofs.checker.FormChecker.feed.Goals as goal
 use Rattle.nf_normalized.proofs.checker.FormChecker.feed.Goals.{After-feed-fed, After-has_parted}
 
 known : (c : After-feed-fed) → Known
 known c = record { split = c.split.ensures; back = c.read_back.ensures; pieces = c.pieces.ensures; once = c.each_form_changes_a_text_once.ensures }
 
--- what the call told, where the filter stood after these bytes
-abbrev Seen : After-feed-fed → Bool → Form → List ℕ → ℕ → Type 0
-Seen c assigned f bytes base = Fed assigned f base c.as_slice-held.result.now bytes c.args.piece.now c.new-sink.result c.feed-fed.new.sink c.feed-fed.result c.chars-chars.result c.offset-offset.result
-
+-- what was seen of the call, where the filter stood after these bytes
 seen : (c : After-feed-fed) → (c.feed-fed.result ≡ Err TooLong → ⊥) → {assigned : Bool} {f : Form} {bytes : List ℕ} → Holds assigned f (state_of c.args.self.now.filter) c.args.self.now.held.items bytes
-    → {base : ℕ} → base_of (state_of c.args.self.now.filter) ≡ base → Seen c assigned f bytes base
-seen c short {assigned} {f} {bytes} holds base_is =
+    → Call assigned f (base_of (state_of c.args.self.now.filter)) c.as_slice-held.result.now bytes (bytes ++ c.args.piece.now) (written assigned f (bytes ++ c.args.piece.now)) c.new-sink.result c.feed-fed.new.sink
+    c.feed-fed.result c.chars-chars.result c.offset-offset.result (result_err c.feed-fed.result ≡ fault_in (under assigned) ucd (base_of (state_of c.args.self.now.filter)) (bytes ++ c.args.piece.now))
+seen c short {assigned} {f} {bytes} holds =
     let before = written assigned f bytes in
     let feeds = c.feed-fed.ensures.feeds _ f bytes holds.filter short in
     let split = holds.split ∙ ap (λ l. before ++ l) (sym c.as_slice-held.ensures.value) in
-    subst (Seen c assigned f bytes) base_is (record {
-      call = record {
-        known = known c;
-        split = split;
-        wrote = record {
-          begun = c.new-sink.ensures.none;
-          expects = ap (λ l. l ++ c.args.piece.now) split ∙ append_assoc before c.as_slice-held.result.now c.args.piece.now ∙ ap (λ l. before ++ l) (sym c.new-sink.ensures.expected);
-          failed = λ e. (feeds.write.0 e).0;
-          broken = feeds.broken_off;
-          puts = feeds.written;
-        };
-        chars_are = c.chars-chars.ensures _ f bytes holds.filter;
-        offset_is = c.offset-offset.ensures ∙ offset_is holds.filter;
-      };
+    let expects = ap (λ l. l ++ c.args.piece.now) split ∙ append_assoc before c.as_slice-held.result.now c.args.piece.now ∙ ap (λ l. before ++ l) (sym c.new-sink.ensures.expected) in
+    record {
+      known = known c;
+      split = split;
+      wrote = record { begun = c.new-sink.ensures.none; expects = expects; failed = λ e. (feeds.write.0 e).0; broken = feeds.broken_off; puts = feeds.written };
+      chars_are = c.chars-chars.ensures _ f bytes holds.filter;
+      offset_is = c.offset-offset.ensures ∙ offset_is holds.filter;
       answer = feeds.answer;
-    })
+    }
 
 -- where no call was refused it stands after some
 some : (c : After-feed-fed) → (IsTrue (is_spent (state_of c.args.self.now.filter)) → ⊥) → ∥ HoldsSome (state_of c.args.self.now.filter) c.args.self.now.held.items ∥₁
@@ -60,7 +53,7 @@ now : (c : After-feed-fed) → c.feed-fed.new.sink.other ≡ None → {done : Un
     → Holds assigned f (state_of c.args.self.now.filter) c.args.self.now.held.items bytes → {held : List ℕ} → left c.feed-fed.new.sink ≡ held → Holds assigned f (state_of c.feed-fed.new.self) held (bytes ++ c.args.piece.now)
 now c none ok {assigned} {f} {bytes} holds is = record {
   filter = rw ok at c.feed-fed.ensures.stands (under assigned) f bytes holds.filter;
-  split = split_now (seen c (λ e. ok_or (sym ok ∙ e)) holds refl) none ∙ ap (λ l. written assigned f (bytes ++ c.args.piece.now) ++ l) is;
+  split = split_now (seen c (λ e. ok_or (sym ok ∙ e)) holds) none ∙ ap (λ l. written assigned f (bytes ++ c.args.piece.now) ++ l) is;
 }
 
 pub place_behind-requires : goal.place_behind-requires
@@ -69,20 +62,20 @@ place_behind-requires c =
     let refused = unrefused (goal.at.place_behind-requires c).After-has_parted c.if-has_parted.true in
     let fits : offset_of (state_of c.args.self.now.filter) + length c.args.piece.now < 2 ^ 64 =
     ⊎_elim (λ less. less) (λ more. absurd (refused (inr (c.feed-fed.ensures.too_long.1 (false_from_ne_true _ (λ ended. refused (inl ended)), omega (arith, more)))))) (cases_lt _ (2 ^ 64)) in
-    roomy (∥∥₁_map (some at (λ ended. refused (inl ended))) (λ h. room (seen at (λ long. refused (inr long)) h.holds refl).call (omega (arith, fits, offset_is h.holds.filter, length-append h.bytes c.args.piece.now))))
+    roomy (∥∥₁_map (some at (λ ended. refused (inl ended))) (λ h. room (seen at (λ long. refused (inr long)) h.holds) (omega (arith, fits, offset_is h.holds.filter, length-append h.bytes c.args.piece.now))))
 
 pub returns-then-has_parted-clause-decides : goal.returns-then-has_parted-clause-decides
 returns-then-has_parted-clause-decides c = λ assigned f base bytes stands other.
     let at = goal.at.returns-then-has_parted-clause-decides c in
-    parted_decides (seen at.After-feed-fed (λ long. unrefused at.After-has_parted c.if-has_parted.true (inr long)) stands.holds stands.base_is)
-    (sym c.has_parted.ensures ∙ c.if-has_parted.true) c.place_behind.result c.place_behind.ensures
+    rw (← stands.base_is) (parted_decides (seen at.After-feed-fed (λ long. unrefused at.After-has_parted c.if-has_parted.true (inr long)) stands.holds)
+    (sym c.has_parted.ensures ∙ c.if-has_parted.true) c.place_behind.result c.place_behind.ensures)
 
 pub returns-in-Err-clause-faults : goal.returns-in-Err-clause-faults
 returns-in-Err-clause-faults c =
     let at = (goal.at.returns-in-Err-clause-faults c).After-feed-fed in
     stable (spent ∷ too_long ∷ ill_formed ∷ unassigned ∷ []) c.in-Err.fault (λ out.
     ∥∥₁_elim (some at (λ ended. out (subst IsOfPiece (same_fault (sym (c.feed-fed.ensures.spent.1 ended) ∙ c.in-Err.is)) tt))) (λ x y. absurd x) (λ h.
-    out (piece_kinds (seen at (λ long. out (subst IsOfPiece (same_fault (sym long ∙ c.in-Err.is)) tt)) h.holds refl) (none_is _ (sym c.has_parted.ensures ∙ c.if-has_parted.false))
+    out (piece_kinds (seen at (λ long. out (subst IsOfPiece (same_fault (sym long ∙ c.in-Err.is)) tt)) h.holds) (none_is _ (sym c.has_parted.ensures ∙ c.if-has_parted.false))
     c.every_character_is_sound.ensures.text c.in-Err.fault c.in-Err.is)))
 
 pub returns-in-Err-clause-kept : goal.returns-in-Err-clause-kept
@@ -91,8 +84,8 @@ returns-in-Err-clause-kept c = λ long. ((c.feed-fed.ensures.kept (inr (c.in-Err
 pub returns-in-Err-clause-decides : goal.returns-in-Err-clause-decides
 returns-in-Err-clause-decides c = λ assigned f base bytes stands other.
     let at = (goal.at.returns-in-Err-clause-decides c).After-feed-fed in
-    sym (ap (λ r. option_map Err (result_err r)) c.in-Err.is)
-    ∙ unparted_decides (seen at (λ e. other (ap Err (same_fault (sym c.in-Err.is ∙ e)))) stands.holds stands.base_is) (none_is _ (sym c.has_parted.ensures ∙ c.if-has_parted.false))
+    rw (← stands.base_is) (sym (ap (λ r. option_map Err (result_err r)) c.in-Err.is)
+    ∙ unparted_decides (seen at (λ e. other (ap Err (same_fault (sym c.in-Err.is ∙ e)))) stands.holds) (none_is _ (sym c.has_parted.ensures ∙ c.if-has_parted.false)))
 
 pub joined-self-requires : goal.joined-self-requires
 joined-self-requires c =
@@ -117,8 +110,8 @@ invariant_of-self-2 c = record {
 pub returns-clause-decides : goal.returns-clause-decides
 returns-clause-decides c = λ assigned f base bytes stands other.
     let at = (goal.at.returns-clause-decides c).After-feed-fed in
-    sym (ap (λ r. option_map Err (result_err r)) c.in_default.is)
-    ∙ unparted_decides (seen at (λ e. ok_or (sym c.in_default.is ∙ e)) stands.holds stands.base_is) (none_is _ (sym c.has_parted.ensures ∙ c.if-has_parted.false))
+    rw (← stands.base_is) (sym (ap (λ r. option_map Err (result_err r)) c.in_default.is)
+    ∙ unparted_decides (seen at (λ e. ok_or (sym c.in_default.is ∙ e)) stands.holds) (none_is _ (sym c.has_parted.ensures ∙ c.if-has_parted.false)))
 
 pub returns-clause-stands : goal.returns-clause-stands
 returns-clause-stands c = λ assigned f base bytes stands ok. record {
