@@ -1,5 +1,5 @@
 -- Bytes and the texts that they spell.
-use Rattle.std.proofs.Common.{◌≡◌, ◌⊎◌, ⊎_elim, inl, inr, ◌^◌, eqb-true, eq-eqb, true≢false, ℕ, suc, ◌+◌, ◌<◌, ◌≤◌, ◌==◌, Bool, true, false, List, [], ◌∷◌, ◌++◌, length, take, drop, take_all, refl, sym, ap, ap₂, ◌∙◌, subst, arith, append_assoc, append-nil, length-append, Option, Some, None, IsUtf8, chars, encode_utf8, encode_utf8_all, if◌then◌else◌}
+use Rattle.std.proofs.Common.{◌≡◌, ◌⊎◌, ⊎_elim, inl, inr, ◌^◌, eqb-true, eq-eqb, true≢false, ℕ, suc, ◌+◌, ◌<◌, ◌≤◌, ◌==◌, Bool, true, false, List, [], ◌∷◌, ◌++◌, length, get_or, take, drop, take_all, refl, sym, ap, ap₂, ◌∙◌, subst, arith, append_assoc, append-nil, length-append, Option, Some, None, IsUtf8, chars, encode_utf8, encode_utf8_all, if◌then◌else◌}
 use Rattle.std.proofs.lemmas.Bool.{and_parts, and_from}
 use Rattle.std.proofs.lemmas.List.{take_at, take-append-drop}
 use Rattle.std.proofs.lemmas.Str.{encodes-append, encodes-chars, length-le-encodes, chars-nil}
@@ -100,12 +100,6 @@ common-taken : (x s : List ℕ) → s ≡ take (length s) x → common x s ≡ l
 common-taken x s is =
     ap (λ l. common l s) (sym (take-append-drop (length s) x) ∙ ap (λ l. l ++ drop (length s) x) (sym is)) ∙ common-front s (drop (length s) x)
 
-head : (a b : ℕ) (x y : List ℕ) → a ∷ x ≡ b ∷ y → a ≡ b
-head a b x y e = cc
-
-tail : (a b : ℕ) (x y : List ℕ) → a ∷ x ≡ b ∷ y → x ≡ y
-tail a b x y e = cc
-
 one_scalar : (a : ℕ) (x : List ℕ) → IsText (a ∷ x) → IsText (a ∷ [])
 one_scalar a x scalars = and_from _ true ((and_parts _ _ scalars).0) refl
 
@@ -129,8 +123,8 @@ module _ (known : Known) where
   fronts r [] i j p q a b = inl (r, refl)
   fronts [] (d ∷ e) i j p q a b = inr (record { next = d; more = e ++ p; other = e ++ q; first = a; second = b })
   fronts (k ∷ r) (d ∷ e) i j p q a b =
-      ⊎_elim (λ h. inl (h.0, ap₂ (λ x l. x ∷ l) (head k d (r ++ i) (e ++ p) a) h.1)) (λ h. inr (record { next = h.next; more = h.more; other = h.other; first = h.first; second = h.second }))
-      (fronts r e i j p q (tail k d (r ++ i) (e ++ p) a) (tail k d (r ++ j) (e ++ q) b))
+      ⊎_elim (λ h. inl (h.0, ap₂ (λ x l. x ∷ l) (ap (λ l. get_or l 0 0) a) h.1)) (λ h. inr (record { next = h.next; more = h.more; other = h.other; first = h.first; second = h.second }))
+      (fronts r e i j p q (ap (drop 1) a) (ap (drop 1) b))
 
   -- behind the text of bytes that another text goes on with otherwise, nothing is in common
   module _ (m i : List ℕ) (b : ℕ) (t : List ℕ) (differ : goes_on_with b i ≡ false) where
@@ -149,7 +143,7 @@ module _ (known : Known) where
             omega (arith, ap length is, ap length (rest_none m))
 
         behind : GoesOn r (encode_utf8 a) i (b ∷ t) → ⊥
-        behind h = true≢false (sym (ap (goes_on_with b) h.first ∙ eq-eqb h.next b (sym (head b h.next t h.other h.second))) ∙ differ)
+        behind h = true≢false (sym (ap (goes_on_with b) h.first ∙ eq-eqb h.next b (sym (ap (λ l. get_or l 0 0) h.second))) ∙ differ)
 
     none_common : (x y p q : List ℕ) → IsText x → r ++ i ≡ encode_utf8_all x ++ p → r ++ b ∷ t ≡ encode_utf8_all y ++ q → common x y ≡ 0
     none_common [] y p q scalars first second = refl
@@ -172,5 +166,6 @@ module _ (known : Known) where
           shares = record { count = count; front = ap (take (length (text_of m))) x_is ∙ take_at (text_of m) x2 (length (text_of m)) refl };
           other = λ same.
               let all = front_all (text_of m) s2 s (sym s_is) (sym count ∙ common-taken (text_of (m ++ i)) s same) in
-              absurd (omega (arith, ap (λ l. length (encode_utf8_all l)) all, ap length is, length-append m (b ∷ t), ap length (known.split.split m), length-append (encode_utf8_all (text_of m)) (rest_of m)));
+              let whole = ap length (known.split.split m) in
+              absurd (omega (arith, ap (λ l. length (encode_utf8_all l)) all, ap length is, length-append m (b ∷ t), whole, length-append (encode_utf8_all (text_of m)) (rest_of m)));
         }

@@ -1,20 +1,20 @@
 -- What a call of a filter tells of a text, by what it wrote to a sink that compares.
-use Rattle.std.proofs.Common.{IsNone, subst, ◌≡◌, ℕ, ◌+◌, ◌<◌, ◌^◌, Bool, true, false, List, ◌∷◌, ◌++◌, length, take, refl, sym, ap, ap₂, ◌∙◌, arith, ◌==◌, length-append, Option, Some, None, is_some, option_map, encode_utf8_all, true≢false, Result, Ok, Err}
+use Rattle.std.proofs.Common.{IsNone, subst, ◌≡◌, ℕ, ◌+◌, ◌<◌, ◌^◌, Bool, true, false, List, ◌∷◌, ◌++◌, length, take, IsTrue, refl, sym, ap, ap₂, ◌∙◌, arith, ◌==◌, length-append, Option, Some, None, is_some, option_map, encode_utf8_all, true≢false, Result, Ok, Err}
 use Rattle.std.specs.List.{list_any}
 use Rattle.std.specs.Result.{result_err}
+use Rattle.std.proofs.lemmas.Bool.{false_from_ne_true}
 use Rattle.std.proofs.lemmas.List.{take_at}
 use Rattle.std.proofs.lemmas.Str.{encodes_same, length-le-encodes}
-use Rattle.std.proofs.Math.Logic.{∥∥₁_elim}
 use Rattle.std.proofs.Math.Seq.{take-length}
-use Rattle.std.specs.Coded.{le_prop}
 use Rattle.nf_forms.specs.Ucd.{ucd}
 use Rattle.nf_forms.specs.declared.form.Form.{Form}
 use Rattle.nf_forms.specs.SafeForm.{safe_form}
 use Rattle.nf_forms.specs.Laws.Sound.{IsSoundText}
 use Rattle.nf_utf8.specs.Text.{IsText}
 use Rattle.nf_utf8.specs.Ending.{Ending, Whole, Bad, Cut as CutOff}
-use Rattle.nf_utf8.specs.Reading.{text_of, rest_of}
+use Rattle.nf_utf8.specs.Reading.{text_of, rest_of, ending_of}
 use Rattle.nf_utf8.specs.Reads.{EndsAs}
+use Rattle.nf_utf8.specs.Laws.{ReadsLongestText}
 use Rattle.nf_safe.specs.declared.place.Place.{Place}
 use Rattle.nf_safe.specs.Place.{place_at}
 use Rattle.nf_filter.specs.declared.fault.Fault.{Fault}
@@ -22,24 +22,23 @@ use Rattle.nf_filter.specs.declared.fault.Fault.TheVariants.{Write}
 use Rattle.nf_filter.specs.declared.tally.Tally.{Tally}
 use Rattle.nf_filter.specs.Checks.{place_or_fault}
 use Rattle.nf_filter.specs.Faults.{fault_in, answer_at_end, bad_byte}
-use Rattle.nf_filter.specs.Finishes.{whole_or}
+use Rattle.nf_filter.specs.Finishes.{final_utf8, whole_or}
+use Rattle.nf_filter.specs.Filter.{is_spent}
 use Rattle.nf_filter.specs.Kinds.{kind, Holds, IsAmong}
 use Rattle.nf_normalized.specs.declared.comparing.Comparing.{Comparing}
 use Rattle.nf_normalized.specs.Comparing.{same, left, HasRoom, IsBehind}
 use Rattle.nf_normalized.specs.Change.{under, made_of, common, change_at, form_value, form_decision}
-use Rattle.nf_normalized.specs.Checker.{IsOfPiece, IsOfEnd}
+use Rattle.nf_normalized.specs.declared.checker.FormChecker.{FormChecker}
+use Rattle.nf_normalized.specs.Holds.{HoldsSome}
+use Rattle.nf_normalized.specs.Checker.{filter_state, IsOfPiece, IsOfEnd}
 use Rattle.nf_normalized.proofs.BytesLemmas.{Known, Shares, Departs, departs, text_of-encodes, front_all, none_behind}
 use Rattle.nf_normalized.proofs.ChangeLemmas.{if_same, if_other}
 use Rattle.nf_normalized.proofs.CommonLemmas.{common-front}
-use Rattle.nf_normalized.proofs.WroteLemmas.{Wrote, read, other_written, unfailed, all_written}
+use Rattle.nf_normalized.proofs.WroteLemmas.{none_is, Wrote, read, other_written, unfailed, all_written}
 use Rattle.nf_normalized.proofs.CheckerLemmas.{written, written_is, is_text, chars_behind, bytes_behind, unparted, fault_kinds}
 
 pub is_none : {A : Type 0} {o : Option A} → o ≡ None → IsNone o
 is_none e = subst (λ o. IsNone o) (sym e) refl
-
-pub none_is : {A : Type 0} (o : Option A) → is_some o ≡ false → o ≡ None
-none_is None e = refl
-none_is (Some x) e = absurd (true≢false e)
 
 pub ok_or : {T : Type 0} {value : T} {fault : Fault} → Ok value ≡ Err fault → ⊥
 ok_or e = cc
@@ -59,13 +58,9 @@ stable kinds fault not_out = next (list_any (λ k. k == kind fault) kinds) not_o
 pub parted_apart : {old new : Comparing} → old.other ≡ None → is_some new.other ≡ true → new ≡ old → ⊥
 parted_apart none is e = true≢false (sym is ∙ ap (λ s. is_some s.other) e ∙ ap is_some none)
 
-pub roomy : {held now : List ℕ} {chars offset : ℕ} → ∥ HasRoom held now chars offset ∥₁ → HasRoom held now chars offset
-roomy some = record {
-  chars_held = ∥∥₁_elim some le_prop (λ r. r.chars_held);
-  bytes_held = ∥∥₁_elim some le_prop (λ r. r.bytes_held);
-  bytes_fit = ∥∥₁_elim some le_prop (λ r. r.bytes_fit);
-  chars_fit = ∥∥₁_elim some le_prop (λ r. r.chars_fit);
-}
+-- where no call was refused, some bytes were taken
+pub some : (checker : FormChecker) → is_some checker.place ≡ false → (IsTrue (is_spent (filter_state checker)) → ⊥) → ∥ HoldsSome (filter_state checker) checker.held.items ∥₁
+some checker none unspent = checker.holds (none_is checker.place none) (false_from_ne_true _ unspent)
 
 -- a filter that took `bytes`, so many characters up to this offset, and holds the last of them, wrote on by the call r, which comes to
 -- `all`; it tells more where the sink did not fail
@@ -106,7 +101,7 @@ module _ {assigned : Bool} {f : Form} {base : ℕ} {held bytes all due : List �
         );
       }
 
-  pub told : new.other ≡ None → Tells
+  pub told : is_some new.other ≡ false → Tells
   told none = call.answer (unfailed call.wrote none)
 
   -- a text is due
@@ -133,7 +128,7 @@ module _ {assigned : Bool} {f : Form} {base : ℕ} {held bytes all due : List �
         let seen = written assigned f bytes ++ same new in
         subst (λ l. Departs (text_of l) s (text_of seen)) (sym (read call.wrote)) (departs call.known seen (left new) o.0 o.1 o.2 s scalars (sym is ∙ o.3))
 
-    module _ (none : new.other ≡ None) where
+    module _ (none : is_some new.other ≡ false) where
       pub read_on : all ≡ encode_utf8_all s ++ left new
       read_on = read call.wrote ∙ ap (λ l. l ++ left new) (sym (all_written call.wrote none) ∙ is)
 
@@ -159,7 +154,7 @@ module _ {assigned : Bool} {f : Form} {base : ℕ} {held bytes all : List ℕ} {
       ap (λ o. place_or_fault o (fault_in (under assigned) ucd base all))
       (sym (if_other made (take (length made) (text_of all)) _ _ d.other ∙ placed call made scalars (written_is assigned f all) d.shares place behind))
 
-  module _ (none : new.other ≡ None) where
+  module _ (none : is_some new.other ≡ false) where
     pub piece_kinds : (sound : (x : List ℕ) → IsSoundText ucd x) (fault : Fault) → r ≡ Err fault → IsOfPiece fault
     piece_kinds sound fault is = fault_kinds sound assigned base all fault (sym (told call none) ∙ ap result_err is)
 
@@ -173,18 +168,24 @@ module _ {assigned : Bool} {f : Form} {base : ℕ} {held bytes all : List ℕ} {
 -- ---- the end
 
 -- the whole form is due, or, where a character is cut, no more than is settled
-pub data Due (settled whole bytes due : List ℕ) : Ending → Type 0 where
-  all_due : bytes ≡ encode_utf8_all (text_of bytes) → due ≡ whole → Due settled whole bytes due Whole
-  none_due : {at start : ℕ} → due ≡ settled → Due settled whole bytes due (CutOff at start)
+pub data Due (assigned : Bool) (f : Form) (bytes due : List ℕ) : Ending → Type 0 where
+  all_due : bytes ≡ encode_utf8_all (text_of bytes) → due ≡ encode_utf8_all (safe_form f ucd (text_of bytes)) → Due assigned f bytes due Whole
+  none_due : {at start : ℕ} → due ≡ written assigned f bytes → Due assigned f bytes due (CutOff at start)
 
-pub due_at : (base : ℕ) (settled whole bytes : List ℕ) (ending : Ending) → bad_byte base ending ≡ None → EndsAs bytes (text_of bytes) ending → Due settled whole bytes (whole_or ending settled whole) ending
-due_at base settled whole bytes Whole good ends = all_due ends refl
-due_at base settled whole bytes (Bad at start) good ends = cc
-due_at base settled whole bytes (CutOff at start) good ends = none_due refl
+pub due_at : (assigned : Bool) (f : Form) (base : ℕ) (bytes : List ℕ) → bad_byte base (ending_of bytes) ≡ None → ReadsLongestText
+    → Due assigned f bytes (final_utf8 (under assigned) f ucd bytes) (ending_of bytes)
+unfolding final_utf8
+due_at assigned f base bytes good longest = next (ending_of bytes) good ((longest.reads bytes).end)
+  where
+    next : (ending : Ending) → bad_byte base ending ≡ None → EndsAs bytes (text_of bytes) ending
+        → Due assigned f bytes (whole_or ending (written assigned f bytes) (encode_utf8_all (safe_form f ucd (text_of bytes)))) ending
+    next Whole good ends = all_due ends refl
+    next (Bad at start) good ends = cc
+    next (CutOff at start) good ends = none_due refl
 
 -- a fault is that of the end
-pub fault_end : {settled whole bytes due : List ℕ} {fault : Fault} {ending : Ending} (base : ℕ) (tally : Tally) (value : Option Place) → Due settled whole bytes due ending → Err fault ≡ answer_at_end base tally ending
-    → (Err fault ≡ answer_at_end base value ending) × IsOfEnd fault
+pub fault_end : {assigned : Bool} {f : Form} {bytes due : List ℕ} {fault : Fault} {ending : Ending} (base : ℕ) (tally : Tally) (value : Option Place)
+    → Due assigned f bytes due ending → Err fault ≡ answer_at_end base tally ending → (Err fault ≡ answer_at_end base value ending) × IsOfEnd fault
 fault_end base tally value (all_due ends due) e = cc
 fault_end base tally value (none_due due) e = (ap Err (same_fault e), subst IsOfEnd (sym (same_fault e)) tt)
 
@@ -196,7 +197,7 @@ module _ {assigned : Bool} {f : Form} {base : ℕ} {held bytes due : List ℕ} {
   scalars : IsText form
   scalars = (call.known.once f).text (text_of bytes) (call.known.split.scalars bytes)
 
-  pub parted_end : is_some new.other ≡ true → (place : Place) → IsBehind held (same new) chars offset place → {ending : Ending} → Due (written assigned f bytes) (encode_utf8_all form) bytes due ending
+  pub parted_end : is_some new.other ≡ true → (place : Place) → IsBehind held (same new) chars offset place → {ending : Ending} → Due assigned f bytes due ending
       → Ok (Some place) ≡ answer_at_end base (form_value f base bytes) ending
   unfolding change_at
   parted_end is place behind (all_due ends due) =
@@ -207,9 +208,9 @@ module _ {assigned : Bool} {f : Form} {base : ℕ} {held bytes due : List ℕ} {
       let o = other_written call.wrote is in
       absurd (omega (arith, ap length (sym due ∙ o.3), length-append (written assigned f bytes ++ same new) (o.0 ∷ o.1), length-append (written assigned f bytes) (same new)))
 
-  module _ (none : new.other ≡ None) where
+  module _ (none : is_some new.other ≡ false) where
     -- all is read, or the form is at its end before the text
-    pub done_end : length (left new) ≡ 0 → {given : Tally} {ending : Ending} (tally : Tally) → Due (written assigned f bytes) (encode_utf8_all form) bytes due ending → Ok given ≡ answer_at_end base tally ending
+    pub done_end : length (left new) ≡ 0 → {given : Tally} {ending : Ending} (tally : Tally) → Due assigned f bytes due ending → Ok given ≡ answer_at_end base tally ending
         → Ok None ≡ answer_at_end base (form_value f base bytes) ending
     unfolding change_at
     done_end no_more tally (all_due ends due) e =
@@ -219,7 +220,7 @@ module _ {assigned : Bool} {f : Form} {base : ℕ} {held bytes due : List ℕ} {
     done_end no_more tally (none_due due) e = cc
 
     pub short_end : (length (left new) ≡ 0 → ⊥) → (place : Place) → IsBehind held (same new) chars offset place → {given : Tally} {ending : Ending} (tally : Tally)
-        → Due (written assigned f bytes) (encode_utf8_all form) bytes due ending → Ok given ≡ answer_at_end base tally ending → Ok (Some place) ≡ answer_at_end base (form_value f base bytes) ending
+        → Due assigned f bytes due ending → Ok given ≡ answer_at_end base tally ending → Ok (Some place) ≡ answer_at_end base (form_value f base bytes) ending
     unfolding change_at
     short_end more place behind tally (all_due ends due) e =
         let read = read_on call form scalars due none in

@@ -1,5 +1,5 @@
 -- Where a form changes a text.
-use Rattle.std.proofs.Common.{◌≡◌, ap₂, ⊎_elim, ◌↔◌, ℕ, ◌+◌, ◌<◌, ◌≤◌, Bool, true, false, List, [], ◌∷◌, ◌++◌, length, take, drop, refl, sym, ap, ◌∙◌, subst, arith, if◌then◌else◌, Some, None, IsTrue, bytes_eq, true≢false, append_assoc, append-nil, encode_utf8_all}
+use Rattle.std.proofs.Common.{◌≡◌, ap₂, ⊎_elim, ◌↔◌, ℕ, ◌+◌, ◌<◌, ◌≤◌, Bool, true, false, List, [], ◌++◌, length, take, drop, refl, sym, ap, ◌∙◌, subst, arith, if◌then◌else◌, Some, None, IsTrue, bytes_eq, true≢false, append_assoc, append-nil, encode_utf8_all}
 use Rattle.std.proofs.lemmas.Slice.Eq.{bytes_eq-Decides}
 use Rattle.std.proofs.Math.Seq.{take-length}
 use Rattle.std.proofs.lemmas.Bool.{cases_lt}
@@ -18,6 +18,7 @@ use Rattle.nf_safe.specs.Place.{place_at, is_in_format}
 use Rattle.nf_filter.specs.Settled.{settled}
 use Rattle.nf_filter.specs.Laws.{SettledOnlyGrows}
 use Rattle.nf_normalized.specs.Change.{common, change_at, settled_change_at}
+use Rattle.nf_normalized.proofs.BytesLemmas.{front_all}
 use Rattle.nf_normalized.proofs.CommonLemmas.{common-le-right, take-common, common-front, common-within}
 
 -- two texts are one, or they are not
@@ -49,10 +50,6 @@ common-same x = ap (λ l. common l x) (sym (append-nil x)) ∙ common-front x []
 place_same : (base : ℕ) (x y : List ℕ) (n k : ℕ) → n ≡ k → take n x ≡ take k y → place_at base x n ≡ place_at base y k
 place_same base x y n k count text = ap₂ (λ chars front. record { chars = chars; bytes = base + length (encode_utf8_all front) }) count text
 
-append-none : (a b : List ℕ) → a ++ b ≡ [] → a ≡ []
-append-none [] b e = refl
-append-none (c ∷ a) b e = absurd (omega (arith, ap length e))
-
 -- a text that its own form begins with is its own form
 module _ (sound : (x : List ℕ) → IsSoundText ucd x) (safe : (f : Form) (x : List ℕ) → stream_safe ucd (safe_form f ucd x) ≡ safe_form f ucd x)
     (fronts : (x : List ℕ) (n : ℕ) → IsTrue (is_in_format ucd x) → IsTrue (is_in_format ucd (take n x)))
@@ -65,7 +62,7 @@ module _ (sound : (x : List ℕ) → IsSoundText ucd x) (safe : (f : Form) (x : 
       let in_format = (unchanged form (sound form)).0 (safe f x) in
       let front = subst (λ l. IsTrue (is_in_format ucd l)) (ap (take (length x)) e ∙ take_at x more (length x) refl) (fronts form (length x) in_format) in
       let stays = (unchanged x (sound x)).1 front in
-      nothing more (omega (
+      sym (front_all [] more more refl (omega (
         arith,
         some f more,
         lengths f x,
@@ -73,11 +70,7 @@ module _ (sound : (x : List ℕ) → IsSoundText ucd x) (safe : (f : Form) (x : 
         ap (λ l. length (decomposed f ucd l)) e,
         ap length (decomposed-append ucd f x more),
         length-append (decomposed f ucd x) (decomposed f ucd more),
-      ))
-    where
-      nothing : (l : List ℕ) → length l ≡ 0 → l ≡ []
-      nothing [] e = refl
-      nothing (a ∷ l) e = absurd (omega (arith, e))
+      )))
 
   pub place_stays : SettledOnlyGrows → (base : ℕ) (x y : List ℕ) (place : Place) → settled_change_at base x (settled f ucd x) ≡ Some place → change_at base f (x ++ y) ≡ Some place
   unfolding change_at settled
@@ -103,15 +96,17 @@ module _ (sound : (x : List ℕ) → IsSoundText ucd x) (safe : (f : Form) (x : 
       longer : ¬ (m ≡ take (length m) x) → (rest : List ℕ) → m ≡ x ++ rest → ⊥
       longer other rest r =
           let form_is = sym (front-append-back ucd (safe_form f ucd x)) ∙ ap (λ l. l ++ back ucd (safe_form f ucd x)) r ∙ append_assoc x rest (back ucd (safe_form f ucd x)) in
-          let none = append-none rest (back ucd (safe_form f ucd x)) (goes_on x (rest ++ back ucd (safe_form f ucd x)) form_is) in
-          let same = r ∙ ap (λ l. x ++ l) none ∙ append-nil x in
+          let none = goes_on x (rest ++ back ucd (safe_form f ucd x)) form_is in
+          let same = r ∙ ap (λ l. x ++ l) (front_all rest (back ucd (safe_form f ucd x)) [] none (omega (arith, ap length none, length-append rest (back ucd (safe_form f ucd x))))) ∙ append-nil x in
           other (same ∙ sym (ap (λ n. take n x) (ap length same) ∙ take-length x))
 
       stays : ¬ (m ≡ take (length m) x) → change_at base f (x ++ y) ≡ Some (place_at base x (common x m))
       stays other =
           let n = common x m in
-          let in_m : n < length m = ⊎_elim (λ less. less) (λ all. absurd (other (sym (take_all n m all) ∙ sym (take-common x m) ∙ ap (λ k. take k x) (omega (arith, all, common-le-right x m))))) (cases_lt n (length m)) in
-          let in_x : n < length x = ⊎_elim (λ less. less) (λ all. absurd (longer other (drop n m) (sym (take-append-drop n m) ∙ ap (λ l. l ++ drop n m) (sym (take-common x m) ∙ take_all n x all)))) (cases_lt n (length x)) in
+          let in_m : n < length m = ⊎_elim (λ less. less)
+          (λ all. absurd (other (sym (take_all n m all) ∙ sym (take-common x m) ∙ ap (λ k. take k x) (omega (arith, all, common-le-right x m))))) (cases_lt n (length m)) in
+          let in_x : n < length x = ⊎_elim (λ less. less)
+          (λ all. absurd (longer other (drop n m) (sym (take-append-drop n m) ∙ ap (λ l. l ++ drop n m) (sym (take-common x m) ∙ take_all n x all)))) (cases_lt n (length x)) in
           let long : common (x ++ y) whole ≡ n = ap (common (x ++ y)) whole_is ∙ common-within x m y more in_x in_m in
           if_other whole (x ++ y) _ _ (λ same. absurd (omega (arith, ap (common (x ++ y)) same ∙ common-same (x ++ y), long, in_x, length-append x y)))
           ∙ ap Some (place_same base (x ++ y) x (common (x ++ y) whole) n long (ap (λ k. take k (x ++ y)) long ∙ take-append-le n x y (omega (arith, in_x))))

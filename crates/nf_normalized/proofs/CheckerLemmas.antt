@@ -83,7 +83,7 @@ module _ (known : Known) (assigned : Bool) (f : Form) (bytes : List ℕ) where
   pub bytes_behind : (more : List ℕ) → length (encode_utf8_all (text_of (written assigned f bytes ++ more))) ≡ length (written assigned f bytes) + length (encode_utf8_all (text_of more))
   bytes_behind more =
       ap (λ l. length (encode_utf8_all l)) (behind more) ∙ ap length (encodes-append (made_of assigned f (text_of bytes)) (text_of more))
-      ∙ length-append (encode_utf8_all (made_of assigned f (text_of bytes))) (encode_utf8_all (text_of more)) ∙ ap (λ l. length l + length (encode_utf8_all (text_of more))) (sym (written_is assigned f bytes))
+      ∙ ap (λ l. length (l ++ encode_utf8_all (text_of more))) (sym (written_is assigned f bytes)) ∙ length-append (written assigned f bytes) (encode_utf8_all (text_of more))
 
   -- all that is settled was read
   pub unparted : (base : ℕ) (left : List ℕ) → bytes ≡ written assigned f bytes ++ left → settled_change_at base (text_of bytes) (made_of assigned f (text_of bytes)) ≡ None

@@ -28,7 +28,8 @@ module _ {most base : ℕ} {assigned : Bool} {f : Form} {checker : FormChecker} 
   -- a piece decides it
   pub decided : (piece : List ℕ) (result : Result (Option Place) Fault) → left.is_at_end ≡ false → Consumes source.coming left.coming (fed ++ piece) → length piece ≤ most
       → ((result ≡ Err TooLong) ↔ (2 ^ 64 ≤ base + length fed + length piece)) → (result ≡ Err Read → piece ≡ [])
-      → ((result ≡ Err TooLong → ⊥) → (result ≡ Err Read → ⊥) → form_decision assigned f base (fed ++ piece) ≡ Some result) → Surveys most base (form_decision assigned f base) (form_value f base) source left result
+      → ((result ≡ Err TooLong → ⊥) → (result ≡ Err Read → ⊥) → form_decision assigned f base (fed ++ piece) ≡ Some result)
+      → Surveys most base (form_decision assigned f base) (form_value f base) source left result
   decided piece result before_end consumed few too_long failed decides = record {
     before = fed;
     last = piece;
@@ -39,14 +40,14 @@ module _ {most base : ℕ} {assigned : Bool} {f : Form} {checker : FormChecker} 
     too_long = too_long;
     failed = failed;
     ended = λ end. let absent : true ≡ false = sym end ∙ before_end in cc;
-    decided = λ _ short read. decides short read;
+    decided = λ _. decides;
   }
 
   -- the source failed
   pub failed : left.is_at_end ≡ false → Consumes source.coming left.coming fed → Surveys most base (form_decision assigned f base) (form_value f base) source left (Err Read)
   failed before_end consumed =
-      decided [] (Err Read) before_end (subst (λ l. Consumes source.coming left.coming l) (sym (append-nil fed)) consumed) (omega arith) (λ e. cc, λ over. absurd (omega (arith, over, fits stands))) (λ _. refl)
-      (λ _ unread. absurd (unread refl))
+      decided [] (Err Read) before_end (subst (λ l. Consumes source.coming left.coming l) (sym (append-nil fed)) consumed) (omega arith)
+      (λ e. cc, λ over. absurd (omega (arith, over, fits stands))) (λ _. refl) (λ _ unread. absurd (unread refl))
 
   -- it ended
   pub ended : (piece : List ℕ) (result : Result (Option Place) Fault) → piece ≡ [] → left.is_at_end ≡ true → Consumes source.coming left.coming (fed ++ piece) → IsAtEnd left.coming

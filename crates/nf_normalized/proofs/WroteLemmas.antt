@@ -9,6 +9,10 @@ use Rattle.nf_normalized.specs.Bytes.{goes_on_with}
 use Rattle.nf_normalized.specs.Comparing.{same, left, given, preface, taken, sink_state}
 use Rattle.nf_normalized.proofs.ComparingLemmas.{preface-same, same_left}
 
+pub none_is : {A : Type 0} (o : Option A) → is_some o ≡ false → o ≡ None
+none_is None e = refl
+none_is (Some x) e = absurd (true≢false e)
+
 write_or : {T : Type 0} (r : Result T Fault) → (r ≡ Err Write) ⊎ ((r ≡ Err Write) → ⊥)
 write_or (Err Write) = inl refl
 write_or _ = inr (λ e. cc)
@@ -53,15 +57,16 @@ module _ {old new : Comparing} {all before due : List ℕ} {T : Type 0} {r : Res
         b,
         gave.0,
         new.other_is b e,
-        gave.2 ∙ ap (λ o. (before ++ (same new ++ option_to_list o)) ++ gave.0) e ∙ ap (λ l. l ++ gave.0) (sym (append_assoc before (same new) (b ∷ []))) ∙ append_assoc (before ++ same new) (b ∷ []) gave.0,
+        gave.2 ∙ ap (λ o. (before ++ (same new ++ option_to_list o)) ++ gave.0) e ∙ ap (λ l. l ++ gave.0) (sym (append_assoc before (same new) (b ∷ [])))
+            ∙ append_assoc (before ++ same new) (b ∷ []) gave.0,
       )
 
   -- none was: all was written, as expected
-  module _ (none : new.other ≡ None) where
+  module _ (none : is_some new.other ≡ false) where
     pub unfailed : (r ≡ Err Write) → ⊥
-    unfailed e = true≢false (sym (subst IsSome none (new.failed_behind (w.failed e))))
+    unfailed e = true≢false (sym (subst IsSome (none_is new.other none) (new.failed_behind (w.failed e))))
 
     pub all_written : due ≡ before ++ same new
     all_written =
         let p = w.puts unfailed in
-        p.behind ∙ ap (λ l. before ++ l) (sym (told p.out p.given).1 ∙ ap (λ o. same new ++ option_to_list o) none ∙ append-nil (same new))
+        p.behind ∙ ap (λ l. before ++ l) (sym (told p.out p.given).1 ∙ ap (λ o. same new ++ option_to_list o) (none_is new.other none) ∙ append-nil (same new))

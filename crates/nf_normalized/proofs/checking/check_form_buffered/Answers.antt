@@ -26,7 +26,8 @@ returns-then-given-eq0-clause-surveys g c =
 
 -- the piece decides it
 surveyed : (g : given.Over) (c : After-feed g) (result : Result (Option Place) Fault) → c.feed.result ≡ result → decided_by result ≡ Some result
-    → Surveys (length c.args.buffer.now) c.args.base (form_decision c.args.assigned c.args.form c.args.base) (form_value c.args.form c.args.base) (g.I.Source.state c.args.source.now) (g.I.Source.state c.get.new.self) result
+    → Surveys (length c.args.buffer.now) c.args.base (form_decision c.args.assigned c.args.form c.args.base) (form_value c.args.form c.args.base) (g.I.Source.state c.args.source.now)
+    (g.I.Source.state c.get.new.self) result
 surveyed g c result is some =
     let fed = c.loop-given.invariant.fed in
     let piece = take c.in-Ok.given c.get.new.buf in

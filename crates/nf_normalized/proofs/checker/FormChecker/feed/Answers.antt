@@ -1,4 +1,4 @@
-use Rattle.std.proofs.Common.{subst, [], ◌∷◌, ◌⊎◌, ◌≡◌, ◌<◌, ◌+◌, ◌++◌, ◌^◌, Bool, ℕ, List, IsTrue, option_map, inl, inr, ⊎_elim, true, length, refl, sym, ap, ◌∙◌, arith, None, Ok, Err, append_assoc, length-append}
+use Rattle.std.proofs.Common.{subst, [], ◌∷◌, ◌⊎◌, ◌≡◌, ◌<◌, ◌+◌, ◌++◌, ◌^◌, Bool, false, ℕ, List, IsTrue, option_map, inl, inr, ⊎_elim, true, length, refl, sym, ap, ◌∙◌, arith, is_some, Ok, Err, append_assoc, length-append}
 use Rattle.std.proofs.lemmas.Bool.{cases_lt, false_from_ne_true}
 use Rattle.std.proofs.Math.Logic.{∥∥₁_elim, ∥∥₁_map}
 use Rattle.std.specs.Coded.{le_prop}
@@ -10,12 +10,13 @@ use Rattle.nf_filter.specs.Filter.{state_of, base_of, is_spent, offset_of}
 use Rattle.nf_filter.specs.Kinds.{spent, too_long, ill_formed, unassigned}
 use Rattle.nf_filter.specs.declared.fault.Fault.TheVariants.{TooLong}
 use Rattle.nf_normalized.specs.Change.{under}
-use Rattle.nf_normalized.specs.Checker.{IsOfPiece}
+use Rattle.nf_normalized.specs.Checker.{filter_state, IsOfPiece}
 use Rattle.nf_normalized.specs.Comparing.{left}
-use Rattle.nf_normalized.specs.Holds.{Holds, HoldsSome}
+use Rattle.nf_normalized.specs.Holds.{Holds}
 use Rattle.nf_normalized.proofs.BytesLemmas.{Known}
 use Rattle.nf_normalized.proofs.CheckerLemmas.{offset_is, written, held_few}
-use Rattle.nf_normalized.proofs.CallLemmas.{stable, ok_or, same_fault, none_is, parted_apart, roomy, room, Call, piece_kinds, parted_decides, split_now, unparted_decides}
+use Rattle.nf_normalized.proofs.WroteLemmas.{none_is}
+use Rattle.nf_normalized.proofs.CallLemmas.{stable, ok_or, same_fault, parted_apart, some, room, Call, piece_kinds, parted_decides, split_now, unparted_decides}
 use Rattle.nf_normalized.proofs.checker.FormChecker.feed.Goals as goal
 use Rattle.nf_normalized.proofs.checker.FormChecker.feed.Goals.{After-feed-fed, After-has_parted}
 
@@ -23,9 +24,11 @@ known : (c : After-feed-fed) → Known
 known c = record { split = c.split.ensures; back = c.read_back.ensures; pieces = c.pieces.ensures; once = c.each_form_changes_a_text_once.ensures }
 
 -- what was seen of the call, where the filter stood after these bytes
-seen : (c : After-feed-fed) → (c.feed-fed.result ≡ Err TooLong → ⊥) → {assigned : Bool} {f : Form} {bytes : List ℕ} → Holds assigned f (state_of c.args.self.now.filter) c.args.self.now.held.items bytes
-    → Call assigned f (base_of (state_of c.args.self.now.filter)) c.as_slice-held.result.now bytes (bytes ++ c.args.piece.now) (written assigned f (bytes ++ c.args.piece.now)) c.new-sink.result c.feed-fed.new.sink
-    c.feed-fed.result c.chars-chars.result c.offset-offset.result (result_err c.feed-fed.result ≡ fault_in (under assigned) ucd (base_of (state_of c.args.self.now.filter)) (bytes ++ c.args.piece.now))
+seen : (c : After-feed-fed) → (c.feed-fed.result ≡ Err TooLong → ⊥) → {assigned : Bool} {f : Form} {bytes : List ℕ}
+    → Holds assigned f (filter_state c.args.self.now) c.args.self.now.held.items bytes
+    → Call assigned f (base_of (filter_state c.args.self.now)) c.as_slice-held.result.now bytes (bytes ++ c.args.piece.now) (written assigned f (bytes ++ c.args.piece.now))
+    c.new-sink.result c.feed-fed.new.sink c.feed-fed.result c.chars-chars.result c.offset-offset.result
+    (result_err c.feed-fed.result ≡ fault_in (under assigned) ucd (base_of (filter_state c.args.self.now)) (bytes ++ c.args.piece.now))
 seen c short {assigned} {f} {bytes} holds =
     let before = written assigned f bytes in
     let feeds = c.feed-fed.ensures.feeds _ f bytes holds.filter short in
@@ -40,17 +43,14 @@ seen c short {assigned} {f} {bytes} holds =
       answer = feeds.answer;
     }
 
--- where no call was refused it stands after some
-some : (c : After-feed-fed) → (IsTrue (is_spent (state_of c.args.self.now.filter)) → ⊥) → ∥ HoldsSome (state_of c.args.self.now.filter) c.args.self.now.held.items ∥₁
-some c unspent = c.args.self.now.holds (none_is c.args.self.now.place (sym c.is_some.ensures ∙ c.if-is_some.false)) (false_from_ne_true _ unspent)
-
 -- a call that is refused leaves the sink as it was
-unrefused : (c : After-has_parted) → c.has_parted.result ≡ true → (IsTrue (is_spent (state_of c.args.self.now.filter)) ⊎ (c.feed-fed.result ≡ Err TooLong)) → ⊥
+unrefused : (c : After-has_parted) → c.has_parted.result ≡ true → (IsTrue (is_spent (filter_state c.args.self.now)) ⊎ (c.feed-fed.result ≡ Err TooLong)) → ⊥
 unrefused c is refused = parted_apart c.new-sink.ensures.none.1 (sym c.has_parted.ensures ∙ is) (c.feed-fed.ensures.kept refused).1
 
 -- where the piece was taken, what is left of what was read is held
-now : (c : After-feed-fed) → c.feed-fed.new.sink.other ≡ None → {done : Unit {0}} → c.feed-fed.result ≡ Ok done → {assigned : Bool} {f : Form} {bytes : List ℕ}
-    → Holds assigned f (state_of c.args.self.now.filter) c.args.self.now.held.items bytes → {held : List ℕ} → left c.feed-fed.new.sink ≡ held → Holds assigned f (state_of c.feed-fed.new.self) held (bytes ++ c.args.piece.now)
+now : (c : After-feed-fed) → is_some c.feed-fed.new.sink.other ≡ false → {done : Unit {0}} → c.feed-fed.result ≡ Ok done → {assigned : Bool} {f : Form} {bytes held : List ℕ}
+    → Holds assigned f (filter_state c.args.self.now) c.args.self.now.held.items bytes → left c.feed-fed.new.sink ≡ held
+    → Holds assigned f (state_of c.feed-fed.new.self) held (bytes ++ c.args.piece.now)
 now c none ok {assigned} {f} {bytes} holds is = record {
   filter = rw ok at c.feed-fed.ensures.stands (under assigned) f bytes holds.filter;
   split = split_now (seen c (λ e. ok_or (sym ok ∙ e)) holds) none ∙ ap (λ l. written assigned f (bytes ++ c.args.piece.now) ++ l) is;
@@ -60,9 +60,10 @@ pub place_behind-requires : goal.place_behind-requires
 place_behind-requires c =
     let at = (goal.at.place_behind-requires c).After-feed-fed in
     let refused = unrefused (goal.at.place_behind-requires c).After-has_parted c.if-has_parted.true in
-    let fits : offset_of (state_of c.args.self.now.filter) + length c.args.piece.now < 2 ^ 64 =
+    let fits : offset_of (filter_state c.args.self.now) + length c.args.piece.now < 2 ^ 64 =
     ⊎_elim (λ less. less) (λ more. absurd (refused (inr (c.feed-fed.ensures.too_long.1 (false_from_ne_true _ (λ ended. refused (inl ended)), omega (arith, more)))))) (cases_lt _ (2 ^ 64)) in
-    roomy (∥∥₁_map (some at (λ ended. refused (inl ended))) (λ h. room (seen at (λ long. refused (inr long)) h.holds) (omega (arith, fits, offset_is h.holds.filter, length-append h.bytes c.args.piece.now))))
+    ∥∥₁_elim (some c.args.self.now (sym c.is_some.ensures ∙ c.if-is_some.false) (λ ended. refused (inl ended))) (hlevel le_prop)
+    (λ h. room (seen at (λ long. refused (inr long)) h.holds) (omega (arith, fits, offset_is h.holds.filter, length-append h.bytes c.args.piece.now)))
 
 pub returns-then-has_parted-clause-decides : goal.returns-then-has_parted-clause-decides
 returns-then-has_parted-clause-decides c = λ assigned f base bytes stands other.
@@ -74,8 +75,8 @@ pub returns-in-Err-clause-faults : goal.returns-in-Err-clause-faults
 returns-in-Err-clause-faults c =
     let at = (goal.at.returns-in-Err-clause-faults c).After-feed-fed in
     stable (spent ∷ too_long ∷ ill_formed ∷ unassigned ∷ []) c.in-Err.fault (λ out.
-    ∥∥₁_elim (some at (λ ended. out (subst IsOfPiece (same_fault (sym (c.feed-fed.ensures.spent.1 ended) ∙ c.in-Err.is)) tt))) (λ x y. absurd x) (λ h.
-    out (piece_kinds (seen at (λ long. out (subst IsOfPiece (same_fault (sym long ∙ c.in-Err.is)) tt)) h.holds) (none_is _ (sym c.has_parted.ensures ∙ c.if-has_parted.false))
+    ∥∥₁_elim (some c.args.self.now (sym c.is_some.ensures ∙ c.if-is_some.false) (λ ended. out (subst IsOfPiece (same_fault (sym (c.feed-fed.ensures.spent.1 ended) ∙ c.in-Err.is)) tt)))
+    (λ x y. absurd x) (λ h. out (piece_kinds (seen at (λ long. out (subst IsOfPiece (same_fault (sym long ∙ c.in-Err.is)) tt)) h.holds) (sym c.has_parted.ensures ∙ c.if-has_parted.false)
     c.every_character_is_sound.ensures.text c.in-Err.fault c.in-Err.is)))
 
 pub returns-in-Err-clause-kept : goal.returns-in-Err-clause-kept
@@ -85,13 +86,13 @@ pub returns-in-Err-clause-decides : goal.returns-in-Err-clause-decides
 returns-in-Err-clause-decides c = λ assigned f base bytes stands other.
     let at = (goal.at.returns-in-Err-clause-decides c).After-feed-fed in
     rw (← stands.base_is) (sym (ap (λ r. option_map Err (result_err r)) c.in-Err.is)
-    ∙ unparted_decides (seen at (λ e. other (ap Err (same_fault (sym c.in-Err.is ∙ e)))) stands.holds) (none_is _ (sym c.has_parted.ensures ∙ c.if-has_parted.false)))
+    ∙ unparted_decides (seen at (λ e. other (ap Err (same_fault (sym c.in-Err.is ∙ e)))) stands.holds) (sym c.has_parted.ensures ∙ c.if-has_parted.false))
 
 pub joined-self-requires : goal.joined-self-requires
 joined-self-requires c =
     let at = (goal.at.joined-self-requires c).After-feed-fed in
-    let few = ∥∥₁_elim (some at (λ ended. ok_or (sym c.in_default.is ∙ c.feed-fed.ensures.spent.1 ended))) le_prop (λ h.
-    held_few (known at) (now at (none_is _ (sym c.has_parted.ensures ∙ c.if-has_parted.false)) c.in_default.is h.holds refl)
+    let few = ∥∥₁_elim (some c.args.self.now (sym c.is_some.ensures ∙ c.if-is_some.false) (λ ended. ok_or (sym c.in_default.is ∙ c.feed-fed.ensures.spent.1 ended))) le_prop (λ h.
+    held_few (known at) (now at (sym c.has_parted.ensures ∙ c.if-has_parted.false) c.in_default.is h.holds refl)
     c.longest_text.ensures c.replacing.ensures c.every_character_is_sound.ensures.text c.little_is_kept.ensures) in
     omega (arith, few, length-append c.left.result.0.now c.left.result.1.now, ap length c.left.ensures)
 
@@ -99,11 +100,11 @@ pub invariant_of-self-2 : goal.invariant_of-self-2
 invariant_of-self-2 c = record {
   holds = λ none _.
       let at = (goal.at.invariant_of-self-2 c).After-feed-fed in
-      ∥∥₁_map (some at (λ ended. ok_or (sym c.in_default.is ∙ c.feed-fed.ensures.spent.1 ended))) (λ h. record {
+      ∥∥₁_map (some c.args.self.now (sym c.is_some.ensures ∙ c.if-is_some.false) (λ ended. ok_or (sym c.in_default.is ∙ c.feed-fed.ensures.spent.1 ended))) (λ h. record {
         assigned = h.assigned;
         form = h.form;
         bytes = h.bytes ++ c.args.piece.now;
-        holds = now at (none_is _ (sym c.has_parted.ensures ∙ c.if-has_parted.false)) c.in_default.is h.holds (sym (c.joined-self.ensures ∙ c.left.ensures));
+        holds = now at (sym c.has_parted.ensures ∙ c.if-has_parted.false) c.in_default.is h.holds (sym (c.joined-self.ensures ∙ c.left.ensures));
       });
 }
 
@@ -111,12 +112,12 @@ pub returns-clause-decides : goal.returns-clause-decides
 returns-clause-decides c = λ assigned f base bytes stands other.
     let at = (goal.at.returns-clause-decides c).After-feed-fed in
     rw (← stands.base_is) (sym (ap (λ r. option_map Err (result_err r)) c.in_default.is)
-    ∙ unparted_decides (seen at (λ e. ok_or (sym c.in_default.is ∙ e)) stands.holds) (none_is _ (sym c.has_parted.ensures ∙ c.if-has_parted.false)))
+    ∙ unparted_decides (seen at (λ e. ok_or (sym c.in_default.is ∙ e)) stands.holds) (sym c.has_parted.ensures ∙ c.if-has_parted.false))
 
 pub returns-clause-stands : goal.returns-clause-stands
 returns-clause-stands c = λ assigned f base bytes stands ok. record {
   none = none_is c.args.self.now.place (sym c.is_some.ensures ∙ c.if-is_some.false);
   undecided = sym (returns-clause-decides c assigned f base bytes stands (λ e. cc));
   base_is = c.feed-fed.ensures.base ∙ stands.base_is;
-  holds = now (goal.at.returns-clause-stands c).After-feed-fed (none_is _ (sym c.has_parted.ensures ∙ c.if-has_parted.false)) c.in_default.is stands.holds (sym (c.joined-self.ensures ∙ c.left.ensures));
+  holds = now (goal.at.returns-clause-stands c).After-feed-fed (sym c.has_parted.ensures ∙ c.if-has_parted.false) c.in_default.is stands.holds (sym (c.joined-self.ensures ∙ c.left.ensures));
 }

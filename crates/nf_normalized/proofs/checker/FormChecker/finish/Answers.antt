@@ -1,26 +1,26 @@
-use Rattle.std.proofs.Common.{subst, [], ◌∷◌, ◌≡◌, ◌++◌, Bool, false, ℕ, List, IsTrue, sym, ap, ◌∙◌, arith, None, append-nil, encode_utf8_all}
-use Rattle.std.proofs.lemmas.Bool.{eqb-true, eqb-false, false_from_ne_true}
-use Rattle.std.proofs.Math.Logic.{∥∥₁_elim, ∥∥₁_map}
+use Rattle.std.proofs.Common.{subst, [], ◌∷◌, ◌≡◌, ◌++◌, Bool, false, ℕ, List, sym, ap, ◌∙◌, arith, None, append-nil}
+use Rattle.std.proofs.lemmas.Bool.{eqb-true, eqb-false}
+use Rattle.std.proofs.Math.Logic.{∥∥₁_elim}
+use Rattle.std.specs.Coded.{le_prop}
 use Rattle.nf_forms.specs.Ucd.{ucd}
 use Rattle.nf_forms.specs.declared.form.Form.{Form}
-use Rattle.nf_forms.specs.SafeForm.{safe_form}
-use Rattle.nf_utf8.specs.Reading.{text_of, ending_of}
+use Rattle.nf_utf8.specs.Reading.{ending_of}
 use Rattle.nf_filter.specs.Faults.{answer_at_end}
-use Rattle.nf_filter.specs.Filter.{state_of, base_of, is_spent}
+use Rattle.nf_filter.specs.Filter.{base_of}
 use Rattle.nf_filter.specs.Finishes.{final_utf8, end_of, tally_of}
 use Rattle.nf_filter.specs.Kinds.{spent, cut}
 use Rattle.nf_normalized.specs.Change.{under}
-use Rattle.nf_normalized.specs.Checker.{IsOfEnd}
-use Rattle.nf_normalized.specs.Holds.{Holds, HoldsSome}
+use Rattle.nf_normalized.specs.Checker.{filter_state, IsOfEnd}
+use Rattle.nf_normalized.specs.Holds.{Holds}
 use Rattle.nf_normalized.proofs.CheckerLemmas.{offset_is, written, no_fault_parts}
-use Rattle.nf_normalized.proofs.CallLemmas.{stable, same_fault, ok_or, none_is, parted_apart, roomy, room, Call, told, Due, due_at, fault_end, done_end, short_end, parted_end}
+use Rattle.nf_normalized.proofs.CallLemmas.{stable, same_fault, ok_or, parted_apart, some, room, Call, told, Due, due_at, fault_end, done_end, short_end, parted_end}
 use Rattle.nf_normalized.proofs.checker.FormChecker.finish.Goals as goal
 use Rattle.nf_normalized.proofs.checker.FormChecker.finish.Goals.{After-finish-finished, then-not-has_parted+in_default+else-is_at_end, else-not-has_parted}
 
 -- what was seen of the call, where the filter stood after these bytes
-seen : (c : After-finish-finished) → {assigned : Bool} {f : Form} {bytes : List ℕ} → Holds assigned f (state_of c.args.self.filter) c.args.self.held.items bytes
-    → Call assigned f (base_of (state_of c.args.self.filter)) c.as_slice-held.result.now bytes bytes (final_utf8 (under assigned) f ucd bytes) c.new-sink.result c.finish-finished.new.sink
-    c.finish-finished.result c.chars-chars.result c.offset-offset.result (c.finish-finished.result ≡ answer_at_end (base_of (state_of c.args.self.filter)) (tally_of false ucd bytes) (ending_of bytes))
+seen : (c : After-finish-finished) → {assigned : Bool} {f : Form} {bytes : List ℕ} → Holds assigned f (filter_state c.args.self) c.args.self.held.items bytes
+    → Call assigned f (base_of (filter_state c.args.self)) c.as_slice-held.result.now bytes bytes (final_utf8 (under assigned) f ucd bytes) c.new-sink.result c.finish-finished.new.sink
+    c.finish-finished.result c.chars-chars.result c.offset-offset.result (c.finish-finished.result ≡ answer_at_end (base_of (filter_state c.args.self)) (tally_of false ucd bytes) (ending_of bytes))
 unfolding end_of
 seen c {assigned} {f} {bytes} holds =
     let before = written assigned f bytes in
@@ -37,49 +37,45 @@ seen c {assigned} {f} {bytes} holds =
     }
 
 -- and what was due
-due : (c : After-finish-finished) → {assigned : Bool} {f : Form} {bytes : List ℕ} → Holds assigned f (state_of c.args.self.filter) c.args.self.held.items bytes
-    → Due (written assigned f bytes) (encode_utf8_all (safe_form f ucd (text_of bytes))) bytes (final_utf8 (under assigned) f ucd bytes) (ending_of bytes)
-unfolding final_utf8
-due c {assigned} {f} {bytes} holds =
-    due_at _ _ _ bytes (ending_of bytes) (no_fault_parts c.every_character_is_sound.ensures.text assigned (base_of (state_of c.args.self.filter)) bytes holds.filter.no_fault).1 (c.longest_text.ensures.reads bytes).end
-
--- where no call was refused it stands after some
-some : (c : After-finish-finished) → (IsTrue (is_spent (state_of c.args.self.filter)) → ⊥) → ∥ HoldsSome (state_of c.args.self.filter) c.args.self.held.items ∥₁
-some c unspent = c.args.self.holds (none_is c.args.self.place (sym c.is_some.ensures ∙ c.if-is_some.false)) (false_from_ne_true _ unspent)
+due : (c : After-finish-finished) → {assigned : Bool} {f : Form} {bytes : List ℕ} → Holds assigned f (filter_state c.args.self) c.args.self.held.items bytes
+    → Due assigned f bytes (final_utf8 (under assigned) f ucd bytes) (ending_of bytes)
+due c {assigned} {f} {bytes} holds = due_at assigned f _ bytes (no_fault_parts c.every_character_is_sound.ensures.text assigned _ bytes holds.filter.no_fault).1 c.longest_text.ensures
 
 pub returns-in-Err-clause-faults : goal.returns-in-Err-clause-faults
 returns-in-Err-clause-faults c =
     let at = (goal.at.returns-in-Err-clause-faults c).After-finish-finished in
     stable (spent ∷ cut ∷ []) c.in-Err.fault (λ out.
-    ∥∥₁_elim (some at (λ ended. out (subst IsOfEnd (same_fault (sym (c.finish-finished.ensures.spent.1 ended) ∙ c.in-Err.is)) tt))) (λ x y. absurd x) (λ h.
-    out (fault_end _ _ None (due at h.holds) (sym c.in-Err.is ∙ told (seen at h.holds) (none_is _ (sym c.has_parted.ensures ∙ c.if-not-has_parted.true)))).1))
+    ∥∥₁_elim (some c.args.self (sym c.is_some.ensures ∙ c.if-is_some.false) (λ ended. out (subst IsOfEnd (same_fault (sym (c.finish-finished.ensures.spent.1 ended) ∙ c.in-Err.is)) tt)))
+    (λ x y. absurd x) (λ h. out (fault_end _ _ None (due at h.holds) (sym c.in-Err.is ∙ told (seen at h.holds) (sym c.has_parted.ensures ∙ c.if-not-has_parted.true))).1))
 
 pub returns-in-Err-clause-decides : goal.returns-in-Err-clause-decides
 returns-in-Err-clause-decides c = λ assigned f base bytes stands.
     let at = (goal.at.returns-in-Err-clause-decides c).After-finish-finished in
-    rw (← stands.base_is) (fault_end _ _ _ (due at stands.holds) (sym c.in-Err.is ∙ told (seen at stands.holds) (none_is _ (sym c.has_parted.ensures ∙ c.if-not-has_parted.true)))).0
+    rw (← stands.base_is) (fault_end _ _ _ (due at stands.holds) (sym c.in-Err.is ∙ told (seen at stands.holds) (sym c.has_parted.ensures ∙ c.if-not-has_parted.true))).0
 
 pub returns-then-is_at_end-clause-decides : goal.returns-then-is_at_end-clause-decides
 returns-then-is_at_end-clause-decides c = λ assigned f base bytes stands.
     let at = (goal.at.returns-then-is_at_end-clause-decides c).After-finish-finished in
-    let none = none_is _ (sym c.has_parted.ensures ∙ c.if-not-has_parted.true) in
-    rw (← stands.base_is) (done_end (seen at stands.holds) none (eqb-true _ 0 (sym c.is_at_end.ensures ∙ c.if-is_at_end.true)) _ (due at stands.holds) (sym c.in_default.is ∙ told (seen at stands.holds) none))
+    let none = sym c.has_parted.ensures ∙ c.if-not-has_parted.true in
+    rw (← stands.base_is) (done_end (seen at stands.holds) none (eqb-true _ 0 (sym c.is_at_end.ensures ∙ c.if-is_at_end.true)) _ (due at stands.holds)
+    (sym c.in_default.is ∙ told (seen at stands.holds) none))
 
 pub place_behind-requires : goal.place_behind-requires
 place_behind-requires c =
     let at = (goal.at.place_behind-requires c).After-finish-finished in
-    let some = some at (λ ended. elim c.if-not-has_parted.branch [
+    let some = some c.args.self (sym c.is_some.ensures ∙ c.if-is_some.false) (λ ended. elim c.if-not-has_parted.branch [
       | then-not-has_parted+in_default+else-is_at_end w ↦ ok_or (sym w.in_default.is ∙ c.finish-finished.ensures.spent.1 ended)
       | else-not-has_parted w ↦ parted_apart c.new-sink.ensures.none.1 (sym c.has_parted.ensures ∙ w.if-not-has_parted.false) (c.finish-finished.ensures.kept ended)
     ]) in
-    roomy (∥∥₁_map some (λ h. room (seen at h.holds) (omega (arith, offset_is h.holds.filter, c.offset-offset.ensures, c.offset-offset.type_inv))))
+    ∥∥₁_elim some (hlevel le_prop) (λ h. room (seen at h.holds) (omega (arith, offset_is h.holds.filter, c.offset-offset.ensures, c.offset-offset.type_inv)))
 
 pub returns-clause-decides : goal.returns-clause-decides
 returns-clause-decides c = λ assigned f base bytes stands.
     let at = (goal.at.returns-clause-decides c).After-finish-finished in
     let call = seen at stands.holds in
     rw (← stands.base_is) (elim c.if-not-has_parted.branch [
-      | then-not-has_parted+in_default+else-is_at_end w ↦ let none = none_is _ (sym c.has_parted.ensures ∙ w.if-not-has_parted.true) in
-          short_end call none (eqb-false _ 0 (sym w.is_at_end.ensures ∙ w.if-is_at_end.false)) c.place_behind.result c.place_behind.ensures _ (due at stands.holds) (sym w.in_default.is ∙ told call none)
+      | then-not-has_parted+in_default+else-is_at_end w ↦ let none = sym c.has_parted.ensures ∙ w.if-not-has_parted.true in
+          short_end call none (eqb-false _ 0 (sym w.is_at_end.ensures ∙ w.if-is_at_end.false)) c.place_behind.result c.place_behind.ensures _ (due at stands.holds)
+          (sym w.in_default.is ∙ told call none)
       | else-not-has_parted w ↦ parted_end call (sym c.has_parted.ensures ∙ w.if-not-has_parted.false) c.place_behind.result c.place_behind.ensures (due at stands.holds)
     ])

@@ -1,6 +1,5 @@
-use Rattle.std.proofs.Common.{[], ◌∙◌, sym, ap, refl}
+use Rattle.std.proofs.Common.{[], ◌∙◌, refl}
 use Rattle.nf_filter.specs.Filter.{state_of}
-use Rattle.nf_normalized.specs.Change.{form_decision}
 use Rattle.nf_normalized.proofs.CheckerLemmas.{begins, undecided}
 use Rattle.nf_normalized.proofs.checker.FormChecker.new.Goals as goal
 
@@ -22,5 +21,5 @@ returns-clause-stands c =
       none = refl;
       base_is = base_is;
       holds = holds;
-      undecided = ap (λ b. form_decision c.args.assigned c.args.form b []) (sym base_is) ∙ undecided (record { split = c.split.ensures; back = c.read_back.ensures; pieces = c.pieces.ensures; once = c.each_form_changes_a_text_once.ensures }) holds;
+      undecided = rw (← base_is) (undecided (record { split = c.split.ensures; back = c.read_back.ensures; pieces = c.pieces.ensures; once = c.each_form_changes_a_text_once.ensures }) holds);
     }
