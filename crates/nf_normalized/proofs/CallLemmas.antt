@@ -34,7 +34,8 @@ use Rattle.nf_normalized.specs.Checker.{filter_state, IsOfPiece, IsOfEnd}
 use Rattle.nf_normalized.proofs.BytesLemmas.{Known, Shares, Departs, departs, text_of-encodes, front_all, none_behind}
 use Rattle.nf_normalized.proofs.ChangeLemmas.{if_same, if_other}
 use Rattle.nf_normalized.proofs.CommonLemmas.{common-front}
-use Rattle.nf_normalized.proofs.WroteLemmas.{none_is, Wrote, read, other_written, unfailed, all_written}
+use Rattle.nf_normalized.proofs.ComparingLemmas.{none_is}
+use Rattle.nf_normalized.proofs.WroteLemmas.{Wrote, read, other_written, unfailed, all_written}
 use Rattle.nf_normalized.proofs.CheckerLemmas.{written, written_is, is_text, chars_behind, bytes_behind, unparted, fault_kinds}
 
 pub is_none : {A : Type 0} {o : Option A} → o ≡ None → IsNone o

@@ -14,36 +14,24 @@ rest_is l a = take_all (length l - a) (drop a l) (omega (arith, length-drop a l)
 pub the_same : {x y : ℕ} → Some x ≡ Some y → x ≡ y
 the_same e = cc
 
-pub not_some : (o : Option ℕ) (x : ℕ) → is_some o ≡ false → o ≡ Some x → ⊥
-not_some None x e is = cc
-not_some (Some y) x e is = absurd (true≢false e)
+pub none_is : {A : Type 0} (o : Option A) → is_some o ≡ false → o ≡ None
+none_is None e = refl
+none_is (Some x) e = absurd (true≢false e)
 
--- so many more bytes of the first slice, or of the second
-module _ (first second bytes : List ℕ) (a b n : ℕ) (some : 0 < n) where
-  module _ (within : a ≤ length first) (in_turn : a < length first → b ≡ 0) (is : n ≡ common (drop a first) bytes) where
-    pub room : a + n ≤ length first
-    room = omega (arith, is, common-le-left (drop a first) bytes, length-drop a first)
+-- a slice has so many more bytes
+pub has : (l bytes : List ℕ) {a n : ℕ} → a ≤ length l → n ≡ common (drop a l) bytes → a + n ≤ length l
+has l bytes {a} within is = omega (arith, within, is, common-le-left (drop a l) bytes, length-drop a l)
 
-    none : b ≡ 0
-    none = in_turn (omega (arith, room, some))
+more_of : (l bytes : List ℕ) (a n : ℕ) → n ≡ common (drop a l) bytes → take (a + n) l ≡ take a l ++ take n bytes
+more_of l bytes a n is = take-add a n l ∙ ap (λ r. take a l ++ r) (ap (λ k. take k (drop a l)) is ∙ take-common (drop a l) bytes ∙ ap (λ k. take k bytes) (sym is))
 
-    pub more_of_first : (o : Option ℕ) → is_some o ≡ false → (take (a + n) first ++ take b second) ++ option_to_list o ≡ ((take a first ++ take b second) ++ option_to_list o) ++ take n bytes
-    more_of_first None e =
-        ap (λ k. (take (a + n) first ++ take k second) ++ []) none ∙ append-nil (take (a + n) first ++ []) ∙ append-nil (take (a + n) first) ∙ take-add a n first
-        ∙ ap₂ (λ l r. l ++ r) (sym (append-nil (take a first) ∙ refl)) (ap (λ k. take k (drop a first)) is ∙ take-common (drop a first) bytes ∙ ap (λ k. take k bytes) (sym is))
-        ∙ ap (λ l. l ++ take n bytes) (sym (ap (λ k. (take a first ++ take k second) ++ []) none ∙ append-nil (take a first ++ [])))
-    more_of_first (Some x) e = absurd (true≢false e)
+-- of the first slice, or of the second
+module _ (first second bytes : List ℕ) (a b n : ℕ) (o : Option ℕ) (none : o ≡ None) where
+  pub more_of_first : b ≡ 0 → n ≡ common (drop a first) bytes → (take (a + n) first ++ take b second) ++ option_to_list o ≡ ((take a first ++ take b second) ++ option_to_list o) ++ take n bytes
+  more_of_first turn is = simp (none, turn, append-nil) (more_of first bytes a n is)
 
-  module _ (within : b ≤ length second) (is : n ≡ common (drop b second) bytes) where
-    pub room_behind : b + n ≤ length second
-    room_behind = omega (arith, is, common-le-left (drop b second) bytes, length-drop b second)
-
-    pub more_of_second : (o : Option ℕ) → is_some o ≡ false → (take a first ++ take (b + n) second) ++ option_to_list o ≡ ((take a first ++ take b second) ++ option_to_list o) ++ take n bytes
-    more_of_second None e =
-        append-nil (take a first ++ take (b + n) second)
-        ∙ ap (λ l. take a first ++ l) (take-add b n second ∙ ap (λ l. take b second ++ l) (ap (λ k. take k (drop b second)) is ∙ take-common (drop b second) bytes ∙ ap (λ k. take k bytes) (sym is)))
-        ∙ sym (append_assoc (take a first) (take b second) (take n bytes)) ∙ ap (λ l. l ++ take n bytes) (sym (append-nil (take a first ++ take b second)))
-    more_of_second (Some x) e = absurd (true≢false e)
+  pub more_of_second : n ≡ common (drop b second) bytes → (take a first ++ take (b + n) second) ++ option_to_list o ≡ ((take a first ++ take b second) ++ option_to_list o) ++ take n bytes
+  more_of_second is = simp (none, append-nil) (ap (λ l. take a first ++ l) (more_of second bytes b n is) ∙ sym (append_assoc (take a first) (take b second) (take n bytes)))
 
 -- what is expected stays before what is given
 pub taken_on : (first second : List ℕ) (old more : List ℕ) {new : List ℕ} → new ≡ old ++ more → preface (first ++ second) ++ new ≡ (preface (first ++ second) ++ old) ++ more

@@ -7,11 +7,7 @@ use Rattle.nf_filter.specs.Writes.{Puts, BreaksOff}
 use Rattle.nf_normalized.specs.declared.comparing.Comparing.{Comparing}
 use Rattle.nf_normalized.specs.Bytes.{goes_on_with}
 use Rattle.nf_normalized.specs.Comparing.{same, left, given, preface, taken, sink_state}
-use Rattle.nf_normalized.proofs.ComparingLemmas.{preface-same, same_left}
-
-pub none_is : {A : Type 0} (o : Option A) → is_some o ≡ false → o ≡ None
-none_is None e = refl
-none_is (Some x) e = absurd (true≢false e)
+use Rattle.nf_normalized.proofs.ComparingLemmas.{none_is, preface-same, same_left}
 
 write_or : {T : Type 0} (r : Result T Fault) → (r ≡ Err Write) ⊎ ((r ≡ Err Write) → ⊥)
 write_or (Err Write) = inl refl

@@ -15,7 +15,7 @@ use Rattle.nf_normalized.specs.Comparing.{left}
 use Rattle.nf_normalized.specs.Holds.{Holds}
 use Rattle.nf_normalized.proofs.BytesLemmas.{Known}
 use Rattle.nf_normalized.proofs.CheckerLemmas.{offset_is, written, held_few}
-use Rattle.nf_normalized.proofs.WroteLemmas.{none_is}
+use Rattle.nf_normalized.proofs.ComparingLemmas.{none_is}
 use Rattle.nf_normalized.proofs.CallLemmas.{stable, ok_or, same_fault, parted_apart, some, room, Call, piece_kinds, parted_decides, split_now, unparted_decides}
 use Rattle.nf_normalized.proofs.checker.FormChecker.feed.Goals as goal
 use Rattle.nf_normalized.proofs.checker.FormChecker.feed.Goals.{After-feed-fed, After-has_parted}
