@@ -60,11 +60,11 @@ pub parted_apart : {old new : Comparing} → old.other ≡ None → is_some new.
 parted_apart none is e = true≢false (sym is ∙ ap (λ s. is_some s.other) e ∙ ap is_some none)
 
 -- where no call was refused, some bytes were taken
-pub some : (checker : FormChecker) → is_some checker.place ≡ false → (IsTrue (is_spent (filter_state checker)) → ⊥) → ∥ HoldsSome (filter_state checker) checker.held.items ∥₁
-some checker none unspent = checker.holds (none_is checker.place none) (false_from_ne_true _ unspent)
+pub holds_some : (checker : FormChecker) → is_some checker.place ≡ false → (IsTrue (is_spent (filter_state checker)) → ⊥) → ∥ HoldsSome (filter_state checker) checker.held.items ∥₁
+holds_some checker none unspent = checker.holds (none_is checker.place none) (false_from_ne_true _ unspent)
 
--- a filter that took `bytes`, so many characters up to this offset, and holds the last of them, wrote on by the call r, which comes to
--- `all`; it tells more where the sink did not fail
+-- a filter that took `bytes`, so many characters up to this offset, and wrote all of them but `held`, wrote on by the call r, with which
+-- `all` is taken, of what was then due; it tells more where the sink did not fail
 pub record Call (assigned : Bool) (f : Form) (base : ℕ) (held bytes all due : List ℕ) (old new : Comparing) {T : Type 0} (r : Result T Fault) (chars offset : ℕ) (Tells : Type 0) : Type 0 where
   pub known : Known
   pub split : bytes ≡ written assigned f bytes ++ held

@@ -16,7 +16,7 @@ use Rattle.nf_normalized.specs.Holds.{Holds}
 use Rattle.nf_normalized.proofs.BytesLemmas.{Known}
 use Rattle.nf_normalized.proofs.CheckerLemmas.{offset_is, written, held_few}
 use Rattle.nf_normalized.proofs.ComparingLemmas.{none_is}
-use Rattle.nf_normalized.proofs.CallLemmas.{stable, ok_or, same_fault, parted_apart, some, room, Call, piece_kinds, parted_decides, split_now, unparted_decides}
+use Rattle.nf_normalized.proofs.CallLemmas.{stable, ok_or, same_fault, parted_apart, holds_some, room, Call, piece_kinds, parted_decides, split_now, unparted_decides}
 use Rattle.nf_normalized.proofs.checker.FormChecker.feed.Goals as goal
 use Rattle.nf_normalized.proofs.checker.FormChecker.feed.Goals.{After-feed-fed, After-has_parted}
 
@@ -48,10 +48,10 @@ unrefused : (c : After-has_parted) → c.has_parted.result ≡ true → (IsTrue 
 unrefused c is refused = parted_apart c.new-sink.ensures.none.1 (sym c.has_parted.ensures ∙ is) (c.feed-fed.ensures.kept refused).1
 
 -- where the piece was taken, what is left of what was read is held
-now : (c : After-feed-fed) → is_some c.feed-fed.new.sink.other ≡ false → {done : Unit {0}} → c.feed-fed.result ≡ Ok done → {assigned : Bool} {f : Form} {bytes held : List ℕ}
+holds_now : (c : After-feed-fed) → is_some c.feed-fed.new.sink.other ≡ false → {done : Unit {0}} → c.feed-fed.result ≡ Ok done → {assigned : Bool} {f : Form} {bytes held : List ℕ}
     → Holds assigned f (filter_state c.args.self.now) c.args.self.now.held.items bytes → left c.feed-fed.new.sink ≡ held
     → Holds assigned f (state_of c.feed-fed.new.self) held (bytes ++ c.args.piece.now)
-now c none ok {assigned} {f} {bytes} holds is = record {
+holds_now c none ok {assigned} {f} {bytes} holds is = record {
   filter = rw ok at c.feed-fed.ensures.stands (under assigned) f bytes holds.filter;
   split = split_now (seen c (λ e. ok_or (sym ok ∙ e)) holds) none ∙ ap (λ l. written assigned f (bytes ++ c.args.piece.now) ++ l) is;
 }
@@ -62,7 +62,7 @@ place_behind-requires c =
     let refused = unrefused (goal.at.place_behind-requires c).After-has_parted c.if-has_parted.true in
     let fits : offset_of (filter_state c.args.self.now) + length c.args.piece.now < 2 ^ 64 =
     ⊎_elim (λ less. less) (λ more. absurd (refused (inr (c.feed-fed.ensures.too_long.1 (false_from_ne_true _ (λ ended. refused (inl ended)), omega (arith, more)))))) (cases_lt _ (2 ^ 64)) in
-    ∥∥₁_elim (some c.args.self.now (sym c.is_some.ensures ∙ c.if-is_some.false) (λ ended. refused (inl ended))) (hlevel le_prop)
+    ∥∥₁_elim (holds_some c.args.self.now (sym c.is_some.ensures ∙ c.if-is_some.false) (λ ended. refused (inl ended))) (hlevel le_prop)
     (λ h. room (seen at (λ long. refused (inr long)) h.holds) (omega (arith, fits, offset_is h.holds.filter, length-append h.bytes c.args.piece.now)))
 
 pub returns-then-has_parted-clause-decides : goal.returns-then-has_parted-clause-decides
@@ -75,7 +75,7 @@ pub returns-in-Err-clause-faults : goal.returns-in-Err-clause-faults
 returns-in-Err-clause-faults c =
     let at = (goal.at.returns-in-Err-clause-faults c).After-feed-fed in
     stable (spent ∷ too_long ∷ ill_formed ∷ unassigned ∷ []) c.in-Err.fault (λ out.
-    ∥∥₁_elim (some c.args.self.now (sym c.is_some.ensures ∙ c.if-is_some.false) (λ ended. out (subst IsOfPiece (same_fault (sym (c.feed-fed.ensures.spent.1 ended) ∙ c.in-Err.is)) tt)))
+    ∥∥₁_elim (holds_some c.args.self.now (sym c.is_some.ensures ∙ c.if-is_some.false) (λ ended. out (subst IsOfPiece (same_fault (sym (c.feed-fed.ensures.spent.1 ended) ∙ c.in-Err.is)) tt)))
     (λ x y. absurd x) (λ h. out (piece_kinds (seen at (λ long. out (subst IsOfPiece (same_fault (sym long ∙ c.in-Err.is)) tt)) h.holds) (sym c.has_parted.ensures ∙ c.if-has_parted.false)
     c.every_character_is_sound.ensures.text c.in-Err.fault c.in-Err.is)))
 
@@ -91,8 +91,8 @@ returns-in-Err-clause-decides c = λ assigned f base bytes stands other.
 pub joined-self-requires : goal.joined-self-requires
 joined-self-requires c =
     let at = (goal.at.joined-self-requires c).After-feed-fed in
-    let few = ∥∥₁_elim (some c.args.self.now (sym c.is_some.ensures ∙ c.if-is_some.false) (λ ended. ok_or (sym c.in_default.is ∙ c.feed-fed.ensures.spent.1 ended))) le_prop (λ h.
-    held_few (known at) (now at (sym c.has_parted.ensures ∙ c.if-has_parted.false) c.in_default.is h.holds refl)
+    let few = ∥∥₁_elim (holds_some c.args.self.now (sym c.is_some.ensures ∙ c.if-is_some.false) (λ ended. ok_or (sym c.in_default.is ∙ c.feed-fed.ensures.spent.1 ended))) le_prop (λ h.
+    held_few (known at) (holds_now at (sym c.has_parted.ensures ∙ c.if-has_parted.false) c.in_default.is h.holds refl)
     c.longest_text.ensures c.replacing.ensures c.every_character_is_sound.ensures.text c.little_is_kept.ensures) in
     omega (arith, few, length-append c.left.result.0.now c.left.result.1.now, ap length c.left.ensures)
 
@@ -100,11 +100,11 @@ pub invariant_of-self-2 : goal.invariant_of-self-2
 invariant_of-self-2 c = record {
   holds = λ none _.
       let at = (goal.at.invariant_of-self-2 c).After-feed-fed in
-      ∥∥₁_map (some c.args.self.now (sym c.is_some.ensures ∙ c.if-is_some.false) (λ ended. ok_or (sym c.in_default.is ∙ c.feed-fed.ensures.spent.1 ended))) (λ h. record {
+      ∥∥₁_map (holds_some c.args.self.now (sym c.is_some.ensures ∙ c.if-is_some.false) (λ ended. ok_or (sym c.in_default.is ∙ c.feed-fed.ensures.spent.1 ended))) (λ h. record {
         assigned = h.assigned;
         form = h.form;
         bytes = h.bytes ++ c.args.piece.now;
-        holds = now at (sym c.has_parted.ensures ∙ c.if-has_parted.false) c.in_default.is h.holds (sym (c.joined-self.ensures ∙ c.left.ensures));
+        holds = holds_now at (sym c.has_parted.ensures ∙ c.if-has_parted.false) c.in_default.is h.holds (sym (c.joined-self.ensures ∙ c.left.ensures));
       });
 }
 
@@ -119,5 +119,5 @@ returns-clause-stands c = λ assigned f base bytes stands ok. record {
   none = none_is c.args.self.now.place (sym c.is_some.ensures ∙ c.if-is_some.false);
   undecided = sym (returns-clause-decides c assigned f base bytes stands (λ e. cc));
   base_is = c.feed-fed.ensures.base ∙ stands.base_is;
-  holds = now (goal.at.returns-clause-stands c).After-feed-fed (sym c.has_parted.ensures ∙ c.if-has_parted.false) c.in_default.is stands.holds (sym (c.joined-self.ensures ∙ c.left.ensures));
+  holds = holds_now (goal.at.returns-clause-stands c).After-feed-fed (sym c.has_parted.ensures ∙ c.if-has_parted.false) c.in_default.is stands.holds (sym (c.joined-self.ensures ∙ c.left.ensures));
 }

@@ -13,7 +13,7 @@ use Rattle.nf_normalized.specs.Change.{under}
 use Rattle.nf_normalized.specs.Checker.{filter_state, IsOfEnd}
 use Rattle.nf_normalized.specs.Holds.{Holds}
 use Rattle.nf_normalized.proofs.CheckerLemmas.{offset_is, written, no_fault_parts}
-use Rattle.nf_normalized.proofs.CallLemmas.{stable, same_fault, ok_or, parted_apart, some, room, Call, told, Due, due_at, fault_end, done_end, short_end, parted_end}
+use Rattle.nf_normalized.proofs.CallLemmas.{stable, same_fault, ok_or, parted_apart, holds_some, room, Call, told, Due, due_at, fault_end, done_end, short_end, parted_end}
 use Rattle.nf_normalized.proofs.checker.FormChecker.finish.Goals as goal
 use Rattle.nf_normalized.proofs.checker.FormChecker.finish.Goals.{After-finish-finished, then-not-has_parted+in_default+else-is_at_end, else-not-has_parted}
 
@@ -45,7 +45,7 @@ pub returns-in-Err-clause-faults : goal.returns-in-Err-clause-faults
 returns-in-Err-clause-faults c =
     let at = (goal.at.returns-in-Err-clause-faults c).After-finish-finished in
     stable (spent ∷ cut ∷ []) c.in-Err.fault (λ out.
-    ∥∥₁_elim (some c.args.self (sym c.is_some.ensures ∙ c.if-is_some.false) (λ ended. out (subst IsOfEnd (same_fault (sym (c.finish-finished.ensures.spent.1 ended) ∙ c.in-Err.is)) tt)))
+    ∥∥₁_elim (holds_some c.args.self (sym c.is_some.ensures ∙ c.if-is_some.false) (λ ended. out (subst IsOfEnd (same_fault (sym (c.finish-finished.ensures.spent.1 ended) ∙ c.in-Err.is)) tt)))
     (λ x y. absurd x) (λ h. out (fault_end _ _ None (due at h.holds) (sym c.in-Err.is ∙ told (seen at h.holds) (sym c.has_parted.ensures ∙ c.if-not-has_parted.true))).1))
 
 pub returns-in-Err-clause-decides : goal.returns-in-Err-clause-decides
@@ -63,7 +63,7 @@ returns-then-is_at_end-clause-decides c = λ assigned f base bytes stands.
 pub place_behind-requires : goal.place_behind-requires
 place_behind-requires c =
     let at = (goal.at.place_behind-requires c).After-finish-finished in
-    let some = some c.args.self (sym c.is_some.ensures ∙ c.if-is_some.false) (λ ended. elim c.if-not-has_parted.branch [
+    let some = holds_some c.args.self (sym c.is_some.ensures ∙ c.if-is_some.false) (λ ended. elim c.if-not-has_parted.branch [
       | then-not-has_parted+in_default+else-is_at_end w ↦ ok_or (sym w.in_default.is ∙ c.finish-finished.ensures.spent.1 ended)
       | else-not-has_parted w ↦ parted_apart c.new-sink.ensures.none.1 (sym c.has_parted.ensures ∙ w.if-not-has_parted.false) (c.finish-finished.ensures.kept ended)
     ]) in
