@@ -9,25 +9,27 @@ use Rattle.std.proofs.lemmas.List.Sums.{list_all-from_AllPass}
 use Rattle.std.proofs.lemmas.Slice.Eq.{bytes_eq-Decides}
 use Rattle.std.specs.List.{list_all}
 use lib.Utf8.{scalar}
-use Rattle.std.specs.Prelude.{if◌then◌else◌, IsTrue, slice_index_or}
+use Rattle.std.specs.Prelude.{IsTrue, slice_index_or}
 use Rattle.std.specs.Str.{all_scalars, bytes_eq}
+use Rattle.std.specs.Char.{IsScalar}
 use Rattle.nf_forms.specs.Properties.{Properties, is_starter, is_nonstarter}
 use Rattle.nf_forms.specs.Runs.{lead, trail, longest}
 use Rattle.nf_forms.specs.Order.{order}
 use Rattle.nf_forms.specs.Ordering.{with_class}
 use Rattle.nf_forms.specs.declared.form.Form.{Form}
 use Rattle.nf_forms.specs.declared.form.Form.TheVariants.{Nfc, Nfd, Nfkc, Nfkd}
-use Rattle.nf_forms.specs.Forms.{row_of, decomposed, composes, normal_form}
-use Rattle.nf_forms.specs.StreamSafe.{joiner, max_run, is_too_long, parted, safe_step, stream_safe}
+use Rattle.nf_forms.specs.Forms.{row_of, decomposed, composes, arranged, finished, normal_form}
+use Rattle.nf_forms.specs.StreamSafe.{joiner, max_run, safe_step, stream_safe}
 use Rattle.nf_forms.specs.SafeForm.{safe_form}
 use Rattle.nf_forms.specs.Sound.{is_sound}
-use Rattle.nf_forms.specs.Audit.{IsFull, IsFullText, HasFullRows, HasOwnMarks, IsAudited}
+use Rattle.nf_forms.specs.Audit.{IsFull, IsFullText, HasOwnMarks, IsAudited}
 use Rattle.nf_forms.specs.Twice.{ChangesOnce}
 use Rattle.nf_forms.specs.Laws.Last.{by_last}
 use Rattle.nf_forms.specs.Laws.Starters.{longest-order}
 use Rattle.nf_forms.specs.Laws.Ordering.{ordering, order-only, order-order}
 use Rattle.nf_forms.specs.Laws.Sound.{IsSoundText}
-use Rattle.nf_forms.specs.Laws.StreamSafe.{stream_safe-push, longest-decomposed-push, longest-stream_safe-le}
+pub use Rattle.nf_forms.specs.Laws.StreamSafe.{list_all-stream_safe}
+use Rattle.nf_forms.specs.Laws.StreamSafe.{of_rows, stream_safe-push, longest-decomposed-push, longest-stream_safe-le}
 use Rattle.nf_forms.specs.Laws.Parting.{safe_step-room}
 
 pub scalars-all : (x : List ℕ) → all_scalars x ≡ list_all scalar x
@@ -139,24 +141,6 @@ module _ (p : Properties) where
 
   -- ---- a text over audited data
 
-  pub list_all-stream_safe : (test : ℕ → Bool) → test joiner ≡ true → (x : List ℕ) → list_all test x ≡ true → list_all test (stream_safe p x) ≡ true
-  list_all-stream_safe test joins = by_last (λ x. list_all test x ≡ true → list_all test (stream_safe p x) ≡ true) (λ _. refl) more
-    where
-      push : (o : List ℕ) (c : ℕ) → list_all test o ≡ true → test c ≡ true → list_all test (o ++ c ∷ []) ≡ true
-      push o c front last = list_all-append test o (c ∷ []) ∙ and_from _ _ front (and_from _ _ last refl)
-
-      parts : (b : Bool) (o : List ℕ) → list_all test o ≡ true → list_all test (if b then o ++ joiner ∷ [] else o) ≡ true
-      parts true o all = push o joiner all joins
-      parts false o all = all
-
-      more : (x : List ℕ) (c : ℕ) → (list_all test x ≡ true → list_all test (stream_safe p x) ≡ true)
-          → list_all test (x ++ c ∷ []) ≡ true → list_all test (stream_safe p (x ++ c ∷ [])) ≡ true
-      more x c before all =
-          let members = and_parts _ _ (sym (list_all-append test x (c ∷ [])) ∙ all) in
-          let out = stream_safe p x in
-          ap (list_all test) (stream_safe-push p x c)
-          ∙ push (parted p out c) c (parts (is_too_long p out c) out (before members.0)) (and_parts _ _ members.1).0
-
   -- what has no long run is its own stream-safe text
   pub stream_safe-short : (x : List ℕ) → longest p (decomposed Nfkd p x) ≤ max_run → stream_safe p x ≡ x
   stream_safe-short = by_last (λ x. longest p (decomposed Nfkd p x) ≤ max_run → stream_safe p x ≡ x) (λ _. refl) more
@@ -178,23 +162,17 @@ module _ (p : Properties) where
 
     -- ---- its rows
 
-    own-canonical : (x : List ℕ) → all_scalars x ≡ true → list_all (is_own p.canonical) (decomposed Nfd p x) ≡ true
-    own-canonical [] scalars = refl
-    own-canonical (c ∷ x) scalars =
+    list_all-rows : (test : ℕ → Bool) (row : ℕ → List ℕ) → ((c : ℕ) → IsScalar c → list_all test (row c) ≡ true) → (x : List ℕ) → all_scalars x ≡ true → list_all test (flat_map row x) ≡ true
+    list_all-rows test row each [] scalars = refl
+    list_all-rows test row each (c ∷ x) scalars =
         let parts = and_parts _ _ scalars in
-        list_all-append (is_own p.canonical) (p.canonical c) _ ∙ and_from _ _ (own-full p.canonical (p.canonical c) (audited c parts.0).full.0) (own-canonical x parts.1)
+        list_all-append test (row c) _ ∙ and_from _ _ (each c parts.0) (list_all-rows test row each x parts.1)
 
-    own-compat : (x : List ℕ) → all_scalars x ≡ true → list_all (is_own p.compat) (decomposed Nfkd p x) ≡ true
-    own-compat [] scalars = refl
-    own-compat (c ∷ x) scalars =
-        let parts = and_parts _ _ scalars in
-        list_all-append (is_own p.compat) (p.compat c) _ ∙ and_from _ _ (own-full p.compat (p.compat c) (audited c parts.0).full.1) (own-compat x parts.1)
+    full-rows : (f : Form) (c : ℕ) → IsScalar c → IsFullText (row_of f p) (row_of f p c)
+    full-rows f c is = of_rows p (λ row. IsFullText row (row c)) (audited c is).full.0 (audited c is).full.1 f
 
     own-marks : (x : List ℕ) → all_scalars x ≡ true → list_all has_own_mark (decomposed Nfd p x) ≡ true
-    own-marks [] scalars = refl
-    own-marks (c ∷ x) scalars =
-        let parts = and_parts _ _ scalars in
-        list_all-append has_own_mark (p.canonical c) _ ∙ and_from _ _ (has_own_mark-row c (audited c parts.0).marks) (own-marks x parts.1)
+    own-marks = list_all-rows has_own_mark p.canonical (λ c is. has_own_mark-row c (audited c is).marks)
 
     with_class-within : (k : ℕ) (x : List ℕ) → all_scalars x ≡ true → with_class p k (flat_map p.compat (decomposed Nfd p x)) ≡ with_class p k (decomposed Nfkd p x)
     with_class-within k [] scalars = refl
@@ -210,14 +188,17 @@ module _ (p : Properties) where
     pub nfkd-nfd : (x : List ℕ) → all_scalars x ≡ true → normal_form Nfkd p (normal_form Nfd p x) ≡ normal_form Nfkd p x
     nfkd-nfd x scalars = order-compat (decomposed Nfd p x) (own-marks x scalars) ∙ order-same _ _ (λ k. with_class-within k x scalars)
 
-    again : (row : ℕ → List ℕ) (w : List ℕ) → list_all (is_own row) w ≡ true → order p (flat_map row (order p w)) ≡ order p w
-    again row w own = ap (order p) (flat_map-own row (order p w) (list_all-order (is_own row) w own)) ∙ order-order p w
+    -- such a form is the decomposed text in order
+    decomposing : (f : Form) → composes f ≡ false → (w : List ℕ) → finished f p w ≡ order p w
+    decomposing f decomposes w = ap (λ b. arranged b p w) decomposes
 
-    pub normal_form-again : (f : Form) → composes f ≡ false → (x : List ℕ) → all_scalars x ≡ true → normal_form f p (normal_form f p x) ≡ normal_form f p x
-    normal_form-again Nfd decomposes x scalars = again p.canonical (decomposed Nfd p x) (own-canonical x scalars)
-    normal_form-again Nfkd decomposes x scalars = again p.compat (decomposed Nfkd p x) (own-compat x scalars)
-    normal_form-again Nfc decomposes x scalars = cc
-    normal_form-again Nfkc decomposes x scalars = cc
+    normal_form-again : (f : Form) → composes f ≡ false → (x : List ℕ) → all_scalars x ≡ true → normal_form f p (normal_form f p x) ≡ normal_form f p x
+    normal_form-again f decomposes x scalars =
+        let row = row_of f p in
+        let w = decomposed f p x in
+        let own = list_all-rows (is_own row) row (λ c is. own-full row (row c) (full-rows f c is)) x scalars in
+        decomposing f decomposes _ ∙ ap (λ v. order p (flat_map row v)) (decomposing f decomposes w)
+        ∙ ap (order p) (flat_map-own row (order p w) (list_all-order (is_own row) w own)) ∙ order-order p w ∙ sym (decomposing f decomposes w)
 
     nfkd-form : (f : Form) → composes f ≡ false → (x : List ℕ) → all_scalars x ≡ true → normal_form Nfkd p (normal_form f p x) ≡ normal_form Nfkd p x
     nfkd-form Nfd decomposes x scalars = nfkd-nfd x scalars
@@ -229,7 +210,7 @@ module _ (p : Properties) where
 
     module _ (f : Form) (decomposes : composes f ≡ false) (x : List ℕ) (scalars : all_scalars x ≡ true) where
       safe_scalars : all_scalars (stream_safe p x) ≡ true
-      safe_scalars = scalars-all (stream_safe p x) ∙ list_all-stream_safe scalar refl x (sym (scalars-all x) ∙ scalars)
+      safe_scalars = scalars-all (stream_safe p x) ∙ list_all-stream_safe p scalar refl x (sym (scalars-all x) ∙ scalars)
 
       pub stream_safe-again : stream_safe p (safe_form f p x) ≡ safe_form f p x
       unfolding safe_form
@@ -246,27 +227,12 @@ module _ (p : Properties) where
 
     -- ---- it is a text again
 
-    scalars-decomposed : (f : Form) → composes f ≡ false → (x : List ℕ) → all_scalars x ≡ true → list_all scalar (decomposed f p x) ≡ true
-    scalars-decomposed f decomposes [] scalars = refl
-    scalars-decomposed f decomposes (c ∷ x) scalars =
-        let parts = and_parts _ _ scalars in
-        list_all-append scalar (row_of f p c) _ ∙ and_from _ _ (row f decomposes (audited c parts.0).full) (scalars-decomposed f decomposes x parts.1)
-      where
-        row : (f : Form) → composes f ≡ false → HasFullRows p c → list_all scalar (row_of f p c) ≡ true
-        row Nfd decomposes full = scalar-full p.canonical (p.canonical c) full.0
-        row Nfkd decomposes full = scalar-full p.compat (p.compat c) full.1
-        row Nfc decomposes full = cc
-        row Nfkc decomposes full = cc
-
-    scalars-normal_form : (f : Form) → composes f ≡ false → (x : List ℕ) → all_scalars x ≡ true → all_scalars (normal_form f p x) ≡ true
-    scalars-normal_form Nfd decomposes x scalars = scalars-all (order p (decomposed Nfd p x)) ∙ list_all-order scalar (decomposed Nfd p x) (scalars-decomposed Nfd refl x scalars)
-    scalars-normal_form Nfkd decomposes x scalars = scalars-all (order p (decomposed Nfkd p x)) ∙ list_all-order scalar (decomposed Nfkd p x) (scalars-decomposed Nfkd refl x scalars)
-    scalars-normal_form Nfc decomposes x scalars = cc
-    scalars-normal_form Nfkc decomposes x scalars = cc
-
     scalars-safe_form : (f : Form) → composes f ≡ false → (x : List ℕ) → all_scalars x ≡ true → all_scalars (safe_form f p x) ≡ true
     unfolding safe_form
-    scalars-safe_form f decomposes x scalars = scalars-normal_form f decomposes (stream_safe p x) (safe_scalars f decomposes x scalars)
+    scalars-safe_form f decomposes x scalars =
+        let w = decomposed f p (stream_safe p x) in
+        let rows = list_all-rows scalar (row_of f p) (λ c is. scalar-full (row_of f p) (row_of f p c) (full-rows f c is)) (stream_safe p x) (safe_scalars f decomposes x scalars) in
+        scalars-all (finished f p w) ∙ ap (list_all scalar) (decomposing f decomposes w) ∙ list_all-order scalar w rows
 
     pub changes_once : (f : Form) → composes f ≡ false → ChangesOnce f p
     changes_once f decomposes = record {

@@ -13,7 +13,7 @@ use Rattle.nf_forms.specs.Order.{by_class}
 use Rattle.nf_forms.specs.Laws.Runs.{has_starter-append}
 use Rattle.nf_forms.specs.Laws.Front.{has_starter-at, front-append_some, marks_push}
 use Rattle.nf_forms.specs.Laws.Sound.{IsSoundText}
-use Rattle.nf_forms.specs.Laws.StreamSafe.{stream_safe-push, decomposed-push, trail-decomposed-push, trail-stream_safe-le}
+use Rattle.nf_forms.specs.Laws.StreamSafe.{own_row, stream_safe-push, decomposed-push, trail-decomposed-push, trail-stream_safe-le}
 use Rattle.nf_forms.specs.SafeForm.{safe_form}
 use Rattle.nf_forms.specs.Parting.{IsParting}
 use Rattle.nf_forms.specs.Calm.{IsMark, BeginsRun, StaysBehind, GoesOn, IsCalmFrom, IsCalm}
@@ -74,10 +74,7 @@ module _ (p : Properties) where
       }
 
   pub row-mark : (f : Form) (c k : ℕ) → IsMark p c k → row_of f p c ≡ c ∷ []
-  row-mark Nfc c k h = h.canonical
-  row-mark Nfd c k h = h.canonical
-  row-mark Nfkc c k h = h.compat
-  row-mark Nfkd c k h = h.compat
+  row-mark f c k h = own_row p c h.canonical h.compat f
 
   pub mark-not_starter : (c k : ℕ) → IsMark p c k → is_starter p c ≡ false
   mark-not_starter c k h = let is = h.class in let some = h.above in ne_eqb (p.class c) 0 (λ e. absurd (omega arith))

@@ -1,5 +1,5 @@
--- Calm text grows at its end: the steps of a loop that looks at a character after the other.
-use Rattle.std.proofs.Common.{◌≡◌, ℕ, inl, Bool, true, List, [], ◌∷◌, ◌++◌, refl, sym, subst, arith}
+-- Calm text that a loop begins with: nothing, and characters that all part a text.
+use Rattle.std.proofs.Common.{◌≡◌, ℕ, inl, Bool, true, List, [], ◌∷◌, refl, arith}
 use Rattle.std.proofs.lemmas.Bool.{and_parts}
 use Rattle.std.specs.List.{list_all}
 use Rattle.nf_forms.specs.Properties.{Properties}
@@ -7,20 +7,13 @@ use Rattle.nf_forms.specs.declared.form.Form.{Form}
 use Rattle.nf_forms.specs.StreamSafe.{max_run}
 use Rattle.nf_forms.specs.Sound.{max_row, is_sound}
 use Rattle.nf_forms.specs.Parting.{IsParting}
-use Rattle.nf_forms.specs.Calm.{BeginsRun, GoesOn, IsCalmFrom, IsCalm}
+use Rattle.nf_forms.specs.Calm.{BeginsRun, IsCalmFrom, IsCalm}
 use Rattle.nf_forms.specs.Laws.Runs.{trail-le-length}
 use Rattle.nf_forms.specs.Laws.Sound.{IsSound-from_test}
 
 module _ (p : Properties) (f : Form) where
   pub calm_none : IsCalm p f [] 0 max_run
   calm_none = (refl, refl)
-
-  pub calm_from-push : (k n : ℕ) (cs : List ℕ) (class count : ℕ) → IsCalmFrom p f k n cs class count → (d class' count' : ℕ) → GoesOn p f class count d class' count'
-      → IsCalmFrom p f k n (cs ++ d ∷ []) class' count'
-  calm_from-push k n [] class count calm d class' count' more =
-      (class', count', subst (λ a. GoesOn p f a n d class' count') (sym (calm.0)) (subst (λ a. GoesOn p f class a d class' count') (sym (calm.1)) more), (refl, refl))
-  calm_from-push k n (c ∷ cs) class count calm d class' count' more =
-      (calm.0, calm.1, calm.2, calm_from-push calm.0 calm.1 cs class count calm.3 d class' count' more)
 
   -- behind a sound character that parts a text NFKD ends in no more marks than a row has members
   pub begins_run : (c : ℕ) → IsParting p f c → is_sound p c ≡ true → BeginsRun p f c max_row

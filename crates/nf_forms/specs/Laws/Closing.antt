@@ -1,23 +1,23 @@
 -- A text cut behind a character that closes it: its order, composition, form, stream-safe text and both together.
-use Rattle.std.proofs.Common.{◌≡◌, ℕ, ◌+◌, Bool, true, false, nat_lt, List, [], ◌∷◌, ◌++◌, length, None, refl, sym, ap, ◌∙◌, ⊎_elim, arith, append-nil, append_assoc}
+use Rattle.std.proofs.Common.{◌≡◌, ℕ, ◌+◌, Bool, true, false, List, [], ◌∷◌, ◌++◌, length, None, refl, sym, ap, ◌∙◌, ⊎_elim, arith, append-nil, append_assoc}
 use Rattle.std.proofs.lemmas.Bool.{cases_Bool, cond-true}
 use Rattle.std.proofs.lemmas.List.Sums.{fold-append}
 use Rattle.std.specs.Prelude.{fold, if◌then◌else◌}
 use Rattle.nf_forms.specs.Properties.{Properties, is_starter}
-use Rattle.nf_forms.specs.Runs.{has_starter, lead, trail}
+use Rattle.nf_forms.specs.Runs.{has_starter, trail}
 use Rattle.nf_forms.specs.Order.{order}
 use Rattle.nf_forms.specs.Compose.{composite, replaced, compose_step, compose}
 use Rattle.nf_forms.specs.declared.form.Form.{Form}
 use Rattle.nf_forms.specs.declared.form.Form.TheVariants.{Nfkd}
 use Rattle.nf_forms.specs.Forms.{decomposed, composes, arranged, finished, normal_form}
-use Rattle.nf_forms.specs.StreamSafe.{joiner, max_run, is_too_long, parted, safe_step, stream_safe}
+use Rattle.nf_forms.specs.StreamSafe.{parted, safe_step, stream_safe}
 use Rattle.nf_forms.specs.SafeForm.{safe_form}
 use Rattle.nf_forms.specs.Closing.{IsClosing}
 use Rattle.nf_forms.specs.Laws.Runs.{trail-append, trail-marks, trail-push}
 use Rattle.nf_forms.specs.Laws.Order.{order_after-at, order-push_starter}
 use Rattle.nf_forms.specs.Laws.Compose.{compose_step-at, compose_step-none}
 use Rattle.nf_forms.specs.Laws.StreamSafe.{stream_safe-push, decomposed-append, decomposed-push}
-use Rattle.nf_forms.specs.Laws.Parting.{last_run, joined-none, step-never_second, step-behind}
+use Rattle.nf_forms.specs.Laws.Parting.{last_run, joined-none, step-never_second, step-behind, safe_step-behind}
 
 module _ (p : Properties) where
   -- ---- decomposed text
@@ -76,18 +76,9 @@ module _ (p : Properties) where
       next true all = refl
       next false all = omega (arith, ends, all refl)
 
-  safe_step-closed : (o z : List ℕ) (d : ℕ) → last_run p o ≡ 0 → safe_step p (o ++ z) d ≡ o ++ safe_step p z d
-  safe_step-closed o z d ends =
-      ap (λ b. (if b then (o ++ z) ++ joiner ∷ [] else o ++ z) ++ d ∷ []) (ap (λ n. nat_lt max_run (n + lead p (p.compat d))) (run-closed o z ends))
-      ∙ next (is_too_long p z d)
-    where
-      next : (b : Bool) → (if b then (o ++ z) ++ joiner ∷ [] else o ++ z) ++ d ∷ [] ≡ o ++ ((if b then z ++ joiner ∷ [] else z) ++ d ∷ [])
-      next true = ap (λ k. k ++ d ∷ []) (append_assoc o z (joiner ∷ [])) ∙ append_assoc o (z ++ joiner ∷ []) (d ∷ [])
-      next false = append_assoc o z (d ∷ [])
-
   pub safe-closed : (o z y : List ℕ) → last_run p o ≡ 0 → fold (safe_step p) (o ++ z) y ≡ o ++ fold (safe_step p) z y
   safe-closed o z [] ends = refl
-  safe-closed o z (d ∷ y) ends = ap (λ k. fold (safe_step p) k y) (safe_step-closed o z d ends) ∙ safe-closed o (safe_step p z d) y ends
+  safe-closed o z (d ∷ y) ends = ap (λ k. fold (safe_step p) k y) (safe_step-behind p o z d (run-closed o z ends)) ∙ safe-closed o (safe_step p z d) y ends
 
   module _ (f : Form) (c : ℕ) (h : IsClosing p f c) (x y : List ℕ) where
     pub stream_safe-closed : stream_safe p ((x ++ c ∷ []) ++ y) ≡ stream_safe p (x ++ c ∷ []) ++ stream_safe p y

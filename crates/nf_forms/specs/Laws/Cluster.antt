@@ -7,7 +7,7 @@ use Rattle.nf_forms.specs.Runs.{has_starter, lead, trail}
 use Rattle.nf_forms.specs.Ordering.{is_reorderable, is_ordered}
 use Rattle.nf_forms.specs.Compose.{is_blocked, joined, replaced, compose_step, compose}
 use Rattle.nf_forms.specs.declared.form.Form.{Form}
-use Rattle.nf_forms.specs.declared.form.Form.TheVariants.{Nfc, Nfd, Nfkc, Nfkd}
+use Rattle.nf_forms.specs.declared.form.Form.TheVariants.{Nfkd}
 use Rattle.nf_forms.specs.Forms.{row_of, composes, arranged}
 use Rattle.nf_forms.specs.StreamSafe.{max_run, safe_step}
 use Rattle.nf_forms.specs.Closed.{BeginsAtBoundary, HasForm}
@@ -17,15 +17,12 @@ use Rattle.nf_forms.specs.Laws.Front.{marks_push}
 use Rattle.nf_forms.specs.Laws.Ordering.{order-ordered}
 use Rattle.nf_forms.specs.Laws.Compose.{compose-push, compose_step-at, joined-some, joined-starter}
 use Rattle.nf_forms.specs.Laws.Sound.{IsSoundText}
-use Rattle.nf_forms.specs.Laws.StreamSafe.{stream_safe-push, decomposed-push}
+use Rattle.nf_forms.specs.Laws.StreamSafe.{own_row, stream_safe-push, decomposed-push}
 use Rattle.nf_forms.specs.Laws.Parting.{safe_step-room}
 
 module _ (p : Properties) where
   pub row-own : (f : Form) (c : ℕ) → IsOwnRow p c → row_of f p c ≡ c ∷ []
-  row-own Nfc c own = own.canonical
-  row-own Nfd c own = own.canonical
-  row-own Nfkc c own = own.compat
-  row-own Nfkd c own = own.compat
+  row-own f c own = own_row p c own.canonical own.compat f
 
   lead-one : (c : ℕ) → lead p (c ∷ []) ≤ 1
   lead-one c = next (is_starter p c)

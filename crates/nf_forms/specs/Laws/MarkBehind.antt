@@ -20,6 +20,7 @@ use Rattle.nf_forms.specs.Laws.Order.{order-behind, order-marks, by_class-push, 
 use Rattle.nf_forms.specs.Laws.Ordering.{ordered-tail, ordering}
 use Rattle.nf_forms.specs.Laws.Starters.{has_starter-order}
 use Rattle.nf_forms.specs.Laws.Compose.{compose_step-at, compose_step-none, joined-starter}
+use Rattle.nf_forms.specs.Laws.Parting.{joined-none}
 
 module _ (p : Properties) where
   -- no member is of a class above k
@@ -123,11 +124,7 @@ module _ (p : Properties) where
 
   joins-none : (b : Bool) (s : ℕ) (m : List ℕ) (c : ℕ) → (b ≡ true → (a : ℕ) → composite p a c ≡ None) → joins b s m c ≡ None
   joins-none false s m c never = refl
-  joins-none true s m c never = next (is_blocked p m c) (composite p s c) (never refl s)
-    where
-      next : (h : Bool) (o : Option ℕ) → o ≡ None → (if h then None else o) ≡ None
-      next true o e = refl
-      next false o e = e
+  joins-none true s m c never = joined-none p s m c (never refl s)
 
   some-step : (b : Bool) (z : List ℕ) (c : ℕ) → (has_starter p z || is_starter p c) ≡ true → has_starter p (step b z c) ≡ true
   some-step b z c some = ⊎_elim at (none b) (cases_Bool (has_starter p z))

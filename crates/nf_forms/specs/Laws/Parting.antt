@@ -119,9 +119,10 @@ module _ (p : Properties) where
   pub run-behind : (o z : List ℕ) → has_starter p (decomposed Nfkd p z) ≡ true → last_run (o ++ z) ≡ last_run z
   run-behind o z some = ap (trail p) (decomposed-append p Nfkd o z) ∙ trail-append p (decomposed Nfkd p o) (decomposed Nfkd p z) ∙ cond-true _ _ _ some
 
-  safe-step-behind : (o z : List ℕ) (c : ℕ) → has_starter p (decomposed Nfkd p z) ≡ true → safe_step p (o ++ z) c ≡ o ++ safe_step p z c
-  safe-step-behind o z c some =
-      ap (λ b. (if b then (o ++ z) ++ joiner ∷ [] else o ++ z) ++ c ∷ []) (ap (λ n. nat_lt max_run (n + lead p (p.compat c))) (run-behind o z some))
+  -- where the count reads no more than z, neither does a step
+  pub safe_step-behind : (o z : List ℕ) (c : ℕ) → last_run (o ++ z) ≡ last_run z → safe_step p (o ++ z) c ≡ o ++ safe_step p z c
+  safe_step-behind o z c same =
+      ap (λ b. (if b then (o ++ z) ++ joiner ∷ [] else o ++ z) ++ c ∷ []) (ap (λ n. nat_lt max_run (n + lead p (p.compat c))) same)
       ∙ next (is_too_long p z c)
     where
       next : (b : Bool) → (if b then (o ++ z) ++ joiner ∷ [] else o ++ z) ++ c ∷ [] ≡ o ++ ((if b then z ++ joiner ∷ [] else z) ++ c ∷ [])
@@ -141,7 +142,7 @@ module _ (p : Properties) where
   safe-behind : (o z y : List ℕ) → has_starter p (decomposed Nfkd p z) ≡ true → fold (safe_step p) (o ++ z) y ≡ o ++ fold (safe_step p) z y
   safe-behind o z [] some = refl
   safe-behind o z (c ∷ y) some =
-      ap (λ k. fold (safe_step p) k y) (safe-step-behind o z c some) ∙ safe-behind o (safe_step p z c) y (some-step z c some)
+      ap (λ k. fold (safe_step p) k y) (safe_step-behind o z c (run-behind o z some)) ∙ safe-behind o (safe_step p z c) y (some-step z c some)
 
   -- where there is room for c, nothing is put before it
   pub safe_step-room : (o : List ℕ) (c : ℕ) → last_run o + lead p (p.compat c) ≤ max_run → safe_step p o c ≡ o ++ c ∷ []

@@ -3,6 +3,7 @@ use Rattle.std.proofs.Common.{◌≡◌, ℕ, suc, ◌+◌, ◌≤◌, max, Bool
 use Rattle.std.proofs.lemmas.List.{reverse-append, length-reverse}
 use Rattle.std.proofs.lemmas.List.Folds.{list_any-append}
 use Rattle.std.proofs.lemmas.List.Sums.{prefix_len-le-length, suffix_len-le-length}
+use Rattle.std.proofs.lemmas.List.Sorted.{IsPermutation-reverse, list_any-IsPermutation}
 use Rattle.std.specs.Prelude.{if◌then◌else◌}
 use Rattle.std.specs.List.{prefix_len}
 use Rattle.nf_forms.specs.Properties.{Properties, is_starter, is_nonstarter}
@@ -28,16 +29,7 @@ module _ (p : Properties) where
       next false false n m l k e = omega arith
 
   has_starter-reverse : (w : List ℕ) → has_starter p (reverse w) ≡ has_starter p w
-  has_starter-reverse [] = refl
-  has_starter-reverse (c ∷ w) =
-      ap (has_starter p) (reverse-append (c ∷ []) w) ∙ has_starter-append (reverse w) (c ∷ [])
-      ∙ swap (has_starter p (reverse w)) (is_starter p c) ∙ ap (λ b. is_starter p c || b) (has_starter-reverse w)
-    where
-      swap : (a b : Bool) → (a || (b || false)) ≡ (b || a)
-      swap true true = refl
-      swap true false = refl
-      swap false true = refl
-      swap false false = refl
+  has_starter-reverse w = sym (list_any-IsPermutation (is_starter p) w (reverse w) (IsPermutation-reverse w))
 
   pub trail-append : (w v : List ℕ) → trail p (w ++ v) ≡ (if has_starter p v then trail p v else length v + trail p w)
   trail-append w v =

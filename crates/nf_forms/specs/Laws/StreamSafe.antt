@@ -1,6 +1,6 @@
 -- The stream-safe text and its decompositions as the text grows at its end, and how long their runs are.
-use Rattle.std.proofs.Common.{◌≡◌, ℕ, ◌+◌, ◌≤◌, Bool, true, false, List, [], ◌∷◌, ◌++◌, length, take, drop, max, refl, sym, ap, ◌∙◌, arith, append-nil, ◌==◌}
-use Rattle.std.proofs.lemmas.Bool.{and_from, ltb-false}
+use Rattle.std.proofs.Common.{flat_map, ◌≡◌, ℕ, ◌+◌, ◌≤◌, Bool, true, false, List, [], ◌∷◌, ◌++◌, length, take, drop, max, refl, sym, ap, ◌∙◌, arith, append-nil, ◌==◌}
+use Rattle.std.proofs.lemmas.Bool.{and_from, and_parts, ltb-false}
 use Rattle.std.proofs.lemmas.Grind.{flat_map-append}
 use Rattle.std.proofs.lemmas.List.{length-take, take-append-drop}
 use Rattle.std.proofs.lemmas.List.Folds.{list_all-append}
@@ -20,6 +20,16 @@ use Rattle.nf_forms.specs.Laws.Runs.{lead-le-length, trail-le-length, lead-appen
 use Rattle.nf_forms.specs.Laws.Sound.{JoinerIsPlain, IsSound, IsSoundText, IsSound-from_test, JoinerIsPlain-from_sound, sound_last, lead-joiner}
 
 module _ (p : Properties) where
+  -- what holds of the rows of both kinds holds of those that a form asks for
+  pub of_rows : (P : (ℕ → List ℕ) → Type 0) → P p.canonical → P p.compat → (f : Form) → P (row_of f p)
+  of_rows P canonical compat Nfc = canonical
+  of_rows P canonical compat Nfd = canonical
+  of_rows P canonical compat Nfkc = compat
+  of_rows P canonical compat Nfkd = compat
+
+  pub own_row : (c : ℕ) → p.canonical c ≡ c ∷ [] → p.compat c ≡ c ∷ [] → (f : Form) → row_of f p c ≡ c ∷ []
+  own_row c canonical compat = of_rows (λ row. row c ≡ c ∷ []) canonical compat
+
   pub stream_safe-push : (x : List ℕ) (c : ℕ) → stream_safe p (x ++ c ∷ []) ≡ safe_step p (stream_safe p x) c
   stream_safe-push x c = fold-append (safe_step p) [] x (c ∷ [])
 
@@ -37,24 +47,28 @@ module _ (p : Properties) where
       ≡ max (longest p (decomposed f p x)) (max (trail p (decomposed f p x) + lead p (row_of f p c)) (longest p (row_of f p c)))
   longest-decomposed-push f x c = ap (longest p) (decomposed-push f x c) ∙ longest-append p (decomposed f p x) (row_of f p c)
 
+  -- where the joiner passes a test, what passes it does so as stream-safe text too
+  pub list_all-stream_safe : (test : ℕ → Bool) → test joiner ≡ true → (x : List ℕ) → list_all test x ≡ true → list_all test (stream_safe p x) ≡ true
+  list_all-stream_safe test joins = by_last (λ x. list_all test x ≡ true → list_all test (stream_safe p x) ≡ true) (λ _. refl) more
+    where
+      push : (o : List ℕ) (c : ℕ) → list_all test o ≡ true → test c ≡ true → list_all test (o ++ c ∷ []) ≡ true
+      push o c front last = list_all-append test o (c ∷ []) ∙ and_from _ _ front (and_from _ _ last refl)
+
+      parts : (b : Bool) (o : List ℕ) → list_all test o ≡ true → list_all test (if b then o ++ joiner ∷ [] else o) ≡ true
+      parts true o all = push o joiner all joins
+      parts false o all = all
+
+      more : (x : List ℕ) (c : ℕ) → (list_all test x ≡ true → list_all test (stream_safe p x) ≡ true)
+          → list_all test (x ++ c ∷ []) ≡ true → list_all test (stream_safe p (x ++ c ∷ [])) ≡ true
+      more x c before all =
+          let members = and_parts _ _ (sym (list_all-append test x (c ∷ [])) ∙ all) in
+          let out = stream_safe p x in
+          ap (list_all test) (stream_safe-push x c)
+          ∙ push (parted p out c) c (parts (is_too_long p out c) out (before members.0)) (and_parts _ _ members.1).0
+
   -- where the joiner is sound, the process puts nothing unsound
   pub sound-stream_safe : is_sound p joiner ≡ true → (x : List ℕ) → IsSoundText p x → IsSoundText p (stream_safe p x)
-  sound-stream_safe joiner_sound = by_last (λ x. IsSoundText p x → IsSoundText p (stream_safe p x)) (λ _. refl) more
-    where
-      push : (o : List ℕ) (c : ℕ) → IsSoundText p o → is_sound p c ≡ true → IsSoundText p (o ++ c ∷ [])
-      push o c front last = list_all-append (is_sound p) o (c ∷ []) ∙ and_from _ _ front (and_from _ _ last refl)
-
-      parts : (b : Bool) (o : List ℕ) → IsSoundText p o → IsSoundText p (if b then o ++ joiner ∷ [] else o)
-      parts true o sound = push o joiner sound joiner_sound
-      parts false o sound = sound
-
-      more : (x : List ℕ) (c : ℕ) → (IsSoundText p x → IsSoundText p (stream_safe p x))
-          → IsSoundText p (x ++ c ∷ []) → IsSoundText p (stream_safe p (x ++ c ∷ []))
-      more x c before sound =
-          let members = sound_last p x c sound in
-          let out = stream_safe p x in
-          ap (λ o. list_all (is_sound p) o) (stream_safe-push x c)
-          ∙ push (parted p out c) c (parts (is_too_long p out c) out (before members.0)) members.1
+  sound-stream_safe = list_all-stream_safe (is_sound p)
 
   -- where a step puts nothing unsound, what stood before is sound, and the joiner is plain if it is put
   pub sound-safe_step : (o : List ℕ) (c : ℕ) → IsSoundText p (safe_step p o c)
@@ -67,14 +81,8 @@ module _ (p : Properties) where
 
   pub trail-decomposed-joiner : JoinerIsPlain p → (f : Form) (o : List ℕ) → trail p (decomposed f p (o ++ joiner ∷ [])) ≡ 0
   trail-decomposed-joiner plain f o =
-      ap (trail p) (decomposed-push f o joiner ∙ ap (λ row. decomposed f p o ++ row) (row f))
+      ap (trail p) (decomposed-push f o joiner ∙ ap (λ row. decomposed f p o ++ row) (own_row joiner plain.canonical plain.compat f))
       ∙ trail-push p (decomposed f p o) joiner ∙ ap (λ k. if k == 0 then 0 else trail p (decomposed f p o) + 1) plain.class
-    where
-      row : (f : Form) → row_of f p joiner ≡ joiner ∷ []
-      row Nfc = plain.canonical
-      row Nfd = plain.canonical
-      row Nfkc = plain.compat
-      row Nfkd = plain.compat
 
   -- no form ends in more non-starters than NFKD
   canonical-le : (o : List ℕ) → IsSoundText p o → trail p (decomposed Nfd p o) ≤ trail p (decomposed Nfkd p o)
@@ -97,10 +105,7 @@ module _ (p : Properties) where
           row.marks_agree (trail-marks p (p.canonical c)) (trail-marks p (p.compat c)) row.trail_within (before parts.0)
 
   pub trail-decomposed-le : (f : Form) (o : List ℕ) → IsSoundText p o → trail p (decomposed f p o) ≤ trail p (decomposed Nfkd p o)
-  trail-decomposed-le Nfc o sound = canonical-le o sound
-  trail-decomposed-le Nfd o sound = canonical-le o sound
-  trail-decomposed-le Nfkc o sound = omega arith
-  trail-decomposed-le Nfkd o sound = omega arith
+  trail-decomposed-le f o sound = of_rows (λ row. trail p (flat_map row o) ≤ trail p (decomposed Nfkd p o)) (canonical-le o sound) (omega arith) f
 
   -- before c, and a joiner where it needs one, there is room for the run that c begins with
   pub trail-parted-le : (o : List ℕ) (c : ℕ) → IsSoundText p (safe_step p o c)
@@ -130,24 +135,14 @@ module _ (p : Properties) where
   trail-take-le f o c n sound =
       let members = sound_last p (parted p o c) c sound in
       let row = IsSound-from_test p c members.1 in
+      let few : length (take n (row_of f p c)) ≤ max_row = of_rows (λ row_of. length (take n (row_of c)) ≤ max_row)
+      (omega (arith, length-take n (p.canonical c), row.canonical_few)) (omega (arith, length-take n (p.compat c), row.compat_few)) f in
       next (has_starter p (take n (row_of f p c))) _ (trail p (take n (row_of f p c))) (length (take n (row_of f p c)))
       (trail p (decomposed f p (parted p o c))) _ (lead p (row_of f p c)) _
       (trail-append p (decomposed f p (parted p o c)) (take n (row_of f p c)))
-      (trail-le-length p (take n (row_of f p c))) (few f row) (length-take-le-lead n (row_of f p c)) (within f row)
+      (trail-le-length p (take n (row_of f p c))) few (length-take-le-lead n (row_of f p c)) (of_rows (λ row_of. lead p (row_of c) ≤ lead p (p.compat c)) row.lead_within (omega arith) f)
       (trail-decomposed-le f (parted p o c) members.0) (trail-parted-le o c sound)
     where
-      few : (f : Form) → IsSound p c → length (take n (row_of f p c)) ≤ max_row
-      few Nfc row = omega (arith, length-take n (p.canonical c), row.canonical_few)
-      few Nfd row = omega (arith, length-take n (p.canonical c), row.canonical_few)
-      few Nfkc row = omega (arith, length-take n (p.compat c), row.compat_few)
-      few Nfkd row = omega (arith, length-take n (p.compat c), row.compat_few)
-
-      within : (f : Form) → IsSound p c → lead p (row_of f p c) ≤ lead p (p.compat c)
-      within Nfc row = row.lead_within
-      within Nfd row = row.lead_within
-      within Nfkc row = omega arith
-      within Nfkd row = omega arith
-
       next : (b : Bool) (t own len before all first lead_k : ℕ) → t ≡ (if b then own else len + before) → own ≤ len → len ≤ max_row
           → (b ≡ false → len ≤ first) → first ≤ lead_k → before ≤ all → all + lead_k ≤ max_run → t ≤ max_run
       next true t own len before all first lead_k e g h i j k l = omega arith
