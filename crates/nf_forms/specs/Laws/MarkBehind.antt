@@ -1,12 +1,12 @@
 -- A mark more behind a text in form: one that composes with nothing before it, and of a class no smaller than those of
 -- the marks at the end, stands at the end of the form too.
-use Rattle.std.proofs.Common.{◌≡◌, ℕ, suc, ◌+◌, ◌≤◌, ◌<◌, Bool, true, false, not, ◌||◌, ◌&&◌, cond, eqb, ltb, leb, List, [], ◌∷◌, ◌++◌, Option, Some, None, refl, sym, ap, subst, ◌∙◌, ⊎_elim, arith, append-nil, append_assoc, lt-ltb, leb-true, ltb-true, leb-false}
+use Rattle.std.proofs.Common.{◌≡◌, ℕ, ◌≤◌, ◌<◌, Bool, true, false, ◌||◌, ltb, leb, List, [], ◌∷◌, ◌++◌, Option, Some, None, refl, sym, ap, subst, ◌∙◌, ⊎_elim, arith, append-nil, append_assoc, leb-true, ltb-true}
 use Rattle.std.proofs.lemmas.Bool.{cases_Bool, cond-true, or_left, or_right, or_parts, or_from, and_parts, and_from, lt-leb}
 use Rattle.std.proofs.lemmas.Bool.Decides.{nat_tests}
 use Rattle.std.proofs.lemmas.List.Folds.{list_all-append}
 use Rattle.std.proofs.lemmas.List.Sums.{fold-append}
-use Rattle.std.specs.List.{list_all, prefix_len}
-use Rattle.std.specs.Prelude.{fold, insert, if◌then◌else◌}
+use Rattle.std.specs.List.{list_all}
+use Rattle.std.specs.Prelude.{fold, if◌then◌else◌}
 use Rattle.nf_forms.specs.Properties.{Properties, is_starter}
 use Rattle.nf_forms.specs.Runs.{has_starter, trail}
 use Rattle.nf_forms.specs.Front.{back}
@@ -16,8 +16,9 @@ use Rattle.nf_forms.specs.Compose.{composite, is_blocked, joined, replaced, comp
 use Rattle.nf_forms.specs.Forms.{arranged}
 use Rattle.nf_forms.specs.Laws.Runs.{has_starter-append, trail-push}
 use Rattle.nf_forms.specs.Laws.Front.{has_starter-at, back-at, marks_push, EndsInGroup, last_starter}
-use Rattle.nf_forms.specs.Laws.Order.{order-behind, order-marks, by_class-push, has_starter-by_class, not_above}
-use Rattle.nf_forms.specs.Laws.Ordering.{ordered-tail, ordering}
+pub use Rattle.nf_forms.specs.Laws.Order.{all_above, IsPlaced, placed}
+use Rattle.nf_forms.specs.Laws.Order.{order-behind, by_class-push, has_starter-by_class}
+use Rattle.nf_forms.specs.Laws.Ordering.{by_class-ordered}
 use Rattle.nf_forms.specs.Laws.Starters.{has_starter-order}
 use Rattle.nf_forms.specs.Laws.Compose.{compose_step-at, compose_step-none, joined-starter}
 use Rattle.nf_forms.specs.Laws.Parting.{joined-none}
@@ -26,10 +27,6 @@ module _ (p : Properties) where
   -- no member is of a class above k
   abbrev pub none_above : ℕ → List ℕ → Bool
   none_above k m = list_all (λ x. leb (p.class x) k) m
-
-  -- each is
-  abbrev pub all_above : ℕ → List ℕ → Bool
-  all_above k m = list_all (λ x. ltb k (p.class x)) m
 
   pub none_above-le : (j k : ℕ) (m : List ℕ) → j ≤ k → none_above j m ≡ true → none_above k m ≡ true
   none_above-le j k [] le all = refl
@@ -43,57 +40,16 @@ module _ (p : Properties) where
   pub none_above-push : (k : ℕ) (m : List ℕ) (c : ℕ) → none_above k m ≡ true → leb (p.class c) k ≡ true → none_above k (m ++ c ∷ []) ≡ true
   none_above-push k m c all last = list_all-append (λ x. leb (p.class x) k) m (c ∷ []) ∙ and_from _ _ all (and_from _ _ last refl)
 
-  both-none : (k : ℕ) (m : List ℕ) → none_above k m ≡ true → all_above k m ≡ true → m ≡ []
+  both-none : (k : ℕ) (m : List ℕ) → none_above k m ≡ true → all_above p k m ≡ true → m ≡ []
   both-none k [] none all = refl
   both-none k (x ∷ m) none all = absurd (apart (p.class x) (and_parts _ _ none).0 (and_parts _ _ all).0)
     where
       apart : (n : ℕ) → leb n k ≡ true → ltb k n ≡ true → ⊥
       apart n h i = let low = leb-true n k h in let high = ltb-true k n i in omega arith
 
-  -- ---- ordering puts the mark before those of a greater class
-
-  -- out is run with c in it, before nothing but marks of greater classes
-  pub record IsPlaced (c : ℕ) (run out : List ℕ) : Type 0 where
-    pub head : List ℕ
-    pub tail : List ℕ
-    pub before : run ≡ head ++ tail
-    pub after : out ≡ head ++ c ∷ tail
-    pub above : all_above (p.class c) tail ≡ true
-
-  above-ordered : (k x : ℕ) (l : List ℕ) → k < p.class x → has_starter p l ≡ false → is_ordered p (x ∷ l) ≡ true → all_above k l ≡ true
-  above-ordered k x [] high marks ordered = refl
-  above-ordered k x (b ∷ l) high marks ordered =
-      let first = and_parts _ _ ordered in
-      let mark = or_parts (is_starter p b) (has_starter p l) marks in
-      let more = rises (p.class b) (p.class x) high mark.0 first.0 in
-      and_from _ _ (lt-ltb k (p.class b) more) (above-ordered k b l more mark.1 first.1)
-    where
-      rises : (n y : ℕ) → k < y → eqb n 0 ≡ false → not (ltb 0 n && ltb n y) ≡ true → k < n
-      rises n y high some kept = grind (arith, nat_tests)
-
-  -- c goes behind the marks that are of no greater class, and before the rest
-  pub placed : (c : ℕ) (run : List ℕ) → has_starter p run ≡ false → is_ordered p run ≡ true → IsPlaced c run (insert run (prefix_len (not_above p c) run) c)
-  placed c [] marks ordered = record { head = []; tail = []; before = refl; after = refl; above = refl }
-  placed c (x ∷ run) marks ordered =
-      next (not_above p c x) refl (prefix_len (not_above p c) run) (placed c run (or_parts (is_starter p x) (has_starter p run) marks).1 (ordered-tail p x run ordered))
-    where
-      next : (b : Bool) → not_above p c x ≡ b → (n : ℕ) → IsPlaced c run (insert run n c) → IsPlaced c (x ∷ run) (insert (x ∷ run) (cond b (1 + n) 0) c)
-      next true e n r =
-          let one_more : 1 + n ≡ suc n = omega arith in
-          record { head = x ∷ r.head; tail = r.tail; before = ap (λ v. x ∷ v) r.before; after = ap (λ k. insert (x ∷ run) k c) one_more ∙ ap (λ v. x ∷ v) r.after; above = r.above }
-      next false e n r =
-          let high : p.class c < p.class x = leb-false (p.class x) (p.class c) e in
-          record {
-            head = [];
-            tail = x ∷ run;
-            before = refl;
-            after = refl;
-            above = and_from _ _ (lt-ltb (p.class c) (p.class x) high) (above-ordered (p.class c) x run high (or_parts (is_starter p x) (has_starter p run) marks).1 ordered);
-          }
-
   -- marks by class are in order
   pub is_ordered-by_class : (run : List ℕ) → has_starter p run ≡ false → is_ordered p (by_class p run) ≡ true
-  is_ordered-by_class run marks = ap (is_ordered p) (sym (order-marks p run marks)) ∙ (ordering p run).ordered
+  is_ordered-by_class run marks = by_class-ordered p run
 
   -- ---- the steps of both kinds of form
 
@@ -184,7 +140,7 @@ module _ (p : Properties) where
     pub other : with_c ≡ e ++ starter ∷ (m1 ++ c ∷ rest)
     pub starts : is_starter p starter ≡ true
     pub marks : has_starter p rest ≡ false
-    pub above : all_above (p.class c) rest ≡ true
+    pub above : all_above p (p.class c) rest ≡ true
 
   moved : (e m1 : List ℕ) (c : ℕ) (x x' y y' : List ℕ) → x' ≡ x → y' ≡ y → Lands e m1 c x y → Lands e m1 c x' y'
   moved e m1 c x x' y y' f g r =
@@ -196,7 +152,7 @@ module _ (p : Properties) where
   module _ (b : Bool) (e m1 : List ℕ) (c : ℕ) (first : has_starter p m1 ≡ false) (mark : is_starter p c ≡ false) where
     -- with c or without it, the starter becomes one and the same
     pub lands : (s : ℕ) (m2 tail : List ℕ) → is_starter p s ≡ true → has_starter p m2 ≡ false → has_starter p tail ≡ false
-        → all_above (p.class c) m2 ≡ true → all_above (p.class c) tail ≡ true
+        → all_above p (p.class c) m2 ≡ true → all_above p (p.class c) tail ≡ true
         → Lands e m1 c (fold (step b) (e ++ s ∷ (m1 ++ m2)) tail) (fold (step b) (e ++ s ∷ (m1 ++ c ∷ m2)) tail)
     lands s m2 [] starts marks more above all = record { starter = s; rest = m2; one = refl; other = refl; starts = starts; marks = marks; above = above }
     lands s m2 (d ∷ tail) starts marks more above all =
@@ -209,12 +165,12 @@ module _ (p : Properties) where
         next (λ t v. lands t v tail) (joins b s (m1 ++ m2) d) refl one other parts.0 parts.1 high.0 high.1
       where
         next : ((t : ℕ) (v : List ℕ) → is_starter p t ≡ true → has_starter p v ≡ false → has_starter p tail ≡ false
-            → all_above (p.class c) v ≡ true → all_above (p.class c) tail ≡ true
+            → all_above p (p.class c) v ≡ true → all_above p (p.class c) tail ≡ true
             → Lands e m1 c (fold (step b) (e ++ t ∷ (m1 ++ v)) tail) (fold (step b) (e ++ t ∷ (m1 ++ c ∷ v)) tail))
             → (o : Option ℕ) → joins b s (m1 ++ m2) d ≡ o
             → step b (e ++ s ∷ (m1 ++ m2)) d ≡ e ++ replaced (joins b s (m1 ++ m2) d) s (m1 ++ m2) d
             → step b (e ++ s ∷ (m1 ++ c ∷ m2)) d ≡ e ++ replaced (joins b s (m1 ++ m2) d) s (m1 ++ c ∷ m2) d
-            → is_starter p d ≡ false → has_starter p tail ≡ false → ltb (p.class c) (p.class d) ≡ true → all_above (p.class c) tail ≡ true
+            → is_starter p d ≡ false → has_starter p tail ≡ false → ltb (p.class c) (p.class d) ≡ true → all_above p (p.class c) tail ≡ true
             → Lands e m1 c (fold (step b) (step b (e ++ s ∷ (m1 ++ m2)) d) tail) (fold (step b) (step b (e ++ s ∷ (m1 ++ c ∷ m2)) d) tail)
         next again (Some t) is one other last rest high highs =
             moved e m1 c _ _ _ _
@@ -241,7 +197,7 @@ module _ (p : Properties) where
       → arranged b p (w ++ c ∷ []) ≡ arranged b p w ++ c ∷ []
   arranged-push_mark b w c some mark never e s m text starts marks low = cut_at (last_starter p w some)
     where
-      landed : (z tail : List ℕ) → EndsInGroup p z → has_starter p tail ≡ false → all_above (p.class c) tail ≡ true
+      landed : (z tail : List ℕ) → EndsInGroup p z → has_starter p tail ≡ false → all_above p (p.class c) tail ≡ true
           → arranged b p w ≡ fold (step b) z tail → arranged b p (w ++ c ∷ []) ≡ fold (step b) (step b z c) tail
           → arranged b p (w ++ c ∷ []) ≡ arranged b p w ++ c ∷ []
       landed z tail g no_starter above one other =
@@ -261,7 +217,7 @@ module _ (p : Properties) where
           ∙ ap (λ v. v ++ c ∷ []) (sym l.one)
 
       put : (head run : List ℕ) → trail p head ≡ 0 → has_starter p head ≡ true → has_starter p run ≡ false → w ≡ head ++ run
-          → IsPlaced c (by_class p run) (by_class p (run ++ c ∷ [])) → arranged b p (w ++ c ∷ []) ≡ arranged b p w ++ c ∷ []
+          → IsPlaced p c (by_class p run) (by_class p (run ++ c ∷ [])) → arranged b p (w ++ c ∷ []) ≡ arranged b p w ++ c ∷ []
       put head run ends begun no_starter parts r =
           let z = fold (step b) [] (order p head ++ r.head) in
           let has = some-fold b [] (order p head ++ r.head) (has_starter-append p (order p head) r.head ∙ or_left _ _ (has_starter-order p head ∙ begun)) in
@@ -281,4 +237,4 @@ module _ (p : Properties) where
       cut_at g =
           put (g.before ++ g.starter ∷ []) g.marks (trail-push p g.before g.starter ∙ cond-true _ _ _ g.starts) (has_starter-at p g.before g.starter [] g.starts) g.no_starter
           (g.text ∙ sym (append_assoc g.before (g.starter ∷ []) g.marks))
-          (subst (λ v. IsPlaced c (by_class p g.marks) v) (sym (by_class-push p g.marks c mark)) (placed c (by_class p g.marks) (has_starter-by_class p g.marks) (is_ordered-by_class g.marks g.no_starter)))
+          (subst (λ v. IsPlaced p c (by_class p g.marks) v) (sym (by_class-push p g.marks c mark)) (placed p c (by_class p g.marks) (has_starter-by_class p g.marks) (is_ordered-by_class g.marks g.no_starter)))
