@@ -1,16 +1,16 @@
 -- Calm text is its own form, whatever stands before it, and what is settled there; a character more.
-use Rattle.std.proofs.Common.{◌≡◌, ℕ, ◌≤◌, ◌+◌, inl, inr, Bool, true, false, cond, List, [], ◌∷◌, ◌++◌, refl, sym, ap, subst, ◌∙◌, arith, append-nil, append_assoc, length, not}
+use Rattle.std.proofs.Common.{◌≡◌, ℕ, ◌≤◌, ◌+◌, inl, inr, Bool, true, false, List, [], ◌∷◌, ◌++◌, refl, sym, ap, subst, ◌∙◌, arith, append-nil, append_assoc, length}
 use Rattle.std.proofs.lemmas.Bool.{cond-true, cond-false, or_left, or_from, ne_eqb, le-leb}
 use Rattle.std.specs.Prelude.{if◌then◌else◌}
 use Rattle.nf_forms.specs.Properties.{Properties, is_starter}
 use Rattle.nf_forms.specs.Runs.{has_starter, lead, trail}
 use Rattle.nf_forms.specs.Front.{front}
 use Rattle.nf_forms.specs.declared.form.Form.{Form}
-use Rattle.nf_forms.specs.declared.form.Form.TheVariants.{Nfc, Nfd, Nfkc, Nfkd}
+use Rattle.nf_forms.specs.declared.form.Form.TheVariants.{Nfkd}
 use Rattle.nf_forms.specs.Forms.{row_of, decomposed, composes, arranged, normal_form}
 use Rattle.nf_forms.specs.StreamSafe.{max_run, stream_safe}
 use Rattle.nf_forms.specs.Order.{by_class}
-use Rattle.nf_forms.specs.Laws.Runs.{has_starter-append}
+use Rattle.nf_forms.specs.Laws.Runs.{has_starter-append, lead-marks}
 use Rattle.nf_forms.specs.Laws.Front.{has_starter-at, front-append_some, marks_push}
 use Rattle.nf_forms.specs.Laws.Sound.{IsSoundText}
 use Rattle.nf_forms.specs.Laws.StreamSafe.{own_row, stream_safe-push, decomposed-push, trail-decomposed-push, trail-stream_safe-le}
@@ -85,7 +85,7 @@ module _ (p : Properties) where
       let out = stream_safe p x in
       let mark = mark-not_starter c class h.mark in
       let none : has_starter p (c ∷ []) ≡ false = or_from _ _ mark refl in
-      let lead_is : lead p (p.compat c) ≡ 1 = ap (lead p) h.mark.compat ∙ one (is_starter p c) mark in
+      let lead_is : lead p (p.compat c) ≡ 1 = ap (lead p) h.mark.compat ∙ lead-marks p (c ∷ []) none in
       let so_far = at.counted in
       let more = h.counted in
       let most = h.room in
@@ -114,10 +114,6 @@ module _ (p : Properties) where
           room = h.room;
         };
       }
-    where
-      one : (b : Bool) → b ≡ false → cond (not b) (1 + 0) 0 ≡ 1
-      one true e = cc
-      one false e = refl
 
   pub passes-one : (f : Form) (k n c class count : ℕ) → GoesOn p f k n c class count → (x : List ℕ) → Stands f k n x → Passes f class count x (c ∷ [])
   passes-one f k n c class count (inl begins) x at =
@@ -150,30 +146,24 @@ module _ (p : Properties) where
       let here = passes-one f k n c calm.0 calm.1 calm.2 x at in
       passes-both f calm.0 calm.1 class count x (c ∷ []) cs here (passes-from f calm.0 calm.1 cs class count calm.3 (x ++ c ∷ []) here.stands)
 
+  -- behind a full run no mark comes
+  begins : (f : Form) (next c more : ℕ) → GoesOn p f 0 max_run c next more → BeginsRun p f c more
+  begins f next c more (inl run) = run
+  begins f next c more (inr behind) =
+      let over = behind.counted in
+      let most = behind.room in
+      absurd (omega arith)
+
   -- behind any text that leaves room, calm text passes
   pub passes-calm : (f : Form) (c : ℕ) (cs : List ℕ) (class count : ℕ) → IsCalm p f (c ∷ cs) class count → (x : List ℕ) → last_run p (stream_safe p x) ≤ max_run
       → Passes f class count x (c ∷ cs)
   passes-calm f c cs class count calm x room =
-      let here = first calm.0 calm.1 calm.2 in
+      let here = passes-begin f c calm.1 (begins f calm.0 c calm.1 calm.2) calm.0 x room in
       passes-both f calm.0 calm.1 class count x (c ∷ []) cs here (passes-from f calm.0 calm.1 cs class count calm.3 (x ++ c ∷ []) here.stands)
-    where
-      first : (next more : ℕ) → GoesOn p f 0 max_run c next more → Passes f next more x (c ∷ [])
-      first next more (inl begins) = passes-begin f c more begins next x room
-      first next more (inr behind) =
-          let over = behind.counted in
-          let most = behind.room in
-          absurd (omega arith)
 
   -- its first character parts a text
   pub calm-begins : (f : Form) (c : ℕ) (cs : List ℕ) (class count : ℕ) → IsCalm p f (c ∷ cs) class count → IsParting p f c
-  calm-begins f c cs class count calm = first calm.0 calm.1 calm.2
-    where
-      first : (next more : ℕ) → GoesOn p f 0 max_run c next more → IsParting p f c
-      first next more (inl begins) = begins.parting
-      first next more (inr behind) =
-          let over = behind.counted in
-          let most = behind.room in
-          absurd (omega arith)
+  calm-begins f c cs class count calm = (begins f calm.0 c calm.1 calm.2).parting
 
   -- ---- the laws
 
@@ -207,11 +197,9 @@ module _ (p : Properties) where
   unfolding safe_form by_class
   safe_form-calm_alone f cs class count calm = (
     stream_safe-calm f cs class count calm [] refl,
-    safe_form-calm f cs class count calm [] refl ∙ ap (λ v. v ++ cs) (empty f),
+    safe_form-calm f cs class count calm [] refl ∙ ap (λ v. v ++ cs) (empty (composes f)),
   )
     where
-      empty : (f : Form) → safe_form f p [] ≡ []
-      empty Nfc = refl
-      empty Nfd = refl
-      empty Nfkc = refl
-      empty Nfkd = refl
+      empty : (b : Bool) → arranged b p [] ≡ []
+      empty true = refl
+      empty false = refl

@@ -62,13 +62,10 @@ module _ (p : Properties) (f : Form) where
 
   -- a character at a boundary, alone and behind any text
   module _ (c : ℕ) (boundary : IsBoundary p f c) (own : is_sound p c ≡ true) where
-    safe-alone : stream_safe p (c ∷ []) ≡ c ∷ []
-    safe-alone = let none = boundary.counts.lead in safe_step-room p [] c (omega arith)
-
     pub HasForm-alone : HasForm p f (c ∷ []) (normal_form f p (c ∷ []))
     HasForm-alone = record {
       begins = record { first = c; rest = []; text = refl; boundary = boundary; sound = own };
       sound = and_from _ _ own refl;
-      safe = safe-alone;
+      safe = let none = boundary.counts.lead in safe_step-room p [] c (omega arith);
       form = refl;
     }

@@ -1,13 +1,13 @@
 -- Closed texts whose form is known: nothing, calm text, and a character whose form is its row.
-use Rattle.std.proofs.Common.{◌≡◌, ℕ, ◌≤◌, ◌+◌, Bool, true, false, not, cond, List, [], ◌∷◌, ◌++◌, length, refl, sym, ap, ◌∙◌, arith, append-nil}
-use Rattle.std.proofs.lemmas.Bool.{and_from, and_parts, or_left}
+use Rattle.std.proofs.Common.{subst, ◌≡◌, ℕ, ◌≤◌, ◌+◌, Bool, true, false, not, cond, List, [], ◌∷◌, ◌++◌, length, refl, sym, ap, ◌∙◌, arith, append-nil}
+use Rattle.std.proofs.lemmas.Bool.{and_parts, or_left}
 use Rattle.nf_forms.specs.Properties.{Properties, is_starter}
 use Rattle.nf_forms.specs.Runs.{has_starter, lead}
 use Rattle.nf_forms.specs.Ordering.{is_ordered}
 use Rattle.nf_forms.specs.declared.form.Form.{Form}
 use Rattle.nf_forms.specs.declared.form.Form.TheVariants.{Nfc, Nfd, Nfkc, Nfkd}
 use Rattle.nf_forms.specs.Forms.{row_of, decomposed, composes, arranged, normal_form}
-use Rattle.nf_forms.specs.StreamSafe.{max_run, stream_safe}
+use Rattle.nf_forms.specs.StreamSafe.{max_run}
 use Rattle.nf_forms.specs.SafeForm.{safe_form}
 use Rattle.nf_forms.specs.Sound.{is_sound}
 use Rattle.nf_forms.specs.Parting.{BeginsAnew, CountsAnew, IsBoundary, IsParting}
@@ -15,7 +15,7 @@ use Rattle.nf_forms.specs.Calm.{IsCalmFrom, IsCalm}
 use Rattle.nf_forms.specs.Closed.{HasForm}
 use Rattle.nf_forms.specs.Laws.Ordering.{order-ordered}
 use Rattle.nf_forms.specs.Laws.Sound.{IsSound, IsSound-from_test, IsSoundText}
-use Rattle.nf_forms.specs.Laws.Parting.{safe_step-room}
+use Rattle.nf_forms.specs.Laws.Closed.{HasForm-alone}
 use Rattle.nf_forms.specs.Laws.Calm.{calm-begins, safe_form-calm_alone}
 
 module _ (p : Properties) where
@@ -93,17 +93,12 @@ module _ (p : Properties) (f : Form) where
       anew Nfkc plain = cc
       anew Nfkd plain = record { first = compat.first; rest = compat.rest; row = compat.text; starter = compat.starter; never_second = λ is. cc }
 
-  pub stream_safe-one : (c : ℕ) → lead p (p.compat c) ≤ max_run → stream_safe p (c ∷ []) ≡ c ∷ []
-  stream_safe-one c room = safe_step-room p [] c (omega arith)
-
   -- and there the form of a character whose row is in order is that row
   pub HasForm-row : composes f ≡ false → (c : ℕ) → IsBoundary p f c → is_sound p c ≡ true → is_ordered p (row_of f p c) ≡ true → HasForm p f (c ∷ []) (row_of f p c)
-  HasForm-row plain c boundary sound ordered = record {
-    begins = record { first = c; rest = []; text = refl; boundary = boundary; sound = sound };
-    sound = and_from _ _ sound refl;
-    safe = stream_safe-one c (let none = boundary.counts.lead in omega arith);
-    form = ap (λ row. arranged (composes f) p row) (append-nil (row_of f p c)) ∙ ap (λ b. arranged b p (row_of f p c)) plain ∙ order-ordered p (row_of f p c) ordered;
-  }
+  HasForm-row plain c boundary sound ordered =
+      subst (HasForm p f (c ∷ []))
+      (ap (λ row. arranged (composes f) p row) (append-nil (row_of f p c)) ∙ ap (λ b. arranged b p (row_of f p c)) plain ∙ order-ordered p (row_of f p c) ordered)
+      (HasForm-alone p f c boundary sound)
 
   -- in each form it is so where the row is calm text, each member of which is its own row
   pub HasForm-calm_row : (c : ℕ) → IsBoundary p f c → is_sound p c ≡ true → decomposed f p (row_of f p c) ≡ row_of f p c → (class count : ℕ) → IsCalm p f (row_of f p c) class count
@@ -112,9 +107,4 @@ module _ (p : Properties) (f : Form) where
   HasForm-calm_row c boundary sound own class count calm =
       let row = row_of f p c in
       let alone = safe_form-calm_alone p f row class count calm in
-      record {
-        begins = record { first = c; rest = []; text = refl; boundary = boundary; sound = sound };
-        sound = and_from _ _ sound refl;
-        safe = stream_safe-one c (let none = boundary.counts.lead in omega arith);
-        form = ap (λ w. arranged (composes f) p w) (append-nil row ∙ sym own) ∙ ap (normal_form f p) (sym alone.0) ∙ alone.1;
-      }
+      subst (HasForm p f (c ∷ [])) (ap (λ w. arranged (composes f) p w) (append-nil row ∙ sym own) ∙ ap (normal_form f p) (sym alone.0) ∙ alone.1) (HasForm-alone p f c boundary sound)

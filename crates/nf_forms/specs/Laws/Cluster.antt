@@ -1,6 +1,7 @@
 -- A cluster of a starter and what may compose with it: one character alone, one more, the next cluster, and the form.
-use Rattle.std.proofs.Common.{◌≡◌, ℕ, ◌≤◌, ◌<◌, ◌+◌, ◌⊎◌, ⊎_elim, inl, inr, Bool, true, false, not, ◌&&◌, ◌||◌, ◌==◌, nat_le, nat_lt, cond, List, [], ◌∷◌, ◌++◌, length, Some, None, refl, sym, ap, ◌∙◌, arith, append-nil, append_assoc, length-append, le-leb, le-ltb, leb-true, eq-eqb, true≢false}
+use Rattle.std.proofs.Common.{◌≡◌, ℕ, ◌≤◌, ◌<◌, ◌+◌, ◌⊎◌, ⊎_elim, inl, inr, Bool, true, false, not, ◌&&◌, ◌||◌, ◌==◌, nat_le, nat_lt, cond, List, [], ◌∷◌, ◌++◌, length, Some, None, refl, sym, ap, ◌∙◌, arith, append-nil, append_assoc, length-append, le-leb, leb-true, eq-eqb, true≢false}
 use Rattle.std.proofs.lemmas.Bool.{and_from, and_parts, eqb-true, ne_eqb}
+use Rattle.std.proofs.lemmas.Bool.Decides.{nat_tests}
 use Rattle.std.proofs.lemmas.List.Folds.{list_any-append}
 use Rattle.nf_forms.specs.Properties.{Properties, is_starter}
 use Rattle.nf_forms.specs.Runs.{has_starter, lead, trail}
@@ -12,7 +13,7 @@ use Rattle.nf_forms.specs.Forms.{row_of, composes, arranged}
 use Rattle.nf_forms.specs.StreamSafe.{max_run, safe_step}
 use Rattle.nf_forms.specs.Closed.{BeginsAtBoundary, HasForm}
 use Rattle.nf_forms.specs.Cluster.{IsOwnRow, blocks, AreClusters, IsCluster}
-use Rattle.nf_forms.specs.Laws.Runs.{trail-le-length, trail-push}
+use Rattle.nf_forms.specs.Laws.Runs.{lead-le-length, trail-le-length, trail-push}
 use Rattle.nf_forms.specs.Laws.Front.{marks_push}
 use Rattle.nf_forms.specs.Laws.Ordering.{order-ordered}
 use Rattle.nf_forms.specs.Laws.Compose.{compose-push, compose_step-at, joined-some, joined-starter}
@@ -23,13 +24,6 @@ use Rattle.nf_forms.specs.Laws.Parting.{safe_step-room}
 module _ (p : Properties) where
   pub row-own : (f : Form) (c : ℕ) → IsOwnRow p c → row_of f p c ≡ c ∷ []
   row-own f c own = own_row p c own.canonical own.compat f
-
-  lead-one : (c : ℕ) → lead p (c ∷ []) ≤ 1
-  lead-one c = next (is_starter p c)
-    where
-      next : (b : Bool) → cond (not b) (1 + 0) 0 ≤ 1
-      next true = omega arith
-      next false = omega arith
 
   -- ---- order, a character more
 
@@ -44,22 +38,18 @@ module _ (p : Properties) where
 
   -- c may stand behind a character of class `last`
   pub is_reorderable-not : (a c last : ℕ) → p.class a ≡ last → (last ≤ p.class c) ⊎ (p.class c ≡ 0) → is_reorderable p a c ≡ false
-  is_reorderable-not a c last class (inl up) = next (nat_lt 0 (p.class c)) (nat_lt (p.class c) (p.class a)) (le-ltb (p.class c) (p.class a) (omega arith))
+  is_reorderable-not a c last class (inl up) = apart (p.class c) (p.class a) (omega arith)
     where
-      next : (b d : Bool) → d ≡ false → (b && d) ≡ false
-      next true d e = e
-      next false d e = refl
-  is_reorderable-not a c last class (inr starter) = next (nat_lt 0 (p.class c)) (nat_lt (p.class c) (p.class a)) (le-ltb 0 (p.class c) (omega arith))
-    where
-      next : (b d : Bool) → b ≡ false → (b && d) ≡ false
-      next b d e = ap (λ b. b && d) e
+      apart : (n m : ℕ) → m ≤ n → (nat_lt 0 n && nat_lt n m) ≡ false
+      apart n m le = grind (arith, nat_tests)
+  is_reorderable-not a c last class (inr starter) = ap (λ n. nat_lt 0 n && nat_lt n (p.class a)) starter
 
   -- ---- a cluster of one
 
   pub cluster-one : (c : ℕ) → IsOwnRow p c → is_starter p c ≡ true → IsCluster p (c ∷ []) c [] 0 0 1
   cluster-one c own starts = record {
     rows = λ f. append-nil (row_of f p c) ∙ row-own f c own;
-    safe = safe_step-room p [] c (let few = lead-one c in let row = ap (lead p) own.compat in omega arith);
+    safe = safe_step-room p [] c (let few = lead-le-length p (c ∷ []) in let row = ap (lead p) own.compat in omega arith);
     ordered = refl;
     composed = refl;
     starts = starts;
@@ -89,7 +79,7 @@ module _ (p : Properties) where
           let same = ap (trail p) (here.rows Nfkd) in
           let few = here.run in
           let begins = ap (lead p) own.compat in
-          let one = lead-one c in
+          let one = lead-le-length p (c ∷ []) in
           stream_safe-push p cs c ∙ ap (λ o. safe_step p o c) here.safe ∙ safe_step-room p cs c (omega arith);
       ordered =
           ap (λ w. is_ordered p (w ++ c ∷ [])) here.text ∙ ap (is_ordered p) (append_assoc here.before (here.end ∷ []) (c ∷ []))

@@ -1,6 +1,7 @@
 -- A text in two at its last starter.
 use Rattle.std.proofs.Common.{◌≡◌, ℕ, ◌+◌, Bool, true, false, ◌||◌, List, [], ◌∷◌, ◌++◌, refl, sym, ap, ◌∙◌, arith, add-zero, length, ◌⊎◌, inl, inr, ⊎_elim}
 use Rattle.std.proofs.lemmas.Bool.{cases_Bool, or_left, or_right, or_parts, or_from, cond-true, cond-false, false≢true}
+use Rattle.std.proofs.Math.Bool.{or-false}
 use Rattle.std.proofs.lemmas.List.{append_assoc}
 use Rattle.std.specs.Prelude.{if◌then◌else◌}
 use Rattle.nf_forms.specs.Properties.{Properties, is_starter}
@@ -53,14 +54,10 @@ module _ (p : Properties) where
 
   pub last_starter : (w : List ℕ) → has_starter p w ≡ true → EndsInGroup w
   last_starter [] some = absurd (false≢true some)
-  last_starter (c ∷ w) some = ⊎_elim (λ more. behind (last_starter w more)) (λ none. record { before = []; starter = c; marks = w; text = refl; starts = here (is_starter p c) (has_starter p w) some none; no_starter = none }) (cases_Bool (has_starter p w))
+  last_starter (c ∷ w) some = ⊎_elim (λ more. behind (last_starter w more)) (λ none. record { before = []; starter = c; marks = w; text = refl; starts = sym (ap (λ b. is_starter p c || b) none ∙ or-false (is_starter p c)) ∙ some; no_starter = none }) (cases_Bool (has_starter p w))
     where
       behind : EndsInGroup w → EndsInGroup (c ∷ w)
       behind r = record { before = c ∷ r.before; starter = r.starter; marks = r.marks; text = ap (λ v. c ∷ v) r.text; starts = r.starts; no_starter = r.no_starter }
-
-      here : (b h : Bool) → (b || h) ≡ true → h ≡ false → b ≡ true
-      here true h some none = refl
-      here false h some none = absurd (false≢true (sym none ∙ some))
 
   pub marks_push : (m : List ℕ) (c : ℕ) → has_starter p m ≡ false → is_starter p c ≡ false → has_starter p (m ++ c ∷ []) ≡ false
   marks_push m c marks mark = has_starter-append p m (c ∷ []) ∙ or_from _ _ marks (or_from _ _ mark refl)

@@ -2,6 +2,7 @@
 -- the marks at the end, stands at the end of the form too.
 use Rattle.std.proofs.Common.{◌≡◌, ℕ, ◌≤◌, ◌<◌, Bool, true, false, ◌||◌, ltb, leb, List, [], ◌∷◌, ◌++◌, Option, Some, None, refl, sym, ap, subst, ◌∙◌, ⊎_elim, arith, append-nil, append_assoc, leb-true, ltb-true}
 use Rattle.std.proofs.lemmas.Bool.{cases_Bool, cond-true, or_left, or_right, or_parts, or_from, and_parts, and_from, lt-leb}
+use Rattle.std.proofs.Math.Bool.{or-false}
 use Rattle.std.proofs.lemmas.Bool.Decides.{nat_tests}
 use Rattle.std.proofs.lemmas.List.Folds.{list_all-append}
 use Rattle.std.proofs.lemmas.List.Sums.{fold-append}
@@ -21,7 +22,7 @@ use Rattle.nf_forms.specs.Laws.Order.{order-behind, by_class-push, has_starter-b
 use Rattle.nf_forms.specs.Laws.Ordering.{by_class-ordered}
 use Rattle.nf_forms.specs.Laws.Starters.{has_starter-order}
 use Rattle.nf_forms.specs.Laws.Compose.{compose_step-at, compose_step-none, joined-starter}
-use Rattle.nf_forms.specs.Laws.Parting.{joined-none}
+use Rattle.nf_forms.specs.Laws.Parting.{joined-none, step-behind}
 
 module _ (p : Properties) where
   -- no member is of a class above k
@@ -82,38 +83,16 @@ module _ (p : Properties) where
   joins-none false s m c never = refl
   joins-none true s m c never = joined-none p s m c (never refl s)
 
+  some-push : (z : List ℕ) (c : ℕ) → (has_starter p z || is_starter p c) ≡ true → has_starter p (z ++ c ∷ []) ≡ true
+  some-push z c some = has_starter-append p z (c ∷ []) ∙ ap (λ b. has_starter p z || b) (or-false (is_starter p c)) ∙ some
+
   some-step : (b : Bool) (z : List ℕ) (c : ℕ) → (has_starter p z || is_starter p c) ≡ true → has_starter p (step b z c) ≡ true
-  some-step b z c some = ⊎_elim at (none b) (cases_Bool (has_starter p z))
-    where
-      kept : (e : List ℕ) (s : ℕ) (m : List ℕ) (o : Option ℕ) → is_starter p s ≡ true → joins b s m c ≡ o → has_starter p (e ++ replaced o s m c) ≡ true
-      kept e s m None starts h = has_starter-at p e s (m ++ c ∷ []) starts
-      kept e s m (Some d) starts h = has_starter-at p e d m (joins-starter b s m c d h)
-
-      group : EndsInGroup p z → has_starter p (step b z c) ≡ true
-      group r =
-          ap (λ v. has_starter p (step b v c)) r.text ∙ ap (has_starter p) (step-at b r.before r.starter r.marks c r.starts r.no_starter)
-          ∙ kept r.before r.starter r.marks (joins b r.starter r.marks c) r.starts refl
-
-      at : has_starter p z ≡ true → has_starter p (step b z c) ≡ true
-      at h = group (last_starter p z h)
-
-      second : (x y : Bool) → (x || y) ≡ true → x ≡ false → y ≡ true
-      second true y h e = cc
-      second false y h e = h
-
-      behind : has_starter p z ≡ false → has_starter p (z ++ c ∷ []) ≡ true
-      behind h = has_starter-at p z c [] (second (has_starter p z) (is_starter p c) some h)
-
-      none : (b : Bool) → has_starter p z ≡ false → has_starter p (step b z c) ≡ true
-      none true h = ap (has_starter p) (compose_step-none p z c h) ∙ behind h
-      none false h = behind h
+  some-step false z c some = some-push z c some
+  some-step true z c some =
+      ⊎_elim (λ more. (step-behind p [] z c more).1) (λ none. ap (has_starter p) (compose_step-none p z c none) ∙ some-push z c some) (cases_Bool (has_starter p z))
 
   some-fold : (b : Bool) (z w : List ℕ) → (has_starter p z || has_starter p w) ≡ true → has_starter p (fold (step b) z w) ≡ true
-  some-fold b z [] some = left (has_starter p z) some
-    where
-      left : (x : Bool) → (x || false) ≡ true → x ≡ true
-      left true h = refl
-      left false h = h
+  some-fold b z [] some = sym (or-false (has_starter p z)) ∙ some
   some-fold b z (c ∷ w) some = some-fold b (step b z c) w (next (has_starter p z) (is_starter p c) (has_starter p w) (has_starter p (step b z c)) some (some-step b z c))
     where
       next : (x y u v : Bool) → (x || (y || u)) ≡ true → ((x || y) ≡ true → v ≡ true) → (v || u) ≡ true

@@ -1,6 +1,6 @@
 -- The parts of soundness, and what the test for it tells.
-use Rattle.std.proofs.Common.{◌≡◌, ℕ, ◌≤◌, Bool, true, false, not, ◌&&◌, ◌||◌, ◌==◌, cond, List, [], ◌∷◌, ◌++◌, length, refl, sym, ap, ◌∙◌}
-use Rattle.std.proofs.lemmas.Bool.{and_parts, leb-true, eqb-true, eq-eqb}
+use Rattle.std.proofs.Common.{◌≡◌, ℕ, ◌≤◌, true, false, not, ◌&&◌, ◌||◌, ◌==◌, cond, List, [], ◌∷◌, ◌++◌, length, refl, sym, ap, ◌∙◌}
+use Rattle.std.proofs.lemmas.Bool.{not-true, and_parts, leb-true, eqb-true, eq-eqb}
 use Rattle.std.proofs.lemmas.Slice.Eq.{bytes_eq-Decides}
 use Rattle.std.proofs.lemmas.List.Folds.{list_all-append}
 use Rattle.std.specs.List.{list_all}
@@ -58,18 +58,9 @@ module _ (p : Properties) where
         compat_few = leb-true _ _ compat.1;
         lead_within = leb-true _ _ within.0;
         trail_within = leb-true _ _ within.1;
-        marks_agree = agree (has_starter p (p.canonical c)) (has_starter p (p.compat c)) marks.1;
-        plain = λ is. JoinerIsPlain-from_test (where_joiner (c == joiner) (joiner_is_plain p) plain.1 (eq-eqb c joiner is));
+        marks_agree = λ none. not-true _ (sym (ap (λ b. b || not (has_starter p (p.compat c))) none) ∙ marks.1);
+        plain = λ is. JoinerIsPlain-from_test (sym (ap (λ b. not b || joiner_is_plain p) (eq-eqb c joiner is)) ∙ plain.1);
       }
-    where
-      agree : (a b : Bool) → (a || not b) ≡ true → a ≡ false → b ≡ false
-      agree true b e f = cc
-      agree false true e f = cc
-      agree false false e f = refl
-
-      where_joiner : (a b : Bool) → (not a || b) ≡ true → a ≡ true → b ≡ true
-      where_joiner true b e f = e
-      where_joiner false b e f = cc
 
   pub JoinerIsPlain-from_sound : is_sound p joiner ≡ true → JoinerIsPlain p
   JoinerIsPlain-from_sound e = (IsSound-from_test joiner e).plain refl
