@@ -38,10 +38,7 @@ module _ (p : Properties) where
 
   -- c may stand behind a character of class `last`
   pub is_reorderable-not : (a c last : ℕ) → p.class a ≡ last → (last ≤ p.class c) ⊎ (p.class c ≡ 0) → is_reorderable p a c ≡ false
-  is_reorderable-not a c last class (inl up) = apart (p.class c) (p.class a) (omega arith)
-    where
-      apart : (n m : ℕ) → m ≤ n → (nat_lt 0 n && nat_lt n m) ≡ false
-      apart n m le = grind (arith, nat_tests)
+  is_reorderable-not a c last class (inl up) = grind (arith, nat_tests)
   is_reorderable-not a c last class (inr starter) = ap (λ n. nat_lt 0 n && nat_lt n (p.class a)) starter
 
   -- ---- a cluster of one

@@ -32,21 +32,18 @@ module _ (p : Properties) where
   pub none_above-le : (j k : ℕ) (m : List ℕ) → j ≤ k → none_above j m ≡ true → none_above k m ≡ true
   none_above-le j k [] le all = refl
   none_above-le j k (x ∷ m) le all =
-      let parts = and_parts _ _ all in
-      and_from _ _ (weaker (p.class x) parts.0) (none_above-le j k m le parts.1)
-    where
-      weaker : (n : ℕ) → leb n j ≡ true → leb n k ≡ true
-      weaker n h = grind (arith, nat_tests)
+      let parts = and_parts (leb (p.class x) j) (none_above j m) all in
+      and_from _ _ (grind (arith, nat_tests, parts.0)) (none_above-le j k m le parts.1)
 
   pub none_above-push : (k : ℕ) (m : List ℕ) (c : ℕ) → none_above k m ≡ true → leb (p.class c) k ≡ true → none_above k (m ++ c ∷ []) ≡ true
   none_above-push k m c all last = list_all-append (λ x. leb (p.class x) k) m (c ∷ []) ∙ and_from _ _ all (and_from _ _ last refl)
 
   both-none : (k : ℕ) (m : List ℕ) → none_above k m ≡ true → all_above p k m ≡ true → m ≡ []
   both-none k [] none all = refl
-  both-none k (x ∷ m) none all = absurd (apart (p.class x) (and_parts _ _ none).0 (and_parts _ _ all).0)
-    where
-      apart : (n : ℕ) → leb n k ≡ true → ltb k n ≡ true → ⊥
-      apart n h i = let low = leb-true n k h in let high = ltb-true k n i in omega arith
+  both-none k (x ∷ m) none all =
+      let low = leb-true (p.class x) k (and_parts _ _ none).0 in
+      let high = ltb-true k (p.class x) (and_parts _ _ all).0 in
+      absurd (omega arith)
 
   -- marks by class are in order
   pub is_ordered-by_class : (run : List ℕ) → has_starter p run ≡ false → is_ordered p (by_class p run) ≡ true

@@ -147,12 +147,6 @@ module _ (p : Properties) where
         starts = ending.starts;
       }
 
-  front-settled : (b : Bool) (head : List ℕ) (r : IsSettled b head) → front p (arranged b p head) ≡ r.settled
-  front-settled b head r = ap (λ v. front p v) r.text ∙ front-at p r.settled r.starter [] r.starts refl
-
-  back-settled : (b : Bool) (head : List ℕ) (r : IsSettled b head) → back p (arranged b p head) ≡ r.starter ∷ []
-  back-settled b head r = ap (λ v. back p v) r.text ∙ back-at p r.settled r.starter [] r.starts refl
-
   arranged-settled : (b : Bool) (head run : List ℕ) (r : IsSettled b head) → trail p head ≡ 0 → has_starter p run ≡ false
       → arranged b p (head ++ run) ≡ r.settled ++ closed_off b (Some r.starter) (by_class p run)
   arranged-settled false head run r ends marks = order-behind p head run ends marks ∙ ap (λ v. v ++ by_class p run) r.text ∙ append_assoc r.settled (r.starter ∷ []) (by_class p run)
@@ -170,68 +164,70 @@ module _ (p : Properties) where
   unfolding by_class
   back-empty b = ap (λ v. back p v) (arranged-none b [] refl)
 
+  -- a text that ends in no mark, arranged: what is settled, the starter behind that, if any, and what marks more become
+  record Settles (b : Bool) (head : List ℕ) : Type 0 where
+    settled : List ℕ
+    starter : Option ℕ
+    front_is : front p (arranged b p head) ≡ settled
+    back_is : back p (arranged b p head) ≡ option_to_list starter
+    some : has_starter p head ≡ is_some starter
+    starts : (s : ℕ) → starter ≡ Some s → is_starter p s ≡ true
+    front_behind : (run : List ℕ) → has_starter p run ≡ false → front p (arranged b p (head ++ run)) ≡ settled
+    back_behind : (run : List ℕ) → has_starter p run ≡ false → back p (arranged b p (head ++ run)) ≡ closed_off b starter (by_class p run)
+
+  settles : (b : Bool) (head : List ℕ) → trail p head ≡ 0 → Settles b head
+  unfolding by_class
+  settles b head ends = ⊎_elim (λ empty. subst (λ h. Settles b h) (sym empty) none) (λ ending. at ending (settle b head ending)) (ends_in p head ends)
+    where
+      none : Settles b []
+      none = record {
+        settled = [];
+        starter = None;
+        front_is = ap (λ v. front p v) (arranged-none b [] refl);
+        back_is = back-empty b;
+        some = refl;
+        starts = λ s e. cc;
+        front_behind = λ run marks. ap (λ v. front p v) (arranged-none b run marks) ∙ front-none p (by_class p run) (has_starter-by_class p run);
+        back_behind = λ run marks. ap (λ v. back p v) (arranged-none b run marks) ∙ back-none p (by_class p run) (has_starter-by_class p run);
+      }
+
+      at : EndsInStarter p head → IsSettled b head → Settles b head
+      at ending r = record {
+        settled = r.settled;
+        starter = Some r.starter;
+        front_is = ap (λ v. front p v) r.text ∙ front-at p r.settled r.starter [] r.starts refl;
+        back_is = ap (λ v. back p v) r.text ∙ back-at p r.settled r.starter [] r.starts refl;
+        some = ap (λ h. has_starter p h) ending.text ∙ has_starter-at p ending.before ending.last [] ending.starts;
+        starts = λ s e. let same : r.starter ≡ s = cc in subst (λ k. is_starter p k ≡ true) same r.starts;
+        front_behind = λ run marks. ap (λ v. front p v) (arranged-settled b head run r ends marks)
+            ∙ front-group p r.settled _ (closed_off-group b r.starter (by_class p run) r.starts (has_starter-by_class p run));
+        back_behind = λ run marks. ap (λ v. back p v) (arranged-settled b head run r ends marks)
+            ∙ back-group p r.settled _ (closed_off-group b r.starter (by_class p run) r.starts (has_starter-by_class p run));
+      }
+
+  same_option : (o q : Option ℕ) → option_to_list o ≡ option_to_list q → o ≡ q
+  same_option None None e = refl
+  same_option None (Some t) e = cc
+  same_option (Some s) None e = cc
+  same_option (Some s) (Some t) e = cc
+
   -- marks settle nothing
   pub front-behind : (b : Bool) (head run : List ℕ) → trail p head ≡ 0 → has_starter p run ≡ false → front p (arranged b p (head ++ run)) ≡ front p (arranged b p head)
-  unfolding by_class
-  front-behind b head run ends marks = ⊎_elim none (λ ending. at (settle b head ending)) (ends_in p head ends)
-    where
-      none : head ≡ [] → front p (arranged b p (head ++ run)) ≡ front p (arranged b p head)
-      none empty = subst (λ h. front p (arranged b p (h ++ run)) ≡ front p (arranged b p h)) (sym empty)
-          (ap (λ v. front p v) (arranged-none b run marks) ∙ front-none p (by_class p run) (has_starter-by_class p run) ∙ sym (ap (λ v. front p v) (arranged-none b [] refl)))
-
-      at : IsSettled b head → front p (arranged b p (head ++ run)) ≡ front p (arranged b p head)
-      at r =
-          ap (λ v. front p v) (arranged-settled b head run r ends marks)
-          ∙ front-group p r.settled _ (closed_off-group b r.starter (by_class p run) r.starts (has_starter-by_class p run))
-          ∙ sym (front-settled b head r)
+  front-behind b head run ends marks = let r : Settles b head = settles b head ends in r.front_behind run marks ∙ sym r.front_is
 
   -- what stands behind the front
   pub back-behind : (b : Bool) (head run : List ℕ) (starter : Option ℕ) → trail p head ≡ 0 → has_starter p run ≡ false → back p (arranged b p head) ≡ option_to_list starter
       → back p (arranged b p (head ++ run)) ≡ closed_off b starter (by_class p run)
-  back-behind b head run starter ends marks leaves = ⊎_elim none (λ ending. at (settle b head ending)) (ends_in p head ends)
-    where
-      none : head ≡ [] → back p (arranged b p (head ++ run)) ≡ closed_off b starter (by_class p run)
-      none empty = at_none starter (sym leaves ∙ ap (λ h. back p (arranged b p h)) empty ∙ back-empty b)
-        where
-          at_none : (o : Option ℕ) → option_to_list o ≡ [] → back p (arranged b p (head ++ run)) ≡ closed_off b o (by_class p run)
-          at_none None e = ap (λ h. back p (arranged b p (h ++ run))) empty ∙ ap (λ v. back p v) (arranged-none b run marks) ∙ back-none p (by_class p run) (has_starter-by_class p run)
-          at_none (Some s) e = cc
-
-      at : IsSettled b head → back p (arranged b p (head ++ run)) ≡ closed_off b starter (by_class p run)
-      at r =
-          ap (λ v. back p v) (arranged-settled b head run r ends marks)
-          ∙ back-group p r.settled _ (closed_off-group b r.starter (by_class p run) r.starts (has_starter-by_class p run))
-          ∙ ap (λ o. closed_off b o (by_class p run)) (same starter (sym (back-settled b head r) ∙ leaves))
-        where
-          same : (o : Option ℕ) → r.starter ∷ [] ≡ option_to_list o → Some r.starter ≡ o
-          same None e = cc
-          same (Some s) e = cc
+  back-behind b head run starter ends marks leaves =
+      let r : Settles b head = settles b head ends in
+      r.back_behind run marks ∙ ap (λ o. closed_off b o (by_class p run)) (same_option r.starter starter (sym r.back_is ∙ leaves))
 
   -- what stands behind the front of a text that ends in no mark: one starter, where the text has one
   pub back-starter : (b : Bool) (head : List ℕ) → trail p head ≡ 0 → (s : ℕ) → back p (arranged b p head) ≡ s ∷ [] → is_starter p s ≡ true
-  back-starter b head ends s leaves = ⊎_elim (λ empty. none (sym leaves ∙ ap (λ h. back p (arranged b p h)) empty ∙ back-empty b)) (λ ending. at (settle b head ending)) (ends_in p head ends)
-    where
-      none : s ∷ [] ≡ [] → is_starter p s ≡ true
-      none e = cc
-
-      at : IsSettled b head → is_starter p s ≡ true
-      at r =
-          let one = sym (back-settled b head r) ∙ leaves in
-          let same : r.starter ≡ s = cc in
-          subst (λ k. is_starter p k ≡ true) same r.starts
+  back-starter b head ends s leaves = let r : Settles b head = settles b head ends in r.starts s (same_option r.starter (Some s) (sym r.back_is ∙ leaves))
 
   pub has_starter-head : (b : Bool) (head : List ℕ) → trail p head ≡ 0 → (o : Option ℕ) → back p (arranged b p head) ≡ option_to_list o → has_starter p head ≡ is_some o
-  has_starter-head b head ends o leaves = ⊎_elim (λ empty. none empty o (sym (back-empty b) ∙ sym (ap (λ h. back p (arranged b p h)) empty) ∙ leaves)) (λ ending. at ending (settle b head ending) o leaves) (ends_in p head ends)
-    where
-      none : head ≡ [] → (o : Option ℕ) → [] ≡ option_to_list o → has_starter p head ≡ is_some o
-      none empty None e = ap (λ h. has_starter p h) empty
-      none empty (Some s) e = cc
-
-      at : EndsInStarter p head → IsSettled b head → (o : Option ℕ) → back p (arranged b p head) ≡ option_to_list o → has_starter p head ≡ is_some o
-      at ending r None leaves =
-          let nothing : r.starter ∷ [] ≡ [] = sym (back-settled b head r) ∙ leaves in
-          cc
-      at ending r (Some s) leaves = ap (λ h. has_starter p h) ending.text ∙ has_starter-at p ending.before ending.last [] ending.starts
+  has_starter-head b head ends o leaves = let r : Settles b head = settles b head ends in r.some ∙ ap is_some (same_option r.starter o (sym r.back_is ∙ leaves))
 
   -- ---- whatever comes
 
@@ -265,22 +261,13 @@ module _ (p : Properties) where
             ∙ rest.1 ∙ ap (λ k. k ++ rest.0) (here.1) ∙ append_assoc (front p (arranged b p w)) (here.0) (rest.0),
       )
 
-  back-head : (b : Bool) (head : List ℕ) → trail p head ≡ 0 → (starter : Option ℕ) × (back p (arranged b p head) ≡ option_to_list starter)
-  back-head b head ends = ⊎_elim none (λ ending. at (settle b head ending)) (ends_in p head ends)
-    where
-      none : head ≡ [] → (starter : Option ℕ) × (back p (arranged b p head) ≡ option_to_list starter)
-      none empty = (None, ap (λ h. back p (arranged b p h)) empty ∙ back-empty b)
-
-      at : IsSettled b head → (starter : Option ℕ) × (back p (arranged b p head) ≡ option_to_list starter)
-      at r = (Some r.starter, back-settled b head r)
-
   -- no more stands behind the front than the marks that the text ends in, and one starter
   pub length-back : (b : Bool) (w : List ℕ) → length (back p (arranged b p w)) ≤ trail p w + 1
   length-back b w = at (cut p w)
     where
       at : IsCut p w → length (back p (arranged b p w)) ≤ trail p w + 1
       at r =
-          let starter = back-head b r.head r.ends in
-          let shape = ap (λ v. length (back p (arranged b p v))) r.text ∙ ap (λ v. length v) (back-behind b r.head r.run (starter.0) r.ends r.marks (starter.1)) in
+          let at_head : Settles b r.head = settles b r.head r.ends in
+          let shape = ap (λ v. length (back p (arranged b p v))) r.text ∙ ap (λ v. length v) (at_head.back_behind r.run r.marks) in
           let run = ap (λ v. trail p v) r.text ∙ trail-behind p r.head r.run r.ends r.marks in
-          omega (arith, length-closed_off b (starter.0) (by_class p r.run), length-by_class p r.run r.marks)
+          omega (arith, length-closed_off b at_head.starter (by_class p r.run), length-by_class p r.run r.marks)

@@ -1,6 +1,6 @@
 -- The stream-safe text and its decompositions as the text grows at its end, and how long their runs are.
-use Rattle.std.proofs.Common.{flat_map, ◌≡◌, ℕ, ◌+◌, ◌≤◌, Bool, true, false, List, [], ◌∷◌, ◌++◌, length, take, drop, max, refl, sym, ap, ◌∙◌, arith, append-nil, ◌==◌}
-use Rattle.std.proofs.lemmas.Bool.{and_from, and_parts, ltb-false}
+use Rattle.std.proofs.Common.{subst, flat_map, ◌≡◌, ℕ, ◌+◌, ◌≤◌, Bool, true, false, List, [], ◌∷◌, ◌++◌, length, take, drop, max, refl, sym, ap, ◌∙◌, arith, append-nil, ◌==◌}
+use Rattle.std.proofs.lemmas.Bool.{cond-false, cond_both, and_from, and_parts, ltb-false}
 use Rattle.std.proofs.lemmas.Grind.{flat_map-append}
 use Rattle.std.proofs.lemmas.List.{length-take, take-append-drop}
 use Rattle.std.proofs.lemmas.List.Folds.{list_all-append}
@@ -122,12 +122,7 @@ module _ (p : Properties) where
 
   -- a front of non-starters is part of the first run
   length-take-le-lead : (n : ℕ) (w : List ℕ) → has_starter p (take n w) ≡ false → length (take n w) ≤ lead p w
-  length-take-le-lead n w none =
-      next (has_starter p (take n w)) _ (lead p (drop n w)) none (ap (lead p) (sym (take-append-drop n w)) ∙ lead-append p (take n w) (drop n w))
-    where
-      next : (b : Bool) (l m : ℕ) → b ≡ false → l ≡ (if b then lead p (take n w) else length (take n w) + m) → length (take n w) ≤ l
-      next true l m e f = cc
-      next false l m e f = omega arith
+  length-take-le-lead n w none = omega (arith, ap (lead p) (sym (take-append-drop n w)) ∙ lead-append p (take n w) (drop n w) ∙ cond-false _ _ _ none)
 
   -- while c's row goes on behind the output, the last run stays within the limit in every form
   pub trail-take-le : (f : Form) (o : List ℕ) (c n : ℕ) → IsSoundText p (safe_step p o c)
@@ -135,18 +130,14 @@ module _ (p : Properties) where
   trail-take-le f o c n sound =
       let members = sound_last p (parted p o c) c sound in
       let row = IsSound-from_test p c members.1 in
+      let piece = take n (row_of f p c) in
       let few : length (take n (row_of f p c)) ≤ max_row = of_rows (λ row_of. length (take n (row_of c)) ≤ max_row)
       (omega (arith, length-take n (p.canonical c), row.canonical_few)) (omega (arith, length-take n (p.compat c), row.compat_few)) f in
-      next (has_starter p (take n (row_of f p c))) _ (trail p (take n (row_of f p c))) (length (take n (row_of f p c)))
-      (trail p (decomposed f p (parted p o c))) _ (lead p (row_of f p c)) _
-      (trail-append p (decomposed f p (parted p o c)) (take n (row_of f p c)))
-      (trail-le-length p (take n (row_of f p c))) few (length-take-le-lead n (row_of f p c)) (of_rows (λ row_of. lead p (row_of c) ≤ lead p (p.compat c)) row.lead_within (omega arith) f)
-      (trail-decomposed-le f (parted p o c) members.0) (trail-parted-le o c sound)
-    where
-      next : (b : Bool) (t own len before all first lead_k : ℕ) → t ≡ (if b then own else len + before) → own ≤ len → len ≤ max_row
-          → (b ≡ false → len ≤ first) → first ≤ lead_k → before ≤ all → all + lead_k ≤ max_run → t ≤ max_run
-      next true t own len before all first lead_k e g h i j k l = omega arith
-      next false t own len before all first lead_k e g h i j k l = omega (arith, i refl)
+      let leads : lead p (row_of f p c) ≤ lead p (p.compat c) = of_rows (λ row_of. lead p (row_of c) ≤ lead p (p.compat c)) row.lead_within (omega arith) f in
+      subst (λ t. t ≤ max_run) (sym (trail-append p (decomposed f p (parted p o c)) piece))
+      (cond_both (has_starter p piece) _ _ (λ t. t ≤ max_run)
+      (λ some. omega (arith, trail-le-length p piece, few))
+      (λ none. omega (arith, length-take-le-lead n (row_of f p c) none, leads, trail-decomposed-le f (parted p o c) members.0, trail-parted-le o c sound)))
 
   pub trail-stream_safe-le : (f : Form) (x : List ℕ) → IsSoundText p (stream_safe p x)
       → trail p (decomposed f p (stream_safe p x)) ≤ max_run
