@@ -13,8 +13,8 @@ use Rattle.nf_forms.specs.Laws.Front.{front-at, EndsInGroup, last_starter}
 use Rattle.nf_forms.specs.Laws.Sound.{IsSoundText}
 use Rattle.nf_forms.specs.Laws.StreamSafe.{decomposed-append}
 use Rattle.nf_forms.specs.SafeForm.{safe_form}
-use Rattle.nf_forms.specs.Parting.{BeginsAnew, IsParting}
-use Rattle.nf_forms.specs.Calm.{GoesOn, IsCalmFrom, IsCalm, CalmEnd}
+use Rattle.nf_forms.specs.Parting.{BeginsAnew}
+use Rattle.nf_forms.specs.Calm.{BeginsRun, GoesOn, IsCalmFrom, IsCalm, CalmEnd}
 use Rattle.nf_forms.specs.Laws.Parting.{last_run}
 use Rattle.nf_forms.specs.Laws.Calm.{row-mark, mark-not_starter, calm-begins, stream_safe-calm, front-calm, safe_form-calm_alone}
 
@@ -23,9 +23,9 @@ module _ (p : Properties) (f : Form) where
   calm_behind [] b k n class count calm = (k, n, calm)
   calm_behind (c ∷ a) b k n class count calm = calm_behind a b calm.0 calm.1 class count calm.3
 
-  starter-parting : (k n c class count : ℕ) → GoesOn p f k n c class count → is_starter p c ≡ true → IsParting p f c
-  starter-parting k n c class count (inl begins) starts = begins.parting
-  starter-parting k n c class count (inr behind) starts = absurd (false≢true (sym (mark-not_starter p c class behind.mark) ∙ starts))
+  begins-starter : (k n c class count : ℕ) → GoesOn p f k n c class count → is_starter p c ≡ true → BeginsRun p f c count
+  begins-starter k n c class count (inl begins) starts = begins
+  begins-starter k n c class count (inr behind) starts = absurd (false≢true (sym (mark-not_starter p c class behind.mark) ∙ starts))
 
   row-one : (k n c class count : ℕ) → GoesOn p f k n c class count → is_starter p c ≡ false → row_of f p c ≡ c ∷ []
   row-one k n c class count (inl begins) mark = absurd (false≢true (sym mark ∙ begins.parting.starts))
@@ -49,7 +49,7 @@ module _ (p : Properties) (f : Form) where
         last = last;
         marks = marks;
         text = refl;
-        parting = starter-parting behind.0 behind.1 last rest.0 rest.1 rest.2 starts;
+        parting = (begins-starter behind.0 behind.1 last rest.0 rest.1 rest.2 starts).parting;
         no_starter = no_starter;
         own_rows = decomposed-marks rest.0 rest.1 marks class count rest.3 no_starter;
       }
@@ -66,11 +66,7 @@ module _ (p : Properties) (f : Form) where
   calm-tail before last marks class count calm starts =
       let behind = calm_behind before (last ∷ marks) 0 max_run class count calm in
       let rest = behind.2 in
-      (rest.0, rest.1, begins behind.0 behind.1 rest.0 rest.1 rest.2, rest.3)
-    where
-      begins : (k n next more : ℕ) → GoesOn p f k n last next more → GoesOn p f 0 max_run last next more
-      begins k n next more (inl run) = inl run
-      begins k n next more (inr behind) = absurd (false≢true (sym (mark-not_starter p last next behind.mark) ∙ starts))
+      (rest.0, rest.1, inl (begins-starter behind.0 behind.1 last rest.0 rest.1 rest.2 starts), rest.3)
 
   module _ (c : ℕ) (cs : List ℕ) (class count : ℕ) (calm : IsCalm p f (c ∷ cs) class count) (end : CalmEnd p f (c ∷ cs)) (x : List ℕ) (sound : IsSoundText p (stream_safe p x)) where
     safe-end : stream_safe p (x ++ c ∷ cs) ≡ (stream_safe p x ++ end.before) ++ end.last ∷ end.marks

@@ -1,6 +1,7 @@
 -- A cluster of a starter and what may compose with it: one character alone, one more, the next cluster, and the form.
-use Rattle.std.proofs.Common.{◌≡◌, ℕ, ◌≤◌, ◌<◌, ◌+◌, ◌⊎◌, ⊎_elim, inl, inr, Bool, true, false, not, ◌&&◌, ◌||◌, ◌==◌, nat_le, nat_lt, cond, List, [], ◌∷◌, ◌++◌, length, Some, None, refl, sym, ap, ◌∙◌, arith, append-nil, append_assoc, length-append, le-leb, leb-true, eq-eqb, true≢false}
-use Rattle.std.proofs.lemmas.Bool.{and_from, and_parts, eqb-true, ne_eqb}
+use Rattle.std.proofs.Common.{subst, ◌≡◌, ℕ, ◌≤◌, ◌<◌, ◌+◌, ◌⊎◌, ⊎_elim, inl, inr, Bool, true, false, not, ◌&&◌, ◌||◌, ◌==◌, nat_le, nat_lt, cond, List, [], ◌∷◌, ◌++◌, length, Some, None, refl, sym, ap, ◌∙◌, arith, append-nil, append_assoc, length-append, le-leb, leb-true, eq-eqb, true≢false}
+use Rattle.std.proofs.lemmas.Bool.{cond_both, false≢true, not-true, and_from, and_parts, eqb-true, ne_eqb}
+use Rattle.std.proofs.Math.Bool.{or-false}
 use Rattle.std.proofs.lemmas.Bool.Decides.{nat_tests}
 use Rattle.std.proofs.lemmas.List.Folds.{list_any-append}
 use Rattle.nf_forms.specs.Properties.{Properties, is_starter}
@@ -94,11 +95,9 @@ module _ (p : Properties) where
     }
 
     longer : trail p (cs ++ c ∷ []) ≤ count + 1
-    longer = next (is_starter p c) (trail-push p cs c)
-      where
-        next : (b : Bool) → trail p (cs ++ c ∷ []) ≡ cond b 0 (trail p cs + 1) → trail p (cs ++ c ∷ []) ≤ count + 1
-        next true e = omega arith
-        next false e = let few = here.run in omega arith
+    longer =
+        subst (λ n. n ≤ count + 1) (sym (trail-push p cs c))
+        (cond_both (is_starter p c) _ _ (λ n. n ≤ count + 1) (λ starts. omega arith) (λ mark. omega (arith, here.run)))
 
     unblocked : (d : ℕ) → joined p starter left c ≡ Some d → blocks p left highest c ≡ false
     unblocked d both = sym (here.blocked c) ∙ (joined-some p starter left c d both).0
@@ -108,14 +107,9 @@ module _ (p : Properties) where
     cluster-joined d both =
         more done d left highest (count + 1) (joins ∙ ap (λ o. done ++ replaced o starter left c) both) (joined-starter p starter left c d both) here.no_starter here.blocked (λ some. up some follows) longer
       where
-        clash : (a b : Bool) → a ≡ false → b ≡ true → (not a && b) ≡ false → ⊥
-        clash true b e f g = cc
-        clash false true e f g = cc
-        clash false false e f g = cc
-
         up : (length left == 0) ≡ false → (last ≤ p.class c) ⊎ (p.class c ≡ 0) → highest ≤ p.class c
         up some (inl above) = let within = here.within some in omega arith
-        up some (inr starts) = absurd (clash (length left == 0) (nat_le (p.class c) highest) some (le-leb (p.class c) highest (omega arith)) (unblocked d both))
+        up some (inr starts) = absurd (false≢true (sym (unblocked d both) ∙ and_from _ _ (ap not some) (le-leb (p.class c) highest (omega arith))))
 
     -- it is a mark, and is left
     pub cluster-left : is_starter p c ≡ false → joined p starter left c ≡ None → AreClusters p done (cs ++ c ∷ []) starter (left ++ c ∷ []) (p.class c) (p.class c) (count + 1)
@@ -124,26 +118,19 @@ module _ (p : Properties) where
         (λ x. list_any-append (λ m. nat_le (p.class x) (p.class m)) left (c ∷ []) ∙ ap (λ b. b || (nat_le (p.class x) (p.class c) || false)) (here.blocked x) ∙ behind x)
         (λ some. omega arith) longer
       where
-        next : (a b d e : Bool) → e ≡ false → (a ≡ false → b ≡ true → d ≡ true) → ((not a && b) || (d || false)) ≡ (not e && d)
-        next true b true true h f = cc
-        next true b true false h f = refl
-        next true b false true h f = cc
-        next true b false false h f = refl
-        next false true d true h f = cc
-        next false true d false h f = sym (f refl refl)
-        next false false true true h f = cc
-        next false false true false h f = refl
-        next false false false true h f = cc
-        next false false false false h f = refl
+        next : (a b : Bool) → (a ≡ true → b ≡ true) → (a || (b || false)) ≡ b
+        next true b less = sym (less refl)
+        next false b less = or-false b
 
         up : (length left == 0) ≡ false → highest ≤ p.class c
         up some = let within = here.within some in ⊎_elim (λ (above : last ≤ p.class c). omega arith) (λ (starts : p.class c ≡ 0). absurd (true≢false (sym (eq-eqb (p.class c) 0 starts) ∙ mark))) follows
 
         behind : (x : ℕ) → (blocks p left highest x || (nat_le (p.class x) (p.class c) || false)) ≡ blocks p (left ++ c ∷ []) (p.class c) x
         behind x =
-            next (length left == 0) (nat_le (p.class x) highest) (nat_le (p.class x) (p.class c)) (length (left ++ c ∷ []) == 0)
-            (ne_eqb _ 0 (λ none. absurd (omega (arith, length-append left (c ∷ [])))))
-            (λ some below. le-leb (p.class x) (p.class c) (omega (arith, up some, leb-true (p.class x) highest below)))
+            next (blocks p left highest x) (nat_le (p.class x) (p.class c))
+            (λ both. let parts = and_parts (not (length left == 0)) (nat_le (p.class x) highest) both in
+            le-leb (p.class x) (p.class c) (omega (arith, up (not-true _ parts.0), leb-true (p.class x) highest parts.1)))
+            ∙ ap (λ b. not b && nat_le (p.class x) (p.class c)) (sym (ne_eqb (length (left ++ c ∷ [])) 0 (λ none. absurd (omega (arith, length-append left (c ∷ []))))))
 
     -- it is a starter that does not compose: the next cluster begins
     pub cluster-next : is_starter p c ≡ true → joined p starter left c ≡ None → AreClusters p (done ++ starter ∷ left) (cs ++ c ∷ []) c [] (p.class c) highest 1
