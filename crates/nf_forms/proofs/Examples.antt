@@ -1,7 +1,7 @@
 -- The worked examples, computed from the definitions.
 use Rattle.std.specs.Prelude.{◌≡◌, ◌==◌, ◌&&◌, [], ◌∷◌, ◌++◌, Some, true, refl, replicate, if◌then◌else◌}
 use Rattle.nf_forms.specs.Properties.{Properties}
-use Rattle.nf_forms.specs.declared.form.Form.TheVariants.{Nfc, Nfkc, Nfkd}
+use Rattle.nf_forms.specs.declared.form.Form.TheVariants.{Nfc, Nfkd}
 use Rattle.nf_forms.specs.Order.{by_class}
 use Rattle.nf_forms.specs.Forms.{normal_form}
 use Rattle.nf_forms.specs.StreamSafe.{stream_safe}
@@ -9,14 +9,6 @@ use Rattle.nf_forms.specs.Front.{front}
 use Rattle.nf_forms.specs.Sound.{is_sound}
 use Rattle.nf_forms.specs.Ucd.{ucd}
 use Rattle.unicode_normalization.proofs.Computing.{unicode_normalization}
-
-long_s : normal_form Nfkc ucd (0x1E9B ∷ 0x323 ∷ []) ≡ 0x1E69 ∷ []
-unfolding by_class ucd unicode_normalization
-long_s = refl
-
-marks_in_order : normal_form Nfc ucd (0x61 ∷ 0x302 ∷ 0x323 ∷ []) ≡ 0x1EAD ∷ []
-unfolding by_class ucd unicode_normalization
-marks_in_order = refl
 
 process_first : normal_form Nfc ucd (stream_safe ucd (0x71 ∷ replicate 30 0x301 ++ 0x323 ∷ [])) ≡ 0x71 ∷ replicate 30 0x301 ++ 0x34F ∷ 0x323 ∷ []
 unfolding by_class ucd unicode_normalization
@@ -33,18 +25,6 @@ halfwidth = refl
 ligature_settles : front ucd (normal_form Nfkd ucd (0xFDFA ∷ [])) ≡ 0x635 ∷ 0x644 ∷ 0x649 ∷ 0x20 ∷ 0x627 ∷ 0x644 ∷ 0x644 ∷ 0x647 ∷ 0x20 ∷ 0x639 ∷ 0x644 ∷ 0x64A ∷ 0x647 ∷ 0x20 ∷ 0x648 ∷ 0x633 ∷ 0x644 ∷ []
 unfolding by_class ucd unicode_normalization
 ligature_settles = refl
-
-syllable : normal_form Nfc ucd (0x1112 ∷ 0x1161 ∷ 0x11AB ∷ []) ≡ 0xD55C ∷ []
-unfolding by_class ucd unicode_normalization
-syllable = refl
-
-mark_keeps_apart : normal_form Nfc ucd (0x1100 ∷ 0x300 ∷ 0x1161 ∷ []) ≡ 0x1100 ∷ 0x300 ∷ 0x1161 ∷ []
-unfolding by_class ucd unicode_normalization
-mark_keeps_apart = refl
-
-no_starter : normal_form Nfc ucd (0x301 ∷ 0x323 ∷ []) ≡ 0x323 ∷ 0x301 ∷ []
-unfolding by_class ucd unicode_normalization
-no_starter = refl
 
 after_decomposed : stream_safe ucd (0xC5 ∷ replicate 30 0x301) ≡ 0xC5 ∷ replicate 29 0x301 ++ 0x34F ∷ 0x301 ∷ []
 unfolding by_class ucd unicode_normalization

@@ -1,8 +1,8 @@
 -- A text cut behind a character that closes it: its order, composition, form, stream-safe text and both together.
-use Rattle.std.proofs.Common.{◌≡◌, ℕ, ◌+◌, Bool, true, false, List, [], ◌∷◌, ◌++◌, length, None, refl, sym, ap, ◌∙◌, ⊎_elim, arith, append-nil, append_assoc}
-use Rattle.std.proofs.lemmas.Bool.{cases_Bool, cond-true}
+use Rattle.std.proofs.Common.{◌≡◌, ℕ, Bool, true, false, List, [], ◌∷◌, ◌++◌, None, refl, sym, ap, ◌∙◌, ⊎_elim, arith, append-nil, append_assoc}
+use Rattle.std.proofs.lemmas.Bool.{cond_both, cases_Bool, cond-true}
 use Rattle.std.proofs.lemmas.List.Sums.{fold-append}
-use Rattle.std.specs.Prelude.{fold, if◌then◌else◌}
+use Rattle.std.specs.Prelude.{fold}
 use Rattle.nf_forms.specs.Properties.{Properties, is_starter}
 use Rattle.nf_forms.specs.Runs.{has_starter, trail}
 use Rattle.nf_forms.specs.Order.{order}
@@ -70,11 +70,7 @@ module _ (p : Properties) where
   run-closed : (o z : List ℕ) → last_run p o ≡ 0 → last_run p (o ++ z) ≡ last_run p z
   run-closed o z ends =
       ap (trail p) (decomposed-append p Nfkd o z) ∙ trail-append p (decomposed Nfkd p o) (decomposed Nfkd p z)
-      ∙ next (has_starter p (decomposed Nfkd p z)) (trail-marks p (decomposed Nfkd p z))
-    where
-      next : (b : Bool) → (b ≡ false → last_run p z ≡ length (decomposed Nfkd p z)) → (if b then last_run p z else length (decomposed Nfkd p z) + last_run p o) ≡ last_run p z
-      next true all = refl
-      next false all = omega (arith, ends, all refl)
+      ∙ cond_both (has_starter p (decomposed Nfkd p z)) _ _ (λ n. n ≡ last_run p z) (λ some. refl) (λ none. omega (arith, ends, trail-marks p (decomposed Nfkd p z) none))
 
   pub safe-closed : (o z y : List ℕ) → last_run p o ≡ 0 → fold (safe_step p) (o ++ z) y ≡ o ++ fold (safe_step p) z y
   safe-closed o z [] ends = refl

@@ -90,13 +90,10 @@ module _ (p : Properties) where
 
   some-fold : (b : Bool) (z w : List ℕ) → (has_starter p z || has_starter p w) ≡ true → has_starter p (fold (step b) z w) ≡ true
   some-fold b z [] some = sym (or-false (has_starter p z)) ∙ some
-  some-fold b z (c ∷ w) some = some-fold b (step b z c) w (next (has_starter p z) (is_starter p c) (has_starter p w) (has_starter p (step b z c)) some (some-step b z c))
+  some-fold b z (c ∷ w) some = some-fold b (step b z c) w (⊎_elim (λ more. or_right _ _ more) (λ none. or_left _ _ (some-step b z c (here none))) (cases_Bool (has_starter p w)))
     where
-      next : (x y u v : Bool) → (x || (y || u)) ≡ true → ((x || y) ≡ true → v ≡ true) → (v || u) ≡ true
-      next x y true v h i = or_right v true refl
-      next true y false v h i = or_left v false (i refl)
-      next false true false v h i = or_left v false (i refl)
-      next false false false v h i = cc
+      here : has_starter p w ≡ false → (has_starter p z || is_starter p c) ≡ true
+      here none = ap (λ b. has_starter p z || b) (sym (ap (λ h. is_starter p c || h) none ∙ or-false (is_starter p c))) ∙ some
 
   -- ---- it stands in no other's way
 

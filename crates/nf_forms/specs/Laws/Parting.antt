@@ -1,6 +1,6 @@
 -- A text cut before a character that parts it: its order, composition, form, stream-safe text and both together.
-use Rattle.std.proofs.Common.{◌≡◌, ℕ, ◌≤◌, ◌+◌, Bool, true, false, cond, nat_lt, List, [], ◌∷◌, ◌++◌, Option, Some, None, refl, sym, ap, subst, ◌∙◌, ⊎_elim, arith, append-nil, append_assoc, le-ltb}
-use Rattle.std.proofs.lemmas.Bool.{cases_Bool, cond-true, cond-false, or_left}
+use Rattle.std.proofs.Common.{◌≡◌, ℕ, ◌≤◌, ◌+◌, Bool, true, false, nat_lt, List, [], ◌∷◌, ◌++◌, Option, Some, None, refl, sym, ap, subst, ◌∙◌, ⊎_elim, arith, append-nil, append_assoc, le-ltb}
+use Rattle.std.proofs.lemmas.Bool.{cond_both, cases_Bool, cond-true, cond-false, or_left}
 use Rattle.std.proofs.lemmas.List.Sums.{fold-append}
 use Rattle.std.specs.Prelude.{fold, if◌then◌else◌}
 use Rattle.nf_forms.specs.Properties.{Properties, is_starter}
@@ -29,11 +29,7 @@ module _ (p : Properties) where
   order-boundary w s v starts = order_after-at p [] w s v starts ∙ ap (λ k. order p w ++ k) (sym (order_after-at p [] [] s v starts))
 
   pub joined-none : (a : ℕ) (m : List ℕ) (s : ℕ) → composite p a s ≡ None → joined p a m s ≡ None
-  joined-none a m s none = next (is_blocked p m s)
-    where
-      next : (b : Bool) → cond b None (composite p a s) ≡ None
-      next true = refl
-      next false = none
+  joined-none a m s none = cond_both (is_blocked p m s) _ _ (λ o. o ≡ None) (λ blocked. refl) (λ free. none)
 
   pub step-never_second : (z : List ℕ) (s : ℕ) → ((a : ℕ) → composite p a s ≡ None) → compose_step p z s ≡ z ++ s ∷ []
   step-never_second z s never = ⊎_elim (λ some. at (last_starter p z some)) (compose_step-none p z s) (cases_Bool (has_starter p z))

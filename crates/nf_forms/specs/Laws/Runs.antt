@@ -1,5 +1,6 @@
 -- How the runs of a text follow from those of its parts.
 use Rattle.std.proofs.Common.{◌≡◌, ℕ, suc, ◌+◌, ◌≤◌, max, Bool, true, false, not, ◌||◌, cond, List, [], ◌∷◌, ◌++◌, length, reverse, refl, sym, ap, ◌∙◌, arith, zero-add}
+use Rattle.std.proofs.lemmas.Bool.{or_parts, cond-true}
 use Rattle.std.proofs.lemmas.List.{reverse-append, length-reverse}
 use Rattle.std.proofs.lemmas.List.Folds.{list_any-append}
 use Rattle.std.proofs.lemmas.List.Sums.{prefix_len-le-length, suffix_len-le-length}
@@ -40,12 +41,10 @@ module _ (p : Properties) where
   -- a text of non-starters alone is one run
   pub lead-marks : (w : List ℕ) → has_starter p w ≡ false → lead p w ≡ length w
   lead-marks [] h = refl
-  lead-marks (c ∷ w) h = next (is_starter p c) (has_starter p w) _ (length w) h (lead-marks w)
-    where
-      next : (b s : Bool) (n l : ℕ) → (b || s) ≡ false → (s ≡ false → n ≡ l) → cond (not b) (1 + n) 0 ≡ suc l
-      next true s n l h e = cc
-      next false true n l h e = cc
-      next false false n l h e = omega (arith, e refl)
+  lead-marks (c ∷ w) h =
+      let parts = or_parts (is_starter p c) (has_starter p w) h in
+      let here : lead p (c ∷ w) ≡ 1 + lead p w = cond-true _ _ _ (ap not parts.0) in
+      omega (arith, lead-marks w parts.1)
 
   pub trail-marks : (w : List ℕ) → has_starter p w ≡ false → trail p w ≡ length w
   trail-marks w h = lead-marks (reverse w) (has_starter-reverse w ∙ h) ∙ length-reverse w
