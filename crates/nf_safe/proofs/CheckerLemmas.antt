@@ -1,6 +1,9 @@
 -- A checker's steps.
 use Rattle.std.proofs.Common.{◌≡◌, ℕ, ◌+◌, ◌≤◌, Bool, true, false, not, ◌&&◌, List, [], ◌∷◌, ◌++◌, length, Some, None, is_some, encode_utf8, encode_utf8_all, refl, sym, ap, ap₂, ◌∙◌, arith, append_assoc, if◌then◌else◌, length-append}
 use Rattle.std.proofs.lemmas.Str.{encodes-append}
+use Rattle.std.proofs.lemmas.Bool.{cond-true, cond-false}
+use Rattle.nf_forms.specs.Laws.Parting.{run-behind}
+use Rattle.nf_safe.specs.declared.place.Place.{Place}
 use Rattle.nf_forms.specs.Properties.{Properties}
 use Rattle.nf_forms.specs.declared.form.Form.TheVariants.{Nfkd}
 use Rattle.nf_forms.specs.Runs.{trail}
@@ -8,16 +11,13 @@ use Rattle.nf_forms.specs.Forms.{decomposed}
 use Rattle.nf_forms.specs.Sound.{max_row}
 use Rattle.nf_safe.specs.declared.checker.Checker.{Checker}
 use Rattle.nf_safe.specs.Count.{counted, passes, count_step}
-use Rattle.nf_safe.specs.Place.{is_in_format}
+use Rattle.nf_safe.specs.Place.{is_in_format, place_from}
 use Rattle.nf_safe.specs.Checker.{place_of, StandsAfter, CountsFromEnd}
-use Rattle.nf_safe.specs.Laws.Count.{count_step-within, trail-decomposed-counted, trail-decomposed-behind}
+use Rattle.nf_safe.specs.Laws.Count.{count_step-within, trail-decomposed-counted}
 use Rattle.nf_safe.specs.Laws.Place.{is_in_format-push, is_in_format-join, place_from-in_format, place_from-at, place_from-stays}
 
-place_of-over : (checker : Checker) → checker.is_over ≡ true → place_of checker ≡ Some checker.reached
-place_of-over checker over = ap (λ b. if b then Some checker.reached else None) over
-
 place_of-on : (checker : Checker) → checker.is_over ≡ false → place_of checker ≡ None
-place_of-on checker on = ap (λ b. if b then Some checker.reached else None) on
+place_of-on checker on = cond-false _ _ _ on
 
 is_on : (checker : Checker) → place_of checker ≡ None → checker.is_over ≡ false
 is_on checker none = next checker.is_over none
@@ -27,17 +27,16 @@ is_on checker none = next checker.is_over none
     next false e = refl
 
 module _ (base : ℕ) (p : Properties) (old : Checker) (x : List ℕ) (c : ℕ) (before : StandsAfter base p old x) where
+  -- where the format was left, the place is all
+  left : (new : Checker) (at : Place) → place_of new ≡ Some at → place_from base p (x ++ c ∷ []) ≡ Some at → StandsAfter base p new (x ++ c ∷ [])
+  left new at found is =
+      let some = ap is_some found in
+      record { place = found ∙ sym is; in_format = λ none. cc; offset = λ none. cc; chars = λ none. cc; count = λ none. cc }
+
   pub stays : old.is_over ≡ true → StandsAfter base p old (x ++ c ∷ [])
   stays over =
-      let found = place_of-over old over in
-      let some = ap is_some found in
-      record {
-        place = found ∙ sym (place_from-stays p base x c old.reached (sym before.place ∙ found));
-        in_format = λ none. cc;
-        offset = λ none. cc;
-        chars = λ none. cc;
-        count = λ none. cc;
-      }
+      let found : place_of old ≡ Some old.reached = cond-true _ _ _ over in
+      left old old.reached found (place_from-stays p base x c old.reached (sym before.place ∙ found))
 
   -- with c the text is in the format, or not
   in_format : (b : Bool) → old.is_over ≡ false → length (p.compat c) ≤ max_row → passes p old.counter (p.compat c) ≡ b
@@ -51,15 +50,9 @@ module _ (base : ℕ) (p : Properties) (old : Checker) (x : List ℕ) (c : ℕ) 
       → place_of new ≡ Some old.reached → StandsAfter base p new (x ++ c ∷ [])
   leaves new on few answer found =
       let none = ap is_some (place_of-on old on) in
-      let some = ap is_some found in
-      record {
-        place = found ∙ ap₂ (λ n m. Some (record { chars = n; bytes = m })) (before.chars none) (before.offset none)
-            ∙ sym (place_from-at p base x c (before.in_format none) (in_format true on few answer));
-        in_format = λ none. cc;
-        offset = λ none. cc;
-        chars = λ none. cc;
-        count = λ none. cc;
-      }
+      left new old.reached found
+      (place_from-at p base x c (before.in_format none) (in_format true on few answer)
+      ∙ sym (ap₂ (λ n m. Some (record { chars = n; bytes = m })) (before.chars none) (before.offset none)))
 
   pub goes_on : (new : Checker) → old.is_over ≡ false → length (p.compat c) ≤ max_row → passes p old.counter (p.compat c) ≡ false
       → new.is_over ≡ false → new.reached.chars ≡ old.reached.chars + 1 → new.reached.bytes ≡ old.reached.bytes + length (encode_utf8 c)
@@ -88,5 +81,5 @@ module _ (base : ℕ) (p : Properties) (old end : Checker) (x y z : List ℕ) (b
         in_format = λ _. here;
         offset = λ _. omega (arith, bytes, behind.offset (ap is_some alone), ap (λ w. length (encode_utf8_all w)) split, ap length (encodes-append (x ++ y) z), length-append (encode_utf8_all (x ++ y)) (encode_utf8_all z));
         chars = λ _. omega (arith, chars, before.chars (ap is_some on), length-append x (y ++ z));
-        count = λ _. count ∙ behind.count (ap is_some alone) ∙ sym (ap (λ w. trail p (decomposed Nfkd p w)) (sym split) ∙ trail-decomposed-behind p (x ++ y) z anew.some);
+        count = λ _. count ∙ behind.count (ap is_some alone) ∙ sym (ap (λ w. trail p (decomposed Nfkd p w)) (sym split) ∙ run-behind p (x ++ y) z anew.some);
       }

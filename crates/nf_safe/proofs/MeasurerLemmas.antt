@@ -3,7 +3,7 @@ use Rattle.std.proofs.Common.{◌≡◌, ℕ, ◌+◌, ◌-◌, ◌<◌, ◌==�
 use Rattle.std.specs.List.{list_all}
 use Rattle.std.proofs.lemmas.Bool.{and_from, or_left}
 use Rattle.std.proofs.lemmas.List.Elements.{All-head, All-weaker}
-use Rattle.std.proofs.lemmas.List.Folds.{list_all-append, sum_by-zero}
+use Rattle.std.proofs.lemmas.List.Folds.{sum_by-zero}
 use Rattle.std.proofs.lemmas.List.Sums.{sum_by_push, sum_by-append, list_all-from_AllPass}
 use Rattle.std.proofs.lemmas.Str.{encodes-append, encodes-IsAscii}
 use Rattle.std.proofs.lemmas.Str.Ascii.{IsAscii-from_all}
@@ -15,13 +15,15 @@ use Rattle.nf_forms.specs.StreamSafe.{joiner, is_too_long, stream_safe}
 use Rattle.nf_forms.specs.Sound.{is_sound}
 use Rattle.nf_forms.specs.Laws.Sound.{IsSoundText, JoinerIsPlain-from_sound}
 use Rattle.nf_forms.specs.Laws.Starters.{longest-order}
+use Rattle.nf_forms.specs.Laws.Parting.{run-behind}
+use Rattle.nf_forms.specs.Laws.Closed.{sound-append}
 use Rattle.nf_forms.specs.Laws.StreamSafe.{stream_safe-push, decomposed-append, decomposed-push}
 use Rattle.nf_row.specs.Ascii.{IsPlainAscii, AreAscii}
 use Rattle.nf_row.specs.Laws.Ascii.{starter-ascii, sound-ascii, decomposed-ascii, stream_safe-ascii}
 use Rattle.nf_safe.specs.declared.measure.Measure.{Measure}
 use Rattle.nf_safe.specs.declared.measurer.Measurer.{Measurer}
 use Rattle.nf_safe.specs.Count.{passes, count_step}
-use Rattle.nf_safe.specs.Laws.Count.{trail-decomposed-safe_step, trail-decomposed-behind}
+use Rattle.nf_safe.specs.Laws.Count.{trail-decomposed-safe_step}
 use Rattle.nf_safe.specs.Laws.Pieces.{length-stream_safe-ge}
 use Rattle.nf_safe.specs.Runs.{HasRuns}
 use Rattle.nf_safe.specs.Measurer.{StandsAfter}
@@ -31,9 +33,7 @@ abbrev pub measured : ℕ → ℕ → ℕ → ℕ → ℕ → ℕ → Measure
 measured a b c d e f = record { bytes = a; chars = b; nonstarters = c; longest = d; put = e; unassigned = f }
 
 pub same_values : {a b c d e f k l m n o q : ℕ} → a ≡ k → b ≡ l → c ≡ m → d ≡ n → e ≡ o → f ≡ q → measured a b c d e f ≡ measured k l m n o q
-same_values {a} {b} {c} {d} {e} {f} {k} {l} {m} {n} {o} {q} bytes chars nonstarters longest put unassigned =
-    ap (λ i. measured i b c d e f) bytes ∙ ap (λ i. measured k i c d e f) chars ∙ ap (λ i. measured k l i d e f) nonstarters
-    ∙ ap (λ i. measured k l m i e f) longest ∙ ap (λ i. measured k l m n i f) put ∙ ap (λ i. measured k l m n o i) unassigned
+same_values bytes chars nonstarters longest put unassigned = cc
 
 module _ (p : Properties) (old : Measurer) (x : List ℕ) (c : ℕ) (before : StandsAfter p old x) where
   -- the count decides where the joiner is put
@@ -47,13 +47,10 @@ module _ (p : Properties) (old : Measurer) (x : List ℕ) (c : ℕ) (before : St
   safe_is b answer = stream_safe-push p x c ∙ ap safe_with (long_is b answer)
 
   stays_sound : (b : Bool) → is_sound p c ≡ true → (b ≡ true → is_sound p joiner ≡ true) → IsSoundText p (safe_with b)
-  stays_sound b sound joins = push (if b then stream_safe p x ++ joiner ∷ [] else stream_safe p x) c (parts b joins) sound
+  stays_sound b sound joins = sound-append p Nfkd (if b then stream_safe p x ++ joiner ∷ [] else stream_safe p x) (c ∷ []) (parts b joins) (and_from _ _ sound refl)
     where
-      push : (o : List ℕ) (d : ℕ) → IsSoundText p o → is_sound p d ≡ true → IsSoundText p (o ++ d ∷ [])
-      push o d front last = list_all-append (is_sound p) o (d ∷ []) ∙ and_from _ _ front (and_from _ _ last refl)
-
       parts : (b : Bool) → (b ≡ true → is_sound p joiner ≡ true) → IsSoundText p (if b then stream_safe p x ++ joiner ∷ [] else stream_safe p x)
-      parts true joins = push (stream_safe p x) joiner before.sound (joins refl)
+      parts true joins = sound-append p Nfkd (stream_safe p x) (joiner ∷ []) before.sound (and_from _ _ (joins refl) refl)
       parts false joins = before.sound
 
   put_is : (b : Bool) → passes p old.counter (p.compat c) ≡ b → length (stream_safe p (x ++ c ∷ [])) - length (x ++ c ∷ []) ≡ old.put + cond b 1 0
@@ -119,7 +116,7 @@ module _ (p : Properties) (plain : IsPlainAscii p) (old : Measurer) (x : List �
       subst (HasRuns p new.runs) (sym (decomposed-append p Nfkd x y ∙ ap (λ v. decomposed Nfkd p x ++ v) own)) runs in
       let starts = ap (has_starter p) own ∙ begins y some all_start in
       record {
-        sound = ap (list_all (is_sound p)) safe ∙ list_all-append (is_sound p) (stream_safe p x) y ∙ and_from _ _ before.sound (each (is_sound p) (sound-ascii p plain));
+        sound = ap (list_all (is_sound p)) safe ∙ sound-append p Nfkd (stream_safe p x) y before.sound (each (is_sound p) (sound-ascii p plain));
         values = same_values
             (omega (arith, bytes, ap (λ m. m.bytes) before.values, ap length (encodes-append x y), length-append (encode_utf8_all x) (encode_utf8_all y), ap length (encodes-IsAscii y (IsAscii-from_all y ascii))))
             (omega (arith, chars, ap (λ m. m.chars) before.values, length-append x y))
@@ -127,7 +124,7 @@ module _ (p : Properties) (plain : IsPlainAscii p) (old : Measurer) (x : List �
             (runs_are.longest ∙ sym (longest-order p (decomposed Nfkd p (x ++ y))))
             (omega (arith, put, ap (λ m. m.put) before.values, ap length safe, length-append (stream_safe p x) y, length-append x y))
             (omega (arith, unassigned, ap (λ m. m.unassigned) before.values, sum_by-append (λ c. cond (not (p.assigned c)) 1 0) x y, all_assigned));
-        count = count ∙ sym last ∙ runs_are.last ∙ trail-decomposed-behind p x y starts
-            ∙ sym (ap (λ o. trail p (decomposed Nfkd p o)) safe ∙ trail-decomposed-behind p (stream_safe p x) y starts);
+        count = count ∙ sym last ∙ runs_are.last ∙ run-behind p x y starts
+            ∙ sym (ap (λ o. trail p (decomposed Nfkd p o)) safe ∙ run-behind p (stream_safe p x) y starts);
         runs = runs_are;
       }

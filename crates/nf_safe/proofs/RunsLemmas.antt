@@ -1,5 +1,5 @@
 -- The runs of decomposed text that grows at its end.
-use Rattle.std.proofs.Common.{◌≡◌, ℕ, ◌+◌, ◌<◌, max, not, Bool, true, false, cond, List, [], ◌∷◌, ◌++◌, length, refl, sym, ap, ◌∙◌, subst, arith, append_assoc, if◌then◌else◌, count_by, All}
+use Rattle.std.proofs.Common.{◌≡◌, ℕ, ◌+◌, ◌<◌, max, not, Bool, true, false, cond, List, [], ◌∷◌, ◌++◌, length, refl, sym, ap, ap₂, ◌∙◌, subst, arith, append_assoc, if◌then◌else◌, count_by, All}
 use Rattle.std.proofs.lemmas.List.Elements.{All-head, All-tail}
 use Rattle.std.proofs.lemmas.List.Sums.{sum_by_push}
 use Rattle.nf_forms.specs.Properties.{Properties, is_starter, is_nonstarter}
@@ -24,20 +24,13 @@ module _ (p : Properties) (runs : Runs) (w : List ℕ) (c : ℕ) (before : HasRu
       next true = omega (arith, before.longest, before.last, runs.last_within)
       next false = omega (arith, before.longest, before.last)
 
-  pub push_starter : (new : Runs) → is_starter p c ≡ true → new.nonstarters ≡ runs.nonstarters → new.longest ≡ runs.longest → new.last ≡ 0
-      → HasRuns p new (w ++ c ∷ [])
-  push_starter new e nonstarters longest last = record {
-    nonstarters = omega (arith, nonstarters, counted true e);
-    longest = longest ∙ sym (widest true e);
-    last = last ∙ sym (trail-push p w c ∙ ap (λ b. if b then 0 else trail p w + 1) e);
-  }
-
-  pub push_mark : (new : Runs) → is_starter p c ≡ false → new.nonstarters ≡ runs.nonstarters + 1 → new.longest ≡ max runs.longest (runs.last + 1) → new.last ≡ runs.last + 1
-      → HasRuns p new (w ++ c ∷ [])
-  push_mark new e nonstarters longest last = record {
-    nonstarters = omega (arith, nonstarters, counted false e);
-    longest = longest ∙ sym (widest false e);
-    last = omega (arith, last, before.last, trail-push p w c ∙ ap (λ b. if b then 0 else trail p w + 1) e);
+  -- c is a starter, or not
+  pub push : (new : Runs) (b : Bool) → is_starter p c ≡ b → new.nonstarters ≡ runs.nonstarters + cond (not b) 1 0 → new.longest ≡ (if b then runs.longest else max runs.longest (runs.last + 1))
+      → new.last ≡ (if b then 0 else runs.last + 1) → HasRuns p new (w ++ c ∷ [])
+  push new b e nonstarters longest last = record {
+    nonstarters = nonstarters ∙ sym (counted b e);
+    longest = longest ∙ sym (widest b e);
+    last = last ∙ sym (trail-push p w c ∙ ap₂ (λ b n. if b then 0 else n + 1) e (sym before.last));
   }
 
 -- starters alone behind it
@@ -45,7 +38,7 @@ pub push_starters : (p : Properties) (new : Runs) (v : List ℕ) → 0 < length 
     → new.nonstarters ≡ runs.nonstarters → new.longest ≡ runs.longest → new.last ≡ 0 → HasRuns p new (w ++ v)
 push_starters p new [] some all runs w before nonstarters longest last = absurd (omega arith)
 push_starters p new (c ∷ []) some all runs w before nonstarters longest last =
-    push_starter p runs w c before new (All-head (λ c. is_starter p c ≡ true) c [] all) nonstarters longest last
+    push p runs w c before new true (All-head (λ c. is_starter p c ≡ true) c [] all) (omega (arith, nonstarters)) longest last
 push_starters p new (c ∷ d ∷ v) some all runs w before nonstarters longest last =
-    let first = push_starter p runs w c before new (All-head (λ c. is_starter p c ≡ true) c (d ∷ v) all) nonstarters longest last in
+    let first = push p runs w c before new true (All-head (λ c. is_starter p c ≡ true) c (d ∷ v) all) (omega (arith, nonstarters)) longest last in
     subst (HasRuns p new) (append_assoc w (c ∷ []) (d ∷ v)) (push_starters p new (d ∷ v) (omega arith) (All-tail (λ c. is_starter p c ≡ true) c (d ∷ v) all) new (w ++ c ∷ []) first refl refl last)

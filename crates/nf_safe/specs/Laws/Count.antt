@@ -2,7 +2,7 @@
 use Rattle.std.proofs.Common.{◌≡◌, ℕ, ◌+◌, ◌≤◌, Bool, true, false, List, [], ◌∷◌, ◌++◌, length, map, refl, sym, ap, ◌∙◌, arith}
 use Rattle.std.specs.Prelude.{if◌then◌else◌}
 use Rattle.std.specs.List.{list_all}
-use Rattle.std.proofs.lemmas.Bool.{cond-true, ltb-false}
+use Rattle.std.proofs.lemmas.Bool.{cond-true, cond-false, ltb-false}
 use Rattle.std.proofs.lemmas.List.{map-append}
 use Rattle.std.proofs.lemmas.List.Sums.{fold-append}
 use Rattle.nf_forms.specs.Properties.{Properties}
@@ -13,7 +13,7 @@ use Rattle.nf_forms.specs.StreamSafe.{joiner, max_run, is_too_long, parted, safe
 use Rattle.nf_forms.specs.Sound.{max_row, is_sound}
 use Rattle.nf_forms.specs.Laws.Last.{by_last}
 use Rattle.nf_forms.specs.Laws.Runs.{trail-le-length, lead-marks, trail-marks, trail-append}
-use Rattle.nf_forms.specs.Laws.StreamSafe.{decomposed-append, stream_safe-push, trail-decomposed-push, trail-decomposed-joiner, sound-safe_step}
+use Rattle.nf_forms.specs.Laws.StreamSafe.{stream_safe-push, trail-decomposed-push, trail-decomposed-joiner, sound-safe_step}
 use Rattle.nf_forms.specs.Laws.Sound.{JoinerIsPlain, IsSoundText}
 use Rattle.nf_safe.specs.Count.{counted, passes, count_step, since_step, since_last}
 
@@ -30,12 +30,11 @@ module _ (p : Properties) where
       next false false e all own = omega (arith, all refl, ltb-false max_run (n + lead p row) e)
 
   pub count_step-starter : (n : ℕ) (row : List ℕ) → has_starter p row ≡ true → count_step p n row ≡ trail p row
-  count_step-starter n row some = ap (λ h. if h then trail p row else (if passes p n row then 0 else n) + length row) some
+  count_step-starter n row some = cond-true _ _ _ some
 
   pub count_step-marks : (n : ℕ) (row : List ℕ) → has_starter p row ≡ false → count_step p n row ≡ (if passes p n row then 0 else n) + lead p row
   count_step-marks n row none =
-      ap (λ h. if h then trail p row else (if passes p n row then 0 else n) + length row) none
-      ∙ ap (λ m. (if passes p n row then 0 else n) + m) (sym (lead-marks p row none))
+      cond-false _ _ _ none ∙ ap (λ m. (if passes p n row then 0 else n) + m) (sym (lead-marks p row none))
 
   pub count_step-within : (n : ℕ) (row : List ℕ) → passes p n row ≡ false → count_step p n row ≡ counted p n row
   count_step-within n row within = ap (λ b. counted p (if b then 0 else n) row) within
@@ -46,31 +45,16 @@ module _ (p : Properties) where
       next : (b h : Bool) → has_starter p row ≡ h → trail p (if b then row else joined ++ row) ≡ (if h then trail p row else (if b then 0 else trail p joined) + length row)
       next true true e = refl
       next true false e = omega (arith, trail-marks p row e)
-      next false h e = trail-append p joined row ∙ ap (λ s. if s then trail p row else length row + trail p joined) e ∙ turned h
-        where
-          turned : (h : Bool) → (if h then trail p row else length row + trail p joined) ≡ (if h then trail p row else trail p joined + length row)
-          turned true = refl
-          turned false = omega arith
-
-  pub since_last-push : (rows : List (List ℕ)) (row : List ℕ) → since_last p (rows ++ row ∷ []) ≡ since_step p (since_last p rows) row
-  since_last-push rows row = fold-append (since_step p) [] rows (row ∷ [])
+      next false true e = trail-append p joined row ∙ cond-true _ _ _ e
+      next false false e = omega (arith, trail-append p joined row ∙ cond-false _ _ _ e)
 
   pub trail-since_last-push : (rows : List (List ℕ)) (row : List ℕ) → trail p (since_last p (rows ++ row ∷ [])) ≡ count_step p (trail p (since_last p rows)) row
-  trail-since_last-push rows row = ap (trail p) (since_last-push rows row) ∙ trail-since_step (since_last p rows) row
+  trail-since_last-push rows row = ap (trail p) (fold-append (since_step p) [] rows (row ∷ [])) ∙ trail-since_step (since_last p rows) row
 
   -- a text goes on without a joiner
   pub trail-decomposed-counted : (x : List ℕ) (c : ℕ) → trail p (decomposed Nfkd p (x ++ c ∷ [])) ≡ counted p (trail p (decomposed Nfkd p x)) (p.compat c)
-  trail-decomposed-counted x c = trail-decomposed-push p Nfkd x c ∙ next (has_starter p (p.compat c))
-    where
-      next : (h : Bool) → (if h then trail p (p.compat c) else length (p.compat c) + trail p (decomposed Nfkd p x))
-          ≡ (if h then trail p (p.compat c) else trail p (decomposed Nfkd p x) + length (p.compat c))
-      next true = refl
-      next false = omega arith
-
-  -- behind a starter the count is that of what stands there
-  pub trail-decomposed-behind : (x y : List ℕ) → has_starter p (decomposed Nfkd p y) ≡ true → trail p (decomposed Nfkd p (x ++ y)) ≡ trail p (decomposed Nfkd p y)
-  trail-decomposed-behind x y some =
-      ap (trail p) (decomposed-append p Nfkd x y) ∙ trail-append p (decomposed Nfkd p x) (decomposed Nfkd p y) ∙ cond-true _ _ _ some
+  trail-decomposed-counted x c =
+      trail-decomposed-push p Nfkd x c ∙ ap (λ n. if has_starter p (p.compat c) then trail p (p.compat c) else n) (omega arith)
 
   -- one step of the process is one step of the count
   pub trail-decomposed-safe_step : (out : List ℕ) (c : ℕ) → (is_too_long p out c ≡ true → JoinerIsPlain p)

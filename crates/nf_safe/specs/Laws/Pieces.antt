@@ -16,14 +16,13 @@ use Rattle.nf_forms.specs.Laws.Last.{by_last}
 use Rattle.nf_forms.specs.Laws.Runs.{lead-le-length}
 use Rattle.nf_forms.specs.Laws.Sound.{IsSoundText, IsSound-from_test, JoinerIsPlain-from_sound, sound_last}
 use Rattle.nf_forms.specs.Laws.StreamSafe.{stream_safe-push, sound-safe_step, trail-decomposed-joiner}
-use Rattle.nf_forms.specs.Laws.Parting.{safe_step-room}
 use Rattle.nf_forms.specs.Laws.Closing.{safe-closed}
 use Rattle.nf_forms.specs.Laws.Audited.{stream_safe-short}
 use Rattle.nf_safe.specs.LongestFront.{longest_front, IsLongestFront}
 use Rattle.nf_safe.specs.Place.{is_in_format}
 use Rattle.nf_safe.specs.Pieces.{IsGreedyCut, rejoined}
 use Rattle.nf_safe.specs.Laws.LongestFront.{longest_front_is}
-use Rattle.nf_safe.specs.Laws.Place.{is_in_format-none, is_in_format-push, longest-normal_form}
+use Rattle.nf_safe.specs.Laws.Place.{is_in_format-none, is_in_format-push, longest-normal_form, is_in_format-stream_safe}
 
 module _ (p : Properties) where
   few : (c : ℕ) → is_sound p c ≡ true → length (p.compat c) ≤ max_row
@@ -45,9 +44,6 @@ module _ (p : Properties) where
       is_in_format-push p [] c (few c sound)
       ∙ and_from _ _ (is_in_format-none p) (ap not (le-ltb max_run (0 + lead p (p.compat c)) (omega (arith, lead-le-length p (p.compat c), few c sound))))
 
-  one-stream_safe : (c : ℕ) → is_sound p c ≡ true → safe_step p [] c ≡ c ∷ []
-  one-stream_safe c sound = safe_step-room p [] c (omega (arith, lead-le-length p (p.compat c), few c sound))
-
   -- where one character more leaves the format, a joiner goes before it, and the rest is filtered alone
   parted-behind : is_sound p joiner ≡ true → (piece : List ℕ) (d : ℕ) (rest : List ℕ) → is_sound p d ≡ true
       → is_in_format p piece ≡ true → is_in_format p (piece ++ d ∷ []) ≡ false
@@ -60,7 +56,7 @@ module _ (p : Properties) where
       ∙ ap (λ o. fold (safe_step p) (safe_step p o d) rest) (stream_safe-in_format piece inside)
       ∙ ap (λ o. fold (safe_step p) (o ++ d ∷ []) rest) (cond-true _ _ _ long)
       ∙ safe-closed p put (d ∷ []) rest (trail-decomposed-joiner p (JoinerIsPlain-from_sound p joins) Nfkd piece)
-      ∙ ap (λ o. put ++ fold (safe_step p) o rest) (sym (one-stream_safe d sound))
+      ∙ ap (λ o. put ++ fold (safe_step p) o rest) (sym (stream_safe-in_format (d ∷ []) (one-in_format d sound)))
       ∙ append_assoc piece (joiner ∷ []) (stream_safe p (d ∷ rest))
     where
       turned : (a b : Bool) → (a && not b) ≡ false → a ≡ true → b ≡ true
@@ -77,37 +73,33 @@ module _ (p : Properties) where
       next zero is = let out = is.longer 1 (omega arith) (omega arith) in absurd (false≢true (sym out ∙ one-in_format c sound))
       next (suc n) is = omega arith
 
-  -- behind a piece comes a character that leaves the format
-  piece-ends : (piece : List ℕ) (d : ℕ) (rest : List ℕ) → length piece ≡ longest_front (is_in_format p) (piece ++ d ∷ rest)
-      → (is_in_format p piece ≡ true) × (is_in_format p (piece ++ d ∷ []) ≡ false)
+  -- a piece is in the format, and the character behind it leaves the format
+  piece-inside : (piece rest : List ℕ) → length piece ≡ longest_front (is_in_format p) (piece ++ rest) → is_in_format p piece ≡ true
+  piece-inside piece rest len =
+      let is = longest_front_is (is_in_format p) (piece ++ rest) (is_in_format-none p) in
+      ap (is_in_format p) (sym (take-append_seam piece rest) ∙ ap (λ n. take n (piece ++ rest)) len) ∙ is.passes
+
+  piece-ends : (piece : List ℕ) (d : ℕ) (rest : List ℕ) → length piece ≡ longest_front (is_in_format p) (piece ++ d ∷ rest) → is_in_format p (piece ++ d ∷ []) ≡ false
   piece-ends piece d rest len =
       let is = longest_front_is (is_in_format p) (piece ++ d ∷ rest) (is_in_format-none p) in
-      let one_more : length (piece ++ d ∷ []) ≡ length piece + 1 = length-append piece (d ∷ []) in (
-        ap (is_in_format p) (sym (take-append_seam piece (d ∷ rest)) ∙ ap (λ n. take n (piece ++ d ∷ rest)) len) ∙ is.passes,
-        ap (is_in_format p) (sym (take-append_seam (piece ++ d ∷ []) rest) ∙ ap (take (length (piece ++ d ∷ []))) (append_assoc piece (d ∷ []) rest))
-            ∙ is.longer (length (piece ++ d ∷ [])) (omega arith) (omega (arith, one_more, length-append piece (d ∷ rest))),
-      )
-
-  whole-piece : (piece : List ℕ) → length piece ≡ longest_front (is_in_format p) (piece ++ []) → is_in_format p piece ≡ true
-  whole-piece piece len =
-      let is = longest_front_is (is_in_format p) (piece ++ []) (is_in_format-none p) in
-      ap (is_in_format p) (sym (take-append_seam piece []) ∙ ap (λ n. take n (piece ++ [])) len) ∙ is.passes
+      ap (is_in_format p) (sym (take-append_seam (piece ++ d ∷ []) rest) ∙ ap (take (length (piece ++ d ∷ []))) (append_assoc piece (d ∷ []) rest))
+      ∙ is.longer (length (piece ++ d ∷ [])) (omega (arith, length-append piece (d ∷ []))) (omega (arith, length-append piece (d ∷ []), length-append piece (d ∷ rest)))
 
   pub stream_safe-rejoined : is_sound p joiner ≡ true → (x : List ℕ) → IsSoundText p x → (pieces : List (List ℕ)) → IsGreedyCut p x pieces → stream_safe p x ≡ rejoined pieces
   stream_safe-rejoined joins x sound [] cut = ap (stream_safe p) cut
   stream_safe-rejoined joins x sound (piece ∷ []) cut =
       let all : x ≡ piece ++ [] = cut.1 ∙ ap (λ r. piece ++ r) cut.4 in
-      let inside = whole-piece piece (cut.3 ∙ ap (longest_front (is_in_format p)) all) in
+      let inside = piece-inside piece [] (cut.3 ∙ ap (longest_front (is_in_format p)) all) in
       ap (stream_safe p) (all ∙ append-nil piece) ∙ stream_safe-in_format piece inside
   stream_safe-rejoined joins x sound (piece ∷ next ∷ pieces) cut = from cut.0 cut.1 cut.4 (stream_safe-rejoined joins cut.0 (sound-parts piece cut.0 (ap (list_all (is_sound p)) (sym cut.1) ∙ sound)).1 (next ∷ pieces) cut.4)
     where
       from : (rest : List ℕ) → x ≡ piece ++ rest → IsGreedyCut p rest (next ∷ pieces) → stream_safe p rest ≡ rejoined (next ∷ pieces) → stream_safe p x ≡ piece ++ joiner ∷ rejoined (next ∷ pieces)
       from [] text behind before = absurd (omega (arith, behind.2, ap length behind.1, length-append next behind.0))
       from (d ∷ rest) text behind before =
-          let ends = piece-ends piece d rest (cut.3 ∙ ap (longest_front (is_in_format p)) text) in
+          let len = cut.3 ∙ ap (longest_front (is_in_format p)) text in
           let members = sound-parts piece (d ∷ rest) (ap (list_all (is_sound p)) (sym text) ∙ sound) in
           ap (stream_safe p) text
-          ∙ parted-behind joins piece d rest (and_parts _ _ members.1).0 ends.0 ends.1
+          ∙ parted-behind joins piece d rest (and_parts _ _ members.1).0 (piece-inside piece (d ∷ rest) len) (piece-ends piece d rest len)
           ∙ ap (λ v. piece ++ joiner ∷ v) before
 
   -- there is one, and no other
@@ -153,50 +145,32 @@ module _ (p : Properties) where
       more x c before = omega (arith, next (is_too_long p (stream_safe p x) c) x c before, ap length (stream_safe-push p x c))
 
   pub in_format-unchanged : (x : List ℕ) → IsSoundText p x → stream_safe p x ≡ x → is_in_format p x ≡ true
-  in_format-unchanged = by_last (λ x. IsSoundText p x → stream_safe p x ≡ x → is_in_format p x ≡ true) (λ _ _. is_in_format-none p) more
-    where
-      more : (x : List ℕ) (c : ℕ) → (IsSoundText p x → stream_safe p x ≡ x → is_in_format p x ≡ true)
-          → IsSoundText p (x ++ c ∷ []) → stream_safe p (x ++ c ∷ []) ≡ x ++ c ∷ [] → is_in_format p (x ++ c ∷ []) ≡ true
-      more x c before sound same =
-          let members = sound_last p x c sound in
-          next (is_too_long p (stream_safe p x) c) refl (sym (stream_safe-push p x c) ∙ same) members.0 members.1
-        where
-          next : (b : Bool) → is_too_long p (stream_safe p x) c ≡ b → (if b then stream_safe p x ++ joiner ∷ [] else stream_safe p x) ++ c ∷ [] ≡ x ++ c ∷ []
-              → IsSoundText p x → is_sound p c ≡ true → is_in_format p (x ++ c ∷ []) ≡ true
-          next true long e front last =
-              absurd (omega (arith, ap length e, length-stream_safe-ge x, length-append (stream_safe p x ++ joiner ∷ []) (c ∷ []), length-append (stream_safe p x) (joiner ∷ []), length-append x (c ∷ [])))
-          next false room e front last =
-              let kept : stream_safe p x ≡ x = sym (take-append_seam (stream_safe p x) (c ∷ [])) ∙ ap₂ take (omega (arith, ap length e, length-append (stream_safe p x) (c ∷ []), length-append x (c ∷ []))) e ∙ take-append_seam x (c ∷ []) in
-              is_in_format-push p x c (few c last)
-              ∙ and_from _ _ (before front kept) (ap not (ap (λ o. is_too_long p o c) (sym kept) ∙ room))
+  in_format-unchanged x sound same =
+      sym (ap (is_in_format p) same) ∙ is_in_format-stream_safe p x (ap (list_all (is_sound p)) same ∙ sound)
 
   -- ---- where the process gives sound characters alone
 
-  pub sound-source : (x : List ℕ) → IsSoundText p (stream_safe p x) → IsSoundText p x
-  sound-source = by_last (λ x. IsSoundText p (stream_safe p x) → IsSoundText p x) (λ _. refl) more
-    where
-      more : (x : List ℕ) (c : ℕ) → (IsSoundText p (stream_safe p x) → IsSoundText p x) → IsSoundText p (stream_safe p (x ++ c ∷ [])) → IsSoundText p (x ++ c ∷ [])
-      more x c before sound =
-          let out = stream_safe p x in
-          let step : IsSoundText p (safe_step p out c) = sym (ap (list_all (is_sound p)) (stream_safe-push p x c)) ∙ sound in
-          list_all-append (is_sound p) x (c ∷ [])
-          ∙ and_from _ _ (before (sound-safe_step p out c step).0) (and_from _ _ (sound_last p (parted p out c) c step).1 refl)
-
-  -- it has put a joiner, which is sound, or nothing
-  joiner_or_same : (x : List ℕ) → IsSoundText p (stream_safe p x) → (is_sound p joiner ≡ true) ⊎ (stream_safe p x ≡ x)
-  joiner_or_same = by_last (λ x. IsSoundText p (stream_safe p x) → (is_sound p joiner ≡ true) ⊎ (stream_safe p x ≡ x)) (λ _. inr refl) more
+  -- the text's own are sound; and it has put a joiner, which is sound, or nothing
+  source : (x : List ℕ) → IsSoundText p (stream_safe p x) → IsSoundText p x × ((is_sound p joiner ≡ true) ⊎ (stream_safe p x ≡ x))
+  source = by_last (λ x. IsSoundText p (stream_safe p x) → IsSoundText p x × ((is_sound p joiner ≡ true) ⊎ (stream_safe p x ≡ x))) (λ _. (refl, inr refl)) more
     where
       next : (b : Bool) (o x : List ℕ) (c : ℕ) → IsSoundText p (if b then o ++ joiner ∷ [] else o) → (IsSoundText p o → (is_sound p joiner ≡ true) ⊎ (o ≡ x))
           → (is_sound p joiner ≡ true) ⊎ ((if b then o ++ joiner ∷ [] else o) ++ c ∷ [] ≡ x ++ c ∷ [])
       next true o x c sound before = inl (sound_last p o joiner sound).1
       next false o x c sound before = ⊎_elim inl (λ same. inr (ap (λ o. o ++ c ∷ []) same)) (before sound)
 
-      more : (x : List ℕ) (c : ℕ) → (IsSoundText p (stream_safe p x) → (is_sound p joiner ≡ true) ⊎ (stream_safe p x ≡ x))
-          → IsSoundText p (stream_safe p (x ++ c ∷ [])) → (is_sound p joiner ≡ true) ⊎ (stream_safe p (x ++ c ∷ []) ≡ x ++ c ∷ [])
+      more : (x : List ℕ) (c : ℕ) → (IsSoundText p (stream_safe p x) → IsSoundText p x × ((is_sound p joiner ≡ true) ⊎ (stream_safe p x ≡ x)))
+          → IsSoundText p (stream_safe p (x ++ c ∷ [])) → IsSoundText p (x ++ c ∷ []) × ((is_sound p joiner ≡ true) ⊎ (stream_safe p (x ++ c ∷ []) ≡ x ++ c ∷ []))
       more x c before sound =
           let out = stream_safe p x in
           let step : IsSoundText p (safe_step p out c) = sym (ap (list_all (is_sound p)) (stream_safe-push p x c)) ∙ sound in
-          ⊎_elim inl (λ same. inr (stream_safe-push p x c ∙ same)) (next (is_too_long p out c) out x c (sound_last p (parted p out c) c step).0 before)
+          let members = sound_last p (parted p out c) c step in (
+            list_all-append (is_sound p) x (c ∷ []) ∙ and_from _ _ (before (sound-safe_step p out c step).0).0 (and_from _ _ members.1 refl),
+            ⊎_elim inl (λ same. inr (stream_safe-push p x c ∙ same)) (next (is_too_long p out c) out x c members.0 (λ front. (before front).1)),
+          )
+
+  pub sound-source : (x : List ℕ) → IsSoundText p (stream_safe p x) → IsSoundText p x
+  sound-source x sound = (source x sound).0
 
   -- text in the format is one piece
   in_format-rejoined : (x : List ℕ) → is_in_format p x ≡ true → (pieces : List (List ℕ)) → IsGreedyCut p x pieces → rejoined pieces ≡ x
@@ -210,5 +184,5 @@ module _ (p : Properties) where
 
   pub stream_safe-cut : (x : List ℕ) → IsSoundText p (stream_safe p x) → (pieces : List (List ℕ)) → IsGreedyCut p x pieces → stream_safe p x ≡ rejoined pieces
   stream_safe-cut x sound pieces cut =
-      let source = sound-source x sound in
-      ⊎_elim (λ joins. stream_safe-rejoined joins x source pieces cut) (λ same. same ∙ sym (in_format-rejoined x (in_format-unchanged x source same) pieces cut)) (joiner_or_same x sound)
+      let is = source x sound in
+      ⊎_elim (λ joins. stream_safe-rejoined joins x is.0 pieces cut) (λ same. same ∙ sym (in_format-rejoined x (in_format-unchanged x is.0 same) pieces cut)) is.1

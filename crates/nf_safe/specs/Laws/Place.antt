@@ -1,7 +1,7 @@
 -- The format and the place of a text that grows at its end.
 use Rattle.std.proofs.Common.{◌≡◌, ℕ, ◌+◌, ◌≤◌, ◌==◌, nat_le, Bool, true, false, not, ◌&&◌, max, List, [], ◌∷◌, ◌++◌, length, take, drop, Option, Some, None, refl, sym, ap, ◌∙◌, arith, append_assoc}
 use Rattle.std.specs.Prelude.{if◌then◌else◌, nat_lt, option_map, encode_utf8_all}
-use Rattle.std.proofs.lemmas.Bool.{leb-true, leb-false, lt-leb, le-leb, eq-eqb, eqb-true, true_from_ne_false, ne_eqb}
+use Rattle.std.proofs.lemmas.Bool.{leb-true, leb-false, lt-leb, le-leb, eq-eqb, eqb-true, true_from_ne_false, false_from_ne_true, ne_eqb}
 use Rattle.std.proofs.lemmas.Bool.Decides.{nat_tests}
 use Rattle.std.proofs.lemmas.List.{length-append, take-append-le, take-append-drop, append-nil}
 use Rattle.std.proofs.Math.Seq.{take-length, take-append_seam}
@@ -86,12 +86,8 @@ module _ (p : Properties) where
 
   -- a text that has a place is not in the format, and the place is its longest front
   place_is : (x : List ℕ) (n : ℕ) → place p x ≡ Some n → (is_in_format p x ≡ false) × (longest_front (is_in_format p) x ≡ n)
-  place_is x n found = (out (is_in_format p x) refl, same (longest_front (is_in_format p) x == length x) found)
+  place_is x n found = (false_from_ne_true _ (λ e. let none = sym (place-in_format x e) ∙ found in cc), same (longest_front (is_in_format p) x == length x) found)
     where
-      out : (b : Bool) → is_in_format p x ≡ b → is_in_format p x ≡ false
-      out true e = let none = sym (place-in_format x e) ∙ found in cc
-      out false e = e
-
       same : (b : Bool) → (if b then None else Some (longest_front (is_in_format p) x)) ≡ Some n → longest_front (is_in_format p) x ≡ n
       same true e = cc
       same false e = cc
