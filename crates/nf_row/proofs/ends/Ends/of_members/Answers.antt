@@ -1,6 +1,7 @@
-use Rattle.std.proofs.Common.{◌≡◌, ◌==◌, ℕ, ◌+◌, ◌||◌, List, [], ◌∷◌, ◌++◌, take, sym, ap, ◌∙◌, subst, add-one, arith, if◌then◌else◌, take-suc}
+use Rattle.std.proofs.Common.{◌≡◌, ◌==◌, ℕ, ◌+◌, ◌||◌, List, [], ◌∷◌, ◌++◌, take, sym, ap, ◌∙◌, subst, arith, if◌then◌else◌}
 use Rattle.nf_row.specs.Ends.{HasEnds}
-use Rattle.nf_row.proofs.EndsLemmas.{HasEnds-push, grown-le, begun-le}
+use Rattle.std.proofs.lemmas.List.{take_more}
+use Rattle.nf_row.proofs.EndsLemmas.{HasEnds-push, grown-le}
 use Rattle.nf_row.proofs.ends.Ends.of_members.Goals as goal
 
 pub and-so_far-requires-clause-lead : goal.and-so_far-requires-clause-lead
@@ -21,11 +22,13 @@ loop-c-preserved g c =
     let i : ℕ = c.loop-c.c-index in
     let member : ℕ = c.c-item.result in
     let old = c.loop-c.so_far in
-    let more : take (i + 1) items ≡ take i items ++ member ∷ [] =
-    ap (λ n. take n items) (add-one i) ∙ take-suc items i member c.loop-c-test.true ∙ ap (λ v. take i items ++ v ∷ []) (sym c.c-item.is) in
+    let more : take (i + 1) items ≡ take i items ++ member ∷ [] = take_more items i member c.loop-c-test.true ∙ ap (λ v. take i items ++ v ∷ []) (sym c.c-item.is) in
     let starter = ap (λ n. n == 0) c.class.ensures in
     record {
-      few = (grown-le _ old.lead _ i c.and-so_far.ensures.lead c.loop-c.invariant.few.0, begun-le _ old.trail _ i c.and-so_far.ensures.trail c.loop-c.invariant.few.1);
+      few = (
+        grown-le _ old.lead old.lead _ i (omega arith) c.and-so_far.ensures.lead c.loop-c.invariant.few.0,
+        grown-le _ 0 old.trail _ i (omega arith) c.and-so_far.ensures.trail c.loop-c.invariant.few.1,
+      );
       ends = subst (λ w. HasEnds p w c.and-so_far.result) (sym more)
           (HasEnds-push p (take i items) member old c.and-so_far.result c.loop-c.invariant.ends
           (c.and-so_far.ensures.has_starter ∙ ap (λ b. old.has_starter || b) starter)
