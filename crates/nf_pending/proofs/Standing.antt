@@ -1,7 +1,8 @@
 -- What a machine holds of the text that it stands after.
 use Rattle.std.proofs.Common.{◌≡◌, ℕ, Bool, true, false, leb, List, [], ◌∷◌, ◌++◌, length, Option, Some, None, refl, sym, ap, ◌∙◌, subst, arith, append_assoc, map}
 use Rattle.std.proofs.lemmas.Bool.{cond-true, cond-false, ne_eqb}
-use Rattle.std.proofs.lemmas.List.{append-nil}
+use Rattle.std.proofs.lemmas.List.{append-nil, length-map, nil_from_length}
+use Rattle.std.proofs.Math.Bool.{or-false}
 use Rattle.std.specs.Prelude.{IfSome, insert, is_some, is_none, unwrap_or, ◌||◌}
 use Rattle.std.specs.List.{prefix_len}
 use Rattle.std.specs.Option.{option_to_list}
@@ -32,11 +33,13 @@ module _ (f : Form) (p : Properties) where
     pub starter_held : has_starter p w ≡ is_some pending.starter
     starter_held =
         ap (λ v. has_starter p v) s.text ∙ has_starter-append p s.head s.run ∙ ap (λ b. has_starter p s.head || b) s.marks
-        ∙ or_false (has_starter p s.head) ∙ has_starter-head p (composes f) s.head s.ends pending.starter (sym s.starter)
-      where
-        or_false : (b : Bool) → (b || false) ≡ b
-        or_false true = refl
-        or_false false = refl
+        ∙ or-false (has_starter p s.head) ∙ has_starter-head p (composes f) s.head s.ends pending.starter (sym s.starter)
+
+    -- where no mark is held, what stands behind the front is the starter's alone
+    back_unmarked : length pending.marks.items ≡ 0 → back p (finished f p w) ≡ closed_off p (composes f) pending.starter []
+    back_unmarked empty =
+        back_held ∙ ap (λ m. closed_off p (composes f) pending.starter m)
+        (nil_from_length (by_class p s.run) (sym (length-map (by_class p s.run) (mark_of p)) ∙ ap (λ m. length m) (sym s.held) ∙ empty))
 
     -- a starter more composes with what is held as it does with what stands behind the front
     pub composite_held : (c : ℕ) → composite_with p (composes f) pending.starter (closed_off p (composes f) pending.starter (by_class p s.run)) c ≡ next_composite p (composes f) (back p (finished f p w)) c
@@ -77,6 +80,11 @@ module _ (f : Form) (p : Properties) where
       ∙ sym (ap (λ v. front p (finished f p v)) (ap (λ v. v ++ c ∷ []) s.text ∙ append_assoc s.head s.run (c ∷ []))
       ∙ front-behind p (composes f) s.head (s.run ++ c ∷ []) s.ends (marks_push p s.run c s.marks mark))
 
+  -- a machine without marks, behind a text that ends in none
+  pub stands_unmarked : (new : Pending) (v : List ℕ) → trail p v ≡ 0 → new.composes ≡ composes f → option_to_list new.starter ≡ back p (finished f p v) → new.marks.items ≡ [] → StandsAfter f p new v
+  unfolding by_class
+  stands_unmarked new v ends form starter empty = record { head = v; run = []; text = sym (append-nil v); ends = ends; marks = refl; composes = form; starter = starter; held = empty }
+
   -- what a starter more gives of what was held
   abbrev pub given_by : Option ℕ → List ℕ → List ℕ
   given_by (Some d) closed = []
@@ -85,17 +93,9 @@ module _ (f : Form) (p : Properties) where
   -- a starter more
   pub stands_starter : (old new : Pending) (w : List ℕ) (c : ℕ) → is_starter p c ≡ true → StandsAfter f p old w → (o : Option ℕ) → o ≡ next_composite p (composes f) (back p (finished f p w)) c
       → new.composes ≡ old.composes → new.starter ≡ Some (unwrap_or o c) → new.marks.items ≡ [] → StandsAfter f p new (w ++ c ∷ [])
-  unfolding by_class
-  stands_starter old new w c starts s o composite same_form starter empty = record {
-    head = w ++ c ∷ [];
-    run = [];
-    text = sym (append-nil _);
-    ends = trail-push p w c ∙ cond-true _ _ _ starts;
-    marks = refl;
-    composes = same_form ∙ s.composes;
-    starter = ap option_to_list starter ∙ ap (λ o. unwrap_or o c ∷ []) composite ∙ sym (back-push_starter p (composes f) w c starts);
-    held = empty;
-  }
+  stands_starter old new w c starts s o composite same_form starter empty =
+      stands_unmarked new (w ++ c ∷ []) (trail-push p w c ∙ cond-true _ _ _ starts) (same_form ∙ s.composes)
+      (ap option_to_list starter ∙ ap (λ o. unwrap_or o c ∷ []) composite ∙ sym (back-push_starter p (composes f) w c starts)) empty
 
   pub settles_starter : (old : Pending) (w : List ℕ) (c : ℕ) → is_starter p c ≡ true → StandsAfter f p old w → (o : Option ℕ) → o ≡ next_composite p (composes f) (back p (finished f p w)) c
       → front p (finished f p w) ++ given_by o (back p (finished f p w)) ≡ front p (finished f p (w ++ c ∷ []))
@@ -106,29 +106,12 @@ module _ (f : Form) (p : Properties) where
       next None = front-append-back p (finished f p w)
 
   pub stands_new : (pending : Pending) → pending.composes ≡ composes f → pending.starter ≡ None → pending.marks.items ≡ [] → StandsAfter f p pending []
-  unfolding by_class
-  stands_new pending form starter empty = record {
-    head = [];
-    run = [];
-    text = refl;
-    ends = refl;
-    marks = refl;
-    composes = form;
-    starter = ap option_to_list starter ∙ sym (back-empty p (composes f));
-    held = empty;
-  }
-
-  nothing : (m : List ℕ) → length (map (mark_of p) m) ≡ 0 → m ≡ []
-  nothing [] e = refl
-  nothing (x ∷ m) e = cc
+  stands_new pending form starter empty = stands_unmarked pending [] refl form (ap option_to_list starter ∙ sym (back-empty p (composes f))) empty
 
   -- a starter that is held alone is all that stands behind the front
   pub back_alone : (pending : Pending) (w : List ℕ) → StandsAfter f p pending w → length pending.marks.items ≡ 0 → IfSome pending.starter (λ a. back p (finished f p w) ≡ a ∷ [])
-  back_alone pending w s empty = at pending.starter held
+  back_alone pending w s empty = at pending.starter (back_unmarked pending w s empty)
     where
-      held : back p (finished f p w) ≡ closed_off p (composes f) pending.starter []
-      held = back_held pending w s ∙ ap (λ m. closed_off p (composes f) pending.starter m) (nothing (by_class p s.run) (ap (λ m. length m) (sym s.held) ∙ empty))
-
       left : (b : Bool) (a : ℕ) → closed_off p b (Some a) [] ≡ a ∷ []
       left true a = refl
       left false a = refl
@@ -141,7 +124,7 @@ module _ (f : Form) (p : Properties) where
   pub none_held : (pending : Pending) (w : List ℕ) → StandsAfter f p pending w → is_none pending.starter ≡ true → length pending.marks.items ≡ 0
       → StandsAfter f p pending [] × (front p (finished f p w) ≡ finished f p w)
   none_held pending w s starter empty = (
-    stands_new pending s.composes (none pending.starter starter) (nil pending.marks.items empty),
+    stands_new pending s.composes (none pending.starter starter) (nil_from_length pending.marks.items empty),
     sym (append-nil (front p (finished f p w))) ∙ ap (λ b. front p (finished f p w) ++ b) (sym left) ∙ front-append-back p (finished f p w),
   )
     where
@@ -149,28 +132,8 @@ module _ (f : Form) (p : Properties) where
       none None e = refl
       none (Some a) e = cc
 
-      nil : (m : List Mark) → length m ≡ 0 → m ≡ []
-      nil [] e = refl
-      nil (x ∷ m) e = cc
-
       left : back p (finished f p w) ≡ []
-      left = back_held pending w s ∙ ap (λ o. closed_off p (composes f) o (by_class p s.run)) (none pending.starter starter)
-          ∙ nothing (by_class p s.run) (ap (λ m. length m) (sym s.held) ∙ empty)
-
-  -- a starter that a text leaves alone
-  pub stands_alone : (old new : Pending) (w v : List ℕ) (c : ℕ) → StandsAfter f p old w → back p (finished f p v) ≡ c ∷ [] → trail p v ≡ 0
-      → new.composes ≡ old.composes → new.starter ≡ Some c → new.marks.items ≡ [] → StandsAfter f p new v
-  unfolding by_class
-  stands_alone old new w v c s leaves ends same_form starter empty = record {
-    head = v;
-    run = [];
-    text = sym (append-nil v);
-    ends = ends;
-    marks = refl;
-    composes = same_form ∙ s.composes;
-    starter = ap option_to_list starter ∙ sym leaves;
-    held = empty;
-  }
+      left = back_unmarked pending w s empty ∙ ap (λ o. closed_off p (composes f) o []) (none pending.starter starter)
 
   -- what closes off all that is held
   module _ (pending : Pending) (w : List ℕ) (s : StandsAfter f p pending w) (closed : List ℕ)
@@ -205,6 +168,3 @@ in_order_closes p starter m marks same = ap (λ v. option_to_list starter ++ v) 
     next : (o : Option ℕ) → option_to_list o ++ m ≡ closed_off p false o m
     next None = refl
     next (Some s) = refl
-
-pub in_order_none : (p : Properties) (b : Bool) (m : List ℕ) (marks : List Mark) → marks ≡ map (mark_of p) m → option_to_list {X = ℕ} None ++ map (λ mark. mark.character) marks ≡ closed_off p b None m
-in_order_none p b m marks same = held-characters p m marks same
