@@ -1,19 +1,20 @@
 -- Bytes and the texts that they spell.
-use Rattle.std.proofs.Common.{◌≡◌, ◌⊎◌, ⊎_elim, inl, inr, ◌^◌, eqb-true, eq-eqb, true≢false, ℕ, suc, ◌+◌, ◌<◌, ◌≤◌, ◌==◌, Bool, true, false, List, [], ◌∷◌, ◌++◌, length, get_or, take, drop, take_all, refl, sym, ap, ap₂, ◌∙◌, subst, arith, append_assoc, append-nil, length-append, Option, Some, None, IsUtf8, chars, encode_utf8, encode_utf8_all, if◌then◌else◌}
+use Rattle.std.proofs.Common.{◌≡◌, ◌⊎◌, ⊎_elim, inl, inr, ◌^◌, eqb-true, eq-eqb, true≢false, ℕ, suc, ◌+◌, ◌<◌, ◌≤◌, ◌==◌, Bool, true, false, List, [], ◌∷◌, ◌++◌, length, get_or, take, drop, refl, sym, ap, ap₂, ◌∙◌, subst, arith, append_assoc, append-nil, length-append, Option, Some, None, IsUtf8, chars, encode_utf8, encode_utf8_all, if◌then◌else◌}
 use Rattle.std.proofs.lemmas.Bool.{and_parts, and_from}
-use Rattle.std.proofs.lemmas.List.{take_at, take-append-drop}
-use Rattle.std.proofs.lemmas.Str.{encodes-append, encodes-chars, length-le-encodes, chars-nil}
+use Rattle.std.proofs.lemmas.List.{take_at, take-append-drop, nil_from_length}
+use Rattle.std.proofs.lemmas.Str.{encodes-append, encodes-chars, length-le-encodes}
 use Rattle.nf_forms.specs.Ucd.{ucd}
 use Rattle.nf_forms.specs.declared.form.Form.{Form}
 use Rattle.nf_forms.specs.Twice.{ChangesOnce}
 use Rattle.nf_utf8.specs.declared.chunk.End.{End}
 use Rattle.nf_utf8.specs.declared.chunk.End.TheVariants.{Bad}
 use Rattle.nf_utf8.specs.declared.decoder.Decoder.{Decoder}
-use Rattle.nf_utf8.specs.Reading.{text_len, text_of, rest_of}
+use Rattle.nf_utf8.specs.Reading.{text_of, rest_of}
 use Rattle.nf_utf8.specs.Standing.{StandsAfter}
 use Rattle.nf_utf8.specs.Taking.{first_text, first_bytes, bytes_behind, Takes}
 use Rattle.nf_utf8.specs.Text.{IsText}
 use Rattle.nf_utf8.specs.Laws.{SplitsBytes, ReadsBack, ReadsPieces}
+use Rattle.nf_filter.proofs.ReadingLemmas.{text_of-none}
 use Rattle.nf_normalized.specs.Change.{common}
 use Rattle.nf_normalized.specs.Bytes.{goes_on_with}
 use Rattle.nf_normalized.proofs.CommonLemmas.{common-behind, common-front}
@@ -31,12 +32,7 @@ front_all x [] z e same = sym (append-nil x) ∙ e
 front_all x (c ∷ y) z e same = absurd (omega (arith, same, ap length e, length-append x (c ∷ y)))
 
 pub none_behind : (x y : List ℕ) → x ++ y ≡ x → y ≡ []
-none_behind x [] e = refl
-none_behind x (c ∷ y) e = absurd (omega (arith, ap length e, length-append x (c ∷ y)))
-
-pub text_of-none : text_of [] ≡ []
-unfolding text_of
-text_of-none = ap chars (take_all (text_len []) [] (omega arith)) ∙ chars-nil
+none_behind x y e = nil_from_length y (omega (arith, ap length e, length-append x y))
 
 pub counted_few : (text : List ℕ) → IsUtf8 text → length (chars text) ≤ length text
 counted_few text utf8 = omega (arith, length-le-encodes (chars text), ap length (encodes-chars text utf8))
@@ -100,9 +96,6 @@ common-taken : (x s : List ℕ) → s ≡ take (length s) x → common x s ≡ l
 common-taken x s is =
     ap (λ l. common l s) (sym (take-append-drop (length s) x) ∙ ap (λ l. l ++ drop (length s) x) (sym is)) ∙ common-front s (drop (length s) x)
 
-one_scalar : (a : ℕ) (x : List ℕ) → IsText (a ∷ x) → IsText (a ∷ [])
-one_scalar a x scalars = and_from _ true ((and_parts _ _ scalars).0) refl
-
 module _ (known : Known) where
   -- behind its text bytes spell nothing
   rest_none : (m : List ℕ) → text_of (rest_of m) ≡ []
@@ -139,7 +132,7 @@ module _ (known : Known) where
         inside : (more : List ℕ) × (r ≡ encode_utf8 a ++ more) → ⊥
         inside h =
             let one : encode_utf8_all (a ∷ []) ≡ encode_utf8 a = append-nil (encode_utf8 a) in
-            let is = ap text_of (h.1 ∙ ap (λ l. l ++ h.0) (sym one)) ∙ known.back.text (a ∷ []) h.0 (one_scalar a x scalars) in
+            let is = ap text_of (h.1 ∙ ap (λ l. l ++ h.0) (sym one)) ∙ known.back.text (a ∷ []) h.0 (and_from _ true (and_parts _ _ scalars).0 refl) in
             omega (arith, ap length is, ap length (rest_none m))
 
         behind : GoesOn r (encode_utf8 a) i (b ∷ t) → ⊥

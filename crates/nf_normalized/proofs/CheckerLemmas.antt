@@ -2,6 +2,7 @@
 use Rattle.std.proofs.Common.{◌≡◌, ◌⊎◌, inl, inr, ⊎_elim, ℕ, ◌+◌, ◌*◌, ◌≤◌, ◌==◌, Bool, true, false, List, [], ◌∷◌, ◌++◌, length, take, drop, take_while, refl, sym, ap, ap₂, ◌∙◌, subst, arith, append-nil, length-append, take-append-drop, Option, Some, None, encode_utf8, encode_utf8_all, if◌then◌else◌, eqb-true}
 use Rattle.std.proofs.lemmas.Bool.{and_parts, and_from}
 use Rattle.std.proofs.lemmas.List.{take_at}
+use Rattle.std.proofs.lemmas.Option.{same_Some}
 use Rattle.std.proofs.lemmas.Str.{encodes-append, length-encode, len_utf8_bounds}
 use Rattle.std.proofs.Math.Seq.{take-length}
 use Rattle.std.specs.List.{prefix_len}
@@ -25,7 +26,7 @@ use Rattle.nf_filter.specs.declared.fault.Fault.TheVariants.{Row, Unassigned}
 use Rattle.nf_filter.specs.declared.filter.State.{State}
 use Rattle.nf_filter.specs.Policy.{allowed, len_under}
 use Rattle.nf_filter.specs.Faults.{first_fault, fault_in, bad_byte}
-use Rattle.nf_filter.specs.Filter.{base_of, offset_of, StandsAfter}
+use Rattle.nf_filter.specs.Filter.{base_of, StandsAfter}
 use Rattle.nf_filter.specs.Settled.{settled, is_usable, usable, settled_utf8}
 use Rattle.nf_filter.specs.Laws.Settled.{settled_utf8-none}
 use Rattle.nf_filter.specs.Checks.{place_or_fault}
@@ -93,9 +94,6 @@ module _ (known : Known) (assigned : Bool) (f : Form) (bytes : List ℕ) where
 
 -- ---- no fault
 
-the_fault : {a b : Fault} → Some a ≡ Some b → a ≡ b
-the_fault e = cc
-
 module _ (sound : (x : List ℕ) → IsSoundText ucd x) where
   all_usable : (x : List ℕ) → is_usable ucd x ≡ true
   unfolding is_usable
@@ -126,10 +124,10 @@ module _ (sound : (x : List ℕ) → IsSoundText ucd x) where
     fault_is = first_is assigned (λ front. base + len_under false bytes front) (text_of bytes) (bad_byte base (ending_of bytes))
 
     pub fault_kinds : (fault : Fault) → fault_in (under assigned) ucd base bytes ≡ Some fault → IsOfPiece fault
-    fault_kinds fault is = ⊎_elim (λ none. bad (ending_of bytes) (sym none.1 ∙ is)) (λ other. subst IsOfPiece (the_fault (sym other.1 ∙ is)) tt) fault_is
+    fault_kinds fault is = ⊎_elim (λ none. bad (ending_of bytes) (sym none.1 ∙ is)) (λ other. subst IsOfPiece (same_Some _ _ (sym other.1 ∙ is)) tt) fault_is
       where
         bad : (ending : Ending) → bad_byte base ending ≡ Some fault → IsOfPiece fault
-        bad (Bad at start) e = subst IsOfPiece (the_fault e) tt
+        bad (Bad at start) e = subst IsOfPiece (same_Some _ _ e) tt
         bad _ e = cc
 
     pub no_fault_parts : fault_in (under assigned) ucd base bytes ≡ None → (allowed assigned ucd (text_of bytes) ≡ text_of bytes) × (bad_byte base (ending_of bytes) ≡ None)
@@ -152,11 +150,6 @@ module _ (sound : (x : List ℕ) → IsSoundText ucd x) where
         next (Cut at start) none ends = begun ends.0.begins
 
 -- ---- where a filter stands
-
-module _ {assigned : Bool} {f : Form} {state : State} {bytes : List ℕ} (stands : StandsAfter (under assigned) f ucd state bytes) where
-  -- its offset is that of the end of the bytes
-  pub offset_is : offset_of state ≡ base_of state + length bytes
-  offset_is = omega (arith, stands.reading.offset, stands.reading.left.len, length-append stands.reading.tail [])
 
 -- no byte was taken
 pub begins : (assigned : Bool) (f : Form) (state : State) (held : List ℕ) → held ≡ [] → StandsAfter (under assigned) f ucd state [] → Holds assigned f state held []

@@ -15,6 +15,8 @@ use Rattle.nf_forms.specs.SafeForm.{safe_form}
 use Rattle.nf_forms.specs.Sound.{is_sound}
 use Rattle.nf_forms.specs.Ucd.{ucd}
 use Rattle.nf_forms.specs.Calm.{IsMark}
+use Rattle.nf_forms.specs.Order.{order}
+use Rattle.nf_forms.specs.Laws.Calm.{row-mark}
 use Rattle.nf_forms.specs.Laws.Last.{by_last}
 use Rattle.nf_forms.specs.Laws.Front.{front-append-back, back-at, back-none, EndsInGroup, last_starter}
 use Rattle.nf_forms.specs.Laws.Sound.{IsSound-from_test, IsSoundText}
@@ -39,21 +41,25 @@ among_mapped P one two three four c =
 
 -- ---- rows
 
+-- what holds of both rows of c holds of its row in each form
+by_row : (P : List ℕ → Type 0) (c : ℕ) → P (ucd.canonical c) → P (ucd.compat c) → (f : Form) → P (row_of f ucd c)
+by_row P c canonical compat Nfc = canonical
+by_row P c canonical compat Nfd = canonical
+by_row P c canonical compat Nfkc = compat
+by_row P c canonical compat Nfkd = compat
+
+same_length : (w v : List ℕ) → order ucd w ≡ order ucd v → length w ≡ length v
+same_length w v same = sym (length-order ucd w) ∙ ap length same ∙ length-order ucd v
+
 module _ (sound : (c : ℕ) → IsTrue (is_sound ucd c)) (f : Form) where
   abbrev row : ℕ → List ℕ
   row = row_of f ucd
 
   pub some_of : (f : Form) (c : ℕ) → 1 ≤ length (row_of f ucd c)
-  some_of Nfc c = (IsSound-from_test ucd c (sound c)).canonical_some
-  some_of Nfd c = (IsSound-from_test ucd c (sound c)).canonical_some
-  some_of Nfkc c = (IsSound-from_test ucd c (sound c)).compat_some
-  some_of Nfkd c = (IsSound-from_test ucd c (sound c)).compat_some
+  some_of f c = let is = IsSound-from_test ucd c (sound c) in by_row (λ r. 1 ≤ length r) c is.canonical_some is.compat_some f
 
   few_of : (f : Form) (c : ℕ) → length (row_of f ucd c) ≤ 18
-  few_of Nfc c = (IsSound-from_test ucd c (sound c)).canonical_few
-  few_of Nfd c = (IsSound-from_test ucd c (sound c)).canonical_few
-  few_of Nfkc c = (IsSound-from_test ucd c (sound c)).compat_few
-  few_of Nfkd c = (IsSound-from_test ucd c (sound c)).compat_few
+  few_of f c = let is = IsSound-from_test ucd c (sound c) in by_row (λ r. length r ≤ 18) c is.canonical_few is.compat_few f
 
   pub length-decomposed : (x : List ℕ) → length x ≤ length (decomposed f ucd x)
   length-decomposed [] = omega arith
@@ -80,14 +86,10 @@ module _ (sound : (c : ℕ) → IsTrue (is_sound ucd c)) (f : Form) where
 
   module _ (twice : (f g : Form) (x : List ℕ) → normal_form g ucd (normal_form f ucd x) ≡ normal_form (after g f) ucd x) where
     pub length-form_of : (f : Form) (y : List ℕ) → length (decomposed f ucd (normal_form f ucd y)) ≡ length (decomposed f ucd y)
-    length-form_of Nfc y =
-        sym (length-order ucd (decomposed Nfd ucd (normal_form Nfc ucd y))) ∙ ap length (twice Nfc Nfd y) ∙ length-order ucd (decomposed Nfd ucd y)
-    length-form_of Nfd y =
-        sym (length-order ucd (decomposed Nfd ucd (normal_form Nfd ucd y))) ∙ ap length (twice Nfd Nfd y) ∙ length-order ucd (decomposed Nfd ucd y)
-    length-form_of Nfkc y =
-        sym (length-order ucd (decomposed Nfkd ucd (normal_form Nfkc ucd y))) ∙ ap length (twice Nfkc Nfkd y) ∙ length-order ucd (decomposed Nfkd ucd y)
-    length-form_of Nfkd y =
-        sym (length-order ucd (decomposed Nfkd ucd (normal_form Nfkd ucd y))) ∙ ap length (twice Nfkd Nfkd y) ∙ length-order ucd (decomposed Nfkd ucd y)
+    length-form_of Nfc y = same_length _ _ (twice Nfc Nfd y)
+    length-form_of Nfd y = same_length _ _ (twice Nfd Nfd y)
+    length-form_of Nfkc y = same_length _ _ (twice Nfkc Nfkd y)
+    length-form_of Nfkd y = same_length _ _ (twice Nfkd Nfkd y)
 
     pub length-form : (x : List ℕ) → length (decomposed f ucd (safe_form f ucd x)) ≡ length (decomposed f ucd (stream_safe ucd x))
     unfolding safe_form
@@ -102,23 +104,15 @@ module _ (sound : (c : ℕ) → IsTrue (is_sound ucd c)) (f : Form) where
 
       mapped : (f : Form) (c : ℕ) → is_among mapped_marks c ≡ true → length (row_of f ucd c) ≤ 2
       unfolding ucd unicode_normalization
-      mapped Nfc = among_mapped (λ d. length (row_of Nfc ucd d) ≤ 2) (leb-true _ 2 refl) (leb-true _ 2 refl) (leb-true _ 2 refl) (leb-true _ 2 refl)
-      mapped Nfd = among_mapped (λ d. length (row_of Nfd ucd d) ≤ 2) (leb-true _ 2 refl) (leb-true _ 2 refl) (leb-true _ 2 refl) (leb-true _ 2 refl)
-      mapped Nfkc = among_mapped (λ d. length (row_of Nfkc ucd d) ≤ 2) (leb-true _ 2 refl) (leb-true _ 2 refl) (leb-true _ 2 refl) (leb-true _ 2 refl)
-      mapped Nfkd = among_mapped (λ d. length (row_of Nfkd ucd d) ≤ 2) (leb-true _ 2 refl) (leb-true _ 2 refl) (leb-true _ 2 refl) (leb-true _ 2 refl)
+      mapped f c among =
+          by_row (λ r. length r ≤ 2) c (among_mapped (λ d. length (ucd.canonical d) ≤ 2) (leb-true _ 2 refl) (leb-true _ 2 refl) (leb-true _ 2 refl) (leb-true _ 2 refl) c among)
+          (among_mapped (λ d. length (ucd.compat d) ≤ 2) (leb-true _ 2 refl) (leb-true _ 2 refl) (leb-true _ 2 refl) (leb-true _ 2 refl) c among) f
 
       short_of : (f : Form) (c : ℕ) → is_starter ucd c ≡ false → length (row_of f ucd c) ≤ 2
-      short_of f c mark = next (is_among mapped_marks c) refl
-        where
-          own : (f : Form) → IsMark ucd c (canonical_combining_class c) → length (row_of f ucd c) ≤ 2
-          own Nfc m = omega (arith, ap length m.canonical)
-          own Nfd m = omega (arith, ap length m.canonical)
-          own Nfkc m = omega (arith, ap length m.compat)
-          own Nfkd m = omega (arith, ap length m.compat)
-
-          next : (b : Bool) → is_among mapped_marks c ≡ b → length (row_of f ucd c) ≤ 2
-          next true e = mapped f c e
-          next false e = own f (is_mark c (class_of c mark) e)
+      short_of f c mark = elim (cases_Bool (is_among mapped_marks c)) [
+        | inl among ↦ mapped f c among
+        | inr other ↦ let row_is = row-mark ucd f c _ (is_mark c (class_of c mark) other) in omega (arith, ap length row_is)
+      ]
 
       marks_short : (m : List ℕ) → has_starter ucd m ≡ false → length (decomposed f ucd m) ≤ 2 * length m
       marks_short [] none = omega arith

@@ -12,8 +12,8 @@ use Rattle.nf_filter.specs.Faults.{answer_at_end}
 use Rattle.nf_filter.specs.Surveys.{Surveys}
 use Rattle.nf_normalized.specs.declared.checker.FormChecker.{FormChecker}
 use Rattle.nf_normalized.specs.Change.{form_decision, form_value}
-use Rattle.nf_normalized.specs.Checker.{filter_state, StandsAfter}
-use Rattle.nf_normalized.proofs.CheckerLemmas.{offset_is}
+use Rattle.nf_filter.proofs.FilterLemmas.{StandsAfter-fits}
+use Rattle.nf_normalized.specs.Checker.{StandsAfter}
 
 -- an end is no refusal of a length, and no failed read
 not_long : (base : ℕ) (ending : Ending) {T : Type 0} (value : T) → answer_at_end base value ending ≡ Err TooLong → ⊥
@@ -21,7 +21,7 @@ not_long base Whole value e = cc
 not_long base _ value e = cc
 
 fits : {assigned : Bool} {f : Form} {base : ℕ} {checker : FormChecker} {fed : List ℕ} → StandsAfter assigned f base checker fed → base + length fed < 2 ^ 64
-fits {checker = checker} stands = omega (arith, offset_is stands.holds.filter, stands.base_is, (filter_state checker).reading.offset_fits)
+fits stands = omega (arith, StandsAfter-fits stands.holds.filter, stands.base_is)
 
 -- the checker has taken what the source gave before the last piece
 module _ {most base : ℕ} {assigned : Bool} {f : Form} {checker : FormChecker} {fed : List ℕ} {source left : SourceState} (stands : StandsAfter assigned f base checker fed) where

@@ -5,7 +5,7 @@ use Rattle.nf_filter.specs.declared.fault.Fault.{Fault}
 use Rattle.nf_filter.specs.Surveys.{Surveys}
 use Rattle.nf_normalized.specs.Checker.{IsOfPiece, decided as decided_by}
 use Rattle.nf_normalized.specs.Change.{form_decision, form_value}
-use Rattle.nf_normalized.proofs.CheckerLemmas.{offset_is}
+use Rattle.nf_filter.proofs.FilterLemmas.{StandsAfter-offset}
 use Rattle.nf_normalized.proofs.CallLemmas.{is_none}
 use Rattle.nf_normalized.proofs.SurveyLemmas.{failed, ended, decided}
 use Rattle.nf_normalized.proofs.checking.check_form_buffered.Given as given
@@ -31,7 +31,7 @@ surveyed : (g : given.Over) (c : After-feed g) (result : Result (Option Place) F
 surveyed g c result is some =
     let fed = c.loop-given.invariant.fed in
     let piece = take c.in-Ok.given c.get.new.buf in
-    let here = offset_is fed.2.holds.filter in
+    let here = StandsAfter-offset fed.2.holds.filter in
     let too_long = c.feed.ensures.too_long (is_none fed.2.none) in
     decided fed.2 piece result (c.in-Ok.ensures.end ∙ ne_eqb c.in-Ok.given 0 c.if-given-eq0.false) (Consumes-trans _ _ _ fed.0 piece fed.1 c.in-Ok.ensures.given)
     (omega (arith, length-take c.in-Ok.given c.get.new.buf, c.get.auto.buf, c.loop-given.invariant.room))

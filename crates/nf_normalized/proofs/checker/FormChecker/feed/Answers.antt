@@ -14,7 +14,8 @@ use Rattle.nf_normalized.specs.Checker.{filter_state, IsOfPiece}
 use Rattle.nf_normalized.specs.Comparing.{left}
 use Rattle.nf_normalized.specs.Holds.{Holds}
 use Rattle.nf_normalized.proofs.BytesLemmas.{Known}
-use Rattle.nf_normalized.proofs.CheckerLemmas.{offset_is, written, held_few}
+use Rattle.nf_filter.proofs.FilterLemmas.{StandsAfter-offset}
+use Rattle.nf_normalized.proofs.CheckerLemmas.{written, held_few}
 use Rattle.nf_normalized.proofs.ComparingLemmas.{none_is}
 use Rattle.nf_normalized.proofs.CallLemmas.{stable, ok_or, same_fault, parted_apart, holds_some, room, Call, piece_kinds, parted_decides, split_now, unparted_decides}
 use Rattle.nf_normalized.proofs.checker.FormChecker.feed.Goals as goal
@@ -39,7 +40,7 @@ seen c short {assigned} {f} {bytes} holds =
       split = split;
       wrote = record { begun = c.new-sink.ensures.none; expects = expects; failed = λ e. (feeds.write.0 e).0; broken = feeds.broken_off; puts = feeds.written };
       chars_are = c.chars-chars.ensures _ f bytes holds.filter;
-      offset_is = c.offset-offset.ensures ∙ offset_is holds.filter;
+      offset_is = c.offset-offset.ensures ∙ StandsAfter-offset holds.filter;
       answer = feeds.answer;
     }
 
@@ -63,7 +64,7 @@ place_behind-requires c =
     let fits : offset_of (filter_state c.args.self.now) + length c.args.piece.now < 2 ^ 64 =
     ⊎_elim (λ less. less) (λ more. absurd (refused (inr (c.feed-fed.ensures.too_long.1 (false_from_ne_true _ (λ ended. refused (inl ended)), omega (arith, more)))))) (cases_lt _ (2 ^ 64)) in
     ∥∥₁_elim (holds_some c.args.self.now (sym c.is_some.ensures ∙ c.if-is_some.false) (λ ended. refused (inl ended))) (hlevel le_prop)
-    (λ h. room (seen at (λ long. refused (inr long)) h.holds) (omega (arith, fits, offset_is h.holds.filter, length-append h.bytes c.args.piece.now)))
+    (λ h. room (seen at (λ long. refused (inr long)) h.holds) (omega (arith, fits, StandsAfter-offset h.holds.filter, length-append h.bytes c.args.piece.now)))
 
 pub returns-then-has_parted-clause-decides : goal.returns-then-has_parted-clause-decides
 returns-then-has_parted-clause-decides c = λ assigned f base bytes stands other.

@@ -12,7 +12,8 @@ use Rattle.nf_filter.specs.Kinds.{spent, cut}
 use Rattle.nf_normalized.specs.Change.{under}
 use Rattle.nf_normalized.specs.Checker.{filter_state, IsOfEnd}
 use Rattle.nf_normalized.specs.Holds.{Holds}
-use Rattle.nf_normalized.proofs.CheckerLemmas.{offset_is, written, no_fault_parts}
+use Rattle.nf_filter.proofs.FilterLemmas.{StandsAfter-offset}
+use Rattle.nf_normalized.proofs.CheckerLemmas.{written, no_fault_parts}
 use Rattle.nf_normalized.proofs.CallLemmas.{stable, same_fault, ok_or, parted_apart, holds_some, room, Call, told, Due, due_at, fault_end, done_end, short_end, parted_end}
 use Rattle.nf_normalized.proofs.checker.FormChecker.finish.Goals as goal
 use Rattle.nf_normalized.proofs.checker.FormChecker.finish.Goals.{After-finish-finished, then-not-has_parted+in_default+else-is_at_end, else-not-has_parted}
@@ -32,7 +33,7 @@ seen c {assigned} {f} {bytes} holds =
       split = split;
       wrote = record { begun = c.new-sink.ensures.none; expects = expects; failed = λ e. (fin.write.0 e).0; broken = fin.broken_off; puts = fin.written };
       chars_are = c.chars-chars.ensures _ f bytes holds.filter;
-      offset_is = c.offset-offset.ensures ∙ offset_is holds.filter;
+      offset_is = c.offset-offset.ensures ∙ StandsAfter-offset holds.filter;
       answer = fin.answer;
     }
 
@@ -67,7 +68,7 @@ place_behind-requires c =
       | then-not-has_parted+in_default+else-is_at_end w ↦ ok_or (sym w.in_default.is ∙ c.finish-finished.ensures.spent.1 ended)
       | else-not-has_parted w ↦ parted_apart c.new-sink.ensures.none.1 (sym c.has_parted.ensures ∙ w.if-not-has_parted.false) (c.finish-finished.ensures.kept ended)
     ]) in
-    ∥∥₁_elim some (hlevel le_prop) (λ h. room (seen at h.holds) (omega (arith, offset_is h.holds.filter, c.offset-offset.ensures, c.offset-offset.type_inv)))
+    ∥∥₁_elim some (hlevel le_prop) (λ h. room (seen at h.holds) (omega (arith, StandsAfter-offset h.holds.filter, c.offset-offset.ensures, c.offset-offset.type_inv)))
 
 pub returns-clause-decides : goal.returns-clause-decides
 returns-clause-decides c = λ assigned f base bytes stands.
