@@ -3,8 +3,9 @@ use Rattle.std.proofs.Common.{◌≡◌, ℕ, ◌+◌, ◌*◌, ◌<◌, ◌≤�
 use Rattle.std.specs.List.{prefix_len}
 use Rattle.std.specs.Str.{IsAscii}
 use Rattle.std.proofs.str.Laws.{order}
-use Rattle.std.proofs.lemmas.Bool.Decides.{nat_tests}
-use Rattle.std.proofs.lemmas.List.{get_or-take, get_or_past, length-take-le}
+use Rattle.std.proofs.lemmas.Bool.{leb-false, leb-true}
+use Rattle.std.proofs.lemmas.Str.Ascii.{IsAscii-from_reads}
+use Rattle.std.proofs.lemmas.List.{get_or-take, length-take-le}
 use Rattle.std.proofs.lemmas.List.Sums.{prefix_len-le-length}
 use Rattle.std.proofs.lemmas.Simd.{length-chunk, trailing_mask_l, run_in_chunk_le, run_in_chunk_fails, run_in_chunk_stops, none_from_empty_mask}
 use lib.Lanes.{chunk, mask_l}
@@ -22,24 +23,15 @@ empty_mask : (p : ℕ → Bool) (xs : List ℕ) → prefix_len (λ x. not (p x))
 empty_mask p [] e = refl
 empty_mask p (x ∷ xs) e = none_set (p x) _ (length xs) _ (prefix_len-le-length (λ y. not (p y)) xs) (omega arith) (empty_mask p xs)
 
-pub ascii_front : (bytes : List ℕ) (n : ℕ) → n ≤ length bytes → ((k : ℕ) → k < n → get_or bytes k 0 < 0x80) → IsAscii (take n bytes)
-ascii_front bytes n within below i = ⊎_elim
-    (λ inside. omega (arith, below i inside, get_or-take n bytes i 0 inside))
-    (λ past. omega (arith, get_or_past (take n bytes) i 0 (omega (arith, length-take-le n bytes within))))
-    (order i n)
-
-is_below : (byte : ℕ) → is_other byte ≡ false → byte < 0x80
-is_below byte e = grind (arith, nat_tests)
-
-is_above : (byte : ℕ) → is_other byte ≡ true → 0x80 ≤ byte
-is_above byte e = grind (arith, nat_tests)
+ascii_front : (bytes : List ℕ) (n : ℕ) → n ≤ length bytes → ((k : ℕ) → k < n → get_or bytes k 0 < 0x80) → IsAscii (take n bytes)
+ascii_front bytes n within below = IsAscii-from_reads (take n bytes) n (omega (arith, length-take-le n bytes within)) (λ k inside. omega (arith, below k inside, get_or-take n bytes k 0 inside))
 
 module _ (bytes : List ℕ) (at n : ℕ) (room : at + n ≤ length bytes) (before : (k : ℕ) → k < at → get_or bytes k 0 < 0x80) where
   abbrev mask : ℕ
   mask = mask_l (map is_other (chunk at n bytes))
 
   pub all_below : mask ≡ 0 → (k : ℕ) → k < at + n → get_or bytes k 0 < 0x80
-  all_below none k inside = ⊎_elim (before k) (λ under. is_below _ (none_from_empty_mask is_other bytes at n 0 room none k under inside)) (order k at)
+  all_below none k inside = ⊎_elim (before k) (λ under. leb-false 0x80 _ (none_from_empty_mask is_other bytes at n 0 room none k under inside)) (order k at)
 
   -- `found` is the mask
   module _ (few : n ≤ 64) (found : ℕ) (is : found ≡ mask) (some : ¬ (found ≡ 0)) where
@@ -56,12 +48,10 @@ module _ (bytes : List ℕ) (at n : ℕ) (room : at + n ≤ length bytes) (befor
         absurd (some (is ∙ empty_mask is_other (chunk at n bytes) (sym counted ∙ all ∙ sym (length-chunk at n bytes room)))))
         (order run n)
 
-    pub run_within : at + run ≤ length bytes
-    run_within = omega (arith, run_short)
-
-    pub run_ascii : IsAscii (take (at + run) bytes)
-    run_ascii = ascii_front bytes (at + run) run_within
-        (λ k inside. ⊎_elim (before k) (λ under. is_below _ (run_in_chunk_fails is_other bytes at n run 0 room counted k under inside)) (order k at))
-
-    pub run_stops : 0x80 ≤ get_or bytes (at + run) 0
-    run_stops = is_above _ (run_in_chunk_stops is_other bytes at n run 0 room counted run_short)
+    pub run_is : (at + run ≤ length bytes) × IsAscii (take (at + run) bytes) × (0x80 ≤ get_or bytes (at + run) 0)
+    run_is = (
+      omega (arith, run_short),
+      ascii_front bytes (at + run) (omega (arith, run_short))
+          (λ k inside. ⊎_elim (before k) (λ under. leb-false 0x80 _ (run_in_chunk_fails is_other bytes at n run 0 room counted k under inside)) (order k at)),
+      leb-true 0x80 _ (run_in_chunk_stops is_other bytes at n run 0 room counted run_short),
+    )

@@ -1,18 +1,18 @@
 -- `begun_len`, the length of the longest front that begins a text.
-use Rattle.std.proofs.Common.{◌≡◌, subst₂, Bool, ℕ, suc, ◌+◌, ◌<◌, ◌≤◌, ⊎_elim, true, false, cond, nat_lt, true≢false, List, [], ◌∷◌, ◌++◌, length, take, drop, Option, Some, None, unwrap_or, IsUtf8, sym, ap, subst, ◌∙◌, arith, take-append-drop, take-take, take_all}
+use Rattle.std.proofs.Common.{◌≡◌, subst₂, ℕ, suc, ◌+◌, ◌<◌, ◌≤◌, ⊎_elim, true, false, cond, nat_lt, true≢false, List, [], ◌∷◌, ◌++◌, length, take, drop, Option, Some, None, unwrap_or, IsUtf8, sym, ap, subst, ◌∙◌, arith, take-append-drop, length-drop, take-take, take_all}
 use Rattle.std.specs.Int.{IsInRange, is_in_range}
 use Rattle.std.specs.Str.{StartsWithNoChar}
-use Rattle.std.specs.Str.Lossy.{utf8_invalid_len, error_len_after_one, error_len_after_two, second_byte_min, second_byte_max}
+use Rattle.std.specs.Str.Lossy.{utf8_error_len, error_len_after_one, error_len_after_two}
 use Rattle.std.proofs.str.Laws.{order}
-use Rattle.std.proofs.str.Lossy.{utf8_error_len_some}
+use Rattle.std.proofs.str.Lossy.{utf8_error_len-nil, utf8_error_len_some}
 use Rattle.std.proofs.iter.FirstChar.{no_text}
-use Rattle.std.proofs.lemmas.Bool.{ltb-true}
+use Rattle.std.proofs.lemmas.Bool.{ltb-true, cond_both}
 use Rattle.std.proofs.lemmas.Bool.Decides.{nat_tests}
 use Rattle.std.proofs.lemmas.Str.{IsUtf8-nil}
 use Rattle.nf_utf8.specs.Text.{BeginsText}
 use Rattle.nf_utf8.specs.Part.{IsSecond, IsContinuation}
 use Rattle.nf_utf8.specs.Reading.{text_len, part_len, begun_len}
-use Rattle.nf_utf8.proofs.Fronts.{IsLongestFront, longest_same, longest_behind, cond_at}
+use Rattle.nf_utf8.proofs.Fronts.{IsLongestFront, longest_same, longest_behind}
 use Rattle.nf_utf8.proofs.Texts.{BeginsText-append, BeginsText-behind, BeginsText-front, BeginsText-IsUtf8}
 use Rattle.nf_utf8.proofs.TextLen.{text_len-longest, length-front, text_len-rest, no_char-text_len}
 use Rattle.nf_utf8.proofs.Sequences.{IsUtf8-one, IsUtf8-two, IsUtf8-three, IsUtf8-four, begins_one, begins_two, begins_three, no_first, no_second, no_third, no_fourth, second_facts}
@@ -20,7 +20,7 @@ use Rattle.nf_utf8.proofs.Sequences.{IsUtf8-one, IsUtf8-two, IsUtf8-three, IsUtf
 abbrev pub BeginsFor : List ℕ → ℕ → Type 0
 BeginsFor bytes n = IsLongestFront BeginsText bytes n
 
-pub begins_for_all : (bytes : List ℕ) → BeginsText bytes → BeginsFor bytes (length bytes)
+begins_for_all : (bytes : List ℕ) → BeginsText bytes → BeginsFor bytes (length bytes)
 begins_for_all bytes b = record { within = omega arith; holds = subst BeginsText (sym (take_all (length bytes) bytes (omega arith))) b; longest = λ m le _. le }
 
 pub begins_until : (bytes : List ℕ) (n : ℕ) → n < length bytes → BeginsText (take n bytes) → ¬ BeginsText (take (suc n) bytes) → BeginsFor bytes n
@@ -41,77 +41,100 @@ out_of_range lo hi c e h = grind (arith, nat_tests)
 
 -- ---- std's count of the bytes that begin a character, case by case
 
-abbrev BeginsForLen : List ℕ → Option ℕ → Type 0
-BeginsForLen bytes o = BeginsFor bytes (unwrap_or o (length bytes))
+-- k bytes begin one, at most three, and a byte breaks them off where std counts them
+record Counted (bytes : List ℕ) (o : Option ℕ) (k : ℕ) : Type 0 where
+  pub begins : BeginsFor bytes k
+  pub few : k ≤ 3
+  pub broken : (n : ℕ) → o ≡ Some n → k < length bytes
+
+abbrev CountedLen : List ℕ → Option ℕ → Type 0
+CountedLen bytes o = Counted bytes o (unwrap_or o (length bytes))
+
+all_begin : (bytes : List ℕ) → length bytes ≤ 3 → BeginsText bytes → CountedLen bytes None
+all_begin bytes few b = record { begins = begins_for_all bytes b; few = few; broken = λ n e. absurd (cc) }
+
+some_begin : (bytes : List ℕ) (n : ℕ) → n ≤ 3 → n < length bytes → BeginsText (take n bytes) → ¬ BeginsText (take (suc n) bytes) → CountedLen bytes (Some n)
+some_begin bytes n few short b none = record { begins = begins_until bytes n short b none; few = few; broken = λ _ _. short }
 
 after_three : (a b d : ℕ) (rest : List ℕ) → IsInRange 0xF0 0xF4 a → IsSecond a b → IsContinuation d → StartsWithNoChar (a ∷ b ∷ d ∷ rest)
-    → BeginsForLen (a ∷ b ∷ d ∷ rest) (cond (nat_lt (length (a ∷ b ∷ d ∷ rest)) 4) None (Some 3))
-after_three a b d [] first second third none = begins_for_all (a ∷ b ∷ d ∷ []) (begins_three a b d (omega (arith, first.0), first.1) second third)
+    → CountedLen (a ∷ b ∷ d ∷ rest) (cond (nat_lt (length (a ∷ b ∷ d ∷ rest)) 4) None (Some 3))
+after_three a b d [] first second third none = all_begin (a ∷ b ∷ d ∷ []) (omega arith) (begins_three a b d (omega (arith, first.0), first.1) second third)
 after_three a b d (e ∷ rest) first second third none =
-    let bytes : List ℕ = a ∷ b ∷ d ∷ e ∷ rest in
-    cond_at (BeginsForLen bytes) (nat_lt (length bytes) 4) None (Some 3)
-    (λ t. let short = ltb-true (length bytes) 4 t in absurd (omega arith))
-    (λ _. begins_until bytes 3 (omega arith) (begins_three a b d (omega (arith, first.0), first.1) second third)
+    cond_both _ _ _ (CountedLen (a ∷ b ∷ d ∷ e ∷ rest))
+    (λ t. let short = ltb-true (length (a ∷ b ∷ d ∷ e ∷ rest)) 4 t in absurd (omega arith))
+    (λ _. some_begin (a ∷ b ∷ d ∷ e ∷ rest) 3 (omega arith) (omega arith) (begins_three a b d (omega (arith, first.0), first.1) second third)
     (no_fourth a b d e first.0 (λ fourth. no_text (a ∷ b ∷ d ∷ e ∷ []) rest none (IsUtf8-four a b d e first second third fourth) (omega arith))))
 
-after_two : (a b : ℕ) (rest : List ℕ) → IsInRange 0xE0 0xF4 a → IsSecond a b → StartsWithNoChar (a ∷ b ∷ rest) → BeginsForLen (a ∷ b ∷ rest) (error_len_after_two (a ∷ b ∷ rest))
-after_two a b [] first second none = begins_for_all (a ∷ b ∷ []) (begins_two a b (omega (arith, first.0), first.1) second)
+after_two : (a b : ℕ) (rest : List ℕ) → IsInRange 0xE0 0xF4 a → IsSecond a b → StartsWithNoChar (a ∷ b ∷ rest) → CountedLen (a ∷ b ∷ rest) (error_len_after_two (a ∷ b ∷ rest))
+after_two a b [] first second none = all_begin (a ∷ b ∷ []) (omega arith) (begins_two a b (omega (arith, first.0), first.1) second)
 after_two a b (d ∷ rest) first second none =
-    let bytes : List ℕ = a ∷ b ∷ d ∷ rest in
-    let on : Option ℕ = cond (nat_lt (length bytes) 4) None (Some 3) in
-    let third : Bool = is_in_range 0x80 0xBF d in
-    cond_at (BeginsForLen bytes) (nat_lt (length bytes) 3) None (cond third on (Some 2))
-    (λ t. let short = ltb-true (length bytes) 3 t in absurd (omega arith))
-    (λ _. cond_at (BeginsForLen bytes) third on (Some 2)
+    let Is : Option ℕ → Type 0 = CountedLen (a ∷ b ∷ d ∷ rest) in
+    cond_both _ _ _ Is
+    (λ t. let short = ltb-true (length (a ∷ b ∷ d ∷ rest)) 3 t in absurd (omega arith))
+    (λ _. cond_both _ _ _ Is
     (λ t. let k = in_range 0x80 0xBF d t in
     ⊎_elim (λ below. absurd (no_text (a ∷ b ∷ d ∷ []) rest none (IsUtf8-three a b d (first.0, omega arith) second k) (omega arith)))
     (λ above. after_three a b d rest (above, first.1) second k none) (order a 0xF0))
-    (λ t. begins_until bytes 2 (omega arith) (begins_two a b (omega (arith, first.0), first.1) second) (no_third a b d first.0 (out_of_range 0x80 0xBF d t))))
+    (λ t. some_begin (a ∷ b ∷ d ∷ rest) 2 (omega arith) (omega arith) (begins_two a b (omega (arith, first.0), first.1) second) (no_third a b d first.0 (out_of_range 0x80 0xBF d t))))
 
-after_one : (a : ℕ) (rest : List ℕ) → IsInRange 0xC2 0xF4 a → StartsWithNoChar (a ∷ rest) → BeginsForLen (a ∷ rest) (error_len_after_one (a ∷ rest))
-after_one a [] first none = begins_for_all (a ∷ []) (begins_one a first)
+after_one : (a : ℕ) (rest : List ℕ) → IsInRange 0xC2 0xF4 a → StartsWithNoChar (a ∷ rest) → CountedLen (a ∷ rest) (error_len_after_one (a ∷ rest))
+after_one a [] first none = all_begin (a ∷ []) (omega arith) (begins_one a first)
 after_one a (b ∷ rest) first none =
-    let bytes : List ℕ = a ∷ b ∷ rest in
-    let on : Option ℕ = error_len_after_two bytes in
-    let second : Bool = is_in_range (second_byte_min a) (second_byte_max a) b in
-    cond_at (BeginsForLen bytes) (nat_lt (length bytes) 2) None (cond second on (Some 1))
-    (λ t. let short = ltb-true (length bytes) 2 t in absurd (omega arith))
-    (λ _. cond_at (BeginsForLen bytes) second on (Some 1)
-    (λ t. let k = in_range (second_byte_min a) (second_byte_max a) b t in let s = second_facts a b k in
+    let Is : Option ℕ → Type 0 = CountedLen (a ∷ b ∷ rest) in
+    cond_both _ _ _ Is
+    (λ t. let short = ltb-true (length (a ∷ b ∷ rest)) 2 t in absurd (omega arith))
+    (λ _. cond_both _ _ _ Is
+    (λ t. let k = in_range _ _ b t in let s = second_facts a b k in
     ⊎_elim (λ below. absurd (no_text (a ∷ b ∷ []) rest none (IsUtf8-two a b (first.0, omega arith) (s.low, omega (arith, s.high))) (omega arith)))
     (λ above. after_two a b rest (above, first.1) k none) (order a 0xE0))
-    (λ t. begins_until bytes 1 (omega arith) (begins_one a first) (no_second a b first (out_of_range (second_byte_min a) (second_byte_max a) b t))))
+    (λ t. some_begin (a ∷ b ∷ rest) 1 (omega arith) (omega arith) (begins_one a first) (no_second a b first (out_of_range _ _ b t))))
 
-part_len-longest : (bytes : List ℕ) → StartsWithNoChar bytes → BeginsFor bytes (part_len bytes)
-part_len-longest [] none = begins_for_all [] (BeginsText-IsUtf8 [] IsUtf8-nil)
-part_len-longest (a ∷ rest) none =
+part_len-counted : (bytes : List ℕ) → StartsWithNoChar bytes → Counted bytes (utf8_error_len bytes) (part_len bytes)
+part_len-counted [] none = record { begins = begins_for_all [] (BeginsText-IsUtf8 [] IsUtf8-nil); few = omega arith; broken = λ n e. absurd (let f = utf8_error_len-nil in cc) }
+part_len-counted (a ∷ rest) none =
     let bytes : List ℕ = a ∷ rest in
-    let first : Bool = is_in_range 0xC2 0xF4 a in
-    cond_at (BeginsFor bytes) first (utf8_invalid_len bytes) 0
-    (λ t. subst (BeginsForLen bytes) (sym (utf8_error_len_some bytes (omega arith)))
-    (cond_at (BeginsForLen bytes) first (error_len_after_one bytes) (Some 1) (λ _. after_one a rest (in_range 0xC2 0xF4 a t) none) (λ f. absurd (true≢false (sym t ∙ f)))))
-    (λ t. begins_until bytes 0 (omega arith) (BeginsText-IsUtf8 [] IsUtf8-nil)
-    (⊎_elim (λ low. absurd (no_text (a ∷ []) rest none (IsUtf8-one a low) (omega arith)))
-    (λ high. no_first a high (λ lead. ⊎_elim (λ within. absurd (out_of_range 0xC2 0xF4 a t (lead, omega arith))) (λ above. above) (order a 0xF5)))
-    (order a 0x80)))
+    cond_both _ _ _ (Counted bytes (utf8_error_len bytes))
+    (λ t. subst (CountedLen bytes) (sym (utf8_error_len_some bytes (omega arith)))
+    (cond_both _ _ _ (CountedLen bytes) (λ _. after_one a rest (in_range 0xC2 0xF4 a t) none) (λ f. absurd (true≢false (sym t ∙ f)))))
+    (λ t. record {
+      begins = begins_until bytes 0 (omega arith) (BeginsText-IsUtf8 [] IsUtf8-nil)
+          (⊎_elim (λ low. absurd (no_text (a ∷ []) rest none (IsUtf8-one a low) (omega arith)))
+          (λ high. no_first a high (λ lead. ⊎_elim (λ within. absurd (out_of_range 0xC2 0xF4 a t (lead, omega arith))) (λ above. above) (order a 0xF5)))
+          (order a 0x80));
+      few = omega arith;
+      broken = λ _ _. omega arith;
+    })
 
 -- ---- the longest front that begins a text
+
+part_counted : (bytes : List ℕ) → let rest : List ℕ = drop (text_len bytes) bytes in Counted rest (utf8_error_len rest) (part_len rest)
+part_counted bytes = part_len-counted (drop (text_len bytes) bytes) (no_char-text_len (drop (text_len bytes) bytes) (text_len-rest bytes))
 
 pub begun_len-longest : (bytes : List ℕ) → BeginsFor bytes (begun_len bytes)
 begun_len-longest bytes =
     let n : ℕ = text_len bytes in
     let u = (text_len-longest bytes).holds in
-    let none : StartsWithNoChar (drop n bytes) = no_char-text_len (drop n bytes) (text_len-rest bytes) in
     let both : BeginsFor (take n bytes ++ drop n bytes) (length (take n bytes) + part_len (drop n bytes)) =
     longest_behind BeginsText (take n bytes) (drop n bytes) (part_len (drop n bytes)) (λ zs. BeginsText-append (take n bytes) zs u) (λ zs. BeginsText-behind (take n bytes) zs u)
-    (part_len-longest (drop n bytes) none) in
+    (part_counted bytes).begins in
     subst₂ (λ l m. BeginsFor l (m + part_len (drop n bytes))) (take-append-drop n bytes) (length-front bytes) both
+
+-- no more than three bytes behind the text begin a character
+pub begun_few : (bytes : List ℕ) → begun_len bytes ≤ text_len bytes + 3
+begun_few bytes = omega (arith, (part_counted bytes).few)
+
+-- where std tells how many bytes are invalid, a byte breaks them off
+pub told_broken : (bytes : List ℕ) (n : ℕ) → utf8_error_len (drop (text_len bytes) bytes) ≡ Some n → begun_len bytes < length bytes
+told_broken bytes n told = omega (arith, (part_counted bytes).broken n told, length-drop (text_len bytes) bytes)
 
 pub begun_len-is : (bytes : List ℕ) (n : ℕ) → BeginsFor bytes n → begun_len bytes ≡ n
 begun_len-is bytes n h = longest_same BeginsText bytes _ _ (begun_len-longest bytes) h
 
+pub begun_all : (bytes : List ℕ) → BeginsText bytes → begun_len bytes ≡ length bytes
+begun_all bytes b = begun_len-is bytes (length bytes) (begins_for_all bytes b)
+
+pub begins_all : (bytes : List ℕ) → begun_len bytes ≡ length bytes → BeginsText bytes
+begins_all bytes e = subst BeginsText (take_all (begun_len bytes) bytes (omega arith)) (begun_len-longest bytes).holds
+
 pub begun_len-behind : (xs ys : List ℕ) → IsUtf8 xs → begun_len (xs ++ ys) ≡ length xs + begun_len ys
 begun_len-behind xs ys u = begun_len-is (xs ++ ys) _ (longest_behind BeginsText xs ys (begun_len ys) (λ zs. BeginsText-append xs zs u) (λ zs. BeginsText-behind xs zs u) (begun_len-longest ys))
-
-pub text_len_le : (bytes : List ℕ) → text_len bytes ≤ begun_len bytes
-text_len_le bytes = omega arith

@@ -1,6 +1,7 @@
 -- The longest front of a list that has a property.
-use Rattle.std.proofs.Common.{◌≡◌, Bool, true, false, cond, ℕ, ◌+◌, ◌-◌, ◌≤◌, List, ◌++◌, length, take, ⊎_elim, refl, sym, ap, subst, ◌∙◌, arith, length-append, take_at, drop_at, take-add}
+use Rattle.std.proofs.Common.{◌≡◌, ℕ, ◌+◌, ◌-◌, ◌≤◌, List, ◌++◌, length, take, ⊎_elim, sym, ap, subst, ◌∙◌, arith, length-append}
 use Rattle.std.proofs.str.Laws.{order}
+use Rattle.std.proofs.Math.Seq.{take-append-add}
 
 pub record IsLongestFront (P : List ℕ → Type 0) (xs : List ℕ) (n : ℕ) : Type 0 where
   pub within : n ≤ length xs
@@ -20,19 +21,12 @@ module _ (P : List ℕ → Type 0) where
       → IsLongestFront P ys n → IsLongestFront P (xs ++ ys) (length xs + n)
   longest_behind xs ys n add cancel h = record {
     within = let w : n ≤ length ys = h.within in omega (arith, length-append xs ys);
-    holds = subst P (sym (front n)) (add (take n ys) h.holds);
+    holds = subst P (sym (take-append-add xs ys n)) (add (take n ys) h.holds);
     longest = λ m le p. ⊎_elim (λ below. omega arith)
         (λ past.
         let k : ℕ = m - length xs in
         let split : m ≡ length xs + k = omega arith in
-        let short : k ≤ n = h.longest k (omega (arith, le, length-append xs ys)) (cancel (take k ys) (subst P (ap (λ j. take j (xs ++ ys)) split ∙ front k) p)) in
+        let short : k ≤ n = h.longest k (omega (arith, le, length-append xs ys)) (cancel (take k ys) (subst P (ap (λ j. take j (xs ++ ys)) split ∙ take-append-add xs ys k) p)) in
         omega arith)
         (order m (length xs));
   }
-    where
-      front : (k : ℕ) → take (length xs + k) (xs ++ ys) ≡ xs ++ take k ys
-      front k = take-add (length xs) k (xs ++ ys) ∙ (λ i. take_at xs ys (length xs) refl i ++ take k (drop_at xs ys (length xs) refl i))
-
-pub cond_at : {A : Type 0} (P : A → Type 0) (t : Bool) (x y : A) → (t ≡ true → P x) → (t ≡ false → P y) → P (cond t x y)
-cond_at P true x y p q = p refl
-cond_at P false x y p q = q refl

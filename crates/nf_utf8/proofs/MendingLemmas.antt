@@ -1,14 +1,13 @@
 -- Stretches of text, each with the ill-formed part after it.
-use Rattle.std.proofs.Common.{◌≡◌, ℕ, ◌+◌, ◌-◌, ◌<◌, ◌≤◌, List, [], ◌∷◌, ◌++◌, length, take, drop, refl, sym, ap, subst, ◌∙◌, arith, append_assoc, length-append, length-drop, length-take-le, take-append-drop, length-take, take-take, subst₂, chars, IsUtf8, encode_utf8_all}
+use Rattle.std.proofs.Common.{◌≡◌, ℕ, ◌+◌, ◌-◌, ◌<◌, ◌≤◌, List, [], ◌∷◌, ◌++◌, length, take, drop, refl, sym, ap, subst, ◌∙◌, arith, append_assoc, length-append, length-drop, length-take-le, take-append-drop, length-take, take-take, subst₂, chars, IsUtf8}
 use Rattle.std.specs.Str.Lossy.{replacement_bytes}
-use Rattle.std.proofs.str.Laws.{three}
 use Rattle.std.proofs.lemmas.List.{map-append, drop-drop, drop-append-le}
 use Rattle.std.proofs.lemmas.Str.{encodes-chars, chars-append, chars-encodes, length-le-encodes, IsUtf8-append}
-use Rattle.nf_utf8.specs.Reading.{text_len, text_of}
+use Rattle.nf_utf8.specs.Reading.{text_len, text_of, begun_len}
 use Rattle.nf_utf8.specs.Replaced.{Part, replacement, own_parts, part_end, parts_of}
 use Rattle.nf_utf8.specs.Mending.{IsReplacedFront, IsStretch}
 use Rattle.nf_utf8.specs.declared.mending.Stretch.{Stretch}
-use Rattle.nf_utf8.proofs.LossyLemmas.{IsTold}
+use Rattle.nf_utf8.proofs.LossyLemmas.{IsTold, encodes_replacement}
 use Rattle.nf_utf8.proofs.ReadingLemmas.{front_of-IsUtf8, length-encodes-text_of}
 use Rattle.nf_utf8.proofs.ReplacedLemmas.{bytes_in-append, bytes_in-own, chars-own, broken_part, broken_end, parts_of-bad}
 
@@ -49,22 +48,18 @@ longer bytes behind x len is = record {
 
 -- ---- one stretch
 
--- U+FFFD as text
-replacement_is : encode_utf8_all (replacement ∷ []) ≡ replacement_bytes
-replacement_is = ap (λ l. l ++ []) (three replacement (omega arith) (omega arith))
-
 replacement-utf8 : IsUtf8 replacement_bytes
-replacement-utf8 = (replacement ∷ [], (refl, replacement_is))
+replacement-utf8 = (replacement ∷ [], (refl, encodes_replacement))
 
 replacement-chars : chars replacement_bytes ≡ replacement ∷ []
-replacement-chars = ap chars (sym replacement_is) ∙ chars-encodes (replacement ∷ []) refl
+replacement-chars = ap chars (sym encodes_replacement) ∙ chars-encodes (replacement ∷ []) refl
 
 -- the text of bytes, and the part after it, where a byte breaks that off
 broken_front : (bytes : List ℕ) (n : ℕ) → IsTold bytes n → IsReplacedFront bytes (text_of bytes ++ replacement ∷ []) (text_len bytes + n)
 broken_front bytes n told =
     let text : List ℕ = text_of bytes in
-    let part : Part = broken_part told.at (text_len bytes) in
-    let end = broken_end bytes told.at (text_len bytes) told.bad in
+    let part : Part = broken_part (begun_len bytes) (text_len bytes) in
+    let end = broken_end bytes (begun_len bytes) (text_len bytes) told.bad in
     subst (IsReplacedFront bytes (text ++ replacement ∷ [])) told.end
     (record {
       parts = own_parts text ++ part ∷ [];
@@ -72,9 +67,9 @@ broken_front bytes n told =
       size = omega (arith, bytes_in-append (own_parts text) (part ∷ []), bytes_in-own text, length-encodes-text_of bytes, end.0);
       within = end.1;
       front = λ more.
-          parts_of-bad bytes more told.at (text_len bytes) told.bad
-          ∙ ap (λ l. own_parts text ++ part ∷ parts_of l) (drop-append-le (part_end told.at (text_len bytes)) bytes more end.1)
-          ∙ sym (append_assoc (own_parts text) (part ∷ []) (parts_of (drop (part_end told.at (text_len bytes)) bytes ++ more)));
+          parts_of-bad bytes more (begun_len bytes) (text_len bytes) told.bad
+          ∙ ap (λ l. own_parts text ++ part ∷ parts_of l) (drop-append-le (part_end (begun_len bytes) (text_len bytes)) bytes more end.1)
+          ∙ sym (append_assoc (own_parts text) (part ∷ []) (parts_of (drop (part_end (begun_len bytes) (text_len bytes)) bytes ++ more)));
     })
 
 -- as they are found in the first `near` bytes
@@ -83,8 +78,8 @@ pub stretch_is : (bytes : List ℕ) (near : ℕ) (stretch : Stretch) (n : ℕ) �
 unfolding text_of
 stretch_is bytes near stretch n told text len =
     let start : List ℕ = take near bytes in
-    let some = (broken_end start told.at (text_len start) told.bad).0 in
-    let within = (broken_end start told.at (text_len start) told.bad).1 in
+    let some = (broken_end start (begun_len start) (text_len start) told.bad).0 in
+    let within = (broken_end start (begun_len start) (text_len start) told.bad).1 in
     let few : stretch.text ≤ length start = omega (arith, text, some, within) in
     let same : take (text_len start) start ≡ take stretch.text bytes = ap (λ k. take k start) (sym text) ∙ take-take stretch.text near bytes (omega (arith, few, length-take near bytes)) in
     record {

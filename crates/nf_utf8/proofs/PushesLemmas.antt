@@ -1,29 +1,20 @@
 -- Pushing a piece's bytes one by one reads them as they are read, and so gives what the piece gives.
-use Rattle.std.proofs.Common.{◌≡◌, ℕ, ◌+◌, ◌<◌, cond, List, [], ◌∷◌, ◌++◌, length, Option, chars, encode_utf8_all, refl, sym, ap, subst, subst₂, ◌∙◌, ◌-◌, arith, append_assoc, append-nil, length-append}
-use Rattle.std.proofs.lemmas.Bool.{ne_eqb}
+use Rattle.std.proofs.Common.{◌≡◌, ℕ, ◌+◌, List, [], ◌∷◌, ◌++◌, length, Option, chars, encode_utf8_all, refl, sym, ap, subst, subst₂, ◌∙◌, arith, append_assoc, append-nil, length-append}
 use Rattle.std.proofs.lemmas.List.{append_cancel_left}
 use Rattle.nf_utf8.specs.declared.step.Step.{Step}
 use Rattle.nf_utf8.specs.declared.step.Step.TheVariants.{More, Char, Bad as BadByte}
 use Rattle.nf_utf8.specs.declared.chunk.End.{End}
-use Rattle.nf_utf8.specs.declared.chunk.End.TheVariants.{Whole, Cut, Bad}
+use Rattle.nf_utf8.specs.declared.chunk.End.TheVariants.{Bad}
 use Rattle.nf_utf8.specs.Text.{BeginsText}
 use Rattle.nf_utf8.specs.Ending.{Whole as IsWhole, Cut as IsCut, Bad as IsBad}
 use Rattle.nf_utf8.specs.Reading.{text_len, text_of, rest_of, ending_of}
-use Rattle.nf_utf8.specs.Reads.{EndsAs}
-use Rattle.nf_utf8.specs.Standing.{StandsAfter, Answers}
-use Rattle.nf_utf8.specs.Taking.{first_text, EndsPiece, end_holding, Takes}
+use Rattle.nf_utf8.specs.Standing.{Answers}
+use Rattle.nf_utf8.specs.Taking.{first_text, Takes}
 use Rattle.nf_utf8.specs.Pushes.{Pushes, GoesOn}
-use Rattle.nf_utf8.proofs.Texts.{BeginsText-IsUtf8}
-use Rattle.nf_utf8.proofs.ReadingLemmas.{text_of-IsText, text_of-bad, ending_of-bad, length-encodes-text_of}
-use Rattle.nf_utf8.proofs.ReadsLemmas.{ending_of-is}
-use Rattle.nf_utf8.proofs.StandingLemmas.{held_len, ending_of-standing}
-use Rattle.nf_utf8.proofs.TakingLemmas.{same_end}
-
--- what the end says of all the bytes, where `from` stand before the piece
-abbrev EndsAll : List ℕ → List ℕ → End → Type 0
-EndsAll from all Whole = ending_of all ≡ IsWhole
-EndsAll from all Cut = ending_of all ≡ IsCut (length all) (text_len all)
-EndsAll from all (Bad at back) = (ending_of all ≡ IsBad (length from + at) (text_len all)) × (text_len all + back ≡ length from + at) × (length from + at < length all)
+use Rattle.nf_utf8.proofs.BegunLen.{begun_len-longest, begins_all}
+use Rattle.nf_utf8.proofs.Endings.{Says, ending_of-says}
+use Rattle.nf_utf8.proofs.ReadingLemmas.{text_of-bad, ending_of-bad, length-encodes-text_of}
+use Rattle.nf_utf8.proofs.TakingLemmas.{EndsAll, ends_holding, ends_piece, same_end}
 
 -- the bytes read as this text behind that of `bytes`, with this end
 abbrev ReadsOn : List ℕ → List ℕ → List ℕ → List ℕ → End → Type 0
@@ -32,21 +23,10 @@ ReadsOn from bytes all text end = (text_of all ≡ text_of bytes ++ text) × End
 -- ---- where they go on
 
 begins_cut : (bytes : List ℕ) (at start : ℕ) → ending_of bytes ≡ IsCut at start → BeginsText bytes
-begins_cut bytes at start e = let is = subst (EndsAs bytes (text_of bytes)) e (ending_of-is bytes) in is.0.begins
+begins_cut bytes at start e = begins_all bytes (subst (Says bytes) e (ending_of-says bytes)).1
 
 begins_whole : (bytes : List ℕ) → ending_of bytes ≡ IsWhole → BeginsText bytes
-begins_whole bytes e =
-    let is = subst (EndsAs bytes (text_of bytes)) e (ending_of-is bytes) in
-    BeginsText-IsUtf8 bytes (text_of bytes, (text_of-IsText bytes, sym is))
-
--- ---- where they are used up
-
-ends_holding : (from bytes held : List ℕ) → StandsAfter held bytes → EndsAll from bytes (end_holding held)
-ends_holding from bytes [] s = ending_of-standing [] bytes s
-ends_holding from bytes (a ∷ held) s =
-    let n : ℕ = length (a ∷ held) in
-    let start : length bytes - n ≡ text_len bytes = omega (arith, held_len (a ∷ held) bytes s) in
-    ending_of-standing (a ∷ held) bytes s ∙ (λ i. cond (ne_eqb n 0 (omega arith) i) IsWhole (IsCut (length bytes) (start i)))
+begins_whole bytes e = begins_all bytes (omega (arith, (begun_len-longest bytes).within, subst (Says bytes) e (ending_of-says bytes)))
 
 -- ---- byte by byte
 
@@ -87,11 +67,6 @@ module _ (from : List ℕ) where
       (step_on bytes piece text byte end p.0 (λ more. Pushes from (bytes ++ byte ∷ []) piece more end) (λ more. reads_on (bytes ++ byte ∷ []) piece more end) p.1 p.2)
 
 -- ---- the piece as a whole
-
-ends_piece : (bytes piece : List ℕ) (end : End) → EndsAll bytes (bytes ++ piece) end → EndsPiece bytes piece end
-ends_piece bytes piece Whole e = e
-ends_piece bytes piece Cut e = e ∙ ap (λ n. IsCut n (text_len (bytes ++ piece))) (length-append bytes piece)
-ends_piece bytes piece (Bad at back) e = (e.0, e.1, omega (arith, e.2, length-append bytes piece))
 
 module _ (bytes piece text taken : List ℕ) (first : Option ℕ) (end stop : End) (b : BeginsText bytes) (p : Pushes bytes bytes piece text end) (t : Takes bytes piece first taken stop) where
   read : ReadsOn bytes bytes (bytes ++ piece) text end

@@ -1,27 +1,25 @@
 -- Reading behind a text, and behind bytes that were read before.
-use Rattle.std.proofs.Common.{◌≡◌, ℕ, suc, ◌+◌, ◌<◌, ◌≤◌, List, ◌++◌, length, take, drop, IsUtf8, encode_utf8_all, chars, refl, sym, ap, subst, ◌∙◌, arith, append_assoc, length-append, take-append-drop, take_at, drop_at, drop-drop, take-add}
+use Rattle.std.proofs.Common.{◌≡◌, ℕ, suc, ◌+◌, ◌<◌, ◌≤◌, List, ◌++◌, length, take, drop, IsUtf8, encode_utf8_all, chars, refl, sym, ap, subst, ◌∙◌, arith, append_assoc, length-append, take-append-drop}
+use Rattle.std.proofs.Math.Seq.{take-append-add, drop-append-add}
 use Rattle.std.proofs.lemmas.List.{take-append-le}
 use Rattle.std.proofs.lemmas.Str.{encodes-chars, scalars-chars, chars-append, chars-encodes}
 use Rattle.nf_utf8.specs.Text.{IsText, BeginsText}
 use Rattle.nf_utf8.specs.Ending.{Bad, moved}
 use Rattle.nf_utf8.specs.Reading.{text_len, text_of, rest_of, begun_len, ending_of}
-use Rattle.nf_utf8.proofs.Texts.{BeginsText-IsUtf8}
+use Rattle.nf_utf8.proofs.Texts.{BeginsText-IsUtf8, BeginsText-append}
 use Rattle.nf_utf8.proofs.TextLen.{text_len-longest, text_len-is, text_len-behind, length-front}
 use Rattle.nf_utf8.proofs.BegunLen.{begun_len-longest, begun_len-is, begun_len-behind, begins_until}
-use Rattle.nf_utf8.proofs.Endings.{ended, ending_of-ended, ended-bad, ended-moved, Ends, whole, cut, bad, ends}
+use Rattle.nf_utf8.proofs.Endings.{ended, ended-moved, ending_of-ended, ending_of-broken, Says, ending_of-says}
 
 -- ---- behind a text
 
-take-behind : (xs ys : List ℕ) (k : ℕ) → take (length xs + k) (xs ++ ys) ≡ xs ++ take k ys
-take-behind xs ys k = take-add (length xs) k (xs ++ ys) ∙ (λ i. take_at xs ys (length xs) refl i ++ take k (drop_at xs ys (length xs) refl i))
-
 pub text_of-behind : (xs ys : List ℕ) → IsUtf8 xs → text_of (xs ++ ys) ≡ chars xs ++ text_of ys
 unfolding text_of
-text_of-behind xs ys u = ap (λ n. chars (take n (xs ++ ys))) (text_len-behind xs ys u) ∙ ap chars (take-behind xs ys (text_len ys)) ∙ chars-append xs (take (text_len ys) ys) u
+text_of-behind xs ys u = ap (λ n. chars (take n (xs ++ ys))) (text_len-behind xs ys u) ∙ ap chars (take-append-add xs ys (text_len ys)) ∙ chars-append xs (take (text_len ys) ys) u
 
 pub rest_of-behind : (xs ys : List ℕ) → IsUtf8 xs → rest_of (xs ++ ys) ≡ rest_of ys
 unfolding rest_of
-rest_of-behind xs ys u = ap (λ n. drop n (xs ++ ys)) (text_len-behind xs ys u) ∙ sym (drop-drop (text_len ys) (length xs) (xs ++ ys)) ∙ ap (drop (text_len ys)) (drop_at xs ys (length xs) refl)
+rest_of-behind xs ys u = ap (λ n. drop n (xs ++ ys)) (text_len-behind xs ys u) ∙ drop-append-add xs ys (text_len ys)
 
 pub ending_of-behind : (xs ys : List ℕ) → IsUtf8 xs → ending_of (xs ++ ys) ≡ moved (length xs) (ending_of ys)
 ending_of-behind xs ys u =
@@ -69,43 +67,38 @@ length-encodes-text_of bytes = ap length (encodes-text_of bytes) ∙ length-fron
 pub text_of-split : (bytes : List ℕ) → bytes ≡ encode_utf8_all (text_of bytes) ++ rest_of bytes
 text_of-split bytes = sym (front-rest bytes) ∙ ap (λ l. l ++ rest_of bytes) (sym (encodes-text_of bytes))
 
--- ---- behind bytes that were read before
+-- ---- behind bytes that were read before, where `part` is what stood behind their text
 
-joined : (bytes piece : List ℕ) → bytes ++ piece ≡ front_of bytes ++ (rest_of bytes ++ piece)
-joined bytes piece = ap (λ l. l ++ piece) (sym (front-rest bytes)) ∙ append_assoc (front_of bytes) (rest_of bytes) piece
+module _ (part bytes piece : List ℕ) (r : rest_of bytes ≡ part) where
+  joined : bytes ++ piece ≡ front_of bytes ++ (part ++ piece)
+  joined = ap (λ l. l ++ piece) (sym (front-rest bytes) ∙ ap (λ l. front_of bytes ++ l) r) ∙ append_assoc (front_of bytes) part piece
 
-pub text_of-append : (bytes piece : List ℕ) → text_of (bytes ++ piece) ≡ text_of bytes ++ text_of (rest_of bytes ++ piece)
-text_of-append bytes piece =
-    ap text_of (joined bytes piece) ∙ text_of-behind (front_of bytes) (rest_of bytes ++ piece) (front_of-IsUtf8 bytes)
-    ∙ ap (λ l. l ++ text_of (rest_of bytes ++ piece)) (sym (text_of-front bytes))
+  pub text_on : text_of (bytes ++ piece) ≡ text_of bytes ++ text_of (part ++ piece)
+  text_on = ap text_of joined ∙ text_of-behind (front_of bytes) (part ++ piece) (front_of-IsUtf8 bytes) ∙ ap (λ l. l ++ text_of (part ++ piece)) (sym (text_of-front bytes))
 
-pub text_len-append : (bytes piece : List ℕ) → text_len (bytes ++ piece) ≡ text_len bytes + text_len (rest_of bytes ++ piece)
-text_len-append bytes piece =
-    ap (λ l. text_len l) (joined bytes piece) ∙ text_len-behind (front_of bytes) (rest_of bytes ++ piece) (front_of-IsUtf8 bytes)
-    ∙ ap (λ n. n + text_len (rest_of bytes ++ piece)) (length-front bytes)
+  pub len_on : text_len (bytes ++ piece) ≡ text_len bytes + text_len (part ++ piece)
+  len_on = ap (λ l. text_len l) joined ∙ text_len-behind (front_of bytes) (part ++ piece) (front_of-IsUtf8 bytes) ∙ ap (λ n. n + text_len (part ++ piece)) (length-front bytes)
 
-pub rest_of-append : (bytes piece : List ℕ) → rest_of (bytes ++ piece) ≡ rest_of (rest_of bytes ++ piece)
-rest_of-append bytes piece = ap rest_of (joined bytes piece) ∙ rest_of-behind (front_of bytes) (rest_of bytes ++ piece) (front_of-IsUtf8 bytes)
+  pub rest_on : rest_of (bytes ++ piece) ≡ rest_of (part ++ piece)
+  rest_on = ap rest_of joined ∙ rest_of-behind (front_of bytes) (part ++ piece) (front_of-IsUtf8 bytes)
 
-pub ending_of-append : (bytes piece : List ℕ) → ending_of (bytes ++ piece) ≡ moved (text_len bytes) (ending_of (rest_of bytes ++ piece))
-ending_of-append bytes piece =
-    ap ending_of (joined bytes piece) ∙ ending_of-behind (front_of bytes) (rest_of bytes ++ piece) (front_of-IsUtf8 bytes)
-    ∙ ap (λ n. moved n (ending_of (rest_of bytes ++ piece))) (length-front bytes)
+  pub ending_on : ending_of (bytes ++ piece) ≡ moved (text_len bytes) (ending_of (part ++ piece))
+  ending_on = ap ending_of joined ∙ ending_of-behind (front_of bytes) (part ++ piece) (front_of-IsUtf8 bytes) ∙ ap (λ n. moved n (ending_of (part ++ piece))) (length-front bytes)
+
+  pub begins_on : BeginsText (part ++ piece) → BeginsText (bytes ++ piece)
+  begins_on b = subst BeginsText (sym joined) (BeginsText-append (front_of bytes) (part ++ piece) (front_of-IsUtf8 bytes) b)
 
 -- ---- behind a bad byte
 
-module _ (bytes piece : List ℕ) (text : text_len bytes < length bytes) (begun : begun_len bytes < length bytes) where
+module _ (bytes : List ℕ) (begun : begun_len bytes < length bytes) (piece : List ℕ) where
   front_same : (n : ℕ) → n ≤ length bytes → take n (bytes ++ piece) ≡ take n bytes
   front_same n le = take-append-le n bytes piece le
-
-  short : begun_len bytes < length (bytes ++ piece)
-  short = omega (arith, begun, length-append bytes piece)
 
   begun_same : begun_len (bytes ++ piece) ≡ begun_len bytes
   begun_same =
       let g : ℕ = begun_len bytes in
       let h = begun_len-longest bytes in
-      begun_len-is (bytes ++ piece) g (begins_until (bytes ++ piece) g short
+      begun_len-is (bytes ++ piece) g (begins_until (bytes ++ piece) g (omega (arith, begun, length-append bytes piece))
       (subst BeginsText (sym (front_same g (omega arith))) h.holds)
       (λ b. let k : suc g ≤ g = h.longest (suc g) begun (subst BeginsText (front_same (suc g) begun) b) in omega arith))
 
@@ -124,29 +117,18 @@ module _ (bytes piece : List ℕ) (text : text_len bytes < length bytes) (begun 
 
   pub text_of-behind_bad : text_of (bytes ++ piece) ≡ text_of bytes
   unfolding text_of
-  text_of-behind_bad = ap (λ n. chars (take n (bytes ++ piece))) text_same ∙ ap chars (front_same (text_len bytes) (omega (arith, text)))
+  text_of-behind_bad = ap (λ n. chars (take n (bytes ++ piece))) text_same ∙ ap chars (front_same (text_len bytes) (text_len-longest bytes).within)
 
-  pub ending_of-behind_bad : ending_of (bytes ++ piece) ≡ Bad (begun_len bytes) (text_len bytes)
-  ending_of-behind_bad =
-      ending_of-ended (bytes ++ piece) ∙ (λ i. ended (length (bytes ++ piece)) (text_same i) (begun_same i))
-      ∙ ended-bad (length (bytes ++ piece)) (text_len bytes) (begun_len bytes) (omega (arith, text, length-append bytes piece)) short
+  pub ending_of-behind_bad : ending_of (bytes ++ piece) ≡ ending_of bytes
+  ending_of-behind_bad = ending_of-broken (bytes ++ piece) (omega (arith, begun, begun_same, length-append bytes piece)) ∙ (λ i. Bad (begun_same i) (text_same i)) ∙ sym (ending_of-broken bytes begun)
 
-pub ending_of-ends : (bytes : List ℕ) → Ends (length bytes) (text_len bytes) (begun_len bytes) (ending_of bytes)
-ending_of-ends bytes = subst (Ends (length bytes) (text_len bytes) (begun_len bytes)) (sym (ending_of-ended bytes)) (ends (length bytes) (text_len bytes) (begun_len bytes) (text_len-longest bytes).within (begun_len-longest bytes).within)
+-- the lengths that such an ending tells
+pub broken : (bytes : List ℕ) (at start : ℕ) → ending_of bytes ≡ Bad at start → (begun_len bytes < length bytes) × (at ≡ begun_len bytes) × (start ≡ text_len bytes)
+broken bytes at start e = subst (Says bytes) e (ending_of-says bytes)
 
 module _ (bytes piece : List ℕ) (at start : ℕ) (e : ending_of bytes ≡ Bad at start) where
   pub text_of-bad : text_of (bytes ++ piece) ≡ text_of bytes
-  text_of-bad = by (ending_of-ends bytes)
-    where
-      by : Ends (length bytes) (text_len bytes) (begun_len bytes) (ending_of bytes) → text_of (bytes ++ piece) ≡ text_of bytes
-      by (whole _ f) = absurd (cc)
-      by (cut _ _ f) = absurd (cc)
-      by (bad text begun f) = text_of-behind_bad bytes piece text begun
+  text_of-bad = text_of-behind_bad bytes (broken bytes at start e).0 piece
 
   pub ending_of-bad : ending_of (bytes ++ piece) ≡ Bad at start
-  ending_of-bad = by (ending_of-ends bytes)
-    where
-      by : Ends (length bytes) (text_len bytes) (begun_len bytes) (ending_of bytes) → ending_of (bytes ++ piece) ≡ Bad at start
-      by (whole _ f) = absurd (cc)
-      by (cut _ _ f) = absurd (cc)
-      by (bad text begun f) = ending_of-behind_bad bytes piece text begun ∙ sym f ∙ e
+  ending_of-bad = ending_of-behind_bad bytes (broken bytes at start e).0 piece ∙ e

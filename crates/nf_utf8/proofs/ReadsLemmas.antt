@@ -1,13 +1,13 @@
 -- A reading is what `specs/Reads.antt` says, and nothing else is.
-use Rattle.std.proofs.Common.{◌≡◌, ℕ, ◌+◌, ◌≤◌, List, [], ◌++◌, length, encode_utf8_all, sym, ap, subst, ◌∙◌, arith, append-nil, length-append, take_all, add-one}
+use Rattle.std.proofs.Common.{◌≡◌, ℕ, ◌+◌, ◌≤◌, List, [], ◌++◌, length, encode_utf8_all, sym, ap, subst, ◌∙◌, arith, append-nil, length-append, take, take_all, add-one}
 use Rattle.std.proofs.lemmas.List.{nil_from_length}
 use Rattle.nf_utf8.specs.Text.{BeginsText}
 use Rattle.nf_utf8.specs.Ending.{Ending, Whole, Bad, Cut}
 use Rattle.nf_utf8.specs.Reading.{text_len, text_of, rest_of, begun_len, ending_of}
 use Rattle.nf_utf8.specs.Reads.{IsLongestText, EndsAs, Reads}
-use Rattle.nf_utf8.proofs.BegunLen.{begun_len-longest, begun_len-is, begins_for_all, begins_until, text_len_le}
-use Rattle.nf_utf8.proofs.Endings.{ending_of-ended, ended-whole, ended-cut, ended-bad, Ends, whole, cut, bad}
-use Rattle.nf_utf8.proofs.ReadingLemmas.{text_of-encodes, text_of-IsText, text_of-split, length-encodes-text_of, encodes-text_of, ending_of-ends}
+use Rattle.nf_utf8.proofs.BegunLen.{begun_len-longest, begun_len-is, begun_all, begins_all, begins_until}
+use Rattle.nf_utf8.proofs.Endings.{ending_of-full, ending_of-begun, ending_of-broken, Says, ending_of-says}
+use Rattle.nf_utf8.proofs.ReadingLemmas.{text_of-encodes, text_of-IsText, text_of-split, length-encodes-text_of, encodes-text_of}
 
 -- ---- what is read is so
 
@@ -18,22 +18,19 @@ text_of-longest bytes = record {
   longest = λ other rest s e. (text_of rest, ap text_of e ∙ text_of-encodes other rest s);
 }
 
-begins_all : (bytes : List ℕ) → begun_len bytes ≡ length bytes → BeginsText bytes
-begins_all bytes e = subst BeginsText (take_all (begun_len bytes) bytes (omega arith)) (begun_len-longest bytes).holds
-
 pub ending_of-is : (bytes : List ℕ) → EndsAs bytes (text_of bytes) (ending_of bytes)
-ending_of-is bytes = by (ending_of-ends bytes)
+ending_of-is bytes = by (ending_of bytes) (ending_of-says bytes)
   where
-    by : Ends (length bytes) (text_len bytes) (begun_len bytes) (ending_of bytes) → EndsAs bytes (text_of bytes) (ending_of bytes)
-    by (whole t e) = subst (EndsAs bytes (text_of bytes)) (sym e) (sym (encodes-text_of bytes ∙ take_all (text_len bytes) bytes (omega arith)))
-    by (cut t b e) = subst (EndsAs bytes (text_of bytes)) (sym e) (record { end = b; more = omega (arith, length-encodes-text_of bytes); begins = begins_all bytes b }, sym (length-encodes-text_of bytes))
-    by (bad t b e) = subst (EndsAs bytes (text_of bytes)) (sym e) (
+    by : (ending : Ending) → Says bytes ending → EndsAs bytes (text_of bytes) ending
+    by Whole e = sym (encodes-text_of bytes ∙ take_all (text_len bytes) bytes (omega arith))
+    by (Cut at start) e = (record { end = e.2; more = omega (arith, e.0, e.2, length-encodes-text_of bytes); begins = begins_all bytes e.1 }, e.3 ∙ sym (length-encodes-text_of bytes))
+    by (Bad at start) e = (
       record {
-        inside = b;
-        before = (begun_len-longest bytes).holds;
-        here = λ h. let k : begun_len bytes + 1 ≤ begun_len bytes = (begun_len-longest bytes).longest (begun_len bytes + 1) (omega arith) h in omega arith;
+        inside = omega (arith, e.0, e.1);
+        before = subst (λ n. BeginsText (take n bytes)) (sym e.1) (begun_len-longest bytes).holds;
+        here = λ h. let k : at + 1 ≤ begun_len bytes = (begun_len-longest bytes).longest (at + 1) (omega (arith, e.0, e.1)) h in omega (arith, e.1);
       },
-      sym (length-encodes-text_of bytes),
+      e.2 ∙ sym (length-encodes-text_of bytes),
     )
 
 pub reads : (bytes : List ℕ) → Reads bytes (text_of bytes) (ending_of bytes)
@@ -53,15 +50,12 @@ module _ (bytes : List ℕ) where
   size = length-encodes-text_of bytes
 
   only_ending : (ending : Ending) → EndsAs bytes (text_of bytes) ending → ending ≡ ending_of bytes
-  only_ending Whole e = sym (ending_of-ended bytes ∙ ended-whole (length bytes) (text_len bytes) (begun_len bytes) (sym (ap length e ∙ size)))
+  only_ending Whole e = sym (ending_of-full bytes (sym (ap length e ∙ size)))
   only_ending (Cut at start) e =
-      let begun : begun_len bytes ≡ length bytes = begun_len-is bytes (length bytes) (begins_for_all bytes e.0.begins) in
-      (λ i. Cut ((e.0.end ∙ sym begun) i) ((e.1 ∙ size) i))
-      ∙ sym (ending_of-ended bytes ∙ ended-cut (length bytes) (text_len bytes) (begun_len bytes) (omega (arith, size, e.0.more, e.0.end)) begun)
+      (λ i. Cut (e.0.end i) ((e.1 ∙ size) i)) ∙ sym (ending_of-begun bytes (omega (arith, size, e.0.more, e.0.end)) (begun_all bytes e.0.begins))
   only_ending (Bad at start) e =
       let begun : begun_len bytes ≡ at = begun_len-is bytes at (begins_until bytes at e.0.inside e.0.before (λ h. e.0.here (rw add-one h))) in
-      (λ i. Bad (sym begun i) ((e.1 ∙ size) i))
-      ∙ sym (ending_of-ended bytes ∙ ended-bad (length bytes) (text_len bytes) (begun_len bytes) (omega (arith, text_len_le bytes, e.0.inside)) (omega (arith, e.0.inside)))
+      (λ i. Bad (sym begun i) ((e.1 ∙ size) i)) ∙ sym (ending_of-broken bytes (omega (arith, begun, e.0.inside)))
 
 pub reads_only : (bytes text : List ℕ) (ending : Ending) → Reads bytes text ending → (text ≡ text_of bytes) × (ending ≡ ending_of bytes)
 reads_only bytes text ending r =

@@ -1,14 +1,16 @@
 -- Bytes read with one U+FFFD for each maximal subpart of an ill-formed sequence.
-use Rattle.std.proofs.Common.{◌≡◌, ℕ, zero, suc, ◌+◌, ◌-◌, ◌<◌, ◌≤◌, ◌==◌, Bool, true, false, cond, List, [], ◌∷◌, ◌++◌, map, length, drop, encode_utf8, encode_utf8_all, refl, ap, ◌∙◌, arith, append-nil, length-append, length-drop}
+use Rattle.std.proofs.Common.{◌≡◌, ℕ, zero, suc, ◌+◌, ◌-◌, ◌<◌, ◌≤◌, ◌==◌, List, [], ◌∷◌, ◌++◌, map, length, drop, encode_utf8, encode_utf8_all, refl, sym, ap, ◌∙◌, ⊎_elim, arith, append-nil, length-append, length-drop}
+use Rattle.std.proofs.str.Laws.{order}
+use Rattle.std.proofs.lemmas.Bool.{cond_both}
 use Rattle.std.proofs.lemmas.Bool.Decides.{nat_tests}
 use Rattle.nf_utf8.specs.Text.{BeginsText}
 use Rattle.nf_utf8.specs.Ending.{Ending, Whole, Bad, Cut}
 use Rattle.nf_utf8.specs.Reading.{text_len, text_of, begun_len, ending_of}
 use Rattle.nf_utf8.specs.Replaced.{Part, replacement, own_parts, part_end, behind_text, parts_within, parts_of, bytes_in}
 use Rattle.nf_utf8.proofs.TextLen.{text_len-longest}
-use Rattle.nf_utf8.proofs.BegunLen.{begun_len-is, begins_for_all, text_len_le}
-use Rattle.nf_utf8.proofs.Endings.{Ends, whole, cut, bad}
-use Rattle.nf_utf8.proofs.ReadingLemmas.{length-encodes-text_of, ending_of-ends, text_of-bad, ending_of-bad}
+use Rattle.nf_utf8.proofs.BegunLen.{begun_len-longest, begun_all}
+use Rattle.nf_utf8.proofs.Endings.{ending_of-broken, Says, ending_of-says}
+use Rattle.nf_utf8.proofs.ReadingLemmas.{length-encodes-text_of, broken, text_of-bad, ending_of-bad}
 
 -- ---- parts alone
 
@@ -24,100 +26,70 @@ pub chars-own : (x : List ℕ) → map (λ part. part.char) (own_parts x) ≡ x
 chars-own [] = refl
 chars-own (c ∷ x) = ap (λ l. c ∷ l) (chars-own x)
 
--- ---- where a part ends
-
-pub part_end-after : (at start : ℕ) → start ≤ at → start < part_end at start
-part_end-after at start le = by (at == start) refl
-  where
-    by : (b : Bool) → (at == start) ≡ b → start < cond b (start + 1) at
-    by true e = omega arith
-    by false e = let differs : ¬ (at ≡ start) = grind (arith, nat_tests) in omega arith
-
-pub part_end-within : (at start n : ℕ) → start ≤ at → at < n → part_end at start ≤ n
-part_end-within at start n le inside = by (at == start) refl
-  where
-    by : (b : Bool) → (at == start) ≡ b → cond b (start + 1) at ≤ n
-    by true e = omega arith
-    by false e = omega arith
-
 -- ---- what a bad byte breaks off
+
+part_end-bounds : (at start n : ℕ) → start ≤ at → at < n → (start < part_end at start) × (part_end at start ≤ n)
+part_end-bounds at start n le inside = cond_both (at == start) _ _ (λ end. (start < end) × (end ≤ n)) (λ t. (omega arith, omega arith))
+    (λ f. let differs : ¬ (at ≡ start) = grind (arith, nat_tests) in (omega arith, omega arith))
+
+pub broken_end : (bytes : List ℕ) (at start : ℕ) → ending_of bytes ≡ Bad at start → (start < part_end at start) × (part_end at start ≤ length bytes)
+broken_end bytes at start e = let b = broken bytes at start e in part_end-bounds at start (length bytes) (omega (arith, b.1, b.2)) (omega (arith, b.0, b.1))
 
 -- the part that it breaks off
 abbrev pub broken_part : (at start : ℕ) → Part
 broken_part at start = record { char = replacement; len = part_end at start - start }
 
-pub record IsBroken (bytes : List ℕ) (at start : ℕ) : Type 0 where
-  pub text : start ≡ text_len bytes
-  pub begun : at ≡ begun_len bytes
-  pub order : start ≤ at
-  pub within : at < length bytes
-
-pub is_broken : (bytes : List ℕ) (at start : ℕ) → ending_of bytes ≡ Bad at start → IsBroken bytes at start
-is_broken bytes at start e = by (ending_of-ends bytes)
-  where
-    by : Ends (length bytes) (text_len bytes) (begun_len bytes) (ending_of bytes) → IsBroken bytes at start
-    by (whole _ f) = absurd (cc)
-    by (cut _ _ f) = absurd (cc)
-    by (bad short within f) =
-        let a : at ≡ begun_len bytes = cc in
-        let s : start ≡ text_len bytes = cc in
-        record { text = s; begun = a; order = omega (arith, text_len_le bytes); within = omega arith }
-
-pub broken_end : (bytes : List ℕ) (at start : ℕ) → ending_of bytes ≡ Bad at start → (start < part_end at start) × (part_end at start ≤ length bytes)
-broken_end bytes at start e = let b = is_broken bytes at start e in (part_end-after at start b.order, part_end-within at start (length bytes) b.order b.within)
-
 -- a fact of all bytes, where it holds of what a bad byte leaves
-module _ (P : List ℕ → Type 0) (at_whole : (bytes : List ℕ) → ending_of bytes ≡ Whole → P bytes) (at_cut : (bytes : List ℕ) (at start : ℕ) → ending_of bytes ≡ Cut at start → P bytes)
+module _ (P : List ℕ → Type 0) (at_begun : (bytes : List ℕ) → begun_len bytes ≡ length bytes → P bytes)
     (at_bad : (bytes : List ℕ) (at start : ℕ) → ending_of bytes ≡ Bad at start → P (drop (part_end at start) bytes) → P bytes) where
-  by_ending : (bytes : List ℕ) (e : Ending) → ending_of bytes ≡ e → ((n : ℕ) → 0 < n → n ≤ length bytes → P (drop n bytes)) → P bytes
-  by_ending bytes Whole e on = at_whole bytes e
-  by_ending bytes (Cut at start) e on = at_cut bytes at start e
-  by_ending bytes (Bad at start) e on = let b = broken_end bytes at start e in at_bad bytes at start e (on (part_end at start) (omega (arith, b.0)) b.1)
-
   by_length : (k : ℕ) (bytes : List ℕ) → length bytes < k → P bytes
-  by_length zero bytes short = absurd (omega arith)
-  by_length (suc k) bytes short = by_ending bytes (ending_of bytes) refl (λ n some le. by_length k (drop n bytes) (omega (arith, length-drop n bytes)))
+  by_length zero bytes few = absurd (omega arith)
+  by_length (suc k) bytes few = ⊎_elim
+      (λ short.
+      let e = ending_of-broken bytes short in
+      let end = broken_end bytes (begun_len bytes) (text_len bytes) e in
+      at_bad bytes (begun_len bytes) (text_len bytes) e (by_length k (drop (part_end (begun_len bytes) (text_len bytes)) bytes) (omega (arith, end.0, end.1, length-drop (part_end (begun_len bytes) (text_len bytes)) bytes))))
+      (λ all. at_begun bytes (omega (arith, all, (begun_len-longest bytes).within)))
+      (order (begun_len bytes) (length bytes))
 
   pub by_parts : (bytes : List ℕ) → P bytes
   by_parts bytes = by_length (suc (length bytes)) bytes (omega arith)
 
--- ---- any bound above the length gives the same parts
+-- ---- the parts of bytes, in which any bound above the length gives the same
 
-abbrev more_parts : ℕ → List ℕ → Ending → List Part
-more_parts k bytes e = behind_text e (λ n. parts_within k (drop n bytes))
+parts-begun : (k : ℕ) (bytes : List ℕ) → begun_len bytes ≡ length bytes → parts_within (suc k) bytes ≡ own_parts (text_of bytes)
+parts-begun k bytes all = by (ending_of bytes) (ending_of-says bytes)
+  where
+    by : (e : Ending) → Says bytes e → own_parts (text_of bytes) ++ behind_text e (λ n. parts_within k (drop n bytes)) ≡ own_parts (text_of bytes)
+    by Whole s = append-nil (own_parts (text_of bytes))
+    by (Cut at start) s = append-nil (own_parts (text_of bytes))
+    by (Bad at start) s = absurd (omega (arith, s.0, all))
 
-more_same : (k j : ℕ) (bytes : List ℕ) (e : Ending) → ending_of bytes ≡ e → ((n : ℕ) → 0 < n → n ≤ length bytes → parts_within k (drop n bytes) ≡ parts_within j (drop n bytes))
-    → more_parts k bytes e ≡ more_parts j bytes e
-more_same k j bytes Whole e on = refl
-more_same k j bytes (Cut at start) e on = refl
-more_same k j bytes (Bad at start) e on = let b = broken_end bytes at start e in ap (λ l. broken_part at start ∷ l) (on (part_end at start) (omega (arith, b.0)) b.1)
+parts-broken : (k : ℕ) (bytes : List ℕ) (at start : ℕ) → ending_of bytes ≡ Bad at start
+    → parts_within (suc k) bytes ≡ own_parts (text_of bytes) ++ broken_part at start ∷ parts_within k (drop (part_end at start) bytes)
+parts-broken k bytes at start e = ap (λ x. own_parts (text_of bytes) ++ behind_text x (λ n. parts_within k (drop n bytes))) e
+
+pub parts_of-all : (bytes : List ℕ) → begun_len bytes ≡ length bytes → parts_of bytes ≡ own_parts (text_of bytes)
+unfolding parts_of
+parts_of-all bytes all = parts-begun (length bytes) bytes all
 
 within_any : (k j : ℕ) (bytes : List ℕ) → length bytes < k → length bytes < j → parts_within k bytes ≡ parts_within j bytes
 within_any zero j bytes p q = absurd (omega arith)
 within_any (suc k) zero bytes p q = absurd (omega arith)
-within_any (suc k) (suc j) bytes p q =
-    ap (λ l. own_parts (text_of bytes) ++ l)
-    (more_same k j bytes (ending_of bytes) refl (λ n some le. within_any k j (drop n bytes) (omega (arith, length-drop n bytes)) (omega (arith, length-drop n bytes))))
-
--- ---- the parts of bytes, by their ending
-
-parts_of-step : (bytes : List ℕ) (e : Ending) → ending_of bytes ≡ e → parts_of bytes ≡ own_parts (text_of bytes) ++ more_parts (length bytes) bytes e
-unfolding parts_of
-parts_of-step bytes e f = ap (λ x. own_parts (text_of bytes) ++ more_parts (length bytes) bytes x) f
-
-pub parts_of-whole : (bytes : List ℕ) → ending_of bytes ≡ Whole → parts_of bytes ≡ own_parts (text_of bytes)
-parts_of-whole bytes e = parts_of-step bytes Whole e ∙ append-nil (own_parts (text_of bytes))
-
-pub parts_of-cut : (bytes : List ℕ) (at start : ℕ) → ending_of bytes ≡ Cut at start → parts_of bytes ≡ own_parts (text_of bytes)
-parts_of-cut bytes at start e = parts_of-step bytes (Cut at start) e ∙ append-nil (own_parts (text_of bytes))
+within_any (suc k) (suc j) bytes p q = ⊎_elim
+    (λ short.
+    let e = ending_of-broken bytes short in
+    let end = broken_end bytes (begun_len bytes) (text_len bytes) e in
+    let stop : ℕ = part_end (begun_len bytes) (text_len bytes) in
+    parts-broken k bytes (begun_len bytes) (text_len bytes) e
+    ∙ ap (λ l. own_parts (text_of bytes) ++ broken_part (begun_len bytes) (text_len bytes) ∷ l)
+    (within_any k j (drop stop bytes) (omega (arith, end.0, end.1, length-drop stop bytes)) (omega (arith, end.0, end.1, length-drop stop bytes)))
+    ∙ sym (parts-broken j bytes (begun_len bytes) (text_len bytes) e))
+    (λ past. let all : begun_len bytes ≡ length bytes = omega (arith, past, (begun_len-longest bytes).within) in parts-begun k bytes all ∙ sym (parts-begun j bytes all))
+    (order (begun_len bytes) (length bytes))
 
 pub parts_of-begun : (bytes : List ℕ) → BeginsText bytes → parts_of bytes ≡ own_parts (text_of bytes)
-parts_of-begun bytes b = by (ending_of-ends bytes)
-  where
-    by : Ends (length bytes) (text_len bytes) (begun_len bytes) (ending_of bytes) → parts_of bytes ≡ own_parts (text_of bytes)
-    by (whole _ e) = parts_of-whole bytes e
-    by (cut _ _ e) = parts_of-cut bytes (begun_len bytes) (text_len bytes) e
-    by (bad _ short e) = absurd (omega (arith, begun_len-is bytes (length bytes) (begins_for_all bytes b)))
+parts_of-begun bytes b = parts_of-all bytes (begun_all bytes b)
 
 pub parts_of-broken : (bytes : List ℕ) (at start : ℕ) → ending_of bytes ≡ Bad at start
     → parts_of bytes ≡ own_parts (text_of bytes) ++ broken_part at start ∷ parts_of (drop (part_end at start) bytes)
@@ -125,7 +97,7 @@ unfolding parts_of
 parts_of-broken bytes at start e =
     let b = broken_end bytes at start e in
     let rest : List ℕ = drop (part_end at start) bytes in
-    parts_of-step bytes (Bad at start) e
+    parts-broken (length bytes) bytes at start e
     ∙ ap (λ l. own_parts (text_of bytes) ++ broken_part at start ∷ l)
     (within_any (length bytes) (suc (length rest)) rest (omega (arith, b.0, b.1, length-drop (part_end at start) bytes)) (omega arith))
 
@@ -140,21 +112,17 @@ parts_of-bad bytes more at start e =
 text_bytes : (bytes : List ℕ) → bytes_in (own_parts (text_of bytes)) ≡ text_len bytes
 text_bytes bytes = bytes_in-own (text_of bytes) ∙ length-encodes-text_of bytes
 
-pub bytes_in-whole : (bytes : List ℕ) → ending_of bytes ≡ Whole → bytes_in (parts_of bytes) ≡ text_len bytes
-bytes_in-whole bytes e = ap bytes_in (parts_of-whole bytes e) ∙ text_bytes bytes
-
-pub bytes_in-cut : (bytes : List ℕ) (at start : ℕ) → ending_of bytes ≡ Cut at start → bytes_in (parts_of bytes) ≡ text_len bytes
-bytes_in-cut bytes at start e = ap bytes_in (parts_of-cut bytes at start e) ∙ text_bytes bytes
+pub bytes_in-all : (bytes : List ℕ) → begun_len bytes ≡ length bytes → bytes_in (parts_of bytes) ≡ text_len bytes
+bytes_in-all bytes all = ap bytes_in (parts_of-all bytes all) ∙ text_bytes bytes
 
 pub bytes_in-broken : (bytes : List ℕ) (at start : ℕ) → ending_of bytes ≡ Bad at start → bytes_in (parts_of bytes) ≡ part_end at start + bytes_in (parts_of (drop (part_end at start) bytes))
 bytes_in-broken bytes at start e =
     let rest : List Part = parts_of (drop (part_end at start) bytes) in
     let sum : bytes_in (parts_of bytes) ≡ bytes_in (own_parts (text_of bytes)) + bytes_in (broken_part at start ∷ rest) =
     ap bytes_in (parts_of-broken bytes at start e) ∙ bytes_in-append (own_parts (text_of bytes)) (broken_part at start ∷ rest) in
-    omega (arith, sum, text_bytes bytes, (is_broken bytes at start e).text, (broken_end bytes at start e).0)
+    omega (arith, sum, text_bytes bytes, (broken bytes at start e).2, (broken_end bytes at start e).0)
 
 pub parts_of-within : (bytes : List ℕ) → bytes_in (parts_of bytes) ≤ length bytes
 parts_of-within = by_parts (λ bytes. bytes_in (parts_of bytes) ≤ length bytes)
-    (λ bytes e. omega (arith, bytes_in-whole bytes e, (text_len-longest bytes).within))
-    (λ bytes at start e. omega (arith, bytes_in-cut bytes at start e, (text_len-longest bytes).within))
+    (λ bytes all. omega (arith, bytes_in-all bytes all, (text_len-longest bytes).within))
     (λ bytes at start e h. omega (arith, bytes_in-broken bytes at start e, (broken_end bytes at start e).1, length-drop (part_end at start) bytes, h))

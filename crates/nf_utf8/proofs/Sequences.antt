@@ -1,8 +1,9 @@
 -- Which bytes spell a character, which begin one, and which begin none.
-use Rattle.std.proofs.Common.{◌≡◌, ℕ, ◌+◌, ◌-◌, ◌*◌, ◌/◌, ◌%◌, ◌<◌, ◌≤◌, inl, inr, ⊎_elim, List, [], ◌∷◌, ◌++◌, length, get_or, IsUtf8, encode_utf8, refl, sym, ap, subst, ◌∙◌, arith, cond, ◌==◌, length-append}
+use Rattle.std.proofs.Common.{◌≡◌, ℕ, ◌+◌, ◌-◌, ◌*◌, ◌/◌, ◌%◌, ◌<◌, ◌≤◌, inl, inr, ⊎_elim, List, [], ◌∷◌, ◌++◌, length, get_or, IsUtf8, encode_utf8, refl, sym, ap, subst, ◌∙◌, arith, length-append}
 use Rattle.std.specs.Int.{IsInRange}
 use Rattle.std.specs.Char.{IsScalar, InScalarRange}
 use Rattle.std.specs.Str.{StartsWithNoChar}
+use Rattle.std.specs.Str.Lossy.{second_byte_min}
 use Rattle.std.proofs.str.Laws.{order, one, two, three, four}
 use Rattle.std.proofs.str.Classes.{width_is}
 use Rattle.std.proofs.str.Faults.{Ranged, no_char}
@@ -107,21 +108,8 @@ begins_two a b first second = ⊎_elim
     (λ long. BeginsText-front (a ∷ b ∷ []) (0x80 ∷ []) (begins_three a b 0x80 (long, first.1) second (omega arith, omega arith)))
     (order a 0xE0)
 
--- some second byte fits each first
-some_second : (a : ℕ) → Second a (cond (a == 0xE0) 0xA0 (cond (a == 0xF0) 0x90 0x80))
-some_second a = record {
-  low = grind (arith, nat_tests);
-  high = grind (arith, nat_tests);
-  past_overlong = grind (arith, nat_tests);
-  before_surrogates = grind (arith, nat_tests);
-  past_overlong_four = grind (arith, nat_tests);
-  before_end = grind (arith, nat_tests);
-}
-
 pub begins_one : (a : ℕ) → IsInRange 0xC2 0xF4 a → BeginsText (a ∷ [])
-begins_one a first =
-    let b : ℕ = cond (a == 0xE0) 0xA0 (cond (a == 0xF0) 0x90 0x80) in
-    BeginsText-front (a ∷ []) (b ∷ []) (begins_two a b first (second_from a b (some_second a)))
+begins_one a first = let fits : IsSecond a (second_byte_min a) = grind (arith, nat_tests) in BeginsText-front (a ∷ []) (second_byte_min a ∷ []) (begins_two a (second_byte_min a) first fits)
 
 pub BeginsText-part : (part : List ℕ) → IsPart part → BeginsText part
 BeginsText-part [] h = ([], ([], (refl, refl)))

@@ -1,5 +1,5 @@
 -- What a piece gives, from what stands at its front, its text, and what stands behind that.
-use Rattle.std.proofs.Common.{◌≡◌, ℕ, ◌+◌, ◌^◌, ◌<◌, ◌≤◌, inl, List, [], ◌∷◌, ◌++◌, length, take, drop, get_or, Option, Some, None, IfSome, IsUtf8, chars, encode_utf8_all, refl, sym, ap, subst, subst₂, ◌∙◌, arith, append_assoc, append-nil, ⊎_elim, length-append, length-take-le, take-append-drop}
+use Rattle.std.proofs.Common.{◌≡◌, ℕ, ◌+◌, ◌-◌, ◌^◌, ◌<◌, ◌≤◌, inl, List, [], ◌∷◌, ◌++◌, length, take, drop, get_or, Option, Some, None, IfSome, IsUtf8, chars, encode_utf8_all, refl, sym, ap, subst, subst₂, ◌∙◌, arith, append_assoc, append-nil, ⊎_elim, length-append, length-take-le, take-append-drop}
 use Rattle.std.specs.Char.{IsScalar}
 use Rattle.std.proofs.lemmas.List.{take_more, append_cancel_left}
 use Rattle.std.proofs.lemmas.Str.{IsUtf8-nil, IsUtf8-append, IsUtf8-encode, chars-nil, chars-append, encodes-chars}
@@ -16,9 +16,11 @@ use Rattle.nf_utf8.specs.Front.{IsFront, Completes, CanEnd, EndsBy}
 use Rattle.nf_utf8.specs.Taking.{first_text, first_bytes, IsFirst, EndsPiece, Takes, end_holding, bytes_behind, Counts}
 use Rattle.nf_utf8.proofs.Texts.{BeginsText-append}
 use Rattle.nf_utf8.proofs.TextLen.{text_len-behind, text_len-no_char, no_char-text_len}
-use Rattle.nf_utf8.proofs.ReadingLemmas.{text_of-behind, rest_of-behind, ending_of-behind, text_of-bad, ending_of-bad as ending_of-behind_bad, length-encodes-text_of}
+use Rattle.nf_utf8.proofs.BegunLen.{begun_all}
+use Rattle.nf_utf8.proofs.Endings.{ending_of-full, ending_of-begun}
+use Rattle.nf_utf8.proofs.ReadingLemmas.{text_on, len_on, rest_on, ending_on, begins_on, text_of-behind, rest_of-behind, ending_of-behind, text_of-bad, ending_of-bad as ending_of-behind_bad, length-encodes-text_of}
 use Rattle.nf_utf8.proofs.Sequences.{BeginsText-part, part_no_char}
-use Rattle.nf_utf8.proofs.StandingLemmas.{text_of-none, rest_of-none, ending_of-whole, ending_of-part, chars_of_one, stands_new, held_len, no_text_len, ending_of-bad, text_on, len_on, rest_on, ending_on, begins_on}
+use Rattle.nf_utf8.proofs.StandingLemmas.{text_of-none, rest_of-none, chars_of_one, stands_new, held_len, no_text_len, ending_of-bad}
 
 -- ---- bytes with no text: a part and a bad byte, and more
 
@@ -79,13 +81,13 @@ module _ (held bytes piece : List ℕ) (first : Option ℕ) (text tail : List �
 
   pub taken_chars : text_of (bytes ++ piece) ≡ text_of bytes ++ first_text first ++ chars text
   taken_chars =
-      text_on held bytes piece s
+      text_on held bytes piece s.rest
       ∙ ap (λ l. text_of bytes ++ l)
       (ap text_of joins ∙ text_of-behind front_bytes tail all_IsUtf8 ∙ (λ i. all_chars i ++ text_of-none tail none i) ∙ append-nil (first_text first ++ chars text))
       ∙ sym (append_assoc (text_of bytes) (first_text first) (chars text))
 
   pub taken_rest : rest_of (bytes ++ piece) ≡ tail
-  taken_rest = rest_on held bytes piece s ∙ ap rest_of joins ∙ rest_of-behind front_bytes tail all_IsUtf8 ∙ rest_of-none tail none
+  taken_rest = rest_on held bytes piece s.rest ∙ ap rest_of joins ∙ rest_of-behind front_bytes tail all_IsUtf8 ∙ rest_of-none tail none
 
   size : length front_bytes ≡ length (first_bytes first) + length text
   size = length-append (first_bytes first) text
@@ -93,10 +95,10 @@ module _ (held bytes piece : List ℕ) (first : Option ℕ) (text tail : List �
   pub taken_len : text_len (bytes ++ piece) ≡ text_len bytes + length (first_bytes first) + length text
   taken_len =
       let front : text_len (held ++ piece) ≡ length front_bytes + text_len tail = ap (λ l. text_len l) joins ∙ text_len-behind front_bytes tail all_IsUtf8 in
-      omega (arith, len_on held bytes piece s, front, none, size)
+      omega (arith, len_on held bytes piece s.rest, front, none, size)
 
   pub taken_ending : ending_of (bytes ++ piece) ≡ moved (text_len bytes) (moved (length front_bytes) (ending_of tail))
-  taken_ending = ending_on held bytes piece s ∙ ap (moved (text_len bytes)) (ap ending_of joins ∙ ending_of-behind front_bytes tail all_IsUtf8)
+  taken_ending = ending_on held bytes piece s.rest ∙ ap (moved (text_len bytes)) (ap ending_of joins ∙ ending_of-behind front_bytes tail all_IsUtf8)
 
   taken_size : length held + length piece ≡ length (first_bytes first) + length text + length tail
   taken_size = omega (arith, sym (length-append held piece), ap length joins, length-append front_bytes tail, size)
@@ -114,17 +116,8 @@ module _ (held bytes piece : List ℕ) (first : Option ℕ) (text tail : List �
   pub stands_behind : BeginsText tail → StandsAfter tail (bytes ++ piece)
   stands_behind b = record {
     rest = taken_rest;
-    begins = begins_on held bytes piece s (subst BeginsText (sym joins) (BeginsText-append front_bytes tail all_IsUtf8 b));
+    begins = begins_on held bytes piece s.rest (subst BeginsText (sym joins) (BeginsText-append front_bytes tail all_IsUtf8 b));
   }
-
-  pub ends_whole : ending_of tail ≡ IsWhole → EndsPiece bytes piece Whole
-  ends_whole e = taken_ending ∙ ap (λ x. moved (text_len bytes) (moved (length front_bytes) x)) e
-
-  pub ends_cut : ending_of tail ≡ IsCut (length tail) 0 → EndsPiece bytes piece Cut
-  ends_cut e =
-      let at : text_len bytes + (length front_bytes + length tail) ≡ length bytes + length piece = omega (arith, held_len held bytes s, taken_size, size) in
-      let start : text_len bytes + (length front_bytes + 0) ≡ text_len (bytes ++ piece) = omega (arith, taken_len, size) in
-      taken_ending ∙ ap (λ x. moved (text_len bytes) (moved (length front_bytes) x)) e ∙ (λ i. IsCut (at i) (start i))
 
   pub ends_bad : (back at : ℕ) → ending_of tail ≡ IsBad back 0 → length (first_bytes first) + length text + back ≡ length held + at → at < length piece
       → EndsPiece bytes piece (Bad at back)
@@ -135,6 +128,23 @@ module _ (held bytes piece : List ℕ) (first : Option ℕ) (text tail : List �
         omega (arith, held_len held bytes s, taken_len, sum),
         inside,
       )
+
+-- ---- the end of a piece
+
+-- what the end says of all the bytes, where `from` stand before the piece
+abbrev pub EndsAll : List ℕ → List ℕ → End → Type 0
+EndsAll from all Whole = ending_of all ≡ IsWhole
+EndsAll from all Cut = ending_of all ≡ IsCut (length all) (text_len all)
+EndsAll from all (Bad at back) = (ending_of all ≡ IsBad (length from + at) (text_len all)) × (text_len all + back ≡ length from + at) × (length from + at < length all)
+
+pub ends_holding : (from bytes held : List ℕ) → StandsAfter held bytes → EndsAll from bytes (end_holding held)
+ends_holding from bytes [] s = ending_of-full bytes (omega (arith, held_len [] bytes s))
+ends_holding from bytes (a ∷ held) s = ending_of-begun bytes (omega (arith, held_len (a ∷ held) bytes s)) (begun_all bytes s.begins)
+
+pub ends_piece : (bytes piece : List ℕ) (end : End) → EndsAll bytes (bytes ++ piece) end → EndsPiece bytes piece end
+ends_piece bytes piece Whole e = e
+ends_piece bytes piece Cut e = e ∙ ap (λ n. IsCut n (text_len (bytes ++ piece))) (length-append bytes piece)
+ends_piece bytes piece (Bad at back) e = (e.0, e.1, omega (arith, e.2, length-append bytes piece))
 
 -- ---- the same from what stands behind the text
 
@@ -167,19 +177,15 @@ abbrev pub Taken : List ℕ → List ℕ → Option ℕ → List ℕ → End →
 Taken bytes piece first text end left = Takes bytes piece first text end × StandsAfter left (bytes_behind bytes piece end)
 
 module _ (held bytes piece : List ℕ) (first : Option ℕ) (text : List ℕ) (s : StandsAfter held bytes) (scalar : IfSome first IsScalar) (u : IsUtf8 text) (f : IsFirst held first text) where
-  taken_at : (part : List ℕ) → IsPart part → (joins : held ++ piece ≡ first_bytes first ++ text ++ part)
-      → ((end : End) → IsFirst held first text → EndsPiece bytes piece end → Takes bytes piece first text end) × StandsAfter part (bytes ++ piece)
+  taken_at : (part : List ℕ) → IsPart part → held ++ piece ≡ first_bytes first ++ text ++ part → Takes bytes piece first text (end_holding part) × StandsAfter part (bytes ++ piece)
   taken_at part p joins =
       let none = text_len-no_char part (part_no_char part p) in
-      (takes held bytes piece first text part s scalar u joins none, stands_behind held bytes piece first text part s scalar u joins none (BeginsText-part part p))
+      let stands = stands_behind held bytes piece first text part s scalar u joins none (BeginsText-part part p) in
+      (takes held bytes piece first text part s scalar u joins none (end_holding part) f (ends_piece bytes piece (end_holding part) (ends_holding bytes (bytes ++ piece) part stands)), stands)
 
   taken_part : (part : List ℕ) → IsPart part → held ++ piece ≡ first_bytes first ++ text ++ part → Taken bytes piece first text (end_holding part) part
-  taken_part [] p joins =
-      let at = taken_at [] p joins in
-      (at.0 Whole f (ends_whole held bytes piece first text [] s scalar u joins (text_len-no_char [] (part_no_char [] p)) (ending_of-whole [] IsUtf8-nil)), at.1)
-  taken_part (a ∷ rest) p joins =
-      let at = taken_at (a ∷ rest) p joins in
-      (at.0 Cut f (ends_cut held bytes piece first text (a ∷ rest) s scalar u joins (text_len-no_char (a ∷ rest) (part_no_char (a ∷ rest) p)) (ending_of-part (a ∷ rest) p (omega arith))), at.1)
+  taken_part [] p joins = taken_at [] p joins
+  taken_part (a ∷ rest) p joins = taken_at (a ∷ rest) p joins
 
   pub taken : (part rest : List ℕ) (skipped : ℕ) (front : Front) (end : End) (left : List ℕ) → held ++ piece ≡ first_bytes first ++ text ++ (part ++ rest)
       → length (first_bytes first) + length text + length part ≡ length held + skipped → IsFront part rest front → EndsBy front skipped end left → Taken bytes piece first text end left
@@ -235,10 +241,11 @@ can_end behind (BadFront at back) skipped is none few = omega (arith, is.0)
 
 -- ---- one answer alone fits
 
-abbrev bad_at : Ending → ℕ
-bad_at IsWhole = 0
-bad_at (IsCut at start) = at
-bad_at (IsBad at start) = at
+-- the end that an ending is where n bytes stand before the piece
+abbrev end_at : ℕ → Ending → End
+end_at n IsWhole = Whole
+end_at n (IsCut at start) = Cut
+end_at n (IsBad at start) = Bad (at - n) (at - start)
 
 module _ (bytes piece : List ℕ) where
   same_text : (x y : List ℕ) → IsUtf8 x → IsUtf8 y → chars x ≡ chars y → x ≡ y
@@ -254,20 +261,16 @@ module _ (bytes piece : List ℕ) where
   same_front (Some c) None x y p q u v e = absurd (no_first_alone y x c q p (sym e))
   same_front (Some c) (Some d) x y p q u v e = let one : c ≡ d = cc in let more : chars x ≡ chars y = cc in (ap Some one, same_text x y u v more)
 
+  end_is : (end : End) → EndsPiece bytes piece end → end ≡ end_at (length bytes) (ending_of (bytes ++ piece))
+  end_is Whole e = ap (end_at (length bytes)) (sym e)
+  end_is Cut e = ap (end_at (length bytes)) (sym e)
+  end_is (Bad at back) e =
+      let place : at ≡ length bytes + at - length bytes = omega arith in
+      let few : back ≡ length bytes + at - text_len (bytes ++ piece) = omega (arith, e.1) in
+      (λ i. Bad (place i) (few i)) ∙ ap (end_at (length bytes)) (sym e.0)
+
   pub same_end : (a b : End) → EndsPiece bytes piece a → EndsPiece bytes piece b → a ≡ b
-  same_end Whole Whole p q = refl
-  same_end Whole Cut p q = cc
-  same_end Whole (Bad at back) p q = let e = q.0 in cc
-  same_end Cut Whole p q = cc
-  same_end Cut Cut p q = refl
-  same_end Cut (Bad at back) p q = let e = q.0 in cc
-  same_end (Bad at back) Whole p q = let e = p.0 in cc
-  same_end (Bad at back) Cut p q = let e = p.0 in cc
-  same_end (Bad at back) (Bad n k) p q =
-      let place : length bytes + at ≡ length bytes + n = ap bad_at (sym p.0 ∙ q.0) in
-      let same : at ≡ n = omega (arith, place) in
-      let few : back ≡ k = omega (arith, place, p.1, q.1) in
-      (λ i. Bad (same i) (few i))
+  same_end a b p q = end_is a p ∙ sym (end_is b q)
 
   pub takes_same : (f g : Option ℕ) (x y : List ℕ) (a b : End) → Takes bytes piece f x a → Takes bytes piece g y b → (f ≡ g) × (x ≡ y) × (a ≡ b)
   takes_same f g x y a b p q =

@@ -1,39 +1,33 @@
 -- `text_len`, the length of the longest front that is well-formed.
-use Rattle.std.proofs.Common.{◌≡◌, ℕ, zero, suc, ◌+◌, ◌-◌, ◌≤◌, ⊎_elim, Bool, true, false, cond, true≢false, List, ◌++◌, length, take, drop, IsUtf8, encode_utf8, refl, sym, ap, subst, ◌∙◌, arith, length-append, length-take-le, take-append-drop, take-add, take_at}
+use Rattle.std.proofs.Common.{◌≡◌, ℕ, zero, suc, ◌+◌, ◌-◌, ◌≤◌, ⊎_elim, false, true≢false, List, ◌++◌, length, take, drop, IsUtf8, encode_utf8, sym, ap, subst, ◌∙◌, arith, length-take-le, take-append-drop, take-add}
 use Rattle.std.specs.Str.{StartsWithNoChar, is_utf8}
 use Rattle.std.specs.Str.Lossy.{utf8_valid_len, valid_len_up_to}
 use Rattle.std.proofs.str.Laws.{order}
 use Rattle.std.proofs.str.Classes.{width_is}
 use Rattle.std.proofs.str.Lossy.{IsUtf8-from_is_utf8, is_utf8-from_IsUtf8}
 use Rattle.std.proofs.iter.FirstChar.{no_text}
+use Rattle.std.proofs.lemmas.Bool.{cond_both}
 use Rattle.std.proofs.lemmas.Str.{IsUtf8-nil, IsUtf8-append, IsUtf8-encode, utf8_valid_len-IsUtf8}
 use Rattle.nf_utf8.specs.Reading.{text_len}
 use Rattle.nf_utf8.proofs.Fronts.{IsLongestFront, longest_same, longest_behind}
 use Rattle.nf_utf8.proofs.Texts.{IsUtf8-behind}
 
 -- n is the greatest length up to m at which the front is well-formed
-record Found (bytes : List ℕ) (n m : ℕ) : Type 0 where
-  pub within : n ≤ m
-  pub holds : IsUtf8 (take n bytes)
-  pub longest : (k : ℕ) → k ≤ m → IsUtf8 (take k bytes) → k ≤ n
+abbrev IsGreatest : List ℕ → ℕ → ℕ → Type 0
+IsGreatest bytes m n = (n ≤ m) × IsUtf8 (take n bytes) × ((k : ℕ) → k ≤ m → IsUtf8 (take k bytes) → k ≤ n)
 
-found_more : (bytes : List ℕ) (n m : ℕ) → Found bytes n m → (t : Bool) → is_utf8 (take (suc m) bytes) ≡ t → Found bytes (cond t (suc m) n) (suc m)
-found_more bytes n m f true e = record { within = omega arith; holds = IsUtf8-from_is_utf8 _ e; longest = λ k le _. le }
-found_more bytes n m f false e = record {
-  within = omega (arith, f.within);
-  holds = f.holds;
-  longest = λ k le u. ⊎_elim (λ below. f.longest k (omega arith) u)
-      (λ at. let same : k ≡ suc m = omega arith in absurd (true≢false (sym (is_utf8-from_IsUtf8 _ (subst (λ j. IsUtf8 (take j bytes)) same u)) ∙ e)))
-      (order k (suc m));
-}
-
-found : (bytes : List ℕ) (m : ℕ) → Found bytes (valid_len_up_to bytes m) m
-found bytes zero = record { within = omega arith; holds = IsUtf8-nil; longest = λ k le _. le }
-found bytes (suc m) = found_more bytes (valid_len_up_to bytes m) m (found bytes m) (is_utf8 (take (suc m) bytes)) refl
+found : (bytes : List ℕ) (m : ℕ) → IsGreatest bytes m (valid_len_up_to bytes m)
+found bytes zero = (omega arith, IsUtf8-nil, λ k le _. le)
+found bytes (suc m) =
+    let f = found bytes m in
+    let at_end : is_utf8 (take (suc m) bytes) ≡ false → (k : ℕ) → suc m ≤ k → k ≤ suc m → ¬ (IsUtf8 (take k bytes)) =
+    λ e k past le u. let same : k ≡ suc m = omega arith in true≢false (sym (is_utf8-from_IsUtf8 _ (subst (λ j. IsUtf8 (take j bytes)) same u)) ∙ e) in
+    cond_both _ _ _ (IsGreatest bytes (suc m)) (λ t. (omega arith, IsUtf8-from_is_utf8 _ t, λ k le _. le))
+    (λ e. (omega (arith, f.0), f.1, λ k le u. ⊎_elim (λ below. f.2 k (omega arith) u) (λ past. absurd (at_end e k past le u)) (order k (suc m))))
 
 pub text_len-longest : (bytes : List ℕ) → IsLongestFront IsUtf8 bytes (text_len bytes)
 unfolding utf8_valid_len
-text_len-longest bytes = let f = found bytes (length bytes) in record { within = f.within; holds = f.holds; longest = f.longest }
+text_len-longest bytes = let f = found bytes (length bytes) in record { within = f.0; holds = f.1; longest = f.2 }
 
 pub text_len-is : (bytes : List ℕ) (n : ℕ) → IsLongestFront IsUtf8 bytes n → text_len bytes ≡ n
 text_len-is bytes n h = longest_same IsUtf8 bytes _ _ (text_len-longest bytes) h
@@ -56,9 +50,7 @@ text_len-rest bytes =
 pub no_char-text_len : (bytes : List ℕ) → text_len bytes ≡ 0 → StartsWithNoChar bytes
 no_char-text_len bytes none c rest s e =
     let w = width_is c in
-    let fits : length (encode_utf8 c) ≤ length bytes = omega (arith, ap length e, length-append (encode_utf8 c) rest) in
-    let front : take (length (encode_utf8 c)) bytes ≡ encode_utf8 c = ap (take (length (encode_utf8 c))) e ∙ take_at (encode_utf8 c) rest (length (encode_utf8 c)) refl in
-    let short : length (encode_utf8 c) ≤ text_len bytes = (text_len-longest bytes).longest _ fits (subst IsUtf8 (sym front) (IsUtf8-encode c s)) in
+    let some : text_len bytes ≡ length (encode_utf8 c) + text_len rest = ap (λ l. text_len l) e ∙ text_len-behind (encode_utf8 c) rest (IsUtf8-encode c s) in
     omega (arith, w.0, w.1)
 
 pub text_len-no_char : (bytes : List ℕ) → StartsWithNoChar bytes → text_len bytes ≡ 0

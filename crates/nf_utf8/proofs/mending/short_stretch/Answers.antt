@@ -1,6 +1,6 @@
-use Rattle.std.proofs.Common.{◌+◌, List, ℕ, take, drop, refl, sym, ap, ◌∙◌, arith}
+use Rattle.std.proofs.Common.{◌+◌, List, ℕ, take, drop, refl, sym, ap, ◌∙◌}
 use Rattle.std.specs.Str.Lossy.{utf8_error_len}
-use Rattle.nf_utf8.proofs.LossyLemmas.{told_bad}
+use Rattle.nf_utf8.proofs.LossyLemmas.{is_told}
 use Rattle.nf_utf8.proofs.MendingLemmas.{stretch_is}
 use Rattle.nf_utf8.proofs.mending.short_stretch.Goals as goal
 
@@ -11,5 +11,5 @@ returns c =
     let part = c.in_ok-part.part in
     let error = c.in-Err.ensures in
     let told = ap (λ n. utf8_error_len (drop n near)) (sym error.valid_len) ∙ sym error.fault ∙ sym c.error_len.ensures ∙ c.in_ok-part.was in
-    stretch_is c.args.bytes.now c.min.result (record { text = text; len = text + part }) part (told_bad near part (omega (arith, error.cases.1.short, error.valid_len)) told)
+    stretch_is c.args.bytes.now c.min.result (record { text = text; len = text + part }) part (is_told near part told)
     (c.valid_up_to-text.ensures ∙ error.valid_len) refl
