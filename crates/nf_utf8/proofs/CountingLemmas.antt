@@ -1,5 +1,5 @@
 -- The characters of a text, counted by the bytes that begin them.
-use Rattle.std.proofs.Common.{◌≡◌, ℕ, suc, ◌+◌, ◌-◌, ◌/◌, ◌%◌, ◌^◌, ◌<◌, ◌≤◌, ◌||◌, Bool, true, false, cond, nat_lt, nat_le, bit_or, ⊎_elim, List, [], ◌∷◌, length, take, drop, map, replicate, IsUtf8, encode_utf8, encode_utf8_all, refl, sym, ap, ◌∙◌, arith, take-add}
+use Rattle.std.proofs.Common.{◌≡◌, ℕ, ◌+◌, ◌-◌, ◌/◌, ◌%◌, ◌^◌, ◌<◌, ◌≤◌, ◌||◌, Bool, true, false, cond, nat_lt, nat_le, bit_or, ⊎_elim, List, [], ◌∷◌, length, take, drop, map, replicate, IsUtf8, encode_utf8, encode_utf8_all, refl, sym, ap, ◌∙◌, arith, take-add}
 use Rattle.std.specs.Fmt.{is_char_start}
 use Rattle.std.specs.List.{count_by}
 use Rattle.std.specs.Int.RustNames.{count_ones}
@@ -9,7 +9,7 @@ use Rattle.std.proofs.lemmas.Bool.Decides.{nat_tests}
 use Rattle.std.proofs.lemmas.List.{length-map, length-take-le, take_rest}
 use Rattle.std.proofs.lemmas.List.Sums.{sum_by-append, sum_by-take-drop, sum_by-take-le, count_by-le-length}
 use Rattle.std.proofs.lemmas.Simd.{zip2_of_maps, zip2_splat, zip2_splat_left, map-map, mask_l-mod, ones-mask_l}
-use Rattle.std.proofs.lemmas.Str.{encodes-chars}
+use Rattle.std.proofs.lemmas.Str.{encodes-chars, IsUtf8-from_ascii, chars-IsAscii}
 use lib.Lanes.{chunk, zip2, mask_l, top}
 
 abbrev pub starts : List ℕ → ℕ
@@ -49,14 +49,8 @@ pub count-chars : (bytes : List ℕ) → IsUtf8 bytes → starts bytes ≡ lengt
 count-chars bytes u = ap starts (sym (encodes-chars bytes u)) ∙ starts-encode_all (chars bytes)
 
 -- each byte of ASCII begins one
-starts-ascii : (bytes : List ℕ) → IsAscii bytes → starts bytes ≡ length bytes
-starts-ascii [] ascii = refl
-starts-ascii (byte ∷ bytes) ascii =
-    let one : starts (byte ∷ []) ≡ 1 = rw (begins_ascii byte (ascii 0)) refl in
-    omega (arith, sum_by-append starts_at (byte ∷ []) bytes, one, starts-ascii bytes (λ i. ascii (suc i)))
-
 pub starts-front : (bytes : List ℕ) (n : ℕ) → n ≤ length bytes → IsAscii (take n bytes) → starts (take n bytes) ≡ n
-starts-front bytes n within ascii = starts-ascii (take n bytes) ascii ∙ length-take-le n bytes within
+starts-front bytes n within ascii = count-chars (take n bytes) (IsUtf8-from_ascii (take n bytes) ascii) ∙ ap length (chars-IsAscii (take n bytes) ascii) ∙ length-take-le n bytes within
 
 -- ---- the count up to a place
 

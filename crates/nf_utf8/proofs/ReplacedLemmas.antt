@@ -48,7 +48,8 @@ module _ (P : List ℕ → Type 0) (at_begun : (bytes : List ℕ) → begun_len 
       (λ short.
       let e = ending_of-broken bytes short in
       let end = broken_end bytes (begun_len bytes) (text_len bytes) e in
-      at_bad bytes (begun_len bytes) (text_len bytes) e (by_length k (drop (part_end (begun_len bytes) (text_len bytes)) bytes) (omega (arith, end.0, end.1, length-drop (part_end (begun_len bytes) (text_len bytes)) bytes))))
+      let stop : ℕ = part_end (begun_len bytes) (text_len bytes) in
+      at_bad bytes (begun_len bytes) (text_len bytes) e (by_length k (drop stop bytes) (omega (arith, end.0, end.1, length-drop stop bytes))))
       (λ all. at_begun bytes (omega (arith, all, (begun_len-longest bytes).within)))
       (order (begun_len bytes) (length bytes))
 

@@ -1,14 +1,14 @@
 -- Which bytes spell a character, which begin one, and which begin none.
-use Rattle.std.proofs.Common.{◌≡◌, ℕ, ◌+◌, ◌-◌, ◌*◌, ◌/◌, ◌%◌, ◌<◌, ◌≤◌, inl, inr, ⊎_elim, List, [], ◌∷◌, ◌++◌, length, get_or, IsUtf8, encode_utf8, refl, sym, ap, subst, ◌∙◌, arith, length-append}
+use Rattle.std.proofs.Common.{◌≡◌, ℕ, ◌+◌, ◌-◌, ◌*◌, ◌/◌, ◌%◌, ◌<◌, ◌≤◌, inl, inr, ⊎_elim, List, [], ◌∷◌, ◌++◌, length, get_or, IsUtf8, encode_utf8, refl, sym, ap, ◌∙◌, arith, length-append}
 use Rattle.std.specs.Int.{IsInRange}
 use Rattle.std.specs.Char.{IsScalar, InScalarRange}
 use Rattle.std.specs.Str.{StartsWithNoChar}
 use Rattle.std.specs.Str.Lossy.{second_byte_min}
-use Rattle.std.proofs.str.Laws.{order, one, two, three, four}
+use Rattle.std.proofs.str.Laws.{order, two, three, four}
 use Rattle.std.proofs.str.Classes.{width_is}
 use Rattle.std.proofs.str.Faults.{Ranged, no_char}
 use Rattle.std.proofs.lemmas.Bool.Decides.{nat_tests}
-use Rattle.std.proofs.lemmas.Str.{IsUtf8-encode}
+use Rattle.std.proofs.str.Valid.{of_one, of_two, of_three, of_four}
 use Rattle.nf_utf8.specs.Text.{BeginsText}
 use Rattle.nf_utf8.specs.Part.{IsSecond, IsContinuation, IsPart}
 use Rattle.nf_utf8.proofs.Texts.{BeginsText-front, begins_with_char}
@@ -46,53 +46,51 @@ encode_two a b c first second code =
     let q : b ≡ 128 + c % 64 = omega (arith, first.0, second.0) in
     (λ i. p i ∷ q i ∷ []) ∙ sym (two c (omega (arith, first.0, second.0)) (omega (arith, first.1, second.1)))
 
+-- past those that two bytes, or three, spell
+three_low : (a b d : ℕ) → 0xE0 ≤ a → Second a b → 0x80 ≤ d → 0x800 ≤ (a - 0xE0) * 0x1000 + (b - 0x80) * 0x40 + (d - 0x80)
+three_low a b d first s third = ⊎_elim (λ least. let k = s.past_overlong (omega (arith, first)) in omega (arith, third)) (λ above. omega (arith, s.low, third)) (order a 0xE1)
+
+four_low : (a b : ℕ) → 0xF0 ≤ a → Second a b → 16 ≤ (a - 0xF0) * 0x40 + (b - 0x80)
+four_low a b first s = ⊎_elim (λ least. let k = s.past_overlong_four (omega (arith, first)) in omega arith) (λ above. omega (arith, s.low)) (order a 0xF1)
+
 pub encode_three : (a b d c : ℕ) → IsInRange 0xE0 0xEF a → IsSecond a b → IsContinuation d
     → c ≡ (a - 0xE0) * 0x1000 + (b - 0x80) * 0x40 + (d - 0x80) → a ∷ b ∷ d ∷ [] ≡ encode_utf8 c
 encode_three a b d c first second third code =
     let s = second_facts a b second in
-    let low : 2048 ≤ c = ⊎_elim (λ least. let k = s.past_overlong (omega (arith, first.0)) in omega (arith, third.0)) (λ above. omega (arith, s.low, third.0)) (order a 0xE1) in
     let p : a ≡ 224 + c / 4096 = omega (arith, first.0, s.low, s.high, third.0, third.1) in
     let q : b ≡ 128 + c / 64 % 64 = omega (arith, first.0, s.low, s.high, third.0, third.1) in
     let r : d ≡ 128 + c % 64 = omega (arith, first.0, s.low, s.high, third.0, third.1) in
-    (λ i. p i ∷ q i ∷ r i ∷ []) ∙ sym (three c low (omega (arith, first.1, s.high, third.1)))
+    (λ i. p i ∷ q i ∷ r i ∷ []) ∙ sym (three c (omega (arith, code, three_low a b d first.0 s third.0)) (omega (arith, first.1, s.high, third.1)))
 
 pub encode_four : (a b d e c : ℕ) → IsInRange 0xF0 0xF4 a → IsSecond a b → IsContinuation d → IsContinuation e
     → c ≡ (a - 0xF0) * 0x4_0000 + (b - 0x80) * 0x1000 + (d - 0x80) * 0x40 + (e - 0x80) → a ∷ b ∷ d ∷ e ∷ [] ≡ encode_utf8 c
 encode_four a b d e c first second third fourth code =
     let s = second_facts a b second in
-    let low : 65536 ≤ c = ⊎_elim (λ least. let k = s.past_overlong_four (omega (arith, first.0)) in omega (arith, third.0)) (λ above. omega (arith, s.low, third.0)) (order a 0xF1) in
     let p : a ≡ 240 + c / 262144 = omega (arith, first.0, s.low, s.high, third.0, third.1, fourth.0, fourth.1) in
     let q : b ≡ 128 + c / 4096 % 64 = omega (arith, first.0, s.low, s.high, third.0, third.1, fourth.0, fourth.1) in
     let r : d ≡ 128 + c / 64 % 64 = omega (arith, first.0, s.low, s.high, third.0, third.1, fourth.0, fourth.1) in
     let t : e ≡ 128 + c % 64 = omega (arith, first.0, s.low, s.high, third.0, third.1, fourth.0, fourth.1) in
-    (λ i. p i ∷ q i ∷ r i ∷ t i ∷ []) ∙ sym (four c low)
-
-one_char : (bytes : List ℕ) (c : ℕ) → InScalarRange c → bytes ≡ encode_utf8 c → IsUtf8 bytes
-one_char bytes c s e = subst IsUtf8 (sym e) (IsUtf8-encode c (scalar_from c s))
+    (λ i. p i ∷ q i ∷ r i ∷ t i ∷ []) ∙ sym (four c (omega (arith, code, four_low a b first.0 s, s.low)))
 
 pub IsUtf8-one : (a : ℕ) → a < 0x80 → IsUtf8 (a ∷ [])
-IsUtf8-one a h = one_char (a ∷ []) a (inl (omega arith)) (sym (one a h))
+IsUtf8-one a h = of_one (a ∷ []) 0 (omega arith) h
 
 pub IsUtf8-two : (a b : ℕ) → IsInRange 0xC2 0xDF a → IsContinuation b → IsUtf8 (a ∷ b ∷ [])
-IsUtf8-two a b first second = one_char _ ((a - 0xC0) * 0x40 + (b - 0x80)) (inl (omega (arith, first.1, second.1))) (encode_two a b _ first second refl)
+IsUtf8-two a b first second = of_two (a ∷ b ∷ []) 0 (omega arith) (first.0, omega (arith, first.1)) (second.0, omega (arith, second.1))
 
 pub IsUtf8-three : (a b d : ℕ) → IsInRange 0xE0 0xEF a → IsSecond a b → IsContinuation d → IsUtf8 (a ∷ b ∷ d ∷ [])
 IsUtf8-three a b d first second third =
     let s = second_facts a b second in
-    one_char _ ((a - 0xE0) * 0x1000 + (b - 0x80) * 0x40 + (d - 0x80))
+    of_three (a ∷ b ∷ d ∷ []) 0 (omega arith) (first.0, omega (arith, first.1)) (s.low, s.high) (third.0, omega (arith, third.1)) (three_low a b d first.0 s third.0)
     (⊎_elim (λ below. inl (omega (arith, s.high, third.1)))
-    (λ above. ⊎_elim (λ at. let k = s.before_surrogates (omega arith) in inl (omega (arith, third.1))) (λ past. inr (omega (arith, s.low, third.0), omega (arith, first.1, s.high, third.1))) (order a 0xEE))
+    (λ above. ⊎_elim (λ at. let k = s.before_surrogates (omega arith) in inl (omega (arith, third.1))) (λ past. inr (omega (arith, s.low, third.0))) (order a 0xEE))
     (order a 0xED))
-    (encode_three a b d _ first second third refl)
 
 pub IsUtf8-four : (a b d e : ℕ) → IsInRange 0xF0 0xF4 a → IsSecond a b → IsContinuation d → IsContinuation e → IsUtf8 (a ∷ b ∷ d ∷ e ∷ [])
 IsUtf8-four a b d e first second third fourth =
     let s = second_facts a b second in
-    let low : 0x1_0000 ≤ (a - 0xF0) * 0x4_0000 + (b - 0x80) * 0x1000 + (d - 0x80) * 0x40 + (e - 0x80) =
-    ⊎_elim (λ least. let k = s.past_overlong_four (omega (arith, first.0)) in omega (arith, third.0)) (λ above. omega (arith, s.low, third.0)) (order a 0xF1) in
-    one_char _ ((a - 0xF0) * 0x4_0000 + (b - 0x80) * 0x1000 + (d - 0x80) * 0x40 + (e - 0x80))
-    (inr (omega arith, ⊎_elim (λ below. omega (arith, s.high, third.1, fourth.1)) (λ last. let k = s.before_end (omega (arith, first.1)) in omega (arith, third.1, fourth.1)) (order a 0xF4)))
-    (encode_four a b d e _ first second third fourth refl)
+    let high : (a - 0xF0) * 0x40 + (b - 0x80) < 272 = ⊎_elim (λ below. omega (arith, s.high)) (λ last. let k = s.before_end (omega (arith, first.1)) in omega (arith, first.1)) (order a 0xF4) in
+    of_four (a ∷ b ∷ d ∷ e ∷ []) 0 (omega arith) first.0 (s.low, s.high) (third.0, omega (arith, third.1)) (fourth.0, omega (arith, fourth.1)) (four_low a b first.0 s, high)
 
 -- ---- the bytes that begin a text
 

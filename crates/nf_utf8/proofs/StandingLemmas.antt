@@ -1,11 +1,11 @@
 -- What a byte tells of the bytes that begin a character, said of all the bytes that a decoder stands after.
-use Rattle.std.proofs.Common.{◌≡◌, ℕ, suc, ◌+◌, ◌-◌, ◌<◌, ◌≤◌, ◌==◌, true, ◌&&◌, ⊎_elim, List, [], ◌∷◌, ◌++◌, length, take, drop, IsUtf8, encode_utf8, encode_utf8_all, chars, refl, sym, ap, subst, ◌∙◌, arith, append-nil, length-drop, take_all, take_at, inl}
+use Rattle.std.proofs.Common.{◌≡◌, ℕ, suc, ◌+◌, ◌-◌, ◌<◌, ◌≤◌, ◌==◌, true, ◌&&◌, List, [], ◌∷◌, ◌++◌, length, take, drop, IsUtf8, encode_utf8, encode_utf8_all, chars, refl, sym, ap, subst, ◌∙◌, arith, append-nil, length-drop, take_all, take_at, take-take, length-take-le, inl}
 use Rattle.std.specs.Char.{IsScalar}
-use Rattle.std.proofs.str.Laws.{order, one}
+use Rattle.std.proofs.str.Laws.{one}
 use Rattle.std.proofs.str.Decodes.{chars-nil, chars-encodes}
 use Rattle.std.proofs.lemmas.Bool.{eqb-true, cond_both}
 use Rattle.std.proofs.lemmas.Bool.Decides.{nat_tests}
-use Rattle.std.proofs.lemmas.List.{length_push, same_from_push, take-append-le, drop_all}
+use Rattle.std.proofs.lemmas.List.{length_push, same_from_push, drop_all}
 use Rattle.std.proofs.lemmas.Str.{IsUtf8-encode, utf8_valid_len-IsUtf8}
 use Rattle.nf_utf8.specs.declared.step.Step.{Step}
 use Rattle.nf_utf8.specs.declared.step.Step.TheVariants.{More, Char, Bad as BadByte}
@@ -70,28 +70,22 @@ ending_of-standing part bytes s =
 
 -- ---- a byte that breaks off a character
 
-module _ (part : List ℕ) (byte : ℕ) where
-  -- no text is in bytes that begin none, where all but the last begin a character
-  pub no_text_len : IsPart part → ¬ BeginsText (part ++ byte ∷ []) → text_len (part ++ byte ∷ []) ≡ 0
-  no_text_len h none =
-      let q : List ℕ = part ++ byte ∷ [] in
-      let t = text_len-longest q in
-      ⊎_elim
-      (λ inside.
-      let fits : text_len q ≤ length part = omega (arith, inside) in
-      let short : text_len q ≤ text_len part = (text_len-longest part).longest (text_len q) fits (subst IsUtf8 (take-append-le (text_len q) part (byte ∷ []) fits) t.holds) in
-      omega (arith, text_len-no_char part (part_no_char part h)))
-      (λ all. absurd (none (BeginsText-IsUtf8 q (subst IsUtf8 (take_all (text_len q) q (omega (arith, length_push part byte))) t.holds))))
-      (order (text_len q) (length part + 1))
+-- those before the byte at n begin a character, and with it they begin no text
+pub broken_at : (bytes : List ℕ) (n : ℕ) → n < length bytes → IsPart (take n bytes) → ¬ BeginsText (take (suc n) bytes) → (text_len bytes ≡ 0) × (ending_of bytes ≡ Bad n 0)
+broken_at bytes n short part none =
+    let front : List ℕ = take n bytes in
+    let begun : begun_len bytes ≡ n = begun_len-is bytes n (begins_until bytes n short (BeginsText-part front part) none) in
+    let within : text_len bytes ≤ n = omega (arith, begun) in
+    let fits : text_len bytes ≤ length front = omega (arith, within, length-take-le n bytes (omega arith)) in
+    let least = (text_len-longest front).longest (text_len bytes) fits (subst IsUtf8 (sym (take-take (text_len bytes) n bytes within)) (text_len-longest bytes).holds) in
+    let text : text_len bytes ≡ 0 = omega (arith, least, text_len-no_char front (part_no_char front part)) in
+    (text, ending_of-broken bytes (omega (arith, begun)) ∙ (λ i. Bad (begun i) (text i)))
 
-  pub ending_of-bad : IsPart part → ¬ BeginsText (part ++ byte ∷ []) → ending_of (part ++ byte ∷ []) ≡ Bad (length part) 0
-  ending_of-bad h none =
-      let q : List ℕ = part ++ byte ∷ [] in
-      let text = no_text_len h none in
-      let begun : begun_len q ≡ length part = begun_len-is q (length part) (begins_until q (length part) (omega (arith, length_push part byte))
-      (subst BeginsText (sym (take_at part (byte ∷ []) (length part) refl)) (BeginsText-part part h))
-      (λ b. none (subst BeginsText (take_all (suc (length part)) q (omega (arith, length_push part byte))) b))) in
-      ending_of-broken q (omega (arith, length_push part byte, begun)) ∙ (λ i. Bad (begun i) (text i))
+broken_by : (part : List ℕ) (byte : ℕ) → IsPart part → ¬ BeginsText (part ++ byte ∷ []) → (text_len (part ++ byte ∷ []) ≡ 0) × (ending_of (part ++ byte ∷ []) ≡ Bad (length part) 0)
+broken_by part byte h none =
+    let size : length (part ++ byte ∷ []) ≡ length part + 1 = length_push part byte in
+    broken_at (part ++ byte ∷ []) (length part) (omega (arith, size)) (subst IsPart (sym (take_at part (byte ∷ []) (length part) refl)) h)
+    (λ b. none (subst BeginsText (take_all (suc (length part)) (part ++ byte ∷ []) (omega (arith, size))) b))
 
 -- ---- one byte more
 
@@ -121,8 +115,8 @@ module _ (part bytes : List ℕ) (byte : ℕ) (s : StandsAfter part bytes) where
       let one : text_of (part ++ byte ∷ []) ≡ c ∷ [] = text_of-whole (part ++ byte ∷ []) (subst IsUtf8 (sym p.1) (IsUtf8-encode c p.0)) ∙ ap chars p.1 ∙ chars_of_one c p.0 in
       (text_on part bytes (byte ∷ []) s.rest ∙ ap (λ l. text_of bytes ++ l) one, ending_of-full (bytes ++ byte ∷ []) (omega (arith, held_len [] (bytes ++ byte ∷ []) (tells-stands h (Char c) p))))
   tells-answers h (BadByte back) p = (
-    text_on part bytes (byte ∷ []) s.rest ∙ ap (λ l. text_of bytes ++ l) (text_of-none (part ++ byte ∷ []) (no_text_len part byte h p.1)) ∙ append-nil (text_of bytes),
-    ending_on part bytes (byte ∷ []) s.rest ∙ ap (moved (text_len bytes)) (ending_of-bad part byte h p.1) ∙ (λ i. Bad (held i) ((let e : text_len bytes + 0 ≡ text_len bytes = omega arith in e) i)),
+    text_on part bytes (byte ∷ []) s.rest ∙ ap (λ l. text_of bytes ++ l) (text_of-none (part ++ byte ∷ []) (broken_by part byte h p.1).0) ∙ append-nil (text_of bytes),
+    ending_on part bytes (byte ∷ []) s.rest ∙ ap (moved (text_len bytes)) (broken_by part byte h p.1).1 ∙ (λ i. Bad (held i) ((let e : text_len bytes + 0 ≡ text_len bytes = omega arith in e) i)),
     omega (arith, held, p.0),
   )
 

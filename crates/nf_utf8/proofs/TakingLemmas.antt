@@ -1,7 +1,8 @@
 -- What a piece gives, from what stands at its front, its text, and what stands behind that.
-use Rattle.std.proofs.Common.{◌≡◌, ℕ, ◌+◌, ◌-◌, ◌^◌, ◌<◌, ◌≤◌, inl, List, [], ◌∷◌, ◌++◌, length, take, drop, get_or, Option, Some, None, IfSome, IsUtf8, chars, encode_utf8_all, refl, sym, ap, subst, subst₂, ◌∙◌, arith, append_assoc, append-nil, ⊎_elim, length-append, length-take-le, take-append-drop}
+use Rattle.std.proofs.Common.{◌≡◌, ℕ, suc, ◌+◌, ◌-◌, ◌^◌, ◌<◌, ◌≤◌, inl, List, [], ◌∷◌, ◌++◌, length, take, drop, Option, Some, None, IfSome, IsUtf8, chars, encode_utf8_all, refl, sym, ap, subst, subst₂, ◌∙◌, arith, append_assoc, append-nil, ⊎_elim, length-append, length-take-le, take-append-drop}
 use Rattle.std.specs.Char.{IsScalar}
-use Rattle.std.proofs.lemmas.List.{take_more, append_cancel_left}
+use Rattle.std.proofs.lemmas.List.{append_cancel_left}
+use Rattle.std.proofs.Math.Seq.{take-append-add}
 use Rattle.std.proofs.lemmas.Str.{IsUtf8-nil, IsUtf8-append, IsUtf8-encode, chars-nil, chars-append, encodes-chars}
 use Rattle.nf_utf8.specs.declared.chunk.End.{End}
 use Rattle.nf_utf8.specs.declared.chunk.End.TheVariants.{Whole, Cut, Bad}
@@ -18,47 +19,24 @@ use Rattle.nf_utf8.proofs.Texts.{BeginsText-append}
 use Rattle.nf_utf8.proofs.TextLen.{text_len-behind, text_len-no_char, no_char-text_len}
 use Rattle.nf_utf8.proofs.BegunLen.{begun_all}
 use Rattle.nf_utf8.proofs.Endings.{ending_of-full, ending_of-begun}
-use Rattle.nf_utf8.proofs.ReadingLemmas.{text_on, len_on, rest_on, ending_on, begins_on, text_of-behind, rest_of-behind, ending_of-behind, text_of-bad, ending_of-bad as ending_of-behind_bad, length-encodes-text_of}
+use Rattle.nf_utf8.proofs.ReadingLemmas.{text_on, len_on, rest_on, ending_on, begins_on, text_of-behind, rest_of-behind, ending_of-behind}
 use Rattle.nf_utf8.proofs.Sequences.{BeginsText-part, part_no_char}
-use Rattle.nf_utf8.proofs.StandingLemmas.{text_of-none, rest_of-none, chars_of_one, stands_new, held_len, no_text_len, ending_of-bad}
+use Rattle.nf_utf8.proofs.StandingLemmas.{text_of-none, rest_of-none, chars_of_one, stands_new, held_len, broken_at}
 
 -- ---- bytes with no text: a part and a bad byte, and more
 
-module _ (part bytes : List ℕ) (at : ℕ) (inside : at < length bytes) (p : IsPart (part ++ take at bytes)) (none : ¬ BeginsText (part ++ take (at + 1) bytes)) where
-  abbrev front : List ℕ
-  front = part ++ take at bytes
-
-  abbrev byte : ℕ
-  byte = get_or bytes at 0
-
-  front_more : part ++ take (at + 1) bytes ≡ front ++ byte ∷ []
-  front_more = ap (λ l. part ++ l) (take_more bytes at 0 inside) ∙ sym (append_assoc part (take at bytes) (byte ∷ []))
-
-  broken : ¬ BeginsText (front ++ byte ∷ [])
-  broken = subst (λ l. ¬ BeginsText l) front_more none
-
-  joined : part ++ bytes ≡ (front ++ byte ∷ []) ++ drop (at + 1) bytes
-  joined =
-      ap (λ l. part ++ l) (sym (take-append-drop (at + 1) bytes)) ∙ sym (append_assoc part (take (at + 1) bytes) (drop (at + 1) bytes))
-      ∙ ap (λ l. l ++ drop (at + 1) bytes) front_more
-
-  here : ending_of (front ++ byte ∷ []) ≡ IsBad (length front) 0
-  here = ending_of-bad front byte p broken
-
-  front_len : length front ≡ length part + at
-  front_len = length-append part (take at bytes) ∙ ap (λ n. length part + n) (length-take-le at bytes (omega arith))
-
-  pub ending_of-broken : ending_of (part ++ bytes) ≡ IsBad (length part + at) 0
-  ending_of-broken =
-      ap ending_of joined ∙ ending_of-behind_bad (front ++ byte ∷ []) (drop (at + 1) bytes) (length front) 0 here ∙ ap (λ n. IsBad n 0) front_len
-
-  pub text_len-broken : text_len (part ++ bytes) ≡ 0
-  text_len-broken =
-      sym (length-encodes-text_of (part ++ bytes))
-      ∙ ap (λ l. length (encode_utf8_all l))
-      (ap text_of joined ∙ text_of-bad (front ++ byte ∷ []) (drop (at + 1) bytes) (length front) 0 here ∙ text_of-none (front ++ byte ∷ []) (no_text_len front byte p broken))
+broken_in : (part bytes : List ℕ) (at : ℕ) → at < length bytes → IsPart (part ++ take at bytes) → ¬ BeginsText (part ++ take (at + 1) bytes)
+    → (text_len (part ++ bytes) ≡ 0) × (ending_of (part ++ bytes) ≡ IsBad (length part + at) 0)
+broken_in part bytes at inside p none =
+    let next : suc (length part + at) ≡ length part + (at + 1) = omega arith in
+    broken_at (part ++ bytes) (length part + at) (omega (arith, inside, length-append part bytes)) (subst IsPart (sym (take-append-add part bytes at)) p)
+    (λ b. none (subst BeginsText (ap (λ n. take n (part ++ bytes)) next ∙ take-append-add part bytes (at + 1)) b))
 
 -- ---- a piece in three: the first character, the text, and what is behind it
+
+joined_size : (held piece : List ℕ) (first : Option ℕ) (text tail : List ℕ) → held ++ piece ≡ first_bytes first ++ text ++ tail
+    → length held + length piece ≡ length (first_bytes first) + length text + length tail
+joined_size held piece first text tail joins = omega (arith, sym (length-append held piece), ap length joins, length-append (first_bytes first ++ text) tail, length-append (first_bytes first) text)
 
 module _ (held bytes piece : List ℕ) (first : Option ℕ) (text tail : List ℕ) (s : StandsAfter held bytes) (scalar : IfSome first IsScalar) (u : IsUtf8 text)
     (joins : held ++ piece ≡ first_bytes first ++ text ++ tail) (none : text_len tail ≡ 0) where
@@ -99,9 +77,6 @@ module _ (held bytes piece : List ℕ) (first : Option ℕ) (text tail : List �
 
   pub taken_ending : ending_of (bytes ++ piece) ≡ moved (text_len bytes) (moved (length front_bytes) (ending_of tail))
   taken_ending = ending_on held bytes piece s.rest ∙ ap (moved (text_len bytes)) (ap ending_of joins ∙ ending_of-behind front_bytes tail all_IsUtf8)
-
-  taken_size : length held + length piece ≡ length (first_bytes first) + length text + length tail
-  taken_size = omega (arith, sym (length-append held piece), ap length joins, length-append front_bytes tail, size)
 
   pub takes : (end : End) → IsFirst held first text → EndsPiece bytes piece end → Takes bytes piece first text end
   takes end f e = record {
@@ -159,7 +134,7 @@ part_size (a ∷ b ∷ c ∷ d ∷ rest) h = absurd h
 module _ (held piece : List ℕ) (first : Option ℕ) (text part rest : List ℕ) (skipped : ℕ) (joins : held ++ piece ≡ first_bytes first ++ text ++ (part ++ rest))
     (sum : length (first_bytes first) + length text + length part ≡ length held + skipped) where
   sizes : length held + length piece ≡ length (first_bytes first) + length text + length (part ++ rest)
-  sizes = omega (arith, sym (length-append held piece), ap length joins, length-append (first_bytes first ++ text) (part ++ rest), length-append (first_bytes first) text)
+  sizes = joined_size held piece first text (part ++ rest) joins
 
   counts_part : (left : List ℕ) → left ≡ part ++ rest → Counts held piece first text (end_holding left) left
   counts_part [] e = (omega (arith, sizes, ap length e), refl)
@@ -193,42 +168,37 @@ module _ (held bytes piece : List ℕ) (first : Option ℕ) (text : List ℕ) (s
   taken part rest skipped (Begun carry) end left joins sum is by =
       subst₂ (Taken bytes piece first text) (ap end_holding (sym is.1) ∙ sym by.0) (sym is.1 ∙ sym by.1) (taken_part (part ++ rest) is.0 joins)
   taken part rest skipped (BadFront at back) end left joins sum is by =
-      let none = text_len-broken part rest at is.0 is.1 is.2 in
-      let sizes = taken_size held bytes piece first text (part ++ rest) s scalar u joins none in
+      let broken = broken_in part rest at is.0 is.1 is.2 in
+      let none = broken.0 in
+      let sizes = joined_size held piece first text (part ++ rest) joins in
       let ends : EndsPiece bytes piece (Bad (skipped + at) back) =
       ends_bad held bytes piece first text (part ++ rest) s scalar u joins none back (skipped + at)
-      (ending_of-broken part rest at is.0 is.1 is.2 ∙ ap (λ n. IsBad n 0) (sym is.3)) (omega (arith, sum, is.3)) (omega (arith, sum, sizes, is.0, length-append part rest)) in
+      (broken.1 ∙ ap (λ n. IsBad n 0) (sym is.3)) (omega (arith, sum, is.3)) (omega (arith, sum, sizes, is.0, length-append part rest)) in
       subst₂ (Taken bytes piece first text) (sym by.0) (sym by.1)
       (takes held bytes piece first text (part ++ rest) s scalar u joins none (Bad (skipped + at) back) f ends, stands_new)
 
 -- ---- the piece from `from` on, behind the first character
 
-completed : (held piece : List ℕ) (first : Option ℕ) (from : ℕ) → Completes held piece first from → held ++ take from piece ≡ first_bytes first
-completed held piece None from h = (λ i. h.0 i ++ take (h.1 i) piece)
-completed held piece (Some c) from h = h.1.2
-
-completed_first : (held piece text : List ℕ) (first : Option ℕ) (from : ℕ) → Completes held piece first from → IsFirst held first text
-completed_first held piece text None from h = inl h.0
-completed_first held piece text (Some c) from h = h.0
-
-completed_scalar : (held piece : List ℕ) (first : Option ℕ) (from : ℕ) → Completes held piece first from → IfSome first IsScalar
-completed_scalar held piece None from h = tt
-completed_scalar held piece (Some c) from h = h.1.1
+completed : (held piece text : List ℕ) (first : Option ℕ) (from : ℕ) → Completes held piece first from → (held ++ take from piece ≡ first_bytes first) × IsFirst held first text × IfSome first IsScalar
+completed held piece text None from h = ((λ i. h.0 i ++ take (h.1 i) piece), inl h.0, tt)
+completed held piece text (Some c) from h = (h.1.2, h.0, h.1.1)
 
 module _ (held piece : List ℕ) (first : Option ℕ) (from : ℕ) (text behind : List ℕ) (front : Front) (end : End) (left : List ℕ) (h : Completes held piece first from)
     (within : from ≤ length piece) (split : drop from piece ≡ text ++ behind) (is : IsFront [] behind front) (by : EndsBy front (from + length text) end left) where
+  done : (held ++ take from piece ≡ first_bytes first) × IsFirst held first text × IfSome first IsScalar
+  done = completed held piece text first from h
+
   joined_from : held ++ piece ≡ first_bytes first ++ text ++ behind
   joined_from =
       ap (λ l. held ++ l) (sym (take-append-drop from piece)) ∙ sym (append_assoc held (take from piece) (drop from piece))
-      ∙ (λ i. completed held piece first from h i ++ split i) ∙ sym (append_assoc (first_bytes first) text behind)
+      ∙ (λ i. done.0 i ++ split i) ∙ sym (append_assoc (first_bytes first) text behind)
 
   sum_from : length (first_bytes first) + length text + 0 ≡ length held + (from + length text)
-  sum_from =
-      omega (arith, sym (length-append held (take from piece)), length-take-le from piece within, ap length (completed held piece first from h))
+  sum_from = omega (arith, sym (length-append held (take from piece)), length-take-le from piece within, ap length done.0)
 
   pub taken_from : (bytes : List ℕ) → StandsAfter held bytes → IsUtf8 text → Taken bytes piece first text end left
   taken_from bytes s u =
-      taken held bytes piece first text s (completed_scalar held piece first from h) u (completed_first held piece text first from h) [] behind (from + length text) front end left joined_from sum_from is by
+      taken held bytes piece first text s done.2 u done.1 [] behind (from + length text) front end left joined_from sum_from is by
 
   pub counts_from : Counts held piece first text end left
   counts_from = counts held piece first text [] behind (from + length text) joined_from sum_from front end left is by

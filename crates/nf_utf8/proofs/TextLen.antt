@@ -1,9 +1,10 @@
 -- `text_len`, the length of the longest front that is well-formed.
-use Rattle.std.proofs.Common.{◌≡◌, ℕ, zero, suc, ◌+◌, ◌-◌, ◌≤◌, ⊎_elim, false, true≢false, List, ◌++◌, length, take, drop, IsUtf8, encode_utf8, sym, ap, subst, ◌∙◌, arith, length-take-le, take-append-drop, take-add}
+use Rattle.std.proofs.Common.{◌≡◌, ℕ, zero, suc, ◌+◌, ◌-◌, ◌≤◌, ⊎_elim, false, true≢false, List, ◌++◌, length, take, drop, IsUtf8, encode_utf8, sym, ap, subst, ◌∙◌, arith, length-take-le, take-append-drop}
 use Rattle.std.specs.Str.{StartsWithNoChar, is_utf8}
 use Rattle.std.specs.Str.Lossy.{utf8_valid_len, valid_len_up_to}
 use Rattle.std.proofs.str.Laws.{order}
 use Rattle.std.proofs.str.Classes.{width_is}
+use Rattle.std.proofs.str.Valid.{longer}
 use Rattle.std.proofs.str.Lossy.{IsUtf8-from_is_utf8, is_utf8-from_IsUtf8}
 use Rattle.std.proofs.iter.FirstChar.{no_text}
 use Rattle.std.proofs.lemmas.Bool.{cond_both}
@@ -61,11 +62,8 @@ text_len-no_char bytes none = ⊎_elim
 
 -- behind a well-formed front
 module _ (bytes : List ℕ) (at : ℕ) (within : at ≤ length bytes) (front : IsUtf8 (take at bytes)) where
-  pub front_more : (n : ℕ) → IsUtf8 (take n (drop at bytes)) → IsUtf8 (take (at + n) bytes)
-  front_more n more = subst IsUtf8 (sym (take-add at n bytes)) (IsUtf8-append (take at bytes) (take n (drop at bytes)) front more)
-
   pub front_to : (end : ℕ) → at ≤ end → IsUtf8 (take (end - at) (drop at bytes)) → IsUtf8 (take end bytes)
-  front_to end le more = let e : at + (end - at) ≡ end = omega arith in rw e at (front_more (end - at) more)
+  front_to end le more = let e : at + (end - at) ≡ end = omega arith in rw e at (longer bytes at (end - at) front more)
 
   pub text_len-split : text_len bytes ≡ at + text_len (drop at bytes)
   text_len-split =

@@ -1,5 +1,6 @@
 use Rattle.std.proofs.Common.{◌-◌, ◌≤◌, drop, arith, length-drop, length-take, take-take}
-use Rattle.nf_utf8.proofs.TextLen.{front_more, front_to}
+use Rattle.std.proofs.str.Valid.{longer}
+use Rattle.nf_utf8.proofs.TextLen.{front_to}
 use Rattle.nf_utf8.proofs.valid.valid_parts.Goals as goal
 
 pub returns-in-Err : goal.returns-in-Err
@@ -10,8 +11,7 @@ returns-in-Err c =
     let valid = c.in-Err.ensures.cases.1 in
     let few : n ≤ end - at = omega (arith, c.valid_up_to.ensures, valid.short, length-take (end - at) (drop at c.args.bytes.now)) in (
       omega (arith, length-drop at c.args.bytes.now),
-      front_more c.args.bytes.now at c.loop-at.invariant.within c.loop-at.invariant.front n
-          (rw take-take at (rw (← c.valid_up_to.ensures) at valid.front)),
+      longer c.args.bytes.now at n c.loop-at.invariant.front (rw take-take at (rw (← c.valid_up_to.ensures) at valid.front)),
     )
 
 pub loop-at-preserved-then-size-lt-LARGEST : goal.loop-at-preserved-then-size-lt-LARGEST
