@@ -1,13 +1,14 @@
 -- The bytes below 80 under the lanes of one load.
-use Rattle.std.proofs.Common.{◌≡◌, ℕ, ◌+◌, ◌%◌, ◌^◌, ◌*◌, ◌<◌, ◌≤◌, Bool, true, false, not, cond, leb, List, [], ◌∷◌, map, length, take, get_or, refl, sym, ap, ◌∙◌, ⊎_elim, arith}
+use Rattle.std.proofs.Common.{w64, ◌≡◌, ℕ, ◌+◌, ◌%◌, ◌^◌, ◌<◌, ◌≤◌, Bool, false, not, cond, leb, List, map, length, take, get_or, sym, ap, ◌∙◌, ⊎_elim, arith}
 use Rattle.std.specs.List.{prefix_len}
 use Rattle.std.specs.Str.{IsAscii}
 use Rattle.std.proofs.str.Laws.{order}
 use Rattle.std.proofs.lemmas.Bool.{leb-false, leb-true}
 use Rattle.std.proofs.lemmas.Str.Ascii.{IsAscii-from_reads}
-use Rattle.std.proofs.lemmas.List.{length-map, get_or-take, length-take-le}
-use Rattle.std.proofs.lemmas.List.Sums.{prefix_len-le-length}
-use Rattle.std.proofs.lemmas.Simd.{mask_l-mod, length-chunk, trailing_mask_l, run_in_chunk_le, run_in_chunk_fails, run_in_chunk_stops, none_from_empty_mask}
+use Rattle.std.proofs.lemmas.List.{length-map, get_or_past, get_or-take, length-take-le}
+use Rattle.std.proofs.lemmas.Simd.{mask_l-mod, bit_mask_l, length-chunk, trailing_mask_l, run_in_chunk_fails, run_in_chunk_stops, none_from_empty_mask}
+use Rattle.std.proofs.lemmas.Nat.Bits.{bit_at-trailing_zeros}
+use Rattle.std.specs.Int.{bit_at}
 use lib.Lanes.{chunk, mask_l}
 use lib.Count.{count_trailing_zeros}
 
@@ -17,15 +18,6 @@ is_other byte = leb 0x80 byte
 -- the bits of the lanes that pass are a number of 64 bits
 pub mask_is : (p : ℕ → Bool) (lanes : List ℕ) (tops : List Bool) → length lanes ≤ 64 → tops ≡ map p lanes → mask_l tops % 2 ^ 64 ≡ mask_l (map p lanes)
 mask_is p lanes tops few same = ap (λ l. mask_l l % 2 ^ 64) same ∙ mask_l-mod (map p lanes) 64 (omega (arith, few, length-map lanes p))
-
-none_set : (b : Bool) (n l m : ℕ) → n ≤ l → cond (not b) (1 + n) 0 ≡ 1 + l → (n ≡ l → m ≡ 0) → cond b 1 0 + 2 * m ≡ 0
-none_set true n l m le e more = absurd (omega arith)
-none_set false n l m le e more = let zero : m ≡ 0 = more (omega arith) in omega arith
-
--- no bit is set where no lane passes
-empty_mask : (p : ℕ → Bool) (xs : List ℕ) → prefix_len (λ x. not (p x)) xs ≡ length xs → mask_l (map p xs) ≡ 0
-empty_mask p [] e = refl
-empty_mask p (x ∷ xs) e = none_set (p x) _ (length xs) _ (prefix_len-le-length (λ y. not (p y)) xs) (omega arith) (empty_mask p xs)
 
 ascii_front : (bytes : List ℕ) (n : ℕ) → n ≤ length bytes → ((k : ℕ) → k < n → get_or bytes k 0 < 0x80) → IsAscii (take n bytes)
 ascii_front bytes n within below = IsAscii-from_reads (take n bytes) n (omega (arith, length-take-le n bytes within)) (λ k inside. omega (arith, below k inside, get_or-take n bytes k 0 inside))
@@ -48,8 +40,11 @@ module _ (bytes : List ℕ) (at n : ℕ) (room : at + n ≤ length bytes) (befor
     run_short : run < n
     run_short = ⊎_elim (λ short. short)
         (λ long.
-        let all : run ≡ n = omega (arith, run_in_chunk_le is_other bytes at n run 0 room counted) in
-        absurd (some (is ∙ empty_mask is_other (chunk at n bytes) (sym counted ∙ all ∙ sym (length-chunk at n bytes room)))))
+        let lanes : List Bool = map is_other (chunk at n bytes) in
+        let many : length lanes ≡ n = length-map (chunk at n bytes) is_other ∙ length-chunk at n bytes room in
+        let fits : found < 2 ^ 64 = omega (arith, is, mask_l-mod lanes 64 (omega (arith, few, many))) in
+        let set : bit_at mask run ≡ 1 = ap (λ m. bit_at m run) (sym is) ∙ (bit_at-trailing_zeros w64 found (omega (arith, some)) fits).1 in
+        absurd (omega (arith, set, bit_mask_l lanes run, ap {B = ℕ} (λ b. cond b 1 0) (get_or_past lanes run false (omega (arith, many, long))))))
         (order run n)
 
     pub run_is : (at + run ≤ length bytes) × IsAscii (take (at + run) bytes) × (0x80 ≤ get_or bytes (at + run) 0)

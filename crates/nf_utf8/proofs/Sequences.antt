@@ -1,17 +1,18 @@
 -- Which bytes spell a character, which begin one, and which begin none.
-use Rattle.std.proofs.Common.{◌≡◌, ℕ, ◌+◌, ◌-◌, ◌*◌, ◌/◌, ◌%◌, ◌<◌, ◌≤◌, inl, inr, ⊎_elim, List, [], ◌∷◌, ◌++◌, length, get_or, IsUtf8, encode_utf8, refl, sym, ap, ◌∙◌, arith, length-append}
+use Rattle.std.proofs.Common.{append-nil, ◌≡◌, ℕ, ◌+◌, ◌-◌, ◌*◌, ◌/◌, ◌%◌, ◌<◌, ◌≤◌, inl, inr, ⊎_elim, List, [], ◌∷◌, ◌++◌, length, get_or, IsUtf8, encode_utf8, refl, sym, ap, ◌∙◌, arith, length-append, subst}
 use Rattle.std.specs.Int.{IsInRange}
 use Rattle.std.specs.Char.{IsScalar, InScalarRange}
 use Rattle.std.specs.Str.{StartsWithNoChar}
 use Rattle.std.specs.Str.Lossy.{second_byte_min}
 use Rattle.std.proofs.str.Laws.{order, two, three, four}
 use Rattle.std.proofs.str.Classes.{width_is}
+use Rattle.std.proofs.iter.FirstChar.{no_text}
 use Rattle.std.proofs.str.Faults.{Ranged, no_char}
 use Rattle.std.proofs.lemmas.Bool.Decides.{nat_tests}
 use Rattle.std.proofs.str.Valid.{of_one, of_two, of_three, of_four}
 use Rattle.nf_utf8.specs.Text.{BeginsText}
 use Rattle.nf_utf8.specs.Part.{IsSecond, IsContinuation, IsPart}
-use Rattle.nf_utf8.proofs.Texts.{BeginsText-front, begins_with_char}
+use Rattle.nf_utf8.proofs.Texts.{BeginsText-front}
 
 -- a second byte, as facts on numbers
 pub record Second (a b : ℕ) : Type 0 where
@@ -123,8 +124,8 @@ refuted : (a : ℕ) (bytes : List ℕ)
     → ((more : List ℕ) → let all : List ℕ = (a ∷ bytes) ++ more in Ranged (length all - 0) (get_or all 0 0) (get_or all 1 0) (get_or all 2 0) (get_or all 3 0) → ⊥)
     → ¬ BeginsText (a ∷ bytes)
 refuted a bytes h b =
-    let t = begins_with_char a bytes b in
-    no_char ((a ∷ bytes) ++ t.more) 0 (h t.more) t.c t.rest t.scalar t.split
+    let all : List ℕ = (a ∷ bytes) ++ b.0 in
+    no_text all [] (subst StartsWithNoChar (sym (append-nil all)) (no_char all 0 (h b.0))) b.1 (omega arith)
 
 pub no_first : (a : ℕ) → 0x80 ≤ a → (0xC2 ≤ a → 0xF5 ≤ a) → ¬ BeginsText (a ∷ [])
 no_first a high outside = refuted a [] (λ more r.

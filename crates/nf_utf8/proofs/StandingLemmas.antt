@@ -1,5 +1,5 @@
 -- What a byte tells of the bytes that begin a character, said of all the bytes that a decoder stands after.
-use Rattle.std.proofs.Common.{◌≡◌, ℕ, suc, ◌+◌, ◌-◌, ◌<◌, ◌≤◌, ◌==◌, true, ◌&&◌, List, [], ◌∷◌, ◌++◌, length, take, drop, IsUtf8, encode_utf8, encode_utf8_all, chars, refl, sym, ap, subst, ◌∙◌, arith, append-nil, length-drop, take_all, take_at, take-take, length-take-le, inl}
+use Rattle.std.proofs.Common.{add-zero, ◌≡◌, ℕ, suc, ◌+◌, ◌-◌, ◌<◌, ◌≤◌, ◌==◌, true, ◌&&◌, List, [], ◌∷◌, ◌++◌, length, take, drop, IsUtf8, encode_utf8, encode_utf8_all, chars, refl, sym, ap, subst, ◌∙◌, arith, append-nil, length-drop, take_all, take_at, take-take, length-take-le, inl}
 use Rattle.std.specs.Char.{IsScalar}
 use Rattle.std.proofs.str.Laws.{one}
 use Rattle.std.proofs.str.Decodes.{chars-nil, chars-encodes}
@@ -105,10 +105,11 @@ module _ (part bytes : List ℕ) (byte : ℕ) (s : StandsAfter part bytes) where
 
   pub tells-answers : IsPart part → (step : Step) → Tells part byte step → Answers bytes byte step
   tells-answers h More p =
+      let q : List ℕ = part ++ byte ∷ [] in
       let now = tells-stands h More p in
       let len : text_len (bytes ++ byte ∷ []) ≡ text_len bytes =
-      omega (arith, held, held_len (part ++ byte ∷ []) (bytes ++ byte ∷ []) now, length_push bytes byte, length_push part byte) in (
-        text_on part bytes (byte ∷ []) s.rest ∙ ap (λ l. text_of bytes ++ l) (text_of-none (part ++ byte ∷ []) (text_len-no_char (part ++ byte ∷ []) (part_no_char (part ++ byte ∷ []) p))) ∙ append-nil (text_of bytes),
+      omega (arith, held, held_len q (bytes ++ byte ∷ []) now, length_push bytes byte, length_push part byte) in (
+        text_on part bytes (byte ∷ []) s.rest ∙ ap (λ l. text_of bytes ++ l) (text_of-none q (text_len-no_char q (part_no_char q p))) ∙ append-nil (text_of bytes),
         ending_of-begun (bytes ++ byte ∷ []) (omega (arith, len, held, length_push bytes byte)) (begun_all (bytes ++ byte ∷ []) now.begins) ∙ (λ i. Cut (length_push bytes byte i) (len i)),
       )
   tells-answers h (Char c) p =
@@ -116,7 +117,7 @@ module _ (part bytes : List ℕ) (byte : ℕ) (s : StandsAfter part bytes) where
       (text_on part bytes (byte ∷ []) s.rest ∙ ap (λ l. text_of bytes ++ l) one, ending_of-full (bytes ++ byte ∷ []) (omega (arith, held_len [] (bytes ++ byte ∷ []) (tells-stands h (Char c) p))))
   tells-answers h (BadByte back) p = (
     text_on part bytes (byte ∷ []) s.rest ∙ ap (λ l. text_of bytes ++ l) (text_of-none (part ++ byte ∷ []) (broken_by part byte h p.1).0) ∙ append-nil (text_of bytes),
-    ending_on part bytes (byte ∷ []) s.rest ∙ ap (moved (text_len bytes)) (broken_by part byte h p.1).1 ∙ (λ i. Bad (held i) ((let e : text_len bytes + 0 ≡ text_len bytes = omega arith in e) i)),
+    ending_on part bytes (byte ∷ []) s.rest ∙ ap (moved (text_len bytes)) (broken_by part byte h p.1).1 ∙ (λ i. Bad (held i) (add-zero (text_len bytes) i)),
     omega (arith, held, p.0),
   )
 
