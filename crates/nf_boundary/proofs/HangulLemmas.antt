@@ -1,7 +1,7 @@
 -- A Hangul syllable that is written with letters: what it becomes, and that it is closed.
-use Rattle.std.proofs.Common.{◌≡◌, inr, ℕ, ◌+◌, ◌≤◌, ◌<◌, true, List, [], ◌∷◌, ◌++◌, Some, refl, sym, ap, subst, ◌∙◌, arith, append_assoc, append-nil, eq-eqb}
+use Rattle.std.proofs.Common.{◌≡◌, inr, ℕ, ◌+◌, ◌≤◌, ◌<◌, true, List, [], ◌∷◌, ◌++◌, Some, refl, sym, ap, subst, ◌∙◌, arith, append_assoc, eq-eqb}
 use Rattle.std.specs.Prelude.{chars, encode_utf8, IsUtf8, IsTrue}
-use Rattle.std.proofs.lemmas.Str.{chars-nil, chars-append, chars_past_char, IsUtf8-append}
+use Rattle.std.proofs.lemmas.Str.{chars-append, IsUtf8-append}
 use Rattle.ucd_normal.specs.CanonicalCombiningClass.{canonical_combining_class}
 use Rattle.ucd_normal.specs.Composition.{composite as listed}
 use Rattle.unicode_normalization.specs.Compose.{or_else, primary_composite}
@@ -20,8 +20,7 @@ use Rattle.nf_boundary.specs.declared.seen.Seen.{Seen}
 use Rattle.nf_boundary.specs.Seen.{IsAtBoundary}
 use Rattle.nf_boundary.specs.Pieces.{Closes}
 use Rattle.nf_boundary.specs.Hangul.{Spells}
-use Rattle.nf_boundary.proofs.PieceLemmas.{IsUtf8-before}
-use Rattle.nf_boundary.proofs.LetterLemmas.{letter_utf8, chars-letter, boundary-first}
+use Rattle.nf_boundary.proofs.LetterLemmas.{one_letter, letter_utf8, chars-letter, boundary-first}
 use Rattle.nf_boundary.proofs.JoinLemmas.{class_of}
 
 pair-hangul : (a b d : ℕ) → compose_hangul a b ≡ Some d → ucd.pair a b ≡ Some d
@@ -47,13 +46,8 @@ module _ (starter : (c : ℕ) → 0x1100 ≤ c → c < 0x1200 → canonical_comb
         let one = cluster-one ucd l (own l (omega arith) (omega arith)) (eq-eqb _ 0 class) in
         joins (l ∷ []) l 1 one (omega arith) v lv (omega arith) (omega arith) (compose_hangul-lv l v lv two)
 
-    one_letter : (text rest : List ℕ) (c : ℕ) → IsUtf8 text → IsUtf8 rest → text ≡ encode_utf8 c ++ rest → IsUtf8 (encode_utf8 c) × (chars (encode_utf8 c) ≡ c ∷ [])
-    one_letter text rest c whole behind e =
-        let u = IsUtf8-before text (encode_utf8 c) rest whole behind e in
-        (u, chars_past_char (encode_utf8 c) [] c u (sym (append-nil (encode_utf8 c))) ∙ ap (λ t. c ∷ t) chars-nil)
-
     pub spells_two : (text rest : List ℕ) → IsUtf8 text → IsUtf8 rest → text ≡ encode_utf8 v ++ rest → Spells l text rest lv
-    unfolding open_cluster one_letter
+    unfolding open_cluster
     spells_two text rest whole behind e =
         let vowel = one_letter text rest v whole behind e in
         record {
@@ -65,7 +59,7 @@ module _ (starter : (c : ℕ) → 0x1100 ≤ c → c < 0x1200 → canonical_comb
         }
 
     pub spells_three : (t lvt : ℕ) → IsLvt lv t lvt → (text middle rest : List ℕ) → IsUtf8 text → IsUtf8 middle → IsUtf8 rest → text ≡ encode_utf8 v ++ middle → middle ≡ encode_utf8 t ++ rest → Spells l text rest lvt
-    unfolding open_cluster one_letter
+    unfolding open_cluster
     spells_three t lvt three text middle rest whole between behind e g =
         let vowel = one_letter text middle v whole between e in
         let final = one_letter middle rest t between behind g in

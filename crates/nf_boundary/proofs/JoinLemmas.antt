@@ -2,7 +2,7 @@
 use Rattle.std.proofs.Common.{◌≡◌, ◌≢◌, ◌⊎◌, inl, inr, ℕ, ◌+◌, ◌<◌, ◌≤◌, Bool, true, false, not, ◌&&◌, ◌==◌, nat_le, cond, List, [], ◌∷◌, ◌++◌, length, Some, None, refl, sym, ap, ap₂, subst, ◌∙◌, append_assoc, append-nil, arith, eq-eqb, le-leb}
 use Rattle.std.specs.Prelude.{chars, encode_utf8, IsUtf8}
 use Rattle.std.proofs.lemmas.Bool.{ne_eqb, cases_eq, lt-leb}
-use Rattle.std.proofs.lemmas.Str.{chars-nil, chars-append, chars_past_char, IsUtf8-append, IsUtf8-nil}
+use Rattle.std.proofs.lemmas.Str.{chars-nil, chars-append, IsUtf8-append, IsUtf8-nil}
 use Rattle.ucd_normal.specs.declared.forms.Form.TheVariants.{Nfkd as KitNfkd}
 use Rattle.ucd_normal.specs.declared.forms.QuickCheck.TheVariants.{Yes, No}
 use Rattle.ucd_normal.specs.CanonicalCombiningClass.{canonical_combining_class}
@@ -22,7 +22,7 @@ use Rattle.nf_boundary.specs.declared.cluster.Cluster.{Cluster}
 use Rattle.nf_boundary.specs.Seen.{Sees, IsAtBoundary}
 use Rattle.nf_boundary.specs.Pieces.{Closes}
 use Rattle.nf_boundary.specs.Joins.{AreMadeOf, JoinsFront, Joins, Gathers}
-use Rattle.nf_boundary.proofs.PieceLemmas.{IsUtf8-before}
+use Rattle.nf_boundary.proofs.LetterLemmas.{one_letter, letter_utf8, chars-letter, begins_more}
 use Rattle.nf_boundary.proofs.SeenLemmas.{chars-seen}
 
 pub class_of : (c : ℕ) → ucd.class c ≡ canonical_combining_class c
@@ -108,9 +108,8 @@ made_letter done cs cluster here c own starter room none d both =
 
 pub joins_letter : (text rest : List ℕ) (old new : Cluster) (c : ℕ) → IsUtf8 text → IsUtf8 rest → text ≡ encode_utf8 c ++ rest → ((done cs : List ℕ) → AreMadeOf done cs old → AreMadeOf done (cs ++ c ∷ []) new) → JoinsFront text rest old new
 joins_letter text rest old new c whole behind e joins =
-    let u = IsUtf8-before text (encode_utf8 c) rest whole behind e in
-    let one = chars_past_char (encode_utf8 c) [] c u (sym (append-nil (encode_utf8 c))) ∙ ap (λ t. c ∷ t) chars-nil in
-    record { front = encode_utf8 c; split = e; utf8 = u; joins = λ done cs made. subst (λ k. AreMadeOf done (cs ++ k) new) (sym one) (joins done cs made) }
+    let one = one_letter text rest c whole behind e in
+    record { front = encode_utf8 c; split = e; utf8 = one.0; joins = λ done cs made. subst (λ k. AreMadeOf done (cs ++ k) new) (sym one.1) (joins done cs made) }
 
 pub joins_none : (text : List ℕ) (cluster : Cluster) → JoinsFront text text cluster cluster
 joins_none text cluster = record {
@@ -133,37 +132,24 @@ joins_both text middle rest a b c first second = record {
 -- ---- the characters from one boundary to the next
 
 module _ (f : Form) (first : Seen) (at : IsAtBoundary f first) where
-  char_utf8 : (seen : Seen) → Sees f seen → IsUtf8 (encode_utf8 seen.character)
-  char_utf8 seen sees = IsUtf8-before seen.text.now (encode_utf8 seen.character) seen.behind.now sees.text_utf8 sees.behind_utf8 sees.text
-
-  chars-one : (seen : Seen) → Sees f seen → chars (encode_utf8 seen.character) ≡ seen.character ∷ []
-  chars-one seen sees =
-      chars_past_char (encode_utf8 seen.character) [] seen.character (char_utf8 seen sees) (sym (append-nil (encode_utf8 seen.character))) ∙ ap (λ t. seen.character ∷ t) chars-nil
-
   begins_one : BeginsAtBoundary ucd f (chars (encode_utf8 first.character))
   begins_one =
       let same : first.character ∷ chars first.behind.now ≡ at.begins.first ∷ at.begins.rest = sym (chars-seen f first at.sees) ∙ at.begins.text in
       let head : at.begins.first ≡ first.character = cc in
-      record { first = at.begins.first; rest = []; text = chars-one first at.sees ∙ ap (λ k. k ∷ []) (sym head); boundary = at.begins.boundary; sound = at.begins.sound }
+      record { first = at.begins.first; rest = []; text = chars-letter f first at.sees ∙ ap (λ k. k ∷ []) (sym head); boundary = at.begins.boundary; sound = at.begins.sound }
 
   pub gathers_first : (one cluster : Cluster) (next : Seen) (rest formed : List ℕ) → AreMadeOf [] (first.character ∷ []) one → JoinsFront first.behind.now rest one cluster → next.text.now ≡ rest → Sees f next
       → Gathers f first next cluster formed formed
   gathers_first one cluster next rest formed made letters is sees =
       let letter = encode_utf8 first.character in
-      let u = char_utf8 first at.sees in
-      let grown = chars-append letter letters.front u ∙ ap (λ k. k ++ chars letters.front) (chars-one first at.sees) in
+      let u = letter_utf8 f first at.sees in
+      let grown = chars-append letter letters.front u ∙ ap (λ k. k ++ chars letters.front) (chars-letter f first at.sees) in
       record {
         front = letter ++ letters.front;
         done = [];
         split = at.sees.text ∙ ap (λ k. letter ++ k) (letters.split ∙ ap (λ k. letters.front ++ k) (sym is)) ∙ sym (append_assoc letter letters.front next.text.now);
         utf8 = IsUtf8-append letter letters.front u letters.utf8;
-        begins = record {
-          first = begins_one.first;
-          rest = begins_one.rest ++ chars letters.front;
-          text = chars-append letter letters.front u ∙ ap (λ k. k ++ chars letters.front) begins_one.text;
-          boundary = begins_one.boundary;
-          sound = begins_one.sound;
-        };
+        begins = subst (BeginsAtBoundary ucd f) (sym (chars-append letter letters.front u)) (begins_more f (chars letter) (chars letters.front) begins_one);
         sees = sees;
         formed = sym (append-nil formed);
         made = subst (λ k. AreMadeOf [] k cluster) (sym grown) (letters.joins [] (first.character ∷ []) made);
@@ -174,19 +160,13 @@ module _ (f : Form) (first : Seen) (at : IsAtBoundary f first) where
         → Gathers f first next cluster' old new'
     gathers_more cluster' next new' more is sees =
         let letter = encode_utf8 seen.character in
-        let grown = chars-append here.front letter here.utf8 ∙ ap (λ k. chars here.front ++ k) (chars-one seen here.sees) in
+        let grown = chars-append here.front letter here.utf8 ∙ ap (λ k. chars here.front ++ k) (chars-letter f seen here.sees) in
         record {
           front = here.front ++ letter;
           done = here.done ++ more.more;
           split = here.split ∙ ap (λ k. here.front ++ k) (here.sees.text ∙ ap (λ k. letter ++ k) (sym is)) ∙ sym (append_assoc here.front letter next.text.now);
-          utf8 = IsUtf8-append here.front letter here.utf8 (char_utf8 seen here.sees);
-          begins = record {
-            first = here.begins.first;
-            rest = here.begins.rest ++ seen.character ∷ [];
-            text = grown ∙ ap (λ k. k ++ seen.character ∷ []) here.begins.text;
-            boundary = here.begins.boundary;
-            sound = here.begins.sound;
-          };
+          utf8 = IsUtf8-append here.front letter here.utf8 (letter_utf8 f seen here.sees);
+          begins = subst (BeginsAtBoundary ucd f) (sym grown) (begins_more f (chars here.front) (seen.character ∷ []) here.begins);
           sees = sees;
           formed = more.formed ∙ ap (λ k. k ++ more.more) here.formed ∙ append_assoc old here.done more.more;
           made = subst (λ k. AreMadeOf (here.done ++ more.more) k cluster') (sym grown) (more.joins here.done (chars here.front) here.made);

@@ -20,7 +20,7 @@ use Rattle.nf_forms.specs.Laws.Closed.{HasForm-append, HasForm-alone, sound-appe
 use Rattle.nf_boundary.specs.declared.seen.Seen.{Seen}
 use Rattle.nf_boundary.specs.Seen.{Sees, IsAtBoundary}
 use Rattle.nf_boundary.specs.Stands.{Keeps, KeepsTo, Stands}
-use Rattle.nf_boundary.proofs.LetterLemmas.{letter_utf8, chars-letter, boundary-first}
+use Rattle.nf_boundary.proofs.LetterLemmas.{letter_utf8, chars-letter, begins_more, boundary-first}
 
 -- behind one character more NFKD ends in at most as many non-starters as its row has members, or as many more
 trail-push-le : (x : List ℕ) (c : ℕ) → trail ucd (decomposed Nfkd ucd (x ++ c ∷ [])) ≤ trail ucd (decomposed Nfkd ucd x) + length (ucd.compat c)
@@ -56,13 +56,7 @@ module _ (f : Form) (sound : (c : ℕ) → IsTrue (is_sound ucd c)) (first : See
     kept : HasForm ucd f (text ++ mark.character ∷ []) (text ++ mark.character ∷ [])
     unfolding text
     kept = record {
-      begins = record {
-        first = here.form.begins.first;
-        rest = here.form.begins.rest ++ mark.character ∷ [];
-        text = ap (λ k. k ++ mark.character ∷ []) here.form.begins.text;
-        boundary = here.form.begins.boundary;
-        sound = here.form.begins.sound;
-      };
+      begins = begins_more f text (mark.character ∷ []) here.form.begins;
       sound = sound-append ucd f text (mark.character ∷ []) here.form.sound (and_from _ _ (sound mark.character) refl);
       safe =
           let few = lead-le-length ucd (ucd.compat mark.character) in

@@ -4,7 +4,7 @@ use Rattle.std.specs.Prelude.{chars, encode_utf8, IsUtf8}
 use Rattle.std.proofs.lemmas.Str.{chars-nil, chars_past_char}
 use Rattle.nf_forms.specs.declared.form.Form.{Form}
 use Rattle.nf_forms.specs.Parting.{IsBoundary}
-use Rattle.nf_forms.specs.Closed.{HasForm}
+use Rattle.nf_forms.specs.Closed.{BeginsAtBoundary, HasForm}
 use Rattle.nf_forms.specs.Ucd.{ucd}
 use Rattle.nf_boundary.specs.declared.seen.Seen.{Seen}
 use Rattle.nf_boundary.specs.Seen.{Sees, IsAtBoundary}
@@ -12,12 +12,22 @@ use Rattle.nf_boundary.specs.Pieces.{Closes}
 use Rattle.nf_boundary.proofs.PieceLemmas.{IsUtf8-before}
 use Rattle.nf_boundary.proofs.SeenLemmas.{chars-seen}
 
+-- the bytes of a character at the front of a text, before another text
+pub one_letter : (text rest : List ℕ) (c : ℕ) → IsUtf8 text → IsUtf8 rest → text ≡ encode_utf8 c ++ rest → IsUtf8 (encode_utf8 c) × (chars (encode_utf8 c) ≡ c ∷ [])
+one_letter text rest c whole behind e =
+    let u = IsUtf8-before text (encode_utf8 c) rest whole behind e in
+    (u, chars_past_char (encode_utf8 c) [] c u (sym (append-nil (encode_utf8 c))) ∙ ap (λ t. c ∷ t) chars-nil)
+
 module _ (f : Form) (seen : Seen) (sees : Sees f seen) where
   pub letter_utf8 : IsUtf8 (encode_utf8 seen.character)
-  letter_utf8 = IsUtf8-before seen.text.now (encode_utf8 seen.character) seen.behind.now sees.text_utf8 sees.behind_utf8 sees.text
+  letter_utf8 = (one_letter seen.text.now seen.behind.now seen.character sees.text_utf8 sees.behind_utf8 sees.text).0
 
   pub chars-letter : chars (encode_utf8 seen.character) ≡ seen.character ∷ []
-  chars-letter = chars_past_char (encode_utf8 seen.character) [] seen.character letter_utf8 (sym (append-nil (encode_utf8 seen.character))) ∙ ap (λ t. seen.character ∷ t) chars-nil
+  chars-letter = (one_letter seen.text.now seen.behind.now seen.character sees.text_utf8 sees.behind_utf8 sees.text).1
+
+-- characters that begin at a boundary, and more behind them
+pub begins_more : (f : Form) (cs more : List ℕ) → BeginsAtBoundary ucd f cs → BeginsAtBoundary ucd f (cs ++ more)
+begins_more f cs more b = record { first = b.first; rest = b.rest ++ more; text = ap (λ k. k ++ more) b.text; boundary = b.boundary; sound = b.sound }
 
 pub boundary-first : (f : Form) (first : Seen) → IsAtBoundary f first → IsBoundary ucd f first.character
 boundary-first f first at =

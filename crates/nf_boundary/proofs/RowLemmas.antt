@@ -1,10 +1,8 @@
 -- Characters the form of each of which is its row, since each member of that passes the quick check.
 use Rattle.std.proofs.Common.{◌≡◌, ℕ, false, List, [], ◌∷◌, ◌++◌, if◌then◌else◌, refl, ap, sym, subst, ◌∙◌, inl, inr}
-use Rattle.std.proofs.lemmas.Bool.{and_from, not_from_false, eq-eqb}
 use Rattle.std.proofs.lemmas.Str.{IsUtf8-nil}
 use Rattle.std.specs.Prelude.{IsTrue, encode_utf8}
 use Rattle.ucd_normal.specs.declared.forms.QuickCheck.TheVariants.{Yes}
-use Rattle.ucd_normal.specs.CanonicalCombiningClass.{canonical_combining_class}
 use Rattle.ucd_normal.specs.QuickCheck.{quick_check}
 use Rattle.std.specs.List.{list_all, All}
 use Rattle.std.proofs.lemmas.List.Sums.{list_all-from_AllPass}
@@ -22,7 +20,7 @@ use Rattle.nf_forms.specs.Laws.Audited.{flat_map-full}
 use Rattle.nf_forms.specs.Laws.CalmSteps.{begins_run, calm-all}
 use Rattle.nf_forms.specs.Laws.ClosedForms.{HasForm-calm, HasForm-calm_row}
 use Rattle.nf_facts.specs.KitForm.{kit_form}
-use Rattle.nf_facts.specs.Passing.{is_among, halfwidth_marks, is_yes, passes_check}
+use Rattle.nf_facts.specs.Passing.{is_among, halfwidth_marks, passes_check}
 use Rattle.ucd_normal.specs.declared.forms.Form.{Form as KitForm}
 use Rattle.ucd_normal.specs.Decomposition.{or_itself}
 use Rattle.unicode_normalization.specs.Decompose.{table_of, decompose}
@@ -32,7 +30,7 @@ use Rattle.nf_boundary.specs.Seen.{IsAtBoundary}
 use Rattle.nf_boundary.specs.Pieces.{Closes}
 use Rattle.nf_boundary.specs.Stands.{Stands}
 use Rattle.nf_boundary.proofs.ApartLemmas.{row_is}
-use Rattle.nf_boundary.proofs.SeenLemmas.{passes_yes}
+use Rattle.nf_boundary.proofs.SeenLemmas.{passes_yes, passing}
 use Rattle.nf_boundary.proofs.LetterLemmas.{letter_utf8, chars-letter, boundary-first, closes_letter}
 
 row_own : ((c : ℕ) → IsFull ucd.canonical (ucd.canonical c)) → ((c : ℕ) → IsFull ucd.compat (ucd.compat c)) → (f : Form) (c : ℕ) → decomposed f ucd (row_of f ucd c) ≡ row_of f ucd c
@@ -75,17 +73,13 @@ table_row form c other first rest is =
 pub stands_none : (f : Form) (text : List ℕ) (next : Seen) → next.text.now ≡ text → IsAtBoundary f next → Stands f text next
 stands_none f text next is behind = record { front = []; split = sym is; utf8 = IsUtf8-nil; form = inl refl; behind = behind }
 
-passing : (f : Form) (first : Seen) → IsAtBoundary f first → first.answer ≡ Yes → is_among halfwidth_marks first.character ≡ false → IsTrue (passes_check f first.character)
-passing f first at own other =
-    and_from _ _ (and_from _ _ (eq-eqb (canonical_combining_class first.character) 0 (sym at.sees.class ∙ at.class)) (ap is_yes (sym at.sees.answer ∙ own))) (not_from_false _ other)
-
 -- a character that passes, as a text of its own
 module _ (f : Form) (first : Seen) (at : IsAtBoundary f first) (sound : (x : List ℕ) → IsSoundText ucd x) (sound_one : (c : ℕ) → IsTrue (is_sound ucd c))
     (parting : (c : ℕ) → IsTrue (passes_check f c) → IsParting ucd f c) (own : first.answer ≡ Yes) (other : is_among halfwidth_marks first.character ≡ false) where
   own_form : HasForm ucd f (first.character ∷ []) (first.character ∷ [])
   own_form =
       let c = first.character in
-      let calm : IsCalm ucd f (c ∷ []) 0 max_row = (0, max_row, inl (begins_run ucd f c (parting c (passing f first at own other)) (sound_one c)), (refl, refl)) in
+      let calm : IsCalm ucd f (c ∷ []) 0 max_row = (0, max_row, inl (begins_run ucd f c (parting c (passing f first at.sees at.class own other)) (sound_one c)), (refl, refl)) in
       HasForm-calm ucd f c [] 0 max_row calm (sound (c ∷ []))
 
   -- it is closed, where a boundary comes behind it

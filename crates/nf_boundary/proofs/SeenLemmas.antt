@@ -4,8 +4,7 @@ use Rattle.std.specs.Prelude.{chars, encode_utf8, IsTrue}
 use Rattle.std.proofs.lemmas.Bool.{and_from, and_parts, or_from, or_parts, not_from_false}
 use Rattle.std.proofs.lemmas.Bool.Decides.{nat_tests}
 use Rattle.std.proofs.lemmas.Str.{chars_past_char, length-encode, len_utf8_bounds}
-use Rattle.ucd_normal.specs.declared.forms.QuickCheck.{QuickCheck}
-use Rattle.ucd_normal.specs.declared.forms.QuickCheck.TheVariants.{Yes, No, Maybe}
+use Rattle.ucd_normal.specs.declared.forms.QuickCheck.TheVariants.{Yes}
 use Rattle.ucd_normal.specs.CanonicalCombiningClass.{canonical_combining_class}
 use Rattle.ucd_normal.specs.QuickCheck.{quick_check}
 use Rattle.nf_forms.specs.Runs.{lead}
@@ -17,6 +16,7 @@ use Rattle.nf_forms.specs.Ucd.{ucd}
 use Rattle.nf_forms.specs.Laws.ClosedForms.{counts_anew-lead, parting-boundary, boundary-decomposing}
 use Rattle.nf_facts.specs.KitForm.{kit_form}
 use Rattle.nf_facts.specs.Passing.{is_among, is_yes, halfwidth_marks, vowel_signs, passes_check}
+use Rattle.unicode_normalization.proofs.FormsLemmas.{is_yes-true}
 use Rattle.nf_boundary.specs.declared.seen.Seen.{Seen}
 use Rattle.nf_boundary.specs.Seen.{Sees, IsAtBoundary}
 
@@ -33,11 +33,6 @@ module _ (f : Form) (c : ℕ) (passes : IsTrue (passes_check f c)) where
 
   pub passes_yes : quick_check (kit_form f) c ≡ Yes
   passes_yes = is_yes-true (quick_check (kit_form f) c) both.1
-    where
-      is_yes-true : (a : QuickCheck) → is_yes a ≡ true → a ≡ Yes
-      is_yes-true Yes e = refl
-      is_yes-true No e = cc
-      is_yes-true Maybe e = cc
 
 module _ (f : Form) (seen : Seen) (here : Sees f seen) where
   pub chars-seen : chars seen.text.now ≡ seen.character ∷ chars seen.behind.now
@@ -51,6 +46,10 @@ module _ (f : Form) (seen : Seen) (here : Sees f seen) where
 
   pub shorter_two : (next : Seen) → next.text.now ≡ seen.behind.now → (text : List ℕ) → length seen.text.now < length text → length next.text.now < length text
   shorter_two next is text before = let after = shorter next is in omega arith
+
+  pub passing : seen.class ≡ 0 → seen.answer ≡ Yes → is_among halfwidth_marks seen.character ≡ false → IsTrue (passes_check f seen.character)
+  passing class is other =
+      and_from _ _ (and_from _ _ (eq-eqb (canonical_combining_class seen.character) 0 (sym here.class ∙ class)) (ap is_yes (sym here.answer ∙ is))) (not_from_false _ other)
 
   module _ (sound : (c : ℕ) → IsTrue (is_sound ucd c)) (class : seen.class ≡ 0) (plain : (is_among halfwidth_marks seen.character || is_among vowel_signs seen.character) ≡ false) where
     at : IsBoundary ucd f seen.character → IsAtBoundary f seen
@@ -67,8 +66,7 @@ module _ (f : Form) (seen : Seen) (here : Sees f seen) where
     pub boundary_composing : ((c : ℕ) → IsTrue (passes_check f c) → IsParting ucd f c) → seen.answer ≡ Yes → IsAtBoundary f seen
     boundary_composing parting is =
         let marks = or_parts (is_among halfwidth_marks seen.character) (is_among vowel_signs seen.character) plain in
-        at (parting-boundary ucd f seen.character (parting seen.character
-        (and_from _ _ (and_from _ _ (eq-eqb (canonical_combining_class seen.character) 0 starter) (ap is_yes (sym here.answer ∙ is))) (not_from_false _ marks.0))))
+        at (parting-boundary ucd f seen.character (parting seen.character (passing class is marks.0)))
 
     -- where it is changed, by its decomposition
     pub boundary_row : ((c : ℕ) → canonical_combining_class c ≡ 0 → is_among vowel_signs c ≡ false → is_among halfwidth_marks c ≡ false → lead ucd (ucd.compat c) ≡ 0)
