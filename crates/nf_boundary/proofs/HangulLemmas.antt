@@ -1,5 +1,5 @@
 -- A Hangul syllable that is written with letters: what it becomes, and that it is closed.
-use Rattle.std.proofs.Common.{◌≡◌, inr, ℕ, ◌+◌, ◌≤◌, ◌<◌, true, List, [], ◌∷◌, ◌++◌, Some, refl, sym, ap, subst, ◌∙◌, arith, append_assoc, eq-eqb}
+use Rattle.std.proofs.Common.{◌≡◌, inr, ℕ, ◌+◌, ◌≤◌, ◌<◌, true, List, [], ◌∷◌, ◌++◌, Some, sym, ap, subst, ◌∙◌, arith, append_assoc, eq-eqb}
 use Rattle.std.specs.Prelude.{chars, encode_utf8, IsUtf8, IsTrue}
 use Rattle.std.proofs.lemmas.Str.{chars-append, IsUtf8-append}
 use Rattle.ucd_normal.specs.CanonicalCombiningClass.{canonical_combining_class}
@@ -20,7 +20,7 @@ use Rattle.nf_boundary.specs.declared.seen.Seen.{Seen}
 use Rattle.nf_boundary.specs.Seen.{IsAtBoundary}
 use Rattle.nf_boundary.specs.Pieces.{Closes}
 use Rattle.nf_boundary.specs.Hangul.{Spells}
-use Rattle.nf_boundary.proofs.LetterLemmas.{one_letter, letter_utf8, chars-letter, boundary-first}
+use Rattle.nf_boundary.proofs.LetterLemmas.{one_letter, letter_utf8, chars-letter, begins_first}
 use Rattle.nf_boundary.proofs.JoinLemmas.{class_of}
 
 pair-hangul : (a b d : ℕ) → compose_hangul a b ≡ Some d → ucd.pair a b ≡ Some d
@@ -89,7 +89,7 @@ closes_syllable f first at composing sound sound_text rest syllable letters next
       utf8 = IsUtf8-append letter letters.front u letters.utf8;
       form = subst (λ k. HasForm ucd f k (syllable ∷ [])) (sym read)
           (HasForm-cluster ucd f composing (first.character ∷ chars letters.front) syllable [] 0 0 letters.count letters.made
-          (record { first = first.character; rest = chars letters.front; text = refl; boundary = boundary-first f first at; sound = sound first.character })
+          (begins_first f first at (chars letters.front))
           (sound_text (first.character ∷ chars letters.front)));
       formed = formed;
       behind = behind;

@@ -22,8 +22,7 @@ use Rattle.nf_boundary.specs.declared.cluster.Cluster.{Cluster}
 use Rattle.nf_boundary.specs.Seen.{Sees, IsAtBoundary}
 use Rattle.nf_boundary.specs.Pieces.{Closes}
 use Rattle.nf_boundary.specs.Joins.{AreMadeOf, JoinsFront, Joins, Gathers}
-use Rattle.nf_boundary.proofs.LetterLemmas.{one_letter, letter_utf8, chars-letter, begins_more}
-use Rattle.nf_boundary.proofs.SeenLemmas.{chars-seen}
+use Rattle.nf_boundary.proofs.LetterLemmas.{begins_first, one_letter, letter_utf8, chars-letter, begins_more}
 
 pub class_of : (c : ℕ) → ucd.class c ≡ canonical_combining_class c
 unfolding ucd
@@ -132,12 +131,6 @@ joins_both text middle rest a b c first second = record {
 -- ---- the characters from one boundary to the next
 
 module _ (f : Form) (first : Seen) (at : IsAtBoundary f first) where
-  begins_one : BeginsAtBoundary ucd f (chars (encode_utf8 first.character))
-  begins_one =
-      let same : first.character ∷ chars first.behind.now ≡ at.begins.first ∷ at.begins.rest = sym (chars-seen f first at.sees) ∙ at.begins.text in
-      let head : at.begins.first ≡ first.character = cc in
-      record { first = at.begins.first; rest = []; text = chars-letter f first at.sees ∙ ap (λ k. k ∷ []) (sym head); boundary = at.begins.boundary; sound = at.begins.sound }
-
   pub gathers_first : (one cluster : Cluster) (next : Seen) (rest formed : List ℕ) → AreMadeOf [] (first.character ∷ []) one → JoinsFront first.behind.now rest one cluster → next.text.now ≡ rest → Sees f next
       → Gathers f first next cluster formed formed
   gathers_first one cluster next rest formed made letters is sees =
@@ -149,7 +142,7 @@ module _ (f : Form) (first : Seen) (at : IsAtBoundary f first) where
         done = [];
         split = at.sees.text ∙ ap (λ k. letter ++ k) (letters.split ∙ ap (λ k. letters.front ++ k) (sym is)) ∙ sym (append_assoc letter letters.front next.text.now);
         utf8 = IsUtf8-append letter letters.front u letters.utf8;
-        begins = subst (BeginsAtBoundary ucd f) (sym (chars-append letter letters.front u)) (begins_more f (chars letter) (chars letters.front) begins_one);
+        begins = subst (BeginsAtBoundary ucd f) (sym grown) (begins_first f first at (chars letters.front));
         sees = sees;
         formed = sym (append-nil formed);
         made = subst (λ k. AreMadeOf [] k cluster) (sym grown) (letters.joins [] (first.character ∷ []) made);

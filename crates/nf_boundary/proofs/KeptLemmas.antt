@@ -1,7 +1,7 @@
 -- A character and halfwidth marks behind it that stay as they are.
-use Rattle.std.proofs.Common.{◌≡◌, ◌≢◌, ℕ, ◌+◌, ◌-◌, ◌≤◌, Bool, true, false, List, [], ◌∷◌, ◌++◌, length, refl, sym, ap, subst, ◌∙◌, inl, inr, arith, append_assoc}
-use Rattle.std.specs.Prelude.{chars, encode_utf8, IsTrue, if◌then◌else◌}
-use Rattle.std.proofs.lemmas.Bool.{and_from}
+use Rattle.std.proofs.Common.{◌≡◌, ◌≢◌, ℕ, ◌+◌, ◌-◌, ◌≤◌, List, [], ◌∷◌, ◌++◌, length, refl, sym, ap, subst, ◌∙◌, inl, inr, arith, append_assoc}
+use Rattle.std.specs.Prelude.{chars, encode_utf8, IsTrue}
+use Rattle.std.proofs.lemmas.Bool.{and_from, cond_both}
 use Rattle.std.proofs.lemmas.Str.{chars-append, IsUtf8-append}
 use Rattle.nf_forms.specs.Runs.{has_starter, trail}
 use Rattle.nf_forms.specs.declared.form.Form.{Form}
@@ -25,11 +25,9 @@ use Rattle.nf_boundary.proofs.LetterLemmas.{letter_utf8, chars-letter, begins_mo
 -- behind one character more NFKD ends in at most as many non-starters as its row has members, or as many more
 trail-push-le : (x : List ℕ) (c : ℕ) → trail ucd (decomposed Nfkd ucd (x ++ c ∷ [])) ≤ trail ucd (decomposed Nfkd ucd x) + length (ucd.compat c)
 trail-push-le x c =
-    next (has_starter ucd (ucd.compat c)) _ (trail ucd (ucd.compat c)) (length (ucd.compat c)) (trail ucd (decomposed Nfkd ucd x)) (trail-decomposed-push ucd Nfkd x c) (trail-le-length ucd (ucd.compat c))
-  where
-    next : (b : Bool) (t m n k : ℕ) → t ≡ (if b then m else n + k) → m ≤ n → t ≤ k + n
-    next true t m n k e short = omega arith
-    next false t m n k e short = omega arith
+    let short = trail-le-length ucd (ucd.compat c) in
+    subst (λ t. t ≤ trail ucd (decomposed Nfkd ucd x) + length (ucd.compat c)) (sym (trail-decomposed-push ucd Nfkd x c))
+    (cond_both (has_starter ucd (ucd.compat c)) _ _ (λ t. t ≤ trail ucd (decomposed Nfkd ucd x) + length (ucd.compat c)) (λ _. omega arith) (λ _. omega arith))
 
 module _ (f : Form) (sound : (c : ℕ) → IsTrue (is_sound ucd c)) (first : Seen) (at : IsAtBoundary f first) where
   pub keeps_first : normal_form f ucd (first.character ∷ []) ≡ first.character ∷ [] → (next : Seen) → next.text.now ≡ first.behind.now → Sees f next → Keeps f first.text.now next 12

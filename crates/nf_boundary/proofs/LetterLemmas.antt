@@ -29,11 +29,17 @@ module _ (f : Form) (seen : Seen) (sees : Sees f seen) where
 pub begins_more : (f : Form) (cs more : List ℕ) → BeginsAtBoundary ucd f cs → BeginsAtBoundary ucd f (cs ++ more)
 begins_more f cs more b = record { first = b.first; rest = b.rest ++ more; text = ap (λ k. k ++ more) b.text; boundary = b.boundary; sound = b.sound }
 
-pub boundary-first : (f : Form) (first : Seen) → IsAtBoundary f first → IsBoundary ucd f first.character
-boundary-first f first at =
-    let same : at.begins.first ∷ at.begins.rest ≡ first.character ∷ chars first.behind.now = sym at.begins.text ∙ chars-seen f first at.sees in
-    let head : at.begins.first ≡ first.character = cc in
-    subst (IsBoundary ucd f) head at.begins.boundary
+-- ---- a text at a boundary, and its first character
+
+module _ (f : Form) (first : Seen) (at : IsAtBoundary f first) where
+  first_is : at.begins.first ≡ first.character
+  first_is = let same : at.begins.first ∷ at.begins.rest ≡ first.character ∷ chars first.behind.now = sym at.begins.text ∙ chars-seen f first at.sees in cc
+
+  pub boundary-first : IsBoundary ucd f first.character
+  boundary-first = subst (IsBoundary ucd f) first_is at.begins.boundary
+
+  pub begins_first : (rest : List ℕ) → BeginsAtBoundary ucd f (first.character ∷ rest)
+  begins_first rest = record { first = at.begins.first; rest = rest; text = ap (λ k. k ∷ rest) (sym first_is); boundary = at.begins.boundary; sound = at.begins.sound }
 
 -- it is closed, where a boundary comes behind it
 pub closes_letter : (f : Form) (first : Seen) → IsAtBoundary f first → (next : Seen) → next.text.now ≡ first.behind.now → IsAtBoundary f next

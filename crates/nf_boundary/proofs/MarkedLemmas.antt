@@ -2,7 +2,7 @@
 use Rattle.std.proofs.Common.{◌≡◌, ◌≢◌, ℕ, ◌<◌, Bool, true, false, List, [], ◌∷◌, ◌++◌, length, map, Some, refl, sym, ap, subst, ◌∙◌, append_assoc, arith, eq-eqb, leb}
 use Rattle.std.specs.Prelude.{chars, encode_utf8, insert}
 use Rattle.std.specs.List.{prefix_len}
-use Rattle.std.proofs.lemmas.Bool.{and_parts, ne_eqb, cond-true}
+use Rattle.std.proofs.lemmas.Bool.{ne_eqb, cond-true}
 use Rattle.std.proofs.lemmas.Str.{chars-append, IsUtf8-append}
 use Rattle.ucd_normal.specs.declared.forms.QuickCheck.TheVariants.{No}
 use Rattle.ucd_normal.specs.CanonicalCombiningClass.{canonical_combining_class}
@@ -17,7 +17,6 @@ use Rattle.nf_forms.specs.declared.form.Form.TheVariants.{Nfkd}
 use Rattle.nf_forms.specs.Forms.{row_of, composes, arranged}
 use Rattle.nf_forms.specs.StreamSafe.{safe_step}
 use Rattle.nf_forms.specs.Closed.{HasForm}
-use Rattle.nf_forms.specs.Sound.{is_sound}
 use Rattle.nf_forms.specs.Cluster.{IsOwnRow}
 use Rattle.nf_forms.specs.Ucd.{ucd}
 use Rattle.nf_forms.specs.Laws.Runs.{lead-le-length, trail-push}
@@ -38,7 +37,7 @@ use Rattle.nf_boundary.specs.Seen.{Sees, IsAtBoundary}
 use Rattle.nf_boundary.specs.Pieces.{Closes}
 use Rattle.nf_boundary.specs.Marked.{Spans, HoldsMarks}
 use Rattle.nf_boundary.specs.Laws.Held.{held-push, held-length}
-use Rattle.nf_boundary.proofs.LetterLemmas.{letter_utf8, chars-letter, boundary-first}
+use Rattle.nf_boundary.proofs.LetterLemmas.{letter_utf8, chars-letter, begins_first}
 use Rattle.nf_boundary.proofs.JoinLemmas.{class_of}
 
 module _ (p : Properties) (s : ℕ) (run : List ℕ) (starts : is_starter p s ≡ true) (plain : has_starter p run ≡ false) where
@@ -127,13 +126,7 @@ module _ (f : Form) (first : Seen) (at : IsAtBoundary f first) where
     marks_closed sound behind old new formed =
         let cs = first.character ∷ here.run in
         let whole : HasForm ucd f cs (closed_off ucd (composes f) (Some first.character) (by_class ucd here.run)) = record {
-          begins = record {
-            first = first.character;
-            rest = here.run;
-            text = refl;
-            boundary = boundary-first f first at;
-            sound = (and_parts (is_sound ucd first.character) _ (sound cs)).0;
-          };
+          begins = begins_first f first at here.run;
           sound = sound cs;
           safe = here.safe;
           form = ap (λ w. arranged (composes f) ucd w) (here.rows f) ∙ arranged-marked ucd first.character here.run starts_first here.no_starter (composes f);
