@@ -91,16 +91,13 @@ module _ (part bytes piece : List ℕ) (r : rest_of bytes ≡ part) where
 -- ---- behind a bad byte
 
 module _ (bytes : List ℕ) (begun : begun_len bytes < length bytes) (piece : List ℕ) where
-  front_same : (n : ℕ) → n ≤ length bytes → take n (bytes ++ piece) ≡ take n bytes
-  front_same n le = take-append-le n bytes piece le
-
   begun_same : begun_len (bytes ++ piece) ≡ begun_len bytes
   begun_same =
       let g : ℕ = begun_len bytes in
       let h = begun_len-longest bytes in
       begun_len-is (bytes ++ piece) g (begins_until (bytes ++ piece) g (omega (arith, begun, length-append bytes piece))
-      (subst BeginsText (sym (front_same g (omega arith))) h.holds)
-      (λ b. let k : suc g ≤ g = h.longest (suc g) begun (subst BeginsText (front_same (suc g) begun) b) in omega arith))
+      (subst BeginsText (sym (take-append-le g bytes piece (omega arith))) h.holds)
+      (λ b. let k : suc g ≤ g = h.longest (suc g) begun (subst BeginsText (take-append-le (suc g) bytes piece begun) b) in omega arith))
 
   pub text_same : text_len (bytes ++ piece) ≡ text_len bytes
   text_same =
@@ -108,16 +105,16 @@ module _ (bytes : List ℕ) (begun : begun_len bytes < length bytes) (piece : Li
       let h = text_len-longest bytes in
       text_len-is (bytes ++ piece) t (record {
         within = omega (arith, h.within, length-append bytes piece);
-        holds = subst IsUtf8 (sym (front_same t h.within)) h.holds;
+        holds = subst IsUtf8 (sym (take-append-le t bytes piece h.within)) h.holds;
         longest = λ m le u.
             let k : m ≤ begun_len (bytes ++ piece) = (begun_len-longest (bytes ++ piece)).longest m le (BeginsText-IsUtf8 (take m (bytes ++ piece)) u) in
             let fits : m ≤ length bytes = omega (arith, begun_same, begun) in
-            h.longest m fits (subst IsUtf8 (front_same m fits) u);
+            h.longest m fits (subst IsUtf8 (take-append-le m bytes piece fits) u);
       })
 
   pub text_of-behind_bad : text_of (bytes ++ piece) ≡ text_of bytes
   unfolding text_of
-  text_of-behind_bad = ap (λ n. chars (take n (bytes ++ piece))) text_same ∙ ap chars (front_same (text_len bytes) (text_len-longest bytes).within)
+  text_of-behind_bad = ap (λ n. chars (take n (bytes ++ piece))) text_same ∙ ap chars (take-append-le (text_len bytes) bytes piece (text_len-longest bytes).within)
 
   pub ending_of-behind_bad : ending_of (bytes ++ piece) ≡ ending_of bytes
   ending_of-behind_bad = ending_of-broken (bytes ++ piece) (omega (arith, begun, begun_same, length-append bytes piece)) ∙ (λ i. Bad (begun_same i) (text_same i)) ∙ sym (ending_of-broken bytes begun)
