@@ -47,7 +47,6 @@ module _ (starter : (c : ℕ) → 0x1100 ≤ c → c < 0x1200 → canonical_comb
         joins (l ∷ []) l 1 one (omega arith) v lv (omega arith) (omega arith) (compose_hangul-lv l v lv two)
 
     pub spells_two : (text rest : List ℕ) → IsUtf8 text → IsUtf8 rest → text ≡ encode_utf8 v ++ rest → Spells l text rest lv
-    unfolding open_cluster
     spells_two text rest whole behind e =
         let vowel = one_letter text rest v whole behind e in
         record {
@@ -59,7 +58,6 @@ module _ (starter : (c : ℕ) → 0x1100 ≤ c → c < 0x1200 → canonical_comb
         }
 
     pub spells_three : (t lvt : ℕ) → IsLvt lv t lvt → (text middle rest : List ℕ) → IsUtf8 text → IsUtf8 middle → IsUtf8 rest → text ≡ encode_utf8 v ++ middle → middle ≡ encode_utf8 t ++ rest → Spells l text rest lvt
-    unfolding open_cluster
     spells_three t lvt three text middle rest whole between behind e g =
         let vowel = one_letter text middle v whole between e in
         let final = one_letter middle rest t between behind g in

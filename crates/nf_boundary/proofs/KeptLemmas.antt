@@ -48,11 +48,10 @@ module _ (f : Form) (sound : (c : ℕ) → IsTrue (is_sound ucd c)) (first : See
 
   module _ (mark : Seen) (room : ℕ) (here : Keeps f first.text.now mark room) (some : room ≢ 0) (anew : BeginsAnew ucd f mark.character) (alone : normal_form f ucd (mark.character ∷ []) ≡ mark.character ∷ [])
       (once : length (ucd.compat mark.character) ≡ 1) where
-    text : List ℕ
+    abbrev text : List ℕ
     text = chars here.front
 
     kept : HasForm ucd f (text ++ mark.character ∷ []) (text ++ mark.character ∷ [])
-    unfolding text
     kept = record {
       begins = begins_more f text (mark.character ∷ []) here.form.begins;
       sound = sound-append ucd f text (mark.character ∷ []) here.form.sound (and_from _ _ (sound mark.character) refl);
@@ -65,7 +64,6 @@ module _ (f : Form) (sound : (c : ℕ) → IsTrue (is_sound ucd c)) (first : See
     }
 
     pub keeps_mark : (next : Seen) → next.text.now ≡ mark.behind.now → Sees f next → Keeps f first.text.now next (room - 1)
-    unfolding text kept
     keeps_mark next is sees =
         let letter = encode_utf8 mark.character in
         let grown = chars-append here.front letter here.utf8 ∙ ap (λ k. chars here.front ++ k) (chars-letter f mark here.sees) in

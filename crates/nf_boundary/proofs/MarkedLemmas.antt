@@ -90,7 +90,7 @@ module _ (f : Form) (first : Seen) (at : IsAtBoundary f first) where
       }
 
   pub marks_none : IsOwnRow ucd first.character → (next : Seen) → next.text.now ≡ first.behind.now → Sees f next → HoldsMarks f first next []
-  unfolding by_class spans_first
+  unfolding by_class
   marks_none own next is sees =
       let one = cluster-one ucd first.character own starts_first in
       record { run = []; spans = spans_first next is sees; rows = one.rows; safe = one.safe; no_starter = refl; held = refl }

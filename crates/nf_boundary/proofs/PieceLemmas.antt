@@ -49,7 +49,6 @@ module _ (f : Form) where
   module _ (whole settled tail rest : List ℕ) (calm : IsCalmFront ucd f whole settled tail rest) (first : IsUtf8 settled) (second : IsUtf8 tail) (sound : (x : List ℕ) → IsSoundText ucd x) where
     -- up to where it ends
     pub stands_end : (next : Seen) → next.text.now ≡ rest → IsAtBoundary f next → Stands f whole next
-    unfolding own_calm
     stands_end next is behind =
         let text = chars-append settled tail first in
         let u = IsUtf8-append settled tail first second in
@@ -63,7 +62,6 @@ module _ (f : Form) where
 
     -- up to what of it is settled
     pub stands_settled : (next : Seen) → next.text.now ≡ tail ++ rest → IsAtBoundary f next → Stands f whole next
-    unfolding own_calm
     stands_settled next is behind =
         let front = calm-front ucd f (chars settled) (chars tail) calm.class calm.count calm.calm in
         record {
@@ -75,21 +73,18 @@ module _ (f : Form) where
         }
 
   module _ (whole : List ℕ) (next : Seen) (here : Stands f whole next) where
-    n : ℕ
+    abbrev n : ℕ
     n = length whole - length next.text.now
 
     long : length here.front ≡ n
-    unfolding n
     long = omega (arith, ap length here.split, length-append here.front next.text.now)
 
     -- where to cut
     pub stands-seam : IsUtf8 next.text.now → IsCharBoundary whole (length whole - length next.text.now)
-    unfolding n long
     stands-seam u = seam whole here.front next.text.now n here.split long u
 
     -- what stands before it, and nothing more as yet
     pub reaches_own : (same : List ℕ) → same ≡ take (length whole - length next.text.now) whole → Reaches f whole same [] next
-    unfolding n long
     reaches_own same is =
         let e : same ≡ here.front = is ∙ take-seam whole here.front next.text.now n here.split long in
         subst (λ k. Reaches f whole k [] next) (sym e) (record {
