@@ -1,6 +1,7 @@
 -- A cluster of Unicode's characters: how a character more joins it, and what it is when a boundary comes.
 use Rattle.std.proofs.Common.{◌≡◌, ◌≢◌, ◌⊎◌, inl, inr, ℕ, ◌+◌, ◌<◌, ◌≤◌, Bool, true, false, not, ◌&&◌, ◌==◌, nat_le, cond, List, [], ◌∷◌, ◌++◌, length, Some, None, refl, sym, ap, ap₂, subst, ◌∙◌, append_assoc, append-nil, arith, eq-eqb, le-leb}
 use Rattle.std.specs.Prelude.{chars, encode_utf8, IsUtf8}
+use Rattle.std.proofs.Math.Bool.{and-false}
 use Rattle.std.proofs.lemmas.Bool.{ne_eqb, cases_eq, lt-leb}
 use Rattle.std.proofs.lemmas.Str.{chars-nil, chars-append, IsUtf8-append, IsUtf8-nil}
 use Rattle.ucd_normal.specs.declared.forms.Form.TheVariants.{Nfkd as KitNfkd}
@@ -42,11 +43,7 @@ module _ (done cs : List ℕ) (cluster : Cluster) (here : AreMadeOf done cs clus
   joined_none none = joined_by false (ap (λ a. not a && nat_le (ucd.class c) cluster.highest) (eq-eqb (length cluster.left.items) 0 none))
 
   pub joined_above : (class : ℕ) → class ≡ canonical_combining_class c → cluster.highest < class → joined ucd cluster.starter cluster.left.items c ≡ composite ucd cluster.starter c
-  joined_above class is above = joined_by false (ap (λ b. not (length cluster.left.items == 0) && b) (lt-leb (ucd.class c) cluster.highest (omega (arith, is, class_of c, above))) ∙ never (length cluster.left.items == 0))
-    where
-      never : (a : Bool) → (not a && false) ≡ false
-      never true = refl
-      never false = refl
+  joined_above class is above = joined_by false (ap (λ b. not (length cluster.left.items == 0) && b) (lt-leb (ucd.class c) cluster.highest (omega (arith, is, class_of c, above))) ∙ and-false (not (length cluster.left.items == 0)))
 
 -- a character that is not refused, and is a mark or passes NFKD, is its own row
 module _ (f : Form) (seen : Seen) (sees : Sees f seen) where

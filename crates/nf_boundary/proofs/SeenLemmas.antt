@@ -59,27 +59,27 @@ module _ (f : Form) (seen : Seen) (here : Sees f seen) where
       class = class;
     }
 
+    marks : (is_among halfwidth_marks seen.character ≡ false) × (is_among vowel_signs seen.character ≡ false)
+    marks = or_parts (is_among halfwidth_marks seen.character) (is_among vowel_signs seen.character) plain
+
     starter : canonical_combining_class seen.character ≡ 0
     starter = sym here.class ∙ class
 
     -- in a form that composes
     pub boundary_composing : ((c : ℕ) → IsTrue (passes_check f c) → IsParting ucd f c) → seen.answer ≡ Yes → IsAtBoundary f seen
     boundary_composing parting is =
-        let marks = or_parts (is_among halfwidth_marks seen.character) (is_among vowel_signs seen.character) plain in
         at (parting-boundary ucd f seen.character (parting seen.character (passing class is marks.0)))
 
     -- where it is changed, by its decomposition
     pub boundary_row : ((c : ℕ) → canonical_combining_class c ≡ 0 → is_among vowel_signs c ≡ false → is_among halfwidth_marks c ≡ false → lead ucd (ucd.compat c) ≡ 0)
         → BeginsAnew ucd f seen.character → IsAtBoundary f seen
     boundary_row begins anew =
-        let marks = or_parts (is_among halfwidth_marks seen.character) (is_among vowel_signs seen.character) plain in
         at (record { anew = anew; counts = counts_anew-lead ucd f seen.character (sound seen.character) (begins seen.character starter marks.1 marks.0) })
 
     -- in one that does not
     pub boundary_apart : ((c : ℕ) → canonical_combining_class c ≡ 0 → is_among vowel_signs c ≡ false → is_among halfwidth_marks c ≡ false → lead ucd (ucd.compat c) ≡ 0)
         → composes f ≡ false → IsAtBoundary f seen
     boundary_apart begins apart =
-        let marks = or_parts (is_among halfwidth_marks seen.character) (is_among vowel_signs seen.character) plain in
         at (boundary-decomposing ucd f apart seen.character (sound seen.character) (begins seen.character starter marks.1 marks.0))
 
   -- where it is a leading consonant of Hangul
