@@ -1,21 +1,17 @@
 -- Where bytes tell of a character, and where one begins.
 use Rattle.std.proofs.Common.{◌≡◌, ℕ, ◌+◌, ◌/◌, ◌<◌, ◌≤◌, ⊎_elim, Bool, true, false, not, ◌&&◌, ◌==◌, if◌then◌else◌, List, get_or, bit_and, bit_or, refl, sym, ap, ◌∙◌, arith, eqb-true, true≢false}
 use Rattle.std.proofs.str.Laws.{order}
-use Rattle.std.proofs.lemmas.Bool.{not-false}
+use Rattle.std.proofs.lemmas.Bool.{and_right, cond_both, not-false}
 use Rattle.std.proofs.lemmas.Nat.{and_le_l, le_or_l, le_or_r}
 use Rattle.ucd_table.proofs.TrieCheck.{all_below, all_below-at}
 use Rattle.nf_forms.specs.declared.form.Form.{Form}
-use Rattle.nf_forms.specs.declared.form.Form.TheVariants.{Nfc, Nfd, Nfkc, Nfkd}
+use Rattle.nf_forms.specs.declared.form.Form.TheVariants.{Nfc}
 use Rattle.nf_lanes.specs.Lanes.{StopsAt}
 use Rattle.nf_lanes.specs.Sets.{byte_sets, pair_sets, triple_sets}
 use Rattle.nf_lanes.specs.declared.sets.Pairs.{Pairs}
 use Rattle.nf_lanes.specs.declared.sets.Triples.{Triples}
 use Rattle.nf_calm.specs.Leads.{lead_bits, wants_look}
 use Rattle.nf_calm.specs.Closer.{pairs_of, triples_of, wants_pair, wants_triple, wants_triples, kana_of, wide_of, asked_of, look_at, IsPlainRun}
-
-and_no : (x y : Bool) → y ≡ false → (x && y) ≡ false
-and_no true y e = e
-and_no false y e = refl
 
 -- neither number has a bit
 pub no_bits : (x y : ℕ) → not (bit_or x y == 0) ≡ false → (x ≡ 0) × (y ≡ 0)
@@ -38,12 +34,7 @@ no_sets t rows lead next small =
 
 -- what holds of all the sets holds of those that are asked
 asked_each : (f : Form) (lead : ℕ) (P : Triples → Type 0) → P (kana_of f) → P (wide_of f) → P (triples_of f) → P (asked_of f lead)
-asked_each f lead P kana wide others = pick (lead == 0xE3) (lead == 0xEF)
-  where
-    pick : (a b : Bool) → P (if a then kana_of f else (if b then wide_of f else triples_of f))
-    pick true b = kana
-    pick false true = wide
-    pick false false = others
+asked_each f lead P kana wide others = cond_both (lead == 0xE3) _ _ P (λ _. kana) (λ _. cond_both (lead == 0xEF) _ _ P (λ _. wide) (λ _. others))
 
 -- those that are asked for the sake of a lead byte with no sets of its own
 pub asked_of-others : (f : Form) (lead : ℕ) → (lead == 0xE3) ≡ false → (lead == 0xEF) ≡ false → triples_of f ≡ asked_of f lead
@@ -61,9 +52,7 @@ record NoLead (f : Form) : Type 0 where
 no_lead : (f : Form) → NoLead f
 unfolding all_below
 no_lead Nfc = record { pairs = refl; triples = refl; kana = refl; wide = refl; leads = refl }
-no_lead Nfd = record { pairs = refl; triples = refl; kana = refl; wide = refl; leads = refl }
-no_lead Nfkc = record { pairs = refl; triples = refl; kana = refl; wide = refl; leads = refl }
-no_lead Nfkd = record { pairs = refl; triples = refl; kana = refl; wide = refl; leads = refl }
+no_lead _ = record { pairs = refl; triples = refl; kana = refl; wide = refl; leads = refl }
 
 module _ (f : Form) where
   no_lead_bits : (byte : ℕ) → byte < 192 → lead_bits f byte ≡ 0
@@ -95,10 +84,10 @@ module _ (f : Form) where
     told_by_lead k e = ap (λ b. b && (pair_at k && triples_at k)) e
 
     told_behind : (k : ℕ) → (pair_at k && triples_at k) ≡ false → look_at f bytes k ≡ false
-    told_behind k e = and_no (wants_look f (get_or bytes k 0)) (pair_at k && triples_at k) e
+    told_behind k e = and_right (wants_look f (get_or bytes k 0)) (pair_at k && triples_at k) e
 
     told_by_triples : (k : ℕ) → triples_at k ≡ false → look_at f bytes k ≡ false
-    told_by_triples k e = told_behind k (and_no (pair_at k) (triples_at k) e)
+    told_by_triples k e = told_behind k (and_right (pair_at k) (triples_at k) e)
 
     -- how far a test tells
     module _ (at run : ℕ) where
@@ -127,6 +116,6 @@ module _ (f : Form) where
       pub by_triple : (lead : ℕ) → StopsAt (triple_at (asked_of f lead)) at run → IsPlainRun f bytes at run
       by_triple lead =
           asked_each f lead (λ t. StopsAt (triple_at t) at run → IsPlainRun f bytes at run)
-          (by_triple_in (kana_of f) (no_lead f).kana (λ k none. and_no (triple_at (triples_of f) k) _ (ap (λ b. b && triple_at (wide_of f) k) none)))
-          (by_triple_in (wide_of f) (no_lead f).wide (λ k none. and_no (triple_at (triples_of f) k) _ (and_no (triple_at (kana_of f) k) (triple_at (wide_of f) k) none)))
+          (by_triple_in (kana_of f) (no_lead f).kana (λ k none. and_right (triple_at (triples_of f) k) _ (ap (λ b. b && triple_at (wide_of f) k) none)))
+          (by_triple_in (wide_of f) (no_lead f).wide (λ k none. and_right (triple_at (triples_of f) k) _ (and_right (triple_at (kana_of f) k) (triple_at (wide_of f) k) none)))
           (by_triple_in (triples_of f) (no_lead f).triples (λ k none. ap (λ b. b && (triple_at (kana_of f) k && triple_at (wide_of f) k)) none))

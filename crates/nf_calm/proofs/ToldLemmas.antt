@@ -6,7 +6,7 @@ use Rattle.std.proofs.lemmas.Bool.{and_parts, and_from, true_from_ne_false}
 use Rattle.ucd_table.specs.Rows.{in_ranges}
 use Rattle.ucd_table.proofs.TrieCheck.{all_below, all_below-at}
 use Rattle.nf_forms.specs.declared.form.Form.{Form}
-use Rattle.nf_forms.specs.declared.form.Form.TheVariants.{Nfc, Nfd, Nfkc, Nfkd}
+use Rattle.nf_forms.specs.declared.form.Form.TheVariants.{Nfc}
 use Rattle.nf_facts.specs.PlainRanges.{plain_ranges}
 use Rattle.nf_facts.specs.Within.{lies_within, in_ranges-lies_within, or_else, either}
 use Rattle.nf_calm.specs.Leads.{lead_bits, wants_look}
@@ -71,16 +71,14 @@ record Told (f : Form) : Type 0 where
 told : (f : Form) → Told f
 unfolding plain_ranges all_below
 told Nfc = record { ascii = refl; of_two = refl; of_three = refl; of_kana = refl; of_wide = refl; of_four = refl }
-told Nfd = record { ascii = refl; of_two = refl; of_three = refl; of_kana = refl; of_wide = refl; of_four = refl }
-told Nfkc = record { ascii = refl; of_two = refl; of_three = refl; of_kana = refl; of_wide = refl; of_four = refl }
-told Nfkd = record { ascii = refl; of_two = refl; of_three = refl; of_kana = refl; of_wide = refl; of_four = refl }
+told _ = record { ascii = refl; of_two = refl; of_three = refl; of_kana = refl; of_wide = refl; of_four = refl }
 
 module _ (f : Form) where
   lies : (first last c : ℕ) → lies_within (plain_ranges f) first last ≡ true → first ≤ c → c ≤ last → in_ranges (plain_ranges f) c ≡ true
   lies = in_ranges-lies_within (plain_ranges f)
 
   -- what is said of the bytes at a place
-  abbrev look3 : ℕ → ℕ → ℕ → Bool
+  abbrev pub look3 : ℕ → ℕ → ℕ → Bool
   look3 lead next last = wants_look f lead && (wants_pair f lead next && wants_triples f lead next last)
 
   asked_pair : (lead next : ℕ) → not (bit_and (lead_bits f lead) 13 == 0) ≡ true → wants_pair f lead next ≡ true
