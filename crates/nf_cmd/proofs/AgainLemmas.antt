@@ -1,5 +1,5 @@
 -- What `convert` wrote to the end without a fault is not changed by a second run.
-use Rattle.nf_cmd.proofs.Common.{◌≡◌, ℕ, List, [], Option, Some, None, Result, Ok, Err, inl, inr, sym, ap, ◌∙◌, subst, ◌⊎◌, refl, IsTrue, Appends, Keeps, Properties, Form, ucd, Policy, Tally, Fault, BadByte, Cut, Unassigned, Read, Write, Memory, TooLong, Line, Request, Convert, ConvertLines, SinkState, SourceState, Drives, bytes_of, DrivesLines, end_of, Runs, status_of, Does}
+use Rattle.nf_cmd.proofs.Common.{◌≡◌, ℕ, List, [], Option, Some, None, Result, Ok, Err, inl, inr, sym, ap, ◌∙◌, subst, ◌⊎◌, refl, IsTrue, Appends-kept, Keeps, Properties, Form, ucd, Policy, Tally, Fault, BadByte, Cut, Unassigned, Read, Write, Memory, TooLong, Line, Request, Convert, ConvertLines, SinkState, SourceState, Drives, bytes_of, DrivesLines, end_of, Runs, status_of, Does}
 use Rattle.std.specs.Result.{result_err}
 use Rattle.nf_forms.specs.Twice.{ChangesOnce}
 use Rattle.nf_filter.specs.declared.fault.Fault.{Fault as Found}
@@ -15,13 +15,7 @@ use Rattle.nf_cmd.specs.Again.{EachConvertsOnce}
 
 -- a flush behind it changes nothing
 kept_adds : (f : Form) (p : Properties) (taken given now : Option (List ℕ)) → Keeps given now → AddsWhatStays f p taken given → AddsWhatStays f p taken now
-kept_adds f p taken given now keeps adds = (adds.0, appended taken given now adds.0 adds.1 keeps, adds.2)
-  where
-    appended : (taken given now : Option (List ℕ)) (out : List ℕ) → Appends taken given out → Keeps given now → Appends taken now out
-    appended None given now out appends keeps = tt
-    appended (Some xs) None now out appends keeps = absurd appends
-    appended (Some xs) (Some ys) None out appends keeps = absurd keeps
-    appended (Some xs) (Some ys) (Some zs) out appends keeps = keeps ∙ appends
+kept_adds f p taken given now keeps adds = (adds.0, Appends-kept taken given now adds.0 adds.1 keeps, adds.2)
 
 abbrev no_fault : Result ℕ Fault
 no_fault = Ok 0
@@ -30,25 +24,12 @@ no_fault = Ok 0
 found_ok : (ended : Result ℕ Fault) → status_of ended ≡ 0 → ended ≡ Ok 0
 found_ok (Ok status) e = ap Ok e
 found_ok (Err (Row at)) e = cc
-found_ok (Err (Unassigned at)) e = cc
-found_ok (Err (BadByte at start)) e = cc
-found_ok (Err (Cut at start)) e = cc
-found_ok (Err Read) e = cc
-found_ok (Err Write) e = cc
-found_ok (Err Memory) e = cc
-found_ok (Err TooLong) e = cc
-found_ok (Err (Line n fault)) e = cc
+found_ok (Err _) e = cc
 
 -- and no fault of the library is told as none
 told_ok : (fault : Found) → ¬ (Some (Ok 0) ≡ end_of {T = Tally} (Err fault))
 told_ok found.Spent e = cc
-told_ok found.TooLong e = cc
-told_ok found.Read e = cc
-told_ok found.Write e = cc
-told_ok (found.Row at) e = cc
-told_ok (found.BadByte at start) e = cc
-told_ok (found.Cut at start) e = cc
-told_ok (found.Unassigned at) e = cc
+told_ok _ e = cc
 
 -- where a run of the library that has no fault adds what stays, the program's does
 module _ {T : Type 0} (f : Form) (drives : SourceState → SourceState → SinkState → SinkState → Result T Found → Type 0)

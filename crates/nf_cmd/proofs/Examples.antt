@@ -1,38 +1,23 @@
 -- What some command lines ask for.
-use Rattle.nf_cmd.proofs.Common.{◌≡◌, refl, true, false, List, [], ◌∷◌, Some, codes, Bor, Text, walked, subcommand_of, Nfc, Nfd, Convert, ConvertLines, Check, CheckForm, check, convert, flag_rule, form_rule, lacks_form, line, request_of}
+use Rattle.nf_cmd.proofs.Common.{◌≡◌, refl, true, false, List, [], ◌∷◌, Some, codes, Bor, Text, walked, subcommand_of, Nfc, Nfd, Request, Convert, ConvertLines, Check, CheckForm, check, convert, flag_rule, form_rule, lacks_form, line, request_of}
 
 module _ (names : Bor (List (Bor Text))) where
-  no_flag : request_of (subcommand_of (line names) (codes "nfstream" ∷ codes "convert" ∷ codes "--form" ∷ codes "nfc" ∷ [])) ≡ Some (Convert Nfc (record { replace = false; assigned = false }))
-  unfolding line check convert form_rule flag_rule walked
-  no_flag = refl
+  -- each of these words, behind the program's name, ask for their request
+  abbrev EachAsks : List (List Text × Request) → Type 0
+  EachAsks [] = Unit {0}
+  EachAsks (asks ∷ rest) = (request_of (subcommand_of (line names) (codes "nfstream" ∷ asks.0)) ≡ Some asks.1) × EachAsks rest
 
-  replaces : request_of (subcommand_of (line names) (codes "nfstream" ∷ codes "convert" ∷ codes "--replace" ∷ codes "--form=nfc" ∷ [])) ≡ Some (Convert Nfc (record { replace = true; assigned = false }))
+  asked : EachAsks ((codes "convert" ∷ codes "--form" ∷ codes "nfc" ∷ [], Convert Nfc (record { replace = false; assigned = false }))
+      ∷ (codes "convert" ∷ codes "--replace" ∷ codes "--form=nfc" ∷ [], Convert Nfc (record { replace = true; assigned = false }))
+      ∷ (codes "convert" ∷ codes "--form" ∷ codes "nfc" ∷ codes "--assigned" ∷ [], Convert Nfc (record { replace = false; assigned = true }))
+      ∷ (codes "convert" ∷ codes "--assigned" ∷ codes "--form" ∷ codes "nfc" ∷ codes "--replace" ∷ [], Convert Nfc (record { replace = true; assigned = true }))
+      ∷ (codes "convert" ∷ codes "--line-buffered" ∷ codes "--form" ∷ codes "nfc" ∷ codes "--replace" ∷ [], ConvertLines Nfc (record { replace = true; assigned = false }))
+      ∷ (codes "check" ∷ [], Check)
+      ∷ (codes "check" ∷ codes "--form" ∷ codes "nfc" ∷ [], CheckForm Nfc false)
+      ∷ (codes "check" ∷ codes "--assigned" ∷ codes "--form=nfd" ∷ [], CheckForm Nfd true)
+      ∷ [])
   unfolding line check convert form_rule flag_rule walked
-  replaces = refl
-
-  assigned : request_of (subcommand_of (line names) (codes "nfstream" ∷ codes "convert" ∷ codes "--form" ∷ codes "nfc" ∷ codes "--assigned" ∷ [])) ≡ Some (Convert Nfc (record { replace = false; assigned = true }))
-  unfolding line check convert form_rule flag_rule walked
-  assigned = refl
-
-  both : request_of (subcommand_of (line names) (codes "nfstream" ∷ codes "convert" ∷ codes "--assigned" ∷ codes "--form" ∷ codes "nfc" ∷ codes "--replace" ∷ [])) ≡ Some (Convert Nfc (record { replace = true; assigned = true }))
-  unfolding line check convert form_rule flag_rule walked
-  both = refl
-
-  by_lines : request_of (subcommand_of (line names) (codes "nfstream" ∷ codes "convert" ∷ codes "--line-buffered" ∷ codes "--form" ∷ codes "nfc" ∷ codes "--replace" ∷ [])) ≡ Some (ConvertLines Nfc (record { replace = true; assigned = false }))
-  unfolding line check convert form_rule flag_rule walked
-  by_lines = refl
-
-  checks : request_of (subcommand_of (line names) (codes "nfstream" ∷ codes "check" ∷ [])) ≡ Some Check
-  unfolding line check convert form_rule flag_rule walked
-  checks = refl
-
-  checks_form : request_of (subcommand_of (line names) (codes "nfstream" ∷ codes "check" ∷ codes "--form" ∷ codes "nfc" ∷ [])) ≡ Some (CheckForm Nfc false)
-  unfolding line check convert form_rule flag_rule walked
-  checks_form = refl
-
-  checks_assigned : request_of (subcommand_of (line names) (codes "nfstream" ∷ codes "check" ∷ codes "--assigned" ∷ codes "--form=nfd" ∷ [])) ≡ Some (CheckForm Nfd true)
-  unfolding line check convert form_rule flag_rule walked
-  checks_assigned = refl
+  asked = (refl, (refl, (refl, (refl, (refl, (refl, (refl, (refl, tt))))))))
 
   lacks : lacks_form (subcommand_of (line names) (codes "nfstream" ∷ codes "check" ∷ codes "--assigned" ∷ [])) ≡ true
   unfolding line check convert form_rule flag_rule walked

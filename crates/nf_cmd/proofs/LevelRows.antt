@@ -1,6 +1,8 @@
 -- What a level without a fault ends with: the value of an option of one value, which is there where it is required.
-use Rattle.nf_cmd.proofs.Common.{◌≡◌, ◌∙◌, ◌&&◌, ◌||◌, Bool, cond, true, false, not, refl, sym, ap, subst, List, [], ◌∷◌, fold, Option, Some, None, inl, inr, true≢false, find, option_and_then, slice_get, bytes_eq, list_any, option_map_or, bytes_eq-Decides, DefaultValue, explicit_source, Kinds, check_kinds, or_else, is_given, value_passes, Held, Names, Row, Rule, Text, has_row, reading_by, settled, default_rows, finished, first_of, nothing_held, rows_after, walk, walk_from, with_default, Shape, level_fault, check_fault, defaults_fault, settle_fault, walk_fault}
-use Rattle.nf_cmd.proofs.Rows.{both_none, IsIn, IsSingle, HasOne, Fits, EachFits, each-with_values}
+use Rattle.nf_cmd.proofs.Common.{◌≡◌, ◌∙◌, ◌&&◌, Bool, cond, true, false, not, refl, sym, ap, subst, List, [], ◌∷◌, fold, Option, Some, None, inl, inr, true≢false, find, option_and_then, slice_get, bytes_eq, list_any, option_map_or, bytes_eq-Decides, DefaultValue, explicit_source, Kinds, check_kinds, or_else, is_given, value_passes, Held, Names, Row, Rule, Text, has_row, reading_by, settled, default_rows, finished, first_of, nothing_held, stop_after, rows_after, walk, walk_from, with_default, Shape, level_fault, check_fault, defaults_fault, settle_fault, walk_fault, not-false}
+use Rattle.std.proofs.lemmas.Bool.{or_parts}
+use Rattle.nf_cmd.proofs.Rows.{both_none, IsIn, IsSingle, HasOne, Fits, EachFits, each-with_values, no_kind, second_false, find-in}
+use Rattle.nf_cmd.proofs.NoHelp.{StopsAtNoHelp}
 use Rattle.nf_cmd.proofs.WordRows.{each-settled}
 use Rattle.nf_cmd.proofs.WalkRows.{each-walk}
 
@@ -24,34 +26,19 @@ each-defaults c (x ∷ xs) inside rows f =
     each-defaults c xs (λ a i. inside a (inr i)) (with_default rows x) (each-with_default c x (inside x (inl refl)) rows f)
 
 pub nothing_wanted : (a b c : Bool) → check_kinds a b c ≡ [] → (b ≡ false) × (c ≡ false)
-nothing_wanted true b c e = let bad : ⊥ = cc in absurd bad
-nothing_wanted false true c e = let bad : ⊥ = cc in absurd bad
-nothing_wanted false false true e = let bad : ⊥ = cc in absurd bad
-nothing_wanted false false false e = (refl, refl)
+nothing_wanted a b c e =
+    let wanted = no_kind b _ _ _ (no_kind a _ _ _ e).1 in
+    (wanted.0, (no_kind c _ _ _ wanted.1).0)
 
-none_of : (p : Rule → Bool) (c : List Rule) (a : Rule) → IsIn a c → list_any p c ≡ false → p a ≡ false
+pub none_of : (p : Rule → Bool) (c : List Rule) (a : Rule) → IsIn a c → list_any p c ≡ false → p a ≡ false
 none_of p [] a inside e = absurd inside
-none_of p (x ∷ xs) a (inl same) e = ap p same ∙ go (p x) e
-  where
-    go : (b : Bool) → (b || list_any p xs) ≡ false → b ≡ false
-    go true h = h
-    go false h = refl
-none_of p (x ∷ xs) a (inr inside) e = none_of p xs a inside (go (p x) e)
-  where
-    go : (b : Bool) → (b || list_any p xs) ≡ false → list_any p xs ≡ false
-    go true h = absurd (true≢false h)
-    go false h = h
+none_of p (x ∷ xs) a (inl same) e = ap p same ∙ (or_parts (p x) _ e).0
+none_of p (x ∷ xs) a (inr inside) e = none_of p xs a inside (or_parts (p x) _ e).1
 
-found_row : (c : List Rule) (id : Text) (rows : List Row) (r : Row) → EachFits c rows → find (λ x. bytes_eq x.id id) rows ≡ Some r → Fits c r × (r.id ≡ id)
-found_row c id [] r f e = let bad : ⊥ = cc in absurd bad
-found_row c id (x ∷ xs) r f e = go (found_row c id xs r f.1) (bytes_eq x.id id) refl e
-  where
-    go : (find (λ y. bytes_eq y.id id) xs ≡ Some r → Fits c r × (r.id ≡ id)) → (b : Bool) → bytes_eq x.id id ≡ b
-        → cond b (Some x) (find (λ y. bytes_eq y.id id) xs) ≡ Some r → Fits c r × (r.id ≡ id)
-    go rest true t h =
-        let same : x ≡ r = cc in
-        (subst (Fits c) same f.0, ap (λ (y : Row). y.id) (sym same) ∙ (bytes_eq-Decides x.id id).0 t)
-    go rest false t h = rest h
+each-in : (c : List Rule) (rows : List Row) (r : Row) → EachFits c rows → IsIn r rows → Fits c r
+each-in c [] r f inside = absurd inside
+each-in c (x ∷ xs) r f (inl same) = subst (Fits c) (sym same) f.0
+each-in c (x ∷ xs) r f (inr inside) = each-in c xs r f.1 inside
 
 -- the value of a required option of one value, at a level with no fault
 pub record Given (a : Rule) (rows : List Row) : Type 0 where
@@ -78,28 +65,23 @@ module _ (s : Shape) (off : s.args_override_self ≡ false) (names : Names) (wor
   pub below_faultless : below ≡ []
   below_faultless = (both_none _ _ walk_faults.1).0
 
-  pub walk_faultless : walk_fault s names (walk_from nothing_held) words ≡ []
-  walk_faultless = walk_faults.0
+  walked : EachFits s.rules end.rows × StopsAtNoHelp s.disable_help_subcommand (stop_after s.rules names words)
+  walked = each-walk s off names (walk_from nothing_held) words walk_faults.0 (tt, tt)
+
+  pub stops : StopsAtNoHelp s.disable_help_subcommand (stop_after s.rules names words)
+  stops = walked.1
 
   pub checked : check_fault s rows has ≡ []
   checked = (both_none _ _ settle_faults.1).1
 
   each-row : EachFits s.rules rows
   each-row = each-defaults s.rules s.rules (λ a i. i) (settled s.rules end).rows
-      (each-settled s.rules s.args_override_self off end settle_faults.0 (each-walk s off names (walk_from nothing_held) words walk_faults.0 tt))
+      (each-settled s.rules s.args_override_self off end settle_faults.0 walked.0)
 
   is_given-required : s.subcommand_negates_reqs ≡ false → (a : Rule) → IsIn a s.rules → a.required ≡ true → is_given a.id rows ≡ true
   is_given-required lifts a inside required =
-      go (is_given a.id rows) (none_of _ s.rules a inside
-      (wanted s.subcommand_negates_reqs (list_any (λ x. x.required && not (is_given x.id rows)) s.rules) lifts (nothing_wanted _ _ _ checked).1))
-    where
-      wanted : (n b : Bool) → n ≡ false → (not (n && has) && b) ≡ false → b ≡ false
-      wanted true b off' e = absurd (true≢false off')
-      wanted false b off' e = e
-
-      go : (b : Bool) → (a.required && not b) ≡ false → b ≡ true
-      go true e = refl
-      go false e = absurd (true≢false (sym (ap (λ r. r && true) required) ∙ e))
+      let none_lacks = second_false (not (s.subcommand_negates_reqs && has)) _ (nothing_wanted _ _ _ checked).1 (ap (λ n. not (n && has)) lifts) in
+      not-false _ (second_false a.required _ (none_of (λ x. x.required && not (is_given x.id rows)) s.rules a inside none_lacks) required)
 
   module _ (a : Rule) (single : IsSingle a) (only : (x : Rule) → IsIn x s.rules → x.id ≡ a.id → x ≡ a) where
     -- the first value of a row of it
@@ -108,9 +90,9 @@ module _ (s : Shape) (off : s.args_override_self ≡ false) (names : Names) (wor
 
     one_value : (r : Row) → find (λ x. bytes_eq x.id a.id) rows ≡ Some r → HasOne a r.values
     one_value r e =
-        let row = found_row s.rules a.id rows r each-row e in
-        let f : Fits s.rules r = row.0 in
-        subst (λ y. IsSingle y → HasOne y r.values) (only f.rule f.inside (f.same ∙ row.1)) f.one single
+        let found = find-in (λ (x : Row). bytes_eq x.id a.id) rows r e in
+        let f : Fits s.rules r = each-in s.rules rows r each-row found.0 in
+        subst (λ y. IsSingle y → HasOne y r.values) (only f.rule f.inside (f.same ∙ (bytes_eq-Decides r.id a.id).0 found.1)) f.one single
 
     -- where it is there, its value passes
     pub passes : (text : Text) → first_of a.id rows ≡ Some text → value_passes a text ≡ true

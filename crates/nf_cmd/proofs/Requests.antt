@@ -1,32 +1,20 @@
 -- Words in which clap finds no fault ask for something, or are `check` that lacks a form.
-use Rattle.nf_cmd.proofs.Common.{◌≡◌, ◌∙◌, ◌&&◌, ◌||◌, ◌⊎◌, Bool, cond, true, false, not, refl, sym, ap, subst, List, [], ◌∷◌, drop, Option, Some, None, inl, inr, codes, is_some, true≢false, ap₂, find, option_and_then, option_map, Bor, bytes_eq, list_any, option_map_or, bytes_eq-Decides, ErrorKind, MissingRequiredArgument, OutOfMemory, IsAmong, takes, value_passes, Row, Rule, Text, answers_to, first_of, nothing_held, rows_after, stop_after, texts, walk_from, App, Shape, argument_words, built, entered, label_of, names_of, rows_at, subcommand_of, new_shape, with_index, filled, built_fault, entered_fault, fault_of, is_simple_and_free, level_fault, list_any-map, Form, Nfc, Nfd, Nfkc, Nfkd, Request, Check, CheckForm, Measure, Test, IsLine, IsRefusal, check, checking, conversion, convert, flag_rule, form_named, form_names, form_rule, is_set, lacks_form, line, policy_of, request_of}
-use Rattle.nf_cmd.proofs.Rows.{IsIn, IsSingle}
-use Rattle.nf_cmd.proofs.NoHelp.{IsNoHelp, StopsAtNoHelp, no_help-walk}
-use Rattle.nf_cmd.proofs.LevelRows.{below_faultless, checked, given, passes, nothing_wanted, walk_faultless}
-
--- s is one of the subcommands
-abbrev IsSub : Shape → List Shape → Type 0
-IsSub s [] = ⊥
-IsSub s (x ∷ xs) = (s ≡ x) ⊎ IsSub s xs
+use Rattle.nf_cmd.proofs.Common.{◌≡◌, ◌∙◌, ◌&&◌, ◌||◌, ◌⊎◌, Bool, true, false, not, refl, sym, ap, subst, List, [], ◌∷◌, drop, Option, Some, None, inl, inr, codes, is_some, true≢false, ap₂, find, option_and_then, option_map, Bor, bytes_eq, list_any, option_map_or, bytes_eq-Decides, ErrorKind, MissingRequiredArgument, OutOfMemory, IsAmong, takes, value_passes, Row, Rule, Text, answers_to, first_of, nothing_held, rows_after, stop_after, texts, App, Shape, argument_words, built, entered, label_of, names_of, rows_at, subcommand_of, new_shape, with_index, filled, built_fault, entered_fault, fault_of, is_simple_and_free, level_fault, list_any-map, Form, Nfc, Nfd, Nfkc, Nfkd, Request, Check, CheckForm, Measure, Test, IsLine, IsRefusal, check, checking, conversion, convert, flag_rule, form_named, form_names, form_rule, is_set, lacks_form, line, policy_of, request_of, Kinds, not-false}
+use Rattle.std.proofs.Math.Bool.{or-false}
+use Rattle.nf_cmd.proofs.Rows.{first_false, IsIn, IsSingle, find-in}
+use Rattle.nf_cmd.proofs.NoHelp.{IsNoHelp, StopsAtNoHelp}
+use Rattle.nf_cmd.proofs.LevelRows.{none_of, below_faultless, checked, given, passes, nothing_wanted, stops}
 
 -- a subcommand was entered, which is not help, and its own words have no fault
 record Enters (a : App) (found : Option (Text × List Row)) : Type 0 where
   pub sub : Shape
   pub name : Text
   pub words : List Text
-  pub inside : IsSub sub a.subs
+  pub inside : IsIn sub a.subs
   pub answers : answers_to name (label_of sub) ≡ true
   pub no_help : IsNoHelp name
   pub is : found ≡ Some (sub.name, rows_after sub.rules [] words)
   pub faultless : level_fault sub [] nothing_held words false [] ≡ []
-
-find-sub : (p : Shape → Bool) (c : List Shape) (s : Shape) → find p c ≡ Some s → IsSub s c × (p s ≡ true)
-find-sub p [] s e = let bad : ⊥ = cc in absurd bad
-find-sub p (x ∷ xs) s e = go (find-sub p xs s) (p x) refl e
-  where
-    go : (find p xs ≡ Some s → IsSub s xs × (p s ≡ true)) → (b : Bool) → p x ≡ b → cond b (Some x) (find p xs) ≡ Some s → IsSub s (x ∷ xs) × (p s ≡ true)
-    go rest true t h = let same : s ≡ x = cc in (inl same, ap p same ∙ t)
-    go rest false t h = let found = rest h in (inr found.0, found.1)
 
 module _ (a : App) (words : List Text) (off : a.top.args_override_self ≡ false) (helps : a.top.disable_help_subcommand ≡ false)
     (needs : a.top.subcommand_required ≡ true) (none : built_fault a nothing_held words ≡ []) where
@@ -35,34 +23,32 @@ module _ (a : App) (words : List Text) (off : a.top.args_override_self ≡ false
 
   enters : Enters a (entered a stop)
   enters = go stop
-      (no_help-walk a.top (names_of a) helps (walk_from nothing_held) words (walk_faultless a.top off (names_of a) words (is_some (entered a stop)) (entered_fault a stop) none) tt)
-      (below_faultless a.top off (names_of a) words (is_some (entered a stop)) (entered_fault a stop) none)
-      (met (is_some (entered a stop)) a.top.subcommand_required needs (nothing_wanted _ _ _ (checked a.top off (names_of a) words (is_some (entered a stop)) (entered_fault a stop) none)).0)
+      (stops a.top off (names_of a) words has fails none)
+      (below_faultless a.top off (names_of a) words has fails none)
+      (not-false has (first_false (not has) a.top.subcommand_required (nothing_wanted _ _ _ (checked a.top off (names_of a) words has fails none)).0 needs))
     where
-      met : (b n : Bool) → n ≡ true → (not b && n) ≡ false → b ≡ true
-      met true n t e = refl
-      met false true t e = absurd (true≢false e)
-      met false false t e = absurd (true≢false (sym t))
+      has : Bool
+      has = is_some (entered a stop)
+
+      fails : Kinds
+      fails = entered_fault a stop
 
       at : (p : Text × List Text) → IsNoHelp p.0 → (o : Option Shape) → find (λ s. answers_to p.0 (label_of s)) a.subs ≡ o
           → option_map_or (λ s. level_fault s [] nothing_held p.1 false []) o [] ≡ [] → is_some (option_map (λ s. rows_at s p.1) o) ≡ true
           → Enters a (option_map (λ s. rows_at s p.1) o)
       at p helpless None e below there = absurd (true≢false (sym there))
       at p helpless (Some s) e below there =
-          let found = find-sub _ a.subs s e in
+          let found = find-in _ a.subs s e in
           record { sub = s; name = p.0; words = p.1; inside = found.0; answers = found.1; no_help = helpless; is = refl; faultless = below }
 
-      go : (o : Option (Text × List Text)) → StopsAtNoHelp o → entered_fault a o ≡ [] → is_some (entered a o) ≡ true → Enters a (entered a o)
+      go : (o : Option (Text × List Text)) → StopsAtNoHelp a.top.disable_help_subcommand o → entered_fault a o ≡ [] → is_some (entered a o) ≡ true → Enters a (entered a o)
       go None helpless below there = absurd (true≢false (sym there))
-      go (Some p) helpless below there = at p helpless (find (λ s. answers_to p.0 (label_of s)) a.subs) refl below there
+      go (Some p) helpless below there = at p (helpless helps) (find (λ s. answers_to p.0 (label_of s)) a.subs) refl below there
 
 -- help answers to its own name alone
 help_differs : (name : Text) → (bytes_eq (codes "help") name || false) ≡ true → IsNoHelp name → ⊥
-help_differs name e helpless = go (bytes_eq (codes "help") name) refl e
-  where
-    go : (b : Bool) → bytes_eq (codes "help") name ≡ b → (b || false) ≡ true → ⊥
-    go true t h = true≢false (ap (λ x. bytes_eq x (codes "help")) ((bytes_eq-Decides (codes "help") name).0 t) ∙ helpless)
-    go false t h = true≢false (sym h)
+help_differs name e helpless =
+    true≢false (ap (λ x. bytes_eq x (codes "help")) ((bytes_eq-Decides (codes "help") name).0 (sym (or-false _) ∙ e)) ∙ helpless)
 
 -- ---- this program's line
 
@@ -81,14 +67,8 @@ second_of_subs (s ∷ rest) = first_of_subs rest
 -- where no other rule has its id, the first is the one of that id
 only_first : (a : Rule) (rest : List Rule) → list_any (λ r. bytes_eq a.id r.id) rest ≡ false → (x : Rule) → IsIn x (a ∷ rest) → x.id ≡ a.id → x ≡ a
 only_first a rest differ x (inl same) e = same
-only_first a [] differ x (inr inside) e = absurd inside
-only_first a (r ∷ rest) differ x (inr inside) e = go (λ h i. only_first a rest h x (inr i) e) (bytes_eq a.id r.id) refl differ inside
-  where
-    go : (list_any (λ y. bytes_eq a.id y.id) rest ≡ false → IsIn x rest → x ≡ a) → (b : Bool) → bytes_eq a.id r.id ≡ b
-        → (b || list_any (λ y. bytes_eq a.id y.id) rest) ≡ false → IsIn x (r ∷ rest) → x ≡ a
-    go behind true t h i = absurd (true≢false h)
-    go behind false t h (inl same) = absurd (true≢false (sym ((bytes_eq-Decides a.id r.id).1 (sym e ∙ ap (λ (y : Rule). y.id) same)) ∙ t))
-    go behind false t h (inr i) = behind h i
+only_first a rest differ x (inr inside) e =
+    absurd (true≢false (sym ((bytes_eq-Decides a.id x.id).1 (sym e)) ∙ none_of (λ r. bytes_eq a.id r.id) rest x inside differ))
 
 -- what a subcommand's words come to: a request, or that a form is lacking
 abbrev pub IsAsked : Option (Text × List Row) → Type 0
@@ -157,19 +137,17 @@ module _ (names : Bor (List (Bor Text))) (are : texts names.now ≡ form_names) 
       subst IsAsked (sym e.is) (of e.sub e.inside e.name e.answers e.no_help e.words e.faultless)
     where
       Comes : List Text → Shape → Type 0
-      Comes left s = IsAsked (Some (s.name, rows_after s.rules [] left))
+      Comes left s = level_fault s [] nothing_held left false [] ≡ [] → IsAsked (Some (s.name, rows_after s.rules [] left))
 
-      of : (s : Shape) → IsSub s (built (line names)).subs → (name : Text) → answers_to name (label_of s) ≡ true → IsNoHelp name
-          → (left : List Text) → level_fault s [] nothing_held left false [] ≡ [] → Comes left s
-      of s (inl same) name answers helpless left below =
-          subst (Comes left) (sym same) (converts left (subst (λ (x : Shape). level_fault x [] nothing_held left false [] ≡ []) same below))
-      of s (inr (inl same)) name answers helpless left below =
-          subst (Comes left) (sym same) (checks left (subst (λ (x : Shape). level_fault x [] nothing_held left false [] ≡ []) same below))
-      of s (inr (inr (inl same))) name answers helpless left below = subst (Comes left) (sym same) (inl (Measure, refl))
-      of s (inr (inr (inr (inl same)))) name answers helpless left below = subst (Comes left) (sym same) (inl (Test, refl))
-      of s (inr (inr (inr (inr (inl same))))) name answers helpless left below =
+      of : (s : Shape) → IsIn s (built (line names)).subs → (name : Text) → answers_to name (label_of s) ≡ true → IsNoHelp name
+          → (left : List Text) → Comes left s
+      of s (inl same) name answers helpless left = subst (Comes left) (sym same) (converts left)
+      of s (inr (inl same)) name answers helpless left = subst (Comes left) (sym same) (checks left)
+      of s (inr (inr (inl same))) name answers helpless left = subst (Comes left) (sym same) (λ below. inl (Measure, refl))
+      of s (inr (inr (inr (inl same)))) name answers helpless left = subst (Comes left) (sym same) (λ below. inl (Test, refl))
+      of s (inr (inr (inr (inr (inl same))))) name answers helpless left =
           absurd (help_differs name (ap (λ (x : Shape). answers_to name (label_of x)) (sym same) ∙ answers) helpless)
-      of s (inr (inr (inr (inr (inr bad))))) name answers helpless left below = absurd bad
+      of s (inr (inr (inr (inr (inr bad))))) name answers helpless left = absurd bad
 
 -- ---- the same of any description of the line
 

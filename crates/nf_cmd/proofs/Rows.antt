@@ -1,19 +1,45 @@
 -- Rows that fit the rules of one level: for an option of one value, one that passes.
-use Rattle.nf_cmd.proofs.Common.{◌≡◌, ◌∙◌, ◌&&◌, ◌||◌, ◌⊎◌, ◌==◌, ℕ, Bool, cond, true, false, not, refl, sym, ap, ap₂, subst, min, ◌+◌, append-nil, arith, List, [], ◌∷◌, ◌++◌, length, Some, None, true≢false, eqb-true, bytes_eq, bytes_eq-Decides, CommandLine, parser_of_value, unwrap_or_range, refused_kind, Kinds, or_else, range_kinds, value_passes, Row, Rule, Text, action_of, at_row, count_of, counted, has_row, more_values, most_values, new_count, reading_by, used, used_as, values_or_missing, with_count, with_values, without, action_fault, repeat_fault, use_fault, values_fault}
+use Rattle.nf_cmd.proofs.Common.{◌≡◌, ◌∙◌, ◌&&◌, ◌||◌, ◌⊎◌, ◌==◌, ℕ, Bool, cond, true, false, not, refl, sym, ap, ap₂, subst, min, ◌+◌, append-nil, arith, List, [], ◌∷◌, ◌++◌, length, Some, None, true≢false, eqb-true, bytes_eq, bytes_eq-Decides, CommandLine, unwrap_or_range, Kinds, or_else, range_kinds, value_passes, Row, Rule, Text, action_of, at_row, count_of, counted, has_row, more_values, most_values, new_count, reading_by, used, used_as, values_or_missing, with_count, with_values, without, action_fault, repeat_fault, use_fault, values_fault, ErrorKind, find, inl, inr}
 use Rattle.clap.specs.declared.builder.action.ArgAction.{ArgAction}
-use Rattle.clap.specs.declared.builder.action.ArgAction.TheVariants.{Set, Append, SetTrue, SetFalse, Count, Help, HelpShort, HelpLong, Version}
+use Rattle.clap.specs.declared.builder.action.ArgAction.TheVariants.{Set, Append, SetTrue, SetFalse, Count}
 use Rattle.clap.specs.declared.builder.value_parser.Reading.{Reading}
-use Rattle.clap.specs.declared.error.kind.ErrorKind.TheVariants as kind
 use Rattle.clap.specs.declared.parser.matches.ValueSource.{ValueSource}
 
 pub both_none : (a b : Kinds) → or_else a b ≡ [] → (a ≡ []) × (b ≡ [])
 both_none [] b e = (refl, e)
 both_none (k ∷ ks) b e = let bad : ⊥ = cc in absurd bad
 
--- a is one of the rules
-abbrev pub IsIn : Rule → List Rule → Type 0
+-- a kind that did not come
+pub no_kind : (b : Bool) (k : ErrorKind) (ks rest : Kinds) → cond b (k ∷ ks) rest ≡ [] → (b ≡ false) × (rest ≡ [])
+no_kind true k ks rest e = let bad : ⊥ = cc in absurd bad
+no_kind false k ks rest e = (refl, e)
+
+-- one that would have come without the test
+no_kind_else : (b : Bool) (k : ErrorKind) → cond b [] (k ∷ []) ≡ [] → b ≡ true
+no_kind_else true k e = refl
+no_kind_else false k e = let bad : ⊥ = cc in absurd bad
+
+-- of two tests of which one does not hold, the one where the other does
+pub first_false : (a b : Bool) → (a && b) ≡ false → b ≡ true → a ≡ false
+first_false true b none second = absurd (true≢false (sym second ∙ none))
+first_false false b none second = refl
+
+pub second_false : (a b : Bool) → (a && b) ≡ false → a ≡ true → b ≡ false
+second_false a b none first = sym (ap (λ x. x && b) first) ∙ none
+
+-- a is one of these
+abbrev pub IsIn : {X : Type 0} → X → List X → Type 0
 IsIn a [] = ⊥
 IsIn a (x ∷ xs) = (a ≡ x) ⊎ IsIn a xs
+
+-- what is found is one of them, and passes
+pub find-in : {X : Type 0} (p : X → Bool) (xs : List X) (a : X) → find p xs ≡ Some a → IsIn a xs × (p a ≡ true)
+find-in p [] a e = let bad : ⊥ = cc in absurd bad
+find-in p (x ∷ xs) a e = go (find-in p xs a) (p x) refl e
+  where
+    go : (find p xs ≡ Some a → IsIn a xs × (p a ≡ true)) → (b : Bool) → p x ≡ b → cond b (Some x) (find p xs) ≡ Some a → IsIn a (x ∷ xs) × (p a ≡ true)
+    go rest true t h = let same : a ≡ x = cc in (inl same, ap p same ∙ t)
+    go rest false t h = let found = rest h in (inr found.0, found.1)
 
 -- an option that takes one value and has no default
 pub record IsSingle (a : Rule) : Type 0 where
@@ -68,19 +94,10 @@ new_row id change missing (r ∷ rs) none = go (λ e. new_row id change missing 
 -- ---- one use of an argument
 
 one_of_one : (n : ℕ) → range_kinds 1 1 n ≡ [] → n ≡ 1
-one_of_one n e = go (n == 0) (1 == n) refl e
-  where
-    go : (a b : Bool) → (1 == n) ≡ b → cond a (kind.InvalidValue ∷ []) (cond b [] (kind.WrongNumberOfValues ∷ [])) ≡ [] → n ≡ 1
-    go true b t h = let bad : ⊥ = cc in absurd bad
-    go false true t h = sym (eqb-true 1 n t)
-    go false false t h = let bad : ⊥ = cc in absurd bad
+one_of_one n e = sym (eqb-true 1 n (no_kind_else (1 == n) _ (no_kind (n == 0) _ _ _ e).1))
 
 passing : (a : Rule) (text : Text) → values_fault a (text ∷ []) ≡ [] → value_passes a text ≡ true
-passing a text e = go (value_passes a text) (both_none _ _ e).0
-  where
-    go : (b : Bool) → cond b [] (refused_kind (parser_of_value a.parser) ∷ []) ≡ [] → b ≡ true
-    go true h = refl
-    go false h = let bad : ⊥ = cc in absurd bad
+passing a text e = no_kind_else (value_passes a text) _ (both_none _ _ e).0
 
 has_one : (a : Rule) (values : List Text) → length values ≡ 1 → values_fault a (values_or_missing a values) ≡ [] → HasOne a (values_or_missing a values)
 has_one a [] one e = absurd (omega arith)
@@ -88,11 +105,7 @@ has_one a (v ∷ []) one e = record { text = v; alone = refl; passes = passing a
 has_one a (v ∷ w ∷ rest) one e = absurd (omega arith)
 
 not_there : (again : Bool) (a : Rule) (rows : List Row) → again ≡ false → repeat_fault again a.id rows ≡ [] → has_row a.id rows ≡ false
-not_there again a rows off e = go (has_row a.id rows) (subst (λ b. cond (has_row a.id rows && not b) (kind.ArgumentConflict ∷ []) [] ≡ []) off e)
-  where
-    go : (b : Bool) → cond (b && true) (kind.ArgumentConflict ∷ []) [] ≡ [] → b ≡ false
-    go true h = let bad : ⊥ = cc in absurd bad
-    go false h = refl
+not_there again a rows off e = first_false (has_row a.id rows) (not again) (no_kind _ _ _ _ e).0 (ap not off)
 
 module _ (c : List Rule) (a : Rule) (inside : IsIn a c) where
   -- an argument that is no option of one value asks nothing of its row
@@ -139,7 +152,4 @@ module _ (c : List Rule) (a : Rule) (inside : IsIn a c) where
         go SetTrue e = each-with_values (is_other SetTrue e (λ h. let bad : ⊥ = cc in bad)) _ _ given _ (each-without c a.id rows f)
         go SetFalse e = each-with_values (is_other SetFalse e (λ h. let bad : ⊥ = cc in bad)) _ _ given _ (each-without c a.id rows f)
         go Count e = each-counted (is_other Count e (λ h. let bad : ⊥ = cc in bad)) _ given rows f
-        go Help e = f
-        go HelpShort e = f
-        go HelpLong e = f
-        go Version e = f
+        go _ e = f

@@ -24,23 +24,12 @@ use Rattle.nf_cmd.specs.Tests.{Tests, Finds, finding_end}
 -- only the library's fault of a character is told as one
 told_row : {T : Type 0} (fault : Found) (at : ℕ) → option_map (λ g. let r : Result ℕ Fault = Err g in r) (told fault) ≡ Some (Err (Row at)) → (let r : Result T Found = Err fault in r) ≡ Err (found.Row at)
 told_row found.Spent at e = cc
-told_row found.TooLong at e = cc
-told_row found.Read at e = cc
-told_row found.Write at e = cc
-told_row (found.Row a) at e = cc
-told_row (found.BadByte a start) at e = cc
-told_row (found.Cut a start) at e = cc
-told_row (found.Unassigned a) at e = cc
+told_row _ at e = cc
 
 -- and no fault of a vector file is
 not_of_file : (n : ℕ) (k : VectorKind) (at : ℕ) → ¬ (told_at n k ≡ Row at)
 not_of_file n kind.Fields at e = cc
-not_of_file n kind.Empty at e = cc
-not_of_file n kind.Hex at e = cc
-not_of_file n kind.Scalar at e = cc
-not_of_file n kind.Size at e = cc
-not_of_file n kind.Read at e = cc
-not_of_file n kind.Memory at e = cc
+not_of_file n _ at e = cc
 
 -- what ends by an answer, or by a failed write
 end_row : {T : Type 0} (end : Result T Found → Option (Result ℕ Fault)) (answer : Result T Found) (ended : Result ℕ Fault) (at : ℕ)

@@ -1,15 +1,8 @@
--- A word in which there is no fault leaves rows that fit.
-use Rattle.nf_cmd.proofs.Common.{◌≡◌, ◌&&◌, ℕ, Bool, cond, true, false, zero, suc, refl, List, [], ◌∷◌, length, drop, Option, Some, None, inl, inr, encode_utf8, find, slice_get, is_some, chars, option_map_or, Kinds, or_else, short_of, Held, Outcome, Row, Rule, Text, Waiting, after_flag, arg_by_id, arg_by_long, arg_by_short, attached_value, bundle, bundle_met, bundle_step, done, plain, refused, waits, flag_met, idle, is_pending, long_met, long_or_other, option, option_met, option_word, plain_word, positional, positional_held, reacted, settled, settled_rows, short_met, short_or_plain, takes_several, takes_values, used_by_id, bundle_fault, bundle_step_fault, flag_word_fault, flags_fault, long_fault, option_fault, positional_fault, react_fault, settle_fault, short_fault, use_fault}
+-- A word in which there is no fault leaves rows that fit; unless it is a subcommand it steps to none.
+use Rattle.nf_cmd.proofs.Common.{◌≡◌, ◌&&◌, ℕ, Bool, cond, true, false, zero, suc, refl, List, [], ◌∷◌, length, drop, Option, Some, None, encode_utf8, find, slice_get, is_some, chars, option_map_or, Kinds, or_else, short_of, Held, Outcome, Row, Rule, Text, Waiting, after_flag, arg_by_id, arg_by_long, arg_by_short, attached_value, bundle, bundle_met, bundle_step, done, plain, waits, flag_met, is_pending, long_met, long_or_other, option, option_met, option_word, plain_word, positional_held, reacted, settled, settled_rows, short_met, short_or_plain, takes_several, takes_values, used_by_id, bundle_fault, bundle_step_fault, flag_word_fault, flags_fault, long_fault, option_fault, positional_fault, react_fault, settle_fault, short_fault, use_fault, Step}
 use Rattle.clap.specs.declared.error.kind.ErrorKind.TheVariants as kind
-use Rattle.nf_cmd.proofs.Rows.{both_none, IsIn, EachFits, each-used}
-
-find-in : (p : Rule → Bool) (c : List Rule) (a : Rule) → find p c ≡ Some a → IsIn a c
-find-in p [] a e = let bad : ⊥ = cc in bad
-find-in p (x ∷ xs) a e = go (find-in p xs a) (p x) e
-  where
-    go : (find p xs ≡ Some a → IsIn a xs) → (b : Bool) → cond b (Some x) (find p xs) ≡ Some a → IsIn a (x ∷ xs)
-    go rest true h = inl (cc)
-    go rest false h = inr (rest h)
+use Rattle.nf_cmd.proofs.NoHelp.{StepsToNoHelp}
+use Rattle.nf_cmd.proofs.Rows.{both_none, IsIn, EachFits, each-used, find-in}
 
 -- the option is one of the rules, where it is there
 abbrev IfIn : Option Rule → List Rule → Type 0
@@ -21,7 +14,7 @@ find-if_in p c = go (find p c) refl
   where
     go : (o : Option Rule) → find p c ≡ o → IfIn o c
     go None e = tt
-    go (Some a) e = find-in p c a e
+    go (Some a) e = (find-in p c a e).0
 
 module _ (c : List Rule) (again : Bool) (off : again ≡ false) where
   abbrev Holds : Held → Type 0
@@ -93,36 +86,38 @@ module _ (c : List Rule) (again : Bool) (off : again ≡ false) where
           each-short_met (arg_by_short c x) (drop (length (encode_utf8 x)) flags) h _ _ (find-if_in _ c) e (λ m e' g. rest _ 0 done m e' g) f
       go rest (Some x) (suc n) e = rest (drop (length (encode_utf8 x)) flags) n so_far h e f
 
-  each-plain_word : (waiting : Waiting) (word : Text) (h : Held) → Holds h → Holds (plain_word c waiting word h).0
-  each-plain_word idle word h f = f
-  each-plain_word (option id) word h f = go (arg_by_id c id)
-    where
-      go : (o : Option Rule) → Holds (option_word o id word h).0
-      go None = f
-      go (Some a) = f
-  each-plain_word positional word h f = f
-
-  each-after_flag : (waiting : Waiting) (word : Text) (m : Held × Outcome) → Met m → Holds (after_flag c waiting word m.0 m.1).0
-  each-after_flag waiting word (h, done) f = f
-  each-after_flag waiting word (h, waits id) f = f
-  each-after_flag waiting word (h, plain) f = each-plain_word waiting word h f
-  each-after_flag waiting word (h, refused) f = each-plain_word waiting word h f
-
-  each-short_or_plain : (waiting : Waiting) (word : Text) (o : Option Text) (h : Held) → option_map_or (λ flags. bundle_fault c again flags h) o [] ≡ []
-      → Holds h → Holds (short_or_plain c waiting word o h).0
-  each-short_or_plain waiting word None h none f = each-plain_word waiting word h f
-  each-short_or_plain waiting word (Some flags) h none f = each-after_flag waiting word (bundle c flags h)
-      (each-bundle_met (length flags) flags h.skip plain (record h { skip = 0 }) none f)
-
-  pub each-long_or_other : (waiting : Waiting) (word : Text) (o : Option (Text × Option Text)) (h : Held) → flag_word_fault c again o word h ≡ []
-      → Holds h → Holds (long_or_other c waiting word o h).0
-  each-long_or_other waiting word None h none f = each-short_or_plain waiting word (short_of word) h none f
-  each-long_or_other waiting word (Some p) h none f = each-after_flag waiting word (long_met c (arg_by_long c p.0) p.1 h)
-      (each-long_met (arg_by_long c p.0) p.1 h (find-if_in _ c) none f)
-
   pub each-positional : (a : Rule) (word : Text) (h : Held) → positional_fault c again a h ≡ [] → Holds h → Holds (positional_held c a word h)
   each-positional a word h none f = go (is_pending a h.pending && takes_several a) none
     where
       go : (b : Bool) → cond b [] (settle_fault c again h) ≡ [] → EachFits c (cond b h (settled c h)).rows
       go true e = f
       go false e = each-settled h e f
+
+  module _ (help_off : Bool) where
+    abbrev Steps : Held × Step → Type 0
+    Steps m = Holds m.0 × StepsToNoHelp help_off m.1
+
+    each-plain_word : (waiting : Waiting) (word : Text) (h : Held) → Holds h → Steps (plain_word c waiting word h)
+    each-plain_word (option id) word h f = (go (arg_by_id c id), tt)
+      where
+        go : (o : Option Rule) → Holds (option_word o id word h).0
+        go None = f
+        go (Some a) = f
+    each-plain_word _ word h f = (f, tt)
+
+    each-after_flag : (waiting : Waiting) (word : Text) (m : Held × Outcome) → Met m → Steps (after_flag c waiting word m.0 m.1)
+    each-after_flag waiting word (h, done) f = (f, tt)
+    each-after_flag waiting word (h, waits id) f = (f, tt)
+    each-after_flag waiting word (h, _) f = each-plain_word waiting word h f
+
+    each-short_or_plain : (waiting : Waiting) (word : Text) (o : Option Text) (h : Held) → option_map_or (λ flags. bundle_fault c again flags h) o [] ≡ []
+        → Holds h → Steps (short_or_plain c waiting word o h)
+    each-short_or_plain waiting word None h none f = each-plain_word waiting word h f
+    each-short_or_plain waiting word (Some flags) h none f = each-after_flag waiting word (bundle c flags h)
+        (each-bundle_met (length flags) flags h.skip plain (record h { skip = 0 }) none f)
+
+    pub each-long_or_other : (waiting : Waiting) (word : Text) (o : Option (Text × Option Text)) (h : Held) → flag_word_fault c again o word h ≡ []
+        → Holds h → Steps (long_or_other c waiting word o h)
+    each-long_or_other waiting word None h none f = each-short_or_plain waiting word (short_of word) h none f
+    each-long_or_other waiting word (Some p) h none f = each-after_flag waiting word (long_met c (arg_by_long c p.0) p.1 h)
+        (each-long_met (arg_by_long c p.0) p.1 h (find-if_in _ c) none f)

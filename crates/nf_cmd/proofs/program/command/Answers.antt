@@ -1,4 +1,4 @@
-use Rattle.nf_cmd.proofs.Common.{subst, Keeps-refl, Convert, ConvertLines, Check, CheckForm, Measure, Test, Asks}
+use Rattle.nf_cmd.proofs.Common.{Keeps-refl}
 use Rattle.nf_cmd.proofs.AnswerLemmas.{done_answers, refused_answers, refused_by}
 use Rattle.nf_cmd.proofs.program.command.Goals as goal
 
@@ -10,33 +10,29 @@ returns-in-Err-clause-refused g c = refused_by _ _ _ _ _ c.in-Err.ensures.refuse
 
 pub returns-in-Ok-Convert-clause-answer : goal.returns-in-Ok-Convert-clause-answer
 returns-in-Ok-Convert-clause-answer g c =
-    let asks = subst (Asks _) c.in-Ok-Convert.field-0-is c.in-Ok-Convert.ensures.asked in
-    done_answers c.no_character_is_refused.ensures _ (Convert c.in-Ok-Convert.form c.in-Ok-Convert.policy) _ _ _ _ asks c.convert.ensures c.report.ensures.status c.report.ensures.line
+    done_answers c.no_character_is_refused.ensures c.in-Ok-Convert.field-0-is c.in-Ok-Convert.ensures.asked _ c.convert.ensures c.report.ensures.status c.report.ensures.line
 
 pub returns-in-Ok-ConvertLines-clause-answer : goal.returns-in-Ok-ConvertLines-clause-answer
 returns-in-Ok-ConvertLines-clause-answer g c =
-    let asks = subst (Asks _) c.in-Ok-ConvertLines.field-0-is c.in-Ok-ConvertLines.ensures.asked in
-    done_answers c.no_character_is_refused.ensures _ (ConvertLines c.in-Ok-ConvertLines.form c.in-Ok-ConvertLines.policy) _ _ _ _ asks c.convert_lines.ensures c.report-in-Ok-ConvertLines.ensures.status c.report-in-Ok-ConvertLines.ensures.line
+    done_answers c.no_character_is_refused.ensures c.in-Ok-ConvertLines.field-0-is c.in-Ok-ConvertLines.ensures.asked _ c.convert_lines.ensures
+    c.report-in-Ok-ConvertLines.ensures.status c.report-in-Ok-ConvertLines.ensures.line
 
 pub returns-in-Ok-Check-clause-answer : goal.returns-in-Ok-Check-clause-answer
 returns-in-Ok-Check-clause-answer g c =
-    let asks = subst (Asks _) c.in-Ok-Check.field-0-is c.in-Ok-Check.ensures.asked in
-    done_answers c.no_character_is_refused.ensures _ Check _ _ _ _ asks c.check.ensures c.report-in-Ok-Check.ensures.status c.report-in-Ok-Check.ensures.line
+    done_answers c.no_character_is_refused.ensures c.in-Ok-Check.field-0-is c.in-Ok-Check.ensures.asked _ c.check.ensures c.report-in-Ok-Check.ensures.status c.report-in-Ok-Check.ensures.line
 
 pub returns-in-Ok-CheckForm-clause-answer : goal.returns-in-Ok-CheckForm-clause-answer
 returns-in-Ok-CheckForm-clause-answer g c =
-    let asks = subst (Asks _) c.in-Ok-CheckForm.field-0-is c.in-Ok-CheckForm.ensures.asked in
-    done_answers c.no_character_is_refused.ensures _ (CheckForm c.in-Ok-CheckForm.form c.in-Ok-CheckForm.assigned) _ _ _ _ asks c.check_form.ensures c.report-in-Ok-CheckForm.ensures.status c.report-in-Ok-CheckForm.ensures.line
+    done_answers c.no_character_is_refused.ensures c.in-Ok-CheckForm.field-0-is c.in-Ok-CheckForm.ensures.asked _ c.check_form.ensures
+    c.report-in-Ok-CheckForm.ensures.status c.report-in-Ok-CheckForm.ensures.line
 
 pub returns-in-Ok-Measure-clause-answer : goal.returns-in-Ok-Measure-clause-answer
 returns-in-Ok-Measure-clause-answer g c =
-    let asks = subst (Asks _) c.in-Ok-Measure.field-0-is c.in-Ok-Measure.ensures.asked in
-    done_answers c.no_character_is_refused.ensures _ Measure _ _ _ _ asks c.measure.ensures c.report-in-Ok-Measure.ensures.status c.report-in-Ok-Measure.ensures.line
+    done_answers c.no_character_is_refused.ensures c.in-Ok-Measure.field-0-is c.in-Ok-Measure.ensures.asked _ c.measure.ensures c.report-in-Ok-Measure.ensures.status c.report-in-Ok-Measure.ensures.line
 
 pub returns-in-Ok-Test-clause-answer : goal.returns-in-Ok-Test-clause-answer
 returns-in-Ok-Test-clause-answer g c =
-    let asks = subst (Asks _) c.in-Ok-Test.field-0-is c.in-Ok-Test.ensures.asked in
-    done_answers c.no_character_is_refused.ensures _ Test _ _ _ _ asks c.test.ensures c.report-in-Ok-Test.ensures.status c.report-in-Ok-Test.ensures.line
+    done_answers c.no_character_is_refused.ensures c.in-Ok-Test.field-0-is c.in-Ok-Test.ensures.asked _ c.test.ensures c.report-in-Ok-Test.ensures.status c.report-in-Ok-Test.ensures.line
 
 pub returns-in-Err-clause-again : goal.returns-in-Err-clause-again
 returns-in-Err-clause-again g c = c.what_was_converted_stays.ensures _ _ _ _
