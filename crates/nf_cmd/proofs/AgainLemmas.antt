@@ -1,5 +1,5 @@
 -- What `convert` wrote to the end without a fault is not changed by a second run.
-use Rattle.nf_cmd.proofs.Common.{◌≡◌, ℕ, List, [], Option, Some, None, Result, Ok, Err, inl, inr, sym, ap, ◌∙◌, subst, ◌⊎◌, refl, IsTrue, Appends-kept, Keeps, Properties, Form, ucd, Policy, Tally, Fault, BadByte, Cut, Unassigned, Read, Write, Memory, TooLong, Line, Request, Convert, ConvertLines, SinkState, SourceState, Drives, bytes_of, DrivesLines, end_of, Runs, status_of, Does}
+use Rattle.nf_cmd.proofs.Common.{◌≡◌, ℕ, List, [], Option, Some, None, Result, Ok, Err, inl, inr, sym, ap, ◌∙◌, subst, ◌⊎◌, refl, IsTrue, Appends-kept, Keeps, Properties, Form, ucd, Policy, Tally, Fault, Write, Request, Convert, ConvertLines, SinkState, SourceState, Drives, bytes_of, DrivesLines, end_of, Runs, status_of, Does}
 use Rattle.std.specs.Result.{result_err}
 use Rattle.nf_forms.specs.Twice.{ChangesOnce}
 use Rattle.nf_filter.specs.declared.fault.Fault.{Fault as Found}

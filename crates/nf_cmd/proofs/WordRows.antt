@@ -6,15 +6,10 @@ use Rattle.nf_cmd.proofs.Rows.{both_none, IsIn, EachFits, each-used, find-in}
 
 -- the option is one of the rules, where it is there
 abbrev IfIn : Option Rule → List Rule → Type 0
-IfIn None c = Unit {0}
-IfIn (Some a) c = IsIn a c
+IfIn o c = (a : Rule) → o ≡ Some a → IsIn a c
 
 find-if_in : (p : Rule → Bool) (c : List Rule) → IfIn (find p c) c
-find-if_in p c = go (find p c) refl
-  where
-    go : (o : Option Rule) → find p c ≡ o → IfIn o c
-    go None e = tt
-    go (Some a) e = (find-in p c a e).0
+find-if_in p c a e = (find-in p c a e).0
 
 module _ (c : List Rule) (again : Bool) (off : again ≡ false) where
   abbrev Holds : Held → Type 0
@@ -26,7 +21,7 @@ module _ (c : List Rule) (again : Bool) (off : again ≡ false) where
   each-used_by : (o : Option Rule) (values : List Text) (rows : List Row) → IfIn o c → option_map_or (λ a. use_fault again a values rows) o [] ≡ []
       → EachFits c rows → EachFits c (used_by_id o values rows)
   each-used_by None values rows inside none f = f
-  each-used_by (Some a) values rows inside none f = each-used c a inside again off values rows none f
+  each-used_by (Some a) values rows inside none f = each-used c a (inside a refl) again off values rows none f
 
   each-settled_rows : (p : Option (Text × List Text)) (rows : List Row)
       → option_map_or (λ q. option_map_or (λ a. use_fault again a q.1 rows) (arg_by_id c q.0) []) p [] ≡ [] → EachFits c rows → EachFits c (settled_rows c p rows)
@@ -56,8 +51,8 @@ module _ (c : List Rule) (again : Bool) (off : again ≡ false) where
     where
       go : (b : Bool) → cond b (option_fault c again a v h) (cond (is_some v) (kind.TooManyValues ∷ []) (react_fault c again a [] h)) ≡ []
           → Met (cond b (option_met c a v h) (flag_met c a v h))
-      go true e = each-option_met a v h inside e f
-      go false e = each-flag_met a v h inside e f
+      go true e = each-option_met a v h (inside a refl) e f
+      go false e = each-flag_met a v h (inside a refl) e f
 
   each-short_met : (o : Option Rule) (rest : Text) (h : Held) (then : Held → Held × Outcome) (fault : Held → Kinds) → IfIn o c
       → short_fault c again o rest h fault ≡ [] → ((k : Held) → fault k ≡ [] → Holds k → Met (then k)) → Holds h → Met (short_met c o rest h then)
@@ -66,10 +61,10 @@ module _ (c : List Rule) (again : Bool) (off : again ≡ false) where
     where
       go : (b : Bool) → cond b (option_fault c again a (attached_value rest) h) (or_else (react_fault c again a [] h) (fault (reacted c a [] h))) ≡ []
           → Met (cond b (option_met c a (attached_value rest) h) (then (reacted c a [] h)))
-      go true e = each-option_met a (attached_value rest) h inside e f
+      go true e = each-option_met a (attached_value rest) h (inside a refl) e f
       go false e =
           let faults = both_none _ _ e in
-          step (reacted c a [] h) faults.1 (each-reacted a [] h inside faults.0 f)
+          step (reacted c a [] h) faults.1 (each-reacted a [] h (inside a refl) faults.0 f)
 
   each-bundle_met : (k : ℕ) (flags : Text) (skip : ℕ) (so_far : Outcome) (h : Held) → flags_fault c again k flags skip h ≡ [] → Holds h
       → Met (bundle_met c k flags skip so_far h)
