@@ -93,9 +93,6 @@ module _ (p : Properties) (f : Form) where
   calm-marks (c ∷ cs) class count calm none =
       ⊎_elim (λ begins. absurd (true≢false (sym (ap (λ b. b || has_starter p cs) begins.parting.starts) ∙ none))) (λ stays. absurd (omega (arith, stays.counted, stays.room))) calm.2
 
-pub nil_from_chars : (text : List ℕ) → IsUtf8 text → chars text ≡ [] → text ≡ []
-nil_from_chars text u e = sym (encodes-chars text u) ∙ ap encode_utf8_all e
-
 -- calm text in two before its last starter
 pub calm_end : (f : Form) (whole front back : List ℕ) → SplitsAtStarter whole front back → (class count : ℕ) → IsCalm ucd f (chars front ++ chars back) class count
     → ((front ≡ []) × (back ≡ [])) ⊎ BeginsAndMarks ucd f (chars back)
@@ -110,5 +107,6 @@ calm_end f whole front back parts class count calm =
     }))
     (λ none.
     let alone : chars front ++ chars back ≡ chars back = ap (λ t. chars t ++ chars back) none.0 ∙ ap (λ t. t ++ chars back) chars-nil in
-    inl (none.0, nil_from_chars back parts.back_utf8 (calm-marks ucd f (chars back) class count (subst (λ t. IsCalm ucd f t class count) alone calm) none.1)))
+    let no_chars = calm-marks ucd f (chars back) class count (subst (λ t. IsCalm ucd f t class count) alone calm) none.1 in
+    inl (none.0, sym (encodes-chars back parts.back_utf8) ∙ ap encode_utf8_all no_chars))
     parts.end

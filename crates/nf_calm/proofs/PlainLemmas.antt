@@ -6,7 +6,7 @@ use lib.Utf8.{scalar, scalar_cases}
 use Rattle.std.proofs.str.Classes.{width_is}
 use Rattle.std.proofs.lemmas.Bool.{and_parts}
 use Rattle.std.proofs.lemmas.List.{get_or-append-add}
-use Rattle.std.proofs.lemmas.Str.{chars-encodes}
+use Rattle.std.proofs.lemmas.Str.{encodes-chars, scalars-chars}
 use Rattle.ucd_table.specs.Rows.{in_ranges}
 use Rattle.nf_forms.specs.declared.form.Form.{Form}
 use Rattle.nf_forms.specs.Sound.{max_row}
@@ -65,10 +65,10 @@ module _ (f : Form) where
 
     -- a text of such bytes
     pub calm_from-plain : (k n : ℕ) (text more : List ℕ) → IsUtf8 text → 0 < length text → ArePlain (text ++ more) (length text) → IsCalmFrom ucd f k n (chars text) 0 max_row
-    calm_from-plain k n text more u some plain = of u.0 u.1.0 u.1.1
+    calm_from-plain k n text more u some plain = of (chars text) (scalars-chars text u) (encodes-chars text u)
       where
-        of : (cs : List ℕ) → all_scalars cs ≡ true → encode_utf8_all cs ≡ text → IsCalmFrom ucd f k n (chars text) 0 max_row
+        of : (cs : List ℕ) → all_scalars cs ≡ true → encode_utf8_all cs ≡ text → IsCalmFrom ucd f k n cs 0 max_row
         of [] scalars e = absurd (omega (arith, ap length e))
         of (c ∷ cs) scalars e =
             let first = first_plain c cs more scalars (subst (λ t. ArePlain (t ++ more) (length t)) (sym e) plain) in
-            subst (λ ds. IsCalmFrom ucd f k n ds 0 max_row) (sym (chars-encodes (c ∷ cs) scalars) ∙ ap chars e) (0, max_row, inl (begins c first.passes), calm_behind cs more first.scalars first.plain)
+            (0, max_row, inl (begins c first.passes), calm_behind cs more first.scalars first.plain)

@@ -15,9 +15,6 @@ IsUtf8-before text front back whole u e =
     let n = length front in
     subst IsUtf8 (ap (take n) e ∙ take_at front back n refl) (IsUtf8-take text n whole (IsCharBoundary-at_seam text front back e u))
 
-pub chars-encode_utf8 : (c : ℕ) → IsUtf8 (encode_utf8 c) → chars (encode_utf8 c) ≡ c ∷ []
-chars-encode_utf8 c u = chars_past_char (encode_utf8 c) [] c u (sym (append-nil (encode_utf8 c))) ∙ ap (λ t. c ∷ t) chars-nil
-
 module _ (p : Properties) (f : Form) where
   pub calm_from-append : (k n : ℕ) (xs : List ℕ) (class count : ℕ) → IsCalmFrom p f k n xs class count → (ys : List ℕ) (class' count' : ℕ) → IsCalmFrom p f class count ys class' count'
       → IsCalmFrom p f k n (xs ++ ys) class' count'
@@ -42,6 +39,7 @@ module _ (f : Form) (text : List ℕ) (scan : Scan) (here : Reaches f text scan)
       → GoesOn ucd f scan.marks.class scan.marks.count c next.marks.class next.marks.count → Reaches f text next
   reaches_past_char c e goes =
       let u = IsUtf8-before scan.rest.now (encode_utf8 c) next.rest.now here.rest_utf8 rest_utf8 e in
+      let alone : chars (encode_utf8 c) ≡ c ∷ [] = chars_past_char (encode_utf8 c) [] c u (sym (append-nil (encode_utf8 c))) ∙ ap (λ t. c ∷ t) chars-nil in
       reaches_past_piece (encode_utf8 c) u e
-      (subst (λ cs. IsCalmFrom ucd f scan.marks.class scan.marks.count cs next.marks.class next.marks.count) (sym (chars-encode_utf8 c u))
+      (subst (λ cs. IsCalmFrom ucd f scan.marks.class scan.marks.count cs next.marks.class next.marks.count) (sym alone)
       (next.marks.class, next.marks.count, goes, (refl, refl)))

@@ -1,5 +1,5 @@
 -- What bytes tell of a character is so: a character of which they tell that it passes lies in the form's ranges.
-use Rattle.std.proofs.Common.{◌≡◌, ℕ, ◌+◌, ◌*◌, ◌/◌, ◌%◌, ◌<◌, ◌≤◌, ◌⊎◌, ⊎_elim, inl, inr, Bool, true, false, not, ◌&&◌, ◌==◌, nat_lt, List, ◌++◌, bit_and, refl, sym, ap, subst, ◌∙◌, arith, ltb-true, true≢false}
+use Rattle.std.proofs.Common.{◌≡◌, ℕ, ◌+◌, ◌*◌, ◌/◌, ◌%◌, ◌<◌, ◌≤◌, ◌⊎◌, ⊎_elim, inl, inr, Bool, true, false, not, ◌&&◌, ◌==◌, nat_lt, List, ◌++◌, bit_and, bit_or, refl, sym, ap, subst, ◌∙◌, arith, ltb-true, true≢false}
 use Rattle.std.specs.Prelude.{encode_utf8}
 use Rattle.std.proofs.str.Laws.{order, two, three, four}
 use Rattle.std.proofs.lemmas.Bool.{and_parts, and_from, true_from_ne_false}
@@ -42,14 +42,11 @@ module _ (f : Form) where
     told_third hits base j =
         or_else (not (bit_and hits (byte_sets t.last_high t.last_low (128 + j)) == 0)) (λ _. within (base + j) (base + j))
 
-    abbrev told_thirds : ℕ → ℕ → Bool
-    told_thirds hits base = all_below (told_third hits base) 64
-
     -- the second bytes of E0 begin at A0
     abbrev told_block : ℕ → ℕ → Bool
     told_block k i =
         or_else (within (4096 * k + 64 * i) (4096 * k + 64 * i + 63)) (λ _.
-        or_else (nat_lt (4096 * k + 64 * i) 2048) (λ _. told_thirds (pair_sets t.pairs (224 + k) (128 + i)) (4096 * k + 64 * i)))
+        or_else (nat_lt (4096 * k + 64 * i) 2048) (λ _. all_below (told_third (pair_sets t.pairs (224 + k) (128 + i)) (4096 * k + 64 * i)) 64))
 
     abbrev told_three : ℕ → Bool
     told_three k =
@@ -81,17 +78,14 @@ module _ (f : Form) where
   abbrev pub look3 : ℕ → ℕ → ℕ → Bool
   look3 lead next last = wants_look f lead && (wants_pair f lead next && wants_triples f lead next last)
 
-  asked_pair : (lead next : ℕ) → not (bit_and (lead_bits f lead) 13 == 0) ≡ true → wants_pair f lead next ≡ true
-  asked_pair lead next others =
-      true_from_ne_false _ (λ none. true≢false (sym others ∙ ap (λ n. not (n == 0)) ((no_bits (pair_sets (pairs_of f) lead next) (bit_and (lead_bits f lead) 13) none).1)))
-
-  asked_in : (t : Triples) (lead next last : ℕ) → not (bit_and (lead_bits f lead) 11 == 0) ≡ true → wants_triple t f lead next last ≡ true
-  asked_in t lead next last others =
-      true_from_ne_false _ (λ none. true≢false (sym others ∙ ap (λ n. not (n == 0)) ((no_bits (triple_sets t lead next last) (bit_and (lead_bits f lead) 11) none).1)))
+  -- where a bit of the lead byte's is set, the bits of the sets with it are not none
+  asked_by : (sets bits : ℕ) → not (bits == 0) ≡ true → not (bit_or sets bits == 0) ≡ true
+  asked_by sets bits others = true_from_ne_false _ (λ none. true≢false (sym others ∙ ap (λ n. not (n == 0)) (no_bits sets bits none).1))
 
   asked_triple : (lead next last : ℕ) → not (bit_and (lead_bits f lead) 11 == 0) ≡ true → wants_triples f lead next last ≡ true
   asked_triple lead next last others =
-      and_from _ _ (asked_in (triples_of f) lead next last others) (and_from _ _ (asked_in (kana_of f) lead next last others) (asked_in (wide_of f) lead next last others))
+      let hit : (t : Triples) → wants_triple t f lead next last ≡ true = λ t. asked_by (triple_sets t lead next last) _ others in
+      and_from _ _ (hit (triples_of f)) (and_from _ _ (hit (kana_of f)) (hit (wide_of f)))
 
   by_two : (k i last : ℕ) → k < 32 → i < 64 → look3 (192 + k) (128 + i) last ≡ false → in_ranges (plain_ranges f) (64 * k + i) ≡ true
   by_two k i last short little plain =
@@ -113,7 +107,7 @@ module _ (f : Form) where
       let looked = and_parts (wants_look f (224 + k)) _ rest in
       let parts = and_parts (not (bit_and (lead_bits f (224 + k)) 13 == 0)) _ looked.1 in
       let behind = second_of (wants_look f (224 + k)) _ plain looked.0 in
-      let triple = second_of (wants_pair f (224 + k) (128 + i)) (wants_triple t f (224 + k) (128 + i) (128 + j)) behind (asked_pair (224 + k) (128 + i) parts.0) in
+      let triple = second_of (wants_pair f (224 + k) (128 + i)) (wants_triple t f (224 + k) (128 + i) (128 + j)) behind (asked_by (pair_sets (pairs_of f) (224 + k) (128 + i)) _ parts.0) in
       let missed : triple_sets t (224 + k) (128 + i) (128 + j) ≡ 0 = (no_bits _ (bit_and (lead_bits f (224 + k)) 11) triple).0 in
       ⊎_elim (λ block. lies (4096 * k + 64 * i) (4096 * k + 64 * i + 63) (4096 * k + 64 * i + j) block (omega arith) (omega arith))
       (λ others.
@@ -149,7 +143,7 @@ module _ (f : Form) where
       let looked = and_parts (wants_look f (240 + k)) _ rest in
       let parts = and_parts (not (bit_and (lead_bits f (240 + k)) 13 == 0)) _ looked.1 in
       let behind = second_of (wants_look f (240 + k)) _ plain looked.0 in
-      let triple = second_of (wants_pair f (240 + k) next) (wants_triples f (240 + k) next last) behind (asked_pair (240 + k) next parts.0) in
+      let triple = second_of (wants_pair f (240 + k) next) (wants_triples f (240 + k) next last) behind (asked_by (pair_sets (pairs_of f) (240 + k) next) _ parts.0) in
       absurd (true≢false (sym (asked_triple (240 + k) next last parts.1) ∙ triple)))
       (either (lies_within (plain_ranges f) (262144 * k) (262144 * k + 262143)) _ (all_below-at (told_four f) 8 k (told f).of_four short))
 
