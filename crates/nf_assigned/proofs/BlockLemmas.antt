@@ -12,22 +12,18 @@ abbrev begun : ℕ → ℕ
 begun = byte_sets FIRST.first_high FIRST.first_low
 
 -- ASCII and the lead bytes below CD begin no pair
-ascii_begins_none : all_below (λ b. begun b == 0) 128 ≡ true
+each_begins_none : (all_below (λ b. begun b == 0) 128 ≡ true) × (all_below (λ b. begun (192 + b) == 0) 13 ≡ true)
 unfolding all_below
-ascii_begins_none = refl
-
-low_leads_begin_none : all_below (λ b. begun (192 + b) == 0) 13 ≡ true
-unfolding all_below
-low_leads_begin_none = refl
+each_begins_none = (refl, refl)
 
 low_begins_none : (byte : ℕ) → byte < 0xCD → (0x80 ≤ byte → 0xC0 ≤ byte) → begun byte ≡ 0
 low_begins_none byte low lead =
-    ⊎_elim (λ ascii. eqb-true _ 0 (all_below-at (λ b. begun b == 0) 128 byte ascii_begins_none ascii))
+    ⊎_elim (λ ascii. eqb-true _ 0 (all_below-at (λ b. begun b == 0) 128 byte each_begins_none.0 ascii))
     (λ high.
     let above : 192 ≤ byte = lead high in
     let i = byte - 192 in
     let e : 192 + i ≡ byte = omega arith in
-    subst (λ b. begun b ≡ 0) e (eqb-true _ 0 (all_below-at (λ b. begun (192 + b) == 0) 13 i low_leads_begin_none (omega arith))))
+    subst (λ b. begun b ≡ 0) e (eqb-true _ 0 (all_below-at (λ b. begun (192 + b) == 0) 13 i each_begins_none.1 (omega arith))))
     (order byte 128)
 
 low-look : (byte next : ℕ) → byte < 0xCD → (0x80 ≤ byte → 0xC0 ≤ byte) → wants_look byte next ≡ false

@@ -8,7 +8,7 @@ use Rattle.std.proofs.str.Classes.{width_is}
 use Rattle.std.proofs.str.Laws.{order, two, three, four}
 use Rattle.std.proofs.lemmas.Bool.{and_parts, and_from}
 use Rattle.std.proofs.lemmas.List.{get_or-append-add}
-use Rattle.std.proofs.lemmas.Str.{chars-encodes, IsUtf8-take}
+use Rattle.std.proofs.lemmas.Str.{encodes-chars, scalars-chars, IsUtf8-take}
 use Rattle.nf_forms.specs.Ucd.{is_assigned}
 use Rattle.nf_assigned.specs.Pairs.{wants_look, look_at, AreTold}
 use Rattle.nf_assigned.proofs.ToldLemmas.{by_told}
@@ -62,21 +62,10 @@ told_chars (c ∷ cs) more scalars told =
 
 -- a front that ends between two characters
 pub told_front : (text : List ℕ) (n m : ℕ) → IsUtf8 text → IsCharBoundary text n → n ≤ m → AreTold text m → list_all is_assigned (chars (take n text)) ≡ true
-told_front text n m u boundary short told = of front_utf8.0 front_utf8.1.0 front_utf8.1.1
-  where
-    front : List ℕ
-    front = take n text
-
-    front_utf8 : IsUtf8 front
-    front_utf8 = IsUtf8-take text n u boundary
-
-    shorter : AreTold text n
-    shorter k inside high = let here = told k (omega arith) high in (here.0, λ more. here.1 (omega arith))
-
-    told_here : AreTold (front ++ drop n text) (length front)
-    told_here = subst (λ l. AreTold l (length front)) (sym (take-append-drop n text)) (subst (AreTold text) (sym (length-take-le n text boundary.0)) shorter)
-
-    of : (cs : List ℕ) → all_scalars cs ≡ true → encode_utf8_all cs ≡ front → list_all is_assigned (chars front) ≡ true
-    of cs scalars e =
-        let all = told_chars cs (drop n text) scalars (subst (λ l. AreTold (l ++ drop n text) (length l)) (sym e) told_here) in
-        subst (λ ds. list_all is_assigned ds ≡ true) (sym (chars-encodes cs scalars) ∙ ap chars e) all
+told_front text n m u boundary short told =
+    let front = take n text in
+    let front_utf8 = IsUtf8-take text n u boundary in
+    let shorter : AreTold text n = λ k inside high. let here = told k (omega arith) high in (here.0, λ more. here.1 (omega arith)) in
+    let told_here : AreTold (front ++ drop n text) (length front) =
+    subst (λ l. AreTold l (length front)) (sym (take-append-drop n text)) (subst (AreTold text) (sym (length-take-le n text boundary.0)) shorter) in
+    told_chars (chars front) (drop n text) (scalars-chars front front_utf8) (subst (λ l. AreTold (l ++ drop n text) (length l)) (sym (encodes-chars front front_utf8)) told_here)
