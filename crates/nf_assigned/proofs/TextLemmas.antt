@@ -25,11 +25,7 @@ lead_high c more high = at (order c 2048) (order c 65536)
     at (inr _) (inr large) = of _ (four c large) (omega arith)
 
 long : (c : ℕ) → 0x800 ≤ c → 1 < length (encode_utf8 c)
-long c high = at (order c 65536)
-  where
-    at : (c < 65536) ⊎ (65536 ≤ c) → 1 < length (encode_utf8 c)
-    at (inl small) = omega (arith, ap length (three c high small))
-    at (inr large) = omega (arith, ap length (four c large))
+long c high = ⊎_elim (λ small. omega (arith, ap length (three c high small))) (λ large. omega (arith, ap length (four c large))) (order c 65536)
 
 -- behind a piece
 look_at-behind : (piece rest : List ℕ) (j : ℕ) → look_at (piece ++ rest) (length piece + j) ≡ look_at rest j

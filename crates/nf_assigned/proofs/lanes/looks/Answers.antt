@@ -1,10 +1,10 @@
-use Rattle.std.proofs.Common.{◌≡◌, ◌+◌, ℕ, Bool, get_or, arith}
+use Rattle.std.proofs.Common.{◌≡◌, ◌+◌, ℕ, Bool, get_or, bit_and, ap₂, ◌∙◌, arith}
 use Rattle.std.proofs.lemmas.Nat.{and_le_l}
 use Rattle.nf_lanes.specs.Lanes.{places, bits_at}
 use Rattle.nf_lanes.specs.Sets.{pair_sets}
 use Rattle.nf_assigned.specs.Pairs.{is_in}
 use Rattle.nf_assigned.specs.declared.pairs.TheConstants.{FIRST, SECOND}
-use Rattle.nf_assigned.proofs.MaskLemmas.{mask_and, both_masks}
+use Rattle.nf_assigned.proofs.MaskLemmas.{mask_and}
 use Rattle.nf_assigned.proofs.lanes.looks.Goals as goal
 
 pub returns-then-first-eq0 : goal.returns-then-first-eq0
@@ -20,6 +20,7 @@ pub returns : goal.returns
 returns c =
     let bytes = c.args.bytes.now in
     let at = c.args.at in
-    both_masks (λ k. is_in FIRST (get_or bytes k 0) (get_or bytes (k + 1) 0)) (λ k. is_in SECOND (get_or bytes k 0) (get_or bytes (k + 1) 0)) (places at) _ _
+    ap₂ bit_and
     (c.bits-first.ensures (λ k. pair_sets FIRST (get_or bytes k 0) (get_or bytes (k + 1) 0)) at c.pair_sets.ensures)
     (c.bits.ensures (λ k. pair_sets SECOND (get_or bytes k 0) (get_or bytes (k + 1) 0)) at c.pair_sets-2.ensures)
+    ∙ mask_and (λ k. is_in FIRST (get_or bytes k 0) (get_or bytes (k + 1) 0)) (λ k. is_in SECOND (get_or bytes k 0) (get_or bytes (k + 1) 0)) (places at)
