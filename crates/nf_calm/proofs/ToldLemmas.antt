@@ -18,10 +18,6 @@ use Rattle.nf_calm.proofs.LookLemmas.{no_bits}
 second_of : (a b : Bool) → (a && b) ≡ false → a ≡ true → b ≡ false
 second_of a b none first = sym (ap (λ x. x && b) first) ∙ none
 
-first_of_two : (a b : Bool) → (a && b) ≡ false → b ≡ true → a ≡ false
-first_of_two true b none second = absurd (true≢false (sym second ∙ none))
-first_of_two false b none second = refl
-
 -- by lead bytes: all that begins with one lies in the form's ranges; or it has to be looked up, also where the bytes behind
 -- lead bytes of another length are asked, and each that the bytes behind do not find lies there
 module _ (f : Form) where
@@ -94,8 +90,8 @@ module _ (f : Form) where
       let looked = and_parts (wants_look f (192 + k)) _ rest in
       let parts = and_parts (not (bit_and (lead_bits f (192 + k)) 11 == 0)) _ looked.1 in
       let behind = second_of (wants_look f (192 + k)) _ plain looked.0 in
-      let pair = first_of_two (wants_pair f (192 + k) (128 + i)) (wants_triples f (192 + k) (128 + i) last) behind (asked_triple (192 + k) (128 + i) last parts.0) in
-      ⊎_elim (λ hit. absurd (true≢false (sym hit ∙ pair))) (λ here. lies (64 * k + i) (64 * k + i) (64 * k + i) here (omega arith) (omega arith))
+      ⊎_elim (λ hit. absurd (true≢false (sym (and_from _ _ hit (asked_triple (192 + k) (128 + i) last parts.0)) ∙ behind)))
+      (λ here. lies (64 * k + i) (64 * k + i) (64 * k + i) here (omega arith) (omega arith))
       (either (wants_pair f (192 + k) (128 + i)) _ (all_below-at (told_second f k) 64 i parts.1 little)))
       (either (lies_within (plain_ranges f) (64 * k) (64 * k + 63)) _ (all_below-at (told_two f) 32 k (told f).of_two short))
 
