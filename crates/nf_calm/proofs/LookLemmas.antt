@@ -86,9 +86,6 @@ module _ (f : Form) where
     told_behind : (k : ℕ) → (pair_at k && triples_at k) ≡ false → look_at f bytes k ≡ false
     told_behind k e = and_right (wants_look f (get_or bytes k 0)) (pair_at k && triples_at k) e
 
-    told_by_triples : (k : ℕ) → triples_at k ≡ false → look_at f bytes k ≡ false
-    told_by_triples k e = told_behind k (and_right (pair_at k) (triples_at k) e)
-
     -- how far a test tells
     module _ (at run : ℕ) where
       pub by_lead : StopsAt (λ k. wants_look f (get_or bytes k 0)) at run → IsPlainRun f bytes at run
@@ -104,7 +101,7 @@ module _ (f : Form) where
       by_triple_in : (t : Triples) → HasNoLead t.pairs → ((k : ℕ) → triple_at t k ≡ false → triples_at k ≡ false) → StopsAt (triple_at t) at run → IsPlainRun f bytes at run
       by_triple_in t rows all here = record {
         within = here.within;
-        plain = λ k low high. told_by_triples k (all k (here.none k low high));
+        plain = λ k low high. told_behind k (and_right (pair_at k) (triples_at k) (all k (here.none k low high)));
         begins = λ short.
             let lead = get_or bytes (at + run) 0 in
             let next = get_or bytes (at + run + 1) 0 in
