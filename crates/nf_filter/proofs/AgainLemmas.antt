@@ -5,7 +5,6 @@ use Rattle.std.proofs.str.Laws.{scalars-append}
 use Rattle.std.specs.List.{list_all}
 use Rattle.std.specs.Io.KnownBytes.{Appends, Consumes}
 use Rattle.std.specs.Str.{all_scalars, chars}
-use Rattle.std.specs.Str.Lossy.{utf8_valid_len}
 use Rattle.std.proofs.Math.Utf8.{scalar}
 use Rattle.nf_forms.specs.Properties.{Properties}
 use Rattle.nf_forms.specs.declared.form.Form.{Form}
@@ -36,15 +35,7 @@ use Rattle.nf_filter.specs.Again.{TakesAll, nothing_put, StaysAsItIs, AddsWhatSt
 use Rattle.nf_filter.specs.Laws.Settled.{settled_utf8-none}
 use Rattle.nf_filter.proofs.PolicyLemmas.{first_fault-none}
 use Rattle.nf_filter.proofs.WholeLemmas.{without, answer_at, answer_without}
-
--- no bytes
-text-none : text_of [] ≡ []
-unfolding text_of chars utf8_valid_len
-text-none = refl
-
-ending-none : ending_of [] ≡ Whole
-unfolding ending_of chars utf8_valid_len
-ending-none = refl
+use Rattle.nf_filter.proofs.ReadingLemmas.{text_of-none, ending_of-none}
 
 -- the end is no fault
 answered : {A : Type 0} (base : ℕ) (value told : A) (ending : Ending) → answer_at_end base value ending ≡ Ok told → (settled whole : List ℕ) → whole_or ending settled whole ≡ whole
@@ -94,10 +85,10 @@ module _ (back : ReadsBack) (replacing : ReplacesParts) where
     bytes_is = encode_utf8_all o
 
     text-is : text_of bytes_is ≡ o
-    text-is = ap text_of (sym (append-nil bytes_is)) ∙ back.text o [] scalars ∙ ap (λ l. o ++ l) text-none ∙ append-nil o
+    text-is = ap text_of (sym (append-nil bytes_is)) ∙ back.text o [] scalars ∙ ap (λ l. o ++ l) text_of-none ∙ append-nil o
 
     ending-is : ending_of bytes_is ≡ Whole
-    ending-is = ap ending_of (sym (append-nil bytes_is)) ∙ back.ending o [] scalars ∙ ap (moved (length bytes_is)) ending-none
+    ending-is = ap ending_of (sym (append-nil bytes_is)) ∙ back.ending o [] scalars ∙ ap (moved (length bytes_is)) ending_of-none
 
     parts-is : parts_of bytes_is ≡ own_parts o
     parts-is = replacing.begun bytes_is ([], (o, (scalars, sym (append-nil bytes_is)))) ∙ ap own_parts text-is

@@ -1,17 +1,13 @@
 -- Calm text: that it ends in a character that parts a text, and how many characters it may have.
-use Rattle.std.proofs.Common.{◌≡◌, ℕ, ◌<◌, ◌≤◌, List, [], ◌∷◌, length, ◌⊎◌, inl, inr, ap, arith, encode_utf8, encode_utf8_all, IsUtf8, chars, length-append}
-use Rattle.std.proofs.lemmas.Str.{encodes-chars, length-encode, len_utf8_bounds}
+use Rattle.std.proofs.Common.{◌≡◌, ℕ, ◌<◌, ◌≤◌, List, [], length, ◌⊎◌, inl, inr, ap, arith, IsUtf8, chars}
+use Rattle.std.proofs.lemmas.Str.{encodes-chars, length-le-encodes}
 use Rattle.nf_forms.specs.Properties.{Properties}
 use Rattle.nf_forms.specs.declared.form.Form.{Form}
 use Rattle.nf_calm.specs.Front.{BeginsAndMarks, IsCalmFront}
 
 -- there are no more characters than bytes
-pub chars_le : (cs : List ℕ) → length cs ≤ length (encode_utf8_all cs)
-chars_le [] = omega arith
-chars_le (c ∷ cs) = omega (arith, chars_le cs, length-append (encode_utf8 c) (encode_utf8_all cs), length-encode c, (len_utf8_bounds c).0)
-
 pub few : (bytes : List ℕ) → IsUtf8 bytes → length (chars bytes) ≤ length bytes
-few bytes utf8 = omega (arith, chars_le (chars bytes), ap length (encodes-chars bytes utf8))
+few bytes utf8 = omega (arith, length-le-encodes (chars bytes), ap length (encodes-chars bytes utf8))
 
 -- where the end is not empty
 pub ends : (p : Properties) (f : Form) (whole s t rest : List ℕ) → IsCalmFront p f whole s t rest → 0 < length t → BeginsAndMarks p f (chars t)

@@ -4,7 +4,7 @@ use Rattle.std.proofs.lemmas.Str.{encodes-append}
 use Rattle.nf_forms.specs.Properties.{Properties}
 use Rattle.nf_forms.specs.declared.form.Form.{Form}
 use Rattle.nf_utf8.specs.declared.chunk.End.{End}
-use Rattle.nf_utf8.specs.declared.chunk.End.TheVariants.{Whole as EndsWhole, Cut as EndsCut, Bad as EndsBad}
+use Rattle.nf_utf8.specs.declared.chunk.End.TheVariants.{Bad as EndsBad}
 use Rattle.nf_utf8.specs.Ending.{Bad}
 use Rattle.nf_utf8.specs.Reading.{text_of, text_len, ending_of}
 use Rattle.nf_utf8.specs.Replaced.{replacement, part_end}
@@ -27,7 +27,7 @@ use Rattle.nf_filter.proofs.BlockLemmas.{Broken-extends}
 use Rattle.nf_normalizer.specs.Laws.Settled.{Extends}
 use Rattle.nf_filter.proofs.PolicyLemmas.{first_fault-none, first_fault-stays, taken_utf8-grows}
 use Rattle.nf_filter.proofs.AllowingLemmas.{TakesAllowed-settled}
-use Rattle.nf_filter.proofs.ReadingLemmas.{ends_well, ending_of-none}
+use Rattle.nf_filter.proofs.ReadingLemmas.{ends_well, all_behind, ending_of-none}
 use Rattle.nf_filter.proofs.PieceLemmas.{left-text, left-place, left-bad, text_under-first, len_under-first, IsLeft-behind}
 
 -- where nothing is replaced
@@ -141,7 +141,7 @@ module _ (policy : Policy) (f : Form) (p : Properties) (base : ℕ) (bytes : Lis
           n = read.n;
           tail = read.tail ++ rest;
           left = subst (IsLeft policy.replace bytes read.before read.n) (sym (append-nil (read.tail ++ rest))) read.left;
-          decoder = subst (DecoderStandsAfter next.decoder) (all_behind end well) decoder;
+          decoder = subst (DecoderStandsAfter next.decoder) (all_behind read.tail rest end well) decoder;
           good = λ n. ends_well read.tail rest end n well took.ends;
           offset = omega (arith, offset, read.offset, length-append read.tail rest);
           taken = subst (HasTaken f p after) joined_is takes.taken.0;
@@ -149,11 +149,6 @@ module _ (policy : Policy) (f : Form) (p : Properties) (base : ℕ) (bytes : Lis
         },
         Written-at (ap (settled_text f p) joined_is) (TakesAllowed-settled f p after start now (λ front. base + len_under policy.replace bytes front) policy.assigned (taken_text ++ next_text) tt takes),
       )
-        where
-          all_behind : (end : End) → ((at back : ℕ) → ¬ (end ≡ EndsBad at back)) → bytes_behind read.tail rest end ≡ read.tail ++ rest
-          all_behind EndsWhole well = refl
-          all_behind EndsCut well = refl
-          all_behind (EndsBad at back) well = absurd (well at back refl)
 
       module _ (at back : ℕ) (ends : (ending_of (read.tail ++ rest) ≡ Bad (length read.tail + at) (text_len (read.tail ++ rest))) × (text_len (read.tail ++ rest) + back ≡ length read.tail + at) × (at < length rest)) where
         -- a byte of it is bad, and not replaced

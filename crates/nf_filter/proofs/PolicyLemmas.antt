@@ -1,7 +1,7 @@
 -- How far a text is taken under a policy.
-use Rattle.std.proofs.Common.{◌≡◌, ℕ, ◌+◌, ◌==◌, ◌<◌, Bool, true, false, List, [], ◌∷◌, ◌++◌, length, take, Option, Some, None, ◌⊎◌, inl, inr, ⊎_elim, refl, sym, ap, ◌∙◌, subst, arith, append-nil, append_assoc, eq-eqb, ne_eqb, take_while, suc, if◌then◌else◌, length-append}
-use Rattle.std.specs.List.{list_all, prefix_len}
-use Rattle.std.proofs.lemmas.Bool.{and_parts, and_from}
+use Rattle.std.proofs.Common.{◌≡◌, ℕ, ◌+◌, ◌==◌, ◌<◌, Bool, true, false, List, [], ◌∷◌, ◌++◌, length, Option, Some, None, ◌⊎◌, inl, inr, ⊎_elim, refl, sym, ap, ◌∙◌, subst, arith, append-nil, append_assoc, eq-eqb, ne_eqb, take_while, if◌then◌else◌, length-append}
+use Rattle.std.specs.List.{list_all}
+use Rattle.std.proofs.lemmas.Bool.{and_parts, and_from, cond-true, cond-false}
 use Rattle.nf_forms.specs.Properties.{Properties}
 use Rattle.nf_forms.specs.declared.form.Form.{Form}
 use Rattle.nf_filter.specs.declared.fault.Fault.{Fault}
@@ -11,6 +11,7 @@ use Rattle.nf_filter.specs.Feeding.{taken_utf8}
 use Rattle.nf_filter.specs.Policy.{allowed}
 use Rattle.nf_filter.specs.Settled.{settled, is_usable, usable}
 use Rattle.nf_normalizer.specs.Laws.Settled.{Extends, Extends-none, Extends-encodes, settled-extends, is_usable-stays_out, usable-all, usable-grows, usable-stays}
+use Rattle.std.proofs.lemmas.List.Sums.{take_while-cons}
 
 -- the first character of a text that does not pass a test
 pub record Fails (test : ℕ → Bool) (x : List ℕ) : Type 0 where
@@ -22,23 +23,18 @@ pub record Fails (test : ℕ → Bool) (x : List ℕ) : Type 0 where
   pub failed : test c ≡ false
 
 module _ (test : ℕ → Bool) where
-  one_more : (n c : ℕ) (x : List ℕ) → take (1 + n) (c ∷ x) ≡ c ∷ take n x
-  one_more n c x = ap (λ m. take m (c ∷ x)) (let e : 1 + n ≡ suc n = omega arith in e)
-
   pub take_while-append : (x y : List ℕ) → list_all test x ≡ true → take_while test (x ++ y) ≡ x ++ take_while test y
   take_while-append [] y all = refl
   take_while-append (c ∷ x) y all =
       let parts = and_parts (test c) (list_all test x) all in
-      ap (λ b. take (if b then 1 + prefix_len test (x ++ y) else 0) (c ∷ (x ++ y))) parts.0
-      ∙ one_more (prefix_len test (x ++ y)) c (x ++ y) ∙ ap (λ l. c ∷ l) (take_while-append x y parts.1)
+      take_while-cons test c (x ++ y) ∙ cond-true _ _ _ parts.0 ∙ ap (λ l. c ∷ l) (take_while-append x y parts.1)
 
   pub take_while-all : (x : List ℕ) → list_all test x ≡ true → take_while test x ≡ x
   take_while-all x all = ap (take_while test) (sym (append-nil x)) ∙ take_while-append x [] all ∙ append-nil x
 
   pub take_while-stop : (x : List ℕ) (c : ℕ) (y : List ℕ) → list_all test x ≡ true → test c ≡ false → take_while test ((x ++ c ∷ []) ++ y) ≡ x
   take_while-stop x c y all fails =
-      ap (take_while test) (append_assoc x (c ∷ []) y) ∙ take_while-append x (c ∷ y) all
-      ∙ ap (λ b. x ++ take (if b then 1 + prefix_len test y else 0) (c ∷ y)) fails ∙ append-nil x
+      ap (take_while test) (append_assoc x (c ∷ []) y) ∙ take_while-append x (c ∷ y) all ∙ ap (λ l. x ++ l) (take_while-cons test c y ∙ cond-false _ _ _ fails) ∙ append-nil x
 
   -- all pass, or one is the first that does not
   pub passes_or_not : (x : List ℕ) → (list_all test x ≡ true) ⊎ Fails test x

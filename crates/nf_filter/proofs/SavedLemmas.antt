@@ -2,7 +2,7 @@
 use Rattle.std.proofs.Common.{◌≡◌, zero, suc, ℕ, ◌+◌, ◌-◌, ◌≤◌, ◌<◌, Bool, true, false, not, ◌&&◌, ◌==◌, eqb, ltb, inl, inr, List, [], ◌∷◌, ◌++◌, length, map, take, drop, encode_utf8, Option, Some, None, IfSome, if◌then◌else◌, refl, sym, ap, ◌∙◌, subst, arith, length-append, encode_utf8_all}
 use Rattle.std.proofs.lemmas.Bool.{and_parts, and_from, or_parts, eqb-true, eq-eqb, le-leb}
 use Rattle.std.proofs.lemmas.Bool.Decides.{nat_tests}
-use Rattle.std.proofs.lemmas.List.{length-map}
+use Rattle.std.proofs.lemmas.List.{length-map, nil_from_length}
 use Rattle.std.proofs.lemmas.Str.{length-le-encodes}
 use Rattle.std.proofs.Math.Seq.{take-length}
 use Rattle.std.specs.List.{list_all}
@@ -117,10 +117,6 @@ module _ (p : Properties) where
       some : (n : ℕ) → eqb n 0 ≡ false → 1 ≤ n
       some n e = grind (arith, nat_tests)
 
-nothing : (l : List ℕ) → length l ≡ 0 → l ≡ []
-nothing [] e = refl
-nothing (c ∷ l) e = absurd (omega (arith, e))
-
 none : (o : Option ℕ) → false ≡ is_some o → o ≡ None
 none None e = refl
 none (Some c) e = cc
@@ -174,7 +170,7 @@ module _ (laws : ReplacesParts) {policy : Policy} {f : Form} {p : Properties} {s
         chars = omega (arith, held, chars, taken.chars, stands.reading.offset);
         put = put;
         counted = subst (λ g. IsCounted g run state.counted.normalizer.counter) (sym taken.machine.form) (counted_by f few run_is);
-        new = λ e. new_text (nothing text (sym taken.chars ∙ e));
+        new = λ e. new_text (nil_from_length text (sym taken.chars ∙ e));
         unstarted = λ e. omega (arith, all_pending e, taken.chars, taken.put);
       }
 

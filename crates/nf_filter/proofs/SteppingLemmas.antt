@@ -1,6 +1,6 @@
 -- A step of a normalizer, and what of it went to the sink.
 use Rattle.std.proofs.Common.{◌≡◌, ℕ, ◌+◌, ◌<◌, List, [], ◌∷◌, ◌++◌, length, Some, Ok, Err, inl, inr, refl, sym, ap, ◌∙◌, subst, arith, append-nil, append_assoc, encode_utf8_all, IsUtf8, chars, length-append}
-use Rattle.std.proofs.lemmas.Str.{chars-nil, encodes-chars}
+use Rattle.std.proofs.lemmas.Str.{encodes-chars}
 use Rattle.nf_forms.specs.Properties.{Properties}
 use Rattle.nf_forms.specs.declared.form.Form.{Form}
 use Rattle.nf_forms.specs.StreamSafe.{stream_safe}
@@ -19,15 +19,7 @@ use Rattle.nf_filter.specs.Counted.{HasTaken, TakesOn, settled_text, usable_utf8
 use Rattle.nf_filter.specs.Stepping.{Standing, StandsInFront}
 use Rattle.nf_filter.proofs.BlockLemmas.{Written-at, Broken-extends}
 use Rattle.nf_filter.proofs.TextLemmas.{TakesOn-all, usable_utf8-extends, usable_utf8-stop, unusable_at-stop}
-use Rattle.nf_filter.proofs.TakingLemmas.{front-behind, front-more, front-whole}
-
--- what is left of a text has characters as long as it has bytes
-pub nothing-left : (rest : List ℕ) → length rest ≡ 0 → chars rest ≡ []
-nothing-left [] e = chars-nil
-nothing-left (b ∷ rest) e = cc
-
-pub none-left : (x front rest : List ℕ) → x ≡ front ++ chars rest → length rest ≡ 0 → front ≡ x
-none-left x front rest is none = sym (is ∙ ap (λ l. front ++ l) (nothing-left rest none) ∙ append-nil front)
+use Rattle.nf_filter.proofs.TakingLemmas.{front-behind, front-more, front-whole, nothing-left}
 
 pub first-left : (rest : List ℕ) → IsUtf8 rest → 0 < length rest → (c : ℕ) × (more : List ℕ) × (chars rest ≡ c ∷ more)
 first-left rest utf8 some = next (chars rest) (encodes-chars rest utf8)
@@ -170,9 +162,9 @@ module _ (f : Form) (p : Properties) (start : Start) where
   }
 
   -- to its end, where no boundary can follow
-  pub TakesOn-whole : (counted new : Counted) (now : BlockState) (place : List ℕ → ℕ) (x text rest : List ℕ) → length rest ≡ 0 → chars rest ≡ [] → new.normalizer ≡ counted.normalizer → new.put ≡ counted.put → new.chars ≡ length x + length (chars text)
+  pub TakesOn-whole : (counted new : Counted) (now : BlockState) (place : List ℕ → ℕ) (x text rest : List ℕ) → length rest ≡ 0 → new.normalizer ≡ counted.normalizer → new.put ≡ counted.put → new.chars ≡ length x + length (chars text)
       → StandsInFront f p counted start now x text rest → TakesOn f p new start now place (x ++ chars text) (Ok tt)
-  TakesOn-whole counted new now place x text rest none nothing same put counts here = next here.standing.stands
+  TakesOn-whole counted new now place x text rest none same put counts here = next here.standing.stands
     where
       whole : x ++ here.front ≡ x ++ chars text
       whole = ap (λ l. x ++ l) (front-whole text here.front rest here.is_front none)
@@ -186,4 +178,4 @@ module _ (f : Form) (p : Properties) (start : Start) where
             put = here.standing.put ∙ ap (λ n. length (x ++ here.front) + n) (sym put);
           })
           (record { given = here.standing.given; puts = here.standing.puts; text = inside.holds.text }))
-      next (inr between) = let begins : chars rest ≡ between.boundary.first ∷ between.boundary.rest = between.boundary.text in cc
+      next (inr between) = let begins : [] ≡ between.boundary.first ∷ between.boundary.rest = sym (nothing-left rest none) ∙ between.boundary.text in cc

@@ -1,7 +1,8 @@
 -- A text, front by front.
-use Rattle.std.proofs.Common.{◌≡◌, ℕ, ◌+◌, ◌<◌, ◌^◌, List, [], ◌∷◌, ◌++◌, length, Option, Some, refl, sym, ap, ◌∙◌, subst, arith, append-nil, append_assoc, encode_utf8, MatchOption, encode_utf8_all, IsUtf8, chars, length-append}
+use Rattle.std.proofs.Common.{◌≡◌, ℕ, ◌+◌, ◌<◌, ◌^◌, List, [], ◌∷◌, ◌++◌, length, Option, Some, refl, sym, ap, ◌∙◌, subst, arith, append-nil, append_assoc, encode_utf8, MatchOption, encode_utf8_all, IsUtf8, chars, length-append, None}
 use Rattle.std.proofs.lemmas.Str.{chars-nil, chars-append, encodes-append, encodes-chars}
 use Rattle.nf_filter.specs.Counted.{HasPlaces, IsPlacedAt}
+use Rattle.std.proofs.lemmas.List.{nil_from_length}
 
 pub front_len : (text front rest : List ℕ) → IsUtf8 text → IsUtf8 rest → chars text ≡ front ++ chars rest → length text ≡ length (encode_utf8_all front) + length rest
 front_len text front rest whole behind is =
@@ -29,6 +30,11 @@ pub chars-three : (text a b rest : List ℕ) → IsUtf8 a → IsUtf8 b → text 
 chars-three text a b rest first second is =
     ap chars is ∙ chars-append a (b ++ rest) first ∙ ap (λ l. chars a ++ l) (chars-append b rest second) ∙ sym (append_assoc (chars a) (chars b) (chars rest))
 
+-- an option that is no `Some`
+pub is_none : (o : Option ℕ) → ((c : ℕ) → ¬ (o ≡ Some c)) → o ≡ None
+is_none None none = refl
+is_none (Some c) none = absurd (none c refl)
+
 -- its first character
 pub begins : (none : Type 0) (bytes rest : List ℕ) (r : Option ℕ) (c : ℕ) → r ≡ Some c → MatchOption r none (λ d. bytes ≡ encode_utf8 d ++ rest) → bytes ≡ encode_utf8 c ++ rest
 begins none bytes rest r c is step = subst (λ o. MatchOption o none (λ d. bytes ≡ encode_utf8 d ++ rest)) is step
@@ -38,9 +44,9 @@ pub HasPlaces-all : (at : ℕ) (text : List ℕ) → IsUtf8 text → at + length
 HasPlaces-all at text utf8 fits front c rest is =
     omega (arith, fits, ap length (sym (encodes-chars text utf8) ∙ ap encode_utf8_all is ∙ encodes-append front (c ∷ rest)), length-append (encode_utf8_all front) (encode_utf8_all (c ∷ rest)))
 
-pub nothing : (w : List ℕ) → length w ≡ 0 → w ≡ []
-nothing [] e = refl
-nothing (c ∷ w) e = cc
+-- what is left of a text has characters as long as it has bytes
+pub nothing-left : (rest : List ℕ) → length rest ≡ 0 → chars rest ≡ []
+nothing-left rest none = ap chars (nil_from_length rest none) ∙ chars-nil
 
 -- a front of it behind x, a longer one, and the one behind which nothing stands
 module _ (text front rest : List ℕ) (is : chars text ≡ front ++ chars rest) where
@@ -51,4 +57,4 @@ module _ (text front rest : List ℕ) (is : chars text ≡ front ++ chars rest) 
   front-more next behind more = is ∙ ap (λ l. front ++ l) more ∙ sym (append_assoc front next (chars behind))
 
   pub front-whole : length rest ≡ 0 → front ≡ chars text
-  front-whole none = sym (is ∙ ap (λ l. front ++ l) (ap chars (nothing rest none) ∙ chars-nil) ∙ append-nil front)
+  front-whole none = sym (is ∙ ap (λ l. front ++ l) (nothing-left rest none) ∙ append-nil front)

@@ -1,4 +1,5 @@
-use Rattle.std.proofs.Common.{◌≡◌, ◌+◌, [], ◌∷◌, ◌++◌, length, Bool, true, false, is_some, refl, Some, sym, ap, ◌∙◌, encode_utf8_all}
+use Rattle.std.proofs.Common.{◌≡◌, ◌+◌, [], ◌∷◌, ◌++◌, length, true, false, is_some, refl, Some, sym, ap, ◌∙◌, encode_utf8_all}
+use Rattle.std.proofs.lemmas.Bool.{true_from_ne_false}
 use Rattle.nf_forms.specs.Sound.{is_sound}
 use Rattle.nf_safe.specs.Checker.{offset_of}
 use Rattle.nf_safe.specs.Place.{place_from}
@@ -7,10 +8,6 @@ use Rattle.nf_filter.specs.declared.taker.Stop.TheVariants.{Refused}
 use Rattle.nf_filter.proofs.ChecksLemmas.{all_sound-push, stop_place, stop_row}
 use Rattle.nf_filter.proofs.checking.see.Goals as goal
 
-is_true : (b : Bool) → ¬ (b ≡ false) → b ≡ true
-is_true true sound = refl
-is_true false sound = absurd (sound refl)
-
 pub returns-in-Ok-None-clause-offset : goal.returns-in-Ok-None-clause-offset
 returns-in-Ok-None-clause-offset g c = c.in-Ok-None.ensures.offset (ap is_some c.requires.none) (ap is_some c.in-Ok-None.field-0-is)
 
@@ -18,7 +15,7 @@ pub returns-in-Ok-None-clause-sees : goal.returns-in-Ok-None-clause-sees
 returns-in-Ok-None-clause-sees g c = λ base x y before.
     let p = g.R.Rows.properties c.args.rows.now in
     let see = c.in-Ok-None.ensures in
-    let sound : is_sound p c.args.c ≡ true = is_true _ (λ unsound. let refused = (see.refuses (ap is_some c.requires.none)).1 unsound in cc) in (
+    let sound : is_sound p c.args.c ≡ true = true_from_ne_false _ (λ unsound. let refused = (see.refuses (ap is_some c.requires.none)).1 unsound in cc) in (
       record { stands = see.stands base x before.stands; none = sym see.place ∙ c.in-Ok-None.field-0-is; sound = all_sound-push p x c.args.c before.sound sound },
       tt,
     )
@@ -27,7 +24,7 @@ pub returns-in-Ok-Some-clause-sees : goal.returns-in-Ok-Some-clause-sees
 returns-in-Ok-Some-clause-sees g c = λ base x y before.
     let p = g.R.Rows.properties c.args.rows.now in
     let see = c.in-Ok-Some.ensures in
-    let sound : is_sound p c.args.c ≡ true = is_true _ (λ unsound. let refused = (see.refuses (ap is_some c.requires.none)).1 unsound in cc) in
+    let sound : is_sound p c.args.c ≡ true = true_from_ne_false _ (λ unsound. let refused = (see.refuses (ap is_some c.requires.none)).1 unsound in cc) in
     let found : place_from base p (x ++ c.args.c ∷ []) ≡ Some c.in-Ok-Some.place = sym (see.stands base x before.stands).place ∙ sym see.place ∙ c.in-Ok-Some.field-0-is in
     (tt, stop_place p base (x ++ c.args.c ∷ []) y c.in-Ok-Some.place (all_sound-push p x c.args.c before.sound sound) found)
 

@@ -1,14 +1,13 @@
 use Rattle.std.proofs.Common.{◌<◌, length, chars, sym, ap, ◌∙◌, rules, arith, IsUtf8}
 use Rattle.std.proofs.lemmas.Str.{encodes-chars}
-use Rattle.nf_filter.proofs.SteppingLemmas.{none-left}
-use Rattle.nf_filter.proofs.TakingLemmas.{front_len}
+use Rattle.nf_filter.proofs.TakingLemmas.{front_len, front-whole}
 use Rattle.nf_filter.proofs.mending.mend_allowed.Goals as goal
 
 pub returns-then-is_empty-clause-allowed : goal.returns-then-is_empty-clause-allowed
 returns-then-is_empty-clause-allowed g c =
     let split = c.split_allowed.ensures in
     let front = c.split_allowed.result.0.now in
-    rw (sym c.mended_text.ensures) (sym split.front ∙ none-left (chars c.mended_text.result.now) (chars front) c.split_allowed.result.1.now split.whole (search rules))
+    rw (sym c.mended_text.ensures) (sym split.front ∙ front-whole c.mended_text.result.now (chars front) c.split_allowed.result.1.now split.whole (search rules))
 
 pub loop-front-smaller : goal.loop-front-smaller
 loop-front-smaller g c =

@@ -1,17 +1,14 @@
-use Rattle.std.proofs.Common.{◌≡◌, ℕ, List, [], ◌∷◌, ◌++◌, Some, None, Err, refl, sym, ◌∙◌, append_assoc, Option, chars}
+use Rattle.std.proofs.Common.{◌≡◌, ℕ, List, [], ◌∷◌, ◌++◌, None, Err, sym, ◌∙◌, append_assoc, chars}
 use Rattle.nf_forms.specs.Properties.{Properties}
 use Rattle.nf_safe.specs.declared.checker.Checker.{Checker}
 use Rattle.nf_safe.specs.Place.{place_from}
 use Rattle.nf_filter.specs.Checks.{HasChecked}
 use Rattle.nf_filter.proofs.ChecksLemmas.{TakesText-seen}
+use Rattle.nf_filter.proofs.TakingLemmas.{is_none}
 use Rattle.nf_filter.proofs.checking.CheckerTaker.take.Goals as goal
 
 no_place_yet : (p : Properties) (checker : Checker) (base : ℕ) (z : List ℕ) → HasChecked p checker base z → place_from base p z ≡ None
 no_place_yet p checker base z checked = sym checked.stands.place ∙ checked.none
-
-is_none : (o : Option ℕ) → ((c : ℕ) → ¬ (o ≡ Some c)) → o ≡ None
-is_none None none = refl
-is_none (Some c) none = absurd (none c refl)
 
 pub returns-in_default-clause-takes : goal.returns-in_default-clause-takes
 returns-in_default-clause-takes g c = λ base x before here.

@@ -5,8 +5,8 @@ use Rattle.nf_filter.specs.Counted.{TakesOn}
 use Rattle.nf_filter.specs.Policy.{allowed}
 use Rattle.nf_filter.proofs.BlockLemmas.{Written-at}
 use Rattle.nf_filter.proofs.TextLemmas.{usable_utf8-usable}
-use Rattle.nf_filter.proofs.TakingLemmas.{placed-within}
-use Rattle.nf_filter.proofs.SteppingLemmas.{Standing-taken, first-left, none-left}
+use Rattle.nf_filter.proofs.TakingLemmas.{placed-within, front-whole}
+use Rattle.nf_filter.proofs.SteppingLemmas.{Standing-taken, first-left}
 use Rattle.nf_filter.proofs.AllowingLemmas.{TakesAllowed-all, TakesAllowed-refused, TakesAllowed-unassigned}
 use Rattle.nf_filter.proofs.PolicyLemmas.{allowed-append}
 use Rattle.nf_filter.proofs.counted.Counted.take_allowed.Goals as goal
@@ -27,7 +27,7 @@ returns-then-is_empty-clause-takes g c = λ f place x start taken all here writt
     let text = c.args.text.now in
     let a = c.split_allowed.result.0.now in
     let b = c.split_allowed.result.1.now in
-    let same = none-left (chars text) (chars a) b c.split_allowed.ensures.whole (search rules) in
+    let same = front-whole text (chars a) b c.split_allowed.ensures.whole (search rules) in
     let front : allowed c.args.assigned p (x ++ chars text) ≡ x ++ chars text = allowed-append p c.args.assigned x (chars text) all ∙ ap (λ l. x ++ l) (sym c.split_allowed.ensures.front ∙ same) in
     let placed = placed-within place c.args.at x (chars text) (chars a) (chars b) c.split_allowed.ensures.whole here in
     let takes = c.in_default.ensures.takes f place x start taken.chars (Standing-taken f p start c.args.self.now _ x (chars a) taken written) placed in
@@ -71,5 +71,5 @@ overflow_add-result g c =
 pub returns-then-is_empty-clause-chars : goal.returns-then-is_empty-clause-chars
 returns-then-is_empty-clause-chars g c =
     let a = c.split_allowed.result.0.now in
-    let same = none-left (chars c.args.text.now) (chars a) c.split_allowed.result.1.now c.split_allowed.ensures.whole (search rules) in
+    let same = front-whole c.args.text.now (chars a) c.split_allowed.result.1.now c.split_allowed.ensures.whole (search rules) in
     rw same at c.in_default.ensures.chars

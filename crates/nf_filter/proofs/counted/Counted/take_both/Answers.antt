@@ -1,17 +1,13 @@
-use Rattle.std.proofs.Common.{◌≡◌, ℕ, ◌+◌, ◌≤◌, [], ◌∷◌, ◌++◌, length, refl, arith, append_assoc, Option, Some, None, Result, Ok, Err, OnOk, chars}
+use Rattle.std.proofs.Common.{◌≡◌, ℕ, ◌+◌, ◌≤◌, [], ◌∷◌, ◌++◌, length, refl, arith, append_assoc, Result, Ok, Err, OnOk, chars}
 use Rattle.std.proofs.lemmas.Str.{length-encode, len_utf8_bounds}
 use Rattle.nf_utf8.specs.Taking.{first_bytes}
 use Rattle.nf_filter.specs.declared.fault.Fault.{Fault}
 use Rattle.nf_filter.specs.Block.{block_state}
 use Rattle.nf_filter.proofs.CalmLemmas.{few}
 use Rattle.nf_filter.proofs.CharsLemmas.{utf8_len-push}
-use Rattle.nf_filter.proofs.TakingLemmas.{HasPlaces-all, placed-behind, placed-within}
+use Rattle.nf_filter.proofs.TakingLemmas.{is_none, HasPlaces-all, placed-behind, placed-within}
 use Rattle.nf_filter.proofs.AllowingLemmas.{TakesAllowed-more, TakesAllowed-settled}
 use Rattle.nf_filter.proofs.counted.Counted.take_both.Goals as goal
-
-is_none : (o : Option ℕ) → ((c : ℕ) → ¬ (o ≡ Some c)) → o ≡ None
-is_none None none = refl
-is_none (Some c) none = absurd (none c refl)
 
 pub returns-in_default-clause-takes : goal.returns-in_default-clause-takes
 returns-in_default-clause-takes g c = λ f place x start taken all here written.

@@ -3,7 +3,7 @@ use Rattle.std.proofs.lemmas.Str.{encodes-append}
 use Rattle.nf_filter.specs.Block.{block_state}
 use Rattle.nf_filter.specs.Counted.{TakesOn}
 use Rattle.nf_filter.proofs.TakingLemmas.{front_len, front-behind, front-more, placed-behind}
-use Rattle.nf_filter.proofs.SteppingLemmas.{StandsInFront-none, StandsInFront-more, TakesOn-whole, nothing-left, first-left}
+use Rattle.nf_filter.proofs.SteppingLemmas.{StandsInFront-none, StandsInFront-more, TakesOn-whole, first-left}
 use Rattle.nf_filter.proofs.counted.Counted.take_text.Goals as goal
 
 pub loop-rest-init : goal.loop-rest-init
@@ -56,7 +56,7 @@ returns-in-Err-clause-takes g c = λ f place x start counted standing here.
 pub returns-clause-takes : goal.returns-clause-takes
 returns-clause-takes g c = λ f place x start counted standing here.
     let none : length c.loop-rest.rest.now ≡ 0 = search rules in
-    TakesOn-whole f (g.R.Rows.properties c.args.rows.now) start c.loop-rest.self _ _ place x c.args.text.now c.loop-rest.rest.now none (nothing-left c.loop-rest.rest.now none) refl refl
+    TakesOn-whole f (g.R.Rows.properties c.args.rows.now) start c.loop-rest.self _ _ place x c.args.text.now c.loop-rest.rest.now none refl refl
     (omega (arith, counted, c.loop-rest.invariant.chars, c.char_count.ensures)) (c.loop-rest.invariant.stands f place x start standing here)
 
 pub overflow_add-place : goal.overflow_add-place

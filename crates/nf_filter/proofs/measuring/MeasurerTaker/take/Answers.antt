@@ -1,14 +1,11 @@
-use Rattle.std.proofs.Common.{◌≡◌, ℕ, ◌+◌, [], ◌∷◌, ◌++◌, length, Some, None, Err, refl, sym, ◌∙◌, arith, append_assoc, Option, encode_utf8_all, chars}
+use Rattle.std.proofs.Common.{◌≡◌, ◌+◌, [], ◌∷◌, ◌++◌, length, Err, sym, ◌∙◌, arith, append_assoc, encode_utf8_all, chars}
 use Rattle.std.proofs.lemmas.Str.{length-encode}
 use Rattle.nf_filter.specs.declared.fault.Fault.TheVariants.{Row}
 use Rattle.nf_filter.specs.declared.taker.Stop.TheVariants.{Refused}
 use Rattle.nf_filter.proofs.CharsLemmas.{utf8_len-push}
 use Rattle.nf_filter.proofs.MeasuresLemmas.{TakesText-seen, not_err, went_on_so, refusal_at}
+use Rattle.nf_filter.proofs.TakingLemmas.{is_none}
 use Rattle.nf_filter.proofs.measuring.MeasurerTaker.take.Goals as goal
-
-is_none : (o : Option ℕ) → ((c : ℕ) → ¬ (o ≡ Some c)) → o ≡ None
-is_none None none = refl
-is_none (Some c) none = absurd (none c refl)
 
 pub returns-in_default-clause-takes : goal.returns-in_default-clause-takes
 returns-in_default-clause-takes g c = λ base x before here.

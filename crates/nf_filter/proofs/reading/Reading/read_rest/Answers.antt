@@ -1,6 +1,6 @@
 use Rattle.std.proofs.Common.{◌≡◌, ◌<◌, length, rules, ◌∙◌, arith}
 use Rattle.nf_filter.proofs.FedLemmas.{left_of-less}
-use Rattle.nf_filter.proofs.TakingLemmas.{nothing}
+use Rattle.std.proofs.lemmas.List.{nil_from_length}
 use Rattle.nf_filter.proofs.reading.Reading.read_rest.Goals as goal
 
 pub loop-left-smaller : goal.loop-left-smaller
@@ -22,4 +22,4 @@ returns-in-Err-clause-reads g c = λ f base bytes start both. c.in-Err.ensures.r
 pub returns-clause-reads : goal.returns-clause-reads
 returns-clause-reads g c = λ f base bytes start both.
     let none : length c.loop-left.left.now ≡ 0 = search rules in
-    rw (nothing c.loop-left.left.now none) at (c.loop-left.invariant.reads f base bytes start both)
+    rw (nil_from_length c.loop-left.left.now none) at (c.loop-left.invariant.reads f base bytes start both)
