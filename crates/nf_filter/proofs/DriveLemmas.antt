@@ -13,7 +13,7 @@ use Rattle.nf_filter.specs.Settled.{settled_utf8}
 use Rattle.nf_filter.specs.Finishes.{final_utf8, Finishes}
 use Rattle.nf_filter.specs.Drives.{due_utf8, FeedsAll, Drives}
 use Rattle.nf_filter.proofs.WritesLemmas.{Puts-join, Puts-at, BreaksOff-join, BreaksOff-at}
-use Rattle.nf_filter.proofs.FilterLemmas.{write_or_kept, never_failed, failed_with_more, write_or_not}
+use Rattle.nf_filter.proofs.FilterLemmas.{failed_if}
 use Rattle.nf_filter.proofs.FeedingLemmas.{fed_by}
 
 abbrev pub refused_by : Fault → Result Tally Fault
@@ -52,7 +52,7 @@ module _ (most : ℕ) (policy : Policy) (f : Form) (p : Properties) (base : ℕ)
       read_out = feeds.read_out;
       too_long = (λ e. feeds.too_long.0 (fed_is TooLong e), λ over. refused_is TooLong (feeds.too_long.1 over));
       all_fed = λ short. feeds.all_fed (other TooLong short);
-      write = (λ e. failed_with_more (breaks e), λ both. ⊎_elim (λ is. ap Err is) (λ not. absurd (never_failed (puts (λ e. let is : fault ≡ Write = cc in not is)) both)) (write_or_not fault));
+      write = failed_if (refused_by fault) breaks puts;
       broken_off = breaks;
       written = puts;
       no_fault = ⊎_elim never (⊎_elim (λ e. feeds.no_fault (inl (fed_is Read e))) (λ e. feeds.no_fault (inr (fed_is TooLong e))));
@@ -84,7 +84,7 @@ module _ (most : ℕ) (policy : Policy) (f : Form) (p : Properties) (base : ℕ)
       read_out = feeds.read_out;
       too_long = (λ e. absurd (short e), λ over. let stop = feeds.too_long.1 over in cc);
       all_fed = λ _. feeds.all_fed (λ e. cc);
-      write = (λ e. failed_with_more (breaks_at_end e), λ both. ⊎_elim (λ is. is) (λ not. absurd (never_failed (puts_at_end not) both)) (write_or_kept r));
+      write = failed_if r breaks_at_end puts_at_end;
       broken_off = breaks_at_end;
       written = puts_at_end;
       no_fault = λ _. sym (feeds.answer (λ e. cc) (λ e. cc) (λ e. cc));

@@ -21,10 +21,11 @@ use Rattle.nf_filter.specs.Settled.{is_usable, settled_utf8}
 use Rattle.nf_filter.specs.Devices.{SinkState}
 use Rattle.nf_filter.specs.Feeds.{Feeds}
 use Rattle.nf_filter.proofs.BlockLemmas.{start_at, Written-at}
-use Rattle.nf_filter.proofs.FilterLemmas.{Feeds-broken, Feeds-put, write_or_kept}
+use Rattle.nf_filter.proofs.FilterLemmas.{failed_if, write_or_kept}
 use Rattle.nf_filter.proofs.BlockLemmas.{Broken-at}
 use Rattle.nf_filter.proofs.PolicyLemmas.{first_fault-none, taken-all}
 use Rattle.nf_filter.proofs.PieceLemmas.{IsLeft-more, left-text, left-place, left-bad, left-whole, text_under-begun, begun_at_end-begun, len_under-first}
+use Rattle.nf_filter.specs.Writes.{Puts}
 
 good_under : (r : Bool) (n : ℕ) (tail : List ℕ) → bad_byte n (ending_of tail) ≡ None → bad_under r n tail ≡ None
 good_under false n tail good = good
@@ -159,11 +160,15 @@ module _ (policy : Policy) (f : Form) (p : Properties) (base : ℕ) (laws : Repl
   -- the sink failed, or all was given
   pub fed-closed : (result : Result (Unit {0}) Fault) → GivesAll start new settled r result
       → Feeds policy f p base bytes piece sink new result × OnOk result (HasReadTo policy f p counted base reading (bytes ++ piece) [])
-  fed-closed result closed = ⊎_elim
-      (λ e. rw e (Feeds-broken policy f p base bytes piece sink new (closed.broken e), tt))
-      (λ not. (
-        Feeds-put policy f p base bytes piece sink new result not (closed.given not).0
-            (rw (closed.given not).1 (rest-answer policy f p base laws counted start now reading (bytes ++ piece) r reads (λ e. not ((closed.given not).1 ∙ e)))),
-        rw (closed.given not).1 fed-stands,
-      ))
-      (write_or_kept result)
+  fed-closed result closed = (
+    record {
+      write = failed_if result closed.broken puts;
+      broken_off = closed.broken;
+      written = puts;
+      answer = λ not. rw (closed.given not).1 (rest-answer policy f p base laws counted start now reading (bytes ++ piece) r reads (λ e. not ((closed.given not).1 ∙ e)));
+    },
+    ⊎_elim (λ e. rw e tt) (λ not. rw (closed.given not).1 fed-stands) (write_or_kept result),
+  )
+    where
+      puts : ¬ (result ≡ Err Write) → Puts sink new (settled_utf8 policy f p bytes) settled
+      puts not = (closed.given not).0

@@ -1,6 +1,5 @@
 -- What a filter answers.
-use Rattle.std.proofs.Common.{◌≡◌, ℕ, ◌+◌, ◌<◌, ◌^◌, Bool, true, false, List, [], ◌++◌, length, Some, None, Ok, Err, ◌⊎◌, inl, inr, ⊎_elim, refl, sym, ap, ◌∙◌, arith, IsTrue, Option, Result, option_map, if◌then◌else◌, length-append}
-use Rattle.std.specs.Result.{result_err}
+use Rattle.std.proofs.Common.{◌≡◌, ℕ, ◌+◌, ◌<◌, ◌^◌, Bool, true, false, List, [], ◌++◌, length, Some, None, Ok, Err, ◌⊎◌, inl, inr, ⊎_elim, refl, sym, ap, ◌∙◌, arith, IsTrue, Option, Result, option_map, if◌then◌else◌, length-append, ◌↔◌}
 use Rattle.nf_forms.specs.Properties.{Properties}
 use Rattle.nf_forms.specs.declared.form.Form.{Form}
 use Rattle.nf_utf8.specs.Reading.{text_of, ending_of}
@@ -12,22 +11,21 @@ use Rattle.nf_filter.specs.declared.taker.Stop.TheVariants.{Refused}
 use Rattle.nf_filter.specs.Devices.{SinkState}
 use Rattle.nf_filter.specs.Writes.{Puts, BreaksOff}
 use Rattle.nf_filter.specs.Policy.{as_is}
-use Rattle.nf_filter.specs.Settled.{is_usable, settled_utf8}
+use Rattle.nf_filter.specs.Settled.{is_usable}
 use Rattle.nf_filter.specs.Faults.{bad_byte, fault_in}
 use Rattle.nf_filter.specs.Counted.{unusable_at}
 use Rattle.nf_filter.specs.Measures.{unusable_stop}
 use Rattle.nf_filter.specs.Taker.{stop_or, stop_in}
-use Rattle.nf_filter.specs.Feeds.{Feeds}
 use Rattle.nf_filter.specs.Filter.{base_of, offset_of, StandsAfter}
 
 module _ {old new : SinkState} {before after : List ℕ} where
   -- a sink that stood failed was given nothing
-  pub never_failed : Puts old new before after → ¬ (IsTrue new.is_failed × (length before < length after))
+  never_failed : Puts old new before after → ¬ (IsTrue new.is_failed × (length before < length after))
   never_failed puts both =
       let nothing : puts.out ≡ [] = puts.idle (sym puts.stands ∙ both.0) in
       absurd (omega (arith, both.1, ap length puts.behind, length-append before puts.out, ap length nothing))
 
-  pub failed_with_more : BreaksOff old new before after → IsTrue new.is_failed × (length before < length after)
+  failed_with_more : BreaksOff old new before after → IsTrue new.is_failed × (length before < length after)
   failed_with_more stops = (stops.failed, omega (arith, ap length stops.behind, length-append (before ++ stops.out) stops.rest, length-append before stops.out, stops.more))
 
 -- the sink failed, or something else
@@ -45,6 +43,11 @@ pub write_or_kept : {T : Type 0} (r : Result T Fault) → (r ≡ Err Write) ⊎ 
 write_or_kept (Ok value) = inr (λ e. cc)
 write_or_kept (Err fault) = ⊎_elim (λ e. inl (ap Err e)) (λ not. inr (λ e. let is : fault ≡ Write = cc in not is)) (write_or_not fault)
 
+-- so the sink failed with more to be written where that is answered, and nowhere else
+pub failed_if : {T : Type 0} {old new : SinkState} {before after : List ℕ} (r : Result T Fault) → (r ≡ Err Write → BreaksOff old new before after) → (¬ (r ≡ Err Write) → Puts old new before after)
+    → (r ≡ Err Write) ↔ (IsTrue new.is_failed × (length before < length after))
+failed_if r breaks puts = (λ e. failed_with_more (breaks e), λ both. ⊎_elim (λ e. e) (λ not. absurd (never_failed (puts not) both)) (write_or_kept r))
+
 -- what stops a taker that is refused what a filter is
 pub stop_in-fault : (p : Properties) (base : ℕ) (bytes : List ℕ) → stop_in (unusable_stop p base) base bytes ≡ option_map Refused (fault_in as_is p base bytes)
 unfolding unusable_at fault_in
@@ -53,25 +56,6 @@ stop_in-fault p base bytes = next (is_usable p (text_of bytes)) (bad_byte base (
     next : (b : Bool) (o : Option Fault) (row : Fault) → stop_or (option_map Refused (if b then None else Some row)) o ≡ option_map Refused (if b then o else Some row)
     next true o row = refl
     next false o row = refl
-
--- what feeding answers, by what was written
-module _ (policy : Policy) (f : Form) (p : Properties) (base : ℕ) (bytes piece : List ℕ) (old new : SinkState) where
-  pub Feeds-broken : BreaksOff old new (settled_utf8 policy f p bytes) (settled_utf8 policy f p (bytes ++ piece)) → Feeds policy f p base bytes piece old new (Err Write)
-  Feeds-broken breaks = record {
-    write = (λ _. failed_with_more breaks, λ _. refl);
-    broken_off = λ _. breaks;
-    written = λ no. absurd (no refl);
-    answer = λ no. absurd (no refl);
-  }
-
-  pub Feeds-put : (r : Result (Unit {0}) Fault) → ¬ (r ≡ Err Write) → Puts old new (settled_utf8 policy f p bytes) (settled_utf8 policy f p (bytes ++ piece)) → result_err r ≡ fault_in policy p base (bytes ++ piece)
-      → Feeds policy f p base bytes piece old new r
-  Feeds-put r not puts answer = record {
-    write = (λ e. absurd (not e), λ both. absurd (never_failed puts both));
-    broken_off = λ e. absurd (not e);
-    written = λ _. puts;
-    answer = λ _. answer;
-  }
 
 -- what a filter that stands after bytes says of them
 module _ {policy : Policy} {f : Form} {p : Properties} {state : State} {bytes : List ℕ} (stands : StandsAfter policy f p state bytes) where

@@ -1,6 +1,5 @@
 -- What was written to the end is the form of the longest pieces, joined.
-use Rattle.std.proofs.Common.{◌≡◌, ℕ, ◌+◌, Bool, true, false, List, [], length, None, Ok, sym, ap, ◌∙◌, arith, ⊎_elim, encode_utf8_all}
-use Rattle.std.proofs.lemmas.Bool.{and_parts, eqb-true}
+use Rattle.std.proofs.Common.{◌≡◌, ℕ, ◌+◌, Bool, true, false, List, None, Ok, ap, ◌∙◌, encode_utf8_all}
 use Rattle.nf_forms.specs.Properties.{Properties}
 use Rattle.nf_forms.specs.declared.form.Form.{Form}
 use Rattle.nf_forms.specs.Forms.{normal_form}
@@ -10,12 +9,12 @@ use Rattle.nf_forms.specs.Laws.Sound.{IsSoundText}
 use Rattle.nf_safe.specs.Laws.Pieces.{cut-some, sound-source, stream_safe-cut, stream_safe-in_format}
 use Rattle.nf_filter.specs.declared.policy.Policy.{Policy}
 use Rattle.nf_filter.specs.declared.tally.Tally.{Tally}
-use Rattle.nf_filter.specs.Policy.{allowed, len_under, text_under, whole_under}
+use Rattle.nf_filter.specs.Policy.{len_under, text_under, whole_under}
 use Rattle.nf_filter.specs.Settled.{is_usable}
 use Rattle.nf_filter.specs.Faults.{bad_under, first_fault, fault_in}
 use Rattle.nf_filter.specs.Finishes.{tally_of, end_under, end_of, is_taken, final_utf8}
 use Rattle.nf_filter.specs.Joined.{JoinsPieces}
-use Rattle.nf_filter.proofs.PolicyLemmas.{allowed-grows}
+use Rattle.nf_filter.proofs.PolicyLemmas.{taken_whole}
 use Rattle.nf_filter.proofs.AgainLemmas.{none_told, taken, final-whole}
 
 module _ (p : Properties) (base : ℕ) (bytes : List ℕ) (tally : Tally) where
@@ -24,20 +23,11 @@ module _ (p : Properties) (base : ℕ) (bytes : List ℕ) (tally : Tally) where
   taken-whole false assigned none end = taken p assigned _ (whole_under false bytes) _ none
   taken-whole true assigned none end = taken p assigned _ (whole_under true bytes) None (none_told _ (tally_of true p bytes) tally end)
 
-  -- what is taken has sound characters alone
-  sound-taken : (assigned : Bool) (x : List ℕ) → is_taken assigned p x ≡ true → IsSoundText p (stream_safe p x)
-  unfolding is_usable
-  sound-taken assigned x is =
-      let parts = and_parts (is_usable p (allowed assigned p x)) _ is in
-      let same : length (allowed assigned p x) ≡ length x = eqb-true _ _ parts.1 in
-      let all : allowed assigned p x ≡ x = ⊎_elim (λ all. all) (λ few. absurd (omega (arith, few.0, same))) (allowed-grows p assigned x []) in
-      ap (is_usable p) (sym all) ∙ parts.0
-
   pub joins_pieces : (policy : Policy) (f : Form) → fault_in policy p base bytes ≡ None → end_of policy p base bytes ≡ Ok tally → JoinsPieces policy f p bytes
-  unfolding fault_in end_of safe_form
+  unfolding fault_in end_of safe_form is_usable
   joins_pieces policy f none end =
       let x = whole_under policy.replace bytes in
-      let sound = sound-taken policy.assigned x (taken-whole policy.replace policy.assigned none end) in
+      let sound : IsSoundText p (stream_safe p x) = (taken_whole p policy.assigned x (taken-whole policy.replace policy.assigned none end)).0 in
       let cut = cut-some p x (sound-source p x sound) in
       let whole : final_utf8 policy f p bytes ≡ encode_utf8_all (normal_form f p (stream_safe p x)) = final-whole p base bytes tally f policy end in
       record {

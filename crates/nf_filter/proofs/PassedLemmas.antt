@@ -9,10 +9,7 @@ use Rattle.std.proofs.lemmas.Str.{chars-nil, chars-append, chars_past_char, IsUt
 use Rattle.nf_forms.specs.Properties.{Properties}
 use Rattle.nf_filter.specs.Passed.{IsBehindAssigned}
 use Rattle.nf_filter.proofs.PolicyLemmas.{take_while-append, take_while-stop}
-
-empty-nil : (l : List ℕ) → length l ≡ 0 → l ≡ []
-empty-nil [] e = refl
-empty-nil (x ∷ l) e = absurd (omega (arith, e))
+use Rattle.nf_filter.proofs.TakingLemmas.{nothing-left}
 
 module _ (p : Properties) where
   pub none_behind : (text : List ℕ) → IsUtf8 text → IsBehindAssigned p text text
@@ -55,9 +52,7 @@ module _ (p : Properties) where
 
   -- where nothing is left, and where a character that is not assigned stands next
   pub ends : (text rest : List ℕ) → IsBehindAssigned p text rest → length rest ≡ 0 → length text ≡ length (encode_utf8_all (take_while p.assigned (chars text)))
-  ends text rest here empty =
-      let gone : rest ≡ [] = empty-nil rest empty in
-      omega (arith, stops text rest here (ap (λ t. take_while p.assigned (chars t)) gone ∙ ap (take_while p.assigned) chars-nil), empty)
+  ends text rest here empty = omega (arith, stops text rest here (ap (take_while p.assigned) (nothing-left rest empty)), empty)
 
   pub stops_before : (text rest : List ℕ) → IsBehindAssigned p text rest → (c : ℕ) (more : List ℕ) → rest ≡ encode_utf8 c ++ more → p.assigned c ≡ false
       → length text - length rest ≡ length (encode_utf8_all (take_while p.assigned (chars text)))

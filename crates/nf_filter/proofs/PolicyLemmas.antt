@@ -1,7 +1,7 @@
 -- How far a text is taken under a policy.
 use Rattle.std.proofs.Common.{◌≡◌, ℕ, ◌+◌, ◌==◌, ◌<◌, Bool, true, false, List, [], ◌∷◌, ◌++◌, length, Option, Some, None, ◌⊎◌, inl, inr, ⊎_elim, refl, sym, ap, ◌∙◌, subst, arith, append-nil, append_assoc, eq-eqb, ne_eqb, take_while, if◌then◌else◌, length-append}
 use Rattle.std.specs.List.{list_all}
-use Rattle.std.proofs.lemmas.Bool.{and_parts, and_from, cond-true, cond-false}
+use Rattle.std.proofs.lemmas.Bool.{and_parts, and_from, cond-true, cond-false, eqb-true}
 use Rattle.nf_forms.specs.Properties.{Properties}
 use Rattle.nf_forms.specs.declared.form.Form.{Form}
 use Rattle.nf_filter.specs.declared.fault.Fault.{Fault}
@@ -12,6 +12,7 @@ use Rattle.nf_filter.specs.Policy.{allowed}
 use Rattle.nf_filter.specs.Settled.{settled, is_usable, usable}
 use Rattle.nf_normalizer.specs.Laws.Settled.{Extends, Extends-none, Extends-encodes, settled-extends, is_usable-stays_out, usable-all, usable-grows, usable-stays}
 use Rattle.std.proofs.lemmas.List.Sums.{take_while-cons}
+use Rattle.nf_filter.specs.Finishes.{is_taken}
 
 -- the first character of a text that does not pass a test
 pub record Fails (test : ℕ → Bool) (x : List ℕ) : Type 0 where
@@ -80,6 +81,13 @@ module _ (p : Properties) where
   first_fault-none true place x other sound all =
       ap (λ (b : Bool). if b then (if length (allowed true p x) == length x then other else Some (Unassigned (place (allowed true p x)))) else Some (Row (place (usable p (allowed true p x))))) (ap (is_usable p) all ∙ sound)
       ∙ ap (λ (b : Bool). if b then other else Some (Unassigned (place (allowed true p x)))) (eq-eqb _ _ (ap length all))
+
+  -- what is taken to its end
+  pub taken_whole : (a : Bool) (x : List ℕ) → is_taken a p x ≡ true → (is_usable p x ≡ true) × (allowed a p x ≡ x)
+  taken_whole a x is =
+      let parts = and_parts (is_usable p (allowed a p x)) _ is in
+      let all : allowed a p x ≡ x = ⊎_elim (λ all. all) (λ few. absurd (omega (arith, few.0, eqb-true _ _ parts.1))) (allowed-grows a x []) in
+      (ap (is_usable p) (sym all) ∙ parts.0, all)
 
   -- what was not taken stays so, whatever follows
   pub first_fault-stays : (a : Bool) (place : List ℕ → ℕ) (x y : List ℕ) (other : Option Fault) (fault : Fault) → Some fault ≡ first_fault a p place x None

@@ -22,10 +22,11 @@ use Rattle.nf_filter.specs.Feeds.{Feeds}
 use Rattle.nf_filter.specs.Whole.{IsFormOf, IsOfWhole, fault_or, whole_answer, whole_utf8, Converts}
 use Rattle.nf_filter.specs.Laws.Settled.{settled_utf8-none}
 use Rattle.nf_filter.specs.Laws.Soundness.{AreSound, RefusesNone}
-use Rattle.nf_filter.proofs.WritesLemmas.{Puts-join, Puts-at, BreaksOff-join, BreaksOff-at, BreaksOff-longer}
+use Rattle.nf_filter.proofs.WritesLemmas.{Puts-join, Puts-at, BreaksOff-join, BreaksOff-at}
 use Rattle.nf_normalizer.specs.Laws.Settled.{Extends, Extends-none, Extends-encodes, usable-all}
-use Rattle.nf_filter.proofs.FilterLemmas.{never_failed, failed_with_more, write_or_not}
+use Rattle.nf_filter.proofs.FilterLemmas.{failed_if, write_or_not}
 use Rattle.nf_filter.proofs.SoundnessLemmas.{not_at_end, not_a_fault}
+use Rattle.nf_filter.proofs.BlockLemmas.{BreaksOff-extends}
 
 -- what ends with no fault, and has none before, is whole
 is_whole : {A B : Type 0} (value : A) (b : B) (e : Ending) (usable : Bool) (at : ℕ) (told : A) → answer_at_end 0 value e ≡ Ok told → (if usable then bad_byte 0 e else Some (Row at)) ≡ None → e ≡ Whole
@@ -71,7 +72,7 @@ module _ (f : Form) (p : Properties) where
   unfolding final_utf8
   final_is bytes end = ap (λ e. whole_or e (settled_utf8 as_is f p bytes) (encode_utf8_all (safe_form f p (text_of bytes)))) end
 
-  settled-whole : (x : List ℕ) → Extends (settled f p x) (safe_form f p x)
+  pub settled-whole : (x : List ℕ) → Extends (settled f p x) (safe_form f p x)
   unfolding settled
   settled-whole x = record { more = back p (safe_form f p x); text = sym (front-append-back p (safe_form f p x)) }
 
@@ -113,38 +114,18 @@ module _ (f : Form) (p : Properties) where
     answer_without told = rw (← told) refl
 
     module _ (old new : SinkState) where
-      Converts-broken : BreaksOff old new [] (whole_utf8 f p bytes) → Converts f p bytes old new (Err Write)
-      Converts-broken breaks = record {
-        write = (λ _. failed_with_more breaks, λ _. refl);
-        broken_off = λ _. breaks;
-        written = λ other. absurd (other refl);
-        answer = λ other. absurd (other refl);
-      }
-
-      Converts-put : (r : Result Tally Fault) → ¬ (r ≡ Err Write) → Puts old new [] (whole_utf8 f p bytes) → r ≡ whole_answer p bytes → Converts f p bytes old new r
-      Converts-put r other puts answer = record {
-        write = (λ w. absurd (other w), λ both. absurd (never_failed puts both));
-        broken_off = λ w. absurd (other w);
-        written = λ _. puts;
-        answer = λ _. answer;
-      }
+      Converts-of : (r : Result Tally Fault) → (r ≡ Err Write → BreaksOff old new [] (whole_utf8 f p bytes)) → (¬ (r ≡ Err Write) → Puts old new [] (whole_utf8 f p bytes) × (r ≡ whole_answer p bytes))
+          → Converts f p bytes old new r
+      Converts-of r breaks puts = record { write = failed_if r breaks (λ not. (puts not).0); broken_off = breaks; written = λ not. (puts not).0; answer = λ not. (puts not).1 }
 
       -- feeding was refused
       pub Converts-refused : (fault : Fault) → Feeds as_is f p 0 [] bytes old new (Err fault) → Converts f p bytes old new (Err fault)
-      Converts-refused fault feeds = ⊎_elim broken other (write_or_not fault)
-        where
-          broken : fault ≡ Write → Converts f p bytes old new (Err fault)
-          broken is =
-              let breaks = BreaksOff-at (settled_utf8-none as_is f p) refl (feeds.broken_off (ap (λ k. Err k) is)) in
-              let all = subst (BreaksOff old new []) (sym whole-extends.text) (BreaksOff-longer whole-extends.more breaks) in
-              subst (λ (k : Fault). Converts f p bytes old new (Err k)) (sym is) (Converts-broken all)
-
-          other : ¬ (fault ≡ Write) → Converts f p bytes old new (Err fault)
-          other not =
-              let no : ¬ (let r : Result (Unit {0}) Fault = Err fault in r ≡ Err Write) = λ w. not (let same : fault ≡ Write = cc in same) in
-              let told = feeds.answer no in
-              Converts-put (Err fault) (λ w. not (let same : fault ≡ Write = cc in same))
-              (Puts-at (settled_utf8-none as_is f p) (at_fault fault told) (feeds.written no)) (answer_at fault told)
+      Converts-refused fault feeds = Converts-of (Err fault)
+          (λ e. BreaksOff-extends whole-extends (BreaksOff-at (settled_utf8-none as_is f p) refl (feeds.broken_off (let is : fault ≡ Write = cc in ap Err is))))
+          (λ not.
+          let kept : ¬ (let r : Result (Unit {0}) Fault = Err fault in r ≡ Err Write) = λ e. not (let is : fault ≡ Write = cc in ap Err is) in
+          let told = feeds.answer kept in
+          (Puts-at (settled_utf8-none as_is f p) (at_fault fault told) (feeds.written kept), answer_at fault told))
 
     -- feeding was not
     module _ (old mid new : SinkState) (feeds : Feeds as_is f p 0 [] bytes old mid (Ok tt)) where
@@ -154,16 +135,9 @@ module _ (f : Form) (p : Properties) where
       none : None ≡ fault_in as_is p 0 bytes
       none = feeds.answer (λ w. cc)
 
-      finished : (r : Result Tally Fault) → ¬ (r ≡ Err Write) → Finishes as_is f p 0 bytes mid new r → Converts f p bytes old new r
-      finished r other finishes = Converts-put old new r other (Puts-at refl (without none) (Puts-join fed (finishes.written other))) (finishes.answer other ∙ answer_without none)
-
       pub Converts-finished : (r : Result Tally Fault) → Finishes as_is f p 0 bytes mid new r → Converts f p bytes old new r
-      Converts-finished (Ok tally) finishes = finished (Ok tally) (λ w. cc) finishes
-      Converts-finished (Err fault) finishes = ⊎_elim broken (λ not. finished (Err fault) (λ w. not (let same : fault ≡ Write = cc in same)) finishes) (write_or_not fault)
-        where
-          broken : fault ≡ Write → Converts f p bytes old new (Err fault)
-          broken is = subst (λ (k : Fault). Converts f p bytes old new (Err k)) (sym is)
-              (Converts-broken old new (BreaksOff-at refl (without none) (BreaksOff-join fed (finishes.broken_off (ap (λ k. Err k) is)))))
+      Converts-finished r finishes = Converts-of old new r (λ e. BreaksOff-at refl (without none) (BreaksOff-join fed (finishes.broken_off e)))
+          (λ not. (Puts-at refl (without none) (Puts-join fed (finishes.written not)), finishes.answer not ∙ answer_without none))
 
     -- the faults that may be answered
     module _ (old new : SinkState) where
