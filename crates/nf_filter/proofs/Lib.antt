@@ -24,7 +24,6 @@ pub mod ChecksLemmas
 pub mod MeasuresLemmas
 pub mod SoundnessLemmas
 pub mod MendingLemmas
-pub mod AssignedLemmas
 pub mod WholeLemmas
 pub mod AgainLemmas
 pub mod JoinedLemmas

@@ -1,5 +1,5 @@
--- Where each character is sound, none is refused.
-use Rattle.std.proofs.Common.{◌≡◌, ℕ, ◌+◌, Bool, true, false, ◌&&◌, List, [], ◌∷◌, ◌++◌, length, ◌==◌, Option, Some, None, Result, Err, refl, sym, ap, ◌∙◌, encode_utf8_all, option_map, if◌then◌else◌}
+-- Where each character is sound, none is refused, and where characters that are not assigned are taken, none for that.
+use Rattle.std.proofs.Common.{◌≡◌, ℕ, ◌+◌, Bool, true, false, ◌&&◌, List, [], ◌∷◌, ◌++◌, length, ◌==◌, Option, Some, None, Result, Err, refl, sym, ap, ◌∙◌, encode_utf8_all, option_map, if◌then◌else◌, subst}
 use Rattle.std.specs.Result.{result_err}
 use Rattle.std.specs.List.{list_all}
 use Rattle.nf_forms.specs.Properties.{Properties}
@@ -11,13 +11,13 @@ use Rattle.nf_utf8.specs.Reading.{text_of, ending_of}
 use Rattle.nf_safe.specs.declared.place.Place.{Place}
 use Rattle.nf_safe.specs.Place.{place_from}
 use Rattle.nf_filter.specs.declared.fault.Fault.{Fault}
-use Rattle.nf_filter.specs.declared.fault.Fault.TheVariants.{Row, Unassigned}
+use Rattle.nf_filter.specs.declared.fault.Fault.TheVariants.{BadByte, Cut as CutShort, Read, Row, TooLong, Unassigned, Write}
 use Rattle.nf_filter.specs.declared.policy.Policy.{Policy}
 use Rattle.nf_filter.specs.declared.tally.Tally.{Tally}
 use Rattle.nf_filter.specs.Devices.{SinkState, SourceState}
 use Rattle.nf_filter.specs.Settled.{is_usable, usable}
 use Rattle.nf_filter.specs.Faults.{answer_at_end, bad_byte, bad_under, first_fault, fault_in}
-use Rattle.nf_filter.specs.Finishes.{tally_of, answer_or, end_under, end_of}
+use Rattle.nf_filter.specs.Finishes.{tally_of, answer_or, end_under, end_of, Finishes}
 use Rattle.nf_filter.specs.Policy.{as_is, allowed, len_under, text_under, whole_under}
 use Rattle.nf_filter.specs.Feeds.{Feeds}
 use Rattle.nf_filter.specs.Drives.{Drives}
@@ -25,17 +25,58 @@ use Rattle.nf_filter.specs.Surveys.{Surveys}
 use Rattle.nf_filter.specs.Checks.{sound_front, check_fault, place_or_fault, check_decision}
 use Rattle.nf_filter.specs.Measures.{measure_decision}
 use Rattle.nf_filter.specs.Laws.Soundness.{AreSound}
+use Rattle.nf_filter.specs.Kinds.{row, unassigned, IsAmong}
 
 -- neither the end nor a bad byte refuses a character
-pub not_at_end : {T : Type 0} (base at : ℕ) (value : T) (e : Ending) → ¬ (answer_at_end base value e ≡ Err (Row at))
-not_at_end base at value Whole e = cc
-not_at_end base at value (Bad a start) e = cc
-not_at_end base at value (Cut a start) e = cc
+module _ (refusal : Fault) (is : IsAmong (row ∷ unassigned ∷ []) refusal) where
+  apart : (fault : Fault) → fault ≡ refusal → IsAmong (row ∷ unassigned ∷ []) fault
+  apart fault same = subst (IsAmong (row ∷ unassigned ∷ [])) (sym same) is
 
-not_bad_byte : (base at : ℕ) (e : Ending) → ¬ (bad_byte base e ≡ Some (Row at))
-not_bad_byte base at Whole e = cc
-not_bad_byte base at (Bad a start) e = cc
-not_bad_byte base at (Cut a start) e = cc
+  pub not_at_end : {T : Type 0} (base : ℕ) (value : T) (e : Ending) → ¬ (answer_at_end base value e ≡ Err refusal)
+  not_at_end base value Whole e = cc
+  not_at_end base value (Bad at start) e = cc
+  not_at_end base value (Cut at start) e = apart (CutShort (base + at) (base + start)) cc
+
+  not_bad_byte : (base : ℕ) (e : Ending) → ¬ (bad_byte base e ≡ Some refusal)
+  not_bad_byte base Whole e = cc
+  not_bad_byte base (Bad at start) e = apart (BadByte (base + at) (base + start)) cc
+  not_bad_byte base (Cut at start) e = cc
+
+  -- nor do bytes, where no text does
+  module _ (p : Properties) (base : ℕ) (policy : Policy)
+      (not_in : (place : List ℕ → ℕ) (x : List ℕ) (other : Option Fault) → ¬ (other ≡ Some refusal) → ¬ (first_fault policy.assigned p place x other ≡ Some refusal)) where
+    not_in_bytes : (bytes : List ℕ) → ¬ (fault_in policy p base bytes ≡ Some refusal)
+    unfolding fault_in
+    not_in_bytes bytes = not_in (λ front. base + len_under policy.replace bytes front) (text_under policy.replace bytes) (bad_under policy.replace base bytes) (not_bad policy.replace)
+      where
+        not_bad : (replace : Bool) → ¬ (bad_under replace base bytes ≡ Some refusal)
+        not_bad false e = not_bad_byte base (ending_of bytes) e
+        not_bad true e = cc
+
+    not_in_all : (bytes : List ℕ) → ¬ (end_of policy p base bytes ≡ Err refusal)
+    unfolding end_of
+    not_in_all bytes = by_replace policy.replace
+      where
+        told : (o : Option Fault) (tally : Tally) → ¬ (o ≡ Some refusal) → ¬ (answer_or o tally ≡ Err refusal)
+        told None tally not e = cc
+        told (Some fault) tally not e = not (let same : fault ≡ refusal = cc in ap Some same)
+
+        by_replace : (replace : Bool) → ¬ (end_under replace policy.assigned p base bytes ≡ Err refusal)
+        by_replace false e = not_at_end base (tally_of false p bytes) (ending_of bytes) e
+        by_replace true e = told _ (tally_of true p bytes) (not_in (λ front. base + len_under true bytes front) (whole_under true bytes) None (λ e. cc)) e
+
+    pub never_fed : (f : Form) (bytes piece : List ℕ) (old new : SinkState) (result : Result (Unit {0}) Fault) → Feeds policy f p base bytes piece old new result → ¬ (result ≡ Err refusal)
+    never_fed f bytes piece old new result feeds refused = not_in_bytes (bytes ++ piece) (sym (feeds.answer (λ e. apart Write cc)) ∙ ap result_err refused)
+
+    pub never_finished : (f : Form) (bytes : List ℕ) (old new : SinkState) (result : Result Tally Fault) → Finishes policy f p base bytes old new result → ¬ (result ≡ Err refusal)
+    never_finished f bytes old new result finishes refused = not_in_all bytes (sym (finishes.answer (λ e. apart Write cc)) ∙ refused)
+
+    pub never_driven : (most : ℕ) (f : Form) (bytes : List ℕ) (source left : SourceState) (old new : SinkState) (result : Result Tally Fault) → Drives most policy f p base bytes source left old new result → ¬ (result ≡ Err refusal)
+    never_driven most f bytes source left old new result drives refused = by_end left.is_at_end refl
+      where
+        by_end : (b : Bool) → left.is_at_end ≡ b → ⊥
+        by_end true end = not_in_all (bytes ++ drives.fed) (sym (drives.finished end (λ e. apart Write cc)) ∙ refused)
+        by_end false end = not_in_bytes (bytes ++ drives.fed) (sym (drives.stopped end (λ e. apart Write cc) (λ e. apart Read cc) (λ e. apart TooLong cc)).1 ∙ ap result_err refused)
 
 unmapped : {T : Type 0} (fault : Fault) (o : Option Fault) → option_map (λ g. let r : Result T Fault = Err g in r) o ≡ Some (Err fault) → o ≡ Some fault
 unmapped fault (Some other) e = cc
@@ -57,7 +98,7 @@ module _ (p : Properties) (sound : AreSound p) where
 
 module _ (p : Properties) (sound : AreSound p) (base at : ℕ) where
   -- nor does a text
-  not_in_text : (assigned : Bool) (place : List ℕ → ℕ) (x : List ℕ) (other : Option Fault) → ¬ (other ≡ Some (Row at)) → ¬ (first_fault assigned p place x other ≡ Some (Row at))
+  pub not_in_text : (assigned : Bool) (place : List ℕ → ℕ) (x : List ℕ) (other : Option Fault) → ¬ (other ≡ Some (Row at)) → ¬ (first_fault assigned p place x other ≡ Some (Row at))
   not_in_text false place x other not e = not (sym (ap (λ u. if u then other else Some (Row (place (usable p x)))) (usable_is p sound x)) ∙ e)
   not_in_text true place x other not e = next (length (allowed true p x) == length x) (sym (first_fault-assigned p sound place x other) ∙ e)
     where
@@ -66,28 +107,14 @@ module _ (p : Properties) (sound : AreSound p) (base at : ℕ) where
       next false e = cc
 
   pub not_a_fault : (policy : Policy) (bytes : List ℕ) → ¬ (fault_in policy p base bytes ≡ Some (Row at))
-  unfolding fault_in
-  not_a_fault policy bytes = not_in_text policy.assigned (λ front. base + len_under policy.replace bytes front) (text_under policy.replace bytes) (bad_under policy.replace base bytes) (not_bad policy.replace)
-    where
-      not_bad : (replace : Bool) → ¬ (bad_under replace base bytes ≡ Some (Row at))
-      not_bad false e = not_bad_byte base at (ending_of bytes) e
-      not_bad true e = cc
+  not_a_fault policy = not_in_bytes (Row at) tt p base policy (not_in_text policy.assigned)
 
   pub not_in_end : (policy : Policy) (bytes : List ℕ) → ¬ (end_of policy p base bytes ≡ Err (Row at))
-  unfolding end_of
-  not_in_end policy bytes = by_replace policy.replace
-    where
-      told : (o : Option Fault) (tally : Tally) → ¬ (o ≡ Some (Row at)) → ¬ (answer_or o tally ≡ Err (Row at))
-      told None tally not e = cc
-      told (Some fault) tally not e = not (let same : fault ≡ Row at = cc in ap Some same)
-
-      by_replace : (replace : Bool) → ¬ (end_under replace policy.assigned p base bytes ≡ Err (Row at))
-      by_replace false e = not_at_end base at (tally_of false p bytes) (ending_of bytes) e
-      by_replace true e = told _ (tally_of true p bytes) (not_in_text policy.assigned (λ front. base + len_under true bytes front) (whole_under true bytes) None (λ e. cc)) e
+  not_in_end policy = not_in_all (Row at) tt p base policy (not_in_text policy.assigned)
 
   not_a_check_fault : (bytes : List ℕ) → ¬ (check_fault p base bytes ≡ Some (Row at))
   unfolding check_fault
-  not_a_check_fault bytes e = not_bad_byte base at (ending_of bytes)
+  not_a_check_fault bytes e = not_bad_byte (Row at) tt base (ending_of bytes)
       (sym (ap (λ u. if u then bad_byte base (ending_of bytes) else Some (Row (base + length (encode_utf8_all (sound_front p (text_of bytes)))))) (all_sound p sound (text_of bytes))) ∙ e)
 
   pub not_checked : (bytes : List ℕ) → ¬ (check_decision p base bytes ≡ Some (Err (Row at)))
@@ -102,17 +129,7 @@ module _ (p : Properties) (sound : AreSound p) (base at : ℕ) where
   not_measured bytes e = not_a_fault as_is bytes (unmapped (Row at) (fault_in as_is p base bytes) e)
 
   pub not_fed : (policy : Policy) (f : Form) (bytes piece : List ℕ) (old new : SinkState) (result : Result (Unit {0}) Fault) → Feeds policy f p base bytes piece old new result → ¬ (result ≡ Err (Row at))
-  not_fed policy f bytes piece old new result feeds refused = not_a_fault policy (bytes ++ piece) (sym (feeds.answer (λ e. cc)) ∙ ap result_err refused)
-
-  pub not_driven : (most : ℕ) (policy : Policy) (f : Form) (bytes : List ℕ) (source left : SourceState) (old new : SinkState) (result : Result Tally Fault) → Drives most policy f p base bytes source left old new result → ¬ (result ≡ Err (Row at))
-  not_driven most policy f bytes source left old new result drives refused = by_end left.is_at_end refl
-    where
-      read : List ℕ
-      read = bytes ++ drives.fed
-
-      by_end : (b : Bool) → left.is_at_end ≡ b → ⊥
-      by_end true end = not_in_end policy read (sym (drives.finished end (λ e. cc)) ∙ refused)
-      by_end false end = not_a_fault policy read (sym (drives.stopped end (λ e. cc) (λ e. cc) (λ e. cc)).1 ∙ ap result_err refused)
+  not_fed policy = never_fed (Row at) tt p base policy (not_in_text policy.assigned)
 
 -- a survey whose decision is none
 pub not_surveyed : {T : Type 0} (most base at : ℕ) (decision : List ℕ → Option (Result T Fault)) (value : List ℕ → T) (source left : SourceState) (result : Result T Fault)
@@ -120,5 +137,15 @@ pub not_surveyed : {T : Type 0} (most base at : ℕ) (decision : List ℕ → Op
 not_surveyed most base at decision value source left result undecided surveys refused = by_end left.is_at_end refl
   where
     by_end : (b : Bool) → left.is_at_end ≡ b → ⊥
-    by_end true end = not_at_end base at (value surveys.before) (ending_of surveys.before) (sym (surveys.ended end).1 ∙ refused)
+    by_end true end = not_at_end (Row at) tt base (value surveys.before) (ending_of surveys.before) (sym (surveys.ended end).1 ∙ refused)
     by_end false end = undecided (surveys.before ++ surveys.last) (surveys.decided end (λ e. cc) (λ e. cc) ∙ ap Some refused)
+
+-- where characters that are not assigned are taken, no text is refused for that
+pub not_unassigned : (p : Properties) (at : ℕ) (assigned : Bool) → assigned ≡ false → (place : List ℕ → ℕ) (x : List ℕ) (other : Option Fault) → ¬ (other ≡ Some (Unassigned at))
+    → ¬ (first_fault assigned p place x other ≡ Some (Unassigned at))
+not_unassigned p at true all place x other not e = cc
+not_unassigned p at false all place x other not e = next (is_usable p x) e
+  where
+    next : (b : Bool) → ¬ ((if b then other else Some (Row (place (usable p x)))) ≡ Some (Unassigned at))
+    next true e = not e
+    next false e = cc

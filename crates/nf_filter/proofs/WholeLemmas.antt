@@ -64,7 +64,7 @@ module _ (p : Properties) where
   whole_answer-sound sound bytes at = next (fault_in as_is p 0 bytes) refl
     where
       next : (o : Option Fault) → fault_in as_is p 0 bytes ≡ o → ¬ (fault_or o (answer_at_end 0 (tally_of false p bytes) (ending_of bytes)) ≡ Err (Row at))
-      next None told e = not_at_end 0 at (tally_of false p bytes) (ending_of bytes) e
+      next None told e = not_at_end (Row at) tt 0 (tally_of false p bytes) (ending_of bytes) e
       next (Some fault) told e = not_a_fault p sound 0 at as_is bytes (told ∙ ap Some (let same : fault ≡ Row at = cc in same))
 
 module _ (f : Form) (p : Properties) where
