@@ -16,7 +16,7 @@ use Rattle.nf_filter.specs.declared.fault.Fault.TheVariants.{BadByte, Write}
 use Rattle.nf_filter.specs.declared.counted.Counted.{Counted}
 use Rattle.nf_filter.specs.declared.policy.Policy.{Policy}
 use Rattle.nf_filter.specs.declared.reading.Reading.{Reading}
-use Rattle.nf_filter.specs.Block.{Start, BlockState}
+use Rattle.nf_filter.specs.Block.{Start, BlockState, Written}
 use Rattle.nf_filter.specs.Faults.{bad_byte, bad_under, first_fault, fault_in}
 use Rattle.nf_filter.specs.Feeding.{taken_utf8, TakesAllowed, IsLeft, HasReadTo, ReadsTo, RefusesBytes}
 use Rattle.nf_filter.specs.Counted.{HasTaken, IsPlacedAt, settled_text}
@@ -57,15 +57,14 @@ pub part_len_of-rest : (at back : ℕ) → ¬ (back ≡ 0) → part_len_of at ba
 part_len_of-rest at zero not = absurd (not refl)
 part_len_of-rest at (suc back) not = refl
 
-pub part_len_of-bounds : (at back : ℕ) → (at ≤ part_len_of at back) × (part_len_of at back ≤ at + 1)
+part_len_of-bounds : (at back : ℕ) → (at ≤ part_len_of at back) × (part_len_of at back ≤ at + 1)
 part_len_of-bounds at zero = (omega arith, omega arith)
 part_len_of-bounds at (suc back) = (omega arith, omega arith)
 
 -- the bytes of a part that a bad byte breaks off, behind those held
-pub part_end-is : (held at start back len : ℕ) → start + back ≡ held + at → (back ≡ 0 → len ≡ at + 1) → (¬ (back ≡ 0) → len ≡ at) → part_end (held + at) start ≡ held + len
-part_end-is held at start zero len is one rest = ap (λ (b : Bool). if b then start + 1 else held + at) (eq-eqb (held + at) start (omega (arith, is))) ∙ omega (arith, is, one refl)
-part_end-is held at start (suc back) len is one rest =
-    ap (λ (b : Bool). if b then start + 1 else held + at) (ne_eqb (held + at) start (λ e. omega (arith, is, e))) ∙ omega (arith, rest (λ e. omega (arith, e)))
+part_end-is : (held at start back : ℕ) → start + back ≡ held + at → part_end (held + at) start ≡ held + part_len_of at back
+part_end-is held at start zero is = ap (λ (b : Bool). if b then start + 1 else held + at) (eq-eqb (held + at) start (omega (arith, is))) ∙ omega (arith, is)
+part_end-is held at start (suc back) is = ap (λ (b : Bool). if b then start + 1 else held + at) (ne_eqb (held + at) start (λ e. omega (arith, is, e)))
 
 module _ (policy : Policy) (f : Form) (p : Properties) (base : ℕ) (bytes : List ℕ) (start : Start) (now : BlockState) where
   -- a front of the text was refused
@@ -93,38 +92,38 @@ module _ (policy : Policy) (f : Form) (p : Properties) (base : ℕ) (bytes : Lis
         is = λ _. sym (first_fault-none p policy.assigned (λ front. base + len_under policy.replace bytes front) (text_under policy.replace bytes) (bad_under policy.replace base bytes) taken.machine.usable takes.taken.1 ∙ told);
       }
 
-module _ (policy : Policy) (f : Form) (p : Properties) (base : ℕ) (bytes : List ℕ) (start : Start) (now : BlockState) where
-  module _ (laws : ReplacesParts) (counted : Counted) (reading : Reading) (rest : List ℕ) (read : HasReadTo policy f p counted base reading bytes rest)
-      (first : Option ℕ) (text : List ℕ) (end : End) (took : Takes read.tail rest first text end) where
-    abbrev pub taken_text : List ℕ
-    taken_text = read.before ++ text_of read.tail
+module _ (laws : ReplacesParts) {policy : Policy} {f : Form} {p : Properties} {base : ℕ} {bytes : List ℕ} {counted : Counted} {reading : Reading} {rest : List ℕ} (read : HasReadTo policy f p counted base reading bytes rest)
+    {first : Option ℕ} {text : List ℕ} {end : End} (took : Takes read.tail rest first text end) where
+  abbrev taken_text : List ℕ
+  taken_text = read.before ++ text_of read.tail
 
-    abbrev pub next_text : List ℕ
-    next_text = first_text first ++ chars text
+  abbrev next_text : List ℕ
+  next_text = first_text first ++ chars text
 
-    next_is : text_of (read.tail ++ rest) ≡ text_of read.tail ++ next_text
-    next_is = took.spelled ∙ append_assoc (text_of read.tail) (first_text first) (chars text)
+  next_is : text_of (read.tail ++ rest) ≡ text_of read.tail ++ next_text
+  next_is = took.spelled ∙ append_assoc (text_of read.tail) (first_text first) (chars text)
 
-    pub joined_is : taken_text ++ next_text ≡ read.before ++ text_of (read.tail ++ rest)
-    joined_is = append_assoc read.before (text_of read.tail) next_text ∙ ap (λ l. read.before ++ l) (sym next_is)
+  joined_is : taken_text ++ next_text ≡ read.before ++ text_of (read.tail ++ rest)
+  joined_is = append_assoc read.before (text_of read.tail) next_text ∙ ap (λ l. read.before ++ l) (sym next_is)
 
-    -- the offsets of its characters
-    pub chunk-placed : (begin : ℕ) → begin + length read.tail ≡ reading.offset + length (encode_utf8_all (text_of read.tail)) → IsPlacedAt (λ front. base + len_under policy.replace bytes front) begin taken_text next_text
-    chunk-placed begin here front c last is =
-        ap (λ l. base + len_under policy.replace bytes l) (append_assoc read.before (text_of read.tail) front)
-        ∙ omega (
-          arith,
-          left-place policy.replace bytes read.before read.n (read.tail ++ rest) read.left (text_of read.tail ++ front),
-          len_under-first laws policy.replace (read.tail ++ rest) (text_of read.tail ++ front) (c ∷ last) (next_is ∙ ap (λ l. text_of read.tail ++ l) is ∙ sym (append_assoc (text_of read.tail) front (c ∷ last))),
-          ap length (encodes-append (text_of read.tail) front),
-          length-append (encode_utf8_all (text_of read.tail)) (encode_utf8_all front),
-          here,
-          read.offset,
-        )
+  -- the offsets of its characters
+  pub chunk-placed : (begin : ℕ) → begin + length read.tail ≡ reading.offset + length (encode_utf8_all (text_of read.tail)) → IsPlacedAt (λ front. base + len_under policy.replace bytes front) begin taken_text next_text
+  chunk-placed begin here front c last is =
+      ap (λ l. base + len_under policy.replace bytes l) (append_assoc read.before (text_of read.tail) front)
+      ∙ omega (
+        arith,
+        left-place policy.replace bytes read.before read.n (read.tail ++ rest) read.left (text_of read.tail ++ front),
+        len_under-first laws policy.replace (read.tail ++ rest) (text_of read.tail ++ front) (c ∷ last) (next_is ∙ ap (λ l. text_of read.tail ++ l) is ∙ sym (append_assoc (text_of read.tail) front (c ∷ last))),
+        ap length (encodes-append (text_of read.tail) front),
+        length-append (encode_utf8_all (text_of read.tail)) (encode_utf8_all front),
+        here,
+        read.offset,
+      )
 
-    more : Extends (text_of (read.tail ++ rest)) (text_under policy.replace (read.tail ++ rest))
-    more = text_under-first laws policy.replace (read.tail ++ rest)
+  more : Extends (text_of (read.tail ++ rest)) (text_under policy.replace (read.tail ++ rest))
+  more = text_under-first laws policy.replace (read.tail ++ rest)
 
+  module _ {start : Start} {now : BlockState} where
     -- a character of it was refused
     pub chunk-refused : (after : Counted) (fault : Fault) → TakesAllowed policy.assigned f p after start now (λ front. base + len_under policy.replace bytes front) (taken_text ++ next_text) (Err fault) → RefusesBytes policy f p start now base bytes fault
     chunk-refused after fault takes = RefusesBytes-front policy f p base bytes start now after (taken_text ++ next_text) more.more fault
@@ -132,6 +131,9 @@ module _ (policy : Policy) (f : Form) (p : Properties) (base : ℕ) (bytes : Lis
         ∙ sym (append_assoc read.before (text_of (read.tail ++ rest)) more.more) ∙ ap (λ l. l ++ more.more) (sym joined_is)) takes
 
     module _ (after : Counted) (takes : TakesAllowed policy.assigned f p after start now (λ front. base + len_under policy.replace bytes front) (taken_text ++ next_text) (Ok tt)) where
+      pub chunk-written : Written start now (settled_text f p (taken_text ++ next_text))
+      chunk-written = TakesAllowed-settled f p after start now (λ front. base + len_under policy.replace bytes front) policy.assigned (taken_text ++ next_text) tt takes
+
       -- all of the rest was read
       pub chunk-read : (next : Reading) → ((at back : ℕ) → ¬ (end ≡ EndsBad at back)) → DecoderStandsAfter next.decoder (bytes_behind read.tail rest end) → next.offset ≡ reading.offset + length rest
           → ReadsTo policy f p after start now base next bytes []
@@ -147,7 +149,7 @@ module _ (policy : Policy) (f : Form) (p : Properties) (base : ℕ) (bytes : Lis
           taken = subst (HasTaken f p after) joined_is takes.taken.0;
           allowed = subst (λ x. allowed policy.assigned p x ≡ x) joined_is takes.taken.1;
         },
-        Written-at (ap (settled_text f p) joined_is) (TakesAllowed-settled f p after start now (λ front. base + len_under policy.replace bytes front) policy.assigned (taken_text ++ next_text) tt takes),
+        Written-at (ap (settled_text f p) joined_is) chunk-written,
       )
 
       module _ (at back : ℕ) (ends : (ending_of (read.tail ++ rest) ≡ Bad (length read.tail + at) (text_len (read.tail ++ rest))) × (text_len (read.tail ++ rest) + back ≡ length read.tail + at) × (at < length rest)) where
@@ -160,16 +162,22 @@ module _ (policy : Policy) (f : Form) (p : Properties) (base : ℕ) (bytes : Lis
             (left-bad policy.replace bytes read.before read.n (read.tail ++ rest) read.left base ∙ strict_bad policy.replace strict (base + read.n) (read.tail ++ rest) ∙ ap (bad_byte (base + read.n)) ends.0
             ∙ ap (λ k. Some (BadByte k (base + read.n + text_len (read.tail ++ rest)))) (omega (arith, here, read.offset)) ∙ ap (λ k. Some (BadByte at_byte k)) (omega (arith, back_is, here, read.offset, ends.1)))
 
-        module _ (split : SplitsBytes) (replaces : policy.replace ≡ true) (len : ℕ) (end_is : part_end (length read.tail + at) (text_len (read.tail ++ rest)) ≡ length read.tail + len) (inside : len ≤ length rest) (some : text_len (read.tail ++ rest) ≤ length read.tail + len) where
+        module _ (split : SplitsBytes) (replaces : policy.replace ≡ true) (len : ℕ) (is_len : len ≡ part_len_of at back) where
           abbrev own : List ℕ
           own = text_of (read.tail ++ rest) ++ replacement ∷ []
+
+          bounds : (at ≤ len) × (len ≤ at + 1)
+          bounds = rw is_len (part_len_of-bounds at back)
+
+          end_is : part_end (length read.tail + at) (text_len (read.tail ++ rest)) ≡ length read.tail + len
+          end_is = part_end-is (length read.tail) at (text_len (read.tail ++ rest)) back ends.1 ∙ ap (λ n. length read.tail + n) (sym is_len)
 
           -- the part is replaced, and the rest is left
           left_behind : IsLeft policy.replace bytes (read.before ++ own) (read.n + (length read.tail + len)) (drop len rest)
           left_behind = subst (λ r. IsLeft r bytes (read.before ++ own) (read.n + (length read.tail + len)) (drop len rest)) (sym replaces)
               (subst (λ l. IsLeft true bytes (read.before ++ own) (read.n + (length read.tail + len)) l) dropped
               (subst (λ n. IsLeft true bytes (read.before ++ own) (read.n + n) (drop n (read.tail ++ rest))) end_is
-              (IsLeft-behind laws split (read.tail ++ rest) (length read.tail + at) (text_len (read.tail ++ rest)) ends.0 refl (omega (arith, end_is, inside, length-append read.tail rest)) (omega (arith, end_is, some)) bytes read.before read.n
+              (IsLeft-behind laws split (read.tail ++ rest) (length read.tail + at) (text_len (read.tail ++ rest)) ends.0 refl (omega (arith, end_is, bounds, ends.2, length-append read.tail rest)) (omega (arith, end_is, bounds, ends.1)) bytes read.before read.n
               (subst (λ r. IsLeft r bytes read.before read.n (read.tail ++ rest)) replaces read.left))))
             where
               dropped : drop (length read.tail + len) (read.tail ++ rest) ≡ drop len rest
