@@ -1,5 +1,5 @@
 -- What a filter answers.
-use Rattle.std.proofs.Common.{◌≡◌, ℕ, ◌+◌, ◌<◌, ◌^◌, Bool, true, false, List, [], ◌++◌, length, Some, None, Ok, Err, ◌⊎◌, inl, inr, ⊎_elim, refl, sym, ap, ◌∙◌, arith, IsTrue, Option, Result, option_map, if◌then◌else◌, length-append, ◌↔◌}
+use Rattle.std.proofs.Common.{◌≡◌, ℕ, ◌+◌, ◌<◌, ◌^◌, Bool, true, false, List, [], ◌++◌, length, Some, None, Ok, Err, ◌⊎◌, inl, inr, ⊎_elim, refl, sym, ap, ◌∙◌, arith, IsTrue, Option, Result, option_map, if◌then◌else◌, length-append, ◌↔◌, subst}
 use Rattle.nf_forms.specs.Properties.{Properties}
 use Rattle.nf_forms.specs.declared.form.Form.{Form}
 use Rattle.nf_utf8.specs.Reading.{text_of, ending_of}
@@ -17,6 +17,7 @@ use Rattle.nf_filter.specs.Counted.{unusable_at}
 use Rattle.nf_filter.specs.Measures.{unusable_stop}
 use Rattle.nf_filter.specs.Taker.{stop_or, stop_in}
 use Rattle.nf_filter.specs.Filter.{base_of, offset_of, StandsAfter}
+use Rattle.nf_filter.specs.Feeding.{HasReadTo}
 
 module _ {old new : SinkState} {before after : List ℕ} where
   -- a sink that stood failed was given nothing
@@ -67,3 +68,10 @@ module _ {policy : Policy} {f : Form} {p : Properties} {state : State} {bytes : 
 
   pub StandsAfter-fits : base_of state + length bytes < 2 ^ 64
   StandsAfter-fits = omega (arith, StandsAfter-offset, state.reading.offset_fits)
+
+  -- under its own policy
+  pub read_before : HasReadTo state.policy f p state.counted state.base state.reading bytes []
+  read_before = subst (λ (q : Policy). HasReadTo q f p state.counted state.base state.reading bytes []) (sym stands.policy_is) stands.reading
+
+  pub no_fault_before : fault_in state.policy p state.base bytes ≡ None
+  no_fault_before = subst (λ (q : Policy). fault_in q p state.base bytes ≡ None) (sym stands.policy_is) stands.no_fault

@@ -1,5 +1,5 @@
 -- How far a text is assigned, piece by piece.
-use Rattle.std.proofs.Common.{◌≡◌, ℕ, ◌-◌, true, false, List, [], ◌∷◌, ◌++◌, length, take, drop, refl, sym, ap, subst, ◌∙◌, arith, length-append, append_assoc, append-nil, take-append-drop, take_at, take_while}
+use Rattle.std.proofs.Common.{◌≡◌, ℕ, ◌-◌, true, false, List, [], ◌++◌, length, take, drop, refl, sym, ap, subst, ◌∙◌, arith, length-append, append_assoc, append-nil, take-append-drop, take_at, take_while}
 use Rattle.std.specs.Prelude.{chars, encode_utf8, encode_utf8_all, IsUtf8}
 use Rattle.std.specs.List.{list_all}
 use Rattle.std.specs.Str.{IsCharBoundary}
@@ -9,7 +9,7 @@ use Rattle.std.proofs.lemmas.Str.{chars-nil, chars-append, chars_past_char, IsUt
 use Rattle.nf_forms.specs.Properties.{Properties}
 use Rattle.nf_filter.specs.Passed.{IsBehindAssigned}
 use Rattle.nf_filter.proofs.PolicyLemmas.{take_while-append, take_while-stop}
-use Rattle.nf_filter.proofs.TakingLemmas.{nothing-left}
+use Rattle.nf_filter.proofs.TakingLemmas.{nothing-left, chars_of_one}
 
 module _ (p : Properties) where
   pub none_behind : (text : List ℕ) → IsUtf8 text → IsBehindAssigned p text text
@@ -39,7 +39,7 @@ module _ (p : Properties) where
   char_behind text rest c u rest_utf8 e assigned =
       let n = length (encode_utf8 c) in
       let piece : IsUtf8 (encode_utf8 c) = subst IsUtf8 (ap (take n) e ∙ take_at (encode_utf8 c) rest n refl) (IsUtf8-take text n u (IsCharBoundary-at_seam text (encode_utf8 c) rest e rest_utf8)) in
-      let alone : chars (encode_utf8 c) ≡ c ∷ [] = chars_past_char (encode_utf8 c) [] c piece (sym (append-nil (encode_utf8 c))) ∙ ap (λ t. c ∷ t) chars-nil in
+      let alone = chars_of_one (encode_utf8 c) c piece refl in
       record { front = encode_utf8 c; split = e; front_utf8 = piece; rest_utf8 = rest_utf8; assigned = ap (list_all p.assigned) alone ∙ and_from _ _ assigned refl }
 
   stops : (text rest : List ℕ) → IsBehindAssigned p text rest → take_while p.assigned (chars rest) ≡ [] → length text - length rest ≡ length (encode_utf8_all (take_while p.assigned (chars text)))

@@ -1,10 +1,10 @@
 -- A piece more.
-use Rattle.std.proofs.Common.{◌≡◌, ℕ, ◌+◌, ◌-◌, ◌≤◌, ◌==◌, List, [], ◌++◌, length, Some, None, Ok, Err, refl, sym, ap, ◌∙◌, arith, eq-eqb, subst, Option, if◌then◌else◌, chars, take_all, length-drop}
+use Rattle.std.proofs.Common.{◌≡◌, ℕ, ◌+◌, ◌-◌, ◌≤◌, ◌==◌, List, [], ◌++◌, length, Some, None, Ok, Err, refl, sym, ap, ◌∙◌, arith, eq-eqb, subst, Option, if◌then◌else◌, chars, take_all, length-drop, append_assoc}
 use Rattle.std.proofs.lemmas.Str.{chars-nil, utf8_valid_len_le}
 use Rattle.nf_utf8.specs.declared.decoder.Decoder.{Decoder}
 use Rattle.nf_utf8.specs.declared.chunk.End.{End}
 use Rattle.nf_utf8.specs.declared.chunk.End.TheVariants.{Whole as EndsWhole, Cut as EndsCut, Bad as EndsBad}
-use Rattle.nf_utf8.specs.Taking.{first_bytes, EndsPiece, bytes_behind, Counts}
+use Rattle.nf_utf8.specs.Taking.{first_bytes, EndsPiece, bytes_behind, Counts, Takes, first_text}
 use Rattle.nf_utf8.specs.Ending.{Whole, Bad, Cut}
 use Rattle.nf_utf8.specs.Reading.{text_len, text_of, rest_of, begun_len, ending_of}
 use Rattle.nf_utf8.specs.Standing.{StandsAfter as DecoderStandsAfter}
@@ -63,33 +63,40 @@ pub ready_after : (ends_at : ℕ → Type 0) (offset carried first text left hel
     → ends_at (offset - carried + first + text) → (left ≤ end) × ends_at (end - left)
 ready_after ends_at offset carried first text left held piece end is counted within all ends = (omega arith, subst ends_at (omega arith) ends)
 
-module _ (stands : List ℕ → Type 0) (stops : List ℕ → Option Stop) (base : ℕ) (reading : Reading) (bytes piece more : List ℕ) (text : text_of (bytes ++ piece) ≡ text_of bytes ++ more) where
-  -- the taker stopped
-  pub ReadsPiece-stopped : (stop : Stop) → TakesText stands stops (text_of bytes) more (Err stop) → ReadsPiece stands stops base reading bytes piece (Err stop)
-  ReadsPiece-stopped stop takes = record {
-    stop = sym (ap (λ o. stop_or o (bad_byte base (ending_of (bytes ++ piece)))) (ap stops text ∙ sym takes.stop));
-    read = tt;
-  }
+module _ {bytes piece : List ℕ} {first : Option ℕ} {text : List ℕ} {end : End} (took : Takes bytes piece first text end) where
+  abbrev more : List ℕ
+  more = first_text first ++ chars text
 
-  went_on : (u : Unit {0}) → TakesText stands stops (text_of bytes) more (Ok u) → stops (text_of (bytes ++ piece)) ≡ None
-  went_on u takes = ap stops text ∙ sym takes.stop
+  text_is : text_of (bytes ++ piece) ≡ text_of bytes ++ more
+  text_is = took.spelled ∙ append_assoc (text_of bytes) (first_text first) (chars text)
 
-  -- a byte is ill-formed
-  pub ReadsPiece-bad : (u : Unit {0}) (m n at start : ℕ) → TakesText stands stops (text_of bytes) more (Ok u) → ending_of (bytes ++ piece) ≡ Bad m n → at ≡ base + m → start ≡ base + n
-      → ReadsPiece stands stops base reading bytes piece (Err (Refused (BadByte at start)))
-  ReadsPiece-bad u m n at start takes end here begun = record {
-    stop = sym (ap (λ o. stop_or o (bad_byte base (ending_of (bytes ++ piece)))) (went_on u takes)
-        ∙ ap (λ e. stop_or None (bad_byte base e)) end ∙ ap (λ k. Some (Refused (BadByte k (base + n)))) (sym here) ∙ ap (λ k. Some (Refused (BadByte at k))) (sym begun));
-    read = tt;
-  }
+  went_on : {stands : List ℕ → Type 0} {stops : List ℕ → Option Stop} (u : Unit {0}) → TakesText stands stops (text_of bytes) more (Ok u) → stops (text_of (bytes ++ piece)) ≡ None
+  went_on {stands} {stops} u takes = ap stops text_is ∙ sym takes.stop
 
-  -- all of it was read
-  pub ReadsPiece-read : (u : Unit {0}) → TakesText stands stops (text_of bytes) more (Ok u) → bad_byte base (ending_of (bytes ++ piece)) ≡ None
-      → reading.offset ≡ base + length (bytes ++ piece) → DecoderStandsAfter reading.decoder (bytes ++ piece) → ReadsPiece stands stops base reading bytes piece (Ok u)
-  ReadsPiece-read u takes fine offset decoder = record {
-    stop = sym unstopped;
-    read = record { offset = offset; decoder = decoder; taken = rw text takes.taken; unstopped = unstopped };
-  }
-    where
-      unstopped : stop_in stops base (bytes ++ piece) ≡ None
-      unstopped = ap (λ o. stop_or o (bad_byte base (ending_of (bytes ++ piece)))) (went_on u takes) ∙ ap (λ o. stop_or None o) fine
+  module _ {stands : List ℕ → Type 0} {stops : List ℕ → Option Stop} {base : ℕ} {reading : Reading} where
+    -- the taker stopped
+    pub ReadsPiece-stopped : (stop : Stop) → TakesText stands stops (text_of bytes) more (Err stop) → ReadsPiece stands stops base reading bytes piece (Err stop)
+    ReadsPiece-stopped stop takes = record {
+      stop = sym (ap (λ o. stop_or o (bad_byte base (ending_of (bytes ++ piece)))) (ap stops text_is ∙ sym takes.stop));
+      read = tt;
+    }
+
+    -- a byte is ill-formed
+    pub ReadsPiece-bad : (u : Unit {0}) (m n at start : ℕ) → TakesText stands stops (text_of bytes) more (Ok u) → ending_of (bytes ++ piece) ≡ Bad m n → at ≡ base + m → start ≡ base + n
+        → ReadsPiece stands stops base reading bytes piece (Err (Refused (BadByte at start)))
+    ReadsPiece-bad u m n at start takes end here begun = record {
+      stop = sym (ap (λ o. stop_or o (bad_byte base (ending_of (bytes ++ piece)))) (went_on u takes)
+          ∙ ap (λ e. stop_or None (bad_byte base e)) end ∙ ap (λ k. Some (Refused (BadByte k (base + n)))) (sym here) ∙ ap (λ k. Some (Refused (BadByte at k))) (sym begun));
+      read = tt;
+    }
+
+    -- all of it was read
+    pub ReadsPiece-read : (u : Unit {0}) → TakesText stands stops (text_of bytes) more (Ok u) → bad_byte base (ending_of (bytes ++ piece)) ≡ None
+        → reading.offset ≡ base + length (bytes ++ piece) → DecoderStandsAfter reading.decoder (bytes ++ piece) → ReadsPiece stands stops base reading bytes piece (Ok u)
+    ReadsPiece-read u takes fine offset decoder = record {
+      stop = sym unstopped;
+      read = record { offset = offset; decoder = decoder; taken = rw text_is takes.taken; unstopped = unstopped };
+    }
+      where
+        unstopped : stop_in stops base (bytes ++ piece) ≡ None
+        unstopped = ap (λ o. stop_or o (bad_byte base (ending_of (bytes ++ piece)))) (went_on u takes) ∙ ap (λ o. stop_or None o) fine

@@ -1,6 +1,6 @@
 -- A text, front by front.
 use Rattle.std.proofs.Common.{◌≡◌, ℕ, ◌+◌, ◌<◌, ◌^◌, List, [], ◌∷◌, ◌++◌, length, Option, Some, refl, sym, ap, ◌∙◌, subst, arith, append-nil, append_assoc, encode_utf8, MatchOption, encode_utf8_all, IsUtf8, chars, length-append, None}
-use Rattle.std.proofs.lemmas.Str.{chars-nil, chars-append, encodes-append, encodes-chars}
+use Rattle.std.proofs.lemmas.Str.{chars-nil, chars-append, encodes-append, encodes-chars, chars_past_char}
 use Rattle.nf_filter.specs.Counted.{HasPlaces, IsPlacedAt}
 use Rattle.std.proofs.lemmas.List.{nil_from_length}
 
@@ -29,6 +29,10 @@ placed-within place at x y front rest is here more c last text = here more c (la
 pub chars-three : (text a b rest : List ℕ) → IsUtf8 a → IsUtf8 b → text ≡ a ++ (b ++ rest) → chars text ≡ (chars a ++ chars b) ++ chars rest
 chars-three text a b rest first second is =
     ap chars is ∙ chars-append a (b ++ rest) first ∙ ap (λ l. chars a ++ l) (chars-append b rest second) ∙ sym (append_assoc (chars a) (chars b) (chars rest))
+
+-- the bytes of one character
+pub chars_of_one : (bytes : List ℕ) (c : ℕ) → IsUtf8 bytes → bytes ≡ encode_utf8 c → chars bytes ≡ c ∷ []
+chars_of_one bytes c utf8 is = chars_past_char bytes [] c utf8 (is ∙ sym (append-nil (encode_utf8 c))) ∙ ap (λ l. c ∷ l) chars-nil
 
 -- an option that is no `Some`
 pub is_none : (o : Option ℕ) → ((c : ℕ) → ¬ (o ≡ Some c)) → o ≡ None

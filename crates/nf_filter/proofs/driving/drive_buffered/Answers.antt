@@ -1,24 +1,11 @@
-use Rattle.std.proofs.Common.{◌≡◌, ℕ, List, ◌++◌, length, ap, subst, Result}
+use Rattle.std.proofs.Common.{ℕ, ◌++◌, length, ap, subst₂}
 use Rattle.nf_forms.specs.Properties.{Properties}
-use Rattle.nf_forms.specs.declared.form.Form.{Form}
-use Rattle.nf_filter.specs.declared.fault.Fault.{Fault}
-use Rattle.nf_filter.specs.declared.policy.Policy.{Policy}
-use Rattle.nf_filter.specs.declared.filter.State.{State}
-use Rattle.nf_filter.specs.declared.tally.Tally.{Tally}
-use Rattle.nf_filter.specs.Devices.{SinkState}
 use Rattle.nf_filter.specs.Filter.{rows_of, state_of, base_of, StandsAfter}
 use Rattle.nf_filter.specs.Finishes.{Finishes}
 use Rattle.nf_filter.proofs.DriveLemmas.{Drives-refused, Drives-finished}
 use Rattle.nf_filter.proofs.AgainLemmas.{drives_to_end, drives_once}
 use Rattle.nf_filter.proofs.JoinedLemmas.{joins_pieces}
 use Rattle.nf_filter.proofs.driving.drive_buffered.Goals as goal
-
--- the rows and the base do not change
-finishes_at : (policy : Policy) (f : Form) (q p : Properties) (m base : ℕ) (state : State) (bytes : List ℕ) (old new : SinkState) (r : Result Tally Fault) → q ≡ p → m ≡ base
-    → (StandsAfter policy f q state bytes → Finishes policy f q m bytes old new r) → StandsAfter policy f p state bytes → Finishes policy f p base bytes old new r
-finishes_at policy f q p m base state bytes old new r rows same finishes =
-    let P : Properties → Type 0 = λ q. StandsAfter policy f q state bytes → Finishes policy f q base bytes old new r in
-    subst P rows (λ stands. subst (λ n. Finishes policy f q n bytes old new r) same (finishes stands))
 
 pub returns-in-Err-clause-drives : goal.returns-in-Err-clause-drives
 returns-in-Err-clause-drives g c = λ policy f bytes stands. Drives-refused (length c.args.buffer.now) policy f _ _ bytes _ _ _ _ _ c.in-Err.fault c.in-Err.ensures.end (c.in-Err.ensures.feeds policy f bytes stands)
@@ -28,8 +15,8 @@ returns-clause-drives g c = λ policy f bytes stands.
     let p = g.R.Rows.properties (rows_of c.args.filter) in
     let base = base_of (state_of c.args.filter) in
     let feeds = c.in_default.ensures.feeds policy f bytes stands in
-    let finishes = finishes_at policy f _ p _ base (state_of c.feed_all.new.filter) (bytes ++ feeds.fed) _ _ c.finish.result (ap g.R.Rows.properties c.in_default.ensures.rows) c.in_default.ensures.base
-    (c.finish.ensures.finishes policy f (bytes ++ feeds.fed)) feeds.stands in
+    let At : Properties → ℕ → Type 0 = λ q m. StandsAfter policy f q (state_of c.feed_all.new.filter) (bytes ++ feeds.fed) → Finishes policy f q m (bytes ++ feeds.fed) (g.S.Sink.state c.feed_all.new.sink) (g.S.Sink.state c.finish.new.sink) c.finish.result in
+    let finishes = subst₂ At (ap g.R.Rows.properties c.in_default.ensures.rows) c.in_default.ensures.base (c.finish.ensures.finishes policy f (bytes ++ feeds.fed)) feeds.stands in
     Drives-finished (length c.args.buffer.now) policy f p base bytes _ _ _ _ _ _ c.finish.result c.in_default.ensures.end (λ e. rw e at c.finish.ensures.faults) (λ e. rw e at c.finish.ensures.faults) feeds finishes
 
 pub returns-clause-again : goal.returns-clause-again

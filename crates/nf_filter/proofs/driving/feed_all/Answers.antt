@@ -1,4 +1,4 @@
-use Rattle.std.proofs.Common.{◌≡◌, ℕ, List, [], ◌++◌, length, take, Ok, Err, inr, refl, ap, ◌∙◌, subst, arith, rules, append-nil, OnOk, Result, ne_eqb, length-take}
+use Rattle.std.proofs.Common.{◌≡◌, ℕ, List, [], ◌++◌, length, take, Ok, Err, inr, refl, ap, ◌∙◌, subst, arith, rules, append-nil, OnOk, Result, ne_eqb, length-take, subst₂}
 use Rattle.std.specs.Io.KnownBytes.{Consumes}
 use Rattle.std.proofs.KnownBytes.{Consumes-kept, Consumes-nil, Consumes-trans}
 use Rattle.nf_forms.specs.Properties.{Properties}
@@ -18,14 +18,12 @@ use Rattle.nf_filter.proofs.driving.feed_all.Goals as goal
 module _ (policy : Policy) (f : Form) (q p : Properties) (rows : q ≡ p) (state : State) (bytes piece : List ℕ) (r : Result (Unit {0}) Fault) where
   feeds_at : (m base : ℕ) (old new : SinkState) → m ≡ base → (StandsAfter policy f q state bytes → ¬ (r ≡ Err TooLong) → Feeds policy f q m bytes piece old new r)
       → StandsAfter policy f p state bytes → ¬ (r ≡ Err TooLong) → Feeds policy f p base bytes piece old new r
-  feeds_at m base old new same feeds =
-      let P : Properties → Type 0 = λ q. StandsAfter policy f q state bytes → ¬ (r ≡ Err TooLong) → Feeds policy f q base bytes piece old new r in
-      subst P rows (λ stands short. subst (λ n. Feeds policy f q n bytes piece old new r) same (feeds stands short))
+  feeds_at m base old new same =
+      let At : Properties → ℕ → Type 0 = λ q n. StandsAfter policy f q state bytes → ¬ (r ≡ Err TooLong) → Feeds policy f q n bytes piece old new r in
+      subst₂ At rows same
 
   stands_at : (after : State) → (StandsAfter policy f q state bytes → OnOk r (StandsAfter policy f q after (bytes ++ piece))) → StandsAfter policy f p state bytes → OnOk r (StandsAfter policy f p after (bytes ++ piece))
-  stands_at after stands =
-      let P : Properties → Type 0 = λ q. StandsAfter policy f q state bytes → OnOk r (StandsAfter policy f q after (bytes ++ piece)) in
-      subst P rows stands
+  stands_at after = subst (λ (q : Properties). StandsAfter policy f q state bytes → OnOk r (StandsAfter policy f q after (bytes ++ piece))) rows
 
 not_read : (fault : Fault) → IsOfFeeding fault → ¬ (fed_by fault ≡ Err Read)
 not_read fault may e = let same : fault ≡ Read = cc in rw same at may

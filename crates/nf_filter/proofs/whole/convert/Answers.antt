@@ -1,9 +1,5 @@
-use Rattle.std.proofs.Common.{◌≡◌, ℕ, List, [], Ok, Err, sym, ap, ◌∙◌, subst, arith, Result}
+use Rattle.std.proofs.Common.{◌≡◌, ℕ, [], Ok, Err, sym, ap, ◌∙◌, subst, arith, subst₂}
 use Rattle.nf_forms.specs.Properties.{Properties}
-use Rattle.nf_forms.specs.declared.form.Form.{Form}
-use Rattle.nf_filter.specs.declared.fault.Fault.{Fault}
-use Rattle.nf_filter.specs.declared.tally.Tally.{Tally}
-use Rattle.nf_filter.specs.Devices.{SinkState}
 use Rattle.nf_filter.specs.Filter.{rows_of, state_of, StandsAfter}
 use Rattle.nf_filter.specs.Feeds.{Feeds}
 use Rattle.nf_filter.specs.Finishes.{Finishes}
@@ -13,17 +9,6 @@ use Rattle.nf_filter.proofs.WholeLemmas.{Converts-refused, Converts-finished, Co
 use Rattle.nf_filter.proofs.AgainLemmas.{converts_once}
 use Rattle.nf_filter.proofs.whole.convert.Goals as goal
 
--- the rows and the base do not change
-feeds_here : (f : Form) (q p : Properties) (m : ℕ) (bytes : List ℕ) (old new : SinkState) (r : Result (Unit {0}) Fault) → q ≡ p → m ≡ 0
-    → Feeds as_is f q m [] bytes old new r → Feeds as_is f p 0 [] bytes old new r
-feeds_here f q p m bytes old new r rows base feeds =
-    subst (λ (q : Properties). Feeds as_is f q 0 [] bytes old new r) rows (subst (λ (n : ℕ). Feeds as_is f q n [] bytes old new r) base feeds)
-
-finishes_here : (f : Form) (q p : Properties) (m : ℕ) (bytes : List ℕ) (old new : SinkState) (r : Result Tally Fault) → q ≡ p → m ≡ 0
-    → Finishes as_is f q m bytes old new r → Finishes as_is f p 0 bytes old new r
-finishes_here f q p m bytes old new r rows base finishes =
-    subst (λ (q : Properties). Finishes as_is f q 0 bytes old new r) rows (subst (λ (n : ℕ). Finishes as_is f q n bytes old new r) base finishes)
-
 pub returns-in-Err-clause-converts : goal.returns-in-Err-clause-converts
 returns-in-Err-clause-converts g c =
     let p = g.R.Rows.properties c.args.rows.now in
@@ -32,7 +17,7 @@ returns-in-Err-clause-converts g c =
     let rows : q ≡ p = ap g.R.Rows.properties filter.ensures.rows in
     let stands = subst (λ (q : Properties). StandsAfter as_is c.args.form q (state_of filter.result) []) (sym rows) filter.ensures.stands in
     Converts-refused c.args.form p c.args.bytes.now _ _ c.in-Err.fault
-    (feeds_here c.args.form q p _ c.args.bytes.now _ _ (Err c.in-Err.fault) rows filter.ensures.base (c.in-Err.ensures.feeds as_is c.args.form [] stands (λ e.
+    (subst₂ (λ (q : Properties) (m : ℕ). Feeds as_is c.args.form q m [] c.args.bytes.now (g.S.Sink.state c.args.sink.now) (g.S.Sink.state c.feed.new.sink) (Err c.in-Err.fault)) rows filter.ensures.base (c.in-Err.ensures.feeds as_is c.args.form [] stands (λ e.
     let over = (c.in-Err.ensures.too_long.0 e).1 in absurd (omega (arith, over, StandsAfter-offset filter.ensures.stands, filter.ensures.base)))))
 
 pub returns-clause-converts : goal.returns-clause-converts
@@ -42,11 +27,11 @@ returns-clause-converts g c =
     let q = g.R.Rows.properties (rows_of filter.result) in
     let rows : q ≡ p = ap g.R.Rows.properties filter.ensures.rows in
     let stands = subst (λ (q : Properties). StandsAfter as_is c.args.form q (state_of filter.result) []) (sym rows) filter.ensures.stands in
-    let fed = feeds_here c.args.form q p _ c.args.bytes.now _ _ (Ok tt) rows filter.ensures.base (c.in_default.ensures.feeds as_is c.args.form [] stands (λ e. cc)) in
+    let fed = subst₂ (λ (q : Properties) (m : ℕ). Feeds as_is c.args.form q m [] c.args.bytes.now (g.S.Sink.state c.args.sink.now) (g.S.Sink.state c.feed.new.sink) (Ok tt)) rows filter.ensures.base (c.in_default.ensures.feeds as_is c.args.form [] stands (λ e. cc)) in
     let here : g.R.Rows.properties (rows_of c.feed.new.self) ≡ q = ap g.R.Rows.properties c.in_default.ensures.rows in
     let after = subst (λ (q : Properties). StandsAfter as_is c.args.form q (state_of c.feed.new.self) c.args.bytes.now) (sym here) (c.in_default.ensures.stands as_is c.args.form [] stands) in
     Converts-finished c.args.form p c.args.bytes.now _ _ _ fed c.finish.result
-    (finishes_here c.args.form _ p _ c.args.bytes.now _ _ c.finish.result (here ∙ rows) (c.in_default.ensures.base ∙ filter.ensures.base) (c.finish.ensures.finishes as_is c.args.form c.args.bytes.now after))
+    (subst₂ (λ (q : Properties) (m : ℕ). Finishes as_is c.args.form q m c.args.bytes.now (g.S.Sink.state c.feed.new.sink) (g.S.Sink.state c.finish.new.sink) c.finish.result) (here ∙ rows) (c.in_default.ensures.base ∙ filter.ensures.base) (c.finish.ensures.finishes as_is c.args.form c.args.bytes.now after))
 
 pub returns-in-Err-clause-faults : goal.returns-in-Err-clause-faults
 returns-in-Err-clause-faults g c = Converts-faults c.args.form _ c.args.bytes.now _ _ _ (returns-in-Err-clause-converts g c)

@@ -1,17 +1,15 @@
-use Rattle.std.proofs.Common.{◌≡◌, ℕ, ◌-◌, Bool, List, [], None, sym, subst, arith}
+use Rattle.std.proofs.Common.{◌≡◌, ℕ, ◌-◌, Bool, List, arith}
 use Rattle.nf_forms.specs.Properties.{Properties}
 use Rattle.nf_forms.specs.declared.form.Form.{Form}
 use Rattle.nf_filter.specs.declared.filter.State.{State}
 use Rattle.nf_filter.specs.declared.counted.Counted.{Counted}
 use Rattle.nf_filter.specs.declared.policy.Policy.{Policy}
 use Rattle.nf_filter.specs.declared.tally.Tally.{Tally}
-use Rattle.nf_filter.specs.Feeding.{HasReadTo}
 use Rattle.nf_filter.specs.Filter.{base_of, offset_of, StandsAfter}
-use Rattle.nf_filter.specs.Faults.{fault_in}
 use Rattle.nf_filter.specs.Finishes.{tally_of}
 use Rattle.nf_filter.specs.Counted.{HasTaken}
 use Rattle.nf_filter.specs.Policy.{whole_under}
-use Rattle.nf_filter.proofs.FilterLemmas.{StandsAfter-offset}
+use Rattle.nf_filter.proofs.FilterLemmas.{StandsAfter-offset, read_before, no_fault_before}
 use Rattle.nf_filter.proofs.JoinedLemmas.{joins_pieces}
 use Rattle.nf_filter.proofs.FinishLemmas.{Finishes-whole, Finishes-broken}
 use Rattle.nf_filter.proofs.filter.Filter.finish.Goals as goal
@@ -21,9 +19,6 @@ tally_from bytes chars put = record { bytes = bytes; chars = chars; put = put }
 
 -- what was counted
 module _ (policy : Policy) (f : Form) (p : Properties) (state : State) (bytes : List ℕ) (stands : StandsAfter policy f p state bytes) where
-  read_before : HasReadTo state.policy f p state.counted state.base state.reading bytes []
-  read_before = subst (λ (q : Policy). HasReadTo q f p state.counted state.base state.reading bytes []) (sym stands.policy_is) stands.reading
-
   counted : (replace : Bool) (after : Counted) → HasTaken f p after (whole_under replace bytes) → tally_from (offset_of state - base_of state) after.chars after.put ≡ tally_of replace p bytes
   counted replace after taken = same (omega (arith, StandsAfter-offset stands)) taken.chars (omega (arith, taken.put, taken.chars))
     where
@@ -32,35 +27,32 @@ module _ (policy : Policy) (f : Form) (p : Properties) (state : State) (bytes : 
 
 pub returns-in-Err-clause-finishes : goal.returns-in-Err-clause-finishes
 returns-in-Err-clause-finishes g c = λ policy f bytes stands.
-    let p = g.R.Rows.properties c.args.self.rows.now in
-    let state = c.args.self.state in
-    rw (← stands.policy_is) (c.in-Err.ensures.closes f state.base bytes (read_before policy f p state bytes stands))
+    rw (← stands.policy_is) (c.in-Err.ensures.closes f c.args.self.state.base bytes (read_before stands))
 
 pub returns-in-Ok-clause-finishes : goal.returns-in-Ok-clause-finishes
 returns-in-Ok-clause-finishes g c = λ policy f bytes stands.
     let p = g.R.Rows.properties c.args.self.rows.now in
     let state = c.args.self.state in
-    let closes = c.in_default.ensures.closes f state.base bytes (read_before policy f p state bytes stands) in
+    let closes = c.in_default.ensures.closes f state.base bytes (read_before stands) in
     rw (← stands.policy_is) (Finishes-whole state.policy f p state.base bytes c.close.new.counted _ _ _ closes _ (counted policy f p state bytes stands state.policy.replace c.close.new.counted closes.0) (c.in-Ok.ensures.puts f (whole_under state.policy.replace bytes) closes.0))
 
 pub returns-in-Err-end-clause-finishes : goal.returns-in-Err-end-clause-finishes
 returns-in-Err-end-clause-finishes g c = λ policy f bytes stands.
     let p = g.R.Rows.properties c.args.self.rows.now in
     let state = c.args.self.state in
-    let closes = c.in_default.ensures.closes f state.base bytes (read_before policy f p state bytes stands) in
+    let closes = c.in_default.ensures.closes f state.base bytes (read_before stands) in
     rw (← stands.policy_is) (Finishes-broken state.policy f p state.base bytes c.close.new.counted _ _ _ closes (c.in-Err-end.ensures.puts f (whole_under state.policy.replace bytes) closes.0))
 
 pub returns-in-Ok-clause-again : goal.returns-in-Ok-clause-again
 returns-in-Ok-clause-again g c = λ policy f bytes stands once.
     let p = g.R.Rows.properties c.args.self.rows.now in
     let state = c.args.self.state in
-    let closes = c.in_default.ensures.closes f state.base bytes (read_before policy f p state bytes stands) in
+    let closes = c.in_default.ensures.closes f state.base bytes (read_before stands) in
     rw (← stands.policy_is) (c.what_was_finished_stays.ensures state.policy f p state.base bytes (tally_of state.policy.replace p bytes) once closes.2)
 
 pub returns-in-Ok-clause-joined : goal.returns-in-Ok-clause-joined
 returns-in-Ok-clause-joined g c = λ policy f bytes stands.
     let p = g.R.Rows.properties c.args.self.rows.now in
     let state = c.args.self.state in
-    let closes = c.in_default.ensures.closes f state.base bytes (read_before policy f p state bytes stands) in
-    let none = subst (λ (q : Policy). fault_in q p state.base bytes ≡ None) (sym stands.policy_is) stands.no_fault in
-    rw (← stands.policy_is) (joins_pieces p state.base bytes (tally_of state.policy.replace p bytes) state.policy f none closes.2)
+    let closes = c.in_default.ensures.closes f state.base bytes (read_before stands) in
+    rw (← stands.policy_is) (joins_pieces p state.base bytes (tally_of state.policy.replace p bytes) state.policy f (no_fault_before stands) closes.2)

@@ -1,29 +1,20 @@
-use Rattle.std.proofs.Common.{◌≡◌, ℕ, ◌+◌, ◌-◌, List, ◌++◌, length, ◌∙◌, arith, append_assoc, encode_utf8_all, chars, length-append}
+use Rattle.std.proofs.Common.{◌+◌, ◌-◌, ◌++◌, length, arith, length-append}
 use Rattle.nf_utf8.specs.Reading.{text_of, text_len}
-use Rattle.nf_utf8.specs.Taking.{first_text, first_bytes}
+use Rattle.nf_utf8.specs.Taking.{first_bytes}
 use Rattle.nf_filter.proofs.ReadingLemmas.{ends_well, all_behind, all_counted, ready_after, ReadsPiece-stopped, ReadsPiece-bad, ReadsPiece-read}
 use Rattle.nf_filter.proofs.reading.Reading.read.Goals as goal
 
--- where the text of the piece begins
-begins_at : (offset carried base : ℕ) (bytes : List ℕ) → offset ≡ base + length bytes → length (encode_utf8_all (text_of bytes)) + carried ≡ length bytes → offset - carried ≡ base + length (encode_utf8_all (text_of bytes))
-begins_at offset carried base bytes here behind = omega arith
-
 pub returns-in-Err-clause-reads : goal.returns-in-Err-clause-reads
 returns-in-Err-clause-reads g c = λ base bytes before short.
-    let p = g.R.Rows.properties c.args.rows.now in
     let took = c.take-chunk.ensures.takes bytes before.decoder in
-    let text = took.spelled ∙ append_assoc (text_of bytes) (first_text c.take-chunk.result.first) (chars c.take-chunk.result.text.now) in
-    ReadsPiece-stopped (g.T.Taker.has_taken p c.take.new.self base) (g.T.Taker.stops p base) base _ bytes c.args.piece.now _ text c.in-Err.stop
-    (c.in-Err.ensures.takes base (text_of bytes) before.taken (begins_at c.args.self.now.offset c.carried.result base bytes before.offset (c.carried.ensures.behind bytes before.decoder)))
+    ReadsPiece-stopped took c.in-Err.stop (c.in-Err.ensures.takes base (text_of bytes) before.taken (omega (arith, before.offset, c.carried.ensures.behind bytes before.decoder)))
 
 pub returns-in-Bad-clause-reads : goal.returns-in-Bad-clause-reads
 returns-in-Bad-clause-reads g c = λ base bytes before short.
-    let p = g.R.Rows.properties c.args.rows.now in
     let took = c.take-chunk.ensures.takes bytes before.decoder in
-    let text = took.spelled ∙ append_assoc (text_of bytes) (first_text c.take-chunk.result.first) (chars c.take-chunk.result.text.now) in
     let ends = rw c.in-Bad.is at took.ends in
-    ReadsPiece-bad (g.T.Taker.has_taken p c.take.new.self base) (g.T.Taker.stops p base) base _ bytes c.args.piece.now _ text _ (length bytes + c.in-Bad.at) (text_len (bytes ++ c.args.piece.now)) _ _
-    (c.in_default-take.ensures.takes base (text_of bytes) before.taken (begins_at c.args.self.now.offset c.carried.result base bytes before.offset (c.carried.ensures.behind bytes before.decoder)))
+    ReadsPiece-bad took _ (length bytes + c.in-Bad.at) (text_len (bytes ++ c.args.piece.now)) _ _
+    (c.in_default-take.ensures.takes base (text_of bytes) before.taken (omega (arith, before.offset, c.carried.ensures.behind bytes before.decoder)))
     ends.0 (omega (arith, before.offset)) (omega (arith, before.offset, ends.1))
 
 pub returns-clause-ready : goal.returns-clause-ready
@@ -35,11 +26,8 @@ returns-clause-ready g c =
 
 pub returns-clause-reads : goal.returns-clause-reads
 returns-clause-reads g c = λ base bytes before short.
-    let p = g.R.Rows.properties c.args.rows.now in
     let took = c.take-chunk.ensures.takes bytes before.decoder in
-    let text = took.spelled ∙ append_assoc (text_of bytes) (first_text c.take-chunk.result.first) (chars c.take-chunk.result.text.now) in
-    ReadsPiece-read (g.T.Taker.has_taken p c.take.new.self base) (g.T.Taker.stops p base) base _ bytes c.args.piece.now _ text _
-    (c.in_default-take.ensures.takes base (text_of bytes) before.taken (begins_at c.args.self.now.offset c.carried.result base bytes before.offset (c.carried.ensures.behind bytes before.decoder)))
+    ReadsPiece-read took _ (c.in_default-take.ensures.takes base (text_of bytes) before.taken (omega (arith, before.offset, c.carried.ensures.behind bytes before.decoder)))
     (ends_well bytes c.args.piece.now c.take-chunk.result.end base c.in_default-piece_end.not-Bad took.ends)
     (omega (arith, before.offset, length-append bytes c.args.piece.now))
     (rw (all_behind bytes c.args.piece.now c.take-chunk.result.end c.in_default-piece_end.not-Bad) at (c.take-chunk.ensures.stands bytes before.decoder))
