@@ -38,7 +38,7 @@ use Rattle.nf_filter.proofs.WholeLemmas.{without, answer_at, answer_without}
 use Rattle.nf_filter.proofs.ReadingLemmas.{text_of-none, ending_of-none}
 
 -- the end is no fault
-answered : {A : Type 0} (base : ℕ) (value told : A) (ending : Ending) → answer_at_end base value ending ≡ Ok told → (settled whole : List ℕ) → whole_or ending settled whole ≡ whole
+pub answered : {A : Type 0} (base : ℕ) (value told : A) (ending : Ending) → answer_at_end base value ending ≡ Ok told → (settled whole : List ℕ) → whole_or ending settled whole ≡ whole
 answered base value told Whole e settled whole = refl
 answered base value told (Bad at start) e settled whole = refl
 answered base value told (Cut at start) e settled whole = cc

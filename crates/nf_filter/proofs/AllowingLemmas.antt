@@ -14,16 +14,13 @@ use Rattle.nf_filter.specs.Settled.{is_usable, usable}
 use Rattle.nf_filter.proofs.BlockLemmas.{Written-at}
 use Rattle.nf_filter.proofs.BlockLemmas.{Broken-at, Broken-extends}
 use Rattle.nf_normalizer.specs.Laws.Settled.{usable-all}
-use Rattle.nf_filter.proofs.PolicyLemmas.{allowed-grows, first_fault-stays, taken-all, taken_utf8-grows}
+use Rattle.nf_filter.proofs.PolicyLemmas.{allowed-grows, first_fault-stays, taken-all, taken_utf8-grows, first_fault-is}
 
 module _ (f : Form) (p : Properties) where
   -- as far as all may be taken, only what is unsound stops
   unusable_is : (a : Bool) (place : List ℕ → ℕ) (x : List ℕ) → allowed a p x ≡ x → unusable_at p place x ≡ first_fault a p place x None
   unfolding unusable_at
-  unusable_is false place x all = refl
-  unusable_is true place x all =
-      ap (λ (b : Bool). if is_usable p x then (if b then None else Some (Unassigned (place x))) else Some (Row (place (usable p x)))) (sym (eq-eqb (length x) (length x) refl))
-      ∙ ap (λ l. if is_usable p l then (if length l == length x then None else Some (Unassigned (place l))) else Some (Row (place (usable p l)))) (sym all)
+  unusable_is a place x all = rw (first_fault-is p a place x None, all, eq-eqb (length x) (length x) refl) refl
 
   written_is : (a : Bool) (x : List ℕ) → allowed a p x ≡ x → usable_utf8 f p x ≡ taken_utf8 a f p x
   unfolding usable_utf8
@@ -56,9 +53,7 @@ module _ (f : Form) (p : Properties) where
       usable_front = written_front
 
       fault_front : first_fault true p place w None ≡ (if is_usable p z then Some (Unassigned (place z)) else Some (Row (place (usable p z))))
-      fault_front =
-          ap (λ (b : Bool). if is_usable p (allowed true p w) then (if b then None else Some (Unassigned (place (allowed true p w)))) else Some (Row (place (usable p (allowed true p w))))) not_all
-          ∙ ap (λ l. if is_usable p l then Some (Unassigned (place l)) else Some (Row (place (usable p l)))) front
+      fault_front = rw (not_all, front) refl
 
       unusable_front : (fault : Fault) → Some fault ≡ unusable_at p place z → Some fault ≡ (if is_usable p z then Some (Unassigned (place z)) else Some (Row (place (usable p z))))
       unfolding unusable_at

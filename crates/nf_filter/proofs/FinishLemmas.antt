@@ -31,29 +31,20 @@ use Rattle.nf_filter.proofs.PieceLemmas.{left-end}
 use Rattle.nf_filter.proofs.FedLemmas.{read-text, read-settled, whole-none, whole-some, left_is}
 use Rattle.std.proofs.lemmas.List.{nil_from_length}
 use Rattle.nf_filter.proofs.WholeLemmas.{settled-whole}
-use Rattle.nf_filter.proofs.AgainLemmas.{taken}
+use Rattle.nf_filter.proofs.AgainLemmas.{taken, answered}
 
 -- the same end for any value
-pub same_end : {A B : Type 0} (base : ℕ) (a : A) (b : B) (ending : Ending) (fault : Fault) → Err fault ≡ answer_at_end base a ending → answer_at_end base b ending ≡ Err fault
-same_end base a b Whole fault e = cc
-same_end base a b (Bad at start) fault e = cc
-same_end base a b (Cut at start) fault e = cc
-
-pub no_end : {A B : Type 0} (base : ℕ) (a : A) (b : B) (ending : Ending) → Ok a ≡ answer_at_end base a ending → answer_at_end base b ending ≡ Ok b
+no_end : {A B : Type 0} (base : ℕ) (a : A) (b : B) (ending : Ending) → Ok a ≡ answer_at_end base a ending → answer_at_end base b ending ≡ Ok b
 no_end base a b Whole e = refl
 no_end base a b (Bad at start) e = refl
 no_end base a b (Cut at start) e = cc
 
--- what is written then
-pub cut_short : (base : ℕ) (ending : Ending) (fault : Fault) (settled whole : List ℕ) → Err fault ≡ answer_at_end base (tt {0}) ending → whole_or ending settled whole ≡ settled
-cut_short base Whole fault settled whole e = cc
-cut_short base (Bad at start) fault settled whole e = cc
-cut_short base (Cut at start) fault settled whole e = refl
-
-pub not_cut_short : (base : ℕ) (ending : Ending) (settled whole : List ℕ) → Ok (tt {0}) ≡ answer_at_end base (tt {0}) ending → whole_or ending settled whole ≡ whole
-not_cut_short base Whole settled whole e = refl
-not_cut_short base (Bad at start) settled whole e = refl
-not_cut_short base (Cut at start) settled whole e = cc
+-- and what is written where it is a fault
+cut_short : {B : Type 0} (base : ℕ) (b : B) (ending : Ending) (fault : Fault) (settled whole : List ℕ) → Err fault ≡ answer_at_end base (tt {0}) ending
+    → (answer_at_end base b ending ≡ Err fault) × (whole_or ending settled whole ≡ settled)
+cut_short base b Whole fault settled whole e = cc
+cut_short base b (Bad at start) fault settled whole e = cc
+cut_short base b (Cut at start) fault settled whole e = (cc, refl)
 
 -- the answer at the end, where ill-formed bytes are replaced or not
 strict_is : (r a : Bool) (p : Properties) (base : ℕ) (bytes settled whole : List ℕ) → r ≡ false → (end_under r a p base bytes ≡ answer_at_end base (tally_of r p bytes) (ending_of bytes))
@@ -117,16 +108,14 @@ module _ (policy : Policy) (f : Form) (p : Properties) (base : ℕ) (laws : Repl
           subst (HasTaken f p counted) (sym whole_is) read.taken,
           Puts-at refl (sym (read-settled policy f p base laws counted reading bytes read) ∙ ap (settled_text f p) (sym whole_is)) (Puts-none sink (settled_utf8 policy f p bytes)),
           strict.0 ∙ no_end base (tt {0}) (tally_of policy.replace p bytes) (ending_of bytes) told,
-          strict.1 ∙ not_cut_short base (ending_of bytes) _ _ told,
+          strict.1 ∙ answered base (tt {0}) (tt {0}) (ending_of bytes) (sym told) _ _,
         )
     close-strict (Err fault) is other =
         let told : Err fault ≡ answer_at_end base (tt {0}) (ending_of bytes) = is ∙ sym end_is in
         let strict = strict_is policy.replace policy.assigned p base bytes (settled_utf8 policy f p bytes) final strict in
+        let short = cut_short base (tally_of policy.replace p bytes) (ending_of bytes) fault (settled_utf8 policy f p bytes) final told in
         Finishes-of policy f p base bytes sink sink (Err fault) (λ e. absurd (other fault refl (let same : fault ≡ Write = cc in same)))
-        (λ _. (
-          Puts-at refl (sym (strict.1 ∙ cut_short base (ending_of bytes) fault _ _ told)) (Puts-none sink (settled_utf8 policy f p bytes)),
-          sym (strict.0 ∙ same_end base (tt {0}) (tally_of policy.replace p bytes) (ending_of bytes) fault told),
-        ))
+        (λ _. (Puts-at refl (sym (strict.1 ∙ short.1)) (Puts-none sink (settled_utf8 policy f p bytes)), sym (strict.0 ∙ short.0)))
 
   -- what the end cuts is replaced
   module _ (replaces : policy.replace ≡ true) (carried : ℕ) (is_carried : length (encode_utf8_all (text_of read.tail)) + carried ≡ length read.tail) where

@@ -75,12 +75,17 @@ module _ (p : Properties) where
           ∙ take_while-stop p.assigned fails.front fails.c (fails.rest ++ y) fails.passed fails.failed in
           inr (omega (arith, ap length here, ap length fails.text, shorter fails.front fails.c fails.rest), more ∙ sym here)
 
+  -- the first fault, by what may be taken of a text of n characters
+  abbrev fault_by : (List ℕ → ℕ) → List ℕ → ℕ → Option Fault → Option Fault
+  fault_by place front n other = if is_usable p front then (if length front == n then other else Some (Unassigned (place front))) else Some (Row (place (usable p front)))
+
+  pub first_fault-is : (a : Bool) (place : List ℕ → ℕ) (x : List ℕ) (other : Option Fault) → first_fault a p place x other ≡ fault_by place (allowed a p x) (length x) other
+  first_fault-is true place x other = refl
+  first_fault-is false place x other = rw (eq-eqb (length x) (length x) refl) refl
+
   -- a text all of which is taken
   pub first_fault-none : (a : Bool) (place : List ℕ → ℕ) (x : List ℕ) (other : Option Fault) → is_usable p x ≡ true → allowed a p x ≡ x → first_fault a p place x other ≡ other
-  first_fault-none false place x other sound all = ap (λ b. if b then other else Some (Row (place (usable p x)))) sound
-  first_fault-none true place x other sound all =
-      ap (λ (b : Bool). if b then (if length (allowed true p x) == length x then other else Some (Unassigned (place (allowed true p x)))) else Some (Row (place (usable p (allowed true p x))))) (ap (is_usable p) all ∙ sound)
-      ∙ ap (λ (b : Bool). if b then other else Some (Unassigned (place (allowed true p x)))) (eq-eqb _ _ (ap length all))
+  first_fault-none a place x other sound all = rw (first_fault-is a place x other, all, sound, eq-eqb (length x) (length x) refl) refl
 
   -- what is taken to its end
   pub taken_whole : (a : Bool) (x : List ℕ) → is_taken a p x ≡ true → (is_usable p x ≡ true) × (allowed a p x ≡ x)
@@ -92,43 +97,27 @@ module _ (p : Properties) where
   -- what was not taken stays so, whatever follows
   pub first_fault-stays : (a : Bool) (place : List ℕ → ℕ) (x y : List ℕ) (other : Option Fault) (fault : Fault) → Some fault ≡ first_fault a p place x None
       → (first_fault a p place (x ++ y) other ≡ Some fault) × (usable p (allowed a p (x ++ y)) ≡ usable p (allowed a p x))
-  first_fault-stays false place x y other fault is = next (is_usable p x) refl is
+  first_fault-stays a place x y other fault is = ⊎_elim all stopped (allowed-grows a x y)
     where
-      next : (b : Bool) → is_usable p x ≡ b → Some fault ≡ (if b then None else Some (Row (place (usable p x)))) → (first_fault false p place (x ++ y) other ≡ Some fault) × (usable p (x ++ y) ≡ usable p x)
-      next true e is = cc
-      next false e is =
-          let same = usable-stays p x y e in
-          (ap (λ (b : Bool). if b then other else Some (Row (place (usable p (x ++ y))))) (is_usable-stays_out p x y e) ∙ ap (λ l. Some (Row (place l))) same ∙ sym is, same)
-  first_fault-stays true place x y other fault is = ⊎_elim all stopped (allowed-grows true x y)
-    where
-      all : allowed true p x ≡ x → (first_fault true p place (x ++ y) other ≡ Some fault) × (usable p (allowed true p (x ++ y)) ≡ usable p (allowed true p x))
-      all same = next (is_usable p x) refl (is ∙ told)
+      told : fault_by place (allowed a p x) (length x) None ≡ Some fault
+      told = sym (is ∙ first_fault-is a place x None)
+
+      all : allowed a p x ≡ x → (first_fault a p place (x ++ y) other ≡ Some fault) × (usable p (allowed a p (x ++ y)) ≡ usable p (allowed a p x))
+      all same = next (is_usable p x) refl
         where
-          told : first_fault true p place x None ≡ (if is_usable p x then None else Some (Row (place (usable p x))))
-          told = ap (λ l. if is_usable p l then (if length l == length x then None else Some (Unassigned (place l))) else Some (Row (place (usable p l)))) same
-              ∙ ap (λ (b : Bool). if is_usable p x then (if b then None else Some (Unassigned (place x))) else Some (Row (place (usable p x)))) (eq-eqb (length x) (length x) refl)
+          next : (b : Bool) → is_usable p x ≡ b → (first_fault a p place (x ++ y) other ≡ Some fault) × (usable p (allowed a p (x ++ y)) ≡ usable p (allowed a p x))
+          next true e = let none : None ≡ Some fault = rw (same, e, eq-eqb (length x) (length x) refl) at told in cc
+          next false e =
+              let longer : allowed a p (x ++ y) ≡ x ++ allowed a p y = allowed-append a x y same in
+              let out : is_usable p (allowed a p (x ++ y)) ≡ false = ap (is_usable p) longer ∙ is_usable-stays_out p x (allowed a p y) e in
+              let stays : usable p (allowed a p (x ++ y)) ≡ usable p x = ap (usable p) longer ∙ usable-stays p x (allowed a p y) e in
+              (rw (first_fault-is a place (x ++ y) other, out, stays) (rw (same, e) at told), stays ∙ ap (usable p) (sym same))
 
-          next : (b : Bool) → is_usable p x ≡ b → Some fault ≡ (if b then None else Some (Row (place (usable p x)))) → (first_fault true p place (x ++ y) other ≡ Some fault) × (usable p (allowed true p (x ++ y)) ≡ usable p (allowed true p x))
-          next true e is = cc
-          next false e is =
-              let longer : allowed true p (x ++ y) ≡ x ++ allowed true p y = allowed-append true x y same in
-              let out : is_usable p (allowed true p (x ++ y)) ≡ false = ap (is_usable p) longer ∙ is_usable-stays_out p x (allowed true p y) e in
-              let stays : usable p (allowed true p (x ++ y)) ≡ usable p x = ap (usable p) longer ∙ usable-stays p x (allowed true p y) e in (
-                ap (λ (b : Bool). if b then (if length (allowed true p (x ++ y)) == length (x ++ y) then other else Some (Unassigned (place (allowed true p (x ++ y))))) else Some (Row (place (usable p (allowed true p (x ++ y)))))) out
-                    ∙ ap (λ l. Some (Row (place l))) stays ∙ sym is,
-                stays ∙ ap (usable p) (sym same),
-              )
-
-      stopped : (length (allowed true p x) < length x) × (allowed true p (x ++ y) ≡ allowed true p x) → (first_fault true p place (x ++ y) other ≡ Some fault) × (usable p (allowed true p (x ++ y)) ≡ usable p (allowed true p x))
+      stopped : (length (allowed a p x) < length x) × (allowed a p (x ++ y) ≡ allowed a p x) → (first_fault a p place (x ++ y) other ≡ Some fault) × (usable p (allowed a p (x ++ y)) ≡ usable p (allowed a p x))
       stopped less =
-          let less_too : ¬ (length (allowed true p x) ≡ length (x ++ y)) = λ e. omega (arith, less.0, e, length-append x y) in
-          let not_all : ¬ (length (allowed true p x) ≡ length x) = λ e. omega (arith, less.0, e) in (
-            ap (λ l. if is_usable p l then (if length l == length (x ++ y) then other else Some (Unassigned (place l))) else Some (Row (place (usable p l)))) less.1
-                ∙ ap (λ (b : Bool). if is_usable p (allowed true p x) then (if b then other else Some (Unassigned (place (allowed true p x)))) else Some (Row (place (usable p (allowed true p x))))) (ne_eqb _ _ less_too)
-                ∙ sym (ap (λ (b : Bool). if is_usable p (allowed true p x) then (if b then None else Some (Unassigned (place (allowed true p x)))) else Some (Row (place (usable p (allowed true p x))))) (ne_eqb _ _ not_all))
-                ∙ sym is,
-            ap (usable p) less.1,
-          )
+          let less_too : ¬ (length (allowed a p x) ≡ length (x ++ y)) = λ e. omega (arith, less.0, e, length-append x y) in
+          let not_all : ¬ (length (allowed a p x) ≡ length x) = λ e. omega (arith, less.0, e) in
+          (rw (first_fault-is a place (x ++ y) other, less.1, ne_eqb _ _ less_too) (rw (ne_eqb _ _ not_all) at told), ap (usable p) less.1)
 
   -- what of a text is taken is not lost when more follows
   pub taken-grows : (a : Bool) (x y : List ℕ) → Extends (usable p (allowed a p x)) (usable p (allowed a p (x ++ y)))

@@ -7,27 +7,21 @@ loop-rest-init g c = record { utf8 = c.utf8.text; behind = none_behind (g.R.Rows
 
 pub returns-in_default : goal.returns-in_default
 returns-in_default g c =
-    let p = g.R.Rows.properties c.args.rows.now in
-    let behind = c.past_known-more.result.1.now in
-    let here = piece_behind p c.args.text.now c.loop-rest.rest.now c.loop-rest.invariant.behind behind c.past_known-more.ensures.behind in
-    ends p c.args.text.now behind here (ap length (sym c.chars-chars.ensures.rest) ∙ c.in_default.ensures.steps.0.0)
+    let here = piece_behind _ _ _ c.loop-rest.invariant.behind _ c.past_known-more.ensures.behind in
+    ends _ _ _ here (ap length (sym c.chars-chars.ensures.rest) ∙ c.in_default.ensures.steps.0.0)
 
 pub returns-then-not-assigned : goal.returns-then-not-assigned
 returns-then-not-assigned g c =
-    let p = g.R.Rows.properties c.args.rows.now in
-    let behind = c.past_known-more.result.1.now in
-    let here = piece_behind p c.args.text.now c.loop-rest.rest.now c.loop-rest.invariant.behind behind c.past_known-more.ensures.behind in
-    stops_before p c.args.text.now behind here c.in-Some.c _ (sym c.chars-chars.ensures.rest ∙ c.in-Some.ensures.steps.0) (sym c.assigned.ensures ∙ c.if-not-assigned.true)
+    let here = piece_behind _ _ _ c.loop-rest.invariant.behind _ c.past_known-more.ensures.behind in
+    stops_before _ _ _ here c.in-Some.c _ (sym c.chars-chars.ensures.rest ∙ c.in-Some.ensures.steps.0) (sym c.assigned.ensures ∙ c.if-not-assigned.true)
 
 pub loop-rest-preserved : goal.loop-rest-preserved
 loop-rest-preserved g c =
-    let p = g.R.Rows.properties c.args.rows.now in
-    let behind = c.past_known-more.result.1.now in
-    let here = piece_behind p c.args.text.now c.loop-rest.rest.now c.loop-rest.invariant.behind behind c.past_known-more.ensures.behind in
+    let here = piece_behind _ _ _ c.loop-rest.invariant.behind _ c.past_known-more.ensures.behind in
     let e = sym c.chars-chars.ensures.rest ∙ c.in-Some.ensures.steps.0 ∙ ap (λ t. encode_utf8 c.in-Some.c ++ t) (sym c.as_str-rest.ensures) in
     record {
       utf8 = c.as_str-rest.utf8;
-      behind = piece_behind p c.args.text.now behind here c.as_str-rest.result.now (char_behind p behind c.as_str-rest.result.now c.in-Some.c here.rest_utf8 c.as_str-rest.utf8 e (sym c.assigned.ensures ∙ c.if-not-assigned.false));
+      behind = piece_behind _ _ _ here c.as_str-rest.result.now (char_behind _ c.past_known-more.result.1.now c.as_str-rest.result.now c.in-Some.c here.rest_utf8 c.as_str-rest.utf8 e (sym c.assigned.ensures ∙ c.if-not-assigned.false));
     }
 
 pub returns : goal.returns
