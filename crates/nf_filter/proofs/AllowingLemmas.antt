@@ -15,6 +15,7 @@ use Rattle.nf_filter.proofs.BlockLemmas.{Written-at}
 use Rattle.nf_filter.proofs.BlockLemmas.{Broken-at, Broken-extends}
 use Rattle.nf_normalizer.specs.Laws.Settled.{usable-all}
 use Rattle.nf_filter.proofs.PolicyLemmas.{allowed-grows, first_fault-stays, taken-all, taken_utf8-grows, first_fault-is}
+use Rattle.nf_filter.proofs.FeedingLemmas.{fed_by}
 
 module _ (f : Form) (p : Properties) where
   -- as far as all may be taken, only what is unsound stops
@@ -107,10 +108,7 @@ module _ (f : Form) (p : Properties) where
       taken = tt;
     }
       where
-        refused_by : Result (Unit {0}) Fault
-        refused_by = Err fault
-
-        stays : ¬ (refused_by ≡ Err WriteFault) → (first_fault a p place (w ++ y) None ≡ Some fault) × (usable p (allowed a p (w ++ y)) ≡ usable p (allowed a p w))
+        stays : ¬ (fed_by fault ≡ Err WriteFault) → (first_fault a p place (w ++ y) None ≡ Some fault) × (usable p (allowed a p (w ++ y)) ≡ usable p (allowed a p w))
         stays not = first_fault-stays p a place w y None fault (takes.fault not)
 
     -- all of a text was taken

@@ -1,7 +1,7 @@
 -- What a check decides, character by character and front by front.
-use Rattle.std.proofs.Common.{◌≡◌, ℕ, ◌+◌, Bool, true, false, ◌&&◌, List, [], ◌∷◌, ◌++◌, length, Some, None, Ok, Err, refl, sym, ap, ◌∙◌, subst, append_assoc, append-nil, if◌then◌else◌, Option, Result, option_map, encode_utf8_all, chars}
+use Rattle.std.proofs.Common.{◌≡◌, ℕ, ◌+◌, Bool, true, false, List, [], ◌∷◌, ◌++◌, length, Some, None, Ok, Err, refl, sym, ap, ◌∙◌, subst, append_assoc, append-nil, if◌then◌else◌, Option, Result, option_map, encode_utf8_all, chars}
 use Rattle.std.specs.List.{list_all}
-use Rattle.std.proofs.lemmas.Bool.{cond-true, or_left, and_parts, and_from}
+use Rattle.std.proofs.lemmas.Bool.{cond-true, or_left, and_parts, and_from, and_left, and_right}
 use Rattle.std.proofs.lemmas.List.Folds.{list_all-append}
 use Rattle.nf_forms.specs.Properties.{Properties}
 use Rattle.nf_forms.specs.Runs.{has_starter, lead}
@@ -40,13 +40,7 @@ module _ (p : Properties) where
   all_sound-push x c all sound = list_all-append (is_sound p) x (c ∷ []) ∙ and_from _ _ all (and_from _ _ sound refl)
 
   not_all : (x : List ℕ) (c : ℕ) (y : List ℕ) → is_sound p c ≡ false → list_all (is_sound p) ((x ++ c ∷ []) ++ y) ≡ false
-  not_all x c y unsound =
-      list_all-append (is_sound p) (x ++ c ∷ []) y
-      ∙ ap (λ b. b && list_all (is_sound p) y) (list_all-append (is_sound p) x (c ∷ []) ∙ ap (λ b. list_all (is_sound p) x && (b && true)) unsound ∙ never (list_all (is_sound p) x))
-    where
-      never : (b : Bool) → (b && (false && true)) ≡ false
-      never true = refl
-      never false = refl
+  not_all x c y unsound = list_all-append (is_sound p) (x ++ c ∷ []) y ∙ and_left _ _ (list_all-append (is_sound p) x (c ∷ []) ∙ and_right _ _ (and_left (is_sound p c) true unsound))
 
   module _ (base : ℕ) where
     stop_at : (x y : List ℕ) (o : Option Place) (b : Bool) → sound_front p x ≡ y → place_from base p y ≡ o → list_all (is_sound p) x ≡ b

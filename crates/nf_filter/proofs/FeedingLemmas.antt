@@ -1,5 +1,5 @@
 -- What feeding all that a source gives comes to, by where it stopped.
-use Rattle.std.proofs.Common.{◌≡◌, ℕ, ◌+◌, ◌<◌, ◌≤◌, ◌^◌, ◌↔◌, true, false, List, [], ◌++◌, length, None, Ok, Err, ⊎_elim, refl, sym, ap, ◌∙◌, subst, arith, append_assoc, append-nil, IsTrue, IsFalse, Result, length-append}
+use Rattle.std.proofs.Common.{◌≡◌, ℕ, ◌+◌, ◌<◌, ◌≤◌, ◌^◌, ◌↔◌, true, false, List, [], ◌++◌, length, None, Ok, Err, ⊎_elim, refl, sym, ap, ◌∙◌, subst, arith, append_assoc, append-nil, IsTrue, IsFalse, Result, length-append, OnOk}
 use Rattle.std.specs.Io.KnownBytes.{Consumes, IsAtEnd}
 use Rattle.std.proofs.lemmas.Bool.{cases_lt}
 use Rattle.nf_forms.specs.Properties.{Properties}
@@ -17,6 +17,7 @@ use Rattle.nf_filter.specs.Feeds.{Feeds}
 use Rattle.nf_filter.specs.Drives.{FeedsAll}
 use Rattle.nf_filter.proofs.WritesLemmas.{Puts-none, Puts-join, Puts-at, BreaksOff-join}
 use Rattle.nf_filter.proofs.FilterLemmas.{StandsAfter-no_fault, StandsAfter-offset, StandsAfter-fits}
+use Rattle.std.specs.Result.{result_err}
 
 abbrev pub fed_by : Fault → Result (Unit {0}) Fault
 fed_by fault = Err fault
@@ -60,39 +61,31 @@ module _ (policy : Policy) (f : Form) (p : Properties) (base : ℕ) (state : Sta
       whole = append_assoc bytes fed piece
 
   module _ (most : ℕ) (source left : SourceState) where
-    -- the source failed
-    pub FeedsAll-failed : left.is_at_end ≡ false → Consumes source.coming left.coming fed → FeedsAll most policy f p base bytes source left old mid state (Err Read)
-    FeedsAll-failed before_end consumed = record {
+    -- nothing more was fed
+    fed_no_more : (r : Result (Unit {0}) Fault) → ¬ (r ≡ Err TooLong) → ¬ (r ≡ Err Write) → (¬ (r ≡ Err Read) → result_err r ≡ None) → Consumes source.coming left.coming fed → (IsTrue left.is_at_end → IsAtEnd left.coming)
+        → OnOk r (StandsAfter policy f p state (bytes ++ fed)) → FeedsAll most policy f p base bytes source left old mid state r
+    fed_no_more r short whole told consumed read_out stands = record {
       fed = fed;
       last = [];
       given = subst (Consumes source.coming left.coming) (sym (append-nil fed)) consumed;
       few = omega arith;
-      read_out = λ end. let absent : true ≡ false = sym end ∙ before_end in cc;
-      too_long = (λ e. cc, λ over. absurd (omega (arith, over, fits)));
+      read_out = read_out;
+      too_long = (λ e. absurd (short e), λ over. absurd (omega (arith, over, fits)));
       all_fed = λ _. refl;
-      broken_off = λ e. cc;
+      broken_off = λ e. absurd (whole e);
       written = λ _. so_far.put;
       no_fault = λ _. so_far.no_fault;
-      answer = λ _ unread _. absurd (unread refl);
-      stands = tt;
+      answer = λ _ unread _. told unread ∙ sym so_far.no_fault;
+      stands = stands;
     }
+
+    -- the source failed
+    pub FeedsAll-failed : left.is_at_end ≡ false → Consumes source.coming left.coming fed → FeedsAll most policy f p base bytes source left old mid state (Err Read)
+    FeedsAll-failed before_end consumed = fed_no_more (Err Read) (λ e. cc) (λ e. cc) (λ unread. absurd (unread refl)) consumed (λ end. let absent : true ≡ false = sym end ∙ before_end in cc) tt
 
     -- it ended
     pub FeedsAll-ended : Consumes source.coming left.coming fed → IsAtEnd left.coming → FeedsAll most policy f p base bytes source left old mid state (Ok tt)
-    FeedsAll-ended consumed read_out = record {
-      fed = fed;
-      last = [];
-      given = subst (Consumes source.coming left.coming) (sym (append-nil fed)) consumed;
-      few = omega arith;
-      read_out = λ _. read_out;
-      too_long = (λ e. cc, λ over. absurd (omega (arith, over, fits)));
-      all_fed = λ _. refl;
-      broken_off = λ e. cc;
-      written = λ _. so_far.put;
-      no_fault = λ _. so_far.no_fault;
-      answer = λ _ _ _. sym so_far.no_fault;
-      stands = so_far.stands;
-    }
+    FeedsAll-ended consumed read_out = fed_no_more (Ok tt) (λ e. cc) (λ e. cc) (λ _. refl) consumed (λ _. read_out) so_far.stands
 
     -- a piece was refused
     module _ (after : State) (piece : List ℕ) (new : SinkState) (fault : Fault) (before_end : left.is_at_end ≡ false) (consumed : Consumes source.coming left.coming (fed ++ piece)) (few : length piece ≤ most)

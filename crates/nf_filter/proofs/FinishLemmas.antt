@@ -32,6 +32,8 @@ use Rattle.nf_filter.proofs.FedLemmas.{read-text, read-settled, whole-none, whol
 use Rattle.std.proofs.lemmas.List.{nil_from_length}
 use Rattle.nf_filter.proofs.WholeLemmas.{settled-whole}
 use Rattle.nf_filter.proofs.AgainLemmas.{taken, answered}
+use Rattle.nf_filter.proofs.DriveLemmas.{refused_by}
+use Rattle.nf_filter.proofs.FeedingLemmas.{fed_by}
 
 -- the same end for any value
 no_end : {A B : Type 0} (base : ℕ) (a : A) (b : B) (ending : Ending) → Ok a ≡ answer_at_end base a ending → answer_at_end base b ending ≡ Ok b
@@ -57,12 +59,6 @@ replaced_is : (r a : Bool) (p : Properties) (base : ℕ) (bytes settled whole : 
     × (final_under r a p bytes settled whole ≡ (if is_taken a p (whole_under r bytes) then whole else settled))
 replaced_is true a p base bytes settled whole e = (refl, refl)
 replaced_is false a p base bytes settled whole e = cc
-
-abbrev finish_refused : Fault → Result Tally Fault
-finish_refused fault = Err fault
-
-abbrev close_refused : Fault → Result (Unit {0}) Fault
-close_refused fault = Err fault
 
 -- by what was written
 Finishes-of : (policy : Policy) (f : Form) (p : Properties) (base : ℕ) (bytes : List ℕ) (old new : SinkState) (r : Result Tally Fault)
@@ -155,7 +151,7 @@ module _ (policy : Policy) (f : Form) (p : Properties) (base : ℕ) (laws : Repl
         )
     close-replaced after old new (Err fault) cut = Finishes-of policy f p base bytes old new (Err fault) breaks puts
       where
-        breaks : finish_refused fault ≡ Err Write → BreaksOff old new (settled_utf8 policy f p bytes) (final_utf8 policy f p bytes)
+        breaks : refused_by fault ≡ Err Write → BreaksOff old new (settled_utf8 policy f p bytes) (final_utf8 policy f p bytes)
         breaks e =
             let broken = cut.broken (let same : fault ≡ Write = cc in ap Err same) in
             ⊎_elim
@@ -166,9 +162,9 @@ module _ (policy : Policy) (f : Form) (p : Properties) (base : ℕ) (laws : Repl
             (λ out. BreaksOff-at refl (kept out ∙ sym (final_is false out)) broken)
             (cases_Bool (is_taken policy.assigned p (whole_under policy.replace bytes)))
 
-        puts : ¬ (finish_refused fault ≡ Err Write) → Puts old new (settled_utf8 policy f p bytes) (final_utf8 policy f p bytes) × (finish_refused fault ≡ end_of policy p base bytes)
+        puts : ¬ (refused_by fault ≡ Err Write) → Puts old new (settled_utf8 policy f p bytes) (final_utf8 policy f p bytes) × (refused_by fault ≡ end_of policy p base bytes)
         puts not =
-            let other : ¬ (close_refused fault ≡ Err Write) = λ e. not (let same : fault ≡ Write = cc in ap Err same) in
+            let other : ¬ (fed_by fault ≡ Err Write) = λ e. not (let same : fault ≡ Write = cc in ap Err same) in
             let told = cut.fault other in
             let out : is_taken policy.assigned p (whole_under policy.replace bytes) ≡ false = false_from_ne_true _ (λ all.
             let both = taken_whole p policy.assigned (whole_under policy.replace bytes) all in

@@ -1,7 +1,7 @@
 -- How far a text is taken under a policy.
-use Rattle.std.proofs.Common.{◌≡◌, ℕ, ◌+◌, ◌==◌, ◌<◌, Bool, true, false, List, [], ◌∷◌, ◌++◌, length, Option, Some, None, ◌⊎◌, inl, inr, ⊎_elim, refl, sym, ap, ◌∙◌, subst, arith, append-nil, append_assoc, eq-eqb, ne_eqb, take_while, if◌then◌else◌, length-append}
-use Rattle.std.specs.List.{list_all}
-use Rattle.std.proofs.lemmas.Bool.{and_parts, and_from, cond-true, cond-false, eqb-true}
+use Rattle.std.proofs.Common.{◌≡◌, ℕ, ◌+◌, ◌==◌, ◌<◌, Bool, true, false, List, [], ◌∷◌, ◌++◌, length, Option, Some, None, ◌⊎◌, inl, inr, ⊎_elim, refl, sym, ap, ◌∙◌, subst, arith, append-nil, append_assoc, eq-eqb, ne_eqb, take_while, if◌then◌else◌, length-append, take}
+use Rattle.std.specs.List.{list_all, prefix_len}
+use Rattle.std.proofs.lemmas.Bool.{and_parts, cond-true, cond-false, eqb-true, eqb-false}
 use Rattle.nf_forms.specs.Properties.{Properties}
 use Rattle.nf_forms.specs.declared.form.Form.{Form}
 use Rattle.nf_filter.specs.declared.fault.Fault.{Fault}
@@ -11,17 +11,11 @@ use Rattle.nf_filter.specs.Feeding.{taken_utf8}
 use Rattle.nf_filter.specs.Policy.{allowed}
 use Rattle.nf_filter.specs.Settled.{settled, is_usable, usable}
 use Rattle.nf_normalizer.specs.Laws.Settled.{Extends, Extends-none, Extends-encodes, settled-extends, is_usable-stays_out, usable-all, usable-grows, usable-stays}
-use Rattle.std.proofs.lemmas.List.Sums.{take_while-cons}
+use Rattle.std.proofs.lemmas.List.Sums.{take_while-cons, prefix_len-le-length}
 use Rattle.nf_filter.specs.Finishes.{is_taken}
-
--- the first character of a text that does not pass a test
-pub record Fails (test : ℕ → Bool) (x : List ℕ) : Type 0 where
-  pub front : List ℕ
-  pub c : ℕ
-  pub rest : List ℕ
-  pub text : x ≡ (front ++ c ∷ []) ++ rest
-  pub passed : list_all test front ≡ true
-  pub failed : test c ≡ false
+use Rattle.std.proofs.lemmas.List.Folds.{length-prefix_len, prefix_len-append}
+use Rattle.std.proofs.lemmas.List.{take-append-le, take_all}
+use Rattle.std.proofs.Math.Seq.{take-append-add}
 
 module _ (test : ℕ → Bool) where
   pub take_while-append : (x y : List ℕ) → list_all test x ≡ true → take_while test (x ++ y) ≡ x ++ take_while test y
@@ -37,27 +31,23 @@ module _ (test : ℕ → Bool) where
   take_while-stop x c y all fails =
       ap (take_while test) (append_assoc x (c ∷ []) y) ∙ take_while-append x (c ∷ y) all ∙ ap (λ l. x ++ l) (take_while-cons test c y ∙ cond-false _ _ _ fails) ∙ append-nil x
 
-  -- all pass, or one is the first that does not
-  pub passes_or_not : (x : List ℕ) → (list_all test x ≡ true) ⊎ Fails test x
-  passes_or_not [] = inl refl
-  passes_or_not (c ∷ x) = next (test c) refl (passes_or_not x)
-    where
-      next : (b : Bool) → test c ≡ b → (list_all test x ≡ true) ⊎ Fails test x → (list_all test (c ∷ x) ≡ true) ⊎ Fails test (c ∷ x)
-      next true e (inl all) = inl (and_from _ _ e all)
-      next true e (inr fails) = inr (record { front = c ∷ fails.front; c = fails.c; rest = fails.rest; text = ap (λ l. c ∷ l) fails.text; passed = and_from _ _ e fails.passed; failed = fails.failed })
-      next false e o = inr (record { front = []; c = c; rest = x; text = refl; passed = refl; failed = e })
+  -- where all of x pass, more of a longer text may; where not, no more does
+  take_while-more : (x y : List ℕ) → take_while test x ≡ x → take_while test (x ++ y) ≡ x ++ take_while test y
+  take_while-more x y all =
+      let n : prefix_len test x ≡ length x = sym (length-prefix_len test x) ∙ ap length all in
+      ap (λ n. take n (x ++ y)) (prefix_len-append test x y ∙ cond-true _ _ _ (eq-eqb _ _ n)) ∙ take-append-add x y (prefix_len test y)
 
-shorter : (front : List ℕ) (c : ℕ) (rest : List ℕ) → length front < length ((front ++ c ∷ []) ++ rest)
-shorter front c rest = omega (arith, length-append (front ++ c ∷ []) rest, length-append front (c ∷ []))
+  take_while-no_more : (x y : List ℕ) → ¬ (prefix_len test x ≡ length x) → (length (take_while test x) < length x) × (take_while test (x ++ y) ≡ take_while test x)
+  take_while-no_more x y not = (
+    omega (arith, length-prefix_len test x, prefix_len-le-length test x, not),
+    ap (λ n. take n (x ++ y)) (prefix_len-append test x y ∙ cond-false _ _ _ (ne_eqb _ _ not)) ∙ take-append-le (prefix_len test x) x y (prefix_len-le-length test x),
+  )
 
 module _ (p : Properties) where
   -- where all are allowed, one more
   pub allowed-append : (a : Bool) (x y : List ℕ) → allowed a p x ≡ x → allowed a p (x ++ y) ≡ x ++ allowed a p y
   allowed-append false x y all = refl
-  allowed-append true x y all = ⊎_elim
-      (λ passes. take_while-append p.assigned x y passes)
-      (λ fails. let less = shorter fails.front fails.c fails.rest in absurd (omega (arith, less, ap length fails.text, ap length (sym all ∙ ap (take_while p.assigned) fails.text ∙ take_while-stop p.assigned fails.front fails.c fails.rest fails.passed fails.failed))))
-      (passes_or_not p.assigned x)
+  allowed-append true x y all = take_while-more p.assigned x y all
 
   pub allowed-none : (a : Bool) → allowed a p [] ≡ []
   allowed-none false = refl
@@ -66,14 +56,11 @@ module _ (p : Properties) where
   -- what was allowed stays, and where not all was, no more is
   pub allowed-grows : (a : Bool) (x y : List ℕ) → (allowed a p x ≡ x) ⊎ ((length (allowed a p x) < length x) × (allowed a p (x ++ y) ≡ allowed a p x))
   allowed-grows false x y = inl refl
-  allowed-grows true x y = ⊎_elim (λ passes. inl (take_while-all p.assigned x passes)) stopped (passes_or_not p.assigned x)
+  allowed-grows true x y = next (prefix_len p.assigned x == length x) refl
     where
-      stopped : Fails p.assigned x → (allowed true p x ≡ x) ⊎ ((length (allowed true p x) < length x) × (allowed true p (x ++ y) ≡ allowed true p x))
-      stopped fails =
-          let here : allowed true p x ≡ fails.front = ap (allowed true p) fails.text ∙ take_while-stop p.assigned fails.front fails.c fails.rest fails.passed fails.failed in
-          let more : allowed true p (x ++ y) ≡ fails.front = ap (λ l. allowed true p (l ++ y)) fails.text ∙ ap (allowed true p) (append_assoc (fails.front ++ fails.c ∷ []) fails.rest y)
-          ∙ take_while-stop p.assigned fails.front fails.c (fails.rest ++ y) fails.passed fails.failed in
-          inr (omega (arith, ap length here, ap length fails.text, shorter fails.front fails.c fails.rest), more ∙ sym here)
+      next : (b : Bool) → (prefix_len p.assigned x == length x) ≡ b → (allowed true p x ≡ x) ⊎ ((length (allowed true p x) < length x) × (allowed true p (x ++ y) ≡ allowed true p x))
+      next true e = inl (take_all (prefix_len p.assigned x) x (omega (arith, eqb-true _ _ e)))
+      next false e = inr (take_while-no_more p.assigned x y (eqb-false _ _ e))
 
   -- the first fault, by what may be taken of a text of n characters
   abbrev fault_by : (List ℕ → ℕ) → List ℕ → ℕ → Option Fault → Option Fault

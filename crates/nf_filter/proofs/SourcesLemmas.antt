@@ -1,5 +1,5 @@
 -- What reading a source comes to, by where it stopped.
-use Rattle.std.proofs.Common.{◌≡◌, ℕ, ◌+◌, ◌<◌, ◌≤◌, ◌^◌, ◌↔◌, true, false, List, [], ◌++◌, length, Ok, Err, refl, sym, ap, ◌∙◌, subst, arith, append_assoc, append-nil, Option, Bool, Result, length-append}
+use Rattle.std.proofs.Common.{◌≡◌, ℕ, ◌+◌, ◌<◌, ◌≤◌, ◌^◌, ◌↔◌, true, false, List, [], ◌++◌, length, Ok, Err, refl, sym, ap, ◌∙◌, subst, arith, append_assoc, append-nil, Option, Bool, Result, length-append, OnOk}
 use Rattle.std.specs.Io.KnownBytes.{Consumes, IsAtEnd}
 use Rattle.nf_utf8.specs.Ending.{Ending, Whole, Bad, Cut as CutShort}
 use Rattle.nf_utf8.specs.Reading.{text_of, ending_of}
@@ -53,32 +53,27 @@ module _ (most : ℕ) (stands fed_stands : List ℕ → Type 0) (stops : List �
   -- it ended
   pub ReadsAll-ended : (result : Result (Unit {0}) Fault) → left.is_at_end ≡ true → Consumes source.coming left.coming fed → IsAtEnd left.coming
       → result ≡ answer_at_end base (tt {0}) (ending_of (bytes ++ fed)) → stands (text_of (bytes ++ fed)) → ReadsAll most stands stops base reading bytes source left (stop_at_end result)
-  ReadsAll-ended (Ok u) at_end consumed read_out is taken = record {
+  ReadsAll-ended result at_end consumed read_out is taken = record {
     before = fed;
     last = [];
     given = subst (λ l. Consumes source.coming left.coming l) (sym same_fed) consumed;
     few = omega arith;
     read_out = λ _. read_out;
     unstopped = so_far.unstopped;
-    too_long = (λ e. cc, λ over. absurd (omega (arith, over, fits)));
+    too_long = (λ e. absurd (kinds result is e), λ over. absurd (omega (arith, over, fits)));
     failed = λ _. refl;
     ended = λ _. (refl, ap stop_at_end is);
     stopped = λ before_end. let absent : true ≡ false = sym at_end ∙ before_end in cc;
-    read = record { offset = so_far.offset; decoder = so_far.decoder; taken = taken; unstopped = so_far.unstopped };
+    read = stands_so result;
   }
-  ReadsAll-ended (Err fault) at_end consumed read_out is taken = record {
-    before = fed;
-    last = [];
-    given = subst (λ l. Consumes source.coming left.coming l) (sym same_fed) consumed;
-    few = omega arith;
-    read_out = λ _. read_out;
-    unstopped = so_far.unstopped;
-    too_long = (λ e. absurd (end_kinds base (ending_of (bytes ++ fed)) fault is (let same : fault ≡ TooLong = cc in same)), λ over. absurd (omega (arith, over, fits)));
-    failed = λ _. refl;
-    ended = λ _. (refl, ap stop_at_end is);
-    stopped = λ before_end. let absent : true ≡ false = sym at_end ∙ before_end in cc;
-    read = tt;
-  }
+    where
+      kinds : (result : Result (Unit {0}) Fault) → result ≡ answer_at_end base (tt {0}) (ending_of (bytes ++ fed)) → ¬ (stop_at_end result ≡ Err (Refused TooLong))
+      kinds (Ok u) is e = cc
+      kinds (Err fault) is e = end_kinds base (ending_of (bytes ++ fed)) fault is (let same : fault ≡ TooLong = cc in same)
+
+      stands_so : (result : Result (Unit {0}) Fault) → OnOk (stop_at_end result) (HasRead stands stops base reading (bytes ++ fed))
+      stands_so (Ok u) = record { offset = so_far.offset; decoder = so_far.decoder; taken = taken; unstopped = so_far.unstopped }
+      stands_so (Err fault) = tt
 
   -- a piece stopped it
   pub ReadsAll-stopped : (after : Reading) (piece : List ℕ) (finds : Bool) (stop : Stop) → left.is_at_end ≡ false → Consumes source.coming left.coming (fed ++ piece) → length piece ≤ most

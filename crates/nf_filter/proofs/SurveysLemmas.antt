@@ -13,14 +13,12 @@ use Rattle.nf_filter.specs.Faults.{answer_at_end}
 use Rattle.nf_filter.specs.Taker.{stop_in}
 use Rattle.nf_filter.specs.Sources.{stop_at_end, ReadsAll, MayStopAll}
 use Rattle.nf_filter.specs.Surveys.{Surveys, IsOfSurvey}
+use Rattle.nf_filter.proofs.SourcesLemmas.{stopped_by}
 
 -- what is answered where something stops the reading: a fault, or what is made of the place
 abbrev pub told : {T : Type 0} → (Place → T) → Stop → Result T Fault
 told of_place (Refused fault) = Err fault
 told of_place (Found place) = Ok (of_place place)
-
-abbrev stopped_by : Stop → Result (Unit {0}) Stop
-stopped_by stop = Err stop
 
 refused_is : {T : Type 0} (of_place : Place → T) (stop : Stop) (fault : Fault) → told of_place stop ≡ Err fault → stop ≡ Refused fault
 refused_is of_place (Refused other) fault e = let same : other ≡ fault = cc in ap Refused same

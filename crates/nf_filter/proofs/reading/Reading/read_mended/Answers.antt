@@ -10,33 +10,20 @@ take_text-requires-clause-fits g c = HasPlaces-all 0 c.mended_text.result.now c.
 
 pub returns-in-Err-clause-reads : goal.returns-in-Err-clause-reads
 returns-in-Err-clause-reads g c = λ f base bytes start both none.
-    let p = g.R.Rows.properties c.args.rows.now in
     let read = both.0 in
-    let laws = c.replacing.ensures in
-    let replaces = c.requires.replaces in
-    let sound = c.all_sound.ensures c.if-not-all_sound.false in
     let mended = c.mend_allowed-len.ensures in
     let text = chars c.mend_allowed-len.new.mended.items in
-    let place = place_behind read.before 0 in
-    let standing = standing_before c.args.policy f p base bytes start laws replaces c.args.counted.now c.args.self.now c.args.rest.now read none (block_state (g.S.Sink.state c.args.sink.now) c.args.block.now) text both.1 in
-    let counted = counted_before c.args.policy f p base bytes start laws replaces c.args.counted.now c.args.self.now c.args.rest.now read none in
-    let takes = rw c.mended_text.ensures at (c.in-Err.ensures.takes f place read.before start counted (rw c.mended_text.ensures standing) (rw c.mended_text.ensures (placed_behind read.before text 0))) in
-    mended-refused c.args.policy f p base bytes start laws replaces c.args.counted.now c.args.self.now c.args.rest.now read none
-    text c.mend_allowed-len.result mended.replaced mended.allowed sound (block_state (g.S.Sink.state c.take_text.new.sink) c.take_text.new.block) c.take_text.new.self place c.in-Err.field-0 takes
+    let standing = standing_before c.replacing.ensures start c.requires.replaces read none (block_state (g.S.Sink.state c.args.sink.now) c.args.block.now) text both.1 in
+    let takes = rw c.mended_text.ensures at (c.in-Err.ensures.takes f (place_behind read.before 0) read.before start (counted_before c.replacing.ensures start c.requires.replaces read none) (rw c.mended_text.ensures standing) (rw c.mended_text.ensures (placed_behind read.before text 0))) in
+    mended-refused c.replacing.ensures start c.requires.replaces read none text c.mend_allowed-len.result mended.replaced mended.allowed (c.all_sound.ensures c.if-not-all_sound.false)
+    (block_state (g.S.Sink.state c.take_text.new.sink) c.take_text.new.block) c.take_text.new.self (place_behind read.before 0) c.in-Err.field-0 takes
 
 pub returns-clause-reads : goal.returns-clause-reads
 returns-clause-reads g c = λ f base bytes start both none.
-    let p = g.R.Rows.properties c.args.rows.now in
     let read = both.0 in
-    let laws = c.replacing.ensures in
-    let replaces = c.requires.replaces in
-    let sound = c.all_sound.ensures c.if-not-all_sound.false in
     let mended = c.mend_allowed-len.ensures in
     let text = chars c.mend_allowed-len.new.mended.items in
-    let place = place_behind read.before 0 in
-    let standing = standing_before c.args.policy f p base bytes start laws replaces c.args.counted.now c.args.self.now c.args.rest.now read none (block_state (g.S.Sink.state c.args.sink.now) c.args.block.now) text both.1 in
-    let counted = counted_before c.args.policy f p base bytes start laws replaces c.args.counted.now c.args.self.now c.args.rest.now read none in
-    let takes = rw c.mended_text.ensures at (c.in_default.ensures.takes f place read.before start counted (rw c.mended_text.ensures standing) (rw c.mended_text.ensures (placed_behind read.before text 0))) in
-    let slice = take_rest c.args.rest.now c.mend_allowed-len.result in
-    rw slice (mended-read c.args.policy f p base bytes start laws replaces c.args.counted.now c.args.self.now c.args.rest.now read none
-    text c.mend_allowed-len.result mended.replaced mended.allowed sound (block_state (g.S.Sink.state c.take_text.new.sink) c.take_text.new.block) c.take_text.new.self place _ takes refl refl)
+    let standing = standing_before c.replacing.ensures start c.requires.replaces read none (block_state (g.S.Sink.state c.args.sink.now) c.args.block.now) text both.1 in
+    let takes = rw c.mended_text.ensures at (c.in_default.ensures.takes f (place_behind read.before 0) read.before start (counted_before c.replacing.ensures start c.requires.replaces read none) (rw c.mended_text.ensures standing) (rw c.mended_text.ensures (placed_behind read.before text 0))) in
+    rw (take_rest c.args.rest.now c.mend_allowed-len.result) (mended-read c.replacing.ensures start c.requires.replaces read none text c.mend_allowed-len.result mended.replaced mended.allowed (c.all_sound.ensures c.if-not-all_sound.false)
+    (block_state (g.S.Sink.state c.take_text.new.sink) c.take_text.new.block) c.take_text.new.self (place_behind read.before 0) _ takes refl refl)
