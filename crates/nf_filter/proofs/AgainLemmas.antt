@@ -1,5 +1,5 @@
 -- What a filter wrote to the end is a text that is stream-safe and its own form, so that a second one changes nothing.
-use Rattle.std.proofs.Common.{◌≡◌, ℕ, ◌+◌, ◌-◌, Bool, true, false, ◌&&◌, ◌==◌, List, [], ◌∷◌, ◌++◌, map, length, Option, Some, None, Result, Ok, Err, refl, sym, ap, ap₂, ◌∙◌, subst, arith, append-nil, eq-eqb, IsTrue, OnOk, if◌then◌else◌, encode_utf8_all, inl}
+use Rattle.std.proofs.Common.{◌≡◌, ℕ, ◌+◌, ◌-◌, Bool, true, false, ◌==◌, List, [], ◌∷◌, ◌++◌, length, Option, Some, None, Result, Ok, Err, refl, sym, ap, ap₂, ◌∙◌, subst, arith, append-nil, eq-eqb, IsTrue, OnOk, if◌then◌else◌, encode_utf8_all, inl}
 use Rattle.std.proofs.lemmas.Bool.{and_from, and_parts}
 use Rattle.std.proofs.str.Laws.{scalars-append}
 use Rattle.std.specs.List.{list_all}
@@ -15,10 +15,10 @@ use Rattle.nf_forms.specs.Twice.{ChangesOnce}
 use Rattle.nf_forms.specs.Laws.Sound.{IsSoundText}
 use Rattle.nf_safe.specs.Place.{is_in_format}
 use Rattle.nf_safe.specs.Laws.Pieces.{in_format-unchanged}
-use Rattle.nf_utf8.specs.Text.{IsText}
+use Rattle.nf_utf8.specs.Text.{IsText, BeginsText}
 use Rattle.nf_utf8.specs.Ending.{Ending, Whole, Bad, Cut, moved}
 use Rattle.nf_utf8.specs.Reading.{text_of, ending_of}
-use Rattle.nf_utf8.specs.Replaced.{replacement, parts_of, own_parts, bytes_in, begun_at_end, replaced, replaced_whole}
+use Rattle.nf_utf8.specs.Replaced.{replacement, begun_at_end, replaced, replaced_whole}
 use Rattle.nf_utf8.specs.Laws.{ReadsLongestText, ReadsBack, ReplacesParts}
 use Rattle.nf_filter.specs.declared.fault.Fault.{Fault}
 use Rattle.nf_filter.specs.declared.policy.Policy.{Policy}
@@ -33,9 +33,10 @@ use Rattle.nf_filter.specs.Drives.{due_utf8, Drives, DrivesToEnd}
 use Rattle.nf_filter.specs.Whole.{whole_utf8, Converts}
 use Rattle.nf_filter.specs.Again.{TakesAll, nothing_put, StaysAsItIs, AddsWhatStays, DrivesOnce, FinishedStays}
 use Rattle.nf_filter.specs.Laws.Settled.{settled_utf8-none}
-use Rattle.nf_filter.proofs.PolicyLemmas.{first_fault-none}
+use Rattle.nf_filter.proofs.PolicyLemmas.{first_fault-none, taken}
 use Rattle.nf_filter.proofs.WholeLemmas.{without, answer_at, answer_without}
 use Rattle.nf_filter.proofs.ReadingLemmas.{text_of-none, ending_of-none}
+use Rattle.nf_filter.proofs.PieceLemmas.{text_under-begun, begun_at_end-begun}
 
 -- the end is no fault
 pub answered : {A : Type 0} (base : ℕ) (value told : A) (ending : Ending) → answer_at_end base value ending ≡ Ok told → (settled whole : List ℕ) → whole_or ending settled whole ≡ whole
@@ -48,26 +49,12 @@ none_told None value told e = refl
 none_told (Some fault) value told e = cc
 
 module _ (p : Properties) where
-  -- what has no fault is taken
-  pub taken : (assigned : Bool) (place : List ℕ → ℕ) (x : List ℕ) (other : Option Fault) → first_fault assigned p place x other ≡ None → is_taken assigned p x ≡ true
-  taken false place x other none = and_from _ _ (usable_by (is_usable p x) _ none) (eq-eqb (length x) (length x) refl)
-    where
-      usable_by : (b : Bool) (fault : Fault) → (if b then other else Some fault) ≡ None → b ≡ true
-      usable_by true fault e = refl
-      usable_by false fault e = cc
-  taken true place x other none = both (is_usable p (allowed true p x)) (length (allowed true p x) == length x) _ _ none
-    where
-      both : (b d : Bool) (first second : Fault) → (if b then (if d then other else Some first) else Some second) ≡ None → (b && d) ≡ true
-      both true true first second e = refl
-      both true false first second e = cc
-      both false d first second e = cc
-
-  -- then the whole form was written
+  -- where the end is no fault, the whole form was written
   module _ (base : ℕ) (bytes : List ℕ) (tally : Tally) where
     final_under-whole : (replace assigned : Bool) → end_under replace assigned p base bytes ≡ Ok tally → (settled whole : List ℕ) → final_under replace assigned p bytes settled whole ≡ whole
     final_under-whole false assigned end settled whole = answered base (tally_of false p bytes) tally (ending_of bytes) end settled whole
     final_under-whole true assigned end settled whole =
-        ap (λ (b : Bool). if b then whole else settled) (taken assigned (λ front. base + len_under true bytes front) (whole_under true bytes) None (none_told _ (tally_of true p bytes) tally end))
+        ap (λ (b : Bool). if b then whole else settled) (taken p assigned (λ front. base + len_under true bytes front) (whole_under true bytes) None (none_told _ (tally_of true p bytes) tally end))
 
     pub final-whole : (f : Form) (policy : Policy) → end_of policy p base bytes ≡ Ok tally → final_utf8 policy f p bytes ≡ encode_utf8_all (safe_form f p (whole_under policy.replace bytes))
     unfolding final_utf8 end_of
@@ -90,23 +77,18 @@ module _ (back : ReadsBack) (replacing : ReplacesParts) where
     ending-is : ending_of bytes_is ≡ Whole
     ending-is = ap ending_of (sym (append-nil bytes_is)) ∙ back.ending o [] scalars ∙ ap (moved (length bytes_is)) ending_of-none
 
-    parts-is : parts_of bytes_is ≡ own_parts o
-    parts-is = replacing.begun bytes_is ([], (o, (scalars, sym (append-nil bytes_is)))) ∙ ap own_parts text-is
+    begins : BeginsText bytes_is
+    begins = ([], (o, (scalars, sym (append-nil bytes_is))))
 
-    replaced-is : replaced bytes_is ≡ o
-    unfolding replaced
-    replaced-is = ap (map (λ part. part.char)) parts-is ∙ replacing.own_chars o
+    text_under-is : (replace : Bool) → text_under replace bytes_is ≡ o
+    text_under-is replace = text_under-begun replacing bytes_is begins replace ∙ text-is
 
     begun-is : begun_at_end bytes_is ≡ 0
-    begun-is = let all = ap bytes_in parts-is ∙ replacing.own_len o in omega (arith, all)
+    begun-is = omega (arith, begun_at_end-begun replacing bytes_is begins, ap (λ x. length (encode_utf8_all x)) text-is)
 
     whole-is : replaced_whole bytes_is ≡ o
     unfolding replaced_whole
-    whole-is = ap₂ (λ w n. w ++ (if n == 0 then [] else replacement ∷ [])) replaced-is begun-is ∙ append-nil o
-
-    text_under-is : (replace : Bool) → text_under replace bytes_is ≡ o
-    text_under-is false = text-is
-    text_under-is true = replaced-is
+    whole-is = ap₂ (λ w n. w ++ (if n == 0 then [] else replacement ∷ [])) (text_under-is true) begun-is ∙ append-nil o
 
     whole_under-is : (replace : Bool) → whole_under replace bytes_is ≡ o
     whole_under-is false = text-is

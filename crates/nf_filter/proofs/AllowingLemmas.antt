@@ -11,8 +11,7 @@ use Rattle.nf_filter.specs.Feeding.{taken_utf8, TakesAllowed}
 use Rattle.nf_filter.specs.Counted.{HasTaken, TakesOn, settled_text, unusable_at, usable_utf8}
 use Rattle.nf_filter.specs.Policy.{allowed}
 use Rattle.nf_filter.specs.Settled.{is_usable, usable}
-use Rattle.nf_filter.proofs.BlockLemmas.{Written-at}
-use Rattle.nf_filter.proofs.BlockLemmas.{Broken-at, Broken-extends}
+use Rattle.nf_filter.proofs.BlockLemmas.{Written-at, Broken-at, Broken-extends}
 use Rattle.nf_normalizer.specs.Laws.Settled.{usable-all}
 use Rattle.nf_filter.proofs.PolicyLemmas.{allowed-grows, first_fault-stays, taken-all, taken_utf8-grows, first_fault-is}
 use Rattle.nf_filter.proofs.FeedingLemmas.{fed_by}

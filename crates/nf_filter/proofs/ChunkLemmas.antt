@@ -22,8 +22,7 @@ use Rattle.nf_filter.specs.Feeding.{taken_utf8, TakesAllowed, IsLeft, HasReadTo,
 use Rattle.nf_filter.specs.Counted.{HasTaken, IsPlacedAt, settled_text}
 use Rattle.nf_filter.specs.Policy.{allowed, len_under, text_under}
 use Rattle.nf_filter.specs.Settled.{usable}
-use Rattle.nf_filter.proofs.BlockLemmas.{Written-at}
-use Rattle.nf_filter.proofs.BlockLemmas.{Broken-extends}
+use Rattle.nf_filter.proofs.BlockLemmas.{Written-at, Broken-extends}
 use Rattle.nf_normalizer.specs.Laws.Settled.{Extends}
 use Rattle.nf_filter.proofs.PolicyLemmas.{first_fault-none, first_fault-stays, taken_utf8-grows}
 use Rattle.nf_filter.proofs.AllowingLemmas.{TakesAllowed-settled}

@@ -25,11 +25,8 @@ module _ (most : ℕ) (policy : Policy) (f : Form) (p : Properties) (base : ℕ)
     fed_is : (k : Fault) → refused_by fault ≡ Err k → fed_by fault ≡ Err k
     fed_is k e = let same : fault ≡ k = cc in ap Err same
 
-    refused_is : (k : Fault) → fed_by fault ≡ Err k → refused_by fault ≡ Err k
-    refused_is k e = let same : fault ≡ k = cc in ap Err same
-
     other : (k : Fault) → ¬ (refused_by fault ≡ Err k) → ¬ (fed_by fault ≡ Err k)
-    other k not e = not (refused_is k e)
+    other k not e = let same : fault ≡ k = cc in not (ap Err same)
 
     never : {A : Type 0} → IsTrue left.is_at_end → A
     never end = let absent : true ≡ false = sym end ∙ going in cc
@@ -50,7 +47,7 @@ module _ (most : ℕ) (policy : Policy) (f : Form) (p : Properties) (base : ℕ)
       given = feeds.given;
       few = feeds.few;
       read_out = feeds.read_out;
-      too_long = (λ e. feeds.too_long.0 (fed_is TooLong e), λ over. refused_is TooLong (feeds.too_long.1 over));
+      too_long = (λ e. feeds.too_long.0 (fed_is TooLong e), λ over. let is = feeds.too_long.1 over in let same : fault ≡ TooLong = cc in ap Err same);
       all_fed = λ short. feeds.all_fed (other TooLong short);
       write = failed_if (refused_by fault) breaks puts;
       broken_off = breaks;

@@ -12,7 +12,7 @@ use Rattle.nf_filter.specs.declared.fault.Fault.TheVariants.{Write}
 use Rattle.nf_filter.specs.declared.counted.Counted.{Counted}
 use Rattle.nf_filter.specs.declared.policy.Policy.{Policy}
 use Rattle.nf_filter.specs.declared.reading.Reading.{Reading}
-use Rattle.nf_filter.specs.Block.{Start, BlockState, Written, Broken, WritesTo, GivesAll}
+use Rattle.nf_filter.specs.Block.{Start, BlockState, Written, WritesTo, GivesAll}
 use Rattle.nf_filter.specs.Faults.{bad_byte, bad_under, fault_in}
 use Rattle.nf_filter.specs.Feeding.{taken_utf8, IsLeft, HasReadTo, ReadsTo, RefusesBytes}
 use Rattle.nf_filter.specs.Counted.{settled_text}
@@ -20,9 +20,8 @@ use Rattle.nf_filter.specs.Policy.{allowed, len_under, text_under, whole_under}
 use Rattle.nf_filter.specs.Settled.{is_usable, settled_utf8}
 use Rattle.nf_filter.specs.Devices.{SinkState}
 use Rattle.nf_filter.specs.Feeds.{Feeds}
-use Rattle.nf_filter.proofs.BlockLemmas.{start_at, Written-at}
+use Rattle.nf_filter.proofs.BlockLemmas.{start_at, Written-at, Broken-at}
 use Rattle.nf_filter.proofs.FilterLemmas.{failed_if, write_or_kept}
-use Rattle.nf_filter.proofs.BlockLemmas.{Broken-at}
 use Rattle.nf_filter.proofs.PolicyLemmas.{first_fault-none, taken-all}
 use Rattle.nf_filter.proofs.PieceLemmas.{IsLeft-more, left-text, left-place, left-bad, left-whole, text_under-begun, begun_at_end-begun, len_under-first}
 use Rattle.nf_filter.specs.Writes.{Puts}
@@ -123,17 +122,15 @@ module _ (policy : Policy) (f : Form) (p : Properties) (base : ℕ) (laws : Repl
   abbrev pub ReadsAll : Result (Unit {0}) Fault → Type 0
   ReadsAll r = MatchResult r (λ _. ReadsTo policy f p counted start now base reading bytes []) (RefusesBytes policy f p start now base bytes)
 
-  pub rest-written : (r : Result (Unit {0}) Fault) → ReadsAll r → ¬ (r ≡ Err Write) → Written start now (settled_utf8 policy f p bytes)
-  rest-written (Ok u) reads not = Written-at (read-settled policy f p base laws counted reading bytes reads.0) reads.1
-  rest-written (Err fault) reads not = Written-at (settled_utf8-taken policy f p bytes) (reads.written (λ e. not (ap Err e)))
-
-  pub rest-broken : (r : Result (Unit {0}) Fault) → ReadsAll r → r ≡ Err Write → Broken start now (settled_utf8 policy f p bytes)
-  rest-broken (Ok u) reads e = cc
-  rest-broken (Err fault) reads e = Broken-at start (settled_utf8-taken policy f p bytes) (reads.broken (let same : fault ≡ Write = cc in same))
-
-  pub rest-answer : (r : Result (Unit {0}) Fault) → ReadsAll r → ¬ (r ≡ Err Write) → result_err r ≡ fault_in policy p base bytes
-  rest-answer (Ok u) reads not = sym (read-no_fault policy f p base laws counted reading bytes reads.0)
-  rest-answer (Err fault) reads not = reads.is (λ e. not (ap Err e))
+  pub rest-is : (r : Result (Unit {0}) Fault) → ReadsAll r → WritesTo start now (settled_utf8 policy f p bytes) r × (¬ (r ≡ Err Write) → result_err r ≡ fault_in policy p base bytes)
+  rest-is (Ok u) reads = (record { broken = λ e. cc; written = λ _. Written-at (read-settled policy f p base laws counted reading bytes reads.0) reads.1 }, λ _. sym (read-no_fault policy f p base laws counted reading bytes reads.0))
+  rest-is (Err fault) reads = (
+    record {
+      broken = λ e. Broken-at start (settled_utf8-taken policy f p bytes) (reads.broken (let same : fault ≡ Write = cc in same));
+      written = λ not. Written-at (settled_utf8-taken policy f p bytes) (reads.written (λ e. not (ap Err e)));
+    },
+    λ not. reads.is (λ e. not (ap Err e)),
+  )
 
 -- a piece was fed
 module _ (policy : Policy) (f : Form) (p : Properties) (base : ℕ) (laws : ReplacesParts) (sink new : SinkState) (bytes piece : List ℕ) (counted : Counted) (now : BlockState) (reading : Reading) (r : Result (Unit {0}) Fault)
@@ -152,10 +149,7 @@ module _ (policy : Policy) (f : Form) (p : Properties) (base : ℕ) (laws : Repl
       next (Err fault) reads = tt
 
   pub fed-writes : WritesTo start now settled r
-  fed-writes = record {
-    broken = rest-broken policy f p base laws counted start now reading (bytes ++ piece) r reads;
-    written = rest-written policy f p base laws counted start now reading (bytes ++ piece) r reads;
-  }
+  fed-writes = (rest-is policy f p base laws counted start now reading (bytes ++ piece) r reads).0
 
   -- the sink failed, or all was given
   pub fed-closed : (result : Result (Unit {0}) Fault) → GivesAll start new settled r result
@@ -165,7 +159,7 @@ module _ (policy : Policy) (f : Form) (p : Properties) (base : ℕ) (laws : Repl
       write = failed_if result closed.broken puts;
       broken_off = closed.broken;
       written = puts;
-      answer = λ not. rw (closed.given not).1 (rest-answer policy f p base laws counted start now reading (bytes ++ piece) r reads (λ e. not ((closed.given not).1 ∙ e)));
+      answer = λ not. rw (closed.given not).1 ((rest-is policy f p base laws counted start now reading (bytes ++ piece) r reads).1 (λ e. not ((closed.given not).1 ∙ e)));
     },
     ⊎_elim (λ e. rw e tt) (λ not. rw (closed.given not).1 fed-stands) (write_or_kept result),
   )

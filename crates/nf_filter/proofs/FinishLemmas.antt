@@ -26,12 +26,12 @@ use Rattle.nf_filter.proofs.WritesLemmas.{Puts-none, Puts-join, Puts-at, BreaksO
 use Rattle.nf_filter.proofs.BlockLemmas.{BreaksOff-extends}
 use Rattle.nf_normalizer.specs.Laws.Settled.{Extends-encodes, usable-all, usable-stop}
 use Rattle.nf_filter.proofs.FilterLemmas.{failed_if}
-use Rattle.nf_filter.proofs.PolicyLemmas.{allowed-append, allowed-grows, taken-all, taken_whole, first_fault-none}
+use Rattle.nf_filter.proofs.PolicyLemmas.{allowed-append, allowed-grows, taken-all, taken_whole, first_fault-none, taken}
 use Rattle.nf_filter.proofs.PieceLemmas.{left-end}
 use Rattle.nf_filter.proofs.FedLemmas.{read-text, read-settled, whole-none, whole-some, left_is}
 use Rattle.std.proofs.lemmas.List.{nil_from_length}
 use Rattle.nf_filter.proofs.WholeLemmas.{settled-whole}
-use Rattle.nf_filter.proofs.AgainLemmas.{taken, answered}
+use Rattle.nf_filter.proofs.AgainLemmas.{answered}
 use Rattle.nf_filter.proofs.DriveLemmas.{refused_by}
 use Rattle.nf_filter.proofs.FeedingLemmas.{fed_by}
 

@@ -14,8 +14,8 @@ use Rattle.nf_filter.specs.Settled.{is_usable}
 use Rattle.nf_filter.specs.Faults.{bad_under, first_fault, fault_in}
 use Rattle.nf_filter.specs.Finishes.{tally_of, end_under, end_of, is_taken, final_utf8}
 use Rattle.nf_filter.specs.Joined.{JoinsPieces}
-use Rattle.nf_filter.proofs.PolicyLemmas.{taken_whole}
-use Rattle.nf_filter.proofs.AgainLemmas.{none_told, taken, final-whole}
+use Rattle.nf_filter.proofs.PolicyLemmas.{taken_whole, taken}
+use Rattle.nf_filter.proofs.AgainLemmas.{none_told, final-whole}
 
 module _ (p : Properties) (base : ℕ) (bytes : List ℕ) (tally : Tally) where
   taken-whole : (replace assigned : Bool) → first_fault assigned p (λ front. base + len_under replace bytes front) (text_under replace bytes) (bad_under replace base bytes) ≡ None

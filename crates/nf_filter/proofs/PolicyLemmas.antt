@@ -1,5 +1,5 @@
 -- How far a text is taken under a policy.
-use Rattle.std.proofs.Common.{◌≡◌, ℕ, ◌+◌, ◌==◌, ◌<◌, Bool, true, false, List, [], ◌∷◌, ◌++◌, length, Option, Some, None, ◌⊎◌, inl, inr, ⊎_elim, refl, sym, ap, ◌∙◌, subst, arith, append-nil, append_assoc, eq-eqb, ne_eqb, take_while, if◌then◌else◌, length-append, take}
+use Rattle.std.proofs.Common.{◌≡◌, ℕ, ◌+◌, ◌==◌, ◌<◌, Bool, true, false, List, [], ◌∷◌, ◌++◌, length, Option, Some, None, ◌⊎◌, inl, inr, ⊎_elim, refl, sym, ap, ◌∙◌, subst, arith, append-nil, append_assoc, eq-eqb, ne_eqb, take_while, if◌then◌else◌, length-append, take, ◌&&◌}
 use Rattle.std.specs.List.{list_all, prefix_len}
 use Rattle.std.proofs.lemmas.Bool.{and_parts, cond-true, cond-false, eqb-true, eqb-false}
 use Rattle.nf_forms.specs.Properties.{Properties}
@@ -73,6 +73,15 @@ module _ (p : Properties) where
   -- a text all of which is taken
   pub first_fault-none : (a : Bool) (place : List ℕ → ℕ) (x : List ℕ) (other : Option Fault) → is_usable p x ≡ true → allowed a p x ≡ x → first_fault a p place x other ≡ other
   first_fault-none a place x other sound all = rw (first_fault-is a place x other, all, sound, eq-eqb (length x) (length x) refl) refl
+
+  -- what has no fault is taken
+  pub taken : (a : Bool) (place : List ℕ → ℕ) (x : List ℕ) (other : Option Fault) → first_fault a p place x other ≡ None → is_taken a p x ≡ true
+  taken a place x other none = both (is_usable p (allowed a p x)) (length (allowed a p x) == length x) _ _ (sym (first_fault-is a place x other) ∙ none)
+    where
+      both : (b d : Bool) (first second : Fault) → (if b then (if d then other else Some first) else Some second) ≡ None → (b && d) ≡ true
+      both true true first second e = refl
+      both true false first second e = cc
+      both false d first second e = cc
 
   -- what is taken to its end
   pub taken_whole : (a : Bool) (x : List ℕ) → is_taken a p x ≡ true → (is_usable p x ≡ true) × (allowed a p x ≡ x)

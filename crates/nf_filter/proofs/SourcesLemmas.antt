@@ -26,24 +26,20 @@ end_kinds base (CutShort at start) fault is = λ e. let same : fault ≡ Cut (ba
 abbrev pub stopped_by : Stop → Result (Unit {0}) Stop
 stopped_by stop = Err stop
 
-module _ (most : ℕ) (stands fed_stands : List ℕ → Type 0) (stops : List ℕ → Option Stop) (base : ℕ) (bytes fed : List ℕ) (source left : SourceState)
-    (reading : Reading) (so_far : HasRead fed_stands stops base reading (bytes ++ fed)) where
-  fits : base + length bytes + length fed < 2 ^ 64
-  fits = omega (arith, so_far.offset, reading.offset_fits, length-append bytes fed)
+fits : {stands : List ℕ → Type 0} {stops : List ℕ → Option Stop} {base : ℕ} {reading : Reading} (bytes fed : List ℕ) → HasRead stands stops base reading (bytes ++ fed) → base + length bytes + length fed < 2 ^ 64
+fits {reading = reading} bytes fed so_far = omega (arith, so_far.offset, reading.offset_fits, length-append bytes fed)
 
-  same_fed : fed ++ [] ≡ fed
-  same_fed = append-nil fed
-
+module _ {most : ℕ} {stands fed_stands : List ℕ → Type 0} {stops : List ℕ → Option Stop} {base : ℕ} {bytes : List ℕ} (fed : List ℕ) {source left : SourceState} {reading : Reading} (so_far : HasRead fed_stands stops base reading (bytes ++ fed)) where
   -- the source failed
   pub ReadsAll-failed : (after : Reading) → left.is_at_end ≡ false → Consumes source.coming left.coming fed → ReadsAll most stands stops base after bytes source left (Err (Refused Read))
   ReadsAll-failed after before_end consumed = record {
     before = fed;
     last = [];
-    given = subst (λ l. Consumes source.coming left.coming l) (sym same_fed) consumed;
+    given = subst (λ l. Consumes source.coming left.coming l) (sym (append-nil fed)) consumed;
     few = omega arith;
     read_out = λ end. let absent : true ≡ false = sym end ∙ before_end in cc;
     unstopped = so_far.unstopped;
-    too_long = (λ e. cc, λ over. absurd (omega (arith, over, fits)));
+    too_long = (λ e. cc, λ over. absurd (omega (arith, over, fits bytes fed so_far)));
     failed = λ _. refl;
     ended = λ end. let absent : true ≡ false = sym end ∙ before_end in cc;
     stopped = λ _ _ unread. absurd (unread refl);
@@ -56,11 +52,11 @@ module _ (most : ℕ) (stands fed_stands : List ℕ → Type 0) (stops : List �
   ReadsAll-ended result at_end consumed read_out is taken = record {
     before = fed;
     last = [];
-    given = subst (λ l. Consumes source.coming left.coming l) (sym same_fed) consumed;
+    given = subst (λ l. Consumes source.coming left.coming l) (sym (append-nil fed)) consumed;
     few = omega arith;
     read_out = λ _. read_out;
     unstopped = so_far.unstopped;
-    too_long = (λ e. absurd (kinds result is e), λ over. absurd (omega (arith, over, fits)));
+    too_long = (λ e. absurd (kinds result is e), λ over. absurd (omega (arith, over, fits bytes fed so_far)));
     failed = λ _. refl;
     ended = λ _. (refl, ap stop_at_end is);
     stopped = λ before_end. let absent : true ≡ false = sym at_end ∙ before_end in cc;

@@ -14,7 +14,7 @@ use Rattle.nf_filter.specs.declared.fault.Fault.TheVariants.{Write, Row}
 use Rattle.nf_filter.specs.declared.tally.Tally.{Tally}
 use Rattle.nf_filter.specs.Devices.{SinkState}
 use Rattle.nf_filter.specs.Writes.{Puts, BreaksOff}
-use Rattle.nf_filter.specs.Policy.{as_is}
+use Rattle.nf_filter.specs.Policy.{as_is, len_under}
 use Rattle.nf_filter.specs.Settled.{settled, is_usable, usable, settled_utf8}
 use Rattle.nf_filter.specs.Faults.{answer_at_end, bad_byte, fault_in}
 use Rattle.nf_filter.specs.Finishes.{tally_of, end_of, whole_or, final_utf8, Finishes}
@@ -27,6 +27,8 @@ use Rattle.nf_normalizer.specs.Laws.Settled.{Extends, Extends-none, Extends-enco
 use Rattle.nf_filter.proofs.FilterLemmas.{failed_if, write_or_not}
 use Rattle.nf_filter.proofs.SoundnessLemmas.{not_at_end, not_a_fault}
 use Rattle.nf_filter.proofs.BlockLemmas.{BreaksOff-extends}
+use Rattle.nf_filter.proofs.PolicyLemmas.{taken}
+use Rattle.std.proofs.lemmas.Bool.{and_parts}
 
 -- what ends with no fault, and has none before, is whole
 is_whole : {A B : Type 0} (value : A) (b : B) (e : Ending) (usable : Bool) (at : ℕ) (told : A) → answer_at_end 0 value e ≡ Ok told → (if usable then bad_byte 0 e else Some (Row at)) ≡ None → e ≡ Whole
@@ -43,11 +45,7 @@ module _ (p : Properties) where
   -- where reading found no fault, all characters can be used
   is_usable-from : (bytes : List ℕ) → None ≡ fault_in as_is p 0 bytes → is_usable p (text_of bytes) ≡ true
   unfolding fault_in
-  is_usable-from bytes none = next (is_usable p (text_of bytes)) (bad_byte 0 (ending_of bytes)) _ none
-    where
-      next : (b : Bool) (o : Option Fault) (row : Fault) → None ≡ (if b then o else Some row) → b ≡ true
-      next true o row none = refl
-      next false o row none = cc
+  is_usable-from bytes none = (and_parts _ _ (taken p false (λ front. 0 + len_under false bytes front) (text_of bytes) _ (sym none))).0
 
   whole_answer-faults : (bytes : List ℕ) → IfErr (whole_answer p bytes) IsOfWhole
   unfolding whole_answer end_of fault_in

@@ -1,5 +1,4 @@
 use Rattle.std.proofs.Common.{◌≡◌, ℕ, List, [], ◌++◌, length, take, Ok, Err, inr, refl, ap, ◌∙◌, subst, arith, rules, append-nil, OnOk, Result, ne_eqb, length-take, subst₂}
-use Rattle.std.specs.Io.KnownBytes.{Consumes}
 use Rattle.std.proofs.KnownBytes.{Consumes-kept, Consumes-nil, Consumes-trans}
 use Rattle.nf_forms.specs.Properties.{Properties}
 use Rattle.nf_forms.specs.declared.form.Form.{Form}
@@ -51,8 +50,7 @@ returns-in-Err-clause-feeds g c = λ policy f bytes stands.
 pub returns-then-given-eq0-clause-feeds : goal.returns-then-given-eq0-clause-feeds
 returns-then-given-eq0-clause-feeds g c = λ policy f bytes stands.
     let fed = c.loop-given.invariant.fed in
-    let consumed = subst (λ l. Consumes (g.I.Source.state c.args.source.now).coming (g.I.Source.state c.get.new.self).coming l) (append-nil fed.0)
-    (Consumes-trans _ _ _ fed.0 [] fed.1 (subst (λ n. Consumes (g.I.Source.state c.loop-given.source).coming (g.I.Source.state c.get.new.self).coming (take n c.get.new.buf)) c.if-given-eq0.true c.in-Ok.ensures.given)) in
+    let consumed = rw (append-nil fed.0) at (Consumes-trans _ _ _ fed.0 [] fed.1 (rw c.if-given-eq0.true at c.in-Ok.ensures.given)) in
     FeedsAll-ended policy f _ _ _ bytes fed.0 _ _ (fed.2 policy f bytes stands) (length c.args.buffer.now) (g.I.Source.state c.args.source.now) (g.I.Source.state c.get.new.self)
     consumed (c.in-Ok.ensures.read_out c.if-given-eq0.true)
 
