@@ -41,19 +41,19 @@ module _ (f : Form) (p : Properties) where
         with_all (Err fault) taken = tt
 
     -- only the front z of it
-    module _ (w z : List ℕ) (front : allowed true p w ≡ z) (less : length z < length w) where
-      not_all : (length (allowed true p w) == length w) ≡ false
+    module _ (a : Bool) (w z : List ℕ) (front : allowed a p w ≡ z) (less : length z < length w) where
+      not_all : (length (allowed a p w) == length w) ≡ false
       not_all = ne_eqb _ _ (λ e. omega (arith, less, e, ap length front))
 
-      written_front : settled_text f p (usable p z) ≡ taken_utf8 true f p w
+      written_front : settled_text f p (usable p z) ≡ taken_utf8 a f p w
       written_front = ap (λ l. settled_text f p (usable p l)) (sym front)
 
-      usable_front : usable_utf8 f p z ≡ taken_utf8 true f p w
+      usable_front : usable_utf8 f p z ≡ taken_utf8 a f p w
       unfolding usable_utf8
       usable_front = written_front
 
-      fault_front : first_fault true p place w None ≡ (if is_usable p z then Some (Unassigned (place z)) else Some (Row (place (usable p z))))
-      fault_front = rw (not_all, front) refl
+      fault_front : first_fault a p place w None ≡ (if is_usable p z then Some (Unassigned (place z)) else Some (Row (place (usable p z))))
+      fault_front = rw (first_fault-is p a place w None, not_all, front) refl
 
       unusable_front : (fault : Fault) → Some fault ≡ unusable_at p place z → Some fault ≡ (if is_usable p z then Some (Unassigned (place z)) else Some (Row (place (usable p z))))
       unfolding unusable_at
@@ -64,7 +64,7 @@ module _ (f : Form) (p : Properties) where
           next false e = e
 
       -- which was refused
-      pub TakesAllowed-front : (fault : Fault) → TakesOn f p counted start now place z (Err fault) → TakesAllowed true f p counted start now place w (Err fault)
+      TakesAllowed-front : (fault : Fault) → TakesOn f p counted start now place z (Err fault) → TakesAllowed a f p counted start now place w (Err fault)
       TakesAllowed-front fault takes = record {
         broken = λ e. Broken-at start usable_front (takes.broken e);
         written = λ not. Written-at usable_front (takes.written not);
@@ -73,8 +73,8 @@ module _ (f : Form) (p : Properties) where
       }
 
       -- or was taken
-      unassigned-true : (at : ℕ) → is_usable p z ≡ true → Written start now (settled_text f p z) → place z ≡ at → TakesAllowed true f p counted start now place w (Err (Unassigned at))
-      unassigned-true at sound written here = record {
+      pub TakesAllowed-unassigned : (at : ℕ) → is_usable p z ≡ true → Written start now (settled_text f p z) → place z ≡ at → TakesAllowed a f p counted start now place w (Err (Unassigned at))
+      TakesAllowed-unassigned at sound written here = record {
         broken = λ e. cc;
         written = λ _. Written-at (ap (settled_text f p) (sym (usable-all p z sound)) ∙ written_front) written;
         fault = λ _. ap (λ n. Some (Unassigned n)) (sym here) ∙ sym (fault_front ∙ ap (λ (b : Bool). if b then Some (Unassigned (place z)) else Some (Row (place (usable p z)))) sound);
@@ -82,21 +82,11 @@ module _ (f : Form) (p : Properties) where
       }
 
     -- a text refused where all that may be taken was taken before it
-    refused-true : (w z : List ℕ) (fault : Fault) → allowed true p w ≡ z → TakesOn f p counted start now place z (Err fault) → TakesAllowed true f p counted start now place w (Err fault)
-    refused-true w z fault front takes = ⊎_elim
-        (λ all. TakesAllowed-all true w (Err fault) all (subst (λ y. TakesOn f p counted start now place y (Err fault)) (sym front ∙ all) takes))
-        (λ less. TakesAllowed-front w z front (omega (arith, less.0, ap length front)) fault takes)
-        (allowed-grows p true w [])
-
-    -- the same, whatever may be taken
     pub TakesAllowed-refused : (a : Bool) (w z : List ℕ) (fault : Fault) → allowed a p w ≡ z → TakesOn f p counted start now place z (Err fault) → TakesAllowed a f p counted start now place w (Err fault)
-    TakesAllowed-refused true w z fault front takes = refused-true w z fault front takes
-    TakesAllowed-refused false w z fault front takes = TakesAllowed-all false w (Err fault) refl (subst (λ y. TakesOn f p counted start now place y (Err fault)) (sym front) takes)
-
-    pub TakesAllowed-unassigned : (a : Bool) (w z : List ℕ) → allowed a p w ≡ z → length z < length w → (at : ℕ) → is_usable p z ≡ true → Written start now (settled_text f p z) → place z ≡ at
-        → TakesAllowed a f p counted start now place w (Err (Unassigned at))
-    TakesAllowed-unassigned true w z front less at sound written here = unassigned-true w z front less at sound written here
-    TakesAllowed-unassigned false w z front less at sound written here = absurd (omega (arith, less, ap length front))
+    TakesAllowed-refused a w z fault front takes = ⊎_elim
+        (λ all. TakesAllowed-all a w (Err fault) all (subst (λ y. TakesOn f p counted start now place y (Err fault)) (sym front ∙ all) takes))
+        (λ less. TakesAllowed-front a w z front (omega (arith, less.0, ap length front)) fault takes)
+        (allowed-grows p a w [])
 
     -- what is refused in a text is refused in a longer one
     pub TakesAllowed-more : (a : Bool) (w y : List ℕ) (fault : Fault) → TakesAllowed a f p counted start now place w (Err fault) → TakesAllowed a f p counted start now place (w ++ y) (Err fault)

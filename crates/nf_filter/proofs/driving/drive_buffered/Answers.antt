@@ -1,6 +1,6 @@
 use Rattle.std.proofs.Common.{ℕ, ◌++◌, length, ap, subst₂}
 use Rattle.nf_forms.specs.Properties.{Properties}
-use Rattle.nf_filter.specs.Filter.{rows_of, state_of, base_of, StandsAfter}
+use Rattle.nf_filter.specs.Filter.{state_of, base_of, StandsAfter}
 use Rattle.nf_filter.specs.Finishes.{Finishes}
 use Rattle.nf_filter.proofs.DriveLemmas.{Drives-refused, Drives-finished}
 use Rattle.nf_filter.proofs.AgainLemmas.{drives_to_end, drives_once}
@@ -12,12 +12,11 @@ returns-in-Err-clause-drives g c = λ policy f bytes stands. Drives-refused (len
 
 pub returns-clause-drives : goal.returns-clause-drives
 returns-clause-drives g c = λ policy f bytes stands.
-    let p = g.R.Rows.properties (rows_of c.args.filter) in
     let base = base_of (state_of c.args.filter) in
     let feeds = c.in_default.ensures.feeds policy f bytes stands in
     let At : Properties → ℕ → Type 0 = λ q m. StandsAfter policy f q (state_of c.feed_all.new.filter) (bytes ++ feeds.fed) → Finishes policy f q m (bytes ++ feeds.fed) (g.S.Sink.state c.feed_all.new.sink) (g.S.Sink.state c.finish.new.sink) c.finish.result in
     let finishes = subst₂ At (ap g.R.Rows.properties c.in_default.ensures.rows) c.in_default.ensures.base (c.finish.ensures.finishes policy f (bytes ++ feeds.fed)) feeds.stands in
-    Drives-finished (length c.args.buffer.now) policy f p base bytes _ _ _ _ _ _ c.finish.result c.in_default.ensures.end (λ e. rw e at c.finish.ensures.faults) (λ e. rw e at c.finish.ensures.faults) feeds finishes
+    Drives-finished (length c.args.buffer.now) policy f _ base bytes _ _ _ _ _ _ c.finish.result c.in_default.ensures.end (λ e. rw e at c.finish.ensures.faults) (λ e. rw e at c.finish.ensures.faults) feeds finishes
 
 pub returns-clause-again : goal.returns-clause-again
 returns-clause-again g c = λ policy f bytes stands once.
@@ -25,6 +24,5 @@ returns-clause-again g c = λ policy f bytes stands once.
 
 pub returns-clause-joined : goal.returns-clause-joined
 returns-clause-joined g c = λ policy f bytes stands.
-    let p = g.R.Rows.properties (rows_of c.args.filter) in
     let base = base_of (state_of c.args.filter) in
-    drives_to_end _ policy f p base bytes _ _ _ _ c.finish.result (λ all tally none end. joins_pieces p base all tally policy f none end) c.in_default.ensures.end (returns-clause-drives g c policy f bytes stands)
+    drives_to_end _ policy f _ base bytes _ _ _ _ c.finish.result (λ all tally none end. joins_pieces _ base all tally policy f none end) c.in_default.ensures.end (returns-clause-drives g c policy f bytes stands)

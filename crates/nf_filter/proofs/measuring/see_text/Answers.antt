@@ -33,11 +33,10 @@ loop-rest-preserved g c =
 
 pub returns-in-Err-clause-sees : goal.returns-in-Err-clause-sees
 returns-in-Err-clause-sees g c = λ base x before here.
-    let p = g.R.Rows.properties c.args.rows.now in
     let so_far = c.loop-rest.invariant.seen base x before here in
     let len = front_len c.args.text.now so_far.front c.loop-rest.rest.now c.utf8.text c.loop-rest.invariant.utf8 so_far.is_front in
     let place = place_at c.loop-rest.place c.args.at base x so_far.front (omega (arith, len, c.loop-rest.invariant.place)) here in
-    ap (unusable_stop p base) (sym (front-behind c.args.text.now so_far.front c.loop-rest.rest.now so_far.is_front x))
+    ap (unusable_stop _ base) (sym (front-behind c.args.text.now so_far.front c.loop-rest.rest.now so_far.is_front x))
     ∙ c.in-Err.ensures.sees base (x ++ so_far.front) so_far.seen place
 
 pub returns-clause-sees : goal.returns-clause-sees

@@ -12,21 +12,18 @@ no_place_yet p checker base z checked = sym checked.stands.place ∙ checked.non
 
 pub returns-in_default-clause-takes : goal.returns-in_default-clause-takes
 returns-in_default-clause-takes g c = λ base x before here.
-    let p = g.R.Rows.properties c.args.rows.now in
     rw (is_none c.args.first c.in_default.not-Some)
-    (TakesText-seen p c.see_text.new.checker base x (chars c.args.text.now) c.see_text.result (no_place_yet p c.see_text.new.checker base) (c.see_text.ensures.sees base x before))
+    (TakesText-seen _ c.see_text.new.checker base x (chars c.args.text.now) c.see_text.result (no_place_yet _ c.see_text.new.checker base) (c.see_text.ensures.sees base x before))
 
 pub returns-in-Err-clause-takes : goal.returns-in-Err-clause-takes
 returns-in-Err-clause-takes g c = λ base x before here.
-    let p = g.R.Rows.properties c.args.rows.now in
     let stops = (c.in-Err.ensures.sees base x (chars c.args.text.now) before).1 in
     rw c.in-Some.is
-    (TakesText-seen p c.see.new.checker base x (c.in-Some.c ∷ chars c.args.text.now) (Err c.in-Err.stop) (no_place_yet p c.see.new.checker base) (rw (append_assoc x (c.in-Some.c ∷ []) (chars c.args.text.now)) at stops))
+    (TakesText-seen _ c.see.new.checker base x (c.in-Some.c ∷ chars c.args.text.now) (Err c.in-Err.stop) (no_place_yet _ c.see.new.checker base) (rw (append_assoc x (c.in-Some.c ∷ []) (chars c.args.text.now)) at stops))
 
 pub returns-clause-takes : goal.returns-clause-takes
 returns-clause-takes g c = λ base x before here.
-    let p = g.R.Rows.properties c.args.rows.now in
     let seen = (c.in_default-see.ensures.sees base x [] before).0 in
     let sees = c.see_text-2.ensures.sees base (x ++ c.in-Some.c ∷ []) seen in
     rw c.in-Some.is
-    (TakesText-seen p c.see_text-2.new.checker base x (c.in-Some.c ∷ chars c.args.text.now) c.see_text-2.result (no_place_yet p c.see_text-2.new.checker base) (rw (append_assoc x (c.in-Some.c ∷ []) (chars c.args.text.now)) at sees))
+    (TakesText-seen _ c.see_text-2.new.checker base x (c.in-Some.c ∷ chars c.args.text.now) c.see_text-2.result (no_place_yet _ c.see_text-2.new.checker base) (rw (append_assoc x (c.in-Some.c ∷ []) (chars c.args.text.now)) at sees))

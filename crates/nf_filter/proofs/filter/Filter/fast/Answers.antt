@@ -15,6 +15,5 @@ invariant_of-result g c =
 
 pub returns-clause-stands : goal.returns-clause-stands
 returns-clause-stands g c =
-    let p = g.R.Rows.properties c.rows.result.now in
     let taken = subst (λ rows. HasTaken c.args.form (g.R.Rows.properties rows) c.fast.result []) (sym c.rows.ensures.rows) c.fast.ensures.taken in
-    StandsAfter-none p as_is c.args.form _ refl refl c.new.ensures.offset c.new.ensures.decoder (c.new-2.ensures.taken c.args.form p taken)
+    StandsAfter-none _ as_is c.args.form _ refl refl c.new.ensures.offset c.new.ensures.decoder (c.new-2.ensures.taken c.args.form _ taken)

@@ -1,6 +1,5 @@
 use Rattle.std.proofs.Common.{[], ◌++◌, arith, length-append}
 use Rattle.nf_utf8.specs.Reading.{text_of}
-use Rattle.nf_filter.specs.Filter.{rows_of}
 use Rattle.nf_filter.proofs.StandingLemmas.{taken-text, taken-len}
 use Rattle.nf_filter.proofs.filter.Filter.held.Goals as goal
 
@@ -11,5 +10,4 @@ returns-clause-bytes g c = λ policy f bytes stands.
 
 pub returns-clause-pending : goal.returns-clause-pending
 returns-clause-pending g c = λ policy f bytes stands.
-    let p = g.R.Rows.properties (rows_of c.args.self.now) in
-    rw (taken-text c.replacing.ensures stands) (c.pending.ensures.value f p (stands.reading.before ++ text_of stands.reading.tail) stands.reading.taken)
+    rw (taken-text c.replacing.ensures stands) (c.pending.ensures.value f _ (stands.reading.before ++ text_of stands.reading.tail) stands.reading.taken)

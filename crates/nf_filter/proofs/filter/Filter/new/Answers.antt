@@ -14,5 +14,4 @@ invariant_of-result g c =
 
 pub returns-clause-stands : goal.returns-clause-stands
 returns-clause-stands g c =
-    let p = g.R.Rows.properties c.args.rows.now in
-    StandsAfter-none p as_is c.args.form _ refl refl c.new.ensures.offset c.new.ensures.decoder (c.new-3.ensures.taken c.args.form p (c.new-2.ensures.taken p))
+    StandsAfter-none _ as_is c.args.form _ refl refl c.new.ensures.offset c.new.ensures.decoder (c.new-3.ensures.taken c.args.form _ (c.new-2.ensures.taken _))

@@ -9,9 +9,8 @@ use Rattle.nf_filter.proofs.measuring.MeasurerTaker.take.Goals as goal
 
 pub returns-in_default-clause-takes : goal.returns-in_default-clause-takes
 returns-in_default-clause-takes g c = λ base x before here.
-    let p = g.R.Rows.properties c.args.rows.now in
     rw (is_none c.args.first c.in_default.not-Some)
-    (TakesText-seen p c.see_text.new.measurer base x (chars c.args.text.now) c.see_text.result (c.see_text.ensures.sees base x before here))
+    (TakesText-seen _ c.see_text.new.measurer base x (chars c.args.text.now) c.see_text.result (c.see_text.ensures.sees base x before here))
 
 pub returns-then-is_err-clause-takes : goal.returns-then-is_err-clause-takes
 returns-then-is_err-clause-takes g c = λ base x before here.
@@ -22,11 +21,10 @@ returns-then-is_err-clause-takes g c = λ base x before here.
 
 pub returns-clause-takes : goal.returns-clause-takes
 returns-clause-takes g c = λ base x before here.
-    let p = g.R.Rows.properties c.args.rows.now in
     let went_on = not_err c.see.result (sym c.is_err.ensures.value ∙ c.if-is_err.false) in
     let seen = went_on_so c.see.result went_on (c.see.ensures.stands x before) in
     let push = utf8_len-push x c.in-Some.c in
     let place : c.args.at + c.len_utf8.result ≡ base + length (encode_utf8_all (x ++ c.in-Some.c ∷ [])) = omega (arith, push, here, length-encode c.in-Some.c, c.len_utf8.ensures.value) in
     let sees = c.see_text-2.ensures.sees base (x ++ c.in-Some.c ∷ []) seen place in
     rw c.in-Some.is
-    (TakesText-seen p c.see_text-2.new.measurer base x (c.in-Some.c ∷ chars c.args.text.now) c.see_text-2.result (rw (append_assoc x (c.in-Some.c ∷ []) (chars c.args.text.now)) at sees))
+    (TakesText-seen _ c.see_text-2.new.measurer base x (c.in-Some.c ∷ chars c.args.text.now) c.see_text-2.result (rw (append_assoc x (c.in-Some.c ∷ []) (chars c.args.text.now)) at sees))
