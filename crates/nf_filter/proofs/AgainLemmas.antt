@@ -116,13 +116,9 @@ module _ (back : ReadsBack) (replacing : ReplacesParts) where
         no_fault-is : (base : ℕ) → fault_in policy p base bytes_is ≡ None
         unfolding fault_in
         no_fault-is base =
-            ap (λ x. first_fault policy.assigned p place x (bad_under policy.replace base bytes_is)) (text_under-is policy.replace)
-            ∙ first_fault-none p policy.assigned place o _ usable-is all-is
-            ∙ none_bad policy.replace
+            ap (λ x. first_fault policy.assigned p (λ front. base + len_under policy.replace bytes_is front) x (bad_under policy.replace base bytes_is)) (text_under-is policy.replace)
+            ∙ first_fault-none p policy.assigned _ o _ usable-is all-is ∙ none_bad policy.replace
           where
-            place : List ℕ → ℕ
-            place front = base + len_under policy.replace bytes_is front
-
             none_bad : (replace : Bool) → bad_under replace base bytes_is ≡ None
             none_bad false = ap (bad_byte base) ending-is
             none_bad true = refl
@@ -130,12 +126,9 @@ module _ (back : ReadsBack) (replacing : ReplacesParts) where
         end-is : (replace : Bool) (base : ℕ) → end_under replace policy.assigned p base bytes_is ≡ Ok (nothing_put bytes_is)
         end-is false base = ap (answer_at_end base (tally_of false p bytes_is)) ending-is ∙ ap (λ t. Ok t) (put-is false)
         end-is true base =
-            ap (λ x. answer_or (first_fault policy.assigned p place x None) (tally_of true p bytes_is)) whole-is
-            ∙ ap (λ fault. answer_or fault (tally_of true p bytes_is)) (first_fault-none p policy.assigned place o None usable-is all-is)
+            ap (λ x. answer_or (first_fault policy.assigned p (λ front. base + len_under true bytes_is front) x None) (tally_of true p bytes_is)) whole-is
+            ∙ ap (λ fault. answer_or fault (tally_of true p bytes_is)) (first_fault-none p policy.assigned _ o None usable-is all-is)
             ∙ ap (λ t. Ok t) (put-is true)
-          where
-            place : List ℕ → ℕ
-            place front = base + len_under true bytes_is front
 
         tally-is : (base : ℕ) → end_of policy p base bytes_is ≡ Ok (nothing_put bytes_is)
         unfolding end_of

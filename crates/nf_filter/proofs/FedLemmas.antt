@@ -123,13 +123,15 @@ module _ (policy : Policy) (f : Form) (p : Properties) (base : ℕ) (laws : Repl
   ReadsAll r = MatchResult r (λ _. ReadsTo policy f p counted start now base reading bytes []) (RefusesBytes policy f p start now base bytes)
 
   pub rest-is : (r : Result (Unit {0}) Fault) → ReadsAll r → WritesTo start now (settled_utf8 policy f p bytes) r × (¬ (r ≡ Err Write) → result_err r ≡ fault_in policy p base bytes)
-  rest-is (Ok u) reads = (record { broken = λ e. cc; written = λ _. Written-at (read-settled policy f p base laws counted reading bytes reads.0) reads.1 }, λ _. sym (read-no_fault policy f p base laws counted reading bytes reads.0))
+      × OnOk r (HasReadTo policy f p counted base reading bytes [])
+  rest-is (Ok u) reads = (record { broken = λ e. cc; written = λ _. Written-at (read-settled policy f p base laws counted reading bytes reads.0) reads.1 }, λ _. sym (read-no_fault policy f p base laws counted reading bytes reads.0), reads.0)
   rest-is (Err fault) reads = (
     record {
       broken = λ e. Broken-at start (settled_utf8-taken policy f p bytes) (reads.broken (let same : fault ≡ Write = cc in same));
       written = λ not. Written-at (settled_utf8-taken policy f p bytes) (reads.written (λ e. not (ap Err e)));
     },
     λ not. reads.is (λ e. not (ap Err e)),
+    tt,
   )
 
 -- a piece was fed
@@ -140,13 +142,6 @@ module _ (policy : Policy) (f : Form) (p : Properties) (base : ℕ) (laws : Repl
 
   abbrev settled : List ℕ
   settled = settled_utf8 policy f p (bytes ++ piece)
-
-  fed-stands : OnOk r (HasReadTo policy f p counted base reading (bytes ++ piece) [])
-  fed-stands = next r reads
-    where
-      next : (r : Result (Unit {0}) Fault) → ReadsAll policy f p base laws counted (start_at sink (settled_utf8 policy f p bytes)) now reading (bytes ++ piece) r → OnOk r (HasReadTo policy f p counted base reading (bytes ++ piece) [])
-      next (Ok u) reads = reads.0
-      next (Err fault) reads = tt
 
   pub fed-writes : WritesTo start now settled r
   fed-writes = (rest-is policy f p base laws counted start now reading (bytes ++ piece) r reads).0
@@ -161,7 +156,7 @@ module _ (policy : Policy) (f : Form) (p : Properties) (base : ℕ) (laws : Repl
       written = puts;
       answer = λ not. rw (closed.given not).1 ((rest-is policy f p base laws counted start now reading (bytes ++ piece) r reads).1 (λ e. not ((closed.given not).1 ∙ e)));
     },
-    ⊎_elim (λ e. rw e tt) (λ not. rw (closed.given not).1 fed-stands) (write_or_kept result),
+    ⊎_elim (λ e. rw e tt) (λ not. rw (closed.given not).1 (rest-is policy f p base laws counted start now reading (bytes ++ piece) r reads).2) (write_or_kept result),
   )
     where
       puts : ¬ (result ≡ Err Write) → Puts sink new (settled_utf8 policy f p bytes) settled

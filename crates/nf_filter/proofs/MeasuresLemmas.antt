@@ -1,5 +1,5 @@
 -- What a measurement decides, character by character.
-use Rattle.std.proofs.Common.{◌≡◌, ℕ, ◌+◌, Bool, true, false, not, ◌&&◌, ◌||◌, List, [], ◌∷◌, ◌++◌, length, Some, None, Ok, Err, refl, sym, ap, ◌∙◌, if◌then◌else◌, is_ok, is_err, OnOk, Option, Result, option_map, encode_utf8_all}
+use Rattle.std.proofs.Common.{◌≡◌, ℕ, ◌+◌, Bool, true, false, not, ◌&&◌, ◌||◌, List, [], ◌∷◌, ◌++◌, length, Some, None, Ok, Err, refl, sym, ap, ◌∙◌, if◌then◌else◌, is_err, OnOk, Option, Result, option_map, encode_utf8_all}
 use Rattle.std.specs.Result.{result_err}
 use Rattle.nf_forms.specs.Properties.{Properties}
 use Rattle.nf_forms.specs.StreamSafe.{joiner, is_too_long, stream_safe}
@@ -30,11 +30,7 @@ refused fault = Err fault
 abbrev Seen : Type 0
 Seen = Result (Unit {0}) Unsound
 
-pub not_err : (r : Seen) → is_err r ≡ false → is_ok r ≡ true
-not_err (Ok u) e = refl
-not_err (Err refused) e = cc
-
-pub went_on_so : {A : Type 0} (r : Seen) → is_ok r ≡ true → OnOk r A → A
+pub went_on_so : {A : Type 0} (r : Seen) → is_err r ≡ false → OnOk r A → A
 went_on_so (Ok u) e so = so
 went_on_so (Err refused) e so = cc
 

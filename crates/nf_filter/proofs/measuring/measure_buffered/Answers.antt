@@ -4,7 +4,6 @@ use Rattle.nf_safe.specs.declared.place.Place.{Place}
 use Rattle.nf_safe.specs.Measurer.{values_of}
 use Rattle.nf_filter.specs.declared.taker.Stop.TheVariants.{Refused}
 use Rattle.nf_filter.specs.Counted.{utf8_place}
-use Rattle.nf_filter.specs.Measures.{HasMeasured, measure_decision, text_measure, unusable_stop}
 use Rattle.nf_normalizer.specs.Laws.Settled.{is_usable-none}
 use Rattle.nf_filter.proofs.TextLemmas.{unusable_at-usable}
 use Rattle.nf_filter.proofs.ReadingLemmas.{holds_nothing, HasRead-none}
@@ -25,9 +24,8 @@ read_all-requires-clause-ready g c =
 pub returns-in-Ok-clause-surveys : goal.returns-in-Ok-clause-surveys
 returns-in-Ok-clause-surveys g c =
     let p = g.R.Rows.properties c.args.rows.now in
-    let base = c.args.base in
-    let reads = c.in-Ok.ensures.reads base [] (HasRead-none (HasMeasured p c.new-measurer.result base) (unusable_stop p base) base c.new-reading.result c.new-reading.ensures.offset c.new-reading.ensures.decoder (c.new-measurer.ensures p) (ap (option_map Refused) (unusable_at-usable p (utf8_place base) [] (is_usable-none p)))) in
-    Surveys-whole (no_measure c.values.result) (length c.args.buffer.now) base _ (unusable_stop p base) (measure_decision p base) (text_measure p) (decides p (no_measure c.values.result) base) _ _ _ tt c.in-Ok.ensures.end reads c.values.result
+    let reads = c.in-Ok.ensures.reads c.args.base [] (HasRead-none _ _ _ _ c.new-reading.ensures.offset c.new-reading.ensures.decoder (c.new-measurer.ensures p) (ap (option_map Refused) (unusable_at-usable p (utf8_place c.args.base) [] (is_usable-none p)))) in
+    Surveys-whole (no_measure c.values.result) (length c.args.buffer.now) c.args.base _ _ _ _ (decides p (no_measure c.values.result) c.args.base) _ _ _ tt c.in-Ok.ensures.end reads c.values.result
     (sym reads.read.taken.values ∙ sym c.values.ensures)
 
 pub returns-in-Err-clause-faults : goal.returns-in-Err-clause-faults
@@ -36,7 +34,6 @@ returns-in-Err-clause-faults g c = IsOfSurvey-from false c.fault.result (rw c.fa
 pub returns-in-Err-clause-surveys : goal.returns-in-Err-clause-surveys
 returns-in-Err-clause-surveys g c =
     let p = g.R.Rows.properties c.args.rows.now in
-    let base = c.args.base in
     let none = values_of c.new-measurer.result in
-    let reads = rw c.fault.ensures at (c.in-Err.ensures.reads base [] (HasRead-none (HasMeasured p c.new-measurer.result base) (unusable_stop p base) base c.new-reading.result c.new-reading.ensures.offset c.new-reading.ensures.decoder (c.new-measurer.ensures p) (ap (option_map Refused) (unusable_at-usable p (utf8_place base) [] (is_usable-none p))))) in
-    Surveys-stopped (no_measure none) (length c.args.buffer.now) base _ (unusable_stop p base) (measure_decision p base) (text_measure p) (decides p (no_measure none) base) _ _ _ (Refused c.fault.result) reads
+    let reads = rw c.fault.ensures at (c.in-Err.ensures.reads c.args.base [] (HasRead-none _ _ _ _ c.new-reading.ensures.offset c.new-reading.ensures.decoder (c.new-measurer.ensures p) (ap (option_map Refused) (unusable_at-usable p (utf8_place c.args.base) [] (is_usable-none p))))) in
+    Surveys-stopped (no_measure none) (length c.args.buffer.now) c.args.base _ _ _ _ (decides p (no_measure none) c.args.base) _ _ _ (Refused c.fault.result) reads

@@ -3,7 +3,7 @@ use Rattle.std.proofs.lemmas.Str.{length-encode}
 use Rattle.nf_filter.specs.declared.fault.Fault.TheVariants.{Row}
 use Rattle.nf_filter.specs.declared.taker.Stop.TheVariants.{Refused}
 use Rattle.nf_filter.proofs.CharsLemmas.{utf8_len-push}
-use Rattle.nf_filter.proofs.MeasuresLemmas.{TakesText-seen, not_err, went_on_so, refusal_at}
+use Rattle.nf_filter.proofs.MeasuresLemmas.{TakesText-seen, went_on_so, refusal_at}
 use Rattle.nf_filter.proofs.TakingLemmas.{is_none}
 use Rattle.nf_filter.proofs.measuring.MeasurerTaker.take.Goals as goal
 
@@ -21,8 +21,7 @@ returns-then-is_err-clause-takes g c = λ base x before here.
 
 pub returns-clause-takes : goal.returns-clause-takes
 returns-clause-takes g c = λ base x before here.
-    let went_on = not_err c.see.result (sym c.is_err.ensures.value ∙ c.if-is_err.false) in
-    let seen = went_on_so c.see.result went_on (c.see.ensures.stands x before) in
+    let seen = went_on_so c.see.result (sym c.is_err.ensures.value ∙ c.if-is_err.false) (c.see.ensures.stands x before) in
     let push = utf8_len-push x c.in-Some.c in
     let place : c.args.at + c.len_utf8.result ≡ base + length (encode_utf8_all (x ++ c.in-Some.c ∷ [])) = omega (arith, push, here, length-encode c.in-Some.c, c.len_utf8.ensures.value) in
     let sees = c.see_text-2.ensures.sees base (x ++ c.in-Some.c ∷ []) seen place in
