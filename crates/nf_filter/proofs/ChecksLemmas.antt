@@ -79,10 +79,9 @@ module _ (p : Properties) where
         next None false bad row = refl
 
   -- the text was seen
-  pub TakesText-seen : (checker : Checker) (base : ℕ) (x y : List ℕ) (r : Result (Unit {0}) Stop) → (place : (z : List ℕ) → HasChecked p checker base z → place_from base p z ≡ None)
-      → Sees p checker base (x ++ y) r → TakesText (HasChecked p checker base) (check_stop p base) x y r
-  TakesText-seen checker base x y (Ok u) place sees = record { stop = sym (stop_none base (x ++ y) sees.sound (place (x ++ y) sees)); taken = sees }
-  TakesText-seen checker base x y (Err stop) place sees = record { stop = sym sees; taken = tt }
+  pub TakesText-seen : (checker : Checker) (base : ℕ) (x y : List ℕ) (r : Result (Unit {0}) Stop) → Sees p checker base (x ++ y) r → TakesText (HasChecked p checker base) (check_stop p base) x y r
+  TakesText-seen checker base x y (Ok u) sees = record { stop = sym (stop_none base (x ++ y) sees.sound (sym sees.stands.place ∙ sees.none)); taken = sees }
+  TakesText-seen checker base x y (Err stop) sees = record { stop = sym sees; taken = tt }
 
   -- what stops it in what stands behind a front stops it in the text
   pub stop-more : (base : ℕ) (x text front rest : List ℕ) (stop : Stop) → chars text ≡ front ++ chars rest → check_stop p base ((x ++ front) ++ chars rest) ≡ Some stop → check_stop p base (x ++ chars text) ≡ Some stop

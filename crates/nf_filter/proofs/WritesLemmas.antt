@@ -1,5 +1,5 @@
 -- Calls that give to a sink in turn.
-use Rattle.std.proofs.Common.{◌≡◌, ℕ, ◌<◌, true, List, [], ◌++◌, length, refl, sym, ap, ◌∙◌, subst, arith, append_assoc, append-nil, length-append}
+use Rattle.std.proofs.Common.{◌≡◌, ℕ, ◌<◌, true, List, [], ◌++◌, length, refl, sym, ap, ◌∙◌, subst, arith, append_assoc, append-nil, length-append, subst₂}
 use Rattle.std.specs.Io.KnownBytes.{Appends}
 use Rattle.std.proofs.KnownBytes.{Appends-nil, Appends-trans}
 use Rattle.nf_filter.specs.Devices.{SinkState}
@@ -70,11 +70,4 @@ Puts-at {old} {new} {a} {b} {c} {d} same_before same_after puts =
     record { out = puts.out; behind = sym same_after ∙ puts.behind ∙ ap (λ l. l ++ puts.out) same_before; given = puts.given; stands = puts.stands; idle = puts.idle }
 
 pub BreaksOff-at : {old new : SinkState} {a b c d : List ℕ} → a ≡ c → b ≡ d → BreaksOff old new a b → BreaksOff old new c d
-BreaksOff-at {old} {new} {a} {b} {c} {d} same_before same_after stops = record {
-  out = stops.out;
-  rest = stops.rest;
-  behind = sym same_after ∙ stops.behind ∙ ap (λ l. (l ++ stops.out) ++ stops.rest) same_before;
-  more = stops.more;
-  given = stops.given;
-  failed = stops.failed;
-}
+BreaksOff-at {old} {new} {a} {b} {c} {d} same_before same_after stops = subst₂ (BreaksOff old new) same_before same_after stops

@@ -1,6 +1,6 @@
-use Rattle.std.proofs.Common.{◌≡◌, ℕ, [], Ok, Err, sym, ap, ◌∙◌, subst, arith, subst₂}
+use Rattle.std.proofs.Common.{ℕ, [], Ok, Err, sym, ap, ◌∙◌, subst, arith, subst₂}
 use Rattle.nf_forms.specs.Properties.{Properties}
-use Rattle.nf_filter.specs.Filter.{rows_of, state_of, StandsAfter}
+use Rattle.nf_filter.specs.Filter.{state_of, StandsAfter}
 use Rattle.nf_filter.specs.Feeds.{Feeds}
 use Rattle.nf_filter.specs.Finishes.{Finishes}
 use Rattle.nf_filter.specs.Policy.{as_is}
@@ -11,26 +11,22 @@ use Rattle.nf_filter.proofs.whole.convert.Goals as goal
 
 pub returns-in-Err-clause-converts : goal.returns-in-Err-clause-converts
 returns-in-Err-clause-converts g c =
-    let p = g.R.Rows.properties c.args.rows.now in
     let filter = c.quickest-filter in
-    let q = g.R.Rows.properties (rows_of filter.result) in
-    let rows : q ≡ p = ap g.R.Rows.properties filter.ensures.rows in
+    let rows = ap g.R.Rows.properties filter.ensures.rows in
     let stands = subst (λ (q : Properties). StandsAfter as_is c.args.form q (state_of filter.result) []) (sym rows) filter.ensures.stands in
-    Converts-refused c.args.form p c.args.bytes.now _ _ c.in-Err.fault
+    Converts-refused c.args.form _ c.args.bytes.now _ _ c.in-Err.fault
     (subst₂ (λ (q : Properties) (m : ℕ). Feeds as_is c.args.form q m [] c.args.bytes.now (g.S.Sink.state c.args.sink.now) (g.S.Sink.state c.feed.new.sink) (Err c.in-Err.fault)) rows filter.ensures.base (c.in-Err.ensures.feeds as_is c.args.form [] stands (λ e.
     let over = (c.in-Err.ensures.too_long.0 e).1 in absurd (omega (arith, over, StandsAfter-offset filter.ensures.stands, filter.ensures.base)))))
 
 pub returns-clause-converts : goal.returns-clause-converts
 returns-clause-converts g c =
-    let p = g.R.Rows.properties c.args.rows.now in
     let filter = c.quickest-filter in
-    let q = g.R.Rows.properties (rows_of filter.result) in
-    let rows : q ≡ p = ap g.R.Rows.properties filter.ensures.rows in
+    let rows = ap g.R.Rows.properties filter.ensures.rows in
     let stands = subst (λ (q : Properties). StandsAfter as_is c.args.form q (state_of filter.result) []) (sym rows) filter.ensures.stands in
     let fed = subst₂ (λ (q : Properties) (m : ℕ). Feeds as_is c.args.form q m [] c.args.bytes.now (g.S.Sink.state c.args.sink.now) (g.S.Sink.state c.feed.new.sink) (Ok tt)) rows filter.ensures.base (c.in_default.ensures.feeds as_is c.args.form [] stands (λ e. cc)) in
-    let here : g.R.Rows.properties (rows_of c.feed.new.self) ≡ q = ap g.R.Rows.properties c.in_default.ensures.rows in
+    let here = ap g.R.Rows.properties c.in_default.ensures.rows in
     let after = subst (λ (q : Properties). StandsAfter as_is c.args.form q (state_of c.feed.new.self) c.args.bytes.now) (sym here) (c.in_default.ensures.stands as_is c.args.form [] stands) in
-    Converts-finished c.args.form p c.args.bytes.now _ _ _ fed c.finish.result
+    Converts-finished c.args.form _ c.args.bytes.now _ _ _ fed c.finish.result
     (subst₂ (λ (q : Properties) (m : ℕ). Finishes as_is c.args.form q m c.args.bytes.now (g.S.Sink.state c.feed.new.sink) (g.S.Sink.state c.finish.new.sink) c.finish.result) (here ∙ rows) (c.in_default.ensures.base ∙ filter.ensures.base) (c.finish.ensures.finishes as_is c.args.form c.args.bytes.now after))
 
 pub returns-in-Err-clause-faults : goal.returns-in-Err-clause-faults

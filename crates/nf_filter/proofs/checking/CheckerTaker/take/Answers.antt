@@ -1,29 +1,22 @@
-use Rattle.std.proofs.Common.{◌≡◌, ℕ, List, [], ◌∷◌, ◌++◌, None, Err, sym, ◌∙◌, append_assoc, chars}
-use Rattle.nf_forms.specs.Properties.{Properties}
-use Rattle.nf_safe.specs.declared.checker.Checker.{Checker}
-use Rattle.nf_safe.specs.Place.{place_from}
-use Rattle.nf_filter.specs.Checks.{HasChecked}
+use Rattle.std.proofs.Common.{[], ◌∷◌, ◌++◌, Err, append_assoc, chars}
 use Rattle.nf_filter.proofs.ChecksLemmas.{TakesText-seen}
 use Rattle.nf_filter.proofs.TakingLemmas.{is_none}
 use Rattle.nf_filter.proofs.checking.CheckerTaker.take.Goals as goal
 
-no_place_yet : (p : Properties) (checker : Checker) (base : ℕ) (z : List ℕ) → HasChecked p checker base z → place_from base p z ≡ None
-no_place_yet p checker base z checked = sym checked.stands.place ∙ checked.none
-
 pub returns-in_default-clause-takes : goal.returns-in_default-clause-takes
 returns-in_default-clause-takes g c = λ base x before here.
     rw (is_none c.args.first c.in_default.not-Some)
-    (TakesText-seen _ c.see_text.new.checker base x (chars c.args.text.now) c.see_text.result (no_place_yet _ c.see_text.new.checker base) (c.see_text.ensures.sees base x before))
+    (TakesText-seen _ c.see_text.new.checker base x (chars c.args.text.now) c.see_text.result (c.see_text.ensures.sees base x before))
 
 pub returns-in-Err-clause-takes : goal.returns-in-Err-clause-takes
 returns-in-Err-clause-takes g c = λ base x before here.
     let stops = (c.in-Err.ensures.sees base x (chars c.args.text.now) before).1 in
     rw c.in-Some.is
-    (TakesText-seen _ c.see.new.checker base x (c.in-Some.c ∷ chars c.args.text.now) (Err c.in-Err.stop) (no_place_yet _ c.see.new.checker base) (rw (append_assoc x (c.in-Some.c ∷ []) (chars c.args.text.now)) at stops))
+    (TakesText-seen _ c.see.new.checker base x (c.in-Some.c ∷ chars c.args.text.now) (Err c.in-Err.stop) (rw (append_assoc x (c.in-Some.c ∷ []) (chars c.args.text.now)) at stops))
 
 pub returns-clause-takes : goal.returns-clause-takes
 returns-clause-takes g c = λ base x before here.
     let seen = (c.in_default-see.ensures.sees base x [] before).0 in
     let sees = c.see_text-2.ensures.sees base (x ++ c.in-Some.c ∷ []) seen in
     rw c.in-Some.is
-    (TakesText-seen _ c.see_text-2.new.checker base x (c.in-Some.c ∷ chars c.args.text.now) c.see_text-2.result (no_place_yet _ c.see_text-2.new.checker base) (rw (append_assoc x (c.in-Some.c ∷ []) (chars c.args.text.now)) at sees))
+    (TakesText-seen _ c.see_text-2.new.checker base x (c.in-Some.c ∷ chars c.args.text.now) c.see_text-2.result (rw (append_assoc x (c.in-Some.c ∷ []) (chars c.args.text.now)) at sees))

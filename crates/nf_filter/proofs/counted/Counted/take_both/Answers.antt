@@ -48,19 +48,14 @@ returns-clause-takes g c = λ f place x start taken all here written.
     let settled = TakesAllowed-settled f (g.R.Rows.properties c.args.rows.now) _ start _ place c.args.assigned (x ++ c.in-Some.c ∷ []) tt first in
     rw (c.in-Some.is, ← append_assoc x (c.in-Some.c ∷ []) (chars c.args.text.now)) (c.take_allowed-2.ensures.takes f place (x ++ c.in-Some.c ∷ []) start first.taken.0 first.taken.1 behind settled)
 
-counted_below : (r : Result (Unit {0}) Fault) (old new n first text at : ℕ) → OnOk r (new ≡ old + n) → n ≤ text → old ≤ at → OnOk r (new ≤ at + first + text)
+counted_below : (r : Result (Unit {0}) Fault) (old new n first text at : ℕ) → OnOk r (new ≡ old + n) → n ≤ text → old ≤ at + first → OnOk r (new ≤ at + first + text)
 counted_below (Ok u) old new n first text at counts below start = omega (arith, counts, below, start)
 counted_below (Err fault) old new n first text at counts below start = tt
 
-widened : (r : Result (Unit {0}) Fault) (new at first text : ℕ) → OnOk r (new ≤ at + 1 + 0 + text) → 1 ≤ first → OnOk r (new ≤ at + first + text)
-widened (Ok u) new at first text below one = omega (arith, below, one)
-widened (Err fault) new at first text below one = tt
-
 pub returns-in_default-clause-chars : goal.returns-in_default-clause-chars
-returns-in_default-clause-chars g c = counted_below c.take_allowed.result _ _ _ _ _ _ c.take_allowed.ensures.chars (few c.args.text.now c.utf8.text) c.requires.chars
+returns-in_default-clause-chars g c = counted_below c.take_allowed.result _ _ _ _ _ _ c.take_allowed.ensures.chars (few c.args.text.now c.utf8.text) (omega (arith, c.requires.chars))
 
 pub returns-clause-chars : goal.returns-clause-chars
 returns-clause-chars g c =
     let one : 1 ≤ length (first_bytes c.args.first) = rw c.in-Some.is (omega (arith, length-encode c.in-Some.c, (len_utf8_bounds c.in-Some.c).0)) in
-    let past = counted_below c.take_allowed-2.result _ _ _ 0 (length c.args.text.now) (c.args.at + 1) c.take_allowed-2.ensures.chars (few c.args.text.now c.utf8.text) (omega (arith, c.in_default-take_one.ensures.chars, c.requires.chars)) in
-    widened c.take_allowed-2.result _ _ _ _ past one
+    counted_below c.take_allowed-2.result _ _ _ _ _ _ c.take_allowed-2.ensures.chars (few c.args.text.now c.utf8.text) (omega (arith, c.in_default-take_one.ensures.chars, c.requires.chars, one))
