@@ -91,7 +91,8 @@ module _ (policy : Policy) (f : Form) (p : Properties) (base : ℕ) (bytes : Lis
         is = λ _. sym (first_fault-none p policy.assigned (λ front. base + len_under policy.replace bytes front) (text_under policy.replace bytes) (bad_under policy.replace base bytes) taken.machine.usable takes.taken.1 ∙ told);
       }
 
-module _ (laws : ReplacesParts) {policy : Policy} {f : Form} {p : Properties} {base : ℕ} {bytes : List ℕ} {counted : Counted} {reading : Reading} {rest : List ℕ} (read : HasReadTo policy f p counted base reading bytes rest)
+module _ (laws : ReplacesParts) {policy : Policy} {f : Form} {p : Properties} {base : ℕ} {bytes : List ℕ} {counted : Counted} {reading : Reading} {rest : List ℕ}
+    (read : HasReadTo policy f p counted base reading bytes rest)
     {first : Option ℕ} {text : List ℕ} {end : End} (took : Takes read.tail rest first text end) where
   abbrev taken_text : List ℕ
   taken_text = read.before ++ text_of read.tail
@@ -106,7 +107,8 @@ module _ (laws : ReplacesParts) {policy : Policy} {f : Form} {p : Properties} {b
   joined_is = append_assoc read.before (text_of read.tail) next_text ∙ ap (λ l. read.before ++ l) (sym next_is)
 
   -- the offsets of its characters
-  pub chunk-placed : (begin : ℕ) → begin + length read.tail ≡ reading.offset + length (encode_utf8_all (text_of read.tail)) → IsPlacedAt (λ front. base + len_under policy.replace bytes front) begin taken_text next_text
+  pub chunk-placed : (begin : ℕ) → begin + length read.tail ≡ reading.offset + length (encode_utf8_all (text_of read.tail))
+      → IsPlacedAt (λ front. base + len_under policy.replace bytes front) begin taken_text next_text
   chunk-placed begin here front c last is =
       ap (λ l. base + len_under policy.replace bytes l) (append_assoc read.before (text_of read.tail) front)
       ∙ omega (

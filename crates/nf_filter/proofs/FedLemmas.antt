@@ -124,7 +124,11 @@ module _ (policy : Policy) (f : Form) (p : Properties) (base : ℕ) (laws : Repl
 
   pub rest-is : (r : Result (Unit {0}) Fault) → ReadsAll r → WritesTo start now (settled_utf8 policy f p bytes) r × (¬ (r ≡ Err Write) → result_err r ≡ fault_in policy p base bytes)
       × OnOk r (HasReadTo policy f p counted base reading bytes [])
-  rest-is (Ok u) reads = (record { broken = λ e. cc; written = λ _. Written-at (read-settled policy f p base laws counted reading bytes reads.0) reads.1 }, λ _. sym (read-no_fault policy f p base laws counted reading bytes reads.0), reads.0)
+  rest-is (Ok u) reads = (
+    record { broken = λ e. cc; written = λ _. Written-at (read-settled policy f p base laws counted reading bytes reads.0) reads.1 },
+    λ _. sym (read-no_fault policy f p base laws counted reading bytes reads.0),
+    reads.0,
+  )
   rest-is (Err fault) reads = (
     record {
       broken = λ e. Broken-at start (settled_utf8-taken policy f p bytes) (reads.broken (let same : fault ≡ Write = cc in same));

@@ -62,7 +62,8 @@ module _ (policy : Policy) (f : Form) (p : Properties) (base : ℕ) (state : Sta
 
   module _ (most : ℕ) (source left : SourceState) where
     -- nothing more was fed
-    fed_no_more : (r : Result (Unit {0}) Fault) → ¬ (r ≡ Err TooLong) → ¬ (r ≡ Err Write) → (¬ (r ≡ Err Read) → result_err r ≡ None) → Consumes source.coming left.coming fed → (IsTrue left.is_at_end → IsAtEnd left.coming)
+    fed_no_more : (r : Result (Unit {0}) Fault) → ¬ (r ≡ Err TooLong) → ¬ (r ≡ Err Write) → (¬ (r ≡ Err Read) → result_err r ≡ None)
+        → Consumes source.coming left.coming fed → (IsTrue left.is_at_end → IsAtEnd left.coming)
         → OnOk r (StandsAfter policy f p state (bytes ++ fed)) → FeedsAll most policy f p base bytes source left old mid state r
     fed_no_more r short whole told consumed read_out stands = record {
       fed = fed;

@@ -134,7 +134,8 @@ module _ (policy : Policy) (f : Form) (p : Properties) (base : ℕ) (laws : Repl
 
     final_is : (b : Bool) → is_taken policy.assigned p (whole_under policy.replace bytes) ≡ b → final_utf8 policy f p bytes ≡ (if b then final else settled_utf8 policy f p bytes)
     unfolding final_utf8
-    final_is b taken = (replaced_is policy.replace policy.assigned p base bytes (settled_utf8 policy f p bytes) final replaces).1 ∙ ap (λ (b : Bool). if b then final else settled_utf8 policy f p bytes) taken
+    final_is b taken = (replaced_is policy.replace policy.assigned p base bytes (settled_utf8 policy f p bytes) final replaces).1
+        ∙ ap (λ (b : Bool). if b then final else settled_utf8 policy f p bytes) taken
 
     end_at : end_of policy p base bytes ≡ answer_or (first_fault policy.assigned p (λ front. base + len_under policy.replace bytes front) (whole_under policy.replace bytes) None) (tally_of policy.replace p bytes)
     unfolding end_of

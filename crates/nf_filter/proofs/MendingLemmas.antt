@@ -44,7 +44,8 @@ module _ (laws : ReplacesParts) (bytes own : List ℕ) (len : ℕ) (is : IsRepla
       IsLeft-join true all x n bytes own len (drop len bytes) left
       (IsLeft-parts laws bytes own is.parts len (drop len bytes) is.front is.chars is.size (omega (arith, length-drop len bytes, is.within)))
 
-module _ (laws : ReplacesParts) (start : Start) {policy : Policy} {f : Form} {p : Properties} {base : ℕ} {bytes : List ℕ} {counted : Counted} {reading : Reading} {rest : List ℕ} (replaces : policy.replace ≡ true)
+module _ (laws : ReplacesParts) (start : Start) {policy : Policy} {f : Form} {p : Properties} {base : ℕ} {bytes : List ℕ} {counted : Counted} {reading : Reading} {rest : List ℕ}
+    (replaces : policy.replace ≡ true)
     (read : HasReadTo policy f p counted base reading bytes rest) (none : read.tail ≡ []) where
   before_is : read.before ++ text_of read.tail ≡ read.before
   before_is = ap (λ l. read.before ++ text_of l) none ∙ ap (λ l. read.before ++ l) text_of-none ∙ append-nil read.before

@@ -71,7 +71,8 @@ module _ (refusal : Fault) (is : IsAmong (row ∷ unassigned ∷ []) refusal) wh
     pub never_finished : (f : Form) (bytes : List ℕ) (old new : SinkState) (result : Result Tally Fault) → Finishes policy f p base bytes old new result → ¬ (result ≡ Err refusal)
     never_finished f bytes old new result finishes refused = not_in_all bytes (sym (finishes.answer (λ e. apart Write cc)) ∙ refused)
 
-    pub never_driven : (most : ℕ) (f : Form) (bytes : List ℕ) (source left : SourceState) (old new : SinkState) (result : Result Tally Fault) → Drives most policy f p base bytes source left old new result → ¬ (result ≡ Err refusal)
+    pub never_driven : (most : ℕ) (f : Form) (bytes : List ℕ) (source left : SourceState) (old new : SinkState) (result : Result Tally Fault) → Drives most policy f p base bytes source left old new result
+        → ¬ (result ≡ Err refusal)
     never_driven most f bytes source left old new result drives refused = by_end left.is_at_end refl
       where
         by_end : (b : Bool) → left.is_at_end ≡ b → ⊥

@@ -26,10 +26,12 @@ end_kinds base (CutShort at start) fault is = λ e. let same : fault ≡ Cut (ba
 abbrev pub stopped_by : Stop → Result (Unit {0}) Stop
 stopped_by stop = Err stop
 
-fits : {stands : List ℕ → Type 0} {stops : List ℕ → Option Stop} {base : ℕ} {reading : Reading} (bytes fed : List ℕ) → HasRead stands stops base reading (bytes ++ fed) → base + length bytes + length fed < 2 ^ 64
+fits : {stands : List ℕ → Type 0} {stops : List ℕ → Option Stop} {base : ℕ} {reading : Reading} (bytes fed : List ℕ) → HasRead stands stops base reading (bytes ++ fed)
+    → base + length bytes + length fed < 2 ^ 64
 fits {reading = reading} bytes fed so_far = omega (arith, so_far.offset, reading.offset_fits, length-append bytes fed)
 
-module _ {most : ℕ} {stands fed_stands : List ℕ → Type 0} {stops : List ℕ → Option Stop} {base : ℕ} {bytes : List ℕ} (fed : List ℕ) {source left : SourceState} {reading : Reading} (so_far : HasRead fed_stands stops base reading (bytes ++ fed)) where
+module _ {most : ℕ} {stands fed_stands : List ℕ → Type 0} {stops : List ℕ → Option Stop} {base : ℕ} {bytes : List ℕ} (fed : List ℕ) {source left : SourceState} {reading : Reading}
+    (so_far : HasRead fed_stands stops base reading (bytes ++ fed)) where
   -- the source failed
   pub ReadsAll-failed : (after : Reading) → left.is_at_end ≡ false → Consumes source.coming left.coming fed → ReadsAll most stands stops base after bytes source left (Err (Refused Read))
   ReadsAll-failed after before_end consumed = record {

@@ -14,14 +14,16 @@ pub returns-in-Ok-clause-surveys : goal.returns-in-Ok-clause-surveys
 returns-in-Ok-clause-surveys g c =
     let stands = c.new-checker.ensures.stands _ in
     let none = c.new-checker.ensures.place in
-    let reads = c.in-Ok.ensures.reads c.args.base [] (HasRead-none _ _ _ _ c.new-reading.ensures.offset c.new-reading.ensures.decoder (record { stands = stands; none = none; sound = refl }) (stop_none _ c.args.base [] refl (sym stands.place ∙ none))) in
+    let reads = c.in-Ok.ensures.reads c.args.base [] (HasRead-none _ _ _ _ c.new-reading.ensures.offset c.new-reading.ensures.decoder
+    (record { stands = stands; none = none; sound = refl }) (stop_none _ c.args.base [] refl (sym stands.place ∙ none))) in
     Surveys-whole Some (length c.args.buffer.now) c.args.base _ _ _ _ (decides _ c.args.base) _ _ _ tt c.in-Ok.ensures.end reads None refl
 
 pub returns-in-Err-Found-clause-surveys : goal.returns-in-Err-Found-clause-surveys
 returns-in-Err-Found-clause-surveys g c =
     let stands = c.new-checker.ensures.stands _ in
     let none = c.new-checker.ensures.place in
-    let reads = rw c.in-Err-Found.field-0-is at (c.in-Err-Found.ensures.reads c.args.base [] (HasRead-none _ _ _ _ c.new-reading.ensures.offset c.new-reading.ensures.decoder (record { stands = stands; none = none; sound = refl }) (stop_none _ c.args.base [] refl (sym stands.place ∙ none)))) in
+    let reads = rw c.in-Err-Found.field-0-is at (c.in-Err-Found.ensures.reads c.args.base [] (HasRead-none _ _ _ _ c.new-reading.ensures.offset c.new-reading.ensures.decoder
+    (record { stands = stands; none = none; sound = refl }) (stop_none _ c.args.base [] refl (sym stands.place ∙ none)))) in
     Surveys-stopped Some (length c.args.buffer.now) c.args.base _ _ _ _ (decides _ c.args.base) _ _ _ (Found c.in-Err-Found.place) reads
 
 pub returns-in-Err-Refused-clause-faults : goal.returns-in-Err-Refused-clause-faults
@@ -31,5 +33,6 @@ pub returns-in-Err-Refused-clause-surveys : goal.returns-in-Err-Refused-clause-s
 returns-in-Err-Refused-clause-surveys g c =
     let stands = c.new-checker.ensures.stands _ in
     let none = c.new-checker.ensures.place in
-    let reads = rw c.in-Err-Refused.field-0-is at (c.in-Err-Refused.ensures.reads c.args.base [] (HasRead-none _ _ _ _ c.new-reading.ensures.offset c.new-reading.ensures.decoder (record { stands = stands; none = none; sound = refl }) (stop_none _ c.args.base [] refl (sym stands.place ∙ none)))) in
+    let reads = rw c.in-Err-Refused.field-0-is at (c.in-Err-Refused.ensures.reads c.args.base [] (HasRead-none _ _ _ _ c.new-reading.ensures.offset c.new-reading.ensures.decoder
+    (record { stands = stands; none = none; sound = refl }) (stop_none _ c.args.base [] refl (sym stands.place ∙ none)))) in
     Surveys-stopped Some (length c.args.buffer.now) c.args.base _ _ _ _ (decides _ c.args.base) _ _ _ (Refused c.in-Err-Refused.fault) reads

@@ -6,7 +6,8 @@ pub returns-clause-feeding : goal.returns-clause-feeding
 returns-clause-feeding c = λ policy f p base bytes piece old new result sound feeds at. not_fed p sound base at policy f bytes piece old new result feeds
 
 pub returns-clause-driving : goal.returns-clause-driving
-returns-clause-driving c = λ most policy f p base bytes source left old new result sound drives at. never_driven (Row at) tt p base policy (not_in_text p sound base at policy.assigned) most f bytes source left old new result drives
+returns-clause-driving c = λ most policy f p base bytes source left old new result sound drives at.
+    never_driven (Row at) tt p base policy (not_in_text p sound base at policy.assigned) most f bytes source left old new result drives
 
 pub returns-clause-checking : goal.returns-clause-checking
 returns-clause-checking c = λ most p base source left result sound surveys at. not_surveyed most base at _ _ source left result (not_checked p sound base at) surveys

@@ -24,7 +24,8 @@ read_all-requires-clause-ready g c =
 pub returns-in-Ok-clause-surveys : goal.returns-in-Ok-clause-surveys
 returns-in-Ok-clause-surveys g c =
     let p = g.R.Rows.properties c.args.rows.now in
-    let reads = c.in-Ok.ensures.reads c.args.base [] (HasRead-none _ _ _ _ c.new-reading.ensures.offset c.new-reading.ensures.decoder (c.new-measurer.ensures p) (ap (option_map Refused) (unusable_at-usable p (utf8_place c.args.base) [] (is_usable-none p)))) in
+    let reads = c.in-Ok.ensures.reads c.args.base [] (HasRead-none _ _ _ _ c.new-reading.ensures.offset c.new-reading.ensures.decoder (c.new-measurer.ensures p)
+    (ap (option_map Refused) (unusable_at-usable p (utf8_place c.args.base) [] (is_usable-none p)))) in
     Surveys-whole (no_measure c.values.result) (length c.args.buffer.now) c.args.base _ _ _ _ (decides p (no_measure c.values.result) c.args.base) _ _ _ tt c.in-Ok.ensures.end reads c.values.result
     (sym reads.read.taken.values ∙ sym c.values.ensures)
 
@@ -35,5 +36,6 @@ pub returns-in-Err-clause-surveys : goal.returns-in-Err-clause-surveys
 returns-in-Err-clause-surveys g c =
     let p = g.R.Rows.properties c.args.rows.now in
     let none = values_of c.new-measurer.result in
-    let reads = rw c.fault.ensures at (c.in-Err.ensures.reads c.args.base [] (HasRead-none _ _ _ _ c.new-reading.ensures.offset c.new-reading.ensures.decoder (c.new-measurer.ensures p) (ap (option_map Refused) (unusable_at-usable p (utf8_place c.args.base) [] (is_usable-none p))))) in
+    let reads = rw c.fault.ensures at (c.in-Err.ensures.reads c.args.base [] (HasRead-none _ _ _ _ c.new-reading.ensures.offset c.new-reading.ensures.decoder (c.new-measurer.ensures p)
+    (ap (option_map Refused) (unusable_at-usable p (utf8_place c.args.base) [] (is_usable-none p))))) in
     Surveys-stopped (no_measure none) (length c.args.buffer.now) c.args.base _ _ _ _ (decides p (no_measure none) c.args.base) _ _ _ (Refused c.fault.result) reads

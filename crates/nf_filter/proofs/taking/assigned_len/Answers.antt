@@ -21,7 +21,8 @@ loop-rest-preserved g c =
     let e = sym c.chars-chars.ensures.rest ∙ c.in-Some.ensures.steps.0 ∙ ap (λ t. encode_utf8 c.in-Some.c ++ t) (sym c.as_str-rest.ensures) in
     record {
       utf8 = c.as_str-rest.utf8;
-      behind = piece_behind _ _ _ here c.as_str-rest.result.now (char_behind _ c.past_known-more.result.1.now c.as_str-rest.result.now c.in-Some.c here.rest_utf8 c.as_str-rest.utf8 e (sym c.assigned.ensures ∙ c.if-not-assigned.false));
+      behind = piece_behind _ _ _ here c.as_str-rest.result.now
+          (char_behind _ c.past_known-more.result.1.now c.as_str-rest.result.now c.in-Some.c here.rest_utf8 c.as_str-rest.utf8 e (sym c.assigned.ensures ∙ c.if-not-assigned.false));
     }
 
 pub returns : goal.returns

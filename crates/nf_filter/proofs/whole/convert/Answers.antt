@@ -15,7 +15,8 @@ returns-in-Err-clause-converts g c =
     let rows = ap g.R.Rows.properties filter.ensures.rows in
     let stands = subst (λ (q : Properties). StandsAfter as_is c.args.form q (state_of filter.result) []) (sym rows) filter.ensures.stands in
     Converts-refused c.args.form _ c.args.bytes.now _ _ c.in-Err.fault
-    (subst₂ (λ (q : Properties) (m : ℕ). Feeds as_is c.args.form q m [] c.args.bytes.now (g.S.Sink.state c.args.sink.now) (g.S.Sink.state c.feed.new.sink) (Err c.in-Err.fault)) rows filter.ensures.base (c.in-Err.ensures.feeds as_is c.args.form [] stands (λ e.
+    (subst₂ (λ (q : Properties) (m : ℕ). Feeds as_is c.args.form q m [] c.args.bytes.now (g.S.Sink.state c.args.sink.now) (g.S.Sink.state c.feed.new.sink) (Err c.in-Err.fault))
+    rows filter.ensures.base (c.in-Err.ensures.feeds as_is c.args.form [] stands (λ e.
     let over = (c.in-Err.ensures.too_long.0 e).1 in absurd (omega (arith, over, StandsAfter-offset filter.ensures.stands, filter.ensures.base)))))
 
 pub returns-clause-converts : goal.returns-clause-converts
@@ -23,11 +24,13 @@ returns-clause-converts g c =
     let filter = c.quickest-filter in
     let rows = ap g.R.Rows.properties filter.ensures.rows in
     let stands = subst (λ (q : Properties). StandsAfter as_is c.args.form q (state_of filter.result) []) (sym rows) filter.ensures.stands in
-    let fed = subst₂ (λ (q : Properties) (m : ℕ). Feeds as_is c.args.form q m [] c.args.bytes.now (g.S.Sink.state c.args.sink.now) (g.S.Sink.state c.feed.new.sink) (Ok tt)) rows filter.ensures.base (c.in_default.ensures.feeds as_is c.args.form [] stands (λ e. cc)) in
+    let fed = subst₂ (λ (q : Properties) (m : ℕ). Feeds as_is c.args.form q m [] c.args.bytes.now (g.S.Sink.state c.args.sink.now) (g.S.Sink.state c.feed.new.sink) (Ok tt))
+    rows filter.ensures.base (c.in_default.ensures.feeds as_is c.args.form [] stands (λ e. cc)) in
     let here = ap g.R.Rows.properties c.in_default.ensures.rows in
     let after = subst (λ (q : Properties). StandsAfter as_is c.args.form q (state_of c.feed.new.self) c.args.bytes.now) (sym here) (c.in_default.ensures.stands as_is c.args.form [] stands) in
     Converts-finished c.args.form _ c.args.bytes.now _ _ _ fed c.finish.result
-    (subst₂ (λ (q : Properties) (m : ℕ). Finishes as_is c.args.form q m c.args.bytes.now (g.S.Sink.state c.feed.new.sink) (g.S.Sink.state c.finish.new.sink) c.finish.result) (here ∙ rows) (c.in_default.ensures.base ∙ filter.ensures.base) (c.finish.ensures.finishes as_is c.args.form c.args.bytes.now after))
+    (subst₂ (λ (q : Properties) (m : ℕ). Finishes as_is c.args.form q m c.args.bytes.now (g.S.Sink.state c.feed.new.sink) (g.S.Sink.state c.finish.new.sink) c.finish.result)
+    (here ∙ rows) (c.in_default.ensures.base ∙ filter.ensures.base) (c.finish.ensures.finishes as_is c.args.form c.args.bytes.now after))
 
 pub returns-in-Err-clause-faults : goal.returns-in-Err-clause-faults
 returns-in-Err-clause-faults g c = Converts-faults c.args.form _ c.args.bytes.now _ _ _ (returns-in-Err-clause-converts g c)

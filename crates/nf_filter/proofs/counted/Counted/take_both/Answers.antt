@@ -38,7 +38,8 @@ pub returns-in-Err-clause-takes : goal.returns-in-Err-clause-takes
 returns-in-Err-clause-takes g c = λ f place x start taken all here written.
     let one = c.in-Err.ensures.takes f place x start taken all (placed-within place c.args.at x (c.in-Some.c ∷ chars c.args.text.now) (c.in-Some.c ∷ []) (chars c.args.text.now) refl (rw c.in-Some.is at here)) written in
     rw (c.in-Some.is, ← append_assoc x (c.in-Some.c ∷ []) (chars c.args.text.now))
-    (TakesAllowed-more f _ c.take_one.new.self start (block_state (g.S.Sink.state c.take_one.new.sink) c.take_one.new.block) place c.args.assigned (x ++ c.in-Some.c ∷ []) (chars c.args.text.now) c.in-Err.fault one)
+    (TakesAllowed-more f _ c.take_one.new.self start (block_state (g.S.Sink.state c.take_one.new.sink) c.take_one.new.block)
+    place c.args.assigned (x ++ c.in-Some.c ∷ []) (chars c.args.text.now) c.in-Err.fault one)
 
 pub returns-clause-takes : goal.returns-clause-takes
 returns-clause-takes g c = λ f place x start taken all here written.

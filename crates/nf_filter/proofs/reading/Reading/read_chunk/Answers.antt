@@ -13,7 +13,8 @@ returns-in-Err-clause-reads g c = λ f base bytes start both.
     let read = both.0 in
     let took = c.take-chunk.ensures.takes read.tail read.decoder in
     let placed = chunk-placed c.replacing.ensures read took (c.args.self.now.offset - c.carried.result) (omega (arith, c.carried.ensures.behind read.tail read.decoder, read.offset)) in
-    chunk-refused c.replacing.ensures read took c.take_both.new.self c.in-Err.fault (c.in-Err.ensures.takes f (λ front. base + len_under c.args.policy.replace bytes front) (read.before ++ text_of read.tail) start read.taken read.allowed placed both.1)
+    chunk-refused c.replacing.ensures read took c.take_both.new.self c.in-Err.fault
+    (c.in-Err.ensures.takes f (λ front. base + len_under c.args.policy.replace bytes front) (read.before ++ text_of read.tail) start read.taken read.allowed placed both.1)
 
 pub returns-in_default-chunk_end : goal.returns-in_default-chunk_end
 returns-in_default-chunk_end g c =
@@ -41,7 +42,8 @@ returns-then-not-policy-clause-reads g c = λ f base bytes start both.
     let ends = rw c.in-Bad.is at took.ends in
     let placed = chunk-placed c.replacing.ensures read took (c.args.self.now.offset - c.carried.result) (omega (arith, c.carried.ensures.behind read.tail read.decoder, read.offset)) in
     let takes = c.in_default.ensures.takes f (λ front. base + len_under c.args.policy.replace bytes front) (read.before ++ text_of read.tail) start read.taken read.allowed placed both.1 in
-    chunk-bad c.replacing.ensures read took c.take_both.new.self takes c.in-Bad.at c.in-Bad.back ends (not-true c.args.policy.replace c.if-not-policy.true) _ _ refl (omega (arith, ends.1, read.offset))
+    chunk-bad c.replacing.ensures read took c.take_both.new.self takes c.in-Bad.at c.in-Bad.back ends (not-true c.args.policy.replace c.if-not-policy.true)
+    _ _ refl (omega (arith, ends.1, read.offset))
 
 pub returns-in-Err-take_one-clause-reads : goal.returns-in-Err-take_one-clause-reads
 returns-in-Err-take_one-clause-reads g c = λ f base bytes start both.
@@ -52,9 +54,11 @@ returns-in-Err-take_one-clause-reads g c = λ f base bytes start both.
     let takes = c.in_default.ensures.takes f (λ front. base + len_under c.args.policy.replace bytes front) (read.before ++ text_of read.tail) start read.taken read.allowed placed both.1 in
     let yes : c.args.policy.replace ≡ true = not-false c.args.policy.replace c.if-not-policy.false in
     let text = (read.before ++ text_of read.tail) ++ (first_text c.take-chunk.result.first ++ chars c.take-chunk.result.text.now) in
-    let part_placed = part-placed c.replacing.ensures read took c.take_both.new.self takes c.in-Bad.at c.in-Bad.back ends c.split.ensures yes _ refl (c.args.self.now.offset + c.in-Bad.at - c.in-Bad.back) (omega (arith, ends.1, read.offset)) in
+    let part_placed = part-placed c.replacing.ensures read took c.take_both.new.self takes c.in-Bad.at c.in-Bad.back ends c.split.ensures yes _ refl
+    (c.args.self.now.offset + c.in-Bad.at - c.in-Bad.back) (omega (arith, ends.1, read.offset)) in
     part-refused c.replacing.ensures read took c.take_both.new.self takes c.in-Bad.at c.in-Bad.back ends c.split.ensures yes _ refl c.take_one.new.self _ c.in-Err-take_one.fault
-    (c.in-Err-take_one.ensures.takes f (λ front. base + len_under c.args.policy.replace bytes front) text start takes.taken.0 takes.taken.1 part_placed (chunk-written c.replacing.ensures read took c.take_both.new.self takes))
+    (c.in-Err-take_one.ensures.takes f (λ front. base + len_under c.args.policy.replace bytes front) text start takes.taken.0 takes.taken.1 part_placed
+    (chunk-written c.replacing.ensures read took c.take_both.new.self takes))
 
 pub returns-clause-reads : goal.returns-clause-reads
 returns-clause-reads g c = λ f base bytes start both.
@@ -70,9 +74,11 @@ returns-clause-reads g c = λ f base bytes start both.
       | then-back-eq0 w ↦ w.len-is ∙ sym (part_len_of-one c.in-Bad.at c.in-Bad.back w.if-back-eq0.true)
       | else-back-eq0 w ↦ w.len-is ∙ sym (part_len_of-rest c.in-Bad.at c.in-Bad.back w.if-back-eq0.false)
     ] in
-    let part_placed = part-placed c.replacing.ensures read took c.take_both.new.self takes c.in-Bad.at c.in-Bad.back ends c.split.ensures yes len is_len (c.args.self.now.offset + c.in-Bad.at - c.in-Bad.back) (omega (arith, ends.1, read.offset)) in
+    let part_placed = part-placed c.replacing.ensures read took c.take_both.new.self takes c.in-Bad.at c.in-Bad.back ends c.split.ensures yes len is_len
+    (c.args.self.now.offset + c.in-Bad.at - c.in-Bad.back) (omega (arith, ends.1, read.offset)) in
     let slice : take (length c.args.rest.now - len) (drop len c.args.rest.now) ≡ drop len c.args.rest.now = take_all (length c.args.rest.now - len) (drop len c.args.rest.now) (omega (arith, length-drop len c.args.rest.now)) in
     let part = part-read c.replacing.ensures read took c.take_both.new.self takes c.in-Bad.at c.in-Bad.back ends c.split.ensures yes len is_len c.take_one.new.self _ _
-    (c.in_default-take_one.ensures.takes f (λ front. base + len_under c.args.policy.replace bytes front) text start takes.taken.0 takes.taken.1 part_placed (chunk-written c.replacing.ensures read took c.take_both.new.self takes))
+    (c.in_default-take_one.ensures.takes f (λ front. base + len_under c.args.policy.replace bytes front) text start takes.taken.0 takes.taken.1 part_placed
+    (chunk-written c.replacing.ensures read took c.take_both.new.self takes))
     (rw c.in-Bad.is at (c.take-chunk.ensures.stands read.tail read.decoder)) refl text_of-none _ slice in
     c.read_mended.ensures.reads f base bytes start part.0 part.1

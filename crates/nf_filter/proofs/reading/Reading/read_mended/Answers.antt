@@ -14,7 +14,8 @@ returns-in-Err-clause-reads g c = λ f base bytes start both none.
     let mended = c.mend_allowed-len.ensures in
     let text = chars c.mend_allowed-len.new.mended.items in
     let standing = standing_before c.replacing.ensures start c.requires.replaces read none (block_state (g.S.Sink.state c.args.sink.now) c.args.block.now) text both.1 in
-    let takes = rw c.mended_text.ensures at (c.in-Err.ensures.takes f (place_behind read.before 0) read.before start (counted_before c.replacing.ensures start c.requires.replaces read none) (rw c.mended_text.ensures standing) (rw c.mended_text.ensures (placed_behind read.before text 0))) in
+    let takes = rw c.mended_text.ensures at (c.in-Err.ensures.takes f (place_behind read.before 0) read.before start (counted_before c.replacing.ensures start c.requires.replaces read none)
+    (rw c.mended_text.ensures standing) (rw c.mended_text.ensures (placed_behind read.before text 0))) in
     mended-refused c.replacing.ensures start c.requires.replaces read none text c.mend_allowed-len.result mended.replaced mended.allowed (c.all_sound.ensures c.if-not-all_sound.false)
     (block_state (g.S.Sink.state c.take_text.new.sink) c.take_text.new.block) c.take_text.new.self (place_behind read.before 0) c.in-Err.field-0 takes
 
@@ -24,6 +25,8 @@ returns-clause-reads g c = λ f base bytes start both none.
     let mended = c.mend_allowed-len.ensures in
     let text = chars c.mend_allowed-len.new.mended.items in
     let standing = standing_before c.replacing.ensures start c.requires.replaces read none (block_state (g.S.Sink.state c.args.sink.now) c.args.block.now) text both.1 in
-    let takes = rw c.mended_text.ensures at (c.in_default.ensures.takes f (place_behind read.before 0) read.before start (counted_before c.replacing.ensures start c.requires.replaces read none) (rw c.mended_text.ensures standing) (rw c.mended_text.ensures (placed_behind read.before text 0))) in
-    rw (take_rest c.args.rest.now c.mend_allowed-len.result) (mended-read c.replacing.ensures start c.requires.replaces read none text c.mend_allowed-len.result mended.replaced mended.allowed (c.all_sound.ensures c.if-not-all_sound.false)
+    let takes = rw c.mended_text.ensures at (c.in_default.ensures.takes f (place_behind read.before 0) read.before start (counted_before c.replacing.ensures start c.requires.replaces read none)
+    (rw c.mended_text.ensures standing) (rw c.mended_text.ensures (placed_behind read.before text 0))) in
+    rw (take_rest c.args.rest.now c.mend_allowed-len.result) (mended-read c.replacing.ensures start c.requires.replaces read none
+    text c.mend_allowed-len.result mended.replaced mended.allowed (c.all_sound.ensures c.if-not-all_sound.false)
     (block_state (g.S.Sink.state c.take_text.new.sink) c.take_text.new.block) c.take_text.new.self (place_behind read.before 0) _ takes refl refl)
