@@ -26,6 +26,7 @@ end_kinds base (CutShort at start) fault is = λ e. let same : fault ≡ Cut (ba
 abbrev pub stopped_by : Stop → Result (Unit {0}) Stop
 stopped_by stop = Err stop
 
+-- what was read has offsets that can be told
 fits : {stands : List ℕ → Type 0} {stops : List ℕ → Option Stop} {base : ℕ} {reading : Reading} (bytes fed : List ℕ) → HasRead stands stops base reading (bytes ++ fed)
     → base + length bytes + length fed < 2 ^ 64
 fits {reading = reading} bytes fed so_far = omega (arith, so_far.offset, reading.offset_fits, length-append bytes fed)
