@@ -23,7 +23,7 @@ use Rattle.nf_forms.specs.Laws.Sound.{IsSound-from_test, IsSoundText}
 use Rattle.nf_forms.specs.Laws.StreamSafe.{stream_safe-push, decomposed-append, decomposed-push}
 use Rattle.nf_facts.specs.Passing.{is_among, mapped_marks}
 use Rattle.nf_facts.specs.After.{after}
-use Rattle.nf_row.proofs.OrderingLemmas.{length-order}
+use Rattle.nf_forms.specs.Laws.Starters.{length-order}
 use Rattle.nf_filter.specs.Settled.{settled, is_usable}
 use Rattle.nf_filter.specs.Laws.{LittleIsHeldBack}
 

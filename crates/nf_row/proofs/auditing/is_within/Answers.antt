@@ -1,5 +1,5 @@
 use Rattle.std.proofs.Common.{◌≤◌, arith, ap, length, refl, flat_map}
-use Rattle.nf_row.proofs.OrderingLemmas.{length-order}
+use Rattle.nf_forms.specs.Laws.Starters.{length-order}
 use Rattle.nf_row.proofs.auditing.is_within.Goals as goal
 
 pub returns-in-None : goal.returns-in-None
