@@ -1,5 +1,5 @@
 -- Where the reading of a vector file ends.
-use Rattle.nf_vectors.proofs.Common.{◌≡◌, ℕ, suc, ◌+◌, ◌-◌, ◌<◌, ◌≤◌, Bool, true, false, ◌||◌, List, [], ◌∷◌, ◌++◌, length, take, drop, get_or, Option, Some, None, Result, Ok, Err, refl, sym, ap, ◌∙◌, subst, arith, append_assoc, append-nil, ⊎_elim, ◌⊎◌, inl, inr, OnOk, is_ok, if◌then◌else◌, lt-ltb, le-ltb, false≢true, cases_lt, or-false, take-append-add, length-append, take_at, drop_more, take-append-drop, VectorFault, VectorKind, Fields, Empty, Hex, Scalar, Size, Read, Memory, Reading, is_line_end, lines_of, Judgement, Bad, judged, part_behind, is_part1_line, rows_from, names_part1_from, fault_or, last_fault, first_fault, rows_in, AreWithin, StandsAfter, EndsLine, limit, block, lines_within, stop_of, Finds, RunsOut}
+use Rattle.nf_vectors.proofs.Common.{◌≡◌, ℕ, suc, ◌+◌, ◌-◌, ◌<◌, ◌≤◌, Bool, true, false, ◌||◌, List, [], ◌∷◌, ◌++◌, length, take, drop, get_or, Option, Some, None, Result, Ok, Err, refl, sym, ap, ◌∙◌, subst, arith, append_assoc, append-nil, ⊎_elim, OnOk, is_ok, if◌then◌else◌, lt-ltb, le-ltb, false≢true, cases_lt, or-false, take-append-add, length-append, take_at, drop_more, take-append-drop, VectorFault, VectorKind, Size, Read, Memory, Reading, is_line_end, lines_of, Judgement, Bad, judged, part_behind, is_part1_line, rows_from, names_part1_from, last_fault, first_fault, rows_in, AreWithin, StandsAfter, EndsLine, limit, block, lines_within, stop_of, Finds, RunsOut}
 use Rattle.std.proofs.lemmas.List.{take_all}
 use Rattle.nf_vectors.proofs.TextLemmas.{rows_in-append}
 use Rattle.nf_vectors.proofs.StandingLemmas.{lines_of-ended, lines_of-last, first_fault-ended}
@@ -19,15 +19,6 @@ on_ok (Err e) f = tt
 pub at_ok : {A E : Type 0} {P : Type 0} (r : Result A E) → is_ok r ≡ true → OnOk r P → P
 at_ok (Ok x) e p = p
 at_ok (Err e) is p = absurd (false≢true is)
-
-pub is_size : (kind : VectorKind) → (kind ≡ Size) ⊎ (¬ (kind ≡ Size))
-is_size Fields = inr (λ e. cc)
-is_size Empty = inr (λ e. cc)
-is_size Hex = inr (λ e. cc)
-is_size Scalar = inr (λ e. cc)
-is_size Size = inl refl
-is_size Read = inr (λ e. cc)
-is_size Memory = inr (λ e. cc)
 
 -- the text of a suite grew while the line was judged
 pub EndsLine-grown : (judgement : Judgement) (old mid new : Reading) (more : List ℕ) → mid.text.items ≡ old.text.items ++ more → mid.entries.items ≡ old.entries.items
@@ -53,31 +44,23 @@ module _ (reading : Reading) (bytes : List ℕ) (stands : StandsAfter reading by
     pub within : take limit bytes ≡ bytes
     within = take_all limit bytes few
 
-    stop_is : (failed : Bool) → stop_of bytes failed ≡ (if failed then Some Read else None)
-    stop_is failed = ap (λ b. if b then Some Size else (if failed then Some Read else None)) (le-ltb limit (length bytes) few)
-
-    pub read_failed : first_fault 1 (stop_of bytes true) (lines_within bytes) ≡ Some (record { line = reading.line; kind = Read })
-    read_failed = rw (within, stop_is true) (last_line (Some Read))
-
-    pub last_bad : (kind : VectorKind) → judged reading.line reading.bytes.items ≡ Bad kind
-        → first_fault 1 (stop_of bytes false) (lines_within bytes) ≡ Some (record { line = reading.line; kind = kind })
-    last_bad kind bad = rw (within, stop_is false, last_line None, bad) refl
-
-    pub last_fine : ((other : Option VectorFault) → fault_or reading.line (judged reading.line reading.bytes.items) other ≡ other)
-        → first_fault 1 (stop_of bytes false) (lines_within bytes) ≡ None
-    last_fine fine = rw (within, stop_is false, last_line None) (fine None)
+    -- the first fault there
+    pub ends_at : (failed : Bool) → first_fault 1 (stop_of bytes failed) (lines_within bytes) ≡ last_fault reading.line (if failed then Some Read else None) reading.bytes.items
+    ends_at failed =
+        let stop : stop_of bytes failed ≡ (if failed then Some Read else None) = ap (λ b. if b then Some Size else (if failed then Some Read else None)) (le-ltb limit (length bytes) few) in
+        rw (within, stop) (last_line (if failed then Some Read else None))
 
     -- where memory runs out over the next byte, or at the end
-    pub runs_out : (rest all : List ℕ) → length rest ≤ block → all ≡ bytes ++ rest → (at_end : Bool) → (at_end ≡ true → rest ≡ []) → (fault : VectorFault) → fault ≡ record { line = reading.line; kind = fault.kind }
+    pub runs_out : (rest all : List ℕ) → length rest ≤ block → all ≡ bytes ++ rest → (at_end : Bool) → (at_end ≡ true → rest ≡ []) → (fault : VectorFault) (kind : VectorKind) → fault ≡ record { line = reading.line; kind = kind }
         → fault.kind ≡ Memory → RunsOut all at_end fault
-    runs_out rest all short is at_end end fault here memory = record {
+    runs_out rest all short is at_end end fault kind here memory = record {
       read = bytes;
       rest = rest;
       is = is;
       within = few;
       last = short;
       end = end;
-      first = last_line (Some Memory) ∙ ap (λ k. Some (record { line = reading.line; kind = k })) (sym memory) ∙ ap Some (sym here);
+      first = last_line (Some Memory) ∙ ap (λ k. Some (record { line = reading.line; kind = k })) (sym memory ∙ ap (λ f. f.kind) here) ∙ ap Some (sym here);
     }
 
     module _ (new : Reading) (ends : EndsLine (judged reading.line reading.bytes.items) reading new) where
@@ -112,13 +95,10 @@ pub found_here : (reading : Reading) (bytes : List ℕ) → StandsAfter reading 
     → Finds (bytes ++ b ∷ rest) fault
 found_here reading bytes stands b rest kind fault few is full size found =
     subst (Finds (bytes ++ b ∷ rest)) (sym is) (⊎_elim
-    (λ e. subst (λ k. Finds (bytes ++ b ∷ rest) (record { line = reading.line; kind = k })) (sym e)
-    (too_long reading bytes stands (b ∷ rest) (omega (arith, stands.taken, full e, limit-is)) (omega arith)))
-    (λ unsized. found_before reading bytes stands b kind rest (room unsized) (found unsized))
-    (is_size kind))
-  where
-    room : ¬ (kind ≡ Size) → length bytes < limit
-    room unsized = ⊎_elim (λ below. omega (arith, below, stands.taken, limit-is)) (λ above. absurd (unsized (size (omega (arith, above, few))))) (cases_lt reading.taken 67108864)
+    (λ below. found_before reading bytes stands b kind rest (omega (arith, below, stands.taken, limit-is)) (found (λ e. omega (arith, below, full e))))
+    (λ above. subst (λ k. Finds (bytes ++ b ∷ rest) (record { line = reading.line; kind = k })) (sym (size (omega (arith, above, few))))
+    (too_long reading bytes stands (b ∷ rest) (omega (arith, above, few, stands.taken, limit-is)) (omega arith)))
+    (cases_lt reading.taken 67108864))
 
 pub piece_at : (bytes piece : List ℕ) (i : ℕ) → i < length piece → (bytes ++ take i piece) ++ get_or piece i 0 ∷ drop (i + 1) piece ≡ bytes ++ piece
 piece_at bytes piece i within =

@@ -1,35 +1,17 @@
 -- How a line is judged, by what it says.
-use Rattle.nf_vectors.proofs.Common.{◌≡◌, ℕ, ◌<◌, List, [], ◌∷◌, ◌++◌, length, Ok, sym, ap, ◌∙◌, arith, if◌then◌else◌, slice_range, append_assoc, append-nil, eq-eqb, ne_eqb, Columns, content, column_in, Nothing, Part, columns_of, is_part1, row_in, row_or_bad, judgement_of, judgement, unmarked, judged}
+use Rattle.nf_vectors.proofs.Common.{◌≡◌, ◌==◌, Bool, ℕ, List, [], ◌∷◌, ◌++◌, length, sym, ap, ◌∙◌, arith, if◌then◌else◌, slice_range, append_assoc, append-nil, Columns, content, Part, is_part1, row_in, row_or_bad, judgement_of, judgement, unmarked, judged}
 use Rattle.std.proofs.Common.{length-append}
 use Rattle.nf_vectors.proofs.TextLemmas.{slice_range-append, slice_range-last}
 
-module _ (line : List ℕ) where
-  pub judgement-nothing : content line ≡ [] → judgement line ≡ Nothing
-  unfolding judgement
-  judgement-nothing e = ap judgement_of e
-
-  pub judgement-part : (b : ℕ) (name : List ℕ) → content line ≡ b ∷ name → b ≡ 0x40 → judgement line ≡ Part (is_part1 name)
-  unfolding judgement
-  judgement-part b name e at = ap judgement_of e ∙ ap (λ t. if t then Part (is_part1 name) else row_or_bad (row_in (b ∷ name))) (eq-eqb b 0x40 at)
-
-  pub judgement-row : (b : ℕ) (more : List ℕ) → content line ≡ b ∷ more → (b ≡ 0x40 → ⊥) → judgement line ≡ row_or_bad (row_in (content line))
-  unfolding judgement
-  judgement-row b more e other =
-      ap judgement_of e ∙ ap (λ t. if t then Part (is_part1 more) else row_or_bad (row_in (b ∷ more))) (ne_eqb b 0x40 other) ∙ ap (λ l. row_or_bad (row_in l)) (sym e)
+-- a line that says something, by its first byte
+pub judgement-by : (line : List ℕ) (b : ℕ) (more : List ℕ) → content line ≡ b ∷ more → (t : Bool) → (b == 0x40) ≡ t → judgement line ≡ (if t then Part (is_part1 more) else row_or_bad (row_in (b ∷ more)))
+unfolding judgement
+judgement-by line b more e t is = ap judgement_of e ∙ ap (λ t. if t then Part (is_part1 more) else row_or_bad (row_in (b ∷ more))) is
 
 -- a line by its number
-pub judged-other : (n : ℕ) (line : List ℕ) → 1 < n → judged n line ≡ judgement line
+pub judged-by : (n : ℕ) (line : List ℕ) (t : Bool) → (n == 1) ≡ t → judged n line ≡ judgement (if t then unmarked line else line)
 unfolding judged
-judged-other n line past = ap (λ t. judgement (if t then unmarked line else line)) (ne_eqb n 1 (λ e. omega arith))
-
-pub judged-first : (n : ℕ) (line : List ℕ) → n ≡ 1 → judged n line ≡ judgement (unmarked line)
-unfolding judged
-judged-first n line e = ap (λ t. judgement (if t then unmarked line else line)) (eq-eqb n 1 e)
-
-pub columns_of-all : (a b c d e source nfc nfd nfkc nfkd : List ℕ) → column_in a ≡ Ok source → column_in b ≡ Ok nfc → column_in c ≡ Ok nfd → column_in d ≡ Ok nfkc → column_in e ≡ Ok nfkd
-    → columns_of a b c d e ≡ Ok (record { source = source; nfc = nfc; nfd = nfd; nfkc = nfkc; nfkd = nfkd })
-unfolding columns_of
-columns_of-all a b c d e source nfc nfd nfkc nfkd p q r s t = simp (p, q, r, s, t)
+judged-by n line t is = ap (λ t. judgement (if t then unmarked line else line)) is
 
 -- a column stands where it was put, whatever was put behind it
 held : (t0 t1 text column more : List ℕ) (i j : ℕ) → t1 ≡ t0 ++ column → text ≡ t1 ++ more → i ≡ length t0 → j ≡ length t1 → column ≡ slice_range text i j

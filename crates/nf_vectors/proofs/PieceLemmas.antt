@@ -1,5 +1,6 @@
 -- The pieces of a row.
-use Rattle.nf_vectors.proofs.Common.{◌≡◌, ℕ, ◌<◌, Bool, true, false, List, [], ◌∷◌, length, Err, refl, sym, ap, ◌∙◌, arith, cond, if◌then◌else◌, slice_index_or, ◌⊎◌, inl, inr, ⊎_elim, not, slice_split, onto_first, before_first, after_first, position_or_len, list_all, cases_lt, nat_tests, slice_split_first, slice_split_none, fails_before_first, AllPass-from_list_all, prefix_len-le-length, Fields, is_semicolon, is_blank, columns_of, columns_in}
+use Rattle.nf_vectors.proofs.Common.{◌≡◌, ◌+◌, count_by, ℕ, ◌<◌, Bool, true, false, List, [], ◌∷◌, length, Err, refl, sym, ap, ◌∙◌, arith, if◌then◌else◌, slice_index_or, ⊎_elim, not, slice_split, before_first, after_first, position_or_len, list_all, cases_lt, nat_tests, slice_split_first, slice_split_none, fails_before_first, AllPass-from_list_all, prefix_len-le-length, Fields, is_semicolon, is_blank, columns_of, columns_in}
+use Rattle.std.proofs.lemmas.List.Splits.{length-slice_split}
 
 -- bytes are cut at the first semicolon
 pub split-cut : (bytes first rest : List ℕ) → (position_or_len is_semicolon bytes < length bytes) × (first ≡ before_first is_semicolon bytes) × (rest ≡ after_first is_semicolon bytes)
@@ -11,13 +12,11 @@ split-none bytes end = slice_split_none is_semicolon bytes (λ k d within. fails
 
 -- there is a first part
 pub split-some : (test : ℕ → Bool) (bytes : List ℕ) → (first : List ℕ) × (rest : List (List ℕ)) × (slice_split test bytes ≡ first ∷ rest)
-split-some test [] = ([], [], refl)
-split-some test (b ∷ bytes) = next (test b) (slice_split test bytes)
+split-some test bytes = next (slice_split test bytes) (length-slice_split test bytes)
   where
-    next : (e : Bool) (parts : List (List ℕ)) → (first : List ℕ) × (rest : List (List ℕ)) × (cond e ([] ∷ parts) (onto_first b parts) ≡ first ∷ rest)
-    next true parts = ([], parts, refl)
-    next false [] = (b ∷ [], [], refl)
-    next false (part ∷ parts) = (b ∷ part, parts, refl)
+    next : (parts : List (List ℕ)) → length parts ≡ count_by test bytes + 1 → (first : List ℕ) × (rest : List (List ℕ)) × (parts ≡ first ∷ rest)
+    next [] e = absurd (omega (arith, e))
+    next (first ∷ rest) e = (first, rest, refl)
 
 pub split-blank : (bytes : List ℕ) → list_all is_blank bytes ≡ true → slice_split is_semicolon bytes ≡ bytes ∷ []
 split-blank bytes blank = slice_split_none is_semicolon bytes (λ k d within. no (slice_index_or bytes k d) (AllPass-from_list_all is_blank bytes blank k d within))
@@ -26,12 +25,11 @@ split-blank bytes blank = slice_split_none is_semicolon bytes (λ k d within. no
     no b e = grind (arith, nat_tests)
 
 -- behind the fifth piece stands another that is not blank, and perhaps more
-pub columns_in-more : (a b c d e v : List ℕ) → list_all is_blank v ≡ false → (position_or_len is_semicolon v ≡ length v) ⊎ (position_or_len is_semicolon v < length v)
-    → columns_in (a ∷ b ∷ c ∷ d ∷ e ∷ slice_split is_semicolon v) ≡ Err Fields
-columns_in-more a b c d e v other (inl end) = ap (λ l. columns_in (a ∷ b ∷ c ∷ d ∷ e ∷ l)) (split-none v end) ∙ ap (λ t. if t then columns_of a b c d e else Err Fields) other
-columns_in-more a b c d e v other (inr inside) =
+pub columns_in-more : (a b c d e v : List ℕ) → list_all is_blank v ≡ false → columns_in (a ∷ b ∷ c ∷ d ∷ e ∷ slice_split is_semicolon v) ≡ Err Fields
+columns_in-more a b c d e v other = ⊎_elim
+    (λ inside.
     let some = split-some is_semicolon (after_first is_semicolon v) in
-    ap (λ l. columns_in (a ∷ b ∷ c ∷ d ∷ e ∷ l)) (slice_split_first is_semicolon v 0 inside ∙ ap (λ l. before_first is_semicolon v ∷ l) some.2)
-
-pub found_or_not : (bytes : List ℕ) → (position_or_len is_semicolon bytes ≡ length bytes) ⊎ (position_or_len is_semicolon bytes < length bytes)
-found_or_not bytes = ⊎_elim (λ inside. inr inside) (λ past. inl (omega (arith, past, prefix_len-le-length (λ b. not (is_semicolon b)) bytes))) (cases_lt (position_or_len is_semicolon bytes) (length bytes))
+    ap (λ l. columns_in (a ∷ b ∷ c ∷ d ∷ e ∷ l)) (slice_split_first is_semicolon v 0 inside ∙ ap (λ l. before_first is_semicolon v ∷ l) some.2))
+    (λ past. ap (λ l. columns_in (a ∷ b ∷ c ∷ d ∷ e ∷ l)) (split-none v (omega (arith, past, prefix_len-le-length (λ b. not (is_semicolon b)) v)))
+    ∙ ap (λ t. if t then columns_of a b c d e else Err Fields) other)
+    (cases_lt (position_or_len is_semicolon v) (length v))

@@ -13,23 +13,18 @@ module _ (p : Properties) (rows : List VectorRow) (n : ℕ) where
   unfolding below
   below-more = let more : n + 1 ≡ suc n = omega arith in ap below more
 
-  sweep-more : sweep_below p rows (n + 1)
-      ≡ (let P : Sweep = record {
-        unlisted = (sweep_below p rows n).unlisted + cond (is_unlisted rows n) 1 0;
-        failed = (sweep_below p rows n).failed + cond (is_failed p rows n) 1 0;
-        first = option_or (sweep_below p rows n).first (cond (is_failed p rows n) (Some n) None);
-      } in P)
-  unfolding sweep_below
-  sweep-more =
-      let a = ap (count_by (is_unlisted rows)) below-more ∙ sum_by_push (λ c. cond (is_unlisted rows c) 1 0) (below n) n in
-      let b = ap (count_by (is_failed p rows)) below-more ∙ sum_by_push (λ c. cond (is_failed p rows c) 1 0) (below n) n in
-      let d = ap (find (is_failed p rows)) below-more ∙ find-append (is_failed p rows) (below n) (n ∷ []) in
-      (λ i. record { unlisted = a i; failed = b i; first = d i })
-
   by_tests : (u f : Bool) → is_unlisted rows n ≡ u → is_failed p rows n ≡ f → sweep_below p rows (n + 1)
       ≡ (let P : Sweep = record { unlisted = (sweep_below p rows n).unlisted + cond u 1 0; failed = (sweep_below p rows n).failed + cond f 1 0; first = option_or (sweep_below p rows n).first (cond f (Some n) None) } in P)
+  unfolding sweep_below
   by_tests u f is_u is_f =
-      sweep-more ∙ (λ i. record { unlisted = (sweep_below p rows n).unlisted + cond (is_u i) 1 0; failed = (sweep_below p rows n).failed + cond (is_f i) 1 0; first = option_or (sweep_below p rows n).first (cond (is_f i) (Some n) None) })
+      let unlisted = ap (count_by (is_unlisted rows)) below-more ∙ sum_by_push (λ c. cond (is_unlisted rows c) 1 0) (below n) n in
+      let failed = ap (count_by (is_failed p rows)) below-more ∙ sum_by_push (λ c. cond (is_failed p rows c) 1 0) (below n) n in
+      let first = ap (find (is_failed p rows)) below-more ∙ find-append (is_failed p rows) (below n) (n ∷ []) in
+      (λ i. record {
+        unlisted = (unlisted ∙ ap (λ b. count_by (is_unlisted rows) (below n) + cond b 1 0) is_u) i;
+        failed = (failed ∙ ap (λ b. count_by (is_failed p rows) (below n) + cond b 1 0) is_f) i;
+        first = (first ∙ ap (λ b. option_or (find (is_failed p rows) (below n)) (cond b (Some n) None)) is_f) i;
+      })
 
   module _ (s : Sweep) (so_far : s ≡ sweep_below p rows n) where
     -- there are no more than characters

@@ -1,5 +1,5 @@
 -- The comparisons of a row, one after the other.
-use Rattle.nf_vectors.proofs.Common.{◌≡◌, ℕ, ◌+◌, ◌<◌, Bool, true, false, not, List, length, drop, get_or, Option, Some, refl, sym, ap, ◌∙◌, encode_utf8_all, if◌then◌else◌, find, drop_more, option_map, failure_in, Properties, Form, Failure, Skipped, Column, Columns, at, each, VectorRow, holds_at, broken_column, is_skipped, failure_of, by_failure, verdict_of}
+use Rattle.nf_vectors.proofs.Common.{◌≡◌, ℕ, ◌+◌, ◌<◌, Bool, true, false, not, List, length, drop, get_or, Some, refl, sym, ap, ◌∙◌, encode_utf8_all, if◌then◌else◌, find, drop_more, option_map, failure_in, Properties, Form, Failure, Skipped, Column, Columns, at, each, VectorRow, holds_at, broken_column, is_skipped, failure_of, by_failure, verdict_of}
 use Rattle.nf_vectors.specs.Columns.{number_of}
 use Rattle.nf_vectors.specs.declared.columns.Column.TheVariants as columns
 
@@ -22,14 +22,9 @@ module _ (f : Form) (p : Properties) (columns : Columns) (items : List Column) (
   pub broken-behind : holds_at f p columns (get_or items i d) ≡ true → Decides f p columns (drop (i + 1) items)
   broken-behind held = by_test true held
 
-module _ (p : Properties) (row : VectorRow) where
-  pub verdict-skipped : is_skipped p row.columns ≡ true → Skipped ≡ verdict_of p row
-  unfolding verdict_of
-  verdict-skipped e = sym (ap (λ b. if b then Skipped else by_failure (failure_of p row.line row.columns)) e)
-
-  pub verdict-checked : (o : Option Failure) → is_skipped p row.columns ≡ false → o ≡ failure_of p row.line row.columns → by_failure o ≡ verdict_of p row
-  unfolding verdict_of
-  verdict-checked o e is = ap by_failure is ∙ sym (ap (λ b. if b then Skipped else by_failure (failure_of p row.line row.columns)) e)
+pub verdict-by : (p : Properties) (row : VectorRow) (b : Bool) → is_skipped p row.columns ≡ b → (if b then Skipped else by_failure (failure_of p row.line row.columns)) ≡ verdict_of p row
+unfolding verdict_of
+verdict-by p row b e = sym (ap (λ b. if b then Skipped else by_failure (failure_of p row.line row.columns)) e)
 
 -- the UTF-8 of a column
 pub at_utf8 : (row : Columns) (column : Column) → at (each row encode_utf8_all) column ≡ encode_utf8_all (at row column)

@@ -1,5 +1,7 @@
 -- The columns of a suite whose text grows.
-use Rattle.nf_vectors.proofs.Common.{◌≡◌, ℕ, ◌-◌, ◌≤◌, nat_le, ◌&&◌, List, [], ◌∷◌, ◌++◌, length, take, drop, slice_range, append-nil, refl, sym, ap, ◌∙◌, arith, list_all, and_parts, leb-true, le-leb, length-append, length-drop, drop-append-le, take-append-le, take_at, drop_at, Entry, Columns, columns_at, VectorRow, row_of, rows_in, AreWithin}
+use Rattle.nf_vectors.proofs.Common.{◌≡◌, ℕ, ◌-◌, ◌≤◌, List, [], ◌∷◌, ◌++◌, length, take, drop, slice_range, refl, sym, ap, ◌∙◌, arith, and_parts, leb-true, le-leb, length-append, length-drop, drop-append-le, take-append-le, drop_at, Entry, Columns, columns_at, VectorRow, row_of, rows_in, AreWithin}
+use Rattle.std.proofs.lemmas.List.{take_all}
+use Rattle.std.proofs.lemmas.List.Sums.{list_all-from_AllPass, AllPass-from_list_all}
 use Rattle.nf_vectors.specs.declared.columns.Ends.{Ends}
 
 pub slice_range-append : (xs ys : List ℕ) (i j : ℕ) → i ≤ j → j ≤ length xs → slice_range (xs ++ ys) i j ≡ slice_range xs i j
@@ -8,7 +10,7 @@ slice_range-append xs ys i j order within =
 
 pub slice_range-last : (xs ys : List ℕ) (i j : ℕ) → i ≡ length xs → j ≡ length (xs ++ ys) → slice_range (xs ++ ys) i j ≡ ys
 slice_range-last xs ys i j start end =
-    ap (take (j - i)) (drop_at xs ys i (sym start)) ∙ ap (take (j - i)) (sym (append-nil ys)) ∙ take_at ys [] (j - i) (omega (arith, length-append xs ys))
+    ap (take (j - i)) (drop_at xs ys i (sym start)) ∙ take_all (j - i) ys (omega (arith, length-append xs ys))
 
 pub columns_at-append : (text more : List ℕ) (ends : Ends) → ends.nfkd ≤ length text → columns_at (text ++ more) ends ≡ columns_at text ends
 columns_at-append text more ends within =
@@ -17,11 +19,7 @@ columns_at-append text more ends within =
     let c = slice_range-append text more ends.nfc ends.nfd ends.nfd_behind (omega (arith, ends.nfkc_behind, ends.nfkd_behind)) in
     let d = slice_range-append text more ends.nfd ends.nfkc ends.nfkc_behind (omega (arith, ends.nfkd_behind)) in
     let e = slice_range-append text more ends.nfkc ends.nfkd ends.nfkd_behind within in
-    same a b c d e
-  where
-    same : {a b c d e v w x y z : List ℕ} → a ≡ v → b ≡ w → c ≡ x → d ≡ y → e ≡ z
-        → (let P : Columns = record { source = a; nfc = b; nfd = c; nfkc = d; nfkd = e } in P) ≡ (let P : Columns = record { source = v; nfc = w; nfd = x; nfkc = y; nfkd = z } in P)
-    same p q r s t = cc
+    (λ i. record { source = a i; nfc = b i; nfd = c i; nfkc = d i; nfkd = e i })
 
 row_of-append : (text more : List ℕ) (entry : Entry) → entry.columns.nfkd ≤ length text → row_of (text ++ more) entry ≡ row_of text entry
 row_of-append text more entry within =
@@ -36,8 +34,5 @@ rows_in-append text more (entry ∷ entries) within =
     ∙ ap (λ rows. row_of text entry ∷ rows) (rows_in-append text more entries parts.1)
 
 pub AreWithin-append : (text more : List ℕ) (entries : List Entry) → AreWithin text entries → AreWithin (text ++ more) entries
-AreWithin-append text more [] within = refl
-AreWithin-append text more (entry ∷ entries) within =
-    let parts = and_parts _ _ within in
-    ap (λ b. b && list_all (λ entry. nat_le entry.columns.nfkd (length (text ++ more))) entries) (le-leb entry.columns.nfkd (length (text ++ more)) (omega (arith, leb-true _ _ parts.0, length-append text more)))
-    ∙ AreWithin-append text more entries parts.1
+AreWithin-append text more entries within = list_all-from_AllPass _ entries (λ k d inside.
+    le-leb _ (length (text ++ more)) (omega (arith, leb-true _ _ (AllPass-from_list_all _ entries within k d inside), length-append text more)))

@@ -1,5 +1,6 @@
 -- The code points of a column, word by word.
-use Rattle.nf_vectors.proofs.Common.{◌≡◌, ℕ, ◌+◌, ◌<◌, ◌≤◌, Bool, true, false, cond, List, [], ◌∷◌, ◌++◌, length, drop, get_or, Result, Ok, Err, refl, sym, ap, ◌∙◌, arith, append_assoc, append-nil, sum_by, slice_split, onto_first, drop_more, sum_by-cons, VectorKind, Empty, is_gap, code_point, before, then_codes, code_points, some_or_empty, column_in}
+use Rattle.std.proofs.lemmas.Result.{IfOk-weaker, IfOk-at_ok}
+use Rattle.nf_vectors.proofs.Common.{◌≡◌, IfOk, ℕ, ◌+◌, ◌<◌, ◌≤◌, Bool, true, false, cond, List, [], ◌∷◌, ◌++◌, length, drop, get_or, Result, Ok, Err, refl, sym, ap, ◌∙◌, arith, append_assoc, append-nil, sum_by, slice_split, onto_first, drop_more, sum_by-cons, VectorKind, Empty, is_gap, code_point, before, then_codes, code_points, some_or_empty, column_in}
 
 -- code points, and then those behind them
 abbrev pub prefixed : List ℕ → Result (List ℕ) VectorKind → Result (List ℕ) VectorKind
@@ -57,18 +58,15 @@ column_in-empty column (c ∷ cs) e none = absurd (omega arith)
 abbrev len : List ℕ → ℕ
 len word = length word
 
-code_points-le : (words : List (List ℕ)) (codes : List ℕ) → code_points words ≡ Ok codes → length codes ≤ sum_by len words
-code_points-le [] codes e = let none : codes ≡ [] = cc in omega (arith, ap len none)
-code_points-le ([] ∷ words) codes e = omega (arith, code_points-le words codes e, sum_by-cons len [] words)
-code_points-le ((b ∷ bs) ∷ words) codes e = next (code_point (b ∷ bs)) (code_points words) codes refl e (λ cs. code_points-le words cs)
+code_points-le : (words : List (List ℕ)) → IfOk (code_points words) (λ codes. length codes ≤ sum_by len words)
+code_points-le [] = omega arith
+code_points-le ([] ∷ words) = IfOk-weaker (code_points words) _ _ (λ codes le. omega (arith, le, sum_by-cons len [] words)) (code_points-le words)
+code_points-le ((b ∷ bs) ∷ words) = next (code_point (b ∷ bs)) (code_points words) (code_points-le words)
   where
-    next : (r : Result ℕ VectorKind) (rs : Result (List ℕ) VectorKind) (codes : List ℕ) → rs ≡ code_points words → then_codes r rs ≡ Ok codes
-        → ((cs : List ℕ) → code_points words ≡ Ok cs → length cs ≤ sum_by len words) → length codes ≤ sum_by len ((b ∷ bs) ∷ words)
-    next (Err kind) rs codes is e le = cc
-    next (Ok c) (Err kind) codes is e le = cc
-    next (Ok c) (Ok cs) codes is e le =
-        let same : codes ≡ c ∷ cs = cc in
-        omega (arith, le cs (sym is), sum_by-cons len (b ∷ bs) words, ap len same)
+    next : (r : Result ℕ VectorKind) (rs : Result (List ℕ) VectorKind) → IfOk rs (λ codes. length codes ≤ sum_by len words) → IfOk (then_codes r rs) (λ codes. length codes ≤ sum_by len ((b ∷ bs) ∷ words))
+    next (Err kind) rs le = tt
+    next (Ok c) (Err kind) le = tt
+    next (Ok c) (Ok cs) le = omega (arith, le, sum_by-cons len (b ∷ bs) words)
 
 split-le : (p : ℕ → Bool) (bytes : List ℕ) → sum_by len (slice_split p bytes) ≤ length bytes
 split-le p [] = omega (arith, sum_by-cons len [] [])
@@ -80,4 +78,5 @@ split-le p (b ∷ bytes) = next (p b) (slice_split p bytes) (split-le p bytes)
     next false (part ∷ parts) le = omega (arith, le, sum_by-cons len part parts, sum_by-cons len (b ∷ part) parts)
 
 pub codes-le : (column codes : List ℕ) → code_points (slice_split is_gap column) ≡ Ok codes → length codes ≤ length column
-codes-le column codes e = omega (arith, code_points-le (slice_split is_gap column) codes e, split-le is_gap column)
+codes-le column codes e =
+    omega (arith, IfOk-at_ok (λ codes. length codes ≤ sum_by len (slice_split is_gap column)) e (code_points-le (slice_split is_gap column)), split-le is_gap column)

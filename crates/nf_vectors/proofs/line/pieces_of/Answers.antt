@@ -1,5 +1,5 @@
 use Rattle.nf_vectors.proofs.Common.{◌∙◌, ap, sym, columns_of, row_in}
-use Rattle.nf_vectors.proofs.PieceLemmas.{split-cut, split-none, split-blank, columns_in-more, found_or_not}
+use Rattle.nf_vectors.proofs.PieceLemmas.{split-cut, split-none, split-blank, columns_in-more}
 use Rattle.nf_vectors.proofs.line.pieces_of.Goals as goal
 use Rattle.nf_vectors.proofs.line.pieces_of.Goals.{in-None, in-Some-cut-4+else-not-is_all_blank}
 
@@ -24,7 +24,7 @@ unfolding row_in
 returns-then-not-is_all_blank-clause-pieces c =
     simp (split-cut _ _ _ c.in-Some.ensures.parts, split-cut _ _ _ c.in-Some-cut.ensures.parts, split-cut _ _ _ c.in-Some-cut-2.ensures.parts, split-cut _ _ _ c.in-Some-cut-3.ensures.parts, split-cut _ _ _ c.in-Some-cut-4.ensures.parts)
     (columns_in-more c.in-Some.source.now c.in-Some-cut.nfc.now c.in-Some-cut-2.nfd.now c.in-Some-cut-3.nfkc.now c.in-Some-cut-4.nfkd.now c.in-Some-cut-4.last.now
-    (sym c.is_all_blank.ensures ∙ c.if-not-is_all_blank.true) (found_or_not c.in-Some-cut-4.last.now))
+    (sym c.is_all_blank.ensures ∙ c.if-not-is_all_blank.true))
 
 pub returns-clause-pieces : goal.returns-clause-pieces
 unfolding row_in

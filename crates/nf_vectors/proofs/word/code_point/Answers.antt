@@ -1,24 +1,36 @@
-use Rattle.nf_vectors.proofs.Common.{◌≡◌, ◌+◌, ◌*◌, ◌<◌, ◌∙◌, take, get_or, Ok, sym, ap, subst, arith, rules, take_all, pos_of_ne-zero, digit_value, InScalarRange, OutOfScalarRange, eqb-true, eqb-false, is_digit, value_of, list_all}
-use Rattle.nf_vectors.proofs.DigitLemmas.{power-more, power-few, value_of-more, digits-more, code_point-empty, code_point-long, code_point-other, code_point-scalar, code_point-surrogate}
+use Rattle.nf_vectors.proofs.Common.{◌≡◌, ℕ, ◌+◌, ◌*◌, ◌<◌, ◌≤◌, true, false, and_from, nat_tests, ltb-true, AllPass-from_list_all, ◌∙◌, take, get_or, Ok, sym, ap, subst, arith, rules, take_all, pos_of_ne-zero, digit_value, InScalarRange, OutOfScalarRange, eqb-true, eqb-false, is_digit, value_of, list_all}
+use Rattle.std.proofs.Common.{◌^◌}
+use Rattle.std.proofs.Math.Nat.{pow-le-pow_right}
+use Rattle.std.proofs.lemmas.Grind.{pow_more}
+use Rattle.std.proofs.lemmas.List.Folds.{list_all_more}
+use Rattle.std.proofs.lemmas.List.Sums.{fold_more}
+use Rattle.nf_vectors.proofs.DigitLemmas.{scalar_in, scalar_out, code_point-other, code_point-number}
 use Rattle.nf_vectors.proofs.word.code_point.Goals as goal
 use Rattle.nf_vectors.proofs.word.code_point.Goals.{then-is_empty-via-then-is_empty, then-is_empty-via-else-is_empty+then-word-gt6}
 
 pub returns-then-is_empty-clause-value : goal.returns-then-is_empty-clause-value
 returns-then-is_empty-clause-value c =
     elim c.then-is_empty.branch [
-      | then-is_empty-via-then-is_empty w ↦ sym (code_point-empty c.args.word.now (eqb-true _ _ (sym c.is_empty.ensures ∙ w.if-is_empty.true)))
-      | then-is_empty-via-else-is_empty+then-word-gt6 w ↦ sym (code_point-long c.args.word.now (omega (arith, w.if-word-gt6.true)))
+      | then-is_empty-via-then-is_empty w ↦ sym (code_point-other c.args.word.now (λ some _ _. omega (arith, some, eqb-true _ _ (sym c.is_empty.ensures ∙ w.if-is_empty.true))))
+      | then-is_empty-via-else-is_empty+then-word-gt6 w ↦ sym (code_point-other c.args.word.now (λ _ few _. omega (arith, few, w.if-word-gt6.true)))
     ]
 
 pub returns-in_default-clause-value : goal.returns-in_default-clause-value
 returns-in_default-clause-value c =
     let is : c.from.result ≡ get_or c.args.word.now c.loop-byte.byte-index 0 = search rules in
-    sym (code_point-other c.args.word.now c.loop-byte.byte-index c.from.result c.loop-byte-test.true is (λ digit. search (rules, digit)))
+    sym (code_point-other c.args.word.now (λ _ _ all.
+    let digit : digit_value c.from.result < 16 = ltb-true _ 16 (ap is_digit is ∙ AllPass-from_list_all is_digit c.args.word.now all c.loop-byte.byte-index 0 c.loop-byte-test.true) in
+    absurd (search (rules, digit))))
+
+-- five digits and one more fit 32 bits
+few : (i n : ℕ) → i < n → n ≤ 6 → 16 ^ i ≤ 16 ^ 5
+few i n below most = let le : i ≤ 5 = omega (arith, below, most) in pow-le-pow_right {n = 16} (omega arith) le
+
+pub overflow_mul-value : goal.overflow_mul-value
+overflow_mul-value c = omega (arith, few _ _ c.loop-byte-test.true c.if-word-gt6.false, c.loop-byte.invariant.bound)
 
 pub overflow_add-value : goal.overflow_add-value
-overflow_add-value c =
-    let few = power-few c.loop-byte.byte-index (omega (arith, c.loop-byte-test.true, c.if-word-gt6.false)) in
-    omega (arith, few, c.loop-byte.invariant.bound, c.in-Some.ensures.value.0, c.in-Some.ensures.value.1)
+overflow_add-value c = omega (arith, few _ _ c.loop-byte-test.true c.if-word-gt6.false, c.loop-byte.invariant.bound, c.in-Some.ensures.value.0, c.in-Some.ensures.value.1)
 
 pub loop-byte-preserved : goal.loop-byte-preserved
 loop-byte-preserved c =
@@ -28,9 +40,9 @@ loop-byte-preserved c =
     let digit : c.in-Some.digit ≡ digit_value (get_or word i 0) = c.in-Some.ensures.value.1 ∙ ap digit_value is in
     let small : digit_value (get_or word i 0) < 16 = subst (λ b. digit_value b < 16) is c.in-Some.ensures.value.0 in
     record {
-      value = ap (λ v. 16 * v + c.in-Some.digit) c.loop-byte.invariant.value ∙ ap (λ d. 16 * value_of (take i word) + d) digit ∙ sym (value_of-more word i c.loop-byte-test.true);
-      digits = digits-more word i c.loop-byte-test.true c.loop-byte.invariant.digits small;
-      bound = omega (arith, power-more i, c.loop-byte.invariant.bound, small, digit);
+      value = ap (λ v. 16 * v + c.in-Some.digit) c.loop-byte.invariant.value ∙ ap (λ d. 16 * value_of (take i word) + d) digit ∙ sym (fold_more (λ value b. 16 * value + digit_value b) 0 word i 0 c.loop-byte-test.true);
+      digits = list_all_more is_digit word i 0 c.loop-byte-test.true ∙ and_from _ _ c.loop-byte.invariant.digits (search (rules, nat_tests));
+      bound = omega (arith, pow_more 16 i, c.loop-byte.invariant.bound, small, digit);
     }
 
 pub returns-in-Some-from_u32-clause-value : goal.returns-in-Some-from_u32-clause-value
@@ -40,7 +52,7 @@ returns-in-Some-from_u32-clause-value c =
     let value : c.loop-byte.value ≡ value_of word = c.loop-byte.invariant.value ∙ ap value_of all in
     let some = pos_of_ne-zero (eqb-false _ _ (sym c.is_empty.ensures ∙ c.if-is_empty.false)) in
     ap Ok (c.in-Some-from_u32.ensures.value.1 ∙ value)
-    ∙ sym (code_point-scalar word some (omega (arith, c.if-word-gt6.false)) (ap (list_all is_digit) (sym all) ∙ c.loop-byte.invariant.digits) (subst InScalarRange value c.in-Some-from_u32.ensures.cases))
+    ∙ sym (code_point-number word some (omega (arith, c.if-word-gt6.false)) (ap (list_all is_digit) (sym all) ∙ c.loop-byte.invariant.digits) true (scalar_in _ (subst InScalarRange value c.in-Some-from_u32.ensures.cases)))
 
 pub returns-in-None-clause-value : goal.returns-in-None-clause-value
 returns-in-None-clause-value c =
@@ -48,4 +60,4 @@ returns-in-None-clause-value c =
     let all = take_all c.loop-byte.byte-index word c.loop-byte-test.false in
     let value : c.loop-byte.value ≡ value_of word = c.loop-byte.invariant.value ∙ ap value_of all in
     let some = pos_of_ne-zero (eqb-false _ _ (sym c.is_empty.ensures ∙ c.if-is_empty.false)) in
-    sym (code_point-surrogate word some (omega (arith, c.if-word-gt6.false)) (ap (list_all is_digit) (sym all) ∙ c.loop-byte.invariant.digits) (subst OutOfScalarRange value c.in-None.ensures.cases))
+    sym (code_point-number word some (omega (arith, c.if-word-gt6.false)) (ap (list_all is_digit) (sym all) ∙ c.loop-byte.invariant.digits) false (scalar_out _ (subst OutOfScalarRange value c.in-None.ensures.cases)))

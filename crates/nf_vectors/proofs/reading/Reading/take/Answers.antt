@@ -23,8 +23,7 @@ returns-in-Err-clause-memory c = λ bytes stands short memory.
     let rest = drop i piece in
     let here = c.fault.ensures ∙ ap (λ n. record { line = n; kind = c.in-Err.kind }) (c.in-Err.ensures.line refl) in
     runs_out c.loop-byte.self (bytes ++ take i piece) before (omega (arith, before.taken, c.loop-byte.invariant.within.taken, limit-is)) rest (bytes ++ piece)
-    (omega (arith, short, length-drop i piece)) (sym (append_assoc bytes (take i piece) rest ∙ ap (λ l. bytes ++ l) (take-append-drop i piece))) false (λ e. cc) c.fault.result
-    (here ∙ ap (λ k. record { line = c.loop-byte.self.line; kind = k }) (sym (ap (λ f. f.kind) here))) memory
+    (omega (arith, short, length-drop i piece)) (sym (append_assoc bytes (take i piece) rest ∙ ap (λ l. bytes ++ l) (take-append-drop i piece))) false (λ e. cc) c.fault.result c.in-Err.kind here memory
 
 pub returns-clause-stands : goal.returns-clause-stands
 returns-clause-stands c = λ bytes stands.

@@ -1,7 +1,7 @@
 use Rattle.nf_vectors.proofs.Common.{◌≡◌, ◌∙◌, ◌++◌, ◌≤◌, length, true, false, [], take, Some, sym, ap, subst, arith, append-nil, Bool, IfErr, Consumes, false≢true, limit, block, stop_of, lines_within, Tells, RunsOut, Memory, first_fault}
 use Rattle.std.proofs.Common.{length-take-le}
 use Rattle.std.proofs.lemmas.Bool.{eq-eqb, ne_eqb}
-use Rattle.nf_vectors.proofs.EndingLemmas.{limit-is, block-is, on_ok, read_failed, Tells-found}
+use Rattle.nf_vectors.proofs.EndingLemmas.{limit-is, block-is, on_ok, ends_at, Tells-found}
 use Rattle.std.proofs.KnownBytes.{Consumes-kept, Consumes-trans}
 use Rattle.nf_vectors.proofs.suite.Suite.read.Goals as goal
 
@@ -15,7 +15,7 @@ returns-in-Err-clause-reads g c =
       given = Consumes-kept _ _ _ read.0 read.1 c.in-Err.ensures.kept;
       read_out = λ end. absurd (false≢true (sym c.in-Err.ensures.failed.1 ∙ end));
       memory = λ memory. let e = sym (ap (λ f. f.kind) c.fault.ensures) ∙ memory in cc;
-      tells = λ _. ap (λ b. first_fault 1 (stop_of read.0 b) (lines_within read.0)) (sym failed) ∙ read_failed c.loop-given.reading read.0 read.2 few ∙ ap Some (sym c.fault.ensures);
+      tells = λ _. ap (λ b. first_fault 1 (stop_of read.0 b) (lines_within read.0)) (sym failed) ∙ ends_at c.loop-given.reading read.0 read.2 few true ∙ ap Some (sym c.fault.ensures);
       end = tt;
       before_end = λ _ unfailed. absurd (false≢true (sym unfailed ∙ sym failed));
     }
