@@ -1,5 +1,5 @@
 -- The names that most of these proofs cite, passed on from one place. Declares nothing.
-pub use Rattle.std.proofs.Common.{◌≡◌, ℕ, ◌+◌, ◌≤◌, ◌<◌, true, false, List, [], ◌∷◌, ◌++◌, length, take, Option, Some, None, is_some, refl, sym, ap, ◌∙◌, arith, ◌-◌, ◌⊎◌, inl, inr, ⊎_elim, drop, get_or, append_assoc, option_map, append-nil, zero, suc, ◌*◌, Bool, ◌&&◌, nat_le, Ok, Err, rules, if◌then◌else◌, ◌||◌, Result, subst, OnOk, is_ok, take_all, codes, bytes_eq, encode_utf8_all, IsUtf8, slice_range, eq-eqb, ne_eqb, cond, slice_index_or, not, add-zero, count_by, nat_eq, MatchResult, IsErr, IsErrAnd, All, find, IfOk, sum_by, string_bytes, encode_utf8, IsNone, tests, ◌==◌, IfErr, pos_of_ne-zero}
+pub use Rattle.std.proofs.Common.{Bor, ◌≡◌, ℕ, ◌+◌, ◌≤◌, ◌<◌, true, false, List, [], ◌∷◌, ◌++◌, length, take, Option, Some, None, is_some, refl, sym, ap, ◌∙◌, arith, ◌-◌, ◌⊎◌, inl, inr, ⊎_elim, drop, get_or, append_assoc, option_map, append-nil, zero, suc, ◌*◌, Bool, ◌&&◌, nat_le, Ok, Err, rules, if◌then◌else◌, ◌||◌, Result, subst, OnOk, is_ok, take_all, codes, bytes_eq, encode_utf8_all, IsUtf8, slice_range, eq-eqb, ne_eqb, cond, slice_index_or, not, add-zero, count_by, nat_eq, MatchResult, IsErr, IsErrAnd, All, find, IfOk, sum_by, string_bytes, encode_utf8, IsNone, tests, ◌==◌, IfErr, pos_of_ne-zero}
 pub use Rattle.std.proofs.Math.Bool.{or-false, or_assoc}
 pub use Rattle.std.proofs.Math.Seq.{take-length, take-add, take-append-add}
 pub use Rattle.std.proofs.lemmas.Bool.{and_parts, false≢true, false_from_ne_true, cases_order, cases_lt, lt-leb, le-leb, and_from, ltb-true, lt-ltb, le-ltb, eqb-true, leb-true, true_from_ne_false, eqb-false, and_right}
@@ -10,6 +10,7 @@ pub use Rattle.std.proofs.lemmas.List.Splits.{slice_split_first, slice_split_non
 pub use Rattle.std.proofs.lemmas.List.Sums.{fold_push, AllPass-from_list_all, fails_before_first, prefix_len-le-length, sum_by_push, count_by-le-length, sum_by-cons, position_or_len_is, prefix_len_is, suffix_len_is}
 pub use Rattle.std.proofs.lemmas.Slice.Eq.{bytes_eq-Decides, slice_eq-Decides}
 pub use Rattle.std.proofs.lemmas.Str.{encodes_same, length-encode, len_utf8_bounds, encodes-append}
+pub use Rattle.std.proofs.result.Match.{if_ok_if}
 pub use Rattle.std.specs.Char.{digit_value, InScalarRange, OutOfScalarRange}
 pub use Rattle.std.specs.Io.KnownBytes.{Consumes}
 pub use Rattle.std.specs.List.{list_all, slice_split, onto_first, before_first, after_first, position_or_len, list_any}

@@ -1,28 +1,25 @@
 -- What the filter gives of a text to a sink that compares, and whether that is as expected.
-use Rattle.nf_vectors.proofs.Common.{◌≡◌, ℕ, ◌+◌, Bool, true, false, ◌&&◌, List, [], ◌++◌, length, take, drop, Some, refl, sym, ap, ◌∙◌, subst, append-nil, bytes_eq, encode_utf8_all, IsUtf8, if◌then◌else◌, Ok, Err, is_ok, ⊎_elim, and_right, false_from_ne_true, same_from_decides, bytes_eq-Decides, encodes_same, Properties, Form, safe_form, is_usable, usable, holds}
+use Rattle.nf_vectors.proofs.Common.{◌≡◌, ℕ, Bool, true, false, ◌&&◌, List, [], ◌++◌, length, take, drop, Some, None, refl, sym, ap, ◌∙◌, subst, append-nil, bytes_eq, encode_utf8_all, IsUtf8, if◌then◌else◌, Ok, Err, is_ok, ⊎_elim, and_right, false_from_ne_true, same_from_decides, bytes_eq-Decides, encodes_same, Properties, Form, safe_form, is_usable, holds}
 use Rattle.std.proofs.Math.Seq.{take-append_seam}
 use Rattle.std.proofs.lemmas.List.{append_cancel_left}
 use Rattle.std.specs.Io.KnownBytes.{Appends}
 use Rattle.std.specs.Str.{chars}
 use Rattle.std.specs.Str.Lossy.{utf8_valid_len}
 use Rattle.nf_utf8.specs.Text.{IsText}
-use Rattle.nf_utf8.specs.Ending.{Ending, Whole}
+use Rattle.nf_utf8.specs.Ending.{Whole}
 use Rattle.nf_utf8.specs.Reading.{text_of, ending_of}
 use Rattle.nf_utf8.specs.Laws.{ReadsBack}
 use Rattle.nf_filter.specs.declared.fault.Fault.{Fault}
 use Rattle.nf_filter.specs.declared.fault.Fault.TheVariants.{Row, Write}
 use Rattle.nf_filter.specs.declared.tally.Tally.{Tally}
 use Rattle.nf_filter.specs.Faults.{answer_at_end, bad_byte, fault_in}
-use Rattle.nf_filter.specs.Finishes.{tally_of, end_of}
+use Rattle.nf_filter.specs.Policy.{as_is}
+use Rattle.nf_filter.specs.Finishes.{end_of}
 use Rattle.nf_filter.specs.Whole.{Converts, fault_or, whole_answer, whole_utf8}
 use Rattle.nf_filter.proofs.FilterLemmas.{write_or_not}
 use Rattle.nf_filter.proofs.WholeLemmas.{without, final_is}
 use Rattle.nf_vectors.specs.declared.comparing.Comparing.{Comparing}
 use Rattle.nf_vectors.specs.Comparing.{taken_by, state_of}
-
--- whether there is no fault, by whether all characters can be used and how the bytes end
-told : Bool → Ending → ℕ → Tally → Bool
-told usable end at tally = is_ok (fault_or (if usable then bad_byte 0 end else Some (Row at)) (answer_at_end 0 tally end))
 
 module _ (reads : ReadsBack) (f : Form) (p : Properties) (bytes x e : List ℕ) (utf8 : IsUtf8 bytes) (is : bytes ≡ encode_utf8_all x) where
   text : IsText x
@@ -37,19 +34,17 @@ module _ (reads : ReadsBack) (f : Form) (p : Properties) (bytes x e : List ℕ) 
   ending_is = ap ending_of (is ∙ sym (append-nil (encode_utf8_all x))) ∙ reads.ending x [] text
 
   answer_is : is_ok (whole_answer p bytes) ≡ is_usable p x
-  unfolding told whole_answer fault_in end_of
-  answer_is =
-      let at = 0 + length (encode_utf8_all (usable p (text_of bytes))) in
-      ap (λ u. told u (ending_of bytes) at (tally_of false p bytes)) (ap (is_usable p) text_is) ∙ ap (λ end. told (is_usable p x) end at (tally_of false p bytes)) ending_is ∙ by (is_usable p x) at
+  unfolding whole_answer fault_in end_of
+  answer_is = rw (text_is, ending_is) (by (is_usable p x) _ _)
     where
-      by : (b : Bool) (at : ℕ) → told b Whole at (tally_of false p bytes) ≡ b
-      by true at = refl
-      by false at = refl
+      by : (b : Bool) (at : ℕ) (tally : Tally) → is_ok (fault_or (if b then bad_byte 0 Whole else Some (Row at)) (answer_at_end 0 tally Whole)) ≡ b
+      by true at tally = refl
+      by false at tally = refl
 
   form_is : is_usable p x ≡ true → whole_utf8 f p bytes ≡ encode_utf8_all (safe_form f p x)
   unfolding fault_in
   form_is used =
-      let none = ap (λ u. if u then bad_byte 0 (ending_of bytes) else Some (Row (0 + length (encode_utf8_all (usable p (text_of bytes)))))) (ap (is_usable p) text_is ∙ used) ∙ ap (bad_byte 0) ending_is in
+      let none : fault_in as_is p 0 bytes ≡ None = rw (text_is, ending_is, used) refl in
       sym (without f p bytes (sym none)) ∙ final_is f p bytes ending_is ∙ ap (λ t. encode_utf8_all (safe_form f p t)) text_is
 
   -- it holds where all is taken and what is given is as expected

@@ -1,6 +1,5 @@
 -- How a line is judged, by what it says.
-use Rattle.nf_vectors.proofs.Common.{◌≡◌, ◌==◌, Bool, ℕ, List, [], ◌∷◌, ◌++◌, length, sym, ap, ◌∙◌, arith, if◌then◌else◌, slice_range, append_assoc, append-nil, Columns, content, Part, is_part1, row_in, row_or_bad, judgement_of, judgement, unmarked, judged}
-use Rattle.std.proofs.Common.{length-append}
+use Rattle.nf_vectors.proofs.Common.{◌≡◌, ◌==◌, Bool, ℕ, List, [], ◌∷◌, ◌++◌, length, sym, ap, ◌∙◌, arith, if◌then◌else◌, slice_range, append_assoc, append-nil, Columns, content, Part, is_part1, row_in, row_or_bad, judgement_of, judgement, unmarked, judged, length-append}
 use Rattle.nf_vectors.proofs.TextLemmas.{slice_range-append, slice_range-last}
 
 -- a line that says something, by its first byte

@@ -1,6 +1,5 @@
 -- No form changes a sound starter that is its own decomposition.
-use Rattle.nf_vectors.proofs.Common.{◌≡◌, ℕ, ◌+◌, Bool, true, false, List, [], ◌∷◌, ◌++◌, length, refl, ap, ◌∙◌, arith, if◌then◌else◌, and_from, le-ltb, bytes_eq-Decides, list_all, Properties, is_sound, Form, Nfc, Nfd, Nfkc, Nfkd, is_usable, safe_form, holds, is_unchanged}
-use Rattle.std.proofs.lemmas.Bool.{eq-eqb}
+use Rattle.nf_vectors.proofs.Common.{◌≡◌, ℕ, ◌+◌, Bool, true, false, List, [], ◌∷◌, ◌++◌, length, refl, ap, ◌∙◌, arith, if◌then◌else◌, and_from, le-ltb, bytes_eq-Decides, list_all, Properties, is_sound, Form, Nfc, Nfd, Nfkc, Nfkd, is_usable, safe_form, holds, is_unchanged, eq-eqb}
 use Rattle.nf_forms.specs.Order.{by_class, order}
 use Rattle.nf_forms.specs.Compose.{compose}
 use Rattle.nf_forms.specs.Forms.{arranged, composes, finished, decomposed, normal_form}

@@ -1,6 +1,5 @@
 -- How the reading of a vector file goes on, byte by byte.
-use Rattle.nf_vectors.proofs.Common.{◌≡◌, ℕ, ◌+◌, true, false, List, [], ◌∷◌, ◌++◌, length, Option, refl, sym, ap, ◌∙◌, subst, arith, rules, append_assoc, append-nil, All, or_assoc, slice_split_at, slice_split_none, VectorFault, VectorKind, Reading, is_line_end, lines_of, judged, fault_or, first_fault, StandsAfter, EndsLine}
-use Rattle.std.proofs.Common.{length-append}
+use Rattle.nf_vectors.proofs.Common.{◌≡◌, ℕ, ◌+◌, true, false, List, [], ◌∷◌, ◌++◌, length, Option, refl, sym, ap, ◌∙◌, subst, arith, rules, append_assoc, append-nil, All, or_assoc, slice_split_at, slice_split_none, VectorFault, VectorKind, Reading, is_line_end, lines_of, judged, fault_or, first_fault, StandsAfter, EndsLine, length-append}
 use Rattle.nf_vectors.proofs.PieceLemmas.{split-some}
 
 module _ (line : List ℕ) (one : All (λ b. is_line_end b ≡ false) line) where

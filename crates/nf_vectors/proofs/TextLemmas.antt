@@ -1,6 +1,5 @@
 -- The columns of a suite whose text grows.
-use Rattle.nf_vectors.proofs.Common.{◌≡◌, ℕ, ◌-◌, ◌≤◌, List, [], ◌∷◌, ◌++◌, length, take, drop, slice_range, refl, sym, ap, ◌∙◌, arith, and_parts, leb-true, le-leb, length-append, length-drop, drop-append-le, take-append-le, drop_at, Entry, Columns, columns_at, VectorRow, row_of, rows_in, AreWithin}
-use Rattle.std.proofs.lemmas.List.{take_all}
+use Rattle.nf_vectors.proofs.Common.{◌≡◌, ℕ, ◌-◌, ◌≤◌, List, [], ◌∷◌, ◌++◌, length, take, drop, slice_range, refl, sym, ap, ◌∙◌, arith, and_parts, leb-true, le-leb, length-append, length-drop, drop-append-le, take-append-le, drop_at, Entry, columns_at, rows_in, AreWithin, take_all}
 use Rattle.std.proofs.lemmas.List.Sums.{list_all-from_AllPass, AllPass-from_list_all}
 use Rattle.nf_vectors.specs.declared.columns.Ends.{Ends}
 
@@ -21,17 +20,13 @@ columns_at-append text more ends within =
     let e = slice_range-append text more ends.nfkc ends.nfkd ends.nfkd_behind within in
     (λ i. record { source = a i; nfc = b i; nfd = c i; nfkc = d i; nfkd = e i })
 
-row_of-append : (text more : List ℕ) (entry : Entry) → entry.columns.nfkd ≤ length text → row_of (text ++ more) entry ≡ row_of text entry
-row_of-append text more entry within =
-    let P : Columns → VectorRow = λ columns. record { line = entry.line; in_part1 = entry.in_part1; columns = columns } in
-    ap P (columns_at-append text more entry.columns within)
-
 pub rows_in-append : (text more : List ℕ) (entries : List Entry) → AreWithin text entries → rows_in (text ++ more) entries ≡ rows_in text entries
 rows_in-append text more [] within = refl
 rows_in-append text more (entry ∷ entries) within =
     let parts = and_parts _ _ within in
-    ap (λ row. row ∷ rows_in (text ++ more) entries) (row_of-append text more entry (leb-true _ _ parts.0))
-    ∙ ap (λ rows. row_of text entry ∷ rows) (rows_in-append text more entries parts.1)
+    let columns = columns_at-append text more entry.columns (leb-true _ _ parts.0) in
+    let rest = rows_in-append text more entries parts.1 in
+    (λ i. record { line = entry.line; in_part1 = entry.in_part1; columns = columns i } ∷ rest i)
 
 pub AreWithin-append : (text more : List ℕ) (entries : List Entry) → AreWithin text entries → AreWithin (text ++ more) entries
 AreWithin-append text more entries within = list_all-from_AllPass _ entries (λ k d inside.

@@ -1,6 +1,9 @@
 -- The code points of a column, word by word.
+use Rattle.std.specs.Iterator.{Yields}
+use Rattle.std.proofs.lemmas.Iterator.{YieldsList}
+use Rattle.std.proofs.lemmas.Iterator.Consumers.{YieldsList-turn, YieldsList-end}
 use Rattle.std.proofs.lemmas.Result.{IfOk-weaker, IfOk-at_ok}
-use Rattle.nf_vectors.proofs.Common.{◌≡◌, IfOk, ℕ, ◌+◌, ◌<◌, ◌≤◌, Bool, true, false, cond, List, [], ◌∷◌, ◌++◌, length, drop, get_or, Result, Ok, Err, refl, sym, ap, ◌∙◌, arith, append_assoc, append-nil, sum_by, slice_split, onto_first, drop_more, sum_by-cons, VectorKind, Empty, is_gap, code_point, before, then_codes, code_points, some_or_empty, column_in}
+use Rattle.nf_vectors.proofs.Common.{Bor, ◌≡◌, Option, Some, None, drop_all, length_push, IfOk, ℕ, ◌≤◌, Bool, true, false, cond, List, [], ◌∷◌, ◌++◌, length, drop, Result, Ok, Err, refl, sym, ap, ◌∙◌, arith, append_assoc, append-nil, sum_by, slice_split, onto_first, drop_more, sum_by-cons, VectorKind, Empty, is_gap, code_point, before, then_codes, code_points, some_or_empty, column_in}
 
 -- code points, and then those behind them
 abbrev pub prefixed : List ℕ → Result (List ℕ) VectorKind → Result (List ℕ) VectorKind
@@ -19,30 +22,34 @@ code_points-empty : (word : List ℕ) (words : List (List ℕ)) → length word 
 code_points-empty [] words none = refl
 code_points-empty (b ∷ bs) words none = absurd (omega arith)
 
--- one word more of those of a column
-module _ (all : List (List ℕ)) (codes : List ℕ) (word : List ℕ) (i : ℕ) (so_far : code_points all ≡ prefixed codes (code_points (drop i all))) (within : i < length all) (is : word ≡ get_or all i word) where
-  rest : drop i all ≡ word ∷ drop (i + 1) all
-  rest = drop_more all i word within ∙ ap (λ w. w ∷ drop (i + 1) all) (sym is)
+-- the words of a column, of which an iterator gave these, with these code points
+module _ {S : Type 0} {steps : S → Option (Bor (List ℕ)) → S → Type 0} {s : S} (column : List ℕ) (yields : YieldsList steps (λ word. word.now) s (slice_split is_gap column))
+    (words : List (Bor (List ℕ))) (t : S) (gave : Yields steps s words t)
+    (codes : List ℕ) (so_far : code_points (slice_split is_gap column) ≡ prefixed codes (code_points (drop (length words) (slice_split is_gap column)))) where
+  -- no more
+  pub whole : (r : Option (Bor (List ℕ))) (u : S) → r ≡ None → steps t r u → code_points (slice_split is_gap column) ≡ Ok codes
+  whole r u none step =
+      so_far ∙ ap (λ ws. prefixed codes (code_points ws)) (drop_all (length words) (slice_split is_gap column) (omega (arith, (YieldsList-end yields words t gave r u none step).1))) ∙ ap Ok (append-nil codes)
 
-  pub skipped : length word ≡ 0 → code_points all ≡ prefixed codes (code_points (drop (i + 1) all))
-  skipped none = so_far ∙ ap (λ ws. prefixed codes (code_points ws)) rest ∙ ap (prefixed codes) (code_points-empty word (drop (i + 1) all) none)
+  -- one more
+  module _ (r : Option (Bor (List ℕ))) (u : S) (word : Bor (List ℕ)) (some : r ≡ Some word) (step : steps t r u) where
+    abbrev rest : List (List ℕ)
+    rest = drop (length (words ++ word ∷ [])) (slice_split is_gap column)
 
-  at_word : ¬ (length word ≡ 0) → code_points all ≡ prefixed codes (then_codes (code_point word) (code_points (drop (i + 1) all)))
-  at_word some = so_far ∙ ap (λ ws. prefixed codes (code_points ws)) rest ∙ ap (prefixed codes) (code_points-word word (drop (i + 1) all) some)
+    at_word : code_points (slice_split is_gap column) ≡ prefixed codes (code_points (word.now ∷ rest))
+    at_word =
+        let turn = YieldsList-turn yields words t gave r u word some step in
+        so_far ∙ ap (λ ws. prefixed codes (code_points ws)) (drop_more (slice_split is_gap column) (length words) word.now turn.0
+        ∙ (λ i. sym turn.1 i ∷ drop (sym (length_push words word) i) (slice_split is_gap column)))
 
-  pub pushed : (c : ℕ) → ¬ (length word ≡ 0) → code_point word ≡ Ok c → code_points all ≡ prefixed (codes ++ c ∷ []) (code_points (drop (i + 1) all))
-  pushed c some e = at_word some ∙ ap (λ r. prefixed codes (then_codes r (code_points (drop (i + 1) all)))) e ∙ prefixed-before codes c (code_points (drop (i + 1) all))
+    pub skipped : length word.now ≡ 0 → code_points (slice_split is_gap column) ≡ prefixed codes (code_points rest)
+    skipped none = at_word ∙ ap (prefixed codes) (code_points-empty word.now rest none)
 
-  pub refused : (kind : VectorKind) → ¬ (length word ≡ 0) → code_point word ≡ Err kind → code_points all ≡ Err kind
-  refused kind some e = at_word some ∙ ap (λ r. prefixed codes (then_codes r (code_points (drop (i + 1) all)))) e
+    pub pushed : (c : ℕ) → ¬ (length word.now ≡ 0) → code_point word.now ≡ Ok c → code_points (slice_split is_gap column) ≡ prefixed (codes ++ c ∷ []) (code_points rest)
+    pushed c letters e = at_word ∙ ap (prefixed codes) (code_points-word word.now rest letters ∙ ap (λ r. then_codes r (code_points rest)) e) ∙ prefixed-before codes c (code_points rest)
 
--- the end of the words
-pub whole : (all : List (List ℕ)) (codes : List ℕ) (i : ℕ) → code_points all ≡ prefixed codes (code_points (drop i all)) → drop i all ≡ [] → code_points all ≡ Ok codes
-whole all codes i so_far end = so_far ∙ ap (λ ws. prefixed codes (code_points ws)) end ∙ ap Ok (append-nil codes)
-
-pub column_in-refused : (column : List ℕ) (kind : VectorKind) → code_points (slice_split is_gap column) ≡ Err kind → column_in column ≡ Err kind
-unfolding column_in
-column_in-refused column kind e = ap some_or_empty e
+    pub refused : (kind : VectorKind) → ¬ (length word.now ≡ 0) → code_point word.now ≡ Err kind → code_points (slice_split is_gap column) ≡ Err kind
+    refused kind letters e = at_word ∙ ap (prefixed codes) (code_points-word word.now rest letters ∙ ap (λ r. then_codes r (code_points rest)) e)
 
 pub column_in-some : (column codes : List ℕ) → code_points (slice_split is_gap column) ≡ Ok codes → ¬ (length codes ≡ 0) → column_in column ≡ Ok codes
 unfolding column_in

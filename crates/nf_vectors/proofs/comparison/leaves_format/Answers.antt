@@ -1,5 +1,4 @@
-use Rattle.nf_vectors.proofs.Common.{◌≡◌, ℕ, ◌+◌, ◌*◌, ◌≤◌, List, ◌++◌, ◌∷◌, [], ◌∙◌, true, None, take, length, encode_utf8, encode_utf8_all, refl, sym, ap, subst, arith, IsNone, Option, Place, list_all, ◌&&◌, true_from_ne_false, false≢true, take_more, length-take-le, get_or, is_in_format, get_or_default, is_sound, place_from, length-encode, len_utf8_bounds}
-use Rattle.std.proofs.lemmas.List.{take_all}
+use Rattle.nf_vectors.proofs.Common.{◌≡◌, ℕ, ◌+◌, ◌*◌, ◌≤◌, List, ◌++◌, ◌∷◌, [], ◌∙◌, true, None, take, length, encode_utf8, encode_utf8_all, refl, sym, ap, subst, arith, IsNone, Option, Place, list_all, ◌&&◌, true_from_ne_false, false≢true, take_more, length-take-le, get_or, is_in_format, get_or_default, is_sound, place_from, length-encode, len_utf8_bounds, take_all}
 use Rattle.std.proofs.lemmas.List.Concat.{length-flat_map}
 use Rattle.std.proofs.lemmas.List.Folds.{list_all_more}
 use Rattle.std.proofs.lemmas.List.Sums.{sum_by-le}

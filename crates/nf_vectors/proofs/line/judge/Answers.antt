@@ -1,5 +1,4 @@
-use Rattle.nf_vectors.proofs.Common.{◌∙◌, sym, ap, bytes_eq, codes, eq-eqb, ne_eqb, true, false, judgement, judgement_of, nil_from_length, same_from_decides, slice_eq-Decides, bytes_eq-Decides, Part, is_part1, row_in, row_or_bad}
-use Rattle.std.proofs.Common.{eqb-true}
+use Rattle.nf_vectors.proofs.Common.{◌∙◌, sym, ap, bytes_eq, codes, eq-eqb, ne_eqb, true, false, judgement, judgement_of, nil_from_length, same_from_decides, slice_eq-Decides, bytes_eq-Decides, Part, is_part1, row_in, row_or_bad, eqb-true}
 use Rattle.nf_vectors.proofs.JudgementLemmas.{judgement-by}
 use Rattle.nf_vectors.proofs.line.judge.Goals as goal
 

@@ -21,12 +21,14 @@ returns-in_err-nfd-clause-holds c =
 pub returns-in_err-nfkc-clause-holds : goal.returns-in_err-nfkc-clause-holds
 unfolding columns_of
 returns-in_err-nfkc-clause-holds c =
-    refused_by _ _ _ _ c.from_residual-in_err-nfkc.ensures (λ sound. c.in-Some.ensures.pieces ∙ simp (c.in_ok-source.ensures.column.1, c.in_ok-nfc.ensures.column.1, c.in_ok-nfd.ensures.column.1, c.in_err-nfkc.ensures.column sound))
+    refused_by _ _ _ _ c.from_residual-in_err-nfkc.ensures (λ sound. c.in-Some.ensures.pieces
+    ∙ simp (c.in_ok-source.ensures.column.1, c.in_ok-nfc.ensures.column.1, c.in_ok-nfd.ensures.column.1, c.in_err-nfkc.ensures.column sound))
 
 pub returns-in_err-nfkd-clause-holds : goal.returns-in_err-nfkd-clause-holds
 unfolding columns_of
 returns-in_err-nfkd-clause-holds c =
-    refused_by _ _ _ _ c.from_residual-in_err-nfkd.ensures (λ sound. c.in-Some.ensures.pieces ∙ simp (c.in_ok-source.ensures.column.1, c.in_ok-nfc.ensures.column.1, c.in_ok-nfd.ensures.column.1, c.in_ok-nfkc.ensures.column.1, c.in_err-nfkd.ensures.column sound))
+    refused_by _ _ _ _ c.from_residual-in_err-nfkd.ensures (λ sound. c.in-Some.ensures.pieces
+    ∙ simp (c.in_ok-source.ensures.column.1, c.in_ok-nfc.ensures.column.1, c.in_ok-nfd.ensures.column.1, c.in_ok-nfkc.ensures.column.1, c.in_err-nfkd.ensures.column sound))
 
 pub returns-clause-holds : goal.returns-clause-holds
 unfolding columns_of

@@ -1,5 +1,4 @@
-use Rattle.nf_vectors.proofs.Common.{◌≡◌, ◌∙◌, ℕ, List, [], ◌∷◌, true, false, take, drop, sym, ap, arith, refl, if◌then◌else◌, bytes_eq, false_from_ne_true, eqb-true, false≢true, slice_eq-Decides, bytes_eq-Decides, judgement}
-use Rattle.std.proofs.lemmas.Bool.{eq-eqb, ne_eqb}
+use Rattle.nf_vectors.proofs.Common.{◌≡◌, ◌∙◌, ℕ, List, [], ◌∷◌, true, false, take, drop, sym, ap, arith, refl, if◌then◌else◌, bytes_eq, false_from_ne_true, eqb-true, false≢true, slice_eq-Decides, bytes_eq-Decides, judgement, eq-eqb, ne_eqb}
 use Rattle.nf_vectors.proofs.JudgementLemmas.{judged-by}
 use Rattle.nf_vectors.proofs.reading.unmarked.Goals as goal
 

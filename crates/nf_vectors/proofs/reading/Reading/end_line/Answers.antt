@@ -1,4 +1,4 @@
-use Rattle.nf_vectors.proofs.Common.{◌≡◌, ◌∙◌, ◌++◌, ◌||◌, refl, sym, ap, subst, judgement, judged, row_at, part_behind, is_part1_line, rows_in, AreWithin}
+use Rattle.nf_vectors.proofs.Common.{◌≡◌, ◌∙◌, refl, sym, ap, subst, judgement, judged, AreWithin}
 use Rattle.nf_vectors.proofs.TextLemmas.{AreWithin-append}
 use Rattle.nf_vectors.proofs.EndingLemmas.{EndsLine-grown}
 use Rattle.nf_vectors.proofs.reading.Reading.end_line.Goals as goal
@@ -15,10 +15,6 @@ returns-clause-ends c =
     let grows = c.in-Ok.ensures.grows in
     let old = c.args.self.now in
     let ends = c.in_ok-hold-in-Ok.ensures.holds (judgement c.unmarked.result.now) c.in-Ok.ensures.judged in
-    let grown = EndsLine-grown (judgement c.unmarked.result.now) old _ _ grows.0 grows.1 refl refl refl refl c.requires.columns ends in
     let is : judgement c.unmarked.result.now ≡ judged old.line old.bytes.items = sym c.unmarked.ensures.text ∙ ap (judged old.line) c.as_slice.ensures.value in
-    record {
-      rows = grown.rows ∙ ap (λ j. rows_in old.text.items old.entries.items ++ row_at old.line old.in_part1 j) is;
-      in_part1 = grown.in_part1 ∙ ap (part_behind old.in_part1) is;
-      has_part1 = grown.has_part1 ∙ ap (λ j. old.has_part1 || is_part1_line j) is;
-    }
+    let grown = EndsLine-grown (judgement c.unmarked.result.now) _ old _ _ grows.0 grows.1 refl refl refl refl c.requires.columns is ends in
+    record { rows = grown.rows; in_part1 = grown.in_part1; has_part1 = grown.has_part1 }

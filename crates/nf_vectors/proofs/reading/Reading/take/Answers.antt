@@ -1,5 +1,4 @@
-use Rattle.nf_vectors.proofs.Common.{◌+◌, ◌++◌, ◌∙◌, false, take, drop, get_or, Err, refl, sym, ap, subst, arith, append_assoc, take_all, StandsAfter, Finds}
-use Rattle.std.proofs.Common.{take-append-drop, length-drop}
+use Rattle.nf_vectors.proofs.Common.{◌+◌, ◌++◌, ◌∙◌, false, take, drop, get_or, Err, refl, sym, ap, subst, arith, append_assoc, take_all, StandsAfter, Finds, take-append-drop, length-drop}
 use Rattle.nf_vectors.proofs.EndingLemmas.{limit-is, found_here, piece_at, runs_out}
 use Rattle.nf_vectors.proofs.reading.Reading.take.Goals as goal
 

@@ -1,13 +1,13 @@
-use Rattle.nf_vectors.proofs.Common.{rules, eq-eqb}
+use Rattle.nf_vectors.proofs.Common.{if_ok_if, rules, eq-eqb}
 use Rattle.std.proofs.lemmas.Result.{IfErr-weaker}
 use Rattle.nf_vectors.proofs.StandingLemmas.{StandsAfter-line}
-use Rattle.nf_vectors.proofs.EndingLemmas.{on_ok, at_ok, bad_line}
+use Rattle.nf_vectors.proofs.EndingLemmas.{at_ok, bad_line}
 use Rattle.nf_vectors.proofs.reading.Reading.take_byte.Goals as goal
 
 pub returns-then-byte-eq10-clause-stands : goal.returns-then-byte-eq10-clause-stands
 returns-then-byte-eq10-clause-stands c = λ bytes stands.
     let r = c.end_line.result in
-    on_ok r (λ ok.
+    if_ok_if r _ (λ ok.
     let rest = at_ok r ok c.end_line.ensures.rest in
     let ends = at_ok r ok c.end_line.ensures.ends in
     StandsAfter-line c.args.self.now c.end_line.new.self bytes c.args.byte stands rest.1 (eq-eqb c.args.byte 10 c.if-byte-eq10.true)

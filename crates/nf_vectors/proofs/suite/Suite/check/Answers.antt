@@ -1,5 +1,4 @@
-use Rattle.nf_vectors.proofs.Common.{◌≡◌, ◌∙◌, ◌+◌, ◌++◌, ◌∷◌, [], take, get_or, length, List, ◌<◌, ◌≤◌, refl, sym, ap, subst, Entry, take_more, map_push, columns_at, row_of, rows_in, rows_of, verdict_of, report_of, report_and}
-use Rattle.std.proofs.lemmas.List.{take_all}
+use Rattle.nf_vectors.proofs.Common.{◌≡◌, ◌∙◌, ◌+◌, ◌++◌, ◌∷◌, [], take, get_or, length, List, ◌<◌, ◌≤◌, refl, sym, ap, subst, Entry, take_more, map_push, columns_at, row_of, rows_in, rows_of, verdict_of, report_of, report_and, take_all}
 use Rattle.nf_vectors.proofs.ReportLemmas.{report_of-push, rows-and, sum-and}
 use Rattle.nf_vectors.proofs.suite.Suite.check.Goals as goal
 

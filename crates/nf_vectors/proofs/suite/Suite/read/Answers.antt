@@ -1,7 +1,5 @@
-use Rattle.nf_vectors.proofs.Common.{◌≡◌, ◌∙◌, ◌++◌, ◌≤◌, length, true, false, [], take, Some, sym, ap, subst, arith, append-nil, Bool, IfErr, Consumes, false≢true, limit, block, stop_of, lines_within, Tells, RunsOut, Memory, first_fault}
-use Rattle.std.proofs.Common.{length-take-le}
-use Rattle.std.proofs.lemmas.Bool.{eq-eqb, ne_eqb}
-use Rattle.nf_vectors.proofs.EndingLemmas.{limit-is, block-is, on_ok, ends_at, Tells-found}
+use Rattle.nf_vectors.proofs.Common.{if_ok_if, ◌≡◌, ◌∙◌, ◌++◌, ◌≤◌, length, true, false, [], take, Some, sym, ap, subst, arith, append-nil, Bool, IfErr, Consumes, false≢true, limit, block, stop_of, lines_within, Tells, RunsOut, Memory, first_fault, length-take-le, eq-eqb, ne_eqb}
+use Rattle.nf_vectors.proofs.EndingLemmas.{limit-is, block-is, ends_at, Tells-found}
 use Rattle.std.proofs.KnownBytes.{Consumes-kept, Consumes-trans}
 use Rattle.nf_vectors.proofs.suite.Suite.read.Goals as goal
 
@@ -48,6 +46,6 @@ returns-then-given-eq0-clause-reads g c =
       read_out = λ _. c.in-Ok.ensures.read_out c.if-given-eq0.true;
       tells = subst (λ (b : Bool). Tells read.0 b c.finish.result) (sym c.in-Ok.ensures.stands.1) (c.finish.ensures.tells read.0 read.2);
       memory = subst (λ (b : Bool). IfErr c.finish.result (λ fault. fault.kind ≡ Memory → RunsOut read.0 b fault)) (sym end) (c.finish.ensures.memory read.0 read.2);
-      end = on_ok c.finish.result (λ _. end);
+      end = if_ok_if c.finish.result _ (λ _. end);
       before_end = λ unended. absurd (false≢true (sym unended ∙ end));
     }
