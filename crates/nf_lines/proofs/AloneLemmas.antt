@@ -1,5 +1,5 @@
 -- Lines, and what stands behind them.
-use Rattle.nf_lines.proofs.Common.{◌≡◌, ℕ, ◌+◌, ◌==◌, ◌&&◌, Bool, true, false, List, [], ◌∷◌, ◌++◌, length, Option, Some, None, inl, inr, ⊎_elim, encode_utf8_all, refl, sym, ap, subst, ◌∙◌, arith, append_assoc, append-nil, length-append, eq-eqb, ne_eqb, if◌then◌else◌, result_err, cases_Bool, encodes-append, Properties, Form, Nfc, Nfd, Nfkc, Nfkd, Ending, Whole, Bad, Cut, text_of, ending_of, parts_of, replaced, replaced_whole, line_feed, Fault, Unassigned, Policy, Tally, text_under-none, settled_utf8-none, answer_at_end, bad_byte, bad_under, first_fault, fault_in, IsLeft, answer_or, end_under, end_of, final_under, final_utf8, is_taken, tally_of, whole_or, allowed, len_under, text_under, whole_under, settled, settled_utf8, left-text, EndsInLineFeed, end_fault, SameOrLineFeed, StandAlone}
+use Rattle.nf_lines.proofs.Common.{Result, Ok, Err, eqb-true, ◌≡◌, ℕ, ◌+◌, ◌==◌, Bool, true, false, List, [], ◌∷◌, ◌++◌, length, Option, Some, None, inl, inr, ⊎_elim, encode_utf8_all, refl, sym, ap, subst, ◌∙◌, arith, append_assoc, append-nil, length-append, if◌then◌else◌, result_err, cases_Bool, encodes-append, Properties, Form, Nfc, Nfd, Nfkc, Nfkd, Ending, Whole, Bad, Cut, text_of, ending_of, parts_of, replaced, replaced_whole, line_feed, Fault, Unassigned, Policy, Tally, text_under-none, answer_at_end, bad_byte, bad_under, first_fault, fault_in, IsLeft, answer_or, end_under, end_of, final_utf8, tally_of, allowed, len_under, text_under, whole_under, settled, settled_utf8, left-text, EndsInLineFeed, end_fault, SameOrLineFeed, StandAlone}
 use Rattle.std.specs.Str.{chars}
 use Rattle.std.specs.Str.Lossy.{utf8_valid_len}
 use Rattle.nf_forms.specs.Order.{by_class}
@@ -14,8 +14,12 @@ use Rattle.nf_forms.specs.Laws.Front.{front-append_some, front-at, front-none}
 use Rattle.nf_forms.specs.Laws.Parting.{safe_form-push}
 use Rattle.nf_filter.specs.Laws.Soundness.{AreSound}
 use Rattle.nf_filter.proofs.PolicyLemmas.{allowed-append, allowed-grows, allowed-none, first_fault-none}
+use Rattle.std.proofs.lemmas.Bool.{and_parts}
+use Rattle.nf_filter.specs.Settled.{is_usable}
+use Rattle.nf_filter.proofs.AgainLemmas.{final-whole, taken as is_taken-from}
+use Rattle.nf_filter.proofs.PieceLemmas.{left-whole}
 use Rattle.nf_filter.proofs.ReadingLemmas.{ending_of-none}
-use Rattle.nf_normalizer.specs.Laws.Settled.{usable-all}
+use Rattle.nf_normalizer.specs.Laws.Settled.{usable-all, is_usable-none}
 use Rattle.nf_filter.proofs.SoundnessLemmas.{all_sound, usable_is, first_fault-assigned}
 use Rattle.nf_lines.proofs.WholeParts.{Reading, eqb_past, line_encodes}
 use Rattle.nf_lines.proofs.WholeLines.{ReadsLines, strict_lines, replaced_lines}
@@ -26,10 +30,10 @@ strict_end base tally Whole = refl
 strict_end base tally (Bad at start) = refl
 strict_end base tally (Cut at start) = refl
 
-strict_whole : (base : ℕ) (e : Ending) (settled whole : List ℕ) → result_err (answer_at_end base (tt {0}) e) ≡ None → whole_or e settled whole ≡ whole
-strict_whole base Whole settled whole none = refl
-strict_whole base (Bad at start) settled whole none = refl
-strict_whole base (Cut at start) settled whole none = cc
+-- what is told where there is no fault
+told : (r : Result Tally Fault) → result_err r ≡ None → (tally : Tally) × (r ≡ Ok tally)
+told (Ok tally) none = (tally, refl)
+told (Err fault) none = cc
 
 answered : (o : Option Fault) (tally : Tally) → result_err (answer_or o tally) ≡ o
 answered None tally = refl
@@ -49,32 +53,32 @@ safe_form-none p Nfd = refl
 safe_form-none p Nfkc = refl
 safe_form-none p Nfkd = refl
 
-pub final-none : (policy : Policy) (f : Form) (p : Properties) → final_utf8 policy f p [] ≡ []
-unfolding final_utf8
-final-none policy f p =
-    ap (final_under policy.replace policy.assigned p [] (settled_utf8 policy f p [])) (ap (λ x. encode_utf8_all (safe_form f p x)) (whole_under-none policy.replace) ∙ ap encode_utf8_all (safe_form-none p f))
-    ∙ ap (λ s. final_under policy.replace policy.assigned p [] s []) (settled_utf8-none policy f p) ∙ by policy.replace policy.assigned
+-- where the end is no fault the whole form is written
+final_whole : (f : Form) (p : Properties) (policy : Policy) (base : ℕ) (bytes : List ℕ) → end_fault policy p base bytes ≡ None → final_utf8 policy f p bytes ≡ encode_utf8_all (safe_form f p (whole_under policy.replace bytes))
+final_whole f p policy base bytes none = let all = told (end_of policy p base bytes) none in final-whole p base bytes all.0 f policy all.1
+
+end_nothing : (policy : Policy) (p : Properties) (base : ℕ) → end_fault policy p base [] ≡ None
+unfolding end_of
+end_nothing policy p base = by policy.replace policy.assigned
   where
-    by : (r a : Bool) → final_under r a p [] [] [] ≡ []
-    by false a = ap (λ e. whole_or e (let none : List ℕ = [] in none) []) ending_of-none
-    by true a = next (is_taken a p (whole_under true []))
-      where
-        next : (b : Bool) → (let none : List ℕ = [] in if b then none else none) ≡ []
-        next true = refl
-        next false = refl
+    by : (b a : Bool) → result_err (end_under b a p base []) ≡ None
+    by false a = ap (λ e. result_err (answer_at_end base (tally_of false p []) e)) ending_of-none
+    by true a =
+        let none = whole_under-none true in
+        answered _ (tally_of true p [])
+        ∙ first_fault-none p a (λ front. base + len_under true [] front) (whole_under true []) None (ap (is_usable p) none ∙ is_usable-none p) (ap (allowed a p) none ∙ allowed-none p a ∙ sym none)
+
+pub final-none : (policy : Policy) (f : Form) (p : Properties) → final_utf8 policy f p [] ≡ []
+final-none policy f p =
+    final_whole f p policy 0 [] (end_nothing policy p 0) ∙ ap (λ x. encode_utf8_all (safe_form f p x)) (whole_under-none policy.replace) ∙ ap encode_utf8_all (safe_form-none p f)
 
 module _ (p : Properties) (sound : AreSound p) where
   -- without a fault all was taken
   taken_all : (a : Bool) (place : List ℕ → ℕ) (x : List ℕ) (other : Option Fault) → first_fault a p place x other ≡ None → (allowed a p x ≡ x) × (other ≡ None)
-  taken_all false place x other none = (refl, sym (first_fault-none p false place x other (usable_is p sound x) refl) ∙ none)
-  taken_all true place x other none = ⊎_elim
-      (λ all. (all, sym (first_fault-none p true place x other (usable_is p sound x) all) ∙ none))
-      (λ less. absurd (some
-      (sym (first_fault-assigned p sound place x other ∙ ap (λ (b : Bool). if b then other else Some (Unassigned (place (allowed true p x)))) (ne_eqb (length (allowed true p x)) (length x) (λ same. omega (arith, same, less)))) ∙ none)))
-      (allowed-grows p true x [])
-    where
-      some : ¬ (Some (Unassigned (place (allowed true p x))) ≡ None)
-      some e = cc
+  taken_all a place x other none =
+      let all_taken = and_parts (is_usable p (allowed a p x)) (length (allowed a p x) == length x) (is_taken-from p a place x other none) in
+      let all = ⊎_elim (λ all. all) (λ less. absurd (omega (arith, less.0, eqb-true _ _ all_taken.1))) (allowed-grows p a x []) in
+      (all, sym (first_fault-none p a place x other (usable_is p sound x) all) ∙ none)
 
   -- behind a text that is taken the fault is that of the rest
   fault_behind : (a : Bool) (x y : List ℕ) (place behind : List ℕ → ℕ) (other : Option Fault) → allowed a p x ≡ x → ((z : List ℕ) → place (x ++ z) ≡ behind z)
@@ -87,37 +91,13 @@ module _ (p : Properties) (sound : AreSound p) where
       (λ i. (ap length taken ∙ length-append x (allowed true p y)) i == length-append x y i) ∙ eqb_past (length x) (length (allowed true p y)) (length y) in
       first_fault-assigned p sound place (x ++ y) other ∙ (λ i. if same i then other else Some (Unassigned ((ap place taken ∙ places (allowed true p y)) i))) ∙ sym (first_fault-assigned p sound behind y other)
 
-  -- where the end is no fault the whole form is written
   module _ (f : Form) where
-    abbrev pub form_utf8 : Bool → List ℕ → List ℕ
-    form_utf8 r bytes = encode_utf8_all (safe_form f p (whole_under r bytes))
-
-    final_whole : (policy : Policy) (base : ℕ) (bytes : List ℕ) → end_fault policy p base bytes ≡ None → final_utf8 policy f p bytes ≡ form_utf8 policy.replace bytes
-    unfolding final_utf8 end_of
-    final_whole policy base bytes none = by policy.replace policy.assigned (settled_utf8 policy f p bytes) none
-      where
-        by : (r a : Bool) (s : List ℕ) → result_err (end_under r a p base bytes) ≡ None → final_under r a p bytes s (form_utf8 r bytes) ≡ form_utf8 r bytes
-        by false a s none = strict_whole base (ending_of bytes) s (form_utf8 false bytes) (sym (strict_end base (tally_of false p bytes) (ending_of bytes)) ∙ none)
-        by true a s none =
-            let all = taken_all a (λ front. base + len_under true bytes front) (whole_under true bytes) None (sym (answered _ (tally_of true p bytes)) ∙ none) in
-            ap (λ (b : Bool). if b && (length (allowed a p (whole_under true bytes)) == length (whole_under true bytes)) then form_utf8 true bytes else s) (usable_is p sound (allowed a p (whole_under true bytes)))
-            ∙ ap (λ (b : Bool). if b then form_utf8 true bytes else s) (eq-eqb _ _ (ap length all.0))
-
     settled_is : (policy : Policy) (bytes : List ℕ) → settled_utf8 policy f p bytes ≡ encode_utf8_all (front p (safe_form f p (allowed policy.assigned p (text_under policy.replace bytes))))
     unfolding settled_utf8 settled
     settled_is policy bytes = ap (λ x. encode_utf8_all (settled f p x)) (usable-all p (allowed policy.assigned p (text_under policy.replace bytes)) (usable_is p sound (allowed policy.assigned p (text_under policy.replace bytes))))
 
     -- ---- lines of which nothing is left
     module _ (parting : IsParting p f line_feed) (closing : IsClosing p f line_feed) (policy : Policy) (base : ℕ) (lines rest : List ℕ) (read : ReadsLines policy.replace lines) (unfaulted : fault_in policy p base lines ≡ None) where
-      r : Bool
-      r = policy.replace
-
-      x : List ℕ
-      x = read.before ++ line_feed ∷ []
-
-      n : ℕ
-      n = length lines
-
       text_is : text_under policy.replace lines ≡ read.before ++ line_feed ∷ []
       text_is = left-text policy.replace lines (read.before ++ line_feed ∷ []) (length lines) [] read.left ∙ ap (λ l. (read.before ++ line_feed ∷ []) ++ l) (text_under-none policy.replace) ∙ append-nil (read.before ++ line_feed ∷ [])
 
@@ -149,45 +129,28 @@ module _ (p : Properties) (sound : AreSound p) where
               None taken.0 (λ z. omega (arith, left.place more z))
               ∙ sym (answered _ (tally_of true p more))
 
-      end_nothing : end_fault policy p (base + length lines) [] ≡ None
-      unfolding end_of
-      end_nothing = by policy.replace policy.assigned
-        where
-          by : (b a : Bool) → result_err (end_under b a p (base + length lines) []) ≡ None
-          by false a = ap (λ e. result_err (answer_at_end (base + length lines) (tally_of false p []) e)) ending_of-none
-          by true a =
-              let none = whole_under-none true in
-              answered _ (tally_of true p [])
-              ∙ first_fault-none p a (λ front. base + length lines + len_under true [] front) (whole_under true []) None (usable_is p sound (whole_under true [])) (ap (allowed a p) none ∙ allowed-none p a ∙ sym none)
-
       pub alone_whole : end_fault policy p base lines ≡ None
-      alone_whole = ap (end_fault policy p base) (sym (append-nil lines)) ∙ end_behind [] ∙ end_nothing
-
-      pub alone_end : end_fault policy p base (lines ++ rest) ≡ end_fault policy p (base + length lines) rest
-      alone_end = end_behind rest
+      alone_whole = ap (end_fault policy p base) (sym (append-nil lines)) ∙ end_behind [] ∙ end_nothing policy p (base + length lines)
 
       whole_is : whole_under policy.replace lines ≡ read.before ++ line_feed ∷ []
-      whole_is = ap (whole_under policy.replace) (sym (append-nil lines)) ∙ read.left.whole [] ∙ ap (λ l. (read.before ++ line_feed ∷ []) ++ l) (whole_under-none policy.replace) ∙ append-nil (read.before ++ line_feed ∷ [])
+      whole_is = left-whole policy.replace lines (read.before ++ line_feed ∷ []) (length lines) [] read.left ∙ ap (λ l. (read.before ++ line_feed ∷ []) ++ l) (whole_under-none policy.replace) ∙ append-nil (read.before ++ line_feed ∷ [])
 
       lines_form : final_utf8 policy f p lines ≡ encode_utf8_all (safe_form f p (read.before ++ line_feed ∷ []))
-      lines_form = final_whole policy base lines alone_whole ∙ ap (λ z. encode_utf8_all (safe_form f p z)) whole_is
+      lines_form = final_whole f p policy base lines alone_whole ∙ ap (λ z. encode_utf8_all (safe_form f p z)) whole_is
 
       pub alone_final : end_fault policy p (base + length lines) rest ≡ None → final_utf8 policy f p (lines ++ rest) ≡ final_utf8 policy f p lines ++ final_utf8 policy f p rest
       alone_final none =
           let z : List ℕ = whole_under policy.replace rest in
-          final_whole policy base (lines ++ rest) (alone_end ∙ none)
+          final_whole f p policy base (lines ++ rest) (end_behind rest ∙ none)
           ∙ ap (λ z. encode_utf8_all (safe_form f p z)) (read.left.whole rest)
           ∙ ap encode_utf8_all (safe_form-closed p f line_feed closing read.before z)
           ∙ encodes-append (safe_form f p (read.before ++ line_feed ∷ [])) (safe_form f p z)
-          ∙ (λ i. sym lines_form i ++ sym (final_whole policy (base + length lines) rest none) i)
+          ∙ (λ i. sym lines_form i ++ sym (final_whole f p policy (base + length lines) rest none) i)
 
       pub alone_settled : SameOrLineFeed (settled_utf8 policy f p (lines ++ rest)) (final_utf8 policy f p lines ++ settled_utf8 policy f p rest)
       alone_settled =
           ⊎_elim (λ some. inl (some_starter some)) (λ none. inr (no_starter none)) (cases_Bool (has_starter p tail))
         where
-          y : List ℕ
-          y = allowed policy.assigned p (text_under policy.replace rest)
-
           head : List ℕ
           head = safe_form f p (read.before ++ line_feed ∷ [])
 
@@ -219,7 +182,7 @@ module _ (p : Properties) (sound : AreSound p) where
               ∙ ap (λ z. z ++ line_feed ∷ []) (sym all_settled)
 
       pub alone : StandAlone policy f p base lines rest
-      alone = record { whole = alone_whole; fault = alone_fault; end = alone_end; final = alone_final; settled = alone_settled }
+      alone = record { whole = alone_whole; fault = alone_fault; end = end_behind rest; final = alone_final; settled = alone_settled }
 
   -- lines without a fault leave nothing
   reads_lines : Reading → (policy : Policy) (base : ℕ) (lines : List ℕ) → EndsInLineFeed lines → fault_in policy p base lines ≡ None → ReadsLines policy.replace lines

@@ -8,6 +8,8 @@ pub use Rattle.std.proofs.str.Laws.{scalars-append}
 pub use Rattle.std.specs.Io.KnownBytes.{Consumes, IsAtEnd}
 pub use Rattle.std.specs.Result.{result_err}
 pub use Rattle.nf_facts.specs.LineFeed.{line_feed}
+pub use Rattle.nf_filter.proofs.DriveLemmas.{refused_by}
+pub use Rattle.nf_filter.proofs.FeedingLemmas.{fed_by}
 pub use Rattle.nf_filter.proofs.FilterLemmas.{StandsAfter-no_fault, StandsAfter-offset, StandsAfter-fits, write_or_not}
 pub use Rattle.nf_filter.proofs.PieceLemmas.{left-text, IsLeft-all, IsLeft-behind, IsLeft-join, IsLeft-parts, own_parts-append}
 pub use Rattle.nf_filter.proofs.WritesLemmas.{Puts-none, Puts-join, Puts-at, BreaksOff-join, BreaksOff-at}

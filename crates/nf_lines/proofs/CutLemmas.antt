@@ -1,6 +1,6 @@
 -- The last line feed, looked for from the end.
-use Rattle.nf_lines.proofs.Common.{◌≡◌, ℕ, suc, ◌-◌, ◌<◌, ◌≤◌, ◌==◌, List, [], ◌∷◌, ◌++◌, length, take, drop, get_or, inl, inr, refl, sym, ap, subst, ◌∙◌, arith, ne_eqb, drop-cons, drop-length, take-suc, or_from, or_parts, line_feed, HasNoLineFeed, IsCutAt}
-use Rattle.std.specs.List.{list_any}
+use Rattle.nf_lines.proofs.Common.{◌≡◌, ℕ, suc, ◌-◌, ◌<◌, ◌≤◌, ◌==◌, List, [], ◌∷◌, ◌++◌, length, take, drop, get_or, inl, inr, refl, sym, ap, subst, ◌∙◌, arith, ne_eqb, drop-cons, drop-length, take-suc, or_from, line_feed, HasNoLineFeed, IsCutAt}
+use Rattle.std.proofs.lemmas.List.Folds.{list_any-append}
 
 before : (n : ℕ) → 0 < n → suc (n - 1) ≡ n
 before n some = omega (arith, some)
@@ -24,5 +24,4 @@ cut_nowhere bytes n none within rest = record { within = within; lines = inl (ap
 
 -- a piece more in which no line ends
 pub none_more : (rest piece : List ℕ) → HasNoLineFeed rest → HasNoLineFeed piece → HasNoLineFeed (rest ++ piece)
-none_more [] piece none more = more
-none_more (b ∷ rest) piece none more = let parts = or_parts (b == line_feed) (list_any (λ b. b == line_feed) rest) none in or_from _ _ parts.0 (none_more rest piece parts.1 more)
+none_more rest piece none more = list_any-append (λ b. b == line_feed) rest piece ∙ or_from _ _ none more

@@ -1,5 +1,5 @@
 -- A piece more.
-use Rattle.nf_lines.proofs.Common.{◌≡◌, ℕ, ◌+◌, ◌≤◌, ◌^◌, List, [], ◌∷◌, ◌++◌, length, Some, None, Result, Ok, Err, ◌⊎◌, inl, inr, ⊎_elim, refl, sym, ap, subst, ◌∙◌, arith, append_assoc, append-nil, length-append, IfErr, OnOk, result_err, Properties, Form, line_feed, Fault, Spent, TooLong, Read, Write, Row, BadByte, Unassigned, State, Policy, Tally, SinkState, settled_utf8-none, settled_utf8, IsOfFeeding, fault_in, base_of, offset_of, StandsAfter, end_of, final_utf8, Finishes, StandsAfter-no_fault, StandsAfter-offset, write_or_not, Puts-join, Puts-at, BreaksOff-join, BreaksOff-at, EndsInLineFeed, AreLines, HasNoLineFeed, end_fault, SameOrLineFeed, StandAlone, Lines, bytes_of, lines_utf8, HasLines, StopsLines, FeedsLines}
+use Rattle.nf_lines.proofs.Common.{fed_by, refused_by, ◌≡◌, ℕ, ◌+◌, ◌≤◌, ◌^◌, List, [], ◌∷◌, ◌++◌, length, Some, None, Result, Ok, Err, ◌⊎◌, inl, inr, ⊎_elim, refl, sym, ap, subst, ◌∙◌, arith, append_assoc, append-nil, length-append, IfErr, OnOk, result_err, Properties, Form, line_feed, Fault, Spent, TooLong, Read, Write, Row, BadByte, Unassigned, State, Policy, Tally, SinkState, settled_utf8-none, settled_utf8, IsOfFeeding, fault_in, base_of, offset_of, StandsAfter, end_of, final_utf8, Finishes, StandsAfter-no_fault, StandsAfter-offset, write_or_not, Puts-join, Puts-at, BreaksOff-join, BreaksOff-at, EndsInLineFeed, AreLines, HasNoLineFeed, end_fault, SameOrLineFeed, StandAlone, Lines, bytes_of, lines_utf8, HasLines, FeedsLines}
 use Rattle.nf_filter.specs.declared.fault.Fault.TheVariants.{Cut}
 use Rattle.nf_filter.specs.Writes.{Puts, BreaksOff}
 use Rattle.nf_filter.specs.Feeds.{Feeds}
@@ -19,12 +19,6 @@ BreaksOff-past {a = a} c breaks = record {
   given = breaks.given;
   failed = breaks.failed;
 }
-
-abbrev pub refused : Fault → Result (Unit {0}) Fault
-refused fault = Err fault
-
-abbrev pub ended_by : Fault → Result Tally Fault
-ended_by fault = Err fault
 
 pub too_long_or_not : (fault : Fault) → (fault ≡ TooLong) ⊎ (¬ (fault ≡ TooLong))
 too_long_or_not Spent = inr (λ e. cc)
@@ -80,7 +74,7 @@ module _ (policy : Policy) (f : Form) (p : Properties) (alone : (base : ℕ) (li
       where
         long : fault ≡ TooLong → FeedsLines policy f p after l piece first new (Err fault)
         long is =
-            let stops = ap refused is in
+            let stops = ap fed_by is in
             let len : 2 ^ 64 ≤ length (l.whole ++ l.rest) + length piece = omega (arith, fed.long stops, StandsAfter-offset has.stands, has.base, length-append l.whole l.rest) in
             let good : fault_in policy p 0 (l.whole ++ l.rest) ≡ None = (joins l.whole l.rest has.whole has.no_fault).fault ∙ ap (λ n. fault_in policy p n l.rest) (sym has.base) ∙ StandsAfter-no_fault has.stands in (
               l,
@@ -110,7 +104,7 @@ module _ (policy : Policy) (f : Form) (p : Properties) (alone : (base : ℕ) (li
               record {
                 whole = has.whole;
                 no_fault = has.no_fault;
-                broken_off = λ e. BreaksOff-join has.puts (BreaksOff-past (final_utf8 policy f p l.whole) (feeds.broken_off (ap refused e)));
+                broken_off = λ e. BreaksOff-join has.puts (BreaksOff-past (final_utf8 policy f p l.whole) (feeds.broken_off (ap fed_by e)));
                 written = λ other. Puts-join has.puts (Puts-past (final_utf8 policy f p l.whole) (feeds.written (λ e. other (let same : fault ≡ Write = cc in same))));
                 answer = λ other _. feeds.answer (λ e. other (let same : fault ≡ Write = cc in same)) ∙ ap (λ n. fault_in policy p n (l.rest ++ piece)) has.base ∙ sym join.fault;
                 too_long = λ e. absurd (not e);
@@ -118,8 +112,8 @@ module _ (policy : Policy) (f : Form) (p : Properties) (alone : (base : ℕ) (li
               },
             )
 
-    pub feeds-more : HasNoLineFeed piece → Fed state after l.rest piece old new (Ok tt) → FeedsLines policy f p after l piece first new (Ok tt)
-    feeds-more none fed =
+    pub feeds-by : (r : Result (Unit {0}) Fault) → HasNoLineFeed piece → Fed state after l.rest piece old new r → FeedsLines policy f p after l piece first new r
+    feeds-by (Ok u) none fed =
         let feeds = fed.feeds (λ e. cc) in (
           record { whole = l.whole; rest = l.rest ++ piece },
           sym (append_assoc l.whole l.rest piece),
@@ -132,9 +126,6 @@ module _ (policy : Policy) (f : Form) (p : Properties) (alone : (base : ℕ) (li
             puts = Puts-join has.puts (Puts-past (final_utf8 policy f p l.whole) (feeds.written (λ e. cc)));
           },
         )
-
-    pub feeds-by : (r : Result (Unit {0}) Fault) → HasNoLineFeed piece → Fed state after l.rest piece old new r → FeedsLines policy f p after l piece first new r
-    feeds-by (Ok u) none fed = feeds-more none fed
     feeds-by (Err fault) none fed = feeds-refused fault fed
 
     -- it ends in a line feed: then the filter was finished, and a new one begun
@@ -183,7 +174,7 @@ module _ (policy : Policy) (f : Form) (p : Properties) (alone : (base : ℕ) (li
         where
           never : ¬ (fault ≡ Write) → ⊥
           never not =
-              let answer : ended_by fault ≡ end_of policy p (base_of state) (l.rest ++ piece) = finishes.answer (λ e. not (let same : fault ≡ Write = cc in same)) in
+              let answer : refused_by fault ≡ end_of policy p (base_of state) (l.rest ++ piece) = finishes.answer (λ e. not (let same : fault ≡ Write = cc in same)) in
               let some : Some fault ≡ None = ap result_err answer ∙ ends in cc
 
           broken : fault ≡ Write → FeedsLines policy f p fresh l piece first last (Err fault)
@@ -195,7 +186,7 @@ module _ (policy : Policy) (f : Form) (p : Properties) (alone : (base : ℕ) (li
             record {
               whole = next_lines;
               no_fault = next_good;
-              broken_off = λ e. BreaksOff-at refl next_utf8 (BreaksOff-join so_far (BreaksOff-past (final_utf8 policy f p l.whole) (finishes.broken_off (ap ended_by e))));
+              broken_off = λ e. BreaksOff-at refl next_utf8 (BreaksOff-join so_far (BreaksOff-past (final_utf8 policy f p l.whole) (finishes.broken_off (ap refused_by e))));
               written = λ not. absurd (not is);
               answer = λ not _. absurd (not is);
               too_long = λ e. (let absurd_is : Write ≡ TooLong = sym is ∙ e in cc);
@@ -213,23 +204,19 @@ module _ (policy : Policy) (f : Form) (p : Properties) (alone : (base : ℕ) (li
 
   -- its lines were refused
   pub feeds-front : (l : Lines) (after : State) (front behind piece : List ℕ) (first new : SinkState) (fault : Fault) → piece ≡ front ++ behind
-      → ((next : Lines) (left : List ℕ) → StopsLines policy f p next left first new fault → StopsLines policy f p next (left ++ behind) first new fault)
       → FeedsLines policy f p after l front first new (Err fault) → FeedsLines policy f p after l piece first new (Err fault)
-  feeds-front l after front behind piece first new fault split more feeds = (
+  feeds-front l after front behind piece first new fault split feeds = (
     feeds.0,
     feeds.1 ++ behind,
     sym (append_assoc (bytes_of feeds.0) feeds.1 behind) ∙ ap (λ b. b ++ behind) feeds.2 ∙ append_assoc (l.whole ++ l.rest) front behind ∙ ap (λ b. (l.whole ++ l.rest) ++ b) (sym split),
     omega (arith, feeds.3, ap length split, length-append front behind, length-append feeds.1 behind),
-    more feeds.0 feeds.1 feeds.4,
+    record {
+      whole = feeds.4.whole;
+      no_fault = feeds.4.no_fault;
+      broken_off = feeds.4.broken_off;
+      written = feeds.4.written;
+      answer = feeds.4.answer;
+      too_long = λ e. let long = feeds.4.too_long e in (omega (arith, long.0, length-append feeds.1 behind), long.1, long.2);
+      unread = feeds.4.unread;
+    },
   )
-
-  pub stops-longer : (next : Lines) (left behind : List ℕ) (first new : SinkState) (fault : Fault) → StopsLines policy f p next left first new fault → StopsLines policy f p next (left ++ behind) first new fault
-  stops-longer next left behind first new fault stops = record {
-    whole = stops.whole;
-    no_fault = stops.no_fault;
-    broken_off = stops.broken_off;
-    written = stops.written;
-    answer = stops.answer;
-    too_long = λ e. let long = stops.too_long e in (omega (arith, long.0, length-append left behind), long.1, long.2);
-    unread = stops.unread;
-  }

@@ -1,6 +1,6 @@
 -- Of whole lines nothing is left to be read.
 use Rattle.nf_lines.proofs.Common.{◌≡◌, ℕ, zero, suc, ◌+◌, ◌<◌, ◌≤◌, ◌==◌, Bool, true, false, List, [], ◌∷◌, ◌++◌, length, take, drop, encode_utf8_all, refl, sym, ap, subst, ◌∙◌, arith, append_assoc, length-append, length-drop, take_at, take_all, if◌then◌else◌, drop-append-le, encodes-append, scalars-append, IsText, BeginsText, Ending, Whole, Bad, Cut, text_of, ending_of, replacement, part_end, line_feed, IsLeft, IsLeft-all, IsLeft-behind, IsLeft-join, EndsInLineFeed}
-use Rattle.nf_lines.proofs.WholeParts.{Reading, IsLine, line_text, line_utf8, line_encodes, text_left, begins_whole, begins_cut, end_is, is_broken, IsBroken, broken_end, text_begins}
+use Rattle.nf_lines.proofs.WholeParts.{Reading, front_utf8, line_utf8, line_encodes, text_left, begins_whole, begins_cut, end_is, is_broken, IsBroken, broken_end, text_begins}
 
 -- they give a text that ends in a line feed, and the rest is read as if it stood alone
 pub record ReadsLines (r : Bool) (lines : List ℕ) : Type 0 where
@@ -8,11 +8,11 @@ pub record ReadsLines (r : Bool) (lines : List ℕ) : Type 0 where
   pub left : IsLeft r lines (before ++ line_feed ∷ []) (length lines) []
 
 module _ (laws : Reading) where
-  lines_text : (r : Bool) (lines : List ℕ) → IsLine lines → ReadsLines r lines
-  lines_text r lines is = subst (ReadsLines r) is.spelt (record { before = is.before; left = text_left laws (is.before ++ line_feed ∷ []) is.scalars r })
-
   lines_begun : (r : Bool) (lines : List ℕ) → EndsInLineFeed lines → BeginsText lines → ReadsLines r lines
-  lines_begun r lines is b = subst (ReadsLines r) (sym is.1) (lines_text r (is.0 ++ line_feed ∷ []) (line_text is.0 (line_utf8 is.0 (subst BeginsText is.1 b))))
+  lines_begun r lines is b =
+      let text = front_utf8 is.0 (line_utf8 is.0 (subst BeginsText is.1 b)) in
+      subst (ReadsLines r) (encodes-append text.0 (line_feed ∷ []) ∙ (λ i. text.1.1 i ++ line_encodes i) ∙ sym is.1)
+      (record { before = text.0; left = text_left laws (text.0 ++ line_feed ∷ []) (scalars-append text.0 (line_feed ∷ []) text.1.0 refl) r })
 
   -- where ill-formed bytes are faults, and there are none
   pub strict_lines : (lines : List ℕ) → EndsInLineFeed lines → ((at start : ℕ) → ¬ (ending_of lines ≡ Bad at start)) → ReadsLines false lines
@@ -48,14 +48,11 @@ module _ (laws : Reading) where
       len : length lines ≡ length is.0 + 1
       len = omega (arith, ap length is.1, length-append is.0 (line_feed ∷ []))
 
-      within : (b : Bool) → (at == start) ≡ b → part_end at start ≤ length is.0
+      within : (b : Bool) → (at == start) ≡ b → (if b then start + 1 else at) ≤ length is.0
       within true c =
-          let end : part_end at start ≡ start + 1 = ap (λ b. if b then start + 1 else at) c in
           let before : ¬ (start + 1 ≡ length lines) = λ last. line_good lines at start is e last broken.text in
-          omega (arith, end, before, broken.within, broken.order, len)
-      within false c =
-          let end : part_end at start ≡ at = ap (λ b. if b then start + 1 else at) c in
-          omega (arith, end, broken.within, len)
+          omega (arith, before, broken.within, broken.order, len)
+      within false c = omega (arith, broken.within, len)
 
   by_length : (k : ℕ) (lines : List ℕ) → length lines < k → EndsInLineFeed lines → ReadsLines true lines
   by_length zero lines short is = absurd (omega arith)

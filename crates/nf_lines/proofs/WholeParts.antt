@@ -1,6 +1,8 @@
 -- A line feed ends every character that was begun: of bytes that end in one nothing is left to be read.
-use Rattle.nf_lines.proofs.Common.{◌≡◌, ℕ, ◌+◌, ◌-◌, ◌<◌, ◌≤◌, ◌==◌, ◌⊎◌, Bool, true, false, List, [], ◌∷◌, ◌++◌, length, take, drop, get_or, encode_utf8_all, inl, inr, refl, sym, ap, subst, ◌∙◌, arith, append_assoc, append-nil, length-append, take_at, take-append-drop, IsUtf8, eq-eqb, ne_eqb, if◌then◌else◌, get_or-append_seam, drop-append-add, cases_lt, eqb-true, take-append-le, IsUtf8-take, IsCharBoundary-after_ascii, IsCharBoundary-from_drop, encodes-append, scalars-append, IsText, BeginsText, Ending, Whole, Bad, Cut, moved, text_of, ending_of, Part, replacement, own_parts, part_end, parts_of, line_feed, answer_at_end, bad_byte, IsLeft, IsLeft-parts, own_parts-append}
+use Rattle.nf_lines.proofs.Common.{◌≡◌, ℕ, ◌+◌, ◌-◌, ◌<◌, ◌≤◌, ◌==◌, ◌⊎◌, Bool, true, false, List, [], ◌∷◌, ◌++◌, length, take, drop, get_or, encode_utf8_all, inl, inr, refl, sym, ap, subst, ◌∙◌, arith, append_assoc, append-nil, length-append, take_at, take-append-drop, IsUtf8, if◌then◌else◌, get_or-append_seam, drop-append-add, cases_lt, take-append-le, IsUtf8-take, IsCharBoundary-after_ascii, IsCharBoundary-from_drop, encodes-append, IsText, BeginsText, Ending, Whole, Bad, Cut, moved, text_of, ending_of, Part, replacement, own_parts, part_end, parts_of, line_feed, answer_at_end, bad_byte, IsLeft, IsLeft-parts, own_parts-append}
+use Rattle.std.proofs.Math.Seq.{drop-append_seam}
 use Rattle.std.proofs.Math.Utf8.{encode}
+use Rattle.std.proofs.lemmas.Bool.Decides.{nat_tests}
 use Rattle.nf_utf8.specs.Reads.{EndsAs}
 use Rattle.nf_utf8.specs.Laws.{ReadsBack, ReplacesParts, SplitsBytes, ReadsLongestText}
 
@@ -30,31 +32,12 @@ line_utf8 front b =
     (IsCharBoundary-after_ascii (bytes ++ b.0) (length front) b.1 (omega (arith, len, length-append bytes b.0)) (omega (arith, here))))
 
 -- what stands before the line feed is a text too
-front_utf8 : (front : List ℕ) → IsUtf8 (front ++ line_feed ∷ []) → IsUtf8 front
+pub front_utf8 : (front : List ℕ) → IsUtf8 (front ++ line_feed ∷ []) → IsUtf8 front
 front_utf8 front u =
     subst IsUtf8 (take_at front (line_feed ∷ []) (length front) refl)
     (IsUtf8-take (front ++ line_feed ∷ []) (length front) u
     (IsCharBoundary-from_drop (front ++ line_feed ∷ []) (length front) (omega (arith, length-append front (line_feed ∷ [])))
-    (subst IsUtf8 (sym (drop_front front)) line_scalar)))
-  where
-    drop_front : (front : List ℕ) → drop (length front) (front ++ line_feed ∷ []) ≡ line_feed ∷ []
-    drop_front [] = refl
-    drop_front (a ∷ front) = drop_front front
-
--- the text of a line
-pub record IsLine (lines : List ℕ) : Type 0 where
-  pub before : List ℕ
-  pub scalars : IsText (before ++ line_feed ∷ [])
-  pub spelt : encode_utf8_all (before ++ line_feed ∷ []) ≡ lines
-
-pub line_text : (front : List ℕ) → IsUtf8 (front ++ line_feed ∷ []) → IsLine (front ++ line_feed ∷ [])
-line_text front u =
-    let before = front_utf8 front u in
-    record {
-      before = before.0;
-      scalars = scalars-append before.0 (line_feed ∷ []) before.1.0 refl;
-      spelt = encodes-append before.0 (line_feed ∷ []) ∙ (λ i. before.1.1 i ++ line_encodes i);
-    }
+    (subst IsUtf8 (sym (drop-append_seam front (line_feed ∷ []))) line_scalar)))
 
 -- ---- behind a text
 
@@ -72,11 +55,7 @@ end_moved base n (Cut at start) = (let a : base + (n + at) ≡ base + n + at = o
 
 -- one length more on both sides
 pub eqb_past : (n a b : ℕ) → (n + a == n + b) ≡ (a == b)
-eqb_past n a b = by (a == b) refl
-  where
-    by : (t : Bool) → (a == b) ≡ t → (n + a == n + b) ≡ t
-    by true e = let same : a ≡ b = eqb-true a b e in eq-eqb (n + a) (n + b) (omega (arith, same))
-    by false e = ne_eqb (n + a) (n + b) (λ same. let t : (a == b) ≡ true = eq-eqb a b (omega (arith, same)) in cc)
+eqb_past n a b = grind (arith, nat_tests)
 
 part_end-moved : (n at start : ℕ) → part_end (n + at) (n + start) ≡ n + part_end at start
 part_end-moved n at start = ap (λ b. if b then (n + start) + 1 else n + at) (eqb_past n at start) ∙ by (at == start)
@@ -120,12 +99,9 @@ module _ (laws : Reading) where
   pub broken_end : (bytes : List ℕ) (at start : ℕ) → IsBroken bytes at start → (start < part_end at start) × (part_end at start ≤ length bytes)
   broken_end bytes at start broken = by (at == start) refl
     where
-      by : (b : Bool) → (at == start) ≡ b → (start < part_end at start) × (part_end at start ≤ length bytes)
-      by true e = let end : part_end at start ≡ start + 1 = ap (λ b. if b then start + 1 else at) e in (omega (arith, end), omega (arith, end, broken.order, broken.within))
-      by false e =
-          let end : part_end at start ≡ at = ap (λ b. if b then start + 1 else at) e in
-          let differs : ¬ (at ≡ start) = λ same. (let t : (at == start) ≡ true = eq-eqb at start same in cc) in
-          (omega (arith, end, differs, broken.order), omega (arith, end, broken.within))
+      by : (b : Bool) → (at == start) ≡ b → (start < (if b then start + 1 else at)) × ((if b then start + 1 else at) ≤ length bytes)
+      by true e = (omega arith, omega (arith, broken.order, broken.within))
+      by false e = let differs : ¬ (at ≡ start) = grind (arith, nat_tests) in (omega (arith, differs, broken.order), omega (arith, broken.within))
 
   abbrev broken_part : (at start : ℕ) → Part
   broken_part at start = record { char = replacement; len = part_end at start - start }
@@ -137,9 +113,6 @@ module _ (laws : Reading) where
   -- ---- behind a text
 
   module _ (x : List ℕ) (s : IsText x) where
-    abbrev bytes : List ℕ
-    bytes = encode_utf8_all x
-
     strict_left : IsLeft false (encode_utf8_all x) x (length (encode_utf8_all x)) []
     strict_left = record {
       text = λ more. laws.back.text x more s;
@@ -154,9 +127,6 @@ module _ (laws : Reading) where
     parts_behind : (more : List ℕ) → parts_of (encode_utf8_all x ++ more) ≡ own_parts x ++ parts_of more
     parts_behind more = by (ending_of more) refl
       where
-        n : ℕ
-        n = length (encode_utf8_all x)
-
         ending : ending_of (encode_utf8_all x ++ more) ≡ moved (length (encode_utf8_all x)) (ending_of more)
         ending = laws.back.ending x more s
 

@@ -1,5 +1,5 @@
 use Rattle.nf_lines.proofs.Common.{◌≡◌, ◌∙◌, ◌-◌, ◌++◌, ℕ, List, length, take, drop, inr, ap, sym, subst, arith, take-append-drop, take_all, length-drop, ucd, state_of, HasNoLineFeed}
-use Rattle.nf_lines.proofs.StepLemmas.{feeds-by, feeds-both, feeds-front, stops-longer}
+use Rattle.nf_lines.proofs.StepLemmas.{feeds-by, feeds-both, feeds-front}
 use Rattle.nf_lines.proofs.driving.feed_lines.Goals as goal
 
 pub returns-then-n-eq0-clause-feeds : goal.returns-then-n-eq0-clause-feeds
@@ -19,7 +19,6 @@ returns-in-Err-clause-feeds g c = λ first l has.
     let n = c.lines_len-n.result in
     feeds-front c.args.policy c.args.form ucd (c.lines_stand_alone.ensures c.args.policy c.args.form) l (state_of c.end_lines.new.filter) (take n c.args.piece.now) (drop n c.args.piece.now) c.args.piece.now first _ c.in-Err.fault
     (sym (take-append-drop n c.args.piece.now))
-    (λ next left. stops-longer c.args.policy c.args.form ucd (c.lines_stand_alone.ensures c.args.policy c.args.form) next left (drop n c.args.piece.now) first _ c.in-Err.fault)
     (c.in-Err.ensures.feeds first l has)
 
 -- a slice to the end
