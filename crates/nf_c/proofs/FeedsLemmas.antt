@@ -1,7 +1,8 @@
 -- Fronts of a piece that are fed in turn.
-use Rattle.std.proofs.Common.{take-take, ◌≡◌, ℕ, ◌+◌, ◌-◌, ◌≤◌, ◌<◌, Bool, true, false, List, [], ◌++◌, length, take, drop, Option, Some, None, refl, sym, ap, ◌∙◌, subst, arith, rules, ◌==◌, append_assoc, append-nil, slice_range, Result, Err, IfSome}
+use Rattle.std.proofs.Common.{take-take, ◌≡◌, ℕ, ◌+◌, ◌-◌, ◌≤◌, ◌<◌, true, false, List, [], ◌++◌, length, take, drop, Option, Some, None, refl, sym, ap, ◌∙◌, subst, arith, append_assoc, append-nil, slice_range, Result, Err, IfSome}
 use Rattle.std.specs.Io.KnownBytes.{Appends}
 use Rattle.std.proofs.lemmas.List.{length-append, length-take, length-drop, length-take-le, take-append-le}
+use Rattle.std.proofs.lemmas.Bool.{false≢true}
 use borrow.Rule.Slice.PartMut.{put_mid, post_of}
 use Rattle.std.proofs.Math.Seq.{take-add, take-length, take-append-add}
 use Rattle.nf_forms.specs.Ucd.{ucd}
@@ -58,12 +59,6 @@ pub written_ended : (fault : Option Fault) (read written : ℕ) → (ended fault
 written_ended None read written = refl
 written_ended (Some fault) read written = refl
 
-bool_clash : (b : Bool) → b ≡ false → b ≡ true → ⊥
-bool_clash b low high = cc
-
-pub is_one : (n : ℕ) → (n == 1) ≡ true → n ≡ 1
-is_one n e = search rules
-
 -- what does not end the text is a full output, or too long an input
 pub of_staying : (fault : Fault) → ends (Some fault) ≡ false → IsOfFeeding fault
 of_staying Spent e = cc
@@ -75,12 +70,9 @@ of_staying (BadByte at start) e = cc
 of_staying (Cut at start) e = cc
 of_staying (Unassigned at) e = cc
 
--- a fault that ends the text is no other
-pub not_write : (fault : Fault) → ends (Some fault) ≡ true → ¬ (◌≡◌ {A = Result (Unit {0}) Fault} (Err fault) (Err Write))
-not_write fault over e = let same : fault ≡ Write = cc in bool_clash (ends (Some fault)) (ap (λ (g : Fault). ends (Some g)) same) over
-
-pub not_long : (fault : Fault) → ends (Some fault) ≡ true → ¬ (◌≡◌ {A = Result (Unit {0}) Fault} (Err fault) (Err TooLong))
-not_long fault over e = let same : fault ≡ TooLong = cc in bool_clash (ends (Some fault)) (ap (λ (g : Fault). ends (Some g)) same) over
+-- a fault that ends the text is none that does not
+pub not_other : (fault other : Fault) → ends (Some fault) ≡ true → ends (Some other) ≡ false → ¬ (◌≡◌ {A = Result (Unit {0}) Fault} (Err fault) (Err other))
+not_other fault other over goes e = let same : fault ≡ other = cc in false≢true (sym goes ∙ ap (λ (g : Fault). ends (Some g)) (sym same) ∙ over)
 
 -- a filter that is not spent refuses for these reasons, where no character is unsound
 pub of_feeding : (fault : Fault) → IsOfFilter fault → ¬ (fault ≡ Spent) → ((at : ℕ) → ¬ (fault ≡ Row at)) → IsOfFeeding fault
@@ -119,12 +111,12 @@ module _ (policy : Policy) (f : Form) where
       settles = ap (settled_utf8 policy f ucd) (append-nil bytes) ∙ sym (append-nil (settled_utf8 policy f ucd bytes));
       base = base;
       stands = λ _. subst (FilterStandsAfter policy f ucd now) (sym (append-nil bytes)) stands;
-      fault = λ e. absurd (bool_clash (ends fault) goes e);
-      spent = λ e. absurd (bool_clash (ends fault) goes e);
+      fault = λ e. absurd (false≢true (sym goes ∙ e));
+      spent = λ e. absurd (false≢true (sym goes ∙ e));
       among = among;
     }
 
-    -- all of it was, through a room over the output
+    -- all of it was, through a room over the output, and there may be a fault in it
     module _ (old : SinkState) (room : Room) (n : ℕ) (was_empty : old.taken ≡ Some []) (is : output ≡ room.bytes.now) (taken : (room_state room).taken ≡ Some (take n room.bytes.now)) (within : n ≤ length room.bytes.now)
         (puts : Puts old (room_state room) (settled_utf8 policy f ucd bytes) (settled_utf8 policy f ucd (bytes ++ piece))) (base : base_of now ≡ base_of was) where
       fits : n ≤ length output
@@ -134,29 +126,16 @@ module _ (policy : Policy) (f : Form) where
       settles = ap (λ l. settled_utf8 policy f ucd (bytes ++ l)) (take-length piece) ∙ puts.behind
           ∙ ap (λ l. settled_utf8 policy f ucd bytes ++ l) (written_is old.taken (room_state room).taken (take n room.bytes.now) puts.out was_empty taken puts.given ∙ ap (take n) (sym is))
 
-      pub FeedsFront-whole : FilterStandsAfter policy f ucd now (bytes ++ piece) → FeedsFront policy f bytes piece output was now (record { read = length piece; written = n; fault = None })
-      FeedsFront-whole stands = record {
+      pub FeedsFront-all : (fault : Option Fault) → (ends fault ≡ false → FilterStandsAfter policy f ucd now (bytes ++ piece)) → (ends fault ≡ true → fault ≡ fault_in policy ucd (base_of was) (bytes ++ piece))
+          → (ends fault ≡ true → is_spent now ≡ true) → IfSome fault IsOfFeeding → FeedsFront policy f bytes piece output was now (record { read = length piece; written = n; fault = fault })
+      FeedsFront-all fault stands told spent among = record {
         read = omega arith;
         written = fits;
         settles = settles;
         base = base;
-        stands = λ _. subst (λ l. FilterStandsAfter policy f ucd now (bytes ++ l)) (sym (take-length piece)) stands;
-        fault = λ e. cc;
-        spent = λ e. cc;
-        among = tt;
-      }
-
-      -- or there is a fault in it
-      pub FeedsFront-fault : (fault : Fault) → ends (Some fault) ≡ true → IsOfFeeding fault → is_spent now ≡ true → Some fault ≡ fault_in policy ucd (base_of was) (bytes ++ piece)
-          → FeedsFront policy f bytes piece output was now (record { read = length piece; written = n; fault = Some fault })
-      FeedsFront-fault fault over among spent told = record {
-        read = omega arith;
-        written = fits;
-        settles = settles;
-        base = base;
-        stands = λ e. absurd (bool_clash (ends (Some fault)) e over);
-        fault = λ _. subst (λ l. Some fault ≡ fault_in policy ucd (base_of was) (bytes ++ l)) (sym (take-length piece)) told;
-        spent = λ _. spent;
+        stands = λ e. subst (λ l. FilterStandsAfter policy f ucd now (bytes ++ l)) (sym (take-length piece)) (stands e);
+        fault = λ e. subst (λ l. fault ≡ fault_in policy ucd (base_of was) (bytes ++ l)) (sym (take-length piece)) (told e);
+        spent = spent;
         among = among;
       }
 

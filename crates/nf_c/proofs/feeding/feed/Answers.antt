@@ -1,4 +1,4 @@
-use Rattle.std.proofs.Common.{arith, ◌≡◌, ℕ, ◌+◌, ◌<◌, ◌^◌, ◌==◌, length, ◌++◌, take, Some, refl, sym, ap, ◌∙◌, subst, append-nil}
+use Rattle.std.proofs.Common.{eqb-true, arith, ◌≡◌, ℕ, ◌+◌, ◌<◌, ◌^◌, ◌==◌, length, ◌++◌, take, Some, refl, sym, ap, ◌∙◌, subst, append-nil}
 use Rattle.nf_forms.specs.Ucd.{ucd}
 use Rattle.nf_filter.specs.declared.fault.Fault.TheVariants.{TooLong}
 use Rattle.nf_filter.specs.declared.saved.Saved.{Saved}
@@ -9,7 +9,7 @@ use Rattle.nf_filter.specs.Settled.{settled_utf8}
 use Rattle.nf_c.specs.declared.moved.Moved.{Moved}
 use Rattle.nf_c.specs.Moved.{read_before}
 use Rattle.nf_c.specs.State.{StandsAfter}
-use Rattle.nf_c.proofs.FeedsLemmas.{is_one, read_before-within, read_ended, written_ended}
+use Rattle.nf_c.proofs.FeedsLemmas.{read_before-within, read_ended, written_ended}
 use Rattle.nf_c.proofs.feeding.feed.Goals as goal
 
 pub returns-then-is_too_long-clause-feeds : goal.returns-then-is_too_long-clause-feeds
@@ -76,7 +76,7 @@ returns-clause-feeds c = λ policy f bytes stands.
       told = λ over. front.fault over ∙ ap (λ n. fault_in policy ucd n (bytes ++ take fed.read c.args.input.now)) (ap (λ (s : Saved). s.base) c.in-Some.ensures.saved);
       spent = λ over.
           let spent = front.spent over in
-          ((c.pack.ensures.state, subst (IsRestorable ucd) (sym c.pack.ensures.saved) (c.save-after.ensures.spent spent)), is_one _ (ap (λ (s : Saved). s.spent) packed ∙ spent));
+          ((c.pack.ensures.state, subst (IsRestorable ucd) (sym c.pack.ensures.saved) (c.save-after.ensures.spent spent)), eqb-true _ 1 (ap (λ (s : Saved). s.spent) packed ∙ spent));
       too_long = (λ e. absurd (not_long e), λ long. absurd (omega (arith, small, long)));
       nothing = λ e. absurd (not_long e);
     }

@@ -1,4 +1,5 @@
-use Rattle.std.proofs.Common.{◌≡◌, true, false, Some, Err, arith, refl, sym, ap, ◌∙◌, rules}
+use Rattle.std.proofs.lemmas.Bool.{false≢true}
+use Rattle.std.proofs.Common.{None, ◌≡◌, true, false, Some, Err, arith, refl, sym, ap, ◌∙◌, rules}
 use Rattle.nf_forms.specs.Ucd.{ucd}
 use Rattle.nf_filter.specs.declared.fault.Fault.TheVariants.{Write, TooLong}
 use Rattle.nf_filter.specs.declared.saved.Saved.{Saved}
@@ -6,24 +7,25 @@ use Rattle.nf_filter.specs.Devices.{SinkState}
 use Rattle.nf_filter.specs.Filter.{state_of, offset_of}
 use Rattle.nf_filter.proofs.SoundnessLemmas.{not_fed}
 use Rattle.nf_c.specs.Feeds.{ends}
-use Rattle.nf_c.proofs.FeedsLemmas.{not_write, not_long, of_staying, of_feeding, too_little, FeedsFront-whole, FeedsFront-fault, FeedsFront-none}
+use Rattle.nf_c.proofs.FeedsLemmas.{not_other, of_staying, of_feeding, too_little, FeedsFront-all, FeedsFront-none}
 use Rattle.nf_c.proofs.feeding.try_piece.Goals as goal
 
 pub returns-in_default-clause-feeds : goal.returns-in_default-clause-feeds
 returns-in_default-clause-feeds c = λ policy f bytes stands.
     let feeds = c.in_default.ensures.feeds policy f bytes stands (λ e. cc) in
-    FeedsFront-whole policy f bytes c.args.piece.now _ _ _ _ c.feed.new.sink c.written.result (ap (λ (s : SinkState). s.taken) c.over-room.ensures.state) (search rules) c.written.ensures.taken c.written.ensures.within
-    (feeds.written (λ e. cc)) c.feed.ensures.base (c.in_default.ensures.stands policy f bytes stands)
+    FeedsFront-all policy f bytes c.args.piece.now _ _ _ _ c.feed.new.sink c.written.result (ap (λ (s : SinkState). s.taken) c.over-room.ensures.state) (search rules) c.written.ensures.taken c.written.ensures.within
+    (feeds.written (λ e. cc)) c.feed.ensures.base None (λ _. c.in_default.ensures.stands policy f bytes stands) (λ e. cc) (λ e. cc) tt
 
 pub returns-then-ends-clause-feeds : goal.returns-then-ends-clause-feeds
 returns-then-ends-clause-feeds c = λ policy f bytes stands.
     let fault = c.in-Err.fault in
     let over : ends (Some fault) ≡ true = sym c.ends.ensures ∙ c.if-ends.true in
-    let feeds = c.in-Err.ensures.feeds policy f bytes stands (not_long fault over) in
+    let feeds = c.in-Err.ensures.feeds policy f bytes stands (not_other fault TooLong over refl) in
     let among = of_feeding fault c.in-Err.ensures.faults (λ e. let spent = c.in-Err.ensures.spent.0 (ap Err e) in let unspent = stands.unspent in cc)
     (λ at e. not_fed ucd c.every_character_is_sound.ensures.character _ at policy f bytes c.args.piece.now _ _ _ feeds (ap Err e)) in
-    FeedsFront-fault policy f bytes c.args.piece.now _ _ _ _ c.feed.new.sink c.written-then-ends.result (ap (λ (s : SinkState). s.taken) c.over-room.ensures.state) (search rules) c.written-then-ends.ensures.taken c.written-then-ends.ensures.within
-    (feeds.written (not_write fault over)) c.feed.ensures.base fault over among (c.in-Err.ensures.spends.1 (refl, not_long fault over)) (feeds.answer (not_write fault over))
+    FeedsFront-all policy f bytes c.args.piece.now _ _ _ _ c.feed.new.sink c.written-then-ends.result (ap (λ (s : SinkState). s.taken) c.over-room.ensures.state) (search rules) c.written-then-ends.ensures.taken c.written-then-ends.ensures.within
+    (feeds.written (not_other fault Write over refl)) c.feed.ensures.base (Some fault) (λ e. absurd (false≢true (sym e ∙ over)))
+    (λ _. feeds.answer (not_other fault Write over refl)) (λ _. c.in-Err.ensures.spends.1 (refl, not_other fault TooLong over refl)) among
 
 pub returns-clause-feeds : goal.returns-clause-feeds
 returns-clause-feeds c = λ policy f bytes stands.
