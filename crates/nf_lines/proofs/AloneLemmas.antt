@@ -54,7 +54,8 @@ safe_form-none p Nfkc = refl
 safe_form-none p Nfkd = refl
 
 -- where the end is no fault the whole form is written
-final_whole : (f : Form) (p : Properties) (policy : Policy) (base : ℕ) (bytes : List ℕ) → end_fault policy p base bytes ≡ None → final_utf8 policy f p bytes ≡ encode_utf8_all (safe_form f p (whole_under policy.replace bytes))
+final_whole : (f : Form) (p : Properties) (policy : Policy) (base : ℕ) (bytes : List ℕ) → end_fault policy p base bytes ≡ None
+    → final_utf8 policy f p bytes ≡ encode_utf8_all (safe_form f p (whole_under policy.replace bytes))
 final_whole f p policy base bytes none = let all = told (end_of policy p base bytes) none in final-whole p base bytes all.0 f policy all.1
 
 end_nothing : (policy : Policy) (p : Properties) (base : ℕ) → end_fault policy p base [] ≡ None
@@ -133,7 +134,8 @@ module _ (p : Properties) (sound : AreSound p) where
       alone_whole = ap (end_fault policy p base) (sym (append-nil lines)) ∙ end_behind [] ∙ end_nothing policy p (base + length lines)
 
       whole_is : whole_under policy.replace lines ≡ read.before ++ line_feed ∷ []
-      whole_is = left-whole policy.replace lines (read.before ++ line_feed ∷ []) (length lines) [] read.left ∙ ap (λ l. (read.before ++ line_feed ∷ []) ++ l) (whole_under-none policy.replace) ∙ append-nil (read.before ++ line_feed ∷ [])
+      whole_is =
+          left-whole policy.replace lines (read.before ++ line_feed ∷ []) (length lines) [] read.left ∙ ap (λ l. (read.before ++ line_feed ∷ []) ++ l) (whole_under-none policy.replace) ∙ append-nil (read.before ++ line_feed ∷ [])
 
       lines_form : final_utf8 policy f p lines ≡ encode_utf8_all (safe_form f p (read.before ++ line_feed ∷ []))
       lines_form = final_whole f p policy base lines alone_whole ∙ ap (λ z. encode_utf8_all (safe_form f p z)) whole_is

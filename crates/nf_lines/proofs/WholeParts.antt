@@ -58,11 +58,7 @@ pub eqb_past : (n a b : ℕ) → (n + a == n + b) ≡ (a == b)
 eqb_past n a b = grind (arith, nat_tests)
 
 part_end-moved : (n at start : ℕ) → part_end (n + at) (n + start) ≡ n + part_end at start
-part_end-moved n at start = ap (λ b. if b then (n + start) + 1 else n + at) (eqb_past n at start) ∙ by (at == start)
-  where
-    by : (b : Bool) → (if b then (n + start) + 1 else n + at) ≡ n + (if b then start + 1 else at)
-    by true = omega arith
-    by false = refl
+part_end-moved n at start = grind (arith, nat_tests)
 
 module _ (laws : Reading) where
   pub end_is : (bytes : List ℕ) (e : Ending) → ending_of bytes ≡ e → EndsAs bytes (text_of bytes) e
