@@ -1,7 +1,7 @@
 -- The names that most of these proofs cite, passed on from one place. Declares nothing.
-pub use Rattle.std.proofs.Common.{◌≡◌, ℕ, ◌+◌, ◌==◌, ◌&&◌, Bool, true, false, List, [], ◌∷◌, ◌++◌, length, Option, Some, None, inl, inr, ⊎_elim, encode_utf8_all, refl, sym, ap, subst, ◌∙◌, arith, append_assoc, append-nil, length-append, eq-eqb, ne_eqb, if◌then◌else◌, suc, ◌-◌, ◌<◌, ◌≤◌, take, drop, get_or, Result, Ok, Err, OnOk, IsTrue, ◌^◌, ◌⊎◌, IfErr, zero, length-drop, take_at, take_all, take-append-drop, IsUtf8, rules, length-take, IsFalse}
+pub use Rattle.std.proofs.Common.{◌≡◌, ℕ, ◌+◌, ◌==◌, Bool, true, false, List, [], ◌∷◌, ◌++◌, length, Option, Some, None, inl, inr, ⊎_elim, encode_utf8_all, refl, sym, ap, subst, ◌∙◌, arith, append_assoc, append-nil, length-append, eq-eqb, ne_eqb, if◌then◌else◌, suc, ◌-◌, ◌<◌, ◌≤◌, take, drop, get_or, Result, Ok, Err, OnOk, IsTrue, ◌^◌, ◌⊎◌, IfErr, zero, length-drop, take_at, take_all, take-append-drop, IsUtf8, rules, length-take, IsFalse}
 pub use Rattle.std.proofs.Math.Seq.{drop-cons, drop-length, take-suc, get_or-append_seam, drop-append-add}
-pub use Rattle.std.proofs.lemmas.Bool.{cases_Bool, or_from, or_parts, cases_lt, eqb-true}
+pub use Rattle.std.proofs.lemmas.Bool.{cases_Bool, or_from, cases_lt, eqb-true}
 pub use Rattle.std.proofs.lemmas.List.{drop-append-le, take-append-le}
 pub use Rattle.std.proofs.lemmas.Str.{encodes-append, IsUtf8-take, IsCharBoundary-after_ascii, IsCharBoundary-from_drop}
 pub use Rattle.std.proofs.str.Laws.{scalars-append}
@@ -19,7 +19,7 @@ pub use Rattle.nf_filter.specs.Faults.{answer_at_end, bad_byte, bad_under, first
 pub use Rattle.nf_filter.specs.Feeding.{IsLeft}
 pub use Rattle.nf_filter.specs.Filter.{base_of, StandsAfter, offset_of, state_of, is_spent}
 unfoldable pub use Rattle.nf_filter.specs.Finishes.{end_of, final_utf8}
-pub use Rattle.nf_filter.specs.Finishes.{answer_or, end_under, final_under, is_taken, tally_of, whole_or, Finishes}
+pub use Rattle.nf_filter.specs.Finishes.{answer_or, end_under, tally_of, Finishes}
 pub use Rattle.nf_filter.specs.Laws.Settled.{text_under-none, settled_utf8-none}
 pub use Rattle.nf_filter.specs.Policy.{allowed, len_under, text_under, whole_under, as_is}
 unfoldable pub use Rattle.nf_filter.specs.Settled.{settled, settled_utf8}

@@ -1,5 +1,5 @@
 -- What driving line by line comes to.
-use Rattle.nf_lines.proofs.Common.{Bool, fed_by, refused_by, ◌≡◌, ℕ, ◌<◌, ◌≤◌, ◌^◌, true, false, List, [], ◌++◌, length, Some, None, Result, Ok, Err, inl, ⊎_elim, refl, sym, ap, subst, ◌∙◌, arith, append-nil, length-append, OnOk, IsTrue, result_err, Consumes, IsAtEnd, Properties, Form, Fault, TooLong, Read, Write, State, Policy, Tally, SinkState, SourceState, settled_utf8-none, settled_utf8, fault_in, IsOfFinishing, base_of, StandsAfter, end_of, final_utf8, Finishes, StandsAfter-no_fault, StandsAfter-fits, Puts-none, Puts-join, Puts-at, BreaksOff-join, BreaksOff-at, EndsInLineFeed, end_fault, StandAlone, Lines, bytes_of, HasLines, StopsLines, DrivesLines}
+use Rattle.nf_lines.proofs.Common.{Bool, fed_by, refused_by, ◌≡◌, ℕ, ◌<◌, ◌≤◌, ◌^◌, true, false, List, [], ◌++◌, length, Some, None, Result, Ok, Err, inl, ⊎_elim, refl, sym, ap, subst, ◌∙◌, arith, append-nil, length-append, OnOk, IsTrue, result_err, Consumes, IsAtEnd, Properties, Form, Fault, TooLong, Read, Write, State, Policy, Tally, SinkState, SourceState, settled_utf8-none, settled_utf8, fault_in, base_of, StandsAfter, end_of, final_utf8, Finishes, StandsAfter-no_fault, StandsAfter-fits, Puts-none, Puts-join, Puts-at, BreaksOff-join, BreaksOff-at, EndsInLineFeed, end_fault, StandAlone, Lines, bytes_of, HasLines, StopsLines, DrivesLines}
 use Rattle.nf_filter.specs.Drives.{due_utf8}
 use Rattle.nf_lines.proofs.AloneLemmas.{final-none}
 use Rattle.nf_lines.proofs.StepLemmas.{joins, Puts-past, BreaksOff-past, too_long_or_not}
@@ -28,8 +28,9 @@ write_told : (r : Result Tally Fault) → untold r ≡ Err Write → r ≡ Err W
 write_told (Ok tally) e = cc
 write_told (Err fault) e = ap refused_by (let same : fault ≡ Write = cc in same)
 
-pub not_long : (fault : Fault) → IsOfFinishing fault → ¬ (refused_by fault ≡ Err TooLong)
-not_long fault may e = let same : fault ≡ TooLong = cc in rw same at may
+-- a fault that may be answered is none that may not
+pub not_among : {T : Type 0} (IsAmong : Fault → Type 0) (other fault : Fault) → ¬ (IsAmong other) → IsAmong fault → ¬ (◌≡◌ {A = Result T Fault} (Err fault) (Err other))
+not_among IsAmong other fault never may e = let same : fault ≡ other = cc in never (subst IsAmong same may)
 
 module _ (policy : Policy) (f : Form) (p : Properties) (alone : (base : ℕ) (lines rest : List ℕ) → EndsInLineFeed lines → fault_in policy p base lines ≡ None → StandAlone policy f p base lines rest) (most : ℕ) (source left : SourceState) (old : SinkState) (t : Lines) where
   never : {A : Type 0} → left.is_at_end ≡ false → IsTrue left.is_at_end → A

@@ -1,13 +1,13 @@
 -- The names that most of these proofs cite, passed on from one place. Declares nothing.
 pub use Rattle.std.proofs.Common.{Bor, ◌≡◌, ℕ, ◌+◌, ◌≤◌, ◌<◌, true, false, List, [], ◌∷◌, ◌++◌, length, take, Option, Some, None, is_some, refl, sym, ap, ◌∙◌, arith, ◌-◌, ◌⊎◌, inl, inr, ⊎_elim, drop, get_or, append_assoc, option_map, append-nil, zero, suc, ◌*◌, Bool, ◌&&◌, nat_le, Ok, Err, rules, if◌then◌else◌, ◌||◌, Result, subst, OnOk, is_ok, take_all, codes, bytes_eq, encode_utf8_all, IsUtf8, slice_range, eq-eqb, ne_eqb, cond, slice_index_or, not, add-zero, count_by, nat_eq, MatchResult, IsErr, IsErrAnd, All, find, IfOk, sum_by, string_bytes, encode_utf8, IsNone, tests, ◌==◌, IfErr, pos_of_ne-zero}
 pub use Rattle.std.proofs.Math.Bool.{or-false, or_assoc}
-pub use Rattle.std.proofs.Math.Seq.{take-length, take-add, take-append-add}
-pub use Rattle.std.proofs.lemmas.Bool.{and_parts, false≢true, false_from_ne_true, cases_order, cases_lt, lt-leb, le-leb, and_from, ltb-true, lt-ltb, le-ltb, eqb-true, leb-true, true_from_ne_false, eqb-false, and_right}
+pub use Rattle.std.proofs.Math.Seq.{take-length, take-append-add}
+pub use Rattle.std.proofs.lemmas.Bool.{and_parts, false≢true, false_from_ne_true, cases_order, cases_lt, le-leb, and_from, ltb-true, lt-ltb, le-ltb, eqb-true, leb-true, true_from_ne_false, eqb-false, and_right}
 pub use Rattle.std.proofs.lemmas.Bool.Decides.{nat_tests, same_from_decides}
 pub use Rattle.std.proofs.lemmas.List.{take_more, length-append, take_at, drop_more, take-append-drop, length_push, length-drop, drop-append-le, take-append-le, drop_at, drop_all, length-take-le, get_or_default, nil_from_length, take_rest, map_push}
-pub use Rattle.std.proofs.lemmas.List.Folds.{list_all-append, find-append}
+pub use Rattle.std.proofs.lemmas.List.Folds.{find-append}
 pub use Rattle.std.proofs.lemmas.List.Splits.{slice_split_first, slice_split_none, slice_split_at}
-pub use Rattle.std.proofs.lemmas.List.Sums.{fold_push, AllPass-from_list_all, fails_before_first, prefix_len-le-length, sum_by_push, count_by-le-length, sum_by-cons, position_or_len_is, prefix_len_is, suffix_len_is}
+pub use Rattle.std.proofs.lemmas.List.Sums.{AllPass-from_list_all, fails_before_first, prefix_len-le-length, sum_by_push, count_by-le-length, sum_by-cons, position_or_len_is, prefix_len_is, suffix_len_is}
 pub use Rattle.std.proofs.lemmas.Slice.Eq.{bytes_eq-Decides, slice_eq-Decides}
 pub use Rattle.std.proofs.lemmas.Str.{encodes_same, length-encode, len_utf8_bounds, encodes-append}
 pub use Rattle.std.proofs.result.Match.{if_ok_if}
@@ -16,13 +16,12 @@ pub use Rattle.std.specs.Io.KnownBytes.{Consumes}
 pub use Rattle.std.specs.List.{list_all, slice_split, onto_first, before_first, after_first, position_or_len, list_any}
 pub use Rattle.std.specs.Option.{option_or}
 unfoldable pub use Rattle.nf_filter.specs.Settled.{is_usable}
-pub use Rattle.nf_filter.specs.Settled.{usable}
 pub use Rattle.nf_forms.specs.Properties.{Properties}
 unfoldable pub use Rattle.nf_forms.specs.SafeForm.{safe_form}
 pub use Rattle.nf_forms.specs.Sound.{is_sound}
 pub use Rattle.nf_forms.specs.declared.form.Form.{Form}
 pub use Rattle.nf_forms.specs.declared.form.Form.TheVariants.{Nfc, Nfd, Nfkc, Nfkd}
-pub use Rattle.nf_safe.specs.Place.{is_in_format, place, place_at, place_from}
+pub use Rattle.nf_safe.specs.Place.{is_in_format, place, place_from}
 pub use Rattle.nf_safe.specs.declared.place.Place.{Place}
 pub use Rattle.nf_vectors.specs.Columns.{Columns, at, each}
 unfoldable pub use Rattle.nf_vectors.specs.Comparison.{sound_front, leaves_format, holds, broken_column, is_skipped}
@@ -39,7 +38,7 @@ pub use Rattle.nf_vectors.specs.Report.{is_skip, is_pass, is_failure, failure_or
 pub use Rattle.nf_vectors.specs.RunsOut.{RunsOut}
 pub use Rattle.nf_vectors.specs.Standing.{StandsAfter, EndsLine, IsWithin}
 unfoldable pub use Rattle.nf_vectors.specs.Suite.{judged}
-pub use Rattle.nf_vectors.specs.Suite.{part_behind, is_part1_line, rows_from, names_part1_from, fault_or, last_fault, first_fault, unmarked, VectorRow, row_at}
+pub use Rattle.nf_vectors.specs.Suite.{part_behind, is_part1_line, rows_from, names_part1_from, fault_or, last_fault, first_fault, unmarked, VectorRow}
 unfoldable pub use Rattle.nf_vectors.specs.SuiteView.{rows_of}
 pub use Rattle.nf_vectors.specs.SuiteView.{rows_in, row_of}
 unfoldable pub use Rattle.nf_vectors.specs.Sweep.{is_unchanged, below, sweep_below, sweep_of}

@@ -1,10 +1,7 @@
-use Rattle.nf_lines.proofs.Common.{◌≡◌, true, false, ◌∙◌, [], length, take, Ok, Err, Result, Fault, Read, IsOfFinishing, refl, sym, subst, arith, rules, append-nil, length-take, eq-eqb, ne_eqb, Consumes, ucd, as_is, bytes_of}
+use Rattle.nf_lines.proofs.Common.{TooLong, ◌≡◌, true, false, ◌∙◌, [], length, take, Ok, Err, Read, IsOfFinishing, refl, sym, subst, arith, rules, append-nil, length-take, eq-eqb, ne_eqb, Consumes, ucd, as_is, bytes_of}
 use Rattle.std.proofs.KnownBytes.{Consumes-kept, Consumes-nil, Consumes-trans}
-use Rattle.nf_lines.proofs.DrivesLemmas.{HasLines-none, drives-stopped, drives-failed, drives-finished, not_long}
+use Rattle.nf_lines.proofs.DrivesLemmas.{HasLines-none, drives-stopped, drives-failed, drives-finished, not_among}
 use Rattle.nf_lines.proofs.driving.drive_lines.Goals as goal
-
-not_read_end : (fault : Fault) → IsOfFinishing fault → ¬ (◌≡◌ {A = Result (Unit {0}) Fault} (Err fault) (Err Read))
-not_read_end fault may e = let same : fault ≡ Read = cc in rw same at may
 
 pub returns-in-Err-feed_lines-clause-read : goal.returns-in-Err-feed_lines-clause-read
 returns-in-Err-feed_lines-clause-read g c =
@@ -19,7 +16,7 @@ returns-in-Ok-finish-clause-read g c = (λ e. cc, λ failed. (let absent : true 
 
 pub returns-in-Err-finish-clause-read : goal.returns-in-Err-finish-clause-read
 returns-in-Err-finish-clause-read g c = (
-  λ e. absurd (not_read_end c.in-Err-finish.fault c.in-Err-finish.ensures.faults e),
+  λ e. absurd (not_among IsOfFinishing Read c.in-Err-finish.fault (λ among. among) c.in-Err-finish.ensures.faults e),
   λ failed. (let absent : true ≡ false = sym failed ∙ c.in-Ok.ensures.stands.1 in cc),
 )
 
@@ -77,5 +74,5 @@ returns-in-Err-finish-clause-drives g c =
     let given = subst (λ l. Consumes (g.I.Source.state c.args.source.now).coming (g.I.Source.state c.get.new.self).coming l) (append-nil (bytes_of read.0))
     (Consumes-trans _ _ _ (bytes_of read.0) [] read.1 (subst (λ n. Consumes (g.I.Source.state c.loop-given.source).coming (g.I.Source.state c.get.new.self).coming (take n c.get.new.buf)) c.if-given-eq0.true c.in-Ok.ensures.given)) in
     drives-finished c.args.policy c.args.form ucd (c.lines_stand_alone.ensures c.args.policy c.args.form) (length c.args.buffer.now) _ _ _ read.0 _ _ read.2 _ (Err c.in-Err-finish.fault)
-    (c.in-Ok.ensures.end ∙ eq-eqb c.in-Ok.given 0 c.if-given-eq0.true) (c.in-Ok.ensures.read_out c.if-given-eq0.true) given (not_long c.in-Err-finish.fault c.in-Err-finish.ensures.faults)
+    (c.in-Ok.ensures.end ∙ eq-eqb c.in-Ok.given 0 c.if-given-eq0.true) (c.in-Ok.ensures.read_out c.if-given-eq0.true) given (not_among IsOfFinishing TooLong c.in-Err-finish.fault (λ among. among) c.in-Err-finish.ensures.faults)
     (c.in-Err-finish.ensures.finishes c.args.policy c.args.form read.0.rest read.2.stands)
