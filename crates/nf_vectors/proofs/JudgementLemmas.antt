@@ -15,11 +15,8 @@ judged-by n line t is = ap (λ t. judgement (if t then unmarked line else line))
 -- a column stands where it was put, whatever was put behind it
 held : (t0 t1 text column more : List ℕ) (i j : ℕ) → t1 ≡ t0 ++ column → text ≡ t1 ++ more → i ≡ length t0 → j ≡ length t1 → column ≡ slice_range text i j
 held t0 t1 text column more i j first rest start end =
-    sym (ap (λ t. slice_range t i j) rest ∙ slice_range-append t1 more i j (omega (arith, start, end, ap len first, length-append t0 column)) (omega (arith, end))
-    ∙ ap (λ t. slice_range t i j) first ∙ slice_range-last t0 column i j start (end ∙ ap len first))
-  where
-    len : List ℕ → ℕ
-    len l = length l
+    sym (ap (λ t. slice_range t i j) rest ∙ slice_range-append t1 more i j (omega (arith, start, end, ap length first, length-append t0 column)) (omega (arith, end))
+    ∙ ap (λ t. slice_range t i j) first ∙ slice_range-last t0 column i j start (end ∙ ap length first))
 
 module _ (t0 t1 t2 t3 t4 t5 source nfc nfd nfkc nfkd : List ℕ) (n0 n1 n2 n3 n4 n5 : ℕ) where
   pub columns-held : t1 ≡ t0 ++ source → t2 ≡ t1 ++ nfc → t3 ≡ t2 ++ nfd → t4 ≡ t3 ++ nfkc → t5 ≡ t4 ++ nfkd

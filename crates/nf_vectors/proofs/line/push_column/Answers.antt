@@ -40,33 +40,27 @@ returns-in_err-c-clause-column c =
     refused c.args.column.now (YieldsList-from_slice_split _ is_gap c.args.column.now (cc) (cc) (cc) (λ x b q k. search (rules, tests))) c.loop-word.yielded _ c.loop-word.yielded_by read.0 read.2 _ _
     c.in-Some.word c.in-Some.is c.next.ensures.steps c.in_err-c.field-0.0 (eqb-false _ _ (sym c.is_empty.ensures ∙ c.if-is_empty.false)) (sym c.in_err-c.ensures.value)))
 
-len : List ℕ → ℕ
-len l = length l
-
 pub returns-then-len-start-clause-column : goal.returns-then-len-start-clause-column
-unfolding len
 returns-then-len-start-clause-column c = λ _.
     let read = c.loop-word.invariant.read in
     let codes = whole c.args.column.now (YieldsList-from_slice_split _ is_gap c.args.column.now (cc) (cc) (cc) (λ x b q k. search (rules, tests))) c.loop-word.yielded _ c.loop-word.yielded_by
     read.0 read.2 _ _ c.in-None.is c.next.ensures.steps in
-    column_in-empty c.args.column.now read.0 codes (omega (arith, ap len read.1, length-append c.args.text.now.items read.0, c.loop-word.text.ok.0, c.args.text.now.ok.0, c.if-len-start.true))
+    column_in-empty c.args.column.now read.0 codes (omega (arith, ap length read.1, length-append c.args.text.now.items read.0, c.loop-word.text.ok.0, c.args.text.now.ok.0, c.if-len-start.true))
 
 pub overflow_cast-result : goal.overflow_cast-result
-unfolding len
 overflow_cast-result c =
     let read = c.loop-word.invariant.read in
     let codes = whole c.args.column.now (YieldsList-from_slice_split _ is_gap c.args.column.now (cc) (cc) (cc) (λ x b q k. search (rules, tests))) c.loop-word.yielded _ c.loop-word.yielded_by
     read.0 read.2 _ _ c.in-None.is c.next.ensures.steps in
-    omega (arith, codes-le c.args.column.now read.0 codes, ap len read.1, length-append c.args.text.now.items read.0, c.loop-word.text.ok.0, c.requires)
+    omega (arith, codes-le c.args.column.now read.0 codes, ap length read.1, length-append c.args.text.now.items read.0, c.loop-word.text.ok.0, c.requires)
 
 pub returns : goal.returns
-unfolding len
 returns c =
     let read = c.loop-word.invariant.read in
     let codes = whole c.args.column.now (YieldsList-from_slice_split _ is_gap c.args.column.now (cc) (cc) (cc) (λ x b q k. search (rules, tests))) c.loop-word.yielded _ c.loop-word.yielded_by
     read.0 read.2 _ _ c.in-None.is c.next.ensures.steps in
     let le = codes-le c.args.column.now read.0 codes in
-    let sum = ap len read.1 ∙ length-append c.args.text.now.items read.0 in
+    let sum = ap length read.1 ∙ length-append c.args.text.now.items read.0 in
     record {
       len = (omega (arith, c.loop-word.text.ok.0), omega (arith, sum, c.loop-word.text.ok.0), omega (arith, sum, le, c.loop-word.text.ok.0));
       column = (read.0, column_in-some c.args.column.now read.0 codes (λ none. c.if-len-start.false (omega (arith, none, sum, c.loop-word.text.ok.0, c.args.text.now.ok.0))), read.1);
