@@ -62,28 +62,25 @@ column_in-empty column [] e none = ap some_or_empty e
 column_in-empty column (c ∷ cs) e none = absurd (omega arith)
 
 -- there are no more code points than bytes
-abbrev len : List ℕ → ℕ
-len word = length word
-
-code_points-le : (words : List (List ℕ)) → IfOk (code_points words) (λ codes. length codes ≤ sum_by len words)
+code_points-le : (words : List (List ℕ)) → IfOk (code_points words) (λ codes. length codes ≤ sum_by length words)
 code_points-le [] = omega arith
-code_points-le ([] ∷ words) = IfOk-weaker (code_points words) _ _ (λ codes le. omega (arith, le, sum_by-cons len [] words)) (code_points-le words)
+code_points-le ([] ∷ words) = IfOk-weaker (code_points words) _ _ (λ codes le. omega (arith, le, sum_by-cons length [] words)) (code_points-le words)
 code_points-le ((b ∷ bs) ∷ words) = next (code_point (b ∷ bs)) (code_points words) (code_points-le words)
   where
-    next : (r : Result ℕ VectorKind) (rs : Result (List ℕ) VectorKind) → IfOk rs (λ codes. length codes ≤ sum_by len words) → IfOk (then_codes r rs) (λ codes. length codes ≤ sum_by len ((b ∷ bs) ∷ words))
+    next : (r : Result ℕ VectorKind) (rs : Result (List ℕ) VectorKind) → IfOk rs (λ codes. length codes ≤ sum_by length words) → IfOk (then_codes r rs) (λ codes. length codes ≤ sum_by length ((b ∷ bs) ∷ words))
     next (Err kind) rs le = tt
     next (Ok c) (Err kind) le = tt
-    next (Ok c) (Ok cs) le = omega (arith, le, sum_by-cons len (b ∷ bs) words)
+    next (Ok c) (Ok cs) le = omega (arith, le, sum_by-cons length (b ∷ bs) words)
 
-split-le : (p : ℕ → Bool) (bytes : List ℕ) → sum_by len (slice_split p bytes) ≤ length bytes
-split-le p [] = omega (arith, sum_by-cons len [] [])
+split-le : (p : ℕ → Bool) (bytes : List ℕ) → sum_by length (slice_split p bytes) ≤ length bytes
+split-le p [] = omega (arith, sum_by-cons (length {A = ℕ}) [] [])
 split-le p (b ∷ bytes) = next (p b) (slice_split p bytes) (split-le p bytes)
   where
-    next : (e : Bool) (parts : List (List ℕ)) → sum_by len parts ≤ length bytes → sum_by len (cond e ([] ∷ parts) (onto_first b parts)) ≤ length (b ∷ bytes)
-    next true parts le = omega (arith, le, sum_by-cons len [] parts)
-    next false [] le = omega (arith, sum_by-cons len (b ∷ []) [])
-    next false (part ∷ parts) le = omega (arith, le, sum_by-cons len part parts, sum_by-cons len (b ∷ part) parts)
+    next : (e : Bool) (parts : List (List ℕ)) → sum_by length parts ≤ length bytes → sum_by length (cond e ([] ∷ parts) (onto_first b parts)) ≤ length (b ∷ bytes)
+    next true parts le = omega (arith, le, sum_by-cons length [] parts)
+    next false [] le = omega (arith, sum_by-cons length (b ∷ []) [])
+    next false (part ∷ parts) le = omega (arith, le, sum_by-cons length part parts, sum_by-cons length (b ∷ part) parts)
 
 pub codes-le : (column codes : List ℕ) → code_points (slice_split is_gap column) ≡ Ok codes → length codes ≤ length column
 codes-le column codes e =
-    omega (arith, IfOk-at_ok (λ codes. length codes ≤ sum_by len (slice_split is_gap column)) e (code_points-le (slice_split is_gap column)), split-le is_gap column)
+    omega (arith, IfOk-at_ok (λ codes. length codes ≤ sum_by length (slice_split is_gap column)) e (code_points-le (slice_split is_gap column)), split-le is_gap column)

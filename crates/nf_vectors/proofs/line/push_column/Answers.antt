@@ -1,4 +1,4 @@
-use Rattle.nf_vectors.proofs.Common.{some_or_empty, ◌++◌, ◌∙◌, ℕ, List, [], ◌∷◌, length, sym, ap, arith, rules, tests, append_assoc, eqb-true, eqb-false, length-append, is_gap, column_in}
+use Rattle.nf_vectors.proofs.Common.{some_or_empty, ◌++◌, ◌∙◌, [], ◌∷◌, length, sym, ap, arith, rules, tests, append_assoc, eqb-true, eqb-false, length-append, is_gap, column_in}
 use Rattle.std.proofs.lemmas.Iterator.Splits.{YieldsList-from_slice_split}
 use Rattle.nf_vectors.proofs.RowLemmas.{refused_by}
 use Rattle.nf_vectors.proofs.WordLemmas.{skipped, pushed, refused, whole, column_in-some, column_in-empty, codes-le}
