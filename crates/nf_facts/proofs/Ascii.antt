@@ -1,5 +1,5 @@
 -- ASCII characters are plain in Unicode's data.
-use Rattle.std.proofs.Common.{◌≡◌, ℕ, ◌<◌, true, not, ◌||◌, List, [], ◌∷◌, refl, sym, ap, ◌∙◌, arith, le-leb, zero-le}
+use Rattle.std.proofs.Common.{◌≡◌, ℕ, ◌<◌, true, not, ◌||◌, List, [], ◌∷◌, refl, ap, arith, le-leb, zero-le}
 use Rattle.std.proofs.lemmas.Bool.{and_from, or_left}
 use Rattle.ucd_table.specs.Rows.{Range, in_ranges}
 use Rattle.ucd_table.proofs.Stepped.{Stepped, of_ranges, map_stepped, zip_stepped}
@@ -8,14 +8,14 @@ use Rattle.ucd_table.proofs.Computing.{tables}
 use Rattle.ucd_category.specs.GeneralCategory.{general_category, general_category_eq}
 use Rattle.ucd_category.specs.declared.GeneralCategory.TheVariants.{Unassigned}
 use Rattle.ucd_category.proofs.GeneralCategoryLemmas.{general_category_stepped}
-use Rattle.ucd_normal.specs.declared.forms.Form.TheVariants.{Nfd as KitNfd, Nfkd as KitNfkd, Nfc as KitNfc}
+use Rattle.ucd_normal.specs.declared.forms.Form.TheVariants.{Nfkd as KitNfkd, Nfc as KitNfc}
 use Rattle.unicode_normalization.proofs.ComposedForms.{IsComposed-Nfc, never_second}
-use Rattle.unicode_normalization.proofs.DecomposeLemmas.{decompose-final}
-use Rattle.unicode_normalization.proofs.FormsLemmas.{class-latin, quick_check-ascii, is_final-Nfd, is_final-Nfkd}
+use Rattle.unicode_normalization.proofs.FormsLemmas.{class-latin, quick_check-ascii}
 use Rattle.unicode_normalization.proofs.TableFacts.{is_yes}
 use Rattle.nf_forms.specs.Ucd.{ucd, is_assigned}
 use Rattle.nf_facts.specs.Plain.{IsPlain}
 use Rattle.nf_facts.proofs.Ranges.{none_fails, none_fails-true}
+use Rattle.nf_facts.proofs.Rows.{own_row-passing}
 
 ascii : List Range
 ascii = (0x00, 0x7F) ∷ []
@@ -29,16 +29,15 @@ assigned_there =
 assigned-ascii : (c : ℕ) → c < 0x80 → is_assigned c ≡ true
 unfolding assigned_there none_fails
 assigned-ascii c below =
-    let all = none_fails-true _ assigned_there refl c in
-    let inside : in_ranges ascii c ≡ true = or_left _ _ (and_from _ _ (le-leb 0 c zero-le) (le-leb c 0x7F (omega arith))) in
-    ap (λ b. not b || is_assigned c) (sym inside) ∙ all
+    none_fails-true ascii is_assigned assigned_there refl c (or_left _ _ (and_from _ _ (le-leb 0 c zero-le) (le-leb c 0x7F (omega arith))))
 
 pub IsPlain-ascii : (c : ℕ) → c < 0x80 → IsPlain ucd c
 unfolding ucd
 IsPlain-ascii c below =
+    let own = own_row-passing c (quick_check-ascii KitNfkd c below) in
     record {
-      canonical = decompose-final KitNfd c (is_final-Nfd c (quick_check-ascii KitNfd c below));
-      compat = decompose-final KitNfkd c (is_final-Nfkd c (quick_check-ascii KitNfkd c below));
+      canonical = own.canonical;
+      compat = own.compat;
       class = class-latin c (omega arith);
       assigned = assigned-ascii c below;
       never_second = never_second KitNfc IsComposed-Nfc c (ap is_yes (quick_check-ascii KitNfc c below));

@@ -41,10 +41,8 @@ compat-sink c (d ∷ ds) first rest =
       | inl past ↦
           let classes = is_reorderable-true c d past in
           let parts = and_parts (is_fixed d) (list_all is_fixed ds) rest in
-          let low = classes.0 in
-          let high = classes.1 in
-          let of_c = compat-fixed c first (mark_at c (omega arith)) in
-          let of_d = compat-fixed d parts.0 (mark_at d low) in
+          let of_c = compat-fixed c first (mark_at c (omega (arith, classes.0, classes.1))) in
+          let of_d = compat-fixed d parts.0 (mark_at d classes.0) in
           ap (λ w. canonical_order (flat_map compat_of w)) (sink-past c d ds past)
           ∙ ap (λ w. canonical_order (w ++ flat_map compat_of (sink c ds))) of_d
           ∙ behind (d ∷ []) (flat_map compat_of (sink c ds)) (compat_of c ++ flat_map compat_of ds) (compat-sink c ds first parts.1)
@@ -80,22 +78,19 @@ nfkd-nfd x = compat-order (flat_map (decompose KitNfd) x) (fixed-rows x) ∙ ap 
 nfkd-nfc : (x : List ℕ) → nfkd (nfc x) ≡ nfkd x
 nfkd-nfc x = sym (nfkd-nfd (nfc x)) ∙ ap nfkd (nfd-nfc x) ∙ nfkd-nfd x
 
-nfkc-nfd : (x : List ℕ) → nfkc (nfd x) ≡ nfkc x
-nfkc-nfd x = nfkc-by_nfkd (nfd x) ∙ ap kit_compose (nfkd-nfd x) ∙ sym (nfkc-by_nfkd x)
-
-nfkc-nfc : (x : List ℕ) → nfkc (nfc x) ≡ nfkc x
-nfkc-nfc x = nfkc-by_nfkd (nfc x) ∙ ap kit_compose (nfkd-nfc x) ∙ sym (nfkc-by_nfkd x)
+nfkc-same : (x y : List ℕ) → nfkd x ≡ nfkd y → nfkc x ≡ nfkc y
+nfkc-same x y e = nfkc-by_nfkd x ∙ ap kit_compose e ∙ sym (nfkc-by_nfkd y)
 
 -- ---- two forms
 
 normalize-after : (f g : Form) (x : List ℕ) → normalize (kit_form g) (normalize (kit_form f) x) ≡ normalize (kit_form (after g f)) x
 normalize-after Nfc Nfc x = normalize_idem KitNfc x
 normalize-after Nfc Nfd x = nfd-nfc x
-normalize-after Nfc Nfkc x = nfkc-nfc x
+normalize-after Nfc Nfkc x = nfkc-same _ x (nfkd-nfc x)
 normalize-after Nfc Nfkd x = nfkd-nfc x
 normalize-after Nfd Nfc x = nfc-nfd x
 normalize-after Nfd Nfd x = normalize_idem KitNfd x
-normalize-after Nfd Nfkc x = nfkc-nfd x
+normalize-after Nfd Nfkc x = nfkc-same _ x (nfkd-nfd x)
 normalize-after Nfd Nfkd x = nfkd-nfd x
 normalize-after Nfkc Nfc x = nfc-nfkc x
 normalize-after Nfkc Nfd x = nfd-nfkc x
@@ -134,10 +129,7 @@ unfolding safe_form
 safe_form-after f g x = ap (normal_form g ucd) (stream_safe-safe_form f x) ∙ normal_form-after f g (stream_safe ucd x)
 
 pub safe_form-twice : (f : Form) (x : List ℕ) → safe_form f ucd (safe_form f ucd x) ≡ safe_form f ucd x
-safe_form-twice f x = safe_form-after f f x ∙ ap (λ g. safe_form g ucd x) (itself f)
-  where
-    itself : (f : Form) → after f f ≡ f
-    itself Nfc = refl
-    itself Nfd = refl
-    itself Nfkc = refl
-    itself Nfkd = refl
+safe_form-twice Nfc = safe_form-after Nfc Nfc
+safe_form-twice Nfd = safe_form-after Nfd Nfd
+safe_form-twice Nfkc = safe_form-after Nfkc Nfkc
+safe_form-twice Nfkd = safe_form-after Nfkd Nfkd

@@ -6,7 +6,7 @@ mod SameForms
 mod SameSafe
 mod FormsAfter
 mod Scalars
-mod Refused
+pub mod Refused
 mod Halfwidth
 mod Starters
 mod Marks

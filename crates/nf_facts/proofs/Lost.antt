@@ -12,21 +12,13 @@ use Rattle.nf_facts.proofs.FormsAfter.{safe_form-after}
 ligature : List ℕ
 ligature = 0xFB01 ∷ []
 
-in_nfc : safe_form Nfc ucd ligature ≡ 0xFB01 ∷ []
+in_canonical : (safe_form Nfc ucd ligature ≡ 0xFB01 ∷ []) × (safe_form Nfd ucd ligature ≡ 0xFB01 ∷ [])
 unfolding ligature safe_form by_class ucd unicode_normalization
-in_nfc = refl
+in_canonical = (refl, refl)
 
-in_nfd : safe_form Nfd ucd ligature ≡ 0xFB01 ∷ []
+in_compatible : (safe_form Nfkc ucd ligature ≡ 0x66 ∷ 0x69 ∷ []) × (safe_form Nfkd ucd ligature ≡ 0x66 ∷ 0x69 ∷ [])
 unfolding ligature safe_form by_class ucd unicode_normalization
-in_nfd = refl
-
-in_nfkc : safe_form Nfkc ucd ligature ≡ 0x66 ∷ 0x69 ∷ []
-unfolding ligature safe_form by_class ucd unicode_normalization
-in_nfkc = refl
-
-in_nfkd : safe_form Nfkd ucd ligature ≡ 0x66 ∷ 0x69 ∷ []
-unfolding ligature safe_form by_class ucd unicode_normalization
-in_nfkd = refl
+in_compatible = (refl, refl)
 
 apart : (x y : List ℕ) → x ≡ 0x66 ∷ 0x69 ∷ [] → y ≡ 0xFB01 ∷ [] → x ≢ y
 apart x y is other same = let clash : 0x66 ∷ 0x69 ∷ [] ≡ 0xFB01 ∷ [] = sym is ∙ same ∙ other in cc
@@ -37,11 +29,11 @@ direct f g same x = safe_form-after f g x ∙ ap (λ h. safe_form h ucd x) same
 pub lost : (f g : Form) → after g f ≢ g → (x : List ℕ) × (safe_form g ucd (safe_form f ucd x) ≢ safe_form g ucd x)
 lost Nfc g other = absurd (other refl)
 lost Nfd g other = absurd (other refl)
-lost Nfkc Nfc other = (ligature, apart _ _ (safe_form-after Nfkc Nfc ligature ∙ in_nfkc) in_nfc)
-lost Nfkc Nfd other = (ligature, apart _ _ (safe_form-after Nfkc Nfd ligature ∙ in_nfkd) in_nfd)
+lost Nfkc Nfc other = (ligature, apart _ _ (safe_form-after Nfkc Nfc ligature ∙ in_compatible.0) in_canonical.0)
+lost Nfkc Nfd other = (ligature, apart _ _ (safe_form-after Nfkc Nfd ligature ∙ in_compatible.1) in_canonical.1)
 lost Nfkc Nfkc other = absurd (other refl)
 lost Nfkc Nfkd other = absurd (other refl)
-lost Nfkd Nfc other = (ligature, apart _ _ (safe_form-after Nfkd Nfc ligature ∙ in_nfkc) in_nfc)
-lost Nfkd Nfd other = (ligature, apart _ _ (safe_form-after Nfkd Nfd ligature ∙ in_nfkd) in_nfd)
+lost Nfkd Nfc other = (ligature, apart _ _ (safe_form-after Nfkd Nfc ligature ∙ in_compatible.0) in_canonical.0)
+lost Nfkd Nfd other = (ligature, apart _ _ (safe_form-after Nfkd Nfd ligature ∙ in_compatible.1) in_canonical.1)
 lost Nfkd Nfkc other = absurd (other refl)
 lost Nfkd Nfkd other = absurd (other refl)

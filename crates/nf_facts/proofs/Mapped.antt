@@ -1,10 +1,12 @@
 -- What is so of each character with a decomposition mapping, by one computation over the tables.
-use Rattle.std.proofs.Common.{◌≡◌, ℕ, Bool, true, false, not, ◌&&◌, ◌||◌, ◌==◌, List, flat_map, refl, ap, ap₂, ◌∙◌, inl, inr, eq-eqb, eqb-true}
-use Rattle.std.proofs.lemmas.Bool.{cases_Bool, and_from, and_parts, not_from_false}
+use Rattle.std.proofs.Common.{◌≡◌, ℕ, ◌≤◌, ◌<◌, ◌+◌, ◌-◌, ◌/◌, ◌%◌, Bool, true, false, not, ◌&&◌, ◌||◌, ◌==◌, List, [], ◌∷◌, flat_map, refl, sym, ap, ap₂, subst, ◌∙◌, inl, inr, arith, eqb-true}
+use Rattle.std.proofs.lemmas.Bool.{cases_Bool, cases_eq, and_from, and_parts, not_from_false}
+use Rattle.std.proofs.lemmas.Bool.Decides.{nat_tests}
 use Rattle.std.specs.List.{list_all}
 use lib.Utf8.{scalar}
 use Rattle.ucd_table.proofs.GroupsCheck.{same_string, same_string-true}
 use Rattle.ucd_table.proofs.RangedFacts.{Stepped-at_points}
+use Rattle.ucd_normal.specs.declared.forms.Form.{Form}
 use Rattle.ucd_normal.specs.declared.forms.Form.TheVariants.{Nfd, Nfkd}
 use Rattle.ucd_normal.specs.CanonicalCombiningClass.{canonical_combining_class as ccc}
 use Rattle.ucd_normal.specs.Decomposition.{decomposition, or_itself}
@@ -12,8 +14,9 @@ use Rattle.ucd_normal.proofs.CompositionLemmas.{is_empty}
 use Rattle.ucd_normal.proofs.DecompositionLemmas.{decomposition_stepped}
 use Rattle.unicode_normalization.specs.Decompose.{decompose}
 use Rattle.unicode_normalization.specs.Hangul.{is_syllable}
-use Rattle.unicode_normalization.proofs.DecomposeLemmas.{decompose-other, decompose-mapped, pick-none}
-use Rattle.unicode_normalization.proofs.TableFacts.{Tables, by_rows, full, pick, is_final}
+use Rattle.unicode_normalization.proofs.DecomposeLemmas.{decompose-syllable, decompose-other, decompose-mapped, decompose-final, pick-none}
+use Rattle.unicode_normalization.proofs.HangulLemmas.{is_syllable-true, decompose_hangul-two, decompose_hangul-three}
+use Rattle.unicode_normalization.proofs.TableFacts.{Tables, by_rows, full, pick, class_of_syllable}
 use Rattle.nf_forms.specs.Properties.{Properties}
 use Rattle.nf_forms.specs.Runs.{lead}
 use Rattle.nf_forms.specs.Ordering.{is_ordered}
@@ -107,8 +110,8 @@ mapped c other some =
       agree = first.0;
       joined = same_string-true _ _ within.0;
       fixed = within.1;
-      begins = λ starter sign mark. eqb-true _ 0 (fourth (ccc c == 0) (is_among vowel_signs c) (is_among halfwidth_marks c) _ second.0 (eq-eqb (ccc c) 0 starter) sign mark);
-      starter = λ mark. eqb-true (ccc c) 0 (first_of (ccc c == 0) (is_among mapped_marks c) second.1 mark);
+      begins = begins_from (ccc c) _ (is_among vowel_signs c) (is_among halfwidth_marks c) second.0;
+      starter = starter_from (ccc c) (is_among mapped_marks c) second.1;
       canonical_ordered = ordered.0;
       compat_ordered = ordered.1;
       is_scalar = scalars.0;
@@ -116,26 +119,44 @@ mapped c other some =
       compat_scalars = of_rows.1;
     }
   where
-    fourth : (a b d e : Bool) → (not a || (b || (d || e))) ≡ true → a ≡ true → b ≡ false → d ≡ false → e ≡ true
-    fourth true false false e h i j k = h
-    fourth true false true e h i j k = cc
-    fourth true true d e h i j k = cc
-    fourth false b d e h i j k = cc
+    begins_from : (class n : ℕ) (sign mark : Bool) → (not (class == 0) || (sign || (mark || n == 0))) ≡ true → class ≡ 0 → sign ≡ false → mark ≡ false → n ≡ 0
+    begins_from class n sign mark test starter no_sign no_mark = grind (arith, nat_tests)
 
-    first_of : (a b : Bool) → (a || b) ≡ true → b ≡ false → a ≡ true
-    first_of true b h i = refl
-    first_of false b h i = cc
+    starter_from : (class : ℕ) (mark : Bool) → (class == 0 || mark) ≡ true → mark ≡ false → class ≡ 0
+    starter_from class mark test no_mark = grind (arith, nat_tests)
 
 -- ---- every character is a Hangul syllable, or decomposes no further, or has a mapping
 
-pub by_kind : (c : ℕ) (Q : Type 0) → (is_syllable c ≡ true → Q) → (is_final Nfd c ≡ true → is_final Nfkd c ≡ true → Q) → (IsMapped c → Q) → Q
-by_kind c Q syllable final with_mapping =
+pub class-syllable : (c : ℕ) → is_syllable c ≡ true → ccc c ≡ 0
+class-syllable c syllable = let range = is_syllable-true c syllable in eqb-true (ccc c) 0 (class_of_syllable c range.0 range.1)
+
+pub by_kind : (c : ℕ) (Q : Type 0) → (is_syllable c ≡ true → Q) → (((form : Form) → decompose form c ≡ c ∷ []) → Q) → (IsMapped c → Q) → Q
+by_kind c Q syllable own with_mapping =
     elim (cases_Bool (is_syllable c)) [
       | inl is ↦ syllable is
       | inr other ↦
           elim (cases_Bool (is_empty (pick Nfkd (decomposition c)))) [
-            | inl none ↦
-                final (and_from _ _ (pick-none Nfd c none) (not_from_false _ other)) (and_from _ _ none (not_from_false _ other))
+            | inl none ↦ own (λ form. decompose-final form c (and_from _ _ (pick-none form c none) (not_from_false _ other)))
             | inr some ↦ with_mapping (mapped c other some)
           ]
     ]
+
+-- its two rows are one, or it has a mapping
+pub by_mapping : (c : ℕ) (Q : Type 0) → (decompose Nfd c ≡ decompose Nfkd c → Q) → (IsMapped c → Q) → Q
+by_mapping c Q same =
+    by_kind c Q (λ syllable. same (decompose-syllable Nfd c syllable ∙ sym (decompose-syllable Nfkd c syllable))) (λ own. same (own Nfd ∙ sym (own Nfkd)))
+
+-- its row in a form is made of conjoining Hangul letters, or is the character itself, or comes of a mapping
+pub by_row : (form : Form) (c : ℕ) (Q : List ℕ → Type 0) → Q [] → ((x : ℕ) (w : List ℕ) → 0x1100 ≤ x → x < 0x1200 → Q w → Q (x ∷ w)) → Q (c ∷ [])
+    → (IsMapped c → Q (decompose form c)) → Q (decompose form c)
+by_row form c Q none letter itself =
+    by_kind c _
+    (λ syllable.
+    let range = is_syllable-true c syllable in
+    let behind : (w : List ℕ) → Q w → Q ((0x1100 + (c - 0xAC00) / 588) ∷ (0x1161 + (c - 0xAC00) % 588 / 28) ∷ w) =
+    λ w rest. letter _ _ (omega arith) (omega arith) (letter _ w (omega arith) (omega arith) rest) in
+    subst Q (sym (decompose-syllable form c syllable)) (elim (cases_eq ((c - 0xAC00) % 28) 0) [
+      | inl two ↦ subst Q (sym (decompose_hangul-two c two)) (behind [] none)
+      | inr three ↦ subst Q (sym (decompose_hangul-three c three)) (behind _ (letter _ [] (omega arith) (omega arith) none))
+    ]))
+    (λ own. subst Q (sym (own form)) itself)

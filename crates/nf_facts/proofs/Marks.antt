@@ -1,26 +1,23 @@
 -- A non-starter is its own row, canonical and compatibility, but for those that no form's quick check lets pass.
-use Rattle.std.proofs.Common.{◌≡◌, ◌≢◌, ℕ, ◌<◌, false, refl, arith, eqb-true}
+use Rattle.std.proofs.Common.{◌≡◌, ◌≢◌, ℕ, ◌<◌, false, refl, arith}
 use Rattle.ucd_normal.specs.declared.forms.Form.TheVariants.{Nfd as KitNfd, Nfkd as KitNfkd}
 use Rattle.ucd_normal.specs.declared.forms.QuickCheck.TheVariants.{No}
 use Rattle.ucd_normal.specs.CanonicalCombiningClass.{canonical_combining_class as ccc}
 use Rattle.ucd_normal.specs.QuickCheck.{quick_check}
-use Rattle.unicode_normalization.proofs.DecomposeLemmas.{decompose-final}
-use Rattle.unicode_normalization.proofs.HangulLemmas.{is_syllable-true}
-use Rattle.unicode_normalization.proofs.TableFacts.{class_of_syllable}
 use Rattle.nf_forms.specs.declared.form.Form.{Form}
 use Rattle.nf_forms.specs.Ucd.{ucd}
 use Rattle.nf_forms.specs.Calm.{IsMark}
 use Rattle.nf_facts.specs.KitForm.{kit_form}
 use Rattle.nf_facts.specs.Passing.{is_among, mapped_marks}
-use Rattle.nf_facts.proofs.Mapped.{by_kind}
+use Rattle.nf_facts.proofs.Mapped.{class-syllable, by_kind}
 use Rattle.nf_facts.proofs.Refused.{no_mapped_mark}
 
 pub mark-ucd : (c : ℕ) → 0 < ccc c → is_among mapped_marks c ≡ false → IsMark ucd c (ccc c)
 unfolding ucd
 mark-ucd c above plain =
     by_kind c _
-    (λ syllable. let range = is_syllable-true c syllable in absurd (omega (arith, eqb-true (ccc c) 0 (class_of_syllable c range.0 range.1))))
-    (λ canonical compat. record { class = refl; above = above; canonical = decompose-final KitNfd c canonical; compat = decompose-final KitNfkd c compat })
+    (λ syllable. absurd (omega (arith, class-syllable c syllable)))
+    (λ own. record { class = refl; above = above; canonical = own KitNfd; compat = own KitNfkd })
     (λ mapped. absurd (omega (arith, mapped.starter plain)))
 
 pub mark-passing : (f : Form) (c : ℕ) → 0 < ccc c → quick_check (kit_form f) c ≢ No → IsMark ucd c (ccc c)

@@ -1,6 +1,6 @@
 -- Each character of the plain ranges passes, shown by one computation a form.
-use Rattle.std.proofs.Common.{◌≡◌, ℕ, Bool, true, false, not, ◌&&◌, ◌||◌, ◌==◌, List, [], ◌∷◌, refl, sym, ap, ◌∙◌, ne_eqb}
-use Rattle.std.proofs.lemmas.Bool.{and_parts, and_from, or_from, not-true, not_from_false}
+use Rattle.std.proofs.Common.{◌≡◌, ℕ, Bool, true, false, not, ◌&&◌, ◌||◌, ◌==◌, List, [], ◌∷◌, refl, sym, ◌∙◌}
+use Rattle.std.proofs.lemmas.Bool.{and_parts, and_from, false_from_ne_true, not-true, not_from_false}
 use Rattle.ucd_table.specs.Rows.{Range, in_ranges}
 use Rattle.ucd_table.proofs.Stepped.{Stepped, of_ranges, zip_stepped}
 use Rattle.ucd_table.proofs.StepsLemmas.{rises_from, range_rows}
@@ -15,6 +15,7 @@ use Rattle.nf_forms.specs.declared.form.Form.TheVariants.{Nfc, Nfd, Nfkc, Nfkd}
 use Rattle.nf_facts.specs.PlainRanges.{plain_ranges}
 use Rattle.nf_facts.specs.KitForm.{kit_form}
 use Rattle.nf_facts.specs.Passing.{is_among, halfwidth_marks, is_yes, passes_check}
+use Rattle.nf_facts.proofs.Halfwidth.{agree}
 use Rattle.nf_facts.proofs.Ranges.{none_fails, none_fails-true}
 
 -- the test as steps: the class and the answer zipped, and the two halfwidth marks taken out as a range
@@ -31,23 +32,19 @@ of_form f rising two =
     let test = zip_stepped (λ b h. b && not h) _ (in_ranges halfwidth) yes_here (of_ranges halfwidth two) in
     zip_stepped (λ inside b. not inside || b) (in_ranges (plain_ranges f)) _ (of_ranges (plain_ranges f) rising) test
 
-all_plain : (f : Form) (c : ℕ) → (not (in_ranges (plain_ranges f) c) || passes_by_range f c) ≡ true
+all_plain : (f : Form) (c : ℕ) → in_ranges (plain_ranges f) c ≡ true → passes_by_range f c ≡ true
 unfolding of_form none_fails
-all_plain Nfc = none_fails-true _ (of_form Nfc refl refl) refl
-all_plain Nfd = none_fails-true _ (of_form Nfd refl refl) refl
-all_plain Nfkc = none_fails-true _ (of_form Nfkc refl refl) refl
-all_plain Nfkd = none_fails-true _ (of_form Nfkd refl refl) refl
+all_plain Nfc = none_fails-true (plain_ranges Nfc) (passes_by_range Nfc) (of_form Nfc refl refl) refl
+all_plain Nfd = none_fails-true (plain_ranges Nfd) (passes_by_range Nfd) (of_form Nfd refl refl) refl
+all_plain Nfkc = none_fails-true (plain_ranges Nfkc) (passes_by_range Nfkc) (of_form Nfkc refl refl) refl
+all_plain Nfkd = none_fails-true (plain_ranges Nfkd) (passes_by_range Nfkd) (of_form Nfkd refl refl) refl
 
 outside : (c : ℕ) → in_ranges halfwidth c ≡ false → is_among halfwidth_marks c ≡ false
 unfolding tables halfwidth
-outside c h = or_from _ _ (other 0xFF9E refl) (or_from _ _ (other 0xFF9F refl) refl)
-  where
-    other : (x : ℕ) → in_ranges halfwidth x ≡ true → (c == x) ≡ false
-    other x inside = ne_eqb c x (λ e. let clash = sym inside ∙ ap (in_ranges halfwidth) (sym e) ∙ h in cc)
+outside c h = false_from_ne_true _ (λ is. let clash = sym h ∙ agree (in_ranges halfwidth) (λ _. true) (refl, refl) c is in cc)
 
 -- each part of the test gives the other form of it
 pub plain-passes : (f : Form) (c : ℕ) → in_ranges (plain_ranges f) c ≡ true → passes_check f c ≡ true
 plain-passes f c inside =
-    let passed : passes_by_range f c ≡ true = ap (λ b. not b || passes_by_range f c) (sym inside) ∙ all_plain f c in
-    let parts = and_parts _ _ passed in
+    let parts = and_parts _ _ (all_plain f c inside) in
     and_from _ _ parts.0 (not_from_false _ (outside c (not-true _ parts.1)))

@@ -1,6 +1,7 @@
 -- A test that fails at no code point, by the steps of its values.
-use Rattle.std.proofs.Common.{◌≡◌, ℕ, Bool, true, false}
+use Rattle.std.proofs.Common.{◌≡◌, ℕ, Bool, true, false, not, ◌||◌, List, sym, ap, ◌∙◌}
 use Rattle.std.proofs.lemmas.Bool.{true_from_ne_false}
+use Rattle.ucd_table.specs.Rows.{Range, in_ranges}
 use Rattle.ucd_table.proofs.Stepped.{Stepped}
 use Rattle.ucd_table.proofs.RangedFacts.{at_points, Stepped-at_points}
 
@@ -8,7 +9,9 @@ use Rattle.ucd_table.proofs.RangedFacts.{at_points, Stepped-at_points}
 unfoldable pub none_fails : (p : ℕ → Bool) → Stepped p → Bool
 none_fails p s = at_points p s (λ b. b) (λ _ _. false)
 
-pub none_fails-true : (p : ℕ → Bool) (s : Stepped p) → none_fails p s ≡ true → (c : ℕ) → p c ≡ true
+-- so each code point of the ranges passes
+pub none_fails-true : (ranges : List Range) (p : ℕ → Bool) (s : Stepped (λ c. not (in_ranges ranges c) || p c)) → none_fails _ s ≡ true → (c : ℕ) → in_ranges ranges c ≡ true → p c ≡ true
 unfolding none_fails
-none_fails-true p s ok c =
-    true_from_ne_false (p c) (λ fails. let clash = Stepped-at_points p s (λ b. b) (λ _ _. false) ok c fails in cc)
+none_fails-true ranges p s ok c inside =
+    let all = true_from_ne_false _ (λ fails. let clash = Stepped-at_points _ s (λ b. b) (λ _ _. false) ok c fails in cc) in
+    ap (λ b. not b || p c) (sym inside) ∙ all

@@ -12,7 +12,8 @@ use Rattle.nf_forms.specs.declared.form.Form.TheVariants.{Nfc, Nfd, Nfkc, Nfkd}
 use Rattle.nf_facts.specs.KitForm.{kit_form}
 use Rattle.nf_facts.specs.Passing.{is_among, vowel_signs, mapped_marks}
 
-abbrev refuses : Form → List ℕ → Bool
+-- the form's quick check refuses each of these
+abbrev pub refuses : Form → List ℕ → Bool
 refuses f cs = list_all (λ x. is_no (quick_check (kit_form f) x)) cs
 
 is_no-true : (v : QuickCheck) → is_no v ≡ true → v ≡ No
@@ -20,28 +21,21 @@ is_no-true No h = refl
 is_no-true Yes h = cc
 is_no-true Maybe h = cc
 
-not_among : (f : Form) (c : ℕ) → quick_check (kit_form f) c ≢ No → (cs : List ℕ) → refuses f cs ≡ true → is_among cs c ≡ false
+pub not_among : (f : Form) (c : ℕ) → quick_check (kit_form f) c ≢ No → (cs : List ℕ) → refuses f cs ≡ true → is_among cs c ≡ false
 not_among f c may [] all = refl
 not_among f c may (x ∷ cs) all =
     let parts = and_parts (is_no (quick_check (kit_form f) x)) (refuses f cs) all in
     or_from _ _ (ne_eqb c x (λ e. may (ap (quick_check (kit_form f)) e ∙ is_no-true _ parts.0))) (not_among f c may cs parts.1)
 
-vowel_signs-refused : (f : Form) → refuses f vowel_signs ≡ true
+exceptions-refused : (f : Form) → (refuses f vowel_signs ≡ true) × (refuses f mapped_marks ≡ true)
 unfolding unicode_normalization
-vowel_signs-refused Nfc = refl
-vowel_signs-refused Nfd = refl
-vowel_signs-refused Nfkc = refl
-vowel_signs-refused Nfkd = refl
-
-mapped_marks-refused : (f : Form) → refuses f mapped_marks ≡ true
-unfolding unicode_normalization
-mapped_marks-refused Nfc = refl
-mapped_marks-refused Nfd = refl
-mapped_marks-refused Nfkc = refl
-mapped_marks-refused Nfkd = refl
+exceptions-refused Nfc = (refl, refl)
+exceptions-refused Nfd = (refl, refl)
+exceptions-refused Nfkc = (refl, refl)
+exceptions-refused Nfkd = (refl, refl)
 
 pub no_vowel_sign : (f : Form) (c : ℕ) → quick_check (kit_form f) c ≢ No → is_among vowel_signs c ≡ false
-no_vowel_sign f c may = not_among f c may vowel_signs (vowel_signs-refused f)
+no_vowel_sign f c may = not_among f c may vowel_signs (exceptions-refused f).0
 
 pub no_mapped_mark : (f : Form) (c : ℕ) → quick_check (kit_form f) c ≢ No → is_among mapped_marks c ≡ false
-no_mapped_mark f c may = not_among f c may mapped_marks (mapped_marks-refused f)
+no_mapped_mark f c may = not_among f c may mapped_marks (exceptions-refused f).1

@@ -99,14 +99,6 @@ pub mark_at : (x : ℕ) → 0 < ccc x → is_starter ucd x ≡ false
 unfolding ucd
 mark_at x h = not_starter_from x h
 
-starter_of : (x : ℕ) → is_starter ucd x ≡ true → ccc x ≤ 0
-unfolding ucd
-starter_of x h = is_starter-true x h
-
-mark_of : (x : ℕ) → is_starter ucd x ≡ false → 0 < ccc x
-unfolding ucd
-mark_of x h = is_starter-false x h
-
 after : (e : List ℕ) (s : ℕ) (m cs : List ℕ) → is_starter ucd s ≡ true → has_starter ucd m ≡ false → fold (compose_step ucd) (e ++ s ∷ m) cs ≡ e ++ compose_after s m cs
 after e s m [] starts marks = ap (λ v. e ++ v) (sym (compose_after-nil s m))
 after e s m (c ∷ cs) starts marks =
@@ -123,14 +115,15 @@ after e s m (c ∷ cs) starts marks =
     step o h = compose_step-at ucd e s m c starts marks ∙ ap (λ o. e ++ replaced o s m c) (joined-ucd s m c marks ∙ h)
 
 before : (z cs : List ℕ) → has_starter ucd z ≡ false → fold (compose_step ucd) z cs ≡ z ++ kit_compose cs
+unfolding ucd
 before z [] none = sym (ap (λ v. z ++ v) compose-nil ∙ append-nil z)
 before z (c ∷ cs) none =
     ap (λ v. fold (compose_step ucd) v cs) (compose_step-none ucd z c none)
     ∙ elim (cases_Bool (is_starter ucd c)) [
-      | inl starter ↦ after z c [] cs starter refl ∙ ap (λ v. z ++ v) (sym (compose-starter c cs (starter_of c starter)))
+      | inl starter ↦ after z c [] cs starter refl ∙ ap (λ v. z ++ v) (sym (compose-starter c cs (is_starter-true c starter)))
       | inr mark ↦
           before (z ++ c ∷ []) cs (marks_push ucd z c none mark) ∙ append_assoc z (c ∷ []) (kit_compose cs)
-          ∙ ap (λ v. z ++ v) (sym (compose-mark c cs (mark_of c mark)))
+          ∙ ap (λ v. z ++ v) (sym (compose-mark c cs (is_starter-false c mark)))
     ]
 
 compose-ucd : (w : List ℕ) → compose ucd w ≡ kit_compose w

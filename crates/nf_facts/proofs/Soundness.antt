@@ -1,32 +1,25 @@
 -- Every character of Unicode's data is sound.
-use Rattle.std.proofs.Common.{◌≡◌, ℕ, ◌≤◌, Bool, true, false, not, ◌||◌, List, [], ◌∷◌, length, refl, sym, ap, ◌∙◌, le-leb, le_refl}
+use Rattle.std.proofs.Common.{◌≡◌, ℕ, ◌≤◌, true, List, [], ◌∷◌, length, refl, sym, ap, ◌∙◌, le-leb, le_refl}
 use Rattle.std.proofs.lemmas.Bool.{and_from, and_parts, or_right}
+use Rattle.std.proofs.Math.Bool.{or-not_self}
 use Rattle.ucd_normal.specs.declared.forms.Form.TheVariants.{Nfd, Nfkd}
 use Rattle.unicode_normalization.specs.Decompose.{decompose}
 use Rattle.unicode_normalization.proofs.Computing.{unicode_normalization}
-use Rattle.unicode_normalization.proofs.DecomposeLemmas.{decompose-syllable, decompose-final, IsFull-decompose}
+use Rattle.unicode_normalization.proofs.DecomposeLemmas.{IsFull-decompose}
 use Rattle.nf_forms.specs.Properties.{Properties}
 use Rattle.nf_forms.specs.Runs.{has_starter, lead, trail}
 use Rattle.nf_forms.specs.Sound.{fits, joiner_is_plain, is_sound}
 use Rattle.nf_forms.specs.Ucd.{ucd}
 use Rattle.nf_forms.specs.Laws.Sound.{IsSoundText}
-use Rattle.nf_facts.proofs.Mapped.{ends_agree, by_kind}
-
-either : (b : Bool) → (b || not b) ≡ true
-either true = refl
-either false = refl
+use Rattle.nf_facts.proofs.Mapped.{ends_agree, by_mapping}
 
 agree-same : (p : Properties) (w v : List ℕ) → w ≡ v → ends_agree p w v ≡ true
 agree-same p w v e =
     ap (λ u. ends_agree p w u) (sym e)
-    ∙ and_from _ _ (and_from _ _ (le-leb (lead p w) (lead p w) (le_refl (lead p w))) (le-leb (trail p w) (trail p w) (le_refl (trail p w)))) (either (has_starter p w))
+    ∙ and_from _ _ (and_from _ _ (le-leb (lead p w) (lead p w) (le_refl (lead p w))) (le-leb (trail p w) (trail p w) (le_refl (trail p w)))) (or-not_self (has_starter p w))
 
 agree-rows : (c : ℕ) → ends_agree ucd (decompose Nfd c) (decompose Nfkd c) ≡ true
-agree-rows c =
-    by_kind c _
-    (λ syllable. agree-same ucd _ _ (decompose-syllable Nfd c syllable ∙ sym (decompose-syllable Nfkd c syllable)))
-    (λ canonical compat. agree-same ucd _ _ (decompose-final Nfd c canonical ∙ sym (decompose-final Nfkd c compat)))
-    (λ mapped. mapped.agree)
+agree-rows c = by_mapping c _ (agree-same ucd _ _) (λ mapped. mapped.agree)
 
 fits-full : (w : List ℕ) → 1 ≤ length w → length w ≤ 18 → fits w ≡ true
 fits-full w some few = and_from _ _ (le-leb 1 (length w) some) (le-leb (length w) 18 few)

@@ -1,53 +1,42 @@
 -- Starters that pass the quick check of a form part a text, but for the two halfwidth marks.
-use Rattle.std.proofs.Common.{◌≡◌, ℕ, ◌≤◌, ◌+◌, ◌-◌, ◌/◌, ◌%◌, true, false, List, [], ◌∷◌, refl, sym, ap, ◌∙◌, inl, inr, arith, eqb-true, eq-eqb}
-use Rattle.std.proofs.lemmas.Bool.{cases_eq, cond-false, and_from, and_parts, not-true, not_from_true, true_from_ne_false}
+use Rattle.std.proofs.Common.{◌≡◌, ℕ, true, false, List, [], ◌∷◌, refl, sym, ap, ◌∙◌, arith, eqb-true, eq-eqb}
+use Rattle.std.proofs.lemmas.Bool.{cond-false, and_from, and_parts, not-true, not_from_true}
 use Rattle.ucd_normal.specs.declared.forms.Form.TheVariants.{Nfd as KitNfd, Nfkd as KitNfkd, Nfc as KitNfc, Nfkc as KitNfkc}
 use Rattle.ucd_normal.specs.declared.forms.QuickCheck.TheVariants.{Yes}
 use Rattle.ucd_normal.specs.CanonicalCombiningClass.{canonical_combining_class as ccc}
 use Rattle.ucd_normal.specs.QuickCheck.{quick_check}
 use Rattle.unicode_normalization.specs.Decompose.{decompose}
-use Rattle.unicode_normalization.specs.Hangul.{is_syllable}
 use Rattle.unicode_normalization.proofs.ComposedForms.{IsComposed-Nfc, IsComposed-Nfkc, of_starter, never_second}
-use Rattle.unicode_normalization.proofs.DecomposeLemmas.{decompose-syllable, decompose-final, IsFull-decompose}
+use Rattle.unicode_normalization.proofs.DecomposeLemmas.{decompose-final}
 use Rattle.unicode_normalization.proofs.FormsLemmas.{is_final-Nfd, is_final-Nfkd, is_yes-true, normalize-passes}
-use Rattle.unicode_normalization.proofs.HangulLemmas.{is_syllable-true, decompose_hangul-two, decompose_hangul-three}
 use Rattle.unicode_normalization.proofs.OrderLemmas.{is_ordered-one}
-use Rattle.unicode_normalization.proofs.TableFacts.{class_of_jamo, is_yes}
+use Rattle.unicode_normalization.proofs.RebuildLemmas.{IsRebuilt}
+use Rattle.unicode_normalization.proofs.TableFacts.{is_yes}
 use Rattle.nf_forms.specs.Runs.{lead}
 use Rattle.nf_forms.specs.declared.form.Form.{Form}
 use Rattle.nf_forms.specs.declared.form.Form.TheVariants.{Nfc, Nfd, Nfkc, Nfkd}
-use Rattle.nf_forms.specs.Forms.{normal_form}
+use Rattle.nf_forms.specs.Forms.{row_of, normal_form}
 use Rattle.nf_forms.specs.Ucd.{ucd}
-use Rattle.nf_forms.specs.Parting.{NeverSecond, BeginsAnew, CountsAnew, IsParting}
-use Rattle.nf_forms.specs.Laws.Runs.{lead-marks}
+use Rattle.nf_forms.specs.Parting.{NeverSecond, BeginsAnew, IsParting}
+use Rattle.nf_forms.specs.Laws.ClosedForms.{counts_anew-lead}
 use Rattle.nf_facts.specs.KitForm.{kit_form}
 use Rattle.nf_facts.specs.Passing.{is_among, vowel_signs, halfwidth_marks, passes_check}
-use Rattle.nf_facts.proofs.Mapped.{by_kind}
+use Rattle.nf_facts.proofs.Mapped.{by_row}
 use Rattle.nf_facts.proofs.Refused.{no_vowel_sign}
+use Rattle.nf_facts.proofs.Rows.{class-letter}
 use Rattle.nf_facts.proofs.SameForms.{composite-ucd, normal_form-ucd, starter_at}
+use Rattle.nf_facts.proofs.Soundness.{is_sound-ucd}
 
 -- ---- the compatibility row of a starter begins with a starter, but for the exceptions
 
-lead-starter : (s : ℕ) (w : List ℕ) → ccc s ≤ 0 → lead ucd (s ∷ w) ≡ 0
+lead-starter : (s : ℕ) (w : List ℕ) → ccc s ≡ 0 → lead ucd (s ∷ w) ≡ 0
 unfolding ucd
-lead-starter s w starter = cond-false _ _ _ (not_from_true _ (eq-eqb (ccc s) 0 (omega arith)))
-
-lead-syllable : (c : ℕ) → is_syllable c ≡ true → lead ucd (decompose KitNfkd c) ≡ 0
-lead-syllable c syllable =
-    let range = is_syllable-true c syllable in
-    let l = 0x1100 + (c - 0xAC00) / 588 in
-    let starter : ccc l ≤ 0 = let e = eqb-true (ccc l) 0 (class_of_jamo l (omega arith) (omega arith)) in omega arith in
-    ap (lead ucd) (decompose-syllable KitNfkd c syllable)
-    ∙ elim (cases_eq ((c - 0xAC00) % 28) 0) [
-      | inl two ↦ ap (lead ucd) (decompose_hangul-two c two) ∙ lead-starter l ((0x1161 + (c - 0xAC00) % 588 / 28) ∷ []) starter
-      | inr three ↦ ap (lead ucd) (decompose_hangul-three c three) ∙ lead-starter l ((0x1161 + (c - 0xAC00) % 588 / 28) ∷ (0x11A7 + (c - 0xAC00) % 28) ∷ []) starter
-    ]
+lead-starter s w starter = cond-false _ _ _ (not_from_true _ (eq-eqb (ccc s) 0 starter))
 
 pub compat-lead : (c : ℕ) → ccc c ≡ 0 → is_among vowel_signs c ≡ false → is_among halfwidth_marks c ≡ false → lead ucd (ucd.compat c) ≡ 0
 unfolding ucd
 compat-lead c starter sign mark =
-    by_kind c _ (lead-syllable c) (λ _ compat. ap (lead ucd) (decompose-final KitNfkd c compat) ∙ lead-starter c [] (omega arith))
-    (λ mapped. mapped.begins starter sign mark)
+    by_row KitNfkd c (λ w. lead ucd w ≡ 0) refl (λ x w low high _. lead-starter x w (class-letter x low high)) (lead-starter c [] starter) (λ mapped. mapped.begins starter sign mark)
 
 -- ---- what passes the quick check of a composing form is second in no composite
 
@@ -59,24 +48,18 @@ never_second-yes Nfkd c is composes a = cc
 
 -- ---- its row begins with such a one
 
+anew_rebuilt : (f : Form) (c : ℕ) → IsRebuilt c (row_of f ucd c) → BeginsAnew ucd f c
+anew_rebuilt f c r =
+    record { first = r.first; rest = r.rest; row = r.split; starter = starter_at r.first r.starter; never_second = λ _ a. composite-ucd a r.first ∙ r.never_second a }
+
 pub begins_anew : (f : Form) (c : ℕ) → ccc c ≡ 0 → quick_check (kit_form f) c ≡ Yes → BeginsAnew ucd f c
 unfolding ucd decompose
-begins_anew Nfc c starter is =
-    let r = of_starter KitNfc IsComposed-Nfc c (ap is_yes is) (omega arith) in
-    record { first = r.first; rest = r.rest; row = r.split; starter = starter_at r.first r.starter; never_second = λ _ a. composite-ucd a r.first ∙ r.never_second a }
-begins_anew Nfkc c starter is =
-    let r = of_starter KitNfkc IsComposed-Nfkc c (ap is_yes is) (omega arith) in
-    record { first = r.first; rest = r.rest; row = r.split; starter = starter_at r.first r.starter; never_second = λ _ a. composite-ucd a r.first ∙ r.never_second a }
+begins_anew Nfc c starter is = anew_rebuilt Nfc c (of_starter KitNfc IsComposed-Nfc c (ap is_yes is) (omega arith))
+begins_anew Nfkc c starter is = anew_rebuilt Nfkc c (of_starter KitNfkc IsComposed-Nfkc c (ap is_yes is) (omega arith))
 begins_anew Nfd c starter is =
     record { first = c; rest = []; row = decompose-final KitNfd c (is_final-Nfd c is); starter = starter_at c (omega arith); never_second = never_second-yes Nfd c is }
 begins_anew Nfkd c starter is =
     record { first = c; rest = []; row = decompose-final KitNfkd c (is_final-Nfkd c is); starter = starter_at c (omega arith); never_second = never_second-yes Nfkd c is }
-
-counts_anew : (c : ℕ) → lead ucd (ucd.compat c) ≡ 0 → CountsAnew ucd c
-unfolding ucd
-counts_anew c begins =
-    let some = (IsFull-decompose (kit_form Nfkd) c).some in
-    record { lead = begins; some = true_from_ne_false _ (λ none. let all = lead-marks ucd (ucd.compat c) none in omega arith) }
 
 pub alone : (f : Form) (c : ℕ) → quick_check (kit_form f) c ≡ Yes → normal_form f ucd (c ∷ []) ≡ c ∷ []
 alone f c is = normal_form-ucd f (c ∷ []) ∙ normalize-passes (kit_form f) (c ∷ []) (and_from _ _ (ap is_yes is) refl) (is_ordered-one c)
@@ -90,6 +73,6 @@ parting-ucd f c h =
     record {
       starts = starter_at c (omega arith);
       anew = begins_anew f c starter is;
-      counts = counts_anew c (compat-lead c starter (no_vowel_sign f c (λ no. let clash = sym is ∙ no in cc)) (not-true _ parts.1));
+      counts = counts_anew-lead ucd f c (is_sound-ucd c) (compat-lead c starter (no_vowel_sign f c (λ no. let clash = sym is ∙ no in cc)) (not-true _ parts.1));
       alone = alone f c is;
     }

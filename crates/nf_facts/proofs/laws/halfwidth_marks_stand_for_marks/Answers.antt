@@ -1,4 +1,4 @@
-use Rattle.nf_facts.proofs.Halfwidth.{halfwidth-starter, halfwidth-own, voiced-row, voiced-class, semi_voiced-row, semi_voiced-class}
+use Rattle.nf_facts.proofs.Halfwidth.{halfwidth-starter, halfwidth-own, voiced, semi_voiced}
 use Rattle.nf_facts.proofs.laws.halfwidth_marks_stand_for_marks.Goals as goal
 
 pub returns-clause-starter : goal.returns-clause-starter
@@ -8,7 +8,7 @@ pub returns-clause-own : goal.returns-clause-own
 returns-clause-own c = halfwidth-own
 
 pub returns-clause-voiced : goal.returns-clause-voiced
-returns-clause-voiced c = (voiced-row, voiced-class)
+returns-clause-voiced c = voiced
 
 pub returns-clause-semi_voiced : goal.returns-clause-semi_voiced
-returns-clause-semi_voiced c = (semi_voiced-row, semi_voiced-class)
+returns-clause-semi_voiced c = semi_voiced

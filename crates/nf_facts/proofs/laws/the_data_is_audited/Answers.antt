@@ -7,7 +7,7 @@ use Rattle.nf_forms.specs.Audit.{IsFullText}
 use Rattle.nf_forms.specs.Laws.Audited.{scalars-all}
 use Rattle.nf_forms.specs.Order.{order}
 use Rattle.nf_forms.specs.Ucd.{ucd}
-use Rattle.nf_facts.proofs.Fullness.{canonical-full, compat-full, compat-joined-ucd, canonical-marks}
+use Rattle.nf_facts.proofs.Fullness.{canonical-full, compat-full, compat-joined, canonical-marks}
 use Rattle.nf_facts.proofs.Scalars.{scalar-rows}
 use Rattle.nf_facts.proofs.Soundness.{is_sound-ucd}
 use Rattle.nf_facts.proofs.laws.the_data_is_audited.Goals as goal
@@ -19,6 +19,6 @@ pub returns : goal.returns
 returns c = λ x is. record {
   sound = is_sound-ucd x;
   full = (full-of ucd.canonical (ucd.canonical x) (scalar-rows.canonical x is) (canonical-full x), full-of ucd.compat (ucd.compat x) (scalar-rows.compat x is) (compat-full x));
-  within = ap (order ucd) (compat-joined-ucd x);
+  within = ap (order ucd) (compat-joined x);
   marks = canonical-marks x;
 }
