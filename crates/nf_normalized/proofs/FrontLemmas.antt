@@ -1,8 +1,7 @@
 -- Fronts of a text in a form, over Unicode's data.
 use Rattle.std.proofs.Common.{◌≡◌, ◌≢◌, ◌↔◌, ℕ, ◌<◌, Bool, true, false, List, [], ◌∷◌, ◌++◌, length, take, Some, refl, sym, ap, ◌∙◌, subst, arith, inl, inr, IsTrue, append-nil, append_assoc, eqb-true, pos_of_ne-zero, if◌then◌else◌}
-use Rattle.std.proofs.lemmas.Bool.{cases_Bool, and_parts, or_from, ne_eqb, eqb-false}
+use Rattle.std.proofs.lemmas.Bool.{cases_Bool, eqb-false}
 use Rattle.std.proofs.lemmas.List.{length-append, take_at}
-use Rattle.std.specs.List.{list_all}
 use Rattle.ucd_normal.specs.declared.forms.Form.{Form as KitForm}
 use Rattle.ucd_normal.specs.declared.forms.Form.TheVariants.{Nfd as KitNfd, Nfkd as KitNfkd}
 use Rattle.ucd_normal.specs.declared.forms.QuickCheck.{QuickCheck}
@@ -15,7 +14,6 @@ use Rattle.unicode_normalization.specs.QuickCheck.{worse, worst, quick_check_tex
 use Rattle.unicode_normalization.proofs.Computing.{unicode_normalization}
 use Rattle.unicode_normalization.proofs.DecomposeLemmas.{decompose-primary_composite}
 use Rattle.unicode_normalization.proofs.FormsLemmas.{quick_check_text-No}
-use Rattle.unicode_normalization.proofs.TableFacts.{is_no}
 use Rattle.nf_forms.specs.Properties.{is_starter}
 use Rattle.nf_forms.specs.Runs.{lead}
 use Rattle.nf_forms.specs.declared.form.Form.{Form}
@@ -36,6 +34,7 @@ use Rattle.nf_safe.specs.Place.{is_in_format}
 use Rattle.nf_facts.specs.KitForm.{kit_form}
 use Rattle.nf_facts.specs.After.{after}
 use Rattle.nf_facts.specs.Passing.{is_among, halfwidth_marks, vowel_signs}
+use Rattle.nf_facts.proofs.Refused.{refuses, not_among, no_vowel_sign}
 use Rattle.nf_normalized.proofs.KeptLemmas.{some_of, length-form_of}
 use Rattle.nf_normalized.proofs.TakenLemmas.{IsRow, last_taken}
 
@@ -59,28 +58,6 @@ text-refused f y c refused = next (is_ordered (y ++ c ∷ []))
     next true = worst-last f y c refused
     next false = refl
 
--- the quick check refuses each of these
-abbrev refuses : Form → List ℕ → Bool
-refuses f cs = list_all (λ x. is_no (quick_check (kit_form f) x)) cs
-
-not_among : (f : Form) (c : ℕ) → quick_check (kit_form f) c ≢ No → (cs : List ℕ) → refuses f cs ≡ true → is_among cs c ≡ false
-not_among f c may [] all = refl
-not_among f c may (x ∷ cs) all =
-    let parts = and_parts (is_no (quick_check (kit_form f) x)) (refuses f cs) all in
-    or_from _ _ (ne_eqb c x (λ same. may (ap (quick_check (kit_form f)) same ∙ no (quick_check (kit_form f) x) parts.0))) (not_among f c may cs parts.1)
-  where
-    no : (v : QuickCheck) → is_no v ≡ true → v ≡ No
-    no No h = refl
-    no Yes h = cc
-    no Maybe h = cc
-
-vowel_signs-refused : (f : Form) → refuses f vowel_signs ≡ true
-unfolding unicode_normalization
-vowel_signs-refused Nfc = refl
-vowel_signs-refused Nfd = refl
-vowel_signs-refused Nfkc = refl
-vowel_signs-refused Nfkd = refl
-
 halfwidth_marks-refused : (refuses Nfkc halfwidth_marks ≡ true) × (refuses Nfkd halfwidth_marks ≡ true)
 unfolding unicode_normalization
 halfwidth_marks-refused = (refl, refl)
@@ -93,7 +70,7 @@ module _ (sound : (c : ℕ) → IsTrue (is_sound ucd c))
     (marks : (f : Form) (c : ℕ) → 0 < canonical_combining_class c → quick_check (kit_form f) c ≢ No → IsMark ucd c (canonical_combining_class c)) where
   row_of_starter : (f : Form) (c : ℕ) → canonical_combining_class c ≡ 0 → is_starter ucd c ≡ true → quick_check (kit_form f) c ≢ No
       → BeginsInStarter ucd (row_of f ucd c)
-  row_of_starter f c none starts may = at f (not_among f c may vowel_signs (vowel_signs-refused f)) may
+  row_of_starter f c none starts may = at f (no_vowel_sign f c may) may
     where
       own : IsSound ucd c
       own = IsSound-from_test ucd c (sound c)
