@@ -1,6 +1,6 @@
 -- One character more.
-use Rattle.std.proofs.Common.{◌≡◌, ℕ, ◌+◌, ◌<◌, ◌≤◌, Bool, true, false, cond, not, ◌&&◌, ◌||◌, List, [], ◌∷◌, ◌++◌, Ok, Err, refl, sym, ap, ◌∙◌, subst, arith, if◌then◌else◌, encode_utf8_all}
-use Rattle.std.proofs.lemmas.Bool.{false≢true, ltb-false}
+use Rattle.std.proofs.Common.{◌≡◌, ℕ, ◌+◌, ◌<◌, ◌≤◌, Bool, true, false, not, ◌||◌, List, [], ◌∷◌, ◌++◌, Ok, Err, refl, sym, ap, ◌∙◌, subst, arith, if◌then◌else◌, encode_utf8_all}
+use Rattle.std.proofs.lemmas.Bool.{false≢true, cond-true, cond-false, and_from, and_left, and_right, or_from, not_from_true, ltb-false}
 use Rattle.std.proofs.lemmas.Str.{encodes-append}
 use Rattle.nf_forms.specs.Properties.{Properties, is_starter, is_nonstarter}
 use Rattle.nf_forms.specs.declared.form.Form.{Form}
@@ -30,52 +30,35 @@ use Rattle.nf_normalizer.specs.Laws.Settled.{is_usable-push}
 use Rattle.nf_normalizer.proofs.RoomLemmas.{Holds-at}
 
 module _ (p : Properties) where
-  and_false : (a s : Bool) → s ≡ false → (a && s) ≡ false
-  and_false true s e = e
-  and_false false s e = refl
-
-  and_true : (a b s : Bool) → a ≡ true → b ≡ true → s ≡ true → (a && b && s) ≡ true
-  and_true a b s e f g = ap (λ x. x && b && s) e ∙ ap (λ x. true && x && s) f ∙ g
+  -- what holds of both rows of a character holds of the row that a form asks for
+  of_row : (Q : List ℕ → Type 0) (c : ℕ) → Q (p.canonical c) → Q (p.compat c) → (f : Form) → Q (row_of f p c)
+  of_row Q c canonical compat Nfc = canonical
+  of_row Q c canonical compat Nfd = canonical
+  of_row Q c canonical compat Nfkc = compat
+  of_row Q c canonical compat Nfkd = compat
 
   pub is_usable-unsound : (x : List ℕ) (c : ℕ) → is_sound p c ≡ false → is_usable p (x ++ c ∷ []) ≡ false
-  is_usable-unsound x c unsound = is_usable-push p x c ∙ and_false _ (is_sound p c) unsound
+  is_usable-unsound x c unsound = is_usable-push p x c ∙ and_right _ _ unsound
 
   pub is_usable-unsound_joiner : (x : List ℕ) (c : ℕ) → is_too_long p (stream_safe p x) c ≡ true → is_sound p joiner ≡ false → is_usable p (x ++ c ∷ []) ≡ false
   is_usable-unsound_joiner x c long unsound =
-      is_usable-push p x c ∙ next (is_usable p x) (is_too_long p (stream_safe p x) c) (is_sound p joiner) (is_sound p c) long unsound
-    where
-      next : (a b j s : Bool) → b ≡ true → j ≡ false → (a && (not b || j) && s) ≡ false
-      next true true true s e f = cc
-      next true true false s e f = refl
-      next true false j s e f = cc
-      next false b j s e f = refl
+      is_usable-push p x c ∙ and_left _ _ (and_right _ _ (or_from _ _ (not_from_true _ long) unsound))
 
   pub is_usable-sound : (x : List ℕ) (c : ℕ) → is_usable p x ≡ true → is_sound p c ≡ true → (is_too_long p (stream_safe p x) c ≡ true → is_sound p joiner ≡ true)
       → is_usable p (x ++ c ∷ []) ≡ true
-  is_usable-sound x c usable sound joins = is_usable-push p x c ∙ and_true _ _ _ usable (next (is_too_long p (stream_safe p x) c) joins) sound
+  is_usable-sound x c usable sound joins = is_usable-push p x c ∙ and_from _ _ (and_from _ _ usable (next (is_too_long p (stream_safe p x) c) joins)) sound
     where
       next : (b : Bool) → (b ≡ true → is_sound p joiner ≡ true) → (not b || is_sound p joiner) ≡ true
       next true e = e refl
       next false e = refl
 
-  parted-without : (o : List ℕ) (c : ℕ) → is_too_long p o c ≡ false → parted p o c ≡ o
-  parted-without o c short = ap (λ b. if b then o ++ joiner ∷ [] else o) short
-
-  parted-with : (o : List ℕ) (c : ℕ) → is_too_long p o c ≡ true → parted p o c ≡ o ++ joiner ∷ []
-  parted-with o c long = ap (λ b. if b then o ++ joiner ∷ [] else o) long
-
   decomposed-joiner : JoinerIsPlain p → (f : Form) (o : List ℕ) → decomposed f p (o ++ joiner ∷ []) ≡ decomposed f p o ++ joiner ∷ []
-  decomposed-joiner plain f o = decomposed-push p f o joiner ∙ ap (λ row. decomposed f p o ++ row) (row f)
-    where
-      row : (f : Form) → row_of f p joiner ≡ joiner ∷ []
-      row Nfc = plain.canonical
-      row Nfd = plain.canonical
-      row Nfkc = plain.compat
-      row Nfkd = plain.compat
+  decomposed-joiner plain f o =
+      decomposed-push p f o joiner ∙ ap (λ row. decomposed f p o ++ row) (of_row (λ row. row ≡ joiner ∷ []) joiner plain.canonical plain.compat f)
 
   -- the run behind the row of a sound character is no longer than what is counted
   pub run_behind-le : (f : Form) (c run n : ℕ) → is_sound p c ≡ true → run ≤ n → run_behind p run (row_of f p c) ≤ counted p n (p.compat c)
-  run_behind-le f c run n sound below = by_form f
+  run_behind-le f c run n sound below = of_row (λ row. run_behind p run row ≤ counted p n (p.compat c)) c canonical (same (has_starter p (p.compat c)) _ _) f
     where
       row : IsSound p c
       row = IsSound-from_test p c sound
@@ -95,24 +78,12 @@ module _ (p : Properties) where
       canonical = next (has_starter p (p.canonical c)) (has_starter p (p.compat c)) _ _ (lead p (p.canonical c)) _ _ (lead p (p.compat c)) row.marks_agree
           (lead-marks p (p.canonical c)) (lead-marks p (p.compat c)) (trail-marks p (p.compat c)) row.trail_within row.lead_within
 
-      by_form : (f : Form) → run_behind p run (row_of f p c) ≤ counted p n (p.compat c)
-      by_form Nfc = canonical
-      by_form Nfd = canonical
-      by_form Nfkc = same (has_starter p (p.compat c)) _ _
-      by_form Nfkd = same (has_starter p (p.compat c)) _ _
-
   -- one member is the row of a character of which a form has one code point, also behind what keeps the form
   pub row_of-single : (old new : Normalizer) (c : ℕ) (single : Single) → IsSingle p old.form c single → new.form ≡ old.form → row_of new.form p c ≡ single.member ∷ []
   row_of-single old new c single is same = ap (λ f. row_of f p c) same ∙ is.row
 
   lead-row : (f : Form) (c : ℕ) → is_sound p c ≡ true → lead p (row_of f p c) ≤ lead p (p.compat c)
-  lead-row f c sound = by_form f
-    where
-      by_form : (f : Form) → lead p (row_of f p c) ≤ lead p (p.compat c)
-      by_form Nfc = (IsSound-from_test p c sound).lead_within
-      by_form Nfd = (IsSound-from_test p c sound).lead_within
-      by_form Nfkc = omega arith
-      by_form Nfkd = omega arith
+  lead-row f c sound = of_row (λ row. lead p row ≤ lead p (p.compat c)) c (IsSound-from_test p c sound).lead_within (omega arith) f
 
   -- a row of one member behind a run, and where there is room for it
   one_behind : (n c : ℕ) → (if is_starter p c then 0 else n + 1) ≡ run_behind p n (c ∷ [])
@@ -131,12 +102,8 @@ module _ (p : Properties) where
 
   pub room_for-single : (part : Normalizer) (c d : ℕ) → row_of part.form p c ≡ d ∷ [] → HasRoom p part c → is_nonstarter p d ≡ true → run_len part.pending < 30
   room_for-single part c d row room mark =
-      let alone = ap (lead p) row ∙ lead_is (is_nonstarter p d) mark in
+      let alone : lead p (row_of part.form p c) ≡ 1 = ap (lead p) row ∙ cond-true _ _ _ mark in
       omega (arith, room.lead)
-    where
-      lead_is : (b : Bool) → b ≡ true → cond b (1 + 0) 0 ≡ 1
-      lead_is true e = refl
-      lead_is false e = cc
 
   -- the ends of its compatibility row are those of one member
   pub ends-single : (f : Form) (c : ℕ) (single : Single) (ends : Ends) → IsSingle p f c single
@@ -198,7 +165,7 @@ module _ (p : Properties) where
           → new ≡ counting taken c → Holds start room (settled_text f p x) → Parts f p new start room x c (Ok false)
       Parts-without new start room short is holds =
           let short_is : is_too_long p (stream_safe p x) c ≡ false = sym long_is ∙ short in
-          let same = parted-without (stream_safe p x) c short_is in (
+          let same : parted p (stream_safe p x) c ≡ stream_safe p x = cond-false _ _ _ short_is in (
             subst (λ t. HasParted f p t x c) (sym is) (record {
               usable = is_usable-sound x c before.usable sound (λ e. absurd (false≢true (sym short_is ∙ e)));
               form = before.form;
@@ -216,7 +183,7 @@ module _ (p : Properties) where
       Parts-with mid new start room long is joins puts =
           let long_here : is_too_long p (stream_safe p x) c ≡ true = sym long_is ∙ long in
           let plain = JoinerIsPlain-from_sound p puts.0 in
-          let longer = parted-with (stream_safe p x) c long_here in
+          let longer : parted p (stream_safe p x) c ≡ stream_safe p x ++ joiner ∷ [] = cond-true _ _ _ long_here in
           let text = ap (decomposed f p) longer ∙ decomposed-joiner plain f (stream_safe p x) in (
             record {
               usable = is_usable-sound x c before.usable sound (λ _. puts.0);

@@ -139,16 +139,12 @@ module _ (p : Properties) where
 -- ---- at a boundary, where the normalizer is as a new one
 
 -- the form of no text
-module _ (f : Form) (p : Properties) where
-  settled_text-none : settled_text f p [] ≡ []
-  unfolding settled safe_form by_class
-  settled_text-none = next f
-    where
-      next : (f : Form) → settled_text f p [] ≡ []
-      next Nfc = refl
-      next Nfd = refl
-      next Nfkc = refl
-      next Nfkd = refl
+settled_text-none : (f : Form) (p : Properties) → settled_text f p [] ≡ []
+unfolding settled safe_form by_class
+settled_text-none Nfc p = refl
+settled_text-none Nfd p = refl
+settled_text-none Nfkc p = refl
+settled_text-none Nfkd p = refl
 
 -- the text w was given or stands in the room, and what is told next stands behind it
 abbrev past : Start → List ℕ → Start

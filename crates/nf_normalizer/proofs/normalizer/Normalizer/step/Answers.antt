@@ -1,22 +1,22 @@
-use Rattle.std.proofs.Common.{◌≡◌, ℕ, ◌+◌, ◌<◌, [], ◌∷◌, ◌++◌, length, List, Bool, true, false, Ok, Err, inl, inr, ⊎_elim, refl, sym, ap, ◌∙◌, arith, rules, append_assoc, append-nil, encode_utf8_all, chars, length-append}
+use Rattle.std.proofs.Common.{◌≡◌, ℕ, ◌+◌, ◌<◌, ◌≤◌, [], ◌++◌, length, List, Bool, true, false, Ok, Err, inl, inr, ⊎_elim, refl, sym, ap, ◌∙◌, arith, rules, append_assoc, append-nil, encode_utf8_all, chars, length-append}
+use Rattle.std.proofs.lemmas.List.{nil_from_length}
 use Rattle.std.proofs.lemmas.Str.{encodes-chars, length-le-encodes}
 use mir.Val.{bool_byte}
-use Rattle.nf_normalizer.specs.Front.{one_if}
+use Rattle.nf_forms.specs.declared.form.Form.{Form}
+use Rattle.nf_normalizer.specs.Front.{Stands, StepsTo, one_if}
+use Rattle.nf_normalizer.specs.Room.{Start}
 use Rattle.nf_normalizer.proofs.FrontLemmas.{steps-on, StepsTo-none, StepsTo-more, StepsTo-at, leaves-all}
+use Rattle.nf_normalizer.proofs.normalizer.Normalizer.step.Given as given
 use Rattle.nf_normalizer.proofs.normalizer.Normalizer.step.Goals as goal
-use Rattle.nf_normalizer.proofs.normalizer.Normalizer.step.Goals.{then-loop-room-test+else-len-ge-STEP, else-loop-room-test}
+use Rattle.nf_normalizer.proofs.normalizer.Normalizer.step.Goals.{After-from, then-loop-room-test+else-len-ge-STEP, else-loop-room-test}
 
 byte_of : (b : Bool) → bool_byte b ≡ one_if b
 byte_of true = refl
 byte_of false = refl
 
 -- nothing goes out
-nothing : (w : List ℕ) → length w ≡ 0 → w ≡ []
-nothing [] e = refl
-nothing (c ∷ w) e = cc
-
 nothing_out : (room same formed : List ℕ) → length same ≡ 0 → length formed ≡ 0 → room ++ (same ++ encode_utf8_all formed) ≡ room
-nothing_out room same formed e g = ap (λ l. room ++ (l ++ encode_utf8_all formed)) (nothing same e) ∙ ap (λ l. room ++ encode_utf8_all l) (nothing formed g) ∙ append-nil room
+nothing_out room same formed e g = ap (λ l. room ++ (l ++ encode_utf8_all formed)) (nil_from_length same e) ∙ ap (λ l. room ++ encode_utf8_all l) (nil_from_length formed g) ∙ append-nil room
 
 pub loop-room-init : goal.loop-room-init
 loop-room-init g c = record {
@@ -36,15 +36,20 @@ overflow_add-put g c =
     let text = c.args.text.now in
     omega (arith, gone.2, leaves.few, c.from.ensures ∙ byte_of c.in-Ok.front.joined, ap length gone.1, ap length leaves.is_front, length-append gone.0 (chars c.loop-room.rest.now), length-append leaves.front (chars c.in-Ok.front.rest.now), length-le-encodes (chars text), ap length (encodes-chars text c.utf8.text))
 
-pub returns-then-not-is_empty-clause-passes : goal.returns-then-not-is_empty-clause-passes
-returns-then-not-is_empty-clause-passes g c =
+-- with one front more
+gone_more : (g : given.Over) (c : After-from g) → (front : List ℕ) × (chars c.args.text.now ≡ front ++ chars c.in-Ok.front.rest.now) × (c.loop-room.put + c.from.result ≤ length front)
+gone_more g c =
     let leaves = c.in-Ok.ensures.passes in
-    let gone = c.loop-room.invariant.gone in
-    leaves-all c.args.text.now c.in-Ok.front.rest.now (c.loop-room.put + c.from.result) (gone.0 ++ leaves.front) c.utf8.text (search rules)
-    (gone.1 ∙ ap (λ l. gone.0 ++ l) leaves.is_front ∙ sym (append_assoc gone.0 leaves.front (chars c.in-Ok.front.rest.now))) (omega (arith, gone.2, leaves.few, c.from.ensures ∙ byte_of c.in-Ok.front.joined, length-append gone.0 leaves.front)) (omega (arith, leaves.shorter, c.loop-room.invariant.left))
+    let gone = c.loop-room.invariant.gone in (
+      gone.0 ++ leaves.front,
+      gone.1 ∙ ap (λ l. gone.0 ++ l) leaves.is_front ∙ sym (append_assoc gone.0 leaves.front (chars c.in-Ok.front.rest.now)),
+      omega (arith, gone.2, leaves.few, c.from.ensures ∙ byte_of c.in-Ok.front.joined, length-append gone.0 leaves.front),
+    )
 
-pub returns-then-not-is_empty-clause-steps : goal.returns-then-not-is_empty-clause-steps
-returns-then-not-is_empty-clause-steps g c = λ f x start stands.
+steps_more : (g : given.Over) (c : After-from g) (f : Form) (x : List ℕ) (start : Start) → Stands f (g.R.Rows.properties c.args.rows.now) c.args.self.now start c.args.room.now.items x (chars c.args.text.now)
+    → StepsTo f (g.R.Rows.properties c.args.rows.now) c.take_front.new.self start (c.take_front.new.room.items ++ (c.in-Ok.front.same.now ++ encode_utf8_all c.take_front.new.formed.items)) x c.args.text.now
+    c.in-Ok.front.rest.now (c.loop-room.put + c.from.result)
+steps_more g c f x start stands =
     let p = g.R.Rows.properties c.args.rows.now in
     let front = c.in-Ok.front in
     let before = c.loop-room.invariant.steps f x start stands in
@@ -53,26 +58,28 @@ returns-then-not-is_empty-clause-steps g c = λ f x start stands.
     StepsTo-more p f start x c.args.text.now c.loop-room.self c.take_front.new.self c.loop-room.room.items (c.take_front.new.room.items ++ (front.same.now ++ encode_utf8_all c.take_front.new.formed.items)) c.loop-room.rest.now front.rest.now
     c.loop-room.put (one_if front.joined) (c.loop-room.put + c.from.result) (ap (λ n. c.loop-room.put + n) (sym (c.from.ensures ∙ byte_of front.joined))) before on
 
+pub returns-then-not-is_empty-clause-passes : goal.returns-then-not-is_empty-clause-passes
+returns-then-not-is_empty-clause-passes g c =
+    let gone = gone_more g (goal.at.returns-then-not-is_empty-clause-passes g c).After-from in
+    leaves-all c.args.text.now c.in-Ok.front.rest.now (c.loop-room.put + c.from.result) gone.0 c.utf8.text (search rules) gone.1 gone.2 (omega (arith, c.in-Ok.ensures.passes.shorter, c.loop-room.invariant.left))
+
+pub returns-then-not-is_empty-clause-steps : goal.returns-then-not-is_empty-clause-steps
+returns-then-not-is_empty-clause-steps g c = steps_more g (goal.at.returns-then-not-is_empty-clause-steps g c).After-from
+
 pub loop-room-preserved : goal.loop-room-preserved
 loop-room-preserved g c =
-    let leaves = c.in-Ok.ensures.passes in
-    let gone = c.loop-room.invariant.gone in
-    let front = c.in-Ok.front in
+    let shorter = c.in-Ok.ensures.passes.shorter in
+    let at = (goal.at.loop-room-preserved g c).After-from in
     record {
       utf8 = search rules;
-      left = omega (arith, leaves.shorter, c.loop-room.invariant.left);
-      gone = (gone.0 ++ leaves.front, gone.1 ∙ ap (λ l. gone.0 ++ l) leaves.is_front ∙ sym (append_assoc gone.0 leaves.front (chars front.rest.now)), omega (arith, gone.2, leaves.few, c.from.ensures ∙ byte_of front.joined, length-append gone.0 leaves.front));
+      left = omega (arith, shorter, c.loop-room.invariant.left);
+      gone = gone_more g at;
       within = c.in-Ok.ensures.within;
-      empty = nothing c.take_front.new.formed.items (search rules);
-      begun = inl (omega (arith, leaves.shorter, c.loop-room.invariant.left));
+      empty = nil_from_length c.take_front.new.formed.items (search rules);
+      begun = inl (omega (arith, shorter, c.loop-room.invariant.left));
       steps = λ f x start stands.
-          let p = g.R.Rows.properties c.args.rows.now in
-          let before = c.loop-room.invariant.steps f x start stands in
-          let on = steps-on p f c.take_front.new.self start c.take_front.new.room.items (x ++ before.front) c.loop-room.rest.now c.take_front.new.formed.items c.loop-room.self c.loop-room.room.items (Ok front)
-          c.in-Ok.ensures.passes c.in-Ok.ensures.takes before.stands in
-          StepsTo-at p f start x c.args.text.now c.take_front.new.self (c.take_front.new.room.items ++ (front.same.now ++ encode_utf8_all c.take_front.new.formed.items)) c.take_front.new.room.items front.rest.now (c.loop-room.put + c.from.result) (nothing_out c.take_front.new.room.items front.same.now c.take_front.new.formed.items (search rules) (search rules))
-          (StepsTo-more p f start x c.args.text.now c.loop-room.self c.take_front.new.self c.loop-room.room.items (c.take_front.new.room.items ++ (front.same.now ++ encode_utf8_all c.take_front.new.formed.items)) c.loop-room.rest.now front.rest.now
-          c.loop-room.put (one_if front.joined) (c.loop-room.put + c.from.result) (ap (λ n. c.loop-room.put + n) (sym (c.from.ensures ∙ byte_of front.joined))) before on);
+          StepsTo-at (g.R.Rows.properties c.args.rows.now) f start x c.args.text.now c.take_front.new.self _ c.take_front.new.room.items c.in-Ok.front.rest.now (c.loop-room.put + c.from.result)
+          (nothing_out c.take_front.new.room.items c.in-Ok.front.same.now c.take_front.new.formed.items (search rules) (search rules)) (steps_more g at f x start stands);
     }
 
 pub returns-in-Err-clause-steps : goal.returns-in-Err-clause-steps
