@@ -15,7 +15,7 @@ use Rattle.nf_row.specs.declared.ends.Ends.{Ends}
 use Rattle.nf_row.specs.declared.single.Single.{Single}
 use Rattle.nf_row.specs.Ends.{HasEnds}
 use Rattle.nf_row.specs.Single.{IsSingle}
-use Rattle.nf_forms.specs.Laws.Runs.{has_starter-append, lead-marks, lead-le-length, trail-marks, trail-push}
+use Rattle.nf_forms.specs.Laws.Runs.{lead-marks, lead-le-length, trail-marks}
 use Rattle.nf_forms.specs.Laws.StreamSafe.{stream_safe-push, decomposed-push}
 use Rattle.nf_forms.specs.Laws.Sound.{JoinerIsPlain, IsSound, IsSound-from_test, JoinerIsPlain-from_sound}
 use Rattle.nf_safe.specs.Count.{counted, passes, count_step}
@@ -27,6 +27,7 @@ use Rattle.nf_normalizer.specs.Settled.{settled, is_usable}
 use Rattle.nf_normalizer.specs.Room.{Start, Holds}
 use Rattle.nf_normalizer.specs.Normalizer.{HasTaken, HasParted, IsWithin, HasRoom, run_behind, front_utf8, settled_text, Pushes, PutsJoiner, Parts, TakesChar}
 use Rattle.nf_normalizer.specs.Laws.Settled.{is_usable-push}
+use Rattle.nf_normalizer.proofs.PushingLemmas.{run_behind-push}
 use Rattle.nf_normalizer.proofs.RoomLemmas.{Holds-at}
 
 module _ (p : Properties) where
@@ -58,14 +59,12 @@ module _ (p : Properties) where
 
   -- the run behind the row of a sound character is no longer than what is counted
   pub run_behind-le : (f : Form) (c run n : ℕ) → is_sound p c ≡ true → run ≤ n → run_behind p run (row_of f p c) ≤ counted p n (p.compat c)
-  run_behind-le f c run n sound below = of_row (λ row. run_behind p run row ≤ counted p n (p.compat c)) c canonical (same (has_starter p (p.compat c)) _ _) f
+  run_behind-le f c run n sound below =
+      of_row (λ w. run_behind p run w ≤ counted p n (p.compat c)) c (at (p.canonical c) row.marks_agree row.trail_within row.lead_within)
+      (at (p.compat c) (λ e. e) (omega arith) (omega arith)) f
     where
       row : IsSound p c
       row = IsSound-from_test p c sound
-
-      same : (b : Bool) (t l : ℕ) → (if b then t else run + l) ≤ (if b then t else n + l)
-      same true t l = omega arith
-      same false t l = omega arith
 
       next : (b d : Bool) (tc lc hc tk lk hk : ℕ) → (b ≡ false → d ≡ false) → (b ≡ false → hc ≡ lc) → (d ≡ false → hk ≡ lk) → (d ≡ false → tk ≡ lk) → tc ≤ tk → hc ≤ hk
           → (if b then tc else run + lc) ≤ (if d then tk else n + lk)
@@ -74,9 +73,10 @@ module _ (p : Properties) where
       next false true tc lc hc tk lk hk agree e f g t h = let absent : true ≡ false = agree refl in cc
       next false false tc lc hc tk lk hk agree e f g t h = omega (arith, e refl, f refl)
 
-      canonical : run_behind p run (p.canonical c) ≤ counted p n (p.compat c)
-      canonical = next (has_starter p (p.canonical c)) (has_starter p (p.compat c)) _ _ (lead p (p.canonical c)) _ _ (lead p (p.compat c)) row.marks_agree
-          (lead-marks p (p.canonical c)) (lead-marks p (p.compat c)) (trail-marks p (p.compat c)) row.trail_within row.lead_within
+      at : (w : List ℕ) → (has_starter p w ≡ false → has_starter p (p.compat c) ≡ false) → trail p w ≤ trail p (p.compat c) → lead p w ≤ lead p (p.compat c)
+          → run_behind p run w ≤ counted p n (p.compat c)
+      at w agree trails leads =
+          next (has_starter p w) (has_starter p (p.compat c)) _ _ (lead p w) _ _ (lead p (p.compat c)) agree (lead-marks p w) (lead-marks p (p.compat c)) (trail-marks p (p.compat c)) trails leads
 
   -- one member is the row of a character of which a form has one code point, also behind what keeps the form
   pub row_of-single : (old new : Normalizer) (c : ℕ) (single : Single) → IsSingle p old.form c single → new.form ≡ old.form → row_of new.form p c ≡ single.member ∷ []
@@ -87,11 +87,9 @@ module _ (p : Properties) where
 
   -- a row of one member behind a run, and where there is room for it
   one_behind : (n c : ℕ) → (if is_starter p c then 0 else n + 1) ≡ run_behind p n (c ∷ [])
-  one_behind n c = next (is_starter p c) (has_starter p (c ∷ [])) (trail p (c ∷ [])) (has_starter-append p [] (c ∷ [])) (trail-push p [] c)
-    where
-      next : (b has : Bool) (t : ℕ) → has ≡ (false || (b || false)) → t ≡ (if b then 0 else 0 + 1) → (if b then 0 else n + 1) ≡ (if has then t else n + 1)
-      next true has t e f = sym (ap (λ s. if s then t else n + 1) e ∙ f)
-      next false has t e f = sym (ap (λ s. if s then t else n + 1) e)
+  one_behind n c =
+      let none : n ≡ n + 0 = omega arith in
+      ap (λ k. if is_starter p c then 0 else k + 1) none ∙ sym (run_behind-push p n [] c)
 
   pub within-single : (part new : Normalizer) (c d : ℕ) → row_of part.form p c ≡ d ∷ [] → HasRoom p part c
       → run_len new.pending ≡ (if is_starter p d then 0 else run_len part.pending + 1) → new.counter ≡ part.counter → IsWithin new

@@ -29,13 +29,6 @@ loop-room-init g c = record {
   steps = λ f x start stands. StepsTo-none (g.R.Rows.properties c.args.rows.now) f start x c.args.text.now _ _ stands;
 }
 
-pub overflow_add-put : goal.overflow_add-put
-overflow_add-put g c =
-    let gone = c.loop-room.invariant.gone in
-    let leaves = c.in-Ok.ensures.passes in
-    let text = c.args.text.now in
-    omega (arith, gone.2, leaves.few, c.from.ensures ∙ byte_of c.in-Ok.front.joined, ap length gone.1, ap length leaves.is_front, length-append gone.0 (chars c.loop-room.rest.now), length-append leaves.front (chars c.in-Ok.front.rest.now), length-le-encodes (chars text), ap length (encodes-chars text c.utf8.text))
-
 -- with one front more
 gone_more : (g : given.Over) (c : After-from g) → (front : List ℕ) × (chars c.args.text.now ≡ front ++ chars c.in-Ok.front.rest.now) × (c.loop-room.put + c.from.result ≤ length front)
 gone_more g c =
@@ -51,12 +44,15 @@ steps_more : (g : given.Over) (c : After-from g) (f : Form) (x : List ℕ) (star
     c.in-Ok.front.rest.now (c.loop-room.put + c.from.result)
 steps_more g c f x start stands =
     let p = g.R.Rows.properties c.args.rows.now in
-    let front = c.in-Ok.front in
     let before = c.loop-room.invariant.steps f x start stands in
-    let on = steps-on p f c.take_front.new.self start c.take_front.new.room.items (x ++ before.front) c.loop-room.rest.now c.take_front.new.formed.items c.loop-room.self c.loop-room.room.items (Ok front)
-    c.in-Ok.ensures.passes c.in-Ok.ensures.takes before.stands in
-    StepsTo-more p f start x c.args.text.now c.loop-room.self c.take_front.new.self c.loop-room.room.items (c.take_front.new.room.items ++ (front.same.now ++ encode_utf8_all c.take_front.new.formed.items)) c.loop-room.rest.now front.rest.now
-    c.loop-room.put (one_if front.joined) (c.loop-room.put + c.from.result) (ap (λ n. c.loop-room.put + n) (sym (c.from.ensures ∙ byte_of front.joined))) before on
+    StepsTo-more p f start x c.args.text.now _ _ _ _ _ _ _ _ _ (ap (λ n. c.loop-room.put + n) (sym (c.from.ensures ∙ byte_of c.in-Ok.front.joined))) before
+    (steps-on p f _ start _ (x ++ before.front) c.loop-room.rest.now _ _ _ (Ok c.in-Ok.front) c.in-Ok.ensures.passes c.in-Ok.ensures.takes before.stands)
+
+pub overflow_add-put : goal.overflow_add-put
+overflow_add-put g c =
+    let gone = gone_more g (goal.at.overflow_add-put g c).After-from in
+    let text = c.args.text.now in
+    omega (arith, gone.2, ap length gone.1, length-append gone.0 (chars c.in-Ok.front.rest.now), length-le-encodes (chars text), ap length (encodes-chars text c.utf8.text))
 
 pub returns-then-not-is_empty-clause-passes : goal.returns-then-not-is_empty-clause-passes
 returns-then-not-is_empty-clause-passes g c =
