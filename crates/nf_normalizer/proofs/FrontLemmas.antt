@@ -229,9 +229,6 @@ module _ (p : Properties) (f : Form) (start : Start) (x text : List ℕ) where
     joins = omega (arith, first.joins, next.joins, sum, ap (λ y. length (stream_safe p y)) (append_assoc x first.front next.front), length-append first.front next.front);
   }
 
-  pub StepsTo-at : (normalizer : Normalizer) (out same rest : List ℕ) (n : ℕ) → out ≡ same → StepsTo f p normalizer start out x text rest n → StepsTo f p normalizer start same x text rest n
-  StepsTo-at normalizer out same rest n is steps = subst (λ o. StepsTo f p normalizer start o x text rest n) is steps
-
 pub leaves-all : (text rest : List ℕ) (n : ℕ) (front : List ℕ) → IsUtf8 text → IsUtf8 rest → chars text ≡ front ++ chars rest → n ≤ length front → length rest < length text → Leaves text rest n
 leaves-all text rest n front utf8 behind is few shorter = record { front = front; some = next front is; few = few; is_front = is; shorter = shorter }
   where

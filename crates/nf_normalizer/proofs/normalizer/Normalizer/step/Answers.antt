@@ -1,11 +1,11 @@
-use Rattle.std.proofs.Common.{◌≡◌, ℕ, ◌+◌, ◌<◌, ◌≤◌, [], ◌++◌, length, List, Bool, true, false, Ok, Err, inl, inr, ⊎_elim, refl, sym, ap, ◌∙◌, arith, rules, append_assoc, append-nil, encode_utf8_all, chars, length-append}
+use Rattle.std.proofs.Common.{◌≡◌, ℕ, ◌+◌, ◌<◌, ◌≤◌, [], ◌++◌, length, List, Bool, true, false, Ok, Err, inl, inr, ⊎_elim, refl, sym, ap, subst, ◌∙◌, arith, rules, append_assoc, append-nil, encode_utf8_all, chars, length-append}
 use Rattle.std.proofs.lemmas.List.{nil_from_length}
 use Rattle.std.proofs.lemmas.Str.{encodes-chars, length-le-encodes}
 use mir.Val.{bool_byte}
 use Rattle.nf_forms.specs.declared.form.Form.{Form}
 use Rattle.nf_normalizer.specs.Front.{Stands, StepsTo, one_if}
 use Rattle.nf_normalizer.specs.Room.{Start}
-use Rattle.nf_normalizer.proofs.FrontLemmas.{steps-on, StepsTo-none, StepsTo-more, StepsTo-at, leaves-all}
+use Rattle.nf_normalizer.proofs.FrontLemmas.{steps-on, StepsTo-none, StepsTo-more, leaves-all}
 use Rattle.nf_normalizer.proofs.normalizer.Normalizer.step.Given as given
 use Rattle.nf_normalizer.proofs.normalizer.Normalizer.step.Goals as goal
 use Rattle.nf_normalizer.proofs.normalizer.Normalizer.step.Goals.{After-from, then-loop-room-test+else-len-ge-STEP, else-loop-room-test}
@@ -74,7 +74,7 @@ loop-room-preserved g c =
       empty = nil_from_length c.take_front.new.formed.items (search rules);
       begun = inl (omega (arith, shorter, c.loop-room.invariant.left));
       steps = λ f x start stands.
-          StepsTo-at (g.R.Rows.properties c.args.rows.now) f start x c.args.text.now c.take_front.new.self _ c.take_front.new.room.items c.in-Ok.front.rest.now (c.loop-room.put + c.from.result)
+          subst (λ o. StepsTo f (g.R.Rows.properties c.args.rows.now) c.take_front.new.self start o x c.args.text.now c.in-Ok.front.rest.now (c.loop-room.put + c.from.result))
           (nothing_out c.take_front.new.room.items c.in-Ok.front.same.now c.take_front.new.formed.items (search rules) (search rules)) (steps_more g at f x start stands);
     }
 
@@ -85,7 +85,7 @@ returns-in-Err-clause-steps g c = λ f x start stands.
     record {
       front = before.front;
       is_front = before.is_front;
-      refuses = steps-on p f c.take_front.new.self start c.take_front.new.room.items (x ++ before.front) c.loop-room.rest.now c.take_front.new.formed.items c.loop-room.self c.loop-room.room.items (Err c.in-Err.field-0)
+      refuses = steps-on p f c.take_front.new.self start _ (x ++ before.front) c.loop-room.rest.now c.take_front.new.formed.items _ _ (Err c.in-Err.field-0)
           c.in-Err.ensures.passes c.in-Err.ensures.takes before.stands;
     }
 
@@ -100,7 +100,7 @@ returns-clause-passes g c =
 
 pub returns-clause-steps : goal.returns-clause-steps
 returns-clause-steps g c = λ f x start stands.
-    StepsTo-at (g.R.Rows.properties c.args.rows.now) f start x c.args.text.now c.loop-room.self c.loop-room.room.items (c.loop-room.room.items ++ encode_utf8_all c.loop-room.formed.items) c.loop-room.rest.now c.loop-room.put
+    subst (λ o. StepsTo f (g.R.Rows.properties c.args.rows.now) c.loop-room.self start o x c.args.text.now c.loop-room.rest.now c.loop-room.put)
     (sym (nothing_out c.loop-room.room.items [] c.loop-room.formed.items refl (ap length c.loop-room.invariant.empty))) (c.loop-room.invariant.steps f x start stands)
 
 pub returns-in-Err-clause-passes : goal.returns-in-Err-clause-passes
