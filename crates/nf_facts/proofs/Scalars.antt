@@ -61,13 +61,11 @@ scalar-pair a b c h =
 
 -- ---- forms
 
-scalars-normalize : (form : KitForm) (x : List ℕ) → list_all scalar x ≡ true → list_all scalar (normalize form x) ≡ true
-unfolding ucd
-scalars-normalize form x = list_all-normalize form scalar (scalars-row form) (λ a b c _ _ made. scalar-pair a b c made) x
-
 pub scalars-normal_form : (f : Form) (x : List ℕ) → all_scalars x ≡ true → all_scalars (normal_form f ucd x) ≡ true
+unfolding ucd
 scalars-normal_form f x is =
-    ap all_scalars (normal_form-ucd f x) ∙ scalars-all (normalize (kit_form f) x) ∙ scalars-normalize (kit_form f) x (sym (scalars-all x) ∙ is)
+    ap all_scalars (normal_form-ucd f x) ∙ scalars-all (normalize (kit_form f) x)
+    ∙ list_all-normalize (kit_form f) scalar (scalars-row (kit_form f)) (λ a b c _ _ made. scalar-pair a b c made) x (sym (scalars-all x) ∙ is)
 
 scalars-safe_form : (f : Form) (x : List ℕ) → all_scalars x ≡ true → all_scalars (safe_form f ucd x) ≡ true
 unfolding safe_form
