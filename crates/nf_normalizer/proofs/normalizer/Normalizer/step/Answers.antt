@@ -39,9 +39,10 @@ gone_more g c =
       omega (arith, gone.2, leaves.few, c.from.ensures ∙ byte_of c.in-Ok.front.joined, length-append gone.0 leaves.front),
     )
 
-steps_more : (g : given.Over) (c : After-from g) (f : Form) (x : List ℕ) (start : Start) → Stands f (g.R.Rows.properties c.args.rows.now) c.args.self.now start c.args.room.now.items x (chars c.args.text.now)
-    → StepsTo f (g.R.Rows.properties c.args.rows.now) c.take_front.new.self start (c.take_front.new.room.items ++ (c.in-Ok.front.same.now ++ encode_utf8_all c.take_front.new.formed.items)) x c.args.text.now
-    c.in-Ok.front.rest.now (c.loop-room.put + c.from.result)
+steps_more : (g : given.Over) (c : After-from g) (f : Form) (x : List ℕ) (start : Start)
+    → Stands f (g.R.Rows.properties c.args.rows.now) c.args.self.now start c.args.room.now.items x (chars c.args.text.now)
+    → StepsTo f (g.R.Rows.properties c.args.rows.now) c.take_front.new.self start (c.take_front.new.room.items ++ (c.in-Ok.front.same.now ++ encode_utf8_all c.take_front.new.formed.items))
+    x c.args.text.now c.in-Ok.front.rest.now (c.loop-room.put + c.from.result)
 steps_more g c f x start stands =
     let p = g.R.Rows.properties c.args.rows.now in
     let before = c.loop-room.invariant.steps f x start stands in
@@ -57,7 +58,8 @@ overflow_add-put g c =
 pub returns-then-not-is_empty-clause-passes : goal.returns-then-not-is_empty-clause-passes
 returns-then-not-is_empty-clause-passes g c =
     let gone = gone_more g (goal.at.returns-then-not-is_empty-clause-passes g c).After-from in
-    leaves-all c.args.text.now c.in-Ok.front.rest.now (c.loop-room.put + c.from.result) gone.0 c.utf8.text (search rules) gone.1 gone.2 (omega (arith, c.in-Ok.ensures.passes.shorter, c.loop-room.invariant.left))
+    leaves-all c.args.text.now c.in-Ok.front.rest.now (c.loop-room.put + c.from.result) gone.0 c.utf8.text (search rules) gone.1 gone.2
+    (omega (arith, c.in-Ok.ensures.passes.shorter, c.loop-room.invariant.left))
 
 pub returns-then-not-is_empty-clause-steps : goal.returns-then-not-is_empty-clause-steps
 returns-then-not-is_empty-clause-steps g c = steps_more g (goal.at.returns-then-not-is_empty-clause-steps g c).After-from
