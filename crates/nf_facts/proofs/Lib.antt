@@ -6,7 +6,6 @@ mod SameForms
 mod SameSafe
 mod FormsAfter
 mod Scalars
-pub mod Refused
 mod Halfwidth
 mod Starters
 mod Marks

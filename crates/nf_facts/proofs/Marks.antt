@@ -10,7 +10,7 @@ use Rattle.nf_forms.specs.Calm.{IsMark}
 use Rattle.nf_facts.specs.KitForm.{kit_form}
 use Rattle.nf_facts.specs.Passing.{is_among, mapped_marks}
 use Rattle.nf_facts.proofs.Mapped.{class-syllable, by_kind}
-use Rattle.nf_facts.proofs.Refused.{no_mapped_mark}
+use Rattle.nf_facts.specs.Refused.{no_mapped_mark}
 
 pub mark-ucd : (c : ℕ) → 0 < ccc c → is_among mapped_marks c ≡ false → IsMark ucd c (ccc c)
 unfolding ucd

@@ -5,3 +5,4 @@ pub mod Plain
 pub mod PlainRanges
 pub mod LineFeed
 pub mod Within
+pub mod Refused

@@ -13,10 +13,10 @@ use Rattle.nf_forms.specs.Laws.Closing.{safe_form-closed}
 use Rattle.nf_forms.specs.Laws.Front.{front-append_some, front-at, front-none}
 use Rattle.nf_forms.specs.Laws.Parting.{safe_form-push}
 use Rattle.nf_filter.specs.Laws.Soundness.{AreSound}
-use Rattle.nf_filter.proofs.PolicyLemmas.{allowed-append, allowed-grows, allowed-none, first_fault-none}
+use Rattle.nf_filter.proofs.PolicyLemmas.{allowed-append, allowed-grows, allowed-none, first_fault-none, taken as is_taken-from}
 use Rattle.std.proofs.lemmas.Bool.{and_parts}
 use Rattle.nf_filter.specs.Settled.{is_usable}
-use Rattle.nf_filter.proofs.AgainLemmas.{final-whole, taken as is_taken-from}
+use Rattle.nf_filter.proofs.AgainLemmas.{final-whole}
 use Rattle.nf_filter.proofs.PieceLemmas.{left-whole}
 use Rattle.nf_filter.proofs.ReadingLemmas.{ending_of-none}
 use Rattle.nf_normalizer.specs.Laws.Settled.{usable-all, is_usable-none}

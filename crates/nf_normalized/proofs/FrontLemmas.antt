@@ -34,7 +34,7 @@ use Rattle.nf_safe.specs.Place.{is_in_format}
 use Rattle.nf_facts.specs.KitForm.{kit_form}
 use Rattle.nf_facts.specs.After.{after}
 use Rattle.nf_facts.specs.Passing.{is_among, halfwidth_marks, vowel_signs}
-use Rattle.nf_facts.proofs.Refused.{refuses, not_among, no_vowel_sign}
+use Rattle.nf_facts.specs.Refused.{refuses, not_among, no_vowel_sign}
 use Rattle.nf_normalized.proofs.KeptLemmas.{some_of, length-form_of}
 use Rattle.nf_normalized.proofs.TakenLemmas.{IsRow, last_taken}
 
