@@ -1,11 +1,16 @@
 """Whole texts: convert, is_stream_safe and find_unsafe, is_normalized and find_change."""
 
+import bz2
 import random
 import unicodedata
 import unittest
+from pathlib import Path
 
 import nfstream
 from tests.model import FORMS, any_text, due, is_known, stream_safe
+
+# The rows of Unicode's vectors, where Debian's package unicode-data is: each has a source, and its NFC, NFD, NFKC and NFKD.
+VECTORS = Path("/usr/share/unicode/NormalizationTest.txt.bz2")
 
 
 class Convert(unittest.TestCase):
@@ -207,6 +212,21 @@ class Normalized(unittest.TestCase):
             self.assertTrue(nfstream.is_normalized("\n".join(kept).encode(), form))
             for it in set(known) - set(kept):
                 self.assertEqual(nfstream.find_change(f"\u65e5\n{it}".encode(), form), (2, 4), (form, ascii(it)))
+
+    @unittest.skipUnless(VECTORS.exists(), "no unicode-data")
+    def test_vectors(self) -> None:
+        rows = 0
+        for line in bz2.open(VECTORS, "rt", encoding="utf-8"):
+            if line[0] in "#@":
+                continue
+            columns = ["".join(chr(int(code, 16)) for code in column.split()) for column in line.split(";")[:5]]
+            source, nfc, nfd, nfkc, nfkd = columns
+            forms = {"nfc": [nfc] * 3 + [nfkc] * 2, "nfd": [nfd] * 3 + [nfkd] * 2, "nfkc": [nfkc] * 5, "nfkd": [nfkd] * 5}
+            for form, wanted in forms.items():
+                for column, its_form in zip(columns, wanted):
+                    self.assertEqual(nfstream.is_normalized(column.encode(), form), column == its_form, (form, ascii(column), source))
+            rows += 1
+        self.assertGreater(rows, 15000)
 
     def test_random_texts(self) -> None:
         draw = random.Random(5)
