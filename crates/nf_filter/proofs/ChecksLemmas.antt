@@ -33,7 +33,7 @@ use Rattle.nf_filter.specs.Taker.{stop_or, stop_in, TakesText}
 use Rattle.nf_filter.specs.Checks.{sound_front, check_fault, place_or_fault, check_decision, place_or_row, check_stop, HasChecked, Sees, HasSeenFront}
 use Rattle.nf_filter.proofs.TakingLemmas.{front-behind, front-more, front-whole}
 use Rattle.nf_filter.proofs.PolicyLemmas.{take_while-all, take_while-append, take_while-stop}
-use Rattle.nf_filter.proofs.SurveysLemmas.{told}
+use Rattle.nf_filter.specs.Taker.{told}
 
 module _ (p : Properties) where
   pub all_sound-push : (x : List ℕ) (c : ℕ) → list_all (is_sound p) x ≡ true → is_sound p c ≡ true → list_all (is_sound p) (x ++ c ∷ []) ≡ true

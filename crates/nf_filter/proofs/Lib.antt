@@ -12,7 +12,6 @@ pub mod PieceLemmas
 pub mod ChunkLemmas
 pub mod FedLemmas
 pub mod ReadingLemmas
-pub mod SourcesLemmas
 pub mod FilterLemmas
 pub mod CutLemmas
 pub mod FinishLemmas

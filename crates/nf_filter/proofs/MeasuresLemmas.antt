@@ -22,7 +22,7 @@ use Rattle.nf_filter.specs.Measures.{HasMeasured, SeesText, unusable_stop}
 use Rattle.nf_normalizer.specs.Laws.Settled.{is_usable-push}
 use Rattle.nf_filter.proofs.TextLemmas.{unusable_at-usable, unusable_at-stop}
 use Rattle.nf_filter.proofs.FilterLemmas.{stop_in-fault}
-use Rattle.nf_filter.proofs.SurveysLemmas.{told}
+use Rattle.nf_filter.specs.Taker.{told}
 
 abbrev pub refused : {T : Type 0} → Fault → Result T Fault
 refused fault = Err fault

@@ -1,18 +1,20 @@
 -- A piece more.
-use Rattle.std.proofs.Common.{◌≡◌, ℕ, ◌+◌, ◌-◌, ◌≤◌, ◌==◌, List, [], ◌++◌, length, Some, None, Ok, Err, refl, sym, ap, ◌∙◌, arith, eq-eqb, subst, Option, if◌then◌else◌, chars, take_all, length-drop, append_assoc}
+use Rattle.std.proofs.Common.{◌≡◌, ℕ, ◌+◌, ◌-◌, ◌≤◌, ◌==◌, List, [], ◌++◌, length, Some, None, Ok, Err, refl, sym, ap, ◌∙◌, arith, eq-eqb, subst, Option, Result, if◌then◌else◌, chars, take_all, length-drop, append_assoc}
+use Rattle.std.specs.Result.{result_map_both}
 use Rattle.std.proofs.lemmas.Str.{chars-nil, utf8_valid_len_le}
 use Rattle.nf_utf8.specs.declared.decoder.Decoder.{Decoder}
 use Rattle.nf_utf8.specs.declared.chunk.End.{End}
 use Rattle.nf_utf8.specs.declared.chunk.End.TheVariants.{Whole as EndsWhole, Cut as EndsCut, Bad as EndsBad}
 use Rattle.nf_utf8.specs.Taking.{first_bytes, EndsPiece, bytes_behind, Counts, Takes, first_text}
-use Rattle.nf_utf8.specs.Ending.{Whole, Bad, Cut}
+use Rattle.nf_utf8.specs.Ending.{Ending, Whole, Bad, Cut}
 use Rattle.nf_utf8.specs.Reading.{text_len, text_of, rest_of, begun_len, ending_of}
 use Rattle.nf_utf8.specs.Standing.{StandsAfter as DecoderStandsAfter}
+use Rattle.nf_filter.specs.declared.fault.Fault.{Fault}
 use Rattle.nf_filter.specs.declared.fault.Fault.TheVariants.{BadByte}
 use Rattle.nf_filter.specs.declared.reading.Reading.{Reading}
 use Rattle.nf_filter.specs.declared.taker.Stop.{Stop}
 use Rattle.nf_filter.specs.declared.taker.Stop.TheVariants.{Refused}
-use Rattle.nf_filter.specs.Faults.{bad_byte}
+use Rattle.nf_filter.specs.Faults.{bad_byte, answer_at_end}
 use Rattle.nf_filter.specs.Taker.{TakesText, stop_or, stop_in, HasRead, ReadsPiece}
 
 -- no bytes spell nothing
@@ -39,6 +41,13 @@ HasRead-none stands stops base reading offset decoder taken unstopped = record {
   taken = rw text_of-none taken;
   unstopped = rw (text_of-none, ending_of-none) (ap (λ o. stop_or o None) unstopped);
 }
+
+-- an answer at the end, by another that differs in the value alone
+pub end_is : {T : Type 0} (base : ℕ) (value : T) (ending : Ending) (end : Result (Unit {0}) Fault) → end ≡ answer_at_end base (tt {0}) ending
+    → result_map_both (λ _. value) (λ fault. fault) end ≡ answer_at_end base value ending
+end_is base value Whole end is = ap (result_map_both (λ _. value) (λ fault. fault)) is
+end_is base value (Bad at start) end is = ap (result_map_both (λ _. value) (λ fault. fault)) is
+end_is base value (Cut at start) end is = ap (result_map_both (λ _. value) (λ fault. fault)) is
 
 -- a piece without an ill-formed byte is taken whole
 module _ (bytes piece : List ℕ) where

@@ -10,10 +10,10 @@ pub mod Settled
 pub mod Laws
 pub mod Faults
 pub mod Counted
+pub mod Surveys
 pub mod Taker
 pub mod Stepping
 pub mod Feeding
-pub mod Sources
 pub mod Filter
 pub mod Feeds
 pub mod Finishes
@@ -21,7 +21,6 @@ pub mod Drives
 pub mod Whole
 pub mod Again
 pub mod Joined
-pub mod Surveys
 pub mod Checks
 pub mod Measures
 pub mod Saved

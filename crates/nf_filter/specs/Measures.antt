@@ -5,6 +5,7 @@ use Rattle.nf_forms.specs.Properties.{Properties}
 use Rattle.nf_utf8.specs.Reading.{text_of}
 use Rattle.nf_safe.specs.declared.measure.Measure.{Measure}
 use Rattle.nf_safe.specs.declared.measurer.Measurer.{Measurer}
+use Rattle.nf_safe.specs.declared.place.Place.{Place}
 use Rattle.nf_safe.specs.Measurer.{values_of, StandsAfter}
 use Rattle.nf_safe.specs.Measures.{measure_of}
 use Rattle.nf_filter.specs.declared.fault.Fault.{Fault}
@@ -33,6 +34,10 @@ ends_at measurer at = (values_of measurer).bytes ≤ at
 -- what stops it in a text that begins at the offset `base`
 abbrev pub unusable_stop : Properties → ℕ → List ℕ → Option Stop
 unusable_stop p base x = option_map Refused (unusable_at p (utf8_place base) x)
+
+-- no place is looked for
+abbrev pub no_measure : Place → Measure
+no_measure place = record { bytes = 0; chars = 0; nonstarters = 0; longest = 0; put = 0; unassigned = 0 }
 
 -- the text x was measured, or what stops it in that
 abbrev pub SeesText : Properties → Measurer → ℕ → List ℕ → Result (Unit {0}) Stop → Type 0

@@ -4,9 +4,16 @@ use Rattle.std.specs.Io.KnownBytes.{Consumes, IsAtEnd}
 use Rattle.nf_utf8.specs.Reading.{ending_of}
 use Rattle.nf_filter.specs.declared.fault.Fault.{Fault}
 use Rattle.nf_filter.specs.declared.fault.Fault.TheVariants.{TooLong, Read}
-use Rattle.nf_filter.specs.Kinds.{too_long, read, row, ill_formed, cut, IsAmong}
+use Rattle.nf_filter.specs.Kinds.{too_long, read, row, ill_formed, cut, unassigned, IsAmong}
 use Rattle.nf_filter.specs.Devices.{SourceState}
 use Rattle.nf_filter.specs.Faults.{answer_at_end}
+
+-- what is asked of bytes, the first of which has the offset `base`: the answer that they decide, whatever follows them, and
+-- what they are worth where they are all and decide none
+pub record Survey (T : Type 0) : Type 0 where
+  pub base : ℕ
+  pub decision : List ℕ → Option (Result T Fault)
+  pub value : List ℕ → T
 
 -- `decision` is the answer that bytes decide, whatever follows them, and `value` what they are worth where they are
 -- all and decide none; at most `most` bytes are asked for at once
@@ -29,6 +36,10 @@ pub record Surveys {T : Type 0} (most base : ℕ) (decision : List ℕ → Optio
 -- the faults of it
 abbrev pub IsOfSurvey : Fault → Type 0
 IsOfSurvey = IsAmong (too_long ∷ read ∷ row ∷ ill_formed ∷ cut ∷ [])
+
+-- those of bytes that were taken
+abbrev pub IsOfBytes : Fault → Type 0
+IsOfBytes = IsAmong (too_long ∷ row ∷ ill_formed ∷ unassigned ∷ [])
 
 -- the input ended inside a character
 abbrev pub IsCut : Fault → Type 0

@@ -1,19 +1,16 @@
 -- What becomes of a text that is taken piece by piece.
-use Rattle.std.specs.Prelude.{[], ◌∷◌, ◌≡◌, ℕ, ◌+◌, ◌-◌, ◌≤◌, Bool, List, ◌++◌, length, Option, Some, None, option_map, Result, OnOk}
+use Rattle.std.specs.Prelude.{[], ◌∷◌, ◌≡◌, ℕ, ◌+◌, ◌-◌, ◌≤◌, Bool, List, ◌++◌, length, Option, Some, None, option_map, Result, Ok, Err, OnOk}
 use Rattle.std.specs.Result.{result_err}
 use Rattle.nf_utf8.specs.Reading.{text_of, ending_of}
 use Rattle.nf_utf8.specs.Standing.{StandsAfter as DecoderStandsAfter}
+use Rattle.nf_safe.specs.declared.place.Place.{Place}
 use Rattle.nf_filter.specs.declared.fault.Fault.{Fault}
 use Rattle.nf_filter.specs.declared.taker.Stop.{Stop}
 use Rattle.nf_filter.specs.declared.taker.Stop.TheVariants.{Refused, Found}
 use Rattle.nf_filter.specs.declared.reading.Reading.{Reading}
 use Rattle.nf_filter.specs.Kinds.{too_long, row, ill_formed, Holds, IsAmong}
 use Rattle.nf_filter.specs.Faults.{bad_byte}
-
--- it is a fault
-abbrev pub IsRefusal : Stop → Type 0
-IsRefusal (Refused fault) = Unit {0}
-IsRefusal (Found place) = ⊥
+use Rattle.nf_filter.specs.Surveys.{Survey}
 
 -- why a taker may stop, which looks for a place or not
 abbrev pub MayStop : Bool → Stop → Type 0
@@ -49,6 +46,17 @@ pub record IsReady (ends_at : ℕ → Type 0) (reading : Reading) : Type 0 where
 pub record ReadsPiece (stands : List ℕ → Type 0) (stops : List ℕ → Option Stop) (base : ℕ) (reading : Reading) (bytes piece : List ℕ) (result : Result (Unit {0}) Stop) : Type 0 where
   pub stop : result_err result ≡ stop_in stops base (bytes ++ piece)
   pub read : OnOk result (HasRead stands stops base reading (bytes ++ piece))
+
+-- what is answered at a stop: a fault, or what a place comes to
+abbrev pub told : {T : Type 0} → (Place → T) → Stop → Result T Fault
+told answer_of (Refused fault) = Err fault
+told answer_of (Found place) = Ok (answer_of place)
+
+-- the bytes were read, and what stops their reading is what is asked of them, or else what their text comes to
+pub record HasSurveyed {T : Type 0} (stands : List ℕ → Type 0) (stops : List ℕ → Option Stop) (answer_of : Place → T) (value : List ℕ → T) (survey : Survey T) (reading : Reading) (bytes : List ℕ) : Type 0 where
+  pub read : HasRead stands stops survey.base reading bytes
+  pub decides : (bytes : List ℕ) → survey.decision bytes ≡ option_map (told answer_of) (stop_in stops survey.base bytes)
+  pub worth : (bytes : List ℕ) → survey.value bytes ≡ value (text_of bytes)
 
 -- why reading may stop
 abbrev pub MayStopReading : Bool → Stop → Type 0

@@ -9,8 +9,9 @@ ghost use Rattle.nf_filter.specs.Checks.{check_decision, no_place, HasChecked, S
 use crate::devices::Source;
 use crate::fault::Fault;
 use crate::reading::Reading;
-use crate::sources::{BLOCK, read_all};
+use crate::sources::{BLOCK, survey};
 use crate::taker::{Stop, Taker};
+use crate::text_reader::TextReader;
 use nf_row::{Calm, Form, Rows};
 use nf_safe::{Checker, Place};
 use nf_utf8::char_count;
@@ -52,18 +53,19 @@ pub fn check_buffered<R: Rows, I: Source>(
         Surveys (length buffer.old) base (check_decision p base) no_place (I.state source.old) (I.state source.new) result }
     ensures lender { (I.state source.new).lender ≡ (I.state source.old).lender }
 {
-    let mut reading = Reading::new(base);
-    let mut checker = Checker::new(base);
-    match read_all(&mut reading, rows, source, &mut checker, buffer) {
-        Ok(()) => Ok(None),
-        Err(Stop::Found(place)) => Ok(Some(place)),
-        Err(Stop::Refused(fault)) => Err(fault),
-    }
+    let reader = TextReader {
+        reading: Reading::new(base),
+        rows,
+        taker: Checker::new(base),
+    };
+    survey(reader, source, buffer)
 }
 
 impl Taker for Checker {
-    ghost use Rattle.std.specs.Prelude.{true};
+    ghost use Rattle.std.specs.Prelude.{true, Some};
     ghost use Rattle.nf_filter.specs.Checks.{HasChecked, ends_at, check_stop};
+
+    type Answer = Option<Place>;
 
     ghost has_taken = { HasChecked };
 
@@ -72,6 +74,10 @@ impl Taker for Checker {
     ghost stops = { check_stop };
 
     ghost finds = { true };
+
+    ghost answer_of = { Some };
+
+    ghost value = { λ p x. None };
 
     fn take<R: Rows>(
         &mut self,
@@ -87,6 +93,14 @@ impl Taker for Checker {
             return Err(stop);
         }
         see_text(self, rows, text)
+    }
+
+    fn found(place: Place) -> Option<Place> {
+        Some(place)
+    }
+
+    fn end(&self) -> Option<Place> {
+        None
     }
 }
 

@@ -7,10 +7,11 @@ ghost use Rattle.nf_filter.specs.Measures.{measure_decision, text_measure, HasMe
 use crate::devices::Source;
 use crate::fault::Fault;
 use crate::reading::Reading;
-use crate::sources::{BLOCK, read_all};
+use crate::sources::{BLOCK, survey};
 use crate::taker::{Stop, Taker};
+use crate::text_reader::TextReader;
 use nf_row::Rows;
-use nf_safe::{Measure, Measurer};
+use nf_safe::{Measure, Measurer, Place};
 use nf_utf8::ascii_prefix;
 
 /// Reads all that the source gives, and answers what is measured of it. The first byte has the offset `base`. The first
@@ -45,17 +46,20 @@ pub fn measure_buffered<R: Rows, I: Source>(
         Surveys (length buffer.old) base (measure_decision p base) (text_measure p) (I.state source.old) (I.state source.new) result }
     ensures lender { (I.state source.new).lender ≡ (I.state source.old).lender }
 {
-    let mut reading = Reading::new(base);
-    let mut measurer = Measurer::new();
-    match read_all(&mut reading, rows, source, &mut measurer, buffer) {
-        Ok(()) => Ok(measurer.values()),
-        Err(stop) => Err(stop.fault()),
-    }
+    let reader = TextReader {
+        reading: Reading::new(base),
+        rows,
+        taker: Measurer::new(),
+    };
+    survey(reader, source, buffer)
 }
 
 impl Taker for Measurer {
     ghost use Rattle.std.specs.Prelude.{false};
-    ghost use Rattle.nf_filter.specs.Measures.{HasMeasured, ends_at, unusable_stop};
+    ghost use Rattle.nf_safe.specs.Measures.{measure_of};
+    ghost use Rattle.nf_filter.specs.Measures.{HasMeasured, ends_at, unusable_stop, no_measure};
+
+    type Answer = Measure;
 
     ghost has_taken = { HasMeasured };
 
@@ -64,6 +68,10 @@ impl Taker for Measurer {
     ghost stops = { unusable_stop };
 
     ghost finds = { false };
+
+    ghost answer_of = { no_measure };
+
+    ghost value = { measure_of };
 
     fn take<R: Rows>(
         &mut self,
@@ -79,6 +87,14 @@ impl Taker for Measurer {
             return Err(Stop::Refused(Fault::Row { at }));
         }
         see_text(self, rows, at + c.len_utf8() as u64, text)
+    }
+
+    fn found(_place: Place) -> Measure {
+        unreachable!()
+    }
+
+    fn end(&self) -> Measure {
+        self.values()
     }
 }
 

@@ -2,7 +2,9 @@
 ghost use Rattle.std.specs.Prelude.{◌≡◌, ◌+◌, ◌≤◌, ℕ, Bool, List, Option, ◌++◌, length, chars, IfErr, OnOk, encode_utf8_all};
 ghost use Rattle.nf_forms.specs.Properties.{Properties};
 ghost use Rattle.nf_utf8.specs.Taking.{first_text, first_bytes};
+ghost use Rattle.nf_safe.specs.declared.place.Place.{Place};
 ghost use Rattle.nf_filter.specs.declared.taker.Stop.{Stop};
+ghost use Rattle.nf_filter.specs.Kinds.{Holds};
 ghost use Rattle.nf_filter.specs.Taker.{MayStop, TakesText};
 
 use crate::fault::Fault;
@@ -17,24 +19,11 @@ pub enum Stop {
     Found(Place),
 }
 
-impl Stop {
-    ghost use Rattle.std.specs.Prelude.{◌≡◌};
-    ghost use Rattle.nf_filter.specs.Taker.{IsRefusal};
-
-    /// The fault of what looks for nothing.
-    pub fn fault(self) -> Fault
-        requires { IsRefusal self }
-        ensures { self ≡ Stop.Refused result }
-    {
-        match self {
-            Stop::Refused(fault) => fault,
-            Stop::Found(_) => unreachable!(),
-        }
-    }
-}
-
 /// What takes a text, as it comes in, and writes nothing.
-pub trait Taker {
+pub trait Taker: Drop {
+    /// What is told of the text.
+    type Answer;
+
     /// It has taken this text, the first byte of which has this offset.
     ghost has_taken: { Properties → Self → ℕ → List ℕ → Type 0 };
 
@@ -46,6 +35,12 @@ pub trait Taker {
 
     /// Whether it looks for a place.
     ghost finds: { Bool };
+
+    /// What a place comes to.
+    ghost answer_of: { Place → Self.Answer };
+
+    /// What a text comes to that did not stop it.
+    ghost value: { Properties → List ℕ → Self.Answer };
 
     /// Takes the first character, where there is one, and the text behind it, which begins with it at the offset `at`.
     fn take<R: Rows>(
@@ -62,4 +57,13 @@ pub trait Taker {
         ensures takes { let p = R.properties rows.now in
             (base : ℕ) (x : List ℕ) → has_taken p self.old base x → at ≡ base + length (encode_utf8_all x)
             → TakesText (has_taken p self.new base) (stops p base) x (first_text first ++ chars text.now) result };
+
+    /// What is answered where it found a place.
+    fn found(place: Place) -> Self::Answer
+        requires { Holds finds }
+        ensures { result ≡ answer_of place };
+
+    /// What is answered of all that it has taken.
+    fn end(&self) -> Self::Answer
+        ensures { (p : Properties) (base : ℕ) (x : List ℕ) → has_taken p self.now base x → result ≡ value p x };
 }

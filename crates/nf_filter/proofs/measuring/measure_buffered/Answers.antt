@@ -1,41 +1,35 @@
-use Rattle.std.proofs.Common.{[], length, false, sym, ap, ◌∙◌, arith, option_map}
+use Rattle.std.proofs.Common.{◌≡◌, [], Ok, Err, Some, None, refl, sym, ap, ◌∙◌, arith, option_map, Option}
 use Rattle.nf_safe.specs.declared.measure.Measure.{Measure}
-use Rattle.nf_safe.specs.declared.place.Place.{Place}
-use Rattle.nf_safe.specs.Measurer.{values_of}
+use Rattle.nf_filter.specs.declared.fault.Fault.{Fault}
 use Rattle.nf_filter.specs.declared.taker.Stop.TheVariants.{Refused}
 use Rattle.nf_filter.specs.Counted.{utf8_place}
+use Rattle.nf_filter.specs.Measures.{measure_decision, text_measure, no_measure}
 use Rattle.nf_normalizer.specs.Laws.Settled.{is_usable-none}
 use Rattle.nf_filter.proofs.TextLemmas.{unusable_at-usable}
 use Rattle.nf_filter.proofs.ReadingLemmas.{holds_nothing, HasRead-none}
-use Rattle.nf_filter.proofs.SurveysLemmas.{IsOfSurvey-from, Surveys-whole, Surveys-stopped}
+use Rattle.nf_filter.proofs.SurveysLemmas.{all_read}
 use Rattle.nf_filter.proofs.MeasuresLemmas.{decides}
 use Rattle.nf_filter.proofs.measuring.measure_buffered.Goals as goal
 
--- no place is looked for
-no_measure : Measure → Place → Measure
-no_measure measure place = measure
-
-pub read_all-requires-clause-ready : goal.read_all-requires-clause-ready
-read_all-requires-clause-ready g c =
-    let none = holds_nothing c.new-reading.result.decoder c.new-reading.ensures.decoder in
-    let zero = ap (λ m. m.bytes) (c.new-measurer.ensures (g.R.Rows.properties c.args.rows.now)).values in
+pub survey-requires-clause-ready : goal.survey-requires-clause-ready
+survey-requires-clause-ready g c =
+    let none = holds_nothing c.new.result.decoder c.new.ensures.decoder in
+    let zero = ap (λ m. m.bytes) (c.new-2.ensures (g.R.Rows.properties c.args.rows.now)).values in
     record { held = omega (arith, none); end = omega (arith, none, zero) }
 
-pub returns-in-Ok-clause-surveys : goal.returns-in-Ok-clause-surveys
-returns-in-Ok-clause-surveys g c =
+pub returns-clause-surveys : goal.returns-clause-surveys
+returns-clause-surveys g c =
     let p = g.R.Rows.properties c.args.rows.now in
-    let reads = c.in-Ok.ensures.reads c.args.base [] (HasRead-none _ _ _ _ c.new-reading.ensures.offset c.new-reading.ensures.decoder (c.new-measurer.ensures p)
-    (ap (option_map Refused) (unusable_at-usable p (utf8_place c.args.base) [] (is_usable-none p)))) in
-    Surveys-whole (no_measure c.values.result) (length c.args.buffer.now) c.args.base _ _ _ _ (decides p (no_measure c.values.result) c.args.base) _ _ _ tt c.in-Ok.ensures.end reads c.values.result
-    (sym reads.read.taken.values ∙ sym c.values.ensures)
+    let base = c.args.base in
+    c.survey.ensures.surveys (record { base = base; decision = measure_decision p base; value = text_measure p }) (record {
+      read = HasRead-none _ _ _ _ c.new.ensures.offset c.new.ensures.decoder (c.new-2.ensures p) (ap (option_map Refused) (unusable_at-usable p (utf8_place base) [] (is_usable-none p)));
+      decides = decides p no_measure base;
+      worth = λ bytes. refl;
+    })
 
-pub returns-in-Err-clause-faults : goal.returns-in-Err-clause-faults
-returns-in-Err-clause-faults g c = IsOfSurvey-from false c.fault.result (rw c.fault.ensures at c.in-Err.ensures.stop)
-
-pub returns-in-Err-clause-surveys : goal.returns-in-Err-clause-surveys
-returns-in-Err-clause-surveys g c =
-    let p = g.R.Rows.properties c.args.rows.now in
-    let none = values_of c.new-measurer.result in
-    let reads = rw c.fault.ensures at (c.in-Err.ensures.reads c.args.base [] (HasRead-none _ _ _ _ c.new-reading.ensures.offset c.new-reading.ensures.decoder (c.new-measurer.ensures p)
-    (ap (option_map Refused) (unusable_at-usable p (utf8_place c.args.base) [] (is_usable-none p))))) in
-    Surveys-stopped (no_measure none) (length c.args.buffer.now) c.args.base _ _ _ _ (decides p (no_measure none) c.args.base) _ _ _ (Refused c.fault.result) reads
+pub returns-clause-end : goal.returns-clause-end
+returns-clause-end g c = all_read c.survey.result (returns-clause-surveys g c) (λ measure is bytes. no_answer _)
+  where
+    no_answer : {measure : Measure} (fault : Option Fault) → ¬ (option_map Err fault ≡ Some (Ok measure))
+    no_answer None e = cc
+    no_answer (Some fault) e = cc

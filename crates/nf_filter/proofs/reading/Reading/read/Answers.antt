@@ -1,4 +1,4 @@
-use Rattle.std.proofs.Common.{◌+◌, ◌-◌, ◌++◌, length, arith, length-append}
+use Rattle.std.proofs.Common.{◌+◌, ◌++◌, length, arith, length-append}
 use Rattle.nf_utf8.specs.Reading.{text_of, text_len}
 use Rattle.nf_utf8.specs.Taking.{first_bytes}
 use Rattle.nf_filter.proofs.ReadingLemmas.{ends_well, all_behind, all_counted, ready_after, ReadsPiece-stopped, ReadsPiece-bad, ReadsPiece-read}

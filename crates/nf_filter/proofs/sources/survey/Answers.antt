@@ -1,0 +1,63 @@
+use Rattle.std.proofs.Common.{⊎_elim, ◌≡◌, ◌+◌, ◌^◌, ◌++◌, [], length, take, refl, sym, ap, ◌∙◌, arith, Err, Some, eq-eqb, ne_eqb, length-take}
+use Rattle.std.proofs.KnownBytes.{Consumes-kept, Consumes-nil, Consumes-trans}
+use Rattle.std.proofs.lemmas.Bool.{cases_lt}
+use Rattle.nf_filter.specs.declared.fault.Fault.TheVariants.{TooLong}
+use Rattle.nf_filter.proofs.SurveysLemmas.{decided, failed, ended}
+use Rattle.nf_filter.proofs.sources.survey.Goals as goal
+
+pub loop-given-init : goal.loop-given-init
+loop-given-init g c = record {
+  room = refl;
+  ready = c.requires.ready;
+  fits = omega (arith, c.requires.fits);
+  fed = ([], Consumes-nil (g.I.Source.state c.args.source.now).coming, λ survey begun. begun);
+  lender = refl;
+}
+
+pub returns-in-Err-clause-surveys : goal.returns-in-Err-clause-surveys
+returns-in-Err-clause-surveys g c = λ survey begun.
+    let fed = c.loop-given.invariant.fed in
+    let taken = fed.2 survey begun in
+    let stands = g.met.S.Surveyor.stands _ survey fed.0 taken in
+    failed survey fed.0 stands.0 (omega (arith, c.loop-given.invariant.fits, stands.1)) c.in-Err.ensures.failed.1 (Consumes-kept _ _ _ fed.0 fed.1 c.in-Err.ensures.kept)
+
+pub returns-then-given-eq0-clause-surveys : goal.returns-then-given-eq0-clause-surveys
+returns-then-given-eq0-clause-surveys g c = λ survey begun.
+    let fed = c.loop-given.invariant.fed in
+    let taken = fed.2 survey begun in
+    let stands = g.met.S.Surveyor.stands _ survey fed.0 taken in
+    let piece = take c.in-Ok.given c.get.new.buf in
+    ended survey fed.0 stands.0 (omega (arith, c.loop-given.invariant.fits, stands.1)) piece c.end.result (ap (λ n. take n c.get.new.buf) c.if-given-eq0.true)
+    (c.in-Ok.ensures.end ∙ eq-eqb c.in-Ok.given 0 c.if-given-eq0.true) (Consumes-trans _ _ _ fed.0 piece fed.1 c.in-Ok.ensures.given) (c.in-Ok.ensures.read_out c.if-given-eq0.true)
+    (c.end.ensures.ends survey fed.0 taken)
+
+pub returns-in-Some-clause-surveys : goal.returns-in-Some-clause-surveys
+returns-in-Some-clause-surveys g c = λ survey begun.
+    let fed = c.loop-given.invariant.fed in
+    let taken = fed.2 survey begun in
+    let stands = g.met.S.Surveyor.stands _ survey fed.0 taken in
+    let piece = take c.in-Ok.given c.get.new.buf in
+    let over = c.in-Some.ensures.too_long in
+    decided survey fed.0 stands.0 (omega (arith, c.loop-given.invariant.fits, stands.1)) piece c.in-Some.answer (c.in-Ok.ensures.end ∙ ne_eqb c.in-Ok.given 0 c.if-given-eq0.false)
+    (Consumes-trans _ _ _ fed.0 piece fed.1 c.in-Ok.ensures.given) (omega (arith, length-take c.in-Ok.given c.get.new.buf, c.get.auto.buf, c.loop-given.invariant.room))
+    (λ e. omega (arith, over.0 (ap Some e), stands.1), λ long. let e = over.1 (omega (arith, long, stands.1)) in cc)
+    (λ e. absurd ((rw e at c.in-Some.ensures.faults).1))
+    (λ short _. sym (c.in-Some.ensures.decides survey fed.0 taken (λ e. short (let same : c.in-Some.answer ≡ Err TooLong = cc in same))).0)
+
+pub loop-given-preserved : goal.loop-given-preserved
+loop-given-preserved g c =
+    let fed = c.loop-given.invariant.fed in
+    let piece = take c.in-Ok.given c.get.new.buf in
+    let next = c.in_default.ensures.goes_on refl in
+    record {
+      room = c.get.auto.buf ∙ c.loop-given.invariant.room;
+      ready = next.0;
+      fits = ⊎_elim (λ less. omega (arith, less, next.1)) (λ more. let long = c.in_default.ensures.too_long.1 (omega (arith, more)) in cc)
+          (cases_lt (g.S.Surveyor.offset c.loop-given.surveyor + length piece) (2 ^ 64));
+      fed = (
+        fed.0 ++ piece,
+        Consumes-trans _ _ _ fed.0 piece fed.1 c.in-Ok.ensures.given,
+        λ survey begun. (c.in_default.ensures.decides survey fed.0 (fed.2 survey begun) (λ e. cc)).1 refl,
+      );
+      lender = c.get.ensures.lender ∙ c.loop-given.invariant.lender;
+    }
