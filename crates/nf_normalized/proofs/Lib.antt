@@ -6,7 +6,6 @@ pub mod ComparingLemmas
 pub mod WroteLemmas
 pub mod CheckerLemmas
 pub mod CallLemmas
-pub mod SurveyLemmas
 pub mod MarkLemmas
 pub mod TakenLemmas
 pub mod FrontLemmas

@@ -4,7 +4,7 @@ ghost use Rattle.nf_normalized.specs.Change.{form_decision, form_value};
 ghost use Rattle.nf_normalized.specs.Checker.{IsOfText};
 
 use crate::checker::FormChecker;
-use nf_filter::{Failed, Fault, Source};
+use nf_filter::{Fault, Source, Surveyor, survey};
 use nf_row::Form;
 use nf_safe::Place;
 
@@ -49,19 +49,37 @@ pub fn check_form_buffered<I: Source>(
     ensures surveys { Surveys (length buffer.old) base (form_decision assigned form base) (form_value form base) (I.state source.old) (I.state source.new) result }
     ensures lender { (I.state source.new).lender ≡ (I.state source.old).lender }
 {
-    let mut checker = FormChecker::new(form, assigned, base);
-    loop {
-        let given = match source.get(buffer) {
-            Ok(given) => given,
-            Err(Failed) => return Err(Fault::Read),
-        };
-        if given == 0 {
-            return checker.finish();
-        }
-        match checker.feed(&buffer[..given]) {
-            Ok(None) => {}
-            Ok(Some(place)) => return Ok(Some(place)),
-            Err(fault) => return Err(fault),
+    survey(FormChecker::new(form, assigned, base), source, buffer)
+}
+
+impl Surveyor for FormChecker {
+    ghost use Rattle.std.proofs.Common.{◌∙◌};
+    ghost use Rattle.nf_filter.specs.Filter.{offset_of};
+    ghost use Rattle.nf_normalized.specs.Checker.{filter_state, IsUnderWay, HasSurveyed};
+
+    type Answer = Option<Place>;
+
+    ghost has_taken = { HasSurveyed };
+
+    ghost is_ready = { IsUnderWay };
+
+    ghost offset = { λ checker. offset_of (filter_state checker) };
+
+    ghost faults = { IsOfText };
+
+    fn take(&mut self, piece: &[u8]) -> Option<Result<Option<Place>, Fault>> {
+        match self.feed(piece) {
+            Ok(None) => None,
+            Ok(place) => Some(Ok(place)),
+            Err(fault) => Some(Err(fault)),
         }
     }
+
+    fn end(self) -> Result<Option<Place>, Fault> {
+        self.finish()
+    }
+
+    ghost reads = { tt };
+
+    ghost stands = { λ checker survey bytes taken. (taken.decides bytes ∙ taken.stands.undecided, taken.offset) };
 }
