@@ -1,5 +1,5 @@
 -- What finishing answers.
-use Rattle.std.proofs.Common.{◌≡◌, ℕ, ◌+◌, ◌<◌, Bool, true, false, List, [], ◌∷◌, ◌++◌, length, None, Ok, Err, ◌⊎◌, ⊎_elim, refl, sym, ap, ◌∙◌, subst, arith, append-nil, eq-eqb, zero, suc, Option, Result, if◌then◌else◌, encode_utf8_all, length-append}
+use Rattle.std.proofs.Common.{◌≡◌, ℕ, ◌+◌, ◌<◌, Bool, true, false, List, [], ◌∷◌, ◌++◌, length, None, Ok, Err, ⊎_elim, refl, sym, ap, ◌∙◌, subst, arith, append-nil, eq-eqb, zero, suc, Option, Result, if◌then◌else◌, encode_utf8_all, length-append}
 use Rattle.std.proofs.lemmas.Bool.{cases_Bool, false_from_ne_true, and_from}
 use Rattle.nf_forms.specs.Properties.{Properties}
 use Rattle.nf_forms.specs.declared.form.Form.{Form}

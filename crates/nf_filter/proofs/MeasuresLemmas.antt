@@ -7,7 +7,6 @@ use Rattle.nf_forms.specs.Sound.{is_sound}
 use Rattle.nf_forms.specs.Laws.Sound.{IsSoundText}
 use Rattle.nf_row.specs.declared.unsound.Unsound.{Unsound}
 use Rattle.nf_safe.specs.declared.measurer.Measurer.{Measurer}
-use Rattle.nf_safe.specs.declared.place.Place.{Place}
 use Rattle.nf_safe.specs.Measurer.{refusal, unsound_at}
 use Rattle.nf_filter.specs.declared.fault.Fault.{Fault}
 use Rattle.nf_filter.specs.declared.fault.Fault.TheVariants.{Row}
@@ -18,14 +17,11 @@ use Rattle.nf_filter.specs.Settled.{is_usable}
 use Rattle.nf_filter.specs.Faults.{fault_in}
 use Rattle.nf_filter.specs.Counted.{utf8_place}
 use Rattle.nf_filter.specs.Taker.{stop_in, TakesText}
-use Rattle.nf_filter.specs.Measures.{HasMeasured, SeesText, unusable_stop}
+use Rattle.nf_filter.specs.Measures.{HasMeasured, SeesText, unusable_stop, measure_decision, no_measure}
 use Rattle.nf_normalizer.specs.Laws.Settled.{is_usable-push}
 use Rattle.nf_filter.proofs.TextLemmas.{unusable_at-usable, unusable_at-stop}
 use Rattle.nf_filter.proofs.FilterLemmas.{stop_in-fault}
 use Rattle.nf_filter.specs.Taker.{told}
-
-abbrev pub refused : {T : Type 0} → Fault → Result T Fault
-refused fault = Err fault
 
 abbrev Seen : Type 0
 Seen = Result (Unit {0}) Unsound
@@ -70,10 +66,10 @@ module _ (p : Properties) where
   refusal_at base at x c y sound here (Err e) refused is = let d = refused_is (unsound_at p x c) e is in stops_at base at x c d.0 y sound here d.1
 
   -- what the bytes decide is what stops a measurer in them
-  pub decides : {T : Type 0} (of_place : Place → T) (base : ℕ) (bytes : List ℕ) → option_map (refused {T = T}) (fault_in as_is p base bytes) ≡ option_map (told of_place) (stop_in (unusable_stop p base) base bytes)
-  decides {T} of_place base bytes = next (fault_in as_is p base bytes) ∙ ap (option_map (told of_place)) (sym (stop_in-fault p base bytes))
+  pub decides : (base : ℕ) (bytes : List ℕ) → measure_decision p base bytes ≡ option_map (told no_measure) (stop_in (unusable_stop p base) base bytes)
+  decides base bytes = next (fault_in as_is p base bytes) ∙ ap (option_map (told no_measure)) (sym (stop_in-fault p base bytes))
     where
-      next : (o : Option Fault) → option_map (refused {T = T}) o ≡ option_map (told of_place) (option_map Refused o)
+      next : (o : Option Fault) → option_map Err o ≡ option_map (told no_measure) (option_map Refused o)
       next None = refl
       next (Some fault) = refl
 

@@ -1,5 +1,5 @@
 -- A piece more.
-use Rattle.std.proofs.Common.{◌≡◌, ℕ, ◌+◌, ◌-◌, ◌≤◌, ◌==◌, List, [], ◌++◌, length, Some, None, Ok, Err, refl, sym, ap, ◌∙◌, arith, eq-eqb, subst, Option, Result, if◌then◌else◌, chars, take_all, length-drop, append_assoc}
+use Rattle.std.proofs.Common.{ap₂, ◌≡◌, ℕ, ◌+◌, ◌-◌, ◌≤◌, ◌==◌, List, [], ◌++◌, length, None, Ok, refl, sym, ap, ◌∙◌, arith, eq-eqb, subst, Option, Result, option_map, if◌then◌else◌, chars, take_all, length-drop, append_assoc}
 use Rattle.std.specs.Result.{result_map_both}
 use Rattle.std.proofs.lemmas.Str.{chars-nil, utf8_valid_len_le}
 use Rattle.nf_utf8.specs.declared.decoder.Decoder.{Decoder}
@@ -9,13 +9,13 @@ use Rattle.nf_utf8.specs.Taking.{first_bytes, EndsPiece, bytes_behind, Counts, T
 use Rattle.nf_utf8.specs.Ending.{Ending, Whole, Bad, Cut}
 use Rattle.nf_utf8.specs.Reading.{text_len, text_of, rest_of, begun_len, ending_of}
 use Rattle.nf_utf8.specs.Standing.{StandsAfter as DecoderStandsAfter}
+use Rattle.nf_safe.specs.declared.place.Place.{Place}
 use Rattle.nf_filter.specs.declared.fault.Fault.{Fault}
-use Rattle.nf_filter.specs.declared.fault.Fault.TheVariants.{BadByte}
 use Rattle.nf_filter.specs.declared.reading.Reading.{Reading}
 use Rattle.nf_filter.specs.declared.taker.Stop.{Stop}
-use Rattle.nf_filter.specs.declared.taker.Stop.TheVariants.{Refused}
 use Rattle.nf_filter.specs.Faults.{bad_byte, answer_at_end}
-use Rattle.nf_filter.specs.Taker.{TakesText, stop_or, stop_in, HasRead, ReadsPiece}
+use Rattle.nf_filter.specs.Surveys.{Survey}
+use Rattle.nf_filter.specs.Taker.{TakesText, stop_or, stop_in, told, HasSurveyed}
 
 -- no bytes spell nothing
 pub text_of-none : text_of [] ≡ []
@@ -33,13 +33,17 @@ unfolding rest_of
 holds_nothing decoder stands = omega (arith, ap length stands.rest, length-drop {A = ℕ} (text_len []) [])
 
 -- nothing was read, and a text of no characters stops nothing
-pub HasRead-none : (stands : List ℕ → Type 0) (stops : List ℕ → Option Stop) (base : ℕ) (reading : Reading) → reading.offset ≡ base → DecoderStandsAfter reading.decoder [] → stands [] → stops [] ≡ None
-    → HasRead stands stops base reading []
-HasRead-none stands stops base reading offset decoder taken unstopped = record {
+pub HasSurveyed-none : {T : Type 0} {stands : List ℕ → Type 0} {stops : List ℕ → Option Stop} {answer_of : Place → T} {value : List ℕ → T} {survey : Survey T} {reading : Reading}
+    → reading.offset ≡ survey.base → DecoderStandsAfter reading.decoder [] → stands [] → stops [] ≡ None
+    → ((bytes : List ℕ) → survey.decision bytes ≡ option_map (told answer_of) (stop_in stops survey.base bytes)) → ((bytes : List ℕ) → survey.value bytes ≡ value (text_of bytes))
+    → HasSurveyed stands stops answer_of value survey reading []
+HasSurveyed-none {answer_of = answer_of} offset decoder taken unstopped decides worth = record {
   offset = omega (arith, offset);
   decoder = decoder;
   taken = rw text_of-none taken;
-  unstopped = rw (text_of-none, ending_of-none) (ap (λ o. stop_or o None) unstopped);
+  decides = decides;
+  worth = worth;
+  undecided = decides [] ∙ ap (option_map (told answer_of)) {y = None} (rw (text_of-none, ending_of-none) (ap (λ o. stop_or o None) unstopped));
 }
 
 -- an answer at the end, by another that differs in the value alone
@@ -76,36 +80,12 @@ module _ {bytes piece : List ℕ} {first : Option ℕ} {text : List ℕ} {end : 
   abbrev more : List ℕ
   more = first_text first ++ chars text
 
-  text_is : text_of (bytes ++ piece) ≡ text_of bytes ++ more
+  pub text_is : text_of (bytes ++ piece) ≡ text_of bytes ++ more
   text_is = took.spelled ∙ append_assoc (text_of bytes) (first_text first) (chars text)
 
-  went_on : {stands : List ℕ → Type 0} {stops : List ℕ → Option Stop} (u : Unit {0}) → TakesText stands stops (text_of bytes) more (Ok u) → stops (text_of (bytes ++ piece)) ≡ None
-  went_on {stands} {stops} u takes = ap stops text_is ∙ sym takes.stop
-
-  module _ {stands : List ℕ → Type 0} {stops : List ℕ → Option Stop} {base : ℕ} {reading : Reading} where
-    -- the taker stopped
-    pub ReadsPiece-stopped : (stop : Stop) → TakesText stands stops (text_of bytes) more (Err stop) → ReadsPiece stands stops base reading bytes piece (Err stop)
-    ReadsPiece-stopped stop takes = record {
-      stop = sym (ap (λ o. stop_or o (bad_byte base (ending_of (bytes ++ piece)))) (ap stops text_is ∙ sym takes.stop));
-      read = tt;
-    }
-
-    -- a byte is ill-formed
-    pub ReadsPiece-bad : (u : Unit {0}) (m n at start : ℕ) → TakesText stands stops (text_of bytes) more (Ok u) → ending_of (bytes ++ piece) ≡ Bad m n → at ≡ base + m → start ≡ base + n
-        → ReadsPiece stands stops base reading bytes piece (Err (Refused (BadByte at start)))
-    ReadsPiece-bad u m n at start takes end here begun = record {
-      stop = sym (ap (λ o. stop_or o (bad_byte base (ending_of (bytes ++ piece)))) (went_on u takes)
-          ∙ ap (λ e. stop_or None (bad_byte base e)) end ∙ ap (λ k. Some (Refused (BadByte k (base + n)))) (sym here) ∙ ap (λ k. Some (Refused (BadByte at k))) (sym begun));
-      read = tt;
-    }
-
-    -- all of it was read
-    pub ReadsPiece-read : (u : Unit {0}) → TakesText stands stops (text_of bytes) more (Ok u) → bad_byte base (ending_of (bytes ++ piece)) ≡ None
-        → reading.offset ≡ base + length (bytes ++ piece) → DecoderStandsAfter reading.decoder (bytes ++ piece) → ReadsPiece stands stops base reading bytes piece (Ok u)
-    ReadsPiece-read u takes fine offset decoder = record {
-      stop = sym unstopped;
-      read = record { offset = offset; decoder = decoder; taken = rw text_is takes.taken; unstopped = unstopped };
-    }
-      where
-        unstopped : stop_in stops base (bytes ++ piece) ≡ None
-        unstopped = ap (λ o. stop_or o (bad_byte base (ending_of (bytes ++ piece)))) (went_on u takes) ∙ ap (λ o. stop_or None o) fine
+  -- nothing is decided with it
+  pub none_decided : {T : Type 0} {stands now : List ℕ → Type 0} {stops : List ℕ → Option Stop} {answer_of : Place → T} {value : List ℕ → T} {survey : Survey T} {reading : Reading}
+      → HasSurveyed stands stops answer_of value survey reading bytes → (u : Unit {0}) → TakesText now stops (text_of bytes) more (Ok u)
+      → bad_byte survey.base (ending_of (bytes ++ piece)) ≡ None → survey.decision (bytes ++ piece) ≡ None
+  none_decided {stops = stops} {answer_of = answer_of} before u takes fine =
+      before.decides (bytes ++ piece) ∙ ap (option_map (told answer_of)) {y = None} (ap₂ stop_or (ap stops text_is ∙ sym takes.stop) fine)

@@ -12,7 +12,7 @@ use Rattle.nf_filter.specs.Feeding.{HasReadTo}
 use Rattle.nf_filter.specs.Filter.{base_of, offset_of, is_spent, StandsAfter}
 use Rattle.nf_filter.specs.Laws.Settled.{text_under-none}
 use Rattle.nf_filter.specs.Counted.{HasTaken}
-use Rattle.nf_filter.specs.Policy.{allowed, len_under, text_under}
+use Rattle.nf_filter.specs.Policy.{len_under, text_under}
 use Rattle.nf_filter.proofs.FilterLemmas.{StandsAfter-offset}
 use Rattle.nf_filter.proofs.PieceLemmas.{IsLeft-all, left-text, left-place, len_under-first, text_under-begun}
 use Rattle.nf_filter.proofs.ReadingLemmas.{text_of-none, ending_of-none}

@@ -8,7 +8,7 @@ use Rattle.nf_filter.specs.declared.fault.Fault.{Fault}
 use Rattle.nf_filter.specs.declared.taker.Stop.{Stop}
 use Rattle.nf_filter.specs.declared.taker.Stop.TheVariants.{Refused, Found}
 use Rattle.nf_filter.specs.declared.reading.Reading.{Reading}
-use Rattle.nf_filter.specs.Kinds.{too_long, row, ill_formed, Holds, IsAmong}
+use Rattle.nf_filter.specs.Kinds.{row, Holds, IsAmong}
 use Rattle.nf_filter.specs.Faults.{bad_byte}
 use Rattle.nf_filter.specs.Surveys.{Survey}
 
@@ -30,22 +30,10 @@ stop_or None fault = option_map Refused fault
 abbrev pub stop_in : (List ℕ → Option Stop) → ℕ → List ℕ → Option Stop
 stop_in stops base bytes = stop_or (stops (text_of bytes)) (bad_byte base (ending_of bytes))
 
--- the bytes were read, the first at `base`
-pub record HasRead (stands : List ℕ → Type 0) (stops : List ℕ → Option Stop) (base : ℕ) (reading : Reading) (bytes : List ℕ) : Type 0 where
-  pub offset : reading.offset ≡ base + length bytes
-  pub decoder : DecoderStandsAfter reading.decoder bytes
-  pub taken : stands (text_of bytes)
-  pub unstopped : stop_in stops base bytes ≡ None
-
 -- what it has taken ends before the bytes of a begun character
 pub record IsReady (ends_at : ℕ → Type 0) (reading : Reading) : Type 0 where
   pub held : length reading.decoder ≤ reading.offset
   pub end : ends_at (reading.offset - length reading.decoder)
-
--- a piece was read behind the bytes, or why not all of it
-pub record ReadsPiece (stands : List ℕ → Type 0) (stops : List ℕ → Option Stop) (base : ℕ) (reading : Reading) (bytes piece : List ℕ) (result : Result (Unit {0}) Stop) : Type 0 where
-  pub stop : result_err result ≡ stop_in stops base (bytes ++ piece)
-  pub read : OnOk result (HasRead stands stops base reading (bytes ++ piece))
 
 -- what is answered at a stop: a fault, or what a place comes to
 abbrev pub told : {T : Type 0} → (Place → T) → Stop → Result T Fault
@@ -54,11 +42,9 @@ told answer_of (Found place) = Ok (answer_of place)
 
 -- the bytes were read, and what stops their reading is what is asked of them, or else what their text comes to
 pub record HasSurveyed {T : Type 0} (stands : List ℕ → Type 0) (stops : List ℕ → Option Stop) (answer_of : Place → T) (value : List ℕ → T) (survey : Survey T) (reading : Reading) (bytes : List ℕ) : Type 0 where
-  pub read : HasRead stands stops survey.base reading bytes
+  pub offset : reading.offset ≡ survey.base + length bytes
+  pub decoder : DecoderStandsAfter reading.decoder bytes
+  pub taken : stands (text_of bytes)
   pub decides : (bytes : List ℕ) → survey.decision bytes ≡ option_map (told answer_of) (stop_in stops survey.base bytes)
   pub worth : (bytes : List ℕ) → survey.value bytes ≡ value (text_of bytes)
-
--- why reading may stop
-abbrev pub MayStopReading : Bool → Stop → Type 0
-MayStopReading finds (Refused fault) = IsAmong (too_long ∷ row ∷ ill_formed ∷ []) fault
-MayStopReading finds (Found place) = Holds finds
+  pub undecided : survey.decision bytes ≡ None

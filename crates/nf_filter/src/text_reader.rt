@@ -1,13 +1,13 @@
 //! The text of bytes, for what takes it.
-ghost use Rattle.std.proofs.Common.{ap, ◌∙◌, option_map};
 ghost use Rattle.nf_filter.specs.Surveys.{IsOfSurvey};
-ghost use Rattle.nf_filter.specs.Taker.{told, IsReady, HasSurveyed};
+ghost use Rattle.nf_filter.specs.Taker.{IsReady, HasSurveyed};
 
 use crate::fault::Fault;
 use crate::reading::Reading;
 use crate::surveyor::Surveyor;
 use crate::taker::{Stop, Taker};
 use nf_row::Rows;
+use nf_utf8::{End, laws};
 
 /// Gives the text of the bytes to a taker.
 #[derive(Drop)]
@@ -30,11 +30,32 @@ impl<R: Rows, T: Taker> Surveyor for TextReader<'_, R, T> {
     ghost faults = { IsOfSurvey };
 
     fn take(&mut self, piece: &[u8]) -> Option<Result<T::Answer, Fault>> {
-        match self.reading.read(self.rows, piece, &mut self.taker) {
-            Ok(()) => None,
-            Err(Stop::Refused(fault)) => Some(Err(fault)),
-            Err(Stop::Found(place)) => Some(Ok(T::found(place))),
+        let TextReader {
+            reading,
+            rows,
+            taker,
+        } = self;
+        let Some(end) = reading.offset.checked_add(piece.len() as u64) else {
+            return Some(Err(Fault::TooLong));
+        };
+        laws::split();
+        let at = reading.offset - reading.decoder.carried() as u64;
+        let chunk = reading.decoder.take(piece);
+        match taker.take(*rows, at, chunk.first, chunk.text) {
+            Ok(()) => {}
+            Err(Stop::Refused(fault)) => return Some(Err(fault)),
+            Err(Stop::Found(place)) => return Some(Ok(T::found(place))),
         }
+        let piece_end = chunk.end;
+        if let End::Bad { at, back } = piece_end {
+            let place = reading.offset + at as u64;
+            return Some(Err(Fault::BadByte {
+                at: place,
+                start: place - back as u64,
+            }));
+        }
+        reading.offset = end;
+        None
     }
 
     fn end(self) -> Result<T::Answer, Fault> {
@@ -46,5 +67,5 @@ impl<R: Rows, T: Taker> Surveyor for TextReader<'_, R, T> {
 
     ghost reads = { tt };
 
-    ghost stands = { λ reader survey bytes taken. (taken.decides bytes ∙ ap (option_map (told T.answer_of)) taken.read.unstopped, taken.read.offset) };
+    ghost stands = { λ reader survey bytes taken. (taken.undecided, taken.offset) };
 }

@@ -1,6 +1,6 @@
 use Rattle.std.proofs.Common.{[], Some, refl, sym, ap, ◌∙◌, arith}
 use Rattle.nf_filter.specs.Checks.{check_decision, no_place}
-use Rattle.nf_filter.proofs.ReadingLemmas.{holds_nothing, HasRead-none}
+use Rattle.nf_filter.proofs.ReadingLemmas.{holds_nothing, HasSurveyed-none}
 use Rattle.nf_filter.proofs.SurveysLemmas.{all_read, place_told}
 use Rattle.nf_filter.proofs.ChecksLemmas.{stop_none, decides}
 use Rattle.nf_filter.proofs.checking.check_buffered.Goals as goal
@@ -16,11 +16,8 @@ returns-clause-surveys g c =
     let base = c.args.base in
     let stands = c.new-2.ensures.stands p in
     let none = c.new-2.ensures.place in
-    c.survey.ensures.surveys (record { base = base; decision = check_decision p base; value = no_place }) (record {
-      read = HasRead-none _ _ _ _ c.new.ensures.offset c.new.ensures.decoder (record { stands = stands; none = none; sound = refl }) (stop_none p base [] refl (sym stands.place ∙ none));
-      decides = decides p base;
-      worth = λ bytes. refl;
-    })
+    c.survey.ensures.surveys (record { base = base; decision = check_decision p base; value = no_place })
+    (HasSurveyed-none c.new.ensures.offset c.new.ensures.decoder (record { stands = stands; none = none; sound = refl }) (stop_none p base [] refl (sym stands.place ∙ none)) (decides p base) (λ bytes. refl))
 
 pub returns-clause-end : goal.returns-clause-end
 unfolding check_decision

@@ -1,12 +1,12 @@
-use Rattle.std.proofs.Common.{◌≡◌, [], Ok, Err, Some, None, refl, sym, ap, ◌∙◌, arith, option_map, Option}
+use Rattle.std.proofs.Common.{◌≡◌, [], Ok, Err, Some, None, refl, ap, arith, option_map, Option}
 use Rattle.nf_safe.specs.declared.measure.Measure.{Measure}
 use Rattle.nf_filter.specs.declared.fault.Fault.{Fault}
 use Rattle.nf_filter.specs.declared.taker.Stop.TheVariants.{Refused}
 use Rattle.nf_filter.specs.Counted.{utf8_place}
-use Rattle.nf_filter.specs.Measures.{measure_decision, text_measure, no_measure}
+use Rattle.nf_filter.specs.Measures.{measure_decision, text_measure}
 use Rattle.nf_normalizer.specs.Laws.Settled.{is_usable-none}
 use Rattle.nf_filter.proofs.TextLemmas.{unusable_at-usable}
-use Rattle.nf_filter.proofs.ReadingLemmas.{holds_nothing, HasRead-none}
+use Rattle.nf_filter.proofs.ReadingLemmas.{holds_nothing, HasSurveyed-none}
 use Rattle.nf_filter.proofs.SurveysLemmas.{all_read}
 use Rattle.nf_filter.proofs.MeasuresLemmas.{decides}
 use Rattle.nf_filter.proofs.measuring.measure_buffered.Goals as goal
@@ -21,11 +21,8 @@ pub returns-clause-surveys : goal.returns-clause-surveys
 returns-clause-surveys g c =
     let p = g.R.Rows.properties c.args.rows.now in
     let base = c.args.base in
-    c.survey.ensures.surveys (record { base = base; decision = measure_decision p base; value = text_measure p }) (record {
-      read = HasRead-none _ _ _ _ c.new.ensures.offset c.new.ensures.decoder (c.new-2.ensures p) (ap (option_map Refused) (unusable_at-usable p (utf8_place base) [] (is_usable-none p)));
-      decides = decides p no_measure base;
-      worth = λ bytes. refl;
-    })
+    c.survey.ensures.surveys (record { base = base; decision = measure_decision p base; value = text_measure p })
+    (HasSurveyed-none c.new.ensures.offset c.new.ensures.decoder (c.new-2.ensures p) (ap (option_map Refused) (unusable_at-usable p (utf8_place base) [] (is_usable-none p))) (decides p base) (λ bytes. refl))
 
 pub returns-clause-end : goal.returns-clause-end
 returns-clause-end g c = all_read c.survey.result (returns-clause-surveys g c) (λ measure is bytes. no_answer _)

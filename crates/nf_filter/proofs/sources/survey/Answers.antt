@@ -1,9 +1,20 @@
-use Rattle.std.proofs.Common.{⊎_elim, ◌≡◌, ◌+◌, ◌^◌, ◌++◌, [], length, take, refl, sym, ap, ◌∙◌, arith, Err, Some, eq-eqb, ne_eqb, length-take}
+use Rattle.std.proofs.Common.{⊎_elim, ◌≡◌, ℕ, Bool, true, false, append-nil, ◌+◌, ◌^◌, ◌++◌, [], length, take, refl, sym, ap, ◌∙◌, arith, Err, Some, eq-eqb, ne_eqb, length-take}
 use Rattle.std.proofs.KnownBytes.{Consumes-kept, Consumes-nil, Consumes-trans}
 use Rattle.std.proofs.lemmas.Bool.{cases_lt}
+use Rattle.nf_utf8.specs.Ending.{Ending, Whole, Bad, Cut}
+use Rattle.nf_utf8.specs.Reading.{ending_of}
 use Rattle.nf_filter.specs.declared.fault.Fault.TheVariants.{TooLong}
-use Rattle.nf_filter.proofs.SurveysLemmas.{decided, failed, ended}
+use Rattle.nf_filter.specs.Faults.{answer_at_end}
 use Rattle.nf_filter.proofs.sources.survey.Goals as goal
+
+never : {A : Type 0} {at_end : Bool} → at_end ≡ true → at_end ≡ false → A
+never end before_end = let absent : true ≡ false = sym end ∙ before_end in cc
+
+-- an end is no refusal of a length
+not_long : {T : Type 0} (base : ℕ) (value : T) (ending : Ending) → ¬ (answer_at_end base value ending ≡ Err TooLong)
+not_long base value Whole e = cc
+not_long base value (Bad at start) e = cc
+not_long base value (Cut at start) e = cc
 
 pub loop-given-init : goal.loop-given-init
 loop-given-init g c = record {
@@ -17,19 +28,39 @@ loop-given-init g c = record {
 pub returns-in-Err-clause-surveys : goal.returns-in-Err-clause-surveys
 returns-in-Err-clause-surveys g c = λ survey begun.
     let fed = c.loop-given.invariant.fed in
-    let taken = fed.2 survey begun in
-    let stands = g.met.S.Surveyor.stands _ survey fed.0 taken in
-    failed survey fed.0 stands.0 (omega (arith, c.loop-given.invariant.fits, stands.1)) c.in-Err.ensures.failed.1 (Consumes-kept _ _ _ fed.0 fed.1 c.in-Err.ensures.kept)
+    let stands = g.met.S.Surveyor.stands _ survey fed.0 (fed.2 survey begun) in
+    let before_end = c.in-Err.ensures.failed.1 in
+    record {
+      before = fed.0;
+      last = [];
+      given = rw (append-nil fed.0) (Consumes-kept _ _ _ fed.0 fed.1 c.in-Err.ensures.kept);
+      few = omega arith;
+      read_out = λ end. never end before_end;
+      undecided = stands.0;
+      too_long = (λ e. cc, λ over. absurd (omega (arith, over, c.loop-given.invariant.fits, stands.1)));
+      failed = λ _. refl;
+      ended = λ end. never end before_end;
+      decided = λ _ _ unread. absurd (unread refl);
+    }
 
 pub returns-then-given-eq0-clause-surveys : goal.returns-then-given-eq0-clause-surveys
 returns-then-given-eq0-clause-surveys g c = λ survey begun.
     let fed = c.loop-given.invariant.fed in
     let taken = fed.2 survey begun in
     let stands = g.met.S.Surveyor.stands _ survey fed.0 taken in
-    let piece = take c.in-Ok.given c.get.new.buf in
-    ended survey fed.0 stands.0 (omega (arith, c.loop-given.invariant.fits, stands.1)) piece c.end.result (ap (λ n. take n c.get.new.buf) c.if-given-eq0.true)
-    (c.in-Ok.ensures.end ∙ eq-eqb c.in-Ok.given 0 c.if-given-eq0.true) (Consumes-trans _ _ _ fed.0 piece fed.1 c.in-Ok.ensures.given) (c.in-Ok.ensures.read_out c.if-given-eq0.true)
-    (c.end.ensures.ends survey fed.0 taken)
+    let is = c.end.ensures.ends survey fed.0 taken in
+    record {
+      before = fed.0;
+      last = [];
+      given = Consumes-trans _ _ _ fed.0 [] fed.1 (rw c.if-given-eq0.true at c.in-Ok.ensures.given);
+      few = omega arith;
+      read_out = λ _. c.in-Ok.ensures.read_out c.if-given-eq0.true;
+      undecided = stands.0;
+      too_long = (λ e. absurd (not_long survey.base (survey.value fed.0) (ending_of fed.0) (sym is ∙ e)), λ over. absurd (omega (arith, over, c.loop-given.invariant.fits, stands.1)));
+      failed = λ _. refl;
+      ended = λ _. (refl, is);
+      decided = λ before_end. never (c.in-Ok.ensures.end ∙ eq-eqb c.in-Ok.given 0 c.if-given-eq0.true) before_end;
+    }
 
 pub returns-in-Some-clause-surveys : goal.returns-in-Some-clause-surveys
 returns-in-Some-clause-surveys g c = λ survey begun.
@@ -38,11 +69,19 @@ returns-in-Some-clause-surveys g c = λ survey begun.
     let stands = g.met.S.Surveyor.stands _ survey fed.0 taken in
     let piece = take c.in-Ok.given c.get.new.buf in
     let over = c.in-Some.ensures.too_long in
-    decided survey fed.0 stands.0 (omega (arith, c.loop-given.invariant.fits, stands.1)) piece c.in-Some.answer (c.in-Ok.ensures.end ∙ ne_eqb c.in-Ok.given 0 c.if-given-eq0.false)
-    (Consumes-trans _ _ _ fed.0 piece fed.1 c.in-Ok.ensures.given) (omega (arith, length-take c.in-Ok.given c.get.new.buf, c.get.auto.buf, c.loop-given.invariant.room))
-    (λ e. omega (arith, over.0 (ap Some e), stands.1), λ long. let e = over.1 (omega (arith, long, stands.1)) in cc)
-    (λ e. absurd ((rw e at c.in-Some.ensures.faults).1))
-    (λ short _. sym (c.in-Some.ensures.decides survey fed.0 taken (λ e. short (let same : c.in-Some.answer ≡ Err TooLong = cc in same))).0)
+    let before_end = c.in-Ok.ensures.end ∙ ne_eqb c.in-Ok.given 0 c.if-given-eq0.false in
+    record {
+      before = fed.0;
+      last = piece;
+      given = Consumes-trans _ _ _ fed.0 piece fed.1 c.in-Ok.ensures.given;
+      few = omega (arith, length-take c.in-Ok.given c.get.new.buf, c.get.auto.buf, c.loop-given.invariant.room);
+      read_out = λ end. never end before_end;
+      undecided = stands.0;
+      too_long = (λ e. omega (arith, over.0 (ap Some e), stands.1), λ long. let e = over.1 (omega (arith, long, stands.1)) in cc);
+      failed = λ e. absurd ((rw e at c.in-Some.ensures.faults).1);
+      ended = λ end. never end before_end;
+      decided = λ _ short _. sym (c.in-Some.ensures.decides survey fed.0 taken (λ e. short (let same : c.in-Some.answer ≡ Err TooLong = cc in same))).0;
+    }
 
 pub loop-given-preserved : goal.loop-given-preserved
 loop-given-preserved g c =
