@@ -25,12 +25,8 @@ pub record StandsAfter (assigned : Bool) (f : Form) (base : ℕ) (checker : Form
   pub undecided : form_decision assigned f base bytes ≡ None
 
 -- it has taken some
-pub record IsUnderWay (checker : FormChecker) : Type 0 where
-  pub assigned : Bool
-  pub form : Form
-  pub base : ℕ
-  pub bytes : List ℕ
-  pub stands : StandsAfter assigned form base checker bytes
+abbrev pub IsUnderWay : FormChecker → Type 0
+IsUnderWay checker = (assigned : Bool) × (f : Form) × (base : ℕ) × (bytes : List ℕ) × StandsAfter assigned f base checker bytes
 
 -- it has taken these, and the place of the form is what is asked of them
 pub record HasSurveyed (checker : FormChecker) (survey : Survey (Option Place)) (bytes : List ℕ) : Type 0 where
