@@ -10,9 +10,10 @@ use crate::fault::Fault;
 
 /// What takes bytes piece by piece, and answers as soon as it is settled what they come to.
 pub trait Surveyor: Drop {
+    /// What is answered where no fault is.
     type Answer;
 
-    /// It has taken the bytes, which decide nothing of what is asked.
+    /// It has taken the bytes, which decide nothing of what is asked. It may stand for more than one question.
     ghost has_taken: { Self → Survey Self.Answer → List ℕ → Type 0 };
 
     /// It takes more.
