@@ -13,8 +13,10 @@ mod kana;
 mod lanes;
 mod leads;
 mod marks;
+mod plain;
 mod scan;
 mod wide;
 
 pub use calm::Calm;
 pub use front::calm_front;
+pub use plain::plain_front;

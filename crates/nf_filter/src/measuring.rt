@@ -2,7 +2,7 @@ ghost use Rattle.std.specs.Prelude.{◌≡◌, ◌+◌, ◌<◌, ◌≤◌, ◌�
 ghost use Rattle.nf_safe.specs.Measurer.{values_of};
 ghost use Rattle.nf_filter.specs.Taker.{MayStop};
 ghost use Rattle.nf_filter.specs.Surveys.{Surveys, IsOfSurvey, IsCut};
-ghost use Rattle.nf_filter.specs.Measures.{measure_decision, text_measure, HasMeasured, SeesText, SeesFront};
+ghost use Rattle.nf_filter.specs.Measures.{measure_decision, text_measure, HasMeasured, HasSeenFront, SeesText, SeesFront};
 
 use crate::devices::Source;
 use crate::fault::Fault;
@@ -12,7 +12,13 @@ use crate::taker::{Stop, Taker};
 use crate::text_reader::TextReader;
 use nf_row::Rows;
 use nf_safe::{Measure, Measurer, Place};
-use nf_utf8::ascii_prefix;
+use nf_utf8::{ascii_prefix, char_count};
+
+/// Where at least so many bytes were known, it is asked again behind the next character.
+const WORTH: usize = 8;
+
+/// At most so many characters are seen by themselves before it is asked again.
+const MOST: usize = 15;
 
 /// Reads all that the source gives, and answers what is measured of it. The first byte has the offset `base`. The first
 /// fault is answered in its stead: `Row`, where a filter would answer it, `BadByte`, `Cut`, `Read` and `TooLong`. At most
@@ -98,6 +104,45 @@ impl Taker for Measurer {
     }
 }
 
+/// How often it is asked what is known of a text: the longer little was known, the less often.
+#[derive(Clone, Copy)]
+struct Pace {
+    /// So many characters are seen by themselves before it is asked again.
+    few: usize,
+    /// So many are where little is known then.
+    next: usize,
+}
+
+impl Pace {
+    #[inline(always)]
+    const fn new() -> Pace {
+        Pace { few: 0, next: 1 }
+    }
+
+    /// Whether it is asked before the next character.
+    #[inline(always)]
+    fn is_due(&mut self) -> bool {
+        if self.few > 0 {
+            self.few -= 1;
+            return false;
+        }
+        true
+    }
+
+    /// So many bytes were known.
+    #[inline(always)]
+    fn told(&mut self, len: usize) {
+        if len >= WORTH {
+            self.next = 1;
+            return;
+        }
+        self.few = self.next;
+        if self.next < MOST {
+            self.next = 2 * self.next + 1;
+        }
+    }
+}
+
 /// Sees the text that begins at the offset `at`, and stops where a filter would.
 fn see_text<R: Rows>(measurer: &mut Measurer, rows: &R, at: u64, text: &str) -> Result<(), Stop>
     requires counts { (values_of measurer.old).bytes ≤ at }
@@ -108,8 +153,9 @@ fn see_text<R: Rows>(measurer: &mut Measurer, rows: &R, at: u64, text: &str) -> 
         → SeesText p measurer.new base (x ++ chars text.now) result }
 {
     let (mut place, mut rest) = (at, text);
+    let mut pace = Pace::new();
     while !rest.is_empty() {
-        match see_front(measurer, rows, place, rest) {
+        match see_front(measurer, rows, &mut pace, place, rest) {
             Ok(behind) => {
                 place += (rest.len() - behind.len()) as u64;
                 rest = behind;
@@ -120,11 +166,12 @@ fn see_text<R: Rows>(measurer: &mut Measurer, rows: &R, at: u64, text: &str) -> 
     Ok(())
 }
 
-/// Sees a front of a text that begins at the offset `at`: what of it is ASCII, where that is known to be plain, or else its
-/// first character. Answers what stands behind.
+/// Sees a front of a text that begins at the offset `at`: ASCII, what else is known to have starters alone, and the character
+/// behind that. Answers what stands behind.
 fn see_front<'t, R: Rows>(
     measurer: &mut Measurer,
     rows: &R,
+    pace: &mut Pace,
     at: u64,
     text: &'t str,
 ) -> Result<&'t str, Stop>
@@ -137,17 +184,77 @@ fn see_front<'t, R: Rows>(
     ensures sees { let p = R.properties rows.now in (base : ℕ) (x : List ℕ) → HasMeasured p measurer.old base x → at ≡ base + length (encode_utf8_all x)
         → SeesFront p measurer.new base x text.now result }
 {
-    let bytes = text.as_bytes();
-    if bytes[0] < 0x80 && rows.all_ascii_plain() {
-        let len = ascii_prefix(bytes);
-        let (_, rest) = text.split_at(len);
-        measurer.see_ascii(len as u64);
+    let behind = see_ascii(measurer, rows, text);
+    let rest = see_known(measurer, rows, pace, behind);
+    let mut chars = rest.chars();
+    let Some(c) = chars.next() else {
         return Ok(rest);
-    }
-    let mut chars = text.chars();
-    let c = chars.next().unwrap();
+    };
     match measurer.see(rows, c) {
         Ok(()) => Ok(chars.as_str()),
-        Err(_) => Err(Stop::Refused(Fault::Row { at })),
+        Err(_) => {
+            let known = (text.len() - rest.len()) as u64;
+            Err(Stop::Refused(Fault::Row { at: at + known }))
+        }
     }
+}
+
+/// Sees what of the front is ASCII, where that is known to be plain, and answers what stands behind that.
+#[inline(always)]
+fn see_ascii<'t, R: Rows>(measurer: &mut Measurer, rows: &R, text: &'t str) -> &'t str
+    requires fits { (values_of measurer.old).bytes + length text.now ≤ u64.MAX }
+    ensures shorter { length result.now ≤ length text.now }
+    ensures counts { (values_of measurer.new).bytes + length result.now ≡ (values_of measurer.old).bytes + length text.now }
+    ensures sees { let p = R.properties rows.now in (base : ℕ) (x : List ℕ) → HasMeasured p measurer.old base x
+        → HasSeenFront p measurer.new base x text.now result.now }
+{
+    let bytes = text.as_bytes();
+    if bytes.is_empty() || bytes[0] >= 0x80 || !rows.all_ascii_plain() {
+        return text;
+    }
+    let len = ascii_prefix(bytes);
+    let (_, rest) = text.split_at(len);
+    measurer.see_starters(len as u64, len as u64);
+    rest
+}
+
+/// Sees what else is known to have starters alone, where that is asked, and answers what stands behind it.
+#[inline(always)]
+fn see_known<'t, R: Rows>(
+    measurer: &mut Measurer,
+    rows: &R,
+    pace: &mut Pace,
+    text: &'t str,
+) -> &'t str
+    requires fits { (values_of measurer.old).bytes + length text.now ≤ u64.MAX }
+    ensures shorter { length result.now ≤ length text.now }
+    ensures counts { (values_of measurer.new).bytes + length result.now ≡ (values_of measurer.old).bytes + length text.now }
+    ensures sees { let p = R.properties rows.now in (base : ℕ) (x : List ℕ) → HasMeasured p measurer.old base x
+        → HasSeenFront p measurer.new base x text.now result.now }
+{
+    if !pace.is_due() {
+        return text;
+    }
+    let rest = see_told(measurer, rows, text);
+    pace.told(text.len() - rest.len());
+    rest
+}
+
+/// Sees as far as it is told, and answers what stands behind that. It stands by itself so that what sees one character after
+/// another is short.
+#[inline(never)]
+fn see_told<'t, R: Rows>(measurer: &mut Measurer, rows: &R, text: &'t str) -> &'t str
+    requires fits { (values_of measurer.old).bytes + length text.now ≤ u64.MAX }
+    ensures shorter { length result.now ≤ length text.now }
+    ensures counts { (values_of measurer.new).bytes + length result.now ≡ (values_of measurer.old).bytes + length text.now }
+    ensures sees { let p = R.properties rows.now in (base : ℕ) (x : List ℕ) → HasMeasured p measurer.old base x
+        → HasSeenFront p measurer.new base x text.now result.now }
+{
+    let known = rows.starters_front(text);
+    if known == 0 {
+        return text;
+    }
+    let (front, rest) = text.split_at(known);
+    measurer.see_starters(char_count(front) as u64, known as u64);
+    rest
 }

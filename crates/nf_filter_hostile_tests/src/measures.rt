@@ -10,6 +10,8 @@ use std::test::Fail;
 
 const M: &str = "\u{301}";
 
+const LETTERS: &str = "\u{436}\u{436}\u{436}\u{436}\u{436}\u{436}\u{436}\u{436}\u{436}\u{436}";
+
 /// The measure of the pieces, each of which comes at once.
 fn measured(pieces: &[&[u8]]) -> Result<Measure, Fault> {
     let mut buffer = [0; 5000];
@@ -18,13 +20,16 @@ fn measured(pieces: &[&[u8]]) -> Result<Measure, Fault> {
 
 /// Appends one of these some times, or what other mixtures have.
 fn push_some(text: &mut String, seeded: &mut Seeded) -> Result<(), AllocError> {
-    let (some, most) = match seeded.below(7) {
+    let (some, most) = match seeded.below(10) {
         0 | 1 => ("a", 80),
         2 => (M, 40),
         3 => ("a\u{301}", 20),
         4 => ("a\u{E9}", 20),
         // Not assigned.
         5 => ("\u{378}", 3),
+        6 => ("\u{3042}\u{3098}", 3),
+        7 => ("\u{436}", 80),
+        8 => ("\u{4E2D}\u{3042} ", 40),
         _ => return push_part(text, seeded),
     };
     for _ in 0..seeded.below(most) {
@@ -46,6 +51,39 @@ fn mixtures_are_measured_in_the_same_way(rt: HostRuntime) -> Result<(), Fail> {
         let looked_at = measure(&Patched::new(&[]), 0, &mut FromReader::new(text.as_bytes()));
         assert!(rt; looked_at.is_ok(), "seed {seed}");
         assert_eq!(rt; measured(pieces.as_slice()), looked_at, "seed {seed}");
+    }
+    Ok(())
+}
+
+/// The measure over Unicode's data, and over the same data of which nothing is known.
+fn both(text: &str) -> [Result<Measure, Fault>; 2] {
+    let bytes = text.as_bytes();
+    let (mut first, mut second) = ([0; 64], [0; 64]);
+    [
+        measure_buffered(&Ucd, 0, &mut FromReader::new(bytes), &mut first),
+        measure_buffered(
+            &Patched::new(&[]),
+            0,
+            &mut FromReader::new(bytes),
+            &mut second,
+        ),
+    ]
+}
+
+#[test]
+fn each_character_is_measured_in_the_same_way(rt: HostRuntime) -> Result<(), Fail> {
+    for code in 0..0x11_0000u32 {
+        let Some(c) = char::from_u32(code) else {
+            continue;
+        };
+        let mut bytes = [0; 4];
+        let own: &str = c.encode_utf8(&mut bytes);
+        let [known, looked_at] = both(own);
+        assert_eq!(rt; known, looked_at, "{code:x}");
+        // So many letters that lanes of bytes are asked.
+        let between = format!(in rt.alloc(); "\u{436}{own}{LETTERS}")?;
+        let [known, looked_at] = both(&between);
+        assert_eq!(rt; known, looked_at, "{code:x} between letters");
     }
     Ok(())
 }

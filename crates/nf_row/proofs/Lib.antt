@@ -3,3 +3,4 @@ pub mod OwnLemmas
 pub mod SingleLemmas
 pub mod OrderingLemmas
 pub mod AuditLemmas
+pub mod StartersLemmas

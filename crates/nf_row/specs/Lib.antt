@@ -6,5 +6,6 @@ pub mod Ends
 pub mod Shape
 pub mod Ascii
 pub mod Plain
+pub mod Starters
 pub mod Audit
 pub mod Laws

@@ -20,6 +20,7 @@ mod rows;
 mod runs;
 mod single;
 mod soundness;
+mod starters;
 mod ucd;
 mod unsound;
 

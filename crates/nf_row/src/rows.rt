@@ -10,6 +10,7 @@ ghost use Rattle.nf_boundary.specs.Front.{IsClosedFront};
 ghost use Rattle.nf_row.specs.Kind.{IsKind};
 ghost use Rattle.nf_row.specs.Single.{IsSingle};
 ghost use Rattle.nf_row.specs.Ascii.{IsPlainAscii};
+ghost use Rattle.nf_row.specs.Starters.{has_only_starters};
 
 use crate::kind::Kind;
 use crate::single::Single;
@@ -67,6 +68,17 @@ pub trait Rows {
     fn assigned_front(&self, _text: &str) -> usize
         ensures boundary { IsCharBoundary _text.now result }
         ensures assigned { list_all (properties self.now).assigned (chars (take result _text.now)) ≡ true }
+    {
+        0
+    }
+
+    /// How many bytes at the front of the text are of characters that are known to be assigned and sound, and to have
+    /// starters alone in their compatibility decompositions, without a look-up for each. Data of which nothing is known
+    /// leaves it out.
+    #[inline]
+    fn starters_front(&self, _text: &str) -> usize
+        ensures boundary { IsCharBoundary _text.now result }
+        ensures starters { list_all (has_only_starters (properties self.now)) (chars (take result _text.now)) ≡ true }
     {
         0
     }

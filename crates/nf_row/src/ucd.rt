@@ -8,6 +8,7 @@ use crate::letter_row::letter_row;
 use crate::mark_row::mark_row;
 use crate::rows::{Long, Row, Rows, row_from};
 use crate::single::Single;
+use crate::starters::starters_front;
 use nf_assigned::assigned_front;
 use nf_boundary::{Closed, Formed, closed_front};
 use nf_calm::{Calm, calm_front};
@@ -72,6 +73,11 @@ impl Rows for Ucd {
     #[inline]
     fn assigned_front(&self, text: &str) -> usize {
         assigned_front(text)
+    }
+
+    #[inline]
+    fn starters_front(&self, text: &str) -> usize {
+        starters_front(text)
     }
 
     #[inline]

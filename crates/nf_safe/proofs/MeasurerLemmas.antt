@@ -1,25 +1,23 @@
 -- A measurer's step.
-use Rattle.std.proofs.Common.{◌≡◌, ℕ, ◌+◌, ◌-◌, ◌<◌, ◌==◌, not, Bool, true, false, cond, List, [], ◌∷◌, ◌++◌, length, encode_utf8, encode_utf8_all, refl, sym, ap, ◌∙◌, subst, arith, if◌then◌else◌, length-append, eqb-true, count_by, All}
+use Rattle.std.proofs.Common.{◌≡◌, ℕ, ◌+◌, ◌-◌, ◌<◌, ◌==◌, not, Bool, true, false, cond, List, [], ◌∷◌, ◌++◌, length, encode_utf8, encode_utf8_all, refl, sym, ap, ◌∙◌, subst, arith, if◌then◌else◌, length-append, append-nil, append_assoc, eqb-true, count_by}
 use Rattle.std.specs.List.{list_all}
-use Rattle.std.proofs.lemmas.Bool.{and_from, or_left}
-use Rattle.std.proofs.lemmas.List.Elements.{All-head, All-weaker}
-use Rattle.std.proofs.lemmas.List.Folds.{sum_by-zero}
-use Rattle.std.proofs.lemmas.List.Sums.{sum_by_push, sum_by-append, list_all-from_AllPass}
-use Rattle.std.proofs.lemmas.Str.{encodes-append, encodes-IsAscii}
-use Rattle.std.proofs.lemmas.Str.Ascii.{IsAscii-from_all}
+use Rattle.std.proofs.lemmas.Bool.{and_parts, and_from, or_left}
+use Rattle.std.proofs.lemmas.List.Elements.{All-weaker}
+use Rattle.std.proofs.lemmas.List.Folds.{sum_by-zero, list_all-append}
+use Rattle.std.proofs.lemmas.List.Sums.{sum_by_push, sum_by-append, list_all-from_AllPass, AllPass-from_list_all}
+use Rattle.std.proofs.lemmas.Str.{encodes-append}
 use Rattle.nf_forms.specs.Properties.{Properties, is_starter}
 use Rattle.nf_forms.specs.declared.form.Form.TheVariants.{Nfkd}
-use Rattle.nf_forms.specs.Runs.{has_starter, trail}
+use Rattle.nf_forms.specs.Runs.{has_starter, lead, trail}
 use Rattle.nf_forms.specs.Forms.{decomposed}
 use Rattle.nf_forms.specs.StreamSafe.{joiner, is_too_long, stream_safe}
 use Rattle.nf_forms.specs.Sound.{is_sound}
-use Rattle.nf_forms.specs.Laws.Sound.{IsSoundText, JoinerIsPlain-from_sound}
+use Rattle.nf_forms.specs.Laws.Sound.{IsSoundText, IsSound-from_test, JoinerIsPlain-from_sound}
 use Rattle.nf_forms.specs.Laws.Starters.{longest-order}
-use Rattle.nf_forms.specs.Laws.Parting.{run-behind}
+use Rattle.nf_forms.specs.Laws.Parting.{run-behind, safe_step-room}
 use Rattle.nf_forms.specs.Laws.Closed.{sound-append}
-use Rattle.nf_forms.specs.Laws.StreamSafe.{stream_safe-push, decomposed-append, decomposed-push}
-use Rattle.nf_row.specs.Ascii.{IsPlainAscii, AreAscii}
-use Rattle.nf_row.specs.Laws.Ascii.{starter-ascii, sound-ascii, decomposed-ascii, stream_safe-ascii}
+use Rattle.nf_forms.specs.Laws.StreamSafe.{stream_safe-push, trail-stream_safe-le, decomposed-append, decomposed-push}
+use Rattle.nf_row.specs.Starters.{has_only_starters}
 use Rattle.nf_safe.specs.declared.measure.Measure.{Measure}
 use Rattle.nf_safe.specs.declared.measurer.Measurer.{Measurer}
 use Rattle.nf_safe.specs.Count.{passes, count_step}
@@ -90,41 +88,85 @@ module _ (p : Properties) (old : Measurer) (x : List ℕ) (c : ℕ) (before : St
       runs_are : HasRuns p new.runs (decomposed Nfkd p (x ++ c ∷ []))
       runs_are = subst (HasRuns p new.runs) (sym (decomposed-push p Nfkd x c)) runs
 
--- plain ASCII
-module _ (p : Properties) (plain : IsPlainAscii p) (old : Measurer) (x : List ℕ) (before : StandsAfter p old x) (y : List ℕ) (ascii : AreAscii y) where
-  each : (test : ℕ → Bool) → ((c : ℕ) → c < 0x80 → test c ≡ true) → list_all test y ≡ true
-  each test passes = list_all-from_AllPass test y (All-weaker (λ c. c < 0x80) (λ c. test c ≡ true) passes y ascii)
+-- characters that have starters alone
+module _ (p : Properties) where
+  abbrev pub AreStarters : List ℕ → Type 0
+  AreStarters y = list_all (has_only_starters p) y ≡ true
 
-  safe : stream_safe p (x ++ y) ≡ stream_safe p x ++ y
-  safe = stream_safe-ascii p plain y ascii x before.sound
+  -- what is told of one
+  record Told (c : ℕ) : Type 0 where
+    assigned : p.assigned c ≡ true
+    sound : is_sound p c ≡ true
+    starters : list_all (is_starter p) (p.compat c) ≡ true
 
-  all_assigned : count_by (λ c. not (p.assigned c)) y ≡ 0
-  all_assigned = eqb-true _ _ (sum_by-zero (λ c. cond (not (p.assigned c)) 1 0) y ∙ each (λ c. cond (not (p.assigned c)) 1 0 == 0) (λ c below. ap (λ b. cond (not b) 1 0 == 0) (plain.unchanged c below).assigned))
+  told : (c : ℕ) → has_only_starters p c ≡ true → Told c
+  told c all =
+      let first = and_parts (p.assigned c) _ all in
+      let second = and_parts (is_sound p c) _ first.1 in
+      record { assigned = first.0; sound = second.0; starters = second.1 }
 
-  pub all_start : All (λ c. is_starter p c ≡ true) y
-  all_start = All-weaker (λ c. c < 0x80) (λ c. is_starter p c ≡ true) (starter-ascii p plain) y ascii
+  lead-starters : (w : List ℕ) → list_all (is_starter p) w ≡ true → lead p w ≡ 0
+  lead-starters [] all = refl
+  lead-starters (c ∷ w) all = ap (λ b. cond (not b) (1 + lead p w) 0) (and_parts (is_starter p c) _ all).0
 
-  begins : (v : List ℕ) → 0 < length v → All (λ c. is_starter p c ≡ true) v → has_starter p v ≡ true
+  -- no joiner is put before it
+  safe-push : (x : List ℕ) (c : ℕ) → IsSoundText p (stream_safe p x) → Told c → stream_safe p (x ++ c ∷ []) ≡ stream_safe p x ++ c ∷ []
+  safe-push x c sound told =
+      stream_safe-push p x c ∙ safe_step-room p (stream_safe p x) c (omega (arith, trail-stream_safe-le p Nfkd x sound, lead-starters (p.compat c) told.starters))
+
+  safe-starters : (y : List ℕ) → AreStarters y → (x : List ℕ) → IsSoundText p (stream_safe p x) → stream_safe p (x ++ y) ≡ stream_safe p x ++ y
+  safe-starters [] all x sound = ap (stream_safe p) (append-nil x) ∙ sym (append-nil (stream_safe p x))
+  safe-starters (c ∷ y) all x sound =
+      let parts = and_parts (has_only_starters p c) _ all in
+      let first = told c parts.0 in
+      let here = safe-push x c sound first in
+      let still : IsSoundText p (stream_safe p (x ++ c ∷ [])) =
+      ap (list_all (is_sound p)) here ∙ sound-append p Nfkd (stream_safe p x) (c ∷ []) sound (and_from _ _ first.sound refl) in
+      ap (stream_safe p) (sym (append_assoc x (c ∷ []) y)) ∙ safe-starters y parts.1 (x ++ c ∷ []) still ∙ ap (λ o. o ++ y) here ∙ append_assoc (stream_safe p x) (c ∷ []) y
+
+  -- its NFKD is of starters alone, and of some
+  pub decomposed-starters : (y : List ℕ) → AreStarters y → list_all (is_starter p) (decomposed Nfkd p y) ≡ true
+  decomposed-starters [] all = refl
+  decomposed-starters (c ∷ y) all =
+      let parts = and_parts (has_only_starters p c) _ all in
+      list_all-append (is_starter p) (p.compat c) (decomposed Nfkd p y) ∙ and_from _ _ (told c parts.0).starters (decomposed-starters y parts.1)
+
+  pub decomposed-some : (y : List ℕ) → AreStarters y → 0 < length y → 0 < length (decomposed Nfkd p y)
+  decomposed-some [] all some = absurd (omega arith)
+  decomposed-some (c ∷ y) all some =
+      let sound = IsSound-from_test p c (told c (and_parts (has_only_starters p c) _ all).0).sound in
+      omega (arith, sound.compat_some, length-append (p.compat c) (decomposed Nfkd p y))
+
+  begins : (v : List ℕ) → 0 < length v → list_all (is_starter p) v ≡ true → has_starter p v ≡ true
   begins [] some all = absurd (omega arith)
-  begins (c ∷ v) some all = or_left _ _ (All-head (λ c. is_starter p c ≡ true) c v all)
+  begins (c ∷ v) some all = or_left _ _ (and_parts (is_starter p c) _ all).0
 
-  pub goes_on-ascii : (new : Measurer) → 0 < length y → new.counter ≡ 0 → new.runs.last ≡ 0 → HasRuns p new.runs (decomposed Nfkd p x ++ y)
-      → new.bytes ≡ old.bytes + length y → new.chars ≡ old.chars + length y → new.put ≡ old.put → new.unassigned ≡ old.unassigned → StandsAfter p new (x ++ y)
-  goes_on-ascii new some count last runs bytes chars put unassigned =
-      let own = decomposed-ascii p plain Nfkd y ascii in
-      let runs_are : HasRuns p new.runs (decomposed Nfkd p (x ++ y)) =
-      subst (HasRuns p new.runs) (sym (decomposed-append p Nfkd x y ∙ ap (λ v. decomposed Nfkd p x ++ v) own)) runs in
-      let starts = ap (has_starter p) own ∙ begins y some all_start in
-      record {
-        sound = ap (list_all (is_sound p)) safe ∙ sound-append p Nfkd (stream_safe p x) y before.sound (each (is_sound p) (sound-ascii p plain));
-        values = same_values
-            (omega (arith, bytes, ap (λ m. m.bytes) before.values, ap length (encodes-append x y), length-append (encode_utf8_all x) (encode_utf8_all y), ap length (encodes-IsAscii y (IsAscii-from_all y ascii))))
-            (omega (arith, chars, ap (λ m. m.chars) before.values, length-append x y))
-            runs_are.nonstarters
-            (runs_are.longest ∙ sym (longest-order p (decomposed Nfkd p (x ++ y))))
-            (omega (arith, put, ap (λ m. m.put) before.values, ap length safe, length-append (stream_safe p x) y, length-append x y))
-            (omega (arith, unassigned, ap (λ m. m.unassigned) before.values, sum_by-append (λ c. cond (not (p.assigned c)) 1 0) x y, all_assigned));
-        count = count ∙ sym last ∙ runs_are.last ∙ run-behind p x y starts
-            ∙ sym (ap (λ o. trail p (decomposed Nfkd p o)) safe ∙ run-behind p (stream_safe p x) y starts);
-        runs = runs_are;
-      }
+  module _ (old : Measurer) (x : List ℕ) (before : StandsAfter p old x) (y : List ℕ) (all : AreStarters y) where
+    each : (test : ℕ → Bool) → ((c : ℕ) → Told c → test c ≡ true) → list_all test y ≡ true
+    each test passes =
+        list_all-from_AllPass test y (All-weaker (λ c. has_only_starters p c ≡ true) (λ c. test c ≡ true) (λ c one. passes c (told c one)) y (AllPass-from_list_all (has_only_starters p) y all))
+
+    safe : stream_safe p (x ++ y) ≡ stream_safe p x ++ y
+    safe = safe-starters y all x before.sound
+
+    all_assigned : count_by (λ c. not (p.assigned c)) y ≡ 0
+    all_assigned = eqb-true _ _ (sum_by-zero (λ c. cond (not (p.assigned c)) 1 0) y ∙ each (λ c. cond (not (p.assigned c)) 1 0 == 0) (λ c one. ap (λ b. cond (not b) 1 0 == 0) one.assigned))
+
+    pub goes_on-starters : (new : Measurer) → 0 < length y → new.counter ≡ 0 → new.runs.last ≡ 0 → HasRuns p new.runs (decomposed Nfkd p x ++ decomposed Nfkd p y)
+        → new.bytes ≡ old.bytes + length (encode_utf8_all y) → new.chars ≡ old.chars + length y → new.put ≡ old.put → new.unassigned ≡ old.unassigned → StandsAfter p new (x ++ y)
+    goes_on-starters new some count last runs bytes chars put unassigned =
+        let runs_are : HasRuns p new.runs (decomposed Nfkd p (x ++ y)) = subst (HasRuns p new.runs) (sym (decomposed-append p Nfkd x y)) runs in
+        let starts = begins (decomposed Nfkd p y) (decomposed-some y all some) (decomposed-starters y all) in
+        record {
+          sound = ap (list_all (is_sound p)) safe ∙ sound-append p Nfkd (stream_safe p x) y before.sound (each (is_sound p) (λ c one. one.sound));
+          values = same_values
+              (omega (arith, bytes, ap (λ m. m.bytes) before.values, ap length (encodes-append x y), length-append (encode_utf8_all x) (encode_utf8_all y)))
+              (omega (arith, chars, ap (λ m. m.chars) before.values, length-append x y))
+              runs_are.nonstarters
+              (runs_are.longest ∙ sym (longest-order p (decomposed Nfkd p (x ++ y))))
+              (omega (arith, put, ap (λ m. m.put) before.values, ap length safe, length-append (stream_safe p x) y, length-append x y))
+              (omega (arith, unassigned, ap (λ m. m.unassigned) before.values, sum_by-append (λ c. cond (not (p.assigned c)) 1 0) x y, all_assigned));
+          count = count ∙ sym last ∙ runs_are.last ∙ run-behind p x y starts
+              ∙ sym (ap (λ o. trail p (decomposed Nfkd p o)) safe ∙ run-behind p (stream_safe p x) y starts);
+          runs = runs_are;
+        }

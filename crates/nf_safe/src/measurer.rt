@@ -23,10 +23,11 @@ pub struct Measurer {
 }
 
 impl Measurer {
-    ghost use Rattle.std.specs.Prelude.{◌≡◌, ◌+◌, ◌<◌, ℕ, List, [], ◌∷◌, ◌++◌, length, IsErr, OnOk, option_map, encode_utf8};
+    ghost use Rattle.std.specs.Prelude.{◌≡◌, ◌+◌, ◌<◌, ◌≤◌, ℕ, true, List, [], ◌∷◌, ◌++◌, length, IsErr, OnOk, option_map, encode_utf8, encode_utf8_all};
+    ghost use Rattle.std.specs.List.{list_all};
     ghost use Rattle.std.specs.Result.{result_err};
     ghost use Rattle.nf_forms.specs.Properties.{Properties};
-    ghost use Rattle.nf_row.specs.Ascii.{IsPlainAscii, AreAscii};
+    ghost use Rattle.nf_row.specs.Starters.{has_only_starters};
     ghost use Rattle.nf_safe.specs.Measurer.{values_of, refusal, unsound_at, StandsAfter};
 
     /// A measurer that has seen nothing.
@@ -74,20 +75,22 @@ impl Measurer {
         Ok(())
     }
 
-    /// Sees so many ASCII characters, at least one, of data that leaves ASCII as it is (`Plain`). There each is assigned
-    /// and a starter, alone its own decompositions: nothing is refused or put, and the count and the run begin anew.
+    /// Sees so many characters, at least one, that take up so many bytes, of which each is assigned and sound, and has
+    /// starters alone in its compatibility decomposition, as ASCII has in Unicode's data: nothing is refused or put, and the
+    /// count and the run begin anew.
     #[inline]
-    pub fn see_ascii(&mut self, count: u64)
-        requires some { 0 < count }
-        requires fits { (values_of self.old).bytes + count ≤ u64.MAX }
-        ensures bytes { (values_of self.new).bytes ≡ (values_of self.old).bytes + count }
-        ensures stands { (p : Properties) (x y : List ℕ) → IsPlainAscii p → AreAscii y → length y ≡ count
-            → StandsAfter p self.old x → StandsAfter p self.new (x ++ y) }
+    pub fn see_starters(&mut self, chars: u64, bytes: u64)
+        requires some { 0 < chars }
+        requires within { chars ≤ bytes }
+        requires fits { (values_of self.old).bytes + bytes ≤ u64.MAX }
+        ensures bytes { (values_of self.new).bytes ≡ (values_of self.old).bytes + bytes }
+        ensures stands { (p : Properties) (x y : List ℕ) → list_all (has_only_starters p) y ≡ true
+            → length y ≡ chars → length (encode_utf8_all y) ≡ bytes → StandsAfter p self.old x → StandsAfter p self.new (x ++ y) }
     {
         self.counter = Counter::new();
         self.runs.push_starters();
-        self.bytes += count;
-        self.chars += count;
+        self.bytes += bytes;
+        self.chars += chars;
     }
 
     /// What it has measured.

@@ -97,28 +97,31 @@ fn nothing_is_measured_of_what_is_refused(rt: HostRuntime) {
 }
 
 #[test]
-fn ascii_is_counted_at_once(rt: HostRuntime) {
-    // Marks, ASCII characters behind them, marks behind those; and what is measured of it all.
-    let cases: [(u32, u32, u32, [u64; 6]); 5] = [
-        (20, 1, 20, [81, 41, 40, 20, 0, 0]),
-        (31, 1, 30, [123, 62, 61, 31, 1, 0]),
-        (30, 64, 31, [186, 125, 61, 31, 1, 0]),
-        (3, 5000, 0, [5006, 5003, 3, 3, 0, 0]),
-        (0, 7, 2, [11, 9, 2, 2, 0, 0]),
+fn starters_are_counted_at_once(rt: HostRuntime) {
+    // Marks, a character some times behind them, marks behind those; and what is measured of it all.
+    let cases: [(u32, (char, u32), u32, [u64; 6]); 7] = [
+        (20, ('q', 1), 20, [81, 41, 40, 20, 0, 0]),
+        (31, ('q', 1), 30, [123, 62, 61, 31, 1, 0]),
+        (30, ('q', 64), 31, [186, 125, 61, 31, 1, 0]),
+        (3, ('q', 5000), 0, [5006, 5003, 3, 3, 0, 0]),
+        (0, ('\u{4E2D}', 7), 2, [25, 9, 2, 2, 0, 0]),
+        // Of two starters, and of three.
+        (31, ('\u{FB01}', 2), 1, [70, 34, 32, 31, 1, 0]),
+        (1, ('\u{AC01}', 9), 31, [91, 41, 32, 31, 1, 0]),
     ];
-    for (before, count, behind, values) in cases {
-        let one_by_one = [(MARK, before), ('q', count), (MARK, behind)];
+    for (before, (c, count), behind, values) in cases {
+        let one_by_one = [(MARK, before), (c, count), (MARK, behind)];
         check(&rt, &Ucd, &[(&one_by_one, values, None)]);
         let mut measurer = Measurer::new();
         see_marks(&rt, &mut measurer, before);
-        let count = u64::from(count);
-        assert!(rt; count > 0 && measurer.values().bytes <= u64::MAX - count);
-        measurer.see_ascii(count);
+        let (count, bytes) = (u64::from(count), u64::from(count) * c.len_utf8() as u64);
+        assert!(rt; count > 0 && measurer.values().bytes <= u64::MAX - bytes);
+        measurer.see_starters(count, bytes);
         see_marks(&rt, &mut measurer, behind);
         assert_eq!(rt;
             measurer.values(),
             measure(values),
-            "{before} {count} {behind}"
+            "{before} {c} {count} {behind}"
         );
     }
 }
