@@ -6,4 +6,5 @@ pub mod JoinLemmas
 pub mod ApartLemmas
 pub mod RowLemmas
 pub mod HangulLemmas
-pub mod MarkedLemmas
+pub mod BecomesLemmas
+pub mod FillsLemmas

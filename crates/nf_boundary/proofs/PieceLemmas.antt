@@ -2,7 +2,7 @@
 use Rattle.std.proofs.Common.{◌≡◌, ◌≢◌, ◌⊎◌, inl, inr, ⊎_elim, ℕ, ◌<◌, ◌-◌, List, [], ◌∷◌, ◌++◌, length, take, drop, refl, sym, ap, subst, ◌∙◌, arith, append_assoc, append-nil, length-append, take_at, drop_at}
 use Rattle.std.specs.Prelude.{chars, encode_utf8_all, IsUtf8}
 use Rattle.std.specs.Str.{IsCharBoundary}
-use Rattle.std.proofs.lemmas.Str.{chars-nil, chars-append, encodes-chars, IsUtf8-append, IsUtf8-take, IsCharBoundary-at_seam}
+use Rattle.std.proofs.lemmas.Str.{chars-nil, IsUtf8-nil, chars-append, encodes-chars, IsUtf8-append, IsUtf8-take, IsCharBoundary-at_seam}
 use Rattle.nf_forms.specs.declared.form.Form.{Form}
 use Rattle.nf_forms.specs.Calm.{IsCalm}
 use Rattle.nf_forms.specs.Closed.{HasForm}
@@ -97,6 +97,10 @@ module _ (f : Form) where
           ];
           behind = here.behind;
         })
+
+  -- nothing stands before the first character
+  pub reaches_none : (text : List ℕ) (next : Seen) → next.text.now ≡ text → IsAtBoundary f next → Reaches f text [] [] next
+  reaches_none text next is behind = record { front = []; split = sym is; utf8 = IsUtf8-nil; form = inl (refl, refl, refl); behind = behind }
 
   -- ---- a piece more
 

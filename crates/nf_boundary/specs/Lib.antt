@@ -6,5 +6,5 @@ pub mod Joins
 pub mod Hangul
 pub mod Mark
 pub mod Laws
-pub mod Marked
+pub mod Piece
 pub mod Rows

@@ -1,8 +1,9 @@
 ghost use Rattle.std.specs.Prelude.{◌≡◌, IfSome, IsNone};
 ghost use Rattle.nf_forms.specs.Ucd.{ucd};
 ghost use Rattle.nf_boundary.specs.Front.{IsClosedFront};
-ghost use Rattle.nf_boundary.specs.Seen.{IsAtBoundary};
-ghost use Rattle.nf_boundary.specs.Pieces.{Closes};
+ghost use Rattle.nf_boundary.specs.Seen.{Sees, IsAtBoundary};
+ghost use Rattle.nf_boundary.specs.Rows.{IsRow};
+ghost use Rattle.nf_boundary.specs.Pieces.{Closes, Reaches};
 ghost use Rattle.nf_boundary.specs.Stands.{Stands};
 
 use crate::apart::take_apart;
@@ -10,9 +11,9 @@ use crate::closed::{Closed, Formed};
 use crate::composing::compose_cluster;
 use crate::hangul::take_syllable;
 use crate::kept::keep_halfwidth;
-use crate::marks::take_marked;
-use crate::rows::rows_front;
-use crate::seen::Seen;
+use crate::pieces::take_pieces;
+use crate::rows::{Row, changed};
+use crate::seen::{Seen, may_begin_with_mark};
 use nf_calm::calm_front;
 use nf_facts::laws;
 use nf_forms::Form;
@@ -23,16 +24,12 @@ use nf_forms::Form;
 pub fn closed_front<'t>(form: Form, text: &'t str, formed: &mut Formed) -> Option<Closed<'t>>
     ensures { IfSome result (λ closed. IsClosedFront ucd form text.now closed.same.now formed.new.items closed.rest.now) }
 {
-    let closed = match form {
+    match form {
         Form::Nfc => front_in(Form::Nfc, text, formed),
         Form::Nfd => front_in(Form::Nfd, text, formed),
         Form::Nfkc => front_in(Form::Nfkc, text, formed),
         Form::Nfkd => front_in(Form::Nfkd, text, formed),
-    };
-    if closed.is_none() && form.composes() {
-        return rows_front(form, text, formed);
     }
-    closed
 }
 
 /// Each form has a copy of the loops of its own.
@@ -40,8 +37,10 @@ pub fn closed_front<'t>(form: Form, text: &'t str, formed: &mut Formed) -> Optio
 fn front_in<'t>(form: Form, text: &'t str, formed: &mut Formed) -> Option<Closed<'t>>
     ensures { IfSome result (λ closed. IsClosedFront ucd form text.now closed.same.now formed.new.items closed.rest.now) }
 {
-    // Most of what is not closed shows at once.
-    Seen::boundary(form, text)?;
+    let seen = Seen::first(form, text)?;
+    if !seen.is_boundary(form) {
+        return changed_front(form, seen, formed);
+    }
     let first = own_part(form, text)?;
     let (same, _) = text.split_at(text.len() - first.text.len());
     formed.clear();
@@ -49,14 +48,46 @@ fn front_in<'t>(form: Form, text: &'t str, formed: &mut Formed) -> Option<Closed
     while let Some(behind) = take_cluster(form, next, formed) {
         next = behind;
     }
-    if next.text.len() < text.len() {
+    // Behind what is taken another piece may begin that clusters do not take.
+    if next.text.len() < text.len() && !may_begin_with_mark(next.behind) {
         return Some(Closed {
             same,
             rest: next.text,
         });
     }
-    // Nothing is known as yet of marks out of order.
-    let last = take_marked(form, next, formed);
+    let plain = Row {
+        seen: next,
+        members: &[],
+    };
+    take_front(form, text, same, plain, formed)
+}
+
+/// The same, of a text that begins with a character that the form changes, where its decomposition tells that a text may be
+/// cut before it. Most of what is not closed shows at once.
+fn changed_front<'t>(form: Form, seen: Seen<'t>, formed: &mut Formed) -> Option<Closed<'t>>
+    requires { Sees form seen }
+    ensures { IfSome result (λ closed. IsClosedFront ucd form seen.entry.text.now closed.same.now formed.new.items closed.rest.now) }
+{
+    let first = changed(form, seen)?;
+    formed.clear();
+    take_front(form, seen.text, "", first, formed)
+}
+
+/// The front of a text that ends where its pieces do, of which the next one begins with `next`. What stands before that is
+/// `same`, and what was appended.
+#[inline(always)]
+fn take_front<'t>(
+    form: Form,
+    text: &'t str,
+    same: &'t str,
+    next: Row<'t>,
+    formed: &mut Formed,
+) -> Option<Closed<'t>>
+    requires row { IsRow form next }
+    requires reaches { Reaches form text.now same.now formed.old.items next.seen }
+    ensures { IfSome result (λ closed. IsClosedFront ucd form text.now closed.same.now formed.new.items closed.rest.now) }
+{
+    let last = take_pieces(form, next, formed);
     if last.text.len() == text.len() {
         return None;
     }

@@ -13,7 +13,8 @@ mod hangul;
 mod kept;
 mod lone;
 mod mark;
-mod marks;
+mod piece;
+mod pieces;
 mod rows;
 mod seen;
 

@@ -1,137 +1,63 @@
-ghost use Rattle.std.specs.Prelude.{◌≡◌, ℕ, List, ◌∷◌, IsTrue, IfSome, IsNone};
-ghost use Rattle.std.specs.List.{All};
-ghost use Rattle.unicode_normalization.specs.Decompose.{table_of, decompose};
+ghost use Rattle.std.specs.Prelude.{◌≡◌, ◌∷◌, ℕ, List, IfSome};
+ghost use Rattle.unicode_normalization.specs.Decompose.{decompose, table_of};
 ghost use Rattle.unicode_normalization.specs.Hangul.{is_syllable};
+ghost use Rattle.nf_forms.specs.Forms.{row_of};
 ghost use Rattle.nf_forms.specs.Ucd.{ucd};
 ghost use Rattle.nf_facts.specs.KitForm.{kit_form};
 ghost use Rattle.nf_facts.specs.Passing.{passes_check};
-ghost use Rattle.nf_boundary.specs.Front.{IsClosedFront};
 ghost use Rattle.nf_boundary.specs.Seen.{Sees};
-ghost use Rattle.nf_boundary.specs.Pieces.{Closes};
-ghost use Rattle.nf_boundary.specs.Stands.{Stands};
 ghost use Rattle.nf_boundary.specs.Rows.{IsRow};
 
-use crate::closed::{Closed, Formed};
-use crate::lone::take_own;
 use crate::seen::{Seen, begins_with_mark, is_plain};
 use nf_facts::{in_tables, is_halfwidth_mark, laws};
 use nf_forms::Form;
 use ucd_normal::{
     QuickCheck, canonical_decomposition, class_and_quick_check, compatibility_decomposition,
 };
+use unicode_normalization::char::decomposition;
 
 /// A character before which a text may be cut, with its decomposition, so that this is looked up once.
 #[derive(Clone, Copy)]
-struct Row<'t> {
-    seen: Seen<'t>,
-    /// None where one look-up tells that a text may be cut there: a form that composes leaves such a character as it is.
-    members: &'static [char],
+pub(crate) struct Row<'t> {
+    pub seen: Seen<'t>,
+    /// None where one look-up tells that a text may be cut there.
+    pub members: &'static [char],
 }
 
-/// A closed front of characters that the form changes, the form of each of which is its decomposition, behind one at most
-/// that the form leaves as it is. Their form is put into `formed`, in place of what it holds. It stands out of line, since
-/// most texts have none.
-#[inline(never)]
-pub(crate) fn rows_front<'t>(form: Form, text: &'t str, formed: &mut Formed) -> Option<Closed<'t>>
-    ensures { IfSome result (λ closed. IsClosedFront ucd form text.now closed.same.now formed.new.items closed.rest.now) }
-{
-    let first = before_rows(form, text)?;
-    let (same, _) = text.split_at(text.len() - first.seen.text.len());
-    formed.clear();
-    let mut next = first;
-    while let Some(behind) = take_row(form, next, formed) {
-        next = behind;
-    }
-    if next.seen.text.len() == text.len() {
-        return None;
-    }
-    Some(Closed {
-        same,
-        rest: next.seen.text,
-    })
-}
-
-/// The first character that the form changes, where it is that which the text begins with, or the one behind it.
-fn before_rows(form: Form, text: &str) -> Option<Row<'_>>
-    ensures stands { IfSome result (λ next. Stands form text.now next.seen) }
-    ensures row { IfSome result (λ next. IsRow form next) }
-{
-    laws::every_character_is_sound();
-    laws::the_quick_check_tells();
-    let first = boundary(form, text)?;
-    match first.seen.answer {
-        QuickCheck::Yes => {
-            let next = boundary(form, first.seen.behind)?;
-            if next.seen.answer == QuickCheck::Yes || is_halfwidth_mark(first.seen.character) {
-                return None;
-            }
-            Some(next)
+impl<'t> Row<'t> {
+    /// The character, where a text may be cut before it, as one look-up tells, or its decomposition.
+    #[inline(always)]
+    pub fn at(form: Form, seen: Seen<'t>) -> Option<Row<'t>>
+        requires { Sees form seen }
+        ensures seen { IfSome result (λ row. row.seen ≡ seen.entry) }
+        ensures row { IfSome result (λ row. IsRow form row) }
+    {
+        if seen.is_boundary(form) {
+            return Some(Row { seen, members: &[] });
         }
-        _ => Some(first),
+        changed(form, seen)
     }
-}
 
-/// Appends the decomposition of a character that the form changes, where each of its members passes the quick check, so
-/// that it is the character's form, and a boundary comes behind the character; answers that. Calm text is left, but for one
-/// character before another that is changed.
-#[inline(always)]
-fn take_row<'t>(form: Form, first: Row<'t>, formed: &mut Formed) -> Option<Row<'t>>
-    requires { IsRow form first }
-    ensures closes { IfSome result (λ next. Closes form first.entry.seen.text.now next.seen formed.old.items formed.new.items) }
-    ensures row { IfSome result (λ next. IsRow form next) }
-    ensures stays { IsNone result → formed.new ≡ formed.old }
-{
-    laws::every_character_is_sound();
-    laws::rows_are_full();
-    laws::the_quick_check_tells();
-    let next = boundary(form, first.seen.behind)?;
-    // That the first passes is known.
-    let Some((_, others)) = first.members.split_first() else {
-        return take_lone(form, first, next, formed);
-    };
-    if !all_pass(form, others) {
-        return None;
+    /// Its decomposition.
+    #[inline(always)]
+    pub fn decomposition<'a>(self, form: Form, place: &'a mut [char; 3]) -> &'a [char]
+        requires { IsRow form self }
+        ensures { result.now ≡ row_of form ucd self.entry.seen.character }
+    {
+        if self.members.is_empty() {
+            decomposition(self.seen.character, in_tables(form), place)
+        } else {
+            self.members
+        }
     }
-    formed.try_extend_from_slice(first.members).ok()?;
-    Some(next)
-}
-
-/// Appends a character that the form leaves as it is, where the next one is changed; answers that.
-#[inline(always)]
-fn take_lone<'t>(form: Form, first: Row<'t>, next: Row<'t>, formed: &mut Formed) -> Option<Row<'t>>
-    requires first { IsRow form first }
-    requires next { IsRow form next }
-    requires behind { next.seen.text.now ≡ first.seen.behind.now }
-    ensures closes { IfSome result (λ next. Closes form first.entry.seen.text.now next.seen formed.old.items formed.new.items) }
-    ensures row { IfSome result (λ next. IsRow form next) }
-    ensures stays { IsNone result → formed.new ≡ formed.old }
-{
-    if next.members.is_empty() {
-        return None;
-    }
-    take_own(form, first.seen, next.seen, formed)?;
-    Some(next)
-}
-
-/// The first character, where a text may be cut before it, as one look-up tells, or its decomposition.
-#[inline(always)]
-fn boundary(form: Form, text: &str) -> Option<Row<'_>>
-    ensures text { IfSome result (λ row. row.seen.text.now ≡ text.now) }
-    ensures row { IfSome result (λ row. IsRow form row) }
-{
-    let seen = Seen::first(form, text)?;
-    if seen.is_boundary(form) {
-        return Some(Row { seen, members: &[] });
-    }
-    changed(form, seen)
 }
 
 /// The character, where a text may be cut before it since it is a starter whose decomposition begins with one that passes
 /// the quick check, and so composes with nothing before it.
 #[inline(always)]
-fn changed<'t>(form: Form, seen: Seen<'t>) -> Option<Row<'t>>
+pub(crate) fn changed<'t>(form: Form, seen: Seen<'t>) -> Option<Row<'t>>
     requires { Sees form seen }
-    ensures text { IfSome result (λ row. row.seen.text.now ≡ seen.entry.text.now) }
+    ensures seen { IfSome result (λ row. row.seen ≡ seen.entry) }
     ensures row { IfSome result (λ row. IsRow form row) }
 {
     laws::every_character_is_sound();
@@ -179,17 +105,9 @@ const fn is_syllable(c: char) -> bool
     matches!(c, '\u{AC00}'..='\u{D7A3}')
 }
 
-/// Whether each of the characters is a starter that passes the quick check.
-#[inline(always)]
-fn all_pass(form: Form, row: &[char]) -> bool
-    ensures { IsTrue result → All (λ c. IsTrue (passes_check form c)) row.now }
-{
-    row.iter().all(|c| passes(form, *c))
-}
-
 /// Whether `c` is a starter that passes the quick check.
 #[inline(always)]
-fn passes(form: Form, c: char) -> bool
+pub(crate) fn passes(form: Form, c: char) -> bool
     ensures { result ≡ passes_check form c }
 {
     if is_plain(c) {

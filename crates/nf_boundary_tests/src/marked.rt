@@ -122,3 +122,52 @@ fn thirty_marks_out_of_order(rt: HostRuntime) -> Result<(), Fail> {
     }
     Ok(())
 }
+
+/// U+0340 is U+0300, U+0344 is U+0308 and U+0301, and U+0F73, a starter, is U+0F71 and U+0F72, which no form composes again. The
+/// classes of U+0F71, U+0F72 and U+0F74 are 129, 130 and 132.
+#[test]
+fn marks_that_decompose(rt: HostRuntime) -> Result<(), Fail> {
+    let composed = [
+        ("", "a\u{340}", "\u{E0}", "b"),
+        ("", "a\u{344}", "\u{E4}\u{301}", "b"),
+        (
+            "",
+            "a\u{301}\u{323}\u{344}",
+            "\u{1EA1}\u{301}\u{308}\u{301}",
+            "b",
+        ),
+        (
+            "",
+            "\u{F40}\u{F74}\u{F73}",
+            "\u{F40}\u{F71}\u{F72}\u{F74}",
+            "b",
+        ),
+    ];
+    check(&rt, rt.alloc(), Form::Nfc, &composed)?;
+    check(&rt, rt.alloc(), Form::Nfkc, &composed)?;
+    let decomposed = [
+        ("", "a\u{344}", "a\u{308}\u{301}", "b"),
+        (
+            "",
+            "\u{F40}\u{F74}\u{F73}",
+            "\u{F40}\u{F71}\u{F72}\u{F74}",
+            "b",
+        ),
+    ];
+    check(&rt, rt.alloc(), Form::Nfd, &decomposed)?;
+    check(&rt, rt.alloc(), Form::Nfkd, &decomposed)
+}
+
+/// Behind a character with a decomposition 12 marks are known to make no run too long, and 30 behind one that has none.
+#[test]
+fn marks_up_to_the_run(rt: HostRuntime) -> Result<(), Fail> {
+    let text = format!(in rt.alloc(); "\u{958}{TWELVE}b")?;
+    assert_eq!(rt; checked(&rt, rt.alloc(), Form::Nfc, &text)?, Some("b"));
+    let text = format!(in rt.alloc(); "\u{958}{TWELVE}\u{316}b")?;
+    assert_eq!(rt; is_none(Form::Nfc, &text), true);
+    let text = format!(in rt.alloc(); "a{TWELVE}{TWELVE}\u{344}\u{344}\u{344}b")?;
+    assert_eq!(rt; checked(&rt, rt.alloc(), Form::Nfc, &text)?, Some("b"));
+    let text = format!(in rt.alloc(); "a{TWELVE}{TWELVE}\u{344}\u{344}\u{344}\u{344}b")?;
+    assert_eq!(rt; is_none(Form::Nfc, &text), true);
+    Ok(())
+}

@@ -1,8 +1,9 @@
-use Rattle.std.proofs.Common.{rules, ◌≡◌, ◌≢◌, [], length, sym, subst}
+use Rattle.std.proofs.Common.{rules, ◌≡◌, ◌≢◌, [], length, refl, sym, subst}
 use Rattle.nf_forms.specs.Ucd.{ucd}
 use Rattle.nf_boundary.specs.Front.{IsClosedFront}
 use Rattle.nf_boundary.specs.Pieces.{Reaches}
 use Rattle.nf_boundary.proofs.PieceLemmas.{closes_shorter, stands-seam, reaches_own, reaches_more, closed_front}
+use Rattle.nf_boundary.proofs.RowLemmas.{row_plain}
 use Rattle.nf_boundary.proofs.front.front_in.Goals as goal
 
 pub split_at-requires : goal.split_at-requires
@@ -22,16 +23,17 @@ loop-behind-preserved c =
     reaches_more c.args.form c.args.text.now c.split_at.result.0.now c.loop-behind.formed.items c.loop-behind.next c.loop-behind.invariant c.in-Some.behind c.take_cluster.new.formed.items
     c.in-Some.ensures.closes
 
-pub returns-then-next-text : goal.returns-then-next-text
-returns-then-next-text c =
+pub returns-then-not-may_begin_with_mark : goal.returns-then-not-may_begin_with_mark
+returns-then-not-may_begin_with_mark c =
     let same : c.take_cluster.new.formed ≡ c.loop-behind.formed = search rules in
     let some : length c.loop-behind.next.text.now ≢ length c.args.text.now = search rules in
     subst (λ formed. IsClosedFront ucd c.args.form c.args.text.now c.split_at.result.0.now formed.items c.loop-behind.next.text.now) (sym same)
     (closed_front c.args.form c.args.text.now c.split_at.result.0.now c.loop-behind.formed.items c.loop-behind.next c.loop-behind.invariant some)
 
-pub returns : goal.returns
-returns c =
+pub take_front-requires : goal.take_front-requires
+take_front-requires c =
     let same : c.take_cluster.new.formed ≡ c.loop-behind.formed = search rules in
-    let some : length c.take_marked-last.result.text.now ≢ length c.args.text.now = search rules in
-    let before = subst (λ formed. Reaches c.args.form c.args.text.now c.split_at.result.0.now formed.items c.loop-behind.next) (sym same) c.loop-behind.invariant in
-    closed_front c.args.form c.args.text.now c.split_at.result.0.now _ c.take_marked-last.result (c.take_marked-last.ensures c.args.text.now c.split_at.result.0.now before) some
+    record {
+      row = row_plain c.args.form _ refl c.loop-behind.invariant.behind;
+      reaches = subst (λ formed. Reaches c.args.form c.args.text.now c.split_at.result.0.now formed.items c.loop-behind.next) (sym same) c.loop-behind.invariant;
+    }

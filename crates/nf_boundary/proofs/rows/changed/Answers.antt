@@ -1,4 +1,4 @@
-use Rattle.std.proofs.Common.{rules, ◌≡◌, ◌||◌, false, sym, subst, ◌∙◌}
+use Rattle.std.proofs.Common.{rules, ◌≡◌, ◌||◌, false, sym, ◌∙◌}
 use Rattle.std.specs.Prelude.{IsTrue}
 use Rattle.nf_facts.specs.Passing.{is_among, halfwidth_marks, vowel_signs, passes_check}
 use Rattle.nf_boundary.proofs.SeenLemmas.{boundary_row}
@@ -18,5 +18,4 @@ returns-clause-row c =
       at = boundary_row form seen c.requires c.every_character_is_sound.ensures.character class plain c.exceptions_are_few.ensures.starter
           (anew_row form seen.character row (c.members-members.ensures _ _ is) (c.the_quick_check_tells.ensures.parting form) (c.the_quick_check_tells.ensures.never_second form) _ _ is passes);
       members = c.members-members.ensures;
-      passes = λ first others here. let same : c.in_ok-first.first.now ≡ first = cc in subst (λ x. IsTrue (passes_check form x)) same passes;
     }

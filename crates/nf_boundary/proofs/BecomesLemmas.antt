@@ -1,0 +1,178 @@
+-- What decomposed text from a boundary on becomes: a member more, and its form when a boundary comes.
+use Rattle.std.proofs.Common.{◌≡◌, ◌≢◌, ◌==◌, ℕ, ◌+◌, Bool, true, false, List, [], ◌∷◌, ◌++◌, length, map, get_or, Some, refl, sym, ap, ◌∙◌, append_assoc, append-nil, arith, leb}
+use Rattle.std.proofs.lemmas.Bool.{ne_eqb, cond-true}
+use Rattle.std.proofs.lemmas.Bool.Decides.{nat_tests}
+use Rattle.ucd_normal.specs.CanonicalCombiningClass.{canonical_combining_class}
+use Rattle.std.proofs.lemmas.List.Folds.{list_any_at}
+use Rattle.std.specs.Prelude.{IsTrue, insert, not, if◌then◌else◌}
+use Rattle.std.specs.List.{prefix_len, flat_map}
+use Rattle.nf_forms.specs.Properties.{Properties, is_starter}
+use Rattle.nf_forms.specs.Runs.{has_starter, trail, longest}
+use Rattle.nf_forms.specs.Order.{by_class, order}
+use Rattle.nf_forms.specs.Compose.{compose}
+use Rattle.nf_forms.specs.declared.form.Form.{Form}
+use Rattle.nf_forms.specs.declared.form.Form.TheVariants.{Nfc, Nfd, Nfkc, Nfkd}
+use Rattle.nf_forms.specs.Forms.{row_of, decomposed, composes, arranged, finished}
+use Rattle.nf_forms.specs.Sound.{is_sound}
+use Rattle.nf_forms.specs.Parting.{NeverSecond}
+use Rattle.nf_forms.specs.Audit.{IsFull, AreOwnMarks}
+use Rattle.nf_forms.specs.Cluster.{IsOwnRow}
+use Rattle.nf_forms.specs.Ucd.{ucd}
+use Rattle.nf_forms.specs.Laws.Runs.{lead-le-length, trail-le-length, trail-append, trail-push, longest-append}
+use Rattle.nf_forms.specs.Laws.Front.{marks_push}
+use Rattle.nf_forms.specs.Laws.Order.{order-behind, has_starter-by_class}
+use Rattle.nf_forms.specs.Laws.Ordering.{order-ordered}
+use Rattle.nf_forms.specs.Laws.Compose.{compose-behind}
+use Rattle.nf_forms.specs.Laws.Settling.{closed_off}
+use Rattle.nf_forms.specs.Laws.Sound.{IsSound-from_test}
+use Rattle.nf_forms.specs.Laws.StreamSafe.{decomposed-push, longest-le-length}
+use Rattle.nf_forms.specs.Laws.Parting.{arranged-boundary}
+use Rattle.nf_forms.specs.Laws.Audited.{flat_map-full}
+use Rattle.nf_boundary.specs.declared.mark.Mark.{Mark}
+use Rattle.nf_boundary.specs.Mark.{mark_of, is_rising}
+use Rattle.nf_boundary.specs.Piece.{Becomes, Leaves}
+use Rattle.nf_boundary.specs.Laws.Held.{held-push}
+use Rattle.nf_boundary.proofs.JoinLemmas.{class_of}
+
+-- a starter and non-starters: they are put in order, and composed
+arranged-marked : (p : Properties) (s : ℕ) (run : List ℕ) → is_starter p s ≡ true → has_starter p run ≡ false → (b : Bool) → arranged b p (s ∷ run) ≡ closed_off p b (Some s) (by_class p run)
+arranged-marked p s run starts plain b = next b
+  where
+    ordered : order p (s ∷ run) ≡ s ∷ by_class p run
+    ordered = order-behind p (s ∷ []) run (trail-push p [] s ∙ cond-true _ _ _ starts) plain ∙ ap (λ w. w ++ by_class p run) (order-ordered p (s ∷ []) refl)
+
+    next : (b : Bool) → arranged b p (s ∷ run) ≡ closed_off p b (Some s) (by_class p run)
+    next false = ordered
+    next true =
+        ap (compose p) ordered
+        ∙ compose-behind p [] (s ∷ []) (by_class p run) (record { starter = s; marks = []; text = refl; starts = starts; no_starter = refl }) (has_starter-by_class p run)
+
+arranged-none : (p : Properties) (b : Bool) → arranged b p [] ≡ []
+unfolding by_class
+arranged-none p false = refl
+arranged-none p true = refl
+
+module _ (f : Form) where
+  -- a starter alone
+  pub becomes_one : (starter : ℕ) (marks : List Mark) (w before : List ℕ) → w ≡ starter ∷ [] → is_starter ucd starter ≡ true → marks ≡ [] → Becomes f w starter marks before before
+  unfolding by_class
+  becomes_one starter marks w before text starts alone =
+      let none = arranged-none ucd (composes f) in
+      record {
+        done = [];
+        run = [];
+        text = text;
+        starts = starts;
+        no_starter = refl;
+        held = alone;
+        formed = sym (ap (λ k. before ++ k) none ∙ append-nil before);
+        parted = λ v. sym (ap (λ k. k ++ finished f ucd (starter ∷ v)) none);
+      }
+
+  module _ (w : List ℕ) (starter : ℕ) (marks : List Mark) (before now : List ℕ) (here : Becomes f w starter marks before now) where
+    -- a non-starter more, behind those of no greater class
+    pub becomes_marked : (c class : ℕ) → class ≡ canonical_combining_class c → class ≢ 0 → (marks' : List Mark)
+        → (is_rising marks ≡ true → marks' ≡ insert marks (prefix_len (λ m. leb m.class class) marks) (record { character = c; class = class })) → Becomes f (w ++ c ∷ []) starter marks' before now
+    becomes_marked c class is some marks' inserted =
+        let same : class ≡ ucd.class c = is ∙ sym (class_of c) in
+        let mark : is_starter ucd c ≡ false = ne_eqb (ucd.class c) 0 (λ none. some (same ∙ none)) in
+        record {
+          done = here.done;
+          run = here.run ++ c ∷ [];
+          text = ap (λ k. k ++ c ∷ []) here.text ∙ append_assoc here.done (starter ∷ here.run) (c ∷ []);
+          starts = here.starts;
+          no_starter = marks_push ucd here.run c here.no_starter mark;
+          held = held-push ucd here.run c marks marks' here.no_starter mark here.held
+              (λ rising. inserted rising ∙ ap (λ k. insert marks (prefix_len (λ m. leb m.class k) marks) (record { character = c; class = k })) same);
+          formed = here.formed;
+          parted = here.parted;
+        }
+
+    -- what is appended when all that stands there is closed off
+    pub becomes_closed : (new : List ℕ) → ((m : List ℕ) → marks ≡ map (mark_of ucd) m → has_starter ucd m ≡ false → new ≡ now ++ closed_off ucd (composes f) (Some starter) m)
+        → new ≡ before ++ finished f ucd w
+    becomes_closed new closed =
+        closed (by_class ucd here.run) here.held (has_starter-by_class ucd here.run)
+        ∙ ap (λ k. k ++ closed_off ucd (composes f) (Some starter) (by_class ucd here.run)) here.formed
+        ∙ append_assoc before (finished f ucd here.done) _
+        ∙ ap (λ k. before ++ k) (
+        ap (λ k. finished f ucd here.done ++ k) (sym (arranged-marked ucd starter here.run here.starts here.no_starter (composes f)))
+        ∙ sym (here.parted here.run)
+        ∙ ap (λ k. finished f ucd k) (sym here.text))
+
+    -- the starter alone, where no marks are held
+    pub becomes_closed_one : true ≡ (length marks == 0) → (new : List ℕ) → new ≡ now ++ starter ∷ [] → new ≡ before ++ finished f ucd w
+    becomes_closed_one alone new grown = becomes_closed new (λ m held _. grown ∙ ap (λ k. now ++ k) (one m (alone ∙ ap (λ v. length v == 0) held) (composes f)))
+      where
+        one : (m : List ℕ) → true ≡ (length (map (mark_of ucd) m) == 0) → (b : Bool) → starter ∷ [] ≡ closed_off ucd b (Some starter) m
+        one [] none false = refl
+        one [] none true = refl
+        one (c ∷ m) none b = absurd (grind (arith, nat_tests, none))
+
+  -- a starter more, that composes with nothing before it, where that is closed off
+  pub becomes_parted : (w before now : List ℕ) (c : ℕ) → now ≡ before ++ finished f ucd w → is_starter ucd c ≡ true → NeverSecond ucd f c → Becomes f (w ++ c ∷ []) c [] before now
+  unfolding by_class
+  becomes_parted w before now c formed starts never = record {
+    done = w;
+    run = [];
+    text = refl;
+    starts = starts;
+    no_starter = refl;
+    held = refl;
+    formed = formed;
+    parted = λ v. arranged-boundary ucd (composes f) w c v starts never;
+  }
+
+-- ---- how many non-starters may follow
+
+-- a starter that is its own row
+pub leaves_own : (c : ℕ) → IsOwnRow ucd c → is_starter ucd c ≡ true → Leaves (c ∷ []) 30
+leaves_own c own starts =
+    let row : decomposed Nfkd ucd (c ∷ []) ≡ c ∷ [] = append-nil (ucd.compat c) ∙ own.compat in
+    let none : trail ucd (c ∷ []) ≡ 0 = trail-push ucd [] c ∙ cond-true _ _ _ starts in
+    record {
+      trail = omega (arith, ap (trail ucd) row, none);
+      longest = omega (arith, ap (longest ucd) row, longest-le-length ucd (c ∷ []));
+    }
+
+-- any character
+pub leaves_any : (c : ℕ) → IsTrue (is_sound ucd c) → Leaves (c ∷ []) 12
+leaves_any c sound =
+    let row : decomposed Nfkd ucd (c ∷ []) ≡ ucd.compat c = append-nil (ucd.compat c) in
+    let few = (IsSound-from_test ucd c sound).compat_few in
+    record {
+      trail = omega (arith, ap (trail ucd) row, trail-le-length ucd (ucd.compat c), few);
+      longest = omega (arith, ap (longest ucd) row, longest-le-length ucd (ucd.compat c), few);
+    }
+
+-- and a character more whose row is of non-starters
+pub leaves_more : (cs : List ℕ) (c room room' : ℕ) → has_starter ucd (ucd.compat c) ≡ false → room' + length (ucd.compat c) ≡ room → Leaves cs room → Leaves (cs ++ c ∷ []) room'
+leaves_more cs c room room' marks less here =
+    let w = decomposed Nfkd ucd cs in
+    let row = ucd.compat c in
+    let both = decomposed-push ucd Nfkd cs c in
+    let counted : trail ucd (w ++ row) ≡ length row + trail ucd w = trail-append ucd w row ∙ ap (λ b. if b then trail ucd row else length row + trail ucd w) marks in
+    record {
+      trail = omega (arith, ap (trail ucd) both, counted, here.trail);
+      longest = omega (arith, ap (longest ucd) both, longest-append ucd w row, lead-le-length ucd row, longest-le-length ucd row, here.trail, here.longest);
+    }
+
+-- a row of non-starters is the row of both kinds
+pub row-of_marks : ((c : ℕ) → flat_map ucd.compat (ucd.canonical c) ≡ ucd.compat c) → ((c : ℕ) → AreOwnMarks ucd (ucd.canonical c)) → (f : Form) (c : ℕ) → has_starter ucd (row_of f ucd c) ≡ false → ucd.compat c ≡ row_of f ucd c
+row-of_marks joined marks = next
+  where
+    own : (w : List ℕ) → AreOwnMarks ucd w → has_starter ucd w ≡ false → IsFull ucd.compat w
+    own w all none k d within = one (is_starter ucd (get_or w k d)) refl
+      where
+        one : (b : Bool) → is_starter ucd (get_or w k d) ≡ b → ucd.compat (get_or w k d) ≡ get_or w k d ∷ []
+        one true starts = let some = list_any_at (is_starter ucd) w k d within starts in cc
+        one false mark = all k d within (ap not mark)
+
+    canonical : (c : ℕ) → has_starter ucd (ucd.canonical c) ≡ false → ucd.compat c ≡ ucd.canonical c
+    canonical c none = sym (joined c) ∙ flat_map-full ucd ucd.compat (ucd.canonical c) (own (ucd.canonical c) (marks c) none)
+
+    next : (f : Form) (c : ℕ) → has_starter ucd (row_of f ucd c) ≡ false → ucd.compat c ≡ row_of f ucd c
+    next Nfc c none = canonical c none
+    next Nfd c none = canonical c none
+    next Nfkc c none = refl
+    next Nfkd c none = refl

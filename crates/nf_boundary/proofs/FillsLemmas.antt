@@ -1,0 +1,138 @@
+-- A piece of text from one boundary to the next, character by character.
+use Rattle.std.proofs.Common.{◌≡◌, ◌≢◌, ℕ, suc, ◌+◌, ◌<◌, true, false, List, [], ◌∷◌, ◌++◌, length, take, get_or, refl, sym, ap, subst, ◌∙◌, append_assoc, append-nil, arith, eq-eqb}
+use Rattle.std.specs.Prelude.{chars, encode_utf8, flat_map}
+use Rattle.std.proofs.lemmas.Bool.{ne_eqb, or_from}
+use Rattle.std.proofs.lemmas.List.{take_more}
+use Rattle.std.proofs.lemmas.Str.{chars-append, IsUtf8-append}
+use Rattle.ucd_normal.specs.declared.forms.QuickCheck.TheVariants.{No}
+use Rattle.ucd_normal.specs.CanonicalCombiningClass.{canonical_combining_class}
+use Rattle.ucd_normal.specs.QuickCheck.{quick_check}
+use Rattle.nf_forms.specs.Properties.{is_starter}
+use Rattle.nf_forms.specs.Runs.{has_starter}
+use Rattle.nf_forms.specs.Calm.{IsMark}
+use Rattle.nf_forms.specs.Audit.{AreOwnMarks}
+use Rattle.nf_forms.specs.Cluster.{IsOwnRow}
+use Rattle.nf_forms.specs.declared.form.Form.{Form}
+use Rattle.nf_forms.specs.Forms.{row_of, decomposed, finished}
+use Rattle.nf_forms.specs.Closed.{BeginsAtBoundary}
+use Rattle.nf_forms.specs.Ucd.{ucd}
+use Rattle.nf_forms.specs.Laws.Front.{marks_push}
+use Rattle.nf_forms.specs.Laws.Cluster.{row-own}
+use Rattle.nf_forms.specs.Laws.Sound.{IsSoundText}
+use Rattle.nf_forms.specs.Laws.StreamSafe.{decomposed-push}
+use Rattle.nf_forms.specs.Laws.Audited.{stream_safe-short}
+use Rattle.nf_facts.specs.KitForm.{kit_form}
+use Rattle.nf_boundary.specs.declared.mark.Mark.{Mark}
+use Rattle.nf_boundary.specs.declared.seen.Seen.{Seen}
+use Rattle.nf_boundary.specs.declared.piece.Piece.{Piece}
+use Rattle.nf_boundary.specs.Seen.{Sees, IsAtBoundary}
+use Rattle.nf_boundary.specs.Pieces.{Closes}
+use Rattle.nf_boundary.specs.Piece.{Becomes, Leaves, Fills}
+use Rattle.nf_boundary.proofs.JoinLemmas.{class_of}
+use Rattle.nf_boundary.proofs.LetterLemmas.{letter_utf8, chars-letter, begins_more, begins_first, boundary-first}
+use Rattle.nf_boundary.proofs.BecomesLemmas.{becomes_one, leaves_own, leaves_more, row-of_marks}
+
+-- a row read member by member
+pub take_next : (row : List ℕ) (i c : ℕ) → i < length row → c ≡ get_or row i c → take (i + 1) row ≡ take i row ++ c ∷ []
+take_next row i c within is = take_more row i c within ∙ ap (λ d. take i row ++ d ∷ []) (sym is)
+
+-- behind its first member
+pub take_behind : (row : List ℕ) (s : ℕ) (others : List ℕ) → row ≡ s ∷ others → (i c : ℕ) → i < length others → c ≡ get_or others i c → take (i + 1 + 1) row ≡ take (i + 1) row ++ c ∷ []
+take_behind row s others is i c within read =
+    take_next row (i + 1) c (omega (arith, ap length is)) (read ∙ behind (i + 1) (omega arith) ∙ ap (λ r. get_or r (i + 1) c) (sym is))
+  where
+    behind : (k : ℕ) → k ≡ suc i → get_or others i c ≡ get_or (s ∷ others) k c
+    behind k e = ap (λ k. get_or (s ∷ others) k c) (sym e)
+
+module _ (f : Form) (first : Seen) (at : IsAtBoundary f first) where
+  starts_first : is_starter ucd first.character ≡ true
+  starts_first = eq-eqb (ucd.class first.character) 0 (class_of first.character ∙ sym at.sees.class ∙ at.class)
+
+  module _ (own : IsOwnRow ucd first.character) where
+    -- a first that is its own row
+    pub becomes_own : (s : ℕ) (marks : List Mark) → s ≡ first.character → marks ≡ [] → (before : List ℕ) → Becomes f (row_of f ucd first.character) s marks before before
+    becomes_own s marks is alone before =
+        becomes_one f s marks (row_of f ucd first.character) before (row-own ucd f first.character own ∙ ap (λ k. k ∷ []) (sym is)) (ap (is_starter ucd) is ∙ starts_first) alone
+
+    pub leaves_first : (room : ℕ) → room ≡ 30 → Leaves (first.character ∷ []) room
+    leaves_first room is = subst (Leaves (first.character ∷ [])) (sym is) (leaves_own first.character own starts_first)
+
+  -- the first member of its row
+  pub becomes_row : (row : List ℕ) (starter : ℕ) (others : List ℕ) → row ≡ row_of f ucd first.character → row ≡ starter ∷ others → (s : ℕ) (marks : List Mark) → s ≡ starter → marks ≡ [] → (before : List ℕ)
+      → Becomes f (take 1 (row_of f ucd first.character)) s marks before before
+  becomes_row row starter others is members s marks same alone before =
+      let anew = (boundary-first f first at).anew in
+      let both : anew.first ∷ anew.rest ≡ starter ∷ others = sym anew.row ∙ sym is ∙ members in
+      let one : anew.first ≡ starter = cc in
+      becomes_one f s marks (take 1 (row_of f ucd first.character)) before
+      (ap (take 1) (sym is ∙ members) ∙ ap (λ k. k ∷ []) (sym same)) (ap (is_starter ucd) (same ∙ sym one) ∙ anew.starter) alone
+
+  -- its first character
+  pub fills_first : (piece : Piece) (before now : List ℕ) → Becomes f (row_of f ucd first.character) piece.starter piece.run.items before now → Leaves (first.character ∷ []) piece.room
+      → (next : Seen) → next.text.now ≡ first.behind.now → Sees f next → Fills f first next piece before now
+  fills_first piece before now becomes leaves next is sees =
+      let one = sym (chars-letter f first at.sees) in
+      record {
+        front = encode_utf8 first.character;
+        split = at.sees.text ∙ ap (λ k. encode_utf8 first.character ++ k) (sym is);
+        utf8 = letter_utf8 f first at.sees;
+        begins = subst (BeginsAtBoundary ucd f) one (begins_first f first at []);
+        becomes = subst (λ k. Becomes f (decomposed f ucd k) piece.starter piece.run.items before now) one
+            (subst (λ w. Becomes f w piece.starter piece.run.items before now) (sym (append-nil (row_of f ucd first.character))) becomes);
+        leaves = subst (λ k. Leaves k piece.room) one leaves;
+        sees = sees;
+      }
+
+  module _ (seen : Seen) (piece : Piece) (before now : List ℕ) (here : Fills f first seen piece before now) where
+    text : chars (here.front ++ encode_utf8 seen.character) ≡ chars here.front ++ seen.character ∷ []
+    text = chars-append here.front (encode_utf8 seen.character) here.utf8 ∙ ap (λ k. chars here.front ++ k) (chars-letter f seen here.sees)
+
+    -- one more
+    pub fills_more : (piece' : Piece) → ((w before now : List ℕ) → Becomes f w piece.starter piece.run.items before now → Becomes f (w ++ row_of f ucd seen.character) piece'.starter piece'.run.items before now)
+        → ((cs : List ℕ) → Leaves cs piece.room → Leaves (cs ++ seen.character ∷ []) piece'.room)
+        → (next : Seen) → next.text.now ≡ seen.behind.now → Sees f next → Fills f first next piece' before now
+    fills_more piece' becomes leaves next is sees = record {
+      front = here.front ++ encode_utf8 seen.character;
+      split = here.split ∙ ap (λ k. here.front ++ k) (here.sees.text ∙ ap (λ k. encode_utf8 seen.character ++ k) (sym is)) ∙ sym (append_assoc here.front (encode_utf8 seen.character) next.text.now);
+      utf8 = IsUtf8-append here.front (encode_utf8 seen.character) here.utf8 (letter_utf8 f seen here.sees);
+      begins = subst (BeginsAtBoundary ucd f) (sym text) (begins_more f (chars here.front) (seen.character ∷ []) here.begins);
+      becomes = subst (λ w. Becomes f w piece'.starter piece'.run.items before now) (sym (ap (decomposed f ucd) text ∙ decomposed-push ucd f (chars here.front) seen.character))
+          (becomes (decomposed f ucd (chars here.front)) before now here.becomes);
+      leaves = subst (λ k. Leaves k piece'.room) (sym text) (leaves (chars here.front) here.leaves);
+      sees = sees;
+    }
+
+    -- and then a boundary
+    pub fills_closed : ((x : List ℕ) → IsSoundText ucd x) → (behind : Seen) → behind ≡ seen → IsAtBoundary f behind
+        → (new : List ℕ) → ((w before : List ℕ) → Becomes f w piece.starter piece.run.items before now → new ≡ before ++ finished f ucd w) → Closes f first.text.now behind before new
+    fills_closed sound behind same at_behind new closed = record {
+      piece = here.front;
+      more = finished f ucd (decomposed f ucd (chars here.front));
+      split = here.split ∙ ap (λ k. here.front ++ k.text.now) (sym same);
+      utf8 = here.utf8;
+      form = record { begins = here.begins; sound = sound (chars here.front); safe = stream_safe-short ucd (chars here.front) here.leaves.longest; form = refl };
+      formed = closed (decomposed f ucd (chars here.front)) before here.becomes;
+      behind = at_behind;
+    }
+
+-- ---- a non-starter more, or a character whose row is of non-starters
+
+module _ (f : Form) (seen : Seen) (sees : Sees f seen) where
+  pub leaves_mark : ((c : ℕ) → 0 < canonical_combining_class c → quick_check (kit_form f) c ≢ No → IsMark ucd c (canonical_combining_class c)) → seen.class ≢ 0 → seen.answer ≢ No
+      → (cs : List ℕ) (room room' : ℕ) → room' + 1 ≡ room → Leaves cs room → Leaves (cs ++ seen.character ∷ []) room'
+  leaves_mark marks some may cs room room' less here =
+      let c = seen.character in
+      let own = marks c (omega (arith, sees.class, some)) (λ no. may (sees.answer ∙ no)) in
+      let mark : is_starter ucd c ≡ false = ne_eqb (ucd.class c) 0 (λ none. some (sees.class ∙ sym (class_of c) ∙ none)) in
+      leaves_more cs c room room' (ap (has_starter ucd) own.compat ∙ or_from _ _ mark refl) (ap (λ row. room' + length row) own.compat ∙ less) here
+
+pub leaves_row : (f : Form) (c : ℕ) → ((c : ℕ) → flat_map ucd.compat (ucd.canonical c) ≡ ucd.compat c) → ((c : ℕ) → AreOwnMarks ucd (ucd.canonical c)) → (row : List ℕ) → row ≡ row_of f ucd c → has_starter ucd row ≡ false
+    → (cs : List ℕ) (room room' : ℕ) → room' + length row ≡ room → Leaves cs room → Leaves (cs ++ c ∷ []) room'
+leaves_row f c joined marks row is none cs room room' less here =
+    let same : ucd.compat c ≡ row = row-of_marks joined marks f c (ap (has_starter ucd) (sym is) ∙ none) ∙ sym is in
+    leaves_more cs c room room' (ap (has_starter ucd) same ∙ none) (ap (λ row. room' + length row) same ∙ less) here
+
+-- the members of a row that were held, and one more
+pub marks_next : (row : List ℕ) (i c : ℕ) → i < length row → c ≡ get_or row i c → canonical_combining_class c ≢ 0 → has_starter ucd (take i row) ≡ false → has_starter ucd (take (i + 1) row) ≡ false
+marks_next row i c within is some none =
+    ap (has_starter ucd) (take_next row i c within is) ∙ marks_push ucd (take i row) c none (ne_eqb (ucd.class c) 0 (λ zero. some (sym (class_of c) ∙ zero)))

@@ -1,0 +1,42 @@
+-- What the characters from a boundary on have become, by their decompositions, in whatever order non-starters stand.
+use Rattle.std.specs.Prelude.{◌≡◌, ◌≤◌, ◌+◌, ℕ, true, false, List, ◌∷◌, ◌++◌, map, chars, IsUtf8}
+use Rattle.nf_forms.specs.Properties.{is_starter}
+use Rattle.nf_forms.specs.Runs.{has_starter, trail, longest}
+use Rattle.nf_forms.specs.Order.{by_class}
+use Rattle.nf_forms.specs.declared.form.Form.{Form}
+use Rattle.nf_forms.specs.declared.form.Form.TheVariants.{Nfkd}
+use Rattle.nf_forms.specs.Forms.{decomposed, finished}
+use Rattle.nf_forms.specs.StreamSafe.{max_run}
+use Rattle.nf_forms.specs.Closed.{BeginsAtBoundary}
+use Rattle.nf_forms.specs.Ucd.{ucd}
+use Rattle.nf_boundary.specs.declared.seen.Seen.{Seen}
+use Rattle.nf_boundary.specs.declared.piece.Piece.{Piece}
+use Rattle.nf_boundary.specs.declared.mark.Mark.{Mark}
+use Rattle.nf_boundary.specs.Mark.{mark_of}
+use Rattle.nf_boundary.specs.Seen.{Sees}
+
+-- decomposed text has become what was appended, and behind it a starter and non-starters, held in order of class
+pub record Becomes (f : Form) (w : List ℕ) (starter : ℕ) (marks : List Mark) (before now : List ℕ) : Type 0 where
+  pub done : List ℕ
+  pub run : List ℕ
+  pub text : w ≡ done ++ starter ∷ run
+  pub starts : is_starter ucd starter ≡ true
+  pub no_starter : has_starter ucd run ≡ false
+  pub held : marks ≡ map (mark_of ucd) (by_class ucd run)
+  pub formed : now ≡ before ++ finished f ucd done
+  pub parted : (v : List ℕ) → finished f ucd (done ++ starter ∷ v) ≡ finished f ucd done ++ finished f ucd (starter ∷ v)
+
+-- in NFKD so many non-starters more may come behind these characters, and no run of them is too long
+pub record Leaves (cs : List ℕ) (room : ℕ) : Type 0 where
+  pub trail : trail ucd (decomposed Nfkd ucd cs) + room ≤ max_run
+  pub longest : longest ucd (decomposed Nfkd ucd cs) ≤ max_run
+
+-- the characters from `first` on that stand before `next` have become so much
+pub record Fills (f : Form) (first next : Seen) (piece : Piece) (before now : List ℕ) : Type 0 where
+  pub front : List ℕ
+  pub split : first.text.now ≡ front ++ next.text.now
+  pub utf8 : IsUtf8 front
+  pub begins : BeginsAtBoundary ucd f (chars front)
+  pub becomes : Becomes f (decomposed f ucd (chars front)) piece.starter piece.run.items before now
+  pub leaves : Leaves (chars front) piece.room
+  pub sees : Sees f next

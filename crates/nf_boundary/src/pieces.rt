@@ -1,0 +1,98 @@
+ghost use Rattle.std.specs.Prelude.{◌≡◌, ℕ, List, take, length, IfSome, IsNone};
+ghost use Rattle.nf_boundary.specs.Rows.{IsRow};
+ghost use Rattle.nf_boundary.specs.Pieces.{Closes, Reaches};
+
+use crate::closed::Formed;
+use crate::piece::Piece;
+use crate::rows::Row;
+use crate::seen::{Seen, begins_with_mark};
+use nf_facts::laws;
+use nf_forms::Form;
+use ucd_normal::QuickCheck;
+
+/// Where more characters than this are there, the next piece is left for another front: it may have no room, and would then
+/// have been read in vain.
+const MOST_BEFORE: usize = 224;
+
+/// Appends what the pieces become that the text begins with, as far as boundaries come behind them; answers the last boundary.
+/// It stands out of line, to keep its callers' loops short.
+pub(crate) fn take_pieces<'t>(form: Form, first: Row<'t>, formed: &mut Formed) -> Seen<'t>
+    requires { IsRow form first }
+    ensures { (whole same : List ℕ) → Reaches form whole same formed.old.items first.entry.seen → Reaches form whole same formed.new.items result }
+{
+    match form {
+        Form::Nfc => pieces_in(Form::Nfc, first, formed),
+        Form::Nfd => pieces_in(Form::Nfd, first, formed),
+        Form::Nfkc => pieces_in(Form::Nfkc, first, formed),
+        Form::Nfkd => pieces_in(Form::Nfkd, first, formed),
+    }
+}
+
+/// Each form has a copy of the loops of its own.
+#[inline(always)]
+fn pieces_in<'t>(form: Form, first: Row<'t>, formed: &mut Formed) -> Seen<'t>
+    requires { IsRow form first }
+    ensures { (whole same : List ℕ) → Reaches form whole same formed.old.items first.entry.seen → Reaches form whole same formed.new.items result }
+{
+    let mut piece = Piece::new();
+    let mut next = first;
+    while let Some(behind) = take_piece(form, next, &mut piece, formed) {
+        next = behind;
+    }
+    next.seen
+}
+
+/// Appends what a piece becomes, where a boundary comes behind it, and answers that.
+#[inline(always)]
+fn take_piece<'t>(
+    form: Form,
+    first: Row<'t>,
+    piece: &mut Piece,
+    formed: &mut Formed,
+) -> Option<Row<'t>>
+    requires { IsRow form first }
+    ensures closes { IfSome result (λ next. Closes form first.entry.seen.text.now next.seen formed.old.items formed.new.items) }
+    ensures row { IfSome result (λ next. IsRow form next) }
+    ensures stays { IsNone result → formed.new ≡ formed.old }
+{
+    let length = formed.len();
+    if length > MOST_BEFORE {
+        return None;
+    }
+    let next = append_piece(form, first, piece, formed);
+    if next.is_none() {
+        formed.truncate(length);
+    }
+    next
+}
+
+/// The same, but some of it may be appended where no boundary comes. Calm text is left, to be taken as it stands.
+#[inline(always)]
+fn append_piece<'t>(
+    form: Form,
+    first: Row<'t>,
+    piece: &mut Piece,
+    formed: &mut Formed,
+) -> Option<Row<'t>>
+    requires { IsRow form first }
+    ensures closes { IfSome result (λ next. Closes form first.entry.seen.text.now next.seen formed.old.items formed.new.items) }
+    ensures row { IfSome result (λ next. IsRow form next) }
+    ensures keeps { IsNone result → take (length formed.old.items) formed.new.items ≡ formed.old.items }
+{
+    laws::every_character_is_sound();
+    let mut next = Seen::first(form, first.seen.behind)?;
+    if first.seen.answer == QuickCheck::Yes
+        && next.answer == QuickCheck::Yes
+        && next.is_boundary(form)
+    {
+        return None;
+    }
+    piece.begin(form, first, formed)?;
+    while next.class != 0 || begins_with_mark(next.character) {
+        piece.join(form, next)?;
+        next = Seen::first(form, next.behind)?;
+    }
+    let behind = Row::at(form, next)?;
+    piece.close(form, formed)?;
+    Some(behind)
+}
