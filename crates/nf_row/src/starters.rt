@@ -15,7 +15,7 @@ const WINDOW: usize = 256;
 /// So many are shown behind those that are asked whether they are assigned: the last few tell nothing.
 const BEHIND: usize = 20;
 
-/// How many bytes at the front of the text, of some hundred at most, are of characters of Unicode's data of which their bytes
+/// How many bytes at the front of the text, of 256 at most, are of characters of Unicode's data of which their bytes
 /// tell that they are assigned, and starters that are their own compatibility decompositions.
 #[inline]
 pub(crate) fn starters_front(text: &str) -> usize
