@@ -49,7 +49,7 @@ fn front_in<'t>(form: Form, text: &'t str, formed: &mut Formed) -> Option<Closed
         next = behind;
     }
     // Behind what is taken another piece may begin that clusters do not take.
-    if next.text.len() < text.len() && !may_begin_with_mark(next.behind) {
+    if next.text.len() < text.len() && goes_on_calmly(form, next) {
         return Some(Closed {
             same,
             rest: next.text,
@@ -60,6 +60,18 @@ fn front_in<'t>(form: Form, text: &'t str, formed: &mut Formed) -> Option<Closed
         members: &[],
     };
     take_front(form, text, same, plain, formed)
+}
+
+/// Whether calm text comes next, as far as two characters tell.
+#[inline(always)]
+fn goes_on_calmly(form: Form, next: Seen<'_>) -> bool {
+    if !may_begin_with_mark(next.behind) {
+        return true;
+    }
+    match Seen::first(form, next.behind) {
+        Some(behind) => next.is_calm_before(form, behind),
+        None => true,
+    }
 }
 
 /// The same, of a text that begins with a character that the form changes, where its decomposition tells that a text may be

@@ -8,7 +8,6 @@ use crate::rows::Row;
 use crate::seen::{Seen, begins_with_mark};
 use nf_facts::laws;
 use nf_forms::Form;
-use ucd_normal::QuickCheck;
 
 /// Where more characters than this are there, the next piece is left for another front: it may have no room, and would then
 /// have been read in vain.
@@ -81,10 +80,7 @@ fn append_piece<'t>(
 {
     laws::every_character_is_sound();
     let mut next = Seen::first(form, first.seen.behind)?;
-    if first.seen.answer == QuickCheck::Yes
-        && next.answer == QuickCheck::Yes
-        && next.is_boundary(form)
-    {
+    if first.seen.is_calm_before(form, next) {
         return None;
     }
     piece.begin(form, first, formed)?;

@@ -101,6 +101,14 @@ impl<'t> Seen<'t> {
         }
     }
 
+    /// Whether it is left as it is, and so is the one behind it, before which a text may be cut.
+    #[inline(always)]
+    pub fn is_calm_before(self, form: Form, next: Seen<'_>) -> bool
+        requires { Sees form next }
+    {
+        self.answer == QuickCheck::Yes && next.answer == QuickCheck::Yes && next.is_boundary(form)
+    }
+
     /// Whether one look-up tells that a text may be cut before it: a starter whose compatibility decomposition begins with
     /// a starter, and which in a form that composes passes the quick check.
     #[inline(always)]

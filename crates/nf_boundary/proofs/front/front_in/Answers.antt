@@ -23,8 +23,8 @@ loop-behind-preserved c =
     reaches_more c.args.form c.args.text.now c.split_at.result.0.now c.loop-behind.formed.items c.loop-behind.next c.loop-behind.invariant c.in-Some.behind c.take_cluster.new.formed.items
     c.in-Some.ensures.closes
 
-pub returns-then-not-may_begin_with_mark : goal.returns-then-not-may_begin_with_mark
-returns-then-not-may_begin_with_mark c =
+pub returns-then-goes_on_calmly : goal.returns-then-goes_on_calmly
+returns-then-goes_on_calmly c =
     let same : c.take_cluster.new.formed ≡ c.loop-behind.formed = search rules in
     let some : length c.loop-behind.next.text.now ≢ length c.args.text.now = search rules in
     subst (λ formed. IsClosedFront ucd c.args.form c.args.text.now c.split_at.result.0.now formed.items c.loop-behind.next.text.now) (sym same)
