@@ -4,7 +4,6 @@ ghost use Rattle.nf_forms.specs.Properties.{Properties};
 ghost use Rattle.nf_utf8.specs.Taking.{first_text, first_bytes};
 ghost use Rattle.nf_safe.specs.declared.place.Place.{Place};
 ghost use Rattle.nf_filter.specs.declared.taker.Stop.{Stop};
-ghost use Rattle.nf_filter.specs.Kinds.{Holds};
 ghost use Rattle.nf_filter.specs.Taker.{MayStop, TakesText};
 
 use crate::fault::Fault;
@@ -60,7 +59,6 @@ pub trait Taker: Drop {
 
     /// What is answered where it found a place.
     fn found(place: Place) -> Self::Answer
-        requires { Holds finds }
         ensures { result ≡ answer_of place };
 
     /// What is answered of all that it has taken.
