@@ -1,7 +1,7 @@
-"""Draws what run.sh measured as one bar chart: chart.py DATA [--program TITLE] [--peer TITLE] > chart.svg.
+"""Draws what run.sh measured as one bar chart: chart.py DATA [--program TITLE] [--peer TITLE] [--date WORDS] > chart.svg.
 
-A bar is the speed of a program by that of the peer (ICU where none is named), on a scale of powers; a bar to the right of 1
-is faster than the peer.
+A bar is the speed of a program by that of the peer, or of the fastest of all peers on that text where none is named, on a scale
+of powers; a bar to the right of 1 is faster.
 """
 
 import argparse
@@ -12,10 +12,11 @@ from dataclasses import dataclass
 from html import escape
 from pathlib import Path
 
-FORMS = {"nfc": ("NFC", "#2166ac"), "nfd": ("NFD", "#e08214")}
+FORMS = {"nfc": ("NFC", "#2166ac"), "nfd": ("NFD", "#e08214"), "nfkc": ("NFKC", "#92c5de"), "nfkd": ("NFKD", "#fdb863")}
+BEST = "the fastest peer"
 NAMES, PLOT, VALUES = 310, 520, 70
-TOP, BOTTOM = 66, 30
-BAR, GAP = 11, 9
+TOP, BOTTOM = 76, 30
+BAR, GAP = 9, 8
 MOST_TICKS = 9
 
 
@@ -35,7 +36,8 @@ def arguments() -> argparse.Namespace:
     parser = argparse.ArgumentParser(prog="chart.py")
     parser.add_argument("data", type=Path, help="the file that run.sh wrote by --data")
     parser.add_argument("--program", help="the program's title; the first where none is named")
-    parser.add_argument("--peer", default="ICU", help="the peer's title")
+    parser.add_argument("--peer", default=BEST, help="the peer's title; the fastest of each text where none is named")
+    parser.add_argument("--date", default="", help="when it was measured")
     return parser.parse_args()
 
 
@@ -48,15 +50,23 @@ def label(row: dict[str, str]) -> str:
     return row["text"] + (f", {row['state']}" if row["state"] in ("composed", "decomposed") else "")
 
 
-def speeds(rows: list[dict[str, str]], title: str) -> dict[tuple[str, str], tuple[float, bool]]:
-    """By label and form, the speed of a program and whether it is a bound."""
-    mine = [row for row in rows if row["program"] == title and row["MB/s"]]
-    return {(label(row), row["form"]): (float(row["MB/s"]), bool(row["note"])) for row in mine}
+def peers(rows: list[dict[str, str]]) -> list[str]:
+    return list(dict.fromkeys(row["program"] for row in rows if row["role"] == "peer"))
+
+
+def speeds(rows: list[dict[str, str]], titles: list[str]) -> dict[tuple[str, str], tuple[float, bool]]:
+    """By label and form, the greatest speed of these programs and whether it is a bound."""
+    found: dict[tuple[str, str], tuple[float, bool]] = {}
+    for row in rows:
+        if row["program"] in titles and row["MB/s"]:
+            key = (label(row), row["form"])
+            found[key] = max(found.get(key, (0.0, False)), (float(row["MB/s"]), bool(row["note"])))
+    return found
 
 
 def bars(rows: list[dict[str, str]], program: str, peer: str) -> dict[str, dict[str, Bar]]:
     """The bars of each label, by form; none where either was not timed."""
-    own, other = speeds(rows, program), speeds(rows, peer)
+    own, other = speeds(rows, [program]), speeds(rows, peers(rows) if peer == BEST else [peer])
     found: dict[str, dict[str, Bar]] = {}
     for key, (speed, bound) in own.items():
         name, form = key
@@ -101,8 +111,9 @@ def rectangle(x: float, y: float, width: float, height: float, colour: str) -> s
 def bar_parts(bar: Bar, form: str, y: float, on: Scale) -> list[str]:
     one, end = on.x(1), on.x(bar.ratio)
     left, right = min(one, end), max(one, end)
-    beside = text(right + 4, y + BAR - 2, bar.label()) if end >= one else text(left - 4, y + BAR - 2, bar.label(), "end")
-    return [rectangle(left, y, max(right - left, 1), BAR, FORMS[form][1]), beside]
+    beside = (right + 4, "start") if end >= one else (left - 4, "end")
+    words = text(beside[0], y + BAR - 1, bar.label(), beside[1], ' font-size="9"')
+    return [rectangle(left, y, max(right - left, 1), BAR, FORMS[form][1]), words]
 
 
 def axis(on: Scale, bottom: float) -> list[str]:
@@ -115,18 +126,20 @@ def axis(on: Scale, bottom: float) -> list[str]:
     return parts
 
 
-def head(program: str, peer: str) -> list[str]:
+def head(program: str, peer: str, names: list[str], date: str) -> list[str]:
     parts = [text(12, 22, f"{program}: its throughput by that of {peer}", extra=' font-size="15" font-weight="bold"')]
     words = f"MB of input by second of processor time; {peer} is 1, right of it is faster"
-    parts.append(text(12, 42, words, extra=' fill="#666"'))
-    x = NAMES + PLOT - 90
+    parts.append(text(12, 40, words, extra=' fill="#666"'))
+    beside = f"beside {', '.join(names)}" + (f"; {date}" if date else "")
+    parts.append(text(12, 55, beside, extra=' fill="#666"'))
+    x = NAMES + PLOT - 230
     for title, colour in FORMS.values():
-        parts += [rectangle(x, 32, BAR, BAR, colour), text(x + BAR + 5, 42, title)]
+        parts += [rectangle(x, 14, BAR, BAR, colour), text(x + BAR + 5, 22, title)]
         x += 70
     return parts
 
 
-def chart(found: dict[str, dict[str, Bar]], program: str, peer: str) -> str:
+def chart(found: dict[str, dict[str, Bar]], title: list[str]) -> str:
     on = scale(found)
     step = len(FORMS) * BAR + GAP
     bottom = TOP + step * len(found)
@@ -135,12 +148,12 @@ def chart(found: dict[str, dict[str, Bar]], program: str, peer: str) -> str:
         f'<svg xmlns="http://www.w3.org/2000/svg" width="{width}" height="{height}" viewBox="0 0 {width} {height}"'
         ' font-family="sans-serif" font-size="11" fill="#222">',
         rectangle(0, 0, width, height, "white"),
-        *head(program, peer),
+        *title,
         *axis(on, bottom),
     ]
     for i, (name, forms) in enumerate(found.items()):
         y = TOP + i * step
-        parts.append(text(NAMES - 48, y + BAR + 3, name, "end", ' font-size="12"'))
+        parts.append(text(NAMES - 48, y + 2 * BAR + 3, name, "end", ' font-size="12"'))
         for place, form in enumerate(FORMS):
             if form in forms:
                 parts += bar_parts(forms[form], form, y + place * BAR, on)
@@ -155,7 +168,8 @@ def main() -> int:
     if not found:
         print(f"chart.py: {words.data} has no figures of {program} and {words.peer}", file=sys.stderr)
         return 2
-    print(chart(found, program, words.peer))
+    names = peers(rows) if words.peer == BEST else [words.peer]
+    print(chart(found, head(program, words.peer, names, words.date)))
     return 0
 
 

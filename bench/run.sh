@@ -15,7 +15,7 @@ programs=()
 plan=
 while [ $# -gt 0 ]; do
     case $1 in
-        --forms | --texts | --corpora | --data) options+=("$1" "${2:-}"); shift $(($# > 1 ? 2 : 1)) ;;
+        --forms | --texts | --corpora | --data | --peer) options+=("$1" "${2:-}"); shift $(($# > 1 ? 2 : 1)) ;;
         -h | --help) exec python3 -B "$bench/table.py" --help ;;
         --plan) plan=yes; shift ;;
         -*) options+=("$1"); shift ;;

@@ -64,7 +64,7 @@ def arguments() -> argparse.Namespace:
     parser.add_argument("--data", type=Path, metavar="FILE", help="also write the figures as a table with tabs")
     parser.add_argument("--plan", action="store_true", help="say what would be measured, and measure nothing")
     parser.add_argument("--scratch", type=Path, help=argparse.SUPPRESS)
-    parser.add_argument("--peer", action="append", default=[], help=argparse.SUPPRESS)
+    parser.add_argument("--peer", action="append", default=[], metavar="TITLE=COMMAND", help="measure beside this as well")
     parser.add_argument("programs", nargs="*", metavar="[TITLE=]PROGRAM", help="./nfstream of the repository if there is none")
     words = parser.parse_args()
     absent = missing(words.corpora, words.texts)
@@ -79,6 +79,11 @@ def program(word: str) -> Column:
     return Column(title or Path(path).name, "program", "stream-safe", lambda form: [path, "convert", "--form", form])
 
 
+def further(title: str, command: str) -> Column:
+    """A peer that is there: its command is given the form as its last word, and normalizes what it reads."""
+    return Column(title, "peer", "plain", lambda form: [*command.split(), form])
+
+
 def columns(programs: list[str], peers: list[str]) -> list[Column]:
     found = [program(word) for word in programs]
     paths = dict(peer.split("=", 1) for peer in peers)
@@ -88,6 +93,7 @@ def columns(programs: list[str], peers: list[str]) -> list[Column]:
         found.append(Column("Rust", "peer", "plain", lambda form: [rust, form]))
     if "icu" in paths:
         found.append(Column("ICU", "peer", "plain", lambda form: [paths["icu"], form]))
+    found += [further(title, command) for title, command in paths.items() if title not in ("rust", "icu")]
     return found + [Column("cat", "floor", "copy", lambda form: ["cat"])]
 
 
