@@ -25,14 +25,15 @@ BAR = 0.25
 
 @dataclass
 class Hostile:
-    """What is said of it, its front, what stands after that again and again, the real text that is its friend, and whether
-    both are read with `--assigned`."""
+    """What is said of it, its front, what stands after that again and again, the real text that is its friend, whether both are
+    read with `--assigned`, and the calls that are measured: forms for `convert`, or calls that only ask."""
 
     title: str
     front: bytes
     again: bytes
     friend: str
     assigned: bool = False
+    calls: tuple[str, ...] = tuple(FORMS)
 
     def ill_formed(self) -> bool:
         return not is_text(self.again)
@@ -43,10 +44,14 @@ class Hostile:
     def flags(self) -> list[str]:
         return ["--replace"] * self.ill_formed() + ["--assigned"] * self.assigned
 
+    def command(self, program: Path, call: str) -> list[str]:
+        words = ["convert", "--form", call] if call in FORMS else [call]
+        return [str(program), *words, *self.flags()]
+
     def friendly(self, text: str, form: str) -> tuple[str, bytes]:
         """The friend as the form changes it: decomposed where it composes, and else composed. Bytes that are no text stand
         beside text that is written as it was read."""
-        composed = self.ill_formed() or form in ("nfd", "nfkd")
+        composed = self.ill_formed() or form not in ("nfc", "nfkc")
         return ("composed", normalize("NFC", text).encode()) if composed else ("decomposed", normalize("NFD", text).encode())
 
 
@@ -84,6 +89,7 @@ HOSTILE = [
     Hostile("a and 80, in turns, `--replace`", b"", b"a\x80", "french"),
     # What bench/search.py found.
     again("a, U+FDFA, U+0344", "a\ufdfa\u0344", "arabic"),
+    again("U+FDFA and U+0344, in turns", "\ufdfa\u0344", "arabic"),
     again("U+3313, four kana in NFKC", "\u3313", "japanese"),
     again("a and U+0344, in turns", "a\u0344", "french"),
     again("a and U+0340, in turns", "a\u0340", "french"),
@@ -97,6 +103,9 @@ HOSTILE = [
     Hostile("U+0344 and bytes F0 80, `--replace`", b"", "\u0344".encode() + b"\xf0\x80", "french"),
     Hostile("bytes 80 alone, `--replace --assigned`", b"", b"\x80", "french", True),
     Hostile("a and 80, in turns, `--replace --assigned`", b"", b"a\x80", "french", True),
+    Hostile("bytes F0 alone, `--replace --assigned`", b"", b"\xf0", "french", True),
+    Hostile("0 and U+0653, in turns", b"", "0\u0653".encode(), "arabic", calls=("check", "measure")),
+    Hostile("U+FDFA alone", b"", "\ufdfa".encode(), "arabic", calls=("check", "measure")),
 ]
 
 
@@ -135,18 +144,18 @@ def main() -> int:
     line(["---", "---", "---:", "---", "---:", "---:", "---:"])
     slow = []
     for hostile in HOSTILE:
-        for form in FORMS:
+        for form in hostile.calls:
             state, text = hostile.friendly(real[hostile.friend], form)
-            command = [str(program), "convert", "--form", form, *hostile.flags()]
+            command = hostile.command(program, form)
             content = hostile.content()
             mine, other = speed_of_both(command, content, text, FULL)
             read = mine / other
-            written = read * growth(command, content) / growth(command, text)
+            written = read * growth(command, content) / growth(command, text) if form in FORMS else read
             friend = f"{REAL[hostile.friend]}, {state}"
-            line([hostile.title, form.upper(), number(mine), friend, number(other), f"{read:.2f}", f"{written:.2f}"])
+            line([hostile.title, form.upper() if form in FORMS else f"`{form}`", number(mine), friend, number(other), f"{read:.2f}", f"{written:.2f}"])
             if read < BAR:
                 slow.append(f"{hostile.title}, {form.upper()}: {read:.2f} ({written:.2f})")
-    print(f"\n{len(slow)} of {len(HOSTILE) * len(FORMS)} below a quarter{': ' if slow else ''}{'; '.join(slow)}.")
+    print(f"\n{len(slow)} of {sum(len(hostile.calls) for hostile in HOSTILE)} below a quarter{': ' if slow else ''}{'; '.join(slow)}.")
     return 1 if slow else 0
 
 
