@@ -1,14 +1,11 @@
 //! Pairs of bytes, many at once.
 
-ghost use Rattle.std.specs.Prelude.{◌≡◌, ◌<◌, ◌≤◌, ◌+◌, ℕ, length, slice_index, IsTrue, ◌↔◌};
+ghost use Rattle.std.specs.Prelude.{◌≡◌, ◌<◌, ◌≤◌, ◌+◌, ℕ, length, slice_index, bit_xor, IsTrue, ◌↔◌};
 ghost use Rattle.nf_lanes.specs.Lanes.{bits_at, NonePass};
-ghost use Rattle.nf_assigned.specs.Pairs.{look_at, AreTold};
+ghost use Rattle.nf_assigned.specs.Pairs.{look_at, AreLow, AreTold};
 
 use crate::pairs::{FIRST, SECOND};
-use nf_lanes::{LANES, at_least, before, bits, none_of, pair_sets};
-
-/// The bytes that are passed over by one branch.
-const BLOCK: usize = 64;
+use nf_lanes::{LANES, at_least, before, bits, none_of, pair_sets, pair_sets_within};
 
 /// How many bytes there are before a pair that has to be looked up. The last few are left out.
 #[inline(always)]
@@ -27,49 +24,97 @@ pub(crate) fn told_len(bytes: &[u8]) -> usize
     at
 }
 
-/// How many there are in the blocks that have no such pair.
+/// How many there are in blocks that have no such pair.
 #[inline(always)]
 fn told_blocks(bytes: &[u8]) -> usize
     ensures within { result ≤ length bytes.now }
     ensures told { AreTold bytes.now result }
 {
     let mut at = 0;
-    while bytes.len() - at > BLOCK && (is_low(bytes, at) || is_told(bytes, at)) {
-        at += BLOCK;
+    while bytes.len() - at > 64 {
+        let told = told_block(bytes, at);
+        if told == 0 {
+            return at;
+        }
+        at += told;
     }
     at
 }
 
-/// Whether no byte of the block at `at` is CD or above, of which the first ends no character.
+/// How many bytes of the 64 from `at` on are passed over at once: most, or none.
 #[inline(always)]
-fn is_low(bytes: &[u8], at: usize) -> bool
+fn told_block(bytes: &[u8], at: usize) -> usize
     requires room { at + 64 < length bytes.now }
-    ensures { IsTrue result ↔ ((0x80 ≤ slice_index bytes.now at → 0xC0 ≤ slice_index bytes.now at) × ((k : ℕ) → at ≤ k → k < at + 64 → slice_index bytes.now k < 0xCD)) }
+    ensures short { result ≤ 64 }
+    ensures told { AreTold bytes.now at → AreTold bytes.now (at + result) }
+{
+    if is_latin(bytes, at) {
+        return 64;
+    }
+    if is_cyrillic(bytes, at) {
+        // the next block, too, begins with a character
+        return if bytes[at + 63] < 0xC0 { 64 } else { 63 };
+    }
+    if are_told(bytes, at) { 60 } else { 0 }
+}
+
+/// Whether the first of 64 bytes is ASCII, and all lie below CD.
+#[inline(always)]
+fn is_latin(bytes: &[u8], at: usize) -> bool
+    requires room { at + 64 < length bytes.now }
+    ensures { IsTrue result → AreLow bytes.now at }
+{
+    bytes[at] < 0x80 && are_below(0xCD, 0, bytes, at)
+}
+
+/// Whether the first of 64 bytes is one of D0 to D3, which begin letters of Cyrillic, and all others are, or ASCII, or go on.
+#[inline(always)]
+fn is_cyrillic(bytes: &[u8], at: usize) -> bool
+    requires room { at + 64 < length bytes.now }
+    ensures { IsTrue result → AreLow bytes.now at }
 {
     let first = bytes[at];
-    if first >= 0x80 && first < 0xC0 {
+    if first < 0xD0 {
         return false;
     }
+    first < 0xD4 && are_below(0xC4, 0x10, bytes, at)
+}
+
+/// Whether no byte of these is `least` or above once the bits of `flip` are turned.
+#[inline(always)]
+fn are_below(least: u8, flip: u8, bytes: &[u8], at: usize) -> bool
+    requires room { at + 64 < length bytes.now }
+    ensures { IsTrue result → (k : ℕ) → at ≤ k → k < at + 64 → bit_xor (slice_index bytes.now k) flip < least }
+{
     none_of(
-        at_least(0xCD, bytes, at),
-        at_least(0xCD, bytes, at + 16),
-        at_least(0xCD, bytes, at + 32),
-        at_least(0xCD, bytes, at + 48),
+        at_least(least, flip, bytes, at),
+        at_least(least, flip, bytes, at + 16),
+        at_least(least, flip, bytes, at + 32),
+        at_least(least, flip, bytes, at + 48),
     )
 }
 
-/// Whether no pair of the block at `at` has to be looked up.
+/// Whether none of the 60 pairs from `at` on has to be looked up.
+#[inline(always)]
+fn are_told(bytes: &[u8], at: usize) -> bool
+    requires room { at + 64 < length bytes.now }
+    ensures { IsTrue result → NonePass (look_at bytes.now) at 60 }
+{
+    is_told(bytes, at)
+        && is_told(bytes, at + 15)
+        && is_told(bytes, at + 30)
+        && is_told(bytes, at + 45)
+}
+
+/// Whether none of the 15 pairs within 16 bytes has to be looked up. The second family is asked only where the first does not
+/// tell.
 #[inline(always)]
 fn is_told(bytes: &[u8], at: usize) -> bool
-    requires room { at + 64 < length bytes.now }
-    ensures { IsTrue result ↔ NonePass (look_at bytes.now) at 64 }
+    requires room { at + 16 ≤ length bytes.now }
+    ensures { IsTrue result → NonePass (look_at bytes.now) at 15 }
 {
-    none_of(
-        looks(bytes, at),
-        looks(bytes, at + 16),
-        looks(bytes, at + 32),
-        looks(bytes, at + 48),
-    )
+    let first = bits(pair_sets_within(&FIRST, bytes, at));
+    first == 0 || first & bits(pair_sets_within(&SECOND, bytes, at)) == 0
 }
 
 /// A bit for each byte from `at` on, the lowest for the first: whether it and the byte behind it have to be looked up. The

@@ -25,7 +25,7 @@ const TOLD: [char; 16] = [
 #[test]
 fn the_front_ends_before_a_hole(rt: HostRuntime) -> Result<(), Fail> {
     for hole in HOLES {
-        for letter in ['a', '\u{E9}', '\u{4E2D}'] {
+        for letter in ['a', '\u{E9}', '\u{44F}', '\u{4E2D}'] {
             let mut letters = String::new(rt.alloc());
             for _ in 0..70u8 {
                 let text = format!(in rt.alloc(); "{letters}{hole}{LETTERS}")?;

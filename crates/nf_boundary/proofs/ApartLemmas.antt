@@ -1,6 +1,6 @@
 -- A character that is taken apart, where a boundary comes behind it.
 use Rattle.std.proofs.Common.{◌≡◌, ℕ, true, false, List, ◌++◌, refl, ap, ◌∙◌}
-use Rattle.std.specs.Prelude.{IsTrue}
+use Rattle.std.specs.Prelude.{IsTrue, encode_utf8_all}
 use Rattle.nf_forms.specs.declared.form.Form.{Form}
 use Rattle.nf_forms.specs.declared.form.Form.TheVariants.{Nfc, Nfd, Nfkc, Nfkd}
 use Rattle.nf_forms.specs.Forms.{row_of, composes}
@@ -31,8 +31,8 @@ row_ordered canonical compat Nfkd c = compat c
 
 pub closes_apart : (f : Form) (first : Seen) → IsAtBoundary f first → composes f ≡ false → ((c : ℕ) → IsTrue (is_sound ucd c))
     → ((c : ℕ) → IsTrue (is_ordered ucd (ucd.canonical c))) → ((c : ℕ) → IsTrue (is_ordered ucd (ucd.compat c))) → (next : Seen) → next.text.now ≡ first.behind.now → IsAtBoundary f next
-    → (old new : List ℕ) → new ≡ old ++ decompose (kit_form f) first.character → Closes f first.text.now next old new
+    → (old new : List ℕ) → new ≡ old ++ encode_utf8_all (decompose (kit_form f) first.character) → Closes f first.text.now next old new
 closes_apart f first at plain sound canonical compat next is behind old new formed =
     closes_letter f first at next is behind (row_of f ucd first.character)
     (HasForm-row ucd f plain first.character (boundary-first f first at) (sound first.character) (row_ordered canonical compat f first.character))
-    old new (formed ∙ ap (λ k. old ++ k) (row_is f first.character))
+    old new (formed ∙ ap (λ k. old ++ encode_utf8_all k) (row_is f first.character))

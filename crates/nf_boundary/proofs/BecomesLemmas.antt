@@ -4,7 +4,7 @@ use Rattle.std.proofs.lemmas.Bool.{ne_eqb, cond-true}
 use Rattle.std.proofs.lemmas.Bool.Decides.{nat_tests}
 use Rattle.ucd_normal.specs.CanonicalCombiningClass.{canonical_combining_class}
 use Rattle.std.proofs.lemmas.List.Folds.{list_any_at}
-use Rattle.std.specs.Prelude.{IsTrue, insert, not, if◌then◌else◌}
+use Rattle.std.specs.Prelude.{IsTrue, insert, not, if◌then◌else◌, encode_utf8_all}
 use Rattle.std.specs.List.{prefix_len, flat_map}
 use Rattle.nf_forms.specs.Properties.{Properties, is_starter}
 use Rattle.nf_forms.specs.Runs.{has_starter, trail, longest}
@@ -32,6 +32,7 @@ use Rattle.nf_boundary.specs.declared.mark.Mark.{Mark}
 use Rattle.nf_boundary.specs.Mark.{mark_of, is_rising}
 use Rattle.nf_boundary.specs.Piece.{Becomes, Leaves}
 use Rattle.nf_boundary.specs.Laws.Held.{held-push}
+use Rattle.nf_boundary.proofs.EncodingLemmas.{appended}
 use Rattle.nf_boundary.proofs.JoinLemmas.{class_of}
 
 -- a starter and non-starters: they are put in order, and composed
@@ -65,7 +66,7 @@ module _ (f : Form) where
         starts = starts;
         no_starter = refl;
         held = alone;
-        formed = sym (ap (λ k. before ++ k) none ∙ append-nil before);
+        formed = sym (ap (λ k. before ++ encode_utf8_all k) none ∙ append-nil before);
         parted = λ v. sym (ap (λ k. k ++ finished f ucd (starter ∷ v)) none);
       }
 
@@ -89,20 +90,19 @@ module _ (f : Form) where
         }
 
     -- what is appended when all that stands there is closed off
-    pub becomes_closed : (new : List ℕ) → ((m : List ℕ) → marks ≡ map (mark_of ucd) m → has_starter ucd m ≡ false → new ≡ now ++ closed_off ucd (composes f) (Some starter) m)
-        → new ≡ before ++ finished f ucd w
+    pub becomes_closed : (new : List ℕ) → ((m : List ℕ) → marks ≡ map (mark_of ucd) m → has_starter ucd m ≡ false → new ≡ now ++ encode_utf8_all (closed_off ucd (composes f) (Some starter) m))
+        → new ≡ before ++ encode_utf8_all (finished f ucd w)
     becomes_closed new closed =
         closed (by_class ucd here.run) here.held (has_starter-by_class ucd here.run)
-        ∙ ap (λ k. k ++ closed_off ucd (composes f) (Some starter) (by_class ucd here.run)) here.formed
-        ∙ append_assoc before (finished f ucd here.done) _
-        ∙ ap (λ k. before ++ k) (
+        ∙ appended before (finished f ucd here.done) (closed_off ucd (composes f) (Some starter) (by_class ucd here.run)) now _ here.formed refl
+        ∙ ap (λ k. before ++ encode_utf8_all k) (
         ap (λ k. finished f ucd here.done ++ k) (sym (arranged-marked ucd starter here.run here.starts here.no_starter (composes f)))
         ∙ sym (here.parted here.run)
         ∙ ap (λ k. finished f ucd k) (sym here.text))
 
     -- the starter alone, where no marks are held
-    pub becomes_closed_one : true ≡ (length marks == 0) → (new : List ℕ) → new ≡ now ++ starter ∷ [] → new ≡ before ++ finished f ucd w
-    becomes_closed_one alone new grown = becomes_closed new (λ m held _. grown ∙ ap (λ k. now ++ k) (one m (alone ∙ ap (λ v. length v == 0) held) (composes f)))
+    pub becomes_closed_one : true ≡ (length marks == 0) → (new : List ℕ) → new ≡ now ++ encode_utf8_all (starter ∷ []) → new ≡ before ++ encode_utf8_all (finished f ucd w)
+    becomes_closed_one alone new grown = becomes_closed new (λ m held _. grown ∙ ap (λ k. now ++ encode_utf8_all k) (one m (alone ∙ ap (λ v. length v == 0) held) (composes f)))
       where
         one : (m : List ℕ) → true ≡ (length (map (mark_of ucd) m) == 0) → (b : Bool) → starter ∷ [] ≡ closed_off ucd b (Some starter) m
         one [] none false = refl
@@ -110,7 +110,7 @@ module _ (f : Form) where
         one (c ∷ m) none b = absurd (grind (arith, nat_tests, none))
 
   -- a starter more, that composes with nothing before it, where that is closed off
-  pub becomes_parted : (w before now : List ℕ) (c : ℕ) → now ≡ before ++ finished f ucd w → is_starter ucd c ≡ true → NeverSecond ucd f c → Becomes f (w ++ c ∷ []) c [] before now
+  pub becomes_parted : (w before now : List ℕ) (c : ℕ) → now ≡ before ++ encode_utf8_all (finished f ucd w) → is_starter ucd c ≡ true → NeverSecond ucd f c → Becomes f (w ++ c ∷ []) c [] before now
   unfolding by_class
   becomes_parted w before now c formed starts never = record {
     done = w;

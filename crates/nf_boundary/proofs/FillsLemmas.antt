@@ -1,6 +1,6 @@
 -- A piece of text from one boundary to the next, character by character.
 use Rattle.std.proofs.Common.{◌≡◌, ◌≢◌, ℕ, suc, ◌+◌, ◌<◌, true, false, List, [], ◌∷◌, ◌++◌, length, take, get_or, refl, sym, ap, subst, ◌∙◌, append_assoc, append-nil, arith, eq-eqb}
-use Rattle.std.specs.Prelude.{chars, encode_utf8, flat_map}
+use Rattle.std.specs.Prelude.{chars, encode_utf8, flat_map, encode_utf8_all}
 use Rattle.std.proofs.lemmas.Bool.{ne_eqb, or_from}
 use Rattle.std.proofs.lemmas.List.{take_more}
 use Rattle.std.proofs.lemmas.Str.{chars-append, IsUtf8-append}
@@ -104,7 +104,7 @@ module _ (f : Form) (first : Seen) (at : IsAtBoundary f first) where
 
     -- and then a boundary
     pub fills_closed : ((x : List ℕ) → IsSoundText ucd x) → (behind : Seen) → behind ≡ seen → IsAtBoundary f behind
-        → (new : List ℕ) → ((w before : List ℕ) → Becomes f w piece.starter piece.run.items before now → new ≡ before ++ finished f ucd w) → Closes f first.text.now behind before new
+        → (new : List ℕ) → ((w before : List ℕ) → Becomes f w piece.starter piece.run.items before now → new ≡ before ++ encode_utf8_all (finished f ucd w)) → Closes f first.text.now behind before new
     fills_closed sound behind same at_behind new closed = record {
       piece = here.front;
       more = finished f ucd (decomposed f ucd (chars here.front));

@@ -1,6 +1,6 @@
 -- A Hangul syllable that is written with letters: what it becomes, and that it is closed.
 use Rattle.std.proofs.Common.{◌≡◌, inr, ℕ, ◌+◌, ◌≤◌, ◌<◌, true, List, [], ◌∷◌, ◌++◌, Some, sym, ap, subst, ◌∙◌, arith, append_assoc, eq-eqb}
-use Rattle.std.specs.Prelude.{chars, encode_utf8, IsUtf8, IsTrue}
+use Rattle.std.specs.Prelude.{chars, encode_utf8, IsUtf8, IsTrue, encode_utf8_all}
 use Rattle.std.proofs.lemmas.Str.{chars-append, IsUtf8-append}
 use Rattle.ucd_normal.specs.CanonicalCombiningClass.{canonical_combining_class}
 use Rattle.ucd_normal.specs.Composition.{composite as listed}
@@ -75,7 +75,7 @@ module _ (starter : (c : ℕ) → 0x1100 ≤ c → c < 0x1200 → canonical_comb
 -- where a boundary comes behind it, it is closed
 pub closes_syllable : (f : Form) (first : Seen) → IsAtBoundary f first → composes f ≡ true → ((c : ℕ) → IsTrue (is_sound ucd c)) → ((x : List ℕ) → IsSoundText ucd x)
     → (rest : List ℕ) (syllable : ℕ) → Spells first.character first.behind.now rest syllable → (next : Seen) → next.text.now ≡ rest → IsAtBoundary f next
-    → (old new : List ℕ) → new ≡ old ++ syllable ∷ [] → Closes f first.text.now next old new
+    → (old new : List ℕ) → new ≡ old ++ encode_utf8_all (syllable ∷ []) → Closes f first.text.now next old new
 closes_syllable f first at composing sound sound_text rest syllable letters next is behind old new formed =
     let letter = encode_utf8 first.character in
     let u = letter_utf8 f first at.sees in

@@ -1,6 +1,6 @@
 -- A cluster of Unicode's characters: how a character more joins it, and what it is when a boundary comes.
 use Rattle.std.proofs.Common.{◌≡◌, ◌≢◌, ◌⊎◌, inl, inr, ℕ, ◌+◌, ◌<◌, ◌≤◌, Bool, true, false, not, ◌&&◌, ◌==◌, nat_le, cond, List, [], ◌∷◌, ◌++◌, length, Some, None, refl, sym, ap, ap₂, subst, ◌∙◌, append_assoc, append-nil, arith, eq-eqb, le-leb}
-use Rattle.std.specs.Prelude.{chars, encode_utf8, IsUtf8}
+use Rattle.std.specs.Prelude.{chars, encode_utf8, IsUtf8, encode_utf8_all}
 use Rattle.std.proofs.Math.Bool.{and-false}
 use Rattle.std.proofs.lemmas.Bool.{ne_eqb, cases_eq, lt-leb}
 use Rattle.std.proofs.lemmas.Str.{chars-nil, chars-append, IsUtf8-append, IsUtf8-nil}
@@ -23,6 +23,7 @@ use Rattle.nf_boundary.specs.declared.cluster.Cluster.{Cluster}
 use Rattle.nf_boundary.specs.Seen.{Sees, IsAtBoundary}
 use Rattle.nf_boundary.specs.Pieces.{Closes}
 use Rattle.nf_boundary.specs.Joins.{AreMadeOf, JoinsFront, Joins, Gathers}
+use Rattle.nf_boundary.proofs.EncodingLemmas.{appended}
 use Rattle.nf_boundary.proofs.LetterLemmas.{begins_first, one_letter, letter_utf8, chars-letter, begins_more}
 
 pub class_of : (c : ℕ) → ucd.class c ≡ canonical_combining_class c
@@ -158,17 +159,17 @@ module _ (f : Form) (first : Seen) (at : IsAtBoundary f first) where
           utf8 = IsUtf8-append here.front letter here.utf8 (letter_utf8 f seen here.sees);
           begins = subst (BeginsAtBoundary ucd f) (sym grown) (begins_more f (chars here.front) (seen.character ∷ []) here.begins);
           sees = sees;
-          formed = more.formed ∙ ap (λ k. k ++ more.more) here.formed ∙ append_assoc old here.done more.more;
+          formed = appended old here.done more.more new new' here.formed more.formed;
           made = subst (λ k. AreMadeOf (here.done ++ more.more) k cluster') (sym grown) (more.joins here.done (chars here.front) here.made);
         }
 
-    pub gathers_closed : composes f ≡ true → ((x : List ℕ) → IsSoundText ucd x) → IsAtBoundary f seen → (new' : List ℕ) → new' ≡ new ++ cluster.starter ∷ cluster.left.items → Closes f first.text.now seen old new'
+    pub gathers_closed : composes f ≡ true → ((x : List ℕ) → IsSoundText ucd x) → IsAtBoundary f seen → (new' : List ℕ) → new' ≡ new ++ encode_utf8_all (cluster.starter ∷ cluster.left.items) → Closes f first.text.now seen old new'
     gathers_closed composing sound behind new' formed = record {
       piece = here.front;
       more = here.done ++ cluster.starter ∷ cluster.left.items;
       split = here.split;
       utf8 = here.utf8;
       form = HasForm-cluster ucd f composing (chars here.front) cluster.starter cluster.left.items cluster.last cluster.highest cluster.count here.made here.begins (sound (chars here.front));
-      formed = formed ∙ ap (λ k. k ++ cluster.starter ∷ cluster.left.items) here.formed ∙ append_assoc old here.done (cluster.starter ∷ cluster.left.items);
+      formed = appended old here.done (cluster.starter ∷ cluster.left.items) new new' here.formed formed;
       behind = behind;
     }

@@ -1,6 +1,6 @@
 -- The character that a text begins with, as a text of its own.
 use Rattle.std.proofs.Common.{◌≡◌, ℕ, List, [], ◌∷◌, ◌++◌, sym, ap, subst, ◌∙◌, append-nil}
-use Rattle.std.specs.Prelude.{chars, encode_utf8, IsUtf8}
+use Rattle.std.specs.Prelude.{chars, encode_utf8, encode_utf8_all, IsUtf8}
 use Rattle.std.proofs.lemmas.Str.{chars-nil, chars_past_char}
 use Rattle.nf_forms.specs.declared.form.Form.{Form}
 use Rattle.nf_forms.specs.Parting.{IsBoundary}
@@ -43,7 +43,7 @@ module _ (f : Form) (first : Seen) (at : IsAtBoundary f first) where
 
 -- it is closed, where a boundary comes behind it
 pub closes_letter : (f : Form) (first : Seen) → IsAtBoundary f first → (next : Seen) → next.text.now ≡ first.behind.now → IsAtBoundary f next
-    → (more : List ℕ) → HasForm ucd f (first.character ∷ []) more → (old new : List ℕ) → new ≡ old ++ more → Closes f first.text.now next old new
+    → (more : List ℕ) → HasForm ucd f (first.character ∷ []) more → (old new : List ℕ) → new ≡ old ++ encode_utf8_all more → Closes f first.text.now next old new
 closes_letter f first at next is behind more form old new formed = record {
   piece = encode_utf8 first.character;
   more = more;

@@ -1,3 +1,4 @@
+pub mod EncodingLemmas
 pub mod SeenLemmas
 pub mod PieceLemmas
 pub mod LetterLemmas

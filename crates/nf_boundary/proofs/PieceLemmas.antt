@@ -10,12 +10,13 @@ use Rattle.nf_forms.specs.Ucd.{ucd}
 use Rattle.nf_forms.specs.Laws.Sound.{IsSoundText}
 use Rattle.nf_forms.specs.Laws.Closed.{HasForm-append}
 use Rattle.nf_forms.specs.Laws.ClosedForms.{calm-front, HasForm-calm}
-use Rattle.nf_calm.specs.Front.{IsCalmFront}
+use Rattle.nf_calm.specs.Front.{IsCalmFront, IsCalmText}
 use Rattle.nf_boundary.specs.declared.seen.Seen.{Seen}
 use Rattle.nf_boundary.specs.Front.{IsClosedFront}
 use Rattle.nf_boundary.specs.Seen.{IsAtBoundary}
 use Rattle.nf_boundary.specs.Pieces.{Closes, Reaches}
 use Rattle.nf_boundary.specs.Stands.{Stands}
+use Rattle.nf_boundary.proofs.EncodingLemmas.{appended}
 
 -- what stands before a whole text, within a text, is text
 pub IsUtf8-before : (text front back : List ℕ) → IsUtf8 text → IsUtf8 back → text ≡ front ++ back → IsUtf8 front
@@ -46,20 +47,17 @@ module _ (f : Form) where
       next (c ∷ cs) e =
           inr (subst (λ k. HasForm ucd f k k) (sym e) (HasForm-calm ucd f c cs class count (subst (λ k. IsCalm ucd f k class count) e calm) (sound (c ∷ cs))))
 
-  module _ (whole settled tail rest : List ℕ) (calm : IsCalmFront ucd f whole settled tail rest) (first : IsUtf8 settled) (second : IsUtf8 tail) (sound : (x : List ℕ) → IsSoundText ucd x) where
-    -- up to where it ends
-    pub stands_end : (next : Seen) → next.text.now ≡ rest → IsAtBoundary f next → Stands f whole next
-    stands_end next is behind =
-        let text = chars-append settled tail first in
-        let u = IsUtf8-append settled tail first second in
-        record {
-          front = settled ++ tail;
-          split = calm.text ∙ sym (append_assoc settled tail rest) ∙ ap (λ k. (settled ++ tail) ++ k) (sym is);
-          utf8 = u;
-          form = own_calm (settled ++ tail) u calm.class calm.count (subst (λ k. IsCalm ucd f k calm.class calm.count) (sym text) calm.calm) sound;
-          behind = behind;
-        }
+  -- up to where it ends
+  pub stands_end : (whole calm rest : List ℕ) → IsCalmText ucd f whole calm rest → IsUtf8 calm → ((x : List ℕ) → IsSoundText ucd x) → (next : Seen) → next.text.now ≡ rest → IsAtBoundary f next → Stands f whole next
+  stands_end whole calm rest here u sound next is behind = record {
+    front = calm;
+    split = here.text ∙ ap (λ k. calm ++ k) (sym is);
+    utf8 = u;
+    form = own_calm calm u here.class here.count here.is_calm sound;
+    behind = behind;
+  }
 
+  module _ (whole settled tail rest : List ℕ) (calm : IsCalmFront ucd f whole settled tail rest) (first : IsUtf8 settled) (sound : (x : List ℕ) → IsSoundText ucd x) where
     -- up to what of it is settled
     pub stands_settled : (next : Seen) → next.text.now ≡ tail ++ rest → IsAtBoundary f next → Stands f whole next
     stands_settled next is behind =
@@ -91,6 +89,8 @@ module _ (f : Form) where
           front = here.front;
           split = here.split;
           utf8 = here.utf8;
+          more = [];
+          put = refl;
           form = elim here.form [
             | inl none ↦ inl (none, none, refl)
             | inr form ↦ inr (subst (HasForm ucd f (chars here.front)) (sym (append-nil (chars here.front))) form)
@@ -98,9 +98,28 @@ module _ (f : Form) where
           behind = here.behind;
         })
 
+    -- and behind that what changed
+    pub reaches_changed : (same : List ℕ) → same ≡ take (length whole - length next.text.now) whole → (old new : List ℕ) (next' : Seen) → old ≡ []
+        → ((whole same : List ℕ) → Reaches f whole same old next → Reaches f whole same new next') → Reaches f whole same new next'
+    reaches_changed same is old new next' none changed = changed whole same (subst (λ formed. Reaches f whole same formed next) (sym none) (reaches_own same is))
+
+    -- what stands before it, put as it is
+    pub closes_run : (run : List ℕ) → run ≡ take (length whole - length next.text.now) whole → length run ≢ 0 → (old new : List ℕ) → new ≡ old ++ run → Closes f whole next old new
+    closes_run run is some old new grown =
+        let e : run ≡ here.front = is ∙ take-seam whole here.front next.text.now n here.split long in
+        record {
+          piece = here.front;
+          more = chars here.front;
+          split = here.split;
+          utf8 = here.utf8;
+          form = ⊎_elim (λ none. absurd (some (ap length (e ∙ none)))) (λ form. form) here.form;
+          formed = grown ∙ ap (λ k. old ++ k) (e ∙ sym (encodes-chars here.front here.utf8));
+          behind = here.behind;
+        }
+
   -- nothing stands before the first character
   pub reaches_none : (text : List ℕ) (next : Seen) → next.text.now ≡ text → IsAtBoundary f next → Reaches f text [] [] next
-  reaches_none text next is behind = record { front = []; split = sym is; utf8 = IsUtf8-nil; form = inl (refl, refl, refl); behind = behind }
+  reaches_none text next is behind = record { front = []; split = sym is; utf8 = IsUtf8-nil; more = []; put = refl; form = inl (refl, refl, refl); behind = behind }
 
   -- ---- a piece more
 
@@ -117,6 +136,8 @@ module _ (f : Form) where
       front = here.front ++ more.piece;
       split = here.split ∙ ap (λ k. here.front ++ k) more.split ∙ sym (append_assoc here.front more.piece next'.text.now);
       utf8 = IsUtf8-append here.front more.piece here.utf8 more.utf8;
+      more = here.more ++ more.more;
+      put = appended [] here.more more.more formed formed' here.put more.formed;
       form = inr (⊎_elim alone behind here.form);
       behind = more.behind;
     }
@@ -124,17 +145,17 @@ module _ (f : Form) where
         text : chars (here.front ++ more.piece) ≡ chars here.front ++ chars more.piece
         text = chars-append here.front more.piece here.utf8
 
-        formed_is : (chars same ++ formed) ++ more.more ≡ chars same ++ formed'
-        formed_is = append_assoc (chars same) formed more.more ∙ ap (λ k. chars same ++ k) (sym more.formed)
+        both : List ℕ
+        both = here.more ++ more.more
 
-        behind : HasForm ucd f (chars here.front) (chars same ++ formed) → HasForm ucd f (chars (here.front ++ more.piece)) (chars same ++ formed')
-        behind front = subst (λ k. HasForm ucd f k (chars same ++ formed')) (sym text) (subst (HasForm ucd f (chars here.front ++ chars more.piece)) formed_is
-            (HasForm-append ucd f (chars here.front) (chars more.piece) (chars same ++ formed) more.more front more.form))
+        behind : HasForm ucd f (chars here.front) (chars same ++ here.more) → HasForm ucd f (chars (here.front ++ more.piece)) (chars same ++ both)
+        behind front = subst (λ k. HasForm ucd f k (chars same ++ both)) (sym text) (subst (HasForm ucd f (chars here.front ++ chars more.piece)) (append_assoc (chars same) here.more more.more)
+            (HasForm-append ucd f (chars here.front) (chars more.piece) (chars same ++ here.more) more.more front more.form))
 
-        alone : (here.front ≡ []) × (same ≡ []) × (formed ≡ []) → HasForm ucd f (chars (here.front ++ more.piece)) (chars same ++ formed')
+        alone : (here.front ≡ []) × (same ≡ []) × (here.more ≡ []) → HasForm ucd f (chars (here.front ++ more.piece)) (chars same ++ both)
         alone none =
-            subst (λ k. HasForm ucd f (chars k) (chars same ++ formed')) (ap (λ k. k ++ more.piece) (sym none.0))
-            (subst (HasForm ucd f (chars more.piece)) (sym (ap (λ k. chars k ++ formed') none.1 ∙ ap (λ k. k ++ formed') chars-nil ∙ more.formed ∙ ap (λ k. k ++ more.more) none.2)) more.form)
+            subst (λ k. HasForm ucd f (chars k) (chars same ++ both)) (ap (λ k. k ++ more.piece) (sym none.0))
+            (subst (HasForm ucd f (chars more.piece)) (sym (ap (λ k. chars k ++ both) none.1 ∙ ap (λ k. k ++ both) chars-nil ∙ ap (λ k. k ++ more.more) none.2)) more.form)
 
     -- where it is not empty, it is a closed front
     pub closed_front : length next.text.now ≢ length whole → IsClosedFront ucd f whole same formed next.text.now
@@ -144,6 +165,8 @@ module _ (f : Form) where
           front = here.front;
           text = here.split;
           characters = ap chars here.split ∙ chars-append here.front next.text.now here.utf8;
+          more = here.more;
+          put = here.put;
           form = form;
           next = here.behind.begins;
         })

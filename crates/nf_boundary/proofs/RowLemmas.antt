@@ -1,6 +1,6 @@
 -- A character with its decomposition beside it, and one that passes the quick check.
 use Rattle.std.proofs.Common.{◌≡◌, ℕ, false, List, [], ◌∷◌, ◌++◌, ◌==◌, true, length, if◌then◌else◌, refl, ap, sym, ◌∙◌, inl}
-use Rattle.std.specs.Prelude.{IsTrue}
+use Rattle.std.specs.Prelude.{IsTrue, encode_utf8_all}
 use Rattle.ucd_normal.specs.declared.forms.QuickCheck.TheVariants.{Yes}
 use Rattle.ucd_normal.specs.QuickCheck.{quick_check}
 use Rattle.nf_forms.specs.declared.form.Form.{Form}
@@ -47,7 +47,7 @@ table_row form c other first rest is =
 -- a character that passes is closed, where a boundary comes behind it
 pub closes_own : (f : Form) (first : Seen) → IsAtBoundary f first → ((x : List ℕ) → IsSoundText ucd x) → ((c : ℕ) → IsTrue (is_sound ucd c)) → ((c : ℕ) → IsTrue (passes_check f c) → IsParting ucd f c)
     → first.answer ≡ Yes → is_among halfwidth_marks first.character ≡ false → (next : Seen) → next.text.now ≡ first.behind.now → IsAtBoundary f next
-    → (old new : List ℕ) → new ≡ old ++ first.character ∷ [] → Closes f first.text.now next old new
+    → (old new : List ℕ) → new ≡ old ++ encode_utf8_all (first.character ∷ []) → Closes f first.text.now next old new
 closes_own f first at sound sound_one parting own other next is behind old new formed =
     let c = first.character in
     let calm : IsCalm ucd f (c ∷ []) 0 max_row = (0, max_row, inl (begins_run ucd f c (parting c (passing f first at.sees at.class own other)) (sound_one c)), (refl, refl)) in

@@ -1,5 +1,5 @@
 -- What the characters of clusters have become.
-use Rattle.std.specs.Prelude.{◌≡◌, ℕ, List, [], ◌∷◌, ◌++◌, chars, IsUtf8}
+use Rattle.std.specs.Prelude.{◌≡◌, ℕ, List, [], ◌∷◌, ◌++◌, chars, encode_utf8_all, IsUtf8}
 use Rattle.nf_forms.specs.declared.form.Form.{Form}
 use Rattle.nf_forms.specs.Closed.{BeginsAtBoundary}
 use Rattle.nf_forms.specs.Cluster.{AreClusters}
@@ -22,7 +22,7 @@ pub record JoinsFront (text rest : List ℕ) (old new : Cluster) : Type 0 where
 -- a character more joins the cluster, or ends it, and then what it has become is appended
 pub record Joins (c : ℕ) (old new : Cluster) (before after : List ℕ) : Type 0 where
   pub more : List ℕ
-  pub formed : after ≡ before ++ more
+  pub formed : after ≡ before ++ encode_utf8_all more
   pub joins : (done cs : List ℕ) → AreMadeOf done cs old → AreMadeOf (done ++ more) (cs ++ c ∷ []) new
 
 -- of the characters from `first` on, those before `next` have become what was appended, and the cluster
@@ -33,5 +33,5 @@ pub record Gathers (f : Form) (first next : Seen) (cluster : Cluster) (old new :
   pub utf8 : IsUtf8 front
   pub begins : BeginsAtBoundary ucd f (chars front)
   pub sees : Sees f next
-  pub formed : new ≡ old ++ done
+  pub formed : new ≡ old ++ encode_utf8_all done
   pub made : AreMadeOf done (chars front) cluster

@@ -1,5 +1,5 @@
 -- What the characters from a boundary on have become, by their decompositions, in whatever order non-starters stand.
-use Rattle.std.specs.Prelude.{◌≡◌, ◌≤◌, ◌+◌, ℕ, true, false, List, ◌∷◌, ◌++◌, map, chars, IsUtf8}
+use Rattle.std.specs.Prelude.{◌≡◌, ◌≤◌, ◌+◌, ℕ, true, false, List, ◌∷◌, ◌++◌, map, chars, encode_utf8_all, IsUtf8}
 use Rattle.nf_forms.specs.Properties.{is_starter}
 use Rattle.nf_forms.specs.Runs.{has_starter, trail, longest}
 use Rattle.nf_forms.specs.Order.{by_class}
@@ -23,7 +23,7 @@ pub record Becomes (f : Form) (w : List ℕ) (starter : ℕ) (marks : List Mark)
   pub starts : is_starter ucd starter ≡ true
   pub no_starter : has_starter ucd run ≡ false
   pub held : marks ≡ map (mark_of ucd) (by_class ucd run)
-  pub formed : now ≡ before ++ finished f ucd done
+  pub formed : now ≡ before ++ encode_utf8_all (finished f ucd done)
   pub parted : (v : List ℕ) → finished f ucd (done ++ starter ∷ v) ≡ finished f ucd done ++ finished f ucd (starter ∷ v)
 
 -- in NFKD so many non-starters more may come behind these characters, and no run of them is too long

@@ -1,5 +1,5 @@
 -- A text from one normalization boundary to another, piece by piece, in bytes of UTF-8.
-use Rattle.std.specs.Prelude.{◌≡◌, ◌⊎◌, ℕ, List, [], ◌++◌, chars, IsUtf8}
+use Rattle.std.specs.Prelude.{◌≡◌, ◌⊎◌, ℕ, List, [], ◌++◌, chars, encode_utf8_all, IsUtf8}
 use Rattle.nf_forms.specs.declared.form.Form.{Form}
 use Rattle.nf_forms.specs.Closed.{HasForm}
 use Rattle.nf_forms.specs.Ucd.{ucd}
@@ -13,14 +13,16 @@ pub record Closes (f : Form) (text : List ℕ) (next : Seen) (old new : List ℕ
   pub split : text ≡ piece ++ next.text.now
   pub utf8 : IsUtf8 piece
   pub form : HasForm ucd f (chars piece) more
-  pub formed : new ≡ old ++ more
+  pub formed : new ≡ old ++ encode_utf8_all more
   pub behind : IsAtBoundary f next
 
 -- the text is a front, which is closed where it is not empty, and a boundary comes behind it; the form of the front is
--- `same` as it stands and then `formed`
+-- `same` as it stands and then `formed`, in UTF-8
 pub record Reaches (f : Form) (whole same formed : List ℕ) (next : Seen) : Type 0 where
   pub front : List ℕ
   pub split : whole ≡ front ++ next.text.now
   pub utf8 : IsUtf8 front
-  pub form : ((front ≡ []) × (same ≡ []) × (formed ≡ [])) ⊎ HasForm ucd f (chars front) (chars same ++ formed)
+  pub more : List ℕ
+  pub put : formed ≡ encode_utf8_all more
+  pub form : ((front ≡ []) × (same ≡ []) × (more ≡ [])) ⊎ HasForm ucd f (chars front) (chars same ++ more)
   pub behind : IsAtBoundary f next

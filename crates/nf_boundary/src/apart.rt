@@ -1,21 +1,35 @@
-ghost use Rattle.std.specs.Prelude.{◌≡◌, false, IfSome, IsNone};
+ghost use Rattle.std.specs.Prelude.{◌≡◌, ℕ, List, false, IfSome, IsNone};
 ghost use Rattle.nf_forms.specs.Forms.{composes};
 ghost use Rattle.nf_boundary.specs.Seen.{IsAtBoundary};
-ghost use Rattle.nf_boundary.specs.Pieces.{Closes};
+ghost use Rattle.nf_boundary.specs.Pieces.{Closes, Reaches};
 
 use crate::closed::Formed;
-use crate::lone::take_lone;
+use crate::encoding::append;
+use crate::lone::take_kept;
 use crate::seen::Seen;
 use nf_facts::{in_tables, laws};
 use nf_forms::Form;
 use ucd_normal::QuickCheck;
 use unicode_normalization::char::decomposition;
 
+/// Appends what a text becomes from its first character on, as far as it is taken apart; answers the last boundary.
+pub(crate) fn take_front_apart<'t>(form: Form, first: Seen<'t>, formed: &mut Formed) -> Seen<'t>
+    requires first { IsAtBoundary form first }
+    requires plain { composes form ≡ false }
+    ensures { (whole same : List ℕ) → Reaches form whole same formed.old.items first.entry → Reaches form whole same formed.new.items result }
+{
+    let mut next = first;
+    while let Some(behind) = take_apart(form, next, formed) {
+        next = behind;
+    }
+    next
+}
+
 /// Appends the decomposition of a character that the form changes, where a boundary comes behind it, and answers that: in
-/// a form that does not compose, so much is closed. Calm text is left, to be taken as it stands, but for a few characters
-/// before another that is changed.
+/// a form that does not compose, so much is closed. Calm text is left, to be taken as it stands, but for a little before
+/// another that is changed.
 #[inline(always)]
-pub(crate) fn take_apart<'t>(form: Form, first: Seen<'t>, formed: &mut Formed) -> Option<Seen<'t>>
+fn take_apart<'t>(form: Form, first: Seen<'t>, formed: &mut Formed) -> Option<Seen<'t>>
     requires first { IsAtBoundary form first }
     requires plain { composes form ≡ false }
     ensures closes { IfSome result (λ next. Closes form first.entry.text.now next formed.old.items formed.new.items) }
@@ -24,12 +38,13 @@ pub(crate) fn take_apart<'t>(form: Form, first: Seen<'t>, formed: &mut Formed) -
     laws::every_character_is_sound();
     laws::rows_are_ordered();
     if first.answer == QuickCheck::Yes {
-        return take_lone(form, first, formed);
+        return take_kept(form, first, formed);
     }
     let next = Seen::boundary(form, first.behind)?;
     let mut room = [first.character; 3];
-    formed
-        .try_extend_from_slice(decomposition(first.character, in_tables(form), &mut room))
-        .ok()?;
+    append(
+        formed,
+        decomposition(first.character, in_tables(form), &mut room),
+    )?;
     Some(next)
 }

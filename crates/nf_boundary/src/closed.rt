@@ -1,10 +1,10 @@
 use arrayvec::ArrayVec;
 
-/// Up to 255 characters of a normalization form.
-pub type Formed = ArrayVec<char, 255>;
+/// Up to 1,024 bytes of UTF-8 in a normalization form.
+pub type Formed = ArrayVec<u8, 1024>;
 
 /// A front of a text that begins at a normalization boundary and ends before another. Its form is `same`, which stands in
-/// the text as it is, and behind it the characters that were put into the caller's `Formed`.
+/// the text as it is, and behind it what was put into the caller's `Formed`.
 #[derive(Debug, Drop)]
 pub struct Closed<'t> {
     /// The part of the front that is its own form.

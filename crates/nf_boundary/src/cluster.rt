@@ -1,4 +1,5 @@
 use crate::closed::Formed;
+use crate::encoding::{put_character, put_utf8};
 use crate::seen::{Seen, is_own_row};
 use arrayvec::ArrayVec;
 use nf_facts::laws;
@@ -8,6 +9,9 @@ use unicode_normalization::char::compose;
 
 /// As many non-starters may follow one another in NFKD (UAX #15, section 13).
 const MAX_RUN: u8 = 30;
+
+/// So many bytes has a cluster at most.
+const MOST_BYTES: usize = 52;
 
 /// What the characters from a starter on have become, by canonical composition (The Unicode Standard, section 3.11,
 /// D117): a starter, and the marks that are left behind it.
@@ -24,7 +28,7 @@ pub(crate) struct Cluster {
 }
 
 impl Cluster {
-    ghost use Rattle.std.specs.Prelude.{◌≡◌, ◌<◌, ◌≤◌, ◌⊎◌, ℕ, List, [], ◌∷◌, ◌++◌, length, IfSome, IsTrue, IsSome, IsNone};
+    ghost use Rattle.std.specs.Prelude.{◌≡◌, ◌<◌, ◌≤◌, ◌⊎◌, ℕ, List, [], ◌∷◌, ◌++◌, length, IfSome, IsTrue, IsSome, IsNone, encode_utf8_all};
     ghost use Rattle.ucd_normal.specs.declared.forms.Form.TheVariants.{Nfkd};
     ghost use Rattle.ucd_normal.specs.declared.forms.QuickCheck.TheVariants.{Yes};
     ghost use Rattle.ucd_normal.specs.CanonicalCombiningClass.{canonical_combining_class};
@@ -142,25 +146,23 @@ impl Cluster {
         compose(self.starter, c)
     }
 
-    /// Whether it is one character.
+    /// Whether nothing in it composed.
     #[inline(always)]
-    pub fn is_alone(&self) -> bool {
-        self.count == 1
+    pub fn is_as_it_was(&self) -> bool {
+        usize::from(self.count) == self.left.len() + 1
     }
 
     /// Appends the starter and the marks, where there is room.
     #[inline(always)]
     pub fn append_to(&self, formed: &mut Formed) -> Option<()>
-        ensures some { IsSome result → formed.new.items ≡ formed.old.items ++ self.now.starter ∷ self.now.left.items }
+        ensures some { IsSome result → formed.new.items ≡ formed.old.items ++ encode_utf8_all (self.now.starter ∷ self.now.left.items) }
         ensures none { IsNone result → formed.new ≡ formed.old }
     {
-        if formed.remaining_capacity() <= self.left.len() {
+        if formed.remaining_capacity() < MOST_BYTES {
             return None;
         }
-        formed.push(self.starter);
-        if self.left.is_empty() {
-            return Some(());
-        }
-        formed.try_extend_from_slice(&self.left).ok()
+        put_character(formed, self.starter);
+        put_utf8(formed, self.left.as_slice());
+        Some(())
     }
 }

@@ -1,32 +1,68 @@
-ghost use Rattle.std.specs.Prelude.{◌≡◌, true, take, length, IfSome, IsNone};
+ghost use Rattle.std.specs.Prelude.{◌≡◌, ℕ, List, true, take, length, IfSome, IsNone};
 ghost use Rattle.nf_forms.specs.Forms.{composes};
 ghost use Rattle.nf_boundary.specs.Seen.{IsAtBoundary};
-ghost use Rattle.nf_boundary.specs.Pieces.{Closes};
+ghost use Rattle.nf_boundary.specs.Pieces.{Closes, Reaches};
 
 use crate::closed::Formed;
 use crate::cluster::Cluster;
-use crate::lone::take_near;
-use crate::seen::{Seen, is_own_row};
+use crate::hangul::take_syllable;
+use crate::lone::take_run;
+use crate::seen::{Seen, is_own_row, may_begin_with_mark};
 use nf_facts::laws;
 use nf_forms::Form;
 
-/// Appends what a starter and the characters behind it become, up to the next boundary, and answers that: in a form that
-/// composes, so much is closed. It answers only where something comes between, or behind it a leading consonant of Hangul, a
-/// character with a mark, or ASCII with a mark near.
+/// Appends what a text becomes from its first character on, as far as it composes; answers the last boundary.
+pub(crate) fn compose_front<'t>(form: Form, first: Seen<'t>, formed: &mut Formed) -> Seen<'t>
+    requires first { IsAtBoundary form first }
+    requires composing { composes form ≡ true }
+    ensures { (whole same : List ℕ) → Reaches form whole same formed.old.items first.entry → Reaches form whole same formed.new.items result }
+{
+    let mut next = first;
+    while let Some(behind) = take_composed(form, next, formed) {
+        next = behind;
+    }
+    next
+}
+
+/// Appends the next piece that composes, or calm text before one.
 #[inline(always)]
-pub(crate) fn compose_cluster<'t>(
-    form: Form,
-    first: Seen<'t>,
-    formed: &mut Formed,
-) -> Option<Seen<'t>>
+fn take_composed<'t>(form: Form, first: Seen<'t>, formed: &mut Formed) -> Option<Seen<'t>>
     requires first { IsAtBoundary form first }
     requires composing { composes form ≡ true }
     ensures closes { IfSome result (λ next. Closes form first.entry.text.now next formed.old.items formed.new.items) }
     ensures stays { IsNone result → formed.new ≡ formed.old }
 {
-    if let Some(next) = take_near(form, first, formed) {
+    if may_begin_run(first.behind)
+        && let Some(next) = take_run(form, first.text, formed)
+    {
         return Some(next);
     }
+    match take_syllable(form, first, formed) {
+        Some(next) => Some(next),
+        None => compose_cluster(form, first, formed),
+    }
+}
+
+/// Whether the first byte leaves it open that calm text comes first that ends at a mark: most letters of Latin, Cyrillic and
+/// Japanese do, and of Arabic few.
+#[inline(always)]
+fn may_begin_run(text: &str) -> bool {
+    let bytes = text.as_bytes();
+    !bytes.is_empty()
+        && matches!(bytes[0], 0x00..=0x7F | 0xD0 | 0xD1 | 0xE3..=0xE9)
+        && !may_begin_with_mark(text)
+}
+
+/// Appends what a starter and the characters behind it become, up to the next boundary, and answers that: in a form that
+/// composes, so much is closed. It answers only where something comes between, or behind it a leading consonant of Hangul or
+/// a character with a mark.
+#[inline(always)]
+fn compose_cluster<'t>(form: Form, first: Seen<'t>, formed: &mut Formed) -> Option<Seen<'t>>
+    requires first { IsAtBoundary form first }
+    requires composing { composes form ≡ true }
+    ensures closes { IfSome result (λ next. Closes form first.entry.text.now next formed.old.items formed.new.items) }
+    ensures stays { IsNone result → formed.new ≡ formed.old }
+{
     let length = formed.len();
     let next = append_clusters(form, first, formed);
     if next.is_none() {
@@ -47,16 +83,17 @@ fn append_clusters<'t>(form: Form, first: Seen<'t>, formed: &mut Formed) -> Opti
     if !is_own_row(first.character) {
         return None;
     }
+    let length = formed.len();
     let mut cluster = Cluster::new(first.character);
     let behind = cluster.join_letters(first.behind);
     let mut next = Seen::first(form, behind)?;
-    // One character is calm text, but one between two that compose need not be sought as such.
-    if cluster.is_alone() && next.is_boundary(form) && !next.goes_on(form) {
-        return None;
-    }
     while !next.is_boundary(form) {
         cluster.join(form, next, formed)?;
         next = Seen::first(form, next.behind)?;
+    }
+    // Behind others that is calm text, most likely, but between two that compose it need not be sought as such.
+    if length > 0 && formed.len() == length && cluster.is_as_it_was() && !next.goes_on(form) {
+        return None;
     }
     cluster.append_to(formed)?;
     Some(next)

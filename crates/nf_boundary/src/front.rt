@@ -1,4 +1,4 @@
-ghost use Rattle.std.specs.Prelude.{◌≡◌, IfSome, IsNone};
+ghost use Rattle.std.specs.Prelude.{◌≡◌, ℕ, List, IfSome};
 ghost use Rattle.nf_forms.specs.Ucd.{ucd};
 ghost use Rattle.nf_boundary.specs.Front.{IsClosedFront};
 ghost use Rattle.nf_boundary.specs.Seen.{Sees, IsAtBoundary};
@@ -6,35 +6,23 @@ ghost use Rattle.nf_boundary.specs.Rows.{IsRow};
 ghost use Rattle.nf_boundary.specs.Pieces.{Closes, Reaches};
 ghost use Rattle.nf_boundary.specs.Stands.{Stands};
 
-use crate::apart::take_apart;
+use crate::apart::take_front_apart;
 use crate::closed::{Closed, Formed};
-use crate::composing::compose_cluster;
-use crate::hangul::take_syllable;
+use crate::composing::compose_front;
 use crate::kept::keep_halfwidth;
+use crate::parting::boundary_behind;
 use crate::pieces::take_pieces;
 use crate::rows::{Row, changed};
 use crate::seen::{Seen, may_begin_with_mark};
-use nf_calm::calm_front;
-use nf_facts::laws;
+use nf_calm::calm_text;
 use nf_forms::Form;
+use ucd_normal::QuickCheck;
 
 /// A closed front of the text, as far as one is known: calm text, and behind it characters that the form changes, until
 /// calm text comes again or `formed` is full. Their form is put into `formed`, in place of what it holds. Nothing where none
 /// is found, as where no boundary comes.
+#[inline(never)]
 pub fn closed_front<'t>(form: Form, text: &'t str, formed: &mut Formed) -> Option<Closed<'t>>
-    ensures { IfSome result (λ closed. IsClosedFront ucd form text.now closed.same.now formed.new.items closed.rest.now) }
-{
-    match form {
-        Form::Nfc => front_in(Form::Nfc, text, formed),
-        Form::Nfd => front_in(Form::Nfd, text, formed),
-        Form::Nfkc => front_in(Form::Nfkc, text, formed),
-        Form::Nfkd => front_in(Form::Nfkd, text, formed),
-    }
-}
-
-/// Each form has a copy of the loops of its own.
-#[inline(always)]
-fn front_in<'t>(form: Form, text: &'t str, formed: &mut Formed) -> Option<Closed<'t>>
     ensures { IfSome result (λ closed. IsClosedFront ucd form text.now closed.same.now formed.new.items closed.rest.now) }
 {
     let seen = Seen::first(form, text)?;
@@ -44,12 +32,9 @@ fn front_in<'t>(form: Form, text: &'t str, formed: &mut Formed) -> Option<Closed
     let first = own_part(form, text)?;
     let (same, _) = text.split_at(text.len() - first.text.len());
     formed.clear();
-    let mut next = first;
-    while let Some(behind) = take_cluster(form, next, formed) {
-        next = behind;
-    }
+    let next = take_changed(form, first, formed);
     // Behind what is taken another piece may begin that clusters do not take.
-    if next.text.len() < text.len() && goes_on_calmly(form, next) {
+    if next.text.len() < text.len() && goes_on_calmly(form, next, !formed.is_empty()) {
         return Some(Closed {
             same,
             rest: next.text,
@@ -62,20 +47,39 @@ fn front_in<'t>(form: Form, text: &'t str, formed: &mut Formed) -> Option<Closed
     take_front(form, text, same, plain, formed)
 }
 
-/// Whether calm text comes next, as far as two characters tell.
+/// Appends what a text becomes from its first character on, until calm text comes again; answers the last boundary.
 #[inline(always)]
-fn goes_on_calmly(form: Form, next: Seen<'_>) -> bool {
+fn take_changed<'t>(form: Form, first: Seen<'t>, formed: &mut Formed) -> Seen<'t>
+    requires { IsAtBoundary form first }
+    ensures { (whole same : List ℕ) → Reaches form whole same formed.old.items first.entry → Reaches form whole same formed.new.items result }
+{
+    if form.composes() {
+        compose_front(form, first, formed)
+    } else {
+        take_front_apart(form, first, formed)
+    }
+}
+
+/// Whether calm text comes next, as far as two characters tell: behind what the form changed it may begin with marks, but
+/// where calm text ended it does not begin anew.
+#[inline(always)]
+fn goes_on_calmly(form: Form, next: Seen<'_>, is_behind_changed: bool) -> bool {
     if !may_begin_with_mark(next.behind) {
         return true;
     }
     match Seen::first(form, next.behind) {
-        Some(behind) => next.is_calm_before(form, behind),
+        Some(behind) => {
+            next.is_calm_before(form, behind)
+                || is_behind_changed
+                    && next.answer == QuickCheck::Yes
+                    && behind.answer == QuickCheck::Yes
+        }
         None => true,
     }
 }
 
 /// The same, of a text that begins with a character that the form changes, where its decomposition tells that a text may be
-/// cut before it. Most of what is not closed shows at once.
+/// cut before it.
 fn changed_front<'t>(form: Form, seen: Seen<'t>, formed: &mut Formed) -> Option<Closed<'t>>
     requires { Sees form seen }
     ensures { IfSome result (λ closed. IsClosedFront ucd form seen.entry.text.now closed.same.now formed.new.items closed.rest.now) }
@@ -114,43 +118,9 @@ fn take_front<'t>(
 fn own_part(form: Form, text: &str) -> Option<Seen<'_>>
     ensures { IfSome result (λ next. Stands form text.now next) }
 {
-    let mut next = calm_part(form, text)?;
+    let mut next = boundary_behind(form, text, calm_text(form, text))?;
     while let Some(behind) = keep_halfwidth(form, next) {
         next = behind;
     }
     Some(next)
-}
-
-/// The boundary behind calm text: right behind the calm front, where one follows, and else before the end of that, behind
-/// what is settled.
-#[inline(always)]
-fn calm_part(form: Form, text: &str) -> Option<Seen<'_>>
-    ensures { IfSome result (λ next. Stands form text.now next) }
-{
-    laws::every_character_is_sound();
-    let calm = calm_front(form, text);
-    if !form.composes()
-        && let Some(next) = Seen::boundary(form, calm.rest)
-    {
-        return Some(next);
-    }
-    let (_, rest) = text.split_at(calm.settled.len());
-    let next = Seen::boundary(form, rest)?;
-    Some(next)
-}
-
-/// The next piece that the form changes.
-#[inline(always)]
-fn take_cluster<'t>(form: Form, first: Seen<'t>, formed: &mut Formed) -> Option<Seen<'t>>
-    requires { IsAtBoundary form first }
-    ensures closes { IfSome result (λ next. Closes form first.entry.text.now next formed.old.items formed.new.items) }
-    ensures stays { IsNone result → formed.new ≡ formed.old }
-{
-    if !form.composes() {
-        return take_apart(form, first, formed);
-    }
-    match take_syllable(form, first, formed) {
-        Some(next) => Some(next),
-        None => compose_cluster(form, first, formed),
-    }
 }

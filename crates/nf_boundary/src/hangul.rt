@@ -5,6 +5,7 @@ ghost use Rattle.nf_boundary.specs.Pieces.{Closes};
 ghost use Rattle.nf_boundary.specs.Hangul.{Spells};
 
 use crate::closed::Formed;
+use crate::encoding::append_one;
 use crate::seen::Seen;
 use nf_facts::laws;
 use nf_forms::Form;
@@ -25,7 +26,7 @@ pub(crate) fn take_syllable<'t>(
     laws::every_character_is_sound();
     let (syllable, behind) = spelled(first.character, first.behind)?;
     let next = boundary(form, behind)?;
-    formed.try_push(syllable).ok()?;
+    append_one(formed, syllable)?;
     Some(next)
 }
 

@@ -1,5 +1,5 @@
 //! A piece of text from one boundary to the next, whatever it is made of: by the decompositions of its characters.
-ghost use Rattle.std.specs.Prelude.{◌≡◌, ◌≢◌, ◌+◌, ℕ, List, [], ◌∷◌, ◌++◌, take, length, IfSome, IsSome, IsNone};
+ghost use Rattle.std.specs.Prelude.{◌≡◌, ◌≢◌, ◌+◌, ℕ, List, [], ◌∷◌, ◌++◌, take, length, encode_utf8_all, IfSome, IsSome, IsNone};
 ghost use Rattle.ucd_normal.specs.CanonicalCombiningClass.{canonical_combining_class};
 ghost use Rattle.nf_forms.specs.declared.form.Form.{Form};
 ghost use Rattle.nf_forms.specs.Forms.{row_of, finished};
@@ -9,7 +9,8 @@ ghost use Rattle.nf_boundary.specs.Rows.{IsRow};
 ghost use Rattle.nf_boundary.specs.Piece.{Becomes, Leaves};
 
 use crate::closed::Formed;
-use crate::closing::close_off;
+use crate::closing::{MOST_BYTES, close_off};
+use crate::encoding::append_one;
 use crate::mark::{Mark, Run, hold};
 use crate::rows::{Row, passes};
 use crate::seen::{Seen, is_own_row};
@@ -114,13 +115,13 @@ impl Piece {
     /// Appends the starter and the non-starters behind it, where there is room.
     #[inline(always)]
     pub fn close(&self, form: Form, formed: &mut Formed) -> Option<()>
-        ensures closes { IsSome result → (w before : List ℕ) → Becomes form w self.now.starter self.now.run.items before formed.old.items → formed.new.items ≡ before ++ finished form ucd w }
+        ensures closes { IsSome result → (w before : List ℕ) → Becomes form w self.now.starter self.now.run.items before formed.old.items → formed.new.items ≡ before ++ encode_utf8_all (finished form ucd w) }
         ensures stays { IsNone result → formed.new ≡ formed.old }
     {
         if self.run.is_empty() {
-            return formed.try_push(self.starter).ok();
+            return append_one(formed, self.starter);
         }
-        if formed.remaining_capacity() <= self.run.len() {
+        if formed.remaining_capacity() < MOST_BYTES {
             return None;
         }
         close_off(form, self.starter, self.run.as_slice(), formed);

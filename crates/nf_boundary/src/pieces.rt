@@ -9,9 +9,9 @@ use crate::seen::{Seen, begins_with_mark};
 use nf_facts::laws;
 use nf_forms::Form;
 
-/// Where more characters than this are there, the next piece is left for another front: it may have no room, and would then
-/// have been read in vain.
-const MOST_BEFORE: usize = 224;
+/// Where more bytes than this are there, the next piece is left for another front: it may have no room, and would then have
+/// been read in vain.
+const MOST_BEFORE: usize = 896;
 
 /// Appends what the pieces become that the text begins with, as far as boundaries come behind them; answers the last boundary.
 /// It stands out of line, to keep its callers' loops short.

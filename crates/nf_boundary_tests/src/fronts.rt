@@ -1,5 +1,5 @@
 //! Texts whose closed front was found by hand, from UnicodeData.txt and DerivedNormalizationProps.txt.
-use crate::reference::checked;
+use crate::reference::{checked, text_of};
 use nf_boundary::{Formed, closed_front};
 use nf_forms::Form;
 use std::alloc::Global;
@@ -20,16 +20,12 @@ pub(crate) fn check<T: Abort>(
 ) -> Result<(), Fail> {
     for (same, changed, formed, rest) in fronts {
         let text = format!(in alloc; "{same}{changed}{rest}")?;
-        let mut characters = Formed::new();
-        let closed = closed_front(form, &text, &mut characters);
+        let mut put = Formed::new();
+        let closed = closed_front(form, &text, &mut put);
         assert!(rt; closed.is_some(), "{form:?}: {text:?}");
         if let Some(closed) = closed {
-            let mut found = String::new(alloc);
-            for c in &characters {
-                found.push(*c)?;
-            }
             assert_eq!(rt;
-                (closed.same, found.as_str(), closed.rest),
+                (closed.same, text_of(&put), closed.rest),
                 (*same, *formed, *rest),
                 "{form:?}: {text:?}"
             );
@@ -78,8 +74,25 @@ fn composed(rt: HostRuntime) -> Result<(), Fail> {
             "cde\u{301}b",
         ),
         // ASCII before a mark that is near, and before one that is not.
-        ("", "e\u{301}cole\u{301}", "\u{E9}col\u{E9}", "s, et puis"),
-        ("", "e\u{301}", "\u{E9}", "abcdefghie\u{301}s et puis"),
+        (
+            "",
+            "e\u{301}cole\u{301}",
+            "\u{E9}col\u{E9}",
+            "s, et puis encore",
+        ),
+        (
+            "",
+            "e\u{301}",
+            "\u{E9}",
+            "abcdefghijklmnopqrstuvwxyzabcdefghijklmnopqrstuvwxyzabcdefghijkle\u{301}s, et puis",
+        ),
+        // The last letter of Cyrillic before a mark is left for it.
+        (
+            "\u{434}",
+            "\u{438}\u{306}\u{433}\u{434}\u{435}\u{438}\u{306}",
+            "\u{439}\u{433}\u{434}\u{435}\u{439}",
+            "\u{43B}\u{43C}\u{43D}\u{43E}\u{43F}\u{440}\u{441}",
+        ),
     ];
     check(&rt, rt.alloc(), Form::Nfc, &fronts)?;
     check(&rt, rt.alloc(), Form::Nfkc, &fronts)
@@ -173,10 +186,10 @@ fn letters_that_do_not_compose(rt: HostRuntime) -> Result<(), Fail> {
 /// As many as there is room for, or the front ends before them. With each letter a new run of marks begins.
 #[test]
 fn letters_up_to_the_room(rt: HostRuntime) -> Result<(), Fail> {
-    let vowels = "\u{1161}".repeat(rt.alloc(), 254)?;
+    let vowels = "\u{1161}".repeat(rt.alloc(), 324)?;
     let text = format!(in rt.alloc(); "a{vowels}b")?;
     assert_eq!(rt; checked(&rt, rt.alloc(), Form::Nfc, &text)?, Some("b"));
-    let text = format!(in rt.alloc(); "e\u{301}a{vowels}b")?;
+    let text = format!(in rt.alloc(); "e\u{301}e\u{301}a{vowels}b")?;
     let behind = format!(in rt.alloc(); "a{vowels}b")?;
     assert_eq!(rt;
         checked(&rt, rt.alloc(), Form::Nfc, &text)?,
@@ -193,9 +206,9 @@ fn letters_up_to_the_room(rt: HostRuntime) -> Result<(), Fail> {
 #[test]
 fn syllables_up_to_the_room(rt: HostRuntime) -> Result<(), Fail> {
     let letters = "\u{1112}\u{1161}\u{11AB}";
-    let many = letters.repeat(rt.alloc(), 300)?;
+    let many = letters.repeat(rt.alloc(), 400)?;
     let text = format!(in rt.alloc(); "{many}b")?;
-    let left = letters.repeat(rt.alloc(), 45)?;
+    let left = letters.repeat(rt.alloc(), 59)?;
     let behind = format!(in rt.alloc(); "{left}b")?;
     assert_eq!(rt;
         checked(&rt, rt.alloc(), Form::Nfc, &text)?,
@@ -230,9 +243,21 @@ fn decomposed(rt: HostRuntime) -> Result<(), Fail> {
             "",
             "\u{E9}col\u{1EC7}",
             "e\u{301}cole\u{323}\u{302}",
-            "s, et puis",
+            "s, et puis encore",
         ),
-        ("", "\u{E9}", "e\u{301}", "abcdefghij\u{E9}s et puis"),
+        (
+            "",
+            "\u{E9}",
+            "e\u{301}",
+            "abcdefghijklmnopqrstuvwxyzabcdefghijklmnopqrstuvwxyzabcdefghijkl\u{E9}s, et puis",
+        ),
+        // A character of which bytes do not tell that it stays, before ASCII and before another.
+        (
+            "",
+            "\u{E9}\u{2019}cole\u{E9}",
+            "e\u{301}\u{2019}colee\u{301}",
+            "\u{2019}\u{2019} et puis encore",
+        ),
     ];
     check(&rt, rt.alloc(), Form::Nfd, &fronts)?;
     check(&rt, rt.alloc(), Form::Nfkd, &fronts)?;

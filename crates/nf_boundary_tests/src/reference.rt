@@ -20,14 +20,9 @@ pub fn form_of(form: Form, alloc: Global, text: &str) -> Result<String, AllocErr
     }
 }
 
-/// What the front is said to become.
-fn spelled(alloc: Global, same: &str, formed: &Formed) -> Result<String, AllocError> {
-    let mut text = String::new(alloc);
-    text.push_str(same)?;
-    for c in formed {
-        text.push(*c)?;
-    }
-    Ok(text)
+/// What was put, which is UTF-8.
+pub fn text_of(put: &Formed) -> &str {
+    std::str::from_utf8(put.as_slice()).unwrap_or("not UTF-8")
 }
 
 /// What stands behind the closed front of the text, if one is told: the front has the form that is said, and so has what
@@ -38,8 +33,8 @@ pub fn checked<'t, T: Abort>(
     form: Form,
     text: &'t str,
 ) -> Result<Option<&'t str>, Fail> {
-    let mut characters = Formed::new();
-    let Some(closed) = closed_front(form, text, &mut characters) else {
+    let mut put = Formed::new();
+    let Some(closed) = closed_front(form, text, &mut put) else {
         return Ok(None);
     };
     let front = text.strip_suffix(closed.rest).unwrap_or("");
@@ -47,7 +42,7 @@ pub fn checked<'t, T: Abort>(
         !front.is_empty() && !closed.rest.is_empty(),
         "{form:?}: {text:?}"
     );
-    let formed = spelled(alloc, closed.same, &characters)?;
+    let formed = format!(in alloc; "{}{}", closed.same, text_of(&put))?;
     assert_eq!(rt; formed, form_of(form, alloc, front)?, "{form:?}: {front:?}");
     let before = form_of(form, alloc, BEFORE)?;
     let behind = form_of(form, alloc, closed.rest)?;

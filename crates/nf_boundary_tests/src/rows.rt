@@ -62,10 +62,10 @@ fn rows_of_several_starters(rt: HostRuntime) -> Result<(), Fail> {
     check(&rt, rt.alloc(), Form::Nfc, &left)
 }
 
-/// As many decompositions of 18 members each as there is room for, which is 14, or as stand before the 225th character.
+/// As many decompositions of 33 bytes each as leave room for the longest, of 72, which is 29, or as begin before the 897th byte.
 #[test]
 fn rows_up_to_the_room(rt: HostRuntime) -> Result<(), Fail> {
-    let rows = "\u{FDFA}".repeat(rt.alloc(), 16)?;
+    let rows = "\u{FDFA}".repeat(rt.alloc(), 31)?;
     let text = format!(in rt.alloc(); "{rows}b")?;
     assert_eq!(rt;
         checked(&rt, rt.alloc(), Form::Nfkc, &text)?,

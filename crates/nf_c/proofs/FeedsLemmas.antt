@@ -16,6 +16,8 @@ use Rattle.nf_filter.specs.Devices.{SinkState}
 use Rattle.nf_filter.specs.Settled.{settled_utf8}
 use Rattle.nf_filter.specs.Faults.{fault_in, IsOfFeeding as IsOfFilter}
 use Rattle.nf_filter.specs.Filter.{base_of, is_spent, StandsAfter as FilterStandsAfter}
+use Rattle.nf_c.specs.declared.state.State.{State}
+use Rattle.nf_c.specs.State.{StandAfter, StandsAfter}
 use Rattle.nf_c.specs.declared.feeding.Fed.{Fed}
 use Rattle.nf_c.specs.declared.room.Room.{Room}
 use Rattle.nf_c.specs.Moved.{ended, read_before}
@@ -100,6 +102,10 @@ too_little old room output before after was is breaks = omega (arith, breaks.mor
     whole : length (take room.written room.bytes.now) ≡ length room.bytes.now
     whole = ap (λ n. length (take n room.bytes.now)) (room.full breaks.failed) ∙ ap length (take-length room.bytes.now)
 
+-- the state alone
+pub StandsAfter-of : {policy : Policy} {f : Form} {state : State} {filter : FilterState} {bytes : List ℕ} → StandAfter policy f state filter bytes → StandsAfter policy f state bytes
+StandsAfter-of {filter = filter} stand = record { can = stand.can; filter = filter; saved = stand.saved; stands = stand.stands }
+
 module _ (policy : Policy) (f : Form) where
   module _ (bytes piece output : List ℕ) (was now : FilterState) where
     -- nothing was fed
@@ -171,9 +177,9 @@ module _ (policy : Policy) (f : Form) where
     seam : fed.read ≤ length (slice_range input read b) → behind ++ take fed.read (slice_range input read b) ≡ bytes ++ take (read + fed.read) input
     seam within = append_assoc bytes (take read input) (take fed.read (slice_range input read b)) ∙ ap (λ l. bytes ++ l) (slice_seam input read b fed.read within)
 
-    pub FeedsFront-next : ((bs : List ℕ) → FilterStandsAfter policy f ucd between bs → FeedsFront policy f bs (slice_range input read b) part between now fed)
+    pub FeedsFront-next : FeedsFront policy f behind (slice_range input read b) part between now fed
         → FeedsFront policy f bytes input after was now (record { read = read + fed.read; written = written + fed.written; fault = fed.fault })
-    FeedsFront-next next = record {
+    FeedsFront-next second = record {
       read = omega (arith, second.read, length-take (b - read) (drop read input), order, fits);
       written = omega (arith, first.written, second.written, kept, rest);
       settles = sym (ap (settled_utf8 policy f ucd) same) ∙ second.settles ∙ ap (λ l. l ++ take fed.written part) first.settles
@@ -185,16 +191,13 @@ module _ (policy : Policy) (f : Form) where
       among = second.among;
     }
       where
-        second : FeedsFront policy f behind (slice_range input read b) part between now fed
-        second = next behind (first.stands refl)
-
         same : behind ++ take fed.read (slice_range input read b) ≡ bytes ++ take (read + fed.read) input
         same = seam second.read
 
     -- of a slice of one byte, or of any that finds no room
-    pub full_next : ((bs : List ℕ) → FilterStandsAfter policy f ucd between bs → length (settled_utf8 policy f ucd bs) + length part < length (settled_utf8 policy f ucd (bs ++ slice_range input read b)))
+    pub full_next : length (settled_utf8 policy f ucd behind) + length part < length (settled_utf8 policy f ucd (behind ++ slice_range input read b))
         → b ≡ read + 1 → (n : ℕ) → n ≡ read + 1 → length (settled_utf8 policy f ucd bytes) + length after < length (settled_utf8 policy f ucd (bytes ++ take n input))
-    full_next full one n is = omega (arith, kept, full behind (first.stands refl), ap length first.settles, length-append (settled_utf8 policy f ucd bytes) (take written before), length-take written before, first.written, rest, ap (λ l. length (settled_utf8 policy f ucd l)) same)
+    full_next full one n is = omega (arith, kept, full, ap length first.settles, length-append (settled_utf8 policy f ucd bytes) (take written before), length-take written before, first.written, rest, ap (λ l. length (settled_utf8 policy f ucd l)) same)
       where
         same : behind ++ slice_range input read b ≡ bytes ++ take n input
         same = append_assoc bytes (take read input) (slice_range input read b) ∙ ap (λ l. bytes ++ l) (sym (take-add read (b - read) input) ∙ ap (λ k. take k input) (omega (arith, order, one, is)))

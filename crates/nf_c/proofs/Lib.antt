@@ -2,3 +2,5 @@ pub mod FeedsLemmas
 pub mod FinishesLemmas
 pub mod ConvertsLemmas
 pub mod ChecksLemmas
+pub mod PassingLemmas
+pub mod PassedLemmas

@@ -1,5 +1,6 @@
 -- What feeding takes of the caller's input, and gives to the caller's output.
 use Rattle.std.specs.Prelude.{◌≡◌, ◌↔◌, true, false, Bool, ℕ, ◌+◌, ◌≤◌, ◌<◌, ◌^◌, List, [], ◌∷◌, ◌++◌, length, take, Option, Some, None, IfSome}
+use Rattle.std.specs.Str.{IsAscii}
 use Rattle.nf_forms.specs.Ucd.{ucd}
 use Rattle.nf_forms.specs.declared.form.Form.{Form}
 use Rattle.nf_filter.specs.declared.fault.Fault.{Fault}
@@ -14,7 +15,7 @@ use Rattle.nf_c.specs.declared.feeding.Fed.{Fed}
 use Rattle.nf_c.specs.declared.moved.Moved.{Moved}
 use Rattle.nf_c.specs.declared.state.State.{State}
 use Rattle.nf_c.specs.Moved.{ended, read_before}
-use Rattle.nf_c.specs.State.{CanStand, StandsAfter}
+use Rattle.nf_c.specs.State.{CanStand, IsCalm, StandsAfter}
 
 -- the text ends there: a full output or too long an input does not end it
 abbrev pub ends : Option Fault → Bool
@@ -66,3 +67,12 @@ pub record Feeds (policy : Policy) (f : Form) (bytes input : List ℕ) (old new 
   -- too long is told where the offset behind the input would be no `u64`, and then nothing was read
   pub too_long : (fault ≡ Some TooLong) ↔ (2 ^ 64 ≤ old.offset + length input)
   pub nothing : fault ≡ Some TooLong → (seen ≡ 0) × (written ≡ 0) × (new ≡ old)
+
+-- the first so many bytes of the input are ASCII behind an ASCII character, and what goes out for them has room: they are all, or
+-- there is room for no more, and the next is ASCII too
+pub record CanPass (state : State) (input : List ℕ) (space len : ℕ) : Type 0 where
+  pub calm : IsCalm state
+  pub within : len ≤ length input
+  pub room : len ≤ space
+  pub ascii : IsAscii (take len input)
+  pub more : len < length input → (len ≡ space) × IsAscii (take (len + 1) input)

@@ -1,5 +1,5 @@
 -- What the numbers of a state in the caller's memory say.
-use Rattle.std.specs.Prelude.{◌≡◌, ℕ, ◌/◌, ◌%◌, ◌≤◌, ◌⊎◌, ◌==◌, nat_le, List, take, map, Option, Some, None, if◌then◌else◌, All}
+use Rattle.std.specs.Prelude.{◌≡◌, ℕ, ◌/◌, ◌%◌, ◌≤◌, ◌<◌, ◌⊎◌, ◌==◌, nat_le, List, take, map, Option, Some, None, if◌then◌else◌, All}
 use Rattle.std.specs.Char.{IsScalar}
 use Rattle.nf_forms.specs.Ucd.{ucd}
 use Rattle.nf_forms.specs.declared.form.Form.{Form}
@@ -83,3 +83,19 @@ pub record StandsAfter (policy : Policy) (f : Form) (state : State) (bytes : Lis
   pub filter : FilterState
   pub saved : saved_of filter ≡ unpacked state
   pub stands : FilterStandsAfter policy f ucd filter bytes
+
+-- so it is, and the filter is the one that was made of it
+pub record StandAfter (policy : Policy) (f : Form) (state : State) (filter : FilterState) (bytes : List ℕ) : Type 0 where
+  pub can : CanStand state
+  pub saved : saved_of filter ≡ unpacked state
+  pub stands : FilterStandsAfter policy f ucd filter bytes
+
+-- it is that of a filter which holds nothing but an ASCII character
+pub record IsCalm (state : State) : Type 0 where
+  pub can : CanStand state
+  pub unspent : state.spent ≡ 0
+  pub held : state.held_len ≡ 0
+  pub marks : state.marks_len ≡ 0
+  pub starter : state.starter < 0x80
+  pub count : state.count ≡ 0
+  pub chars : state.chars ≤ state.offset

@@ -10,6 +10,7 @@ use crate::feeding::{Fed, feed_all, is_full};
 use crate::finishing::finish_filter;
 use crate::moved::Moved;
 use crate::packing::{form_of, policy_of};
+use crate::starting::kept;
 use crate::status::Status;
 use nf_filter::{Filter, Policy};
 use nf_row::{Form, Ucd};
@@ -37,7 +38,8 @@ fn convert_text(form: Form, policy: Policy, input: &[u8], output: &mut [u8]) -> 
 {
     longest_text();
     let mut filter = Filter::quickest(&Ucd, form, 0).policy(policy);
-    let fed = feed_all(form, &mut filter, input, output);
+    let mut state = kept(&filter);
+    let fed = feed_all(&mut state, &mut filter, input, output);
     if fed.fault.is_some() {
         return fed;
     }

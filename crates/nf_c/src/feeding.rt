@@ -1,25 +1,25 @@
-ghost use Rattle.std.specs.Prelude.{◌≡◌, ◌+◌, ◌≤◌, ◌<◌, ◌↔◌, ℕ, List, ◌++◌, length, take, Some, None, true, false, IsTrue, IsFalse};
+ghost use Rattle.std.specs.Prelude.{◌≡◌, ◌+◌, ◌≤◌, ◌<◌, ◌↔◌, ℕ, List, ◌++◌, length, take, Some, None, IsTrue, IsFalse};
 ghost use Rattle.nf_forms.specs.Ucd.{ucd};
 ghost use Rattle.nf_forms.specs.declared.form.Form.{Form};
 ghost use Rattle.nf_filter.specs.declared.fault.Fault.TheVariants.{Write, TooLong as TooLongFault};
 ghost use Rattle.nf_filter.specs.declared.policy.Policy.{Policy};
-ghost use Rattle.nf_filter.specs.Filter.{state_of, offset_of, StandsAfter as FilterStandsAfter};
+ghost use Rattle.nf_filter.specs.Filter.{state_of, offset_of};
 ghost use Rattle.nf_filter.specs.Settled.{settled_utf8};
 ghost use Rattle.nf_c.specs.Feeds.{ends, FeedsFront, Feeds};
-ghost use Rattle.nf_c.specs.State.{CanStand, StandsAfter, unpacked};
+ghost use Rattle.nf_c.specs.State.{CanStand, StandAfter, StandsAfter};
 ghost use Rattle.nf_c.specs.Moved.{moved};
 ghost use Rattle.nf_c.specs.declared.status.Status.TheVariants.{NoState, Spent, TooLong};
 
 use crate::guess::Guess;
 use crate::moved::Moved;
-use crate::packing::pack;
+use crate::passing::{pass, passing_len};
 use crate::room::Room;
-use crate::starting::{filter_of, go_back};
+use crate::starting::{filter_of, go_back, kept};
 use crate::state::State;
 use crate::status::Status;
 use nf_facts::laws::every_character_is_sound;
 use nf_filter::{Fault, Filter};
-use nf_row::{Form, Ucd};
+use nf_row::Ucd;
 
 /// How many bytes were read and written, and the fault that ended that; `Write` where the next byte finds no room.
 #[derive(Clone, Copy)]
@@ -39,6 +39,10 @@ pub fn feed(state: &mut State, input: &[u8], output: &mut [u8]) -> Moved
     ensures spent { CanStand state.old → state.old.spent ≡ 1 → (result ≡ moved Spent 0 0) × (state.new ≡ state.old) }
     ensures feeds { (policy : Policy) (f : Form) (bytes : List ℕ) → StandsAfter policy f state.old bytes → Feeds policy f bytes input.now state.old state.new output.new result }
 {
+    let len = passing_len(state, input, output.len());
+    if len > 0 && !is_too_long(state, input) {
+        return pass(state, input, len, output);
+    }
     let Some(mut filter) = filter_of(state) else {
         return Moved::of(Status::NoState, 0, 0);
     };
@@ -49,10 +53,8 @@ pub fn feed(state: &mut State, input: &[u8], output: &mut [u8]) -> Moved
         return Moved::of(Status::TooLong, 0, 0);
     }
     let offset = state.offset;
-    let form = filter.save().form;
-    let fed = feed_all(form, &mut filter, input, output);
-    let after = filter.save();
-    *state = pack(&after);
+    let fed = feed_all(state, &mut filter, input, output);
+    *state = kept(&filter);
     Moved::within(fed.fault, offset, input.len(), fed.read, fed.written)
 }
 
@@ -64,30 +66,40 @@ fn is_too_long(state: &State, input: &[u8]) -> bool
     state.offset.checked_add(input.len() as u64).is_none()
 }
 
-/// Feeds as much of the input as there is room for, piece by piece.
-pub fn feed_all(form: Form, filter: &mut Filter<'_, Ucd>, input: &[u8], output: &mut [u8]) -> Fed
+/// Feeds as much of the input as there is room for, piece by piece. The filter is that of the state, which stands where it
+/// can go back to, and at the end behind no more than the filter.
+pub fn feed_all(
+    state: &mut State,
+    filter: &mut Filter<'_, Ucd>,
+    input: &[u8],
+    output: &mut [u8],
+) -> Fed
     ensures all { result.fault ≡ None → result.read ≡ length input.now }
     ensures read { result.read ≤ length input.now }
     ensures written { result.written ≤ length output.new }
-    ensures fits { offset_of (state_of filter.old) + length input.now ≤ u64.MAX → ¬ (result.fault ≡ Some TooLongFault) }
-    ensures feeds { (policy : Policy) (f : Form) (bytes : List ℕ) → FilterStandsAfter policy f ucd (state_of filter.old) bytes
-        → FeedsFront policy f bytes input.now output.new (state_of filter.old) (state_of filter.new) result }
-    ensures full { (policy : Policy) (f : Form) (bytes : List ℕ) → FilterStandsAfter policy f ucd (state_of filter.old) bytes → result.fault ≡ Some Write
-        → length (settled_utf8 policy f ucd bytes) + length output.new < length (settled_utf8 policy f ucd (bytes ++ take (result.read + 1) input.now)) }
+    ensures feeds { (policy : Policy) (f : Form) (bytes : List ℕ) → StandAfter policy f state.old (state_of filter.old) bytes
+        → FeedsFront policy f bytes input.now output.new (state_of filter.old) (state_of filter.new) result
+        × (offset_of (state_of filter.old) + length input.now ≤ u64.MAX → ¬ (result.fault ≡ Some TooLongFault))
+        × (result.fault ≡ Some Write → length (settled_utf8 policy f ucd bytes) + length output.new < length (settled_utf8 policy f ucd (bytes ++ take (result.read + 1) input.now))) }
 {
-    let mut guess = Guess::new(form);
+    let mut guess = Guess::new(state.form);
     let mut read = 0;
     let mut written = 0;
     while read < input.len() {
         let len = guess.len(output.len() - written, input.len() - read);
-        let fed = try_piece(filter, &input[read..read + len], &mut output[written..]);
+        let fed = try_piece(
+            state,
+            filter,
+            &input[read..read + len],
+            &mut output[written..],
+        );
         if is_full(fed.fault) && len > 1 {
             guess.refused(len);
             continue;
         }
         read += fed.read;
         written += fed.written;
-        if fed.fault.is_some() {
+        if fed.fault.is_some() || read == input.len() {
             return Fed {
                 read,
                 written,
@@ -95,6 +107,7 @@ pub fn feed_all(form: Form, filter: &mut Filter<'_, Ucd>, input: &[u8], output: 
             };
         }
         guess.fed(len, fed.written);
+        *state = kept(filter);
     }
     Fed {
         read,
@@ -103,21 +116,19 @@ pub fn feed_all(form: Form, filter: &mut Filter<'_, Ucd>, input: &[u8], output: 
     }
 }
 
-/// Feeds the piece; where it finds no room, or is too long, nothing of it.
-fn try_piece(filter: &mut Filter<'_, Ucd>, piece: &[u8], output: &mut [u8]) -> Fed
+/// Feeds the piece; where it finds no room, or is too long, nothing of it: the filter goes back to the state.
+fn try_piece(state: &State, filter: &mut Filter<'_, Ucd>, piece: &[u8], output: &mut [u8]) -> Fed
     ensures read { result.read ≤ length piece.now }
     ensures written { result.written ≤ length output.new }
     ensures whole { result.fault ≡ None → result.read ≡ length piece.now }
     ensures nothing { result.fault ≡ Some Write → (result.read ≡ 0) × (result.written ≡ 0) }
     ensures too_long { result.fault ≡ Some TooLongFault → u64.MAX < offset_of (state_of filter.old) + length piece.now }
-    ensures offset { ends result.fault ≡ false → offset_of (state_of filter.new) ≡ offset_of (state_of filter.old) + result.read }
-    ensures feeds { (policy : Policy) (f : Form) (bytes : List ℕ) → FilterStandsAfter policy f ucd (state_of filter.old) bytes
+    ensures feeds { (policy : Policy) (f : Form) (bytes : List ℕ) → StandAfter policy f state.now (state_of filter.old) bytes
         → FeedsFront policy f bytes piece.now output.new (state_of filter.old) (state_of filter.new) result }
-    ensures full { (policy : Policy) (f : Form) (bytes : List ℕ) → FilterStandsAfter policy f ucd (state_of filter.old) bytes → result.fault ≡ Some Write
-        → length (settled_utf8 policy f ucd bytes) + length output.new < length (settled_utf8 policy f ucd (bytes ++ piece.now)) }
+    ensures full { (policy : Policy) (f : Form) (bytes : List ℕ) → StandAfter policy f state.now (state_of filter.old) bytes → result.fault ≡ Some Write
+        → StandAfter policy f state.now (state_of filter.new) bytes × (length (settled_utf8 policy f ucd bytes) + length output.new < length (settled_utf8 policy f ucd (bytes ++ piece.now))) }
 {
     every_character_is_sound();
-    let before = filter.save();
     let mut room = Room::over(output);
     let Err(fault) = filter.feed(piece, &mut room) else {
         return Fed {
@@ -133,7 +144,7 @@ fn try_piece(filter: &mut Filter<'_, Ucd>, piece: &[u8], output: &mut [u8]) -> F
             fault: Some(fault),
         };
     }
-    go_back(filter, before);
+    go_back(filter, state);
     Fed {
         read: 0,
         written: 0,

@@ -1,8 +1,6 @@
 //! How much to feed at once, where the output has to take all that it settles. A wrong guess costs time alone.
 ghost use Rattle.std.specs.Prelude.{◌≡◌, ◌<◌, ◌≤◌};
 
-use nf_row::Form;
-
 /// What is pending, a joiner and a decomposition, 4 bytes a code point: room that one byte of input never fills.
 const LEAST: usize = 256;
 
@@ -33,13 +31,10 @@ pub struct Guess {
 }
 
 impl Guess {
-    pub fn new(form: Form) -> Guess {
-        let growth = match form {
-            Form::Nfc | Form::Nfd => 3,
-            Form::Nfkc | Form::Nfkd => 11,
-        };
+    /// By the form's number: 1 and 2 are canonical.
+    pub fn new(form: u8) -> Guess {
         Guess {
-            growth,
+            growth: if form <= 2 { 3 } else { 11 },
             pace: Pace::New,
             most: usize::MAX,
         }

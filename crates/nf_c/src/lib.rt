@@ -9,6 +9,7 @@ mod finishing;
 mod guess;
 mod moved;
 mod packing;
+mod passing;
 mod room;
 mod starting;
 mod state;

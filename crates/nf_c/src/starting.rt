@@ -1,19 +1,18 @@
-ghost use Rattle.std.specs.Prelude.{◌≡◌, ◌↔◌, ℕ, List, [], IsSome, IfSome};
+ghost use Rattle.std.specs.Prelude.{◌≡◌, ◌↔◌, ℕ, List, [], IsSome, IfSome, IsTrue};
 ghost use Rattle.nf_forms.specs.Ucd.{ucd};
 ghost use Rattle.nf_forms.specs.declared.form.Form.{Form};
-ghost use Rattle.nf_filter.specs.declared.filter.State.{State as FilterState};
 ghost use Rattle.nf_filter.specs.declared.policy.Policy.{Policy};
-ghost use Rattle.nf_filter.specs.Filter.{state_of, base_of, offset_of, StandsAfter as FilterStandsAfter};
-ghost use Rattle.nf_filter.specs.Saved.{saved_of, IsRestorable};
+ghost use Rattle.nf_filter.specs.Filter.{state_of, is_spent, StandsAfter as FilterStandsAfter};
+ghost use Rattle.nf_filter.specs.Saved.{saved_of};
 ghost use Rattle.nf_row.specs.Ascii.{IsPlainAscii};
-ghost use Rattle.nf_c.specs.State.{IsForm, IsPolicy, form_at, policy_at, CanStand, StandsAfter, unpacked};
+ghost use Rattle.nf_c.specs.State.{form_at, policy_at, CanStand, StandAfter, StandsAfter, unpacked};
 ghost use Rattle.nf_c.specs.Starts.{start_status};
 ghost use Rattle.nf_c.specs.declared.status.Status.TheVariants.{Done};
 
 use crate::packing::{form_of, pack, policy_of, unpack};
 use crate::state::State;
 use crate::status::Status;
-use nf_filter::{Filter, Saved};
+use nf_filter::Filter;
 use nf_row::{Plain, Rows, Ucd};
 
 /// A state that has read nothing. The first byte to come has the offset `base`.
@@ -30,7 +29,7 @@ pub fn start(state: &mut State, form: u32, policy: u32, base: u64) -> Status
         return Status::NoPolicy;
     };
     let filter = Filter::quickest(&Ucd, form, base).policy(policy);
-    *state = pack(&filter.save());
+    *state = kept(&filter);
     Status::Done
 }
 
@@ -46,30 +45,26 @@ pub fn filter_of(state: &State) -> Option<Filter<'static, Ucd>>
     }
 }
 
-/// The filter that was saved; none where by what is counted and pending no filter can stand there.
-pub fn restored(saved: Saved) -> Option<Filter<'static, Ucd>>
-    ensures some { IsSome result ↔ IsRestorable ucd saved }
-    ensures stands { (policy : Policy) (f : Form) (state : FilterState) (bytes : List ℕ) → FilterStandsAfter policy f ucd state bytes → saved_of state ≡ saved
-        → IfSome result (λ filter. FilterStandsAfter policy f ucd (state_of filter) bytes) }
-    ensures saved { IfSome result (λ filter. saved_of (state_of filter) ≡ saved) }
+/// The state of a filter.
+pub fn kept(filter: &Filter<'_, Ucd>) -> State
+    ensures saved { unpacked result ≡ saved_of (state_of filter.now) }
+    ensures spent { IsTrue (is_spent (state_of filter.now)) → CanStand result }
+    ensures stands { (policy : Policy) (f : Form) (bytes : List ℕ) → FilterStandsAfter policy f ucd (state_of filter.now) bytes → StandAfter policy f result (state_of filter.now) bytes }
 {
-    Filter::restore(plain(), saved)
+    pack(&filter.save())
 }
 
-/// Puts the filter back to where it was saved, if a filter can stand there.
-pub fn go_back(filter: &mut Filter<'_, Ucd>, before: Saved)
-    ensures stands { (policy : Policy) (f : Form) (state : FilterState) (bytes : List ℕ) → FilterStandsAfter policy f ucd state bytes → saved_of state ≡ before → IsRestorable ucd before
-        → FilterStandsAfter policy f ucd (state_of filter.new) bytes }
-    ensures base { base_of (state_of filter.old) ≡ before.base → base_of (state_of filter.new) ≡ before.base }
-    ensures offset { offset_of (state_of filter.old) ≡ before.offset → offset_of (state_of filter.new) ≡ before.offset }
+/// Puts the filter back to where the state stands, if a filter can stand there.
+pub fn go_back(filter: &mut Filter<'_, Ucd>, state: &State)
+    ensures { (policy : Policy) (f : Form) (bytes : List ℕ) → StandsAfter policy f state.now bytes → StandAfter policy f state.now (state_of filter.new) bytes }
 {
-    if let Some(back) = restored(before) {
+    if let Some(back) = filter_of(state) {
         *filter = back;
     }
 }
 
 // Unicode's data, of which ASCII is plain.
-fn plain() -> Plain<'static, Ucd>
+pub fn plain() -> Plain<'static, Ucd>
     ensures { IsPlainAscii ucd }
 {
     let _known = Ucd.all_ascii_plain();

@@ -15,6 +15,14 @@ pub record BeginsAndMarks (p : Properties) (f : Form) (x : List ℕ) : Type 0 wh
   pub parting : IsParting p f first
   pub no_starter : has_starter p marks ≡ false
 
+-- the text is calm text of sound characters, and a rest
+pub record IsCalmText (p : Properties) (f : Form) (whole calm rest : List ℕ) : Type 0 where
+  pub text : whole ≡ calm ++ rest
+  pub class : ℕ
+  pub count : ℕ
+  pub is_calm : IsCalm p f (chars calm) class count
+  pub sound : IsSoundText p (chars calm)
+
 -- the text begins with calm text of sound characters, of which `settled` stands before the last that parts a text, and
 -- `tail` is the rest; either both are empty, or `tail` is not
 pub record IsCalmFront (p : Properties) (f : Form) (whole settled tail rest : List ℕ) : Type 0 where

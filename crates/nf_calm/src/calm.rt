@@ -1,5 +1,7 @@
 ghost use Rattle.std.specs.Prelude.{◌≡◌, [], ◌++◌};
 
+use crate::cut::split_last_starter;
+
 /// A text in three, by how far its front is calm: such text goes into the form, and into the stream-safe text, as it is
 /// (UAX #15, sections 9 and 13).
 #[derive(Clone, Copy, Debug, PartialEq, Eq)]
@@ -11,6 +13,35 @@ pub struct Calm<'t> {
     pub tail: &'t str,
     /// What stands behind it.
     pub rest: &'t str,
+}
+
+/// A text in two, by how far its front is calm.
+#[derive(Clone, Copy, Debug)]
+pub struct CalmText<'t> {
+    pub calm: &'t str,
+    /// What stands behind it.
+    pub rest: &'t str,
+}
+
+impl<'t> CalmText<'t> {
+    ghost use Rattle.std.specs.Prelude.{ℕ, List};
+    ghost use Rattle.nf_forms.specs.declared.form.Form.{Form};
+    ghost use Rattle.nf_forms.specs.Ucd.{ucd};
+    ghost use Rattle.nf_calm.specs.Front.{IsCalmText, IsCalmFront};
+
+    /// The same in three, before the last starter of what is calm.
+    #[inline(always)]
+    pub fn split(self) -> Calm<'t>
+        ensures { (f : Form) (whole : List ℕ) → IsCalmText ucd f whole self.entry.calm.now self.entry.rest.now
+            → IsCalmFront ucd f whole result.settled.now result.tail.now result.rest.now }
+    {
+        let (settled, tail) = split_last_starter(self.calm);
+        Calm {
+            settled,
+            tail,
+            rest: self.rest,
+        }
+    }
 }
 
 impl<'t> Calm<'t> {

@@ -1,9 +1,10 @@
+ghost use Rattle.std.specs.Prelude.{IfSome};
 ghost use Rattle.nf_forms.specs.Ucd.{ucd};
-ghost use Rattle.nf_calm.specs.Front.{IsCalmFront};
+ghost use Rattle.nf_calm.specs.Front.{IsCalmFront, IsCalmText};
 ghost use Rattle.nf_calm.specs.Scan.{Reaches, Ends};
 
-use crate::calm::Calm;
-use crate::cut::split_last_starter;
+use crate::calm::{Calm, CalmText};
+use crate::lanes::near_len;
 use crate::scan::Scan;
 use nf_facts::laws;
 use nf_forms::Form;
@@ -12,14 +13,39 @@ use nf_forms::Form;
 pub fn calm_front(form: Form, text: &str) -> Calm<'_>
     ensures { IsCalmFront ucd form text.now result.settled.now result.tail.now result.rest.now }
 {
-    laws::every_character_is_sound();
-    let (calm, rest) = text.split_at(text.len() - calm_end(form, text).rest.len());
-    let (settled, tail) = split_last_starter(calm);
-    Calm {
-        settled,
-        tail,
-        rest,
+    calm_text(form, text).split()
+}
+
+/// The same in two.
+#[inline]
+pub fn calm_text(form: Form, text: &str) -> CalmText<'_>
+    ensures { IsCalmText ucd form text.now result.calm.now result.rest.now }
+{
+    text_before(form, text, calm_end(form, text))
+}
+
+/// The same as far as bytes tell, where something is calm, and a character that has to be looked up is near.
+#[inline(always)]
+pub fn near_text(form: Form, text: &str) -> Option<CalmText<'_>>
+    ensures { IfSome result (λ near. IsCalmText ucd form text.now near.calm.now near.rest.now) }
+{
+    let begin = Scan::new(text);
+    let len = near_len(form, begin.rest.as_bytes())?;
+    if len == 0 {
+        return None;
     }
+    Some(text_before(form, text, begin.past(form, len)))
+}
+
+/// The text in two, at a place before which it is calm.
+#[inline(always)]
+fn text_before<'t>(_form: Form, text: &'t str, end: Scan<'t>) -> CalmText<'t>
+    requires { Reaches _form text.now end }
+    ensures { IsCalmText ucd _form text.now result.calm.now result.rest.now }
+{
+    laws::every_character_is_sound();
+    let (calm, rest) = text.split_at(text.len() - end.rest.len());
+    CalmText { calm, rest }
 }
 
 /// Where the calm front ends. Each form has a copy of the loop of its own.

@@ -1,4 +1,4 @@
-ghost use Rattle.std.specs.Prelude.{◌≡◌, ◌<◌, ◌≤◌, ◌+◌, ℕ, false, length, slice_index, map};
+ghost use Rattle.std.specs.Prelude.{◌≡◌, ◌<◌, ◌≤◌, ◌+◌, ℕ, false, length, slice_index, map, IfSome};
 ghost use Rattle.nf_lanes.specs.Lanes.{places, bits_at};
 ghost use Rattle.nf_calm.specs.Leads.{lead_bits, wants_look};
 ghost use Rattle.nf_calm.specs.Closer.{wants_pair, wants_triple, asked_of, look_at, IsPlainRun};
@@ -14,6 +14,9 @@ use std::simd::u8x16;
 
 /// The bytes that are looked at together, and the two behind the last of them.
 const ROOM: usize = LANES + 2;
+
+/// So many bytes are looked at for text that is not calm.
+const NEAR: usize = 128;
 
 /// How many bytes there are before the first that begins a character that has to be looked up, where there is none before
 /// `from`.
@@ -36,6 +39,46 @@ pub(crate) fn plain_len(form: Form, bytes: &[u8], from: usize) -> usize
     by_bytes(form, bytes, at)
 }
 
+/// The same, where such a byte is one of the next 128 or so.
+#[inline(always)]
+pub(crate) fn near_len(form: Form, bytes: &[u8]) -> Option<usize>
+    ensures within { IfSome result (λ len. len ≤ length bytes.now) }
+    ensures plain { IfSome result (λ len. (k : ℕ) → k < len → look_at form bytes.now k ≡ false) }
+    ensures begins { IfSome result (λ len. len < length bytes.now → 192 ≤ slice_index bytes.now len) }
+{
+    let mut at = 0;
+    while at < NEAR && bytes.len() - at >= ROOM {
+        let run = near_run(form, bytes, at);
+        if run < LANES {
+            return Some(at + run);
+        }
+        at += LANES;
+    }
+    None
+}
+
+/// How many of the bytes from `at` on stand before such a byte, or before one that most likely is.
+#[inline(always)]
+fn near_run(form: Form, bytes: &[u8], at: usize) -> usize
+    requires room { at + 18 ≤ length bytes.now }
+    ensures { IsPlainRun form bytes.now at result }
+{
+    let run = lead_run(form, bytes, at);
+    if run == LANES || is_changed(form, bytes[at + run], bytes[at + run + 1]) {
+        return run;
+    }
+    asked_run(form, bytes, at, run)
+}
+
+/// Whether the form changes most of what begins so, of two bytes, or symbols, syllables of Hangul, letters of Latin and Greek
+/// with marks, and letters of another width where letters are taken apart.
+#[inline(always)]
+fn is_changed(form: Form, lead: u8, next: u8) -> bool {
+    lead < 0xE0
+        || !form.composes()
+            && (matches!(lead, 0xE2 | 0xEA..=0xED | 0xEF) || lead == 0xE1 && next >= 0xB8)
+}
+
 /// How many of the bytes from `at` on stand before such a byte. Two or three bytes are asked only where the lead byte
 /// does not tell.
 #[inline(always)]
@@ -43,11 +86,31 @@ fn plain_run(form: Form, bytes: &[u8], at: usize) -> usize
     requires room { at + 18 ≤ length bytes.now }
     ensures { IsPlainRun form bytes.now at result }
 {
-    let found = looks(form, bytes, at);
-    let run = before(found);
+    let run = lead_run(form, bytes, at);
     if run == LANES {
         return run;
     }
+    asked_run(form, bytes, at, run)
+}
+
+/// The same as far as lead bytes tell.
+#[inline(always)]
+fn lead_run(form: Form, bytes: &[u8], at: usize) -> usize
+    requires room { at + 16 ≤ length bytes.now }
+    ensures { IsPlainRun form bytes.now at result }
+{
+    let found = looks(form, bytes, at);
+    before(found)
+}
+
+/// The same, where `run` is as far as lead bytes tell, and the bytes behind the next one are asked.
+#[inline(always)]
+fn asked_run(form: Form, bytes: &[u8], at: usize, run: usize) -> usize
+    requires room { at + 18 ≤ length bytes.now }
+    requires some { run < 16 }
+    requires run { IsPlainRun form bytes.now at run }
+    ensures { IsPlainRun form bytes.now at result }
+{
     let lead = bytes[at + run];
     match lead / 16 {
         0xD => before(pair_looks(form, bytes, at)),

@@ -17,6 +17,6 @@ mod plain;
 mod scan;
 mod wide;
 
-pub use calm::Calm;
-pub use front::calm_front;
+pub use calm::{Calm, CalmText};
+pub use front::{calm_front, calm_text, near_text};
 pub use plain::plain_front;

@@ -81,7 +81,7 @@ impl<'t> Scan<'t> {
 
     /// Behind so many bytes that begin no character that has to be looked up.
     #[inline(always)]
-    fn past(self, form: Form, len: usize) -> Scan<'t>
+    pub fn past(self, form: Form, len: usize) -> Scan<'t>
         requires within { len ≤ length self.rest.now }
         requires plain { (k : ℕ) → k < len → look_at form self.rest.now k ≡ false }
         requires begins { len < length self.rest.now → 192 ≤ slice_index self.rest.now len }

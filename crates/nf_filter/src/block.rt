@@ -1,10 +1,10 @@
-ghost use Rattle.std.specs.Prelude.{◌≡◌, ◌+◌, ◌<◌, ◌≤◌, ◌↔◌, ◌⊎◌, [], length, MatchResult, Ok, Err, IfErr, OnOk, IsTrue, encode_utf8_all, ◌++◌, ℕ, List};
+ghost use Rattle.std.specs.Prelude.{◌≡◌, ◌+◌, ◌<◌, ◌≤◌, ◌↔◌, ◌⊎◌, [], length, MatchResult, Ok, Err, IfErr, OnOk, IsTrue, ◌++◌, ℕ, List};
 ghost use Rattle.nf_filter.specs.declared.fault.Fault.TheVariants.{Write as WriteFault};
 ghost use Rattle.nf_filter.specs.Writes.{Puts, BreaksOff};
 
 use crate::devices::{Failed, Sink};
 use crate::fault::Fault;
-use nf_normalizer::{ROOM, Room, put_utf8};
+use nf_normalizer::{ROOM, Room};
 use nf_row::Formed;
 
 /// What is to go to a sink: it keeps up to 4,096 bytes, in place, that go there together.
@@ -60,7 +60,7 @@ impl Block {
         put_all(sink, text.as_bytes(), self.most)
     }
 
-    /// Appends the text, and then the UTF-8 of the characters. Where that might not fit, the sink is given first what is kept.
+    /// Appends the text, and then what is in the form. Where that does not fit, the sink is given first what is kept.
     #[inline]
     pub fn push_form<S: Sink>(
         &mut self,
@@ -70,15 +70,15 @@ impl Block {
     ) -> Result<(), Failed>
         ensures lender { (S.state sink.new).lender ≡ (S.state sink.old).lender }
         ensures writes { (start : Start) (w : List ℕ) → Written start (block_state (S.state sink.old) self.old) w
-            → WritesOn start (block_state (S.state sink.new) self.new) (w ++ (same.now ++ encode_utf8_all formed.now.items)) result }
+            → WritesOn start (block_state (S.state sink.new) self.new) (w ++ (same.now ++ formed.now.items)) result }
     {
         if let Err(failed) = self.push_text(same, sink) {
             return Err(failed);
         }
-        if let Err(failed) = self.make_room(4 * formed.len(), sink) {
+        if let Err(failed) = self.make_room(formed.len(), sink) {
             return Err(failed);
         }
-        put_utf8(&mut self.room, formed.as_slice());
+        self.room.try_extend_from_slice(formed.as_slice()).unwrap();
         Ok(())
     }
 

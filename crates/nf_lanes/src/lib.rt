@@ -6,4 +6,4 @@ mod lanes;
 mod sets;
 
 pub use lanes::{LANES, at_least, before, bits, bits_of_either, none_of};
-pub use sets::{Pairs, Triples, byte_sets, pair_sets, triple_sets};
+pub use sets::{Pairs, Triples, byte_sets, pair_sets, pair_sets_within, triple_sets};

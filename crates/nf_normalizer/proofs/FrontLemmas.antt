@@ -104,26 +104,27 @@ module _ (p : Properties) where
 
     -- ---- a closed front
     module _ (text same formed rest : List ℕ) (closed : IsClosedFront p f text same formed rest) where
-      whole : safe_form f p (x ++ chars closed.front) ≡ safe_form f p x ++ (chars same ++ formed)
-      whole = safe_form-closed p f x (chars closed.front) (chars same ++ formed) sound closed.form
+      whole : safe_form f p (x ++ chars closed.front) ≡ safe_form f p x ++ (chars same ++ closed.more)
+      whole = safe_form-closed p f x (chars closed.front) (chars same ++ closed.more) sound closed.form
 
       pub usable-closed : is_usable p (x ++ chars closed.front) ≡ true
       unfolding is_usable
-      usable-closed = sound-closed p f x (chars closed.front) (chars same ++ formed) sound closed.form
+      usable-closed = sound-closed p f x (chars closed.front) (chars same ++ closed.more) sound closed.form
 
       pub joins-closed : Joins p x (chars closed.front) 0
       joins-closed =
-          omega (arith, ap length (stream_safe-closed p f x (chars closed.front) (chars same ++ formed) sound closed.form), length-append (stream_safe p x) (chars closed.front))
+          omega (arith, ap length (stream_safe-closed p f x (chars closed.front) (chars same ++ closed.more) sound closed.form), length-append (stream_safe p x) (chars closed.front))
 
-      pub due-closed : IsUtf8 same → encode_utf8_all (safe_form f p x) ++ (same ++ encode_utf8_all formed) ≡ encode_utf8_all (safe_form f p (x ++ chars closed.front))
+      pub due-closed : IsUtf8 same → encode_utf8_all (safe_form f p x) ++ (same ++ formed) ≡ encode_utf8_all (safe_form f p (x ++ chars closed.front))
       due-closed utf8 =
-          ap (λ b. encode_utf8_all (safe_form f p x) ++ (b ++ encode_utf8_all formed)) (sym (encodes-chars same utf8))
-          ∙ ap (λ b. encode_utf8_all (safe_form f p x) ++ b) (sym (encodes-append (chars same) formed))
-          ∙ sym (encodes-append (safe_form f p x) (chars same ++ formed)) ∙ ap encode_utf8_all (sym whole)
+          ap (λ b. encode_utf8_all (safe_form f p x) ++ (same ++ b)) closed.put
+          ∙ ap (λ b. encode_utf8_all (safe_form f p x) ++ (b ++ encode_utf8_all closed.more)) (sym (encodes-chars same utf8))
+          ∙ ap (λ b. encode_utf8_all (safe_form f p x) ++ b) (sym (encodes-append (chars same) closed.more))
+          ∙ sym (encodes-append (safe_form f p x) (chars same ++ closed.more)) ∙ ap encode_utf8_all (sym whole)
 
       -- it was taken
       pub takes-closed : (new : Normalizer) (start : Start) (room : List ℕ) → IsUtf8 same → HasTaken f p new [] → Holds start room (encode_utf8_all (safe_form f p x))
-          → StepsTo f p new start (room ++ (same ++ encode_utf8_all formed)) x text rest 0
+          → StepsTo f p new start (room ++ (same ++ formed)) x text rest 0
       takes-closed new start room utf8 anew holds = record {
         front = chars closed.front;
         is_front = closed.characters;
@@ -131,7 +132,7 @@ module _ (p : Properties) where
           anew = anew;
           usable = usable-closed;
           boundary = closed.next;
-          holds = Holds-at (due-closed utf8) (Holds-more (same ++ encode_utf8_all formed) refl holds);
+          holds = Holds-at (due-closed utf8) (Holds-more (same ++ formed) refl holds);
         });
         joins = joins-closed;
       }
@@ -206,7 +207,7 @@ module _ (p : Properties) (f : Form) (new : Normalizer) (start : Start) (after x
       (takes f [] (past start (encode_utf8_all (safe_form f p x))) between.anew (Holds-past (settled_text f p []) (settled_text-none f p) between.holds))
     where
       next : (r : Result Front Unsound) → IfOk r (Passes text) → Takes f p new (past start (encode_utf8_all (safe_form f p x))) after formed [] text r → Takes f p new start after formed x text r
-      next (Ok front) passes takes = steps-behind between.usable between.boundary (after ++ (front.same.now ++ encode_utf8_all formed)) front.rest.now (one_if front.joined) passes takes
+      next (Ok front) passes takes = steps-behind between.usable between.boundary (after ++ (front.same.now ++ formed)) front.rest.now (one_if front.joined) passes takes
       next (Err stop) passes takes = refused between.usable between.boundary takes
 
 -- ---- one front after another

@@ -1,4 +1,3 @@
-pub mod EncodingLemmas
 pub mod RoomLemmas
 pub mod PushingLemmas
 pub mod CharacterLemmas

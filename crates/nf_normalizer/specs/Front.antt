@@ -67,7 +67,7 @@ pub record Refuses (f : Form) (p : Properties) (start : Start) (room x text : Li
 -- what is done to a text behind x
 abbrev pub Takes : Form → Properties → Normalizer → Start → List ℕ → List ℕ → List ℕ → List ℕ → Result Front Unsound → Type 0
 Takes f p normalizer start room formed x text (Ok front) =
-    StepsTo f p normalizer start (room ++ (front.same.now ++ encode_utf8_all formed)) x text front.rest.now (one_if front.joined)
+    StepsTo f p normalizer start (room ++ (front.same.now ++ formed)) x text front.rest.now (one_if front.joined)
 Takes f p normalizer start room formed x text (Err _) = Refuses f p start room x text
 
 -- a run of y was taken behind x, for which `same` comes next

@@ -1,5 +1,5 @@
 -- What a step makes of a text.
-use Rattle.std.specs.Prelude.{◌≡◌, ◌<◌, ◌≤◌, ℕ, List, ◌++◌, length, chars, encode_utf8_all}
+use Rattle.std.specs.Prelude.{◌≡◌, ◌<◌, ◌≤◌, ℕ, List, ◌++◌, length, chars}
 use Rattle.nf_forms.specs.Properties.{Properties}
 use Rattle.nf_forms.specs.declared.form.Form.{Form}
 use Rattle.nf_normalizer.specs.declared.normalizer.Normalizer.{Normalizer}
@@ -35,5 +35,5 @@ pub record RefusesRest (f : Form) (p : Properties) (start : Start) (room x text 
 -- a step after x
 abbrev pub Steps : Form → Properties → Normalizer → Start → List ℕ → List ℕ → List ℕ → List ℕ → Step → Type 0
 Steps f p normalizer start room formed x text (Taken same rest put) =
-    StepsTo f p normalizer start (room ++ (same.now ++ encode_utf8_all formed)) x text rest.now put
+    StepsTo f p normalizer start (room ++ (same.now ++ formed)) x text rest.now put
 Steps f p normalizer start room formed x text (Unsound rest) = RefusesRest f p start room x text rest.now

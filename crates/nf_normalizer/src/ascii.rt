@@ -1,7 +1,8 @@
 //! Plain ASCII: behind one such character that is pending alone, a run of it goes out as it stands, but for its last,
 //! which is pending then.
 use crate::normalizer::Normalizer;
-use crate::room::{Room, put_utf8};
+use crate::room::Room;
+use nf_boundary::put_utf8;
 use nf_row::Rows;
 use nf_safe::Counter;
 

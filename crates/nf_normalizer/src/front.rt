@@ -11,7 +11,7 @@ const FEW: usize = 4;
 const SHORT: usize = 128;
 
 /// What was taken of a text. For it goes out first what the room holds, then `same`, which stands in the text as it is, and
-/// then the characters that were put into the caller's `Formed`.
+/// then what was put into the caller's `Formed`.
 #[derive(Debug, Drop)]
 pub(crate) struct Front<'t> {
     pub same: &'t str,

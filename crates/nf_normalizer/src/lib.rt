@@ -13,5 +13,5 @@ mod room;
 mod step;
 
 pub use normalizer::Normalizer;
-pub use room::{ROOM, Room, STEP, put_utf8};
+pub use room::{ROOM, Room, STEP};
 pub use step::Step;

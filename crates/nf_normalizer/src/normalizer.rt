@@ -1,4 +1,5 @@
-use crate::room::{Room, put_utf8};
+use crate::room::Room;
+use nf_boundary::put_utf8;
 use nf_pending::Pending;
 use nf_row::{Form, Plain, Rows};
 use nf_safe::Counter;

@@ -8,7 +8,8 @@ ghost use Rattle.nf_pending.specs.StandsAfter.{run_len, StandsAfter};
 ghost use Rattle.nf_normalizer.specs.Room.{Start, Holds};
 ghost use Rattle.nf_normalizer.specs.Normalizer.{run_behind, Pushes, front_utf8};
 
-use crate::room::{Room, put_utf8};
+use crate::room::Room;
+use nf_boundary::put_utf8;
 use nf_pending::{Pending, Segment};
 use nf_row::{Form, Row, Rows};
 

@@ -7,7 +7,7 @@ use nf_row::{Formed, Rows};
 #[derive(Debug, Drop)]
 pub enum Step<'t> {
     /// A front of the text was taken, before whose characters U+034F was put so many times. Then go out `same`, which stands
-    /// in the text as it is, and the characters that were put into the caller's `Formed`. `rest` is what is left.
+    /// in the text as it is, and what was put into the caller's `Formed`. `rest` is what is left.
     Taken {
         same: &'t str,
         rest: &'t str,

@@ -33,11 +33,7 @@ fn one_step<'t, R: Rows>(
     match step {
         Step::Taken { same, rest, put } => {
             so_far.text.extend_from_slice(same.as_bytes())?;
-            for c in formed.iter() {
-                so_far
-                    .text
-                    .extend_from_slice(c.encode_utf8(&mut [0; 4]).as_bytes())?;
-            }
+            so_far.text.extend_from_slice(formed.as_slice())?;
             so_far.put = so_far.put.saturating_add(put);
             so_far.left = rest.len();
             Ok(Some(rest))

@@ -1,12 +1,12 @@
 -- A starter that walks over the marks behind it, and composes with those that nothing blocks (The Unicode Standard, section
 -- 3.11, D117).
-use Rattle.std.proofs.Common.{◌≡◌, ℕ, zero, suc, ◌||◌, ◌+◌, ◌<◌, ◌≤◌, max, false, leb, List, [], ◌∷◌, ◌++◌, length, map, take, get_or, Option, Some, None, refl, sym, ap, ◌∙◌, subst, arith, append_assoc}
+use Rattle.std.proofs.Common.{◌≡◌, ℕ, zero, suc, ◌||◌, ◌+◌, ◌<◌, ◌≤◌, max, false, leb, List, [], ◌∷◌, ◌++◌, length, map, take, get_or, Option, Some, None, sym, ap, ◌∙◌, subst, arith}
 use Rattle.std.proofs.lemmas.Bool.{or_parts, eqb-false}
 use Rattle.std.proofs.lemmas.Bool.Decides.{nat_tests}
 use Rattle.std.proofs.lemmas.List.{length-map, length-append, get_or-map, take_more}
 use Rattle.std.proofs.lemmas.List.Folds.{list_any-append}
 use Rattle.std.proofs.lemmas.List.Sums.{fold-append}
-use Rattle.std.specs.Prelude.{slice_set, if◌then◌else◌, fold}
+use Rattle.std.specs.Prelude.{if◌then◌else◌, fold}
 use Rattle.std.specs.List.{list_any}
 use Rattle.nf_forms.specs.Properties.{Properties, is_starter}
 use Rattle.nf_forms.specs.Runs.{has_starter}
@@ -14,15 +14,15 @@ use Rattle.nf_forms.specs.Compose.{composite, replaced, join}
 use Rattle.nf_boundary.specs.declared.mark.Mark.{Mark}
 use Rattle.nf_boundary.specs.Mark.{mark_of}
 
--- after i marks: the starter, those that are left, and the greatest class of these; `before` stands before them
-pub record Walks (p : Properties) (before : List ℕ) (first : ℕ) (marks : List Mark) (i highest starter : ℕ) (text : List ℕ) : Type 0 where
+-- after i marks: the starter, those that are left, and the greatest class of these
+pub record Walks (p : Properties) (first : ℕ) (marks : List Mark) (i highest starter : ℕ) (text : List ℕ) : Type 0 where
   pub left : List ℕ
-  pub text_is : text ≡ before ++ first ∷ left
+  pub text_is : text ≡ first ∷ left
   pub room : length left ≤ i
   pub made : (m : List ℕ) → marks ≡ map (mark_of p) m → has_starter p m ≡ false → fold (join p) (first ∷ []) (take i m) ≡ starter ∷ left
   pub blocks : (m : List ℕ) → marks ≡ map (mark_of p) m → has_starter p m ≡ false → (k : ℕ) → 0 < k → list_any (λ x. leb k (p.class x)) left ≡ leb k highest
 
-module _ (p : Properties) (before : List ℕ) (first : ℕ) (marks : List Mark) where
+module _ (p : Properties) (first : ℕ) (marks : List Mark) where
   mark_at : (m : List ℕ) (i : ℕ) (mark : Mark) → marks ≡ map (mark_of p) m → i < length marks → mark ≡ get_or marks i mark → mark ≡ mark_of p (get_or m i 0)
   mark_at m i mark same below read =
       let long : length marks ≡ length m = ap (λ v. length v) same ∙ length-map m (mark_of p) in
@@ -36,7 +36,7 @@ module _ (p : Properties) (before : List ℕ) (first : ℕ) (marks : List Mark) 
       some other = omega arith
   above (c ∷ m) (suc i) plain below = above m i ((or_parts (is_starter p c) (has_starter p m) plain).1) (omega arith)
 
-  module _ (i highest starter : ℕ) (text : List ℕ) (w : Walks p before first marks i highest starter text) (below : i < length marks) (mark : Mark) (read : mark ≡ get_or marks i mark) where
+  module _ (i highest starter : ℕ) (text : List ℕ) (w : Walks p first marks i highest starter text) (below : i < length marks) (mark : Mark) (read : mark ≡ get_or marks i mark) where
     -- what the next mark becomes with what stands there
     next : (m : List ℕ) → marks ≡ map (mark_of p) m → has_starter p m ≡ false → (o : Option ℕ) → o ≡ (if leb mark.class highest then None else composite p starter mark.character)
         → fold (join p) (first ∷ []) (take (i + 1) m) ≡ replaced o starter w.left mark.character
@@ -52,7 +52,7 @@ module _ (p : Properties) (before : List ℕ) (first : ℕ) (marks : List Mark) 
         ∙ sym (ap (λ k. replaced o starter w.left k.character) is ∙ ap (λ o. replaced o starter w.left x) (joins ∙ ap (λ k. if leb k.class highest then None else composite p starter k.character) is))
 
     pub walks_joined : (o : Option ℕ) → o ≡ (if leb mark.class highest then None else composite p starter mark.character)
-        → (d : ℕ) → o ≡ Some d → Walks p before first marks (i + 1) highest d text
+        → (d : ℕ) → o ≡ Some d → Walks p first marks (i + 1) highest d text
     walks_joined o joins d is = record {
       left = w.left;
       text_is = w.text_is;
@@ -62,10 +62,10 @@ module _ (p : Properties) (before : List ℕ) (first : ℕ) (marks : List Mark) 
     }
 
     pub walks_left : (o : Option ℕ) → o ≡ (if leb mark.class highest then None else composite p starter mark.character)
-        → o ≡ None → Walks p before first marks (i + 1) (max highest mark.class) starter (text ++ mark.character ∷ [])
+        → o ≡ None → Walks p first marks (i + 1) (max highest mark.class) starter (text ++ mark.character ∷ [])
     walks_left o joins is = record {
       left = w.left ++ mark.character ∷ [];
-      text_is = ap (λ v. v ++ mark.character ∷ []) w.text_is ∙ append_assoc before (first ∷ w.left) (mark.character ∷ []);
+      text_is = ap (λ v. v ++ mark.character ∷ []) w.text_is;
       room = let room = w.room in omega (arith, length-append w.left (mark.character ∷ []));
       made = λ m same plain. next m same plain None (sym is ∙ joins);
       blocks = λ m same plain k some.
@@ -78,10 +78,6 @@ module _ (p : Properties) (before : List ℕ) (first : ℕ) (marks : List Mark) 
         leb_max : (k a b : ℕ) → (leb k a || (leb k b || false)) ≡ leb k (max a b)
         leb_max k a b = grind (arith, nat_tests)
 
-  pub walks_same : (i : ℕ) (h k s t : ℕ) (v w : List ℕ) → k ≡ h → t ≡ s → w ≡ v → Walks p before first marks i h s v → Walks p before first marks i k t w
+  pub walks_same : (i : ℕ) (h k s t : ℕ) (v w : List ℕ) → k ≡ h → t ≡ s → w ≡ v → Walks p first marks i h s v → Walks p first marks i k t w
   walks_same i h k s t v w kh ts wv walk =
-      subst (λ v. Walks p before first marks i k t v) (sym wv) (subst (λ s. Walks p before first marks i k s v) (sym ts) (subst (λ h. Walks p before first marks i h s v) (sym kh) walk))
-
-  set-behind : (xs : List ℕ) (v : List ℕ) (c : ℕ) → slice_set (xs ++ first ∷ v) (length xs) c ≡ xs ++ c ∷ v
-  set-behind [] v c = refl
-  set-behind (x ∷ xs) v c = ap (λ w. x ∷ w) (set-behind xs v c)
+      subst (λ v. Walks p first marks i k t v) (sym wv) (subst (λ s. Walks p first marks i k s v) (sym ts) (subst (λ h. Walks p first marks i h s v) (sym kh) walk))

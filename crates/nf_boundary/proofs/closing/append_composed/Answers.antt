@@ -1,4 +1,4 @@
-use Rattle.std.proofs.Common.{◌+◌, max, [], ◌∷◌, ◌++◌, get_or, ap, ◌∙◌}
+use Rattle.std.proofs.Common.{◌+◌, max, [], ◌∷◌, ◌++◌, length, length-append, arith, get_or, ap, ◌∙◌}
 use Rattle.std.proofs.lemmas.List.{get_or_default}
 use Rattle.nf_forms.specs.Ucd.{ucd}
 use Rattle.nf_boundary.specs.declared.mark.Mark.{Mark}
@@ -8,7 +8,6 @@ use Rattle.nf_boundary.proofs.closing.append_composed.Goals.{in-Some, in-None}
 
 pub loop-mark-preserved : goal.loop-mark-preserved
 loop-mark-preserved c =
-    let before = c.args.formed.now.items in
     let first = c.args.first in
     let marks = c.args.marks.now in
     let i = c.loop-mark.mark-index in
@@ -16,9 +15,15 @@ loop-mark-preserved c =
     let read = get_or_default marks i (record { character = 0; class = 0 }) mark c.loop-mark-test.true in
     elim c.match-joined.branch [
       | in-Some w ↦
-          walks_same ucd before first marks (i + 1) _ _ _ _ _ _ w.highest-is w.starter-is (ap (λ v. v.items) w.formed-is)
-          (walks_joined ucd before first marks i _ _ _ c.loop-mark.invariant c.loop-mark-test.true mark read _ c.joined.ensures w.in-Some.composite w.in-Some.is)
+          record {
+            walks = walks_same ucd first marks (i + 1) _ _ _ _ _ _ w.highest-is w.starter-is (ap (λ v. v.items) w.formed-is)
+                (walks_joined ucd first marks i _ _ _ c.loop-mark.invariant.walks c.loop-mark-test.true mark read _ c.joined.ensures w.in-Some.composite w.in-Some.is);
+            few = let same = ap (λ v. length v.items) w.formed-is in omega (arith, same, c.loop-mark.invariant.few);
+          }
       | in-None w ↦
-          walks_same ucd before first marks (i + 1) (max c.loop-mark.highest mark.class) _ _ _ (c.loop-mark.formed.items ++ mark.character ∷ []) _ (w.highest-is ∙ w.max-highest.ensures) w.starter-is (ap (λ v. v.items) w.formed-is ∙ w.push-in-None.ensures.items)
-          (walks_left ucd before first marks i _ _ _ c.loop-mark.invariant c.loop-mark-test.true mark read _ c.joined.ensures w.in-None.is)
+          let text = ap (λ v. v.items) w.formed-is ∙ w.push.ensures.items in record {
+            walks = walks_same ucd first marks (i + 1) (max c.loop-mark.highest mark.class) _ _ _ (c.loop-mark.formed.items ++ mark.character ∷ []) _ (w.highest-is ∙ w.max-highest.ensures) w.starter-is text
+                (walks_left ucd first marks i _ _ _ c.loop-mark.invariant.walks c.loop-mark-test.true mark read _ c.joined.ensures w.in-None.is);
+            few = let more = ap length text in omega (arith, more, length-append c.loop-mark.formed.items (mark.character ∷ []), c.loop-mark.invariant.few);
+          }
     ]

@@ -3,13 +3,11 @@ use Rattle.nf_forms.specs.Ucd.{ucd}
 use Rattle.nf_filter.specs.declared.fault.Fault.TheVariants.{TooLong}
 use Rattle.nf_filter.specs.declared.saved.Saved.{Saved}
 use Rattle.nf_filter.specs.Faults.{fault_in}
-use Rattle.nf_filter.specs.Filter.{state_of}
-use Rattle.nf_filter.specs.Saved.{IsRestorable}
 use Rattle.nf_filter.specs.Settled.{settled_utf8}
 use Rattle.nf_c.specs.declared.moved.Moved.{Moved}
 use Rattle.nf_c.specs.Moved.{read_before}
 use Rattle.nf_c.specs.State.{StandsAfter}
-use Rattle.nf_c.proofs.FeedsLemmas.{read_before-within, read_ended, written_ended}
+use Rattle.nf_c.proofs.FeedsLemmas.{read_before-within, read_ended, written_ended, StandsAfter-of}
 use Rattle.nf_c.proofs.feeding.feed.Goals as goal
 
 pub returns-then-is_too_long-clause-feeds : goal.returns-then-is_too_long-clause-feeds
@@ -27,7 +25,7 @@ returns-then-is_too_long-clause-feeds c = λ policy f bytes stands. record {
   stands = λ _. subst (StandsAfter policy f c.args.state.now) (sym (append-nil bytes)) stands;
   told = λ e. cc;
   spent = λ e. cc;
-  too_long = (λ _. omega (arith, c.is_too_long.ensures.long c.if-is_too_long.true), λ _. refl);
+  too_long = (λ _. omega (arith, c.is_too_long-2.ensures.long c.if-is_too_long.true), λ _. refl);
   nothing = λ _. (refl, refl, refl);
 }
 
@@ -45,18 +43,15 @@ returns-clause-written c =
 
 -- a filter that is spent was saved
 pub returns-clause-state : goal.returns-clause-state
-returns-clause-state c = λ over _.
-    let packed = c.pack.ensures.saved ∙ c.save-after.ensures.saved in
-    (c.pack.ensures.state, subst (IsRestorable ucd) (sym c.pack.ensures.saved) (c.save-after.ensures.spent (sym (ap (λ (s : Saved). s.spent) packed) ∙ ap (λ n. n == 1) over)))
+returns-clause-state c = λ over _. c.kept.ensures.spent (sym (ap (λ (s : Saved). s.spent) c.kept.ensures.saved) ∙ ap (λ n. n == 1) over)
 
 pub returns-clause-feeds : goal.returns-clause-feeds
 returns-clause-feeds c = λ policy f bytes stands.
     let fed = c.feed_all-fed.result in
-    let stood = c.in-Some.ensures.stands policy f bytes stands in
-    let front = c.feed_all-fed.ensures.feeds policy f bytes stood in
-    let packed = c.pack.ensures.saved ∙ c.save-after.ensures.saved in
-    let small : c.args.state.now.offset + length c.args.input.now < 2 ^ 64 = omega (arith, c.is_too_long.ensures.fits c.if-is_too_long.false) in
-    let not_long : ¬ (fed.fault ≡ Some TooLong) = c.feed_all-fed.ensures.fits (omega (arith, small, ap (λ (s : Saved). s.offset) c.in-Some.ensures.saved)) in record {
+    let fed_all = c.feed_all-fed.ensures.feeds policy f bytes (record { can = stands.can; saved = c.in-Some.ensures.saved; stands = c.in-Some.ensures.stands policy f bytes stands }) in
+    let front = fed_all.0 in
+    let small : c.args.state.now.offset + length c.args.input.now < 2 ^ 64 = omega (arith, c.is_too_long-2.ensures.fits c.if-is_too_long.false) in
+    let not_long : ¬ (fed.fault ≡ Some TooLong) = fed_all.1 (omega (arith, small, ap (λ (s : Saved). s.offset) c.in-Some.ensures.saved)) in record {
       fault = fed.fault;
       seen = fed.read;
       written = fed.written;
@@ -66,17 +61,10 @@ returns-clause-feeds c = λ policy f bytes stands.
       written_within = front.written;
       settles = front.settles;
       all = c.feed_all-fed.ensures.all;
-      full = c.feed_all-fed.ensures.full policy f bytes stood;
-      stands = λ goes. record {
-        can = (c.pack.ensures.state, subst (IsRestorable ucd) (sym c.pack.ensures.saved) (c.save-after.ensures.restorable policy f (bytes ++ take fed.read c.args.input.now) (front.stands goes)));
-        filter = state_of c.feed_all-fed.new.filter;
-        saved = sym packed;
-        stands = front.stands goes;
-      };
+      full = fed_all.2;
+      stands = λ goes. StandsAfter-of (c.kept.ensures.stands policy f _ (front.stands goes));
       told = λ over. front.fault over ∙ ap (λ n. fault_in policy ucd n (bytes ++ take fed.read c.args.input.now)) (ap (λ (s : Saved). s.base) c.in-Some.ensures.saved);
-      spent = λ over.
-          let spent = front.spent over in
-          ((c.pack.ensures.state, subst (IsRestorable ucd) (sym c.pack.ensures.saved) (c.save-after.ensures.spent spent)), eqb-true _ 1 (ap (λ (s : Saved). s.spent) packed ∙ spent));
+      spent = λ over. (c.kept.ensures.spent (front.spent over), eqb-true _ 1 (ap (λ (s : Saved). s.spent) c.kept.ensures.saved ∙ front.spent over));
       too_long = (λ e. absurd (not_long e), λ long. absurd (omega (arith, small, long)));
       nothing = λ e. absurd (not_long e);
     }

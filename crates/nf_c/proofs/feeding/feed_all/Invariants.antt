@@ -1,18 +1,18 @@
-use Rattle.std.proofs.Common.{◌≡◌, ◌+◌, ◌-◌, ◌≤◌, ℕ, List, length, None}
-use Rattle.nf_forms.specs.Ucd.{ucd}
+use Rattle.std.proofs.Common.{◌+◌, ◌-◌, ◌≤◌, ℕ, List, ◌++◌, length, take, None}
 use Rattle.nf_forms.specs.declared.form.Form.{Form}
 use Rattle.nf_filter.specs.declared.policy.Policy.{Policy}
-use Rattle.nf_filter.specs.Filter.{state_of, offset_of, StandsAfter}
+use Rattle.nf_filter.specs.Filter.{state_of}
 use Rattle.nf_c.specs.Feeds.{FeedsFront}
+use Rattle.nf_c.specs.State.{StandAfter}
 use Rattle.nf_c.proofs.feeding.feed_all.Given as goal
 
 abbrev pub invariant-loop-read : goal.invariant-loop-read
 invariant-loop-read l = record {
   read : l.read ≤ length l.input;
   written : l.written ≤ length l.output;
-  offset : offset_of (state_of l.filter) ≡ offset_of (state_of l.fn.filter) + l.read;
-  feeds : (policy : Policy) (f : Form) (bytes : List ℕ) → StandsAfter policy f ucd (state_of l.fn.filter) bytes
-      → FeedsFront policy f bytes l.input l.output (state_of l.fn.filter) (state_of l.filter) (record { read = l.read; written = l.written; fault = None });
+  feeds : (policy : Policy) (f : Form) (bytes : List ℕ) → StandAfter policy f l.fn.state (state_of l.fn.filter) bytes
+      → FeedsFront policy f bytes l.input l.output (state_of l.fn.filter) (state_of l.filter) (record { read = l.read; written = l.written; fault = None })
+      × StandAfter policy f l.state (state_of l.filter) (bytes ++ take l.read l.input);
 }
 
 abbrev pub decreases-loop-read : goal.decreases-loop-read

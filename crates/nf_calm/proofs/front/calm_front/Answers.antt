@@ -1,34 +1,4 @@
-use Rattle.std.proofs.Common.{◌≡◌, ◌++◌, ◌-◌, ℕ, length, refl, sym, ap, subst, subst₂, ◌∙◌, arith, take, drop, append_assoc, take_at, take-append-drop, length-append}
-use Rattle.std.specs.Prelude.{chars}
-use Rattle.std.specs.Str.{IsCharBoundary}
-use Rattle.std.proofs.lemmas.Str.{IsCharBoundary-at_seam}
-use Rattle.nf_forms.specs.Calm.{IsCalm}
-use Rattle.nf_forms.specs.Ucd.{ucd}
-use Rattle.nf_calm.proofs.CutLemmas.{calm_end}
 use Rattle.nf_calm.proofs.front.calm_front.Goals as goal
 
-pub split_at-requires : goal.split_at-requires
-split_at-requires c =
-    let here = c.calm_end.ensures.calm in
-    let end : length here.front ≡ length c.args.text.now - length c.calm_end.result.rest.now = omega (arith, ap length here.split, length-append here.front c.calm_end.result.rest.now) in
-    subst (IsCharBoundary c.args.text.now) end (IsCharBoundary-at_seam c.args.text.now here.front c.calm_end.result.rest.now here.split here.rest_utf8)
-
 pub returns : goal.returns
-returns c =
-    let here = c.calm_end.ensures.calm in
-    let parts = c.split_last_starter.ensures in
-    let marks = c.calm_end.result.marks in
-    let end : ℕ = length c.args.text.now - length c.calm_end.result.rest.now in
-    let same : length here.front ≡ end = omega (arith, ap length here.split, length-append here.front c.calm_end.result.rest.now) in
-    let front : c.split_at.result.0.now ≡ here.front = c.split_at.ensures.front ∙ ap (take end) here.split ∙ take_at here.front c.calm_end.result.rest.now end same in
-    let calm = subst (λ cs. IsCalm ucd c.args.form cs marks.class marks.count) (sym (ap chars front) ∙ parts.characters) here.calm in
-    record {
-      text = sym (take-append-drop end c.args.text.now)
-          ∙ subst₂ (λ a b. take end c.args.text.now ++ drop end c.args.text.now ≡ a ++ b) (sym c.split_at.ensures.front) (sym c.split_at.ensures.back) refl
-          ∙ ap (λ t. t ++ c.split_at.result.1.now) parts.text ∙ append_assoc c.split_last_starter.result.0.now c.split_last_starter.result.1.now c.split_at.result.1.now;
-      class = marks.class;
-      count = marks.count;
-      calm = calm;
-      sound = c.every_character_is_sound.ensures.text _;
-      end = calm_end c.args.form _ _ _ parts _ _ calm;
-    }
+returns c = c.split.ensures c.args.form c.args.text.now c.calm_text.ensures

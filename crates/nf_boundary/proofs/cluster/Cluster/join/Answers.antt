@@ -1,4 +1,4 @@
-use Rattle.std.proofs.Common.{rules, ◌≡◌, ◌≢◌, ◌<◌, ◌++◌, ◌∷◌, [], ◌+◌, ap, sym, subst, ◌∙◌}
+use Rattle.std.proofs.Common.{rules, ◌≡◌, ◌≢◌, ◌<◌, ◌++◌, ◌∷◌, [], ◌+◌, ap, sym, subst, ◌∙◌, encode_utf8_all}
 use Rattle.ucd_normal.specs.declared.forms.QuickCheck.TheVariants.{No}
 use Rattle.nf_forms.specs.Cluster.{AreClusters}
 use Rattle.nf_forms.specs.Ucd.{ucd}
@@ -21,7 +21,7 @@ returns-clause-joins c = λ _.
           (made_joined c.args.form seen c.requires done cs self here own follows.1 room w.in-Some.composite (sym (c.composite_with.ensures done cs here) ∙ w.in-Some.is)))
       | in-None+in_ok-append_to-in-None w ↦
           let starter : seen.class ≡ 0 = search rules in
-          let grown : w.append_to.new.formed.items ≡ c.args.formed.now.items ++ self.starter ∷ self.left.items = search rules in
+          let grown : w.append_to.new.formed.items ≡ c.args.formed.now.items ++ encode_utf8_all (self.starter ∷ self.left.items) = search rules in
           record {
             more = self.starter ∷ self.left.items;
             formed = ap (λ v. v.items) w.formed-is ∙ grown;

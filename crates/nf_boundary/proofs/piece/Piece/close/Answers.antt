@@ -1,11 +1,10 @@
-use Rattle.std.proofs.Common.{rules, ◌≡◌, ◌++◌, ◌∷◌, [], ◌∙◌}
+use Rattle.std.proofs.Common.{◌∙◌}
 use Rattle.nf_boundary.proofs.BecomesLemmas.{becomes_closed, becomes_closed_one}
 use Rattle.nf_boundary.proofs.piece.Piece.close.Goals as goal
 
 pub returns-then-is_empty-clause-closes : goal.returns-then-is_empty-clause-closes
 returns-then-is_empty-clause-closes c = λ some w before here.
-    let grown : c.try_push.new.self.items ≡ c.args.formed.now.items ++ c.args.self.now.starter ∷ [] = search rules in
-    becomes_closed_one c.args.form w c.args.self.now.starter c.args.self.now.run.items before c.args.formed.now.items here (c.if-is_empty.ensures) _ grown
+    becomes_closed_one c.args.form w c.args.self.now.starter c.args.self.now.run.items before c.args.formed.now.items here (c.if-is_empty.ensures) _ (c.append_one.ensures.some some)
 
 pub returns-clause-closes : goal.returns-clause-closes
 returns-clause-closes c = λ _ w before here.

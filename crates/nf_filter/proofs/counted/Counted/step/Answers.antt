@@ -1,4 +1,4 @@
-use Rattle.std.proofs.Common.{◌+◌, ◌-◌, ◌++◌, refl, ap, ◌∙◌, arith, rules, append_assoc, length, length-append, chars, encode_utf8_all, IsUtf8}
+use Rattle.std.proofs.Common.{◌+◌, ◌-◌, ◌++◌, refl, ap, ◌∙◌, arith, rules, append_assoc, length, length-append, chars, IsUtf8}
 use Rattle.nf_filter.specs.declared.counted.Counted.{Counted}
 use Rattle.nf_filter.specs.Block.{block_state}
 use Rattle.nf_filter.proofs.TakingLemmas.{front_len, placed-first, placed-behind}
@@ -48,8 +48,8 @@ returns-in-Ok-clause-steps g c = λ f place x start standing here.
     (c.in_default.ensures.writes (apart start) (standing.given ++ c.args.block.now.room.items) (written-all f _ start c.args.self.now _ x _ standing)) in
     let new : Counted = record c.args.self.now { normalizer = c.step.new.self; put = c.args.self.now.put + c.in-Taken.put } in
     let steps = rw c.in-Taken.is at (c.step.ensures.steps f x (given_to start moved.given) moved.stands) in
-    step-stands f _ start place x c.args.text.now c.args.self.now new (block_state (g.S.Sink.state c.push_form.new.sink) c.push_form.new.self) moved.given (c.step.new.room.items ++ (c.in-Taken.same.now ++ encode_utf8_all c.step.new.formed.items)) c.in-Taken.rest.now c.in-Taken.put standing.put refl steps
-    ((moved.given ++ c.step.new.room.items) ++ (c.in-Taken.same.now ++ encode_utf8_all c.step.new.formed.items)) (append_assoc moved.given c.step.new.room.items (c.in-Taken.same.now ++ encode_utf8_all c.step.new.formed.items))
+    step-stands f _ start place x c.args.text.now c.args.self.now new (block_state (g.S.Sink.state c.push_form.new.sink) c.push_form.new.self) moved.given (c.step.new.room.items ++ (c.in-Taken.same.now ++ c.step.new.formed.items)) c.in-Taken.rest.now c.in-Taken.put standing.put refl steps
+    ((moved.given ++ c.step.new.room.items) ++ (c.in-Taken.same.now ++ c.step.new.formed.items)) (append_assoc moved.given c.step.new.room.items (c.in-Taken.same.now ++ c.step.new.formed.items))
     (c.in-Ok.ensures.writes (apart start) (moved.given ++ c.step.new.room.items) (record { given = moved.given; puts = moved.puts; text = refl }))
 
 pub returns-in-Err-push_form-clause-steps : goal.returns-in-Err-push_form-clause-steps
@@ -58,8 +58,8 @@ returns-in-Err-push_form-clause-steps g c = λ f place x start standing here.
     (c.in_default.ensures.writes (apart start) (standing.given ++ c.args.block.now.room.items) (written-all f _ start c.args.self.now _ x _ standing)) in
     let new : Counted = record c.args.self.now { normalizer = c.step.new.self; put = c.args.self.now.put + c.in-Taken.put } in
     let steps = rw c.in-Taken.is at (c.step.ensures.steps f x (given_to start moved.given) moved.stands) in
-    step-failed f _ start place x c.args.text.now c.args.self.now new (block_state (g.S.Sink.state c.push_form.new.sink) c.push_form.new.self) moved.given (c.step.new.room.items ++ (c.in-Taken.same.now ++ encode_utf8_all c.step.new.formed.items)) c.in-Taken.rest.now c.in-Taken.put standing.put refl steps
-    ((moved.given ++ c.step.new.room.items) ++ (c.in-Taken.same.now ++ encode_utf8_all c.step.new.formed.items)) (append_assoc moved.given c.step.new.room.items (c.in-Taken.same.now ++ encode_utf8_all c.step.new.formed.items))
+    step-failed f _ start place x c.args.text.now c.args.self.now new (block_state (g.S.Sink.state c.push_form.new.sink) c.push_form.new.self) moved.given (c.step.new.room.items ++ (c.in-Taken.same.now ++ c.step.new.formed.items)) c.in-Taken.rest.now c.in-Taken.put standing.put refl steps
+    ((moved.given ++ c.step.new.room.items) ++ (c.in-Taken.same.now ++ c.step.new.formed.items)) (append_assoc moved.given c.step.new.room.items (c.in-Taken.same.now ++ c.step.new.formed.items))
     (c.in-Err-push_form.ensures.writes (apart start) (moved.given ++ c.step.new.room.items) (record { given = moved.given; puts = moved.puts; text = refl }))
 
 pub overflow_add-self : goal.overflow_add-self

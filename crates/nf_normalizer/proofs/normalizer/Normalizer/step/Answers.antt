@@ -1,4 +1,4 @@
-use Rattle.std.proofs.Common.{◌≡◌, ℕ, ◌+◌, ◌<◌, ◌≤◌, [], ◌++◌, length, List, Bool, true, false, Ok, Err, inl, inr, ⊎_elim, refl, sym, ap, subst, ◌∙◌, arith, rules, append_assoc, append-nil, encode_utf8_all, chars, length-append}
+use Rattle.std.proofs.Common.{◌≡◌, ℕ, ◌+◌, ◌<◌, ◌≤◌, [], ◌++◌, length, List, Bool, true, false, Ok, Err, inl, inr, ⊎_elim, refl, sym, ap, subst, ◌∙◌, arith, rules, append_assoc, append-nil, chars, length-append}
 use Rattle.std.proofs.lemmas.List.{nil_from_length}
 use Rattle.std.proofs.lemmas.Str.{encodes-chars, length-le-encodes}
 use mir.Val.{bool_byte}
@@ -15,8 +15,8 @@ byte_of true = refl
 byte_of false = refl
 
 -- nothing goes out
-nothing_out : (room same formed : List ℕ) → length same ≡ 0 → length formed ≡ 0 → room ++ (same ++ encode_utf8_all formed) ≡ room
-nothing_out room same formed e g = ap (λ l. room ++ (l ++ encode_utf8_all formed)) (nil_from_length same e) ∙ ap (λ l. room ++ encode_utf8_all l) (nil_from_length formed g) ∙ append-nil room
+nothing_out : (room same formed : List ℕ) → length same ≡ 0 → length formed ≡ 0 → room ++ (same ++ formed) ≡ room
+nothing_out room same formed e g = ap (λ l. room ++ (l ++ formed)) (nil_from_length same e) ∙ ap (λ l. room ++ l) (nil_from_length formed g) ∙ append-nil room
 
 pub loop-room-init : goal.loop-room-init
 loop-room-init g c = record {
@@ -41,7 +41,7 @@ gone_more g c =
 
 steps_more : (g : given.Over) (c : After-from g) (f : Form) (x : List ℕ) (start : Start)
     → Stands f (g.R.Rows.properties c.args.rows.now) c.args.self.now start c.args.room.now.items x (chars c.args.text.now)
-    → StepsTo f (g.R.Rows.properties c.args.rows.now) c.take_front.new.self start (c.take_front.new.room.items ++ (c.in-Ok.front.same.now ++ encode_utf8_all c.take_front.new.formed.items))
+    → StepsTo f (g.R.Rows.properties c.args.rows.now) c.take_front.new.self start (c.take_front.new.room.items ++ (c.in-Ok.front.same.now ++ c.take_front.new.formed.items))
     x c.args.text.now c.in-Ok.front.rest.now (c.loop-room.put + c.from.result)
 steps_more g c f x start stands =
     let p = g.R.Rows.properties c.args.rows.now in

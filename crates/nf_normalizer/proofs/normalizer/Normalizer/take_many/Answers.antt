@@ -1,12 +1,12 @@
-use Rattle.std.proofs.Common.{◌≡◌, ◌∙◌, ◌++◌, List, ℕ, encode_utf8_all, [], take, length, ap, sym, subst, arith, rules, chars, inl, append-nil, length-take, length-drop}
+use Rattle.std.proofs.Common.{◌≡◌, ◌∙◌, ◌++◌, List, ℕ, [], take, length, ap, sym, subst, arith, rules, chars, inl, append-nil, length-take, length-drop}
 use Rattle.nf_boundary.specs.Front.{IsClosedFront}
 use Rattle.nf_normalizer.specs.Front.{Inside}
 use Rattle.nf_normalizer.proofs.FrontLemmas.{ascii_front, leaves-closed, takes-closed}
 use Rattle.nf_normalizer.proofs.normalizer.Normalizer.take_many.Goals as goal
 
 -- what goes out is the text itself
-only : (same formed : List ℕ) → formed ≡ [] → same ≡ same ++ encode_utf8_all formed
-only same formed none = sym (ap (λ l. same ++ encode_utf8_all l) none ∙ append-nil same)
+only : (same formed : List ℕ) → formed ≡ [] → same ≡ same ++ formed
+only same formed none = sym (ap (λ l. same ++ l) none ∙ append-nil same)
 
 pub returns-in-Some-clause-passes : goal.returns-in-Some-clause-passes
 returns-in-Some-clause-passes g c = leaves-closed (g.R.Rows.properties c.args.rows.now) c.args.self.now.form c.args.text.now _ _ _ c.in-Some.ensures

@@ -1,0 +1,13 @@
+use Rattle.std.proofs.Common.{ℕ, List, length}
+use Rattle.nf_boundary.specs.Seen.{IsAtBoundary}
+use Rattle.nf_boundary.specs.Pieces.{Reaches}
+use Rattle.nf_boundary.proofs.composing.compose_front.Given as goal
+
+abbrev pub invariant-loop-behind : goal.invariant-loop-behind
+invariant-loop-behind l = record {
+  at : IsAtBoundary l.form l.next;
+  reaches : (whole same : List ℕ) → Reaches l.form whole same l.fn.formed.items l.fn.first → Reaches l.form whole same l.formed.items l.next;
+}
+
+abbrev pub decreases-loop-behind : goal.decreases-loop-behind
+decreases-loop-behind l = length l.next.text.now

@@ -1,9 +1,0 @@
-use Rattle.std.proofs.Common.{length}
-use Rattle.nf_boundary.specs.Pieces.{Reaches}
-use Rattle.nf_boundary.proofs.front.front_in.Given as goal
-
-abbrev pub invariant-loop-behind : goal.invariant-loop-behind
-invariant-loop-behind l = Reaches l.form l.text l.same l.formed.items l.next
-
-abbrev pub decreases-loop-behind : goal.decreases-loop-behind
-decreases-loop-behind l = length l.next.text.now
