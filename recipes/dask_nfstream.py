@@ -78,7 +78,10 @@ def run(client, words, path, out_path, size):
                 take(under_way.popleft(), out)
         os.replace(os.path.join(folder, "out"), out_path)
     finally:
-        shutil.rmtree(folder, ignore_errors=True)
+        # After a fault workers may still begin a part: under its old name they no longer find the folder.
+        gone = folder + ".gone"
+        os.rename(folder, gone)
+        shutil.rmtree(gone, ignore_errors=True)
 
 
 def main():
