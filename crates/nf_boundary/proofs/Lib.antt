@@ -2,7 +2,6 @@ pub mod EncodingLemmas
 pub mod SeenLemmas
 pub mod PieceLemmas
 pub mod LetterLemmas
-pub mod KeptLemmas
 pub mod JoinLemmas
 pub mod ApartLemmas
 pub mod RowLemmas

@@ -4,12 +4,10 @@ ghost use Rattle.nf_boundary.specs.Front.{IsClosedFront};
 ghost use Rattle.nf_boundary.specs.Seen.{Sees, IsAtBoundary};
 ghost use Rattle.nf_boundary.specs.Rows.{IsRow};
 ghost use Rattle.nf_boundary.specs.Pieces.{Closes, Reaches};
-ghost use Rattle.nf_boundary.specs.Stands.{Stands};
 
 use crate::apart::take_front_apart;
 use crate::closed::{Closed, Formed};
 use crate::composing::compose_front;
-use crate::kept::keep_halfwidth;
 use crate::parting::boundary_behind;
 use crate::pieces::take_pieces;
 use crate::rows::{Row, changed};
@@ -29,7 +27,7 @@ pub fn closed_front<'t>(form: Form, text: &'t str, formed: &mut Formed) -> Optio
     if !seen.is_boundary(form) {
         return changed_front(form, seen, formed);
     }
-    let first = own_part(form, text)?;
+    let first = boundary_behind(form, text, calm_text(form, text))?;
     let (same, _) = text.split_at(text.len() - first.text.len());
     formed.clear();
     let next = take_changed(form, first, formed);
@@ -78,8 +76,8 @@ fn goes_on_calmly(form: Form, next: Seen<'_>, is_behind_changed: bool) -> bool {
     }
 }
 
-/// The same, of a text that begins with a character that the form changes, where its decomposition tells that a text may be
-/// cut before it.
+/// A closed front of a text that begins with a character that the form changes, where its decomposition tells that a text
+/// may be cut before it.
 fn changed_front<'t>(form: Form, seen: Seen<'t>, formed: &mut Formed) -> Option<Closed<'t>>
     requires { Sees form seen }
     ensures { IfSome result (λ closed. IsClosedFront ucd form seen.entry.text.now closed.same.now formed.new.items closed.rest.now) }
@@ -111,16 +109,4 @@ fn take_front<'t>(
         same,
         rest: last.text,
     })
-}
-
-/// The boundary behind what the text begins with and the form leaves as it is: calm text, and halfwidth marks behind it.
-#[inline(always)]
-fn own_part(form: Form, text: &str) -> Option<Seen<'_>>
-    ensures { IfSome result (λ next. Stands form text.now next) }
-{
-    let mut next = boundary_behind(form, text, calm_text(form, text))?;
-    while let Some(behind) = keep_halfwidth(form, next) {
-        next = behind;
-    }
-    Some(next)
 }

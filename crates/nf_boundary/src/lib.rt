@@ -11,7 +11,6 @@ mod composing;
 mod encoding;
 mod front;
 mod hangul;
-mod kept;
 mod lone;
 mod mark;
 mod parting;

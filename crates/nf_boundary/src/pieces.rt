@@ -5,8 +5,8 @@ ghost use Rattle.nf_boundary.specs.Pieces.{Closes, Reaches};
 use crate::closed::Formed;
 use crate::piece::Piece;
 use crate::rows::Row;
-use crate::seen::{Seen, begins_with_mark};
-use nf_facts::laws;
+use crate::seen::Seen;
+use nf_facts::{begins_with_mark, laws};
 use nf_forms::Form;
 
 /// Where more bytes than this are there, the next piece is left for another front: it may have no room, and would then have

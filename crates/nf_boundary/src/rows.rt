@@ -8,8 +8,8 @@ ghost use Rattle.nf_facts.specs.Passing.{passes_check};
 ghost use Rattle.nf_boundary.specs.Seen.{Sees};
 ghost use Rattle.nf_boundary.specs.Rows.{IsRow};
 
-use crate::seen::{Seen, begins_with_mark, is_plain};
-use nf_facts::{in_tables, is_halfwidth_mark, laws};
+use crate::seen::{Seen, is_plain};
+use nf_facts::{begins_with_mark, in_tables, is_halfwidth_mark, laws};
 use nf_forms::Form;
 use ucd_normal::{
     QuickCheck, canonical_decomposition, class_and_quick_check, compatibility_decomposition,

@@ -1,4 +1,4 @@
-ghost use Rattle.std.specs.Prelude.{◌≡◌, ◌||◌, ◌↔◌, IsTrue};
+ghost use Rattle.std.specs.Prelude.{◌≡◌, ◌↔◌, IsTrue};
 ghost use Rattle.ucd_normal.specs.declared.forms.Form.TheVariants.{Nfkd};
 ghost use Rattle.ucd_normal.specs.declared.forms.QuickCheck.TheVariants.{Yes};
 ghost use Rattle.ucd_normal.specs.CanonicalCombiningClass.{canonical_combining_class};
@@ -6,9 +6,9 @@ ghost use Rattle.ucd_normal.specs.QuickCheck.{quick_check};
 ghost use Rattle.nf_forms.specs.declared.form.Form.{Form};
 ghost use Rattle.nf_forms.specs.Forms.{composes};
 ghost use Rattle.nf_facts.specs.KitForm.{kit_form};
-ghost use Rattle.nf_facts.specs.Passing.{is_among, halfwidth_marks, vowel_signs, passes_check};
+ghost use Rattle.nf_facts.specs.Passing.{passes_check};
 
-use nf_facts::{in_tables, laws};
+use nf_facts::{begins_with_mark, in_tables, laws};
 use nf_forms::Form;
 use ucd_normal::{Form as TableForm, QuickCheck, class_and_quick_check, quick_check};
 
@@ -174,15 +174,4 @@ pub(crate) fn is_own_row(c: char) -> bool
     ensures { IsTrue result ↔ (quick_check Nfkd c ≡ Yes) }
 {
     is_plain(c) || quick_check(c, TableForm::Nfkd) == QuickCheck::Yes
-}
-
-/// Whether `c` is one of the five starters whose compatibility decompositions begin with a non-starter.
-#[inline]
-pub(crate) const fn begins_with_mark(c: char) -> bool
-    ensures { result ≡ (is_among halfwidth_marks c || is_among vowel_signs c) }
-{
-    matches!(
-        c,
-        '\u{FF9E}' | '\u{FF9F}' | '\u{F73}' | '\u{F75}' | '\u{F81}'
-    )
 }

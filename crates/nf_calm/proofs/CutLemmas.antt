@@ -1,17 +1,26 @@
 -- A text in two, before its last starter; and calm text so.
-use Rattle.std.proofs.Common.{◌≡◌, ◌⊎◌, ⊎_elim, inl, inr, ℕ, true, false, ◌||◌, ◌≤◌, List, [], ◌∷◌, ◌++◌, length, take, drop, refl, sym, ap, subst, ◌∙◌, arith, append_assoc, append-nil, take_at, drop_at, length-append, eqb-true, true≢false}
+use Rattle.std.proofs.Common.{◌≡◌, ◌⊎◌, ⊎_elim, inl, inr, ℕ, true, false, not, ◌||◌, ◌≤◌, List, [], ◌∷◌, ◌++◌, length, take, drop, refl, sym, ap, subst, ◌∙◌, arith, append_assoc, append-nil, take_at, drop_at, length-append, eqb-true, true≢false}
+use Rattle.std.proofs.lemmas.Bool.{and_parts, and_from, or_parts, or_from, not-false}
 use Rattle.std.proofs.lemmas.List.{nil_from_length}
+use Rattle.std.specs.List.{list_all}
 use Rattle.std.specs.Str.{IsCharBoundary}
 use Rattle.std.specs.Prelude.{chars, encode_utf8, encode_utf8_all, IsUtf8}
 use Rattle.std.proofs.lemmas.Str.{chars-nil, chars-append, chars_past_char, encodes-chars, IsUtf8-nil, IsUtf8-append, IsUtf8-drop, IsCharBoundary-from_take, IsCharBoundary-at_seam}
-use Rattle.nf_forms.specs.Properties.{Properties, is_starter}
-use Rattle.nf_forms.specs.Runs.{has_starter}
+use Rattle.ucd_normal.specs.CanonicalCombiningClass.{canonical_combining_class}
+use Rattle.nf_forms.specs.Runs.{has_starter, lead}
 use Rattle.nf_forms.specs.declared.form.Form.{Form}
+use Rattle.nf_forms.specs.declared.form.Form.TheVariants.{Nfkd}
+use Rattle.nf_forms.specs.Forms.{decomposed}
+use Rattle.nf_forms.specs.StreamSafe.{max_run}
 use Rattle.nf_forms.specs.Parting.{IsParting}
-use Rattle.nf_forms.specs.Calm.{IsCalm, IsCalmFrom}
+use Rattle.nf_forms.specs.Calm.{GoesOn, IsCalmFrom, IsCalm}
 use Rattle.nf_forms.specs.Ucd.{ucd}
+use Rattle.nf_forms.specs.Laws.Runs.{has_starter-append, lead-marks}
+use Rattle.nf_forms.specs.Laws.Calm.{mark-not_starter, calm-begins}
+use Rattle.nf_forms.specs.Laws.CalmEnd.{calm_behind}
+use Rattle.nf_facts.specs.Passing.{is_among, halfwidth_marks, vowel_signs}
 use Rattle.nf_calm.specs.Front.{BeginsAndMarks}
-use Rattle.nf_calm.specs.Parts.{SplitsAtStarter, MarksBehind}
+use Rattle.nf_calm.specs.Parts.{counts_as_mark, StarterAndMarks, SplitsAtStarter, MarksBehind}
 
 -- what follows a whole text, within a text, is text
 IsUtf8-after : (text front back : List ℕ) → IsUtf8 text → IsUtf8 front → text ≡ front ++ back → IsUtf8 back
@@ -27,7 +36,7 @@ no_marks text u = record {
   split = sym (append-nil text);
   front_utf8 = u;
   marks_utf8 = IsUtf8-nil;
-  no_starter = ap (has_starter ucd) chars-nil;
+  no_starter = ap (list_all counts_as_mark) chars-nil;
 }
 
 -- no starter was found
@@ -39,7 +48,7 @@ all_marks text front here none =
       text = refl;
       characters = sym (ap (λ t. t ++ chars text) chars-nil);
       back_utf8 = subst IsUtf8 same here.marks_utf8;
-      end = inr (refl, subst (λ t. has_starter ucd (chars t) ≡ false) same here.no_starter);
+      end = inr (refl, subst (λ t. list_all counts_as_mark (chars t) ≡ true) same here.no_starter);
     }
 
 module _ (text last front : List ℕ) (here : MarksBehind text last) (c : ℕ) (u : IsUtf8 front) (e : last ≡ front ++ encode_utf8 c) where
@@ -58,19 +67,19 @@ module _ (text last front : List ℕ) (here : MarksBehind text last) (c : ℕ) (
   split : text ≡ front ++ behind
   split = here.split ∙ ap (λ t. t ++ here.marks) e ∙ append_assoc front (encode_utf8 c) here.marks
 
-  pub one_mark_more : is_starter ucd c ≡ false → MarksBehind text front
+  pub one_mark_more : counts_as_mark c ≡ true → MarksBehind text front
   one_mark_more mark = record {
     marks = behind;
     split = split;
     front_utf8 = u;
     marks_utf8 = behind_utf8;
-    no_starter = ap (has_starter ucd) chars-behind ∙ ap (λ b. b || has_starter ucd (chars here.marks)) mark ∙ here.no_starter;
+    no_starter = ap (list_all counts_as_mark) chars-behind ∙ and_from _ _ mark here.no_starter;
   }
 
   pub front_boundary : IsCharBoundary text (length front)
   front_boundary = IsCharBoundary-at_seam text front behind split behind_utf8
 
-  pub splits_at_starter : is_starter ucd c ≡ true → SplitsAtStarter text (take (length front) text) (drop (length front) text)
+  pub splits_at_starter : counts_as_mark c ≡ false → SplitsAtStarter text (take (length front) text) (drop (length front) text)
   splits_at_starter starts =
       subst (λ a. SplitsAtStarter text a (drop (length front) text)) (sym (ap (take (length front)) split ∙ take_at front behind (length front) refl))
       (subst (λ b. SplitsAtStarter text front b) (sym (ap (drop (length front)) split ∙ drop_at front behind (length front) refl))
@@ -81,32 +90,54 @@ module _ (text last front : List ℕ) (here : MarksBehind text last) (c : ℕ) (
         end = inl (record { first = c; marks = chars here.marks; text = chars-behind; starts = starts; no_starter = here.no_starter });
       }))
 
-module _ (p : Properties) (f : Form) where
-  -- each starter of calm text parts it
-  calm_from-starter : (k n : ℕ) (xs : List ℕ) (c : ℕ) (ys : List ℕ) (class count : ℕ) → IsCalmFrom p f k n (xs ++ c ∷ ys) class count → is_starter p c ≡ true → IsParting p f c
-  calm_from-starter k n [] c ys class count calm starts =
-      ⊎_elim (λ begins. begins.parting) (λ stays. absurd (omega (arith, stays.mark.class, stays.mark.above, eqb-true (p.class c) 0 starts))) calm.2
-  calm_from-starter k n (x ∷ xs) c ys class count calm starts = calm_from-starter calm.0 calm.1 xs c ys class count calm.3 starts
+module _ (f : Form) (lead_none : (c : ℕ) → canonical_combining_class c ≡ 0 → is_among vowel_signs c ≡ false → is_among halfwidth_marks c ≡ false → lead ucd (ucd.compat c) ≡ 0)
+    (no_starter : (c : ℕ) → (is_among halfwidth_marks c || is_among vowel_signs c) ≡ true → has_starter ucd (ucd.compat c) ≡ false) where
+  -- in calm text what counts as no mark parts it
+  parts : (k n c class count : ℕ) → GoesOn ucd f k n c class count → counts_as_mark c ≡ false → IsParting ucd f c
+  unfolding ucd
+  parts k n c class count (inl begins) other = begins.parting
+  parts k n c class count (inr (inl stays)) other =
+      absurd (omega (arith, stays.mark.class, stays.mark.above, eqb-true (canonical_combining_class c) 0 (not-false _ (or_parts _ _ other).0)))
+  parts k n c class count (inr (inr counts)) other =
+      let few = or_parts (is_among halfwidth_marks c) (is_among vowel_signs c) (or_parts _ _ other).1 in
+      absurd (omega (arith, counts.some, lead-marks ucd (ucd.compat c) counts.none, lead_none c (eqb-true (canonical_combining_class c) 0 counts.starts) few.1 few.0))
 
-  calm-marks : (xs : List ℕ) (class count : ℕ) → IsCalm p f xs class count → has_starter p xs ≡ false → xs ≡ []
-  calm-marks [] class count calm none = refl
-  calm-marks (c ∷ cs) class count calm none =
-      ⊎_elim (λ begins. absurd (true≢false (sym (ap (λ b. b || has_starter p cs) begins.parting.starts) ∙ none))) (λ stays. absurd (omega (arith, stays.counted, stays.room))) calm.2
+  -- and NFKD has non-starters alone of a mark
+  of_mark : (k n c class count : ℕ) → GoesOn ucd f k n c class count → counts_as_mark c ≡ true → has_starter ucd (ucd.compat c) ≡ false
+  unfolding ucd
+  of_mark k n c class count (inl begins) mark =
+      no_starter c (sym (ap (λ b. not b || (is_among halfwidth_marks c || is_among vowel_signs c)) begins.parting.starts) ∙ mark)
+  of_mark k n c class count (inr (inl stays)) mark = ap (has_starter ucd) stays.mark.compat ∙ or_from _ _ (mark-not_starter ucd c class stays.mark) refl
+  of_mark k n c class count (inr (inr counts)) mark = counts.none
 
--- calm text in two before its last starter
-pub calm_end : (f : Form) (whole front back : List ℕ) → SplitsAtStarter whole front back → (class count : ℕ) → IsCalm ucd f (chars front ++ chars back) class count
-    → ((front ≡ []) × (back ≡ [])) ⊎ BeginsAndMarks ucd f (chars back)
-calm_end f whole front back parts class count calm =
-    ⊎_elim
-    (λ end. inr (record {
-      first = end.first;
-      marks = end.marks;
-      text = end.text;
-      parting = calm_from-starter ucd f 0 30 (chars front) end.first end.marks class count (subst (λ t. IsCalm ucd f (chars front ++ t) class count) end.text calm) end.starts;
-      no_starter = end.no_starter;
-    }))
-    (λ none.
-    let alone : chars front ++ chars back ≡ chars back = ap (λ t. chars t ++ chars back) none.0 ∙ ap (λ t. t ++ chars back) chars-nil in
-    let no_chars = calm-marks ucd f (chars back) class count (subst (λ t. IsCalm ucd f t class count) alone calm) none.1 in
-    inl (none.0, sym (encodes-chars back parts.back_utf8) ∙ ap encode_utf8_all no_chars))
-    parts.end
+  of_marks : (k n : ℕ) (cs : List ℕ) (class count : ℕ) → IsCalmFrom ucd f k n cs class count → list_all counts_as_mark cs ≡ true → has_starter ucd (decomposed Nfkd ucd cs) ≡ false
+  of_marks k n [] class count calm all = refl
+  of_marks k n (c ∷ cs) class count calm all =
+      let both = and_parts _ _ all in
+      has_starter-append ucd (ucd.compat c) (decomposed Nfkd ucd cs) ∙ or_from _ _ (of_mark k n c calm.0 calm.1 calm.2 both.0) (of_marks calm.0 calm.1 cs class count calm.3 both.1)
+
+  -- calm text in two before the last character that parts it
+  pub calm_end : (whole front back : List ℕ) → SplitsAtStarter whole front back → (class count : ℕ) → IsCalm ucd f (chars front ++ chars back) class count
+      → ((front ≡ []) × (back ≡ [])) ⊎ BeginsAndMarks ucd f (chars back)
+  calm_end whole front back two class count calm = ⊎_elim some none two.end
+    where
+      some : StarterAndMarks (chars back) → ((front ≡ []) × (back ≡ [])) ⊎ BeginsAndMarks ucd f (chars back)
+      some end =
+          let behind = (calm_behind ucd f (chars front) (end.first ∷ end.marks) 0 max_run class count (subst (λ t. IsCalm ucd f (chars front ++ t) class count) end.text calm)).2 in
+          inr (record {
+            first = end.first;
+            marks = end.marks;
+            text = end.text;
+            parting = parts _ _ end.first _ _ behind.2 end.starts;
+            no_starter = of_marks _ _ end.marks class count behind.3 end.no_starter;
+          })
+
+      none : (front ≡ []) × (list_all counts_as_mark (chars back) ≡ true) → ((front ≡ []) × (back ≡ [])) ⊎ BeginsAndMarks ucd f (chars back)
+      none marks = inl (marks.0, sym (encodes-chars back two.back_utf8) ∙ ap encode_utf8_all (empty (chars back) (subst (λ t. IsCalm ucd f t class count) alone calm) marks.1))
+        where
+          alone : chars front ++ chars back ≡ chars back
+          alone = ap (λ t. chars t ++ chars back) marks.0 ∙ ap (λ t. t ++ chars back) chars-nil
+
+          empty : (cs : List ℕ) → IsCalm ucd f cs class count → list_all counts_as_mark cs ≡ true → cs ≡ []
+          empty [] calm all = refl
+          empty (c ∷ cs) calm all = absurd (true≢false (sym (calm-begins ucd f c cs class count calm).counts.some ∙ of_mark _ _ c _ _ calm.2 (and_parts _ _ all).0))

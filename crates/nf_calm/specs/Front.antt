@@ -3,17 +3,19 @@ use Rattle.std.specs.Prelude.{◌≡◌, ◌⊎◌, ℕ, false, List, [], ◌∷
 use Rattle.nf_forms.specs.Properties.{Properties}
 use Rattle.nf_forms.specs.Runs.{has_starter}
 use Rattle.nf_forms.specs.declared.form.Form.{Form}
+use Rattle.nf_forms.specs.declared.form.Form.TheVariants.{Nfkd}
+use Rattle.nf_forms.specs.Forms.{decomposed}
 use Rattle.nf_forms.specs.Parting.{IsParting}
 use Rattle.nf_forms.specs.Calm.{IsCalm}
 use Rattle.nf_forms.specs.Laws.Sound.{IsSoundText}
 
--- a character before which a text may be cut, and non-starters behind it
+-- a character before which a text may be cut, and others behind it of which NFKD has non-starters alone
 pub record BeginsAndMarks (p : Properties) (f : Form) (x : List ℕ) : Type 0 where
   pub first : ℕ
   pub marks : List ℕ
   pub text : x ≡ first ∷ marks
   pub parting : IsParting p f first
-  pub no_starter : has_starter p marks ≡ false
+  pub no_starter : has_starter p (decomposed Nfkd p marks) ≡ false
 
 -- the text is calm text of sound characters, and a rest
 pub record IsCalmText (p : Properties) (f : Form) (whole calm rest : List ℕ) : Type 0 where

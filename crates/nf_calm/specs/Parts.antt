@@ -1,23 +1,27 @@
--- A text in two before its last starter.
-use Rattle.std.specs.Prelude.{◌≡◌, ◌⊎◌, ℕ, true, false, List, [], ◌∷◌, ◌++◌, chars, IsUtf8}
-use Rattle.nf_forms.specs.Properties.{is_starter}
-use Rattle.nf_forms.specs.Runs.{has_starter}
-use Rattle.nf_forms.specs.Ucd.{ucd}
+-- A text in two before its last starter that counts as no mark.
+use Rattle.std.specs.Prelude.{◌≡◌, ◌⊎◌, ℕ, Bool, true, false, not, ◌||◌, ◌==◌, List, [], ◌∷◌, ◌++◌, chars, IsUtf8}
+use Rattle.std.specs.List.{list_all}
+use Rattle.ucd_normal.specs.CanonicalCombiningClass.{canonical_combining_class}
+use Rattle.nf_facts.specs.Passing.{is_among, halfwidth_marks, vowel_signs}
 
--- a starter, and non-starters behind it
+-- a non-starter, or a starter of which NFKD has non-starters alone
+abbrev pub counts_as_mark : ℕ → Bool
+counts_as_mark c = not (canonical_combining_class c == 0) || (is_among halfwidth_marks c || is_among vowel_signs c)
+
+-- another starter, and such characters behind it
 pub record StarterAndMarks (x : List ℕ) : Type 0 where
   pub first : ℕ
   pub marks : List ℕ
   pub text : x ≡ first ∷ marks
-  pub starts : is_starter ucd first ≡ true
-  pub no_starter : has_starter ucd marks ≡ false
+  pub starts : counts_as_mark first ≡ false
+  pub no_starter : list_all counts_as_mark marks ≡ true
 
--- where the text has no starter, all of it is the second part
+-- where the text has none, all of it is the second part
 pub record SplitsAtStarter (whole front back : List ℕ) : Type 0 where
   pub text : whole ≡ front ++ back
   pub characters : chars whole ≡ chars front ++ chars back
   pub back_utf8 : IsUtf8 back
-  pub end : StarterAndMarks (chars back) ⊎ ((front ≡ []) × (has_starter ucd (chars back) ≡ false))
+  pub end : StarterAndMarks (chars back) ⊎ ((front ≡ []) × (list_all counts_as_mark (chars back) ≡ true))
 
 -- behind this front of the text there are marks alone
 pub record MarksBehind (whole front : List ℕ) : Type 0 where
@@ -25,4 +29,4 @@ pub record MarksBehind (whole front : List ℕ) : Type 0 where
   pub split : whole ≡ front ++ marks
   pub front_utf8 : IsUtf8 front
   pub marks_utf8 : IsUtf8 marks
-  pub no_starter : has_starter ucd (chars marks) ≡ false
+  pub no_starter : list_all counts_as_mark (chars marks) ≡ true

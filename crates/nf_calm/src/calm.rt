@@ -1,6 +1,7 @@
 ghost use Rattle.std.specs.Prelude.{◌≡◌, [], ◌++◌};
 
 use crate::cut::split_last_starter;
+use nf_facts::laws;
 
 /// A text in three, by how far its front is calm: such text goes into the form, and into the stream-safe text, as it is
 /// (UAX #15, sections 9 and 13).
@@ -29,12 +30,14 @@ impl<'t> CalmText<'t> {
     ghost use Rattle.nf_forms.specs.Ucd.{ucd};
     ghost use Rattle.nf_calm.specs.Front.{IsCalmText, IsCalmFront};
 
-    /// The same in three, before the last starter of what is calm.
+    /// The same in three, before the last character of it before which a text may be cut.
     #[inline(always)]
     pub fn split(self) -> Calm<'t>
         ensures { (f : Form) (whole : List ℕ) → IsCalmText ucd f whole self.entry.calm.now self.entry.rest.now
             → IsCalmFront ucd f whole result.settled.now result.tail.now result.rest.now }
     {
+        laws::exceptions_are_few();
+        laws::some_starters_count_as_marks();
         let (settled, tail) = split_last_starter(self.calm);
         Calm {
             settled,

@@ -1,4 +1,4 @@
-ghost use Rattle.std.specs.Prelude.{◌≡◌, false, IfSome, IsNone};
+ghost use Rattle.std.specs.Prelude.{◌≡◌, ◌≤◌, ◌+◌, false, IfSome, IsNone};
 ghost use Rattle.nf_forms.specs.Ucd.{ucd};
 ghost use Rattle.nf_forms.specs.Calm.{GoesOn};
 ghost use Rattle.nf_calm.specs.Going.{goes_on};
@@ -16,7 +16,7 @@ const MAX_ROW: u8 = 18;
 /// The marks that calm text ends in.
 #[derive(Clone, Copy)]
 pub(crate) struct Marks {
-    /// The class of the last, the greatest of them, and 0 where none stands there.
+    /// The class of the last, the greatest of them, and 0 where none stands there, or a starter of which NFKD has a mark.
     pub class: u8,
     /// A bound of how many non-starters the NFKD of the text ends in.
     pub count: u8,
@@ -44,16 +44,30 @@ impl Marks {
     {
         laws::every_character_is_sound();
         laws::the_quick_check_tells();
+        laws::what_passes_begins_anew();
+        laws::some_starters_count_as_marks();
         let (class, QuickCheck::Yes) = class_and_quick_check(c, in_tables(form)) else {
             return None;
         };
         if class == 0 {
-            if is_halfwidth_mark(c) {
-                return None;
+            if !is_halfwidth_mark(c) {
+                return Some(Marks::NONE);
             }
-            return Some(Marks::NONE);
+            return self.counted(0);
         }
-        if class < self.class || self.count >= MAX_RUN {
+        if class < self.class {
+            return None;
+        }
+        self.counted(class)
+    }
+
+    /// With one non-starter more, where one may come.
+    #[inline(always)]
+    fn counted(self, class: u8) -> Option<Marks>
+        ensures counts { IfSome result (λ next. (next.class ≡ class) × (next.count ≡ self.count + 1) × (next.count ≤ 30)) }
+        ensures full { IsNone result → 30 ≤ self.count }
+    {
+        if self.count >= MAX_RUN {
             return None;
         }
         Some(Marks {

@@ -6,7 +6,7 @@ mod SameForms
 mod SameSafe
 mod FormsAfter
 mod Scalars
-mod Halfwidth
+mod MarkStarters
 mod Starters
 mod Marks
 mod Ranges

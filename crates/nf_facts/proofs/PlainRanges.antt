@@ -15,7 +15,7 @@ use Rattle.nf_forms.specs.declared.form.Form.TheVariants.{Nfc, Nfd, Nfkc, Nfkd}
 use Rattle.nf_facts.specs.PlainRanges.{plain_ranges}
 use Rattle.nf_facts.specs.KitForm.{kit_form}
 use Rattle.nf_facts.specs.Passing.{is_among, halfwidth_marks, is_yes, passes_check}
-use Rattle.nf_facts.proofs.Halfwidth.{agree}
+use Rattle.nf_facts.proofs.MarkStarters.{each}
 use Rattle.nf_facts.proofs.Ranges.{none_fails, none_fails-true}
 
 -- the test as steps: the class and the answer zipped, and the two halfwidth marks taken out as a range
@@ -41,7 +41,7 @@ all_plain Nfkd = none_fails-true (plain_ranges Nfkd) (passes_by_range Nfkd) (of_
 
 outside : (c : ℕ) → in_ranges halfwidth c ≡ false → is_among halfwidth_marks c ≡ false
 unfolding tables halfwidth
-outside c h = false_from_ne_true _ (λ is. let clash = sym h ∙ agree (in_ranges halfwidth) (λ _. true) (refl, refl) c is in cc)
+outside c h = false_from_ne_true _ (λ is. let clash = sym h ∙ each (in_ranges halfwidth) halfwidth_marks refl c is in cc)
 
 -- each part of the test gives the other form of it
 pub plain-passes : (f : Form) (c : ℕ) → in_ranges (plain_ranges f) c ≡ true → passes_check f c ≡ true

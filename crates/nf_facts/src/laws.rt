@@ -1,6 +1,6 @@
 //! Facts of Unicode's data, each the contract of a function without a body. `ucd` is that data, in the words of
 //! `nf_forms`; `kit_form` names a form as `unicode_normalization` does.
-ghost use Rattle.std.specs.Prelude.{◌≡◌, ◌≢◌, ◌<◌, ◌≤◌, ℕ, false, List, [], ◌∷◌, ◌++◌, length, flat_map, IsTrue, Some};
+ghost use Rattle.std.specs.Prelude.{◌≡◌, ◌≢◌, ◌<◌, ◌≤◌, ℕ, false, List, [], ◌∷◌, ◌++◌, ◌||◌, length, flat_map, IsTrue, Some};
 ghost use Rattle.std.specs.Char.{IsScalar};
 ghost use Rattle.std.specs.List.{All};
 ghost use Rattle.std.specs.Str.{all_scalars};
@@ -11,7 +11,7 @@ ghost use Rattle.ucd_normal.specs.declared.forms.QuickCheck.TheVariants.{Yes, No
 ghost use Rattle.unicode_normalization.specs.Forms.{normalize};
 ghost use Rattle.unicode_normalization.specs.StreamSafe.{stream_safe as kit_stream_safe};
 ghost use Rattle.nf_forms.specs.Properties.{is_nonstarter};
-ghost use Rattle.nf_forms.specs.Runs.{lead};
+ghost use Rattle.nf_forms.specs.Runs.{has_starter, lead};
 ghost use Rattle.nf_forms.specs.declared.form.Form.{Form};
 ghost use Rattle.nf_forms.specs.declared.form.Form.TheVariants.{Nfkd};
 ghost use Rattle.nf_forms.specs.Forms.{normal_form};
@@ -80,20 +80,12 @@ pub fn what_passes_begins_anew()
     ensures alone { (f : Form) (c : ℕ) → quick_check (kit_form f) c ≡ Yes → normal_form f ucd (c ∷ []) ≡ c ∷ [] }
 {}
 
-/// The compatibility row of a halfwidth mark is one character.
+/// The compatibility rows of the five starters that begin with a non-starter have no starter; that of a halfwidth mark is one
+/// character.
 #[inline]
-pub fn halfwidth_marks_count_once()
-    ensures { (c : ℕ) → IsTrue (is_among halfwidth_marks c) → length (ucd.compat c) ≡ 1 }
-{}
-
-/// A halfwidth mark is a starter and its own canonical row. Its compatibility row is the combining mark of kana that it
-/// stands for (U+3099, U+309A), which is of class 8.
-#[inline]
-pub fn halfwidth_marks_stand_for_marks()
-    ensures starter { (c : ℕ) → IsTrue (is_among halfwidth_marks c) → ucd.class c ≡ 0 }
-    ensures own { (c : ℕ) → IsTrue (is_among halfwidth_marks c) → ucd.canonical c ≡ c ∷ [] }
-    ensures voiced { (ucd.compat 0xFF9E ≡ 0x3099 ∷ []) × (ucd.class 0x3099 ≡ 8) }
-    ensures semi_voiced { (ucd.compat 0xFF9F ≡ 0x309A ∷ []) × (ucd.class 0x309A ≡ 8) }
+pub fn some_starters_count_as_marks()
+    ensures none { (c : ℕ) → IsTrue (is_among halfwidth_marks c || is_among vowel_signs c) → has_starter ucd (ucd.compat c) ≡ false }
+    ensures once { (c : ℕ) → IsTrue (is_among halfwidth_marks c) → length (ucd.compat c) ≡ 1 }
 {}
 
 /// In these ranges, which the first bytes of a character in UTF-8 can tell, every character passes: a list for each form.

@@ -15,8 +15,8 @@ use Rattle.nf_forms.specs.Calm.{IsCalm}
 use Rattle.nf_forms.specs.Laws.Last.{by_last}
 use Rattle.nf_forms.specs.Laws.Runs.{has_starter-append, lead-append}
 use Rattle.nf_forms.specs.Laws.Sound.{IsSoundText}
-use Rattle.nf_forms.specs.Laws.Calm.{calm-begins}
-use Rattle.nf_forms.specs.Laws.CalmEnd.{GoesOnFromEnd, goes_on_from_end}
+use Rattle.nf_forms.specs.Laws.Calm.{calm-begins, stream_safe-calm}
+use Rattle.nf_forms.specs.Laws.CalmEnd.{calm-tail}
 use Rattle.nf_calm.specs.Front.{BeginsAndMarks}
 use Rattle.nf_utf8.specs.Reading.{text_of, ending_of}
 use Rattle.nf_safe.specs.declared.place.Place.{Place}
@@ -115,12 +115,9 @@ module _ (p : Properties) where
     in_format-safe x safe sound = ap (is_in_format p) (sym safe) ∙ is_in_format-stream_safe p x (subst (IsSoundText p) (sym safe) sound)
 
     module _ (s t : List ℕ) (class count : ℕ) (calm : IsCalm p f (s ++ t) class count) (sound : IsSoundText p (s ++ t)) (end : BeginsAndMarks p f t) where
-      goes_on : GoesOnFromEnd p f [] (s ++ end.first ∷ end.marks) s end.first end.marks
-      goes_on = goes_on_from_end p f s end.first end.marks class count (subst (λ v. IsCalm p f (s ++ v) class count) end.text calm) end.parting.starts end.no_starter [] refl
-
       pub counts_from_end : CountsFromEnd p s t
       counts_from_end = record {
-        in_format = in_format-safe (s ++ t) (subst (λ v. stream_safe p (s ++ v) ≡ s ++ v) (sym end.text) goes_on.safe) sound;
+        in_format = in_format-safe (s ++ t) (stream_safe-calm p f (s ++ t) class count calm [] refl) sound;
         lead = lead-calm s t class count calm end;
         some = ap (λ w. has_starter p (decomposed Nfkd p w)) end.text ∙ has_starter-append p (p.compat end.first) (decomposed Nfkd p end.marks) ∙ or_left _ _ end.parting.counts.some;
       }
@@ -129,4 +126,6 @@ module _ (p : Properties) where
       pub unstopped : (base : ℕ) → check_stop p base t ≡ None
       unstopped base =
           let alone : IsSoundText p t = (and_parts _ _ (sym (list_all-append (is_sound p) s t) ∙ sound)).1 in
-          stop_none base t alone (place_from-in_format p base t (in_format-safe t (subst (λ v. stream_safe p v ≡ v) (sym end.text) goes_on.alone_safe) alone))
+          let tail = calm-tail p f s end.first end.marks class count (subst (λ v. IsCalm p f (s ++ v) class count) end.text calm) end.parting in
+          stop_none base t alone
+          (place_from-in_format p base t (in_format-safe t (stream_safe-calm p f t class count (subst (λ v. IsCalm p f v class count) (sym end.text) tail) [] refl) alone))

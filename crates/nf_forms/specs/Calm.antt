@@ -1,12 +1,12 @@
 -- Calm text: characters that part a text, and behind each of them marks that stay where they stand. Its form is itself,
 -- whatever stands before it: what the quick check tells of a text (UAX #15, section 9), over any character data.
-use Rattle.std.specs.Prelude.{◌≡◌, ◌<◌, ◌≤◌, ◌+◌, ◌⊎◌, ℕ, false, List, [], ◌∷◌, ◌++◌}
-use Rattle.nf_forms.specs.Properties.{Properties}
+use Rattle.std.specs.Prelude.{◌≡◌, ◌<◌, ◌≤◌, ◌+◌, ◌⊎◌, ℕ, true, false, List, [], ◌∷◌, length}
+use Rattle.nf_forms.specs.Properties.{Properties, is_starter}
 use Rattle.nf_forms.specs.Runs.{has_starter, trail}
 use Rattle.nf_forms.specs.declared.form.Form.{Form}
-use Rattle.nf_forms.specs.Forms.{decomposed}
+use Rattle.nf_forms.specs.Forms.{normal_form}
 use Rattle.nf_forms.specs.StreamSafe.{max_run}
-use Rattle.nf_forms.specs.Parting.{NeverSecond, IsParting}
+use Rattle.nf_forms.specs.Parting.{NeverSecond, BeginsAnew, IsParting}
 
 -- a non-starter of class k that is its own canonical and compatibility row
 pub record IsMark (p : Properties) (c k : ℕ) : Type 0 where
@@ -30,10 +30,21 @@ pub record StaysBehind (p : Properties) (f : Form) (k n c class count : ℕ) : T
   pub counted : n + 1 ≤ count
   pub room : count ≤ max_run
 
+-- c is a starter whose form alone is itself, as U+FF9E is in NFC, but NFKD has non-starters alone of it: behind at most n it
+-- ends in at most `count` with them
+pub record CountsOn (p : Properties) (f : Form) (n c count : ℕ) : Type 0 where
+  pub starts : is_starter p c ≡ true
+  pub anew : BeginsAnew p f c
+  pub alone : normal_form f p (c ∷ []) ≡ c ∷ []
+  pub some : 0 < length (p.compat c)
+  pub none : has_starter p (p.compat c) ≡ false
+  pub counted : n + length (p.compat c) ≤ count
+  pub room : count ≤ max_run
+
 -- one character more: no mark at the end was of a class above k, and NFKD ended in at most n non-starters; now so for
 -- `class` and `count`
 abbrev pub GoesOn : Properties → Form → ℕ → ℕ → ℕ → ℕ → ℕ → Type 0
-GoesOn p f k n c class count = BeginsRun p f c count ⊎ StaysBehind p f k n c class count
+GoesOn p f k n c class count = BeginsRun p f c count ⊎ (StaysBehind p f k n c class count ⊎ CountsOn p f n c count)
 
 -- each character of cs in turn, from k and n to `class` and `count`
 abbrev pub IsCalmFrom : Properties → Form → ℕ → ℕ → List ℕ → ℕ → ℕ → Type 0
@@ -43,13 +54,3 @@ IsCalmFrom p f k n (c ∷ cs) class count = (next : ℕ) × (more : ℕ) × Goes
 -- behind a full run only a character that parts a text can come, so calm text begins with one
 abbrev pub IsCalm : Properties → Form → List ℕ → ℕ → ℕ → Type 0
 IsCalm p f cs class count = IsCalmFrom p f 0 max_run cs class count
-
--- where it ends: its last character that parts a text, and the marks behind that
-pub record CalmEnd (p : Properties) (f : Form) (cs : List ℕ) : Type 0 where
-  pub before : List ℕ
-  pub last : ℕ
-  pub marks : List ℕ
-  pub text : cs ≡ before ++ last ∷ marks
-  pub parting : IsParting p f last
-  pub no_starter : has_starter p marks ≡ false
-  pub own_rows : decomposed f p marks ≡ marks

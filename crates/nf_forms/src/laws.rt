@@ -13,7 +13,7 @@ ghost use Rattle.nf_forms.specs.StreamSafe.{stream_safe};
 ghost use Rattle.nf_forms.specs.SafeForm.{safe_form};
 ghost use Rattle.nf_forms.specs.Parting.{BeginsAnew, IsParting};
 ghost use Rattle.nf_forms.specs.Closing.{IsClosing};
-ghost use Rattle.nf_forms.specs.Calm.{IsCalm, CalmEnd};
+ghost use Rattle.nf_forms.specs.Calm.{IsCalm};
 ghost use Rattle.nf_forms.specs.Audit.{IsAudited};
 ghost use Rattle.nf_forms.specs.Twice.{ChangesOnce};
 ghost use Rattle.nf_forms.specs.Laws.Sound.{IsSoundText};
@@ -48,20 +48,6 @@ pub fn calm_text_is_its_own_form()
         → IsSoundText p (stream_safe p x) → front p (safe_form f p (x ++ c ∷ cs)) ≡ safe_form f p x ++ front p (c ∷ cs) }
     ensures bound { (p : Properties) (f : Form) (c : ℕ) (cs : List ℕ) (class count : ℕ) → IsCalm p f (c ∷ cs) class count → (x : List ℕ)
         → IsSoundText p (stream_safe p x) → trail p (decomposed Nfkd p (stream_safe p (x ++ c ∷ cs))) ≤ count }
-{}
-
-/// Calm text ends in a character that parts a text, and marks behind it. All before that character is settled; its
-/// row and those marks end the decomposed text, and they alone decide how many non-starters the NFKD ends in.
-pub fn calm_text_goes_on_from_its_end()
-    ensures end { (p : Properties) (f : Form) (c : ℕ) (cs : List ℕ) (class count : ℕ) → IsCalm p f (c ∷ cs) class count → CalmEnd p f (c ∷ cs) }
-    ensures settled { (p : Properties) (f : Form) (c : ℕ) (cs : List ℕ) (class count : ℕ) → IsCalm p f (c ∷ cs) class count → (end : CalmEnd p f (c ∷ cs))
-        (x : List ℕ) → IsSoundText p (stream_safe p x) → front p (safe_form f p (x ++ c ∷ cs)) ≡ safe_form f p x ++ end.before }
-    ensures decomposed { (p : Properties) (f : Form) (c : ℕ) (cs : List ℕ) (class count : ℕ) → IsCalm p f (c ∷ cs) class count → (end : CalmEnd p f (c ∷ cs))
-        (x : List ℕ) → IsSoundText p (stream_safe p x) → decomposed f p (stream_safe p (x ++ c ∷ cs))
-        ≡ decomposed f p (stream_safe p x ++ end.before) ++ (row_of f p end.last ++ end.marks) }
-    ensures count { (p : Properties) (f : Form) (c : ℕ) (cs : List ℕ) (class count : ℕ) → IsCalm p f (c ∷ cs) class count → (end : CalmEnd p f (c ∷ cs))
-        (x : List ℕ) → IsSoundText p (stream_safe p x) → trail p (decomposed Nfkd p (stream_safe p (x ++ c ∷ cs)))
-        ≡ trail p (decomposed Nfkd p (end.last ∷ end.marks)) }
 {}
 
 /// Over audited data a text of scalar values and its NFD have one NFKD, and what a filter writes in NFD or NFKD is

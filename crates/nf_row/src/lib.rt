@@ -11,7 +11,6 @@ mod ends;
 mod kind;
 mod known;
 mod letter_row;
-mod mark_row;
 mod ordering;
 mod own;
 mod patched;

@@ -5,7 +5,6 @@ ghost use Rattle.nf_forms.specs.Ucd.{ucd};
 use crate::kind::Kind;
 use crate::known::kind_of;
 use crate::letter_row::letter_row;
-use crate::mark_row::mark_row;
 use crate::rows::{Long, Row, Rows, row_from};
 use crate::single::Single;
 use crate::starters::starters_front;
@@ -86,11 +85,8 @@ impl Rows for Ucd {
     }
 
     #[inline]
-    fn single(&self, form: nf_forms::Form, c: char) -> Option<Single> {
-        match letter_row(c) {
-            Some(letter) => Some(letter),
-            None => mark_row(form, c),
-        }
+    fn single(&self, _form: nf_forms::Form, c: char) -> Option<Single> {
+        letter_row(c)
     }
 
     #[inline]

@@ -15,8 +15,8 @@ use Rattle.nf_forms.specs.Laws.Front.{has_starter-at, front-append_some, marks_p
 use Rattle.nf_forms.specs.Laws.Sound.{IsSoundText}
 use Rattle.nf_forms.specs.Laws.StreamSafe.{own_row, stream_safe-push, decomposed-push, trail-decomposed-push, trail-stream_safe-le}
 use Rattle.nf_forms.specs.SafeForm.{safe_form}
-use Rattle.nf_forms.specs.Parting.{IsParting}
-use Rattle.nf_forms.specs.Calm.{IsMark, BeginsRun, StaysBehind, GoesOn, IsCalmFrom, IsCalm}
+use Rattle.nf_forms.specs.Parting.{BeginsAnew, IsParting}
+use Rattle.nf_forms.specs.Calm.{IsMark, BeginsRun, StaysBehind, CountsOn, GoesOn, IsCalmFrom, IsCalm}
 use Rattle.nf_forms.specs.Laws.Parting.{last_run, safe_step-room, normal_form-boundary}
 use Rattle.nf_forms.specs.Laws.MarkBehind.{none_above, none_above-le, none_above-push, arranged-push_mark}
 
@@ -43,14 +43,14 @@ module _ (p : Properties) where
 
   -- ---- one character more
 
-  pub passes-begin : (f : Form) (c count : ℕ) → BeginsRun p f c count → (k : ℕ) (x : List ℕ) → last_run p (stream_safe p x) ≤ max_run → Passes f k count x (c ∷ [])
+  -- a starter, whose form alone is itself, and of which NFKD leaves room
+  passes-starter : (f : Form) (c count : ℕ) → is_starter p c ≡ true → BeginsAnew p f c → normal_form f p (c ∷ []) ≡ c ∷ [] → count ≤ max_run
+      → (k : ℕ) (x : List ℕ) → last_run p (stream_safe p x) + lead p (p.compat c) ≤ max_run → last_run p (stream_safe p x ++ c ∷ []) ≤ count → Passes f k count x (c ∷ [])
   unfolding safe_form
-  passes-begin f c count h k x room =
+  passes-starter f c count starts anew alone room k x fits counted =
       let out = stream_safe p x in
-      let first = h.parting.counts.lead in
-      let safe = stream_safe-push p x c ∙ safe_step-room p out c (omega arith) in
-      let text = ap (normal_form f p) safe ∙ normal_form-boundary p f c h.parting.anew out [] ∙ ap (λ v. safe_form f p x ++ v) h.parting.alone in
-      let anew = h.parting.anew in
+      let safe = stream_safe-push p x c ∙ safe_step-room p out c fits in
+      let text = ap (normal_form f p) safe ∙ normal_form-boundary p f c anew out [] ∙ ap (λ v. safe_form f p x ++ v) alone in
       record {
         safe = safe;
         text = text;
@@ -62,16 +62,24 @@ module _ (p : Properties) where
           starter = c;
           marks = [];
           text = text;
-          starts = h.parting.starts;
+          starts = starts;
           no_starter = refl;
           low = refl;
-          counted =
-              let count_is = ap (last_run p) safe ∙ trail-decomposed-push p Nfkd out c ∙ cond-true _ _ _ h.parting.counts.some in
-              let most = h.counted in
-              omega arith;
-          room = h.room;
+          counted = subst (λ v. last_run p v ≤ count) (sym safe) counted;
+          room = room;
         };
       }
+
+  passes-begin : (f : Form) (c count : ℕ) → BeginsRun p f c count → (k : ℕ) (x : List ℕ) → last_run p (stream_safe p x) ≤ max_run → Passes f k count x (c ∷ [])
+  passes-begin f c count h k x room =
+      let parting = h.parting in
+      let count_is = trail-decomposed-push p Nfkd (stream_safe p x) c ∙ cond-true _ _ _ parting.counts.some in
+      passes-starter f c count parting.starts parting.anew parting.alone h.room k x (omega (arith, parting.counts.lead)) (omega (arith, count_is, h.counted))
+
+  passes-count : (f : Form) (n c count : ℕ) → CountsOn p f n c count → (k : ℕ) (x : List ℕ) → last_run p (stream_safe p x) ≤ n → Passes f k count x (c ∷ [])
+  passes-count f n c count h k x so_far =
+      let count_is = trail-decomposed-push p Nfkd (stream_safe p x) c ∙ cond-false _ _ _ h.none in
+      passes-starter f c count h.starts h.anew h.alone h.room k x (omega (arith, lead-marks p (p.compat c) h.none, h.counted, h.room)) (omega (arith, count_is, h.counted))
 
   pub row-mark : (f : Form) (c k : ℕ) → IsMark p c k → row_of f p c ≡ c ∷ []
   row-mark f c k h = own_row p c h.canonical h.compat f
@@ -120,7 +128,8 @@ module _ (p : Properties) where
       let so_far = at.counted in
       let most = at.room in
       passes-begin f c count begins class x (omega arith)
-  passes-one f k n c class count (inr behind) x at = passes-mark f k n c class count behind x at
+  passes-one f k n c class count (inr (inl behind)) x at = passes-mark f k n c class count behind x at
+  passes-one f k n c class count (inr (inr counts)) x at = passes-count f n c count counts class x at.counted
 
   -- ---- a text more
 
@@ -149,10 +158,8 @@ module _ (p : Properties) where
   -- behind a full run no mark comes
   begins : (f : Form) (next c more : ℕ) → GoesOn p f 0 max_run c next more → BeginsRun p f c more
   begins f next c more (inl run) = run
-  begins f next c more (inr behind) =
-      let over = behind.counted in
-      let most = behind.room in
-      absurd (omega arith)
+  begins f next c more (inr (inl behind)) = absurd (omega (arith, behind.counted, behind.room))
+  begins f next c more (inr (inr counts)) = absurd (omega (arith, counts.counted, counts.some, counts.room))
 
   -- behind any text that leaves room, calm text passes
   pub passes-calm : (f : Form) (c : ℕ) (cs : List ℕ) (class count : ℕ) → IsCalm p f (c ∷ cs) class count → (x : List ℕ) → last_run p (stream_safe p x) ≤ max_run

@@ -1,7 +1,5 @@
-use Rattle.std.proofs.Common.{◌≡◌, ◌++◌, List, ℕ, sym, ap, ◌∙◌, subst₂, eq-eqb}
+use Rattle.std.proofs.Common.{rules, ◌≡◌, ◌++◌, List, ℕ, sym, ap, ◌∙◌, subst₂}
 use Rattle.std.specs.Prelude.{encode_utf8}
-use Rattle.std.proofs.lemmas.Bool.{ne_eqb}
-use Rattle.nf_forms.specs.Ucd.{ucd}
 use Rattle.nf_calm.specs.Parts.{SplitsAtStarter}
 use Rattle.nf_calm.proofs.CutLemmas.{no_marks, all_marks, one_mark_more, front_boundary, splits_at_starter}
 use Rattle.nf_calm.proofs.cut.split_last_starter.Goals as goal
@@ -18,21 +16,19 @@ split_at-requires c =
     front_boundary c.args.text.now c.loop-c.chars.rest.now c.as_str-front.result.now c.loop-c.invariant c.in-Some.c c.as_str-front.utf8
     (stepped c.in-Some.c c.in-Some.ensures.steps c.as_str-front.ensures)
 
-pub returns-then-canonical_combining_class-eq0 : goal.returns-then-canonical_combining_class-eq0
-unfolding ucd
-returns-then-canonical_combining_class-eq0 c =
+pub returns-then-not-counts_as_mark : goal.returns-then-not-counts_as_mark
+returns-then-not-counts_as_mark c =
     subst₂ (λ a b. SplitsAtStarter c.args.text.now a b) (sym c.split_at.ensures.front) (sym c.split_at.ensures.back)
     (splits_at_starter c.args.text.now c.loop-c.chars.rest.now c.as_str-front.result.now c.loop-c.invariant c.in-Some.c c.as_str-front.utf8
     (stepped c.in-Some.c c.in-Some.ensures.steps c.as_str-front.ensures)
-    (eq-eqb _ 0 (sym c.canonical_combining_class.ensures ∙ c.if-canonical_combining_class-eq0.true)))
+    (search rules))
 
 pub loop-c-preserved : goal.loop-c-preserved
-unfolding ucd
 loop-c-preserved c =
     rw (sym c.as_str-front.ensures)
     (one_mark_more c.args.text.now c.loop-c.chars.rest.now c.as_str-front.result.now c.loop-c.invariant c.in-Some.c c.as_str-front.utf8
     (stepped c.in-Some.c c.in-Some.ensures.steps c.as_str-front.ensures)
-    (ne_eqb _ 0 (λ none. c.if-canonical_combining_class-eq0.false (c.canonical_combining_class.ensures ∙ none))))
+    (search rules))
 
 pub returns : goal.returns
 returns c = all_marks c.args.text.now c.loop-c.chars.rest.now c.loop-c.invariant c.in_default.ensures.steps.0

@@ -15,5 +15,5 @@ returns c = λ f whole here.
       count = here.count;
       calm = calm;
       sound = subst (IsSoundText ucd) parts.characters here.sound;
-      end = calm_end f _ _ _ parts _ _ calm;
+      end = calm_end f c.exceptions_are_few.ensures.starter c.some_starters_count_as_marks.ensures.none _ _ _ parts _ _ calm;
     }
