@@ -4,28 +4,22 @@ use crate::reference::{FORMS, checked};
 use nf_forms::Form;
 use std::test::Fail;
 
-/// U+FF9E and U+FF9F are their own rows in the canonical forms. Calm text behind them begins another front.
+/// U+FF9E and U+FF9F are their own rows in the canonical forms, and calm text goes on with them.
 #[test]
 fn halfwidth_marks_stay(rt: HostRuntime) -> Result<(), Fail> {
-    let fronts = [
+    let kept = "a\u{FF76}\u{FF9E}\u{FF8A}\u{FF9F}\u{FF9E}\u{FF77}c\u{FF8A}\u{FF9F}";
+    let composed = [
         ("\u{FF76}\u{FF9E}", "", "", "b"),
         ("\u{FF76}\u{FF9E}", "", "", "x\u{FF9E}\u{301}y"),
-    ];
-    check(&rt, rt.alloc(), Form::Nfc, &fronts)?;
-    check(&rt, rt.alloc(), Form::Nfd, &fronts)?;
-    let (kept, behind) = (
-        "a\u{FF76}\u{FF9E}\u{FF8A}\u{FF9F}\u{FF9E}",
-        "c\u{FF8A}\u{FF9F}b",
-    );
-    let composed = [
         ("\u{FF76}\u{FF9E}", "e\u{301}", "\u{E9}", "b"),
-        (kept, "", "", "\u{FF77}c\u{FF8A}\u{FF9F}b"),
+        (kept, "", "", "b"),
     ];
     check(&rt, rt.alloc(), Form::Nfc, &composed)?;
-    // Where letters are taken apart, one of which bytes do not tell goes with what may be changed behind it.
     let decomposed = [
+        ("\u{FF76}\u{FF9E}", "", "", "b"),
+        ("\u{FF76}\u{FF9E}x\u{FF9E}\u{301}", "", "", "y"),
         ("\u{FF76}\u{FF9E}", "\u{E9}", "e\u{301}", "b"),
-        (kept, "\u{FF77}", "\u{FF77}", behind),
+        (kept, "", "", "b"),
     ];
     check(&rt, rt.alloc(), Form::Nfd, &decomposed)
 }

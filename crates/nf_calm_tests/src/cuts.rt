@@ -42,7 +42,9 @@ fn nfc(rt: HostRuntime) -> Result<(), Fail> {
         ("a", "b\u{334}\u{316}\u{316}", ""),
         ("a", "b\u{316}", "\u{334}c"),
         ("a\u{316}", "b\u{334}", "\u{1161}"),
-        ("\u{FF76}", "\u{3042}", "\u{FF9E}"),
+        ("\u{FF76}", "\u{3042}\u{FF9E}", ""),
+        ("", "", "\u{FF9E}a"),
+        ("a", "b\u{316}\u{FF9E}\u{334}", "\u{301}"),
         ("\u{A0}", "\u{FB01}", "\u{1F71}"),
         ("\u{1F600}", "\u{10FFFF}", "\u{2F800}"),
     ];
@@ -59,7 +61,8 @@ fn nfd(rt: HostRuntime) -> Result<(), Fail> {
         ("e\u{301}", "a", "\u{E9}"),
         ("\u{1100}\u{1161}", "\u{11A8}", "\u{AC00}"),
         ("", "", "\u{301}"),
-        ("", "\u{FF76}", "\u{FF9F}"),
+        ("", "\u{FF76}\u{FF9F}", ""),
+        ("\u{FF76}\u{FF9E}", "\u{FF8A}\u{FF9F}\u{301}", "\u{304C}"),
         ("\u{A0}", "\u{FB01}", "\u{C5}"),
     ];
     check(&rt, rt.alloc(), Form::Nfd, &cuts)
@@ -96,6 +99,28 @@ fn twelve_marks_follow(rt: HostRuntime) -> Result<(), Fail> {
         assert_eq!(rt;
             (more.settled, more.tail.len(), more.rest),
             ("a", 25, "\u{316}c")
+        );
+    }
+    Ok(())
+}
+
+/// U+FF9E and U+FF9F are starters in the canonical forms, and count as marks: thirty with the eighteen that any character may
+/// end in.
+#[test]
+fn twelve_halfwidth_marks_follow(rt: HostRuntime) -> Result<(), Fail> {
+    for form in [Form::Nfc, Form::Nfd] {
+        let text = format!(in rt.alloc(); "a\u{FF76}{TWELVE}\u{FF9E}c")?;
+        let none = calm_front(form, &text);
+        assert_eq!(rt;
+            (none.settled, none.tail.len(), none.rest),
+            ("a", 27, "\u{FF9E}c")
+        );
+        let marks = "\u{FF9E}\u{FF9F}".repeat(rt.alloc(), 6)?;
+        let text = format!(in rt.alloc(); "a\u{FF76}{marks}\u{FF9E}c")?;
+        let twelve = calm_front(form, &text);
+        assert_eq!(rt;
+            (twelve.settled, twelve.tail.len(), twelve.rest),
+            ("a", 39, "\u{FF9E}c")
         );
     }
     Ok(())

@@ -14,9 +14,9 @@ const LETTERS: [&str; 22] = [
     "\u{30AC}", "\u{4E2D}", "\u{AC00}", "\u{FF0C}", "\u{FFFD}",
 ];
 
-/// Marks that stand alone in each form, of classes 220, 10, 30, 35, 9, 107 and 218.
-const MARKS: [&str; 7] = [
-    "\u{316}", "\u{5B0}", "\u{64E}", "\u{670}", "\u{94D}", "\u{E48}", "\u{302A}",
+/// Marks that stand alone in each form, of classes 220, 10, 30, 35, 9, 107 and 218, and a starter that counts as a mark.
+const MARKS: [&str; 8] = [
+    "\u{316}", "\u{5B0}", "\u{64E}", "\u{670}", "\u{94D}", "\u{E48}", "\u{302A}", "\u{FF9E}",
 ];
 
 /// Blocks that have characters of all kinds: the first code point, and how many.
@@ -68,7 +68,7 @@ fn front_of(form: Form, text: &str) -> Calm<'_> {
                 class = 0;
                 count = 18;
             }
-            Role::Mark if mark >= class && count < 30 => {
+            Role::Mark if (mark == 0 || mark >= class) && count < 30 => {
                 class = mark;
                 count += 1;
             }
@@ -96,7 +96,7 @@ fn mixtures_end_where_their_characters_say(rt: HostRuntime) -> Result<(), Fail> 
                     let (first, len) = BLOCKS[seeded.below(12) as usize];
                     text.push(seeded.char_in(first, len).unwrap_or('b'))?;
                 }
-                1 => text.push_str(MARKS[seeded.below(7) as usize])?,
+                1 => text.push_str(MARKS[seeded.below(8) as usize])?,
                 2..=9 => text.push_str(LETTERS[seeded.below(22) as usize])?,
                 _ => text.push_str(letter)?,
             }

@@ -27,8 +27,8 @@ fn passes(form: Form, c: char) -> bool {
     answer == QuickCheck::Yes
 }
 
-/// A starter that passes parts a text where its compatibility decomposition begins with a starter; a non-starter stays
-/// where it is its own decompositions.
+/// A starter that passes parts a text where its compatibility decomposition begins with a starter, and counts as a mark where
+/// that has none; a non-starter stays where it is its own decompositions.
 pub(crate) fn role_of(form: Form, c: char) -> Role {
     let (mut first, mut second) = ([c; 3], [c; 3]);
     let canonical = decomposition(c, TableForm::Nfd, &mut first);
@@ -42,7 +42,7 @@ pub(crate) fn role_of(form: Form, c: char) -> Role {
     let own = canonical == [c].as_slice() && compat == [c].as_slice();
     match (canonical_combining_class(c) == 0, begins, own) {
         (true, true, _) => Role::Parts,
-        (false, _, true) => Role::Mark,
+        (true, false, _) | (false, _, true) => Role::Mark,
         _ => Role::Ends,
     }
 }

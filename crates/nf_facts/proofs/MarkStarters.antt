@@ -1,39 +1,31 @@
--- Starters of which NFKD has non-starters alone: two halfwidth marks, of one each, and three vowel signs.
-use Rattle.std.proofs.Common.{◌≡◌, ⊎_elim, ℕ, Bool, true, false, not, ◌==◌, ◌||◌, List, [], ◌∷◌, length, refl, ap, ◌∙◌, eqb-true}
-use Rattle.std.specs.List.{list_all}
-use Rattle.std.proofs.lemmas.Bool.{or_cases, and_parts, not-true}
+-- Starters of which NFKD has non-starters alone: two halfwidth marks, of one each, which are their own canonical rows, and three
+-- vowel signs.
+use Rattle.std.proofs.Common.{◌≡◌, ⊎_elim, ℕ, true, false, ◌==◌, ◌||◌, List, [], ◌∷◌, length, refl, sym, subst, eqb-true}
+use Rattle.std.proofs.lemmas.Bool.{or_cases}
 use Rattle.unicode_normalization.proofs.Computing.{unicode_normalization}
 use Rattle.nf_forms.specs.Runs.{has_starter}
 use Rattle.nf_forms.specs.Ucd.{ucd}
 use Rattle.nf_facts.specs.Passing.{is_among, halfwidth_marks, vowel_signs}
 
--- what all of these pass, each of them passes
-pub each : (test : ℕ → Bool) (cs : List ℕ) → list_all test cs ≡ true → (c : ℕ) → is_among cs c ≡ true → test c ≡ true
-each test [] all c is = cc
-each test (x ∷ cs) all c is =
-    let parts = and_parts (test x) (list_all test cs) all in
-    ⊎_elim (λ first. ap test (eqb-true c x first) ∙ parts.0) (λ more. each test cs parts.1 c more) (or_cases (c == x) (is_among cs c) is)
+abbrev Each : (ℕ → Type 0) → List ℕ → Type 0
+Each P [] = Unit {0}
+Each P (x ∷ cs) = P x × Each P cs
 
-is_one : ℕ → Bool
-is_one c = length (ucd.compat c) == 1
+-- what holds of each of these
+pub each : (P : ℕ → Type 0) (cs : List ℕ) → Each P cs → (c : ℕ) → is_among cs c ≡ true → P c
+each P [] all c is = cc
+each P (x ∷ cs) all c is = ⊎_elim (λ first. subst P (sym (eqb-true c x first)) all.0) (λ more. each P cs all.1 c more) (or_cases (c == x) (is_among cs c) is)
 
-is_of_marks : ℕ → Bool
-is_of_marks c = not (has_starter ucd (ucd.compat c))
+abbrev IsCounted : ℕ → Type 0
+IsCounted c = (has_starter ucd (ucd.compat c) ≡ false) × (length (ucd.compat c) ≡ 1) × (ucd.canonical c ≡ c ∷ [])
 
-ones : list_all is_one halfwidth_marks ≡ true
-unfolding ucd unicode_normalization is_one
-ones = refl
+pub counted : (c : ℕ) → is_among halfwidth_marks c ≡ true → IsCounted c
+unfolding ucd unicode_normalization
+counted = each IsCounted halfwidth_marks ((refl, refl, refl), ((refl, refl, refl), tt))
 
-of_marks : (list_all is_of_marks halfwidth_marks ≡ true) × (list_all is_of_marks vowel_signs ≡ true)
-unfolding ucd unicode_normalization is_of_marks
-of_marks = (refl, refl)
-
-pub halfwidth-one : (c : ℕ) → is_among halfwidth_marks c ≡ true → length (ucd.compat c) ≡ 1
-unfolding is_one
-halfwidth-one c is = eqb-true (length (ucd.compat c)) 1 (each is_one halfwidth_marks ones c is)
+vowels : (c : ℕ) → is_among vowel_signs c ≡ true → has_starter ucd (ucd.compat c) ≡ false
+unfolding ucd unicode_normalization
+vowels = each (λ c. has_starter ucd (ucd.compat c) ≡ false) vowel_signs (refl, (refl, (refl, tt)))
 
 pub no_starter : (c : ℕ) → (is_among halfwidth_marks c || is_among vowel_signs c) ≡ true → has_starter ucd (ucd.compat c) ≡ false
-unfolding is_of_marks
-no_starter c is =
-    not-true (has_starter ucd (ucd.compat c))
-    (⊎_elim (each is_of_marks halfwidth_marks of_marks.0 c) (each is_of_marks vowel_signs of_marks.1 c) (or_cases (is_among halfwidth_marks c) (is_among vowel_signs c) is))
+no_starter c is = ⊎_elim (λ mark. (counted c mark).0) (vowels c) (or_cases (is_among halfwidth_marks c) (is_among vowel_signs c) is)

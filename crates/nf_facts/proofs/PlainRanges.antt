@@ -41,7 +41,7 @@ all_plain Nfkd = none_fails-true (plain_ranges Nfkd) (passes_by_range Nfkd) (of_
 
 outside : (c : ℕ) → in_ranges halfwidth c ≡ false → is_among halfwidth_marks c ≡ false
 unfolding tables halfwidth
-outside c h = false_from_ne_true _ (λ is. let clash = sym h ∙ each (in_ranges halfwidth) halfwidth_marks refl c is in cc)
+outside c h = false_from_ne_true _ (λ is. let clash = sym h ∙ each (λ c. in_ranges halfwidth c ≡ true) halfwidth_marks (refl, (refl, tt)) c is in cc)
 
 -- each part of the test gives the other form of it
 pub plain-passes : (f : Form) (c : ℕ) → in_ranges (plain_ranges f) c ≡ true → passes_check f c ≡ true

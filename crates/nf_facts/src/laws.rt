@@ -81,11 +81,12 @@ pub fn what_passes_begins_anew()
 {}
 
 /// The compatibility rows of the five starters that begin with a non-starter have no starter; that of a halfwidth mark is one
-/// character.
+/// character, and its canonical row is itself.
 #[inline]
 pub fn some_starters_count_as_marks()
     ensures none { (c : ℕ) → IsTrue (is_among halfwidth_marks c || is_among vowel_signs c) → has_starter ucd (ucd.compat c) ≡ false }
     ensures once { (c : ℕ) → IsTrue (is_among halfwidth_marks c) → length (ucd.compat c) ≡ 1 }
+    ensures own { (c : ℕ) → IsTrue (is_among halfwidth_marks c) → ucd.canonical c ≡ c ∷ [] }
 {}
 
 /// In these ranges, which the first bytes of a character in UTF-8 can tell, every character passes: a list for each form.

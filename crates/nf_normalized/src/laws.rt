@@ -9,7 +9,7 @@ ghost use Rattle.nf_normalized.specs.Change.{change_at, settled_change_at};
 
 use nf_facts::laws::{
     a_second_filter_changes_nothing, each_pair_has_a_primary_composite, every_character_is_sound,
-    exceptions_are_few, forms_are_those_of_the_kit, halfwidth_marks_stand_for_marks,
+    exceptions_are_few, forms_are_those_of_the_kit, some_starters_count_as_marks,
     the_quick_check_tells, two_forms_are_one,
 };
 use nf_filter::laws::{little_is_held_back, settled_only_grows};
@@ -51,7 +51,7 @@ pub fn fronts_of_a_form_are_in_it()
     a_second_filter_changes_nothing();
     two_forms_are_one();
     exceptions_are_few();
-    halfwidth_marks_stand_for_marks();
+    some_starters_count_as_marks();
     the_quick_check_tells();
     each_pair_has_a_primary_composite();
     forms_are_those_of_the_kit();
