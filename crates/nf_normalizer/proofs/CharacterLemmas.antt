@@ -1,5 +1,5 @@
 -- One character more.
-use Rattle.std.proofs.Common.{◌≡◌, ℕ, ◌+◌, ◌<◌, ◌≤◌, Bool, true, false, not, ◌||◌, List, [], ◌∷◌, ◌++◌, Ok, Err, refl, sym, ap, ◌∙◌, subst, arith, if◌then◌else◌, encode_utf8_all}
+use Rattle.std.proofs.Common.{◌≡◌, ◌==◌, ℕ, ◌+◌, ◌<◌, ◌≤◌, Bool, true, false, not, ◌||◌, List, [], ◌∷◌, ◌++◌, Ok, Err, refl, sym, ap, ◌∙◌, subst, arith, if◌then◌else◌, encode_utf8_all}
 use Rattle.std.proofs.lemmas.Bool.{false≢true, cond-true, cond-false, and_from, and_left, and_right, or_from, not_from_true, ltb-false}
 use Rattle.std.proofs.lemmas.Str.{encodes-append}
 use Rattle.nf_forms.specs.Properties.{Properties, is_starter, is_nonstarter}
@@ -11,10 +11,10 @@ use Rattle.nf_forms.specs.Forms.{row_of, decomposed, finished}
 use Rattle.nf_forms.specs.StreamSafe.{joiner, max_run, is_too_long, parted, stream_safe}
 use Rattle.nf_forms.specs.Sound.{is_sound}
 use Rattle.nf_forms.specs.SafeForm.{safe_form}
+use Rattle.nf_forms.specs.Laws.Cluster.{row-own}
 use Rattle.nf_row.specs.declared.ends.Ends.{Ends}
-use Rattle.nf_row.specs.declared.single.Single.{Single}
 use Rattle.nf_row.specs.Ends.{HasEnds}
-use Rattle.nf_row.specs.Single.{IsSingle}
+use Rattle.nf_row.specs.Kind.{IsOwn}
 use Rattle.nf_forms.specs.Laws.Runs.{lead-marks, lead-le-length, trail-marks}
 use Rattle.nf_forms.specs.Laws.StreamSafe.{stream_safe-push, decomposed-push}
 use Rattle.nf_forms.specs.Laws.Sound.{JoinerIsPlain, IsSound, IsSound-from_test, JoinerIsPlain-from_sound}
@@ -78,9 +78,12 @@ module _ (p : Properties) where
       at w agree trails leads =
           next (has_starter p w) (has_starter p (p.compat c)) _ _ (lead p w) _ _ (lead p (p.compat c)) agree (lead-marks p w) (lead-marks p (p.compat c)) (trail-marks p (p.compat c)) trails leads
 
-  -- one member is the row of a character of which a form has one code point, also behind what keeps the form
-  pub row_of-single : (old new : Normalizer) (c : ℕ) (single : Single) → IsSingle p old.form c single → new.form ≡ old.form → row_of new.form p c ≡ single.member ∷ []
-  row_of-single old new c single is same = ap (λ f. row_of f p c) same ∙ is.row
+  -- a character that is its own row, and its ends
+  pub row-known : (f : Form) (c k : ℕ) → IsOwn p c k → row_of f p c ≡ c ∷ []
+  row-known f c k own = row-own p f c (record { canonical = own.canonical; compat = own.compat })
+
+  pub ends-known : (c k : ℕ) (ends : Ends) → IsOwn p c k → ((q : Properties) (d : ℕ) → (k == 0) ≡ is_starter q d → HasEnds q (d ∷ []) ends) → HasEnds p (p.compat c) ends
+  ends-known c k ends own one = subst (λ row. HasEnds p row ends) (sym own.compat) (one p c (ap (λ n. n == 0) (sym own.class)))
 
   lead-row : (f : Form) (c : ℕ) → is_sound p c ≡ true → lead p (row_of f p c) ≤ lead p (p.compat c)
   lead-row f c sound = of_row (λ row. lead p row ≤ lead p (p.compat c)) c (IsSound-from_test p c sound).lead_within (omega arith) f
@@ -102,11 +105,6 @@ module _ (p : Properties) where
   room_for-single part c d row room mark =
       let alone : lead p (row_of part.form p c) ≡ 1 = ap (lead p) row ∙ cond-true _ _ _ mark in
       omega (arith, room.lead)
-
-  -- the ends of its compatibility row are those of one member
-  pub ends-single : (f : Form) (c : ℕ) (single : Single) (ends : Ends) → IsSingle p f c single
-      → ((q : Properties) (d : ℕ) → single.compat_starts ≡ is_starter q d → HasEnds q (d ∷ []) ends) → HasEnds p (p.compat c) ends
-  ends-single f c single ends is one = subst (λ row. HasEnds p row ends) (sym is.compat) (one p is.compat_member is.compat_starts)
 
   abbrev counting : Normalizer → ℕ → Normalizer
   counting taken c = record taken { counter = count_step p taken.counter (p.compat c) }

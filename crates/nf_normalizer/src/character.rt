@@ -1,18 +1,15 @@
-//! How a normalizer takes one character: without its row where one code point is known to be all of it, else by its row.
-ghost use Rattle.std.specs.Prelude.{IfSome};
-ghost use Rattle.nf_row.specs.Single.{IsSingle};
-
+//! How a normalizer takes one character: without its row where that is known to be itself, else by its row.
 use crate::front::Unsound;
 use crate::normalizer::Normalizer;
 use crate::pushing::{push, push_decomposition, push_of_class};
 use crate::room::Room;
-use nf_row::{Ends, Form, JOINER, Rows, Single, own_class, sound, sound_ends};
+use nf_row::{Ends, JOINER, Rows, own_class, sound, sound_ends};
 
 /// Each call answers whether U+034F was put before the character. Where it is unsound nothing is put.
 impl Normalizer {
     ghost use Rattle.std.specs.Prelude.{◌≡◌, ◌+◌, ◌*◌, ◌<◌, ◌≤◌, ℕ, List, length, IsTrue, OnOk};
     ghost use Rattle.nf_row.specs.Ends.{HasEnds};
-    ghost use Rattle.nf_row.specs.Single.{IsSingle};
+    ghost use Rattle.nf_row.specs.Kind.{IsOwn};
     ghost use Rattle.nf_forms.specs.declared.form.Form.{Form};
     ghost use Rattle.nf_forms.specs.Sound.{is_sound};
     ghost use Rattle.nf_pending.specs.StandsAfter.{run_len, StandsAfter};
@@ -31,32 +28,32 @@ impl Normalizer {
         ensures within { OnOk result (IsWithin self.new) }
         ensures takes { TakesNext (R.properties rows.now) self.old self.new room.old.items room.new.items c result }
     {
-        match single_of(rows, self.form, c) {
-            Some(single) => self.take_single(rows, c, single, room),
+        match own_class(rows, c) {
+            Some(class) => self.take_own(rows, c, class, room),
             None => self.take_row(rows, c, room),
         }
     }
 
-    /// Takes a character of which the form has this one code point: no rows are read.
+    /// Takes a character of this class that is its own row: none is read.
     #[inline(always)]
-    pub(crate) fn take_single<R: Rows>(
+    pub(crate) fn take_own<R: Rows>(
         &mut self,
         rows: &R,
         c: char,
-        single: Single,
+        class: u8,
         room: &mut Room,
     ) -> Result<bool, Unsound>
-        requires single { IsSingle (R.properties rows.now) self.old.form c single }
+        requires own { IsOwn (R.properties rows.now) c class }
         requires within { IsWithin self.old }
         requires room { length room.old.items + 200 ≤ 4096 }
         ensures within { OnOk result (IsWithin self.new) }
         ensures takes { TakesNext (R.properties rows.now) self.old self.new room.old.items room.new.items c result }
     {
-        let joined = match self.make_room(rows, c, Ends::of_one(single.compat_starts), room) {
+        let joined = match self.make_room(rows, c, Ends::of_one(class == 0), room) {
             Ok(joined) => joined,
             Err(unsound) => return Err(unsound),
         };
-        push_of_class(&mut self.pending, rows, single.member, single.class, room);
+        push_of_class(&mut self.pending, rows, c, class, room);
         Ok(joined)
     }
 
@@ -123,16 +120,5 @@ impl Normalizer {
         }
         push(&mut self.pending, rows, JOINER, room);
         Ok(())
-    }
-}
-
-/// The one code point that the form has of `c`, where that is told before its rows are read.
-#[inline]
-fn single_of<R: Rows>(rows: &R, form: Form, c: char) -> Option<Single>
-    ensures { IfSome result (λ single. IsSingle (R.properties rows.now) form c single) }
-{
-    match own_class(rows, c) {
-        Some(class) => Some(Single::of_own(c, class)),
-        None => rows.single(form, c),
     }
 }

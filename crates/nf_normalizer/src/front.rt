@@ -1,7 +1,7 @@
 //! What of a text is taken at once: what is closed, or a run of plain ASCII, or a character.
 use crate::normalizer::Normalizer;
 use crate::room::Room;
-use nf_row::{Closed, Formed, Kind, Rows, Single};
+use nf_row::{Closed, Formed, Kind, Rows};
 use nf_utf8::ascii_prefix;
 
 /// Of a text of so many bytes no closed front is asked for: each of its characters goes the ordinary way for less.
@@ -73,9 +73,8 @@ impl Normalizer {
         }
     }
 
-    /// Takes `c` where it is known what the form has of it, and no closed text begins so, for to ask for a front of it would
-    /// cost more: a mark that is its own row, a starter that counts as a mark, or a letter of Hangul that may compose with the
-    /// one before.
+    /// Takes `c` where it is known to be its own row, and no closed text begins so, for to ask for a front of it would cost
+    /// more: a mark, or a starter that may compose with the one before.
     #[inline(always)]
     fn take_alone<R: Rows>(
         &mut self,
@@ -93,13 +92,9 @@ impl Normalizer {
             // At a boundary none of these stands, and at the begin of all text they may go the ordinary way.
             return None;
         }
-        // Marks have a way of their own into the same call: what is known of each stays in registers.
-        if let Kind::Mark { class, .. } = rows.kind(self.form, c) {
-            return Some(self.take_single(rows, c, Single::of_own(c, class), room));
-        }
-        match rows.single(self.form, c) {
-            Some(single) => Some(self.take_single(rows, c, single, room)),
-            None => None,
+        match rows.kind(self.form, c) {
+            Kind::Own { class, .. } => Some(self.take_own(rows, c, class, room)),
+            _ => None,
         }
     }
 

@@ -1,7 +1,6 @@
 pub mod Changes
 pub mod Patched
 pub mod Kind
-pub mod Single
 pub mod Ends
 pub mod Shape
 pub mod Ascii

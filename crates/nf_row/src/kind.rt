@@ -3,9 +3,9 @@
 pub enum Kind {
     /// A sound starter before which a text may be cut, and whose form alone is itself.
     Parts,
-    /// A sound non-starter that is its own canonical and compatibility row.
-    Mark {
-        /// Its combining class, 1 to 255.
+    /// A sound character that is its own canonical and compatibility row: a non-starter, or a starter that may compose.
+    Own {
+        /// Its combining class, 0 to 255.
         class: u8,
         /// Whether it may compose with something before it, in a form that composes.
         may_compose: bool,

@@ -12,7 +12,7 @@ pub fn own_class<R: Rows>(rows: &R, c: char) -> Option<u8>
     ensures { IfSome result (λ class. IsOwn (R.properties rows.now) c class) }
 {
     match rows.kind(Form::Nfkd, c) {
-        Kind::Mark { class, .. } => Some(class),
+        Kind::Own { class, .. } => Some(class),
         Kind::Parts => match rows.kind(Form::Nfd, c) {
             Kind::Parts => Some(0),
             _ => None,

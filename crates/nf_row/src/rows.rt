@@ -8,12 +8,10 @@ ghost use Rattle.nf_forms.specs.Audit.{IsAudited};
 ghost use Rattle.nf_calm.specs.Front.{IsCalmFront};
 ghost use Rattle.nf_boundary.specs.Front.{IsClosedFront};
 ghost use Rattle.nf_row.specs.Kind.{IsKind};
-ghost use Rattle.nf_row.specs.Single.{IsSingle};
 ghost use Rattle.nf_row.specs.Ascii.{IsPlainAscii};
 ghost use Rattle.nf_row.specs.Starters.{has_only_starters};
 
 use crate::kind::Kind;
-use crate::single::Single;
 use arrayvec::ArrayVec;
 use nf_boundary::{Closed, Formed};
 use nf_calm::Calm;
@@ -89,15 +87,6 @@ pub trait Rows {
         ensures { IsKind (properties self.now) _form _c result }
     {
         Kind::Other
-    }
-
-    /// The one code point that the form has of `c`, where it is known, without its rows, that there is one. Data of which
-    /// nothing is known leaves it out.
-    #[inline]
-    fn single(&self, _form: Form, _c: char) -> Option<Single>
-        ensures { IfSome result (λ single. IsSingle (properties self.now) _form _c single) }
-    {
-        None
     }
 
     /// The calm front of the text in that form, as far as it is known. Data of which nothing is known leaves it out.

@@ -4,9 +4,7 @@ ghost use Rattle.nf_forms.specs.Ucd.{ucd};
 
 use crate::kind::Kind;
 use crate::known::kind_of;
-use crate::letter_row::letter_row;
 use crate::rows::{Long, Row, Rows, row_from};
-use crate::single::Single;
 use crate::starters::starters_front;
 use nf_assigned::assigned_front;
 use nf_boundary::{Closed, Formed, closed_front};
@@ -82,11 +80,6 @@ impl Rows for Ucd {
     #[inline]
     fn kind(&self, form: nf_forms::Form, c: char) -> Kind {
         kind_of(form, c)
-    }
-
-    #[inline]
-    fn single(&self, _form: nf_forms::Form, c: char) -> Option<Single> {
-        letter_row(c)
     }
 
     #[inline]

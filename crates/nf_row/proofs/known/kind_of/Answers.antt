@@ -2,8 +2,23 @@ use Rattle.std.proofs.Common.{sym, ap, ◌∙◌, eq-eqb}
 use Rattle.std.proofs.lemmas.Bool.{and_from, not_from_false}
 use Rattle.ucd_normal.specs.CanonicalCombiningClass.{canonical_combining_class}
 use Rattle.ucd_normal.specs.QuickCheck.{quick_check}
+use Rattle.nf_forms.specs.Ucd.{ucd}
 use Rattle.nf_facts.specs.Passing.{is_yes}
 use Rattle.nf_row.proofs.known.kind_of.Goals as goal
+
+pub returns-in-Maybe-2 : goal.returns-in-Maybe-2
+unfolding ucd
+returns-in-Maybe-2 c =
+    let row = c.is_own_row.ensures c.if-is_own_row.true in
+    record {
+      own = record {
+        sound = c.every_character_is_sound.ensures.character c.args.c;
+        class = sym c.class_and_quick_check-class.ensures.class ∙ c.if-class-ne0-2.false;
+        canonical = row.canonical;
+        compat = row.compat;
+      };
+      never_second = λ none. cc;
+    }
 
 pub returns-in-Yes-2 : goal.returns-in-Yes-2
 returns-in-Yes-2 c =
