@@ -3,6 +3,7 @@ ghost use Rattle.std.specs.Prelude.{◌<◌};
 
 use crate::sweep::is_assigned;
 use nf_assigned::assigned_front;
+use nf_seeded::Seeded;
 use std::test::Fail;
 
 /// Letters of each width, of many scripts.
@@ -33,29 +34,15 @@ const BLOCKS: [(u32, u32); 8] = [
     (0xFA00, 0x600),
 ];
 
-/// Numbers that look random, and are the same in each run: Marsaglia's xorshift.
-#[derive(Drop)]
-struct Seeded(u64);
-
-impl Seeded {
-    fn below(&mut self, bound: u32) -> u32
-        requires { 0 < bound }
-        ensures { result < bound }
-    {
-        self.0 ^= self.0 << 13;
-        self.0 ^= self.0 >> 7;
-        self.0 ^= self.0 << 17;
-        (self.0 % bound as u64) as u32
+/// A letter, or, one time of so many, a character of a block.
+fn next_char(seeded: &mut Seeded, letter: char, others: u32) -> char
+    requires { 0 < others }
+{
+    if seeded.below(others) > 0 {
+        return letter;
     }
-
-    /// A letter, or, one time of so many, a character of a block.
-    fn next_char(&mut self, letter: char, others: u32) -> char {
-        if self.below(others.max(1)) > 0 {
-            return letter;
-        }
-        let (first, len) = BLOCKS[self.below(8) as usize];
-        char::from_u32(first.saturating_add(self.below(len.max(1)))).unwrap_or(letter)
-    }
+    let (first, len) = seeded.pick(&BLOCKS);
+    seeded.char_in(first, len).unwrap_or(letter)
 }
 
 /// How many bytes the assigned characters at the front have.
@@ -72,13 +59,13 @@ fn front_len(text: &str) -> usize {
 
 #[test]
 fn no_front_is_longer_than_that_of_its_characters(rt: HostRuntime) -> Result<(), Fail> {
-    let mut seeded = Seeded(0x9E37_79B9_7F4A_7C15);
+    let mut seeded = Seeded::new(1);
     for round in 0..6000u32 {
         let mut text = String::new(rt.alloc());
-        let letter = LETTERS[seeded.below(12) as usize];
+        let letter = seeded.pick(&LETTERS);
         let others = 1 + seeded.below(60);
         for _ in 0..10 + seeded.below(190) {
-            text.push(seeded.next_char(letter, others))?;
+            text.push(next_char(&mut seeded, letter, others))?;
         }
         let front = assigned_front(&text);
         assert!(rt;

@@ -1,5 +1,6 @@
 //! Made-up texts, taken front by front.
 use crate::reference::{FORMS, checked};
+use nf_seeded::Seeded;
 use std::test::Fail;
 
 /// Letters and marks of which the forms make many different things.
@@ -10,27 +11,13 @@ const PARTS: [&str; 33] = [
     "\u{212B}", "\u{FF21}", "\u{FF9F}", "\u{2126}", "\u{3131}", "\u{FFC2}",
 ];
 
-/// Numbers that look random, and are the same in each run: Marsaglia's xorshift.
-#[derive(Drop)]
-struct Seeded(u64);
-
-impl Seeded {
-    fn next(&mut self) -> u64 {
-        self.0 ^= self.0 << 13;
-        self.0 ^= self.0 >> 7;
-        self.0 ^= self.0 << 17;
-        self.0
-    }
-}
-
 #[test]
 fn each_front_of_a_mixture(rt: HostRuntime) -> Result<(), Fail> {
-    let mut seeded = Seeded(0x9E37_79B9_7F4A_7C15);
+    let mut seeded = Seeded::new(1);
     for _ in 0..500u32 {
         let mut text = String::new(rt.alloc());
         for _ in 0..40u32 {
-            let at = (seeded.next() >> 8) as usize % PARTS.len();
-            text.push_str(PARTS[at])?;
+            text.push_str(seeded.pick(&PARTS))?;
         }
         for form in FORMS {
             let mut rest = text.as_str();

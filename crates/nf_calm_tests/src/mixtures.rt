@@ -1,9 +1,8 @@
 //! Made-up mixtures of letters, marks and any characters, against the calm front found by one character after another.
-ghost use Rattle.std.specs.Prelude.{◌<◌};
-
 use crate::sweep::{Role, role_of};
 use nf_calm::{Calm, calm_front};
 use nf_forms::Form;
+use nf_seeded::Seeded;
 use std::test::Fail;
 use unicode_normalization::char::canonical_combining_class;
 
@@ -35,27 +34,6 @@ const BLOCKS: [(u32, u32); 12] = [
     (0x1D150, 0x80),
 ];
 
-/// Numbers that look random, and are the same in each run: Marsaglia's xorshift.
-#[derive(Drop)]
-struct Seeded(u64);
-
-impl Seeded {
-    fn below(&mut self, bound: u32) -> u32
-        requires { 0 < bound }
-        ensures { result < bound }
-    {
-        self.0 ^= self.0 << 13;
-        self.0 ^= self.0 >> 7;
-        self.0 ^= self.0 << 17;
-        (self.0 % bound as u64) as u32
-    }
-
-    /// A character of a block of `len`, where one has this code.
-    fn char_in(&mut self, first: u32, len: u32) -> Option<char> {
-        char::from_u32(first.saturating_add(self.below(len.max(1))))
-    }
-}
-
 /// The calm front by the role of each character: behind one that parts a text a bound of 18 non-starters is counted from.
 fn front_of(form: Form, text: &str) -> Calm<'_> {
     let (mut class, mut count) = (0u8, 30u8);
@@ -85,7 +63,7 @@ fn front_of(form: Form, text: &str) -> Calm<'_> {
 
 #[test]
 fn mixtures_end_where_their_characters_say(rt: HostRuntime) -> Result<(), Fail> {
-    let mut seeded = Seeded(0x9E37_79B9_7F4A_7C15);
+    let mut seeded = Seeded::new(1);
     for round in 0..4000u32 {
         let mut text = String::new(rt.alloc());
         let letter = LETTERS[seeded.below(22) as usize];

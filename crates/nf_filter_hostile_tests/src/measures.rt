@@ -1,10 +1,11 @@
 //! A measurement passes over much that it need not look at: it answers the same over the same data of which nothing is
 //! known, with which each character is looked at.
-use crate::mixtures::{Seeded, cut, push_part};
+use crate::mixtures::{cut, push_part};
 use nf_filter::{Fault, FromReader, measure, measure_buffered};
 use nf_filter_fixtures::{Pieces, joined};
 use nf_row::{Patched, Ucd};
 use nf_safe::Measure;
+use nf_seeded::Seeded;
 use std::alloc::AllocError;
 use std::test::Fail;
 
@@ -42,7 +43,7 @@ fn push_some(text: &mut String, seeded: &mut Seeded) -> Result<(), AllocError> {
 fn mixtures_are_measured_in_the_same_way(rt: HostRuntime) -> Result<(), Fail> {
     let alloc = rt.alloc();
     for seed in 1..=300 {
-        let mut seeded = Seeded(seed);
+        let mut seeded = Seeded::new(seed);
         let mut text = String::new(alloc);
         for _ in 0..80 {
             push_some(&mut text, &mut seeded)?;

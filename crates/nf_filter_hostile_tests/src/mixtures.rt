@@ -1,11 +1,12 @@
 //! Texts of every character, and made-up texts of hostile mixtures, in pieces of made-up sizes.
-ghost use Rattle.std.specs.Prelude.{◌+◌, ◌^◌, ◌<◌};
+ghost use Rattle.std.specs.Prelude.{◌<◌, length};
 
 use crate::both_ways::{same_both_ways, same_over};
 use crate::calm::{BREAKS, CALM};
 use crate::closed::CLUSTERS;
 use nf_filter_fixtures::{FORMS, joined};
 use nf_row::{Patched, Plain};
+use nf_seeded::Seeded;
 use std::alloc::{AllocError, Global};
 use std::test::Fail;
 
@@ -51,51 +52,6 @@ fn each_character_goes_the_same_way(rt: HostRuntime) -> Result<(), Fail> {
     Ok(())
 }
 
-/// Numbers that look random, and are the same in each run: Marsaglia's xorshift.
-#[derive(Drop)]
-pub struct Seeded(pub u64);
-
-impl Seeded {
-    pub fn next(&mut self) -> u64 {
-        self.0 ^= self.0 << 13;
-        self.0 ^= self.0 >> 7;
-        self.0 ^= self.0 << 17;
-        self.0
-    }
-
-    /// A number below `bound`.
-    pub fn below(&mut self, bound: u32) -> u32
-        requires { 0 < bound }
-        ensures { result < bound }
-    {
-        (self.next() % bound as u64) as u32
-    }
-
-    /// The size of a piece, small more often than large.
-    fn size(&mut self) -> usize {
-        let most = match self.below(4) {
-            0 => 1,
-            1 => 8,
-            2 => 300,
-            _ => 5000,
-        };
-        1 + self.below(most) as usize
-    }
-
-    /// A character of a block of `len`, where one has this code.
-    fn char_in(&mut self, first: u32, len: u32) -> Option<char>
-        requires fits { first + len < 2 ^ 32 }
-        requires some { 0 < len }
-    {
-        char::from_u32(first + self.below(len))
-    }
-
-    fn pick<T: Copy>(&mut self, from: &[T]) -> Option<T> {
-        let at = self.next() as usize % from.len().max(1);
-        from.get(at).copied()
-    }
-}
-
 /// Marks of many classes and of one, half-width ones, and such as have other rows.
 const MARKS: [&str; 20] = [
     "\u{301}",
@@ -126,9 +82,11 @@ fn push_some(
     seeded: &mut Seeded,
     from: &[&str],
     times: usize,
-) -> Result<(), AllocError> {
+) -> Result<(), AllocError>
+    requires { 0 < length from.now }
+{
     for _ in 0..times {
-        text.push_str(seeded.pick(from).unwrap_or_default())?;
+        text.push_str(seeded.pick(from))?;
     }
     Ok(())
 }
@@ -149,12 +107,12 @@ fn push_jamo(text: &mut String, seeded: &mut Seeded) -> Result<(), AllocError> {
 pub fn push_part(text: &mut String, seeded: &mut Seeded) -> Result<(), AllocError> {
     match seeded.below(10) {
         0..=2 => {
-            let calm = seeded.pick(&CALM).unwrap_or_default();
+            let calm = seeded.pick(&CALM);
             let times = seeded.below(101) as usize;
             push_some(text, seeded, &[calm], times)
         }
         3 => {
-            let mark = seeded.pick(&MARKS).unwrap_or_default();
+            let mark = seeded.pick(&MARKS);
             let times = seeded.below(40) as usize;
             push_some(text, seeded, &[mark], times)
         }
@@ -163,7 +121,7 @@ pub fn push_part(text: &mut String, seeded: &mut Seeded) -> Result<(), AllocErro
             push_some(text, seeded, &MARKS, times)
         }
         5 => {
-            let (other, times) = seeded.pick(&BREAKS).unwrap_or_default();
+            let (other, times) = seeded.pick(&BREAKS);
             push_some(text, seeded, &[other], times)
         }
         6 => push_jamo(text, seeded),
@@ -178,6 +136,17 @@ pub fn push_part(text: &mut String, seeded: &mut Seeded) -> Result<(), AllocErro
     }
 }
 
+/// The size of a piece, small more often than large.
+fn size(seeded: &mut Seeded) -> usize {
+    let most = match seeded.below(4) {
+        0 => 1,
+        1 => 8,
+        2 => 300,
+        _ => 5000,
+    };
+    1 + seeded.below(most) as usize
+}
+
 /// The bytes in pieces.
 pub fn cut<'t>(
     alloc: Global,
@@ -190,7 +159,7 @@ pub fn cut<'t>(
         if rest.is_empty() {
             break;
         }
-        let (piece, behind) = rest.split_at(seeded.size().min(rest.len()));
+        let (piece, behind) = rest.split_at(size(seeded).min(rest.len()));
         pieces.push(piece)?;
         rest = behind;
     }
@@ -210,7 +179,7 @@ fn mixture(alloc: Global, seeded: &mut Seeded) -> Result<Vec<u8>, AllocError> {
 fn mixtures_go_the_same_way(rt: HostRuntime) -> Result<(), Fail> {
     let alloc = rt.alloc();
     for seed in 1..=600 {
-        let mut seeded = Seeded(seed);
+        let mut seeded = Seeded::new(seed);
         let text = mixture(alloc, &mut seeded)?;
         for form in FORMS {
             let pieces = cut(alloc, &mut seeded, text.as_slice())?;
@@ -225,10 +194,10 @@ fn mixtures_go_the_same_way(rt: HostRuntime) -> Result<(), Fail> {
 fn ill_formed_mixtures_are_refused_in_the_same_way(rt: HostRuntime) -> Result<(), Fail> {
     let alloc = rt.alloc();
     for seed in 1001..=1200 {
-        let mut seeded = Seeded(seed);
+        let mut seeded = Seeded::new(seed);
         let mut text = mixture(alloc, &mut seeded)?;
-        let at = seeded.next() as usize % (text.len().max(1));
-        text.insert(at.min(text.len()), 0xFF)?;
+        let at = seeded.place(text.len());
+        text.insert(at, 0xFF)?;
         for form in FORMS {
             let pieces = cut(alloc, &mut seeded, text.as_slice())?;
             let answer = same_both_ways(&rt, alloc, form, pieces.as_slice());

@@ -1,12 +1,14 @@
 //! Many short texts of hostile mixtures, made from seeds, in pieces of made-up sizes: by data of which all is known and of
 //! which nothing is, the same is written, and held, behind each piece.
+ghost use Rattle.std.specs.Prelude.{◌<◌};
+
 use crate::both_ways::same_over;
-use crate::mixtures::{Seeded, cut, push_part};
+use crate::mixtures::{cut, push_part};
 use nf_filter::Fault;
 use nf_filter_fixtures::FORMS;
 use nf_row::{Patched, Plain};
+use nf_seeded::Seeded;
 use std::alloc::{AllocError, Global};
-use std::ops::Range;
 use std::process::Abort;
 use std::test::Fail;
 
@@ -19,18 +21,19 @@ fn short_text(alloc: Global, seeded: &mut Seeded) -> Result<(Vec<u8>, bool), All
     let mut bytes = text.into_bytes();
     let is_ill_formed = seeded.below(8) == 0;
     if is_ill_formed {
-        let at = seeded.next() as usize % bytes.len().max(1);
-        bytes.insert(at.min(bytes.len()), 0xFF)?;
+        let at = seeded.place(bytes.len());
+        bytes.insert(at, 0xFF)?;
     }
     Ok((bytes, is_ill_formed))
 }
 
-fn check_seeds(rt: &impl Abort, alloc: Global, seeds: Range<u64>) -> Result<(), AllocError> {
+fn check_seeds(rt: &impl Abort, alloc: Global, first: u64, end: u64) -> Result<(), AllocError>
+    requires { 0 < first }
+{
     let rows = Patched::new(&[]);
     let unchanged = Plain::of(&rows).expect(rt, "plain");
-    for seed in seeds {
-        // Seeds that are near one another give numbers that are not.
-        let mut seeded = Seeded(seed.wrapping_mul(0x9E37_79B9_7F4A_7C15));
+    for seed in first..end {
+        let mut seeded = Seeded::new(seed);
         let (text, is_ill_formed) = short_text(alloc, &mut seeded)?;
         let pieces = cut(alloc, &mut seeded, text.as_slice())?;
         let form = FORMS[(seed % 4) as usize];
@@ -46,12 +49,12 @@ fn check_seeds(rt: &impl Abort, alloc: Global, seeds: Range<u64>) -> Result<(), 
 
 #[test]
 fn short_mixtures_go_the_same_way(rt: HostRuntime) -> Result<(), Fail> {
-    check_seeds(&rt, rt.alloc(), 1..100_000)?;
+    check_seeds(&rt, rt.alloc(), 1, 100_000)?;
     Ok(())
 }
 
 #[test]
 fn more_short_mixtures_go_the_same_way(rt: HostRuntime) -> Result<(), Fail> {
-    check_seeds(&rt, rt.alloc(), 100_000..200_000)?;
+    check_seeds(&rt, rt.alloc(), 100_000, 200_000)?;
     Ok(())
 }

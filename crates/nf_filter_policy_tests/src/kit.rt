@@ -1,6 +1,7 @@
 //! Filters under a policy, and what they do with pieces.
-use nf_filter::{Failed, Fault, Filter, Held, Policy, Sink, Tally};
-use nf_row::{Form, Plain, Rows};
+use nf_filter::{Fault, Filter, Held, Policy, Tally};
+use nf_filter_fixtures::Kept;
+use nf_row::{Form, Rows};
 use std::alloc::{AllocError, Global};
 use std::process::Abort;
 
@@ -31,47 +32,10 @@ pub fn filter_of<'r, R: Rows>(
     policy: Policy,
     is_fast: bool,
 ) -> Filter<'r, R> {
-    let filter = if is_fast && let Some(plain) = Plain::of(rows) {
-        Filter::fast(plain, Form::Nfc, 0)
-    } else {
-        Filter::new(rows, Form::Nfc, 0)
-    };
+    let filter = nf_filter_fixtures::filter_of(rows, Form::Nfc, 0, is_fast);
     let is_new = !filter.spent() && filter.offset() == 0;
     assert!(rt; is_new);
     filter.policy(policy)
-}
-
-/// A sink that keeps the bytes that it takes.
-#[derive(Drop)]
-pub struct Kept {
-    pub bytes: Vec<u8>,
-    failed: bool,
-}
-
-impl Kept {
-    pub fn new(alloc: Global) -> Kept {
-        Kept {
-            bytes: Vec::new(alloc),
-            failed: false,
-        }
-    }
-}
-
-impl Sink for Kept {
-    ghost use Rattle.std.specs.Prelude.{None};
-
-    ghost state = { λ sink. record { taken = None; is_failed = sink.failed; lender = 0 } };
-
-    fn put(&mut self, bytes: &[u8]) -> Result<usize, Failed> {
-        if bytes.is_empty() {
-            return Ok(0);
-        }
-        if self.failed || self.bytes.extend_from_slice(bytes).is_err() {
-            self.failed = true;
-            return Err(Failed);
-        }
-        Ok(bytes.len())
-    }
 }
 
 /// What a filter did with pieces.

@@ -4,6 +4,7 @@ use crate::kit::{AS_IS, ASSIGNED, BOTH, REPLACE, course_of, filter_of, joined, s
 use crate::subparts::read;
 use nf_filter::Policy;
 use nf_row::Ucd;
+use nf_seeded::Seeded;
 use std::alloc::{AllocError, Global};
 use std::process::Abort;
 use std::test::Fail;
@@ -44,24 +45,6 @@ fn a_friendly_text_stays_as_it_is(rt: HostRuntime) -> Result<(), Fail> {
         }
     }
     Ok(())
-}
-
-/// Numbers that look random, and are the same in each run: Marsaglia's xorshift.
-#[derive(Drop)]
-struct Seeded(u64);
-
-impl Seeded {
-    fn next(&mut self) -> u64 {
-        self.0 ^= self.0 << 13;
-        self.0 ^= self.0 >> 7;
-        self.0 ^= self.0 << 17;
-        self.0
-    }
-
-    fn pick<'a>(&mut self, from: &[&'a [u8]]) -> &'a [u8] {
-        let at = self.next() as usize % from.len().max(1);
-        from.get(at).copied().unwrap_or_default()
-    }
 }
 
 /// ASCII, letters and marks that compose, Hangul, Han, private use, unassigned characters, U+FFFD, and ill-formed
@@ -105,8 +88,8 @@ const PARTS: [&[u8]; 34] = [
 
 /// A text of at most 40 bytes. One in two has no ill-formed sequence, but for where its last character is cut.
 fn mixture(alloc: Global, seeded: &mut Seeded) -> Result<Vec<u8>, AllocError> {
-    let (front, _) = PARTS.split_at(if seeded.next() % 2 == 0 { 18 } else { 34 });
-    let len = seeded.next() as usize % 41;
+    let (front, _) = PARTS.split_at(if seeded.below(2) == 0 { 18 } else { 34 });
+    let len = seeded.place(40);
     let mut bytes = Vec::new(alloc);
     for _ in 0..len {
         for byte in seeded.pick(front) {
@@ -143,7 +126,7 @@ fn check_mixture(
 fn mixtures_go_by_the_plain_reading(rt: HostRuntime) -> Result<(), Fail> {
     let alloc = rt.alloc();
     for policy in [AS_IS, REPLACE, ASSIGNED, BOTH] {
-        let mut seeded = Seeded(0x9E37_79B9_7F4A_7C15);
+        let mut seeded = Seeded::new(1);
         let mut refused = 0;
         for _ in 0..5000 {
             let bytes = mixture(alloc, &mut seeded)?;
@@ -192,7 +175,7 @@ fn check_by_size(rt: &impl Abort, alloc: Global, bytes: &[u8], size: usize) -> R
 #[test]
 fn long_mixtures_go_by_the_plain_reading(rt: HostRuntime) -> Result<(), Fail> {
     let alloc = rt.alloc();
-    let mut seeded = Seeded(0x2545_F491_4F6C_DD1D);
+    let mut seeded = Seeded::new(2);
     for _ in 0..60 {
         let bytes = long_mixture(alloc, &mut seeded, 4000)?;
         for size in [1, 61, 1021, 4096] {

@@ -1,6 +1,7 @@
 //! Ill-formed bytes that are replaced: what is written, held and answered, by hand.
-use crate::kit::{Course, Kept, REPLACE, course_of, filter_of, same_in_pieces};
+use crate::kit::{Course, REPLACE, course_of, filter_of, same_in_pieces};
 use nf_filter::{Fault, Held, Tally};
+use nf_filter_fixtures::Kept;
 use nf_row::Change::Compat;
 use nf_row::{Patched, Ucd};
 use std::test::Fail;

@@ -1,7 +1,8 @@
 //! Characters that are not assigned: which fault, where, and what was written before it, by hand.
-use crate::kit::{AS_IS, ASSIGNED, BOTH, Kept, filter_of, joined, same_in_pieces};
+use crate::kit::{AS_IS, ASSIGNED, BOTH, filter_of, joined, same_in_pieces};
 use nf_filter::Fault::Unassigned;
 use nf_filter::{Fault, Policy, Tally};
+use nf_filter_fixtures::Kept;
 use nf_row::Change::{Assigned, Compat};
 use nf_row::{Change, Patched, Ucd};
 use std::alloc::{AllocError, Global};

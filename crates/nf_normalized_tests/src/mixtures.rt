@@ -1,5 +1,5 @@
 //! Made-up mixtures of hostile kinds, many of them in the form but for one part, cut at every place.
-ghost use Rattle.std.specs.Prelude.{◌+◌, ◌^◌, ◌<◌};
+ghost use Rattle.std.specs.Prelude.{◌<◌};
 
 use crate::both::{answer, due};
 use nf_filter::{Fault, converted};
@@ -7,8 +7,8 @@ use nf_filter_fixtures::{BASE, FORMS, Pieces};
 use nf_normalized::check_form;
 use nf_row::{Form, Ucd};
 use nf_safe::Place;
+use nf_seeded::Seeded;
 use std::alloc::{AllocError, Global};
-use std::ops::Range;
 use std::process::Abort;
 use std::test::Fail;
 
@@ -70,34 +70,6 @@ const OTHERS: [&str; 14] = [
     "\u{1D15E}",
 ];
 
-/// Numbers that look random, and are the same in each run: Marsaglia's xorshift.
-#[derive(Drop)]
-struct Seeded(u64);
-
-impl Seeded {
-    fn below(&mut self, bound: u32) -> u32
-        requires { 0 < bound }
-        ensures { result < bound }
-    {
-        self.0 ^= self.0 << 13;
-        self.0 ^= self.0 >> 7;
-        self.0 ^= self.0 << 17;
-        (self.0 % bound as u64) as u32
-    }
-
-    /// A place in so many bytes, or behind them.
-    fn place(&mut self, len: usize) -> usize
-        ensures { result < len + 1 }
-    {
-        self.below(0x7FFF_FFFF) as usize % len.saturating_add(1)
-    }
-
-    fn pick<'t>(&mut self, from: &[&'t str]) -> &'t str {
-        let at = self.below(0x7FFF_FFFF) as usize % from.len().max(1);
-        from.get(at).copied().unwrap_or_default()
-    }
-}
-
 /// Appends letters, a run of one mark, marks, or any characters.
 fn push_part(text: &mut String, seeded: &mut Seeded) -> Result<(), AllocError> {
     match seeded.below(8) {
@@ -119,7 +91,7 @@ fn push_part(text: &mut String, seeded: &mut Seeded) -> Result<(), AllocError> {
         }
         6 => text.push_str(seeded.pick(&OTHERS))?,
         _ => {
-            if let Some(c) = char::from_u32(seeded.below(0x3_4000)) {
+            if let Some(c) = seeded.char_in(0, 0x3_4000) {
                 text.push(c)?;
             }
         }
@@ -233,10 +205,11 @@ fn assert_fronts(rt: &impl Abort, alloc: Global, form: Form, assigned: bool, byt
     }
 }
 
-fn assert_seeds(rt: &impl Abort, alloc: Global, seeds: Range<u64>) -> Result<(), Fail> {
-    for seed in seeds {
-        // Seeds that are near one another give numbers that are not.
-        let mut seeded = Seeded(seed.wrapping_mul(0x9E37_79B9_7F4A_7C15));
+fn assert_seeds(rt: &impl Abort, alloc: Global, first: u64, end: u64) -> Result<(), Fail>
+    requires { 0 < first }
+{
+    for seed in first..end {
+        let mut seeded = Seeded::new(seed);
         let form = FORMS[(seed % 4) as usize];
         let bytes = mixture(alloc, &mut seeded, form)?;
         let assigned = seeded.below(3) == 0;
@@ -248,12 +221,12 @@ fn assert_seeds(rt: &impl Abort, alloc: Global, seeds: Range<u64>) -> Result<(),
 
 #[test]
 fn mixtures_are_checked_wherever_they_are_cut(rt: HostRuntime) -> Result<(), Fail> {
-    assert_seeds(&rt, rt.alloc(), 1..10_000)?;
+    assert_seeds(&rt, rt.alloc(), 1, 10_000)?;
     Ok(())
 }
 
 #[test]
 fn so_are_more_mixtures(rt: HostRuntime) -> Result<(), Fail> {
-    assert_seeds(&rt, rt.alloc(), 10_000..20_000)?;
+    assert_seeds(&rt, rt.alloc(), 10_000, 20_000)?;
     Ok(())
 }

@@ -6,7 +6,7 @@ use std::process::Abort;
 use std::test::Fail;
 
 /// Decomposed text, what it settles before its end, and what the end gives.
-type Case<'a> = (Form, &'a str, &'a str, &'a str);
+type Case<'a> = (&'a str, &'a str, &'a str);
 
 /// What pushing the text settles in all.
 fn pushed<T: Abort + Alloc, R: Rows>(
@@ -64,10 +64,15 @@ fn pushed_by_class<T: Abort + Alloc, R: Rows>(
 }
 
 /// Each text is pushed by code points alone, and by code points with their classes.
-fn check<T: Abort + Alloc, R: Rows>(rt: &T, rows: &R, cases: &[Case]) -> Result<(), AllocError> {
-    for (form, text, settled, rest) in cases {
+fn check<T: Abort + Alloc, R: Rows>(
+    rt: &T,
+    rows: &R,
+    form: Form,
+    cases: &[Case],
+) -> Result<(), AllocError> {
+    for (text, settled, rest) in cases {
         for by_class in [false, true] {
-            let mut pending = Pending::new(*form);
+            let mut pending = Pending::new(form);
             let before = if by_class {
                 pushed_by_class(rt, rows, &mut pending, text)?
             } else {
@@ -100,91 +105,56 @@ const ALIKE: &str =
 
 #[test]
 fn a_starter_settles_what_stands_before_it_in_order(rt: HostRuntime) -> Result<(), Fail> {
-    check(
-        &rt,
-        &Ucd,
-        &[
-            (Form::Nfc, "", "", ""),
-            // Marks alone wait for the end.
-            (Form::Nfd, "\u{301}\u{323}", "", "\u{323}\u{301}"),
-            (Form::Nfc, "\u{301}\u{323}", "", "\u{323}\u{301}"),
-            (Form::Nfd, RISING, "", RISING),
-            (Form::Nfd, FALLING, "", RISING),
-            (Form::Nfd, ALIKE, "", ALIKE),
-            (
-                Form::Nfd,
-                "a\u{302}\u{301}\u{323}",
-                "",
-                "a\u{323}\u{302}\u{301}",
-            ),
-            (
-                Form::Nfd,
-                "a\u{302}\u{301}\u{323}b",
-                "a\u{323}\u{302}\u{301}",
-                "b",
-            ),
-            (
-                Form::Nfkd,
-                "\u{635}\u{644}\u{649} \u{627}\u{644}\u{644}\u{647} \u{639}\u{644}\u{64A}\u{647} \u{648}\u{633}\u{644}\u{645}",
-                "\u{635}\u{644}\u{649} \u{627}\u{644}\u{644}\u{647} \u{639}\u{644}\u{64A}\u{647} \u{648}\u{633}\u{644}",
-                "\u{645}",
-            ),
-        ],
-    )?;
+    // Marks alone wait for the end.
+    let composed = [("", "", ""), ("\u{301}\u{323}", "", "\u{323}\u{301}")];
+    check(&rt, &Ucd, Form::Nfc, &composed)?;
+    let decomposed = [
+        ("\u{301}\u{323}", "", "\u{323}\u{301}"),
+        (RISING, "", RISING),
+        (FALLING, "", RISING),
+        (ALIKE, "", ALIKE),
+        ("a\u{302}\u{301}\u{323}", "", "a\u{323}\u{302}\u{301}"),
+        ("a\u{302}\u{301}\u{323}b", "a\u{323}\u{302}\u{301}", "b"),
+    ];
+    check(&rt, &Ucd, Form::Nfd, &decomposed)?;
+    let compatible = [(
+        "\u{635}\u{644}\u{649} \u{627}\u{644}\u{644}\u{647} \u{639}\u{644}\u{64A}\u{647} \u{648}\u{633}\u{644}\u{645}",
+        "\u{635}\u{644}\u{649} \u{627}\u{644}\u{644}\u{647} \u{639}\u{644}\u{64A}\u{647} \u{648}\u{633}\u{644}",
+        "\u{645}",
+    )];
+    check(&rt, &Ucd, Form::Nfkd, &compatible)?;
     Ok(())
 }
 
 #[test]
 fn texts_compose(rt: HostRuntime) -> Result<(), Fail> {
-    check(
-        &rt,
-        &Ucd,
-        &[
-            // Marks are put in order first.
-            (Form::Nfc, "a\u{302}\u{323}", "", "\u{1EAD}"),
-            (Form::Nfc, "\u{17F}\u{307}\u{323}", "", "\u{1E9B}\u{323}"),
-            (
-                Form::Nfd,
-                "\u{17F}\u{307}\u{323}",
-                "",
-                "\u{17F}\u{323}\u{307}",
-            ),
-            (Form::Nfkc, "s\u{307}\u{323}", "", "\u{1E69}"),
-            (Form::Nfkd, "s\u{307}\u{323}", "", "s\u{323}\u{307}"),
-            // Hangul
-            (Form::Nfc, "\u{1112}\u{1161}\u{11AB}", "", "\u{D55C}"),
-            (
-                Form::Nfc,
-                "\u{1100}\u{1161}\u{11A7}",
-                "\u{AC00}",
-                "\u{11A7}",
-            ),
-            (
-                Form::Nfc,
-                "\u{1100}\u{300}\u{1161}",
-                "\u{1100}\u{300}",
-                "\u{1161}",
-            ),
-            // Tulu-Tigalari
-            (
-                Form::Nfc,
-                "\u{11382}\u{113C9}\u{113C2}\u{113C2}",
-                "\u{11383}",
-                "\u{113C5}",
-            ),
-            // Gurung Khema
-            (Form::Nfc, "\u{1611E}\u{1611E}\u{1611F}", "", "\u{16126}"),
-            (Form::Nfc, "\u{1611E}\u{16129}\u{1611F}", "", "\u{16127}"),
-            // Kirat Rai
-            (Form::Nfc, "\u{16D63}\u{16D67}\u{16D67}", "", "\u{16D6A}"),
-            (
-                Form::Nfc,
-                "\u{16D67}\u{16D67}\u{16D67}",
-                "\u{16D68}",
-                "\u{16D67}",
-            ),
-        ],
-    )?;
+    let composed = [
+        // Marks are put in order first.
+        ("a\u{302}\u{323}", "", "\u{1EAD}"),
+        ("\u{17F}\u{307}\u{323}", "", "\u{1E9B}\u{323}"),
+        // Hangul
+        ("\u{1112}\u{1161}\u{11AB}", "", "\u{D55C}"),
+        ("\u{1100}\u{1161}\u{11A7}", "\u{AC00}", "\u{11A7}"),
+        ("\u{1100}\u{300}\u{1161}", "\u{1100}\u{300}", "\u{1161}"),
+        // Tulu-Tigalari
+        (
+            "\u{11382}\u{113C9}\u{113C2}\u{113C2}",
+            "\u{11383}",
+            "\u{113C5}",
+        ),
+        // Gurung Khema
+        ("\u{1611E}\u{1611E}\u{1611F}", "", "\u{16126}"),
+        ("\u{1611E}\u{16129}\u{1611F}", "", "\u{16127}"),
+        // Kirat Rai
+        ("\u{16D63}\u{16D67}\u{16D67}", "", "\u{16D6A}"),
+        ("\u{16D67}\u{16D67}\u{16D67}", "\u{16D68}", "\u{16D67}"),
+    ];
+    check(&rt, &Ucd, Form::Nfc, &composed)?;
+    let decomposed = [("\u{17F}\u{307}\u{323}", "", "\u{17F}\u{323}\u{307}")];
+    check(&rt, &Ucd, Form::Nfd, &decomposed)?;
+    let text = "s\u{307}\u{323}";
+    check(&rt, &Ucd, Form::Nfkc, &[(text, "", "\u{1E69}")])?;
+    check(&rt, &Ucd, Form::Nfkd, &[(text, "", "s\u{323}\u{307}")])?;
     Ok(())
 }
 
@@ -197,20 +167,17 @@ fn made_up_pairs_compose(rt: HostRuntime) -> Result<(), Fail> {
         Pair('q', 'r', Some('s')),
         Pair('p', '\u{301}', Some('\u{323}')),
     ];
-    check(
-        &rt,
-        &Patched::new(&changes),
-        &[
-            // Starters compose in chains, and with what a starter and its marks made.
-            (Form::Nfc, "abd", "", "e"),
-            (Form::Nfc, "a\u{323}b", "", "f"),
-            (Form::Nfc, "a\u{301}b", "\u{E1}", "b"),
-            // A mark that is left keeps a starter apart.
-            (Form::Nfc, "q\u{301}r", "q\u{301}", "r"),
-            // A pair that makes a mark does not compose.
-            (Form::Nfc, "p\u{301}", "", "p\u{301}"),
-        ],
-    )?;
+    let cases = [
+        // Starters compose in chains, and with what a starter and its marks made.
+        ("abd", "", "e"),
+        ("a\u{323}b", "", "f"),
+        ("a\u{301}b", "\u{E1}", "b"),
+        // A mark that is left keeps a starter apart.
+        ("q\u{301}r", "q\u{301}", "r"),
+        // A pair that makes a mark does not compose.
+        ("p\u{301}", "", "p\u{301}"),
+    ];
+    check(&rt, &Patched::new(&changes), Form::Nfc, &cases)?;
     Ok(())
 }
 
