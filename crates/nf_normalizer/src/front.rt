@@ -93,6 +93,8 @@ impl Normalizer {
             return None;
         }
         match rows.kind(self.form, c) {
+            Kind::Own { class: 0, .. } => Some(self.take_own(rows, c, 0, room)),
+            // Marks have a way of their own into the same call: what is known of each stays in registers.
             Kind::Own { class, .. } => Some(self.take_own(rows, c, class, room)),
             _ => None,
         }

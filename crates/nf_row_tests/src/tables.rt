@@ -1,4 +1,4 @@
-use nf_row::{Change, Ends, Form, Kind, Patched, Rows, Single, Ucd, composite, own_class};
+use nf_row::{Change, Ends, Form, Kind, Patched, Rows, Ucd, composite, own_class};
 use std::process::Abort;
 use std::test::Fail;
 
@@ -105,7 +105,7 @@ fn noncharacters_and_private_use(rt: HostRuntime) {
 #[test]
 fn kinds(rt: HostRuntime) {
     use Kind::{Other, Parts};
-    let mark = |class, may_compose| Kind::Mark { class, may_compose };
+    let own = |class, may_compose| Kind::Own { class, may_compose };
     for (c, kinds) in [
         ('\n', [Parts, Parts, Parts, Parts]),
         ('\u{34F}', [Parts, Parts, Parts, Parts]),
@@ -113,26 +113,30 @@ fn kinds(rt: HostRuntime) {
         ('\u{AC00}', [Parts, Other, Parts, Other]),
         ('\u{FB01}', [Parts, Parts, Other, Other]),
         ('\u{2126}', [Other, Other, Other, Other]),
-        // A starter that may compose with what is before it; one whose canonical row is marks; a halfwidth mark.
-        ('\u{1161}', [Other, Parts, Other, Parts]),
+        // Starters that may compose with what is before them, and one of these that decomposes; one whose canonical row is
+        // marks; a halfwidth mark.
+        ('\u{1161}', [own(0, true), Parts, own(0, true), Parts]),
+        ('\u{11C2}', [own(0, true), Parts, own(0, true), Parts]),
+        ('\u{9BE}', [own(0, true), Parts, own(0, true), Parts]),
+        ('\u{16D68}', [Other, Other, Other, Other]),
         ('\u{F73}', [Other, Other, Other, Other]),
         ('\u{FF9E}', [Other, Other, Other, Other]),
         (
             '\u{301}',
             [
-                mark(230, true),
-                mark(230, false),
-                mark(230, true),
-                mark(230, false),
+                own(230, true),
+                own(230, false),
+                own(230, true),
+                own(230, false),
             ],
         ),
         (
             '\u{316}',
             [
-                mark(220, false),
-                mark(220, false),
-                mark(220, false),
-                mark(220, false),
+                own(220, false),
+                own(220, false),
+                own(220, false),
+                own(220, false),
             ],
         ),
         ('\u{344}', [Other, Other, Other, Other]),
@@ -144,50 +148,6 @@ fn kinds(rt: HostRuntime) {
             assert_eq!(rt; Ucd.kind(form, c), kind, "{c:?} {form:?}");
         }
     }
-}
-
-/// By UnicodeData.txt: a halfwidth mark, a starter, is its own canonical row, and a mark of class 8 is its compatibility row.
-#[test]
-fn halfwidth_marks_are_single(rt: HostRuntime) {
-    for (c, mark) in [('\u{FF9E}', '\u{3099}'), ('\u{FF9F}', '\u{309A}')] {
-        for form in [Form::Nfc, Form::Nfd] {
-            check_single(&rt, form, c, c, 0);
-        }
-        for form in [Form::Nfkc, Form::Nfkd] {
-            check_single(&rt, form, c, mark, 8);
-        }
-    }
-    // Others are told by their kind, or not at all.
-    for c in [
-        'a', '\u{E9}', '\u{3099}', '\u{FF76}', '\u{FF9D}', '\u{FFA0}', '\u{1160}', '\u{11C3}',
-    ] {
-        assert!(rt; Ucd.single(Form::Nfkc, c).is_none(), "{c:?}");
-    }
-    assert!(rt; Patched::new(&[]).single(Form::Nfkc, '\u{FF9E}').is_none());
-}
-
-/// By UnicodeData.txt: the vowels and trailing consonants of Hangul have no decomposition, and are starters.
-#[test]
-fn letters_that_end_a_syllable_are_single(rt: HostRuntime) {
-    for form in [Form::Nfc, Form::Nfd, Form::Nfkc, Form::Nfkd] {
-        for c in ['\u{1161}', '\u{1175}', '\u{11A8}', '\u{11C2}'] {
-            let single = Single {
-                member: c,
-                class: 0,
-                compat_starts: true,
-            };
-            assert_eq!(rt; Ucd.single(form, c), Some(single), "{c:?} {form:?}");
-        }
-    }
-}
-
-fn check_single(rt: &impl Abort, form: Form, c: char, member: char, class: u8) {
-    let single = Single {
-        member,
-        class,
-        compat_starts: false,
-    };
-    assert_eq!(rt; Ucd.single(form, c), Some(single), "{c:?} {form:?}");
 }
 
 /// Of data under changes nothing is known, and soundness is looked for in the rows.
