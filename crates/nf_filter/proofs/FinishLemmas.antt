@@ -1,35 +1,11 @@
 -- What finishing answers.
-use Rattle.std.proofs.Common.{◌≡◌, ℕ, ◌+◌, ◌<◌, Bool, true, false, List, [], ◌∷◌, ◌++◌, length, None, Ok, Err, ⊎_elim, refl, sym, ap, ◌∙◌, subst, arith, append-nil, eq-eqb, zero, suc, Option, Result, if◌then◌else◌, encode_utf8_all, length-append}
-use Rattle.std.proofs.lemmas.Bool.{cases_Bool, false_from_ne_true, and_from}
-use Rattle.nf_forms.specs.Properties.{Properties}
-use Rattle.nf_forms.specs.declared.form.Form.{Form}
-use Rattle.nf_forms.specs.SafeForm.{safe_form}
-use Rattle.nf_utf8.specs.Ending.{Ending, Whole, Bad, Cut}
-use Rattle.nf_utf8.specs.Reading.{text_of, ending_of}
-use Rattle.nf_utf8.specs.Replaced.{replacement}
-use Rattle.nf_utf8.specs.Laws.{ReplacesParts}
-use Rattle.nf_filter.specs.declared.fault.Fault.{Fault}
-use Rattle.nf_filter.specs.declared.fault.Fault.TheVariants.{Write}
-use Rattle.nf_filter.specs.declared.counted.Counted.{Counted}
-use Rattle.nf_filter.specs.declared.policy.Policy.{Policy}
-use Rattle.nf_filter.specs.declared.reading.Reading.{Reading}
-use Rattle.nf_filter.specs.declared.tally.Tally.{Tally}
-use Rattle.nf_filter.specs.Devices.{SinkState}
-use Rattle.nf_filter.specs.Writes.{Puts, BreaksOff}
-use Rattle.nf_filter.specs.Policy.{allowed, len_under, text_under, whole_under}
-use Rattle.nf_filter.specs.Settled.{settled, is_usable, usable, settled_utf8}
-use Rattle.nf_filter.specs.Faults.{answer_at_end, first_fault}
-use Rattle.nf_filter.specs.Feeding.{taken_utf8, HasReadTo, ReplacesCut}
-use Rattle.nf_filter.specs.Counted.{HasTaken, settled_text}
-use Rattle.nf_filter.specs.Finishes.{tally_of, answer_or, end_under, end_of, whole_or, is_taken, final_under, final_utf8, Closes, Finishes}
+use Rattle.nf_filter.proofs.Common.{◌≡◌, ℕ, ◌+◌, ◌<◌, Bool, true, false, List, [], ◌∷◌, ◌++◌, length, None, Ok, Err, ⊎_elim, refl, sym, ap, ◌∙◌, subst, arith, append-nil, eq-eqb, zero, suc, Option, Result, if◌then◌else◌, encode_utf8_all, length-append, cases_Bool, false_from_ne_true, and_from, Properties, Form, safe_form, Ending, Whole, Bad, Cut, text_of, ending_of, replacement, ReplacesParts, Fault, Write, Counted, Policy, Reading, Tally, SinkState, Puts, BreaksOff, allowed, len_under, text_under, whole_under, settled, is_usable, usable, settled_utf8, answer_at_end, first_fault, taken_utf8, HasReadTo, ReplacesCut, HasTaken, settled_text, tally_of, answer_or, end_under, end_of, whole_or, is_taken, final_under, final_utf8, Closes, Finishes, Extends-encodes, usable-all, usable-stop, nil_from_length}
 use Rattle.nf_filter.proofs.WritesLemmas.{Puts-none, Puts-join, Puts-at, BreaksOff-join, BreaksOff-at}
 use Rattle.nf_filter.proofs.BlockLemmas.{BreaksOff-extends}
-use Rattle.nf_normalizer.specs.Laws.Settled.{Extends-encodes, usable-all, usable-stop}
 use Rattle.nf_filter.proofs.FilterLemmas.{failed_if}
 use Rattle.nf_filter.proofs.PolicyLemmas.{allowed-append, allowed-grows, taken-all, taken_whole, first_fault-none, taken}
 use Rattle.nf_filter.proofs.PieceLemmas.{left-end}
 use Rattle.nf_filter.proofs.FedLemmas.{read-text, read-settled, whole-none, whole-some, left_is}
-use Rattle.std.proofs.lemmas.List.{nil_from_length}
 use Rattle.nf_filter.proofs.WholeLemmas.{settled-whole}
 use Rattle.nf_filter.proofs.AgainLemmas.{answered}
 use Rattle.nf_filter.proofs.DriveLemmas.{refused_by}

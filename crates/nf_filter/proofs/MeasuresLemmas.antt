@@ -1,28 +1,9 @@
 -- What a measurement decides, character by character.
-use Rattle.std.proofs.Common.{◌≡◌, ℕ, ◌+◌, Bool, true, false, not, ◌&&◌, ◌||◌, List, [], ◌∷◌, ◌++◌, length, Some, None, Ok, Err, refl, sym, ap, ◌∙◌, if◌then◌else◌, is_err, OnOk, Option, Result, option_map, encode_utf8_all, ◌<◌, subst, arith, append_assoc, IsUtf8, chars}
-use Rattle.std.specs.Result.{result_err}
-use Rattle.std.proofs.lemmas.Str.{encodes-chars}
-use Rattle.nf_forms.specs.Properties.{Properties}
-use Rattle.nf_forms.specs.StreamSafe.{joiner, is_too_long, stream_safe}
-use Rattle.nf_forms.specs.Sound.{is_sound}
-use Rattle.nf_forms.specs.Laws.Sound.{IsSoundText}
+use Rattle.nf_filter.proofs.Common.{◌≡◌, ℕ, ◌+◌, Bool, true, false, not, ◌&&◌, ◌||◌, List, [], ◌∷◌, ◌++◌, length, Some, None, Ok, Err, refl, sym, ap, ◌∙◌, if◌then◌else◌, is_err, OnOk, Option, Result, option_map, encode_utf8_all, ◌<◌, subst, arith, append_assoc, IsUtf8, chars, result_err, encodes-chars, Properties, joiner, is_too_long, stream_safe, is_sound, IsSoundText, refusal, unsound_at, Fault, Row, Stop, Refused, as_is, is_usable, fault_in, utf8_place, stop_in, TakesText, HasMeasured, HasSeenFront, SeesText, unusable_stop, measure_decision, no_measure, is_usable-push, told}
 use Rattle.nf_row.specs.declared.unsound.Unsound.{Unsound}
 use Rattle.nf_safe.specs.declared.measurer.Measurer.{Measurer}
-use Rattle.nf_safe.specs.Measurer.{refusal, unsound_at}
-use Rattle.nf_filter.specs.declared.fault.Fault.{Fault}
-use Rattle.nf_filter.specs.declared.fault.Fault.TheVariants.{Row}
-use Rattle.nf_filter.specs.declared.taker.Stop.{Stop}
-use Rattle.nf_filter.specs.declared.taker.Stop.TheVariants.{Refused}
-use Rattle.nf_filter.specs.Policy.{as_is}
-use Rattle.nf_filter.specs.Settled.{is_usable}
-use Rattle.nf_filter.specs.Faults.{fault_in}
-use Rattle.nf_filter.specs.Counted.{utf8_place}
-use Rattle.nf_filter.specs.Taker.{stop_in, TakesText}
-use Rattle.nf_filter.specs.Measures.{HasMeasured, HasSeenFront, SeesText, unusable_stop, measure_decision, no_measure}
-use Rattle.nf_normalizer.specs.Laws.Settled.{is_usable-push}
 use Rattle.nf_filter.proofs.TextLemmas.{unusable_at-usable, unusable_at-stop}
 use Rattle.nf_filter.proofs.FilterLemmas.{stop_in-fault}
-use Rattle.nf_filter.specs.Taker.{told}
 use Rattle.nf_filter.proofs.TakingLemmas.{front-more}
 
 abbrev Seen : Type 0

@@ -1,21 +1,6 @@
 -- A piece more.
-use Rattle.std.proofs.Common.{ap₂, ◌≡◌, ℕ, ◌+◌, ◌-◌, ◌≤◌, ◌==◌, List, [], ◌++◌, length, None, Ok, refl, sym, ap, ◌∙◌, arith, eq-eqb, subst, Option, Result, option_map, if◌then◌else◌, chars, take_all, length-drop, append_assoc}
-use Rattle.std.specs.Result.{result_map_both}
-use Rattle.std.proofs.lemmas.Str.{chars-nil, utf8_valid_len_le}
+use Rattle.nf_filter.proofs.Common.{ap₂, ◌≡◌, ℕ, ◌+◌, ◌-◌, ◌≤◌, ◌==◌, List, [], ◌++◌, length, None, Ok, refl, sym, ap, ◌∙◌, arith, eq-eqb, subst, Option, Result, option_map, if◌then◌else◌, chars, take_all, length-drop, append_assoc, result_map_both, chars-nil, utf8_valid_len_le, End, EndsWhole, EndsCut, EndsBad, first_bytes, EndsPiece, bytes_behind, Counts, Takes, first_text, Ending, Whole, Bad, Cut, text_len, text_of, rest_of, begun_len, ending_of, DecoderStandsAfter, Place, Fault, Reading, Stop, bad_byte, answer_at_end, Survey, TakesText, stop_or, stop_in, told, HasSurveyed}
 use Rattle.nf_utf8.specs.declared.decoder.Decoder.{Decoder}
-use Rattle.nf_utf8.specs.declared.chunk.End.{End}
-use Rattle.nf_utf8.specs.declared.chunk.End.TheVariants.{Whole as EndsWhole, Cut as EndsCut, Bad as EndsBad}
-use Rattle.nf_utf8.specs.Taking.{first_bytes, EndsPiece, bytes_behind, Counts, Takes, first_text}
-use Rattle.nf_utf8.specs.Ending.{Ending, Whole, Bad, Cut}
-use Rattle.nf_utf8.specs.Reading.{text_len, text_of, rest_of, begun_len, ending_of}
-use Rattle.nf_utf8.specs.Standing.{StandsAfter as DecoderStandsAfter}
-use Rattle.nf_safe.specs.declared.place.Place.{Place}
-use Rattle.nf_filter.specs.declared.fault.Fault.{Fault}
-use Rattle.nf_filter.specs.declared.reading.Reading.{Reading}
-use Rattle.nf_filter.specs.declared.taker.Stop.{Stop}
-use Rattle.nf_filter.specs.Faults.{bad_byte, answer_at_end}
-use Rattle.nf_filter.specs.Surveys.{Survey}
-use Rattle.nf_filter.specs.Taker.{TakesText, stop_or, stop_in, told, HasSurveyed}
 
 -- no bytes spell nothing
 pub text_of-none : text_of [] ≡ []

@@ -1,24 +1,9 @@
 -- Where a filter stands that has taken nothing, and how many of the bytes that it has taken it holds.
-use Rattle.std.proofs.Common.{◌≡◌, ℕ, ◌+◌, Bool, true, false, List, [], ◌++◌, length, None, refl, sym, ap, ◌∙◌, subst, arith, append-nil, encode_utf8_all, length-append}
-use Rattle.nf_forms.specs.Properties.{Properties}
-use Rattle.nf_forms.specs.declared.form.Form.{Form}
-use Rattle.nf_utf8.specs.Laws.{ReplacesParts}
-use Rattle.nf_utf8.specs.Reading.{text_of}
-use Rattle.nf_utf8.specs.Standing.{StandsAfter as DecoderStandsAfter}
-use Rattle.nf_filter.specs.declared.filter.State.{State}
-use Rattle.nf_filter.specs.declared.policy.Policy.{Policy}
-use Rattle.nf_filter.specs.Faults.{bad_byte, bad_under, first_fault, fault_in}
-use Rattle.nf_filter.specs.Feeding.{HasReadTo}
-use Rattle.nf_filter.specs.Filter.{base_of, offset_of, is_spent, StandsAfter}
-use Rattle.nf_filter.specs.Laws.Settled.{text_under-none}
-use Rattle.nf_filter.specs.Counted.{HasTaken}
-use Rattle.nf_filter.specs.Policy.{len_under, text_under}
+use Rattle.nf_filter.proofs.Common.{◌≡◌, ℕ, ◌+◌, Bool, true, false, List, [], ◌++◌, length, None, refl, sym, ap, ◌∙◌, subst, arith, append-nil, encode_utf8_all, length-append, Properties, Form, ReplacesParts, text_of, DecoderStandsAfter, State, Policy, bad_byte, bad_under, first_fault, fault_in, HasReadTo, base_of, offset_of, is_spent, StandsAfter, text_under-none, HasTaken, len_under, text_under, nil_from_length, is_usable-none}
 use Rattle.nf_filter.proofs.FilterLemmas.{StandsAfter-offset}
 use Rattle.nf_filter.proofs.PieceLemmas.{IsLeft-all, left-text, left-place, len_under-first, text_under-begun}
 use Rattle.nf_filter.proofs.ReadingLemmas.{text_of-none, ending_of-none}
-use Rattle.std.proofs.lemmas.List.{nil_from_length}
 use Rattle.nf_filter.proofs.PolicyLemmas.{first_fault-none, allowed-none}
-use Rattle.nf_normalizer.specs.Laws.Settled.{is_usable-none}
 
 bad_under-none : (replace : Bool) (base : ℕ) → bad_under replace base [] ≡ None
 bad_under-none false base = ap (bad_byte base) ending_of-none

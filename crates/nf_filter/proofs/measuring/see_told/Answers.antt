@@ -1,6 +1,4 @@
-use Rattle.std.proofs.Common.{◌≡◌, ℕ, List, ◌++◌, length, take, sym, ap, ap₂, subst, ◌∙◌, arith, take-append-drop, IsUtf8, chars}
-use Rattle.std.specs.Str.{IsCharBoundary}
-use Rattle.std.proofs.lemmas.Str.{chars-append, IsUtf8-take, encodes-chars}
+use Rattle.nf_filter.proofs.Common.{◌≡◌, ℕ, List, ◌++◌, length, take, sym, ap, ap₂, subst, ◌∙◌, arith, take-append-drop, IsUtf8, chars, IsCharBoundary, chars-append, IsUtf8-take, encodes-chars}
 use Rattle.nf_filter.proofs.CalmLemmas.{few}
 use Rattle.nf_filter.proofs.MeasuresLemmas.{some_chars}
 use Rattle.nf_filter.proofs.measuring.see_told.Goals as goal
