@@ -115,24 +115,9 @@ impl<'r, R: Rows> Filter<'r, R> {
             (before : Policy) (f : Form) (bytes : List ℕ) → StandsAfter before f p (state_of self.entry) bytes
             → StandsAfter policy f p (state_of result) [] }
     {
-        let Filter { rows, state } = self;
-        let State {
-            base,
-            spent,
-            policy: _,
-            reading,
-            counted,
-        } = state;
-        Filter {
-            rows,
-            state: State {
-                base,
-                spent,
-                policy,
-                reading,
-                counted,
-            },
-        }
+        let Filter { rows, mut state } = self;
+        state.policy = policy;
+        Filter { rows, state }
     }
 
     /// Takes the next bytes, and gives the sink what they settle. `TooLong` leaves the filter as it was; after any other

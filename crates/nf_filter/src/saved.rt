@@ -49,31 +49,26 @@ impl<'r, R: Rows> Filter<'r, R> {
     {
         laws::split();
         laws::replacing();
-        let State {
-            base,
-            spent,
-            policy,
-            ref reading,
-            ref counted,
-        } = self.state;
-        let (bytes, len) = reading.decoder.held();
+        let state = &self.state;
+        let normalizer = &state.counted.normalizer;
+        let (bytes, len) = state.reading.decoder.held();
         let mut held = ArrayVec::new();
         held.try_extend_from_slice(&bytes[..len]).unwrap();
         let mut marks = Run::new();
         marks
-            .try_extend_from_slice(counted.normalizer.pending.marks())
+            .try_extend_from_slice(normalizer.pending.marks())
             .unwrap();
         Saved {
-            form: counted.normalizer.form,
-            policy,
-            spent,
-            base,
-            offset: reading.offset,
-            chars: counted.chars,
-            put: counted.put,
-            count: counted.normalizer.counter.count(),
+            form: normalizer.form,
+            policy: state.policy,
+            spent: state.spent,
+            base: state.base,
+            offset: state.reading.offset,
+            chars: state.counted.chars,
+            put: state.counted.put,
+            count: normalizer.counter.count(),
             held,
-            starter: counted.normalizer.pending.starter(),
+            starter: normalizer.pending.starter(),
             marks,
         }
     }
