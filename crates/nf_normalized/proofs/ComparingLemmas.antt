@@ -1,10 +1,5 @@
 -- Bytes that are given as expected.
-use Rattle.std.proofs.Common.{◌≡◌, ⊎_elim, get_or, take-append-drop, ℕ, ◌+◌, ◌-◌, ◌<◌, ◌≤◌, false, List, [], ◌∷◌, ◌++◌, length, take, drop, take_all, refl, sym, ap, ap₂, ◌∙◌, arith, append_assoc, append-nil, length-drop, take-add, Option, Some, None, is_some, option_to_list, true≢false}
-use Rattle.nf_normalized.specs.Change.{common}
-use Rattle.nf_normalized.specs.Bytes.{goes_on_with}
-use Rattle.nf_normalized.specs.Comparing.{preface}
-use Rattle.std.proofs.lemmas.Bool.{cases_lt}
-use Rattle.std.proofs.lemmas.List.{drop_all}
+use Rattle.nf_normalized.proofs.Common.{◌≡◌, ⊎_elim, get_or, take-append-drop, ℕ, ◌+◌, ◌-◌, ◌<◌, ◌≤◌, false, List, [], ◌∷◌, ◌++◌, length, take, drop, take_all, refl, sym, ap, ap₂, ◌∙◌, arith, append_assoc, append-nil, length-drop, take-add, Option, Some, None, is_some, option_to_list, true≢false, common, goes_on_with, preface, cases_lt, drop_all}
 use Rattle.nf_normalized.proofs.CommonLemmas.{common-le-left, take-common, common-none}
 
 -- the rest of a slice

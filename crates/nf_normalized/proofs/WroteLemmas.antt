@@ -1,12 +1,7 @@
 -- What a comparing sink tells of what a filter wrote.
-use Rattle.std.proofs.Common.{◌≡◌, ◌⊎◌, inl, inr, ℕ, true, false, List, [], ◌∷◌, ◌++◌, refl, sym, ap, ap₂, ◌∙◌, subst, append_assoc, append-nil, Option, Some, None, is_some, IsSome, IsTrue, option_to_list, true≢false, Result, Err}
+use Rattle.nf_normalized.proofs.Common.{◌≡◌, ◌⊎◌, inl, inr, ℕ, true, false, List, [], ◌∷◌, ◌++◌, refl, sym, ap, ap₂, ◌∙◌, subst, append_assoc, append-nil, Option, Some, None, is_some, IsSome, IsTrue, option_to_list, true≢false, Result, Err, Fault, Write, Comparing, goes_on_with, same, left, given, preface, taken, sink_state}
 use Rattle.std.specs.Io.KnownBytes.{Appends}
-use Rattle.nf_filter.specs.declared.fault.Fault.{Fault}
-use Rattle.nf_filter.specs.declared.fault.Fault.TheVariants.{Write}
 use Rattle.nf_filter.specs.Writes.{Puts, BreaksOff}
-use Rattle.nf_normalized.specs.declared.comparing.Comparing.{Comparing}
-use Rattle.nf_normalized.specs.Bytes.{goes_on_with}
-use Rattle.nf_normalized.specs.Comparing.{same, left, given, preface, taken, sink_state}
 use Rattle.nf_normalized.proofs.ComparingLemmas.{none_is, preface-same, same_left}
 
 write_or : {T : Type 0} (r : Result T Fault) → (r ≡ Err Write) ⊎ ((r ≡ Err Write) → ⊥)

@@ -1,20 +1,5 @@
-use Rattle.std.proofs.Common.{subst, [], ◌∷◌, ◌⊎◌, ◌≡◌, ◌<◌, ◌+◌, ◌++◌, ◌^◌, Bool, false, ℕ, List, IsTrue, option_map, inl, inr, ⊎_elim, true, length, refl, sym, ap, ◌∙◌, arith, is_some, Ok, Err, append_assoc, length-append}
-use Rattle.std.proofs.lemmas.Bool.{cases_lt, false_from_ne_true}
-use Rattle.std.proofs.Math.Logic.{∥∥₁_elim, ∥∥₁_map}
-use Rattle.std.specs.Coded.{le_prop}
-use Rattle.std.specs.Result.{result_err}
-use Rattle.nf_forms.specs.Ucd.{ucd}
-use Rattle.nf_forms.specs.declared.form.Form.{Form}
-use Rattle.nf_filter.specs.Faults.{fault_in}
-use Rattle.nf_filter.specs.Filter.{state_of, base_of, is_spent, offset_of}
-use Rattle.nf_filter.specs.Kinds.{spent, too_long, ill_formed, unassigned}
-use Rattle.nf_filter.specs.declared.fault.Fault.TheVariants.{TooLong}
-use Rattle.nf_normalized.specs.Change.{under}
-use Rattle.nf_normalized.specs.Checker.{filter_state, IsOfPiece}
-use Rattle.nf_normalized.specs.Comparing.{left}
-use Rattle.nf_normalized.specs.Holds.{Holds}
+use Rattle.nf_normalized.proofs.Common.{subst, [], ◌∷◌, ◌⊎◌, ◌≡◌, ◌<◌, ◌+◌, ◌++◌, ◌^◌, Bool, false, ℕ, List, IsTrue, option_map, inl, inr, ⊎_elim, true, length, refl, sym, ap, ◌∙◌, arith, is_some, Ok, Err, append_assoc, length-append, cases_lt, false_from_ne_true, ∥∥₁_elim, ∥∥₁_map, le_prop, result_err, ucd, Form, fault_in, state_of, base_of, is_spent, offset_of, spent, too_long, ill_formed, unassigned, TooLong, under, filter_state, IsOfPiece, left, Holds, StandsAfter-offset}
 use Rattle.nf_normalized.proofs.BytesLemmas.{Known}
-use Rattle.nf_filter.proofs.FilterLemmas.{StandsAfter-offset}
 use Rattle.nf_normalized.proofs.CheckerLemmas.{written, held_few}
 use Rattle.nf_normalized.proofs.ComparingLemmas.{none_is}
 use Rattle.nf_normalized.proofs.CallLemmas.{stable, ok_or, same_fault, parted_apart, holds_some, room, Call, piece_kinds, parted_decides, split_now, unparted_decides}

@@ -1,6 +1,4 @@
-use Rattle.std.proofs.Common.{ℕ, List, false, ◌++◌, subst, ◌≡◌, arith, length-drop, drop, refl, sym, ap, ◌∙◌, ◌∷◌}
-use Rattle.nf_normalized.specs.Change.{common}
-use Rattle.nf_normalized.specs.Bytes.{goes_on_with}
+use Rattle.nf_normalized.proofs.Common.{ℕ, List, false, ◌++◌, subst, ◌≡◌, arith, length-drop, drop, refl, sym, ap, ◌∙◌, ◌∷◌, common, goes_on_with}
 use Rattle.nf_normalized.proofs.CommonLemmas.{common-le-right}
 use Rattle.nf_normalized.proofs.ComparingLemmas.{taken_on, the_same, rest_is, none_is, has, more_of_first, more_of_second, other_in_first, other_in_second}
 use Rattle.nf_normalized.proofs.comparing.ComparingSink.put.Goals as goal
