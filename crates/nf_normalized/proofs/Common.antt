@@ -1,9 +1,9 @@
 -- The names that most of these proofs cite, passed on from one place. Declares nothing.
-pub use Rattle.std.proofs.Common.{◌≡◌, ◌⊎◌, ⊎_elim, inl, inr, ◌^◌, eqb-true, eq-eqb, true≢false, ℕ, suc, ◌+◌, ◌<◌, ◌≤◌, ◌==◌, Bool, true, false, List, [], ◌∷◌, ◌++◌, length, get_or, take, drop, refl, sym, ap, ap₂, ◌∙◌, subst, arith, append_assoc, append-nil, length-append, Option, Some, None, IsUtf8, chars, encode_utf8, encode_utf8_all, if◌then◌else◌, take-append-drop, IsNone, IsTrue, is_some, option_map, Result, Ok, Err, ◌↔◌, bytes_eq, take_all, ◌*◌, take_while, zero, length-take, ◌-◌, length-drop, take-add, option_to_list, ◌≢◌, pos_of_ne-zero, leb-true, ◌||◌, not, eqb, ltb, leb, flat_map, IsSome}
+pub use Rattle.std.proofs.Common.{min, ◌≡◌, ◌⊎◌, ⊎_elim, inl, inr, ◌^◌, eqb-true, eq-eqb, true≢false, ℕ, suc, ◌+◌, ◌<◌, ◌≤◌, ◌==◌, Bool, true, false, List, [], ◌∷◌, ◌++◌, length, get_or, take, drop, refl, sym, ap, ap₂, ◌∙◌, subst, arith, append_assoc, append-nil, length-append, Option, Some, None, IsUtf8, chars, encode_utf8, encode_utf8_all, if◌then◌else◌, take-append-drop, IsNone, IsTrue, is_some, option_map, Result, Ok, Err, ◌↔◌, bytes_eq, take_all, ◌*◌, take_while, zero, length-take, ◌-◌, length-drop, take-add, option_to_list, ◌≢◌, pos_of_ne-zero, leb-true, ◌||◌, not, eqb, ltb, leb, flat_map, IsSome}
 pub use Rattle.std.proofs.Math.Logic.{∥∥₁_elim, ∥∥₁_map}
-pub use Rattle.std.proofs.Math.Seq.{take-length}
+pub use Rattle.std.proofs.Math.Seq.{take-append-add, drop-append-add, take-length}
 pub use Rattle.std.proofs.lemmas.Bool.{and_parts, and_from, false_from_ne_true, cases_lt, cases_Bool, eqb-false, or_parts, or_from, ltb-true, or_left}
-pub use Rattle.std.proofs.lemmas.List.{take_at, nil_from_length, take-append-le, drop_all}
+pub use Rattle.std.proofs.lemmas.List.{drop-append-le, take_at, nil_from_length, take-append-le, drop_all}
 pub use Rattle.std.proofs.lemmas.Slice.Eq.{bytes_eq-Decides}
 pub use Rattle.std.proofs.lemmas.Str.{encodes-append, encodes-chars, length-le-encodes, encodes_same, length-encode, len_utf8_bounds}
 pub use Rattle.std.specs.Coded.{le_prop}

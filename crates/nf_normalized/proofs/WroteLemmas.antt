@@ -1,8 +1,8 @@
 -- What a comparing sink tells of what a filter wrote.
-use Rattle.nf_normalized.proofs.Common.{◌≡◌, ◌⊎◌, inl, inr, ℕ, true, false, List, [], ◌∷◌, ◌++◌, refl, sym, ap, ap₂, ◌∙◌, subst, append_assoc, append-nil, Option, Some, None, is_some, IsSome, IsTrue, option_to_list, true≢false, Result, Err, Fault, Write, Comparing, goes_on_with, same, left, given, preface, taken, sink_state}
+use Rattle.nf_normalized.proofs.Common.{◌≡◌, ◌⊎◌, inl, inr, ℕ, true, false, List, [], ◌∷◌, ◌++◌, refl, sym, ap, take-append-drop, ap₂, ◌∙◌, subst, append_assoc, append-nil, Option, Some, None, is_some, IsSome, IsTrue, option_to_list, true≢false, Result, Err, Fault, Write, Comparing, goes_on_with, same, left, given, preface, taken, sink_state}
 use Rattle.std.specs.Io.KnownBytes.{Appends}
 use Rattle.nf_filter.specs.Writes.{Puts, BreaksOff}
-use Rattle.nf_normalized.proofs.ComparingLemmas.{none_is, preface-same, same_left}
+use Rattle.nf_normalized.proofs.ComparingLemmas.{none_is, preface-same}
 
 write_or : {T : Type 0} (r : Result T Fault) → (r ≡ Err Write) ⊎ ((r ≡ Err Write) → ⊥)
 write_or (Err Write) = inl refl
@@ -35,7 +35,7 @@ module _ {old new : Comparing} {all before due : List ℕ} {T : Type 0} {r : Res
 
   pub read : all ≡ (before ++ same new) ++ left new
   read =
-      w.expects ∙ ap (λ l. before ++ l) (sym (same_left new.first.now new.second.now new.in_first new.in_second new.within.0 new.in_turn ∙ gave.1))
+      w.expects ∙ ap (λ l. before ++ l) (sym (take-append-drop new.count (new.first.now ++ new.second.now) ∙ gave.1))
       ∙ sym (append_assoc before (same new) (left new))
 
   -- a byte was another, and that goes on what was written

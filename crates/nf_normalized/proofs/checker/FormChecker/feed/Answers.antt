@@ -80,7 +80,7 @@ joined-self-requires c =
     let few = ∥∥₁_elim (holds_some c.args.self.now (sym c.is_some.ensures ∙ c.if-is_some.false) (λ ended. ok_or (sym c.in_default.is ∙ c.feed-fed.ensures.spent.1 ended))) le_prop (λ h.
     held_few (known at) (holds_now at (sym c.has_parted.ensures ∙ c.if-has_parted.false) c.in_default.is h.holds refl)
     c.longest_text.ensures c.replacing.ensures c.every_character_is_sound.ensures.text c.little_is_kept.ensures) in
-    omega (arith, few, length-append c.left.result.0.now c.left.result.1.now, ap length c.left.ensures)
+    omega (arith, few, length-append c.left.result.0.now c.left.result.1.now, ap length c.left.ensures.left)
 
 pub invariant_of-self-2 : goal.invariant_of-self-2
 invariant_of-self-2 c = record {
@@ -90,7 +90,7 @@ invariant_of-self-2 c = record {
         assigned = h.assigned;
         form = h.form;
         bytes = h.bytes ++ c.args.piece.now;
-        holds = holds_now at (sym c.has_parted.ensures ∙ c.if-has_parted.false) c.in_default.is h.holds (sym (c.joined-self.ensures ∙ c.left.ensures));
+        holds = holds_now at (sym c.has_parted.ensures ∙ c.if-has_parted.false) c.in_default.is h.holds (sym (c.joined-self.ensures ∙ c.left.ensures.left));
       });
 }
 
@@ -105,5 +105,5 @@ returns-clause-stands c = λ assigned f base bytes stands ok. record {
   none = none_is c.args.self.now.place (sym c.is_some.ensures ∙ c.if-is_some.false);
   undecided = sym (returns-clause-decides c assigned f base bytes stands (λ e. cc));
   base_is = c.feed-fed.ensures.base ∙ stands.base_is;
-  holds = holds_now (goal.at.returns-clause-stands c).After-feed-fed (sym c.has_parted.ensures ∙ c.if-has_parted.false) c.in_default.is stands.holds (sym (c.joined-self.ensures ∙ c.left.ensures));
+  holds = holds_now (goal.at.returns-clause-stands c).After-feed-fed (sym c.has_parted.ensures ∙ c.if-has_parted.false) c.in_default.is stands.holds (sym (c.joined-self.ensures ∙ c.left.ensures.left));
 }
