@@ -1,5 +1,5 @@
 -- Each filter that is spent or stands after bytes has a state of which one can be made.
-use Rattle.nf_filter.proofs.Common.{◌≡◌, zero, suc, ℕ, ◌+◌, ◌-◌, ◌≤◌, ◌<◌, Bool, true, false, not, ◌&&◌, ◌==◌, eqb, ltb, inl, inr, List, [], ◌∷◌, ◌++◌, length, map, take, drop, encode_utf8, Option, Some, None, IfSome, if◌then◌else◌, refl, sym, ap, ◌∙◌, subst, arith, length-append, encode_utf8_all, and_parts, and_from, or_parts, eqb-true, eq-eqb, le-leb, nat_tests, length-map, nil_from_length, length-le-encodes, take-length, list_all, is_some, Properties, is_starter, Form, Nfc, Nfd, Nfkc, Nfkd, row_of, decomposed, composes, is_sound, max_run, stream_safe, back-starter, IsSound, IsSound-from_test, Ending, Whole, Bad, Cut, ReplacesParts, text_len, begun_len, text_of, ending_of, Part, own_parts, part_end, behind_text, parts_within, parts_of, replaced, replaced_len, bytes_in, State, Policy, is_spent, StandsAfter, len_under, text_under, saved_of, are_marks, IsCounted, CountsFit, IsPending, IsRestorable, is_usable}
+use Rattle.nf_filter.proofs.Common.{◌≡◌, zero, suc, ℕ, ◌+◌, ◌≤◌, Bool, true, false, not, ◌&&◌, eqb, ltb, inl, inr, List, [], ◌∷◌, ◌++◌, length, map, take, drop, encode_utf8, Option, Some, None, IfSome, refl, sym, ap, ◌∙◌, subst, arith, length-append, encode_utf8_all, and_parts, and_from, or_parts, eqb-true, eq-eqb, le-leb, nat_tests, length-map, nil_from_length, length-le-encodes, take-length, list_all, is_some, Properties, is_starter, Form, Nfc, Nfd, Nfkc, Nfkd, row_of, decomposed, composes, is_sound, max_run, stream_safe, back-starter, IsSound, IsSound-from_test, Ending, Whole, Bad, Cut, ReplacesParts, text_of, ending_of, Part, own_parts, part_end, behind_text, parts_within, parts_of, replaced, replaced_len, bytes_in, State, Policy, is_spent, StandsAfter, len_under, text_under, saved_of, are_marks, IsCounted, CountsFit, IsPending, IsRestorable, is_usable}
 use Rattle.std.specs.Option.{option_to_list}
 use Rattle.nf_forms.specs.Runs.{has_starter, trail}
 use Rattle.nf_forms.specs.Order.{by_class}
@@ -12,26 +12,8 @@ use Rattle.nf_utf8.specs.Part.{IsPart}
 use Rattle.nf_pending.specs.StandsAfter.{StandsAfter as PendingStandsAfter}
 use Rattle.nf_pending.specs.Laws.Standing.{run_len-trail}
 use Rattle.nf_pending.proofs.Standing.{starter_held}
+use Rattle.nf_utf8.proofs.ReplacedLemmas.{broken_end}
 use Rattle.nf_filter.proofs.StandingLemmas.{taken-text, taken-len}
-
-bad_order : (bytes : List ℕ) (at start : ℕ) → ending_of bytes ≡ Bad at start → start ≤ at
-unfolding ending_of
-bad_order bytes at start = next (text_len bytes == length bytes) (begun_len bytes == length bytes)
-  where
-    next : (b c : Bool) → (if b then Whole else (if c then Cut (begun_len bytes) (text_len bytes) else Bad (begun_len bytes) (text_len bytes))) ≡ Bad at start → start ≤ at
-    next true c e = cc
-    next false true e = cc
-    next false false e =
-        let first : begun_len bytes ≡ at = cc in
-        let second : text_len bytes ≡ start = cc in
-        omega arith
-
-part_some : (at start : ℕ) → start ≤ at → 0 < part_end at start - start
-part_some at start order = by (at == start) refl
-  where
-    by : (b : Bool) → (at == start) ≡ b → 0 < (if b then start + 1 else at) - start
-    by true e = omega arith
-    by false e = let differs : ¬ (at ≡ start) = grind (arith, nat_tests) in omega arith
 
 -- bytes give no more characters than they are
 module _ (laws : ReplacesParts) where
@@ -48,7 +30,7 @@ module _ (laws : ReplacesParts) where
           → length (behind_text e (λ n. parts_within k (drop n bytes))) ≤ bytes_in (behind_text e (λ n. parts_within k (drop n bytes)))
       next Whole e more = omega arith
       next (Cut at start) e more = omega arith
-      next (Bad at start) e more = omega (arith, part_some at start (bad_order bytes at start e), more (part_end at start))
+      next (Bad at start) e more = omega (arith, (broken_end bytes at start e).0, more (part_end at start))
 
   chars_few : (replace : Bool) (bytes : List ℕ) → length (text_under replace bytes) ≤ len_under replace bytes (text_under replace bytes)
   unfolding replaced replaced_len parts_of
