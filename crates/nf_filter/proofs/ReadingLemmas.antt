@@ -35,20 +35,17 @@ HasSurveyed-none {answer_of = answer_of} offset decoder taken unstopped decides 
 pub end_is : {T : Type 0} (base : ℕ) (value : T) (ending : Ending) (end : Result (Unit {0}) Fault) → end ≡ answer_at_end base (tt {0}) ending
     → result_map_both (λ _. value) (λ fault. fault) end ≡ answer_at_end base value ending
 end_is base value Whole end is = ap (result_map_both (λ _. value) (λ fault. fault)) is
-end_is base value (Bad at start) end is = ap (result_map_both (λ _. value) (λ fault. fault)) is
-end_is base value (Cut at start) end is = ap (result_map_both (λ _. value) (λ fault. fault)) is
+end_is base value _ end is = ap (result_map_both (λ _. value) (λ fault. fault)) is
 
 -- a piece without an ill-formed byte is taken whole
 module _ (bytes piece : List ℕ) where
   pub ends_well : (end : End) (base : ℕ) → ((at back : ℕ) → ¬ (end ≡ EndsBad at back)) → EndsPiece bytes piece end → bad_byte base (ending_of (bytes ++ piece)) ≡ None
-  ends_well EndsWhole base well ends = ap (bad_byte base) ends
-  ends_well EndsCut base well ends = ap (bad_byte base) ends
   ends_well (EndsBad at back) base well ends = absurd (well at back refl)
+  ends_well _ base well ends = ap (bad_byte base) ends
 
   pub all_behind : (end : End) → ((at back : ℕ) → ¬ (end ≡ EndsBad at back)) → bytes_behind bytes piece end ≡ bytes ++ piece
-  all_behind EndsWhole well = refl
-  all_behind EndsCut well = refl
   all_behind (EndsBad at back) well = absurd (well at back refl)
+  all_behind _ well = refl
 
 pub all_counted : (held piece : List ℕ) (first : Option ℕ) (text : List ℕ) (end : End) (left : List ℕ) → ((at back : ℕ) → ¬ (end ≡ EndsBad at back)) → Counts held piece first text end left
     → length (first_bytes first) + length text + length left ≡ length held + length piece

@@ -1,5 +1,5 @@
 -- Each filter that is spent or stands after bytes has a state of which one can be made.
-use Rattle.nf_filter.proofs.Common.{◌≡◌, zero, suc, ℕ, ◌+◌, ◌≤◌, Bool, true, false, not, ◌&&◌, eqb, ltb, inl, inr, List, [], ◌∷◌, ◌++◌, length, map, take, drop, encode_utf8, Option, Some, None, IfSome, refl, sym, ap, ◌∙◌, subst, arith, length-append, encode_utf8_all, and_parts, and_from, or_parts, eqb-true, eq-eqb, le-leb, nat_tests, length-map, nil_from_length, length-le-encodes, take-length, list_all, is_some, Properties, is_starter, Form, Nfc, Nfd, Nfkc, Nfkd, row_of, decomposed, composes, is_sound, max_run, stream_safe, back-starter, IsSound, IsSound-from_test, Ending, Whole, Bad, Cut, ReplacesParts, text_of, ending_of, Part, own_parts, part_end, behind_text, parts_within, parts_of, replaced, replaced_len, bytes_in, State, Policy, is_spent, StandsAfter, len_under, text_under, saved_of, are_marks, IsCounted, CountsFit, IsPending, IsRestorable, is_usable}
+use Rattle.nf_filter.proofs.Common.{◌≡◌, zero, suc, ℕ, ◌+◌, ◌≤◌, Bool, true, false, not, ◌&&◌, eqb, ltb, inl, inr, List, [], ◌∷◌, ◌++◌, length, map, take, drop, encode_utf8, Option, Some, None, IfSome, refl, sym, ap, ◌∙◌, subst, arith, length-append, encode_utf8_all, and_parts, and_from, or_parts, eqb-true, eq-eqb, le-leb, nat_tests, length-map, nil_from_length, length-le-encodes, take-length, list_all, is_some, Properties, is_starter, Form, Nfc, Nfd, Nfkd, row_of, decomposed, composes, is_sound, max_run, stream_safe, back-starter, IsSound, IsSound-from_test, Ending, Bad, ReplacesParts, text_of, ending_of, Part, own_parts, part_end, behind_text, parts_within, parts_of, replaced, replaced_len, bytes_in, State, Policy, is_spent, StandsAfter, len_under, text_under, saved_of, are_marks, IsCounted, CountsFit, IsPending, IsRestorable, is_usable}
 use Rattle.std.specs.Option.{option_to_list}
 use Rattle.nf_forms.specs.Runs.{has_starter, trail}
 use Rattle.nf_forms.specs.Order.{by_class}
@@ -28,9 +28,8 @@ module _ (laws : ReplacesParts) where
     where
       next : (e : Ending) → ending_of bytes ≡ e → ((n : ℕ) → length (parts_within k (drop n bytes)) ≤ bytes_in (parts_within k (drop n bytes)))
           → length (behind_text e (λ n. parts_within k (drop n bytes))) ≤ bytes_in (behind_text e (λ n. parts_within k (drop n bytes)))
-      next Whole e more = omega arith
-      next (Cut at start) e more = omega arith
       next (Bad at start) e more = omega (arith, (broken_end bytes at start e).0, more (part_end at start))
+      next _ e more = omega arith
 
   chars_few : (replace : Bool) (bytes : List ℕ) → length (text_under replace bytes) ≤ len_under replace bytes (text_under replace bytes)
   unfolding replaced replaced_len parts_of
@@ -45,8 +44,7 @@ module _ (p : Properties) where
   row_some : (f : Form) (c : ℕ) → IsSound p c → 1 ≤ length (row_of f p c)
   row_some Nfc c sound = sound.canonical_some
   row_some Nfd c sound = sound.canonical_some
-  row_some Nfkc c sound = sound.compat_some
-  row_some Nfkd c sound = sound.compat_some
+  row_some _ c sound = sound.compat_some
 
   -- nor a decomposition less than the text
   rows_some : (f : Form) (x : List ℕ) → list_all (is_sound p) x ≡ true → length x ≤ length (decomposed f p x)
@@ -103,8 +101,7 @@ module _ (laws : ReplacesParts) {policy : Policy} {f : Form} {p : Properties} {s
   counted_by : (g : Form) → run ≤ state.counted.normalizer.counter → run ≡ trail p (decomposed g p (stream_safe p text)) → IsCounted g run state.counted.normalizer.counter
   counted_by Nfc few same = few
   counted_by Nfd few same = few
-  counted_by Nfkc few same = same ∙ sym stands.reading.taken.machine.count
-  counted_by Nfkd few same = same ∙ sym stands.reading.taken.machine.count
+  counted_by _ few same = same ∙ sym stands.reading.taken.machine.count
 
   new_text : text ≡ [] → (state.counted.normalizer.counter ≡ 0) × (state.counted.normalizer.pending.starter ≡ None)
   new_text e = (

@@ -1,5 +1,5 @@
 -- Where each character is sound, none is refused, and where characters that are not assigned are taken, none for that.
-use Rattle.nf_filter.proofs.Common.{◌≡◌, ℕ, ◌+◌, Bool, true, false, ◌&&◌, List, [], ◌∷◌, ◌++◌, length, ◌==◌, Option, Some, None, Result, Err, refl, sym, ap, ◌∙◌, encode_utf8_all, option_map, if◌then◌else◌, subst, result_err, list_all, Properties, Form, stream_safe, is_sound, Ending, Whole, Bad, Cut, text_of, ending_of, Place, place_from, Fault, BadByte, CutShort, Read, Row, TooLong, Unassigned, Write, Policy, Tally, SinkState, SourceState, is_usable, usable, answer_at_end, bad_byte, bad_under, first_fault, fault_in, tally_of, answer_or, end_under, end_of, Finishes, as_is, allowed, len_under, text_under, whole_under, Feeds, Drives, Surveys, sound_front, check_fault, place_or_fault, check_decision, measure_decision, AreSound}
+use Rattle.nf_filter.proofs.Common.{◌≡◌, ℕ, ◌+◌, Bool, true, false, ◌&&◌, List, [], ◌∷◌, ◌++◌, length, ◌==◌, Option, Some, None, Result, Err, refl, sym, ap, ◌∙◌, encode_utf8_all, option_map, if◌then◌else◌, subst, result_err, list_all, Properties, Form, stream_safe, is_sound, Ending, Bad, Cut, text_of, ending_of, Place, place_from, Fault, BadByte, CutShort, Read, Row, TooLong, Unassigned, Write, Policy, Tally, SinkState, SourceState, is_usable, usable, answer_at_end, bad_byte, bad_under, first_fault, fault_in, tally_of, answer_or, end_under, end_of, Finishes, as_is, allowed, len_under, text_under, whole_under, Feeds, Drives, Surveys, sound_front, check_fault, place_or_fault, check_decision, measure_decision, AreSound}
 use Rattle.nf_filter.specs.Kinds.{row, unassigned, IsAmong}
 
 -- neither the end nor a bad byte refuses a character
@@ -8,14 +8,12 @@ module _ (refusal : Fault) (is : IsAmong (row ∷ unassigned ∷ []) refusal) wh
   apart fault same = subst (IsAmong (row ∷ unassigned ∷ [])) (sym same) is
 
   pub not_at_end : {T : Type 0} (base : ℕ) (value : T) (e : Ending) → ¬ (answer_at_end base value e ≡ Err refusal)
-  not_at_end base value Whole e = cc
-  not_at_end base value (Bad at start) e = cc
   not_at_end base value (Cut at start) e = apart (CutShort (base + at) (base + start)) cc
+  not_at_end base value _ e = cc
 
   not_bad_byte : (base : ℕ) (e : Ending) → ¬ (bad_byte base e ≡ Some refusal)
-  not_bad_byte base Whole e = cc
   not_bad_byte base (Bad at start) e = apart (BadByte (base + at) (base + start)) cc
-  not_bad_byte base (Cut at start) e = cc
+  not_bad_byte base _ e = cc
 
   -- nor do bytes, where no text does
   module _ (p : Properties) (base : ℕ) (policy : Policy)

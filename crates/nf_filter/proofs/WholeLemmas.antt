@@ -11,8 +11,7 @@ use Rattle.nf_filter.proofs.PolicyLemmas.{taken}
 is_whole : {A B : Type 0} (value : A) (b : B) (e : Ending) (usable : Bool) (at : ℕ) (told : A) → answer_at_end 0 value e ≡ Ok told → (if usable then bad_byte 0 e else Some (Row at)) ≡ None → e ≡ Whole
 is_whole value b Whole usable at told answer none = refl
 is_whole value b (Bad at start) true other told answer none = cc
-is_whole value b (Bad at start) false other told answer none = cc
-is_whole value b (CutEnd at start) usable other told answer none = cc
+is_whole value b _ usable other told answer none = cc
 
 module _ (p : Properties) where
   pub ending_whole : (bytes : List ℕ) (tally : Tally) → Ok tally ≡ end_of as_is p 0 bytes → fault_in as_is p 0 bytes ≡ None → ending_of bytes ≡ Whole
@@ -30,9 +29,7 @@ module _ (p : Properties) where
     where
       next : (b : Bool) (e : Ending) (at : ℕ) (tally : Tally) → IfErr (fault_or (if b then bad_byte 0 e else Some (Row at)) (answer_at_end 0 tally e)) IsOfWhole
       next true Whole at tally = tt
-      next true (Bad a start) at tally = tt
-      next true (CutEnd a start) at tally = tt
-      next false e at tally = tt
+      next _ e at tally = tt
 
   whole_answer-sound : AreSound p → (bytes : List ℕ) → RefusesNone (whole_answer p bytes)
   unfolding whole_answer end_of
@@ -60,9 +57,8 @@ module _ (f : Form) (p : Properties) where
 
       next : (e : Ending) → Extends (encode_utf8_all (settled f p (usable p (text_of bytes))))
           (whole_or e (encode_utf8_all (settled f p (usable p (text_of bytes)))) (encode_utf8_all (safe_form f p (text_of bytes))))
-      next Whole = whole
-      next (Bad at start) = whole
       next (CutEnd at start) = Extends-none _
+      next _ = whole
 
   module _ (bytes : List ℕ) where
     at_fault : (fault : Fault) → Some fault ≡ fault_in as_is p 0 bytes → settled_utf8 as_is f p bytes ≡ whole_utf8 f p bytes
