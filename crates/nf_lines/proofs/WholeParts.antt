@@ -45,14 +45,12 @@ front_utf8 front u =
 -- ---- behind a text
 
 bad_moved : (base n : ℕ) (e : Ending) → bad_byte base (moved n e) ≡ bad_byte (base + n) e
-bad_moved base n Whole = refl
 bad_moved base n (Bad at start) = (let a : base + (n + at) ≡ base + n + at = omega arith in let s : base + (n + start) ≡ base + n + start = omega arith in cc)
-bad_moved base n (Cut at start) = refl
+bad_moved base n _ = refl
 
 end_moved : (base n : ℕ) (e : Ending) → answer_at_end base (tt {0}) (moved n e) ≡ answer_at_end (base + n) (tt {0}) e
-end_moved base n Whole = refl
-end_moved base n (Bad at start) = refl
 end_moved base n (Cut at start) = (let a : base + (n + at) ≡ base + n + at = omega arith in let s : base + (n + start) ≡ base + n + start = omega arith in cc)
+end_moved base n _ = refl
 
 -- ---- of lists and parts alone
 

@@ -2,11 +2,8 @@
 use Rattle.nf_normalized.proofs.Common.{◌≡◌, ◌⊎◌, inl, inr, ℕ, true, false, List, [], ◌∷◌, ◌++◌, refl, sym, ap, take-append-drop, ap₂, ◌∙◌, subst, append_assoc, append-nil, Option, Some, None, is_some, IsSome, IsTrue, option_to_list, true≢false, Result, Err, Fault, Write, Comparing, goes_on_with, same, left, given, preface, taken, sink_state}
 use Rattle.std.specs.Io.KnownBytes.{Appends}
 use Rattle.nf_filter.specs.Writes.{Puts, BreaksOff}
+use Rattle.nf_filter.proofs.FilterLemmas.{write_or_kept}
 use Rattle.nf_normalized.proofs.ComparingLemmas.{none_is, preface-same}
-
-write_or : {T : Type 0} (r : Result T Fault) → (r ≡ Err Write) ⊎ ((r ≡ Err Write) → ⊥)
-write_or (Err Write) = inl refl
-write_or _ = inr (λ e. cc)
 
 -- of what is due the front `before` was written, and a sink to which nothing was given expects what stands behind that in `all`; the
 -- call r then wrote on
@@ -28,7 +25,7 @@ module _ {old new : Comparing} {all before due : List ℕ} {T : Type 0} {r : Res
 
   -- what was given was due, and perhaps more is
   gave : (rest : List ℕ) × (new.first.now ++ new.second.now ≡ old.first.now ++ old.second.now) × (due ≡ (before ++ given new) ++ rest)
-  gave = elim (write_or r) [
+  gave = elim (write_or_kept r) [
     | inl e ↦ let b = w.broken e in let t = told b.out b.given in (b.rest, t.0, b.behind ∙ ap (λ l. (before ++ l) ++ b.rest) (sym t.1))
     | inr other ↦ let p = w.puts other in let t = told p.out p.given in ([], t.0, p.behind ∙ ap (λ l. before ++ l) (sym t.1) ∙ sym (append-nil (before ++ given new)))
   ]

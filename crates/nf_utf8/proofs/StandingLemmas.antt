@@ -126,11 +126,6 @@ module _ (held bytes : List ℕ) (byte c : ℕ) (s : StandsAfter held bytes) (no
 
 pub answers_same : (bytes : List ℕ) (byte : ℕ) (a b : Step) → Answers bytes byte a → Answers bytes byte b → a ≡ b
 answers_same bytes byte More More p q = refl
-answers_same bytes byte More (Char d) p q = let e = p.1 in let f = q.1 in cc
-answers_same bytes byte More (BadByte m) p q = let e = p.1 in let f = q.1 in cc
-answers_same bytes byte (Char c) More p q = let e = p.1 in let f = q.1 in cc
 answers_same bytes byte (Char c) (Char d) p q = ap (λ x. Char x) (same_from_push (text_of bytes) (text_of bytes) c d (sym p.0 ∙ q.0)).1
-answers_same bytes byte (Char c) (BadByte m) p q = let e = p.1 in let f = q.1 in cc
-answers_same bytes byte (BadByte n) More p q = let e = p.1 in let f = q.1 in cc
-answers_same bytes byte (BadByte n) (Char d) p q = let e = p.1 in let f = q.1 in cc
 answers_same bytes byte (BadByte n) (BadByte m) p q = ap (λ x. BadByte x) (let e : n ≡ m = omega (arith, p.2, q.2) in e)
+answers_same bytes byte _ _ p q = let e = p.1 in let f = q.1 in cc

@@ -112,11 +112,8 @@ ends_piece bytes piece (Bad at back) e = (e.0, e.1, omega (arith, e.2, length-ap
 -- ---- the same from what stands behind the text
 
 part_size : (part : List ℕ) → IsPart part → length part ≤ 3
-part_size [] h = omega arith
-part_size (a ∷ []) h = omega arith
-part_size (a ∷ b ∷ []) h = omega arith
-part_size (a ∷ b ∷ c ∷ []) h = omega arith
 part_size (a ∷ b ∷ c ∷ d ∷ rest) h = absurd h
+part_size _ h = omega arith
 
 -- `front` stands behind the text, after `part`
 module _ (held piece : List ℕ) (first : Option ℕ) (text part rest : List ℕ) (skipped : ℕ) (joins : held ++ piece ≡ first_bytes first ++ text ++ (part ++ rest))
