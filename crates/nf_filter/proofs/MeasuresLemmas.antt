@@ -1,5 +1,5 @@
 -- What a measurement decides, character by character.
-use Rattle.nf_filter.proofs.Common.{◌≡◌, ℕ, ◌+◌, Bool, true, false, not, ◌&&◌, ◌||◌, List, [], ◌∷◌, ◌++◌, length, Some, None, Ok, Err, refl, sym, ap, ◌∙◌, if◌then◌else◌, is_err, OnOk, Option, Result, option_map, encode_utf8_all, ◌<◌, subst, arith, append_assoc, IsUtf8, chars, result_err, encodes-chars, Properties, joiner, is_too_long, stream_safe, is_sound, IsSoundText, refusal, unsound_at, Fault, Row, Stop, Refused, as_is, is_usable, fault_in, utf8_place, stop_in, TakesText, HasMeasured, HasSeenFront, SeesText, unusable_stop, measure_decision, no_measure, is_usable-push, told}
+use Rattle.nf_filter.proofs.Common.{◌≡◌, ℕ, ◌+◌, Bool, true, false, not, ◌&&◌, ◌||◌, List, [], ◌∷◌, ◌++◌, length, Some, None, Ok, Err, refl, sym, ap, ◌∙◌, if◌then◌else◌, is_err, OnOk, Option, Result, option_map, encode_utf8_all, subst, append_assoc, result_err, Properties, joiner, is_too_long, stream_safe, is_sound, IsSoundText, refusal, unsound_at, Fault, Row, Stop, Refused, as_is, is_usable, fault_in, utf8_place, stop_in, TakesText, HasMeasured, HasSeenFront, SeesText, unusable_stop, measure_decision, no_measure, is_usable-push, told}
 use Rattle.nf_row.specs.declared.unsound.Unsound.{Unsound}
 use Rattle.nf_safe.specs.declared.measurer.Measurer.{Measurer}
 use Rattle.nf_filter.proofs.TextLemmas.{unusable_at-usable, unusable_at-stop}
@@ -60,14 +60,6 @@ module _ (p : Properties) where
   pub TakesText-seen : (measurer : Measurer) (base : ℕ) (x y : List ℕ) (r : Result (Unit {0}) Stop) → SeesText p measurer base (x ++ y) r → TakesText (HasMeasured p measurer base) (unusable_stop p base) x y r
   TakesText-seen measurer base x y (Ok u) sees = record { stop = sym (ap (option_map Refused) (unusable_at-usable p (utf8_place base) (x ++ y) (usable_is (x ++ y) sees.sound))); taken = sees }
   TakesText-seen measurer base x y (Err stop) sees = record { stop = sym sees; taken = tt }
-
--- a text that is not empty has a character
-pub some_chars : (bytes : List ℕ) → IsUtf8 bytes → 0 < length bytes → 0 < length (chars bytes)
-some_chars bytes utf8 some = of (chars bytes) (encodes-chars bytes utf8)
-  where
-    of : (cs : List ℕ) → encode_utf8_all cs ≡ bytes → 0 < length cs
-    of [] e = absurd (omega (arith, ap length e))
-    of (c ∷ cs) e = omega arith
 
 -- a front was measured, and then a front of what stands behind it
 pub seen_more : (p : Properties) (first second : Measurer) (base : ℕ) (x text behind rest : List ℕ) → HasSeenFront p first base x text behind
