@@ -1,38 +1,8 @@
 -- What a filter wrote to the end is a text that is stream-safe and its own form, so that a second one changes nothing.
-use Rattle.std.proofs.Common.{◌≡◌, ℕ, ◌+◌, ◌-◌, Bool, true, false, ◌==◌, List, [], ◌∷◌, ◌++◌, length, Option, Some, None, Result, Ok, Err, refl, sym, ap, ap₂, ◌∙◌, subst, arith, append-nil, eq-eqb, IsTrue, OnOk, if◌then◌else◌, encode_utf8_all, inl}
-use Rattle.std.proofs.lemmas.Bool.{and_from, and_parts}
+use Rattle.nf_filter.proofs.Common.{◌≡◌, ℕ, ◌+◌, ◌-◌, Bool, true, false, ◌==◌, List, [], ◌∷◌, ◌++◌, length, Option, Some, None, Result, Ok, Err, refl, sym, ap, ap₂, ◌∙◌, subst, arith, append-nil, eq-eqb, IsTrue, OnOk, if◌then◌else◌, encode_utf8_all, inl, and_from, and_parts, list_all, Appends, Consumes, all_scalars, chars, Properties, Form, is_sound, stream_safe, safe_form, ChangesOnce, IsSoundText, is_in_format, in_format-unchanged, IsText, BeginsText, Ending, Whole, Cut, moved, text_of, ending_of, replacement, begun_at_end, replaced, replaced_whole, ReadsLongestText, ReadsBack, ReplacesParts, Fault, Policy, Tally, as_is, allowed, text_under, whole_under, len_under, is_usable, settled_utf8, answer_at_end, bad_byte, bad_under, first_fault, fault_in, tally_of, answer_or, end_under, end_of, whole_or, is_taken, final_under, final_utf8, SinkState, SourceState, Puts, due_utf8, Drives, DrivesToEnd, whole_utf8, Converts, settled_utf8-none}
 use Rattle.std.proofs.str.Laws.{scalars-append}
-use Rattle.std.specs.List.{list_all}
-use Rattle.std.specs.Io.KnownBytes.{Appends, Consumes}
-use Rattle.std.specs.Str.{all_scalars, chars}
 use Rattle.std.proofs.Math.Utf8.{scalar}
-use Rattle.nf_forms.specs.Properties.{Properties}
-use Rattle.nf_forms.specs.declared.form.Form.{Form}
-use Rattle.nf_forms.specs.Sound.{is_sound}
-use Rattle.nf_forms.specs.StreamSafe.{stream_safe}
-use Rattle.nf_forms.specs.SafeForm.{safe_form}
-use Rattle.nf_forms.specs.Twice.{ChangesOnce}
-use Rattle.nf_forms.specs.Laws.Sound.{IsSoundText}
-use Rattle.nf_safe.specs.Place.{is_in_format}
-use Rattle.nf_safe.specs.Laws.Pieces.{in_format-unchanged}
-use Rattle.nf_utf8.specs.Text.{IsText, BeginsText}
-use Rattle.nf_utf8.specs.Ending.{Ending, Whole, Bad, Cut, moved}
-use Rattle.nf_utf8.specs.Reading.{text_of, ending_of}
-use Rattle.nf_utf8.specs.Replaced.{replacement, begun_at_end, replaced, replaced_whole}
-use Rattle.nf_utf8.specs.Laws.{ReadsLongestText, ReadsBack, ReplacesParts}
-use Rattle.nf_filter.specs.declared.fault.Fault.{Fault}
-use Rattle.nf_filter.specs.declared.policy.Policy.{Policy}
-use Rattle.nf_filter.specs.declared.tally.Tally.{Tally}
-use Rattle.nf_filter.specs.Policy.{as_is, allowed, text_under, whole_under, len_under}
-use Rattle.nf_filter.specs.Settled.{is_usable, settled_utf8}
-use Rattle.nf_filter.specs.Faults.{answer_at_end, bad_byte, bad_under, first_fault, fault_in}
-use Rattle.nf_filter.specs.Finishes.{tally_of, answer_or, end_under, end_of, whole_or, is_taken, final_under, final_utf8}
-use Rattle.nf_filter.specs.Devices.{SinkState, SourceState}
-use Rattle.nf_filter.specs.Writes.{Puts}
-use Rattle.nf_filter.specs.Drives.{due_utf8, Drives, DrivesToEnd}
-use Rattle.nf_filter.specs.Whole.{whole_utf8, Converts}
 use Rattle.nf_filter.specs.Again.{TakesAll, nothing_put, StaysAsItIs, AddsWhatStays, DrivesOnce, FinishedStays}
-use Rattle.nf_filter.specs.Laws.Settled.{settled_utf8-none}
 use Rattle.nf_filter.proofs.PolicyLemmas.{first_fault-none, taken}
 use Rattle.nf_filter.proofs.WholeLemmas.{without, answer_at, answer_without}
 use Rattle.nf_filter.proofs.ReadingLemmas.{text_of-none, ending_of-none}
@@ -40,9 +10,8 @@ use Rattle.nf_filter.proofs.PieceLemmas.{text_under-begun, begun_at_end-begun}
 
 -- the end is no fault
 pub answered : {A : Type 0} (base : ℕ) (value told : A) (ending : Ending) → answer_at_end base value ending ≡ Ok told → (settled whole : List ℕ) → whole_or ending settled whole ≡ whole
-answered base value told Whole e settled whole = refl
-answered base value told (Bad at start) e settled whole = refl
 answered base value told (Cut at start) e settled whole = cc
+answered base value told _ e settled whole = refl
 
 pub none_told : {A : Type 0} (fault : Option Fault) (value told : A) → answer_or fault value ≡ Ok told → fault ≡ None
 none_told None value told e = refl

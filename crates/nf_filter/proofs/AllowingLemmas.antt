@@ -1,18 +1,6 @@
 -- A text of which only assigned characters may be taken.
-use Rattle.std.proofs.Common.{◌≡◌, ℕ, ◌==◌, ◌<◌, Bool, true, false, List, [], ◌++◌, length, Some, None, Ok, Err, ⊎_elim, refl, sym, ap, ◌∙◌, subst, arith, eq-eqb, ne_eqb, OnOk, Result, if◌then◌else◌}
-use Rattle.nf_forms.specs.Properties.{Properties}
-use Rattle.nf_forms.specs.declared.form.Form.{Form}
-use Rattle.nf_filter.specs.declared.fault.Fault.{Fault}
-use Rattle.nf_filter.specs.declared.fault.Fault.TheVariants.{Row, Write as WriteFault, Unassigned}
-use Rattle.nf_filter.specs.declared.counted.Counted.{Counted}
-use Rattle.nf_filter.specs.Block.{Start, BlockState, Written}
-use Rattle.nf_filter.specs.Faults.{first_fault}
-use Rattle.nf_filter.specs.Feeding.{taken_utf8, TakesAllowed}
-use Rattle.nf_filter.specs.Counted.{HasTaken, TakesOn, settled_text, unusable_at, usable_utf8}
-use Rattle.nf_filter.specs.Policy.{allowed}
-use Rattle.nf_filter.specs.Settled.{is_usable, usable}
+use Rattle.nf_filter.proofs.Common.{◌≡◌, ℕ, ◌==◌, ◌<◌, Bool, true, false, List, [], ◌++◌, length, Some, None, Ok, Err, ⊎_elim, refl, sym, ap, ◌∙◌, subst, arith, eq-eqb, ne_eqb, OnOk, Result, if◌then◌else◌, Properties, Form, Fault, Row, WriteFault, Unassigned, Counted, Start, BlockState, Written, first_fault, taken_utf8, TakesAllowed, HasTaken, TakesOn, settled_text, unusable_at, usable_utf8, allowed, is_usable, usable, usable-all}
 use Rattle.nf_filter.proofs.BlockLemmas.{Written-at, Broken-at, Broken-extends}
-use Rattle.nf_normalizer.specs.Laws.Settled.{usable-all}
 use Rattle.nf_filter.proofs.PolicyLemmas.{allowed-grows, first_fault-stays, taken-all, taken_utf8-grows, first_fault-is}
 use Rattle.nf_filter.proofs.FeedingLemmas.{fed_by}
 

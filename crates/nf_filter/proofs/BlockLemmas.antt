@@ -1,9 +1,5 @@
 -- What is written through a block.
-use Rattle.std.proofs.Common.{◌≡◌, List, ℕ, [], ◌++◌, sym, ap, ◌∙◌, subst, append-nil, append_assoc}
-use Rattle.nf_filter.specs.Devices.{SinkState}
-use Rattle.nf_filter.specs.Writes.{BreaksOff}
-use Rattle.nf_filter.specs.Block.{Start, BlockState, Written}
-use Rattle.nf_normalizer.specs.Laws.Settled.{Extends}
+use Rattle.nf_filter.proofs.Common.{◌≡◌, List, ℕ, [], ◌++◌, sym, ap, ◌∙◌, subst, append-nil, append_assoc, SinkState, BreaksOff, Start, BlockState, Written, Extends}
 use Rattle.nf_filter.proofs.WritesLemmas.{Puts-none, BreaksOff-longer}
 
 abbrev pub start_at : SinkState → List ℕ → Start

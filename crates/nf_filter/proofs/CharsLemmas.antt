@@ -1,7 +1,5 @@
 -- A text, character by character.
-use Rattle.std.proofs.Common.{◌≡◌, ℕ, ◌+◌, ◌<◌, ◌≤◌, List, [], ◌∷◌, ◌++◌, length, take, drop, get_or, map, map-id, sym, ap, ◌∙◌, arith, encode_utf8, append_assoc, encode_utf8_all, IsUtf8, chars}
-use Rattle.std.proofs.lemmas.List.{length-append, take_more, take-append-drop}
-use Rattle.std.proofs.lemmas.Str.{encodes-append, encodes-chars}
+use Rattle.nf_filter.proofs.Common.{◌≡◌, ℕ, ◌+◌, ◌<◌, ◌≤◌, List, [], ◌∷◌, ◌++◌, length, take, drop, get_or, map, map-id, sym, ap, ◌∙◌, arith, encode_utf8, append_assoc, encode_utf8_all, IsUtf8, chars, length-append, take_more, take-append-drop, encodes-append, encodes-chars}
 
 -- c follows the characters xs of the text, and the text has room for both
 pub record Turn (bytes xs : List ℕ) (c : ℕ) : Type 0 where

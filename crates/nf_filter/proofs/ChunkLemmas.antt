@@ -1,29 +1,6 @@
 -- What is left of a piece, up to its first ill-formed byte.
-use Rattle.std.proofs.Common.{◌≡◌, ℕ, ◌+◌, ◌<◌, ◌≤◌, Bool, true, false, List, [], ◌∷◌, ◌++◌, length, drop, Some, Ok, Err, refl, sym, ap, ◌∙◌, subst, arith, append_assoc, append-nil, eq-eqb, ne_eqb, zero, suc, Option, if◌then◌else◌, encode_utf8_all, chars, length-append, drop-drop, drop_at}
-use Rattle.std.proofs.lemmas.Str.{encodes-append}
-use Rattle.nf_forms.specs.Properties.{Properties}
-use Rattle.nf_forms.specs.declared.form.Form.{Form}
-use Rattle.nf_utf8.specs.declared.chunk.End.{End}
-use Rattle.nf_utf8.specs.declared.chunk.End.TheVariants.{Bad as EndsBad}
-use Rattle.nf_utf8.specs.Ending.{Bad}
-use Rattle.nf_utf8.specs.Reading.{text_of, text_len, ending_of}
-use Rattle.nf_utf8.specs.Replaced.{replacement, part_end}
-use Rattle.nf_utf8.specs.Laws.{ReplacesParts, SplitsBytes}
-use Rattle.nf_utf8.specs.Standing.{StandsAfter as DecoderStandsAfter}
-use Rattle.nf_utf8.specs.Taking.{first_text, Takes, bytes_behind}
-use Rattle.nf_filter.specs.declared.fault.Fault.{Fault}
-use Rattle.nf_filter.specs.declared.fault.Fault.TheVariants.{BadByte, Write}
-use Rattle.nf_filter.specs.declared.counted.Counted.{Counted}
-use Rattle.nf_filter.specs.declared.policy.Policy.{Policy}
-use Rattle.nf_filter.specs.declared.reading.Reading.{Reading}
-use Rattle.nf_filter.specs.Block.{Start, BlockState, Written}
-use Rattle.nf_filter.specs.Faults.{bad_byte, bad_under, first_fault, fault_in}
-use Rattle.nf_filter.specs.Feeding.{taken_utf8, TakesAllowed, IsLeft, HasReadTo, ReadsTo, RefusesBytes}
-use Rattle.nf_filter.specs.Counted.{HasTaken, IsPlacedAt, settled_text}
-use Rattle.nf_filter.specs.Policy.{allowed, len_under, text_under}
-use Rattle.nf_filter.specs.Settled.{usable}
+use Rattle.nf_filter.proofs.Common.{◌≡◌, ℕ, ◌+◌, ◌<◌, ◌≤◌, Bool, true, false, List, [], ◌∷◌, ◌++◌, length, drop, Some, Ok, Err, refl, sym, ap, ◌∙◌, subst, arith, append_assoc, append-nil, eq-eqb, ne_eqb, zero, suc, Option, if◌then◌else◌, encode_utf8_all, chars, length-append, drop-drop, drop_at, encodes-append, Properties, Form, End, EndsBad, Bad, text_of, text_len, ending_of, replacement, part_end, ReplacesParts, SplitsBytes, DecoderStandsAfter, first_text, Takes, bytes_behind, Fault, BadByte, Write, Counted, Policy, Reading, Start, BlockState, Written, bad_byte, bad_under, first_fault, fault_in, taken_utf8, TakesAllowed, IsLeft, HasReadTo, ReadsTo, RefusesBytes, HasTaken, IsPlacedAt, settled_text, allowed, len_under, text_under, usable, Extends}
 use Rattle.nf_filter.proofs.BlockLemmas.{Written-at, Broken-extends}
-use Rattle.nf_normalizer.specs.Laws.Settled.{Extends}
 use Rattle.nf_filter.proofs.PolicyLemmas.{first_fault-none, first_fault-stays, taken_utf8-grows}
 use Rattle.nf_filter.proofs.AllowingLemmas.{TakesAllowed-settled}
 use Rattle.nf_filter.proofs.ReadingLemmas.{ends_well, all_behind, ending_of-none}

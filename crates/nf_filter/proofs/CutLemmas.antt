@@ -1,20 +1,5 @@
 -- A character that the end cuts, taken as U+FFFD.
-use Rattle.std.proofs.Common.{◌≡◌, ℕ, ◌+◌, true, List, [], ◌∷◌, ◌++◌, length, None, Ok, refl, sym, ap, ◌∙◌, subst, arith, Result, encode_utf8_all, ⊎_elim}
-use Rattle.nf_forms.specs.Properties.{Properties}
-use Rattle.nf_forms.specs.declared.form.Form.{Form}
-use Rattle.nf_utf8.specs.Reading.{text_of}
-use Rattle.nf_utf8.specs.Replaced.{replacement}
-use Rattle.nf_utf8.specs.Laws.{ReplacesParts}
-use Rattle.nf_filter.specs.declared.fault.Fault.{Fault}
-use Rattle.nf_filter.specs.declared.counted.Counted.{Counted}
-use Rattle.nf_filter.specs.declared.policy.Policy.{Policy}
-use Rattle.nf_filter.specs.declared.reading.Reading.{Reading}
-use Rattle.nf_filter.specs.Devices.{SinkState}
-use Rattle.nf_filter.specs.Block.{BlockState, Written, WritesTo, GivesAll}
-use Rattle.nf_filter.specs.Feeding.{taken_utf8, TakesAllowed, HasReadTo, ReplacesCut}
-use Rattle.nf_filter.specs.Counted.{HasTaken, IsPlacedAt, settled_text}
-use Rattle.nf_filter.specs.Policy.{allowed, len_under, whole_under}
-use Rattle.nf_filter.specs.Settled.{is_usable, settled_utf8}
+use Rattle.nf_filter.proofs.Common.{◌≡◌, ℕ, ◌+◌, true, List, [], ◌∷◌, ◌++◌, length, None, Ok, refl, sym, ap, ◌∙◌, subst, arith, Result, encode_utf8_all, ⊎_elim, Properties, Form, text_of, replacement, ReplacesParts, Fault, Counted, Policy, Reading, SinkState, BlockState, Written, WritesTo, GivesAll, taken_utf8, TakesAllowed, HasReadTo, ReplacesCut, HasTaken, IsPlacedAt, settled_text, allowed, len_under, whole_under, is_usable, settled_utf8}
 use Rattle.nf_filter.proofs.WritesLemmas.{Puts-none, Puts-at}
 use Rattle.nf_filter.proofs.BlockLemmas.{start_at, Written-at}
 use Rattle.nf_filter.proofs.FilterLemmas.{write_or_kept}

@@ -1,17 +1,5 @@
 -- What driving answers, by what was fed.
-use Rattle.std.proofs.Common.{◌≡◌, ℕ, true, false, List, ◌++◌, Ok, Err, inl, inr, ⊎_elim, refl, sym, ap, ◌∙◌, IsTrue, Result}
-use Rattle.nf_forms.specs.Properties.{Properties}
-use Rattle.nf_forms.specs.declared.form.Form.{Form}
-use Rattle.nf_filter.specs.declared.fault.Fault.{Fault}
-use Rattle.nf_filter.specs.declared.policy.Policy.{Policy}
-use Rattle.nf_filter.specs.declared.fault.Fault.TheVariants.{TooLong, Read, Write}
-use Rattle.nf_filter.specs.declared.filter.State.{State}
-use Rattle.nf_filter.specs.declared.tally.Tally.{Tally}
-use Rattle.nf_filter.specs.Devices.{SinkState, SourceState}
-use Rattle.nf_filter.specs.Writes.{Puts, BreaksOff}
-use Rattle.nf_filter.specs.Settled.{settled_utf8}
-use Rattle.nf_filter.specs.Finishes.{final_utf8, Finishes}
-use Rattle.nf_filter.specs.Drives.{due_utf8, FeedsAll, Drives}
+use Rattle.nf_filter.proofs.Common.{◌≡◌, ℕ, true, false, List, ◌++◌, Ok, Err, inl, inr, ⊎_elim, refl, sym, ap, ◌∙◌, IsTrue, Result, Properties, Form, Fault, Policy, TooLong, Read, Write, State, Tally, SinkState, SourceState, Puts, BreaksOff, settled_utf8, final_utf8, Finishes, due_utf8, FeedsAll, Drives}
 use Rattle.nf_filter.proofs.WritesLemmas.{Puts-join, Puts-at, BreaksOff-join, BreaksOff-at}
 use Rattle.nf_filter.proofs.FilterLemmas.{failed_if}
 use Rattle.nf_filter.proofs.FeedingLemmas.{fed_by}

@@ -1,30 +1,9 @@
 -- A piece that was read: what it comes to by the bytes.
-use Rattle.std.proofs.Common.{◌≡◌, ℕ, suc, ◌+◌, ◌-◌, ◌<◌, ◌==◌, Bool, true, false, cond, MatchResult, List, [], ◌∷◌, ◌++◌, length, None, Ok, Err, refl, sym, ap, ◌∙◌, subst, arith, append_assoc, append-nil, eq-eqb, ne_eqb, OnOk, Result, if◌then◌else◌, encode_utf8_all, ⊎_elim}
-use Rattle.std.specs.Result.{result_err}
-use Rattle.std.proofs.lemmas.Bool.Decides.{nat_tests}
-use Rattle.nf_forms.specs.Properties.{Properties}
-use Rattle.nf_forms.specs.declared.form.Form.{Form}
-use Rattle.nf_utf8.specs.Reading.{text_of, ending_of}
-use Rattle.nf_utf8.specs.Replaced.{replacement, begun_at_end, replaced_whole}
-use Rattle.nf_utf8.specs.Laws.{ReplacesParts}
-use Rattle.nf_filter.specs.declared.fault.Fault.{Fault}
-use Rattle.nf_filter.specs.declared.fault.Fault.TheVariants.{Write}
-use Rattle.nf_filter.specs.declared.counted.Counted.{Counted}
-use Rattle.nf_filter.specs.declared.policy.Policy.{Policy}
-use Rattle.nf_filter.specs.declared.reading.Reading.{Reading}
-use Rattle.nf_filter.specs.Block.{Start, BlockState, Written, WritesTo, GivesAll}
-use Rattle.nf_filter.specs.Faults.{bad_byte, bad_under, fault_in}
-use Rattle.nf_filter.specs.Feeding.{taken_utf8, IsLeft, HasReadTo, ReadsTo, RefusesBytes}
-use Rattle.nf_filter.specs.Counted.{settled_text}
-use Rattle.nf_filter.specs.Policy.{allowed, len_under, text_under, whole_under}
-use Rattle.nf_filter.specs.Settled.{is_usable, settled_utf8}
-use Rattle.nf_filter.specs.Devices.{SinkState}
-use Rattle.nf_filter.specs.Feeds.{Feeds}
+use Rattle.nf_filter.proofs.Common.{◌≡◌, ℕ, suc, ◌+◌, ◌-◌, ◌<◌, ◌==◌, Bool, true, false, cond, MatchResult, List, [], ◌∷◌, ◌++◌, length, None, Ok, Err, refl, sym, ap, ◌∙◌, subst, arith, append_assoc, append-nil, eq-eqb, ne_eqb, OnOk, Result, if◌then◌else◌, encode_utf8_all, ⊎_elim, result_err, nat_tests, Properties, Form, text_of, ending_of, replacement, begun_at_end, replaced_whole, ReplacesParts, Fault, Write, Counted, Policy, Reading, Start, BlockState, Written, WritesTo, GivesAll, bad_byte, bad_under, fault_in, taken_utf8, IsLeft, HasReadTo, ReadsTo, RefusesBytes, settled_text, allowed, len_under, text_under, whole_under, is_usable, settled_utf8, SinkState, Feeds, Puts}
 use Rattle.nf_filter.proofs.BlockLemmas.{start_at, Written-at, Broken-at}
 use Rattle.nf_filter.proofs.FilterLemmas.{failed_if, write_or_kept}
 use Rattle.nf_filter.proofs.PolicyLemmas.{first_fault-none, taken-all}
 use Rattle.nf_filter.proofs.PieceLemmas.{IsLeft-more, left-text, left-place, left-bad, left-whole, text_under-begun, begun_at_end-begun, len_under-first}
-use Rattle.nf_filter.specs.Writes.{Puts}
 
 good_under : (r : Bool) (n : ℕ) (tail : List ℕ) → bad_byte n (ending_of tail) ≡ None → bad_under r n tail ≡ None
 good_under false n tail good = good

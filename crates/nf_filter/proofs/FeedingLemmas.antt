@@ -1,23 +1,7 @@
 -- What feeding all that a source gives comes to, by where it stopped.
-use Rattle.std.proofs.Common.{◌≡◌, ℕ, ◌+◌, ◌<◌, ◌≤◌, ◌^◌, ◌↔◌, true, false, List, [], ◌++◌, length, None, Ok, Err, ⊎_elim, refl, sym, ap, ◌∙◌, subst, arith, append_assoc, append-nil, IsTrue, IsFalse, Result, length-append, OnOk}
-use Rattle.std.specs.Io.KnownBytes.{Consumes, IsAtEnd}
-use Rattle.std.proofs.lemmas.Bool.{cases_lt}
-use Rattle.nf_forms.specs.Properties.{Properties}
-use Rattle.nf_forms.specs.declared.form.Form.{Form}
-use Rattle.nf_filter.specs.declared.fault.Fault.{Fault}
-use Rattle.nf_filter.specs.declared.policy.Policy.{Policy}
-use Rattle.nf_filter.specs.declared.fault.Fault.TheVariants.{TooLong, Read, Write}
-use Rattle.nf_filter.specs.declared.filter.State.{State}
-use Rattle.nf_filter.specs.Devices.{SinkState, SourceState}
-use Rattle.nf_filter.specs.Writes.{Puts}
-use Rattle.nf_filter.specs.Settled.{settled_utf8}
-use Rattle.nf_filter.specs.Faults.{fault_in}
-use Rattle.nf_filter.specs.Filter.{base_of, offset_of, is_spent, StandsAfter}
-use Rattle.nf_filter.specs.Feeds.{Feeds}
-use Rattle.nf_filter.specs.Drives.{FeedsAll}
+use Rattle.nf_filter.proofs.Common.{◌≡◌, ℕ, ◌+◌, ◌<◌, ◌≤◌, ◌^◌, ◌↔◌, true, false, List, [], ◌++◌, length, None, Ok, Err, ⊎_elim, refl, sym, ap, ◌∙◌, subst, arith, append_assoc, append-nil, IsTrue, IsFalse, Result, length-append, OnOk, Consumes, IsAtEnd, cases_lt, Properties, Form, Fault, Policy, TooLong, Read, Write, State, SinkState, SourceState, Puts, settled_utf8, fault_in, base_of, offset_of, is_spent, StandsAfter, Feeds, FeedsAll, result_err}
 use Rattle.nf_filter.proofs.WritesLemmas.{Puts-none, Puts-join, Puts-at, BreaksOff-join}
 use Rattle.nf_filter.proofs.FilterLemmas.{StandsAfter-no_fault, StandsAfter-offset, StandsAfter-fits}
-use Rattle.std.specs.Result.{result_err}
 
 abbrev pub fed_by : Fault → Result (Unit {0}) Fault
 fed_by fault = Err fault

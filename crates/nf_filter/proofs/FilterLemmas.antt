@@ -1,23 +1,5 @@
 -- What a filter answers.
-use Rattle.std.proofs.Common.{◌≡◌, ℕ, ◌+◌, ◌<◌, ◌^◌, Bool, true, false, List, [], ◌++◌, length, Some, None, Ok, Err, ◌⊎◌, inl, inr, ⊎_elim, refl, sym, ap, ◌∙◌, arith, IsTrue, Option, Result, option_map, if◌then◌else◌, length-append, ◌↔◌, subst}
-use Rattle.nf_forms.specs.Properties.{Properties}
-use Rattle.nf_forms.specs.declared.form.Form.{Form}
-use Rattle.nf_utf8.specs.Reading.{text_of, ending_of}
-use Rattle.nf_filter.specs.declared.fault.Fault.{Fault}
-use Rattle.nf_filter.specs.declared.fault.Fault.TheVariants.{Spent, TooLong, Read, Write, Row, BadByte, Cut, Unassigned}
-use Rattle.nf_filter.specs.declared.filter.State.{State}
-use Rattle.nf_filter.specs.declared.policy.Policy.{Policy}
-use Rattle.nf_filter.specs.declared.taker.Stop.TheVariants.{Refused}
-use Rattle.nf_filter.specs.Devices.{SinkState}
-use Rattle.nf_filter.specs.Writes.{Puts, BreaksOff}
-use Rattle.nf_filter.specs.Policy.{as_is}
-use Rattle.nf_filter.specs.Settled.{is_usable}
-use Rattle.nf_filter.specs.Faults.{bad_byte, fault_in}
-use Rattle.nf_filter.specs.Counted.{unusable_at}
-use Rattle.nf_filter.specs.Measures.{unusable_stop}
-use Rattle.nf_filter.specs.Taker.{stop_or, stop_in}
-use Rattle.nf_filter.specs.Filter.{base_of, offset_of, StandsAfter}
-use Rattle.nf_filter.specs.Feeding.{HasReadTo}
+use Rattle.nf_filter.proofs.Common.{◌≡◌, ℕ, ◌+◌, ◌<◌, ◌^◌, Bool, true, false, List, [], ◌++◌, length, Some, None, Err, ◌⊎◌, inl, inr, ⊎_elim, refl, sym, ap, ◌∙◌, arith, IsTrue, Option, Result, option_map, if◌then◌else◌, length-append, ◌↔◌, subst, Properties, Form, text_of, ending_of, Fault, Write, State, Policy, Refused, SinkState, Puts, BreaksOff, as_is, is_usable, bad_byte, fault_in, unusable_at, unusable_stop, stop_or, stop_in, base_of, offset_of, StandsAfter, HasReadTo}
 
 module _ {old new : SinkState} {before after : List ℕ} where
   -- a sink that stood failed was given nothing
@@ -31,18 +13,12 @@ module _ {old new : SinkState} {before after : List ℕ} where
 
 -- the sink failed, or something else
 pub write_or_not : (fault : Fault) → (fault ≡ Write) ⊎ (¬ (fault ≡ Write))
-write_or_not Spent = inr (λ e. cc)
-write_or_not TooLong = inr (λ e. cc)
-write_or_not Read = inr (λ e. cc)
 write_or_not Write = inl refl
-write_or_not (Row at) = inr (λ e. cc)
-write_or_not (BadByte at start) = inr (λ e. cc)
-write_or_not (Cut at start) = inr (λ e. cc)
-write_or_not (Unassigned at) = inr (λ e. cc)
+write_or_not _ = inr (λ e. cc)
 
 pub write_or_kept : {T : Type 0} (r : Result T Fault) → (r ≡ Err Write) ⊎ (¬ (r ≡ Err Write))
-write_or_kept (Ok value) = inr (λ e. cc)
-write_or_kept (Err fault) = ⊎_elim (λ e. inl (ap Err e)) (λ not. inr (λ e. let is : fault ≡ Write = cc in not is)) (write_or_not fault)
+write_or_kept (Err Write) = inl refl
+write_or_kept _ = inr (λ e. cc)
 
 -- so the sink failed with more to be written where that is answered, and nowhere else
 pub failed_if : {T : Type 0} {old new : SinkState} {before after : List ℕ} (r : Result T Fault) → (r ≡ Err Write → BreaksOff old new before after) → (¬ (r ≡ Err Write) → Puts old new before after)

@@ -1,52 +1,21 @@
 -- What finishing answers.
-use Rattle.std.proofs.Common.{◌≡◌, ℕ, ◌+◌, ◌<◌, Bool, true, false, List, [], ◌∷◌, ◌++◌, length, None, Ok, Err, ⊎_elim, refl, sym, ap, ◌∙◌, subst, arith, append-nil, eq-eqb, zero, suc, Option, Result, if◌then◌else◌, encode_utf8_all, length-append}
-use Rattle.std.proofs.lemmas.Bool.{cases_Bool, false_from_ne_true, and_from}
-use Rattle.nf_forms.specs.Properties.{Properties}
-use Rattle.nf_forms.specs.declared.form.Form.{Form}
-use Rattle.nf_forms.specs.SafeForm.{safe_form}
-use Rattle.nf_utf8.specs.Ending.{Ending, Whole, Bad, Cut}
-use Rattle.nf_utf8.specs.Reading.{text_of, ending_of}
-use Rattle.nf_utf8.specs.Replaced.{replacement}
-use Rattle.nf_utf8.specs.Laws.{ReplacesParts}
-use Rattle.nf_filter.specs.declared.fault.Fault.{Fault}
-use Rattle.nf_filter.specs.declared.fault.Fault.TheVariants.{Write}
-use Rattle.nf_filter.specs.declared.counted.Counted.{Counted}
-use Rattle.nf_filter.specs.declared.policy.Policy.{Policy}
-use Rattle.nf_filter.specs.declared.reading.Reading.{Reading}
-use Rattle.nf_filter.specs.declared.tally.Tally.{Tally}
-use Rattle.nf_filter.specs.Devices.{SinkState}
-use Rattle.nf_filter.specs.Writes.{Puts, BreaksOff}
-use Rattle.nf_filter.specs.Policy.{allowed, len_under, text_under, whole_under}
-use Rattle.nf_filter.specs.Settled.{settled, is_usable, usable, settled_utf8}
-use Rattle.nf_filter.specs.Faults.{answer_at_end, first_fault}
-use Rattle.nf_filter.specs.Feeding.{taken_utf8, HasReadTo, ReplacesCut}
-use Rattle.nf_filter.specs.Counted.{HasTaken, settled_text}
-use Rattle.nf_filter.specs.Finishes.{tally_of, answer_or, end_under, end_of, whole_or, is_taken, final_under, final_utf8, Closes, Finishes}
+use Rattle.nf_filter.proofs.Common.{◌≡◌, ℕ, ◌+◌, ◌<◌, Bool, true, false, List, [], ◌∷◌, ◌++◌, length, None, Ok, Err, ⊎_elim, refl, sym, ap, ◌∙◌, subst, arith, append-nil, eq-eqb, zero, suc, Option, Result, if◌then◌else◌, encode_utf8_all, length-append, cases_Bool, false_from_ne_true, and_from, Properties, Form, safe_form, Ending, Cut, text_of, ending_of, replacement, ReplacesParts, Fault, Write, Counted, Policy, Reading, Tally, SinkState, Puts, BreaksOff, allowed, len_under, text_under, whole_under, settled, is_usable, usable, settled_utf8, answer_at_end, first_fault, taken_utf8, HasReadTo, ReplacesCut, HasTaken, settled_text, tally_of, answer_or, end_under, end_of, whole_or, is_taken, final_under, final_utf8, Closes, Finishes, Extends-encodes, usable-all, usable-stop, nil_from_length}
 use Rattle.nf_filter.proofs.WritesLemmas.{Puts-none, Puts-join, Puts-at, BreaksOff-join, BreaksOff-at}
 use Rattle.nf_filter.proofs.BlockLemmas.{BreaksOff-extends}
-use Rattle.nf_normalizer.specs.Laws.Settled.{Extends-encodes, usable-all, usable-stop}
 use Rattle.nf_filter.proofs.FilterLemmas.{failed_if}
 use Rattle.nf_filter.proofs.PolicyLemmas.{allowed-append, allowed-grows, taken-all, taken_whole, first_fault-none, taken}
 use Rattle.nf_filter.proofs.PieceLemmas.{left-end}
+use Rattle.nf_filter.proofs.ReadingLemmas.{end_is as end_valued}
 use Rattle.nf_filter.proofs.FedLemmas.{read-text, read-settled, whole-none, whole-some, left_is}
-use Rattle.std.proofs.lemmas.List.{nil_from_length}
 use Rattle.nf_filter.proofs.WholeLemmas.{settled-whole}
 use Rattle.nf_filter.proofs.AgainLemmas.{answered}
 use Rattle.nf_filter.proofs.DriveLemmas.{refused_by}
 use Rattle.nf_filter.proofs.FeedingLemmas.{fed_by}
 
--- the same end for any value
-no_end : {A B : Type 0} (base : ℕ) (a : A) (b : B) (ending : Ending) → Ok a ≡ answer_at_end base a ending → answer_at_end base b ending ≡ Ok b
-no_end base a b Whole e = refl
-no_end base a b (Bad at start) e = refl
-no_end base a b (Cut at start) e = cc
-
--- and what is written where it is a fault
-cut_short : {B : Type 0} (base : ℕ) (b : B) (ending : Ending) (fault : Fault) (settled whole : List ℕ) → Err fault ≡ answer_at_end base (tt {0}) ending
-    → (answer_at_end base b ending ≡ Err fault) × (whole_or ending settled whole ≡ settled)
-cut_short base b Whole fault settled whole e = cc
-cut_short base b (Bad at start) fault settled whole e = cc
-cut_short base b (Cut at start) fault settled whole e = (cc, refl)
+-- what is written where the end is a fault
+cut_short : (base : ℕ) (ending : Ending) (fault : Fault) (settled whole : List ℕ) → Err fault ≡ answer_at_end base (tt {0}) ending → whole_or ending settled whole ≡ settled
+cut_short base (Cut at start) fault settled whole e = refl
+cut_short base _ fault settled whole e = cc
 
 -- the answer at the end, where ill-formed bytes are replaced or not
 strict_is : (r a : Bool) (p : Properties) (base : ℕ) (bytes settled whole : List ℕ) → r ≡ false → (end_under r a p base bytes ≡ answer_at_end base (tally_of r p bytes) (ending_of bytes))
@@ -103,15 +72,17 @@ module _ (policy : Policy) (f : Form) (p : Properties) (base : ℕ) (laws : Repl
         let strict = strict_is policy.replace policy.assigned p base bytes (settled_utf8 policy f p bytes) final strict in (
           subst (HasTaken f p counted) (sym whole_is) read.taken,
           Puts-at refl (sym (read-settled policy f p base laws counted reading bytes read) ∙ ap (settled_text f p) (sym whole_is)) (Puts-none sink (settled_utf8 policy f p bytes)),
-          strict.0 ∙ no_end base (tt {0}) (tally_of policy.replace p bytes) (ending_of bytes) told,
+          strict.0 ∙ sym (end_valued base (tally_of policy.replace p bytes) (ending_of bytes) (Ok tt) told),
           strict.1 ∙ answered base (tt {0}) (tt {0}) (ending_of bytes) (sym told) _ _,
         )
     close-strict (Err fault) is other =
         let told : Err fault ≡ answer_at_end base (tt {0}) (ending_of bytes) = is ∙ sym end_is in
         let strict = strict_is policy.replace policy.assigned p base bytes (settled_utf8 policy f p bytes) final strict in
-        let short = cut_short base (tally_of policy.replace p bytes) (ending_of bytes) fault (settled_utf8 policy f p bytes) final told in
         Finishes-of policy f p base bytes sink sink (Err fault) (λ e. absurd (other fault refl (let same : fault ≡ Write = cc in same)))
-        (λ _. (Puts-at refl (sym (strict.1 ∙ short.1)) (Puts-none sink (settled_utf8 policy f p bytes)), sym (strict.0 ∙ short.0)))
+        (λ _. (
+          Puts-at refl (sym (strict.1 ∙ cut_short base (ending_of bytes) fault (settled_utf8 policy f p bytes) final told)) (Puts-none sink (settled_utf8 policy f p bytes)),
+          sym (strict.0 ∙ sym (end_valued base (tally_of policy.replace p bytes) (ending_of bytes) (Err fault) told)),
+        ))
 
   -- what the end cuts is replaced
   module _ (replaces : policy.replace ≡ true) (carried : ℕ) (is_carried : length (encode_utf8_all (text_of read.tail)) + carried ≡ length read.tail) where

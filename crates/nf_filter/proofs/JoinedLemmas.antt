@@ -1,18 +1,5 @@
 -- What was written to the end is the form of the longest pieces, joined.
-use Rattle.std.proofs.Common.{◌≡◌, ℕ, ◌+◌, Bool, true, false, List, None, Ok, ap, ◌∙◌, encode_utf8_all}
-use Rattle.nf_forms.specs.Properties.{Properties}
-use Rattle.nf_forms.specs.declared.form.Form.{Form}
-use Rattle.nf_forms.specs.Forms.{normal_form}
-use Rattle.nf_forms.specs.StreamSafe.{stream_safe}
-use Rattle.nf_forms.specs.SafeForm.{safe_form}
-use Rattle.nf_forms.specs.Laws.Sound.{IsSoundText}
-use Rattle.nf_safe.specs.Laws.Pieces.{cut-some, sound-source, stream_safe-cut, stream_safe-in_format}
-use Rattle.nf_filter.specs.declared.policy.Policy.{Policy}
-use Rattle.nf_filter.specs.declared.tally.Tally.{Tally}
-use Rattle.nf_filter.specs.Policy.{len_under, text_under, whole_under}
-use Rattle.nf_filter.specs.Settled.{is_usable}
-use Rattle.nf_filter.specs.Faults.{bad_under, first_fault, fault_in}
-use Rattle.nf_filter.specs.Finishes.{tally_of, end_under, end_of, is_taken, final_utf8}
+use Rattle.nf_filter.proofs.Common.{◌≡◌, ℕ, ◌+◌, Bool, true, false, List, None, Ok, ap, ◌∙◌, encode_utf8_all, Properties, Form, normal_form, stream_safe, safe_form, IsSoundText, cut-some, sound-source, stream_safe-cut, stream_safe-in_format, Policy, Tally, len_under, text_under, whole_under, is_usable, bad_under, first_fault, fault_in, tally_of, end_under, end_of, is_taken, final_utf8}
 use Rattle.nf_filter.specs.Joined.{JoinsPieces}
 use Rattle.nf_filter.proofs.PolicyLemmas.{taken_whole, taken}
 use Rattle.nf_filter.proofs.AgainLemmas.{none_told, final-whole}

@@ -1,3 +1,4 @@
+pub mod Common
 pub mod WritesLemmas
 pub mod BlockLemmas
 pub mod CharsLemmas

@@ -1,28 +1,9 @@
 -- What a measurement decides, character by character.
-use Rattle.std.proofs.Common.{◌≡◌, ℕ, ◌+◌, Bool, true, false, not, ◌&&◌, ◌||◌, List, [], ◌∷◌, ◌++◌, length, Some, None, Ok, Err, refl, sym, ap, ◌∙◌, if◌then◌else◌, is_err, OnOk, Option, Result, option_map, encode_utf8_all, ◌<◌, subst, arith, append_assoc, IsUtf8, chars}
-use Rattle.std.specs.Result.{result_err}
-use Rattle.std.proofs.lemmas.Str.{encodes-chars}
-use Rattle.nf_forms.specs.Properties.{Properties}
-use Rattle.nf_forms.specs.StreamSafe.{joiner, is_too_long, stream_safe}
-use Rattle.nf_forms.specs.Sound.{is_sound}
-use Rattle.nf_forms.specs.Laws.Sound.{IsSoundText}
+use Rattle.nf_filter.proofs.Common.{◌≡◌, ℕ, ◌+◌, Bool, true, false, not, ◌&&◌, ◌||◌, List, [], ◌∷◌, ◌++◌, length, Some, None, Ok, Err, refl, sym, ap, ◌∙◌, if◌then◌else◌, is_err, OnOk, Option, Result, option_map, encode_utf8_all, subst, append_assoc, result_err, Properties, joiner, is_too_long, stream_safe, is_sound, IsSoundText, refusal, unsound_at, Fault, Row, Stop, Refused, as_is, is_usable, fault_in, utf8_place, stop_in, TakesText, HasMeasured, HasSeenFront, SeesText, unusable_stop, measure_decision, no_measure, is_usable-push, told}
 use Rattle.nf_row.specs.declared.unsound.Unsound.{Unsound}
 use Rattle.nf_safe.specs.declared.measurer.Measurer.{Measurer}
-use Rattle.nf_safe.specs.Measurer.{refusal, unsound_at}
-use Rattle.nf_filter.specs.declared.fault.Fault.{Fault}
-use Rattle.nf_filter.specs.declared.fault.Fault.TheVariants.{Row}
-use Rattle.nf_filter.specs.declared.taker.Stop.{Stop}
-use Rattle.nf_filter.specs.declared.taker.Stop.TheVariants.{Refused}
-use Rattle.nf_filter.specs.Policy.{as_is}
-use Rattle.nf_filter.specs.Settled.{is_usable}
-use Rattle.nf_filter.specs.Faults.{fault_in}
-use Rattle.nf_filter.specs.Counted.{utf8_place}
-use Rattle.nf_filter.specs.Taker.{stop_in, TakesText}
-use Rattle.nf_filter.specs.Measures.{HasMeasured, HasSeenFront, SeesText, unusable_stop, measure_decision, no_measure}
-use Rattle.nf_normalizer.specs.Laws.Settled.{is_usable-push}
 use Rattle.nf_filter.proofs.TextLemmas.{unusable_at-usable, unusable_at-stop}
 use Rattle.nf_filter.proofs.FilterLemmas.{stop_in-fault}
-use Rattle.nf_filter.specs.Taker.{told}
 use Rattle.nf_filter.proofs.TakingLemmas.{front-more}
 
 abbrev Seen : Type 0
@@ -79,14 +60,6 @@ module _ (p : Properties) where
   pub TakesText-seen : (measurer : Measurer) (base : ℕ) (x y : List ℕ) (r : Result (Unit {0}) Stop) → SeesText p measurer base (x ++ y) r → TakesText (HasMeasured p measurer base) (unusable_stop p base) x y r
   TakesText-seen measurer base x y (Ok u) sees = record { stop = sym (ap (option_map Refused) (unusable_at-usable p (utf8_place base) (x ++ y) (usable_is (x ++ y) sees.sound))); taken = sees }
   TakesText-seen measurer base x y (Err stop) sees = record { stop = sym sees; taken = tt }
-
--- a text that is not empty has a character
-pub some_chars : (bytes : List ℕ) → IsUtf8 bytes → 0 < length bytes → 0 < length (chars bytes)
-some_chars bytes utf8 some = of (chars bytes) (encodes-chars bytes utf8)
-  where
-    of : (cs : List ℕ) → encode_utf8_all cs ≡ bytes → 0 < length cs
-    of [] e = absurd (omega (arith, ap length e))
-    of (c ∷ cs) e = omega arith
 
 -- a front was measured, and then a front of what stands behind it
 pub seen_more : (p : Properties) (first second : Measurer) (base : ℕ) (x text behind rest : List ℕ) → HasSeenFront p first base x text behind

@@ -1,25 +1,7 @@
 -- A front of the bytes whose ill-formed parts are replaced, taken as one text where every character is sound: wherever its
 -- bytes stand, none is refused.
-use Rattle.std.proofs.Common.{◌≡◌, ℕ, ◌+◌, true, List, [], ◌++◌, length, drop, drop_at, encode_utf8_all, Ok, Err, Some, None, ⊎_elim, refl, sym, ap, ◌∙◌, subst, arith, append-nil, length-drop}
-use Rattle.nf_forms.specs.Properties.{Properties}
-use Rattle.nf_forms.specs.declared.form.Form.{Form}
+use Rattle.nf_filter.proofs.Common.{◌≡◌, ℕ, ◌+◌, true, List, [], ◌++◌, length, drop, drop_at, encode_utf8_all, Ok, Err, Some, None, ⊎_elim, refl, sym, ap, ◌∙◌, subst, arith, append-nil, length-drop, Properties, Form, ReplacesParts, text_of, DecoderStandsAfter, Fault, Write, Counted, Policy, Reading, Start, BlockState, Written, bad_byte, IsLeft, HasReadTo, ReadsTo, RefusesBytes, HasTaken, IsPlacedAt, TakesOn, settled_text, usable_utf8, allowed, text_under, is_usable, Standing, AreSound}
 use Rattle.nf_utf8.specs.Mending.{IsReplacedFront}
-use Rattle.nf_utf8.specs.Laws.{ReplacesParts}
-use Rattle.nf_utf8.specs.Reading.{text_of}
-use Rattle.nf_utf8.specs.Standing.{StandsAfter as DecoderStandsAfter}
-use Rattle.nf_filter.specs.declared.fault.Fault.{Fault}
-use Rattle.nf_filter.specs.declared.fault.Fault.TheVariants.{Write}
-use Rattle.nf_filter.specs.declared.counted.Counted.{Counted}
-use Rattle.nf_filter.specs.declared.policy.Policy.{Policy}
-use Rattle.nf_filter.specs.declared.reading.Reading.{Reading}
-use Rattle.nf_filter.specs.Block.{Start, BlockState, Written}
-use Rattle.nf_filter.specs.Faults.{bad_byte}
-use Rattle.nf_filter.specs.Feeding.{IsLeft, HasReadTo, ReadsTo, RefusesBytes}
-use Rattle.nf_filter.specs.Counted.{HasTaken, IsPlacedAt, TakesOn, settled_text, usable_utf8}
-use Rattle.nf_filter.specs.Policy.{allowed, text_under}
-use Rattle.nf_filter.specs.Settled.{is_usable}
-use Rattle.nf_filter.specs.Stepping.{Standing}
-use Rattle.nf_filter.specs.Laws.Soundness.{AreSound}
 use Rattle.nf_filter.proofs.BlockLemmas.{Written-at, Broken-at}
 use Rattle.nf_filter.proofs.FilterLemmas.{write_or_not}
 use Rattle.nf_filter.proofs.SoundnessLemmas.{usable_is}

@@ -1,13 +1,5 @@
 -- How far a text is assigned, piece by piece.
-use Rattle.std.proofs.Common.{◌≡◌, ℕ, ◌-◌, true, false, List, [], ◌++◌, length, take, drop, refl, sym, ap, subst, ◌∙◌, arith, length-append, append_assoc, append-nil, take-append-drop, take_at, take_while}
-use Rattle.std.specs.Prelude.{chars, encode_utf8, encode_utf8_all, IsUtf8}
-use Rattle.std.specs.List.{list_all}
-use Rattle.std.specs.Str.{IsCharBoundary}
-use Rattle.std.proofs.lemmas.Bool.{and_from}
-use Rattle.std.proofs.lemmas.List.Folds.{list_all-append}
-use Rattle.std.proofs.lemmas.Str.{chars-nil, chars-append, chars_past_char, IsUtf8-append, IsUtf8-take, IsCharBoundary-at_seam, encodes-chars}
-use Rattle.nf_forms.specs.Properties.{Properties}
-use Rattle.nf_filter.specs.Passed.{IsBehindAssigned}
+use Rattle.nf_filter.proofs.Common.{◌≡◌, ℕ, ◌-◌, true, false, List, [], ◌++◌, length, take, drop, refl, sym, ap, subst, ◌∙◌, arith, length-append, append_assoc, append-nil, take-append-drop, take_at, take_while, chars, encode_utf8, encode_utf8_all, IsUtf8, list_all, IsCharBoundary, and_from, list_all-append, chars-nil, chars-append, chars_past_char, IsUtf8-append, IsUtf8-take, IsCharBoundary-at_seam, encodes-chars, Properties, IsBehindAssigned}
 use Rattle.nf_filter.proofs.PolicyLemmas.{take_while-append, take_while-stop}
 use Rattle.nf_filter.proofs.TakingLemmas.{nothing-left, chars_of_one}
 

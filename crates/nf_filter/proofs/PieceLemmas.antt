@@ -1,16 +1,5 @@
 -- Bytes, part by part: what a front of them gives does not change what the rest gives.
-use Rattle.std.proofs.Common.{◌≡◌, ℕ, ◌+◌, ◌-◌, ◌≤◌, ◌==◌, Bool, true, false, List, [], ◌∷◌, ◌++◌, length, map, take, drop, refl, sym, ap, ◌∙◌, arith, append_assoc, append-nil, if◌then◌else◌, encode_utf8, encode_utf8_all}
-use Rattle.std.proofs.Math.Seq.{take-append-add}
-use Rattle.std.proofs.lemmas.List.{length-append, length-drop, length-map, map-append, take_at, drop-append-le}
-use Rattle.nf_utf8.specs.Text.{BeginsText}
-use Rattle.nf_utf8.specs.Ending.{Bad}
-use Rattle.nf_utf8.specs.Reading.{text_of, text_len, ending_of}
-use Rattle.nf_utf8.specs.Replaced.{Part, replacement, own_parts, part_end, behind_text, parts_within, parts_of, replaced, bytes_in, replaced_len, begun_at_end, replaced_whole}
-use Rattle.nf_utf8.specs.Laws.{ReplacesParts, SplitsBytes}
-use Rattle.nf_filter.specs.Faults.{answer_at_end, bad_under}
-use Rattle.nf_filter.specs.Feeding.{IsLeft}
-use Rattle.nf_filter.specs.Policy.{len_under, text_under, whole_under}
-use Rattle.nf_normalizer.specs.Laws.Settled.{Extends}
+use Rattle.nf_filter.proofs.Common.{◌≡◌, ℕ, ◌+◌, ◌-◌, ◌≤◌, ◌==◌, Bool, true, false, List, [], ◌∷◌, ◌++◌, length, map, take, drop, refl, sym, ap, ◌∙◌, arith, append_assoc, append-nil, if◌then◌else◌, encode_utf8, encode_utf8_all, take-append-add, length-append, length-drop, length-map, map-append, take_at, drop-append-le, BeginsText, Bad, text_of, text_len, ending_of, Part, replacement, own_parts, part_end, behind_text, parts_within, parts_of, replaced, bytes_in, replaced_len, begun_at_end, replaced_whole, ReplacesParts, SplitsBytes, answer_at_end, bad_under, IsLeft, len_under, text_under, whole_under, Extends}
 
 -- all of the bytes are left
 pub IsLeft-all : (r : Bool) (bytes : List ℕ) → IsLeft r bytes [] 0 bytes

@@ -1,21 +1,6 @@
 -- How far a text is taken under a policy.
-use Rattle.std.proofs.Common.{◌≡◌, ℕ, ◌==◌, ◌<◌, Bool, true, false, List, [], ◌∷◌, ◌++◌, length, Option, Some, None, ◌⊎◌, inl, inr, ⊎_elim, refl, sym, ap, ◌∙◌, subst, arith, append-nil, append_assoc, eq-eqb, ne_eqb, take_while, if◌then◌else◌, length-append, take, ◌&&◌}
-use Rattle.std.specs.List.{list_all, prefix_len}
-use Rattle.std.proofs.lemmas.Bool.{and_parts, cond-true, cond-false, eqb-true, eqb-false}
-use Rattle.nf_forms.specs.Properties.{Properties}
-use Rattle.nf_forms.specs.declared.form.Form.{Form}
-use Rattle.nf_filter.specs.declared.fault.Fault.{Fault}
-use Rattle.nf_filter.specs.declared.fault.Fault.TheVariants.{Row, Unassigned}
-use Rattle.nf_filter.specs.Faults.{first_fault}
-use Rattle.nf_filter.specs.Feeding.{taken_utf8}
-use Rattle.nf_filter.specs.Policy.{allowed}
-use Rattle.nf_filter.specs.Settled.{settled, is_usable, usable}
-use Rattle.nf_normalizer.specs.Laws.Settled.{Extends, Extends-none, Extends-encodes, settled-extends, is_usable-stays_out, usable-all, usable-grows, usable-stays}
+use Rattle.nf_filter.proofs.Common.{◌≡◌, ℕ, ◌==◌, ◌<◌, Bool, true, false, List, [], ◌∷◌, ◌++◌, length, Option, Some, None, ◌⊎◌, inl, inr, ⊎_elim, refl, sym, ap, ◌∙◌, subst, arith, append-nil, append_assoc, eq-eqb, ne_eqb, take_while, if◌then◌else◌, length-append, take, ◌&&◌, list_all, prefix_len, and_parts, cond-true, cond-false, eqb-true, eqb-false, Properties, Form, Fault, Row, Unassigned, first_fault, taken_utf8, allowed, settled, is_usable, usable, Extends, Extends-none, Extends-encodes, settled-extends, is_usable-stays_out, usable-all, usable-grows, usable-stays, is_taken, length-prefix_len, prefix_len-append, take-append-le, take_all, take-append-add}
 use Rattle.std.proofs.lemmas.List.Sums.{take_while-cons, prefix_len-le-length}
-use Rattle.nf_filter.specs.Finishes.{is_taken}
-use Rattle.std.proofs.lemmas.List.Folds.{length-prefix_len, prefix_len-append}
-use Rattle.std.proofs.lemmas.List.{take-append-le, take_all}
-use Rattle.std.proofs.Math.Seq.{take-append-add}
 
 module _ (test : ℕ → Bool) where
   pub take_while-append : (x y : List ℕ) → list_all test x ≡ true → take_while test (x ++ y) ≡ x ++ take_while test y

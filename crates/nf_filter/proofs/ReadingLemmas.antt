@@ -1,21 +1,6 @@
 -- A piece more.
-use Rattle.std.proofs.Common.{ap₂, ◌≡◌, ℕ, ◌+◌, ◌-◌, ◌≤◌, ◌==◌, List, [], ◌++◌, length, None, Ok, refl, sym, ap, ◌∙◌, arith, eq-eqb, subst, Option, Result, option_map, if◌then◌else◌, chars, take_all, length-drop, append_assoc}
-use Rattle.std.specs.Result.{result_map_both}
-use Rattle.std.proofs.lemmas.Str.{chars-nil, utf8_valid_len_le}
+use Rattle.nf_filter.proofs.Common.{ap₂, ◌≡◌, ℕ, ◌+◌, ◌-◌, ◌≤◌, ◌==◌, List, [], ◌++◌, length, None, Ok, refl, sym, ap, ◌∙◌, arith, eq-eqb, subst, Option, Result, option_map, if◌then◌else◌, chars, take_all, length-drop, append_assoc, result_map_both, chars-nil, utf8_valid_len_le, End, EndsWhole, EndsCut, EndsBad, first_bytes, EndsPiece, bytes_behind, Counts, Takes, first_text, Ending, Whole, Bad, Cut, text_len, text_of, rest_of, begun_len, ending_of, DecoderStandsAfter, Place, Fault, Reading, Stop, bad_byte, answer_at_end, Survey, TakesText, stop_or, stop_in, told, HasSurveyed}
 use Rattle.nf_utf8.specs.declared.decoder.Decoder.{Decoder}
-use Rattle.nf_utf8.specs.declared.chunk.End.{End}
-use Rattle.nf_utf8.specs.declared.chunk.End.TheVariants.{Whole as EndsWhole, Cut as EndsCut, Bad as EndsBad}
-use Rattle.nf_utf8.specs.Taking.{first_bytes, EndsPiece, bytes_behind, Counts, Takes, first_text}
-use Rattle.nf_utf8.specs.Ending.{Ending, Whole, Bad, Cut}
-use Rattle.nf_utf8.specs.Reading.{text_len, text_of, rest_of, begun_len, ending_of}
-use Rattle.nf_utf8.specs.Standing.{StandsAfter as DecoderStandsAfter}
-use Rattle.nf_safe.specs.declared.place.Place.{Place}
-use Rattle.nf_filter.specs.declared.fault.Fault.{Fault}
-use Rattle.nf_filter.specs.declared.reading.Reading.{Reading}
-use Rattle.nf_filter.specs.declared.taker.Stop.{Stop}
-use Rattle.nf_filter.specs.Faults.{bad_byte, answer_at_end}
-use Rattle.nf_filter.specs.Surveys.{Survey}
-use Rattle.nf_filter.specs.Taker.{TakesText, stop_or, stop_in, told, HasSurveyed}
 
 -- no bytes spell nothing
 pub text_of-none : text_of [] ≡ []
@@ -50,20 +35,17 @@ HasSurveyed-none {answer_of = answer_of} offset decoder taken unstopped decides 
 pub end_is : {T : Type 0} (base : ℕ) (value : T) (ending : Ending) (end : Result (Unit {0}) Fault) → end ≡ answer_at_end base (tt {0}) ending
     → result_map_both (λ _. value) (λ fault. fault) end ≡ answer_at_end base value ending
 end_is base value Whole end is = ap (result_map_both (λ _. value) (λ fault. fault)) is
-end_is base value (Bad at start) end is = ap (result_map_both (λ _. value) (λ fault. fault)) is
-end_is base value (Cut at start) end is = ap (result_map_both (λ _. value) (λ fault. fault)) is
+end_is base value _ end is = ap (result_map_both (λ _. value) (λ fault. fault)) is
 
 -- a piece without an ill-formed byte is taken whole
 module _ (bytes piece : List ℕ) where
   pub ends_well : (end : End) (base : ℕ) → ((at back : ℕ) → ¬ (end ≡ EndsBad at back)) → EndsPiece bytes piece end → bad_byte base (ending_of (bytes ++ piece)) ≡ None
-  ends_well EndsWhole base well ends = ap (bad_byte base) ends
-  ends_well EndsCut base well ends = ap (bad_byte base) ends
   ends_well (EndsBad at back) base well ends = absurd (well at back refl)
+  ends_well _ base well ends = ap (bad_byte base) ends
 
   pub all_behind : (end : End) → ((at back : ℕ) → ¬ (end ≡ EndsBad at back)) → bytes_behind bytes piece end ≡ bytes ++ piece
-  all_behind EndsWhole well = refl
-  all_behind EndsCut well = refl
   all_behind (EndsBad at back) well = absurd (well at back refl)
+  all_behind _ well = refl
 
 pub all_counted : (held piece : List ℕ) (first : Option ℕ) (text : List ℕ) (end : End) (left : List ℕ) → ((at back : ℕ) → ¬ (end ≡ EndsBad at back)) → Counts held piece first text end left
     → length (first_bytes first) + length text + length left ≡ length held + length piece

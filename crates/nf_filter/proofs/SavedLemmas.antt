@@ -1,62 +1,19 @@
 -- Each filter that is spent or stands after bytes has a state of which one can be made.
-use Rattle.std.proofs.Common.{◌≡◌, zero, suc, ℕ, ◌+◌, ◌-◌, ◌≤◌, ◌<◌, Bool, true, false, not, ◌&&◌, ◌==◌, eqb, ltb, inl, inr, List, [], ◌∷◌, ◌++◌, length, map, take, drop, encode_utf8, Option, Some, None, IfSome, if◌then◌else◌, refl, sym, ap, ◌∙◌, subst, arith, length-append, encode_utf8_all}
-use Rattle.std.proofs.lemmas.Bool.{and_parts, and_from, or_parts, eqb-true, eq-eqb, le-leb}
-use Rattle.std.proofs.lemmas.Bool.Decides.{nat_tests}
-use Rattle.std.proofs.lemmas.List.{length-map, nil_from_length}
-use Rattle.std.proofs.lemmas.Str.{length-le-encodes}
-use Rattle.std.proofs.Math.Seq.{take-length}
-use Rattle.std.specs.List.{list_all}
+use Rattle.nf_filter.proofs.Common.{◌≡◌, zero, suc, ℕ, ◌+◌, ◌≤◌, Bool, true, false, not, ◌&&◌, eqb, ltb, inl, inr, List, [], ◌∷◌, ◌++◌, length, map, take, drop, encode_utf8, Option, Some, None, IfSome, refl, sym, ap, ◌∙◌, subst, arith, length-append, encode_utf8_all, and_parts, and_from, or_parts, eqb-true, eq-eqb, le-leb, nat_tests, length-map, nil_from_length, length-le-encodes, take-length, list_all, is_some, Properties, is_starter, Form, Nfc, Nfd, Nfkd, row_of, decomposed, composes, is_sound, max_run, stream_safe, back-starter, IsSound, IsSound-from_test, Ending, Bad, ReplacesParts, text_of, ending_of, Part, own_parts, part_end, behind_text, parts_within, parts_of, replaced, replaced_len, bytes_in, State, Policy, is_spent, StandsAfter, len_under, text_under, saved_of, are_marks, IsCounted, CountsFit, IsPending, IsRestorable, is_usable}
 use Rattle.std.specs.Option.{option_to_list}
-use Rattle.std.specs.Prelude.{is_some}
-use Rattle.nf_forms.specs.Properties.{Properties, is_starter}
 use Rattle.nf_forms.specs.Runs.{has_starter, trail}
-use Rattle.nf_forms.specs.declared.form.Form.{Form}
-use Rattle.nf_forms.specs.declared.form.Form.TheVariants.{Nfc, Nfd, Nfkc, Nfkd}
-use Rattle.nf_forms.specs.Forms.{row_of, decomposed, composes}
 use Rattle.nf_forms.specs.Order.{by_class}
 use Rattle.nf_forms.specs.Ordering.{is_ordered}
-use Rattle.nf_forms.specs.Sound.{is_sound}
-use Rattle.nf_forms.specs.StreamSafe.{max_run, stream_safe}
 use Rattle.nf_forms.specs.Laws.Order.{order-marks, has_starter-by_class}
 use Rattle.nf_forms.specs.Laws.Ordering.{ordering}
 use Rattle.nf_forms.specs.Laws.Runs.{trail-marks}
-use Rattle.nf_forms.specs.Laws.Settling.{back-starter}
-use Rattle.nf_forms.specs.Laws.Sound.{IsSound, IsSound-from_test}
 use Rattle.nf_boundary.specs.Mark.{mark_of}
-use Rattle.nf_utf8.specs.Ending.{Ending, Whole, Bad, Cut}
-use Rattle.nf_utf8.specs.Laws.{ReplacesParts}
 use Rattle.nf_utf8.specs.Part.{IsPart}
-use Rattle.nf_utf8.specs.Reading.{text_len, begun_len, text_of, ending_of}
-use Rattle.nf_utf8.specs.Replaced.{Part, own_parts, part_end, behind_text, parts_within, parts_of, replaced, replaced_len, bytes_in}
 use Rattle.nf_pending.specs.StandsAfter.{StandsAfter as PendingStandsAfter}
 use Rattle.nf_pending.specs.Laws.Standing.{run_len-trail}
 use Rattle.nf_pending.proofs.Standing.{starter_held}
-use Rattle.nf_filter.specs.declared.filter.State.{State}
-use Rattle.nf_filter.specs.declared.policy.Policy.{Policy}
-use Rattle.nf_filter.specs.Filter.{is_spent, StandsAfter}
-use Rattle.nf_filter.specs.Policy.{len_under, text_under}
-use Rattle.nf_filter.specs.Saved.{saved_of, are_marks, IsCounted, CountsFit, IsPending, IsRestorable}
-use Rattle.nf_filter.specs.Settled.{is_usable}
+use Rattle.nf_utf8.proofs.ReplacedLemmas.{broken_end}
 use Rattle.nf_filter.proofs.StandingLemmas.{taken-text, taken-len}
-
-bad_order : (bytes : List ℕ) (at start : ℕ) → ending_of bytes ≡ Bad at start → start ≤ at
-unfolding ending_of
-bad_order bytes at start = next (text_len bytes == length bytes) (begun_len bytes == length bytes)
-  where
-    next : (b c : Bool) → (if b then Whole else (if c then Cut (begun_len bytes) (text_len bytes) else Bad (begun_len bytes) (text_len bytes))) ≡ Bad at start → start ≤ at
-    next true c e = cc
-    next false true e = cc
-    next false false e =
-        let first : begun_len bytes ≡ at = cc in
-        let second : text_len bytes ≡ start = cc in
-        omega arith
-
-part_some : (at start : ℕ) → start ≤ at → 0 < part_end at start - start
-part_some at start order = by (at == start) refl
-  where
-    by : (b : Bool) → (at == start) ≡ b → 0 < (if b then start + 1 else at) - start
-    by true e = omega arith
-    by false e = let differs : ¬ (at ≡ start) = grind (arith, nat_tests) in omega arith
 
 -- bytes give no more characters than they are
 module _ (laws : ReplacesParts) where
@@ -71,9 +28,8 @@ module _ (laws : ReplacesParts) where
     where
       next : (e : Ending) → ending_of bytes ≡ e → ((n : ℕ) → length (parts_within k (drop n bytes)) ≤ bytes_in (parts_within k (drop n bytes)))
           → length (behind_text e (λ n. parts_within k (drop n bytes))) ≤ bytes_in (behind_text e (λ n. parts_within k (drop n bytes)))
-      next Whole e more = omega arith
-      next (Cut at start) e more = omega arith
-      next (Bad at start) e more = omega (arith, part_some at start (bad_order bytes at start e), more (part_end at start))
+      next (Bad at start) e more = omega (arith, (broken_end bytes at start e).0, more (part_end at start))
+      next _ e more = omega arith
 
   chars_few : (replace : Bool) (bytes : List ℕ) → length (text_under replace bytes) ≤ len_under replace bytes (text_under replace bytes)
   unfolding replaced replaced_len parts_of
@@ -88,8 +44,7 @@ module _ (p : Properties) where
   row_some : (f : Form) (c : ℕ) → IsSound p c → 1 ≤ length (row_of f p c)
   row_some Nfc c sound = sound.canonical_some
   row_some Nfd c sound = sound.canonical_some
-  row_some Nfkc c sound = sound.compat_some
-  row_some Nfkd c sound = sound.compat_some
+  row_some _ c sound = sound.compat_some
 
   -- nor a decomposition less than the text
   rows_some : (f : Form) (x : List ℕ) → list_all (is_sound p) x ≡ true → length x ≤ length (decomposed f p x)
@@ -146,8 +101,7 @@ module _ (laws : ReplacesParts) {policy : Policy} {f : Form} {p : Properties} {s
   counted_by : (g : Form) → run ≤ state.counted.normalizer.counter → run ≡ trail p (decomposed g p (stream_safe p text)) → IsCounted g run state.counted.normalizer.counter
   counted_by Nfc few same = few
   counted_by Nfd few same = few
-  counted_by Nfkc few same = same ∙ sym stands.reading.taken.machine.count
-  counted_by Nfkd few same = same ∙ sym stands.reading.taken.machine.count
+  counted_by _ few same = same ∙ sym stands.reading.taken.machine.count
 
   new_text : text ≡ [] → (state.counted.normalizer.counter ≡ 0) × (state.counted.normalizer.pending.starter ≡ None)
   new_text e = (

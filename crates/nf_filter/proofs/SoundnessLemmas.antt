@@ -1,30 +1,5 @@
 -- Where each character is sound, none is refused, and where characters that are not assigned are taken, none for that.
-use Rattle.std.proofs.Common.{◌≡◌, ℕ, ◌+◌, Bool, true, false, ◌&&◌, List, [], ◌∷◌, ◌++◌, length, ◌==◌, Option, Some, None, Result, Err, refl, sym, ap, ◌∙◌, encode_utf8_all, option_map, if◌then◌else◌, subst}
-use Rattle.std.specs.Result.{result_err}
-use Rattle.std.specs.List.{list_all}
-use Rattle.nf_forms.specs.Properties.{Properties}
-use Rattle.nf_forms.specs.declared.form.Form.{Form}
-use Rattle.nf_forms.specs.StreamSafe.{stream_safe}
-use Rattle.nf_forms.specs.Sound.{is_sound}
-use Rattle.nf_utf8.specs.Ending.{Ending, Whole, Bad, Cut}
-use Rattle.nf_utf8.specs.Reading.{text_of, ending_of}
-use Rattle.nf_safe.specs.declared.place.Place.{Place}
-use Rattle.nf_safe.specs.Place.{place_from}
-use Rattle.nf_filter.specs.declared.fault.Fault.{Fault}
-use Rattle.nf_filter.specs.declared.fault.Fault.TheVariants.{BadByte, Cut as CutShort, Read, Row, TooLong, Unassigned, Write}
-use Rattle.nf_filter.specs.declared.policy.Policy.{Policy}
-use Rattle.nf_filter.specs.declared.tally.Tally.{Tally}
-use Rattle.nf_filter.specs.Devices.{SinkState, SourceState}
-use Rattle.nf_filter.specs.Settled.{is_usable, usable}
-use Rattle.nf_filter.specs.Faults.{answer_at_end, bad_byte, bad_under, first_fault, fault_in}
-use Rattle.nf_filter.specs.Finishes.{tally_of, answer_or, end_under, end_of, Finishes}
-use Rattle.nf_filter.specs.Policy.{as_is, allowed, len_under, text_under, whole_under}
-use Rattle.nf_filter.specs.Feeds.{Feeds}
-use Rattle.nf_filter.specs.Drives.{Drives}
-use Rattle.nf_filter.specs.Surveys.{Surveys}
-use Rattle.nf_filter.specs.Checks.{sound_front, check_fault, place_or_fault, check_decision}
-use Rattle.nf_filter.specs.Measures.{measure_decision}
-use Rattle.nf_filter.specs.Laws.Soundness.{AreSound}
+use Rattle.nf_filter.proofs.Common.{◌≡◌, ℕ, ◌+◌, Bool, true, false, ◌&&◌, List, [], ◌∷◌, ◌++◌, length, ◌==◌, Option, Some, None, Result, Err, refl, sym, ap, ◌∙◌, encode_utf8_all, option_map, if◌then◌else◌, subst, result_err, list_all, Properties, Form, stream_safe, is_sound, Ending, Bad, Cut, text_of, ending_of, Place, place_from, Fault, BadByte, CutShort, Read, Row, TooLong, Unassigned, Write, Policy, Tally, SinkState, SourceState, is_usable, usable, answer_at_end, bad_byte, bad_under, first_fault, fault_in, tally_of, answer_or, end_under, end_of, Finishes, as_is, allowed, len_under, text_under, whole_under, Feeds, Drives, Surveys, sound_front, check_fault, place_or_fault, check_decision, measure_decision, AreSound}
 use Rattle.nf_filter.specs.Kinds.{row, unassigned, IsAmong}
 
 -- neither the end nor a bad byte refuses a character
@@ -33,14 +8,12 @@ module _ (refusal : Fault) (is : IsAmong (row ∷ unassigned ∷ []) refusal) wh
   apart fault same = subst (IsAmong (row ∷ unassigned ∷ [])) (sym same) is
 
   pub not_at_end : {T : Type 0} (base : ℕ) (value : T) (e : Ending) → ¬ (answer_at_end base value e ≡ Err refusal)
-  not_at_end base value Whole e = cc
-  not_at_end base value (Bad at start) e = cc
   not_at_end base value (Cut at start) e = apart (CutShort (base + at) (base + start)) cc
+  not_at_end base value _ e = cc
 
   not_bad_byte : (base : ℕ) (e : Ending) → ¬ (bad_byte base e ≡ Some refusal)
-  not_bad_byte base Whole e = cc
   not_bad_byte base (Bad at start) e = apart (BadByte (base + at) (base + start)) cc
-  not_bad_byte base (Cut at start) e = cc
+  not_bad_byte base _ e = cc
 
   -- nor do bytes, where no text does
   module _ (p : Properties) (base : ℕ) (policy : Policy)

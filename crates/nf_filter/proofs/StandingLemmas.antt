@@ -1,24 +1,10 @@
 -- Where a filter stands that has taken nothing, and how many of the bytes that it has taken it holds.
-use Rattle.std.proofs.Common.{◌≡◌, ℕ, ◌+◌, Bool, true, false, List, [], ◌++◌, length, None, refl, sym, ap, ◌∙◌, subst, arith, append-nil, encode_utf8_all, length-append}
-use Rattle.nf_forms.specs.Properties.{Properties}
-use Rattle.nf_forms.specs.declared.form.Form.{Form}
-use Rattle.nf_utf8.specs.Laws.{ReplacesParts}
-use Rattle.nf_utf8.specs.Reading.{text_of}
-use Rattle.nf_utf8.specs.Standing.{StandsAfter as DecoderStandsAfter}
-use Rattle.nf_filter.specs.declared.filter.State.{State}
-use Rattle.nf_filter.specs.declared.policy.Policy.{Policy}
-use Rattle.nf_filter.specs.Faults.{bad_byte, bad_under, first_fault, fault_in}
-use Rattle.nf_filter.specs.Feeding.{HasReadTo}
-use Rattle.nf_filter.specs.Filter.{base_of, offset_of, is_spent, StandsAfter}
-use Rattle.nf_filter.specs.Laws.Settled.{text_under-none}
-use Rattle.nf_filter.specs.Counted.{HasTaken}
-use Rattle.nf_filter.specs.Policy.{len_under, text_under}
+use Rattle.nf_filter.proofs.Common.{◌≡◌, ℕ, ◌+◌, Bool, true, false, List, [], ◌++◌, length, None, refl, sym, ap, ◌∙◌, subst, arith, encode_utf8_all, length-append, Properties, Form, ReplacesParts, text_of, DecoderStandsAfter, State, Policy, bad_byte, bad_under, first_fault, fault_in, base_of, offset_of, is_spent, StandsAfter, text_under-none, HasTaken, len_under, text_under, nil_from_length, is_usable-none}
 use Rattle.nf_filter.proofs.FilterLemmas.{StandsAfter-offset}
-use Rattle.nf_filter.proofs.PieceLemmas.{IsLeft-all, left-text, left-place, len_under-first, text_under-begun}
+use Rattle.nf_filter.proofs.PieceLemmas.{IsLeft-all, left-text}
+use Rattle.nf_filter.proofs.FedLemmas.{read-text, read-place}
 use Rattle.nf_filter.proofs.ReadingLemmas.{text_of-none, ending_of-none}
-use Rattle.std.proofs.lemmas.List.{nil_from_length}
 use Rattle.nf_filter.proofs.PolicyLemmas.{first_fault-none, allowed-none}
-use Rattle.nf_normalizer.specs.Laws.Settled.{is_usable-none}
 
 bad_under-none : (replace : Bool) (base : ℕ) → bad_under replace base [] ≡ None
 bad_under-none false base = ap (bad_byte base) ending_of-none
@@ -79,17 +65,8 @@ module _ (p : Properties) where
 
 -- what was taken is the text of the bytes, and what the decoder holds gave nothing of it
 module _ (laws : ReplacesParts) {policy : Policy} {f : Form} {p : Properties} {state : State} {bytes : List ℕ} (stands : StandsAfter policy f p state bytes) where
-  abbrev read : HasReadTo policy f p state.counted (base_of state) state.reading bytes []
-  read = stands.reading
+  pub taken-text : text_under policy.replace bytes ≡ stands.reading.before ++ text_of stands.reading.tail
+  taken-text = read-text policy f p (base_of state) laws state.counted state.reading bytes stands.reading
 
-  own : text_under policy.replace (read.tail ++ []) ≡ text_of read.tail
-  own = ap (text_under policy.replace) (append-nil read.tail) ∙ text_under-begun laws read.tail read.decoder.begins policy.replace
-
-  pub taken-text : text_under policy.replace bytes ≡ read.before ++ text_of read.tail
-  taken-text = left-text policy.replace bytes read.before read.n (read.tail ++ []) read.left ∙ ap (λ l. read.before ++ l) own
-
-  pub taken-len : len_under policy.replace bytes (text_under policy.replace bytes) ≡ read.n + length (encode_utf8_all (text_of read.tail))
-  taken-len =
-      ap (len_under policy.replace bytes) taken-text ∙ left-place policy.replace bytes read.before read.n (read.tail ++ []) read.left (text_of read.tail)
-      ∙ ap (λ n. read.n + n) (ap (λ l. len_under policy.replace l (text_of read.tail)) (append-nil read.tail)
-      ∙ len_under-first laws policy.replace read.tail (text_of read.tail) [] (sym (append-nil (text_of read.tail))))
+  pub taken-len : len_under policy.replace bytes (text_under policy.replace bytes) ≡ stands.reading.n + length (encode_utf8_all (text_of stands.reading.tail))
+  taken-len = ap (len_under policy.replace bytes) taken-text ∙ omega (arith, read-place policy f p (base_of state) laws state.counted state.reading bytes stands.reading)

@@ -1,22 +1,9 @@
 -- A step of a normalizer, and what of it went to the sink.
-use Rattle.std.proofs.Common.{◌≡◌, ℕ, ◌+◌, ◌<◌, List, [], ◌∷◌, ◌++◌, length, Some, Ok, Err, inl, inr, refl, sym, ap, ◌∙◌, subst, arith, append-nil, append_assoc, encode_utf8_all, IsUtf8, chars, length-append}
-use Rattle.std.proofs.lemmas.Str.{encodes-chars}
-use Rattle.nf_forms.specs.Properties.{Properties}
-use Rattle.nf_forms.specs.declared.form.Form.{Form}
-use Rattle.nf_forms.specs.StreamSafe.{stream_safe}
-use Rattle.nf_forms.specs.SafeForm.{safe_form}
+use Rattle.nf_filter.proofs.Common.{◌≡◌, ℕ, ◌+◌, ◌<◌, List, [], ◌∷◌, ◌++◌, length, Some, Ok, Err, inl, inr, refl, sym, ap, ◌∙◌, subst, arith, append-nil, append_assoc, encode_utf8_all, IsUtf8, chars, length-append, encodes-chars, Properties, Form, stream_safe, safe_form, Given, Extends, Extends-join, Counted, Row, WriteFault, Puts, BreaksOff, Start, BlockState, Written, Broken, HasTaken, TakesOn, settled_text, usable_utf8, Standing, StandsInFront}
 use Rattle.nf_normalizer.specs.declared.normalizer.Normalizer.{Normalizer}
-use Rattle.nf_normalizer.specs.Room.{Start as Given}
 use Rattle.nf_normalizer.specs.Front.{Between, Stands, StepsTo}
 use Rattle.nf_normalizer.specs.Step.{RefusesRest}
-use Rattle.nf_normalizer.specs.Laws.Settled.{Extends, Extends-join}
 use Rattle.nf_normalizer.specs.Laws.Boundary.{usable-alone, usable_both, settled_text-behind}
-use Rattle.nf_filter.specs.declared.counted.Counted.{Counted}
-use Rattle.nf_filter.specs.declared.fault.Fault.TheVariants.{Row, Write as WriteFault}
-use Rattle.nf_filter.specs.Writes.{Puts, BreaksOff}
-use Rattle.nf_filter.specs.Block.{Start, BlockState, Written, Broken}
-use Rattle.nf_filter.specs.Counted.{HasTaken, TakesOn, settled_text, usable_utf8}
-use Rattle.nf_filter.specs.Stepping.{Standing, StandsInFront}
 use Rattle.nf_filter.proofs.BlockLemmas.{Written-at, Broken-extends}
 use Rattle.nf_filter.proofs.TextLemmas.{TakesOn-all, usable_utf8-extends, usable_utf8-stop, unusable_at-stop}
 use Rattle.nf_filter.proofs.TakingLemmas.{front-behind, front-more, front-whole, nothing-left}

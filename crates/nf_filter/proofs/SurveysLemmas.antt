@@ -1,11 +1,5 @@
 -- What reading a source answers at its end.
-use Rattle.std.proofs.Common.{◌≡◌, ℕ, List, Some, None, Ok, Err, refl, Option, Result, OnOk, IsTrue}
-use Rattle.std.proofs.lemmas.Bool.{true_from_ne_false}
-use Rattle.nf_safe.specs.declared.place.Place.{Place}
-use Rattle.nf_filter.specs.declared.fault.Fault.{Fault}
-use Rattle.nf_filter.specs.Devices.{SourceState}
-use Rattle.nf_filter.specs.Checks.{place_or_fault}
-use Rattle.nf_filter.specs.Surveys.{Surveys}
+use Rattle.nf_filter.proofs.Common.{◌≡◌, ℕ, List, Some, None, Ok, Err, refl, Option, Result, OnOk, IsTrue, true_from_ne_false, Place, Fault, SourceState, place_or_fault, Surveys}
 
 -- what no bytes decide is answered at the end alone
 pub all_read : {T : Type 0} {most base : ℕ} {decision : List ℕ → Option (Result T Fault)} {value : List ℕ → T} {source left : SourceState} (result : Result T Fault)

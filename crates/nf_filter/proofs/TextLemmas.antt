@@ -1,17 +1,7 @@
 -- A text more.
-use Rattle.std.proofs.Common.{◌≡◌, ℕ, true, false, List, [], ◌∷◌, ◌++◌, Some, None, Ok, refl, sym, ap, ◌∙◌, subst, append-nil, if◌then◌else◌}
-use Rattle.nf_forms.specs.Properties.{Properties}
-use Rattle.nf_forms.specs.declared.form.Form.{Form}
-use Rattle.nf_filter.specs.declared.fault.Fault.TheVariants.{Row}
-use Rattle.nf_filter.specs.declared.counted.Counted.{Counted}
-use Rattle.nf_filter.specs.Settled.{settled, is_usable, usable}
-use Rattle.nf_filter.specs.Devices.{SinkState}
-use Rattle.nf_filter.specs.Writes.{Puts}
-use Rattle.nf_filter.specs.Block.{Start, BlockState, Written}
-use Rattle.nf_filter.specs.Counted.{HasTaken, settled_text, usable_utf8, unusable_at, TakesOn}
+use Rattle.nf_filter.proofs.Common.{◌≡◌, ℕ, true, false, List, [], ◌∷◌, ◌++◌, Some, None, Ok, refl, sym, ap, ◌∙◌, subst, append-nil, if◌then◌else◌, Properties, Form, Row, Counted, settled, is_usable, usable, SinkState, Puts, Start, BlockState, Written, HasTaken, settled_text, usable_utf8, unusable_at, TakesOn, Extends, Extends-encodes, settled-extends, is_usable-stays_out, usable-all, usable-stop, usable-extends}
 use Rattle.nf_filter.proofs.WritesLemmas.{Puts-at}
 use Rattle.nf_filter.proofs.BlockLemmas.{Written-at}
-use Rattle.nf_normalizer.specs.Laws.Settled.{Extends, Extends-encodes, settled-extends, is_usable-stays_out, usable-all, usable-stop, usable-extends}
 
 module _ (p : Properties) where
   pub unusable_at-usable : (place : List ℕ → ℕ) (x : List ℕ) → is_usable p x ≡ true → unusable_at p place x ≡ None

@@ -1,41 +1,17 @@
 -- What feeding all bytes at once, and finishing, come to.
-use Rattle.std.proofs.Common.{◌≡◌, ℕ, ◌+◌, Bool, true, false, List, [], length, Option, Some, None, Result, Ok, Err, refl, sym, ap, ◌∙◌, subst, ⊎_elim, IfErr, if◌then◌else◌, encode_utf8_all}
-use Rattle.std.specs.Io.KnownBytes.{Appends}
-use Rattle.nf_forms.specs.Properties.{Properties}
-use Rattle.nf_forms.specs.declared.form.Form.{Form}
-use Rattle.nf_forms.specs.Front.{back}
-use Rattle.nf_forms.specs.SafeForm.{safe_form}
-use Rattle.nf_forms.specs.Laws.Front.{front-append-back}
-use Rattle.nf_utf8.specs.Ending.{Ending, Whole, Bad, Cut as CutEnd}
-use Rattle.nf_utf8.specs.Reading.{text_of, ending_of}
+use Rattle.nf_filter.proofs.Common.{◌≡◌, ℕ, ◌+◌, Bool, true, false, List, [], length, Option, Some, None, Result, Ok, Err, refl, sym, ap, ◌∙◌, subst, ⊎_elim, IfErr, if◌then◌else◌, encode_utf8_all, Appends, Properties, Form, back, safe_form, front-append-back, Ending, Whole, Bad, CutEnd, text_of, ending_of, Fault, Write, Row, Tally, SinkState, Puts, BreaksOff, as_is, len_under, settled, is_usable, usable, settled_utf8, answer_at_end, bad_byte, fault_in, tally_of, end_of, whole_or, final_utf8, Finishes, Feeds, IsFormOf, IsOfWhole, fault_or, whole_answer, whole_utf8, Converts, settled_utf8-none, AreSound, RefusesNone, Extends, Extends-none, Extends-encodes, usable-all, and_parts}
 use Rattle.nf_utf8.specs.Reads.{Reads, EndsAs}
-use Rattle.nf_filter.specs.declared.fault.Fault.{Fault}
-use Rattle.nf_filter.specs.declared.fault.Fault.TheVariants.{Write, Row}
-use Rattle.nf_filter.specs.declared.tally.Tally.{Tally}
-use Rattle.nf_filter.specs.Devices.{SinkState}
-use Rattle.nf_filter.specs.Writes.{Puts, BreaksOff}
-use Rattle.nf_filter.specs.Policy.{as_is, len_under}
-use Rattle.nf_filter.specs.Settled.{settled, is_usable, usable, settled_utf8}
-use Rattle.nf_filter.specs.Faults.{answer_at_end, bad_byte, fault_in}
-use Rattle.nf_filter.specs.Finishes.{tally_of, end_of, whole_or, final_utf8, Finishes}
-use Rattle.nf_filter.specs.Feeds.{Feeds}
-use Rattle.nf_filter.specs.Whole.{IsFormOf, IsOfWhole, fault_or, whole_answer, whole_utf8, Converts}
-use Rattle.nf_filter.specs.Laws.Settled.{settled_utf8-none}
-use Rattle.nf_filter.specs.Laws.Soundness.{AreSound, RefusesNone}
 use Rattle.nf_filter.proofs.WritesLemmas.{Puts-join, Puts-at, BreaksOff-join, BreaksOff-at}
-use Rattle.nf_normalizer.specs.Laws.Settled.{Extends, Extends-none, Extends-encodes, usable-all}
 use Rattle.nf_filter.proofs.FilterLemmas.{failed_if, write_or_not}
 use Rattle.nf_filter.proofs.SoundnessLemmas.{not_at_end, not_a_fault}
 use Rattle.nf_filter.proofs.BlockLemmas.{BreaksOff-extends}
 use Rattle.nf_filter.proofs.PolicyLemmas.{taken}
-use Rattle.std.proofs.lemmas.Bool.{and_parts}
 
 -- what ends with no fault, and has none before, is whole
 is_whole : {A B : Type 0} (value : A) (b : B) (e : Ending) (usable : Bool) (at : ℕ) (told : A) → answer_at_end 0 value e ≡ Ok told → (if usable then bad_byte 0 e else Some (Row at)) ≡ None → e ≡ Whole
 is_whole value b Whole usable at told answer none = refl
 is_whole value b (Bad at start) true other told answer none = cc
-is_whole value b (Bad at start) false other told answer none = cc
-is_whole value b (CutEnd at start) usable other told answer none = cc
+is_whole value b _ usable other told answer none = cc
 
 module _ (p : Properties) where
   pub ending_whole : (bytes : List ℕ) (tally : Tally) → Ok tally ≡ end_of as_is p 0 bytes → fault_in as_is p 0 bytes ≡ None → ending_of bytes ≡ Whole
@@ -53,9 +29,7 @@ module _ (p : Properties) where
     where
       next : (b : Bool) (e : Ending) (at : ℕ) (tally : Tally) → IfErr (fault_or (if b then bad_byte 0 e else Some (Row at)) (answer_at_end 0 tally e)) IsOfWhole
       next true Whole at tally = tt
-      next true (Bad a start) at tally = tt
-      next true (CutEnd a start) at tally = tt
-      next false e at tally = tt
+      next _ e at tally = tt
 
   whole_answer-sound : AreSound p → (bytes : List ℕ) → RefusesNone (whole_answer p bytes)
   unfolding whole_answer end_of
@@ -83,9 +57,8 @@ module _ (f : Form) (p : Properties) where
 
       next : (e : Ending) → Extends (encode_utf8_all (settled f p (usable p (text_of bytes))))
           (whole_or e (encode_utf8_all (settled f p (usable p (text_of bytes)))) (encode_utf8_all (safe_form f p (text_of bytes))))
-      next Whole = whole
-      next (Bad at start) = whole
       next (CutEnd at start) = Extends-none _
+      next _ = whole
 
   module _ (bytes : List ℕ) where
     at_fault : (fault : Fault) → Some fault ≡ fault_in as_is p 0 bytes → settled_utf8 as_is f p bytes ≡ whole_utf8 f p bytes

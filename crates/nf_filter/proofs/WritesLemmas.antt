@@ -1,9 +1,5 @@
 -- Calls that give to a sink in turn.
-use Rattle.std.proofs.Common.{◌≡◌, ℕ, ◌<◌, true, List, [], ◌++◌, length, refl, sym, ap, ◌∙◌, subst, arith, append_assoc, append-nil, length-append, subst₂}
-use Rattle.std.specs.Io.KnownBytes.{Appends}
-use Rattle.std.proofs.KnownBytes.{Appends-nil, Appends-trans}
-use Rattle.nf_filter.specs.Devices.{SinkState}
-use Rattle.nf_filter.specs.Writes.{Puts, BreaksOff}
+use Rattle.nf_filter.proofs.Common.{◌≡◌, ℕ, ◌<◌, true, List, [], ◌++◌, length, refl, sym, ap, ◌∙◌, subst, arith, append_assoc, append-nil, length-append, subst₂, Appends, Appends-nil, Appends-trans, SinkState, Puts, BreaksOff}
 
 pub Puts-none : (state : SinkState) (before : List ℕ) → Puts state state before before
 Puts-none state before = record { out = []; behind = sym (append-nil before); given = Appends-nil state.taken; stands = refl; idle = λ _. refl }

@@ -1,3 +1,4 @@
+pub mod Common
 pub mod Kinds
 pub mod Devices
 pub mod Writes

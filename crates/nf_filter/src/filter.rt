@@ -39,19 +39,11 @@ pub struct State {
 }
 
 impl<'r, R: Rows> Filter<'r, R> {
-    ghost use Rattle.std.specs.Prelude.{◌≡◌, ◌+◌, ◌<◌, ◌≤◌, ◌↔◌, ◌⊎◌, false, ℕ, List, [], ◌++◌, length, if◌then◌else◌, IsTrue, IsFalse, IsErr, OnOk, IfErr, is_ok};
-    ghost use Rattle.nf_forms.specs.declared.form.Form.{Form};
-    ghost use Rattle.nf_forms.specs.Runs.{has_starter, trail};
-    ghost use Rattle.nf_row.specs.Plain.{rows_of as plain_rows};
-    ghost use Rattle.nf_forms.specs.Forms.{decomposed};
-    ghost use Rattle.nf_forms.specs.StreamSafe.{stream_safe};
-    ghost use Rattle.nf_filter.specs.declared.policy.Policy.{Policy};
-    ghost use Rattle.nf_filter.specs.Policy.{as_is, len_under, text_under};
+    ghost use Rattle.nf_filter.specs.Common.{◌≡◌, ◌+◌, ◌<◌, ◌≤◌, ◌↔◌, ◌⊎◌, false, ℕ, List, [], ◌++◌, length, if◌then◌else◌, IsTrue, IsFalse, IsErr, OnOk, IfErr, is_ok, Form, has_starter, trail, plain_rows, decomposed, stream_safe, Policy, as_is, len_under, text_under, ChangesOnce};
     ghost use Rattle.nf_filter.specs.Faults.{IsOfFeeding, IsOfFinishing};
     ghost use Rattle.nf_filter.specs.Filter.{rows_of, state_of, base_of, offset_of, is_spent, StandsAfter};
     ghost use Rattle.nf_filter.specs.Feeds.{Feeds};
     ghost use Rattle.nf_filter.specs.Finishes.{Finishes, final_utf8};
-    ghost use Rattle.nf_forms.specs.Twice.{ChangesOnce};
     ghost use Rattle.nf_filter.specs.Again.{StaysAsItIs};
     ghost use Rattle.nf_filter.specs.Joined.{JoinsPieces};
 
@@ -123,24 +115,9 @@ impl<'r, R: Rows> Filter<'r, R> {
             (before : Policy) (f : Form) (bytes : List ℕ) → StandsAfter before f p (state_of self.entry) bytes
             → StandsAfter policy f p (state_of result) [] }
     {
-        let Filter { rows, state } = self;
-        let State {
-            base,
-            spent,
-            policy: _,
-            reading,
-            counted,
-        } = state;
-        Filter {
-            rows,
-            state: State {
-                base,
-                spent,
-                policy,
-                reading,
-                counted,
-            },
-        }
+        let Filter { rows, mut state } = self;
+        state.policy = policy;
+        Filter { rows, state }
     }
 
     /// Takes the next bytes, and gives the sink what they settle. `TooLong` leaves the filter as it was; after any other

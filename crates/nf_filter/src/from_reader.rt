@@ -1,5 +1,4 @@
-ghost use Rattle.std.specs.Prelude.{◌≡◌, ◌==◌, ◌<◌, ◌≤◌, [], false, true, length, take, IfOk, OnOk, OnErr};
-ghost use Rattle.std.specs.Io.KnownBytes.{Consumes, IsAtEnd, Keeps};
+ghost use Rattle.nf_filter.specs.Common.{◌≡◌, ◌==◌, ◌<◌, ◌≤◌, [], false, true, length, take, IfOk, OnOk, OnErr, Consumes, IsAtEnd, Keeps};
 
 use crate::devices::{Failed, Source};
 use std::io::Read;

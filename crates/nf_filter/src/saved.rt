@@ -35,10 +35,7 @@ pub struct Saved {
 }
 
 impl<'r, R: Rows> Filter<'r, R> {
-    ghost use Rattle.std.specs.Prelude.{◌≡◌, ◌↔◌, ℕ, List, IsSome, IfSome, IsTrue};
-    ghost use Rattle.nf_forms.specs.declared.form.Form.{Form};
-    ghost use Rattle.nf_row.specs.Plain.{rows_of as plain_rows};
-    ghost use Rattle.nf_filter.specs.declared.policy.Policy.{Policy};
+    ghost use Rattle.nf_filter.specs.Common.{◌≡◌, ◌↔◌, ℕ, List, IsSome, IfSome, IsTrue, Form, plain_rows, Policy};
     ghost use Rattle.nf_filter.specs.declared.filter.State.{State};
     ghost use Rattle.nf_filter.specs.Filter.{rows_of, state_of, is_spent, StandsAfter};
     ghost use Rattle.nf_filter.specs.Saved.{saved_of, IsRestorable};
@@ -52,31 +49,26 @@ impl<'r, R: Rows> Filter<'r, R> {
     {
         laws::split();
         laws::replacing();
-        let State {
-            base,
-            spent,
-            policy,
-            ref reading,
-            ref counted,
-        } = self.state;
-        let (bytes, len) = reading.decoder.held();
+        let state = &self.state;
+        let normalizer = &state.counted.normalizer;
+        let (bytes, len) = state.reading.decoder.held();
         let mut held = ArrayVec::new();
         held.try_extend_from_slice(&bytes[..len]).unwrap();
         let mut marks = Run::new();
         marks
-            .try_extend_from_slice(counted.normalizer.pending.marks())
+            .try_extend_from_slice(normalizer.pending.marks())
             .unwrap();
         Saved {
-            form: counted.normalizer.form,
-            policy,
-            spent,
-            base,
-            offset: reading.offset,
-            chars: counted.chars,
-            put: counted.put,
-            count: counted.normalizer.counter.count(),
+            form: normalizer.form,
+            policy: state.policy,
+            spent: state.spent,
+            base: state.base,
+            offset: state.reading.offset,
+            chars: state.counted.chars,
+            put: state.counted.put,
+            count: normalizer.counter.count(),
             held,
-            starter: counted.normalizer.pending.starter(),
+            starter: normalizer.pending.starter(),
             marks,
         }
     }

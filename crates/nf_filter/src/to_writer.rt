@@ -1,5 +1,4 @@
-ghost use Rattle.std.specs.Prelude.{◌≡◌, ◌<◌, ◌≤◌, [], false, true, length, take, IfOk, OnOk, OnErr, IsErr};
-ghost use Rattle.std.specs.Io.KnownBytes.{Appends, Keeps};
+ghost use Rattle.nf_filter.specs.Common.{◌≡◌, ◌<◌, ◌≤◌, [], false, true, length, take, IfOk, OnOk, OnErr, IsErr, Appends, Keeps};
 
 use crate::devices::{Failed, Sink};
 use std::io::Write;

@@ -27,8 +27,7 @@ use Rattle.nf_lines.proofs.WholeLines.{ReadsLines, strict_lines, replaced_lines}
 -- the fault at the end, where a character that it cuts is one
 strict_end : (base : ℕ) (tally : Tally) (e : Ending) → result_err (answer_at_end base tally e) ≡ result_err (answer_at_end base (tt {0}) e)
 strict_end base tally Whole = refl
-strict_end base tally (Bad at start) = refl
-strict_end base tally (Cut at start) = refl
+strict_end base tally _ = refl
 
 -- what is told where there is no fault
 told : (r : Result Tally Fault) → result_err r ≡ None → (tally : Tally) × (r ≡ Ok tally)
@@ -49,9 +48,7 @@ whole_under-none true = refl
 safe_form-none : (p : Properties) (f : Form) → safe_form f p [] ≡ []
 unfolding safe_form by_class
 safe_form-none p Nfc = refl
-safe_form-none p Nfd = refl
-safe_form-none p Nfkc = refl
-safe_form-none p Nfkd = refl
+safe_form-none p _ = refl
 
 -- where the end is no fault the whole form is written
 final_whole : (f : Form) (p : Properties) (policy : Policy) (base : ℕ) (bytes : List ℕ) → end_fault policy p base bytes ≡ None

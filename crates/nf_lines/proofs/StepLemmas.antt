@@ -21,14 +21,8 @@ BreaksOff-past {a = a} c breaks = record {
 }
 
 pub too_long_or_not : (fault : Fault) → (fault ≡ TooLong) ⊎ (¬ (fault ≡ TooLong))
-too_long_or_not Spent = inr (λ e. cc)
 too_long_or_not TooLong = inl refl
-too_long_or_not Read = inr (λ e. cc)
-too_long_or_not Write = inr (λ e. cc)
-too_long_or_not (Row at) = inr (λ e. cc)
-too_long_or_not (BadByte at start) = inr (λ e. cc)
-too_long_or_not (Cut at start) = inr (λ e. cc)
-too_long_or_not (Unassigned at) = inr (λ e. cc)
+too_long_or_not _ = inr (λ e. cc)
 
 not_read : (fault : Fault) → IsOfFeeding fault → ¬ (fault ≡ Read)
 not_read fault may e = rw e at may

@@ -1,6 +1,8 @@
 -- Of whole lines nothing is left to be read.
 use Rattle.nf_lines.proofs.Common.{◌≡◌, ℕ, zero, suc, ◌+◌, ◌<◌, ◌≤◌, ◌==◌, Bool, true, false, List, [], ◌∷◌, ◌++◌, length, take, drop, encode_utf8_all, refl, sym, ap, subst, ◌∙◌, arith, append_assoc, length-append, length-drop, take_at, take_all, if◌then◌else◌, drop-append-le, encodes-append, scalars-append, IsText, BeginsText, Ending, Whole, Bad, Cut, text_of, ending_of, replacement, part_end, line_feed, IsLeft, IsLeft-all, IsLeft-behind, IsLeft-join, EndsInLineFeed}
-use Rattle.nf_lines.proofs.WholeParts.{Reading, front_utf8, line_utf8, line_encodes, text_left, begins_whole, begins_cut, end_is, is_broken, IsBroken, broken_end, text_begins}
+use Rattle.nf_lines.proofs.WholeParts.{Reading, front_utf8, line_utf8, line_encodes, text_left, end_is, is_broken, IsBroken, text_begins}
+use Rattle.nf_utf8.proofs.PushesLemmas.{begins_whole, begins_cut}
+use Rattle.nf_utf8.proofs.ReplacedLemmas.{broken_end}
 
 -- they give a text that ends in a line feed, and the rest is read as if it stood alone
 pub record ReadsLines (r : Bool) (lines : List ℕ) : Type 0 where
@@ -19,8 +21,8 @@ module _ (laws : Reading) where
   strict_lines lines is good = by (ending_of lines) refl
     where
       by : (e : Ending) → ending_of lines ≡ e → ReadsLines false lines
-      by Whole e = lines_begun false lines is (begins_whole laws lines e)
-      by (Cut at start) e = lines_begun false lines is (begins_cut laws lines at start e)
+      by Whole e = lines_begun false lines is (begins_whole lines e)
+      by (Cut at start) e = lines_begun false lines is (begins_cut lines at start e)
       by (Bad at start) e = absurd (good at start e)
 
   -- a line feed behind a text is no bad byte
@@ -59,11 +61,11 @@ module _ (laws : Reading) where
   by_length (suc k) lines short is = by (ending_of lines) refl (λ left less. by_length k left (omega (arith, less, short)))
     where
       by : (e : Ending) → ending_of lines ≡ e → ((left : List ℕ) → length left < length lines → EndsInLineFeed left → ReadsLines true left) → ReadsLines true lines
-      by Whole e on = lines_begun true lines is (begins_whole laws lines e)
-      by (Cut at start) e on = lines_begun true lines is (begins_cut laws lines at start e)
+      by Whole e on = lines_begun true lines is (begins_whole lines e)
+      by (Cut at start) e on = lines_begun true lines is (begins_cut lines at start e)
       by (Bad at start) e on =
           let broken = is_broken laws lines at start e in
-          let end = broken_end laws lines at start broken in
+          let end = broken_end lines at start e in
           let left : List ℕ = drop (part_end at start) lines in
           let rest = on left (omega (arith, length-drop (part_end at start) lines, end.0, end.1)) (lines_after lines at start is e) in
           let one = IsLeft-behind laws.replacing laws.split lines at start e (broken.text ∙ laws.split.len lines) end.1 (omega (arith, end.0)) lines [] 0 (IsLeft-all true lines) in

@@ -1,9 +1,12 @@
 -- A line feed ends every character that was begun: of bytes that end in one nothing is left to be read.
-use Rattle.nf_lines.proofs.Common.{◌≡◌, ℕ, ◌+◌, ◌-◌, ◌<◌, ◌≤◌, ◌==◌, ◌⊎◌, Bool, true, false, List, [], ◌∷◌, ◌++◌, length, take, drop, get_or, encode_utf8_all, inl, inr, refl, sym, ap, subst, ◌∙◌, arith, append_assoc, append-nil, length-append, take_at, take-append-drop, IsUtf8, if◌then◌else◌, get_or-append_seam, drop-append-add, cases_lt, take-append-le, IsUtf8-take, IsCharBoundary-after_ascii, IsCharBoundary-from_drop, encodes-append, IsText, BeginsText, Ending, Whole, Bad, Cut, moved, text_of, ending_of, Part, replacement, own_parts, part_end, parts_of, line_feed, answer_at_end, bad_byte, IsLeft, IsLeft-parts, own_parts-append}
+use Rattle.nf_lines.proofs.Common.{◌≡◌, ℕ, ◌+◌, ◌-◌, ◌<◌, ◌≤◌, ◌==◌, Bool, true, false, List, [], ◌∷◌, ◌++◌, length, drop, get_or, encode_utf8_all, refl, sym, ap, subst, ◌∙◌, arith, append_assoc, append-nil, length-append, take_at, IsUtf8, get_or-append_seam, drop-append-add, IsUtf8-take, IsCharBoundary-after_ascii, IsCharBoundary-from_drop, encodes-append, IsText, BeginsText, Ending, Whole, Bad, Cut, moved, text_of, ending_of, replacement, own_parts, part_end, parts_of, line_feed, answer_at_end, bad_byte, IsLeft, IsLeft-parts, own_parts-append}
 use Rattle.std.proofs.Math.Seq.{drop-append_seam}
 use Rattle.std.proofs.Math.Utf8.{encode}
 use Rattle.std.proofs.lemmas.Bool.Decides.{nat_tests}
 use Rattle.nf_utf8.specs.Reads.{EndsAs}
+use Rattle.nf_utf8.proofs.PushesLemmas.{begins_whole, begins_cut}
+use Rattle.nf_utf8.proofs.ReadingLemmas.{broken}
+use Rattle.nf_utf8.proofs.ReplacedLemmas.{broken_part, parts_of-broken}
 use Rattle.nf_utf8.specs.Laws.{ReadsBack, ReplacesParts, SplitsBytes, ReadsLongestText}
 
 -- what is known of reading UTF-8
@@ -42,14 +45,12 @@ front_utf8 front u =
 -- ---- behind a text
 
 bad_moved : (base n : ℕ) (e : Ending) → bad_byte base (moved n e) ≡ bad_byte (base + n) e
-bad_moved base n Whole = refl
 bad_moved base n (Bad at start) = (let a : base + (n + at) ≡ base + n + at = omega arith in let s : base + (n + start) ≡ base + n + start = omega arith in cc)
-bad_moved base n (Cut at start) = refl
+bad_moved base n _ = refl
 
 end_moved : (base n : ℕ) (e : Ending) → answer_at_end base (tt {0}) (moved n e) ≡ answer_at_end (base + n) (tt {0}) e
-end_moved base n Whole = refl
-end_moved base n (Bad at start) = refl
 end_moved base n (Cut at start) = (let a : base + (n + at) ≡ base + n + at = omega arith in let s : base + (n + start) ≡ base + n + start = omega arith in cc)
+end_moved base n _ = refl
 
 -- ---- of lists and parts alone
 
@@ -67,12 +68,6 @@ module _ (laws : Reading) where
   pub text_begins : (t : List ℕ) → IsText t → BeginsText (encode_utf8_all t)
   text_begins t s = ([], (t, (s, sym (append-nil (encode_utf8_all t)))))
 
-  pub begins_whole : (bytes : List ℕ) → ending_of bytes ≡ Whole → BeginsText bytes
-  begins_whole bytes e = subst BeginsText (sym (end_is bytes Whole e)) (text_begins (text_of bytes) (laws.longest.reads bytes).front.scalars)
-
-  pub begins_cut : (bytes : List ℕ) (at start : ℕ) → ending_of bytes ≡ Cut at start → BeginsText bytes
-  begins_cut bytes at start e = (end_is bytes (Cut at start) e).0.begins
-
   -- where a bad byte stands
   pub record IsBroken (bytes : List ℕ) (at start : ℕ) : Type 0 where
     pub text : start ≡ length (encode_utf8_all (text_of bytes))
@@ -80,31 +75,7 @@ module _ (laws : Reading) where
     pub within : at < length bytes
 
   pub is_broken : (bytes : List ℕ) (at start : ℕ) → ending_of bytes ≡ Bad at start → IsBroken bytes at start
-  is_broken bytes at start e =
-      let is = end_is bytes (Bad at start) e in
-      record { text = is.1; order = by (cases_lt at start) is.1 is.0.here; within = is.0.inside }
-    where
-      by : (at < start) ⊎ (start ≤ at) → start ≡ length (encode_utf8_all (text_of bytes)) → ¬ BeginsText (take (at + 1) bytes) → start ≤ at
-      by (inr le) same none = le
-      by (inl less) same none =
-          let t : List ℕ = encode_utf8_all (text_of bytes) in
-          let rest = (laws.longest.reads bytes).front.spelled in
-          let front : take (at + 1) bytes ≡ take (at + 1) t = ap (take (at + 1)) rest.1 ∙ take-append-le (at + 1) t rest.0 (omega (arith, less, same)) in
-          absurd (none (subst BeginsText (sym front) (drop (at + 1) t, (text_of bytes, ((laws.longest.reads bytes).front.scalars, sym (take-append-drop (at + 1) t))))))
-
-  pub broken_end : (bytes : List ℕ) (at start : ℕ) → IsBroken bytes at start → (start < part_end at start) × (part_end at start ≤ length bytes)
-  broken_end bytes at start broken = by (at == start) refl
-    where
-      by : (b : Bool) → (at == start) ≡ b → (start < (if b then start + 1 else at)) × ((if b then start + 1 else at) ≤ length bytes)
-      by true e = (omega arith, omega (arith, broken.order, broken.within))
-      by false e = let differs : ¬ (at ≡ start) = grind (arith, nat_tests) in (omega (arith, differs, broken.order), omega (arith, broken.within))
-
-  abbrev broken_part : (at start : ℕ) → Part
-  broken_part at start = record { char = replacement; len = part_end at start - start }
-
-  parts_of-broken : (bytes : List ℕ) (at start : ℕ) → ending_of bytes ≡ Bad at start → parts_of bytes ≡ own_parts (text_of bytes) ++ broken_part at start ∷ parts_of (drop (part_end at start) bytes)
-  parts_of-broken bytes at start e =
-      ap parts_of (sym (append-nil bytes)) ∙ laws.replacing.bad bytes [] at start e ∙ ap (λ l. own_parts (text_of bytes) ++ broken_part at start ∷ parts_of (drop (part_end at start) l)) (append-nil bytes)
+  is_broken bytes at start e = let b = broken bytes at start e in record { text = b.2 ∙ sym (laws.split.len bytes); order = omega (arith, b.1, b.2); within = omega (arith, b.0, b.1) }
 
   -- ---- behind a text
 

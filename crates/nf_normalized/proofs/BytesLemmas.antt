@@ -1,22 +1,10 @@
 -- Bytes and the texts that they spell.
-use Rattle.std.proofs.Common.{◌≡◌, ◌⊎◌, ⊎_elim, inl, inr, ◌^◌, eqb-true, eq-eqb, true≢false, ℕ, suc, ◌+◌, ◌<◌, ◌≤◌, ◌==◌, Bool, true, false, List, [], ◌∷◌, ◌++◌, length, get_or, take, drop, refl, sym, ap, ap₂, ◌∙◌, subst, arith, append_assoc, append-nil, length-append, Option, Some, None, IsUtf8, chars, encode_utf8, encode_utf8_all, if◌then◌else◌}
-use Rattle.std.proofs.lemmas.Bool.{and_parts, and_from}
-use Rattle.std.proofs.lemmas.List.{take_at, take-append-drop, nil_from_length}
-use Rattle.std.proofs.lemmas.Str.{encodes-append, encodes-chars, length-le-encodes}
-use Rattle.nf_forms.specs.Ucd.{ucd}
-use Rattle.nf_forms.specs.declared.form.Form.{Form}
-use Rattle.nf_forms.specs.Twice.{ChangesOnce}
+use Rattle.nf_normalized.proofs.Common.{◌≡◌, ◌⊎◌, ⊎_elim, inl, inr, ◌^◌, eqb-true, eq-eqb, true≢false, ℕ, suc, ◌+◌, ◌<◌, ◌≤◌, ◌==◌, Bool, true, false, List, [], ◌∷◌, ◌++◌, length, get_or, take, drop, refl, sym, ap, ap₂, ◌∙◌, subst, arith, append_assoc, append-nil, length-append, Option, Some, None, IsUtf8, chars, encode_utf8, encode_utf8_all, if◌then◌else◌, and_parts, and_from, take_at, take-append-drop, nil_from_length, encodes-append, encodes-chars, length-le-encodes, ucd, Form, ChangesOnce, text_of, rest_of, first_text, first_bytes, bytes_behind, Takes, IsText, SplitsBytes, ReadsBack, ReadsPieces, common, goes_on_with}
 use Rattle.nf_utf8.specs.declared.chunk.End.{End}
 use Rattle.nf_utf8.specs.declared.chunk.End.TheVariants.{Bad}
 use Rattle.nf_utf8.specs.declared.decoder.Decoder.{Decoder}
-use Rattle.nf_utf8.specs.Reading.{text_of, rest_of}
 use Rattle.nf_utf8.specs.Standing.{StandsAfter}
-use Rattle.nf_utf8.specs.Taking.{first_text, first_bytes, bytes_behind, Takes}
-use Rattle.nf_utf8.specs.Text.{IsText}
-use Rattle.nf_utf8.specs.Laws.{SplitsBytes, ReadsBack, ReadsPieces}
 use Rattle.nf_filter.proofs.ReadingLemmas.{text_of-none}
-use Rattle.nf_normalized.specs.Change.{common}
-use Rattle.nf_normalized.specs.Bytes.{goes_on_with}
 use Rattle.nf_normalized.proofs.CommonLemmas.{common-behind, common-front}
 
 -- what is known of bytes and of the forms

@@ -1,36 +1,8 @@
 -- What a call of a filter tells of a text, by what it wrote to a sink that compares.
-use Rattle.std.proofs.Common.{IsNone, subst, ◌≡◌, ℕ, ◌+◌, ◌<◌, ◌^◌, Bool, true, false, List, ◌∷◌, ◌++◌, length, take, IsTrue, refl, sym, ap, ap₂, ◌∙◌, arith, ◌==◌, length-append, Option, Some, None, is_some, option_map, encode_utf8_all, true≢false, Result, Ok, Err}
-use Rattle.std.specs.List.{list_any}
-use Rattle.std.specs.Result.{result_err}
-use Rattle.std.proofs.lemmas.Bool.{false_from_ne_true}
-use Rattle.std.proofs.lemmas.List.{take_at}
-use Rattle.std.proofs.lemmas.Str.{encodes_same, length-le-encodes}
-use Rattle.std.proofs.Math.Seq.{take-length}
-use Rattle.nf_forms.specs.Ucd.{ucd}
-use Rattle.nf_forms.specs.declared.form.Form.{Form}
-use Rattle.nf_forms.specs.SafeForm.{safe_form}
-use Rattle.nf_forms.specs.Laws.Sound.{IsSoundText}
-use Rattle.nf_utf8.specs.Text.{IsText}
-use Rattle.nf_utf8.specs.Ending.{Ending, Whole, Bad, Cut as CutOff}
-use Rattle.nf_utf8.specs.Reading.{text_of, rest_of, ending_of}
-use Rattle.nf_utf8.specs.Reads.{EndsAs}
-use Rattle.nf_utf8.specs.Laws.{ReadsLongestText}
-use Rattle.nf_safe.specs.declared.place.Place.{Place}
-use Rattle.nf_safe.specs.Place.{place_at}
-use Rattle.nf_filter.specs.declared.fault.Fault.{Fault}
-use Rattle.nf_filter.specs.declared.fault.Fault.TheVariants.{Write}
+use Rattle.nf_normalized.proofs.Common.{IsNone, subst, ◌≡◌, ℕ, ◌+◌, ◌<◌, ◌^◌, Bool, true, false, List, ◌∷◌, ◌++◌, length, take, IsTrue, refl, sym, ap, ap₂, ◌∙◌, arith, ◌==◌, length-append, Option, Some, None, is_some, option_map, encode_utf8_all, true≢false, Result, Ok, Err, list_any, result_err, false_from_ne_true, take_at, encodes_same, length-le-encodes, take-length, ucd, Form, safe_form, IsSoundText, IsText, Ending, Whole, Bad, CutOff, text_of, rest_of, ending_of, EndsAs, ReadsLongestText, Place, place_at, Fault, Write, place_or_fault, fault_in, answer_at_end, bad_byte, final_utf8, whole_or, is_spent, kind, IsAmong, Comparing, same, left, HasRoom, IsBehind, under, made_of, common, change_at, form_value, form_decision, HoldsSome, filter_state, IsOfPiece, IsOfEnd}
 use Rattle.nf_filter.specs.declared.tally.Tally.{Tally}
-use Rattle.nf_filter.specs.Checks.{place_or_fault}
-use Rattle.nf_filter.specs.Faults.{fault_in, answer_at_end, bad_byte}
-use Rattle.nf_filter.specs.Finishes.{final_utf8, whole_or}
-use Rattle.nf_filter.specs.Filter.{is_spent}
-use Rattle.nf_filter.specs.Kinds.{kind, Holds, IsAmong}
-use Rattle.nf_normalized.specs.declared.comparing.Comparing.{Comparing}
-use Rattle.nf_normalized.specs.Comparing.{same, left, HasRoom, IsBehind}
-use Rattle.nf_normalized.specs.Change.{under, made_of, common, change_at, form_value, form_decision}
+use Rattle.nf_filter.specs.Kinds.{Holds}
 use Rattle.nf_normalized.specs.declared.checker.FormChecker.{FormChecker}
-use Rattle.nf_normalized.specs.Holds.{HoldsSome}
-use Rattle.nf_normalized.specs.Checker.{filter_state, IsOfPiece, IsOfEnd}
 use Rattle.nf_normalized.proofs.BytesLemmas.{Known, Shares, Departs, departs, text_of-encodes, front_all, none_behind}
 use Rattle.nf_normalized.proofs.ChangeLemmas.{if_same, if_other}
 use Rattle.nf_normalized.proofs.CommonLemmas.{common-front}

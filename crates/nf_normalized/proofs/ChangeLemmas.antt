@@ -1,23 +1,5 @@
 -- Where a form changes a text.
-use Rattle.std.proofs.Common.{◌≡◌, ap₂, ⊎_elim, ◌↔◌, ℕ, ◌+◌, ◌<◌, ◌≤◌, Bool, true, false, List, [], ◌++◌, length, take, drop, refl, sym, ap, ◌∙◌, subst, arith, if◌then◌else◌, Some, None, IsTrue, bytes_eq, true≢false, append_assoc, append-nil, encode_utf8_all}
-use Rattle.std.proofs.lemmas.Slice.Eq.{bytes_eq-Decides}
-use Rattle.std.proofs.Math.Seq.{take-length}
-use Rattle.std.proofs.lemmas.Bool.{cases_lt}
-use Rattle.std.proofs.lemmas.List.{length-append, take_at, take_all, take-append-le, take-append-drop}
-use Rattle.nf_forms.specs.declared.form.Form.{Form}
-use Rattle.nf_forms.specs.Forms.{decomposed}
-use Rattle.nf_forms.specs.StreamSafe.{stream_safe}
-use Rattle.nf_forms.specs.SafeForm.{safe_form}
-use Rattle.nf_forms.specs.Front.{front, back}
-use Rattle.nf_forms.specs.Ucd.{ucd}
-use Rattle.nf_forms.specs.Laws.Front.{front-append-back}
-use Rattle.nf_forms.specs.Laws.Sound.{IsSoundText}
-use Rattle.nf_forms.specs.Laws.StreamSafe.{decomposed-append}
-use Rattle.nf_safe.specs.declared.place.Place.{Place}
-use Rattle.nf_safe.specs.Place.{place_at, is_in_format}
-use Rattle.nf_filter.specs.Settled.{settled}
-use Rattle.nf_filter.specs.Laws.{SettledOnlyGrows}
-use Rattle.nf_normalized.specs.Change.{common, change_at, settled_change_at}
+use Rattle.nf_normalized.proofs.Common.{◌≡◌, ap₂, ⊎_elim, ◌↔◌, ℕ, ◌+◌, ◌<◌, ◌≤◌, Bool, true, false, List, [], ◌++◌, length, take, drop, refl, sym, ap, ◌∙◌, subst, arith, if◌then◌else◌, Some, None, IsTrue, bytes_eq, true≢false, append_assoc, append-nil, encode_utf8_all, bytes_eq-Decides, take-length, cases_lt, length-append, take_at, take_all, take-append-le, take-append-drop, Form, decomposed, stream_safe, safe_form, front, back, ucd, front-append-back, IsSoundText, decomposed-append, Place, place_at, is_in_format, settled, SettledOnlyGrows, common, change_at, settled_change_at}
 use Rattle.nf_normalized.proofs.BytesLemmas.{front_all}
 use Rattle.nf_normalized.proofs.CommonLemmas.{common-le-right, take-common, common-front, common-within}
 

@@ -1,38 +1,12 @@
 -- What a filter that is fed a text tells of it, by what it writes.
-use Rattle.std.proofs.Common.{◌≡◌, ◌⊎◌, inl, inr, ⊎_elim, ℕ, ◌+◌, ◌*◌, ◌≤◌, ◌==◌, Bool, true, false, List, [], ◌∷◌, ◌++◌, length, take, drop, take_while, refl, sym, ap, ap₂, ◌∙◌, subst, arith, append-nil, length-append, take-append-drop, Option, Some, None, encode_utf8, encode_utf8_all, if◌then◌else◌, eqb-true}
-use Rattle.std.proofs.lemmas.Bool.{and_parts, and_from}
-use Rattle.std.proofs.lemmas.List.{take_at}
+use Rattle.nf_normalized.proofs.Common.{◌≡◌, ◌⊎◌, inl, inr, ⊎_elim, ℕ, ◌+◌, ◌*◌, ◌≤◌, ◌==◌, Bool, true, false, List, [], ◌∷◌, ◌++◌, length, take, drop, take_while, refl, sym, ap, ap₂, ◌∙◌, subst, arith, append-nil, length-append, take-append-drop, Option, Some, None, encode_utf8, encode_utf8_all, if◌then◌else◌, eqb-true, and_parts, and_from, take_at, encodes-append, length-encode, len_utf8_bounds, take-length, prefix_len, ucd, Form, front, back, safe_form, ChangesOnce, front-append-back, IsSoundText, IsText, BeginsText, Ending, Whole, Bad, Cut, text_of, ending_of, EndsAs, ReadsLongestText, ReplacesParts, Fault, Row, Unassigned, first_fault, fault_in, bad_byte, base_of, StandsAfter, settled, is_usable, usable, settled_utf8, place_or_fault, under, made_of, settled_change_at, form_decision, Holds, IsOfPiece}
 use Rattle.std.proofs.lemmas.Option.{same_Some}
-use Rattle.std.proofs.lemmas.Str.{encodes-append, length-encode, len_utf8_bounds}
-use Rattle.std.proofs.Math.Seq.{take-length}
-use Rattle.std.specs.List.{prefix_len}
-use Rattle.nf_forms.specs.Ucd.{ucd}
-use Rattle.nf_forms.specs.declared.form.Form.{Form}
-use Rattle.nf_forms.specs.Front.{front, back}
-use Rattle.nf_forms.specs.SafeForm.{safe_form}
-use Rattle.nf_forms.specs.Twice.{ChangesOnce}
-use Rattle.nf_forms.specs.Laws.Front.{front-append-back}
-use Rattle.nf_forms.specs.Laws.Sound.{IsSoundText}
-use Rattle.nf_utf8.specs.Text.{IsText, BeginsText}
-use Rattle.nf_utf8.specs.Ending.{Ending, Whole, Bad, Cut}
-use Rattle.nf_utf8.specs.Reading.{text_of, ending_of}
 use Rattle.nf_utf8.specs.Replaced.{bytes_in}
-use Rattle.nf_utf8.specs.Reads.{EndsAs}
-use Rattle.nf_utf8.specs.Laws.{ReadsLongestText, ReplacesParts}
 use Rattle.nf_safe.specs.LongestFront.{longest_front}
 use Rattle.nf_safe.specs.Laws.LongestFront.{longest_front-all}
-use Rattle.nf_filter.specs.declared.fault.Fault.{Fault}
-use Rattle.nf_filter.specs.declared.fault.Fault.TheVariants.{Row, Unassigned}
 use Rattle.nf_filter.specs.declared.filter.State.{State}
 use Rattle.nf_filter.specs.Policy.{allowed, len_under}
-use Rattle.nf_filter.specs.Faults.{first_fault, fault_in, bad_byte}
-use Rattle.nf_filter.specs.Filter.{base_of, StandsAfter}
-use Rattle.nf_filter.specs.Settled.{settled, is_usable, usable, settled_utf8}
 use Rattle.nf_filter.specs.Laws.Settled.{settled_utf8-none}
-use Rattle.nf_filter.specs.Checks.{place_or_fault}
-use Rattle.nf_normalized.specs.Change.{under, made_of, settled_change_at, form_decision}
-use Rattle.nf_normalized.specs.Holds.{Holds}
-use Rattle.nf_normalized.specs.Checker.{IsOfPiece}
 use Rattle.nf_normalized.proofs.BytesLemmas.{Known, front_all}
 use Rattle.nf_normalized.proofs.ChangeLemmas.{if_same}
 

@@ -1,7 +1,5 @@
 -- How many members two lists have in common at their front.
-use Rattle.std.proofs.Common.{◌≡◌, ℕ, sym, drop, ◌<◌, zero, get_or, suc, ◌+◌, ◌≤◌, ◌==◌, Bool, true, false, List, [], ◌∷◌, ◌++◌, length, take, length-take, refl, ap, ◌∙◌, arith, eq-eqb, eqb-true, if◌then◌else◌}
-use Rattle.nf_normalized.specs.Change.{common}
-use Rattle.nf_normalized.specs.Bytes.{goes_on_with}
+use Rattle.nf_normalized.proofs.Common.{◌≡◌, ℕ, sym, drop, ◌<◌, zero, get_or, suc, ◌+◌, ◌≤◌, ◌==◌, Bool, true, false, List, [], ◌∷◌, ◌++◌, length, take, length-take, refl, ap, ◌∙◌, arith, eq-eqb, eqb-true, if◌then◌else◌, common, goes_on_with}
 
 same_head : (a : ℕ) → (a == a) ≡ true
 same_head a = eq-eqb a a refl

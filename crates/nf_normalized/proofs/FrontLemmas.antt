@@ -1,39 +1,16 @@
 -- Fronts of a text in a form, over Unicode's data.
-use Rattle.std.proofs.Common.{◌≡◌, ◌≢◌, ◌↔◌, ℕ, ◌<◌, Bool, true, false, List, [], ◌∷◌, ◌++◌, length, take, Some, refl, sym, ap, ◌∙◌, subst, arith, inl, inr, IsTrue, append-nil, append_assoc, eqb-true, pos_of_ne-zero, if◌then◌else◌}
-use Rattle.std.proofs.lemmas.Bool.{cases_Bool, eqb-false}
-use Rattle.std.proofs.lemmas.List.{length-append, take_at}
+use Rattle.nf_normalized.proofs.Common.{◌≡◌, ◌≢◌, ◌↔◌, ℕ, ◌<◌, Bool, true, false, List, [], ◌∷◌, ◌++◌, length, take, Some, refl, sym, ap, ◌∙◌, subst, arith, inl, inr, IsTrue, append-nil, append_assoc, eqb-true, pos_of_ne-zero, if◌then◌else◌, cases_Bool, eqb-false, length-append, take_at, canonical_combining_class, unicode_normalization, is_starter, lead, Form, Nfc, Nfd, Nfkc, Nfkd, composite, row_of, decomposed, composes, finished, normal_form, stream_safe, safe_form, is_sound, IsMark, ucd, by_last, row-mark, BeginsInStarter, begins_in_starter, IsSound, IsSoundText, IsSound-from_test, decomposed-push, is_in_format, after, is_among, halfwidth_marks, vowel_signs}
 use Rattle.ucd_normal.specs.declared.forms.Form.{Form as KitForm}
 use Rattle.ucd_normal.specs.declared.forms.Form.TheVariants.{Nfd as KitNfd, Nfkd as KitNfkd}
 use Rattle.ucd_normal.specs.declared.forms.QuickCheck.{QuickCheck}
 use Rattle.ucd_normal.specs.declared.forms.QuickCheck.TheVariants.{Yes, No, Maybe}
-use Rattle.ucd_normal.specs.CanonicalCombiningClass.{canonical_combining_class}
 use Rattle.ucd_normal.specs.QuickCheck.{quick_check}
 use Rattle.unicode_normalization.specs.Forms.{normalize}
 use Rattle.unicode_normalization.specs.Order.{is_ordered}
 use Rattle.unicode_normalization.specs.QuickCheck.{worse, worst, quick_check_text}
-use Rattle.unicode_normalization.proofs.Computing.{unicode_normalization}
 use Rattle.unicode_normalization.proofs.DecomposeLemmas.{decompose-primary_composite}
 use Rattle.unicode_normalization.proofs.FormsLemmas.{quick_check_text-No}
-use Rattle.nf_forms.specs.Properties.{is_starter}
-use Rattle.nf_forms.specs.Runs.{lead}
-use Rattle.nf_forms.specs.declared.form.Form.{Form}
-use Rattle.nf_forms.specs.declared.form.Form.TheVariants.{Nfc, Nfd, Nfkc, Nfkd}
-use Rattle.nf_forms.specs.Compose.{composite}
-use Rattle.nf_forms.specs.Forms.{row_of, decomposed, composes, finished, normal_form}
-use Rattle.nf_forms.specs.StreamSafe.{stream_safe}
-use Rattle.nf_forms.specs.SafeForm.{safe_form}
-use Rattle.nf_forms.specs.Sound.{is_sound}
-use Rattle.nf_forms.specs.Calm.{IsMark}
-use Rattle.nf_forms.specs.Ucd.{ucd}
-use Rattle.nf_forms.specs.Laws.Last.{by_last}
-use Rattle.nf_forms.specs.Laws.Calm.{row-mark}
-use Rattle.nf_forms.specs.Laws.ClosedForms.{BeginsInStarter, begins_in_starter}
-use Rattle.nf_forms.specs.Laws.Sound.{IsSound, IsSoundText, IsSound-from_test}
-use Rattle.nf_forms.specs.Laws.StreamSafe.{decomposed-push}
-use Rattle.nf_safe.specs.Place.{is_in_format}
 use Rattle.nf_facts.specs.KitForm.{kit_form}
-use Rattle.nf_facts.specs.After.{after}
-use Rattle.nf_facts.specs.Passing.{is_among, halfwidth_marks, vowel_signs}
 use Rattle.nf_facts.specs.Refused.{refuses, not_among, no_vowel_sign}
 use Rattle.nf_normalized.proofs.KeptLemmas.{some_of, length-form_of}
 use Rattle.nf_normalized.proofs.TakenLemmas.{IsRow, last_taken}

@@ -1,31 +1,6 @@
 -- How many characters can stand behind what is settled of a form.
-use Rattle.std.proofs.Common.{◌≡◌, inl, inr, leb-true, ◌||◌, ◌==◌, subst, eqb-true, true≢false, pos_of_ne-zero, ℕ, ◌*◌, ◌<◌, ◌≤◌, Bool, true, false, List, [], ◌∷◌, ◌++◌, length, refl, sym, ap, ◌∙◌, arith, if◌then◌else◌, IsTrue}
-use Rattle.std.proofs.lemmas.Bool.{cases_Bool, or_parts, eqb-false}
-use Rattle.std.proofs.lemmas.List.{length-append}
-use Rattle.unicode_normalization.proofs.Computing.{unicode_normalization}
-use Rattle.ucd_normal.specs.CanonicalCombiningClass.{canonical_combining_class}
-use Rattle.nf_forms.specs.Properties.{is_starter}
-use Rattle.nf_forms.specs.Runs.{has_starter}
-use Rattle.nf_forms.specs.Front.{front, back}
-use Rattle.nf_forms.specs.declared.form.Form.{Form}
-use Rattle.nf_forms.specs.declared.form.Form.TheVariants.{Nfc, Nfd, Nfkc, Nfkd}
-use Rattle.nf_forms.specs.Forms.{row_of, decomposed, normal_form}
-use Rattle.nf_forms.specs.StreamSafe.{joiner, is_too_long, parted, stream_safe}
-use Rattle.nf_forms.specs.SafeForm.{safe_form}
-use Rattle.nf_forms.specs.Sound.{is_sound}
-use Rattle.nf_forms.specs.Ucd.{ucd}
-use Rattle.nf_forms.specs.Calm.{IsMark}
-use Rattle.nf_forms.specs.Order.{order}
-use Rattle.nf_forms.specs.Laws.Calm.{row-mark}
-use Rattle.nf_forms.specs.Laws.Last.{by_last}
-use Rattle.nf_forms.specs.Laws.Front.{front-append-back, back-at, back-none, EndsInGroup, last_starter}
-use Rattle.nf_forms.specs.Laws.Sound.{IsSound-from_test, IsSoundText}
-use Rattle.nf_forms.specs.Laws.StreamSafe.{stream_safe-push, decomposed-append, decomposed-push}
-use Rattle.nf_facts.specs.Passing.{is_among, mapped_marks}
-use Rattle.nf_facts.specs.After.{after}
+use Rattle.nf_normalized.proofs.Common.{◌≡◌, inl, inr, leb-true, ◌||◌, ◌==◌, subst, eqb-true, true≢false, pos_of_ne-zero, ℕ, ◌*◌, ◌<◌, ◌≤◌, Bool, true, false, List, [], ◌∷◌, ◌++◌, length, refl, sym, ap, ◌∙◌, arith, if◌then◌else◌, IsTrue, cases_Bool, or_parts, eqb-false, length-append, unicode_normalization, canonical_combining_class, is_starter, has_starter, front, back, Form, Nfc, Nfd, Nfkc, Nfkd, row_of, decomposed, normal_form, joiner, is_too_long, parted, stream_safe, safe_form, is_sound, ucd, IsMark, order, row-mark, by_last, front-append-back, back-at, back-none, EndsInGroup, last_starter, IsSound-from_test, IsSoundText, stream_safe-push, decomposed-append, decomposed-push, is_among, mapped_marks, after, settled, is_usable, LittleIsHeldBack}
 use Rattle.nf_forms.specs.Laws.Starters.{length-order}
-use Rattle.nf_filter.specs.Settled.{settled, is_usable}
-use Rattle.nf_filter.specs.Laws.{LittleIsHeldBack}
 
 -- what holds of d, and of c where it is another, holds of c
 or_this : (c d : ℕ) (others : Bool) (P : ℕ → Type 0) → P d → (others ≡ true → P c) → (c == d || others) ≡ true → P c

@@ -1,3 +1,4 @@
+pub mod Common
 pub mod CommonLemmas
 pub mod KeptLemmas
 pub mod ChangeLemmas

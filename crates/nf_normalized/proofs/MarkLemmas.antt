@@ -1,20 +1,9 @@
 -- A mark more behind a text, over any character data: where it stands in the form, and what the form was without it.
-use Rattle.std.proofs.Common.{◌≡◌, ℕ, ◌<◌, Bool, true, false, not, ◌==◌, eqb, ltb, leb, List, [], ◌∷◌, ◌++◌, length, Option, Some, None, refl, sym, ap, ap₂, ◌∙◌, arith, pos_of_ne-zero, inl, inr, append-nil, append_assoc}
-use Rattle.std.proofs.lemmas.Bool.{cases_Bool, or_parts, or_from, and_parts, and_from, ltb-true, eqb-false}
+use Rattle.nf_normalized.proofs.Common.{◌≡◌, ℕ, ◌<◌, Bool, true, false, not, ◌==◌, eqb, ltb, leb, List, [], ◌∷◌, ◌++◌, length, Option, Some, None, refl, sym, ap, ap₂, ◌∙◌, arith, pos_of_ne-zero, inl, inr, append-nil, append_assoc, cases_Bool, or_parts, or_from, and_parts, and_from, ltb-true, eqb-false, length-append, list_all, fold, Properties, is_starter, has_starter, by_class, order, is_blocked, joined, replaced, join, compose_step, EndsInGroup, last_starter, marks_push, IsCut, cut, order-behind, by_class-push, has_starter-by_class, compose_step-at, compose-behind, fold-none, joined-some, joined-starter}
 use Rattle.std.proofs.lemmas.Bool.Decides.{nat_tests}
-use Rattle.std.proofs.lemmas.List.{length-append}
 use Rattle.std.proofs.lemmas.List.Folds.{list_all-append}
-use Rattle.std.specs.List.{list_all}
-use Rattle.std.specs.Prelude.{fold}
 use Rattle.unicode_normalization.proofs.ComposeLemmas.{cases_Option}
-use Rattle.nf_forms.specs.Properties.{Properties, is_starter}
-use Rattle.nf_forms.specs.Runs.{has_starter}
-use Rattle.nf_forms.specs.Order.{by_class, order}
-use Rattle.nf_forms.specs.Compose.{is_blocked, joined, replaced, join, compose_step}
 use Rattle.nf_forms.specs.Laws.Runs.{has_starter-append}
-use Rattle.nf_forms.specs.Laws.Front.{EndsInGroup, last_starter, marks_push, IsCut, cut}
-use Rattle.nf_forms.specs.Laws.Order.{order-behind, by_class-push, has_starter-by_class}
-use Rattle.nf_forms.specs.Laws.Compose.{compose_step-at, compose-behind, fold-none, joined-some, joined-starter}
 use Rattle.nf_forms.specs.Laws.MarkBehind.{all_above, placed, is_ordered-by_class, lands}
 
 -- ---- lists

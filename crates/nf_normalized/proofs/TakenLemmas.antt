@@ -1,20 +1,8 @@
 -- A text in a form, and what the form makes of it without its last character, over any character data.
-use Rattle.std.proofs.Common.{◌≡◌, ℕ, ◌+◌, ◌≤◌, ◌<◌, Bool, true, false, List, [], ◌∷◌, ◌++◌, length, flat_map, Option, Some, None, refl, sym, ap, ◌∙◌, arith, ◌⊎◌, inl, inr, append-nil, append_assoc}
-use Rattle.std.proofs.lemmas.Bool.{cases_Bool, or_left}
+use Rattle.nf_normalized.proofs.Common.{◌≡◌, ℕ, ◌+◌, ◌≤◌, ◌<◌, Bool, true, false, List, [], ◌∷◌, ◌++◌, length, flat_map, Option, Some, None, refl, sym, ap, ◌∙◌, arith, ◌⊎◌, inl, inr, append-nil, append_assoc, cases_Bool, or_left, length-append, fold, Properties, is_starter, has_starter, order, composite, joined, replaced, compose_step, compose, arranged, EndsInGroup, last_starter, order_after-at, compose_step-at, compose_step-none, joined-some, joined-starter, joined-behind_marks, BeginsInStarter}
 use Rattle.std.proofs.lemmas.Grind.{flat_map-append}
-use Rattle.std.proofs.lemmas.List.{length-append}
 use Rattle.std.proofs.lemmas.List.Sums.{fold-append}
-use Rattle.std.specs.Prelude.{fold}
-use Rattle.nf_forms.specs.Properties.{Properties, is_starter}
-use Rattle.nf_forms.specs.Runs.{has_starter}
-use Rattle.nf_forms.specs.Order.{order}
-use Rattle.nf_forms.specs.Compose.{composite, joined, replaced, compose_step, compose}
-use Rattle.nf_forms.specs.Forms.{arranged}
-use Rattle.nf_forms.specs.Laws.Front.{EndsInGroup, last_starter}
-use Rattle.nf_forms.specs.Laws.Order.{order_after-at}
-use Rattle.nf_forms.specs.Laws.Compose.{compose_step-at, compose_step-none, joined-some, joined-starter, joined-behind_marks}
 use Rattle.nf_forms.specs.Laws.Parting.{step-behind, fold-behind}
-use Rattle.nf_forms.specs.Laws.ClosedForms.{BeginsInStarter}
 use Rattle.nf_normalized.proofs.MarkLemmas.{behind, inserted, same_front, mark_taken}
 
 module _ (p : Properties) where

@@ -1,17 +1,9 @@
 -- What a comparing sink tells of what a filter wrote.
-use Rattle.std.proofs.Common.{◌≡◌, ◌⊎◌, inl, inr, ℕ, true, false, List, [], ◌∷◌, ◌++◌, refl, sym, ap, ap₂, ◌∙◌, subst, append_assoc, append-nil, Option, Some, None, is_some, IsSome, IsTrue, option_to_list, true≢false, Result, Err}
+use Rattle.nf_normalized.proofs.Common.{◌≡◌, ◌⊎◌, inl, inr, ℕ, true, false, List, [], ◌∷◌, ◌++◌, refl, sym, ap, take-append-drop, ap₂, ◌∙◌, subst, append_assoc, append-nil, Option, Some, None, is_some, IsSome, IsTrue, option_to_list, true≢false, Result, Err, Fault, Write, Comparing, goes_on_with, same, left, given, preface, taken, sink_state}
 use Rattle.std.specs.Io.KnownBytes.{Appends}
-use Rattle.nf_filter.specs.declared.fault.Fault.{Fault}
-use Rattle.nf_filter.specs.declared.fault.Fault.TheVariants.{Write}
 use Rattle.nf_filter.specs.Writes.{Puts, BreaksOff}
-use Rattle.nf_normalized.specs.declared.comparing.Comparing.{Comparing}
-use Rattle.nf_normalized.specs.Bytes.{goes_on_with}
-use Rattle.nf_normalized.specs.Comparing.{same, left, given, preface, taken, sink_state}
-use Rattle.nf_normalized.proofs.ComparingLemmas.{none_is, preface-same, same_left}
-
-write_or : {T : Type 0} (r : Result T Fault) → (r ≡ Err Write) ⊎ ((r ≡ Err Write) → ⊥)
-write_or (Err Write) = inl refl
-write_or _ = inr (λ e. cc)
+use Rattle.nf_filter.proofs.FilterLemmas.{write_or_kept}
+use Rattle.nf_normalized.proofs.ComparingLemmas.{none_is, preface-same}
 
 -- of what is due the front `before` was written, and a sink to which nothing was given expects what stands behind that in `all`; the
 -- call r then wrote on
@@ -33,14 +25,14 @@ module _ {old new : Comparing} {all before due : List ℕ} {T : Type 0} {r : Res
 
   -- what was given was due, and perhaps more is
   gave : (rest : List ℕ) × (new.first.now ++ new.second.now ≡ old.first.now ++ old.second.now) × (due ≡ (before ++ given new) ++ rest)
-  gave = elim (write_or r) [
+  gave = elim (write_or_kept r) [
     | inl e ↦ let b = w.broken e in let t = told b.out b.given in (b.rest, t.0, b.behind ∙ ap (λ l. (before ++ l) ++ b.rest) (sym t.1))
     | inr other ↦ let p = w.puts other in let t = told p.out p.given in ([], t.0, p.behind ∙ ap (λ l. before ++ l) (sym t.1) ∙ sym (append-nil (before ++ given new)))
   ]
 
   pub read : all ≡ (before ++ same new) ++ left new
   read =
-      w.expects ∙ ap (λ l. before ++ l) (sym (same_left new.first.now new.second.now new.in_first new.in_second new.within.0 new.in_turn ∙ gave.1))
+      w.expects ∙ ap (λ l. before ++ l) (sym (take-append-drop new.count (new.first.now ++ new.second.now) ∙ gave.1))
       ∙ sym (append_assoc before (same new) (left new))
 
   -- a byte was another, and that goes on what was written

@@ -8,11 +8,11 @@ use Rattle.nf_normalized.specs.declared.comparing.Comparing.{Comparing}
 
 -- those that were given as they were expected
 abbrev pub same : Comparing → List ℕ
-same sink = take sink.in_first sink.first.now ++ take sink.in_second sink.second.now
+same sink = take sink.count (sink.first.now ++ sink.second.now)
 
 -- those that are expected behind them
 abbrev pub left : Comparing → List ℕ
-left sink = drop sink.in_first sink.first.now ++ drop sink.in_second sink.second.now
+left sink = drop sink.count (sink.first.now ++ sink.second.now)
 
 -- all that were given: behind them at most one that is another
 abbrev pub given : Comparing → List ℕ

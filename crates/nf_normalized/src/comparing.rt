@@ -1,5 +1,5 @@
 //! A sink that compares what it is given with what is expected.
-ghost use Rattle.std.specs.Prelude.{◌≡◌, ◌<◌, ◌≤◌, ◌++◌, true, false, length, drop, IsSome};
+ghost use Rattle.std.specs.Prelude.{◌≡◌, ◌+◌, ◌≤◌, ◌++◌, true, false, length, drop, IsSome};
 ghost use Rattle.std.specs.Option.{ForSome};
 ghost use Rattle.nf_normalized.specs.Change.{common};
 ghost use Rattle.nf_normalized.specs.Bytes.{goes_on_with};
@@ -12,20 +12,18 @@ use nf_filter::{Failed, Sink};
 pub(crate) struct Comparing<'t> {
     first: &'t [u8],
     second: &'t [u8],
-    /// How many bytes of each were given as expected.
-    in_first: usize,
-    in_second: usize,
+    /// How many bytes were given as expected.
+    count: usize,
     /// The one that was another.
     other: Option<u8>,
     failed: bool,
-    ghost within: { (in_first ≤ length first.now) × (in_second ≤ length second.now) },
-    ghost in_turn: { in_first < length first.now → in_second ≡ 0 },
-    ghost other_is: { ForSome other (λ byte. goes_on_with byte (drop in_first first.now ++ drop in_second second.now) ≡ false) },
+    ghost within: { count ≤ length first.now + length second.now },
+    ghost other_is: { ForSome other (λ byte. goes_on_with byte (drop count (first.now ++ second.now)) ≡ false) },
     ghost failed_behind: { failed ≡ true → IsSome other },
 }
 
 impl<'t> Comparing<'t> {
-    ghost use Rattle.std.specs.Prelude.{◌≡◌, ◌==◌, ◌++◌, [], length, is_some, false, None};
+    ghost use Rattle.std.specs.Prelude.{◌≡◌, ◌+◌, ◌≤◌, ◌==◌, ℕ, List, ◌++◌, [], length, is_some, false, None};
     ghost use Rattle.nf_normalized.specs.Comparing.{same, left};
 
     /// Nothing was given.
@@ -36,8 +34,7 @@ impl<'t> Comparing<'t> {
         Comparing {
             first,
             second,
-            in_first: 0,
-            in_second: 0,
+            count: 0,
             other: None,
             failed: false,
         }
@@ -54,14 +51,33 @@ impl<'t> Comparing<'t> {
     pub fn same(&self) -> (&'t [u8], &'t [u8])
         ensures { result.0.now ++ result.1.now ≡ same self.now }
     {
-        (&self.first[..self.in_first], &self.second[..self.in_second])
+        let in_first = self.count.min(self.first.len());
+        (
+            &self.first[..in_first],
+            &self.second[..self.count - in_first],
+        )
     }
 
     /// What is expected behind that.
     pub fn left(&self) -> (&'t [u8], &'t [u8])
-        ensures { result.0.now ++ result.1.now ≡ left self.now }
+        ensures left { result.0.now ++ result.1.now ≡ left self.now }
+        ensures fits { length self.now.first.now + length self.now.second.now ≤ usize.MAX }
     {
-        (&self.first[self.in_first..], &self.second[self.in_second..])
+        let in_first = self.count.min(self.first.len());
+        (
+            &self.first[in_first..],
+            &self.second[self.count - in_first..],
+        )
+    }
+
+    /// What is expected next: of the second slice, where nothing of the first is left.
+    fn next(&self) -> &'t [u8]
+        ensures front { (more : List ℕ) × (left self.now ≡ result.now ++ more) }
+        ensures last { result.now ≡ [] → left self.now ≡ [] }
+        ensures fits { length self.now.first.now + length self.now.second.now ≤ usize.MAX }
+    {
+        let (first, second) = self.left();
+        if first.is_empty() { second } else { first }
     }
 
     /// Whether no more is expected.
@@ -86,17 +102,10 @@ impl Sink for Comparing<'_> {
             self.failed = true;
             return Err(Failed);
         }
-        let in_first = common_len(&self.first[self.in_first..], bytes);
-        if in_first > 0 {
-            self.in_first += in_first;
-            return Ok(in_first);
-        }
-        if self.in_first == self.first.len() {
-            let in_second = common_len(&self.second[self.in_second..], bytes);
-            if in_second > 0 {
-                self.in_second += in_second;
-                return Ok(in_second);
-            }
+        let len = common_len(self.next(), bytes);
+        if len > 0 {
+            self.count += len;
+            return Ok(len);
         }
         self.other = Some(*byte);
         Ok(1)

@@ -1,31 +1,10 @@
 -- A run of plain ASCII behind one such character that is pending alone.
-use Rattle.std.proofs.Common.{◌≡◌, ℕ, ◌-◌, ◌<◌, true, List, [], ◌∷◌, ◌++◌, length, take, get_or, refl, sym, ap, ◌∙◌, subst, arith, append_assoc, encode_utf8_all, IsAscii}
+use Rattle.nf_normalizer.proofs.Common.{◌≡◌, ℕ, ◌-◌, ◌<◌, true, List, [], ◌∷◌, ◌++◌, length, take, get_or, refl, sym, ap, ◌∙◌, subst, arith, append_assoc, encode_utf8_all, IsAscii, and_from, cond-true, length-append, take_more, take_all, encodes-append, encodes-IsAscii, IsAscii-take, Properties, trail, front, back, Form, Nfkd, decomposed, finished, stream_safe, safe_form, is_sound, trail-push, IsSoundText, decomposed-append, Pending, PendingStandsAfter, Normalizer, settled, is_usable, HasTaken, settled_text, Joins}
 use Rattle.std.specs.List.{list_all}
-use Rattle.std.proofs.lemmas.Bool.{and_from, cond-true}
-use Rattle.std.proofs.lemmas.List.{length-append, take_more, take_all}
 use Rattle.std.proofs.lemmas.List.Folds.{list_all-append}
-use Rattle.std.proofs.lemmas.Str.{encodes-append, encodes-IsAscii, IsAscii-take}
 use Rattle.std.proofs.lemmas.Str.Ascii.{All-from_ascii}
-use Rattle.nf_forms.specs.Properties.{Properties}
-use Rattle.nf_forms.specs.Runs.{trail}
-use Rattle.nf_forms.specs.Front.{front, back}
-use Rattle.nf_forms.specs.declared.form.Form.{Form}
-use Rattle.nf_forms.specs.declared.form.Form.TheVariants.{Nfkd}
-use Rattle.nf_forms.specs.Forms.{decomposed, finished}
-use Rattle.nf_forms.specs.StreamSafe.{stream_safe}
-use Rattle.nf_forms.specs.SafeForm.{safe_form}
-use Rattle.nf_forms.specs.Sound.{is_sound}
-use Rattle.nf_forms.specs.Laws.Runs.{trail-push}
-use Rattle.nf_forms.specs.Laws.Sound.{IsSoundText}
-use Rattle.nf_forms.specs.Laws.StreamSafe.{decomposed-append}
 use Rattle.nf_row.specs.Ascii.{IsPlainAscii, AreAscii}
 use Rattle.nf_row.specs.Laws.Ascii.{ascii-head, ascii-tail, starter-ascii, sound-ascii, decomposed-ascii, stream_safe-ascii, finished-ascii}
-use Rattle.nf_pending.specs.declared.pending.Pending.{Pending}
-use Rattle.nf_pending.specs.StandsAfter.{StandsAfter as PendingStandsAfter}
-use Rattle.nf_normalizer.specs.declared.normalizer.Normalizer.{Normalizer}
-use Rattle.nf_normalizer.specs.Settled.{settled, is_usable}
-use Rattle.nf_normalizer.specs.Normalizer.{HasTaken, settled_text}
-use Rattle.nf_normalizer.specs.Front.{Joins}
 
 -- the last apart
 pub by_last_one : (w : List ℕ) (n : ℕ) → length w ≡ n → 0 < n → w ≡ take (n - 1) w ++ get_or w (n - 1) 0 ∷ []

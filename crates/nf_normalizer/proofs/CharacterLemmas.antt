@@ -1,32 +1,12 @@
 -- One character more.
-use Rattle.std.proofs.Common.{◌≡◌, ◌==◌, ℕ, ◌+◌, ◌<◌, ◌≤◌, Bool, true, false, not, ◌||◌, List, [], ◌∷◌, ◌++◌, Ok, Err, refl, sym, ap, ◌∙◌, subst, arith, if◌then◌else◌, encode_utf8_all}
-use Rattle.std.proofs.lemmas.Bool.{false≢true, cond-true, cond-false, and_from, and_left, and_right, or_from, not_from_true, ltb-false}
-use Rattle.std.proofs.lemmas.Str.{encodes-append}
-use Rattle.nf_forms.specs.Properties.{Properties, is_starter, is_nonstarter}
-use Rattle.nf_forms.specs.declared.form.Form.{Form}
-use Rattle.nf_forms.specs.declared.form.Form.TheVariants.{Nfc, Nfd, Nfkc, Nfkd}
-use Rattle.nf_forms.specs.Runs.{has_starter, lead, trail}
-use Rattle.nf_forms.specs.Front.{front}
-use Rattle.nf_forms.specs.Forms.{row_of, decomposed, finished}
-use Rattle.nf_forms.specs.StreamSafe.{joiner, max_run, is_too_long, parted, stream_safe}
-use Rattle.nf_forms.specs.Sound.{is_sound}
-use Rattle.nf_forms.specs.SafeForm.{safe_form}
+use Rattle.std.proofs.Common.{◌==◌}
+use Rattle.nf_normalizer.proofs.Common.{◌≡◌, ℕ, ◌+◌, ◌<◌, ◌≤◌, Bool, true, false, not, ◌||◌, List, [], ◌∷◌, ◌++◌, Ok, Err, refl, sym, ap, ◌∙◌, subst, arith, if◌then◌else◌, encode_utf8_all, false≢true, cond-true, cond-false, and_from, and_left, and_right, or_from, not_from_true, ltb-false, encodes-append, Properties, is_starter, is_nonstarter, Form, Nfc, Nfd, Nfkc, Nfkd, has_starter, lead, trail, front, row_of, decomposed, finished, joiner, max_run, is_too_long, parted, stream_safe, is_sound, safe_form, lead-marks, lead-le-length, trail-marks, stream_safe-push, decomposed-push, JoinerIsPlain, IsSound, IsSound-from_test, JoinerIsPlain-from_sound, run_len, PendingStandsAfter, Normalizer, Unsound, settled, is_usable, Start, Holds, HasTaken, HasParted, IsWithin, HasRoom, run_behind, front_utf8, settled_text, Pushes, PutsJoiner, Parts, TakesChar, is_usable-push}
 use Rattle.nf_forms.specs.Laws.Cluster.{row-own}
 use Rattle.nf_row.specs.declared.ends.Ends.{Ends}
 use Rattle.nf_row.specs.Ends.{HasEnds}
 use Rattle.nf_row.specs.Kind.{IsOwn}
-use Rattle.nf_forms.specs.Laws.Runs.{lead-marks, lead-le-length, trail-marks}
-use Rattle.nf_forms.specs.Laws.StreamSafe.{stream_safe-push, decomposed-push}
-use Rattle.nf_forms.specs.Laws.Sound.{JoinerIsPlain, IsSound, IsSound-from_test, JoinerIsPlain-from_sound}
 use Rattle.nf_safe.specs.Count.{counted, passes, count_step}
 use Rattle.nf_safe.specs.Laws.Count.{count_step-le, count_step-within, trail-decomposed-safe_step}
-use Rattle.nf_pending.specs.StandsAfter.{run_len, StandsAfter as PendingStandsAfter}
-use Rattle.nf_normalizer.specs.declared.normalizer.Normalizer.{Normalizer}
-use Rattle.nf_normalizer.specs.declared.front.Unsound.{Unsound}
-use Rattle.nf_normalizer.specs.Settled.{settled, is_usable}
-use Rattle.nf_normalizer.specs.Room.{Start, Holds}
-use Rattle.nf_normalizer.specs.Normalizer.{HasTaken, HasParted, IsWithin, HasRoom, run_behind, front_utf8, settled_text, Pushes, PutsJoiner, Parts, TakesChar}
-use Rattle.nf_normalizer.specs.Laws.Settled.{is_usable-push}
 use Rattle.nf_normalizer.proofs.PushingLemmas.{run_behind-push}
 use Rattle.nf_normalizer.proofs.RoomLemmas.{Holds-at}
 

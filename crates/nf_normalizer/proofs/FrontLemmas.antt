@@ -1,27 +1,10 @@
 -- What is taken of a text at once, and a character at a boundary after any text.
-use Rattle.std.proofs.Common.{◌≡◌, ℕ, ◌+◌, ◌<◌, ◌≤◌, true, false, Bool, List, [], ◌∷◌, ◌++◌, length, take, drop, Option, Some, Result, Ok, Err, IfOk, inl, inr, refl, sym, ap, ◌∙◌, subst, arith, append-nil, append_assoc, encode_utf8, encode_utf8_all, IsUtf8, IsAscii, chars, length-append, take-append-drop, MatchOption, if◌then◌else◌}
-use Rattle.std.proofs.lemmas.Bool.{false≢true}
-use Rattle.std.proofs.lemmas.Str.{chars-nil, chars-append, chars-IsAscii, encodes-append, encodes-chars, IsUtf8-from_ascii, chars_past_char, length-encode, len_utf8_bounds}
-use Rattle.nf_forms.specs.Properties.{Properties}
-use Rattle.nf_forms.specs.declared.form.Form.{Form}
-use Rattle.nf_forms.specs.declared.form.Form.TheVariants.{Nfc, Nfd, Nfkc, Nfkd}
+use Rattle.nf_normalizer.proofs.Common.{◌≡◌, ℕ, ◌+◌, ◌<◌, ◌≤◌, true, false, Bool, List, [], ◌∷◌, ◌++◌, length, take, drop, Option, Some, Result, Ok, Err, IfOk, inl, inr, refl, sym, ap, ◌∙◌, subst, arith, append-nil, append_assoc, encode_utf8, encode_utf8_all, IsUtf8, IsAscii, chars, length-append, take-append-drop, MatchOption, if◌then◌else◌, false≢true, chars-nil, chars-append, chars-IsAscii, encodes-append, encodes-chars, IsUtf8-from_ascii, chars_past_char, length-encode, len_utf8_bounds, Properties, Form, Nfc, Nfd, Nfkc, Nfkd, front, joiner, is_too_long, stream_safe, safe_form, IsSoundText, stream_safe-push, IsClosedFront, Normalizer, Unsound, settled, is_usable, Start, Holds, HasTaken, TakesChar, settled_text, Stands, one_if, Leaves, Passes, Joins, StepsTo, Refuses, Takes}
 use Rattle.nf_forms.specs.Order.{by_class}
-use Rattle.nf_forms.specs.Front.{front}
-use Rattle.nf_forms.specs.StreamSafe.{joiner, is_too_long, stream_safe}
-use Rattle.nf_forms.specs.SafeForm.{safe_form}
 use Rattle.nf_forms.specs.Closed.{BeginsAtBoundary}
-use Rattle.nf_forms.specs.Laws.Sound.{IsSoundText}
-use Rattle.nf_forms.specs.Laws.StreamSafe.{stream_safe-push}
 use Rattle.nf_forms.specs.Laws.Closed.{stream_safe-closed, sound-closed, safe_form-closed}
-use Rattle.nf_boundary.specs.Front.{IsClosedFront}
-use Rattle.nf_normalizer.specs.declared.normalizer.Normalizer.{Normalizer}
 use Rattle.nf_normalizer.specs.declared.front.Front.{Front}
-use Rattle.nf_normalizer.specs.declared.front.Unsound.{Unsound}
-use Rattle.nf_normalizer.specs.Settled.{settled, is_usable}
 use Rattle.nf_normalizer.specs.Laws.Boundary.{usable-alone, usable_both, joins-behind, safe_form-behind, settled_text-behind, HasTaken-behind}
-use Rattle.nf_normalizer.specs.Room.{Start, Holds}
-use Rattle.nf_normalizer.specs.Normalizer.{HasTaken, TakesChar, settled_text}
-use Rattle.nf_normalizer.specs.Front.{Stands, one_if, Leaves, Passes, Joins, StepsTo, Refuses, Takes}
 use Rattle.nf_normalizer.proofs.RoomLemmas.{Holds-at, Holds-more, Holds-alone}
 
 -- ---- fronts of a text

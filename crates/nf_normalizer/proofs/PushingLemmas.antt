@@ -1,10 +1,5 @@
 -- What is settled and how long the run is, when decomposed text is pushed code point by code point.
-use Rattle.std.proofs.Common.{◌≡◌, ℕ, ◌+◌, ◌<◌, ◌≤◌, Bool, true, false, not, ◌||◌, List, [], ◌∷◌, ◌++◌, length, take, drop, get_or, sym, ap, ◌∙◌, arith, if◌then◌else◌}
-use Rattle.std.proofs.lemmas.List.{length-append, length-take-le, take-append-drop, take_more}
-use Rattle.nf_forms.specs.Properties.{Properties, is_starter, is_nonstarter}
-use Rattle.nf_forms.specs.Runs.{has_starter, lead, trail}
-use Rattle.nf_forms.specs.Laws.Runs.{has_starter-append, lead-append, trail-le-length, trail-push}
-use Rattle.nf_normalizer.specs.Normalizer.{run_behind}
+use Rattle.nf_normalizer.proofs.Common.{◌≡◌, ℕ, ◌+◌, ◌<◌, ◌≤◌, Bool, true, false, not, ◌||◌, List, [], ◌∷◌, ◌++◌, length, take, drop, get_or, sym, ap, ◌∙◌, arith, if◌then◌else◌, length-append, length-take-le, take-append-drop, take_more, Properties, is_starter, is_nonstarter, has_starter, lead, trail, has_starter-append, lead-append, trail-le-length, trail-push, run_behind}
 
 -- the members of a row up to i, and the next
 pub take_next : (row : List ℕ) (i c : ℕ) → i < length row → c ≡ get_or row i c → take (i + 1) row ≡ take i row ++ c ∷ []

@@ -1,6 +1,5 @@
 -- What the room holds.
-use Rattle.std.proofs.Common.{◌≡◌, List, ℕ, ◌++◌, sym, ap, ◌∙◌, subst, append_assoc, append-nil, []}
-use Rattle.nf_normalizer.specs.Room.{Start, Holds}
+use Rattle.nf_normalizer.proofs.Common.{◌≡◌, List, ℕ, ◌++◌, sym, ap, ◌∙◌, subst, append_assoc, append-nil, [], Start, Holds}
 
 -- at the same place
 pub Holds-at : {start : Start} {room a b : List ℕ} → a ≡ b → Holds start room a → Holds start room b

@@ -1,29 +1,19 @@
 -- What a machine holds of the text that it stands after.
-use Rattle.std.proofs.Common.{◌≡◌, ℕ, Bool, true, false, leb, List, [], ◌∷◌, ◌++◌, length, Option, Some, None, refl, sym, ap, ◌∙◌, subst, arith, append_assoc, map}
-use Rattle.std.proofs.lemmas.Bool.{cond-true, cond-false, ne_eqb}
-use Rattle.std.proofs.lemmas.List.{append-nil, length-map, nil_from_length}
+use Rattle.nf_pending.proofs.Common.{◌≡◌, ℕ, Bool, true, false, leb, List, [], ◌∷◌, ◌++◌, length, Option, Some, None, refl, sym, ap, ◌∙◌, subst, arith, append_assoc, map, cond-true, cond-false, ne_eqb, append-nil, length-map, nil_from_length, IfSome, insert, is_some, is_none, unwrap_or, ◌||◌, prefix_len, front, back, composes, finished, front-append-back, marks_push, closed_off, closed_off-group, next_composite, next_composite-none, settled_by, front-push_starter, back-push_starter, front-behind, back-behind, back-starter, back-empty, has_starter-head, Mark, held-push, held-characters}
 use Rattle.std.proofs.Math.Bool.{or-false}
-use Rattle.std.specs.Prelude.{IfSome, insert, is_some, is_none, unwrap_or, ◌||◌}
-use Rattle.std.specs.List.{prefix_len}
 use Rattle.std.specs.Option.{option_to_list}
 use Rattle.nf_forms.specs.Properties.{Properties, is_starter}
 use Rattle.nf_forms.specs.Runs.{has_starter, trail}
-use Rattle.nf_forms.specs.Front.{front, back}
 use Rattle.nf_forms.specs.Order.{by_class}
 use Rattle.nf_forms.specs.Compose.{composite}
 use Rattle.nf_forms.specs.declared.form.Form.{Form}
-use Rattle.nf_forms.specs.Forms.{composes, finished}
 use Rattle.nf_forms.specs.Laws.Runs.{has_starter-append, trail-push}
-use Rattle.nf_forms.specs.Laws.Front.{front-append-back, marks_push}
 use Rattle.nf_forms.specs.Laws.Order.{has_starter-by_class}
 use Rattle.nf_forms.specs.Laws.Compose.{IsGroup}
-use Rattle.nf_forms.specs.Laws.Settling.{closed_off, closed_off-group, next_composite, next_composite-none, settled_by, front-push_starter, back-push_starter, front-behind, back-behind, back-starter, back-empty, has_starter-head}
-use Rattle.nf_boundary.specs.declared.mark.Mark.{Mark}
 use Rattle.nf_pending.specs.declared.pending.Pending.{Pending}
 use Rattle.nf_boundary.specs.Mark.{mark_of, is_rising}
 use Rattle.nf_pending.specs.Meeting.{composite_with}
 use Rattle.nf_pending.specs.StandsAfter.{StandsAfter}
-use Rattle.nf_boundary.specs.Laws.Held.{held-push, held-characters}
 
 module _ (f : Form) (p : Properties) where
   module _ (pending : Pending) (w : List ℕ) (s : StandsAfter f p pending w) where

@@ -1,20 +1,8 @@
 -- A checker's steps.
-use Rattle.std.proofs.Common.{◌≡◌, ℕ, ◌+◌, ◌≤◌, Bool, true, false, not, ◌&&◌, List, [], ◌∷◌, ◌++◌, length, Some, None, is_some, encode_utf8, encode_utf8_all, refl, sym, ap, ap₂, ◌∙◌, arith, append_assoc, if◌then◌else◌, length-append}
-use Rattle.std.proofs.lemmas.Str.{encodes-append}
-use Rattle.std.proofs.lemmas.Bool.{cond-true, cond-false}
-use Rattle.nf_forms.specs.Laws.Parting.{run-behind}
+use Rattle.nf_safe.proofs.Common.{◌≡◌, ℕ, ◌+◌, ◌≤◌, Bool, true, false, not, ◌&&◌, List, [], ◌∷◌, ◌++◌, length, Some, None, is_some, encode_utf8, encode_utf8_all, refl, sym, ap, ap₂, ◌∙◌, arith, append_assoc, if◌then◌else◌, length-append, encodes-append, cond-true, cond-false, run-behind, Properties, Nfkd, trail, decomposed, max_row, counted, passes, count_step, is_in_format, place_from, count_step-within, trail-decomposed-counted, is_in_format-push, is_in_format-join, place_from-in_format, place_from-at, place_from-stays}
 use Rattle.nf_safe.specs.declared.place.Place.{Place}
-use Rattle.nf_forms.specs.Properties.{Properties}
-use Rattle.nf_forms.specs.declared.form.Form.TheVariants.{Nfkd}
-use Rattle.nf_forms.specs.Runs.{trail}
-use Rattle.nf_forms.specs.Forms.{decomposed}
-use Rattle.nf_forms.specs.Sound.{max_row}
 use Rattle.nf_safe.specs.declared.checker.Checker.{Checker}
-use Rattle.nf_safe.specs.Count.{counted, passes, count_step}
-use Rattle.nf_safe.specs.Place.{is_in_format, place_from}
 use Rattle.nf_safe.specs.Checker.{place_of, StandsAfter, CountsFromEnd}
-use Rattle.nf_safe.specs.Laws.Count.{count_step-within, trail-decomposed-counted}
-use Rattle.nf_safe.specs.Laws.Place.{is_in_format-push, is_in_format-join, place_from-in_format, place_from-at, place_from-stays}
 
 place_of-on : (checker : Checker) → checker.is_over ≡ false → place_of checker ≡ None
 place_of-on checker on = cond-false _ _ _ on

@@ -1,3 +1,4 @@
+pub mod Common
 pub mod CheckerLemmas
 pub mod RunsLemmas
 pub mod MeasurerLemmas

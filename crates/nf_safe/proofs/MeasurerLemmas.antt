@@ -1,29 +1,11 @@
 -- A measurer's step.
-use Rattle.std.proofs.Common.{◌≡◌, ℕ, ◌+◌, ◌-◌, ◌<◌, ◌==◌, not, Bool, true, false, cond, List, [], ◌∷◌, ◌++◌, length, encode_utf8, encode_utf8_all, refl, sym, ap, ◌∙◌, subst, arith, if◌then◌else◌, length-append, append-nil, append_assoc, eqb-true, count_by}
+use Rattle.nf_safe.proofs.Common.{◌≡◌, ℕ, ◌+◌, ◌-◌, ◌<◌, ◌==◌, not, Bool, true, false, cond, List, [], ◌∷◌, ◌++◌, length, encode_utf8, encode_utf8_all, refl, sym, ap, ◌∙◌, subst, arith, if◌then◌else◌, length-append, append-nil, append_assoc, eqb-true, count_by, and_parts, and_from, or_left, All-weaker, sum_by_push, sum_by-append, list_all-from_AllPass, AllPass-from_list_all, encodes-append, Properties, is_starter, Nfkd, has_starter, lead, trail, decomposed, joiner, is_too_long, stream_safe, is_sound, IsSoundText, IsSound-from_test, JoinerIsPlain-from_sound, longest-order, run-behind, safe_step-room, stream_safe-push, trail-stream_safe-le, decomposed-append, decomposed-push, passes, count_step, trail-decomposed-safe_step, length-stream_safe-ge, HasRuns}
 use Rattle.std.specs.List.{list_all}
-use Rattle.std.proofs.lemmas.Bool.{and_parts, and_from, or_left}
-use Rattle.std.proofs.lemmas.List.Elements.{All-weaker}
 use Rattle.std.proofs.lemmas.List.Folds.{sum_by-zero, list_all-append}
-use Rattle.std.proofs.lemmas.List.Sums.{sum_by_push, sum_by-append, list_all-from_AllPass, AllPass-from_list_all}
-use Rattle.std.proofs.lemmas.Str.{encodes-append}
-use Rattle.nf_forms.specs.Properties.{Properties, is_starter}
-use Rattle.nf_forms.specs.declared.form.Form.TheVariants.{Nfkd}
-use Rattle.nf_forms.specs.Runs.{has_starter, lead, trail}
-use Rattle.nf_forms.specs.Forms.{decomposed}
-use Rattle.nf_forms.specs.StreamSafe.{joiner, is_too_long, stream_safe}
-use Rattle.nf_forms.specs.Sound.{is_sound}
-use Rattle.nf_forms.specs.Laws.Sound.{IsSoundText, IsSound-from_test, JoinerIsPlain-from_sound}
-use Rattle.nf_forms.specs.Laws.Starters.{longest-order}
-use Rattle.nf_forms.specs.Laws.Parting.{run-behind, safe_step-room}
 use Rattle.nf_forms.specs.Laws.Closed.{sound-append}
-use Rattle.nf_forms.specs.Laws.StreamSafe.{stream_safe-push, trail-stream_safe-le, decomposed-append, decomposed-push}
 use Rattle.nf_row.specs.Starters.{has_only_starters}
 use Rattle.nf_safe.specs.declared.measure.Measure.{Measure}
 use Rattle.nf_safe.specs.declared.measurer.Measurer.{Measurer}
-use Rattle.nf_safe.specs.Count.{passes, count_step}
-use Rattle.nf_safe.specs.Laws.Count.{trail-decomposed-safe_step}
-use Rattle.nf_safe.specs.Laws.Pieces.{length-stream_safe-ge}
-use Rattle.nf_safe.specs.Runs.{HasRuns}
 use Rattle.nf_safe.specs.Measurer.{StandsAfter}
 
 -- a measure is its six numbers

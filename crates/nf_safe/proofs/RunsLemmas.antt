@@ -1,12 +1,6 @@
 -- The runs of decomposed text that grows at its end.
-use Rattle.std.proofs.Common.{◌≡◌, ℕ, ◌+◌, ◌<◌, max, not, Bool, true, false, cond, List, [], ◌∷◌, ◌++◌, length, refl, sym, ap, ap₂, ◌∙◌, subst, arith, append_assoc, if◌then◌else◌, count_by, All}
-use Rattle.std.proofs.lemmas.List.Elements.{All-head, All-tail}
-use Rattle.std.proofs.lemmas.List.Sums.{sum_by_push}
-use Rattle.nf_forms.specs.Properties.{Properties, is_starter, is_nonstarter}
-use Rattle.nf_forms.specs.Runs.{trail, longest}
+use Rattle.nf_safe.proofs.Common.{◌≡◌, ℕ, ◌+◌, ◌<◌, max, not, Bool, true, false, cond, List, [], ◌∷◌, ◌++◌, length, refl, sym, ap, ap₂, ◌∙◌, subst, arith, append_assoc, if◌then◌else◌, count_by, All, All-head, All-tail, sum_by_push, Properties, is_starter, is_nonstarter, trail, longest, Runs, HasRuns}
 use Rattle.nf_forms.specs.Laws.Runs.{trail-push, longest-append}
-use Rattle.nf_safe.specs.declared.runs.Runs.{Runs}
-use Rattle.nf_safe.specs.Runs.{HasRuns}
 
 module _ (p : Properties) (runs : Runs) (w : List ℕ) (c : ℕ) (before : HasRuns p runs w) where
   counted : (b : Bool) → is_starter p c ≡ b → count_by (is_nonstarter p) (w ++ c ∷ []) ≡ runs.nonstarters + cond (not b) 1 0

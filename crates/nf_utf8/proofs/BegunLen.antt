@@ -1,17 +1,5 @@
 -- `begun_len`, the length of the longest front that begins a text.
-use Rattle.std.proofs.Common.{◌≡◌, subst₂, ℕ, suc, ◌+◌, ◌<◌, ◌≤◌, ⊎_elim, true, false, cond, nat_lt, true≢false, List, [], ◌∷◌, ◌++◌, length, take, drop, Option, Some, None, unwrap_or, IsUtf8, sym, ap, subst, ◌∙◌, arith, take-append-drop, length-drop, take-take, take_all}
-use Rattle.std.specs.Int.{IsInRange, is_in_range}
-use Rattle.std.specs.Str.{StartsWithNoChar}
-use Rattle.std.specs.Str.Lossy.{utf8_error_len, error_len_after_one, error_len_after_two}
-use Rattle.std.proofs.str.Laws.{order}
-use Rattle.std.proofs.str.Lossy.{utf8_error_len-nil, utf8_error_len_some}
-use Rattle.std.proofs.iter.FirstChar.{no_text}
-use Rattle.std.proofs.lemmas.Bool.{ltb-true, cond_both}
-use Rattle.std.proofs.lemmas.Bool.Decides.{nat_tests}
-use Rattle.std.proofs.lemmas.Str.{IsUtf8-nil}
-use Rattle.nf_utf8.specs.Text.{BeginsText}
-use Rattle.nf_utf8.specs.Part.{IsSecond, IsContinuation}
-use Rattle.nf_utf8.specs.Reading.{text_len, part_len, begun_len}
+use Rattle.nf_utf8.proofs.Common.{◌≡◌, subst₂, ℕ, suc, ◌+◌, ◌<◌, ◌≤◌, ⊎_elim, true, false, cond, nat_lt, true≢false, List, [], ◌∷◌, ◌++◌, length, take, drop, Option, Some, None, unwrap_or, IsUtf8, sym, ap, subst, ◌∙◌, arith, take-append-drop, length-drop, take-take, take_all, IsInRange, is_in_range, StartsWithNoChar, utf8_error_len, error_len_after_one, error_len_after_two, order, utf8_error_len-nil, utf8_error_len_some, no_text, ltb-true, cond_both, nat_tests, IsUtf8-nil, BeginsText, IsSecond, IsContinuation, text_len, part_len, begun_len}
 use Rattle.nf_utf8.proofs.Fronts.{IsLongestFront, longest_same, longest_behind}
 use Rattle.nf_utf8.proofs.Texts.{BeginsText-append, BeginsText-behind, BeginsText-front, BeginsText-IsUtf8}
 use Rattle.nf_utf8.proofs.TextLen.{text_len-longest, length-front, text_len-rest, no_char-text_len}

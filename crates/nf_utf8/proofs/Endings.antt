@@ -1,10 +1,5 @@
 -- `ending_of`, by the three lengths that it compares.
-use Rattle.std.proofs.Common.{◌≡◌, ℕ, ◌+◌, ◌<◌, ◌==◌, cond, List, length, refl, ap, arith, ◌∙◌, ⊎_elim, subst, sym}
-use Rattle.std.proofs.str.Laws.{order}
-use Rattle.std.proofs.lemmas.Bool.{eq-eqb, ne_eqb, cond-true, cond-false}
-use Rattle.std.proofs.lemmas.Bool.Decides.{nat_tests}
-use Rattle.nf_utf8.specs.Ending.{Ending, Whole, Bad, Cut, moved}
-use Rattle.nf_utf8.specs.Reading.{text_len, begun_len, ending_of}
+use Rattle.nf_utf8.proofs.Common.{◌≡◌, ℕ, ◌+◌, ◌<◌, ◌==◌, cond, List, length, refl, ap, arith, ◌∙◌, ⊎_elim, subst, sym, order, eq-eqb, ne_eqb, cond-true, cond-false, nat_tests, Ending, Whole, Bad, Cut, moved, text_len, begun_len, ending_of}
 use Rattle.nf_utf8.proofs.BegunLen.{begun_len-longest}
 
 -- of n bytes, with the lengths of the longest front that is a text and of the longest that begins one

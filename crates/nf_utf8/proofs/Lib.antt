@@ -1,3 +1,4 @@
+pub mod Common
 mod AsciiLemmas
 mod BegunLen
 mod CountingLemmas
@@ -5,10 +6,10 @@ mod Endings
 mod Fronts
 mod LossyLemmas
 mod MendingLemmas
-mod PushesLemmas
-mod ReadingLemmas
+pub mod PushesLemmas
+pub mod ReadingLemmas
 mod ReadsLemmas
-mod ReplacedLemmas
+pub mod ReplacedLemmas
 mod Sequences
 mod StandingLemmas
 mod TakingLemmas

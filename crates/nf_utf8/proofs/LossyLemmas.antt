@@ -1,16 +1,5 @@
 -- The text with U+FFFD for each maximal subpart of an ill-formed sequence, and std's.
-use Rattle.std.proofs.Common.{◌≡◌, ℕ, ◌+◌, ◌<◌, ◌≤◌, ◌==◌, cond, List, [], ◌∷◌, ◌++◌, map, length, take, drop, Some, unwrap_or, IsUtf8, encode_utf8_all, ⊎_elim, refl, sym, ap, subst, ◌∙◌, arith, append-nil, append_assoc, length-drop, take_all, take-append-drop}
-use Rattle.std.specs.Str.Lossy.{utf8_lossy, utf8_invalid_len, error_len_after_one, utf8_error_len, after_first_chunk, replacement_bytes}
-use Rattle.std.proofs.str.Laws.{order, scalars-append, three}
-use Rattle.std.proofs.str.Lossy.{utf8_error_len_some, utf8_invalid_len_pos}
-use Rattle.std.proofs.lemmas.Bool.{eqb-true, ne_eqb, cond_both}
-use Rattle.std.proofs.lemmas.Bool.Decides.{nat_tests}
-use Rattle.std.proofs.lemmas.List.{map-append, drop_all}
-use Rattle.std.proofs.lemmas.Str.{encodes-append, utf8_lossy-IsUtf8, utf8_lossy_step, utf8_lossy_empty}
-use Rattle.nf_utf8.specs.Text.{IsText}
-use Rattle.nf_utf8.specs.Ending.{Bad}
-use Rattle.nf_utf8.specs.Reading.{text_len, text_of, part_len, begun_len, ending_of}
-use Rattle.nf_utf8.specs.Replaced.{Part, replacement, own_parts, part_end, parts_of, replaced, begun_at_end, replaced_whole}
+use Rattle.nf_utf8.proofs.Common.{◌≡◌, ℕ, ◌+◌, ◌<◌, ◌≤◌, ◌==◌, cond, List, [], ◌∷◌, ◌++◌, map, length, take, drop, Some, unwrap_or, IsUtf8, encode_utf8_all, ⊎_elim, refl, sym, ap, subst, ◌∙◌, arith, append-nil, append_assoc, length-drop, take_all, take-append-drop, utf8_lossy, utf8_invalid_len, error_len_after_one, utf8_error_len, after_first_chunk, replacement_bytes, order, scalars-append, three, utf8_error_len_some, utf8_invalid_len_pos, eqb-true, ne_eqb, cond_both, nat_tests, map-append, drop_all, encodes-append, utf8_lossy-IsUtf8, utf8_lossy_step, utf8_lossy_empty, IsText, Bad, text_len, text_of, part_len, begun_len, ending_of, Part, replacement, own_parts, part_end, parts_of, replaced, begun_at_end, replaced_whole}
 use Rattle.nf_utf8.proofs.BegunLen.{begun_few, told_broken}
 use Rattle.nf_utf8.proofs.Endings.{ending_of-broken}
 use Rattle.nf_utf8.proofs.ReadingLemmas.{text_same, text_of-IsText, encodes-text_of, front_of, front_of-IsUtf8, broken}

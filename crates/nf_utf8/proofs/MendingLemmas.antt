@@ -1,11 +1,5 @@
 -- Stretches of text, each with the ill-formed part after it.
-use Rattle.std.proofs.Common.{◌≡◌, ℕ, ◌+◌, ◌-◌, ◌<◌, ◌≤◌, List, [], ◌∷◌, ◌++◌, length, take, drop, refl, sym, ap, subst, ◌∙◌, arith, append_assoc, length-append, length-drop, length-take-le, take-append-drop, length-take, take-take, subst₂, chars, IsUtf8}
-use Rattle.std.specs.Str.Lossy.{replacement_bytes}
-use Rattle.std.proofs.lemmas.List.{map-append, drop-drop, drop-append-le}
-use Rattle.std.proofs.lemmas.Str.{encodes-chars, chars-append, chars-encodes, length-le-encodes, IsUtf8-append}
-use Rattle.nf_utf8.specs.Reading.{text_len, text_of, begun_len}
-use Rattle.nf_utf8.specs.Replaced.{Part, replacement, own_parts, part_end, parts_of}
-use Rattle.nf_utf8.specs.Mending.{IsReplacedFront, IsStretch}
+use Rattle.nf_utf8.proofs.Common.{◌≡◌, ℕ, ◌+◌, ◌-◌, ◌<◌, ◌≤◌, List, [], ◌∷◌, ◌++◌, length, take, drop, refl, sym, ap, subst, ◌∙◌, arith, append_assoc, length-append, length-drop, length-take-le, take-append-drop, length-take, take-take, subst₂, chars, IsUtf8, replacement_bytes, map-append, drop-drop, drop-append-le, encodes-chars, chars-append, chars-encodes, length-le-encodes, IsUtf8-append, text_len, text_of, begun_len, Part, replacement, own_parts, part_end, parts_of, IsReplacedFront, IsStretch}
 use Rattle.nf_utf8.specs.declared.mending.Stretch.{Stretch}
 use Rattle.nf_utf8.proofs.LossyLemmas.{IsTold, encodes_replacement}
 use Rattle.nf_utf8.proofs.ReadingLemmas.{front_of-IsUtf8, length-encodes-text_of}

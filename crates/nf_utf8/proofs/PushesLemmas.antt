@@ -1,15 +1,6 @@
 -- Pushing a piece's bytes one by one reads them as they are read, and so gives what the piece gives.
-use Rattle.std.proofs.Common.{◌≡◌, ℕ, ◌+◌, List, [], ◌∷◌, ◌++◌, length, Option, chars, encode_utf8_all, refl, sym, ap, subst, subst₂, ◌∙◌, arith, append_assoc, append-nil, length-append}
-use Rattle.std.proofs.lemmas.List.{append_cancel_left}
-use Rattle.nf_utf8.specs.declared.step.Step.{Step}
-use Rattle.nf_utf8.specs.declared.step.Step.TheVariants.{More, Char, Bad as BadByte}
-use Rattle.nf_utf8.specs.declared.chunk.End.{End}
+use Rattle.nf_utf8.proofs.Common.{◌≡◌, ℕ, ◌+◌, List, [], ◌∷◌, ◌++◌, length, Option, chars, encode_utf8_all, refl, sym, ap, subst, subst₂, ◌∙◌, arith, append_assoc, append-nil, length-append, append_cancel_left, Step, More, Char, BadByte, End, BeginsText, IsWhole, IsCut, IsBad, text_len, text_of, rest_of, ending_of, Answers, first_text, Takes}
 use Rattle.nf_utf8.specs.declared.chunk.End.TheVariants.{Bad}
-use Rattle.nf_utf8.specs.Text.{BeginsText}
-use Rattle.nf_utf8.specs.Ending.{Whole as IsWhole, Cut as IsCut, Bad as IsBad}
-use Rattle.nf_utf8.specs.Reading.{text_len, text_of, rest_of, ending_of}
-use Rattle.nf_utf8.specs.Standing.{Answers}
-use Rattle.nf_utf8.specs.Taking.{first_text, Takes}
 use Rattle.nf_utf8.specs.Pushes.{Pushes, GoesOn}
 use Rattle.nf_utf8.proofs.BegunLen.{begun_len-longest, begins_all}
 use Rattle.nf_utf8.proofs.Endings.{Says, ending_of-says}
@@ -22,10 +13,10 @@ ReadsOn from bytes all text end = (text_of all ≡ text_of bytes ++ text) × End
 
 -- ---- where they go on
 
-begins_cut : (bytes : List ℕ) (at start : ℕ) → ending_of bytes ≡ IsCut at start → BeginsText bytes
+pub begins_cut : (bytes : List ℕ) (at start : ℕ) → ending_of bytes ≡ IsCut at start → BeginsText bytes
 begins_cut bytes at start e = begins_all bytes (subst (Says bytes) e (ending_of-says bytes)).1
 
-begins_whole : (bytes : List ℕ) → ending_of bytes ≡ IsWhole → BeginsText bytes
+pub begins_whole : (bytes : List ℕ) → ending_of bytes ≡ IsWhole → BeginsText bytes
 begins_whole bytes e = begins_all bytes (omega (arith, (begun_len-longest bytes).within, subst (Says bytes) e (ending_of-says bytes)))
 
 -- ---- byte by byte

@@ -1,11 +1,5 @@
 -- Reading behind a text, and behind bytes that were read before.
-use Rattle.std.proofs.Common.{◌≡◌, ℕ, suc, ◌+◌, ◌<◌, ◌≤◌, List, ◌++◌, length, take, drop, IsUtf8, encode_utf8_all, chars, refl, sym, ap, subst, ◌∙◌, arith, append_assoc, length-append, take-append-drop}
-use Rattle.std.proofs.Math.Seq.{take-append-add, drop-append-add}
-use Rattle.std.proofs.lemmas.List.{take-append-le}
-use Rattle.std.proofs.lemmas.Str.{encodes-chars, scalars-chars, chars-append, chars-encodes}
-use Rattle.nf_utf8.specs.Text.{IsText, BeginsText}
-use Rattle.nf_utf8.specs.Ending.{Bad, moved}
-use Rattle.nf_utf8.specs.Reading.{text_len, text_of, rest_of, begun_len, ending_of}
+use Rattle.nf_utf8.proofs.Common.{◌≡◌, ℕ, suc, ◌+◌, ◌<◌, ◌≤◌, List, ◌++◌, length, take, drop, IsUtf8, encode_utf8_all, chars, refl, sym, ap, subst, ◌∙◌, arith, append_assoc, length-append, take-append-drop, take-append-add, drop-append-add, take-append-le, encodes-chars, scalars-chars, chars-append, chars-encodes, IsText, BeginsText, Bad, moved, text_len, text_of, rest_of, begun_len, ending_of}
 use Rattle.nf_utf8.proofs.Texts.{BeginsText-IsUtf8, BeginsText-append}
 use Rattle.nf_utf8.proofs.TextLen.{text_len-longest, text_len-is, text_len-behind, length-front}
 use Rattle.nf_utf8.proofs.BegunLen.{begun_len-longest, begun_len-is, begun_len-behind, begins_until}

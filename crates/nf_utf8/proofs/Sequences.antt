@@ -1,17 +1,6 @@
 -- Which bytes spell a character, which begin one, and which begin none.
-use Rattle.std.proofs.Common.{append-nil, ◌≡◌, ℕ, ◌+◌, ◌-◌, ◌*◌, ◌/◌, ◌%◌, ◌<◌, ◌≤◌, inl, inr, ⊎_elim, List, [], ◌∷◌, ◌++◌, length, get_or, IsUtf8, encode_utf8, refl, sym, ap, ◌∙◌, arith, length-append, subst}
-use Rattle.std.specs.Int.{IsInRange}
-use Rattle.std.specs.Char.{IsScalar, InScalarRange}
-use Rattle.std.specs.Str.{StartsWithNoChar}
-use Rattle.std.specs.Str.Lossy.{second_byte_min}
-use Rattle.std.proofs.str.Laws.{order, two, three, four}
-use Rattle.std.proofs.str.Classes.{width_is}
-use Rattle.std.proofs.iter.FirstChar.{no_text}
+use Rattle.nf_utf8.proofs.Common.{append-nil, ◌≡◌, ℕ, ◌+◌, ◌-◌, ◌*◌, ◌/◌, ◌%◌, ◌<◌, ◌≤◌, inl, inr, ⊎_elim, List, [], ◌∷◌, ◌++◌, length, get_or, IsUtf8, encode_utf8, refl, sym, ap, ◌∙◌, arith, length-append, subst, IsInRange, IsScalar, InScalarRange, StartsWithNoChar, second_byte_min, order, two, three, four, width_is, no_text, nat_tests, of_one, of_two, of_three, of_four, BeginsText, IsSecond, IsContinuation, IsPart}
 use Rattle.std.proofs.str.Faults.{Ranged, no_char}
-use Rattle.std.proofs.lemmas.Bool.Decides.{nat_tests}
-use Rattle.std.proofs.str.Valid.{of_one, of_two, of_three, of_four}
-use Rattle.nf_utf8.specs.Text.{BeginsText}
-use Rattle.nf_utf8.specs.Part.{IsSecond, IsContinuation, IsPart}
 use Rattle.nf_utf8.proofs.Texts.{BeginsText-front}
 
 -- a second byte, as facts on numbers

@@ -1,19 +1,6 @@
 -- What a byte tells of the bytes that begin a character, said of all the bytes that a decoder stands after.
-use Rattle.std.proofs.Common.{add-zero, ◌≡◌, ℕ, suc, ◌+◌, ◌-◌, ◌<◌, ◌≤◌, ◌==◌, true, ◌&&◌, List, [], ◌∷◌, ◌++◌, length, take, drop, IsUtf8, encode_utf8, encode_utf8_all, chars, refl, sym, ap, subst, ◌∙◌, arith, append-nil, length-drop, take_all, take_at, take-take, length-take-le, inl}
-use Rattle.std.specs.Char.{IsScalar}
-use Rattle.std.proofs.str.Laws.{one}
+use Rattle.nf_utf8.proofs.Common.{add-zero, ◌≡◌, ℕ, suc, ◌+◌, ◌-◌, ◌<◌, ◌≤◌, ◌==◌, true, ◌&&◌, List, [], ◌∷◌, ◌++◌, length, take, drop, IsUtf8, encode_utf8, encode_utf8_all, chars, refl, sym, ap, subst, ◌∙◌, arith, append-nil, length-drop, take_all, take_at, take-take, length-take-le, inl, IsScalar, one, eqb-true, cond_both, nat_tests, length_push, same_from_push, drop_all, IsUtf8-encode, utf8_valid_len-IsUtf8, Step, More, Char, BadByte, BeginsText, Bad, Cut, moved, text_len, text_of, rest_of, begun_len, ending_of, StandsAfter, Answers, bytes_after, ending_at, IsPart}
 use Rattle.std.proofs.str.Decodes.{chars-nil, chars-encodes}
-use Rattle.std.proofs.lemmas.Bool.{eqb-true, cond_both}
-use Rattle.std.proofs.lemmas.Bool.Decides.{nat_tests}
-use Rattle.std.proofs.lemmas.List.{length_push, same_from_push, drop_all}
-use Rattle.std.proofs.lemmas.Str.{IsUtf8-encode, utf8_valid_len-IsUtf8}
-use Rattle.nf_utf8.specs.declared.step.Step.{Step}
-use Rattle.nf_utf8.specs.declared.step.Step.TheVariants.{More, Char, Bad as BadByte}
-use Rattle.nf_utf8.specs.Text.{BeginsText}
-use Rattle.nf_utf8.specs.Ending.{Bad, Cut, moved}
-use Rattle.nf_utf8.specs.Reading.{text_len, text_of, rest_of, begun_len, ending_of}
-use Rattle.nf_utf8.specs.Standing.{StandsAfter, Answers, bytes_after, ending_at}
-use Rattle.nf_utf8.specs.Part.{IsPart}
 use Rattle.nf_utf8.specs.Tells.{Tells, part_after}
 use Rattle.nf_utf8.proofs.Texts.{BeginsText-IsUtf8}
 use Rattle.nf_utf8.proofs.TextLen.{text_len-longest, text_len-no_char}
@@ -139,11 +126,6 @@ module _ (held bytes : List ℕ) (byte c : ℕ) (s : StandsAfter held bytes) (no
 
 pub answers_same : (bytes : List ℕ) (byte : ℕ) (a b : Step) → Answers bytes byte a → Answers bytes byte b → a ≡ b
 answers_same bytes byte More More p q = refl
-answers_same bytes byte More (Char d) p q = let e = p.1 in let f = q.1 in cc
-answers_same bytes byte More (BadByte m) p q = let e = p.1 in let f = q.1 in cc
-answers_same bytes byte (Char c) More p q = let e = p.1 in let f = q.1 in cc
 answers_same bytes byte (Char c) (Char d) p q = ap (λ x. Char x) (same_from_push (text_of bytes) (text_of bytes) c d (sym p.0 ∙ q.0)).1
-answers_same bytes byte (Char c) (BadByte m) p q = let e = p.1 in let f = q.1 in cc
-answers_same bytes byte (BadByte n) More p q = let e = p.1 in let f = q.1 in cc
-answers_same bytes byte (BadByte n) (Char d) p q = let e = p.1 in let f = q.1 in cc
 answers_same bytes byte (BadByte n) (BadByte m) p q = ap (λ x. BadByte x) (let e : n ≡ m = omega (arith, p.2, q.2) in e)
+answers_same bytes byte _ _ p q = let e = p.1 in let f = q.1 in cc

@@ -1,20 +1,8 @@
 -- What a piece gives, from what stands at its front, its text, and what stands behind that.
-use Rattle.std.proofs.Common.{◌≡◌, ℕ, suc, ◌+◌, ◌-◌, ◌^◌, ◌<◌, ◌≤◌, inl, List, [], ◌∷◌, ◌++◌, length, take, drop, Option, Some, None, IfSome, IsUtf8, chars, encode_utf8_all, refl, sym, ap, subst, subst₂, ◌∙◌, arith, append_assoc, append-nil, ⊎_elim, length-append, length-take-le, take-append-drop}
-use Rattle.std.specs.Char.{IsScalar}
-use Rattle.std.proofs.lemmas.List.{append_cancel_left}
-use Rattle.std.proofs.Math.Seq.{take-append-add}
-use Rattle.std.proofs.lemmas.Str.{IsUtf8-nil, IsUtf8-append, IsUtf8-encode, chars-nil, chars-append, encodes-chars}
-use Rattle.nf_utf8.specs.declared.chunk.End.{End}
+use Rattle.nf_utf8.proofs.Common.{◌≡◌, ℕ, suc, ◌+◌, ◌-◌, ◌^◌, ◌<◌, ◌≤◌, inl, List, [], ◌∷◌, ◌++◌, length, take, drop, Option, Some, None, IfSome, IsUtf8, chars, encode_utf8_all, refl, sym, ap, subst, subst₂, ◌∙◌, arith, append_assoc, append-nil, ⊎_elim, length-append, length-take-le, take-append-drop, IsScalar, append_cancel_left, take-append-add, IsUtf8-nil, IsUtf8-append, IsUtf8-encode, chars-nil, chars-append, encodes-chars, End, Begun, BadFront, BeginsText, Ending, IsWhole, IsCut, IsBad, moved, text_len, text_of, rest_of, ending_of, StandsAfter, IsPart, IsFront, Completes, CanEnd, EndsBy, first_text, first_bytes, IsFirst, EndsPiece, Takes, end_holding, bytes_behind, Counts}
 use Rattle.nf_utf8.specs.declared.chunk.End.TheVariants.{Whole, Cut, Bad}
 use Rattle.nf_utf8.specs.declared.front.Front.{Front}
-use Rattle.nf_utf8.specs.declared.front.Front.TheVariants.{Char, Begun, Bad as BadFront}
-use Rattle.nf_utf8.specs.Text.{BeginsText}
-use Rattle.nf_utf8.specs.Ending.{Ending, Whole as IsWhole, Cut as IsCut, Bad as IsBad, moved}
-use Rattle.nf_utf8.specs.Reading.{text_len, text_of, rest_of, ending_of}
-use Rattle.nf_utf8.specs.Standing.{StandsAfter}
-use Rattle.nf_utf8.specs.Part.{IsPart}
-use Rattle.nf_utf8.specs.Front.{IsFront, Completes, CanEnd, EndsBy}
-use Rattle.nf_utf8.specs.Taking.{first_text, first_bytes, IsFirst, EndsPiece, Takes, end_holding, bytes_behind, Counts}
+use Rattle.nf_utf8.specs.declared.front.Front.TheVariants.{Char}
 use Rattle.nf_utf8.proofs.Texts.{BeginsText-append}
 use Rattle.nf_utf8.proofs.TextLen.{text_len-behind, text_len-no_char, no_char-text_len}
 use Rattle.nf_utf8.proofs.BegunLen.{begun_all}
@@ -124,11 +112,8 @@ ends_piece bytes piece (Bad at back) e = (e.0, e.1, omega (arith, e.2, length-ap
 -- ---- the same from what stands behind the text
 
 part_size : (part : List ℕ) → IsPart part → length part ≤ 3
-part_size [] h = omega arith
-part_size (a ∷ []) h = omega arith
-part_size (a ∷ b ∷ []) h = omega arith
-part_size (a ∷ b ∷ c ∷ []) h = omega arith
 part_size (a ∷ b ∷ c ∷ d ∷ rest) h = absurd h
+part_size _ h = omega arith
 
 -- `front` stands behind the text, after `part`
 module _ (held piece : List ℕ) (first : Option ℕ) (text part rest : List ℕ) (skipped : ℕ) (joins : held ++ piece ≡ first_bytes first ++ text ++ (part ++ rest))

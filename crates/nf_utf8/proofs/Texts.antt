@@ -1,8 +1,5 @@
 -- What is well-formed and what begins a text, behind a text and in front of more.
-use Rattle.std.proofs.Common.{ℕ, List, [], ◌++◌, length, IsUtf8, refl, sym, subst, append_assoc, append-nil, take_at, drop_at}
-use Rattle.std.proofs.iter.FirstChar.{after_text}
-use Rattle.std.proofs.lemmas.Str.{IsUtf8-append}
-use Rattle.nf_utf8.specs.Text.{BeginsText}
+use Rattle.nf_utf8.proofs.Common.{ℕ, List, [], ◌++◌, length, IsUtf8, refl, sym, subst, append_assoc, append-nil, take_at, drop_at, after_text, IsUtf8-append, BeginsText}
 
 pub IsUtf8-behind : (xs ys : List ℕ) → IsUtf8 xs → IsUtf8 (xs ++ ys) → IsUtf8 ys
 IsUtf8-behind xs ys u v = subst IsUtf8 (drop_at xs ys (length xs) refl) (after_text (xs ++ ys) (length xs) v (subst IsUtf8 (sym (take_at xs ys (length xs) refl)) u))

@@ -1,9 +1,4 @@
-use Rattle.std.proofs.Common.{◌≡◌, ℕ, ◌+◌, ◌-◌, ◌<◌, ◌≤◌, length, ap, ◌∙◌, sym, arith, List, ◌++◌, take, drop, [], true, subst}
-use Rattle.std.proofs.lemmas.List.{take-append-drop, take-take, drop-take, length-drop, length-take}
-use Rattle.std.proofs.lemmas.Bool.{false≢true}
-use Rattle.std.specs.Io.KnownBytes.{Appends}
-use Rattle.nf_filter.specs.Devices.{SinkState}
-use Rattle.nf_filter.specs.Writes.{Puts}
+use Rattle.nf_filter.proofs.Common.{◌≡◌, ℕ, ◌+◌, ◌-◌, ◌<◌, ◌≤◌, length, ap, ◌∙◌, sym, arith, List, ◌++◌, take, drop, [], true, subst, take-append-drop, take-take, drop-take, length-drop, length-take, false≢true, Appends, SinkState, Puts}
 use Rattle.nf_filter.proofs.WritesLemmas.{Puts-more}
 use Rattle.nf_filter.proofs.block.put_all.Goals as goal
 

@@ -1,5 +1,4 @@
-use Rattle.std.proofs.Common.{◌≡◌, ◌≤◌, ◌-◌, length, take, []}
-use Rattle.nf_filter.specs.Writes.{Puts}
+use Rattle.nf_filter.proofs.Common.{◌≡◌, ◌≤◌, ◌-◌, length, take, [], Puts}
 use Rattle.nf_filter.proofs.block.put_all.Given as goal
 
 abbrev pub invariant-loop-at : goal.invariant-loop-at

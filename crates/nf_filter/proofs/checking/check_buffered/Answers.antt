@@ -1,5 +1,4 @@
-use Rattle.std.proofs.Common.{[], Some, refl, sym, ap, ◌∙◌, arith}
-use Rattle.nf_filter.specs.Checks.{check_decision, no_place}
+use Rattle.nf_filter.proofs.Common.{[], Some, refl, sym, ap, ◌∙◌, arith, check_decision, no_place}
 use Rattle.nf_filter.proofs.ReadingLemmas.{holds_nothing, HasSurveyed-none}
 use Rattle.nf_filter.proofs.SurveysLemmas.{all_read, place_told}
 use Rattle.nf_filter.proofs.ChecksLemmas.{stop_none, decides}

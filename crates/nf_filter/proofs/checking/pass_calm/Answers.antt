@@ -1,13 +1,6 @@
-use Rattle.std.proofs.Common.{◌≡◌, ℕ, ◌+◌, [], ◌++◌, length, is_some, Some, None, rules, refl, ap, ◌∙◌, subst, arith, encode_utf8_all, IsUtf8, chars, length-append}
-use Rattle.std.proofs.lemmas.Bool.{and_from}
-use Rattle.std.proofs.lemmas.List.Folds.{list_all-append}
-use Rattle.std.proofs.lemmas.Str.{encodes-append, encodes-chars}
-use Rattle.nf_forms.specs.Properties.{Properties}
-use Rattle.nf_forms.specs.Sound.{is_sound}
-use Rattle.nf_forms.specs.declared.form.Form.TheVariants.{Nfc}
+use Rattle.nf_filter.proofs.Common.{◌≡◌, ℕ, ◌+◌, [], ◌++◌, length, is_some, Some, None, rules, refl, ap, ◌∙◌, subst, arith, encode_utf8_all, IsUtf8, chars, length-append, and_from, list_all-append, encodes-append, encodes-chars, Properties, is_sound, Nfc, place_of, HasChecked, Sees, check_stop}
 use Rattle.nf_safe.specs.declared.checker.Checker.{Checker}
-use Rattle.nf_safe.specs.Checker.{place_of, StandsAfter}
-use Rattle.nf_filter.specs.Checks.{HasChecked, Sees, check_stop}
+use Rattle.nf_safe.specs.Checker.{StandsAfter}
 use Rattle.nf_filter.proofs.CalmLemmas.{few, ends}
 use Rattle.nf_filter.proofs.ChecksLemmas.{counts_from_end, unstopped}
 use Rattle.nf_filter.proofs.checking.pass_calm.Goals as goal

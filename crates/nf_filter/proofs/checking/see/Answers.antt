@@ -1,10 +1,5 @@
-use Rattle.std.proofs.Common.{◌≡◌, ◌+◌, [], ◌∷◌, ◌++◌, length, true, false, is_some, refl, Some, sym, ap, ◌∙◌, encode_utf8_all}
-use Rattle.std.proofs.lemmas.Bool.{true_from_ne_false}
-use Rattle.nf_forms.specs.Sound.{is_sound}
+use Rattle.nf_filter.proofs.Common.{◌≡◌, ◌+◌, [], ◌∷◌, ◌++◌, length, true, false, is_some, refl, Some, sym, ap, ◌∙◌, encode_utf8_all, true_from_ne_false, is_sound, place_from, Row, Refused}
 use Rattle.nf_safe.specs.Checker.{offset_of}
-use Rattle.nf_safe.specs.Place.{place_from}
-use Rattle.nf_filter.specs.declared.fault.Fault.TheVariants.{Row}
-use Rattle.nf_filter.specs.declared.taker.Stop.TheVariants.{Refused}
 use Rattle.nf_filter.proofs.ChecksLemmas.{all_sound-push, stop_place, stop_row}
 use Rattle.nf_filter.proofs.checking.see.Goals as goal
 

@@ -1,5 +1,4 @@
-use Rattle.std.proofs.Common.{◌≡◌, [], ◌∷◌, ◌++◌, length, map-id, rules, sym, ap, ◌∙◌, arith, append_assoc, append-nil, encode_utf8_all, chars}
-use Rattle.std.proofs.lemmas.Str.{encodes-chars}
+use Rattle.nf_filter.proofs.Common.{◌≡◌, [], ◌∷◌, ◌++◌, length, map-id, rules, sym, ap, ◌∙◌, arith, append_assoc, append-nil, encode_utf8_all, chars, encodes-chars}
 use Rattle.std.proofs.lemmas.Iterator.{YieldsList-from_chars}
 use Rattle.std.proofs.lemmas.Iterator.Consumers.{YieldsList-so_far, YieldsList-turn, YieldsList-end}
 use Rattle.nf_filter.proofs.CharsLemmas.{turn, utf8_len-push, behind}

@@ -1,6 +1,5 @@
-use Rattle.std.proofs.Common.{◌≡◌, ℕ, ◌+◌, List, ◌++◌, length, None, encode_utf8_all}
-use Rattle.nf_safe.specs.Checker.{place_of, offset_of}
-use Rattle.nf_filter.specs.Checks.{HasChecked}
+use Rattle.nf_filter.proofs.Common.{◌≡◌, ℕ, ◌+◌, List, ◌++◌, length, None, encode_utf8_all, place_of, HasChecked}
+use Rattle.nf_safe.specs.Checker.{offset_of}
 use Rattle.nf_filter.proofs.checking.see_chars.Given as goal
 
 abbrev pub invariant-loop-c : goal.invariant-loop-c

@@ -1,6 +1,4 @@
-use Rattle.std.proofs.Common.{[], ◌∷◌, ◌++◌, sym, ap, ◌∙◌, encode_utf8, chars}
-use Rattle.std.specs.Str.Iter.{chars_rest}
-use Rattle.std.proofs.lemmas.Str.{chars_past_char}
+use Rattle.nf_filter.proofs.Common.{[], ◌∷◌, ◌++◌, sym, ap, ◌∙◌, encode_utf8, chars, chars_rest, chars_past_char}
 use Rattle.nf_filter.proofs.TakingLemmas.{begins}
 use Rattle.nf_filter.proofs.ChecksLemmas.{stop-more}
 use Rattle.nf_filter.proofs.checking.see_first.Goals as goal

@@ -1,7 +1,4 @@
-use Rattle.std.proofs.Common.{ℕ, ◌++◌, length, ap, subst₂}
-use Rattle.nf_forms.specs.Properties.{Properties}
-use Rattle.nf_filter.specs.Filter.{state_of, base_of, StandsAfter}
-use Rattle.nf_filter.specs.Finishes.{Finishes}
+use Rattle.nf_filter.proofs.Common.{ℕ, ◌++◌, length, ap, subst₂, Properties, state_of, base_of, StandsAfter, Finishes}
 use Rattle.nf_filter.proofs.DriveLemmas.{Drives-refused, Drives-finished}
 use Rattle.nf_filter.proofs.AgainLemmas.{drives_to_end, drives_once}
 use Rattle.nf_filter.proofs.JoinedLemmas.{joins_pieces}

@@ -1,15 +1,4 @@
-use Rattle.std.proofs.Common.{◌≡◌, ℕ, List, [], ◌++◌, length, take, Ok, Err, inr, refl, ap, ◌∙◌, subst, arith, rules, append-nil, OnOk, Result, ne_eqb, length-take, subst₂}
-use Rattle.std.proofs.KnownBytes.{Consumes-kept, Consumes-nil, Consumes-trans}
-use Rattle.nf_forms.specs.Properties.{Properties}
-use Rattle.nf_forms.specs.declared.form.Form.{Form}
-use Rattle.nf_filter.specs.declared.fault.Fault.{Fault}
-use Rattle.nf_filter.specs.declared.policy.Policy.{Policy}
-use Rattle.nf_filter.specs.declared.fault.Fault.TheVariants.{TooLong, Read}
-use Rattle.nf_filter.specs.declared.filter.State.{State}
-use Rattle.nf_filter.specs.Devices.{SinkState}
-use Rattle.nf_filter.specs.Faults.{IsOfFeeding}
-use Rattle.nf_filter.specs.Filter.{rows_of, state_of, StandsAfter}
-use Rattle.nf_filter.specs.Feeds.{Feeds}
+use Rattle.nf_filter.proofs.Common.{◌≡◌, ℕ, List, [], ◌++◌, length, take, Ok, Err, inr, refl, ap, ◌∙◌, subst, arith, rules, append-nil, OnOk, Result, ne_eqb, length-take, subst₂, Consumes-kept, Consumes-nil, Consumes-trans, Properties, Form, Fault, Policy, TooLong, Read, State, SinkState, IsOfFeeding, rows_of, state_of, StandsAfter, Feeds}
 use Rattle.nf_filter.proofs.FeedingLemmas.{fed_by, HasFed-none, HasFed-more, FeedsAll-failed, FeedsAll-ended, FeedsAll-refused}
 use Rattle.nf_filter.proofs.driving.feed_all.Goals as goal
 

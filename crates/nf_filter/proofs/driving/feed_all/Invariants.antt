@@ -1,8 +1,4 @@
-use Rattle.std.proofs.Common.{◌≡◌, ℕ, ◌-◌, ◌^◌, List, length, IsFalse}
-use Rattle.std.specs.Io.KnownBytes.{Consumes}
-use Rattle.nf_forms.specs.declared.form.Form.{Form}
-use Rattle.nf_filter.specs.declared.policy.Policy.{Policy}
-use Rattle.nf_filter.specs.Filter.{rows_of, state_of, base_of, offset_of, is_spent, StandsAfter}
+use Rattle.nf_filter.proofs.Common.{◌≡◌, ℕ, ◌-◌, ◌^◌, List, length, IsFalse, Consumes, Form, Policy, rows_of, state_of, base_of, offset_of, is_spent, StandsAfter}
 use Rattle.nf_filter.proofs.FeedingLemmas.{HasFed}
 use Rattle.nf_filter.proofs.driving.feed_all.Given as goal
 

@@ -1,8 +1,4 @@
-use Rattle.std.proofs.Common.{◌≡◌, [], ap, sym, subst}
-use Rattle.nf_forms.specs.Properties.{Properties}
-use Rattle.nf_forms.specs.Twice.{ChangesOnce}
-use Rattle.nf_filter.specs.Filter.{rows_of, state_of, StandsAfter}
-use Rattle.nf_filter.specs.Policy.{as_is}
+use Rattle.nf_filter.proofs.Common.{◌≡◌, [], ap, sym, subst, Properties, ChangesOnce, rows_of, state_of, StandsAfter, as_is}
 use Rattle.nf_filter.proofs.AgainLemmas.{adds_what_stays}
 use Rattle.nf_filter.proofs.driving.run.Goals as goal
 

@@ -1,7 +1,4 @@
-use Rattle.nf_forms.specs.declared.form.Form.TheVariants.{Nfkd}
-use Rattle.nf_forms.specs.StreamSafe.{stream_safe}
-use Rattle.nf_forms.specs.Laws.StreamSafe.{trail-decomposed-le, trail-stream_safe-le}
-use Rattle.nf_filter.specs.Settled.{is_usable}
+use Rattle.nf_filter.proofs.Common.{Nfkd, stream_safe, trail-decomposed-le, trail-stream_safe-le, is_usable}
 use Rattle.nf_filter.proofs.laws.runs_stay_short.Goals as goal
 
 pub returns : goal.returns

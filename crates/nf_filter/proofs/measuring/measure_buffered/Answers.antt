@@ -1,10 +1,5 @@
-use Rattle.std.proofs.Common.{◌≡◌, [], Ok, Err, Some, None, refl, ap, arith, option_map, Option}
+use Rattle.nf_filter.proofs.Common.{◌≡◌, [], Ok, Err, Some, None, refl, ap, arith, option_map, Option, Fault, Refused, utf8_place, measure_decision, text_measure, is_usable-none}
 use Rattle.nf_safe.specs.declared.measure.Measure.{Measure}
-use Rattle.nf_filter.specs.declared.fault.Fault.{Fault}
-use Rattle.nf_filter.specs.declared.taker.Stop.TheVariants.{Refused}
-use Rattle.nf_filter.specs.Counted.{utf8_place}
-use Rattle.nf_filter.specs.Measures.{measure_decision, text_measure}
-use Rattle.nf_normalizer.specs.Laws.Settled.{is_usable-none}
 use Rattle.nf_filter.proofs.TextLemmas.{unusable_at-usable}
 use Rattle.nf_filter.proofs.ReadingLemmas.{holds_nothing, HasSurveyed-none}
 use Rattle.nf_filter.proofs.SurveysLemmas.{all_read}

@@ -1,5 +1,4 @@
-use Rattle.std.proofs.Common.{◌≡◌, ◌++◌, take, sym, ap, ◌∙◌, length, length-take-le, take-append-drop, chars}
-use Rattle.std.proofs.lemmas.Str.{chars-append, chars-IsAscii, encodes-IsAscii, IsUtf8-from_ascii, IsCharBoundary-from_take}
+use Rattle.nf_filter.proofs.Common.{◌≡◌, ◌++◌, take, sym, ap, ◌∙◌, length, length-take-le, take-append-drop, chars, chars-append, chars-IsAscii, encodes-IsAscii, IsUtf8-from_ascii, IsCharBoundary-from_take}
 use Rattle.std.proofs.lemmas.Str.Ascii.{All-from_ascii}
 use Rattle.nf_row.specs.Laws.Starters.{only_starters-ascii}
 use Rattle.nf_filter.proofs.measuring.see_ascii.Goals as goal

@@ -1,7 +1,4 @@
-use Rattle.std.proofs.Common.{◌≡◌, ◌+◌, ◌-◌, [], ◌∷◌, ◌++◌, length, Err, refl, sym, ap, ◌∙◌, arith, append_assoc, encode_utf8, encode_utf8_all, chars}
-use Rattle.std.specs.Str.Iter.{chars_rest}
-use Rattle.std.proofs.lemmas.Str.{chars_past_char}
-use Rattle.nf_filter.specs.Measures.{unusable_stop}
+use Rattle.nf_filter.proofs.Common.{◌≡◌, ◌+◌, ◌-◌, [], ◌∷◌, ◌++◌, length, Err, refl, sym, ap, ◌∙◌, arith, append_assoc, encode_utf8, encode_utf8_all, chars, chars_rest, chars_past_char, unusable_stop}
 use Rattle.nf_filter.proofs.CharsLemmas.{place_at}
 use Rattle.nf_filter.proofs.TakingLemmas.{front_len, front-behind}
 use Rattle.nf_filter.proofs.MeasuresLemmas.{refusal_at, seen_more}

@@ -1,5 +1,4 @@
-use Rattle.std.proofs.Common.{[], ◌++◌, rules, refl, sym, ap, ◌∙◌, subst, arith, append-nil, append_assoc}
-use Rattle.nf_filter.specs.Measures.{HasMeasured, unusable_stop}
+use Rattle.nf_filter.proofs.Common.{[], ◌++◌, rules, refl, sym, ap, ◌∙◌, subst, arith, append-nil, append_assoc, HasMeasured, unusable_stop}
 use Rattle.nf_filter.proofs.CharsLemmas.{place_at}
 use Rattle.nf_filter.proofs.TakingLemmas.{front_len, front-behind, front-more, front-whole}
 use Rattle.nf_filter.proofs.measuring.see_text.Goals as goal

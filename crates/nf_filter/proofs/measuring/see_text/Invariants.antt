@@ -1,6 +1,4 @@
-use Rattle.std.proofs.Common.{◌≡◌, ℕ, ◌+◌, ◌≤◌, List, length, IsUtf8, encode_utf8_all}
-use Rattle.nf_safe.specs.Measurer.{values_of}
-use Rattle.nf_filter.specs.Measures.{HasMeasured, HasSeenFront}
+use Rattle.nf_filter.proofs.Common.{◌≡◌, ℕ, ◌+◌, ◌≤◌, List, length, IsUtf8, encode_utf8_all, values_of, HasMeasured, HasSeenFront}
 use Rattle.nf_filter.proofs.measuring.see_text.Given as goal
 
 abbrev pub invariant-loop-rest : goal.invariant-loop-rest

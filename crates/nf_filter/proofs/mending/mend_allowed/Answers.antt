@@ -1,5 +1,4 @@
-use Rattle.std.proofs.Common.{◌<◌, length, chars, sym, ap, ◌∙◌, rules, arith, IsUtf8}
-use Rattle.std.proofs.lemmas.Str.{encodes-chars}
+use Rattle.nf_filter.proofs.Common.{◌<◌, length, chars, sym, ap, ◌∙◌, rules, arith, IsUtf8, encodes-chars}
 use Rattle.nf_filter.proofs.TakingLemmas.{front_len, front-whole}
 use Rattle.nf_filter.proofs.mending.mend_allowed.Goals as goal
 

@@ -1,5 +1,4 @@
-use Rattle.std.proofs.Common.{◌≡◌, drop}
-use Rattle.nf_filter.specs.Saved.{are_marks}
+use Rattle.nf_filter.proofs.Common.{◌≡◌, drop, are_marks}
 use Rattle.nf_filter.proofs.saved.are_marks.Given as goal
 
 abbrev pub invariant-loop-mark : goal.invariant-loop-mark

@@ -1,10 +1,4 @@
-use Rattle.std.proofs.Common.{⊎_elim, ◌≡◌, ℕ, Bool, true, false, append-nil, ◌+◌, ◌^◌, ◌++◌, [], length, take, refl, sym, ap, ◌∙◌, arith, Err, Some, eq-eqb, ne_eqb, length-take}
-use Rattle.std.proofs.KnownBytes.{Consumes-kept, Consumes-nil, Consumes-trans}
-use Rattle.std.proofs.lemmas.Bool.{cases_lt}
-use Rattle.nf_utf8.specs.Ending.{Ending, Whole, Bad, Cut}
-use Rattle.nf_utf8.specs.Reading.{ending_of}
-use Rattle.nf_filter.specs.declared.fault.Fault.TheVariants.{TooLong}
-use Rattle.nf_filter.specs.Faults.{answer_at_end}
+use Rattle.nf_filter.proofs.Common.{⊎_elim, ◌≡◌, ℕ, Bool, true, false, append-nil, ◌+◌, ◌^◌, ◌++◌, [], length, take, refl, sym, ap, ◌∙◌, arith, Err, Some, eq-eqb, ne_eqb, length-take, Consumes-kept, Consumes-nil, Consumes-trans, cases_lt, Ending, Whole, ending_of, TooLong, answer_at_end}
 use Rattle.nf_filter.proofs.sources.survey.Goals as goal
 
 never : {A : Type 0} {at_end : Bool} → at_end ≡ true → at_end ≡ false → A
@@ -13,8 +7,7 @@ never end before_end = let absent : true ≡ false = sym end ∙ before_end in c
 -- an end is no refusal of a length
 not_long : {T : Type 0} (base : ℕ) (value : T) (ending : Ending) → ¬ (answer_at_end base value ending ≡ Err TooLong)
 not_long base value Whole e = cc
-not_long base value (Bad at start) e = cc
-not_long base value (Cut at start) e = cc
+not_long base value _ e = cc
 
 pub loop-given-init : goal.loop-given-init
 loop-given-init g c = record {

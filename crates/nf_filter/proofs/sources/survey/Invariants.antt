@@ -1,6 +1,4 @@
-use Rattle.std.proofs.Common.{◌≡◌, ℕ, ◌-◌, ◌<◌, ◌^◌, List, [], length}
-use Rattle.std.specs.Io.KnownBytes.{Consumes}
-use Rattle.nf_filter.specs.Surveys.{Survey}
+use Rattle.nf_filter.proofs.Common.{◌≡◌, ℕ, ◌-◌, ◌<◌, ◌^◌, List, [], length, Consumes, Survey}
 use Rattle.nf_filter.proofs.sources.survey.Given as goal
 
 abbrev pub invariant-loop-given : goal.invariant-loop-given

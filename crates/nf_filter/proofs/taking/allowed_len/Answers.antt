@@ -1,5 +1,4 @@
-use Rattle.std.proofs.Common.{sym, ap, ◌∙◌, length, rules}
-use Rattle.std.proofs.lemmas.Str.{encodes-chars}
+use Rattle.nf_filter.proofs.Common.{sym, ap, ◌∙◌, length, rules, encodes-chars}
 use Rattle.nf_filter.proofs.taking.allowed_len.Goals as goal
 
 pub returns-then-assigned : goal.returns-then-assigned

@@ -1,7 +1,6 @@
-use Rattle.std.proofs.Common.{length}
+use Rattle.nf_filter.proofs.Common.{length, IsBehindAssigned}
 use denote.Shadow.{shadow}
 use denote.Text.{Utf8}
-use Rattle.nf_filter.specs.Passed.{IsBehindAssigned}
 use Rattle.nf_filter.proofs.taking.assigned_len.Given as goal
 
 abbrev pub invariant-loop-rest : goal.invariant-loop-rest

@@ -1,10 +1,4 @@
-use Rattle.std.proofs.Common.{◌≡◌, ℕ, Bool, true, false, List, [], ◌∷◌, ◌++◌, length, take, drop, refl, sym, ap, ◌∙◌, append-nil, encode_utf8_all, rules, take-append-drop, take_at, drop_at}
-use Rattle.std.specs.List.{prefix_len}
-use Rattle.std.specs.Str.{IsUtf8, all_scalars, chars}
-use Rattle.std.proofs.lemmas.Bool.{and_parts}
-use Rattle.std.proofs.lemmas.Str.{IsCharBoundary-at_seam, chars_from_encodes, encodes-append, encodes-chars, scalars-chars}
-use Rattle.nf_forms.specs.Properties.{Properties}
-use Rattle.nf_filter.specs.Policy.{allowed}
+use Rattle.nf_filter.proofs.Common.{◌≡◌, ℕ, Bool, true, false, List, [], ◌∷◌, ◌++◌, length, take, drop, refl, sym, ap, ◌∙◌, append-nil, encode_utf8_all, rules, take-append-drop, take_at, drop_at, prefix_len, IsUtf8, all_scalars, chars, and_parts, IsCharBoundary-at_seam, chars_from_encodes, encodes-append, encodes-chars, scalars-chars, Properties, allowed}
 use Rattle.nf_filter.proofs.taking.split_allowed.Goals as goal
 
 scalars_behind : (a b : List ℕ) → all_scalars (a ++ b) ≡ true → all_scalars b ≡ true

@@ -1,9 +1,4 @@
-use Rattle.std.proofs.Common.{ℕ, [], Ok, Err, sym, ap, ◌∙◌, subst, arith, subst₂}
-use Rattle.nf_forms.specs.Properties.{Properties}
-use Rattle.nf_filter.specs.Filter.{state_of, StandsAfter}
-use Rattle.nf_filter.specs.Feeds.{Feeds}
-use Rattle.nf_filter.specs.Finishes.{Finishes}
-use Rattle.nf_filter.specs.Policy.{as_is}
+use Rattle.nf_filter.proofs.Common.{ℕ, [], Ok, Err, sym, ap, ◌∙◌, subst, arith, subst₂, Properties, state_of, StandsAfter, Feeds, Finishes, as_is}
 use Rattle.nf_filter.proofs.FilterLemmas.{StandsAfter-offset}
 use Rattle.nf_filter.proofs.WholeLemmas.{Converts-refused, Converts-finished, Converts-faults, Converts-sound}
 use Rattle.nf_filter.proofs.AgainLemmas.{converts_once}

@@ -1,6 +1,5 @@
-use Rattle.std.proofs.Common.{Some, refl, sym, ap, ◌∙◌, arith}
+use Rattle.nf_normalized.proofs.Common.{Some, refl, sym, ap, ◌∙◌, arith, form_decision, form_value}
 use Rattle.nf_filter.proofs.SurveysLemmas.{all_read, place_told}
-use Rattle.nf_normalized.specs.Change.{form_decision, form_value}
 use Rattle.nf_normalized.proofs.checking.check_form_buffered.Goals as goal
 
 pub returns-clause-surveys : goal.returns-clause-surveys

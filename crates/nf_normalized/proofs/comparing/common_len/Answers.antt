@@ -1,5 +1,4 @@
-use Rattle.std.proofs.Common.{arith, sym}
-use Rattle.std.proofs.lemmas.Slice.Eq.{bytes_eq-Decides}
+use Rattle.nf_normalized.proofs.Common.{arith, sym, bytes_eq-Decides}
 use Rattle.nf_normalized.proofs.CommonLemmas.{common-is}
 use Rattle.nf_normalized.proofs.comparing.common_len.Goals as goal
 

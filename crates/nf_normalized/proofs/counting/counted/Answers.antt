@@ -1,5 +1,4 @@
-use Rattle.std.proofs.Common.{ap, arith, length}
-use Rattle.nf_utf8.specs.Taking.{first_bytes}
+use Rattle.nf_normalized.proofs.Common.{ap, arith, length, first_bytes}
 use Rattle.nf_normalized.proofs.BytesLemmas.{counted_few, counted_bytes}
 use Rattle.nf_normalized.proofs.counting.counted.Goals as goal
 use Rattle.nf_normalized.proofs.counting.counted.Goals.{in-Some, in-None}

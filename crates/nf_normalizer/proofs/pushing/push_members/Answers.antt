@@ -1,9 +1,4 @@
-use Rattle.std.proofs.Common.{◌≡◌, ℕ, ◌+◌, ◌<◌, List, [], ◌∷◌, ◌++◌, length, take, get_or, sym, ap, ◌∙◌, subst, arith, append_assoc, if◌then◌else◌, take_all}
-use Rattle.nf_forms.specs.Properties.{Properties, is_starter}
-use Rattle.nf_forms.specs.declared.form.Form.{Form}
-use Rattle.nf_pending.specs.declared.pending.Pending.{Pending}
-use Rattle.nf_normalizer.specs.Room.{Start}
-use Rattle.nf_normalizer.specs.Normalizer.{run_behind, Pushes}
+use Rattle.nf_normalizer.proofs.Common.{◌≡◌, ℕ, ◌+◌, ◌<◌, List, [], ◌∷◌, ◌++◌, length, take, get_or, sym, ap, ◌∙◌, subst, arith, append_assoc, if◌then◌else◌, take_all, Properties, is_starter, Form, Pending, Start, run_behind, Pushes}
 use Rattle.nf_normalizer.proofs.PushingLemmas.{take_next, run_behind-push, run_behind-lt}
 use Rattle.nf_normalizer.proofs.pushing.push_members.Goals as goal
 

@@ -1,8 +1,4 @@
-use Rattle.std.proofs.Common.{◌≡◌, ◌≤◌, ◌+◌, ◌*◌, ℕ, List, ◌++◌, take, length}
-use Rattle.nf_forms.specs.declared.form.Form.{Form}
-use Rattle.nf_pending.specs.StandsAfter.{run_len, StandsAfter}
-use Rattle.nf_normalizer.specs.Room.{Start, Holds}
-use Rattle.nf_normalizer.specs.Normalizer.{run_behind, front_utf8, Pushes}
+use Rattle.nf_normalizer.proofs.Common.{◌≡◌, ◌≤◌, ◌+◌, ◌*◌, ℕ, List, ◌++◌, take, length, Form, run_len, StandsAfter, Start, Holds, run_behind, front_utf8, Pushes}
 use Rattle.nf_normalizer.proofs.pushing.push_members.Given as goal
 
 abbrev pub invariant-loop-c : goal.invariant-loop-c

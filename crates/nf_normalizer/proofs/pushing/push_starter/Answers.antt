@@ -1,7 +1,4 @@
-use Rattle.std.proofs.Common.{sym, ap, ◌∙◌, encode_utf8_all}
-use Rattle.std.proofs.lemmas.Str.{encodes-append}
-use Rattle.nf_forms.specs.Front.{front}
-use Rattle.nf_forms.specs.Forms.{finished}
+use Rattle.nf_normalizer.proofs.Common.{sym, ap, ◌∙◌, encode_utf8_all, encodes-append, front, finished}
 use Rattle.nf_normalizer.proofs.RoomLemmas.{Holds-at, Holds-more}
 use Rattle.nf_normalizer.proofs.pushing.push_starter.Goals as goal
 

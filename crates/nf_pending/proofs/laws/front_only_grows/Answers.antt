@@ -1,5 +1,4 @@
-use Rattle.nf_forms.specs.Forms.{composes}
-use Rattle.nf_forms.specs.Laws.Settling.{front-append}
+use Rattle.nf_pending.proofs.Common.{composes, front-append}
 use Rattle.nf_pending.proofs.laws.front_only_grows.Goals as goal
 
 pub returns : goal.returns

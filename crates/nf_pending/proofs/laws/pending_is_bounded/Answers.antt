@@ -1,9 +1,4 @@
-use Rattle.std.proofs.Common.{ap, length, arith}
-use Rattle.std.proofs.lemmas.List.{length-append}
-use Rattle.nf_forms.specs.Front.{front, back}
-use Rattle.nf_forms.specs.Forms.{composes, finished}
-use Rattle.nf_forms.specs.Laws.Front.{front-append-back}
-use Rattle.nf_forms.specs.Laws.Settling.{length-back}
+use Rattle.nf_pending.proofs.Common.{ap, length, arith, length-append, front, back, composes, finished, front-append-back, length-back}
 use Rattle.nf_pending.proofs.laws.pending_is_bounded.Goals as goal
 
 pub returns : goal.returns

@@ -1,8 +1,4 @@
-use Rattle.std.proofs.Common.{sym, ap, ◌∙◌}
-use Rattle.nf_forms.specs.Laws.StreamSafe.{sound-stream_safe}
-use Rattle.nf_safe.specs.Count.{passes}
-use Rattle.nf_safe.specs.Laws.Count.{trail-stream_safe}
-use Rattle.nf_safe.specs.Laws.Place.{is_in_format-stream_safe}
+use Rattle.nf_safe.proofs.Common.{sym, ap, ◌∙◌, sound-stream_safe, passes, trail-stream_safe, is_in_format-stream_safe}
 use Rattle.nf_safe.proofs.laws.one_count_decides.Goals as goal
 
 pub returns-clause-sound : goal.returns-clause-sound

@@ -1,6 +1,5 @@
-use Rattle.nf_safe.specs.Place.{is_in_format}
+use Rattle.nf_safe.proofs.Common.{is_in_format, is_in_format-none, is_in_format-take, place-in_format, place-none}
 use Rattle.nf_safe.specs.Laws.LongestFront.{longest_front_is}
-use Rattle.nf_safe.specs.Laws.Place.{is_in_format-none, is_in_format-take, place-in_format, place-none}
 use Rattle.nf_safe.proofs.laws.place_is_longest_front.Goals as goal
 
 pub returns-clause-longest : goal.returns-clause-longest

@@ -1,6 +1,4 @@
-use Rattle.std.proofs.Common.{◌≡◌, ◌≤◌, take}
-use Rattle.std.specs.Fmt.{is_char_start}
-use Rattle.std.specs.List.{count_by}
+use Rattle.nf_utf8.proofs.Common.{◌≡◌, ◌≤◌, take, is_char_start, count_by}
 use Rattle.nf_utf8.proofs.counting.starts_by_bytes.Given as goal
 
 abbrev pub invariant-loop-byte : goal.invariant-loop-byte

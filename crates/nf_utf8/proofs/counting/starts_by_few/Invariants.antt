@@ -1,6 +1,4 @@
-use Rattle.std.proofs.Common.{◌≡◌, ◌-◌, ◌≤◌, length, take}
-use Rattle.std.specs.Fmt.{is_char_start}
-use Rattle.std.specs.List.{count_by}
+use Rattle.nf_utf8.proofs.Common.{◌≡◌, ◌-◌, ◌≤◌, length, take, is_char_start, count_by}
 use Rattle.nf_utf8.proofs.counting.starts_by_few.Given as goal
 
 abbrev pub invariant-loop-at : goal.invariant-loop-at

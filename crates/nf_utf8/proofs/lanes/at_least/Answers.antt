@@ -1,5 +1,4 @@
-use Rattle.std.proofs.Common.{leb, replicate, ◌∙◌, arith, w8}
-use Rattle.std.proofs.lemmas.Simd.{tops_compared, zip2_splat_left}
+use Rattle.nf_utf8.proofs.Common.{leb, replicate, ◌∙◌, arith, w8, tops_compared, zip2_splat_left}
 use Rattle.nf_utf8.proofs.AsciiLemmas.{mask_is}
 use Rattle.nf_utf8.proofs.lanes.at_least.Goals as goal
 

@@ -1,5 +1,4 @@
-use Rattle.std.proofs.Common.{ltb, arith, w8}
-use Rattle.std.proofs.lemmas.Simd.{bitmask_splat}
+use Rattle.nf_utf8.proofs.Common.{ltb, arith, w8, bitmask_splat}
 use Rattle.nf_utf8.proofs.lanes.below.Goals as goal
 
 pub returns : goal.returns

@@ -1,7 +1,4 @@
-use Rattle.std.proofs.Common.{◌≡◌, ◌+◌, [], length, drop, refl, sym, subst, ap, chars, IsUtf8, arith, ◌∙◌}
-use Rattle.std.proofs.lemmas.List.{take_rest}
-use Rattle.std.proofs.lemmas.Str.{IsUtf8-nil, chars-encodes}
-use Rattle.nf_utf8.specs.Mending.{IsReplacedFront, IsStretch}
+use Rattle.nf_utf8.proofs.Common.{◌≡◌, ◌+◌, [], length, drop, refl, sym, subst, ap, chars, IsUtf8, arith, ◌∙◌, take_rest, IsUtf8-nil, chars-encodes, IsReplacedFront, IsStretch}
 use Rattle.nf_utf8.proofs.MendingLemmas.{no_front, IsMendedWith, one_stretch}
 use Rattle.nf_utf8.proofs.mending.mend_front.Goals as goal
 

@@ -1,5 +1,4 @@
-use Rattle.std.proofs.Common.{◌≤◌, ◌-◌, chars, length, IsUtf8}
-use Rattle.nf_utf8.specs.Mending.{IsReplacedFront}
+use Rattle.nf_utf8.proofs.Common.{◌≤◌, ◌-◌, chars, length, IsUtf8, IsReplacedFront}
 use Rattle.nf_utf8.proofs.mending.mend_front.Given as goal
 
 abbrev pub invariant-loop-stretch : goal.invariant-loop-stretch

@@ -1,5 +1,4 @@
-use Rattle.std.proofs.Common.{◌+◌, List, ℕ, take, drop, refl, sym, ap, ◌∙◌}
-use Rattle.std.specs.Str.Lossy.{utf8_error_len}
+use Rattle.nf_utf8.proofs.Common.{◌+◌, List, ℕ, take, drop, refl, sym, ap, ◌∙◌, utf8_error_len}
 use Rattle.nf_utf8.proofs.LossyLemmas.{is_told}
 use Rattle.nf_utf8.proofs.MendingLemmas.{stretch_is}
 use Rattle.nf_utf8.proofs.mending.short_stretch.Goals as goal

@@ -1,5 +1,4 @@
-use Rattle.std.proofs.Common.{sym, ◌∙◌, arith}
-use Rattle.std.proofs.lemmas.List.{take_rest}
+use Rattle.nf_utf8.proofs.Common.{sym, ◌∙◌, arith, take_rest}
 use Rattle.nf_utf8.proofs.TextLen.{text_len-split, text_len-all}
 use Rattle.nf_utf8.proofs.LossyLemmas.{text_len-front}
 use Rattle.nf_utf8.proofs.valid.valid_len.Goals as goal

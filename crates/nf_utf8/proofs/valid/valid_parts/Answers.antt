@@ -1,5 +1,4 @@
-use Rattle.std.proofs.Common.{◌-◌, ◌≤◌, drop, arith, length-drop, length-take, take-take}
-use Rattle.std.proofs.str.Valid.{longer}
+use Rattle.nf_utf8.proofs.Common.{◌-◌, ◌≤◌, drop, arith, length-drop, length-take, take-take, longer}
 use Rattle.nf_utf8.proofs.TextLen.{front_to}
 use Rattle.nf_utf8.proofs.valid.valid_parts.Goals as goal
 

@@ -1,6 +1,4 @@
-use Rattle.std.proofs.Common.{◌≡◌, Err, refl, sym, ◌∙◌}
-use Rattle.std.proofs.lemmas.Bool.{false≢true}
-use Rattle.nf_filter.specs.declared.fault.Fault.TheVariants.{Write}
+use Rattle.nf_filter.proofs.Common.{◌≡◌, Err, refl, sym, ◌∙◌, false≢true, Write}
 use Rattle.nf_filter.proofs.TextLemmas.{Puts-emptied}
 use Rattle.nf_filter.proofs.block.Block.close.Goals as goal
 

@@ -1,7 +1,4 @@
-use Rattle.std.proofs.Common.{◌≡◌, List, ℕ, [], ◌++◌, sym, ap, ◌∙◌, append-nil}
-use Rattle.nf_filter.specs.Devices.{SinkState}
-use Rattle.nf_filter.specs.Writes.{Puts, BreaksOff}
-use Rattle.nf_filter.specs.Block.{Start, BlockState, Written}
+use Rattle.nf_filter.proofs.Common.{◌≡◌, List, ℕ, [], ◌++◌, sym, ap, ◌∙◌, append-nil, SinkState, Puts, BreaksOff, Start, BlockState, Written}
 use Rattle.nf_filter.proofs.WritesLemmas.{Puts-join, Puts-behind, BreaksOff-join, BreaksOff-behind}
 use Rattle.nf_filter.proofs.block.Block.empty.Goals as goal
 

@@ -1,8 +1,4 @@
-use Rattle.std.proofs.Common.{◌≡◌, ℕ, List, [], ◌++◌, refl, sym, ap, ◌∙◌, append-nil, append_assoc, Result, Ok, Err, MatchResult}
-use Rattle.nf_filter.specs.declared.devices.Failed.{Failed}
-use Rattle.nf_filter.specs.Devices.{SinkState}
-use Rattle.nf_filter.specs.Writes.{Puts, BreaksOff}
-use Rattle.nf_filter.specs.Block.{Start, BlockState, Written, WritesOn}
+use Rattle.nf_filter.proofs.Common.{◌≡◌, ℕ, List, [], ◌++◌, refl, sym, ap, ◌∙◌, append-nil, append_assoc, Result, Ok, Err, MatchResult, Failed, SinkState, Puts, BreaksOff, Start, BlockState, Written, WritesOn}
 use Rattle.nf_filter.proofs.WritesLemmas.{Puts-join, Puts-behind, BreaksOff-join, BreaksOff-behind}
 use Rattle.nf_filter.proofs.BlockLemmas.{Broken-extends}
 use Rattle.nf_filter.proofs.block.Block.push_text.Goals as goal

@@ -1,11 +1,4 @@
-use Rattle.std.proofs.Common.{◌≡◌, List, ℕ, [], ◌++◌, Ok, Err, refl, sym, ap, ◌∙◌, append-nil, Result, MatchResult, encode_utf8_all}
-use Rattle.nf_forms.specs.SafeForm.{safe_form}
-use Rattle.nf_normalizer.specs.Room.{Start as Given}
-use Rattle.nf_filter.specs.declared.devices.Failed.{Failed}
-use Rattle.nf_filter.specs.Devices.{SinkState}
-use Rattle.nf_filter.specs.Writes.{Puts, BreaksOff}
-use Rattle.nf_filter.specs.Block.{BlockState, WritesOn}
-use Rattle.nf_filter.specs.Counted.{settled_text}
+use Rattle.nf_filter.proofs.Common.{◌≡◌, List, ℕ, [], ◌++◌, Ok, Err, refl, sym, ap, ◌∙◌, append-nil, Result, MatchResult, encode_utf8_all, safe_form, Given, Failed, SinkState, Puts, BreaksOff, BlockState, WritesOn, settled_text}
 use Rattle.nf_filter.proofs.WritesLemmas.{Puts-none}
 use Rattle.nf_filter.proofs.BlockLemmas.{start_at}
 use Rattle.nf_filter.proofs.TextLemmas.{Puts-emptied}

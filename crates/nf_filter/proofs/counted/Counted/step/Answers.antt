@@ -1,6 +1,4 @@
-use Rattle.std.proofs.Common.{◌+◌, ◌-◌, ◌++◌, refl, ap, ◌∙◌, arith, rules, append_assoc, length, length-append, chars, IsUtf8}
-use Rattle.nf_filter.specs.declared.counted.Counted.{Counted}
-use Rattle.nf_filter.specs.Block.{block_state}
+use Rattle.nf_filter.proofs.Common.{◌+◌, ◌-◌, ◌++◌, refl, ap, ◌∙◌, arith, rules, append_assoc, length, length-append, chars, IsUtf8, Counted, block_state}
 use Rattle.nf_filter.proofs.TakingLemmas.{front_len, placed-first, placed-behind}
 use Rattle.nf_filter.proofs.SteppingLemmas.{first-left, written-all, Standing-moved, Standing-failed, step-refused, step-stands, step-failed, given_to, apart}
 use Rattle.nf_filter.proofs.counted.Counted.step.Goals as goal

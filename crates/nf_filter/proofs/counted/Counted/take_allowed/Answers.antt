@@ -1,8 +1,4 @@
-use Rattle.std.proofs.Common.{◌≡◌, ◌+◌, ◌<◌, ◌∷◌, ◌++◌, length, Ok, sym, ap, ◌∙◌, subst, arith, rules, append_assoc, length-append, chars, IsUtf8}
-use Rattle.std.proofs.lemmas.Str.{encodes-chars}
-use Rattle.nf_filter.specs.Block.{block_state}
-use Rattle.nf_filter.specs.Counted.{TakesOn}
-use Rattle.nf_filter.specs.Policy.{allowed}
+use Rattle.nf_filter.proofs.Common.{◌≡◌, ◌+◌, ◌<◌, ◌∷◌, ◌++◌, length, Ok, sym, ap, ◌∙◌, subst, arith, rules, append_assoc, length-append, chars, IsUtf8, encodes-chars, block_state, TakesOn, allowed}
 use Rattle.nf_filter.proofs.BlockLemmas.{Written-at}
 use Rattle.nf_filter.proofs.TextLemmas.{usable_utf8-usable}
 use Rattle.nf_filter.proofs.TakingLemmas.{placed-within, front-whole}

@@ -1,8 +1,4 @@
-use Rattle.std.proofs.Common.{◌≡◌, ℕ, ◌+◌, ◌≤◌, [], ◌∷◌, ◌++◌, length, refl, arith, append_assoc, Result, Ok, Err, OnOk, chars}
-use Rattle.std.proofs.lemmas.Str.{length-encode, len_utf8_bounds}
-use Rattle.nf_utf8.specs.Taking.{first_bytes}
-use Rattle.nf_filter.specs.declared.fault.Fault.{Fault}
-use Rattle.nf_filter.specs.Block.{block_state}
+use Rattle.nf_filter.proofs.Common.{◌≡◌, ℕ, ◌+◌, ◌≤◌, [], ◌∷◌, ◌++◌, length, refl, arith, append_assoc, Result, Ok, Err, OnOk, chars, length-encode, len_utf8_bounds, first_bytes, Fault, block_state}
 use Rattle.nf_filter.proofs.CalmLemmas.{few}
 use Rattle.nf_filter.proofs.CharsLemmas.{utf8_len-push}
 use Rattle.nf_filter.proofs.TakingLemmas.{is_none, HasPlaces-all, placed-behind, placed-within}

@@ -1,7 +1,4 @@
-use Rattle.std.proofs.Common.{◌≡◌, ℕ, List, encode_utf8_all, length-append, ◌++◌, [], ◌∷◌, refl, sym, ap, subst, arith, ◌∙◌, length, rules}
-use Rattle.nf_filter.specs.Block.{block_state}
-use Rattle.nf_filter.specs.Counted.{IsPlacedAt}
-use Rattle.nf_filter.specs.Feeding.{TakesAllowed}
+use Rattle.nf_filter.proofs.Common.{◌≡◌, ℕ, List, encode_utf8_all, length-append, ◌++◌, [], ◌∷◌, refl, sym, ap, subst, arith, ◌∙◌, length, rules, block_state, IsPlacedAt, TakesAllowed}
 use Rattle.nf_filter.proofs.TakingLemmas.{chars_of_one}
 use Rattle.nf_filter.proofs.counted.Counted.take_one.Goals as goal
 

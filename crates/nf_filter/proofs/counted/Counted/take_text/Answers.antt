@@ -1,7 +1,4 @@
-use Rattle.std.proofs.Common.{◌≡◌, [], ◌∷◌, ◌++◌, append_assoc, length-append, encode_utf8_all, length, rules, refl, sym, ap, subst, arith, ◌∙◌, chars, Err}
-use Rattle.std.proofs.lemmas.Str.{encodes-append}
-use Rattle.nf_filter.specs.Block.{block_state}
-use Rattle.nf_filter.specs.Counted.{TakesOn}
+use Rattle.nf_filter.proofs.Common.{◌≡◌, [], ◌∷◌, ◌++◌, append_assoc, length-append, encode_utf8_all, length, rules, refl, sym, ap, subst, arith, ◌∙◌, chars, Err, encodes-append, block_state, TakesOn}
 use Rattle.nf_filter.proofs.TakingLemmas.{front_len, front-behind, front-more, placed-behind}
 use Rattle.nf_filter.proofs.SteppingLemmas.{StandsInFront-none, StandsInFront-more, TakesOn-whole, first-left}
 use Rattle.nf_filter.proofs.counted.Counted.take_text.Goals as goal

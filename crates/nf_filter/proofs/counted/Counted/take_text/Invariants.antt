@@ -1,10 +1,4 @@
-use Rattle.std.proofs.Common.{◌≡◌, ℕ, ◌+◌, ◌≤◌, List, ◌++◌, length}
-use Rattle.std.specs.Str.{IsUtf8, chars as characters}
-use Rattle.nf_forms.specs.declared.form.Form.{Form}
-use Rattle.nf_normalizer.specs.Normalizer.{IsWithin}
-use Rattle.nf_filter.specs.Block.{Start, block_state}
-use Rattle.nf_filter.specs.Counted.{IsPlacedAt}
-use Rattle.nf_filter.specs.Stepping.{Standing, StandsInFront}
+use Rattle.nf_filter.proofs.Common.{◌≡◌, ℕ, ◌+◌, ◌≤◌, List, ◌++◌, length, IsUtf8, characters, Form, IsWithin, Start, block_state, IsPlacedAt, Standing, StandsInFront}
 use Rattle.nf_filter.proofs.counted.Counted.take_text.Given as goal
 
 abbrev pub invariant-loop-rest : goal.invariant-loop-rest

@@ -1,6 +1,5 @@
-use Rattle.std.proofs.Common.{[], refl, sym, subst, arith}
+use Rattle.nf_filter.proofs.Common.{[], refl, sym, subst, arith, as_is}
 use Rattle.nf_normalizer.specs.Normalizer.{HasTaken}
-use Rattle.nf_filter.specs.Policy.{as_is}
 use Rattle.nf_filter.proofs.ReadingLemmas.{holds_nothing}
 use Rattle.nf_filter.proofs.StandingLemmas.{StandsAfter-none}
 use Rattle.nf_filter.proofs.filter.Filter.fast.Goals as goal

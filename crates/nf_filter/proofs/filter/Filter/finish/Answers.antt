@@ -1,14 +1,4 @@
-use Rattle.std.proofs.Common.{◌≡◌, ℕ, ◌-◌, Bool, List, arith}
-use Rattle.nf_forms.specs.Properties.{Properties}
-use Rattle.nf_forms.specs.declared.form.Form.{Form}
-use Rattle.nf_filter.specs.declared.filter.State.{State}
-use Rattle.nf_filter.specs.declared.counted.Counted.{Counted}
-use Rattle.nf_filter.specs.declared.policy.Policy.{Policy}
-use Rattle.nf_filter.specs.declared.tally.Tally.{Tally}
-use Rattle.nf_filter.specs.Filter.{base_of, offset_of, StandsAfter}
-use Rattle.nf_filter.specs.Finishes.{tally_of}
-use Rattle.nf_filter.specs.Counted.{HasTaken}
-use Rattle.nf_filter.specs.Policy.{whole_under}
+use Rattle.nf_filter.proofs.Common.{◌≡◌, ℕ, ◌-◌, Bool, List, arith, Properties, Form, State, Counted, Policy, Tally, base_of, offset_of, StandsAfter, tally_of, HasTaken, whole_under}
 use Rattle.nf_filter.proofs.FilterLemmas.{StandsAfter-offset, read_before, no_fault_before}
 use Rattle.nf_filter.proofs.JoinedLemmas.{joins_pieces}
 use Rattle.nf_filter.proofs.FinishLemmas.{Finishes-whole, Finishes-broken}

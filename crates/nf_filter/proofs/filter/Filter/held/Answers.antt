@@ -1,5 +1,4 @@
-use Rattle.std.proofs.Common.{[], ◌++◌, arith, length-append}
-use Rattle.nf_utf8.specs.Reading.{text_of}
+use Rattle.nf_filter.proofs.Common.{[], ◌++◌, arith, length-append, text_of}
 use Rattle.nf_filter.proofs.StandingLemmas.{taken-text, taken-len}
 use Rattle.nf_filter.proofs.filter.Filter.held.Goals as goal
 

@@ -1,5 +1,4 @@
-use Rattle.std.proofs.Common.{refl, arith}
-use Rattle.nf_filter.specs.Policy.{as_is}
+use Rattle.nf_filter.proofs.Common.{refl, arith, as_is}
 use Rattle.nf_filter.proofs.ReadingLemmas.{holds_nothing}
 use Rattle.nf_filter.proofs.StandingLemmas.{StandsAfter-none}
 use Rattle.nf_filter.proofs.filter.Filter.new.Goals as goal

@@ -1,5 +1,4 @@
-use Rattle.std.proofs.Common.{refl}
-use Rattle.nf_filter.specs.Filter.{state_of}
+use Rattle.nf_filter.proofs.Common.{refl, state_of}
 use Rattle.nf_filter.proofs.StandingLemmas.{StandsAfter-none, nothing_read, nothing_taken}
 use Rattle.nf_filter.proofs.filter.Filter.policy.Goals as goal
 

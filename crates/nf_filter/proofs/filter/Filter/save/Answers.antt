@@ -1,8 +1,4 @@
-use Rattle.std.proofs.Common.{◌≡◌, ◌+◌, ◌≤◌, length, subst, ap, arith, rules, encode_utf8_all, length-append}
-use Rattle.nf_forms.specs.StreamSafe.{max_run}
-use Rattle.nf_utf8.specs.Reading.{text_of, rest_of}
-use Rattle.nf_filter.specs.Filter.{rows_of}
-use Rattle.nf_filter.specs.Saved.{saved_of, IsRestorable}
+use Rattle.nf_filter.proofs.Common.{◌≡◌, ◌+◌, ◌≤◌, length, subst, ap, arith, rules, encode_utf8_all, length-append, max_run, text_of, rest_of, rows_of, saved_of, IsRestorable}
 use Rattle.nf_filter.proofs.SavedLemmas.{IsRestorable-spent, IsRestorable-stands}
 use Rattle.nf_filter.proofs.filter.Filter.save.Goals as goal
 

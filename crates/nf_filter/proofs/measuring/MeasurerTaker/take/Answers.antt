@@ -1,7 +1,4 @@
-use Rattle.std.proofs.Common.{◌≡◌, ◌+◌, [], ◌∷◌, ◌++◌, length, Err, sym, ◌∙◌, arith, append_assoc, encode_utf8_all, chars}
-use Rattle.std.proofs.lemmas.Str.{length-encode}
-use Rattle.nf_filter.specs.declared.fault.Fault.TheVariants.{Row}
-use Rattle.nf_filter.specs.declared.taker.Stop.TheVariants.{Refused}
+use Rattle.nf_filter.proofs.Common.{◌≡◌, ◌+◌, [], ◌∷◌, ◌++◌, length, Err, sym, ◌∙◌, arith, append_assoc, encode_utf8_all, chars, length-encode, Row, Refused}
 use Rattle.nf_filter.proofs.CharsLemmas.{utf8_len-push}
 use Rattle.nf_filter.proofs.MeasuresLemmas.{TakesText-seen, went_on_so, refusal_at}
 use Rattle.nf_filter.proofs.TakingLemmas.{is_none}

@@ -1,8 +1,4 @@
-use Rattle.std.proofs.Common.{◌≡◌, ◌+◌, ◌-◌, length, ap, arith, encode_utf8_all, length-append}
-use Rattle.nf_utf8.specs.Reading.{text_of, rest_of}
-use Rattle.nf_filter.specs.declared.fault.Fault.{Fault}
-use Rattle.nf_filter.specs.declared.fault.Fault.TheVariants.{Write}
-use Rattle.nf_filter.specs.Surveys.{IsCut}
+use Rattle.nf_filter.proofs.Common.{◌≡◌, ◌+◌, ◌-◌, length, ap, arith, encode_utf8_all, length-append, text_of, rest_of, Fault, Write, IsCut}
 use Rattle.nf_filter.proofs.FinishLemmas.{close-strict, close-replaced}
 use Rattle.nf_filter.proofs.reading.Reading.close.Goals as goal
 

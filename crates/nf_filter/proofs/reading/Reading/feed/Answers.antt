@@ -1,5 +1,4 @@
-use Rattle.std.proofs.Common.{◌++◌, refl}
-use Rattle.nf_filter.specs.Settled.{settled_utf8}
+use Rattle.nf_filter.proofs.Common.{◌++◌, refl, settled_utf8}
 use Rattle.nf_filter.proofs.BlockLemmas.{start_at, Written-none}
 use Rattle.nf_filter.proofs.FedLemmas.{reads-more, fed-writes, fed-closed}
 use Rattle.nf_filter.proofs.reading.Reading.feed.Goals as goal

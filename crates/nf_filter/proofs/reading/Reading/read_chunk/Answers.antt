@@ -1,8 +1,4 @@
-use Rattle.std.proofs.Common.{◌≡◌, ◌+◌, ◌-◌, ◌≤◌, true, ◌++◌, length, take, drop, refl, sym, ◌∙◌, arith, chars, length-drop, take_all}
-use Rattle.std.proofs.lemmas.Bool.{not-false, not-true}
-use Rattle.nf_utf8.specs.Reading.{text_of}
-use Rattle.nf_utf8.specs.Taking.{first_bytes, first_text}
-use Rattle.nf_filter.specs.Policy.{len_under}
+use Rattle.nf_filter.proofs.Common.{◌≡◌, ◌+◌, ◌-◌, ◌≤◌, true, ◌++◌, length, take, drop, refl, sym, ◌∙◌, arith, chars, length-drop, take_all, not-false, not-true, text_of, first_bytes, first_text, len_under}
 use Rattle.nf_filter.proofs.ReadingLemmas.{all_counted, ready_after, text_of-none}
 use Rattle.nf_filter.proofs.ChunkLemmas.{chunk-placed, chunk-written, chunk-refused, chunk-read, chunk-bad, part_len_of, part_len_of-one, part_len_of-rest, part-placed, part-refused, part-read}
 use Rattle.nf_filter.proofs.reading.Reading.read_chunk.Goals as goal

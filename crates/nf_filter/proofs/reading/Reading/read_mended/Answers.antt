@@ -1,6 +1,4 @@
-use Rattle.std.proofs.Common.{refl, chars, length, arith, ap}
-use Rattle.std.proofs.lemmas.List.{take_rest}
-use Rattle.nf_filter.specs.Block.{block_state}
+use Rattle.nf_filter.proofs.Common.{refl, chars, length, arith, ap, take_rest, block_state}
 use Rattle.nf_filter.proofs.TakingLemmas.{HasPlaces-all}
 use Rattle.nf_filter.proofs.MendingLemmas.{place_behind, placed_behind, counted_before, standing_before, mended-read, mended-refused}
 use Rattle.nf_filter.proofs.reading.Reading.read_mended.Goals as goal

@@ -1,6 +1,5 @@
-use Rattle.std.proofs.Common.{◌≡◌, ◌<◌, length, rules, ◌∙◌, arith}
+use Rattle.nf_filter.proofs.Common.{◌≡◌, ◌<◌, length, rules, ◌∙◌, arith, nil_from_length}
 use Rattle.nf_filter.proofs.FedLemmas.{left_of-less}
-use Rattle.std.proofs.lemmas.List.{nil_from_length}
 use Rattle.nf_filter.proofs.reading.Reading.read_rest.Goals as goal
 
 pub loop-left-smaller : goal.loop-left-smaller

@@ -1,9 +1,4 @@
-use Rattle.std.proofs.Common.{◌≡◌, ℕ, ◌+◌, List, length}
-use Rattle.nf_forms.specs.declared.form.Form.{Form}
-use Rattle.nf_filter.specs.Block.{Start, block_state}
-use Rattle.nf_filter.specs.Feeding.{ReadsTo}
-use Rattle.nf_filter.specs.Counted.{ends_at}
-use Rattle.nf_filter.specs.Taker.{IsReady}
+use Rattle.nf_filter.proofs.Common.{◌≡◌, ℕ, ◌+◌, List, length, Form, Start, block_state, ReadsTo, ends_at, IsReady}
 use Rattle.nf_filter.proofs.FedLemmas.{left_of}
 use Rattle.nf_filter.proofs.reading.Reading.read_rest.Given as goal
 

@@ -1,7 +1,4 @@
-use Rattle.std.proofs.Common.{◌+◌, ◌-◌, ◌++◌, refl, arith}
-use Rattle.nf_utf8.specs.Reading.{text_of}
-use Rattle.nf_filter.specs.Policy.{len_under}
-use Rattle.nf_filter.specs.Settled.{settled_utf8}
+use Rattle.nf_filter.proofs.Common.{◌+◌, ◌-◌, ◌++◌, refl, arith, text_of, len_under, settled_utf8}
 use Rattle.nf_filter.proofs.BlockLemmas.{start_at, Written-none}
 use Rattle.nf_filter.proofs.CutLemmas.{cut-none, cut-placed, cut-written, cut-writes, cut-closed}
 use Rattle.nf_filter.proofs.reading.Reading.replace_cut.Goals as goal

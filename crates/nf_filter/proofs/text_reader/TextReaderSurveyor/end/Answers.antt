@@ -1,5 +1,4 @@
-use Rattle.std.proofs.Common.{sym, ap, ◌∙◌, Ok, Err}
-use Rattle.nf_utf8.specs.Reading.{text_of, ending_of}
+use Rattle.nf_filter.proofs.Common.{sym, ap, ◌∙◌, Ok, Err, text_of, ending_of}
 use Rattle.nf_filter.proofs.ReadingLemmas.{end_is}
 use Rattle.nf_filter.proofs.text_reader.TextReaderSurveyor.end.Goals as goal
 

@@ -1,6 +1,4 @@
-use Rattle.std.proofs.Common.{length, sym, arith, length-append}
-use Rattle.nf_utf8.specs.Reading.{text_of}
-use Rattle.nf_utf8.specs.Taking.{first_bytes}
+use Rattle.nf_filter.proofs.Common.{length, sym, arith, length-append, text_of, first_bytes}
 use Rattle.nf_filter.proofs.ReadingLemmas.{ends_well, all_behind, all_counted, ready_after, text_is, none_decided}
 use Rattle.nf_filter.proofs.text_reader.TextReaderSurveyor.take.Goals as goal
 

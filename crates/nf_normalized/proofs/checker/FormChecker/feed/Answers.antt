@@ -1,20 +1,5 @@
-use Rattle.std.proofs.Common.{subst, [], ◌∷◌, ◌⊎◌, ◌≡◌, ◌<◌, ◌+◌, ◌++◌, ◌^◌, Bool, false, ℕ, List, IsTrue, option_map, inl, inr, ⊎_elim, true, length, refl, sym, ap, ◌∙◌, arith, is_some, Ok, Err, append_assoc, length-append}
-use Rattle.std.proofs.lemmas.Bool.{cases_lt, false_from_ne_true}
-use Rattle.std.proofs.Math.Logic.{∥∥₁_elim, ∥∥₁_map}
-use Rattle.std.specs.Coded.{le_prop}
-use Rattle.std.specs.Result.{result_err}
-use Rattle.nf_forms.specs.Ucd.{ucd}
-use Rattle.nf_forms.specs.declared.form.Form.{Form}
-use Rattle.nf_filter.specs.Faults.{fault_in}
-use Rattle.nf_filter.specs.Filter.{state_of, base_of, is_spent, offset_of}
-use Rattle.nf_filter.specs.Kinds.{spent, too_long, ill_formed, unassigned}
-use Rattle.nf_filter.specs.declared.fault.Fault.TheVariants.{TooLong}
-use Rattle.nf_normalized.specs.Change.{under}
-use Rattle.nf_normalized.specs.Checker.{filter_state, IsOfPiece}
-use Rattle.nf_normalized.specs.Comparing.{left}
-use Rattle.nf_normalized.specs.Holds.{Holds}
+use Rattle.nf_normalized.proofs.Common.{subst, [], ◌∷◌, ◌⊎◌, ◌≡◌, ◌<◌, ◌+◌, ◌++◌, ◌^◌, Bool, false, ℕ, List, IsTrue, option_map, inl, inr, ⊎_elim, true, length, refl, sym, ap, ◌∙◌, arith, is_some, Ok, Err, append_assoc, length-append, cases_lt, false_from_ne_true, ∥∥₁_elim, ∥∥₁_map, le_prop, result_err, ucd, Form, fault_in, state_of, base_of, is_spent, offset_of, spent, too_long, ill_formed, unassigned, TooLong, under, filter_state, IsOfPiece, left, Holds, StandsAfter-offset}
 use Rattle.nf_normalized.proofs.BytesLemmas.{Known}
-use Rattle.nf_filter.proofs.FilterLemmas.{StandsAfter-offset}
 use Rattle.nf_normalized.proofs.CheckerLemmas.{written, held_few}
 use Rattle.nf_normalized.proofs.ComparingLemmas.{none_is}
 use Rattle.nf_normalized.proofs.CallLemmas.{stable, ok_or, same_fault, parted_apart, holds_some, room, Call, piece_kinds, parted_decides, split_now, unparted_decides}
@@ -95,7 +80,7 @@ joined-self-requires c =
     let few = ∥∥₁_elim (holds_some c.args.self.now (sym c.is_some.ensures ∙ c.if-is_some.false) (λ ended. ok_or (sym c.in_default.is ∙ c.feed-fed.ensures.spent.1 ended))) le_prop (λ h.
     held_few (known at) (holds_now at (sym c.has_parted.ensures ∙ c.if-has_parted.false) c.in_default.is h.holds refl)
     c.longest_text.ensures c.replacing.ensures c.every_character_is_sound.ensures.text c.little_is_kept.ensures) in
-    omega (arith, few, length-append c.left.result.0.now c.left.result.1.now, ap length c.left.ensures)
+    omega (arith, few, length-append c.left.result.0.now c.left.result.1.now, ap length c.left.ensures.left)
 
 pub invariant_of-self-2 : goal.invariant_of-self-2
 invariant_of-self-2 c = record {
@@ -105,7 +90,7 @@ invariant_of-self-2 c = record {
         assigned = h.assigned;
         form = h.form;
         bytes = h.bytes ++ c.args.piece.now;
-        holds = holds_now at (sym c.has_parted.ensures ∙ c.if-has_parted.false) c.in_default.is h.holds (sym (c.joined-self.ensures ∙ c.left.ensures));
+        holds = holds_now at (sym c.has_parted.ensures ∙ c.if-has_parted.false) c.in_default.is h.holds (sym (c.joined-self.ensures ∙ c.left.ensures.left));
       });
 }
 
@@ -120,5 +105,5 @@ returns-clause-stands c = λ assigned f base bytes stands ok. record {
   none = none_is c.args.self.now.place (sym c.is_some.ensures ∙ c.if-is_some.false);
   undecided = sym (returns-clause-decides c assigned f base bytes stands (λ e. cc));
   base_is = c.feed-fed.ensures.base ∙ stands.base_is;
-  holds = holds_now (goal.at.returns-clause-stands c).After-feed-fed (sym c.has_parted.ensures ∙ c.if-has_parted.false) c.in_default.is stands.holds (sym (c.joined-self.ensures ∙ c.left.ensures));
+  holds = holds_now (goal.at.returns-clause-stands c).After-feed-fed (sym c.has_parted.ensures ∙ c.if-has_parted.false) c.in_default.is stands.holds (sym (c.joined-self.ensures ∙ c.left.ensures.left));
 }

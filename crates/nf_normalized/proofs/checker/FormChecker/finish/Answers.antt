@@ -1,18 +1,5 @@
-use Rattle.std.proofs.Common.{subst, [], ◌∷◌, ◌≡◌, ◌++◌, Bool, false, ℕ, List, sym, ap, ◌∙◌, arith, None, append-nil}
-use Rattle.std.proofs.lemmas.Bool.{eqb-true, eqb-false}
-use Rattle.std.proofs.Math.Logic.{∥∥₁_elim}
-use Rattle.std.specs.Coded.{le_prop}
-use Rattle.nf_forms.specs.Ucd.{ucd}
-use Rattle.nf_forms.specs.declared.form.Form.{Form}
-use Rattle.nf_utf8.specs.Reading.{ending_of}
-use Rattle.nf_filter.specs.Faults.{answer_at_end}
-use Rattle.nf_filter.specs.Filter.{base_of}
-use Rattle.nf_filter.specs.Finishes.{final_utf8, end_of, tally_of}
-use Rattle.nf_filter.specs.Kinds.{spent, cut}
-use Rattle.nf_normalized.specs.Change.{under}
-use Rattle.nf_normalized.specs.Checker.{filter_state, IsOfEnd}
-use Rattle.nf_normalized.specs.Holds.{Holds}
-use Rattle.nf_filter.proofs.FilterLemmas.{StandsAfter-offset}
+use Rattle.nf_normalized.proofs.Common.{subst, [], ◌∷◌, ◌≡◌, ◌++◌, Bool, false, ℕ, List, sym, ap, ◌∙◌, arith, None, append-nil, eqb-true, eqb-false, ∥∥₁_elim, le_prop, ucd, Form, ending_of, answer_at_end, base_of, final_utf8, end_of, tally_of, spent, under, filter_state, IsOfEnd, Holds, StandsAfter-offset}
+use Rattle.nf_filter.specs.Kinds.{cut}
 use Rattle.nf_normalized.proofs.CheckerLemmas.{written, no_fault_parts}
 use Rattle.nf_normalized.proofs.CallLemmas.{stable, same_fault, ok_or, parted_apart, holds_some, room, Call, told, Due, due_at, fault_end, done_end, short_end, parted_end}
 use Rattle.nf_normalized.proofs.checker.FormChecker.finish.Goals as goal

@@ -1,5 +1,4 @@
-use Rattle.std.proofs.Common.{[], ◌∙◌, refl}
-use Rattle.nf_filter.specs.Filter.{state_of}
+use Rattle.nf_normalized.proofs.Common.{[], ◌∙◌, refl, state_of}
 use Rattle.nf_normalized.proofs.CheckerLemmas.{begins, undecided}
 use Rattle.nf_normalized.proofs.checker.FormChecker.new.Goals as goal
 

@@ -1,6 +1,4 @@
-use Rattle.std.proofs.Common.{sym, ◌∙◌, arith}
-use Rattle.nf_forms.specs.Forms.{decomposed}
-use Rattle.nf_forms.specs.StreamSafe.{stream_safe}
+use Rattle.nf_normalizer.proofs.Common.{sym, ◌∙◌, arith, decomposed, stream_safe}
 use Rattle.nf_normalizer.proofs.RoomLemmas.{Holds-at}
 use Rattle.nf_normalizer.proofs.CharacterLemmas.{counting-is, HasRoom-without, HasRoom-with, Parts-without, Parts-with, Parts-stopped, settled_text-front}
 use Rattle.nf_normalizer.proofs.normalizer.Normalizer.make_room.Goals as goal

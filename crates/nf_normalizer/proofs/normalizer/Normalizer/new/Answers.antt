@@ -1,5 +1,4 @@
-use Rattle.std.proofs.Common.{refl}
-use Rattle.nf_normalizer.specs.Laws.Settled.{is_usable-none}
+use Rattle.nf_normalizer.proofs.Common.{refl, is_usable-none}
 use Rattle.nf_normalizer.proofs.normalizer.Normalizer.new.Goals as goal
 
 pub returns-clause-taken : goal.returns-clause-taken

@@ -1,6 +1,4 @@
-use Rattle.std.proofs.Common.{[], sym, ◌∙◌, append-nil, encode_utf8_all}
-use Rattle.nf_normalizer.specs.Normalizer.{settled_text}
-use Rattle.nf_normalizer.specs.Laws.Settled.{is_usable-none}
+use Rattle.nf_normalizer.proofs.Common.{[], sym, ◌∙◌, append-nil, encode_utf8_all, settled_text, is_usable-none}
 use Rattle.nf_normalizer.proofs.RoomLemmas.{Holds-at, Holds-more}
 use Rattle.nf_normalizer.proofs.CharacterLemmas.{settled_text-rest}
 use Rattle.nf_normalizer.proofs.normalizer.Normalizer.settle.Goals as goal

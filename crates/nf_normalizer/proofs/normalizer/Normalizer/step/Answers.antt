@@ -1,10 +1,5 @@
-use Rattle.std.proofs.Common.{◌≡◌, ℕ, ◌+◌, ◌<◌, ◌≤◌, [], ◌++◌, length, List, Bool, true, false, Ok, Err, inl, inr, ⊎_elim, refl, sym, ap, subst, ◌∙◌, arith, rules, append_assoc, append-nil, chars, length-append}
-use Rattle.std.proofs.lemmas.List.{nil_from_length}
-use Rattle.std.proofs.lemmas.Str.{encodes-chars, length-le-encodes}
+use Rattle.nf_normalizer.proofs.Common.{◌≡◌, ℕ, ◌+◌, ◌<◌, ◌≤◌, [], ◌++◌, length, List, Bool, true, false, Ok, Err, inl, inr, ⊎_elim, refl, sym, ap, subst, ◌∙◌, arith, rules, append_assoc, append-nil, chars, length-append, nil_from_length, encodes-chars, length-le-encodes, Form, Stands, StepsTo, one_if, Start}
 use mir.Val.{bool_byte}
-use Rattle.nf_forms.specs.declared.form.Form.{Form}
-use Rattle.nf_normalizer.specs.Front.{Stands, StepsTo, one_if}
-use Rattle.nf_normalizer.specs.Room.{Start}
 use Rattle.nf_normalizer.proofs.FrontLemmas.{steps-on, StepsTo-none, StepsTo-more, leaves-all}
 use Rattle.nf_normalizer.proofs.normalizer.Normalizer.step.Given as given
 use Rattle.nf_normalizer.proofs.normalizer.Normalizer.step.Goals as goal

@@ -1,9 +1,5 @@
-use Rattle.std.proofs.Common.{◌≡◌, ◌+◌, ◌<◌, ◌≤◌, ◌⊎◌, ℕ, List, [], ◌++◌, length}
-use Rattle.std.specs.Str.{IsUtf8, chars as characters}
-use Rattle.nf_forms.specs.declared.form.Form.{Form}
-use Rattle.nf_normalizer.specs.Front.{Stands, StepsTo}
-use Rattle.nf_normalizer.specs.Normalizer.{IsWithin}
-use Rattle.nf_normalizer.specs.Room.{Start}
+use Rattle.nf_normalizer.proofs.Common.{◌≡◌, ◌+◌, ◌<◌, ◌≤◌, ◌⊎◌, ℕ, List, [], ◌++◌, length, IsUtf8, Form, Stands, StepsTo, IsWithin, Start}
+use Rattle.std.specs.Str.{chars as characters}
 use Rattle.nf_normalizer.proofs.normalizer.Normalizer.step.Given as goal
 
 abbrev pub invariant-loop-room : goal.invariant-loop-room

@@ -1,6 +1,4 @@
-use Rattle.std.proofs.Common.{◌≡◌, ◌+◌, ◌-◌, [], ◌∷◌, ◌++◌, length, take, drop, get_or, sym, ap, ◌∙◌, arith, append_assoc, encode_utf8_all, length-take, get_or-drop}
-use Rattle.std.proofs.lemmas.Str.{IsUtf8-from_ascii, IsCharBoundary-from_take}
-use Rattle.nf_normalizer.specs.Normalizer.{settled_text}
+use Rattle.nf_normalizer.proofs.Common.{◌≡◌, ◌+◌, ◌-◌, [], ◌∷◌, ◌++◌, length, take, drop, get_or, sym, ap, ◌∙◌, arith, append_assoc, encode_utf8_all, length-take, get_or-drop, IsUtf8-from_ascii, IsCharBoundary-from_take, settled_text}
 use Rattle.nf_normalizer.proofs.RoomLemmas.{Holds-at, Holds-more}
 use Rattle.nf_normalizer.proofs.AsciiLemmas.{joins-run, settled_text-run, HasTaken-run}
 use Rattle.nf_normalizer.proofs.normalizer.Normalizer.take_ascii.Goals as goal

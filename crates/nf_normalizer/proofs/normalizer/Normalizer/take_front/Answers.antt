@@ -1,6 +1,5 @@
-use Rattle.std.proofs.Common.{◌≡◌, [], ◌++◌, sym, ap, ◌∙◌, rules, encode_utf8}
+use Rattle.nf_normalizer.proofs.Common.{◌≡◌, [], ◌++◌, sym, ap, ◌∙◌, rules, encode_utf8, TakesNext}
 use Rattle.std.specs.Str.Iter.{chars_rest}
-use Rattle.nf_normalizer.specs.Normalizer.{TakesNext}
 use Rattle.nf_normalizer.proofs.FrontLemmas.{begins, leaves-one, takes-one, refuses-one}
 use Rattle.nf_normalizer.proofs.normalizer.Normalizer.take_front.Goals as goal
 use Rattle.nf_normalizer.proofs.normalizer.Normalizer.take_front.Goals.{in-Some, in-None+in_default}

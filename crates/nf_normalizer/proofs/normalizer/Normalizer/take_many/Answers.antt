@@ -1,6 +1,4 @@
-use Rattle.std.proofs.Common.{◌≡◌, ◌∙◌, ◌++◌, List, ℕ, [], take, length, ap, sym, subst, arith, rules, chars, inl, append-nil, length-take, length-drop}
-use Rattle.nf_boundary.specs.Front.{IsClosedFront}
-use Rattle.nf_normalizer.specs.Front.{Inside}
+use Rattle.nf_normalizer.proofs.Common.{◌≡◌, ◌∙◌, ◌++◌, List, ℕ, [], take, length, ap, sym, subst, arith, rules, chars, inl, append-nil, length-take, length-drop, IsClosedFront, Inside}
 use Rattle.nf_normalizer.proofs.FrontLemmas.{ascii_front, leaves-closed, takes-closed}
 use Rattle.nf_normalizer.proofs.normalizer.Normalizer.take_many.Goals as goal
 

@@ -1,6 +1,4 @@
-use Rattle.std.proofs.Common.{[], ◌∷◌, refl, sym}
-use Rattle.nf_forms.specs.Forms.{decomposed}
-use Rattle.nf_forms.specs.StreamSafe.{parted, stream_safe}
+use Rattle.nf_normalizer.proofs.Common.{[], ◌∷◌, refl, sym, decomposed, parted, stream_safe}
 use Rattle.nf_normalizer.proofs.CharacterLemmas.{row-known, ends-known, room_for-single, within-single, TakesChar-row}
 use Rattle.nf_normalizer.proofs.normalizer.Normalizer.take_own.Goals as goal
 

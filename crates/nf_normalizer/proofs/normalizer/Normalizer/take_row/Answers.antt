@@ -1,6 +1,4 @@
-use Rattle.std.proofs.Common.{refl, sym}
-use Rattle.nf_forms.specs.Forms.{row_of, decomposed}
-use Rattle.nf_forms.specs.StreamSafe.{parted, stream_safe}
+use Rattle.nf_normalizer.proofs.Common.{refl, sym, row_of, decomposed, parted, stream_safe}
 use Rattle.nf_normalizer.proofs.CharacterLemmas.{is_usable-unsound, TakesChar-row}
 use Rattle.nf_normalizer.proofs.normalizer.Normalizer.take_row.Goals as goal
 

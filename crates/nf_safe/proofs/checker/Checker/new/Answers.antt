@@ -1,5 +1,4 @@
-use Rattle.std.proofs.Common.{[], arith, sym, refl}
-use Rattle.nf_safe.specs.Laws.Place.{is_in_format-none, place_from-in_format}
+use Rattle.nf_safe.proofs.Common.{[], arith, sym, refl, is_in_format-none, place_from-in_format}
 use Rattle.nf_safe.proofs.checker.Checker.new.Goals as goal
 
 pub returns-clause-stands : goal.returns-clause-stands

@@ -1,7 +1,4 @@
-use Rattle.std.proofs.Common.{◌≡◌, ℕ, None, Some, refl, sym, ◌∙◌, rules, Option, option_map}
-use Rattle.nf_safe.specs.Place.{place, place_at}
-use Rattle.nf_safe.specs.Laws.Place.{place-none, place_from-in_format}
-use Rattle.nf_safe.specs.Laws.Pieces.{stream_safe-in_format, in_format-unchanged}
+use Rattle.nf_safe.proofs.Common.{◌≡◌, ℕ, None, Some, refl, sym, ◌∙◌, rules, Option, option_map, place, place_at, place-none, place_from-in_format, stream_safe-in_format, in_format-unchanged}
 use Rattle.nf_safe.proofs.checker.Checker.place.Goals as goal
 
 -- It stands so that a wrong body is refused at once: without it the prover would run once more, to offer an answer.

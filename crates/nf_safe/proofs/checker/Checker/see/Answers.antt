@@ -1,6 +1,4 @@
-use Rattle.std.proofs.Common.{◌≤◌, ◌+◌, length, ap, sym, ◌∙◌, refl, rules}
-use Rattle.nf_forms.specs.Sound.{max_row}
-use Rattle.nf_forms.specs.Laws.Sound.{IsSound-from_test}
+use Rattle.nf_safe.proofs.Common.{◌≤◌, ◌+◌, length, ap, sym, ◌∙◌, refl, rules, max_row, IsSound-from_test}
 use Rattle.nf_safe.proofs.CheckerLemmas.{stays, leaves, goes_on}
 use Rattle.nf_safe.proofs.checker.Checker.see.Goals as goal
 

@@ -1,9 +1,4 @@
-use Rattle.std.proofs.Common.{◌≡◌, ℕ, ◌+◌, Bool, List, true, false, sym, ap, ◌∙◌, arith, if◌then◌else◌, nat_lt, lt-ltb, le-ltb}
-use Rattle.nf_forms.specs.Properties.{Properties}
-use Rattle.nf_forms.specs.Runs.{has_starter, lead}
-use Rattle.nf_forms.specs.StreamSafe.{max_run}
-use Rattle.nf_safe.specs.Count.{passes, count_step}
-use Rattle.nf_safe.specs.Laws.Count.{count_step-starter, count_step-marks, trail-since_last-push}
+use Rattle.nf_safe.proofs.Common.{◌≡◌, ℕ, ◌+◌, Bool, List, true, false, sym, ap, ◌∙◌, arith, if◌then◌else◌, nat_lt, lt-ltb, le-ltb, Properties, has_starter, lead, max_run, passes, count_step, count_step-starter, count_step-marks, trail-since_last-push}
 use Rattle.nf_safe.proofs.counter.Counter.step_by.Goals as goal
 use Rattle.nf_safe.proofs.counter.Counter.step_by.Goals.{then-k, else-k+then-begins_anew, else-k+else-begins_anew}
 

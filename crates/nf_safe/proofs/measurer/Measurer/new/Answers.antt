@@ -1,5 +1,4 @@
-use Rattle.std.proofs.Common.{[], refl, sym, ◌∙◌}
-use Rattle.nf_forms.specs.Laws.Starters.{longest-order}
+use Rattle.nf_safe.proofs.Common.{[], refl, sym, ◌∙◌, longest-order}
 use Rattle.nf_safe.proofs.MeasurerLemmas.{same_values}
 use Rattle.nf_safe.proofs.measurer.Measurer.new.Goals as goal
 

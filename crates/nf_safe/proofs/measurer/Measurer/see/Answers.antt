@@ -1,7 +1,5 @@
 use mir.Val.{bool_byte}
-use Rattle.std.proofs.Common.{◌≡◌, ◌+◌, Bool, true, false, not, cond, refl, sym, ap, ◌∙◌}
-use Rattle.nf_forms.specs.StreamSafe.{joiner}
-use Rattle.nf_forms.specs.Sound.{is_sound}
+use Rattle.nf_safe.proofs.Common.{◌≡◌, ◌+◌, Bool, true, false, not, cond, refl, sym, ap, ◌∙◌, joiner, is_sound}
 use Rattle.nf_safe.proofs.MeasurerLemmas.{goes_on}
 use Rattle.nf_safe.proofs.measurer.Measurer.see.Goals as goal
 use Rattle.nf_safe.proofs.measurer.Measurer.see.Goals.{else-is_parted-via-then-is_parted+else-not-sound, else-is_parted-via-else-is_parted}

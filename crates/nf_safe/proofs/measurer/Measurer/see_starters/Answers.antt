@@ -1,6 +1,4 @@
-use Rattle.std.proofs.Common.{◌+◌, ◌<◌, length, refl, sym, ap, arith}
-use Rattle.std.proofs.lemmas.List.Sums.{AllPass-from_list_all}
-use Rattle.nf_forms.specs.Properties.{is_starter}
+use Rattle.nf_safe.proofs.Common.{◌+◌, ◌<◌, length, refl, sym, ap, arith, AllPass-from_list_all, is_starter}
 use Rattle.nf_safe.proofs.MeasurerLemmas.{decomposed-starters, decomposed-some, goes_on-starters}
 use Rattle.nf_safe.proofs.measurer.Measurer.see_starters.Goals as goal
 

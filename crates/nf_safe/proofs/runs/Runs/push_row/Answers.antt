@@ -1,8 +1,5 @@
-use Rattle.std.proofs.Common.{◌≡◌, ◌==◌, ◌<◌, ◌+◌, List, ℕ, [], ◌∷◌, ◌++◌, length, take, get_or, sym, ap, ◌∙◌, subst, arith, append_assoc, append-nil}
+use Rattle.nf_safe.proofs.Common.{◌≡◌, ◌==◌, ◌<◌, ◌+◌, List, ℕ, [], ◌∷◌, ◌++◌, length, take, get_or, sym, ap, ◌∙◌, subst, arith, append_assoc, append-nil, Properties, Runs, HasRuns}
 use Rattle.std.proofs.lemmas.List.{take_all, take_more}
-use Rattle.nf_forms.specs.Properties.{Properties}
-use Rattle.nf_safe.specs.declared.runs.Runs.{Runs}
-use Rattle.nf_safe.specs.Runs.{HasRuns}
 use Rattle.nf_safe.proofs.runs.Runs.push_row.Goals as goal
 
 more : (p : Properties) (runs : Runs) (w row : List ℕ) (i c : ℕ) → i < length row → c ≡ get_or row i c

@@ -1,5 +1,4 @@
-use Rattle.std.proofs.Common.{◌≤◌, ◌+◌, ℕ, List, ◌++◌, take}
-use Rattle.nf_safe.specs.Runs.{HasRuns}
+use Rattle.nf_safe.proofs.Common.{◌≤◌, ◌+◌, ℕ, List, ◌++◌, take, HasRuns}
 use Rattle.nf_safe.proofs.runs.Runs.push_row.Given as goal
 
 abbrev pub invariant-loop-c : goal.invariant-loop-c

@@ -1,5 +1,4 @@
-use Rattle.std.proofs.Common.{◌==◌, ◌++◌, sym, ap, subst}
-use Rattle.nf_safe.specs.Runs.{HasRuns}
+use Rattle.nf_safe.proofs.Common.{◌==◌, ◌++◌, sym, ap, subst, HasRuns}
 use Rattle.nf_safe.proofs.runs.Runs.with_char.Goals as goal
 
 pub returns-in-Some-clause-runs : goal.returns-in-Some-clause-runs

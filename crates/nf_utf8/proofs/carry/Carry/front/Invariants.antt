@@ -1,6 +1,4 @@
-use Rattle.std.proofs.Common.{◌≡◌, ◌++◌, take}
-use Rattle.nf_utf8.specs.Part.{IsPart}
-use Rattle.nf_utf8.specs.Carry.{bytes_of}
+use Rattle.nf_utf8.proofs.Common.{◌≡◌, ◌++◌, take, IsPart, bytes_of}
 use Rattle.nf_utf8.proofs.carry.Carry.front.Given as goal
 
 abbrev pub invariant-loop-at : goal.invariant-loop-at

@@ -1,5 +1,4 @@
-use Rattle.std.proofs.Common.{◌≡◌, length, ap, subst, ◌∙◌, arith}
-use Rattle.nf_utf8.specs.Standing.{StandsAfter}
+use Rattle.nf_utf8.proofs.Common.{◌≡◌, length, ap, subst, ◌∙◌, arith, StandsAfter}
 use Rattle.nf_utf8.proofs.StandingLemmas.{held_behind, ending_of-standing, stands_alone}
 use Rattle.nf_utf8.proofs.decoder.Decoder.carried.Goals as goal
 

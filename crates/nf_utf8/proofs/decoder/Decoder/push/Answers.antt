@@ -1,5 +1,4 @@
-use Rattle.std.proofs.Common.{◌≡◌, [], refl, sym, ◌∙◌}
-use Rattle.nf_utf8.specs.declared.step.Step.TheVariants.{Char}
+use Rattle.nf_utf8.proofs.Common.{◌≡◌, [], refl, sym, ◌∙◌, Char}
 use Rattle.nf_utf8.proofs.StandingLemmas.{ascii-answers, ascii-stands, answers_same}
 use Rattle.nf_utf8.proofs.decoder.Decoder.push.Goals as goal
 

@@ -1,7 +1,4 @@
-use Rattle.std.proofs.Common.{◌≡◌, List, ℕ, [], None, Some, refl, sym, ◌∙◌, subst, inr, arith, true≢false}
-use Rattle.std.proofs.lemmas.Str.{IsUtf8-nil}
-use Rattle.nf_utf8.specs.Standing.{StandsAfter}
-use Rattle.nf_utf8.specs.Front.{Completes, IsFront}
+use Rattle.nf_utf8.proofs.Common.{◌≡◌, List, ℕ, [], None, Some, refl, sym, ◌∙◌, subst, inr, arith, true≢false, IsUtf8-nil, StandsAfter, Completes, IsFront}
 use Rattle.nf_utf8.specs.declared.front.Front.TheVariants.{Char}
 use Rattle.nf_utf8.proofs.TakingLemmas.{Taken, taken, counts, takes_same}
 use Rattle.nf_utf8.proofs.decoder.Decoder.take.Goals as goal

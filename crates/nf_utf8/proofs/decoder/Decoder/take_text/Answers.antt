@@ -1,6 +1,4 @@
-use Rattle.std.proofs.Common.{◌≡◌, ◌+◌, ◌-◌, ◌++◌, length, take, drop, ap, sym, ◌∙◌, arith, length-drop, length-take}
-use Rattle.std.proofs.lemmas.List.{take_rest}
-use Rattle.nf_utf8.specs.Reading.{text_len}
+use Rattle.nf_utf8.proofs.Common.{◌≡◌, ◌+◌, ◌-◌, ◌++◌, length, take, drop, ap, sym, ◌∙◌, arith, length-drop, length-take, take_rest, text_len}
 use Rattle.nf_utf8.proofs.TextLen.{text_len-longest, text_len-rest}
 use Rattle.nf_utf8.proofs.TakingLemmas.{taken_from, counts_from, can_end}
 use Rattle.nf_utf8.proofs.decoder.Decoder.take_text.Goals as goal
