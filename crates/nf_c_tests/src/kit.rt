@@ -1,5 +1,5 @@
 //! A text fed as a caller from C feeds it.
-use nf_c::{State, Status, feed, finish, start};
+use nf_c::{Moved, State, Status, feed, finish, start};
 use std::alloc::{AllocError, Global};
 use std::process::Abort;
 
@@ -31,6 +31,17 @@ pub const AS_IS: u32 = 0;
 pub const REPLACE: u32 = 1;
 
 pub const ASSIGNED: u32 = 2;
+
+/// What a call tells.
+pub fn told(status: Status, read: usize, written: usize, at: u64, start: u64) -> Moved {
+    Moved {
+        status,
+        read,
+        written,
+        at,
+        start,
+    }
+}
 
 /// A state that has read nothing.
 pub fn started(rt: &impl Abort, form: u32, policy: u32, base: u64) -> State {

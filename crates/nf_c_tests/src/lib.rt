@@ -4,6 +4,8 @@
 #[cfg(test)]
 mod kit;
 #[cfg(test)]
+mod passing;
+#[cfg(test)]
 mod pieces;
 #[cfg(test)]
 mod states;

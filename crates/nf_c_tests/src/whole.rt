@@ -1,5 +1,5 @@
 //! Whole texts by one call.
-use crate::kit::{AS_IS, ASSIGNED, NFC, NFKD, REPLACE};
+use crate::kit::{AS_IS, ASSIGNED, NFC, NFKD, REPLACE, told};
 use nf_c::{Moved, Status, check, check_form, convert};
 use std::alloc::{AllocError, Global};
 use std::process::Abort;
@@ -8,16 +8,6 @@ use std::test::Fail;
 const NFD: u32 = 2;
 
 const NFKC: u32 = 3;
-
-fn told(status: Status, read: usize, written: usize, at: u64, start: u64) -> Moved {
-    Moved {
-        status,
-        read,
-        written,
-        at,
-        start,
-    }
-}
 
 #[test]
 fn a_whole_text_is_converted_in_just_its_room(rt: HostRuntime) -> Result<(), Fail> {
@@ -91,6 +81,17 @@ fn what_cannot_be_converted_is_refused(rt: HostRuntime) -> Result<(), Fail> {
     Ok(())
 }
 
+/// How a text of so many bytes, all as they are to be, is told.
+fn kept(read: usize) -> Moved {
+    told(Status::Done, read, 0, 0, 0)
+}
+
+/// How a change of the character at this byte is told.
+fn changed(at: u64) -> Moved {
+    told(Status::NotNormalized, 0, 0, at, at)
+}
+
+/// A letter with 31 marks that it does not compose with is in NFC, and not stream-safe.
 #[test]
 fn the_place_where_a_text_leaves_the_format_is_told(rt: HostRuntime) -> Result<(), Fail> {
     let mut text = Vec::new(rt.alloc());
@@ -98,21 +99,17 @@ fn the_place_where_a_text_leaves_the_format_is_told(rt: HostRuntime) -> Result<(
     for _ in 0..30 {
         text.extend_from_slice(b"\xCC\x81")?;
     }
-    let safe = check(text.as_slice());
-    assert_eq!(rt; safe, told(Status::Done, 61, 0, 0, 0));
+    assert_eq!(rt; check(text.as_slice()), kept(61));
+    assert_eq!(rt; check_form(NFC, AS_IS, text.as_slice()), kept(61));
     text.extend_from_slice(b"\xCC\x81")?;
     let left = check(text.as_slice());
     assert_eq!(rt; left, told(Status::Unsafe, 0, 0, 61, 61));
+    assert_eq!(rt; check_form(NFC, AS_IS, text.as_slice()), changed(61));
     let bad = check(b"ab\xC3(");
     assert_eq!(rt; bad, told(Status::BadByte, 0, 0, 3, 2));
     let cut = check(b"ab\xC3");
     assert_eq!(rt; cut, told(Status::Cut, 0, 0, 3, 2));
     Ok(())
-}
-
-/// How a change of the character at this byte is told.
-fn changed(at: u64) -> Moved {
-    told(Status::NotNormalized, 0, 0, at, at)
 }
 
 /// Composed, decomposed, and with U+FB01, which only NFKC and NFKD decompose.
@@ -121,52 +118,21 @@ fn the_first_character_that_a_form_changes_is_told(rt: HostRuntime) -> Result<()
     let (composed, decomposed) = (b"a\xC3\xA9b", b"ae\xCC\x81b");
     let (compat, plain) = (b"\xE6\x97\xA5\xEF\xAC\x81", b"\xE6\x97\xA5fi");
     for form in [NFC, NFKC] {
-        assert_eq!(rt;
-            check_form(form, AS_IS, composed),
-            told(Status::Done, 4, 0, 0, 0)
-        );
+        assert_eq!(rt; check_form(form, AS_IS, composed), kept(4));
         assert_eq!(rt; check_form(form, AS_IS, decomposed), changed(1));
     }
     for form in [NFD, NFKD] {
         assert_eq!(rt; check_form(form, AS_IS, composed), changed(1));
-        assert_eq!(rt;
-            check_form(form, AS_IS, decomposed),
-            told(Status::Done, 5, 0, 0, 0)
-        );
+        assert_eq!(rt; check_form(form, AS_IS, decomposed), kept(5));
     }
     for form in [NFC, NFD] {
-        assert_eq!(rt;
-            check_form(form, AS_IS, compat),
-            told(Status::Done, 6, 0, 0, 0)
-        );
+        assert_eq!(rt; check_form(form, AS_IS, compat), kept(6));
     }
     for form in [NFKC, NFKD] {
         assert_eq!(rt; check_form(form, AS_IS, compat), changed(3));
-        assert_eq!(rt;
-            check_form(form, AS_IS, plain),
-            told(Status::Done, 5, 0, 0, 0)
-        );
-        assert_eq!(rt;
-            check_form(form, ASSIGNED, b""),
-            told(Status::Done, 0, 0, 0, 0)
-        );
+        assert_eq!(rt; check_form(form, AS_IS, plain), kept(5));
+        assert_eq!(rt; check_form(form, ASSIGNED, b""), kept(0));
     }
-    Ok(())
-}
-
-/// A letter with 31 marks that it does not compose with is in NFC, and not stream-safe.
-#[test]
-fn what_is_not_stream_safe_is_changed(rt: HostRuntime) -> Result<(), Fail> {
-    let mut text = Vec::new(rt.alloc());
-    text.extend_from_slice(b"q")?;
-    for _ in 0..30 {
-        text.extend_from_slice(b"\xCC\x81")?;
-    }
-    let safe = check_form(NFC, AS_IS, text.as_slice());
-    assert_eq!(rt; safe, told(Status::Done, 61, 0, 0, 0));
-    text.extend_from_slice(b"\xCC\x81")?;
-    let left = check_form(NFC, AS_IS, text.as_slice());
-    assert_eq!(rt; left, changed(61));
     Ok(())
 }
 
