@@ -1,5 +1,18 @@
 -- Bytes of which a second filter changes nothing (UAX #15, sections 1.2 and 13).
-use Rattle.nf_filter.specs.Common.{◌≡◌, ℕ, List, length, Option, None, Ok, IsTrue, encode_utf8_all, Appends, Properties, Form, stream_safe, safe_form, ChangesOnce, Whole, text_of, ending_of, is_in_format, Policy, Tally, SinkState, SourceState, allowed}
+use Rattle.std.specs.Prelude.{◌≡◌, ℕ, List, length, Option, None, Ok, IsTrue, encode_utf8_all}
+use Rattle.std.specs.Io.KnownBytes.{Appends}
+use Rattle.nf_forms.specs.Properties.{Properties}
+use Rattle.nf_forms.specs.declared.form.Form.{Form}
+use Rattle.nf_forms.specs.StreamSafe.{stream_safe}
+use Rattle.nf_forms.specs.SafeForm.{safe_form}
+use Rattle.nf_forms.specs.Twice.{ChangesOnce}
+use Rattle.nf_utf8.specs.Ending.{Whole}
+use Rattle.nf_utf8.specs.Reading.{text_of, ending_of}
+use Rattle.nf_safe.specs.Place.{is_in_format}
+use Rattle.nf_filter.specs.declared.policy.Policy.{Policy}
+use Rattle.nf_filter.specs.declared.tally.Tally.{Tally}
+use Rattle.nf_filter.specs.Devices.{SinkState, SourceState}
+use Rattle.nf_filter.specs.Policy.{allowed}
 use Rattle.nf_filter.specs.Faults.{fault_in}
 use Rattle.nf_filter.specs.Finishes.{end_of, final_utf8}
 use Rattle.nf_filter.specs.Drives.{DrivesToEnd}

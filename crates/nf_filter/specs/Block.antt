@@ -1,7 +1,11 @@
 -- Where the output block and the sink stand.
-use Rattle.nf_filter.specs.Common.{◌≡◌, List, ◌++◌, ℕ, Result, Ok, Err, Fault, Write, SinkState, Puts, BreaksOff}
+use Rattle.std.specs.Prelude.{◌≡◌, List, ◌++◌, ℕ, Result, Ok, Err}
 use Rattle.nf_filter.specs.declared.block.Block.{Block}
 use Rattle.nf_filter.specs.declared.devices.Failed.{Failed}
+use Rattle.nf_filter.specs.declared.fault.Fault.{Fault}
+use Rattle.nf_filter.specs.declared.fault.Fault.TheVariants.{Write}
+use Rattle.nf_filter.specs.Devices.{SinkState}
+use Rattle.nf_filter.specs.Writes.{Puts, BreaksOff}
 
 -- where the sink stood when the block was begun, what was written before, and what of the text that is written
 -- now stands ahead of the part that is told

@@ -1,8 +1,19 @@
 -- Where a text is found not to be in the Stream-Safe Text Format, or cannot be read on (UAX #15, section 13; The Unicode
 -- Standard, section 3.9).
-use Rattle.nf_filter.specs.Common.{◌≡◌, Bool, true, false, ℕ, ◌+◌, List, ◌++◌, length, chars, Option, Some, None, option_map, Result, Ok, Err, if◌then◌else◌, take_while, encode_utf8_all, Bor, list_all, Properties, is_sound, text_of, ending_of, Place, place_from, Stop, Refused, Found, Fault, Row}
+use Rattle.std.specs.Prelude.{◌≡◌, Bool, true, false, ℕ, ◌+◌, List, ◌++◌, length, chars, Option, Some, None, option_map, Result, Ok, Err, if◌then◌else◌, take_while, encode_utf8_all}
+use Rattle.std.specs.Borrow.{Bor}
+use Rattle.std.specs.List.{list_all}
+use Rattle.nf_forms.specs.Properties.{Properties}
+use Rattle.nf_forms.specs.Sound.{is_sound}
+use Rattle.nf_utf8.specs.Reading.{text_of, ending_of}
+use Rattle.nf_safe.specs.declared.place.Place.{Place}
 use Rattle.nf_safe.specs.declared.checker.Checker.{Checker}
+use Rattle.nf_safe.specs.Place.{place_from}
 use Rattle.nf_safe.specs.Checker.{place_of, offset_of, StandsAfter}
+use Rattle.nf_filter.specs.declared.taker.Stop.{Stop}
+use Rattle.nf_filter.specs.declared.taker.Stop.TheVariants.{Refused, Found}
+use Rattle.nf_filter.specs.declared.fault.Fault.{Fault}
+use Rattle.nf_filter.specs.declared.fault.Fault.TheVariants.{Row}
 use Rattle.nf_filter.specs.Faults.{bad_byte}
 
 -- the characters before the first unsound one

@@ -1,6 +1,17 @@
 -- What driving a filter over a source answers and writes.
-use Rattle.nf_filter.specs.Common.{◌≡◌, true, false, Bool, ℕ, ◌+◌, ◌<◌, ◌≤◌, ◌↔◌, ◌⊎◌, List, [], ◌++◌, length, None, IsTrue, IsFalse, IsErr, OnOk, Result, Err, ◌^◌, Consumes, IsAtEnd, result_err, Properties, Form, Fault, TooLong, Read, Write, Policy, Tally, SinkState, SourceState, Puts, BreaksOff, settled_utf8}
+use Rattle.std.specs.Prelude.{◌≡◌, true, false, Bool, ℕ, ◌+◌, ◌<◌, ◌≤◌, ◌↔◌, ◌⊎◌, List, [], ◌++◌, length, None, IsTrue, IsFalse, IsErr, OnOk, Result, Err, ◌^◌}
+use Rattle.std.specs.Io.KnownBytes.{Consumes, IsAtEnd}
+use Rattle.std.specs.Result.{result_err}
+use Rattle.nf_forms.specs.Properties.{Properties}
+use Rattle.nf_forms.specs.declared.form.Form.{Form}
+use Rattle.nf_filter.specs.declared.fault.Fault.{Fault}
+use Rattle.nf_filter.specs.declared.fault.Fault.TheVariants.{TooLong, Read, Write}
+use Rattle.nf_filter.specs.declared.policy.Policy.{Policy}
 use Rattle.nf_filter.specs.declared.filter.State.{State}
+use Rattle.nf_filter.specs.declared.tally.Tally.{Tally}
+use Rattle.nf_filter.specs.Devices.{SinkState, SourceState}
+use Rattle.nf_filter.specs.Writes.{Puts, BreaksOff}
+use Rattle.nf_filter.specs.Settled.{settled_utf8}
 use Rattle.nf_filter.specs.Faults.{fault_in}
 use Rattle.nf_filter.specs.Filter.{StandsAfter}
 use Rattle.nf_filter.specs.Finishes.{end_of, final_utf8}

@@ -1,5 +1,14 @@
 -- The fault at which the reading of bytes stops (The Unicode Standard, section 3.9; UAX #15, section 13).
-use Rattle.nf_filter.specs.Common.{true, false, Bool, ℕ, ◌+◌, ◌==◌, List, length, Option, Some, None, Result, Ok, Err, if◌then◌else◌, [], ◌∷◌, Properties, Ending, Whole, Bad, Cut, ending_of, Fault, Row, BadByte, CutShort, Unassigned, Policy, spent, too_long, write, row, ill_formed, cut, unassigned, IsAmong, text_under, len_under, allowed, is_usable, usable}
+use Rattle.std.specs.Prelude.{true, false, Bool, ℕ, ◌+◌, ◌==◌, List, length, Option, Some, None, Result, Ok, Err, if◌then◌else◌, [], ◌∷◌}
+use Rattle.nf_forms.specs.Properties.{Properties}
+use Rattle.nf_utf8.specs.Ending.{Ending, Whole, Bad, Cut}
+use Rattle.nf_utf8.specs.Reading.{ending_of}
+use Rattle.nf_filter.specs.declared.fault.Fault.{Fault}
+use Rattle.nf_filter.specs.declared.fault.Fault.TheVariants.{Row, BadByte, Cut as CutShort, Unassigned}
+use Rattle.nf_filter.specs.declared.policy.Policy.{Policy}
+use Rattle.nf_filter.specs.Kinds.{spent, too_long, write, row, ill_formed, cut, unassigned, IsAmong}
+use Rattle.nf_filter.specs.Policy.{text_under, len_under, allowed}
+use Rattle.nf_filter.specs.Settled.{is_usable, usable}
 
 -- that of an ending, where the first byte has the offset `base`
 abbrev pub bad_byte : ℕ → Ending → Option Fault

@@ -1,8 +1,22 @@
 -- How a piece is read for a counted, under a policy.
-use Rattle.nf_filter.specs.Common.{◌≡◌, false, Bool, ℕ, ◌+◌, List, ◌++◌, length, Some, None, Result, Err, OnOk, result_err, Properties, Form, text_of, ending_of, DecoderStandsAfter, Fault, Write, Counted, Policy, Reading, SinkState, Puts, BreaksOff, allowed, len_under, text_under, whole_under, usable, settled_utf8}
+use Rattle.std.specs.Prelude.{◌≡◌, false, Bool, ℕ, ◌+◌, List, ◌++◌, length, Some, None, Result, Err, OnOk}
+use Rattle.std.specs.Result.{result_err}
+use Rattle.nf_forms.specs.Properties.{Properties}
+use Rattle.nf_forms.specs.declared.form.Form.{Form}
+use Rattle.nf_utf8.specs.Reading.{text_of, ending_of}
+use Rattle.nf_utf8.specs.Standing.{StandsAfter as DecoderStandsAfter}
+use Rattle.nf_filter.specs.declared.fault.Fault.{Fault}
+use Rattle.nf_filter.specs.declared.fault.Fault.TheVariants.{Write}
+use Rattle.nf_filter.specs.declared.counted.Counted.{Counted}
+use Rattle.nf_filter.specs.declared.policy.Policy.{Policy}
+use Rattle.nf_filter.specs.declared.reading.Reading.{Reading}
+use Rattle.nf_filter.specs.Devices.{SinkState}
+use Rattle.nf_filter.specs.Writes.{Puts, BreaksOff}
 use Rattle.nf_filter.specs.Block.{Start, BlockState, Written, Broken}
 use Rattle.nf_filter.specs.Faults.{answer_at_end, bad_byte, bad_under, first_fault, fault_in}
 use Rattle.nf_filter.specs.Counted.{HasTaken, settled_text}
+use Rattle.nf_filter.specs.Policy.{allowed, len_under, text_under, whole_under}
+use Rattle.nf_filter.specs.Settled.{usable, settled_utf8}
 
 -- what is settled of a text, as far as that is taken
 abbrev pub taken_utf8 : Bool → Form → Properties → List ℕ → List ℕ

@@ -1,5 +1,14 @@
 -- What feeding a piece to a filter answers and writes.
-use Rattle.nf_filter.specs.Common.{◌≡◌, ℕ, ◌<◌, ◌↔◌, List, ◌++◌, length, IsTrue, Result, Err, result_err, Properties, Form, Fault, Write, Policy, SinkState, Puts, BreaksOff, settled_utf8}
+use Rattle.std.specs.Prelude.{◌≡◌, ℕ, ◌<◌, ◌↔◌, List, ◌++◌, length, IsTrue, Result, Err}
+use Rattle.std.specs.Result.{result_err}
+use Rattle.nf_forms.specs.Properties.{Properties}
+use Rattle.nf_forms.specs.declared.form.Form.{Form}
+use Rattle.nf_filter.specs.declared.fault.Fault.{Fault}
+use Rattle.nf_filter.specs.declared.fault.Fault.TheVariants.{Write}
+use Rattle.nf_filter.specs.declared.policy.Policy.{Policy}
+use Rattle.nf_filter.specs.Devices.{SinkState}
+use Rattle.nf_filter.specs.Writes.{Puts, BreaksOff}
+use Rattle.nf_filter.specs.Settled.{settled_utf8}
 use Rattle.nf_filter.specs.Faults.{fault_in}
 
 -- the filter stands after `bytes`, the first of which has the offset `base`, and the piece is not too long

@@ -1,7 +1,10 @@
 -- Where a filter stands.
-use Rattle.nf_filter.specs.Common.{◌≡◌, false, Bool, ℕ, List, [], None, Properties, Form, Policy}
+use Rattle.std.specs.Prelude.{◌≡◌, false, Bool, ℕ, List, [], None}
+use Rattle.nf_forms.specs.Properties.{Properties}
+use Rattle.nf_forms.specs.declared.form.Form.{Form}
 use Rattle.nf_filter.specs.declared.filter.Filter.{Filter}
 use Rattle.nf_filter.specs.declared.filter.State.{State}
+use Rattle.nf_filter.specs.declared.policy.Policy.{Policy}
 use Rattle.nf_filter.specs.Faults.{fault_in}
 use Rattle.nf_filter.specs.Feeding.{HasReadTo}
 

@@ -1,7 +1,22 @@
 -- What finishing a filter answers and writes.
-use Rattle.nf_filter.specs.Common.{◌≡◌, true, false, Bool, ◌&&◌, ◌==◌, ℕ, ◌+◌, ◌-◌, ◌<◌, ◌↔◌, List, length, IsTrue, Option, Some, None, Result, Ok, Err, if◌then◌else◌, encode_utf8_all, Properties, Form, stream_safe, Ending, Whole, Bad, Cut, ending_of, Fault, Write, Counted, Policy, Tally, SinkState, allowed, len_under, whole_under, Puts, BreaksOff, safe_form, is_usable, settled_utf8}
+use Rattle.std.specs.Prelude.{◌≡◌, true, false, Bool, ◌&&◌, ◌==◌, ℕ, ◌+◌, ◌-◌, ◌<◌, ◌↔◌, List, length, IsTrue, Option, Some, None, Result, Ok, Err, if◌then◌else◌, encode_utf8_all}
+use Rattle.nf_forms.specs.Properties.{Properties}
+use Rattle.nf_forms.specs.declared.form.Form.{Form}
+use Rattle.nf_forms.specs.StreamSafe.{stream_safe}
+use Rattle.nf_utf8.specs.Ending.{Ending, Whole, Bad, Cut}
+use Rattle.nf_utf8.specs.Reading.{ending_of}
+use Rattle.nf_filter.specs.declared.fault.Fault.{Fault}
+use Rattle.nf_filter.specs.declared.fault.Fault.TheVariants.{Write}
+use Rattle.nf_filter.specs.declared.counted.Counted.{Counted}
+use Rattle.nf_filter.specs.declared.policy.Policy.{Policy}
+use Rattle.nf_filter.specs.declared.tally.Tally.{Tally}
+use Rattle.nf_filter.specs.Devices.{SinkState}
+use Rattle.nf_filter.specs.Policy.{allowed, len_under, whole_under}
 use Rattle.nf_filter.specs.Faults.{answer_at_end, first_fault}
 use Rattle.nf_filter.specs.Counted.{HasTaken, settled_text}
+use Rattle.nf_filter.specs.Writes.{Puts, BreaksOff}
+use Rattle.nf_forms.specs.SafeForm.{safe_form}
+use Rattle.nf_filter.specs.Settled.{is_usable, settled_utf8}
 
 -- the bytes, the characters that they give, and the joiners that the process puts
 abbrev pub tally_of : Bool → Properties → List ℕ → Tally

@@ -1,6 +1,13 @@
 -- What was written to the end, said of the text that was read (UAX #15, section 13).
-use Rattle.nf_filter.specs.Common.{◌≡◌, ℕ, List, IsTrue, encode_utf8_all, Properties, Form, normal_form, is_in_format, Policy, SinkState, SourceState, whole_under}
+use Rattle.std.specs.Prelude.{◌≡◌, ℕ, List, IsTrue, encode_utf8_all}
+use Rattle.nf_forms.specs.Properties.{Properties}
+use Rattle.nf_forms.specs.declared.form.Form.{Form}
+use Rattle.nf_forms.specs.Forms.{normal_form}
 use Rattle.nf_safe.specs.Pieces.{IsGreedyCut, rejoined}
+use Rattle.nf_safe.specs.Place.{is_in_format}
+use Rattle.nf_filter.specs.declared.policy.Policy.{Policy}
+use Rattle.nf_filter.specs.Devices.{SinkState, SourceState}
+use Rattle.nf_filter.specs.Policy.{whole_under}
 use Rattle.nf_filter.specs.Finishes.{final_utf8}
 use Rattle.nf_filter.specs.Drives.{DrivesToEnd}
 

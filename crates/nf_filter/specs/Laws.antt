@@ -2,7 +2,15 @@
 pub mod Assigned
 pub mod Settled
 pub mod Soundness
-use Rattle.nf_filter.specs.Common.{◌≡◌, ℕ, ◌+◌, ◌≤◌, List, ◌++◌, length, IsTrue, Properties, Form, Nfkd, trail, decomposed, max_run, stream_safe, safe_form, settled, is_usable}
+use Rattle.std.specs.Prelude.{◌≡◌, ℕ, ◌+◌, ◌≤◌, List, ◌++◌, length, IsTrue}
+use Rattle.nf_forms.specs.Properties.{Properties}
+use Rattle.nf_forms.specs.declared.form.Form.{Form}
+use Rattle.nf_forms.specs.declared.form.Form.TheVariants.{Nfkd}
+use Rattle.nf_forms.specs.Runs.{trail}
+use Rattle.nf_forms.specs.Forms.{decomposed}
+use Rattle.nf_forms.specs.StreamSafe.{max_run, stream_safe}
+use Rattle.nf_forms.specs.SafeForm.{safe_form}
+use Rattle.nf_filter.specs.Settled.{settled, is_usable}
 
 -- whatever follows a text, what is settled of it stays
 abbrev pub SettledOnlyGrows : Type 0

@@ -1,4 +1,3 @@
-pub mod Common
 pub mod Kinds
 pub mod Devices
 pub mod Writes

@@ -1,6 +1,17 @@
 -- What is measured of bytes, and where they cannot be measured (UAX #15, section 13; The Unicode Standard, section 3.9).
-use Rattle.nf_filter.specs.Common.{◌≡◌, ◌≤◌, ℕ, List, ◌++◌, chars, Option, Some, option_map, Result, Ok, Err, Bor, Properties, text_of, Measure, Place, values_of, StandsAfter, measure_of, Fault, Stop, Refused, as_is}
+use Rattle.std.specs.Prelude.{◌≡◌, ◌≤◌, ℕ, List, ◌++◌, chars, Option, Some, option_map, Result, Ok, Err}
+use Rattle.std.specs.Borrow.{Bor}
+use Rattle.nf_forms.specs.Properties.{Properties}
+use Rattle.nf_utf8.specs.Reading.{text_of}
+use Rattle.nf_safe.specs.declared.measure.Measure.{Measure}
 use Rattle.nf_safe.specs.declared.measurer.Measurer.{Measurer}
+use Rattle.nf_safe.specs.declared.place.Place.{Place}
+use Rattle.nf_safe.specs.Measurer.{values_of, StandsAfter}
+use Rattle.nf_safe.specs.Measures.{measure_of}
+use Rattle.nf_filter.specs.declared.fault.Fault.{Fault}
+use Rattle.nf_filter.specs.declared.taker.Stop.{Stop}
+use Rattle.nf_filter.specs.declared.taker.Stop.TheVariants.{Refused}
+use Rattle.nf_filter.specs.Policy.{as_is}
 use Rattle.nf_filter.specs.Faults.{fault_in}
 use Rattle.nf_filter.specs.Counted.{unusable_at, utf8_place}
 

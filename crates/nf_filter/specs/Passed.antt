@@ -1,5 +1,7 @@
 -- A text of which the front is assigned.
-use Rattle.nf_filter.specs.Common.{◌≡◌, ℕ, true, List, ◌++◌, chars, IsUtf8, list_all, Properties}
+use Rattle.std.specs.Prelude.{◌≡◌, ℕ, true, List, ◌++◌, chars, IsUtf8}
+use Rattle.std.specs.List.{list_all}
+use Rattle.nf_forms.specs.Properties.{Properties}
 
 -- what stands behind a front of assigned characters
 pub record IsBehindAssigned (p : Properties) (text rest : List ℕ) : Type 0 where

@@ -1,5 +1,9 @@
 -- A filter's state as plain data, and what of such data no filter can have.
-use Rattle.nf_filter.specs.Common.{◌≡◌, true, Bool, ◌&&◌, ◌==◌, nat_le, ◌⊎◌, ℕ, ◌+◌, ◌-◌, ◌≤◌, List, [], ◌∷◌, length, None, IfSome, Properties, max_run, Form, Nfc, Nfd, Nfkc, Nfkd}
+use Rattle.std.specs.Prelude.{◌≡◌, true, Bool, ◌&&◌, ◌==◌, nat_le, ◌⊎◌, ℕ, ◌+◌, ◌-◌, ◌≤◌, List, [], ◌∷◌, length, None, IfSome}
+use Rattle.nf_forms.specs.Properties.{Properties}
+use Rattle.nf_forms.specs.StreamSafe.{max_run}
+use Rattle.nf_forms.specs.declared.form.Form.{Form}
+use Rattle.nf_forms.specs.declared.form.Form.TheVariants.{Nfc, Nfd, Nfkc, Nfkd}
 use Rattle.nf_boundary.specs.declared.mark.Mark.{Mark}
 use Rattle.nf_utf8.specs.Part.{IsPart}
 use Rattle.nf_pending.specs.StandsAfter.{starter_of, marks_of}

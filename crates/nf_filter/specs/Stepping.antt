@@ -1,7 +1,13 @@
 -- A text, step by step, to a sink.
-use Rattle.nf_filter.specs.Common.{◌≡◌, ◌+◌, ℕ, List, ◌++◌, length, chars, Properties, Form, stream_safe, Counted, Puts, IsReady}
+use Rattle.std.specs.Prelude.{◌≡◌, ◌+◌, ℕ, List, ◌++◌, length, chars}
+use Rattle.nf_forms.specs.Properties.{Properties}
+use Rattle.nf_forms.specs.declared.form.Form.{Form}
+use Rattle.nf_forms.specs.StreamSafe.{stream_safe}
 use Rattle.nf_normalizer.specs.Front.{Leaves, Stands}
+use Rattle.nf_filter.specs.declared.counted.Counted.{Counted}
+use Rattle.nf_filter.specs.Writes.{Puts}
 use Rattle.nf_filter.specs.Block.{Start, BlockState}
+use Rattle.nf_normalizer.specs.Normalizer.{IsWithin as IsReady}
 
 -- the normalizer stands after x, before `next`, and what of x is settled was written
 pub record Standing (f : Form) (p : Properties) (counted : Counted) (start : Start) (now : BlockState) (x next : List ℕ) : Type 0 where

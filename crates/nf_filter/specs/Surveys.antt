@@ -1,5 +1,11 @@
 -- What reading a source answers, to its end or to the first place or fault in what it gives.
-use Rattle.nf_filter.specs.Common.{◌≡◌, ℕ, ◌+◌, ◌≤◌, ◌↔◌, ◌^◌, List, [], ◌++◌, length, Option, Some, None, IsTrue, IsFalse, Result, Err, ◌∷◌, Consumes, IsAtEnd, ending_of, Fault, TooLong, Read, too_long, read, row, ill_formed, cut, unassigned, IsAmong, SourceState}
+use Rattle.std.specs.Prelude.{◌≡◌, ℕ, ◌+◌, ◌≤◌, ◌↔◌, ◌^◌, List, [], ◌++◌, length, Option, Some, None, IsTrue, IsFalse, Result, Err, ◌∷◌}
+use Rattle.std.specs.Io.KnownBytes.{Consumes, IsAtEnd}
+use Rattle.nf_utf8.specs.Reading.{ending_of}
+use Rattle.nf_filter.specs.declared.fault.Fault.{Fault}
+use Rattle.nf_filter.specs.declared.fault.Fault.TheVariants.{TooLong, Read}
+use Rattle.nf_filter.specs.Kinds.{too_long, read, row, ill_formed, cut, unassigned, IsAmong}
+use Rattle.nf_filter.specs.Devices.{SourceState}
 use Rattle.nf_filter.specs.Faults.{answer_at_end}
 
 -- what is asked of bytes, the first of which has the offset `base`: the answer that they decide, whatever follows them, and

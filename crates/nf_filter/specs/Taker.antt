@@ -1,5 +1,14 @@
 -- What becomes of a text that is taken piece by piece.
-use Rattle.nf_filter.specs.Common.{[], ◌∷◌, ◌≡◌, ℕ, ◌+◌, ◌-◌, ◌≤◌, Bool, List, ◌++◌, length, Option, Some, None, option_map, Result, Ok, Err, OnOk, result_err, text_of, ending_of, DecoderStandsAfter, Place, Fault, Stop, Refused, Found, Reading, row, Holds, IsAmong}
+use Rattle.std.specs.Prelude.{[], ◌∷◌, ◌≡◌, ℕ, ◌+◌, ◌-◌, ◌≤◌, Bool, List, ◌++◌, length, Option, Some, None, option_map, Result, Ok, Err, OnOk}
+use Rattle.std.specs.Result.{result_err}
+use Rattle.nf_utf8.specs.Reading.{text_of, ending_of}
+use Rattle.nf_utf8.specs.Standing.{StandsAfter as DecoderStandsAfter}
+use Rattle.nf_safe.specs.declared.place.Place.{Place}
+use Rattle.nf_filter.specs.declared.fault.Fault.{Fault}
+use Rattle.nf_filter.specs.declared.taker.Stop.{Stop}
+use Rattle.nf_filter.specs.declared.taker.Stop.TheVariants.{Refused, Found}
+use Rattle.nf_filter.specs.declared.reading.Reading.{Reading}
+use Rattle.nf_filter.specs.Kinds.{row, Holds, IsAmong}
 use Rattle.nf_filter.specs.Faults.{bad_byte}
 use Rattle.nf_filter.specs.Surveys.{Survey}
 

@@ -1,6 +1,17 @@
 -- What bytes that are all there is come to.
-use Rattle.nf_filter.specs.Common.{◌≡◌, ℕ, ◌<◌, ◌↔◌, List, [], length, Option, Some, None, IsTrue, Result, Err, is_some, if◌then◌else◌, encode_utf8_all, ◌∷◌, Properties, Form, safe_form, Fault, Write, Tally, write, row, ill_formed, cut, IsAmong, SinkState, Puts, BreaksOff, as_is, settled_utf8}
+use Rattle.std.specs.Prelude.{◌≡◌, ℕ, ◌<◌, ◌↔◌, List, [], length, Option, Some, None, IsTrue, Result, Err, is_some, if◌then◌else◌, encode_utf8_all, ◌∷◌}
+use Rattle.nf_forms.specs.Properties.{Properties}
+use Rattle.nf_forms.specs.declared.form.Form.{Form}
+use Rattle.nf_forms.specs.SafeForm.{safe_form}
 use Rattle.nf_utf8.specs.Text.{IsText}
+use Rattle.nf_filter.specs.declared.fault.Fault.{Fault}
+use Rattle.nf_filter.specs.declared.fault.Fault.TheVariants.{Write}
+use Rattle.nf_filter.specs.declared.tally.Tally.{Tally}
+use Rattle.nf_filter.specs.Kinds.{write, row, ill_formed, cut, IsAmong}
+use Rattle.nf_filter.specs.Devices.{SinkState}
+use Rattle.nf_filter.specs.Writes.{Puts, BreaksOff}
+use Rattle.nf_filter.specs.Policy.{as_is}
+use Rattle.nf_filter.specs.Settled.{settled_utf8}
 use Rattle.nf_filter.specs.Faults.{fault_in}
 use Rattle.nf_filter.specs.Finishes.{end_of, final_utf8}
 

@@ -1,4 +1,6 @@
-ghost use Rattle.nf_filter.specs.Common.{◌≡◌, ◌+◌, ◌<◌, ◌≤◌, ◌↔◌, ◌⊎◌, [], length, MatchResult, Ok, Err, IfErr, OnOk, IsTrue, ◌++◌, ℕ, List, WriteFault, Puts, BreaksOff};
+ghost use Rattle.std.specs.Prelude.{◌≡◌, ◌+◌, ◌<◌, ◌≤◌, ◌↔◌, ◌⊎◌, [], length, MatchResult, Ok, Err, IfErr, OnOk, IsTrue, ◌++◌, ℕ, List};
+ghost use Rattle.nf_filter.specs.declared.fault.Fault.TheVariants.{Write as WriteFault};
+ghost use Rattle.nf_filter.specs.Writes.{Puts, BreaksOff};
 
 use crate::devices::{Failed, Sink};
 use crate::fault::Fault;

@@ -14,7 +14,15 @@ pub struct Counted {
 }
 
 impl Counted {
-    ghost use Rattle.nf_filter.specs.Common.{◌≡◌, ◌+◌, ◌≤◌, ℕ, List, [], if◌then◌else◌, MatchResult, encode_utf8_all, Properties, has_starter, trail, Form, decomposed, stream_safe, safe_form, Takes, IsReady, Puts, BreaksOff};
+    ghost use Rattle.std.specs.Prelude.{◌≡◌, ◌+◌, ◌≤◌, ℕ, List, [], if◌then◌else◌, MatchResult, encode_utf8_all};
+    ghost use Rattle.nf_forms.specs.Properties.{Properties};
+    ghost use Rattle.nf_forms.specs.Runs.{has_starter, trail};
+    ghost use Rattle.nf_forms.specs.declared.form.Form.{Form};
+    ghost use Rattle.nf_forms.specs.Forms.{decomposed};
+    ghost use Rattle.nf_forms.specs.StreamSafe.{stream_safe};
+    ghost use Rattle.nf_forms.specs.SafeForm.{safe_form};
+    ghost use Rattle.nf_normalizer.specs.Normalizer.{HasTaken as Takes, IsWithin as IsReady};
+    ghost use Rattle.nf_filter.specs.Writes.{Puts, BreaksOff};
     ghost use Rattle.nf_filter.specs.Counted.{HasTaken, IsWithin, settled_text};
 
     /// Nothing was counted yet.

@@ -1,4 +1,6 @@
-ghost use Rattle.nf_filter.specs.Common.{◌≡◌, ◌<◌, ◌≤◌, ◌==◌, true, false, [], length, take, IfOk, OnOk, OnErr, IsErr, Ok, Appends, Consumes, IsAtEnd, Keeps, SinkState, SourceState};
+ghost use Rattle.std.specs.Prelude.{◌≡◌, ◌<◌, ◌≤◌, ◌==◌, true, false, [], length, take, IfOk, OnOk, OnErr, IsErr, Ok};
+ghost use Rattle.std.specs.Io.KnownBytes.{Appends, Consumes, IsAtEnd, Keeps};
+ghost use Rattle.nf_filter.specs.Devices.{SinkState, SourceState};
 
 /// The refusal of a device, without its reason.
 #[derive(Clone, Copy, Debug, PartialEq, Eq, Hash)]

@@ -1,6 +1,10 @@
-ghost use Rattle.nf_filter.specs.Common.{◌≡◌, ◌<◌, ◌↔◌, ℕ, List, [], length, IsTrue, IsFalse, OnOk, is_ok, Form, Policy, as_is, ChangesOnce};
+ghost use Rattle.std.specs.Prelude.{◌≡◌, ◌<◌, ◌↔◌, ℕ, List, [], length, IsTrue, IsFalse, OnOk, is_ok};
+ghost use Rattle.nf_forms.specs.declared.form.Form.{Form};
 ghost use Rattle.nf_filter.specs.Filter.{rows_of, state_of, base_of, is_spent, StandsAfter};
+ghost use Rattle.nf_filter.specs.declared.policy.Policy.{Policy};
+ghost use Rattle.nf_filter.specs.Policy.{as_is};
 ghost use Rattle.nf_filter.specs.Drives.{FeedsAll, Drives};
+ghost use Rattle.nf_forms.specs.Twice.{ChangesOnce};
 ghost use Rattle.nf_filter.specs.Again.{AddsWhatStays, DrivesOnce};
 ghost use Rattle.nf_filter.specs.Joined.{DrivesPieces};
 

@@ -9,7 +9,8 @@ use nf_row::Rows;
 use nf_utf8::{End, laws};
 
 impl Reading {
-    ghost use Rattle.nf_filter.specs.Common.{◌≡◌, ◌+◌, ◌<◌, ◌≤◌, true, ℕ, List, [], ◌++◌, length, None, IfErr, IfOk, OnOk, MatchResult, Form};
+    ghost use Rattle.std.specs.Prelude.{◌≡◌, ◌+◌, ◌<◌, ◌≤◌, true, ℕ, List, [], ◌++◌, length, None, IfErr, IfOk, OnOk, MatchResult};
+    ghost use Rattle.nf_forms.specs.declared.form.Form.{Form};
     ghost use Rattle.nf_filter.specs.Block.{Start, block_state};
     ghost use Rattle.nf_filter.specs.Faults.{IsOfClosing, IsOfReading, IsOfTaking, fault_in};
     ghost use Rattle.nf_filter.specs.Feeding.{HasReadTo, ReadsTo, RefusesBytes, ReplacesCut};

@@ -39,11 +39,19 @@ pub struct State {
 }
 
 impl<'r, R: Rows> Filter<'r, R> {
-    ghost use Rattle.nf_filter.specs.Common.{◌≡◌, ◌+◌, ◌<◌, ◌≤◌, ◌↔◌, ◌⊎◌, false, ℕ, List, [], ◌++◌, length, if◌then◌else◌, IsTrue, IsFalse, IsErr, OnOk, IfErr, is_ok, Form, has_starter, trail, plain_rows, decomposed, stream_safe, Policy, as_is, len_under, text_under, ChangesOnce};
+    ghost use Rattle.std.specs.Prelude.{◌≡◌, ◌+◌, ◌<◌, ◌≤◌, ◌↔◌, ◌⊎◌, false, ℕ, List, [], ◌++◌, length, if◌then◌else◌, IsTrue, IsFalse, IsErr, OnOk, IfErr, is_ok};
+    ghost use Rattle.nf_forms.specs.declared.form.Form.{Form};
+    ghost use Rattle.nf_forms.specs.Runs.{has_starter, trail};
+    ghost use Rattle.nf_row.specs.Plain.{rows_of as plain_rows};
+    ghost use Rattle.nf_forms.specs.Forms.{decomposed};
+    ghost use Rattle.nf_forms.specs.StreamSafe.{stream_safe};
+    ghost use Rattle.nf_filter.specs.declared.policy.Policy.{Policy};
+    ghost use Rattle.nf_filter.specs.Policy.{as_is, len_under, text_under};
     ghost use Rattle.nf_filter.specs.Faults.{IsOfFeeding, IsOfFinishing};
     ghost use Rattle.nf_filter.specs.Filter.{rows_of, state_of, base_of, offset_of, is_spent, StandsAfter};
     ghost use Rattle.nf_filter.specs.Feeds.{Feeds};
     ghost use Rattle.nf_filter.specs.Finishes.{Finishes, final_utf8};
+    ghost use Rattle.nf_forms.specs.Twice.{ChangesOnce};
     ghost use Rattle.nf_filter.specs.Again.{StaysAsItIs};
     ghost use Rattle.nf_filter.specs.Joined.{JoinsPieces};
 

@@ -1,4 +1,5 @@
-ghost use Rattle.nf_filter.specs.Common.{◌≡◌, ◌==◌, ◌<◌, ◌≤◌, [], false, true, length, take, IfOk, OnOk, OnErr, Consumes, IsAtEnd, Keeps};
+ghost use Rattle.std.specs.Prelude.{◌≡◌, ◌==◌, ◌<◌, ◌≤◌, [], false, true, length, take, IfOk, OnOk, OnErr};
+ghost use Rattle.std.specs.Io.KnownBytes.{Consumes, IsAtEnd, Keeps};
 
 use crate::devices::{Failed, Source};
 use std::io::Read;

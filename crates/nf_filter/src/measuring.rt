@@ -1,4 +1,5 @@
-ghost use Rattle.nf_filter.specs.Common.{◌≡◌, ◌+◌, ◌<◌, ◌≤◌, ◌↔◌, ℕ, List, ◌++◌, length, chars, false, IsTrue, IfOk, IfErr, OnOk, encode_utf8_all, values_of};
+ghost use Rattle.std.specs.Prelude.{◌≡◌, ◌+◌, ◌<◌, ◌≤◌, ◌↔◌, ℕ, List, ◌++◌, length, chars, false, IsTrue, IfOk, IfErr, OnOk, encode_utf8_all};
+ghost use Rattle.nf_safe.specs.Measurer.{values_of};
 ghost use Rattle.nf_filter.specs.Taker.{MayStop};
 ghost use Rattle.nf_filter.specs.Surveys.{Surveys, IsOfSurvey, IsCut};
 ghost use Rattle.nf_filter.specs.Measures.{measure_decision, text_measure, HasMeasured, HasSeenFront, SeesText, SeesFront};
@@ -60,7 +61,8 @@ pub fn measure_buffered<R: Rows, I: Source>(
 }
 
 impl Taker for Measurer {
-    ghost use Rattle.nf_filter.specs.Common.{false, measure_of};
+    ghost use Rattle.std.specs.Prelude.{false};
+    ghost use Rattle.nf_safe.specs.Measures.{measure_of};
     ghost use Rattle.nf_filter.specs.Measures.{HasMeasured, ends_at, unusable_stop, no_measure};
 
     type Answer = Measure;

@@ -1,8 +1,9 @@
 //! Ill-formed parts, one after the other or with little text between them, each read as U+FFFD: they are taken as one text.
-ghost use Rattle.nf_filter.specs.Common.{◌≡◌, ◌+◌, ◌≤◌, ℕ, List, [], length, chars, allowed};
+ghost use Rattle.std.specs.Prelude.{◌≡◌, ◌+◌, ◌≤◌, ℕ, List, [], length, chars};
 ghost use Rattle.std.specs.Str.{IsUtf8};
 ghost use Rattle.nf_utf8.specs.Mending.{IsReplacedFront};
 ghost use Rattle.nf_filter.specs.Block.{Start, block_state};
+ghost use Rattle.nf_filter.specs.Policy.{allowed};
 
 use crate::block::Block;
 use crate::counted::Counted;
@@ -15,7 +16,8 @@ use nf_row::Rows;
 use nf_utf8::{Mended, laws, mend_front, mended_text};
 
 impl Reading {
-    ghost use Rattle.nf_filter.specs.Common.{true, IfErr, IfOk, OnOk, MatchResult, Form};
+    ghost use Rattle.std.specs.Prelude.{true, IfErr, IfOk, OnOk, MatchResult};
+    ghost use Rattle.nf_forms.specs.declared.form.Form.{Form};
     ghost use Rattle.nf_filter.specs.Faults.{IsOfReading};
     ghost use Rattle.nf_filter.specs.Feeding.{ReadsTo, RefusesBytes};
     ghost use Rattle.nf_filter.specs.Counted.{ends_at};

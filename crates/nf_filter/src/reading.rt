@@ -14,7 +14,8 @@ pub struct Reading {
 }
 
 impl Reading {
-    ghost use Rattle.nf_filter.specs.Common.{◌≡◌, ◌+◌, ◌<◌, ◌≤◌, ◌↔◌, ℕ, List, [], length, IfErr, IsTrue, ending_of};
+    ghost use Rattle.std.specs.Prelude.{◌≡◌, ◌+◌, ◌<◌, ◌≤◌, ◌↔◌, ℕ, List, [], length, IfErr, IsTrue};
+    ghost use Rattle.nf_utf8.specs.Reading.{ending_of};
     ghost use Rattle.nf_utf8.specs.Standing.{StandsAfter};
     ghost use Rattle.nf_filter.specs.Faults.{answer_at_end};
     ghost use Rattle.nf_filter.specs.Surveys.{IsCut};

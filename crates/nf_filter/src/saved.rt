@@ -35,7 +35,10 @@ pub struct Saved {
 }
 
 impl<'r, R: Rows> Filter<'r, R> {
-    ghost use Rattle.nf_filter.specs.Common.{◌≡◌, ◌↔◌, ℕ, List, IsSome, IfSome, IsTrue, Form, plain_rows, Policy};
+    ghost use Rattle.std.specs.Prelude.{◌≡◌, ◌↔◌, ℕ, List, IsSome, IfSome, IsTrue};
+    ghost use Rattle.nf_forms.specs.declared.form.Form.{Form};
+    ghost use Rattle.nf_row.specs.Plain.{rows_of as plain_rows};
+    ghost use Rattle.nf_filter.specs.declared.policy.Policy.{Policy};
     ghost use Rattle.nf_filter.specs.declared.filter.State.{State};
     ghost use Rattle.nf_filter.specs.Filter.{rows_of, state_of, is_spent, StandsAfter};
     ghost use Rattle.nf_filter.specs.Saved.{saved_of, IsRestorable};

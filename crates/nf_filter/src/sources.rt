@@ -1,5 +1,6 @@
 //! Reading a source.
-ghost use Rattle.nf_filter.specs.Common.{◌≡◌, ◌<◌, ◌≤◌, ◌↔◌, [], length, Err, None, IfErr, IsTrue, Read};
+ghost use Rattle.std.specs.Prelude.{◌≡◌, ◌<◌, ◌≤◌, ◌↔◌, [], length, Err, None, IfErr, IsTrue};
+ghost use Rattle.nf_filter.specs.declared.fault.Fault.TheVariants.{Read};
 ghost use Rattle.nf_filter.specs.Surveys.{Survey, Surveys, IsCut};
 
 use crate::devices::{Failed, Source};

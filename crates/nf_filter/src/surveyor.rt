@@ -1,5 +1,8 @@
 //! What takes bytes piece by piece, and answers what they come to.
-ghost use Rattle.nf_filter.specs.Common.{◌≡◌, ◌+◌, ◌<◌, ◌↔◌, ℕ, List, ◌++◌, length, Some, None, Err, IfErr, IfSome, IsNone, ending_of, Fault, TooLong, Read};
+ghost use Rattle.std.specs.Prelude.{◌≡◌, ◌+◌, ◌<◌, ◌↔◌, ℕ, List, ◌++◌, length, Some, None, Err, IfErr, IfSome, IsNone};
+ghost use Rattle.nf_utf8.specs.Reading.{ending_of};
+ghost use Rattle.nf_filter.specs.declared.fault.Fault.{Fault};
+ghost use Rattle.nf_filter.specs.declared.fault.Fault.TheVariants.{TooLong, Read};
 ghost use Rattle.nf_filter.specs.Faults.{answer_at_end};
 ghost use Rattle.nf_filter.specs.Surveys.{Survey, IsOfBytes, IsCut};
 

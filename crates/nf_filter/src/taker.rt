@@ -1,5 +1,9 @@
 //! What sees the text that is read.
-ghost use Rattle.nf_filter.specs.Common.{◌≡◌, ◌+◌, ◌≤◌, ℕ, Bool, List, Option, ◌++◌, length, chars, IfErr, OnOk, encode_utf8_all, Properties, first_text, first_bytes, Place, Stop};
+ghost use Rattle.std.specs.Prelude.{◌≡◌, ◌+◌, ◌≤◌, ℕ, Bool, List, Option, ◌++◌, length, chars, IfErr, OnOk, encode_utf8_all};
+ghost use Rattle.nf_forms.specs.Properties.{Properties};
+ghost use Rattle.nf_utf8.specs.Taking.{first_text, first_bytes};
+ghost use Rattle.nf_safe.specs.declared.place.Place.{Place};
+ghost use Rattle.nf_filter.specs.declared.taker.Stop.{Stop};
 ghost use Rattle.nf_filter.specs.Taker.{MayStop, TakesText};
 
 use crate::fault::Fault;

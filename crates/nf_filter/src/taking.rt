@@ -1,6 +1,7 @@
 //! How text goes through a normalizer to a sink, step by step.
-ghost use Rattle.nf_filter.specs.Common.{◌≡◌, ◌<◌, ◌≤◌, ◌++◌, length, chars, take_while, encode_utf8_all, allowed};
+ghost use Rattle.std.specs.Prelude.{◌≡◌, ◌<◌, ◌≤◌, ◌++◌, length, chars, take_while, encode_utf8_all};
 ghost use Rattle.nf_filter.specs.Passed.{IsBehindAssigned};
+ghost use Rattle.nf_filter.specs.Policy.{allowed};
 
 use crate::block::Block;
 use crate::counted::Counted;
@@ -17,11 +18,15 @@ const WORTH: usize = 16;
 const FEW: usize = 16;
 
 impl Counted {
-    ghost use Rattle.nf_filter.specs.Common.{◌≡◌, ◌+◌, ◌<◌, ◌≤◌, Bool, ℕ, List, [], ◌∷◌, ◌++◌, length, chars, Err, IfErr, OnOk, MatchResult, Form, first_text, first_bytes, IsReady, allowed};
+    ghost use Rattle.std.specs.Prelude.{◌≡◌, ◌+◌, ◌<◌, ◌≤◌, Bool, ℕ, List, [], ◌∷◌, ◌++◌, length, chars, Err, IfErr, OnOk, MatchResult};
+    ghost use Rattle.nf_forms.specs.declared.form.Form.{Form};
+    ghost use Rattle.nf_utf8.specs.Taking.{first_text, first_bytes};
+    ghost use Rattle.nf_normalizer.specs.Normalizer.{IsWithin as IsReady};
     ghost use Rattle.nf_filter.specs.Block.{Start, block_state, Written};
     ghost use Rattle.nf_filter.specs.Counted.{HasPlaces, HasTaken, IsPlacedAt, IsWithin, TakesOn, settled_text};
     ghost use Rattle.nf_filter.specs.Faults.{IsOfTaking};
     ghost use Rattle.nf_filter.specs.Feeding.{TakesAllowed};
+    ghost use Rattle.nf_filter.specs.Policy.{allowed};
     ghost use Rattle.nf_filter.specs.Stepping.{HasStepped, Standing, StandsInFront};
 
     /// Takes the first character, where there is one, and the text behind it, which begins with it at the offset `at`.

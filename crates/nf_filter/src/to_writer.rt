@@ -1,4 +1,5 @@
-ghost use Rattle.nf_filter.specs.Common.{◌≡◌, ◌<◌, ◌≤◌, [], false, true, length, take, IfOk, OnOk, OnErr, IsErr, Appends, Keeps};
+ghost use Rattle.std.specs.Prelude.{◌≡◌, ◌<◌, ◌≤◌, [], false, true, length, take, IfOk, OnOk, OnErr, IsErr};
+ghost use Rattle.std.specs.Io.KnownBytes.{Appends, Keeps};
 
 use crate::devices::{Failed, Sink};
 use std::io::Write;

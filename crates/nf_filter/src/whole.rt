@@ -1,7 +1,10 @@
 //! Texts that stand in memory whole.
-ghost use Rattle.nf_filter.specs.Common.{◌≡◌, IfOk, IfErr, OnOk, result_err, Write, ChangesOnce};
+ghost use Rattle.std.specs.Prelude.{◌≡◌, IfOk, IfErr, OnOk};
+ghost use Rattle.std.specs.Result.{result_err};
+ghost use Rattle.nf_filter.specs.declared.fault.Fault.TheVariants.{Write};
 ghost use Rattle.nf_filter.specs.Laws.Soundness.{AreSound, RefusesNone};
 ghost use Rattle.nf_filter.specs.Whole.{Converts, IsFormOf, IsOfWhole, whole_answer};
+ghost use Rattle.nf_forms.specs.Twice.{ChangesOnce};
 ghost use Rattle.nf_filter.specs.Again.{AddsWhatStays, StaysAsItIs};
 
 use crate::devices::Sink;

@@ -1,6 +1,13 @@
 -- Where the policy does not ask for assigned characters, none is refused for not being one. `src/laws.rt` has each statement
 -- as a contract.
-use Rattle.nf_filter.specs.Common.{◌≡◌, false, ℕ, List, Result, Err, Properties, Form, Fault, Unassigned, Policy, Tally, SinkState, SourceState}
+use Rattle.std.specs.Prelude.{◌≡◌, false, ℕ, List, Result, Err}
+use Rattle.nf_forms.specs.Properties.{Properties}
+use Rattle.nf_forms.specs.declared.form.Form.{Form}
+use Rattle.nf_filter.specs.declared.fault.Fault.{Fault}
+use Rattle.nf_filter.specs.declared.fault.Fault.TheVariants.{Unassigned}
+use Rattle.nf_filter.specs.declared.policy.Policy.{Policy}
+use Rattle.nf_filter.specs.declared.tally.Tally.{Tally}
+use Rattle.nf_filter.specs.Devices.{SinkState, SourceState}
 use Rattle.nf_filter.specs.Feeds.{Feeds}
 use Rattle.nf_filter.specs.Finishes.{Finishes}
 use Rattle.nf_filter.specs.Drives.{Drives}

@@ -2,10 +2,17 @@
 use Rattle.std.proofs.Common.{◌≡◌, true, false, Bool, [], refl, ap, ◌∙◌, encode_utf8_all}
 use Rattle.std.specs.Str.{chars}
 use Rattle.std.specs.Str.Lossy.{utf8_valid_len}
-use Rattle.nf_filter.specs.Common.{Properties, Form, Nfc, safe_form, text_of, ending_of, Policy, text_under, allowed, settled, is_usable, usable, settled_utf8}
+use Rattle.nf_forms.specs.Properties.{Properties}
+use Rattle.nf_forms.specs.declared.form.Form.{Form}
+use Rattle.nf_forms.specs.declared.form.Form.TheVariants.{Nfc}
 use Rattle.nf_forms.specs.Order.{by_class}
+use Rattle.nf_forms.specs.SafeForm.{safe_form}
 use Rattle.nf_safe.specs.LongestFront.{longest_front}
+use Rattle.nf_utf8.specs.Reading.{text_of, ending_of}
 use Rattle.nf_utf8.specs.Replaced.{parts_of, replaced}
+use Rattle.nf_filter.specs.declared.policy.Policy.{Policy}
+use Rattle.nf_filter.specs.Policy.{text_under, allowed}
+use Rattle.nf_filter.specs.Settled.{settled, is_usable, usable, settled_utf8}
 
 -- no characters
 pub text_under-none : (replace : Bool) → text_under replace [] ≡ []

@@ -1,5 +1,15 @@
 -- Data of sound characters alone has none that is refused. `src/laws.rt` has each statement as a contract.
-use Rattle.nf_filter.specs.Common.{◌≡◌, ℕ, List, Option, Result, Err, IsTrue, Properties, Form, is_sound, Place, Measure, Fault, Row, Policy, Tally, SinkState, SourceState}
+use Rattle.std.specs.Prelude.{◌≡◌, ℕ, List, Option, Result, Err, IsTrue}
+use Rattle.nf_forms.specs.Properties.{Properties}
+use Rattle.nf_forms.specs.declared.form.Form.{Form}
+use Rattle.nf_forms.specs.Sound.{is_sound}
+use Rattle.nf_safe.specs.declared.place.Place.{Place}
+use Rattle.nf_safe.specs.declared.measure.Measure.{Measure}
+use Rattle.nf_filter.specs.declared.fault.Fault.{Fault}
+use Rattle.nf_filter.specs.declared.fault.Fault.TheVariants.{Row}
+use Rattle.nf_filter.specs.declared.policy.Policy.{Policy}
+use Rattle.nf_filter.specs.declared.tally.Tally.{Tally}
+use Rattle.nf_filter.specs.Devices.{SinkState, SourceState}
 use Rattle.nf_filter.specs.Feeds.{Feeds}
 use Rattle.nf_filter.specs.Drives.{Drives}
 use Rattle.nf_filter.specs.Surveys.{Surveys}
