@@ -1,4 +1,4 @@
--- A text in two, before its last starter; and calm text so.
+-- A text in two, before its last starter that counts as no mark; and calm text so.
 use Rattle.std.proofs.Common.{◌≡◌, ◌⊎◌, ⊎_elim, inl, inr, ℕ, true, false, not, ◌||◌, ◌≤◌, List, [], ◌∷◌, ◌++◌, length, take, drop, refl, sym, ap, subst, ◌∙◌, arith, append_assoc, append-nil, take_at, drop_at, length-append, eqb-true, true≢false}
 use Rattle.std.proofs.lemmas.Bool.{and_parts, and_from, or_parts, or_from, not-false}
 use Rattle.std.proofs.lemmas.List.{nil_from_length}
@@ -36,10 +36,10 @@ no_marks text u = record {
   split = sym (append-nil text);
   front_utf8 = u;
   marks_utf8 = IsUtf8-nil;
-  no_starter = ap (list_all counts_as_mark) chars-nil;
+  are_marks = ap (list_all counts_as_mark) chars-nil;
 }
 
--- no starter was found
+-- none was found
 pub all_marks : (text front : List ℕ) → MarksBehind text front → length front ≡ 0 → SplitsAtStarter text [] text
 all_marks text front here none =
     let nil = nil_from_length front none in
@@ -48,7 +48,7 @@ all_marks text front here none =
       text = refl;
       characters = sym (ap (λ t. t ++ chars text) chars-nil);
       back_utf8 = subst IsUtf8 same here.marks_utf8;
-      end = inr (refl, subst (λ t. list_all counts_as_mark (chars t) ≡ true) same here.no_starter);
+      end = inr (refl, subst (λ t. list_all counts_as_mark (chars t) ≡ true) same here.are_marks);
     }
 
 module _ (text last front : List ℕ) (here : MarksBehind text last) (c : ℕ) (u : IsUtf8 front) (e : last ≡ front ++ encode_utf8 c) where
@@ -73,21 +73,21 @@ module _ (text last front : List ℕ) (here : MarksBehind text last) (c : ℕ) (
     split = split;
     front_utf8 = u;
     marks_utf8 = behind_utf8;
-    no_starter = ap (list_all counts_as_mark) chars-behind ∙ and_from _ _ mark here.no_starter;
+    are_marks = ap (list_all counts_as_mark) chars-behind ∙ and_from _ _ mark here.are_marks;
   }
 
   pub front_boundary : IsCharBoundary text (length front)
   front_boundary = IsCharBoundary-at_seam text front behind split behind_utf8
 
   pub splits_at_starter : counts_as_mark c ≡ false → SplitsAtStarter text (take (length front) text) (drop (length front) text)
-  splits_at_starter starts =
+  splits_at_starter other =
       subst (λ a. SplitsAtStarter text a (drop (length front) text)) (sym (ap (take (length front)) split ∙ take_at front behind (length front) refl))
       (subst (λ b. SplitsAtStarter text front b) (sym (ap (drop (length front)) split ∙ drop_at front behind (length front) refl))
       (record {
         text = split;
         characters = ap chars split ∙ chars-append front behind u;
         back_utf8 = behind_utf8;
-        end = inl (record { first = c; marks = chars here.marks; text = chars-behind; starts = starts; no_starter = here.no_starter });
+        end = inl (record { first = c; marks = chars here.marks; text = chars-behind; other = other; are_marks = here.are_marks });
       }))
 
 module _ (f : Form) (lead_none : (c : ℕ) → canonical_combining_class c ≡ 0 → is_among vowel_signs c ≡ false → is_among halfwidth_marks c ≡ false → lead ucd (ucd.compat c) ≡ 0)
@@ -128,8 +128,8 @@ module _ (f : Form) (lead_none : (c : ℕ) → canonical_combining_class c ≡ 0
             first = end.first;
             marks = end.marks;
             text = end.text;
-            parting = parts _ _ end.first _ _ behind.2 end.starts;
-            no_starter = of_marks _ _ end.marks class count behind.3 end.no_starter;
+            parting = parts _ _ end.first _ _ behind.2 end.other;
+            no_starter = of_marks _ _ end.marks class count behind.3 end.are_marks;
           })
 
       none : (front ≡ []) × (list_all counts_as_mark (chars back) ≡ true) → ((front ≡ []) × (back ≡ [])) ⊎ BeginsAndMarks ucd f (chars back)

@@ -8,13 +8,13 @@ use Rattle.nf_facts.specs.Passing.{is_among, halfwidth_marks, vowel_signs}
 abbrev pub counts_as_mark : ℕ → Bool
 counts_as_mark c = not (canonical_combining_class c == 0) || (is_among halfwidth_marks c || is_among vowel_signs c)
 
--- another starter, and such characters behind it
+-- a character that is neither, and such behind it
 pub record StarterAndMarks (x : List ℕ) : Type 0 where
   pub first : ℕ
   pub marks : List ℕ
   pub text : x ≡ first ∷ marks
-  pub starts : counts_as_mark first ≡ false
-  pub no_starter : list_all counts_as_mark marks ≡ true
+  pub other : counts_as_mark first ≡ false
+  pub are_marks : list_all counts_as_mark marks ≡ true
 
 -- where the text has none, all of it is the second part
 pub record SplitsAtStarter (whole front back : List ℕ) : Type 0 where
@@ -23,10 +23,10 @@ pub record SplitsAtStarter (whole front back : List ℕ) : Type 0 where
   pub back_utf8 : IsUtf8 back
   pub end : StarterAndMarks (chars back) ⊎ ((front ≡ []) × (list_all counts_as_mark (chars back) ≡ true))
 
--- behind this front of the text there are marks alone
+-- behind this front of the text there are such characters alone
 pub record MarksBehind (whole front : List ℕ) : Type 0 where
   pub marks : List ℕ
   pub split : whole ≡ front ++ marks
   pub front_utf8 : IsUtf8 front
   pub marks_utf8 : IsUtf8 marks
-  pub no_starter : list_all counts_as_mark (chars marks) ≡ true
+  pub are_marks : list_all counts_as_mark (chars marks) ≡ true

@@ -1,5 +1,6 @@
--- Calm text: characters that part a text, and behind each of them marks that stay where they stand. Its form is itself,
--- whatever stands before it: what the quick check tells of a text (UAX #15, section 9), over any character data.
+-- Calm text: characters that part a text, and behind each of them marks that stay where they stand, or starters that count as
+-- marks. Its form is itself, whatever stands before it: what the quick check tells of a text (UAX #15, section 9), over any
+-- character data.
 use Rattle.std.specs.Prelude.{◌≡◌, ◌<◌, ◌≤◌, ◌+◌, ◌⊎◌, ℕ, true, false, List, [], ◌∷◌, length}
 use Rattle.nf_forms.specs.Properties.{Properties, is_starter}
 use Rattle.nf_forms.specs.Runs.{has_starter, trail}
