@@ -58,10 +58,12 @@ module _ (f : Form) where
   no_lead_bits : (byte : ℕ) → byte < 192 → lead_bits f byte ≡ 0
   no_lead_bits byte small = eqb-true _ 0 (all_below-at (λ b. lead_bits f b == 0) 192 byte (no_lead f).leads small)
 
+  pub no_look : (byte : ℕ) → byte < 192 → wants_look f byte ≡ false
+  no_look byte small = ap (λ n. not (n == 0)) (no_lead_bits byte small)
+
   -- bytes that want a look begin a character
   pub lead_begins : (byte : ℕ) → wants_look f byte ≡ true → 192 ≤ byte
-  lead_begins byte look =
-      ⊎_elim (λ small. absurd (true≢false (sym look ∙ ap (λ n. not (n == 0)) (no_lead_bits byte small)))) (λ large. large) (order byte 192)
+  lead_begins byte look = ⊎_elim (λ small. absurd (true≢false (sym look ∙ no_look byte small))) (λ large. large) (order byte 192)
 
   begins_with : (lead sets mask : ℕ) → (lead < 192 → sets ≡ 0) → not (bit_or sets (bit_and (lead_bits f lead) mask) == 0) ≡ true → 192 ≤ lead
   begins_with lead sets mask none look =

@@ -5,17 +5,19 @@ ghost use Rattle.nf_calm.specs.Leads.{wants_look};
 use crate::lanes::looks;
 use nf_forms::Form;
 use nf_lanes::none_of;
+use nf_utf8::ascii_prefix;
 
 /// The bytes of a block, which are looked at by one branch.
 const BLOCK: usize = 64;
 
-/// How many bytes there are in the blocks before the first in which a byte begins a character that has to be looked up.
+/// How many bytes of ASCII there are, and in the blocks behind them before the first in which a byte begins a character that
+/// has to be looked up.
 #[inline(always)]
 pub(crate) fn plain_blocks(form: Form, bytes: &[u8]) -> usize
     ensures within { result ≤ length bytes.now }
     ensures plain { (k : ℕ) → k < result → wants_look form (slice_index bytes.now k) ≡ false }
 {
-    let mut at = 0;
+    let mut at = ascii_prefix(bytes);
     while bytes.len() - at >= BLOCK && is_plain(form, bytes, at) {
         at += BLOCK;
     }

@@ -1,5 +1,4 @@
 ghost use Rattle.std.specs.Prelude.{◌≡◌, ◌↔◌, ◌+◌, ◌<◌, ◌≤◌, ℕ, List, [], ◌∷◌, ◌++◌, length, chars, Some, None, true, IsTrue, IfOk, IfErr, OnOk, encode_utf8};
-ghost use Rattle.nf_forms.specs.declared.form.Form.TheVariants.{Nfc};
 ghost use Rattle.nf_calm.specs.Front.{IsCalmFront};
 ghost use Rattle.nf_filter.specs.Surveys.{Surveys, IsOfSurvey, IsCut};
 ghost use Rattle.nf_safe.specs.Checker.{place_of, offset_of};
@@ -8,6 +7,7 @@ ghost use Rattle.nf_filter.specs.Checks.{check_decision, no_place, HasChecked, S
 
 use crate::devices::Source;
 use crate::fault::Fault;
+use crate::measuring::Pace;
 use crate::reading::Reading;
 use crate::sources::{BLOCK, survey};
 use crate::taker::{Stop, Taker};
@@ -114,8 +114,9 @@ fn see_text<R: Rows>(checker: &mut Checker, rows: &R, text: &str) -> Result<(), 
     ensures sees { let p = R.properties rows.now in (base : ℕ) (x : List ℕ) → HasChecked p checker.old base x → Sees p checker.new base (x ++ chars text.now) result }
 {
     let mut rest = text;
+    let mut search = Search::new();
     while !rest.is_empty() {
-        match see_front(checker, rows, rest) {
+        match see_front(checker, rows, &mut search, rest) {
             Ok(behind) => rest = behind,
             Err(stop) => return Err(stop),
         }
@@ -123,8 +124,56 @@ fn see_text<R: Rows>(checker: &mut Checker, rows: &R, text: &str) -> Result<(), 
     Ok(())
 }
 
-/// Sees a front of a text: what of it is calm, or else its first character. Answers what stands behind.
-fn see_front<'t, R: Rows>(checker: &mut Checker, rows: &R, text: &'t str) -> Result<&'t str, Stop>
+/// How calm text is looked for.
+#[derive(Clone, Copy)]
+struct Search {
+    /// The form in which text was last found to be calm: composed text is so in NFC, decomposed text in NFD.
+    form: Form,
+    pace: Pace,
+}
+
+impl Search {
+    ghost use Rattle.std.specs.Prelude.{◌<◌, length, IfSome};
+    ghost use Rattle.nf_calm.specs.Front.{IsCalmFront};
+
+    const fn new() -> Search {
+        Search {
+            form: Form::Nfc,
+            pace: Pace::new(),
+        }
+    }
+
+    /// The calm front of a text in one of both forms, where there is one and it is asked for.
+    fn front<'t, R: Rows>(&mut self, rows: &R, text: &'t str) -> Option<Calm<'t>>
+        ensures calm { IfSome result (λ calm. IsCalmFront (R.properties rows.now) self.new.form text.now calm.settled.now calm.tail.now calm.rest.now) }
+        ensures some { IfSome result (λ calm. 0 < length calm.tail.now) }
+    {
+        if !self.pace.is_due() {
+            return None;
+        }
+        let mut calm = rows.calm_front(self.form, text);
+        if calm.tail.is_empty() {
+            self.form = match self.form {
+                Form::Nfc => Form::Nfd,
+                _ => Form::Nfc,
+            };
+            calm = rows.calm_front(self.form, text);
+        }
+        self.pace.told(text.len() - calm.rest.len());
+        if calm.tail.is_empty() {
+            return None;
+        }
+        Some(calm)
+    }
+}
+
+/// Sees a front of a text: what of it is found to be calm, or else its first character. Answers what stands behind.
+fn see_front<'t, R: Rows>(
+    checker: &mut Checker,
+    rows: &R,
+    search: &mut Search,
+    text: &'t str,
+) -> Result<&'t str, Stop>
     requires some { 0 < length text.now }
     requires none { place_of checker.old ≡ None }
     requires fits { offset_of checker.old + length text.now ≤ u64.MAX }
@@ -134,19 +183,17 @@ fn see_front<'t, R: Rows>(checker: &mut Checker, rows: &R, text: &'t str) -> Res
     ensures stop { IfErr result (MayStop true) }
     ensures sees { let p = R.properties rows.now in (base : ℕ) (x : List ℕ) → HasChecked p checker.old base x → SeesFront p checker.new base x text.now result }
 {
-    // The form whose calm text is widest.
-    let calm = rows.calm_front(Form::Nfc, text);
-    if calm.tail.is_empty() {
+    let Some(calm) = search.front(rows, text) else {
         return see_first(checker, rows, text);
-    }
-    pass_calm(checker, rows, calm);
+    };
+    pass_calm(checker, rows, search.form, calm);
     Ok(calm.rest)
 }
 
 /// Goes over the calm front of a text, at which no text leaves the format. Only from its last character that parts a
 /// text on is it seen, by a checker that begins anew.
-fn pass_calm<R: Rows>(checker: &mut Checker, rows: &R, calm: Calm<'_>)
-    requires calm { IsCalmFront (R.properties rows.now) Nfc (calm.settled.now ++ (calm.tail.now ++ calm.rest.now)) calm.settled.now calm.tail.now calm.rest.now }
+fn pass_calm<R: Rows>(checker: &mut Checker, rows: &R, _form: Form, calm: Calm<'_>)
+    requires calm { IsCalmFront (R.properties rows.now) _form (calm.settled.now ++ (calm.tail.now ++ calm.rest.now)) calm.settled.now calm.tail.now calm.rest.now }
     requires some { 0 < length calm.tail.now }
     requires none { place_of checker.old ≡ None }
     requires fits { offset_of checker.old + length calm.settled.now + length calm.tail.now ≤ u64.MAX }

@@ -114,7 +114,7 @@ impl Taker for Measurer {
 
 /// How often it is asked what is known of a text: the longer little was known, the less often.
 #[derive(Clone, Copy)]
-struct Pace {
+pub(crate) struct Pace {
     /// So many characters are seen by themselves before it is asked again.
     few: usize,
     /// So many are where little is known then.
@@ -123,13 +123,13 @@ struct Pace {
 
 impl Pace {
     #[inline(always)]
-    const fn new() -> Pace {
+    pub const fn new() -> Pace {
         Pace { few: 0, next: 1 }
     }
 
     /// Whether it is asked before the next character.
     #[inline(always)]
-    fn is_due(&mut self) -> bool {
+    pub fn is_due(&mut self) -> bool {
         if self.few > 0 {
             self.few -= 1;
             return false;
@@ -139,7 +139,7 @@ impl Pace {
 
     /// So many bytes were known.
     #[inline(always)]
-    fn told(&mut self, len: usize) {
+    pub fn told(&mut self, len: usize) {
         if len >= WORTH {
             self.next = 1;
             return;

@@ -1,11 +1,14 @@
-ghost use Rattle.std.specs.Prelude.{◌≡◌, ◌+◌, ◌<◌, ◌≤◌, ℕ, length, take, slice_index, map, leb};
+ghost use Rattle.std.specs.Prelude.{◌≡◌, ◌+◌, ◌<◌, ◌≤◌, ℕ, length, take, slice_index, map, leb, IsTrue};
 ghost use Rattle.std.specs.Str.{IsAscii};
 ghost use Rattle.std.specs.Simd.Lanes.{mask_l};
 
 use crate::lanes::{LANES, at_least};
 use std::simd::prelude::*;
 
-/// The bytes that are looked at together, where fewer than 32 are left.
+/// The bytes that are looked at by one branch, as long as all are below 80.
+const BLOCK: usize = 64;
+
+/// Those that are looked at together, where fewer than 32 are left.
 const FEW: usize = 8;
 
 /// The length in bytes of the longest prefix of bytes below 80 (hexadecimal).
@@ -14,7 +17,7 @@ pub fn ascii_prefix(bytes: &[u8]) -> usize
     ensures ascii { IsAscii (take result bytes.now) }
     ensures longest { result < length bytes.now → 0x80 ≤ slice_index bytes.now result }
 {
-    let mut at = 0;
+    let mut at = ascii_blocks(bytes);
     while bytes.len() - at >= LANES {
         let others = at_least(u8x32::from_slice(&bytes[at..]), 0x80);
         if others != 0 {
@@ -23,6 +26,27 @@ pub fn ascii_prefix(bytes: &[u8]) -> usize
         at += LANES;
     }
     by_few(bytes, at)
+}
+
+/// How many bytes there are in the blocks before the first that has a byte of 80 or above.
+#[inline(always)]
+fn ascii_blocks(bytes: &[u8]) -> usize
+    ensures within { result ≤ length bytes.now }
+    ensures ascii { (k : ℕ) → k < result → slice_index bytes.now k < 0x80 }
+{
+    let mut at = 0;
+    while bytes.len() - at >= BLOCK && is_ascii(u8x64::from_slice(&bytes[at..])) {
+        at += BLOCK;
+    }
+    at
+}
+
+/// Whether no byte of the block is 80 or above.
+#[inline(always)]
+fn is_ascii(block: u8x64) -> bool
+    ensures { IsTrue result → mask_l (map (λ byte. leb 0x80 byte) block) ≡ 0 }
+{
+    block.simd_ge(u8x64::splat(0x80)).to_bitmask() == 0
 }
 
 /// The end of the prefix, a few bytes at a time from `from` on.
