@@ -17,7 +17,7 @@ unreachable-requires g c =
     let end = chars c.args.calm.tail.now in
     let stopped : check_stop p place end ≡ Some c.in_default.field-0 =
     subst (λ r. Sees p c.see_chars.new.checker place end r) c.in_default.is (c.see_chars.ensures.sees place [] (new_checked p c.new-end.result place (c.new-end.ensures.stands p) c.new-end.ensures.place)) in
-    let none = unstopped p c.args.form (chars c.args.calm.settled.now) end calm.class calm.count calm.calm calm.sound (ends p c.args.form _ _ _ _ calm c.requires.some) place in
+    let none = unstopped p c.args._form (chars c.args.calm.settled.now) end calm.class calm.count calm.calm calm.sound (ends p c.args._form _ _ _ _ calm c.requires.some) place in
     cc
 
 pub overflow_add-count : goal.overflow_add-count
@@ -46,7 +46,7 @@ returns-clause-sees g c = λ base x before.
     omega (arith, c.offset.ensures, before.stands.offset (ap is_some c.requires.none), ap length (encodes-append x front), length-append (encode_utf8_all x) (encode_utf8_all front), ap length (encodes-chars _ first)) in
     record {
       stands = c.go_on_from.ensures.stands base p x front end before.stands (omega (arith, c.char_count.ensures, c.char_count-2.ensures, length-append front end))
-          (counts_from_end p c.args.form front end calm.class calm.count calm.calm calm.sound (ends p c.args.form _ _ _ _ calm c.requires.some)) (subst (λ b. StandsAfter b p c.see_chars.new.checker end) here seen.stands);
+          (counts_from_end p c.args._form front end calm.class calm.count calm.calm calm.sound (ends p c.args._form _ _ _ _ calm c.requires.some)) (subst (λ b. StandsAfter b p c.see_chars.new.checker end) here seen.stands);
       none = c.go_on_from.ensures.none;
       sound = list_all-append (is_sound p) x (front ++ end) ∙ and_from _ _ before.sound calm.sound;
     }
