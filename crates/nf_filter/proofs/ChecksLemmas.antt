@@ -1,5 +1,5 @@
 -- What a check decides, character by character and front by front.
-use Rattle.std.proofs.Common.{◌≡◌, ℕ, ◌+◌, Bool, true, false, List, [], ◌∷◌, ◌++◌, length, Some, None, Ok, Err, refl, sym, ap, ◌∙◌, subst, append_assoc, append-nil, if◌then◌else◌, Option, Result, option_map, encode_utf8_all, chars}
+use Rattle.std.proofs.Common.{◌≡◌, ℕ, ◌+◌, Bool, true, false, List, [], ◌∷◌, ◌++◌, length, Some, None, Ok, Err, refl, sym, ap, ◌∙◌, subst, append_assoc, append-nil, if◌then◌else◌, Option, Result, encode_utf8_all, chars}
 use Rattle.std.specs.List.{list_all}
 use Rattle.std.proofs.lemmas.Bool.{cond-true, or_left, and_parts, and_from, and_left, and_right}
 use Rattle.std.proofs.lemmas.List.Folds.{list_all-append}
@@ -26,14 +26,11 @@ use Rattle.nf_safe.specs.Checker.{CountsFromEnd}
 use Rattle.nf_safe.specs.Laws.Place.{is_in_format-stream_safe, place_from-in_format, place_from-stays}
 use Rattle.nf_filter.specs.declared.fault.Fault.{Fault}
 use Rattle.nf_filter.specs.declared.fault.Fault.TheVariants.{Row}
-use Rattle.nf_filter.specs.declared.taker.Stop.{Stop}
-use Rattle.nf_filter.specs.declared.taker.Stop.TheVariants.{Refused, Found}
 use Rattle.nf_filter.specs.Faults.{bad_byte}
-use Rattle.nf_filter.specs.Taker.{stop_or, stop_in, TakesText}
-use Rattle.nf_filter.specs.Checks.{sound_front, check_fault, place_or_fault, check_decision, place_or_row, check_stop, HasChecked, Sees, HasSeenFront}
+use Rattle.nf_filter.specs.Taker.{decided_or, decided_in, TakesText}
+use Rattle.nf_filter.specs.Checks.{sound_front, check_fault, place_or_fault, check_decision, text_decision, HasChecked, Sees, HasSeenFront}
 use Rattle.nf_filter.proofs.TakingLemmas.{front-behind, front-more, front-whole}
 use Rattle.nf_filter.proofs.PolicyLemmas.{take_while-all, take_while-append, take_while-stop}
-use Rattle.nf_filter.specs.Taker.{told}
 
 module _ (p : Properties) where
   pub all_sound-push : (x : List ℕ) (c : ℕ) → list_all (is_sound p) x ≡ true → is_sound p c ≡ true → list_all (is_sound p) (x ++ c ∷ []) ≡ true
@@ -44,48 +41,48 @@ module _ (p : Properties) where
 
   module _ (base : ℕ) where
     stop_at : (x y : List ℕ) (o : Option Place) (b : Bool) → sound_front p x ≡ y → place_from base p y ≡ o → list_all (is_sound p) x ≡ b
-        → check_stop p base x ≡ place_or_row o b (Row (base + length (encode_utf8_all y)))
-    unfolding check_stop
+        → text_decision p base x ≡ place_or_fault o (if b then None else Some (Row (base + length (encode_utf8_all y))))
+    unfolding text_decision
     stop_at x y o b front at all =
-        ap (λ z. place_or_row (place_from base p z) (list_all (is_sound p) x) (Row (base + length (encode_utf8_all z)))) front
-        ∙ ap (λ o. place_or_row o (list_all (is_sound p) x) (Row (base + length (encode_utf8_all y)))) at
-        ∙ ap (λ b. place_or_row o b (Row (base + length (encode_utf8_all y)))) all
+        ap (λ z. place_or_fault (place_from base p z) (if list_all (is_sound p) x then None else Some (Row (base + length (encode_utf8_all z))))) front
+        ∙ ap (λ o. place_or_fault o (if list_all (is_sound p) x then None else Some (Row (base + length (encode_utf8_all y))))) at
+        ∙ ap (λ b. place_or_fault o (if b then None else Some (Row (base + length (encode_utf8_all y))))) all
 
     -- a place stays
     place_stays : (x z : List ℕ) (at : Place) → place_from base p x ≡ Some at → place_from base p (x ++ z) ≡ Some at
     place_stays x z at found = by_last (λ z. place_from base p (x ++ z) ≡ Some at) (ap (place_from base p) (append-nil x) ∙ found)
         (λ z c before. ap (place_from base p) (sym (append_assoc x z (c ∷ []))) ∙ place_from-stays p base (x ++ z) c at before) z
 
-    pub stop_none : (x : List ℕ) → list_all (is_sound p) x ≡ true → place_from base p x ≡ None → check_stop p base x ≡ None
+    pub stop_none : (x : List ℕ) → list_all (is_sound p) x ≡ true → place_from base p x ≡ None → text_decision p base x ≡ None
     stop_none x all none = stop_at x x None true (take_while-all (is_sound p) x all) none all
 
-    pub stop_place : (x y : List ℕ) (at : Place) → list_all (is_sound p) x ≡ true → place_from base p x ≡ Some at → check_stop p base (x ++ y) ≡ Some (Found at)
+    pub stop_place : (x y : List ℕ) (at : Place) → list_all (is_sound p) x ≡ true → place_from base p x ≡ Some at → text_decision p base (x ++ y) ≡ Some (Ok (Some at))
     stop_place x y at all found = stop_at (x ++ y) (x ++ sound_front p y) (Some at) (list_all (is_sound p) (x ++ y)) (take_while-append (is_sound p) x y all) (place_stays x (sound_front p y) at found) refl
 
     pub stop_row : (x : List ℕ) (c : ℕ) (y : List ℕ) → list_all (is_sound p) x ≡ true → place_from base p x ≡ None → is_sound p c ≡ false
-        → check_stop p base ((x ++ c ∷ []) ++ y) ≡ Some (Refused (Row (base + length (encode_utf8_all x))))
+        → text_decision p base ((x ++ c ∷ []) ++ y) ≡ Some (Err (Row (base + length (encode_utf8_all x))))
     stop_row x c y all none unsound = stop_at ((x ++ c ∷ []) ++ y) x None false (take_while-stop (is_sound p) x c y all unsound) none (not_all x c y unsound)
 
-    -- what the bytes decide is what stops a checker in them
-    pub decides : (bytes : List ℕ) → check_decision p base bytes ≡ option_map (told Some) (stop_in (check_stop p base) base bytes)
-    unfolding check_decision check_fault check_stop
+    -- what the bytes decide is what their text does
+    pub decides : (bytes : List ℕ) → check_decision p base bytes ≡ decided_in (text_decision p base) base bytes
+    unfolding check_decision check_fault text_decision
     decides bytes = next (place_from base p (sound_front p (text_of bytes))) (list_all (is_sound p) (text_of bytes)) (bad_byte base (ending_of bytes)) _
       where
         next : (o : Option Place) (b : Bool) (bad : Option Fault) (row : Fault)
-            → place_or_fault o (if b then bad else Some row) ≡ option_map (told Some) (stop_or (place_or_row o b row) bad)
+            → place_or_fault o (if b then bad else Some row) ≡ decided_or (place_or_fault o (if b then None else Some row)) bad
         next (Some at) b bad row = refl
         next None true None row = refl
         next None true (Some fault) row = refl
         next None false bad row = refl
 
   -- the text was seen
-  pub TakesText-seen : (checker : Checker) (base : ℕ) (x y : List ℕ) (r : Result (Unit {0}) Stop) → Sees p checker base (x ++ y) r → TakesText (HasChecked p checker base) (check_stop p base) x y r
-  TakesText-seen checker base x y (Ok u) sees = record { stop = sym (stop_none base (x ++ y) sees.sound (sym sees.stands.place ∙ sees.none)); taken = sees }
-  TakesText-seen checker base x y (Err stop) sees = record { stop = sym sees; taken = tt }
+  pub TakesText-seen : (checker : Checker) (base : ℕ) (x y : List ℕ) (r : Option (Result (Option Place) Fault)) → Sees p checker base (x ++ y) r → TakesText (HasChecked p checker base) (text_decision p base) x y r
+  TakesText-seen checker base x y None sees = record { decided = sym (stop_none base (x ++ y) sees.sound (sym sees.stands.place ∙ sees.none)); taken = λ _. sees }
+  TakesText-seen checker base x y (Some decision) sees = record { decided = sym sees; taken = λ none. cc }
 
-  -- what stops it in what stands behind a front stops it in the text
-  pub stop-more : (base : ℕ) (x text front rest : List ℕ) (stop : Stop) → chars text ≡ front ++ chars rest → check_stop p base ((x ++ front) ++ chars rest) ≡ Some stop → check_stop p base (x ++ chars text) ≡ Some stop
-  stop-more base x text front rest stop is stops = ap (check_stop p base) (sym (front-behind text front rest is x)) ∙ stops
+  -- what is decided by what stands behind a front is decided by the text
+  pub stop-more : (base : ℕ) (x text front rest : List ℕ) (stop : Result (Option Place) Fault) → chars text ≡ front ++ chars rest → text_decision p base ((x ++ front) ++ chars rest) ≡ Some stop → text_decision p base (x ++ chars text) ≡ Some stop
+  stop-more base x text front rest stop is stops = ap (text_decision p base) (sym (front-behind text front rest is x)) ∙ stops
 
   module _ (checker : Checker) (base : ℕ) (x text : List ℕ) where
     pub HasSeenFront-none : HasChecked p checker base x → HasSeenFront p checker base x text text
@@ -123,7 +120,7 @@ module _ (p : Properties) where
       }
 
       -- nothing stops a checker that begins at its end
-      pub unstopped : (base : ℕ) → check_stop p base t ≡ None
+      pub unstopped : (base : ℕ) → text_decision p base t ≡ None
       unstopped base =
           let alone : IsSoundText p t = (and_parts _ _ (sym (list_all-append (is_sound p) s t) ∙ sound)).1 in
           let tail = calm-tail p f s end.first end.marks class count (subst (λ v. IsCalm p f (s ++ v) class count) end.text calm) end.parting in

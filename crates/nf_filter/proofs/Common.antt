@@ -13,7 +13,7 @@ pub use Rattle.std.specs.Result.{result_err, result_map_both}
 pub use Rattle.std.specs.Str.{all_scalars, IsCharBoundary, chars as characters}
 pub use Rattle.std.specs.Str.Iter.{chars_rest}
 pub use Rattle.nf_filter.specs.Block.{Start, BlockState, Written, WritesTo, GivesAll, Broken, WritesOn, block_state}
-unfoldable pub use Rattle.nf_filter.specs.Checks.{check_fault, check_decision, check_stop}
+unfoldable pub use Rattle.nf_filter.specs.Checks.{check_fault, check_decision, text_decision}
 pub use Rattle.nf_filter.specs.Checks.{sound_front, place_or_fault, no_place, HasChecked, Sees}
 unfoldable pub use Rattle.nf_filter.specs.Counted.{unusable_at, usable_utf8}
 pub use Rattle.nf_filter.specs.Counted.{HasTaken, TakesOn, settled_text, IsPlacedAt, utf8_place, HasPlaces, ends_at}
@@ -28,7 +28,7 @@ unfoldable pub use Rattle.nf_filter.specs.Finishes.{end_of, final_utf8}
 pub use Rattle.nf_filter.specs.Finishes.{tally_of, answer_or, end_under, whole_or, is_taken, final_under, Finishes, Closes}
 pub use Rattle.nf_filter.specs.Laws.Settled.{settled_utf8-none, text_under-none}
 pub use Rattle.nf_filter.specs.Laws.Soundness.{AreSound, RefusesNone}
-pub use Rattle.nf_filter.specs.Measures.{unusable_stop, HasMeasured, HasSeenFront, SeesText, measure_decision, no_measure, text_measure}
+pub use Rattle.nf_filter.specs.Measures.{unusable_decision, HasMeasured, HasSeenFront, SeesText, measure_decision, text_measure}
 pub use Rattle.nf_filter.specs.Passed.{IsBehindAssigned}
 pub use Rattle.nf_filter.specs.Policy.{as_is, allowed, text_under, whole_under, len_under}
 pub use Rattle.nf_filter.specs.Saved.{saved_of, are_marks, IsCounted, CountsFit, IsPending, IsRestorable}
@@ -36,7 +36,7 @@ unfoldable pub use Rattle.nf_filter.specs.Settled.{is_usable, settled_utf8, sett
 pub use Rattle.nf_filter.specs.Settled.{usable}
 pub use Rattle.nf_filter.specs.Stepping.{Standing, StandsInFront}
 pub use Rattle.nf_filter.specs.Surveys.{Survey, Surveys, IsCut}
-pub use Rattle.nf_filter.specs.Taker.{stop_or, stop_in, TakesText, told, HasSurveyed, IsReady}
+pub use Rattle.nf_filter.specs.Taker.{decided_or, decided_in, TakesText, HasSurveyed, IsReady}
 unfoldable pub use Rattle.nf_filter.specs.Whole.{whole_utf8, whole_answer}
 pub use Rattle.nf_filter.specs.Whole.{Converts, IsFormOf, IsOfWhole, fault_or}
 pub use Rattle.nf_filter.specs.Writes.{Puts, BreaksOff}
@@ -47,8 +47,6 @@ pub use Rattle.nf_filter.specs.declared.fault.Fault.TheVariants.{Row, Write as W
 pub use Rattle.nf_filter.specs.declared.filter.State.{State}
 pub use Rattle.nf_filter.specs.declared.policy.Policy.{Policy}
 pub use Rattle.nf_filter.specs.declared.reading.Reading.{Reading}
-pub use Rattle.nf_filter.specs.declared.taker.Stop.{Stop}
-pub use Rattle.nf_filter.specs.declared.taker.Stop.TheVariants.{Refused}
 pub use Rattle.nf_filter.specs.declared.tally.Tally.{Tally}
 pub use Rattle.nf_forms.specs.Forms.{normal_form, row_of, decomposed, composes, finished}
 pub use Rattle.nf_forms.specs.Front.{back, front}

@@ -1,5 +1,5 @@
 -- What a filter answers.
-use Rattle.nf_filter.proofs.Common.{◌≡◌, ℕ, ◌+◌, ◌<◌, ◌^◌, Bool, true, false, List, [], ◌++◌, length, Some, None, Err, ◌⊎◌, inl, inr, ⊎_elim, refl, sym, ap, ◌∙◌, arith, IsTrue, Option, Result, option_map, if◌then◌else◌, length-append, ◌↔◌, subst, Properties, Form, text_of, ending_of, Fault, Write, State, Policy, Refused, SinkState, Puts, BreaksOff, as_is, is_usable, bad_byte, fault_in, unusable_at, unusable_stop, stop_or, stop_in, base_of, offset_of, StandsAfter, HasReadTo}
+use Rattle.nf_filter.proofs.Common.{◌≡◌, ℕ, ◌+◌, ◌<◌, ◌^◌, Bool, true, false, List, [], ◌++◌, length, Some, None, Err, ◌⊎◌, inl, inr, ⊎_elim, refl, sym, ap, ◌∙◌, arith, IsTrue, Option, Result, option_map, if◌then◌else◌, length-append, ◌↔◌, subst, Properties, Form, text_of, ending_of, Fault, Write, State, Policy, SinkState, Puts, BreaksOff, as_is, is_usable, bad_byte, fault_in, unusable_at, unusable_decision, decided_or, decided_in, base_of, offset_of, StandsAfter, HasReadTo}
 
 module _ {old new : SinkState} {before after : List ℕ} where
   -- a sink that stood failed was given nothing
@@ -25,12 +25,12 @@ pub failed_if : {T : Type 0} {old new : SinkState} {before after : List ℕ} (r 
     → (r ≡ Err Write) ↔ (IsTrue new.is_failed × (length before < length after))
 failed_if r breaks puts = (λ e. failed_with_more (breaks e), λ both. ⊎_elim (λ e. e) (λ not. absurd (never_failed (puts not) both)) (write_or_kept r))
 
--- what stops a taker that is refused what a filter is
-pub stop_in-fault : (p : Properties) (base : ℕ) (bytes : List ℕ) → stop_in (unusable_stop p base) base bytes ≡ option_map Refused (fault_in as_is p base bytes)
+-- what a text decides that is refused where a filter refuses it
+pub decided_in-fault : (p : Properties) (base : ℕ) (bytes : List ℕ) → decided_in (unusable_decision p base) base bytes ≡ option_map Err (fault_in as_is p base bytes)
 unfolding unusable_at fault_in
-stop_in-fault p base bytes = next (is_usable p (text_of bytes)) (bad_byte base (ending_of bytes)) _
+decided_in-fault p base bytes = next (is_usable p (text_of bytes)) (bad_byte base (ending_of bytes)) _
   where
-    next : (b : Bool) (o : Option Fault) (row : Fault) → stop_or (option_map Refused (if b then None else Some row)) o ≡ option_map Refused (if b then o else Some row)
+    next : {T : Type 0} (b : Bool) (o : Option Fault) (row : Fault) → decided_or {T = T} (option_map Err (if b then None else Some row)) o ≡ option_map Err (if b then o else Some row)
     next true o row = refl
     next false o row = refl
 

@@ -1,9 +1,10 @@
 -- What a measurement decides, character by character.
-use Rattle.nf_filter.proofs.Common.{◌≡◌, ℕ, ◌+◌, Bool, true, false, not, ◌&&◌, ◌||◌, List, [], ◌∷◌, ◌++◌, length, Some, None, Ok, Err, refl, sym, ap, ◌∙◌, if◌then◌else◌, is_err, OnOk, Option, Result, option_map, encode_utf8_all, subst, append_assoc, result_err, Properties, joiner, is_too_long, stream_safe, is_sound, IsSoundText, refusal, unsound_at, Fault, Row, Stop, Refused, as_is, is_usable, fault_in, utf8_place, stop_in, TakesText, HasMeasured, HasSeenFront, SeesText, unusable_stop, measure_decision, no_measure, is_usable-push, told}
+use Rattle.nf_filter.proofs.Common.{◌≡◌, ℕ, ◌+◌, Bool, true, false, not, ◌&&◌, ◌||◌, List, [], ◌∷◌, ◌++◌, length, Some, None, Ok, Err, refl, sym, ap, ◌∙◌, if◌then◌else◌, is_err, OnOk, Option, Result, option_map, encode_utf8_all, subst, append_assoc, result_err, Properties, joiner, is_too_long, stream_safe, is_sound, IsSoundText, refusal, unsound_at, Fault, Row, is_usable, unusable_at, utf8_place, decided_in, TakesText, HasMeasured, HasSeenFront, SeesText, unusable_decision, measure_decision, is_usable-push}
 use Rattle.nf_row.specs.declared.unsound.Unsound.{Unsound}
 use Rattle.nf_safe.specs.declared.measurer.Measurer.{Measurer}
 use Rattle.nf_filter.proofs.TextLemmas.{unusable_at-usable, unusable_at-stop}
-use Rattle.nf_filter.proofs.FilterLemmas.{stop_in-fault}
+use Rattle.nf_safe.specs.declared.measure.Measure.{Measure}
+use Rattle.nf_filter.proofs.FilterLemmas.{decided_in-fault}
 use Rattle.nf_filter.proofs.TakingLemmas.{front-more}
 
 abbrev Seen : Type 0
@@ -40,26 +41,25 @@ module _ (p : Properties) where
 
   -- a character that is refused behind x
   pub stops_at : (base at : ℕ) (x : List ℕ) (c d : ℕ) (y : List ℕ) → IsSoundText p (stream_safe p x) → at ≡ base + length (encode_utf8_all x) → unsound_at p x c ≡ Some d
-      → unusable_stop p base ((x ++ c ∷ []) ++ y) ≡ Some (Refused (Row at))
-  stops_at base at x c d y sound here refused = ap (option_map Refused) (unusable_at-stop p (utf8_place base) x c y (usable_is x sound) (unusable x c d refused)) ∙ ap (λ n. Some (Refused (Row n))) (sym here)
+      → unusable_at p (utf8_place base) ((x ++ c ∷ []) ++ y) ≡ Some (Row at)
+  stops_at base at x c d y sound here refused = unusable_at-stop p (utf8_place base) x c y (usable_is x sound) (unusable x c d refused) ∙ ap (λ n. Some (Row n)) (sym here)
 
   pub refusal_at : (base at : ℕ) (x : List ℕ) (c : ℕ) (y : List ℕ) → IsSoundText p (stream_safe p x) → at ≡ base + length (encode_utf8_all x) → (r : Seen) → is_err r ≡ true
-      → result_err r ≡ option_map refusal (unsound_at p x c) → unusable_stop p base ((x ++ c ∷ []) ++ y) ≡ Some (Refused (Row at))
+      → result_err r ≡ option_map refusal (unsound_at p x c) → unusable_at p (utf8_place base) ((x ++ c ∷ []) ++ y) ≡ Some (Row at)
   refusal_at base at x c y sound here (Ok u) refused is = cc
   refusal_at base at x c y sound here (Err e) refused is = let d = refused_is (unsound_at p x c) e is in stops_at base at x c d.0 y sound here d.1
 
-  -- what the bytes decide is what stops a measurer in them
-  pub decides : (base : ℕ) (bytes : List ℕ) → measure_decision p base bytes ≡ option_map (told no_measure) (stop_in (unusable_stop p base) base bytes)
-  decides base bytes = next (fault_in as_is p base bytes) ∙ ap (option_map (told no_measure)) (sym (stop_in-fault p base bytes))
-    where
-      next : (o : Option Fault) → option_map Err o ≡ option_map (told no_measure) (option_map Refused o)
-      next None = refl
-      next (Some fault) = refl
+  pub unusable_decision-fault : (base : ℕ) (x : List ℕ) (fault : Fault) → unusable_at p (utf8_place base) x ≡ Some fault → unusable_decision p base x ≡ Some (Err fault)
+  unusable_decision-fault base x fault is = ap (option_map Err) is
+
+  -- what the bytes decide is what their text does
+  pub decides : (base : ℕ) (bytes : List ℕ) → measure_decision p base bytes ≡ decided_in (unusable_decision p base) base bytes
+  decides base bytes = sym (decided_in-fault p base bytes)
 
   -- the text was seen
-  pub TakesText-seen : (measurer : Measurer) (base : ℕ) (x y : List ℕ) (r : Result (Unit {0}) Stop) → SeesText p measurer base (x ++ y) r → TakesText (HasMeasured p measurer base) (unusable_stop p base) x y r
-  TakesText-seen measurer base x y (Ok u) sees = record { stop = sym (ap (option_map Refused) (unusable_at-usable p (utf8_place base) (x ++ y) (usable_is (x ++ y) sees.sound))); taken = sees }
-  TakesText-seen measurer base x y (Err stop) sees = record { stop = sym sees; taken = tt }
+  pub TakesText-seen : (measurer : Measurer) (base : ℕ) (x y : List ℕ) (r : Option (Result Measure Fault)) → SeesText p measurer base (x ++ y) r → TakesText (HasMeasured p measurer base) (unusable_decision p base) x y r
+  TakesText-seen measurer base x y None sees = record { decided = sym (ap (option_map Err) (unusable_at-usable p (utf8_place base) (x ++ y) (usable_is (x ++ y) sees.sound))); taken = λ _. sees }
+  TakesText-seen measurer base x y (Some decision) sees = record { decided = sym sees; taken = λ none. cc }
 
 -- a front was measured, and then a front of what stands behind it
 pub seen_more : (p : Properties) (first second : Measurer) (base : ℕ) (x text behind rest : List ℕ) → HasSeenFront p first base x text behind

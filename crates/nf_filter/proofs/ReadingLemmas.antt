@@ -1,5 +1,5 @@
 -- A piece more.
-use Rattle.nf_filter.proofs.Common.{ap₂, ◌≡◌, ℕ, ◌+◌, ◌-◌, ◌≤◌, ◌==◌, List, [], ◌++◌, length, None, Ok, refl, sym, ap, ◌∙◌, arith, eq-eqb, subst, Option, Result, option_map, if◌then◌else◌, chars, take_all, length-drop, append_assoc, result_map_both, chars-nil, utf8_valid_len_le, End, EndsWhole, EndsCut, EndsBad, first_bytes, EndsPiece, bytes_behind, Counts, Takes, first_text, Ending, Whole, Bad, Cut, text_len, text_of, rest_of, begun_len, ending_of, DecoderStandsAfter, Place, Fault, Reading, Stop, bad_byte, answer_at_end, Survey, TakesText, stop_or, stop_in, told, HasSurveyed}
+use Rattle.nf_filter.proofs.Common.{ap₂, ◌≡◌, ℕ, ◌+◌, ◌-◌, ◌≤◌, ◌==◌, List, [], ◌++◌, length, None, refl, sym, ap, ◌∙◌, arith, eq-eqb, subst, Option, Result, if◌then◌else◌, chars, take_all, length-drop, append_assoc, result_map_both, chars-nil, utf8_valid_len_le, End, EndsWhole, EndsCut, EndsBad, first_bytes, EndsPiece, bytes_behind, Counts, Takes, first_text, Ending, Whole, Bad, Cut, text_len, text_of, rest_of, begun_len, ending_of, DecoderStandsAfter, Fault, Reading, bad_byte, answer_at_end, Survey, TakesText, decided_or, decided_in, HasSurveyed}
 use Rattle.nf_utf8.specs.declared.decoder.Decoder.{Decoder}
 
 -- no bytes spell nothing
@@ -17,18 +17,18 @@ pub holds_nothing : (decoder : Decoder) → DecoderStandsAfter decoder [] → le
 unfolding rest_of
 holds_nothing decoder stands = omega (arith, ap length stands.rest, length-drop {A = ℕ} (text_len []) [])
 
--- nothing was read, and a text of no characters stops nothing
-pub HasSurveyed-none : {T : Type 0} {stands : List ℕ → Type 0} {stops : List ℕ → Option Stop} {answer_of : Place → T} {value : List ℕ → T} {survey : Survey T} {reading : Reading}
-    → reading.offset ≡ survey.base → DecoderStandsAfter reading.decoder [] → stands [] → stops [] ≡ None
-    → ((bytes : List ℕ) → survey.decision bytes ≡ option_map (told answer_of) (stop_in stops survey.base bytes)) → ((bytes : List ℕ) → survey.value bytes ≡ value (text_of bytes))
-    → HasSurveyed stands stops answer_of value survey reading []
-HasSurveyed-none {answer_of = answer_of} offset decoder taken unstopped decides worth = record {
+-- nothing was read, and a text of no characters decides nothing
+pub HasSurveyed-none : {T : Type 0} {stands : List ℕ → Type 0} {decides : List ℕ → Option (Result T Fault)} {value : List ℕ → T} {survey : Survey T} {reading : Reading}
+    → reading.offset ≡ survey.base → DecoderStandsAfter reading.decoder [] → stands [] → decides [] ≡ None
+    → ((bytes : List ℕ) → survey.decision bytes ≡ decided_in decides survey.base bytes) → ((bytes : List ℕ) → survey.value bytes ≡ value (text_of bytes))
+    → HasSurveyed stands decides value survey reading []
+HasSurveyed-none offset decoder taken undecided decides worth = record {
   offset = omega (arith, offset);
   decoder = decoder;
   taken = rw text_of-none taken;
   decides = decides;
   worth = worth;
-  undecided = decides [] ∙ ap (option_map (told answer_of)) {y = None} (rw (text_of-none, ending_of-none) (ap (λ o. stop_or o None) unstopped));
+  undecided = decides [] ∙ rw (text_of-none, ending_of-none) (ap (λ o. decided_or o None) undecided);
 }
 
 -- an answer at the end, by another that differs in the value alone
@@ -66,8 +66,8 @@ module _ {bytes piece : List ℕ} {first : Option ℕ} {text : List ℕ} {end : 
   text_is = took.spelled ∙ append_assoc (text_of bytes) (first_text first) (chars text)
 
   -- nothing is decided with it
-  pub none_decided : {T : Type 0} {stands now : List ℕ → Type 0} {stops : List ℕ → Option Stop} {answer_of : Place → T} {value : List ℕ → T} {survey : Survey T} {reading : Reading}
-      → HasSurveyed stands stops answer_of value survey reading bytes → (u : Unit {0}) → TakesText now stops (text_of bytes) more (Ok u)
+  pub none_decided : {T : Type 0} {stands now : List ℕ → Type 0} {decides : List ℕ → Option (Result T Fault)} {value : List ℕ → T} {survey : Survey T} {reading : Reading}
+      → HasSurveyed stands decides value survey reading bytes → TakesText now decides (text_of bytes) more None
       → bad_byte survey.base (ending_of (bytes ++ piece)) ≡ None → survey.decision (bytes ++ piece) ≡ None
-  none_decided {stops = stops} {answer_of = answer_of} before u takes fine =
-      before.decides (bytes ++ piece) ∙ ap (option_map (told answer_of)) {y = None} (ap₂ stop_or (ap stops text_is ∙ sym takes.stop) fine)
+  none_decided {decides = decides} before takes fine =
+      before.decides (bytes ++ piece) ∙ ap₂ decided_or (ap decides text_is ∙ sym takes.decided) fine

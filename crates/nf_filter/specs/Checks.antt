@@ -1,6 +1,6 @@
 -- Where a text is found not to be in the Stream-Safe Text Format, or cannot be read on (UAX #15, section 13; The Unicode
 -- Standard, section 3.9).
-use Rattle.std.specs.Prelude.{◌≡◌, Bool, true, false, ℕ, ◌+◌, List, ◌++◌, length, chars, Option, Some, None, option_map, Result, Ok, Err, if◌then◌else◌, take_while, encode_utf8_all}
+use Rattle.std.specs.Prelude.{◌≡◌, true, ℕ, ◌+◌, List, ◌++◌, length, chars, Option, Some, None, option_map, Result, Ok, Err, if◌then◌else◌, take_while, encode_utf8_all}
 use Rattle.std.specs.Borrow.{Bor}
 use Rattle.std.specs.List.{list_all}
 use Rattle.nf_forms.specs.Properties.{Properties}
@@ -10,8 +10,6 @@ use Rattle.nf_safe.specs.declared.place.Place.{Place}
 use Rattle.nf_safe.specs.declared.checker.Checker.{Checker}
 use Rattle.nf_safe.specs.Place.{place_from}
 use Rattle.nf_safe.specs.Checker.{place_of, offset_of, StandsAfter}
-use Rattle.nf_filter.specs.declared.taker.Stop.{Stop}
-use Rattle.nf_filter.specs.declared.taker.Stop.TheVariants.{Refused, Found}
 use Rattle.nf_filter.specs.declared.fault.Fault.{Fault}
 use Rattle.nf_filter.specs.declared.fault.Fault.TheVariants.{Row}
 use Rattle.nf_filter.specs.Faults.{bad_byte}
@@ -47,19 +45,14 @@ pub record HasChecked (p : Properties) (checker : Checker) (base : ℕ) (x : Lis
 abbrev pub ends_at : Checker → ℕ → Type 0
 ends_at checker at = (place_of checker ≡ None) × (offset_of checker ≡ at)
 
--- what stops it in a text, the first byte of which has the offset `base`: a place, or else the first unsound character
-abbrev pub place_or_row : Option Place → Bool → Fault → Option Stop
-place_or_row (Some place) all_sound fault = Some (Found place)
-place_or_row None true fault = None
-place_or_row None false fault = Some (Refused fault)
+-- what a text decides, the first byte of which has the offset `base`: a place, or else the first unsound character
+unfoldable pub text_decision : Properties → ℕ → List ℕ → Option (Result (Option Place) Fault)
+text_decision p base x = place_or_fault (place_from base p (sound_front p x)) (if list_all (is_sound p) x then None else Some (Row (base + length (encode_utf8_all (sound_front p x)))))
 
-unfoldable pub check_stop : Properties → ℕ → List ℕ → Option Stop
-check_stop p base x = place_or_row (place_from base p (sound_front p x)) (list_all (is_sound p) x) (Row (base + length (encode_utf8_all (sound_front p x))))
-
--- the text x was seen, or what stops it in that
-abbrev pub Sees : Properties → Checker → ℕ → List ℕ → Result (Unit {0}) Stop → Type 0
-Sees p checker base x (Ok _) = HasChecked p checker base x
-Sees p checker base x (Err stop) = check_stop p base x ≡ Some stop
+-- the text x was seen, or what it decides
+abbrev pub Sees : Properties → Checker → ℕ → List ℕ → Option (Result (Option Place) Fault) → Type 0
+Sees p checker base x None = HasChecked p checker base x
+Sees p checker base x (Some decision) = text_decision p base x ≡ Some decision
 
 -- behind x a front of the text was seen; `rest` is what stands behind that
 pub record HasSeenFront (p : Properties) (checker : Checker) (base : ℕ) (x text rest : List ℕ) : Type 0 where
@@ -67,7 +60,7 @@ pub record HasSeenFront (p : Properties) (checker : Checker) (base : ℕ) (x tex
   pub is_front : chars text ≡ front ++ chars rest
   pub seen : HasChecked p checker base (x ++ front)
 
--- so it was, or what stops it in the text
-abbrev pub SeesFront : Properties → Checker → ℕ → List ℕ → List ℕ → Result (Bor (List ℕ)) Stop → Type 0
+-- so it was, or what the text decides
+abbrev pub SeesFront : Properties → Checker → ℕ → List ℕ → List ℕ → Result (Bor (List ℕ)) (Result (Option Place) Fault) → Type 0
 SeesFront p checker base x text (Ok rest) = HasSeenFront p checker base x text rest.now
-SeesFront p checker base x text (Err stop) = check_stop p base (x ++ chars text) ≡ Some stop
+SeesFront p checker base x text (Err decision) = text_decision p base (x ++ chars text) ≡ Some decision

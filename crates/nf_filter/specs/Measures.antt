@@ -1,16 +1,13 @@
 -- What is measured of bytes, and where they cannot be measured (UAX #15, section 13; The Unicode Standard, section 3.9).
-use Rattle.std.specs.Prelude.{◌≡◌, ◌≤◌, ℕ, List, ◌++◌, chars, Option, Some, option_map, Result, Ok, Err}
+use Rattle.std.specs.Prelude.{◌≡◌, ◌≤◌, ℕ, List, ◌++◌, chars, Option, Some, None, option_map, Result, Ok, Err}
 use Rattle.std.specs.Borrow.{Bor}
 use Rattle.nf_forms.specs.Properties.{Properties}
 use Rattle.nf_utf8.specs.Reading.{text_of}
 use Rattle.nf_safe.specs.declared.measure.Measure.{Measure}
 use Rattle.nf_safe.specs.declared.measurer.Measurer.{Measurer}
-use Rattle.nf_safe.specs.declared.place.Place.{Place}
 use Rattle.nf_safe.specs.Measurer.{values_of, StandsAfter}
 use Rattle.nf_safe.specs.Measures.{measure_of}
 use Rattle.nf_filter.specs.declared.fault.Fault.{Fault}
-use Rattle.nf_filter.specs.declared.taker.Stop.{Stop}
-use Rattle.nf_filter.specs.declared.taker.Stop.TheVariants.{Refused}
 use Rattle.nf_filter.specs.Policy.{as_is}
 use Rattle.nf_filter.specs.Faults.{fault_in}
 use Rattle.nf_filter.specs.Counted.{unusable_at, utf8_place}
@@ -31,18 +28,14 @@ HasMeasured p measurer base x = StandsAfter p measurer x
 abbrev pub ends_at : Measurer → ℕ → Type 0
 ends_at measurer at = (values_of measurer).bytes ≤ at
 
--- what stops it in a text that begins at the offset `base`
-abbrev pub unusable_stop : Properties → ℕ → List ℕ → Option Stop
-unusable_stop p base x = option_map Refused (unusable_at p (utf8_place base) x)
+-- what a text decides that begins at the offset `base`
+abbrev pub unusable_decision : Properties → ℕ → List ℕ → Option (Result Measure Fault)
+unusable_decision p base x = option_map Err (unusable_at p (utf8_place base) x)
 
--- no place is looked for
-abbrev pub no_measure : Place → Measure
-no_measure place = record { bytes = 0; chars = 0; nonstarters = 0; longest = 0; put = 0; unassigned = 0 }
-
--- the text x was measured, or what stops it in that
-abbrev pub SeesText : Properties → Measurer → ℕ → List ℕ → Result (Unit {0}) Stop → Type 0
-SeesText p measurer base x (Ok _) = HasMeasured p measurer base x
-SeesText p measurer base x (Err stop) = unusable_stop p base x ≡ Some stop
+-- the text x was measured, or what it decides
+abbrev pub SeesText : Properties → Measurer → ℕ → List ℕ → Option (Result Measure Fault) → Type 0
+SeesText p measurer base x None = HasMeasured p measurer base x
+SeesText p measurer base x (Some decision) = unusable_decision p base x ≡ Some decision
 
 -- behind x a front of the text was measured; `rest` is what stands behind that
 pub record HasSeenFront (p : Properties) (measurer : Measurer) (base : ℕ) (x text rest : List ℕ) : Type 0 where
@@ -50,7 +43,7 @@ pub record HasSeenFront (p : Properties) (measurer : Measurer) (base : ℕ) (x t
   pub is_front : chars text ≡ front ++ chars rest
   pub seen : HasMeasured p measurer base (x ++ front)
 
--- so it was, or what stops it in the text
-abbrev pub SeesFront : Properties → Measurer → ℕ → List ℕ → List ℕ → Result (Bor (List ℕ)) Stop → Type 0
+-- so it was, or why the text cannot be measured
+abbrev pub SeesFront : Properties → Measurer → ℕ → List ℕ → List ℕ → Result (Bor (List ℕ)) Fault → Type 0
 SeesFront p measurer base x text (Ok rest) = HasSeenFront p measurer base x text rest.now
-SeesFront p measurer base x text (Err stop) = unusable_stop p base (x ++ chars text) ≡ Some stop
+SeesFront p measurer base x text (Err fault) = unusable_at p (utf8_place base) (x ++ chars text) ≡ Some fault

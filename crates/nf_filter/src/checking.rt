@@ -1,16 +1,16 @@
-ghost use Rattle.std.specs.Prelude.{◌≡◌, ◌↔◌, ◌+◌, ◌<◌, ◌≤◌, ℕ, List, [], ◌∷◌, ◌++◌, length, chars, Some, None, true, IsTrue, IfOk, IfErr, OnOk, encode_utf8};
+ghost use Rattle.std.specs.Prelude.{◌≡◌, ◌↔◌, ◌+◌, ◌<◌, ◌≤◌, ℕ, List, [], ◌∷◌, ◌++◌, length, chars, Some, None, IsTrue, IfOk, IfErr, IfSome, IsNone, OnOk, encode_utf8};
 ghost use Rattle.nf_calm.specs.Front.{IsCalmFront};
 ghost use Rattle.nf_filter.specs.Surveys.{Surveys, IsOfSurvey, IsCut};
 ghost use Rattle.nf_safe.specs.Checker.{place_of, offset_of};
-ghost use Rattle.nf_filter.specs.Taker.{MayStop};
-ghost use Rattle.nf_filter.specs.Checks.{check_decision, no_place, HasChecked, Sees, SeesFront, check_stop};
+ghost use Rattle.nf_filter.specs.Kinds.{row, IsAmong};
+ghost use Rattle.nf_filter.specs.Checks.{check_decision, no_place, HasChecked, Sees, SeesFront, text_decision};
 
 use crate::devices::Source;
 use crate::fault::Fault;
 use crate::measuring::Pace;
 use crate::reading::Reading;
 use crate::sources::{BLOCK, survey};
-use crate::taker::{Stop, Taker};
+use crate::taker::Taker;
 use crate::text_reader::TextReader;
 use nf_row::{Calm, Form, Rows};
 use nf_safe::{Checker, Place};
@@ -61,9 +61,11 @@ pub fn check_buffered<R: Rows, I: Source>(
     survey(reader, source, buffer)
 }
 
+/// What is decided before the end: a place, or a fault.
+type Decision = Result<Option<Place>, Fault>;
+
 impl Taker for Checker {
-    ghost use Rattle.std.specs.Prelude.{true, Some};
-    ghost use Rattle.nf_filter.specs.Checks.{HasChecked, ends_at, check_stop};
+    ghost use Rattle.nf_filter.specs.Checks.{HasChecked, ends_at, text_decision};
 
     type Answer = Option<Place>;
 
@@ -71,11 +73,7 @@ impl Taker for Checker {
 
     ghost ends_at = { ends_at };
 
-    ghost stops = { check_stop };
-
-    ghost finds = { true };
-
-    ghost answer_of = { Some };
+    ghost decides = { text_decision };
 
     ghost value = { λ p x. None };
 
@@ -85,18 +83,14 @@ impl Taker for Checker {
         _at: u64,
         first: Option<char>,
         text: &str,
-    ) -> Result<(), Stop> {
+    ) -> Option<Decision> {
         let Some(c) = first else {
             return see_text(self, rows, text);
         };
-        if let Err(stop) = see(self, rows, c) {
-            return Err(stop);
+        if let Some(decision) = see(self, rows, c) {
+            return Some(decision);
         }
         see_text(self, rows, text)
-    }
-
-    fn found(place: Place) -> Option<Place> {
-        Some(place)
     }
 
     fn end(&self) -> Option<Place> {
@@ -104,13 +98,13 @@ impl Taker for Checker {
     }
 }
 
-/// Sees the text, and stops at the first character that is unsound or at which the text leaves the format.
-fn see_text<R: Rows>(checker: &mut Checker, rows: &R, text: &str) -> Result<(), Stop>
+/// Sees the text, up to the first character that is unsound or at which the text leaves the format: that decides.
+fn see_text<R: Rows>(checker: &mut Checker, rows: &R, text: &str) -> Option<Decision>
     requires none { place_of checker.old ≡ None }
     requires fits { offset_of checker.old + length text.now ≤ u64.MAX }
-    ensures none { OnOk result (place_of checker.new ≡ None) }
-    ensures offset { OnOk result (offset_of checker.new ≡ offset_of checker.old + length text.now) }
-    ensures stop { IfErr result (MayStop true) }
+    ensures none { IsNone result → place_of checker.new ≡ None }
+    ensures offset { IsNone result → offset_of checker.new ≡ offset_of checker.old + length text.now }
+    ensures unsound { IfSome result (λ decision. IfErr decision (IsAmong (row ∷ []))) }
     ensures sees { let p = R.properties rows.now in (base : ℕ) (x : List ℕ) → HasChecked p checker.old base x → Sees p checker.new base (x ++ chars text.now) result }
 {
     let mut rest = text;
@@ -118,10 +112,10 @@ fn see_text<R: Rows>(checker: &mut Checker, rows: &R, text: &str) -> Result<(), 
     while !rest.is_empty() {
         match see_front(checker, rows, &mut search, rest) {
             Ok(behind) => rest = behind,
-            Err(stop) => return Err(stop),
+            Err(decision) => return Some(decision),
         }
     }
-    Ok(())
+    None
 }
 
 /// How calm text is looked for.
@@ -173,14 +167,14 @@ fn see_front<'t, R: Rows>(
     rows: &R,
     search: &mut Search,
     text: &'t str,
-) -> Result<&'t str, Stop>
+) -> Result<&'t str, Decision>
     requires some { 0 < length text.now }
     requires none { place_of checker.old ≡ None }
     requires fits { offset_of checker.old + length text.now ≤ u64.MAX }
     ensures shorter { IfOk result (λ rest. length rest.now < length text.now) }
     ensures none { OnOk result (place_of checker.new ≡ None) }
     ensures offset { IfOk result (λ rest. offset_of checker.new + length rest.now ≡ offset_of checker.old + length text.now) }
-    ensures stop { IfErr result (MayStop true) }
+    ensures unsound { IfErr result (λ decision. IfErr decision (IsAmong (row ∷ []))) }
     ensures sees { let p = R.properties rows.now in (base : ℕ) (x : List ℕ) → HasChecked p checker.old base x → SeesFront p checker.new base x text.now result }
 {
     let Some(calm) = search.front(rows, text) else {
@@ -203,7 +197,7 @@ fn pass_calm<R: Rows>(checker: &mut Checker, rows: &R, _form: Form, calm: Calm<'
         → HasChecked p checker.new base (x ++ (chars calm.entry.settled.now ++ chars calm.entry.tail.now)) }
 {
     let mut end = Checker::new(checker.offset() + calm.settled.len() as u64);
-    let Ok(()) = see_chars(&mut end, rows, calm.tail) else {
+    let None = see_chars(&mut end, rows, calm.tail) else {
         unreachable!();
     };
     let count = char_count(calm.settled) + char_count(calm.tail);
@@ -211,55 +205,55 @@ fn pass_calm<R: Rows>(checker: &mut Checker, rows: &R, _form: Form, calm: Calm<'
 }
 
 /// Sees the first character of a text. Answers what stands behind.
-fn see_first<'t, R: Rows>(checker: &mut Checker, rows: &R, text: &'t str) -> Result<&'t str, Stop>
+fn see_first<'t, R: Rows>(checker: &mut Checker, rows: &R, text: &'t str) -> Result<&'t str, Decision>
     requires some { 0 < length text.now }
     requires none { place_of checker.old ≡ None }
     requires fits { offset_of checker.old + length text.now ≤ u64.MAX }
     ensures shorter { IfOk result (λ rest. length rest.now < length text.now) }
     ensures none { OnOk result (place_of checker.new ≡ None) }
     ensures offset { IfOk result (λ rest. offset_of checker.new + length rest.now ≡ offset_of checker.old + length text.now) }
-    ensures stop { IfErr result (MayStop true) }
+    ensures unsound { IfErr result (λ decision. IfErr decision (IsAmong (row ∷ []))) }
     ensures sees { let p = R.properties rows.now in (base : ℕ) (x : List ℕ) → HasChecked p checker.old base x → SeesFront p checker.new base x text.now result }
 {
     let mut chars = text.chars();
     let c = chars.next().unwrap();
     match see(checker, rows, c) {
-        Ok(()) => Ok(chars.as_str()),
-        Err(stop) => Err(stop),
+        None => Ok(chars.as_str()),
+        Some(decision) => Err(decision),
     }
 }
 
 /// Sees the text character by character.
-fn see_chars<R: Rows>(checker: &mut Checker, rows: &R, text: &str) -> Result<(), Stop>
+fn see_chars<R: Rows>(checker: &mut Checker, rows: &R, text: &str) -> Option<Decision>
     requires none { place_of checker.old ≡ None }
     requires fits { offset_of checker.old + length text.now ≤ u64.MAX }
-    ensures none { OnOk result (place_of checker.new ≡ None) }
-    ensures offset { OnOk result (offset_of checker.new ≡ offset_of checker.old + length text.now) }
-    ensures stop { IfErr result (MayStop true) }
+    ensures none { IsNone result → place_of checker.new ≡ None }
+    ensures offset { IsNone result → offset_of checker.new ≡ offset_of checker.old + length text.now }
+    ensures unsound { IfSome result (λ decision. IfErr decision (IsAmong (row ∷ []))) }
     ensures sees { let p = R.properties rows.now in (base : ℕ) (x : List ℕ) → HasChecked p checker.old base x → Sees p checker.new base (x ++ chars text.now) result }
 {
     for c in text.chars() {
-        if let Err(stop) = see(checker, rows, c) {
-            return Err(stop);
+        if let Some(decision) = see(checker, rows, c) {
+            return Some(decision);
         }
     }
-    Ok(())
+    None
 }
 
-/// Sees the next character, and stops at it where it is unsound or the text leaves the format.
-fn see<R: Rows>(checker: &mut Checker, rows: &R, c: char) -> Result<(), Stop>
+/// Sees the next character, which decides where it is unsound or the text leaves the format.
+fn see<R: Rows>(checker: &mut Checker, rows: &R, c: char) -> Option<Decision>
     requires none { place_of checker.old ≡ None }
     requires fits { offset_of checker.old + length (encode_utf8 c) ≤ u64.MAX }
-    ensures none { OnOk result (place_of checker.new ≡ None) }
-    ensures offset { OnOk result (offset_of checker.new ≡ offset_of checker.old + length (encode_utf8 c)) }
-    ensures stop { IfErr result (MayStop true) }
+    ensures none { IsNone result → place_of checker.new ≡ None }
+    ensures offset { IsNone result → offset_of checker.new ≡ offset_of checker.old + length (encode_utf8 c) }
+    ensures unsound { IfSome result (λ decision. IfErr decision (IsAmong (row ∷ []))) }
     ensures sees { let p = R.properties rows.now in (base : ℕ) (x y : List ℕ) → HasChecked p checker.old base x
-        → (OnOk result (HasChecked p checker.new base (x ++ c ∷ []))) × (IfErr result (λ stop. check_stop p base ((x ++ c ∷ []) ++ y) ≡ Some stop)) }
+        → (IsNone result → HasChecked p checker.new base (x ++ c ∷ [])) × (IfSome result (λ decision. text_decision p base ((x ++ c ∷ []) ++ y) ≡ Some decision)) }
 {
     match checker.see(rows, c) {
-        Ok(None) => Ok(()),
-        Ok(Some(place)) => Err(Stop::Found(place)),
-        Err(_) => Err(Stop::Refused(Fault::Row {
+        Ok(None) => None,
+        Ok(Some(place)) => Some(Ok(Some(place))),
+        Err(_) => Some(Err(Fault::Row {
             at: checker.offset(),
         })),
     }

@@ -1,6 +1,6 @@
-ghost use Rattle.std.specs.Prelude.{◌≡◌, ◌+◌, ◌<◌, ◌≤◌, ◌↔◌, ℕ, List, ◌++◌, length, chars, false, IsTrue, IfOk, IfErr, OnOk, encode_utf8_all};
+ghost use Rattle.std.specs.Prelude.{◌≡◌, ◌+◌, ◌<◌, ◌≤◌, ◌↔◌, ℕ, List, [], ◌∷◌, ◌++◌, length, chars, IsTrue, IfOk, IfErr, IfSome, IsNone, OnOk, encode_utf8_all};
 ghost use Rattle.nf_safe.specs.Measurer.{values_of};
-ghost use Rattle.nf_filter.specs.Taker.{MayStop};
+ghost use Rattle.nf_filter.specs.Kinds.{row, IsAmong};
 ghost use Rattle.nf_filter.specs.Surveys.{Surveys, IsOfSurvey, IsCut};
 ghost use Rattle.nf_filter.specs.Measures.{measure_decision, text_measure, HasMeasured, HasSeenFront, SeesText, SeesFront};
 
@@ -8,10 +8,10 @@ use crate::devices::Source;
 use crate::fault::Fault;
 use crate::reading::Reading;
 use crate::sources::{BLOCK, survey};
-use crate::taker::{Stop, Taker};
+use crate::taker::Taker;
 use crate::text_reader::TextReader;
 use nf_row::Rows;
-use nf_safe::{Measure, Measurer, Place};
+use nf_safe::{Measure, Measurer};
 use nf_utf8::{ascii_prefix, char_count};
 
 /// Where at least so many bytes were known, it is asked again behind the next character.
@@ -61,9 +61,8 @@ pub fn measure_buffered<R: Rows, I: Source>(
 }
 
 impl Taker for Measurer {
-    ghost use Rattle.std.specs.Prelude.{false};
     ghost use Rattle.nf_safe.specs.Measures.{measure_of};
-    ghost use Rattle.nf_filter.specs.Measures.{HasMeasured, ends_at, unusable_stop, no_measure};
+    ghost use Rattle.nf_filter.specs.Measures.{HasMeasured, ends_at, unusable_decision};
 
     type Answer = Measure;
 
@@ -71,11 +70,7 @@ impl Taker for Measurer {
 
     ghost ends_at = { ends_at };
 
-    ghost stops = { unusable_stop };
-
-    ghost finds = { false };
-
-    ghost answer_of = { no_measure };
+    ghost decides = { unusable_decision };
 
     ghost value = { measure_of };
 
@@ -85,26 +80,14 @@ impl Taker for Measurer {
         at: u64,
         first: Option<char>,
         text: &str,
-    ) -> Result<(), Stop> {
+    ) -> Option<Result<Measure, Fault>> {
         let Some(c) = first else {
             return see_text(self, rows, at, text);
         };
         if self.see(rows, c).is_err() {
-            return Err(Stop::Refused(Fault::Row { at }));
+            return Some(Err(Fault::Row { at }));
         }
         see_text(self, rows, at + c.len_utf8() as u64, text)
-    }
-
-    /// It looks for none.
-    fn found(_place: Place) -> Measure {
-        Measure {
-            bytes: 0,
-            chars: 0,
-            nonstarters: 0,
-            longest: 0,
-            put: 0,
-            unassigned: 0,
-        }
     }
 
     fn end(&self) -> Measure {
@@ -151,12 +134,17 @@ impl Pace {
     }
 }
 
-/// Sees the text that begins at the offset `at`, and stops where a filter would.
-fn see_text<R: Rows>(measurer: &mut Measurer, rows: &R, at: u64, text: &str) -> Result<(), Stop>
+/// Sees the text that begins at the offset `at`, up to the first character that a filter would refuse: that decides.
+fn see_text<R: Rows>(
+    measurer: &mut Measurer,
+    rows: &R,
+    at: u64,
+    text: &str,
+) -> Option<Result<Measure, Fault>>
     requires counts { (values_of measurer.old).bytes ≤ at }
     requires fits { at + length text.now ≤ u64.MAX }
-    ensures counts { OnOk result ((values_of measurer.new).bytes ≤ at + length text.now) }
-    ensures stop { IfErr result (MayStop false) }
+    ensures counts { IsNone result → (values_of measurer.new).bytes ≤ at + length text.now }
+    ensures unsound { IfSome result (λ decision. IfErr decision (IsAmong (row ∷ []))) }
     ensures sees { let p = R.properties rows.now in (base : ℕ) (x : List ℕ) → HasMeasured p measurer.old base x → at ≡ base + length (encode_utf8_all x)
         → SeesText p measurer.new base (x ++ chars text.now) result }
 {
@@ -168,10 +156,10 @@ fn see_text<R: Rows>(measurer: &mut Measurer, rows: &R, at: u64, text: &str) -> 
                 place += (rest.len() - behind.len()) as u64;
                 rest = behind;
             }
-            Err(stop) => return Err(stop),
+            Err(fault) => return Some(Err(fault)),
         }
     }
-    Ok(())
+    None
 }
 
 /// Sees a front of a text that begins at the offset `at`: ASCII, what else is known to have starters alone, and the character
@@ -182,13 +170,13 @@ fn see_front<'t, R: Rows>(
     pace: &mut Pace,
     at: u64,
     text: &'t str,
-) -> Result<&'t str, Stop>
+) -> Result<&'t str, Fault>
     requires some { 0 < length text.now }
     requires counts { (values_of measurer.old).bytes ≤ at }
     requires fits { at + length text.now ≤ u64.MAX }
     ensures shorter { IfOk result (λ rest. length rest.now < length text.now) }
     ensures counts { IfOk result (λ rest. (values_of measurer.new).bytes + length rest.now ≤ at + length text.now) }
-    ensures stop { IfErr result (MayStop false) }
+    ensures unsound { IfErr result (IsAmong (row ∷ [])) }
     ensures sees { let p = R.properties rows.now in (base : ℕ) (x : List ℕ) → HasMeasured p measurer.old base x → at ≡ base + length (encode_utf8_all x)
         → SeesFront p measurer.new base x text.now result }
 {
@@ -202,7 +190,7 @@ fn see_front<'t, R: Rows>(
         Ok(()) => Ok(chars.as_str()),
         Err(_) => {
             let known = (text.len() - rest.len()) as u64;
-            Err(Stop::Refused(Fault::Row { at: at + known }))
+            Err(Fault::Row { at: at + known })
         }
     }
 }

@@ -5,7 +5,7 @@ ghost use Rattle.nf_filter.specs.Taker.{IsReady, HasSurveyed};
 use crate::fault::Fault;
 use crate::reading::Reading;
 use crate::surveyor::Surveyor;
-use crate::taker::{Stop, Taker};
+use crate::taker::Taker;
 use nf_row::Rows;
 use nf_utf8::{End, laws};
 
@@ -21,7 +21,7 @@ impl<R: Rows, T: Taker> Surveyor for TextReader<'_, R, T> {
     type Answer = T::Answer;
 
     ghost has_taken = { λ reader survey bytes. let p = R.properties reader.rows.now in
-        HasSurveyed (T.has_taken p reader.taker survey.base) (T.stops p survey.base) T.answer_of (T.value p) survey reader.reading bytes };
+        HasSurveyed (T.has_taken p reader.taker survey.base) (T.decides p survey.base) (T.value p) survey reader.reading bytes };
 
     ghost is_ready = { λ reader. IsReady (T.ends_at reader.taker) reader.reading };
 
@@ -41,10 +41,8 @@ impl<R: Rows, T: Taker> Surveyor for TextReader<'_, R, T> {
         laws::split();
         let at = reading.offset - reading.decoder.carried() as u64;
         let chunk = reading.decoder.take(piece);
-        match taker.take(*rows, at, chunk.first, chunk.text) {
-            Ok(()) => {}
-            Err(Stop::Refused(fault)) => return Some(Err(fault)),
-            Err(Stop::Found(place)) => return Some(Ok(T::found(place))),
+        if let Some(answer) = taker.take(*rows, at, chunk.first, chunk.text) {
+            return Some(answer);
         }
         let piece_end = chunk.end;
         if let End::Bad { at, back } = piece_end {

@@ -1,4 +1,4 @@
-use Rattle.nf_filter.proofs.Common.{◌≡◌, ℕ, ◌+◌, [], ◌++◌, length, is_some, Some, None, rules, refl, ap, ◌∙◌, subst, arith, encode_utf8_all, IsUtf8, chars, length-append, and_from, list_all-append, encodes-append, encodes-chars, Properties, is_sound, place_of, HasChecked, Sees, check_stop}
+use Rattle.nf_filter.proofs.Common.{◌≡◌, ℕ, ◌+◌, [], ◌++◌, length, is_some, Some, None, rules, refl, ap, ◌∙◌, subst, arith, encode_utf8_all, IsUtf8, chars, length-append, and_from, list_all-append, encodes-append, encodes-chars, Properties, is_sound, place_of, HasChecked, Sees, text_decision}
 use Rattle.nf_safe.specs.declared.checker.Checker.{Checker}
 use Rattle.nf_safe.specs.Checker.{StandsAfter}
 use Rattle.nf_filter.proofs.CalmLemmas.{few, ends}
@@ -15,7 +15,7 @@ unreachable-requires g c =
     let calm = c.requires.calm in
     let place = c.offset.result + length c.args.calm.settled.now in
     let end = chars c.args.calm.tail.now in
-    let stopped : check_stop p place end ≡ Some c.in_default.field-0 =
+    let stopped : text_decision p place end ≡ Some c.in_default.field-0 =
     subst (λ r. Sees p c.see_chars.new.checker place end r) c.in_default.is (c.see_chars.ensures.sees place [] (new_checked p c.new-end.result place (c.new-end.ensures.stands p) c.new-end.ensures.place)) in
     let none = unstopped p c.args._form (chars c.args.calm.settled.now) end calm.class calm.count calm.calm calm.sound (ends p c.args._form _ _ _ _ calm c.requires.some) place in
     cc
@@ -30,7 +30,7 @@ pub go_on_from-requires-clause-fits : goal.go_on_from-requires-clause-fits
 go_on_from-requires-clause-fits g c =
     let first : IsUtf8 c.args.calm.settled.now = search rules in
     let second : IsUtf8 c.args.calm.tail.now = search rules in
-    omega (arith, c.in-Ok.ensures.offset, c.new-end.ensures.offset, c.offset.ensures, c.char_count.ensures, c.char_count-2.ensures, few _ first, few _ second)
+    omega (arith, c.in-None.ensures.offset refl, c.new-end.ensures.offset, c.offset.ensures, c.char_count.ensures, c.char_count-2.ensures, few _ first, few _ second)
 
 pub returns-clause-sees : goal.returns-clause-sees
 returns-clause-sees g c = λ base x before.
@@ -41,7 +41,7 @@ returns-clause-sees g c = λ base x before.
     let end = chars c.args.calm.tail.now in
     let first : IsUtf8 c.args.calm.settled.now = search rules in
     let seen : HasChecked p c.see_chars.new.checker place end =
-    subst (λ r. Sees p c.see_chars.new.checker place end r) c.in-Ok.is (c.see_chars.ensures.sees place [] (new_checked p c.new-end.result place (c.new-end.ensures.stands p) c.new-end.ensures.place)) in
+    subst (λ r. Sees p c.see_chars.new.checker place end r) c.in-None.is (c.see_chars.ensures.sees place [] (new_checked p c.new-end.result place (c.new-end.ensures.stands p) c.new-end.ensures.place)) in
     let here : place ≡ base + length (encode_utf8_all (x ++ front)) =
     omega (arith, c.offset.ensures, before.stands.offset (ap is_some c.requires.none), ap length (encodes-append x front), length-append (encode_utf8_all x) (encode_utf8_all front), ap length (encodes-chars _ first)) in
     record {

@@ -1,4 +1,4 @@
-use Rattle.nf_filter.proofs.Common.{◌≡◌, [], Ok, Err, Some, None, refl, ap, arith, option_map, Option, Fault, Refused, utf8_place, measure_decision, text_measure, is_usable-none}
+use Rattle.nf_filter.proofs.Common.{◌≡◌, [], Ok, Err, Some, None, refl, ap, arith, option_map, Option, Fault, utf8_place, measure_decision, text_measure, is_usable-none}
 use Rattle.nf_safe.specs.declared.measure.Measure.{Measure}
 use Rattle.nf_filter.proofs.TextLemmas.{unusable_at-usable}
 use Rattle.nf_filter.proofs.ReadingLemmas.{holds_nothing, HasSurveyed-none}
@@ -17,7 +17,7 @@ returns-clause-surveys g c =
     let p = g.R.Rows.properties c.args.rows.now in
     let base = c.args.base in
     c.survey.ensures.surveys (record { base = base; decision = measure_decision p base; value = text_measure p })
-    (HasSurveyed-none c.new.ensures.offset c.new.ensures.decoder (c.new-2.ensures p) (ap (option_map Refused) (unusable_at-usable p (utf8_place base) [] (is_usable-none p))) (decides p base) (λ bytes. refl))
+    (HasSurveyed-none c.new.ensures.offset c.new.ensures.decoder (c.new-2.ensures p) (ap (option_map Err) (unusable_at-usable p (utf8_place base) [] (is_usable-none p))) (decides p base) (λ bytes. refl))
 
 pub returns-clause-end : goal.returns-clause-end
 returns-clause-end g c = all_read c.survey.result (returns-clause-surveys g c) (λ measure is bytes. no_answer _)

@@ -1,4 +1,4 @@
-use Rattle.nf_filter.proofs.Common.{◌≡◌, ◌+◌, ◌-◌, [], ◌∷◌, ◌++◌, length, Err, refl, sym, ap, ◌∙◌, arith, append_assoc, encode_utf8, encode_utf8_all, chars, chars_rest, chars_past_char, unusable_stop}
+use Rattle.nf_filter.proofs.Common.{◌≡◌, ◌+◌, ◌-◌, [], ◌∷◌, ◌++◌, length, Err, refl, sym, ap, ◌∙◌, arith, append_assoc, encode_utf8, encode_utf8_all, chars, chars_rest, chars_past_char, unusable_at, utf8_place}
 use Rattle.nf_filter.proofs.CharsLemmas.{place_at}
 use Rattle.nf_filter.proofs.TakingLemmas.{front_len, front-behind}
 use Rattle.nf_filter.proofs.MeasuresLemmas.{refusal_at, seen_more}
@@ -34,6 +34,6 @@ returns-in-Err-clause-sees g c = λ base x before here.
     let at = c.args.at + (length text - length rest) in
     let len = front_len text known.front rest c.utf8.text c.see_known-rest.utf8 known.is_front in
     let place : at ≡ base + length (encode_utf8_all seen) = place_at at c.args.at base x known.front (omega (arith, len)) here in
-    sym (ap (unusable_stop p base) (front-behind text known.front rest known.is_front x)) ∙ ap (λ l. unusable_stop p base (seen ++ l)) is
-    ∙ ap (unusable_stop p base) (sym (append_assoc seen (d ∷ []) (chars more)))
+    sym (ap (unusable_at p (utf8_place base)) (front-behind text known.front rest known.is_front x)) ∙ ap (λ l. unusable_at p (utf8_place base) (seen ++ l)) is
+    ∙ ap (unusable_at p (utf8_place base)) (sym (append_assoc seen (d ∷ []) (chars more)))
     ∙ refusal_at p base at seen d (chars more) known.seen.sound place (Err c.in-Err.field-0) refl (c.in-Err.ensures.refuses seen known.seen)

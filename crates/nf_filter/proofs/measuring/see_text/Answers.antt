@@ -1,6 +1,7 @@
-use Rattle.nf_filter.proofs.Common.{[], ◌++◌, rules, refl, sym, ap, ◌∙◌, subst, arith, append-nil, append_assoc, HasMeasured, unusable_stop}
+use Rattle.nf_filter.proofs.Common.{[], ◌++◌, rules, refl, sym, ap, ◌∙◌, subst, arith, append-nil, append_assoc, HasMeasured, unusable_decision}
 use Rattle.nf_filter.proofs.CharsLemmas.{place_at}
 use Rattle.nf_filter.proofs.TakingLemmas.{front_len, front-behind, front-more, front-whole}
+use Rattle.nf_filter.proofs.MeasuresLemmas.{unusable_decision-fault}
 use Rattle.nf_filter.proofs.measuring.see_text.Goals as goal
 
 pub loop-rest-init : goal.loop-rest-init
@@ -35,8 +36,8 @@ returns-in-Err-clause-sees g c = λ base x before here.
     let so_far = c.loop-rest.invariant.seen base x before here in
     let len = front_len c.args.text.now so_far.front c.loop-rest.rest.now c.utf8.text c.loop-rest.invariant.utf8 so_far.is_front in
     let place = place_at c.loop-rest.place c.args.at base x so_far.front (omega (arith, len, c.loop-rest.invariant.place)) here in
-    ap (unusable_stop _ base) (sym (front-behind c.args.text.now so_far.front c.loop-rest.rest.now so_far.is_front x))
-    ∙ c.in-Err.ensures.sees base (x ++ so_far.front) so_far.seen place
+    ap (unusable_decision _ base) (sym (front-behind c.args.text.now so_far.front c.loop-rest.rest.now so_far.is_front x))
+    ∙ unusable_decision-fault _ base _ _ (c.in-Err.ensures.sees base (x ++ so_far.front) so_far.seen place)
 
 pub returns-clause-sees : goal.returns-clause-sees
 returns-clause-sees g c = λ base x before here.

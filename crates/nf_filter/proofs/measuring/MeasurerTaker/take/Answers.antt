@@ -1,6 +1,6 @@
-use Rattle.nf_filter.proofs.Common.{◌≡◌, ◌+◌, [], ◌∷◌, ◌++◌, length, Err, sym, ◌∙◌, arith, append_assoc, encode_utf8_all, chars, length-encode, Row, Refused}
+use Rattle.nf_filter.proofs.Common.{◌≡◌, ◌+◌, [], ◌∷◌, ◌++◌, length, Err, sym, ◌∙◌, arith, append_assoc, encode_utf8_all, chars, length-encode, Some, Row}
 use Rattle.nf_filter.proofs.CharsLemmas.{utf8_len-push}
-use Rattle.nf_filter.proofs.MeasuresLemmas.{TakesText-seen, went_on_so, refusal_at}
+use Rattle.nf_filter.proofs.MeasuresLemmas.{unusable_decision-fault, TakesText-seen, went_on_so, refusal_at}
 use Rattle.nf_filter.proofs.TakingLemmas.{is_none}
 use Rattle.nf_filter.proofs.measuring.MeasurerTaker.take.Goals as goal
 
@@ -14,7 +14,7 @@ returns-then-is_err-clause-takes g c = λ base x before here.
     let p = g.R.Rows.properties c.args.rows.now in
     let stops = refusal_at p base c.args.at x c.in-Some.c (chars c.args.text.now) before.sound here c.see.result (sym c.is_err.ensures.value ∙ c.if-is_err.true) (c.see.ensures.refuses x before) in
     rw c.in-Some.is
-    (TakesText-seen p c.see.new.self base x (c.in-Some.c ∷ chars c.args.text.now) (Err (Refused (Row c.args.at))) (rw (append_assoc x (c.in-Some.c ∷ []) (chars c.args.text.now)) at stops))
+    (TakesText-seen p c.see.new.self base x (c.in-Some.c ∷ chars c.args.text.now) (Some (Err (Row c.args.at))) (unusable_decision-fault p base _ _ (rw (append_assoc x (c.in-Some.c ∷ []) (chars c.args.text.now)) at stops)))
 
 pub returns-clause-takes : goal.returns-clause-takes
 returns-clause-takes g c = λ base x before here.
