@@ -1,10 +1,15 @@
 -- A place in a text whose front, up to there, is calm.
-use Rattle.std.specs.Prelude.{◌≡◌, ℕ, false, List, ◌∷◌, ◌++◌, chars, IsUtf8}
+use Rattle.std.specs.Prelude.{◌≡◌, ◌==◌, if◌then◌else◌, ℕ, false, List, ◌∷◌, ◌++◌, chars, IsUtf8}
 use Rattle.nf_forms.specs.declared.form.Form.{Form}
+use Rattle.nf_forms.specs.declared.form.Form.TheVariants.{Nfc, Nfd, Nfkc, Nfkd}
 use Rattle.nf_forms.specs.Calm.{IsCalm}
 use Rattle.nf_forms.specs.Ucd.{ucd}
 use Rattle.nf_calm.specs.Going.{goes_on}
 use Rattle.nf_calm.specs.declared.scan.Scan.{Scan}
+
+-- the form of a number
+abbrev pub form_of : ℕ → Form
+form_of n = if n == 0 then Nfc else (if n == 1 then Nfd else (if n == 2 then Nfkc else Nfkd))
 
 pub record Reaches (f : Form) (text : List ℕ) (scan : Scan) : Type 0 where
   pub front : List ℕ

@@ -48,16 +48,16 @@ fn text_before<'t>(_form: Form, text: &'t str, end: Scan<'t>) -> CalmText<'t>
     CalmText { calm, rest }
 }
 
-/// Where the calm front ends. Each form has a copy of the loop of its own.
+/// Where the calm front ends.
 fn calm_end(form: Form, text: &str) -> Scan<'_>
     ensures ends { Ends form result }
     ensures calm { Reaches form text.now result }
 {
     let front = Scan::new(text);
     match form {
-        Form::Nfc => front.to_end(Form::Nfc),
-        Form::Nfd => front.to_end(Form::Nfd),
-        Form::Nfkc => front.to_end(Form::Nfkc),
-        Form::Nfkd => front.to_end(Form::Nfkd),
+        Form::Nfc => front.to_end::<0>(),
+        Form::Nfd => front.to_end::<1>(),
+        Form::Nfkc => front.to_end::<2>(),
+        Form::Nfkd => front.to_end::<3>(),
     }
 }

@@ -1,9 +1,25 @@
+ghost use Rattle.std.specs.Prelude.{◌≡◌};
+ghost use Rattle.nf_calm.specs.Scan.{form_of};
+
 use crate::blocks::plain_blocks;
 use crate::lanes::plain_len;
 use crate::leads::wants_look;
 use crate::marks::Marks;
 use nf_facts::laws;
 use nf_forms::Form;
+
+/// The form of a number, for what has a copy for each.
+#[inline(always)]
+fn form_of(number: usize) -> Form
+    ensures { result ≡ form_of number }
+{
+    match number {
+        0 => Form::Nfc,
+        1 => Form::Nfd,
+        2 => Form::Nfkc,
+        _ => Form::Nfkd,
+    }
+}
 
 /// A place in a text whose front, up to there, is calm.
 #[derive(Clone, Copy)]
@@ -18,7 +34,7 @@ impl<'t> Scan<'t> {
     ghost use Rattle.std.specs.Prelude.{◌≡◌, ◌<◌, ◌≤◌, ℕ, false, List, length, slice_index, IfSome, IsNone};
     ghost use Rattle.nf_forms.specs.declared.form.Form.{Form};
     ghost use Rattle.nf_calm.specs.Closer.{look_at};
-    ghost use Rattle.nf_calm.specs.Scan.{Reaches, Ends};
+    ghost use Rattle.nf_calm.specs.Scan.{form_of, Reaches, Ends};
 
     /// The front of the text.
     #[inline]
@@ -31,23 +47,30 @@ impl<'t> Scan<'t> {
         }
     }
 
-    /// As far as the text is known to go on calmly. Bytes are asked together where that is likely to pay: not behind a
-    /// character of which they told nothing.
-    #[inline(always)]
-    pub fn to_end(self, form: Form) -> Scan<'t>
-        ensures ends { Ends form result }
-        ensures calm { (text : List ℕ) → Reaches form text self.entry → Reaches form text result }
+    /// As far as the text is known to go on calmly, in the form of this number: each form has a copy of the loop of its own.
+    /// Bytes are asked together where that is likely to pay: not behind a character of which they told nothing.
+    pub fn to_end<const FORM: usize>(self) -> Scan<'t>
+        ensures ends { Ends (form_of FORM) result }
+        ensures calm { (text : List ℕ) → Reaches (form_of FORM) text self.entry → Reaches (form_of FORM) text result }
     {
+        let form = form_of(FORM);
         let mut scan = self.over_blocks(form);
         let mut pays = true;
         while let Some(next) = scan.step(form) {
             scan = next;
-            if pays || next.marks.class != 0 || next.is_before_plain(form) {
+            if pays || next.is_behind_marks() || next.is_before_plain(form) {
                 scan = next.over_plain(form);
                 pays = scan.rest.len() < next.rest.len();
             }
         }
         scan
+    }
+
+    /// Whether it stands behind a mark, and no byte comes next that begins a mark of U+0300 to U+037F.
+    #[inline(always)]
+    fn is_behind_marks(self) -> bool {
+        let bytes = self.rest.as_bytes();
+        self.marks.class != 0 && !bytes.is_empty() && !matches!(bytes[0], 0xCC | 0xCD)
     }
 
     /// Whether the byte behind it begins no character that has to be looked up.
