@@ -7,7 +7,6 @@ ghost use Rattle.nf_filter.specs.Checks.{check_decision, no_place, HasChecked, S
 
 use crate::devices::Source;
 use crate::fault::Fault;
-use crate::measuring::Pace;
 use crate::reading::Reading;
 use crate::sources::{BLOCK, survey};
 use crate::taker::Taker;
@@ -118,22 +117,32 @@ fn see_text<R: Rows>(checker: &mut Checker, rows: &R, text: &str) -> Option<Deci
     None
 }
 
-/// How calm text is looked for.
+/// Where at least so many bytes were calm, it is asked again behind the next character.
+const WORTH: usize = 8;
+
+/// At most so many characters are seen by themselves before it is asked again.
+const MOST: u8 = 15;
+
+/// How calm text is looked for: the longer little was found, the less often.
 #[derive(Clone, Copy)]
 struct Search {
     /// The form in which text was last found to be calm: composed text is so in NFC, decomposed text in NFD.
     form: Form,
-    pace: Pace,
+    /// So many characters are seen by themselves before it is asked again.
+    few: u8,
+    /// So many are where little is found then.
+    next: u8,
 }
 
 impl Search {
-    ghost use Rattle.std.specs.Prelude.{◌<◌, length, IfSome};
+    ghost use Rattle.std.specs.Prelude.{◌≡◌, ◌<◌, length, IfSome};
     ghost use Rattle.nf_calm.specs.Front.{IsCalmFront};
 
     const fn new() -> Search {
         Search {
             form: Form::Nfc,
-            pace: Pace::new(),
+            few: 0,
+            next: 1,
         }
     }
 
@@ -142,7 +151,8 @@ impl Search {
         ensures calm { IfSome result (λ calm. IsCalmFront (R.properties rows.now) self.new.form text.now calm.settled.now calm.tail.now calm.rest.now) }
         ensures some { IfSome result (λ calm. 0 < length calm.tail.now) }
     {
-        if !self.pace.is_due() {
+        if self.few > 0 {
+            self.few -= 1;
             return None;
         }
         let mut calm = rows.calm_front(self.form, text);
@@ -153,11 +163,25 @@ impl Search {
             };
             calm = rows.calm_front(self.form, text);
         }
-        self.pace.told(text.len() - calm.rest.len());
+        self.found(text.len() - calm.rest.len());
         if calm.tail.is_empty() {
             return None;
         }
         Some(calm)
+    }
+
+    /// So many bytes were calm.
+    fn found(&mut self, len: usize)
+        ensures { self.new.form ≡ self.old.form }
+    {
+        if len >= WORTH {
+            self.next = 1;
+            return;
+        }
+        self.few = self.next;
+        if self.next < MOST {
+            self.next = 2 * self.next + 1;
+        }
     }
 }
 

@@ -14,11 +14,13 @@ use nf_row::Rows;
 use nf_safe::{Measure, Measurer};
 use nf_utf8::{ascii_prefix, char_count};
 
-/// Where at least so many bytes were known, it is asked again behind the next character.
+/// Where at least so many bytes were known, it is asked again soon.
 const WORTH: usize = 8;
 
-/// At most so many characters are seen by themselves before it is asked again.
-const MOST: usize = 15;
+/// Of so many bytes at least the characters are seen one by one before it is asked again, and of so many at most.
+const FEW: usize = 4;
+
+const MANY: usize = 256;
 
 /// Reads all that the source gives, and answers what is measured of it. The first byte has the offset `base`. The first
 /// fault is answered in its stead: `Row`, where a filter would answer it, `BadByte`, `Cut`, `Read` and `TooLong`. At most
@@ -97,40 +99,26 @@ impl Taker for Measurer {
 
 /// How often it is asked what is known of a text: the longer little was known, the less often.
 #[derive(Clone, Copy)]
-pub(crate) struct Pace {
-    /// So many characters are seen by themselves before it is asked again.
-    few: usize,
-    /// So many are where little is known then.
-    next: usize,
+struct Pace {
+    /// Of so many bytes the characters are seen one by one.
+    most: usize,
 }
 
 impl Pace {
     #[inline(always)]
-    pub const fn new() -> Pace {
-        Pace { few: 0, next: 1 }
+    const fn new() -> Pace {
+        Pace { most: FEW }
     }
 
-    /// Whether it is asked before the next character.
+    /// So many bytes were known. Answers of how many behind these the characters are seen one by one.
     #[inline(always)]
-    pub fn is_due(&mut self) -> bool {
-        if self.few > 0 {
-            self.few -= 1;
-            return false;
-        }
-        true
-    }
-
-    /// So many bytes were known.
-    #[inline(always)]
-    pub fn told(&mut self, len: usize) {
+    fn told(&mut self, len: usize) -> usize {
         if len >= WORTH {
-            self.next = 1;
-            return;
+            self.most = FEW;
+        } else if self.most < MANY {
+            self.most *= 2;
         }
-        self.few = self.next;
-        if self.next < MOST {
-            self.next = 2 * self.next + 1;
-        }
+        self.most
     }
 }
 
@@ -162,8 +150,8 @@ fn see_text<R: Rows>(
     None
 }
 
-/// Sees a front of a text that begins at the offset `at`: ASCII, what else is known to have starters alone, and the character
-/// behind that. Answers what stands behind.
+/// Sees a front of a text that begins at the offset `at`: ASCII, what else is known to have starters alone, a few characters by
+/// one look-up each, and the character behind that. Answers what stands behind.
 fn see_front<'t, R: Rows>(
     measurer: &mut Measurer,
     rows: &R,
@@ -181,16 +169,19 @@ fn see_front<'t, R: Rows>(
         → SeesFront p measurer.new base x text.now result }
 {
     let behind = see_ascii(measurer, rows, text);
-    let rest = see_known(measurer, rows, pace, behind);
-    let mut chars = rest.chars();
-    let Some(c) = chars.next() else {
+    let known = see_known(measurer, rows, behind);
+    let most = pace.told(behind.len() - known.len());
+    let rest = measurer.see_told(rows, known, most);
+    if rest.len() < text.len() {
         return Ok(rest);
-    };
+    }
+    let mut chars = rest.chars();
+    let c = chars.next().unwrap();
     match measurer.see(rows, c) {
         Ok(()) => Ok(chars.as_str()),
         Err(_) => {
-            let known = (text.len() - rest.len()) as u64;
-            Err(Fault::Row { at: at + known })
+            let seen = (text.len() - rest.len()) as u64;
+            Err(Fault::Row { at: at + seen })
         }
     }
 }
@@ -214,32 +205,10 @@ fn see_ascii<'t, R: Rows>(measurer: &mut Measurer, rows: &R, text: &'t str) -> &
     rest
 }
 
-/// Sees what else is known to have starters alone, where that is asked, and answers what stands behind it.
-#[inline(always)]
-fn see_known<'t, R: Rows>(
-    measurer: &mut Measurer,
-    rows: &R,
-    pace: &mut Pace,
-    text: &'t str,
-) -> &'t str
-    requires fits { (values_of measurer.old).bytes + length text.now ≤ u64.MAX }
-    ensures shorter { length result.now ≤ length text.now }
-    ensures counts { (values_of measurer.new).bytes + length result.now ≡ (values_of measurer.old).bytes + length text.now }
-    ensures sees { let p = R.properties rows.now in (base : ℕ) (x : List ℕ) → HasMeasured p measurer.old base x
-        → HasSeenFront p measurer.new base x text.now result.now }
-{
-    if !pace.is_due() {
-        return text;
-    }
-    let rest = see_told(measurer, rows, text);
-    pace.told(text.len() - rest.len());
-    rest
-}
-
-/// Sees as far as it is told, and answers what stands behind that. It stands by itself so that what sees one character after
-/// another is short.
+/// Sees what else is known to have starters alone, and answers what stands behind that. It stands by itself so that what sees
+/// one character after another is short.
 #[inline(never)]
-fn see_told<'t, R: Rows>(measurer: &mut Measurer, rows: &R, text: &'t str) -> &'t str
+fn see_known<'t, R: Rows>(measurer: &mut Measurer, rows: &R, text: &'t str) -> &'t str
     requires fits { (values_of measurer.old).bytes + length text.now ≤ u64.MAX }
     ensures shorter { length result.now ≤ length text.now }
     ensures counts { (values_of measurer.new).bytes + length result.now ≡ (values_of measurer.old).bytes + length text.now }

@@ -1,6 +1,7 @@
 ghost use Rattle.std.specs.Prelude.{◌≤◌};
 
 use crate::rows::{Row, Rows};
+use nf_counts::Counts;
 
 /// How a row begins and ends.
 #[derive(Clone, Copy, Debug)]
@@ -16,8 +17,9 @@ pub struct Ends {
 }
 
 impl Ends {
-    ghost use Rattle.std.specs.Prelude.{◌≡◌, ℕ, ◌<◌, ◌≤◌, ◌+◌, ◌||◌, [], ◌∷◌, length, if◌then◌else◌};
+    ghost use Rattle.std.specs.Prelude.{◌≡◌, ℕ, ◌<◌, ◌≤◌, ◌+◌, ◌||◌, List, [], ◌∷◌, length, if◌then◌else◌};
     ghost use Rattle.nf_forms.specs.Properties.{Properties, is_starter};
+    ghost use Rattle.nf_counts.specs.Counts.{HasCounts};
     ghost use Rattle.nf_row.specs.Ends.{HasEnds};
 
     /// The ends of `row`, by one look at the class of each member.
@@ -50,6 +52,19 @@ impl Ends {
         Ends {
             has_starter: starts,
             lead: marks,
+            trail: marks,
+        }
+    }
+
+    /// The ends of a row of which these are the counts.
+    #[inline]
+    pub fn of_counts(counts: Counts) -> Ends
+        ensures { (p : Properties) (row : List ℕ) → HasCounts p row counts → HasEnds p row result }
+    {
+        let marks = usize::from(counts.marks);
+        Ends {
+            has_starter: counts.has_starter,
+            lead: if counts.has_starter { 0 } else { marks },
             trail: marks,
         }
     }

@@ -10,11 +10,13 @@ ghost use Rattle.nf_boundary.specs.Front.{IsClosedFront};
 ghost use Rattle.nf_row.specs.Kind.{IsKind};
 ghost use Rattle.nf_row.specs.Ascii.{IsPlainAscii};
 ghost use Rattle.nf_row.specs.Starters.{has_only_starters};
+ghost use Rattle.nf_counts.specs.Counts.{IsCounted};
 
 use crate::kind::Kind;
 use arrayvec::ArrayVec;
 use nf_boundary::{Closed, Formed};
 use nf_calm::Calm;
+use nf_counts::Counts;
 use nf_forms::Form;
 
 /// The full decomposition of one character: at most 18 code points, which is the most that one of Unicode's has.
@@ -87,6 +89,15 @@ pub trait Rows {
         ensures { IsKind (properties self.now) _form _c result }
     {
         Kind::Other
+    }
+
+    /// The non-starters of the compatibility decomposition of `c`, where one look-up tells them, and that `c` is sound and
+    /// assigned. Data of which nothing is known leaves it out.
+    #[inline]
+    fn counts(&self, _c: char) -> Option<Counts>
+        ensures { IfSome result (λ counts. IsCounted (properties self.now) _c counts) }
+    {
+        None
     }
 
     /// The calm front of the text in that form, as far as it is known. Data of which nothing is known leaves it out.

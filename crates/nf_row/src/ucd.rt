@@ -9,6 +9,7 @@ use crate::starters::starters_front;
 use nf_assigned::assigned_front;
 use nf_boundary::{Closed, Formed, closed_front};
 use nf_calm::{Calm, calm_front};
+use nf_counts::{Counts, counts_of};
 use nf_facts::laws;
 use unicode::properties::GeneralCategory;
 use unicode_normalization::{Form, char as lookup};
@@ -80,6 +81,11 @@ impl Rows for Ucd {
     #[inline]
     fn kind(&self, form: nf_forms::Form, c: char) -> Kind {
         kind_of(form, c)
+    }
+
+    #[inline]
+    fn counts(&self, c: char) -> Option<Counts> {
+        counts_of(c)
     }
 
     #[inline]

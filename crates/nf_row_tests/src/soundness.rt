@@ -94,18 +94,24 @@ fn every_character_of_unicode_is_sound(rt: HostRuntime) {
 #[test]
 fn a_sound_character_comes_with_its_row_and_ends(rt: HostRuntime) -> Result<(), Fail> {
     // U+0344 is two marks in each form; U+00A8 and U+FF9E are their own canonical rows.
-    let cases: [(char, &[char], (bool, usize, usize)); 4] = [
+    // In the row of U+3300 a mark stands between starters.
+    let cases: [(char, &[char], (bool, usize, usize)); 5] = [
         ('a', &['a'], (true, 0, 0)),
         ('\u{344}', &['\u{308}', MARK], (false, 2, 2)),
         ('\u{A8}', &[' ', '\u{308}'], (true, 0, 1)),
         ('\u{FF9E}', &['\u{3099}'], (false, 1, 1)),
+        (
+            '\u{3300}',
+            &['\u{30A2}', '\u{30CF}', '\u{309A}', '\u{30FC}', '\u{30C8}'],
+            (true, 0, 0),
+        ),
     ];
     for (c, row, ends) in cases {
         let read = sound_row(&Ucd, c).ok_or("unsound")?;
         assert_eq!(rt; (read.row.as_slice(), numbers(read.ends)), (row, ends));
-        let lent = sound_ends(&Ucd, c).ok_or("unsound")?;
+        let told = sound_ends(&Ucd, c).ok_or("unsound")?;
         let copied = sound_ends(&Patched::new(&[]), c).ok_or("unsound")?;
-        assert_eq!(rt; (numbers(lent), numbers(copied)), (ends, ends));
+        assert_eq!(rt; (numbers(told), numbers(copied)), (ends, ends));
     }
     Ok(())
 }

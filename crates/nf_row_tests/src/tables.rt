@@ -156,6 +156,7 @@ fn nothing_is_known_of_changed_data(rt: HostRuntime) {
     let changes = [Change::Class('a', 1)];
     let rows = Patched::new(&changes);
     assert_eq!(rt; rows.kind(Form::Nfc, 'b'), Kind::Other);
+    assert!(rt; rows.counts('b').is_none() && Ucd.counts('b').is_some());
     assert!(rt; !rows.all_sound() && Ucd.all_sound());
 }
 

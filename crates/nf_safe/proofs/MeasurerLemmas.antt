@@ -6,7 +6,8 @@ use Rattle.nf_forms.specs.Laws.Closed.{sound-append}
 use Rattle.nf_row.specs.Starters.{has_only_starters}
 use Rattle.nf_safe.specs.declared.measure.Measure.{Measure}
 use Rattle.nf_safe.specs.declared.measurer.Measurer.{Measurer}
-use Rattle.nf_safe.specs.Measurer.{StandsAfter}
+use Rattle.nf_safe.specs.Measurer.{StandsAfter, HasSeen}
+use Rattle.std.specs.Prelude.{chars}
 
 -- a measure is its six numbers
 abbrev pub measured : ℕ → ℕ → ℕ → ℕ → ℕ → ℕ → Measure
@@ -17,7 +18,7 @@ same_values bytes chars nonstarters longest put unassigned = cc
 
 module _ (p : Properties) (old : Measurer) (x : List ℕ) (c : ℕ) (before : StandsAfter p old x) where
   -- the count decides where the joiner is put
-  long_is : (b : Bool) → passes p old.counter (p.compat c) ≡ b → is_too_long p (stream_safe p x) c ≡ b
+  pub long_is : (b : Bool) → passes p old.counter (p.compat c) ≡ b → is_too_long p (stream_safe p x) c ≡ b
   long_is b answer = ap (λ n. passes p n (p.compat c)) (sym before.count) ∙ answer
 
   abbrev safe_with : Bool → List ℕ
@@ -152,3 +153,13 @@ module _ (p : Properties) where
               ∙ sym (ap (λ o. trail p (decomposed Nfkd p o)) safe ∙ run-behind p (stream_safe p x) y starts);
           runs = runs_are;
         }
+
+-- behind a front another
+pub seen_more : (p : Properties) (first second : Measurer) (x text behind rest : List ℕ) → HasSeen p first x text behind → ((y : List ℕ) → StandsAfter p first y → HasSeen p second y behind rest) → HasSeen p second x text rest
+seen_more p first second x text behind rest so_far next =
+    let more = next (x ++ so_far.front) so_far.stands in
+    record {
+      front = so_far.front ++ more.front;
+      is_front = so_far.is_front ∙ ap (λ l. so_far.front ++ l) more.is_front ∙ sym (append_assoc so_far.front more.front (chars rest));
+      stands = subst (StandsAfter p second) (append_assoc x so_far.front more.front) more.stands;
+    }

@@ -1,5 +1,5 @@
 -- Where a measurer stands in the text that it sees.
-use Rattle.std.specs.Prelude.{◌≡◌, ℕ, not, ◌&&◌, List, Option, Some, None, if◌then◌else◌}
+use Rattle.std.specs.Prelude.{◌≡◌, ℕ, not, ◌&&◌, List, ◌++◌, chars, Option, Some, None, if◌then◌else◌}
 use Rattle.nf_forms.specs.Properties.{Properties}
 use Rattle.nf_forms.specs.declared.form.Form.TheVariants.{Nfkd}
 use Rattle.nf_forms.specs.Runs.{trail}
@@ -31,6 +31,12 @@ pub record StandsAfter (p : Properties) (measurer : Measurer) (x : List ℕ) : T
   pub values : values_of measurer ≡ measure_of p x
   pub count : measurer.counter ≡ trail p (decomposed Nfkd p (stream_safe p x))
   pub runs : HasRuns p measurer.runs (decomposed Nfkd p x)
+
+-- behind x it has seen a front of the text, and this is the rest
+pub record HasSeen (p : Properties) (measurer : Measurer) (x text rest : List ℕ) : Type 0 where
+  pub front : List ℕ
+  pub is_front : chars text ≡ front ++ chars rest
+  pub stands : StandsAfter p measurer (x ++ front)
 
 -- what is unsound where c follows x: c, or the joiner that has to stand before it
 abbrev pub unsound_at : Properties → List ℕ → ℕ → Option ℕ

@@ -1,11 +1,12 @@
 ghost use Rattle.std.specs.Prelude.{◌≡◌, ◌≤◌, ◌↔◌, List, ℕ, [], ◌∷◌, ◌++◌, IsSome, IfSome};
 ghost use Rattle.nf_forms.specs.Properties.{Properties};
+ghost use Rattle.nf_counts.specs.Counts.{HasCounts};
 ghost use Rattle.nf_row.specs.Ends.{HasEnds};
 ghost use Rattle.nf_forms.specs.StreamSafe.{max_run};
 ghost use Rattle.nf_safe.specs.Count.{passes, count_step};
 ghost use Rattle.nf_safe.specs.Counter.{StandsAfter};
 
-use nf_row::{Ends, Row, Rows};
+use nf_row::{Counts, Ends, Row, Rows};
 use std::marker::Model;
 
 /// How many non-starters a run may have (UAX #15, section 13).
@@ -80,6 +81,19 @@ impl Counter {
             self.count + k.lead as u8
         };
         begins_anew
+    }
+
+    /// The same for a row of which these are the counts.
+    #[inline(always)]
+    pub(crate) fn step_by_counts(&mut self, counts: Counts) -> bool
+        ensures answer { (p : Properties) (row : List ℕ) → HasCounts p row counts → result ≡ passes p self.old row }
+        ensures count { (p : Properties) (row : List ℕ) → HasCounts p row counts → self.new ≡ count_step p self.old row }
+    {
+        if counts.has_starter {
+            self.count = counts.marks;
+            return false;
+        }
+        self.step_by(Ends::of_counts(counts))
     }
 
     /// The non-starters, 0 to 30, that the decompositions end in which were taken since the last step that answered

@@ -1,6 +1,6 @@
 ghost use Rattle.std.specs.Prelude.{◌≤◌};
 
-use nf_row::{Ends, Form, Rows, SoundRow, own_class, sound_row};
+use nf_row::{Counts, Ends, Rows, SoundRow, own_class, sound_row};
 
 /// The non-starters of decomposed text, and its runs of them.
 #[derive(Clone, Copy, Debug)]
@@ -15,9 +15,10 @@ pub struct Runs {
 }
 
 impl Runs {
-    ghost use Rattle.std.specs.Prelude.{◌≡◌, ◌+◌, ◌<◌, ◌≤◌, ℕ, List, [], ◌∷◌, ◌++◌, length, All, IsTrue, is_some, IfSome};
+    ghost use Rattle.std.specs.Prelude.{◌≡◌, ◌+◌, ◌<◌, ◌≤◌, ℕ, List, [], ◌∷◌, ◌++◌, length, All, IsTrue, is_some, IfSome, if◌then◌else◌, max};
     ghost use Rattle.nf_forms.specs.Properties.{Properties, is_starter};
     ghost use Rattle.nf_forms.specs.Sound.{is_sound};
+    ghost use Rattle.nf_counts.specs.Counts.{HasCounts};
     ghost use Rattle.nf_row.specs.Ends.{HasEnds};
     ghost use Rattle.nf_safe.specs.Runs.{HasRuns};
 
@@ -34,8 +35,7 @@ impl Runs {
     }
 
     /// With the compatibility decomposition of `c` behind, and the ends of that; none where `c` is unsound. No row is read
-    /// where it is known to be `c` alone, and none is copied where the data lends it.
-    #[inline]
+    /// where it is known to be `c` alone.
     pub fn with_char<R: Rows>(self, rows: &R, c: char) -> Option<(Runs, Ends)>
         requires { self.nonstarters + 18 ≤ u128.MAX }
         ensures sound { is_some result ≡ is_sound (R.properties rows.now) c }
@@ -49,16 +49,53 @@ impl Runs {
             runs.push(class == 0);
             return Some((runs, Ends::of_one(class == 0)));
         }
-        if rows.all_sound() {
-            let mut room = [c; 3];
-            if let Some(row) = rows.lent_row(Form::Nfkd, c, &mut room) {
-                runs.push_row(rows, row);
-                return Some((runs, Ends::of_members(rows, row)));
-            }
-        }
         let SoundRow { row, ends } = sound_row(rows, c)?;
         runs.push_row(rows, row.as_slice());
         Some((runs, ends))
+    }
+
+    /// Appends a row of which these are the counts.
+    #[inline(always)]
+    pub fn push_counts(&mut self, counts: Counts)
+        requires { self.old.nonstarters + 18 ≤ u128.MAX }
+        ensures few { self.new.nonstarters ≤ self.old.nonstarters + 18 }
+        ensures runs { (p : Properties) (w row : List ℕ) → HasCounts p row counts → HasRuns p self.old w → HasRuns p self.new (w ++ row) }
+    {
+        let last = self.last_behind(counts);
+        if counts.marks > 0 {
+            self.grow(counts.marks, last);
+        } else {
+            self.last = last;
+        }
+    }
+
+    /// Goes on by so many non-starters, up to a run of this length. It stands by itself so that a loop over starters is short.
+    #[inline(never)]
+    fn grow(&mut self, marks: u8, last: u128)
+        requires few { marks ≤ 18 }
+        requires fits { self.old.nonstarters + 18 ≤ u128.MAX }
+        requires within { last ≤ self.old.nonstarters + marks }
+        ensures nonstarters { self.new.nonstarters ≡ self.old.nonstarters + marks }
+        ensures longest { self.new.longest ≡ max self.old.longest last }
+        ensures last { self.new.last ≡ last }
+    {
+        self.nonstarters += u128::from(marks);
+        self.longest = self.longest.max(last);
+        self.last = last;
+    }
+
+    /// The length of the run that the text ends in with such a row behind.
+    #[inline(always)]
+    fn last_behind(&self, counts: Counts) -> u128
+        requires { self.now.nonstarters + 18 ≤ u128.MAX }
+        ensures { result ≡ (if counts.has_starter then counts.marks else self.now.last + counts.marks) }
+    {
+        let marks = u128::from(counts.marks);
+        if counts.has_starter {
+            marks
+        } else {
+            self.last + marks
+        }
     }
 
     /// Appends the members of `row`.

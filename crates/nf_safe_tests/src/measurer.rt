@@ -132,3 +132,23 @@ fn see_marks(rt: &impl Abort, measurer: &mut Measurer, times: u32) {
         assert_eq!(rt; measurer.see(&Ucd, MARK), Ok(()));
     }
 }
+
+/// It ends behind a fourth ASCII character in a row, with the character that so many bytes end in, and before one of which no
+/// look-up tells.
+#[test]
+fn a_front_is_measured_by_look_ups(rt: HostRuntime) {
+    let cases: [(&str, usize, &str, [u64; 6]); 6] = [
+        ("", 9, "", [0, 0, 0, 0, 0, 0]),
+        ("\u{E9}\u{301}abcdef", 9, "ef", [8, 6, 2, 2, 0, 0]),
+        ("\u{AC01}\u{5D0}\u{5B8}", 4, "\u{5B8}", [5, 2, 0, 0, 0, 0]),
+        ("\u{1D5}\u{3300}", 9, "\u{3300}", [2, 1, 2, 2, 0, 0]),
+        ("a\u{FF9E}\u{378}", 9, "\u{378}", [4, 2, 1, 1, 0, 0]),
+        ("\u{E9}", 0, "\u{E9}", [0, 0, 0, 0, 0, 0]),
+    ];
+    for (text, most, left, values) in cases {
+        let mut measurer = Measurer::new();
+        assert!(rt; measurer.values().bytes <= u64::MAX - text.len() as u64);
+        assert_eq!(rt; measurer.see_told(&Ucd, text, most), left);
+        assert_eq!(rt; measurer.values(), measure(values), "{text}");
+    }
+}

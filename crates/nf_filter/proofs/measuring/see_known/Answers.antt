@@ -1,7 +1,7 @@
 use Rattle.nf_filter.proofs.Common.{rules, ◌≡◌, ◌++◌, length, sym, ap, ap₂, ◌∙◌, arith, take-append-drop, IsUtf8, chars, chars-append, encodes-chars}
 use Rattle.nf_filter.proofs.CalmLemmas.{few}
 use Rattle.nf_filter.proofs.SteppingLemmas.{first-left}
-use Rattle.nf_filter.proofs.measuring.see_told.Goals as goal
+use Rattle.nf_filter.proofs.measuring.see_known.Goals as goal
 
 pub see_starters-requires-clause-some : goal.see_starters-requires-clause-some
 see_starters-requires-clause-some g c =

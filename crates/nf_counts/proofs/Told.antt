@@ -1,0 +1,185 @@
+-- The table has what the data of Unicode has, shown by one computation.
+use Rattle.std.proofs.Common.{◌≡◌, ℕ, ◌+◌, ◌-◌, ◌/◌, ◌%◌, ◌<◌, ◌≤◌, max, Bool, true, false, not, cond, ◌&&◌, ◌||◌, ◌==◌, nat_lt, List, [], ◌∷◌, count_by, inl, inr, refl, sym, ap, ap₂, ◌∙◌, arith, eqb-true, eq-eqb, ltb-true, lt-ltb, le-ltb}
+use Rattle.std.proofs.lemmas.Bool.{cases_Bool, cases_eq, and_parts, cond-true, cond-false}
+use Rattle.ucd_table.specs.Rows.{Range, in_ranges}
+use Rattle.ucd_table.specs.Trie.{IsTrie, trie_value}
+use Rattle.ucd_table.proofs.Stepped.{Stepped, of_ranges, map_stepped, zip_stepped, runs_of}
+use Rattle.ucd_table.proofs.Facts.{Stepped-below, tree_value, tree_of, tree_value-tree_of}
+use Rattle.ucd_table.proofs.TrieCheck.{trie_ok-IsTrie, trie_value-Stepped, trie_ok}
+use Rattle.ucd_table.proofs.Computing.{tables}
+use Rattle.ucd_category.specs.GeneralCategory.{general_category, general_category_eq}
+use Rattle.ucd_category.specs.declared.GeneralCategory.TheVariants.{Unassigned}
+use Rattle.ucd_category.proofs.GeneralCategoryLemmas.{general_category_stepped}
+use Rattle.ucd_normal.specs.CanonicalCombiningClass.{canonical_combining_class as ccc}
+use Rattle.ucd_normal.specs.declared.forms.Form.TheVariants.{Nfkd}
+use Rattle.ucd_normal.specs.Decomposition.{or_itself, compatibility_decomposition}
+use Rattle.ucd_normal.proofs.CanonicalCombiningClassLemmas.{canonical_combining_class_stepped}
+use Rattle.ucd_normal.proofs.CompositionLemmas.{is_empty}
+use Rattle.ucd_normal.proofs.Computing.{ucd_normal}
+use Rattle.ucd_normal.proofs.DecompositionLemmas.{compatibility_decomposition_stepped}
+use Rattle.unicode_normalization.specs.Decompose.{decompose}
+use Rattle.unicode_normalization.specs.Hangul.{is_syllable, decompose_hangul}
+use Rattle.unicode_normalization.proofs.DecomposeLemmas.{is_empty-full, decompose-syllable}
+use Rattle.unicode_normalization.proofs.HangulLemmas.{is_syllable-true, decompose_hangul-two, decompose_hangul-three}
+use Rattle.unicode_normalization.proofs.TableFacts.{table_of-full, class_of_jamo, class_of_syllable, entry_of_syllable}
+use Rattle.nf_forms.specs.Properties.{Properties, is_nonstarter}
+use Rattle.nf_forms.specs.Runs.{has_starter, lead, trail, longest}
+use Rattle.nf_forms.specs.Sound.{is_sound}
+use Rattle.nf_forms.specs.Ucd.{is_assigned, ucd}
+use Rattle.nf_counts.specs.Counts.{HasCounts, IsCounted}
+use Rattle.nf_counts.specs.declared.counts.Counts.{Counts}
+use Rattle.nf_counts.specs.declared.rows.TheConstants.{INDEX, WORDS, TAIL}
+
+-- the value of a row, and of one that is the character alone
+abbrev pub row_value : Properties → List ℕ → ℕ
+row_value p w =
+    let n = trail p w in
+    let has = has_starter p w in
+    let all = nat_lt n 4 && (n == longest p w && (n == count_by (is_nonstarter p) w && cond has 0 n == lead p w)) in
+    cond all (cond has 0 4 + n) 4
+
+-- Unicode's data by another look-up of the class, of which alone the counts read
+abbrev classes : (ℕ → ℕ) → Properties
+classes class = record { class = class; canonical = ucd.canonical; compat = ucd.compat; pair = ucd.pair; assigned = ucd.assigned }
+
+abbrev value : (ℕ → ℕ) → Bool → ℕ → List ℕ → ℕ
+value class told own w = cond told (cond (is_empty w) (cond (own == 0) 0 5) (row_value (classes class) w)) 4
+
+-- of these nothing is told
+unfoldable pub untold : List Range
+untold = (0x10000, 0x10FFFF) ∷ []
+
+abbrev tells : ℕ → Bool
+tells c = cond (in_ranges untold c) false (is_assigned c)
+
+unfoldable pub told : ℕ → ℕ
+told c = value ccc (tells c) (ccc c) (compatibility_decomposition c)
+
+unfoldable told_stepped : Stepped told
+unfolding told tables ucd_normal untold is_assigned general_category_stepped
+told_stepped =
+    let assigned = map_stepped (λ v. not (general_category_eq v Unassigned)) general_category general_category_stepped in
+    let tells_stepped = zip_stepped (λ far b. cond far false b) (in_ranges untold) is_assigned (of_ranges untold refl) assigned in
+    let class = tree_value canonical_combining_class_stepped.default (tree_of ccc canonical_combining_class_stepped) in
+    let rows = zip_stepped (λ (n : ℕ) (w : List ℕ). (n, w)) ccc compatibility_decomposition canonical_combining_class_stepped compatibility_decomposition_stepped in
+    let by_tree = zip_stepped (λ b (r : ℕ × List ℕ). value class b r.0 r.1) tells (λ c. (ccc c, compatibility_decomposition c)) tells_stepped rows in
+    record {
+      default = by_tree.default;
+      steps = by_tree.steps;
+      gives = λ c. ap (λ class. value class (tells c) (ccc c) (compatibility_decomposition c)) (tree_value-tree_of ccc canonical_combining_class_stepped) ∙ by_tree.gives c;
+    }
+
+trie_is : trie_ok 4 8 8 INDEX WORDS TAIL (runs_of (λ c. told c) told_stepped) ≡ true
+unfolding tables told_stepped
+trie_is = refl
+
+pub is_trie : IsTrie 4 8 INDEX WORDS
+is_trie = trie_ok-IsTrie 4 8 8 INDEX WORDS TAIL _ trie_is
+
+pub trie-told : (c : ℕ) → c < 0x11_0000 → trie_value 4 8 INDEX WORDS TAIL c ≡ told c
+trie-told = trie_value-Stepped 4 8 8 INDEX WORDS TAIL (λ c. told c) told_stepped trie_is
+
+pub told-ascii : (c : ℕ) → c < 0x80 → told c ≡ 0
+unfolding tables told_stepped
+told-ascii c low = eqb-true _ _ (Stepped-below told told_stepped (λ _ (v : ℕ). v == 0) 0x80 refl c low)
+
+-- ---- what a value tells
+
+-- a row of starters, and behind them so many non-starters
+counts-row : (p : Properties) (w : List ℕ) (v : ℕ) → v ≡ row_value p w → (v == 4) ≡ false → (counts : Counts) → counts.has_starter ≡ nat_lt v 4 → counts.marks ≡ v % 4 → HasCounts p w counts
+counts-row p w v is told counts starts marks =
+    let n = trail p w in
+    let has = has_starter p w in
+    let all = nat_lt n 4 && (n == longest p w && (n == count_by (is_nonstarter p) w && cond has 0 n == lead p w)) in
+    let fine : all ≡ true = next all is in
+    let short = and_parts _ _ fine in
+    let run = and_parts _ _ short.1 in
+    let number = and_parts _ _ run.1 in
+    let small : n < 4 = ltb-true n 4 short.0 in
+    let here = is ∙ ap (λ b. cond b (cond has 0 4 + n) 4) fine in
+    let both = numbers has n v small here told in
+    let same : counts.marks ≡ n = marks ∙ both.1 in
+    record {
+      has_starter = starts ∙ both.0;
+      lead = ap₂ (λ (b : Bool) (n : ℕ). cond b 0 n) (starts ∙ both.0) same ∙ eqb-true _ _ number.1;
+      trail = same;
+      longest = same ∙ eqb-true _ _ run.0;
+      nonstarters = same ∙ eqb-true _ _ number.0;
+    }
+  where
+    next : (b : Bool) → v ≡ cond b (cond (has_starter p w) 0 4 + trail p w) 4 → b ≡ true
+    next true e = refl
+    next false e = let clash : (v == 4) ≡ true = eq-eqb v 4 e in cc
+
+    numbers : (has : Bool) (n v : ℕ) → n < 4 → v ≡ cond has 0 4 + n → (v == 4) ≡ false → (nat_lt v 4 ≡ has) × (v % 4 ≡ n)
+    numbers true n v small e told = (lt-ltb v 4 (omega arith), omega arith)
+    numbers false n v small e told = (le-ltb v 4 (omega arith), omega arith)
+
+one_value : (p : Properties) (c : ℕ) → row_value p (c ∷ []) ≡ cond (p.class c == 0) 0 5
+one_value p c = next (p.class c == 0)
+  where
+    next : (b : Bool) → (let n = cond (not b) 1 0 in cond (nat_lt n 4 && (n == max n 0 && (n == 0 + n && cond (b || false) 0 n == n))) (cond (b || false) 0 4 + n) 4) ≡ cond b 0 5
+    next true = refl
+    next false = refl
+
+-- two or three starters
+abbrev of_three : ℕ → ℕ → ℕ → Properties
+of_three k m n = classes (λ c. cond (c == 0) k (cond (c == 1) m n))
+
+module _ (k m n : ℕ) (a : ccc k ≡ 0) (b : ccc m ≡ 0) where
+  two_value : row_value (classes ccc) (k ∷ m ∷ []) ≡ 0
+  two_value = ap₂ (λ i j. row_value (of_three i j 0) (0 ∷ 1 ∷ [])) a b
+
+  three_value : ccc n ≡ 0 → row_value (classes ccc) (k ∷ m ∷ n ∷ []) ≡ 0
+  three_value c = ap₂ (λ i j. row_value (of_three i j (ccc n)) (0 ∷ 1 ∷ 2 ∷ [])) a b ∙ ap (λ i. row_value (of_three 0 0 i) (0 ∷ 1 ∷ 2 ∷ [])) c
+
+letter : (c : ℕ) → 0x1100 ≤ c → c < 0x1200 → ccc c ≡ 0
+letter c low high = eqb-true (ccc c) 0 (class_of_jamo c low high)
+
+syllable_value : (c : ℕ) → is_syllable c ≡ true → row_value (classes ccc) (decompose_hangul c) ≡ 0
+syllable_value c syllable =
+    let range = is_syllable-true c syllable in
+    let first = letter (0x1100 + (c - 0xAC00) / 588) (omega arith) (omega arith) in
+    let second = letter (0x1161 + (c - 0xAC00) % 588 / 28) (omega arith) (omega arith) in
+    elim (cases_eq ((c - 0xAC00) % 28) 0) [
+      | inl none ↦ ap (row_value (classes ccc)) (decompose_hangul-two c none) ∙ two_value _ _ 0 first second
+      | inr some ↦ ap (row_value (classes ccc)) (decompose_hangul-three c some) ∙ three_value _ _ _ first second (letter _ (omega arith) (omega arith))
+    ]
+
+-- the value of a row, whether it is a mapping's, a syllable's or the character alone
+abbrev stood_for : ℕ → ℕ
+stood_for c = cond (is_empty (compatibility_decomposition c)) (cond (ccc c == 0) 0 5) (row_value (classes ccc) (compatibility_decomposition c))
+
+row_told : (c : ℕ) → stood_for c ≡ row_value (classes ccc) (decompose Nfkd c)
+unfolding decompose
+row_told c =
+    elim (cases_Bool (is_syllable c)) [
+      | inl syllable ↦
+          let range = is_syllable-true c syllable in
+          let none : is_empty (compatibility_decomposition c) ≡ true = ap is_empty (table_of-full Nfkd c) ∙ is_empty-full Nfkd c ∙ entry_of_syllable c range.0 range.1 in
+          cond-true _ _ _ none ∙ cond-true _ _ _ (class_of_syllable c range.0 range.1)
+          ∙ sym (ap (row_value (classes ccc)) (decompose-syllable Nfkd c syllable) ∙ syllable_value c syllable)
+      | inr other ↦ next (compatibility_decomposition c) ∙ sym (ap (row_value (classes ccc)) (cond-false _ _ _ other))
+    ]
+  where
+    next : (w : List ℕ) → cond (is_empty w) (cond (ccc c == 0) 0 5) (row_value (classes ccc) w) ≡ row_value (classes ccc) (or_itself c w)
+    next [] = sym (one_value (classes ccc) c)
+    next (x ∷ w) = refl
+
+-- so a value other than 4 tells of the character
+pub told-counted : (c : ℕ) → is_sound ucd c ≡ true → (v : ℕ) → v ≡ told c → (v == 4) ≡ false → (counts : Counts) → counts.has_starter ≡ nat_lt v 4 → counts.marks ≡ v % 4 → IsCounted ucd c counts
+unfolding told ucd
+told-counted c sound v is some counts starts marks = next (tells c) refl is
+  where
+    assigned : (far : Bool) → cond far false (is_assigned c) ≡ true → is_assigned c ≡ true
+    assigned true h = cc
+    assigned false h = h
+
+    next : (b : Bool) → tells c ≡ b → v ≡ cond b (stood_for c) 4 → IsCounted ucd c counts
+    next true here e =
+        record {
+          sound = sound;
+          assigned = assigned (in_ranges untold c) here;
+          row = counts-row ucd (decompose Nfkd c) v (e ∙ row_told c) some counts starts marks;
+        }
+    next false here e = let clash = sym some ∙ eq-eqb v 4 e in cc
