@@ -117,7 +117,7 @@ fn see_text<R: Rows>(checker: &mut Checker, rows: &R, text: &str) -> Option<Deci
     None
 }
 
-/// Where at least so many bytes were calm, it is asked again behind the next character.
+/// Where at least so many bytes were calm, it is asked again behind them.
 const WORTH: usize = 8;
 
 /// At most so many characters are seen by themselves before it is asked again.
@@ -126,7 +126,7 @@ const MOST: u8 = 15;
 /// How calm text is looked for: the longer little was found, the less often.
 #[derive(Clone, Copy)]
 struct Search {
-    /// The form in which text was last found to be calm: composed text is so in NFC, decomposed text in NFD.
+    /// The form that is asked: composed text is calm in NFC, decomposed text in NFD. Where little was found, the other.
     form: Form,
     /// So many characters are seen by themselves before it is asked again.
     few: u8,
@@ -135,7 +135,7 @@ struct Search {
 }
 
 impl Search {
-    ghost use Rattle.std.specs.Prelude.{◌≡◌, ◌<◌, length, IfSome};
+    ghost use Rattle.std.specs.Prelude.{◌<◌, length, IfSome};
     ghost use Rattle.nf_calm.specs.Front.{IsCalmFront};
 
     const fn new() -> Search {
@@ -146,38 +146,34 @@ impl Search {
         }
     }
 
-    /// The calm front of a text in one of both forms, where there is one and it is asked for.
-    fn front<'t, R: Rows>(&mut self, rows: &R, text: &'t str) -> Option<Calm<'t>>
-        ensures calm { IfSome result (λ calm. IsCalmFront (R.properties rows.now) self.new.form text.now calm.settled.now calm.tail.now calm.rest.now) }
-        ensures some { IfSome result (λ calm. 0 < length calm.tail.now) }
+    /// The calm front of a text, and its form, where there is one and it is asked for.
+    fn front<'t, R: Rows>(&mut self, rows: &R, text: &'t str) -> Option<(Form, Calm<'t>)>
+        ensures calm { IfSome result (λ found. IsCalmFront (R.properties rows.now) found.0 text.now found.1.settled.now found.1.tail.now found.1.rest.now) }
+        ensures some { IfSome result (λ found. 0 < length found.1.tail.now) }
     {
         if self.few > 0 {
             self.few -= 1;
             return None;
         }
-        let mut calm = rows.calm_front(self.form, text);
-        if calm.tail.is_empty() {
-            self.form = match self.form {
-                Form::Nfc => Form::Nfd,
-                _ => Form::Nfc,
-            };
-            calm = rows.calm_front(self.form, text);
-        }
+        let form = self.form;
+        let calm = rows.calm_front(form, text);
         self.found(text.len() - calm.rest.len());
         if calm.tail.is_empty() {
             return None;
         }
-        Some(calm)
+        Some((form, calm))
     }
 
     /// So many bytes were calm.
-    fn found(&mut self, len: usize)
-        ensures { self.new.form ≡ self.old.form }
-    {
+    fn found(&mut self, len: usize) {
         if len >= WORTH {
             self.next = 1;
             return;
         }
+        self.form = match self.form {
+            Form::Nfc => Form::Nfd,
+            _ => Form::Nfc,
+        };
         self.few = self.next;
         if self.next < MOST {
             self.next = 2 * self.next + 1;
@@ -201,10 +197,10 @@ fn see_front<'t, R: Rows>(
     ensures unsound { IfErr result (λ decision. IfErr decision (IsAmong (row ∷ []))) }
     ensures sees { let p = R.properties rows.now in (base : ℕ) (x : List ℕ) → HasChecked p checker.old base x → SeesFront p checker.new base x text.now result }
 {
-    let Some(calm) = search.front(rows, text) else {
+    let Some((form, calm)) = search.front(rows, text) else {
         return see_first(checker, rows, text);
     };
-    pass_calm(checker, rows, search.form, calm);
+    pass_calm(checker, rows, form, calm);
     Ok(calm.rest)
 }
 
@@ -229,7 +225,11 @@ fn pass_calm<R: Rows>(checker: &mut Checker, rows: &R, _form: Form, calm: Calm<'
 }
 
 /// Sees the first character of a text. Answers what stands behind.
-fn see_first<'t, R: Rows>(checker: &mut Checker, rows: &R, text: &'t str) -> Result<&'t str, Decision>
+fn see_first<'t, R: Rows>(
+    checker: &mut Checker,
+    rows: &R,
+    text: &'t str,
+) -> Result<&'t str, Decision>
     requires some { 0 < length text.now }
     requires none { place_of checker.old ≡ None }
     requires fits { offset_of checker.old + length text.now ≤ u64.MAX }
