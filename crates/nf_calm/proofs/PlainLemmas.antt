@@ -1,19 +1,17 @@
 -- Text of which the bytes tell that each character passes: each parts it.
-use Rattle.std.proofs.Common.{◌≡◌, ℕ, ◌+◌, ◌<◌, ◌≤◌, ⊎_elim, inl, true, false, List, [], ◌∷◌, ◌++◌, length, get_or, take, drop, refl, sym, ap, subst, ◌∙◌, arith, length-append, append_assoc, take-append-drop, length-take-le}
+use Rattle.std.proofs.Common.{◌≡◌, ℕ, ◌+◌, ◌<◌, ◌≤◌, ⊎_elim, inl, true, false, List, [], ◌∷◌, ◌++◌, length, get_or, refl, sym, ap, subst, ◌∙◌, arith, length-append, append_assoc}
 use Rattle.std.specs.Prelude.{chars, encode_utf8, encode_utf8_all, IsUtf8}
-use Rattle.std.specs.List.{list_all}
 use Rattle.std.specs.Str.{all_scalars, IsCharBoundary}
 use lib.Utf8.{scalar, scalar_cases}
 use Rattle.std.proofs.str.Classes.{width_is}
-use Rattle.std.proofs.lemmas.Bool.{and_parts, and_from}
+use Rattle.std.proofs.lemmas.Bool.{and_parts}
 use Rattle.std.proofs.lemmas.List.{get_or-append-add}
-use Rattle.std.proofs.lemmas.Str.{encodes-chars, scalars-chars, IsUtf8-take}
+use Rattle.std.proofs.lemmas.Str.{encodes-chars, scalars-chars}
 use Rattle.ucd_table.specs.Rows.{in_ranges}
 use Rattle.nf_forms.specs.declared.form.Form.{Form}
 use Rattle.nf_forms.specs.Sound.{max_row}
 use Rattle.nf_forms.specs.Calm.{BeginsRun, IsCalmFrom}
 use Rattle.nf_forms.specs.Ucd.{ucd}
-use Rattle.nf_facts.specs.Passing.{passes_check}
 use Rattle.nf_facts.specs.PlainRanges.{plain_ranges}
 use Rattle.nf_calm.specs.Closer.{look_at}
 use Rattle.nf_calm.proofs.ToldLemmas.{by_told, look3}
@@ -74,20 +72,3 @@ module _ (f : Form) where
         of (c ∷ cs) scalars e =
             let first = first_plain c cs more scalars (subst (λ t. ArePlain (t ++ more) (length t)) (sym e) plain) in
             (0, max_row, inl (begins c first.passes), calm_behind cs more first.scalars first.plain)
-
-  -- each of its characters passes
-  module _ (passes : (c : ℕ) → in_ranges (plain_ranges f) c ≡ true → passes_check f c ≡ true) where
-    each_passes : (cs more : List ℕ) → all_scalars cs ≡ true → ArePlain (encode_utf8_all cs ++ more) (length (encode_utf8_all cs)) → list_all (passes_check f) cs ≡ true
-    each_passes [] more scalars plain = refl
-    each_passes (c ∷ cs) more scalars plain =
-        let first = first_plain c cs more scalars plain in
-        and_from (passes_check f c) (list_all (passes_check f) cs) (passes c first.passes) (each_passes cs more first.scalars first.plain)
-
-    -- of a front that ends between two characters
-    pub front_passes : (text : List ℕ) (n : ℕ) → IsUtf8 text → IsCharBoundary text n → ArePlain text n → list_all (passes_check f) (chars (take n text)) ≡ true
-    front_passes text n u cut plain =
-        let front = take n text in
-        let front_utf8 = IsUtf8-take text n u cut in
-        let here : ArePlain (front ++ drop n text) (length front) =
-        subst (λ l. ArePlain l (length front)) (sym (take-append-drop n text)) (subst (ArePlain text) (sym (length-take-le n text cut.0)) plain) in
-        each_passes (chars front) (drop n text) (scalars-chars front front_utf8) (subst (λ l. ArePlain (l ++ drop n text) (length l)) (sym (encodes-chars front front_utf8)) here)

@@ -13,10 +13,8 @@ mod kana;
 mod lanes;
 mod leads;
 mod marks;
-mod plain;
 mod scan;
 mod wide;
 
 pub use calm::{Calm, CalmText};
 pub use front::{calm_front, calm_text, near_text};
-pub use plain::plain_front;

@@ -1,1 +1,4 @@
 mod Told
+mod CountsLemmas
+mod FirstLemmas
+mod ScanLemmas

@@ -1,11 +1,12 @@
 -- The table has what the data of Unicode has, shown by one computation.
-use Rattle.std.proofs.Common.{◌≡◌, ℕ, ◌+◌, ◌-◌, ◌/◌, ◌%◌, ◌<◌, ◌≤◌, max, Bool, true, false, not, cond, ◌&&◌, ◌||◌, ◌==◌, nat_lt, List, [], ◌∷◌, count_by, inl, inr, refl, sym, ap, ap₂, ◌∙◌, arith, eqb-true, eq-eqb, ltb-true, lt-ltb, le-ltb}
-use Rattle.std.proofs.lemmas.Bool.{cases_Bool, cases_eq, and_parts, cond-true, cond-false}
+use Rattle.std.proofs.Common.{◌≡◌, ℕ, ◌+◌, ◌-◌, ◌*◌, ◌/◌, ◌%◌, ◌^◌, ◌<◌, ◌≤◌, max, Bool, true, false, not, cond, ◌&&◌, ◌||◌, ◌==◌, nat_lt, List, [], ◌∷◌, slice_index, count_by, inl, inr, refl, sym, ap, ap₂, ◌∙◌, arith, eqb-true, eq-eqb, ltb-true, lt-ltb, le-ltb}
+use Rattle.std.proofs.lemmas.Bool.{cases_Bool, cases_eq, and_parts, and_from, cond-true, cond-false}
 use Rattle.ucd_table.specs.Rows.{Range, in_ranges}
-use Rattle.ucd_table.specs.Trie.{IsTrie, trie_value}
+use Rattle.ucd_table.specs.Steps.{run_value}
+use Rattle.ucd_table.specs.Trie.{IsTrie, block_value, trie_value}
 use Rattle.ucd_table.proofs.Stepped.{Stepped, of_ranges, map_stepped, zip_stepped, runs_of}
 use Rattle.ucd_table.proofs.Facts.{Stepped-below, tree_value, tree_of, tree_value-tree_of}
-use Rattle.ucd_table.proofs.TrieCheck.{trie_ok-IsTrie, trie_value-Stepped, trie_ok}
+use Rattle.ucd_table.proofs.TrieCheck.{all_below, all_below-at, trie_ok-IsTrie, trie_value-Stepped, trie_ok}
 use Rattle.ucd_table.proofs.Computing.{tables}
 use Rattle.ucd_category.specs.GeneralCategory.{general_category, general_category_eq}
 use Rattle.ucd_category.specs.declared.GeneralCategory.TheVariants.{Unassigned}
@@ -26,9 +27,8 @@ use Rattle.nf_forms.specs.Properties.{Properties, is_nonstarter}
 use Rattle.nf_forms.specs.Runs.{has_starter, lead, trail, longest}
 use Rattle.nf_forms.specs.Sound.{is_sound}
 use Rattle.nf_forms.specs.Ucd.{is_assigned, ucd}
-use Rattle.nf_counts.specs.Counts.{HasCounts, IsCounted}
-use Rattle.nf_counts.specs.declared.counts.Counts.{Counts}
-use Rattle.nf_counts.specs.declared.rows.TheConstants.{INDEX, WORDS, TAIL}
+use Rattle.nf_counts.specs.Counts.{HasValue, IsValued}
+use Rattle.nf_counts.specs.declared.rows.TheConstants.{INDEX, PLAIN, WORDS, TAIL}
 
 -- the value of a row, and of one that is the character alone
 abbrev pub row_value : Properties → List ℕ → ℕ
@@ -69,25 +69,76 @@ told_stepped =
       gives = λ c. ap (λ class. value class (tells c) (ccc c) (compatibility_decomposition c)) (tree_value-tree_of ccc canonical_combining_class_stepped) ∙ by_tree.gives c;
     }
 
-trie_is : trie_ok 4 8 8 INDEX WORDS TAIL (runs_of (λ c. told c) told_stepped) ≡ true
+trie_is : trie_ok 4 4 8 INDEX WORDS TAIL (runs_of (λ c. told c) told_stepped) ≡ true
 unfolding tables told_stepped
 trie_is = refl
 
-pub is_trie : IsTrie 4 8 INDEX WORDS
-is_trie = trie_ok-IsTrie 4 8 8 INDEX WORDS TAIL _ trie_is
+pub is_trie : IsTrie 4 4 INDEX WORDS
+is_trie = trie_ok-IsTrie 4 4 8 INDEX WORDS TAIL _ trie_is
 
-pub trie-told : (c : ℕ) → c < 0x11_0000 → trie_value 4 8 INDEX WORDS TAIL c ≡ told c
-trie-told = trie_value-Stepped 4 8 8 INDEX WORDS TAIL (λ c. told c) told_stepped trie_is
+pub trie-told : (c : ℕ) → c < 0x11_0000 → trie_value 4 4 INDEX WORDS TAIL c ≡ told c
+trie-told = trie_value-Stepped 4 4 8 INDEX WORDS TAIL (λ c. told c) told_stepped trie_is
 
 pub told-ascii : (c : ℕ) → c < 0x80 → told c ≡ 0
 unfolding tables told_stepped
 told-ascii c low = eqb-true _ _ (Stepped-below told told_stepped (λ _ (v : ℕ). v == 0) 0x80 refl c low)
 
+-- ---- the value of a code point by its block
+
+trie-block : (c b j : ℕ) → c / 64 ≡ b → c % 64 ≡ j → b < 1024 → trie_value 4 4 INDEX WORDS TAIL c ≡ block_value 4 4 WORDS (slice_index INDEX b) j
+unfolding trie_value
+trie-block c b j at within small =
+    ap₂ (λ x y. cond (nat_lt x 1024) (block_value 4 4 WORDS (slice_index INDEX x) y) (run_value TAIL c)) at within ∙ cond-true _ _ _ (lt-ltb b 1024 small)
+
+pub index-small : (b : ℕ) → b < 1024 → slice_index INDEX b < 175
+index-small b small = let fits : slice_index INDEX b * 4 + 4 ≤ 700 = is_trie.blocks b small in omega (arith, fits)
+
+-- of each block the bits tell which values are 0
+abbrev bit_ok : ℕ → ℕ → Bool
+bit_ok k j = cond ((slice_index PLAIN k / 2 ^ j) % 2 == 1) (block_value 4 4 WORDS k j == 0) true
+
+plain_ok : all_below (λ k. all_below (λ j. bit_ok k j) 64) 175 ≡ true
+unfolding all_below block_value
+plain_ok = refl
+
+pub plain-told : (b low : ℕ) → b < 1024 → (slice_index PLAIN (slice_index INDEX b) / 2 ^ (low % 64)) % 2 ≡ 1 → told (b * 64 + low % 64) ≡ 0
+plain-told b low small bit =
+    let k = slice_index INDEX b in
+    let j = low % 64 in
+    let here = all_below-at (λ j. bit_ok k j) 64 j (all_below-at (λ k. all_below (λ j. bit_ok k j) 64) 175 k plain_ok (index-small b small)) (omega arith) in
+    sym (trie-told (b * 64 + j) (omega arith)) ∙ trie-block (b * 64 + j) b j (omega arith) (omega arith) small
+    ∙ eqb-true _ _ (sym (cond-true _ _ _ (eq-eqb _ 1 bit)) ∙ here)
+
 -- ---- what a value tells
 
+-- a value is below 8
+row_value-small : (p : Properties) (w : List ℕ) → row_value p w < 8
+row_value-small p w =
+    let n = trail p w in
+    let has = has_starter p w in
+    next (nat_lt n 4 && (n == longest p w && (n == count_by (is_nonstarter p) w && cond has 0 n == lead p w))) refl
+  where
+    few : (has : Bool) (n : ℕ) → n < 4 → cond has 0 4 + n < 8
+    few true n small = omega arith
+    few false n small = omega arith
+
+    next : (b : Bool) → (nat_lt (trail p w) 4 && (trail p w == longest p w && (trail p w == count_by (is_nonstarter p) w && cond (has_starter p w) 0 (trail p w) == lead p w))) ≡ b → cond b (cond (has_starter p w) 0 4 + trail p w) 4 < 8
+    next true e = few (has_starter p w) (trail p w) (ltb-true (trail p w) 4 (and_parts _ _ e).0)
+    next false e = omega arith
+
+pub told-small : (c : ℕ) → told c < 8
+unfolding told
+told-small c = next (tells c) (is_empty (compatibility_decomposition c)) (ccc c == 0)
+  where
+    next : (b e z : Bool) → cond b (cond e (cond z 0 5) (row_value (classes ccc) (compatibility_decomposition c))) 4 < 8
+    next true true true = omega arith
+    next true true false = omega arith
+    next true false z = row_value-small (classes ccc) (compatibility_decomposition c)
+    next false e z = omega arith
+
 -- a row of starters, and behind them so many non-starters
-counts-row : (p : Properties) (w : List ℕ) (v : ℕ) → v ≡ row_value p w → (v == 4) ≡ false → (counts : Counts) → counts.has_starter ≡ nat_lt v 4 → counts.marks ≡ v % 4 → HasCounts p w counts
-counts-row p w v is told counts starts marks =
+value-row : (p : Properties) (w : List ℕ) (v : ℕ) → v ≡ row_value p w → (v == 4) ≡ false → HasValue p w v
+value-row p w v is told =
     let n = trail p w in
     let has = has_starter p w in
     let all = nat_lt n 4 && (n == longest p w && (n == count_by (is_nonstarter p) w && cond has 0 n == lead p w)) in
@@ -98,13 +149,12 @@ counts-row p w v is told counts starts marks =
     let small : n < 4 = ltb-true n 4 short.0 in
     let here = is ∙ ap (λ b. cond b (cond has 0 4 + n) 4) fine in
     let both = numbers has n v small here told in
-    let same : counts.marks ≡ n = marks ∙ both.1 in
     record {
-      has_starter = starts ∙ both.0;
-      lead = ap₂ (λ (b : Bool) (n : ℕ). cond b 0 n) (starts ∙ both.0) same ∙ eqb-true _ _ number.1;
-      trail = same;
-      longest = same ∙ eqb-true _ _ run.0;
-      nonstarters = same ∙ eqb-true _ _ number.0;
+      has_starter = both.0;
+      lead = ap₂ (λ (b : Bool) (n : ℕ). cond b 0 n) both.0 both.1 ∙ eqb-true _ _ number.1;
+      trail = both.1;
+      longest = both.1 ∙ eqb-true _ _ run.0;
+      nonstarters = both.1 ∙ eqb-true _ _ number.0;
     }
   where
     next : (b : Bool) → v ≡ cond b (cond (has_starter p w) 0 4 + trail p w) 4 → b ≡ true
@@ -167,19 +217,18 @@ row_told c =
     next (x ∷ w) = refl
 
 -- so a value other than 4 tells of the character
-pub told-counted : (c : ℕ) → is_sound ucd c ≡ true → (v : ℕ) → v ≡ told c → (v == 4) ≡ false → (counts : Counts) → counts.has_starter ≡ nat_lt v 4 → counts.marks ≡ v % 4 → IsCounted ucd c counts
+pub told-valued : (c : ℕ) → is_sound ucd c ≡ true → (v : ℕ) → v ≡ told c → (v == 4) ≡ false → IsValued ucd c v
 unfolding told ucd
-told-counted c sound v is some counts starts marks = next (tells c) refl is
+told-valued c sound v is some = next (tells c) refl is
   where
     assigned : (far : Bool) → cond far false (is_assigned c) ≡ true → is_assigned c ≡ true
     assigned true h = cc
     assigned false h = h
 
-    next : (b : Bool) → tells c ≡ b → v ≡ cond b (stood_for c) 4 → IsCounted ucd c counts
+    next : (b : Bool) → tells c ≡ b → v ≡ cond b (stood_for c) 4 → IsValued ucd c v
     next true here e =
         record {
-          sound = sound;
-          assigned = assigned (in_ranges untold c) here;
-          row = counts-row ucd (decompose Nfkd c) v (e ∙ row_told c) some counts starts marks;
+          fit = and_from (is_sound ucd c) (is_assigned c) sound (assigned (in_ranges untold c) here);
+          row = value-row ucd (decompose Nfkd c) v (e ∙ row_told c) some;
         }
     next false here e = let clash = sym some ∙ eq-eqb v 4 e in cc

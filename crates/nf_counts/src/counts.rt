@@ -1,11 +1,94 @@
 ghost use Rattle.std.specs.Prelude.{◌≤◌};
 
-/// How many non-starters a compatibility decomposition has, where all of them stand at its end.
+/// So many non-starters in a row a text may have before U+034F is put (UAX #15, section 13).
+const MAX_RUN: u32 = 30;
+
+/// The non-starters of decomposed text, and its runs of them, none of more than 30.
 #[derive(Clone, Copy, Debug)]
 pub struct Counts {
-    /// Whether a starter stands before them.
+    /// How many non-starters there are.
+    pub nonstarters: u128,
+    /// The length of the longest run.
+    pub longest: u32,
+    /// How many stand before the first starter; all of them where there is none.
+    pub lead: u32,
+    /// How many stand behind the last starter; all of them where there is none.
+    pub trail: u32,
     pub has_starter: bool,
-    /// How many there are, 0 to 18.
-    pub marks: u8,
-    ghost marks_within: { marks ≤ 18 },
+    ghost longest_within: { longest ≤ 30 },
+    ghost longest_few: { longest ≤ nonstarters },
+    ghost lead_within: { lead ≤ longest },
+    ghost trail_within: { trail ≤ longest },
+}
+
+impl Counts {
+    ghost use Rattle.std.specs.Prelude.{◌≡◌, ◌+◌, ◌<◌, ◌≤◌, ℕ, List, [], ◌++◌, IfSome};
+    ghost use Rattle.nf_forms.specs.Properties.{Properties};
+    ghost use Rattle.nf_counts.specs.Counts.{HasCounts, HasValue};
+
+    /// Those of no text.
+    pub const fn new() -> Counts
+        ensures none { result.nonstarters ≡ 0 }
+        ensures lead { result.lead ≡ 0 }
+        ensures counts { (p : Properties) → HasCounts p [] result }
+    {
+        Counts {
+            nonstarters: 0,
+            longest: 0,
+            lead: 0,
+            trail: 0,
+            has_starter: false,
+        }
+    }
+
+    /// With text of this value behind, where no run gets too long, and no more than `room` non-starters stand before the first
+    /// starter.
+    #[inline(always)]
+    pub(crate) fn with(self, value: u32, room: u32) -> Option<Counts>
+        requires value { value < 8 }
+        requires fits { self.nonstarters + 3 ≤ u128.MAX }
+        requires room { self.lead ≤ room }
+        ensures few { IfSome result (λ counts. counts.nonstarters ≤ self.nonstarters + 3) }
+        ensures room { IfSome result (λ counts. counts.lead ≤ room) }
+        ensures counts { IfSome result (λ counts. (p : Properties) (w row : List ℕ) → HasValue p row value → HasCounts p w self → HasCounts p (w ++ row) counts) }
+    {
+        if value < 4 {
+            return Some(Counts {
+                nonstarters: self.nonstarters + u128::from(value),
+                longest: self.longest.max(value),
+                lead: self.lead,
+                trail: value,
+                has_starter: true,
+            });
+        }
+        let marks = value - 4;
+        let trail = self.trail + marks;
+        let lead = if self.has_starter { self.lead } else { trail };
+        if trail > MAX_RUN || lead > room {
+            return None;
+        }
+        Some(Counts {
+            nonstarters: self.nonstarters + u128::from(marks),
+            longest: self.longest.max(trail),
+            lead,
+            trail,
+            has_starter: self.has_starter,
+        })
+    }
+
+    /// With starters behind, at least one.
+    #[inline(always)]
+    pub(crate) fn with_starters(self) -> Counts
+        ensures nonstarters { result.nonstarters ≡ self.nonstarters }
+        ensures lead { result.lead ≡ self.lead }
+        ensures counts { (p : Properties) (w row : List ℕ) → HasValue p row 0 → HasCounts p w self → HasCounts p (w ++ row) result }
+    {
+        Counts {
+            nonstarters: self.nonstarters,
+            longest: self.longest,
+            lead: self.lead,
+            trail: 0,
+            has_starter: true,
+        }
+    }
 }

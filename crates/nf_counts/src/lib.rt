@@ -1,10 +1,13 @@
-//! What a count of non-starters (UAX #15, section 13) asks of a character, by one look-up: how many there are in its
-//! compatibility decomposition, and whether that has a starter, for the data of the Unicode Character Database.
+//! What a count of non-starters (UAX #15, section 13) asks of a text, by one look-up for each character: how many there are in
+//! its compatibility decomposition, and how they stand, for the data of the Unicode Character Database.
 #![tactic(auto)]
 
+mod counted;
 mod counts;
+mod first;
 mod rows;
+mod scan;
 mod table;
 
+pub use counted::{Counted, counted_front};
 pub use counts::Counts;
-pub use table::counts_of;

@@ -1,36 +1,68 @@
-ghost use Rattle.std.specs.Prelude.{IfSome};
-ghost use Rattle.nf_forms.specs.Ucd.{ucd};
-ghost use Rattle.nf_counts.specs.Counts.{IsCounted};
+ghost use Rattle.std.specs.Prelude.{◌<◌};
 
-use crate::counts::Counts;
-use crate::rows::{INDEX, TAIL, WORDS};
+use crate::rows::{INDEX, PLAIN, TAIL, WORDS};
 use nf_facts::laws;
 
 /// The value that tells nothing.
-const NOTHING: u32 = 4;
+pub(crate) const NOTHING: u32 = 4;
 
-/// The counts of a character of Unicode's data that is assigned; none where they are not told: above U+FFFF, and where a
-/// non-starter stands before a starter.
-#[inline]
-pub fn counts_of(c: char) -> Option<Counts>
-    ensures { IfSome result (λ counts. IsCounted ucd c counts) }
-{
-    laws::every_character_is_sound();
-    if c < '\u{80}' {
-        return Some(Counts {
-            has_starter: true,
-            marks: 0,
-        });
+/// A code point up to U+FFFF, by the bytes of its UTF-8.
+#[derive(Clone, Copy)]
+pub(crate) struct Code {
+    /// The block of 64 in which it stands.
+    block: u32,
+    /// Its last byte, of which the low six bits are its number in the block.
+    last: u8,
+    ghost block_within: { block < 1024 },
+}
+
+impl Code {
+    ghost use Rattle.std.specs.Prelude.{◌≡◌, ◌+◌, ◌*◌, ◌%◌, ◌<◌, false, ◌==◌, length, slice_index, IsTrue};
+    ghost use Rattle.nf_forms.specs.Ucd.{ucd};
+    ghost use Rattle.nf_counts.specs.Counts.{IsValued};
+    ghost use Rattle.nf_counts.specs.First.{code_of};
+
+    /// Of two bytes.
+    #[inline(always)]
+    pub fn of_two(bytes: &[u8]) -> Code
+        requires { 1 < length bytes.now }
+        ensures { code_of result ≡ slice_index bytes.now 0 % 32 * 64 + slice_index bytes.now 1 % 64 }
+    {
+        Code {
+            block: u32::from(bytes[0]) % 32,
+            last: bytes[1],
+        }
     }
-    if c > '\u{FFFF}' {
-        return None;
+
+    /// Of three.
+    #[inline(always)]
+    pub fn of_three(bytes: &[u8]) -> Code
+        requires { 2 < length bytes.now }
+        ensures { code_of result ≡ slice_index bytes.now 0 % 16 * 4096 + slice_index bytes.now 1 % 64 * 64 + slice_index bytes.now 2 % 64 }
+    {
+        Code {
+            block: u32::from(bytes[0]) % 16 * 64 + u32::from(bytes[1]) % 64,
+            last: bytes[2],
+        }
     }
-    let value = ucd_table::get::<4, 8>(&INDEX, &WORDS, &TAIL, c as u32);
-    if value == NOTHING {
-        return None;
+
+    /// Whether its value is 0.
+    #[inline(always)]
+    pub fn is_plain(self) -> bool
+        ensures { IsTrue result → IsValued ucd (code_of self) 0 }
+    {
+        laws::every_character_is_sound();
+        (PLAIN[INDEX[self.block as usize] as usize] >> (self.last % 64)) % 2 == 1
     }
-    Some(Counts {
-        has_starter: value < NOTHING,
-        marks: (value % 4) as u8,
-    })
+
+    /// Its value, 0 to 7.
+    #[inline(always)]
+    pub fn value(self) -> u32
+        ensures within { result < 8 }
+        ensures valued { (result == 4) ≡ false → IsValued ucd (code_of self) result }
+    {
+        laws::every_character_is_sound();
+        let code = self.block * 64 + u32::from(self.last % 64);
+        ucd_table::get::<4, 4>(&INDEX, &WORDS, &TAIL, code)
+    }
 }

@@ -1,14 +1,15 @@
 //! Every scalar value against the look-ups that are made one by one.
-use nf_counts::counts_of;
+use nf_counts::{Counted, counted_front};
+use nf_seeded::Seeded;
 use std::test::Fail;
 use unicode::properties::GeneralCategory;
 use unicode_normalization::{Form, char as lookup};
 
 /// Whether the compatibility decomposition of `c` has a starter, and how many non-starters stand behind it; none where one
 /// stands before a starter, or `c` is unassigned.
-fn looked_up(c: char) -> Option<(bool, usize)> {
+fn looked_up(c: char) -> Option<(bool, u32)> {
     let mut room = [c; 3];
-    let mut counts = (false, 0usize);
+    let mut counts = (false, 0u32);
     for member in lookup::decomposition(c, Form::Nfkd, &mut room) {
         if lookup::canonical_combining_class(*member) != 0 {
             counts.1 = counts.1.saturating_add(1);
@@ -21,19 +22,129 @@ fn looked_up(c: char) -> Option<(bool, usize)> {
     (GeneralCategory::for_char(c) != GeneralCategory::Unassigned).then_some(counts)
 }
 
-/// What is told is so, and it is told of all up to U+FFFF.
+/// The non-starters of a front, its longest run, those before the first starter and behind the last one, and whether there is
+/// a starter.
+type Counts = (u128, u32, u32, u32, bool);
+
+fn counts_of(counted: &Counted) -> Counts {
+    let counts = counted.counts;
+    (
+        counts.nonstarters,
+        counts.longest,
+        counts.lead,
+        counts.trail,
+        counts.has_starter,
+    )
+}
+
+/// What is counted of the characters, one by one, and how many they are.
+fn counted_plainly(room: u32, chars: &[char]) -> (usize, Counts) {
+    let mut now: Counts = (0, 0, 0, 0, false);
+    let mut count = 0usize;
+    for c in chars {
+        let told = if *c > '\u{FFFF}' { None } else { looked_up(*c) };
+        let Some((starts, marks)) = told else {
+            break;
+        };
+        let trail = if starts {
+            marks
+        } else {
+            now.3.saturating_add(marks)
+        };
+        let has_starter = starts || now.4;
+        let lead = if has_starter { now.2 } else { trail };
+        if trail > 30 || lead > room {
+            break;
+        }
+        now = (
+            now.0.saturating_add(u128::from(marks)),
+            now.1.max(trail),
+            lead,
+            trail,
+            has_starter,
+        );
+        count = count.saturating_add(1);
+    }
+    (count, now)
+}
+
+/// Each alone: up to U+FFFF what is assigned is counted, where no non-starter stands before a starter.
 #[test]
-fn counts_are_those_of_the_decomposition(rt: HostRuntime) -> Result<(), Fail> {
+fn characters_are_counted_by_their_decompositions(rt: HostRuntime) -> Result<(), Fail> {
     for code in 0..0x11_0000u32 {
         let Some(c) = char::from_u32(code) else {
             continue;
         };
-        let told = counts_of(c).map(|counts| (counts.has_starter, counts.marks as usize));
-        if code > 0xFFFF {
-            assert!(rt; told.is_none(), "{code:x}");
-        } else {
-            assert_eq!(rt; told, looked_up(c), "{code:x}");
+        let mut room = [0; 4];
+        let text: &str = c.encode_utf8(&mut room);
+        let counted = counted_front(30, text);
+        let (count, counts) = counted_plainly(30, &[c]);
+        let is_whole = counted.front.len() == text.len() && counted.rest.is_empty();
+        assert_eq!(rt; is_whole, count == 1, "{code:x}");
+        assert_eq!(rt; counts_of(&counted), counts, "{code:x}");
+    }
+    Ok(())
+}
+
+const SOME: [char; 24] = [
+    'a',
+    ' ',
+    'b',
+    '\n',
+    '\u{E9}',
+    '\u{1EBF}',
+    '\u{301}',
+    '\u{301}',
+    '\u{316}',
+    '\u{5B8}',
+    '\u{5D0}',
+    '\u{430}',
+    '\u{439}',
+    '\u{93F}',
+    '\u{E48}',
+    '\u{AC01}',
+    '\u{1161}',
+    '\u{4E2D}',
+    '\u{304C}',
+    '\u{FF9E}',
+    '\u{FDFA}',
+    '\u{344}',
+    '\u{378}',
+    '\u{1F600}',
+];
+
+/// Up to 200 characters, drawn from some, each a few times in a row, so that there are runs of ASCII and of marks.
+#[test]
+fn fronts_are_counted_as_their_characters(rt: HostRuntime) -> Result<(), Fail> {
+    let mut seeded = Seeded::new(26);
+    for turn in 0..3000u32 {
+        let mut chars = ['a'; 200];
+        let kinds = 1 + seeded.below(24);
+        let mut c = 'a';
+        for at in 0..200usize {
+            if seeded.below(9) < 2 + turn % 7 {
+                c = SOME[seeded.below(kinds) as usize];
+            }
+            chars[at] = c;
         }
+        let mut bytes = [0; 800];
+        let mut len = 0usize;
+        for c in chars {
+            let mut room = [0; 4];
+            for byte in c.encode_utf8(&mut room).as_bytes() {
+                assert!(rt; len < 800);
+                bytes[len] = *byte;
+                len += 1;
+            }
+        }
+        assert!(rt; len <= 800);
+        let text = str::from_utf8(&bytes[..len]).expect(&rt, "text");
+        let room = seeded.below(31);
+        let counted = counted_front(room, text);
+        let (count, counts) = counted_plainly(room, &chars);
+        assert_eq!(rt; counted.front.chars().count(), count, "{turn} {text}");
+        assert_eq!(rt; counts_of(&counted), counts, "{turn} {text}");
+        assert_eq!(rt; counted.front.len().saturating_add(counted.rest.len()), len);
     }
     Ok(())
 }

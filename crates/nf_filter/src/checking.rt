@@ -3,7 +3,7 @@ ghost use Rattle.nf_calm.specs.Front.{IsCalmFront};
 ghost use Rattle.nf_filter.specs.Surveys.{Surveys, IsOfSurvey, IsCut};
 ghost use Rattle.nf_safe.specs.Checker.{place_of, offset_of};
 ghost use Rattle.nf_filter.specs.Kinds.{row, IsAmong};
-ghost use Rattle.nf_filter.specs.Checks.{check_decision, no_place, HasChecked, Sees, SeesFront, text_decision};
+ghost use Rattle.nf_filter.specs.Checks.{check_decision, no_place, HasChecked, HasSeenFront, Sees, SeesFront, text_decision};
 
 use crate::devices::Source;
 use crate::fault::Fault;
@@ -120,18 +120,18 @@ fn see_text<R: Rows>(checker: &mut Checker, rows: &R, text: &str) -> Option<Deci
 /// Where at least so many bytes were calm, it is asked again behind them.
 const WORTH: usize = 8;
 
-/// At most so many characters are seen by themselves before it is asked again.
-const MOST: u8 = 15;
+/// At least so many bytes are looked up before it is asked again, and at most.
+const FEW: usize = 8;
+
+const MANY: usize = 256;
 
 /// How calm text is looked for: the longer little was found, the less often.
 #[derive(Clone, Copy)]
 struct Search {
     /// The form that is asked: composed text is calm in NFC, decomposed text in NFD. Where little was found, the other.
     form: Form,
-    /// So many characters are seen by themselves before it is asked again.
-    few: u8,
-    /// So many are where little is found then.
-    next: u8,
+    /// So many bytes are looked up where nothing is calm.
+    most: usize,
 }
 
 impl Search {
@@ -141,20 +141,15 @@ impl Search {
     const fn new() -> Search {
         Search {
             form: Form::Nfc,
-            few: 0,
-            next: 1,
+            most: FEW,
         }
     }
 
-    /// The calm front of a text, and its form, where there is one and it is asked for.
+    /// The calm front of a text, and its form, where there is one.
     fn front<'t, R: Rows>(&mut self, rows: &R, text: &'t str) -> Option<(Form, Calm<'t>)>
         ensures calm { IfSome result (λ found. IsCalmFront (R.properties rows.now) found.0 text.now found.1.settled.now found.1.tail.now found.1.rest.now) }
         ensures some { IfSome result (λ found. 0 < length found.1.tail.now) }
     {
-        if self.few > 0 {
-            self.few -= 1;
-            return None;
-        }
         let form = self.form;
         let calm = rows.calm_front(form, text);
         self.found(text.len() - calm.rest.len());
@@ -167,21 +162,20 @@ impl Search {
     /// So many bytes were calm.
     fn found(&mut self, len: usize) {
         if len >= WORTH {
-            self.next = 1;
+            self.most = FEW;
             return;
         }
         self.form = match self.form {
             Form::Nfc => Form::Nfd,
             _ => Form::Nfc,
         };
-        self.few = self.next;
-        if self.next < MOST {
-            self.next = 2 * self.next + 1;
+        if self.most < MANY {
+            self.most *= 2;
         }
     }
 }
 
-/// Sees a front of a text: what of it is found to be calm, or else its first character. Answers what stands behind.
+/// Sees a front of a text: what of it is found to be calm, or else what is looked up. Answers what stands behind.
 fn see_front<'t, R: Rows>(
     checker: &mut Checker,
     rows: &R,
@@ -198,7 +192,7 @@ fn see_front<'t, R: Rows>(
     ensures sees { let p = R.properties rows.now in (base : ℕ) (x : List ℕ) → HasChecked p checker.old base x → SeesFront p checker.new base x text.now result }
 {
     let Some((form, calm)) = search.front(rows, text) else {
-        return see_first(checker, rows, text);
+        return see_told(checker, rows, search.most, text);
     };
     pass_calm(checker, rows, form, calm);
     Ok(calm.rest)
@@ -217,17 +211,38 @@ fn pass_calm<R: Rows>(checker: &mut Checker, rows: &R, _form: Form, calm: Calm<'
         → HasChecked p checker.new base (x ++ (chars calm.entry.settled.now ++ chars calm.entry.tail.now)) }
 {
     let mut end = Checker::new(checker.offset() + calm.settled.len() as u64);
-    let None = see_chars(&mut end, rows, calm.tail) else {
+    let None = see_tail(&mut end, rows, calm.tail) else {
         unreachable!();
     };
     let count = char_count(calm.settled) + char_count(calm.tail);
     checker.go_on_from(count as u64, end);
 }
 
-/// Sees the first character of a text. Answers what stands behind.
-fn see_first<'t, R: Rows>(
+/// Sees the text without a search for calm text.
+fn see_tail<R: Rows>(checker: &mut Checker, rows: &R, text: &str) -> Option<Decision>
+    requires none { place_of checker.old ≡ None }
+    requires fits { offset_of checker.old + length text.now ≤ u64.MAX }
+    ensures none { IsNone result → place_of checker.new ≡ None }
+    ensures offset { IsNone result → offset_of checker.new ≡ offset_of checker.old + length text.now }
+    ensures unsound { IfSome result (λ decision. IfErr decision (IsAmong (row ∷ []))) }
+    ensures sees { let p = R.properties rows.now in (base : ℕ) (x : List ℕ) → HasChecked p checker.old base x → Sees p checker.new base (x ++ chars text.now) result }
+{
+    let mut rest = text;
+    while !rest.is_empty() {
+        match see_told(checker, rows, usize::MAX, rest) {
+            Ok(behind) => rest = behind,
+            Err(decision) => return Some(decision),
+        }
+    }
+    None
+}
+
+/// Sees a front of a text: what is known of at most so many bytes by one look-up for each character, or else the first
+/// character. Answers what stands behind.
+fn see_told<'t, R: Rows>(
     checker: &mut Checker,
     rows: &R,
+    most: usize,
     text: &'t str,
 ) -> Result<&'t str, Decision>
     requires some { 0 < length text.now }
@@ -239,29 +254,16 @@ fn see_first<'t, R: Rows>(
     ensures unsound { IfErr result (λ decision. IfErr decision (IsAmong (row ∷ []))) }
     ensures sees { let p = R.properties rows.now in (base : ℕ) (x : List ℕ) → HasChecked p checker.old base x → SeesFront p checker.new base x text.now result }
 {
-    let mut chars = text.chars();
+    let rest = checker.see_counted(rows, text, most);
+    if rest.len() < text.len() {
+        return Ok(rest);
+    }
+    let mut chars = rest.chars();
     let c = chars.next().unwrap();
     match see(checker, rows, c) {
         None => Ok(chars.as_str()),
         Some(decision) => Err(decision),
     }
-}
-
-/// Sees the text character by character.
-fn see_chars<R: Rows>(checker: &mut Checker, rows: &R, text: &str) -> Option<Decision>
-    requires none { place_of checker.old ≡ None }
-    requires fits { offset_of checker.old + length text.now ≤ u64.MAX }
-    ensures none { IsNone result → place_of checker.new ≡ None }
-    ensures offset { IsNone result → offset_of checker.new ≡ offset_of checker.old + length text.now }
-    ensures unsound { IfSome result (λ decision. IfErr decision (IsAmong (row ∷ []))) }
-    ensures sees { let p = R.properties rows.now in (base : ℕ) (x : List ℕ) → HasChecked p checker.old base x → Sees p checker.new base (x ++ chars text.now) result }
-{
-    for c in text.chars() {
-        if let Some(decision) = see(checker, rows, c) {
-            return Some(decision);
-        }
-    }
-    None
 }
 
 /// Sees the next character, which decides where it is unsound or the text leaves the format.

@@ -2,4 +2,3 @@ pub mod EndsLemmas
 pub mod OwnLemmas
 pub mod OrderingLemmas
 pub mod AuditLemmas
-pub mod StartersLemmas

@@ -5,6 +5,5 @@ pub mod Ends
 pub mod Shape
 pub mod Ascii
 pub mod Plain
-pub mod Starters
 pub mod Audit
 pub mod Laws

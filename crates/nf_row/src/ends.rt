@@ -1,7 +1,6 @@
 ghost use Rattle.std.specs.Prelude.{◌≤◌};
 
 use crate::rows::{Row, Rows};
-use nf_counts::Counts;
 
 /// How a row begins and ends.
 #[derive(Clone, Copy, Debug)]
@@ -19,7 +18,6 @@ pub struct Ends {
 impl Ends {
     ghost use Rattle.std.specs.Prelude.{◌≡◌, ℕ, ◌<◌, ◌≤◌, ◌+◌, ◌||◌, List, [], ◌∷◌, length, if◌then◌else◌};
     ghost use Rattle.nf_forms.specs.Properties.{Properties, is_starter};
-    ghost use Rattle.nf_counts.specs.Counts.{HasCounts};
     ghost use Rattle.nf_row.specs.Ends.{HasEnds};
 
     /// The ends of `row`, by one look at the class of each member.
@@ -52,19 +50,6 @@ impl Ends {
         Ends {
             has_starter: starts,
             lead: marks,
-            trail: marks,
-        }
-    }
-
-    /// The ends of a row of which these are the counts.
-    #[inline]
-    pub fn of_counts(counts: Counts) -> Ends
-        ensures { (p : Properties) (row : List ℕ) → HasCounts p row counts → HasEnds p row result }
-    {
-        let marks = usize::from(counts.marks);
-        Ends {
-            has_starter: counts.has_starter,
-            lead: if counts.has_starter { 0 } else { marks },
             trail: marks,
         }
     }

@@ -17,7 +17,6 @@ mod plain;
 mod rows;
 mod runs;
 mod soundness;
-mod starters;
 mod ucd;
 mod unsound;
 
@@ -27,7 +26,7 @@ pub use ends::Ends;
 pub use kind::Kind;
 pub use nf_boundary::{Closed, Formed};
 pub use nf_calm::Calm;
-pub use nf_counts::Counts;
+pub use nf_counts::{Counted, Counts};
 pub use nf_forms::{Form, JOINER};
 pub use own::own_class;
 pub use patched::{Change, Patched};

@@ -9,14 +9,13 @@ ghost use Rattle.nf_calm.specs.Front.{IsCalmFront};
 ghost use Rattle.nf_boundary.specs.Front.{IsClosedFront};
 ghost use Rattle.nf_row.specs.Kind.{IsKind};
 ghost use Rattle.nf_row.specs.Ascii.{IsPlainAscii};
-ghost use Rattle.nf_row.specs.Starters.{has_only_starters};
-ghost use Rattle.nf_counts.specs.Counts.{IsCounted};
+ghost use Rattle.nf_counts.specs.Counts.{IsCountedFront};
 
 use crate::kind::Kind;
 use arrayvec::ArrayVec;
 use nf_boundary::{Closed, Formed};
 use nf_calm::Calm;
-use nf_counts::Counts;
+use nf_counts::Counted;
 use nf_forms::Form;
 
 /// The full decomposition of one character: at most 18 code points, which is the most that one of Unicode's has.
@@ -72,17 +71,6 @@ pub trait Rows {
         0
     }
 
-    /// How many bytes at the front of the text are of characters that are known to be assigned and sound, and to have
-    /// starters alone in their compatibility decompositions, without a look-up for each. Data of which nothing is known
-    /// leaves it out.
-    #[inline]
-    fn starters_front(&self, _text: &str) -> usize
-        ensures boundary { IsCharBoundary _text.now result }
-        ensures starters { list_all (has_only_starters (properties self.now)) (chars (take result _text.now)) ≡ true }
-    {
-        0
-    }
-
     /// What is known of `c`, in that form, without its rows. Data of which nothing is known leaves it out.
     #[inline]
     fn kind(&self, _form: Form, _c: char) -> Kind
@@ -91,13 +79,14 @@ pub trait Rows {
         Kind::Other
     }
 
-    /// The non-starters of the compatibility decomposition of `c`, where one look-up tells them, and that `c` is sound and
-    /// assigned. Data of which nothing is known leaves it out.
+    /// The front of the text of which the non-starters are known by one look-up for each character: assigned and sound
+    /// characters, no more than 30 non-starters in a row in their compatibility decompositions, and no more than `_room` before
+    /// the first starter. Data of which nothing is known leaves it out.
     #[inline]
-    fn counts(&self, _c: char) -> Option<Counts>
-        ensures { IfSome result (λ counts. IsCounted (properties self.now) _c counts) }
+    fn counted_front<'t>(&self, _room: u32, text: &'t str) -> Counted<'t>
+        ensures { IsCountedFront (properties self.now) _room text.now result }
     {
-        None
+        Counted::none(text)
     }
 
     /// The calm front of the text in that form, as far as it is known. Data of which nothing is known leaves it out.

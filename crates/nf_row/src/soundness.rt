@@ -32,15 +32,12 @@ pub fn sound<R: Rows>(rows: &R, c: char) -> bool
     rows.all_sound() || read_row(rows, c).is_some()
 }
 
-/// The ends of the compatibility row of a sound character, and none of any other. No row is read where one look-up tells
-/// them, and none is copied where all characters are known to be sound and the data lends its rows.
+/// The ends of the compatibility row of a sound character, and none of any other. No row is copied where all characters are
+/// known to be sound and the data lends its rows.
 pub fn sound_ends<R: Rows>(rows: &R, c: char) -> Option<Ends>
     ensures sound { is_some result ≡ is_sound (R.properties rows.now) c }
     ensures ends { IfSome result (λ ends. HasEnds (R.properties rows.now) ((R.properties rows.now).compat c) ends) }
 {
-    if let Some(counts) = rows.counts(c) {
-        return Some(Ends::of_counts(counts));
-    }
     if rows.all_sound() {
         let mut room = [c; 3];
         if let Some(row) = rows.lent_row(Form::Nfkd, c, &mut room) {

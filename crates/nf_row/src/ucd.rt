@@ -5,11 +5,10 @@ ghost use Rattle.nf_forms.specs.Ucd.{ucd};
 use crate::kind::Kind;
 use crate::known::kind_of;
 use crate::rows::{Long, Row, Rows, row_from};
-use crate::starters::starters_front;
 use nf_assigned::assigned_front;
 use nf_boundary::{Closed, Formed, closed_front};
 use nf_calm::{Calm, calm_front};
-use nf_counts::{Counts, counts_of};
+use nf_counts::{Counted, counted_front};
 use nf_facts::laws;
 use unicode::properties::GeneralCategory;
 use unicode_normalization::{Form, char as lookup};
@@ -74,18 +73,13 @@ impl Rows for Ucd {
     }
 
     #[inline]
-    fn starters_front(&self, text: &str) -> usize {
-        starters_front(text)
-    }
-
-    #[inline]
     fn kind(&self, form: nf_forms::Form, c: char) -> Kind {
         kind_of(form, c)
     }
 
     #[inline]
-    fn counts(&self, c: char) -> Option<Counts> {
-        counts_of(c)
+    fn counted_front<'t>(&self, room: u32, text: &'t str) -> Counted<'t> {
+        counted_front(room, text)
     }
 
     #[inline]

@@ -1,12 +1,17 @@
 -- A measurer's step.
-use Rattle.nf_safe.proofs.Common.{◌≡◌, ℕ, ◌+◌, ◌-◌, ◌<◌, ◌==◌, not, Bool, true, false, cond, List, [], ◌∷◌, ◌++◌, length, encode_utf8, encode_utf8_all, refl, sym, ap, ◌∙◌, subst, arith, if◌then◌else◌, length-append, append-nil, append_assoc, eqb-true, count_by, and_parts, and_from, or_left, All-weaker, sum_by_push, sum_by-append, list_all-from_AllPass, AllPass-from_list_all, encodes-append, Properties, is_starter, Nfkd, has_starter, lead, trail, decomposed, joiner, is_too_long, stream_safe, is_sound, IsSoundText, IsSound-from_test, JoinerIsPlain-from_sound, longest-order, run-behind, safe_step-room, stream_safe-push, trail-stream_safe-le, decomposed-append, decomposed-push, passes, count_step, trail-decomposed-safe_step, length-stream_safe-ge, HasRuns}
+use Rattle.nf_safe.proofs.Common.{◌≡◌, ℕ, ◌+◌, ◌-◌, ◌≤◌, cond-true, cond-false, longest, max_run, ◌==◌, not, Bool, true, false, cond, List, [], ◌∷◌, ◌++◌, length, encode_utf8, encode_utf8_all, refl, sym, ap, ◌∙◌, subst, arith, if◌then◌else◌, length-append, append-nil, append_assoc, eqb-true, count_by, is_nonstarter, and_parts, and_from, All-weaker, sum_by_push, sum_by-append, list_all-from_AllPass, AllPass-from_list_all, encodes-append, Properties, Nfkd, has_starter, lead, trail, decomposed, joiner, is_too_long, stream_safe, is_sound, IsSoundText, IsSound-from_test, JoinerIsPlain-from_sound, longest-order, safe_step-room, stream_safe-push, decomposed-append, decomposed-push, passes, count_step, trail-decomposed-safe_step, length-stream_safe-ge, HasRuns}
 use Rattle.std.specs.List.{list_all}
-use Rattle.std.proofs.lemmas.List.Folds.{sum_by-zero, list_all-append}
+use Rattle.std.proofs.lemmas.List.Sums.{count_by-le-length}
+use Rattle.std.proofs.lemmas.List.Folds.{sum_by-zero}
+use Rattle.std.proofs.Common.{◌*◌}
 use Rattle.nf_forms.specs.Laws.Closed.{sound-append}
-use Rattle.nf_row.specs.Starters.{has_only_starters}
+use Rattle.nf_counts.specs.Counts.{HasCounts, is_fit}
+use Rattle.nf_counts.specs.declared.counts.Counts.{Counts}
+use Rattle.nf_forms.specs.Laws.Runs.{lead-append, lead-le-length, trail-append, longest-append}
+use Rattle.nf_safe.proofs.RunsLemmas.{trail-counted}
 use Rattle.nf_safe.specs.declared.measure.Measure.{Measure}
 use Rattle.nf_safe.specs.declared.measurer.Measurer.{Measurer}
-use Rattle.nf_safe.specs.Measurer.{StandsAfter, HasSeen}
+use Rattle.nf_safe.specs.Measurer.{StandsAfter}
 use Rattle.std.specs.Prelude.{chars}
 
 -- a measure is its six numbers
@@ -71,95 +76,75 @@ module _ (p : Properties) (old : Measurer) (x : List ℕ) (c : ℕ) (before : St
       runs_are : HasRuns p new.runs (decomposed Nfkd p (x ++ c ∷ []))
       runs_are = subst (HasRuns p new.runs) (sym (decomposed-push p Nfkd x c)) runs
 
--- characters that have starters alone
+-- characters of which the non-starters are counted
 module _ (p : Properties) where
-  abbrev pub AreStarters : List ℕ → Type 0
-  AreStarters y = list_all (has_only_starters p) y ≡ true
+  -- what is asked of each is so of all
+  pub each : (test : ℕ → Bool) → ((c : ℕ) → is_fit p c ≡ true → test c ≡ true) → (y : List ℕ) → list_all (is_fit p) y ≡ true → list_all test y ≡ true
+  each test passes y fit =
+      list_all-from_AllPass test y (All-weaker (λ c. is_fit p c ≡ true) (λ c. test c ≡ true) passes y (AllPass-from_list_all (is_fit p) y fit))
 
-  -- what is told of one
-  record Told (c : ℕ) : Type 0 where
-    assigned : p.assigned c ≡ true
-    sound : is_sound p c ≡ true
-    starters : list_all (is_starter p) (p.compat c) ≡ true
+  pub all_sound : (y : List ℕ) → list_all (is_fit p) y ≡ true → IsSoundText p y
+  all_sound = each (is_sound p) (λ c one. (and_parts (is_sound p c) _ one).0)
 
-  told : (c : ℕ) → has_only_starters p c ≡ true → Told c
-  told c all =
-      let first = and_parts (p.assigned c) _ all in
-      let second = and_parts (is_sound p c) _ first.1 in
-      record { assigned = first.0; sound = second.0; starters = second.1 }
+  -- no joiner is put where no run gets too long
+  safe : (y : List ℕ) → IsSoundText p y → longest p (decomposed Nfkd p y) ≤ max_run → (x : List ℕ) → IsSoundText p (stream_safe p x)
+      → trail p (decomposed Nfkd p (stream_safe p x)) + lead p (decomposed Nfkd p y) ≤ max_run → stream_safe p (x ++ y) ≡ stream_safe p x ++ y
+  safe [] sound short x here room = ap (stream_safe p) (append-nil x) ∙ sym (append-nil (stream_safe p x))
+  safe (c ∷ y) sound short x here room =
+      let row = p.compat c in
+      let rest = decomposed Nfkd p y in
+      let front = stream_safe p x in
+      let parts = and_parts (is_sound p c) _ sound in
+      let runs = longest-append p row rest in
+      let push = stream_safe-push p x c ∙ safe_step-room p front c (leads (has_starter p row) refl (trail p (decomposed Nfkd p front)) room) in
+      let still : IsSoundText p (stream_safe p (x ++ c ∷ [])) = ap (list_all (is_sound p)) push ∙ sound-append p Nfkd front (c ∷ []) here (and_from _ _ parts.0 refl) in
+      let behind : trail p (decomposed Nfkd p (stream_safe p (x ++ c ∷ []))) + lead p rest ≤ max_run =
+      next (has_starter p row) refl (trail p (decomposed Nfkd p front)) _ room (omega (arith, runs, short)) (ap (λ o. trail p (decomposed Nfkd p o)) push ∙ ap (trail p) (decomposed-push p Nfkd front c) ∙ trail-append p (decomposed Nfkd p front) row) in
+      ap (stream_safe p) (sym (append_assoc x (c ∷ []) y)) ∙ safe y parts.1 (omega (arith, runs, short)) (x ++ c ∷ []) still behind ∙ ap (λ o. o ++ y) push ∙ append_assoc front (c ∷ []) y
+    where
+      leads : (b : Bool) → has_starter p (p.compat c) ≡ b → (n : ℕ) → n + lead p (p.compat c ++ decomposed Nfkd p y) ≤ max_run → n + lead p (p.compat c) ≤ max_run
+      leads true e n room = omega (arith, room, lead-append p (p.compat c) (decomposed Nfkd p y) ∙ cond-true _ _ _ e)
+      leads false e n room = omega (arith, room, lead-append p (p.compat c) (decomposed Nfkd p y) ∙ cond-false _ _ _ e, lead-le-length p (p.compat c))
 
-  lead-starters : (w : List ℕ) → list_all (is_starter p) w ≡ true → lead p w ≡ 0
-  lead-starters [] all = refl
-  lead-starters (c ∷ w) all = ap (λ b. cond (not b) (1 + lead p w) 0) (and_parts (is_starter p c) _ all).0
+      next : (b : Bool) → has_starter p (p.compat c) ≡ b → (n m : ℕ) → n + lead p (p.compat c ++ decomposed Nfkd p y) ≤ max_run → trail p (p.compat c) + lead p (decomposed Nfkd p y) ≤ max_run
+          → m ≡ (if has_starter p (p.compat c) then trail p (p.compat c) else length (p.compat c) + n) → m + lead p (decomposed Nfkd p y) ≤ max_run
+      next true e n m room run is = omega (arith, run, is ∙ cond-true _ _ _ e)
+      next false e n m room run is = omega (arith, room, is ∙ cond-false _ _ _ e, lead-append p (p.compat c) (decomposed Nfkd p y) ∙ cond-false _ _ _ e)
 
-  -- no joiner is put before it
-  safe-push : (x : List ℕ) (c : ℕ) → IsSoundText p (stream_safe p x) → Told c → stream_safe p (x ++ c ∷ []) ≡ stream_safe p x ++ c ∷ []
-  safe-push x c sound told =
-      stream_safe-push p x c ∙ safe_step-room p (stream_safe p x) c (omega (arith, trail-stream_safe-le p Nfkd x sound, lead-starters (p.compat c) told.starters))
+  -- each has at most 18
+  few : (y : List ℕ) → IsSoundText p y → count_by (is_nonstarter p) (decomposed Nfkd p y) ≤ 18 * length y
+  few [] sound = omega arith
+  few (c ∷ y) sound =
+      let parts = and_parts (is_sound p c) _ sound in
+      omega (arith, (IsSound-from_test p c parts.0).compat_few, count_by-le-length (is_nonstarter p) (p.compat c), few y parts.1, sum_by-append (λ d. cond (is_nonstarter p d) 1 0) (p.compat c) (decomposed Nfkd p y))
 
-  safe-starters : (y : List ℕ) → AreStarters y → (x : List ℕ) → IsSoundText p (stream_safe p x) → stream_safe p (x ++ y) ≡ stream_safe p x ++ y
-  safe-starters [] all x sound = ap (stream_safe p) (append-nil x) ∙ sym (append-nil (stream_safe p x))
-  safe-starters (c ∷ y) all x sound =
-      let parts = and_parts (has_only_starters p c) _ all in
-      let first = told c parts.0 in
-      let here = safe-push x c sound first in
-      let still : IsSoundText p (stream_safe p (x ++ c ∷ [])) =
-      ap (list_all (is_sound p)) here ∙ sound-append p Nfkd (stream_safe p x) (c ∷ []) sound (and_from _ _ first.sound refl) in
-      ap (stream_safe p) (sym (append_assoc x (c ∷ []) y)) ∙ safe-starters y parts.1 (x ++ c ∷ []) still ∙ ap (λ o. o ++ y) here ∙ append_assoc (stream_safe p x) (c ∷ []) y
+  pub few_counted : (y : List ℕ) → list_all (is_fit p) y ≡ true → (counts : Counts) → HasCounts p (decomposed Nfkd p y) counts → counts.nonstarters ≤ 18 * length y
+  few_counted y fit counts has = omega (arith, has.nonstarters, few y (all_sound y fit))
 
-  -- its NFKD is of starters alone, and of some
-  pub decomposed-starters : (y : List ℕ) → AreStarters y → list_all (is_starter p) (decomposed Nfkd p y) ≡ true
-  decomposed-starters [] all = refl
-  decomposed-starters (c ∷ y) all =
-      let parts = and_parts (has_only_starters p c) _ all in
-      list_all-append (is_starter p) (p.compat c) (decomposed Nfkd p y) ∙ and_from _ _ (told c parts.0).starters (decomposed-starters y parts.1)
-
-  pub decomposed-some : (y : List ℕ) → AreStarters y → 0 < length y → 0 < length (decomposed Nfkd p y)
-  decomposed-some [] all some = absurd (omega arith)
-  decomposed-some (c ∷ y) all some =
-      let sound = IsSound-from_test p c (told c (and_parts (has_only_starters p c) _ all).0).sound in
-      omega (arith, sound.compat_some, length-append (p.compat c) (decomposed Nfkd p y))
-
-  begins : (v : List ℕ) → 0 < length v → list_all (is_starter p) v ≡ true → has_starter p v ≡ true
-  begins [] some all = absurd (omega arith)
-  begins (c ∷ v) some all = or_left _ _ (and_parts (is_starter p c) _ all).0
-
-  module _ (old : Measurer) (x : List ℕ) (before : StandsAfter p old x) (y : List ℕ) (all : AreStarters y) where
-    each : (test : ℕ → Bool) → ((c : ℕ) → Told c → test c ≡ true) → list_all test y ≡ true
-    each test passes =
-        list_all-from_AllPass test y (All-weaker (λ c. has_only_starters p c ≡ true) (λ c. test c ≡ true) (λ c one. passes c (told c one)) y (AllPass-from_list_all (has_only_starters p) y all))
-
-    safe : stream_safe p (x ++ y) ≡ stream_safe p x ++ y
-    safe = safe-starters y all x before.sound
+  module _ (old : Measurer) (x : List ℕ) (before : StandsAfter p old x) (y : List ℕ) (fit : list_all (is_fit p) y ≡ true) (counts : Counts) (has : HasCounts p (decomposed Nfkd p y) counts) (room : old.counter + counts.lead ≤ max_run) where
+    is_safe : stream_safe p (x ++ y) ≡ stream_safe p x ++ y
+    is_safe = safe y (all_sound y fit) (omega (arith, has.longest, counts.longest_within)) x before.sound (omega (arith, has.lead, before.count, room))
 
     all_assigned : count_by (λ c. not (p.assigned c)) y ≡ 0
-    all_assigned = eqb-true _ _ (sum_by-zero (λ c. cond (not (p.assigned c)) 1 0) y ∙ each (λ c. cond (not (p.assigned c)) 1 0 == 0) (λ c one. ap (λ b. cond (not b) 1 0 == 0) one.assigned))
+    all_assigned =
+        eqb-true _ _
+        (sum_by-zero (λ c. cond (not (p.assigned c)) 1 0) y
+        ∙ each (λ c. cond (not (p.assigned c)) 1 0 == 0) (λ c one. ap (λ b. cond (not b) 1 0 == 0) (and_parts (is_sound p c) _ one).1) y fit)
 
-    pub goes_on-starters : (new : Measurer) → 0 < length y → new.counter ≡ 0 → new.runs.last ≡ 0 → HasRuns p new.runs (decomposed Nfkd p x ++ decomposed Nfkd p y)
+    pub goes_on-counted : (new : Measurer) → new.counter ≡ (if counts.has_starter then counts.trail else old.counter + counts.lead) → HasRuns p new.runs (decomposed Nfkd p x ++ decomposed Nfkd p y)
         → new.bytes ≡ old.bytes + length (encode_utf8_all y) → new.chars ≡ old.chars + length y → new.put ≡ old.put → new.unassigned ≡ old.unassigned → StandsAfter p new (x ++ y)
-    goes_on-starters new some count last runs bytes chars put unassigned =
+    goes_on-counted new count runs bytes chars put unassigned =
         let runs_are : HasRuns p new.runs (decomposed Nfkd p (x ++ y)) = subst (HasRuns p new.runs) (sym (decomposed-append p Nfkd x y)) runs in
-        let starts = begins (decomposed Nfkd p y) (decomposed-some y all some) (decomposed-starters y all) in
         record {
-          sound = ap (list_all (is_sound p)) safe ∙ sound-append p Nfkd (stream_safe p x) y before.sound (each (is_sound p) (λ c one. one.sound));
+          sound = ap (list_all (is_sound p)) is_safe ∙ sound-append p Nfkd (stream_safe p x) y before.sound (all_sound y fit);
           values = same_values
               (omega (arith, bytes, ap (λ m. m.bytes) before.values, ap length (encodes-append x y), length-append (encode_utf8_all x) (encode_utf8_all y)))
               (omega (arith, chars, ap (λ m. m.chars) before.values, length-append x y))
               runs_are.nonstarters
               (runs_are.longest ∙ sym (longest-order p (decomposed Nfkd p (x ++ y))))
-              (omega (arith, put, ap (λ m. m.put) before.values, ap length safe, length-append (stream_safe p x) y, length-append x y))
+              (omega (arith, put, ap (λ m. m.put) before.values, ap length is_safe, length-append (stream_safe p x) y, length-append x y))
               (omega (arith, unassigned, ap (λ m. m.unassigned) before.values, sum_by-append (λ c. cond (not (p.assigned c)) 1 0) x y, all_assigned));
-          count = count ∙ sym last ∙ runs_are.last ∙ run-behind p x y starts
-              ∙ sym (ap (λ o. trail p (decomposed Nfkd p o)) safe ∙ run-behind p (stream_safe p x) y starts);
+          count = count ∙ trail-counted p (decomposed Nfkd p (stream_safe p x)) (decomposed Nfkd p y) counts old.counter has before.count
+              ∙ sym (ap (λ o. trail p (decomposed Nfkd p o)) is_safe ∙ ap (trail p) (decomposed-append p Nfkd (stream_safe p x) y));
           runs = runs_are;
         }
-
--- behind a front another
-pub seen_more : (p : Properties) (first second : Measurer) (x text behind rest : List ℕ) → HasSeen p first x text behind → ((y : List ℕ) → StandsAfter p first y → HasSeen p second y behind rest) → HasSeen p second x text rest
-seen_more p first second x text behind rest so_far next =
-    let more = next (x ++ so_far.front) so_far.stands in
-    record {
-      front = so_far.front ++ more.front;
-      is_front = so_far.is_front ∙ ap (λ l. so_far.front ++ l) more.is_front ∙ sym (append_assoc so_far.front more.front (chars rest));
-      stands = subst (StandsAfter p second) (append_assoc x so_far.front more.front) more.stands;
-    }

@@ -1,6 +1,7 @@
 -- The runs of decomposed text that grows at its end.
-use Rattle.nf_safe.proofs.Common.{◌≡◌, ℕ, ◌+◌, ◌<◌, max, not, Bool, true, false, cond, List, [], ◌∷◌, ◌++◌, length, refl, sym, ap, ap₂, ◌∙◌, subst, arith, append_assoc, if◌then◌else◌, count_by, All, All-head, All-tail, sum_by_push, sum_by-append, Properties, is_starter, is_nonstarter, has_starter, lead, trail, longest, Runs, HasRuns}
-use Rattle.nf_forms.specs.Laws.Runs.{trail-append, trail-marks, trail-push, longest-append}
+use Rattle.nf_safe.proofs.Common.{◌≡◌, ℕ, ◌+◌, max, not, Bool, true, false, cond, List, [], ◌∷◌, ◌++◌, refl, sym, ap, ap₂, ◌∙◌, arith, if◌then◌else◌, count_by, sum_by_push, sum_by-append, Properties, is_starter, is_nonstarter, has_starter, trail, longest, Runs, HasRuns}
+use Rattle.nf_forms.specs.Laws.Runs.{lead-marks, trail-append, trail-push, longest-append}
+use Rattle.std.proofs.lemmas.Bool.{cond-true, cond-false}
 use Rattle.nf_counts.specs.Counts.{HasCounts}
 use Rattle.nf_counts.specs.declared.counts.Counts.{Counts}
 
@@ -29,34 +30,20 @@ module _ (p : Properties) (runs : Runs) (w : List ℕ) (c : ℕ) (before : HasRu
     last = last ∙ sym (trail-push p w c ∙ ap₂ (λ b n. if b then 0 else n + 1) e (sym before.last));
   }
 
--- starters alone behind it
-pub push_starters : (p : Properties) (new : Runs) (v : List ℕ) → 0 < length v → All (λ c. is_starter p c ≡ true) v → (runs : Runs) (w : List ℕ) → HasRuns p runs w
-    → new.nonstarters ≡ runs.nonstarters → new.longest ≡ runs.longest → new.last ≡ 0 → HasRuns p new (w ++ v)
-push_starters p new [] some all runs w before nonstarters longest last = absurd (omega arith)
-push_starters p new (c ∷ []) some all runs w before nonstarters longest last =
-    push p runs w c before new true (All-head (λ c. is_starter p c ≡ true) c [] all) (omega (arith, nonstarters)) longest last
-push_starters p new (c ∷ d ∷ v) some all runs w before nonstarters longest last =
-    let first = push p runs w c before new true (All-head (λ c. is_starter p c ≡ true) c (d ∷ v) all) (omega (arith, nonstarters)) longest last in
-    subst (HasRuns p new) (append_assoc w (c ∷ []) (d ∷ v)) (push_starters p new (d ∷ v) (omega arith) (All-tail (λ c. is_starter p c ≡ true) c (d ∷ v) all) new (w ++ c ∷ []) first refl refl last)
-
--- a row of which the counts are known
-pub push_counts : (p : Properties) (runs new : Runs) (w row : List ℕ) (counts : Counts) → HasCounts p row counts → HasRuns p runs w → new.nonstarters ≡ runs.nonstarters + counts.marks
-    → new.last ≡ (if counts.has_starter then counts.marks else runs.last + counts.marks) → new.longest ≡ max runs.longest new.last → HasRuns p new (w ++ row)
-push_counts p runs new w row counts has before nonstarters last long = record {
-  nonstarters = omega (arith, nonstarters, before.nonstarters, has.nonstarters, sum_by-append (λ d. cond (is_nonstarter p d) 1 0) w row);
-  longest = widest (counts.has_starter) (has_starter p row) has.has_starter has.lead (trail-marks p row) last (longest-append p w row);
-  last = ends (counts.has_starter) (has_starter p row) has.has_starter (trail-marks p row) last (trail-append p w row);
-}
+-- the run that a text ends in, with text behind of which these are the counts
+pub trail-counted : (p : Properties) (w v : List ℕ) (counts : Counts) (n : ℕ) → HasCounts p v counts → n ≡ trail p w → (if counts.has_starter then counts.trail else n + counts.lead) ≡ trail p (w ++ v)
+trail-counted p w v counts n has is = next counts.has_starter (has_starter p v) has.has_starter refl
   where
-    ends : (b h : Bool) → b ≡ h → (h ≡ false → trail p row ≡ length row) → new.last ≡ (if b then counts.marks else runs.last + counts.marks) → trail p (w ++ row) ≡ (if h then trail p row else length row + trail p w) → new.last ≡ trail p (w ++ row)
-    ends true true e all is whole = is ∙ has.trail ∙ sym whole
-    ends false false e all is whole = omega (arith, is, whole, all refl, has.trail, before.last)
-    ends true false e all is whole = cc
-    ends false true e all is whole = cc
+    next : (b h : Bool) → b ≡ h → has_starter p v ≡ h → (if b then counts.trail else n + counts.lead) ≡ trail p (w ++ v)
+    next true true e here = has.trail ∙ sym (trail-append p w v ∙ cond-true _ _ _ here)
+    next false false e here = omega (arith, is, has.lead, lead-marks p v here, trail-append p w v ∙ cond-false _ _ _ here)
+    next true false e here = cc
+    next false true e here = cc
 
-    widest : (b h : Bool) → b ≡ h → (if b then 0 else counts.marks) ≡ lead p row → (h ≡ false → trail p row ≡ length row) → new.last ≡ (if b then counts.marks else runs.last + counts.marks)
-        → longest p (w ++ row) ≡ max (longest p w) (max (trail p w + lead p row) (longest p row)) → new.longest ≡ longest p (w ++ row)
-    widest true true e front all is whole = omega (arith, long, is, whole, front, has.longest, before.longest, before.last, runs.last_within)
-    widest false false e front all is whole = omega (arith, long, is, whole, front, has.longest, before.longest, before.last)
-    widest true false e front all is whole = cc
-    widest false true e front all is whole = cc
+pub push_counts : (p : Properties) (runs new : Runs) (w v : List ℕ) (counts : Counts) → HasCounts p v counts → HasRuns p runs w → new.nonstarters ≡ runs.nonstarters + counts.nonstarters
+    → new.longest ≡ max runs.longest (max (runs.last + counts.lead) counts.longest) → new.last ≡ (if counts.has_starter then counts.trail else runs.last + counts.lead) → HasRuns p new (w ++ v)
+push_counts p runs new w v counts has before nonstarters long last = record {
+  nonstarters = omega (arith, nonstarters, before.nonstarters, has.nonstarters, sum_by-append (λ d. cond (is_nonstarter p d) 1 0) w v);
+  longest = omega (arith, long, before.longest, before.last, has.lead, has.longest, longest-append p w v);
+  last = last ∙ trail-counted p w v counts runs.last has before.last;
+}

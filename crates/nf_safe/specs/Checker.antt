@@ -1,6 +1,8 @@
 -- Where a checker stands in the text that it sees.
-use Rattle.std.specs.Prelude.{◌≡◌, ℕ, ◌+◌, true, List, ◌++◌, length, Option, Some, None, IsNone, IsTrue, if◌then◌else◌, encode_utf8_all}
+use Rattle.std.specs.Prelude.{◌≡◌, ℕ, ◌+◌, true, List, ◌++◌, length, chars, Option, Some, None, IsNone, IsTrue, if◌then◌else◌, encode_utf8_all}
+use Rattle.std.specs.List.{list_all}
 use Rattle.nf_forms.specs.Properties.{Properties}
+use Rattle.nf_forms.specs.Sound.{is_sound}
 use Rattle.nf_forms.specs.declared.form.Form.TheVariants.{Nfkd}
 use Rattle.nf_forms.specs.Runs.{has_starter, lead, trail}
 use Rattle.nf_forms.specs.Forms.{decomposed}
@@ -23,6 +25,13 @@ pub record StandsAfter (base : ℕ) (p : Properties) (checker : Checker) (x : Li
   pub offset : IsNone (place_of checker) → offset_of checker ≡ base + length (encode_utf8_all x)
   pub chars : IsNone (place_of checker) → checker.reached.chars ≡ length x
   pub count : IsNone (place_of checker) → checker.counter ≡ trail p (decomposed Nfkd p x)
+
+-- behind x it has seen a front of the text, all of it sound, and this is the rest
+pub record HasSeen (base : ℕ) (p : Properties) (checker : Checker) (x text rest : List ℕ) : Type 0 where
+  pub front : List ℕ
+  pub is_front : chars text ≡ front ++ chars rest
+  pub sound : list_all (is_sound p) front ≡ true
+  pub stands : StandsAfter base p checker (x ++ front)
 
 -- y and z together are in the format, and the count begins anew at their start and at that of z
 pub record CountsFromEnd (p : Properties) (y z : List ℕ) : Type 0 where

@@ -3,6 +3,7 @@ ghost use Rattle.std.specs.Prelude.{◌≤◌};
 use crate::counter::Counter;
 use crate::place::Place;
 use nf_row::{Rows, Rule, Unsound, sound_ends};
+use nf_utf8::char_count;
 
 /// Finds where a text leaves the Stream-Safe Text Format, character by character.
 #[derive(Clone, Copy, Debug)]
@@ -15,12 +16,12 @@ pub struct Checker {
 }
 
 impl Checker {
-    ghost use Rattle.std.specs.Prelude.{◌≡◌, ◌+◌, ◌↔◌, ℕ, List, [], ◌∷◌, ◌++◌, length, IsNone, IsErr, IfSome, IfOk, IfErr, OnOk, IsFalse, encode_utf8, encode_utf8_all};
+    ghost use Rattle.std.specs.Prelude.{◌≡◌, ◌+◌, ◌≤◌, ◌↔◌, ℕ, List, [], ◌∷◌, ◌++◌, length, IsNone, IsErr, IfSome, IfOk, IfErr, OnOk, IsFalse, encode_utf8, encode_utf8_all};
     ghost use Rattle.nf_forms.specs.Properties.{Properties};
     ghost use Rattle.nf_forms.specs.Sound.{is_sound};
     ghost use Rattle.nf_forms.specs.StreamSafe.{stream_safe};
     ghost use Rattle.nf_forms.specs.Laws.Sound.{IsSoundText};
-    ghost use Rattle.nf_safe.specs.Checker.{place_of, offset_of, StandsAfter, CountsFromEnd};
+    ghost use Rattle.nf_safe.specs.Checker.{place_of, offset_of, StandsAfter, HasSeen, CountsFromEnd};
 
     /// A checker at the start of a text, the first byte of which has the offset `base`.
     #[inline]
@@ -76,6 +77,28 @@ impl Checker {
             bytes: self.reached.bytes + len,
         };
         Ok(None)
+    }
+
+    /// Sees the front of the text, of at most so many bytes, of which the non-starters are known by one look-up for each character
+    /// (`Rows::counted_front`), and at which the text does not leave the format. Answers what stands behind.
+    #[inline]
+    pub fn see_counted<'t, R: Rows>(&mut self, rows: &R, text: &'t str, most: usize) -> &'t str
+        requires none { place_of self.old ≡ None }
+        requires fits { offset_of self.old + length text.now ≤ u64.MAX }
+        ensures none { place_of self.new ≡ None }
+        ensures shorter { length result.now ≤ length text.now }
+        ensures offset { offset_of self.new + length result.now ≡ offset_of self.old + length text.now }
+        ensures sees { let p = R.properties rows.now in
+            (base : ℕ) (x : List ℕ) → StandsAfter base p self.old x → HasSeen base p self.new x text.now result.now }
+    {
+        let (window, _) = text.split_at(text.floor_char_boundary(most));
+        let counted = rows.counted_front(self.counter.room(), window);
+        self.counter.pass(&counted.counts);
+        self.reached = Place {
+            chars: self.reached.chars + char_count(counted.front) as u64,
+            bytes: self.reached.bytes + counted.front.len() as u64,
+        };
+        &text[counted.front.len()..]
     }
 
     /// Goes on behind `chars` more characters, all of them in the format: their last ones `end` has seen, and the count

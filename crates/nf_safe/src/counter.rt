@@ -1,6 +1,5 @@
-ghost use Rattle.std.specs.Prelude.{◌≡◌, ◌≤◌, ◌↔◌, List, ℕ, [], ◌∷◌, ◌++◌, IsSome, IfSome};
+ghost use Rattle.std.specs.Prelude.{◌≡◌, ◌≤◌, ◌+◌, ◌-◌, ◌↔◌, List, ℕ, [], ◌∷◌, ◌++◌, IsSome, IfSome, if◌then◌else◌};
 ghost use Rattle.nf_forms.specs.Properties.{Properties};
-ghost use Rattle.nf_counts.specs.Counts.{HasCounts};
 ghost use Rattle.nf_row.specs.Ends.{HasEnds};
 ghost use Rattle.nf_forms.specs.StreamSafe.{max_run};
 ghost use Rattle.nf_safe.specs.Count.{passes, count_step};
@@ -83,17 +82,26 @@ impl Counter {
         begins_anew
     }
 
-    /// The same for a row of which these are the counts.
-    #[inline(always)]
-    pub(crate) fn step_by_counts(&mut self, counts: Counts) -> bool
-        ensures answer { (p : Properties) (row : List ℕ) → HasCounts p row counts → result ≡ passes p self.old row }
-        ensures count { (p : Properties) (row : List ℕ) → HasCounts p row counts → self.new ≡ count_step p self.old row }
+    /// How many non-starters may follow before U+034F is put.
+    #[inline]
+    pub(crate) fn room(&self) -> u32
+        ensures room { result ≡ max_run - self.now }
+        ensures within { self.now ≤ max_run }
     {
-        if counts.has_starter {
-            self.count = counts.marks;
-            return false;
-        }
-        self.step_by(Ends::of_counts(counts))
+        MAX_RUN as u32 - u32::from(self.count)
+    }
+
+    /// Goes on over text of which these are the counts, where no U+034F is put.
+    #[inline]
+    pub(crate) fn pass(&mut self, counts: &Counts)
+        requires { self.old + counts.now.lead ≤ max_run }
+        ensures { self.new ≡ (if counts.now.has_starter then counts.now.trail else self.old + counts.now.lead) }
+    {
+        self.count = if counts.has_starter {
+            counts.trail as u8
+        } else {
+            self.count + counts.lead as u8
+        };
     }
 
     /// The non-starters, 0 to 30, that the decompositions end in which were taken since the last step that answered

@@ -15,7 +15,7 @@ pub struct Runs {
 }
 
 impl Runs {
-    ghost use Rattle.std.specs.Prelude.{◌≡◌, ◌+◌, ◌<◌, ◌≤◌, ℕ, List, [], ◌∷◌, ◌++◌, length, All, IsTrue, is_some, IfSome, if◌then◌else◌, max};
+    ghost use Rattle.std.specs.Prelude.{◌≡◌, ◌+◌, ◌<◌, ◌≤◌, ℕ, List, [], ◌∷◌, ◌++◌, length, is_some, IfSome};
     ghost use Rattle.nf_forms.specs.Properties.{Properties, is_starter};
     ghost use Rattle.nf_forms.specs.Sound.{is_sound};
     ghost use Rattle.nf_counts.specs.Counts.{HasCounts};
@@ -54,48 +54,24 @@ impl Runs {
         Some((runs, ends))
     }
 
-    /// Appends a row of which these are the counts.
-    #[inline(always)]
-    pub fn push_counts(&mut self, counts: Counts)
-        requires { self.old.nonstarters + 18 ≤ u128.MAX }
-        ensures few { self.new.nonstarters ≤ self.old.nonstarters + 18 }
-        ensures runs { (p : Properties) (w row : List ℕ) → HasCounts p row counts → HasRuns p self.old w → HasRuns p self.new (w ++ row) }
+    /// Appends text of which these are the counts.
+    #[inline]
+    pub fn push_counts(&mut self, counts: &Counts)
+        requires { self.old.nonstarters + counts.now.nonstarters ≤ u128.MAX }
+        ensures nonstarters { self.new.nonstarters ≡ self.old.nonstarters + counts.now.nonstarters }
+        ensures runs { (p : Properties) (w v : List ℕ) → HasCounts p v counts.now → HasRuns p self.old w → HasRuns p self.new (w ++ v) }
     {
-        let last = self.last_behind(counts);
-        if counts.marks > 0 {
-            self.grow(counts.marks, last);
-        } else {
-            self.last = last;
-        }
-    }
-
-    /// Goes on by so many non-starters, up to a run of this length. It stands by itself so that a loop over starters is short.
-    #[inline(never)]
-    fn grow(&mut self, marks: u8, last: u128)
-        requires few { marks ≤ 18 }
-        requires fits { self.old.nonstarters + 18 ≤ u128.MAX }
-        requires within { last ≤ self.old.nonstarters + marks }
-        ensures nonstarters { self.new.nonstarters ≡ self.old.nonstarters + marks }
-        ensures longest { self.new.longest ≡ max self.old.longest last }
-        ensures last { self.new.last ≡ last }
-    {
-        self.nonstarters += u128::from(marks);
-        self.longest = self.longest.max(last);
-        self.last = last;
-    }
-
-    /// The length of the run that the text ends in with such a row behind.
-    #[inline(always)]
-    fn last_behind(&self, counts: Counts) -> u128
-        requires { self.now.nonstarters + 18 ≤ u128.MAX }
-        ensures { result ≡ (if counts.has_starter then counts.marks else self.now.last + counts.marks) }
-    {
-        let marks = u128::from(counts.marks);
-        if counts.has_starter {
-            marks
-        } else {
-            self.last + marks
-        }
+        let last = self.last + u128::from(counts.lead);
+        let longest = last.max(u128::from(counts.longest));
+        *self = Runs {
+            nonstarters: self.nonstarters + counts.nonstarters,
+            longest: self.longest.max(longest),
+            last: if counts.has_starter {
+                u128::from(counts.trail)
+            } else {
+                last
+            },
+        };
     }
 
     /// Appends the members of `row`.
@@ -109,17 +85,6 @@ impl Runs {
         for c in row {
             self.push(rows.class(*c) == 0);
         }
-    }
-
-    /// Appends starters, at least one.
-    #[inline]
-    pub fn push_starters(&mut self)
-        ensures nonstarters { self.new.nonstarters ≡ self.old.nonstarters }
-        ensures last { self.new.last ≡ 0 }
-        ensures runs { (p : Properties) (w v : List ℕ) → 0 < length v → All (λ c. IsTrue (is_starter p c)) v
-            → HasRuns p self.old w → HasRuns p self.new (w ++ v) }
-    {
-        self.last = 0;
     }
 
     /// Appends a starter or a non-starter.

@@ -119,3 +119,29 @@ fn goes_on_from_the_end_of_a_text(rt: HostRuntime) {
         assert_eq!(rt; checker.see(&Ucd, MARK), answer, "at {base}");
     }
 }
+
+/// The front ends before the character at which the text leaves the format, and before one of which nothing is known.
+#[test]
+fn a_front_is_checked_by_look_ups(rt: HostRuntime) {
+    // Marks that are seen one by one, a text behind them, what is left of it, and the answer to one more mark behind that.
+    let cases: [(u32, &str, &str, Result<Option<Place>, Unsound>); 7] = [
+        (0, "", "", Ok(None)),
+        (0, "abcdefghijklmnop\u{4E2D}q", "\u{4E2D}q", Ok(None)),
+        (30, "ab\u{4E2D}\u{301}", "", Ok(None)),
+        (29, "\u{301}", "", place(30, 160)),
+        (29, "\u{301}\u{301}a", "\u{301}a", place(30, 160)),
+        (3, "\u{301}\u{1F600}", "\u{1F600}", Ok(None)),
+        (30, "\u{FF9E}", "\u{FF9E}", place(30, 160)),
+    ];
+    for (marks, text, left, answer) in cases {
+        let mut checker = Checker::new(100);
+        for _ in 0..marks {
+            assert!(rt; checker.offset() <= u64::MAX - MARK.len_utf8() as u64);
+            assert_eq!(rt; checker.see(&Ucd, MARK), Ok(None));
+        }
+        assert!(rt; checker.place().is_none() && checker.offset() <= u64::MAX - text.len() as u64);
+        assert_eq!(rt; checker.see_counted(&Ucd, text, 18), left, "{marks} {text}");
+        assert!(rt; checker.offset() <= u64::MAX - MARK.len_utf8() as u64);
+        assert_eq!(rt; checker.see(&Ucd, MARK), answer, "{marks} {text}");
+    }
+}

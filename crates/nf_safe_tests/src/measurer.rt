@@ -96,59 +96,30 @@ fn nothing_is_measured_of_what_is_refused(rt: HostRuntime) {
     );
 }
 
-#[test]
-fn starters_are_counted_at_once(rt: HostRuntime) {
-    // Marks, a character some times behind them, marks behind those; and what is measured of it all.
-    let cases: [(u32, (char, u32), u32, [u64; 6]); 7] = [
-        (20, ('q', 1), 20, [81, 41, 40, 20, 0, 0]),
-        (31, ('q', 1), 30, [123, 62, 61, 31, 1, 0]),
-        (30, ('q', 64), 31, [186, 125, 61, 31, 1, 0]),
-        (3, ('q', 5000), 0, [5006, 5003, 3, 3, 0, 0]),
-        (0, ('\u{4E2D}', 7), 2, [25, 9, 2, 2, 0, 0]),
-        // Of two starters, and of three.
-        (31, ('\u{FB01}', 2), 1, [70, 34, 32, 31, 1, 0]),
-        (1, ('\u{AC01}', 9), 31, [91, 41, 32, 31, 1, 0]),
-    ];
-    for (before, (c, count), behind, values) in cases {
-        let one_by_one = [(MARK, before), (c, count), (MARK, behind)];
-        check(&rt, &Ucd, &[(&one_by_one, values, None)]);
-        let mut measurer = Measurer::new();
-        see_marks(&rt, &mut measurer, before);
-        let (count, bytes) = (u64::from(count), u64::from(count) * c.len_utf8() as u64);
-        assert!(rt; count > 0 && measurer.values().bytes <= u64::MAX - bytes);
-        measurer.see_starters(count, bytes);
-        see_marks(&rt, &mut measurer, behind);
-        assert_eq!(rt;
-            measurer.values(),
-            measure(values),
-            "{before} {c} {count} {behind}"
-        );
-    }
-}
-
-fn see_marks(rt: &impl Abort, measurer: &mut Measurer, times: u32) {
-    for _ in 0..times {
-        assert!(rt; measurer.values().bytes <= u64::MAX - MARK.len_utf8() as u64);
-        assert_eq!(rt; measurer.see(&Ucd, MARK), Ok(()));
-    }
-}
-
-/// It ends behind a fourth ASCII character in a row, with the character that so many bytes end in, and before one of which no
-/// look-up tells.
+/// Behind marks a front goes on, up to the first character of which nothing is known or before which U+034F is put.
 #[test]
 fn a_front_is_measured_by_look_ups(rt: HostRuntime) {
-    let cases: [(&str, usize, &str, [u64; 6]); 6] = [
-        ("", 9, "", [0, 0, 0, 0, 0, 0]),
-        ("\u{E9}\u{301}abcdef", 9, "ef", [8, 6, 2, 2, 0, 0]),
-        ("\u{AC01}\u{5D0}\u{5B8}", 4, "\u{5B8}", [5, 2, 0, 0, 0, 0]),
-        ("\u{1D5}\u{3300}", 9, "\u{3300}", [2, 1, 2, 2, 0, 0]),
-        ("a\u{FF9E}\u{378}", 9, "\u{378}", [4, 2, 1, 1, 0, 0]),
-        ("\u{E9}", 0, "\u{E9}", [0, 0, 0, 0, 0, 0]),
+    // Marks that are seen one by one, a text behind them, what is left of it, and what is measured.
+    let cases: [(u32, &str, &str, [u64; 6]); 10] = [
+        (0, "", "", [0, 0, 0, 0, 0, 0]),
+        (0, "\u{E9}\u{301}abcdef", "", [10, 8, 2, 2, 0, 0]),
+        (0, "\u{AC01}\u{5D0}\u{5B8}", "", [7, 3, 1, 1, 0, 0]),
+        (0, "\u{1D5}\u{3300}", "\u{3300}", [2, 1, 2, 2, 0, 0]),
+        (0, "a\u{FF9E}\u{378}", "\u{378}", [4, 2, 1, 1, 0, 0]),
+        (28, "\u{301}\u{301}a\u{301}", "", [63, 32, 31, 30, 0, 0]),
+        (29, "\u{301}\u{301}a", "\u{301}a", [60, 30, 30, 30, 0, 0]),
+        (40, "\u{301}\u{301}a\u{301}", "", [87, 44, 43, 42, 1, 0]),
+        (30, "\u{1F600}a", "\u{1F600}a", [60, 30, 30, 30, 0, 0]),
+        (2, "\u{FB01}\u{4E2D}q", "", [11, 5, 2, 2, 0, 0]),
     ];
-    for (text, most, left, values) in cases {
+    for (marks, text, left, values) in cases {
         let mut measurer = Measurer::new();
+        for _ in 0..marks {
+            assert!(rt; measurer.values().bytes <= u64::MAX - MARK.len_utf8() as u64);
+            assert_eq!(rt; measurer.see(&Ucd, MARK), Ok(()));
+        }
         assert!(rt; measurer.values().bytes <= u64::MAX - text.len() as u64);
-        assert_eq!(rt; measurer.see_told(&Ucd, text, most), left);
-        assert_eq!(rt; measurer.values(), measure(values), "{text}");
+        assert_eq!(rt; measurer.see_counted(&Ucd, text), left, "{marks} {text}");
+        assert_eq!(rt; measurer.values(), measure(values), "{marks} {text}");
     }
 }

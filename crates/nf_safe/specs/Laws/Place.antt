@@ -30,6 +30,12 @@ module _ (p : Properties) where
   pub longest-normal_form : (x : List ℕ) → is_in_format p x ≡ nat_le (longest p (decomposed Nfkd p x)) max_run
   longest-normal_form x = ap (λ n. nat_le n max_run) (longest-order p (decomposed Nfkd p x))
 
+  pub is_in_format-short : (x : List ℕ) → longest p (decomposed Nfkd p x) ≤ max_run → is_in_format p x ≡ true
+  is_in_format-short x short = longest-normal_form x ∙ le-leb _ max_run short
+
+  pub trail-in_format : (x : List ℕ) → is_in_format p x ≡ true → trail p (decomposed Nfkd p x) ≤ max_run
+  trail-in_format x here = omega (arith, trail-le-longest (decomposed Nfkd p x), leb-true _ _ (sym (longest-normal_form x) ∙ here))
+
   pub is_in_format-none : is_in_format p [] ≡ true
   is_in_format-none = longest-normal_form []
 
@@ -59,14 +65,14 @@ module _ (p : Properties) where
   pub is_in_format-take : (x : List ℕ) (n : ℕ) → is_in_format p x ≡ true → is_in_format p (take n x) ≡ true
   is_in_format-take x n here = is_in_format-append (take n x) (drop n x) (ap (is_in_format p) (take-append-drop n x) ∙ here)
 
-  -- two texts in the format, the second of which begins with a starter, are in it together
-  pub is_in_format-join : (x y : List ℕ) → is_in_format p x ≡ true → is_in_format p y ≡ true → lead p (decomposed Nfkd p y) ≡ 0 → is_in_format p (x ++ y) ≡ true
-  is_in_format-join x y first second starts =
+  -- two texts in the format are in it together, where the run between them is not too long
+  pub is_in_format-join : (x y : List ℕ) → is_in_format p x ≡ true → is_in_format p y ≡ true → trail p (decomposed Nfkd p x) + lead p (decomposed Nfkd p y) ≤ max_run → is_in_format p (x ++ y) ≡ true
+  is_in_format-join x y first second room =
       let a = decomposed Nfkd p x in
       let b = decomposed Nfkd p y in
       longest-normal_form (x ++ y)
       ∙ le-leb _ max_run
-      (omega (arith, ap (longest p) (decomposed-append p Nfkd x y), longest-append p a b, trail-le-longest a, starts, leb-true _ _ (sym (longest-normal_form x) ∙ first), leb-true _ _ (sym (longest-normal_form y) ∙ second)))
+      (omega (arith, ap (longest p) (decomposed-append p Nfkd x y), longest-append p a b, room, leb-true _ _ (sym (longest-normal_form x) ∙ first), leb-true _ _ (sym (longest-normal_form y) ∙ second)))
 
   pub place-in_format : (x : List ℕ) → is_in_format p x ≡ true → place p x ≡ None
   place-in_format x in_format =

@@ -1,7 +1,25 @@
-use Rattle.nf_safe.proofs.Common.{sym, subst}
-use Rattle.nf_safe.specs.Measurer.{StandsAfter}
+use mir.Val.{bool_byte}
+use Rattle.nf_safe.proofs.Common.{◌≡◌, ◌+◌, Bool, true, false, not, cond, refl, sym, ap, ◌∙◌, joiner, is_sound}
+use Rattle.nf_safe.proofs.MeasurerLemmas.{goes_on}
 use Rattle.nf_safe.proofs.measurer.Measurer.see.Goals as goal
+use Rattle.nf_safe.proofs.measurer.Measurer.see.Goals.{else-is_parted-via-then-is_parted+else-not-sound, else-is_parted-via-else-is_parted}
 
-pub returns-clause-refuses : goal.returns-clause-refuses
-returns-clause-refuses g c = λ x before.
-    c.see_row.ensures.refuses x (subst (λ m. StandsAfter (g.R.Rows.properties c.args.rows.now) m x) (sym (c.see_counted.ensures.unchanged c.if-see_counted.false)) before)
+byte : (b : Bool) → bool_byte b ≡ cond b 1 0
+byte true = refl
+byte false = refl
+
+pub returns-clause-stands : goal.returns-clause-stands
+returns-clause-stands g c = λ x before.
+    let p = g.R.Rows.properties c.args.rows.now in
+    let joins : c.step_by-is_parted.result ≡ true → is_sound p joiner ≡ true =
+    λ parted. elim c.else-is_parted.branch [
+      | else-is_parted-via-then-is_parted+else-not-sound w ↦ sym w.sound.ensures ∙ w.if-not-sound.false
+      | else-is_parted-via-else-is_parted w ↦ let absent : true ≡ false = sym parted ∙ w.if-is_parted.false in cc
+    ] in
+    let ends = c.in-Some.ensures.ends in
+    goes_on p c.args.self.now x c.args.c before _ c.step_by-is_parted.result (sym c.in-Some.ensures.sound) (sym (c.step_by-is_parted.ensures.answer p _ ends)) joins
+    (c.step_by-is_parted.ensures.count p _ ends)
+    (c.in-Some.ensures.runs _ before.runs)
+    (ap (λ n. c.args.self.now.bytes + n) c.len_utf8.ensures.len) refl
+    (ap (λ n. c.args.self.now.put + n) (c.from.ensures ∙ byte c.step_by-is_parted.result))
+    (ap (λ n. c.args.self.now.unassigned + n) (c.from-2.ensures ∙ byte (not c.assigned.result) ∙ ap (λ b. cond (not b) 1 0) c.assigned.ensures))

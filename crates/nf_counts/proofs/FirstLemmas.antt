@@ -1,0 +1,108 @@
+-- What a text begins with, by its bytes.
+use Rattle.std.proofs.Common.{◌≡◌, ℕ, ◌+◌, ◌*◌, ◌%◌, ◌<◌, ◌≤◌, ◌⊎◌, inl, inr, zero, suc, ◌==◌, false, List, [], ◌∷◌, ◌++◌, length, slice_index, drop, drop_at, refl, sym, ap, subst, ◌∙◌, arith, length-append, append-nil}
+use Rattle.std.specs.Prelude.{encode_utf8, encode_utf8_all}
+use Rattle.std.specs.Str.{IsUtf8, IsCharBoundary, all_scalars}
+use Rattle.std.proofs.lemmas.Str.{IsCharBoundary-at_seam, length-le-encodes}
+use lib.Utf8.{scalar}
+use Rattle.std.proofs.str.Laws.{order, one, two, three, four}
+use Rattle.std.proofs.lemmas.Bool.{and_parts}
+use Rattle.nf_counts.specs.Counts.{IsValued}
+use Rattle.nf_counts.specs.First.{BeginsWith, IsFirst}
+use Rattle.nf_forms.specs.Ucd.{ucd}
+
+pub some_of : (n : ℕ) → (n == 0) ≡ false → 0 < n
+some_of zero e = cc
+some_of (suc n) e = omega arith
+
+pub record FirstOf (text : List ℕ) : Type 0 where
+  pub c : ℕ
+  pub rest : List ℕ
+  pub split : text ≡ encode_utf8 c ++ rest
+  pub rest_utf8 : IsUtf8 rest
+
+first_of : (text : List ℕ) → IsUtf8 text → 0 < length text → FirstOf text
+first_of text ([], spells) some = absurd (omega (arith, ap length spells.1))
+first_of text (c ∷ cs, spells) some = record { c = c; rest = encode_utf8_all cs; split = sym spells.1; rest_utf8 = (cs, ((and_parts (scalar c) (all_scalars cs) spells.0).1, refl)) }
+
+module _ (text : List ℕ) (first : FirstOf text) where
+  at : (k : ℕ) (bytes : List ℕ) → encode_utf8 first.c ≡ bytes → slice_index text k ≡ slice_index (bytes ++ first.rest) k
+  at k bytes e = ap (λ t. slice_index t k) (first.split ∙ ap (λ l. l ++ first.rest) e)
+
+  long : (bytes : List ℕ) → encode_utf8 first.c ≡ bytes → length text ≡ length bytes + length first.rest
+  long bytes e = ap length (first.split ∙ ap (λ l. l ++ first.rest) e) ∙ length-append bytes first.rest
+
+  pub begins : (len : ℕ) → len ≡ length (encode_utf8 first.c) → BeginsWith text (first.c ∷ []) len
+  begins len is = record {
+    rest = first.rest;
+    split = first.split ∙ ap (λ l. l ++ first.rest) (sym (append-nil (encode_utf8 first.c)));
+    rest_utf8 = first.rest_utf8;
+    is_long = is ∙ ap length (sym (append-nil (encode_utf8 first.c)));
+  }
+
+  pub first_is : (len value : ℕ) → len ≡ length (encode_utf8 first.c) → value < 8 → IsValued ucd first.c value → IsFirst ucd text record { len = len; value = value }
+  first_is len value is within valued = record { c = first.c; begins = begins len is; within = within; valued = valued }
+
+-- so many bytes there are, and there it may be cut
+module _ (text piece : List ℕ) (len : ℕ) (begins : BeginsWith text piece len) where
+  pub fits : len ≤ length text
+  fits = omega (arith, begins.is_long, ap length begins.split, length-append (encode_utf8_all piece) begins.rest)
+
+  pub is_some : 0 < length piece → 0 < len
+  is_some some = omega (arith, begins.is_long, length-le-encodes piece)
+
+  pub boundary : IsCharBoundary text len
+  boundary = subst (IsCharBoundary text) (sym begins.is_long) (IsCharBoundary-at_seam text (encode_utf8_all piece) begins.rest begins.split begins.rest_utf8)
+
+  pub rest_is : drop len text ≡ begins.rest
+  rest_is = ap (drop len) begins.split ∙ drop_at (encode_utf8_all piece) begins.rest len (sym begins.is_long)
+
+module _ (text : List ℕ) (u : IsUtf8 text) (some : 0 < length text) where
+  -- one of two bytes
+  pub record HasTwo : Type 0 where
+    pub first : FirstOf text
+    pub len : 2 ≡ length (encode_utf8 first.c)
+    pub is_long : 1 < length text
+    pub code : slice_index text 0 % 32 * 64 + slice_index text 1 % 64 ≡ first.c
+
+  pub two_of : 0x80 ≤ slice_index text 0 → slice_index text 0 < 0xE0 → HasTwo
+  two_of high low =
+      let first = first_of text u some in
+      within first (order first.c 128) (order first.c 2048) (order first.c 65536)
+    where
+      within : (first : FirstOf text) → (first.c < 128) ⊎ (128 ≤ first.c) → (first.c < 2048) ⊎ (2048 ≤ first.c) → (first.c < 65536) ⊎ (65536 ≤ first.c) → HasTwo
+      within first (inl ascii) _ _ = absurd (omega (arith, high, at text first 0 _ (one first.c ascii)))
+      within first (inr more) (inl small) _ =
+          let e = two first.c more small in
+          record {
+            first = first;
+            len = sym (ap length e);
+            is_long = omega (arith, long text first _ e);
+            code = omega (arith, at text first 0 _ e, at text first 1 _ e);
+          }
+      within first (inr _) (inr more) (inl small) = absurd (omega (arith, low, at text first 0 _ (three first.c more small)))
+      within first (inr _) (inr _) (inr more) = absurd (omega (arith, low, at text first 0 _ (four first.c more)))
+
+  -- one of three
+  pub record HasThree : Type 0 where
+    pub first : FirstOf text
+    pub len : 3 ≡ length (encode_utf8 first.c)
+    pub is_long : 2 < length text
+    pub code : slice_index text 0 % 16 * 4096 + slice_index text 1 % 64 * 64 + slice_index text 2 % 64 ≡ first.c
+
+  pub three_of : 0xE0 ≤ slice_index text 0 → slice_index text 0 < 0xF0 → HasThree
+  three_of high low =
+      let first = first_of text u some in
+      within first (order first.c 128) (order first.c 2048) (order first.c 65536)
+    where
+      within : (first : FirstOf text) → (first.c < 128) ⊎ (128 ≤ first.c) → (first.c < 2048) ⊎ (2048 ≤ first.c) → (first.c < 65536) ⊎ (65536 ≤ first.c) → HasThree
+      within first (inl ascii) _ _ = absurd (omega (arith, high, at text first 0 _ (one first.c ascii)))
+      within first (inr more) (inl small) _ = absurd (omega (arith, high, at text first 0 _ (two first.c more small)))
+      within first (inr _) (inr more) (inl small) =
+          let e = three first.c more small in
+          record {
+            first = first;
+            len = sym (ap length e);
+            is_long = omega (arith, long text first _ e);
+            code = omega (arith, at text first 0 _ e, at text first 1 _ e, at text first 2 _ e);
+          }
+      within first (inr _) (inr _) (inr more) = absurd (omega (arith, low, at text first 0 _ (four first.c more)))

@@ -1,0 +1,49 @@
+ghost use Rattle.nf_forms.specs.Ucd.{ucd};
+ghost use Rattle.nf_counts.specs.Counts.{IsCountedFront};
+
+use crate::counts::Counts;
+use crate::scan::Scan;
+
+/// A text in two, and the non-starters that the compatibility decomposition of the front has.
+#[derive(Clone, Copy, Debug)]
+pub struct Counted<'t> {
+    pub front: &'t str,
+    pub rest: &'t str,
+    pub counts: Counts,
+}
+
+impl<'t> Counted<'t> {
+    ghost use Rattle.nf_forms.specs.Properties.{Properties};
+    ghost use Rattle.std.specs.Prelude.{ℕ};
+
+    /// Nothing of the text is counted.
+    #[inline]
+    pub fn none(text: &'t str) -> Counted<'t>
+        ensures { (p : Properties) (room : ℕ) → IsCountedFront p room text.now result }
+    {
+        Counted {
+            front: "",
+            rest: text,
+            counts: Counts::new(),
+        }
+    }
+}
+
+/// The front of the text of which one look-up for each character tells the non-starters, for the data of the Unicode Character
+/// Database: it ends before a character above U+FFFF, an unassigned one, one of which a non-starter stands before a starter,
+/// and one with which more than 30 non-starters would stand in a row, or more than `room` before the first starter.
+pub fn counted_front(room: u32, text: &str) -> Counted<'_>
+    ensures { IsCountedFront ucd room text.now result }
+{
+    let len = text.len();
+    let mut scan = Scan::new(text).over_plain();
+    while let Some(next) = scan.step(room) {
+        scan = next.over_plain();
+    }
+    let (front, rest) = text.split_at(len - scan.rest.len());
+    Counted {
+        front,
+        rest,
+        counts: scan.counts,
+    }
+}
