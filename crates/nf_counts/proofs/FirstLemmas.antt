@@ -57,19 +57,19 @@ module _ (text piece : List ℕ) (len : ℕ) (begins : BeginsWith text piece len
   rest_is = ap (drop len) begins.split ∙ drop_at (encode_utf8_all piece) begins.rest len (sym begins.is_long)
 
 module _ (text : List ℕ) (u : IsUtf8 text) (some : 0 < length text) where
-  -- one of two bytes
-  pub record HasTwo : Type 0 where
+  -- it has so many bytes, and this code point
+  pub record HasCode (n code : ℕ) : Type 0 where
     pub first : FirstOf text
-    pub len : 2 ≡ length (encode_utf8 first.c)
-    pub is_long : 1 < length text
-    pub code : slice_index text 0 % 32 * 64 + slice_index text 1 % 64 ≡ first.c
+    pub len : n ≡ length (encode_utf8 first.c)
+    pub is_long : n ≤ length text
+    pub is_code : code ≡ first.c
 
-  pub two_of : 0x80 ≤ slice_index text 0 → slice_index text 0 < 0xE0 → HasTwo
+  pub two_of : 0x80 ≤ slice_index text 0 → slice_index text 0 < 0xE0 → HasCode 2 (slice_index text 0 % 32 * 64 + slice_index text 1 % 64)
   two_of high low =
       let first = first_of text u some in
       within first (order first.c 128) (order first.c 2048) (order first.c 65536)
     where
-      within : (first : FirstOf text) → (first.c < 128) ⊎ (128 ≤ first.c) → (first.c < 2048) ⊎ (2048 ≤ first.c) → (first.c < 65536) ⊎ (65536 ≤ first.c) → HasTwo
+      within : (first : FirstOf text) → (first.c < 128) ⊎ (128 ≤ first.c) → (first.c < 2048) ⊎ (2048 ≤ first.c) → (first.c < 65536) ⊎ (65536 ≤ first.c) → HasCode 2 (slice_index text 0 % 32 * 64 + slice_index text 1 % 64)
       within first (inl ascii) _ _ = absurd (omega (arith, high, at text first 0 _ (one first.c ascii)))
       within first (inr more) (inl small) _ =
           let e = two first.c more small in
@@ -77,24 +77,17 @@ module _ (text : List ℕ) (u : IsUtf8 text) (some : 0 < length text) where
             first = first;
             len = sym (ap length e);
             is_long = omega (arith, long text first _ e);
-            code = omega (arith, at text first 0 _ e, at text first 1 _ e);
+            is_code = omega (arith, at text first 0 _ e, at text first 1 _ e);
           }
       within first (inr _) (inr more) (inl small) = absurd (omega (arith, low, at text first 0 _ (three first.c more small)))
       within first (inr _) (inr _) (inr more) = absurd (omega (arith, low, at text first 0 _ (four first.c more)))
 
-  -- one of three
-  pub record HasThree : Type 0 where
-    pub first : FirstOf text
-    pub len : 3 ≡ length (encode_utf8 first.c)
-    pub is_long : 2 < length text
-    pub code : slice_index text 0 % 16 * 4096 + slice_index text 1 % 64 * 64 + slice_index text 2 % 64 ≡ first.c
-
-  pub three_of : 0xE0 ≤ slice_index text 0 → slice_index text 0 < 0xF0 → HasThree
+  pub three_of : 0xE0 ≤ slice_index text 0 → slice_index text 0 < 0xF0 → HasCode 3 (slice_index text 0 % 16 * 4096 + slice_index text 1 % 64 * 64 + slice_index text 2 % 64)
   three_of high low =
       let first = first_of text u some in
       within first (order first.c 128) (order first.c 2048) (order first.c 65536)
     where
-      within : (first : FirstOf text) → (first.c < 128) ⊎ (128 ≤ first.c) → (first.c < 2048) ⊎ (2048 ≤ first.c) → (first.c < 65536) ⊎ (65536 ≤ first.c) → HasThree
+      within : (first : FirstOf text) → (first.c < 128) ⊎ (128 ≤ first.c) → (first.c < 2048) ⊎ (2048 ≤ first.c) → (first.c < 65536) ⊎ (65536 ≤ first.c) → HasCode 3 (slice_index text 0 % 16 * 4096 + slice_index text 1 % 64 * 64 + slice_index text 2 % 64)
       within first (inl ascii) _ _ = absurd (omega (arith, high, at text first 0 _ (one first.c ascii)))
       within first (inr more) (inl small) _ = absurd (omega (arith, high, at text first 0 _ (two first.c more small)))
       within first (inr _) (inr more) (inl small) =
@@ -103,6 +96,6 @@ module _ (text : List ℕ) (u : IsUtf8 text) (some : 0 < length text) where
             first = first;
             len = sym (ap length e);
             is_long = omega (arith, long text first _ e);
-            code = omega (arith, at text first 0 _ e, at text first 1 _ e, at text first 2 _ e);
+            is_code = omega (arith, at text first 0 _ e, at text first 1 _ e, at text first 2 _ e);
           }
       within first (inr _) (inr _) (inr more) = absurd (omega (arith, low, at text first 0 _ (four first.c more)))

@@ -21,9 +21,9 @@ returns c =
       | then-bytes-lt224 w ↦
           let two = two_of bytes c.as_bytes-bytes.ensures.utf8 (some_of _ (sym c.is_empty.ensures ∙ c.if-is_empty.false)) (omega (arith, c.if-bytes-lt128.false)) w.if-bytes-lt224.true in
           first_is bytes two.first _ _ (ap (λ t. t.0) w.len-is ∙ two.len) c.value-value.ensures.within
-          (subst (λ d. IsValued ucd d c.value-value.result) (ap (λ t. code_of t.1) w.len-is ∙ w.of_two.ensures ∙ two.code) some)
+          (subst (λ d. IsValued ucd d c.value-value.result) (ap (λ t. code_of t.1) w.len-is ∙ w.of_two.ensures ∙ two.is_code) some)
       | else-bytes-lt224 w ↦
           let three = three_of bytes c.as_bytes-bytes.ensures.utf8 (some_of _ (sym c.is_empty.ensures ∙ c.if-is_empty.false)) (omega (arith, w.if-bytes-lt224.false)) (omega (arith, c.if-bytes-ge240.false)) in
           first_is bytes three.first _ _ (ap (λ t. t.0) w.len-is ∙ three.len) c.value-value.ensures.within
-          (subst (λ d. IsValued ucd d c.value-value.result) (ap (λ t. code_of t.1) w.len-is ∙ w.of_three.ensures ∙ three.code) some)
+          (subst (λ d. IsValued ucd d c.value-value.result) (ap (λ t. code_of t.1) w.len-is ∙ w.of_three.ensures ∙ three.is_code) some)
     ])

@@ -19,14 +19,14 @@ returns-then-is_plain c =
     let bytes = c.as_bytes-bytes.result.now in
     let three = three_of bytes c.as_bytes-bytes.ensures.utf8 (some_of _ (sym c.is_empty.ensures ∙ c.if-is_empty.false)) (omega (arith, c.if-first-ge224.true)) c.if-first-lt240.true in
     subst (λ t. IsPlainPiece ucd t 3) c.as_bytes-bytes.ensures.value
-    (three.first.c ∷ [], begins bytes three.first 3 three.len, All-cons (λ d. IsValued ucd d 0) three.first.c [] (subst (λ d. IsValued ucd d 0) (c.of_three.ensures ∙ three.code) (c.is_plain.ensures c.if-is_plain.true)) (All-nil (λ d. IsValued ucd d 0)))
+    (three.first.c ∷ [], begins bytes three.first 3 three.len, All-cons (λ d. IsValued ucd d 0) three.first.c [] (subst (λ d. IsValued ucd d 0) (c.of_three.ensures ∙ three.is_code) (c.is_plain.ensures c.if-is_plain.true)) (All-nil (λ d. IsValued ucd d 0)))
 
 pub returns-then-is_plain-2 : goal.returns-then-is_plain-2
 returns-then-is_plain-2 c =
     let bytes = c.as_bytes-bytes.result.now in
     let two = two_of bytes c.as_bytes-bytes.ensures.utf8 (some_of _ (sym c.is_empty.ensures ∙ c.if-is_empty.false)) (omega (arith, c.if-first-ge128.true)) (omega (arith, c.if-first-ge224.false)) in
     subst (λ t. IsPlainPiece ucd t 2) c.as_bytes-bytes.ensures.value
-    (two.first.c ∷ [], begins bytes two.first 2 two.len, All-cons (λ d. IsValued ucd d 0) two.first.c [] (subst (λ d. IsValued ucd d 0) (c.of_two.ensures ∙ two.code) (c.is_plain-then-first-ge128.ensures c.if-is_plain-2.true)) (All-nil (λ d. IsValued ucd d 0)))
+    (two.first.c ∷ [], begins bytes two.first 2 two.len, All-cons (λ d. IsValued ucd d 0) two.first.c [] (subst (λ d. IsValued ucd d 0) (c.of_two.ensures ∙ two.is_code) (c.is_plain-then-first-ge128.ensures c.if-is_plain-2.true)) (All-nil (λ d. IsValued ucd d 0)))
 
 pub returns : goal.returns
 returns c =

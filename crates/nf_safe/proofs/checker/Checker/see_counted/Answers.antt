@@ -1,5 +1,5 @@
 use Rattle.nf_safe.proofs.Common.{◌≡◌, ◌+◌, ◌≤◌, ◌++◌, ℕ, List, length, refl, sym, ap, ap₂, subst, ◌∙◌, arith, rules, length-append, append_assoc}
-use Rattle.std.proofs.Common.{take-append-drop, drop, drop_at}
+use Rattle.std.proofs.Common.{take, take-append-drop, drop, drop_at}
 use Rattle.std.specs.Prelude.{chars}
 use Rattle.std.specs.Str.{IsUtf8}
 use Rattle.std.proofs.lemmas.Str.{IsCharBoundary-at_seam, IsUtf8-append, chars-append, encodes-chars, length-le-encodes}
@@ -8,8 +8,9 @@ use Rattle.nf_safe.proofs.MeasurerLemmas.{all_sound}
 use Rattle.nf_safe.proofs.checker.Checker.see_counted.Goals as goal
 
 -- a front of a window is a front of the text
-behind : (text window back front rest : List ℕ) → window ++ back ≡ text → window ≡ front ++ rest → text ≡ front ++ (rest ++ back)
-behind text window back front rest whole split = sym whole ∙ ap (λ t. t ++ back) split ∙ append_assoc front rest back
+behind : (text : List ℕ) (n : ℕ) (window back front rest : List ℕ) → window ≡ take n text → back ≡ drop n text → window ≡ front ++ rest → text ≡ front ++ (rest ++ back)
+behind text n window back front rest first second split =
+    sym (take-append-drop n text) ∙ sym (ap₂ (λ a b. a ++ b) first second) ∙ ap (λ t. t ++ back) split ∙ append_assoc front rest back
 
 pub pass-requires : goal.pass-requires
 pass-requires g c = omega (arith, c.counted_front-counted.ensures.leads, c.room.ensures.room, c.room.ensures.within)
@@ -30,27 +31,23 @@ pub range_from-requires : goal.range_from-requires
 range_from-requires g c = λ some.
     let counted = c.counted_front-counted in
     let text = c.args.text.now in
-    let window = c.split_at.result.0.now in
     let back = c.split_at.result.1.now in
     let front = counted.result.front.now in
     let rest = counted.result.rest.now in
     let first : IsUtf8 rest = search rules in
     let second : IsUtf8 back = search rules in
-    let whole : window ++ back ≡ text = ap₂ (λ a b. a ++ b) c.split_at.ensures.front c.split_at.ensures.back ∙ take-append-drop c.floor_char_boundary.result text in
-    IsCharBoundary-at_seam text front (rest ++ back) (behind text window back front rest whole counted.ensures.split) (IsUtf8-append rest back first second)
+    IsCharBoundary-at_seam text front (rest ++ back) (behind text c.floor_char_boundary.result c.split_at.result.0.now back front rest c.split_at.ensures.front c.split_at.ensures.back counted.ensures.split) (IsUtf8-append rest back first second)
 
 pub returns-clause-sees : goal.returns-clause-sees
 returns-clause-sees g c = λ base x before.
     let p = g.R.Rows.properties c.args.rows.now in
     let counted = c.counted_front-counted in
     let text = c.args.text.now in
-    let window = c.split_at.result.0.now in
     let back = c.split_at.result.1.now in
     let front = counted.result.front.now in
     let rest = counted.result.rest.now in
     let utf8 : IsUtf8 front = search rules in
-    let whole : window ++ back ≡ text = ap₂ (λ a b. a ++ b) c.split_at.ensures.front c.split_at.ensures.back ∙ take-append-drop c.floor_char_boundary.result text in
-    let split = behind text window back front rest whole counted.ensures.split in
+    let split = behind text c.floor_char_boundary.result c.split_at.result.0.now back front rest c.split_at.ensures.front c.split_at.ensures.back counted.ensures.split in
     let left : c.range_from.result.now ≡ rest ++ back = c.range_from.ensures.value ∙ ap (drop (length front)) split ∙ drop_at front (rest ++ back) (length front) refl in
     record {
       front = chars front;
