@@ -28,7 +28,7 @@ use Rattle.nf_filter.specs.declared.fault.Fault.{Fault}
 use Rattle.nf_filter.specs.declared.fault.Fault.TheVariants.{Row}
 use Rattle.nf_filter.specs.Faults.{bad_byte}
 use Rattle.nf_filter.specs.Taker.{decided_or, decided_in, TakesText}
-use Rattle.nf_filter.specs.Checks.{sound_front, check_fault, place_or_fault, check_decision, text_decision, HasChecked, Sees, HasSeenFront}
+use Rattle.nf_filter.specs.Checks.{sound_front, check_fault, place_or_fault, check_decision, text_decision, HasChecked, Decides, Sees, HasSeenFront}
 use Rattle.nf_filter.proofs.TakingLemmas.{front-behind, front-more, front-whole}
 use Rattle.nf_filter.proofs.PolicyLemmas.{take_while-all, take_while-append, take_while-stop}
 
@@ -78,11 +78,15 @@ module _ (p : Properties) where
   -- the text was seen
   pub TakesText-seen : (checker : Checker) (base : ℕ) (x y : List ℕ) (r : Option (Result (Option Place) Fault)) → Sees p checker base (x ++ y) r → TakesText (HasChecked p checker base) (text_decision p base) x y r
   TakesText-seen checker base x y None sees = record { decided = sym (stop_none base (x ++ y) sees.sound (sym sees.stands.place ∙ sees.none)); taken = λ _. sees }
-  TakesText-seen checker base x y (Some decision) sees = record { decided = sym sees; taken = λ none. cc }
+  TakesText-seen checker base x y (Some decision) sees = record { decided = sym (ap (text_decision p base) (sym (append-nil (x ++ y))) ∙ sees []); taken = λ none. cc }
 
-  -- what is decided by what stands behind a front is decided by the text
-  pub stop-more : (base : ℕ) (x text front rest : List ℕ) (stop : Result (Option Place) Fault) → chars text ≡ front ++ chars rest → text_decision p base ((x ++ front) ++ chars rest) ≡ Some stop → text_decision p base (x ++ chars text) ≡ Some stop
-  stop-more base x text front rest stop is stops = ap (text_decision p base) (sym (front-behind text front rest is x)) ∙ stops
+  -- what is decided behind a front of the text, or in it, is decided by the text
+  module _ (base : ℕ) (x text front rest : List ℕ) (stop : Result (Option Place) Fault) (is : chars text ≡ front ++ chars rest) where
+    pub stops-behind : Decides p base ((x ++ front) ++ chars rest) stop → Decides p base (x ++ chars text) stop
+    stops-behind stops = subst (λ y. Decides p base y stop) (front-behind text front rest is x) stops
+
+    pub stops-within : Decides p base (x ++ front) stop → Decides p base (x ++ chars text) stop
+    stops-within stops = stops-behind (λ more. ap (text_decision p base) (append_assoc (x ++ front) (chars rest) more) ∙ stops (chars rest ++ more))
 
   module _ (checker : Checker) (base : ℕ) (x text : List ℕ) where
     pub HasSeenFront-none : HasChecked p checker base x → HasSeenFront p checker base x text text

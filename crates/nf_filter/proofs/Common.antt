@@ -14,7 +14,7 @@ pub use Rattle.std.specs.Str.{all_scalars, IsCharBoundary, chars as characters}
 pub use Rattle.std.specs.Str.Iter.{chars_rest}
 pub use Rattle.nf_filter.specs.Block.{Start, BlockState, Written, WritesTo, GivesAll, Broken, WritesOn, block_state}
 unfoldable pub use Rattle.nf_filter.specs.Checks.{check_fault, check_decision, text_decision}
-pub use Rattle.nf_filter.specs.Checks.{sound_front, place_or_fault, no_place, HasChecked, Sees}
+pub use Rattle.nf_filter.specs.Checks.{sound_front, place_or_fault, no_place, HasChecked, Decides, Sees}
 unfoldable pub use Rattle.nf_filter.specs.Counted.{unusable_at, usable_utf8}
 pub use Rattle.nf_filter.specs.Counted.{HasTaken, TakesOn, settled_text, IsPlacedAt, utf8_place, HasPlaces, ends_at}
 pub use Rattle.nf_filter.specs.Devices.{SinkState, SourceState}

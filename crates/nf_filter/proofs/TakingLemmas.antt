@@ -1,5 +1,5 @@
 -- A text, front by front.
-use Rattle.nf_filter.proofs.Common.{◌≡◌, ℕ, ◌+◌, ◌<◌, ◌^◌, List, [], ◌∷◌, ◌++◌, length, Option, Some, refl, sym, ap, ◌∙◌, subst, arith, append-nil, append_assoc, encode_utf8, MatchOption, encode_utf8_all, IsUtf8, chars, length-append, None, chars-nil, chars-append, encodes-append, encodes-chars, chars_past_char, HasPlaces, IsPlacedAt, nil_from_length}
+use Rattle.nf_filter.proofs.Common.{◌≡◌, ℕ, ◌+◌, ◌<◌, ◌^◌, List, [], ◌∷◌, ◌++◌, length, Option, Some, refl, sym, ap, ◌∙◌, subst, arith, append-nil, append_assoc, encode_utf8, encode_utf8_all, IsUtf8, chars, length-append, None, chars-nil, chars-append, encodes-append, encodes-chars, chars_past_char, HasPlaces, IsPlacedAt, nil_from_length}
 
 pub front_len : (text front rest : List ℕ) → IsUtf8 text → IsUtf8 rest → chars text ≡ front ++ chars rest → length text ≡ length (encode_utf8_all front) + length rest
 front_len text front rest whole behind is =
@@ -35,10 +35,6 @@ chars_of_one bytes c utf8 is = chars_past_char bytes [] c utf8 (is ∙ sym (appe
 pub is_none : (o : Option ℕ) → ((c : ℕ) → ¬ (o ≡ Some c)) → o ≡ None
 is_none None none = refl
 is_none (Some c) none = absurd (none c refl)
-
--- its first character
-pub begins : (none : Type 0) (bytes rest : List ℕ) (r : Option ℕ) (c : ℕ) → r ≡ Some c → MatchOption r none (λ d. bytes ≡ encode_utf8 d ++ rest) → bytes ≡ encode_utf8 c ++ rest
-begins none bytes rest r c is step = subst (λ o. MatchOption o none (λ d. bytes ≡ encode_utf8 d ++ rest)) is step
 
 -- in bytes of so many, each offset can be told
 pub HasPlaces-all : (at : ℕ) (text : List ℕ) → IsUtf8 text → at + length text < 2 ^ 64 → HasPlaces at text

@@ -49,10 +49,14 @@ ends_at checker at = (place_of checker ≡ None) × (offset_of checker ≡ at)
 unfoldable pub text_decision : Properties → ℕ → List ℕ → Option (Result (Option Place) Fault)
 text_decision p base x = place_or_fault (place_from base p (sound_front p x)) (if list_all (is_sound p) x then None else Some (Row (base + length (encode_utf8_all (sound_front p x)))))
 
+-- the text x decides it, whatever follows
+abbrev pub Decides : Properties → ℕ → List ℕ → Result (Option Place) Fault → Type 0
+Decides p base x decision = (more : List ℕ) → text_decision p base (x ++ more) ≡ Some decision
+
 -- the text x was seen, or what it decides
 abbrev pub Sees : Properties → Checker → ℕ → List ℕ → Option (Result (Option Place) Fault) → Type 0
 Sees p checker base x None = HasChecked p checker base x
-Sees p checker base x (Some decision) = text_decision p base x ≡ Some decision
+Sees p checker base x (Some decision) = Decides p base x decision
 
 -- behind x a front of the text was seen; `rest` is what stands behind that
 pub record HasSeenFront (p : Properties) (checker : Checker) (base : ℕ) (x text rest : List ℕ) : Type 0 where
@@ -63,4 +67,4 @@ pub record HasSeenFront (p : Properties) (checker : Checker) (base : ℕ) (x tex
 -- so it was, or what the text decides
 abbrev pub SeesFront : Properties → Checker → ℕ → List ℕ → List ℕ → Result (Bor (List ℕ)) (Result (Option Place) Fault) → Type 0
 SeesFront p checker base x text (Ok rest) = HasSeenFront p checker base x text rest.now
-SeesFront p checker base x text (Err decision) = text_decision p base (x ++ chars text) ≡ Some decision
+SeesFront p checker base x text (Err decision) = Decides p base (x ++ chars text) decision

@@ -120,7 +120,7 @@ fn see_text<R: Rows>(checker: &mut Checker, rows: &R, text: &str) -> Option<Deci
 /// Where at least so many bytes were calm, it is asked again behind them.
 const WORTH: usize = 8;
 
-/// At least so many bytes are looked up before it is asked again, and at most.
+/// At least so many bytes are seen before it is asked again, and at most.
 const FEW: usize = 8;
 
 const MANY: usize = 256;
@@ -130,8 +130,9 @@ const MANY: usize = 256;
 struct Search {
     /// The form that is asked: composed text is calm in NFC, decomposed text in NFD. Where little was found, the other.
     form: Form,
-    /// So many bytes are looked up where nothing is calm.
+    /// Where nothing is calm, a window of so many bytes is seen without a search.
     most: usize,
+    ghost some: { 0 < most },
 }
 
 impl Search {
@@ -175,7 +176,7 @@ impl Search {
     }
 }
 
-/// Sees a front of a text: what of it is found to be calm, or else what is looked up. Answers what stands behind.
+/// Sees a front of a text: what of it is found to be calm, or else a window. Answers what stands behind.
 fn see_front<'t, R: Rows>(
     checker: &mut Checker,
     rows: &R,
@@ -191,11 +192,15 @@ fn see_front<'t, R: Rows>(
     ensures unsound { IfErr result (λ decision. IfErr decision (IsAmong (row ∷ []))) }
     ensures sees { let p = R.properties rows.now in (base : ℕ) (x : List ℕ) → HasChecked p checker.old base x → SeesFront p checker.new base x text.now result }
 {
-    let Some((form, calm)) = search.front(rows, text) else {
-        return see_told(checker, rows, search.most, text);
-    };
-    pass_calm(checker, rows, form, calm);
-    Ok(calm.rest)
+    if let Some((form, calm)) = search.front(rows, text) {
+        pass_calm(checker, rows, form, calm);
+        return Ok(calm.rest);
+    }
+    let (window, rest) = text.split_at(text.ceil_char_boundary(search.most));
+    match see_plainly(checker, rows, window) {
+        None => Ok(rest),
+        Some(decision) => Err(decision),
+    }
 }
 
 /// Goes over the calm front of a text, at which no text leaves the format. Only from its last character that parts a
@@ -211,7 +216,7 @@ fn pass_calm<R: Rows>(checker: &mut Checker, rows: &R, _form: Form, calm: Calm<'
         → HasChecked p checker.new base (x ++ (chars calm.entry.settled.now ++ chars calm.entry.tail.now)) }
 {
     let mut end = Checker::new(checker.offset() + calm.settled.len() as u64);
-    let None = see_tail(&mut end, rows, calm.tail) else {
+    let None = see_plainly(&mut end, rows, calm.tail) else {
         unreachable!();
     };
     let count = char_count(calm.settled) + char_count(calm.tail);
@@ -219,7 +224,7 @@ fn pass_calm<R: Rows>(checker: &mut Checker, rows: &R, _form: Form, calm: Calm<'
 }
 
 /// Sees the text without a search for calm text.
-fn see_tail<R: Rows>(checker: &mut Checker, rows: &R, text: &str) -> Option<Decision>
+fn see_plainly<R: Rows>(checker: &mut Checker, rows: &R, text: &str) -> Option<Decision>
     requires none { place_of checker.old ≡ None }
     requires fits { offset_of checker.old + length text.now ≤ u64.MAX }
     ensures none { IsNone result → place_of checker.new ≡ None }
@@ -229,7 +234,7 @@ fn see_tail<R: Rows>(checker: &mut Checker, rows: &R, text: &str) -> Option<Deci
 {
     let mut rest = text;
     while !rest.is_empty() {
-        match see_told(checker, rows, usize::MAX, rest) {
+        match see_known(checker, rows, rest) {
             Ok(behind) => rest = behind,
             Err(decision) => return Some(decision),
         }
@@ -237,12 +242,11 @@ fn see_tail<R: Rows>(checker: &mut Checker, rows: &R, text: &str) -> Option<Deci
     None
 }
 
-/// Sees a front of a text: what is known of at most so many bytes by one look-up for each character, or else the first
-/// character. Answers what stands behind.
-fn see_told<'t, R: Rows>(
+/// Sees a front of a text: what is known of it by one look-up for each character, and the character behind that. Answers
+/// what stands behind.
+fn see_known<'t, R: Rows>(
     checker: &mut Checker,
     rows: &R,
-    most: usize,
     text: &'t str,
 ) -> Result<&'t str, Decision>
     requires some { 0 < length text.now }
@@ -254,12 +258,11 @@ fn see_told<'t, R: Rows>(
     ensures unsound { IfErr result (λ decision. IfErr decision (IsAmong (row ∷ []))) }
     ensures sees { let p = R.properties rows.now in (base : ℕ) (x : List ℕ) → HasChecked p checker.old base x → SeesFront p checker.new base x text.now result }
 {
-    let rest = checker.see_counted(rows, text, most);
-    if rest.len() < text.len() {
-        return Ok(rest);
-    }
+    let rest = checker.see_counted(rows, text);
     let mut chars = rest.chars();
-    let c = chars.next().unwrap();
+    let Some(c) = chars.next() else {
+        return Ok(rest);
+    };
     match see(checker, rows, c) {
         None => Ok(chars.as_str()),
         Some(decision) => Err(decision),
@@ -273,8 +276,7 @@ fn see<R: Rows>(checker: &mut Checker, rows: &R, c: char) -> Option<Decision>
     ensures none { IsNone result → place_of checker.new ≡ None }
     ensures offset { IsNone result → offset_of checker.new ≡ offset_of checker.old + length (encode_utf8 c) }
     ensures unsound { IfSome result (λ decision. IfErr decision (IsAmong (row ∷ []))) }
-    ensures sees { let p = R.properties rows.now in (base : ℕ) (x y : List ℕ) → HasChecked p checker.old base x
-        → (IsNone result → HasChecked p checker.new base (x ++ c ∷ [])) × (IfSome result (λ decision. text_decision p base ((x ++ c ∷ []) ++ y) ≡ Some decision)) }
+    ensures sees { let p = R.properties rows.now in (base : ℕ) (x : List ℕ) → HasChecked p checker.old base x → Sees p checker.new base (x ++ c ∷ []) result }
 {
     match checker.see(rows, c) {
         Ok(None) => None,

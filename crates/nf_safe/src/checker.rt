@@ -79,10 +79,10 @@ impl Checker {
         Ok(None)
     }
 
-    /// Sees the front of the text, of at most so many bytes, of which the non-starters are known by one look-up for each character
-    /// (`Rows::counted_front`), and at which the text does not leave the format. Answers what stands behind.
+    /// Sees the front of the text of which the non-starters are known by one look-up for each character (`Rows::counted_front`),
+    /// and at which the text does not leave the format. Answers what stands behind.
     #[inline]
-    pub fn see_counted<'t, R: Rows>(&mut self, rows: &R, text: &'t str, most: usize) -> &'t str
+    pub fn see_counted<'t, R: Rows>(&mut self, rows: &R, text: &'t str) -> &'t str
         requires none { place_of self.old ≡ None }
         requires fits { offset_of self.old + length text.now ≤ u64.MAX }
         ensures none { place_of self.new ≡ None }
@@ -91,14 +91,13 @@ impl Checker {
         ensures sees { let p = R.properties rows.now in
             (base : ℕ) (x : List ℕ) → StandsAfter base p self.old x → HasSeen base p self.new x text.now result.now }
     {
-        let (window, _) = text.split_at(text.floor_char_boundary(most));
-        let counted = rows.counted_front(self.counter.room(), window);
+        let counted = rows.counted_front(self.counter.room(), text);
         self.counter.pass(&counted.counts);
         self.reached = Place {
             chars: self.reached.chars + char_count(counted.front) as u64,
             bytes: self.reached.bytes + counted.front.len() as u64,
         };
-        &text[counted.front.len()..]
+        counted.rest
     }
 
     /// Goes on behind `chars` more characters, all of them in the format: their last ones `end` has seen, and the count

@@ -1,7 +1,7 @@
 use Rattle.std.proofs.Common.{◌≡◌, ℕ, ◌+◌, List, length, None, IsUtf8}
 use Rattle.nf_safe.specs.Checker.{place_of, offset_of}
 use Rattle.nf_filter.specs.Checks.{HasChecked, HasSeenFront}
-use Rattle.nf_filter.proofs.checking.see_tail.Given as goal
+use Rattle.nf_filter.proofs.checking.see_plainly.Given as goal
 
 abbrev pub invariant-loop-rest : goal.invariant-loop-rest
 invariant-loop-rest g l = record {

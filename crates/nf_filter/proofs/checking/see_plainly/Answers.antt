@@ -1,6 +1,6 @@
 use Rattle.std.proofs.Common.{◌++◌, rules, refl, arith}
-use Rattle.nf_filter.proofs.ChecksLemmas.{HasSeenFront-none, HasSeenFront-more, HasSeenFront-whole, stop-more}
-use Rattle.nf_filter.proofs.checking.see_tail.Goals as goal
+use Rattle.nf_filter.proofs.ChecksLemmas.{HasSeenFront-none, HasSeenFront-more, HasSeenFront-whole, stops-behind}
+use Rattle.nf_filter.proofs.checking.see_plainly.Goals as goal
 
 pub loop-rest-init : goal.loop-rest-init
 loop-rest-init g c = record {
@@ -23,7 +23,7 @@ loop-rest-preserved g c = record {
 pub returns-in-Err-clause-sees : goal.returns-in-Err-clause-sees
 returns-in-Err-clause-sees g c = λ base x before.
     let here = c.loop-rest.invariant.seen base x before in
-    stop-more (g.R.Rows.properties c.args.rows.now) base x c.args.text.now here.front c.loop-rest.rest.now _ here.is_front (c.in-Err.ensures.sees base (x ++ here.front) here.seen)
+    stops-behind (g.R.Rows.properties c.args.rows.now) base x c.args.text.now here.front c.loop-rest.rest.now _ here.is_front (c.in-Err.ensures.sees base (x ++ here.front) here.seen)
 
 pub returns-clause-sees : goal.returns-clause-sees
 returns-clause-sees g c = λ base x before.
