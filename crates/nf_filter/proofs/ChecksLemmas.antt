@@ -1,5 +1,5 @@
--- What a check decides, character by character and front by front.
-use Rattle.std.proofs.Common.{◌≡◌, ℕ, ◌+◌, Bool, true, false, List, [], ◌∷◌, ◌++◌, length, Some, None, Ok, Err, refl, sym, ap, ◌∙◌, subst, append_assoc, append-nil, if◌then◌else◌, Option, Result, encode_utf8_all, chars}
+-- What a check decides, character by character.
+use Rattle.std.proofs.Common.{◌≡◌, ℕ, ◌+◌, Bool, true, false, List, [], ◌∷◌, ◌++◌, length, Some, None, Ok, Err, refl, sym, ap, ◌∙◌, subst, append_assoc, append-nil, if◌then◌else◌, Option, encode_utf8_all}
 use Rattle.std.specs.List.{list_all}
 use Rattle.std.proofs.lemmas.Bool.{cond-true, or_left, and_parts, and_from, and_left, and_right}
 use Rattle.std.proofs.lemmas.List.Folds.{list_all-append}
@@ -20,17 +20,16 @@ use Rattle.nf_forms.specs.Laws.CalmEnd.{calm-tail}
 use Rattle.nf_calm.specs.Front.{BeginsAndMarks}
 use Rattle.nf_utf8.specs.Reading.{text_of, ending_of}
 use Rattle.nf_safe.specs.declared.place.Place.{Place}
-use Rattle.nf_safe.specs.declared.checker.Checker.{Checker}
 use Rattle.nf_safe.specs.Place.{is_in_format, place_from}
 use Rattle.nf_safe.specs.Checker.{CountsFromEnd}
 use Rattle.nf_safe.specs.Laws.Place.{is_in_format-stream_safe, place_from-in_format, place_from-stays}
 use Rattle.nf_filter.specs.declared.fault.Fault.{Fault}
 use Rattle.nf_filter.specs.declared.fault.Fault.TheVariants.{Row}
 use Rattle.nf_filter.specs.Faults.{bad_byte}
-use Rattle.nf_filter.specs.Taker.{decided_or, decided_in, TakesText}
-use Rattle.nf_filter.specs.Checks.{sound_front, check_fault, place_or_fault, check_decision, text_decision, HasChecked, Decides, Sees, HasSeenFront}
-use Rattle.nf_filter.proofs.TakingLemmas.{front-behind, front-more, front-whole}
-use Rattle.nf_filter.proofs.PolicyLemmas.{take_while-all, take_while-append, take_while-stop}
+use Rattle.nf_filter.specs.Taker.{decided_or, decided_in}
+use Rattle.nf_filter.specs.Checks.{sound_front, check_fault, place_or_fault, check_decision, text_decision}
+use Rattle.nf_filter.specs.Laws.Undecided.{no_stop}
+use Rattle.nf_filter.proofs.PolicyLemmas.{take_while-append, take_while-stop}
 
 module _ (p : Properties) where
   pub all_sound-push : (x : List ℕ) (c : ℕ) → list_all (is_sound p) x ≡ true → is_sound p c ≡ true → list_all (is_sound p) (x ++ c ∷ []) ≡ true
@@ -53,9 +52,6 @@ module _ (p : Properties) where
     place_stays x z at found = by_last (λ z. place_from base p (x ++ z) ≡ Some at) (ap (place_from base p) (append-nil x) ∙ found)
         (λ z c before. ap (place_from base p) (sym (append_assoc x z (c ∷ []))) ∙ place_from-stays p base (x ++ z) c at before) z
 
-    pub stop_none : (x : List ℕ) → list_all (is_sound p) x ≡ true → place_from base p x ≡ None → text_decision p base x ≡ None
-    stop_none x all none = stop_at x x None true (take_while-all (is_sound p) x all) none all
-
     pub stop_place : (x y : List ℕ) (at : Place) → list_all (is_sound p) x ≡ true → place_from base p x ≡ Some at → text_decision p base (x ++ y) ≡ Some (Ok (Some at))
     stop_place x y at all found = stop_at (x ++ y) (x ++ sound_front p y) (Some at) (list_all (is_sound p) (x ++ y)) (take_while-append (is_sound p) x y all) (place_stays x (sound_front p y) at found) refl
 
@@ -74,34 +70,6 @@ module _ (p : Properties) where
         next None true None row = refl
         next None true (Some fault) row = refl
         next None false bad row = refl
-
-  -- the text was seen
-  pub TakesText-seen : (checker : Checker) (base : ℕ) (x y : List ℕ) (r : Option (Result (Option Place) Fault)) → Sees p checker base (x ++ y) r → TakesText (HasChecked p checker base) (text_decision p base) x y r
-  TakesText-seen checker base x y None sees = record { decided = sym (stop_none base (x ++ y) sees.sound (sym sees.stands.place ∙ sees.none)); taken = λ _. sees }
-  TakesText-seen checker base x y (Some decision) sees = record { decided = sym (ap (text_decision p base) (sym (append-nil (x ++ y))) ∙ sees []); taken = λ none. cc }
-
-  -- what is decided behind a front of the text, or in it, is decided by the text
-  module _ (base : ℕ) (x text front rest : List ℕ) (stop : Result (Option Place) Fault) (is : chars text ≡ front ++ chars rest) where
-    pub stops-behind : Decides p base ((x ++ front) ++ chars rest) stop → Decides p base (x ++ chars text) stop
-    stops-behind stops = subst (λ y. Decides p base y stop) (front-behind text front rest is x) stops
-
-    pub stops-within : Decides p base (x ++ front) stop → Decides p base (x ++ chars text) stop
-    stops-within stops = stops-behind (λ more. ap (text_decision p base) (append_assoc (x ++ front) (chars rest) more) ∙ stops (chars rest ++ more))
-
-  module _ (checker : Checker) (base : ℕ) (x text : List ℕ) where
-    pub HasSeenFront-none : HasChecked p checker base x → HasSeenFront p checker base x text text
-    HasSeenFront-none seen = record { front = []; is_front = refl; seen = subst (HasChecked p checker base) (sym (append-nil x)) seen }
-
-    pub HasSeenFront-more : (front rest behind : List ℕ) → chars text ≡ front ++ chars rest → HasSeenFront p checker base (x ++ front) rest behind → HasSeenFront p checker base x text behind
-    HasSeenFront-more front rest behind is next = record {
-      front = front ++ next.front;
-      is_front = front-more text front rest is next.front behind next.is_front;
-      seen = subst (HasChecked p checker base) (append_assoc x front next.front) next.seen;
-    }
-
-    pub HasSeenFront-whole : (rest : List ℕ) → length rest ≡ 0 → HasSeenFront p checker base x text rest → HasChecked p checker base (x ++ chars text)
-    HasSeenFront-whole rest none here =
-        subst (HasChecked p checker base) (ap (λ l. x ++ l) (front-whole text here.front rest here.is_front none)) here.seen
 
   -- Calm text is in the format, and the count is that of its end alone.
   module _ (f : Form) where
@@ -128,5 +96,5 @@ module _ (p : Properties) where
       unstopped base =
           let alone : IsSoundText p t = (and_parts _ _ (sym (list_all-append (is_sound p) s t) ∙ sound)).1 in
           let tail = calm-tail p f s end.first end.marks class count (subst (λ v. IsCalm p f (s ++ v) class count) end.text calm) end.parting in
-          stop_none base t alone
+          no_stop p base t alone
           (place_from-in_format p base t (in_format-safe t (stream_safe-calm p f t class count (subst (λ v. IsCalm p f v class count) (sym end.text) tail) [] refl) alone))

@@ -14,7 +14,7 @@ pub use Rattle.std.specs.Str.{all_scalars, IsCharBoundary, chars as characters}
 pub use Rattle.std.specs.Str.Iter.{chars_rest}
 pub use Rattle.nf_filter.specs.Block.{Start, BlockState, Written, WritesTo, GivesAll, Broken, WritesOn, block_state}
 unfoldable pub use Rattle.nf_filter.specs.Checks.{check_fault, check_decision, text_decision}
-pub use Rattle.nf_filter.specs.Checks.{sound_front, place_or_fault, no_place, HasChecked, Decides, Sees}
+pub use Rattle.nf_filter.specs.Checks.{sound_front, place_or_fault, no_place, HasChecked}
 unfoldable pub use Rattle.nf_filter.specs.Counted.{unusable_at, usable_utf8}
 pub use Rattle.nf_filter.specs.Counted.{HasTaken, TakesOn, settled_text, IsPlacedAt, utf8_place, HasPlaces, ends_at}
 pub use Rattle.nf_filter.specs.Devices.{SinkState, SourceState}
@@ -28,7 +28,7 @@ unfoldable pub use Rattle.nf_filter.specs.Finishes.{end_of, final_utf8}
 pub use Rattle.nf_filter.specs.Finishes.{tally_of, answer_or, end_under, whole_or, is_taken, final_under, Finishes, Closes}
 pub use Rattle.nf_filter.specs.Laws.Settled.{settled_utf8-none, text_under-none}
 pub use Rattle.nf_filter.specs.Laws.Soundness.{AreSound, RefusesNone}
-pub use Rattle.nf_filter.specs.Measures.{unusable_decision, HasMeasured, HasSeenFront, SeesText, measure_decision, text_measure}
+pub use Rattle.nf_filter.specs.Measures.{unusable_decision, HasMeasured, measure_decision, text_measure}
 pub use Rattle.nf_filter.specs.Passed.{IsBehindAssigned}
 pub use Rattle.nf_filter.specs.Policy.{as_is, allowed, text_under, whole_under, len_under}
 pub use Rattle.nf_filter.specs.Saved.{saved_of, are_marks, IsCounted, CountsFit, IsPending, IsRestorable}
@@ -36,7 +36,7 @@ unfoldable pub use Rattle.nf_filter.specs.Settled.{is_usable, settled_utf8, sett
 pub use Rattle.nf_filter.specs.Settled.{usable}
 pub use Rattle.nf_filter.specs.Stepping.{Standing, StandsInFront}
 pub use Rattle.nf_filter.specs.Surveys.{Survey, Surveys, IsCut}
-pub use Rattle.nf_filter.specs.Taker.{decided_or, decided_in, TakesText, HasSurveyed, IsReady}
+pub use Rattle.nf_filter.specs.Taker.{decided_or, decided_in, Decides, TakesText, HasTakenFront, HasSurveyed, IsReady}
 unfoldable pub use Rattle.nf_filter.specs.Whole.{whole_utf8, whole_answer}
 pub use Rattle.nf_filter.specs.Whole.{Converts, IsFormOf, IsOfWhole, fault_or}
 pub use Rattle.nf_filter.specs.Writes.{Puts, BreaksOff}

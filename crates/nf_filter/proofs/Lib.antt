@@ -7,6 +7,7 @@ pub mod PassedLemmas
 pub mod TextLemmas
 pub mod CalmLemmas
 pub mod TakingLemmas
+pub mod TakerLemmas
 pub mod SteppingLemmas
 pub mod AllowingLemmas
 pub mod PieceLemmas

@@ -1,18 +1,11 @@
 -- What a measurement decides, character by character.
-use Rattle.nf_filter.proofs.Common.{◌≡◌, ℕ, ◌+◌, Bool, true, false, not, ◌&&◌, ◌||◌, List, [], ◌∷◌, ◌++◌, length, Some, None, Ok, Err, refl, sym, ap, ◌∙◌, if◌then◌else◌, is_err, OnOk, Option, Result, option_map, encode_utf8_all, subst, append_assoc, result_err, Properties, joiner, is_too_long, stream_safe, is_sound, IsSoundText, refusal, unsound_at, Fault, Row, is_usable, unusable_at, utf8_place, decided_in, TakesText, HasMeasured, HasSeenFront, SeesText, unusable_decision, measure_decision, is_usable-push}
+use Rattle.nf_filter.proofs.Common.{◌≡◌, ℕ, ◌+◌, Bool, true, false, not, ◌&&◌, ◌||◌, List, [], ◌∷◌, ◌++◌, length, Some, None, Ok, Err, refl, sym, ap, ◌∙◌, if◌then◌else◌, is_err, Option, Result, option_map, encode_utf8_all, result_err, Properties, joiner, is_too_long, stream_safe, is_sound, IsSoundText, refusal, unsound_at, Row, is_usable, unusable_at, utf8_place, decided_in, unusable_decision, measure_decision, is_usable-push}
 use Rattle.nf_row.specs.declared.unsound.Unsound.{Unsound}
-use Rattle.nf_safe.specs.declared.measurer.Measurer.{Measurer}
-use Rattle.nf_filter.proofs.TextLemmas.{unusable_at-usable, unusable_at-stop}
-use Rattle.nf_safe.specs.declared.measure.Measure.{Measure}
+use Rattle.nf_filter.proofs.TextLemmas.{unusable_at-stop}
 use Rattle.nf_filter.proofs.FilterLemmas.{decided_in-fault}
-use Rattle.nf_filter.proofs.TakingLemmas.{front-more}
 
 abbrev Seen : Type 0
 Seen = Result (Unit {0}) Unsound
-
-pub went_on_so : {A : Type 0} (r : Seen) → is_err r ≡ false → OnOk r A → A
-went_on_so (Ok u) e so = so
-went_on_so (Err refused) e so = cc
 
 module _ (p : Properties) where
   -- what a measurer has seen can be used
@@ -49,25 +42,6 @@ module _ (p : Properties) where
   refusal_at base at x c y sound here (Ok u) refused is = cc
   refusal_at base at x c y sound here (Err e) refused is = let d = refused_is (unsound_at p x c) e is in stops_at base at x c d.0 y sound here d.1
 
-  pub unusable_decision-fault : (base : ℕ) (x : List ℕ) (fault : Fault) → unusable_at p (utf8_place base) x ≡ Some fault → unusable_decision p base x ≡ Some (Err fault)
-  unusable_decision-fault base x fault is = ap (option_map Err) is
-
   -- what the bytes decide is what their text does
   pub decides : (base : ℕ) (bytes : List ℕ) → measure_decision p base bytes ≡ decided_in (unusable_decision p base) base bytes
   decides base bytes = sym (decided_in-fault p base bytes)
-
-  -- the text was seen
-  pub TakesText-seen : (measurer : Measurer) (base : ℕ) (x y : List ℕ) (r : Option (Result Measure Fault)) → SeesText p measurer base (x ++ y) r → TakesText (HasMeasured p measurer base) (unusable_decision p base) x y r
-  TakesText-seen measurer base x y None sees = record { decided = sym (ap (option_map Err) (unusable_at-usable p (utf8_place base) (x ++ y) (usable_is (x ++ y) sees.sound))); taken = λ _. sees }
-  TakesText-seen measurer base x y (Some decision) sees = record { decided = sym sees; taken = λ none. cc }
-
--- a front was measured, and then a front of what stands behind it
-pub seen_more : (p : Properties) (first second : Measurer) (base : ℕ) (x text behind rest : List ℕ) → HasSeenFront p first base x text behind
-    → ((y : List ℕ) → HasMeasured p first base y → HasSeenFront p second base y behind rest) → HasSeenFront p second base x text rest
-seen_more p first second base x text behind rest so_far next =
-    let more = next (x ++ so_far.front) so_far.seen in
-    record {
-      front = so_far.front ++ more.front;
-      is_front = front-more text so_far.front behind so_far.is_front more.front rest more.is_front;
-      seen = subst (HasMeasured p second base) (append_assoc x so_far.front more.front) more.seen;
-    }

@@ -6,7 +6,8 @@ use Rattle.nf_filter.proofs.BlockLemmas.{Written-at, Broken-at}
 use Rattle.nf_filter.proofs.FilterLemmas.{write_or_not}
 use Rattle.nf_filter.proofs.SoundnessLemmas.{usable_is}
 use Rattle.nf_filter.proofs.SteppingLemmas.{Standing-taken}
-use Rattle.nf_filter.proofs.TextLemmas.{unusable_at-usable, usable_utf8-usable}
+use Rattle.nf_filter.specs.Laws.Undecided.{unusable_at-usable}
+use Rattle.nf_filter.proofs.TextLemmas.{usable_utf8-usable}
 use Rattle.nf_filter.proofs.PolicyLemmas.{allowed-append, taken-all}
 use Rattle.nf_filter.proofs.ReadingLemmas.{ending_of-none, text_of-none}
 use Rattle.nf_filter.proofs.PieceLemmas.{IsLeft-join, IsLeft-parts, left-text}

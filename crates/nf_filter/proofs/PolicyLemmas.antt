@@ -9,9 +9,6 @@ module _ (test : ℕ → Bool) where
       let parts = and_parts (test c) (list_all test x) all in
       take_while-cons test c (x ++ y) ∙ cond-true _ _ _ parts.0 ∙ ap (λ l. c ∷ l) (take_while-append x y parts.1)
 
-  pub take_while-all : (x : List ℕ) → list_all test x ≡ true → take_while test x ≡ x
-  take_while-all x all = ap (take_while test) (sym (append-nil x)) ∙ take_while-append x [] all ∙ append-nil x
-
   pub take_while-stop : (x : List ℕ) (c : ℕ) (y : List ℕ) → list_all test x ≡ true → test c ≡ false → take_while test ((x ++ c ∷ []) ++ y) ≡ x
   take_while-stop x c y all fails =
       ap (take_while test) (append_assoc x (c ∷ []) y) ∙ take_while-append x (c ∷ y) all ∙ ap (λ l. x ++ l) (take_while-cons test c y ∙ cond-false _ _ _ fails) ∙ append-nil x

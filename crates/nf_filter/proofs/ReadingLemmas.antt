@@ -1,5 +1,5 @@
 -- A piece more.
-use Rattle.nf_filter.proofs.Common.{ap₂, ◌≡◌, ℕ, ◌+◌, ◌-◌, ◌≤◌, ◌==◌, List, [], ◌++◌, length, None, refl, sym, ap, ◌∙◌, arith, eq-eqb, subst, Option, Result, if◌then◌else◌, chars, take_all, length-drop, append_assoc, result_map_both, chars-nil, utf8_valid_len_le, End, EndsWhole, EndsCut, EndsBad, first_bytes, EndsPiece, bytes_behind, Counts, Takes, first_text, Ending, Whole, Bad, Cut, text_len, text_of, rest_of, begun_len, ending_of, DecoderStandsAfter, Fault, Reading, bad_byte, answer_at_end, Survey, TakesText, decided_or, decided_in, HasSurveyed}
+use Rattle.nf_filter.proofs.Common.{ap₂, ◌≡◌, ℕ, ◌+◌, ◌-◌, ◌≤◌, ◌==◌, List, [], ◌++◌, length, Some, None, refl, ap, ◌∙◌, arith, eq-eqb, subst, Option, Result, if◌then◌else◌, chars, take_all, length-drop, append_assoc, result_map_both, chars-nil, utf8_valid_len_le, End, EndsWhole, EndsCut, EndsBad, first_bytes, EndsPiece, bytes_behind, Counts, Takes, first_text, Ending, Whole, Bad, Cut, text_len, text_of, rest_of, begun_len, ending_of, DecoderStandsAfter, Fault, BadByte, Reading, bad_byte, answer_at_end, Survey, decided_or, decided_in, HasSurveyed}
 use Rattle.nf_utf8.specs.declared.decoder.Decoder.{Decoder}
 
 -- no bytes spell nothing
@@ -43,6 +43,9 @@ module _ (bytes piece : List ℕ) where
   ends_well (EndsBad at back) base well ends = absurd (well at back refl)
   ends_well _ base well ends = ap (bad_byte base) ends
 
+  pub ends_badly : (base offset at back : ℕ) → offset ≡ base + length bytes → EndsPiece bytes piece (EndsBad at back) → bad_byte base (ending_of (bytes ++ piece)) ≡ Some (BadByte (offset + at) (offset + at - back))
+  ends_badly base offset at back here ends = ap (bad_byte base) ends.0 ∙ ap₂ (λ n m. Some (BadByte n m)) (omega (arith, here)) (omega (arith, here, ends.1))
+
   pub all_behind : (end : End) → ((at back : ℕ) → ¬ (end ≡ EndsBad at back)) → bytes_behind bytes piece end ≡ bytes ++ piece
   all_behind (EndsBad at back) well = absurd (well at back refl)
   all_behind _ well = refl
@@ -59,15 +62,14 @@ pub ready_after : (ends_at : ℕ → Type 0) (offset carried first text left hel
 ready_after ends_at offset carried first text left held piece end is counted within all ends = (omega arith, subst ends_at (omega arith) ends)
 
 module _ {bytes piece : List ℕ} {first : Option ℕ} {text : List ℕ} {end : End} (took : Takes bytes piece first text end) where
-  abbrev more : List ℕ
+  abbrev pub more : List ℕ
   more = first_text first ++ chars text
 
   pub text_is : text_of (bytes ++ piece) ≡ text_of bytes ++ more
   text_is = took.spelled ∙ append_assoc (text_of bytes) (first_text first) (chars text)
 
-  -- nothing is decided with it
-  pub none_decided : {T : Type 0} {stands now : List ℕ → Type 0} {decides : List ℕ → Option (Result T Fault)} {value : List ℕ → T} {survey : Survey T} {reading : Reading}
-      → HasSurveyed stands decides value survey reading bytes → TakesText now decides (text_of bytes) more None
-      → bad_byte survey.base (ending_of (bytes ++ piece)) ≡ None → survey.decision (bytes ++ piece) ≡ None
-  none_decided {decides = decides} before takes fine =
-      before.decides (bytes ++ piece) ∙ ap₂ decided_or (ap decides text_is ∙ sym takes.decided) fine
+  -- what all the bytes decide then
+  pub decided_then : {T : Type 0} {stands : List ℕ → Type 0} {decides : List ℕ → Option (Result T Fault)} {value : List ℕ → T} {survey : Survey T} {reading : Reading}
+      → HasSurveyed stands decides value survey reading bytes → (o : Option (Result T Fault)) → decides (text_of bytes ++ more) ≡ o → survey.decision (bytes ++ piece) ≡ decided_or o (bad_byte survey.base (ending_of (bytes ++ piece)))
+  decided_then {decides = decides} {survey = survey} before o is =
+      before.decides (bytes ++ piece) ∙ ap (λ o. decided_or o (bad_byte survey.base (ending_of (bytes ++ piece)))) (ap decides text_is ∙ is)

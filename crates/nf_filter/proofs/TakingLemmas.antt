@@ -1,5 +1,5 @@
 -- A text, front by front.
-use Rattle.nf_filter.proofs.Common.{◌≡◌, ℕ, ◌+◌, ◌<◌, ◌^◌, List, [], ◌∷◌, ◌++◌, length, Option, Some, refl, sym, ap, ◌∙◌, subst, arith, append-nil, append_assoc, encode_utf8, encode_utf8_all, IsUtf8, chars, length-append, None, chars-nil, chars-append, encodes-append, encodes-chars, chars_past_char, HasPlaces, IsPlacedAt, nil_from_length}
+use Rattle.nf_filter.proofs.Common.{◌≡◌, ℕ, ◌+◌, ◌<◌, ◌^◌, List, [], ◌∷◌, ◌++◌, length, Option, Some, refl, sym, ap, ◌∙◌, arith, append-nil, append_assoc, encode_utf8, encode_utf8_all, IsUtf8, chars, length-append, None, chars-nil, chars-append, encodes-append, encodes-chars, chars_past_char, HasPlaces, IsPlacedAt, nil_from_length}
 
 pub front_len : (text front rest : List ℕ) → IsUtf8 text → IsUtf8 rest → chars text ≡ front ++ chars rest → length text ≡ length (encode_utf8_all front) + length rest
 front_len text front rest whole behind is =

@@ -1,13 +1,10 @@
 -- A text more.
 use Rattle.nf_filter.proofs.Common.{◌≡◌, ℕ, true, false, List, [], ◌∷◌, ◌++◌, Some, None, Ok, refl, sym, ap, ◌∙◌, subst, append-nil, if◌then◌else◌, Properties, Form, Row, Counted, settled, is_usable, usable, SinkState, Puts, Start, BlockState, Written, HasTaken, settled_text, usable_utf8, unusable_at, TakesOn, Extends, Extends-encodes, settled-extends, is_usable-stays_out, usable-all, usable-stop, usable-extends}
+use Rattle.nf_filter.specs.Laws.Undecided.{unusable_at-usable}
 use Rattle.nf_filter.proofs.WritesLemmas.{Puts-at}
 use Rattle.nf_filter.proofs.BlockLemmas.{Written-at}
 
 module _ (p : Properties) where
-  pub unusable_at-usable : (place : List ℕ → ℕ) (x : List ℕ) → is_usable p x ≡ true → unusable_at p place x ≡ None
-  unfolding unusable_at
-  unusable_at-usable place x sound = ap (λ b. if b then None else Some (Row (place (usable p x)))) sound
-
   pub unusable_at-stop : (place : List ℕ → ℕ) (x : List ℕ) (c : ℕ) (rest : List ℕ) → is_usable p x ≡ true → is_usable p (x ++ c ∷ []) ≡ false
       → unusable_at p place ((x ++ c ∷ []) ++ rest) ≡ Some (Row (place x))
   unfolding unusable_at
@@ -35,7 +32,7 @@ module _ (p : Properties) where
       TakesOn-all x taken written = record {
         broken = λ e. cc;
         written = λ _. Written-at (usable_utf8-usable x taken.machine.usable) written;
-        fault = λ _. sym (unusable_at-usable place x taken.machine.usable);
+        fault = λ _. sym (unusable_at-usable p place x taken.machine.usable);
         taken = taken;
       }
 

@@ -1,7 +1,6 @@
 -- Where a text is found not to be in the Stream-Safe Text Format, or cannot be read on (UAX #15, section 13; The Unicode
 -- Standard, section 3.9).
-use Rattle.std.specs.Prelude.{◌≡◌, true, ℕ, ◌+◌, List, ◌++◌, length, chars, Option, Some, None, option_map, Result, Ok, Err, if◌then◌else◌, take_while, encode_utf8_all}
-use Rattle.std.specs.Borrow.{Bor}
+use Rattle.std.specs.Prelude.{◌≡◌, true, ℕ, ◌+◌, List, length, Option, Some, None, option_map, Result, Ok, Err, if◌then◌else◌, take_while, encode_utf8_all}
 use Rattle.std.specs.List.{list_all}
 use Rattle.nf_forms.specs.Properties.{Properties}
 use Rattle.nf_forms.specs.Sound.{is_sound}
@@ -48,23 +47,3 @@ ends_at checker at = (place_of checker ≡ None) × (offset_of checker ≡ at)
 -- what a text decides, the first byte of which has the offset `base`: a place, or else the first unsound character
 unfoldable pub text_decision : Properties → ℕ → List ℕ → Option (Result (Option Place) Fault)
 text_decision p base x = place_or_fault (place_from base p (sound_front p x)) (if list_all (is_sound p) x then None else Some (Row (base + length (encode_utf8_all (sound_front p x)))))
-
--- the text x decides it, whatever follows
-abbrev pub Decides : Properties → ℕ → List ℕ → Result (Option Place) Fault → Type 0
-Decides p base x decision = (more : List ℕ) → text_decision p base (x ++ more) ≡ Some decision
-
--- the text x was seen, or what it decides
-abbrev pub Sees : Properties → Checker → ℕ → List ℕ → Option (Result (Option Place) Fault) → Type 0
-Sees p checker base x None = HasChecked p checker base x
-Sees p checker base x (Some decision) = Decides p base x decision
-
--- behind x a front of the text was seen; `rest` is what stands behind that
-pub record HasSeenFront (p : Properties) (checker : Checker) (base : ℕ) (x text rest : List ℕ) : Type 0 where
-  pub front : List ℕ
-  pub is_front : chars text ≡ front ++ chars rest
-  pub seen : HasChecked p checker base (x ++ front)
-
--- so it was, or what the text decides
-abbrev pub SeesFront : Properties → Checker → ℕ → List ℕ → List ℕ → Result (Bor (List ℕ)) (Result (Option Place) Fault) → Type 0
-SeesFront p checker base x text (Ok rest) = HasSeenFront p checker base x text rest.now
-SeesFront p checker base x text (Err decision) = Decides p base (x ++ chars text) decision

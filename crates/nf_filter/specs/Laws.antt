@@ -2,6 +2,7 @@
 pub mod Assigned
 pub mod Settled
 pub mod Soundness
+pub mod Undecided
 use Rattle.std.specs.Prelude.{◌≡◌, ℕ, ◌+◌, ◌≤◌, List, ◌++◌, length, IsTrue}
 use Rattle.nf_forms.specs.Properties.{Properties}
 use Rattle.nf_forms.specs.declared.form.Form.{Form}

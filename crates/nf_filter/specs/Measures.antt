@@ -1,6 +1,5 @@
 -- What is measured of bytes, and where they cannot be measured (UAX #15, section 13; The Unicode Standard, section 3.9).
-use Rattle.std.specs.Prelude.{◌≡◌, ◌≤◌, ℕ, List, ◌++◌, chars, Option, Some, None, option_map, Result, Ok, Err}
-use Rattle.std.specs.Borrow.{Bor}
+use Rattle.std.specs.Prelude.{◌≤◌, ℕ, List, Option, option_map, Result, Err}
 use Rattle.nf_forms.specs.Properties.{Properties}
 use Rattle.nf_utf8.specs.Reading.{text_of}
 use Rattle.nf_safe.specs.declared.measure.Measure.{Measure}
@@ -31,19 +30,3 @@ ends_at measurer at = (values_of measurer).bytes ≤ at
 -- what a text decides that begins at the offset `base`
 abbrev pub unusable_decision : Properties → ℕ → List ℕ → Option (Result Measure Fault)
 unusable_decision p base x = option_map Err (unusable_at p (utf8_place base) x)
-
--- the text x was measured, or what it decides
-abbrev pub SeesText : Properties → Measurer → ℕ → List ℕ → Option (Result Measure Fault) → Type 0
-SeesText p measurer base x None = HasMeasured p measurer base x
-SeesText p measurer base x (Some decision) = unusable_decision p base x ≡ Some decision
-
--- behind x a front of the text was measured; `rest` is what stands behind that
-pub record HasSeenFront (p : Properties) (measurer : Measurer) (base : ℕ) (x text rest : List ℕ) : Type 0 where
-  pub front : List ℕ
-  pub is_front : chars text ≡ front ++ chars rest
-  pub seen : HasMeasured p measurer base (x ++ front)
-
--- so it was, or why the text cannot be measured
-abbrev pub SeesFront : Properties → Measurer → ℕ → List ℕ → List ℕ → Result (Bor (List ℕ)) Fault → Type 0
-SeesFront p measurer base x text (Ok rest) = HasSeenFront p measurer base x text rest.now
-SeesFront p measurer base x text (Err fault) = unusable_at p (utf8_place base) (x ++ chars text) ≡ Some fault

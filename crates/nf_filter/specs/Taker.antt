@@ -1,5 +1,6 @@
 -- What becomes of a text that is taken piece by piece.
-use Rattle.std.specs.Prelude.{◌≡◌, ℕ, ◌+◌, ◌-◌, ◌≤◌, List, ◌++◌, length, Option, Some, None, option_map, Result, Err, IsNone}
+use Rattle.std.specs.Prelude.{◌≡◌, ℕ, ◌+◌, ◌-◌, ◌≤◌, List, ◌++◌, length, chars, Option, Some, None, option_map, Result, Ok, Err}
+use Rattle.std.specs.Borrow.{Bor}
 use Rattle.nf_utf8.specs.Reading.{text_of, ending_of}
 use Rattle.nf_utf8.specs.Standing.{StandsAfter as DecoderStandsAfter}
 use Rattle.nf_filter.specs.declared.fault.Fault.{Fault}
@@ -7,11 +8,25 @@ use Rattle.nf_filter.specs.declared.reading.Reading.{Reading}
 use Rattle.nf_filter.specs.Faults.{bad_byte}
 use Rattle.nf_filter.specs.Surveys.{Survey}
 
--- the text y was taken behind x, or what is decided then. `stands` says that it has taken a text, and `decides` what a text
--- decides.
-pub record TakesText {T : Type 0} (stands : List ℕ → Type 0) (decides : List ℕ → Option (Result T Fault)) (x y : List ℕ) (result : Option (Result T Fault)) : Type 0 where
-  pub decided : result ≡ decides (x ++ y)
-  pub taken : IsNone result → stands (x ++ y)
+-- the text x decides this, whatever follows. `decides` says what a text decides.
+abbrev pub Decides : {T : Type 0} → (List ℕ → Option (Result T Fault)) → List ℕ → Result T Fault → Type 0
+Decides decides x answer = (more : List ℕ) → decides (x ++ more) ≡ Some answer
+
+-- the text x was taken, or what it decides is told. `stands` says that a text was taken.
+abbrev pub TakesText : {T : Type 0} → (List ℕ → Type 0) → (List ℕ → Option (Result T Fault)) → List ℕ → Option (Result T Fault) → Type 0
+TakesText stands decides x None = stands x
+TakesText stands decides x (Some answer) = Decides decides x answer
+
+-- behind x a front of the text was taken; `rest` is what stands behind that
+pub record HasTakenFront (stands : List ℕ → Type 0) (x text rest : List ℕ) : Type 0 where
+  pub front : List ℕ
+  pub is_front : chars text ≡ front ++ chars rest
+  pub taken : stands (x ++ front)
+
+-- so it was, or what the text decides is told
+abbrev pub TakesFront : {T : Type 0} → (List ℕ → Type 0) → (List ℕ → Option (Result T Fault)) → List ℕ → List ℕ → Result (Bor (List ℕ)) (Result T Fault) → Type 0
+TakesFront stands decides x text (Ok rest) = HasTakenFront stands x text rest.now
+TakesFront stands decides x text (Err answer) = Decides decides (x ++ chars text) answer
 
 -- what the text of the bytes decides, or else their first ill-formed byte; the first byte has the offset `base`
 abbrev pub decided_or : {T : Type 0} → Option (Result T Fault) → Option Fault → Option (Result T Fault)

@@ -3,13 +3,14 @@ ghost use Rattle.nf_calm.specs.Front.{IsCalmFront};
 ghost use Rattle.nf_filter.specs.Surveys.{Surveys, IsOfSurvey, IsCut};
 ghost use Rattle.nf_safe.specs.Checker.{place_of, offset_of};
 ghost use Rattle.nf_filter.specs.Kinds.{row, IsAmong};
-ghost use Rattle.nf_filter.specs.Checks.{check_decision, no_place, HasChecked, HasSeenFront, Sees, SeesFront, text_decision};
+ghost use Rattle.nf_filter.specs.Taker.{TakesText};
+ghost use Rattle.nf_filter.specs.Checks.{check_decision, no_place, HasChecked, text_decision};
 
 use crate::devices::Source;
 use crate::fault::Fault;
 use crate::reading::Reading;
 use crate::sources::{BLOCK, survey};
-use crate::taker::Taker;
+use crate::taker::{Taker, take_text};
 use crate::text_reader::TextReader;
 use nf_row::{Calm, Form, Rows};
 use nf_safe::{Checker, Place};
@@ -55,7 +56,10 @@ pub fn check_buffered<R: Rows, I: Source>(
     let reader = TextReader {
         reading: Reading::new(base),
         rows,
-        taker: Checker::new(base),
+        taker: CalmChecker {
+            checker: Checker::new(base),
+            search: Search::new(),
+        },
     };
     survey(reader, source, buffer)
 }
@@ -63,8 +67,10 @@ pub fn check_buffered<R: Rows, I: Source>(
 /// What is decided before the end: a place, or a fault.
 type Decision = Result<Option<Place>, Fault>;
 
+/// Without a search for calm text.
 impl Taker for Checker {
     ghost use Rattle.nf_filter.specs.Checks.{HasChecked, ends_at, text_decision};
+    ghost use Rattle.nf_filter.specs.Laws.Undecided.{checked_undecided};
 
     type Answer = Option<Place>;
 
@@ -76,45 +82,75 @@ impl Taker for Checker {
 
     ghost value = { λ p x. None };
 
-    fn take<R: Rows>(
+    /// What is known of it by one look-up for each character, and the character behind that.
+    fn take_front<'t, R: Rows>(
         &mut self,
         rows: &R,
         _at: u64,
-        first: Option<char>,
-        text: &str,
-    ) -> Option<Decision> {
-        let Some(c) = first else {
-            return see_text(self, rows, text);
+        text: &'t str,
+    ) -> Result<&'t str, Decision> {
+        let rest = self.see_counted(rows, text);
+        let mut chars = rest.chars();
+        let Some(c) = chars.next() else {
+            return Ok(rest);
         };
-        if let Some(decision) = see(self, rows, c) {
-            return Some(decision);
+        match see(self, rows, c) {
+            None => Ok(chars.as_str()),
+            Some(decision) => Err(decision),
         }
-        see_text(self, rows, text)
     }
 
     fn end(&self) -> Option<Place> {
         None
     }
+
+    ghost undecided = { checked_undecided };
 }
 
-/// Sees the text, up to the first character that is unsound or at which the text leaves the format: that decides.
-fn see_text<R: Rows>(checker: &mut Checker, rows: &R, text: &str) -> Option<Decision>
-    requires none { place_of checker.old ≡ None }
-    requires fits { offset_of checker.old + length text.now ≤ u64.MAX }
-    ensures none { IsNone result → place_of checker.new ≡ None }
-    ensures offset { IsNone result → offset_of checker.new ≡ offset_of checker.old + length text.now }
-    ensures unsound { IfSome result (λ decision. IfErr decision (IsAmong (row ∷ []))) }
-    ensures sees { let p = R.properties rows.now in (base : ℕ) (x : List ℕ) → HasChecked p checker.old base x → Sees p checker.new base (x ++ chars text.now) result }
-{
-    let mut rest = text;
-    let mut search = Search::new();
-    while !rest.is_empty() {
-        match see_front(checker, rows, &mut search, rest) {
-            Ok(behind) => rest = behind,
-            Err(decision) => return Some(decision),
+/// A checker that looks for calm text.
+#[derive(Drop)]
+struct CalmChecker {
+    checker: Checker,
+    search: Search,
+}
+
+impl Taker for CalmChecker {
+    ghost use Rattle.nf_filter.specs.Checks.{HasChecked, ends_at, text_decision};
+    ghost use Rattle.nf_filter.specs.Laws.Undecided.{checked_undecided};
+
+    type Answer = Option<Place>;
+
+    ghost has_taken = { λ p calm. HasChecked p calm.checker };
+
+    ghost ends_at = { λ calm. ends_at calm.checker };
+
+    ghost decides = { text_decision };
+
+    ghost value = { λ p x. None };
+
+    /// What of it is found to be calm, or else a window.
+    fn take_front<'t, R: Rows>(
+        &mut self,
+        rows: &R,
+        at: u64,
+        text: &'t str,
+    ) -> Result<&'t str, Decision> {
+        if let Some((form, calm)) = self.search.front(rows, text) {
+            pass_calm(&mut self.checker, rows, form, calm);
+            return Ok(calm.rest);
+        }
+        let (window, rest) = text.split_at(text.ceil_char_boundary(self.search.most));
+        match take_text(&mut self.checker, rows, at, window) {
+            None => Ok(rest),
+            Some(decision) => Err(decision),
         }
     }
-    None
+
+    fn end(&self) -> Option<Place> {
+        None
+    }
+
+    ghost undecided = { λ p calm. checked_undecided p calm.checker };
 }
 
 /// Where at least so many bytes were calm, it is asked again behind them.
@@ -176,33 +212,6 @@ impl Search {
     }
 }
 
-/// Sees a front of a text: what of it is found to be calm, or else a window. Answers what stands behind.
-fn see_front<'t, R: Rows>(
-    checker: &mut Checker,
-    rows: &R,
-    search: &mut Search,
-    text: &'t str,
-) -> Result<&'t str, Decision>
-    requires some { 0 < length text.now }
-    requires none { place_of checker.old ≡ None }
-    requires fits { offset_of checker.old + length text.now ≤ u64.MAX }
-    ensures shorter { IfOk result (λ rest. length rest.now < length text.now) }
-    ensures none { OnOk result (place_of checker.new ≡ None) }
-    ensures offset { IfOk result (λ rest. offset_of checker.new + length rest.now ≡ offset_of checker.old + length text.now) }
-    ensures unsound { IfErr result (λ decision. IfErr decision (IsAmong (row ∷ []))) }
-    ensures sees { let p = R.properties rows.now in (base : ℕ) (x : List ℕ) → HasChecked p checker.old base x → SeesFront p checker.new base x text.now result }
-{
-    if let Some((form, calm)) = search.front(rows, text) {
-        pass_calm(checker, rows, form, calm);
-        return Ok(calm.rest);
-    }
-    let (window, rest) = text.split_at(text.ceil_char_boundary(search.most));
-    match see_plainly(checker, rows, window) {
-        None => Ok(rest),
-        Some(decision) => Err(decision),
-    }
-}
-
 /// Goes over the calm front of a text, at which no text leaves the format. Only from its last character that parts a
 /// text on is it seen, by a checker that begins anew.
 fn pass_calm<R: Rows>(checker: &mut Checker, rows: &R, _form: Form, calm: Calm<'_>)
@@ -215,58 +224,13 @@ fn pass_calm<R: Rows>(checker: &mut Checker, rows: &R, _form: Form, calm: Calm<'
     ensures sees { let p = R.properties rows.now in (base : ℕ) (x : List ℕ) → HasChecked p checker.old base x
         → HasChecked p checker.new base (x ++ (chars calm.entry.settled.now ++ chars calm.entry.tail.now)) }
 {
-    let mut end = Checker::new(checker.offset() + calm.settled.len() as u64);
-    let None = see_plainly(&mut end, rows, calm.tail) else {
+    let place = checker.offset() + calm.settled.len() as u64;
+    let mut end = Checker::new(place);
+    let None = take_text(&mut end, rows, place, calm.tail) else {
         unreachable!();
     };
     let count = char_count(calm.settled) + char_count(calm.tail);
     checker.go_on_from(count as u64, end);
-}
-
-/// Sees the text without a search for calm text.
-fn see_plainly<R: Rows>(checker: &mut Checker, rows: &R, text: &str) -> Option<Decision>
-    requires none { place_of checker.old ≡ None }
-    requires fits { offset_of checker.old + length text.now ≤ u64.MAX }
-    ensures none { IsNone result → place_of checker.new ≡ None }
-    ensures offset { IsNone result → offset_of checker.new ≡ offset_of checker.old + length text.now }
-    ensures unsound { IfSome result (λ decision. IfErr decision (IsAmong (row ∷ []))) }
-    ensures sees { let p = R.properties rows.now in (base : ℕ) (x : List ℕ) → HasChecked p checker.old base x → Sees p checker.new base (x ++ chars text.now) result }
-{
-    let mut rest = text;
-    while !rest.is_empty() {
-        match see_known(checker, rows, rest) {
-            Ok(behind) => rest = behind,
-            Err(decision) => return Some(decision),
-        }
-    }
-    None
-}
-
-/// Sees a front of a text: what is known of it by one look-up for each character, and the character behind that. Answers
-/// what stands behind.
-fn see_known<'t, R: Rows>(
-    checker: &mut Checker,
-    rows: &R,
-    text: &'t str,
-) -> Result<&'t str, Decision>
-    requires some { 0 < length text.now }
-    requires none { place_of checker.old ≡ None }
-    requires fits { offset_of checker.old + length text.now ≤ u64.MAX }
-    ensures shorter { IfOk result (λ rest. length rest.now < length text.now) }
-    ensures none { OnOk result (place_of checker.new ≡ None) }
-    ensures offset { IfOk result (λ rest. offset_of checker.new + length rest.now ≡ offset_of checker.old + length text.now) }
-    ensures unsound { IfErr result (λ decision. IfErr decision (IsAmong (row ∷ []))) }
-    ensures sees { let p = R.properties rows.now in (base : ℕ) (x : List ℕ) → HasChecked p checker.old base x → SeesFront p checker.new base x text.now result }
-{
-    let rest = checker.see_counted(rows, text);
-    let mut chars = rest.chars();
-    let Some(c) = chars.next() else {
-        return Ok(rest);
-    };
-    match see(checker, rows, c) {
-        None => Ok(chars.as_str()),
-        Some(decision) => Err(decision),
-    }
 }
 
 /// Sees the next character, which decides where it is unsound or the text leaves the format.
@@ -276,7 +240,7 @@ fn see<R: Rows>(checker: &mut Checker, rows: &R, c: char) -> Option<Decision>
     ensures none { IsNone result → place_of checker.new ≡ None }
     ensures offset { IsNone result → offset_of checker.new ≡ offset_of checker.old + length (encode_utf8 c) }
     ensures unsound { IfSome result (λ decision. IfErr decision (IsAmong (row ∷ []))) }
-    ensures sees { let p = R.properties rows.now in (base : ℕ) (x : List ℕ) → HasChecked p checker.old base x → Sees p checker.new base (x ++ c ∷ []) result }
+    ensures sees { let p = R.properties rows.now in (base : ℕ) (x : List ℕ) → HasChecked p checker.old base x → TakesText (HasChecked p checker.new base) (text_decision p base) (x ++ c ∷ []) result }
 {
     match checker.see(rows, c) {
         Ok(None) => None,

@@ -1,8 +1,6 @@
-ghost use Rattle.std.specs.Prelude.{◌≡◌, ◌+◌, ◌<◌, ◌≤◌, ◌↔◌, ℕ, List, [], ◌∷◌, ◌++◌, length, chars, IsTrue, IfOk, IfErr, IfSome, IsNone, OnOk, encode_utf8_all};
-ghost use Rattle.nf_safe.specs.Measurer.{values_of};
-ghost use Rattle.nf_filter.specs.Kinds.{row, IsAmong};
+ghost use Rattle.std.specs.Prelude.{◌≡◌, ◌<◌, ◌↔◌, length, IsTrue, IfErr, OnOk};
 ghost use Rattle.nf_filter.specs.Surveys.{Surveys, IsOfSurvey, IsCut};
-ghost use Rattle.nf_filter.specs.Measures.{measure_decision, text_measure, HasMeasured, SeesText, SeesFront};
+ghost use Rattle.nf_filter.specs.Measures.{measure_decision, text_measure};
 
 use crate::devices::Source;
 use crate::fault::Fault;
@@ -56,6 +54,7 @@ pub fn measure_buffered<R: Rows, I: Source>(
 impl Taker for Measurer {
     ghost use Rattle.nf_safe.specs.Measures.{measure_of};
     ghost use Rattle.nf_filter.specs.Measures.{HasMeasured, ends_at, unusable_decision};
+    ghost use Rattle.nf_filter.specs.Laws.Undecided.{measured_undecided};
 
     type Answer = Measure;
 
@@ -67,81 +66,31 @@ impl Taker for Measurer {
 
     ghost value = { measure_of };
 
-    fn take<R: Rows>(
+    /// What is known of it by one look-up for each character, and the character behind that. A character that a filter would
+    /// refuse decides.
+    fn take_front<'t, R: Rows>(
         &mut self,
         rows: &R,
         at: u64,
-        first: Option<char>,
-        text: &str,
-    ) -> Option<Result<Measure, Fault>> {
-        let Some(c) = first else {
-            return see_text(self, rows, at, text);
+        text: &'t str,
+    ) -> Result<&'t str, Result<Measure, Fault>> {
+        let rest = self.see_counted(rows, text);
+        let mut chars = rest.chars();
+        let Some(c) = chars.next() else {
+            return Ok(rest);
         };
-        if self.see(rows, c).is_err() {
-            return Some(Err(Fault::Row { at }));
+        match self.see(rows, c) {
+            Ok(()) => Ok(chars.as_str()),
+            Err(_) => {
+                let seen = (text.len() - rest.len()) as u64;
+                Err(Err(Fault::Row { at: at + seen }))
+            }
         }
-        see_text(self, rows, at + c.len_utf8() as u64, text)
     }
 
     fn end(&self) -> Measure {
         self.values()
     }
-}
 
-/// Sees the text that begins at the offset `at`, up to the first character that a filter would refuse: that decides.
-fn see_text<R: Rows>(
-    measurer: &mut Measurer,
-    rows: &R,
-    at: u64,
-    text: &str,
-) -> Option<Result<Measure, Fault>>
-    requires counts { (values_of measurer.old).bytes ≤ at }
-    requires fits { at + length text.now ≤ u64.MAX }
-    ensures counts { IsNone result → (values_of measurer.new).bytes ≤ at + length text.now }
-    ensures unsound { IfSome result (λ decision. IfErr decision (IsAmong (row ∷ []))) }
-    ensures sees { let p = R.properties rows.now in (base : ℕ) (x : List ℕ) → HasMeasured p measurer.old base x → at ≡ base + length (encode_utf8_all x)
-        → SeesText p measurer.new base (x ++ chars text.now) result }
-{
-    let (mut place, mut rest) = (at, text);
-    while !rest.is_empty() {
-        match see_front(measurer, rows, place, rest) {
-            Ok(behind) => {
-                place += (rest.len() - behind.len()) as u64;
-                rest = behind;
-            }
-            Err(fault) => return Some(Err(fault)),
-        }
-    }
-    None
-}
-
-/// Sees a front of a text that begins at the offset `at`: what is known of it by one look-up for each character, and the
-/// character behind that. Answers what stands behind.
-fn see_front<'t, R: Rows>(
-    measurer: &mut Measurer,
-    rows: &R,
-    at: u64,
-    text: &'t str,
-) -> Result<&'t str, Fault>
-    requires some { 0 < length text.now }
-    requires counts { (values_of measurer.old).bytes ≤ at }
-    requires fits { at + length text.now ≤ u64.MAX }
-    ensures shorter { IfOk result (λ rest. length rest.now < length text.now) }
-    ensures counts { IfOk result (λ rest. (values_of measurer.new).bytes + length rest.now ≤ at + length text.now) }
-    ensures unsound { IfErr result (IsAmong (row ∷ [])) }
-    ensures sees { let p = R.properties rows.now in (base : ℕ) (x : List ℕ) → HasMeasured p measurer.old base x → at ≡ base + length (encode_utf8_all x)
-        → SeesFront p measurer.new base x text.now result }
-{
-    let rest = measurer.see_counted(rows, text);
-    let mut chars = rest.chars();
-    let Some(c) = chars.next() else {
-        return Ok(rest);
-    };
-    match measurer.see(rows, c) {
-        Ok(()) => Ok(chars.as_str()),
-        Err(_) => {
-            let seen = (text.len() - rest.len()) as u64;
-            Err(Fault::Row { at: at + seen })
-        }
-    }
+    ghost undecided = { measured_undecided };
 }

@@ -5,7 +5,7 @@ ghost use Rattle.nf_filter.specs.Taker.{IsReady, HasSurveyed};
 use crate::fault::Fault;
 use crate::reading::Reading;
 use crate::surveyor::Surveyor;
-use crate::taker::Taker;
+use crate::taker::{Taker, take_both};
 use nf_row::Rows;
 use nf_utf8::{End, laws};
 
@@ -41,7 +41,7 @@ impl<R: Rows, T: Taker> Surveyor for TextReader<'_, R, T> {
         laws::split();
         let at = reading.offset - reading.decoder.carried() as u64;
         let chunk = reading.decoder.take(piece);
-        if let Some(answer) = taker.take(*rows, at, chunk.first, chunk.text) {
+        if let Some(answer) = take_both(taker, *rows, at, chunk.first, chunk.text) {
             return Some(answer);
         }
         let piece_end = chunk.end;

@@ -1,6 +1,6 @@
-use Rattle.nf_filter.proofs.Common.{◌≡◌, [], Ok, Err, Some, None, refl, ap, arith, option_map, Option, Fault, utf8_place, measure_decision, text_measure, is_usable-none}
+use Rattle.nf_filter.proofs.Common.{◌≡◌, [], Ok, Err, Some, None, refl, ap, arith, option_map, Option, Fault, measure_decision, text_measure}
 use Rattle.nf_safe.specs.declared.measure.Measure.{Measure}
-use Rattle.nf_filter.proofs.TextLemmas.{unusable_at-usable}
+use Rattle.nf_filter.specs.Laws.Undecided.{measured_undecided}
 use Rattle.nf_filter.proofs.ReadingLemmas.{holds_nothing, HasSurveyed-none}
 use Rattle.nf_filter.proofs.SurveysLemmas.{all_read}
 use Rattle.nf_filter.proofs.MeasuresLemmas.{decides}
@@ -16,8 +16,9 @@ pub returns-clause-surveys : goal.returns-clause-surveys
 returns-clause-surveys g c =
     let p = g.R.Rows.properties c.args.rows.now in
     let base = c.args.base in
+    let seen = c.new-2.ensures p in
     c.survey.ensures.surveys (record { base = base; decision = measure_decision p base; value = text_measure p })
-    (HasSurveyed-none c.new.ensures.offset c.new.ensures.decoder (c.new-2.ensures p) (ap (option_map Err) (unusable_at-usable p (utf8_place base) [] (is_usable-none p))) (decides p base) (λ bytes. refl))
+    (HasSurveyed-none c.new.ensures.offset c.new.ensures.decoder seen (measured_undecided p c.new-2.result base [] seen) (decides p base) (λ bytes. refl))
 
 pub returns-clause-end : goal.returns-clause-end
 returns-clause-end g c = all_read c.survey.result (returns-clause-surveys g c) (λ measure is bytes. no_answer _)

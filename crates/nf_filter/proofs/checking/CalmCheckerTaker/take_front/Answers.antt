@@ -1,0 +1,33 @@
+use Rattle.nf_filter.proofs.Common.{◌≡◌, ℕ, List, ◌++◌, sym, ap, ap₂, ◌∙◌, rules, take, drop, take-append-drop, IsUtf8, chars, chars-append, text_decision}
+use Rattle.nf_filter.proofs.TakingLemmas.{chars-three}
+use Rattle.nf_filter.proofs.TakerLemmas.{decides-within}
+use Rattle.nf_filter.proofs.checking.CalmCheckerTaker.take_front.Goals as goal
+
+in_two : (text : List ℕ) (n : ℕ) (window rest : List ℕ) → IsUtf8 window → window ≡ take n text → rest ≡ drop n text → chars text ≡ chars window ++ chars rest
+in_two text n window rest utf8 first second =
+    ap chars (sym (ap₂ (λ a b. a ++ b) first second ∙ take-append-drop n text)) ∙ chars-append window rest utf8
+
+pub returns-in-Some-clause-takes : goal.returns-in-Some-clause-takes
+returns-in-Some-clause-takes g c = λ base x before here.
+    let first : IsUtf8 c.in-Some.calm.settled.now = search rules in
+    let second : IsUtf8 c.in-Some.calm.tail.now = search rules in
+    record {
+      front = chars c.in-Some.calm.settled.now ++ chars c.in-Some.calm.tail.now;
+      is_front = chars-three _ _ _ _ first second c.in-Some.ensures.calm.text;
+      taken = c.pass_calm.ensures.sees base x before;
+    }
+
+pub returns-in-None-clause-takes : goal.returns-in-None-clause-takes
+returns-in-None-clause-takes g c = λ base x before here.
+    let utf8 : IsUtf8 c.split_at.result.0.now = search rules in
+    record {
+      front = chars c.split_at.result.0.now;
+      is_front = in_two _ _ _ _ utf8 c.split_at.ensures.front c.split_at.ensures.back;
+      taken = c.in-None.ensures.takes base x before here;
+    }
+
+pub returns-in-Some-take_text-clause-takes : goal.returns-in-Some-take_text-clause-takes
+returns-in-Some-take_text-clause-takes g c = λ base x before here.
+    let utf8 : IsUtf8 c.split_at.result.0.now = search rules in
+    decides-within x (chars c.args.text.now) (chars c.split_at.result.0.now) (chars c.split_at.result.1.now) (in_two _ _ _ _ utf8 c.split_at.ensures.front c.split_at.ensures.back) (text_decision (g.R.Rows.properties c.args.rows.now) base) _
+    (c.in-Some-take_text.ensures.takes base x before here)

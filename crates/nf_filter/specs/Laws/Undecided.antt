@@ -1,0 +1,40 @@
+-- A text that was taken decides nothing.
+use Rattle.std.proofs.Common.{◌≡◌, ℕ, ◌+◌, true, List, [], ◌∷◌, length, Some, None, Err, refl, sym, ap, ◌∙◌, if◌then◌else◌, option_map, encode_utf8_all}
+use Rattle.std.specs.List.{list_all}
+use Rattle.std.proofs.lemmas.Bool.{cond-true, and_parts}
+use Rattle.std.proofs.lemmas.List.Sums.{take_while-cons}
+use Rattle.nf_forms.specs.Properties.{Properties}
+use Rattle.nf_forms.specs.Sound.{is_sound}
+use Rattle.nf_safe.specs.declared.checker.Checker.{Checker}
+use Rattle.nf_safe.specs.declared.measurer.Measurer.{Measurer}
+use Rattle.nf_safe.specs.Place.{place_from}
+use Rattle.nf_filter.specs.declared.fault.Fault.TheVariants.{Row}
+use Rattle.nf_filter.specs.Settled.{is_usable, usable}
+use Rattle.nf_filter.specs.Counted.{unusable_at, utf8_place}
+use Rattle.nf_filter.specs.Checks.{sound_front, place_or_fault, text_decision, HasChecked}
+use Rattle.nf_filter.specs.Measures.{unusable_decision, HasMeasured}
+
+-- sound text without a place
+pub sound_front-all : (p : Properties) (x : List ℕ) → list_all (is_sound p) x ≡ true → sound_front p x ≡ x
+sound_front-all p [] all = refl
+sound_front-all p (c ∷ x) all =
+    let parts = and_parts (is_sound p c) (list_all (is_sound p) x) all in
+    take_while-cons (is_sound p) c x ∙ cond-true _ _ _ parts.0 ∙ ap (λ l. c ∷ l) (sound_front-all p x parts.1)
+
+pub no_stop : (p : Properties) (base : ℕ) (x : List ℕ) → list_all (is_sound p) x ≡ true → place_from base p x ≡ None → text_decision p base x ≡ None
+unfolding text_decision
+no_stop p base x all none =
+    ap (λ b. place_or_fault (place_from base p (sound_front p x)) (if b then None else Some (Row (base + length (encode_utf8_all (sound_front p x)))))) all
+    ∙ ap (λ y. place_or_fault (place_from base p y) None) (sound_front-all p x all) ∙ ap (λ o. place_or_fault o None) none
+
+pub checked_undecided : (p : Properties) (checker : Checker) (base : ℕ) (x : List ℕ) → HasChecked p checker base x → text_decision p base x ≡ None
+checked_undecided p checker base x seen = no_stop p base x seen.sound (sym seen.stands.place ∙ seen.none)
+
+-- usable text
+pub unusable_at-usable : (p : Properties) (place : List ℕ → ℕ) (x : List ℕ) → is_usable p x ≡ true → unusable_at p place x ≡ None
+unfolding unusable_at
+unusable_at-usable p place x sound = ap (λ b. if b then None else Some (Row (place (usable p x)))) sound
+
+pub measured_undecided : (p : Properties) (measurer : Measurer) (base : ℕ) (x : List ℕ) → HasMeasured p measurer base x → unusable_decision p base x ≡ None
+unfolding is_usable
+measured_undecided p measurer base x seen = ap (option_map Err) (unusable_at-usable p (utf8_place base) x seen.sound)
