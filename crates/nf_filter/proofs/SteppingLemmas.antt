@@ -6,7 +6,7 @@ use Rattle.nf_normalizer.specs.Step.{RefusesRest}
 use Rattle.nf_normalizer.specs.Laws.Boundary.{usable-alone, usable_both, settled_text-behind}
 use Rattle.nf_filter.proofs.BlockLemmas.{Written-at, Broken-extends}
 use Rattle.nf_filter.proofs.TextLemmas.{TakesOn-all, usable_utf8-extends, usable_utf8-stop, unusable_at-stop}
-use Rattle.nf_filter.proofs.TakingLemmas.{front-behind, front-more, front-whole, nothing-left}
+use Rattle.nf_filter.proofs.TakingLemmas.{front-joined, front-more, front-whole, nothing-left}
 
 pub first-left : (rest : List ℕ) → IsUtf8 rest → 0 < length rest → (c : ℕ) × (more : List ℕ) × (chars rest ≡ c ∷ more)
 first-left rest utf8 some = next (chars rest) (encodes-chars rest utf8)
@@ -105,7 +105,7 @@ module _ (f : Form) (p : Properties) (start : Start) where
         let refuses = stopped.refuses in
         let y = x ++ stopped.front in
         let whole : (y ++ refuses.first ∷ []) ++ refuses.rest ≡ x ++ chars text =
-        append_assoc y (refuses.first ∷ []) refuses.rest ∙ ap (λ l. y ++ l) (sym refuses.is_first) ∙ front-behind text stopped.front rest stopped.is_front x in
+        append_assoc y (refuses.first ∷ []) refuses.rest ∙ ap (λ l. y ++ l) (sym refuses.is_first) ∙ front-joined x (chars text) stopped.front (chars rest) stopped.is_front in
         subst (λ z. TakesOn f p counted start now place z (Err (Row at))) whole (record {
           broken = λ e. cc;
           written = λ _. Written-at (usable_utf8-stop p f y refuses.first refuses.rest refuses.usable refuses.unusable) (record { given = given; puts = puts; text = refuses.holds.text });
@@ -131,7 +131,7 @@ module _ (f : Form) (p : Properties) (start : Start) where
       -- or the sink failed
       pub step-failed : (w : List ℕ) → w ≡ given ++ out → Broken (apart start) now w → TakesOn f p new start now place (x ++ chars text) (Err WriteFault)
       step-failed w is broken =
-          let whole : (x ++ steps.front) ++ chars rest ≡ x ++ chars text = front-behind text steps.front rest steps.is_front x in
+          let whole : (x ++ steps.front) ++ chars rest ≡ x ++ chars text = front-joined x (chars text) steps.front (chars rest) steps.is_front in
           subst (λ y. TakesOn f p new start now place y (Err WriteFault)) whole
           (TakesOn-failed new now place (x ++ steps.front) (chars rest) (stands-broken new.normalizer given out (x ++ steps.front) (chars rest) w now steps.stands is broken))
 

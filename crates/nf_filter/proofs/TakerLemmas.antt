@@ -1,18 +1,14 @@
 -- A text that is taken front by front.
 use Rattle.nf_filter.proofs.Common.{◌≡◌, ℕ, List, [], ◌∷◌, ◌++◌, length, Option, Result, refl, sym, ap, ◌∙◌, subst, append-nil, append_assoc, chars, Fault, Decides, HasTakenFront}
-use Rattle.nf_filter.proofs.TakingLemmas.{front-more, front-whole}
+use Rattle.nf_filter.proofs.TakingLemmas.{front-joined, front-more, front-whole}
 
--- a text behind x is a front and what stands behind that: what is decided there, or in the front, is decided by the text
-module _ (x text front rest : List ℕ) (is : text ≡ front ++ rest) where
-  pub front-joined : (x ++ front) ++ rest ≡ x ++ text
-  front-joined = append_assoc x front rest ∙ ap (λ l. x ++ l) (sym is)
+-- what is decided behind a front of a text, or in it, is decided by the text
+module _ {T : Type 0} (decides : List ℕ → Option (Result T Fault)) (answer : Result T Fault) (x text front rest : List ℕ) (is : text ≡ front ++ rest) where
+  pub decides-behind : Decides decides ((x ++ front) ++ rest) answer → Decides decides (x ++ text) answer
+  decides-behind decided = subst (λ y. Decides decides y answer) (front-joined x text front rest is) decided
 
-  module _ {T : Type 0} (decides : List ℕ → Option (Result T Fault)) (answer : Result T Fault) where
-    pub decides-behind : Decides decides ((x ++ front) ++ rest) answer → Decides decides (x ++ text) answer
-    decides-behind decided = subst (λ y. Decides decides y answer) front-joined decided
-
-    pub decides-within : Decides decides (x ++ front) answer → Decides decides (x ++ text) answer
-    decides-within decided = decides-behind (λ more. ap decides (append_assoc (x ++ front) rest more) ∙ decided (rest ++ more))
+  pub decides-within : Decides decides (x ++ front) answer → Decides decides (x ++ text) answer
+  decides-within decided = decides-behind (λ more. ap decides (append_assoc (x ++ front) rest more) ∙ decided (rest ++ more))
 
 module _ (stands : List ℕ → Type 0) (x text : List ℕ) where
   pub takes-none : stands x → HasTakenFront stands x text text
@@ -31,3 +27,9 @@ module _ (stands : List ℕ → Type 0) (x text : List ℕ) where
   -- with the character behind it
   pub takes-char : (front rest behind : List ℕ) (c : ℕ) → chars text ≡ front ++ chars rest → chars rest ≡ c ∷ chars behind → stands ((x ++ front) ++ c ∷ []) → HasTakenFront stands x text behind
   takes-char front rest behind c is first taken = takes-more front rest behind is (record { front = c ∷ []; is_front = first; taken = taken })
+
+-- what the character behind it decides
+pub decides-char : {T : Type 0} (decides : List ℕ → Option (Result T Fault)) (answer : Result T Fault) (x text front rest behind : List ℕ) (c : ℕ) → chars text ≡ front ++ chars rest → chars rest ≡ c ∷ chars behind
+    → Decides decides ((x ++ front) ++ c ∷ []) answer → Decides decides (x ++ chars text) answer
+decides-char decides answer x text front rest behind c is first decided =
+    decides-behind decides answer x (chars text) front (chars rest) is (decides-within decides answer (x ++ front) (chars rest) (c ∷ []) (chars behind) first decided)

@@ -45,11 +45,12 @@ HasPlaces-all at text utf8 fits front c rest is =
 pub nothing-left : (rest : List ℕ) → length rest ≡ 0 → chars rest ≡ []
 nothing-left rest none = ap chars (nil_from_length rest none) ∙ chars-nil
 
--- a front of it behind x, a longer one, and the one behind which nothing stands
-module _ (text front rest : List ℕ) (is : chars text ≡ front ++ chars rest) where
-  pub front-behind : (x : List ℕ) → (x ++ front) ++ chars rest ≡ x ++ chars text
-  front-behind x = append_assoc x front (chars rest) ∙ ap (λ l. x ++ l) (sym is)
+-- a front behind x, and what stands behind that
+pub front-joined : (x text front rest : List ℕ) → text ≡ front ++ rest → (x ++ front) ++ rest ≡ x ++ text
+front-joined x text front rest is = append_assoc x front rest ∙ ap (λ l. x ++ l) (sym is)
 
+-- a longer front, and the one behind which nothing stands
+module _ (text front rest : List ℕ) (is : chars text ≡ front ++ chars rest) where
   pub front-more : (next behind : List ℕ) → chars rest ≡ next ++ chars behind → chars text ≡ (front ++ next) ++ chars behind
   front-more next behind more = is ∙ ap (λ l. front ++ l) more ∙ sym (append_assoc front next (chars behind))
 

@@ -1,10 +1,7 @@
-ghost use Rattle.std.specs.Prelude.{◌≡◌, ◌↔◌, ◌+◌, ◌<◌, ◌≤◌, ℕ, List, [], ◌∷◌, ◌++◌, length, chars, Some, None, IsTrue, IfOk, IfErr, IfSome, IsNone, OnOk, encode_utf8};
+ghost use Rattle.std.specs.Prelude.{◌≡◌, ◌↔◌, ◌+◌, ◌<◌, ◌≤◌, ℕ, List, ◌++◌, length, chars, None, IsTrue, IfErr};
 ghost use Rattle.nf_calm.specs.Front.{IsCalmFront};
 ghost use Rattle.nf_filter.specs.Surveys.{Surveys, IsOfSurvey, IsCut};
-ghost use Rattle.nf_safe.specs.Checker.{place_of, offset_of};
-ghost use Rattle.nf_filter.specs.Kinds.{row, IsAmong};
-ghost use Rattle.nf_filter.specs.Taker.{TakesText};
-ghost use Rattle.nf_filter.specs.Checks.{check_decision, no_place, HasChecked, text_decision};
+ghost use Rattle.nf_filter.specs.Checks.{check_decision, no_place, ends_at, HasChecked};
 
 use crate::devices::Source;
 use crate::fault::Fault;
@@ -82,7 +79,8 @@ impl Taker for Checker {
 
     ghost value = { λ p x. None };
 
-    /// What is known of it by one look-up for each character, and the character behind that.
+    /// What is known of it by one look-up for each character, and the character behind that, which decides where it is
+    /// unsound or the text leaves the format.
     fn take_front<'t, R: Rows>(
         &mut self,
         rows: &R,
@@ -94,9 +92,10 @@ impl Taker for Checker {
         let Some(c) = chars.next() else {
             return Ok(rest);
         };
-        match see(self, rows, c) {
-            None => Ok(chars.as_str()),
-            Some(decision) => Err(decision),
+        match self.see(rows, c) {
+            Ok(None) => Ok(chars.as_str()),
+            Ok(Some(place)) => Err(Ok(Some(place))),
+            Err(_) => Err(Err(Fault::Row { at: self.offset() })),
         }
     }
 
@@ -136,7 +135,7 @@ impl Taker for CalmChecker {
         text: &'t str,
     ) -> Result<&'t str, Decision> {
         if let Some((form, calm)) = self.search.front(rows, text) {
-            pass_calm(&mut self.checker, rows, form, calm);
+            pass_calm(&mut self.checker, rows, at, form, calm);
             return Ok(calm.rest);
         }
         let (window, rest) = text.split_at(text.ceil_char_boundary(self.search.most));
@@ -212,41 +211,22 @@ impl Search {
     }
 }
 
-/// Goes over the calm front of a text, at which no text leaves the format. Only from its last character that parts a
-/// text on is it seen, by a checker that begins anew.
-fn pass_calm<R: Rows>(checker: &mut Checker, rows: &R, _form: Form, calm: Calm<'_>)
+/// Goes over the calm front of a text that begins at the offset `at`; no text leaves the format there. Only from its last
+/// character that parts a text on is it seen, by a checker that begins anew.
+fn pass_calm<R: Rows>(checker: &mut Checker, rows: &R, at: u64, _form: Form, calm: Calm<'_>)
     requires calm { IsCalmFront (R.properties rows.now) _form (calm.settled.now ++ (calm.tail.now ++ calm.rest.now)) calm.settled.now calm.tail.now calm.rest.now }
     requires some { 0 < length calm.tail.now }
-    requires none { place_of checker.old ≡ None }
-    requires fits { offset_of checker.old + length calm.settled.now + length calm.tail.now ≤ u64.MAX }
-    ensures none { place_of checker.new ≡ None }
-    ensures offset { offset_of checker.new ≡ offset_of checker.old + length calm.entry.settled.now + length calm.entry.tail.now }
+    requires ready { ends_at checker.old at }
+    requires fits { at + length calm.settled.now + length calm.tail.now ≤ u64.MAX }
+    ensures ready { ends_at checker.new (at + length calm.entry.settled.now + length calm.entry.tail.now) }
     ensures sees { let p = R.properties rows.now in (base : ℕ) (x : List ℕ) → HasChecked p checker.old base x
         → HasChecked p checker.new base (x ++ (chars calm.entry.settled.now ++ chars calm.entry.tail.now)) }
 {
-    let place = checker.offset() + calm.settled.len() as u64;
+    let place = at + calm.settled.len() as u64;
     let mut end = Checker::new(place);
     let None = take_text(&mut end, rows, place, calm.tail) else {
         unreachable!();
     };
     let count = char_count(calm.settled) + char_count(calm.tail);
     checker.go_on_from(count as u64, end);
-}
-
-/// Sees the next character, which decides where it is unsound or the text leaves the format.
-fn see<R: Rows>(checker: &mut Checker, rows: &R, c: char) -> Option<Decision>
-    requires none { place_of checker.old ≡ None }
-    requires fits { offset_of checker.old + length (encode_utf8 c) ≤ u64.MAX }
-    ensures none { IsNone result → place_of checker.new ≡ None }
-    ensures offset { IsNone result → offset_of checker.new ≡ offset_of checker.old + length (encode_utf8 c) }
-    ensures unsound { IfSome result (λ decision. IfErr decision (IsAmong (row ∷ []))) }
-    ensures sees { let p = R.properties rows.now in (base : ℕ) (x : List ℕ) → HasChecked p checker.old base x → TakesText (HasChecked p checker.new base) (text_decision p base) (x ++ c ∷ []) result }
-{
-    match checker.see(rows, c) {
-        Ok(None) => None,
-        Ok(Some(place)) => Some(Ok(Some(place))),
-        Err(_) => Some(Err(Fault::Row {
-            at: checker.offset(),
-        })),
-    }
 }

@@ -1,6 +1,6 @@
 -- A text that was taken decides nothing.
-use Rattle.std.proofs.Common.{◌≡◌, ℕ, ◌+◌, true, List, [], ◌∷◌, length, Some, None, Err, refl, sym, ap, ◌∙◌, if◌then◌else◌, option_map, encode_utf8_all}
-use Rattle.std.specs.List.{list_all}
+use Rattle.std.proofs.Common.{◌≡◌, ℕ, ◌+◌, Bool, true, List, [], ◌∷◌, length, Some, None, Err, refl, sym, ap, ◌∙◌, if◌then◌else◌, option_map, encode_utf8_all}
+use Rattle.std.specs.List.{list_all, take_while}
 use Rattle.std.proofs.lemmas.Bool.{cond-true, and_parts}
 use Rattle.std.proofs.lemmas.List.Sums.{take_while-cons}
 use Rattle.nf_forms.specs.Properties.{Properties}
@@ -14,18 +14,18 @@ use Rattle.nf_filter.specs.Counted.{unusable_at, utf8_place}
 use Rattle.nf_filter.specs.Checks.{sound_front, place_or_fault, text_decision, HasChecked}
 use Rattle.nf_filter.specs.Measures.{unusable_decision, HasMeasured}
 
--- sound text without a place
-pub sound_front-all : (p : Properties) (x : List ℕ) → list_all (is_sound p) x ≡ true → sound_front p x ≡ x
-sound_front-all p [] all = refl
-sound_front-all p (c ∷ x) all =
-    let parts = and_parts (is_sound p c) (list_all (is_sound p) x) all in
-    take_while-cons (is_sound p) c x ∙ cond-true _ _ _ parts.0 ∙ ap (λ l. c ∷ l) (sound_front-all p x parts.1)
+pub take_while-all : (test : ℕ → Bool) (x : List ℕ) → list_all test x ≡ true → take_while test x ≡ x
+take_while-all test [] all = refl
+take_while-all test (c ∷ x) all =
+    let parts = and_parts (test c) (list_all test x) all in
+    take_while-cons test c x ∙ cond-true _ _ _ parts.0 ∙ ap (λ l. c ∷ l) (take_while-all test x parts.1)
 
+-- sound text without a place
 pub no_stop : (p : Properties) (base : ℕ) (x : List ℕ) → list_all (is_sound p) x ≡ true → place_from base p x ≡ None → text_decision p base x ≡ None
 unfolding text_decision
 no_stop p base x all none =
     ap (λ b. place_or_fault (place_from base p (sound_front p x)) (if b then None else Some (Row (base + length (encode_utf8_all (sound_front p x)))))) all
-    ∙ ap (λ y. place_or_fault (place_from base p y) None) (sound_front-all p x all) ∙ ap (λ o. place_or_fault o None) none
+    ∙ ap (λ y. place_or_fault (place_from base p y) None) (take_while-all (is_sound p) x all) ∙ ap (λ o. place_or_fault o None) none
 
 pub checked_undecided : (p : Properties) (checker : Checker) (base : ℕ) (x : List ℕ) → HasChecked p checker base x → text_decision p base x ≡ None
 checked_undecided p checker base x seen = no_stop p base x seen.sound (sym seen.stands.place ∙ seen.none)

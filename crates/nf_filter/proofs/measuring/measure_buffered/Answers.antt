@@ -1,9 +1,9 @@
-use Rattle.nf_filter.proofs.Common.{◌≡◌, [], Ok, Err, Some, None, refl, ap, arith, option_map, Option, Fault, measure_decision, text_measure}
+use Rattle.nf_filter.proofs.Common.{◌≡◌, [], Ok, Err, Some, None, refl, sym, ap, arith, option_map, Option, Fault, measure_decision, text_measure}
 use Rattle.nf_safe.specs.declared.measure.Measure.{Measure}
 use Rattle.nf_filter.specs.Laws.Undecided.{measured_undecided}
 use Rattle.nf_filter.proofs.ReadingLemmas.{holds_nothing, HasSurveyed-none}
 use Rattle.nf_filter.proofs.SurveysLemmas.{all_read}
-use Rattle.nf_filter.proofs.MeasuresLemmas.{decides}
+use Rattle.nf_filter.proofs.FilterLemmas.{decided_in-fault}
 use Rattle.nf_filter.proofs.measuring.measure_buffered.Goals as goal
 
 pub survey-requires-clause-ready : goal.survey-requires-clause-ready
@@ -18,7 +18,7 @@ returns-clause-surveys g c =
     let base = c.args.base in
     let seen = c.new-2.ensures p in
     c.survey.ensures.surveys (record { base = base; decision = measure_decision p base; value = text_measure p })
-    (HasSurveyed-none c.new.ensures.offset c.new.ensures.decoder seen (measured_undecided p c.new-2.result base [] seen) (decides p base) (λ bytes. refl))
+    (HasSurveyed-none c.new.ensures.offset c.new.ensures.decoder seen (measured_undecided p c.new-2.result base [] seen) (λ bytes. sym (decided_in-fault p base bytes)) (λ bytes. refl))
 
 pub returns-clause-end : goal.returns-clause-end
 returns-clause-end g c = all_read c.survey.result (returns-clause-surveys g c) (λ measure is bytes. no_answer _)

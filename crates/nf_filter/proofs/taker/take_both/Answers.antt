@@ -1,7 +1,7 @@
 use Rattle.nf_filter.proofs.Common.{◌≡◌, ℕ, ◌+◌, List, [], ◌++◌, length, Option, Some, rules, sym, ap, ◌∙◌, subst, arith, IsUtf8, encode_utf8, encode_utf8_all, length-append, chars, first_text, TakesText}
 use Rattle.nf_filter.proofs.CharsLemmas.{place_at}
-use Rattle.nf_filter.proofs.TakingLemmas.{chars_of_one}
-use Rattle.nf_filter.proofs.TakerLemmas.{front-joined, decides-within}
+use Rattle.nf_filter.proofs.TakingLemmas.{chars_of_one, front-joined}
+use Rattle.nf_filter.proofs.TakerLemmas.{decides-within}
 use Rattle.nf_filter.proofs.taker.take_both.Goals as goal
 
 -- the first character, encoded, and the text behind it
@@ -12,7 +12,7 @@ pub returns-in-Some-take_text-clause-takes : goal.returns-in-Some-take_text-clau
 returns-in-Some-take_text-clause-takes g c = λ base x before here.
     let text = chars c.args.text.now in
     let bytes = c.encode_utf8.result.now in
-    decides-within x (first_text c.args.first ++ text) (chars bytes) text (both c.args.first c.in-Some.c bytes text c.in-Some.is (search rules) c.encode_utf8.ensures.value) (g.T.Taker.decides (g.R.Rows.properties c.args.rows.now) base) c.in-Some-take_text.answer
+    decides-within (g.T.Taker.decides (g.R.Rows.properties c.args.rows.now) base) c.in-Some-take_text.answer x (first_text c.args.first ++ text) (chars bytes) text (both c.args.first c.in-Some.c bytes text c.in-Some.is (search rules) c.encode_utf8.ensures.value)
     (c.in-Some-take_text.ensures.takes base x before here)
 
 pub returns-clause-takes : goal.returns-clause-takes

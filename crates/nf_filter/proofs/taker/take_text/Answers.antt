@@ -29,7 +29,7 @@ returns-in-Err-clause-takes g c = λ base x before here.
     let so_far = c.loop-rest.invariant.taken base x before here in
     let len = front_len c.args.text.now so_far.front c.loop-rest.rest.now c.utf8.text c.loop-rest.invariant.utf8 so_far.is_front in
     let place = place_at (c.args.at + (length c.args.text.now - length c.loop-rest.rest.now)) c.args.at base x so_far.front (omega (arith, len)) here in
-    decides-behind x (chars c.args.text.now) so_far.front (chars c.loop-rest.rest.now) so_far.is_front (g.T.Taker.decides (g.R.Rows.properties c.args.rows.now) base) c.in-Err.answer (c.in-Err.ensures.takes base (x ++ so_far.front) so_far.taken place)
+    decides-behind (g.T.Taker.decides (g.R.Rows.properties c.args.rows.now) base) c.in-Err.answer x (chars c.args.text.now) so_far.front (chars c.loop-rest.rest.now) so_far.is_front (c.in-Err.ensures.takes base (x ++ so_far.front) so_far.taken place)
 
 pub returns-clause-takes : goal.returns-clause-takes
 returns-clause-takes g c = λ base x before here.

@@ -1,5 +1,5 @@
 use Rattle.nf_filter.proofs.Common.{◌≡◌, [], ◌∷◌, ◌++◌, append_assoc, length-append, encode_utf8_all, length, rules, refl, sym, ap, subst, arith, ◌∙◌, chars, Err, encodes-append, block_state, TakesOn}
-use Rattle.nf_filter.proofs.TakingLemmas.{front_len, front-behind, front-more, placed-behind}
+use Rattle.nf_filter.proofs.TakingLemmas.{front_len, front-joined, front-more, placed-behind}
 use Rattle.nf_filter.proofs.SteppingLemmas.{StandsInFront-none, StandsInFront-more, TakesOn-whole, first-left}
 use Rattle.nf_filter.proofs.counted.Counted.take_text.Goals as goal
 
@@ -47,7 +47,7 @@ returns-in-Err-clause-takes g c = λ f place x start counted standing here.
     let p = g.R.Rows.properties c.args.rows.now in
     let before = c.loop-rest.invariant.stands f place x start standing here in
     let len = front_len c.args.text.now before.front c.loop-rest.rest.now c.utf8.text c.loop-rest.invariant.utf8 before.is_front in
-    subst (λ y. TakesOn f p c.step.new.self start (block_state (g.S.Sink.state c.step.new.sink) c.step.new.block) place y (Err c.in-Err.fault)) (front-behind c.args.text.now before.front c.loop-rest.rest.now before.is_front x)
+    subst (λ y. TakesOn f p c.step.new.self start (block_state (g.S.Sink.state c.step.new.sink) c.step.new.block) place y (Err c.in-Err.fault)) (front-joined x (chars c.args.text.now) before.front (chars c.loop-rest.rest.now) before.is_front)
     (c.in-Err.ensures.steps f place (x ++ before.front) start before.standing (placed-behind place c.args.at x (chars c.args.text.now) before.front (chars c.loop-rest.rest.now) _ before.is_front (omega (arith, len, c.loop-rest.invariant.left)) here))
 
 pub returns-clause-takes : goal.returns-clause-takes

@@ -1,10 +1,10 @@
-use Rattle.nf_filter.proofs.Common.{◌≡◌, ◌+◌, ◌-◌, [], ◌∷◌, ◌++◌, ℕ, List, length, Err, refl, sym, ap, ◌∙◌, arith, encode_utf8, encode_utf8_all, chars, chars_rest, chars_past_char, option_map, HasMeasured, HasTakenFront, unusable_decision}
+use Rattle.nf_filter.proofs.Common.{◌≡◌, ◌+◌, ◌-◌, ◌++◌, ℕ, List, length, Err, sym, ap, ◌∙◌, arith, encode_utf8, encode_utf8_all, chars_rest, chars_past_char, option_map, HasMeasured, HasTakenFront, unusable_decision}
 use Rattle.nf_forms.specs.Properties.{Properties}
 use Rattle.nf_safe.specs.declared.measurer.Measurer.{Measurer}
 use Rattle.nf_safe.specs.Measurer.{HasSeen}
 use Rattle.nf_filter.proofs.CharsLemmas.{place_at}
 use Rattle.nf_filter.proofs.TakingLemmas.{front_len}
-use Rattle.nf_filter.proofs.TakerLemmas.{takes-char, decides-behind, decides-within}
+use Rattle.nf_filter.proofs.TakerLemmas.{takes-char, decides-char}
 use Rattle.nf_filter.proofs.MeasuresLemmas.{refusal_at}
 use Rattle.nf_filter.proofs.measuring.MeasurerTaker.take_front.Goals as goal
 
@@ -31,12 +31,10 @@ returns-in-Err-clause-takes g c = λ base x before here.
     let rest = c.see_counted-rest.result.now in
     let known = counted p c.see_counted-rest.new.self base x text rest (c.see_counted-rest.ensures.sees x before) in
     let d = c.in-Some.c in
-    let more = chars_rest c.next.new.self in
     let seen = x ++ known.front in
-    let is = chars_past_char rest more d c.see_counted-rest.utf8 (sym c.chars-chars.ensures.rest ∙ c.in-Some.ensures.steps.0) in
+    let is = chars_past_char rest (chars_rest c.next.new.self) d c.see_counted-rest.utf8 (sym c.chars-chars.ensures.rest ∙ c.in-Some.ensures.steps.0) in
     let at = c.args.at + (length text - length rest) in
     let len = front_len text known.front rest c.utf8.text c.see_counted-rest.utf8 known.is_front in
     let place : at ≡ base + length (encode_utf8_all seen) = place_at at c.args.at base x known.front (omega (arith, len)) here in
-    decides-behind x (chars text) known.front (chars rest) known.is_front (unusable_decision p base) _
-    (decides-within seen (chars rest) (d ∷ []) (chars more) is (unusable_decision p base) _
-    (λ y. ap (option_map Err) (refusal_at p base at seen d y known.taken.sound place (Err c.in-Err.field-0) refl (c.in-Err.ensures.refuses seen known.taken))))
+    decides-char (unusable_decision p base) _ x text known.front rest _ d known.is_front is
+    (λ more. ap (option_map Err) (refusal_at p base at seen d more c.in-Err.field-0 known.taken.sound place (c.in-Err.ensures.refuses seen known.taken)))
