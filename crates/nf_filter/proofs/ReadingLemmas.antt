@@ -1,5 +1,5 @@
 -- A piece more.
-use Rattle.nf_filter.proofs.Common.{ap₂, ◌≡◌, ℕ, ◌+◌, ◌-◌, ◌≤◌, ◌==◌, List, [], ◌++◌, length, Some, None, refl, ap, ◌∙◌, arith, eq-eqb, subst, Option, Result, if◌then◌else◌, chars, take_all, length-drop, append_assoc, result_map_both, chars-nil, utf8_valid_len_le, End, EndsWhole, EndsCut, EndsBad, first_bytes, EndsPiece, bytes_behind, Counts, Takes, first_text, Ending, Whole, Bad, Cut, text_len, text_of, rest_of, begun_len, ending_of, DecoderStandsAfter, Fault, BadByte, Reading, bad_byte, answer_at_end, Survey, decided_or, decided_in, HasSurveyed}
+use Rattle.nf_filter.proofs.Common.{ap₂, ◌≡◌, ℕ, ◌+◌, ◌-◌, ◌≤◌, ◌==◌, List, [], ◌++◌, length, Some, None, refl, ap, ◌∙◌, arith, eq-eqb, subst, Option, Result, if◌then◌else◌, chars, take_all, length-drop, result_map_both, chars-nil, utf8_valid_len_le, End, EndsWhole, EndsCut, EndsBad, first_bytes, EndsPiece, bytes_behind, Counts, Takes, first_text, Ending, Whole, Bad, Cut, text_len, text_of, rest_of, begun_len, ending_of, DecoderStandsAfter, Fault, BadByte, Reading, bad_byte, answer_at_end, Survey, decided_or, decided_in, HasSurveyed}
 use Rattle.nf_utf8.specs.declared.decoder.Decoder.{Decoder}
 
 -- no bytes spell nothing
@@ -61,15 +61,9 @@ pub ready_after : (ends_at : ℕ → Type 0) (offset carried first text left hel
     → ends_at (offset - carried + first + text) → (left ≤ end) × ends_at (end - left)
 ready_after ends_at offset carried first text left held piece end is counted within all ends = (omega arith, subst ends_at (omega arith) ends)
 
-module _ {bytes piece : List ℕ} {first : Option ℕ} {text : List ℕ} {end : End} (took : Takes bytes piece first text end) where
-  abbrev pub more : List ℕ
-  more = first_text first ++ chars text
-
-  pub text_is : text_of (bytes ++ piece) ≡ text_of bytes ++ more
-  text_is = took.spelled ∙ append_assoc (text_of bytes) (first_text first) (chars text)
-
-  -- what all the bytes decide then
-  pub decided_then : {T : Type 0} {stands : List ℕ → Type 0} {decides : List ℕ → Option (Result T Fault)} {value : List ℕ → T} {survey : Survey T} {reading : Reading}
-      → HasSurveyed stands decides value survey reading bytes → (o : Option (Result T Fault)) → decides (text_of bytes ++ more) ≡ o → survey.decision (bytes ++ piece) ≡ decided_or o (bad_byte survey.base (ending_of (bytes ++ piece)))
-  decided_then {decides = decides} {survey = survey} before o is =
-      before.decides (bytes ++ piece) ∙ ap (λ o. decided_or o (bad_byte survey.base (ending_of (bytes ++ piece)))) (ap decides text_is ∙ is)
+-- what all the bytes decide with a piece
+pub decided_then : {bytes piece : List ℕ} {first : Option ℕ} {text : List ℕ} {end : End} → Takes bytes piece first text end
+    → {T : Type 0} {stands : List ℕ → Type 0} {decides : List ℕ → Option (Result T Fault)} {value : List ℕ → T} {survey : Survey T} {reading : Reading} → HasSurveyed stands decides value survey reading bytes
+    → (o : Option (Result T Fault)) → decides ((text_of bytes ++ first_text first) ++ chars text) ≡ o → survey.decision (bytes ++ piece) ≡ decided_or o (bad_byte survey.base (ending_of (bytes ++ piece)))
+decided_then {bytes = bytes} {piece = piece} took {decides = decides} {survey = survey} before o is =
+    before.decides (bytes ++ piece) ∙ ap (λ o. decided_or o (bad_byte survey.base (ending_of (bytes ++ piece)))) (ap decides took.spelled ∙ is)

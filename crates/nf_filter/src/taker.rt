@@ -1,7 +1,6 @@
 //! What sees the text that is read.
 ghost use Rattle.std.specs.Prelude.{◌≡◌, ◌+◌, ◌-◌, ◌<◌, ◌≤◌, ℕ, List, [], ◌∷◌, Option, None, Result, ◌++◌, length, chars, IfOk, IfErr, IfSome, IsNone, encode_utf8_all};
 ghost use Rattle.nf_forms.specs.Properties.{Properties};
-ghost use Rattle.nf_utf8.specs.Taking.{first_text, first_bytes};
 ghost use Rattle.nf_filter.specs.declared.fault.Fault.{Fault};
 ghost use Rattle.nf_filter.specs.Kinds.{row, IsAmong};
 ghost use Rattle.nf_filter.specs.Taker.{TakesText, TakesFront};
@@ -76,30 +75,4 @@ pub fn take_text<R: Rows, T: Taker>(
         }
     }
     None
-}
-
-/// The same with the first character before it, where there is one: at the offset `at` the text begins with it.
-pub fn take_both<R: Rows, T: Taker>(
-    taker: &mut T,
-    rows: &R,
-    at: u64,
-    first: Option<char>,
-    text: &str,
-) -> Option<Result<T::Answer, Fault>>
-    requires ready { T.ends_at taker.old at }
-    requires fits { at + length (first_bytes first) + length text.now ≤ u64.MAX }
-    ensures ready { IsNone result → T.ends_at taker.new (at + length (first_bytes first) + length text.now) }
-    ensures unsound { IfSome result (λ answer. IfErr answer (IsAmong (row ∷ []))) }
-    ensures takes { let p = R.properties rows.now in
-        (base : ℕ) (x : List ℕ) → T.has_taken p taker.old base x → at ≡ base + length (encode_utf8_all x)
-        → TakesText (T.has_taken p taker.new base) (T.decides p base) (x ++ (first_text first ++ chars text.now)) result }
-{
-    let Some(c) = first else {
-        return take_text(taker, rows, at, text);
-    };
-    let mut bytes = [0; 4];
-    if let Some(answer) = take_text(taker, rows, at, c.encode_utf8(&mut bytes)) {
-        return Some(answer);
-    }
-    take_text(taker, rows, at + c.len_utf8() as u64, text)
 }

@@ -1,11 +1,13 @@
 //! The text of bytes, for what takes it.
+ghost use Rattle.std.specs.Prelude.{◌≡◌, length, chars};
+ghost use Rattle.nf_utf8.specs.Taking.{first_text, first_bytes};
 ghost use Rattle.nf_filter.specs.Surveys.{IsOfSurvey};
 ghost use Rattle.nf_filter.specs.Taker.{IsReady, HasSurveyed};
 
 use crate::fault::Fault;
 use crate::reading::Reading;
 use crate::surveyor::Surveyor;
-use crate::taker::{Taker, take_both};
+use crate::taker::{Taker, take_text};
 use nf_row::Rows;
 use nf_utf8::{End, laws};
 
@@ -41,7 +43,13 @@ impl<R: Rows, T: Taker> Surveyor for TextReader<'_, R, T> {
         laws::split();
         let at = reading.offset - reading.decoder.carried() as u64;
         let chunk = reading.decoder.take(piece);
-        if let Some(answer) = take_both(taker, *rows, at, chunk.first, chunk.text) {
+        let mut room = [0; 4];
+        let first = encoded(chunk.first, &mut room);
+        if let Some(answer) = take_text(taker, *rows, at, first) {
+            return Some(answer);
+        }
+        let behind = at + first.len() as u64;
+        if let Some(answer) = take_text(taker, *rows, behind, chunk.text) {
             return Some(answer);
         }
         let piece_end = chunk.end;
@@ -66,4 +74,15 @@ impl<R: Rows, T: Taker> Surveyor for TextReader<'_, R, T> {
     ghost reads = { tt };
 
     ghost stands = { λ reader survey bytes taken. (taken.undecided, taken.offset) };
+}
+
+/// The first character of a piece, as a text, where there is one.
+fn encoded(first: Option<char>, room: &mut [u8; 4]) -> &str
+    ensures text { chars result.now ≡ first_text first }
+    ensures len { length result.now ≡ length (first_bytes first) }
+{
+    match first {
+        Some(c) => c.encode_utf8(room),
+        None => "",
+    }
 }

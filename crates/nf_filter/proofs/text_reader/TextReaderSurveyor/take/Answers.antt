@@ -1,39 +1,54 @@
-use Rattle.nf_filter.proofs.Common.{◌++◌, [], length, None, Some, Err, refl, sym, ap, ◌∙◌, subst, arith, append-nil, length-append, option_map, text_of, first_bytes, EndsPiece}
-use Rattle.nf_filter.proofs.ReadingLemmas.{ends_well, ends_badly, all_behind, all_counted, ready_after, text_is, more, decided_then}
+use Rattle.nf_filter.proofs.Common.{◌≡◌, ℕ, ◌+◌, ◌-◌, List, ◌++◌, [], length, rules, IsUtf8, chars, encode_utf8_all, encodes-chars, None, Some, Err, refl, sym, ap, ◌∙◌, subst, arith, append-nil, length-append, option_map, text_of, first_bytes, EndsPiece}
+use Rattle.nf_filter.proofs.CharsLemmas.{place_at}
+use Rattle.nf_filter.proofs.ReadingLemmas.{ends_well, ends_badly, all_behind, all_counted, ready_after, decided_then}
 use Rattle.nf_filter.proofs.text_reader.TextReaderSurveyor.take.Goals as goal
 
-pub returns-in-Some-take_both-clause-decides : goal.returns-in-Some-take_both-clause-decides
-returns-in-Some-take_both-clause-decides g c = λ survey bytes before short.
+-- where the text behind the first character begins
+begins : (at base : ℕ) (x first : List ℕ) → IsUtf8 first → at ≡ base + length (encode_utf8_all x) → at + length first ≡ base + length (encode_utf8_all (x ++ chars first))
+begins at base x first utf8 here = place_at (at + length first) at base x (chars first) (ap (λ l. at + length l) (sym (encodes-chars first utf8))) here
+
+pub returns-in-Some-take_text-clause-decides : goal.returns-in-Some-take_text-clause-decides
+returns-in-Some-take_text-clause-decides g c = λ survey bytes before short.
     let took = c.take-chunk.ensures.takes bytes before.decoder in
-    let decided = c.in-Some-take_both.ensures.takes survey.base (text_of bytes) before.taken (omega (arith, before.offset, c.carried.ensures.behind bytes before.decoder)) in
-    (sym (decided_then took before (Some c.in-Some-take_both.answer) (ap (g.T.Taker.decides _ survey.base) (sym (append-nil (text_of bytes ++ more took))) ∙ decided [])), λ none. cc)
+    let decided = c.in-Some-take_text.ensures.takes survey.base (text_of bytes) before.taken (omega (arith, before.offset, c.carried.ensures.behind bytes before.decoder)) in
+    (sym (decided_then took before (Some c.in-Some-take_text.answer) (rw (sym c.encoded-first.ensures.text) (decided (chars c.take-chunk.result.text.now)))), λ none. cc)
+
+pub returns-in-Some-take_text-2-clause-decides : goal.returns-in-Some-take_text-2-clause-decides
+returns-in-Some-take_text-2-clause-decides g c = λ survey bytes before short.
+    let took = c.take-chunk.ensures.takes bytes before.decoder in
+    let here : c.args.self.now.reading.offset - c.carried.result ≡ survey.base + length (encode_utf8_all (text_of bytes)) = omega (arith, before.offset, c.carried.ensures.behind bytes before.decoder) in
+    let taken = c.in_default-take_text.ensures.takes survey.base (text_of bytes) before.taken here in
+    let decided = c.in-Some-take_text-2.ensures.takes survey.base _ taken (begins _ survey.base (text_of bytes) c.encoded-first.result.now (search rules) here) in
+    (sym (decided_then took before (Some c.in-Some-take_text-2.answer) (rw (sym c.encoded-first.ensures.text) (ap (g.T.Taker.decides _ survey.base) (sym (append-nil _)) ∙ decided []))), λ none. cc)
 
 pub returns-in-Bad-clause-decides : goal.returns-in-Bad-clause-decides
 returns-in-Bad-clause-decides g c = λ survey bytes before short.
     let took = c.take-chunk.ensures.takes bytes before.decoder in
-    let taken = c.in_default-take_both.ensures.takes survey.base (text_of bytes) before.taken (omega (arith, before.offset, c.carried.ensures.behind bytes before.decoder)) in
+    let here : c.args.self.now.reading.offset - c.carried.result ≡ survey.base + length (encode_utf8_all (text_of bytes)) = omega (arith, before.offset, c.carried.ensures.behind bytes before.decoder) in
+    let taken = c.in_default-take_text-2.ensures.takes survey.base _ (c.in_default-take_text.ensures.takes survey.base (text_of bytes) before.taken here) (begins _ survey.base (text_of bytes) c.encoded-first.result.now (search rules) here) in
     let bad = ends_badly bytes c.args.piece.now survey.base c.args.self.now.reading.offset c.in-Bad.at c.in-Bad.back before.offset (subst (EndsPiece bytes c.args.piece.now) c.in-Bad.is took.ends) in
-    (sym (decided_then took before None (g.met.T.Taker.undecided _ _ survey.base _ taken) ∙ ap (option_map Err) bad), λ none. cc)
+    (sym (decided_then took before None (rw (sym c.encoded-first.ensures.text) (g.met.T.Taker.undecided _ _ survey.base _ taken)) ∙ ap (option_map Err) bad), λ none. cc)
 
 pub returns : goal.returns
 returns g c =
     let counts = all_counted c.args.self.now.reading.decoder c.args.piece.now c.take-chunk.result.first c.take-chunk.result.text.now c.take-chunk.result.end c.take-chunk.new.self c.in_default-piece_end.not-Bad c.take-chunk.ensures.counts in
-    let after = ready_after (g.T.Taker.ends_at c.take_both.new.taker) c.args.self.now.reading.offset c.carried.result (length (first_bytes c.take-chunk.result.first)) (length c.take-chunk.result.text.now) (length c.take-chunk.new.self) (length c.args.self.now.reading.decoder) (length c.args.piece.now) c.in-Some.end
-    c.carried.ensures.count counts c.requires.held (omega arith) (c.in_default-take_both.ensures.ready refl) in
+    let after = ready_after (g.T.Taker.ends_at c.take_text-2.new.taker) c.args.self.now.reading.offset c.carried.result (length (first_bytes c.take-chunk.result.first)) (length c.take-chunk.result.text.now) (length c.take-chunk.new.self) (length c.args.self.now.reading.decoder) (length c.args.piece.now) c.in-Some.end
+    c.carried.ensures.count counts c.requires.held (omega (arith, c.in-Some.ensures)) (rw (sym c.encoded-first.ensures.len) (c.in_default-take_text-2.ensures.ready refl)) in
     record {
       too_long = (λ e. cc, λ over. absurd (omega (arith, over)));
-      goes_on = λ _. (record { held = after.0; end = after.1 }, omega arith);
+      goes_on = λ _. (record { held = after.0; end = after.1 }, omega (arith, c.in-Some.ensures));
       faults = tt;
       decides = λ survey bytes before short.
           let took = c.take-chunk.ensures.takes bytes before.decoder in
-          let taken = c.in_default-take_both.ensures.takes survey.base (text_of bytes) before.taken (omega (arith, before.offset, c.carried.ensures.behind bytes before.decoder)) in
+          let here : c.args.self.now.reading.offset - c.carried.result ≡ survey.base + length (encode_utf8_all (text_of bytes)) = omega (arith, before.offset, c.carried.ensures.behind bytes before.decoder) in
+          let taken = rw c.encoded-first.ensures.text at (c.in_default-take_text-2.ensures.takes survey.base _ (c.in_default-take_text.ensures.takes survey.base (text_of bytes) before.taken here) (begins _ survey.base (text_of bytes) c.encoded-first.result.now (search rules) here)) in
           let undecided = decided_then took before None (g.met.T.Taker.undecided _ _ survey.base _ taken)
           ∙ ap (option_map Err) (ends_well bytes c.args.piece.now c.take-chunk.result.end survey.base c.in_default-piece_end.not-Bad took.ends) in (
             sym undecided,
             λ _. record {
-              offset = omega (arith, before.offset, length-append bytes c.args.piece.now);
+              offset = omega (arith, c.in-Some.ensures, before.offset, length-append bytes c.args.piece.now);
               decoder = rw (all_behind bytes c.args.piece.now c.take-chunk.result.end c.in_default-piece_end.not-Bad) at (c.take-chunk.ensures.stands bytes before.decoder);
-              taken = rw (text_is took) taken;
+              taken = rw took.spelled taken;
               decides = before.decides;
               worth = before.worth;
               undecided = undecided;
