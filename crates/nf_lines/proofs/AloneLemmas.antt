@@ -1,5 +1,5 @@
 -- Lines, and what stands behind them.
-use Rattle.nf_lines.proofs.Common.{Result, Ok, Err, eqb-true, ◌≡◌, ℕ, ◌+◌, ◌==◌, Bool, true, false, List, [], ◌∷◌, ◌++◌, length, Option, Some, None, inl, inr, ⊎_elim, encode_utf8_all, refl, sym, ap, subst, ◌∙◌, arith, append_assoc, append-nil, length-append, if◌then◌else◌, result_err, cases_Bool, encodes-append, Properties, Form, Nfc, Nfd, Nfkc, Nfkd, Ending, Whole, Bad, Cut, text_of, ending_of, parts_of, replaced, replaced_whole, line_feed, Fault, Unassigned, Policy, Tally, text_under-none, answer_at_end, bad_byte, bad_under, first_fault, fault_in, IsLeft, answer_or, end_under, end_of, final_utf8, tally_of, allowed, len_under, text_under, whole_under, settled, settled_utf8, left-text, EndsInLineFeed, end_fault, SameOrLineFeed, StandAlone}
+use Rattle.nf_lines.proofs.Common.{Result, Ok, Err, ◌≡◌, ℕ, ◌+◌, ◌==◌, Bool, true, false, List, [], ◌∷◌, ◌++◌, length, Option, Some, None, inl, inr, ⊎_elim, encode_utf8_all, refl, sym, ap, subst, ◌∙◌, arith, append_assoc, append-nil, length-append, if◌then◌else◌, result_err, cases_Bool, encodes-append, Properties, Form, Nfc, Ending, Whole, text_of, ending_of, parts_of, replaced, replaced_whole, line_feed, Fault, Unassigned, Policy, Tally, text_under-none, answer_at_end, bad_under, first_fault, fault_in, IsLeft, answer_or, end_under, end_of, final_utf8, tally_of, allowed, len_under, text_under, whole_under, settled, settled_utf8, left-text, EndsInLineFeed, end_fault, SameOrLineFeed, StandAlone}
 use Rattle.std.specs.Str.{chars}
 use Rattle.std.specs.Str.Lossy.{utf8_valid_len}
 use Rattle.nf_forms.specs.Order.{by_class}
@@ -13,8 +13,7 @@ use Rattle.nf_forms.specs.Laws.Closing.{safe_form-closed}
 use Rattle.nf_forms.specs.Laws.Front.{front-append_some, front-at, front-none}
 use Rattle.nf_forms.specs.Laws.Parting.{safe_form-push}
 use Rattle.nf_filter.specs.Laws.Soundness.{AreSound}
-use Rattle.nf_filter.proofs.PolicyLemmas.{allowed-append, allowed-grows, allowed-none, first_fault-none, taken as is_taken-from}
-use Rattle.std.proofs.lemmas.Bool.{and_parts}
+use Rattle.nf_filter.proofs.PolicyLemmas.{allowed-append, allowed-none, first_fault-none, taken_whole, taken as is_taken-from}
 use Rattle.nf_filter.specs.Settled.{is_usable}
 use Rattle.nf_filter.proofs.AgainLemmas.{final-whole}
 use Rattle.nf_filter.proofs.PieceLemmas.{left-whole}
@@ -22,7 +21,7 @@ use Rattle.nf_filter.proofs.ReadingLemmas.{ending_of-none}
 use Rattle.nf_normalizer.specs.Laws.Settled.{usable-all, is_usable-none}
 use Rattle.nf_filter.proofs.SoundnessLemmas.{all_sound, usable_is, first_fault-assigned}
 use Rattle.nf_lines.proofs.WholeParts.{Reading, eqb_past, line_encodes}
-use Rattle.nf_lines.proofs.WholeLines.{ReadsLines, strict_lines, replaced_lines}
+use Rattle.nf_lines.proofs.WholeLines.{ReadsLines, reads_lines}
 
 -- the fault at the end, where a character that it cuts is one
 strict_end : (base : ℕ) (tally : Tally) (e : Ending) → result_err (answer_at_end base tally e) ≡ result_err (answer_at_end base (tt {0}) e)
@@ -74,8 +73,7 @@ module _ (p : Properties) (sound : AreSound p) where
   -- without a fault all was taken
   taken_all : (a : Bool) (place : List ℕ → ℕ) (x : List ℕ) (other : Option Fault) → first_fault a p place x other ≡ None → (allowed a p x ≡ x) × (other ≡ None)
   taken_all a place x other none =
-      let all_taken = and_parts (is_usable p (allowed a p x)) (length (allowed a p x) == length x) (is_taken-from p a place x other none) in
-      let all = ⊎_elim (λ all. all) (λ less. absurd (omega (arith, less.0, eqb-true _ _ all_taken.1))) (allowed-grows p a x []) in
+      let all = (taken_whole p a x (is_taken-from p a place x other none)).1 in
       (all, sym (first_fault-none p a place x other (usable_is p sound x) all) ∙ none)
 
   -- behind a text that is taken the fault is that of the rest
@@ -184,14 +182,11 @@ module _ (p : Properties) (sound : AreSound p) where
       alone = record { whole = alone_whole; fault = alone_fault; end = end_behind rest; final = alone_final; settled = alone_settled }
 
   -- lines without a fault leave nothing
-  reads_lines : Reading → (policy : Policy) (base : ℕ) (lines : List ℕ) → EndsInLineFeed lines → fault_in policy p base lines ≡ None → ReadsLines policy.replace lines
+  reads : Reading → (policy : Policy) (base : ℕ) (lines : List ℕ) → EndsInLineFeed lines → fault_in policy p base lines ≡ None → ReadsLines policy.replace lines
   unfolding fault_in
-  reads_lines laws policy base lines is none = by policy.replace (taken_all policy.assigned (λ front. base + len_under policy.replace lines front) (text_under policy.replace lines) (bad_under policy.replace base lines) none).1
-    where
-      by : (r : Bool) → bad_under r base lines ≡ None → ReadsLines r lines
-      by true good = replaced_lines laws lines is
-      by false good = strict_lines laws lines is (λ at start bad. (let e : bad_byte base (Bad at start) ≡ None = sym (ap (bad_byte base) bad) ∙ good in cc))
+  reads laws policy base lines is none =
+      reads_lines laws base policy.replace lines is (taken_all policy.assigned (λ front. base + len_under policy.replace lines front) (text_under policy.replace lines) (bad_under policy.replace base lines) none).1
 
   pub lines_alone : Reading → (f : Form) → IsParting p f line_feed → IsClosing p f line_feed → (policy : Policy) (base : ℕ) (lines rest : List ℕ) → EndsInLineFeed lines
       → fault_in policy p base lines ≡ None → StandAlone policy f p base lines rest
-  lines_alone laws f parting closing policy base lines rest is none = alone f parting closing policy base lines rest (reads_lines laws policy base lines is none) none
+  lines_alone laws f parting closing policy base lines rest is none = alone f parting closing policy base lines rest (reads laws policy base lines is none) none

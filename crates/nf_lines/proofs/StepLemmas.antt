@@ -1,6 +1,5 @@
 -- A piece more.
-use Rattle.nf_lines.proofs.Common.{fed_by, refused_by, ◌≡◌, ℕ, ◌+◌, ◌≤◌, ◌^◌, List, [], ◌∷◌, ◌++◌, length, Some, None, Result, Ok, Err, ◌⊎◌, inl, inr, ⊎_elim, refl, sym, ap, subst, ◌∙◌, arith, append_assoc, append-nil, length-append, IfErr, OnOk, result_err, Properties, Form, line_feed, Fault, Spent, TooLong, Read, Write, Row, BadByte, Unassigned, State, Policy, Tally, SinkState, settled_utf8-none, settled_utf8, IsOfFeeding, fault_in, base_of, offset_of, StandsAfter, end_of, final_utf8, Finishes, StandsAfter-no_fault, StandsAfter-offset, write_or_not, Puts-join, Puts-at, BreaksOff-join, BreaksOff-at, EndsInLineFeed, AreLines, HasNoLineFeed, end_fault, SameOrLineFeed, StandAlone, Lines, bytes_of, lines_utf8, HasLines, FeedsLines}
-use Rattle.nf_filter.specs.declared.fault.Fault.TheVariants.{Cut}
+use Rattle.nf_lines.proofs.Common.{fed_by, refused_by, ◌≡◌, ℕ, ◌+◌, ◌≤◌, ◌^◌, List, [], ◌∷◌, ◌++◌, length, Some, None, Result, Ok, Err, ◌⊎◌, inl, inr, ⊎_elim, refl, sym, ap, subst, ◌∙◌, arith, append_assoc, append-nil, length-append, IfErr, OnOk, result_err, Properties, Form, line_feed, Fault, TooLong, Read, Write, State, Policy, Tally, SinkState, settled_utf8-none, settled_utf8, IsOfFeeding, fault_in, base_of, offset_of, StandsAfter, end_of, final_utf8, Finishes, StandsAfter-no_fault, StandsAfter-offset, write_or_not, Puts-join, Puts-at, BreaksOff-join, BreaksOff-at, EndsInLineFeed, AreLines, HasNoLineFeed, end_fault, SameOrLineFeed, StandAlone, Lines, bytes_of, lines_utf8, HasLines, FeedsLines}
 use Rattle.nf_filter.specs.Writes.{Puts, BreaksOff}
 use Rattle.nf_filter.specs.Feeds.{Feeds}
 use Rattle.nf_lines.proofs.AloneLemmas.{final-none}

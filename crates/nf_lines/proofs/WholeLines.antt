@@ -1,83 +1,74 @@
 -- Of whole lines nothing is left to be read.
-use Rattle.nf_lines.proofs.Common.{◌≡◌, ℕ, zero, suc, ◌+◌, ◌<◌, ◌≤◌, ◌==◌, Bool, true, false, List, [], ◌∷◌, ◌++◌, length, take, drop, encode_utf8_all, refl, sym, ap, subst, ◌∙◌, arith, append_assoc, length-append, length-drop, take_at, take_all, if◌then◌else◌, drop-append-le, encodes-append, scalars-append, IsText, BeginsText, Ending, Whole, Bad, Cut, text_of, ending_of, replacement, part_end, line_feed, IsLeft, IsLeft-all, IsLeft-behind, IsLeft-join, EndsInLineFeed}
-use Rattle.nf_lines.proofs.WholeParts.{Reading, front_utf8, line_utf8, line_encodes, text_left, end_is, is_broken, IsBroken, text_begins}
+use Rattle.nf_lines.proofs.Common.{◌≡◌, ℕ, ◌+◌, ◌≤◌, Bool, true, false, None, List, [], ◌∷◌, ◌++◌, length, take, drop, encode_utf8_all, refl, sym, ap, subst, ◌∙◌, arith, append_assoc, append-nil, length-append, take_at, take_all, drop-append-le, encodes-append, scalars-append, BeginsText, Ending, Whole, Bad, Cut, text_of, ending_of, replacement, part_end, line_feed, bad_byte, bad_under, IsLeft, IsLeft-all, IsLeft-behind, IsLeft-join, EndsInLineFeed}
+use Rattle.std.proofs.Common.{subst₂}
+use Rattle.std.proofs.lemmas.Bool.Decides.{nat_tests}
+use Rattle.nf_lines.proofs.WholeParts.{Reading, front_utf8, line_encodes, text_left}
+use Rattle.nf_utf8.specs.Reads.{EndsAs}
+use Rattle.nf_utf8.specs.Reading.{begun_len}
 use Rattle.nf_utf8.proofs.PushesLemmas.{begins_whole, begins_cut}
-use Rattle.nf_utf8.proofs.ReplacedLemmas.{broken_end}
+use Rattle.nf_utf8.proofs.ReadingLemmas.{broken}
+use Rattle.nf_utf8.proofs.ReplacedLemmas.{broken_end, by_parts}
 
 -- they give a text that ends in a line feed, and the rest is read as if it stood alone
 pub record ReadsLines (r : Bool) (lines : List ℕ) : Type 0 where
   pub before : List ℕ
   pub left : IsLeft r lines (before ++ line_feed ∷ []) (length lines) []
 
+begins : (bytes : List ℕ) (e : Ending) → ending_of bytes ≡ e → begun_len bytes ≡ length bytes → BeginsText bytes
+begins bytes Whole e all = begins_whole bytes e
+begins bytes (Cut at start) e all = begins_cut bytes at start e
+begins bytes (Bad at start) e all = absurd (omega (arith, (broken bytes at start e).0, all))
+
 module _ (laws : Reading) where
   lines_begun : (r : Bool) (lines : List ℕ) → EndsInLineFeed lines → BeginsText lines → ReadsLines r lines
   lines_begun r lines is b =
-      let text = front_utf8 is.0 (line_utf8 is.0 (subst BeginsText is.1 b)) in
+      let text = front_utf8 is.0 (subst BeginsText is.1 b) in
       subst (ReadsLines r) (encodes-append text.0 (line_feed ∷ []) ∙ (λ i. text.1.1 i ++ line_encodes i) ∙ sym is.1)
       (record { before = text.0; left = text_left laws (text.0 ++ line_feed ∷ []) (scalars-append text.0 (line_feed ∷ []) text.1.0 refl) r })
 
-  -- where ill-formed bytes are faults, and there are none
-  pub strict_lines : (lines : List ℕ) → EndsInLineFeed lines → ((at start : ℕ) → ¬ (ending_of lines ≡ Bad at start)) → ReadsLines false lines
-  strict_lines lines is good = by (ending_of lines) refl
-    where
-      by : (e : Ending) → ending_of lines ≡ e → ReadsLines false lines
-      by Whole e = lines_begun false lines is (begins_whole lines e)
-      by (Cut at start) e = lines_begun false lines is (begins_cut lines at start e)
-      by (Bad at start) e = absurd (good at start e)
-
   -- a line feed behind a text is no bad byte
-  line_good : (lines : List ℕ) (at start : ℕ) → EndsInLineFeed lines → ending_of lines ≡ Bad at start → start + 1 ≡ length lines → start ≡ length (encode_utf8_all (text_of lines)) → ⊥
-  line_good lines at start is bad last text =
-      let front : List ℕ = is.0 in
-      let t : List ℕ = encode_utf8_all (text_of lines) in
-      let reads = (laws.longest.reads lines).front in
-      let len : length front ≡ start = omega (arith, last, ap length is.1, length-append front (line_feed ∷ [])) in
-      let same : t ≡ front =
-      sym (take_at t reads.spelled.0 start (sym text)) ∙ ap (take start) (sym reads.spelled.1 ∙ is.1) ∙ take_at front (line_feed ∷ []) start len in
-      let scalars : IsText (text_of lines ++ line_feed ∷ []) = scalars-append (text_of lines) (line_feed ∷ []) reads.scalars refl in
-      let spelt : encode_utf8_all (text_of lines ++ line_feed ∷ []) ≡ lines = encodes-append (text_of lines) (line_feed ∷ []) ∙ (λ i. same i ++ line_encodes i) ∙ sym is.1 in
-      let here = (end_is laws lines (Bad at start) bad).0 in
-      here.here (subst BeginsText (spelt ∙ sym (take_all (at + 1) lines (omega (arith, (is_broken laws lines at start bad).order, last)))) (text_begins laws (text_of lines ++ line_feed ∷ []) scalars))
+  line_good : (lines : List ℕ) (at : ℕ) → EndsInLineFeed lines → ending_of lines ≡ Bad at at → ¬ (at + 1 ≡ length lines)
+  line_good lines at is e last =
+      let text : List ℕ = text_of lines in
+      let reads = laws.longest.reads lines in
+      let bad = subst (EndsAs lines text) e reads.end in
+      let len : length is.0 ≡ at = omega (arith, last, ap length is.1, length-append is.0 (line_feed ∷ [])) in
+      let front : encode_utf8_all text ≡ is.0 =
+      sym (take_at (encode_utf8_all text) reads.front.spelled.0 at (sym bad.1)) ∙ ap (take at) (sym reads.front.spelled.1 ∙ is.1) ∙ take_at is.0 (line_feed ∷ []) at len in
+      let whole : encode_utf8_all (text ++ line_feed ∷ []) ≡ take (at + 1) lines ++ [] =
+      encodes-append text (line_feed ∷ []) ∙ (λ i. front i ++ line_encodes i) ∙ sym is.1 ∙ sym (take_all (at + 1) lines (omega (arith, last))) ∙ sym (append-nil (take (at + 1) lines)) in
+      bad.0.here ([], (text ++ line_feed ∷ [], (scalars-append text (line_feed ∷ []) reads.front.scalars refl, whole)))
 
   -- what a bad byte leaves of them ends in the line feed
   lines_after : (lines : List ℕ) (at start : ℕ) → EndsInLineFeed lines → ending_of lines ≡ Bad at start → EndsInLineFeed (drop (part_end at start) lines)
   lines_after lines at start is e =
-      (drop (part_end at start) is.0, ap (drop (part_end at start)) is.1 ∙ drop-append-le (part_end at start) is.0 (line_feed ∷ []) (within (at == start) refl))
+      (drop (part_end at start) is.0, ap (drop (part_end at start)) is.1 ∙ drop-append-le (part_end at start) is.0 (line_feed ∷ []) within)
     where
-      broken : IsBroken laws lines at start
-      broken = is_broken laws lines at start e
+      good : at ≡ start → ¬ (at + 1 ≡ length lines)
+      good same = line_good lines at is (e ∙ ap (λ n. Bad at n) (sym same))
 
-      len : length lines ≡ length is.0 + 1
-      len = omega (arith, ap length is.1, length-append is.0 (line_feed ∷ []))
+      within : part_end at start ≤ length is.0
+      within = let b = broken lines at start e in grind (arith, nat_tests, good, b.0, b.1, ap length is.1, length-append is.0 (line_feed ∷ []))
 
-      within : (b : Bool) → (at == start) ≡ b → (if b then start + 1 else at) ≤ length is.0
-      within true c =
-          let before : ¬ (start + 1 ≡ length lines) = λ last. line_good lines at start is e last broken.text in
-          omega (arith, before, broken.within, broken.order, len)
-      within false c = omega (arith, broken.within, len)
+  module _ (base : ℕ) where
+    -- where they have no bad byte, or those are replaced
+    abbrev AreRead : Bool → List ℕ → Type 0
+    AreRead r lines = EndsInLineFeed lines → bad_under r base lines ≡ None → ReadsLines r lines
 
-  by_length : (k : ℕ) (lines : List ℕ) → length lines < k → EndsInLineFeed lines → ReadsLines true lines
-  by_length zero lines short is = absurd (omega arith)
-  by_length (suc k) lines short is = by (ending_of lines) refl (λ left less. by_length k left (omega (arith, less, short)))
-    where
-      by : (e : Ending) → ending_of lines ≡ e → ((left : List ℕ) → length left < length lines → EndsInLineFeed left → ReadsLines true left) → ReadsLines true lines
-      by Whole e on = lines_begun true lines is (begins_whole lines e)
-      by (Cut at start) e on = lines_begun true lines is (begins_cut lines at start e)
-      by (Bad at start) e on =
-          let broken = is_broken laws lines at start e in
-          let end = broken_end lines at start e in
-          let left : List ℕ = drop (part_end at start) lines in
-          let rest = on left (omega (arith, length-drop (part_end at start) lines, end.0, end.1)) (lines_after lines at start is e) in
-          let one = IsLeft-behind laws.replacing laws.split lines at start e (broken.text ∙ laws.split.len lines) end.1 (omega (arith, end.0)) lines [] 0 (IsLeft-all true lines) in
-          let own : List ℕ = text_of lines ++ replacement ∷ [] in
-          let all = IsLeft-join true lines own (0 + part_end at start) left (rest.before ++ line_feed ∷ []) (length left) [] one rest.left in
-          let len : (0 + part_end at start) + length left ≡ length lines = omega (arith, all.len) in
-          record {
-            before = own ++ rest.before;
-            left = subst (λ x. IsLeft true lines x (length lines) []) (sym (append_assoc own rest.before (line_feed ∷ [])))
-                (subst (λ n. IsLeft true lines (own ++ (rest.before ++ line_feed ∷ [])) n []) len all);
-          }
+    behind_bad : (r : Bool) (lines : List ℕ) (at start : ℕ) → ending_of lines ≡ Bad at start → AreRead r (drop (part_end at start) lines) → AreRead r lines
+    behind_bad false lines at start e on is good = let absurd_is : bad_byte base (Bad at start) ≡ None = sym (ap (bad_byte base) e) ∙ good in cc
+    behind_bad true lines at start e on is good =
+        let end = broken_end lines at start e in
+        let rest = on (lines_after lines at start is e) refl in
+        let one = IsLeft-behind laws.replacing laws.split lines at start e (broken lines at start e).2 end.1 (omega (arith, end.0)) lines [] 0 (IsLeft-all true lines) in
+        let own : List ℕ = text_of lines ++ replacement ∷ [] in
+        let left : List ℕ = drop (part_end at start) lines in
+        let all = IsLeft-join true lines own (0 + part_end at start) left (rest.before ++ line_feed ∷ []) (length left) [] one rest.left in
+        let len : (0 + part_end at start) + length left ≡ length lines = omega (arith, all.len) in
+        record {
+          before = own ++ rest.before;
+          left = subst₂ (λ x n. IsLeft true lines x n []) (sym (append_assoc own rest.before (line_feed ∷ []))) len all;
+        }
 
-  -- where they are replaced
-  pub replaced_lines : (lines : List ℕ) → EndsInLineFeed lines → ReadsLines true lines
-  replaced_lines lines is = by_length (suc (length lines)) lines (omega arith) is
+    pub reads_lines : (r : Bool) (lines : List ℕ) → AreRead r lines
+    reads_lines r = by_parts (AreRead r) (λ lines all is good. lines_begun r lines is (begins lines (ending_of lines) refl all)) (behind_bad r)
