@@ -34,7 +34,7 @@ pub use Rattle.nf_forms.specs.declared.form.Form.{Form}
 pub use Rattle.nf_forms.specs.declared.form.Form.TheVariants.{Nfc, Nfd, Nfkc, Nfkd}
 pub use Rattle.nf_lines.specs.Alone.{end_fault, SameOrLineFeed, StandAlone}
 pub use Rattle.nf_lines.specs.Cut.{EndsInLineFeed, HasNoLineFeed, IsCutAt, AreLines}
-pub use Rattle.nf_lines.specs.Drives.{Lines, bytes_of, lines_utf8, HasLines, StopsLines, DrivesLines, FeedsLines}
+pub use Rattle.nf_lines.specs.Drives.{Lines, bytes_of, lines_utf8, TakesLines, DrivesLines}
 pub use Rattle.nf_utf8.specs.Ending.{Ending, Whole, Bad, Cut, moved}
 unfoldable pub use Rattle.nf_utf8.specs.Reading.{text_of, ending_of}
 unfoldable pub use Rattle.nf_utf8.specs.Replaced.{parts_of, replaced, replaced_whole}

@@ -1,5 +1,5 @@
 -- The last line feed, looked for from the end.
-use Rattle.nf_lines.proofs.Common.{◌≡◌, ℕ, suc, ◌-◌, ◌<◌, ◌≤◌, ◌==◌, List, [], ◌∷◌, ◌++◌, length, take, drop, get_or, inl, inr, refl, sym, ap, subst, ◌∙◌, arith, ne_eqb, drop-cons, drop-length, take-suc, or_from, line_feed, HasNoLineFeed, IsCutAt}
+use Rattle.nf_lines.proofs.Common.{◌≡◌, ℕ, suc, ◌-◌, ◌<◌, ◌≤◌, ◌==◌, List, [], ◌∷◌, ◌++◌, length, take, drop, get_or, inl, inr, refl, sym, ap, subst, ◌∙◌, arith, ne_eqb, drop-cons, drop-length, take-suc, or_from, line_feed, length-take, ⊎_elim, EndsInLineFeed, HasNoLineFeed, IsCutAt}
 use Rattle.std.proofs.lemmas.List.Folds.{list_any-append}
 
 before : (n : ℕ) → 0 < n → suc (n - 1) ≡ n
@@ -21,6 +21,10 @@ cut_here bytes n some within here rest = record {
 
 pub cut_nowhere : (bytes : List ℕ) (n : ℕ) → n ≡ 0 → n ≤ length bytes → HasNoLineFeed (drop n bytes) → IsCutAt bytes n
 cut_nowhere bytes n none within rest = record { within = within; lines = inl (ap (λ k. take k bytes) none); rest = rest }
+
+-- where there are some, the last of them ends
+pub cut_behind : (bytes : List ℕ) (n : ℕ) → ¬ (n ≡ 0) → IsCutAt bytes n → EndsInLineFeed (take n bytes)
+cut_behind bytes n some cut = ⊎_elim (λ none. absurd (some (omega (arith, ap length none, length-take n bytes, cut.within)))) (λ is. is) cut.lines
 
 -- a piece more in which no line ends
 pub none_more : (rest piece : List ℕ) → HasNoLineFeed rest → HasNoLineFeed piece → HasNoLineFeed (rest ++ piece)

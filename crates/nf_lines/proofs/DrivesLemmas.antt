@@ -1,131 +1,118 @@
 -- What driving line by line comes to.
-use Rattle.nf_lines.proofs.Common.{Bool, fed_by, refused_by, ◌≡◌, ℕ, ◌<◌, ◌≤◌, ◌^◌, true, false, List, [], ◌++◌, length, Some, None, Result, Ok, Err, inl, ⊎_elim, refl, sym, ap, subst, ◌∙◌, arith, append-nil, length-append, OnOk, IsTrue, result_err, Consumes, IsAtEnd, Properties, Form, Fault, TooLong, Read, Write, State, Policy, Tally, SinkState, SourceState, settled_utf8-none, settled_utf8, fault_in, base_of, StandsAfter, end_of, final_utf8, Finishes, StandsAfter-no_fault, StandsAfter-fits, Puts-none, Puts-join, Puts-at, BreaksOff-join, BreaksOff-at, EndsInLineFeed, end_fault, StandAlone, Lines, bytes_of, HasLines, StopsLines, DrivesLines}
+use Rattle.nf_lines.proofs.Common.{fed_by, Bool, ◌≡◌, ℕ, ◌+◌, ◌<◌, ◌≤◌, ◌==◌, ◌^◌, true, false, List, [], ◌++◌, length, take, Some, None, Result, Ok, Err, inl, ⊎_elim, refl, sym, ap, subst, ◌∙◌, arith, append-nil, length-append, eq-eqb, OnOk, IsTrue, IsFalse, result_err, Consumes, IsAtEnd, Form, Fault, TooLong, Read, Write, State, Policy, Tally, SinkState, SourceState, settled_utf8-none, settled_utf8, fault_in, base_of, StandsAfter, end_of, final_utf8, Finishes, offset_of, StandsAfter-no_fault, StandsAfter-offset, StandsAfter-fits, Puts-none, Puts-join, Puts-at, BreaksOff-join, BreaksOff-at, ucd, end_fault, Lines, bytes_of, TakesLines, DrivesLines}
+use Rattle.std.proofs.KnownBytes.{Consumes-trans}
 use Rattle.nf_filter.specs.Drives.{due_utf8}
+use Rattle.nf_filter.specs.Writes.{Puts, BreaksOff}
+use Rattle.nf_lines.specs.Alone.{LinesStandAlone}
 use Rattle.nf_lines.proofs.AloneLemmas.{final-none}
-use Rattle.nf_lines.proofs.StepLemmas.{joins, Puts-past, BreaksOff-past, too_long_or_not}
+use Rattle.nf_lines.proofs.StepLemmas.{Joins, joins, join, Puts-past, BreaksOff-past, long_or_not, untold, untold_err, told}
 
 -- nothing was read
-pub HasLines-none : (policy : Policy) (f : Form) (p : Properties) (state : State) (sink : SinkState) → StandsAfter policy f p state [] → base_of state ≡ 0 → HasLines policy f p state (record { whole = []; rest = [] }) sink sink
-HasLines-none policy f p state sink stands base = record {
+pub takes_none : (policy : Policy) (f : Form) (state : State) (sink : SinkState) → StandsAfter policy f ucd state [] → base_of state ≡ 0 → TakesLines policy f ucd state (record { whole = []; rest = [] }) sink sink (Ok tt)
+takes_none policy f state sink stands base = record {
   whole = inl refl;
-  rest = refl;
-  base = base;
-  stands = stands;
-  no_fault = ap (λ n. fault_in policy p n []) (sym base) ∙ StandsAfter-no_fault stands;
-  puts = Puts-at refl (sym (ap (λ b. b ++ settled_utf8 policy f p []) (final-none policy f p) ∙ settled_utf8-none policy f p)) (Puts-none sink []);
+  no_fault = good;
+  broken_off = λ e. cc;
+  written = λ _. Puts-at refl (sym (ap (λ b. b ++ settled_utf8 policy f ucd []) (final-none policy f ucd) ∙ settled_utf8-none policy f ucd)) (Puts-none sink []);
+  answer = λ _ _. sym good;
+  too_long = λ e. cc;
+  stands = λ _. (refl, base, stands);
 }
+  where
+    good : fault_in policy ucd 0 [] ≡ None
+    good = ap (λ n. fault_in policy ucd n []) (sym base) ∙ StandsAfter-no_fault stands
 
--- the answer without its tally
-abbrev pub untold : Result Tally Fault → Result (Unit {0}) Fault
-untold (Ok tally) = Ok tt
-untold (Err fault) = Err fault
-
-untold_err : (r : Result Tally Fault) → result_err (untold r) ≡ result_err r
-untold_err (Ok tally) = refl
-untold_err (Err fault) = refl
-
-write_told : (r : Result Tally Fault) → untold r ≡ Err Write → r ≡ Err Write
-write_told (Ok tally) e = cc
-write_told (Err fault) e = ap refused_by (let same : fault ≡ Write = cc in same)
+pub takes_offset : {policy : Policy} {f : Form} {state : State} {l : Lines} {first now : SinkState} → TakesLines policy f ucd state l first now (Ok tt) → offset_of state ≡ length (bytes_of l)
+takes_offset {l = l} has = omega (arith, StandsAfter-offset (has.stands refl).2, (has.stands refl).1, length-append l.whole l.rest)
 
 -- a fault that may be answered is none that may not
 pub not_among : {T : Type 0} (IsAmong : Fault → Type 0) (other fault : Fault) → ¬ (IsAmong other) → IsAmong fault → ¬ (◌≡◌ {A = Result T Fault} (Err fault) (Err other))
 not_among IsAmong other fault never may e = let same : fault ≡ other = cc in never (subst IsAmong same may)
 
-module _ (policy : Policy) (f : Form) (p : Properties) (alone : (base : ℕ) (lines rest : List ℕ) → EndsInLineFeed lines → fault_in policy p base lines ≡ None → StandAlone policy f p base lines rest) (most : ℕ) (source left : SourceState) (old : SinkState) (t : Lines) where
+module _ (alone : LinesStandAlone) (policy : Policy) (f : Form) (most : ℕ) (source left : SourceState) (old : SinkState) (t : Lines) where
   never : {A : Type 0} → left.is_at_end ≡ false → IsTrue left.is_at_end → A
   never going end = let absent : true ≡ false = sym end ∙ going in cc
 
-  due : (b : Bool) → left.is_at_end ≡ b → final_utf8 policy f p t.whole ++ due_utf8 b policy f p t.rest ≡ final_utf8 policy f p t.whole ++ due_utf8 left.is_at_end policy f p t.rest
-  due b is = ap (λ b. final_utf8 policy f p t.whole ++ due_utf8 b policy f p t.rest) (sym is)
+  abbrev due : Bool → List ℕ
+  due b = final_utf8 policy f ucd t.whole ++ due_utf8 b policy f ucd t.rest
 
   -- a piece was refused
-  pub drives-stopped : (last : List ℕ) (new : SinkState) (fault : Fault) → left.is_at_end ≡ false → Consumes source.coming left.coming (bytes_of t ++ last) → length last ≤ most
-      → StopsLines policy f p t last old new fault → DrivesLines most policy f p source left old new (Err fault)
-  drives-stopped last new fault going given few stops = record {
+  pub drives-stopped : (state : State) (last : List ℕ) (new : SinkState) (fault : Fault) → ¬ (fed_by fault ≡ Err Read) → left.is_at_end ≡ false → Consumes source.coming left.coming (bytes_of t ++ last) → length last ≤ most
+      → (fed_by fault ≡ Err TooLong → 2 ^ 64 ≤ length (bytes_of t) + length last) → TakesLines policy f ucd state t old new (Err fault) → DrivesLines most policy f ucd source left old new (Err fault)
+  drives-stopped state last new fault unread going given few long takes = record {
     taken = t;
     last = last;
     given = given;
     few = few;
     read_out = never going;
-    all_taken = ⊎_elim (never going) (λ e. absurd (stops.unread (let same : fault ≡ Read = cc in same)));
-    whole = stops.whole;
-    lines_no_fault = stops.no_fault;
-    rest = ⊎_elim (never going) (⊎_elim (λ e. absurd (stops.unread (let same : fault ≡ Read = cc in same))) (λ e. let long = stops.too_long (let same : fault ≡ TooLong = cc in same) in (long.1, long.2)));
+    all_taken = ⊎_elim (never going) (λ e. absurd (unread e));
+    whole = takes.whole;
+    lines_no_fault = takes.no_fault;
+    rest = ⊎_elim (never going) (⊎_elim (λ e. absurd (unread e)) takes.too_long);
     too_long = (
-      λ e. (let long = stops.too_long (let same : fault ≡ TooLong = cc in same) in (long.0, long.2, λ broken. let both : fed_by TooLong ≡ Err Write = sym e ∙ broken in cc)),
-      λ over. ⊎_elim (λ is. ap fed_by is) (λ short. let told : Some fault ≡ None = stops.answer (λ e. over.2 (ap fed_by e)) short ∙ over.1 in cc) (too_long_or_not fault),
+      λ e. (long e, (takes.too_long e).1, λ broken. let both : fed_by TooLong ≡ Err Write = sym e ∙ broken in cc),
+      λ over. ⊎_elim (λ is. is) (λ short. let none : Some fault ≡ None = takes.answer over.2 short ∙ over.1 in cc) (long_or_not (Err fault)),
     );
-    broken_off = λ e. BreaksOff-at refl (due false going) (stops.broken_off (let same : fault ≡ Write = cc in same));
-    written = λ not. Puts-at refl (due false going) (stops.written (λ e. not (ap fed_by e)));
+    broken_off = λ e. BreaksOff-at refl (ap due (sym going)) (takes.broken_off e);
+    written = λ kept. Puts-at refl (ap due (sym going)) (takes.written kept);
     form = tt;
-    settled = (joins policy f p alone t.whole t.rest stops.whole stops.no_fault).settled;
+    settled = (joins alone policy f t.whole t.rest takes.whole takes.no_fault).settled;
     finished = never going;
-    stopped = λ _ kept unread short. (refl, stops.answer (λ e. kept (ap fed_by e)) (λ e. short (ap fed_by e)));
+    stopped = λ _ kept _ short. (refl, takes.answer kept short);
   }
 
-  module _ (state : State) (now : SinkState) (has : HasLines policy f p state t old now) where
-    good : fault_in policy p 0 (t.whole ++ t.rest) ≡ None
-    good = (joins policy f p alone t.whole t.rest has.whole has.no_fault).fault ∙ ap (λ n. fault_in policy p n t.rest) (sym has.base) ∙ StandsAfter-no_fault has.stands
+  module _ (state : State) (now : SinkState) (has : TakesLines policy f ucd state t old now (Ok tt)) where
+    fits : length (bytes_of t) < 2 ^ 64
+    fits = omega (arith, StandsAfter-fits (has.stands refl).2, (has.stands refl).1, length-append t.whole t.rest)
 
-    fits : length (t.whole ++ t.rest) < 2 ^ 64
-    fits = omega (arith, StandsAfter-fits has.stands, has.base, length-append t.whole t.rest)
+    -- all that was read was taken
+    all_read : (new : SinkState) (r : Result (Unit {0}) Fault) → Consumes source.coming left.coming (bytes_of t) → (IsTrue left.is_at_end → IsAtEnd left.coming) → ¬ (r ≡ Err TooLong)
+        → (r ≡ Err Write → BreaksOff old new [] (due left.is_at_end)) → (¬ (r ≡ Err Write) → Puts old new [] (due left.is_at_end)) → OnOk r (due left.is_at_end ≡ final_utf8 policy f ucd (bytes_of t))
+        → (IsTrue left.is_at_end → ¬ (r ≡ Err Write) → result_err r ≡ end_fault policy ucd 0 (bytes_of t)) → (IsFalse left.is_at_end → r ≡ Err Read) → DrivesLines most policy f ucd source left old new r
+    all_read new r given read_out short breaks puts form finished unended = record {
+      taken = t;
+      last = [];
+      given = subst (Consumes source.coming left.coming) (sym (append-nil (bytes_of t))) given;
+      few = omega arith;
+      read_out = read_out;
+      all_taken = λ _. refl;
+      whole = has.whole;
+      lines_no_fault = has.no_fault;
+      rest = λ _. ((has.stands refl).0, sym (has.answer (λ e. cc) (λ e. cc)));
+      too_long = (λ e. absurd (short e), λ over. absurd (omega (arith, over.0, fits)));
+      broken_off = breaks;
+      written = puts;
+      form = form;
+      settled = (joins alone policy f t.whole t.rest has.whole has.no_fault).settled;
+      finished = finished;
+      stopped = λ going _ unread _. absurd (unread (unended going));
+    }
 
     -- the source failed
-    pub drives-failed : left.is_at_end ≡ false → Consumes source.coming left.coming (bytes_of t) → DrivesLines most policy f p source left old now (Err Read)
-    drives-failed going given = record {
-      taken = t;
-      last = [];
-      given = subst (Consumes source.coming left.coming) (sym (append-nil (t.whole ++ t.rest))) given;
-      few = omega arith;
-      read_out = never going;
-      all_taken = λ _. refl;
-      whole = has.whole;
-      lines_no_fault = has.no_fault;
-      rest = λ _. (has.rest, good);
-      too_long = (λ e. cc, λ over. absurd (omega (arith, over.0, fits)));
-      broken_off = λ e. cc;
-      written = λ _. Puts-at refl (due false going) has.puts;
-      form = tt;
-      settled = (joins policy f p alone t.whole t.rest has.whole has.no_fault).settled;
-      finished = never going;
-      stopped = λ _ _ unread _. absurd (unread refl);
-    }
+    pub drives-failed : left.is_at_end ≡ false → Consumes source.coming left.coming (bytes_of t) → DrivesLines most policy f ucd source left old now (Err Read)
+    drives-failed going given = all_read now (Err Read) given (never going) (λ e. cc) (λ e. cc) (λ _. Puts-at refl (ap due (sym going)) (has.written (λ e. cc))) tt (never going) (λ _. refl)
 
-    -- all was read, and the filter was finished
-    pub drives-finished : (new : SinkState) (r : Result Tally Fault) → left.is_at_end ≡ true → IsAtEnd left.coming → Consumes source.coming left.coming (bytes_of t) → ¬ (r ≡ Err TooLong)
-        → Finishes policy f p (base_of state) t.rest now new r → DrivesLines most policy f p source left old new (untold r)
-    drives-finished new r ended empty given short finishes = record {
-      taken = t;
-      last = [];
-      given = subst (Consumes source.coming left.coming) (sym (append-nil (t.whole ++ t.rest))) given;
-      few = omega arith;
-      read_out = λ _. empty;
-      all_taken = λ _. refl;
-      whole = has.whole;
-      lines_no_fault = has.no_fault;
-      rest = λ _. (has.rest, good);
-      too_long = (λ e. absurd (never_long r short e), λ over. absurd (omega (arith, over.0, fits)));
-      broken_off = λ e. BreaksOff-at refl (due true ended) (BreaksOff-join has.puts (BreaksOff-past (final_utf8 policy f p t.whole) (finishes.broken_off (write_told r e))));
-      written = λ not. Puts-at refl (due true ended) (Puts-join has.puts (Puts-past (final_utf8 policy f p t.whole) (finishes.written (λ e. not (ap untold e)))));
-      form = formed r finishes.answer;
-      settled = (joins policy f p alone t.whole t.rest has.whole has.no_fault).settled;
-      finished = λ _ kept. untold_err r ∙ answer (λ e. kept (ap untold e));
-      stopped = λ going. never going ended;
-    }
+    -- it ended, and the filter was finished
+    pub drives-finished : (mid : SourceState) (buffer : List ℕ) (n : ℕ) (new : SinkState) (r : Result Tally Fault) → n ≡ 0 → left.is_at_end ≡ (n == 0) → IsAtEnd left.coming → Consumes source.coming mid.coming (bytes_of t)
+        → Consumes mid.coming left.coming (take n buffer) → ¬ (r ≡ Err TooLong) → Finishes policy f ucd (base_of state) t.rest now new r → DrivesLines most policy f ucd source left old new (untold r)
+    drives-finished mid buffer n new r none at_end empty read given short finishes =
+        all_read new (untold r) consumed (λ _. empty) (λ e. short (told r TooLong e))
+        (λ e. BreaksOff-at refl (ap due (sym ended)) (BreaksOff-join (has.written (λ e. cc)) (BreaksOff-past (final_utf8 policy f ucd t.whole) (finishes.broken_off (told r Write e)))))
+        (λ kept. Puts-at refl (ap due (sym ended)) (Puts-join (has.written (λ e. cc)) (Puts-past (final_utf8 policy f ucd t.whole) (finishes.written (λ e. kept (ap untold e))))))
+        (formed r finishes.answer) (λ _ kept. untold_err r ∙ ap result_err (finishes.answer (λ e. kept (ap untold e))) ∙ sym joined.end)
+        (λ going. never going ended)
       where
-        at_base : end_fault policy p (base_of state) t.rest ≡ end_fault policy p (length t.whole) t.rest
-        at_base = ap (λ n. end_fault policy p n t.rest) has.base
+        joined : Joins alone policy f (base_of state) t.whole t.rest
+        joined = join alone policy f state t old now has t.rest
 
-        answer : ¬ (r ≡ Err Write) → result_err r ≡ end_fault policy p 0 (t.whole ++ t.rest)
-        answer kept = ap result_err (finishes.answer kept) ∙ at_base ∙ sym (joins policy f p alone t.whole t.rest has.whole has.no_fault).end
+        ended : left.is_at_end ≡ true
+        ended = at_end ∙ eq-eqb n 0 none
 
-        never_long : (r : Result Tally Fault) → ¬ (r ≡ Err TooLong) → untold r ≡ Err TooLong → ⊥
-        never_long (Ok tally) short e = cc
-        never_long (Err fault) short e = short (ap refused_by (let same : fault ≡ TooLong = cc in same))
+        consumed : Consumes source.coming left.coming (bytes_of t)
+        consumed =
+            subst (Consumes source.coming left.coming) (append-nil (bytes_of t))
+            (Consumes-trans source.coming mid.coming left.coming (bytes_of t) [] read (subst (λ n. Consumes mid.coming left.coming (take n buffer)) none given))
 
-        formed : (r : Result Tally Fault) → (¬ (r ≡ Err Write) → r ≡ end_of policy p (base_of state) t.rest)
-            → OnOk (untold r) (final_utf8 policy f p t.whole ++ due_utf8 left.is_at_end policy f p t.rest ≡ final_utf8 policy f p (t.whole ++ t.rest))
-        formed (Ok tally) answers =
-            sym (due true ended) ∙ sym ((joins policy f p alone t.whole t.rest has.whole has.no_fault).final (sym at_base ∙ sym (ap result_err (answers (λ e. cc)))))
+        formed : (r : Result Tally Fault) → (¬ (r ≡ Err Write) → r ≡ end_of policy ucd (base_of state) t.rest) → OnOk (untold r) (due left.is_at_end ≡ final_utf8 policy f ucd (bytes_of t))
+        formed (Ok tally) answers = ap due ended ∙ sym (joined.final (sym (ap result_err (answers (λ e. cc)))))
         formed (Err fault) answers = tt

@@ -1,5 +1,5 @@
 -- What driving a filter line by line answers and writes.
-use Rattle.std.specs.Prelude.{◌≡◌, ℕ, ◌+◌, ◌≤◌, ◌↔◌, ◌⊎◌, List, [], ◌++◌, length, Some, None, IsTrue, IsFalse, IsErr, OnOk, Result, Ok, Err, ◌^◌}
+use Rattle.std.specs.Prelude.{◌≡◌, ℕ, ◌+◌, ◌≤◌, ◌↔◌, ◌⊎◌, List, [], ◌++◌, length, None, IsTrue, IsFalse, IsErr, OnOk, Result, Ok, Err, ◌^◌}
 use Rattle.std.specs.Io.KnownBytes.{Consumes, IsAtEnd}
 use Rattle.std.specs.Result.{result_err}
 use Rattle.nf_forms.specs.Properties.{Properties}
@@ -30,30 +30,20 @@ bytes_of l = l.whole ++ l.rest
 abbrev pub lines_utf8 : Policy → Form → Properties → Lines → List ℕ
 lines_utf8 policy f p l = final_utf8 policy f p l.whole ++ settled_utf8 policy f p l.rest
 
--- the whole lines were written, and the filter stands behind the rest, in which no line ends
-pub record HasLines (policy : Policy) (f : Form) (p : Properties) (state : State) (l : Lines) (first now : SinkState) : Type 0 where
-  pub whole : AreLines l.whole
-  pub rest : HasNoLineFeed l.rest
-  pub base : base_of state ≡ length l.whole
-  pub stands : StandsAfter policy f p state l.rest
-  pub no_fault : fault_in policy p 0 l.whole ≡ None
-  pub puts : Puts first now [] (lines_utf8 policy f p l)
-
--- a fault stopped it: of the bytes that were read, those of `l` were taken, and `left` not
-pub record StopsLines (policy : Policy) (f : Form) (p : Properties) (l : Lines) (left : List ℕ) (first now : SinkState) (fault : Fault) : Type 0 where
+-- these bytes were taken; where no fault stopped it, the filter stands behind the rest, in which no line ends
+pub record TakesLines (policy : Policy) (f : Form) (p : Properties) (state : State) (l : Lines) (first now : SinkState) (result : Result (Unit {0}) Fault) : Type 0 where
   pub whole : AreLines l.whole
   pub no_fault : fault_in policy p 0 l.whole ≡ None
-  pub broken_off : fault ≡ Write → BreaksOff first now [] (lines_utf8 policy f p l)
-  pub written : ¬ (fault ≡ Write) → Puts first now [] (lines_utf8 policy f p l)
-  pub answer : ¬ (fault ≡ Write) → ¬ (fault ≡ TooLong) → Some fault ≡ fault_in policy p 0 (bytes_of l)
-  pub too_long : fault ≡ TooLong → (2 ^ 64 ≤ length (bytes_of l) + length left) × HasNoLineFeed l.rest × (fault_in policy p 0 (bytes_of l) ≡ None)
-  pub unread : ¬ (fault ≡ Read)
+  pub broken_off : result ≡ Err Write → BreaksOff first now [] (lines_utf8 policy f p l)
+  pub written : ¬ (result ≡ Err Write) → Puts first now [] (lines_utf8 policy f p l)
+  pub answer : ¬ (result ≡ Err Write) → ¬ (result ≡ Err TooLong) → result_err result ≡ fault_in policy p 0 (bytes_of l)
+  pub too_long : result ≡ Err TooLong → HasNoLineFeed l.rest × (fault_in policy p 0 (bytes_of l) ≡ None)
+  pub stands : result ≡ Ok tt → HasNoLineFeed l.rest × (base_of state ≡ length l.whole) × StandsAfter policy f p state l.rest
 
--- a piece more was read
-abbrev pub FeedsLines : Policy → Form → Properties → State → Lines → List ℕ → SinkState → SinkState → Result (Unit {0}) Fault → Type 0
-FeedsLines policy f p state l piece first now (Ok _) = (next : Lines) × (bytes_of next ≡ bytes_of l ++ piece) × HasLines policy f p state next first now
-FeedsLines policy f p state l piece first now (Err fault) =
-    (next : Lines) × (left : List ℕ) × (bytes_of next ++ left ≡ bytes_of l ++ piece) × (length left ≤ length piece) × StopsLines policy f p next left first now fault
+-- so of these bytes all but `left`, which are at most as many
+abbrev pub FeedsLines : Policy → Form → Properties → State → (most : ℕ) → List ℕ → SinkState → SinkState → Result (Unit {0}) Fault → Type 0
+FeedsLines policy f p state most bytes first now result =
+    (l : Lines) × (left : List ℕ) × (bytes_of l ++ left ≡ bytes) × (length left ≤ most) × (result ≡ Ok tt → left ≡ []) × TakesLines policy f p state l first now result
 
 -- a new filter was driven over the source, of which at most `most` bytes are asked for at once
 pub record DrivesLines (most : ℕ) (policy : Policy) (f : Form) (p : Properties) (source left : SourceState) (old new : SinkState) (result : Result (Unit {0}) Fault) : Type 0 where

@@ -1,11 +1,10 @@
 //! Driving a filter line by line.
-ghost use Rattle.std.specs.Prelude.{◌≡◌, ◌+◌, ◌<◌, ◌↔◌, length, IsTrue, IsFalse, OnOk};
+ghost use Rattle.std.specs.Prelude.{◌≡◌, ◌+◌, ◌<◌, ◌↔◌, ◌++◌, length, IsTrue, IsFalse, OnOk, Ok};
 ghost use Rattle.nf_forms.specs.Ucd.{ucd};
 ghost use Rattle.nf_filter.specs.Devices.{SinkState};
 ghost use Rattle.nf_filter.specs.Filter.{state_of, offset_of, is_spent};
-ghost use Rattle.nf_filter.specs.declared.fault.Fault.TheVariants.{Spent, Read};
-ghost use Rattle.nf_lines.specs.Cut.{EndsInLineFeed};
-ghost use Rattle.nf_lines.specs.Drives.{HasLines, Lines, FeedsLines, DrivesLines};
+ghost use Rattle.nf_filter.specs.declared.fault.Fault.TheVariants.{Spent, TooLong, Read};
+ghost use Rattle.nf_lines.specs.Drives.{Lines, bytes_of, TakesLines, FeedsLines, DrivesLines};
 
 use crate::cutting::lines_len;
 use crate::laws::lines_stand_alone;
@@ -50,7 +49,8 @@ pub fn drive_lines<I: Source, S: Sink>(
     }
 }
 
-// Takes the next bytes: the lines that they end are written whole, and of the rest what it settles.
+// Takes the next bytes: the lines that they end are written whole, and a new filter is begun behind them; of the rest what it
+// settles is written.
 fn feed_lines<S: Sink>(
     form: Form,
     policy: Policy,
@@ -60,10 +60,12 @@ fn feed_lines<S: Sink>(
 ) -> Result<(), Fault>
     requires unspent { IsFalse (is_spent (state_of filter.old)) }
     ensures not_spent { ¬ (result ≡ Err Spent) }
+    ensures not_read { ¬ (result ≡ Err Read) }
+    ensures too_long { result ≡ Err TooLong → u64.MAX < offset_of (state_of filter.old) + length piece.now }
     ensures unspent { OnOk result (IsFalse (is_spent (state_of filter.new))) }
     ensures offset { OnOk result (offset_of (state_of filter.new) ≡ offset_of (state_of filter.old) + length piece.now) }
-    ensures feeds { (first : SinkState) (l : Lines) → HasLines policy form ucd (state_of filter.old) l first (S.state sink.old)
-        → FeedsLines policy form ucd (state_of filter.new) l piece.now first (S.state sink.new) result }
+    ensures feeds { (first : SinkState) (l : Lines) → TakesLines policy form ucd (state_of filter.old) l first (S.state sink.old) (Ok tt)
+        → FeedsLines policy form ucd (state_of filter.new) (length piece.now) (bytes_of l ++ piece.now) first (S.state sink.new) result }
     ensures lender { (S.state sink.new).lender ≡ (S.state sink.old).lender }
 {
     lines_stand_alone();
@@ -71,36 +73,12 @@ fn feed_lines<S: Sink>(
     if n == 0 {
         return filter.feed(piece, sink);
     }
-    if let Err(fault) = end_lines(form, policy, filter, &piece[..n], sink) {
-        return Err(fault);
-    }
-    filter.feed(&piece[n..], sink)
-}
-
-// Takes the next bytes, which end in a line feed, writes all, and begins a new filter behind them.
-fn end_lines<S: Sink>(
-    form: Form,
-    policy: Policy,
-    filter: &mut Filter<'_, Ucd>,
-    piece: &[u8],
-    sink: &mut S,
-) -> Result<(), Fault>
-    requires unspent { IsFalse (is_spent (state_of filter.old)) }
-    requires lines { EndsInLineFeed piece.now }
-    ensures not_spent { ¬ (result ≡ Err Spent) }
-    ensures unspent { OnOk result (IsFalse (is_spent (state_of filter.new))) }
-    ensures offset { OnOk result (offset_of (state_of filter.new) ≡ offset_of (state_of filter.old) + length piece.now) }
-    ensures feeds { (first : SinkState) (l : Lines) → HasLines policy form ucd (state_of filter.old) l first (S.state sink.old)
-        → FeedsLines policy form ucd (state_of filter.new) l piece.now first (S.state sink.new) result }
-    ensures lender { (S.state sink.new).lender ≡ (S.state sink.old).lender }
-{
-    lines_stand_alone();
-    if let Err(fault) = filter.feed(piece, sink) {
+    if let Err(fault) = filter.feed(&piece[..n], sink) {
         return Err(fault);
     }
     let next = Filter::quickest(&Ucd, form, filter.offset()).policy(policy);
-    match mem::replace(filter, next).finish(sink) {
-        Ok(_) => Ok(()),
-        Err(fault) => Err(fault),
+    if let Err(fault) = mem::replace(filter, next).finish(sink) {
+        return Err(fault);
     }
+    filter.feed(&piece[n..], sink)
 }

@@ -1,25 +1,46 @@
-use Rattle.nf_lines.proofs.Common.{◌≡◌, ◌∙◌, ◌-◌, ◌++◌, ℕ, List, length, take, drop, inr, ap, sym, subst, arith, take-append-drop, take_all, length-drop, ucd, state_of, HasNoLineFeed}
-use Rattle.nf_lines.proofs.StepLemmas.{feeds-by, feeds-both, feeds-front}
+use Rattle.nf_lines.proofs.Common.{◌≡◌, ◌∙◌, ◌-◌, ◌+◌, ◌++◌, ℕ, [], List, length, take, drop, Ok, Err, refl, inr, ap, sym, subst, arith, append_assoc, append-nil, length-append, take-append-drop, take_all, length-drop, StandsAfter, as_is, ucd, state_of, base_of, offset_of, HasNoLineFeed, bytes_of}
+use Rattle.nf_lines.proofs.StepLemmas.{fed_lines, ended, ended_bytes, ended_lines}
+use Rattle.nf_lines.proofs.CutLemmas.{cut_behind}
 use Rattle.nf_lines.proofs.driving.feed_lines.Goals as goal
 
 pub returns-then-n-eq0-clause-feeds : goal.returns-then-n-eq0-clause-feeds
 returns-then-n-eq0-clause-feeds g c = λ first l has.
-    feeds-by c.args.policy c.args.form ucd (c.lines_stand_alone.ensures c.args.policy c.args.form) (state_of c.args.filter.now) (state_of c.feed.new.self) l c.args.piece.now first _ _ has c.feed.result
-    (subst (λ n. HasNoLineFeed (drop n c.args.piece.now)) c.if-n-eq0.true c.lines_len-n.ensures.rest) (record {
-      feeds = c.feed.ensures.feeds c.args.policy c.args.form l.rest has.stands;
-      stands = c.feed.ensures.stands c.args.policy c.args.form l.rest has.stands;
+    fed_lines c.lines_stand_alone.ensures c.args.policy c.args.form (state_of c.args.filter.now) l first _ has (state_of c.feed.new.self) c.args.piece.now _ c.feed.result (record {
+      feeds = c.feed.ensures.feeds c.args.policy c.args.form l.rest (has.stands refl).2;
+      stands = c.feed.ensures.stands c.args.policy c.args.form l.rest (has.stands refl).2;
       base = c.feed.ensures.base;
-      long = λ e. let long = (c.feed.ensures.too_long.0 e).1 in omega (arith, long);
       kept = λ e. ap g.S.Sink.state (c.feed.ensures.kept (inr e)).1;
-      may = c.feed.ensures.faults;
-    })
+    }) _ _ [] (append-nil (bytes_of l ++ c.args.piece.now)) (omega arith) (λ _. (refl, subst (λ n. HasNoLineFeed (drop n c.args.piece.now)) c.if-n-eq0.true c.lines_len-n.ensures.rest))
 
 pub returns-in-Err-clause-feeds : goal.returns-in-Err-clause-feeds
 returns-in-Err-clause-feeds g c = λ first l has.
-    let n = c.lines_len-n.result in
-    feeds-front c.args.policy c.args.form ucd (c.lines_stand_alone.ensures c.args.policy c.args.form) l (state_of c.end_lines.new.filter) (take n c.args.piece.now) (drop n c.args.piece.now) c.args.piece.now first _ c.in-Err.fault
-    (sym (take-append-drop n c.args.piece.now))
-    (c.in-Err.ensures.feeds first l has)
+    let front = take c.lines_len-n.result c.args.piece.now in
+    let behind = drop c.lines_len-n.result c.args.piece.now in
+    let both = take-append-drop c.lines_len-n.result c.args.piece.now in
+    fed_lines c.lines_stand_alone.ensures c.args.policy c.args.form (state_of c.args.filter.now) l first _ has (state_of c.feed-2.new.self) front _ _ (record {
+      feeds = c.in-Err.ensures.feeds c.args.policy c.args.form l.rest (has.stands refl).2;
+      stands = tt;
+      base = c.in-Err.ensures.base;
+      kept = λ e. ap g.S.Sink.state (c.in-Err.ensures.kept (inr e)).1;
+    }) _ _ behind (append_assoc (bytes_of l) front behind ∙ ap (λ b. bytes_of l ++ b) both) (omega (arith, ap length both, length-append front behind)) (λ e. cc)
+
+pub returns-in-Err-finish-clause-feeds : goal.returns-in-Err-finish-clause-feeds
+returns-in-Err-finish-clause-feeds g c = λ first l has.
+    let front = take c.lines_len-n.result c.args.piece.now in
+    let behind = drop c.lines_len-n.result c.args.piece.now in
+    let both = take-append-drop c.lines_len-n.result c.args.piece.now in
+    let fed = c.in_default.ensures in
+    let line = cut_behind c.args.piece.now c.lines_len-n.result c.if-n-eq0.false c.lines_len-n.ensures in
+    let feeds = fed.feeds c.args.policy c.args.form l.rest (has.stands refl).2 (λ e. cc) in
+    let finishes = rw c.replace.ensures.value at (c.in-Err-finish.ensures.finishes c.args.policy c.args.form (l.rest ++ front)) in
+    let finished = rw fed.base at (finishes (fed.stands c.args.policy c.args.form l.rest (has.stands refl).2)) in (
+      ended c.lines_stand_alone.ensures c.args.policy c.args.form (state_of c.args.filter.now) l first _ has front line _ feeds,
+      behind,
+      ended_bytes c.lines_stand_alone.ensures c.args.policy c.args.form (state_of c.args.filter.now) l first _ has front line _ feeds behind ∙ ap (λ b. bytes_of l ++ b) both,
+      omega (arith, ap length both, length-append front behind),
+      λ e. cc,
+      ended_lines c.lines_stand_alone.ensures c.args.policy c.args.form (state_of c.args.filter.now) l first _ has front line _ feeds _ _ (Err c.in-Err-finish.fault) finished (λ e. cc),
+    )
 
 -- a slice to the end
 to_end : (n : ℕ) (bytes : List ℕ) → take (length bytes - n) (drop n bytes) ≡ drop n bytes
@@ -27,17 +48,23 @@ to_end n bytes = take_all (length bytes - n) (drop n bytes) (omega (arith, lengt
 
 pub returns-clause-feeds : goal.returns-clause-feeds
 returns-clause-feeds g c = λ first l has.
-    let n = c.lines_len-n.result in
-    let piece = c.args.piece.now in
-    let rest : List ℕ = take (length piece - n) (drop n piece) in
-    let law = c.lines_stand_alone.ensures c.args.policy c.args.form in
-    let lines = c.in_default.ensures.feeds first l has in
-    feeds-both c.args.policy c.args.form ucd law l lines.0 (state_of c.feed-2.new.self) (take n piece) rest piece first _ c.feed-2.result (sym (take-append-drop n piece) ∙ ap (λ b. take n piece ++ b) (sym (to_end n piece))) lines.1
-    (feeds-by c.args.policy c.args.form ucd law (state_of c.end_lines.new.filter) (state_of c.feed-2.new.self) lines.0 rest first _ _ lines.2 c.feed-2.result (subst HasNoLineFeed (sym (to_end n piece)) c.lines_len-n.ensures.rest) (record {
-      feeds = c.feed-2.ensures.feeds c.args.policy c.args.form lines.0.rest lines.2.stands;
-      stands = c.feed-2.ensures.stands c.args.policy c.args.form lines.0.rest lines.2.stands;
-      base = c.feed-2.ensures.base;
-      long = λ e. let long = (c.feed-2.ensures.too_long.0 e).1 in omega (arith, long);
-      kept = λ e. ap g.S.Sink.state (c.feed-2.ensures.kept (inr e)).1;
-      may = c.feed-2.ensures.faults;
-    }))
+    let front = take c.lines_len-n.result c.args.piece.now in
+    let behind = take (length c.args.piece.now - c.lines_len-n.result) (drop c.lines_len-n.result c.args.piece.now) in
+    let both = ap (λ b. front ++ b) (to_end c.lines_len-n.result c.args.piece.now) ∙ take-append-drop c.lines_len-n.result c.args.piece.now in
+    let fed = c.in_default.ensures in
+    let line = cut_behind c.args.piece.now c.lines_len-n.result c.if-n-eq0.false c.lines_len-n.ensures in
+    let feeds = fed.feeds c.args.policy c.args.form l.rest (has.stands refl).2 (λ e. cc) in
+    let finishes = rw c.replace.ensures.value at (c.in_default-finish.ensures.finishes c.args.policy c.args.form (l.rest ++ front)) in
+    let finished = rw fed.base at (finishes (fed.stands c.args.policy c.args.form l.rest (has.stands refl).2)) in
+    let next = ap (λ f. state_of f) c.replace.ensures.after in
+    let base : base_of (state_of c.replace.new.dest) ≡ offset_of (state_of c.args.filter.now) + length front =
+    ap base_of next ∙ c.policy-next.ensures.base ∙ c.quickest.ensures.base ∙ c.offset.ensures ∙ fed.offset in
+    let fresh = subst (λ s. StandsAfter c.args.policy c.args.form ucd s []) (sym next) (c.policy-next.ensures.stands as_is c.args.form [] c.quickest.ensures.stands) in
+    let lines = ended_lines c.lines_stand_alone.ensures c.args.policy c.args.form (state_of c.args.filter.now) l first _ has front line _ feeds (state_of c.replace.new.dest) _ (Ok c.in_default-finish.field-0) finished (λ _. (base, fresh)) in
+    fed_lines c.lines_stand_alone.ensures c.args.policy c.args.form (state_of c.replace.new.dest) _ first _ lines (state_of c.feed-3.new.self) behind _ c.feed-3.result (record {
+      feeds = c.feed-3.ensures.feeds c.args.policy c.args.form [] fresh;
+      stands = c.feed-3.ensures.stands c.args.policy c.args.form [] fresh;
+      base = c.feed-3.ensures.base;
+      kept = λ e. ap g.S.Sink.state (c.feed-3.ensures.kept (inr e)).1;
+    }) _ _ [] (append-nil _ ∙ ended_bytes c.lines_stand_alone.ensures c.args.policy c.args.form (state_of c.args.filter.now) l first _ has front line _ feeds behind ∙ ap (λ b. bytes_of l ++ b) both)
+    (omega (arith, ap length both, length-append front behind)) (λ _. (refl, subst HasNoLineFeed (sym (to_end c.lines_len-n.result c.args.piece.now)) c.lines_len-n.ensures.rest))
