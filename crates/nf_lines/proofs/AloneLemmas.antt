@@ -1,5 +1,5 @@
 -- Lines, and what stands behind them.
-use Rattle.nf_lines.proofs.Common.{Result, Ok, Err, ◌≡◌, ℕ, ◌+◌, ◌==◌, Bool, true, false, List, [], ◌∷◌, ◌++◌, length, Option, Some, None, inl, inr, ⊎_elim, encode_utf8_all, refl, sym, ap, subst, ◌∙◌, arith, append_assoc, append-nil, length-append, if◌then◌else◌, result_err, cases_Bool, encodes-append, Properties, Form, Nfc, Ending, Whole, text_of, ending_of, parts_of, replaced, replaced_whole, line_feed, Fault, Unassigned, Policy, Tally, text_under-none, answer_at_end, bad_under, first_fault, fault_in, IsLeft, answer_or, end_under, end_of, final_utf8, tally_of, allowed, len_under, text_under, whole_under, settled, settled_utf8, left-text, EndsInLineFeed, end_fault, SameOrLineFeed, StandAlone}
+use Rattle.nf_lines.proofs.Common.{Result, Ok, Err, ◌≡◌, ℕ, ◌+◌, ◌==◌, Bool, true, false, List, [], ◌∷◌, ◌++◌, length, Option, Some, None, inl, inr, ⊎_elim, encode_utf8_all, refl, sym, ap, subst, ◌∙◌, arith, append_assoc, append-nil, length-append, result_err, cases_Bool, encodes-append, Properties, Form, Nfc, Ending, Whole, text_of, ending_of, parts_of, replaced, replaced_whole, line_feed, Fault, Policy, Tally, text_under-none, answer_at_end, bad_under, first_fault, fault_in, IsLeft, answer_or, end_under, end_of, final_utf8, tally_of, allowed, len_under, text_under, whole_under, settled, settled_utf8, left-text, EndsInLineFeed, end_fault, SameOrLineFeed, StandAlone}
 use Rattle.std.specs.Str.{chars}
 use Rattle.std.specs.Str.Lossy.{utf8_valid_len}
 use Rattle.nf_forms.specs.Order.{by_class}
@@ -13,13 +13,13 @@ use Rattle.nf_forms.specs.Laws.Closing.{safe_form-closed}
 use Rattle.nf_forms.specs.Laws.Front.{front-append_some, front-at, front-none}
 use Rattle.nf_forms.specs.Laws.Parting.{safe_form-push}
 use Rattle.nf_filter.specs.Laws.Soundness.{AreSound}
-use Rattle.nf_filter.proofs.PolicyLemmas.{allowed-append, allowed-none, first_fault-none, taken_whole, taken as is_taken-from}
+use Rattle.nf_filter.proofs.PolicyLemmas.{allowed-append, allowed-none, first_fault-is, first_fault-none, taken_whole, taken as is_taken-from}
 use Rattle.nf_filter.specs.Settled.{is_usable}
 use Rattle.nf_filter.proofs.AgainLemmas.{final-whole}
 use Rattle.nf_filter.proofs.PieceLemmas.{left-whole}
 use Rattle.nf_filter.proofs.ReadingLemmas.{ending_of-none}
 use Rattle.nf_normalizer.specs.Laws.Settled.{usable-all, is_usable-none}
-use Rattle.nf_filter.proofs.SoundnessLemmas.{all_sound, usable_is, first_fault-assigned}
+use Rattle.nf_filter.proofs.SoundnessLemmas.{all_sound, usable_is}
 use Rattle.nf_lines.proofs.WholeParts.{Reading, eqb_past, line_encodes}
 use Rattle.nf_lines.proofs.WholeLines.{ReadsLines, reads_lines}
 
@@ -79,13 +79,19 @@ module _ (p : Properties) (sound : AreSound p) where
   -- behind a text that is taken the fault is that of the rest
   fault_behind : (a : Bool) (x y : List ℕ) (place behind : List ℕ → ℕ) (other : Option Fault) → allowed a p x ≡ x → ((z : List ℕ) → place (x ++ z) ≡ behind z)
       → first_fault a p place (x ++ y) other ≡ first_fault a p behind y other
-  fault_behind false x y place behind other all places =
-      first_fault-none p false place (x ++ y) other (usable_is p sound (x ++ y)) refl ∙ sym (first_fault-none p false behind y other (usable_is p sound y) refl)
-  fault_behind true x y place behind other all places =
-      let taken : allowed true p (x ++ y) ≡ x ++ allowed true p y = allowed-append p true x y all in
-      let same : (length (allowed true p (x ++ y)) == length (x ++ y)) ≡ (length (allowed true p y) == length y) =
-      (λ i. (ap length taken ∙ length-append x (allowed true p y)) i == length-append x y i) ∙ eqb_past (length x) (length (allowed true p y)) (length y) in
-      first_fault-assigned p sound place (x ++ y) other ∙ (λ i. if same i then other else Some (Unassigned ((ap place taken ∙ places (allowed true p y)) i))) ∙ sym (first_fault-assigned p sound behind y other)
+  fault_behind a x y place behind other all places =
+      let taken : allowed a p (x ++ y) ≡ x ++ allowed a p y = allowed-append p a x y all in
+      let same : (length (x ++ allowed a p y) == length (x ++ y)) ≡ (length (allowed a p y) == length y) =
+      (λ i. length-append x (allowed a p y) i == length-append x y i) ∙ eqb_past (length x) (length (allowed a p y)) (length y) in
+      rw (
+        first_fault-is p a place (x ++ y) other,
+        first_fault-is p a behind y other,
+        usable_is p sound (allowed a p (x ++ y)),
+        usable_is p sound (allowed a p y),
+        taken,
+        same,
+        places (allowed a p y),
+      ) refl
 
   module _ (f : Form) where
     settled_is : (policy : Policy) (bytes : List ℕ) → settled_utf8 policy f p bytes ≡ encode_utf8_all (front p (safe_form f p (allowed policy.assigned p (text_under policy.replace bytes))))

@@ -1,21 +1,20 @@
 -- The names that most of these proofs cite, passed on from one place. Declares nothing.
-pub use Rattle.std.proofs.Common.{◌≡◌, ℕ, ◌+◌, ◌==◌, Bool, true, false, List, [], ◌∷◌, ◌++◌, length, Option, Some, None, inl, inr, ⊎_elim, encode_utf8_all, refl, sym, ap, subst, ◌∙◌, arith, append_assoc, append-nil, length-append, eq-eqb, ne_eqb, if◌then◌else◌, suc, ◌-◌, ◌<◌, ◌≤◌, take, drop, get_or, Result, Ok, Err, OnOk, IsTrue, ◌^◌, ◌⊎◌, IfErr, zero, length-drop, take_at, take_all, take-append-drop, IsUtf8, rules, length-take, IsFalse}
+pub use Rattle.std.proofs.Common.{◌≡◌, ℕ, ◌+◌, ◌==◌, Bool, true, false, List, [], ◌∷◌, ◌++◌, length, Option, Some, None, inl, inr, ⊎_elim, encode_utf8_all, refl, sym, ap, subst, ◌∙◌, arith, append_assoc, append-nil, length-append, eq-eqb, ne_eqb, if◌then◌else◌, suc, ◌-◌, ◌<◌, ◌≤◌, take, drop, get_or, Result, Ok, Err, OnOk, IsTrue, ◌^◌, ◌⊎◌, length-drop, take_at, take_all, take-append-drop, IsUtf8, rules, length-take, IsFalse}
 pub use Rattle.std.proofs.Math.Seq.{drop-cons, drop-length, take-suc, get_or-append_seam, drop-append-add}
-pub use Rattle.std.proofs.lemmas.Bool.{cases_Bool, or_from, cases_lt, eqb-true}
-pub use Rattle.std.proofs.lemmas.List.{drop-append-le, take-append-le}
-pub use Rattle.std.proofs.lemmas.Str.{encodes-append, IsUtf8-take, IsCharBoundary-after_ascii, IsCharBoundary-from_drop}
+pub use Rattle.std.proofs.lemmas.Bool.{cases_Bool, or_from}
+pub use Rattle.std.proofs.lemmas.List.{drop-append-le}
+pub use Rattle.std.proofs.lemmas.Str.{encodes-append, IsUtf8-take}
 pub use Rattle.std.proofs.str.Laws.{scalars-append}
 pub use Rattle.std.specs.Io.KnownBytes.{Consumes, IsAtEnd}
 pub use Rattle.std.specs.Result.{result_err}
 pub use Rattle.nf_facts.specs.LineFeed.{line_feed}
-pub use Rattle.nf_filter.proofs.DriveLemmas.{refused_by}
 pub use Rattle.nf_filter.proofs.FeedingLemmas.{fed_by}
-pub use Rattle.nf_filter.proofs.FilterLemmas.{StandsAfter-no_fault, StandsAfter-offset, StandsAfter-fits, write_or_not}
+pub use Rattle.nf_filter.proofs.FilterLemmas.{StandsAfter-no_fault, StandsAfter-offset, StandsAfter-fits}
 pub use Rattle.nf_filter.proofs.PieceLemmas.{left-text, IsLeft-all, IsLeft-behind, IsLeft-join, IsLeft-parts, own_parts-append}
-pub use Rattle.nf_filter.proofs.WritesLemmas.{Puts-none, Puts-join, Puts-at, BreaksOff-join, BreaksOff-at}
+pub use Rattle.nf_filter.proofs.WritesLemmas.{Puts-none, Puts-at, BreaksOff-at}
 pub use Rattle.nf_filter.specs.Devices.{SinkState, SourceState}
 unfoldable pub use Rattle.nf_filter.specs.Faults.{fault_in}
-pub use Rattle.nf_filter.specs.Faults.{answer_at_end, bad_byte, bad_under, first_fault, IsOfFinishing, IsOfFeeding}
+pub use Rattle.nf_filter.specs.Faults.{answer_at_end, bad_byte, bad_under, first_fault, IsOfFinishing}
 pub use Rattle.nf_filter.specs.Feeding.{IsLeft}
 pub use Rattle.nf_filter.specs.Filter.{base_of, StandsAfter, offset_of, state_of, is_spent}
 unfoldable pub use Rattle.nf_filter.specs.Finishes.{end_of, final_utf8}
@@ -24,7 +23,7 @@ pub use Rattle.nf_filter.specs.Laws.Settled.{text_under-none, settled_utf8-none}
 pub use Rattle.nf_filter.specs.Policy.{allowed, len_under, text_under, whole_under, as_is}
 unfoldable pub use Rattle.nf_filter.specs.Settled.{settled, settled_utf8}
 pub use Rattle.nf_filter.specs.declared.fault.Fault.{Fault}
-pub use Rattle.nf_filter.specs.declared.fault.Fault.TheVariants.{Unassigned, TooLong, Read, Write, Spent, Row, BadByte}
+pub use Rattle.nf_filter.specs.declared.fault.Fault.TheVariants.{Unassigned, TooLong, Read, Write}
 pub use Rattle.nf_filter.specs.declared.filter.State.{State}
 pub use Rattle.nf_filter.specs.declared.policy.Policy.{Policy}
 pub use Rattle.nf_filter.specs.declared.tally.Tally.{Tally}
@@ -38,5 +37,5 @@ pub use Rattle.nf_lines.specs.Drives.{Lines, bytes_of, lines_utf8, TakesLines, D
 pub use Rattle.nf_utf8.specs.Ending.{Ending, Whole, Bad, Cut, moved}
 unfoldable pub use Rattle.nf_utf8.specs.Reading.{text_of, ending_of}
 unfoldable pub use Rattle.nf_utf8.specs.Replaced.{parts_of, replaced, replaced_whole}
-pub use Rattle.nf_utf8.specs.Replaced.{replacement, part_end, Part, own_parts}
+pub use Rattle.nf_utf8.specs.Replaced.{replacement, part_end, own_parts}
 pub use Rattle.nf_utf8.specs.Text.{IsText, BeginsText}

@@ -1,11 +1,11 @@
 -- What driving line by line comes to.
-use Rattle.nf_lines.proofs.Common.{fed_by, Bool, ◌≡◌, ℕ, ◌+◌, ◌<◌, ◌≤◌, ◌==◌, ◌^◌, true, false, List, [], ◌++◌, length, take, Some, None, Result, Ok, Err, inl, ⊎_elim, refl, sym, ap, subst, ◌∙◌, arith, append-nil, length-append, eq-eqb, OnOk, IsTrue, IsFalse, result_err, Consumes, IsAtEnd, Form, Fault, TooLong, Read, Write, State, Policy, Tally, SinkState, SourceState, settled_utf8-none, settled_utf8, fault_in, base_of, StandsAfter, end_of, final_utf8, Finishes, offset_of, StandsAfter-no_fault, StandsAfter-offset, StandsAfter-fits, Puts-none, Puts-join, Puts-at, BreaksOff-join, BreaksOff-at, ucd, end_fault, Lines, bytes_of, TakesLines, DrivesLines}
+use Rattle.nf_lines.proofs.Common.{fed_by, Bool, ◌≡◌, ℕ, ◌+◌, ◌<◌, ◌≤◌, ◌==◌, ◌^◌, true, false, List, [], ◌++◌, length, take, Some, None, Result, Ok, Err, inl, ⊎_elim, refl, sym, ap, subst, ◌∙◌, arith, append-nil, length-append, eq-eqb, OnOk, IsTrue, IsFalse, result_err, Consumes, IsAtEnd, Form, Fault, TooLong, Read, Write, State, Policy, Tally, SinkState, SourceState, settled_utf8-none, settled_utf8, fault_in, base_of, StandsAfter, end_of, final_utf8, Finishes, offset_of, StandsAfter-no_fault, StandsAfter-offset, StandsAfter-fits, Puts-none, Puts-at, BreaksOff-at, ucd, end_fault, Lines, bytes_of, TakesLines, DrivesLines}
 use Rattle.std.proofs.KnownBytes.{Consumes-trans}
 use Rattle.nf_filter.specs.Drives.{due_utf8}
 use Rattle.nf_filter.specs.Writes.{Puts, BreaksOff}
 use Rattle.nf_lines.specs.Alone.{LinesStandAlone}
 use Rattle.nf_lines.proofs.AloneLemmas.{final-none}
-use Rattle.nf_lines.proofs.StepLemmas.{Joins, joins, join, Puts-past, BreaksOff-past, long_or_not, untold, untold_err, told}
+use Rattle.nf_lines.proofs.StepLemmas.{Joins, joins, join, Puts-on, BreaksOff-on, long_or_not, untold, untold_err, told}
 
 -- nothing was read
 pub takes_none : (policy : Policy) (f : Form) (state : State) (sink : SinkState) → StandsAfter policy f ucd state [] → base_of state ≡ 0 → TakesLines policy f ucd state (record { whole = []; rest = [] }) sink sink (Ok tt)
@@ -97,8 +97,8 @@ module _ (alone : LinesStandAlone) (policy : Policy) (f : Form) (most : ℕ) (so
         → Consumes mid.coming left.coming (take n buffer) → ¬ (r ≡ Err TooLong) → Finishes policy f ucd (base_of state) t.rest now new r → DrivesLines most policy f ucd source left old new (untold r)
     drives-finished mid buffer n new r none at_end empty read given short finishes =
         all_read new (untold r) consumed (λ _. empty) (λ e. short (told r TooLong e))
-        (λ e. BreaksOff-at refl (ap due (sym ended)) (BreaksOff-join (has.written (λ e. cc)) (BreaksOff-past (final_utf8 policy f ucd t.whole) (finishes.broken_off (told r Write e)))))
-        (λ kept. Puts-at refl (ap due (sym ended)) (Puts-join (has.written (λ e. cc)) (Puts-past (final_utf8 policy f ucd t.whole) (finishes.written (λ e. kept (ap untold e))))))
+        (λ e. BreaksOff-at refl (ap due (sym ended)) (BreaksOff-on (final_utf8 policy f ucd t.whole) (has.written (λ e. cc)) (finishes.broken_off (told r Write e))))
+        (λ kept. Puts-at refl (ap due (sym ended)) (Puts-on (final_utf8 policy f ucd t.whole) (has.written (λ e. cc)) (finishes.written (λ e. kept (ap untold e)))))
         (formed r finishes.answer) (λ _ kept. untold_err r ∙ ap result_err (finishes.answer (λ e. kept (ap untold e))) ∙ sym joined.end)
         (λ going. never going ended)
       where

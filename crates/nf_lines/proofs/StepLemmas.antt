@@ -1,26 +1,23 @@
 -- A piece more.
-use Rattle.nf_lines.proofs.Common.{fed_by, ◌≡◌, ℕ, ◌+◌, ◌≤◌, List, [], ◌∷◌, ◌++◌, length, None, Result, Ok, Err, ◌⊎◌, inl, inr, ⊎_elim, refl, sym, ap, subst, ◌∙◌, arith, append_assoc, append-nil, length-append, OnOk, result_err, Form, line_feed, Fault, TooLong, Write, State, Policy, Tally, SinkState, settled_utf8-none, settled_utf8, fault_in, base_of, offset_of, StandsAfter, final_utf8, Finishes, StandsAfter-offset, Puts-join, Puts-at, BreaksOff-join, BreaksOff-at, ucd, EndsInLineFeed, AreLines, HasNoLineFeed, end_fault, SameOrLineFeed, Lines, bytes_of, lines_utf8, TakesLines}
+use Rattle.nf_lines.proofs.Common.{fed_by, ◌≡◌, ℕ, ◌+◌, ◌≤◌, List, [], ◌∷◌, ◌++◌, length, None, Result, Ok, Err, ◌⊎◌, inl, inr, ⊎_elim, refl, sym, ap, subst, ◌∙◌, arith, append_assoc, append-nil, length-append, OnOk, result_err, Form, line_feed, Fault, TooLong, Write, State, Policy, Tally, SinkState, settled_utf8-none, settled_utf8, fault_in, base_of, offset_of, StandsAfter, final_utf8, Finishes, StandsAfter-offset, Puts-at, BreaksOff-at, ucd, EndsInLineFeed, AreLines, HasNoLineFeed, end_fault, SameOrLineFeed, Lines, bytes_of, lines_utf8, TakesLines}
 use Rattle.nf_filter.specs.Writes.{Puts, BreaksOff}
 use Rattle.nf_filter.specs.Feeds.{Feeds}
 use Rattle.nf_filter.proofs.DriveLemmas.{refused_by}
+use Rattle.nf_filter.proofs.WritesLemmas.{Puts-more, BreaksOff-more}
 use Rattle.nf_lines.specs.Alone.{LinesStandAlone}
 use Rattle.nf_lines.specs.Drives.{FeedsLines}
 use Rattle.nf_lines.proofs.AloneLemmas.{final-none}
 use Rattle.nf_lines.proofs.CutLemmas.{none_more}
 
--- behind what was written before
-pub Puts-past : {old new : SinkState} {a b : List ℕ} (c : List ℕ) → Puts old new a b → Puts old new (c ++ a) (c ++ b)
-Puts-past {a = a} c puts = record { out = puts.out; behind = ap (λ l. c ++ l) puts.behind ∙ sym (append_assoc c a puts.out); given = puts.given; stands = puts.stands; idle = puts.idle }
+-- behind what was written before, of which the front `lines` is of no matter for what comes
+pub Puts-on : {old mid new : SinkState} {a b : List ℕ} (lines : List ℕ) → Puts old mid [] (lines ++ a) → Puts mid new a b → Puts old new [] (lines ++ b)
+Puts-on {old = old} {new = new} {a = a} lines first second =
+    subst (Puts old new []) (append_assoc lines a second.out ∙ ap (λ l. lines ++ l) (sym second.behind)) (Puts-more second.out first second.given second.stands second.idle)
 
-pub BreaksOff-past : {old new : SinkState} {a b : List ℕ} (c : List ℕ) → BreaksOff old new a b → BreaksOff old new (c ++ a) (c ++ b)
-BreaksOff-past {a = a} c breaks = record {
-  out = breaks.out;
-  rest = breaks.rest;
-  behind = ap (λ l. c ++ l) breaks.behind ∙ sym (append_assoc c (a ++ breaks.out) breaks.rest) ∙ ap (λ l. l ++ breaks.rest) (sym (append_assoc c a breaks.out));
-  more = breaks.more;
-  given = breaks.given;
-  failed = breaks.failed;
-}
+pub BreaksOff-on : {old mid new : SinkState} {a b : List ℕ} (lines : List ℕ) → Puts old mid [] (lines ++ a) → BreaksOff mid new a b → BreaksOff old new [] (lines ++ b)
+BreaksOff-on {old = old} {new = new} {a = a} lines first second =
+    subst (BreaksOff old new []) (ap (λ l. l ++ second.rest) (append_assoc lines a second.out) ∙ append_assoc lines (a ++ second.out) second.rest ∙ ap (λ l. lines ++ l) (sym second.behind))
+    (BreaksOff-more second.out second.rest first second.given second.failed second.more)
 
 pub long_or_not : (r : Result (Unit {0}) Fault) → (r ≡ Err TooLong) ⊎ (¬ (r ≡ Err TooLong))
 long_or_not (Err TooLong) = inl refl
@@ -110,8 +107,8 @@ module _ (alone : LinesStandAlone) (policy : Policy) (f : Form) where
             record {
               whole = has.whole;
               no_fault = has.no_fault;
-              broken_off = λ e. BreaksOff-join so_far (BreaksOff-past lines ((fed.feeds short).broken_off e));
-              written = λ kept. Puts-join so_far (Puts-past lines ((fed.feeds short).written kept));
+              broken_off = λ e. BreaksOff-on lines so_far ((fed.feeds short).broken_off e);
+              written = λ kept. Puts-on lines so_far ((fed.feeds short).written kept);
               answer = λ kept _. (fed.feeds short).answer kept ∙ sym (join (l.rest ++ piece)).fault;
               too_long = λ over. absurd (short over);
               stands = λ e. (none_more l.rest piece (has.stands refl).0 (none e).1, fed.base ∙ (has.stands refl).1, rw e at fed.stands);
@@ -142,15 +139,15 @@ module _ (alone : LinesStandAlone) (policy : Policy) (f : Form) where
       ended_utf8 = sym ((join (l.rest ++ piece)).final end) ∙ sym (append-nil (final_utf8 policy f ucd ended.whole)) ∙ ap (λ b. final_utf8 policy f ucd ended.whole ++ b) (sym (settled_utf8-none policy f ucd))
 
       put : Puts first new [] (lines ++ settled_utf8 policy f ucd (l.rest ++ piece))
-      put = Puts-join so_far (Puts-past lines (feeds.written (λ e. cc)))
+      put = Puts-on lines so_far (feeds.written (λ e. cc))
 
       pub ended_lines : (fresh : State) (last : SinkState) (r : Result Tally Fault) → Finishes policy f ucd (base_of state) (l.rest ++ piece) new last r
           → (untold r ≡ Ok tt → (base_of fresh ≡ offset_of state + length piece) × StandsAfter policy f ucd fresh []) → TakesLines policy f ucd fresh ended first last (untold r)
       ended_lines fresh last r finishes begun = record {
         whole = inr whole;
         no_fault = good;
-        broken_off = λ e. BreaksOff-at refl ended_utf8 (BreaksOff-join put (BreaksOff-past lines (finishes.broken_off (told r Write e))));
-        written = λ kept. Puts-at refl ended_utf8 (Puts-join put (Puts-past lines (finishes.written (λ e. kept (ap untold e)))));
+        broken_off = λ e. BreaksOff-at refl ended_utf8 (BreaksOff-on lines put (finishes.broken_off (told r Write e)));
+        written = λ kept. Puts-at refl ended_utf8 (Puts-on lines put (finishes.written (λ e. kept (ap untold e))));
         answer = λ kept _. untold_err r ∙ ap result_err (finishes.answer (λ e. kept (ap untold e))) ∙ end ∙ sym all_good;
         too_long = λ _. (refl, all_good);
         stands = λ e. (refl, at (begun e).0, (begun e).1);
