@@ -1,11 +1,11 @@
 -- Bytes and the texts that they spell.
-use Rattle.nf_normalized.proofs.Common.{◌≡◌, ◌⊎◌, ⊎_elim, inl, inr, ◌^◌, eqb-true, eq-eqb, true≢false, ℕ, suc, ◌+◌, ◌<◌, ◌≤◌, ◌==◌, Bool, true, false, List, [], ◌∷◌, ◌++◌, length, get_or, take, drop, refl, sym, ap, ap₂, ◌∙◌, subst, arith, append_assoc, append-nil, length-append, Option, Some, None, IsUtf8, chars, encode_utf8, encode_utf8_all, if◌then◌else◌, and_parts, and_from, take_at, take-append-drop, nil_from_length, encodes-append, encodes-chars, length-le-encodes, ucd, Form, ChangesOnce, text_of, rest_of, first_text, first_bytes, bytes_behind, Takes, IsText, SplitsBytes, ReadsBack, ReadsPieces, common, goes_on_with}
+use Rattle.nf_normalized.proofs.Common.{◌≡◌, ◌^◌, eq-eqb, true≢false, ℕ, ◌+◌, ◌<◌, ◌≤◌, false, List, [], ◌∷◌, ◌++◌, length, get_or, take, drop, refl, sym, ap, ap₂, ◌∙◌, subst, arith, append_assoc, append-nil, length-append, Option, Some, None, IsUtf8, chars, encode_utf8, encode_utf8_all, and_parts, and_from, take_at, length-take, take-append-drop, nil_from_length, encodes-append, encodes-chars, length-le-encodes, ucd, Form, ChangesOnce, text_of, rest_of, first_text, first_bytes, bytes_behind, Takes, IsText, SplitsBytes, ReadsBack, ReadsPieces, common, goes_on_with}
 use Rattle.nf_utf8.specs.declared.chunk.End.{End}
 use Rattle.nf_utf8.specs.declared.chunk.End.TheVariants.{Bad}
 use Rattle.nf_utf8.specs.declared.decoder.Decoder.{Decoder}
 use Rattle.nf_utf8.specs.Standing.{StandsAfter}
 use Rattle.nf_filter.proofs.ReadingLemmas.{text_of-none}
-use Rattle.nf_normalized.proofs.CommonLemmas.{common-behind, common-front}
+use Rattle.nf_normalized.proofs.CommonLemmas.{common-le-left, take-common, common-behind, common-front}
 
 -- what is known of bytes and of the forms
 pub record Known : Type 0 where
@@ -84,69 +84,52 @@ common-taken : (x s : List ℕ) → s ≡ take (length s) x → common x s ≡ l
 common-taken x s is =
     ap (λ l. common l s) (sym (take-append-drop (length s) x) ∙ ap (λ l. l ++ drop (length s) x) (sym is)) ∙ common-front s (drop (length s) x)
 
-module _ (known : Known) where
-  -- behind its text bytes spell nothing
-  rest_none : (m : List ℕ) → text_of (rest_of m) ≡ []
-  rest_none m = none_behind (text_of m) (text_of (rest_of m)) (sym (ap (λ l. text_of m ++ text_of l) (append-nil (rest_of m))) ∙ sym (known.pieces.text m []) ∙ ap text_of (append-nil m))
+-- what stands at the front of two lists that go on otherwise behind m stands in m
+in_both : (e m i p q : List ℕ) (b : ℕ) (t : List ℕ) → goes_on_with b i ≡ false → m ++ i ≡ e ++ p → m ++ b ∷ t ≡ e ++ q → (more : List ℕ) × (m ≡ e ++ more)
+in_both [] m i p q b t differ first second = (m, refl)
+in_both (d ∷ e) [] i p q b t differ first second = absurd (true≢false (sym (ap (goes_on_with b) first ∙ eq-eqb d b (sym (ap (λ l. get_or l 0 0) second))) ∙ differ))
+in_both (d ∷ e) (k ∷ m) i p q b t differ first second =
+    let rest = in_both e m i p q b t differ (ap (drop 1) first) (ap (drop 1) second) in
+    (rest.0, ap₂ (λ x l. x ∷ l) (ap (λ l. get_or l 0 0) first) rest.1)
 
+pub scalars_front : (x y : List ℕ) → IsText (x ++ y) → IsText x
+scalars_front [] y scalars = refl
+scalars_front (c ∷ x) y scalars = let parts = and_parts _ _ scalars in and_from _ _ parts.0 (scalars_front x y parts.1)
+
+pub scalars_take : (n : ℕ) (x : List ℕ) → IsText x → IsText (take n x)
+scalars_take n x scalars = scalars_front (take n x) (drop n x) (subst IsText (sym (take-append-drop n x)) scalars)
+
+encoded : (n : ℕ) (x : List ℕ) → encode_utf8_all x ≡ encode_utf8_all (take n x) ++ encode_utf8_all (drop n x)
+encoded n x = ap encode_utf8_all (sym (take-append-drop n x)) ∙ encodes-append (take n x) (drop n x)
+
+module _ (known : Known) where
   pub text_of-encodes : (x : List ℕ) → IsText x → text_of (encode_utf8_all x) ≡ x
   text_of-encodes x scalars = ap text_of (sym (append-nil (encode_utf8_all x))) ∙ known.back.text x [] scalars ∙ ap (λ l. x ++ l) text_of-none ∙ append-nil x
 
-  -- of two lists of bytes that begin alike each begins with the shorter front, or with what goes on behind it
-  record GoesOn (r e i j : List ℕ) : Type 0 where
-    next : ℕ
-    more : List ℕ
-    other : List ℕ
-    first : i ≡ next ∷ more
-    second : j ≡ next ∷ other
-
-  fronts : (r e i j p q : List ℕ) → r ++ i ≡ e ++ p → r ++ j ≡ e ++ q → ((more : List ℕ) × (r ≡ e ++ more)) ⊎ GoesOn r e i j
-  fronts r [] i j p q a b = inl (r, refl)
-  fronts [] (d ∷ e) i j p q a b = inr (record { next = d; more = e ++ p; other = e ++ q; first = a; second = b })
-  fronts (k ∷ r) (d ∷ e) i j p q a b =
-      ⊎_elim (λ h. inl (h.0, ap₂ (λ x l. x ∷ l) (ap (λ l. get_or l 0 0) a) h.1)) (λ h. inr (record { next = h.next; more = h.more; other = h.other; first = h.first; second = h.second }))
-      (fronts r e i j p q (ap (drop 1) a) (ap (drop 1) b))
-
-  -- behind the text of bytes that another text goes on with otherwise, nothing is in common
-  module _ (m i : List ℕ) (b : ℕ) (t : List ℕ) (differ : goes_on_with b i ≡ false) where
-    abbrev r : List ℕ
-    r = rest_of m
-
-    apart : (a : ℕ) (x y p q : List ℕ) → IsText (a ∷ x) → r ++ i ≡ encode_utf8_all (a ∷ x) ++ p → r ++ b ∷ t ≡ encode_utf8_all (a ∷ y) ++ q → ⊥
-    apart a x y p q scalars first second =
-        ⊎_elim inside behind (fronts r (encode_utf8 a) i (b ∷ t) (encode_utf8_all x ++ p) (encode_utf8_all y ++ q)
-        (first ∙ append_assoc (encode_utf8 a) (encode_utf8_all x) p) (second ∙ append_assoc (encode_utf8 a) (encode_utf8_all y) q))
-      where
-        inside : (more : List ℕ) × (r ≡ encode_utf8 a ++ more) → ⊥
-        inside h =
-            let one : encode_utf8_all (a ∷ []) ≡ encode_utf8 a = append-nil (encode_utf8 a) in
-            let is = ap text_of (h.1 ∙ ap (λ l. l ++ h.0) (sym one)) ∙ known.back.text (a ∷ []) h.0 (and_from _ true (and_parts _ _ scalars).0 refl) in
-            omega (arith, ap length is, ap length (rest_none m))
-
-        behind : GoesOn r (encode_utf8 a) i (b ∷ t) → ⊥
-        behind h = true≢false (sym (ap (goes_on_with b) h.first ∙ eq-eqb h.next b (sym (ap (λ l. get_or l 0 0) h.second))) ∙ differ)
-
-    none_common : (x y p q : List ℕ) → IsText x → r ++ i ≡ encode_utf8_all x ++ p → r ++ b ∷ t ≡ encode_utf8_all y ++ q → common x y ≡ 0
-    none_common [] y p q scalars first second = refl
-    none_common (a ∷ x) [] p q scalars first second = refl
-    none_common (a ∷ x) (c ∷ y) p q scalars first second = next (a == c) refl
-      where
-        next : (s : Bool) → (a == c) ≡ s → (if s then suc (common x y) else 0) ≡ 0
-        next true e = absurd (apart a x y p q scalars first (subst (λ d. r ++ b ∷ t ≡ encode_utf8_all (d ∷ y) ++ q) (sym (eqb-true a c e)) second))
-        next false e = refl
-
-    pub departs : (s : List ℕ) → IsText s → encode_utf8_all s ≡ m ++ b ∷ t → Departs (text_of (m ++ i)) s (text_of m)
-    departs s scalars is =
-        let x2 = text_of (r ++ i) in
-        let s2 = text_of (r ++ b ∷ t) in
-        let x_is = known.pieces.text m i in
-        let s_is = sym (text_of-encodes s scalars) ∙ ap text_of is ∙ known.pieces.text m (b ∷ t) in
-        let none = none_common x2 s2 (rest_of (r ++ i)) (rest_of (r ++ b ∷ t)) (known.split.scalars (r ++ i)) (known.split.split (r ++ i)) (known.split.split (r ++ b ∷ t)) in
-        let count : common (text_of (m ++ i)) s ≡ length (text_of m) = ap₂ common x_is s_is ∙ common-behind (text_of m) x2 s2 ∙ omega (arith, none) in
-        record {
-          shares = record { count = count; front = ap (take (length (text_of m))) x_is ∙ take_at (text_of m) x2 (length (text_of m)) refl };
-          other = λ same.
-              let all = front_all (text_of m) s2 s (sym s_is) (sym count ∙ common-taken (text_of (m ++ i)) s same) in
-              let whole = ap length (known.split.split m) in
-              absurd (omega (arith, ap (λ l. length (encode_utf8_all l)) all, ap length is, length-append m (b ∷ t), whole, length-append (encode_utf8_all (text_of m)) (rest_of m)));
-        }
+  -- of bytes that go on otherwise than a text does no more than their own text is in common
+  pub departs : (m i : List ℕ) (b : ℕ) (t : List ℕ) → goes_on_with b i ≡ false → (s : List ℕ) → IsText s → encode_utf8_all s ≡ m ++ b ∷ t → Departs (text_of (m ++ i)) s (text_of m)
+  departs m i b t differ s scalars is =
+      let x = text_of (m ++ i) in
+      let n = common x s in
+      let x_is = known.pieces.text m i in
+      let s_is = sym (text_of-encodes s scalars) ∙ ap text_of is ∙ known.pieces.text m (b ∷ t) in
+      let first : m ++ i ≡ encode_utf8_all (take n x) ++ (encode_utf8_all (drop n x) ++ rest_of (m ++ i)) =
+      known.split.split (m ++ i) ∙ ap (λ l. l ++ rest_of (m ++ i)) (encoded n x) ∙ append_assoc (encode_utf8_all (take n x)) (encode_utf8_all (drop n x)) (rest_of (m ++ i)) in
+      let second : m ++ b ∷ t ≡ encode_utf8_all (take n x) ++ encode_utf8_all (drop n s) = sym is ∙ encoded n s ∙ ap (λ l. encode_utf8_all l ++ encode_utf8_all (drop n s)) (sym (take-common x s)) in
+      let inside = in_both (encode_utf8_all (take n x)) m i _ _ b t differ first second in
+      let text : text_of m ≡ take n x ++ text_of inside.0 = ap text_of inside.1 ∙ known.back.text (take n x) inside.0 (scalars_take n x (known.split.scalars (m ++ i))) in
+      let count : n ≡ length (text_of m) = omega (
+        arith,
+        ap length text,
+        length-append (take n x) (text_of inside.0),
+        length-take n x,
+        common-le-left x s,
+        ap₂ common x_is s_is ∙ common-behind (text_of m) (text_of (rest_of m ++ i)) (text_of (rest_of m ++ b ∷ t)),
+      ) in
+      record {
+        shares = record { count = count; front = ap (take (length (text_of m))) x_is ∙ take_at (text_of m) (text_of (rest_of m ++ i)) (length (text_of m)) refl };
+        other = λ same.
+            let all = front_all (text_of m) (text_of (rest_of m ++ b ∷ t)) s (sym s_is) (sym count ∙ common-taken x s same) in
+            let whole = ap length (known.split.split m) in
+            absurd (omega (arith, ap (λ l. length (encode_utf8_all l)) all, ap length is, length-append m (b ∷ t), whole, length-append (encode_utf8_all (text_of m)) (rest_of m)));
+      }

@@ -1,14 +1,17 @@
 -- What a call of a filter tells of a text, by what it wrote to a sink that compares.
-use Rattle.nf_normalized.proofs.Common.{IsNone, subst, ◌≡◌, ℕ, ◌+◌, ◌<◌, ◌^◌, Bool, true, false, List, ◌∷◌, ◌++◌, length, take, IsTrue, refl, sym, ap, ap₂, ◌∙◌, arith, ◌==◌, length-append, Option, Some, None, is_some, option_map, encode_utf8_all, true≢false, Result, Ok, Err, list_any, result_err, false_from_ne_true, take_at, encodes_same, length-le-encodes, take-length, ucd, Form, safe_form, IsSoundText, IsText, Ending, Whole, Bad, CutOff, text_of, rest_of, ending_of, EndsAs, ReadsLongestText, Place, place_at, Fault, Write, place_or_fault, fault_in, answer_at_end, bad_byte, final_utf8, whole_or, is_spent, kind, IsAmong, Comparing, same, left, HasRoom, IsBehind, under, made_of, common, change_at, form_value, form_decision, HoldsSome, filter_state, IsOfPiece, IsOfEnd}
+use Rattle.nf_normalized.proofs.Common.{IsNone, subst, ◌≡◌, ℕ, ◌+◌, ◌<◌, ◌^◌, Bool, true, false, List, ◌∷◌, ◌++◌, length, take, IsTrue, refl, sym, ap, ap₂, ◌∙◌, arith, ◌==◌, length-append, Option, Some, None, is_some, option_map, encode_utf8_all, true≢false, Result, Ok, Err, list_any, result_err, false_from_ne_true, take_at, encodes_same, length-le-encodes, take-length, ucd, Form, safe_form, IsText, Ending, Whole, Bad, CutOff, text_of, rest_of, ending_of, EndsAs, ReadsLongestText, Place, place_at, Fault, Write, place_or_fault, fault_in, answer_at_end, bad_byte, final_utf8, whole_or, is_spent, kind, IsAmong, Comparing, same, left, HasRoom, IsBehind, under, made_of, common, change_at, form_value, form_decision, HoldsSome, filter_state, IsOfPiece, IsOfEnd}
 use Rattle.nf_filter.specs.declared.tally.Tally.{Tally}
 use Rattle.nf_filter.specs.Kinds.{Holds}
+use Rattle.nf_filter.specs.Faults.{IsOfFeeding}
+use Rattle.nf_filter.specs.Laws.Soundness.{AreSound}
+use Rattle.nf_filter.proofs.SoundnessLemmas.{not_a_fault}
 use Rattle.nf_normalized.specs.declared.checker.FormChecker.{FormChecker}
 use Rattle.nf_normalized.proofs.BytesLemmas.{Known, Shares, Departs, departs, text_of-encodes, front_all, none_behind}
 use Rattle.nf_normalized.proofs.ChangeLemmas.{if_same, if_other}
 use Rattle.nf_normalized.proofs.CommonLemmas.{common-front}
 use Rattle.nf_normalized.proofs.ComparingLemmas.{none_is}
 use Rattle.nf_normalized.proofs.WroteLemmas.{Wrote, read, other_written, unfailed, all_written}
-use Rattle.nf_normalized.proofs.CheckerLemmas.{written, written_is, is_text, chars_behind, bytes_behind, unparted, fault_kinds}
+use Rattle.nf_normalized.proofs.CheckerLemmas.{written, written_is, is_text, chars_behind, bytes_behind, unparted, of_piece}
 
 pub is_none : {A : Type 0} {o : Option A} → o ≡ None → IsNone o
 is_none e = subst (λ o. IsNone o) (sym e) refl
@@ -128,8 +131,9 @@ module _ {assigned : Bool} {f : Form} {base : ℕ} {held bytes all : List ℕ} {
       (sym (if_other made (take (length made) (text_of all)) _ _ d.other ∙ placed call made scalars (written_is assigned f all) d.shares place behind))
 
   module _ (none : is_some new.other ≡ false) where
-    pub piece_kinds : (sound : (x : List ℕ) → IsSoundText ucd x) (fault : Fault) → r ≡ Err fault → IsOfPiece fault
-    piece_kinds sound fault is = fault_kinds sound assigned base all fault (sym (told call none) ∙ ap result_err is)
+    pub piece_kinds : AreSound ucd → (fault : Fault) → IsOfFeeding fault → r ≡ Err fault → IsOfPiece fault
+    piece_kinds sound fault may is = of_piece fault may (λ e. unfailed call.wrote none (is ∙ ap Err e))
+        (λ at e. not_a_fault ucd sound base at (under assigned) all (sym (told call none) ∙ ap result_err is ∙ ap Some e))
 
     pub split_now : all ≡ written assigned f all ++ left new
     split_now = read call.wrote ∙ ap (λ l. l ++ left new) (sym (all_written call.wrote none))

@@ -1,26 +1,18 @@
 -- What a filter that is fed a text tells of it, by what it writes.
-use Rattle.nf_normalized.proofs.Common.{◌≡◌, ◌⊎◌, inl, inr, ⊎_elim, ℕ, ◌+◌, ◌*◌, ◌≤◌, ◌==◌, Bool, true, false, List, [], ◌∷◌, ◌++◌, length, take, drop, take_while, refl, sym, ap, ap₂, ◌∙◌, subst, arith, append-nil, length-append, take-append-drop, Option, Some, None, encode_utf8, encode_utf8_all, if◌then◌else◌, eqb-true, and_parts, and_from, take_at, encodes-append, length-encode, len_utf8_bounds, take-length, prefix_len, ucd, Form, front, back, safe_form, ChangesOnce, front-append-back, IsSoundText, IsText, BeginsText, Ending, Whole, Bad, Cut, text_of, ending_of, EndsAs, ReadsLongestText, ReplacesParts, Fault, Row, Unassigned, first_fault, fault_in, bad_byte, base_of, StandsAfter, settled, is_usable, usable, settled_utf8, place_or_fault, under, made_of, settled_change_at, form_decision, Holds, IsOfPiece}
-use Rattle.std.proofs.lemmas.Option.{same_Some}
+use Rattle.nf_normalized.proofs.Common.{◌≡◌, ℕ, ◌+◌, ◌*◌, ◌≤◌, Bool, true, false, List, [], ◌∷◌, ◌++◌, length, take, take_while, refl, sym, ap, ap₂, ◌∙◌, subst, arith, append-nil, length-append, None, encode_utf8, encode_utf8_all, take_at, encodes-append, length-encode, len_utf8_bounds, prefix_len, ucd, Form, front, back, safe_form, ChangesOnce, front-append-back, IsText, BeginsText, Ending, Whole, Bad, Cut, text_of, ending_of, EndsAs, ReadsLongestText, ReplacesParts, Fault, Write, Row, fault_in, bad_byte, base_of, StandsAfter, settled, is_usable, usable, settled_utf8, place_or_fault, under, made_of, settled_change_at, form_decision, Holds, IsOfPiece}
 use Rattle.nf_utf8.specs.Replaced.{bytes_in}
 use Rattle.nf_safe.specs.LongestFront.{longest_front}
-use Rattle.nf_safe.specs.Laws.LongestFront.{longest_front-all}
+use Rattle.nf_filter.specs.Faults.{IsOfFeeding}
+use Rattle.nf_filter.specs.Laws.Soundness.{AreSound}
+use Rattle.nf_filter.proofs.PolicyLemmas.{first_fault-none, taken, taken_whole, taken-all}
+use Rattle.nf_filter.proofs.SoundnessLemmas.{usable_is}
 use Rattle.nf_filter.specs.declared.filter.State.{State}
 use Rattle.nf_filter.specs.Policy.{allowed, len_under}
 use Rattle.nf_filter.specs.Laws.Settled.{settled_utf8-none}
-use Rattle.nf_normalized.proofs.BytesLemmas.{Known, front_all}
+use Rattle.nf_normalized.proofs.BytesLemmas.{Known, scalars_front, scalars_take}
 use Rattle.nf_normalized.proofs.ChangeLemmas.{if_same}
 
 -- ---- texts
-
-scalars_front : (x y : List ℕ) → IsText (x ++ y) → IsText x
-scalars_front [] y scalars = refl
-scalars_front (c ∷ x) y scalars = let parts = and_parts _ _ scalars in and_from _ _ parts.0 (scalars_front x y parts.1)
-
-scalars_take : (n : ℕ) (x : List ℕ) → IsText x → IsText (take n x)
-scalars_take n x scalars = scalars_front (take n x) (drop n x) (subst IsText (sym (take-append-drop n x)) scalars)
-
-while_all : (p : ℕ → Bool) (x : List ℕ) → length (take_while p x) ≡ length x → take_while p x ≡ x
-while_all p x same = front_all (take_while p x) (drop (prefix_len p x) x) x (take-append-drop (prefix_len p x) x) same
 
 module _ (once : (f : Form) → ChangesOnce f ucd) (assigned : Bool) (f : Form) where
   taken_scalars : (assigned : Bool) (x : List ℕ) → IsText x → IsText (usable ucd (allowed assigned ucd x))
@@ -68,48 +60,25 @@ module _ (known : Known) (assigned : Bool) (f : Form) (bytes : List ℕ) where
 
 -- ---- no fault
 
-module _ (sound : (x : List ℕ) → IsSoundText ucd x) where
-  all_usable : (x : List ℕ) → is_usable ucd x ≡ true
-  unfolding is_usable
-  all_usable x = sound _
+-- of the faults of feeding, those where the sink does not fail and each character can be used
+pub of_piece : (fault : Fault) → IsOfFeeding fault → ¬ (fault ≡ Write) → ((at : ℕ) → ¬ (fault ≡ Row at)) → IsOfPiece fault
+of_piece Write may kept used = absurd (kept refl)
+of_piece (Row at) may kept used = absurd (used at refl)
+of_piece _ may kept used = may
 
-  usable_is : (x : List ℕ) → usable ucd x ≡ x
-  unfolding usable
-  usable_is x = ap (λ n. take n x) (longest_front-all (is_usable ucd) x (all_usable x)) ∙ take-length x
-
-  -- the first fault is another, where each character was taken, or an unassigned character
-  first_is : (assigned : Bool) (place : List ℕ → ℕ) (x : List ℕ) (bad : Option Fault)
-      → ((allowed assigned ucd x ≡ x) × (first_fault assigned ucd place x bad ≡ bad)) ⊎ ((at : ℕ) × (first_fault assigned ucd place x bad ≡ Some (Unassigned at)))
-  first_is false place x bad = inl (refl, ap (λ b. if b then bad else Some (Row (place (usable ucd x)))) (all_usable x))
-  first_is true place x bad = rw (all_usable taken) (next (length taken == length x) refl)
-    where
-      taken : List ℕ
-      taken = take_while ucd.assigned x
-
-      next : (b : Bool) → (length taken == length x) ≡ b
-          → ((taken ≡ x) × ((if b then bad else Some (Unassigned (place taken))) ≡ bad)) ⊎ ((at : ℕ) × ((if b then bad else Some (Unassigned (place taken))) ≡ Some (Unassigned at)))
-      next true e = inl (while_all ucd.assigned x (eqb-true _ _ e), refl)
-      next false e = inr (place taken, refl)
-
-  module _ (assigned : Bool) (base : ℕ) (bytes : List ℕ) where
-    fault_is : ((allowed assigned ucd (text_of bytes) ≡ text_of bytes) × (fault_in (under assigned) ucd base bytes ≡ bad_byte base (ending_of bytes)))
-        ⊎ ((at : ℕ) × (fault_in (under assigned) ucd base bytes ≡ Some (Unassigned at)))
-    unfolding fault_in
-    fault_is = first_is assigned (λ front. base + len_under false bytes front) (text_of bytes) (bad_byte base (ending_of bytes))
-
-    pub fault_kinds : (fault : Fault) → fault_in (under assigned) ucd base bytes ≡ Some fault → IsOfPiece fault
-    fault_kinds fault is = ⊎_elim (λ none. bad (ending_of bytes) (sym none.1 ∙ is)) (λ other. subst IsOfPiece (same_Some _ _ (sym other.1 ∙ is)) tt) fault_is
-      where
-        bad : (ending : Ending) → bad_byte base ending ≡ Some fault → IsOfPiece fault
-        bad (Bad at start) e = subst IsOfPiece (same_Some _ _ e) tt
-        bad _ e = cc
-
-    pub no_fault_parts : fault_in (under assigned) ucd base bytes ≡ None → (allowed assigned ucd (text_of bytes) ≡ text_of bytes) × (bad_byte base (ending_of bytes) ≡ None)
-    no_fault_parts none = ⊎_elim (λ h. (h.0, sym h.1 ∙ none)) (λ other. let some : Some (Unassigned other.0) ≡ None = sym other.1 ∙ none in cc) fault_is
+module _ (sound : AreSound ucd) where
+  pub no_fault_parts : (assigned : Bool) (base : ℕ) (bytes : List ℕ) → fault_in (under assigned) ucd base bytes ≡ None
+      → (allowed assigned ucd (text_of bytes) ≡ text_of bytes) × (bad_byte base (ending_of bytes) ≡ None)
+  unfolding fault_in
+  no_fault_parts assigned base bytes none =
+      let place = λ (front : List ℕ). base + len_under false bytes front in
+      let bad = bad_byte base (ending_of bytes) in
+      let all = (taken_whole ucd assigned (text_of bytes) (taken ucd assigned place (text_of bytes) bad none)).1 in
+      (all, sym (first_fault-none ucd assigned place (text_of bytes) bad (usable_is ucd sound (text_of bytes)) all) ∙ none)
 
   module _ (assigned : Bool) (f : Form) (base : ℕ) (bytes : List ℕ) (none : fault_in (under assigned) ucd base bytes ≡ None) where
     pub made_all : made_of assigned f (text_of bytes) ≡ settled f ucd (text_of bytes)
-    made_all = ap (settled f ucd) (usable_is (allowed assigned ucd (text_of bytes)) ∙ (no_fault_parts assigned base bytes none).0)
+    made_all = ap (settled f ucd) (taken-all ucd assigned (text_of bytes) (usable_is ucd sound (text_of bytes)) (no_fault_parts assigned base bytes none).0)
 
     -- less than a character stands behind the text
     pub rest_few : ReadsLongestText → ReplacesParts → length bytes ≤ length (encode_utf8_all (text_of bytes)) + 3
@@ -136,7 +105,7 @@ module _ (known : Known) {assigned : Bool} {f : Form} {state : State} {held byte
   undecided = ap₂ place_or_fault (unparted known assigned f bytes (base_of state) held holds.split) holds.filter.no_fault
 
   -- little is held
-  pub held_few : ReadsLongestText → ReplacesParts → ((x : List ℕ) → IsSoundText ucd x) → ((f : Form) (x u : List ℕ) → x ≡ settled f ucd x ++ u → length u ≤ 78) → length held ≤ 315
+  pub held_few : ReadsLongestText → ReplacesParts → AreSound ucd → ((f : Form) (x u : List ℕ) → x ≡ settled f ucd x ++ u → length u ≤ 78) → length held ≤ 315
   held_few longest replacing sound kept =
       let none = holds.filter.no_fault in
       let text = ap text_of holds.split ∙ behind known assigned f bytes held in

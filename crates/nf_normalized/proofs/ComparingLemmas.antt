@@ -1,5 +1,5 @@
 -- Bytes that are given as expected.
-use Rattle.nf_normalized.proofs.Common.{min, drop-append-le, take-append-add, drop-append-add, ◌≡◌, ⊎_elim, get_or, take-append-le, length-append, ℕ, ◌+◌, ◌-◌, ◌<◌, ◌≤◌, false, List, [], ◌∷◌, ◌++◌, length, take, drop, take_all, refl, sym, ap, ap₂, ◌∙◌, arith, append_assoc, append-nil, length-drop, take-add, Option, Some, None, is_some, option_to_list, true≢false, common, goes_on_with, preface, cases_lt, drop_all}
+use Rattle.nf_normalized.proofs.Common.{min, drop-append-le, take-append-add, drop-append-add, ◌≡◌, ⊎_elim, get_or, take-append-le, length-append, ℕ, ◌+◌, ◌-◌, ◌≤◌, false, List, [], ◌∷◌, ◌++◌, length, take, drop, take_all, refl, sym, ap, ap₂, ◌∙◌, arith, append_assoc, append-nil, length-drop, take-add, Option, Some, None, is_some, option_to_list, true≢false, common, goes_on_with, preface, cases_lt, drop_all}
 use Rattle.nf_normalized.proofs.CommonLemmas.{common-le-left, take-common, common-none}
 
 pub the_same : {x y : ℕ} → Some x ≡ Some y → x ≡ y

@@ -1,5 +1,5 @@
 -- What a comparing sink tells of what a filter wrote.
-use Rattle.nf_normalized.proofs.Common.{◌≡◌, ◌⊎◌, inl, inr, ℕ, true, false, List, [], ◌∷◌, ◌++◌, refl, sym, ap, take-append-drop, ap₂, ◌∙◌, subst, append_assoc, append-nil, Option, Some, None, is_some, IsSome, IsTrue, option_to_list, true≢false, Result, Err, Fault, Write, Comparing, goes_on_with, same, left, given, preface, taken, sink_state}
+use Rattle.nf_normalized.proofs.Common.{◌≡◌, inl, inr, ℕ, true, false, List, [], ◌∷◌, ◌++◌, refl, sym, ap, take-append-drop, ap₂, ◌∙◌, subst, append_assoc, append-nil, Option, Some, None, is_some, IsSome, IsTrue, option_to_list, true≢false, Result, Err, Fault, Write, Comparing, goes_on_with, same, left, given, preface, taken, sink_state}
 use Rattle.std.specs.Io.KnownBytes.{Appends}
 use Rattle.nf_filter.specs.Writes.{Puts, BreaksOff}
 use Rattle.nf_filter.proofs.FilterLemmas.{write_or_kept}

@@ -63,7 +63,7 @@ returns-in-Err-clause-faults c =
     stable (spent ∷ too_long ∷ ill_formed ∷ unassigned ∷ []) c.in-Err.fault (λ out.
     ∥∥₁_elim (holds_some c.args.self.now (sym c.is_some.ensures ∙ c.if-is_some.false) (λ ended. out (subst IsOfPiece (same_fault (sym (c.feed-fed.ensures.spent.1 ended) ∙ c.in-Err.is)) tt)))
     (λ x y. absurd x) (λ h. out (piece_kinds (seen at (λ long. out (subst IsOfPiece (same_fault (sym long ∙ c.in-Err.is)) tt)) h.holds) (sym c.has_parted.ensures ∙ c.if-has_parted.false)
-    c.every_character_is_sound.ensures.text c.in-Err.fault c.in-Err.is)))
+    c.every_character_is_sound.ensures.character c.in-Err.fault c.in-Err.ensures.faults c.in-Err.is)))
 
 pub returns-in-Err-clause-kept : goal.returns-in-Err-clause-kept
 returns-in-Err-clause-kept c = λ long. ((c.feed-fed.ensures.kept (inr (c.in-Err.is ∙ ap Err (same_fault long)))).0, refl, refl)
@@ -79,7 +79,7 @@ joined-self-requires c =
     let at = (goal.at.joined-self-requires c).After-feed-fed in
     let few = ∥∥₁_elim (holds_some c.args.self.now (sym c.is_some.ensures ∙ c.if-is_some.false) (λ ended. ok_or (sym c.in_default.is ∙ c.feed-fed.ensures.spent.1 ended))) le_prop (λ h.
     held_few (known at) (holds_now at (sym c.has_parted.ensures ∙ c.if-has_parted.false) c.in_default.is h.holds refl)
-    c.longest_text.ensures c.replacing.ensures c.every_character_is_sound.ensures.text c.little_is_kept.ensures) in
+    c.longest_text.ensures c.replacing.ensures c.every_character_is_sound.ensures.character c.little_is_kept.ensures) in
     omega (arith, few, length-append c.left.result.0.now c.left.result.1.now, ap length c.left.ensures.left)
 
 pub invariant_of-self-2 : goal.invariant_of-self-2

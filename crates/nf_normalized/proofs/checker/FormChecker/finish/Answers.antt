@@ -27,7 +27,7 @@ seen c {assigned} {f} {bytes} holds =
 -- and what was due
 due : (c : After-finish-finished) → {assigned : Bool} {f : Form} {bytes : List ℕ} → Holds assigned f (filter_state c.args.self) c.args.self.held.items bytes
     → Due assigned f bytes (final_utf8 (under assigned) f ucd bytes) (ending_of bytes)
-due c {assigned} {f} {bytes} holds = due_at assigned f _ bytes (no_fault_parts c.every_character_is_sound.ensures.text assigned _ bytes holds.filter.no_fault).1 c.longest_text.ensures
+due c {assigned} {f} {bytes} holds = due_at assigned f _ bytes (no_fault_parts c.every_character_is_sound.ensures.character assigned _ bytes holds.filter.no_fault).1 c.longest_text.ensures
 
 pub returns-in-Err-clause-faults : goal.returns-in-Err-clause-faults
 returns-in-Err-clause-faults c =
