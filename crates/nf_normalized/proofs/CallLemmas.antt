@@ -1,5 +1,5 @@
 -- What a call of a filter tells of a text, by what it wrote to a sink that compares.
-use Rattle.nf_normalized.proofs.Common.{IsNone, subst, ◌≡◌, ℕ, ◌+◌, ◌<◌, ◌^◌, Bool, true, false, List, ◌∷◌, ◌++◌, length, take, IsTrue, refl, sym, ap, ap₂, ◌∙◌, arith, ◌==◌, length-append, Option, Some, None, is_some, option_map, encode_utf8_all, true≢false, Result, Ok, Err, list_any, result_err, false_from_ne_true, take_at, encodes_same, length-le-encodes, take-length, ucd, Form, safe_form, IsText, Ending, Whole, Bad, CutOff, text_of, rest_of, ending_of, EndsAs, ReadsLongestText, Place, place_at, Fault, Write, place_or_fault, fault_in, answer_at_end, bad_byte, final_utf8, whole_or, is_spent, kind, IsAmong, Comparing, same, left, HasRoom, IsBehind, under, made_of, common, change_at, form_value, form_decision, HoldsSome, filter_state, IsOfPiece, IsOfEnd}
+use Rattle.nf_normalized.proofs.Common.{subst, ◌≡◌, ℕ, ◌+◌, ◌<◌, ◌^◌, Bool, true, false, List, ◌∷◌, ◌++◌, length, take, IsTrue, refl, sym, ap, ap₂, ◌∙◌, arith, ◌==◌, length-append, Option, Some, None, is_some, option_map, encode_utf8_all, true≢false, Result, Ok, Err, list_any, result_err, false_from_ne_true, take_at, encodes_same, length-le-encodes, take-length, ucd, Form, safe_form, IsText, Ending, Whole, Bad, CutOff, text_of, rest_of, ending_of, EndsAs, ReadsLongestText, Place, place_at, Fault, Write, place_or_fault, fault_in, answer_at_end, bad_byte, final_utf8, whole_or, is_spent, kind, IsAmong, Comparing, same, left, HasRoom, IsBehind, under, made_of, common, change_at, form_value, form_decision, HoldsSome, filter_state, IsOfPiece, IsOfEnd}
 use Rattle.nf_filter.specs.declared.tally.Tally.{Tally}
 use Rattle.nf_filter.specs.Kinds.{Holds}
 use Rattle.nf_filter.specs.Faults.{IsOfFeeding}
@@ -12,9 +12,6 @@ use Rattle.nf_normalized.proofs.CommonLemmas.{common-front}
 use Rattle.nf_normalized.proofs.ComparingLemmas.{none_is}
 use Rattle.nf_normalized.proofs.WroteLemmas.{Wrote, read, other_written, unfailed, all_written}
 use Rattle.nf_normalized.proofs.CheckerLemmas.{written, written_is, is_text, chars_behind, bytes_behind, unparted, of_piece}
-
-pub is_none : {A : Type 0} {o : Option A} → o ≡ None → IsNone o
-is_none e = subst (λ o. IsNone o) (sym e) refl
 
 pub ok_or : {T : Type 0} {value : T} {fault : Fault} → Ok value ≡ Err fault → ⊥
 ok_or e = cc

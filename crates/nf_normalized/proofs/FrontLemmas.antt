@@ -12,7 +12,7 @@ use Rattle.unicode_normalization.proofs.DecomposeLemmas.{decompose-primary_compo
 use Rattle.unicode_normalization.proofs.FormsLemmas.{quick_check_text-No}
 use Rattle.nf_facts.specs.KitForm.{kit_form}
 use Rattle.nf_facts.specs.Refused.{refuses, not_among, no_vowel_sign}
-use Rattle.nf_normalized.proofs.KeptLemmas.{some_of, length-form_of}
+use Rattle.nf_normalized.proofs.KeptLemmas.{by_row, some_of, length-form_of}
 use Rattle.nf_normalized.proofs.TakenLemmas.{IsRow, last_taken}
 
 -- ---- no character of a text in a form is refused by its quick check
@@ -82,13 +82,10 @@ module _ (sound : (c : ℕ) → IsTrue (is_sound ucd c))
       (twice : (f g : Form) (x : List ℕ) → normal_form g ucd (normal_form f ucd x) ≡ normal_form (after g f) ucd x) where
     longer : (f : Form) (a b d : ℕ) → composite ucd a b ≡ Some d → length (row_of f ucd a) < length (row_of f ucd d)
     unfolding ucd
-    longer f a b d made = omega (arith, some_of sound f f b, ap length (rows f), length-append (row_of f ucd a) (row_of f ucd b))
-      where
-        rows : (f : Form) → row_of f ucd d ≡ row_of f ucd a ++ row_of f ucd b
-        rows Nfc = decompose-primary_composite KitNfd a b d (sym (pairs a b) ∙ made)
-        rows Nfd = decompose-primary_composite KitNfd a b d (sym (pairs a b) ∙ made)
-        rows Nfkc = decompose-primary_composite KitNfkd a b d (sym (pairs a b) ∙ made)
-        rows Nfkd = decompose-primary_composite KitNfkd a b d (sym (pairs a b) ∙ made)
+    longer f a b d made =
+        let pair = sym (pairs a b) ∙ made in
+        let rows = by_row (λ row. row d ≡ row a ++ row b) (decompose-primary_composite KitNfd a b d pair) (decompose-primary_composite KitNfkd a b d pair) f in
+        omega (arith, some_of sound f f b, ap length rows, length-append (row_of f ucd a) (row_of f ucd b))
 
     -- ---- fronts
 

@@ -1,27 +1,24 @@
 -- How many characters can stand behind what is settled of a form.
-use Rattle.nf_normalized.proofs.Common.{◌≡◌, inl, inr, leb-true, ◌||◌, ◌==◌, subst, eqb-true, true≢false, pos_of_ne-zero, ℕ, ◌*◌, ◌<◌, ◌≤◌, Bool, true, false, List, [], ◌∷◌, ◌++◌, length, refl, sym, ap, ◌∙◌, arith, if◌then◌else◌, IsTrue, cases_Bool, or_parts, eqb-false, length-append, unicode_normalization, canonical_combining_class, is_starter, has_starter, front, back, Form, Nfc, Nfd, Nfkc, Nfkd, row_of, decomposed, normal_form, joiner, is_too_long, parted, stream_safe, safe_form, is_sound, ucd, IsMark, order, row-mark, by_last, front-append-back, back-at, back-none, EndsInGroup, last_starter, IsSound-from_test, IsSoundText, stream_safe-push, decomposed-append, decomposed-push, is_among, mapped_marks, after, settled, is_usable, LittleIsHeldBack}
+use Rattle.nf_normalized.proofs.Common.{◌≡◌, inl, inr, leb, leb-true, and_parts, list_all, ◌||◌, ◌==◌, eqb-true, pos_of_ne-zero, ℕ, ◌*◌, ◌<◌, ◌≤◌, Bool, true, false, List, [], ◌∷◌, ◌++◌, length, refl, sym, ap, ◌∙◌, arith, if◌then◌else◌, IsTrue, cases_Bool, or_parts, eqb-false, length-append, unicode_normalization, canonical_combining_class, is_starter, has_starter, front, back, Form, Nfc, Nfd, Nfkc, Nfkd, row_of, decomposed, normal_form, joiner, is_too_long, parted, stream_safe, safe_form, is_sound, ucd, IsMark, order, row-mark, by_last, front-append-back, back-at, back-none, EndsInGroup, last_starter, IsSound-from_test, IsSoundText, stream_safe-push, decomposed-append, decomposed-push, is_among, mapped_marks, after, settled, is_usable, LittleIsHeldBack}
 use Rattle.nf_forms.specs.Laws.Starters.{length-order}
 
--- what holds of d, and of c where it is another, holds of c
-or_this : (c d : ℕ) (others : Bool) (P : ℕ → Type 0) → P d → (others ≡ true → P c) → (c == d || others) ≡ true → P c
-or_this c d others P here there = next (c == d) refl
+-- what a test finds of each of some characters it finds of one among them
+among : (test : ℕ → Bool) (cs : List ℕ) (c : ℕ) → list_all test cs ≡ true → is_among cs c ≡ true → test c ≡ true
+among test [] c all is = cc
+among test (d ∷ cs) c all is = let parts = and_parts _ _ all in next (c == d) refl (among test cs c parts.1) is
   where
-    next : (b : Bool) → (c == d) ≡ b → (b || others) ≡ true → P c
-    next true same e = subst P (sym (eqb-true c d same)) here
-    next false other e = there e
-
-among_mapped : (P : ℕ → Type 0) → P 0x340 → P 0x341 → P 0x343 → P 0x344 → (c : ℕ) → is_among mapped_marks c ≡ true → P c
-among_mapped P one two three four c =
-    or_this c 0x340 _ P one (or_this c 0x341 _ P two (or_this c 0x343 _ P three (or_this c 0x344 _ P four (λ none. absurd (true≢false (sym none))))))
+    next : (b : Bool) → (c == d) ≡ b → (is_among cs c ≡ true → test c ≡ true) → (b || is_among cs c) ≡ true → test c ≡ true
+    next true same others is = ap test (eqb-true c d same) ∙ (and_parts _ _ all).0
+    next false other others is = others is
 
 -- ---- rows
 
--- what holds of both rows of c holds of its row in each form
-by_row : (P : List ℕ → Type 0) (c : ℕ) → P (ucd.canonical c) → P (ucd.compat c) → (f : Form) → P (row_of f ucd c)
-by_row P c canonical compat Nfc = canonical
-by_row P c canonical compat Nfd = canonical
-by_row P c canonical compat Nfkc = compat
-by_row P c canonical compat Nfkd = compat
+-- what holds of both kinds of row holds of the rows of each form
+pub by_row : (P : (ℕ → List ℕ) → Type 0) → P ucd.canonical → P ucd.compat → (f : Form) → P (row_of f ucd)
+by_row P canonical compat Nfc = canonical
+by_row P canonical compat Nfd = canonical
+by_row P canonical compat Nfkc = compat
+by_row P canonical compat Nfkd = compat
 
 same_length : (w v : List ℕ) → order ucd w ≡ order ucd v → length w ≡ length v
 same_length w v same = sym (length-order ucd w) ∙ ap length same ∙ length-order ucd v
@@ -31,10 +28,10 @@ module _ (sound : (c : ℕ) → IsTrue (is_sound ucd c)) (f : Form) where
   row = row_of f ucd
 
   pub some_of : (f : Form) (c : ℕ) → 1 ≤ length (row_of f ucd c)
-  some_of f c = let is = IsSound-from_test ucd c (sound c) in by_row (λ r. 1 ≤ length r) c is.canonical_some is.compat_some f
+  some_of f c = let is = IsSound-from_test ucd c (sound c) in by_row (λ row. 1 ≤ length (row c)) is.canonical_some is.compat_some f
 
   few_of : (f : Form) (c : ℕ) → length (row_of f ucd c) ≤ 18
-  few_of f c = let is = IsSound-from_test ucd c (sound c) in by_row (λ r. length r ≤ 18) c is.canonical_few is.compat_few f
+  few_of f c = let is = IsSound-from_test ucd c (sound c) in by_row (λ row. length (row c) ≤ 18) is.canonical_few is.compat_few f
 
   pub length-decomposed : (x : List ℕ) → length x ≤ length (decomposed f ucd x)
   length-decomposed [] = omega arith
@@ -77,15 +74,13 @@ module _ (sound : (c : ℕ) → IsTrue (is_sound ucd c)) (f : Form) where
       unfolding ucd
       class_of c mark = pos_of_ne-zero (eqb-false (canonical_combining_class c) 0 mark)
 
-      mapped : (f : Form) (c : ℕ) → is_among mapped_marks c ≡ true → length (row_of f ucd c) ≤ 2
+      mapped : (f : Form) → list_all (λ c. leb (length (row_of f ucd c)) 2) mapped_marks ≡ true
       unfolding ucd unicode_normalization
-      mapped f c among =
-          by_row (λ r. length r ≤ 2) c (among_mapped (λ d. length (ucd.canonical d) ≤ 2) (leb-true _ 2 refl) (leb-true _ 2 refl) (leb-true _ 2 refl) (leb-true _ 2 refl) c among)
-          (among_mapped (λ d. length (ucd.compat d) ≤ 2) (leb-true _ 2 refl) (leb-true _ 2 refl) (leb-true _ 2 refl) (leb-true _ 2 refl) c among) f
+      mapped = by_row (λ row. list_all (λ c. leb (length (row c)) 2) mapped_marks ≡ true) refl refl
 
       short_of : (f : Form) (c : ℕ) → is_starter ucd c ≡ false → length (row_of f ucd c) ≤ 2
       short_of f c mark = elim (cases_Bool (is_among mapped_marks c)) [
-        | inl among ↦ mapped f c among
+        | inl is ↦ leb-true _ 2 (among (λ c. leb (length (row_of f ucd c)) 2) mapped_marks c (mapped f) is)
         | inr other ↦ let row_is = row-mark ucd f c _ (is_mark c (class_of c mark) other) in omega (arith, ap length row_is)
       ]
 
