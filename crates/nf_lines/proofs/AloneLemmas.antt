@@ -1,5 +1,5 @@
 -- Lines, and what stands behind them.
-use Rattle.nf_lines.proofs.Common.{Result, Ok, Err, ◌≡◌, ℕ, ◌+◌, ◌==◌, Bool, true, false, List, [], ◌∷◌, ◌++◌, length, Option, Some, None, inl, inr, ⊎_elim, encode_utf8_all, refl, sym, ap, subst, ◌∙◌, arith, append_assoc, append-nil, length-append, result_err, cases_Bool, encodes-append, Properties, Form, Nfc, Ending, Whole, text_of, ending_of, parts_of, replaced, replaced_whole, line_feed, Fault, Policy, Tally, text_under-none, answer_at_end, bad_under, first_fault, fault_in, IsLeft, answer_or, end_under, end_of, final_utf8, tally_of, allowed, len_under, text_under, whole_under, settled, settled_utf8, left-text, EndsInLineFeed, end_fault, SameOrLineFeed, StandAlone}
+use Rattle.nf_lines.proofs.Common.{Result, Ok, Err, ◌≡◌, ℕ, ◌+◌, ◌==◌, Bool, true, false, List, [], ◌∷◌, ◌++◌, length, Option, Some, None, inl, inr, ⊎_elim, encode_utf8_all, refl, sym, ap, subst, ◌∙◌, arith, append_assoc, append-nil, length-append, result_err, cases_Bool, encodes-append, Properties, Form, Nfc, Ending, Whole, text_of, ending_of, parts_of, replaced, replaced_whole, line_feed, Fault, Policy, Tally, text_under-none, answer_at_end, bad_under, first_fault, fault_in, IsLeft, answer_or, end_under, end_of, final_utf8, tally_of, allowed, len_under, text_under, whole_under, settled, settled_utf8, left-text, EndsInLineFeed, end_fault, StandAlone}
 use Rattle.std.specs.Str.{chars}
 use Rattle.std.specs.Str.Lossy.{utf8_valid_len}
 use Rattle.nf_forms.specs.Order.{by_class}
@@ -13,12 +13,11 @@ use Rattle.nf_forms.specs.Laws.Closing.{safe_form-closed}
 use Rattle.nf_forms.specs.Laws.Front.{front-append_some, front-at, front-none}
 use Rattle.nf_forms.specs.Laws.Parting.{safe_form-push}
 use Rattle.nf_filter.specs.Laws.Soundness.{AreSound}
-use Rattle.nf_filter.proofs.PolicyLemmas.{allowed-append, allowed-none, first_fault-is, first_fault-none, taken_whole, taken as is_taken-from}
+use Rattle.nf_filter.proofs.PolicyLemmas.{allowed-append, first_fault-is, first_fault-none, taken_whole, taken as is_taken-from}
 use Rattle.nf_filter.specs.Settled.{is_usable}
 use Rattle.nf_filter.proofs.AgainLemmas.{final-whole}
 use Rattle.nf_filter.proofs.PieceLemmas.{left-whole}
-use Rattle.nf_filter.proofs.ReadingLemmas.{ending_of-none}
-use Rattle.nf_normalizer.specs.Laws.Settled.{usable-all, is_usable-none}
+use Rattle.nf_normalizer.specs.Laws.Settled.{usable-all}
 use Rattle.nf_filter.proofs.SoundnessLemmas.{all_sound, usable_is}
 use Rattle.nf_lines.proofs.WholeParts.{Reading, eqb_past, line_encodes}
 use Rattle.nf_lines.proofs.WholeLines.{ReadsLines, reads_lines}
@@ -43,31 +42,27 @@ unfolding text_of ending_of replaced replaced_whole parts_of chars utf8_valid_le
 whole_under-none false = refl
 whole_under-none true = refl
 
--- and no form
-safe_form-none : (p : Properties) (f : Form) → safe_form f p [] ≡ []
-unfolding safe_form by_class
-safe_form-none p Nfc = refl
-safe_form-none p _ = refl
-
 -- where the end is no fault the whole form is written
 final_whole : (f : Form) (p : Properties) (policy : Policy) (base : ℕ) (bytes : List ℕ) → end_fault policy p base bytes ≡ None
     → final_utf8 policy f p bytes ≡ encode_utf8_all (safe_form f p (whole_under policy.replace bytes))
 final_whole f p policy base bytes none = let all = told (end_of policy p base bytes) none in final-whole p base bytes all.0 f policy all.1
 
 end_nothing : (policy : Policy) (p : Properties) (base : ℕ) → end_fault policy p base [] ≡ None
-unfolding end_of
+unfolding end_of text_of ending_of replaced replaced_whole parts_of chars utf8_valid_len is_usable
 end_nothing policy p base = by policy.replace policy.assigned
   where
-    by : (b a : Bool) → result_err (end_under b a p base []) ≡ None
-    by false a = ap (λ e. result_err (answer_at_end base (tally_of false p []) e)) ending_of-none
-    by true a =
-        let none = whole_under-none true in
-        answered _ (tally_of true p [])
-        ∙ first_fault-none p a (λ front. base + len_under true [] front) (whole_under true []) None (ap (is_usable p) none ∙ is_usable-none p) (ap (allowed a p) none ∙ allowed-none p a ∙ sym none)
+    by : (r a : Bool) → result_err (end_under r a p base []) ≡ None
+    by false a = refl
+    by true false = refl
+    by true true = refl
 
 pub final-none : (policy : Policy) (f : Form) (p : Properties) → final_utf8 policy f p [] ≡ []
-final-none policy f p =
-    final_whole f p policy 0 [] (end_nothing policy p 0) ∙ ap (λ x. encode_utf8_all (safe_form f p x)) (whole_under-none policy.replace) ∙ ap encode_utf8_all (safe_form-none p f)
+unfolding safe_form by_class
+final-none policy f p = final_whole f p policy 0 [] (end_nothing policy p 0) ∙ ap (λ x. encode_utf8_all (safe_form f p x)) (whole_under-none policy.replace) ∙ by f
+  where
+    by : (f : Form) → encode_utf8_all (safe_form f p []) ≡ []
+    by Nfc = refl
+    by _ = refl
 
 module _ (p : Properties) (sound : AreSound p) where
   -- without a fault all was taken
@@ -109,29 +104,25 @@ module _ (p : Properties) (sound : AreSound p) where
           let all = taken_all policy.assigned (λ front. base + len_under policy.replace lines front) (text_under policy.replace lines) (bad_under policy.replace base lines) unfaulted in
           (subst (λ z. allowed policy.assigned p z ≡ z) text_is all.0, all.1)
 
-      pub alone_fault : fault_in policy p base (lines ++ rest) ≡ fault_in policy p (base + length lines) rest
-      unfolding fault_in
-      alone_fault =
-          (λ i. first_fault policy.assigned p (λ front. base + len_under policy.replace (lines ++ rest) front) (read.left.text rest i) (read.left.bad base rest i))
-          ∙ fault_behind policy.assigned (read.before ++ line_feed ∷ []) (text_under policy.replace rest) (λ front. base + len_under policy.replace (lines ++ rest) front) (λ front. base + length lines + len_under policy.replace rest front)
-          (bad_under policy.replace (base + length lines) rest) taken.0 (λ z. omega (arith, read.left.place rest z))
+      -- behind them the fault is that of the rest
+      past : (r : Bool) → IsLeft r lines (read.before ++ line_feed ∷ []) (length lines) [] → (more z : List ℕ) (other : Option Fault)
+          → first_fault policy.assigned p (λ front. base + len_under r (lines ++ more) front) ((read.before ++ line_feed ∷ []) ++ z) other
+          ≡ first_fault policy.assigned p (λ front. base + length lines + len_under r more front) z other
+      past r left more z other = fault_behind policy.assigned (read.before ++ line_feed ∷ []) z _ _ other taken.0 (λ y. omega (arith, left.place more y))
 
       end_behind : (more : List ℕ) → end_fault policy p base (lines ++ more) ≡ end_fault policy p (base + length lines) more
       unfolding end_of
-      end_behind more = by policy.replace refl
+      end_behind more = by policy.replace read.left
         where
-          by : (b : Bool) → policy.replace ≡ b → result_err (end_under b policy.assigned p base (lines ++ more)) ≡ result_err (end_under b policy.assigned p (base + length lines) more)
-          by false strict =
-              strict_end base (tally_of false p (lines ++ more)) (ending_of (lines ++ more)) ∙ ap result_err (read.left.end strict base more) ∙ sym (strict_end (base + length lines) (tally_of false p more) (ending_of more))
-          by true replaces =
-              let left = subst (λ b. IsLeft b lines (read.before ++ line_feed ∷ []) (length lines) []) replaces read.left in
+          by : (b : Bool) → IsLeft b lines (read.before ++ line_feed ∷ []) (length lines) [] → result_err (end_under b policy.assigned p base (lines ++ more)) ≡ result_err (end_under b policy.assigned p (base + length lines) more)
+          by false left =
+              strict_end base (tally_of false p (lines ++ more)) (ending_of (lines ++ more)) ∙ ap result_err (left.end refl base more) ∙ sym (strict_end (base + length lines) (tally_of false p more) (ending_of more))
+          by true left =
               answered _ (tally_of true p (lines ++ more))
-              ∙ ap (λ z. first_fault policy.assigned p (λ front. base + len_under true (lines ++ more) front) z None) (left.whole more)
-              ∙ fault_behind policy.assigned (read.before ++ line_feed ∷ []) (whole_under true more) (λ front. base + len_under true (lines ++ more) front) (λ front. base + length lines + len_under true more front)
-              None taken.0 (λ z. omega (arith, left.place more z))
+              ∙ ap (λ z. first_fault policy.assigned p (λ front. base + len_under true (lines ++ more) front) z None) (left.whole more) ∙ past true left more (whole_under true more) None
               ∙ sym (answered _ (tally_of true p more))
 
-      pub alone_whole : end_fault policy p base lines ≡ None
+      alone_whole : end_fault policy p base lines ≡ None
       alone_whole = ap (end_fault policy p base) (sym (append-nil lines)) ∙ end_behind [] ∙ end_nothing policy p (base + length lines)
 
       whole_is : whole_under policy.replace lines ≡ read.before ++ line_feed ∷ []
@@ -141,18 +132,21 @@ module _ (p : Properties) (sound : AreSound p) where
       lines_form : final_utf8 policy f p lines ≡ encode_utf8_all (safe_form f p (read.before ++ line_feed ∷ []))
       lines_form = final_whole f p policy base lines alone_whole ∙ ap (λ z. encode_utf8_all (safe_form f p z)) whole_is
 
-      pub alone_final : end_fault policy p (base + length lines) rest ≡ None → final_utf8 policy f p (lines ++ rest) ≡ final_utf8 policy f p lines ++ final_utf8 policy f p rest
-      alone_final none =
-          let z : List ℕ = whole_under policy.replace rest in
-          final_whole f p policy base (lines ++ rest) (end_behind rest ∙ none)
-          ∙ ap (λ z. encode_utf8_all (safe_form f p z)) (read.left.whole rest)
-          ∙ ap encode_utf8_all (safe_form-closed p f line_feed closing read.before z)
-          ∙ encodes-append (safe_form f p (read.before ++ line_feed ∷ [])) (safe_form f p z)
-          ∙ (λ i. sym lines_form i ++ sym (final_whole f p policy (base + length lines) rest none) i)
-
-      pub alone_settled : SameOrLineFeed (settled_utf8 policy f p (lines ++ rest)) (final_utf8 policy f p lines ++ settled_utf8 policy f p rest)
-      alone_settled =
-          ⊎_elim (λ some. inl (some_starter some)) (λ none. inr (no_starter none)) (cases_Bool (has_starter p tail))
+      pub alone : StandAlone policy f p base lines rest
+      unfolding fault_in
+      alone = record {
+        whole = alone_whole;
+        fault = (λ i. first_fault policy.assigned p (λ front. base + len_under policy.replace (lines ++ rest) front) (read.left.text rest i) (read.left.bad base rest i))
+            ∙ past policy.replace read.left rest (text_under policy.replace rest) (bad_under policy.replace (base + length lines) rest);
+        end = end_behind rest;
+        final = λ none.
+            final_whole f p policy base (lines ++ rest) (end_behind rest ∙ none)
+            ∙ ap (λ z. encode_utf8_all (safe_form f p z)) (read.left.whole rest)
+            ∙ ap encode_utf8_all (safe_form-closed p f line_feed closing read.before (whole_under policy.replace rest))
+            ∙ encodes-append (safe_form f p (read.before ++ line_feed ∷ [])) (safe_form f p (whole_under policy.replace rest))
+            ∙ (λ i. sym lines_form i ++ sym (final_whole f p policy (base + length lines) rest none) i);
+        settled = ⊎_elim (λ some. inl (some_starter some)) (λ none. inr (no_starter none)) (cases_Bool (has_starter p tail));
+      }
         where
           head : List ℕ
           head = safe_form f p (read.before ++ line_feed ∷ [])
@@ -183,9 +177,6 @@ module _ (p : Properties) (sound : AreSound p) where
               ∙ append-nil (encode_utf8_all before ++ line_feed ∷ [])
               ∙ ap (λ z. encode_utf8_all z ++ line_feed ∷ []) (sym fronted)
               ∙ ap (λ z. z ++ line_feed ∷ []) (sym all_settled)
-
-      pub alone : StandAlone policy f p base lines rest
-      alone = record { whole = alone_whole; fault = alone_fault; end = end_behind rest; final = alone_final; settled = alone_settled }
 
   -- lines without a fault leave nothing
   reads : Reading → (policy : Policy) (base : ℕ) (lines : List ℕ) → EndsInLineFeed lines → fault_in policy p base lines ≡ None → ReadsLines policy.replace lines
