@@ -179,11 +179,9 @@ module _ (p : Properties) (sound : AreSound p) where
               ∙ ap (λ z. z ++ line_feed ∷ []) (sym all_settled)
 
   -- lines without a fault leave nothing
-  reads : Reading → (policy : Policy) (base : ℕ) (lines : List ℕ) → EndsInLineFeed lines → fault_in policy p base lines ≡ None → ReadsLines policy.replace lines
-  unfolding fault_in
-  reads laws policy base lines is none =
-      reads_lines laws base policy.replace lines is (taken_all policy.assigned (λ front. base + len_under policy.replace lines front) (text_under policy.replace lines) (bad_under policy.replace base lines) none).1
-
   pub lines_alone : Reading → (f : Form) → IsParting p f line_feed → IsClosing p f line_feed → (policy : Policy) (base : ℕ) (lines rest : List ℕ) → EndsInLineFeed lines
       → fault_in policy p base lines ≡ None → StandAlone policy f p base lines rest
-  lines_alone laws f parting closing policy base lines rest is none = alone f parting closing policy base lines rest (reads laws policy base lines is none) none
+  unfolding fault_in
+  lines_alone laws f parting closing policy base lines rest is none =
+      let good = (taken_all policy.assigned (λ front. base + len_under policy.replace lines front) (text_under policy.replace lines) (bad_under policy.replace base lines) none).1 in
+      alone f parting closing policy base lines rest (reads_lines laws base policy.replace lines is good) none

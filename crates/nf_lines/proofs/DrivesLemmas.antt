@@ -25,10 +25,6 @@ takes_none policy f state sink stands base = record {
 pub takes_offset : {policy : Policy} {f : Form} {state : State} {l : Lines} {first now : SinkState} → TakesLines policy f ucd state l first now (Ok tt) → offset_of state ≡ length (bytes_of l)
 takes_offset {l = l} has = omega (arith, StandsAfter-offset (has.stands refl).2, (has.stands refl).1, length-append l.whole l.rest)
 
--- a fault that may be answered is none that may not
-pub not_among : {T : Type 0} (IsAmong : Fault → Type 0) (other fault : Fault) → ¬ (IsAmong other) → IsAmong fault → ¬ (◌≡◌ {A = Result T Fault} (Err fault) (Err other))
-not_among IsAmong other fault never may e = let same : fault ≡ other = cc in never (subst IsAmong same may)
-
 module _ (alone : LinesStandAlone) (policy : Policy) (f : Form) (most : ℕ) (source left : SourceState) (old : SinkState) (t : Lines) where
   never : {A : Type 0} → left.is_at_end ≡ false → IsTrue left.is_at_end → A
   never going end = let absent : true ≡ false = sym end ∙ going in cc

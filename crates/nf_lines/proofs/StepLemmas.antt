@@ -117,11 +117,8 @@ module _ (alone : LinesStandAlone) (policy : Policy) (f : Form) where
 
     -- a piece was fed that ends in a line feed: then the filter was finished, and a new one begun
     module _ (piece : List ℕ) (line : EndsInLineFeed piece) (new : SinkState) (feeds : Feeds policy f ucd (base_of state) l.rest piece old new (Ok tt)) where
-      abbrev pub ended : Lines
+      abbrev ended : Lines
       ended = record { whole = l.whole ++ (l.rest ++ piece); rest = [] }
-
-      pub ended_bytes : (more : List ℕ) → bytes_of ended ++ more ≡ bytes_of l ++ (piece ++ more)
-      ended_bytes more = simp (append_assoc, append-nil)
 
       good : fault_in policy ucd 0 ended.whole ≡ None
       good = (join (l.rest ++ piece)).fault ∙ sym (feeds.answer (λ e. cc))
@@ -142,16 +139,21 @@ module _ (alone : LinesStandAlone) (policy : Policy) (f : Form) where
       put = Puts-on lines so_far (feeds.written (λ e. cc))
 
       pub ended_lines : (fresh : State) (last : SinkState) (r : Result Tally Fault) → Finishes policy f ucd (base_of state) (l.rest ++ piece) new last r
-          → (untold r ≡ Ok tt → (base_of fresh ≡ offset_of state + length piece) × StandsAfter policy f ucd fresh []) → TakesLines policy f ucd fresh ended first last (untold r)
-      ended_lines fresh last r finishes begun = record {
-        whole = inr whole;
-        no_fault = good;
-        broken_off = λ e. BreaksOff-at refl ended_utf8 (BreaksOff-on lines put (finishes.broken_off (told r Write e)));
-        written = λ kept. Puts-at refl ended_utf8 (Puts-on lines put (finishes.written (λ e. kept (ap untold e))));
-        answer = λ kept _. untold_err r ∙ ap result_err (finishes.answer (λ e. kept (ap untold e))) ∙ end ∙ sym all_good;
-        too_long = λ _. (refl, all_good);
-        stands = λ e. (refl, at (begun e).0, (begun e).1);
-      }
+          → (untold r ≡ Ok tt → (base_of fresh ≡ offset_of state + length piece) × StandsAfter policy f ucd fresh [])
+          → (next : Lines) × ((more : List ℕ) → bytes_of next ++ more ≡ bytes_of l ++ (piece ++ more)) × TakesLines policy f ucd fresh next first last (untold r)
+      ended_lines fresh last r finishes begun = (
+        ended,
+        λ more. simp (append_assoc, append-nil),
+        record {
+          whole = inr whole;
+          no_fault = good;
+          broken_off = λ e. BreaksOff-at refl ended_utf8 (BreaksOff-on lines put (finishes.broken_off (told r Write e)));
+          written = λ kept. Puts-at refl ended_utf8 (Puts-on lines put (finishes.written (λ e. kept (ap untold e))));
+          answer = λ kept _. untold_err r ∙ ap result_err (finishes.answer (λ e. kept (ap untold e))) ∙ end ∙ sym all_good;
+          too_long = λ _. (refl, all_good);
+          stands = λ e. (refl, at (begun e).0, (begun e).1);
+        },
+      )
         where
           all_good : fault_in policy ucd 0 (bytes_of ended) ≡ None
           all_good = ap (fault_in policy ucd 0) (append-nil ended.whole) ∙ good

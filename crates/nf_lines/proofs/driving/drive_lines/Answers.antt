@@ -1,6 +1,6 @@
-use Rattle.nf_lines.proofs.Common.{TooLong, ◌∙◌, [], ◌++◌, length, take, Ok, Err, IsOfFinishing, refl, sym, ap, subst, arith, rules, append-nil, length-take, length-append, ne_eqb, Consumes, as_is, bytes_of}
+use Rattle.nf_lines.proofs.Common.{◌≡◌, TooLong, ◌∙◌, [], ◌++◌, length, take, Ok, Err, refl, sym, ap, subst, arith, rules, append-nil, length-take, length-append, ne_eqb, Consumes, as_is, bytes_of}
 use Rattle.std.proofs.KnownBytes.{Consumes-kept, Consumes-nil, Consumes-trans}
-use Rattle.nf_lines.proofs.DrivesLemmas.{takes_none, drives-stopped, drives-failed, drives-finished, not_among, takes_offset}
+use Rattle.nf_lines.proofs.DrivesLemmas.{takes_none, drives-stopped, drives-failed, drives-finished, takes_offset}
 use Rattle.nf_lines.proofs.driving.drive_lines.Goals as goal
 
 pub loop-given-init : goal.loop-given-init
@@ -58,5 +58,5 @@ pub returns-in-Err-finish-clause-drives : goal.returns-in-Err-finish-clause-driv
 returns-in-Err-finish-clause-drives g c =
     let read = c.loop-given.invariant.read in
     drives-finished c.lines_stand_alone.ensures c.args.policy c.args.form (length c.args.buffer.now) _ _ _ read.0 _ _ read.2 (g.I.Source.state c.loop-given.source) c.get.new.buf c.in-Ok.given _ (Err c.in-Err-finish.fault)
-    c.if-given-eq0.true c.in-Ok.ensures.end (c.in-Ok.ensures.read_out c.if-given-eq0.true) read.1 c.in-Ok.ensures.given (not_among IsOfFinishing TooLong c.in-Err-finish.fault (λ among. among) c.in-Err-finish.ensures.faults)
+    c.if-given-eq0.true c.in-Ok.ensures.end (c.in-Ok.ensures.read_out c.if-given-eq0.true) read.1 c.in-Ok.ensures.given (λ e. let long : c.in-Err-finish.fault ≡ TooLong = cc in rw long at c.in-Err-finish.ensures.faults)
     (c.in-Err-finish.ensures.finishes c.args.policy c.args.form read.0.rest (read.2.stands refl).2)

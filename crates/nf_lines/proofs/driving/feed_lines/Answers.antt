@@ -1,5 +1,5 @@
 use Rattle.nf_lines.proofs.Common.{◌≡◌, ◌∙◌, ◌-◌, ◌+◌, ◌++◌, ℕ, [], List, length, take, drop, Ok, Err, refl, inr, ap, sym, subst, arith, append_assoc, append-nil, length-append, take-append-drop, take_all, length-drop, StandsAfter, as_is, ucd, state_of, base_of, offset_of, HasNoLineFeed, bytes_of}
-use Rattle.nf_lines.proofs.StepLemmas.{fed_lines, ended, ended_bytes, ended_lines}
+use Rattle.nf_lines.proofs.StepLemmas.{fed_lines, ended_lines}
 use Rattle.nf_lines.proofs.CutLemmas.{cut_behind}
 use Rattle.nf_lines.proofs.driving.feed_lines.Goals as goal
 
@@ -33,14 +33,9 @@ returns-in-Err-finish-clause-feeds g c = λ first l has.
     let line = cut_behind c.args.piece.now c.lines_len-n.result c.if-n-eq0.false c.lines_len-n.ensures in
     let feeds = fed.feeds c.args.policy c.args.form l.rest (has.stands refl).2 (λ e. cc) in
     let finishes = rw c.replace.ensures.value at (c.in-Err-finish.ensures.finishes c.args.policy c.args.form (l.rest ++ front)) in
-    let finished = rw fed.base at (finishes (fed.stands c.args.policy c.args.form l.rest (has.stands refl).2)) in (
-      ended c.lines_stand_alone.ensures c.args.policy c.args.form (state_of c.args.filter.now) l first _ has front line _ feeds,
-      behind,
-      ended_bytes c.lines_stand_alone.ensures c.args.policy c.args.form (state_of c.args.filter.now) l first _ has front line _ feeds behind ∙ ap (λ b. bytes_of l ++ b) both,
-      omega (arith, ap length both, length-append front behind),
-      λ e. cc,
-      ended_lines c.lines_stand_alone.ensures c.args.policy c.args.form (state_of c.args.filter.now) l first _ has front line _ feeds _ _ (Err c.in-Err-finish.fault) finished (λ e. cc),
-    )
+    let finished = rw fed.base at (finishes (fed.stands c.args.policy c.args.form l.rest (has.stands refl).2)) in
+    let lines = ended_lines c.lines_stand_alone.ensures c.args.policy c.args.form (state_of c.args.filter.now) l first _ has front line _ feeds _ _ (Err c.in-Err-finish.fault) finished (λ e. cc) in
+    (lines.0, behind, lines.1 behind ∙ ap (λ b. bytes_of l ++ b) both, omega (arith, ap length both, length-append front behind), λ e. cc, lines.2)
 
 -- a slice to the end
 to_end : (n : ℕ) (bytes : List ℕ) → take (length bytes - n) (drop n bytes) ≡ drop n bytes
@@ -61,10 +56,10 @@ returns-clause-feeds g c = λ first l has.
     ap base_of next ∙ c.policy-next.ensures.base ∙ c.quickest.ensures.base ∙ c.offset.ensures ∙ fed.offset in
     let fresh = subst (λ s. StandsAfter c.args.policy c.args.form ucd s []) (sym next) (c.policy-next.ensures.stands as_is c.args.form [] c.quickest.ensures.stands) in
     let lines = ended_lines c.lines_stand_alone.ensures c.args.policy c.args.form (state_of c.args.filter.now) l first _ has front line _ feeds (state_of c.replace.new.dest) _ (Ok c.in_default-finish.field-0) finished (λ _. (base, fresh)) in
-    fed_lines c.lines_stand_alone.ensures c.args.policy c.args.form (state_of c.replace.new.dest) _ first _ lines (state_of c.feed-3.new.self) behind _ c.feed-3.result (record {
-      feeds = c.feed-3.ensures.feeds c.args.policy c.args.form [] fresh;
-      stands = c.feed-3.ensures.stands c.args.policy c.args.form [] fresh;
+    fed_lines c.lines_stand_alone.ensures c.args.policy c.args.form (state_of c.replace.new.dest) lines.0 first _ lines.2 (state_of c.feed-3.new.self) behind _ c.feed-3.result (record {
+      feeds = c.feed-3.ensures.feeds c.args.policy c.args.form lines.0.rest (lines.2.stands refl).2;
+      stands = c.feed-3.ensures.stands c.args.policy c.args.form lines.0.rest (lines.2.stands refl).2;
       base = c.feed-3.ensures.base;
       kept = λ e. ap g.S.Sink.state (c.feed-3.ensures.kept (inr e)).1;
-    }) _ _ [] (append-nil _ ∙ ended_bytes c.lines_stand_alone.ensures c.args.policy c.args.form (state_of c.args.filter.now) l first _ has front line _ feeds behind ∙ ap (λ b. bytes_of l ++ b) both)
+    }) _ _ [] (append-nil _ ∙ lines.1 behind ∙ ap (λ b. bytes_of l ++ b) both)
     (omega (arith, ap length both, length-append front behind)) (λ _. (refl, subst HasNoLineFeed (sym (to_end c.lines_len-n.result c.args.piece.now)) c.lines_len-n.ensures.rest))
