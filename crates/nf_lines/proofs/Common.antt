@@ -1,5 +1,5 @@
 -- The names that most of these proofs cite, passed on from one place. Declares nothing.
-pub use Rattle.std.proofs.Common.{◌≡◌, ℕ, ◌+◌, ◌==◌, Bool, true, false, List, [], ◌∷◌, ◌++◌, length, Option, Some, None, inl, inr, ⊎_elim, encode_utf8_all, refl, sym, ap, subst, ◌∙◌, arith, append_assoc, append-nil, length-append, eq-eqb, ne_eqb, if◌then◌else◌, suc, ◌-◌, ◌<◌, ◌≤◌, take, drop, get_or, Result, Ok, Err, OnOk, IsTrue, ◌^◌, ◌⊎◌, length-drop, take_at, take_all, take-append-drop, IsUtf8, rules, length-take, IsFalse}
+pub use Rattle.std.proofs.Common.{◌≡◌, ℕ, ◌+◌, ◌==◌, Bool, true, false, List, [], ◌∷◌, ◌++◌, length, Option, Some, None, inl, inr, ⊎_elim, encode_utf8_all, refl, sym, ap, subst, ◌∙◌, arith, append_assoc, append-nil, length-append, eq-eqb, ne_eqb, suc, ◌-◌, ◌<◌, ◌≤◌, take, drop, get_or, Result, Ok, Err, OnOk, IsTrue, ◌^◌, ◌⊎◌, take_at, take_all, take-append-drop, IsUtf8, rules, length-take, IsFalse}
 pub use Rattle.std.proofs.Math.Seq.{drop-cons, drop-length, take-suc, get_or-append_seam, drop-append-add}
 pub use Rattle.std.proofs.lemmas.Bool.{cases_Bool, or_from}
 pub use Rattle.std.proofs.lemmas.List.{drop-append-le}
@@ -14,7 +14,7 @@ pub use Rattle.nf_filter.proofs.PieceLemmas.{left-text, IsLeft-all, IsLeft-behin
 pub use Rattle.nf_filter.proofs.WritesLemmas.{Puts-none, Puts-at, BreaksOff-at}
 pub use Rattle.nf_filter.specs.Devices.{SinkState, SourceState}
 unfoldable pub use Rattle.nf_filter.specs.Faults.{fault_in}
-pub use Rattle.nf_filter.specs.Faults.{answer_at_end, bad_byte, bad_under, first_fault, IsOfFinishing}
+pub use Rattle.nf_filter.specs.Faults.{answer_at_end, bad_byte, bad_under, first_fault}
 pub use Rattle.nf_filter.specs.Feeding.{IsLeft}
 pub use Rattle.nf_filter.specs.Filter.{base_of, StandsAfter, offset_of, state_of, is_spent}
 unfoldable pub use Rattle.nf_filter.specs.Finishes.{end_of, final_utf8}
@@ -23,7 +23,7 @@ pub use Rattle.nf_filter.specs.Laws.Settled.{text_under-none, settled_utf8-none}
 pub use Rattle.nf_filter.specs.Policy.{allowed, len_under, text_under, whole_under, as_is}
 unfoldable pub use Rattle.nf_filter.specs.Settled.{settled, settled_utf8}
 pub use Rattle.nf_filter.specs.declared.fault.Fault.{Fault}
-pub use Rattle.nf_filter.specs.declared.fault.Fault.TheVariants.{Unassigned, TooLong, Read, Write}
+pub use Rattle.nf_filter.specs.declared.fault.Fault.TheVariants.{TooLong, Read, Write}
 pub use Rattle.nf_filter.specs.declared.filter.State.{State}
 pub use Rattle.nf_filter.specs.declared.policy.Policy.{Policy}
 pub use Rattle.nf_filter.specs.declared.tally.Tally.{Tally}

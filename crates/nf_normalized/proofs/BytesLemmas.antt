@@ -1,5 +1,5 @@
 -- Bytes and the texts that they spell.
-use Rattle.nf_normalized.proofs.Common.{◌≡◌, ◌^◌, eq-eqb, true≢false, ℕ, ◌+◌, ◌<◌, ◌≤◌, false, List, [], ◌∷◌, ◌++◌, length, get_or, take, drop, refl, sym, ap, ap₂, ◌∙◌, subst, arith, append_assoc, append-nil, length-append, Option, Some, None, IsUtf8, chars, encode_utf8, encode_utf8_all, and_parts, and_from, take_at, length-take, take-append-drop, nil_from_length, encodes-append, encodes-chars, length-le-encodes, ucd, Form, ChangesOnce, text_of, rest_of, first_text, first_bytes, bytes_behind, Takes, IsText, SplitsBytes, ReadsBack, ReadsPieces, common, goes_on_with}
+use Rattle.nf_normalized.proofs.Common.{◌≡◌, ◌^◌, eq-eqb, true≢false, ℕ, ◌+◌, ◌<◌, ◌≤◌, false, List, [], ◌∷◌, ◌++◌, length, get_or, take, drop, refl, sym, ap, ap₂, ◌∙◌, subst, arith, append_assoc, append-nil, length-append, Option, Some, None, IsUtf8, chars, encode_utf8, encode_utf8_all, and_parts, and_from, take_at, length-take, take-append-drop, encodes-append, encodes-chars, length-le-encodes, ucd, Form, ChangesOnce, text_of, rest_of, first_text, first_bytes, bytes_behind, Takes, IsText, SplitsBytes, ReadsBack, ReadsPieces, common, goes_on_with}
 use Rattle.nf_utf8.specs.declared.chunk.End.{End}
 use Rattle.nf_utf8.specs.declared.chunk.End.TheVariants.{Bad}
 use Rattle.nf_utf8.specs.declared.decoder.Decoder.{Decoder}
@@ -14,16 +14,10 @@ pub record Known : Type 0 where
   pub pieces : ReadsPieces
   pub once : (f : Form) → ChangesOnce f ucd
 
--- a front that is no shorter is all, and nothing stands behind all
+-- a front that is no shorter is all
 pub front_all : (x y z : List ℕ) → x ++ y ≡ z → length x ≡ length z → x ≡ z
 front_all x [] z e same = sym (append-nil x) ∙ e
 front_all x (c ∷ y) z e same = absurd (omega (arith, same, ap length e, length-append x (c ∷ y)))
-
-pub none_behind : (x y : List ℕ) → x ++ y ≡ x → y ≡ []
-none_behind x y e = nil_from_length y (omega (arith, ap length e, length-append x y))
-
-pub counted_few : (text : List ℕ) → IsUtf8 text → length (chars text) ≤ length text
-counted_few text utf8 = omega (arith, length-le-encodes (chars text), ap length (encodes-chars text utf8))
 
 pub counted_bytes : (first : Option ℕ) (text : List ℕ) → IsUtf8 text → length (encode_utf8_all (first_text first ++ chars text)) ≡ length (first_bytes first) + length text
 counted_bytes None text utf8 = omega (arith, ap length (encodes-chars text utf8))

@@ -6,7 +6,7 @@ use Rattle.nf_filter.specs.Faults.{IsOfFeeding}
 use Rattle.nf_filter.specs.Laws.Soundness.{AreSound}
 use Rattle.nf_filter.proofs.SoundnessLemmas.{not_a_fault}
 use Rattle.nf_normalized.specs.declared.checker.FormChecker.{FormChecker}
-use Rattle.nf_normalized.proofs.BytesLemmas.{Known, Shares, Departs, departs, text_of-encodes, front_all, none_behind}
+use Rattle.nf_normalized.proofs.BytesLemmas.{Known, Shares, Departs, departs, text_of-encodes, front_all}
 use Rattle.nf_normalized.proofs.ChangeLemmas.{if_same, if_other}
 use Rattle.nf_normalized.proofs.CommonLemmas.{common-front}
 use Rattle.nf_normalized.proofs.ComparingLemmas.{none_is}
@@ -198,6 +198,6 @@ module _ {assigned : Bool} {f : Form} {base : ℕ} {held bytes due : List ℕ} {
     unfolding change_at
     short_end more place behind tally (all_due ends due) e =
         let read = read_on call form scalars due none in
-        let other : ¬ (form ≡ text_of bytes) = λ same. more (ap length (none_behind (encode_utf8_all form) (left new) (sym read ∙ ends ∙ ap encode_utf8_all (sym same)))) in
+        let other : ¬ (form ≡ text_of bytes) = λ same. more (omega (arith, ap length (sym read ∙ ends ∙ ap encode_utf8_all (sym same)), length-append (encode_utf8_all form) (left new))) in
         ap Ok (sym (if_other form (text_of bytes) _ _ other ∙ placed call form scalars due (is_front call form scalars due none) place behind))
     short_end more place behind tally (none_due due) e = cc

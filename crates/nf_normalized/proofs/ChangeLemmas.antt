@@ -29,9 +29,6 @@ no_change base f x =
 common-same : (x : List ℕ) → common x x ≡ length x
 common-same x = ap (λ l. common l x) (sym (append-nil x)) ∙ common-front x []
 
-place_same : (base : ℕ) (x y : List ℕ) (n k : ℕ) → n ≡ k → take n x ≡ take k y → place_at base x n ≡ place_at base y k
-place_same base x y n k count text = ap₂ (λ chars front. record { chars = chars; bytes = base + length (encode_utf8_all front) }) count text
-
 -- a text that its own form begins with is its own form
 module _ (sound : (x : List ℕ) → IsSoundText ucd x) (safe : (f : Form) (x : List ℕ) → stream_safe ucd (safe_form f ucd x) ≡ safe_form f ucd x)
     (fronts : (x : List ℕ) (n : ℕ) → IsTrue (is_in_format ucd x) → IsTrue (is_in_format ucd (take n x)))
@@ -91,4 +88,4 @@ module _ (sound : (x : List ℕ) → IsSoundText ucd x) (safe : (f : Form) (x : 
           (λ all. absurd (longer other (drop n m) (sym (take-append-drop n m) ∙ ap (λ l. l ++ drop n m) (sym (take-common x m) ∙ take_all n x all)))) (cases_lt n (length x)) in
           let long : common (x ++ y) whole ≡ n = ap (common (x ++ y)) whole_is ∙ common-within x m y more in_x in_m in
           if_other whole (x ++ y) _ _ (λ same. absurd (omega (arith, ap (common (x ++ y)) same ∙ common-same (x ++ y), long, in_x, length-append x y)))
-          ∙ ap Some (place_same base (x ++ y) x (common (x ++ y) whole) n long (ap (λ k. take k (x ++ y)) long ∙ take-append-le n x y (omega (arith, in_x))))
+          ∙ ap₂ (λ chars front. Some (record { chars = chars; bytes = base + length (encode_utf8_all front) })) long (ap (λ k. take k (x ++ y)) long ∙ take-append-le n x y (omega (arith, in_x)))

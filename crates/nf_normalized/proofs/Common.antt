@@ -1,9 +1,9 @@
 -- The names that most of these proofs cite, passed on from one place. Declares nothing.
-pub use Rattle.std.proofs.Common.{min, ◌≡◌, ◌⊎◌, ⊎_elim, inl, inr, ◌^◌, eqb-true, eq-eqb, true≢false, ℕ, suc, ◌+◌, ◌<◌, ◌≤◌, ◌==◌, Bool, true, false, List, [], ◌∷◌, ◌++◌, length, get_or, take, drop, refl, sym, ap, ap₂, ◌∙◌, subst, arith, append_assoc, append-nil, length-append, Option, Some, None, IsUtf8, chars, encode_utf8, encode_utf8_all, if◌then◌else◌, take-append-drop, IsNone, IsTrue, is_some, option_map, Result, Ok, Err, ◌↔◌, bytes_eq, take_all, ◌*◌, take_while, zero, length-take, ◌-◌, length-drop, take-add, option_to_list, ◌≢◌, pos_of_ne-zero, leb-true, ◌||◌, not, eqb, ltb, leb, flat_map, IsSome}
+pub use Rattle.std.proofs.Common.{min, ◌≡◌, ◌⊎◌, ⊎_elim, inl, inr, ◌^◌, eqb-true, eq-eqb, true≢false, ℕ, suc, ◌+◌, ◌<◌, ◌≤◌, ◌==◌, Bool, true, false, List, [], ◌∷◌, ◌++◌, length, get_or, take, drop, refl, sym, ap, ap₂, ◌∙◌, subst, arith, append_assoc, append-nil, length-append, Option, Some, None, IsUtf8, chars, encode_utf8, encode_utf8_all, if◌then◌else◌, take-append-drop, IsTrue, is_some, option_map, Result, Ok, Err, ◌↔◌, bytes_eq, take_all, ◌*◌, take_while, zero, length-take, ◌-◌, length-drop, take-add, option_to_list, ◌≢◌, pos_of_ne-zero, leb-true, ◌||◌, not, eqb, ltb, leb, flat_map, IsSome}
 pub use Rattle.std.proofs.Math.Logic.{∥∥₁_elim, ∥∥₁_map}
 pub use Rattle.std.proofs.Math.Seq.{take-append-add, drop-append-add, take-length}
 pub use Rattle.std.proofs.lemmas.Bool.{and_parts, and_from, false_from_ne_true, cases_lt, cases_Bool, eqb-false, or_parts, or_from, ltb-true, or_left}
-pub use Rattle.std.proofs.lemmas.List.{drop-append-le, take_at, nil_from_length, take-append-le, drop_all}
+pub use Rattle.std.proofs.lemmas.List.{drop-append-le, take_at, take-append-le, drop_all}
 pub use Rattle.std.proofs.lemmas.Slice.Eq.{bytes_eq-Decides}
 pub use Rattle.std.proofs.lemmas.Str.{encodes-append, encodes-chars, length-le-encodes, encodes_same, length-encode, len_utf8_bounds}
 pub use Rattle.std.specs.Coded.{le_prop}
@@ -15,7 +15,7 @@ pub use Rattle.nf_facts.specs.Passing.{is_among, halfwidth_marks, vowel_signs, m
 pub use Rattle.nf_filter.proofs.FilterLemmas.{StandsAfter-offset}
 pub use Rattle.nf_filter.specs.Checks.{place_or_fault}
 unfoldable pub use Rattle.nf_filter.specs.Faults.{fault_in}
-pub use Rattle.nf_filter.specs.Faults.{answer_at_end, bad_byte, first_fault}
+pub use Rattle.nf_filter.specs.Faults.{answer_at_end, bad_byte}
 pub use Rattle.nf_filter.specs.Filter.{is_spent, base_of, StandsAfter, state_of, offset_of}
 unfoldable pub use Rattle.nf_filter.specs.Finishes.{final_utf8, end_of}
 pub use Rattle.nf_filter.specs.Finishes.{whole_or, tally_of}
@@ -23,7 +23,7 @@ pub use Rattle.nf_filter.specs.Kinds.{kind, IsAmong, spent, too_long, ill_formed
 pub use Rattle.nf_filter.specs.Laws.{SettledOnlyGrows, LittleIsHeldBack}
 unfoldable pub use Rattle.nf_filter.specs.Settled.{settled, is_usable, usable, settled_utf8}
 pub use Rattle.nf_filter.specs.declared.fault.Fault.{Fault}
-pub use Rattle.nf_filter.specs.declared.fault.Fault.TheVariants.{Write, Row, Unassigned, TooLong}
+pub use Rattle.nf_filter.specs.declared.fault.Fault.TheVariants.{Write, Row, TooLong}
 pub use Rattle.nf_forms.specs.Calm.{IsMark}
 pub use Rattle.nf_forms.specs.Compose.{composite, is_blocked, joined, replaced, join, compose_step, compose}
 pub use Rattle.nf_forms.specs.Forms.{decomposed, row_of, composes, finished, normal_form, arranged}

@@ -2,16 +2,9 @@
 use Rattle.nf_normalized.proofs.Common.{min, drop-append-le, take-append-add, drop-append-add, ◌≡◌, ⊎_elim, get_or, take-append-le, length-append, ℕ, ◌+◌, ◌-◌, ◌≤◌, false, List, [], ◌∷◌, ◌++◌, length, take, drop, take_all, refl, sym, ap, ap₂, ◌∙◌, arith, append_assoc, append-nil, length-drop, take-add, Option, Some, None, is_some, option_to_list, true≢false, common, goes_on_with, preface, cases_lt, drop_all}
 use Rattle.nf_normalized.proofs.CommonLemmas.{common-le-left, take-common, common-none}
 
-pub the_same : {x y : ℕ} → Some x ≡ Some y → x ≡ y
-the_same e = cc
-
 pub none_is : {A : Type 0} (o : Option A) → is_some o ≡ false → o ≡ None
 none_is None e = refl
 none_is (Some x) e = absurd (true≢false e)
-
--- the rest of a slice
-pub rest_is : (l : List ℕ) (a : ℕ) → take (length l - a) (drop a l) ≡ drop a l
-rest_is l a = take_all (length l - a) (drop a l) (omega (arith, length-drop a l))
 
 -- so many bytes of two slices, of which a stand in the first, and what stands behind them
 module _ (first second : List ℕ) (n a : ℕ) (is : a ≡ min n (length first)) where

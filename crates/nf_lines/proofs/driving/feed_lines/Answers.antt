@@ -1,4 +1,5 @@
-use Rattle.nf_lines.proofs.Common.{◌≡◌, ◌∙◌, ◌-◌, ◌+◌, ◌++◌, ℕ, [], List, length, take, drop, Ok, Err, refl, inr, ap, sym, subst, arith, append_assoc, append-nil, length-append, take-append-drop, take_all, length-drop, StandsAfter, as_is, ucd, state_of, base_of, offset_of, HasNoLineFeed, bytes_of}
+use Rattle.nf_lines.proofs.Common.{◌≡◌, ◌∙◌, ◌-◌, ◌+◌, ◌++◌, [], length, take, drop, Ok, Err, refl, inr, ap, sym, subst, arith, append_assoc, append-nil, length-append, take-append-drop, StandsAfter, as_is, ucd, state_of, base_of, offset_of, HasNoLineFeed, bytes_of}
+use Rattle.std.proofs.lemmas.List.{take_rest}
 use Rattle.nf_lines.proofs.StepLemmas.{fed_lines, ended_lines}
 use Rattle.nf_lines.proofs.CutLemmas.{cut_behind}
 use Rattle.nf_lines.proofs.driving.feed_lines.Goals as goal
@@ -37,15 +38,11 @@ returns-in-Err-finish-clause-feeds g c = λ first l has.
     let lines = ended_lines c.lines_stand_alone.ensures c.args.policy c.args.form (state_of c.args.filter.now) l first _ has front line _ feeds _ _ (Err c.in-Err-finish.fault) finished (λ e. cc) in
     (lines.0, behind, lines.1 behind ∙ ap (λ b. bytes_of l ++ b) both, omega (arith, ap length both, length-append front behind), λ e. cc, lines.2)
 
--- a slice to the end
-to_end : (n : ℕ) (bytes : List ℕ) → take (length bytes - n) (drop n bytes) ≡ drop n bytes
-to_end n bytes = take_all (length bytes - n) (drop n bytes) (omega (arith, length-drop n bytes))
-
 pub returns-clause-feeds : goal.returns-clause-feeds
 returns-clause-feeds g c = λ first l has.
     let front = take c.lines_len-n.result c.args.piece.now in
     let behind = take (length c.args.piece.now - c.lines_len-n.result) (drop c.lines_len-n.result c.args.piece.now) in
-    let both = ap (λ b. front ++ b) (to_end c.lines_len-n.result c.args.piece.now) ∙ take-append-drop c.lines_len-n.result c.args.piece.now in
+    let both = ap (λ b. front ++ b) (take_rest c.args.piece.now c.lines_len-n.result) ∙ take-append-drop c.lines_len-n.result c.args.piece.now in
     let fed = c.in_default.ensures in
     let line = cut_behind c.args.piece.now c.lines_len-n.result c.if-n-eq0.false c.lines_len-n.ensures in
     let feeds = fed.feeds c.args.policy c.args.form l.rest (has.stands refl).2 (λ e. cc) in
@@ -62,4 +59,4 @@ returns-clause-feeds g c = λ first l has.
       base = c.feed-3.ensures.base;
       kept = λ e. ap g.S.Sink.state (c.feed-3.ensures.kept (inr e)).1;
     }) _ _ [] (append-nil _ ∙ lines.1 behind ∙ ap (λ b. bytes_of l ++ b) both)
-    (omega (arith, ap length both, length-append front behind)) (λ _. (refl, subst HasNoLineFeed (sym (to_end c.lines_len-n.result c.args.piece.now)) c.lines_len-n.ensures.rest))
+    (omega (arith, ap length both, length-append front behind)) (λ _. (refl, subst HasNoLineFeed (sym (take_rest c.args.piece.now c.lines_len-n.result)) c.lines_len-n.ensures.rest))

@@ -1,6 +1,7 @@
 use Rattle.nf_normalized.proofs.Common.{◌≡◌, ◌+◌, ◌≤◌, ◌++◌, common, goes_on_with, length, drop, length-append, arith, sym, ap, ◌∙◌, subst, refl, false}
+use Rattle.std.proofs.lemmas.Option.{same_Some}
 use Rattle.nf_normalized.proofs.CommonLemmas.{common-le-right}
-use Rattle.nf_normalized.proofs.ComparingLemmas.{taken_on, the_same, none_is, in_all, taken_more, other_than}
+use Rattle.nf_normalized.proofs.ComparingLemmas.{taken_on, none_is, in_all, taken_more, other_than}
 use Rattle.nf_normalized.proofs.comparing.ComparingSink.put.Goals as goal
 use Rattle.nf_normalized.proofs.comparing.ComparingSink.put.Goals.{After-common_len-len}
 
@@ -38,6 +39,6 @@ invariant_of-self-2 c =
       other_is = λ x is.
           let left = drop old.count (old.first.now ++ old.second.now) in
           let none = ap (common c.next.result.now) (sym c.in-Some.ensures.cases.0) ∙ sym c.common_len-len.ensures ∙ omega (arith, c.if-len-gt0.false) in
-          subst (λ b. goes_on_with b left ≡ false) (the_same is) (other_than c.next.result.now _ left c.in-Some.byte.now c.in-Some.field-0-1.now c.next.ensures.front.1 c.next.ensures.last none);
+          subst (λ b. goes_on_with b left ≡ false) (same_Some _ _ is) (other_than c.next.result.now _ left c.in-Some.byte.now c.in-Some.field-0-1.now c.next.ensures.front.1 c.next.ensures.last none);
       failed_behind = λ _. refl;
     }
