@@ -9,7 +9,7 @@ use Rattle.nf_lines.specs.Drives.{FeedsLines}
 use Rattle.nf_lines.proofs.AloneLemmas.{final-none}
 use Rattle.nf_lines.proofs.CutLemmas.{none_more}
 
--- behind what was written before, of which the front `lines` is of no matter for what comes
+-- a call more, which writes on behind a front of which it knows nothing
 pub Puts-on : {old mid new : SinkState} {a b : List ℕ} (lines : List ℕ) → Puts old mid [] (lines ++ a) → Puts mid new a b → Puts old new [] (lines ++ b)
 Puts-on {old = old} {new = new} {a = a} lines first second =
     subst (Puts old new []) (append_assoc lines a second.out ∙ ap (λ l. lines ++ l) (sym second.behind)) (Puts-more second.out first second.given second.stands second.idle)

@@ -30,7 +30,8 @@ bytes_of l = l.whole ++ l.rest
 abbrev pub lines_utf8 : Policy → Form → Properties → Lines → List ℕ
 lines_utf8 policy f p l = final_utf8 policy f p l.whole ++ settled_utf8 policy f p l.rest
 
--- these bytes were taken; where no fault stopped it, the filter stands behind the rest, in which no line ends
+-- the bytes of `l` were taken, and what they come to written; where no fault stopped it, the filter stands behind the rest, in
+-- which no line ends
 pub record TakesLines (policy : Policy) (f : Form) (p : Properties) (state : State) (l : Lines) (first now : SinkState) (result : Result (Unit {0}) Fault) : Type 0 where
   pub whole : AreLines l.whole
   pub no_fault : fault_in policy p 0 l.whole ≡ None
@@ -40,7 +41,7 @@ pub record TakesLines (policy : Policy) (f : Form) (p : Properties) (state : Sta
   pub too_long : result ≡ Err TooLong → HasNoLineFeed l.rest × (fault_in policy p 0 (bytes_of l) ≡ None)
   pub stands : result ≡ Ok tt → HasNoLineFeed l.rest × (base_of state ≡ length l.whole) × StandsAfter policy f p state l.rest
 
--- so of these bytes all but `left`, which are at most as many
+-- so of these bytes all were taken but `left`, which are `most` at most
 abbrev pub FeedsLines : Policy → Form → Properties → State → (most : ℕ) → List ℕ → SinkState → SinkState → Result (Unit {0}) Fault → Type 0
 FeedsLines policy f p state most bytes first now result =
     (l : Lines) × (left : List ℕ) × (bytes_of l ++ left ≡ bytes) × (length left ≤ most) × (result ≡ Ok tt → left ≡ []) × TakesLines policy f p state l first now result
