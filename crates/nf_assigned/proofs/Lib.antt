@@ -2,4 +2,3 @@ pub mod BlockLemmas
 pub mod MaskLemmas
 pub mod RangeLemmas
 pub mod ToldLemmas
-pub mod TextLemmas

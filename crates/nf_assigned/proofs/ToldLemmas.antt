@@ -1,11 +1,11 @@
 -- What pairs of bytes tell of a character is so.
-use Rattle.std.proofs.Common.{◌≡◌, ℕ, ◌+◌, ◌*◌, ◌/◌, ◌%◌, ◌<◌, ◌≤◌, ◌⊎◌, ⊎_elim, inl, inr, Bool, true, false, nat_lt, List, ◌++◌, refl, sym, subst, ◌∙◌, arith, ltb-true, true≢false}
-use Rattle.std.specs.Prelude.{encode_utf8}
-use Rattle.std.proofs.str.Laws.{order, two, three, four}
+use Rattle.std.proofs.Common.{◌≡◌, ℕ, ◌+◌, ◌*◌, ◌<◌, ◌≤◌, ⊎_elim, Bool, true, false, nat_lt, refl, sym, ◌∙◌, arith, ltb-true, true≢false}
 use Rattle.nf_forms.specs.Ucd.{is_assigned}
 use Rattle.nf_facts.specs.Within.{lies_within, in_ranges-lies_within, or_else, either}
 use Rattle.ucd_table.proofs.TrieCheck.{all_below, all_below-at}
-use Rattle.nf_assigned.specs.Pairs.{wants_look, look_at}
+use Rattle.nf_lanes.specs.Looks.{wants_look}
+use Rattle.nf_lanes.proofs.LooksLemmas.{Tells}
+use Rattle.nf_assigned.specs.declared.pairs.TheConstants.{LOOKS}
 use Rattle.nf_assigned.proofs.RangeLemmas.{told_ranges, told-assigned}
 
 abbrev within : ℕ → ℕ → Bool
@@ -16,26 +16,26 @@ lies first last c e low high = told-assigned c (in_ranges-lies_within told_range
 
 -- by lead bytes: all that begins with one lies in the ranges; or each that no pair finds lies there
 abbrev told_second : ℕ → ℕ → Bool
-told_second k i = or_else (wants_look (192 + k) (128 + i)) (λ _. within (64 * k + i) (64 * k + i))
+told_second k i = or_else (wants_look LOOKS (192 + k) (128 + i)) (λ _. within (64 * k + i) (64 * k + i))
 
 abbrev told_two : ℕ → Bool
 told_two k = or_else (within (64 * k) (64 * k + 63)) (λ _. all_below (told_second k) 64)
 
 abbrev told_third : ℕ → ℕ → ℕ → Bool
-told_third base i j = or_else (wants_look (128 + i) (128 + j)) (λ _. within (base + j) (base + j))
+told_third base i j = or_else (wants_look LOOKS (128 + i) (128 + j)) (λ _. within (base + j) (base + j))
 
 -- the second bytes of E0 begin at A0
 abbrev told_block : ℕ → ℕ → Bool
 told_block k i =
     or_else (within (4096 * k + 64 * i) (4096 * k + 64 * i + 63)) (λ _.
-    or_else (wants_look (224 + k) (128 + i)) (λ _.
+    or_else (wants_look LOOKS (224 + k) (128 + i)) (λ _.
     or_else (nat_lt (4096 * k + 64 * i) 2048) (λ _. all_below (told_third (4096 * k + 64 * i) i) 64)))
 
 abbrev told_three : ℕ → Bool
 told_three k = or_else (within (4096 * k) (4096 * k + 4095)) (λ _. all_below (told_block k) 64)
 
 abbrev told_four : ℕ → Bool
-told_four k = all_below (λ i. wants_look (240 + k) (128 + i)) 64
+told_four k = all_below (λ i. wants_look LOOKS (240 + k) (128 + i)) 64
 
 record Told : Type 0 where
   low : within 0 0x33F ≡ true
@@ -47,15 +47,15 @@ told : Told
 unfolding told_ranges all_below
 told = record { low = refl; of_two = refl; of_three = refl; of_four = refl }
 
-by_two : (k i : ℕ) → k < 32 → i < 64 → wants_look (192 + k) (128 + i) ≡ false → is_assigned (64 * k + i) ≡ true
+by_two : (k i : ℕ) → k < 32 → i < 64 → wants_look LOOKS (192 + k) (128 + i) ≡ false → is_assigned (64 * k + i) ≡ true
 by_two k i short little plain =
     ⊎_elim (λ whole. lies (64 * k) (64 * k + 63) (64 * k + i) whole (omega arith) (omega arith))
     (λ seconds.
     ⊎_elim (λ hit. absurd (true≢false (sym hit ∙ plain))) (λ here. lies (64 * k + i) (64 * k + i) (64 * k + i) here (omega arith) (omega arith))
-    (either (wants_look (192 + k) (128 + i)) _ (all_below-at (told_second k) 64 i seconds little)))
+    (either (wants_look LOOKS (192 + k) (128 + i)) _ (all_below-at (told_second k) 64 i seconds little)))
     (either (within (64 * k) (64 * k + 63)) _ (all_below-at told_two 32 k told.of_two short))
 
-by_three : (k i j : ℕ) → k < 16 → i < 64 → j < 64 → 2048 ≤ 4096 * k + 64 * i + j → wants_look (224 + k) (128 + i) ≡ false → wants_look (128 + i) (128 + j) ≡ false
+by_three : (k i j : ℕ) → k < 16 → i < 64 → j < 64 → 2048 ≤ 4096 * k + 64 * i + j → wants_look LOOKS (224 + k) (128 + i) ≡ false → wants_look LOOKS (128 + i) (128 + j) ≡ false
     → is_assigned (4096 * k + 64 * i + j) ≡ true
 by_three k i j short little small large first second =
     ⊎_elim (λ whole. lies (4096 * k) (4096 * k + 4095) (4096 * k + 64 * i + j) whole (omega arith) (omega arith))
@@ -68,30 +68,20 @@ by_three k i j short little small large first second =
     (λ thirds.
     ⊎_elim (λ hit. absurd (true≢false (sym hit ∙ second)))
     (λ here. lies (4096 * k + 64 * i + j) (4096 * k + 64 * i + j) (4096 * k + 64 * i + j) here (omega arith) (omega arith))
-    (either (wants_look (128 + i) (128 + j)) _ (all_below-at (told_third (4096 * k + 64 * i) i) 64 j thirds small)))
+    (either (wants_look LOOKS (128 + i) (128 + j)) _ (all_below-at (told_third (4096 * k + 64 * i) i) 64 j thirds small)))
     (either (nat_lt (4096 * k + 64 * i) 2048) _ more))
-    (either (wants_look (224 + k) (128 + i)) _ others))
+    (either (wants_look LOOKS (224 + k) (128 + i)) _ others))
     (either (within (4096 * k + 64 * i) (4096 * k + 64 * i + 63)) _ (all_below-at (told_block k) 64 i blocks little)))
     (either (within (4096 * k) (4096 * k + 4095)) _ (all_below-at told_three 16 k told.of_three short))
 
-by_four : (k i : ℕ) → k < 5 → i < 64 → wants_look (240 + k) (128 + i) ≡ true
-by_four k i short little = all_below-at (λ n. wants_look (240 + k) (128 + n)) 64 i (all_below-at told_four 5 k told.of_four short) little
-
--- a character that stands at the front of these bytes
-pub by_told : (c : ℕ) (more : List ℕ) → c < 1114112 → (0x340 ≤ c → look_at (encode_utf8 c ++ more) 0 ≡ false) → (0x800 ≤ c → look_at (encode_utf8 c ++ more) 1 ≡ false) → is_assigned c ≡ true
-by_told c more scalar first second = at (order c 0x340) (order c 2048) (order c 65536)
-  where
-    of : (n : ℕ) (bytes : List ℕ) → encode_utf8 c ≡ bytes → look_at (encode_utf8 c ++ more) n ≡ false → look_at (bytes ++ more) n ≡ false
-    of n bytes e plain = subst (λ l. look_at (l ++ more) n ≡ false) e plain
-
-    at : (c < 0x340) ⊎ (0x340 ≤ c) → (c < 2048) ⊎ (2048 ≤ c) → (c < 65536) ⊎ (65536 ≤ c) → is_assigned c ≡ true
-    at (inl small) _ _ = lies 0 0x33F c told.low (omega arith) (omega arith)
-    at (inr large) (inl small) _ =
-        let is : 64 * (c / 64) + c % 64 ≡ c = omega arith in
-        subst (λ n. is_assigned n ≡ true) is (by_two (c / 64) (c % 64) (omega arith) (omega arith) (of 0 _ (two c (omega arith) small) (first large)))
-    at (inr some) (inr large) (inl small) =
-        let is : 4096 * (c / 4096) + 64 * (c / 64 % 64) + c % 64 ≡ c = omega arith in
-        subst (λ n. is_assigned n ≡ true) is
-        (by_three (c / 4096) (c / 64 % 64) (c % 64) (omega arith) (omega arith) (omega arith) (omega (arith, is)) (of 0 _ (three c large small) (first some)) (of 1 _ (three c large small) (second large)))
-    at (inr some) (inr _) (inr large) =
-        absurd (true≢false (sym (by_four (c / 262144) (c / 4096 % 64) (omega arith) (omega arith)) ∙ of 0 _ (four c large) (first some)))
+-- so of a character that no pair finds
+pub tells : Tells LOOKS 0xCD 0x340 (λ c. is_assigned c ≡ true)
+tells = record {
+  ascii = omega arith;
+  of_low = omega arith;
+  is_low = omega arith;
+  below = λ c small. lies 0 0x33F c told.low (omega arith) (omega arith);
+  of_two = by_two;
+  of_three = by_three;
+  of_four = λ k i short little. all_below-at (λ n. wants_look LOOKS (240 + k) (128 + n)) 64 i (all_below-at told_four 5 k told.of_four short) little;
+}

@@ -1,34 +1,29 @@
 //! Pairs of bytes, many at once.
 
 ghost use Rattle.std.specs.Prelude.{◌≡◌, ◌<◌, ◌≤◌, ◌+◌, ℕ, length, slice_index, bit_xor, IsTrue, ◌↔◌};
-ghost use Rattle.nf_lanes.specs.Lanes.{bits_at, NonePass};
-ghost use Rattle.nf_assigned.specs.Pairs.{look_at, AreLow, AreTold};
+ghost use Rattle.nf_lanes.specs.Lanes.{NonePass};
+ghost use Rattle.nf_lanes.specs.Looks.{look_at, AreTold};
+ghost use Rattle.nf_assigned.specs.Bytes.{AreLow};
+ghost use Rattle.nf_assigned.specs.declared.pairs.TheConstants.{LOOKS};
 
-use crate::pairs::{FIRST, SECOND};
-use nf_lanes::{LANES, at_least, before, bits, none_of, pair_sets, pair_sets_within};
+use crate::pairs::LOOKS;
+use nf_lanes::{at_least, bits, none_of, pair_sets_within, told_len};
 
 /// How many bytes there are before a pair that has to be looked up. The last few are left out.
 #[inline(always)]
-pub(crate) fn told_len(bytes: &[u8]) -> usize
+pub(crate) fn assigned_len(bytes: &[u8]) -> usize
     ensures within { result ≤ length bytes.now }
-    ensures told { AreTold bytes.now result }
+    ensures told { AreTold LOOKS 0xCD bytes.now result }
 {
-    let mut at = told_blocks(bytes);
-    while bytes.len() - at > LANES {
-        let run = before(looks(bytes, at));
-        if run < LANES {
-            return at + run;
-        }
-        at += LANES;
-    }
-    at
+    let at = told_blocks(bytes);
+    at + told_len(&LOOKS, bytes, at)
 }
 
 /// How many there are in blocks that have no such pair.
 #[inline(always)]
 fn told_blocks(bytes: &[u8]) -> usize
     ensures within { result ≤ length bytes.now }
-    ensures told { AreTold bytes.now result }
+    ensures told { AreTold LOOKS 0xCD bytes.now result }
 {
     let mut at = 0;
     while bytes.len() - at > 64 {
@@ -46,7 +41,7 @@ fn told_blocks(bytes: &[u8]) -> usize
 fn told_block(bytes: &[u8], at: usize) -> usize
     requires room { at + 64 < length bytes.now }
     ensures short { result ≤ 64 }
-    ensures told { AreTold bytes.now at → AreTold bytes.now (at + result) }
+    ensures told { AreTold LOOKS 0xCD bytes.now at → AreTold LOOKS 0xCD bytes.now (at + result) }
 {
     if is_latin(bytes, at) {
         return 64;
@@ -98,7 +93,7 @@ fn are_below(least: u8, flip: u8, bytes: &[u8], at: usize) -> bool
 #[inline(always)]
 fn are_told(bytes: &[u8], at: usize) -> bool
     requires room { at + 64 < length bytes.now }
-    ensures { IsTrue result → NonePass (look_at bytes.now) at 60 }
+    ensures { IsTrue result → NonePass (look_at LOOKS bytes.now) at 60 }
 {
     is_told(bytes, at)
         && is_told(bytes, at + 15)
@@ -111,22 +106,8 @@ fn are_told(bytes: &[u8], at: usize) -> bool
 #[inline(always)]
 fn is_told(bytes: &[u8], at: usize) -> bool
     requires room { at + 16 ≤ length bytes.now }
-    ensures { IsTrue result → NonePass (look_at bytes.now) at 15 }
+    ensures { IsTrue result → NonePass (look_at LOOKS bytes.now) at 15 }
 {
-    let first = bits(pair_sets_within(&FIRST, bytes, at));
-    first == 0 || first & bits(pair_sets_within(&SECOND, bytes, at)) == 0
-}
-
-/// A bit for each byte from `at` on, the lowest for the first: whether it and the byte behind it have to be looked up. The
-/// second family is asked only where the first does not tell.
-#[inline(always)]
-fn looks(bytes: &[u8], at: usize) -> u64
-    requires room { at + 16 < length bytes.now }
-    ensures { result ≡ bits_at (look_at bytes.now) at }
-{
-    let first = bits(pair_sets(&FIRST, bytes, at));
-    if first == 0 {
-        return 0;
-    }
-    first & bits(pair_sets(&SECOND, bytes, at))
+    let first = bits(pair_sets_within(&LOOKS.first, bytes, at));
+    first == 0 || first & bits(pair_sets_within(&LOOKS.second, bytes, at)) == 0
 }

@@ -1,4 +1,5 @@
 mod Told
 mod CountsLemmas
-mod FirstLemmas
+mod PieceLemmas
+mod PlainLemmas
 mod ScanLemmas

@@ -4,7 +4,7 @@ use Rattle.std.specs.Prelude.{All, encode_utf8_all}
 use Rattle.std.specs.List.{list_all}
 use Rattle.std.specs.Str.{IsUtf8}
 use Rattle.std.proofs.lemmas.Bool.{and_from, cond-true}
-use Rattle.std.proofs.lemmas.List.Elements.{All-head, All-tail, All-weaker, All-append}
+use Rattle.std.proofs.lemmas.List.Elements.{All-head, All-tail, All-weaker}
 use Rattle.std.proofs.lemmas.List.Folds.{list_all-append}
 use Rattle.std.proofs.lemmas.List.Sums.{sum_by-append, list_all-from_AllPass}
 use Rattle.std.proofs.lemmas.Str.{encodes-append}
@@ -14,7 +14,7 @@ use Rattle.nf_forms.specs.Properties.{Properties, is_nonstarter}
 use Rattle.nf_forms.specs.Runs.{has_starter}
 use Rattle.nf_forms.specs.declared.form.Form.TheVariants.{Nfkd}
 use Rattle.nf_counts.specs.Counts.{HasCounts, HasValue, IsValued, is_fit}
-use Rattle.nf_counts.specs.Scan.{Reaches, IsPlainFront}
+use Rattle.nf_counts.specs.Scan.{Reaches}
 use Rattle.nf_counts.specs.declared.scan.Scan.{Scan}
 
 -- starters behind starters
@@ -39,6 +39,10 @@ value-plain p (c ∷ d ∷ cs) some plain =
 pub fit-plain : (p : Properties) (cs : List ℕ) → ArePlain p cs → list_all (is_fit p) cs ≡ true
 fit-plain p cs plain = list_all-from_AllPass (is_fit p) cs (All-weaker (λ c. IsValued p c 0) (λ c. is_fit p c ≡ true) (λ c valued. valued.fit) cs plain)
 
+pub some_chars : (cs : List ℕ) → 0 < length (encode_utf8_all cs) → 0 < length cs
+some_chars [] some = some
+some_chars (c ∷ cs) some = omega arith
+
 both_pass : (p : Properties) (cs ds : List ℕ) → list_all (is_fit p) cs ≡ true → list_all (is_fit p) ds ≡ true → list_all (is_fit p) (cs ++ ds) ≡ true
 both_pass p cs ds first next = list_all-append (is_fit p) cs ds ∙ and_from _ _ first next
 
@@ -47,13 +51,6 @@ goes_on : (text front piece rest next : List ℕ) → text ≡ encode_utf8_all f
 goes_on text front piece rest next first more =
     first ∙ ap (λ t. encode_utf8_all front ++ t) more ∙ sym (append_assoc (encode_utf8_all front) (encode_utf8_all piece) next)
     ∙ ap (λ t. t ++ next) (sym (encodes-append front piece))
-
-pub plain_goes_on : (p : Properties) (text piece rest next : List ℕ) → IsPlainFront p text rest → rest ≡ encode_utf8_all piece ++ next → ArePlain p piece → IsPlainFront p text next
-plain_goes_on p text piece rest next here more plain = record {
-  front = here.front ++ piece;
-  split = goes_on text here.front piece rest next here.split more;
-  plain = All-append (λ c. IsValued p c 0) here.front piece here.plain plain;
-}
 
 pub reaches : (p : Properties) (room : ℕ) (text : List ℕ) (scan next : Scan) (here : Reaches p room text scan) (piece : List ℕ) → scan.rest.now ≡ encode_utf8_all piece ++ next.rest.now
     → IsUtf8 next.rest.now → list_all (is_fit p) piece ≡ true → HasCounts p (decomposed Nfkd p (here.front ++ piece)) next.counts → next.counts.lead ≤ room → Reaches p room text next
@@ -65,8 +62,3 @@ reaches p room text scan next here piece more rest_utf8 fit counts leads = recor
   counts = counts;
   leads = leads;
 }
-
--- a front that takes up bytes has characters
-pub some_front : (text front rest : List ℕ) → text ≡ encode_utf8_all front ++ rest → length rest < length text → 0 < length front
-some_front text [] rest split less = absurd (omega (arith, less, ap length split))
-some_front text (c ∷ front) rest split less = omega arith

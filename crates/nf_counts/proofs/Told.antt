@@ -1,12 +1,12 @@
 -- The table has what the data of Unicode has, shown by one computation.
-use Rattle.std.proofs.Common.{◌≡◌, ℕ, ◌+◌, ◌-◌, ◌*◌, ◌/◌, ◌%◌, ◌^◌, ◌<◌, ◌≤◌, max, Bool, true, false, not, cond, ◌&&◌, ◌||◌, ◌==◌, nat_lt, List, [], ◌∷◌, slice_index, count_by, inl, inr, refl, sym, ap, ap₂, ◌∙◌, arith, eqb-true, eq-eqb, ltb-true, lt-ltb, le-ltb}
+use Rattle.std.proofs.Common.{◌≡◌, ℕ, ◌+◌, ◌-◌, ◌/◌, ◌%◌, ◌<◌, ◌≤◌, max, Bool, true, false, not, cond, ◌&&◌, ◌||◌, ◌==◌, nat_lt, List, [], ◌∷◌, slice_index, count_by, inl, inr, refl, sym, ap, ap₂, ◌∙◌, arith, eqb-true, eq-eqb, ltb-true, lt-ltb, le-ltb}
 use Rattle.std.proofs.lemmas.Bool.{cases_Bool, cases_eq, and_parts, and_from, cond-true, cond-false}
 use Rattle.ucd_table.specs.Rows.{Range, in_ranges}
 use Rattle.ucd_table.specs.Steps.{run_value}
 use Rattle.ucd_table.specs.Trie.{IsTrie, block_value, trie_value}
 use Rattle.ucd_table.proofs.Stepped.{Stepped, of_ranges, map_stepped, zip_stepped, runs_of}
 use Rattle.ucd_table.proofs.Facts.{Stepped-below, tree_value, tree_of, tree_value-tree_of}
-use Rattle.ucd_table.proofs.TrieCheck.{all_below, all_below-at, trie_ok-IsTrie, trie_value-Stepped, trie_ok}
+use Rattle.ucd_table.proofs.TrieCheck.{trie_ok-IsTrie, trie_value-Stepped, trie_ok}
 use Rattle.ucd_table.proofs.Computing.{tables}
 use Rattle.ucd_category.specs.GeneralCategory.{general_category, general_category_eq}
 use Rattle.ucd_category.specs.declared.GeneralCategory.TheVariants.{Unassigned}
@@ -28,7 +28,7 @@ use Rattle.nf_forms.specs.Runs.{has_starter, lead, trail, longest}
 use Rattle.nf_forms.specs.Sound.{is_sound}
 use Rattle.nf_forms.specs.Ucd.{is_assigned, ucd}
 use Rattle.nf_counts.specs.Counts.{HasValue, IsValued}
-use Rattle.nf_counts.specs.declared.rows.TheConstants.{INDEX, PLAIN, WORDS, TAIL}
+use Rattle.nf_counts.specs.declared.rows.TheConstants.{INDEX, WORDS, TAIL}
 
 -- the value of a row, and of one that is the character alone
 abbrev pub row_value : Properties → List ℕ → ℕ
@@ -85,29 +85,10 @@ told-ascii c low = eqb-true _ _ (Stepped-below told told_stepped (λ _ (v : ℕ)
 
 -- ---- the value of a code point by its block
 
-trie-block : (c b j : ℕ) → c / 64 ≡ b → c % 64 ≡ j → b < 1024 → trie_value 4 4 INDEX WORDS TAIL c ≡ block_value 4 4 WORDS (slice_index INDEX b) j
+pub trie-block : (c b j : ℕ) → c / 64 ≡ b → c % 64 ≡ j → b < 1024 → trie_value 4 4 INDEX WORDS TAIL c ≡ block_value 4 4 WORDS (slice_index INDEX b) j
 unfolding trie_value
 trie-block c b j at within small =
     ap₂ (λ x y. cond (nat_lt x 1024) (block_value 4 4 WORDS (slice_index INDEX x) y) (run_value TAIL c)) at within ∙ cond-true _ _ _ (lt-ltb b 1024 small)
-
-pub index-small : (b : ℕ) → b < 1024 → slice_index INDEX b < 175
-index-small b small = let fits : slice_index INDEX b * 4 + 4 ≤ 700 = is_trie.blocks b small in omega (arith, fits)
-
--- of each block the bits tell which values are 0
-abbrev bit_ok : ℕ → ℕ → Bool
-bit_ok k j = cond ((slice_index PLAIN k / 2 ^ j) % 2 == 1) (block_value 4 4 WORDS k j == 0) true
-
-plain_ok : all_below (λ k. all_below (λ j. bit_ok k j) 64) 175 ≡ true
-unfolding all_below block_value
-plain_ok = refl
-
-pub plain-told : (b low : ℕ) → b < 1024 → (slice_index PLAIN (slice_index INDEX b) / 2 ^ (low % 64)) % 2 ≡ 1 → told (b * 64 + low % 64) ≡ 0
-plain-told b low small bit =
-    let k = slice_index INDEX b in
-    let j = low % 64 in
-    let here = all_below-at (λ j. bit_ok k j) 64 j (all_below-at (λ k. all_below (λ j. bit_ok k j) 64) 175 k plain_ok (index-small b small)) (omega arith) in
-    sym (trie-told (b * 64 + j) (omega arith)) ∙ trie-block (b * 64 + j) b j (omega arith) (omega arith) small
-    ∙ eqb-true _ _ (sym (cond-true _ _ _ (eq-eqb _ 1 bit)) ∙ here)
 
 -- ---- what a value tells
 

@@ -4,7 +4,9 @@
 
 mod counted;
 mod counts;
-mod first;
+mod pairs;
+mod piece;
+mod plain;
 mod rows;
 mod scan;
 mod table;

@@ -1,9 +1,14 @@
 ghost use Rattle.std.specs.Prelude.{◌≤◌, length};
-ghost use Rattle.nf_forms.specs.Ucd.{ucd};
-ghost use Rattle.nf_counts.specs.Scan.{IsPlainFront};
 
 use crate::counts::Counts;
-use crate::first::{first, plain_len};
+use crate::piece::first_piece;
+use crate::plain::plain_len;
+
+/// Where pairs told at least so many bytes, they are asked again behind the next character.
+const WORTH: usize = 16;
+
+/// So many pieces are looked up where they told fewer.
+const FEW: usize = 16;
 
 /// A place in a text, up to which its non-starters are counted.
 #[derive(Clone, Copy)]
@@ -11,6 +16,8 @@ pub(crate) struct Scan<'t> {
     /// What stands behind it.
     pub rest: &'t str,
     pub counts: Counts,
+    /// So many pieces are looked up before pairs are asked again.
+    pub few: usize,
 }
 
 impl<'t> Scan<'t> {
@@ -28,27 +35,42 @@ impl<'t> Scan<'t> {
         Scan {
             rest: text,
             counts: Counts::new(),
+            few: 0,
         }
     }
 
-    /// Behind all characters of which the value is 0.
+    /// Behind the characters at the front of which pairs of bytes tell the value 0. Pairs are asked where no few pieces are
+    /// left to be looked up.
     #[inline(always)]
     pub fn over_plain(self) -> Scan<'t>
         ensures within { length result.rest.now ≤ length self.entry.rest.now }
         ensures few { result.counts.nonstarters ≡ self.entry.counts.nonstarters }
         ensures reaches { (room : ℕ) (text : List ℕ) → Reaches ucd room text self.entry → Reaches ucd room text result }
     {
-        let rest = behind_plain(self.rest);
-        if rest.len() == self.rest.len() {
-            return self;
+        if self.few > 0 {
+            return Scan {
+                rest: self.rest,
+                counts: self.counts,
+                few: self.few - 1,
+            };
+        }
+        let len = plain_len(self.rest);
+        let few = if len < WORTH { FEW } else { 0 };
+        if len == 0 {
+            return Scan {
+                rest: self.rest,
+                counts: self.counts,
+                few,
+            };
         }
         Scan {
-            rest,
+            rest: &self.rest[len..],
             counts: self.counts.with_starters(),
+            few,
         }
     }
 
-    /// Behind the next character, where its value tells something, no run gets too long with it, and no more than `room`
+    /// Behind the next piece, where its value tells something, no run gets too long with it, and no more than `room`
     /// non-starters stand before the first starter.
     #[inline(always)]
     pub fn step(self, room: u32) -> Option<Scan<'t>>
@@ -58,27 +80,12 @@ impl<'t> Scan<'t> {
         ensures shorter { IfSome result (λ next. length next.rest.now < length self.entry.rest.now) }
         ensures reaches { IfSome result (λ next. (text : List ℕ) → Reaches ucd room text self.entry → Reaches ucd room text next) }
     {
-        let first = first(self.rest)?;
-        let counts = self.counts.with(first.value, room)?;
+        let piece = first_piece(self.rest)?;
+        let counts = self.counts.with(piece.value, room)?;
         Some(Scan {
-            rest: &self.rest[first.len..],
+            rest: &self.rest[piece.len..],
             counts,
+            few: self.few,
         })
-    }
-}
-
-/// What stands behind the characters at the front of which the value is 0.
-#[inline(always)]
-fn behind_plain(text: &str) -> &str
-    ensures within { length result.now ≤ length text.now }
-    ensures plain { IsPlainFront ucd text.now result.now }
-{
-    let mut rest = text;
-    loop {
-        let len = plain_len(rest);
-        if len == 0 {
-            return rest;
-        }
-        rest = &rest[len..];
     }
 }

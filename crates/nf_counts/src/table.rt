@@ -1,6 +1,6 @@
 ghost use Rattle.std.specs.Prelude.{◌<◌};
 
-use crate::rows::{INDEX, PLAIN, TAIL, WORDS};
+use crate::rows::{INDEX, TAIL, WORDS};
 use nf_facts::laws;
 
 /// The value that tells nothing.
@@ -17,10 +17,10 @@ pub(crate) struct Code {
 }
 
 impl Code {
-    ghost use Rattle.std.specs.Prelude.{◌≡◌, ◌+◌, ◌*◌, ◌%◌, ◌<◌, false, ◌==◌, length, slice_index, IsTrue};
+    ghost use Rattle.std.specs.Prelude.{◌≡◌, ◌+◌, ◌*◌, ◌%◌, ◌<◌, false, ◌==◌, length, slice_index};
     ghost use Rattle.nf_forms.specs.Ucd.{ucd};
     ghost use Rattle.nf_counts.specs.Counts.{IsValued};
-    ghost use Rattle.nf_counts.specs.First.{code_of};
+    ghost use Rattle.nf_counts.specs.Piece.{code_of};
 
     /// Of two bytes.
     #[inline(always)]
@@ -44,15 +44,6 @@ impl Code {
             block: u32::from(bytes[0]) % 16 * 64 + u32::from(bytes[1]) % 64,
             last: bytes[2],
         }
-    }
-
-    /// Whether its value is 0.
-    #[inline(always)]
-    pub fn is_plain(self) -> bool
-        ensures { IsTrue result → IsValued ucd (code_of self) 0 }
-    {
-        laws::every_character_is_sound();
-        (PLAIN[INDEX[self.block as usize] as usize] >> (self.last % 64)) % 2 == 1
     }
 
     /// Its value, 0 to 7.

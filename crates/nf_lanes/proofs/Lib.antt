@@ -1,2 +1,4 @@
 pub mod PlacesLemmas
 pub mod LookUpLemmas
+pub mod MaskLemmas
+pub mod LooksLemmas

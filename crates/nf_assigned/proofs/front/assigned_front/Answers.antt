@@ -1,9 +1,14 @@
-use Rattle.std.proofs.Common.{subst}
-use Rattle.nf_assigned.specs.Pairs.{AreTold}
-use Rattle.nf_assigned.proofs.TextLemmas.{told_front}
+use Rattle.std.proofs.Common.{◌≡◌, true, ℕ, subst}
+use Rattle.std.proofs.lemmas.List.Sums.{list_all-from_AllPass}
+use Rattle.nf_forms.specs.Ucd.{is_assigned}
+use Rattle.nf_lanes.specs.Looks.{AreTold}
+use Rattle.nf_lanes.proofs.LooksLemmas.{told_front}
+use Rattle.nf_assigned.specs.declared.pairs.TheConstants.{LOOKS}
+use Rattle.nf_assigned.proofs.ToldLemmas.{tells}
 use Rattle.nf_assigned.proofs.front.assigned_front.Goals as goal
 
 pub returns-clause-assigned : goal.returns-clause-assigned
 returns-clause-assigned c =
-    told_front c.args.text.now c.floor_char_boundary.result c.told_len.result c.utf8.text c.floor_char_boundary.ensures.boundary c.floor_char_boundary.ensures.bound
-    (subst (λ bytes. AreTold bytes c.told_len.result) c.as_bytes.ensures.value c.told_len.ensures.told)
+    list_all-from_AllPass is_assigned _
+    (told_front LOOKS 0xCD 0x340 (λ (c : ℕ). is_assigned c ≡ true) tells c.args.text.now c.floor_char_boundary.result c.assigned_len.result c.utf8.text c.floor_char_boundary.ensures.boundary c.floor_char_boundary.ensures.bound
+    (subst (λ bytes. AreTold LOOKS 0xCD bytes c.assigned_len.result) c.as_bytes.ensures.value c.assigned_len.ensures.told))

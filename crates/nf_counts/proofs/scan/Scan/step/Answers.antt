@@ -1,38 +1,37 @@
-use Rattle.std.proofs.Common.{[], ◌∷◌, ◌++◌, refl, sym, ap, subst, ◌∙◌, arith}
+use Rattle.std.proofs.Common.{◌++◌, sym, ap, subst, ◌∙◌, arith}
 use Rattle.std.specs.Prelude.{encode_utf8_all}
-use Rattle.std.proofs.lemmas.Bool.{and_from}
-use Rattle.nf_forms.specs.Laws.StreamSafe.{decomposed-push}
+use Rattle.nf_forms.specs.Laws.StreamSafe.{decomposed-append}
 use Rattle.nf_forms.specs.Ucd.{ucd}
 use Rattle.nf_forms.specs.declared.form.Form.TheVariants.{Nfkd}
 use Rattle.nf_counts.specs.Counts.{HasCounts}
-use Rattle.nf_counts.proofs.FirstLemmas.{fits, is_some, boundary, rest_is}
+use Rattle.nf_counts.proofs.PieceLemmas.{fits, is_some, boundary, rest_is}
 use Rattle.nf_counts.proofs.ScanLemmas.{reaches}
 use Rattle.nf_counts.proofs.scan.Scan.step.Goals as goal
 
 pub with-requires-clause-fits : goal.with-requires-clause-fits
 with-requires-clause-fits c =
-    let first = c.in_ok-first.ensures in
-    omega (arith, c.requires.fits, fits _ _ _ first.begins, is_some _ _ _ first.begins (omega arith))
+    let piece = c.in_ok-piece.ensures in
+    omega (arith, c.requires.fits, fits _ _ _ piece.begins, is_some _ _ _ piece.begins)
 
 pub range_from-requires : goal.range_from-requires
-range_from-requires c = λ some. boundary _ _ _ c.in_ok-first.ensures.begins
+range_from-requires c = λ some. boundary _ _ _ c.in_ok-piece.ensures.begins
 
 pub returns-clause-few : goal.returns-clause-few
 returns-clause-few c =
-    let first = c.in_ok-first.ensures in
-    omega (arith, c.in_ok-counts.ensures.few, c.range_from.ensures.len, fits _ _ _ first.begins, is_some _ _ _ first.begins (omega arith))
+    let piece = c.in_ok-piece.ensures in
+    omega (arith, c.in_ok-counts.ensures.few, c.range_from.ensures.len, fits _ _ _ piece.begins, is_some _ _ _ piece.begins)
 
 pub returns-clause-shorter : goal.returns-clause-shorter
 returns-clause-shorter c =
-    let first = c.in_ok-first.ensures in
-    omega (arith, c.range_from.ensures.len, fits _ _ _ first.begins, is_some _ _ _ first.begins (omega arith))
+    let piece = c.in_ok-piece.ensures in
+    omega (arith, c.range_from.ensures.len, fits _ _ _ piece.begins, is_some _ _ _ piece.begins)
 
 pub returns-clause-reaches : goal.returns-clause-reaches
 returns-clause-reaches c = λ text before.
-    let first = c.in_ok-first.ensures in
-    reaches ucd c.args.room text c.args.self _ before (first.c ∷ [])
-    (first.begins.split ∙ ap (λ t. encode_utf8_all (first.c ∷ []) ++ t) (sym (c.range_from.ensures.value ∙ rest_is _ _ _ first.begins)))
+    let piece = c.in_ok-piece.ensures in
+    reaches ucd c.args.room text c.args.self _ before piece.chars
+    (piece.begins.split ∙ ap (λ t. encode_utf8_all piece.chars ++ t) (sym (c.range_from.ensures.value ∙ rest_is _ _ _ piece.begins)))
     c.range_from.utf8
-    (and_from _ _ first.valued.fit refl)
-    (subst (λ w. HasCounts ucd w c.in_ok-counts.counts) (sym (decomposed-push ucd Nfkd before.front first.c)) (c.in_ok-counts.ensures.counts ucd _ _ first.valued.row before.counts))
+    piece.fit
+    (subst (λ w. HasCounts ucd w c.in_ok-counts.counts) (sym (decomposed-append ucd Nfkd before.front piece.chars)) (c.in_ok-counts.ensures.counts ucd _ _ piece.row before.counts))
     c.in_ok-counts.ensures.room

@@ -1,5 +1,5 @@
 use Rattle.std.proofs.Common.{◌+◌, ◌*◌, ◌∙◌, ap, arith}
-use Rattle.nf_counts.specs.First.{code_of}
+use Rattle.nf_counts.specs.Piece.{code_of}
 use Rattle.nf_counts.proofs.Told.{is_trie, trie-told, told, told-small, told-valued}
 use Rattle.nf_counts.proofs.table.Code.value.Goals as goal
 

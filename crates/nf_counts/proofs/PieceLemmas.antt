@@ -5,9 +5,9 @@ use Rattle.std.specs.Str.{IsUtf8, IsCharBoundary, all_scalars}
 use Rattle.std.proofs.lemmas.Str.{IsCharBoundary-at_seam, length-le-encodes}
 use lib.Utf8.{scalar}
 use Rattle.std.proofs.str.Laws.{order, one, two, three, four}
-use Rattle.std.proofs.lemmas.Bool.{and_parts}
-use Rattle.nf_counts.specs.Counts.{IsValued}
-use Rattle.nf_counts.specs.First.{BeginsWith, IsFirst}
+use Rattle.std.proofs.lemmas.Bool.{and_parts, and_from}
+use Rattle.nf_counts.specs.Counts.{HasValue, IsValued}
+use Rattle.nf_counts.specs.Piece.{BeginsWith, IsPiece}
 use Rattle.nf_forms.specs.Ucd.{ucd}
 
 pub some_of : (n : ℕ) → (n == 0) ≡ false → 0 < n
@@ -31,30 +31,35 @@ module _ (text : List ℕ) (first : FirstOf text) where
   long : (bytes : List ℕ) → encode_utf8 first.c ≡ bytes → length text ≡ length bytes + length first.rest
   long bytes e = ap length (first.split ∙ ap (λ l. l ++ first.rest) e) ∙ length-append bytes first.rest
 
-  pub begins : (len : ℕ) → len ≡ length (encode_utf8 first.c) → BeginsWith text (first.c ∷ []) len
-  begins len is = record {
-    rest = first.rest;
-    split = first.split ∙ ap (λ l. l ++ first.rest) (sym (append-nil (encode_utf8 first.c)));
-    rest_utf8 = first.rest_utf8;
-    is_long = is ∙ ap length (sym (append-nil (encode_utf8 first.c)));
+  -- its value is that of the piece
+  pub piece_is : (len value : ℕ) → len ≡ length (encode_utf8 first.c) → value < 8 → IsValued ucd first.c value → IsPiece ucd text record { len = len; value = value }
+  piece_is len value is within valued = record {
+    chars = first.c ∷ [];
+    begins = record {
+      rest = first.rest;
+      split = first.split ∙ ap (λ l. l ++ first.rest) (sym (append-nil (encode_utf8 first.c)));
+      rest_utf8 = first.rest_utf8;
+      is_long = is ∙ ap length (sym (append-nil (encode_utf8 first.c)));
+      some = omega arith;
+    };
+    within = within;
+    fit = and_from _ _ valued.fit refl;
+    row = subst (λ w. HasValue ucd w value) (sym (append-nil (ucd.compat first.c))) valued.row;
   }
 
-  pub first_is : (len value : ℕ) → len ≡ length (encode_utf8 first.c) → value < 8 → IsValued ucd first.c value → IsFirst ucd text record { len = len; value = value }
-  first_is len value is within valued = record { c = first.c; begins = begins len is; within = within; valued = valued }
-
 -- so many bytes there are, and there it may be cut
-module _ (text piece : List ℕ) (len : ℕ) (begins : BeginsWith text piece len) where
+module _ (text chars : List ℕ) (len : ℕ) (begins : BeginsWith text chars len) where
   pub fits : len ≤ length text
-  fits = omega (arith, begins.is_long, ap length begins.split, length-append (encode_utf8_all piece) begins.rest)
+  fits = omega (arith, begins.is_long, ap length begins.split, length-append (encode_utf8_all chars) begins.rest)
 
-  pub is_some : 0 < length piece → 0 < len
-  is_some some = omega (arith, begins.is_long, length-le-encodes piece)
+  pub is_some : 0 < len
+  is_some = omega (arith, begins.is_long, begins.some, length-le-encodes chars)
 
   pub boundary : IsCharBoundary text len
-  boundary = subst (IsCharBoundary text) (sym begins.is_long) (IsCharBoundary-at_seam text (encode_utf8_all piece) begins.rest begins.split begins.rest_utf8)
+  boundary = subst (IsCharBoundary text) (sym begins.is_long) (IsCharBoundary-at_seam text (encode_utf8_all chars) begins.rest begins.split begins.rest_utf8)
 
   pub rest_is : drop len text ≡ begins.rest
-  rest_is = ap (drop len) begins.split ∙ drop_at (encode_utf8_all piece) begins.rest len (sym begins.is_long)
+  rest_is = ap (drop len) begins.split ∙ drop_at (encode_utf8_all chars) begins.rest len (sym begins.is_long)
 
 module _ (text : List ℕ) (u : IsUtf8 text) (some : 0 < length text) where
   -- it has so many bytes, and this code point

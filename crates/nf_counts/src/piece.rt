@@ -3,7 +3,7 @@
 ghost use Rattle.std.specs.Prelude.{◌≤◌, ◌<◌, IfSome, length, take, slice_index};
 ghost use Rattle.std.specs.Str.{IsAscii};
 ghost use Rattle.nf_forms.specs.Ucd.{ucd};
-ghost use Rattle.nf_counts.specs.First.{IsPlainPiece, IsFirst};
+ghost use Rattle.nf_counts.specs.Piece.{IsPiece};
 
 use crate::table::{Code, NOTHING};
 use nf_facts::laws;
@@ -13,22 +13,29 @@ use std::simd::prelude::*;
 /// Where not so many bytes are ASCII, they are passed over one by one.
 const FEW: usize = 8;
 
-/// The first character of a text, and the value of its compatibility decomposition.
+/// ASCII, or one other character, at the front of a text, and the value of its compatibility decomposition.
 #[derive(Clone, Copy)]
-pub(crate) struct FirstChar {
+pub(crate) struct Piece {
     /// How many bytes it has.
     pub len: usize,
     pub value: u32,
 }
 
-/// The first character, where it has two or three bytes and its value tells something.
+/// What a text begins with, where that is ASCII, or a character of two or three bytes of which the value tells something.
 #[inline(always)]
-pub(crate) fn first(text: &str) -> Option<FirstChar>
-    ensures { IfSome result (λ first. IsFirst ucd text.now first) }
+pub(crate) fn first_piece(text: &str) -> Option<Piece>
+    ensures { IfSome result (λ piece. IsPiece ucd text.now piece) }
 {
+    laws::every_character_is_sound();
     let bytes = text.as_bytes();
-    if bytes.is_empty() || bytes[0] < 0x80 || bytes[0] >= 0xF0 {
+    if bytes.is_empty() || bytes[0] >= 0xF0 {
         return None;
+    }
+    if bytes[0] < 0x80 {
+        return Some(Piece {
+            len: ascii_len(bytes),
+            value: 0,
+        });
     }
     let (len, code) = if bytes[0] < 0xE0 {
         (2, Code::of_two(bytes))
@@ -39,30 +46,7 @@ pub(crate) fn first(text: &str) -> Option<FirstChar>
     if value == NOTHING {
         return None;
     }
-    Some(FirstChar { len, value })
-}
-
-/// How many bytes the text has at its front that are ASCII, or one other character of which the value is 0.
-#[inline(always)]
-pub(crate) fn plain_len(text: &str) -> usize
-    ensures { IsPlainPiece ucd text.now result }
-{
-    laws::every_character_is_sound();
-    let bytes = text.as_bytes();
-    if bytes.is_empty() {
-        return 0;
-    }
-    let first = bytes[0];
-    if first >= 0xE0 {
-        if first < 0xF0 && Code::of_three(bytes).is_plain() {
-            return 3;
-        }
-        return 0;
-    }
-    if first >= 0x80 {
-        return if Code::of_two(bytes).is_plain() { 2 } else { 0 };
-    }
-    ascii_len(bytes)
+    Some(Piece { len, value })
 }
 
 /// How many of these bytes, of which the first is ASCII, are at least.

@@ -1,0 +1,82 @@
+-- What pairs of bytes tell of a text is so.
+use Rattle.std.proofs.Common.{◌≡◌, ℕ, ◌+◌, ◌*◌, ◌/◌, ◌%◌, ◌<◌, ◌≤◌, ◌⊎◌, ⊎_elim, inl, inr, true, false, true≢false, List, [], ◌∷◌, ◌++◌, length, get_or, take, drop, sym, ap, subst, ◌∙◌, arith, length-append, append_assoc, take-append-drop, length-take-le}
+use Rattle.std.specs.Prelude.{All, chars, encode_utf8, encode_utf8_all, IsUtf8}
+use Rattle.std.specs.Str.{all_scalars, IsCharBoundary}
+use lib.Utf8.{scalar, scalar_cases}
+use Rattle.std.proofs.str.Laws.{order, two, three, four}
+use Rattle.std.proofs.lemmas.Bool.{and_parts}
+use Rattle.std.proofs.lemmas.List.Elements.{All-nil, All-cons}
+use Rattle.std.proofs.lemmas.List.{get_or-append-add}
+use Rattle.std.proofs.lemmas.Str.{encodes-chars, scalars-chars, IsUtf8-take}
+use Rattle.nf_lanes.specs.Looks.{wants_look, look_at, AreTold}
+use Rattle.nf_lanes.specs.declared.looks.Looks.{Looks}
+
+-- this is so of each character below `low`, and of each from there on that is not looked up: those begin with bytes from
+-- `least` on
+pub record Tells (t : Looks) (least low : ℕ) (P : ℕ → Type 0) : Type 0 where
+  pub ascii : 128 ≤ low
+  pub of_low : least ≤ 192 + low / 64
+  pub is_low : least ≤ 224
+  pub below : (c : ℕ) → c < low → P c
+  pub of_two : (k i : ℕ) → k < 32 → i < 64 → wants_look t (192 + k) (128 + i) ≡ false → P (64 * k + i)
+  pub of_three : (k i j : ℕ) → k < 16 → i < 64 → j < 64 → 2048 ≤ 4096 * k + 64 * i + j → wants_look t (224 + k) (128 + i) ≡ false → wants_look t (128 + i) (128 + j) ≡ false → P (4096 * k + 64 * i + j)
+  pub of_four : (k i : ℕ) → k < 5 → i < 64 → wants_look t (240 + k) (128 + i) ≡ true
+
+module _ (t : Looks) (least low : ℕ) (P : ℕ → Type 0) (tells : Tells t least low P) where
+  shorter : (bytes : List ℕ) (n m : ℕ) → n ≤ m → AreTold t least bytes m → AreTold t least bytes n
+  shorter bytes n m short told k inside high = let here = told k (omega arith) high in (here.0, λ three more. here.1 three (omega arith))
+
+  -- a character that stands at the front of these bytes
+  by_told : (c : ℕ) (more : List ℕ) → c < 1114112 → AreTold t least (encode_utf8 c ++ more) (length (encode_utf8 c)) → P c
+  by_told c more scalar told = at (order c low) (order c 2048) (order c 65536)
+    where
+      of : (bytes : List ℕ) → encode_utf8 c ≡ bytes → AreTold t least (bytes ++ more) (length bytes)
+      of bytes e = subst (λ l. AreTold t least (l ++ more) (length l)) e told
+
+      at : (c < low) ⊎ (low ≤ c) → (c < 2048) ⊎ (2048 ≤ c) → (c < 65536) ⊎ (65536 ≤ c) → P c
+      at (inl below) _ _ = tells.below c below
+      at (inr some) (inl small) _ =
+          let is : 64 * (c / 64) + c % 64 ≡ c = omega arith in
+          let here = of _ (two c (omega (arith, tells.ascii)) small) 0 (omega arith) (omega (arith, tells.of_low)) in
+          subst P is (tells.of_two (c / 64) (c % 64) (omega arith) (omega arith) here.0)
+      at (inr some) (inr large) (inl small) =
+          let is : 4096 * (c / 4096) + 64 * (c / 64 % 64) + c % 64 ≡ c = omega arith in
+          let here = of _ (three c large small) 0 (omega arith) (omega (arith, tells.is_low)) in
+          subst P is (tells.of_three (c / 4096) (c / 64 % 64) (c % 64) (omega arith) (omega arith) (omega arith) (omega (arith, is)) here.0 (here.1 (omega arith) (omega arith)))
+      at (inr some) (inr _) (inr large) =
+          absurd (true≢false (sym (tells.of_four (c / 262144) (c / 4096 % 64) (omega arith) (omega arith)) ∙ (of _ (four c large) 0 (omega arith) (omega (arith, tells.is_low))).0))
+
+  -- behind a piece
+  look_at-behind : (piece rest : List ℕ) (j : ℕ) → look_at t (piece ++ rest) (length piece + j) ≡ look_at t rest j
+  look_at-behind piece rest j =
+      let whole = piece ++ rest in
+      let next : length piece + j + 1 ≡ length piece + (j + 1) = omega arith in
+      ap (λ x. wants_look t x (get_or whole (length piece + j + 1) 0)) (get_or-append-add piece rest j 0)
+      ∙ ap (λ x. wants_look t (get_or rest j 0) x) (ap (λ n. get_or whole n 0) next ∙ get_or-append-add piece rest (j + 1) 0)
+
+  told_behind : (piece rest : List ℕ) (n : ℕ) → AreTold t least (piece ++ rest) (length piece + n) → AreTold t least rest n
+  told_behind piece rest n told k inside high =
+      let here = told (length piece + k) (omega arith) (omega (arith, get_or-append-add piece rest k 0)) in
+      let next : length piece + k + 1 ≡ length piece + (k + 1) = omega arith in
+      (sym (look_at-behind piece rest k) ∙ here.0, λ three more. sym (look_at-behind piece rest (k + 1)) ∙ ap (look_at t (piece ++ rest)) (sym next) ∙ here.1 (omega (arith, three, get_or-append-add piece rest k 0)) (omega arith))
+
+  told_chars : (cs more : List ℕ) → all_scalars cs ≡ true → AreTold t least (encode_utf8_all cs ++ more) (length (encode_utf8_all cs)) → All P cs
+  told_chars [] more scalars told = All-nil P
+  told_chars (c ∷ cs) more scalars told =
+      let both = and_parts (scalar c) (all_scalars cs) scalars in
+      let fits : c < 1114112 = ⊎_elim (λ low. omega arith) (λ high. high.1) (scalar_cases c both.0) in
+      let rest = encode_utf8_all cs ++ more in
+      let bytes = length-append (encode_utf8 c) (encode_utf8_all cs) in
+      let here : AreTold t least (encode_utf8 c ++ rest) (length (encode_utf8 c) + length (encode_utf8_all cs)) =
+      subst (λ n. AreTold t least (encode_utf8 c ++ rest) n) bytes (subst (λ l. AreTold t least l (length (encode_utf8_all (c ∷ cs)))) (append_assoc (encode_utf8 c) (encode_utf8_all cs) more) told) in
+      All-cons P c cs (by_told c rest fits (shorter (encode_utf8 c ++ rest) (length (encode_utf8 c)) _ (omega arith) here))
+      (told_chars cs more both.1 (told_behind (encode_utf8 c) rest (length (encode_utf8_all cs)) here))
+
+  -- a front that ends between two characters
+  pub told_front : (text : List ℕ) (n m : ℕ) → IsUtf8 text → IsCharBoundary text n → n ≤ m → AreTold t least text m → All P (chars (take n text))
+  told_front text n m u boundary short told =
+      let front = take n text in
+      let front_utf8 = IsUtf8-take text n u boundary in
+      let told_here : AreTold t least (front ++ drop n text) (length front) =
+      subst (λ l. AreTold t least l (length front)) (sym (take-append-drop n text)) (subst (AreTold t least text) (sym (length-take-le n text boundary.0)) (shorter text n m short told)) in
+      told_chars (chars front) (drop n text) (scalars-chars front front_utf8) (subst (λ l. AreTold t least (l ++ drop n text) (length l)) (sym (encodes-chars front front_utf8)) told_here)

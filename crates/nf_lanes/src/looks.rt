@@ -1,0 +1,46 @@
+//! Pairs of bytes at which a text is looked up, many at once.
+
+ghost use Rattle.std.specs.Prelude.{◌≡◌, ◌<◌, ◌≤◌, ◌+◌, length};
+ghost use Rattle.nf_lanes.specs.Lanes.{bits_at, NonePass};
+ghost use Rattle.nf_lanes.specs.Looks.{look_at};
+
+use crate::lanes::{LANES, before, bits};
+use crate::sets::{Pairs, pair_sets};
+
+/// Two families of eight sets of pairs. A pair that is in a set of each has to be looked up.
+pub struct Looks {
+    pub first: Pairs,
+    pub second: Pairs,
+}
+
+/// How many bytes there are from `at` on before a pair that has to be looked up. The last few are left out.
+#[inline(always)]
+pub fn told_len(looks: &Looks, bytes: &[u8], at: usize) -> usize
+    requires { at ≤ length bytes.now }
+    ensures within { at + result ≤ length bytes.now }
+    ensures told { NonePass (look_at looks.now bytes.now) at result }
+{
+    let mut end = at;
+    while bytes.len() - end > LANES {
+        let run = before(look_bits(looks, bytes, end));
+        end += run;
+        if run < LANES {
+            break;
+        }
+    }
+    end - at
+}
+
+/// A bit for each byte from `at` on, the lowest for the first: whether it and the byte behind it have to be looked up. The
+/// second family is asked only where the first does not tell.
+#[inline(always)]
+fn look_bits(looks: &Looks, bytes: &[u8], at: usize) -> u64
+    requires room { at + 16 < length bytes.now }
+    ensures { result ≡ bits_at (look_at looks.now bytes.now) at }
+{
+    let first = bits(pair_sets(&looks.first, bytes, at));
+    if first == 0 {
+        return 0;
+    }
+    first & bits(pair_sets(&looks.second, bytes, at))
+}
