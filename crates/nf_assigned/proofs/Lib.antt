@@ -1,4 +1,3 @@
 pub mod BlockLemmas
-pub mod MaskLemmas
 pub mod RangeLemmas
 pub mod ToldLemmas

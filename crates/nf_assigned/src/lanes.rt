@@ -7,7 +7,7 @@ ghost use Rattle.nf_assigned.specs.Bytes.{AreLow};
 ghost use Rattle.nf_assigned.specs.declared.pairs.TheConstants.{LOOKS};
 
 use crate::pairs::LOOKS;
-use nf_lanes::{at_least, bits, none_of, pair_sets_within, told_len};
+use nf_lanes::{are_told, at_least, none_of, told_len};
 
 /// How many bytes there are before a pair that has to be looked up. The last few are left out.
 #[inline(always)]
@@ -50,7 +50,7 @@ fn told_block(bytes: &[u8], at: usize) -> usize
         // the next block, too, begins with a character
         return if bytes[at + 63] < 0xC0 { 64 } else { 63 };
     }
-    if are_told(bytes, at) { 60 } else { 0 }
+    if are_told(&LOOKS, bytes, at) { 64 } else { 0 }
 }
 
 /// Whether the first of 64 bytes is ASCII, and all lie below CD.
@@ -87,27 +87,4 @@ fn are_below(least: u8, flip: u8, bytes: &[u8], at: usize) -> bool
         at_least(least, flip, bytes, at + 32),
         at_least(least, flip, bytes, at + 48),
     )
-}
-
-/// Whether none of the 60 pairs from `at` on has to be looked up.
-#[inline(always)]
-fn are_told(bytes: &[u8], at: usize) -> bool
-    requires room { at + 64 < length bytes.now }
-    ensures { IsTrue result → NonePass (look_at LOOKS bytes.now) at 60 }
-{
-    is_told(bytes, at)
-        && is_told(bytes, at + 15)
-        && is_told(bytes, at + 30)
-        && is_told(bytes, at + 45)
-}
-
-/// Whether none of the 15 pairs within 16 bytes has to be looked up. The second family is asked only where the first does not
-/// tell.
-#[inline(always)]
-fn is_told(bytes: &[u8], at: usize) -> bool
-    requires room { at + 16 ≤ length bytes.now }
-    ensures { IsTrue result → NonePass (look_at LOOKS bytes.now) at 15 }
-{
-    let first = bits(pair_sets_within(&LOOKS.first, bytes, at));
-    first == 0 || first & bits(pair_sets_within(&LOOKS.second, bytes, at)) == 0
 }

@@ -1,5 +1,5 @@
 -- What pairs of bytes tell of a text is so.
-use Rattle.std.proofs.Common.{◌≡◌, ℕ, ◌+◌, ◌*◌, ◌/◌, ◌%◌, ◌<◌, ◌≤◌, ◌⊎◌, ⊎_elim, inl, inr, true, false, true≢false, List, [], ◌∷◌, ◌++◌, length, get_or, take, drop, sym, ap, subst, ◌∙◌, arith, length-append, append_assoc, take-append-drop, length-take-le}
+use Rattle.std.proofs.Common.{◌≡◌, ℕ, ◌+◌, ◌*◌, ◌/◌, ◌%◌, ◌<◌, ◌≤◌, ◌⊎◌, ⊎_elim, inl, inr, Bool, true, false, true≢false, nat_lt, ltb-true, List, [], ◌∷◌, ◌++◌, length, get_or, take, drop, sym, ap, subst, ◌∙◌, arith, length-append, append_assoc, take-append-drop, length-take-le}
 use Rattle.std.specs.Prelude.{All, chars, encode_utf8, encode_utf8_all, IsUtf8}
 use Rattle.std.specs.Str.{all_scalars, IsCharBoundary}
 use lib.Utf8.{scalar, scalar_cases}
@@ -8,21 +8,70 @@ use Rattle.std.proofs.lemmas.Bool.{and_parts}
 use Rattle.std.proofs.lemmas.List.Elements.{All-nil, All-cons}
 use Rattle.std.proofs.lemmas.List.{get_or-append-add}
 use Rattle.std.proofs.lemmas.Str.{encodes-chars, scalars-chars, IsUtf8-take}
+use Rattle.nf_facts.specs.Within.{or_else, either}
+use Rattle.ucd_table.proofs.TrieCheck.{all_below, all_below-at}
 use Rattle.nf_lanes.specs.Looks.{wants_look, look_at, AreTold}
 use Rattle.nf_lanes.specs.declared.looks.Looks.{Looks}
 
--- this is so of each character below `low`, and of each from there on that is not looked up: those begin with bytes from
--- `least` on
+-- characters of four bytes are looked up
+abbrev pub four_looked_up : Looks → ℕ → Bool
+four_looked_up t k = all_below (λ i. wants_look t (240 + k) (128 + i)) 64
+
+-- blocks of 64 code points are so as a whole, or each of the block that no pair finds is so; the second bytes of E0 begin at A0
+module _ (t : Looks) (whole : ℕ → Bool) (is : ℕ → ℕ → Bool) where
+  abbrev pub second_told : ℕ → ℕ → Bool
+  second_told k i = or_else (wants_look t (192 + k) (128 + i)) (λ _. is k i)
+
+  abbrev pub two_told : ℕ → Bool
+  two_told k = or_else (whole k) (λ _. all_below (second_told k) 64)
+
+  abbrev pub third_told : ℕ → ℕ → Bool
+  third_told b j = or_else (wants_look t (128 + b % 64) (128 + j)) (λ _. is b j)
+
+  abbrev pub three_told : ℕ → ℕ → Bool
+  three_told k i =
+      or_else (whole (64 * k + i)) (λ _.
+      or_else (wants_look t (224 + k) (128 + i)) (λ _.
+      or_else (nat_lt (64 * k + i) 32) (λ _. all_below (third_told (64 * k + i)) 64)))
+
+-- so it is of each character below `low`, and of each from there on that no pair finds: those begin with bytes from `least` on
 pub record Tells (t : Looks) (least low : ℕ) (P : ℕ → Type 0) : Type 0 where
+  pub whole : ℕ → Bool
+  pub is : ℕ → ℕ → Bool
+  pub of_two : all_below (two_told t whole is) 32 ≡ true
+  pub of_three : all_below (λ k. all_below (three_told t whole is k) 64) 16 ≡ true
+  pub of_four : all_below (four_looked_up t) 5 ≡ true
+  pub in_block : (b j : ℕ) → b < 1024 → j < 64 → whole b ≡ true → P (64 * b + j)
+  pub in_place : (b j : ℕ) → b < 1024 → j < 64 → is b j ≡ true → P (64 * b + j)
+  pub below : (c : ℕ) → c < low → P c
   pub ascii : 128 ≤ low
   pub of_low : least ≤ 192 + low / 64
   pub is_low : least ≤ 224
-  pub below : (c : ℕ) → c < low → P c
-  pub of_two : (k i : ℕ) → k < 32 → i < 64 → wants_look t (192 + k) (128 + i) ≡ false → P (64 * k + i)
-  pub of_three : (k i j : ℕ) → k < 16 → i < 64 → j < 64 → 2048 ≤ 4096 * k + 64 * i + j → wants_look t (224 + k) (128 + i) ≡ false → wants_look t (128 + i) (128 + j) ≡ false → P (4096 * k + 64 * i + j)
-  pub of_four : (k i : ℕ) → k < 5 → i < 64 → wants_look t (240 + k) (128 + i) ≡ true
 
 module _ (t : Looks) (least low : ℕ) (P : ℕ → Type 0) (tells : Tells t least low P) where
+  by_two : (k i : ℕ) → k < 32 → i < 64 → wants_look t (192 + k) (128 + i) ≡ false → P (64 * k + i)
+  by_two k i short little none =
+      ⊎_elim (tells.in_block k i (omega arith) little)
+      (λ seconds. ⊎_elim (λ hit. absurd (true≢false (sym hit ∙ none))) (tells.in_place k i (omega arith) little)
+      (either (wants_look t (192 + k) (128 + i)) _ (all_below-at _ 64 i seconds little)))
+      (either (tells.whole k) _ (all_below-at (two_told t tells.whole tells.is) 32 k tells.of_two short))
+
+  by_three : (k i j : ℕ) → k < 16 → i < 64 → j < 64 → 32 ≤ 64 * k + i → wants_look t (224 + k) (128 + i) ≡ false → wants_look t (128 + i) (128 + j) ≡ false → P (64 * (64 * k + i) + j)
+  by_three k i j short little small large first second =
+      let b = 64 * k + i in
+      let same : i ≡ b % 64 = omega arith in
+      ⊎_elim (tells.in_block b j (omega arith) small)
+      (λ others. ⊎_elim (λ hit. absurd (true≢false (sym hit ∙ first)))
+      (λ more. ⊎_elim (λ under. let below : b < 32 = ltb-true _ _ under in absurd (omega arith))
+      (λ thirds. ⊎_elim (λ hit. absurd (true≢false (sym hit ∙ subst (λ n. wants_look t (128 + n) (128 + j) ≡ false) same second))) (tells.in_place b j (omega arith) small)
+      (either (wants_look t (128 + b % 64) (128 + j)) _ (all_below-at _ 64 j thirds small)))
+      (either (nat_lt b 32) _ more))
+      (either (wants_look t (224 + k) (128 + i)) _ others))
+      (either (tells.whole b) _ (all_below-at _ 64 i (all_below-at (λ k. all_below (three_told t tells.whole tells.is k) 64) 16 k tells.of_three short) little))
+
+  by_four : (k i : ℕ) → k < 5 → i < 64 → wants_look t (240 + k) (128 + i) ≡ true
+  by_four k i short little = all_below-at (λ i. wants_look t (240 + k) (128 + i)) 64 i (all_below-at (four_looked_up t) 5 k tells.of_four short) little
+
   shorter : (bytes : List ℕ) (n m : ℕ) → n ≤ m → AreTold t least bytes m → AreTold t least bytes n
   shorter bytes n m short told k inside high = let here = told k (omega arith) high in (here.0, λ three more. here.1 three (omega arith))
 
@@ -38,13 +87,13 @@ module _ (t : Looks) (least low : ℕ) (P : ℕ → Type 0) (tells : Tells t lea
       at (inr some) (inl small) _ =
           let is : 64 * (c / 64) + c % 64 ≡ c = omega arith in
           let here = of _ (two c (omega (arith, tells.ascii)) small) 0 (omega arith) (omega (arith, tells.of_low)) in
-          subst P is (tells.of_two (c / 64) (c % 64) (omega arith) (omega arith) here.0)
+          subst P is (by_two (c / 64) (c % 64) (omega arith) (omega arith) here.0)
       at (inr some) (inr large) (inl small) =
-          let is : 4096 * (c / 4096) + 64 * (c / 64 % 64) + c % 64 ≡ c = omega arith in
+          let is : 64 * (64 * (c / 4096) + c / 64 % 64) + c % 64 ≡ c = omega arith in
           let here = of _ (three c large small) 0 (omega arith) (omega (arith, tells.is_low)) in
-          subst P is (tells.of_three (c / 4096) (c / 64 % 64) (c % 64) (omega arith) (omega arith) (omega arith) (omega (arith, is)) here.0 (here.1 (omega arith) (omega arith)))
+          subst P is (by_three (c / 4096) (c / 64 % 64) (c % 64) (omega arith) (omega arith) (omega arith) (omega (arith, is)) here.0 (here.1 (omega arith) (omega arith)))
       at (inr some) (inr _) (inr large) =
-          absurd (true≢false (sym (tells.of_four (c / 262144) (c / 4096 % 64) (omega arith) (omega arith)) ∙ (of _ (four c large) 0 (omega arith) (omega (arith, tells.is_low))).0))
+          absurd (true≢false (sym (by_four (c / 262144) (c / 4096 % 64) (omega arith) (omega arith)) ∙ (of _ (four c large) 0 (omega arith) (omega (arith, tells.is_low))).0))
 
   -- behind a piece
   look_at-behind : (piece rest : List ℕ) (j : ℕ) → look_at t (piece ++ rest) (length piece + j) ≡ look_at t rest j

@@ -1,13 +1,12 @@
 -- 16 places, what is read from them, and the first whose bit is set.
-use Rattle.std.proofs.Common.{◌≡◌, ℕ, zero, suc, ◌+◌, ◌-◌, ◌<◌, ◌≤◌, ⊎_elim, Bool, true, false, not, cond, List, ◌∷◌, ◌++◌, map, length, get_or, replicate, length-append, eqb, refl, sym, ap, subst, ◌∙◌, arith}
+use Rattle.std.proofs.Common.{◌≡◌, ℕ, zero, suc, ◌+◌, ◌-◌, ◌<◌, ◌≤◌, ⊎_elim, Bool, true, false, not, cond, List, ◌∷◌, map, length, get_or, eqb, refl, sym, ap, subst, ◌∙◌, arith}
 use Rattle.std.specs.List.{prefix_len, range_with_len}
 use Rattle.std.proofs.str.Laws.{order}
 use Rattle.std.proofs.lemmas.List.Sums.{prefix_len-le-length, prefix_len_passes, prefix_len_stops}
 use Rattle.std.proofs.lemmas.List.FromFn.{get_or-range_with_len, length-range_with_len}
-use Rattle.std.proofs.lemmas.Bool.{not-true, not-false, ne_eqb, eq-eqb}
-use Rattle.std.proofs.lemmas.List.{get_or-map, length-map, ext_get_or, get_or_append_left, get_or-append-add}
-use Rattle.std.proofs.lemmas.Simd.{map-map, pick_l-range_with_len, first_set_mask_l, length-chunk, get_or-chunk, length-replicate}
-use lib.Lanes.{chunk, mask_l, pick_l}
+use Rattle.std.proofs.lemmas.Bool.{not-true, not-false}
+use Rattle.std.proofs.lemmas.Simd.{map-map, pick_l-range_with_len, first_set_mask_l}
+use lib.Lanes.{chunk, mask_l}
 use lib.Count.{count_trailing_zeros}
 use Rattle.nf_lanes.specs.Lanes.{places, bits_at, NonePass, StopsAt}
 
@@ -34,41 +33,6 @@ range_behind h at n (suc len) =
 pub places_behind : {V : Type 0} (h : ℕ → V) (at n : ℕ) → map h (places (at + n)) ≡ map (λ k. h (k + n)) (places at)
 unfolding places
 places_behind h at n = range_behind h at n 16
-
--- the lane behind each, and 0 behind the last
-pub places_shifted : (h : ℕ → ℕ) (at : ℕ) (v : List ℕ) → v ≡ map h (places at) → pick_l 0 (v ++ replicate 16 0) (range_with_len 1 16) ≡ map (λ k. cond (eqb k (at + 15)) 0 (h (k + 1))) (places at)
-places_shifted h at v is =
-    pick_l-range_with_len 0 whole 1 16 room
-    ∙ ext_get_or 0 _ _ (length-chunk 1 16 whole room ∙ sym (length-map (places at) shifted ∙ length-places at)) (λ i within.
-    let short : i < 16 = omega (arith, within, length-chunk 1 16 whole room) in
-    get_or-chunk 1 16 whole i 0 short ∙ ⊎_elim (lane i) (end i short) (order i 15) ∙ sym (get_or-map shifted (places at) i 0 0 (omega (arith, length-places at)) ∙ ap shifted (get_or-places at i short)))
-  where
-    zeros : List ℕ
-    zeros = replicate 16 0
-
-    whole : List ℕ
-    whole = v ++ zeros
-
-    shifted : ℕ → ℕ
-    shifted k = cond (eqb k (at + 15)) 0 (h (k + 1))
-
-    long : length v ≡ 16
-    long = ap length is ∙ length-map (places at) h ∙ length-places at
-
-    room : 1 + 16 ≤ length whole
-    room = omega (arith, length-append v zeros, length-replicate {A = ℕ} 16 0, long)
-
-    lane : (i : ℕ) → i < 15 → get_or whole (1 + i) 0 ≡ shifted (at + i)
-    lane i inside =
-        let place : at + (1 + i) ≡ at + i + 1 = omega arith in
-        get_or_append_left v zeros 0 (1 + i) (omega (arith, long)) ∙ ap (λ l. get_or l (1 + i) 0) is ∙ get_or-map h (places at) (1 + i) 0 0 (omega (arith, length-places at)) ∙ ap h (get_or-places at (1 + i) (omega arith) ∙ place)
-        ∙ sym (ap (λ b. cond b 0 (h (at + i + 1))) (ne_eqb (at + i) (at + 15) (λ e. omega (arith, e))))
-
-    end : (i : ℕ) → i < 16 → 15 ≤ i → get_or whole (1 + i) 0 ≡ shifted (at + i)
-    end i short last =
-        let place : 1 + i ≡ length v + 0 = omega (arith, long) in
-        let same : at + i ≡ at + 15 = omega arith in
-        ap (λ n. get_or whole n 0) place ∙ get_or-append-add v zeros 0 0 ∙ sym (ap (λ b. cond b 0 (h (at + i + 1))) (eq-eqb (at + i) (at + 15) same))
 
 module _ (p : ℕ → Bool) (at found : ℕ) (is : found ≡ bits_at p at) where
   -- how many stand before the first whose bit is set

@@ -1,5 +1,5 @@
 -- Eight sets of bytes, of pairs and of triples of them, each a bit, by the halves of each byte.
-use Rattle.std.specs.Prelude.{ℕ, ◌+◌, ◌/◌, ◌==◌, cond, List, slice_index, bit_and}
+use Rattle.std.specs.Prelude.{ℕ, ◌/◌, List, slice_index, bit_and}
 use Rattle.nf_lanes.specs.declared.sets.Pairs.{Pairs}
 use Rattle.nf_lanes.specs.declared.sets.Triples.{Triples}
 
@@ -9,10 +9,6 @@ byte_sets high low byte = bit_and (slice_index high (byte / 16)) (slice_index lo
 
 abbrev pub pair_sets : Pairs → ℕ → ℕ → ℕ
 pair_sets t first next = bit_and (byte_sets t.first_high t.first_low first) (byte_sets t.next_high t.next_low next)
-
--- of the byte at k and the one behind it, and none where k is the last place
-abbrev pub pair_sets_before : Pairs → ℕ → List ℕ → ℕ → ℕ
-pair_sets_before t last bytes k = bit_and (byte_sets t.first_high t.first_low (slice_index bytes k)) (cond (k == last) 0 (byte_sets t.next_high t.next_low (slice_index bytes (k + 1))))
 
 abbrev pub triple_sets : Triples → ℕ → ℕ → ℕ → ℕ
 triple_sets t first next last = bit_and (pair_sets t.pairs first next) (byte_sets t.last_high t.last_low last)

@@ -1,16 +1,30 @@
 //! Pairs of bytes at which a text is looked up, many at once.
 
-ghost use Rattle.std.specs.Prelude.{◌≡◌, ◌<◌, ◌≤◌, ◌+◌, length};
+ghost use Rattle.std.specs.Prelude.{◌≡◌, ◌<◌, ◌≤◌, ◌+◌, length, IsTrue};
 ghost use Rattle.nf_lanes.specs.Lanes.{bits_at, NonePass};
 ghost use Rattle.nf_lanes.specs.Looks.{look_at};
 
-use crate::lanes::{LANES, before, bits};
+use crate::lanes::{LANES, before, bits, none_of};
 use crate::sets::{Pairs, pair_sets};
 
 /// Two families of eight sets of pairs. A pair that is in a set of each has to be looked up.
 pub struct Looks {
     pub first: Pairs,
     pub second: Pairs,
+}
+
+/// Whether none of the 64 pairs from `at` on has to be looked up.
+#[inline(always)]
+pub fn are_told(looks: &Looks, bytes: &[u8], at: usize) -> bool
+    requires room { at + 64 < length bytes.now }
+    ensures { IsTrue result → NonePass (look_at looks.now bytes.now) at 64 }
+{
+    none_of(
+        look_bits(looks, bytes, at),
+        look_bits(looks, bytes, at + 16),
+        look_bits(looks, bytes, at + 32),
+        look_bits(looks, bytes, at + 48),
+    )
 }
 
 /// How many bytes there are from `at` on before a pair that has to be looked up. The last few are left out.

@@ -1,8 +1,8 @@
 //! What the bytes from each place on are in.
 
-ghost use Rattle.std.specs.Prelude.{◌≡◌, ◌≤◌, ◌+◌, ◌==◌, ℕ, length, slice_index, map, cond};
+ghost use Rattle.std.specs.Prelude.{◌≡◌, ◌≤◌, ◌+◌, ℕ, length, slice_index, map};
 ghost use Rattle.nf_lanes.specs.Lanes.{places};
-ghost use Rattle.nf_lanes.specs.Sets.{byte_sets, pair_sets, pair_sets_before, triple_sets};
+ghost use Rattle.nf_lanes.specs.Sets.{byte_sets, pair_sets, triple_sets};
 
 use std::simd::prelude::*;
 
@@ -40,28 +40,6 @@ pub fn pair_sets(pairs: &Pairs, bytes: &[u8], at: usize) -> u8x16
     let first = byte_sets(&pairs.first_high, &pairs.first_low, bytes, at);
     let next = byte_sets(&pairs.next_high, &pairs.next_low, bytes, at + 1);
     first & next
-}
-
-/// The same of the 15 pairs within 16 bytes, whose bytes are each split into its halves once; none for the last byte.
-#[inline(always)]
-pub fn pair_sets_within(pairs: &Pairs, bytes: &[u8], at: usize) -> u8x16
-    requires room { at + 16 ≤ length bytes.now }
-    ensures { result ≡ map (pair_sets_before pairs.now (at + 15) bytes.now) (places at) }
-{
-    let first = byte_sets(&pairs.first_high, &pairs.first_low, bytes, at);
-    let next = byte_sets(&pairs.next_high, &pairs.next_low, bytes, at);
-    first & behind(next)
-}
-
-/// What stands in the lane behind each, and 0 behind the last.
-#[inline(always)]
-fn behind(lanes: u8x16) -> u8x16
-    ensures { (h : ℕ → ℕ) (at : ℕ) → lanes ≡ map h (places at) → result ≡ map (λ k. cond (k == at + 15) 0 (h (k + 1))) (places at) }
-{
-    lanes.shuffle(
-        u8x16::splat(0),
-        [1, 2, 3, 4, 5, 6, 7, 8, 9, 10, 11, 12, 13, 14, 15, 16],
-    )
 }
 
 /// The same of the three bytes from each place on.
