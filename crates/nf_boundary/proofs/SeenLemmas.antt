@@ -44,9 +44,6 @@ module _ (f : Form) (seen : Seen) (here : Sees f seen) where
       let width = len_utf8_bounds seen.character in
       omega (arith, ap length is, ap length here.text, length-append (encode_utf8 seen.character) seen.behind.now, length-encode seen.character, width.0)
 
-  pub shorter_two : (next : Seen) → next.text.now ≡ seen.behind.now → (text : List ℕ) → length seen.text.now < length text → length next.text.now < length text
-  shorter_two next is text before = let after = shorter next is in omega arith
-
   pub passing : seen.class ≡ 0 → seen.answer ≡ Yes → is_among halfwidth_marks seen.character ≡ false → IsTrue (passes_check f seen.character)
   passing class is other =
       and_from _ _ (and_from _ _ (eq-eqb (canonical_combining_class seen.character) 0 (sym here.class ∙ class)) (ap is_yes (sym here.answer ∙ is))) (not_from_false _ other)

@@ -6,7 +6,7 @@ use Rattle.nf_forms.specs.Runs.{has_starter, lead}
 use Rattle.nf_forms.specs.Ordering.{is_ordered}
 use Rattle.nf_forms.specs.declared.form.Form.{Form}
 use Rattle.nf_forms.specs.declared.form.Form.TheVariants.{Nfc, Nfd, Nfkc, Nfkd}
-use Rattle.nf_forms.specs.Forms.{row_of, decomposed, composes, arranged, normal_form}
+use Rattle.nf_forms.specs.Forms.{row_of, composes, arranged, normal_form}
 use Rattle.nf_forms.specs.StreamSafe.{max_run}
 use Rattle.nf_forms.specs.SafeForm.{safe_form}
 use Rattle.nf_forms.specs.Sound.{is_sound}
@@ -99,12 +99,3 @@ module _ (p : Properties) (f : Form) where
       subst (HasForm p f (c ∷ []))
       (ap (λ row. arranged (composes f) p row) (append-nil (row_of f p c)) ∙ ap (λ b. arranged b p (row_of f p c)) plain ∙ order-ordered p (row_of f p c) ordered)
       (HasForm-alone p f c boundary sound)
-
-  -- in each form it is so where the row is calm text, each member of which is its own row
-  pub HasForm-calm_row : (c : ℕ) → IsBoundary p f c → is_sound p c ≡ true → decomposed f p (row_of f p c) ≡ row_of f p c → (class count : ℕ) → IsCalm p f (row_of f p c) class count
-      → HasForm p f (c ∷ []) (row_of f p c)
-  unfolding safe_form
-  HasForm-calm_row c boundary sound own class count calm =
-      let row = row_of f p c in
-      let alone = safe_form-calm_alone p f row class count calm in
-      subst (HasForm p f (c ∷ [])) (ap (λ w. arranged (composes f) p w) (append-nil row ∙ sym own) ∙ ap (normal_form f p) (sym alone.0) ∙ alone.1) (HasForm-alone p f c boundary sound)
