@@ -5,7 +5,7 @@ pub use Rattle.std.proofs.iter.FirstChar.{no_text, after_text}
 pub use Rattle.std.proofs.lemmas.Bool.{leb-false, leb-true, ltb-true, cond_both, eq-eqb, ne_eqb, cond-true, cond-false, eqb-true}
 pub use Rattle.std.proofs.lemmas.Bool.Decides.{nat_tests}
 pub use Rattle.std.proofs.lemmas.List.{length-map, get_or_past, get_or-take, take_rest, map-append, drop_all, drop-drop, drop-append-le, append_cancel_left, take-append-le, nil_from_length, length_push, same_from_push}
-pub use Rattle.std.proofs.lemmas.Simd.{mask_l-mod, bit_mask_l, length-chunk, trailing_mask_l, run_in_chunk_fails, run_in_chunk_stops, none_from_empty_mask, zip2_of_maps, zip2_splat, zip2_splat_left, map-map, ones-mask_l, tops_compared, bitmask_splat}
+pub use Rattle.std.proofs.lemmas.Simd.{mask_l-mod, bit_mask_l, length-chunk, trailing_mask_l, run_in_chunk_fails, run_in_chunk_stops, none_from_empty_mask, zip2_of_maps, zip2_splat, zip2_splat_left, map-map, ones-mask_l, tops_compared}
 pub use Rattle.std.proofs.lemmas.Str.{IsUtf8-nil, encodes-chars, IsUtf8-from_ascii, chars-IsAscii, encodes-append, utf8_lossy-IsUtf8, utf8_lossy_step, utf8_lossy_empty, chars-append, chars-encodes, length-le-encodes, IsUtf8-append, scalars-chars, IsUtf8-encode, utf8_valid_len-IsUtf8, chars-nil}
 pub use Rattle.std.proofs.str.Classes.{width_is}
 pub use Rattle.std.proofs.str.Laws.{order, one, two, three, four, scalars-append}

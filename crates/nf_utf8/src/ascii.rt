@@ -2,14 +2,13 @@ ghost use Rattle.std.specs.Prelude.{◌≡◌, ◌+◌, ◌<◌, ◌≤◌, ℕ,
 ghost use Rattle.std.specs.Str.{IsAscii};
 ghost use Rattle.std.specs.Simd.Lanes.{mask_l};
 
-use crate::lanes::{LANES, at_least};
 use std::simd::prelude::*;
 
 /// The bytes that are looked at by one branch, as long as all are below 80.
 const BLOCK: usize = 64;
 
-/// Those that are looked at together, where fewer than 32 are left.
-const FEW: usize = 8;
+/// Those that are looked at together behind the last such block.
+const FEW: usize = 16;
 
 /// The length in bytes of the longest prefix of bytes below 80 (hexadecimal).
 pub fn ascii_prefix(bytes: &[u8]) -> usize
@@ -18,14 +17,14 @@ pub fn ascii_prefix(bytes: &[u8]) -> usize
     ensures longest { result < length bytes.now → 0x80 ≤ slice_index bytes.now result }
 {
     let mut at = ascii_blocks(bytes);
-    while bytes.len() - at >= LANES {
-        let others = at_least(u8x32::from_slice(&bytes[at..]), 0x80);
+    while bytes.len() - at >= FEW {
+        let others = not_ascii(u8x16::from_slice(&bytes[at..]));
         if others != 0 {
             return at + others.trailing_zeros() as usize;
         }
-        at += LANES;
+        at += FEW;
     }
-    by_few(bytes, at)
+    by_bytes(bytes, at)
 }
 
 /// How many bytes there are in the blocks before the first that has a byte of 80 or above.
@@ -49,34 +48,15 @@ fn is_ascii(block: u8x64) -> bool
     block.simd_ge(u8x64::splat(0x80)).to_bitmask() == 0
 }
 
-/// The end of the prefix, a few bytes at a time from `from` on.
-fn by_few(bytes: &[u8], from: usize) -> usize
-    requires within { from ≤ length bytes.now }
-    requires ascii { (k : ℕ) → k < from → slice_index bytes.now k < 0x80 }
-    ensures within { result ≤ length bytes.now }
-    ensures ascii { IsAscii (take result bytes.now) }
-    ensures longest { result < length bytes.now → 0x80 ≤ slice_index bytes.now result }
-{
-    let mut at = from;
-    while bytes.len() - at >= FEW {
-        let others = not_ascii_of_few(u8x8::from_slice(&bytes[at..]));
-        if others != 0 {
-            return at + others.trailing_zeros() as usize;
-        }
-        at += FEW;
-    }
-    by_bytes(bytes, at)
-}
-
-/// A bit for each of these few lanes, the lowest for the first: whether its byte is 80 or above.
+/// A bit for each lane, the lowest for the first: whether its byte is 80 or above.
 #[inline(always)]
-fn not_ascii_of_few(lanes: u8x8) -> u64
+fn not_ascii(lanes: u8x16) -> u64
     ensures { result ≡ mask_l (map (λ byte. leb 0x80 byte) lanes) }
 {
-    lanes.simd_ge(u8x8::splat(0x80)).to_bitmask()
+    lanes.simd_ge(u8x16::splat(0x80)).to_bitmask()
 }
 
-/// The same byte by byte.
+/// The end of the prefix, byte by byte from `from` on.
 fn by_bytes(bytes: &[u8], from: usize) -> usize
     requires within { from ≤ length bytes.now }
     requires ascii { (k : ℕ) → k < from → slice_index bytes.now k < 0x80 }

@@ -4,11 +4,13 @@ ghost use Rattle.std.specs.List.{count_by};
 ghost use Rattle.std.specs.Str.{chars};
 
 use crate::ascii::ascii_prefix;
-use crate::lanes::LANES;
 use crate::sequence::is_continuation;
 use std::simd::prelude::*;
 
-/// The bytes that are looked at together, where fewer than 32 are left, so that a short text costs little.
+/// The bytes that are looked at together.
+const LANES: usize = 32;
+
+/// Those that are, where fewer are left, so that a short text costs little.
 const FEW: usize = 8;
 
 /// How many characters a text has: as many as it has bytes that begin one.

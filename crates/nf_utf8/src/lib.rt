@@ -17,7 +17,6 @@ mod chunk;
 mod counting;
 mod decoder;
 mod front;
-mod lanes;
 pub mod laws;
 mod mending;
 mod sequence;

@@ -4,11 +4,11 @@ use Rattle.nf_utf8.proofs.ascii.ascii_prefix.Goals as goal
 
 pub returns-then-others-ne0 : goal.returns-then-others-ne0
 returns-then-others-ne0 c =
-    let run = run_is c.args.bytes.now c.loop-at.at 32 (omega arith) c.loop-at.invariant.ascii (omega arith) c.at_least-others.result c.at_least-others.ensures c.if-others-ne0.true in
+    let run = run_is c.args.bytes.now c.loop-at.at 16 (omega arith) c.loop-at.invariant.ascii (omega arith) c.not_ascii-others.result c.not_ascii-others.ensures c.if-others-ne0.true in
     record { within = run.0; ascii = run.1; longest = λ _. run.2 }
 
 pub loop-at-preserved : goal.loop-at-preserved
 loop-at-preserved c = record {
   within = omega arith;
-  ascii = all_below c.args.bytes.now c.loop-at.at 32 (omega arith) c.loop-at.invariant.ascii (sym c.at_least-others.ensures ∙ c.if-others-ne0.false);
+  ascii = all_below c.args.bytes.now c.loop-at.at 16 (omega arith) c.loop-at.invariant.ascii (sym c.not_ascii-others.ensures ∙ c.if-others-ne0.false);
 }
