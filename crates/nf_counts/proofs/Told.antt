@@ -1,5 +1,5 @@
 -- The table has what the data of Unicode has, shown by one computation.
-use Rattle.std.proofs.Common.{◌≡◌, ℕ, ◌+◌, ◌-◌, ◌/◌, ◌%◌, ◌<◌, ◌≤◌, max, Bool, true, false, not, cond, ◌&&◌, ◌||◌, ◌==◌, nat_lt, List, [], ◌∷◌, slice_index, count_by, inl, inr, refl, sym, ap, ap₂, ◌∙◌, arith, eqb-true, eq-eqb, ltb-true, lt-ltb, le-ltb}
+use Rattle.std.proofs.Common.{◌≡◌, ℕ, ◌+◌, ◌*◌, ◌-◌, ◌/◌, ◌^◌, ◌%◌, ◌<◌, ◌≤◌, max, Bool, true, false, not, cond, ◌&&◌, ◌||◌, ◌==◌, nat_lt, List, [], ◌∷◌, slice_index, count_by, inl, inr, refl, sym, ap, ap₂, ◌∙◌, arith, eqb-true, eq-eqb, ltb-true, lt-ltb, le-ltb}
 use Rattle.std.proofs.lemmas.Bool.{cases_Bool, cases_eq, and_parts, and_from, cond-true, cond-false}
 use Rattle.ucd_table.specs.Rows.{Range, in_ranges}
 use Rattle.ucd_table.specs.Steps.{run_value}
@@ -28,7 +28,7 @@ use Rattle.nf_forms.specs.Runs.{has_starter, lead, trail, longest}
 use Rattle.nf_forms.specs.Sound.{is_sound}
 use Rattle.nf_forms.specs.Ucd.{is_assigned, ucd}
 use Rattle.nf_counts.specs.Counts.{HasValue, IsValued}
-use Rattle.nf_counts.specs.declared.rows.TheConstants.{INDEX, WORDS, TAIL}
+use Rattle.nf_counts.specs.declared.rows.TheConstants.{INDEX, WORDS}
 
 -- the value of a row, and of one that is the character alone
 abbrev pub row_value : Properties → List ℕ → ℕ
@@ -69,15 +69,19 @@ told_stepped =
       gives = λ c. ap (λ class. value class (tells c) (ccc c) (compatibility_decomposition c)) (tree_value-tree_of ccc canonical_combining_class_stepped) ∙ by_tree.gives c;
     }
 
-trie_is : trie_ok 4 4 8 INDEX WORDS TAIL (runs_of (λ c. told c) told_stepped) ≡ true
+-- beyond the index nothing is told
+abbrev pub tail : List ℕ
+tail = 0x8800_0004 ∷ []
+
+trie_is : trie_ok 4 4 8 INDEX WORDS tail (runs_of (λ c. told c) told_stepped) ≡ true
 unfolding tables told_stepped
 trie_is = refl
 
 pub is_trie : IsTrie 4 4 INDEX WORDS
-is_trie = trie_ok-IsTrie 4 4 8 INDEX WORDS TAIL _ trie_is
+is_trie = trie_ok-IsTrie 4 4 8 INDEX WORDS tail _ trie_is
 
-pub trie-told : (c : ℕ) → c < 0x11_0000 → trie_value 4 4 INDEX WORDS TAIL c ≡ told c
-trie-told = trie_value-Stepped 4 4 8 INDEX WORDS TAIL (λ c. told c) told_stepped trie_is
+pub trie-told : (c : ℕ) → c < 0x11_0000 → trie_value 4 4 INDEX WORDS tail c ≡ told c
+trie-told = trie_value-Stepped 4 4 8 INDEX WORDS tail (λ c. told c) told_stepped trie_is
 
 pub told-ascii : (c : ℕ) → c < 0x80 → told c ≡ 0
 unfolding tables told_stepped
@@ -85,10 +89,15 @@ told-ascii c low = eqb-true _ _ (Stepped-below told told_stepped (λ _ (v : ℕ)
 
 -- ---- the value of a code point by its block
 
-pub trie-block : (c b j : ℕ) → c / 64 ≡ b → c % 64 ≡ j → b < 1024 → trie_value 4 4 INDEX WORDS TAIL c ≡ block_value 4 4 WORDS (slice_index INDEX b) j
+pub trie-block : (c b j : ℕ) → c / 64 ≡ b → c % 64 ≡ j → b < 1024 → trie_value 4 4 INDEX WORDS tail c ≡ block_value 4 4 WORDS (slice_index INDEX b) j
 unfolding trie_value
 trie-block c b j at within small =
-    ap₂ (λ x y. cond (nat_lt x 1024) (block_value 4 4 WORDS (slice_index INDEX x) y) (run_value TAIL c)) at within ∙ cond-true _ _ _ (lt-ltb b 1024 small)
+    ap₂ (λ x y. cond (nat_lt x 1024) (block_value 4 4 WORDS (slice_index INDEX x) y) (run_value tail c)) at within ∙ cond-true _ _ _ (lt-ltb b 1024 small)
+
+-- four bits of a word, as they are read
+pub word-told : (b j : ℕ) → b < 1024 → j < 64 → (slice_index WORDS (slice_index INDEX b * 4 + j / 16) / 2 ^ (j % 16 * 4)) % 16 ≡ told (b * 64 + j)
+unfolding block_value
+word-told b j small little = sym (trie-block (b * 64 + j) b j (omega arith) (omega arith) small) ∙ trie-told (b * 64 + j) (omega arith)
 
 -- ---- what a value tells
 

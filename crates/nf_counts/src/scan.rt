@@ -40,18 +40,18 @@ impl<'t> Scan<'t> {
     }
 
     /// Behind the characters at the front of which pairs of bytes tell the value 0. Pairs are asked where no few pieces are
-    /// left to be looked up.
+    /// left to be looked up, and no ASCII comes next, which is a piece.
     #[inline(always)]
     pub fn over_plain(self) -> Scan<'t>
         ensures within { length result.rest.now ≤ length self.entry.rest.now }
         ensures few { result.counts.nonstarters ≡ self.entry.counts.nonstarters }
         ensures reaches { (room : ℕ) (text : List ℕ) → Reaches ucd room text self.entry → Reaches ucd room text result }
     {
-        if self.few > 0 {
+        if self.few > 0 || self.is_at_ascii() {
             return Scan {
                 rest: self.rest,
                 counts: self.counts,
-                few: self.few - 1,
+                few: self.few.saturating_sub(1),
             };
         }
         let len = plain_len(self.rest);
@@ -68,6 +68,13 @@ impl<'t> Scan<'t> {
             counts: self.counts.with_starters(),
             few,
         }
+    }
+
+    /// Whether the next byte is ASCII.
+    #[inline(always)]
+    fn is_at_ascii(self) -> bool {
+        let bytes = self.rest.as_bytes();
+        !bytes.is_empty() && bytes[0] < 0x80
     }
 
     /// Behind the next piece, where its value tells something, no run gets too long with it, and no more than `room`

@@ -1,6 +1,6 @@
 ghost use Rattle.std.specs.Prelude.{◌<◌};
 
-use crate::rows::{INDEX, TAIL, WORDS};
+use crate::rows::{INDEX, WORDS};
 use nf_facts::laws;
 
 /// The value that tells nothing.
@@ -53,7 +53,8 @@ impl Code {
         ensures valued { (result == 4) ≡ false → IsValued ucd (code_of self) result }
     {
         laws::every_character_is_sound();
-        let code = self.block * 64 + u32::from(self.last % 64);
-        ucd_table::get::<4, 4>(&INDEX, &WORDS, &TAIL, code)
+        let place = u64::from(self.last % 64);
+        let word = WORDS[usize::from(INDEX[self.block as usize]) * 4 + (place / 16) as usize];
+        ((word >> (place % 16 * 4)) % 16) as u32
     }
 }
