@@ -1,5 +1,5 @@
 -- What a text begins with, by its bytes.
-use Rattle.std.proofs.Common.{◌≡◌, ℕ, ◌+◌, ◌*◌, ◌%◌, ◌<◌, ◌≤◌, ◌⊎◌, inl, inr, zero, suc, ◌==◌, false, List, [], ◌∷◌, ◌++◌, length, slice_index, drop, drop_at, refl, sym, ap, subst, ◌∙◌, arith, length-append, append-nil}
+use Rattle.std.proofs.Common.{◌≡◌, ℕ, ◌+◌, ◌*◌, ◌%◌, ◌<◌, ◌≤◌, ◌⊎◌, inl, inr, zero, suc, ◌==◌, false, List, [], ◌∷◌, ◌++◌, length, slice_index, take, length-take-le, ⊎_elim, drop, drop_at, refl, sym, ap, subst, ◌∙◌, arith, length-append, append-nil}
 use Rattle.std.specs.Prelude.{encode_utf8, encode_utf8_all}
 use Rattle.std.specs.Str.{IsUtf8, IsCharBoundary, all_scalars}
 use Rattle.std.proofs.lemmas.Str.{IsCharBoundary-at_seam, length-le-encodes}
@@ -13,6 +13,14 @@ use Rattle.nf_forms.specs.Ucd.{ucd}
 pub some_of : (n : ℕ) → (n == 0) ≡ false → 0 < n
 some_of zero e = cc
 some_of (suc n) e = omega arith
+
+-- a front that ends before no byte below 80 has the first, if that is one
+pub first_passed : (bytes : List ℕ) (n : ℕ) → 0 < length bytes → slice_index bytes 0 < 0x80 → (n < length bytes → 0x80 ≤ slice_index bytes n) → n ≤ length bytes → 0 < length (take n bytes)
+first_passed bytes n some first stops within =
+    ⊎_elim
+    (λ none. let e : n ≡ 0 = omega arith in let high : 0x80 ≤ slice_index bytes 0 = subst (λ k. 0x80 ≤ slice_index bytes k) e (stops (omega arith)) in absurd (omega arith))
+    (λ more. omega (arith, length-take-le n bytes within))
+    (order n 1)
 
 pub record FirstOf (text : List ℕ) : Type 0 where
   pub c : ℕ

@@ -1,17 +1,12 @@
 //! What a text begins with, by its bytes.
 
-ghost use Rattle.std.specs.Prelude.{◌≤◌, ◌<◌, IfSome, length, take, slice_index};
-ghost use Rattle.std.specs.Str.{IsAscii};
+ghost use Rattle.std.specs.Prelude.{IfSome};
 ghost use Rattle.nf_forms.specs.Ucd.{ucd};
 ghost use Rattle.nf_counts.specs.Piece.{IsPiece};
 
 use crate::table::{Code, NOTHING};
 use nf_facts::laws;
 use nf_utf8::ascii_prefix;
-use std::simd::prelude::*;
-
-/// Where not so many bytes are ASCII, they are passed over one by one.
-const FEW: usize = 8;
 
 /// ASCII, or one other character, at the front of a text, and the value of its compatibility decomposition.
 #[derive(Clone, Copy)]
@@ -33,7 +28,7 @@ pub(crate) fn first_piece(text: &str) -> Option<Piece>
     }
     if bytes[0] < 0x80 {
         return Some(Piece {
-            len: ascii_len(bytes),
+            len: ascii_prefix(bytes),
             value: 0,
         });
     }
@@ -47,25 +42,4 @@ pub(crate) fn first_piece(text: &str) -> Option<Piece>
         return None;
     }
     Some(Piece { len, value })
-}
-
-/// How many of these bytes, of which the first is ASCII, are at least.
-#[inline(always)]
-fn ascii_len(bytes: &[u8]) -> usize
-    requires some { 0 < length bytes.now }
-    requires first { slice_index bytes.now 0 < 0x80 }
-    ensures some { 0 < result }
-    ensures within { result ≤ length bytes.now }
-    ensures ascii { IsAscii (take result bytes.now) }
-{
-    if bytes.len() >= FEW && are_ascii(u8x8::from_slice(bytes)) {
-        return ascii_prefix(bytes);
-    }
-    1
-}
-
-/// Whether all of them are.
-#[inline(always)]
-fn are_ascii(few: u8x8) -> bool {
-    few.simd_ge(u8x8::splat(0x80)).to_bitmask() == 0
 }

@@ -7,8 +7,8 @@ use crate::plain::plain_len;
 /// Where pairs told at least so many bytes, they are asked again behind the next character.
 const WORTH: usize = 16;
 
-/// So many pieces are looked up where they told fewer.
-const FEW: usize = 16;
+/// So many bytes are looked up piece by piece where they told fewer.
+const FEW: usize = 32;
 
 /// A place in a text, up to which its non-starters are counted.
 #[derive(Clone, Copy)]
@@ -16,8 +16,8 @@ pub(crate) struct Scan<'t> {
     /// What stands behind it.
     pub rest: &'t str,
     pub counts: Counts,
-    /// So many pieces are looked up before pairs are asked again.
-    pub few: usize,
+    /// Pairs are asked again where no more than so many bytes stand behind it.
+    until: usize,
 }
 
 impl<'t> Scan<'t> {
@@ -35,38 +35,35 @@ impl<'t> Scan<'t> {
         Scan {
             rest: text,
             counts: Counts::new(),
-            few: 0,
+            until: usize::MAX,
         }
     }
 
-    /// Behind the characters at the front of which pairs of bytes tell the value 0. Pairs are asked where no few pieces are
-    /// left to be looked up, and no ASCII comes next, which is a piece.
+    /// Behind the characters at the front of which pairs of bytes tell the value 0. Pairs are asked where not more bytes are
+    /// to be looked up before, and no ASCII comes next, which is a piece.
     #[inline(always)]
     pub fn over_plain(self) -> Scan<'t>
         ensures within { length result.rest.now ≤ length self.entry.rest.now }
         ensures few { result.counts.nonstarters ≡ self.entry.counts.nonstarters }
         ensures reaches { (room : ℕ) (text : List ℕ) → Reaches ucd room text self.entry → Reaches ucd room text result }
     {
-        if self.few > 0 || self.is_at_ascii() {
-            return Scan {
-                rest: self.rest,
-                counts: self.counts,
-                few: self.few.saturating_sub(1),
-            };
+        if self.rest.len() > self.until || self.is_at_ascii() {
+            return self;
         }
         let len = plain_len(self.rest);
-        let few = if len < WORTH { FEW } else { 0 };
+        let rest = &self.rest[len..];
         if len == 0 {
             return Scan {
                 rest: self.rest,
                 counts: self.counts,
-                few,
+                until: rest.len().saturating_sub(FEW),
             };
         }
+        let few = if len < WORTH { FEW } else { 0 };
         Scan {
-            rest: &self.rest[len..],
+            rest,
             counts: self.counts.with_starters(),
-            few,
+            until: rest.len().saturating_sub(few),
         }
     }
 
@@ -92,7 +89,7 @@ impl<'t> Scan<'t> {
         Some(Scan {
             rest: &self.rest[piece.len..],
             counts,
-            few: self.few,
+            until: self.until,
         })
     }
 }

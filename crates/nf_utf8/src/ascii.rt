@@ -7,7 +7,7 @@ use std::simd::prelude::*;
 /// The bytes that are looked at by one branch, as long as all are below 80.
 const BLOCK: usize = 64;
 
-/// Those that are looked at together behind the last such block.
+/// Those that are looked at together before such a block, and behind it.
 const FEW: usize = 16;
 
 /// The length in bytes of the longest prefix of bytes below 80 (hexadecimal).
@@ -16,24 +16,27 @@ pub fn ascii_prefix(bytes: &[u8]) -> usize
     ensures ascii { IsAscii (take result bytes.now) }
     ensures longest { result < length bytes.now → 0x80 ≤ slice_index bytes.now result }
 {
-    let mut at = ascii_blocks(bytes);
+    let mut at = 0;
     while bytes.len() - at >= FEW {
         let others = not_ascii(u8x16::from_slice(&bytes[at..]));
         if others != 0 {
             return at + others.trailing_zeros() as usize;
         }
-        at += FEW;
+        at = behind_blocks(bytes, at + FEW);
     }
     by_bytes(bytes, at)
 }
 
-/// How many bytes there are in the blocks before the first that has a byte of 80 or above.
+/// Behind the blocks from `from` on before the first that has a byte of 80 or above.
 #[inline(always)]
-fn ascii_blocks(bytes: &[u8]) -> usize
+fn behind_blocks(bytes: &[u8], from: usize) -> usize
+    requires within { from ≤ length bytes.now }
+    requires ascii { (k : ℕ) → k < from → slice_index bytes.now k < 0x80 }
+    ensures further { from ≤ result }
     ensures within { result ≤ length bytes.now }
     ensures ascii { (k : ℕ) → k < result → slice_index bytes.now k < 0x80 }
 {
-    let mut at = 0;
+    let mut at = from;
     while bytes.len() - at >= BLOCK && is_ascii(u8x64::from_slice(&bytes[at..])) {
         at += BLOCK;
     }

@@ -9,8 +9,8 @@ use Rattle.nf_counts.specs.Counts.{HasCounts}
 use Rattle.nf_counts.proofs.ScanLemmas.{reaches, value-plain, fit-plain, some_chars}
 use Rattle.nf_counts.proofs.scan.Scan.over_plain.Goals as goal
 
-pub range_from-requires : goal.range_from-requires
-range_from-requires c = λ some. c.plain_len-len.ensures.boundary
+pub range_from-rest-requires : goal.range_from-rest-requires
+range_from-rest-requires c = λ some. c.plain_len-len.ensures.boundary
 
 pub returns-clause-reaches : goal.returns-clause-reaches
 returns-clause-reaches c = λ room text before.
@@ -22,8 +22,8 @@ returns-clause-reaches c = λ room text before.
     let same = encodes-chars (take len rest) (IsUtf8-take rest len before.rest_utf8 boundary) in
     let some = some_chars front (omega (arith, c.if-len-eq0.false, ap length same, length-take-le len rest boundary.0)) in
     reaches ucd room text c.args.self _ before front
-    (sym (take-append-drop len rest) ∙ ap (λ t. t ++ drop len rest) (sym same) ∙ ap (λ t. encode_utf8_all front ++ t) (sym c.range_from.ensures.value))
-    (subst IsUtf8 (sym c.range_from.ensures.value) (IsUtf8-drop rest len before.rest_utf8 boundary))
+    (sym (take-append-drop len rest) ∙ ap (λ t. t ++ drop len rest) (sym same) ∙ ap (λ t. encode_utf8_all front ++ t) (sym c.range_from-rest.ensures.value))
+    (subst IsUtf8 (sym c.range_from-rest.ensures.value) (IsUtf8-drop rest len before.rest_utf8 boundary))
     (fit-plain ucd front plain)
     (subst (λ w. HasCounts ucd w c.with_starters.result) (sym (decomposed-append ucd Nfkd before.front front))
     (c.with_starters.ensures.counts ucd _ _ (value-plain ucd front some plain) before.counts))

@@ -1,7 +1,6 @@
-use Rattle.std.proofs.Common.{◌≡◌, ◌+◌, ◌*◌, ◌/◌, ◌%◌, ◌^◌, ℕ, slice_index, ap₂, ◌∙◌, arith}
+use Rattle.std.proofs.Common.{◌+◌, ◌*◌, ◌/◌, ◌%◌, ◌^◌, ℕ, slice_index, ap₂, ◌∙◌, arith}
 use Rattle.nf_counts.specs.Piece.{code_of}
 use Rattle.nf_counts.specs.declared.rows.TheConstants.{WORDS}
-use Rattle.nf_counts.specs.declared.table.Code.{Code}
 use Rattle.nf_counts.proofs.Told.{is_trie, word-told, told-small, told-valued}
 use Rattle.nf_counts.proofs.table.Code.value.Goals as goal
 
