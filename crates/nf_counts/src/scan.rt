@@ -4,11 +4,13 @@ use crate::counts::Counts;
 use crate::piece::first_piece;
 use crate::plain::plain_len;
 
-/// Where pairs told at least so many bytes, they are asked again behind the next character.
-const WORTH: usize = 16;
+/// Where pairs told at least so many bytes, they are asked again behind the next piece.
+const WORTH: usize = 8;
 
-/// So many bytes are looked up piece by piece where they told fewer.
-const FEW: usize = 32;
+/// Where they told fewer, so many bytes are looked up before, and each time that they do so again twice as many, up to `MANY`.
+const FEW: usize = 8;
+
+const MANY: usize = 64;
 
 /// A place in a text, up to which its non-starters are counted.
 #[derive(Clone, Copy)]
@@ -18,6 +20,8 @@ pub(crate) struct Scan<'t> {
     pub counts: Counts,
     /// Pairs are asked again where no more than so many bytes stand behind it.
     until: usize,
+    /// So many bytes are looked up before, where they tell little.
+    few: usize,
 }
 
 impl<'t> Scan<'t> {
@@ -36,6 +40,7 @@ impl<'t> Scan<'t> {
             rest: text,
             counts: Counts::new(),
             until: usize::MAX,
+            few: FEW,
         }
     }
 
@@ -52,18 +57,25 @@ impl<'t> Scan<'t> {
         }
         let len = plain_len(self.rest);
         let rest = &self.rest[len..];
+        let (before, few) = if len < WORTH {
+            (self.few, self.few.saturating_mul(2).min(MANY))
+        } else {
+            (0, FEW)
+        };
+        let until = rest.len().saturating_sub(before);
         if len == 0 {
             return Scan {
                 rest: self.rest,
                 counts: self.counts,
-                until: rest.len().saturating_sub(FEW),
+                until,
+                few,
             };
         }
-        let few = if len < WORTH { FEW } else { 0 };
         Scan {
             rest,
             counts: self.counts.with_starters(),
-            until: rest.len().saturating_sub(few),
+            until,
+            few,
         }
     }
 
@@ -90,6 +102,7 @@ impl<'t> Scan<'t> {
             rest: &self.rest[piece.len..],
             counts,
             until: self.until,
+            few: self.few,
         })
     }
 }
