@@ -26,7 +26,7 @@ cyrillic_told = refl
 begins-look : (byte next : ℕ) → next < 256 → IsLow byte → (byte < 0x80) ⊎ (0xD0 ≤ byte) → wants_look LOOKS byte next ≡ false
 begins-look byte next fits low (inl ascii) =
     let none : pair_sets LOOKS.first byte next ≡ 0 = omega (arith, eqb-true _ 0 (all_below-at (λ b. begun b == 0) 128 byte ascii_begins_none ascii), and_le_l (begun byte) (byte_sets LOOKS.first.next_high LOOKS.first.next_low next)) in
-    ap (λ n. (not (n == 0) && is_in LOOKS.second byte next) && is_in LOOKS.third byte next) none
+    ap (λ n. not (n == 0) && is_in LOOKS.second byte next) none
 begins-look byte next fits (inl low) (inr high) = absurd (omega arith)
 begins-look byte next fits (inr cyrillic) (inr high) =
     let i = byte - 208 in

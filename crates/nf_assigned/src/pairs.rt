@@ -2,8 +2,7 @@
 //!
 //! Most pairs are a lead byte and its second. The third byte is asked by pairs of the last two, where a block of 64 code
 //! points is much used and has few holes: 81 before 80, for U+3040, 82 before 97 and 98, for U+3097 and U+3098, and BC before
-//! 80, for U+FF00. Eight sets cannot tell all that is assigned; the second family tells most of what the
-//! first leaves, so that the third has every pair.
+//! 80, for U+FF00. Eight sets cannot tell all that is assigned; the second family tells most of what the first leaves.
 
 use nf_lanes::{Looks, Pairs};
 
@@ -27,11 +26,5 @@ pub(crate) static LOOKS: Looks = Looks {
         next_low: [
             238, 238, 118, 214, 213, 101, 118, 121, 121, 101, 109, 229, 237, 101, 245, 237,
         ],
-    },
-    third: Pairs {
-        first_high: [255; 16],
-        first_low: [255; 16],
-        next_high: [255; 16],
-        next_low: [255; 16],
     },
 };

@@ -10,7 +10,7 @@ const WORTH: usize = 8;
 /// Where they told fewer, so many bytes are looked up before, and each time that they do so again twice as many, up to `MANY`.
 const FEW: usize = 8;
 
-const MANY: usize = 64;
+const MANY: usize = 256;
 
 /// A place in a text, up to which its non-starters are counted.
 #[derive(Clone, Copy)]

@@ -10,7 +10,7 @@ is_in t byte next = not (pair_sets t byte next == 0)
 
 -- a character that has them before its last byte, or at its end, is looked up
 abbrev pub wants_look : Looks → ℕ → ℕ → Bool
-wants_look t byte next = (is_in t.first byte next && is_in t.second byte next) && is_in t.third byte next
+wants_look t byte next = is_in t.first byte next && is_in t.second byte next
 
 -- the byte at k and the one behind it are such a pair
 abbrev pub look_at : Looks → List ℕ → ℕ → Bool

@@ -7,11 +7,10 @@ ghost use Rattle.nf_lanes.specs.Looks.{look_at};
 use crate::lanes::{LANES, before, bits, none_of};
 use crate::sets::{Pairs, pair_sets};
 
-/// Three families of eight sets of pairs. A pair that is in a set of each has to be looked up.
+/// Two families of eight sets of pairs. A pair that is in a set of each has to be looked up.
 pub struct Looks {
     pub first: Pairs,
     pub second: Pairs,
-    pub third: Pairs,
 }
 
 /// Whether none of the 64 pairs from `at` on has to be looked up.
@@ -46,8 +45,8 @@ pub fn told_len(looks: &Looks, bytes: &[u8], at: usize) -> usize
     end - at
 }
 
-/// A bit for each byte from `at` on, the lowest for the first: whether it and the byte behind it have to be looked up. A family
-/// is asked only where those before it do not tell.
+/// A bit for each byte from `at` on, the lowest for the first: whether it and the byte behind it have to be looked up. The
+/// second family is asked only where the first does not tell.
 #[inline(always)]
 fn look_bits(looks: &Looks, bytes: &[u8], at: usize) -> u64
     requires room { at + 16 < length bytes.now }
@@ -57,9 +56,5 @@ fn look_bits(looks: &Looks, bytes: &[u8], at: usize) -> u64
     if first == 0 {
         return 0;
     }
-    let both = first & bits(pair_sets(&looks.second, bytes, at));
-    if both == 0 {
-        return 0;
-    }
-    both & bits(pair_sets(&looks.third, bytes, at))
+    first & bits(pair_sets(&looks.second, bytes, at))
 }
