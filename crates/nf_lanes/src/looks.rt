@@ -1,6 +1,6 @@
 //! Pairs of bytes at which a text is looked up, many at once.
 
-ghost use Rattle.std.specs.Prelude.{◌≡◌, ◌<◌, ◌≤◌, ◌+◌, length, IsTrue};
+ghost use Rattle.std.specs.Prelude.{◌≡◌, ◌<◌, ◌≤◌, ◌+◌, ◌↔◌, true, length, IsTrue};
 ghost use Rattle.nf_lanes.specs.Lanes.{bits_at, NonePass};
 ghost use Rattle.nf_lanes.specs.Looks.{look_at};
 
@@ -17,7 +17,7 @@ pub struct Looks {
 #[inline(always)]
 pub fn are_told(looks: &Looks, bytes: &[u8], at: usize) -> bool
     requires room { at + 64 < length bytes.now }
-    ensures { IsTrue result → NonePass (look_at looks.now bytes.now) at 64 }
+    ensures { IsTrue result ↔ NonePass (look_at looks.now bytes.now) at 64 }
 {
     none_of(
         look_bits(looks, bytes, at),
@@ -27,12 +27,13 @@ pub fn are_told(looks: &Looks, bytes: &[u8], at: usize) -> bool
     )
 }
 
-/// How many bytes there are from `at` on before a pair that has to be looked up. The last few are left out.
+/// How many bytes there are from `at` on before a pair that has to be looked up. Of the last 16 none is asked.
 #[inline(always)]
 pub fn told_len(looks: &Looks, bytes: &[u8], at: usize) -> usize
     requires { at ≤ length bytes.now }
     ensures within { at + result ≤ length bytes.now }
     ensures told { NonePass (look_at looks.now bytes.now) at result }
+    ensures stops { at + result + 16 < length bytes.now → look_at looks.now bytes.now (at + result) ≡ true }
 {
     let mut end = at;
     while bytes.len() - end > LANES {
