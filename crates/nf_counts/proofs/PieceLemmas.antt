@@ -1,8 +1,8 @@
 -- What a text begins with, by its bytes.
-use Rattle.std.proofs.Common.{◌≡◌, ℕ, ◌+◌, ◌*◌, ◌%◌, ◌<◌, ◌≤◌, ◌⊎◌, inl, inr, zero, suc, ◌==◌, false, List, [], ◌∷◌, ◌++◌, length, slice_index, take, length-take-le, ⊎_elim, drop, drop_at, refl, sym, ap, subst, ◌∙◌, arith, length-append, append-nil}
+use Rattle.std.proofs.Common.{◌≡◌, ℕ, ◌+◌, ◌*◌, ◌%◌, ◌<◌, ◌≤◌, ◌⊎◌, inl, inr, zero, suc, ◌==◌, false, List, [], ◌∷◌, ◌++◌, length, slice_index, ⊎_elim, drop, drop_at, refl, sym, ap, subst, ◌∙◌, arith, length-append, append-nil}
 use Rattle.std.specs.Prelude.{encode_utf8, encode_utf8_all}
 use Rattle.std.specs.Str.{IsUtf8, IsCharBoundary, all_scalars}
-use Rattle.std.proofs.lemmas.Str.{IsCharBoundary-at_seam, length-le-encodes}
+use Rattle.std.proofs.lemmas.Str.{IsCharBoundary-at_seam}
 use lib.Utf8.{scalar}
 use Rattle.std.proofs.str.Laws.{order, one, two, three, four}
 use Rattle.std.proofs.lemmas.Bool.{and_parts, and_from}
@@ -15,11 +15,11 @@ some_of zero e = cc
 some_of (suc n) e = omega arith
 
 -- a front that ends before no byte below 80 has the first, if that is one
-pub first_passed : (bytes : List ℕ) (n : ℕ) → 0 < length bytes → slice_index bytes 0 < 0x80 → (n < length bytes → 0x80 ≤ slice_index bytes n) → n ≤ length bytes → 0 < length (take n bytes)
-first_passed bytes n some first stops within =
+pub first_passed : (bytes : List ℕ) (n : ℕ) → 0 < length bytes → slice_index bytes 0 < 0x80 → (n < length bytes → 0x80 ≤ slice_index bytes n) → 0 < n
+first_passed bytes n some first stops =
     ⊎_elim
     (λ none. let e : n ≡ 0 = omega arith in let high : 0x80 ≤ slice_index bytes 0 = subst (λ k. 0x80 ≤ slice_index bytes k) e (stops (omega arith)) in absurd (omega arith))
-    (λ more. omega (arith, length-take-le n bytes within))
+    (λ more. omega arith)
     (order n 1)
 
 pub record FirstOf (text : List ℕ) : Type 0 where
@@ -48,7 +48,6 @@ module _ (text : List ℕ) (first : FirstOf text) where
       split = first.split ∙ ap (λ l. l ++ first.rest) (sym (append-nil (encode_utf8 first.c)));
       rest_utf8 = first.rest_utf8;
       is_long = is ∙ ap length (sym (append-nil (encode_utf8 first.c)));
-      some = omega arith;
     };
     within = within;
     fit = and_from _ _ valued.fit refl;
@@ -59,9 +58,6 @@ module _ (text : List ℕ) (first : FirstOf text) where
 module _ (text chars : List ℕ) (len : ℕ) (begins : BeginsWith text chars len) where
   pub fits : len ≤ length text
   fits = omega (arith, begins.is_long, ap length begins.split, length-append (encode_utf8_all chars) begins.rest)
-
-  pub is_some : 0 < len
-  is_some = omega (arith, begins.is_long, begins.some, length-le-encodes chars)
 
   pub boundary : IsCharBoundary text len
   boundary = subst (IsCharBoundary text) (sym begins.is_long) (IsCharBoundary-at_seam text (encode_utf8_all chars) begins.rest begins.split begins.rest_utf8)

@@ -1,31 +1,49 @@
 -- Counts go on behind a piece of the text.
-use Rattle.std.proofs.Common.{◌≡◌, ℕ, ◌<◌, ◌≤◌, ◌||◌, true, cond, List, [], ◌∷◌, ◌++◌, length, sym, ap, ◌∙◌, subst, arith, append_assoc, append-nil}
+use Rattle.std.proofs.Common.{◌≡◌, ℕ, ◌+◌, ◌%◌, ◌<◌, ◌≤◌, ◌||◌, Bool, true, false, nat_lt, lt-ltb, refl, cond, take, drop, length-append, length-take-le, take-append-drop, List, [], ◌∷◌, ◌++◌, length, sym, ap, ◌∙◌, subst, arith, append_assoc, append-nil}
 use Rattle.std.specs.Prelude.{All, encode_utf8_all}
 use Rattle.std.specs.List.{list_all}
 use Rattle.std.specs.Str.{IsUtf8}
-use Rattle.std.proofs.lemmas.Bool.{and_from, cond-true}
+use Rattle.std.proofs.lemmas.List.{nil_from_length}
+use Rattle.std.proofs.lemmas.Bool.{and_from, cond-true, cond-false}
 use Rattle.std.proofs.lemmas.List.Elements.{All-head, All-tail, All-weaker}
 use Rattle.std.proofs.lemmas.List.Folds.{list_all-append}
 use Rattle.std.proofs.lemmas.List.Sums.{sum_by-append, list_all-from_AllPass}
 use Rattle.std.proofs.lemmas.Str.{encodes-append}
 use Rattle.nf_forms.specs.Forms.{decomposed}
-use Rattle.nf_forms.specs.Laws.Runs.{has_starter-append, lead-append, trail-append, longest-append}
+use Rattle.nf_forms.specs.Laws.Runs.{has_starter-append, lead-append, trail-append, longest-append, lead-le-longest, trail-marks}
 use Rattle.nf_forms.specs.Properties.{Properties, is_nonstarter}
-use Rattle.nf_forms.specs.Runs.{has_starter}
+use Rattle.nf_forms.specs.Laws.StreamSafe.{decomposed-append}
+use Rattle.nf_forms.specs.Runs.{has_starter, trail}
 use Rattle.nf_forms.specs.declared.form.Form.TheVariants.{Nfkd}
 use Rattle.nf_counts.specs.Counts.{HasCounts, HasValue, IsValued, is_fit}
+use Rattle.nf_counts.specs.Piece.{IsPiece}
 use Rattle.nf_counts.specs.Scan.{Reaches}
+use Rattle.nf_counts.specs.declared.piece.Piece.{Piece}
 use Rattle.nf_counts.specs.declared.scan.Scan.{Scan}
+use Rattle.nf_counts.proofs.PieceLemmas.{rest_is}
 
--- starters behind starters
-value-append : (p : Properties) (w v : List ℕ) → HasValue p w 0 → HasValue p v 0 → HasValue p (w ++ v) 0
-value-append p w v first next = record {
-  has_starter = sym (has_starter-append p w v ∙ ap (λ b. b || has_starter p v) (sym first.has_starter));
-  lead = first.lead ∙ sym (lead-append p w v ∙ cond-true _ _ _ (sym first.has_starter));
-  trail = next.trail ∙ sym (trail-append p w v ∙ cond-true _ _ _ (sym next.has_starter));
-  longest = omega (arith, first.longest, next.longest, first.trail, next.lead, longest-append p w v);
-  nonstarters = omega (arith, first.nonstarters, next.nonstarters, sum_by-append (λ d. cond (is_nonstarter p d) 1 0) w v);
-}
+-- text of a value behind starters
+pub value-append : (p : Properties) (w v : List ℕ) (n : ℕ) → HasValue p w 0 → HasValue p v n → HasValue p (w ++ v) (n % 4)
+value-append p w v n first next =
+    let here : nat_lt (n % 4) 4 ≡ true = lt-ltb (n % 4) 4 (omega arith) in
+    let number : n % 4 % 4 ≡ n % 4 = omega arith in
+    record {
+      has_starter = here ∙ sym (has_starter-append p w v ∙ ap (λ b. b || has_starter p v) (sym first.has_starter));
+      lead = cond-true _ _ _ here ∙ first.lead ∙ sym (lead-append p w v ∙ cond-true _ _ _ (sym first.has_starter));
+      trail = number ∙ next.trail ∙ behind (has_starter p v) refl;
+      longest = omega (arith, number, first.longest, next.longest, first.trail, lead-le-longest p v, longest-append p w v);
+      nonstarters = omega (arith, number, first.nonstarters, next.nonstarters, sum_by-append (λ d. cond (is_nonstarter p d) 1 0) w v);
+    }
+  where
+    behind : (b : Bool) → has_starter p v ≡ b → trail p v ≡ trail p (w ++ v)
+    behind true e = sym (trail-append p w v ∙ cond-true _ _ _ e)
+    behind false e = omega (arith, trail-append p w v ∙ cond-false _ _ _ e, trail-marks p v e, first.trail)
+
+-- text of no characters
+pub value-none : (p : Properties) (w v : List ℕ) (n : ℕ) → HasValue p w 4 → HasValue p v n → HasValue p (w ++ v) n
+value-none p w v n first next =
+    let none : length w ≡ 0 = omega (arith, trail-marks p w (sym first.has_starter), first.trail) in
+    subst (λ u. HasValue p (u ++ v) n) (sym (nil_from_length w none)) next
 
 abbrev ArePlain : Properties → List ℕ → Type 0
 ArePlain p cs = All (λ c. IsValued p c 0) cs
@@ -34,7 +52,7 @@ pub value-plain : (p : Properties) (cs : List ℕ) → 0 < length cs → ArePlai
 value-plain p [] some plain = absurd (omega arith)
 value-plain p (c ∷ []) some plain = subst (λ w. HasValue p w 0) (sym (append-nil (p.compat c))) (All-head (λ c. IsValued p c 0) c [] plain).row
 value-plain p (c ∷ d ∷ cs) some plain =
-    value-append p (p.compat c) (decomposed Nfkd p (d ∷ cs)) (All-head (λ c. IsValued p c 0) c (d ∷ cs) plain).row (value-plain p (d ∷ cs) (omega arith) (All-tail (λ c. IsValued p c 0) c (d ∷ cs) plain))
+    value-append p (p.compat c) (decomposed Nfkd p (d ∷ cs)) 0 (All-head (λ c. IsValued p c 0) c (d ∷ cs) plain).row (value-plain p (d ∷ cs) (omega arith) (All-tail (λ c. IsValued p c 0) c (d ∷ cs) plain))
 
 pub fit-plain : (p : Properties) (cs : List ℕ) → ArePlain p cs → list_all (is_fit p) cs ≡ true
 fit-plain p cs plain = list_all-from_AllPass (is_fit p) cs (All-weaker (λ c. IsValued p c 0) (λ c. is_fit p c ≡ true) (λ c valued. valued.fit) cs plain)
@@ -51,6 +69,38 @@ goes_on : (text front piece rest next : List ℕ) → text ≡ encode_utf8_all f
 goes_on text front piece rest next first more =
     first ∙ ap (λ t. encode_utf8_all front ++ t) more ∙ sym (append_assoc (encode_utf8_all front) (encode_utf8_all piece) next)
     ∙ ap (λ t. t ++ next) (sym (encodes-append front piece))
+
+-- characters of the value 0 are a piece of it
+pub piece_of_plain : (p : Properties) (text cs : List ℕ) (len : ℕ) → encode_utf8_all cs ≡ take len text → len ≤ length text → IsUtf8 (drop len text) → 0 < len → ArePlain p cs
+    → IsPiece p text record { len = len; value = 0 }
+piece_of_plain p text cs len same within rest_utf8 some plain = record {
+  chars = cs;
+  begins = record {
+    rest = drop len text;
+    split = sym (take-append-drop len text) ∙ ap (λ t. t ++ drop len text) (sym same);
+    rest_utf8 = rest_utf8;
+    is_long = sym (ap length same ∙ length-take-le len text within);
+  };
+  within = omega arith;
+  fit = fit-plain p cs plain;
+  row = value-plain p cs (some_chars cs (omega (arith, some, ap length same, length-take-le len text within))) plain;
+}
+
+-- a piece behind another makes one with it, of the value that text of theirs has
+pub joins : (p : Properties) (text : List ℕ) (piece next : Piece) (value : ℕ) → value < 8 → ((w v : List ℕ) → HasValue p w piece.value → HasValue p v next.value → HasValue p (w ++ v) value)
+    → IsPiece p text piece → IsPiece p (drop piece.len text) next → IsPiece p text record { len = piece.len + next.len; value = value }
+joins p text piece next value within law here more = record {
+  chars = here.chars ++ more.chars;
+  begins = record {
+    rest = more.begins.rest;
+    split = goes_on text here.chars more.chars here.begins.rest more.begins.rest here.begins.split (sym (rest_is _ _ _ here.begins) ∙ more.begins.split);
+    rest_utf8 = more.begins.rest_utf8;
+    is_long = omega (arith, here.begins.is_long, more.begins.is_long, ap length (encodes-append here.chars more.chars), length-append (encode_utf8_all here.chars) (encode_utf8_all more.chars));
+  };
+  within = within;
+  fit = both_pass p here.chars more.chars here.fit more.fit;
+  row = subst (λ w. HasValue p w value) (sym (decomposed-append p Nfkd here.chars more.chars)) (law _ _ here.row more.row);
+}
 
 pub reaches : (p : Properties) (room : ℕ) (text : List ℕ) (scan next : Scan) (here : Reaches p room text scan) (piece : List ℕ) → scan.rest.now ≡ encode_utf8_all piece ++ next.rest.now
     → IsUtf8 next.rest.now → list_all (is_fit p) piece ≡ true → HasCounts p (decomposed Nfkd p (here.front ++ piece)) next.counts → next.counts.lead ≤ room → Reaches p room text next

@@ -12,13 +12,12 @@ use Rattle.nf_forms.specs.declared.form.Form.TheVariants.{Nfkd}
 abbrev pub code_of : Code → ℕ
 code_of code = code.block * 64 + code.last % 64
 
--- the text begins with these characters, at least one
+-- the text begins with these characters
 pub record BeginsWith (text chars : List ℕ) (len : ℕ) : Type 0 where
   pub rest : List ℕ
   pub split : text ≡ encode_utf8_all chars ++ rest
   pub rest_utf8 : IsUtf8 rest
   pub is_long : len ≡ length (encode_utf8_all chars)
-  pub some : 0 < length chars
 
 -- they are fit, and their compatibility decomposition has this value
 pub record IsPiece (p : Properties) (text : List ℕ) (piece : Piece) : Type 0 where

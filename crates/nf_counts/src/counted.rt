@@ -36,9 +36,9 @@ pub fn counted_front(room: u32, text: &str) -> Counted<'_>
     ensures { IsCountedFront ucd room text.now result }
 {
     let len = text.len();
-    let mut scan = Scan::new(text).over_plain();
+    let mut scan = Scan::new(text);
     while let Some(next) = scan.step(room) {
-        scan = next.over_plain();
+        scan = next;
     }
     let (front, rest) = text.split_at(len - scan.rest.len());
     Counted {

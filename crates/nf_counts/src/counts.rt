@@ -75,20 +75,4 @@ impl Counts {
             has_starter: self.has_starter,
         })
     }
-
-    /// With starters behind, at least one.
-    #[inline(always)]
-    pub(crate) fn with_starters(self) -> Counts
-        ensures nonstarters { result.nonstarters ≡ self.nonstarters }
-        ensures lead { result.lead ≡ self.lead }
-        ensures counts { (p : Properties) (w row : List ℕ) → HasValue p row 0 → HasCounts p w self → HasCounts p (w ++ row) result }
-    {
-        Counts {
-            nonstarters: self.nonstarters,
-            longest: self.longest,
-            lead: self.lead,
-            trail: 0,
-            has_starter: true,
-        }
-    }
 }

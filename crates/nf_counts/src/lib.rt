@@ -4,6 +4,8 @@
 
 mod counted;
 mod counts;
+mod joined;
+mod pace;
 mod pairs;
 mod piece;
 mod plain;

@@ -11,9 +11,9 @@ use Rattle.nf_counts.proofs.counted.counted_front.Goals as goal
 
 pub loop-next-init : goal.loop-next-init
 loop-next-init c = record {
-  within = omega (arith, c.over_plain-scan.ensures.within, c.new.ensures.len);
-  few = omega (arith, c.over_plain-scan.ensures.within, c.over_plain-scan.ensures.few, c.new.ensures.len, c.new.ensures.none);
-  reaches = c.over_plain-scan.ensures.reaches c.args.room c.args.text.now (c.new.ensures.reaches c.args.room);
+  within = omega (arith, c.new-scan.ensures.len);
+  few = omega (arith, c.new-scan.ensures.len, c.new-scan.ensures.none);
+  reaches = c.new-scan.ensures.reaches c.args.room;
 }
 
 pub split_at-requires : goal.split_at-requires
