@@ -1,4 +1,5 @@
 pub mod EncodingLemmas
+mod WalkLemmas
 pub mod SeenLemmas
 pub mod PieceLemmas
 pub mod LetterLemmas

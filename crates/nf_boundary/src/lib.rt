@@ -8,6 +8,7 @@ mod closed;
 mod closing;
 mod cluster;
 mod composing;
+mod composites;
 mod encoding;
 mod front;
 mod hangul;
@@ -20,6 +21,8 @@ mod rows;
 mod seen;
 
 pub use closed::{Closed, Formed};
+pub use closing::{Segment, close_off};
+pub use composites::Composites;
 pub use encoding::put_utf8;
 pub use front::closed_front;
-pub use mark::{Mark, Run, append_marks, hold};
+pub use mark::{Mark, Run, hold};

@@ -9,8 +9,9 @@ ghost use Rattle.nf_boundary.specs.Rows.{IsRow};
 ghost use Rattle.nf_boundary.specs.Piece.{Becomes, Leaves};
 
 use crate::closed::Formed;
-use crate::closing::{MOST_BYTES, close_off};
-use crate::encoding::append_one;
+use crate::closing::{Segment, close_off};
+use crate::composites::Database;
+use crate::encoding::{append_one, put_utf8};
 use crate::mark::{Mark, Run, hold};
 use crate::rows::{Row, passes};
 use crate::seen::{Seen, is_own_row};
@@ -24,6 +25,9 @@ const MAX_RUN: u8 = 30;
 
 /// So many may stand behind any character, whose compatibility decomposition has at most 18 members.
 const MAX_MARKS: u8 = 12;
+
+/// So many bytes have a starter and the marks of a run at most.
+const MOST_BYTES: usize = 124;
 
 /// What the characters from a boundary on have become: their last starter, and the non-starters behind it in order of class.
 /// What comes before that starter is appended.
@@ -124,7 +128,15 @@ impl Piece {
         if formed.remaining_capacity() < MOST_BYTES {
             return None;
         }
-        close_off(form, self.starter, self.run.as_slice(), formed);
+        let mut text = Segment::new();
+        close_off(
+            &Database,
+            form.composes(),
+            Some(self.starter),
+            self.run.as_slice(),
+            &mut text,
+        );
+        put_utf8(formed, text.as_slice());
         Some(())
     }
 }

@@ -1,12 +1,10 @@
 -- The names that most of these proofs cite, passed on from one place. Declares nothing.
-pub use Rattle.std.proofs.Common.{◌≡◌, ℕ, Bool, true, false, leb, List, [], ◌∷◌, ◌++◌, length, Option, Some, None, refl, sym, ap, ◌∙◌, subst, arith, append_assoc, map, ◌+◌, max, length-append, get_or, ◌≤◌, rules, ◌<◌, eqb}
+pub use Rattle.std.proofs.Common.{◌≡◌, ℕ, Bool, true, false, leb, List, [], ◌∷◌, ◌++◌, length, Option, Some, None, refl, sym, ap, ◌∙◌, subst, arith, append_assoc, map, ◌+◌, length-append, rules, ◌<◌, eqb}
 pub use Rattle.std.proofs.lemmas.Bool.{cond-true, cond-false, ne_eqb, eqb-true}
-pub use Rattle.std.proofs.lemmas.List.{append-nil, length-map, nil_from_length, get_or_default}
+pub use Rattle.std.proofs.lemmas.List.{append-nil, length-map, nil_from_length}
 pub use Rattle.std.specs.List.{prefix_len}
 pub use Rattle.std.specs.Prelude.{IfSome, insert, is_some, is_none, unwrap_or, ◌||◌, if◌then◌else◌}
-pub use Rattle.nf_boundary.specs.Laws.Held.{held-push, held-characters}
-pub use Rattle.nf_boundary.specs.Laws.Walk.{walks_same, walks_joined, walks_left, Walks}
-pub use Rattle.nf_boundary.specs.declared.mark.Mark.{Mark}
+pub use Rattle.nf_boundary.specs.Laws.Held.{held-push}
 pub use Rattle.nf_forms.specs.Forms.{composes, finished}
 pub use Rattle.nf_forms.specs.Front.{front, back}
 pub use Rattle.nf_forms.specs.Laws.Front.{front-append-back, marks_push}

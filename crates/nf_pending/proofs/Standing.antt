@@ -1,5 +1,5 @@
 -- What a machine holds of the text that it stands after.
-use Rattle.nf_pending.proofs.Common.{◌≡◌, ℕ, Bool, true, false, leb, List, [], ◌∷◌, ◌++◌, length, Option, Some, None, refl, sym, ap, ◌∙◌, subst, arith, append_assoc, map, cond-true, cond-false, ne_eqb, append-nil, length-map, nil_from_length, IfSome, insert, is_some, is_none, unwrap_or, ◌||◌, prefix_len, front, back, composes, finished, front-append-back, marks_push, closed_off, closed_off-group, next_composite, next_composite-none, settled_by, front-push_starter, back-push_starter, front-behind, back-behind, back-starter, back-empty, has_starter-head, Mark, held-push, held-characters}
+use Rattle.nf_pending.proofs.Common.{◌≡◌, ℕ, Bool, true, false, leb, List, [], ◌∷◌, ◌++◌, length, Option, Some, None, refl, sym, ap, ◌∙◌, subst, arith, append_assoc, map, cond-true, cond-false, ne_eqb, append-nil, length-map, nil_from_length, IfSome, insert, is_some, is_none, unwrap_or, ◌||◌, prefix_len, front, back, composes, finished, front-append-back, marks_push, closed_off, closed_off-group, next_composite, next_composite-none, settled_by, front-push_starter, back-push_starter, front-behind, back-behind, back-starter, back-empty, has_starter-head, held-push}
 use Rattle.std.proofs.Math.Bool.{or-false}
 use Rattle.std.specs.Option.{option_to_list}
 use Rattle.nf_forms.specs.Properties.{Properties, is_starter}
@@ -150,11 +150,3 @@ module _ (f : Form) (p : Properties) where
 
       pub begun_stands : (new : Pending) → new.composes ≡ pending.composes → new.starter ≡ Some (unwrap_or o c) → new.marks.items ≡ [] → StandsAfter f p new (w ++ c ∷ [])
       begun_stands new = stands_starter pending new w c starts s o next_is
-
-pub in_order_closes : (p : Properties) (starter : Option ℕ) (m : List ℕ) (marks : List Mark) → marks ≡ map (mark_of p) m
-    → option_to_list starter ++ map (λ mark. mark.character) marks ≡ closed_off p false starter m
-in_order_closes p starter m marks same = ap (λ v. option_to_list starter ++ v) (held-characters p m marks same) ∙ next starter
-  where
-    next : (o : Option ℕ) → option_to_list o ++ m ≡ closed_off p false o m
-    next None = refl
-    next (Some s) = refl

@@ -4,9 +4,9 @@
 //! starter of the normalized text. It holds at most 31 code points, and takes no memory.
 #![tactic(auto)]
 
-mod closing;
+mod composites;
 pub mod laws;
 mod pending;
 
-pub use nf_boundary::{Mark, Run};
-pub use pending::{Pending, Segment};
+pub use nf_boundary::{Mark, Run, Segment};
+pub use pending::Pending;

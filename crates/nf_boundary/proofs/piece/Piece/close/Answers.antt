@@ -1,4 +1,6 @@
-use Rattle.std.proofs.Common.{◌∙◌}
+use Rattle.std.proofs.Common.{◌++◌, Some, ap, ◌∙◌, encode_utf8_all}
+use Rattle.nf_forms.specs.Laws.Settling.{closed_off}
+use Rattle.nf_forms.specs.Ucd.{ucd}
 use Rattle.nf_boundary.proofs.BecomesLemmas.{becomes_closed, becomes_closed_one}
 use Rattle.nf_boundary.proofs.piece.Piece.close.Goals as goal
 
@@ -8,4 +10,6 @@ returns-then-is_empty-clause-closes c = λ some w before here.
 
 pub returns-clause-closes : goal.returns-clause-closes
 returns-clause-closes c = λ _ w before here.
-    becomes_closed c.args.form w c.args.self.now.starter c.args.self.now.run.items before c.args.formed.now.items here _ (λ m held. c.close_off.ensures m (c.as_slice.ensures.value ∙ held))
+    becomes_closed c.args.form w c.args.self.now.starter c.args.self.now.run.items before c.args.formed.now.items here _ (λ m held marks.
+    c.put_utf8.ensures.text ∙ ap (λ v. c.args.formed.now.items ++ encode_utf8_all v)
+    (c.as_slice-2.ensures.value ∙ c.close_off.ensures.closed m (c.as_slice.ensures.value ∙ held) marks ∙ ap (λ b. closed_off ucd b (Some c.args.self.now.starter) m) c.composes.ensures))

@@ -1,0 +1,37 @@
+ghost use Rattle.std.specs.Prelude.{◌≡◌};
+ghost use Rattle.nf_forms.specs.Properties.{Properties};
+ghost use Rattle.nf_forms.specs.Compose.{composite};
+ghost use Rattle.nf_forms.specs.Ucd.{ucd};
+
+use nf_facts::laws;
+use ucd_normal::{Form, QuickCheck, quick_check};
+use unicode_normalization::char::compose;
+
+/// The primary composites of some data (The Unicode Standard, section 3.11, D114).
+pub trait Composites {
+    /// What the data says of every code point.
+    ghost properties: { Self → Properties };
+
+    /// What a starter and a mark compose to, where nothing stands between them.
+    fn composite(&self, starter: char, mark: char) -> Option<char>
+        ensures { result ≡ composite (properties self.now) starter mark };
+}
+
+/// Those of the Unicode Character Database.
+#[derive(Clone, Copy)]
+pub(crate) struct Database;
+
+impl Composites for Database {
+    ghost properties = { λ _. ucd };
+
+    /// To look for a composite is more than to look whether there is any.
+    #[inline]
+    fn composite(&self, starter: char, mark: char) -> Option<char> {
+        laws::each_pair_has_a_primary_composite();
+        laws::the_quick_check_tells();
+        if quick_check(mark, Form::Nfc) == QuickCheck::Yes {
+            return None;
+        }
+        compose(starter, mark)
+    }
+}
