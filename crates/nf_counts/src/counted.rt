@@ -37,9 +37,7 @@ pub fn counted_front(room: u32, text: &str) -> Counted<'_>
 {
     let len = text.len();
     let mut scan = Scan::new(text);
-    while let Some(next) = scan.step(room) {
-        scan = next;
-    }
+    while scan.step(room) {}
     let (front, rest) = text.split_at(len - scan.rest.len());
     Counted {
         front,

@@ -22,7 +22,7 @@ pub struct Counts {
 }
 
 impl Counts {
-    ghost use Rattle.std.specs.Prelude.{◌≡◌, ◌+◌, ◌<◌, ◌≤◌, ℕ, List, [], ◌++◌, IfSome};
+    ghost use Rattle.std.specs.Prelude.{◌≡◌, ◌+◌, ◌<◌, ◌≤◌, ℕ, List, [], ◌++◌, IsTrue, false};
     ghost use Rattle.nf_forms.specs.Properties.{Properties};
     ghost use Rattle.nf_counts.specs.Counts.{HasCounts, HasValue};
 
@@ -41,38 +41,41 @@ impl Counts {
         }
     }
 
-    /// With text of this value behind, where no run gets too long, and no more than `room` non-starters stand before the first
-    /// starter.
+    /// Puts text of this value behind, where no run gets too long, and no more than `room` non-starters stand before the first
+    /// starter; answers whether that is so.
     #[inline(always)]
-    pub(crate) fn with(self, value: u32, room: u32) -> Option<Counts>
+    pub(crate) fn add(&mut self, value: u32, room: u32) -> bool
         requires value { value < 8 }
-        requires fits { self.nonstarters + 3 ≤ u128.MAX }
-        requires room { self.lead ≤ room }
-        ensures few { IfSome result (λ counts. counts.nonstarters ≤ self.nonstarters + 3) }
-        ensures room { IfSome result (λ counts. counts.lead ≤ room) }
-        ensures counts { IfSome result (λ counts. (p : Properties) (w row : List ℕ) → HasValue p row value → HasCounts p w self → HasCounts p (w ++ row) counts) }
+        requires fits { self.old.nonstarters + 3 ≤ u128.MAX }
+        requires room { self.old.lead ≤ room }
+        ensures few { self.new.nonstarters ≤ self.old.nonstarters + 3 }
+        ensures room { self.new.lead ≤ room }
+        ensures counts { IsTrue result → (p : Properties) (w row : List ℕ) → HasValue p row value → HasCounts p w self.old → HasCounts p (w ++ row) self.new }
+        ensures stays { result ≡ false → self.new ≡ self.old }
     {
         if value < 4 {
-            return Some(Counts {
+            *self = Counts {
                 nonstarters: self.nonstarters + u128::from(value),
                 longest: self.longest.max(value),
                 lead: self.lead,
                 trail: value,
                 has_starter: true,
-            });
+            };
+            return true;
         }
         let marks = value - 4;
         let trail = self.trail + marks;
         let lead = if self.has_starter { self.lead } else { trail };
         if trail > MAX_RUN || lead > room {
-            return None;
+            return false;
         }
-        Some(Counts {
+        *self = Counts {
             nonstarters: self.nonstarters + u128::from(marks),
             longest: self.longest.max(trail),
             lead,
             trail,
             has_starter: self.has_starter,
-        })
+        };
+        true
     }
 }

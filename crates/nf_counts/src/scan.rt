@@ -12,7 +12,7 @@ pub(crate) struct Scan<'t> {
 }
 
 impl<'t> Scan<'t> {
-    ghost use Rattle.std.specs.Prelude.{◌≡◌, ◌<◌, ◌≤◌, ◌+◌, ◌*◌, ℕ, List, length, IfSome};
+    ghost use Rattle.std.specs.Prelude.{◌≡◌, ◌<◌, ◌≤◌, ◌+◌, ◌*◌, ℕ, List, length, IsTrue};
     ghost use Rattle.nf_forms.specs.Ucd.{ucd};
     ghost use Rattle.nf_counts.specs.Scan.{Reaches};
 
@@ -30,26 +30,22 @@ impl<'t> Scan<'t> {
         }
     }
 
-    /// Behind the next pieces, where their value tells something, no run gets too long with them, and no more than `room`
-    /// non-starters stand before the first starter.
+    /// Goes behind the next pieces, where their value tells something, no run gets too long with them, and no more than `room`
+    /// non-starters stand before the first starter; answers whether it does.
     #[inline(always)]
-    pub fn step(self, room: u32) -> Option<Scan<'t>>
-        requires fits { self.counts.nonstarters + 3 * length self.rest.now ≤ u128.MAX }
-        requires room { self.counts.lead ≤ room }
-        ensures few { IfSome result (λ next. next.counts.nonstarters + 3 * length next.rest.now ≤ self.entry.counts.nonstarters + 3 * length self.entry.rest.now) }
-        ensures shorter { IfSome result (λ next. length next.rest.now < length self.entry.rest.now) }
-        ensures reaches { IfSome result (λ next. (text : List ℕ) → Reaches ucd room text self.entry → Reaches ucd room text next) }
+    pub fn step(&mut self, room: u32) -> bool
+        requires fits { self.old.counts.nonstarters + 3 * length self.old.rest.now ≤ u128.MAX }
+        requires room { self.old.counts.lead ≤ room }
+        ensures few { self.new.counts.nonstarters + 3 * length self.new.rest.now ≤ self.old.counts.nonstarters + 3 * length self.old.rest.now }
+        ensures shorter { IsTrue result → length self.new.rest.now < length self.old.rest.now }
+        ensures reaches { (text : List ℕ) → Reaches ucd room text self.old → Reaches ucd room text self.new }
     {
-        let mut pace = self.pace;
-        let joined = joined_pieces(self.rest, &mut pace);
-        if joined.len == 0 {
-            return None;
+        let rest = self.rest;
+        let joined = joined_pieces(rest, &mut self.pace);
+        if joined.len == 0 || !self.counts.add(joined.value, room) {
+            return false;
         }
-        let counts = self.counts.with(joined.value, room)?;
-        Some(Scan {
-            rest: &self.rest[joined.len..],
-            counts,
-            pace,
-        })
+        self.rest = &rest[joined.len..];
+        true
     }
 }

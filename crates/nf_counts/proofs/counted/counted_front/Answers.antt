@@ -9,8 +9,8 @@ use Rattle.nf_forms.specs.declared.form.Form.TheVariants.{Nfkd}
 use Rattle.nf_counts.specs.Counts.{HasCounts, is_fit}
 use Rattle.nf_counts.proofs.counted.counted_front.Goals as goal
 
-pub loop-next-init : goal.loop-next-init
-loop-next-init c = record {
+pub loop-init : goal.loop-init
+loop-init c = record {
   within = omega (arith, c.new-scan.ensures.len);
   few = omega (arith, c.new-scan.ensures.len, c.new-scan.ensures.none);
   reaches = c.new-scan.ensures.reaches c.args.room;
@@ -18,16 +18,16 @@ loop-next-init c = record {
 
 pub split_at-requires : goal.split_at-requires
 split_at-requires c =
-    let here = c.loop-next.invariant.reaches in
+    let here = c.step.ensures.reaches c.args.text.now c.loop.invariant.reaches in
     let front = encode_utf8_all here.front in
-    let end : length front ≡ length c.args.text.now - length c.loop-next.scan.rest.now = omega (arith, ap length here.split, length-append front c.loop-next.scan.rest.now) in
-    subst (IsCharBoundary c.args.text.now) end (IsCharBoundary-at_seam c.args.text.now front c.loop-next.scan.rest.now here.split here.rest_utf8)
+    let end : length front ≡ length c.args.text.now - length c.step.new.self.rest.now = omega (arith, ap length here.split, length-append front c.step.new.self.rest.now) in
+    subst (IsCharBoundary c.args.text.now) end (IsCharBoundary-at_seam c.args.text.now front c.step.new.self.rest.now here.split here.rest_utf8)
 
 pub returns : goal.returns
 returns c =
-    let here = c.loop-next.invariant.reaches in
+    let here = c.step.ensures.reaches c.args.text.now c.loop.invariant.reaches in
     let front = encode_utf8_all here.front in
-    let rest = c.loop-next.scan.rest.now in
+    let rest = c.step.new.self.rest.now in
     let end : ℕ = length c.args.text.now - length rest in
     let same : length front ≡ end = omega (arith, ap length here.split, length-append front rest) in
     let is : c.split_at.result.0.now ≡ front = c.split_at.ensures.front ∙ ap (take end) here.split ∙ take_at front rest end same in
@@ -36,6 +36,6 @@ returns c =
     record {
       split = here.split ∙ ap (λ t. t ++ rest) (sym is) ∙ ap (λ t. c.split_at.result.0.now ++ t) (sym behind);
       fit = subst (λ cs. list_all (is_fit ucd) cs ≡ true) chars_are here.fit;
-      counts = subst (λ cs. HasCounts ucd (decomposed Nfkd ucd cs) c.loop-next.scan.counts) chars_are here.counts;
+      counts = subst (λ cs. HasCounts ucd (decomposed Nfkd ucd cs) c.step.new.self.counts) chars_are here.counts;
       leads = here.leads;
     }
