@@ -6,7 +6,7 @@ use Rattle.std.proofs.lemmas.Bool.{and_parts, not-true}
 use Rattle.nf_facts.specs.Within.{or_else, either}
 use Rattle.ucd_table.proofs.TrieCheck.{all_below, all_below-at}
 use Rattle.nf_lanes.specs.Sets.{byte_sets, pair_sets}
-use Rattle.nf_lanes.specs.Looks.{is_in, wants_look, look_at, AreTold}
+use Rattle.nf_lanes.specs.Looks.{is_in, finds, finds_at, AreTold}
 use Rattle.nf_assigned.specs.Bytes.{IsLow, AreLow}
 use Rattle.nf_assigned.specs.declared.pairs.TheConstants.{LOOKS}
 
@@ -19,11 +19,11 @@ ascii_begins_none : all_below (λ b. begun b == 0) 128 ≡ true
 unfolding all_below
 ascii_begins_none = refl
 
-cyrillic_told : all_below (λ b. all_below (λ n. not (wants_look LOOKS (208 + b) n)) 256) 4 ≡ true
+cyrillic_told : all_below (λ b. all_below (λ n. not (finds LOOKS (208 + b) n)) 256) 4 ≡ true
 unfolding all_below
 cyrillic_told = refl
 
-begins-look : (byte next : ℕ) → next < 256 → IsLow byte → (byte < 0x80) ⊎ (0xD0 ≤ byte) → wants_look LOOKS byte next ≡ false
+begins-look : (byte next : ℕ) → next < 256 → IsLow byte → (byte < 0x80) ⊎ (0xD0 ≤ byte) → finds LOOKS byte next ≡ false
 begins-look byte next fits low (inl ascii) =
     let none : pair_sets LOOKS.first byte next ≡ 0 = omega (arith, eqb-true _ 0 (all_below-at (λ b. begun b == 0) 128 byte ascii_begins_none ascii), and_le_l (begun byte) (byte_sets LOOKS.first.next_high LOOKS.first.next_low next)) in
     ap (λ n. not (n == 0) && is_in LOOKS.second byte next) none
@@ -31,8 +31,8 @@ begins-look byte next fits (inl low) (inr high) = absurd (omega arith)
 begins-look byte next fits (inr cyrillic) (inr high) =
     let i = byte - 208 in
     let e : 208 + i ≡ byte = omega arith in
-    let here = all_below-at (λ b. all_below (λ n. not (wants_look LOOKS (208 + b) n)) 256) 4 i cyrillic_told (omega (arith, cyrillic.1)) in
-    subst (λ b. wants_look LOOKS b next ≡ false) e (not-true _ (all_below-at (λ n. not (wants_look LOOKS (208 + i) n)) 256 next here fits))
+    let here = all_below-at (λ b. all_below (λ n. not (finds LOOKS (208 + b) n)) 256) 4 i cyrillic_told (omega (arith, cyrillic.1)) in
+    subst (λ b. finds LOOKS b next ≡ false) e (not-true _ (all_below-at (λ n. not (finds LOOKS (208 + i) n)) 256 next here fits))
 
 not_three : (byte : ℕ) → IsLow byte → 0xE0 ≤ byte → ⊥
 not_three byte (inl below) three = omega arith
@@ -55,14 +55,14 @@ low_byte least flip byte all fits below =
 
 module _ (bytes : List ℕ) (at : ℕ) (told : AreTold LOOKS 0xCD bytes at) where
   -- behind it pairs of which none has to be looked up
-  pub pairs_told : (n : ℕ) → ((k : ℕ) → at ≤ k → k < at + n → look_at LOOKS bytes k ≡ false) → AreTold LOOKS 0xCD bytes (at + n)
+  pub pairs_told : (n : ℕ) → ((k : ℕ) → at ≤ k → k < at + n → finds_at LOOKS bytes k ≡ false) → AreTold LOOKS 0xCD bytes (at + n)
   pairs_told n none k inside high = (first (order k at), λ three. second three (order k at) (order (k + 1) at))
     where
-      first : (k < at) ⊎ (at ≤ k) → look_at LOOKS bytes k ≡ false
+      first : (k < at) ⊎ (at ≤ k) → finds_at LOOKS bytes k ≡ false
       first (inl before) = (told k before high).0
       first (inr behind) = none k behind inside
 
-      second : 0xE0 ≤ get_or bytes k 0 → (k < at) ⊎ (at ≤ k) → (k + 1 < at) ⊎ (at ≤ k + 1) → k + 1 < at + n → look_at LOOKS bytes (k + 1) ≡ false
+      second : 0xE0 ≤ get_or bytes k 0 → (k < at) ⊎ (at ≤ k) → (k + 1 < at) ⊎ (at ≤ k + 1) → k + 1 < at + n → finds_at LOOKS bytes (k + 1) ≡ false
       second three (inl before) (inl short) more = (told k before high).1 three short
       second _ _ (inr behind) more = none (k + 1) behind more
       second _ (inr behind) (inl short) more = absurd (omega arith)
@@ -78,10 +78,10 @@ module _ (bytes : List ℕ) (at : ℕ) (told : AreTold LOOKS 0xCD bytes at) wher
       from_d0 (inl below) = absurd (omega arith)
       from_d0 (inr cyrillic) = cyrillic.0
 
-      second : 0xE0 ≤ get_or bytes k 0 → k < at → (k + 1 < at) ⊎ (at ≤ k + 1) → look_at LOOKS bytes (k + 1) ≡ false
+      second : 0xE0 ≤ get_or bytes k 0 → k < at → (k + 1 < at) ⊎ (at ≤ k + 1) → finds_at LOOKS bytes (k + 1) ≡ false
       second three before (inl short) = (told k before high).1 three short
-      second three before (inr behind) = let e : at ≡ k + 1 = omega arith in subst (λ n. look_at LOOKS bytes n ≡ false) e (begins-look (get_or bytes at 0) _ (fits (at + 1)) (all.1 at (omega arith) (omega arith)) all.0)
+      second three before (inr behind) = let e : at ≡ k + 1 = omega arith in subst (λ n. finds_at LOOKS bytes n ≡ false) e (begins-look (get_or bytes at 0) _ (fits (at + 1)) (all.1 at (omega arith) (omega arith)) all.0)
 
-      here : (k < at) ⊎ (at ≤ k) → (look_at LOOKS bytes k ≡ false) × (0xE0 ≤ get_or bytes k 0 → k + 1 < at + n → look_at LOOKS bytes (k + 1) ≡ false)
+      here : (k < at) ⊎ (at ≤ k) → (finds_at LOOKS bytes k ≡ false) × (0xE0 ≤ get_or bytes k 0 → k + 1 < at + n → finds_at LOOKS bytes (k + 1) ≡ false)
       here (inl before) = ((told k before high).0, λ three more. second three before (order (k + 1) at))
       here (inr behind) = (begins-look (get_or bytes k 0) _ (fits (k + 1)) (low k behind inside) (inr (from_d0 (low k behind inside))), λ three more. absurd (not_three (get_or bytes k 0) (low k behind inside) three))

@@ -2,7 +2,7 @@
 
 ghost use Rattle.std.specs.Prelude.{◌≡◌, ◌<◌, ◌≤◌, ◌+◌, ℕ, length, slice_index, bit_xor, IsTrue, ◌↔◌};
 ghost use Rattle.nf_lanes.specs.Lanes.{NonePass};
-ghost use Rattle.nf_lanes.specs.Looks.{look_at, AreTold};
+ghost use Rattle.nf_lanes.specs.Looks.{finds_at, AreTold};
 ghost use Rattle.nf_assigned.specs.Bytes.{AreLow};
 ghost use Rattle.nf_assigned.specs.declared.pairs.TheConstants.{LOOKS};
 

@@ -10,28 +10,28 @@ use Rattle.std.proofs.lemmas.List.{get_or-append-add}
 use Rattle.std.proofs.lemmas.Str.{encodes-chars, scalars-chars, IsUtf8-take}
 use Rattle.nf_facts.specs.Within.{or_else, either}
 use Rattle.ucd_table.proofs.TrieCheck.{all_below, all_below-at}
-use Rattle.nf_lanes.specs.Looks.{wants_look, look_at, AreTold}
+use Rattle.nf_lanes.specs.Looks.{finds, finds_at, AreTold}
 use Rattle.nf_lanes.specs.declared.looks.Looks.{Looks}
 
 -- characters of four bytes are looked up
 abbrev pub four_looked_up : Looks → ℕ → Bool
-four_looked_up t k = all_below (λ i. wants_look t (240 + k) (128 + i)) 64
+four_looked_up t k = all_below (λ i. finds t (240 + k) (128 + i)) 64
 
 -- blocks of 64 code points are so as a whole, or each of the block that no pair finds is so; the second bytes of E0 begin at A0
 module _ (t : Looks) (whole : ℕ → Bool) (is : ℕ → ℕ → Bool) where
   abbrev pub second_told : ℕ → ℕ → Bool
-  second_told k i = or_else (wants_look t (192 + k) (128 + i)) (λ _. is k i)
+  second_told k i = or_else (finds t (192 + k) (128 + i)) (λ _. is k i)
 
   abbrev pub two_told : ℕ → Bool
   two_told k = or_else (whole k) (λ _. all_below (second_told k) 64)
 
   abbrev pub third_told : ℕ → ℕ → Bool
-  third_told b j = or_else (wants_look t (128 + b % 64) (128 + j)) (λ _. is b j)
+  third_told b j = or_else (finds t (128 + b % 64) (128 + j)) (λ _. is b j)
 
   abbrev pub three_told : ℕ → ℕ → Bool
   three_told k i =
       or_else (whole (64 * k + i)) (λ _.
-      or_else (wants_look t (224 + k) (128 + i)) (λ _.
+      or_else (finds t (224 + k) (128 + i)) (λ _.
       or_else (nat_lt (64 * k + i) 32) (λ _. all_below (third_told (64 * k + i)) 64)))
 
 -- so it is of each character below `low`, and of each from there on that no pair finds: those begin with bytes from `least` on
@@ -49,28 +49,28 @@ pub record Tells (t : Looks) (least low : ℕ) (P : ℕ → Type 0) : Type 0 whe
   pub is_low : least ≤ 224
 
 module _ (t : Looks) (least low : ℕ) (P : ℕ → Type 0) (tells : Tells t least low P) where
-  by_two : (k i : ℕ) → k < 32 → i < 64 → wants_look t (192 + k) (128 + i) ≡ false → P (64 * k + i)
+  by_two : (k i : ℕ) → k < 32 → i < 64 → finds t (192 + k) (128 + i) ≡ false → P (64 * k + i)
   by_two k i short little none =
       ⊎_elim (tells.in_block k i (omega arith) little)
       (λ seconds. ⊎_elim (λ hit. absurd (true≢false (sym hit ∙ none))) (tells.in_place k i (omega arith) little)
-      (either (wants_look t (192 + k) (128 + i)) _ (all_below-at _ 64 i seconds little)))
+      (either (finds t (192 + k) (128 + i)) _ (all_below-at _ 64 i seconds little)))
       (either (tells.whole k) _ (all_below-at (two_told t tells.whole tells.is) 32 k tells.of_two short))
 
-  by_three : (k i j : ℕ) → k < 16 → i < 64 → j < 64 → 32 ≤ 64 * k + i → wants_look t (224 + k) (128 + i) ≡ false → wants_look t (128 + i) (128 + j) ≡ false → P (64 * (64 * k + i) + j)
+  by_three : (k i j : ℕ) → k < 16 → i < 64 → j < 64 → 32 ≤ 64 * k + i → finds t (224 + k) (128 + i) ≡ false → finds t (128 + i) (128 + j) ≡ false → P (64 * (64 * k + i) + j)
   by_three k i j short little small large first second =
       let b = 64 * k + i in
       let same : i ≡ b % 64 = omega arith in
       ⊎_elim (tells.in_block b j (omega arith) small)
       (λ others. ⊎_elim (λ hit. absurd (true≢false (sym hit ∙ first)))
       (λ more. ⊎_elim (λ under. let below : b < 32 = ltb-true _ _ under in absurd (omega arith))
-      (λ thirds. ⊎_elim (λ hit. absurd (true≢false (sym hit ∙ subst (λ n. wants_look t (128 + n) (128 + j) ≡ false) same second))) (tells.in_place b j (omega arith) small)
-      (either (wants_look t (128 + b % 64) (128 + j)) _ (all_below-at _ 64 j thirds small)))
+      (λ thirds. ⊎_elim (λ hit. absurd (true≢false (sym hit ∙ subst (λ n. finds t (128 + n) (128 + j) ≡ false) same second))) (tells.in_place b j (omega arith) small)
+      (either (finds t (128 + b % 64) (128 + j)) _ (all_below-at _ 64 j thirds small)))
       (either (nat_lt b 32) _ more))
-      (either (wants_look t (224 + k) (128 + i)) _ others))
+      (either (finds t (224 + k) (128 + i)) _ others))
       (either (tells.whole b) _ (all_below-at _ 64 i (all_below-at (λ k. all_below (three_told t tells.whole tells.is k) 64) 16 k tells.of_three short) little))
 
-  by_four : (k i : ℕ) → k < 5 → i < 64 → wants_look t (240 + k) (128 + i) ≡ true
-  by_four k i short little = all_below-at (λ i. wants_look t (240 + k) (128 + i)) 64 i (all_below-at (four_looked_up t) 5 k tells.of_four short) little
+  by_four : (k i : ℕ) → k < 5 → i < 64 → finds t (240 + k) (128 + i) ≡ true
+  by_four k i short little = all_below-at (λ i. finds t (240 + k) (128 + i)) 64 i (all_below-at (four_looked_up t) 5 k tells.of_four short) little
 
   shorter : (bytes : List ℕ) (n m : ℕ) → n ≤ m → AreTold t least bytes m → AreTold t least bytes n
   shorter bytes n m short told k inside high = let here = told k (omega arith) high in (here.0, λ three more. here.1 three (omega arith))
@@ -96,18 +96,18 @@ module _ (t : Looks) (least low : ℕ) (P : ℕ → Type 0) (tells : Tells t lea
           absurd (true≢false (sym (by_four (c / 262144) (c / 4096 % 64) (omega arith) (omega arith)) ∙ (of _ (four c large) 0 (omega arith) (omega (arith, tells.is_low))).0))
 
   -- behind a piece
-  look_at-behind : (piece rest : List ℕ) (j : ℕ) → look_at t (piece ++ rest) (length piece + j) ≡ look_at t rest j
-  look_at-behind piece rest j =
+  finds_at-behind : (piece rest : List ℕ) (j : ℕ) → finds_at t (piece ++ rest) (length piece + j) ≡ finds_at t rest j
+  finds_at-behind piece rest j =
       let whole = piece ++ rest in
       let next : length piece + j + 1 ≡ length piece + (j + 1) = omega arith in
-      ap (λ x. wants_look t x (get_or whole (length piece + j + 1) 0)) (get_or-append-add piece rest j 0)
-      ∙ ap (λ x. wants_look t (get_or rest j 0) x) (ap (λ n. get_or whole n 0) next ∙ get_or-append-add piece rest (j + 1) 0)
+      ap (λ x. finds t x (get_or whole (length piece + j + 1) 0)) (get_or-append-add piece rest j 0)
+      ∙ ap (λ x. finds t (get_or rest j 0) x) (ap (λ n. get_or whole n 0) next ∙ get_or-append-add piece rest (j + 1) 0)
 
   told_behind : (piece rest : List ℕ) (n : ℕ) → AreTold t least (piece ++ rest) (length piece + n) → AreTold t least rest n
   told_behind piece rest n told k inside high =
       let here = told (length piece + k) (omega arith) (omega (arith, get_or-append-add piece rest k 0)) in
       let next : length piece + k + 1 ≡ length piece + (k + 1) = omega arith in
-      (sym (look_at-behind piece rest k) ∙ here.0, λ three more. sym (look_at-behind piece rest (k + 1)) ∙ ap (look_at t (piece ++ rest)) (sym next) ∙ here.1 (omega (arith, three, get_or-append-add piece rest k 0)) (omega arith))
+      (sym (finds_at-behind piece rest k) ∙ here.0, λ three more. sym (finds_at-behind piece rest (k + 1)) ∙ ap (finds_at t (piece ++ rest)) (sym next) ∙ here.1 (omega (arith, three, get_or-append-add piece rest k 0)) (omega arith))
 
   told_chars : (cs more : List ℕ) → all_scalars cs ≡ true → AreTold t least (encode_utf8_all cs ++ more) (length (encode_utf8_all cs)) → All P cs
   told_chars [] more scalars told = All-nil P

@@ -2,7 +2,7 @@
 
 ghost use Rattle.std.specs.Prelude.{◌≡◌, ◌<◌, ◌≤◌, ◌+◌, ◌↔◌, true, length, IsTrue};
 ghost use Rattle.nf_lanes.specs.Lanes.{bits_at, NonePass};
-ghost use Rattle.nf_lanes.specs.Looks.{look_at};
+ghost use Rattle.nf_lanes.specs.Looks.{finds_at};
 
 use crate::lanes::{LANES, before, bits, none_of};
 use crate::sets::{Pairs, pair_sets};
@@ -17,7 +17,7 @@ pub struct Looks {
 #[inline(always)]
 pub fn are_told(looks: &Looks, bytes: &[u8], at: usize) -> bool
     requires room { at + 64 < length bytes.now }
-    ensures { IsTrue result ↔ NonePass (look_at looks.now bytes.now) at 64 }
+    ensures { IsTrue result ↔ NonePass (finds_at looks.now bytes.now) at 64 }
 {
     none_of(
         look_bits(looks, bytes, at),
@@ -32,8 +32,8 @@ pub fn are_told(looks: &Looks, bytes: &[u8], at: usize) -> bool
 pub fn told_len(looks: &Looks, bytes: &[u8], at: usize) -> usize
     requires { at ≤ length bytes.now }
     ensures within { at + result ≤ length bytes.now }
-    ensures told { NonePass (look_at looks.now bytes.now) at result }
-    ensures stops { at + result + 16 < length bytes.now → look_at looks.now bytes.now (at + result) ≡ true }
+    ensures told { NonePass (finds_at looks.now bytes.now) at result }
+    ensures stops { at + result + 16 < length bytes.now → finds_at looks.now bytes.now (at + result) ≡ true }
 {
     let mut end = at;
     while bytes.len() - end > LANES {
@@ -51,7 +51,7 @@ pub fn told_len(looks: &Looks, bytes: &[u8], at: usize) -> usize
 #[inline(always)]
 fn look_bits(looks: &Looks, bytes: &[u8], at: usize) -> u64
     requires room { at + 16 < length bytes.now }
-    ensures { result ≡ bits_at (look_at looks.now bytes.now) at }
+    ensures { result ≡ bits_at (finds_at looks.now bytes.now) at }
 {
     let first = bits(pair_sets(&looks.first, bytes, at));
     if first == 0 {
