@@ -1,14 +1,12 @@
 use crate::closed::Formed;
 use crate::encoding::{put_character, put_utf8};
+use crate::mark::MAX_RUN;
 use crate::seen::{Seen, is_own_row};
 use arrayvec::ArrayVec;
 use nf_facts::laws;
 use nf_forms::Form;
 use ucd_normal::QuickCheck;
 use unicode_normalization::char::compose;
-
-/// As many non-starters may follow one another in NFKD (UAX #15, section 13).
-const MAX_RUN: u8 = 30;
 
 /// So many bytes has a cluster at most.
 const MOST_BYTES: usize = 52;

@@ -12,16 +12,13 @@ use crate::closed::Formed;
 use crate::closing::{Segment, close_off};
 use crate::composites::Database;
 use crate::encoding::{append_one, put_utf8};
-use crate::mark::{Mark, Run, hold};
+use crate::mark::{MAX_RUN, Mark, Run, hold};
 use crate::rows::{Row, passes};
 use crate::seen::{Seen, is_own_row};
 use nf_facts::{in_tables, laws};
 use nf_forms::Form;
 use ucd_normal::{QuickCheck, canonical_combining_class};
 use unicode_normalization::char::decomposition;
-
-/// As many non-starters may follow one another in NFKD (UAX #15, section 13).
-const MAX_RUN: u8 = 30;
 
 /// So many may stand behind any character, whose compatibility decomposition has at most 18 members.
 const MAX_MARKS: u8 = 12;
