@@ -67,7 +67,7 @@ pub fn go_back(filter: &mut Filter<'_, Ucd>, state: &State)
 pub fn plain() -> Plain<'static, Ucd>
     ensures { IsPlainAscii ucd }
 {
-    let _known = Ucd.all_ascii_plain();
+    let _known = Ucd.known();
     match Plain::of(&Ucd) {
         Some(plain) => plain,
         None => unreachable!(),

@@ -103,7 +103,7 @@ impl<'r, R: Rows> Filter<'r, R> {
         ensures unspent { IsFalse (is_spent (state_of result)) }
         ensures stands { StandsAfter as_is form (R.properties rows.now) (state_of result) [] }
     {
-        if rows.all_ascii_plain()
+        if rows.known().ascii_plain
             && let Some(plain) = Plain::of(rows)
         {
             return Filter::fast(plain, form, base);

@@ -48,7 +48,7 @@ impl Reading {
         ensures lender { (S.state sink.new).lender ≡ (S.state sink.old).lender }
     {
         laws::replacing();
-        if !rows.all_sound() {
+        if !rows.known().sound {
             return Ok(rest);
         }
         let mut mended = Mended::new();

@@ -7,3 +7,4 @@ pub mod Ascii
 pub mod Plain
 pub mod Audit
 pub mod Laws
+pub mod Facts

@@ -8,6 +8,7 @@
 mod auditing;
 mod composites;
 mod ends;
+mod facts;
 mod kind;
 mod known;
 mod ordering;
@@ -23,6 +24,7 @@ mod unsound;
 pub use auditing::audit;
 pub use composites::composite;
 pub use ends::Ends;
+pub use facts::Facts;
 pub use kind::Kind;
 pub use nf_boundary::{Closed, Formed};
 pub use nf_calm::Calm;

@@ -22,7 +22,7 @@ impl<'r, R: Rows> Plain<'r, R> {
         ensures plain { IsSome result ↔ IsPlainAscii (R.properties rows.now) }
         ensures rows { IfSome result (λ plain. rows_of plain ≡ rows.now) }
     {
-        if rows.all_ascii_plain() || reads_plain(rows) {
+        if rows.known().ascii_plain || reads_plain(rows) {
             Some(Plain { rows })
         } else {
             None

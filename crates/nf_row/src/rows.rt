@@ -1,16 +1,15 @@
-ghost use Rattle.std.specs.Prelude.{◌≡◌, ◌<◌, ◌↔◌, ℕ, true, length, take, chars, IsErr, IfOk, IfSome, IsTrue};
+ghost use Rattle.std.specs.Prelude.{◌≡◌, ◌<◌, ◌↔◌, ℕ, true, length, take, chars, IsErr, IfOk, IfSome};
 ghost use Rattle.std.specs.List.{list_all};
 ghost use Rattle.std.specs.Str.{IsCharBoundary};
 ghost use Rattle.nf_forms.specs.Properties.{Properties};
 ghost use Rattle.nf_forms.specs.Forms.{row_of};
-ghost use Rattle.nf_forms.specs.Sound.{is_sound};
-ghost use Rattle.nf_forms.specs.Audit.{IsAudited};
 ghost use Rattle.nf_calm.specs.Front.{IsCalmFront};
 ghost use Rattle.nf_boundary.specs.Front.{IsClosedFront};
 ghost use Rattle.nf_row.specs.Kind.{IsKind};
-ghost use Rattle.nf_row.specs.Ascii.{IsPlainAscii};
+ghost use Rattle.nf_row.specs.Facts.{AreFacts};
 ghost use Rattle.nf_counts.specs.Counts.{IsCountedFront};
 
+use crate::facts::Facts;
 use crate::kind::Kind;
 use arrayvec::ArrayVec;
 use nf_boundary::{Closed, Formed};
@@ -112,28 +111,16 @@ pub trait Rows {
         None
     }
 
-    /// Whether every character is known to be sound, so that no rows are read to see it.
+    /// What is known of the data as a whole. Data of which nothing is known leaves it out.
     #[inline]
-    fn all_sound(&self) -> bool
-        ensures { IsTrue result → (c : ℕ) → IsTrue (is_sound (properties self.now) c) }
+    fn known(&self) -> Facts
+        ensures { AreFacts (properties self.now) result }
     {
-        false
-    }
-
-    /// Whether ASCII text is known to be left as it is, so that no rows are read to see it.
-    #[inline]
-    fn all_ascii_plain(&self) -> bool
-        ensures { IsTrue result → IsPlainAscii (properties self.now) }
-    {
-        false
-    }
-
-    /// Whether the data is known to pass the audit, so that no character is looked at to see it.
-    #[inline]
-    fn all_audited(&self) -> bool
-        ensures { IsTrue result → IsAudited (properties self.now) }
-    {
-        false
+        Facts {
+            sound: false,
+            ascii_plain: false,
+            audited: false,
+        }
     }
 }
 

@@ -29,7 +29,7 @@ struct Shape {
 pub fn sound<R: Rows>(rows: &R, c: char) -> bool
     ensures { result ≡ is_sound (R.properties rows.now) c }
 {
-    rows.all_sound() || read_row(rows, c).is_some()
+    rows.known().sound || read_row(rows, c).is_some()
 }
 
 /// The ends of the compatibility row of a sound character, and none of any other. No row is copied where all characters are
@@ -38,7 +38,7 @@ pub fn sound_ends<R: Rows>(rows: &R, c: char) -> Option<Ends>
     ensures sound { is_some result ≡ is_sound (R.properties rows.now) c }
     ensures ends { IfSome result (λ ends. HasEnds (R.properties rows.now) ((R.properties rows.now).compat c) ends) }
 {
-    if rows.all_sound() {
+    if rows.known().sound {
         let mut room = [c; 3];
         if let Some(row) = rows.lent_row(Form::Nfkd, c, &mut room) {
             return Some(Ends::of_members(rows, row));
@@ -57,7 +57,7 @@ pub fn sound_row<R: Rows>(rows: &R, c: char) -> Option<SoundRow>
     ensures row { IfSome result (λ read. read.row.items ≡ (R.properties rows.now).compat c) }
     ensures ends { IfSome result (λ read. HasEnds (R.properties rows.now) ((R.properties rows.now).compat c) read.ends) }
 {
-    if !rows.all_sound() {
+    if !rows.known().sound {
         return read_row(rows, c);
     }
     let row = rows.compat(c).ok()?;

@@ -2,6 +2,7 @@ ghost use Rattle.std.specs.Prelude.{◌≡◌, ◌≤◌, length, IfOk, IsOk};
 ghost use Rattle.unicode_normalization.specs.Decompose.{decompose};
 ghost use Rattle.nf_forms.specs.Ucd.{ucd};
 
+use crate::facts::Facts;
 use crate::kind::Kind;
 use crate::known::kind_of;
 use crate::rows::{Long, Row, Rows, row_from};
@@ -20,11 +21,9 @@ pub struct Ucd;
 
 #[tactic(auto, unfolding(nf_forms::specs::Ucd::ucd, nf_forms::specs::Ucd::is_assigned))]
 impl Rows for Ucd {
-    ghost use Rattle.std.specs.Prelude.{ℕ, IsTrue};
-    ghost use Rattle.nf_forms.specs.Sound.{is_sound};
-    ghost use Rattle.nf_forms.specs.Audit.{IsAudited};
+    ghost use Rattle.std.specs.Prelude.{IsTrue};
     ghost use Rattle.nf_forms.specs.Ucd.{ucd};
-    ghost use Rattle.nf_row.specs.Ascii.{IsPlainAscii};
+    ghost use Rattle.nf_row.specs.Facts.{AreFacts};
 
     ghost properties = { λ _. ucd };
 
@@ -98,30 +97,20 @@ impl Rows for Ucd {
     }
 
     #[inline]
-    fn all_sound(&self) -> bool
-        ensures sound { IsTrue result → (c : ℕ) → IsTrue (is_sound ucd c) }
-        ensures known { IsTrue result }
+    fn known(&self) -> Facts
+        ensures facts { AreFacts ucd result }
+        ensures sound { IsTrue result.sound }
+        ensures ascii_plain { IsTrue result.ascii_plain }
+        ensures audited { IsTrue result.audited }
     {
         laws::every_character_is_sound();
-        true
-    }
-
-    #[inline]
-    fn all_ascii_plain(&self) -> bool
-        ensures plain { IsTrue result → IsPlainAscii ucd }
-        ensures known { IsTrue result }
-    {
         laws::ascii_is_plain();
-        true
-    }
-
-    #[inline]
-    fn all_audited(&self) -> bool
-        ensures audited { IsTrue result → IsAudited ucd }
-        ensures known { IsTrue result }
-    {
         laws::the_data_is_audited();
-        true
+        Facts {
+            sound: true,
+            ascii_plain: true,
+            audited: true,
+        }
     }
 }
 

@@ -163,7 +163,7 @@ fn nothing_is_known_of_changed_data(rt: HostRuntime) {
         ),
         ("b", "")
     );
-    assert!(rt; !rows.all_sound() && Ucd.all_sound());
+    assert!(rt; !rows.known().sound && Ucd.known().sound);
 }
 
 /// Classes and decompositions by UnicodeData.txt.
