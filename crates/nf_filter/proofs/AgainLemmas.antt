@@ -4,7 +4,7 @@ use Rattle.std.proofs.str.Laws.{scalars-append}
 use Rattle.std.proofs.Math.Utf8.{scalar}
 use Rattle.nf_filter.specs.Again.{TakesAll, nothing_put, StaysAsItIs, AddsWhatStays, DrivesOnce, FinishedStays}
 use Rattle.nf_filter.proofs.PolicyLemmas.{first_fault-none, taken}
-use Rattle.nf_filter.proofs.WholeLemmas.{without, answer_at, answer_without}
+use Rattle.nf_filter.proofs.WholeLemmas.{without, at_fault, answer_without}
 use Rattle.nf_filter.proofs.ReadingLemmas.{text_of-none, ending_of-none}
 use Rattle.nf_filter.proofs.PieceLemmas.{text_under-begun, begun_at_end-begun}
 
@@ -191,7 +191,7 @@ module _ (f : Form) (p : Properties) (old new : SinkState) where
       puts = converts.written (λ e. cc)
 
       next : (o : Option Fault) → o ≡ fault_in as_is p 0 bytes → AddsWhatStays f p old.taken new.taken
-      next (Some fault) told = let answer = converts.answer (λ e. cc) ∙ sym (answer_at f p bytes fault told) in cc
+      next (Some fault) told = let answer = converts.answer (λ e. cc) ∙ sym (at_fault f p bytes fault told).1 in cc
       next None told =
           put-stays puts.out _ (without f p bytes told ∙ puts.behind) puts.given
           (law as_is f p 0 bytes tally once (answer_without f p bytes told ∙ sym (converts.answer (λ e. cc))))

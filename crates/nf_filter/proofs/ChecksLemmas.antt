@@ -1,34 +1,12 @@
 -- What a check decides, character by character.
-use Rattle.std.proofs.Common.{◌≡◌, ℕ, ◌+◌, Bool, true, false, List, [], ◌∷◌, ◌++◌, length, Some, None, Ok, Err, refl, sym, ap, ◌∙◌, subst, append_assoc, append-nil, if◌then◌else◌, Option, encode_utf8_all}
-use Rattle.std.specs.List.{list_all}
-use Rattle.std.proofs.lemmas.Bool.{cond-true, or_left, and_parts, and_from, and_left, and_right}
-use Rattle.std.proofs.lemmas.List.Folds.{list_all-append}
-use Rattle.nf_forms.specs.Properties.{Properties}
-use Rattle.nf_forms.specs.Runs.{has_starter, lead}
-use Rattle.nf_forms.specs.declared.form.Form.{Form}
-use Rattle.nf_forms.specs.declared.form.Form.TheVariants.{Nfkd}
-use Rattle.nf_forms.specs.Forms.{decomposed}
-use Rattle.nf_forms.specs.StreamSafe.{stream_safe}
-use Rattle.nf_forms.specs.Sound.{is_sound}
+use Rattle.nf_filter.proofs.Common.{◌≡◌, ℕ, ◌+◌, ◌<◌, Bool, true, false, List, [], ◌∷◌, ◌++◌, length, Some, None, Ok, Err, inl, inr, ◌⊎◌, refl, sym, ap, ◌∙◌, subst, arith, append_assoc, append-nil, if◌then◌else◌, Option, chars, encode_utf8_all, list_all, cond-true, or_left, and_parts, and_from, and_left, and_right, list_all-append, Properties, has_starter, lead, Form, Nfkd, decomposed, stream_safe, is_sound, IsSoundText, text_of, ending_of, Place, is_in_format, place_from, Fault, Row, bad_byte, decided_or, decided_in, sound_front, check_fault, place_or_fault, check_decision, text_decision, no_stop, has_starter-append, lead-append, CountsFromEnd}
 use Rattle.nf_forms.specs.Parting.{CountsAnew}
 use Rattle.nf_forms.specs.Calm.{IsCalm}
 use Rattle.nf_forms.specs.Laws.Last.{by_last}
-use Rattle.nf_forms.specs.Laws.Runs.{has_starter-append, lead-append}
-use Rattle.nf_forms.specs.Laws.Sound.{IsSoundText}
 use Rattle.nf_forms.specs.Laws.Calm.{calm-begins, stream_safe-calm}
 use Rattle.nf_forms.specs.Laws.CalmEnd.{calm-tail}
-use Rattle.nf_calm.specs.Front.{BeginsAndMarks}
-use Rattle.nf_utf8.specs.Reading.{text_of, ending_of}
-use Rattle.nf_safe.specs.declared.place.Place.{Place}
-use Rattle.nf_safe.specs.Place.{is_in_format, place_from}
-use Rattle.nf_safe.specs.Checker.{CountsFromEnd}
+use Rattle.nf_calm.specs.Front.{BeginsAndMarks, IsCalmFront}
 use Rattle.nf_safe.specs.Laws.Place.{is_in_format-stream_safe, place_from-in_format, place_from-stays}
-use Rattle.nf_filter.specs.declared.fault.Fault.{Fault}
-use Rattle.nf_filter.specs.declared.fault.Fault.TheVariants.{Row}
-use Rattle.nf_filter.specs.Faults.{bad_byte}
-use Rattle.nf_filter.specs.Taker.{decided_or, decided_in}
-use Rattle.nf_filter.specs.Checks.{sound_front, check_fault, place_or_fault, check_decision, text_decision}
-use Rattle.nf_filter.specs.Laws.Undecided.{no_stop}
 use Rattle.nf_filter.proofs.PolicyLemmas.{take_while-append, take_while-stop}
 
 module _ (p : Properties) where
@@ -73,6 +51,14 @@ module _ (p : Properties) where
 
   -- Calm text is in the format, and the count is that of its end alone.
   module _ (f : Form) where
+    -- where the end is not empty, it ends in a character that parts a text
+    pub ends : (whole s t rest : List ℕ) → IsCalmFront p f whole s t rest → 0 < length t → BeginsAndMarks p f (chars t)
+    ends whole s t rest calm some = next calm.end
+      where
+        next : ((s ≡ []) × (t ≡ [])) ⊎ BeginsAndMarks p f (chars t) → BeginsAndMarks p f (chars t)
+        next (inl none) = absurd (omega (arith, some, ap length none.1))
+        next (inr begins) = begins
+
     lead-anew : (c : ℕ) (cs : List ℕ) → CountsAnew p c → lead p (decomposed Nfkd p (c ∷ cs)) ≡ 0
     lead-anew c cs anew = lead-append p (p.compat c) (decomposed Nfkd p cs) ∙ cond-true _ _ _ anew.some ∙ anew.lead
 

@@ -1,12 +1,12 @@
 -- The names that most of these proofs cite, passed on from one place. Declares nothing.
-pub use Rattle.std.proofs.Common.{◌≡◌, ℕ, ◌+◌, ◌-◌, Bool, true, false, ◌==◌, List, [], ◌∷◌, ◌++◌, length, Option, Some, None, Result, Ok, Err, refl, sym, ap, ap₂, ◌∙◌, subst, arith, append-nil, eq-eqb, IsTrue, OnOk, if◌then◌else◌, encode_utf8_all, inl, chars, ◌<◌, ⊎_elim, ne_eqb, append_assoc, ◌≤◌, take, drop, get_or, map, map-id, encode_utf8, IsUtf8, length-append, take-append-drop, zero, suc, drop-drop, drop_at, inr, cond, MatchResult, ◌^◌, ◌↔◌, IsFalse, ◌⊎◌, option_map, not, ◌&&◌, ◌||◌, is_err, length-drop, take_at, take_while, eqb-true, take_all, eqb, ltb, IfSome, is_some, MatchOption, IfErr, subst₂, length-take, rules, length-take-le}
+pub use Rattle.std.proofs.Common.{◌≡◌, ℕ, ◌+◌, ◌-◌, Bool, true, false, ◌==◌, List, [], ◌∷◌, ◌++◌, length, Option, Some, None, Result, Ok, Err, refl, sym, ap, ap₂, ◌∙◌, subst, arith, append-nil, eq-eqb, IsTrue, OnOk, if◌then◌else◌, encode_utf8_all, inl, chars, ◌<◌, ⊎_elim, ne_eqb, append_assoc, ◌≤◌, take, drop, get_or, map, map-id, encode_utf8, IsUtf8, length-append, take-append-drop, zero, suc, drop-drop, drop_at, inr, cond, MatchResult, ◌^◌, ◌↔◌, IsFalse, ◌⊎◌, option_map, not, ◌&&◌, ◌||◌, length-drop, take_at, take_while, eqb-true, take_all, eqb, ltb, IfSome, is_some, IfErr, subst₂, length-take, rules}
 pub use Rattle.std.proofs.KnownBytes.{Appends-nil, Appends-trans, Consumes-kept, Consumes-nil, Consumes-trans}
 pub use Rattle.std.proofs.Math.Seq.{take-append-add, take-length}
-pub use Rattle.std.proofs.lemmas.Bool.{and_from, and_parts, cases_lt, cases_Bool, false_from_ne_true, cond-true, cond-false, eqb-false, or_parts, le-leb, true_from_ne_false, false≢true, not-false, not-true}
+pub use Rattle.std.proofs.lemmas.Bool.{and_from, and_parts, and_left, and_right, or_left, cases_lt, cases_Bool, false_from_ne_true, cond-true, cond-false, eqb-false, or_parts, le-leb, true_from_ne_false, false≢true, not-false, not-true}
 pub use Rattle.std.proofs.lemmas.Bool.Decides.{nat_tests}
 pub use Rattle.std.proofs.lemmas.List.{take_more, nil_from_length, length-map, map-append, drop-append-le, take-append-le, take-take, drop-take, take_rest}
 pub use Rattle.std.proofs.lemmas.List.Folds.{list_all-append, length-prefix_len, prefix_len-append}
-pub use Rattle.std.proofs.lemmas.Str.{encodes-append, encodes-chars, chars-nil, chars-append, chars_past_char, IsUtf8-append, IsUtf8-take, IsCharBoundary-at_seam, utf8_valid_len_le, length-le-encodes, length-encode, len_utf8_bounds, chars-IsAscii, encodes-IsAscii, IsUtf8-from_ascii, IsCharBoundary-from_take, chars_from_encodes, scalars-chars}
+pub use Rattle.std.proofs.lemmas.Str.{encodes-append, encodes-chars, chars-nil, chars-append, chars_past_char, IsUtf8-append, IsUtf8-take, IsCharBoundary-at_seam, utf8_valid_len_le, length-le-encodes, length-encode, len_utf8_bounds, chars_from_encodes, scalars-chars}
 pub use Rattle.std.specs.Io.KnownBytes.{Appends, Consumes, IsAtEnd}
 pub use Rattle.std.specs.List.{list_all, prefix_len}
 pub use Rattle.std.specs.Result.{result_err, result_map_both}
@@ -27,6 +27,7 @@ pub use Rattle.nf_filter.specs.Filter.{base_of, offset_of, is_spent, StandsAfter
 unfoldable pub use Rattle.nf_filter.specs.Finishes.{end_of, final_utf8}
 pub use Rattle.nf_filter.specs.Finishes.{tally_of, answer_or, end_under, whole_or, is_taken, final_under, Finishes, Closes}
 pub use Rattle.nf_filter.specs.Laws.Settled.{settled_utf8-none, text_under-none}
+pub use Rattle.nf_filter.specs.Laws.Undecided.{no_stop, unusable_at-usable, checked_undecided, measured_undecided}
 pub use Rattle.nf_filter.specs.Laws.Soundness.{AreSound, RefusesNone}
 pub use Rattle.nf_filter.specs.Measures.{unusable_decision, HasMeasured, measure_decision, text_measure}
 pub use Rattle.nf_filter.specs.Passed.{IsBehindAssigned}
@@ -43,7 +44,7 @@ pub use Rattle.nf_filter.specs.Writes.{Puts, BreaksOff}
 pub use Rattle.nf_filter.specs.declared.counted.Counted.{Counted}
 pub use Rattle.nf_filter.specs.declared.devices.Failed.{Failed}
 pub use Rattle.nf_filter.specs.declared.fault.Fault.{Fault}
-pub use Rattle.nf_filter.specs.declared.fault.Fault.TheVariants.{Row, Write as WriteFault, Unassigned, BadByte, Write, TooLong, Read, Spent, Cut as CutShort}
+pub use Rattle.nf_filter.specs.declared.fault.Fault.TheVariants.{Row, Write as WriteFault, Unassigned, BadByte, Write, TooLong, Read, Cut as CutShort}
 pub use Rattle.nf_filter.specs.declared.filter.State.{State}
 pub use Rattle.nf_filter.specs.declared.policy.Policy.{Policy}
 pub use Rattle.nf_filter.specs.declared.reading.Reading.{Reading}
@@ -54,20 +55,23 @@ pub use Rattle.nf_forms.specs.Laws.Front.{front-append-back}
 pub use Rattle.nf_forms.specs.Laws.Settling.{back-starter, length-back}
 pub use Rattle.nf_forms.specs.Laws.Sound.{IsSoundText, IsSound, IsSound-from_test}
 pub use Rattle.nf_forms.specs.Laws.StreamSafe.{trail-stream_safe-le, trail-decomposed-le}
+pub use Rattle.nf_forms.specs.Laws.Runs.{has_starter-append, lead-append, trail-marks}
+pub use Rattle.nf_forms.specs.Runs.{has_starter, lead, trail}
 pub use Rattle.nf_forms.specs.Properties.{Properties, is_starter}
 unfoldable pub use Rattle.nf_forms.specs.SafeForm.{safe_form}
 pub use Rattle.nf_forms.specs.Sound.{is_sound}
 pub use Rattle.nf_forms.specs.StreamSafe.{stream_safe, joiner, is_too_long, max_run}
 pub use Rattle.nf_forms.specs.Twice.{ChangesOnce}
 pub use Rattle.nf_forms.specs.declared.form.Form.{Form}
-pub use Rattle.nf_forms.specs.declared.form.Form.TheVariants.{Nfc, Nfd, Nfkc, Nfkd}
+pub use Rattle.nf_forms.specs.declared.form.Form.TheVariants.{Nfc, Nfd, Nfkd}
 pub use Rattle.nf_normalizer.specs.Laws.Settled.{usable-all, Extends, Extends-encodes, usable-stop, is_usable-push, Extends-none, settled-extends, is_usable-stays_out, usable-grows, usable-stays, is_usable-none, Extends-join, usable-extends}
 pub use Rattle.nf_normalizer.specs.Normalizer.{IsWithin}
 pub use Rattle.nf_normalizer.specs.Room.{Start as Given}
-pub use Rattle.nf_safe.specs.Checker.{place_of}
+pub use Rattle.nf_safe.specs.Checker.{place_of, CountsFromEnd}
 pub use Rattle.nf_safe.specs.Laws.Pieces.{in_format-unchanged, cut-some, sound-source, stream_safe-cut, stream_safe-in_format}
-pub use Rattle.nf_safe.specs.Measurer.{refusal, unsound_at, values_of}
+pub use Rattle.nf_safe.specs.Measurer.{refusal, unsound_at}
 pub use Rattle.nf_safe.specs.Place.{is_in_format, place_from}
+pub use Rattle.nf_safe.specs.declared.checker.Checker.{Checker}
 pub use Rattle.nf_safe.specs.declared.place.Place.{Place}
 pub use Rattle.nf_utf8.specs.Ending.{Ending, Whole, Bad, Cut, moved, Cut as CutEnd}
 pub use Rattle.nf_utf8.specs.Laws.{ReadsLongestText, ReadsBack, ReplacesParts, SplitsBytes}

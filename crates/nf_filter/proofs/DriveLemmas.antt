@@ -1,8 +1,7 @@
 -- What driving answers, by what was fed.
-use Rattle.nf_filter.proofs.Common.{◌≡◌, ℕ, true, false, List, ◌++◌, Ok, Err, inl, inr, ⊎_elim, refl, sym, ap, ◌∙◌, IsTrue, Result, Properties, Form, Fault, Policy, TooLong, Read, Write, State, Tally, SinkState, SourceState, Puts, BreaksOff, settled_utf8, final_utf8, Finishes, due_utf8, FeedsAll, Drives}
+use Rattle.nf_filter.proofs.Common.{◌≡◌, ℕ, true, false, List, ◌++◌, Ok, Err, inl, inr, ⊎_elim, refl, sym, ap, Result, Properties, Form, Fault, Policy, TooLong, Read, Write, State, Tally, SinkState, SourceState, Puts, BreaksOff, settled_utf8, final_utf8, Finishes, due_utf8, FeedsAll, Drives}
 use Rattle.nf_filter.proofs.WritesLemmas.{Puts-join, Puts-at, BreaksOff-join, BreaksOff-at}
-use Rattle.nf_filter.proofs.FilterLemmas.{failed_if}
-use Rattle.nf_filter.proofs.FeedingLemmas.{fed_by}
+use Rattle.nf_filter.proofs.FilterLemmas.{failed_if, never, err_is}
 
 abbrev pub refused_by : Fault → Result Tally Fault
 refused_by fault = Err fault
@@ -10,23 +9,14 @@ refused_by fault = Err fault
 module _ (most : ℕ) (policy : Policy) (f : Form) (p : Properties) (base : ℕ) (bytes : List ℕ) (source left : SourceState) (old new : SinkState) (state : State) where
   -- feeding was refused
   module _ (fault : Fault) (going : left.is_at_end ≡ false) (feeds : FeedsAll most policy f p base bytes source left old new state (Err fault)) where
-    fed_is : (k : Fault) → refused_by fault ≡ Err k → fed_by fault ≡ Err k
-    fed_is k e = let same : fault ≡ k = cc in ap Err same
-
-    other : (k : Fault) → ¬ (refused_by fault ≡ Err k) → ¬ (fed_by fault ≡ Err k)
-    other k not e = let same : fault ≡ k = cc in not (ap Err same)
-
-    never : {A : Type 0} → IsTrue left.is_at_end → A
-    never end = let absent : true ≡ false = sym end ∙ going in cc
-
     due_is : settled_utf8 policy f p (bytes ++ feeds.fed) ≡ due_utf8 left.is_at_end policy f p (bytes ++ feeds.fed)
     due_is = ap (λ b. due_utf8 b policy f p (bytes ++ feeds.fed)) (sym going)
 
     breaks : refused_by fault ≡ Err Write → BreaksOff old new (settled_utf8 policy f p bytes) (due_utf8 left.is_at_end policy f p (bytes ++ feeds.fed))
-    breaks e = BreaksOff-at refl due_is (feeds.broken_off (fed_is Write e))
+    breaks e = BreaksOff-at refl due_is (feeds.broken_off (ap Err (err_is e)))
 
     puts : ¬ (refused_by fault ≡ Err Write) → Puts old new (settled_utf8 policy f p bytes) (due_utf8 left.is_at_end policy f p (bytes ++ feeds.fed))
-    puts not = Puts-at refl due_is (feeds.written (other Write not))
+    puts not = Puts-at refl due_is (feeds.written (λ e. not (ap Err (err_is e))))
 
     pub Drives-refused : Drives most policy f p base bytes source left old new (Err fault)
     Drives-refused = record {
@@ -35,14 +25,14 @@ module _ (most : ℕ) (policy : Policy) (f : Form) (p : Properties) (base : ℕ)
       given = feeds.given;
       few = feeds.few;
       read_out = feeds.read_out;
-      too_long = (λ e. feeds.too_long.0 (fed_is TooLong e), λ over. let is = feeds.too_long.1 over in let same : fault ≡ TooLong = cc in ap Err same);
-      all_fed = λ short. feeds.all_fed (other TooLong short);
+      too_long = (λ e. feeds.too_long.0 (ap Err (err_is e)), λ over. ap Err (err_is (feeds.too_long.1 over)));
+      all_fed = λ short. feeds.all_fed (λ e. short (ap Err (err_is e)));
       write = failed_if (refused_by fault) breaks puts;
       broken_off = breaks;
       written = puts;
-      no_fault = ⊎_elim never (⊎_elim (λ e. feeds.no_fault (inl (fed_is Read e))) (λ e. feeds.no_fault (inr (fed_is TooLong e))));
-      finished = λ end. never end;
-      stopped = λ _ kept unread short. (refl, feeds.answer (other Write kept) (other Read unread) (other TooLong short));
+      no_fault = ⊎_elim (λ end. never end going) (⊎_elim (λ e. feeds.no_fault (inl (ap Err (err_is e)))) (λ e. feeds.no_fault (inr (ap Err (err_is e)))));
+      finished = λ end. never end going;
+      stopped = λ _ kept unread short. (refl, feeds.answer (λ e. kept (ap Err (err_is e))) (λ e. unread (ap Err (err_is e))) (λ e. short (ap Err (err_is e))));
     }
 
   -- all was fed, and the filter was finished
@@ -74,5 +64,5 @@ module _ (most : ℕ) (policy : Policy) (f : Form) (p : Properties) (base : ℕ)
       written = puts_at_end;
       no_fault = λ _. sym (feeds.answer (λ e. cc) (λ e. cc) (λ e. cc));
       finished = λ _ kept. finishes.answer kept;
-      stopped = λ before_end. let absent : true ≡ false = sym ended ∙ before_end in cc;
+      stopped = never ended;
     }

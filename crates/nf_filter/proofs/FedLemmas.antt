@@ -1,9 +1,9 @@
 -- A piece that was read: what it comes to by the bytes.
-use Rattle.nf_filter.proofs.Common.{◌≡◌, ℕ, suc, ◌+◌, ◌-◌, ◌<◌, ◌==◌, Bool, true, false, cond, MatchResult, List, [], ◌∷◌, ◌++◌, length, None, Ok, Err, refl, sym, ap, ◌∙◌, subst, arith, append_assoc, append-nil, eq-eqb, ne_eqb, OnOk, Result, if◌then◌else◌, encode_utf8_all, ⊎_elim, result_err, nat_tests, Properties, Form, text_of, ending_of, replacement, begun_at_end, replaced_whole, ReplacesParts, Fault, Write, Counted, Policy, Reading, Start, BlockState, Written, WritesTo, GivesAll, bad_byte, bad_under, fault_in, taken_utf8, IsLeft, HasReadTo, ReadsTo, RefusesBytes, settled_text, allowed, len_under, text_under, whole_under, is_usable, settled_utf8, SinkState, Feeds, Puts}
+use Rattle.nf_filter.proofs.Common.{◌≡◌, ℕ, suc, ◌+◌, ◌<◌, ◌==◌, Bool, true, false, cond, MatchResult, List, [], ◌∷◌, ◌++◌, length, None, Ok, Err, refl, sym, ap, ◌∙◌, subst, arith, append_assoc, append-nil, eq-eqb, ne_eqb, OnOk, Result, if◌then◌else◌, encode_utf8_all, ⊎_elim, result_err, nat_tests, Properties, Form, text_of, ending_of, replacement, begun_at_end, replaced_whole, ReplacesParts, Fault, Write, Counted, Policy, Reading, Start, BlockState, Written, WritesTo, GivesAll, bad_byte, bad_under, fault_in, taken_utf8, IsLeft, HasReadTo, ReadsTo, RefusesBytes, settled_text, allowed, len_under, text_under, whole_under, is_usable, settled_utf8, SinkState, Feeds}
 use Rattle.nf_filter.proofs.BlockLemmas.{start_at, Written-at, Broken-at}
-use Rattle.nf_filter.proofs.FilterLemmas.{failed_if, write_or_kept}
+use Rattle.nf_filter.proofs.FilterLemmas.{err_is, failed_if, write_or_kept}
 use Rattle.nf_filter.proofs.PolicyLemmas.{first_fault-none, taken-all}
-use Rattle.nf_filter.proofs.PieceLemmas.{IsLeft-more, left-text, left-place, left-bad, left-whole, text_under-begun, begun_at_end-begun, len_under-first}
+use Rattle.nf_filter.proofs.PieceLemmas.{place_in, IsLeft-more, left-text, left-place, left-bad, left-whole, text_under-begun, begun_at_end-begun, len_under-first}
 
 good_under : (r : Bool) (n : ℕ) (tail : List ℕ) → bad_byte n (ending_of tail) ≡ None → bad_under r n tail ≡ None
 good_under false n tail good = good
@@ -15,72 +15,75 @@ unfolding settled_utf8
 settled_utf8-taken policy f p bytes = refl
 
 module _ (policy : Policy) (f : Form) (p : Properties) (base : ℕ) (laws : ReplacesParts) (counted : Counted) (reading : Reading) (bytes : List ℕ) (read : HasReadTo policy f p counted base reading bytes []) where
-  abbrev pub text : List ℕ
-  text = read.before ++ text_of read.tail
-
   pub left_is : IsLeft policy.replace bytes read.before read.n read.tail
   left_is = subst (IsLeft policy.replace bytes read.before read.n) (append-nil read.tail) read.left
 
   -- the text that was read
-  pub read-text : text_under policy.replace bytes ≡ text
-  read-text = left-text policy.replace bytes read.before read.n read.tail left_is ∙ ap (λ l. read.before ++ l) (text_under-begun laws read.tail read.decoder.begins policy.replace)
+  pub read-text : text_under policy.replace bytes ≡ read.before ++ text_of read.tail
+  read-text = left-text _ _ _ _ _ left_is ∙ ap (λ l. read.before ++ l) (text_under-begun laws read.tail read.decoder.begins policy.replace)
 
-  pub read-settled : settled_text f p text ≡ settled_utf8 policy f p bytes
+  pub read-settled : settled_text f p (read.before ++ text_of read.tail) ≡ settled_utf8 policy f p bytes
   read-settled =
       let taken = read.taken in
-      ap (settled_text f p) (sym (taken-all p policy.assigned text taken.machine.usable read.allowed)) ∙ ap (taken_utf8 policy.assigned f p) (sym read-text) ∙ settled_utf8-taken policy f p bytes
+      ap (settled_text f p) (sym (taken-all p policy.assigned _ taken.machine.usable read.allowed)) ∙ ap (taken_utf8 policy.assigned f p) (sym read-text) ∙ settled_utf8-taken policy f p bytes
 
   pub read-no_fault : fault_in policy p base bytes ≡ None
   unfolding fault_in
   read-no_fault =
       let taken = read.taken in
-      first_fault-none p policy.assigned (λ front. base + len_under policy.replace bytes front) (text_under policy.replace bytes) (bad_under policy.replace base bytes) (subst (λ x. is_usable p x ≡ true) (sym read-text) taken.machine.usable)
+      first_fault-none p policy.assigned (place_in policy.replace base bytes) (text_under policy.replace bytes) (bad_under policy.replace base bytes) (subst (λ x. is_usable p x ≡ true) (sym read-text) taken.machine.usable)
       (ap (allowed policy.assigned p) read-text ∙ read.allowed ∙ sym read-text)
-      ∙ left-bad policy.replace bytes read.before read.n read.tail left_is base ∙ good_under policy.replace (base + read.n) read.tail (read.good (base + read.n))
+      ∙ left-bad _ _ _ _ _ left_is base ∙ good_under policy.replace (base + read.n) read.tail (read.good (base + read.n))
+
+module _ (laws : ReplacesParts) {policy : Policy} {f : Form} {p : Properties} {base : ℕ} {counted : Counted} {reading : Reading} {bytes : List ℕ} (read : HasReadTo policy f p counted base reading bytes []) where
+  abbrev text : List ℕ
+  text = read.before ++ text_of read.tail
+
+  left : IsLeft policy.replace bytes read.before read.n read.tail
+  left = left_is _ _ _ _ laws _ _ _ read
 
   -- a piece more is to be read
-  more : (piece : List ℕ) → HasReadTo policy f p counted base reading (bytes ++ piece) piece
-  more piece = record {
-    before = read.before;
-    n = read.n;
-    tail = read.tail;
-    left = IsLeft-more policy.replace bytes read.before read.n read.tail piece left_is;
-    decoder = read.decoder;
-    good = read.good;
-    offset = read.offset;
-    taken = read.taken;
-    allowed = read.allowed;
-  }
-
-  pub reads-more : (piece : List ℕ) (start : Start) (now : BlockState) → Written start now (settled_utf8 policy f p bytes) → ReadsTo policy f p counted start now base reading (bytes ++ piece) piece
-  unfolding more
-  reads-more piece start now written = (more piece, Written-at (sym read-settled) written)
+  pub reads-more : (piece : List ℕ) {start : Start} {now : BlockState} → Written start now (settled_utf8 policy f p bytes) → ReadsTo policy f p counted start now base reading (bytes ++ piece) piece
+  reads-more piece written = (
+    record {
+      before = read.before;
+      n = read.n;
+      tail = read.tail;
+      left = IsLeft-more _ _ _ _ _ piece left;
+      decoder = read.decoder;
+      good = read.good;
+      offset = read.offset;
+      taken = read.taken;
+      allowed = read.allowed;
+    },
+    Written-at (sym (read-settled _ _ _ _ laws _ _ _ read)) written,
+  )
 
   -- where the bytes of a begun character begin
   pub read-place : base + len_under policy.replace bytes text ≡ base + read.n + length (encode_utf8_all (text_of read.tail))
   read-place = omega (
     arith,
-    left-place policy.replace bytes read.before read.n read.tail left_is (text_of read.tail),
+    left-place _ _ _ _ _ left (text_of read.tail),
     len_under-first laws policy.replace read.tail (text_of read.tail) [] (sym (append-nil (text_of read.tail))),
   )
 
   -- the text where nothing follows
-  module _ (replaces : policy.replace ≡ true) where
-    whole_begun : (r : Bool) → r ≡ true → whole_under r read.tail ≡ text_of read.tail ++ (if length read.tail - length (encode_utf8_all (text_of read.tail)) == 0 then [] else replacement ∷ [])
+  module _ (replaces : policy.replace ≡ true) (carried : ℕ) (is_carried : length (encode_utf8_all (text_of read.tail)) + carried ≡ length read.tail) where
+    whole_begun : (r : Bool) → r ≡ true → whole_under r read.tail ≡ text_of read.tail ++ (if carried == 0 then [] else replacement ∷ [])
     unfolding replaced_whole
     whole_begun true e =
         ap (λ l. l ++ (if begun_at_end read.tail == 0 then [] else replacement ∷ [])) (text_under-begun laws read.tail read.decoder.begins true)
-        ∙ ap (λ n. text_of read.tail ++ (if n == 0 then [] else replacement ∷ [])) (begun_at_end-begun laws read.tail read.decoder.begins)
+        ∙ ap (λ n. text_of read.tail ++ (if n == 0 then [] else replacement ∷ [])) (omega (arith, begun_at_end-begun laws read.tail read.decoder.begins, is_carried))
     whole_begun false e = cc
 
-    whole_is : whole_under policy.replace bytes ≡ text ++ (if length read.tail - length (encode_utf8_all (text_of read.tail)) == 0 then [] else replacement ∷ [])
-    whole_is = left-whole policy.replace bytes read.before read.n read.tail left_is ∙ ap (λ l. read.before ++ l) (whole_begun policy.replace replaces) ∙ sym (append_assoc read.before (text_of read.tail) (if length read.tail - length (encode_utf8_all (text_of read.tail)) == 0 then [] else replacement ∷ []))
+    whole_is : whole_under policy.replace bytes ≡ text ++ (if carried == 0 then [] else replacement ∷ [])
+    whole_is = left-whole _ _ _ _ _ left ∙ ap (λ l. read.before ++ l) (whole_begun policy.replace replaces) ∙ sym (append_assoc read.before (text_of read.tail) (if carried == 0 then [] else replacement ∷ []))
 
-    pub whole-none : (carried : ℕ) → length (encode_utf8_all (text_of read.tail)) + carried ≡ length read.tail → carried ≡ 0 → whole_under policy.replace bytes ≡ text
-    whole-none carried is none = whole_is ∙ ap (λ (b : Bool). text ++ (if b then [] else replacement ∷ [])) (eq-eqb (length read.tail - length (encode_utf8_all (text_of read.tail))) 0 (omega (arith, is, none))) ∙ append-nil text
+    pub whole-none : carried ≡ 0 → whole_under policy.replace bytes ≡ text
+    whole-none none = whole_is ∙ ap (λ (b : Bool). text ++ (if b then [] else replacement ∷ [])) (eq-eqb carried 0 none) ∙ append-nil text
 
-    pub whole-some : (carried : ℕ) → length (encode_utf8_all (text_of read.tail)) + carried ≡ length read.tail → ¬ (carried ≡ 0) → whole_under policy.replace bytes ≡ text ++ replacement ∷ []
-    whole-some carried is some = whole_is ∙ ap (λ (b : Bool). text ++ (if b then [] else replacement ∷ [])) (ne_eqb (length read.tail - length (encode_utf8_all (text_of read.tail))) 0 (λ e. some (omega (arith, is, e))))
+    pub whole-some : ¬ (carried ≡ 0) → whole_under policy.replace bytes ≡ text ++ replacement ∷ []
+    whole-some some = whole_is ∙ ap (λ (b : Bool). text ++ (if b then [] else replacement ∷ [])) (ne_eqb carried 0 some)
 
 -- how much is left of a piece, with the bytes that the decoder holds: nothing where all was read
 abbrev pub left_of : ℕ → ℕ → ℕ
@@ -97,50 +100,36 @@ left_of-less rest held left next some less = by (left == 0) refl
     by false e = let more : ¬ (left ≡ 0) = grind (arith, nat_tests) in omega (arith, all, less (omega (arith, more)))
 
 -- all of a piece was read, or it was refused
-module _ (policy : Policy) (f : Form) (p : Properties) (base : ℕ) (laws : ReplacesParts) (counted : Counted) (start : Start) (now : BlockState) (reading : Reading) (bytes : List ℕ) where
-  abbrev pub ReadsAll : Result (Unit {0}) Fault → Type 0
-  ReadsAll r = MatchResult r (λ _. ReadsTo policy f p counted start now base reading bytes []) (RefusesBytes policy f p start now base bytes)
-
-  pub rest-is : (r : Result (Unit {0}) Fault) → ReadsAll r → WritesTo start now (settled_utf8 policy f p bytes) r × (¬ (r ≡ Err Write) → result_err r ≡ fault_in policy p base bytes)
-      × OnOk r (HasReadTo policy f p counted base reading bytes [])
-  rest-is (Ok u) reads = (
-    record { broken = λ e. cc; written = λ _. Written-at (read-settled policy f p base laws counted reading bytes reads.0) reads.1 },
-    λ _. sym (read-no_fault policy f p base laws counted reading bytes reads.0),
+module _ (laws : ReplacesParts) (policy : Policy) (f : Form) (p : Properties) (base : ℕ) (counted : Counted) (now : BlockState) (reading : Reading) where
+  rest-is : (start : Start) (bytes : List ℕ) (r : Result (Unit {0}) Fault) → MatchResult r (λ _. ReadsTo policy f p counted start now base reading bytes []) (RefusesBytes policy f p start now base bytes)
+      → WritesTo start now (settled_utf8 policy f p bytes) r × (¬ (r ≡ Err Write) → result_err r ≡ fault_in policy p base bytes) × OnOk r (HasReadTo policy f p counted base reading bytes [])
+  rest-is start bytes (Ok u) reads = (
+    record { broken = λ e. cc; written = λ _. Written-at (read-settled _ _ _ _ laws _ _ _ reads.0) reads.1 },
+    λ _. sym (read-no_fault _ _ _ _ laws _ _ _ reads.0),
     reads.0,
   )
-  rest-is (Err fault) reads = (
+  rest-is start bytes (Err fault) reads = (
     record {
-      broken = λ e. Broken-at start (settled_utf8-taken policy f p bytes) (reads.broken (let same : fault ≡ Write = cc in same));
+      broken = λ e. Broken-at start (settled_utf8-taken policy f p bytes) (reads.broken (err_is e));
       written = λ not. Written-at (settled_utf8-taken policy f p bytes) (reads.written (λ e. not (ap Err e)));
     },
     λ not. reads.is (λ e. not (ap Err e)),
     tt,
   )
 
--- a piece was fed
-module _ (policy : Policy) (f : Form) (p : Properties) (base : ℕ) (laws : ReplacesParts) (sink new : SinkState) (bytes piece : List ℕ) (counted : Counted) (now : BlockState) (reading : Reading) (r : Result (Unit {0}) Fault)
-    (reads : ReadsAll policy f p base laws counted (start_at sink (settled_utf8 policy f p bytes)) now reading (bytes ++ piece) r) where
-  abbrev start : Start
-  start = start_at sink (settled_utf8 policy f p bytes)
-
-  abbrev settled : List ℕ
-  settled = settled_utf8 policy f p (bytes ++ piece)
-
-  pub fed-writes : WritesTo start now settled r
-  fed-writes = (rest-is policy f p base laws counted start now reading (bytes ++ piece) r reads).0
-
-  -- the sink failed, or all was given
-  pub fed-closed : (result : Result (Unit {0}) Fault) → GivesAll start new settled r result
+  -- a piece was fed: the sink failed, or all was given
+  pub fed-closed : (sink : SinkState) {new : SinkState} (bytes piece : List ℕ) (r result : Result (Unit {0}) Fault)
+      → MatchResult r (λ _. ReadsTo policy f p counted (start_at sink (settled_utf8 policy f p bytes)) now base reading (bytes ++ piece) []) (RefusesBytes policy f p (start_at sink (settled_utf8 policy f p bytes)) now base (bytes ++ piece))
+      → ((w : List ℕ) → WritesTo (start_at sink (settled_utf8 policy f p bytes)) now w r → GivesAll (start_at sink (settled_utf8 policy f p bytes)) new w r result)
       → Feeds policy f p base bytes piece sink new result × OnOk result (HasReadTo policy f p counted base reading (bytes ++ piece) [])
-  fed-closed result closed = (
-    record {
-      write = failed_if result closed.broken puts;
-      broken_off = closed.broken;
-      written = puts;
-      answer = λ not. rw (closed.given not).1 ((rest-is policy f p base laws counted start now reading (bytes ++ piece) r reads).1 (λ e. not ((closed.given not).1 ∙ e)));
-    },
-    ⊎_elim (λ e. rw e tt) (λ not. rw (closed.given not).1 (rest-is policy f p base laws counted start now reading (bytes ++ piece) r reads).2) (write_or_kept result),
-  )
-    where
-      puts : ¬ (result ≡ Err Write) → Puts sink new (settled_utf8 policy f p bytes) settled
-      puts not = (closed.given not).0
+  fed-closed sink bytes piece r result reads close =
+      let rest = rest-is (start_at sink (settled_utf8 policy f p bytes)) (bytes ++ piece) r reads in
+      let closed = close (settled_utf8 policy f p (bytes ++ piece)) rest.0 in (
+        record {
+          write = failed_if result closed.broken (λ not. (closed.given not).0);
+          broken_off = closed.broken;
+          written = λ not. (closed.given not).0;
+          answer = λ not. rw (closed.given not).1 (rest.1 (λ e. not ((closed.given not).1 ∙ e)));
+        },
+        ⊎_elim (λ e. rw e tt) (λ not. rw (closed.given not).1 rest.2) (write_or_kept result),
+      )

@@ -1,7 +1,7 @@
 -- What feeding all that a source gives comes to, by where it stopped.
-use Rattle.nf_filter.proofs.Common.{◌≡◌, ℕ, ◌+◌, ◌<◌, ◌≤◌, ◌^◌, ◌↔◌, true, false, List, [], ◌++◌, length, None, Ok, Err, ⊎_elim, refl, sym, ap, ◌∙◌, subst, arith, append_assoc, append-nil, IsTrue, IsFalse, Result, length-append, OnOk, Consumes, IsAtEnd, cases_lt, Properties, Form, Fault, Policy, TooLong, Read, Write, State, SinkState, SourceState, Puts, settled_utf8, fault_in, base_of, offset_of, is_spent, StandsAfter, Feeds, FeedsAll, result_err}
+use Rattle.nf_filter.proofs.Common.{◌≡◌, ℕ, ◌+◌, ◌<◌, ◌≤◌, ◌^◌, ◌↔◌, false, List, [], ◌++◌, length, None, Ok, Err, ⊎_elim, refl, sym, ap, ◌∙◌, subst, arith, append_assoc, append-nil, IsTrue, IsFalse, Result, length-append, OnOk, Consumes, IsAtEnd, cases_lt, Properties, Form, Fault, Policy, TooLong, Read, Write, State, SinkState, SourceState, Puts, settled_utf8, fault_in, base_of, offset_of, is_spent, StandsAfter, Feeds, FeedsAll, result_err}
 use Rattle.nf_filter.proofs.WritesLemmas.{Puts-none, Puts-join, Puts-at, BreaksOff-join}
-use Rattle.nf_filter.proofs.FilterLemmas.{StandsAfter-no_fault, StandsAfter-offset, StandsAfter-fits}
+use Rattle.nf_filter.proofs.FilterLemmas.{StandsAfter-offset, StandsAfter-fits, never}
 
 abbrev pub fed_by : Fault → Result (Unit {0}) Fault
 fed_by fault = Err fault
@@ -17,7 +17,7 @@ pub HasFed-none : (policy : Policy) (f : Form) (p : Properties) (state : State) 
 HasFed-none policy f p state bytes sink stands = record {
   base_is = refl;
   stands = subst (StandsAfter policy f p state) same stands;
-  no_fault = ap (fault_in policy p (base_of state)) (append-nil bytes) ∙ StandsAfter-no_fault stands;
+  no_fault = ap (fault_in policy p (base_of state)) (append-nil bytes) ∙ stands.no_fault;
   put = Puts-at refl (ap (settled_utf8 policy f p) same) (Puts-none sink (settled_utf8 policy f p bytes));
 }
   where
@@ -66,7 +66,7 @@ module _ (policy : Policy) (f : Form) (p : Properties) (base : ℕ) (state : Sta
 
     -- the source failed
     pub FeedsAll-failed : left.is_at_end ≡ false → Consumes source.coming left.coming fed → FeedsAll most policy f p base bytes source left old mid state (Err Read)
-    FeedsAll-failed before_end consumed = fed_no_more (Err Read) (λ e. cc) (λ e. cc) (λ unread. absurd (unread refl)) consumed (λ end. let absent : true ≡ false = sym end ∙ before_end in cc) tt
+    FeedsAll-failed before_end consumed = fed_no_more (Err Read) (λ e. cc) (λ e. cc) (λ unread. absurd (unread refl)) consumed (λ end. never end before_end) tt
 
     -- it ended
     pub FeedsAll-ended : Consumes source.coming left.coming fed → IsAtEnd left.coming → FeedsAll most policy f p base bytes source left old mid state (Ok tt)
@@ -76,9 +76,6 @@ module _ (policy : Policy) (f : Form) (p : Properties) (base : ℕ) (state : Sta
     module _ (after : State) (piece : List ℕ) (new : SinkState) (fault : Fault) (before_end : left.is_at_end ≡ false) (consumed : Consumes source.coming left.coming (fed ++ piece)) (few : length piece ≤ most)
         (not_read : ¬ (fed_by fault ≡ Err Read)) (too_long : (fed_by fault ≡ Err TooLong) ↔ (IsFalse (is_spent state) × (18446744073709551615 < offset_of state + length piece)))
         (kept : fed_by fault ≡ Err TooLong → new ≡ mid) (feeds : ¬ (fed_by fault ≡ Err TooLong) → Feeds policy f p base (bytes ++ fed) piece mid new (Err fault)) where
-      never : {A : Type 0} → IsTrue left.is_at_end → A
-      never end = let absent : true ≡ false = sym end ∙ before_end in cc
-
       too_long_is : (fed_by fault ≡ Err TooLong) ↔ (2 ^ 64 ≤ base + length bytes + length fed + length piece)
       too_long_is = (λ e. let over = (too_long.0 e).1 in omega (arith, over, here), λ over. too_long.1 (so_far.stands.unspent, omega (arith, over, here)))
 
@@ -92,7 +89,7 @@ module _ (policy : Policy) (f : Form) (p : Properties) (base : ℕ) (state : Sta
         last = piece;
         given = consumed;
         few = few;
-        read_out = never;
+        read_out = λ end. never end before_end;
         too_long = too_long_is;
         all_fed = λ short. absurd (short is);
         broken_off = λ e. let both : fed_by TooLong ≡ Err Write = sym is ∙ e in cc;
@@ -112,7 +109,7 @@ module _ (policy : Policy) (f : Form) (p : Properties) (base : ℕ) (state : Sta
         last = [];
         given = subst (Consumes source.coming left.coming) (sym (append-nil (fed ++ piece))) consumed;
         few = omega arith;
-        read_out = never;
+        read_out = λ end. never end before_end;
         too_long = (λ e. absurd (short e), λ over. absurd (omega (arith, over, less, length-append fed piece)));
         all_fed = λ _. refl;
         broken_off = λ e. BreaksOff-join so_far.put (rw (← whole) ((feeds short).broken_off e));

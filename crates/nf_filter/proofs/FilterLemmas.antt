@@ -11,6 +11,14 @@ module _ {old new : SinkState} {before after : List ℕ} where
   failed_with_more : BreaksOff old new before after → IsTrue new.is_failed × (length before < length after)
   failed_with_more stops = (stops.failed, omega (arith, ap length stops.behind, length-append (before ++ stops.out) stops.rest, length-append before stops.out, stops.more))
 
+-- a source is at its end, or before it
+pub never : {A : Type 0} {at_end : Bool} → at_end ≡ true → at_end ≡ false → A
+never end before_end = let absent : true ≡ false = sym end ∙ before_end in cc
+
+-- the fault that a call told
+pub err_is : {T : Type 0} {fault k : Fault} → (let r : Result T Fault = Err fault in r ≡ Err k) → fault ≡ k
+err_is e = cc
+
 -- the sink failed, or something else
 pub write_or_not : (fault : Fault) → (fault ≡ Write) ⊎ (¬ (fault ≡ Write))
 write_or_not Write = inl refl

@@ -1,10 +1,9 @@
 -- What finishing answers.
-use Rattle.nf_filter.proofs.Common.{◌≡◌, ℕ, ◌+◌, ◌<◌, Bool, true, false, List, [], ◌∷◌, ◌++◌, length, None, Ok, Err, ⊎_elim, refl, sym, ap, ◌∙◌, subst, arith, append-nil, eq-eqb, zero, suc, Option, Result, if◌then◌else◌, encode_utf8_all, length-append, cases_Bool, false_from_ne_true, and_from, Properties, Form, safe_form, Ending, Cut, text_of, ending_of, replacement, ReplacesParts, Fault, Write, Counted, Policy, Reading, Tally, SinkState, Puts, BreaksOff, allowed, len_under, text_under, whole_under, settled, is_usable, usable, settled_utf8, answer_at_end, first_fault, taken_utf8, HasReadTo, ReplacesCut, HasTaken, settled_text, tally_of, answer_or, end_under, end_of, whole_or, is_taken, final_under, final_utf8, Closes, Finishes, Extends-encodes, usable-all, usable-stop, nil_from_length}
-use Rattle.nf_filter.proofs.WritesLemmas.{Puts-none, Puts-join, Puts-at, BreaksOff-join, BreaksOff-at}
-use Rattle.nf_filter.proofs.BlockLemmas.{BreaksOff-extends}
-use Rattle.nf_filter.proofs.FilterLemmas.{failed_if}
+use Rattle.nf_filter.proofs.Common.{◌≡◌, ℕ, ◌+◌, ◌<◌, Bool, true, false, List, [], ◌∷◌, ◌++◌, length, None, Ok, Err, ⊎_elim, refl, sym, ap, ◌∙◌, subst, arith, append-nil, eq-eqb, zero, suc, Option, Result, if◌then◌else◌, encode_utf8_all, length-append, cases_Bool, false_from_ne_true, and_from, Properties, Form, safe_form, Ending, Cut, text_of, ending_of, replacement, ReplacesParts, Fault, Write, Counted, Policy, Reading, Tally, SinkState, Puts, BreaksOff, allowed, whole_under, settled, is_usable, usable, settled_utf8, answer_at_end, first_fault, taken_utf8, HasReadTo, ReplacesCut, HasTaken, settled_text, tally_of, answer_or, end_of, whole_or, is_taken, final_utf8, Closes, Finishes, Extends-encodes, usable-all, usable-stop, nil_from_length}
+use Rattle.nf_filter.proofs.WritesLemmas.{Puts-none, Puts-join, Puts-at, BreaksOff-join, BreaksOff-extends, BreaksOff-at}
+use Rattle.nf_filter.proofs.FilterLemmas.{err_is, failed_if}
 use Rattle.nf_filter.proofs.PolicyLemmas.{allowed-append, allowed-grows, taken-all, taken_whole, first_fault-none, taken}
-use Rattle.nf_filter.proofs.PieceLemmas.{left-end}
+use Rattle.nf_filter.proofs.PieceLemmas.{place_in, left-end}
 use Rattle.nf_filter.proofs.ReadingLemmas.{end_is as end_valued}
 use Rattle.nf_filter.proofs.FedLemmas.{read-text, read-settled, whole-none, whole-some, left_is}
 use Rattle.nf_filter.proofs.WholeLemmas.{settled-whole}
@@ -17,23 +16,11 @@ cut_short : (base : ℕ) (ending : Ending) (fault : Fault) (settled whole : List
 cut_short base (Cut at start) fault settled whole e = refl
 cut_short base _ fault settled whole e = cc
 
--- the answer at the end, where ill-formed bytes are replaced or not
-strict_is : (r a : Bool) (p : Properties) (base : ℕ) (bytes settled whole : List ℕ) → r ≡ false → (end_under r a p base bytes ≡ answer_at_end base (tally_of r p bytes) (ending_of bytes))
-    × (final_under r a p bytes settled whole ≡ whole_or (ending_of bytes) settled whole) × (whole_under r bytes ≡ text_under r bytes)
-strict_is false a p base bytes settled whole e = (refl, refl, refl)
-strict_is true a p base bytes settled whole e = cc
-
-replaced_is : (r a : Bool) (p : Properties) (base : ℕ) (bytes settled whole : List ℕ) → r ≡ true
-    → (end_under r a p base bytes ≡ answer_or (first_fault a p (λ front. base + len_under r bytes front) (whole_under r bytes) None) (tally_of r p bytes))
-    × (final_under r a p bytes settled whole ≡ (if is_taken a p (whole_under r bytes) then whole else settled))
-replaced_is true a p base bytes settled whole e = (refl, refl)
-replaced_is false a p base bytes settled whole e = cc
-
 -- by what was written
-Finishes-of : (policy : Policy) (f : Form) (p : Properties) (base : ℕ) (bytes : List ℕ) (old new : SinkState) (r : Result Tally Fault)
+Finishes-of : {policy : Policy} {f : Form} {p : Properties} {base : ℕ} {bytes : List ℕ} {old new : SinkState} (r : Result Tally Fault)
     → (r ≡ Err Write → BreaksOff old new (settled_utf8 policy f p bytes) (final_utf8 policy f p bytes))
     → (¬ (r ≡ Err Write) → Puts old new (settled_utf8 policy f p bytes) (final_utf8 policy f p bytes) × (r ≡ end_of policy p base bytes)) → Finishes policy f p base bytes old new r
-Finishes-of policy f p base bytes old new r breaks puts = record { write = failed_if r breaks (λ not. (puts not).0); broken_off = breaks; written = λ not. (puts not).0; answer = λ not. (puts not).1 }
+Finishes-of r breaks puts = record { write = failed_if r breaks (λ not. (puts not).0); broken_off = breaks; written = λ not. (puts not).0; answer = λ not. (puts not).1 }
 
 module _ (p : Properties) where
   -- behind a text that is taken, a character that is not
@@ -53,35 +40,33 @@ module _ (p : Properties) where
           let none = nil_from_length (allowed a p (c ∷ [])) (omega (arith, short.0, ap length more, length-append x (allowed a p (c ∷ [])), length-append x (c ∷ []))) in
           ap (usable p) (more ∙ ap (λ l. x ++ l) none ∙ append-nil x) ∙ usable-all p x sound
 
-module _ (policy : Policy) (f : Form) (p : Properties) (base : ℕ) (laws : ReplacesParts) (counted : Counted) (reading : Reading) (bytes : List ℕ) (read : HasReadTo policy f p counted base reading bytes []) where
+module _ (laws : ReplacesParts) {policy : Policy} {f : Form} {p : Properties} {base : ℕ} {counted : Counted} {reading : Reading} {bytes : List ℕ} (read : HasReadTo policy f p counted base reading bytes []) where
   abbrev final : List ℕ
   final = encode_utf8_all (safe_form f p (whole_under policy.replace bytes))
 
   -- nothing is replaced
   module _ (strict : policy.replace ≡ false) (sink : SinkState) where
     end_is : answer_at_end base (tt {0}) (ending_of bytes) ≡ answer_at_end (base + read.n) (tt {0}) (ending_of read.tail)
-    end_is = left-end policy.replace bytes read.before read.n read.tail (left_is policy f p base laws counted reading bytes read) strict base
+    end_is = left-end _ _ _ _ _ (left_is _ _ _ _ laws _ _ _ read) strict base
 
     whole_is : whole_under policy.replace bytes ≡ read.before ++ text_of read.tail
-    whole_is = (strict_is policy.replace policy.assigned p base bytes [] [] strict).2 ∙ read-text policy f p base laws counted reading bytes read
+    whole_is = rw strict (rw strict at (read-text _ _ _ _ laws _ _ _ read))
 
     pub close-strict : (r : Result (Unit {0}) Fault) → r ≡ answer_at_end (base + read.n) (tt {0}) (ending_of read.tail) → ((fault : Fault) → r ≡ Err fault → ¬ (fault ≡ Write)) → Closes policy f p counted base bytes sink sink r
     unfolding end_of final_utf8
     close-strict (Ok u) is other =
-        let told : Ok (tt {0}) ≡ answer_at_end base (tt {0}) (ending_of bytes) = is ∙ sym end_is in
-        let strict = strict_is policy.replace policy.assigned p base bytes (settled_utf8 policy f p bytes) final strict in (
+        let told : Ok (tt {0}) ≡ answer_at_end base (tt {0}) (ending_of bytes) = is ∙ sym end_is in (
           subst (HasTaken f p counted) (sym whole_is) read.taken,
-          Puts-at refl (sym (read-settled policy f p base laws counted reading bytes read) ∙ ap (settled_text f p) (sym whole_is)) (Puts-none sink (settled_utf8 policy f p bytes)),
-          strict.0 ∙ sym (end_valued base (tally_of policy.replace p bytes) (ending_of bytes) (Ok tt) told),
-          strict.1 ∙ answered base (tt {0}) (tt {0}) (ending_of bytes) (sym told) _ _,
+          Puts-at refl (sym (read-settled _ _ _ _ laws _ _ _ read) ∙ ap (settled_text f p) (sym whole_is)) (Puts-none sink (settled_utf8 policy f p bytes)),
+          rw strict (sym (end_valued base _ (ending_of bytes) (Ok tt) told)),
+          rw strict (answered base (tt {0}) (tt {0}) (ending_of bytes) (sym told) _ _),
         )
     close-strict (Err fault) is other =
         let told : Err fault ≡ answer_at_end base (tt {0}) (ending_of bytes) = is ∙ sym end_is in
-        let strict = strict_is policy.replace policy.assigned p base bytes (settled_utf8 policy f p bytes) final strict in
-        Finishes-of policy f p base bytes sink sink (Err fault) (λ e. absurd (other fault refl (let same : fault ≡ Write = cc in same)))
+        Finishes-of (Err fault) (λ e. absurd (other fault refl (err_is e)))
         (λ _. (
-          Puts-at refl (sym (strict.1 ∙ cut_short base (ending_of bytes) fault (settled_utf8 policy f p bytes) final told)) (Puts-none sink (settled_utf8 policy f p bytes)),
-          sym (strict.0 ∙ sym (end_valued base (tally_of policy.replace p bytes) (ending_of bytes) (Err fault) told)),
+          Puts-at refl (rw strict (sym (cut_short base (ending_of bytes) fault _ _ told))) (Puts-none sink (settled_utf8 policy f p bytes)),
+          rw strict (end_valued base _ (ending_of bytes) (Err fault) told),
         ))
 
   -- what the end cuts is replaced
@@ -95,25 +80,24 @@ module _ (policy : Policy) (f : Form) (p : Properties) (base : ℕ) (laws : Repl
 
         next : (n : ℕ) → length (encode_utf8_all (text_of read.tail)) + n ≡ length read.tail → taken_utf8 policy.assigned f p (whole_under policy.replace bytes) ≡ settled_utf8 policy f p bytes
         next zero is =
-            ap (taken_utf8 policy.assigned f p) (whole-none policy f p base laws counted reading bytes read replaces zero is refl)
-            ∙ ap (settled_text f p) (taken-all p policy.assigned (read.before ++ text_of read.tail) taken.machine.usable read.allowed) ∙ read-settled policy f p base laws counted reading bytes read
+            ap (taken_utf8 policy.assigned f p) (whole-none laws read replaces zero is refl)
+            ∙ ap (settled_text f p) (taken-all p policy.assigned (read.before ++ text_of read.tail) taken.machine.usable read.allowed) ∙ read-settled _ _ _ _ laws _ _ _ read
         next (suc n) is =
-            let some : whole_under policy.replace bytes ≡ (read.before ++ text_of read.tail) ++ replacement ∷ [] = whole-some policy f p base laws counted reading bytes read replaces (suc n) is (λ e. omega (arith, e)) in
+            let some : whole_under policy.replace bytes ≡ (read.before ++ text_of read.tail) ++ replacement ∷ [] = whole-some laws read replaces (suc n) is (λ e. omega (arith, e)) in
             ap (taken_utf8 policy.assigned f p) some
             ∙ ap (settled_text f p) (kept_before p policy.assigned (read.before ++ text_of read.tail) replacement taken.machine.usable read.allowed (ap (is_taken policy.assigned p) (sym some) ∙ out))
-            ∙ read-settled policy f p base laws counted reading bytes read
+            ∙ read-settled _ _ _ _ laws _ _ _ read
 
     final_is : (b : Bool) → is_taken policy.assigned p (whole_under policy.replace bytes) ≡ b → final_utf8 policy f p bytes ≡ (if b then final else settled_utf8 policy f p bytes)
     unfolding final_utf8
-    final_is b taken = (replaced_is policy.replace policy.assigned p base bytes (settled_utf8 policy f p bytes) final replaces).1
-        ∙ ap (λ (b : Bool). if b then final else settled_utf8 policy f p bytes) taken
+    final_is b taken = rw (← taken, replaces) refl
 
-    end_at : end_of policy p base bytes ≡ answer_or (first_fault policy.assigned p (λ front. base + len_under policy.replace bytes front) (whole_under policy.replace bytes) None) (tally_of policy.replace p bytes)
+    end_at : end_of policy p base bytes ≡ answer_or (first_fault policy.assigned p (place_in policy.replace base bytes) (whole_under policy.replace bytes) None) (tally_of policy.replace p bytes)
     unfolding end_of
-    end_at = (replaced_is policy.replace policy.assigned p base bytes [] [] replaces).0
+    end_at = rw replaces refl
 
-    pub close-replaced : (after : Counted) (old new : SinkState) (r : Result (Unit {0}) Fault) → ReplacesCut policy f p after base bytes old new r → Closes policy f p after base bytes old new r
-    close-replaced after old new (Ok u) cut =
+    pub close-replaced : {after : Counted} {old new : SinkState} (r : Result (Unit {0}) Fault) → ReplacesCut policy f p after base bytes old new r → Closes policy f p after base bytes old new r
+    close-replaced (Ok u) cut =
         let none = sym (cut.fault (λ e. cc)) in
         let machine = cut.taken.0.machine in (
           cut.taken.0,
@@ -121,11 +105,11 @@ module _ (policy : Policy) (f : Form) (p : Properties) (base : ℕ) (laws : Repl
           end_at ∙ ap (λ (o : Option Fault). answer_or o (tally_of policy.replace p bytes)) none,
           final_is true (taken p policy.assigned _ (whole_under policy.replace bytes) None none),
         )
-    close-replaced after old new (Err fault) cut = Finishes-of policy f p base bytes old new (Err fault) breaks puts
+    close-replaced {after} {old} {new} (Err fault) cut = Finishes-of (Err fault) breaks puts
       where
         breaks : refused_by fault ≡ Err Write → BreaksOff old new (settled_utf8 policy f p bytes) (final_utf8 policy f p bytes)
         breaks e =
-            let broken = cut.broken (let same : fault ≡ Write = cc in ap Err same) in
+            let broken = cut.broken (ap Err (err_is e)) in
             ⊎_elim
             (λ all.
             let both = taken_whole p policy.assigned (whole_under policy.replace bytes) all in
@@ -136,7 +120,7 @@ module _ (policy : Policy) (f : Form) (p : Properties) (base : ℕ) (laws : Repl
 
         puts : ¬ (refused_by fault ≡ Err Write) → Puts old new (settled_utf8 policy f p bytes) (final_utf8 policy f p bytes) × (refused_by fault ≡ end_of policy p base bytes)
         puts not =
-            let other : ¬ (fed_by fault ≡ Err Write) = λ e. not (let same : fault ≡ Write = cc in ap Err same) in
+            let other : ¬ (fed_by fault ≡ Err Write) = λ e. not (ap Err (err_is e)) in
             let told = cut.fault other in
             let out : is_taken policy.assigned p (whole_under policy.replace bytes) ≡ false = false_from_ne_true _ (λ all.
             let both = taken_whole p policy.assigned (whole_under policy.replace bytes) all in
@@ -144,10 +128,10 @@ module _ (policy : Policy) (f : Form) (p : Properties) (base : ℕ) (laws : Repl
             (Puts-at refl (kept out ∙ sym (final_is false out)) (cut.puts other), sym (end_at ∙ ap (λ (o : Option Fault). answer_or o (tally_of policy.replace p bytes)) (sym told)))
 
 -- the rest of the form, behind what came before
-module _ (policy : Policy) (f : Form) (p : Properties) (base : ℕ) (bytes : List ℕ) (after : Counted) (old mid new : SinkState) (closes : Closes policy f p after base bytes old mid (Ok tt)) where
+module _ {policy : Policy} {f : Form} {p : Properties} {base : ℕ} {bytes : List ℕ} {after : Counted} {old mid new : SinkState} (closes : Closes policy f p after base bytes old mid (Ok tt)) where
   pub Finishes-whole : (tally : Tally) → tally ≡ tally_of policy.replace p bytes → Puts mid new (settled_text f p (whole_under policy.replace bytes)) (encode_utf8_all (safe_form f p (whole_under policy.replace bytes)))
       → Finishes policy f p base bytes old new (Ok tally)
-  Finishes-whole tally same given = Finishes-of policy f p base bytes old new (Ok tally) (λ e. cc) (λ _. (Puts-at refl (sym closes.3) (Puts-join closes.1 given), sym (closes.2 ∙ ap Ok (sym same))))
+  Finishes-whole tally same given = Finishes-of (Ok tally) (λ e. cc) (λ _. (Puts-at refl (sym closes.3) (Puts-join closes.1 given), sym (closes.2 ∙ ap Ok (sym same))))
 
   pub Finishes-broken : BreaksOff mid new (settled_text f p (whole_under policy.replace bytes)) (encode_utf8_all (safe_form f p (whole_under policy.replace bytes))) → Finishes policy f p base bytes old new (Err Write)
-  Finishes-broken given = Finishes-of policy f p base bytes old new (Err Write) (λ _. BreaksOff-at refl (sym closes.3) (BreaksOff-join closes.1 given)) (λ no. absurd (no refl))
+  Finishes-broken given = Finishes-of (Err Write) (λ _. BreaksOff-at refl (sym closes.3) (BreaksOff-join closes.1 given)) (λ no. absurd (no refl))

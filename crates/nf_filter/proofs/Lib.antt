@@ -1,11 +1,9 @@
 pub mod Common
 pub mod WritesLemmas
 pub mod BlockLemmas
-pub mod CharsLemmas
 pub mod PolicyLemmas
 pub mod PassedLemmas
 pub mod TextLemmas
-pub mod CalmLemmas
 pub mod TakingLemmas
 pub mod TakerLemmas
 pub mod SteppingLemmas

@@ -1,5 +1,5 @@
 -- What a measurement decides, character by character.
-use Rattle.nf_filter.proofs.Common.{◌≡◌, ℕ, ◌+◌, Bool, true, false, not, ◌&&◌, ◌||◌, List, [], ◌∷◌, ◌++◌, length, Some, None, refl, sym, ap, ◌∙◌, if◌then◌else◌, option_map, encode_utf8_all, Properties, joiner, is_too_long, stream_safe, is_sound, IsSoundText, refusal, unsound_at, Row, is_usable, unusable_at, utf8_place, is_usable-push}
+use Rattle.nf_filter.proofs.Common.{◌≡◌, ℕ, ◌+◌, Bool, true, false, not, ◌&&◌, ◌||◌, List, [], ◌∷◌, ◌++◌, length, Some, None, sym, ap, ◌∙◌, arith, if◌then◌else◌, option_map, encode_utf8_all, Properties, joiner, is_too_long, stream_safe, is_sound, IsSoundText, refusal, unsound_at, Row, is_usable, unusable_at, utf8_place, is_usable-push}
 use Rattle.nf_row.specs.declared.unsound.Unsound.{Unsound}
 use Rattle.nf_filter.proofs.TextLemmas.{unusable_at-stop}
 
@@ -15,14 +15,8 @@ module _ (p : Properties) where
       is_usable-push p x c ∙ next (is_usable p x) (is_too_long p (stream_safe p x) c) (is_sound p joiner) (is_sound p c) refused
     where
       next : (u l j s : Bool) → Some e ≡ option_map refusal (if s then (if l && not j then Some joiner else None) else Some c) → (u && (not l || j) && s) ≡ false
-      next u true true true is = cc
-      next true true false true is = refl
-      next false true false true is = refl
-      next u false j true is = cc
-      next true true true false is = refl
-      next true true false false is = refl
-      next true false j false is = refl
-      next false l j false is = refl
+      next u l j true is = grind (arith, is)
+      next u l j false is = grind arith
 
   -- a character that is refused behind x
   pub refusal_at : (base at : ℕ) (x : List ℕ) (c : ℕ) (y : List ℕ) (e : Unsound) → IsSoundText p (stream_safe p x) → at ≡ base + length (encode_utf8_all x) → Some e ≡ option_map refusal (unsound_at p x c)

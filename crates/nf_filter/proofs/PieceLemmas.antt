@@ -1,6 +1,10 @@
 -- Bytes, part by part: what a front of them gives does not change what the rest gives.
 use Rattle.nf_filter.proofs.Common.{◌≡◌, ℕ, ◌+◌, ◌-◌, ◌≤◌, ◌==◌, Bool, true, false, List, [], ◌∷◌, ◌++◌, length, map, take, drop, refl, sym, ap, ◌∙◌, arith, append_assoc, append-nil, if◌then◌else◌, encode_utf8, encode_utf8_all, take-append-add, length-append, length-drop, length-map, map-append, take_at, drop-append-le, BeginsText, Bad, text_of, text_len, ending_of, Part, replacement, own_parts, part_end, behind_text, parts_within, parts_of, replaced, bytes_in, replaced_len, begun_at_end, replaced_whole, ReplacesParts, SplitsBytes, answer_at_end, bad_under, IsLeft, len_under, text_under, whole_under, Extends}
 
+-- where what stands behind a front of the text of the bytes begins, the first of which has the offset `base`
+abbrev pub place_in : Bool → ℕ → List ℕ → List ℕ → ℕ
+place_in r base bytes front = base + len_under r bytes front
+
 -- all of the bytes are left
 pub IsLeft-all : (r : Bool) (bytes : List ℕ) → IsLeft r bytes [] 0 bytes
 IsLeft-all r bytes = record {
@@ -15,30 +19,30 @@ IsLeft-all r bytes = record {
 -- a piece more is left
 pub IsLeft-more : (r : Bool) (bytes x : List ℕ) (n : ℕ) (left piece : List ℕ) → IsLeft r bytes x n left → IsLeft r (bytes ++ piece) x n (left ++ piece)
 IsLeft-more r bytes x n left piece is = record {
-  text = λ more. ap (text_under r) (append_assoc bytes piece more) ∙ is.text (piece ++ more) ∙ ap (λ l. x ++ text_under r l) (sym (append_assoc left piece more));
-  place = λ more y. ap (λ l. len_under r l (x ++ y)) (append_assoc bytes piece more) ∙ is.place (piece ++ more) y ∙ ap (λ l. n + len_under r l y) (sym (append_assoc left piece more));
-  bad = λ base more. ap (bad_under r base) (append_assoc bytes piece more) ∙ is.bad base (piece ++ more) ∙ ap (bad_under r (base + n)) (sym (append_assoc left piece more));
-  whole = λ more. ap (whole_under r) (append_assoc bytes piece more) ∙ is.whole (piece ++ more) ∙ ap (λ l. x ++ whole_under r l) (sym (append_assoc left piece more));
-  end = λ strict base more. ap (λ l. answer_at_end base (tt {0}) (ending_of l)) (append_assoc bytes piece more) ∙ is.end strict base (piece ++ more) ∙ ap (λ l. answer_at_end (base + n) (tt {0}) (ending_of l)) (sym (append_assoc left piece more));
+  text = λ more. rw (append_assoc bytes piece more, append_assoc left piece more) (is.text (piece ++ more));
+  place = λ more y. rw (append_assoc bytes piece more, append_assoc left piece more) (is.place (piece ++ more) y);
+  bad = λ base more. rw (append_assoc bytes piece more, append_assoc left piece more) (is.bad base (piece ++ more));
+  whole = λ more. rw (append_assoc bytes piece more, append_assoc left piece more) (is.whole (piece ++ more));
+  end = λ strict base more. rw (append_assoc bytes piece more, append_assoc left piece more) (is.end strict base (piece ++ more));
   len = omega (arith, is.len, length-append bytes piece, length-append left piece);
 }
 
 module _ (r : Bool) (bytes x : List ℕ) (n : ℕ) (left : List ℕ) (is : IsLeft r bytes x n left) where
   -- where nothing follows
   pub left-text : text_under r bytes ≡ x ++ text_under r left
-  left-text = ap (text_under r) (sym (append-nil bytes)) ∙ is.text [] ∙ ap (λ l. x ++ text_under r l) (append-nil left)
+  left-text = rw (append-nil bytes, append-nil left) at (is.text [])
 
   pub left-place : (y : List ℕ) → len_under r bytes (x ++ y) ≡ n + len_under r left y
-  left-place y = ap (λ l. len_under r l (x ++ y)) (sym (append-nil bytes)) ∙ is.place [] y ∙ ap (λ l. n + len_under r l y) (append-nil left)
+  left-place y = rw (append-nil bytes, append-nil left) at (is.place [] y)
 
   pub left-bad : (base : ℕ) → bad_under r base bytes ≡ bad_under r (base + n) left
-  left-bad base = ap (bad_under r base) (sym (append-nil bytes)) ∙ is.bad base [] ∙ ap (bad_under r (base + n)) (append-nil left)
+  left-bad base = rw (append-nil bytes, append-nil left) at (is.bad base [])
 
   pub left-end : r ≡ false → (base : ℕ) → answer_at_end base (tt {0}) (ending_of bytes) ≡ answer_at_end (base + n) (tt {0}) (ending_of left)
-  left-end strict base = ap (λ l. answer_at_end base (tt {0}) (ending_of l)) (sym (append-nil bytes)) ∙ is.end strict base [] ∙ ap (λ l. answer_at_end (base + n) (tt {0}) (ending_of l)) (append-nil left)
+  left-end strict base = rw (append-nil bytes, append-nil left) at (is.end strict base [])
 
   pub left-whole : whole_under r bytes ≡ x ++ whole_under r left
-  left-whole = ap (whole_under r) (sym (append-nil bytes)) ∙ is.whole [] ∙ ap (λ l. x ++ whole_under r l) (append-nil left)
+  left-whole = rw (append-nil bytes, append-nil left) at (is.whole [])
 
 -- what one leaves of the bytes is left by the other
 pub IsLeft-join : (r : Bool) (bytes x : List ℕ) (n : ℕ) (mid y : List ℕ) (m : ℕ) (left : List ℕ) → IsLeft r bytes x n mid → IsLeft r mid y m left → IsLeft r bytes (x ++ y) (n + m) left

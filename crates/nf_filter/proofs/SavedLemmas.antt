@@ -1,12 +1,10 @@
 -- Each filter that is spent or stands after bytes has a state of which one can be made.
-use Rattle.nf_filter.proofs.Common.{◌≡◌, zero, suc, ℕ, ◌+◌, ◌≤◌, Bool, true, false, not, ◌&&◌, eqb, ltb, inl, inr, List, [], ◌∷◌, ◌++◌, length, map, take, drop, encode_utf8, Option, Some, None, IfSome, refl, sym, ap, ◌∙◌, subst, arith, length-append, encode_utf8_all, and_parts, and_from, or_parts, eqb-true, eq-eqb, le-leb, nat_tests, length-map, nil_from_length, length-le-encodes, take-length, list_all, is_some, Properties, is_starter, Form, Nfc, Nfd, Nfkd, row_of, decomposed, composes, is_sound, max_run, stream_safe, back-starter, IsSound, IsSound-from_test, Ending, Bad, ReplacesParts, text_of, ending_of, Part, own_parts, part_end, behind_text, parts_within, parts_of, replaced, replaced_len, bytes_in, State, Policy, is_spent, StandsAfter, len_under, text_under, saved_of, are_marks, IsCounted, CountsFit, IsPending, IsRestorable, is_usable}
+use Rattle.nf_filter.proofs.Common.{◌≡◌, zero, suc, ℕ, ◌+◌, ◌≤◌, Bool, true, false, not, ◌&&◌, eqb, ltb, inl, inr, List, [], ◌∷◌, ◌++◌, length, map, take, drop, encode_utf8, Option, Some, None, IfSome, refl, sym, ap, ◌∙◌, subst, arith, length-append, encode_utf8_all, and_parts, and_from, or_parts, eqb-true, eq-eqb, le-leb, nat_tests, length-map, nil_from_length, length-le-encodes, take-length, list_all, is_some, Properties, is_starter, Form, Nfc, Nfd, Nfkd, row_of, decomposed, composes, is_sound, max_run, stream_safe, back-starter, IsSound, IsSound-from_test, Ending, Bad, ReplacesParts, text_of, ending_of, Part, own_parts, part_end, behind_text, parts_within, parts_of, replaced, replaced_len, bytes_in, State, Policy, is_spent, StandsAfter, len_under, text_under, saved_of, are_marks, IsCounted, CountsFit, IsPending, IsRestorable, is_usable, has_starter, trail, trail-marks}
 use Rattle.std.specs.Option.{option_to_list}
-use Rattle.nf_forms.specs.Runs.{has_starter, trail}
 use Rattle.nf_forms.specs.Order.{by_class}
 use Rattle.nf_forms.specs.Ordering.{is_ordered}
 use Rattle.nf_forms.specs.Laws.Order.{order-marks, has_starter-by_class}
 use Rattle.nf_forms.specs.Laws.Ordering.{ordering}
-use Rattle.nf_forms.specs.Laws.Runs.{trail-marks}
 use Rattle.nf_boundary.specs.Mark.{mark_of}
 use Rattle.nf_utf8.specs.Part.{IsPart}
 use Rattle.nf_pending.specs.StandsAfter.{StandsAfter as PendingStandsAfter}

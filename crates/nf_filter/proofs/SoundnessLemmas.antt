@@ -1,6 +1,7 @@
 -- Where each character is sound, none is refused, and where characters that are not assigned are taken, none for that.
 use Rattle.nf_filter.proofs.Common.{◌≡◌, ℕ, ◌+◌, Bool, true, false, ◌&&◌, List, [], ◌∷◌, ◌++◌, length, ◌==◌, Option, Some, None, Result, Err, refl, sym, ap, ◌∙◌, encode_utf8_all, option_map, if◌then◌else◌, subst, result_err, list_all, Properties, Form, stream_safe, is_sound, Ending, Bad, Cut, text_of, ending_of, Place, place_from, Fault, BadByte, CutShort, Read, Row, TooLong, Unassigned, Write, Policy, Tally, SinkState, SourceState, is_usable, usable, answer_at_end, bad_byte, bad_under, first_fault, fault_in, tally_of, answer_or, end_under, end_of, Finishes, as_is, allowed, len_under, text_under, whole_under, Feeds, Drives, Surveys, sound_front, check_fault, place_or_fault, check_decision, measure_decision, AreSound}
 use Rattle.nf_filter.specs.Kinds.{row, unassigned, IsAmong}
+use Rattle.nf_filter.proofs.PolicyLemmas.{first_fault-is}
 
 -- neither the end nor a bad byte refuses a character
 module _ (refusal : Fault) (is : IsAmong (row ∷ unassigned ∷ []) refusal) where
@@ -65,18 +66,12 @@ module _ (p : Properties) (sound : AreSound p) where
   unfolding is_usable
   usable_is x = all_sound (stream_safe p x)
 
-  -- what is not assigned alone is a fault of its own
-  pub first_fault-assigned : (place : List ℕ → ℕ) (x : List ℕ) (other : Option Fault)
-      → first_fault true p place x other ≡ (if length (allowed true p x) == length x then other else Some (Unassigned (place (allowed true p x))))
-  first_fault-assigned place x other = rw (usable_is (allowed true p x)) refl
-
 module _ (p : Properties) (sound : AreSound p) (base at : ℕ) where
   -- nor does a text
   pub not_in_text : (assigned : Bool) (place : List ℕ → ℕ) (x : List ℕ) (other : Option Fault) → ¬ (other ≡ Some (Row at)) → ¬ (first_fault assigned p place x other ≡ Some (Row at))
-  not_in_text false place x other not e = not (sym (ap (λ u. if u then other else Some (Row (place (usable p x)))) (usable_is p sound x)) ∙ e)
-  not_in_text true place x other not e = next (length (allowed true p x) == length x) (sym (first_fault-assigned p sound place x other) ∙ e)
+  not_in_text assigned place x other not e = next (length (allowed assigned p x) == length x) (rw (first_fault-is p assigned place x other, usable_is p sound (allowed assigned p x)) at e)
     where
-      next : (b : Bool) → ¬ ((if b then other else Some (Unassigned (place (allowed true p x)))) ≡ Some (Row at))
+      next : (b : Bool) → ¬ ((if b then other else Some (Unassigned (place (allowed assigned p x)))) ≡ Some (Row at))
       next true e = not e
       next false e = cc
 

@@ -44,18 +44,13 @@ module _ (p : Properties) where
       len_is = omega (arith, StandsAfter-offset stands, fresh)
 
       tail_is : stands.reading.tail ≡ []
-      tail_is = nil_from_length stands.reading.tail (omega (arith, len_is, stands.reading.left.len, length-append stands.reading.tail []))
+      tail_is = nil_from_length stands.reading.tail (omega (arith, len_is, StandsAfter-offset stands, stands.reading.offset))
 
       text_is : text_under before.replace bytes ≡ []
       text_is = ap (text_under before.replace) (nil_from_length bytes len_is) ∙ text_under-none before.replace
 
       before_is : stands.reading.before ≡ []
-      before_is = nil_from_length stands.reading.before
-          (omega (
-            arith,
-            ap length (sym (left-text before.replace bytes stands.reading.before stands.reading.n (stands.reading.tail ++ []) stands.reading.left) ∙ text_is),
-            length-append stands.reading.before (text_under before.replace (stands.reading.tail ++ [])),
-          ))
+      before_is = nil_from_length stands.reading.before (omega (arith, ap length (sym (left-text _ _ _ _ _ stands.reading.left) ∙ text_is), length-append stands.reading.before (text_under before.replace (stands.reading.tail ++ []))))
 
       pub nothing_read : DecoderStandsAfter state.reading.decoder []
       nothing_read = subst (DecoderStandsAfter state.reading.decoder) tail_is stands.reading.decoder
@@ -66,7 +61,7 @@ module _ (p : Properties) where
 -- what was taken is the text of the bytes, and what the decoder holds gave nothing of it
 module _ (laws : ReplacesParts) {policy : Policy} {f : Form} {p : Properties} {state : State} {bytes : List ℕ} (stands : StandsAfter policy f p state bytes) where
   pub taken-text : text_under policy.replace bytes ≡ stands.reading.before ++ text_of stands.reading.tail
-  taken-text = read-text policy f p (base_of state) laws state.counted state.reading bytes stands.reading
+  taken-text = read-text _ _ _ _ laws _ _ _ stands.reading
 
   pub taken-len : len_under policy.replace bytes (text_under policy.replace bytes) ≡ stands.reading.n + length (encode_utf8_all (text_of stands.reading.tail))
-  taken-len = ap (len_under policy.replace bytes) taken-text ∙ omega (arith, read-place policy f p (base_of state) laws state.counted state.reading bytes stands.reading)
+  taken-len = ap (len_under policy.replace bytes) taken-text ∙ omega (arith, read-place laws stands.reading)

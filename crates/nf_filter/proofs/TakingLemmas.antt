@@ -1,10 +1,18 @@
 -- A text, front by front.
-use Rattle.nf_filter.proofs.Common.{◌≡◌, ℕ, ◌+◌, ◌<◌, ◌^◌, List, [], ◌∷◌, ◌++◌, length, Option, Some, refl, sym, ap, ◌∙◌, arith, append-nil, append_assoc, encode_utf8, encode_utf8_all, IsUtf8, chars, length-append, None, chars-nil, chars-append, encodes-append, encodes-chars, chars_past_char, HasPlaces, IsPlacedAt, nil_from_length}
+use Rattle.nf_filter.proofs.Common.{◌≡◌, ℕ, ◌+◌, ◌<◌, ◌≤◌, ◌^◌, List, [], ◌∷◌, ◌++◌, length, Option, Some, refl, sym, ap, ◌∙◌, arith, append-nil, append_assoc, encode_utf8, encode_utf8_all, IsUtf8, chars, length-append, None, chars-nil, chars-append, encodes-append, encodes-chars, length-le-encodes, chars_past_char, HasPlaces, IsPlacedAt, nil_from_length}
 
 pub front_len : (text front rest : List ℕ) → IsUtf8 text → IsUtf8 rest → chars text ≡ front ++ chars rest → length text ≡ length (encode_utf8_all front) + length rest
 front_len text front rest whole behind is =
     ap length (sym (encodes-chars text whole) ∙ ap encode_utf8_all is ∙ encodes-append front (chars rest) ∙ ap (λ b. encode_utf8_all front ++ b) (encodes-chars rest behind))
     ∙ length-append (encode_utf8_all front) rest
+
+-- there are no more characters than bytes
+pub few : (bytes : List ℕ) → IsUtf8 bytes → length (chars bytes) ≤ length bytes
+few bytes utf8 = omega (arith, length-le-encodes (chars bytes), ap length (encodes-chars bytes utf8))
+
+-- the offset behind what was taken
+pub place_at : (place at base : ℕ) (x xs : List ℕ) → place ≡ at + length (encode_utf8_all xs) → at ≡ base + length (encode_utf8_all x) → place ≡ base + length (encode_utf8_all (x ++ xs))
+place_at place at base x xs here begun = omega (arith, ap length (encodes-append x xs), length-append (encode_utf8_all x) (encode_utf8_all xs))
 
 -- the offset of the first character
 pub placed-first : (place : List ℕ → ℕ) (at : ℕ) (x : List ℕ) (c : ℕ) (rest : List ℕ) → IsPlacedAt place at x (c ∷ rest) → place x ≡ at

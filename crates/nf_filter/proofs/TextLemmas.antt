@@ -1,6 +1,5 @@
 -- A text more.
-use Rattle.nf_filter.proofs.Common.{◌≡◌, ℕ, true, false, List, [], ◌∷◌, ◌++◌, Some, None, Ok, refl, sym, ap, ◌∙◌, subst, append-nil, if◌then◌else◌, Properties, Form, Row, Counted, settled, is_usable, usable, SinkState, Puts, Start, BlockState, Written, HasTaken, settled_text, usable_utf8, unusable_at, TakesOn, Extends, Extends-encodes, settled-extends, is_usable-stays_out, usable-all, usable-stop, usable-extends}
-use Rattle.nf_filter.specs.Laws.Undecided.{unusable_at-usable}
+use Rattle.nf_filter.proofs.Common.{◌≡◌, ℕ, true, false, List, [], ◌∷◌, ◌++◌, Some, None, Ok, refl, sym, ap, ◌∙◌, subst, append-nil, if◌then◌else◌, Properties, Form, Row, Counted, settled, is_usable, usable, SinkState, Puts, Start, BlockState, Written, HasTaken, settled_text, usable_utf8, unusable_at, TakesOn, Extends, Extends-encodes, settled-extends, is_usable-stays_out, usable-all, usable-stop, usable-extends, unusable_at-usable}
 use Rattle.nf_filter.proofs.WritesLemmas.{Puts-at}
 use Rattle.nf_filter.proofs.BlockLemmas.{Written-at}
 

@@ -1,10 +1,9 @@
 -- What feeding all bytes at once, and finishing, come to.
 use Rattle.nf_filter.proofs.Common.{◌≡◌, ℕ, ◌+◌, Bool, true, false, List, [], length, Option, Some, None, Result, Ok, Err, refl, sym, ap, ◌∙◌, subst, ⊎_elim, IfErr, if◌then◌else◌, encode_utf8_all, Appends, Properties, Form, back, safe_form, front-append-back, Ending, Whole, Bad, CutEnd, text_of, ending_of, Fault, Write, Row, Tally, SinkState, Puts, BreaksOff, as_is, len_under, settled, is_usable, usable, settled_utf8, answer_at_end, bad_byte, fault_in, tally_of, end_of, whole_or, final_utf8, Finishes, Feeds, IsFormOf, IsOfWhole, fault_or, whole_answer, whole_utf8, Converts, settled_utf8-none, AreSound, RefusesNone, Extends, Extends-none, Extends-encodes, usable-all, and_parts}
 use Rattle.nf_utf8.specs.Reads.{Reads, EndsAs}
-use Rattle.nf_filter.proofs.WritesLemmas.{Puts-join, Puts-at, BreaksOff-join, BreaksOff-at}
-use Rattle.nf_filter.proofs.FilterLemmas.{failed_if, write_or_not}
+use Rattle.nf_filter.proofs.WritesLemmas.{Puts-join, Puts-at, BreaksOff-join, BreaksOff-extends, BreaksOff-at}
+use Rattle.nf_filter.proofs.FilterLemmas.{err_is, failed_if, write_or_not}
 use Rattle.nf_filter.proofs.SoundnessLemmas.{not_at_end, not_a_fault}
-use Rattle.nf_filter.proofs.BlockLemmas.{BreaksOff-extends}
 use Rattle.nf_filter.proofs.PolicyLemmas.{taken}
 
 -- what ends with no fault, and has none before, is whole
@@ -37,7 +36,7 @@ module _ (p : Properties) where
     where
       next : (o : Option Fault) → fault_in as_is p 0 bytes ≡ o → ¬ (fault_or o (answer_at_end 0 (tally_of false p bytes) (ending_of bytes)) ≡ Err (Row at))
       next None told e = not_at_end (Row at) tt 0 (tally_of false p bytes) (ending_of bytes) e
-      next (Some fault) told e = not_a_fault p sound 0 at as_is bytes (told ∙ ap Some (let same : fault ≡ Row at = cc in same))
+      next (Some fault) told e = not_a_fault p sound 0 at as_is bytes (told ∙ ap Some (err_is e))
 
 module _ (f : Form) (p : Properties) where
   pub final_is : (bytes : List ℕ) → ending_of bytes ≡ Whole → final_utf8 as_is f p bytes ≡ encode_utf8_all (safe_form f p (text_of bytes))
@@ -61,9 +60,9 @@ module _ (f : Form) (p : Properties) where
       next _ = whole
 
   module _ (bytes : List ℕ) where
-    at_fault : (fault : Fault) → Some fault ≡ fault_in as_is p 0 bytes → settled_utf8 as_is f p bytes ≡ whole_utf8 f p bytes
-    unfolding whole_utf8
-    at_fault fault told = rw (← told) refl
+    pub at_fault : (fault : Fault) → Some fault ≡ fault_in as_is p 0 bytes → (settled_utf8 as_is f p bytes ≡ whole_utf8 f p bytes) × (Err fault ≡ whole_answer p bytes)
+    unfolding whole_utf8 whole_answer
+    at_fault fault told = (rw (← told) refl, rw (← told) refl)
 
     pub without : None ≡ fault_in as_is p 0 bytes → final_utf8 as_is f p bytes ≡ whole_utf8 f p bytes
     unfolding whole_utf8
@@ -74,11 +73,7 @@ module _ (f : Form) (p : Properties) where
       where
         next : (o : Option Fault) → o ≡ fault_in as_is p 0 bytes → Extends (settled_utf8 as_is f p bytes) (whole_utf8 f p bytes)
         next None told = subst (Extends (settled_utf8 as_is f p bytes)) (without told) (final-extends bytes (is_usable-from p bytes told))
-        next (Some fault) told = subst (Extends (settled_utf8 as_is f p bytes)) (at_fault fault told) (Extends-none (settled_utf8 as_is f p bytes))
-
-    pub answer_at : (fault : Fault) → Some fault ≡ fault_in as_is p 0 bytes → Err fault ≡ whole_answer p bytes
-    unfolding whole_answer
-    answer_at fault told = rw (← told) refl
+        next (Some fault) told = subst (Extends (settled_utf8 as_is f p bytes)) (at_fault fault told).0 (Extends-none (settled_utf8 as_is f p bytes))
 
     pub answer_without : None ≡ fault_in as_is p 0 bytes → end_of as_is p 0 bytes ≡ whole_answer p bytes
     unfolding whole_answer
@@ -92,11 +87,11 @@ module _ (f : Form) (p : Properties) where
       -- feeding was refused
       pub Converts-refused : (fault : Fault) → Feeds as_is f p 0 [] bytes old new (Err fault) → Converts f p bytes old new (Err fault)
       Converts-refused fault feeds = Converts-of (Err fault)
-          (λ e. BreaksOff-extends whole-extends (BreaksOff-at (settled_utf8-none as_is f p) refl (feeds.broken_off (let is : fault ≡ Write = cc in ap Err is))))
+          (λ e. BreaksOff-extends whole-extends (BreaksOff-at (settled_utf8-none as_is f p) refl (feeds.broken_off (ap Err (err_is e)))))
           (λ not.
-          let kept : ¬ (let r : Result (Unit {0}) Fault = Err fault in r ≡ Err Write) = λ e. not (let is : fault ≡ Write = cc in ap Err is) in
+          let kept : ¬ (let r : Result (Unit {0}) Fault = Err fault in r ≡ Err Write) = λ e. not (ap Err (err_is e)) in
           let told = feeds.answer kept in
-          (Puts-at (settled_utf8-none as_is f p) (at_fault fault told) (feeds.written kept), answer_at fault told))
+          (Puts-at (settled_utf8-none as_is f p) (at_fault fault told).0 (feeds.written kept), (at_fault fault told).1))
 
     -- feeding was not
     module _ (old mid new : SinkState) (feeds : Feeds as_is f p 0 [] bytes old mid (Ok tt)) where
@@ -117,7 +112,7 @@ module _ (f : Form) (p : Properties) where
       Converts-faults (Err fault) converts = ⊎_elim (λ is. subst IsOfWhole (sym is) tt) other (write_or_not fault)
         where
           other : ¬ (fault ≡ Write) → IsOfWhole fault
-          other not = subst (λ (r : Result Tally Fault). IfErr r IsOfWhole) (sym (converts.answer (λ w. not (let same : fault ≡ Write = cc in same)))) (whole_answer-faults p bytes)
+          other not = subst (λ (r : Result Tally Fault). IfErr r IsOfWhole) (sym (converts.answer (λ e. not (err_is e)))) (whole_answer-faults p bytes)
 
       pub Converts-sound : (r : Result Tally Fault) → AreSound p → Converts f p bytes old new r → RefusesNone r
       Converts-sound r sound converts at is = whole_answer-sound p sound bytes at (sym (converts.answer (λ w. let both = sym w ∙ is in cc)) ∙ is)
@@ -134,7 +129,7 @@ module _ (f : Form) (p : Properties) where
           taken = subst (λ (o : Option (List ℕ)). Appends (Some []) o puts.out) is_new (subst (λ (o : Option (List ℕ)). Appends o new.taken puts.out) is_old puts.given)
 
           next : (o : Option Fault) → o ≡ fault_in as_is p 0 bytes → IsFormOf f p bytes out
-          next (Some fault) told = let answer = converts.answer (λ w. cc) ∙ sym (answer_at fault told) in cc
+          next (Some fault) told = let answer = converts.answer (λ w. cc) ∙ sym (at_fault fault told).1 in cc
           next None told =
               let end = ending_whole p bytes tally (converts.answer (λ w. cc) ∙ sym (answer_without told)) (sym told) in (
                 text_of bytes,

@@ -1,5 +1,5 @@
 -- Calls that give to a sink in turn.
-use Rattle.nf_filter.proofs.Common.{◌≡◌, ℕ, ◌<◌, true, List, [], ◌++◌, length, refl, sym, ap, ◌∙◌, subst, arith, append_assoc, append-nil, length-append, subst₂, Appends, Appends-nil, Appends-trans, SinkState, Puts, BreaksOff}
+use Rattle.nf_filter.proofs.Common.{◌≡◌, ℕ, ◌<◌, true, List, [], ◌++◌, length, refl, sym, ap, ◌∙◌, subst, arith, append_assoc, append-nil, length-append, subst₂, Appends, Appends-nil, Appends-trans, SinkState, Puts, BreaksOff, Extends}
 
 pub Puts-none : (state : SinkState) (before : List ℕ) → Puts state state before before
 Puts-none state before = record { out = []; behind = sym (append-nil before); given = Appends-nil state.taken; stands = refl; idle = λ _. refl }
@@ -34,31 +34,20 @@ pub BreaksOff-join : {old mid new : SinkState} {a b c : List ℕ} → Puts old m
 BreaksOff-join {old} {mid} {new} {a} {b} {c} first second =
     subst (λ l. BreaksOff old new a l) (sym second.behind) (BreaksOff-more second.out second.rest first second.given second.failed second.more)
 
+-- what was given to a sink behind other bytes
+pub Puts-behind : {old mid new : SinkState} {before after out w : List ℕ} → w ≡ after ++ out → Puts old mid before after → Puts mid new [] out → Puts old new before w
+Puts-behind {old} {mid} {new} {before} {after} is first puts =
+    subst (Puts old new before) (ap (λ l. after ++ l) (sym puts.behind) ∙ sym is) (Puts-more puts.out first puts.given puts.stands puts.idle)
+
+pub BreaksOff-behind : {old mid new : SinkState} {before after out w : List ℕ} → w ≡ after ++ out → Puts old mid before after → BreaksOff mid new [] out → BreaksOff old new before w
+BreaksOff-behind {old} {mid} {new} {before} {after} is first stops =
+    subst (BreaksOff old new before) (append_assoc after stops.out stops.rest ∙ ap (λ l. after ++ l) (sym stops.behind) ∙ sym is) (BreaksOff-more stops.out stops.rest first stops.given stops.failed stops.more)
+
 -- more is to come behind
-pub BreaksOff-longer : {old new : SinkState} {a b : List ℕ} (more : List ℕ) → BreaksOff old new a b → BreaksOff old new a (b ++ more)
-BreaksOff-longer {old} {new} {a} {b} more first = record {
-  out = first.out;
-  rest = first.rest ++ more;
-  behind = ap (λ l. l ++ more) first.behind ∙ append_assoc (a ++ first.out) first.rest more;
-  more = omega (arith, length-append first.rest more, first.more);
-  given = first.given;
-  failed = first.failed;
-}
-
--- behind other bytes
-pub Puts-behind : {old new : SinkState} {out : List ℕ} (before after : List ℕ) → after ≡ before ++ out → Puts old new [] out → Puts old new before after
-Puts-behind {old} {new} {out} before after is puts =
-    record { out = puts.out; behind = is ∙ ap (λ l. before ++ l) puts.behind; given = puts.given; stands = puts.stands; idle = puts.idle }
-
-pub BreaksOff-behind : {old new : SinkState} {out : List ℕ} (before after : List ℕ) → after ≡ before ++ out → BreaksOff old new [] out → BreaksOff old new before after
-BreaksOff-behind {old} {new} {out} before after is stops = record {
-  out = stops.out;
-  rest = stops.rest;
-  behind = is ∙ ap (λ l. before ++ l) stops.behind ∙ sym (append_assoc before stops.out stops.rest);
-  more = stops.more;
-  given = stops.given;
-  failed = stops.failed;
-}
+pub BreaksOff-extends : {old new : SinkState} {a b d : List ℕ} → Extends b d → BreaksOff old new a b → BreaksOff old new a d
+BreaksOff-extends {old} {new} {a} {b} {d} longer stops =
+    subst (BreaksOff old new a) (sym (append_assoc (a ++ stops.out) stops.rest longer.more) ∙ ap (λ l. l ++ longer.more) (sym stops.behind) ∙ sym longer.text)
+    (BreaksOff-more stops.out (stops.rest ++ longer.more) (Puts-none old a) stops.given stops.failed (omega (arith, length-append stops.rest longer.more, stops.more)))
 
 -- at the same places
 pub Puts-at : {old new : SinkState} {a b c d : List ℕ} → a ≡ c → b ≡ d → Puts old new a b → Puts old new c d
@@ -66,4 +55,4 @@ Puts-at {old} {new} {a} {b} {c} {d} same_before same_after puts =
     record { out = puts.out; behind = sym same_after ∙ puts.behind ∙ ap (λ l. l ++ puts.out) same_before; given = puts.given; stands = puts.stands; idle = puts.idle }
 
 pub BreaksOff-at : {old new : SinkState} {a b c d : List ℕ} → a ≡ c → b ≡ d → BreaksOff old new a b → BreaksOff old new c d
-BreaksOff-at {old} {new} {a} {b} {c} {d} same_before same_after stops = subst₂ (BreaksOff old new) same_before same_after stops
+BreaksOff-at {old} {new} same_before same_after stops = subst₂ (BreaksOff old new) same_before same_after stops

@@ -1,5 +1,5 @@
 -- A text, step by step, to a sink.
-use Rattle.std.specs.Prelude.{◌≡◌, ◌+◌, ℕ, List, ◌++◌, length, chars}
+use Rattle.std.specs.Prelude.{◌≡◌, ◌+◌, ℕ, List, length, chars}
 use Rattle.nf_forms.specs.Properties.{Properties}
 use Rattle.nf_forms.specs.declared.form.Form.{Form}
 use Rattle.nf_forms.specs.StreamSafe.{stream_safe}
@@ -7,6 +7,7 @@ use Rattle.nf_normalizer.specs.Front.{Leaves, Stands}
 use Rattle.nf_filter.specs.declared.counted.Counted.{Counted}
 use Rattle.nf_filter.specs.Writes.{Puts}
 use Rattle.nf_filter.specs.Block.{Start, BlockState}
+use Rattle.nf_filter.specs.Taker.{HasTakenFront}
 use Rattle.nf_normalizer.specs.Normalizer.{IsWithin as IsReady}
 
 -- the normalizer stands after x, before `next`, and what of x is settled was written
@@ -17,10 +18,8 @@ pub record Standing (f : Form) (p : Properties) (counted : Counted) (start : Sta
   pub put : length (stream_safe p x) ≡ length x + counted.put
 
 -- behind x a front of the text was taken; `rest` is what stands behind that
-pub record StandsInFront (f : Form) (p : Properties) (counted : Counted) (start : Start) (now : BlockState) (x text rest : List ℕ) : Type 0 where
-  pub front : List ℕ
-  pub is_front : chars text ≡ front ++ chars rest
-  pub standing : Standing f p counted start now (x ++ front) (chars rest)
+abbrev pub StandsInFront : Form → Properties → Counted → Start → BlockState → List ℕ → List ℕ → List ℕ → Type 0
+StandsInFront f p counted start now x text rest = HasTakenFront (λ y. Standing f p counted start now y (chars rest)) x text rest
 
 -- a front of the text is behind it, with at most a joiner a character
 pub record HasStepped (old new : Counted) (text rest : List ℕ) : Type 0 where

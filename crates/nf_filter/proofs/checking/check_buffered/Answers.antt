@@ -1,7 +1,6 @@
-use Rattle.nf_filter.proofs.Common.{[], Some, refl, sym, ap, ◌∙◌, arith, check_decision, no_place, HasChecked}
+use Rattle.nf_filter.proofs.Common.{[], Some, refl, sym, ap, ◌∙◌, arith, check_decision, no_place, HasChecked, checked_undecided}
 use Rattle.nf_filter.proofs.ReadingLemmas.{holds_nothing, HasSurveyed-none}
 use Rattle.nf_filter.proofs.SurveysLemmas.{all_read, place_told}
-use Rattle.nf_filter.specs.Laws.Undecided.{checked_undecided}
 use Rattle.nf_filter.proofs.ChecksLemmas.{decides}
 use Rattle.nf_filter.proofs.checking.check_buffered.Goals as goal
 

@@ -1,8 +1,7 @@
-use Rattle.nf_filter.proofs.Common.{◌≡◌, ℕ, ◌+◌, [], ◌++◌, length, is_some, append-nil, sym, Some, None, rules, refl, ap, ◌∙◌, subst, arith, encode_utf8_all, IsUtf8, chars, length-append, and_from, list_all-append, encodes-append, encodes-chars, Properties, is_sound, place_of, HasChecked, Decides, TakesText, text_decision}
-use Rattle.nf_safe.specs.declared.checker.Checker.{Checker}
+use Rattle.nf_filter.proofs.Common.{◌≡◌, ℕ, ◌+◌, [], ◌++◌, length, is_some, append-nil, sym, Some, None, rules, refl, ap, ◌∙◌, subst, arith, encode_utf8_all, IsUtf8, chars, length-append, and_from, list_all-append, encodes-append, encodes-chars, Properties, is_sound, place_of, HasChecked, Decides, TakesText, text_decision, Checker}
 use Rattle.nf_safe.specs.Checker.{StandsAfter}
-use Rattle.nf_filter.proofs.CalmLemmas.{few, ends}
-use Rattle.nf_filter.proofs.ChecksLemmas.{counts_from_end, unstopped}
+use Rattle.nf_filter.proofs.TakingLemmas.{few}
+use Rattle.nf_filter.proofs.ChecksLemmas.{ends, counts_from_end, unstopped}
 use Rattle.nf_filter.proofs.checking.pass_calm.Goals as goal
 
 -- the checker that begins anew

@@ -1,6 +1,5 @@
-use Rattle.nf_filter.proofs.Common.{◌≡◌, [], Ok, Err, Some, None, refl, sym, ap, arith, option_map, Option, Fault, measure_decision, text_measure}
+use Rattle.nf_filter.proofs.Common.{◌≡◌, [], Ok, Err, Some, None, refl, sym, ap, arith, option_map, Option, Fault, measure_decision, text_measure, measured_undecided}
 use Rattle.nf_safe.specs.declared.measure.Measure.{Measure}
-use Rattle.nf_filter.specs.Laws.Undecided.{measured_undecided}
 use Rattle.nf_filter.proofs.ReadingLemmas.{holds_nothing, HasSurveyed-none}
 use Rattle.nf_filter.proofs.SurveysLemmas.{all_read}
 use Rattle.nf_filter.proofs.FilterLemmas.{decided_in-fault}

@@ -1,8 +1,6 @@
-use Rattle.nf_filter.proofs.Common.{⊎_elim, ◌≡◌, ℕ, Bool, true, false, append-nil, ◌+◌, ◌^◌, ◌++◌, [], length, take, refl, sym, ap, ◌∙◌, arith, Err, Some, eq-eqb, ne_eqb, length-take, Consumes-kept, Consumes-nil, Consumes-trans, cases_lt, Ending, Whole, ending_of, TooLong, answer_at_end}
+use Rattle.nf_filter.proofs.Common.{⊎_elim, ◌≡◌, ℕ, append-nil, ◌+◌, ◌^◌, ◌++◌, [], length, take, refl, sym, ap, ◌∙◌, arith, Err, Some, eq-eqb, ne_eqb, length-take, Consumes-kept, Consumes-nil, Consumes-trans, cases_lt, Ending, Whole, ending_of, TooLong, answer_at_end}
+use Rattle.nf_filter.proofs.FilterLemmas.{never}
 use Rattle.nf_filter.proofs.sources.survey.Goals as goal
-
-never : {A : Type 0} {at_end : Bool} → at_end ≡ true → at_end ≡ false → A
-never end before_end = let absent : true ≡ false = sym end ∙ before_end in cc
 
 -- an end is no refusal of a length
 not_long : {T : Type 0} (base : ℕ) (value : T) (ending : Ending) → ¬ (answer_at_end base value ending ≡ Err TooLong)

@@ -1,6 +1,5 @@
 use Rattle.nf_filter.proofs.Common.{◌+◌, ◌-◌, ◌++◌, length, rules, subst, arith, chars}
-use Rattle.nf_filter.proofs.CharsLemmas.{place_at}
-use Rattle.nf_filter.proofs.TakingLemmas.{front_len}
+use Rattle.nf_filter.proofs.TakingLemmas.{front_len, place_at}
 use Rattle.nf_filter.proofs.TakerLemmas.{decides-behind, takes-none, takes-more, takes-whole}
 use Rattle.nf_filter.proofs.taker.take_text.Goals as goal
 

@@ -1,5 +1,5 @@
 use Rattle.nf_filter.proofs.Common.{◌≡◌, ℕ, List, [], ◌++◌, refl, sym, ap, ◌∙◌, append-nil, append_assoc, Result, Ok, Err, MatchResult, Failed, SinkState, Puts, BreaksOff, Start, BlockState, Written, WritesOn}
-use Rattle.nf_filter.proofs.WritesLemmas.{Puts-join, Puts-behind, BreaksOff-join, BreaksOff-behind}
+use Rattle.nf_filter.proofs.WritesLemmas.{Puts-behind, BreaksOff-behind}
 use Rattle.nf_filter.proofs.BlockLemmas.{Broken-extends}
 use Rattle.nf_filter.proofs.block.Block.push_text.Goals as goal
 
@@ -15,10 +15,10 @@ passed start now sink w bytes r none written puts = next r puts
         → WritesOn start (record { sink = sink; kept = now.kept }) (w ++ bytes) r
     next (Ok _) puts = record {
       given = written.given ++ bytes;
-      puts = Puts-join written.puts (Puts-behind written.given (written.given ++ bytes) refl puts);
+      puts = Puts-behind refl written.puts puts;
       text = whole ∙ sym (append-nil (written.given ++ bytes)) ∙ ap (λ l. (written.given ++ bytes) ++ l) (sym none);
     }
-    next (Err _) breaks = BreaksOff-join written.puts (BreaksOff-behind written.given (start.ahead ++ (w ++ bytes)) whole breaks)
+    next (Err _) breaks = BreaksOff-behind whole written.puts breaks
 
 pub returns-in-Err-clause-writes : goal.returns-in-Err-clause-writes
 returns-in-Err-clause-writes g c = λ start w written. Broken-extends _ (record { more = c.args.text.now; text = refl }) (c.in-Err.ensures.writes start w written)

@@ -1,5 +1,4 @@
-use Rattle.nf_filter.proofs.Common.{◌≡◌, ◌+◌, ℕ, List, [], ◌∷◌, ◌++◌, true, false, length, is_some, Err, Some, None, refl, sym, ap, ◌∙◌, and_from, list_all-append, true_from_ne_false, encode_utf8, encode_utf8_all, chars_rest, chars_past_char, Properties, is_sound, place_of, place_from, Row, HasChecked, HasTakenFront, text_decision}
-use Rattle.nf_safe.specs.declared.checker.Checker.{Checker}
+use Rattle.nf_filter.proofs.Common.{◌≡◌, ◌+◌, ℕ, List, [], ◌∷◌, ◌++◌, true, false, length, is_some, Err, Some, None, refl, sym, ap, ◌∙◌, and_from, list_all-append, true_from_ne_false, encode_utf8, encode_utf8_all, chars_rest, chars_past_char, Properties, is_sound, place_of, place_from, Row, HasChecked, HasTakenFront, text_decision, Checker}
 use Rattle.nf_safe.specs.Checker.{HasSeen, offset_of}
 use Rattle.nf_filter.proofs.TakerLemmas.{takes-char, decides-char}
 use Rattle.nf_filter.proofs.ChecksLemmas.{all_sound-push, stop_place, stop_row}

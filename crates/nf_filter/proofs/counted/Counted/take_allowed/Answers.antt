@@ -1,6 +1,4 @@
-use Rattle.nf_filter.proofs.Common.{◌≡◌, ◌+◌, ◌<◌, ◌∷◌, ◌++◌, length, Ok, sym, ap, ◌∙◌, subst, arith, rules, append_assoc, length-append, chars, IsUtf8, encodes-chars, block_state, TakesOn, allowed}
-use Rattle.nf_filter.proofs.BlockLemmas.{Written-at}
-use Rattle.nf_filter.proofs.TextLemmas.{usable_utf8-usable}
+use Rattle.nf_filter.proofs.Common.{◌≡◌, ◌+◌, ◌<◌, ◌∷◌, ◌++◌, length, sym, ap, ◌∙◌, arith, rules, append_assoc, length-append, chars, IsUtf8, encodes-chars, allowed}
 use Rattle.nf_filter.proofs.TakingLemmas.{placed-within, front-whole}
 use Rattle.nf_filter.proofs.SteppingLemmas.{Standing-taken, first-left}
 use Rattle.nf_filter.proofs.AllowingLemmas.{TakesAllowed-all, TakesAllowed-refused, TakesAllowed-unassigned}
@@ -14,8 +12,7 @@ returns-in-Err-clause-takes g c = λ f place x start taken all here written.
     let a = c.split_allowed.result.0.now in
     let front : allowed c.args.assigned p (x ++ chars text) ≡ x ++ chars a = allowed-append p c.args.assigned x (chars text) all ∙ ap (λ l. x ++ l) (sym c.split_allowed.ensures.front) in
     let placed = placed-within place c.args.at x (chars text) (chars a) (chars c.split_allowed.result.1.now) c.split_allowed.ensures.whole here in
-    TakesAllowed-refused f p c.take_text.new.self start (block_state (g.S.Sink.state c.take_text.new.sink) c.take_text.new.block) place c.args.assigned (x ++ chars text) (x ++ chars a) c.in-Err.fault front
-    (c.in-Err.ensures.takes f place x start taken.chars (Standing-taken f p start c.args.self.now _ x (chars a) taken written) placed)
+    TakesAllowed-refused front (c.in-Err.ensures.takes f place x start taken.chars (Standing-taken (chars a) taken written) placed)
 
 pub returns-then-is_empty-clause-takes : goal.returns-then-is_empty-clause-takes
 returns-then-is_empty-clause-takes g c = λ f place x start taken all here written.
@@ -26,9 +23,8 @@ returns-then-is_empty-clause-takes g c = λ f place x start taken all here writt
     let same = front-whole text (chars a) b c.split_allowed.ensures.whole (search rules) in
     let front : allowed c.args.assigned p (x ++ chars text) ≡ x ++ chars text = allowed-append p c.args.assigned x (chars text) all ∙ ap (λ l. x ++ l) (sym c.split_allowed.ensures.front ∙ same) in
     let placed = placed-within place c.args.at x (chars text) (chars a) (chars b) c.split_allowed.ensures.whole here in
-    let takes = c.in_default.ensures.takes f place x start taken.chars (Standing-taken f p start c.args.self.now _ x (chars a) taken written) placed in
-    TakesAllowed-all f p c.take_text.new.self start (block_state (g.S.Sink.state c.take_text.new.sink) c.take_text.new.block) place c.args.assigned (x ++ chars text) (Ok tt) front
-    (subst (λ y. TakesOn f p c.take_text.new.self start (block_state (g.S.Sink.state c.take_text.new.sink) c.take_text.new.block) place (x ++ y) (Ok tt)) same takes)
+    let takes = c.in_default.ensures.takes f place x start taken.chars (Standing-taken (chars a) taken written) placed in
+    TakesAllowed-all front (rw same at takes)
 
 pub returns-clause-takes : goal.returns-clause-takes
 returns-clause-takes g c = λ f place x start taken all here written.
@@ -43,10 +39,8 @@ returns-clause-takes g c = λ f place x start taken all here written.
     let more : chars text ≡ chars a ++ some.0 ∷ some.1 = c.split_allowed.ensures.whole ∙ ap (λ l. chars a ++ l) some.2 in
     let less : length (x ++ chars a) < length (x ++ chars text) = omega (arith, length-append x (chars a), length-append x (chars text), ap length more, length-append (chars a) (some.0 ∷ some.1)) in
     let placed = placed-within place c.args.at x (chars text) (chars a) (chars b) c.split_allowed.ensures.whole here in
-    let takes = c.in_default.ensures.takes f place x start taken.chars (Standing-taken f p start c.args.self.now _ x (chars a) taken written) placed in
-    TakesAllowed-unassigned f p c.take_text.new.self start (block_state (g.S.Sink.state c.take_text.new.sink) c.take_text.new.block) place c.args.assigned (x ++ chars text) (x ++ chars a) front less _ takes.taken.machine.usable
-    (Written-at (sym (usable_utf8-usable p f (x ++ chars a) takes.taken.machine.usable)) (takes.written (λ e. cc)))
-    (here (chars a) some.0 some.1 more ∙ ap (λ n. c.args.at + n) (ap length (encodes-chars a utf8) ∙ (let len : length a ≡ _ = search rules in len)))
+    let takes = c.in_default.ensures.takes f place x start taken.chars (Standing-taken (chars a) taken written) placed in
+    TakesAllowed-unassigned front less (here (chars a) some.0 some.1 more ∙ ap (λ n. c.args.at + n) (ap length (encodes-chars a utf8) ∙ (let len : length a ≡ _ = search rules in len))) takes
 
 pub take_text-requires-clause-counts : goal.take_text-requires-clause-counts
 take_text-requires-clause-counts g c =

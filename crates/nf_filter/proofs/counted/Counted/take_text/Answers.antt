@@ -1,6 +1,7 @@
 use Rattle.nf_filter.proofs.Common.{◌≡◌, [], ◌∷◌, ◌++◌, append_assoc, length-append, encode_utf8_all, length, rules, refl, sym, ap, subst, arith, ◌∙◌, chars, Err, encodes-append, block_state, TakesOn}
 use Rattle.nf_filter.proofs.TakingLemmas.{front_len, front-joined, front-more, placed-behind}
-use Rattle.nf_filter.proofs.SteppingLemmas.{StandsInFront-none, StandsInFront-more, TakesOn-whole, first-left}
+use Rattle.nf_filter.proofs.TakerLemmas.{takes-none, takes-more}
+use Rattle.nf_filter.proofs.SteppingLemmas.{TakesOn-whole, first-left}
 use Rattle.nf_filter.proofs.counted.Counted.take_text.Goals as goal
 
 pub loop-rest-init : goal.loop-rest-init
@@ -11,7 +12,7 @@ loop-rest-init g c = record {
   within = c.requires.within.machine;
   chars = refl;
   put = omega arith;
-  stands = λ f place x start standing here. StandsInFront-none f (g.R.Rows.properties c.args.rows.now) start _ _ x c.args.text.now standing;
+  stands = λ f place x start standing here. takes-none _ x c.args.text.now standing;
   lender = refl;
 }
 
@@ -37,8 +38,8 @@ loop-rest-preserved g c = record {
   stands = λ f place x start standing here.
       let before = c.loop-rest.invariant.stands f place x start standing here in
       let len = front_len c.args.text.now before.front c.loop-rest.rest.now c.utf8.text c.loop-rest.invariant.utf8 before.is_front in
-      StandsInFront-more f (g.R.Rows.properties c.args.rows.now) start _ _ x c.args.text.now before.front c.loop-rest.rest.now c.in-Ok.behind.now before.is_front
-      (c.in-Ok.ensures.steps f place (x ++ before.front) start before.standing (placed-behind place c.args.at x (chars c.args.text.now) before.front (chars c.loop-rest.rest.now) _ before.is_front (omega (arith, len, c.loop-rest.invariant.left)) here));
+      takes-more _ x c.args.text.now before.front c.loop-rest.rest.now c.in-Ok.behind.now before.is_front
+      (c.in-Ok.ensures.steps f place (x ++ before.front) start before.taken (placed-behind place c.args.at x (chars c.args.text.now) before.front (chars c.loop-rest.rest.now) _ before.is_front (omega (arith, len, c.loop-rest.invariant.left)) here));
   lender = c.in-Ok.ensures.lender ∙ c.loop-rest.invariant.lender;
 }
 
@@ -48,13 +49,12 @@ returns-in-Err-clause-takes g c = λ f place x start counted standing here.
     let before = c.loop-rest.invariant.stands f place x start standing here in
     let len = front_len c.args.text.now before.front c.loop-rest.rest.now c.utf8.text c.loop-rest.invariant.utf8 before.is_front in
     subst (λ y. TakesOn f p c.step.new.self start (block_state (g.S.Sink.state c.step.new.sink) c.step.new.block) place y (Err c.in-Err.fault)) (front-joined x (chars c.args.text.now) before.front (chars c.loop-rest.rest.now) before.is_front)
-    (c.in-Err.ensures.steps f place (x ++ before.front) start before.standing (placed-behind place c.args.at x (chars c.args.text.now) before.front (chars c.loop-rest.rest.now) _ before.is_front (omega (arith, len, c.loop-rest.invariant.left)) here))
+    (c.in-Err.ensures.steps f place (x ++ before.front) start before.taken (placed-behind place c.args.at x (chars c.args.text.now) before.front (chars c.loop-rest.rest.now) _ before.is_front (omega (arith, len, c.loop-rest.invariant.left)) here))
 
 pub returns-clause-takes : goal.returns-clause-takes
 returns-clause-takes g c = λ f place x start counted standing here.
     let none : length c.loop-rest.rest.now ≡ 0 = search rules in
-    TakesOn-whole f (g.R.Rows.properties c.args.rows.now) start c.loop-rest.self _ _ place x c.args.text.now c.loop-rest.rest.now none refl refl
-    (omega (arith, counted, c.loop-rest.invariant.chars, c.char_count.ensures)) (c.loop-rest.invariant.stands f place x start standing here)
+    TakesOn-whole none refl refl (omega (arith, counted, c.loop-rest.invariant.chars, c.char_count.ensures)) (c.loop-rest.invariant.stands f place x start standing here)
 
 pub overflow_add-place : goal.overflow_add-place
 overflow_add-place g c =

@@ -23,13 +23,13 @@ pub returns-in-Ok-clause-finishes : goal.returns-in-Ok-clause-finishes
 returns-in-Ok-clause-finishes g c = λ policy f bytes stands.
     let state = c.args.self.state in
     let closes = c.in_default.ensures.closes f state.base bytes (read_before stands) in
-    rw (← stands.policy_is) (Finishes-whole state.policy f _ state.base bytes c.close.new.counted _ _ _ closes _ (counted policy f _ state bytes stands state.policy.replace c.close.new.counted closes.0) (c.in-Ok.ensures.puts f (whole_under state.policy.replace bytes) closes.0))
+    rw (← stands.policy_is) (Finishes-whole closes _ (counted policy f _ state bytes stands state.policy.replace c.close.new.counted closes.0) (c.in-Ok.ensures.puts f (whole_under state.policy.replace bytes) closes.0))
 
 pub returns-in-Err-end-clause-finishes : goal.returns-in-Err-end-clause-finishes
 returns-in-Err-end-clause-finishes g c = λ policy f bytes stands.
     let state = c.args.self.state in
     let closes = c.in_default.ensures.closes f state.base bytes (read_before stands) in
-    rw (← stands.policy_is) (Finishes-broken state.policy f _ state.base bytes c.close.new.counted _ _ _ closes (c.in-Err-end.ensures.puts f (whole_under state.policy.replace bytes) closes.0))
+    rw (← stands.policy_is) (Finishes-broken closes (c.in-Err-end.ensures.puts f (whole_under state.policy.replace bytes) closes.0))
 
 pub returns-in-Ok-clause-again : goal.returns-in-Ok-clause-again
 returns-in-Ok-clause-again g c = λ policy f bytes stands once.

@@ -1,11 +1,12 @@
-use Rattle.nf_filter.proofs.Common.{[], ◌++◌, arith, length-append, text_of}
+use Rattle.nf_filter.proofs.Common.{◌++◌, arith, text_of}
+use Rattle.nf_filter.proofs.FilterLemmas.{StandsAfter-offset}
 use Rattle.nf_filter.proofs.StandingLemmas.{taken-text, taken-len}
 use Rattle.nf_filter.proofs.filter.Filter.held.Goals as goal
 
 pub returns-clause-bytes : goal.returns-clause-bytes
 returns-clause-bytes g c = λ policy f bytes stands.
     let tail = stands.reading.tail in
-    omega (arith, taken-len c.replacing.ensures stands, c.carried.ensures.behind tail stands.reading.decoder, stands.reading.left.len, length-append tail [])
+    omega (arith, taken-len c.replacing.ensures stands, c.carried.ensures.behind tail stands.reading.decoder, StandsAfter-offset stands, stands.reading.offset)
 
 pub returns-clause-pending : goal.returns-clause-pending
 returns-clause-pending g c = λ policy f bytes stands.

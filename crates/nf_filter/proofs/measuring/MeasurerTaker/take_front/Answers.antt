@@ -1,9 +1,7 @@
-use Rattle.nf_filter.proofs.Common.{◌≡◌, ◌+◌, ◌-◌, ◌++◌, ℕ, List, length, Err, sym, ap, ◌∙◌, arith, encode_utf8, encode_utf8_all, chars_rest, chars_past_char, option_map, HasMeasured, HasTakenFront, unusable_decision}
-use Rattle.nf_forms.specs.Properties.{Properties}
+use Rattle.nf_filter.proofs.Common.{◌≡◌, ◌+◌, ◌-◌, ◌++◌, ℕ, List, length, Err, sym, ap, ◌∙◌, arith, encode_utf8, encode_utf8_all, chars_rest, chars_past_char, option_map, HasMeasured, HasTakenFront, unusable_decision, Properties}
 use Rattle.nf_safe.specs.declared.measurer.Measurer.{Measurer}
 use Rattle.nf_safe.specs.Measurer.{HasSeen}
-use Rattle.nf_filter.proofs.CharsLemmas.{place_at}
-use Rattle.nf_filter.proofs.TakingLemmas.{front_len}
+use Rattle.nf_filter.proofs.TakingLemmas.{front_len, place_at}
 use Rattle.nf_filter.proofs.TakerLemmas.{takes-char, decides-char}
 use Rattle.nf_filter.proofs.MeasuresLemmas.{refusal_at}
 use Rattle.nf_filter.proofs.measuring.MeasurerTaker.take_front.Goals as goal

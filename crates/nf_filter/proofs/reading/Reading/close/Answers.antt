@@ -7,12 +7,11 @@ not_write fault cut e = rw e at cut
 
 pub returns-then-policy-clause-closes : goal.returns-then-policy-clause-closes
 returns-then-policy-clause-closes g c = λ f base bytes read.
-    let split = c.split.ensures in
-    close-replaced c.args.policy f (g.R.Rows.properties c.args.rows.now) base c.replacing.ensures c.args.counted.now c.args.self.now bytes read c.if-policy.true
-    (length read.tail - length (encode_utf8_all (text_of read.tail))) (omega (arith, ap length (split.split read.tail), length-append (encode_utf8_all (text_of read.tail)) (rest_of read.tail)))
-    c.replace_cut.new.counted _ _ c.replace_cut.result (c.replace_cut.ensures.cut f base bytes read c.if-policy.true)
+    close-replaced c.replacing.ensures read c.if-policy.true (length read.tail - length (encode_utf8_all (text_of read.tail)))
+    (omega (arith, ap length (c.split.ensures.split read.tail), length-append (encode_utf8_all (text_of read.tail)) (rest_of read.tail)))
+    c.replace_cut.result (c.replace_cut.ensures.cut f base bytes read c.if-policy.true)
 
 pub returns-clause-closes : goal.returns-clause-closes
 returns-clause-closes g c = λ f base bytes read.
-    close-strict c.args.policy f (g.R.Rows.properties c.args.rows.now) base c.replacing.ensures c.args.counted.now c.args.self.now bytes read c.if-policy.false _ c.end.result
-    (c.end.ensures.end (base + read.n) read.tail read.decoder read.offset) (λ fault e. let kinds = rw e at c.end.ensures.kinds in not_write fault kinds)
+    close-strict c.replacing.ensures read c.if-policy.false _ c.end.result (c.end.ensures.end (base + read.n) read.tail read.decoder read.offset)
+    (λ fault e. let kinds = rw e at c.end.ensures.kinds in not_write fault kinds)

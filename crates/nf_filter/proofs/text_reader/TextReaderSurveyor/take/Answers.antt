@@ -1,5 +1,5 @@
 use Rattle.nf_filter.proofs.Common.{◌≡◌, ℕ, ◌+◌, ◌-◌, List, ◌++◌, [], length, rules, IsUtf8, chars, encode_utf8_all, encodes-chars, None, Some, Err, refl, sym, ap, ◌∙◌, subst, arith, append-nil, length-append, option_map, text_of, first_bytes, EndsPiece}
-use Rattle.nf_filter.proofs.CharsLemmas.{place_at}
+use Rattle.nf_filter.proofs.TakingLemmas.{place_at}
 use Rattle.nf_filter.proofs.ReadingLemmas.{ends_well, ends_badly, all_behind, all_counted, ready_after, decided_then}
 use Rattle.nf_filter.proofs.text_reader.TextReaderSurveyor.take.Goals as goal
 
