@@ -19,7 +19,8 @@ module _ (p : Properties) (a : Bool) (w z : List ℕ) (front : allowed a p w ≡
   unfolding unusable_at
   refused_is place fault is = rw (first_fault-is p a place w None, front) (next (is_usable p z) is)
     where
-      next : (b : Bool) → Some fault ≡ (if b then None else Some (Row (place (usable p z)))) → Some fault ≡ (if b then (if length z == length w then None else Some (Unassigned (place z))) else Some (Row (place (usable p z))))
+      next : (b : Bool) → Some fault ≡ (if b then None else Some (Row (place (usable p z))))
+          → Some fault ≡ (if b then (if length z == length w then None else Some (Unassigned (place z))) else Some (Row (place (usable p z))))
       next true e = cc
       next false e = e
 
@@ -55,7 +56,8 @@ module _ {f : Form} {p : Properties} where
     }
 
     -- what is refused in a text is refused in a longer one
-    pub TakesAllowed-more : {a : Bool} {w : List ℕ} {fault : Fault} (y : List ℕ) → TakesAllowed a f p counted start now place w (Err fault) → TakesAllowed a f p counted start now place (w ++ y) (Err fault)
+    pub TakesAllowed-more : {a : Bool} {w : List ℕ} {fault : Fault} (y : List ℕ) → TakesAllowed a f p counted start now place w (Err fault)
+        → TakesAllowed a f p counted start now place (w ++ y) (Err fault)
     TakesAllowed-more {a} {w} {fault} y takes = record {
       broken = λ e. Broken-extends start (taken_utf8-grows p a f w y) (takes.broken e);
       written = λ not. Written-at (sym (ap (settled_text f p) (stays not).1)) (takes.written not);

@@ -80,7 +80,8 @@ module _ (laws : ReplacesParts) {policy : Policy} {f : Form} {p : Properties} {b
       )
 
   module _ {start : Start} {old : BlockState} (written : Written start old (settled_text f p (read.before ++ text_of read.tail))) where
-    chunk-takes : {now : BlockState} {after : Counted} {r : Result (Unit {0}) Fault} → TakesBehind policy.assigned p counted old after now (reading.offset - carried) next_text r → TakesAllowed policy.assigned f p after start now (place_in policy.replace base bytes) taken_text r
+    chunk-takes : {now : BlockState} {after : Counted} {r : Result (Unit {0}) Fault} → TakesBehind policy.assigned p counted old after now (reading.offset - carried) next_text r
+        → TakesAllowed policy.assigned f p after start now (place_in policy.replace base bytes) taken_text r
     chunk-takes takes = takes f (place_in policy.replace base bytes) (read.before ++ text_of read.tail) start read.taken read.allowed placed written
 
     -- a character of it was refused

@@ -17,7 +17,8 @@ abbrev place_behind : List ℕ → List ℕ → ℕ
 place_behind x z = length (encode_utf8_all (drop (length x) z))
 
 placed_behind : (x y : List ℕ) → IsPlacedAt (place_behind x) 0 x y
-placed_behind x y front c rest is = ap (λ l. length (encode_utf8_all l)) (drop_at x front (length x) refl) ∙ (let n : length (encode_utf8_all front) ≡ 0 + length (encode_utf8_all front) = omega arith in n)
+placed_behind x y front c rest is =
+    ap (λ l. length (encode_utf8_all l)) (drop_at x front (length x) refl) ∙ (let n : length (encode_utf8_all front) ≡ 0 + length (encode_utf8_all front) = omega arith in n)
 
 -- what taking the text y behind any comes to
 abbrev TakesText : Properties → Counted → BlockState → Counted → BlockState → List ℕ → Result (Unit {0}) Fault → Type 0
@@ -48,13 +49,15 @@ module _ (laws : ReplacesParts) {policy : Policy} {f : Form} {p : Properties} {b
   settled_is : usable_utf8 f p next_text ≡ settled_text f p next_text
   settled_is = sym (usable_utf8-usable p f next_text usable)
 
-  takes_next : {now : BlockState} {after : Counted} {r : Result (Unit {0}) Fault} → TakesText p counted old after now own r → TakesOn f p after start now (place_behind read.before) next_text r
+  takes_next : {now : BlockState} {after : Counted} {r : Result (Unit {0}) Fault} → TakesText p counted old after now own r
+      → TakesOn f p after start now (place_behind read.before) next_text r
   takes_next takes =
       let taken : HasTaken f p counted read.before = rw before_is at read.taken in
       takes f (place_behind read.before) read.before start taken.chars (Standing-taken own taken (rw before_is at written)) (placed_behind read.before own)
 
   -- they were taken
-  pub mended-read : {now : BlockState} {after : Counted} → TakesText p counted old after now own (Ok tt) → (next : Reading) → next.decoder ≡ reading.decoder → next.offset ≡ reading.offset + len → ReadsTo policy f p after start now base next bytes (drop len rest)
+  pub mended-read : {now : BlockState} {after : Counted} → TakesText p counted old after now own (Ok tt)
+      → (next : Reading) → next.decoder ≡ reading.decoder → next.offset ≡ reading.offset + len → ReadsTo policy f p after start now base next bytes (drop len rest)
   mended-read {after = after} takes next decoder offset =
       let whole : next_text ++ text_of [] ≡ next_text = ap (λ l. next_text ++ l) text_of-none ∙ append-nil next_text in
       let next_taken = takes_next takes in (

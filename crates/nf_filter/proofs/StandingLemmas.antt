@@ -50,7 +50,8 @@ module _ (p : Properties) where
       text_is = ap (text_under before.replace) (nil_from_length bytes len_is) ∙ text_under-none before.replace
 
       before_is : stands.reading.before ≡ []
-      before_is = nil_from_length stands.reading.before (omega (arith, ap length (sym (left-text _ _ _ _ _ stands.reading.left) ∙ text_is), length-append stands.reading.before (text_under before.replace (stands.reading.tail ++ []))))
+      before_is = nil_from_length stands.reading.before
+          (omega (arith, ap length (sym (left-text _ _ _ _ _ stands.reading.left) ∙ text_is), length-append {A = ℕ}))
 
       pub nothing_read : DecoderStandsAfter state.reading.decoder []
       nothing_read = subst (DecoderStandsAfter state.reading.decoder) tail_is stands.reading.decoder

@@ -108,7 +108,8 @@ module _ {f : Form} {p : Properties} {start : Start} where
           }
 
       -- or the sink failed
-      pub step-failed : {place : List ℕ → ℕ} → ((start : Start) (w : List ℕ) → Written start (record { sink = old.sink; kept = room }) w → Broken start now (w ++ y)) → TakesOn f p new start now place (x ++ chars text) (Err WriteFault)
+      pub step-failed : {place : List ℕ → ℕ} → ((start : Start) (w : List ℕ) → Written start (record { sink = old.sink; kept = room }) w → Broken start now (w ++ y))
+          → TakesOn f p new start now place (x ++ chars text) (Err WriteFault)
       step-failed {place} writes = subst (λ z. TakesOn f p new start now place z (Err WriteFault)) (front-joined x (chars text) steps.front (chars rest) steps.is_front)
           (TakesOn-failed (stands-broken now steps.stands (append_assoc standing.given room y) (writes (apart start) (standing.given ++ room) (given_and standing room))))
 

@@ -39,9 +39,11 @@ pub Puts-behind : {old mid new : SinkState} {before after out w : List ℕ} → 
 Puts-behind {old} {mid} {new} {before} {after} is first puts =
     subst (Puts old new before) (ap (λ l. after ++ l) (sym puts.behind) ∙ sym is) (Puts-more puts.out first puts.given puts.stands puts.idle)
 
-pub BreaksOff-behind : {old mid new : SinkState} {before after out w : List ℕ} → w ≡ after ++ out → Puts old mid before after → BreaksOff mid new [] out → BreaksOff old new before w
+pub BreaksOff-behind : {old mid new : SinkState} {before after out w : List ℕ} → w ≡ after ++ out → Puts old mid before after → BreaksOff mid new [] out
+    → BreaksOff old new before w
 BreaksOff-behind {old} {mid} {new} {before} {after} is first stops =
-    subst (BreaksOff old new before) (append_assoc after stops.out stops.rest ∙ ap (λ l. after ++ l) (sym stops.behind) ∙ sym is) (BreaksOff-more stops.out stops.rest first stops.given stops.failed stops.more)
+    subst (BreaksOff old new before) (append_assoc after stops.out stops.rest ∙ ap (λ l. after ++ l) (sym stops.behind) ∙ sym is)
+    (BreaksOff-more stops.out stops.rest first stops.given stops.failed stops.more)
 
 -- more is to come behind
 pub BreaksOff-extends : {old new : SinkState} {a b d : List ℕ} → Extends b d → BreaksOff old new a b → BreaksOff old new a d

@@ -37,7 +37,8 @@ returns-in-Err-clause-takes g c = λ f place x start taken all here written.
 pub returns-clause-takes : goal.returns-clause-takes
 returns-clause-takes g c = λ f place x start taken all here written.
     let first = c.in_default-take_one.ensures.takes f place x start taken all (placed-within place c.args.at x (c.in-Some.c ∷ chars c.args.text.now) (c.in-Some.c ∷ []) (chars c.args.text.now) refl (rw c.in-Some.is at here)) written in
-    let behind = placed-behind place c.args.at x (c.in-Some.c ∷ chars c.args.text.now) (c.in-Some.c ∷ []) (chars c.args.text.now) (c.args.at + c.len_utf8.result) refl (omega (arith, length-append (encode_utf8 c.in-Some.c) [], length-encode c.in-Some.c, c.len_utf8.ensures.value)) (rw c.in-Some.is at here) in
+    let behind = placed-behind place c.args.at x (c.in-Some.c ∷ chars c.args.text.now) (c.in-Some.c ∷ []) (chars c.args.text.now) (c.args.at + c.len_utf8.result) refl
+    (omega (arith, length-append (encode_utf8 c.in-Some.c) [], length-encode c.in-Some.c, c.len_utf8.ensures.value)) (rw c.in-Some.is at here) in
     rw (c.in-Some.is, ← append_assoc x (c.in-Some.c ∷ []) (chars c.args.text.now)) (c.take_allowed-2.ensures.takes f place (x ++ c.in-Some.c ∷ []) start first.taken.0 first.taken.1 behind (TakesAllowed-settled first))
 
 counted_below : (r : Result (Unit {0}) Fault) (old new n first text at : ℕ) → OnOk r (new ≡ old + n) → n ≤ text → old ≤ at + first → OnOk r (new ≤ at + first + text)

@@ -5,8 +5,8 @@ use Rattle.nf_filter.proofs.filter.Filter.held.Goals as goal
 
 pub returns-clause-bytes : goal.returns-clause-bytes
 returns-clause-bytes g c = λ policy f bytes stands.
-    let tail = stands.reading.tail in
-    omega (arith, taken-len c.replacing.ensures stands, c.carried.ensures.behind tail stands.reading.decoder, StandsAfter-offset stands, stands.reading.offset)
+    let read = stands.reading in
+    omega (arith, taken-len c.replacing.ensures stands, c.carried.ensures.behind read.tail read.decoder, StandsAfter-offset stands, read.offset)
 
 pub returns-clause-pending : goal.returns-clause-pending
 returns-clause-pending g c = λ policy f bytes stands.
