@@ -1,5 +1,5 @@
-use Rattle.nf_filter.proofs.Common.{◌≡◌, ℕ, List, [], ◌++◌, length, take, Ok, Err, inr, refl, ap, ◌∙◌, subst, arith, rules, append-nil, OnOk, Result, ne_eqb, length-take, subst₂, Consumes-kept, Consumes-nil, Consumes-trans, Properties, Form, Fault, Policy, TooLong, Read, State, SinkState, IsOfFeeding, rows_of, state_of, StandsAfter, Feeds}
-use Rattle.nf_filter.proofs.FeedingLemmas.{fed_by, HasFed-none, HasFed-more, FeedsAll-failed, FeedsAll-ended, FeedsAll-refused}
+use Rattle.nf_filter.proofs.Common.{◌≡◌, ℕ, List, [], ◌++◌, length, take, Ok, Err, inr, ap, ◌∙◌, subst, arith, rules, append-nil, OnOk, Result, ne_eqb, length-take, subst₂, Consumes-kept, Consumes-trans, Properties, Form, Fault, Policy, TooLong, Read, State, SinkState, IsOfFeeding, state_of, StandsAfter, Feeds}
+use Rattle.nf_filter.proofs.FeedingLemmas.{fed_by, HasFed-more, FeedsAll-failed, FeedsAll-ended, FeedsAll-refused}
 use Rattle.nf_filter.proofs.driving.feed_all.Goals as goal
 
 -- the rows and the base do not change
@@ -15,20 +15,6 @@ module _ (policy : Policy) (f : Form) (q p : Properties) (rows : q ≡ p) (state
 
 not_read : (fault : Fault) → IsOfFeeding fault → ¬ (fed_by fault ≡ Err Read)
 not_read fault may e = let same : fault ≡ Read = cc in rw same at may
-
-pub loop-given-init : goal.loop-given-init
-loop-given-init g c = record {
-  room = refl;
-  unspent = c.requires.unspent;
-  rows = refl;
-  base = refl;
-  fed = (
-    [],
-    Consumes-nil (g.I.Source.state c.args.source.now).coming,
-    λ policy f bytes stands. HasFed-none policy f (g.R.Rows.properties (rows_of c.args.filter.now)) (state_of c.args.filter.now) bytes (g.S.Sink.state c.args.sink.now) stands,
-  );
-  lenders = (refl, refl);
-}
 
 pub returns-in-Err-clause-feeds : goal.returns-in-Err-clause-feeds
 returns-in-Err-clause-feeds g c = λ policy f bytes stands.

@@ -9,9 +9,3 @@ returns-clause-again g c = λ once.
     let stands = subst (λ (p : Properties). StandsAfter as_is c.args.form p (state_of c.new.result) []) (sym rows) c.new.ensures.stands in
     let still = subst (ChangesOnce c.args.form) (sym rows) once in
     adds_what_stays c.args.form (g.R.Rows.properties c.args.rows.now) _ _ as_is _ _ c.drive.result (rw rows at (c.drive.ensures.again as_is c.args.form [] stands still))
-
-pub returns-clause-joined : goal.returns-clause-joined
-returns-clause-joined g c =
-    let q = g.R.Rows.properties (rows_of c.new.result) in
-    let rows : q ≡ g.R.Rows.properties c.args.rows.now = ap g.R.Rows.properties c.new.ensures.rows in
-    rw rows at (c.drive.ensures.joined as_is c.args.form [] (subst (λ (p : Properties). StandsAfter as_is c.args.form p (state_of c.new.result) []) (sym rows) c.new.ensures.stands))

@@ -1,4 +1,4 @@
-use Rattle.nf_filter.proofs.Common.{⊎_elim, ◌≡◌, ℕ, append-nil, ◌+◌, ◌^◌, ◌++◌, [], length, take, refl, sym, ap, ◌∙◌, arith, Err, Some, eq-eqb, ne_eqb, length-take, Consumes-kept, Consumes-nil, Consumes-trans, cases_lt, Ending, Whole, ending_of, TooLong, answer_at_end}
+use Rattle.nf_filter.proofs.Common.{⊎_elim, ◌≡◌, ℕ, append-nil, ◌+◌, ◌^◌, ◌++◌, [], length, take, refl, sym, ap, ◌∙◌, arith, Err, Some, eq-eqb, ne_eqb, length-take, Consumes-kept, Consumes-trans, cases_lt, Ending, Whole, ending_of, TooLong, answer_at_end}
 use Rattle.nf_filter.proofs.FilterLemmas.{never}
 use Rattle.nf_filter.proofs.sources.survey.Goals as goal
 
@@ -6,15 +6,6 @@ use Rattle.nf_filter.proofs.sources.survey.Goals as goal
 not_long : {T : Type 0} (base : ℕ) (value : T) (ending : Ending) → ¬ (answer_at_end base value ending ≡ Err TooLong)
 not_long base value Whole e = cc
 not_long base value _ e = cc
-
-pub loop-given-init : goal.loop-given-init
-loop-given-init g c = record {
-  room = refl;
-  ready = c.requires.ready;
-  fits = omega (arith, c.requires.fits);
-  fed = ([], Consumes-nil (g.I.Source.state c.args.source.now).coming, λ survey begun. begun);
-  lender = refl;
-}
 
 pub returns-in-Err-clause-surveys : goal.returns-in-Err-clause-surveys
 returns-in-Err-clause-surveys g c = λ survey begun.

@@ -1,15 +1,7 @@
 use Rattle.nf_filter.proofs.Common.{◌+◌, ◌-◌, ◌++◌, length, rules, subst, arith, chars}
 use Rattle.nf_filter.proofs.TakingLemmas.{front_len, place_at}
-use Rattle.nf_filter.proofs.TakerLemmas.{decides-behind, takes-none, takes-more, takes-whole}
+use Rattle.nf_filter.proofs.TakerLemmas.{decides-behind, takes-more, takes-whole}
 use Rattle.nf_filter.proofs.taker.take_text.Goals as goal
-
-pub loop-rest-init : goal.loop-rest-init
-loop-rest-init g c = record {
-  utf8 = c.utf8.text;
-  left = omega arith;
-  ready = subst (g.T.Taker.ends_at c.args.taker.now) (omega arith) c.requires.ready;
-  taken = λ base x before here. takes-none (g.T.Taker.has_taken (g.R.Rows.properties c.args.rows.now) c.args.taker.now base) x c.args.text.now before;
-}
 
 pub loop-rest-preserved : goal.loop-rest-preserved
 loop-rest-preserved g c = record {

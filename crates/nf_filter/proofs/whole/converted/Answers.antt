@@ -1,6 +1,5 @@
 use Rattle.std.proofs.Common.{Some, ap, sym, ◌∙◌}
 use Rattle.nf_filter.proofs.WholeLemmas.{IsFormOf-from}
-use Rattle.nf_filter.proofs.AgainLemmas.{taken_stays}
 use Rattle.nf_filter.proofs.whole.converted.Goals as goal
 
 pub returns-in-Ok-clause-form : goal.returns-in-Ok-clause-form
@@ -8,9 +7,3 @@ returns-in-Ok-clause-form g c =
     IsFormOf-from c.args.form (g.R.Rows.properties c.args.rows.now) c.args.bytes.now _ _ c.into_inner.result.items
     (ap (λ w. Some w.items) c.new-sink.ensures.writer ∙ ap Some c.new.ensures.items) (ap (λ w. Some w.items) (sym c.into_inner.ensures))
     c.in-Ok.field-0 (c.longest_text.ensures.reads c.args.bytes.now) c.in-Ok.ensures.converts
-
-pub returns-in-Ok-clause-again : goal.returns-in-Ok-clause-again
-returns-in-Ok-clause-again g c = λ once.
-    taken_stays c.args.form (g.R.Rows.properties c.args.rows.now) _ _ c.into_inner.result.items
-    (ap (λ w. Some w.items) c.new-sink.ensures.writer ∙ ap Some c.new.ensures.items) (ap (λ w. Some w.items) (sym c.into_inner.ensures))
-    (c.in-Ok.ensures.again once)

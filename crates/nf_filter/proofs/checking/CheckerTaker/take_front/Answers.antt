@@ -12,10 +12,6 @@ counted p old new base x text rest before none seen = record {
   taken = record { stands = seen.stands; none = none; sound = list_all-append (is_sound p) x seen.front ∙ and_from _ _ before.sound seen.sound };
 }
 
-pub returns-in_default-clause-takes : goal.returns-in_default-clause-takes
-returns-in_default-clause-takes g c = λ base x before here.
-    counted _ c.args.self.now _ base x _ _ before c.see_counted-rest.ensures.none (c.see_counted-rest.ensures.sees base x before.stands)
-
 pub returns-in-Ok-None-clause-takes : goal.returns-in-Ok-None-clause-takes
 returns-in-Ok-None-clause-takes g c = λ base x before here.
     let p = g.R.Rows.properties c.args.rows.now in

@@ -1,13 +1,10 @@
-use Rattle.nf_filter.proofs.Common.{◌++◌, refl, ap, ◌∙◌, arith, rules, length, length-append, chars, IsUtf8}
+use Rattle.nf_filter.proofs.Common.{◌++◌, refl, ap, ◌∙◌, arith, rules, IsUtf8}
 use Rattle.nf_filter.proofs.TakingLemmas.{front_len}
 use Rattle.nf_filter.proofs.SteppingLemmas.{first-left, Standing-moved, Standing-failed, step-refused, step-stands, step-failed, given_to}
 use Rattle.nf_filter.proofs.counted.Counted.step.Goals as goal
 
 pub returns-in-Err-clause-steps : goal.returns-in-Err-clause-steps
 returns-in-Err-clause-steps g c = λ f place x start standing here. Standing-failed standing c.in-Err.ensures.writes
-
-pub overflow_sub-result : goal.overflow_sub-result
-overflow_sub-result g c = let stops = rw c.in-Unsound.is at c.step.ensures.passes in omega (arith, stops.left)
 
 pub overflow_add-result : goal.overflow_add-result
 overflow_add-result g c =
@@ -24,15 +21,6 @@ returns-in-Unsound-clause-steps g c = λ f place x start standing here.
     let len = front_len c.args.text.now stopped.front c.in-Unsound.rest.now c.utf8.text (search rules) stopped.is_front in
     step-refused moved c.args.at stopped here (omega (arith, len))
 
-pub returns-in-Ok-clause-passes : goal.returns-in-Ok-clause-passes
-returns-in-Ok-clause-passes g c = record {
-  n = c.in-Taken.put;
-  leaves = rw c.in-Taken.is at c.step.ensures.passes;
-  within = rw c.in-Taken.is at c.step.ensures.within;
-  count = refl;
-  put = refl;
-}
-
 pub returns-in-Ok-clause-steps : goal.returns-in-Ok-clause-steps
 returns-in-Ok-clause-steps g c = λ f place x start standing here.
     let moved = Standing-moved standing c.in_default.ensures.writes in
@@ -42,6 +30,3 @@ pub returns-in-Err-push_form-clause-steps : goal.returns-in-Err-push_form-clause
 returns-in-Err-push_form-clause-steps g c = λ f place x start standing here.
     let moved = Standing-moved standing c.in_default.ensures.writes in
     step-failed moved (c.in-Taken.same.now ++ c.step.new.formed.items) (rw c.in-Taken.is at (c.step.ensures.steps f x (given_to start moved.given) moved.stands)) c.in-Err-push_form.ensures.writes
-
-pub overflow_add-self : goal.overflow_add-self
-overflow_add-self g c = let leaves = rw c.in-Taken.is at c.step.ensures.passes in omega (arith, leaves.few, ap length leaves.is_front, length-append leaves.front (chars c.in-Taken.rest.now), c.requires.counts)

@@ -1,4 +1,4 @@
-use Rattle.nf_filter.proofs.Common.{◌≡◌, ◌+◌, ◌<◌, ◌∷◌, ◌++◌, length, sym, ap, ◌∙◌, arith, rules, append_assoc, length-append, chars, IsUtf8, encodes-chars, allowed}
+use Rattle.nf_filter.proofs.Common.{◌≡◌, ◌+◌, ◌<◌, ◌∷◌, ◌++◌, length, sym, ap, ◌∙◌, arith, rules, length-append, chars, IsUtf8, encodes-chars, allowed}
 use Rattle.nf_filter.proofs.TakingLemmas.{placed-within, front-whole}
 use Rattle.nf_filter.proofs.SteppingLemmas.{Standing-taken, first-left}
 use Rattle.nf_filter.proofs.AllowingLemmas.{TakesAllowed-all, TakesAllowed-refused, TakesAllowed-unassigned}
@@ -41,15 +41,6 @@ returns-clause-takes g c = λ f place x start taken all here written.
     let placed = placed-within place c.args.at x (chars text) (chars a) (chars b) c.split_allowed.ensures.whole here in
     let takes = c.in_default.ensures.takes f place x start taken.chars (Standing-taken (chars a) taken written) placed in
     TakesAllowed-unassigned front less (here (chars a) some.0 some.1 more ∙ ap (λ n. c.args.at + n) (ap length (encodes-chars a utf8) ∙ (let len : length a ≡ _ = search rules in len))) takes
-
-pub take_text-requires-clause-counts : goal.take_text-requires-clause-counts
-take_text-requires-clause-counts g c =
-    omega (arith, ap length c.split_allowed.ensures.whole, length-append (chars c.split_allowed.result.0.now) (chars c.split_allowed.result.1.now), c.requires.counts)
-
-pub take_text-requires-clause-fits : goal.take_text-requires-clause-fits
-take_text-requires-clause-fits g c = λ front d rest is.
-    let b = c.split_allowed.result.1.now in
-    c.requires.fits front d (rest ++ chars b) (c.split_allowed.ensures.whole ∙ ap (λ l. l ++ chars b) is ∙ append_assoc front (d ∷ rest) (chars b))
 
 pub overflow_add-result : goal.overflow_add-result
 overflow_add-result g c =

@@ -16,9 +16,6 @@ loop-rest-init g c = record {
   lender = refl;
 }
 
-pub step-requires-clause-counts : goal.step-requires-clause-counts
-step-requires-clause-counts g c = omega (arith, c.loop-rest.invariant.put, c.requires.within.put, c.requires.counts)
-
 pub step-requires-clause-fits : goal.step-requires-clause-fits
 step-requires-clause-fits g c = λ front d more is.
     let gone = c.loop-rest.invariant.gone in

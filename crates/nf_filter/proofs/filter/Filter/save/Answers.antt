@@ -1,13 +1,6 @@
 use Rattle.nf_filter.proofs.Common.{◌≡◌, ◌+◌, ◌≤◌, length, subst, ap, arith, rules, encode_utf8_all, length-append, max_run, text_of, rest_of, rows_of, saved_of, IsRestorable}
-use Rattle.nf_filter.proofs.SavedLemmas.{IsRestorable-spent, IsRestorable-stands}
+use Rattle.nf_filter.proofs.SavedLemmas.{IsRestorable-stands}
 use Rattle.nf_filter.proofs.filter.Filter.save.Goals as goal
-
-pub returns-clause-spent : goal.returns-clause-spent
-returns-clause-spent g c = λ spent.
-    let state = c.args.self.now.state in
-    let p = g.R.Rows.properties (rows_of c.args.self.now) in
-    let whole : IsRestorable p (saved_of state) = IsRestorable-spent p state c.held-len.ensures.part (subst (λ n. n ≤ max_run) c.count.ensures.value c.count.ensures.bound) spent in
-    search rules
 
 pub returns-clause-restorable : goal.returns-clause-restorable
 returns-clause-restorable g c = λ policy f bytes stands.

@@ -10,9 +10,6 @@ use Rattle.nf_filter.proofs.measuring.MeasurerTaker.take_front.Goals as goal
 counted : (p : Properties) (measurer : Measurer) (base : ℕ) (x text rest : List ℕ) → HasSeen p measurer x text rest → HasTakenFront (HasMeasured p measurer base) x text rest
 counted p measurer base x text rest seen = record { front = seen.front; is_front = seen.is_front; taken = seen.stands }
 
-pub returns-in_default-clause-takes : goal.returns-in_default-clause-takes
-returns-in_default-clause-takes g c = λ base x before here. counted _ _ base x _ _ (c.see_counted-rest.ensures.sees x before)
-
 pub returns-in-Ok-clause-takes : goal.returns-in-Ok-clause-takes
 returns-in-Ok-clause-takes g c = λ base x before here.
     let p = g.R.Rows.properties c.args.rows.now in

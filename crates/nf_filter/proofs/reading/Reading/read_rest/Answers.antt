@@ -1,11 +1,5 @@
-use Rattle.nf_filter.proofs.Common.{◌≡◌, ◌<◌, length, rules, ◌∙◌, arith, nil_from_length}
-use Rattle.nf_filter.proofs.FedLemmas.{left_of-less}
+use Rattle.nf_filter.proofs.Common.{◌≡◌, length, rules, ◌∙◌, arith, nil_from_length}
 use Rattle.nf_filter.proofs.reading.Reading.read_rest.Goals as goal
-
-pub loop-left-smaller : goal.loop-left-smaller
-loop-left-smaller g c =
-    let some : 0 < length c.loop-left.left.now = search rules in
-    left_of-less (length c.loop-left.left.now) (length c.loop-left.self.decoder) (length c.in-Ok.rest.now) (length c.read_chunk.new.self.decoder) some c.in-Ok.ensures.goes_on.1
 
 pub loop-left-preserved : goal.loop-left-preserved
 loop-left-preserved g c = record {

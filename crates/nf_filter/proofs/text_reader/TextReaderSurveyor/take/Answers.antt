@@ -7,12 +7,6 @@ use Rattle.nf_filter.proofs.text_reader.TextReaderSurveyor.take.Goals as goal
 begins : (at base : ℕ) (x first : List ℕ) → IsUtf8 first → at ≡ base + length (encode_utf8_all x) → at + length first ≡ base + length (encode_utf8_all (x ++ chars first))
 begins at base x first utf8 here = place_at (at + length first) at base x (chars first) (ap (λ l. at + length l) (sym (encodes-chars first utf8))) here
 
-pub returns-in-Some-take_text-clause-decides : goal.returns-in-Some-take_text-clause-decides
-returns-in-Some-take_text-clause-decides g c = λ survey bytes before short.
-    let took = c.take-chunk.ensures.takes bytes before.decoder in
-    let decided = c.in-Some-take_text.ensures.takes survey.base (text_of bytes) before.taken (omega (arith, before.offset, c.carried.ensures.behind bytes before.decoder)) in
-    (sym (decided_then took before (Some c.in-Some-take_text.answer) (rw (sym c.encoded-first.ensures.text) (decided (chars c.take-chunk.result.text.now)))), λ none. cc)
-
 pub returns-in-Some-take_text-2-clause-decides : goal.returns-in-Some-take_text-2-clause-decides
 returns-in-Some-take_text-2-clause-decides g c = λ survey bytes before short.
     let took = c.take-chunk.ensures.takes bytes before.decoder in
