@@ -1,4 +1,4 @@
-use Rattle.nf_filter.proofs.Common.{ℕ, ◌++◌, length, ap, subst₂, Properties, state_of, base_of, StandsAfter, Finishes}
+use Rattle.nf_filter.proofs.Common.{◌++◌, length, ap, state_of, base_of}
 use Rattle.nf_filter.proofs.DriveLemmas.{Drives-refused, Drives-finished}
 use Rattle.nf_filter.proofs.AgainLemmas.{drives_to_end, drives_once}
 use Rattle.nf_filter.proofs.JoinedLemmas.{joins_pieces}
@@ -11,9 +11,8 @@ pub returns-clause-drives : goal.returns-clause-drives
 returns-clause-drives g c = λ policy f bytes stands.
     let base = base_of (state_of c.args.filter) in
     let feeds = c.in_default.ensures.feeds policy f bytes stands in
-    let At : Properties → ℕ → Type 0 = λ q m. StandsAfter policy f q (state_of c.feed_all.new.filter) (bytes ++ feeds.fed)
-    → Finishes policy f q m (bytes ++ feeds.fed) (g.S.Sink.state c.feed_all.new.sink) (g.S.Sink.state c.finish.new.sink) c.finish.result in
-    let finishes = subst₂ At (ap g.R.Rows.properties c.in_default.ensures.rows) c.in_default.ensures.base (c.finish.ensures.finishes policy f (bytes ++ feeds.fed)) feeds.stands in
+    let rows = ap g.R.Rows.properties c.in_default.ensures.rows in
+    let finishes = rw c.in_default.ensures.base at ((rw rows at (c.finish.ensures.finishes policy f (bytes ++ feeds.fed))) feeds.stands) in
     Drives-finished (length c.args.buffer.now) policy f _ base bytes _ _ _ _ _ _ c.finish.result c.in_default.ensures.end (λ e. rw e at c.finish.ensures.faults) (λ e. rw e at c.finish.ensures.faults) feeds finishes
 
 pub returns-clause-again : goal.returns-clause-again

@@ -1,9 +1,6 @@
-use Rattle.nf_filter.proofs.Common.{◌≡◌, ◌+◌, ◌-◌, length, ap, arith, encode_utf8_all, length-append, text_of, rest_of, Fault, Write, IsCut}
+use Rattle.nf_filter.proofs.Common.{Err, ◌∙◌, ◌+◌, ◌-◌, length, ap, arith, encode_utf8_all, length-append, text_of, rest_of}
 use Rattle.nf_filter.proofs.FinishLemmas.{close-strict, close-replaced}
 use Rattle.nf_filter.proofs.reading.Reading.close.Goals as goal
-
-not_write : (fault : Fault) → IsCut fault → ¬ (fault ≡ Write)
-not_write fault cut e = rw e at cut
 
 pub returns-then-policy-clause-closes : goal.returns-then-policy-clause-closes
 returns-then-policy-clause-closes g c = λ f base bytes read.
@@ -14,4 +11,4 @@ returns-then-policy-clause-closes g c = λ f base bytes read.
 pub returns-clause-closes : goal.returns-clause-closes
 returns-clause-closes g c = λ f base bytes read.
     close-strict c.replacing.ensures read c.if-policy.false _ c.end.result (c.end.ensures.end (base + read.n) read.tail read.decoder read.offset)
-    (λ fault e. let kinds = rw e at c.end.ensures.kinds in not_write fault kinds)
+    (λ fault e write. rw (e ∙ ap Err write) at c.end.ensures.kinds)
