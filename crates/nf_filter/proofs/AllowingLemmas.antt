@@ -1,13 +1,30 @@
 -- A text of which only assigned characters may be taken.
-use Rattle.nf_filter.proofs.Common.{◌≡◌, ℕ, ◌==◌, ◌<◌, Bool, true, false, List, ◌++◌, length, Some, None, Ok, Err, refl, sym, ap, ◌∙◌, arith, ne_eqb, Result, if◌then◌else◌, Properties, Form, Fault, Row, WriteFault, Unassigned, Counted, Start, BlockState, Written, first_fault, taken_utf8, TakesAllowed, HasTaken, IsPlacedAt, TakesOn, settled_text, unusable_at, usable_utf8, allowed, is_usable, usable}
+use Rattle.nf_filter.proofs.Common.{◌≡◌, ℕ, ◌==◌, ◌<◌, Bool, true, false, List, ◌++◌, length, Some, None, Ok, Err, refl, sym, ap, ◌∙◌, arith, ne_eqb, Result, if◌then◌else◌, Properties, Form, Fault, Row, WriteFault, Unassigned, Counted, Start, BlockState, Written, first_fault, taken_utf8, TakesAllowed, HasTaken, IsPlacedAt, TakesOn, settled_text, unusable_at, usable_utf8, allowed, is_usable, usable, Standing}
 use Rattle.nf_filter.proofs.BlockLemmas.{Written-at, Broken-at, Broken-extends}
-use Rattle.nf_filter.proofs.PolicyLemmas.{first_fault-none, first_fault-stays, taken-all, taken_utf8-grows, first_fault-is}
+use Rattle.nf_filter.proofs.PolicyLemmas.{allowed-append, first_fault-none, first_fault-stays, taken-all, taken_utf8-grows, first_fault-is}
+use Rattle.nf_filter.proofs.TakingLemmas.{placed-within}
+use Rattle.nf_filter.proofs.SteppingLemmas.{Standing-taken}
 use Rattle.nf_filter.proofs.FeedingLemmas.{fed_by}
 
 -- what taking the text y, which begins at the offset `at`, comes to behind any that was taken
 abbrev pub TakesBehind : Bool → Properties → Counted → BlockState → Counted → BlockState → ℕ → List ℕ → Result (Unit {0}) Fault → Type 0
 TakesBehind a p old before new now at y r = (f : Form) (place : List ℕ → ℕ) (x : List ℕ) (start : Start) → HasTaken f p old x → allowed a p x ≡ x → IsPlacedAt place at x y
     → Written start before (settled_text f p x) → TakesAllowed a f p new start now place (x ++ y) r
+
+-- and what taking it as it is comes to
+abbrev pub TakesText : Properties → Counted → BlockState → Counted → BlockState → ℕ → List ℕ → Result (Unit {0}) Fault → Type 0
+TakesText p old before new now at y r = (f : Form) (place : List ℕ → ℕ) (x : List ℕ) (start : Start) → old.chars ≡ length x → Standing f p old start before x y → IsPlacedAt place at x y
+    → TakesOn f p new start now place (x ++ y) r
+
+-- so y is taken, which is what may be taken of a text
+pub allowed-part : (a : Bool) (at : ℕ) (rest : List ℕ) {p : Properties} {old new : Counted} {before now : BlockState} {text y : List ℕ} {r : Result (Unit {0}) Fault}
+    → text ≡ y ++ rest → y ≡ allowed a p text → TakesText p old before new now at y r
+    → (f : Form) (place : List ℕ → ℕ) (x : List ℕ) (start : Start) → HasTaken f p old x → allowed a p x ≡ x → IsPlacedAt place at x text → Written start before (settled_text f p x)
+    → (allowed a p (x ++ text) ≡ x ++ y) × TakesOn f p new start now place (x ++ y) r
+allowed-part a at rest {p} {text = text} {y} whole front takes f place x start taken all here written = (
+  allowed-append p a x text all ∙ ap (λ l. x ++ l) (sym front),
+  takes f place x start taken.chars (Standing-taken y taken written) (placed-within place at x text y rest whole here),
+)
 
 -- what may be taken of w is z
 module _ (p : Properties) (a : Bool) (w z : List ℕ) (front : allowed a p w ≡ z) where

@@ -13,13 +13,11 @@ Written-none {sink} before none = rw none (record { given = before; puts = Puts-
 pub Written-at : {start : Start} {now : BlockState} {a b : List ℕ} → a ≡ b → Written start now a → Written start now b
 Written-at {start} {now} {a} {b} same written = subst (λ w. Written start now w) same written
 
-Extends-behind : (w : List ℕ) {a b : List ℕ} → Extends a b → Extends (w ++ a) (w ++ b)
-Extends-behind w {a} {b} more = record { more = more.more; text = ap (λ l. w ++ l) more.text ∙ sym (append_assoc w a more.more) }
-
 -- more is to come behind, also where text stands ahead
 pub Broken-extends : (start : Start) {new : SinkState} {a b : List ℕ} → Extends a b → BreaksOff start.sink new start.before (start.ahead ++ a)
     → BreaksOff start.sink new start.before (start.ahead ++ b)
-Broken-extends start more broken = BreaksOff-extends (Extends-behind start.ahead more) broken
+Broken-extends start {a = a} more broken =
+    BreaksOff-extends (record { more = more.more; text = ap (λ l. start.ahead ++ l) more.text ∙ sym (append_assoc start.ahead a more.more) }) broken
 
 pub Broken-at : (start : Start) {new : SinkState} {a b : List ℕ} → a ≡ b → BreaksOff start.sink new start.before (start.ahead ++ a)
     → BreaksOff start.sink new start.before (start.ahead ++ b)

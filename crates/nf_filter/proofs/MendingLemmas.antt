@@ -1,6 +1,6 @@
 -- A front of the bytes whose ill-formed parts are replaced, taken as one text where every character is sound: wherever its
 -- bytes stand, none is refused.
-use Rattle.nf_filter.proofs.Common.{◌≡◌, ℕ, ◌+◌, true, List, [], ◌++◌, length, drop, drop_at, encode_utf8_all, Ok, Err, Some, None, Result, ⊎_elim, refl, sym, ap, ◌∙◌, subst, arith, append-nil, length-drop, Properties, Form, ReplacesParts, text_of, DecoderStandsAfter, Fault, Write, Counted, Policy, Reading, Start, BlockState, Written, bad_byte, IsLeft, HasReadTo, ReadsTo, RefusesBytes, HasTaken, IsPlacedAt, TakesOn, settled_text, usable_utf8, allowed, text_under, is_usable, Standing, AreSound, unusable_at-usable}
+use Rattle.nf_filter.proofs.Common.{◌≡◌, ℕ, ◌+◌, true, List, [], ◌++◌, length, drop, drop_at, encode_utf8_all, Ok, Err, Some, None, Result, ⊎_elim, refl, sym, ap, ◌∙◌, subst, arith, append-nil, length-drop, Properties, Form, ReplacesParts, text_of, DecoderStandsAfter, Fault, Write, Counted, Policy, Reading, Start, BlockState, Written, bad_byte, IsLeft, HasReadTo, ReadsTo, RefusesBytes, HasTaken, IsPlacedAt, TakesOn, settled_text, usable_utf8, allowed, text_under, is_usable, AreSound, unusable_at-usable}
 use Rattle.nf_utf8.specs.Mending.{IsReplacedFront}
 use Rattle.nf_filter.proofs.BlockLemmas.{Written-at, Broken-at}
 use Rattle.nf_filter.proofs.FilterLemmas.{err_is, write_or_not}
@@ -8,6 +8,7 @@ use Rattle.nf_filter.proofs.SoundnessLemmas.{usable_is}
 use Rattle.nf_filter.proofs.SteppingLemmas.{Standing-taken}
 use Rattle.nf_filter.proofs.TextLemmas.{usable_utf8-usable}
 use Rattle.nf_filter.proofs.PolicyLemmas.{allowed-append, taken-all}
+use Rattle.nf_filter.proofs.AllowingLemmas.{TakesText}
 use Rattle.nf_filter.proofs.ReadingLemmas.{ending_of-none, text_of-none}
 use Rattle.nf_filter.proofs.PieceLemmas.{left-text, IsLeft-join, IsLeft-parts}
 use Rattle.nf_filter.proofs.ChunkLemmas.{RefusesBytes-front}
@@ -19,11 +20,6 @@ place_behind x z = length (encode_utf8_all (drop (length x) z))
 placed_behind : (x y : List ℕ) → IsPlacedAt (place_behind x) 0 x y
 placed_behind x y front c rest is =
     ap (λ l. length (encode_utf8_all l)) (drop_at x front (length x) refl) ∙ (let n : length (encode_utf8_all front) ≡ 0 + length (encode_utf8_all front) = omega arith in n)
-
--- what taking the text y behind any comes to
-abbrev TakesText : Properties → Counted → BlockState → Counted → BlockState → List ℕ → Result (Unit {0}) Fault → Type 0
-TakesText p old before new now y r = (f : Form) (place : List ℕ → ℕ) (x : List ℕ) (start : Start) → old.chars ≡ length x → Standing f p old start before x y → IsPlacedAt place 0 x y
-    → TakesOn f p new start now place (x ++ y) r
 
 module _ (laws : ReplacesParts) {policy : Policy} {f : Form} {p : Properties} {base : ℕ} {bytes : List ℕ} {counted : Counted} {reading : Reading} {rest : List ℕ}
     (replaces : policy.replace ≡ true) (read : HasReadTo policy f p counted base reading bytes rest) (none : read.tail ≡ [])
@@ -49,14 +45,14 @@ module _ (laws : ReplacesParts) {policy : Policy} {f : Form} {p : Properties} {b
   settled_is : usable_utf8 f p next_text ≡ settled_text f p next_text
   settled_is = sym (usable_utf8-usable p f next_text usable)
 
-  takes_next : {now : BlockState} {after : Counted} {r : Result (Unit {0}) Fault} → TakesText p counted old after now own r
+  takes_next : {now : BlockState} {after : Counted} {r : Result (Unit {0}) Fault} → TakesText p counted old after now 0 own r
       → TakesOn f p after start now (place_behind read.before) next_text r
   takes_next takes =
       let taken : HasTaken f p counted read.before = rw before_is at read.taken in
       takes f (place_behind read.before) read.before start taken.chars (Standing-taken own taken (rw before_is at written)) (placed_behind read.before own)
 
   -- they were taken
-  pub mended-read : {now : BlockState} {after : Counted} → TakesText p counted old after now own (Ok tt)
+  pub mended-read : {now : BlockState} {after : Counted} → TakesText p counted old after now 0 own (Ok tt)
       → (next : Reading) → next.decoder ≡ reading.decoder → next.offset ≡ reading.offset + len → ReadsTo policy f p after start now base next bytes (drop len rest)
   mended-read {after = after} takes next decoder offset =
       let whole : next_text ++ text_of [] ≡ next_text = ap (λ l. next_text ++ l) text_of-none ∙ append-nil next_text in
@@ -76,7 +72,7 @@ module _ (laws : ReplacesParts) {policy : Policy} {f : Form} {p : Properties} {b
       )
 
   -- or the sink failed
-  pub mended-refused : {now : BlockState} {after : Counted} {fault : Fault} → TakesText p counted old after now own (Err fault) → RefusesBytes policy f p start now base bytes Write
+  pub mended-refused : {now : BlockState} {after : Counted} {fault : Fault} → TakesText p counted old after now 0 own (Err fault) → RefusesBytes policy f p start now base bytes Write
   mended-refused {fault = fault} takes =
       let refused = takes_next takes in
       ⊎_elim

@@ -7,15 +7,15 @@ use Rattle.nf_filter.proofs.SoundnessLemmas.{not_at_end, not_a_fault}
 use Rattle.nf_filter.proofs.PolicyLemmas.{taken}
 
 -- what ends with no fault, and has none before, is whole
-is_whole : {A B : Type 0} (value : A) (b : B) (e : Ending) (usable : Bool) (at : ℕ) (told : A) → answer_at_end 0 value e ≡ Ok told → (if usable then bad_byte 0 e else Some (Row at)) ≡ None → e ≡ Whole
-is_whole value b Whole usable at told answer none = refl
-is_whole value b (Bad at start) true other told answer none = cc
-is_whole value b _ usable other told answer none = cc
+is_whole : {A : Type 0} (value : A) (e : Ending) (usable : Bool) (at : ℕ) (told : A) → answer_at_end 0 value e ≡ Ok told → (if usable then bad_byte 0 e else Some (Row at)) ≡ None → e ≡ Whole
+is_whole value Whole usable at told answer none = refl
+is_whole value (Bad at start) true other told answer none = cc
+is_whole value _ usable other told answer none = cc
 
 module _ (p : Properties) where
   pub ending_whole : (bytes : List ℕ) (tally : Tally) → Ok tally ≡ end_of as_is p 0 bytes → fault_in as_is p 0 bytes ≡ None → ending_of bytes ≡ Whole
   unfolding end_of fault_in
-  ending_whole bytes tally answer none = is_whole (tally_of false p bytes) tally (ending_of bytes) (is_usable p (text_of bytes)) (0 + length (encode_utf8_all (usable p (text_of bytes)))) tally (sym answer) none
+  ending_whole bytes tally answer none = is_whole (tally_of false p bytes) (ending_of bytes) (is_usable p (text_of bytes)) (0 + length (encode_utf8_all (usable p (text_of bytes)))) tally (sym answer) none
 
   -- where reading found no fault, all characters can be used
   is_usable-from : (bytes : List ℕ) → None ≡ fault_in as_is p 0 bytes → is_usable p (text_of bytes) ≡ true

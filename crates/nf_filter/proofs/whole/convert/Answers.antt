@@ -9,7 +9,8 @@ pub returns-in-Err-clause-converts : goal.returns-in-Err-clause-converts
 returns-in-Err-clause-converts g c =
     let filter = c.quickest-filter in
     let feeds = (rw (ap g.R.Rows.properties filter.ensures.rows) at (c.in-Err.ensures.feeds as_is c.args.form [])) filter.ensures.stands in
-    let short : ¬ (fed_by c.in-Err.fault ≡ Err TooLong) = λ e. let over = (c.in-Err.ensures.too_long.0 e).1 in absurd (omega (arith, over, StandsAfter-offset filter.ensures.stands, filter.ensures.base)) in
+    let short : ¬ (fed_by c.in-Err.fault ≡ Err TooLong) =
+    λ e. let over = (c.in-Err.ensures.too_long.0 e).1 in absurd (omega (arith, over, StandsAfter-offset filter.ensures.stands, filter.ensures.base)) in
     Converts-refused c.args.form _ c.args.bytes.now _ _ c.in-Err.fault (rw filter.ensures.base at (feeds short))
 
 pub returns-clause-converts : goal.returns-clause-converts
