@@ -1,6 +1,6 @@
 -- What feeding all that a source gives comes to, by where it stopped.
-use Rattle.nf_filter.proofs.Common.{◌≡◌, ℕ, ◌+◌, ◌<◌, ◌≤◌, ◌^◌, ◌↔◌, false, List, [], ◌++◌, length, None, Ok, Err, ⊎_elim, refl, sym, ap, ◌∙◌, subst, arith, append_assoc, append-nil, IsTrue, IsFalse, Result, length-append, OnOk, Consumes, IsAtEnd, cases_lt, Properties, Form, Fault, Policy, TooLong, Read, Write, State, SinkState, SourceState, Puts, settled_utf8, fault_in, base_of, offset_of, is_spent, StandsAfter, Feeds, FeedsAll, result_err}
-use Rattle.nf_filter.proofs.WritesLemmas.{Puts-none, Puts-join, Puts-at, BreaksOff-join}
+use Rattle.nf_filter.proofs.Common.{◌≡◌, ℕ, ◌+◌, ◌<◌, ◌≤◌, ◌^◌, ◌↔◌, false, List, [], ◌++◌, length, None, Ok, Err, ⊎_elim, refl, sym, ◌∙◌, subst, arith, append_assoc, append-nil, IsTrue, IsFalse, Result, length-append, OnOk, Consumes, IsAtEnd, cases_lt, Properties, Form, Fault, Policy, TooLong, Read, Write, State, SinkState, SourceState, Puts, settled_utf8, fault_in, base_of, offset_of, is_spent, StandsAfter, Feeds, FeedsAll, result_err}
+use Rattle.nf_filter.proofs.WritesLemmas.{Puts-none, Puts-join, BreaksOff-join}
 use Rattle.nf_filter.proofs.FilterLemmas.{StandsAfter-offset, StandsAfter-fits, never}
 
 abbrev pub fed_by : Fault → Result (Unit {0}) Fault
@@ -16,13 +16,10 @@ pub record HasFed (policy : Policy) (f : Form) (p : Properties) (base : ℕ) (st
 pub HasFed-none : (policy : Policy) (f : Form) (p : Properties) (state : State) (bytes : List ℕ) (sink : SinkState) → StandsAfter policy f p state bytes → HasFed policy f p (base_of state) state bytes [] sink sink
 HasFed-none policy f p state bytes sink stands = record {
   base_is = refl;
-  stands = subst (StandsAfter policy f p state) same stands;
-  no_fault = ap (fault_in policy p (base_of state)) (append-nil bytes) ∙ stands.no_fault;
-  put = Puts-at refl (ap (settled_utf8 policy f p) same) (Puts-none sink (settled_utf8 policy f p bytes));
+  stands = rw (append-nil bytes) stands;
+  no_fault = rw (append-nil bytes) stands.no_fault;
+  put = rw (append-nil bytes) (Puts-none sink (settled_utf8 policy f p bytes));
 }
-  where
-    same : bytes ≡ bytes ++ []
-    same = sym (append-nil bytes)
 
 module _ (policy : Policy) (f : Form) (p : Properties) (base : ℕ) (state : State) (bytes fed : List ℕ) (old mid : SinkState) (so_far : HasFed policy f p base state bytes fed old mid) where
   here : offset_of state ≡ base + length bytes + length fed
@@ -36,13 +33,10 @@ module _ (policy : Policy) (f : Form) (p : Properties) (base : ℕ) (state : Sta
       → HasFed policy f p base after bytes (fed ++ piece) old new
   HasFed-more after piece new base_is stands feeds = record {
     base_is = base_is;
-    stands = subst (StandsAfter policy f p after) whole stands;
-    no_fault = ap (fault_in policy p base) (sym whole) ∙ sym (feeds.answer (λ e. cc));
-    put = Puts-at refl (ap (settled_utf8 policy f p) whole) (Puts-join so_far.put (feeds.written (λ e. cc)));
+    stands = rw (← append_assoc bytes fed piece) stands;
+    no_fault = rw (← append_assoc bytes fed piece) (sym (feeds.answer (λ e. cc)));
+    put = rw (← append_assoc bytes fed piece) (Puts-join so_far.put (feeds.written (λ e. cc)));
   }
-    where
-      whole : (bytes ++ fed) ++ piece ≡ bytes ++ (fed ++ piece)
-      whole = append_assoc bytes fed piece
 
   module _ (most : ℕ) (source left : SourceState) where
     -- nothing more was fed
@@ -79,48 +73,43 @@ module _ (policy : Policy) (f : Form) (p : Properties) (base : ℕ) (state : Sta
       too_long_is : (fed_by fault ≡ Err TooLong) ↔ (2 ^ 64 ≤ base + length bytes + length fed + length piece)
       too_long_is = (λ e. let over = (too_long.0 e).1 in omega (arith, over, here), λ over. too_long.1 (so_far.stands.unspent, omega (arith, over, here)))
 
-      whole : (bytes ++ fed) ++ piece ≡ bytes ++ (fed ++ piece)
-      whole = append_assoc bytes fed piece
-
       -- for its length
       refused_unread : 2 ^ 64 ≤ base + length bytes + length fed + length piece → FeedsAll most policy f p base bytes source left old new after (Err fault)
-      refused_unread over = record {
-        fed = fed;
-        last = piece;
-        given = consumed;
-        few = few;
-        read_out = λ end. never end before_end;
-        too_long = too_long_is;
-        all_fed = λ short. absurd (short is);
-        broken_off = λ e. let both : fed_by TooLong ≡ Err Write = sym is ∙ e in cc;
-        written = λ _. subst (λ s. Puts old s (settled_utf8 policy f p bytes) (settled_utf8 policy f p (bytes ++ fed))) (sym (kept is)) so_far.put;
-        no_fault = λ _. so_far.no_fault;
-        answer = λ _ _ short. absurd (short is);
-        stands = tt;
-      }
-        where
-          is : fed_by fault ≡ Err TooLong
-          is = too_long_is.1 over
+      refused_unread over =
+          let is = too_long_is.1 over in
+          record {
+            fed = fed;
+            last = piece;
+            given = consumed;
+            few = few;
+            read_out = λ end. never end before_end;
+            too_long = too_long_is;
+            all_fed = λ short. absurd (short is);
+            broken_off = λ e. let both : fed_by TooLong ≡ Err Write = sym is ∙ e in cc;
+            written = λ _. subst (λ s. Puts old s (settled_utf8 policy f p bytes) (settled_utf8 policy f p (bytes ++ fed))) (sym (kept is)) so_far.put;
+            no_fault = λ _. so_far.no_fault;
+            answer = λ _ _ short. absurd (short is);
+            stands = tt;
+          }
 
       -- for what is in it, or by the sink
       refused_read : base + length bytes + length fed + length piece < 2 ^ 64 → FeedsAll most policy f p base bytes source left old new after (Err fault)
-      refused_read less = record {
-        fed = fed ++ piece;
-        last = [];
-        given = subst (Consumes source.coming left.coming) (sym (append-nil (fed ++ piece))) consumed;
-        few = omega arith;
-        read_out = λ end. never end before_end;
-        too_long = (λ e. absurd (short e), λ over. absurd (omega (arith, over, less, length-append fed piece)));
-        all_fed = λ _. refl;
-        broken_off = λ e. BreaksOff-join so_far.put (rw (← whole) ((feeds short).broken_off e));
-        written = λ no. Puts-join so_far.put (rw (← whole) ((feeds short).written no));
-        no_fault = ⊎_elim (λ e. absurd (not_read e)) (λ e. absurd (short e));
-        answer = λ no _ _. rw (← whole) ((feeds short).answer no);
-        stands = tt;
-      }
-        where
-          short : ¬ (fed_by fault ≡ Err TooLong)
-          short e = let over = too_long_is.0 e in absurd (omega (arith, over, less))
+      refused_read less =
+          let short : ¬ (fed_by fault ≡ Err TooLong) = λ e. let over = too_long_is.0 e in absurd (omega (arith, over, less)) in
+          record {
+            fed = fed ++ piece;
+            last = [];
+            given = subst (Consumes source.coming left.coming) (sym (append-nil (fed ++ piece))) consumed;
+            few = omega arith;
+            read_out = λ end. never end before_end;
+            too_long = (λ e. absurd (short e), λ over. absurd (omega (arith, over, less, length-append fed piece)));
+            all_fed = λ _. refl;
+            broken_off = λ e. BreaksOff-join so_far.put (rw (← append_assoc bytes fed piece) ((feeds short).broken_off e));
+            written = λ no. Puts-join so_far.put (rw (← append_assoc bytes fed piece) ((feeds short).written no));
+            no_fault = ⊎_elim (λ e. absurd (not_read e)) (λ e. absurd (short e));
+            answer = λ no _ _. rw (← append_assoc bytes fed piece) ((feeds short).answer no);
+            stands = tt;
+          }
 
       pub FeedsAll-refused : FeedsAll most policy f p base bytes source left old new after (Err fault)
       FeedsAll-refused = ⊎_elim refused_read refused_unread (cases_lt (base + length bytes + length fed + length piece) (2 ^ 64))

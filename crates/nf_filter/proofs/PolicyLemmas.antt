@@ -76,27 +76,24 @@ module _ (p : Properties) where
   -- what was not taken stays so, whatever follows
   pub first_fault-stays : (a : Bool) (place : List ℕ → ℕ) (x y : List ℕ) (other : Option Fault) (fault : Fault) → Some fault ≡ first_fault a p place x None
       → (first_fault a p place (x ++ y) other ≡ Some fault) × (usable p (allowed a p (x ++ y)) ≡ usable p (allowed a p x))
-  first_fault-stays a place x y other fault is = ⊎_elim all stopped (allowed-grows a x y)
+  first_fault-stays a place x y other fault is = elim (allowed-grows a x y) [
+    | inl same ↦ all same (is_usable p x) refl
+    | inr less ↦
+        let less_too : ¬ (length (allowed a p x) ≡ length (x ++ y)) = λ e. omega (arith, less.0, e, length-append x y) in
+        let not_all : ¬ (length (allowed a p x) ≡ length x) = λ e. omega (arith, less.0, e) in
+        (rw (first_fault-is a place (x ++ y) other, less.1, ne_eqb _ _ less_too) (rw (ne_eqb _ _ not_all) at told), ap (usable p) less.1)
+  ]
     where
       told : fault_by place (allowed a p x) (length x) None ≡ Some fault
       told = sym (is ∙ first_fault-is a place x None)
 
-      all : allowed a p x ≡ x → (first_fault a p place (x ++ y) other ≡ Some fault) × (usable p (allowed a p (x ++ y)) ≡ usable p (allowed a p x))
-      all same = next (is_usable p x) refl
-        where
-          next : (b : Bool) → is_usable p x ≡ b → (first_fault a p place (x ++ y) other ≡ Some fault) × (usable p (allowed a p (x ++ y)) ≡ usable p (allowed a p x))
-          next true e = let none : None ≡ Some fault = rw (same, e, eq-eqb (length x) (length x) refl) at told in cc
-          next false e =
-              let longer : allowed a p (x ++ y) ≡ x ++ allowed a p y = allowed-append a x y same in
-              let out : is_usable p (allowed a p (x ++ y)) ≡ false = ap (is_usable p) longer ∙ is_usable-stays_out p x (allowed a p y) e in
-              let stays : usable p (allowed a p (x ++ y)) ≡ usable p x = ap (usable p) longer ∙ usable-stays p x (allowed a p y) e in
-              (rw (first_fault-is a place (x ++ y) other, out, stays) (rw (same, e) at told), stays ∙ ap (usable p) (sym same))
-
-      stopped : (length (allowed a p x) < length x) × (allowed a p (x ++ y) ≡ allowed a p x) → (first_fault a p place (x ++ y) other ≡ Some fault) × (usable p (allowed a p (x ++ y)) ≡ usable p (allowed a p x))
-      stopped less =
-          let less_too : ¬ (length (allowed a p x) ≡ length (x ++ y)) = λ e. omega (arith, less.0, e, length-append x y) in
-          let not_all : ¬ (length (allowed a p x) ≡ length x) = λ e. omega (arith, less.0, e) in
-          (rw (first_fault-is a place (x ++ y) other, less.1, ne_eqb _ _ less_too) (rw (ne_eqb _ _ not_all) at told), ap (usable p) less.1)
+      all : allowed a p x ≡ x → (b : Bool) → is_usable p x ≡ b → (first_fault a p place (x ++ y) other ≡ Some fault) × (usable p (allowed a p (x ++ y)) ≡ usable p (allowed a p x))
+      all same true e = let none : None ≡ Some fault = rw (same, e, eq-eqb (length x) (length x) refl) at told in cc
+      all same false e =
+          let longer : allowed a p (x ++ y) ≡ x ++ allowed a p y = allowed-append a x y same in
+          let out : is_usable p (allowed a p (x ++ y)) ≡ false = ap (is_usable p) longer ∙ is_usable-stays_out p x (allowed a p y) e in
+          let stays : usable p (allowed a p (x ++ y)) ≡ usable p x = ap (usable p) longer ∙ usable-stays p x (allowed a p y) e in
+          (rw (first_fault-is a place (x ++ y) other, out, stays) (rw (same, e) at told), stays ∙ ap (usable p) (sym same))
 
   -- what of a text is taken is not lost when more follows
   pub taken-grows : (a : Bool) (x y : List ℕ) → Extends (usable p (allowed a p x)) (usable p (allowed a p (x ++ y)))
