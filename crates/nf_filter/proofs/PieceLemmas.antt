@@ -48,8 +48,7 @@ module _ (r : Bool) (bytes x : List ℕ) (n : ℕ) (left : List ℕ) (is : IsLef
 pub IsLeft-join : (r : Bool) (bytes x : List ℕ) (n : ℕ) (mid y : List ℕ) (m : ℕ) (left : List ℕ) → IsLeft r bytes x n mid → IsLeft r mid y m left → IsLeft r bytes (x ++ y) (n + m) left
 IsLeft-join r bytes x n mid y m left a b = record {
   text = λ more. a.text more ∙ ap (λ l. x ++ l) (b.text more) ∙ sym (append_assoc x y (text_under r (left ++ more)));
-  place = λ more z. ap (len_under r (bytes ++ more)) (append_assoc x y z) ∙ a.place more (y ++ z) ∙ ap (λ k. n + k) (b.place more z)
-      ∙ (let same : n + (m + len_under r (left ++ more) z) ≡ (n + m) + len_under r (left ++ more) z = omega arith in same);
+  place = λ more z. ap (len_under r (bytes ++ more)) (append_assoc x y z) ∙ a.place more (y ++ z) ∙ omega (arith, b.place more z);
   bad = λ base more. a.bad base more ∙ b.bad (base + n) more ∙ ap (λ k. bad_under r k (left ++ more)) (let same : base + n + m ≡ base + (n + m) = omega arith in same);
   whole = λ more. a.whole more ∙ ap (λ l. x ++ l) (b.whole more) ∙ sym (append_assoc x y (whole_under r (left ++ more)));
   end = λ strict base more. a.end strict base more ∙ b.end strict (base + n) more ∙ ap (λ k. answer_at_end k (tt {0}) (ending_of (left ++ more))) (let same : base + n + m ≡ base + (n + m) = omega arith in same);

@@ -49,16 +49,18 @@ module _ (bytes piece : List ℕ) where
   all_behind (EndsBad at back) well = absurd (well at back refl)
   all_behind _ well = refl
 
-pub all_counted : (held piece : List ℕ) (first : Option ℕ) (text : List ℕ) (end : End) (left : List ℕ) → ((at back : ℕ) → ¬ (end ≡ EndsBad at back)) → Counts held piece first text end left
+all_counted : (held piece : List ℕ) (first : Option ℕ) (text : List ℕ) (end : End) (left : List ℕ) → ((at back : ℕ) → ¬ (end ≡ EndsBad at back)) → Counts held piece first text end left
     → length (first_bytes first) + length text + length left ≡ length held + length piece
 all_counted held piece first text EndsWhole left well counts = omega (arith, counts.0, ap length counts.1)
 all_counted held piece first text EndsCut left well counts = omega (arith, counts.0)
 all_counted held piece first text (EndsBad at back) left well counts = absurd (well at back refl)
 
 -- what was taken then ends before the bytes of a begun character
-pub ready_after : (ends_at : ℕ → Type 0) (offset carried first text left held piece end : ℕ) → carried ≡ held → first + text + left ≡ held + piece → held ≤ offset → end ≡ offset + piece
-    → ends_at (offset - carried + first + text) → (left ≤ end) × ends_at (end - left)
-ready_after ends_at offset carried first text left held piece end is counted within all ends = (omega arith, subst ends_at (omega arith) ends)
+pub ready_after : (ends_at : ℕ → Type 0) (held piece : List ℕ) (first : Option ℕ) (text : List ℕ) (end : End) (left : List ℕ) (offset carried last : ℕ)
+    → ((at back : ℕ) → ¬ (end ≡ EndsBad at back)) → Counts held piece first text end left
+    → carried ≡ length held → length held ≤ offset → last ≡ offset + length piece → ends_at (offset - carried + length (first_bytes first) + length text) → (length left ≤ last) × ends_at (last - length left)
+ready_after ends_at held piece first text end left offset carried last well counts is within all ends =
+    let counted = all_counted held piece first text end left well counts in (omega arith, subst ends_at (omega arith) ends)
 
 -- what all the bytes decide with a piece
 pub decided_then : {bytes piece : List ℕ} {first : Option ℕ} {text : List ℕ} {end : End} → Takes bytes piece first text end

@@ -39,15 +39,15 @@ module _ (refusal : Fault) (is : IsAmong (row ∷ unassigned ∷ []) refusal) wh
         by_replace false e = not_at_end base (tally_of false p bytes) (ending_of bytes) e
         by_replace true e = told _ (tally_of true p bytes) (not_in (λ front. base + len_under true bytes front) (whole_under true bytes) None (λ e. cc)) e
 
-    pub never_fed : (f : Form) (bytes piece : List ℕ) (old new : SinkState) (result : Result (Unit {0}) Fault) → Feeds policy f p base bytes piece old new result → ¬ (result ≡ Err refusal)
-    never_fed f bytes piece old new result feeds refused = not_in_bytes (bytes ++ piece) (sym (feeds.answer (λ e. apart Write cc)) ∙ ap result_err refused)
+    pub never_fed : {f : Form} {bytes piece : List ℕ} {old new : SinkState} {result : Result (Unit {0}) Fault} → Feeds policy f p base bytes piece old new result → ¬ (result ≡ Err refusal)
+    never_fed {bytes = bytes} {piece} feeds refused = not_in_bytes (bytes ++ piece) (sym (feeds.answer (λ e. apart Write cc)) ∙ ap result_err refused)
 
-    pub never_finished : (f : Form) (bytes : List ℕ) (old new : SinkState) (result : Result Tally Fault) → Finishes policy f p base bytes old new result → ¬ (result ≡ Err refusal)
-    never_finished f bytes old new result finishes refused = not_in_all bytes (sym (finishes.answer (λ e. apart Write cc)) ∙ refused)
+    pub never_finished : {f : Form} {bytes : List ℕ} {old new : SinkState} {result : Result Tally Fault} → Finishes policy f p base bytes old new result → ¬ (result ≡ Err refusal)
+    never_finished {bytes = bytes} finishes refused = not_in_all bytes (sym (finishes.answer (λ e. apart Write cc)) ∙ refused)
 
-    pub never_driven : (most : ℕ) (f : Form) (bytes : List ℕ) (source left : SourceState) (old new : SinkState) (result : Result Tally Fault) → Drives most policy f p base bytes source left old new result
+    pub never_driven : {most : ℕ} {f : Form} {bytes : List ℕ} {source left : SourceState} {old new : SinkState} {result : Result Tally Fault} → Drives most policy f p base bytes source left old new result
         → ¬ (result ≡ Err refusal)
-    never_driven most f bytes source left old new result drives refused = by_end left.is_at_end refl
+    never_driven {bytes = bytes} {left = left} drives refused = by_end left.is_at_end refl
       where
         by_end : (b : Bool) → left.is_at_end ≡ b → ⊥
         by_end true end = not_in_all (bytes ++ drives.fed) (sym (drives.finished end (λ e. apart Write cc)) ∙ refused)
@@ -98,7 +98,7 @@ module _ (p : Properties) (sound : AreSound p) (base at : ℕ) where
   not_measured bytes e = not_a_fault as_is bytes (unmapped (Row at) (fault_in as_is p base bytes) e)
 
   pub not_fed : (policy : Policy) (f : Form) (bytes piece : List ℕ) (old new : SinkState) (result : Result (Unit {0}) Fault) → Feeds policy f p base bytes piece old new result → ¬ (result ≡ Err (Row at))
-  not_fed policy = never_fed (Row at) tt p base policy (not_in_text policy.assigned)
+  not_fed policy f bytes piece old new result feeds = never_fed (Row at) tt p base policy (not_in_text policy.assigned) feeds
 
 -- a survey whose decision is none
 pub not_surveyed : {T : Type 0} (most base at : ℕ) (decision : List ℕ → Option (Result T Fault)) (value : List ℕ → T) (source left : SourceState) (result : Result T Fault)

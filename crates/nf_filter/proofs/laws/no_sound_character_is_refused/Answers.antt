@@ -7,7 +7,7 @@ returns-clause-feeding c = λ policy f p base bytes piece old new result sound f
 
 pub returns-clause-driving : goal.returns-clause-driving
 returns-clause-driving c = λ most policy f p base bytes source left old new result sound drives at.
-    never_driven (Row at) tt p base policy (not_in_text p sound base at policy.assigned) most f bytes source left old new result drives
+    never_driven (Row at) tt p base policy (not_in_text p sound base at policy.assigned) drives
 
 pub returns-clause-checking : goal.returns-clause-checking
 returns-clause-checking c = λ most p base source left result sound surveys at. not_surveyed most base at _ _ source left result (not_checked p sound base at) surveys

@@ -5,8 +5,8 @@ use Rattle.nf_filter.proofs.ChecksLemmas.{all_sound-push, stop_place, stop_row}
 use Rattle.nf_filter.proofs.checking.CheckerTaker.take_front.Goals as goal
 
 -- what is known of it
-counted : (p : Properties) (old new : Checker) (base : ℕ) (x text rest : List ℕ) → HasChecked p old base x → place_of new ≡ None → HasSeen base p new x text rest → HasTakenFront (HasChecked p new base) x text rest
-counted p old new base x text rest before none seen = record {
+counted : {p : Properties} {old new : Checker} {base : ℕ} {x text rest : List ℕ} → HasChecked p old base x → place_of new ≡ None → HasSeen base p new x text rest → HasTakenFront (HasChecked p new base) x text rest
+counted {p} {x = x} before none seen = record {
   front = seen.front;
   is_front = seen.is_front;
   taken = record { stands = seen.stands; none = none; sound = list_all-append (is_sound p) x seen.front ∙ and_from _ _ before.sound seen.sound };
@@ -16,7 +16,7 @@ pub returns-in-Ok-None-clause-takes : goal.returns-in-Ok-None-clause-takes
 returns-in-Ok-None-clause-takes g c = λ base x before here.
     let p = g.R.Rows.properties c.args.rows.now in
     let rest = c.see_counted-rest.result.now in
-    let known = counted p c.args.self.now c.see_counted-rest.new.self base x c.args.text.now rest before c.see_counted-rest.ensures.none (c.see_counted-rest.ensures.sees base x before.stands) in
+    let known = counted before c.see_counted-rest.ensures.none (c.see_counted-rest.ensures.sees base x before.stands) in
     let d = c.in-Some.c in
     let see = c.in-Ok-None.ensures in
     let sound : is_sound p d ≡ true = true_from_ne_false _ (λ unsound. let refused = (see.refuses (ap is_some c.see_counted-rest.ensures.none)).1 unsound in cc) in
@@ -28,7 +28,7 @@ pub returns-in-Ok-Some-clause-takes : goal.returns-in-Ok-Some-clause-takes
 returns-in-Ok-Some-clause-takes g c = λ base x before here.
     let p = g.R.Rows.properties c.args.rows.now in
     let rest = c.see_counted-rest.result.now in
-    let known = counted p c.args.self.now c.see_counted-rest.new.self base x c.args.text.now rest before c.see_counted-rest.ensures.none (c.see_counted-rest.ensures.sees base x before.stands) in
+    let known = counted before c.see_counted-rest.ensures.none (c.see_counted-rest.ensures.sees base x before.stands) in
     let d = c.in-Some.c in
     let seen = x ++ known.front in
     let see = c.in-Ok-Some.ensures in
@@ -42,7 +42,7 @@ pub returns-in-Err-clause-takes : goal.returns-in-Err-clause-takes
 returns-in-Err-clause-takes g c = λ base x before here.
     let p = g.R.Rows.properties c.args.rows.now in
     let rest = c.see_counted-rest.result.now in
-    let known = counted p c.args.self.now c.see_counted-rest.new.self base x c.args.text.now rest before c.see_counted-rest.ensures.none (c.see_counted-rest.ensures.sees base x before.stands) in
+    let known = counted before c.see_counted-rest.ensures.none (c.see_counted-rest.ensures.sees base x before.stands) in
     let d = c.in-Some.c in
     let seen = x ++ known.front in
     let see = c.in-Err.ensures in

@@ -7,14 +7,14 @@ use Rattle.nf_filter.proofs.MeasuresLemmas.{refusal_at}
 use Rattle.nf_filter.proofs.measuring.MeasurerTaker.take_front.Goals as goal
 
 -- what is known of it
-counted : (p : Properties) (measurer : Measurer) (base : ℕ) (x text rest : List ℕ) → HasSeen p measurer x text rest → HasTakenFront (HasMeasured p measurer base) x text rest
-counted p measurer base x text rest seen = record { front = seen.front; is_front = seen.is_front; taken = seen.stands }
+counted : (base : ℕ) {p : Properties} {measurer : Measurer} {x text rest : List ℕ} → HasSeen p measurer x text rest → HasTakenFront (HasMeasured p measurer base) x text rest
+counted base seen = record { front = seen.front; is_front = seen.is_front; taken = seen.stands }
 
 pub returns-in-Ok-clause-takes : goal.returns-in-Ok-clause-takes
 returns-in-Ok-clause-takes g c = λ base x before here.
     let p = g.R.Rows.properties c.args.rows.now in
     let rest = c.see_counted-rest.result.now in
-    let known = counted p c.see_counted-rest.new.self base x c.args.text.now rest (c.see_counted-rest.ensures.sees x before) in
+    let known = counted base (c.see_counted-rest.ensures.sees x before) in
     let d = c.in-Some.c in
     let is = chars_past_char rest c.as_str.result.now d c.see_counted-rest.utf8 (sym c.chars-chars.ensures.rest ∙ c.in-Some.ensures.steps.0 ∙ ap (λ l. encode_utf8 d ++ l) (sym c.as_str.ensures)) in
     takes-char (HasMeasured p c.see.new.self base) x c.args.text.now known.front rest c.as_str.result.now d known.is_front is (c.in-Ok.ensures.stands (x ++ known.front) known.taken)
@@ -24,7 +24,7 @@ returns-in-Err-clause-takes g c = λ base x before here.
     let p = g.R.Rows.properties c.args.rows.now in
     let text = c.args.text.now in
     let rest = c.see_counted-rest.result.now in
-    let known = counted p c.see_counted-rest.new.self base x text rest (c.see_counted-rest.ensures.sees x before) in
+    let known = counted base (c.see_counted-rest.ensures.sees x before) in
     let d = c.in-Some.c in
     let seen = x ++ known.front in
     let is = chars_past_char rest (chars_rest c.next.new.self) d c.see_counted-rest.utf8 (sym c.chars-chars.ensures.rest ∙ c.in-Some.ensures.steps.0) in

@@ -1,5 +1,5 @@
-use Rattle.nf_filter.proofs.Common.{◌≡◌, ◌+◌, ◌-◌, ◌≤◌, length, take, drop, refl, arith, nat_tests, length-drop, take_all, not-false, not-true, first_bytes}
-use Rattle.nf_filter.proofs.ReadingLemmas.{all_counted, ready_after}
+use Rattle.nf_filter.proofs.Common.{◌≡◌, ◌+◌, ◌-◌, ◌≤◌, length, take, drop, refl, arith, nat_tests, length-drop, take_all, not-false, not-true}
+use Rattle.nf_filter.proofs.ReadingLemmas.{ready_after}
 use Rattle.nf_filter.proofs.ChunkLemmas.{chunk-refused, chunk-read, chunk-bad, part_len_of, part-refused, part-read}
 use Rattle.nf_filter.proofs.reading.Reading.read_chunk.Goals as goal
 use Rattle.nf_filter.proofs.reading.Reading.read_chunk.Goals.{then-back-eq0, else-back-eq0}
@@ -12,9 +12,8 @@ returns-in-Err-clause-reads g c = λ f base bytes start both.
 pub returns-in_default-chunk_end : goal.returns-in_default-chunk_end
 returns-in_default-chunk_end g c =
     let chunk = c.take-chunk.result in
-    let counts = all_counted c.args.self.now.decoder c.args.rest.now chunk.first chunk.text.now chunk.end c.take-chunk.new.self c.in_default-chunk_end.not-Bad c.take-chunk.ensures.counts in
-    let after = ready_after (λ at. c.take_both.new.self.chars ≤ at) c.args.self.now.offset c.carried.result (length (first_bytes chunk.first)) (length chunk.text.now) (length c.take-chunk.new.self) (length c.args.self.now.decoder) (length c.args.rest.now) (c.args.self.now.offset + length c.args.rest.now)
-    c.carried.ensures.count counts c.requires.ready.held refl c.in_default.ensures.chars in
+    let after = ready_after (λ at. c.take_both.new.self.chars ≤ at) c.args.self.now.decoder c.args.rest.now chunk.first chunk.text.now chunk.end c.take-chunk.new.self c.args.self.now.offset c.carried.result (c.args.self.now.offset + length c.args.rest.now)
+    c.in_default-chunk_end.not-Bad c.take-chunk.ensures.counts c.carried.ensures.count c.requires.ready.held refl c.in_default.ensures.chars in
     record {
       ready = record { held = after.0; end = (c.in_default.ensures.within, after.1) };
       goes_on = (omega arith, λ some. omega (arith, some));

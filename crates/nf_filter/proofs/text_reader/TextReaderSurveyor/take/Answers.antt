@@ -1,6 +1,6 @@
-use Rattle.nf_filter.proofs.Common.{◌≡◌, ℕ, ◌+◌, ◌-◌, List, ◌++◌, [], length, rules, IsUtf8, chars, encode_utf8_all, encodes-chars, None, Some, Err, refl, sym, ap, ◌∙◌, subst, arith, append-nil, length-append, option_map, text_of, first_bytes, EndsPiece}
+use Rattle.nf_filter.proofs.Common.{◌≡◌, ℕ, ◌+◌, ◌-◌, List, ◌++◌, [], length, rules, IsUtf8, chars, encode_utf8_all, encodes-chars, None, Some, Err, refl, sym, ap, ◌∙◌, subst, arith, append-nil, length-append, option_map, text_of, EndsPiece}
 use Rattle.nf_filter.proofs.TakingLemmas.{place_at}
-use Rattle.nf_filter.proofs.ReadingLemmas.{ends_well, ends_badly, all_behind, all_counted, ready_after, decided_then}
+use Rattle.nf_filter.proofs.ReadingLemmas.{ends_well, ends_badly, all_behind, ready_after, decided_then}
 use Rattle.nf_filter.proofs.text_reader.TextReaderSurveyor.take.Goals as goal
 
 -- where the text behind the first character begins
@@ -25,9 +25,9 @@ returns-in-Bad-clause-decides g c = λ survey bytes before short.
 
 pub returns : goal.returns
 returns g c =
-    let counts = all_counted c.args.self.now.reading.decoder c.args.piece.now c.take-chunk.result.first c.take-chunk.result.text.now c.take-chunk.result.end c.take-chunk.new.self c.in_default-piece_end.not-Bad c.take-chunk.ensures.counts in
-    let after = ready_after (g.T.Taker.ends_at c.take_text-2.new.taker) c.args.self.now.reading.offset c.carried.result (length (first_bytes c.take-chunk.result.first)) (length c.take-chunk.result.text.now) (length c.take-chunk.new.self) (length c.args.self.now.reading.decoder) (length c.args.piece.now) c.in-Some.end
-    c.carried.ensures.count counts c.requires.held (omega (arith, c.in-Some.ensures)) (rw (sym c.encoded-first.ensures.len) (c.in_default-take_text-2.ensures.ready refl)) in
+    let chunk = c.take-chunk.result in
+    let after = ready_after (g.T.Taker.ends_at c.take_text-2.new.taker) c.args.self.now.reading.decoder c.args.piece.now chunk.first chunk.text.now chunk.end c.take-chunk.new.self c.args.self.now.reading.offset c.carried.result c.in-Some.end
+    c.in_default-piece_end.not-Bad c.take-chunk.ensures.counts c.carried.ensures.count c.requires.held (omega (arith, c.in-Some.ensures)) (rw (sym c.encoded-first.ensures.len) (c.in_default-take_text-2.ensures.ready refl)) in
     record {
       too_long = (λ e. cc, λ over. absurd (omega (arith, over)));
       goes_on = λ _. (record { held = after.0; end = after.1 }, omega (arith, c.in-Some.ensures));
