@@ -23,30 +23,24 @@ pub use Rattle.nf_forms.specs.declared.form.Form.{Form}
 pub use Rattle.nf_forms.specs.declared.form.Form.TheVariants.{Nfc, Nfd, Nfkc, Nfkd}
 pub use Rattle.nf_safe.specs.Place.{is_in_format, place, place_from}
 pub use Rattle.nf_safe.specs.declared.place.Place.{Place}
+pub use Rattle.nf_vectors.specs.Limits.{limit, block}
 pub use Rattle.nf_vectors.specs.Columns.{Columns, at, each}
-unfoldable pub use Rattle.nf_vectors.specs.Comparison.{sound_front, leaves_format, holds, broken_column, is_skipped}
-pub use Rattle.nf_vectors.specs.Comparison.{holds_at, expected}
+pub use Rattle.nf_vectors.specs.Comparison.{leaves_format, holds, broken_column, is_skipped, holds_at, expected}
 pub use Rattle.nf_vectors.specs.Held.{columns_at}
-unfoldable pub use Rattle.nf_vectors.specs.Judgement.{is_part1, row_in, columns_of, judgement}
-pub use Rattle.nf_vectors.specs.Judgement.{Judgement, Bad, Nothing, Part, Row, row_or_bad, judgement_of, columns_in}
-unfoldable pub use Rattle.nf_vectors.specs.Limits.{limit, block}
-unfoldable pub use Rattle.nf_vectors.specs.Line.{lines_of, content}
-pub use Rattle.nf_vectors.specs.Line.{is_line_end, is_semicolon, is_blank, is_gap, trimmed}
+pub use Rattle.nf_vectors.specs.Judgement.{is_part1, row_in, columns_of, judgement, Judgement, Bad, Nothing, Part, Row, row_or_bad, judgement_of, columns_in}
+pub use Rattle.nf_vectors.specs.Line.{lines_of, content, is_line_end, is_semicolon, is_blank, is_gap, without_blanks_behind, trimmed}
 pub use Rattle.nf_vectors.specs.ReadsSuite.{lines_within, stop_of, Finds, Tells}
-unfoldable pub use Rattle.nf_vectors.specs.Report.{verdict_of, report_of, failure_of}
-pub use Rattle.nf_vectors.specs.Report.{is_skip, is_pass, is_failure, failure_or, first_failure_of, report_and, failure_in, by_failure}
+unfoldable pub use Rattle.nf_vectors.specs.Report.{report_of}
+pub use Rattle.nf_vectors.specs.Report.{verdict_of, failure_of, is_skip, is_pass, is_failure, failure_or, first_failure_of, report_and, failure_in, by_failure}
 pub use Rattle.nf_vectors.specs.RunsOut.{RunsOut}
 pub use Rattle.nf_vectors.specs.Standing.{StandsAfter, EndsLine, IsWithin}
-unfoldable pub use Rattle.nf_vectors.specs.Suite.{judged}
-pub use Rattle.nf_vectors.specs.Suite.{part_behind, is_part1_line, rows_from, names_part1_from, fault_or, last_fault, first_fault, unmarked, VectorRow}
+pub use Rattle.nf_vectors.specs.Suite.{judged, part_behind, is_part1_line, rows_from, names_part1_from, fault_or, last_fault, first_fault, unmarked, VectorRow}
 unfoldable pub use Rattle.nf_vectors.specs.SuiteView.{rows_of}
-pub use Rattle.nf_vectors.specs.SuiteView.{rows_in, row_of}
-unfoldable pub use Rattle.nf_vectors.specs.Sweep.{is_unchanged, below, sweep_below, sweep_of}
-unfoldable pub use Rattle.nf_vectors.specs.Sweep.{is_listed}
-pub use Rattle.nf_vectors.specs.Sweep.{is_unlisted, is_failed, lists}
-pub use Rattle.nf_vectors.specs.Within.{AreWithin}
-unfoldable pub use Rattle.nf_vectors.specs.Words.{code_point, column_in}
-pub use Rattle.nf_vectors.specs.Words.{is_digit, value_of, is_scalar, before, then_codes, code_points, some_or_empty}
+pub use Rattle.nf_vectors.specs.SuiteView.{AreWithin, rows_in, row_of}
+unfoldable pub use Rattle.nf_vectors.specs.Sweep.{below, sweep_below, sweep_of}
+pub use Rattle.nf_vectors.specs.Sweep.{is_listed, is_unchanged, is_unlisted, is_failed, lists}
+unfoldable pub use Rattle.nf_vectors.specs.Words.{column_in}
+pub use Rattle.nf_vectors.specs.Words.{code_point, is_digit, value_of, is_scalar, and_then, before, code_points, some_or_empty}
 pub use Rattle.nf_vectors.specs.declared.columns.Column.{Column}
 pub use Rattle.nf_vectors.specs.declared.fault.VectorFault.{VectorFault}
 pub use Rattle.nf_vectors.specs.declared.fault.VectorKind.{VectorKind}

@@ -1,51 +1,43 @@
 -- Whether the sound front of a text leaves the Stream-Safe Text Format.
-use Rattle.nf_vectors.proofs.Common.{◌≡◌, ℕ, ◌≤◌, ◌<◌, true, false, List, length, take, Option, Some, None, is_some, refl, sym, ap, ◌∙◌, arith, ◌⊎◌, inl, inr, ⊎_elim, get_or, list_all, false≢true, false_from_ne_true, cases_order, cases_lt, take-length, length-take-le, Properties, is_sound, Place, is_in_format, place, place_from, sound_front, leaves_format}
-use Rattle.std.proofs.Math.Seq.{take-take, get_or-take}
-use Rattle.std.proofs.lemmas.List.Folds.{list_all_at}
-use Rattle.nf_forms.specs.Laws.Sound.{IsSoundText}
-use Rattle.nf_safe.specs.LongestFront.{longest_front, IsLongestFront}
-use Rattle.nf_safe.specs.Laws.LongestFront.{longest_front-all, longest_front_is}
-use Rattle.nf_safe.specs.Laws.Place.{is_in_format-take, place-none, place-in_format, place_from-in_format}
+use Rattle.nf_vectors.proofs.Common.{◌≡◌, ℕ, ◌+◌, ◌≤◌, ◌<◌, Bool, true, false, List, [], ◌∷◌, ◌++◌, length, take, drop, Option, Some, None, is_some, option_map, Result, Ok, refl, sym, ap, ◌∙◌, get_or, list_all, if◌then◌else◌, take_all, take_more, take-append-drop, Properties, is_sound, Place, place, place_from, leaves_format}
+use Rattle.nf_filter.specs.declared.fault.Fault.{Fault}
+use Rattle.nf_filter.specs.Checks.{sound_front, place_or_fault, text_decision}
+use Rattle.nf_safe.specs.Place.{place_at}
+use Rattle.nf_filter.specs.Laws.Undecided.{no_stop}
+use Rattle.nf_filter.proofs.ChecksLemmas.{all_sound-push, stop_place, stop_row}
 
-module _ (p : Properties) where
-  pub front-all : (x : List ℕ) → IsSoundText p x → sound_front p x ≡ x
-  unfolding sound_front
-  front-all x sound = ap (λ n. take n x) (longest_front-all (list_all (is_sound p)) x sound) ∙ take-length x
+-- what a text decides is a place
+is_place : Option (Result (Option Place) Fault) → Bool
+is_place (Some (Ok (Some at))) = true
+is_place _ = false
 
-  -- the sound front stands before the first unsound character
-  pub front-unsound : (x : List ℕ) (i : ℕ) → i < length x → IsSoundText p (take i x) → is_sound p (get_or x i 0) ≡ false → sound_front p x ≡ take i x
-  unfolding sound_front
-  front-unsound x i within sound unsound =
-      let m = longest_front (list_all (is_sound p)) x in
-      ap (λ k. take k x) (same m (longest_front_is (list_all (is_sound p)) x refl) (cases_order m i))
+module _ (p : Properties) (x : List ℕ) where
+  leaves-by : leaves_format p x ≡ is_place (text_decision p 0 x)
+  unfolding text_decision is_place
+  leaves-by = next (place p (sound_front p x)) (list_all (is_sound p) x) _
     where
-      longer : (k : ℕ) → i < k → k ≤ length x → list_all (is_sound p) (take k x) ≡ false
-      longer k above le = list_all_at (is_sound p) (take k x) i 0 (omega (arith, above, length-take-le k x le)) (ap (is_sound p) (get_or-take k x i 0 above) ∙ unsound)
+      next : (o : Option ℕ) (b : Bool) (row : Fault) → is_some o ≡ is_place (place_or_fault (option_map (place_at 0 (sound_front p x)) o) (if b then None else Some row))
+      next (Some n) b row = refl
+      next None true row = refl
+      next None false row = refl
 
-      same : (m : ℕ) → IsLongestFront (list_all (is_sound p)) x m → (m ≡ i) ⊎ ((m < i) ⊎ (i < m)) → m ≡ i
-      same m is (inl e) = e
-      same m is (inr (inl below)) = absurd (false≢true (sym (is.longer i below (omega (arith, within))) ∙ sound))
-      same m is (inr (inr above)) = absurd (false≢true (sym (longer m above is.within) ∙ is.passes))
+  pub leaves-none : (i : ℕ) → length x ≤ i → list_all (is_sound p) (take i x) ≡ true → place_from 0 p (take i x) ≡ None → false ≡ leaves_format p x
+  unfolding is_place
+  leaves-none i end sound none =
+      let all = take_all i x end in
+      sym (leaves-by ∙ ap is_place (no_stop p 0 x (ap (list_all (is_sound p)) (sym all) ∙ sound) (ap (place_from 0 p) (sym all) ∙ none)))
 
-  pub leaves-none : (x front : List ℕ) → sound_front p x ≡ front → is_in_format p front ≡ true → false ≡ leaves_format p x
-  unfolding leaves_format
-  leaves-none x front is stays = ap (λ (o : Option ℕ). is_some o) (sym (place-in_format p front stays)) ∙ ap (λ f. is_some (place p f)) (sym is)
+  -- a character behind sound ones
+  module _ (i c : ℕ) (within : i < length x) (is : c ≡ get_or x i c) (sound : list_all (is_sound p) (take i x) ≡ true) where
+    cut : x ≡ (take i x ++ c ∷ []) ++ drop (i + 1) x
+    cut = sym (take-append-drop (i + 1) x) ∙ ap (λ l. l ++ drop (i + 1) x) (take_more x i c within ∙ ap (λ d. take i x ++ d ∷ []) (sym is))
 
-  -- what has left the format has a place
-  some_place : (x : List ℕ) → is_in_format p x ≡ false → is_some (place p x) ≡ true
-  some_place x out = next (place p x) refl
-    where
-      next : (o : Option ℕ) → place p x ≡ o → is_some o ≡ true
-      next None is = absurd (false≢true (sym out ∙ place-none p x is))
-      next (Some n) is = refl
+    pub leaves-at : is_sound p c ≡ true → (at : Place) → place_from 0 p (take i x ++ c ∷ []) ≡ Some at → true ≡ leaves_format p x
+    unfolding is_place
+    leaves-at next at found =
+        sym (leaves-by ∙ ap (λ x. is_place (text_decision p 0 x)) cut ∙ ap is_place (stop_place p 0 (take i x ++ c ∷ []) (drop (i + 1) x) at (all_sound-push p (take i x) c sound next) found))
 
-  -- a front of sound characters that has a place
-  pub leaves-at : (x : List ℕ) (i : ℕ) → i ≤ length x → IsSoundText p (take i x) → (at : Place) → place_from 0 p (take i x) ≡ Some at → true ≡ leaves_format p x
-  unfolding leaves_format sound_front
-  leaves-at x i within sound at found = by (longest_front (list_all (is_sound p)) x) (longest_front_is (list_all (is_sound p)) x refl)
-    where
-      by : (m : ℕ) → IsLongestFront (list_all (is_sound p)) x m → true ≡ is_some (place p (take m x))
-      by m is =
-          let reach : i ≤ m = ⊎_elim (λ below. absurd (false≢true (sym (is.longer i below within) ∙ sound))) (λ above. above) (cases_lt m i) in
-          sym (some_place (take m x) (false_from_ne_true _ (λ stays.
-          let none = place_from-in_format p 0 (take i x) (ap (is_in_format p) (sym (take-take i m x reach)) ∙ is_in_format-take p (take m x) i stays) in cc)))
+    pub leaves-unsound : is_sound p c ≡ false → place_from 0 p (take i x) ≡ None → false ≡ leaves_format p x
+    unfolding is_place
+    leaves-unsound next none =
+        sym (leaves-by ∙ ap (λ x. is_place (text_decision p 0 x)) cut ∙ ap is_place (stop_row p 0 (take i x) c (drop (i + 1) x) sound none next))

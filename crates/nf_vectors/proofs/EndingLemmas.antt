@@ -1,28 +1,16 @@
 -- Where the reading of a vector file ends.
-use Rattle.nf_vectors.proofs.Common.{◌≡◌, ℕ, suc, ◌+◌, ◌-◌, ◌<◌, ◌≤◌, Bool, true, false, ◌||◌, List, [], ◌∷◌, ◌++◌, length, take, drop, get_or, Option, Some, None, Result, Ok, Err, refl, sym, ap, ◌∙◌, subst, arith, append_assoc, append-nil, ⊎_elim, OnOk, is_ok, if◌then◌else◌, lt-ltb, le-ltb, false≢true, cases_lt, or-false, take-append-add, length-append, take_at, drop_more, take-append-drop, VectorFault, VectorKind, Size, Read, Memory, Reading, is_line_end, lines_of, Judgement, Bad, judged, part_behind, is_part1_line, rows_from, names_part1_from, last_fault, first_fault, rows_in, AreWithin, StandsAfter, EndsLine, limit, block, lines_within, stop_of, Finds, RunsOut, take_all}
-use Rattle.nf_vectors.proofs.TextLemmas.{rows_in-append}
+use Rattle.nf_vectors.proofs.Common.{◌≡◌, ℕ, suc, ◌+◌, ◌-◌, ◌<◌, ◌≤◌, Bool, true, false, List, [], ◌∷◌, ◌++◌, length, take, drop, get_or, Option, Some, None, Result, Ok, Err, refl, sym, ap, ◌∙◌, subst, arith, append_assoc, append-nil, ⊎_elim, OnOk, is_ok, if◌then◌else◌, lt-ltb, le-ltb, false≢true, cases_lt, or-false, take-append-add, length-append, take_at, drop_more, take-append-drop, VectorFault, VectorKind, Size, Read, Memory, Reading, is_line_end, lines_of, Bad, judged, rows_from, names_part1_from, last_fault, first_fault, rows_in, StandsAfter, EndsLine, limit, block, lines_within, stop_of, Finds, RunsOut, take_all}
 use Rattle.nf_vectors.proofs.StandingLemmas.{lines_of-ended, lines_of-last, first_fault-ended}
 
 pub limit-is : limit ≡ 67108864
-unfolding limit
 limit-is = refl
 
 pub block-is : block ≡ 4096
-unfolding block
 block-is = refl
 
 pub at_ok : {A E : Type 0} {P : Type 0} (r : Result A E) → is_ok r ≡ true → OnOk r P → P
 at_ok (Ok x) e p = p
 at_ok (Err e) is p = absurd (false≢true is)
-
--- the text of a suite grew while the line was judged
-pub EndsLine-grown : (j k : Judgement) (old mid new : Reading) (more : List ℕ) → mid.text.items ≡ old.text.items ++ more → mid.entries.items ≡ old.entries.items
-    → mid.in_part1 ≡ old.in_part1 → mid.has_part1 ≡ old.has_part1 → mid.line ≡ old.line → AreWithin old.text.items old.entries.items → j ≡ k → EndsLine j mid new → EndsLine k old new
-EndsLine-grown j k old mid new more text entries in_part1 has_part1 line within is ends = subst (λ j. EndsLine j old new) is (record {
-  rows = rw (ends.rows, text, entries, rows_in-append old.text.items more old.entries.items within, line, in_part1) refl;
-  in_part1 = ends.in_part1 ∙ ap (λ p. part_behind p j) in_part1;
-  has_part1 = ends.has_part1 ∙ ap (λ p. p || is_part1_line j) has_part1;
-})
 
 module _ (reading : Reading) (bytes : List ℕ) (stands : StandsAfter reading bytes) where
   -- a bad line is the first fault, whatever follows

@@ -49,7 +49,6 @@ module _ (reads : ReadsBack) (f : Form) (p : Properties) (bytes x e : List ℕ) 
 
   -- it holds where all is taken and what is given is as expected
   holds_is : holds f p x e ≡ (is_ok (whole_answer p bytes) && bytes_eq (whole_utf8 f p bytes) (encode_utf8_all e))
-  unfolding holds
   holds_is = next (is_usable p x) refl ∙ ap (λ b. b && bytes_eq (whole_utf8 f p bytes) (encode_utf8_all e)) (sym answer_is)
     where
       next : (b : Bool) → is_usable p x ≡ b → (is_usable p x && bytes_eq (safe_form f p x) e) ≡ (is_usable p x && bytes_eq (whole_utf8 f p bytes) (encode_utf8_all e))

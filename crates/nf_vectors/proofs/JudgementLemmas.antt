@@ -4,12 +4,10 @@ use Rattle.nf_vectors.proofs.TextLemmas.{slice_range-append, slice_range-last}
 
 -- a line that says something, by its first byte
 pub judgement-by : (line : List ℕ) (b : ℕ) (more : List ℕ) → content line ≡ b ∷ more → (t : Bool) → (b == 0x40) ≡ t → judgement line ≡ (if t then Part (is_part1 more) else row_or_bad (row_in (b ∷ more)))
-unfolding judgement
 judgement-by line b more e t is = ap judgement_of e ∙ ap (λ t. if t then Part (is_part1 more) else row_or_bad (row_in (b ∷ more))) is
 
 -- a line by its number
 pub judged-by : (n : ℕ) (line : List ℕ) (t : Bool) → (n == 1) ≡ t → judged n line ≡ judgement (if t then unmarked line else line)
-unfolding judged
 judged-by n line t is = ap (λ t. judgement (if t then unmarked line else line)) is
 
 -- a column stands where it was put, whatever was put behind it

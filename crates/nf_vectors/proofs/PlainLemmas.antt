@@ -30,10 +30,9 @@ module _ (p : Properties) (c : ℕ) (plain : IsPlain p c) where
       ap (λ b. (if b then joiner ∷ [] else []) ++ c ∷ []) (le-ltb max_run (0 + lead p (p.compat c)) (omega (arith, few, lead-le-length p (p.compat c))))
 
   held-one : (f : Form) → holds f p (c ∷ []) (c ∷ []) ≡ true
-  unfolding holds is_usable safe_form
+  unfolding is_usable safe_form
   held-one f = and_from _ _ (ap (list_all (is_sound p)) safe-one ∙ and_from _ _ plain.sound refl) ((bytes_eq-Decides (safe_form f p (c ∷ [])) (c ∷ [])).1
       (ap (normal_form f p) safe-one ∙ ap (finished f p) (decomposed-one f) ∙ arranged-one (composes f)))
 
   pub unchanged-plain : is_unchanged p c ≡ true
-  unfolding is_unchanged
   unchanged-plain = and_from _ _ (and_from _ _ (and_from _ _ (held-one Nfc) (held-one Nfd)) (held-one Nfkc)) (held-one Nfkd)

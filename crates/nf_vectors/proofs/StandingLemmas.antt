@@ -4,16 +4,13 @@ use Rattle.nf_vectors.proofs.PieceLemmas.{split-some}
 
 module _ (line : List ℕ) (one : All (λ b. is_line_end b ≡ false) line) where
   pub lines_of-ended : (b : ℕ) (more : List ℕ) → is_line_end b ≡ true → lines_of (line ++ b ∷ more) ≡ line ∷ lines_of more
-  unfolding lines_of
   lines_of-ended b more e = slice_split_at is_line_end line b more one e
 
   pub lines_of-last : lines_of (line ++ []) ≡ line ∷ []
-  unfolding lines_of
   lines_of-last = ap lines_of (append-nil line) ∙ slice_split_none is_line_end line one
 
 pub first_fault-ended : (n : ℕ) (stop : Option VectorKind) (line bytes : List ℕ)
     → first_fault n stop (line ∷ lines_of bytes) ≡ fault_or n (judged n line) (first_fault (n + 1) stop (lines_of bytes))
-unfolding lines_of
 first_fault-ended n stop line bytes =
     let some = split-some is_line_end bytes in
     ap (λ more. first_fault n stop (line ∷ more)) some.2 ∙ ap (λ more. fault_or n (judged n line) (first_fault (n + 1) stop more)) (sym some.2)

@@ -23,7 +23,6 @@ module _ (f : Form) (p : Properties) (columns : Columns) (items : List Column) (
   broken-behind held = by_test true held
 
 pub verdict-by : (p : Properties) (row : VectorRow) (b : Bool) → is_skipped p row.columns ≡ b → (if b then Skipped else by_failure (failure_of p row.line row.columns)) ≡ verdict_of p row
-unfolding verdict_of
 verdict-by p row b e = sym (ap (λ b. if b then Skipped else by_failure (failure_of p row.line row.columns)) e)
 
 -- the UTF-8 of a column

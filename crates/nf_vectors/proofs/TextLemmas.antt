@@ -12,13 +12,13 @@ slice_range-last xs ys i j start end =
     ap (take (j - i)) (drop_at xs ys i (sym start)) ∙ take_all (j - i) ys (omega (arith, length-append xs ys))
 
 pub columns_at-append : (text more : List ℕ) (ends : Ends) → ends.nfkd ≤ length text → columns_at (text ++ more) ends ≡ columns_at text ends
-columns_at-append text more ends within =
-    let a = slice_range-append text more ends.start ends.source ends.source_behind (omega (arith, ends.nfc_behind, ends.nfd_behind, ends.nfkc_behind, ends.nfkd_behind)) in
-    let b = slice_range-append text more ends.source ends.nfc ends.nfc_behind (omega (arith, ends.nfd_behind, ends.nfkc_behind, ends.nfkd_behind)) in
-    let c = slice_range-append text more ends.nfc ends.nfd ends.nfd_behind (omega (arith, ends.nfkc_behind, ends.nfkd_behind)) in
-    let d = slice_range-append text more ends.nfd ends.nfkc ends.nfkc_behind (omega (arith, ends.nfkd_behind)) in
-    let e = slice_range-append text more ends.nfkc ends.nfkd ends.nfkd_behind within in
-    (λ i. record { source = a i; nfc = b i; nfd = c i; nfkc = d i; nfkd = e i })
+columns_at-append text more ends within = (λ i. record {
+  source = slice_range-append text more ends.start ends.source (omega arith) (omega arith) i;
+  nfc = slice_range-append text more ends.source ends.nfc (omega arith) (omega arith) i;
+  nfd = slice_range-append text more ends.nfc ends.nfd (omega arith) (omega arith) i;
+  nfkc = slice_range-append text more ends.nfd ends.nfkc (omega arith) (omega arith) i;
+  nfkd = slice_range-append text more ends.nfkc ends.nfkd (omega arith) within i;
+})
 
 pub rows_in-append : (text more : List ℕ) (entries : List Entry) → AreWithin text entries → rows_in (text ++ more) entries ≡ rows_in text entries
 rows_in-append text more [] within = refl

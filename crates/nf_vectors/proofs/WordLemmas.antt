@@ -3,18 +3,13 @@ use Rattle.std.specs.Iterator.{Yields}
 use Rattle.std.proofs.lemmas.Iterator.{YieldsList}
 use Rattle.std.proofs.lemmas.Iterator.Consumers.{YieldsList-turn, YieldsList-end}
 use Rattle.std.proofs.lemmas.Result.{IfOk-weaker, IfOk-at_ok}
-use Rattle.nf_vectors.proofs.Common.{Bor, ◌≡◌, Option, Some, None, drop_all, length_push, IfOk, ℕ, ◌≤◌, Bool, true, false, cond, List, [], ◌∷◌, ◌++◌, length, drop, Result, Ok, Err, refl, sym, ap, ◌∙◌, arith, append_assoc, append-nil, sum_by, slice_split, onto_first, drop_more, sum_by-cons, VectorKind, Empty, is_gap, code_point, before, then_codes, code_points, some_or_empty, column_in}
+use Rattle.nf_vectors.proofs.Common.{Bor, ◌≡◌, Option, Some, None, drop_all, length_push, IfOk, ℕ, ◌≤◌, Bool, true, false, cond, List, [], ◌∷◌, ◌++◌, length, drop, Result, Ok, Err, refl, sym, ap, ◌∙◌, arith, append_assoc, append-nil, sum_by, slice_split, onto_first, drop_more, sum_by-cons, VectorKind, Empty, is_gap, code_point, and_then, before, code_points, some_or_empty, column_in}
 
--- code points, and then those behind them
-abbrev pub prefixed : List ℕ → Result (List ℕ) VectorKind → Result (List ℕ) VectorKind
-prefixed cs (Ok more) = Ok (cs ++ more)
-prefixed cs (Err kind) = Err kind
+before-before : (cs : List ℕ) (c : ℕ) (r : Result (List ℕ) VectorKind) → before cs (before (c ∷ []) r) ≡ before (cs ++ c ∷ []) r
+before-before cs c (Ok more) = ap Ok (sym (append_assoc cs (c ∷ []) more))
+before-before cs c (Err kind) = refl
 
-prefixed-before : (cs : List ℕ) (c : ℕ) (r : Result (List ℕ) VectorKind) → prefixed cs (before c r) ≡ prefixed (cs ++ c ∷ []) r
-prefixed-before cs c (Ok more) = ap Ok (sym (append_assoc cs (c ∷ []) more))
-prefixed-before cs c (Err kind) = refl
-
-code_points-word : (word : List ℕ) (words : List (List ℕ)) → ¬ (length word ≡ 0) → code_points (word ∷ words) ≡ then_codes (code_point word) (code_points words)
+code_points-word : (word : List ℕ) (words : List (List ℕ)) → ¬ (length word ≡ 0) → code_points (word ∷ words) ≡ and_then (code_point word) (λ c. before (c ∷ []) (code_points words))
 code_points-word [] words some = absurd (some refl)
 code_points-word (b ∷ bs) words some = refl
 
@@ -25,31 +20,31 @@ code_points-empty (b ∷ bs) words none = absurd (omega arith)
 -- the words of a column, of which an iterator gave these, with these code points
 module _ {S : Type 0} {steps : S → Option (Bor (List ℕ)) → S → Type 0} {s : S} (column : List ℕ) (yields : YieldsList steps (λ word. word.now) s (slice_split is_gap column))
     (words : List (Bor (List ℕ))) (t : S) (gave : Yields steps s words t)
-    (codes : List ℕ) (so_far : code_points (slice_split is_gap column) ≡ prefixed codes (code_points (drop (length words) (slice_split is_gap column)))) where
+    (codes : List ℕ) (so_far : code_points (slice_split is_gap column) ≡ before codes (code_points (drop (length words) (slice_split is_gap column)))) where
   -- no more
   pub whole : (r : Option (Bor (List ℕ))) (u : S) → r ≡ None → steps t r u → code_points (slice_split is_gap column) ≡ Ok codes
   whole r u none step =
-      so_far ∙ ap (λ ws. prefixed codes (code_points ws)) (drop_all (length words) (slice_split is_gap column) (omega (arith, (YieldsList-end yields words t gave r u none step).1))) ∙ ap Ok (append-nil codes)
+      so_far ∙ ap (λ ws. before codes (code_points ws)) (drop_all (length words) (slice_split is_gap column) (omega (arith, (YieldsList-end yields words t gave r u none step).1))) ∙ ap Ok (append-nil codes)
 
   -- one more
   module _ (r : Option (Bor (List ℕ))) (u : S) (word : Bor (List ℕ)) (some : r ≡ Some word) (step : steps t r u) where
     abbrev rest : List (List ℕ)
     rest = drop (length (words ++ word ∷ [])) (slice_split is_gap column)
 
-    at_word : code_points (slice_split is_gap column) ≡ prefixed codes (code_points (word.now ∷ rest))
+    at_word : code_points (slice_split is_gap column) ≡ before codes (code_points (word.now ∷ rest))
     at_word =
         let turn = YieldsList-turn yields words t gave r u word some step in
-        so_far ∙ ap (λ ws. prefixed codes (code_points ws)) (drop_more (slice_split is_gap column) (length words) word.now turn.0
+        so_far ∙ ap (λ ws. before codes (code_points ws)) (drop_more (slice_split is_gap column) (length words) word.now turn.0
         ∙ (λ i. sym turn.1 i ∷ drop (sym (length_push words word) i) (slice_split is_gap column)))
 
-    pub skipped : length word.now ≡ 0 → code_points (slice_split is_gap column) ≡ prefixed codes (code_points rest)
-    skipped none = at_word ∙ ap (prefixed codes) (code_points-empty word.now rest none)
+    pub skipped : length word.now ≡ 0 → code_points (slice_split is_gap column) ≡ before codes (code_points rest)
+    skipped none = at_word ∙ ap (before codes) (code_points-empty word.now rest none)
 
-    pub pushed : (c : ℕ) → ¬ (length word.now ≡ 0) → code_point word.now ≡ Ok c → code_points (slice_split is_gap column) ≡ prefixed (codes ++ c ∷ []) (code_points rest)
-    pushed c letters e = at_word ∙ ap (prefixed codes) (code_points-word word.now rest letters ∙ ap (λ r. then_codes r (code_points rest)) e) ∙ prefixed-before codes c (code_points rest)
+    pub pushed : (c : ℕ) → ¬ (length word.now ≡ 0) → code_point word.now ≡ Ok c → code_points (slice_split is_gap column) ≡ before (codes ++ c ∷ []) (code_points rest)
+    pushed c letters e = at_word ∙ ap (before codes) (code_points-word word.now rest letters ∙ ap (λ r. and_then r (λ c. before (c ∷ []) (code_points rest))) e) ∙ before-before codes c (code_points rest)
 
     pub refused : (kind : VectorKind) → ¬ (length word.now ≡ 0) → code_point word.now ≡ Err kind → code_points (slice_split is_gap column) ≡ Err kind
-    refused kind letters e = at_word ∙ ap (prefixed codes) (code_points-word word.now rest letters ∙ ap (λ r. then_codes r (code_points rest)) e)
+    refused kind letters e = at_word ∙ ap (before codes) (code_points-word word.now rest letters ∙ ap (λ r. and_then r (λ c. before (c ∷ []) (code_points rest))) e)
 
 pub column_in-some : (column codes : List ℕ) → code_points (slice_split is_gap column) ≡ Ok codes → ¬ (length codes ≡ 0) → column_in column ≡ Ok codes
 unfolding column_in
@@ -67,7 +62,7 @@ code_points-le [] = omega arith
 code_points-le ([] ∷ words) = IfOk-weaker (code_points words) _ _ (λ codes le. omega (arith, le, sum_by-cons length [] words)) (code_points-le words)
 code_points-le ((b ∷ bs) ∷ words) = next (code_point (b ∷ bs)) (code_points words) (code_points-le words)
   where
-    next : (r : Result ℕ VectorKind) (rs : Result (List ℕ) VectorKind) → IfOk rs (λ codes. length codes ≤ sum_by length words) → IfOk (then_codes r rs) (λ codes. length codes ≤ sum_by length ((b ∷ bs) ∷ words))
+    next : (r : Result ℕ VectorKind) (rs : Result (List ℕ) VectorKind) → IfOk rs (λ codes. length codes ≤ sum_by length words) → IfOk (and_then r (λ c. before (c ∷ []) rs)) (λ codes. length codes ≤ sum_by length ((b ∷ bs) ∷ words))
     next (Err kind) rs le = tt
     next (Ok c) (Err kind) le = tt
     next (Ok c) (Ok cs) le = omega (arith, le, sum_by-cons length (b ∷ bs) words)

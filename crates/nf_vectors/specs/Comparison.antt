@@ -1,20 +1,18 @@
 -- The comparisons that a row of NormalizationTest.txt asks for.
-use Rattle.std.specs.Prelude.{ℕ, Bool, true, false, not, ◌&&◌, ◌||◌, List, [], ◌∷◌, take, Option, is_some, if◌then◌else◌, bytes_eq, find}
-use Rattle.std.specs.List.{list_all}
+use Rattle.std.specs.Prelude.{ℕ, Bool, true, false, not, ◌&&◌, ◌||◌, List, [], ◌∷◌, Option, is_some, if◌then◌else◌, bytes_eq, find}
 use Rattle.nf_forms.specs.Properties.{Properties}
 use Rattle.nf_forms.specs.declared.form.Form.{Form}
 use Rattle.nf_forms.specs.declared.form.Form.TheVariants.{Nfc, Nfd, Nfkc, Nfkd}
-use Rattle.nf_forms.specs.Sound.{is_sound}
-use Rattle.nf_safe.specs.LongestFront.{longest_front}
 use Rattle.nf_safe.specs.Place.{place}
 use Rattle.nf_forms.specs.SafeForm.{safe_form}
+use Rattle.nf_filter.specs.Checks.{sound_front}
 use Rattle.nf_filter.specs.Settled.{is_usable}
 use Rattle.nf_vectors.specs.declared.columns.Column.{Column}
 use Rattle.nf_vectors.specs.declared.columns.Column.TheVariants as columns
 use Rattle.nf_vectors.specs.Columns.{Columns, at}
 
 -- the characters of the column's stream-safe text are sound, and its form is this
-unfoldable pub holds : Form → Properties → List ℕ → List ℕ → Bool
+abbrev pub holds : Form → Properties → List ℕ → List ℕ → Bool
 holds f p column expected = is_usable p column && bytes_eq (safe_form f p column) expected
 
 abbrev pub is_compat : Column → Bool
@@ -33,17 +31,13 @@ abbrev pub holds_at : Form → Properties → Columns → Column → Bool
 holds_at f p row column = holds f p (at row column) (at row (expected f column))
 
 -- the first column of which the comparison does not hold
-unfoldable pub broken_column : Form → Properties → Columns → Option Column
+abbrev pub broken_column : Form → Properties → Columns → Option Column
 broken_column f p row = find (λ column. not (holds_at f p row column)) (columns.Source ∷ columns.Nfc ∷ columns.Nfd ∷ columns.Nfkc ∷ columns.Nfkd ∷ [])
 
--- what stands before the first unsound character
-unfoldable pub sound_front : Properties → List ℕ → List ℕ
-sound_front p column = take (longest_front (list_all (is_sound p)) column) column
-
--- it leaves the Stream-Safe Text Format (UAX #15, section 13)
-unfoldable pub leaves_format : Properties → List ℕ → Bool
+-- what stands before its first unsound character leaves the Stream-Safe Text Format (UAX #15, section 13)
+abbrev pub leaves_format : Properties → List ℕ → Bool
 leaves_format p column = is_some (place p (sound_front p column))
 
 -- a row is skipped where one of its columns does
-unfoldable pub is_skipped : Properties → Columns → Bool
+abbrev pub is_skipped : Properties → Columns → Bool
 is_skipped p columns = leaves_format p columns.source || leaves_format p columns.nfc || leaves_format p columns.nfd || leaves_format p columns.nfkc || leaves_format p columns.nfkd

@@ -2,10 +2,10 @@
 use Rattle.std.specs.Prelude.{ℕ, Bool, ◌==◌, List, [], ◌∷◌, if◌then◌else◌, bytes_eq, Result, Ok, Err, codes}
 use Rattle.std.specs.List.{before_first, list_all, slice_split}
 use Rattle.nf_vectors.specs.declared.fault.VectorKind.{VectorKind}
-use Rattle.nf_vectors.specs.declared.fault.VectorKind.TheVariants.{Fields, Empty, Hex, Scalar, Size, Read, Memory}
+use Rattle.nf_vectors.specs.declared.fault.VectorKind.TheVariants.{Fields, Size, Read}
 use Rattle.nf_vectors.specs.Columns.{Columns}
 use Rattle.nf_vectors.specs.Line.{is_semicolon, is_gap, is_blank, content}
-use Rattle.nf_vectors.specs.Words.{column_in}
+use Rattle.nf_vectors.specs.Words.{and_then, column_in}
 
 pub data Judgement : Type 0 where
   Nothing : Judgement
@@ -13,12 +13,8 @@ pub data Judgement : Type 0 where
   Row : (columns : Columns) → Judgement
   Bad : (kind : VectorKind) → Judgement
 
-abbrev pub and_then : {A B : Type 0} → Result A VectorKind → (A → Result B VectorKind) → Result B VectorKind
-and_then (Ok x) f = f x
-and_then (Err kind) f = Err kind
-
 -- the columns, read from the first to the last
-unfoldable pub columns_of : List ℕ → List ℕ → List ℕ → List ℕ → List ℕ → Result Columns VectorKind
+abbrev pub columns_of : List ℕ → List ℕ → List ℕ → List ℕ → List ℕ → Result Columns VectorKind
 columns_of a b c d e =
     and_then (column_in a) (λ source. and_then (column_in b) (λ nfc. and_then (column_in c) (λ nfd.
     and_then (column_in d) (λ nfkc. and_then (column_in e) (λ nfkd.
@@ -35,10 +31,10 @@ row_or_bad (Ok columns) = Row columns
 row_or_bad (Err kind) = Bad kind
 
 -- behind '@' the name up to the first gap is that of Part 1
-unfoldable pub is_part1 : List ℕ → Bool
+abbrev pub is_part1 : List ℕ → Bool
 is_part1 name = bytes_eq (before_first is_gap name) (codes "Part1")
 
-unfoldable pub row_in : List ℕ → Result Columns VectorKind
+abbrev pub row_in : List ℕ → Result Columns VectorKind
 row_in line = columns_in (slice_split is_semicolon line)
 
 -- by what the line says: nothing, '@' and the name of a part, or a row
@@ -46,15 +42,11 @@ abbrev pub judgement_of : List ℕ → Judgement
 judgement_of [] = Nothing
 judgement_of (b ∷ more) = if b == 0x40 then Part (is_part1 more) else row_or_bad (row_in (b ∷ more))
 
-unfoldable pub judgement : List ℕ → Judgement
+abbrev pub judgement : List ℕ → Judgement
 judgement line = judgement_of (content line)
 
 -- the kinds that judging a line can answer
 abbrev pub IsOfLine : VectorKind → Type 0
-IsOfLine Fields = Unit {0}
-IsOfLine Empty = Unit {0}
-IsOfLine Hex = Unit {0}
-IsOfLine Scalar = Unit {0}
 IsOfLine Size = ⊥
 IsOfLine Read = ⊥
-IsOfLine Memory = Unit {0}
+IsOfLine _ = Unit {0}

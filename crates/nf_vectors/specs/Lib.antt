@@ -5,7 +5,6 @@ pub mod Words
 pub mod Judgement
 pub mod Suite
 pub mod Held
-pub mod Within
 pub mod SuiteView
 pub mod RunsOut
 pub mod ReadsSuite

@@ -2,9 +2,9 @@
 use Rattle.std.specs.Prelude.{ℕ}
 
 -- the most that it may have
-unfoldable pub limit : ℕ
+abbrev pub limit : ℕ
 limit = 67108864
 
 -- the most that is asked of the source at once
-unfoldable pub block : ℕ
+abbrev pub block : ℕ
 block = 4096

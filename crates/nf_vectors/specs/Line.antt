@@ -30,9 +30,9 @@ abbrev pub trimmed : List ℕ → List ℕ
 trimmed bytes = without_blanks_behind (drop (prefix_len is_blank bytes) bytes)
 
 -- what a line says: without its comment and the blanks at its ends
-unfoldable pub content : List ℕ → List ℕ
+abbrev pub content : List ℕ → List ℕ
 content line = trimmed (before_first is_hash line)
 
 -- the lines of a file: each ended by LF, and the last, perhaps empty, by the end of the file
-unfoldable pub lines_of : List ℕ → List (List ℕ)
+abbrev pub lines_of : List ℕ → List (List ℕ)
 lines_of bytes = slice_split is_line_end bytes

@@ -16,35 +16,31 @@ abbrev pub failure_in : Form → Properties → ℕ → Columns → Option Failu
 failure_in f p line columns = option_map (λ column. record { line = line; form = f; column = number_of column }) (broken_column f p columns)
 
 -- the first comparison of a row that does not hold
-unfoldable pub failure_of : Properties → ℕ → Columns → Option Failure
+abbrev pub failure_of : Properties → ℕ → Columns → Option Failure
 failure_of p line columns = option_or (failure_in Nfc p line columns) (option_or (failure_in Nfd p line columns) (option_or (failure_in Nfkc p line columns) (failure_in Nfkd p line columns)))
 
 abbrev pub by_failure : Option Failure → Verdict
 by_failure None = Passed
 by_failure (Some failure) = Failed failure
 
-unfoldable pub verdict_of : Properties → VectorRow → Verdict
+abbrev pub verdict_of : Properties → VectorRow → Verdict
 verdict_of p row = if is_skipped p row.columns then Skipped else by_failure (failure_of p row.line row.columns)
 
 abbrev pub is_skip : Verdict → Bool
 is_skip Skipped = true
-is_skip Passed = false
-is_skip (Failed failure) = false
+is_skip _ = false
 
 abbrev pub is_pass : Verdict → Bool
-is_pass Skipped = false
 is_pass Passed = true
-is_pass (Failed failure) = false
+is_pass _ = false
 
 abbrev pub is_failure : Verdict → Bool
-is_failure Skipped = false
-is_failure Passed = false
 is_failure (Failed failure) = true
+is_failure _ = false
 
 abbrev pub failure_or : Verdict → Option Failure → Option Failure
-failure_or Skipped other = other
-failure_or Passed other = other
 failure_or (Failed failure) other = Some failure
+failure_or _ other = other
 
 -- that of the first row that fails
 abbrev pub first_failure_of : Properties → List VectorRow → Option Failure

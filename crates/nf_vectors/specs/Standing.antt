@@ -5,8 +5,7 @@ use Rattle.nf_vectors.specs.declared.reading.Reading.{Reading}
 use Rattle.nf_vectors.specs.Line.{is_line_end, lines_of}
 use Rattle.nf_vectors.specs.Judgement.{Judgement}
 use Rattle.nf_vectors.specs.Suite.{row_at, part_behind, is_part1_line, rows_from, names_part1_from, first_fault}
-use Rattle.nf_vectors.specs.SuiteView.{rows_in}
-use Rattle.nf_vectors.specs.Within.{AreWithin}
+use Rattle.nf_vectors.specs.SuiteView.{AreWithin, rows_in}
 
 -- whatever follows these bytes, the file is that of the lines that were ended, and then of the line begun
 pub record StandsAfter (reading : Reading) (bytes : List ℕ) : Type 0 where

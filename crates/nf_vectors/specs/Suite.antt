@@ -3,7 +3,7 @@ use Rattle.std.specs.Prelude.{ℕ, ◌+◌, Bool, false, ◌||◌, ◌==◌, Lis
 use Rattle.nf_vectors.specs.declared.fault.VectorFault.{VectorFault}
 use Rattle.nf_vectors.specs.declared.fault.VectorKind.{VectorKind}
 use Rattle.nf_vectors.specs.Columns.{Columns}
-use Rattle.nf_vectors.specs.Judgement.{Judgement, Nothing, Part, Row, Bad, judgement}
+use Rattle.nf_vectors.specs.Judgement.{Judgement, Part, Row, Bad, judgement}
 
 pub record VectorRow : Type 0 where
   pub line : ℕ
@@ -15,28 +15,22 @@ abbrev pub unmarked : List ℕ → List ℕ
 unmarked line = if bytes_eq (take 3 line) (0xEF ∷ 0xBB ∷ 0xBF ∷ []) then drop 3 line else line
 
 -- a line by its number, from 1
-unfoldable pub judged : ℕ → List ℕ → Judgement
+abbrev pub judged : ℕ → List ℕ → Judgement
 judged n line = judgement (if n == 1 then unmarked line else line)
 
 -- the row that a line is
 abbrev pub row_at : ℕ → Bool → Judgement → List VectorRow
-row_at n in_part1 Nothing = []
-row_at n in_part1 (Part is_part1) = []
 row_at n in_part1 (Row columns) = record { line = n; in_part1 = in_part1; columns = columns } ∷ []
-row_at n in_part1 (Bad kind) = []
+row_at n in_part1 _ = []
 
 -- whether the lines behind it are in Part 1
 abbrev pub part_behind : Bool → Judgement → Bool
-part_behind in_part1 Nothing = in_part1
 part_behind in_part1 (Part is_part1) = is_part1
-part_behind in_part1 (Row columns) = in_part1
-part_behind in_part1 (Bad kind) = in_part1
+part_behind in_part1 _ = in_part1
 
 abbrev pub is_part1_line : Judgement → Bool
-is_part1_line Nothing = false
 is_part1_line (Part is_part1) = is_part1
-is_part1_line (Row columns) = false
-is_part1_line (Bad kind) = false
+is_part1_line _ = false
 
 -- the rows of lines, of which the first has the number n
 abbrev pub rows_from : ℕ → Bool → List (List ℕ) → List VectorRow
@@ -50,10 +44,8 @@ names_part1_from n (line ∷ more) = is_part1_line (judged n line) || names_part
 
 -- the fault of a line, or else
 abbrev pub fault_or : ℕ → Judgement → Option VectorFault → Option VectorFault
-fault_or n Nothing other = other
-fault_or n (Part is_part1) other = other
-fault_or n (Row columns) other = other
 fault_or n (Bad kind) other = Some (record { line = n; kind = kind })
+fault_or n _ other = other
 
 -- the fault where the reading stops in the last line: what stopped it, or else that of the line
 abbrev pub last_fault : ℕ → Option VectorKind → List ℕ → Option VectorFault

@@ -13,14 +13,14 @@ use Rattle.nf_vectors.specs.Comparison.{holds}
 abbrev pub lists : ℕ → VectorRow → Bool
 lists c row = row.in_part1 && bytes_eq row.columns.source (c ∷ [])
 
-unfoldable pub is_listed : List VectorRow → ℕ → Bool
+abbrev pub is_listed : List VectorRow → ℕ → Bool
 is_listed rows c = list_any (lists c) rows
 
 abbrev pub is_unlisted : List VectorRow → ℕ → Bool
 is_unlisted rows c = is_scalar c && not (is_listed rows c)
 
 -- no form changes the text of c alone
-unfoldable pub is_unchanged : Properties → ℕ → Bool
+abbrev pub is_unchanged : Properties → ℕ → Bool
 is_unchanged p c = holds Nfc p (c ∷ []) (c ∷ []) && holds Nfd p (c ∷ []) (c ∷ []) && holds Nfkc p (c ∷ []) (c ∷ []) && holds Nfkd p (c ∷ []) (c ∷ [])
 
 abbrev pub is_failed : Properties → List VectorRow → ℕ → Bool

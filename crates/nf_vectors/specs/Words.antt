@@ -1,5 +1,5 @@
 -- The code points of a column: words of hexadecimal digits.
-use Rattle.std.specs.Prelude.{ℕ, ◌+◌, ◌*◌, Bool, not, ◌&&◌, nat_le, nat_lt, List, [], ◌∷◌, length, fold, if◌then◌else◌, Result, Ok, Err}
+use Rattle.std.specs.Prelude.{ℕ, ◌+◌, ◌*◌, Bool, not, ◌&&◌, nat_le, nat_lt, List, [], ◌∷◌, ◌++◌, length, fold, if◌then◌else◌, Result, Ok, Err}
 use Rattle.std.specs.Char.{digit_value}
 use Rattle.std.specs.Int.{is_in_range}
 use Rattle.std.specs.List.{list_all, slice_split}
@@ -19,26 +19,25 @@ abbrev pub is_scalar : ℕ → Bool
 is_scalar c = nat_lt c 0x110000 && not (is_in_range 0xD800 0xDFFF c)
 
 -- the code point that a word is
-unfoldable pub code_point : List ℕ → Result ℕ VectorKind
+abbrev pub code_point : List ℕ → Result ℕ VectorKind
 code_point word =
     let is_number = nat_le 1 (length word) && nat_le (length word) 6 && list_all is_digit word in
     let code = if is_scalar (value_of word) then Ok (value_of word) else Err Scalar in
     if is_number then code else Err Hex
 
--- a code point, and then those behind it
-abbrev pub before : ℕ → Result (List ℕ) VectorKind → Result (List ℕ) VectorKind
-before c (Ok cs) = Ok (c ∷ cs)
-before c (Err kind) = Err kind
+abbrev pub and_then : {A B : Type 0} → Result A VectorKind → (A → Result B VectorKind) → Result B VectorKind
+and_then (Ok x) f = f x
+and_then (Err kind) f = Err kind
 
-abbrev pub then_codes : Result ℕ VectorKind → Result (List ℕ) VectorKind → Result (List ℕ) VectorKind
-then_codes (Ok c) more = before c more
-then_codes (Err kind) more = Err kind
+-- code points, and then those behind them
+abbrev pub before : List ℕ → Result (List ℕ) VectorKind → Result (List ℕ) VectorKind
+before codes more = and_then more (λ cs. Ok (codes ++ cs))
 
 -- the code points of words, of which the empty ones are none; the first bad word is the fault
 abbrev pub code_points : List (List ℕ) → Result (List ℕ) VectorKind
 code_points [] = Ok []
 code_points ([] ∷ words) = code_points words
-code_points ((b ∷ bs) ∷ words) = then_codes (code_point (b ∷ bs)) (code_points words)
+code_points ((b ∷ bs) ∷ words) = and_then (code_point (b ∷ bs)) (λ c. before (c ∷ []) (code_points words))
 
 abbrev pub some_or_empty : Result (List ℕ) VectorKind → Result (List ℕ) VectorKind
 some_or_empty (Ok []) = Err Empty

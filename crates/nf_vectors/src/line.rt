@@ -76,18 +76,10 @@ fn pieces_of(line: &[u8]) -> Option<Columns<&[u8]>>
     ensures len { MatchOption result (0 ≤ length line.now)
         (λ p. length p.source.now + length p.nfc.now + length p.nfd.now + length p.nfkc.now + length p.nfkd.now ≤ length line.now) }
 {
-    let Some((source, rest)) = cut(line, b';') else {
-        return None;
-    };
-    let Some((nfc, rest)) = cut(rest, b';') else {
-        return None;
-    };
-    let Some((nfd, rest)) = cut(rest, b';') else {
-        return None;
-    };
-    let Some((nfkc, rest)) = cut(rest, b';') else {
-        return None;
-    };
+    let (source, rest) = cut(line, b';')?;
+    let (nfc, rest) = cut(rest, b';')?;
+    let (nfd, rest) = cut(rest, b';')?;
+    let (nfkc, rest) = cut(rest, b';')?;
     let nfkd = match cut(rest, b';') {
         None => rest,
         Some((nfkd, last)) => {

@@ -34,7 +34,7 @@ impl Reading {
     ghost use Rattle.nf_vectors.specs.Suite.{fault_or, first_fault};
     ghost use Rattle.nf_vectors.specs.Judgement.{Judgement, Bad, IsOfLine};
     ghost use Rattle.nf_vectors.specs.Held.{Holds};
-    ghost use Rattle.nf_vectors.specs.Within.{AreWithin};
+    ghost use Rattle.nf_vectors.specs.SuiteView.{AreWithin};
     ghost use Rattle.nf_vectors.specs.Line.{lines_of};
     ghost use Rattle.nf_vectors.specs.Standing.{StandsAfter, IsWithin, EndsLine};
     ghost use Rattle.nf_vectors.specs.Limits.{block};

@@ -26,24 +26,19 @@ pub(crate) fn cut(bytes: &[u8], separator: u8) -> Option<(&[u8], &[u8])>
         × (parts.0.now ≡ before_first (λ b. b == separator) bytes.now) × (parts.1.now ≡ after_first (λ b. b == separator) bytes.now)) }
     ensures len { MatchOption result (0 ≤ length bytes.now) (λ parts. length parts.0.now + length parts.1.now < length bytes.now) }
 {
-    for (at, byte) in bytes.iter().enumerate() {
-        if *byte == separator {
-            return Some((&bytes[..at], &bytes[at + 1..]));
-        }
+    let len = bytes.iter().take_while(|byte| **byte != separator).count();
+    if len == bytes.len() {
+        return None;
     }
-    None
+    Some((&bytes[..len], &bytes[len + 1..]))
 }
 
 /// What stands before the first gap.
 pub(crate) fn before_gap(bytes: &[u8]) -> &[u8]
     ensures { result.now ≡ before_first is_gap bytes.now }
 {
-    for (at, byte) in bytes.iter().enumerate() {
-        if is_gap(*byte) {
-            return &bytes[..at];
-        }
-    }
-    bytes
+    let len = bytes.iter().take_while(|byte| !is_gap(**byte)).count();
+    &bytes[..len]
 }
 
 /// What a line says: without its comment and the blanks at its ends.
@@ -62,28 +57,12 @@ fn trimmed(bytes: &[u8]) -> &[u8]
     ensures text { result.now ≡ trimmed bytes.now }
     ensures len { length result.now ≤ length bytes.now }
 {
-    without_blanks_behind(without_blanks_before(bytes))
-}
-
-fn without_blanks_before(bytes: &[u8]) -> &[u8]
-    ensures { result.now ≡ drop (prefix_len is_blank bytes.now) bytes.now }
-{
-    for (at, byte) in bytes.iter().enumerate() {
-        if !is_blank(*byte) {
-            return &bytes[at..];
-        }
-    }
-    &bytes[bytes.len()..]
-}
-
-fn without_blanks_behind(bytes: &[u8]) -> &[u8]
-    ensures { result.now ≡ without_blanks_behind bytes.now }
-{
-    for behind in 0..bytes.len() {
-        let len = bytes.len() - behind;
-        if !is_blank(bytes[len - 1]) {
-            return &bytes[..len];
-        }
-    }
-    &bytes[..0]
+    let before = bytes.iter().take_while(|byte| is_blank(**byte)).count();
+    let rest = &bytes[before..];
+    let behind = rest
+        .iter()
+        .rev()
+        .take_while(|byte| is_blank(**byte))
+        .count();
+    &rest[..rest.len() - behind]
 }

@@ -1,10 +1,9 @@
-use Rattle.nf_vectors.proofs.Common.{◌∙◌, List, drop, refl, sym, ap, subst, drop_all, option_map, Column, broken_column}
+use Rattle.nf_vectors.proofs.Common.{◌∙◌, List, drop, refl, sym, ap, subst, drop_all, option_map, Column}
 use Rattle.nf_vectors.specs.Columns.{number_of}
 use Rattle.nf_vectors.proofs.TableLemmas.{Decides, broken-at, broken-behind}
 use Rattle.nf_vectors.proofs.check.failure_in.Goals as goal
 
 pub loop-column-init : goal.loop-column-init
-unfolding broken_column
 loop-column-init g c = λ columns same.
     subst (λ (cs : List Column). Decides c.args.form (g.R.Rows.properties c.args.rows.now) columns (drop 0 cs)) (sym c.as_slice-column-items.ensures) refl
 

@@ -1,13 +1,11 @@
-use Rattle.nf_vectors.proofs.Common.{◌∙◌, sym, ap, bytes_eq, codes, eq-eqb, ne_eqb, true, false, judgement, judgement_of, nil_from_length, same_from_decides, slice_eq-Decides, bytes_eq-Decides, Part, is_part1, row_in, row_or_bad, eqb-true}
+use Rattle.nf_vectors.proofs.Common.{◌∙◌, sym, ap, bytes_eq, codes, eq-eqb, ne_eqb, true, false, judgement_of, nil_from_length, same_from_decides, slice_eq-Decides, bytes_eq-Decides, Part, row_in, row_or_bad, eqb-true}
 use Rattle.nf_vectors.proofs.JudgementLemmas.{judgement-by}
 use Rattle.nf_vectors.proofs.line.judge.Goals as goal
 
 pub returns-in_default-clause-judged : goal.returns-in_default-clause-judged
-unfolding judgement
 returns-in_default-clause-judged c = ap judgement_of (sym c.content-said.ensures.text ∙ nil_from_length _ c.in_default.ensures.cases)
 
 pub returns-then-first-eq64-clause-judged : goal.returns-then-first-eq64-clause-judged
-unfolding is_part1
 returns-then-first-eq64-clause-judged c =
     judgement-by c.args.line.now c.in-Some.first.now c.in-Some.name.now (sym c.content-said.ensures.text ∙ c.in-Some.ensures.cases.0) true (eq-eqb _ _ c.if-first-eq64.true)
     ∙ ap Part (ap (λ l. bytes_eq l (codes "Part1")) (sym c.before_gap.ensures) ∙ ap (λ l. bytes_eq c.before_gap.result.now l) (sym c.as_slice.ensures)

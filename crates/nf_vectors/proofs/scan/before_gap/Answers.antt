@@ -1,13 +1,13 @@
-use Rattle.nf_vectors.proofs.Common.{take, length, arith, sym, ap, ◌∙◌, take_all, position_or_len_is, is_gap}
+use Rattle.nf_vectors.proofs.Common.{ap, ◌∙◌, not, take, rules, tests, is_gap}
+use Rattle.std.proofs.lemmas.Iterator.{YieldsList-from_slice}
+use Rattle.std.proofs.lemmas.Iterator.Consumers.{count_from_yields_List}
+use Rattle.std.proofs.lemmas.Iterator.Search.{YieldsList-from_take_while}
+use Rattle.std.proofs.lemmas.List.Folds.{length-prefix_len}
 use Rattle.nf_vectors.proofs.scan.before_gap.Goals as goal
-
-pub returns-then-is_gap : goal.returns-then-is_gap
-returns-then-is_gap c =
-    let bytes = c.args.bytes.now in
-    ap (λ n. take n bytes) (sym (position_or_len_is is_gap bytes c.loop-at.at 0 (omega (arith, c.loop-at-test.true)) c.loop-at.invariant (λ _. sym c.is_gap.ensures ∙ c.if-is_gap.true)))
 
 pub returns : goal.returns
 returns c =
     let bytes = c.args.bytes.now in
-    let end = position_or_len_is is_gap bytes (length bytes) 0 (omega arith) (λ k below. c.loop-at.invariant k (omega (arith, below, c.loop-at-test.false))) (λ past. absurd (omega (arith, past))) in
-    sym (take_all _ bytes (omega (arith, end)))
+    ap (λ n. take n bytes) (count_from_yields_List c.take_while.result _ c.count-len.ensures.ran
+    (YieldsList-from_take_while _ (λ b. not (is_gap b)) (YieldsList-from_slice bytes cc) c.take_while.ensures.closure c.take_while.ensures.done (λ x b q k. search (rules, tests)))
+    ∙ length-prefix_len (λ b. not (is_gap b)) bytes)

@@ -1,9 +1,8 @@
-use Rattle.nf_vectors.proofs.Common.{◌∙◌, ◌&&◌, ◌∷◌, [], sym, append-nil, encode_utf8, is_unchanged}
+use Rattle.nf_vectors.proofs.Common.{◌∙◌, ◌&&◌, ◌∷◌, [], sym, append-nil, encode_utf8}
 use Rattle.nf_vectors.proofs.PlainLemmas.{unchanged-plain}
 use Rattle.nf_vectors.proofs.sweep.is_unchanged.Goals as goal
 
 pub returns : goal.returns
-unfolding is_unchanged
 returns g c =
     let x = c.args.c ∷ [] in
     let is = c.encode_utf8-text.ensures.value ∙ sym (append-nil (encode_utf8 c.args.c)) in

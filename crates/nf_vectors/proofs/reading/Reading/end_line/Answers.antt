@@ -1,6 +1,5 @@
 use Rattle.nf_vectors.proofs.Common.{◌≡◌, ◌∙◌, refl, sym, ap, subst, judgement, judged, AreWithin}
-use Rattle.nf_vectors.proofs.TextLemmas.{AreWithin-append}
-use Rattle.nf_vectors.proofs.EndingLemmas.{EndsLine-grown}
+use Rattle.nf_vectors.proofs.TextLemmas.{AreWithin-append, rows_in-append}
 use Rattle.nf_vectors.proofs.reading.Reading.end_line.Goals as goal
 
 pub returns-clause-columns : goal.returns-clause-columns
@@ -16,5 +15,8 @@ returns-clause-ends c =
     let old = c.args.self.now in
     let ends = c.in_ok-hold-in-Ok.ensures.holds (judgement c.unmarked.result.now) c.in-Ok.ensures.judged in
     let is : judgement c.unmarked.result.now ≡ judged old.line old.bytes.items = sym c.unmarked.ensures.text ∙ ap (judged old.line) c.as_slice.ensures.value in
-    let grown = EndsLine-grown (judgement c.unmarked.result.now) _ old _ _ grows.0 grows.1 refl refl refl refl c.requires.columns is ends in
-    record { rows = grown.rows; in_part1 = grown.in_part1; has_part1 = grown.has_part1 }
+    record {
+      rows = rw (← is, ends.rows, grows.1, rows_in-append old.text.items grows.0 old.entries.items c.requires.columns) refl;
+      in_part1 = rw (← is) ends.in_part1;
+      has_part1 = rw (← is) ends.has_part1;
+    }

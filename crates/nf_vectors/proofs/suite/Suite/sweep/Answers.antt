@@ -1,6 +1,8 @@
-use Rattle.nf_vectors.proofs.Common.{◌≡◌, ◌∙◌, ◌+◌, ◌<◌, ℕ, Bool, true, false, not, ◌&&◌, List, length, get_or, Some, refl, sym, ap, arith, option_or, and_from, and_right, VectorRow, rows_of, is_scalar, is_listed, is_unchanged, below, sweep_below, sweep_of}
+use Rattle.nf_vectors.proofs.Common.{◌≡◌, ◌∙◌, ◌+◌, ◌<◌, ℕ, Bool, true, false, List, length, get_or, Some, refl, sym, ap, arith, add-zero, option_or, VectorRow, rows_of, is_listed, is_unchanged, below, sweep_below, sweep_of}
+use Rattle.nf_vectors.specs.declared.sweep.Sweep.{Sweep}
 use Rattle.nf_vectors.proofs.DigitLemmas.{scalar_in, scalar_out}
-use Rattle.nf_vectors.proofs.SweepLemmas.{sweep-few, sweep-past, sweep-fine, sweep-failed}
+use Rattle.nf_vectors.proofs.ReportLemmas.{or_none}
+use Rattle.nf_vectors.proofs.SweepLemmas.{sweep-more, sweep-few}
 use Rattle.nf_vectors.proofs.suite.Suite.sweep.Goals as goal
 
 within : (code : ℕ) (items listed : List Bool) → code < length items → items ≡ listed → length listed ≡ 1114112 → code < 1114112
@@ -18,16 +20,14 @@ loop-code-init g c = refl
 
 pub loop-code-preserved-in_default-from_u32 : goal.loop-code-preserved-in_default-from_u32
 loop-code-preserved-in_default-from_u32 g c =
-    let rows = rows_of c.args.self.now in
-    let code = c.loop-code.code in
-    sweep-past (g.R.Rows.properties c.args.rows.now) rows code c.loop-code.sweep c.loop-code.invariant (ap (λ b. b && not (is_listed rows code)) (scalar_out code c.in_default-from_u32.ensures.cases))
+    simp (sweep-more (g.R.Rows.properties c.args.rows.now) (rows_of c.args.self.now) c.loop-code.code, scalar_out c.loop-code.code c.in_default-from_u32.ensures.cases, add-zero, or_none) c.loop-code.invariant
 
 pub loop-code-preserved-then-is_listed : goal.loop-code-preserved-then-is_listed
 loop-code-preserved-then-is_listed g c =
     let rows = rows_of c.args.self.now in
     let code = c.loop-code.code in
     let listed = listed_is rows code c.as_slice-is_listed-items.result.now _ c.loop-code-test.true c.as_slice-is_listed-items.ensures.value c.in-Ok.ensures.size c.in-Ok.ensures.listed true c.if-is_listed.true in
-    sweep-past (g.R.Rows.properties c.args.rows.now) rows code c.loop-code.sweep c.loop-code.invariant (and_right (is_scalar code) (not (is_listed rows code)) (ap not listed))
+    simp (sweep-more (g.R.Rows.properties c.args.rows.now) rows code, scalar_in code c.in-Some.ensures.cases, listed, add-zero, or_none) c.loop-code.invariant
 
 pub loop-code-preserved-then-unchanged : goal.loop-code-preserved-then-unchanged
 loop-code-preserved-then-unchanged g c =
@@ -35,30 +35,29 @@ loop-code-preserved-then-unchanged g c =
     let rows = rows_of c.args.self.now in
     let code = c.loop-code.code in
     let listed = listed_is rows code c.as_slice-is_listed-items.result.now _ c.loop-code-test.true c.as_slice-is_listed-items.ensures.value c.in-Ok.ensures.size c.in-Ok.ensures.listed false c.if-is_listed.false in
-    sweep-fine p rows code c.loop-code.sweep c.loop-code.invariant (and_from _ _ (scalar_in code c.in-Some.ensures.cases) (ap not listed))
-    (ap (is_unchanged p) (sym c.in-Some.ensures.value.1) ∙ sym c.is_unchanged-unchanged.ensures ∙ c.if-unchanged.true)
+    let same = ap (is_unchanged p) (sym c.in-Some.ensures.value.1) ∙ sym c.is_unchanged-unchanged.ensures ∙ c.if-unchanged.true in
+    simp (sweep-more p rows code, scalar_in code c.in-Some.ensures.cases, listed, same, add-zero, or_none) (ap (λ (s : Sweep). record s { unlisted = s.unlisted + 1 }) c.loop-code.invariant)
 
 pub loop-code-preserved : goal.loop-code-preserved
 loop-code-preserved g c =
     let p = g.R.Rows.properties c.args.rows.now in
     let rows = rows_of c.args.self.now in
     let code = c.loop-code.code in
-    let sweep = c.loop-code.sweep in
     let listed = listed_is rows code c.as_slice-is_listed-items.result.now _ c.loop-code-test.true c.as_slice-is_listed-items.ensures.value c.in-Ok.ensures.size c.in-Ok.ensures.listed false c.if-is_listed.false in
-    let first = c.or.ensures ∙ ap (λ n. option_or sweep.first (Some n)) c.in-Some.ensures.value.1 in
-    (λ i. record { unlisted = sweep.unlisted + 1; failed = sweep.failed + 1; first = first i })
-    ∙ sweep-failed p rows code sweep c.loop-code.invariant (and_from _ _ (scalar_in code c.in-Some.ensures.cases) (ap not listed))
-    (ap (is_unchanged p) (sym c.in-Some.ensures.value.1) ∙ sym c.is_unchanged-unchanged.ensures ∙ c.if-unchanged.false)
+    let same = ap (is_unchanged p) (sym c.in-Some.ensures.value.1) ∙ sym c.is_unchanged-unchanged.ensures ∙ c.if-unchanged.false in
+    let first = c.or.ensures ∙ (λ i. option_or (c.loop-code.invariant i).first (Some (c.in-Some.ensures.value.1 i))) in
+    simp (sweep-more p rows code, scalar_in code c.in-Some.ensures.cases, listed, same)
+    (λ i. record { unlisted = (c.loop-code.invariant i).unlisted + 1; failed = (c.loop-code.invariant i).failed + 1; first = first i })
 
 pub overflow_add-unlisted : goal.overflow_add-unlisted
 overflow_add-unlisted g c =
     let inside = within c.loop-code.code c.as_slice-is_listed-items.result.now _ c.loop-code-test.true c.as_slice-is_listed-items.ensures.value c.in-Ok.ensures.size in
-    omega (arith, inside, (sweep-few (g.R.Rows.properties c.args.rows.now) (rows_of c.args.self.now) c.loop-code.code c.loop-code.sweep c.loop-code.invariant).0)
+    omega (arith, inside, (sweep-few (g.R.Rows.properties c.args.rows.now) (rows_of c.args.self.now) c.loop-code.code).0, ap (λ (s : Sweep). s.unlisted) c.loop-code.invariant)
 
 pub overflow_add-sweep : goal.overflow_add-sweep
 overflow_add-sweep g c =
     let inside = within c.loop-code.code c.as_slice-is_listed-items.result.now _ c.loop-code-test.true c.as_slice-is_listed-items.ensures.value c.in-Ok.ensures.size in
-    omega (arith, inside, (sweep-few (g.R.Rows.properties c.args.rows.now) (rows_of c.args.self.now) c.loop-code.code c.loop-code.sweep c.loop-code.invariant).1)
+    omega (arith, inside, (sweep-few (g.R.Rows.properties c.args.rows.now) (rows_of c.args.self.now) c.loop-code.code).1, ap (λ (s : Sweep). s.failed) c.loop-code.invariant)
 
 pub returns : goal.returns
 unfolding sweep_of
