@@ -1,17 +1,17 @@
 -- The names that most of these proofs cite, passed on from one place. Declares nothing.
-pub use Rattle.std.proofs.Common.{Bor, ◌≡◌, ℕ, ◌+◌, ◌≤◌, ◌<◌, true, false, List, [], ◌∷◌, ◌++◌, length, take, Option, Some, None, is_some, refl, sym, ap, ◌∙◌, arith, ◌-◌, ◌⊎◌, inl, inr, ⊎_elim, drop, get_or, append_assoc, option_map, append-nil, zero, suc, ◌*◌, Bool, ◌&&◌, nat_le, Ok, Err, rules, if◌then◌else◌, ◌||◌, Result, subst, OnOk, is_ok, take_all, codes, bytes_eq, encode_utf8_all, IsUtf8, slice_range, eq-eqb, ne_eqb, cond, slice_index_or, not, add-zero, count_by, nat_eq, MatchResult, IsErr, IsErrAnd, All, find, IfOk, sum_by, string_bytes, encode_utf8, IsNone, tests, ◌==◌, IfErr, pos_of_ne-zero}
+pub use Rattle.std.proofs.Common.{Bor, ◌≡◌, ℕ, ◌+◌, ◌≤◌, ◌<◌, true, false, List, [], ◌∷◌, ◌++◌, length, take, Option, Some, None, is_some, refl, sym, ap, ◌∙◌, arith, ◌-◌, ⊎_elim, drop, get_or, append_assoc, option_map, append-nil, zero, suc, ◌*◌, Bool, ◌&&◌, Ok, Err, rules, if◌then◌else◌, Result, subst, OnOk, is_ok, take_all, codes, bytes_eq, encode_utf8_all, IsUtf8, slice_range, eq-eqb, ne_eqb, cond, slice_index_or, not, add-zero, count_by, nat_eq, MatchResult, IsErr, IsErrAnd, All, find, IfOk, sum_by, string_bytes, encode_utf8, tests, ◌==◌, IfErr}
 pub use Rattle.std.proofs.Math.Bool.{or-false, or_assoc}
 pub use Rattle.std.proofs.Math.Seq.{take-length, take-append-add}
-pub use Rattle.std.proofs.lemmas.Bool.{and_parts, false≢true, false_from_ne_true, cases_order, cases_lt, le-leb, and_from, ltb-true, lt-ltb, le-ltb, eqb-true, leb-true, true_from_ne_false, eqb-false, and_right}
+pub use Rattle.std.proofs.lemmas.Bool.{and_parts, false≢true, false_from_ne_true, cases_lt, le-leb, and_from, lt-ltb, le-ltb, eqb-true, leb-true, true_from_ne_false, eqb-false, and_right}
 pub use Rattle.std.proofs.lemmas.Bool.Decides.{nat_tests, same_from_decides}
-pub use Rattle.std.proofs.lemmas.List.{take_more, length-append, take_at, drop_more, take-append-drop, length_push, length-drop, drop-append-le, take-append-le, drop_at, drop_all, length-take-le, get_or_default, nil_from_length, take_rest, map_push}
+pub use Rattle.std.proofs.lemmas.List.{take_more, length-append, take_at, drop_more, take-append-drop, length_push, length-drop, drop-append-le, take-append-le, drop_all, length-take-le, take_rest, map_push}
 pub use Rattle.std.proofs.lemmas.List.Folds.{find-append}
 pub use Rattle.std.proofs.lemmas.List.Splits.{slice_split_first, slice_split_none, slice_split_at}
-pub use Rattle.std.proofs.lemmas.List.Sums.{AllPass-from_list_all, fails_before_first, prefix_len-le-length, sum_by_push, count_by-le-length, sum_by-cons, position_or_len_is, prefix_len_is, suffix_len_is}
-pub use Rattle.std.proofs.lemmas.Slice.Eq.{bytes_eq-Decides, slice_eq-Decides}
+pub use Rattle.std.proofs.lemmas.List.Sums.{AllPass-from_list_all, fails_before_first, prefix_len-le-length, sum_by_push, count_by-le-length, sum_by-cons}
+pub use Rattle.std.proofs.lemmas.Slice.Eq.{bytes_eq-Decides}
 pub use Rattle.std.proofs.lemmas.Str.{encodes_same, length-encode, len_utf8_bounds, encodes-append}
 pub use Rattle.std.proofs.result.Match.{if_ok_if}
-pub use Rattle.std.specs.Char.{digit_value, InScalarRange, OutOfScalarRange}
+pub use Rattle.std.specs.Char.{InScalarRange, OutOfScalarRange}
 pub use Rattle.std.specs.Io.KnownBytes.{Consumes}
 pub use Rattle.std.specs.List.{list_all, slice_split, onto_first, before_first, after_first, position_or_len, list_any}
 pub use Rattle.std.specs.Option.{option_or}
@@ -21,27 +21,26 @@ unfoldable pub use Rattle.nf_forms.specs.SafeForm.{safe_form}
 pub use Rattle.nf_forms.specs.Sound.{is_sound}
 pub use Rattle.nf_forms.specs.declared.form.Form.{Form}
 pub use Rattle.nf_forms.specs.declared.form.Form.TheVariants.{Nfc, Nfd, Nfkc, Nfkd}
-pub use Rattle.nf_safe.specs.Place.{is_in_format, place, place_from}
+pub use Rattle.nf_safe.specs.Place.{place, place_from}
 pub use Rattle.nf_safe.specs.declared.place.Place.{Place}
 pub use Rattle.nf_vectors.specs.Limits.{limit, block}
-pub use Rattle.nf_vectors.specs.Columns.{Columns, at, each}
-pub use Rattle.nf_vectors.specs.Comparison.{leaves_format, holds, broken_column, is_skipped, holds_at, expected}
+pub use Rattle.nf_vectors.specs.Columns.{Columns, each}
+pub use Rattle.nf_vectors.specs.Comparison.{leaves_format, holds, broken_column, holds_at}
 pub use Rattle.nf_vectors.specs.Held.{columns_at}
-pub use Rattle.nf_vectors.specs.Judgement.{is_part1, row_in, columns_of, judgement, Judgement, Bad, Nothing, Part, Row, row_or_bad, judgement_of, columns_in}
-pub use Rattle.nf_vectors.specs.Line.{lines_of, content, is_line_end, is_semicolon, is_blank, is_gap, without_blanks_behind, trimmed}
+pub use Rattle.nf_vectors.specs.Judgement.{columns_of, judgement, Bad, Nothing, Part, Row, columns_in}
+pub use Rattle.nf_vectors.specs.Line.{lines_of, is_line_end, is_semicolon, is_blank, is_gap, without_blanks_behind}
 pub use Rattle.nf_vectors.specs.ReadsSuite.{lines_within, stop_of, Finds, Tells}
 unfoldable pub use Rattle.nf_vectors.specs.Report.{report_of}
-pub use Rattle.nf_vectors.specs.Report.{verdict_of, failure_of, is_skip, is_pass, is_failure, failure_or, first_failure_of, report_and, failure_in, by_failure}
+pub use Rattle.nf_vectors.specs.Report.{verdict_of, is_skip, is_pass, is_failure, failure_or, first_failure_of, report_and}
 pub use Rattle.nf_vectors.specs.RunsOut.{RunsOut}
 pub use Rattle.nf_vectors.specs.Standing.{StandsAfter, EndsLine, IsWithin}
-pub use Rattle.nf_vectors.specs.Suite.{judged, part_behind, is_part1_line, rows_from, names_part1_from, fault_or, last_fault, first_fault, unmarked, VectorRow}
+pub use Rattle.nf_vectors.specs.Suite.{judged, rows_from, names_part1_from, fault_or, last_fault, first_fault, VectorRow}
 unfoldable pub use Rattle.nf_vectors.specs.SuiteView.{rows_of}
 pub use Rattle.nf_vectors.specs.SuiteView.{AreWithin, rows_in, row_of}
 unfoldable pub use Rattle.nf_vectors.specs.Sweep.{below, sweep_below, sweep_of}
 pub use Rattle.nf_vectors.specs.Sweep.{is_listed, is_unchanged, is_unlisted, is_failed, lists}
 unfoldable pub use Rattle.nf_vectors.specs.Words.{column_in}
 pub use Rattle.nf_vectors.specs.Words.{code_point, is_digit, value_of, is_scalar, and_then, before, code_points, some_or_empty}
-pub use Rattle.nf_vectors.specs.declared.columns.Column.{Column}
 pub use Rattle.nf_vectors.specs.declared.fault.VectorFault.{VectorFault}
 pub use Rattle.nf_vectors.specs.declared.fault.VectorKind.{VectorKind}
 pub use Rattle.nf_vectors.specs.declared.fault.VectorKind.TheVariants.{Hex, Scalar, Fields, Empty, Size, Read, Memory}

@@ -1,6 +1,13 @@
 -- A sweep of one code more.
-use Rattle.nf_vectors.proofs.Common.{◌≡◌, ℕ, zero, suc, ◌+◌, ◌≤◌, length, cond, List, [], ◌∷◌, ◌++◌, Some, None, refl, ap, ◌∙◌, arith, count_by, find, option_or, length_push, sum_by_push, count_by-le-length, find-append, Properties, VectorRow, is_unlisted, is_failed, below, sweep_below}
+use Rattle.nf_vectors.proofs.Common.{◌≡◌, ℕ, zero, suc, ◌+◌, ◌≤◌, length, true, false, is_scalar, InScalarRange, OutOfScalarRange, nat_tests, cond, List, [], ◌∷◌, ◌++◌, Some, None, refl, ap, ◌∙◌, arith, count_by, find, option_or, length_push, sum_by_push, count_by-le-length, find-append, Properties, VectorRow, is_unlisted, is_failed, below, sweep_below}
 use Rattle.nf_vectors.specs.declared.sweep.Sweep.{Sweep}
+
+-- the scalar values, as ranges
+pub scalar_in : (c : ℕ) → InScalarRange c → is_scalar c ≡ true
+scalar_in c h = grind (arith, nat_tests)
+
+pub scalar_out : (c : ℕ) → OutOfScalarRange c → is_scalar c ≡ false
+scalar_out c h = grind (arith, nat_tests)
 
 length-below : (n : ℕ) → length (below n) ≡ n
 unfolding below

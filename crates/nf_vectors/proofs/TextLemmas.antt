@@ -1,15 +1,11 @@
 -- The columns of a suite whose text grows.
-use Rattle.nf_vectors.proofs.Common.{◌≡◌, ℕ, ◌-◌, ◌≤◌, List, [], ◌∷◌, ◌++◌, length, take, drop, slice_range, refl, sym, ap, ◌∙◌, arith, and_parts, leb-true, le-leb, length-append, length-drop, drop-append-le, take-append-le, drop_at, Entry, columns_at, rows_in, AreWithin, take_all}
+use Rattle.nf_vectors.proofs.Common.{◌≡◌, ℕ, ◌-◌, ◌≤◌, List, [], ◌∷◌, ◌++◌, length, take, drop, slice_range, refl, ap, ◌∙◌, arith, and_parts, leb-true, le-leb, length-append, length-drop, drop-append-le, take-append-le, Entry, columns_at, rows_in, AreWithin}
 use Rattle.std.proofs.lemmas.List.Sums.{list_all-from_AllPass, AllPass-from_list_all}
 use Rattle.nf_vectors.specs.declared.columns.Ends.{Ends}
 
 pub slice_range-append : (xs ys : List ℕ) (i j : ℕ) → i ≤ j → j ≤ length xs → slice_range (xs ++ ys) i j ≡ slice_range xs i j
 slice_range-append xs ys i j order within =
     ap (take (j - i)) (drop-append-le i xs ys (omega arith)) ∙ take-append-le (j - i) (drop i xs) ys (omega (arith, length-drop i xs))
-
-pub slice_range-last : (xs ys : List ℕ) (i j : ℕ) → i ≡ length xs → j ≡ length (xs ++ ys) → slice_range (xs ++ ys) i j ≡ ys
-slice_range-last xs ys i j start end =
-    ap (take (j - i)) (drop_at xs ys i (sym start)) ∙ take_all (j - i) ys (omega (arith, length-append xs ys))
 
 pub columns_at-append : (text more : List ℕ) (ends : Ends) → ends.nfkd ≤ length text → columns_at (text ++ more) ends ≡ columns_at text ends
 columns_at-append text more ends within = (λ i. record {

@@ -1,8 +1,7 @@
 use Rattle.nf_vectors.proofs.Common.{◌≡◌, ◌∙◌, ◌+◌, ◌<◌, ℕ, Bool, true, false, List, length, get_or, Some, refl, sym, ap, arith, add-zero, option_or, VectorRow, rows_of, is_listed, is_unchanged, below, sweep_below, sweep_of}
 use Rattle.nf_vectors.specs.declared.sweep.Sweep.{Sweep}
-use Rattle.nf_vectors.proofs.DigitLemmas.{scalar_in, scalar_out}
 use Rattle.nf_vectors.proofs.ReportLemmas.{or_none}
-use Rattle.nf_vectors.proofs.SweepLemmas.{sweep-more, sweep-few}
+use Rattle.nf_vectors.proofs.SweepLemmas.{scalar_in, scalar_out, sweep-more, sweep-few}
 use Rattle.nf_vectors.proofs.suite.Suite.sweep.Goals as goal
 
 within : (code : ℕ) (items listed : List Bool) → code < length items → items ≡ listed → length listed ≡ 1114112 → code < 1114112
