@@ -37,8 +37,8 @@ pub use Rattle.nf_vectors.specs.Standing.{StandsAfter, EndsLine, IsWithin}
 pub use Rattle.nf_vectors.specs.Suite.{judged, rows_from, names_part1_from, fault_or, last_fault, first_fault, VectorRow}
 unfoldable pub use Rattle.nf_vectors.specs.SuiteView.{rows_of}
 pub use Rattle.nf_vectors.specs.SuiteView.{AreWithin, rows_in, row_of}
-unfoldable pub use Rattle.nf_vectors.specs.Sweep.{below, sweep_below, sweep_of}
-pub use Rattle.nf_vectors.specs.Sweep.{is_listed, is_unchanged, is_unlisted, is_failed, lists}
+unfoldable pub use Rattle.nf_vectors.specs.Sweep.{below, sweep_of}
+pub use Rattle.nf_vectors.specs.Sweep.{sweep_below, is_listed, is_unchanged, is_unlisted, is_failed, lists}
 unfoldable pub use Rattle.nf_vectors.specs.Words.{column_in}
 pub use Rattle.nf_vectors.specs.Words.{code_point, is_digit, value_of, is_scalar, and_then, before, code_points, some_or_empty}
 pub use Rattle.nf_vectors.specs.declared.fault.VectorFault.{VectorFault}

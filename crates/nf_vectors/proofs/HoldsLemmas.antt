@@ -21,6 +21,11 @@ use Rattle.nf_filter.proofs.WholeLemmas.{without, final_is}
 use Rattle.nf_vectors.specs.declared.comparing.Comparing.{Comparing}
 use Rattle.nf_vectors.specs.Comparing.{taken_by, state_of}
 
+-- texts are the same where their UTF-8 is
+encodes_eq : (x y : List ℕ) → bytes_eq x y ≡ bytes_eq (encode_utf8_all x) (encode_utf8_all y)
+encodes_eq x y = same_from_decides (bytes_eq x y) (bytes_eq (encode_utf8_all x) (encode_utf8_all y)) (bytes_eq-Decides x y)
+    ((λ b. encodes_same x y ((bytes_eq-Decides (encode_utf8_all x) (encode_utf8_all y)).0 b)), (λ same. (bytes_eq-Decides (encode_utf8_all x) (encode_utf8_all y)).1 (ap encode_utf8_all same)))
+
 module _ (reads : ReadsBack) (f : Form) (p : Properties) (bytes x e : List ℕ) (utf8 : IsUtf8 bytes) (is : bytes ≡ encode_utf8_all x) where
   text : IsText x
   text = subst IsText (encodes_same utf8.0 x (utf8.1.1 ∙ is)) utf8.1.0
@@ -52,11 +57,8 @@ module _ (reads : ReadsBack) (f : Form) (p : Properties) (bytes x e : List ℕ) 
   holds_is = next (is_usable p x) refl ∙ ap (λ b. b && bytes_eq (whole_utf8 f p bytes) (encode_utf8_all e)) (sym answer_is)
     where
       next : (b : Bool) → is_usable p x ≡ b → (is_usable p x && bytes_eq (safe_form f p x) e) ≡ (is_usable p x && bytes_eq (whole_utf8 f p bytes) (encode_utf8_all e))
-      next true used = ap (λ b. is_usable p x && b) (same_from_decides (bytes_eq (safe_form f p x) e) (bytes_eq (whole_utf8 f p bytes) (encode_utf8_all e)) (bytes_eq-Decides (safe_form f p x) e) (
-        (λ b. encodes_same (safe_form f p x) e (sym (form_is used) ∙ (bytes_eq-Decides (whole_utf8 f p bytes) (encode_utf8_all e)).0 b)),
-        (λ same. (bytes_eq-Decides (whole_utf8 f p bytes) (encode_utf8_all e)).1 (form_is used ∙ ap encode_utf8_all same)),
-      ))
-      next false used = ap (λ b. b && bytes_eq (safe_form f p x) e) used ∙ sym (ap (λ b. b && bytes_eq (whole_utf8 f p bytes) (encode_utf8_all e)) used)
+      next true used = rw (used, form_is used) (encodes_eq (safe_form f p x) e)
+      next false used = rw used refl
 
   module _ (old new : Comparing) (expected : old.expected.now ≡ encode_utf8_all e) (fresh : taken_by old ≡ []) where
     -- what it is to compare with is kept, and it has taken just what was given

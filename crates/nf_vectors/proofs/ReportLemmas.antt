@@ -35,12 +35,8 @@ module _ (p : Properties) where
       next Passed n a b d o = simp (add-zero, or_none)
       next (Failed failure) n a b d o = simp add-zero
 
-pub rows-and : (report : Report) (v : Verdict) (new : Report) → new ≡ report_and report v → new.rows ≡ report.rows + 1
-rows-and report Skipped new is = ap (λ (r : Report). r.rows) is
-rows-and report Passed new is = ap (λ (r : Report). r.rows) is
-rows-and report (Failed failure) new is = ap (λ (r : Report). r.rows) is
-
-pub sum-and : (report : Report) (v : Verdict) (new : Report) → new ≡ report_and report v → report.rows ≡ report.passed + report.failed + report.skipped → new.rows ≡ new.passed + new.failed + new.skipped
-sum-and report Skipped new is sum = omega (arith, sum, ap (λ (r : Report). r.rows) is, ap (λ (r : Report). r.passed) is, ap (λ (r : Report). r.failed) is, ap (λ (r : Report). r.skipped) is)
-sum-and report Passed new is sum = omega (arith, sum, ap (λ (r : Report). r.rows) is, ap (λ (r : Report). r.passed) is, ap (λ (r : Report). r.failed) is, ap (λ (r : Report). r.skipped) is)
-sum-and report (Failed failure) new is sum = omega (arith, sum, ap (λ (r : Report). r.rows) is, ap (λ (r : Report). r.passed) is, ap (λ (r : Report). r.failed) is, ap (λ (r : Report). r.skipped) is)
+pub and-counts : (report : Report) (v : Verdict) → let new = report_and report v in
+    (new.rows ≡ report.rows + 1) × (report.rows ≡ report.passed + report.failed + report.skipped → new.rows ≡ new.passed + new.failed + new.skipped)
+and-counts report Skipped = (refl, λ sum. omega (arith, sum))
+and-counts report Passed = (refl, λ sum. omega (arith, sum))
+and-counts report (Failed failure) = (refl, λ sum. omega (arith, sum))

@@ -20,7 +20,7 @@ module _ (p : Properties) (rows : List VectorRow) (n : ℕ) where
     failed = (sweep_below p rows n).failed + cond (is_failed p rows n) 1 0;
     first = option_or (sweep_below p rows n).first (cond (is_failed p rows n) (Some n) None);
   } in P)
-  unfolding sweep_below below
+  unfolding below
   sweep-more =
       let more : below (n + 1) ≡ below n ++ n ∷ [] = let is : n + 1 ≡ suc n = omega arith in ap below is in
       let unlisted = ap (count_by (is_unlisted rows)) more ∙ sum_by_push (λ c. cond (is_unlisted rows c) 1 0) (below n) n in
@@ -30,7 +30,6 @@ module _ (p : Properties) (rows : List VectorRow) (n : ℕ) where
 
   -- there are no more than characters
   pub sweep-few : ((sweep_below p rows n).unlisted ≤ n) × ((sweep_below p rows n).failed ≤ n)
-  unfolding sweep_below
   sweep-few = (
     omega (arith, count_by-le-length (is_unlisted rows) (below n), length-below n),
     omega (arith, count_by-le-length (is_failed p rows) (below n), length-below n),

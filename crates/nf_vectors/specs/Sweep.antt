@@ -32,7 +32,7 @@ below zero = []
 below (suc n) = below n ++ n ∷ []
 
 -- of the scalar values below n: how many are not listed, how many of these a form changes, and the least of them
-unfoldable pub sweep_below : Properties → List VectorRow → ℕ → Sweep
+abbrev pub sweep_below : Properties → List VectorRow → ℕ → Sweep
 sweep_below p rows n = record {
   unlisted = count_by (is_unlisted rows) (below n);
   failed = count_by (is_failed p rows) (below n);

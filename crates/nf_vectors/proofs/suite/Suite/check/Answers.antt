@@ -1,5 +1,5 @@
 use Rattle.nf_vectors.proofs.Common.{◌≡◌, ◌∙◌, ◌+◌, ◌++◌, ◌∷◌, [], take, get_or, length, List, ◌<◌, ◌≤◌, refl, sym, ap, subst, Entry, take_more, map_push, columns_at, row_of, rows_in, rows_of, verdict_of, report_of, report_and, take_all}
-use Rattle.nf_vectors.proofs.ReportLemmas.{report_of-push, rows-and, sum-and}
+use Rattle.nf_vectors.proofs.ReportLemmas.{report_of-push, and-counts}
 use Rattle.nf_vectors.proofs.suite.Suite.check.Goals as goal
 
 pub loop-entry-init : goal.loop-entry-init
@@ -21,11 +21,12 @@ loop-entry-preserved g c =
     let rows : rows_in text (take (i + 1) entries) ≡ rows_in text (take i entries) ++ row ∷ [] =
     ap (rows_in text) (take_more entries i item within ∙ ap (λ e. take i entries ++ e ∷ []) (sym is)) ∙ map_push (row_of text) (take i entries) item in
     let judged = c.in_ok-verdict.ensures row refl (sym (c.of-columns.ensures.columns ∙ ap (λ t. columns_at t item.columns) c.as_slice.ensures.value)) in
+    let counts = and-counts report c.in_ok-verdict.verdict in
     record {
       report = c.and-report.ensures ∙ ap (λ v. report_and report v) judged ∙ ap (λ r. report_and r (verdict_of p row)) c.loop-entry.invariant.report
           ∙ sym (ap (report_of p) rows ∙ report_of-push p (rows_in text (take i entries)) row);
-      sum = sum-and report c.in_ok-verdict.verdict _ c.and-report.ensures c.loop-entry.invariant.sum;
-      count = rows-and report c.in_ok-verdict.verdict _ c.and-report.ensures ∙ ap (λ n. n + 1) c.loop-entry.invariant.count;
+      sum = rw c.and-report.ensures (counts.1 c.loop-entry.invariant.sum);
+      count = rw c.and-report.ensures counts.0 ∙ ap (λ n. n + 1) c.loop-entry.invariant.count;
     }
 
 pub returns-clause-report : goal.returns-clause-report

@@ -4,17 +4,14 @@ use Rattle.nf_vectors.proofs.ReportLemmas.{or_none}
 use Rattle.nf_vectors.proofs.SweepLemmas.{scalar_in, scalar_out, sweep-more, sweep-few}
 use Rattle.nf_vectors.proofs.suite.Suite.sweep.Goals as goal
 
-within : (code : ℕ) (items listed : List Bool) → code < length items → items ≡ listed → length listed ≡ 1114112 → code < 1114112
-within code items listed inside value size = omega (arith, inside, ap (λ (bs : List Bool). length bs) value, size)
-
 -- the set tells whether the code is listed
 listed_is : (rows : List VectorRow) (code : ℕ) (items listed : List Bool) → code < length items → items ≡ listed → length listed ≡ 1114112
     → ((c : ℕ) → c < 1114112 → get_or listed c false ≡ is_listed rows c) → (b : Bool) → get_or items code false ≡ b → is_listed rows code ≡ b
 listed_is rows code items listed inside value size tells b e =
-    sym (tells code (within code items listed inside value size)) ∙ ap (λ (bs : List Bool). get_or bs code false) (sym value) ∙ e
+    sym (tells code (omega (arith, inside, ap (λ (bs : List Bool). length bs) value, size))) ∙ ap (λ (bs : List Bool). get_or bs code false) (sym value) ∙ e
 
 pub loop-code-init : goal.loop-code-init
-unfolding sweep_below below
+unfolding below
 loop-code-init g c = refl
 
 pub loop-code-preserved-in_default-from_u32 : goal.loop-code-preserved-in_default-from_u32
@@ -50,13 +47,13 @@ loop-code-preserved g c =
 
 pub overflow_add-unlisted : goal.overflow_add-unlisted
 overflow_add-unlisted g c =
-    let inside = within c.loop-code.code c.as_slice-is_listed-items.result.now _ c.loop-code-test.true c.as_slice-is_listed-items.ensures.value c.in-Ok.ensures.size in
-    omega (arith, inside, (sweep-few (g.R.Rows.properties c.args.rows.now) (rows_of c.args.self.now) c.loop-code.code).0, ap (λ (s : Sweep). s.unlisted) c.loop-code.invariant)
+    let few = sweep-few (g.R.Rows.properties c.args.rows.now) (rows_of c.args.self.now) c.loop-code.code in
+    omega (arith, few.0, ap (λ (s : Sweep). s.unlisted) c.loop-code.invariant, ap (λ (bs : List Bool). length bs) c.as_slice-is_listed-items.ensures.value, c.in-Ok.ensures.size)
 
 pub overflow_add-sweep : goal.overflow_add-sweep
 overflow_add-sweep g c =
-    let inside = within c.loop-code.code c.as_slice-is_listed-items.result.now _ c.loop-code-test.true c.as_slice-is_listed-items.ensures.value c.in-Ok.ensures.size in
-    omega (arith, inside, (sweep-few (g.R.Rows.properties c.args.rows.now) (rows_of c.args.self.now) c.loop-code.code).1, ap (λ (s : Sweep). s.failed) c.loop-code.invariant)
+    let few = sweep-few (g.R.Rows.properties c.args.rows.now) (rows_of c.args.self.now) c.loop-code.code in
+    omega (arith, few.1, ap (λ (s : Sweep). s.failed) c.loop-code.invariant, ap (λ (bs : List Bool). length bs) c.as_slice-is_listed-items.ensures.value, c.in-Ok.ensures.size)
 
 pub returns : goal.returns
 unfolding sweep_of
