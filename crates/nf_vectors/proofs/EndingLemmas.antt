@@ -2,12 +2,6 @@
 use Rattle.nf_vectors.proofs.Common.{◌≡◌, ℕ, suc, ◌+◌, ◌-◌, ◌<◌, ◌≤◌, Bool, true, false, List, [], ◌∷◌, ◌++◌, length, take, drop, get_or, Option, Some, None, Result, Ok, Err, refl, sym, ap, ◌∙◌, subst, arith, append_assoc, append-nil, ⊎_elim, OnOk, is_ok, if◌then◌else◌, lt-ltb, le-ltb, false≢true, cases_lt, or-false, take-append-add, length-append, take_at, drop_more, take-append-drop, VectorFault, VectorKind, Size, Read, Memory, Reading, is_line_end, lines_of, Bad, judged, rows_from, names_part1_from, last_fault, first_fault, rows_in, StandsAfter, EndsLine, limit, block, lines_within, stop_of, Finds, RunsOut, take_all}
 use Rattle.nf_vectors.proofs.StandingLemmas.{lines_of-ended, lines_of-last, first_fault-ended}
 
-pub limit-is : limit ≡ 67108864
-limit-is = refl
-
-pub block-is : block ≡ 4096
-block-is = refl
-
 pub at_ok : {A E : Type 0} {P : Type 0} (r : Result A E) → is_ok r ≡ true → OnOk r P → P
 at_ok (Ok x) e p = p
 at_ok (Err e) is p = absurd (false≢true is)
@@ -53,34 +47,23 @@ module _ (reading : Reading) (bytes : List ℕ) (stands : StandsAfter reading by
       pub all_parts : new.has_part1 ≡ names_part1_from 1 (lines_within bytes)
       all_parts = rw (within, ← append-nil bytes, stands.part1 [], lines_of-last reading.bytes.items stands.one_line, or-false, ends.has_part1) refl
 
-  -- a byte past the limit
-  pub too_long : (piece : List ℕ) → length bytes ≡ limit → 0 < length piece → Finds (bytes ++ piece) (record { line = reading.line; kind = Size })
-  too_long piece full some stop past =
-      rw (past (omega (arith, full, some, length-append bytes piece)), take_at bytes piece limit full) (last_line (Some Size))
-
-  -- another fault, behind which any bytes may stand
-  pub found_before : (b : ℕ) (kind : VectorKind) (rest : List ℕ) → length bytes < limit
-      → ((stop : Option VectorKind) (more : List ℕ) → first_fault 1 stop (lines_of (bytes ++ b ∷ more)) ≡ Some (record { line = reading.line; kind = kind }))
-      → Finds (bytes ++ b ∷ rest) (record { line = reading.line; kind = kind })
-  found_before b kind rest room found stop past =
-      ap (λ l. first_fault 1 stop (lines_of l)) (taken (limit - length bytes - 1) (omega (arith, room))) ∙ found stop (take (limit - length bytes - 1) rest)
-    where
-      taken : (n : ℕ) → limit ≡ length bytes + suc n → take limit (bytes ++ b ∷ rest) ≡ bytes ++ b ∷ take n rest
-      taken n is = ap (λ m. take m (bytes ++ b ∷ rest)) is ∙ take-append-add bytes (b ∷ rest) (suc n)
-
 pub Tells-found : (bytes : List ℕ) (failed : Bool) (fault : VectorFault) → Finds bytes fault → first_fault 1 (stop_of bytes failed) (lines_within bytes) ≡ Some fault
 Tells-found bytes failed fault finds = finds (stop_of bytes failed) (λ past. ap (λ b. if b then Some Size else (if failed then Some Read else None)) (lt-ltb limit (length bytes) past))
 
--- the fault at one byte, whatever stands behind it
+-- the fault at one byte, whatever stands behind it: at the limit, that it is one too many
 pub found_here : (reading : Reading) (bytes : List ℕ) → StandsAfter reading bytes → (b : ℕ) (rest : List ℕ) (kind : VectorKind) (fault : VectorFault)
     → reading.taken ≤ 67108864 → fault ≡ record { line = reading.line; kind = kind } → (kind ≡ Size → reading.taken ≡ 67108864) → (reading.taken ≡ 67108864 → kind ≡ Size)
     → (¬ (kind ≡ Size) → (stop : Option VectorKind) (more : List ℕ) → first_fault 1 stop (lines_of (bytes ++ b ∷ more)) ≡ Some (record { line = reading.line; kind = kind }))
     → Finds (bytes ++ b ∷ rest) fault
 found_here reading bytes stands b rest kind fault few is full size found =
-    subst (Finds (bytes ++ b ∷ rest)) (sym is) (⊎_elim
-    (λ below. found_before reading bytes stands b kind rest (omega (arith, below, stands.taken, limit-is)) (found (λ e. omega (arith, below, full e))))
-    (λ above. subst (λ k. Finds (bytes ++ b ∷ rest) (record { line = reading.line; kind = k })) (sym (size (omega (arith, above, few))))
-    (too_long reading bytes stands (b ∷ rest) (omega (arith, above, few, stands.taken, limit-is)) (omega arith)))
+    subst (Finds (bytes ++ b ∷ rest)) (sym is) (λ stop past. ⊎_elim
+    (λ below.
+    let n = limit - length bytes - 1 in
+    let within : limit ≡ length bytes + suc n = omega (arith, below, stands.taken) in
+    ap (λ l. first_fault 1 stop (lines_of l)) (ap (λ m. take m (bytes ++ b ∷ rest)) within ∙ take-append-add bytes (b ∷ rest) (suc n)) ∙ found (λ e. omega (arith, below, full e)) stop (take n rest))
+    (λ above.
+    let end : length bytes ≡ limit = omega (arith, above, few, stands.taken) in
+    rw (past (omega (arith, end, length-append bytes (b ∷ rest))), take_at bytes (b ∷ rest) limit end, size (omega (arith, above, few))) (last_line reading bytes stands (Some Size)))
     (cases_lt reading.taken 67108864))
 
 pub piece_at : (bytes piece : List ℕ) (i : ℕ) → i < length piece → (bytes ++ take i piece) ++ get_or piece i 0 ∷ drop (i + 1) piece ≡ bytes ++ piece

@@ -1,5 +1,5 @@
 use Rattle.nf_vectors.proofs.Common.{◌+◌, ◌++◌, ◌∙◌, false, take, drop, get_or, Err, refl, sym, ap, subst, arith, append_assoc, take_all, StandsAfter, Finds, take-append-drop, length-drop}
-use Rattle.nf_vectors.proofs.EndingLemmas.{limit-is, found_here, piece_at, runs_out}
+use Rattle.nf_vectors.proofs.EndingLemmas.{found_here, piece_at, runs_out}
 use Rattle.nf_vectors.proofs.reading.Reading.take.Goals as goal
 
 pub returns-in-Err-clause-finds : goal.returns-in-Err-clause-finds
@@ -21,7 +21,7 @@ returns-in-Err-clause-memory c = λ bytes stands short memory.
     let before = c.loop-byte.invariant.stands bytes stands in
     let rest = drop i piece in
     let here = c.fault.ensures ∙ ap (λ n. record { line = n; kind = c.in-Err.kind }) (c.in-Err.ensures.line refl) in
-    runs_out c.loop-byte.self (bytes ++ take i piece) before (omega (arith, before.taken, c.loop-byte.invariant.within.taken, limit-is)) rest (bytes ++ piece)
+    runs_out c.loop-byte.self (bytes ++ take i piece) before (omega (arith, before.taken, c.loop-byte.invariant.within.taken)) rest (bytes ++ piece)
     (omega (arith, short, length-drop i piece)) (sym (append_assoc bytes (take i piece) rest ∙ ap (λ l. bytes ++ l) (take-append-drop i piece))) false (λ e. cc) c.fault.result c.in-Err.kind here memory
 
 pub returns-clause-stands : goal.returns-clause-stands

@@ -1,5 +1,5 @@
 use Rattle.nf_vectors.proofs.Common.{if_ok_if, ◌≡◌, ◌∙◌, ◌++◌, ◌≤◌, length, true, false, [], take, Some, sym, ap, subst, arith, append-nil, Bool, IfErr, Consumes, false≢true, limit, block, stop_of, lines_within, Tells, RunsOut, Memory, first_fault, length-take-le, eq-eqb, ne_eqb}
-use Rattle.nf_vectors.proofs.EndingLemmas.{limit-is, block-is, ends_at, Tells-found}
+use Rattle.nf_vectors.proofs.EndingLemmas.{ends_at, Tells-found}
 use Rattle.std.proofs.KnownBytes.{Consumes-kept, Consumes-trans}
 use Rattle.nf_vectors.proofs.suite.Suite.read.Goals as goal
 
@@ -7,7 +7,7 @@ pub returns-in-Err-clause-reads : goal.returns-in-Err-clause-reads
 returns-in-Err-clause-reads g c =
     let read = c.loop-given.invariant.read in
     let failed : true ≡ (g.I.Source.state c.get.new.self).is_failed = sym c.in-Err.ensures.failed.0 in
-    let few : length read.0 ≤ limit = omega (arith, read.2.taken, c.loop-given.invariant.within.taken, limit-is) in
+    let few : length read.0 ≤ limit = omega (arith, read.2.taken, c.loop-given.invariant.within.taken) in
     record {
       bytes = read.0;
       given = Consumes-kept _ _ _ read.0 read.1 c.in-Err.ensures.kept;
@@ -24,7 +24,7 @@ returns-in-Err-take-clause-reads g c =
     let piece = take c.in-Ok.given c.get.new.buf in
     let finds = c.in-Err-take.ensures.finds read.0 read.2 in
     let unended : (g.I.Source.state c.get.new.self).is_at_end ≡ false = c.in-Ok.ensures.end ∙ ne_eqb c.in-Ok.given 0 c.if-given-eq0.false in
-    let short : length piece ≤ block = omega (arith, block-is, length-take-le c.in-Ok.given c.get.new.buf c.in-Ok.ensures.count, c.in-Ok.ensures.count, c.loop-given.invariant.room, c.get.auto.buf) in
+    let short : length piece ≤ block = omega (arith, length-take-le c.in-Ok.given c.get.new.buf c.in-Ok.ensures.count, c.in-Ok.ensures.count, c.loop-given.invariant.room, c.get.auto.buf) in
     record {
       bytes = read.0 ++ piece;
       given = Consumes-trans _ _ _ read.0 piece read.1 c.in-Ok.ensures.given;
