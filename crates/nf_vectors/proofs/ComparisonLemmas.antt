@@ -1,5 +1,5 @@
 -- Whether the sound front of a text leaves the Stream-Safe Text Format.
-use Rattle.nf_vectors.proofs.Common.{◌≡◌, ℕ, ◌+◌, ◌≤◌, ◌<◌, Bool, true, false, List, [], ◌∷◌, ◌++◌, length, take, drop, Option, Some, None, is_some, option_map, Result, Ok, refl, sym, ap, ◌∙◌, get_or, list_all, if◌then◌else◌, take_all, take_more, take-append-drop, Properties, is_sound, Place, place, place_from, leaves_format}
+use Rattle.nf_vectors.proofs.Common.{arith, ◌≡◌, ℕ, ◌+◌, ◌≤◌, ◌<◌, Bool, true, false, List, [], ◌∷◌, ◌++◌, length, take, drop, Option, Some, None, is_some, option_map, Result, Ok, refl, sym, ap, ◌∙◌, get_or, list_all, if◌then◌else◌, take_all, take_more, take-append-drop, Properties, is_sound, Place, place, place_from, leaves_format}
 use Rattle.nf_filter.specs.declared.fault.Fault.{Fault}
 use Rattle.nf_filter.specs.Checks.{sound_front, place_or_fault, text_decision}
 use Rattle.nf_safe.specs.Place.{place_at}
@@ -30,7 +30,7 @@ module _ (p : Properties) (x : List ℕ) where
   -- a character behind sound ones
   module _ (i c : ℕ) (within : i < length x) (is : c ≡ get_or x i c) (sound : list_all (is_sound p) (take i x) ≡ true) where
     cut : x ≡ (take i x ++ c ∷ []) ++ drop (i + 1) x
-    cut = sym (take-append-drop (i + 1) x) ∙ ap (λ l. l ++ drop (i + 1) x) (take_more x i c within ∙ ap (λ d. take i x ++ d ∷ []) (sym is))
+    cut = grind (arith, take_more, take-append-drop)
 
     pub leaves-at : is_sound p c ≡ true → (at : Place) → place_from 0 p (take i x ++ c ∷ []) ≡ Some at → true ≡ leaves_format p x
     unfolding is_place

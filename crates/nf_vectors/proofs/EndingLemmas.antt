@@ -1,5 +1,6 @@
 -- Where the reading of a vector file ends.
 use Rattle.nf_vectors.proofs.Common.{◌≡◌, ℕ, suc, ◌+◌, ◌-◌, ◌<◌, ◌≤◌, Bool, true, false, List, [], ◌∷◌, ◌++◌, length, take, drop, get_or, Option, Some, None, Result, Ok, Err, refl, sym, ap, ◌∙◌, subst, arith, append_assoc, append-nil, ⊎_elim, OnOk, is_ok, if◌then◌else◌, lt-ltb, le-ltb, false≢true, cases_lt, or-false, take-append-add, length-append, take_at, drop_more, take-append-drop, VectorFault, VectorKind, Size, Read, Memory, Reading, is_line_end, lines_of, Bad, judged, rows_from, names_part1_from, last_fault, first_fault, rows_in, StandsAfter, EndsLine, limit, block, lines_within, stop_of, Finds, RunsOut, take_all}
+use Rattle.std.proofs.lemmas.Grind.{common_steps}
 use Rattle.nf_vectors.proofs.StandingLemmas.{lines_of-ended, lines_of-last, first_fault-ended}
 
 pub at_ok : {A E : Type 0} {P : Type 0} (r : Result A E) → is_ok r ≡ true → OnOk r P → P
@@ -67,6 +68,4 @@ found_here reading bytes stands b rest kind fault few is full size found =
     (cases_lt reading.taken 67108864))
 
 pub piece_at : (bytes piece : List ℕ) (i : ℕ) → i < length piece → (bytes ++ take i piece) ++ get_or piece i 0 ∷ drop (i + 1) piece ≡ bytes ++ piece
-piece_at bytes piece i within =
-    append_assoc bytes (take i piece) (get_or piece i 0 ∷ drop (i + 1) piece)
-    ∙ ap (λ l. bytes ++ l) (ap (λ l. take i piece ++ l) (sym (drop_more piece i 0 within)) ∙ take-append-drop i piece)
+piece_at bytes piece i within = grind (arith, common_steps, append_assoc, drop_more, take-append-drop)

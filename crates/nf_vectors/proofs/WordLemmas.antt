@@ -1,9 +1,7 @@
 -- The code points of a column, word by word.
 use Rattle.std.specs.Iterator.{Yields}
-use Rattle.std.proofs.lemmas.Iterator.{YieldsList}
-use Rattle.std.proofs.lemmas.Iterator.Consumers.{YieldsList-turn, YieldsList-end}
 use Rattle.std.proofs.lemmas.Result.{IfOk-weaker, IfOk-at_ok}
-use Rattle.nf_vectors.proofs.Common.{Bor, ◌≡◌, Option, Some, None, drop_all, length_push, IfOk, ℕ, ◌≤◌, Bool, true, false, cond, List, [], ◌∷◌, ◌++◌, length, drop, Result, Ok, Err, refl, sym, ap, ◌∙◌, arith, append_assoc, append-nil, sum_by, slice_split, onto_first, drop_more, sum_by-cons, VectorKind, Empty, is_gap, code_point, and_then, before, code_points, some_or_empty, column_in}
+use Rattle.nf_vectors.proofs.Common.{YieldsList, YieldsList-turn, YieldsList-end, Bor, ◌≡◌, Option, Some, None, drop_all, length_push, IfOk, ℕ, ◌≤◌, Bool, true, false, cond, List, [], ◌∷◌, ◌++◌, length, drop, Result, Ok, Err, refl, sym, ap, ◌∙◌, arith, append_assoc, append-nil, sum_by, slice_split, onto_first, drop_more, sum_by-cons, VectorKind, Empty, is_gap, code_point, and_then, before, code_points, some_or_empty, column_in}
 
 before-before : (cs : List ℕ) (c : ℕ) (r : Result (List ℕ) VectorKind) → before cs (before (c ∷ []) r) ≡ before (cs ++ c ∷ []) r
 before-before cs c (Ok more) = ap Ok (sym (append_assoc cs (c ∷ []) more))

@@ -1,4 +1,4 @@
-use Rattle.nf_vectors.proofs.Common.{ℕ, ◌*◌, ◌≤◌, List, ◌∙◌, take, length, encode_utf8, encode_utf8_all, refl, sym, ap, arith, is_some, true_from_ne_false, false≢true, length-take-le, get_or, is_sound, length-encode, len_utf8_bounds}
+use Rattle.nf_vectors.proofs.Common.{rules, ℕ, ◌*◌, ◌≤◌, List, ◌∙◌, length, encode_utf8, encode_utf8_all, refl, sym, ap, arith, is_some, true_from_ne_false, false≢true, length-take-le, get_or, is_sound, length-encode, len_utf8_bounds}
 use Rattle.std.proofs.lemmas.List.Concat.{length-flat_map}
 use Rattle.std.proofs.lemmas.List.Sums.{sum_by-le}
 use Rattle.nf_vectors.proofs.ComparisonLemmas.{leaves-none, leaves-at, leaves-unsound}
@@ -14,9 +14,7 @@ pub loop-c-init : goal.loop-c-init
 loop-c-init g c = record { stands = c.new-checker.ensures.stands (g.R.Rows.properties c.args.rows.now); none = c.new-checker.ensures.place; sound = refl }
 
 pub see-requires : goal.see-requires
-see-requires g c = λ none.
-    let x = take c.loop-c.c-index c.args.column.now in
-    omega (arith, c.loop-c.invariant.stands.offset none, encode_utf8_all-le x, encode_utf8-le c.c-item.result, length-take-le c.loop-c.c-index c.args.column.now (omega (arith, c.loop-c-test.true)), c.requires, c.loop-c-test.true)
+see-requires g c = λ none. grind (arith, encode_utf8_all-le, encode_utf8-le, length-take-le, c.loop-c.invariant.stands.offset none)
 
 pub returns-in-Ok-Some : goal.returns-in-Ok-Some
 returns-in-Ok-Some g c =
@@ -29,11 +27,7 @@ returns-in-Ok-Some g c =
     (sym stands.place ∙ sym c.in-Ok-Some.ensures.place ∙ c.in-Ok-Some.field-0-is)
 
 pub returns-in-Err : goal.returns-in-Err
-returns-in-Err g c =
-    let seen = c.loop-c.invariant in
-    leaves-unsound (g.R.Rows.properties c.args.rows.now) c.args.column.now _ c.c-item.result c.loop-c-test.true c.c-item.is seen.sound ((c.in-Err.ensures.refuses (ap is_some seen.none)).0 refl) (sym seen.stands.place ∙ seen.none)
+returns-in-Err g c = search (rules, leaves-unsound)
 
 pub returns : goal.returns
-returns g c =
-    let seen = c.loop-c.invariant in
-    leaves-none (g.R.Rows.properties c.args.rows.now) c.args.column.now _ c.loop-c-test.false seen.sound (sym seen.stands.place ∙ seen.none)
+returns g c = search (rules, leaves-none)

@@ -62,7 +62,7 @@ returns c =
     let le = codes-le c.args.column.now read.0 codes in
     let sum = ap length read.1 ∙ length-append c.args.text.now.items read.0 in
     record {
-      len = (omega (arith, c.loop-word.text.ok.0), omega (arith, sum, c.loop-word.text.ok.0), omega (arith, sum, le, c.loop-word.text.ok.0));
+      len = search (rules, sum, le);
       column = (read.0, column_in-some c.args.column.now read.0 codes (λ none. c.if-len-start.false (omega (arith, none, sum, c.loop-word.text.ok.0, c.args.text.now.ok.0))), read.1);
       faults = search rules;
     }

@@ -1,8 +1,4 @@
-use Rattle.nf_vectors.proofs.Common.{ap, ◌∙◌, not, take, rules, tests, is_gap}
-use Rattle.std.proofs.lemmas.Iterator.{YieldsList-from_slice}
-use Rattle.std.proofs.lemmas.Iterator.Consumers.{count_from_yields_List}
-use Rattle.std.proofs.lemmas.Iterator.Search.{YieldsList-from_take_while}
-use Rattle.std.proofs.lemmas.List.Folds.{length-prefix_len}
+use Rattle.nf_vectors.proofs.Common.{YieldsList-from_slice, count_from_yields_List, YieldsList-from_take_while, length-prefix_len, ap, ◌∙◌, not, take, rules, tests, is_gap}
 use Rattle.nf_vectors.proofs.scan.before_gap.Goals as goal
 
 pub returns : goal.returns

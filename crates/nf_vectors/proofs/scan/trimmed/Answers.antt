@@ -1,11 +1,6 @@
-use Rattle.nf_vectors.proofs.Common.{◌≡◌, ◌-◌, length, ap, ◌∙◌, take, drop, take_rest, rules, tests, without_blanks_behind, is_blank}
-use Rattle.std.proofs.lemmas.Iterator.{YieldsList-from_slice}
+use Rattle.nf_vectors.proofs.Common.{YieldsList-from_slice, count_from_yields_List, YieldsList-from_take_while, length-prefix_len, reverse, ◌≡◌, ◌-◌, length, ◌∙◌, take, drop, take_rest, rules, tests, is_blank}
 use Rattle.std.proofs.lemmas.Iterator.Adapters.{YieldsList-from_rev_slice}
-use Rattle.std.proofs.lemmas.Iterator.Consumers.{count_from_yields_List}
-use Rattle.std.proofs.lemmas.Iterator.Search.{YieldsList-from_take_while}
-use Rattle.std.proofs.lemmas.List.Folds.{length-prefix_len}
 use Rattle.std.specs.List.{prefix_len, suffix_len}
-use Rattle.std.proofs.Common.{reverse}
 use Rattle.nf_vectors.proofs.scan.trimmed.Goals as goal
 
 pub returns-clause-text : goal.returns-clause-text
@@ -21,4 +16,4 @@ returns-clause-text c =
     count_from_yields_List c.take_while-2.result _ c.count-behind.ensures.ran
     (YieldsList-from_take_while _ is_blank (YieldsList-from_rev_slice rest cc) c.take_while-2.ensures.closure c.take_while-2.ensures.done (λ x b q k. search (rules, tests)))
     ∙ length-prefix_len is_blank (reverse rest) in
-    ap (λ n. take (length rest - n) rest) behind ∙ ap without_blanks_behind (take_rest bytes from ∙ ap (λ n. drop n bytes) before)
+    search (rules, before, behind, take_rest)

@@ -1,5 +1,4 @@
-use Rattle.nf_vectors.proofs.Common.{ℕ, ◌<◌, ◌≤◌, arith}
-use Rattle.std.proofs.Common.{◌^◌}
+use Rattle.nf_vectors.proofs.Common.{◌^◌, ℕ, ◌<◌, ◌≤◌, arith}
 use Rattle.std.proofs.Math.Nat.{pow-le-pow_right}
 use Rattle.nf_vectors.proofs.word.code_point.Goals as goal
 
@@ -8,7 +7,7 @@ few : (i n : ℕ) → i < n → n ≤ 6 → 16 ^ i ≤ 16 ^ 5
 few i n below most = let le : i ≤ 5 = omega (arith, below, most) in pow-le-pow_right {n = 16} (omega arith) le
 
 pub overflow_mul-value : goal.overflow_mul-value
-overflow_mul-value c = omega (arith, few _ _ c.loop-byte-test.true c.if-word-gt6.false, c.loop-byte.invariant.bound)
+overflow_mul-value c = grind (arith, few)
 
 pub overflow_add-value : goal.overflow_add-value
-overflow_add-value c = omega (arith, few _ _ c.loop-byte-test.true c.if-word-gt6.false, c.loop-byte.invariant.bound, c.in-Some.ensures.value.0, c.in-Some.ensures.value.1)
+overflow_add-value c = grind (arith, few)

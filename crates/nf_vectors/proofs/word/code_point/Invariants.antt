@@ -1,5 +1,4 @@
-use Rattle.nf_vectors.proofs.Common.{◌≡◌, ◌+◌, ◌≤◌, true, take, list_all, is_digit, value_of}
-use Rattle.std.proofs.Common.{◌^◌}
+use Rattle.nf_vectors.proofs.Common.{◌^◌, ◌≡◌, ◌+◌, ◌≤◌, true, take, list_all, is_digit, value_of}
 use Rattle.nf_vectors.proofs.word.code_point.Given as goal
 
 abbrev pub invariant-loop-byte : goal.invariant-loop-byte

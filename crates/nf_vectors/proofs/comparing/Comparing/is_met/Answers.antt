@@ -1,4 +1,4 @@
-use Rattle.nf_vectors.proofs.Common.{◌≡◌, ℕ, ◌≤◌, false, List, [], ◌++◌, length, take, Option, Some, None, is_some, sym, ap, ◌∙◌, append-nil, nat_eq, eq-eqb, eqb-true, bytes_eq, same_from_decides, bytes_eq-Decides, take-length, length-take-le, false_from_ne_true}
+use Rattle.nf_vectors.proofs.Common.{rules, ◌≡◌, ℕ, ◌≤◌, false, List, [], ◌++◌, length, take, Option, Some, None, is_some, sym, ap, ◌∙◌, append-nil, nat_eq, eq-eqb, eqb-true, bytes_eq, same_from_decides, bytes_eq-Decides, take-length, length-take-le, false_from_ne_true}
 use Rattle.std.specs.Option.{option_to_list}
 use Rattle.nf_vectors.specs.Comparing.{taken_by}
 use Rattle.nf_vectors.proofs.comparing.Comparing.is_met.Goals as goal
@@ -13,9 +13,7 @@ by_length e same None within none =
 by_length e same (Some b) within none = cc
 
 pub returns-then-is_none : goal.returns-then-is_none
-returns-then-is_none c =
-    let sink = c.args.self.now in
-    by_length sink.expected.now sink.same sink.other sink.within c.if-is_none.ensures
+returns-then-is_none c = search (rules, by_length)
 
 pub returns-else-is_none : goal.returns-else-is_none
 returns-else-is_none c =

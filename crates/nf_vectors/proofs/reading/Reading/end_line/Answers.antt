@@ -1,13 +1,9 @@
-use Rattle.nf_vectors.proofs.Common.{◌≡◌, ◌∙◌, refl, sym, ap, subst, judgement, judged, AreWithin}
+use Rattle.nf_vectors.proofs.Common.{rules, ◌≡◌, ◌∙◌, refl, sym, ap, judgement, judged}
 use Rattle.nf_vectors.proofs.TextLemmas.{AreWithin-append, rows_in-append}
 use Rattle.nf_vectors.proofs.reading.Reading.end_line.Goals as goal
 
 pub returns-clause-columns : goal.returns-clause-columns
-returns-clause-columns c =
-    let grows = c.in-Ok.ensures.grows in
-    let entries = c.args.self.now.entries.items in
-    c.in_ok-hold-in-Ok.ensures.columns (judgement c.unmarked.result.now) c.in-Ok.ensures.judged
-    (subst (λ t. AreWithin t entries) (sym grows.1) (AreWithin-append c.args.self.now.text.items grows.0 entries c.requires.columns))
+returns-clause-columns c = search (rules, AreWithin-append)
 
 pub returns-clause-ends : goal.returns-clause-ends
 returns-clause-ends c =

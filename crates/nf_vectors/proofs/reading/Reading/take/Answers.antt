@@ -1,4 +1,4 @@
-use Rattle.nf_vectors.proofs.Common.{◌+◌, ◌++◌, ◌∙◌, false, take, drop, get_or, Err, refl, sym, ap, subst, arith, append_assoc, take_all, StandsAfter, Finds, take-append-drop, length-drop}
+use Rattle.nf_vectors.proofs.Common.{rules, ◌+◌, ◌++◌, ◌∙◌, false, take, drop, get_or, Err, refl, sym, ap, subst, arith, append_assoc, take_all, Finds, take-append-drop, length-drop}
 use Rattle.nf_vectors.proofs.EndingLemmas.{found_here, piece_at, runs_out}
 use Rattle.nf_vectors.proofs.reading.Reading.take.Goals as goal
 
@@ -25,5 +25,4 @@ returns-in-Err-clause-memory c = λ bytes stands short memory.
     (omega (arith, short, length-drop i piece)) (sym (append_assoc bytes (take i piece) rest ∙ ap (λ l. bytes ++ l) (take-append-drop i piece))) false (λ e. cc) c.fault.result c.in-Err.kind here memory
 
 pub returns-clause-stands : goal.returns-clause-stands
-returns-clause-stands c = λ bytes stands.
-    subst (λ p. StandsAfter c.loop-byte.self (bytes ++ p)) (take_all c.loop-byte.byte-index c.args.piece.now c.loop-byte-test.false) (c.loop-byte.invariant.stands bytes stands)
+returns-clause-stands c = search (rules, take_all)
