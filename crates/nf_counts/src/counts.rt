@@ -54,13 +54,10 @@ impl Counts {
         ensures stays { result ≡ false → self.new ≡ self.old }
     {
         if value < 4 {
-            *self = Counts {
-                nonstarters: self.nonstarters + u128::from(value),
-                longest: self.longest.max(value),
-                lead: self.lead,
-                trail: value,
-                has_starter: true,
-            };
+            self.nonstarters += u128::from(value);
+            self.longest = self.longest.max(value);
+            self.trail = value;
+            self.has_starter = true;
             return true;
         }
         let marks = value - 4;
@@ -69,13 +66,10 @@ impl Counts {
         if trail > MAX_RUN || lead > room {
             return false;
         }
-        *self = Counts {
-            nonstarters: self.nonstarters + u128::from(marks),
-            longest: self.longest.max(trail),
-            lead,
-            trail,
-            has_starter: self.has_starter,
-        };
+        self.nonstarters += u128::from(marks);
+        self.longest = self.longest.max(trail);
+        self.lead = lead;
+        self.trail = trail;
         true
     }
 }

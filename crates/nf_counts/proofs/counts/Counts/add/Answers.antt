@@ -6,7 +6,7 @@ use Rattle.nf_counts.proofs.counts.Counts.add.Goals.{then-self, else-self}
 
 pub returns-then-value-lt4-clause-counts : goal.returns-then-value-lt4-clause-counts
 returns-then-value-lt4-clause-counts c = λ _ p w row value before.
-    starts p w row c.args.self.now _ c.args.value value before c.if-value-lt4.true (ap (λ n. c.args.self.now.nonstarters + n) c.from.ensures) c.max.ensures refl refl refl
+    starts p w row c.args.self.now _ c.args.value value before c.if-value-lt4.true (ap (λ n. c.args.self.now.nonstarters + n) c.from.ensures) c.max-self.ensures refl refl refl
 
 pub returns-clause-counts : goal.returns-clause-counts
 returns-clause-counts c = λ _ p w row value before.
@@ -15,4 +15,4 @@ returns-clause-counts c = λ _ p w row value before.
       | then-self w ↦ w.lead-is ∙ sym (cond-true _ _ _ w.if-self.true)
       | else-self w ↦ w.lead-is ∙ sym (cond-false _ _ _ w.if-self.false)
     ] in
-    goes_on p w row c.args.self.now _ c.args.value value before (omega (arith, c.if-value-lt4.false)) c.requires.value (ap (λ n. c.args.self.now.nonstarters + n) c.from-2.ensures) c.max-2.ensures refl lead refl
+    goes_on p w row c.args.self.now _ c.args.value value before (omega (arith, c.if-value-lt4.false)) c.requires.value (ap (λ n. c.args.self.now.nonstarters + n) c.from-2.ensures) c.max-self-2.ensures refl lead refl

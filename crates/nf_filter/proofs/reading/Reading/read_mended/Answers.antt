@@ -1,3 +1,4 @@
+use Rattle.std.proofs.lemmas.Bool.{not-false}
 use Rattle.nf_filter.proofs.Common.{refl, length, arith, ap, take_rest}
 use Rattle.nf_filter.proofs.TakingLemmas.{HasPlaces-all}
 use Rattle.nf_filter.proofs.MendingLemmas.{mended-read, mended-refused}
@@ -9,12 +10,12 @@ take_text-requires-clause-fits g c = HasPlaces-all 0 c.mended_text.result.now c.
 pub returns-in-Err-clause-reads : goal.returns-in-Err-clause-reads
 returns-in-Err-clause-reads g c = λ f base bytes start both none.
     let mended = c.mend_allowed-len.ensures in
-    mended-refused c.replacing.ensures c.requires.replaces both.0 none c.mend_allowed-len.result mended.replaced mended.allowed (c.all_sound.ensures c.if-not-all_sound.false) both.1
+    mended-refused c.replacing.ensures c.requires.replaces both.0 none c.mend_allowed-len.result mended.replaced mended.allowed (c.known.ensures.sound (not-false _ c.if-not-known.false)) both.1
     (rw c.mended_text.ensures at c.in-Err.ensures.takes)
 
 pub returns-clause-reads : goal.returns-clause-reads
 returns-clause-reads g c = λ f base bytes start both none.
     let mended = c.mend_allowed-len.ensures in
     rw (take_rest c.args.rest.now c.mend_allowed-len.result)
-    (mended-read c.replacing.ensures c.requires.replaces both.0 none c.mend_allowed-len.result mended.replaced mended.allowed (c.all_sound.ensures c.if-not-all_sound.false) both.1
+    (mended-read c.replacing.ensures c.requires.replaces both.0 none c.mend_allowed-len.result mended.replaced mended.allowed (c.known.ensures.sound (not-false _ c.if-not-known.false)) both.1
     (rw c.mended_text.ensures at c.in_default.ensures.takes) _ refl refl)
