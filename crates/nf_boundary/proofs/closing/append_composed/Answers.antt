@@ -7,7 +7,7 @@ use Rattle.nf_boundary.proofs.closing.append_composed.Goals.{in-Some, in-None}
 
 pub loop-mark-preserved : goal.loop-mark-preserved
 loop-mark-preserved g c =
-    let p = g.C.Composites.properties c.args.data.now in
+    let p = g.C.Composites.properties c.args.composites.now in
     let first = c.args.first in
     let marks = c.args.marks.now in
     let i = c.loop-mark.mark-index in
