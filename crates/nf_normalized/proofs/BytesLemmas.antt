@@ -1,5 +1,5 @@
 -- Bytes and the texts that they spell.
-use Rattle.nf_normalized.proofs.Common.{◌≡◌, ◌^◌, eq-eqb, true≢false, ℕ, ◌+◌, ◌<◌, ◌≤◌, false, List, [], ◌∷◌, ◌++◌, length, get_or, take, drop, refl, sym, ap, ap₂, ◌∙◌, subst, arith, append_assoc, append-nil, length-append, Option, Some, None, IsUtf8, chars, encode_utf8, encode_utf8_all, and_parts, and_from, take_at, length-take, take-append-drop, encodes-append, encodes-chars, length-le-encodes, ucd, Form, ChangesOnce, text_of, rest_of, first_text, first_bytes, bytes_behind, Takes, IsText, SplitsBytes, ReadsBack, ReadsPieces, common, goes_on_with}
+use Rattle.nf_normalized.proofs.Common.{◌≡◌, nat_tests, common_steps, list_all-append, ◌^◌, ℕ, ◌+◌, ◌<◌, false, List, [], ◌∷◌, ◌++◌, length, take, drop, refl, sym, ap, ◌∙◌, subst, arith, append_assoc, append-nil, length-append, Option, Some, None, IsUtf8, chars, encode_utf8, encode_utf8_all, and_parts, take_at, length-take, take-append-drop, encodes-append, encodes-chars, length-le-encodes, ucd, Form, ChangesOnce, text_of, rest_of, first_text, first_bytes, bytes_behind, Takes, IsText, SplitsBytes, ReadsBack, ReadsPieces, common, goes_on_with}
 use Rattle.nf_utf8.specs.declared.chunk.End.{End}
 use Rattle.nf_utf8.specs.declared.chunk.End.TheVariants.{Bad}
 use Rattle.nf_utf8.specs.declared.decoder.Decoder.{Decoder}
@@ -16,8 +16,7 @@ pub record Known : Type 0 where
 
 -- a front that is no shorter is all
 pub front_all : (x y z : List ℕ) → x ++ y ≡ z → length x ≡ length z → x ≡ z
-front_all x [] z e same = sym (append-nil x) ∙ e
-front_all x (c ∷ y) z e same = absurd (omega (arith, same, ap length e, length-append x (c ∷ y)))
+front_all x y z e same = grind (arith, common_steps, append-nil)
 
 pub counted_bytes : (first : Option ℕ) (text : List ℕ) → IsUtf8 text → length (encode_utf8_all (first_text first ++ chars text)) ≡ length (first_bytes first) + length text
 counted_bytes None text utf8 = omega (arith, ap length (encodes-chars text utf8))
@@ -50,16 +49,13 @@ pub record Counted (all : List ℕ) (chars_a chars_b bytes_a bytes_b : ℕ) : Ty
 pub both_counted : SplitsBytes → (first second front behind : List ℕ) (a b c d : ℕ) → text_of (first ++ second) ≡ front ++ behind → a ≡ length front → b ≡ length behind
     → c ≡ length (encode_utf8_all front) → d ≡ length (encode_utf8_all behind) → length first + length second < 2 ^ 64 → Counted (first ++ second) a b c d
 both_counted split first second front behind a b c d both e f g h fits =
-    let chars_is : a + b ≡ length (text_of (first ++ second)) = omega (arith, e, f, ap length both, length-append front behind) in
-    let bytes_is : c + d ≡ length (encode_utf8_all (text_of (first ++ second))) =
-    omega (arith, g, h, ap (λ x. length (encode_utf8_all x)) both, ap length (sym (encodes-append front behind)), length-append (encode_utf8_all front) (encode_utf8_all behind)) in
-    let few : length (encode_utf8_all (text_of (first ++ second))) ≤ length first + length second =
-    omega (arith, ap length (split.split (first ++ second)), length-append (encode_utf8_all (text_of (first ++ second))) (rest_of (first ++ second)), length-append first second) in
+    let read = ap length (split.split (first ++ second)) in
+    let few = length-le-encodes (text_of (first ++ second)) in
     record {
-      chars = chars_is;
-      bytes = bytes_is;
-      chars_fit = omega (arith, chars_is, length-le-encodes (text_of (first ++ second)), few, fits);
-      bytes_fit = omega (arith, bytes_is, few, fits);
+      chars = grind (arith, length-append);
+      bytes = grind (arith, encodes-append, length-append);
+      chars_fit = grind (arith, length-append);
+      bytes_fit = grind (arith, encodes-append, length-append);
     }
 
 -- ---- two texts that go on otherwise
@@ -75,30 +71,23 @@ pub record Departs (x s same : List ℕ) : Type 0 where
   pub other : ¬ (s ≡ take (length s) x)
 
 common-taken : (x s : List ℕ) → s ≡ take (length s) x → common x s ≡ length s
-common-taken x s is =
-    ap (λ l. common l s) (sym (take-append-drop (length s) x) ∙ ap (λ l. l ++ drop (length s) x) (sym is)) ∙ common-front s (drop (length s) x)
+common-taken x s is = grind (arith, take-append-drop (length s) x, common-front)
 
 -- what stands at the front of two lists that go on otherwise behind m stands in m
 in_both : (e m i p q : List ℕ) (b : ℕ) (t : List ℕ) → goes_on_with b i ≡ false → m ++ i ≡ e ++ p → m ++ b ∷ t ≡ e ++ q → (more : List ℕ) × (m ≡ e ++ more)
 in_both [] m i p q b t differ first second = (m, refl)
-in_both (d ∷ e) [] i p q b t differ first second = absurd (true≢false (sym (ap (goes_on_with b) first ∙ eq-eqb d b (sym (ap (λ l. get_or l 0 0) second))) ∙ differ))
-in_both (d ∷ e) (k ∷ m) i p q b t differ first second =
-    let rest = in_both e m i p q b t differ (ap (drop 1) first) (ap (drop 1) second) in
-    (rest.0, ap₂ (λ x l. x ∷ l) (ap (λ l. get_or l 0 0) first) rest.1)
+in_both (d ∷ e) [] i p q b t differ first second = grind (arith, nat_tests)
+in_both (d ∷ e) (k ∷ m) i p q b t differ first second = grind (arith, in_both e m i p q b t)
 
 pub scalars_front : (x y : List ℕ) → IsText (x ++ y) → IsText x
-scalars_front [] y scalars = refl
-scalars_front (c ∷ x) y scalars = let parts = and_parts _ _ scalars in and_from _ _ parts.0 (scalars_front x y parts.1)
+scalars_front x y scalars = (and_parts _ _ (sym (list_all-append _ x y) ∙ scalars)).0
 
 pub scalars_take : (n : ℕ) (x : List ℕ) → IsText x → IsText (take n x)
 scalars_take n x scalars = scalars_front (take n x) (drop n x) (subst IsText (sym (take-append-drop n x)) scalars)
 
-encoded : (n : ℕ) (x : List ℕ) → encode_utf8_all x ≡ encode_utf8_all (take n x) ++ encode_utf8_all (drop n x)
-encoded n x = ap encode_utf8_all (sym (take-append-drop n x)) ∙ encodes-append (take n x) (drop n x)
-
 module _ (known : Known) where
   pub text_of-encodes : (x : List ℕ) → IsText x → text_of (encode_utf8_all x) ≡ x
-  text_of-encodes x scalars = ap text_of (sym (append-nil (encode_utf8_all x))) ∙ known.back.text x [] scalars ∙ ap (λ l. x ++ l) text_of-none ∙ append-nil x
+  text_of-encodes x scalars = grind (arith, known.back.text x [] scalars, text_of-none, append-nil)
 
   -- of bytes that go on otherwise than a text does no more than their own text is in common
   pub departs : (m i : List ℕ) (b : ℕ) (t : List ℕ) → goes_on_with b i ≡ false → (s : List ℕ) → IsText s → encode_utf8_all s ≡ m ++ b ∷ t → Departs (text_of (m ++ i)) s (text_of m)
@@ -108,22 +97,17 @@ module _ (known : Known) where
       let x_is = known.pieces.text m i in
       let s_is = sym (text_of-encodes s scalars) ∙ ap text_of is ∙ known.pieces.text m (b ∷ t) in
       let first : m ++ i ≡ encode_utf8_all (take n x) ++ (encode_utf8_all (drop n x) ++ rest_of (m ++ i)) =
-      known.split.split (m ++ i) ∙ ap (λ l. l ++ rest_of (m ++ i)) (encoded n x) ∙ append_assoc (encode_utf8_all (take n x)) (encode_utf8_all (drop n x)) (rest_of (m ++ i)) in
-      let second : m ++ b ∷ t ≡ encode_utf8_all (take n x) ++ encode_utf8_all (drop n s) = sym is ∙ encoded n s ∙ ap (λ l. encode_utf8_all l ++ encode_utf8_all (drop n s)) (sym (take-common x s)) in
+      grind (arith, known.split.split (m ++ i), take-append-drop n x, encodes-append, append_assoc) in
+      let second : m ++ b ∷ t ≡ encode_utf8_all (take n x) ++ encode_utf8_all (drop n s) = grind (arith, is, take-append-drop n s, encodes-append, take-common x s) in
       let inside = in_both (encode_utf8_all (take n x)) m i _ _ b t differ first second in
-      let text : text_of m ≡ take n x ++ text_of inside.0 = ap text_of inside.1 ∙ known.back.text (take n x) inside.0 (scalars_take n x (known.split.scalars (m ++ i))) in
-      let count : n ≡ length (text_of m) = omega (
-        arith,
-        ap length text,
-        length-append (take n x) (text_of inside.0),
-        length-take n x,
-        common-le-left x s,
-        ap₂ common x_is s_is ∙ common-behind (text_of m) (text_of (rest_of m ++ i)) (text_of (rest_of m ++ b ∷ t)),
-      ) in
+      let text : text_of m ≡ take n x ++ text_of inside.0 =
+      grind (arith, inside.1, known.back.text (take n x) inside.0 (scalars_take n x (known.split.scalars (m ++ i)))) in
+      let both = common-behind (text_of m) (text_of (rest_of m ++ i)) (text_of (rest_of m ++ b ∷ t)) in
+      let count : n ≡ length (text_of m) = grind (arith, text, length-append, length-take, common-le-left x s, x_is, s_is, both) in
       record {
         shares = record { count = count; front = ap (take (length (text_of m))) x_is ∙ take_at (text_of m) (text_of (rest_of m ++ i)) (length (text_of m)) refl };
         other = λ same.
             let all = front_all (text_of m) (text_of (rest_of m ++ b ∷ t)) s (sym s_is) (sym count ∙ common-taken x s same) in
-            let whole = ap length (known.split.split m) in
-            absurd (omega (arith, ap (λ l. length (encode_utf8_all l)) all, ap length is, length-append m (b ∷ t), whole, length-append (encode_utf8_all (text_of m)) (rest_of m)));
+            let read = ap length (known.split.split m) in
+            absurd (omega (arith, ap (λ l. length (encode_utf8_all l)) all, simp length-append at (ap length is), simp length-append at read));
       }

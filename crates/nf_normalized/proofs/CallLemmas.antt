@@ -1,5 +1,5 @@
 -- What a call of a filter tells of a text, by what it wrote to a sink that compares.
-use Rattle.nf_normalized.proofs.Common.{subst, ◌≡◌, ℕ, ◌+◌, ◌<◌, ◌^◌, Bool, true, false, List, ◌∷◌, ◌++◌, length, take, IsTrue, refl, sym, ap, ap₂, ◌∙◌, arith, ◌==◌, length-append, Option, Some, None, is_some, option_map, encode_utf8_all, true≢false, Result, Ok, Err, list_any, result_err, false_from_ne_true, take_at, encodes_same, length-le-encodes, take-length, ucd, Form, safe_form, IsText, Ending, Whole, Bad, CutOff, text_of, rest_of, ending_of, EndsAs, ReadsLongestText, Place, place_at, Fault, Write, place_or_fault, fault_in, answer_at_end, bad_byte, final_utf8, whole_or, is_spent, kind, IsAmong, Comparing, same, left, HasRoom, IsBehind, under, made_of, common, change_at, form_value, form_decision, HoldsSome, filter_state, IsOfPiece, IsOfEnd}
+use Rattle.nf_normalized.proofs.Common.{subst, ◌≡◌, ℕ, ◌+◌, ◌<◌, ◌^◌, Bool, true, false, List, ◌∷◌, ◌++◌, length, take, IsTrue, refl, sym, ap, ap₂, ◌∙◌, arith, ◌==◌, length-append, Option, Some, None, is_some, option_map, encode_utf8_all, Result, Ok, Err, list_any, result_err, false_from_ne_true, take_at, encodes_same, length-le-encodes, take-length, ucd, Form, safe_form, IsText, Ending, Whole, Bad, CutOff, text_of, ending_of, EndsAs, ReadsLongestText, Place, place_at, Fault, Write, place_or_fault, fault_in, answer_at_end, bad_byte, final_utf8, whole_or, is_spent, kind, IsAmong, Comparing, same, left, HasRoom, IsBehind, under, made_of, common, change_at, form_value, form_decision, HoldsSome, filter_state, IsOfPiece, IsOfEnd}
 use Rattle.nf_filter.specs.declared.tally.Tally.{Tally}
 use Rattle.nf_filter.specs.Kinds.{Holds}
 use Rattle.nf_filter.specs.Faults.{IsOfFeeding}
@@ -29,7 +29,7 @@ stable kinds fault not_out = next (list_any (λ k. k == kind fault) kinds) not_o
 
 -- nothing was given to a sink that stays as it was
 pub parted_apart : {old new : Comparing} → old.other ≡ None → is_some new.other ≡ true → new ≡ old → ⊥
-parted_apart none is e = true≢false (sym is ∙ ap (λ s. is_some s.other) e ∙ ap is_some none)
+parted_apart none is e = grind arith
 
 -- where no call was refused, some bytes were taken
 pub holds_some : (checker : FormChecker) → is_some checker.place ≡ false → (IsTrue (is_spent (filter_state checker)) → ⊥) → ∥ HoldsSome (filter_state checker) checker.held.items ∥₁
@@ -48,30 +48,20 @@ pub record Call (assigned : Bool) (f : Form) (base : ℕ) (held bytes all due : 
 module _ {assigned : Bool} {f : Form} {base : ℕ} {held bytes all due : List ℕ} {old new : Comparing} {T : Type 0} {r : Result T Fault} {chars offset : ℕ} {Tells : Type 0}
     (call : Call assigned f base held bytes all due old new r chars offset Tells) where
   chars_held : chars ≡ length (made_of assigned f (text_of bytes)) + length (text_of held)
-  chars_held = call.chars_are ∙ ap (λ l. length (text_of l)) call.split ∙ chars_behind call.known assigned f bytes held
+  chars_held = grind (arith, call.chars_are, call.split, chars_behind call.known assigned f bytes held)
 
   bytes_held : offset ≡ base + (length (written assigned f bytes) + length held)
-  bytes_held = call.offset_is ∙ ap (λ n. base + n) (ap length call.split ∙ length-append (written assigned f bytes) held)
+  bytes_held = grind (arith, call.offset_is, call.split, length-append)
 
   pub room : base + length all < 2 ^ 64 → HasRoom held (same new) chars offset
   room fits =
       let now = same new in
-      let few : base + (length (written assigned f bytes) + length now) < 2 ^ 64 =
-      omega (arith, fits, ap length (read call.wrote), length-append (written assigned f bytes ++ now) (left new), length-append (written assigned f bytes) now) in
+      let few : base + (length (written assigned f bytes) + length now) < 2 ^ 64 = grind (arith, fits, ap length (read call.wrote), length-append) in
       record {
         chars_held = omega (arith, chars_held);
         bytes_held = omega (arith, bytes_held);
         bytes_fit = omega (arith, bytes_held, few);
-        chars_fit = omega (
-          arith,
-          chars_held,
-          few,
-          length-le-encodes (text_of now),
-          ap length (call.known.split.split now),
-          length-append (encode_utf8_all (text_of now)) (rest_of now),
-          length-le-encodes (made_of assigned f (text_of bytes)),
-          ap length (written_is assigned f bytes),
-        );
+        chars_fit = grind (arith, chars_held, few, length-le-encodes, ap length (call.known.split.split now), length-append, written_is);
       }
 
   pub told : is_some new.other ≡ false → Tells
@@ -85,14 +75,7 @@ module _ {assigned : Bool} {f : Form} {base : ℕ} {held bytes all due : List �
     placed shares place behind =
         let count : common (text_of all) s ≡ place.chars = omega (arith, shares.count, chars_behind call.known assigned f bytes (same new), chars_held, behind.0) in
         let end : base + length (encode_utf8_all (take (common (text_of all) s) (text_of all))) ≡ place.bytes =
-        omega (
-          arith,
-          ap (λ n. length (encode_utf8_all (take n (text_of all)))) shares.count,
-          ap (λ l. length (encode_utf8_all l)) shares.front,
-          bytes_behind call.known assigned f bytes (same new),
-          bytes_held,
-          behind.1,
-        ) in
+        grind (arith, shares.count, shares.front, bytes_behind call.known assigned f bytes (same new), bytes_held, behind.1) in
         ap₂ (λ chars bytes. Some (record { chars = chars; bytes = bytes })) count end
 
     pub parted : is_some new.other ≡ true → Departs (text_of all) s (text_of (written assigned f bytes ++ same new))
@@ -103,16 +86,14 @@ module _ {assigned : Bool} {f : Form} {base : ℕ} {held bytes all due : List �
 
     module _ (none : is_some new.other ≡ false) where
       pub read_on : all ≡ encode_utf8_all s ++ left new
-      read_on = read call.wrote ∙ ap (λ l. l ++ left new) (sym (all_written call.wrote none) ∙ is)
+      read_on = grind (arith, read call.wrote, all_written call.wrote none, is)
 
       -- it is a front of the text that was read
       pub is_front : Shares (text_of all) s (text_of (written assigned f bytes ++ same new))
       is_front =
           let text : text_of all ≡ s ++ text_of (left new) = ap text_of read_on ∙ call.known.back.text s (left new) scalars in
-          subst (λ l. Shares (text_of all) s l) (sym (text_of-encodes call.known s scalars) ∙ ap text_of (sym is ∙ all_written call.wrote none)) (record {
-            count = ap (λ l. common l s) text ∙ common-front s (text_of (left new));
-            front = ap (take (length s)) text ∙ take_at s (text_of (left new)) (length s) refl;
-          })
+          let same_is : text_of (written assigned f bytes ++ same new) ≡ s = grind (arith, text_of-encodes call.known s scalars, is, all_written call.wrote none) in
+          rw same_is (record { count = grind (arith, text, common-front); front = grind (arith, text, take_at) })
 
 -- ---- a piece was fed
 
@@ -133,7 +114,7 @@ module _ {assigned : Bool} {f : Form} {base : ℕ} {held bytes all : List ℕ} {
         (λ at e. not_a_fault ucd sound base at (under assigned) all (sym (told call none) ∙ ap result_err is ∙ ap Some e))
 
     pub split_now : all ≡ written assigned f all ++ left new
-    split_now = read call.wrote ∙ ap (λ l. l ++ left new) (sym (all_written call.wrote none))
+    split_now = grind (arith, read call.wrote, all_written call.wrote none)
 
     pub unparted_decides : option_map Err (result_err r) ≡ form_decision assigned f base all
     unfolding form_decision

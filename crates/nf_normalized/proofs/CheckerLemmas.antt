@@ -1,5 +1,5 @@
 -- What a filter that is fed a text tells of it, by what it writes.
-use Rattle.nf_normalized.proofs.Common.{◌≡◌, ℕ, ◌+◌, ◌*◌, ◌≤◌, Bool, true, false, List, [], ◌∷◌, ◌++◌, length, take, take_while, refl, sym, ap, ap₂, ◌∙◌, subst, arith, append-nil, length-append, None, encode_utf8, encode_utf8_all, take_at, encodes-append, length-encode, len_utf8_bounds, prefix_len, ucd, Form, front, back, safe_form, ChangesOnce, front-append-back, IsText, BeginsText, Ending, Whole, Bad, Cut, text_of, ending_of, EndsAs, ReadsLongestText, ReplacesParts, Fault, Write, Row, fault_in, bad_byte, base_of, StandsAfter, settled, is_usable, usable, settled_utf8, place_or_fault, under, made_of, settled_change_at, form_decision, Holds, IsOfPiece}
+use Rattle.nf_normalized.proofs.Common.{◌≡◌, ℕ, ◌+◌, ◌*◌, ◌≤◌, Bool, true, false, List, [], ◌∷◌, ◌++◌, length, take, take_while, refl, sym, ap, ap₂, ◌∙◌, subst, arith, append-nil, length-append, None, encode_utf8_all, take_at, encodes-append, length-encode, len_utf8_bounds, prefix_len, ucd, Form, front, back, safe_form, ChangesOnce, front-append-back, IsText, BeginsText, Ending, Whole, Bad, Cut, text_of, ending_of, EndsAs, ReadsLongestText, ReplacesParts, Fault, Write, Row, fault_in, bad_byte, base_of, StandsAfter, settled, is_usable, usable, settled_utf8, place_or_fault, under, made_of, settled_change_at, form_decision, Holds, IsOfPiece}
 use Rattle.nf_utf8.specs.Replaced.{bytes_in}
 use Rattle.nf_safe.specs.LongestFront.{longest_front}
 use Rattle.nf_filter.specs.Faults.{IsOfFeeding}
@@ -42,15 +42,13 @@ module _ (known : Known) (assigned : Bool) (f : Form) (bytes : List ℕ) where
 
   -- the text of bytes that go on behind what is settled of some
   pub behind : (more : List ℕ) → text_of (written assigned f bytes ++ more) ≡ made_of assigned f (text_of bytes) ++ text_of more
-  behind more = ap (λ l. text_of (l ++ more)) (written_is assigned f bytes) ∙ known.back.text (made_of assigned f (text_of bytes)) more is_text
+  behind more = grind (arith, written_is, known.back.text (made_of assigned f (text_of bytes)) more is_text)
 
   pub chars_behind : (more : List ℕ) → length (text_of (written assigned f bytes ++ more)) ≡ length (made_of assigned f (text_of bytes)) + length (text_of more)
-  chars_behind more = ap length (behind more) ∙ length-append (made_of assigned f (text_of bytes)) (text_of more)
+  chars_behind more = grind (arith, behind, length-append)
 
   pub bytes_behind : (more : List ℕ) → length (encode_utf8_all (text_of (written assigned f bytes ++ more))) ≡ length (written assigned f bytes) + length (encode_utf8_all (text_of more))
-  bytes_behind more =
-      ap (λ l. length (encode_utf8_all l)) (behind more) ∙ ap length (encodes-append (made_of assigned f (text_of bytes)) (text_of more))
-      ∙ ap (λ l. length (l ++ encode_utf8_all (text_of more))) (sym (written_is assigned f bytes)) ∙ length-append (written assigned f bytes) (encode_utf8_all (text_of more))
+  bytes_behind more = grind (arith, behind, encodes-append, written_is, length-append)
 
   -- all that is settled was read
   pub unparted : (base : ℕ) (left : List ℕ) → bytes ≡ written assigned f bytes ++ left → settled_change_at base (text_of bytes) (made_of assigned f (text_of bytes)) ≡ None
@@ -109,17 +107,11 @@ module _ (known : Known) {assigned : Bool} {f : Form} {state : State} {held byte
   held_few longest replacing sound kept =
       let none = holds.filter.no_fault in
       let text = ap text_of holds.split ∙ behind known assigned f bytes held in
-      omega (
-        arith,
-        kept f (text_of bytes) (text_of held) (text ∙ ap (λ l. l ++ text_of held) (made_all sound assigned f (base_of state) bytes none)),
-        four (text_of held),
-        rest_few sound assigned f (base_of state) bytes none longest replacing,
-        ap length holds.split,
-        length-append (written assigned f bytes) held,
-        ap (λ l. length (encode_utf8_all (text_of l))) holds.split,
-        bytes_behind known assigned f bytes held,
-      )
+      let made = text ∙ ap (λ l. l ++ text_of held) (made_all sound assigned f (base_of state) bytes none) in
+      let len = ap length holds.split ∙ length-append (written assigned f bytes) held in
+      let encoded = ap (λ l. length (encode_utf8_all (text_of l))) holds.split ∙ bytes_behind known assigned f bytes held in
+      omega (arith, kept f (text_of bytes) (text_of held) made, four (text_of held), rest_few sound assigned f (base_of state) bytes none longest replacing)
     where
       four : (x : List ℕ) → length (encode_utf8_all x) ≤ 4 * length x
       four [] = omega arith
-      four (c ∷ x) = omega (arith, length-append (encode_utf8 c) (encode_utf8_all x), length-encode c, (len_utf8_bounds c).1, four x)
+      four (c ∷ x) = grind (arith, length-append, length-encode, len_utf8_bounds, four x)

@@ -3,6 +3,9 @@ pub use Rattle.std.proofs.Common.{min, ◌≡◌, ◌⊎◌, ⊎_elim, inl, inr,
 pub use Rattle.std.proofs.Math.Logic.{∥∥₁_elim, ∥∥₁_map}
 pub use Rattle.std.proofs.Math.Seq.{take-append-add, drop-append-add, take-length}
 pub use Rattle.std.proofs.lemmas.Bool.{and_parts, and_from, false_from_ne_true, cases_lt, cases_Bool, eqb-false, or_parts, or_from, ltb-true, or_left}
+pub use Rattle.std.proofs.lemmas.Bool.Decides.{nat_tests}
+pub use Rattle.std.proofs.lemmas.Grind.{common_steps}
+pub use Rattle.std.proofs.lemmas.List.Folds.{list_all-append}
 pub use Rattle.std.proofs.lemmas.List.{drop-append-le, take_at, take-append-le, drop_all}
 pub use Rattle.std.proofs.lemmas.Slice.Eq.{bytes_eq-Decides}
 pub use Rattle.std.proofs.lemmas.Str.{encodes-append, encodes-chars, length-le-encodes, encodes_same, length-encode, len_utf8_bounds}

@@ -1,12 +1,11 @@
 -- Fronts of a text in a form, over Unicode's data.
-use Rattle.nf_normalized.proofs.Common.{◌≡◌, ◌≢◌, ◌↔◌, ℕ, ◌<◌, Bool, true, false, List, [], ◌∷◌, ◌++◌, length, take, Some, refl, sym, ap, ◌∙◌, subst, arith, inl, inr, IsTrue, append-nil, append_assoc, eqb-true, pos_of_ne-zero, if◌then◌else◌, cases_Bool, eqb-false, length-append, take_at, canonical_combining_class, unicode_normalization, is_starter, lead, Form, Nfc, Nfd, Nfkc, Nfkd, composite, row_of, decomposed, composes, finished, normal_form, stream_safe, safe_form, is_sound, IsMark, ucd, by_last, row-mark, BeginsInStarter, begins_in_starter, IsSound, IsSoundText, IsSound-from_test, decomposed-push, is_in_format, after, is_among, halfwidth_marks, vowel_signs}
+use Rattle.nf_normalized.proofs.Common.{◌≡◌, ◌≢◌, ◌↔◌, ℕ, ◌<◌, true, false, List, [], ◌∷◌, ◌++◌, length, take, Some, refl, sym, ap, ◌∙◌, subst, arith, inl, inr, IsTrue, append-nil, append_assoc, eqb-true, pos_of_ne-zero, cases_Bool, eqb-false, length-append, take_at, canonical_combining_class, unicode_normalization, is_starter, lead, Form, Nfkc, Nfkd, composite, row_of, decomposed, composes, finished, normal_form, stream_safe, safe_form, is_sound, IsMark, ucd, by_last, row-mark, BeginsInStarter, begins_in_starter, IsSound, IsSoundText, IsSound-from_test, decomposed-push, is_in_format, after, is_among, halfwidth_marks, vowel_signs}
 use Rattle.ucd_normal.specs.declared.forms.Form.{Form as KitForm}
 use Rattle.ucd_normal.specs.declared.forms.Form.TheVariants.{Nfd as KitNfd, Nfkd as KitNfkd}
 use Rattle.ucd_normal.specs.declared.forms.QuickCheck.{QuickCheck}
-use Rattle.ucd_normal.specs.declared.forms.QuickCheck.TheVariants.{Yes, No, Maybe}
+use Rattle.ucd_normal.specs.declared.forms.QuickCheck.TheVariants.{No}
 use Rattle.ucd_normal.specs.QuickCheck.{quick_check}
 use Rattle.unicode_normalization.specs.Forms.{normalize}
-use Rattle.unicode_normalization.specs.Order.{is_ordered}
 use Rattle.unicode_normalization.specs.QuickCheck.{worse, worst, quick_check_text}
 use Rattle.unicode_normalization.proofs.DecomposeLemmas.{decompose-primary_composite}
 use Rattle.unicode_normalization.proofs.FormsLemmas.{quick_check_text-No}
@@ -18,22 +17,16 @@ use Rattle.nf_normalized.proofs.TakenLemmas.{IsRow, last_taken}
 -- ---- no character of a text in a form is refused by its quick check
 
 worse-No : (v : QuickCheck) → worse v No ≡ No
-worse-No Yes = refl
-worse-No No = refl
-worse-No Maybe = refl
+worse-No v = grind arith
 
 worst-last : (f : KitForm) (y : List ℕ) (c : ℕ) → quick_check f c ≡ No → worst f (y ++ c ∷ []) ≡ No
 unfolding worst
-worst-last f [] c refused = ap (λ v. worse v Yes) refused
-worst-last f (x ∷ y) c refused = ap (worse (quick_check f x)) (worst-last f y c refused) ∙ worse-No (quick_check f x)
+worst-last f [] c refused = grind arith
+worst-last f (x ∷ y) c refused = grind (arith, worst-last f y c, worse-No)
 
 text-refused : (f : KitForm) (y : List ℕ) (c : ℕ) → quick_check f c ≡ No → quick_check_text f (y ++ c ∷ []) ≡ No
 unfolding quick_check_text
-text-refused f y c refused = next (is_ordered (y ++ c ∷ []))
-  where
-    next : (b : Bool) → (if b then worst f (y ++ c ∷ []) else No) ≡ No
-    next true = worst-last f y c refused
-    next false = refl
+text-refused f y c refused = grind (arith, worst-last f y c)
 
 halfwidth_marks-refused : (refuses Nfkc halfwidth_marks ≡ true) × (refuses Nfkd halfwidth_marks ≡ true)
 unfolding unicode_normalization
@@ -62,10 +55,9 @@ module _ (sound : (c : ℕ) → IsTrue (is_sound ucd c))
       compat no_sign no_mark = begins_in_starter ucd (ucd.compat c) own.compat_some (starters c none no_sign no_mark)
 
       at : (f : Form) → is_among vowel_signs c ≡ false → quick_check (kit_form f) c ≢ No → BeginsInStarter ucd (row_of f ucd c)
-      at Nfc no_sign may = canonical no_sign
-      at Nfd no_sign may = canonical no_sign
       at Nfkc no_sign may = compat no_sign (not_among Nfkc c may halfwidth_marks halfwidth_marks-refused.0)
       at Nfkd no_sign may = compat no_sign (not_among Nfkd c may halfwidth_marks halfwidth_marks-refused.1)
+      at _ no_sign may = canonical no_sign
 
   row_from : (f : Form) (c : ℕ) → quick_check (kit_form f) c ≢ No → IsRow ucd c (row_of f ucd c)
   unfolding ucd
@@ -85,7 +77,7 @@ module _ (sound : (c : ℕ) → IsTrue (is_sound ucd c))
     longer f a b d made =
         let pair = sym (pairs a b) ∙ made in
         let rows = by_row (λ row. row d ≡ row a ++ row b) (decompose-primary_composite KitNfd a b d pair) (decompose-primary_composite KitNfkd a b d pair) f in
-        omega (arith, some_of sound f f b, ap length rows, length-append (row_of f ucd a) (row_of f ucd b))
+        grind (arith, some_of sound f f b, rows, length-append)
 
     -- ---- fronts
 

@@ -1,27 +1,19 @@
 -- How many characters can stand behind what is settled of a form.
-use Rattle.nf_normalized.proofs.Common.{◌≡◌, inl, inr, leb, leb-true, and_parts, list_all, ◌||◌, ◌==◌, eqb-true, pos_of_ne-zero, ℕ, ◌*◌, ◌<◌, ◌≤◌, Bool, true, false, List, [], ◌∷◌, ◌++◌, length, refl, sym, ap, ◌∙◌, arith, if◌then◌else◌, IsTrue, cases_Bool, or_parts, eqb-false, length-append, unicode_normalization, canonical_combining_class, is_starter, has_starter, front, back, Form, Nfc, Nfd, Nfkc, Nfkd, row_of, decomposed, normal_form, joiner, is_too_long, parted, stream_safe, safe_form, is_sound, ucd, IsMark, order, row-mark, by_last, front-append-back, back-at, back-none, EndsInGroup, last_starter, IsSound-from_test, IsSoundText, stream_safe-push, decomposed-append, decomposed-push, is_among, mapped_marks, after, settled, is_usable, LittleIsHeldBack}
+use Rattle.nf_normalized.proofs.Common.{◌≡◌, nat_tests, inl, inr, leb, leb-true, list_all, pos_of_ne-zero, ℕ, ◌*◌, ◌<◌, ◌≤◌, Bool, true, false, List, [], ◌∷◌, ◌++◌, length, refl, arith, IsTrue, cases_Bool, or_parts, eqb-false, length-append, unicode_normalization, canonical_combining_class, is_starter, has_starter, front, back, Form, Nfc, Nfd, Nfkc, Nfkd, row_of, decomposed, normal_form, stream_safe, safe_form, is_sound, ucd, IsMark, row-mark, by_last, front-append-back, back-at, back-none, EndsInGroup, last_starter, IsSound-from_test, IsSoundText, stream_safe-push, decomposed-append, is_among, mapped_marks, after, settled, is_usable, LittleIsHeldBack}
 use Rattle.nf_forms.specs.Laws.Starters.{length-order}
 
 -- what a test finds of each of some characters it finds of one among them
 among : (test : ℕ → Bool) (cs : List ℕ) (c : ℕ) → list_all test cs ≡ true → is_among cs c ≡ true → test c ≡ true
 among test [] c all is = cc
-among test (d ∷ cs) c all is = let parts = and_parts _ _ all in next (c == d) refl (among test cs c parts.1) is
-  where
-    next : (b : Bool) → (c == d) ≡ b → (is_among cs c ≡ true → test c ≡ true) → (b || is_among cs c) ≡ true → test c ≡ true
-    next true same others is = ap test (eqb-true c d same) ∙ (and_parts _ _ all).0
-    next false other others is = others is
+among test (d ∷ cs) c all is = grind (arith, nat_tests, among test cs c)
 
 -- ---- rows
 
 -- what holds of both kinds of row holds of the rows of each form
 pub by_row : (P : (ℕ → List ℕ) → Type 0) → P ucd.canonical → P ucd.compat → (f : Form) → P (row_of f ucd)
-by_row P canonical compat Nfc = canonical
-by_row P canonical compat Nfd = canonical
 by_row P canonical compat Nfkc = compat
 by_row P canonical compat Nfkd = compat
-
-same_length : (w v : List ℕ) → order ucd w ≡ order ucd v → length w ≡ length v
-same_length w v same = sym (length-order ucd w) ∙ ap length same ∙ length-order ucd v
+by_row P canonical compat _ = canonical
 
 module _ (sound : (c : ℕ) → IsTrue (is_sound ucd c)) (f : Form) where
   abbrev row : ℕ → List ℕ
@@ -35,33 +27,24 @@ module _ (sound : (c : ℕ) → IsTrue (is_sound ucd c)) (f : Form) where
 
   pub length-decomposed : (x : List ℕ) → length x ≤ length (decomposed f ucd x)
   length-decomposed [] = omega arith
-  length-decomposed (c ∷ x) = omega (arith, some_of f c, length-decomposed x, length-append (row c) (decomposed f ucd x))
+  length-decomposed (c ∷ x) = grind (arith, some_of f c, length-decomposed x, length-append)
 
   -- the process only adds
   length-stream_safe : (x : List ℕ) → length (decomposed f ucd x) ≤ length (decomposed f ucd (stream_safe ucd x))
   length-stream_safe = by_last (λ x. length (decomposed f ucd x) ≤ length (decomposed f ucd (stream_safe ucd x))) (omega arith) push
     where
-      parted_longer : (o : List ℕ) (b : Bool) → length (decomposed f ucd o) ≤ length (decomposed f ucd (if b then o ++ joiner ∷ [] else o))
-      parted_longer o true = omega (arith, ap length (decomposed-append ucd f o (joiner ∷ [])), length-append (decomposed f ucd o) (decomposed f ucd (joiner ∷ [])))
-      parted_longer o false = omega arith
-
       push : (x : List ℕ) (c : ℕ) → length (decomposed f ucd x) ≤ length (decomposed f ucd (stream_safe ucd x))
           → length (decomposed f ucd (x ++ c ∷ [])) ≤ length (decomposed f ucd (stream_safe ucd (x ++ c ∷ [])))
-      push x c before =
-          let o = stream_safe ucd x in
-          let out = parted ucd o c in
-          let behind = ap (λ l. length (decomposed f ucd l)) (stream_safe-push ucd x c) ∙ ap length (decomposed-push ucd f out c) ∙ length-append (decomposed f ucd out) (row c) in
-          let here = ap length (decomposed-push ucd f x c) ∙ length-append (decomposed f ucd x) (row c) in
-          omega (arith, before, parted_longer o (is_too_long ucd o c), behind, here)
+      push x c before = grind (arith, before, stream_safe-push, decomposed-append, length-append)
 
   -- ---- forms keep the length of what is decomposed
 
   module _ (twice : (f g : Form) (x : List ℕ) → normal_form g ucd (normal_form f ucd x) ≡ normal_form (after g f) ucd x) where
     pub length-form_of : (f : Form) (y : List ℕ) → length (decomposed f ucd (normal_form f ucd y)) ≡ length (decomposed f ucd y)
-    length-form_of Nfc y = same_length _ _ (twice Nfc Nfd y)
-    length-form_of Nfd y = same_length _ _ (twice Nfd Nfd y)
-    length-form_of Nfkc y = same_length _ _ (twice Nfkc Nfkd y)
-    length-form_of Nfkd y = same_length _ _ (twice Nfkd Nfkd y)
+    length-form_of Nfc y = grind (arith, twice Nfc Nfd y, length-order)
+    length-form_of Nfd y = grind (arith, twice Nfd Nfd y, length-order)
+    length-form_of Nfkc y = grind (arith, twice Nfkc Nfkd y, length-order)
+    length-form_of Nfkd y = grind (arith, twice Nfkd Nfkd y, length-order)
 
     pub length-form : (x : List ℕ) → length (decomposed f ucd (safe_form f ucd x)) ≡ length (decomposed f ucd (stream_safe ucd x))
     unfolding safe_form
@@ -81,33 +64,21 @@ module _ (sound : (c : ℕ) → IsTrue (is_sound ucd c)) (f : Form) where
       short_of : (f : Form) (c : ℕ) → is_starter ucd c ≡ false → length (row_of f ucd c) ≤ 2
       short_of f c mark = elim (cases_Bool (is_among mapped_marks c)) [
         | inl is ↦ leb-true _ 2 (among (λ c. leb (length (row_of f ucd c)) 2) mapped_marks c (mapped f) is)
-        | inr other ↦ let row_is = row-mark ucd f c _ (is_mark c (class_of c mark) other) in omega (arith, ap length row_is)
+        | inr other ↦ grind (arith, row-mark ucd f c _ (is_mark c (class_of c mark) other))
       ]
 
       marks_short : (m : List ℕ) → has_starter ucd m ≡ false → length (decomposed f ucd m) ≤ 2 * length m
       marks_short [] none = omega arith
-      marks_short (c ∷ m) none =
-          let parts = or_parts (is_starter ucd c) (has_starter ucd m) none in
-          omega (arith, short_of f c parts.0, marks_short m parts.1, length-append (row c) (decomposed f ucd m))
+      marks_short (c ∷ m) none = grind (arith, or_parts, short_of f c, marks_short m, length-append)
 
       back_short : (w : List ℕ) → length (back ucd w) ≤ 31 → length (decomposed f ucd (back ucd w)) ≤ 78
       back_short w few = elim (cases_Bool (has_starter ucd w)) [
         | inl some ↦ at (last_starter ucd w some)
-        | inr none ↦ let whole = back-none ucd w none in omega (arith, few, ap length whole, ap (λ l. length (decomposed f ucd l)) whole, marks_short w none)
+        | inr none ↦ grind (arith, few, back-none ucd w none, marks_short w none)
       ]
         where
           at : EndsInGroup ucd w → length (decomposed f ucd (back ucd w)) ≤ 78
-          at r =
-              let text = ap (back ucd) r.text ∙ back-at ucd r.before r.starter r.marks r.starts r.no_starter in
-              omega (
-                arith,
-                few,
-                ap length text,
-                ap (λ l. length (decomposed f ucd l)) text,
-                length-append (row r.starter) (decomposed f ucd r.marks),
-                few_of f r.starter,
-                marks_short r.marks r.no_starter,
-              )
+          at r = grind (arith, back-at ucd r.before, few, length-append, few_of f r.starter, marks_short r.marks)
 
       module _ (texts : (x : List ℕ) → IsSoundText ucd x) (held_back : LittleIsHeldBack) where
         pub kept_short : (x u : List ℕ) → x ≡ settled f ucd x ++ u → length u ≤ 78
@@ -116,20 +87,8 @@ module _ (sound : (c : ℕ) → IsTrue (is_sound ucd c)) (f : Form) where
             let form = safe_form f ucd x in
             let s = front ucd form in
             let v = back ucd form in
-            let few : length v ≤ 31 = omega (arith, held_back f ucd x (usable x), ap length (sym (front-append-back ucd form)), length-append s v) in
-            omega (
-              arith,
-              back_short form few,
-              length-decomposed u,
-              length-stream_safe x,
-              length-form x,
-              ap (λ l. length (decomposed f ucd l)) split,
-              ap length (decomposed-append ucd f s u),
-              length-append (decomposed f ucd s) (decomposed f ucd u),
-              ap (λ l. length (decomposed f ucd l)) (sym (front-append-back ucd form)),
-              ap length (decomposed-append ucd f s v),
-              length-append (decomposed f ucd s) (decomposed f ucd v),
-            )
+            let few : length v ≤ 31 = grind (arith, held_back f ucd x (usable x), front-append-back ucd form, length-append) in
+            grind (arith, back_short form few, length-decomposed u, length-stream_safe x, length-form x, split, decomposed-append, length-append, front-append-back ucd form)
           where
             usable : (x : List ℕ) → IsTrue (is_usable ucd x)
             usable x = texts (stream_safe ucd x)

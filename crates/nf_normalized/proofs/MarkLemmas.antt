@@ -1,7 +1,5 @@
 -- A mark more behind a text, over any character data: where it stands in the form, and what the form was without it.
-use Rattle.nf_normalized.proofs.Common.{◌≡◌, ℕ, ◌<◌, Bool, true, false, not, ◌==◌, eqb, ltb, leb, List, [], ◌∷◌, ◌++◌, length, Option, Some, None, refl, sym, ap, ap₂, ◌∙◌, arith, pos_of_ne-zero, inl, inr, append-nil, append_assoc, cases_Bool, or_parts, or_from, and_parts, and_from, ltb-true, eqb-false, length-append, list_all, fold, Properties, is_starter, has_starter, by_class, order, is_blocked, joined, replaced, join, compose_step, EndsInGroup, last_starter, marks_push, IsCut, cut, order-behind, by_class-push, has_starter-by_class, compose_step-at, compose-behind, fold-none, joined-some, joined-starter}
-use Rattle.std.proofs.lemmas.Bool.Decides.{nat_tests}
-use Rattle.std.proofs.lemmas.List.Folds.{list_all-append}
+use Rattle.nf_normalized.proofs.Common.{◌≡◌, nat_tests, list_all-append, ℕ, ◌<◌, Bool, true, false, not, ◌==◌, List, [], ◌∷◌, ◌++◌, length, Option, Some, None, refl, sym, ap, ◌∙◌, arith, pos_of_ne-zero, inl, inr, append-nil, append_assoc, cases_Bool, or_parts, or_from, eqb-false, length-append, list_all, fold, Properties, is_starter, has_starter, by_class, order, is_blocked, joined, replaced, join, compose_step, EndsInGroup, last_starter, marks_push, IsCut, cut, order-behind, by_class-push, has_starter-by_class, compose_step-at, compose-behind, fold-none, joined-some, joined-starter}
 use Rattle.unicode_normalization.proofs.ComposeLemmas.{cases_Option}
 use Rattle.nf_forms.specs.Laws.Runs.{has_starter-append}
 use Rattle.nf_forms.specs.Laws.MarkBehind.{all_above, placed, is_ordered-by_class, lands}
@@ -12,10 +10,7 @@ use Rattle.nf_forms.specs.Laws.MarkBehind.{all_above, placed, is_ordered-by_clas
 pub behind : (e y : List ℕ) (c a : ℕ) (v : List ℕ) → y ++ c ∷ [] ≡ e ++ a ∷ v → (rest : List ℕ) × (y ≡ e ++ rest) × (rest ++ c ∷ [] ≡ a ∷ v)
 behind [] y c a v same = (y, refl, same)
 behind (b ∷ e) [] c a v same = absurd (omega (arith, ap length same, length-append e (a ∷ v)))
-behind (b ∷ e) (d ∷ y) c a v same =
-    let first : d ≡ b = cc in
-    let rest = behind e y c a v cc in
-    (rest.0, ap₂ (λ h t. h ∷ t) first rest.1, rest.2)
+behind (b ∷ e) (d ∷ y) c a v same = let rest = behind e y c a v cc in (rest.0, cc, rest.2)
 
 module _ (p : Properties) where
   -- ---- a mark more
@@ -40,11 +35,9 @@ module _ (p : Properties) where
           record {
             head = order p r.head ++ l.head;
             tail = l.tail;
-            without = ap (order p) r.text ∙ order-behind p r.head r.run r.ends r.marks ∙ ap (λ k. order p r.head ++ k) l.before ∙ sym (append_assoc (order p r.head) l.head l.tail);
-            with_c = ap (λ k. order p (k ++ c ∷ [])) r.text ∙ ap (order p) (append_assoc r.head r.run (c ∷ []))
-                ∙ order-behind p r.head (r.run ++ c ∷ []) r.ends (marks_push p r.run c r.marks mark)
-                ∙ ap (λ k. order p r.head ++ k) (by_class-push p r.run c mark ∙ l.after) ∙ sym (append_assoc (order p r.head) l.head (c ∷ l.tail));
-            marks = (or_parts (has_starter p l.head) (has_starter p l.tail) (sym (has_starter-append p l.head l.tail) ∙ ap (has_starter p) (sym l.before) ∙ marks)).1;
+            without = grind (arith, r.text, order-behind p r.head r.run r.ends r.marks, l.before, append_assoc);
+            with_c = grind (arith, r.text, append_assoc, order-behind p r.head (r.run ++ c ∷ []) r.ends (marks_push p r.run c r.marks mark), by_class-push p r.run c mark, l.after);
+            marks = grind (arith, has_starter-append p l.head l.tail, l.before, marks, or_parts);
             above = l.above;
           }
 
@@ -53,13 +46,8 @@ module _ (p : Properties) where
   same_front c e q y z above without with_c = let rest = behind e y c c q with_c in next rest.0 rest.1 rest.2
     where
       next : (rest : List ℕ) → y ≡ e ++ rest → rest ++ c ∷ [] ≡ c ∷ q → z ≡ y
-      next [] text same = let none : q ≡ [] = cc in without ∙ ap (λ k. e ++ k) none ∙ sym text
-      next (a ∷ rest) text same =
-          let tail : rest ++ c ∷ [] ≡ q = cc in
-          let all = sym (list_all-append (λ x. ltb (p.class c) (p.class x)) rest (c ∷ [])) ∙ ap (all_above p (p.class c)) tail ∙ above in
-          let ends = (and_parts (all_above p (p.class c) rest) (all_above p (p.class c) (c ∷ [])) all).1 in
-          let last = ltb-true (p.class c) (p.class c) (and_parts (ltb (p.class c) (p.class c)) true ends).0 in
-          absurd (omega (arith, last))
+      next [] text same = cc
+      next (a ∷ rest) text same = grind (arith, nat_tests, list_all-append)
 
   -- ---- a mark that composes is gone: nothing of its class is left behind the starter
 
@@ -69,39 +57,19 @@ module _ (p : Properties) where
   -- composites are starters
   avoiding : (k : ℕ) → 0 < k → (s : ℕ) (m v : List ℕ) → is_starter p s ≡ true → avoids k m ≡ true → all_above p k v ≡ true
       → (t : ℕ) × (rest : List ℕ) × (fold (join p) (s ∷ m) v ≡ t ∷ rest) × (avoids k (t ∷ rest) ≡ true)
-  avoiding k some s m [] starts left above = (s, m, refl, and_from _ _ (below (p.class s) starts) left)
-    where
-      below : (n : ℕ) → eqb n 0 ≡ true → not (eqb n k) ≡ true
-      below n none = grind (arith, nat_tests)
+  avoiding k some s m [] starts left above = (s, m, refl, grind (arith, nat_tests))
   avoiding k some s m (c ∷ v) starts left above =
-      let parts = and_parts (ltb k (p.class c)) (all_above p k v) above in
       elim (cases_Option (joined p s m c)) [
-        | inl none ↦
-            let more = list_all-append (λ x. not (p.class x == k)) m (c ∷ []) ∙ and_from _ _ left (and_from _ _ (past (p.class c) parts.0) refl) in
-            let r = avoiding k some s (m ++ c ∷ []) v starts more parts.1 in
-            (r.0, r.1, ap (λ o. fold (join p) (replaced o s m c) v) none ∙ r.2, r.3)
-        | inr made ↦
-            let r = avoiding k some made.0 m v (joined-starter p s m c made.0 made.1) left parts.1 in
-            (r.0, r.1, ap (λ o. fold (join p) (replaced o s m c) v) made.1 ∙ r.2, r.3)
+        | inl none ↦ rw none (avoiding k some s (m ++ c ∷ []) v starts (grind (arith, nat_tests, list_all-append)) (grind arith))
+        | inr made ↦ rw made.1 (avoiding k some made.0 m v (joined-starter p s m c made.0 made.1) left (grind arith))
       ]
-    where
-      past : (n : ℕ) → ltb k n ≡ true → not (eqb n k) ≡ true
-      past n high = grind (arith, nat_tests)
 
   avoids-unblocked : (m : List ℕ) (c : ℕ) → is_blocked p m c ≡ false → avoids (p.class c) m ≡ true
   avoids-unblocked [] c free = refl
-  avoids-unblocked (x ∷ m) c free =
-      let parts = or_parts (leb (p.class c) (p.class x)) (is_blocked p m c) free in
-      and_from _ _ (below (p.class c) (p.class x) parts.0) (avoids-unblocked m c parts.1)
-    where
-      below : (k n : ℕ) → leb k n ≡ false → not (eqb n k) ≡ true
-      below k n low = grind (arith, nat_tests)
+  avoids-unblocked (x ∷ m) c free = grind (arith, nat_tests, avoids-unblocked m c)
 
   avoids-last : (v : List ℕ) (c : ℕ) → avoids (p.class c) (v ++ c ∷ []) ≡ true → ⊥
-  avoids-last v c all = itself (p.class c) (and_parts _ _ (and_parts _ _ (sym (list_all-append (λ x. not (p.class x == p.class c)) v (c ∷ [])) ∙ all)).1).0
-    where
-      itself : (k : ℕ) → not (eqb k k) ≡ true → ⊥
-      itself k h = grind (arith, nat_tests)
+  avoids-last v c all = grind (arith, nat_tests, list_all-append)
 
   -- ---- a mark taken away
 
@@ -122,8 +90,7 @@ module _ (p : Properties) where
           next None none with_c =
               let l = lands p true g.before g.marks c g.no_starter mark g.starter [] tail g.starts refl marks refl above in
               same_front c (g.before ++ l.starter ∷ g.marks) l.rest y _ l.above
-              (ap (λ k. fold (compose_step p) k tail) (g.text ∙ ap (λ k. g.before ++ g.starter ∷ k) (sym (append-nil g.marks))) ∙ l.one ∙ sym (append_assoc g.before (l.starter ∷ g.marks) l.rest))
-              (with_c ∙ l.other ∙ sym (append_assoc g.before (l.starter ∷ g.marks) (c ∷ l.rest)))
+              (grind (arith, g.text, append-nil, l.one, append_assoc)) (grind (arith, with_c, l.other, append_assoc))
           next (Some d) made with_c =
               let starts = joined-starter p g.starter g.marks c d made in
               let group = compose-behind p g.before (d ∷ g.marks) tail (record { starter = d; marks = g.marks; text = refl; starts = starts; no_starter = g.no_starter }) marks in

@@ -22,8 +22,8 @@ module _ (p : Properties) where
 
     -- a front of a text with as many members is the text
     same_size : (y z rest : List ℕ) → y ≡ z ++ rest → size z ≡ size y → z ≡ y
-    same_size y z [] text same = sym (text ∙ append-nil z)
-    same_size y z (a ∷ rest) text same = absurd (omega (arith, same, ap size text, size-append z (a ∷ rest), some a, length-append (row a) (flat_map row rest)))
+    same_size y z [] text same = grind (arith, append-nil)
+    same_size y z (a ∷ rest) text same = absurd (grind (arith, some a, flat_map-append, length-append))
 
     -- the first starter stays, or becomes one of a longer row
     first_step : (d : ℕ) (m : List ℕ) (c : ℕ) → is_starter p d ≡ true
@@ -64,19 +64,17 @@ module _ (p : Properties) where
 
         -- that would be longer than the starter that was there
         too_long : (t a : ℕ) (rest k : List ℕ) → rest ++ c ∷ [] ≡ a ∷ k → length (row t) < length (row a) → size rest ≡ length (row t) → ⊥
-        too_long t a [] k ends above whole = omega (arith, some t, whole)
-        too_long t a (b ∷ rest) k ends above whole =
-            let first : b ≡ a = cc in
-            omega (arith, above, whole, ap (λ i. length (row i)) first, length-append (row b) (flat_map row rest))
+        too_long t a [] k ends above whole = omega (arith, some t)
+        too_long t a (b ∷ rest) k ends above whole = grind (arith, length-append)
 
         made : (e : List ℕ) (t d : ℕ) → z ≡ e ++ t ∷ [] → compose_step p z s ≡ e ++ d ∷ [] → is_starter p d ≡ true → length (row t) < length (row d) → z ≡ y
         made e t d whole step begins above =
             let r = goes_on e d begins step in
-            let kept : size r.0 ≡ length (row t) = omega (arith, same, ap size whole, size-append e (t ∷ []), length-append (row t) [], ap size r.3, size-append e r.0) in
+            let kept : size r.0 ≡ length (row t) = grind (arith, same, whole, r.3, size-append, length-append) in
             absurd (too_long t r.1 r.0 r.2 r.4 (omega (arith, above, r.5)) kept)
 
         next : (e : List ℕ) (t : ℕ) (m : List ℕ) (o : Option ℕ) → z ≡ e ++ t ∷ m → joined p t m s ≡ o → compose_step p z s ≡ e ++ replaced o t m s → z ≡ y
-        next e t m None whole is step = apart (step ∙ sym (append_assoc e (t ∷ m) (s ∷ [])) ∙ ap (λ k. k ++ s ∷ []) (sym whole))
+        next e t m None whole is step = apart (grind (arith, step, whole, append_assoc))
         next e t [] (Some d) whole is step = made e t d whole step (joined-starter p t [] s d is) (longer t s d (joined-some p t [] s d is).1)
         next e t (x ∷ m) (Some d) whole is step = let clash = sym is ∙ joined-behind_marks p t x m s starts in cc
 

@@ -1,5 +1,5 @@
 -- What a comparing sink tells of what a filter wrote.
-use Rattle.nf_normalized.proofs.Common.{◌≡◌, inl, inr, ℕ, true, false, List, [], ◌∷◌, ◌++◌, refl, sym, ap, take-append-drop, ap₂, ◌∙◌, subst, append_assoc, append-nil, Option, Some, None, is_some, IsSome, IsTrue, option_to_list, true≢false, Result, Err, Fault, Write, Comparing, goes_on_with, same, left, given, preface, taken, sink_state}
+use Rattle.nf_normalized.proofs.Common.{arith, ◌≡◌, inl, inr, ℕ, true, false, List, [], ◌∷◌, ◌++◌, refl, sym, ap, take-append-drop, ◌∙◌, subst, append_assoc, append-nil, Option, Some, None, is_some, IsSome, IsTrue, true≢false, Result, Err, Fault, Write, Comparing, goes_on_with, same, left, given, preface, taken, sink_state}
 use Rattle.std.specs.Io.KnownBytes.{Appends}
 use Rattle.nf_filter.specs.Writes.{Puts, BreaksOff}
 use Rattle.nf_filter.proofs.FilterLemmas.{write_or_kept}
@@ -16,7 +16,7 @@ pub record Wrote (old new : Comparing) (all before due : List ℕ) {T : Type 0} 
 
 module _ {old new : Comparing} {all before due : List ℕ} {T : Type 0} {r : Result T Fault} (w : Wrote old new all before due r) where
   nothing : given old ≡ []
-  nothing = ap₂ (λ l o. l ++ option_to_list o) w.begun.0 w.begun.1
+  nothing = grind (arith, w.begun)
 
   told : (out : List ℕ) → Appends (Some (taken old)) (Some (taken new)) out → (new.first.now ++ new.second.now ≡ old.first.now ++ old.second.now) × (given new ≡ out)
   told out more =
@@ -31,9 +31,7 @@ module _ {old new : Comparing} {all before due : List ℕ} {T : Type 0} {r : Res
   ]
 
   pub read : all ≡ (before ++ same new) ++ left new
-  read =
-      w.expects ∙ ap (λ l. before ++ l) (sym (take-append-drop new.count (new.first.now ++ new.second.now) ∙ gave.1))
-      ∙ sym (append_assoc before (same new) (left new))
+  read = grind (arith, w.expects, take-append-drop, gave, append_assoc)
 
   -- a byte was another, and that goes on what was written
   pub other_written : is_some new.other ≡ true → (b : ℕ) × (rest : List ℕ) × (goes_on_with b (left new) ≡ false) × (due ≡ (before ++ same new) ++ b ∷ rest)
@@ -45,8 +43,7 @@ module _ {old new : Comparing} {all before due : List ℕ} {T : Type 0} {r : Res
         b,
         gave.0,
         new.other_is b e,
-        gave.2 ∙ ap (λ o. (before ++ (same new ++ option_to_list o)) ++ gave.0) e ∙ ap (λ l. l ++ gave.0) (sym (append_assoc before (same new) (b ∷ [])))
-            ∙ append_assoc (before ++ same new) (b ∷ []) gave.0,
+        grind (arith, gave, append_assoc),
       )
 
   -- none was: all was written, as expected
@@ -57,4 +54,4 @@ module _ {old new : Comparing} {all before due : List ℕ} {T : Type 0} {r : Res
     pub all_written : due ≡ before ++ same new
     all_written =
         let p = w.puts unfailed in
-        p.behind ∙ ap (λ l. before ++ l) (sym (told p.out p.given).1 ∙ ap (λ o. same new ++ option_to_list o) (none_is new.other none) ∙ append-nil (same new))
+        grind (arith, p.behind, told p.out p.given, none_is, append-nil)
