@@ -1,5 +1,5 @@
 -- Bytes and the texts that they spell.
-use Rattle.nf_normalized.proofs.Common.{◌≡◌, nat_tests, common_steps, list_all-append, ◌^◌, ℕ, ◌+◌, ◌<◌, false, List, [], ◌∷◌, ◌++◌, length, take, drop, refl, sym, ap, ◌∙◌, subst, arith, append_assoc, append-nil, length-append, Option, Some, None, IsUtf8, chars, encode_utf8, encode_utf8_all, and_parts, take_at, length-take, take-append-drop, encodes-append, encodes-chars, length-le-encodes, ucd, Form, ChangesOnce, text_of, rest_of, first_text, first_bytes, bytes_behind, Takes, IsText, SplitsBytes, ReadsBack, ReadsPieces, common, goes_on_with}
+use Rattle.nf_normalized.proofs.Common.{◌≡◌, nat_tests, common_steps, list_all-append, ℕ, false, List, [], ◌∷◌, ◌++◌, length, take, drop, refl, sym, ap, ◌∙◌, subst, arith, append_assoc, append-nil, length-append, Option, chars, encode_utf8_all, and_parts, take_at, length-take, take-append-drop, encodes-append, ucd, Form, ChangesOnce, text_of, rest_of, first_text, bytes_behind, Takes, IsText, SplitsBytes, ReadsBack, ReadsPieces, common, goes_on_with}
 use Rattle.nf_utf8.specs.declared.chunk.End.{End}
 use Rattle.nf_utf8.specs.declared.chunk.End.TheVariants.{Bad}
 use Rattle.nf_utf8.specs.declared.decoder.Decoder.{Decoder}
@@ -18,10 +18,6 @@ pub record Known : Type 0 where
 pub front_all : (x y z : List ℕ) → x ++ y ≡ z → length x ≡ length z → x ≡ z
 front_all x y z e same = grind (arith, common_steps, append-nil)
 
-pub counted_bytes : (first : Option ℕ) (text : List ℕ) → IsUtf8 text → length (encode_utf8_all (first_text first ++ chars text)) ≡ length (first_bytes first) + length text
-counted_bytes None text utf8 = omega (arith, ap length (encodes-chars text utf8))
-counted_bytes (Some c) text utf8 = length-append (encode_utf8 c) (encode_utf8_all (chars text)) ∙ ap (λ l. length (encode_utf8 c) + length l) (encodes-chars text utf8)
-
 -- ---- a chunk, and another
 
 pub one_piece : {first : List ℕ} {c : Option ℕ} {text : List ℕ} {end : End} → Takes [] first c text end → text_of first ≡ first_text c ++ chars text
@@ -38,25 +34,6 @@ module _ (pieces : ReadsPieces) (first second : List ℕ) where
   two_pieces (Bad at back) not_bad takes stands next = absurd (not_bad at back refl)
   two_pieces {c} {d} {text} {more} _ not_bad takes stands next =
       (next first stands).spelled ∙ ap (λ l. (l ++ first_text d) ++ chars more) (one_piece takes) ∙ append_assoc (first_text c ++ chars text) (first_text d) (chars more)
-
--- two chunks are counted
-pub record Counted (all : List ℕ) (chars_a chars_b bytes_a bytes_b : ℕ) : Type 0 where
-  pub chars : chars_a + chars_b ≡ length (text_of all)
-  pub bytes : bytes_a + bytes_b ≡ length (encode_utf8_all (text_of all))
-  pub chars_fit : chars_a + chars_b < 2 ^ 64
-  pub bytes_fit : bytes_a + bytes_b < 2 ^ 64
-
-pub both_counted : SplitsBytes → (first second front behind : List ℕ) (a b c d : ℕ) → text_of (first ++ second) ≡ front ++ behind → a ≡ length front → b ≡ length behind
-    → c ≡ length (encode_utf8_all front) → d ≡ length (encode_utf8_all behind) → length first + length second < 2 ^ 64 → Counted (first ++ second) a b c d
-both_counted split first second front behind a b c d both e f g h fits =
-    let read = ap length (split.split (first ++ second)) in
-    let few = length-le-encodes (text_of (first ++ second)) in
-    record {
-      chars = grind (arith, length-append);
-      bytes = grind (arith, encodes-append, length-append);
-      chars_fit = grind (arith, length-append);
-      bytes_fit = grind (arith, encodes-append, length-append);
-    }
 
 -- ---- two texts that go on otherwise
 

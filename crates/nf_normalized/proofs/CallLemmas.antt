@@ -1,5 +1,5 @@
 -- What a call of a filter tells of a text, by what it wrote to a sink that compares.
-use Rattle.nf_normalized.proofs.Common.{subst, ◌≡◌, ℕ, ◌+◌, ◌<◌, ◌^◌, Bool, true, false, List, ◌∷◌, ◌++◌, length, take, IsTrue, refl, sym, ap, ap₂, ◌∙◌, arith, ◌==◌, length-append, Option, Some, None, is_some, option_map, encode_utf8_all, Result, Ok, Err, list_any, result_err, false_from_ne_true, take_at, encodes_same, length-le-encodes, take-length, ucd, Form, safe_form, IsText, Ending, Whole, Bad, CutOff, text_of, ending_of, EndsAs, ReadsLongestText, Place, place_at, Fault, Write, place_or_fault, fault_in, answer_at_end, bad_byte, final_utf8, whole_or, is_spent, kind, IsAmong, Comparing, same, left, HasRoom, IsBehind, under, made_of, common, change_at, form_value, form_decision, HoldsSome, filter_state, IsOfPiece, IsOfEnd}
+use Rattle.nf_normalized.proofs.Common.{bytes_eq-Decides, subst, ◌≡◌, ℕ, ◌+◌, ◌<◌, ◌^◌, Bool, true, false, List, ◌∷◌, ◌++◌, length, IsTrue, refl, sym, ap, ap₂, ◌∙◌, arith, ◌==◌, length-append, Option, Some, None, is_some, option_map, encode_utf8_all, Result, Ok, Err, list_any, result_err, false_from_ne_true, take_at, encodes_same, length-le-encodes, take-length, ucd, Form, safe_form, IsText, Ending, Whole, Bad, CutOff, text_of, ending_of, EndsAs, ReadsLongestText, Place, place_at, Fault, Write, place_or_fault, fault_in, answer_at_end, bad_byte, final_utf8, whole_or, is_spent, kind, IsAmong, Comparing, same, left, HasRoom, IsBehind, under, made_of, common, change_at, form_value, form_decision, HoldsSome, filter_state, IsOfPiece, IsOfEnd}
 use Rattle.nf_filter.specs.declared.tally.Tally.{Tally}
 use Rattle.nf_filter.specs.Kinds.{Holds}
 use Rattle.nf_filter.specs.Faults.{IsOfFeeding}
@@ -7,7 +7,6 @@ use Rattle.nf_filter.specs.Laws.Soundness.{AreSound}
 use Rattle.nf_filter.proofs.SoundnessLemmas.{not_a_fault}
 use Rattle.nf_normalized.specs.declared.checker.FormChecker.{FormChecker}
 use Rattle.nf_normalized.proofs.BytesLemmas.{Known, Shares, Departs, departs, text_of-encodes, front_all}
-use Rattle.nf_normalized.proofs.ChangeLemmas.{if_same, if_other}
 use Rattle.nf_normalized.proofs.CommonLemmas.{common-front}
 use Rattle.nf_normalized.proofs.ComparingLemmas.{none_is}
 use Rattle.nf_normalized.proofs.WroteLemmas.{Wrote, read, other_written, unfailed, all_written}
@@ -73,10 +72,9 @@ module _ {assigned : Bool} {f : Form} {base : ℕ} {held bytes all due : List �
     pub placed : Shares (text_of all) s (text_of (written assigned f bytes ++ same new)) → (place : Place) → IsBehind held (same new) chars offset place
         → Some (place_at base (text_of all) (common (text_of all) s)) ≡ Some place
     placed shares place behind =
-        let count : common (text_of all) s ≡ place.chars = omega (arith, shares.count, chars_behind call.known assigned f bytes (same new), chars_held, behind.0) in
-        let end : base + length (encode_utf8_all (take (common (text_of all) s) (text_of all))) ≡ place.bytes =
-        grind (arith, shares.count, shares.front, bytes_behind call.known assigned f bytes (same new), bytes_held, behind.1) in
-        ap₂ (λ chars bytes. Some (record { chars = chars; bytes = bytes })) count end
+        let chars = chars_behind call.known assigned f bytes (same new) in
+        let bytes = bytes_behind call.known assigned f bytes (same new) in
+        grind (arith, shares, chars, chars_held, bytes, bytes_held, behind)
 
     pub parted : is_some new.other ≡ true → Departs (text_of all) s (text_of (written assigned f bytes ++ same new))
     parted is_other =
@@ -105,8 +103,7 @@ module _ {assigned : Bool} {f : Form} {base : ℕ} {held bytes all : List ℕ} {
       let made = made_of assigned f (text_of all) in
       let scalars = is_text call.known assigned f all in
       let d = parted call made scalars (written_is assigned f all) is in
-      ap (λ o. place_or_fault o (fault_in (under assigned) ucd base all))
-      (sym (if_other made (take (length made) (text_of all)) _ _ d.other ∙ placed call made scalars (written_is assigned f all) d.shares place behind))
+      grind (arith, bytes_eq-Decides, d.other, placed call made scalars (written_is assigned f all) d.shares place behind)
 
   module _ (none : is_some new.other ≡ false) where
     pub piece_kinds : AreSound ucd → (fault : Fault) → IsOfFeeding fault → r ≡ Err fault → IsOfPiece fault
@@ -157,8 +154,8 @@ module _ {assigned : Bool} {f : Form} {base : ℕ} {held bytes due : List ℕ} {
   unfolding change_at
   parted_end is place behind (all_due ends due) =
       let d = parted call form scalars due is in
-      let other : ¬ (form ≡ text_of bytes) = λ same. d.other (same ∙ sym (take-length (text_of bytes)) ∙ ap (λ l. take (length l) (text_of bytes)) (sym same)) in
-      ap Ok (sym (if_other form (text_of bytes) _ _ other ∙ placed call form scalars due d.shares place behind))
+      let other : ¬ (form ≡ text_of bytes) = λ same. d.other (grind (arith, take-length)) in
+      grind (arith, bytes_eq-Decides, other, placed call form scalars due d.shares place behind)
   parted_end is place behind (none_due due) =
       let o = other_written call.wrote is in
       absurd (omega (arith, ap length (sym due ∙ o.3), length-append (written assigned f bytes ++ same new) (o.0 ∷ o.1), length-append (written assigned f bytes) (same new)))
@@ -171,7 +168,7 @@ module _ {assigned : Bool} {f : Form} {base : ℕ} {held bytes due : List ℕ} {
     done_end no_more tally (all_due ends due) e =
         let read = read_on call form scalars due none in
         let all = front_all (encode_utf8_all form) (left new) bytes (sym read) (omega (arith, no_more, ap length read, length-append (encode_utf8_all form) (left new))) in
-        ap Ok (sym (if_same form (text_of bytes) _ _ (encodes_same form (text_of bytes) (all ∙ ends))))
+        grind (arith, bytes_eq-Decides, encodes_same form (text_of bytes) (all ∙ ends))
     done_end no_more tally (none_due due) e = cc
 
     pub short_end : (length (left new) ≡ 0 → ⊥) → (place : Place) → IsBehind held (same new) chars offset place → {given : Tally} {ending : Ending} (tally : Tally)
@@ -180,5 +177,5 @@ module _ {assigned : Bool} {f : Form} {base : ℕ} {held bytes due : List ℕ} {
     short_end more place behind tally (all_due ends due) e =
         let read = read_on call form scalars due none in
         let other : ¬ (form ≡ text_of bytes) = λ same. more (omega (arith, ap length (sym read ∙ ends ∙ ap encode_utf8_all (sym same)), length-append (encode_utf8_all form) (left new))) in
-        ap Ok (sym (if_other form (text_of bytes) _ _ other ∙ placed call form scalars due (is_front call form scalars due none) place behind))
+        grind (arith, bytes_eq-Decides, other, placed call form scalars due (is_front call form scalars due none) place behind)
     short_end more place behind tally (none_due due) e = cc

@@ -1,5 +1,5 @@
 -- What a filter that is fed a text tells of it, by what it writes.
-use Rattle.nf_normalized.proofs.Common.{◌≡◌, ℕ, ◌+◌, ◌*◌, ◌≤◌, Bool, true, false, List, [], ◌∷◌, ◌++◌, length, take, take_while, refl, sym, ap, ap₂, ◌∙◌, subst, arith, append-nil, length-append, None, encode_utf8_all, take_at, encodes-append, length-encode, len_utf8_bounds, prefix_len, ucd, Form, front, back, safe_form, ChangesOnce, front-append-back, IsText, BeginsText, Ending, Whole, Bad, Cut, text_of, ending_of, EndsAs, ReadsLongestText, ReplacesParts, Fault, Write, Row, fault_in, bad_byte, base_of, StandsAfter, settled, is_usable, usable, settled_utf8, place_or_fault, under, made_of, settled_change_at, form_decision, Holds, IsOfPiece}
+use Rattle.nf_normalized.proofs.Common.{bytes_eq-Decides, ◌≡◌, ℕ, ◌+◌, ◌*◌, ◌≤◌, Bool, true, false, List, [], ◌∷◌, ◌++◌, length, take_while, refl, sym, ap, ap₂, ◌∙◌, subst, arith, append-nil, length-append, None, encode_utf8_all, take_at, encodes-append, length-encode, len_utf8_bounds, prefix_len, ucd, Form, front, back, safe_form, ChangesOnce, front-append-back, IsText, BeginsText, Ending, Whole, Bad, Cut, text_of, ending_of, EndsAs, ReadsLongestText, ReplacesParts, Fault, Write, Row, fault_in, bad_byte, base_of, StandsAfter, settled, is_usable, usable, settled_utf8, place_or_fault, under, made_of, settled_change_at, form_decision, Holds, IsOfPiece}
 use Rattle.nf_utf8.specs.Replaced.{bytes_in}
 use Rattle.nf_safe.specs.LongestFront.{longest_front}
 use Rattle.nf_filter.specs.Faults.{IsOfFeeding}
@@ -10,7 +10,6 @@ use Rattle.nf_filter.specs.declared.filter.State.{State}
 use Rattle.nf_filter.specs.Policy.{allowed, len_under}
 use Rattle.nf_filter.specs.Laws.Settled.{settled_utf8-none}
 use Rattle.nf_normalized.proofs.BytesLemmas.{Known, scalars_front, scalars_take}
-use Rattle.nf_normalized.proofs.ChangeLemmas.{if_same}
 
 -- ---- texts
 
@@ -53,8 +52,8 @@ module _ (known : Known) (assigned : Bool) (f : Form) (bytes : List ℕ) where
   -- all that is settled was read
   pub unparted : (base : ℕ) (left : List ℕ) → bytes ≡ written assigned f bytes ++ left → settled_change_at base (text_of bytes) (made_of assigned f (text_of bytes)) ≡ None
   unparted base left read =
-      let made = made_of assigned f (text_of bytes) in
-      if_same made (take (length made) (text_of bytes)) _ _ (sym (ap (take (length made)) (ap text_of read ∙ behind left) ∙ take_at made (text_of left) (length made) refl))
+      let text = ap text_of read ∙ behind left in
+      grind (arith, bytes_eq-Decides, text, take_at)
 
 -- ---- no fault
 
@@ -94,7 +93,7 @@ module _ (sound : AreSound ucd) where
 
 -- no byte was taken
 pub begins : (assigned : Bool) (f : Form) (state : State) (held : List ℕ) → held ≡ [] → StandsAfter (under assigned) f ucd state [] → Holds assigned f state held []
-begins assigned f state held none stands = record { filter = stands; split = sym (settled_utf8-none (under assigned) f ucd) ∙ sym (append-nil _) ∙ ap (λ l. written assigned f [] ++ l) (sym none) }
+begins assigned f state held none stands = record { filter = stands; split = grind (arith, settled_utf8-none (under assigned) f ucd, append-nil, none) }
 
 module _ (known : Known) {assigned : Bool} {f : Form} {state : State} {held bytes : List ℕ} (holds : Holds assigned f state held bytes) where
   -- what was read decides nothing so far

@@ -1,5 +1,5 @@
 -- What a comparing sink tells of what a filter wrote.
-use Rattle.nf_normalized.proofs.Common.{arith, ◌≡◌, inl, inr, ℕ, true, false, List, [], ◌∷◌, ◌++◌, refl, sym, ap, take-append-drop, ◌∙◌, subst, append_assoc, append-nil, Option, Some, None, is_some, IsSome, IsTrue, true≢false, Result, Err, Fault, Write, Comparing, goes_on_with, same, left, given, preface, taken, sink_state}
+use Rattle.nf_normalized.proofs.Common.{arith, ◌≡◌, inl, inr, ℕ, true, false, List, [], ◌∷◌, ◌++◌, refl, sym, take-append-drop, subst, append_assoc, append-nil, Option, Some, None, is_some, IsSome, true≢false, Result, Err, Fault, Write, Comparing, goes_on_with, same, left, given, taken, sink_state}
 use Rattle.std.specs.Io.KnownBytes.{Appends}
 use Rattle.nf_filter.specs.Writes.{Puts, BreaksOff}
 use Rattle.nf_filter.proofs.FilterLemmas.{write_or_kept}
@@ -10,24 +10,18 @@ use Rattle.nf_normalized.proofs.ComparingLemmas.{none_is, preface-same}
 pub record Wrote (old new : Comparing) (all before due : List ℕ) {T : Type 0} (r : Result T Fault) : Type 0 where
   pub begun : (same old ≡ []) × (old.other ≡ None) × (old.failed ≡ false)
   pub expects : all ≡ before ++ (old.first.now ++ old.second.now)
-  pub failed : r ≡ Err Write → IsTrue new.failed
   pub broken : r ≡ Err Write → BreaksOff (sink_state old) (sink_state new) before due
   pub puts : (r ≡ Err Write → ⊥) → Puts (sink_state old) (sink_state new) before due
 
 module _ {old new : Comparing} {all before due : List ℕ} {T : Type 0} {r : Result T Fault} (w : Wrote old new all before due r) where
-  nothing : given old ≡ []
-  nothing = grind (arith, w.begun)
-
   told : (out : List ℕ) → Appends (Some (taken old)) (Some (taken new)) out → (new.first.now ++ new.second.now ≡ old.first.now ++ old.second.now) × (given new ≡ out)
-  told out more =
-      preface-same (new.first.now ++ new.second.now) (old.first.now ++ old.second.now) (given new) out
-      (more ∙ ap (λ l. (preface (old.first.now ++ old.second.now) ++ l) ++ out) nothing ∙ ap (λ l. l ++ out) (append-nil (preface (old.first.now ++ old.second.now))))
+  told out more = preface-same (new.first.now ++ new.second.now) (old.first.now ++ old.second.now) (given new) out (grind (arith, w.begun, more, append-nil))
 
   -- what was given was due, and perhaps more is
   gave : (rest : List ℕ) × (new.first.now ++ new.second.now ≡ old.first.now ++ old.second.now) × (due ≡ (before ++ given new) ++ rest)
   gave = elim (write_or_kept r) [
-    | inl e ↦ let b = w.broken e in let t = told b.out b.given in (b.rest, t.0, b.behind ∙ ap (λ l. (before ++ l) ++ b.rest) (sym t.1))
-    | inr other ↦ let p = w.puts other in let t = told p.out p.given in ([], t.0, p.behind ∙ ap (λ l. before ++ l) (sym t.1) ∙ sym (append-nil (before ++ given new)))
+    | inl e ↦ let b = w.broken e in let t = told b.out b.given in (b.rest, t.0, rw t.1 b.behind)
+    | inr other ↦ let p = w.puts other in let t = told p.out p.given in ([], t.0, grind (arith, p.behind, t.1, append-nil))
   ]
 
   pub read : all ≡ (before ++ same new) ++ left new
@@ -35,21 +29,16 @@ module _ {old new : Comparing} {all before due : List ℕ} {T : Type 0} {r : Res
 
   -- a byte was another, and that goes on what was written
   pub other_written : is_some new.other ≡ true → (b : ℕ) × (rest : List ℕ) × (goes_on_with b (left new) ≡ false) × (due ≡ (before ++ same new) ++ b ∷ rest)
-  other_written = by new.other refl
+  other_written is = by new.other refl
     where
-      by : (other : Option ℕ) → new.other ≡ other → is_some other ≡ true → (b : ℕ) × (rest : List ℕ) × (goes_on_with b (left new) ≡ false) × (due ≡ (before ++ same new) ++ b ∷ rest)
-      by None e is = absurd (true≢false (sym is))
-      by (Some b) e is = (
-        b,
-        gave.0,
-        new.other_is b e,
-        grind (arith, gave, append_assoc),
-      )
+      by : (other : Option ℕ) → new.other ≡ other → (b : ℕ) × (rest : List ℕ) × (goes_on_with b (left new) ≡ false) × (due ≡ (before ++ same new) ++ b ∷ rest)
+      by None e = absurd (grind arith)
+      by (Some b) e = (b, gave.0, new.other_is b e, grind (arith, gave, append_assoc))
 
   -- none was: all was written, as expected
   module _ (none : is_some new.other ≡ false) where
     pub unfailed : (r ≡ Err Write) → ⊥
-    unfailed e = true≢false (sym (subst IsSome (none_is new.other none) (new.failed_behind (w.failed e))))
+    unfailed e = true≢false (sym (subst IsSome (none_is new.other none) (new.failed_behind (w.broken e).failed)))
 
     pub all_written : due ≡ before ++ same new
     all_written =

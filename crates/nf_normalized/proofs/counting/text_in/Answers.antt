@@ -1,32 +1,31 @@
-use Rattle.std.proofs.Common.{ap, sym, ◌∙◌, arith, length, [], ◌++◌, encode_utf8_all}
-use Rattle.nf_normalized.proofs.BytesLemmas.{bad_piece, two_pieces, both_counted, Counted}
+use Rattle.nf_normalized.proofs.Common.{ap, length, ◌≡◌, ◌+◌, ◌<◌, ◌^◌, text_of, first_text, chars, encodes-append, length-append, length-le-encodes, arith, [], ◌++◌}
+use Rattle.nf_normalized.proofs.BytesLemmas.{bad_piece, two_pieces}
 use Rattle.nf_normalized.proofs.counting.text_in.Goals as goal
 use Rattle.nf_normalized.proofs.counting.text_in.Goals.{After-counted-behind}
 
-pub returns-in-Bad-clause-chars : goal.returns-in-Bad-clause-chars
-returns-in-Bad-clause-chars c =
-    c.counted-front.ensures.chars
-    ∙ sym (ap length (bad_piece c.pieces.ensures c.args.first.now c.args.second.now c.take-chunk.result.end c.in-Bad.is (c.take-chunk.ensures.takes [] c.new-decoder.ensures)))
+pub returns-in-Bad : goal.returns-in-Bad
+returns-in-Bad c =
+    let is = bad_piece c.pieces.ensures c.args.first.now c.args.second.now c.take-chunk.result.end c.in-Bad.is (c.take-chunk.ensures.takes [] c.new-decoder.ensures) in
+    record { chars = rw is c.counted-front.ensures.chars; bytes = rw is c.counted-front.ensures.bytes }
 
-pub returns-in-Bad-clause-bytes : goal.returns-in-Bad-clause-bytes
-returns-in-Bad-clause-bytes c =
-    c.counted-front.ensures.bytes
-    ∙ sym (ap (λ x. length (encode_utf8_all x)) (bad_piece c.pieces.ensures c.args.first.now c.args.second.now c.take-chunk.result.end c.in-Bad.is (c.take-chunk.ensures.takes [] c.new-decoder.ensures)))
-
--- what both give
-counted : (c : After-counted-behind) → Counted (c.args.first.now ++ c.args.second.now) c.counted-front.result.chars c.counted-behind.result.chars c.counted-front.result.bytes c.counted-behind.result.bytes
-counted c =
+-- what both read
+read : (c : After-counted-behind) → text_of (c.args.first.now ++ c.args.second.now)
+    ≡ (first_text c.take-chunk.result.first ++ chars c.take-chunk.result.text.now) ++ (first_text c.take.result.first ++ chars c.take.result.text.now)
+read c =
     let before = c.new-decoder.ensures in
-    let both = two_pieces c.pieces.ensures c.args.first.now c.args.second.now c.take-chunk.result.end c.in_default.not-Bad (c.take-chunk.ensures.takes [] before) (c.take-chunk.ensures.stands [] before) c.take.ensures.takes in
-    let front = c.counted-front.ensures in
-    let behind = c.counted-behind.ensures in
-    both_counted c.split.ensures c.args.first.now c.args.second.now _ _ _ _ _ _ both front.chars behind.chars front.bytes behind.bytes (omega (arith, c.requires))
+    two_pieces c.pieces.ensures c.args.first.now c.args.second.now c.take-chunk.result.end c.in_default.not-Bad (c.take-chunk.ensures.takes [] before) (c.take-chunk.ensures.stands [] before) c.take.ensures.takes
+
+-- they are no more bytes than were given
+fits : (c : After-counted-behind) → c.counted-front.result.bytes + c.counted-behind.result.bytes < 2 ^ 64
+fits c = grind (arith, read c, ap length (c.split.ensures.split (c.args.first.now ++ c.args.second.now)), encodes-append, length-append)
 
 pub overflow_add-result : goal.overflow_add-result
-overflow_add-result c = omega (arith, (counted (goal.at.overflow_add-result c).After-counted-behind).chars_fit)
+overflow_add-result c = let few = fits (goal.at.overflow_add-result c).After-counted-behind in grind (arith, length-le-encodes)
 
 pub overflow_add-result-2 : goal.overflow_add-result-2
-overflow_add-result-2 c = omega (arith, (counted (goal.at.overflow_add-result-2 c).After-counted-behind).bytes_fit)
+overflow_add-result-2 c = omega (arith, fits (goal.at.overflow_add-result-2 c).After-counted-behind)
 
 pub returns : goal.returns
-returns c = let all = counted (goal.at.returns c).After-counted-behind in record { chars = all.chars; bytes = all.bytes }
+returns c =
+    let all = read (goal.at.returns c).After-counted-behind in
+    record { chars = grind (arith, all, length-append); bytes = grind (arith, all, encodes-append, length-append) }

@@ -1,4 +1,4 @@
-use Rattle.nf_normalized.proofs.Common.{subst, [], ◌∷◌, ◌⊎◌, ◌≡◌, ◌<◌, ◌+◌, ◌++◌, ◌^◌, Bool, false, ℕ, List, IsTrue, option_map, inl, inr, ⊎_elim, true, length, refl, sym, ap, ◌∙◌, arith, is_some, Ok, Err, append_assoc, length-append, cases_lt, false_from_ne_true, ∥∥₁_elim, ∥∥₁_map, le_prop, result_err, ucd, Form, fault_in, state_of, base_of, is_spent, offset_of, spent, too_long, ill_formed, unassigned, TooLong, under, filter_state, IsOfPiece, left, Holds, StandsAfter-offset}
+use Rattle.nf_normalized.proofs.Common.{append_assoc, append-nil, subst, [], ◌∷◌, ◌⊎◌, ◌≡◌, ◌<◌, ◌+◌, ◌++◌, ◌^◌, Bool, false, ℕ, List, IsTrue, option_map, inl, inr, true, length, refl, sym, ap, ◌∙◌, arith, is_some, Ok, Err, length-append, false_from_ne_true, ∥∥₁_elim, ∥∥₁_map, le_prop, result_err, ucd, Form, fault_in, state_of, base_of, is_spent, offset_of, spent, too_long, ill_formed, unassigned, TooLong, under, filter_state, IsOfPiece, left, Holds, StandsAfter-offset}
 use Rattle.nf_normalized.proofs.BytesLemmas.{Known}
 use Rattle.nf_normalized.proofs.CheckerLemmas.{written, held_few}
 use Rattle.nf_normalized.proofs.ComparingLemmas.{none_is}
@@ -16,14 +16,11 @@ seen : (c : After-feed-fed) → (c.feed-fed.result ≡ Err TooLong → ⊥) → 
     c.new-sink.result c.feed-fed.new.sink c.feed-fed.result c.chars-chars.result c.offset-offset.result
     (result_err c.feed-fed.result ≡ fault_in (under assigned) ucd (base_of (filter_state c.args.self.now)) (bytes ++ c.args.piece.now))
 seen c short {assigned} {f} {bytes} holds =
-    let before = written assigned f bytes in
     let feeds = c.feed-fed.ensures.feeds _ f bytes holds.filter short in
-    let split = holds.split ∙ ap (λ l. before ++ l) (sym c.as_slice-held.ensures.value) in
-    let expects = ap (λ l. l ++ c.args.piece.now) split ∙ append_assoc before c.as_slice-held.result.now c.args.piece.now ∙ ap (λ l. before ++ l) (sym c.new-sink.ensures.expected) in
     record {
       known = known c;
-      split = split;
-      wrote = record { begun = c.new-sink.ensures.none; expects = expects; failed = λ e. (feeds.write.0 e).0; broken = feeds.broken_off; puts = feeds.written };
+      split = rw c.as_slice-held.ensures.value holds.split;
+      wrote = record { begun = c.new-sink.ensures.none; expects = grind (arith, holds.split, c.as_slice-held.ensures.value, c.new-sink.ensures.expected, append_assoc, append-nil); broken = feeds.broken_off; puts = feeds.written };
       chars_are = c.chars-chars.ensures _ f bytes holds.filter;
       offset_is = c.offset-offset.ensures ∙ StandsAfter-offset holds.filter;
       answer = feeds.answer;
@@ -47,7 +44,7 @@ place_behind-requires c =
     let at = (goal.at.place_behind-requires c).After-feed-fed in
     let refused = unrefused (goal.at.place_behind-requires c).After-has_parted c.if-has_parted.true in
     let fits : offset_of (filter_state c.args.self.now) + length c.args.piece.now < 2 ^ 64 =
-    ⊎_elim (λ less. less) (λ more. absurd (refused (inr (c.feed-fed.ensures.too_long.1 (false_from_ne_true _ (λ ended. refused (inl ended)), omega (arith, more)))))) (cases_lt _ (2 ^ 64)) in
+    grind (arith, refused, c.feed-fed.ensures.too_long, false_from_ne_true) in
     ∥∥₁_elim (holds_some c.args.self.now (sym c.is_some.ensures ∙ c.if-is_some.false) (λ ended. refused (inl ended))) (hlevel le_prop)
     (λ h. room (seen at (λ long. refused (inr long)) h.holds) (omega (arith, fits, StandsAfter-offset h.holds.filter, length-append h.bytes c.args.piece.now)))
 

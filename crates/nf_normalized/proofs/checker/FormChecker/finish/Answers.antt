@@ -1,6 +1,6 @@
-use Rattle.nf_normalized.proofs.Common.{subst, [], ◌∷◌, ◌≡◌, ◌++◌, Bool, false, ℕ, List, sym, ap, ◌∙◌, arith, None, append-nil, eqb-true, eqb-false, ∥∥₁_elim, le_prop, ucd, Form, ending_of, answer_at_end, base_of, final_utf8, end_of, tally_of, spent, under, filter_state, IsOfEnd, Holds, StandsAfter-offset}
+use Rattle.nf_normalized.proofs.Common.{append_assoc, subst, [], ◌∷◌, ◌≡◌, Bool, false, ℕ, List, sym, ◌∙◌, arith, None, append-nil, eqb-true, eqb-false, ∥∥₁_elim, le_prop, ucd, Form, ending_of, answer_at_end, base_of, final_utf8, end_of, tally_of, spent, under, filter_state, IsOfEnd, Holds, StandsAfter-offset}
 use Rattle.nf_filter.specs.Kinds.{cut}
-use Rattle.nf_normalized.proofs.CheckerLemmas.{written, no_fault_parts}
+use Rattle.nf_normalized.proofs.CheckerLemmas.{no_fault_parts}
 use Rattle.nf_normalized.proofs.CallLemmas.{stable, same_fault, ok_or, parted_apart, holds_some, room, Call, told, Due, due_at, fault_end, done_end, short_end, parted_end}
 use Rattle.nf_normalized.proofs.checker.FormChecker.finish.Goals as goal
 use Rattle.nf_normalized.proofs.checker.FormChecker.finish.Goals.{After-finish-finished, then-not-has_parted+in_default+else-is_at_end, else-not-has_parted}
@@ -11,14 +11,11 @@ seen : (c : After-finish-finished) → {assigned : Bool} {f : Form} {bytes : Lis
     c.finish-finished.result c.chars-chars.result c.offset-offset.result (c.finish-finished.result ≡ answer_at_end (base_of (filter_state c.args.self)) (tally_of false ucd bytes) (ending_of bytes))
 unfolding end_of
 seen c {assigned} {f} {bytes} holds =
-    let before = written assigned f bytes in
     let fin = c.finish-finished.ensures.finishes _ f bytes holds.filter in
-    let split = holds.split ∙ ap (λ l. before ++ l) (sym c.as_slice-held.ensures.value) in
-    let expects = split ∙ ap (λ l. before ++ l) (sym (c.new-sink.ensures.expected ∙ append-nil _)) in
     record {
       known = record { split = c.split.ensures; back = c.read_back.ensures; pieces = c.pieces.ensures; once = c.each_form_changes_a_text_once.ensures };
-      split = split;
-      wrote = record { begun = c.new-sink.ensures.none; expects = expects; failed = λ e. (fin.write.0 e).0; broken = fin.broken_off; puts = fin.written };
+      split = rw c.as_slice-held.ensures.value holds.split;
+      wrote = record { begun = c.new-sink.ensures.none; expects = grind (arith, holds.split, c.as_slice-held.ensures.value, c.new-sink.ensures.expected, append_assoc, append-nil); broken = fin.broken_off; puts = fin.written };
       chars_are = c.chars-chars.ensures _ f bytes holds.filter;
       offset_is = c.offset-offset.ensures ∙ StandsAfter-offset holds.filter;
       answer = fin.answer;
