@@ -1,5 +1,5 @@
 -- What a call of a filter tells of a text, by what it wrote to a sink that compares.
-use Rattle.nf_normalized.proofs.Common.{bytes_eq-Decides, subst, ◌≡◌, ℕ, ◌+◌, ◌<◌, ◌^◌, Bool, true, false, List, ◌∷◌, ◌++◌, length, IsTrue, refl, sym, ap, ap₂, ◌∙◌, arith, ◌==◌, length-append, Option, Some, None, is_some, option_map, encode_utf8_all, Result, Ok, Err, list_any, result_err, false_from_ne_true, take_at, encodes_same, length-le-encodes, take-length, ucd, Form, safe_form, IsText, Ending, Whole, Bad, CutOff, text_of, ending_of, EndsAs, ReadsLongestText, Place, place_at, Fault, Write, place_or_fault, fault_in, answer_at_end, bad_byte, final_utf8, whole_or, is_spent, kind, IsAmong, Comparing, same, left, HasRoom, IsBehind, under, made_of, common, change_at, form_value, form_decision, HoldsSome, filter_state, IsOfPiece, IsOfEnd}
+use Rattle.nf_normalized.proofs.Common.{take-append-drop, append_assoc, bytes_eq-Decides, subst, ◌≡◌, ℕ, ◌+◌, ◌<◌, ◌^◌, Bool, true, false, List, ◌++◌, length, IsTrue, refl, sym, ap, ap₂, ◌∙◌, arith, ◌==◌, length-append, Option, Some, None, is_some, option_map, encode_utf8_all, Result, Ok, Err, list_any, result_err, false_from_ne_true, take_at, encodes_same, length-le-encodes, take-length, ucd, Form, safe_form, IsText, Ending, Whole, Bad, CutOff, text_of, ending_of, EndsAs, ReadsLongestText, Place, place_at, Fault, Write, place_or_fault, fault_in, answer_at_end, bad_byte, final_utf8, whole_or, is_spent, kind, IsAmong, Comparing, same, left, HasRoom, IsBehind, under, made_of, common, change_at, form_value, form_decision, HoldsSome, filter_state, IsOfPiece, IsOfEnd}
 use Rattle.nf_filter.specs.declared.tally.Tally.{Tally}
 use Rattle.nf_filter.specs.Kinds.{Holds}
 use Rattle.nf_filter.specs.Faults.{IsOfFeeding}
@@ -9,11 +9,8 @@ use Rattle.nf_normalized.specs.declared.checker.FormChecker.{FormChecker}
 use Rattle.nf_normalized.proofs.BytesLemmas.{Known, Shares, Departs, departs, text_of-encodes, front_all}
 use Rattle.nf_normalized.proofs.CommonLemmas.{common-front}
 use Rattle.nf_normalized.proofs.ComparingLemmas.{none_is}
-use Rattle.nf_normalized.proofs.WroteLemmas.{Wrote, read, other_written, unfailed, all_written}
+use Rattle.nf_normalized.proofs.WroteLemmas.{Wrote, gave, other_written, unfailed, all_written}
 use Rattle.nf_normalized.proofs.CheckerLemmas.{written, written_is, is_text, chars_behind, bytes_behind, unparted, of_piece}
-
-pub ok_or : {T : Type 0} {value : T} {fault : Fault} → Ok value ≡ Err fault → ⊥
-ok_or e = cc
 
 pub same_fault : {T : Type 0} {a b : Fault} → ◌≡◌ {A = Result T Fault} (Err a) (Err b) → a ≡ b
 same_fault e = cc
@@ -39,7 +36,8 @@ holds_some checker none unspent = checker.holds (none_is checker.place none) (fa
 pub record Call (assigned : Bool) (f : Form) (base : ℕ) (held bytes all due : List ℕ) (old new : Comparing) {T : Type 0} (r : Result T Fault) (chars offset : ℕ) (Tells : Type 0) : Type 0 where
   pub known : Known
   pub split : bytes ≡ written assigned f bytes ++ held
-  pub wrote : Wrote old new all (written assigned f bytes) due r
+  pub expects : all ≡ written assigned f bytes ++ (old.first.now ++ old.second.now)
+  pub wrote : Wrote old new (written assigned f bytes) due r
   pub chars_are : chars ≡ length (text_of bytes)
   pub offset_is : offset ≡ base + length bytes
   pub answer : (r ≡ Err Write → ⊥) → Tells
@@ -52,10 +50,13 @@ module _ {assigned : Bool} {f : Form} {base : ℕ} {held bytes all due : List �
   bytes_held : offset ≡ base + (length (written assigned f bytes) + length held)
   bytes_held = grind (arith, call.offset_is, call.split, length-append)
 
+  pub read : all ≡ (written assigned f bytes ++ same new) ++ left new
+  read = grind (arith, call.expects, take-append-drop, gave call.wrote, append_assoc)
+
   pub room : base + length all < 2 ^ 64 → HasRoom held (same new) chars offset
   room fits =
       let now = same new in
-      let few : base + (length (written assigned f bytes) + length now) < 2 ^ 64 = grind (arith, fits, ap length (read call.wrote), length-append) in
+      let few : base + (length (written assigned f bytes) + length now) < 2 ^ 64 = grind (arith, fits, ap length (read), length-append) in
       record {
         chars_held = omega (arith, chars_held);
         bytes_held = omega (arith, bytes_held);
@@ -80,11 +81,11 @@ module _ {assigned : Bool} {f : Form} {base : ℕ} {held bytes all due : List �
     parted is_other =
         let o = other_written call.wrote is_other in
         let seen = written assigned f bytes ++ same new in
-        subst (λ l. Departs (text_of l) s (text_of seen)) (sym (read call.wrote)) (departs call.known seen (left new) o.0 o.1 o.2 s scalars (sym is ∙ o.3))
+        subst (λ l. Departs (text_of l) s (text_of seen)) (sym (read)) (departs call.known seen (left new) o.0 o.1 o.2 s scalars (sym is ∙ o.3))
 
     module _ (none : is_some new.other ≡ false) where
       pub read_on : all ≡ encode_utf8_all s ++ left new
-      read_on = grind (arith, read call.wrote, all_written call.wrote none, is)
+      read_on = grind (arith, read, all_written call.wrote none, is)
 
       -- it is a front of the text that was read
       pub is_front : Shares (text_of all) s (text_of (written assigned f bytes ++ same new))
@@ -111,7 +112,7 @@ module _ {assigned : Bool} {f : Form} {base : ℕ} {held bytes all : List ℕ} {
         (λ at e. not_a_fault ucd sound base at (under assigned) all (sym (told call none) ∙ ap result_err is ∙ ap Some e))
 
     pub split_now : all ≡ written assigned f all ++ left new
-    split_now = grind (arith, read call.wrote, all_written call.wrote none)
+    split_now = grind (arith, read call, all_written call.wrote none)
 
     pub unparted_decides : option_map Err (result_err r) ≡ form_decision assigned f base all
     unfolding form_decision
@@ -139,7 +140,7 @@ due_at assigned f base bytes good longest = next (ending_of bytes) good ((longes
 pub fault_end : {assigned : Bool} {f : Form} {bytes due : List ℕ} {fault : Fault} {ending : Ending} (base : ℕ) (tally : Tally) (value : Option Place)
     → Due assigned f bytes due ending → Err fault ≡ answer_at_end base tally ending → (Err fault ≡ answer_at_end base value ending) × IsOfEnd fault
 fault_end base tally value (all_due ends due) e = cc
-fault_end base tally value (none_due due) e = (ap Err (same_fault e), subst IsOfEnd (sym (same_fault e)) tt)
+fault_end base tally value (none_due due) e = (cc, rw (same_fault e) tt)
 
 module _ {assigned : Bool} {f : Form} {base : ℕ} {held bytes due : List ℕ} {old new : Comparing} {r : Result Tally Fault} {chars offset : ℕ} {Tells : Type 0}
     (call : Call assigned f base held bytes bytes due old new r chars offset Tells) where
@@ -158,7 +159,7 @@ module _ {assigned : Bool} {f : Form} {base : ℕ} {held bytes due : List ℕ} {
       grind (arith, bytes_eq-Decides, other, placed call form scalars due d.shares place behind)
   parted_end is place behind (none_due due) =
       let o = other_written call.wrote is in
-      absurd (omega (arith, ap length (sym due ∙ o.3), length-append (written assigned f bytes ++ same new) (o.0 ∷ o.1), length-append (written assigned f bytes) (same new)))
+      absurd (omega (arith, simp length-append at (ap length (sym due ∙ o.3))))
 
   module _ (none : is_some new.other ≡ false) where
     -- all is read, or the form is at its end before the text
@@ -167,7 +168,7 @@ module _ {assigned : Bool} {f : Form} {base : ℕ} {held bytes due : List ℕ} {
     unfolding change_at
     done_end no_more tally (all_due ends due) e =
         let read = read_on call form scalars due none in
-        let all = front_all (encode_utf8_all form) (left new) bytes (sym read) (omega (arith, no_more, ap length read, length-append (encode_utf8_all form) (left new))) in
+        let all = front_all (encode_utf8_all form) (left new) bytes (sym read) (grind (arith, no_more, read, length-append)) in
         grind (arith, bytes_eq-Decides, encodes_same form (text_of bytes) (all ∙ ends))
     done_end no_more tally (none_due due) e = cc
 
@@ -176,6 +177,6 @@ module _ {assigned : Bool} {f : Form} {base : ℕ} {held bytes due : List ℕ} {
     unfolding change_at
     short_end more place behind tally (all_due ends due) e =
         let read = read_on call form scalars due none in
-        let other : ¬ (form ≡ text_of bytes) = λ same. more (omega (arith, ap length (sym read ∙ ends ∙ ap encode_utf8_all (sym same)), length-append (encode_utf8_all form) (left new))) in
+        let other : ¬ (form ≡ text_of bytes) = λ same. more (grind (arith, ap length read, ends, length-append)) in
         grind (arith, bytes_eq-Decides, other, placed call form scalars due (is_front call form scalars due none) place behind)
     short_end more place behind tally (none_due due) e = cc

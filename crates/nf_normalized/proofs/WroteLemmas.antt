@@ -1,31 +1,26 @@
 -- What a comparing sink tells of what a filter wrote.
-use Rattle.nf_normalized.proofs.Common.{arith, ◌≡◌, inl, inr, ℕ, true, false, List, [], ◌∷◌, ◌++◌, refl, sym, take-append-drop, subst, append_assoc, append-nil, Option, Some, None, is_some, IsSome, true≢false, Result, Err, Fault, Write, Comparing, goes_on_with, same, left, given, taken, sink_state}
+use Rattle.nf_normalized.proofs.Common.{arith, ◌≡◌, inl, inr, ℕ, true, false, List, [], ◌∷◌, ◌++◌, refl, sym, subst, append_assoc, append-nil, Option, Some, None, is_some, IsSome, true≢false, Result, Err, Fault, Write, Comparing, goes_on_with, same, left, given, taken, sink_state}
 use Rattle.std.specs.Io.KnownBytes.{Appends}
 use Rattle.nf_filter.specs.Writes.{Puts, BreaksOff}
 use Rattle.nf_filter.proofs.FilterLemmas.{write_or_kept}
 use Rattle.nf_normalized.proofs.ComparingLemmas.{none_is, preface-same}
 
--- of what is due the front `before` was written, and a sink to which nothing was given expects what stands behind that in `all`; the
--- call r then wrote on
-pub record Wrote (old new : Comparing) (all before due : List ℕ) {T : Type 0} (r : Result T Fault) : Type 0 where
+-- of what is due the front `before` was written, and the call r then wrote on, to a sink to which nothing was given
+pub record Wrote (old new : Comparing) (before due : List ℕ) {T : Type 0} (r : Result T Fault) : Type 0 where
   pub begun : (same old ≡ []) × (old.other ≡ None) × (old.failed ≡ false)
-  pub expects : all ≡ before ++ (old.first.now ++ old.second.now)
   pub broken : r ≡ Err Write → BreaksOff (sink_state old) (sink_state new) before due
   pub puts : (r ≡ Err Write → ⊥) → Puts (sink_state old) (sink_state new) before due
 
-module _ {old new : Comparing} {all before due : List ℕ} {T : Type 0} {r : Result T Fault} (w : Wrote old new all before due r) where
+module _ {old new : Comparing} {before due : List ℕ} {T : Type 0} {r : Result T Fault} (w : Wrote old new before due r) where
   told : (out : List ℕ) → Appends (Some (taken old)) (Some (taken new)) out → (new.first.now ++ new.second.now ≡ old.first.now ++ old.second.now) × (given new ≡ out)
   told out more = preface-same (new.first.now ++ new.second.now) (old.first.now ++ old.second.now) (given new) out (grind (arith, w.begun, more, append-nil))
 
   -- what was given was due, and perhaps more is
-  gave : (rest : List ℕ) × (new.first.now ++ new.second.now ≡ old.first.now ++ old.second.now) × (due ≡ (before ++ given new) ++ rest)
+  pub gave : (rest : List ℕ) × (new.first.now ++ new.second.now ≡ old.first.now ++ old.second.now) × (due ≡ (before ++ given new) ++ rest)
   gave = elim (write_or_kept r) [
     | inl e ↦ let b = w.broken e in let t = told b.out b.given in (b.rest, t.0, rw t.1 b.behind)
     | inr other ↦ let p = w.puts other in let t = told p.out p.given in ([], t.0, grind (arith, p.behind, t.1, append-nil))
   ]
-
-  pub read : all ≡ (before ++ same new) ++ left new
-  read = grind (arith, w.expects, take-append-drop, gave, append_assoc)
 
   -- a byte was another, and that goes on what was written
   pub other_written : is_some new.other ≡ true → (b : ℕ) × (rest : List ℕ) × (goes_on_with b (left new) ≡ false) × (due ≡ (before ++ same new) ++ b ∷ rest)

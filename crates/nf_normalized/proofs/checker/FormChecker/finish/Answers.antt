@@ -1,7 +1,7 @@
-use Rattle.nf_normalized.proofs.Common.{append_assoc, subst, [], ◌∷◌, ◌≡◌, Bool, false, ℕ, List, sym, ◌∙◌, arith, None, append-nil, eqb-true, eqb-false, ∥∥₁_elim, le_prop, ucd, Form, ending_of, answer_at_end, base_of, final_utf8, end_of, tally_of, spent, under, filter_state, IsOfEnd, Holds, StandsAfter-offset}
+use Rattle.nf_normalized.proofs.Common.{nat_tests, append_assoc, [], ◌∷◌, ◌≡◌, Bool, false, ℕ, List, sym, ◌∙◌, arith, None, append-nil, ∥∥₁_elim, le_prop, ucd, Form, ending_of, answer_at_end, base_of, final_utf8, end_of, tally_of, spent, under, filter_state, Holds, StandsAfter-offset}
 use Rattle.nf_filter.specs.Kinds.{cut}
 use Rattle.nf_normalized.proofs.CheckerLemmas.{no_fault_parts}
-use Rattle.nf_normalized.proofs.CallLemmas.{stable, same_fault, ok_or, parted_apart, holds_some, room, Call, told, Due, due_at, fault_end, done_end, short_end, parted_end}
+use Rattle.nf_normalized.proofs.CallLemmas.{stable, parted_apart, holds_some, room, Call, told, Due, due_at, fault_end, done_end, short_end, parted_end}
 use Rattle.nf_normalized.proofs.checker.FormChecker.finish.Goals as goal
 use Rattle.nf_normalized.proofs.checker.FormChecker.finish.Goals.{After-finish-finished, then-not-has_parted+in_default+else-is_at_end, else-not-has_parted}
 
@@ -15,7 +15,8 @@ seen c {assigned} {f} {bytes} holds =
     record {
       known = record { split = c.split.ensures; back = c.read_back.ensures; pieces = c.pieces.ensures; once = c.each_form_changes_a_text_once.ensures };
       split = rw c.as_slice-held.ensures.value holds.split;
-      wrote = record { begun = c.new-sink.ensures.none; expects = grind (arith, holds.split, c.as_slice-held.ensures.value, c.new-sink.ensures.expected, append_assoc, append-nil); broken = fin.broken_off; puts = fin.written };
+      expects = grind (arith, holds.split, c.as_slice-held.ensures.value, c.new-sink.ensures.expected, append_assoc, append-nil);
+      wrote = record { begun = c.new-sink.ensures.none; broken = fin.broken_off; puts = fin.written };
       chars_are = c.chars-chars.ensures _ f bytes holds.filter;
       offset_is = c.offset-offset.ensures ∙ StandsAfter-offset holds.filter;
       answer = fin.answer;
@@ -30,27 +31,27 @@ pub returns-in-Err-clause-faults : goal.returns-in-Err-clause-faults
 returns-in-Err-clause-faults c =
     let at = (goal.at.returns-in-Err-clause-faults c).After-finish-finished in
     stable (spent ∷ cut ∷ []) c.in-Err.fault (λ out.
-    ∥∥₁_elim (holds_some c.args.self (sym c.is_some.ensures ∙ c.if-is_some.false) (λ ended. out (subst IsOfEnd (same_fault (sym (c.finish-finished.ensures.spent.1 ended) ∙ c.in-Err.is)) tt)))
-    (λ x y. absurd x) (λ h. out (fault_end _ _ None (due at h.holds) (sym c.in-Err.is ∙ told (seen at h.holds) (sym c.has_parted.ensures ∙ c.if-not-has_parted.true))).1))
+    ∥∥₁_elim (holds_some c.args.self (cc) (λ ended. out (grind (arith, c.finish-finished.ensures.spent))))
+    (λ x y. absurd x) (λ h. out (fault_end _ _ None (due at h.holds) (sym c.in-Err.is ∙ told (seen at h.holds) (cc))).1))
 
 pub returns-in-Err-clause-decides : goal.returns-in-Err-clause-decides
 returns-in-Err-clause-decides c = λ assigned f base bytes stands.
     let at = (goal.at.returns-in-Err-clause-decides c).After-finish-finished in
-    rw (← stands.base_is) (fault_end _ _ _ (due at stands.holds) (sym c.in-Err.is ∙ told (seen at stands.holds) (sym c.has_parted.ensures ∙ c.if-not-has_parted.true))).0
+    rw (← stands.base_is) (fault_end _ _ _ (due at stands.holds) (sym c.in-Err.is ∙ told (seen at stands.holds) (cc))).0
 
 pub returns-then-is_at_end-clause-decides : goal.returns-then-is_at_end-clause-decides
 returns-then-is_at_end-clause-decides c = λ assigned f base bytes stands.
     let at = (goal.at.returns-then-is_at_end-clause-decides c).After-finish-finished in
     let none = sym c.has_parted.ensures ∙ c.if-not-has_parted.true in
-    rw (← stands.base_is) (done_end (seen at stands.holds) none (eqb-true _ 0 (sym c.is_at_end.ensures ∙ c.if-is_at_end.true)) _ (due at stands.holds)
+    rw (← stands.base_is) (done_end (seen at stands.holds) none (grind (arith, nat_tests)) _ (due at stands.holds)
     (sym c.in_default.is ∙ told (seen at stands.holds) none))
 
 pub place_behind-requires : goal.place_behind-requires
 place_behind-requires c =
     let at = (goal.at.place_behind-requires c).After-finish-finished in
-    let some = holds_some c.args.self (sym c.is_some.ensures ∙ c.if-is_some.false) (λ ended. elim c.if-not-has_parted.branch [
-      | then-not-has_parted+in_default+else-is_at_end w ↦ ok_or (sym w.in_default.is ∙ c.finish-finished.ensures.spent.1 ended)
-      | else-not-has_parted w ↦ parted_apart c.new-sink.ensures.none.1 (sym c.has_parted.ensures ∙ w.if-not-has_parted.false) (c.finish-finished.ensures.kept ended)
+    let some = holds_some c.args.self (cc) (λ ended. elim c.if-not-has_parted.branch [
+      | then-not-has_parted+in_default+else-is_at_end w ↦ cc (c.finish-finished.ensures.spent.1 ended)
+      | else-not-has_parted w ↦ parted_apart c.new-sink.ensures.none.1 (cc) (c.finish-finished.ensures.kept ended)
     ]) in
     ∥∥₁_elim some (hlevel le_prop) (λ h. room (seen at h.holds) (omega (arith, StandsAfter-offset h.holds.filter, c.offset-offset.ensures, c.offset-offset.type_inv)))
 
@@ -60,7 +61,7 @@ returns-clause-decides c = λ assigned f base bytes stands.
     let call = seen at stands.holds in
     rw (← stands.base_is) (elim c.if-not-has_parted.branch [
       | then-not-has_parted+in_default+else-is_at_end w ↦ let none = sym c.has_parted.ensures ∙ w.if-not-has_parted.true in
-          short_end call none (eqb-false _ 0 (sym w.is_at_end.ensures ∙ w.if-is_at_end.false)) c.place_behind.result c.place_behind.ensures _ (due at stands.holds)
+          short_end call none (grind (arith, nat_tests)) c.place_behind.result c.place_behind.ensures _ (due at stands.holds)
           (sym w.in_default.is ∙ told call none)
-      | else-not-has_parted w ↦ parted_end call (sym c.has_parted.ensures ∙ w.if-not-has_parted.false) c.place_behind.result c.place_behind.ensures (due at stands.holds)
+      | else-not-has_parted w ↦ parted_end call (cc) c.place_behind.result c.place_behind.ensures (due at stands.holds)
     ])
