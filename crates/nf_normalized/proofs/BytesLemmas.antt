@@ -47,9 +47,6 @@ pub record Departs (x s same : List ℕ) : Type 0 where
   pub shares : Shares x s same
   pub other : ¬ (s ≡ take (length s) x)
 
-common-taken : (x s : List ℕ) → s ≡ take (length s) x → common x s ≡ length s
-common-taken x s is = grind (arith, take-append-drop (length s) x, common-front)
-
 -- what stands at the front of two lists that go on otherwise behind m stands in m
 in_both : (e m i p q : List ℕ) (b : ℕ) (t : List ℕ) → goes_on_with b i ≡ false → m ++ i ≡ e ++ p → m ++ b ∷ t ≡ e ++ q → (more : List ℕ) × (m ≡ e ++ more)
 in_both [] m i p q b t differ first second = (m, refl)
@@ -84,7 +81,8 @@ module _ (known : Known) where
       record {
         shares = record { count = count; front = ap (take (length (text_of m))) x_is ∙ take_at (text_of m) (text_of (rest_of m ++ i)) (length (text_of m)) refl };
         other = λ same.
-            let all = front_all (text_of m) (text_of (rest_of m ++ b ∷ t)) s (sym s_is) (sym count ∙ common-taken x s same) in
+            let len : n ≡ length s = grind (arith, same, take-append-drop (length s) x, common-front) in
+            let all = front_all (text_of m) (text_of (rest_of m ++ b ∷ t)) s (sym s_is) (sym count ∙ len) in
             let read = ap length (known.split.split m) in
             absurd (omega (arith, ap (λ l. length (encode_utf8_all l)) all, simp length-append at (ap length is), simp length-append at read));
       }

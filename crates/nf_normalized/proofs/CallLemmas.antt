@@ -1,7 +1,6 @@
 -- What a call of a filter tells of a text, by what it wrote to a sink that compares.
-use Rattle.nf_normalized.proofs.Common.{take-append-drop, append_assoc, bytes_eq-Decides, subst, ◌≡◌, ℕ, ◌+◌, ◌<◌, ◌^◌, Bool, true, false, List, ◌++◌, length, IsTrue, refl, sym, ap, ap₂, ◌∙◌, arith, ◌==◌, length-append, Option, Some, None, is_some, option_map, encode_utf8_all, Result, Ok, Err, list_any, result_err, false_from_ne_true, take_at, encodes_same, length-le-encodes, take-length, ucd, Form, safe_form, IsText, Ending, Whole, Bad, CutOff, text_of, ending_of, EndsAs, ReadsLongestText, Place, place_at, Fault, Write, place_or_fault, fault_in, answer_at_end, bad_byte, final_utf8, whole_or, is_spent, kind, IsAmong, Comparing, same, left, HasRoom, IsBehind, under, made_of, common, change_at, form_value, form_decision, HoldsSome, filter_state, IsOfPiece, IsOfEnd}
+use Rattle.nf_normalized.proofs.Common.{take-append-drop, append_assoc, bytes_eq-Decides, subst, ◌≡◌, ℕ, ◌+◌, ◌<◌, ◌^◌, Bool, true, false, List, ◌++◌, length, IsTrue, refl, sym, ap, ap₂, ◌∙◌, arith, length-append, Option, Some, None, is_some, option_map, encode_utf8_all, Result, Ok, Err, result_err, false_from_ne_true, take_at, encodes_same, length-le-encodes, take-length, ucd, Form, safe_form, IsText, Ending, Whole, Bad, CutOff, text_of, ending_of, EndsAs, ReadsLongestText, Place, place_at, Fault, Write, place_or_fault, fault_in, answer_at_end, bad_byte, final_utf8, whole_or, is_spent, IsAmong, Comparing, same, left, HasRoom, IsBehind, under, made_of, common, change_at, form_value, form_decision, HoldsSome, filter_state, IsOfPiece, IsOfEnd}
 use Rattle.nf_filter.specs.declared.tally.Tally.{Tally}
-use Rattle.nf_filter.specs.Kinds.{Holds}
 use Rattle.nf_filter.specs.Faults.{IsOfFeeding}
 use Rattle.nf_filter.specs.Laws.Soundness.{AreSound}
 use Rattle.nf_filter.proofs.SoundnessLemmas.{not_a_fault}
@@ -12,16 +11,9 @@ use Rattle.nf_normalized.proofs.ComparingLemmas.{none_is}
 use Rattle.nf_normalized.proofs.WroteLemmas.{Wrote, gave, other_written, unfailed, all_written}
 use Rattle.nf_normalized.proofs.CheckerLemmas.{written, written_is, is_text, chars_behind, bytes_behind, unparted, of_piece}
 
-pub same_fault : {T : Type 0} {a b : Fault} → ◌≡◌ {A = Result T Fault} (Err a) (Err b) → a ≡ b
-same_fault e = cc
-
 -- a fault is of some kinds where it cannot be of none
 pub stable : (kinds : List ℕ) (fault : Fault) → ((IsAmong kinds fault → ⊥) → ⊥) → IsAmong kinds fault
-stable kinds fault not_out = next (list_any (λ k. k == kind fault) kinds) not_out
-  where
-    next : (b : Bool) → ((Holds b → ⊥) → ⊥) → Holds b
-    next true h = tt
-    next false h = h (λ x. x)
+stable kinds fault not_out = grind arith
 
 -- nothing was given to a sink that stays as it was
 pub parted_apart : {old new : Comparing} → old.other ≡ None → is_some new.other ≡ true → new ≡ old → ⊥
@@ -56,13 +48,8 @@ module _ {assigned : Bool} {f : Form} {base : ℕ} {held bytes all due : List �
   pub room : base + length all < 2 ^ 64 → HasRoom held (same new) chars offset
   room fits =
       let now = same new in
-      let few : base + (length (written assigned f bytes) + length now) < 2 ^ 64 = grind (arith, fits, ap length (read), length-append) in
-      record {
-        chars_held = omega (arith, chars_held);
-        bytes_held = omega (arith, bytes_held);
-        bytes_fit = omega (arith, bytes_held, few);
-        chars_fit = grind (arith, chars_held, few, length-le-encodes, ap length (call.known.split.split now), length-append, written_is);
-      }
+      let few : base + (length (written assigned f bytes) + length now) < 2 ^ 64 = grind (arith, fits, ap length read, length-append) in
+      grind (arith, chars_held, bytes_held, few, length-le-encodes, ap length (call.known.split.split now), length-append, written_is)
 
   pub told : is_some new.other ≡ false → Tells
   told none = call.answer (unfailed call.wrote none)
@@ -81,7 +68,7 @@ module _ {assigned : Bool} {f : Form} {base : ℕ} {held bytes all due : List �
     parted is_other =
         let o = other_written call.wrote is_other in
         let seen = written assigned f bytes ++ same new in
-        subst (λ l. Departs (text_of l) s (text_of seen)) (sym (read)) (departs call.known seen (left new) o.0 o.1 o.2 s scalars (sym is ∙ o.3))
+        subst (λ l. Departs (text_of l) s (text_of seen)) (sym read) (departs call.known seen (left new) o.0 o.1 o.2 s scalars (sym is ∙ o.3))
 
     module _ (none : is_some new.other ≡ false) where
       pub read_on : all ≡ encode_utf8_all s ++ left new
@@ -140,7 +127,7 @@ due_at assigned f base bytes good longest = next (ending_of bytes) good ((longes
 pub fault_end : {assigned : Bool} {f : Form} {bytes due : List ℕ} {fault : Fault} {ending : Ending} (base : ℕ) (tally : Tally) (value : Option Place)
     → Due assigned f bytes due ending → Err fault ≡ answer_at_end base tally ending → (Err fault ≡ answer_at_end base value ending) × IsOfEnd fault
 fault_end base tally value (all_due ends due) e = cc
-fault_end base tally value (none_due due) e = (cc, rw (same_fault e) tt)
+fault_end base tally value (none_due due) e = (cc, grind arith)
 
 module _ {assigned : Bool} {f : Form} {base : ℕ} {held bytes due : List ℕ} {old new : Comparing} {r : Result Tally Fault} {chars offset : ℕ} {Tells : Type 0}
     (call : Call assigned f base held bytes bytes due old new r chars offset Tells) where

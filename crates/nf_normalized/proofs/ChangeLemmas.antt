@@ -1,17 +1,7 @@
 -- Where a form changes a text.
-use Rattle.nf_normalized.proofs.Common.{◌≡◌, ◌↔◌, ℕ, ◌<◌, ◌≤◌, List, [], ◌++◌, length, take, drop, refl, sym, ap, ◌∙◌, arith, if◌then◌else◌, Some, None, IsTrue, bytes_eq, append_assoc, append-nil, bytes_eq-Decides, take-length, length-append, take_at, take_all, take-append-le, take-append-drop, Form, decomposed, stream_safe, safe_form, front, back, ucd, front-append-back, IsSoundText, decomposed-append, Place, place_at, is_in_format, settled, SettledOnlyGrows, common, change_at, settled_change_at}
+use Rattle.nf_normalized.proofs.Common.{◌≡◌, ◌↔◌, ℕ, ◌<◌, ◌≤◌, List, [], ◌++◌, length, take, drop, refl, sym, ap, ◌∙◌, arith, Some, IsTrue, append_assoc, append-nil, bytes_eq-Decides, take-length, length-append, take_at, take_all, take-append-le, take-append-drop, Form, decomposed, stream_safe, safe_form, front, back, ucd, front-append-back, IsSoundText, decomposed-append, Place, place_at, is_in_format, settled, SettledOnlyGrows, common, change_at, settled_change_at}
 use Rattle.nf_normalized.proofs.BytesLemmas.{front_all}
 use Rattle.nf_normalized.proofs.CommonLemmas.{common-le-right, take-common, common-front, common-within}
-
-pub if_same : {A : Type 0} (x y : List ℕ) (a b : A) → x ≡ y → (if bytes_eq x y then a else b) ≡ a
-if_same x y a b same = grind (arith, bytes_eq-Decides)
-
-pub if_other : {A : Type 0} (x y : List ℕ) (a b : A) → ¬ (x ≡ y) → (if bytes_eq x y then a else b) ≡ b
-if_other x y a b other = grind (arith, bytes_eq-Decides)
-
-pub no_change : (base : ℕ) (f : Form) (x : List ℕ) → (change_at base f x ≡ None) ↔ (safe_form f ucd x ≡ x)
-unfolding change_at
-no_change base f x = grind (arith, bytes_eq-Decides)
 
 -- ---- a settled place stays
 

@@ -1,5 +1,5 @@
 -- What a filter that is fed a text tells of it, by what it writes.
-use Rattle.nf_normalized.proofs.Common.{bytes_eq-Decides, ◌≡◌, ℕ, ◌+◌, ◌*◌, ◌≤◌, Bool, true, false, List, [], ◌∷◌, ◌++◌, length, take_while, refl, sym, ap, ap₂, ◌∙◌, subst, arith, append-nil, length-append, None, encode_utf8_all, take_at, encodes-append, length-encode, len_utf8_bounds, prefix_len, ucd, Form, front, back, safe_form, ChangesOnce, front-append-back, IsText, BeginsText, Ending, Whole, Bad, Cut, text_of, ending_of, EndsAs, ReadsLongestText, ReplacesParts, Fault, Write, Row, fault_in, bad_byte, base_of, StandsAfter, settled, is_usable, usable, settled_utf8, place_or_fault, under, made_of, settled_change_at, form_decision, Holds, IsOfPiece}
+use Rattle.nf_normalized.proofs.Common.{bytes_eq-Decides, ◌≡◌, ℕ, ◌+◌, ◌*◌, ◌≤◌, Bool, true, false, List, [], ◌∷◌, ◌++◌, length, take_while, refl, sym, ap, ap₂, ◌∙◌, subst, arith, length-append, None, encode_utf8_all, take_at, encodes-append, length-encode, len_utf8_bounds, prefix_len, ucd, Form, front, back, safe_form, ChangesOnce, front-append-back, IsText, Ending, Whole, Bad, Cut, text_of, ending_of, EndsAs, ReadsLongestText, ReplacesParts, Fault, Write, Row, fault_in, bad_byte, base_of, settled, is_usable, usable, settled_utf8, place_or_fault, under, made_of, settled_change_at, form_decision, Holds, IsOfPiece}
 use Rattle.nf_utf8.specs.Replaced.{bytes_in}
 use Rattle.nf_safe.specs.LongestFront.{longest_front}
 use Rattle.nf_filter.specs.Faults.{IsOfFeeding}
@@ -8,7 +8,6 @@ use Rattle.nf_filter.proofs.PolicyLemmas.{first_fault-none, taken, taken_whole, 
 use Rattle.nf_filter.proofs.SoundnessLemmas.{usable_is}
 use Rattle.nf_filter.specs.declared.filter.State.{State}
 use Rattle.nf_filter.specs.Policy.{allowed, len_under}
-use Rattle.nf_filter.specs.Laws.Settled.{settled_utf8-none}
 use Rattle.nf_normalized.proofs.BytesLemmas.{Known, scalars_front, scalars_take}
 
 -- ---- texts
@@ -59,9 +58,7 @@ module _ (known : Known) (assigned : Bool) (f : Form) (bytes : List ℕ) where
 
 -- of the faults of feeding, those where the sink does not fail and each character can be used
 pub of_piece : (fault : Fault) → IsOfFeeding fault → ¬ (fault ≡ Write) → ((at : ℕ) → ¬ (fault ≡ Row at)) → IsOfPiece fault
-of_piece Write may kept used = absurd (kept refl)
-of_piece (Row at) may kept used = absurd (used at refl)
-of_piece _ may kept used = may
+of_piece fault may kept used = grind arith
 
 module _ (sound : AreSound ucd) where
   pub no_fault_parts : (assigned : Bool) (base : ℕ) (bytes : List ℕ) → fault_in (under assigned) ucd base bytes ≡ None
@@ -81,19 +78,12 @@ module _ (sound : AreSound ucd) where
     pub rest_few : ReadsLongestText → ReplacesParts → length bytes ≤ length (encode_utf8_all (text_of bytes)) + 3
     rest_few longest replacing = next (ending_of bytes) (no_fault_parts assigned base bytes none).1 ((longest.reads bytes).end)
       where
-        begun : BeginsText bytes → length bytes ≤ length (encode_utf8_all (text_of bytes)) + 3
-        begun begins = omega (arith, replacing.few bytes, ap bytes_in (replacing.begun bytes begins), replacing.own_len (text_of bytes))
-
         next : (ending : Ending) → bad_byte base ending ≡ None → EndsAs bytes (text_of bytes) ending → length bytes ≤ length (encode_utf8_all (text_of bytes)) + 3
         next Whole none ends = omega (arith, ap length ends)
         next (Bad at start) none ends = cc
-        next (Cut at start) none ends = begun ends.0.begins
+        next (Cut at start) none ends = omega (arith, replacing.few bytes, ap bytes_in (replacing.begun bytes ends.0.begins), replacing.own_len (text_of bytes))
 
 -- ---- where a filter stands
-
--- no byte was taken
-pub begins : (assigned : Bool) (f : Form) (state : State) (held : List ℕ) → held ≡ [] → StandsAfter (under assigned) f ucd state [] → Holds assigned f state held []
-begins assigned f state held none stands = record { filter = stands; split = grind (arith, settled_utf8-none (under assigned) f ucd, append-nil, none) }
 
 module _ (known : Known) {assigned : Bool} {f : Form} {state : State} {held bytes : List ℕ} (holds : Holds assigned f state held bytes) where
   -- what was read decides nothing so far

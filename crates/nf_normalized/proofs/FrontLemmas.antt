@@ -2,11 +2,10 @@
 use Rattle.nf_normalized.proofs.Common.{◌≡◌, ◌≢◌, ◌↔◌, ℕ, ◌<◌, true, false, List, [], ◌∷◌, ◌++◌, length, take, Some, refl, sym, ap, ◌∙◌, subst, arith, inl, inr, IsTrue, append-nil, append_assoc, eqb-true, pos_of_ne-zero, cases_Bool, eqb-false, length-append, take_at, canonical_combining_class, unicode_normalization, is_starter, lead, Form, Nfkc, Nfkd, composite, row_of, decomposed, composes, finished, normal_form, stream_safe, safe_form, is_sound, IsMark, ucd, by_last, row-mark, BeginsInStarter, begins_in_starter, IsSound, IsSoundText, IsSound-from_test, decomposed-push, is_in_format, after, is_among, halfwidth_marks, vowel_signs}
 use Rattle.ucd_normal.specs.declared.forms.Form.{Form as KitForm}
 use Rattle.ucd_normal.specs.declared.forms.Form.TheVariants.{Nfd as KitNfd, Nfkd as KitNfkd}
-use Rattle.ucd_normal.specs.declared.forms.QuickCheck.{QuickCheck}
 use Rattle.ucd_normal.specs.declared.forms.QuickCheck.TheVariants.{No}
 use Rattle.ucd_normal.specs.QuickCheck.{quick_check}
 use Rattle.unicode_normalization.specs.Forms.{normalize}
-use Rattle.unicode_normalization.specs.QuickCheck.{worse, worst, quick_check_text}
+use Rattle.unicode_normalization.specs.QuickCheck.{worst, quick_check_text}
 use Rattle.unicode_normalization.proofs.DecomposeLemmas.{decompose-primary_composite}
 use Rattle.unicode_normalization.proofs.FormsLemmas.{quick_check_text-No}
 use Rattle.nf_facts.specs.KitForm.{kit_form}
@@ -16,13 +15,10 @@ use Rattle.nf_normalized.proofs.TakenLemmas.{IsRow, last_taken}
 
 -- ---- no character of a text in a form is refused by its quick check
 
-worse-No : (v : QuickCheck) → worse v No ≡ No
-worse-No v = grind arith
-
 worst-last : (f : KitForm) (y : List ℕ) (c : ℕ) → quick_check f c ≡ No → worst f (y ++ c ∷ []) ≡ No
 unfolding worst
 worst-last f [] c refused = grind arith
-worst-last f (x ∷ y) c refused = grind (arith, worst-last f y c, worse-No)
+worst-last f (x ∷ y) c refused = grind (arith, worst-last f y c)
 
 text-refused : (f : KitForm) (y : List ℕ) (c : ℕ) → quick_check f c ≡ No → quick_check_text f (y ++ c ∷ []) ≡ No
 unfolding quick_check_text
@@ -89,8 +85,8 @@ module _ (sound : (c : ℕ) → IsTrue (is_sound ucd c))
         (ap (finished f ucd) (sym (decomposed-push ucd f y c)) ∙ same)
 
     form-front : (f : Form) (x y : List ℕ) → normal_form f ucd (x ++ y) ≡ x ++ y → normal_form f ucd x ≡ x
-    form-front f x = by_last (λ y. normal_form f ucd (x ++ y) ≡ x ++ y → normal_form f ucd x ≡ x) (λ same. subst (λ k. normal_form f ucd k ≡ k) (append-nil x) same)
-        (λ y c before same. before (form-last_taken f (x ++ y) c (subst (λ k. normal_form f ucd k ≡ k) (sym (append_assoc x y (c ∷ []))) same)))
+    form-front f x = by_last (λ y. normal_form f ucd (x ++ y) ≡ x ++ y → normal_form f ucd x ≡ x) (λ same. rw append-nil at same)
+        (λ y c before same. before (form-last_taken f (x ++ y) c (rw (← append_assoc x y (c ∷ [])) at same)))
 
     module _ (texts : (x : List ℕ) → IsSoundText ucd x) (safe : (f : Form) (x : List ℕ) → stream_safe ucd (safe_form f ucd x) ≡ safe_form f ucd x)
         (in_format : (x : List ℕ) (n : ℕ) → IsTrue (is_in_format ucd x) → IsTrue (is_in_format ucd (take n x)))

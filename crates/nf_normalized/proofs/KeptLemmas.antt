@@ -1,5 +1,5 @@
 -- How many characters can stand behind what is settled of a form.
-use Rattle.nf_normalized.proofs.Common.{◌≡◌, nat_tests, inl, inr, leb, leb-true, list_all, pos_of_ne-zero, ℕ, ◌*◌, ◌<◌, ◌≤◌, Bool, true, false, List, [], ◌∷◌, ◌++◌, length, refl, arith, IsTrue, cases_Bool, or_parts, eqb-false, length-append, unicode_normalization, canonical_combining_class, is_starter, has_starter, front, back, Form, Nfc, Nfd, Nfkc, Nfkd, row_of, decomposed, normal_form, stream_safe, safe_form, is_sound, ucd, IsMark, row-mark, by_last, front-append-back, back-at, back-none, EndsInGroup, last_starter, IsSound-from_test, IsSoundText, stream_safe-push, decomposed-append, is_among, mapped_marks, after, settled, is_usable, LittleIsHeldBack}
+use Rattle.nf_normalized.proofs.Common.{◌≡◌, nat_tests, inl, inr, leb, leb-true, list_all, pos_of_ne-zero, ℕ, ◌*◌, ◌<◌, ◌≤◌, Bool, true, false, List, [], ◌∷◌, ◌++◌, length, refl, arith, IsTrue, cases_Bool, or_parts, eqb-false, length-append, unicode_normalization, canonical_combining_class, is_starter, has_starter, front, back, Form, Nfd, Nfkc, Nfkd, row_of, decomposed, normal_form, stream_safe, safe_form, is_sound, ucd, IsMark, row-mark, by_last, front-append-back, back-at, back-none, EndsInGroup, last_starter, IsSound-from_test, IsSoundText, stream_safe-push, decomposed-append, is_among, mapped_marks, after, settled, is_usable, LittleIsHeldBack}
 use Rattle.nf_forms.specs.Laws.Starters.{length-order}
 
 -- what a test finds of each of some characters it finds of one among them
@@ -31,20 +31,14 @@ module _ (sound : (c : ℕ) → IsTrue (is_sound ucd c)) (f : Form) where
 
   -- the process only adds
   length-stream_safe : (x : List ℕ) → length (decomposed f ucd x) ≤ length (decomposed f ucd (stream_safe ucd x))
-  length-stream_safe = by_last (λ x. length (decomposed f ucd x) ≤ length (decomposed f ucd (stream_safe ucd x))) (omega arith) push
-    where
-      push : (x : List ℕ) (c : ℕ) → length (decomposed f ucd x) ≤ length (decomposed f ucd (stream_safe ucd x))
-          → length (decomposed f ucd (x ++ c ∷ [])) ≤ length (decomposed f ucd (stream_safe ucd (x ++ c ∷ [])))
-      push x c before = grind (arith, before, stream_safe-push, decomposed-append, length-append)
+  length-stream_safe = by_last (λ x. length (decomposed f ucd x) ≤ length (decomposed f ucd (stream_safe ucd x))) (omega arith)
+      (λ x c before. grind (arith, before, stream_safe-push, decomposed-append, length-append))
 
   -- ---- forms keep the length of what is decomposed
 
   module _ (twice : (f g : Form) (x : List ℕ) → normal_form g ucd (normal_form f ucd x) ≡ normal_form (after g f) ucd x) where
     pub length-form_of : (f : Form) (y : List ℕ) → length (decomposed f ucd (normal_form f ucd y)) ≡ length (decomposed f ucd y)
-    length-form_of Nfc y = grind (arith, twice Nfc Nfd y, length-order)
-    length-form_of Nfd y = grind (arith, twice Nfd Nfd y, length-order)
-    length-form_of Nfkc y = grind (arith, twice Nfkc Nfkd y, length-order)
-    length-form_of Nfkd y = grind (arith, twice Nfkd Nfkd y, length-order)
+    length-form_of f y = grind (arith, twice f Nfd y, twice f Nfkd y, length-order)
 
     pub length-form : (x : List ℕ) → length (decomposed f ucd (safe_form f ucd x)) ≡ length (decomposed f ucd (stream_safe ucd x))
     unfolding safe_form
@@ -53,18 +47,15 @@ module _ (sound : (c : ℕ) → IsTrue (is_sound ucd c)) (f : Form) where
     -- ---- what is not settled
 
     module _ (is_mark : (c : ℕ) → 0 < canonical_combining_class c → is_among mapped_marks c ≡ false → IsMark ucd c (canonical_combining_class c)) where
-      class_of : (c : ℕ) → is_starter ucd c ≡ false → 0 < canonical_combining_class c
-      unfolding ucd
-      class_of c mark = pos_of_ne-zero (eqb-false (canonical_combining_class c) 0 mark)
-
       mapped : (f : Form) → list_all (λ c. leb (length (row_of f ucd c)) 2) mapped_marks ≡ true
       unfolding ucd unicode_normalization
       mapped = by_row (λ row. list_all (λ c. leb (length (row c)) 2) mapped_marks ≡ true) refl refl
 
       short_of : (f : Form) (c : ℕ) → is_starter ucd c ≡ false → length (row_of f ucd c) ≤ 2
+      unfolding ucd
       short_of f c mark = elim (cases_Bool (is_among mapped_marks c)) [
         | inl is ↦ leb-true _ 2 (among (λ c. leb (length (row_of f ucd c)) 2) mapped_marks c (mapped f) is)
-        | inr other ↦ grind (arith, row-mark ucd f c _ (is_mark c (class_of c mark) other))
+        | inr other ↦ grind (arith, row-mark ucd f c _ (is_mark c (pos_of_ne-zero (eqb-false _ 0 mark)) other))
       ]
 
       marks_short : (m : List ℕ) → has_starter ucd m ≡ false → length (decomposed f ucd m) ≤ 2 * length m
@@ -87,8 +78,5 @@ module _ (sound : (c : ℕ) → IsTrue (is_sound ucd c)) (f : Form) where
             let form = safe_form f ucd x in
             let s = front ucd form in
             let v = back ucd form in
-            let few : length v ≤ 31 = grind (arith, held_back f ucd x (usable x), front-append-back ucd form, length-append) in
+            let few : length v ≤ 31 = grind (arith, held_back f ucd x (texts (stream_safe ucd x)), front-append-back ucd form, length-append) in
             grind (arith, back_short form few, length-decomposed u, length-stream_safe x, length-form x, split, decomposed-append, length-append, front-append-back ucd form)
-          where
-            usable : (x : List ℕ) → IsTrue (is_usable ucd x)
-            usable x = texts (stream_safe ucd x)

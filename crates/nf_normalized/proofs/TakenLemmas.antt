@@ -1,8 +1,9 @@
 -- A text in a form, and what the form makes of it without its last character, over any character data.
-use Rattle.nf_normalized.proofs.Common.{◌≡◌, ℕ, ◌+◌, ◌≤◌, ◌<◌, Bool, true, false, List, [], ◌∷◌, ◌++◌, length, flat_map, Option, Some, None, refl, sym, ap, ◌∙◌, arith, ◌⊎◌, inl, inr, append-nil, append_assoc, cases_Bool, or_left, length-append, fold, Properties, is_starter, has_starter, order, composite, joined, replaced, compose_step, compose, arranged, EndsInGroup, last_starter, order_after-at, compose_step-at, compose_step-none, joined-some, joined-starter, joined-behind_marks, BeginsInStarter}
+use Rattle.nf_normalized.proofs.Common.{◌≡◌, ℕ, ◌≤◌, ◌<◌, Bool, true, false, List, [], ◌∷◌, ◌++◌, length, flat_map, Option, Some, None, refl, sym, ap, ◌∙◌, arith, ◌⊎◌, inl, inr, append-nil, append_assoc, cases_Bool, or_left, length-append, fold, Properties, is_starter, has_starter, order, composite, joined, replaced, compose_step, compose, arranged, EndsInGroup, last_starter, order_after-at, compose_step-at, compose_step-none, joined-some, joined-starter, joined-behind_marks, BeginsInStarter}
 use Rattle.std.proofs.lemmas.Grind.{flat_map-append}
 use Rattle.std.proofs.lemmas.List.Sums.{fold-append}
 use Rattle.nf_forms.specs.Laws.Parting.{step-behind, fold-behind}
+use Rattle.unicode_normalization.proofs.ComposeLemmas.{cases_Option}
 use Rattle.nf_normalized.proofs.MarkLemmas.{behind, inserted, same_front, mark_taken}
 
 module _ (p : Properties) where
@@ -17,35 +18,25 @@ module _ (p : Properties) where
     abbrev size : List ℕ → ℕ
     size x = length (flat_map row x)
 
-    size-append : (x y : List ℕ) → size (x ++ y) ≡ size x + size y
-    size-append x y = ap length (flat_map-append row x y) ∙ length-append (flat_map row x) (flat_map row y)
-
     -- a front of a text with as many members is the text
     same_size : (y z rest : List ℕ) → y ≡ z ++ rest → size z ≡ size y → z ≡ y
     same_size y z [] text same = grind (arith, append-nil)
     same_size y z (a ∷ rest) text same = absurd (grind (arith, some a, flat_map-append, length-append))
 
     -- the first starter stays, or becomes one of a longer row
-    first_step : (d : ℕ) (m : List ℕ) (c : ℕ) → is_starter p d ≡ true
-        → (t : ℕ) × (rest : List ℕ) × (compose_step p (d ∷ m) c ≡ t ∷ rest) × (is_starter p t ≡ true) × (length (row d) ≤ length (row t))
-    first_step d m c starts =
-        elim (cases_Bool (has_starter p m)) [
-          | inl more ↦ (d, compose_step p m c, (step-behind p (d ∷ []) m c more).0, starts, omega arith)
-          | inr none ↦ next (joined p d m c) refl (compose_step-at p [] d m c starts none)
-        ]
-      where
-        next : (o : Option ℕ) → joined p d m c ≡ o → compose_step p (d ∷ m) c ≡ replaced o d m c
-            → (t : ℕ) × (rest : List ℕ) × (compose_step p (d ∷ m) c ≡ t ∷ rest) × (is_starter p t ≡ true) × (length (row d) ≤ length (row t))
-        next None is step = (d, m ++ c ∷ [], step, starts, omega arith)
-        next (Some t) is step = (t, m, step, joined-starter p d m c t is, omega (arith, longer d c t (joined-some p d m c t is).1))
-
-    -- so through all that follows
     first_of : (d : ℕ) (m v : List ℕ) → is_starter p d ≡ true → (t : ℕ) × (rest : List ℕ) × (fold (compose_step p) (d ∷ m) v ≡ t ∷ rest) × (length (row d) ≤ length (row t))
     first_of d m [] starts = (d, m, refl, omega arith)
     first_of d m (c ∷ v) starts =
-        let one = first_step d m c starts in
-        let more = first_of one.0 one.1 v one.3 in
-        (more.0, more.1, ap (λ z. fold (compose_step p) z v) one.2 ∙ more.2, omega (arith, one.4, more.3))
+        elim (cases_Bool (has_starter p m)) [
+          | inl more ↦ rw (step-behind p (d ∷ []) m c more).0 (first_of d (compose_step p m c) v starts)
+          | inr none ↦ elim (cases_Option (joined p d m c)) [
+            | inl stays ↦ rw (compose_step-at p [] d m c starts none, stays) (first_of d (m ++ c ∷ []) v starts)
+            | inr made ↦
+                let more = first_of made.0 m v (joined-starter p d m c made.0 made.1) in
+                let longer_row = longer d c made.0 (joined-some p d m c made.0 made.1).1 in
+                (more.0, more.1, rw (compose_step-at p [] d m c starts none, made.1) more.2, omega (arith, longer_row, more.3))
+          ]
+        ]
 
     -- z is y, where with a starter and more behind it is composed to y and c
     starter_taken : (z y : List ℕ) (c s : ℕ) (v : List ℕ) → is_starter p s ≡ true → size z ≡ size y → fold (compose_step p) z (s ∷ v) ≡ y ++ c ∷ [] → z ≡ y
@@ -70,7 +61,7 @@ module _ (p : Properties) where
         made : (e : List ℕ) (t d : ℕ) → z ≡ e ++ t ∷ [] → compose_step p z s ≡ e ++ d ∷ [] → is_starter p d ≡ true → length (row t) < length (row d) → z ≡ y
         made e t d whole step begins above =
             let r = goes_on e d begins step in
-            let kept : size r.0 ≡ length (row t) = grind (arith, same, whole, r.3, size-append, length-append) in
+            let kept : size r.0 ≡ length (row t) = grind (arith, same, whole, r.3, flat_map-append, length-append) in
             absurd (too_long t r.1 r.0 r.2 r.4 (omega (arith, above, r.5)) kept)
 
         next : (e : List ℕ) (t : ℕ) (m : List ℕ) (o : Option ℕ) → z ≡ e ++ t ∷ m → joined p t m s ≡ o → compose_step p z s ≡ e ++ replaced o t m s → z ≡ y

@@ -5,8 +5,7 @@ use Rattle.nf_normalized.proofs.counting.text_in.Goals.{After-counted-behind}
 
 pub returns-in-Bad : goal.returns-in-Bad
 returns-in-Bad c =
-    let is = bad_piece c.pieces.ensures c.args.first.now c.args.second.now c.take-chunk.result.end c.in-Bad.is (c.take-chunk.ensures.takes [] c.new-decoder.ensures) in
-    record { chars = rw is c.counted-front.ensures.chars; bytes = rw is c.counted-front.ensures.bytes }
+    grind (arith, bad_piece c.pieces.ensures c.args.first.now c.args.second.now c.take-chunk.result.end c.in-Bad.is (c.take-chunk.ensures.takes [] c.new-decoder.ensures))
 
 -- what both read
 read : (c : After-counted-behind) → text_of (c.args.first.now ++ c.args.second.now)
@@ -26,6 +25,4 @@ pub overflow_add-result-2 : goal.overflow_add-result-2
 overflow_add-result-2 c = omega (arith, fits (goal.at.overflow_add-result-2 c).After-counted-behind)
 
 pub returns : goal.returns
-returns c =
-    let all = read (goal.at.returns c).After-counted-behind in
-    record { chars = grind (arith, all, length-append); bytes = grind (arith, all, encodes-append, length-append) }
+returns c = grind (arith, read (goal.at.returns c).After-counted-behind, encodes-append, length-append)

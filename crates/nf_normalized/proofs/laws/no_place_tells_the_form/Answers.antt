@@ -1,5 +1,6 @@
-use Rattle.nf_normalized.proofs.ChangeLemmas.{no_change}
+use Rattle.nf_normalized.proofs.Common.{arith, bytes_eq-Decides, change_at}
 use Rattle.nf_normalized.proofs.laws.no_place_tells_the_form.Goals as goal
 
 pub returns : goal.returns
-returns c = no_change
+unfolding change_at
+returns c = λ base f x. grind (arith, bytes_eq-Decides)

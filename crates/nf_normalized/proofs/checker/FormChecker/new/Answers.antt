@@ -1,24 +1,28 @@
-use Rattle.nf_normalized.proofs.Common.{[], ◌∙◌, refl, state_of}
-use Rattle.nf_normalized.proofs.CheckerLemmas.{begins, undecided}
+use Rattle.nf_normalized.proofs.Common.{[], ◌∙◌, refl, arith, append-nil, state_of, under, ucd, Holds}
+use Rattle.nf_filter.specs.Laws.Settled.{settled_utf8-none}
+use Rattle.nf_normalized.proofs.CheckerLemmas.{undecided}
 use Rattle.nf_normalized.proofs.checker.FormChecker.new.Goals as goal
+use Rattle.nf_normalized.proofs.checker.FormChecker.new.Goals.{After-new}
+
+-- no byte was taken
+holds : (c : After-new) → Holds c.args.assigned c.args.form (state_of c.policy-filter.result) c.new.result.items []
+holds c = record {
+  filter = c.policy-filter.ensures.stands _ c.args.form [] c.quickest.ensures.stands;
+  split = grind (arith, settled_utf8-none (under c.args.assigned) c.args.form ucd, append-nil, c.new.ensures);
+}
 
 pub invariant_of-result : goal.invariant_of-result
 invariant_of-result c = record {
-  holds = λ _ _. ∣ record {
-    assigned = c.args.assigned;
-    form = c.args.form;
-    bytes = [];
-    holds = begins c.args.assigned c.args.form (state_of c.policy-filter.result) _ c.new.ensures (c.policy-filter.ensures.stands _ c.args.form [] c.quickest.ensures.stands);
-  } ∣₁;
+  holds = λ _ _. ∣ record { assigned = c.args.assigned; form = c.args.form; bytes = []; holds = holds (goal.at.invariant_of-result c).After-new } ∣₁;
 }
 
 pub returns-clause-stands : goal.returns-clause-stands
 returns-clause-stands c =
-    let holds = begins c.args.assigned c.args.form (state_of c.policy-filter.result) _ c.new.ensures (c.policy-filter.ensures.stands _ c.args.form [] c.quickest.ensures.stands) in
     let base_is = c.policy-filter.ensures.base ∙ c.quickest.ensures.base in
+    let stands = holds (goal.at.returns-clause-stands c).After-new in
     record {
       none = refl;
       base_is = base_is;
-      holds = holds;
-      undecided = rw (← base_is) (undecided (record { split = c.split.ensures; back = c.read_back.ensures; pieces = c.pieces.ensures; once = c.each_form_changes_a_text_once.ensures }) holds);
+      holds = stands;
+      undecided = rw (← base_is) (undecided (record { split = c.split.ensures; back = c.read_back.ensures; pieces = c.pieces.ensures; once = c.each_form_changes_a_text_once.ensures }) stands);
     }

@@ -11,11 +11,7 @@ pub overflow_add-self : goal.overflow_add-self
 overflow_add-self c = omega (arith, has (goal.at.overflow_add-self c).After-common_len-len, c.next.ensures.fits)
 
 pub invariant_of-self-then-len-gt0 : goal.invariant_of-self-then-len-gt0
-invariant_of-self-then-len-gt0 c = record {
-  within = has (goal.at.invariant_of-self-then-len-gt0 c).After-common_len-len;
-  other_is = λ x is. grind arith;
-  failed_behind = c.args.self.now.failed_behind;
-}
+invariant_of-self-then-len-gt0 c = grind (arith, has (goal.at.invariant_of-self-then-len-gt0 c).After-common_len-len)
 
 pub returns-then-len-gt0-clause-count : goal.returns-then-len-gt0-clause-count
 returns-then-len-gt0-clause-count c = grind (arith, common-le-right)
