@@ -1,5 +1,5 @@
 -- What a call of a filter tells of a text, by what it wrote to a sink that compares.
-use Rattle.nf_normalized.proofs.Common.{take-append-drop, append_assoc, bytes_eq-Decides, subst, ◌≡◌, ℕ, ◌+◌, ◌<◌, ◌^◌, Bool, true, false, List, ◌++◌, length, IsTrue, refl, sym, ap, ap₂, ◌∙◌, arith, length-append, Option, Some, None, is_some, option_map, encode_utf8_all, Result, Ok, Err, result_err, false_from_ne_true, take_at, encodes_same, length-le-encodes, take-length, ucd, Form, safe_form, IsText, Ending, Whole, Bad, CutOff, text_of, ending_of, EndsAs, ReadsLongestText, Place, place_at, Fault, Write, place_or_fault, fault_in, answer_at_end, bad_byte, final_utf8, whole_or, is_spent, IsAmong, Comparing, same, left, HasRoom, IsBehind, under, made_of, common, change_at, form_value, form_decision, HoldsSome, filter_state, IsOfPiece, IsOfEnd}
+use Rattle.nf_normalized.proofs.Common.{take-append-drop, append_assoc, bytes_eq-Decides, subst, ◌≡◌, ℕ, ◌+◌, ◌<◌, ◌^◌, Bool, true, false, List, ◌++◌, length, IsTrue, sym, ap, ap₂, ◌∙◌, arith, length-append, Option, Some, None, is_some, option_map, encode_utf8_all, Result, Ok, Err, result_err, false_from_ne_true, take_at, encodes_same, length-le-encodes, take-length, ucd, Form, safe_form, IsText, Ending, Whole, Bad, CutOff, text_of, EndsAs, Place, place_at, Fault, Write, place_or_fault, fault_in, answer_at_end, bad_byte, whole_or, is_spent, IsAmong, Comparing, same, left, HasRoom, IsBehind, under, made_of, common, change_at, form_value, form_decision, HoldsSome, filter_state, IsOfPiece, IsOfEnd}
 use Rattle.nf_filter.specs.declared.tally.Tally.{Tally}
 use Rattle.nf_filter.specs.Faults.{IsOfFeeding}
 use Rattle.nf_filter.specs.Laws.Soundness.{AreSound}
@@ -108,26 +108,16 @@ module _ {assigned : Bool} {f : Form} {base : ℕ} {held bytes all : List ℕ} {
 -- ---- the end
 
 -- the whole form is due, or, where a character is cut, no more than is settled
-pub data Due (assigned : Bool) (f : Form) (bytes due : List ℕ) : Ending → Type 0 where
-  all_due : bytes ≡ encode_utf8_all (text_of bytes) → due ≡ encode_utf8_all (safe_form f ucd (text_of bytes)) → Due assigned f bytes due Whole
-  none_due : {at start : ℕ} → due ≡ written assigned f bytes → Due assigned f bytes due (CutOff at start)
-
-pub due_at : (assigned : Bool) (f : Form) (base : ℕ) (bytes : List ℕ) → bad_byte base (ending_of bytes) ≡ None → ReadsLongestText
-    → Due assigned f bytes (final_utf8 (under assigned) f ucd bytes) (ending_of bytes)
-unfolding final_utf8
-due_at assigned f base bytes good longest = next (ending_of bytes) good ((longest.reads bytes).end)
-  where
-    next : (ending : Ending) → bad_byte base ending ≡ None → EndsAs bytes (text_of bytes) ending
-        → Due assigned f bytes (whole_or ending (written assigned f bytes) (encode_utf8_all (safe_form f ucd (text_of bytes)))) ending
-    next Whole good ends = all_due ends refl
-    next (Bad at start) good ends = cc
-    next (CutOff at start) good ends = none_due refl
+pub record Due (assigned : Bool) (f : Form) (base : ℕ) (bytes due : List ℕ) (ending : Ending) : Type 0 where
+  pub good : bad_byte base ending ≡ None
+  pub ends : EndsAs bytes (text_of bytes) ending
+  pub is : due ≡ whole_or ending (written assigned f bytes) (encode_utf8_all (safe_form f ucd (text_of bytes)))
 
 -- a fault is that of the end
-pub fault_end : {assigned : Bool} {f : Form} {bytes due : List ℕ} {fault : Fault} {ending : Ending} (base : ℕ) (tally : Tally) (value : Option Place)
-    → Due assigned f bytes due ending → Err fault ≡ answer_at_end base tally ending → (Err fault ≡ answer_at_end base value ending) × IsOfEnd fault
-fault_end base tally value (all_due ends due) e = cc
-fault_end base tally value (none_due due) e = (cc, grind arith)
+pub fault_end : {fault : Fault} (base : ℕ) (tally : Tally) (value : Option Place) (ending : Ending) → Err fault ≡ answer_at_end base tally ending
+    → (Err fault ≡ answer_at_end base value ending) × IsOfEnd fault
+fault_end base tally value (CutOff at start) e = (cc, grind arith)
+fault_end base tally value _ e = cc
 
 module _ {assigned : Bool} {f : Form} {base : ℕ} {held bytes due : List ℕ} {old new : Comparing} {r : Result Tally Fault} {chars offset : ℕ} {Tells : Type 0}
     (call : Call assigned f base held bytes bytes due old new r chars offset Tells) where
@@ -137,33 +127,34 @@ module _ {assigned : Bool} {f : Form} {base : ℕ} {held bytes due : List ℕ} {
   scalars : IsText form
   scalars = (call.known.once f).text (text_of bytes) (call.known.split.scalars bytes)
 
-  pub parted_end : is_some new.other ≡ true → (place : Place) → IsBehind held (same new) chars offset place → {ending : Ending} → Due assigned f bytes due ending
+  pub parted_end : is_some new.other ≡ true → (place : Place) → IsBehind held (same new) chars offset place → (ending : Ending) → Due assigned f base bytes due ending
       → Ok (Some place) ≡ answer_at_end base (form_value f base bytes) ending
   unfolding change_at
-  parted_end is place behind (all_due ends due) =
-      let d = parted call form scalars due is in
+  parted_end is place behind Whole at_end =
+      let d = parted call form scalars at_end.is is in
       let other : ¬ (form ≡ text_of bytes) = λ same. d.other (grind (arith, take-length)) in
-      grind (arith, bytes_eq-Decides, other, placed call form scalars due d.shares place behind)
-  parted_end is place behind (none_due due) =
+      grind (arith, bytes_eq-Decides, other, placed call form scalars at_end.is d.shares place behind)
+  parted_end is place behind (CutOff at start) at_end =
       let o = other_written call.wrote is in
-      absurd (omega (arith, simp length-append at (ap length (sym due ∙ o.3))))
+      absurd (omega (arith, simp length-append at (ap length (sym at_end.is ∙ o.3))))
+  parted_end is place behind (Bad at start) at_end = cc
 
   module _ (none : is_some new.other ≡ false) where
     -- all is read, or the form is at its end before the text
-    pub done_end : length (left new) ≡ 0 → {given : Tally} {ending : Ending} (tally : Tally) → Due assigned f bytes due ending → Ok given ≡ answer_at_end base tally ending
+    pub done_end : length (left new) ≡ 0 → {given : Tally} (tally : Tally) (ending : Ending) → Due assigned f base bytes due ending → Ok given ≡ answer_at_end base tally ending
         → Ok None ≡ answer_at_end base (form_value f base bytes) ending
     unfolding change_at
-    done_end no_more tally (all_due ends due) e =
-        let read = read_on call form scalars due none in
+    done_end no_more tally Whole at_end e =
+        let read = read_on call form scalars at_end.is none in
         let all = front_all (encode_utf8_all form) (left new) bytes (sym read) (grind (arith, no_more, read, length-append)) in
-        grind (arith, bytes_eq-Decides, encodes_same form (text_of bytes) (all ∙ ends))
-    done_end no_more tally (none_due due) e = cc
+        grind (arith, bytes_eq-Decides, encodes_same form (text_of bytes) (all ∙ at_end.ends))
+    done_end no_more tally _ at_end e = cc
 
-    pub short_end : (length (left new) ≡ 0 → ⊥) → (place : Place) → IsBehind held (same new) chars offset place → {given : Tally} {ending : Ending} (tally : Tally)
-        → Due assigned f bytes due ending → Ok given ≡ answer_at_end base tally ending → Ok (Some place) ≡ answer_at_end base (form_value f base bytes) ending
+    pub short_end : (length (left new) ≡ 0 → ⊥) → (place : Place) → IsBehind held (same new) chars offset place → {given : Tally} (tally : Tally) (ending : Ending)
+        → Due assigned f base bytes due ending → Ok given ≡ answer_at_end base tally ending → Ok (Some place) ≡ answer_at_end base (form_value f base bytes) ending
     unfolding change_at
-    short_end more place behind tally (all_due ends due) e =
-        let read = read_on call form scalars due none in
-        let other : ¬ (form ≡ text_of bytes) = λ same. more (grind (arith, ap length read, ends, length-append)) in
-        grind (arith, bytes_eq-Decides, other, placed call form scalars due (is_front call form scalars due none) place behind)
-    short_end more place behind tally (none_due due) e = cc
+    short_end more place behind tally Whole at_end e =
+        let read = read_on call form scalars at_end.is none in
+        let other : ¬ (form ≡ text_of bytes) = λ same. more (grind (arith, ap length read, at_end.ends, length-append)) in
+        grind (arith, bytes_eq-Decides, other, placed call form scalars at_end.is (is_front call form scalars at_end.is none) place behind)
+    short_end more place behind tally _ at_end e = cc

@@ -1,7 +1,6 @@
 -- What a filter that is fed a text tells of it, by what it writes.
-use Rattle.nf_normalized.proofs.Common.{bytes_eq-Decides, ◌≡◌, ℕ, ◌+◌, ◌*◌, ◌≤◌, Bool, true, false, List, [], ◌∷◌, ◌++◌, length, take_while, refl, sym, ap, ap₂, ◌∙◌, subst, arith, length-append, None, encode_utf8_all, take_at, encodes-append, length-encode, len_utf8_bounds, prefix_len, ucd, Form, front, back, safe_form, ChangesOnce, front-append-back, IsText, Ending, Whole, Bad, Cut, text_of, ending_of, EndsAs, ReadsLongestText, ReplacesParts, Fault, Write, Row, fault_in, bad_byte, base_of, settled, is_usable, usable, settled_utf8, place_or_fault, under, made_of, settled_change_at, form_decision, Holds, IsOfPiece}
+use Rattle.nf_normalized.proofs.Common.{bytes_eq-Decides, ◌≡◌, ℕ, ◌+◌, ◌*◌, ◌≤◌, Bool, false, List, [], ◌∷◌, ◌++◌, length, refl, sym, ap, ap₂, ◌∙◌, subst, arith, length-append, None, encode_utf8_all, take_at, encodes-append, length-encode, len_utf8_bounds, ucd, Form, front, back, safe_form, ChangesOnce, front-append-back, IsText, Ending, Whole, Bad, Cut, text_of, ending_of, EndsAs, ReadsLongestText, ReplacesParts, Fault, Write, Row, fault_in, bad_byte, base_of, settled, usable, settled_utf8, place_or_fault, under, made_of, settled_change_at, form_decision, Holds, IsOfPiece}
 use Rattle.nf_utf8.specs.Replaced.{bytes_in}
-use Rattle.nf_safe.specs.LongestFront.{longest_front}
 use Rattle.nf_filter.specs.Faults.{IsOfFeeding}
 use Rattle.nf_filter.specs.Laws.Soundness.{AreSound}
 use Rattle.nf_filter.proofs.PolicyLemmas.{first_fault-none, taken, taken_whole, taken-all}
@@ -15,8 +14,7 @@ use Rattle.nf_normalized.proofs.BytesLemmas.{Known, scalars_front, scalars_take}
 module _ (once : (f : Form) → ChangesOnce f ucd) (assigned : Bool) (f : Form) where
   taken_scalars : (assigned : Bool) (x : List ℕ) → IsText x → IsText (usable ucd (allowed assigned ucd x))
   unfolding usable
-  taken_scalars false x scalars = scalars_take (longest_front (is_usable ucd) x) x scalars
-  taken_scalars true x scalars = scalars_take (longest_front (is_usable ucd) (take_while ucd.assigned x)) (take_while ucd.assigned x) (scalars_take (prefix_len ucd.assigned x) x scalars)
+  taken_scalars assigned x scalars = grind (arith, scalars_take)
 
   -- what is settled of a text is a text
   pub made_scalars : (x : List ℕ) → IsText x → IsText (made_of assigned f x)

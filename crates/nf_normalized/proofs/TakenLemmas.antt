@@ -83,12 +83,11 @@ module _ (p : Properties) where
         same_size y (order p w) rest.0 rest.1 same
     last_taken true w y c (inl r) same text =
         starter_taken (compose p (order p w)) y c r.first (order p r.rest) r.starter same
-        (sym (fold-append (compose_step p) [] (order p w) (r.first ∷ order p r.rest)) ∙ ap (compose p) (sym (order_after-at p [] w r.first r.rest r.starter)) ∙ ap (λ k. compose p (order p (w ++ k))) (sym r.text) ∙ text)
+        (grind (arith, fold-append (compose_step p) [] (order p w) (r.first ∷ order p r.rest), order_after-at p [] w r.first r.rest r.starter, r.text, text))
     last_taken false w y c (inr r) same text =
         let l = inserted p w c r.1 in
         same_front p c l.head l.tail y (order p w) l.above l.without (sym text ∙ ap (λ k. order p (w ++ k)) r.0 ∙ l.with_c)
     last_taken true w y c (inr r) same text =
         let l = inserted p w c r.1 in
-        ap (compose p) l.without ∙ fold-append (compose_step p) [] l.head l.tail
-        ∙ mark_taken p (compose p l.head) l.tail y c r.1 l.marks l.above
-        (sym (fold-append (compose_step p) [] l.head (c ∷ l.tail)) ∙ ap (compose p) (sym l.with_c) ∙ ap (λ k. compose p (order p (w ++ k))) (sym r.0) ∙ text)
+        let with_c : fold (compose_step p) (compose p l.head) (c ∷ l.tail) ≡ y ++ c ∷ [] = grind (arith, fold-append (compose_step p) [] l.head (c ∷ l.tail), l.with_c, r.0, text) in
+        grind (arith, l.without, fold-append (compose_step p) [] l.head l.tail, mark_taken p (compose p l.head) l.tail y c r.1 l.marks l.above with_c)

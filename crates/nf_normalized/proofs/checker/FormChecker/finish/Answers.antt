@@ -1,7 +1,7 @@
-use Rattle.nf_normalized.proofs.Common.{nat_tests, append_assoc, [], ◌∷◌, ◌≡◌, Bool, false, ℕ, List, sym, ◌∙◌, arith, None, append-nil, ∥∥₁_elim, le_prop, ucd, Form, ending_of, answer_at_end, base_of, final_utf8, end_of, tally_of, spent, under, filter_state, Holds, StandsAfter-offset}
+use Rattle.nf_normalized.proofs.Common.{refl, nat_tests, append_assoc, [], ◌∷◌, ◌≡◌, Bool, false, ℕ, List, sym, ◌∙◌, arith, None, append-nil, ∥∥₁_elim, le_prop, ucd, Form, ending_of, answer_at_end, base_of, final_utf8, end_of, tally_of, spent, under, filter_state, Holds, StandsAfter-offset}
 use Rattle.nf_filter.specs.Kinds.{cut}
 use Rattle.nf_normalized.proofs.CheckerLemmas.{no_fault_parts}
-use Rattle.nf_normalized.proofs.CallLemmas.{stable, parted_apart, holds_some, room, Call, told, Due, due_at, fault_end, done_end, short_end, parted_end}
+use Rattle.nf_normalized.proofs.CallLemmas.{stable, parted_apart, holds_some, room, Call, told, Due, fault_end, done_end, short_end, parted_end}
 use Rattle.nf_normalized.proofs.checker.FormChecker.finish.Goals as goal
 use Rattle.nf_normalized.proofs.checker.FormChecker.finish.Goals.{After-finish-finished, then-not-has_parted+in_default+else-is_at_end, else-not-has_parted}
 
@@ -24,26 +24,31 @@ seen c {assigned} {f} {bytes} holds =
 
 -- and what was due
 due : (c : After-finish-finished) → {assigned : Bool} {f : Form} {bytes : List ℕ} → Holds assigned f (filter_state c.args.self) c.args.self.held.items bytes
-    → Due assigned f bytes (final_utf8 (under assigned) f ucd bytes) (ending_of bytes)
-due c {assigned} {f} {bytes} holds = due_at assigned f _ bytes (no_fault_parts c.every_character_is_sound.ensures.character assigned _ bytes holds.filter.no_fault).1 c.longest_text.ensures
+    → Due assigned f (base_of (filter_state c.args.self)) bytes (final_utf8 (under assigned) f ucd bytes) (ending_of bytes)
+unfolding final_utf8
+due c {assigned} {f} {bytes} holds = record {
+  good = (no_fault_parts c.every_character_is_sound.ensures.character assigned _ bytes holds.filter.no_fault).1;
+  ends = (c.longest_text.ensures.reads bytes).end;
+  is = refl;
+}
 
 pub returns-in-Err-clause-faults : goal.returns-in-Err-clause-faults
 returns-in-Err-clause-faults c =
     let at = (goal.at.returns-in-Err-clause-faults c).After-finish-finished in
     stable (spent ∷ cut ∷ []) c.in-Err.fault (λ out.
     ∥∥₁_elim (holds_some c.args.self (cc) (λ ended. out (grind (arith, c.finish-finished.ensures.spent))))
-    (λ x y. absurd x) (λ h. out (fault_end _ _ None (due at h.holds) (sym c.in-Err.is ∙ told (seen at h.holds) (cc))).1))
+    (λ x y. absurd x) (λ h. out (fault_end _ _ None (ending_of h.bytes) (sym c.in-Err.is ∙ told (seen at h.holds) (cc))).1))
 
 pub returns-in-Err-clause-decides : goal.returns-in-Err-clause-decides
 returns-in-Err-clause-decides c = λ assigned f base bytes stands.
     let at = (goal.at.returns-in-Err-clause-decides c).After-finish-finished in
-    rw (← stands.base_is) (fault_end _ _ _ (due at stands.holds) (sym c.in-Err.is ∙ told (seen at stands.holds) (cc))).0
+    rw (← stands.base_is) (fault_end _ _ _ (ending_of bytes) (sym c.in-Err.is ∙ told (seen at stands.holds) (cc))).0
 
 pub returns-then-is_at_end-clause-decides : goal.returns-then-is_at_end-clause-decides
 returns-then-is_at_end-clause-decides c = λ assigned f base bytes stands.
     let at = (goal.at.returns-then-is_at_end-clause-decides c).After-finish-finished in
     let none = sym c.has_parted.ensures ∙ c.if-not-has_parted.true in
-    rw (← stands.base_is) (done_end (seen at stands.holds) none (grind (arith, nat_tests)) _ (due at stands.holds)
+    rw (← stands.base_is) (done_end (seen at stands.holds) none (grind (arith, nat_tests)) _ _ (due at stands.holds)
     (sym c.in_default.is ∙ told (seen at stands.holds) none))
 
 pub place_behind-requires : goal.place_behind-requires
@@ -61,7 +66,7 @@ returns-clause-decides c = λ assigned f base bytes stands.
     let call = seen at stands.holds in
     rw (← stands.base_is) (elim c.if-not-has_parted.branch [
       | then-not-has_parted+in_default+else-is_at_end w ↦ let none = sym c.has_parted.ensures ∙ w.if-not-has_parted.true in
-          short_end call none (grind (arith, nat_tests)) c.place_behind.result c.place_behind.ensures _ (due at stands.holds)
+          short_end call none (grind (arith, nat_tests)) c.place_behind.result c.place_behind.ensures _ _ (due at stands.holds)
           (sym w.in_default.is ∙ told call none)
-      | else-not-has_parted w ↦ parted_end call (cc) c.place_behind.result c.place_behind.ensures (due at stands.holds)
+      | else-not-has_parted w ↦ parted_end call (cc) c.place_behind.result c.place_behind.ensures _ (due at stands.holds)
     ])
