@@ -10,7 +10,7 @@ take-common (a ∷ x) (b ∷ y) = grind (arith, nat_tests, take-common x y)
 take-common _ _ = grind (arith, common_steps)
 
 pub common-le-right : (x y : List ℕ) → common x y ≤ length y
-common-le-right x y = omega (arith, common-le-left x y, ap length (take-common x y), length-take (common x y) x, length-take (common x y) y)
+common-le-right x y = grind (arith, common-le-left x y, ap length (take-common x y), length-take)
 
 pub common-behind : (t x y : List ℕ) → common (t ++ x) (t ++ y) ≡ length t + common x y
 common-behind [] x y = omega arith

@@ -1,5 +1,5 @@
 -- Fronts of a text in a form, over Unicode's data.
-use Rattle.nf_normalized.proofs.Common.{◌≡◌, ◌≢◌, ◌↔◌, ℕ, ◌<◌, true, false, List, [], ◌∷◌, ◌++◌, length, take, Some, refl, sym, ap, ◌∙◌, subst, arith, inl, inr, IsTrue, append-nil, append_assoc, eqb-true, pos_of_ne-zero, cases_Bool, eqb-false, length-append, take_at, canonical_combining_class, unicode_normalization, is_starter, lead, Form, Nfkc, Nfkd, composite, row_of, decomposed, composes, finished, normal_form, stream_safe, safe_form, is_sound, IsMark, ucd, by_last, row-mark, BeginsInStarter, begins_in_starter, IsSound, IsSoundText, IsSound-from_test, decomposed-push, is_in_format, after, is_among, halfwidth_marks, vowel_signs}
+use Rattle.nf_normalized.proofs.Common.{◌≡◌, ◌≢◌, ◌↔◌, ℕ, ◌<◌, true, false, List, [], ◌∷◌, ◌++◌, length, take, Some, refl, sym, ap, ◌∙◌, arith, inl, inr, IsTrue, append-nil, append_assoc, eqb-true, pos_of_ne-zero, cases_Bool, eqb-false, length-append, take_at, canonical_combining_class, unicode_normalization, is_starter, lead, Form, Nfkc, Nfkd, composite, row_of, decomposed, composes, finished, normal_form, stream_safe, safe_form, is_sound, IsMark, ucd, by_last, row-mark, BeginsInStarter, begins_in_starter, IsSound, IsSoundText, IsSound-from_test, decomposed-push, is_in_format, after, is_among, halfwidth_marks, vowel_signs}
 use Rattle.ucd_normal.specs.declared.forms.Form.{Form as KitForm}
 use Rattle.ucd_normal.specs.declared.forms.Form.TheVariants.{Nfd as KitNfd, Nfkd as KitNfkd}
 use Rattle.ucd_normal.specs.declared.forms.QuickCheck.TheVariants.{No}
@@ -94,6 +94,6 @@ module _ (sound : (c : ℕ) → IsTrue (is_sound ucd c))
       pub front_in_form : (f : Form) (x y : List ℕ) → safe_form f ucd (x ++ y) ≡ x ++ y → safe_form f ucd x ≡ x
       unfolding safe_form
       front_in_form f x y same =
-          let whole : stream_safe ucd (x ++ y) ≡ x ++ y = ap (stream_safe ucd) (sym same) ∙ safe f (x ++ y) ∙ same in
-          let front = subst (λ k. IsTrue (is_in_format ucd k)) (take_at x y (length x) refl) (in_format (x ++ y) (length x) ((unchanged (x ++ y) (texts (x ++ y))).0 whole)) in
+          let whole : stream_safe ucd (x ++ y) ≡ x ++ y = grind (arith, same, safe f (x ++ y)) in
+          let front = rw (take_at x y (length x) refl) at (in_format (x ++ y) (length x) ((unchanged (x ++ y) (texts (x ++ y))).0 whole)) in
           ap (normal_form f ucd) ((unchanged x (texts x)).1 front) ∙ form-front f x y (ap (normal_form f ucd) (sym whole) ∙ same)

@@ -35,8 +35,8 @@ module _ (p : Properties) where
           record {
             head = order p r.head ++ l.head;
             tail = l.tail;
-            without = grind (arith, r.text, order-behind p r.head r.run r.ends r.marks, l.before, append_assoc);
-            with_c = grind (arith, r.text, append_assoc, order-behind p r.head (r.run ++ c ∷ []) r.ends (marks_push p r.run c r.marks mark), by_class-push p r.run c mark, l.after);
+            without = grind (arith, r, order-behind p r.head r.run, l.before, append_assoc);
+            with_c = grind (arith, r.text, append_assoc, order-behind p r.head (r.run ++ c ∷ []) r.ends, marks_push, by_class-push, mark, l.after);
             marks = grind (arith, has_starter-append p l.head l.tail, l.before, marks, or_parts);
             above = l.above;
           }

@@ -1,5 +1,5 @@
 -- What a comparing sink tells of what a filter wrote.
-use Rattle.nf_normalized.proofs.Common.{arith, ◌≡◌, inl, inr, ℕ, true, false, List, [], ◌∷◌, ◌++◌, refl, sym, subst, append_assoc, append-nil, Option, Some, None, is_some, IsSome, true≢false, Result, Err, Fault, Write, Comparing, goes_on_with, same, left, given, taken, sink_state}
+use Rattle.nf_normalized.proofs.Common.{arith, ◌≡◌, inl, inr, ℕ, true, false, List, [], ◌∷◌, ◌++◌, refl, append_assoc, append-nil, Option, Some, None, is_some, Result, Err, Fault, Write, Comparing, goes_on_with, same, left, given, taken, sink_state}
 use Rattle.std.specs.Io.KnownBytes.{Appends}
 use Rattle.nf_filter.specs.Writes.{Puts, BreaksOff}
 use Rattle.nf_filter.proofs.FilterLemmas.{write_or_kept}
@@ -33,7 +33,7 @@ module _ {old new : Comparing} {before due : List ℕ} {T : Type 0} {r : Result 
   -- none was: all was written, as expected
   module _ (none : is_some new.other ≡ false) where
     pub unfailed : (r ≡ Err Write) → ⊥
-    unfailed e = true≢false (sym (subst IsSome (none_is new.other none) (new.failed_behind (w.broken e).failed)))
+    unfailed e = grind (arith, new.failed_behind, w.broken e)
 
     pub all_written : due ≡ before ++ same new
     all_written =
