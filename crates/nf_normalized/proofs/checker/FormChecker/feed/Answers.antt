@@ -59,9 +59,6 @@ returns-in-Err-clause-faults c =
     (λ x y. absurd x) (λ h. out (piece_kinds (seen at (λ long. out (grind arith)) h.holds) (cc)
     c.every_character_is_sound.ensures.character c.in-Err.fault c.in-Err.ensures.faults c.in-Err.is)))
 
-pub returns-in-Err-clause-kept : goal.returns-in-Err-clause-kept
-returns-in-Err-clause-kept c = λ long. grind (arith, c.feed-fed.ensures.kept)
-
 pub returns-in-Err-clause-decides : goal.returns-in-Err-clause-decides
 returns-in-Err-clause-decides c = λ assigned f base bytes stands other.
     let at = (goal.at.returns-in-Err-clause-decides c).After-feed-fed in
