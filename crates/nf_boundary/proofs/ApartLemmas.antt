@@ -1,18 +1,8 @@
 -- A character that is taken apart, where a boundary comes behind it.
-use Rattle.std.proofs.Common.{◌≡◌, ℕ, true, false, List, ◌++◌, refl, ap, ◌∙◌}
-use Rattle.std.specs.Prelude.{IsTrue, encode_utf8_all}
-use Rattle.nf_forms.specs.declared.form.Form.{Form}
-use Rattle.nf_forms.specs.declared.form.Form.TheVariants.{Nfc, Nfd, Nfkc, Nfkd}
-use Rattle.nf_forms.specs.Forms.{row_of, composes}
+use Rattle.std.proofs.Common.{◌≡◌, ℕ, true, false, List, ◌++◌, refl, ap, ◌∙◌, IsTrue, encode_utf8_all}
+use Rattle.nf_boundary.proofs.Common.{Form, Nfc, Nfd, Nfkc, Nfkd, row_of, composes, is_sound, ucd, HasForm-row, kit_form, Seen, IsAtBoundary, Closes}
 use Rattle.nf_forms.specs.Ordering.{is_ordered}
-use Rattle.nf_forms.specs.Sound.{is_sound}
-use Rattle.nf_forms.specs.Ucd.{ucd}
-use Rattle.nf_forms.specs.Laws.ClosedForms.{HasForm-row}
-use Rattle.nf_facts.specs.KitForm.{kit_form}
 use Rattle.unicode_normalization.specs.Decompose.{decompose}
-use Rattle.nf_boundary.specs.declared.seen.Seen.{Seen}
-use Rattle.nf_boundary.specs.Seen.{IsAtBoundary}
-use Rattle.nf_boundary.specs.Pieces.{Closes}
 use Rattle.nf_boundary.proofs.LetterLemmas.{boundary-first, closes_letter}
 
 -- what the kit calls the decomposition of a character is the row

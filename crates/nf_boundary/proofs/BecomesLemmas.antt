@@ -1,52 +1,35 @@
 -- What decomposed text from a boundary on becomes: a member more, and its form when a boundary comes.
-use Rattle.std.proofs.Common.{◌≡◌, ◌≢◌, ◌==◌, ℕ, ◌+◌, Bool, true, false, List, [], ◌∷◌, ◌++◌, length, map, get_or, Some, refl, sym, ap, ◌∙◌, append_assoc, append-nil, arith, leb}
-use Rattle.std.proofs.lemmas.Bool.{ne_eqb, cond-true}
-use Rattle.std.proofs.lemmas.Bool.Decides.{nat_tests}
-use Rattle.ucd_normal.specs.CanonicalCombiningClass.{canonical_combining_class}
-use Rattle.std.proofs.lemmas.List.Folds.{list_any_at}
-use Rattle.std.specs.Prelude.{IsTrue, insert, not, if◌then◌else◌, encode_utf8_all}
+use Rattle.std.proofs.Common.{◌≡◌, ◌≢◌, ◌==◌, ℕ, ◌+◌, Bool, true, false, List, [], ◌∷◌, ◌++◌, length, map, get_or, Some, refl, sym, ap, ◌∙◌, append_assoc, append-nil, arith, leb, IsTrue, insert, not, if◌then◌else◌, encode_utf8_all}
+use Rattle.nf_boundary.proofs.Common.{ucd, Form, row_of, decomposed, composes, arranged, finished, canonical_combining_class, IsSound-from_test, ne_eqb, cond-true, has_starter, trail, longest, nat_tests, Becomes, Leaves, Nfc, Nfd, Nfkc, Nfkd, compose, is_sound, NeverSecond, IsOwnRow, Mark}
+use Rattle.nf_boundary.specs.Laws.Held.{held-push}
 use Rattle.std.specs.List.{prefix_len, flat_map}
 use Rattle.nf_forms.specs.Properties.{Properties, is_starter}
-use Rattle.nf_forms.specs.Runs.{has_starter, trail, longest}
-use Rattle.nf_forms.specs.Order.{by_class, order}
-use Rattle.nf_forms.specs.Compose.{compose}
-use Rattle.nf_forms.specs.declared.form.Form.{Form}
-use Rattle.nf_forms.specs.declared.form.Form.TheVariants.{Nfc, Nfd, Nfkc, Nfkd}
-use Rattle.nf_forms.specs.Forms.{row_of, decomposed, composes, arranged, finished}
-use Rattle.nf_forms.specs.Sound.{is_sound}
-use Rattle.nf_forms.specs.Parting.{NeverSecond}
-use Rattle.nf_forms.specs.Audit.{IsFull, AreOwnMarks}
-use Rattle.nf_forms.specs.Cluster.{IsOwnRow}
-use Rattle.nf_forms.specs.Ucd.{ucd}
-use Rattle.nf_forms.specs.Laws.Runs.{lead-le-length, trail-le-length, trail-append, trail-push, longest-append}
+use Rattle.std.proofs.lemmas.List.Folds.{list_any_at}
 use Rattle.nf_forms.specs.Laws.Front.{marks_push}
+use Rattle.nf_forms.specs.Laws.Settling.{closed_off}
+use Rattle.nf_forms.specs.Laws.Audited.{flat_map-full}
+use Rattle.nf_forms.specs.Audit.{IsFull, AreOwnMarks}
+use Rattle.nf_forms.specs.Laws.StreamSafe.{decomposed-push, longest-le-length}
+use Rattle.nf_boundary.specs.Mark.{mark_of, is_rising}
+use Rattle.nf_forms.specs.Order.{by_class, order}
+use Rattle.nf_forms.specs.Laws.Runs.{lead-le-length, trail-le-length, trail-append, trail-push, longest-append}
 use Rattle.nf_forms.specs.Laws.Order.{order-behind, has_starter-by_class}
 use Rattle.nf_forms.specs.Laws.Ordering.{order-ordered}
 use Rattle.nf_forms.specs.Laws.Compose.{compose-behind}
-use Rattle.nf_forms.specs.Laws.Settling.{closed_off}
-use Rattle.nf_forms.specs.Laws.Sound.{IsSound-from_test}
-use Rattle.nf_forms.specs.Laws.StreamSafe.{decomposed-push, longest-le-length}
 use Rattle.nf_forms.specs.Laws.Parting.{arranged-boundary}
-use Rattle.nf_forms.specs.Laws.Audited.{flat_map-full}
-use Rattle.nf_boundary.specs.declared.mark.Mark.{Mark}
-use Rattle.nf_boundary.specs.Mark.{mark_of, is_rising}
-use Rattle.nf_boundary.specs.Piece.{Becomes, Leaves}
-use Rattle.nf_boundary.specs.Laws.Held.{held-push}
-use Rattle.nf_boundary.proofs.EncodingLemmas.{appended}
+use Rattle.nf_boundary.proofs.LetterLemmas.{appended}
 use Rattle.nf_boundary.proofs.JoinLemmas.{class_of}
 
 -- a starter and non-starters: they are put in order, and composed
-arranged-marked : (p : Properties) (s : ℕ) (run : List ℕ) → is_starter p s ≡ true → has_starter p run ≡ false → (b : Bool) → arranged b p (s ∷ run) ≡ closed_off p b (Some s) (by_class p run)
-arranged-marked p s run starts plain b = next b
-  where
-    ordered : order p (s ∷ run) ≡ s ∷ by_class p run
-    ordered = order-behind p (s ∷ []) run (trail-push p [] s ∙ cond-true _ _ _ starts) plain ∙ ap (λ w. w ++ by_class p run) (order-ordered p (s ∷ []) refl)
+order-marked : (p : Properties) (s : ℕ) (run : List ℕ) → is_starter p s ≡ true → has_starter p run ≡ false → order p (s ∷ run) ≡ s ∷ by_class p run
+order-marked p s run starts plain =
+    order-behind p (s ∷ []) run (trail-push p [] s ∙ cond-true _ _ _ starts) plain ∙ ap (λ w. w ++ by_class p run) (order-ordered p (s ∷ []) refl)
 
-    next : (b : Bool) → arranged b p (s ∷ run) ≡ closed_off p b (Some s) (by_class p run)
-    next false = ordered
-    next true =
-        ap (compose p) ordered
-        ∙ compose-behind p [] (s ∷ []) (by_class p run) (record { starter = s; marks = []; text = refl; starts = starts; no_starter = refl }) (has_starter-by_class p run)
+arranged-marked : (p : Properties) (s : ℕ) (run : List ℕ) → is_starter p s ≡ true → has_starter p run ≡ false → (b : Bool) → arranged b p (s ∷ run) ≡ closed_off p b (Some s) (by_class p run)
+arranged-marked p s run starts plain false = order-marked p s run starts plain
+arranged-marked p s run starts plain true =
+    ap (compose p) (order-marked p s run starts plain)
+    ∙ compose-behind p [] (s ∷ []) (by_class p run) (record { starter = s; marks = []; text = refl; starts = starts; no_starter = refl }) (has_starter-by_class p run)
 
 arranged-none : (p : Properties) (b : Bool) → arranged b p [] ≡ []
 unfolding by_class
@@ -158,21 +141,19 @@ leaves_more cs c room room' marks less here =
     }
 
 -- a row of non-starters is the row of both kinds
-pub row-of_marks : ((c : ℕ) → flat_map ucd.compat (ucd.canonical c) ≡ ucd.compat c) → ((c : ℕ) → AreOwnMarks ucd (ucd.canonical c)) → (f : Form) (c : ℕ) → has_starter ucd (row_of f ucd c) ≡ false → ucd.compat c ≡ row_of f ucd c
-row-of_marks joined marks = next
-  where
-    own : (w : List ℕ) → AreOwnMarks ucd w → has_starter ucd w ≡ false → IsFull ucd.compat w
-    own w all none k d within = one (is_starter ucd (get_or w k d)) refl
-      where
-        one : (b : Bool) → is_starter ucd (get_or w k d) ≡ b → ucd.compat (get_or w k d) ≡ get_or w k d ∷ []
-        one true starts = let some = list_any_at (is_starter ucd) w k d within starts in cc
-        one false mark = all k d within (ap not mark)
+module _ (joined : (c : ℕ) → flat_map ucd.compat (ucd.canonical c) ≡ ucd.compat c) (marks : (c : ℕ) → AreOwnMarks ucd (ucd.canonical c)) where
+  own : (w : List ℕ) → AreOwnMarks ucd w → has_starter ucd w ≡ false → IsFull ucd.compat w
+  own w all none k d within = one (is_starter ucd (get_or w k d)) refl
+    where
+      one : (b : Bool) → is_starter ucd (get_or w k d) ≡ b → ucd.compat (get_or w k d) ≡ get_or w k d ∷ []
+      one true starts = let some = list_any_at (is_starter ucd) w k d within starts in cc
+      one false mark = all k d within (ap not mark)
 
-    canonical : (c : ℕ) → has_starter ucd (ucd.canonical c) ≡ false → ucd.compat c ≡ ucd.canonical c
-    canonical c none = sym (joined c) ∙ flat_map-full ucd ucd.compat (ucd.canonical c) (own (ucd.canonical c) (marks c) none)
+  canonical : (c : ℕ) → has_starter ucd (ucd.canonical c) ≡ false → ucd.compat c ≡ ucd.canonical c
+  canonical c none = sym (joined c) ∙ flat_map-full ucd ucd.compat (ucd.canonical c) (own (ucd.canonical c) (marks c) none)
 
-    next : (f : Form) (c : ℕ) → has_starter ucd (row_of f ucd c) ≡ false → ucd.compat c ≡ row_of f ucd c
-    next Nfc c none = canonical c none
-    next Nfd c none = canonical c none
-    next Nfkc c none = refl
-    next Nfkd c none = refl
+  pub row-of_marks : (f : Form) (c : ℕ) → has_starter ucd (row_of f ucd c) ≡ false → ucd.compat c ≡ row_of f ucd c
+  row-of_marks Nfc c none = canonical c none
+  row-of_marks Nfd c none = canonical c none
+  row-of_marks Nfkc c none = refl
+  row-of_marks Nfkd c none = refl

@@ -1,35 +1,13 @@
 -- A piece of text from one boundary to the next, character by character.
-use Rattle.std.proofs.Common.{◌≡◌, ◌≢◌, ℕ, suc, ◌+◌, ◌<◌, true, false, List, [], ◌∷◌, ◌++◌, length, take, get_or, refl, sym, ap, subst, ◌∙◌, append_assoc, append-nil, arith, eq-eqb}
-use Rattle.std.specs.Prelude.{chars, encode_utf8, flat_map, encode_utf8_all}
-use Rattle.std.proofs.lemmas.Bool.{ne_eqb, or_from}
-use Rattle.std.proofs.lemmas.List.{take_more}
-use Rattle.std.proofs.lemmas.Str.{chars-append, IsUtf8-append}
-use Rattle.ucd_normal.specs.declared.forms.QuickCheck.TheVariants.{No}
-use Rattle.ucd_normal.specs.CanonicalCombiningClass.{canonical_combining_class}
-use Rattle.ucd_normal.specs.QuickCheck.{quick_check}
-use Rattle.nf_forms.specs.Properties.{is_starter}
-use Rattle.nf_forms.specs.Runs.{has_starter}
-use Rattle.nf_forms.specs.Calm.{IsMark}
+use Rattle.std.proofs.Common.{add-one, ◌≡◌, ◌≢◌, ℕ, ◌+◌, ◌<◌, true, false, List, [], ◌∷◌, ◌++◌, length, take, get_or, refl, sym, ap, subst, ◌∙◌, append-nil, arith, eq-eqb, flat_map, encode_utf8_all}
+use Rattle.nf_boundary.proofs.Common.{ucd, Sees, IsAtBoundary, Closes, Form, row_of, decomposed, finished, No, Seen, take_more, canonical_combining_class, has_starter, IsSoundText, ne_eqb, or_from, kit_form, Becomes, Leaves, Fills, quick_check, IsMark, IsOwnRow, row-own, is_starter, Mark}
 use Rattle.nf_forms.specs.Audit.{AreOwnMarks}
-use Rattle.nf_forms.specs.Cluster.{IsOwnRow}
-use Rattle.nf_forms.specs.declared.form.Form.{Form}
-use Rattle.nf_forms.specs.Forms.{row_of, decomposed, finished}
-use Rattle.nf_forms.specs.Closed.{BeginsAtBoundary}
-use Rattle.nf_forms.specs.Ucd.{ucd}
 use Rattle.nf_forms.specs.Laws.Front.{marks_push}
-use Rattle.nf_forms.specs.Laws.Cluster.{row-own}
-use Rattle.nf_forms.specs.Laws.Sound.{IsSoundText}
 use Rattle.nf_forms.specs.Laws.StreamSafe.{decomposed-push}
 use Rattle.nf_forms.specs.Laws.Audited.{stream_safe-short}
-use Rattle.nf_facts.specs.KitForm.{kit_form}
-use Rattle.nf_boundary.specs.declared.mark.Mark.{Mark}
-use Rattle.nf_boundary.specs.declared.seen.Seen.{Seen}
 use Rattle.nf_boundary.specs.declared.piece.Piece.{Piece}
-use Rattle.nf_boundary.specs.Seen.{Sees, IsAtBoundary}
-use Rattle.nf_boundary.specs.Pieces.{Closes}
-use Rattle.nf_boundary.specs.Piece.{Becomes, Leaves, Fills}
 use Rattle.nf_boundary.proofs.JoinLemmas.{class_of}
-use Rattle.nf_boundary.proofs.LetterLemmas.{letter_utf8, chars-letter, begins_more, begins_first, boundary-first}
+use Rattle.nf_boundary.proofs.LetterLemmas.{begins_more, begins_first, boundary-first, split_more, split_seen}
 use Rattle.nf_boundary.proofs.BecomesLemmas.{becomes_one, leaves_own, leaves_more, row-of_marks}
 
 -- a row read member by member
@@ -39,10 +17,8 @@ take_next row i c within is = take_more row i c within ∙ ap (λ d. take i row 
 -- behind its first member
 pub take_behind : (row : List ℕ) (s : ℕ) (others : List ℕ) → row ≡ s ∷ others → (i c : ℕ) → i < length others → c ≡ get_or others i c → take (i + 1 + 1) row ≡ take (i + 1) row ++ c ∷ []
 take_behind row s others is i c within read =
-    take_next row (i + 1) c (omega (arith, ap length is)) (read ∙ behind (i + 1) (omega arith) ∙ ap (λ r. get_or r (i + 1) c) (sym is))
-  where
-    behind : (k : ℕ) → k ≡ suc i → get_or others i c ≡ get_or (s ∷ others) k c
-    behind k e = ap (λ k. get_or (s ∷ others) k c) (sym e)
+    let e : get_or (s ∷ others) (i + 1) c ≡ c = rw add-one (sym read) in
+    take_next row (i + 1) c (omega (arith, ap length is)) (sym e ∙ ap (λ r. get_or r (i + 1) c) (sym is))
 
 module _ (f : Form) (first : Seen) (at : IsAtBoundary f first) where
   starts_first : is_starter ucd first.character ≡ true
@@ -70,35 +46,26 @@ module _ (f : Form) (first : Seen) (at : IsAtBoundary f first) where
   -- its first character
   pub fills_first : (piece : Piece) (before now : List ℕ) → Becomes f (row_of f ucd first.character) piece.starter piece.run.items before now → Leaves (first.character ∷ []) piece.room
       → (next : Seen) → next.text.now ≡ first.behind.now → Sees f next → Fills f first next piece before now
-  fills_first piece before now becomes leaves next is sees =
-      let one = sym (chars-letter f first at.sees) in
-      record {
-        front = encode_utf8 first.character;
-        split = at.sees.text ∙ ap (λ k. encode_utf8 first.character ++ k) (sym is);
-        utf8 = letter_utf8 f first at.sees;
-        begins = subst (BeginsAtBoundary ucd f) one (begins_first f first at []);
-        becomes = subst (λ k. Becomes f (decomposed f ucd k) piece.starter piece.run.items before now) one
-            (subst (λ w. Becomes f w piece.starter piece.run.items before now) (sym (append-nil (row_of f ucd first.character))) becomes);
-        leaves = subst (λ k. Leaves k piece.room) one leaves;
-        sees = sees;
-      }
+  fills_first piece before now becomes leaves next is sees = record {
+    front = first.character ∷ [];
+    split = split_seen f first at.sees next.text.now is;
+    begins = begins_first f first at [];
+    becomes = subst (λ w. Becomes f w piece.starter piece.run.items before now) (sym (append-nil (row_of f ucd first.character))) becomes;
+    leaves = leaves;
+    sees = sees;
+  }
 
   module _ (seen : Seen) (piece : Piece) (before now : List ℕ) (here : Fills f first seen piece before now) where
-    text : chars (here.front ++ encode_utf8 seen.character) ≡ chars here.front ++ seen.character ∷ []
-    text = chars-append here.front (encode_utf8 seen.character) here.utf8 ∙ ap (λ k. chars here.front ++ k) (chars-letter f seen here.sees)
-
     -- one more
     pub fills_more : (piece' : Piece) → ((w before now : List ℕ) → Becomes f w piece.starter piece.run.items before now → Becomes f (w ++ row_of f ucd seen.character) piece'.starter piece'.run.items before now)
         → ((cs : List ℕ) → Leaves cs piece.room → Leaves (cs ++ seen.character ∷ []) piece'.room)
         → (next : Seen) → next.text.now ≡ seen.behind.now → Sees f next → Fills f first next piece' before now
     fills_more piece' becomes leaves next is sees = record {
-      front = here.front ++ encode_utf8 seen.character;
-      split = here.split ∙ ap (λ k. here.front ++ k) (here.sees.text ∙ ap (λ k. encode_utf8 seen.character ++ k) (sym is)) ∙ sym (append_assoc here.front (encode_utf8 seen.character) next.text.now);
-      utf8 = IsUtf8-append here.front (encode_utf8 seen.character) here.utf8 (letter_utf8 f seen here.sees);
-      begins = subst (BeginsAtBoundary ucd f) (sym text) (begins_more f (chars here.front) (seen.character ∷ []) here.begins);
-      becomes = subst (λ w. Becomes f w piece'.starter piece'.run.items before now) (sym (ap (decomposed f ucd) text ∙ decomposed-push ucd f (chars here.front) seen.character))
-          (becomes (decomposed f ucd (chars here.front)) before now here.becomes);
-      leaves = subst (λ k. Leaves k piece'.room) (sym text) (leaves (chars here.front) here.leaves);
+      front = here.front ++ seen.character ∷ [];
+      split = split_more first.text.now seen.text.now next.text.now here.front (seen.character ∷ []) here.split (split_seen f seen here.sees next.text.now is);
+      begins = begins_more f here.front (seen.character ∷ []) here.begins;
+      becomes = rw (decomposed-push ucd f here.front seen.character) (becomes (decomposed f ucd here.front) before now here.becomes);
+      leaves = leaves here.front here.leaves;
       sees = sees;
     }
 
@@ -107,11 +74,10 @@ module _ (f : Form) (first : Seen) (at : IsAtBoundary f first) where
         → (new : List ℕ) → ((w before : List ℕ) → Becomes f w piece.starter piece.run.items before now → new ≡ before ++ encode_utf8_all (finished f ucd w)) → Closes f first.text.now behind before new
     fills_closed sound behind same at_behind new closed = record {
       piece = here.front;
-      more = finished f ucd (decomposed f ucd (chars here.front));
-      split = here.split ∙ ap (λ k. here.front ++ k.text.now) (sym same);
-      utf8 = here.utf8;
-      form = record { begins = here.begins; sound = sound (chars here.front); safe = stream_safe-short ucd (chars here.front) here.leaves.longest; form = refl };
-      formed = closed (decomposed f ucd (chars here.front)) before here.becomes;
+      more = finished f ucd (decomposed f ucd here.front);
+      split = here.split ∙ ap (λ k. encode_utf8_all here.front ++ k.text.now) (sym same);
+      form = record { begins = here.begins; sound = sound here.front; safe = stream_safe-short ucd here.front here.leaves.longest; form = refl };
+      formed = closed (decomposed f ucd here.front) before here.becomes;
       behind = at_behind;
     }
 

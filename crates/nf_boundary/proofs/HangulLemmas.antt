@@ -1,26 +1,10 @@
 -- A Hangul syllable that is written with letters: what it becomes, and that it is closed.
-use Rattle.std.proofs.Common.{◌≡◌, inr, ℕ, ◌+◌, ◌≤◌, ◌<◌, true, List, [], ◌∷◌, ◌++◌, Some, sym, ap, subst, ◌∙◌, arith, append_assoc, eq-eqb}
-use Rattle.std.specs.Prelude.{chars, encode_utf8, IsUtf8, IsTrue, encode_utf8_all}
-use Rattle.std.proofs.lemmas.Str.{chars-append, IsUtf8-append}
-use Rattle.ucd_normal.specs.CanonicalCombiningClass.{canonical_combining_class}
+use Rattle.std.proofs.Common.{◌≡◌, inr, ℕ, ◌+◌, ◌≤◌, ◌<◌, true, List, [], ◌∷◌, ◌++◌, Some, refl, ap, subst, ◌∙◌, arith, eq-eqb, encode_utf8, encode_utf8_all}
+use Rattle.nf_boundary.proofs.Common.{canonical_combining_class, compose_hangul, IsLv, IsLvt, compose_hangul-lv, compose_hangul-lvt, Form, composes, composite, IsOwnRow, IsCluster, ucd, cluster-one, cluster-joined, HasForm-cluster, IsSoundText, Seen, IsAtBoundary, Closes}
 use Rattle.ucd_normal.specs.Composition.{composite as listed}
 use Rattle.unicode_normalization.specs.Compose.{or_else, primary_composite}
-use Rattle.unicode_normalization.specs.Hangul.{compose_hangul}
-use Rattle.unicode_normalization.proofs.HangulLemmas.{IsLv, IsLvt, compose_hangul-lv, compose_hangul-lvt}
-use Rattle.nf_forms.specs.declared.form.Form.{Form}
-use Rattle.nf_forms.specs.Forms.{composes}
-use Rattle.nf_forms.specs.Compose.{composite}
-use Rattle.nf_forms.specs.Closed.{HasForm}
-use Rattle.nf_forms.specs.Cluster.{IsOwnRow, IsCluster}
-use Rattle.nf_forms.specs.Sound.{is_sound}
-use Rattle.nf_forms.specs.Ucd.{ucd}
-use Rattle.nf_forms.specs.Laws.Cluster.{cluster-one, cluster-joined, HasForm-cluster}
-use Rattle.nf_forms.specs.Laws.Sound.{IsSoundText}
-use Rattle.nf_boundary.specs.declared.seen.Seen.{Seen}
-use Rattle.nf_boundary.specs.Seen.{IsAtBoundary}
-use Rattle.nf_boundary.specs.Pieces.{Closes}
 use Rattle.nf_boundary.specs.Hangul.{Spells}
-use Rattle.nf_boundary.proofs.LetterLemmas.{one_letter, letter_utf8, chars-letter, begins_first}
+use Rattle.nf_boundary.proofs.LetterLemmas.{begins_first, split_one, split_more, split_seen}
 use Rattle.nf_boundary.proofs.JoinLemmas.{class_of}
 
 pair-hangul : (a b d : ℕ) → compose_hangul a b ≡ Some d → ucd.pair a b ≡ Some d
@@ -46,49 +30,30 @@ module _ (starter : (c : ℕ) → 0x1100 ≤ c → c < 0x1200 → canonical_comb
         let one = cluster-one ucd l (own l (omega arith) (omega arith)) (eq-eqb _ 0 class) in
         joins (l ∷ []) l 1 one (omega arith) v lv (omega arith) (omega arith) (compose_hangul-lv l v lv two)
 
-    pub spells_two : (text rest : List ℕ) → IsUtf8 text → IsUtf8 rest → text ≡ encode_utf8 v ++ rest → Spells l text rest lv
-    spells_two text rest whole behind e =
-        let vowel = one_letter text rest v whole behind e in
-        record {
-          front = encode_utf8 v;
-          count = 2;
-          split = e;
-          utf8 = vowel.0;
-          made = subst (λ k. IsCluster ucd (l ∷ k) lv [] 0 0 2) (sym vowel.1) open_cluster;
-        }
+    pub spells_two : (text rest : List ℕ) → text ≡ encode_utf8 v ++ rest → Spells l text rest lv
+    spells_two text rest e = record { front = v ∷ []; count = 2; split = split_one text rest v e; made = open_cluster }
 
-    pub spells_three : (t lvt : ℕ) → IsLvt lv t lvt → (text middle rest : List ℕ) → IsUtf8 text → IsUtf8 middle → IsUtf8 rest → text ≡ encode_utf8 v ++ middle → middle ≡ encode_utf8 t ++ rest → Spells l text rest lvt
-    spells_three t lvt three text middle rest whole between behind e g =
-        let vowel = one_letter text middle v whole between e in
-        let final = one_letter middle rest t between behind g in
+    pub spells_three : (t lvt : ℕ) → IsLvt lv t lvt → (text middle rest : List ℕ) → text ≡ encode_utf8 v ++ middle → middle ≡ encode_utf8 t ++ rest → Spells l text rest lvt
+    spells_three t lvt three text middle rest e g =
         let trailing = three.trailing in
-        let read = chars-append (encode_utf8 v) (encode_utf8 t) vowel.0 ∙ ap (λ k. k ++ chars (encode_utf8 t)) vowel.1 ∙ ap (λ k. v ∷ k) final.1 in
         record {
-          front = encode_utf8 v ++ encode_utf8 t;
+          front = v ∷ t ∷ [];
           count = 3;
-          split = e ∙ ap (λ k. encode_utf8 v ++ k) g ∙ sym (append_assoc (encode_utf8 v) (encode_utf8 t) rest);
-          utf8 = IsUtf8-append (encode_utf8 v) (encode_utf8 t) vowel.0 final.0;
-          made = subst (λ k. IsCluster ucd (l ∷ k) lvt [] 0 0 3) (sym read)
-              (joins (l ∷ v ∷ []) lv 2 open_cluster (omega arith) t lvt (omega arith) (omega arith) (compose_hangul-lvt lv t lvt three));
+          split = split_more text middle rest (v ∷ []) (t ∷ []) (split_one text middle v e) (split_one middle rest t g);
+          made = joins (l ∷ v ∷ []) lv 2 open_cluster (omega arith) t lvt (omega arith) (omega arith) (compose_hangul-lvt lv t lvt three);
         }
 
 -- where a boundary comes behind it, it is closed
-pub closes_syllable : (f : Form) (first : Seen) → IsAtBoundary f first → composes f ≡ true → ((c : ℕ) → IsTrue (is_sound ucd c)) → ((x : List ℕ) → IsSoundText ucd x)
+pub closes_syllable : (f : Form) (first : Seen) → IsAtBoundary f first → composes f ≡ true → ((x : List ℕ) → IsSoundText ucd x)
     → (rest : List ℕ) (syllable : ℕ) → Spells first.character first.behind.now rest syllable → (next : Seen) → next.text.now ≡ rest → IsAtBoundary f next
     → (old new : List ℕ) → new ≡ old ++ encode_utf8_all (syllable ∷ []) → Closes f first.text.now next old new
-closes_syllable f first at composing sound sound_text rest syllable letters next is behind old new formed =
-    let letter = encode_utf8 first.character in
-    let u = letter_utf8 f first at.sees in
-    let read = chars-append letter letters.front u ∙ ap (λ k. k ++ chars letters.front) (chars-letter f first at.sees) in
+closes_syllable f first at composing sound rest syllable letters next is behind old new formed =
+    let cs = first.character ∷ letters.front in
     record {
-      piece = letter ++ letters.front;
+      piece = cs;
       more = syllable ∷ [];
-      split = at.sees.text ∙ ap (λ k. letter ++ k) (letters.split ∙ ap (λ k. letters.front ++ k) (sym is)) ∙ sym (append_assoc letter letters.front next.text.now);
-      utf8 = IsUtf8-append letter letters.front u letters.utf8;
-      form = subst (λ k. HasForm ucd f k (syllable ∷ [])) (sym read)
-          (HasForm-cluster ucd f composing (first.character ∷ chars letters.front) syllable [] 0 0 letters.count letters.made
-          (begins_first f first at (chars letters.front))
-          (sound_text (first.character ∷ chars letters.front)));
+      split = cc (split_more first.text.now first.behind.now rest (first.character ∷ []) letters.front (split_seen f first at.sees first.behind.now refl) letters.split);
+      form = HasForm-cluster ucd f composing cs syllable [] 0 0 letters.count letters.made (begins_first f first at letters.front) (sound cs);
       formed = formed;
       behind = behind;
     }

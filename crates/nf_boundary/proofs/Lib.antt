@@ -1,4 +1,4 @@
-pub mod EncodingLemmas
+pub mod Common
 mod WalkLemmas
 pub mod SeenLemmas
 pub mod PieceLemmas

@@ -1,28 +1,11 @@
 -- A character with its decomposition beside it, and one that passes the quick check.
-use Rattle.std.proofs.Common.{◌≡◌, ℕ, false, List, [], ◌∷◌, ◌++◌, ◌==◌, true, length, if◌then◌else◌, refl, ap, sym, ◌∙◌, inl}
-use Rattle.std.specs.Prelude.{IsTrue, encode_utf8_all}
-use Rattle.ucd_normal.specs.declared.forms.QuickCheck.TheVariants.{Yes}
-use Rattle.ucd_normal.specs.QuickCheck.{quick_check}
-use Rattle.nf_forms.specs.declared.form.Form.{Form}
-use Rattle.nf_forms.specs.Forms.{row_of, decomposed}
-use Rattle.nf_forms.specs.Sound.{max_row, is_sound}
-use Rattle.nf_forms.specs.Calm.{IsCalm}
-use Rattle.nf_forms.specs.Laws.Sound.{IsSoundText}
-use Rattle.nf_forms.specs.Parting.{NeverSecond, BeginsAnew, IsParting}
-use Rattle.nf_forms.specs.Ucd.{ucd}
+use Rattle.std.proofs.Common.{◌≡◌, ℕ, false, List, [], ◌∷◌, ◌++◌, ◌==◌, length, if◌then◌else◌, refl, ap, sym, ◌∙◌, inl, IsTrue, encode_utf8_all}
+use Rattle.nf_boundary.proofs.Common.{Yes, quick_check, Form, row_of, decomposed, max_row, is_sound, IsCalm, IsSoundText, NeverSecond, BeginsAnew, IsParting, ucd, HasForm-calm, kit_form, is_among, halfwidth_marks, passes_check, is_syllable, decompose_hangul, Seen, IsRow, IsAtBoundary, Closes}
 use Rattle.nf_forms.specs.Laws.CalmSteps.{begins_run}
-use Rattle.nf_forms.specs.Laws.ClosedForms.{HasForm-calm}
-use Rattle.nf_facts.specs.KitForm.{kit_form}
-use Rattle.nf_facts.specs.Passing.{is_among, halfwidth_marks, passes_check}
 use Rattle.ucd_normal.specs.declared.forms.Form.{Form as KitForm}
 use Rattle.ucd_normal.specs.Decomposition.{or_itself}
 use Rattle.unicode_normalization.specs.Decompose.{table_of, decompose}
-use Rattle.unicode_normalization.specs.Hangul.{is_syllable, decompose_hangul}
-use Rattle.nf_boundary.specs.declared.seen.Seen.{Seen}
 use Rattle.nf_boundary.specs.declared.rows.Row.{Row}
-use Rattle.nf_boundary.specs.Rows.{IsRow}
-use Rattle.nf_boundary.specs.Seen.{IsAtBoundary}
-use Rattle.nf_boundary.specs.Pieces.{Closes}
 use Rattle.nf_boundary.proofs.ApartLemmas.{row_is}
 use Rattle.nf_boundary.proofs.SeenLemmas.{passes_yes, passing}
 use Rattle.nf_boundary.proofs.LetterLemmas.{closes_letter}
@@ -55,12 +38,12 @@ closes_own f first at sound sound_one parting own other next is behind old new f
 
 -- what one look-up tells has no members beside it
 pub row_plain : (f : Form) (row : Row) → row.members.now ≡ [] → IsAtBoundary f row.seen → IsRow f row
-row_plain f row none at = record { at = at; members = λ first others is. let some : [] ≡ first ∷ others = sym none ∙ is in cc }
+row_plain f row none at = record { at = at; members = λ first others is. cc }
 
 -- the members that it has
 pub row_members : (f : Form) (row : Row) → IsRow f row → (length row.members.now == 0) ≡ false → row.members.now ≡ row_of f ucd row.seen.character
 row_members f row is some = next row.members.now refl
   where
     next : (members : List ℕ) → row.members.now ≡ members → row.members.now ≡ row_of f ucd row.seen.character
-    next [] e = let none : (length row.members.now == 0) ≡ true = ap (λ m. length m == 0) e in cc
+    next [] e = cc (ap (λ m. length m == 0) e)
     next (first ∷ others) e = is.members first others e ∙ row_is f row.seen.character

@@ -1,24 +1,9 @@
 -- A character as one look-up sees it: what stands behind it, and when a text may be cut before it.
-use Rattle.std.proofs.Common.{◌≡◌, ◌<◌, ◌||◌, ◌&&◌, ◌≤◌, ◌≢◌, ◌==◌, ℕ, Bool, true, false, ◌∷◌, length, refl, sym, ap, ◌∙◌, arith, length-append, eq-eqb, ne_eqb}
-use Rattle.std.specs.Prelude.{chars, encode_utf8, IsTrue}
-use Rattle.std.proofs.lemmas.Bool.{and_from, and_parts, or_from, or_parts, not_from_false}
-use Rattle.std.proofs.lemmas.Bool.Decides.{nat_tests}
-use Rattle.std.proofs.lemmas.Str.{chars_past_char, length-encode, len_utf8_bounds}
-use Rattle.ucd_normal.specs.declared.forms.QuickCheck.TheVariants.{Yes}
-use Rattle.ucd_normal.specs.CanonicalCombiningClass.{canonical_combining_class}
-use Rattle.ucd_normal.specs.QuickCheck.{quick_check}
-use Rattle.nf_forms.specs.Runs.{lead}
-use Rattle.nf_forms.specs.declared.form.Form.{Form}
-use Rattle.nf_forms.specs.Forms.{composes}
-use Rattle.nf_forms.specs.Sound.{is_sound}
-use Rattle.nf_forms.specs.Parting.{BeginsAnew, IsBoundary, IsParting}
-use Rattle.nf_forms.specs.Ucd.{ucd}
-use Rattle.nf_forms.specs.Laws.ClosedForms.{counts_anew-lead, parting-boundary, boundary-decomposing}
-use Rattle.nf_facts.specs.KitForm.{kit_form}
+use Rattle.std.proofs.Common.{◌≡◌, ◌<◌, ◌||◌, ◌&&◌, ◌≤◌, ◌==◌, ℕ, Bool, true, false, ◌∷◌, length, sym, ap, ◌∙◌, arith, length-append, eq-eqb, chars, encode_utf8, IsTrue}
+use Rattle.nf_boundary.proofs.Common.{ucd, Sees, IsAtBoundary, Form, composes, Yes, Seen, chars_past_char, length-encode, len_utf8_bounds, canonical_combining_class, lead, and_from, and_parts, or_parts, not_from_false, nat_tests, kit_form, quick_check, is_sound, BeginsAnew, IsBoundary, IsParting}
 use Rattle.nf_facts.specs.Passing.{is_among, is_yes, halfwidth_marks, vowel_signs, passes_check}
+use Rattle.nf_forms.specs.Laws.ClosedForms.{counts_anew-lead, parting-boundary, boundary-decomposing}
 use Rattle.unicode_normalization.proofs.FormsLemmas.{is_yes-true}
-use Rattle.nf_boundary.specs.declared.seen.Seen.{Seen}
-use Rattle.nf_boundary.specs.Seen.{Sees, IsAtBoundary}
 
 -- what passes is a starter of which the quick check says yes
 module _ (f : Form) (c : ℕ) (passes : IsTrue (passes_check f c)) where
@@ -59,32 +44,25 @@ module _ (f : Form) (seen : Seen) (here : Sees f seen) where
     marks : (is_among halfwidth_marks seen.character ≡ false) × (is_among vowel_signs seen.character ≡ false)
     marks = or_parts (is_among halfwidth_marks seen.character) (is_among vowel_signs seen.character) plain
 
-    starter : canonical_combining_class seen.character ≡ 0
-    starter = sym here.class ∙ class
-
     -- in a form that composes
     pub boundary_composing : ((c : ℕ) → IsTrue (passes_check f c) → IsParting ucd f c) → seen.answer ≡ Yes → IsAtBoundary f seen
     boundary_composing parting is =
         at (parting-boundary ucd f seen.character (parting seen.character (passing class is marks.0)))
 
-    -- where it is changed, by its decomposition
-    pub boundary_row : ((c : ℕ) → canonical_combining_class c ≡ 0 → is_among vowel_signs c ≡ false → is_among halfwidth_marks c ≡ false → lead ucd (ucd.compat c) ≡ 0)
-        → BeginsAnew ucd f seen.character → IsAtBoundary f seen
-    boundary_row begins anew =
-        at (record { anew = anew; counts = counts_anew-lead ucd f seen.character (sound seen.character) (begins seen.character starter marks.1 marks.0) })
+    module _ (begins : (c : ℕ) → canonical_combining_class c ≡ 0 → is_among vowel_signs c ≡ false → is_among halfwidth_marks c ≡ false → lead ucd (ucd.compat c) ≡ 0) where
+      none : lead ucd (ucd.compat seen.character) ≡ 0
+      none = begins seen.character (sym here.class ∙ class) marks.1 marks.0
 
-    -- in one that does not
-    pub boundary_apart : ((c : ℕ) → canonical_combining_class c ≡ 0 → is_among vowel_signs c ≡ false → is_among halfwidth_marks c ≡ false → lead ucd (ucd.compat c) ≡ 0)
-        → composes f ≡ false → IsAtBoundary f seen
-    boundary_apart begins apart =
-        at (boundary-decomposing ucd f apart seen.character (sound seen.character) (begins seen.character starter marks.1 marks.0))
+      -- where it is changed, by its decomposition
+      pub boundary_row : BeginsAnew ucd f seen.character → IsAtBoundary f seen
+      boundary_row anew = at (record { anew = anew; counts = counts_anew-lead ucd f seen.character (sound seen.character) none })
+
+      -- in one that does not
+      pub boundary_apart : composes f ≡ false → IsAtBoundary f seen
+      boundary_apart apart = at (boundary-decomposing ucd f apart seen.character (sound seen.character) none)
 
   -- where it is a leading consonant of Hangul
   pub boundary_leading : ((c : ℕ) → IsTrue (is_sound ucd c)) → ((c : ℕ) → IsTrue (passes_check f c) → IsParting ucd f c) → 0x1100 ≤ seen.character → seen.character < 0x1113 → seen.class ≡ 0 → seen.answer ≡ Yes
       → IsAtBoundary f seen
   boundary_leading sound parting low high class is =
-      let other : (x : ℕ) → seen.character ≢ x → (seen.character == x) ≡ false = ne_eqb seen.character in
-      boundary_composing sound class
-      (or_from _ _ (or_from _ _ (other 0xFF9E (λ e. omega arith)) (or_from _ _ (other 0xFF9F (λ e. omega arith)) refl))
-      (or_from _ _ (other 0xF73 (λ e. omega arith)) (or_from _ _ (other 0xF75 (λ e. omega arith)) (or_from _ _ (other 0xF81 (λ e. omega arith)) refl))))
-      parting is
+      boundary_composing sound class (grind (arith, nat_tests)) parting is

@@ -1,18 +1,8 @@
 -- A starter that walks over the marks behind it, and composes with those that nothing blocks (The Unicode Standard, section
 -- 3.11, D117).
-use Rattle.std.proofs.Common.{◌≡◌, ℕ, zero, suc, ◌||◌, ◌+◌, ◌<◌, ◌≤◌, max, false, leb, List, [], ◌∷◌, ◌++◌, length, map, take, get_or, Option, Some, None, sym, ap, ◌∙◌, subst, arith}
-use Rattle.std.proofs.lemmas.Bool.{or_parts, eqb-false}
-use Rattle.std.proofs.lemmas.Bool.Decides.{nat_tests}
-use Rattle.std.proofs.lemmas.List.{length-map, length-append, get_or-map, take_more}
-use Rattle.std.proofs.lemmas.List.Folds.{list_any-append}
+use Rattle.std.proofs.Common.{◌≡◌, ℕ, zero, suc, ◌||◌, ◌+◌, ◌<◌, ◌≤◌, max, false, leb, List, [], ◌∷◌, ◌++◌, length, map, take, get_or, Option, Some, None, sym, ap, ◌∙◌, arith, if◌then◌else◌, fold}
+use Rattle.nf_boundary.proofs.Common.{or_parts, nat_tests, length-map, length-append, get_or-map, take_more, list_any-append, list_any, Properties, is_starter, has_starter, composite, replaced, join, Mark, mark_of}
 use Rattle.std.proofs.lemmas.List.Sums.{fold-append}
-use Rattle.std.specs.Prelude.{if◌then◌else◌, fold}
-use Rattle.std.specs.List.{list_any}
-use Rattle.nf_forms.specs.Properties.{Properties, is_starter}
-use Rattle.nf_forms.specs.Runs.{has_starter}
-use Rattle.nf_forms.specs.Compose.{composite, replaced, join}
-use Rattle.nf_boundary.specs.declared.mark.Mark.{Mark}
-use Rattle.nf_boundary.specs.Mark.{mark_of}
 
 -- after i marks: the starter, those that are left, and the greatest class of these
 pub record Walks (p : Properties) (first : ℕ) (marks : List Mark) (i highest starter : ℕ) (text : List ℕ) : Type 0 where
@@ -30,17 +20,14 @@ module _ (p : Properties) (first : ℕ) (marks : List Mark) where
 
   above : (m : List ℕ) (i : ℕ) → has_starter p m ≡ false → i < length m → 0 < p.class (get_or m i 0)
   above [] i plain below = absurd (omega arith)
-  above (c ∷ m) zero plain below = let other = eqb-false (p.class c) 0 ((or_parts (is_starter p c) (has_starter p m) plain).0) in some other
-    where
-      some : (p.class c ≡ 0 → ⊥) → 0 < p.class c
-      some other = omega arith
+  above (c ∷ m) zero plain below = grind (arith, nat_tests)
   above (c ∷ m) (suc i) plain below = above m i ((or_parts (is_starter p c) (has_starter p m) plain).1) (omega arith)
 
-  module _ (i highest starter : ℕ) (text : List ℕ) (w : Walks p first marks i highest starter text) (below : i < length marks) (mark : Mark) (read : mark ≡ get_or marks i mark) where
+  module _ (i highest starter : ℕ) (text : List ℕ) (w : Walks p first marks i highest starter text) (below : i < length marks) (mark : Mark) (read : mark ≡ get_or marks i mark)
+      (o : Option ℕ) (joins : o ≡ (if leb mark.class highest then None else composite p starter mark.character)) where
     -- what the next mark becomes with what stands there
-    next : (m : List ℕ) → marks ≡ map (mark_of p) m → has_starter p m ≡ false → (o : Option ℕ) → o ≡ (if leb mark.class highest then None else composite p starter mark.character)
-        → fold (join p) (first ∷ []) (take (i + 1) m) ≡ replaced o starter w.left mark.character
-    next m same plain o joins =
+    next : (m : List ℕ) → marks ≡ map (mark_of p) m → has_starter p m ≡ false → fold (join p) (first ∷ []) (take (i + 1) m) ≡ replaced o starter w.left mark.character
+    next m same plain =
         let long : length marks ≡ length m = ap (λ v. length v) same ∙ length-map m (mark_of p) in
         let is : mark ≡ mark_of p (get_or m i 0) = mark_at m i mark same below read in
         let x = get_or m i 0 in
@@ -51,23 +38,21 @@ module _ (p : Properties) (first : ℕ) (marks : List Mark) where
         ∙ ap (λ b. replaced (if b then None else composite p starter x) starter w.left x) (w.blocks m same plain (p.class x) class)
         ∙ sym (ap (λ k. replaced o starter w.left k.character) is ∙ ap (λ o. replaced o starter w.left x) (joins ∙ ap (λ k. if leb k.class highest then None else composite p starter k.character) is))
 
-    pub walks_joined : (o : Option ℕ) → o ≡ (if leb mark.class highest then None else composite p starter mark.character)
-        → (d : ℕ) → o ≡ Some d → Walks p first marks (i + 1) highest d text
-    walks_joined o joins d is = record {
+    pub walks_joined : (d : ℕ) → o ≡ Some d → Walks p first marks (i + 1) highest d text
+    walks_joined d is = record {
       left = w.left;
       text_is = w.text_is;
       room = let room = w.room in omega arith;
-      made = λ m same plain. next m same plain (Some d) (sym is ∙ joins);
+      made = λ m same plain. next m same plain ∙ ap (λ o. replaced o starter w.left mark.character) is;
       blocks = w.blocks;
     }
 
-    pub walks_left : (o : Option ℕ) → o ≡ (if leb mark.class highest then None else composite p starter mark.character)
-        → o ≡ None → Walks p first marks (i + 1) (max highest mark.class) starter (text ++ mark.character ∷ [])
-    walks_left o joins is = record {
+    pub walks_left : o ≡ None → Walks p first marks (i + 1) (max highest mark.class) starter (text ++ mark.character ∷ [])
+    walks_left is = record {
       left = w.left ++ mark.character ∷ [];
       text_is = ap (λ v. v ++ mark.character ∷ []) w.text_is;
       room = let room = w.room in omega (arith, length-append w.left (mark.character ∷ []));
-      made = λ m same plain. next m same plain None (sym is ∙ joins);
+      made = λ m same plain. next m same plain ∙ ap (λ o. replaced o starter w.left mark.character) is;
       blocks = λ m same plain k some.
           list_any-append (λ x. leb k (p.class x)) w.left (mark.character ∷ [])
           ∙ ap (λ b. b || (leb k (p.class mark.character) || false)) (w.blocks m same plain k some)
@@ -77,7 +62,3 @@ module _ (p : Properties) (first : ℕ) (marks : List Mark) where
       where
         leb_max : (k a b : ℕ) → (leb k a || (leb k b || false)) ≡ leb k (max a b)
         leb_max k a b = grind (arith, nat_tests)
-
-  pub walks_same : (i : ℕ) (h k s t : ℕ) (v w : List ℕ) → k ≡ h → t ≡ s → w ≡ v → Walks p first marks i h s v → Walks p first marks i k t w
-  walks_same i h k s t v w kh ts wv walk =
-      subst (λ v. Walks p first marks i k t v) (sym wv) (subst (λ s. Walks p first marks i k s v) (sym ts) (subst (λ h. Walks p first marks i h s v) (sym kh) walk))

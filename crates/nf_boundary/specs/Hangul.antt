@@ -1,5 +1,5 @@
 -- A Hangul syllable that is written with letters (The Unicode Standard, section 3.12).
-use Rattle.std.specs.Prelude.{◌≡◌, ℕ, List, [], ◌∷◌, ◌++◌, chars, IsUtf8}
+use Rattle.std.specs.Prelude.{◌≡◌, ℕ, List, [], ◌∷◌, ◌++◌, encode_utf8_all}
 use Rattle.nf_forms.specs.Cluster.{IsCluster}
 use Rattle.nf_forms.specs.Ucd.{ucd}
 
@@ -7,6 +7,5 @@ use Rattle.nf_forms.specs.Ucd.{ucd}
 pub record Spells (letter : ℕ) (text rest : List ℕ) (syllable : ℕ) : Type 0 where
   pub front : List ℕ
   pub count : ℕ
-  pub split : text ≡ front ++ rest
-  pub utf8 : IsUtf8 front
-  pub made : IsCluster ucd (letter ∷ chars front) syllable [] 0 0 count
+  pub split : text ≡ encode_utf8_all front ++ rest
+  pub made : IsCluster ucd (letter ∷ front) syllable [] 0 0 count

@@ -1,5 +1,5 @@
 -- What the characters of clusters have become.
-use Rattle.std.specs.Prelude.{◌≡◌, ℕ, List, [], ◌∷◌, ◌++◌, chars, encode_utf8_all, IsUtf8}
+use Rattle.std.specs.Prelude.{◌≡◌, ℕ, List, [], ◌∷◌, ◌++◌, encode_utf8_all}
 use Rattle.nf_forms.specs.declared.form.Form.{Form}
 use Rattle.nf_forms.specs.Closed.{BeginsAtBoundary}
 use Rattle.nf_forms.specs.Cluster.{AreClusters}
@@ -15,9 +15,8 @@ AreMadeOf done cs cluster = AreClusters ucd done cs cluster.starter cluster.left
 -- a front of the text joins what there was, and the rest stands behind it
 pub record JoinsFront (text rest : List ℕ) (old new : Cluster) : Type 0 where
   pub front : List ℕ
-  pub split : text ≡ front ++ rest
-  pub utf8 : IsUtf8 front
-  pub joins : (done cs : List ℕ) → AreMadeOf done cs old → AreMadeOf done (cs ++ chars front) new
+  pub split : text ≡ encode_utf8_all front ++ rest
+  pub joins : (done cs : List ℕ) → AreMadeOf done cs old → AreMadeOf done (cs ++ front) new
 
 -- a character more joins the cluster, or ends it, and then what it has become is appended
 pub record Joins (c : ℕ) (old new : Cluster) (before after : List ℕ) : Type 0 where
@@ -29,9 +28,8 @@ pub record Joins (c : ℕ) (old new : Cluster) (before after : List ℕ) : Type 
 pub record Gathers (f : Form) (first next : Seen) (cluster : Cluster) (old new : List ℕ) : Type 0 where
   pub front : List ℕ
   pub done : List ℕ
-  pub split : first.text.now ≡ front ++ next.text.now
-  pub utf8 : IsUtf8 front
-  pub begins : BeginsAtBoundary ucd f (chars front)
+  pub split : first.text.now ≡ encode_utf8_all front ++ next.text.now
+  pub begins : BeginsAtBoundary ucd f front
   pub sees : Sees f next
   pub formed : new ≡ old ++ encode_utf8_all done
-  pub made : AreMadeOf done (chars front) cluster
+  pub made : AreMadeOf done front cluster

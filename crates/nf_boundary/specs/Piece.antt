@@ -1,5 +1,5 @@
 -- What the characters from a boundary on have become, by their decompositions, in whatever order non-starters stand.
-use Rattle.std.specs.Prelude.{◌≡◌, ◌≤◌, ◌+◌, ℕ, true, false, List, ◌∷◌, ◌++◌, map, chars, encode_utf8_all, IsUtf8}
+use Rattle.std.specs.Prelude.{◌≡◌, ◌≤◌, ◌+◌, ℕ, true, false, List, ◌∷◌, ◌++◌, map, encode_utf8_all}
 use Rattle.nf_forms.specs.Properties.{is_starter}
 use Rattle.nf_forms.specs.Runs.{has_starter, trail, longest}
 use Rattle.nf_forms.specs.Order.{by_class}
@@ -34,9 +34,8 @@ pub record Leaves (cs : List ℕ) (room : ℕ) : Type 0 where
 -- the characters from `first` on that stand before `next` have become so much
 pub record Fills (f : Form) (first next : Seen) (piece : Piece) (before now : List ℕ) : Type 0 where
   pub front : List ℕ
-  pub split : first.text.now ≡ front ++ next.text.now
-  pub utf8 : IsUtf8 front
-  pub begins : BeginsAtBoundary ucd f (chars front)
-  pub becomes : Becomes f (decomposed f ucd (chars front)) piece.starter piece.run.items before now
-  pub leaves : Leaves (chars front) piece.room
+  pub split : first.text.now ≡ encode_utf8_all front ++ next.text.now
+  pub begins : BeginsAtBoundary ucd f front
+  pub becomes : Becomes f (decomposed f ucd front) piece.starter piece.run.items before now
+  pub leaves : Leaves front piece.room
   pub sees : Sees f next

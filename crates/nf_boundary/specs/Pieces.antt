@@ -1,5 +1,5 @@
--- A text from one normalization boundary to another, piece by piece, in bytes of UTF-8.
-use Rattle.std.specs.Prelude.{◌≡◌, ◌⊎◌, ℕ, List, [], ◌++◌, chars, encode_utf8_all, IsUtf8}
+-- A text from one normalization boundary to another, piece by piece.
+use Rattle.std.specs.Prelude.{◌≡◌, ◌⊎◌, ℕ, List, [], ◌++◌, chars, encode_utf8_all}
 use Rattle.nf_forms.specs.declared.form.Form.{Form}
 use Rattle.nf_forms.specs.Closed.{HasForm}
 use Rattle.nf_forms.specs.Ucd.{ucd}
@@ -10,9 +10,8 @@ use Rattle.nf_boundary.specs.Seen.{IsAtBoundary}
 pub record Closes (f : Form) (text : List ℕ) (next : Seen) (old new : List ℕ) : Type 0 where
   pub piece : List ℕ
   pub more : List ℕ
-  pub split : text ≡ piece ++ next.text.now
-  pub utf8 : IsUtf8 piece
-  pub form : HasForm ucd f (chars piece) more
+  pub split : text ≡ encode_utf8_all piece ++ next.text.now
+  pub form : HasForm ucd f piece more
   pub formed : new ≡ old ++ encode_utf8_all more
   pub behind : IsAtBoundary f next
 
@@ -20,9 +19,8 @@ pub record Closes (f : Form) (text : List ℕ) (next : Seen) (old new : List ℕ
 -- `same` as it stands and then `formed`, in UTF-8
 pub record Reaches (f : Form) (whole same formed : List ℕ) (next : Seen) : Type 0 where
   pub front : List ℕ
-  pub split : whole ≡ front ++ next.text.now
-  pub utf8 : IsUtf8 front
+  pub split : whole ≡ encode_utf8_all front ++ next.text.now
   pub more : List ℕ
   pub put : formed ≡ encode_utf8_all more
-  pub form : ((front ≡ []) × (same ≡ []) × (more ≡ [])) ⊎ HasForm ucd f (chars front) (chars same ++ more)
+  pub form : ((front ≡ []) × (same ≡ []) × (more ≡ [])) ⊎ HasForm ucd f front (chars same ++ more)
   pub behind : IsAtBoundary f next

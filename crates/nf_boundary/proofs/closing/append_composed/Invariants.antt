@@ -1,4 +1,4 @@
-use Rattle.std.proofs.Common.{◌+◌, ◌≤◌, length}
+use Rattle.nf_boundary.proofs.Common.{◌+◌, ◌≤◌, length}
 use Rattle.nf_boundary.proofs.WalkLemmas.{Walks}
 use Rattle.nf_boundary.proofs.closing.append_composed.Given as goal
 

@@ -1,5 +1,4 @@
-use Rattle.std.proofs.Common.{length}
-use Rattle.nf_boundary.specs.Joins.{Gathers}
+use Rattle.nf_boundary.proofs.Common.{length, Gathers}
 use Rattle.nf_boundary.proofs.composing.append_clusters.Given as goal
 
 abbrev pub invariant-loop-cluster : goal.invariant-loop-cluster

@@ -1,6 +1,4 @@
-use Rattle.std.proofs.Common.{ℕ, List, length}
-use Rattle.nf_boundary.specs.Seen.{IsAtBoundary}
-use Rattle.nf_boundary.specs.Pieces.{Reaches}
+use Rattle.nf_boundary.proofs.Common.{ℕ, List, length, IsAtBoundary, Reaches}
 use Rattle.nf_boundary.proofs.composing.compose_front.Given as goal
 
 abbrev pub invariant-loop-behind : goal.invariant-loop-behind

@@ -1,4 +1,4 @@
-use Rattle.std.proofs.Common.{◌≡◌, ◌+◌, ◌≤◌, ◌*◌, ◌++◌, length, take, encode_utf8_all}
+use Rattle.nf_boundary.proofs.Common.{◌≡◌, ◌+◌, ◌≤◌, ◌*◌, ◌++◌, length, take, encode_utf8_all}
 use Rattle.nf_boundary.proofs.encoding.put_utf8.Given as goal
 
 abbrev pub invariant-loop-c : goal.invariant-loop-c

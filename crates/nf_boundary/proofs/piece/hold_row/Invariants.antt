@@ -1,7 +1,4 @@
-use Rattle.std.proofs.Common.{◌≡◌, ◌+◌, ◌++◌, ℕ, List, false, take}
-use Rattle.nf_forms.specs.Runs.{has_starter}
-use Rattle.nf_forms.specs.Ucd.{ucd}
-use Rattle.nf_boundary.specs.Piece.{Becomes}
+use Rattle.nf_boundary.proofs.Common.{◌≡◌, ◌+◌, ◌++◌, ℕ, List, false, take, has_starter, ucd, Becomes}
 use Rattle.nf_boundary.proofs.piece.hold_row.Given as goal
 
 abbrev pub invariant-loop-member : goal.invariant-loop-member

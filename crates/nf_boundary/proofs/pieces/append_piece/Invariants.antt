@@ -1,5 +1,4 @@
-use Rattle.std.proofs.Common.{length}
-use Rattle.nf_boundary.specs.Piece.{Fills}
+use Rattle.nf_boundary.proofs.Common.{length, Fills}
 use Rattle.nf_boundary.proofs.pieces.append_piece.Given as goal
 
 abbrev pub invariant-loop-next : goal.invariant-loop-next

@@ -1,19 +1,10 @@
-use Rattle.std.proofs.Common.{rules, ◌≡◌, sym, subst}
-use Rattle.nf_boundary.specs.Pieces.{Reaches}
+use Rattle.nf_boundary.proofs.Common.{arith, rules}
+use Rattle.std.proofs.lemmas.Grind.{common_steps}
 use Rattle.nf_boundary.proofs.PieceLemmas.{closes_shorter, reaches_more}
 use Rattle.nf_boundary.proofs.pieces.pieces_in.Goals as goal
 
 pub loop-behind-smaller : goal.loop-behind-smaller
-loop-behind-smaller c = closes_shorter c.args.form c.loop-behind.next.seen.text.now c.in-Some.behind.seen c.loop-behind.formed.items c.take_piece.new.formed.items c.in-Some.ensures.closes
+loop-behind-smaller c = search (rules, closes_shorter)
 
 pub loop-behind-preserved : goal.loop-behind-preserved
-loop-behind-preserved c = record {
-  row = c.in-Some.ensures.row;
-  reaches = λ whole same before.
-      reaches_more c.args.form whole same c.loop-behind.formed.items c.loop-behind.next.seen (c.loop-behind.invariant.reaches whole same before) c.in-Some.behind.seen c.take_piece.new.formed.items c.in-Some.ensures.closes;
-}
-
-pub returns : goal.returns
-returns c = λ whole same before.
-    let stays : c.take_piece.new.formed ≡ c.loop-behind.formed = search rules in
-    subst (λ formed. Reaches c.args.form whole same formed.items c.loop-behind.next.seen) (sym stays) (c.loop-behind.invariant.reaches whole same before)
+loop-behind-preserved c = grind (arith, common_steps, reaches_more)

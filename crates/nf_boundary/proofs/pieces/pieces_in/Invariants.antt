@@ -1,6 +1,4 @@
-use Rattle.std.proofs.Common.{ℕ, List, length}
-use Rattle.nf_boundary.specs.Rows.{IsRow}
-use Rattle.nf_boundary.specs.Pieces.{Reaches}
+use Rattle.nf_boundary.proofs.Common.{ℕ, List, length, IsRow, Reaches}
 use Rattle.nf_boundary.proofs.pieces.pieces_in.Given as goal
 
 abbrev pub invariant-loop-behind : goal.invariant-loop-behind

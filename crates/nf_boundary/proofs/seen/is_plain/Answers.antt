@@ -1,8 +1,5 @@
-use Rattle.std.proofs.Common.{◌≡◌, ℕ, ◌≤◌, Bool, true, false, ◌&&◌, ◌||◌, nat_le, List, [], ◌∷◌, refl, ap, arith, leb-true, le-leb}
-use Rattle.std.proofs.lemmas.Bool.{and_parts, and_from}
+use Rattle.nf_boundary.proofs.Common.{◌≡◌, ℕ, ◌≤◌, Bool, true, false, ◌&&◌, ◌||◌, nat_le, List, [], ◌∷◌, refl, arith, nat_tests, Form, Nfc, Nfd, Nfkc, Nfkd}
 use Rattle.ucd_table.specs.Rows.{Range, in_ranges}
-use Rattle.nf_forms.specs.declared.form.Form.{Form}
-use Rattle.nf_forms.specs.declared.form.Form.TheVariants.{Nfc, Nfd, Nfkc, Nfkd}
 use Rattle.nf_facts.specs.PlainRanges.{plain_ranges}
 use Rattle.nf_boundary.proofs.seen.is_plain.Goals as goal
 
@@ -11,20 +8,11 @@ abbrev lies_within : List Range → ℕ → ℕ → Bool
 lies_within [] first last = false
 lies_within (r ∷ rs) first last = (nat_le r.0 first && nat_le last r.1) || lies_within rs first last
 
-or_each : (a b x y : Bool) → (a ≡ true → x ≡ true) → (b ≡ true → y ≡ true) → (a || b) ≡ true → (x || y) ≡ true
-or_each true b x y left right e = ap (λ z. z || y) (left refl)
-or_each false b true y left right e = refl
-or_each false b false y left right e = right e
-
 in_ranges-lies_within : (rs : List Range) (first last c : ℕ) → first ≤ c → c ≤ last → lies_within rs first last ≡ true → in_ranges rs c ≡ true
 unfolding in_ranges
 in_ranges-lies_within [] first last c low high within = cc
 in_ranges-lies_within (r ∷ rs) first last c low high within =
-    or_each (nat_le r.0 first && nat_le last r.1) (lies_within rs first last) (nat_le r.0 c && nat_le c r.1) (in_ranges rs c)
-    (λ here.
-    let both = and_parts (nat_le r.0 first) (nat_le last r.1) here in
-    and_from (nat_le r.0 c) (nat_le c r.1) (le-leb r.0 c (omega (arith, leb-true r.0 first both.0))) (le-leb c r.1 (omega (arith, leb-true last r.1 both.1))))
-    (in_ranges-lies_within rs first last c low high) within
+    grind (arith, nat_tests, in_ranges-lies_within rs first last c low high)
 
 plain_in : (f : Form) → (lies_within (plain_ranges f) 0 0x7F ≡ true) × (lies_within (plain_ranges f) 0x627 0x64A ≡ true) × (lies_within (plain_ranges f) 0x3400 0x9FFF ≡ true)
 unfolding plain_ranges

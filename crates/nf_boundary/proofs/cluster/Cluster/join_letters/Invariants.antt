@@ -1,6 +1,4 @@
-use Rattle.std.proofs.Common.{length}
-use Rattle.std.specs.Str.{IsUtf8}
-use Rattle.nf_boundary.specs.Joins.{JoinsFront}
+use Rattle.nf_boundary.proofs.Common.{length, IsUtf8, JoinsFront}
 use Rattle.nf_boundary.proofs.cluster.Cluster.join_letters.Given as goal
 
 abbrev pub invariant-loop-behind : goal.invariant-loop-behind

@@ -1,7 +1,4 @@
-use Rattle.std.proofs.Common.{◌+◌, take}
-use Rattle.nf_forms.specs.Forms.{row_of}
-use Rattle.nf_forms.specs.Ucd.{ucd}
-use Rattle.nf_boundary.specs.Piece.{Becomes}
+use Rattle.nf_boundary.proofs.Common.{◌+◌, take, row_of, ucd, Becomes}
 use Rattle.nf_boundary.proofs.piece.Piece.begin.Given as goal
 
 abbrev pub invariant-loop-member : goal.invariant-loop-member

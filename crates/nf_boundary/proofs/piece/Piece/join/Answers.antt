@@ -1,5 +1,4 @@
-use Rattle.std.proofs.Common.{rules, ◌≢◌}
-use Rattle.ucd_normal.specs.declared.forms.QuickCheck.TheVariants.{No}
+use Rattle.nf_boundary.proofs.Common.{rules, ◌≢◌, No}
 use Rattle.nf_boundary.proofs.FillsLemmas.{leaves_mark}
 use Rattle.nf_boundary.proofs.piece.Piece.join.Goals as goal
 

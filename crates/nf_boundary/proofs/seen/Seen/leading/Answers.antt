@@ -1,6 +1,4 @@
-use Rattle.std.proofs.Common.{◌++◌, ◌≤◌, ◌<◌, ℕ, refl, sym, ap, ◌∙◌, arith}
-use Rattle.std.specs.Prelude.{encode_utf8}
-use Rattle.nf_boundary.specs.Seen.{Sees}
+use Rattle.nf_boundary.proofs.Common.{◌++◌, ◌≤◌, ◌<◌, ℕ, refl, sym, ap, ◌∙◌, arith, encode_utf8, Sees}
 use Rattle.nf_boundary.proofs.SeenLemmas.{boundary_leading}
 use Rattle.nf_boundary.proofs.seen.Seen.leading.Goals as goal
 
@@ -13,7 +11,6 @@ returns c =
     let sees : Sees c.args.form _ = record {
       text = e;
       text_utf8 = c.utf8.text;
-      behind_utf8 = c.as_str.utf8;
       class = sym (c.hangul_letters_are_their_own_rows.ensures.starter letter low (omega arith));
       answer = sym (c.leading_consonants_pass.ensures c.args.form letter low high);
     } in (refl, boundary_leading c.args.form _ sees c.every_character_is_sound.ensures.character (c.the_quick_check_tells.ensures.parting c.args.form) low high refl refl)
