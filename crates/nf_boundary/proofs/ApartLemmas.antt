@@ -3,7 +3,7 @@ use Rattle.std.proofs.Common.{◌≡◌, ℕ, true, false, List, ◌++◌, refl,
 use Rattle.nf_boundary.proofs.Common.{Form, Nfc, Nfd, Nfkc, Nfkd, row_of, composes, is_sound, ucd, HasForm-row, kit_form, Seen, IsAtBoundary, Closes}
 use Rattle.nf_forms.specs.Ordering.{is_ordered}
 use Rattle.unicode_normalization.specs.Decompose.{decompose}
-use Rattle.nf_boundary.proofs.LetterLemmas.{boundary-first, closes_letter}
+use Rattle.nf_boundary.proofs.LetterLemmas.{closes_letter}
 
 -- what the kit calls the decomposition of a character is the row
 pub row_is : (f : Form) (c : ℕ) → decompose (kit_form f) c ≡ row_of f ucd c
@@ -24,5 +24,5 @@ pub closes_apart : (f : Form) (first : Seen) → IsAtBoundary f first → compos
     → (old new : List ℕ) → new ≡ old ++ encode_utf8_all (decompose (kit_form f) first.character) → Closes f first.text.now next old new
 closes_apart f first at plain sound canonical compat next is behind old new formed =
     closes_letter f first at next is behind (row_of f ucd first.character)
-    (HasForm-row ucd f plain first.character (boundary-first f first at) (sound first.character) (row_ordered canonical compat f first.character))
+    (HasForm-row ucd f plain first.character at.boundary (sound first.character) (row_ordered canonical compat f first.character))
     old new (formed ∙ ap (λ k. old ++ encode_utf8_all k) (row_is f first.character))

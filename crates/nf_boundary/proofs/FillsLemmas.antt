@@ -7,7 +7,7 @@ use Rattle.nf_forms.specs.Laws.StreamSafe.{decomposed-push}
 use Rattle.nf_forms.specs.Laws.Audited.{stream_safe-short}
 use Rattle.nf_boundary.specs.declared.piece.Piece.{Piece}
 use Rattle.nf_boundary.proofs.JoinLemmas.{class_of}
-use Rattle.nf_boundary.proofs.LetterLemmas.{begins_more, begins_first, boundary-first, split_more, split_seen}
+use Rattle.nf_boundary.proofs.LetterLemmas.{begins_more, begins_first, split_more, split_seen}
 use Rattle.nf_boundary.proofs.BecomesLemmas.{becomes_one, leaves_own, leaves_more, row-of_marks}
 
 -- a row read member by member
@@ -37,7 +37,7 @@ module _ (f : Form) (first : Seen) (at : IsAtBoundary f first) where
   pub becomes_row : (row : List ℕ) (starter : ℕ) (others : List ℕ) → row ≡ row_of f ucd first.character → row ≡ starter ∷ others → (s : ℕ) (marks : List Mark) → s ≡ starter → marks ≡ [] → (before : List ℕ)
       → Becomes f (take 1 (row_of f ucd first.character)) s marks before before
   becomes_row row starter others is members s marks same alone before =
-      let anew = (boundary-first f first at).anew in
+      let anew = at.boundary.anew in
       let both : anew.first ∷ anew.rest ≡ starter ∷ others = sym anew.row ∙ sym is ∙ members in
       let one : anew.first ≡ starter = cc in
       becomes_one f s marks (take 1 (row_of f ucd first.character)) before

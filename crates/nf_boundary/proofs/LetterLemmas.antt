@@ -1,7 +1,6 @@
 -- Characters that are appended to a text, those that it begins with, and the first of them as a text of its own.
-use Rattle.std.proofs.Common.{◌≡◌, ℕ, List, [], ◌∷◌, ◌++◌, sym, ap, subst, ◌∙◌, append-nil, append_assoc, encode_utf8, encode_utf8_all}
-use Rattle.nf_boundary.proofs.Common.{encodes-append, Form, IsBoundary, BeginsAtBoundary, HasForm, ucd, Seen, Sees, IsAtBoundary, Closes}
-use Rattle.nf_boundary.proofs.SeenLemmas.{chars-seen}
+use Rattle.std.proofs.Common.{refl, ◌≡◌, ℕ, List, [], ◌∷◌, ◌++◌, sym, ap, ◌∙◌, append-nil, append_assoc, encode_utf8, encode_utf8_all}
+use Rattle.nf_boundary.proofs.Common.{encodes-append, Form, BeginsAtBoundary, HasForm, ucd, Seen, Sees, IsAtBoundary, Closes}
 
 -- characters appended to a text to which others were
 pub appended : (old a b new new' : List ℕ) → new ≡ old ++ encode_utf8_all a → new' ≡ new ++ encode_utf8_all b → new' ≡ old ++ encode_utf8_all (a ++ b)
@@ -24,19 +23,10 @@ split_seen f seen sees rest is = split_one seen.text.now rest seen.character (se
 pub begins_more : (f : Form) (cs more : List ℕ) → BeginsAtBoundary ucd f cs → BeginsAtBoundary ucd f (cs ++ more)
 begins_more f cs more b = record { first = b.first; rest = b.rest ++ more; text = ap (λ k. k ++ more) b.text; boundary = b.boundary; sound = b.sound }
 
--- ---- a text at a boundary, and its first character
+pub begins_first : (f : Form) (first : Seen) → IsAtBoundary f first → (rest : List ℕ) → BeginsAtBoundary ucd f (first.character ∷ rest)
+begins_first f first at rest = record { first = first.character; rest = rest; text = refl; boundary = at.boundary; sound = at.sound }
 
-module _ (f : Form) (first : Seen) (at : IsAtBoundary f first) where
-  first_is : at.begins.first ≡ first.character
-  first_is = cc (at.begins.text, chars-seen f first at.sees)
-
-  pub boundary-first : IsBoundary ucd f first.character
-  boundary-first = subst (IsBoundary ucd f) first_is at.begins.boundary
-
-  pub begins_first : (rest : List ℕ) → BeginsAtBoundary ucd f (first.character ∷ rest)
-  begins_first rest = record { first = at.begins.first; rest = rest; text = ap (λ k. k ∷ rest) (sym first_is); boundary = at.begins.boundary; sound = at.begins.sound }
-
--- it is closed, where a boundary comes behind it
+-- the character is closed, where a boundary comes behind it
 pub closes_letter : (f : Form) (first : Seen) → IsAtBoundary f first → (next : Seen) → next.text.now ≡ first.behind.now → IsAtBoundary f next
     → (more : List ℕ) → HasForm ucd f (first.character ∷ []) more → (old new : List ℕ) → new ≡ old ++ encode_utf8_all more → Closes f first.text.now next old new
 closes_letter f first at next is behind more form old new formed = record {

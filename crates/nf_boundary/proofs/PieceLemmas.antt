@@ -6,15 +6,13 @@ use Rattle.nf_calm.specs.Front.{IsCalmFront}
 use Rattle.nf_boundary.specs.Front.{IsClosedFront}
 use Rattle.nf_boundary.specs.Stands.{Stands}
 use Rattle.nf_boundary.proofs.LetterLemmas.{appended, split_more}
+use Rattle.nf_boundary.proofs.SeenLemmas.{chars-seen}
 
 -- what stands before a whole text, within a text, is text
 pub IsUtf8-before : (text front back : List ℕ) → IsUtf8 text → IsUtf8 back → text ≡ front ++ back → IsUtf8 front
 IsUtf8-before text front back whole u e =
     let n = length front in
     subst IsUtf8 (ap (take n) e ∙ take_at front back n refl) (IsUtf8-take text n whole (IsCharBoundary-at_seam text front back e u))
-
-chars-before : (whole front rest : List ℕ) → IsUtf8 whole → IsUtf8 rest → whole ≡ encode_utf8_all front ++ rest → front ≡ chars (encode_utf8_all front)
-chars-before whole front rest u v e = chars_from_encodes front (encode_utf8_all front) (IsUtf8-before whole (encode_utf8_all front) rest u v e) refl
 
 -- ---- a text cut at a seam
 
@@ -119,16 +117,18 @@ module _ (f : Form) where
 
     -- where it is not empty, it is a closed front
     pub closed_front : IsUtf8 whole → length next.text.now ≢ length whole → IsClosedFront ucd f whole same formed next.text.now
-    closed_front u some =
+    closed_front whole_utf8 some =
         let before = encode_utf8_all here.front in
+        let sees = here.behind.sees in
+        let u = IsUtf8-before whole before next.text.now whole_utf8 sees.text_utf8 here.split in
         ⊎_elim (λ none. absurd (some (sym (ap length (here.split ∙ ap (λ k. encode_utf8_all k ++ next.text.now) none.0)))))
         (λ form. record {
           front = before;
           text = here.split;
-          characters = ap chars here.split ∙ chars-append before next.text.now (IsUtf8-before whole before next.text.now u here.behind.sees.text_utf8 here.split);
+          characters = ap chars here.split ∙ chars-append before next.text.now u;
           more = here.more;
           put = here.put;
-          form = subst (λ k. HasForm ucd f k (chars same ++ here.more)) (chars-before whole here.front next.text.now u here.behind.sees.text_utf8 here.split) form;
-          next = here.behind.begins;
+          form = subst (λ k. HasForm ucd f k (chars same ++ here.more)) (chars_from_encodes here.front before u refl) form;
+          next = record { first = next.character; rest = chars next.behind.now; text = chars-seen f next sees; boundary = here.behind.boundary; sound = here.behind.sound };
         })
         here.form

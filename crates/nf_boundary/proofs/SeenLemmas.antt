@@ -35,11 +35,7 @@ module _ (f : Form) (seen : Seen) (here : Sees f seen) where
 
   module _ (sound : (c : ℕ) → IsTrue (is_sound ucd c)) (class : seen.class ≡ 0) (plain : (is_among halfwidth_marks seen.character || is_among vowel_signs seen.character) ≡ false) where
     at : IsBoundary ucd f seen.character → IsAtBoundary f seen
-    at boundary = record {
-      sees = here;
-      begins = record { first = seen.character; rest = chars seen.behind.now; text = chars-seen; boundary = boundary; sound = sound seen.character };
-      class = class;
-    }
+    at boundary = record { sees = here; boundary = boundary; sound = sound seen.character; class = class }
 
     marks : (is_among halfwidth_marks seen.character ≡ false) × (is_among vowel_signs seen.character ≡ false)
     marks = or_parts (is_among halfwidth_marks seen.character) (is_among vowel_signs seen.character) plain

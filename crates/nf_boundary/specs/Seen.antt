@@ -1,9 +1,10 @@
 -- The first character of a text, as one look-up sees it.
-use Rattle.std.specs.Prelude.{◌≡◌, ◌++◌, chars, encode_utf8, IsUtf8}
+use Rattle.std.specs.Prelude.{◌≡◌, true, ◌++◌, encode_utf8, IsUtf8}
 use Rattle.ucd_normal.specs.CanonicalCombiningClass.{canonical_combining_class}
 use Rattle.ucd_normal.specs.QuickCheck.{quick_check}
 use Rattle.nf_forms.specs.declared.form.Form.{Form}
-use Rattle.nf_forms.specs.Closed.{BeginsAtBoundary}
+use Rattle.nf_forms.specs.Parting.{IsBoundary}
+use Rattle.nf_forms.specs.Sound.{is_sound}
 use Rattle.nf_forms.specs.Ucd.{ucd}
 use Rattle.nf_facts.specs.KitForm.{kit_form}
 use Rattle.nf_boundary.specs.declared.seen.Seen.{Seen}
@@ -17,5 +18,6 @@ pub record Sees (f : Form) (seen : Seen) : Type 0 where
 -- a starter before which a text may be cut
 pub record IsAtBoundary (f : Form) (seen : Seen) : Type 0 where
   pub sees : Sees f seen
-  pub begins : BeginsAtBoundary ucd f (chars seen.text.now)
+  pub boundary : IsBoundary ucd f seen.character
+  pub sound : is_sound ucd seen.character ≡ true
   pub class : seen.class ≡ 0
