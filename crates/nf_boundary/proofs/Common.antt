@@ -1,21 +1,19 @@
 -- The names that most of these proofs cite, passed on from one place. Declares nothing.
 pub use Rattle.std.proofs.Common.{rules, ◌≡◌, ◌∙◌, length, ◌++◌, ℕ, refl, List, ap, sym, ◌∷◌, arith, encode_utf8_all, ◌+◌, [], false, ◌<◌, ◌≢◌, ◌≤◌, append_assoc, take, true, IsTrue, append-nil, encode_utf8, Some, eq-eqb, Bool, get_or, IsUtf8, leb, map, ◌&&◌, ◌||◌, insert, nat_le, ◌*◌, ◌-◌}
-pub use Rattle.std.proofs.lemmas.Bool.{ne_eqb, or_parts, and_from, and_parts, cases_eq, cond-true, eqb-false, leb-true, lt-leb, not_from_false, or_from}
+pub use Rattle.std.proofs.lemmas.Bool.{ne_eqb, or_parts, and_from, and_parts, cases_eq, cond-true, eqb-false, leb-true, not_from_false, or_from}
 pub use Rattle.std.proofs.lemmas.Bool.Decides.{nat_tests}
 pub use Rattle.std.proofs.lemmas.List.{take_more, take_all, get_or-map, get_or_default, length-append, length-map}
-pub use Rattle.std.proofs.lemmas.List.Folds.{list_any-append}
 pub use Rattle.std.proofs.lemmas.Str.{encodes-append, len_utf8_bounds, length-encode, IsCharBoundary-at_seam, IsUtf8-append, IsUtf8-take, chars-append, chars-nil, chars_from_encodes, chars_past_char, encodes-chars, length-le-encodes}
 pub use Rattle.std.specs.List.{prefix_len, list_any}
 pub use Rattle.nf_facts.specs.KitForm.{kit_form}
 pub use Rattle.nf_facts.specs.Passing.{passes_check, halfwidth_marks, is_among}
 pub use Rattle.nf_forms.specs.Calm.{IsCalm, IsMark}
 pub use Rattle.nf_forms.specs.Closed.{HasForm, BeginsAtBoundary}
-pub use Rattle.nf_forms.specs.Cluster.{IsOwnRow, AreClusters, IsCluster, blocks}
+pub use Rattle.nf_forms.specs.Cluster.{IsOwnRow, AreClusters, IsCluster}
 pub use Rattle.nf_forms.specs.Compose.{composite, compose, join, joined, replaced}
 pub use Rattle.nf_forms.specs.Forms.{row_of, composes, decomposed, finished, arranged}
 pub use Rattle.nf_forms.specs.Laws.ClosedForms.{HasForm-calm, HasForm-row, calm-front}
 pub use Rattle.nf_forms.specs.Laws.Cluster.{HasForm-cluster, cluster-joined, cluster-one, row-own}
-pub use Rattle.nf_forms.specs.Laws.Settling.{closed_off}
 pub use Rattle.nf_forms.specs.Laws.Sound.{IsSoundText, IsSound-from_test}
 pub use Rattle.nf_forms.specs.Parting.{BeginsAnew, IsBoundary, IsParting, NeverSecond}
 pub use Rattle.nf_forms.specs.Properties.{is_starter, Properties}
@@ -31,7 +29,6 @@ pub use Rattle.unicode_normalization.proofs.HangulLemmas.{IsLv, IsLvt, compose_h
 pub use Rattle.unicode_normalization.specs.Hangul.{compose_hangul, decompose_hangul, is_syllable}
 pub use Rattle.nf_boundary.specs.Joins.{Gathers, JoinsFront, AreMadeOf, Joins}
 pub use Rattle.nf_boundary.specs.Laws.Held.{held-characters, prefix_len-rising}
-pub use Rattle.nf_boundary.specs.Mark.{mark_of}
 pub use Rattle.nf_boundary.specs.Piece.{Becomes, Fills, Leaves}
 pub use Rattle.nf_boundary.specs.Pieces.{Closes, Reaches}
 pub use Rattle.nf_boundary.specs.Rows.{IsRow}

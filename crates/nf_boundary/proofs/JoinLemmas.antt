@@ -1,8 +1,7 @@
 -- A cluster of Unicode's characters: how a character more joins it, and what it is when a boundary comes.
-use Rattle.std.proofs.Common.{Option, ◌≡◌, ◌≢◌, ◌⊎◌, inl, inr, ℕ, ◌+◌, ◌<◌, ◌≤◌, Bool, true, false, not, ◌&&◌, ◌==◌, nat_le, cond, List, [], ◌∷◌, ◌++◌, length, Some, None, refl, sym, ap, ap₂, subst, ◌∙◌, append_assoc, append-nil, arith, eq-eqb, le-leb, encode_utf8, encode_utf8_all}
-use Rattle.nf_boundary.proofs.Common.{ucd, Sees, IsAtBoundary, Closes, Form, composes, Seen, Yes, No, canonical_combining_class, IsSoundText, ne_eqb, cases_eq, lt-leb, kit_form, quick_check, IsMark, composite, joined, IsOwnRow, blocks, AreClusters, AreMadeOf, JoinsFront, Joins, Gathers}
+use Rattle.std.proofs.Common.{Option, ◌≡◌, ◌≢◌, ◌⊎◌, inl, inr, ℕ, ◌+◌, ◌<◌, ◌≤◌, true, not, ◌&&◌, ◌==◌, nat_le, cond, List, [], ◌∷◌, ◌++◌, length, Some, None, refl, sym, ap, subst, ◌∙◌, append_assoc, append-nil, arith, eq-eqb, encode_utf8, encode_utf8_all}
+use Rattle.nf_boundary.proofs.Common.{ucd, Sees, IsAtBoundary, Closes, Form, composes, Seen, Yes, No, canonical_combining_class, IsSoundText, ne_eqb, cases_eq, kit_form, quick_check, IsMark, composite, joined, IsOwnRow, AreClusters, AreMadeOf, JoinsFront, Joins, Gathers}
 use Rattle.nf_forms.specs.Laws.Cluster.{cluster-joined, cluster-left, cluster-next, HasForm-cluster}
-use Rattle.std.proofs.Math.Bool.{and-false}
 use Rattle.ucd_normal.specs.declared.forms.Form.TheVariants.{Nfkd as KitNfkd}
 use Rattle.nf_boundary.specs.declared.cluster.Cluster.{Cluster}
 use Rattle.nf_boundary.proofs.LetterLemmas.{appended, begins_first, begins_more, split_one, split_more, split_seen}
@@ -11,21 +10,11 @@ pub class_of : (c : ℕ) → ucd.class c ≡ canonical_combining_class c
 unfolding ucd
 class_of c = refl
 
--- what `joined` is, by what blocks c
-module _ (done cs : List ℕ) (cluster : Cluster) (here : AreMadeOf done cs cluster) (c : ℕ) where
-  joined_by : (b : Bool) → blocks ucd cluster.left.items cluster.highest c ≡ b → joined ucd cluster.starter cluster.left.items c ≡ cond b None (composite ucd cluster.starter c)
-  joined_by b e = ap (λ t. cond t None (composite ucd cluster.starter c)) (here.blocked c ∙ e)
-
-  -- a mark that is left stands in its way
-  pub joined_blocked : (class : ℕ) → class ≡ canonical_combining_class c → length cluster.left.items ≢ 0 → class ≤ cluster.highest → joined ucd cluster.starter cluster.left.items c ≡ None
-  joined_blocked class is some within =
-      joined_by true (ap₂ (λ a b. not a && b) (ne_eqb (length cluster.left.items) 0 some) (le-leb (ucd.class c) cluster.highest (omega (arith, is, class_of c, within))))
-
-  pub joined_none : length cluster.left.items ≡ 0 → joined ucd cluster.starter cluster.left.items c ≡ composite ucd cluster.starter c
-  joined_none none = joined_by false (ap (λ a. not a && nat_le (ucd.class c) cluster.highest) (eq-eqb (length cluster.left.items) 0 none))
-
-  pub joined_above : (class : ℕ) → class ≡ canonical_combining_class c → cluster.highest < class → joined ucd cluster.starter cluster.left.items c ≡ composite ucd cluster.starter c
-  joined_above class is above = joined_by false (ap (λ b. not (length cluster.left.items == 0) && b) (lt-leb (ucd.class c) cluster.highest (omega (arith, is, class_of c, above))) ∙ and-false (not (length cluster.left.items == 0)))
+-- what `joined` is, by what blocks c: a mark that is left
+pub joined_is : (done cs : List ℕ) (cluster : Cluster) → AreMadeOf done cs cluster → (c class : ℕ) → class ≡ canonical_combining_class c
+    → joined ucd cluster.starter cluster.left.items c ≡ cond (not (length cluster.left.items == 0) && nat_le class cluster.highest) None (composite ucd cluster.starter c)
+joined_is done cs cluster here c class is =
+    ap (λ t. cond t None (composite ucd cluster.starter c)) (here.blocked c ∙ ap (λ k. not (length cluster.left.items == 0) && nat_le k cluster.highest) (class_of c ∙ sym is))
 
 -- a character that is not refused, and is a mark or passes NFKD, is its own row
 module _ (f : Form) (seen : Seen) (sees : Sees f seen) where
@@ -83,7 +72,7 @@ pub made_letter : (done cs : List ℕ) (cluster : Cluster) → AreMadeOf done cs
 made_letter done cs cluster here c own starter room none d both =
     let class = class_of c ∙ starter in
     subst (λ k. AreClusters ucd done (cs ++ c ∷ []) d cluster.left.items k cluster.highest (cluster.count + 1)) class
-    (cluster-joined ucd cs cluster.starter cluster.left.items cluster.last cluster.highest cluster.count here c own (inr class) room d (joined_none done cs cluster here c none ∙ both))
+    (cluster-joined ucd cs cluster.starter cluster.left.items cluster.last cluster.highest cluster.count here c own (inr class) room d (rw (joined_is done cs cluster here c (canonical_combining_class c) refl, none) both))
 
 pub joins_letter : (text rest : List ℕ) (old new : Cluster) (c : ℕ) → text ≡ encode_utf8 c ++ rest → ((done cs : List ℕ) → AreMadeOf done cs old → AreMadeOf done (cs ++ c ∷ []) new) → JoinsFront text rest old new
 joins_letter text rest old new c e joins = record { front = c ∷ []; split = split_one text rest c e; joins = joins }

@@ -1,4 +1,5 @@
-use Rattle.nf_boundary.proofs.Common.{◌++◌, Some, ap, ◌∙◌, encode_utf8_all, closed_off, ucd}
+use Rattle.nf_boundary.proofs.Common.{◌++◌, Some, ap, ◌∙◌, encode_utf8_all, ucd}
+use Rattle.nf_forms.specs.Laws.Settling.{closed_off}
 use Rattle.nf_boundary.proofs.BecomesLemmas.{becomes_closed, becomes_closed_one}
 use Rattle.nf_boundary.proofs.piece.Piece.close.Goals as goal
 
