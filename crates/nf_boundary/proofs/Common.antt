@@ -1,5 +1,6 @@
 -- The names that most of these proofs cite, passed on from one place. Declares nothing.
-pub use Rattle.std.proofs.Common.{rules, ◌≡◌, ◌∙◌, length, ◌++◌, ℕ, refl, List, ap, sym, ◌∷◌, arith, encode_utf8_all, ◌+◌, [], false, ◌<◌, ◌≢◌, ◌≤◌, append_assoc, take, true, IsTrue, append-nil, encode_utf8, Some, eq-eqb, Bool, get_or, IsUtf8, leb, map, ◌&&◌, ◌||◌, insert, nat_le, ◌*◌, ◌-◌}
+pub use Rattle.std.proofs.Common.{rules, ◌≡◌, ◌∙◌, length, ◌++◌, ℕ, refl, List, ap, sym, ◌∷◌, arith, ◌+◌, [], false, ◌<◌, ◌≢◌, ◌≤◌, append_assoc, take, true, append-nil, Some, eq-eqb, Bool, get_or, leb, map, ◌&&◌, ◌||◌, nat_le, ◌*◌, ◌-◌}
+pub use Rattle.std.specs.Prelude.{IsTrue, IsUtf8, encode_utf8, encode_utf8_all, insert}
 pub use Rattle.std.proofs.lemmas.Bool.{ne_eqb, or_parts, and_from, and_parts, cases_eq, cond-true, eqb-false, leb-true, not_from_false, or_from}
 pub use Rattle.std.proofs.lemmas.Bool.Decides.{nat_tests}
 pub use Rattle.std.proofs.lemmas.List.{take_more, take_all, get_or-map, get_or_default, length-append, length-map}

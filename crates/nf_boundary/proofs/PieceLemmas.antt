@@ -1,5 +1,6 @@
 -- A text closed piece by piece: its calm part, a piece more, and the front that comes of it.
-use Rattle.std.proofs.Common.{◌≡◌, ◌≢◌, ◌⊎◌, inl, inr, ⊎_elim, ℕ, ◌<◌, ◌-◌, List, [], ◌∷◌, ◌++◌, length, take, drop, refl, sym, ap, ap₂, subst, ◌∙◌, arith, append_assoc, append-nil, length-append, take_at, drop_at, chars, encode_utf8_all, IsUtf8, IsCharBoundary}
+use Rattle.std.proofs.Common.{◌≡◌, ◌≢◌, ◌⊎◌, inl, inr, ⊎_elim, ℕ, ◌<◌, ◌-◌, List, [], ◌∷◌, ◌++◌, length, take, drop, refl, sym, ap, ap₂, subst, ◌∙◌, arith, append_assoc, append-nil, length-append, take_at, drop_at, IsCharBoundary}
+use Rattle.std.specs.Prelude.{chars, encode_utf8_all, IsUtf8}
 use Rattle.nf_boundary.proofs.Common.{chars-nil, chars-append, chars_from_encodes, encodes-chars, length-le-encodes, IsUtf8-take, IsCharBoundary-at_seam, Form, IsCalm, HasForm, ucd, IsSoundText, calm-front, HasForm-calm, Seen, IsAtBoundary, Closes, Reaches}
 use Rattle.nf_forms.specs.Laws.Closed.{HasForm-append}
 use Rattle.nf_calm.specs.Front.{IsCalmFront}
