@@ -22,7 +22,7 @@ pub struct Counts {
 }
 
 impl Counts {
-    ghost use Rattle.std.specs.Prelude.{◌≡◌, ◌+◌, ◌<◌, ◌≤◌, ℕ, List, [], ◌++◌, IsTrue, false};
+    ghost use Rattle.std.specs.Prelude.{◌≡◌, ◌+◌, ◌-◌, ◌<◌, ◌≤◌, ◌⊎◌, ℕ, List, [], ◌++◌, IsTrue, false, if◌then◌else◌};
     ghost use Rattle.nf_forms.specs.Properties.{Properties};
     ghost use Rattle.nf_counts.specs.Counts.{HasCounts, HasValue};
 
@@ -52,6 +52,7 @@ impl Counts {
         ensures room { self.new.lead ≤ room }
         ensures counts { IsTrue result → (p : Properties) (w row : List ℕ) → HasValue p row value → HasCounts p w self.old → HasCounts p (w ++ row) self.new }
         ensures stays { result ≡ false → self.new ≡ self.old }
+        ensures refuses { result ≡ false → (4 ≤ value) × ((30 < self.old.trail + (value - 4)) ⊎ (room < (if self.old.has_starter then self.old.lead else self.old.trail + (value - 4)))) }
     {
         if value < 4 {
             self.nonstarters += u128::from(value);
