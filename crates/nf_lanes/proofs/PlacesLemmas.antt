@@ -1,11 +1,14 @@
 -- 16 places, what is read from them, and the first whose bit is set.
-use Rattle.std.proofs.Common.{◌≡◌, ℕ, zero, suc, ◌+◌, ◌-◌, ◌<◌, ◌≤◌, ⊎_elim, Bool, true, false, not, cond, List, ◌∷◌, map, length, get_or, eqb, refl, sym, ap, subst, ◌∙◌, arith}
+use Rattle.std.proofs.Common.{◌≡◌, ℕ, zero, suc, ◌+◌, ◌-◌, ◌*◌, ◌^◌, ◌<◌, ◌≤◌, ⊎_elim, Bool, true, false, not, cond, List, ◌∷◌, map, length, get_or, eqb, refl, sym, ap, subst, ◌∙◌, arith}
 use Rattle.std.specs.List.{prefix_len, range_with_len}
 use Rattle.std.proofs.str.Laws.{order}
 use Rattle.std.proofs.lemmas.List.Sums.{prefix_len-le-length, prefix_len_passes, prefix_len_stops}
+use Rattle.std.specs.Int.{bit_at}
+use Rattle.std.proofs.lemmas.List.{get_or-map, length-map}
+use Rattle.std.proofs.lemmas.Nat.Bits.{bit_at_cat_low, bit_at_cat_high}
 use Rattle.std.proofs.lemmas.List.FromFn.{get_or-range_with_len, length-range_with_len}
 use Rattle.std.proofs.lemmas.Bool.{not-true, not-false}
-use Rattle.std.proofs.lemmas.Simd.{map-map, pick_l-range_with_len, first_set_mask_l}
+use Rattle.std.proofs.lemmas.Simd.{map-map, pick_l-range_with_len, first_set_mask_l, mask_l-lt, bit_mask_l}
 use lib.Lanes.{chunk, mask_l}
 use lib.Count.{count_trailing_zeros}
 use Rattle.nf_lanes.specs.Lanes.{places, bits_at, NonePass, StopsAt}
@@ -75,3 +78,18 @@ module _ (p : ℕ → Bool) (at found : ℕ) (is : found ≡ bits_at p at) where
 
 pub NonePass-join : (p : ℕ → Bool) (at m n : ℕ) → NonePass p at m → NonePass p (at + m) n → NonePass p at (m + n)
 NonePass-join p at m n first second k low high = ⊎_elim (first k low) (λ behind. second k behind (omega arith)) (order k (at + m))
+
+pub bits_at-below : (p : ℕ → Bool) (at : ℕ) → bits_at p at < 65536
+bits_at-below p at = subst (λ n. bits_at p at < 2 ^ n) (length-map (places at) p ∙ length-places at) (mask_l-lt (map p (places at)))
+
+-- a bit of 16, and of 16 that stand below others
+pub bit_of : (p : ℕ → Bool) (at bits k place : ℕ) → bits ≡ bits_at p at → place ≡ at + k → k < 16 → bit_at bits k ≡ cond (p place) 1 0
+bit_of p at bits k place is there within =
+    ap (λ n. bit_at n k) is ∙ bit_mask_l (map p (places at)) k ∙ ap (λ b. cond b 1 0) (get_or-map p (places at) k 0 false (omega (arith, length-places at)) ∙ ap p (get_or-places at k within ∙ sym there))
+
+pub bit_below : (p : ℕ → Bool) (at rest bits k place : ℕ) → bits ≡ bits_at p at → place ≡ at + k → ((j : ℕ) → k ≡ 16 + j → bit_at rest j ≡ cond (p place) 1 0) → bit_at (rest * 65536 + bits) k ≡ cond (p place) 1 0
+bit_below p at rest bits k place is there others =
+    ⊎_elim
+    (λ low. bit_at_cat_low rest 16 bits k low ∙ bit_of p at bits k place is there low)
+    (λ high. bit_at_cat_high rest 16 bits k (omega (arith, is, bits_at-below p at)) high ∙ others (k - 16) (omega arith))
+    (order k 16)

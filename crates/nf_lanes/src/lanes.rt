@@ -1,6 +1,7 @@
 //! A bit for each of 16 places, the lowest for the first.
 
-ghost use Rattle.std.specs.Prelude.{◌≡◌, ◌≤◌, ◌+◌, ℕ, Bool, length, slice_index, map, not, ◌==◌, bit_and, bit_or, bit_xor, nat_le, IsTrue, ◌↔◌};
+ghost use Rattle.std.specs.Prelude.{◌≡◌, ◌<◌, ◌≤◌, ◌+◌, ℕ, Bool, length, slice_index, map, not, ◌==◌, bit_and, bit_or, bit_xor, nat_le, IsTrue, ◌↔◌, if◌then◌else◌};
+ghost use Rattle.std.specs.Int.{bit_at};
 ghost use Rattle.nf_lanes.specs.Lanes.{places, bits_at, NonePass, StopsAt};
 
 use std::simd::prelude::*;
@@ -52,4 +53,14 @@ pub fn none_of(first: u64, second: u64, third: u64, last: u64) -> bool
     ensures { (p : ℕ → Bool) (at : ℕ) → first ≡ bits_at p at → second ≡ bits_at p (at + 16) → third ≡ bits_at p (at + 32) → last ≡ bits_at p (at + 48) → (IsTrue result ↔ NonePass p at 64) }
 {
     (first == 0) & (second == 0) & (third == 0) & (last == 0)
+}
+
+/// The bits of four times 16 places, one behind the other, as those of 64.
+#[inline(always)]
+pub(crate) fn of_64(first: u64, second: u64, third: u64, last: u64) -> u64
+    requires few { (first < 65536) × (second < 65536) × (third < 65536) × (last < 65536) }
+    ensures { (p : ℕ → Bool) (at : ℕ) → first ≡ bits_at p at → second ≡ bits_at p (at + 16) → third ≡ bits_at p (at + 32) → last ≡ bits_at p (at + 48)
+        → (k : ℕ) → k < 64 → bit_at result k ≡ (if p (at + k) then 1 else 0) }
+{
+    ((last * 0x1_0000 + third) * 0x1_0000 + second) * 0x1_0000 + first
 }

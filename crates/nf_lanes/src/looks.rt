@@ -1,10 +1,11 @@
 //! Pairs of bytes at which a text is looked up, many at once.
 
-ghost use Rattle.std.specs.Prelude.{◌≡◌, ◌<◌, ◌≤◌, ◌+◌, ◌↔◌, true, length, IsTrue};
+ghost use Rattle.std.specs.Prelude.{◌≡◌, ◌<◌, ◌≤◌, ◌+◌, ◌↔◌, ℕ, true, false, length, slice_index, IsTrue};
+ghost use Rattle.std.specs.Int.{bit_at};
 ghost use Rattle.nf_lanes.specs.Lanes.{bits_at, NonePass};
 ghost use Rattle.nf_lanes.specs.Looks.{finds_at};
 
-use crate::lanes::{LANES, before, bits, none_of};
+use crate::lanes::{LANES, at_least, before, bits, none_of, of_64};
 use crate::sets::{Pairs, pair_sets};
 
 /// Two families of eight sets of pairs. A pair that is in a set of each has to be looked up.
@@ -46,16 +47,38 @@ pub fn told_len(looks: &Looks, bytes: &[u8], at: usize) -> usize
     end - at
 }
 
-/// A bit for each byte from `at` on, the lowest for the first: whether it and the byte behind it have to be looked up. The
-/// second family is asked only where the first does not tell.
+/// A bit for each of 63 bytes from `at` on, the lowest for the first: of those that begin more bytes than one, each at which a
+/// pair has to be looked up, or at the byte behind it, is set.
+#[inline(always)]
+pub fn found_leads(looks: &Looks, bytes: &[u8], at: usize) -> u64
+    requires room { at + 64 < length bytes.now }
+    ensures leads { (k : ℕ) → k < 64 → bit_at result k ≡ 1 → (k < 63) × (0xC0 ≤ slice_index bytes.now (at + k)) }
+    ensures told { (k : ℕ) → k < 63 → bit_at result k ≡ 0 → 0xC0 ≤ slice_index bytes.now (at + k)
+        → (finds_at looks.now bytes.now (at + k) ≡ false) × (finds_at looks.now bytes.now (at + k + 1) ≡ false) }
+{
+    let leads = of_64(
+        at_least(0xC0, 0, bytes, at),
+        at_least(0xC0, 0, bytes, at + 16),
+        at_least(0xC0, 0, bytes, at + 32),
+        at_least(0xC0, 0, bytes, at + 48),
+    );
+    if leads == 0 {
+        return 0;
+    }
+    let found = of_64(
+        look_bits(looks, bytes, at),
+        look_bits(looks, bytes, at + 16),
+        look_bits(looks, bytes, at + 32),
+        look_bits(looks, bytes, at + 48),
+    );
+    leads & (found | (found >> 1)) & (u64::MAX >> 1)
+}
+
+/// A bit for each byte from `at` on, the lowest for the first: whether it and the byte behind it have to be looked up.
 #[inline(always)]
 fn look_bits(looks: &Looks, bytes: &[u8], at: usize) -> u64
     requires room { at + 16 < length bytes.now }
     ensures { result ≡ bits_at (finds_at looks.now bytes.now) at }
 {
-    let first = bits(pair_sets(&looks.first, bytes, at));
-    if first == 0 {
-        return 0;
-    }
-    first & bits(pair_sets(&looks.second, bytes, at))
+    bits(pair_sets(&looks.first, bytes, at)) & bits(pair_sets(&looks.second, bytes, at))
 }
