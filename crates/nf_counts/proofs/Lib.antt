@@ -3,3 +3,4 @@ mod CountsLemmas
 mod PieceLemmas
 mod PlainLemmas
 mod ScanLemmas
+mod WindowLemmas

@@ -3,7 +3,6 @@ use Rattle.std.proofs.Common.{◌≡◌, ℕ, ◌+◌, ◌%◌, ◌<◌, ◌≤�
 use Rattle.std.specs.Prelude.{All, encode_utf8_all}
 use Rattle.std.specs.List.{list_all}
 use Rattle.std.specs.Str.{IsUtf8}
-use Rattle.std.proofs.lemmas.List.{nil_from_length}
 use Rattle.std.proofs.lemmas.Bool.{and_from, cond-true, cond-false}
 use Rattle.std.proofs.lemmas.List.Elements.{All-head, All-tail, All-weaker}
 use Rattle.std.proofs.lemmas.List.Folds.{list_all-append}
@@ -16,7 +15,7 @@ use Rattle.nf_forms.specs.Laws.StreamSafe.{decomposed-append}
 use Rattle.nf_forms.specs.Runs.{has_starter, trail}
 use Rattle.nf_forms.specs.declared.form.Form.TheVariants.{Nfkd}
 use Rattle.nf_counts.specs.Counts.{HasCounts, HasValue, IsValued, is_fit}
-use Rattle.nf_counts.specs.Piece.{IsPiece}
+use Rattle.nf_counts.specs.Piece.{BeginsWith, IsPiece}
 use Rattle.nf_counts.specs.Scan.{Reaches}
 use Rattle.nf_counts.specs.declared.piece.Piece.{Piece}
 use Rattle.nf_counts.specs.declared.scan.Scan.{Scan}
@@ -38,12 +37,6 @@ value-append p w v n first next =
     behind : (b : Bool) → has_starter p v ≡ b → trail p v ≡ trail p (w ++ v)
     behind true e = sym (trail-append p w v ∙ cond-true _ _ _ e)
     behind false e = omega (arith, trail-append p w v ∙ cond-false _ _ _ e, trail-marks p v e, first.trail)
-
--- text of no characters
-pub value-none : (p : Properties) (w v : List ℕ) (n : ℕ) → HasValue p w 4 → HasValue p v n → HasValue p (w ++ v) n
-value-none p w v n first next =
-    let none : length w ≡ 0 = omega (arith, trail-marks p w (sym first.has_starter), first.trail) in
-    subst (λ u. HasValue p (u ++ v) n) (sym (nil_from_length w none)) next
 
 abbrev ArePlain : Properties → List ℕ → Type 0
 ArePlain p cs = All (λ c. IsValued p c 0) cs
@@ -81,34 +74,27 @@ piece_of_plain p text cs len same within rest_utf8 some plain = record {
     rest_utf8 = rest_utf8;
     is_long = sym (ap length same ∙ length-take-le len text within);
   };
+  some = some;
   within = omega arith;
   fit = fit-plain p cs plain;
   row = value-plain p cs (some_chars cs (omega (arith, some, ap length same, length-take-le len text within))) plain;
 }
 
--- a piece behind another makes one with it, of the value that text of theirs has
-pub joins : (p : Properties) (text : List ℕ) (piece next : Piece) (value : ℕ) → value < 8 → ((w v : List ℕ) → HasValue p w piece.value → HasValue p v next.value → HasValue p (w ++ v) value)
-    → IsPiece p text piece → IsPiece p (drop piece.len text) next → IsPiece p text record { len = piece.len + next.len; value = value }
-joins p text piece next value within law here more = record {
-  chars = here.chars ++ more.chars;
-  begins = record {
+-- goes on behind a piece
+pub reaches : (p : Properties) (room : ℕ) (scan next : Scan) (piece : Piece) → Reaches p room scan → IsPiece p (drop scan.at scan.text.now) piece → next.text.now ≡ scan.text.now → next.at ≡ scan.at + piece.len
+    → next.counts.nonstarters ≤ scan.counts.nonstarters + 3 → next.counts.lead ≤ room → ((w row : List ℕ) → HasValue p row piece.value → HasCounts p w scan.counts → HasCounts p (w ++ row) next.counts)
+    → Reaches p room next
+reaches p room scan next piece here more same there few leads counts = record {
+  utf8 = subst IsUtf8 (sym same) here.utf8;
+  front = here.front ++ more.chars;
+  begins = subst (λ t. BeginsWith t (here.front ++ more.chars) next.at) (sym same) record {
     rest = more.begins.rest;
-    split = goes_on text here.chars more.chars here.begins.rest more.begins.rest here.begins.split (sym (rest_is _ _ _ here.begins) ∙ more.begins.split);
+    split = goes_on scan.text.now here.front more.chars here.begins.rest more.begins.rest here.begins.split (sym (rest_is _ _ _ here.begins) ∙ more.begins.split);
     rest_utf8 = more.begins.rest_utf8;
-    is_long = omega (arith, here.begins.is_long, more.begins.is_long, ap length (encodes-append here.chars more.chars), length-append (encode_utf8_all here.chars) (encode_utf8_all more.chars));
+    is_long = omega (arith, there, here.begins.is_long, more.begins.is_long, ap length (encodes-append here.front more.chars), length-append (encode_utf8_all here.front) (encode_utf8_all more.chars));
   };
-  within = within;
-  fit = both_pass p here.chars more.chars here.fit more.fit;
-  row = subst (λ w. HasValue p w value) (sym (decomposed-append p Nfkd here.chars more.chars)) (law _ _ here.row more.row);
-}
-
-pub reaches : (p : Properties) (room : ℕ) (text : List ℕ) (scan next : Scan) (here : Reaches p room text scan) (piece : List ℕ) → scan.rest.now ≡ encode_utf8_all piece ++ next.rest.now
-    → IsUtf8 next.rest.now → list_all (is_fit p) piece ≡ true → HasCounts p (decomposed Nfkd p (here.front ++ piece)) next.counts → next.counts.lead ≤ room → Reaches p room text next
-reaches p room text scan next here piece more rest_utf8 fit counts leads = record {
-  front = here.front ++ piece;
-  split = goes_on text here.front piece scan.rest.now next.rest.now here.split more;
-  rest_utf8 = rest_utf8;
-  fit = both_pass p here.front piece here.fit fit;
-  counts = counts;
+  fit = both_pass p here.front more.chars here.fit more.fit;
+  counts = subst (λ w. HasCounts p w next.counts) (sym (decomposed-append p Nfkd here.front more.chars)) (counts _ _ more.row here.counts);
+  few = omega (arith, few, here.few, there, more.some);
   leads = leads;
 }

@@ -1,16 +1,12 @@
 -- What a text begins with.
-use Rattle.std.specs.Prelude.{◌≡◌, ℕ, ◌+◌, ◌*◌, ◌%◌, ◌<◌, true, List, ◌++◌, length, encode_utf8_all}
+use Rattle.std.specs.Prelude.{◌≡◌, ℕ, ◌<◌, true, List, ◌++◌, length, encode_utf8_all}
 use Rattle.std.specs.List.{list_all}
 use Rattle.std.specs.Str.{IsUtf8}
 use Rattle.nf_counts.specs.Counts.{HasValue, is_fit}
 use Rattle.nf_counts.specs.declared.piece.Piece.{Piece}
-use Rattle.nf_counts.specs.declared.table.Code.{Code}
 use Rattle.nf_forms.specs.Forms.{decomposed}
 use Rattle.nf_forms.specs.Properties.{Properties}
 use Rattle.nf_forms.specs.declared.form.Form.TheVariants.{Nfkd}
-
-abbrev pub code_of : Code → ℕ
-code_of code = code.block * 64 + code.last % 64
 
 -- the text begins with these characters
 pub record BeginsWith (text chars : List ℕ) (len : ℕ) : Type 0 where
@@ -23,6 +19,7 @@ pub record BeginsWith (text chars : List ℕ) (len : ℕ) : Type 0 where
 pub record IsPiece (p : Properties) (text : List ℕ) (piece : Piece) : Type 0 where
   pub chars : List ℕ
   pub begins : BeginsWith text chars piece.len
+  pub some : 0 < piece.len
   pub within : piece.value < 8
   pub fit : list_all (is_fit p) chars ≡ true
   pub row : HasValue p (decomposed Nfkd p chars) piece.value

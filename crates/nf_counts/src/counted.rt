@@ -35,10 +35,9 @@ impl<'t> Counted<'t> {
 pub fn counted_front(room: u32, text: &str) -> Counted<'_>
     ensures { IsCountedFront ucd room text.now result }
 {
-    let len = text.len();
     let mut scan = Scan::new(text);
-    while scan.step(room) {}
-    let (front, rest) = text.split_at(len - scan.rest.len());
+    scan.pass_all(room);
+    let (front, rest) = text.split_at(scan.at);
     Counted {
         front,
         rest,

@@ -4,14 +4,12 @@
 
 mod counted;
 mod counts;
-mod joined;
-mod pace;
 mod pairs;
 mod piece;
-mod plain;
 mod rows;
 mod scan;
 mod table;
+mod window;
 
 pub use counted::{Counted, counted_front};
 pub use counts::Counts;

@@ -1,10 +1,10 @@
 //! What a text begins with, by its bytes.
 
-ghost use Rattle.std.specs.Prelude.{◌<◌, IfSome};
+ghost use Rattle.std.specs.Prelude.{◌<◌, ◌≤◌, ℕ, slice_index, IfSome};
 ghost use Rattle.nf_forms.specs.Ucd.{ucd};
 ghost use Rattle.nf_counts.specs.Piece.{IsPiece};
 
-use crate::table::{Code, NOTHING};
+use crate::table::{NOTHING, value};
 use nf_facts::laws;
 use nf_utf8::ascii_prefix;
 
@@ -16,66 +16,45 @@ pub(crate) struct Piece {
     pub value: u32,
 }
 
-impl Piece {
-    ghost use Rattle.std.specs.Prelude.{◌≡◌, ◌+◌, ◌%◌, ◌≤◌, ℕ, List, drop};
-    ghost use Rattle.std.specs.Str.{IsUtf8};
-    ghost use Rattle.nf_forms.specs.Properties.{Properties};
-
-    /// No characters.
-    #[inline(always)]
-    pub fn none() -> Piece
-        ensures none { result.value % 4 ≡ 0 }
-        ensures piece { (p : Properties) (text : List ℕ) → IsUtf8 text → IsPiece p text result }
-    {
-        Piece {
-            len: 0,
-            value: NOTHING,
-        }
-    }
-
-    /// With the piece behind it, where this one has no non-starter: it is starters, or nothing.
-    #[inline(always)]
-    pub fn with(self, next: Piece) -> Piece
-        requires fits { self.len + next.len ≤ usize.MAX }
-        requires none { self.value % 4 ≡ 0 }
-        ensures len { result.len ≡ self.len + next.len }
-        ensures value { next.value ≡ 0 → result.value ≡ 0 }
-        ensures piece { (p : Properties) (text : List ℕ) → IsPiece p text self → IsPiece p (drop self.len text) next → IsPiece p text result }
-    {
-        Piece {
-            len: self.len + next.len,
-            value: if self.value == 0 {
-                next.value % 4
-            } else {
-                next.value
-            },
-        }
-    }
-}
-
 /// What a text begins with, where that is ASCII, or a character of two or three bytes of which the value tells something.
 #[inline(always)]
 pub(crate) fn first_piece(text: &str) -> Option<Piece>
-    ensures piece { IfSome result (λ piece. IsPiece ucd text.now piece) }
-    ensures some { IfSome result (λ piece. 0 < piece.len) }
+    ensures { IfSome result (λ piece. IsPiece ucd text.now piece) }
 {
     laws::every_character_is_sound();
     let bytes = text.as_bytes();
-    if bytes.is_empty() || bytes[0] >= 0xF0 {
+    if bytes.is_empty() {
         return None;
     }
-    if bytes[0] < 0x80 {
-        return Some(Piece {
-            len: ascii_prefix(bytes),
-            value: 0,
-        });
+    if bytes[0] >= 0x80 {
+        return first_character(text);
     }
-    let (len, code) = if bytes[0] < 0xE0 {
-        (2, Code::of_two(bytes))
+    Some(Piece {
+        len: ascii_prefix(bytes),
+        value: 0,
+    })
+}
+
+/// The character that a text begins with, where it has two or three bytes and its value tells something.
+#[inline(always)]
+pub(crate) fn first_character(text: &str) -> Option<Piece>
+    requires { 0x80 ≤ slice_index text.now 0 }
+    ensures piece { IfSome result (λ piece. IsPiece ucd text.now piece) }
+    ensures one { IfSome result (λ piece. (k : ℕ) → 0 < k → k < piece.len → slice_index text.now k < 0xC0) }
+{
+    let bytes = text.as_bytes();
+    let lead = bytes[0];
+    if lead >= 0xF0 {
+        return None;
+    }
+    let third = if bytes.len() > 2 { bytes[2] } else { 0 };
+    let bits = (u32::from(lead) % 32 * 64 + u32::from(bytes[1]) % 64) * 64 + u32::from(third) % 64;
+    let (len, code) = if lead >= 0xE0 {
+        (3, bits % 65536)
     } else {
-        (3, Code::of_three(bytes))
+        (2, bits / 64)
     };
-    let value = code.value();
+    let value = value(code);
     if value == NOTHING {
         return None;
     }

@@ -1,51 +1,151 @@
+ghost use Rattle.std.specs.Prelude.{◌≤◌};
+
 use crate::counts::Counts;
-use crate::joined::joined_pieces;
-use crate::pace::Pace;
+use crate::piece::{Piece, first_character, first_piece};
+use crate::window::Window;
+use nf_facts::laws;
+
+/// So many bytes at the front of a text are asked piece by piece: where little is told, no window is read.
+const FEW: usize = 16;
 
 /// A place in a text, up to which its non-starters are counted.
 #[derive(Clone, Copy)]
 pub(crate) struct Scan<'t> {
-    /// What stands behind it.
-    pub rest: &'t str,
+    text: &'t str,
+    /// So many bytes stand before it.
+    pub at: usize,
     pub counts: Counts,
-    pace: Pace,
 }
 
 impl<'t> Scan<'t> {
-    ghost use Rattle.std.specs.Prelude.{◌≡◌, ◌<◌, ◌≤◌, ◌+◌, ◌*◌, ℕ, List, length, IsTrue};
+    ghost use Rattle.std.specs.Prelude.{◌≡◌, ◌<◌, ◌+◌, ℕ, length, drop, true, false, IsTrue};
+    ghost use Rattle.std.specs.Str.{IsCharBoundary};
     ghost use Rattle.nf_forms.specs.Ucd.{ucd};
+    ghost use Rattle.nf_counts.specs.Piece.{IsPiece};
     ghost use Rattle.nf_counts.specs.Scan.{Reaches};
+    ghost use Rattle.nf_counts.specs.Window.{AreAsked, AreTold};
 
     /// The front of the text.
     #[inline(always)]
     pub fn new(text: &'t str) -> Scan<'t>
-        ensures len { length result.rest.now ≡ length text.now }
-        ensures none { result.counts.nonstarters ≡ 0 }
-        ensures reaches { (room : ℕ) → Reaches ucd room text.now result }
+        ensures text { result.text.now ≡ text.now }
+        ensures reaches { (room : ℕ) → Reaches ucd room result }
     {
         Scan {
-            rest: text,
+            text,
+            at: 0,
             counts: Counts::new(),
-            pace: Pace::new(),
         }
     }
 
-    /// Goes behind the next pieces, where their value tells something, no run gets too long with them, and no more than `room`
-    /// non-starters stand before the first starter; answers whether it does.
+    /// Goes on as far as values tell something, no run gets too long, and no more than `room` non-starters stand before the first
+    /// starter.
     #[inline(always)]
-    pub fn step(&mut self, room: u32) -> bool
-        requires fits { self.old.counts.nonstarters + 3 * length self.old.rest.now ≤ u128.MAX }
-        requires room { self.old.counts.lead ≤ room }
-        ensures few { self.new.counts.nonstarters + 3 * length self.new.rest.now ≤ self.old.counts.nonstarters + 3 * length self.old.rest.now }
-        ensures shorter { IsTrue result → length self.new.rest.now < length self.old.rest.now }
-        ensures reaches { (text : List ℕ) → Reaches ucd room text self.old → Reaches ucd room text self.new }
+    pub fn pass_all(&mut self, room: u32)
+        requires reaches { Reaches ucd room self.old }
+        ensures text { self.new.text.now ≡ self.old.text.now }
+        ensures reaches { Reaches ucd room self.new }
     {
-        let rest = self.rest;
-        let joined = joined_pieces(rest, &mut self.pace);
-        if joined.len == 0 || !self.counts.add(joined.value, room) {
+        let len = self.text.len();
+        if self.pass_pieces(FEW.min(len), room) && self.pass_windows(room) {
+            self.pass_pieces(len, room);
+        }
+    }
+
+    /// Goes on piece by piece, until so many bytes stand before the place or nothing is told; answers whether there may be more.
+    #[inline(always)]
+    fn pass_pieces(&mut self, to: usize, room: u32) -> bool
+        requires reaches { Reaches ucd room self.old }
+        requires within { to ≤ length self.old.text.now }
+        ensures text { self.new.text.now ≡ self.old.text.now }
+        ensures reaches { Reaches ucd room self.new }
+    {
+        while self.at < to {
+            let Some(piece) = first_piece(&self.text[self.at..]) else {
+                return false;
+            };
+            if !self.pass(piece, room) {
+                return false;
+            }
+        }
+        true
+    }
+
+    /// Goes on by windows, as far as there are bytes for one or nothing is told; answers whether there may be more.
+    #[inline(always)]
+    fn pass_windows(&mut self, room: u32) -> bool
+        requires reaches { Reaches ucd room self.old }
+        ensures text { self.new.text.now ≡ self.old.text.now }
+        ensures reaches { Reaches ucd room self.new }
+    {
+        let text = self.text;
+        let mut base = self.at;
+        while text.len() - base > 64 {
+            if !self.pass_window(base, room) {
+                return false;
+            }
+            base += 63;
+        }
+        self.pass_plain(text.ceil_char_boundary(base.max(self.at)), room);
+        true
+    }
+
+    /// Goes on behind the last character that is looked up of those that begin in the 63 bytes from `base` on.
+    #[inline(always)]
+    fn pass_window(&mut self, base: usize, room: u32) -> bool
+        requires reaches { Reaches ucd room self.old }
+        requires asked { AreAsked self.old.text.now self.old.at base }
+        requires fits { base + 64 < length self.old.text.now }
+        ensures text { self.new.text.now ≡ self.old.text.now }
+        ensures asked { IsTrue result → AreAsked self.new.text.now self.new.at (base + 63) }
+        ensures reaches { Reaches ucd room self.new }
+    {
+        let text = self.text;
+        let mut window = Window::new(text, base);
+        while let Some(place) = window.next() {
+            self.pass_plain(place, room);
+            let Some(character) = first_character(&text[place..]) else {
+                return false;
+            };
+            if !self.pass(character, room) {
+                return false;
+            }
+        }
+        true
+    }
+
+    /// Goes on to a place before which none is looked up.
+    #[inline(always)]
+    fn pass_plain(&mut self, place: usize, room: u32)
+        requires reaches { Reaches ucd room self.old }
+        requires order { self.old.at ≤ place }
+        requires boundary { IsCharBoundary self.old.text.now place }
+        requires told { AreTold self.old.text.now self.old.at place }
+        ensures text { self.new.text.now ≡ self.old.text.now }
+        ensures at { self.new.at ≡ place }
+        ensures reaches { Reaches ucd room self.new }
+    {
+        laws::every_character_is_sound();
+        if self.at < place {
+            let len = place - self.at;
+            self.pass(Piece { len, value: 0 }, room);
+        }
+    }
+
+    /// Goes on behind a piece, if it may.
+    #[inline(always)]
+    fn pass(&mut self, piece: Piece, room: u32) -> bool
+        requires reaches { Reaches ucd room self.old }
+        requires piece { IsPiece ucd (drop self.old.at self.old.text.now) piece }
+        ensures text { self.new.text.now ≡ self.old.text.now }
+        ensures further { IsTrue result → self.new.at ≡ self.old.at + piece.len }
+        ensures passes { piece.value ≡ 0 → result ≡ true }
+        ensures reaches { Reaches ucd room self.new }
+    {
+        if !self.counts.add(piece.value, room) {
             return false;
         }
-        self.rest = &rest[joined.len..];
+        self.at += piece.len;
         true
     }
 }

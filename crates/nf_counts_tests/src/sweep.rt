@@ -86,6 +86,40 @@ fn characters_are_counted_by_their_decompositions(rt: HostRuntime) -> Result<(),
     Ok(())
 }
 
+/// Each among letters, at one of 64 places behind 16 bytes.
+#[test]
+fn characters_are_counted_among_letters(rt: HostRuntime) -> Result<(), Fail> {
+    for code in 0..0x11_0000u32 {
+        let Some(c) = char::from_u32(code) else {
+            continue;
+        };
+        let mut bytes = [b'a'; 160];
+        for at in 0..8usize {
+            bytes[2 * at] = 0xD0;
+            bytes[2 * at + 1] = 0xB4;
+        }
+        let mut room = [0; 4];
+        let place = 16 + (code % 64) as usize;
+        let mut at = place;
+        for byte in c.encode_utf8(&mut room).as_bytes() {
+            assert!(rt; at < 160);
+            bytes[at] = *byte;
+            at += 1;
+        }
+        let text = str::from_utf8(&bytes).expect(&rt, "text");
+        let counted = counted_front(30, text);
+        let told = if c > '\u{FFFF}' { None } else { looked_up(c) };
+        let (len, marks) = told.map_or((place, 0), |told| (160, told.1));
+        assert_eq!(rt; counted.front.len(), len, "{code:x}");
+        assert_eq!(rt;
+            counts_of(&counted),
+            (u128::from(marks), marks, 0, 0, true),
+            "{code:x}"
+        );
+    }
+    Ok(())
+}
+
 const SOME: [char; 24] = [
     'a',
     ' ',

@@ -1,0 +1,30 @@
+-- Which characters of a text are looked up.
+use Rattle.std.specs.Prelude.{◌≡◌, ℕ, ◌+◌, ◌<◌, ◌≤◌, false, List, slice_index}
+use Rattle.std.specs.Int.{bit_at}
+use Rattle.nf_lanes.specs.Looks.{finds_at}
+use Rattle.nf_counts.specs.declared.pairs.TheConstants.{LOOKS}
+use Rattle.nf_counts.specs.declared.window.Window.{Window}
+
+-- of the characters that begin from one place on and before another none has more bytes than one and is looked up
+abbrev pub AreTold : List ℕ → ℕ → ℕ → Type 0
+AreTold text from to = (k : ℕ) → from ≤ k → k < to → 0xC0 ≤ slice_index text k → (finds_at LOOKS text k ≡ false) × (finds_at LOOKS text (k + 1) ≡ false)
+
+-- before `base` stands no more of them, from a place on that is the end of a character
+pub record AreAsked (text : List ℕ) (at base : ℕ) : Type 0 where
+  pub told : AreTold text at base
+  pub inner : (k : ℕ) → base ≤ k → k < at → slice_index text k < 0xC0
+
+-- from there on the window has those that begin in its 63 bytes
+pub record AreLeft (text : List ℕ) (at : ℕ) (window : Window) : Type 0 where
+  pub before : AreTold text at window.base
+  pub inner : (k : ℕ) → window.base + 63 ≤ k → k < at → slice_index text k < 0xC0
+  pub leads : (k : ℕ) → k < 64 → bit_at window.found k ≡ 1 → (k < 63) × (at ≤ window.base + k) × (0xC0 ≤ slice_index text (window.base + k))
+  pub told : (k : ℕ) → k < 63 → bit_at window.found k ≡ 0 → at ≤ window.base + k → 0xC0 ≤ slice_index text (window.base + k)
+      → (finds_at LOOKS text (window.base + k) ≡ false) × (finds_at LOOKS text (window.base + k + 1) ≡ false)
+
+-- there is the next, and behind its character the window has the others
+pub record IsNext (text : List ℕ) (at place : ℕ) (window : Window) : Type 0 where
+  pub order : at ≤ place
+  pub lead : 0xC0 ≤ slice_index text place
+  pub told : AreTold text at place
+  pub others : (behind : ℕ) → place < behind → ((k : ℕ) → place < k → k < behind → slice_index text k < 0xC0) → AreLeft text behind window
