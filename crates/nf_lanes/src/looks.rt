@@ -8,6 +8,9 @@ ghost use Rattle.nf_lanes.specs.Looks.{finds_at};
 use crate::lanes::{LANES, at_least, before, bits, none_of, of_64};
 use crate::sets::{Pairs, pair_sets};
 
+/// Of so few characters no pair is asked: in Latin most of those that are not ASCII have to be looked up.
+const FEW: u32 = 10;
+
 /// Two families of eight sets of pairs. A pair that is in a set of each has to be looked up.
 pub struct Looks {
     pub first: Pairs,
@@ -48,7 +51,7 @@ pub fn told_len(looks: &Looks, bytes: &[u8], at: usize) -> usize
 }
 
 /// A bit for each of 63 bytes from `at` on, the lowest for the first: of those that begin more bytes than one, each at which a
-/// pair has to be looked up, or at the byte behind it, is set.
+/// pair has to be looked up, or at the byte behind it, is set; of a few all are.
 #[inline(always)]
 pub fn found_leads(looks: &Looks, bytes: &[u8], at: usize) -> u64
     requires room { at + 64 < length bytes.now }
@@ -62,8 +65,8 @@ pub fn found_leads(looks: &Looks, bytes: &[u8], at: usize) -> u64
         at_least(0xC0, 0, bytes, at + 32),
         at_least(0xC0, 0, bytes, at + 48),
     );
-    if leads == 0 {
-        return 0;
+    if leads.count_ones() < FEW {
+        return leads & (u64::MAX >> 1);
     }
     let found = of_64(
         look_bits(looks, bytes, at),

@@ -33,13 +33,23 @@ of_64-leads-requires c = record { few = (small _ _ _ c.at_least.ensures, small _
 pub of_64-found-requires : goal.of_64-found-requires
 of_64-found-requires c = record { few = (small _ _ _ c.look_bits.ensures, small _ _ _ c.look_bits-2.ensures, small _ _ _ c.look_bits-3.ensures, small _ _ _ c.look_bits-4.ensures) }
 
-pub returns-then-leads-eq0-clause-told : goal.returns-then-leads-eq0-clause-told
-returns-then-leads-eq0-clause-told c k within none high =
+pub returns-then-leads-lt-FEW-clause-leads : goal.returns-then-leads-lt-FEW-clause-leads
+returns-then-leads-lt-FEW-clause-leads c k within is =
+    let bytes = c.args.bytes.now in
+    let at = c.args.at in
+    let lead = c.of_64-leads.ensures (begins bytes) at c.at_least.ensures c.at_least-2.ensures c.at_least-3.ensures c.at_least-4.ensures k within in
+    let all = bit_at_and c.of_64-leads.result low_63 k in
+    let here = leb-true 192 _ (set (begins bytes (at + k)) (omega (arith, lead, is, all))) in
+    (⊎_elim (λ few. few) (λ last. absurd (omega (arith, is, all, bit_at_ones_above 63 k last))) (order k 63), omega (arith, here, xor_zero_r (slice_index bytes (at + k))))
+
+pub returns-then-leads-lt-FEW-clause-told : goal.returns-then-leads-lt-FEW-clause-told
+returns-then-leads-lt-FEW-clause-told c k within none high =
     let bytes = c.args.bytes.now in
     let at = c.args.at in
     let lead = c.of_64-leads.ensures (begins bytes) at c.at_least.ensures c.at_least-2.ensures c.at_least-3.ensures c.at_least-4.ensures k (omega arith) in
     let is : begins bytes (at + k) ≡ true = le-leb 192 _ (omega (arith, high, xor_zero_r (slice_index bytes (at + k)))) in
-    absurd (omega (arith, ap {B = ℕ} (λ b. cond b 1 0) is, lead, ap (λ n. bit_at n k) c.if-leads-eq0.true, none))
+    let low : bit_at low_63 k ≡ 1 = bit_at_ones 63 k within in
+    absurd (omega (arith, ap {B = ℕ} (λ b. cond b 1 0) is, lead, none, low, bit_at_and c.of_64-leads.result low_63 k))
 
 pub returns-clause-leads : goal.returns-clause-leads
 returns-clause-leads c k within is =
