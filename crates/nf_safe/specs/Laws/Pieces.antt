@@ -2,7 +2,7 @@
 use Rattle.std.proofs.Common.{◌≡◌, ℕ, zero, suc, ◌+◌, ◌≤◌, true, false, not, List, [], ◌∷◌, ◌++◌, length, take, drop, refl, sym, ap, ap₂, ◌∙◌, subst, arith, append-nil, append_assoc, le-ltb, length-drop}
 use Rattle.std.specs.Prelude.{fold}
 use Rattle.std.specs.List.{list_all}
-use Rattle.std.proofs.lemmas.Bool.{cond-true, cond_both, and_parts, and_from, leb-true, false≢true, true_from_ne_false}
+use Rattle.std.proofs.lemmas.Bool.{cond-true, cond_both, and_parts, and_from, false≢true, true_from_ne_false}
 use Rattle.std.proofs.lemmas.List.{length-append, length-take-le, take-append-drop}
 use Rattle.std.proofs.lemmas.List.Folds.{list_all-append}
 use Rattle.std.proofs.lemmas.List.Sums.{fold-append}
@@ -22,7 +22,7 @@ use Rattle.nf_safe.specs.LongestFront.{longest_front, IsLongestFront}
 use Rattle.nf_safe.specs.Place.{is_in_format}
 use Rattle.nf_safe.specs.Pieces.{IsGreedyCut, rejoined}
 use Rattle.nf_safe.specs.Laws.LongestFront.{longest_front-ge, longest_front_is}
-use Rattle.nf_safe.specs.Laws.Place.{is_in_format-none, is_in_format-push, longest-normal_form, is_in_format-stream_safe}
+use Rattle.nf_safe.specs.Laws.Place.{is_in_format-none, is_in_format-push, longest-in_format, is_in_format-stream_safe}
 
 module _ (p : Properties) where
   few : (c : ℕ) → is_sound p c ≡ true → length (p.compat c) ≤ max_row
@@ -37,7 +37,7 @@ module _ (p : Properties) where
   -- ---- text in the format goes through the process as it is, and no other does
 
   pub stream_safe-in_format : (x : List ℕ) → is_in_format p x ≡ true → stream_safe p x ≡ x
-  stream_safe-in_format x inside = stream_safe-short p x (leb-true _ max_run (sym (longest-normal_form p x) ∙ inside))
+  stream_safe-in_format x inside = stream_safe-short p x (longest-in_format p x inside)
 
   pub in_format-unchanged : (x : List ℕ) → IsSoundText p x → stream_safe p x ≡ x → is_in_format p x ≡ true
   in_format-unchanged x sound same =
