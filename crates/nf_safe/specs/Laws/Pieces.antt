@@ -10,17 +10,18 @@ use Rattle.std.proofs.Math.Seq.{take-append_seam, drop-append_seam}
 use Rattle.nf_forms.specs.Properties.{Properties}
 use Rattle.nf_forms.specs.declared.form.Form.TheVariants.{Nfkd}
 use Rattle.nf_forms.specs.Runs.{lead}
-use Rattle.nf_forms.specs.StreamSafe.{joiner, max_run, is_too_long, parted, safe_step, stream_safe}
+use Rattle.nf_forms.specs.StreamSafe.{joiner, max_run, is_too_long, safe_step, stream_safe}
 use Rattle.nf_forms.specs.Sound.{max_row, is_sound}
 use Rattle.nf_forms.specs.Laws.Last.{by_last}
 use Rattle.nf_forms.specs.Laws.Runs.{lead-le-length}
 use Rattle.nf_forms.specs.Laws.Sound.{IsSoundText, IsSound-from_test, JoinerIsPlain-from_sound, sound_last}
-use Rattle.nf_forms.specs.Laws.StreamSafe.{stream_safe-push, sound-safe_step, trail-decomposed-joiner}
+use Rattle.nf_forms.specs.Laws.StreamSafe.{stream_safe-push, trail-decomposed-joiner}
 use Rattle.nf_forms.specs.Laws.Closing.{safe-closed}
 use Rattle.nf_forms.specs.Laws.Audited.{stream_safe-short}
 use Rattle.nf_safe.specs.LongestFront.{longest_front, IsLongestFront}
 use Rattle.nf_safe.specs.Place.{is_in_format}
 use Rattle.nf_safe.specs.Pieces.{IsGreedyCut, rejoined}
+use Rattle.nf_safe.specs.Laws.Count.{sound-fold}
 use Rattle.nf_safe.specs.Laws.LongestFront.{longest_front-ge, longest_front_is}
 use Rattle.nf_safe.specs.Laws.Place.{is_in_format-none, is_in_format-push, longest-in_format, is_in_format-stream_safe}
 
@@ -43,15 +44,8 @@ module _ (p : Properties) where
   in_format-unchanged x sound same =
       sym (ap (is_in_format p) same) ∙ is_in_format-stream_safe p x (ap (list_all (is_sound p)) same ∙ sound)
 
-  -- where the process gives sound characters alone, the text's own are sound
-  source : (out x : List ℕ) → IsSoundText p (fold (safe_step p) out x) → IsSoundText p out × IsSoundText p x
-  source out [] sound = (sound, refl)
-  source out (c ∷ x) sound =
-      let parts = source (safe_step p out c) x sound in
-      ((sound-safe_step p out c parts.0).0, and_from _ _ (sound_last p (parted p out c) c parts.0).1 parts.1)
-
   pub sound-source : (x : List ℕ) → IsSoundText p (stream_safe p x) → IsSoundText p x
-  sound-source x sound = (source [] x sound).1
+  sound-source x sound = (sound-fold p [] x sound).1
 
   -- the process takes nothing away
   pub length-stream_safe-ge : (x : List ℕ) → length x ≤ length (stream_safe p x)
@@ -83,7 +77,7 @@ module _ (p : Properties) where
       fold-append (safe_step p) [] piece (d ∷ rest)
       ∙ ap (λ o. fold (safe_step p) (safe_step p o d) rest) (stream_safe-in_format piece inside)
       ∙ ap (λ o. fold (safe_step p) (o ++ d ∷ []) rest) (cond-true _ _ _ long) in
-      let joins = (sound_last p piece joiner (sound_last p put d (source (put ++ d ∷ []) rest (ap (list_all (is_sound p)) (sym step) ∙ sound)).0).0).1 in
+      let joins = (sound_last p piece joiner (sound_last p put d (sound-fold p (put ++ d ∷ []) rest (ap (list_all (is_sound p)) (sym step) ∙ sound)).0).0).1 in
       step
       ∙ safe-closed p put (d ∷ []) rest (trail-decomposed-joiner p (JoinerIsPlain-from_sound p joins) Nfkd piece)
       ∙ ap (λ o. put ++ fold (safe_step p) o rest) (sym (stream_safe-in_format (d ∷ []) (one-in_format d d_sound)))

@@ -1,4 +1,4 @@
-use Rattle.nf_safe.proofs.Common.{◌≡◌, ℕ, ◌+◌, Bool, List, true, false, sym, ap, ◌∙◌, arith, if◌then◌else◌, nat_lt, lt-ltb, le-ltb, Properties, has_starter, lead, max_run, passes, count_step, count_step-starter, count_step-marks, trail-since_last-push}
+use Rattle.nf_safe.proofs.Common.{◌≡◌, ℕ, ◌+◌, Bool, List, true, false, sym, ap, ◌∙◌, arith, if◌then◌else◌, nat_lt, lt-ltb, le-ltb, Properties, has_starter, lead, max_run, passes, count_step, cond-true, count_step-marks, trail-since_last-push}
 use Rattle.nf_safe.proofs.counter.Counter.step_by.Goals as goal
 use Rattle.nf_safe.proofs.counter.Counter.step_by.Goals.{then-k, else-k+then-begins_anew, else-k+else-begins_anew}
 
@@ -14,7 +14,7 @@ returns-clause-count c = λ p row ends.
     let view_is = c.self.view_is in
     let lead_is = ends.lead in
     elim c.if-k.branch [
-      | then-k w ↦ w.self-is ∙ ends.trail ∙ sym (count_step-starter p c.args.self.now row (sym ends.has_starter ∙ w.if-k.true))
+      | then-k w ↦ w.self-is ∙ ends.trail ∙ sym (cond-true _ _ _ (sym ends.has_starter ∙ w.if-k.true))
       | else-k+then-begins_anew w ↦
           all_marks p c.args.self.now row true c.if-k.self (sym ends.has_starter ∙ w.if-k.false)
           (lt-ltb max_run _ (omega (arith, view_is, lead_is, w.if-begins_anew.true))) (omega (arith, w.self-is, lead_is))
