@@ -15,7 +15,7 @@ pub use Rattle.nf_forms.specs.Sound.{max_row, is_sound}
 pub use Rattle.nf_forms.specs.StreamSafe.{joiner, is_too_long, stream_safe, max_run}
 pub use Rattle.nf_forms.specs.declared.form.Form.TheVariants.{Nfkd}
 pub use Rattle.nf_safe.specs.Count.{counted, passes, count_step}
-pub use Rattle.nf_safe.specs.Laws.Count.{count_step-within, trail-decomposed-counted, trail-decomposed-safe_step, count_step-marks, trail-since_last-push, trail-stream_safe}
+pub use Rattle.nf_safe.specs.Laws.Count.{count_step-within, trail-decomposed-counted, trail-decomposed-safe_step, trail-since_last-push, trail-stream_safe}
 pub use Rattle.nf_safe.specs.Laws.Pieces.{length-stream_safe-ge, stream_safe-in_format, in_format-unchanged}
 pub use Rattle.nf_safe.specs.Laws.Place.{is_in_format-push, is_in_format-join, is_in_format-short, trail-in_format, place_from-in_format, place_from-at, place_from-stays, place_from-none, is_in_format-none, is_in_format-stream_safe, is_in_format-take, place-in_format}
 pub use Rattle.nf_safe.specs.Place.{is_in_format, place_from, place, place_at}

@@ -1,7 +1,7 @@
 -- What the count is in terms of whole texts.
 use Rattle.std.proofs.Common.{◌≡◌, ℕ, ◌+◌, ◌≤◌, Bool, true, false, List, [], ◌∷◌, ◌++◌, length, map, refl, sym, ap, ◌∙◌, arith}
 use Rattle.std.specs.Prelude.{if◌then◌else◌, fold}
-use Rattle.std.proofs.lemmas.Bool.{and_from, cond-false, cond_both, ltb-false}
+use Rattle.std.proofs.lemmas.Bool.{and_from, cond_both, ltb-false}
 use Rattle.std.proofs.lemmas.List.Sums.{fold-append}
 use Rattle.nf_forms.specs.Properties.{Properties}
 use Rattle.nf_forms.specs.declared.form.Form.TheVariants.{Nfkd}
@@ -21,10 +21,6 @@ module _ (p : Properties) where
       cond_both (has_starter p row) _ _ (λ m. m ≤ max_run) (λ _. omega (arith, trail-le-length p row))
       (λ none. cond_both (passes p n row) _ _ (λ m. m + length row ≤ max_run) (λ _. omega arith)
       (λ e. omega (arith, lead-marks p row none, ltb-false max_run (n + lead p row) e)))
-
-  pub count_step-marks : (n : ℕ) (row : List ℕ) → has_starter p row ≡ false → count_step p n row ≡ (if passes p n row then 0 else n) + lead p row
-  count_step-marks n row none =
-      cond-false _ _ _ none ∙ ap (λ m. (if passes p n row then 0 else n) + m) (sym (lead-marks p row none))
 
   pub count_step-within : (n : ℕ) (row : List ℕ) → passes p n row ≡ false → count_step p n row ≡ counted p n row
   count_step-within n row within = ap (λ b. counted p (if b then 0 else n) row) within

@@ -1,8 +1,8 @@
 -- The stream-safe text is the text's greedy cut with a joiner between each two pieces.
-use Rattle.std.proofs.Common.{◌≡◌, ℕ, zero, suc, ◌+◌, ◌≤◌, true, false, not, List, [], ◌∷◌, ◌++◌, length, take, drop, refl, sym, ap, ap₂, ◌∙◌, subst, arith, append-nil, append_assoc, le-ltb, length-drop}
+use Rattle.std.proofs.Common.{◌≡◌, ℕ, zero, suc, ◌+◌, ◌≤◌, Bool, true, false, not, cond, List, [], ◌∷◌, ◌++◌, length, take, drop, refl, sym, ap, ap₂, ◌∙◌, subst, arith, append-nil, append_assoc, le-ltb, length-drop}
 use Rattle.std.specs.Prelude.{fold}
 use Rattle.std.specs.List.{list_all}
-use Rattle.std.proofs.lemmas.Bool.{cond-true, cond_both, and_parts, and_from, false≢true, true_from_ne_false}
+use Rattle.std.proofs.lemmas.Bool.{cond-true, and_parts, and_from, false≢true, true_from_ne_false}
 use Rattle.std.proofs.lemmas.List.{length-append, length-take-le, take-append-drop}
 use Rattle.std.proofs.lemmas.List.Folds.{list_all-append}
 use Rattle.std.proofs.lemmas.List.Sums.{fold-append}
@@ -47,14 +47,17 @@ module _ (p : Properties) where
   pub sound-source : (x : List ℕ) → IsSoundText p (stream_safe p x) → IsSoundText p x
   sound-source x sound = (sound-fold p [] x sound).1
 
-  -- the process takes nothing away
-  pub length-stream_safe-ge : (x : List ℕ) → length x ≤ length (stream_safe p x)
-  length-stream_safe-ge = by_last (λ x. length x ≤ length (stream_safe p x)) (omega arith) more
+  -- a step takes nothing away
+  pub length-safe_step : (out : List ℕ) (c : ℕ) → length (safe_step p out c) ≡ length out + 1 + cond (is_too_long p out c) 1 0
+  length-safe_step out c = next (is_too_long p out c)
     where
-      more : (x : List ℕ) (c : ℕ) → length x ≤ length (stream_safe p x) → length (x ++ c ∷ []) ≤ length (stream_safe p (x ++ c ∷ []))
-      more x c before =
-          rw (stream_safe-push p x c) (cond_both (is_too_long p (stream_safe p x) c) _ _ (λ o. length (x ++ c ∷ []) ≤ length (o ++ c ∷ []))
-          (λ _. simp length-append (omega arith)) (λ _. simp length-append (omega arith)))
+      next : (b : Bool) → length (cond b (out ++ joiner ∷ []) out ++ c ∷ []) ≡ length out + 1 + cond b 1 0
+      next true = simp length-append (omega arith)
+      next false = simp length-append (omega arith)
+
+  pub length-stream_safe-ge : (x : List ℕ) → length x ≤ length (stream_safe p x)
+  length-stream_safe-ge = by_last (λ x. length x ≤ length (stream_safe p x)) (omega arith)
+      (λ x c before. omega (arith, ap length (stream_safe-push p x c), length-safe_step (stream_safe p x) c, length-append x (c ∷ [])))
 
   -- ---- a piece, and what comes behind it
 

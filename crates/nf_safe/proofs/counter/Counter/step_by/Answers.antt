@@ -1,10 +1,11 @@
-use Rattle.nf_safe.proofs.Common.{◌≡◌, ℕ, ◌+◌, Bool, List, true, false, sym, ap, ◌∙◌, arith, if◌then◌else◌, nat_lt, lt-ltb, le-ltb, Properties, has_starter, lead, max_run, passes, count_step, cond-true, count_step-marks, trail-since_last-push}
+use Rattle.nf_safe.proofs.Common.{◌≡◌, ℕ, ◌+◌, Bool, List, true, false, sym, ap, ◌∙◌, arith, if◌then◌else◌, nat_lt, lt-ltb, le-ltb, Properties, has_starter, lead, max_run, passes, count_step, cond-true, trail-since_last-push}
+use Rattle.nf_forms.specs.Laws.Runs.{lead-marks}
 use Rattle.nf_safe.proofs.counter.Counter.step_by.Goals as goal
 use Rattle.nf_safe.proofs.counter.Counter.step_by.Goals.{then-k, else-k+then-begins_anew, else-k+else-begins_anew}
 
 -- a row of non-starters alone
 all_marks : (p : Properties) (n : ℕ) (row : List ℕ) (b : Bool) (m : ℕ) → has_starter p row ≡ false → passes p n row ≡ b → m ≡ (if b then 0 else n) + lead p row → m ≡ count_step p n row
-all_marks p n row b m none answer is = is ∙ sym (count_step-marks p n row none ∙ ap (λ b. (if b then 0 else n) + lead p row) answer)
+all_marks p n row b m none answer is = rw (none, answer) (omega (arith, is, lead-marks p row none))
 
 pub returns-clause-answer : goal.returns-clause-answer
 returns-clause-answer c = λ p row ends. ap (λ n. nat_lt max_run n) (omega (arith, c.self.view_is, ends.lead))
