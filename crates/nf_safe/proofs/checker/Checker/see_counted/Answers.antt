@@ -31,6 +31,6 @@ returns-clause-sees g c = λ base x before.
       front = chars front;
       is_front = ap chars counted.ensures.split ∙ chars-append front counted.result.rest.now utf8;
       sound = all_sound p (chars front) counted.ensures.fit;
-      stands = goes_on-counted base p c.args.self.now x before (chars front) counted.result.counts counted.ensures.counts (omega (arith, counted.ensures.leads, c.room.ensures.room, c.room.ensures.within)) _ c.requires.none refl (ap (λ n. c.args.self.now.reached.chars + n) c.char_count.ensures)
+      stands = goes_on-counted base p c.args.self.now x before (chars front) counted.result.counts counted.ensures.counts (omega (arith, counted.ensures.leads, c.room.ensures.room, c.room.ensures.within)) c.requires.none _ refl (ap (λ n. c.args.self.now.reached.chars + n) c.char_count.ensures)
           (ap (λ n. c.args.self.now.reached.bytes + n) (sym (ap length (encodes-chars front utf8)))) c.pass.ensures;
     }
