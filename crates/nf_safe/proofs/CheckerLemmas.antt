@@ -1,21 +1,22 @@
 -- A checker's steps.
 use Rattle.nf_safe.proofs.Common.{◌≡◌, ℕ, ◌+◌, ◌≤◌, true, false, not, ◌&&◌, List, [], ◌∷◌, ◌++◌, length, Some, None, is_some, encode_utf8, encode_utf8_all, sym, ap, ap₂, ◌∙◌, arith, append_assoc, if◌then◌else◌, length-append, encodes-append, cond-true, cond-false, run-behind, Properties, Nfkd, trail, decomposed, is_sound, IsSound-from_test, counted, passes, count_step, is_in_format, place_from, count_step-within, trail-decomposed-counted, is_in_format-push, is_in_format-join, is_in_format-short, trail-in_format, decomposed-append, max_run, place_from-in_format, place_from-at, place_from-stays}
 use Rattle.std.proofs.lemmas.Bool.{false_from_ne_true}
-use Rattle.std.specs.Prelude.{IsNone}
-use Rattle.nf_counts.specs.Counts.{HasCounts}
-use Rattle.nf_counts.specs.declared.counts.Counts.{Counts}
+use Rattle.std.specs.Prelude.{IsNone, chars}
+use Rattle.nf_counts.specs.Counts.{IsCountedFront}
+use Rattle.nf_counts.specs.declared.counted.Counted.{Counted}
+use Rattle.nf_safe.proofs.CountedLemmas.{IsFront}
 use Rattle.nf_safe.proofs.RunsLemmas.{trail-counted}
 use Rattle.nf_safe.specs.declared.place.Place.{Place}
 use Rattle.nf_safe.specs.declared.checker.Checker.{Checker}
-use Rattle.nf_safe.specs.Checker.{place_of, StandsAfter, CountsFromEnd}
+use Rattle.nf_safe.specs.Checker.{place_of, StandsAfter, HasSeen, CountsFromEnd}
 
 is_on : (checker : Checker) → place_of checker ≡ None → checker.is_over ≡ false
 is_on checker none = false_from_ne_true _ (λ over. let some : place_of checker ≡ Some checker.reached = cond-true _ _ _ over in cc)
 
 -- while the text is in the format
-pub stands_on : (base : ℕ) (p : Properties) (checker : Checker) (x : List ℕ) → checker.is_over ≡ false → is_in_format p x ≡ true → checker.reached.chars ≡ length x
+pub stands_on : {base : ℕ} {p : Properties} {checker : Checker} {x : List ℕ} → checker.is_over ≡ false → is_in_format p x ≡ true → checker.reached.chars ≡ length x
     → checker.reached.bytes ≡ base + length (encode_utf8_all x) → checker.counter ≡ trail p (decomposed Nfkd p x) → StandsAfter base p checker x
-stands_on base p checker x on here chars bytes count = record {
+stands_on {base} {p} {checker} {x} on here chars bytes count = record {
   place = cond-false _ _ _ on ∙ sym (place_from-in_format p base x here);
   in_format = λ _. here;
   offset = λ _. bytes;
@@ -23,7 +24,7 @@ stands_on base p checker x on here chars bytes count = record {
   count = λ _. count;
 }
 
-module _ (base : ℕ) (p : Properties) (old : Checker) (x : List ℕ) (c : ℕ) (before : StandsAfter base p old x) where
+module _ {base : ℕ} {p : Properties} {old : Checker} {x : List ℕ} (before : StandsAfter base p old x) (c : ℕ) where
   -- where the format was left, the place is all
   left : (new : Checker) (at : Place) → place_of new ≡ Some at → place_from base p (x ++ c ∷ []) ≡ Some at → StandsAfter base p new (x ++ c ∷ [])
   left new at found is =
@@ -35,7 +36,7 @@ module _ (base : ℕ) (p : Properties) (old : Checker) (x : List ℕ) (c : ℕ) 
       let found : place_of old ≡ Some old.reached = cond-true _ _ _ over in
       left old old.reached found (place_from-stays p base x c old.reached (sym before.place ∙ found))
 
-  module _ (on : old.is_over ≡ false) (sound : is_sound p c ≡ true) (new : Checker) where
+  module _ (on : old.is_over ≡ false) (sound : is_sound p c ≡ true) where
     none : IsNone (place_of old)
     none = ap is_some (cond-false _ _ _ on)
 
@@ -45,40 +46,47 @@ module _ (base : ℕ) (p : Properties) (old : Checker) (x : List ℕ) (c : ℕ) 
         is_in_format-push p x c (IsSound-from_test p c sound).compat_few
         ∙ ap₂ (λ s n. s && not (passes p n (p.compat c))) (before.in_format none) (sym (before.count none))
 
-    pub leaves : passes p old.counter (p.compat c) ≡ true → place_of new ≡ Some old.reached → StandsAfter base p new (x ++ c ∷ [])
-    leaves long found =
+    pub leaves : {new : Checker} → passes p old.counter (p.compat c) ≡ true → place_of new ≡ Some old.reached → StandsAfter base p new (x ++ c ∷ [])
+    leaves {new} long found =
         left new old.reached found
         (place_from-at p base x c (before.in_format none) (in_format ∙ ap not long)
         ∙ sym (ap₂ (λ n m. Some (record { chars = n; bytes = m })) (before.chars none) (before.offset none)))
 
-    pub goes_on : passes p old.counter (p.compat c) ≡ false → new.is_over ≡ false → new.reached.chars ≡ old.reached.chars + 1
+    pub goes_on : {new : Checker} → passes p old.counter (p.compat c) ≡ false → new.is_over ≡ false → new.reached.chars ≡ old.reached.chars + 1
         → new.reached.bytes ≡ old.reached.bytes + length (encode_utf8 c) → new.counter ≡ count_step p old.counter (p.compat c) → StandsAfter base p new (x ++ c ∷ [])
     goes_on short still chars bytes count =
-        stands_on base p new (x ++ c ∷ []) still (in_format ∙ ap not short)
+        stands_on still (in_format ∙ ap not short)
         (omega (arith, before.chars none, length-append x (c ∷ [])))
         (omega (arith, before.offset none, ap length (encodes-append x (c ∷ [])), length-append (encode_utf8_all x) (encode_utf8 c ++ []), length-append (encode_utf8 c) []))
         (count ∙ count_step-within p old.counter (p.compat c) short ∙ ap (λ n. counted p n (p.compat c)) (before.count none) ∙ sym (trail-decomposed-counted p x c))
 
--- behind text of which the non-starters are counted
-pub goes_on-counted : (base : ℕ) (p : Properties) (old : Checker) (x : List ℕ) → StandsAfter base p old x → (y : List ℕ) (counts : Counts) → HasCounts p (decomposed Nfkd p y) counts
-    → old.counter + counts.lead ≤ max_run → place_of old ≡ None → (new : Checker) → new.is_over ≡ old.is_over → new.reached.chars ≡ old.reached.chars + length y
-    → new.reached.bytes ≡ old.reached.bytes + length (encode_utf8_all y) → new.counter ≡ (if counts.has_starter then counts.trail else old.counter + counts.lead) → StandsAfter base p new (x ++ y)
-goes_on-counted base p old x before y counts has room on new same chars bytes count =
+-- behind a front of which the non-starters are counted
+pub goes_on-counted : {base : ℕ} {p : Properties} {old new : Checker} {x : List ℕ} {room : ℕ} {text : List ℕ} {counted : Counted} → StandsAfter base p old x → IsCountedFront p room text counted → IsFront p text counted
+    → old.counter + counted.counts.lead ≤ max_run → place_of old ≡ None → new.is_over ≡ old.is_over → new.reached.chars ≡ old.reached.chars + length (chars counted.front.now)
+    → new.reached.bytes ≡ old.reached.bytes + length counted.front.now → new.counter ≡ (if counted.counts.has_starter then counted.counts.trail else old.counter + counted.counts.lead) → HasSeen base p new x text counted.rest.now
+goes_on-counted {base} {p} {old} {new} {x} {room} {text} {counted} before is at short on same chars_are bytes count =
     let none = ap is_some on in
-    let here = is_in_format-join p x y (before.in_format none) (is_in_format-short p y (omega (arith, has.longest, counts.longest_within))) (omega (arith, before.count none)) in
-    stands_on base p new (x ++ y) (same ∙ is_on old on) here
-    (omega (arith, before.chars none, length-append x y))
-    (omega (arith, before.offset none, ap length (encodes-append x y), length-append (encode_utf8_all x) (encode_utf8_all y)))
-    (count ∙ trail-counted p (decomposed Nfkd p x) (decomposed Nfkd p y) counts old.counter has (before.count none) ∙ ap (trail p) (sym (decomposed-append p Nfkd x y)))
+    let y = chars counted.front.now in
+    let has = is.counts in
+    let here = is_in_format-join p x y (before.in_format none) (is_in_format-short p y (omega (arith, has.longest, counted.counts.longest_within))) (omega (arith, has.lead, before.count none)) in
+    record {
+      front = y;
+      is_front = at.split;
+      sound = at.sound;
+      stands = stands_on (same ∙ is_on old on) here
+          (omega (arith, before.chars none, length-append x y))
+          (omega (arith, before.offset none, ap length at.bytes, ap length (encodes-append x y), length-append (encode_utf8_all x) (encode_utf8_all y)))
+          (count ∙ trail-counted p (decomposed Nfkd p x) (decomposed Nfkd p y) counted.counts old.counter has (before.count none) ∙ ap (trail p) (sym (decomposed-append p Nfkd x y)));
+    }
 
 -- one that began anew within the text, and has seen its end, stands where one that saw all of it does
-pub goes_on_from : (base : ℕ) (p : Properties) (old end : Checker) (x y z : List ℕ) → StandsAfter base p old x → StandsAfter (base + length (encode_utf8_all (x ++ y))) p end z
-    → CountsFromEnd p y z → place_of old ≡ None → place_of end ≡ None → (new : Checker) → new.is_over ≡ old.is_over → new.reached.chars ≡ old.reached.chars + length (y ++ z)
+pub goes_on_from : {base : ℕ} {p : Properties} {old end new : Checker} {x y z : List ℕ} → StandsAfter base p old x → StandsAfter (base + length (encode_utf8_all (x ++ y))) p end z
+    → CountsFromEnd p y z → place_of old ≡ None → place_of end ≡ None → new.is_over ≡ old.is_over → new.reached.chars ≡ old.reached.chars + length (y ++ z)
     → new.reached.bytes ≡ end.reached.bytes → new.counter ≡ end.counter → StandsAfter base p new (x ++ (y ++ z))
-goes_on_from base p old end x y z before behind anew on alone new same chars bytes count =
+goes_on_from {base} {p} {old} {end} {new} {x} {y} {z} before behind anew on alone same chars bytes count =
     let none = ap is_some on in
     let inside = before.in_format none in
-    stands_on base p new (x ++ (y ++ z)) (same ∙ is_on old on) (is_in_format-join p x (y ++ z) inside anew.in_format (omega (arith, trail-in_format p x inside)))
+    stands_on (same ∙ is_on old on) (is_in_format-join p x (y ++ z) inside anew.in_format (omega (arith, trail-in_format p x inside)))
     (omega (arith, before.chars none, length-append x (y ++ z)))
     (omega (arith, behind.offset (ap is_some alone), ap (λ w. length (encode_utf8_all w)) (append_assoc x y z), ap length (encodes-append (x ++ y) z), length-append (encode_utf8_all (x ++ y)) (encode_utf8_all z)))
     (count ∙ behind.count (ap is_some alone) ∙ sym (ap (λ w. trail p (decomposed Nfkd p w)) (sym (append_assoc x y z)) ∙ run-behind p (x ++ y) z anew.some))

@@ -4,4 +4,4 @@ use Rattle.nf_safe.proofs.checker.Checker.go_on_from.Goals as goal
 
 pub returns-clause-stands : goal.returns-clause-stands
 returns-clause-stands c = λ base p x y z before count anew behind.
-    goes_on_from base p c.args.self.now c.args.end x y z before behind anew c.requires.none c.requires.end _ refl (ap (λ n. c.args.self.now.reached.chars + n) count) refl refl
+    goes_on_from before behind anew c.requires.none c.requires.end refl (ap (λ n. c.args.self.now.reached.chars + n) count) refl refl

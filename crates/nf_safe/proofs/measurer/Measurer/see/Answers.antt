@@ -17,7 +17,7 @@ returns-clause-stands g c = λ x before.
       | else-is_parted-via-else-is_parted w ↦ let absent : true ≡ false = sym parted ∙ w.if-is_parted.false in cc
     ] in
     let ends = c.in-Some.ensures.ends in
-    goes_on p c.args.self.now x before _ c.args.c c.step_by-is_parted.result (sym c.in-Some.ensures.sound) (c.step_by-is_parted.ensures.answer p _ ends) joins
+    goes_on before _ (sym c.in-Some.ensures.sound) (c.step_by-is_parted.ensures.answer p _ ends) joins
     (c.step_by-is_parted.ensures.count p _ ends)
     (c.in-Some.ensures.runs _ before.runs)
     (ap (λ n. c.args.self.now.bytes + n) c.len_utf8.ensures.len) refl
