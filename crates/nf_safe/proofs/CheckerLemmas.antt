@@ -76,7 +76,7 @@ goes_on-counted {base} {p} {old} {new} {x} {room} {text} {counted} before is at 
       stands = stands_on (same ∙ is_on old on) here
           (omega (arith, before.chars none, length-append x y))
           (omega (arith, before.offset none, ap length at.bytes, ap length (encodes-append x y), length-append (encode_utf8_all x) (encode_utf8_all y)))
-          (count ∙ trail-counted p (decomposed Nfkd p x) (decomposed Nfkd p y) counted.counts old.counter has (before.count none) ∙ ap (trail p) (sym (decomposed-append p Nfkd x y)));
+          (count ∙ trail-counted (decomposed Nfkd p x) has (before.count none) ∙ ap (trail p) (sym (decomposed-append p Nfkd x y)));
     }
 
 -- one that began anew within the text, and has seen its end, stands where one that saw all of it does

@@ -85,7 +85,7 @@ goes_on-counted {p} {old} {new} {x} {room} {text} {counted} before is at short c
       stands = record {
         sound = ap (list_all (is_sound p)) safe ∙ sound-append p Nfkd out y before.sound at.sound;
         values = values_with before new y runs_are (omega (arith, ap length at.bytes)) chars_are (omega (arith, ap length safe, length-append out y)) (omega arith);
-        count = count ∙ trail-counted p (decomposed Nfkd p out) (decomposed Nfkd p y) counted.counts old.counter has before.count
+        count = count ∙ trail-counted (decomposed Nfkd p out) has before.count
             ∙ sym (ap (λ o. trail p (decomposed Nfkd p o)) safe ∙ ap (trail p) (decomposed-append p Nfkd out y));
         runs = runs_are;
       };

@@ -1,5 +1,5 @@
-use Rattle.nf_safe.proofs.Common.{◌≡◌, ◌+◌, max, cond-true, cond-false, sym, ap, ap₂, ◌∙◌, refl, if◌then◌else◌}
-use Rattle.nf_safe.proofs.RunsLemmas.{push_counts}
+use Rattle.nf_safe.proofs.Common.{◌≡◌, ◌+◌, cond-true, cond-false, sym, ap, ◌∙◌, arith, if◌then◌else◌}
+use Rattle.nf_safe.proofs.RunsLemmas.{appends, trail-counted}
 use Rattle.nf_safe.proofs.runs.Runs.push_counts.Goals as goal
 use Rattle.nf_safe.proofs.runs.Runs.push_counts.Goals.{then-counts, else-counts}
 
@@ -11,5 +11,4 @@ returns-clause-runs c = λ p w v has before.
       | then-counts w ↦ w.self-is ∙ w.from-then-counts.ensures ∙ sym (cond-true _ _ _ w.if-counts.true)
       | else-counts w ↦ w.self-is ∙ ap (λ n. c.args.self.now.last + n) c.from.ensures ∙ sym (cond-false _ _ _ w.if-counts.false)
     ] in
-    push_counts p c.args.self.now _ w v counts has before refl
-    (c.max.ensures ∙ ap (λ n. max c.args.self.now.longest n) (c.max-longest.ensures ∙ ap₂ (λ n m. max (c.args.self.now.last + n) m) c.from.ensures c.from-2.ensures)) last
+    appends v before (omega arith) (omega arith) (last ∙ trail-counted w has before.last)
