@@ -1,5 +1,5 @@
 -- A checker's steps.
-use Rattle.nf_safe.proofs.Common.{◌≡◌, ℕ, ◌+◌, ◌≤◌, true, false, not, ◌&&◌, List, [], ◌∷◌, ◌++◌, length, Some, None, is_some, encode_utf8, encode_utf8_all, sym, ap, ap₂, ◌∙◌, arith, append_assoc, if◌then◌else◌, length-append, encodes-append, cond-true, cond-false, run-behind, Properties, Nfkd, trail, decomposed, is_sound, IsSound-from_test, counted, passes, count_step, is_in_format, place_from, count_step-within, trail-decomposed-counted, is_in_format-push, is_in_format-join, is_in_format-short, trail-in_format, decomposed-append, max_run, place_from-in_format, place_from-at, place_from-stays}
+use Rattle.nf_safe.proofs.Common.{◌≡◌, ℕ, ◌+◌, ◌≤◌, true, false, not, ◌&&◌, List, [], ◌∷◌, ◌++◌, length, Some, None, is_some, encode_utf8, encode_utf8_all, sym, ap, ap₂, ◌∙◌, arith, append_assoc, if◌then◌else◌, length-append, encodes-append, cond-true, cond-false, run-behind, Properties, Nfkd, trail, decomposed, is_sound, counted, passes, count_step, is_in_format, place_from, count_step-within, trail-decomposed-counted, is_in_format-push, is_in_format-join, is_in_format-short, trail-in_format, decomposed-append, max_run, place_from-in_format, place_from-at, place_from-stays}
 use Rattle.std.proofs.lemmas.Bool.{false_from_ne_true}
 use Rattle.std.specs.Prelude.{IsNone, chars}
 use Rattle.nf_counts.specs.Counts.{IsCountedFront}
@@ -43,7 +43,7 @@ module _ {base : ℕ} {p : Properties} {old : Checker} {x : List ℕ} (before : 
     -- with c the text is in the format, or not
     in_format : is_in_format p (x ++ c ∷ []) ≡ not (passes p old.counter (p.compat c))
     in_format =
-        is_in_format-push p x c (IsSound-from_test p c sound).compat_few
+        is_in_format-push p x c sound
         ∙ ap₂ (λ s n. s && not (passes p n (p.compat c))) (before.in_format none) (sym (before.count none))
 
     pub leaves : {new : Checker} → passes p old.counter (p.compat c) ≡ true → place_of new ≡ Some old.reached → StandsAfter base p new (x ++ c ∷ [])

@@ -1,5 +1,5 @@
 -- The stream-safe text is the text's greedy cut with a joiner between each two pieces.
-use Rattle.std.proofs.Common.{◌≡◌, ℕ, zero, suc, ◌+◌, ◌≤◌, Bool, true, false, not, cond, List, [], ◌∷◌, ◌++◌, length, take, drop, refl, sym, ap, ap₂, ◌∙◌, subst, arith, append-nil, append_assoc, le-ltb, length-drop}
+use Rattle.std.proofs.Common.{◌≡◌, ℕ, zero, suc, ◌+◌, ◌≤◌, Bool, true, false, not, cond, List, [], ◌∷◌, ◌++◌, length, take, drop, refl, sym, ap, ap₂, ◌∙◌, subst, arith, append-nil, append_assoc, length-drop}
 use Rattle.std.specs.Prelude.{fold}
 use Rattle.std.specs.List.{list_all}
 use Rattle.std.proofs.lemmas.Bool.{cond-true, and_parts, and_from, false≢true, true_from_ne_false}
@@ -9,13 +9,11 @@ use Rattle.std.proofs.lemmas.List.Sums.{fold-append}
 use Rattle.std.proofs.Math.Seq.{take-append_seam, drop-append_seam}
 use Rattle.nf_forms.specs.Properties.{Properties}
 use Rattle.nf_forms.specs.declared.form.Form.TheVariants.{Nfkd}
-use Rattle.nf_forms.specs.Runs.{lead}
-use Rattle.nf_forms.specs.StreamSafe.{joiner, max_run, is_too_long, safe_step, stream_safe}
-use Rattle.nf_forms.specs.Sound.{max_row, is_sound}
+use Rattle.nf_forms.specs.StreamSafe.{joiner, is_too_long, safe_step, stream_safe}
+use Rattle.nf_forms.specs.Sound.{is_sound}
 use Rattle.nf_forms.specs.Laws.Last.{by_last}
-use Rattle.nf_forms.specs.Laws.Runs.{lead-le-length}
 use Rattle.nf_forms.specs.Laws.Sound.{IsSoundText, IsSound-from_test, JoinerIsPlain-from_sound, sound_last}
-use Rattle.nf_forms.specs.Laws.StreamSafe.{stream_safe-push, trail-decomposed-joiner}
+use Rattle.nf_forms.specs.Laws.StreamSafe.{stream_safe-push, longest-le-length, trail-decomposed-joiner}
 use Rattle.nf_forms.specs.Laws.Closing.{safe-closed}
 use Rattle.nf_forms.specs.Laws.Audited.{stream_safe-short}
 use Rattle.nf_safe.specs.LongestFront.{longest_front, IsLongestFront}
@@ -23,12 +21,9 @@ use Rattle.nf_safe.specs.Place.{is_in_format}
 use Rattle.nf_safe.specs.Pieces.{IsGreedyCut, rejoined}
 use Rattle.nf_safe.specs.Laws.Count.{sound-fold}
 use Rattle.nf_safe.specs.Laws.LongestFront.{longest_front-ge, longest_front_is}
-use Rattle.nf_safe.specs.Laws.Place.{is_in_format-none, is_in_format-push, longest-in_format, is_in_format-stream_safe}
+use Rattle.nf_safe.specs.Laws.Place.{is_in_format-none, is_in_format-push, is_in_format-short, longest-in_format, is_in_format-stream_safe}
 
 module _ (p : Properties) where
-  few : (c : ℕ) → is_sound p c ≡ true → length (p.compat c) ≤ max_row
-  few c sound = (IsSound-from_test p c sound).compat_few
-
   sound-parts : (x y : List ℕ) → IsSoundText p (x ++ y) → IsSoundText p x × IsSoundText p y
   sound-parts x y sound = and_parts _ _ (sym (list_all-append (is_sound p) x y) ∙ sound)
 
@@ -64,8 +59,7 @@ module _ (p : Properties) where
   -- alone a character is in the format
   one-in_format : (c : ℕ) → is_sound p c ≡ true → is_in_format p (c ∷ []) ≡ true
   one-in_format c sound =
-      is_in_format-push p [] c (few c sound)
-      ∙ and_from _ _ (is_in_format-none p) (ap not (le-ltb max_run (0 + lead p (p.compat c)) (omega (arith, lead-le-length p (p.compat c), few c sound))))
+      is_in_format-short p (c ∷ []) (omega (arith, longest-le-length p (p.compat c ++ []), length-append (p.compat c) [], (IsSound-from_test p c sound).compat_few))
 
   -- where one character more leaves the format, a joiner goes before it, and the rest is filtered alone
   parted-behind : (piece : List ℕ) (d : ℕ) (rest : List ℕ) → IsSoundText p (stream_safe p (piece ++ d ∷ rest))
@@ -75,7 +69,7 @@ module _ (p : Properties) where
       let put = piece ++ joiner ∷ [] in
       let d_sound = (and_parts _ _ (sound-parts piece (d ∷ rest) (sound-source (piece ++ d ∷ rest) sound)).1).0 in
       let long : is_too_long p piece d ≡ true =
-      true_from_ne_false _ (λ fits. false≢true (sym out ∙ is_in_format-push p piece d (few d d_sound) ∙ and_from _ _ inside (ap not fits))) in
+      true_from_ne_false _ (λ fits. false≢true (sym out ∙ is_in_format-push p piece d d_sound ∙ and_from _ _ inside (ap not fits))) in
       let step : stream_safe p (piece ++ d ∷ rest) ≡ fold (safe_step p) (put ++ d ∷ []) rest =
       fold-append (safe_step p) [] piece (d ∷ rest)
       ∙ ap (λ o. fold (safe_step p) (safe_step p o d) rest) (stream_safe-in_format piece inside)
@@ -90,13 +84,12 @@ module _ (p : Properties) where
 
   -- a piece is in the format, and the character behind it leaves the format
   piece-inside : (piece rest : List ℕ) → length piece ≡ longest_front (is_in_format p) (piece ++ rest) → is_in_format p piece ≡ true
-  piece-inside piece rest len =
-      ap (is_in_format p) (sym (take-append_seam piece rest) ∙ ap (λ n. take n (piece ++ rest)) len) ∙ (longest (piece ++ rest)).passes
+  piece-inside piece rest len = rw (← len, take-append_seam piece rest) at (longest (piece ++ rest)).passes
 
   piece-ends : (piece : List ℕ) (d : ℕ) (rest : List ℕ) → length piece ≡ longest_front (is_in_format p) (piece ++ d ∷ rest) → is_in_format p (piece ++ d ∷ []) ≡ false
   piece-ends piece d rest len =
-      ap (is_in_format p) (sym (take-append_seam (piece ++ d ∷ []) rest) ∙ ap (take (length (piece ++ d ∷ []))) (append_assoc piece (d ∷ []) rest))
-      ∙ (longest (piece ++ d ∷ rest)).longer (length (piece ++ d ∷ [])) (simp length-append (omega arith)) (simp length-append (omega arith))
+      rw (← append_assoc piece (d ∷ []) rest, take-append_seam (piece ++ d ∷ []) rest)
+      at ((longest (piece ++ d ∷ rest)).longer (length (piece ++ d ∷ [])) (simp length-append (omega arith)) (simp length-append (omega arith)))
 
   pub stream_safe-cut : (x : List ℕ) → IsSoundText p (stream_safe p x) → (pieces : List (List ℕ)) → IsGreedyCut p x pieces → stream_safe p x ≡ rejoined pieces
   stream_safe-cut x sound [] cut = ap (stream_safe p) cut

@@ -10,10 +10,10 @@ use Rattle.nf_forms.specs.declared.form.Form.TheVariants.{Nfkd}
 use Rattle.nf_forms.specs.Runs.{lead, trail, longest}
 use Rattle.nf_forms.specs.Forms.{decomposed}
 use Rattle.nf_forms.specs.StreamSafe.{max_run, stream_safe}
-use Rattle.nf_forms.specs.Sound.{max_row}
+use Rattle.nf_forms.specs.Sound.{is_sound}
 use Rattle.nf_forms.specs.Laws.Runs.{longest-append}
 use Rattle.nf_forms.specs.Laws.Starters.{longest-order}
-use Rattle.nf_forms.specs.Laws.Sound.{IsSoundText}
+use Rattle.nf_forms.specs.Laws.Sound.{IsSoundText, IsSound-from_test}
 use Rattle.nf_forms.specs.Laws.StreamSafe.{decomposed-append, longest-le-length, longest-decomposed-push, longest-stream_safe-le}
 use Rattle.nf_safe.specs.declared.place.Place.{Place}
 use Rattle.nf_safe.specs.Count.{passes}
@@ -41,11 +41,11 @@ module _ (p : Properties) where
   pub is_in_format-none : is_in_format p [] ≡ true
   is_in_format-none = longest-normal_form []
 
-  pub is_in_format-push : (x : List ℕ) (c : ℕ) → length (p.compat c) ≤ max_row
+  pub is_in_format-push : (x : List ℕ) (c : ℕ) → is_sound p c ≡ true
       → is_in_format p (x ++ c ∷ []) ≡ (is_in_format p x && not (passes p (trail p (decomposed Nfkd p x)) (p.compat c)))
-  is_in_format-push x c few =
+  is_in_format-push x c sound =
       longest-normal_form (x ++ c ∷ []) ∙ ap (λ n. nat_le n max_run) (longest-decomposed-push p Nfkd x c)
-      ∙ next _ (trail p (decomposed Nfkd p x) + lead p (p.compat c)) (longest p (p.compat c)) (omega (arith, longest-le-length p (p.compat c)))
+      ∙ next _ (trail p (decomposed Nfkd p x) + lead p (p.compat c)) (longest p (p.compat c)) (omega (arith, longest-le-length p (p.compat c), (IsSound-from_test p c sound).compat_few))
       ∙ ap (λ b. b && not (passes p (trail p (decomposed Nfkd p x)) (p.compat c))) (sym (longest-normal_form x))
     where
       next : (a b k : ℕ) → k ≤ max_run → nat_le (max a (max b k)) max_run ≡ (nat_le a max_run && not (nat_lt max_run b))

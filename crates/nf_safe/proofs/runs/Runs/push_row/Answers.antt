@@ -1,9 +1,6 @@
-use Rattle.nf_safe.proofs.Common.{◌==◌, [], ◌∷◌, ◌++◌, take, sym, ap, arith, append_assoc, append-nil}
+use Rattle.nf_safe.proofs.Common.{◌==◌, [], ◌∷◌, ◌++◌, take, sym, ap, arith, append_assoc}
 use Rattle.std.proofs.lemmas.List.{take_all, take_more}
 use Rattle.nf_safe.proofs.runs.Runs.push_row.Goals as goal
-
-pub loop-c-init : goal.loop-c-init
-loop-c-init g c = record { few = omega arith; runs = λ w before. rw append-nil before }
 
 pub loop-c-preserved : goal.loop-c-preserved
 loop-c-preserved g c =
