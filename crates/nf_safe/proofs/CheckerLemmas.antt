@@ -68,7 +68,7 @@ goes_on-counted {base} {p} {old} {new} {x} {room} {text} {counted} before is at 
     let none = ap is_some on in
     let y = chars counted.front.now in
     let has = is.counts in
-    let here = is_in_format-join p x y (before.in_format none) (is_in_format-short p y (omega (arith, has.longest, counted.counts.longest_within))) (omega (arith, has.lead, before.count none)) in
+    let here = is_in_format-join p x y (before.in_format none) (is_in_format-short p y (omega arith)) (omega (arith, before.count none)) in
     record {
       front = y;
       is_front = at.split;

@@ -42,5 +42,5 @@ front_is {p} {room} {text} {counted} is utf8 =
       whole = ap length is.split ∙ length-append counted.front.now counted.rest.now;
       bytes = bytes;
       chars_within = omega (arith, length-le-encodes y, ap length bytes);
-      nonstarters_within = omega (arith, is.counts.nonstarters, few p y all);
+      nonstarters_within = omega (arith, few p y all);
     }

@@ -30,12 +30,12 @@ module _ {p : Properties} {old : Measurer} {x : List ℕ} (before : StandsAfter 
       → new.put + length (stream_safe p x) + length y ≡ old.put + length (stream_safe p (x ++ y)) → new.unassigned ≡ old.unassigned + count_by (λ c. not (p.assigned c)) y
       → values_of new ≡ measure_of p (x ++ y)
   values_with new y runs bytes chars put unassigned = same_values
-      (omega (arith, bytes, ap (λ m. m.bytes) before.values, ap length (encodes-append x y), length-append (encode_utf8_all x) (encode_utf8_all y)))
-      (omega (arith, chars, ap (λ m. m.chars) before.values, length-append x y))
+      (omega (arith, ap (λ m. m.bytes) before.values, ap length (encodes-append x y), length-append (encode_utf8_all x) (encode_utf8_all y)))
+      (omega (arith, ap (λ m. m.chars) before.values, length-append x y))
       runs.nonstarters
       (runs.longest ∙ sym (longest-order p (decomposed Nfkd p (x ++ y))))
-      (omega (arith, put, ap (λ m. m.put) before.values, length-append x y, length-stream_safe-ge p x))
-      (omega (arith, unassigned, ap (λ m. m.unassigned) before.values, sum_by-append (λ c. cond (not (p.assigned c)) 1 0) x y))
+      (omega (arith, ap (λ m. m.put) before.values, length-append x y, length-stream_safe-ge p x))
+      (omega (arith, ap (λ m. m.unassigned) before.values, sum_by-append (λ c. cond (not (p.assigned c)) 1 0) x y))
 
   -- the count decides where the joiner is put
   pub goes_on : {new : Measurer} {b : Bool} (c : ℕ) → is_sound p c ≡ true → b ≡ passes p old.counter (p.compat c) → (b ≡ true → is_sound p joiner ≡ true)
@@ -51,8 +51,8 @@ module _ {p : Properties} {old : Measurer} {x : List ℕ} (before : StandsAfter 
       let runs_are : HasRuns p new.runs (decomposed Nfkd p (x ++ c ∷ [])) = subst (HasRuns p new.runs) (sym (decomposed-push p Nfkd x c)) runs in
       record {
         sound = ap (list_all (is_sound p)) push ∙ sound-append p Nfkd (parted p out c) (c ∷ []) parted_sound (and_from _ _ sound refl);
-        values = values_with new (c ∷ []) runs_are (omega (arith, bytes, length-append (encode_utf8 c) [])) chars
-            (omega (arith, put, ap length push, length-safe_step p out c, ap (λ b. cond {A = ℕ} b 1 0) is)) (omega (arith, unassigned));
+        values = values_with new (c ∷ []) runs_are (omega (arith, length-append (encode_utf8 c) [])) chars
+            (omega (arith, ap length push, length-safe_step p out c, ap (λ b. cond {A = ℕ} b 1 0) is)) (omega arith);
         count = count ∙ ap (λ n. count_step p n (p.compat c)) before.count
             ∙ sym (ap (λ o. trail p (decomposed Nfkd p o)) push ∙ trail-decomposed-safe_step p out c (λ long. JoinerIsPlain-from_sound p (joins (is ∙ long))));
         runs = runs_are;
@@ -73,7 +73,7 @@ goes_on-counted {p} {old} {new} {x} {room} {text} {counted} before is at short c
     fold-append (safe_step p) [] x y
     ∙ ap (λ o. fold (safe_step p) o y) (sym (stream_safe-in_format p out inside))
     ∙ sym (fold-append (safe_step p) [] out y)
-    ∙ stream_safe-in_format p (out ++ y) (is_in_format-join p out y inside (is_in_format-short p y (omega (arith, has.longest, counted.counts.longest_within))) (omega (arith, has.lead, before.count))) in
+    ∙ stream_safe-in_format p (out ++ y) (is_in_format-join p out y inside (is_in_format-short p y (omega arith)) (omega arith)) in
     let all_assigned : count_by (λ c. not (p.assigned c)) y ≡ 0 =
     eqb-true _ _
     (sum_by-zero (λ c. cond (not (p.assigned c)) 1 0) y

@@ -12,5 +12,5 @@ invariant_of-self g c = let at = front_is c.counted_front-counted.ensures (searc
 pub returns-clause-sees : goal.returns-clause-sees
 returns-clause-sees g c = λ base x before.
     let is = c.counted_front-counted.ensures in
-    goes_on-counted before is (front_is is (search rules)) (omega (arith, is.leads)) c.requires.none refl
+    goes_on-counted before is (front_is is (search rules)) (omega arith) c.requires.none refl
     (ap (λ n. c.args.self.now.reached.chars + n) c.char_count.ensures) refl c.pass.ensures

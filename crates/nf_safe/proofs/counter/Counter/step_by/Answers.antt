@@ -4,26 +4,20 @@ use Rattle.nf_safe.proofs.counter.Counter.step_by.Goals as goal
 use Rattle.nf_safe.proofs.counter.Counter.step_by.Goals.{then-k, else-k+then-begins_anew, else-k+else-begins_anew}
 
 -- a row of non-starters alone
-all_marks : (p : Properties) (n : ℕ) (row : List ℕ) (b : Bool) (m : ℕ) → has_starter p row ≡ false → passes p n row ≡ b → m ≡ (if b then 0 else n) + lead p row → m ≡ count_step p n row
-all_marks p n row b m none answer is = rw (none, answer) (omega (arith, is, lead-marks p row none))
+all_marks : (p : Properties) (n : ℕ) (row : List ℕ) (b : Bool) {m : ℕ} → has_starter p row ≡ false → passes p n row ≡ b → m ≡ (if b then 0 else n) + lead p row → m ≡ count_step p n row
+all_marks p n row b none answer is = rw (none, answer) (omega (arith, lead-marks p row none))
 
 pub returns-clause-answer : goal.returns-clause-answer
-returns-clause-answer c = λ p row ends. ap (λ n. nat_lt max_run n) (omega (arith, c.self.view_is, ends.lead))
+returns-clause-answer c = λ p row ends. ap (λ n. nat_lt max_run n) (omega arith)
 
 pub returns-clause-count : goal.returns-clause-count
 returns-clause-count c = λ p row ends.
-    let view_is = c.self.view_is in
-    let lead_is = ends.lead in
     elim c.if-k.branch [
       | then-k w ↦ w.self-is ∙ ends.trail ∙ sym (cond-true _ _ _ (sym ends.has_starter ∙ w.if-k.true))
-      | else-k+then-begins_anew w ↦
-          all_marks p c.args.self.now row true c.if-k.self (sym ends.has_starter ∙ w.if-k.false)
-          (lt-ltb max_run _ (omega (arith, view_is, lead_is, w.if-begins_anew.true))) (omega (arith, w.self-is, lead_is))
-      | else-k+else-begins_anew w ↦
-          all_marks p c.args.self.now row false c.if-k.self (sym ends.has_starter ∙ w.if-k.false)
-          (le-ltb max_run _ (omega (arith, view_is, lead_is, w.if-begins_anew.false))) (omega (arith, w.self-is, view_is, lead_is))
+      | else-k+then-begins_anew w ↦ all_marks p c.args.self.now row true (sym ends.has_starter ∙ w.if-k.false) (lt-ltb max_run _ (omega arith)) (omega arith)
+      | else-k+else-begins_anew w ↦ all_marks p c.args.self.now row false (sym ends.has_starter ∙ w.if-k.false) (le-ltb max_run _ (omega arith)) (omega arith)
     ]
 
 pub returns-clause-stands : goal.returns-clause-stands
 returns-clause-stands c = λ p row ends rows before.
-    returns-clause-count c p row ends ∙ ap (λ n. count_step p n row) before ∙ sym (trail-since_last-push p rows row)
+    rw (trail-since_last-push p rows row, ← before) (returns-clause-count c p row ends)

@@ -17,5 +17,5 @@ invariant_of-self g c =
 pub returns-clause-sees : goal.returns-clause-sees
 returns-clause-sees g c = λ x before.
     let is = c.counted_front-counted.ensures in
-    goes_on-counted before is (front_is is (search rules)) (omega (arith, is.leads)) c.pass.ensures
+    goes_on-counted before is (front_is is (search rules)) (omega arith) c.pass.ensures
     (c.push_counts.ensures.runs _ _ _ is.counts before.runs) refl (ap (λ n. c.args.self.now.chars + n) c.char_count.ensures) refl refl
