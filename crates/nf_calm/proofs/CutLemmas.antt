@@ -1,11 +1,12 @@
 -- A text in two, before its last starter that counts as no mark; and calm text so.
-use Rattle.std.proofs.Common.{◌≡◌, ◌⊎◌, ⊎_elim, inl, inr, ℕ, true, false, not, ◌||◌, ◌≤◌, List, [], ◌∷◌, ◌++◌, length, take, drop, refl, sym, ap, subst, ◌∙◌, arith, append_assoc, append-nil, take_at, drop_at, length-append, eqb-true, true≢false}
+use Rattle.std.proofs.Common.{◌≡◌, ◌⊎◌, ⊎_elim, inl, inr, ℕ, true, false, not, ◌||◌, List, [], ◌∷◌, ◌++◌, length, take, drop, refl, sym, ap, subst, ◌∙◌, arith, append_assoc, append-nil, eqb-true, true≢false}
 use Rattle.std.proofs.lemmas.Bool.{and_parts, and_from, or_parts, or_from, not-false}
-use Rattle.std.proofs.lemmas.List.{nil_from_length}
+use Rattle.std.proofs.Math.Seq.{take-append_seam, drop-append_seam}
+use Rattle.std.specs.Char.{IsScalar}
 use Rattle.std.specs.List.{list_all}
 use Rattle.std.specs.Str.{IsCharBoundary}
 use Rattle.std.specs.Prelude.{chars, encode_utf8, encode_utf8_all, IsUtf8}
-use Rattle.std.proofs.lemmas.Str.{chars-nil, chars-append, chars_past_char, encodes-chars, IsUtf8-nil, IsUtf8-append, IsUtf8-drop, IsCharBoundary-from_take, IsCharBoundary-at_seam}
+use Rattle.std.proofs.lemmas.Str.{chars-nil, chars-append, chars_past_char, encodes-chars, IsUtf8-nil, IsUtf8-append, IsUtf8-encode, IsCharBoundary-at_seam}
 use Rattle.ucd_normal.specs.CanonicalCombiningClass.{canonical_combining_class}
 use Rattle.nf_forms.specs.Runs.{has_starter, lead}
 use Rattle.nf_forms.specs.declared.form.Form.{Form}
@@ -22,14 +23,6 @@ use Rattle.nf_facts.specs.Passing.{is_among, halfwidth_marks, vowel_signs}
 use Rattle.nf_calm.specs.Front.{BeginsAndMarks}
 use Rattle.nf_calm.specs.Parts.{counts_as_mark, StarterAndMarks, SplitsAtStarter, MarksBehind}
 
--- what follows a whole text, within a text, is text
-IsUtf8-after : (text front back : List ℕ) → IsUtf8 text → IsUtf8 front → text ≡ front ++ back → IsUtf8 back
-IsUtf8-after text front back whole u e =
-    let n = length front in
-    let within : n ≤ length text = omega (arith, length-append front back, ap length e) in
-    let cut = IsCharBoundary-from_take text n whole within (subst IsUtf8 (sym (ap (take n) e ∙ take_at front back n refl)) u) in
-    subst IsUtf8 (ap (drop n) e ∙ drop_at front back n refl) (IsUtf8-drop text n whole cut)
-
 pub no_marks : (text : List ℕ) → IsUtf8 text → MarksBehind text text
 no_marks text u = record {
   marks = [];
@@ -40,26 +33,20 @@ no_marks text u = record {
 }
 
 -- none was found
-pub all_marks : (text front : List ℕ) → MarksBehind text front → length front ≡ 0 → SplitsAtStarter text [] text
-all_marks text front here none =
-    let nil = nil_from_length front none in
-    let same : here.marks ≡ text = sym (here.split ∙ ap (λ t. t ++ here.marks) nil) in
-    record {
-      text = refl;
-      characters = sym (ap (λ t. t ++ chars text) chars-nil);
-      back_utf8 = subst IsUtf8 same here.marks_utf8;
-      end = inr (refl, subst (λ t. list_all counts_as_mark (chars t) ≡ true) same here.are_marks);
-    }
+pub all_marks : (text : List ℕ) → MarksBehind text [] → SplitsAtStarter text [] text
+all_marks text here = record {
+  text = refl;
+  characters = sym (ap (λ t. t ++ chars text) chars-nil);
+  back_utf8 = subst IsUtf8 (sym here.split) here.marks_utf8;
+  end = inr (refl, subst (λ t. list_all counts_as_mark (chars t) ≡ true) (sym here.split) here.are_marks);
+}
 
-module _ (text last front : List ℕ) (here : MarksBehind text last) (c : ℕ) (u : IsUtf8 front) (e : last ≡ front ++ encode_utf8 c) where
-  char_utf8 : IsUtf8 (encode_utf8 c)
-  char_utf8 = IsUtf8-after last front (encode_utf8 c) here.front_utf8 u e
-
+module _ {text last front : List ℕ} (here : MarksBehind text last) (c : ℕ) (scalar : IsScalar c) (u : IsUtf8 front) (e : last ≡ front ++ encode_utf8 c) where
   abbrev behind : List ℕ
   behind = encode_utf8 c ++ here.marks
 
   behind_utf8 : IsUtf8 behind
-  behind_utf8 = IsUtf8-append (encode_utf8 c) here.marks char_utf8 here.marks_utf8
+  behind_utf8 = IsUtf8-append (encode_utf8 c) here.marks (IsUtf8-encode c scalar) here.marks_utf8
 
   chars-behind : chars behind ≡ c ∷ chars here.marks
   chars-behind = chars_past_char behind here.marks c behind_utf8 refl
@@ -79,16 +66,15 @@ module _ (text last front : List ℕ) (here : MarksBehind text last) (c : ℕ) (
   pub front_boundary : IsCharBoundary text (length front)
   front_boundary = IsCharBoundary-at_seam text front behind split behind_utf8
 
-  pub splits_at_starter : counts_as_mark c ≡ false → SplitsAtStarter text (take (length front) text) (drop (length front) text)
-  splits_at_starter other =
-      subst (λ a. SplitsAtStarter text a (drop (length front) text)) (sym (ap (take (length front)) split ∙ take_at front behind (length front) refl))
-      (subst (λ b. SplitsAtStarter text front b) (sym (ap (drop (length front)) split ∙ drop_at front behind (length front) refl))
+  pub splits_at_starter : {a b : List ℕ} → counts_as_mark c ≡ false → a ≡ take (length front) text → b ≡ drop (length front) text → SplitsAtStarter text a b
+  splits_at_starter other before after =
+      rw (before, after, split, take-append_seam front behind, drop-append_seam front behind)
       (record {
-        text = split;
-        characters = ap chars split ∙ chars-append front behind u;
+        text = refl;
+        characters = chars-append front behind u;
         back_utf8 = behind_utf8;
         end = inl (record { first = c; marks = chars here.marks; text = chars-behind; other = other; are_marks = here.are_marks });
-      }))
+      })
 
 module _ (f : Form) (lead_none : (c : ℕ) → canonical_combining_class c ≡ 0 → is_among vowel_signs c ≡ false → is_among halfwidth_marks c ≡ false → lead ucd (ucd.compat c) ≡ 0)
     (no_starter : (c : ℕ) → (is_among halfwidth_marks c || is_among vowel_signs c) ≡ true → has_starter ucd (ucd.compat c) ≡ false) where
@@ -123,7 +109,7 @@ module _ (f : Form) (lead_none : (c : ℕ) → canonical_combining_class c ≡ 0
     where
       some : StarterAndMarks (chars back) → ((front ≡ []) × (back ≡ [])) ⊎ BeginsAndMarks ucd f (chars back)
       some end =
-          let behind = (calm_behind ucd f (chars front) (end.first ∷ end.marks) 0 max_run class count (subst (λ t. IsCalm ucd f (chars front ++ t) class count) end.text calm)).2 in
+          let behind = (calm_behind ucd f (chars front) (end.first ∷ end.marks) 0 max_run class count (rw end.text at calm)).2 in
           inr (record {
             first = end.first;
             marks = end.marks;
@@ -133,11 +119,8 @@ module _ (f : Form) (lead_none : (c : ℕ) → canonical_combining_class c ≡ 0
           })
 
       none : (front ≡ []) × (list_all counts_as_mark (chars back) ≡ true) → ((front ≡ []) × (back ≡ [])) ⊎ BeginsAndMarks ucd f (chars back)
-      none marks = inl (marks.0, sym (encodes-chars back two.back_utf8) ∙ ap encode_utf8_all (empty (chars back) (subst (λ t. IsCalm ucd f t class count) alone calm) marks.1))
+      none marks = inl (marks.0, sym (encodes-chars back two.back_utf8) ∙ ap encode_utf8_all (empty (chars back) (rw (marks.0, chars-nil) at calm) marks.1))
         where
-          alone : chars front ++ chars back ≡ chars back
-          alone = ap (λ t. chars t ++ chars back) marks.0 ∙ ap (λ t. t ++ chars back) chars-nil
-
           empty : (cs : List ℕ) → IsCalm ucd f cs class count → list_all counts_as_mark cs ≡ true → cs ≡ []
           empty [] calm all = refl
           empty (c ∷ cs) calm all = absurd (true≢false (sym (calm-begins ucd f c cs class count calm).counts.some ∙ of_mark _ _ c _ _ calm.2 (and_parts _ _ all).0))

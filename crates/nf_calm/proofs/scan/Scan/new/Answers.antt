@@ -1,6 +1,5 @@
-use Rattle.std.proofs.Common.{[], refl, sym, subst}
+use Rattle.std.proofs.Common.{[], refl}
 use Rattle.std.proofs.lemmas.Str.{chars-nil, IsUtf8-nil}
-use Rattle.nf_forms.specs.Calm.{IsCalm}
 use Rattle.nf_forms.specs.Laws.CalmSteps.{calm_none}
 use Rattle.nf_forms.specs.Ucd.{ucd}
 use Rattle.nf_calm.proofs.scan.Scan.new.Goals as goal
@@ -11,5 +10,5 @@ returns c = λ f. record {
   split = refl;
   front_utf8 = IsUtf8-nil;
   rest_utf8 = c.utf8.text;
-  calm = subst (λ w. IsCalm ucd f w 0 30) (sym chars-nil) (calm_none ucd f);
+  calm = rw chars-nil (calm_none ucd f);
 }

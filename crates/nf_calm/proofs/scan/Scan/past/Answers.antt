@@ -1,8 +1,7 @@
-use Rattle.std.proofs.Common.{◌≡◌, ◌++◌, false, length, sym, ap, subst, ◌∙◌, arith, take, drop, take-append-drop, length-take-le}
+use Rattle.std.proofs.Common.{◌≡◌, ◌++◌, length, sym, ap, ◌∙◌, arith, take, drop, take-append-drop, length-take-le}
 use Rattle.std.proofs.lemmas.Str.{IsUtf8-take}
 use Rattle.nf_forms.specs.Ucd.{ucd}
 use Rattle.nf_forms.specs.Laws.CalmSteps.{begins_run}
-use Rattle.nf_calm.specs.Closer.{look_at}
 use Rattle.nf_calm.proofs.PlainLemmas.{boundary, calm_from-plain}
 use Rattle.nf_calm.proofs.ScanLemmas.{reaches_past_piece}
 use Rattle.nf_calm.proofs.scan.Scan.past.Goals as goal
@@ -19,9 +18,8 @@ returns-clause-calm c = λ text here.
     let whole : front ++ drop len rest ≡ rest = take-append-drop len rest in
     let long : length front ≡ len = length-take-le len rest c.requires.within in
     let u = IsUtf8-take rest len here.rest_utf8 (boundary form rest len c.requires.within c.requires.begins) in
-    reaches_past_piece form text c.args.self here (record { rest = c.range_from.result; marks = record { class = 0; count = 18 } }) c.range_from.utf8
-    front u
+    reaches_past_piece here c.range_from.utf8 front u
     (sym whole ∙ ap (λ t. front ++ t) (sym c.range_from.ensures.value))
     (calm_from-plain form (λ x passes. begins_run ucd form x (c.the_quick_check_tells.ensures.parting form x (c.plain_ranges_pass.ensures form x passes)) (c.every_character_is_sound.ensures.character x))
     c.args.self.marks.class c.args.self.marks.count front (drop len rest) u (omega (arith, long))
-    (λ k inside. subst (λ l. look_at form l k ≡ false) (sym whole) (c.requires.plain k (omega (arith, long)))))
+    (λ k inside. rw whole (c.requires.plain k (omega (arith, long)))))

@@ -1,4 +1,4 @@
-use Rattle.std.proofs.Common.{◌++◌, sym, ap, ◌∙◌}
+use Rattle.std.proofs.Common.{rules, ◌++◌, sym, ap, ◌∙◌}
 use Rattle.std.specs.Prelude.{encode_utf8}
 use Rattle.nf_calm.proofs.ScanLemmas.{reaches_past_char}
 use Rattle.nf_calm.proofs.scan.Scan.step.Goals as goal
@@ -6,4 +6,4 @@ use Rattle.nf_calm.proofs.scan.Scan.step.Goals as goal
 pub returns-clause-calm : goal.returns-clause-calm
 returns-clause-calm c = λ text here.
     let e = sym c.chars-chars.ensures.rest ∙ c.in_ok-c.ensures.steps.0 ∙ ap (λ t. encode_utf8 c.in_ok-c.c ++ t) (sym c.as_str.ensures) in
-    reaches_past_char c.args.form text c.args.self here (record { rest = c.as_str.result; marks = c.in_ok-marks.marks }) c.as_str.utf8 c.in_ok-c.c e c.in_ok-marks.ensures.goes_on
+    reaches_past_char here c.as_str.utf8 c.in_ok-c.c (search rules) e c.in_ok-marks.ensures.goes_on
