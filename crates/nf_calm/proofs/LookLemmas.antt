@@ -1,7 +1,7 @@
 -- Where bytes tell of a character, and where one begins.
-use Rattle.std.proofs.Common.{◌≡◌, ℕ, ◌+◌, ◌/◌, ◌<◌, ◌≤◌, ⊎_elim, Bool, true, false, not, ◌&&◌, ◌==◌, if◌then◌else◌, List, get_or, bit_and, bit_or, refl, sym, ap, ◌∙◌, arith, eqb-true, true≢false}
+use Rattle.std.proofs.Common.{◌≡◌, ℕ, ◌+◌, ◌/◌, ◌<◌, ◌≤◌, ⊎_elim, Bool, true, false, not, ◌&&◌, ◌==◌, List, get_or, bit_and, bit_or, refl, sym, ap, ◌∙◌, arith, eqb-true, true≢false}
 use Rattle.std.proofs.str.Laws.{order}
-use Rattle.std.proofs.lemmas.Bool.{and_right, cond_both, not-false}
+use Rattle.std.proofs.lemmas.Bool.{and_right, cond-false, cond_both, not-false}
 use Rattle.std.proofs.lemmas.Nat.{and_le_l, le_or_l, le_or_r}
 use Rattle.ucd_table.proofs.TrieCheck.{all_below, all_below-at}
 use Rattle.nf_forms.specs.declared.form.Form.{Form}
@@ -38,8 +38,7 @@ asked_each f lead P kana wide others = cond_both (lead == 0xE3) _ _ P (λ _. kan
 
 -- those that are asked for the sake of a lead byte with no sets of its own
 pub asked_of-others : (f : Form) (lead : ℕ) → (lead == 0xE3) ≡ false → (lead == 0xEF) ≡ false → triples_of f ≡ asked_of f lead
-asked_of-others f lead kana wide =
-    sym (ap (λ b. if b then kana_of f else (if lead == 0xEF then wide_of f else triples_of f)) kana ∙ ap (λ b. if b then wide_of f else triples_of f) wide)
+asked_of-others f lead kana wide = sym (cond-false _ _ _ kana ∙ cond-false _ _ _ wide)
 
 -- the tables have nothing for a byte that is no lead byte
 record NoLead (f : Form) : Type 0 where

@@ -1,22 +1,19 @@
 -- What bytes tell of a character is so: a character of which they tell that it passes lies in the form's ranges.
-use Rattle.std.proofs.Common.{◌≡◌, ℕ, ◌+◌, ◌*◌, ◌/◌, ◌%◌, ◌<◌, ◌≤◌, ◌⊎◌, ⊎_elim, inl, inr, Bool, true, false, not, ◌&&◌, ◌==◌, nat_lt, List, ◌++◌, bit_and, bit_or, refl, sym, ap, subst, ◌∙◌, arith, ltb-true, true≢false}
+use Rattle.std.proofs.Common.{◌≡◌, ℕ, ◌+◌, ◌*◌, ◌/◌, ◌%◌, ◌<◌, ◌≤◌, ◌⊎◌, inl, inr, Bool, true, false, not, ◌&&◌, ◌==◌, nat_lt, List, ◌++◌, bit_and, bit_or, refl, arith, le-ltb}
 use Rattle.std.specs.Prelude.{encode_utf8}
 use Rattle.std.proofs.str.Laws.{order, two, three, four}
-use Rattle.std.proofs.lemmas.Bool.{and_parts, and_from, true_from_ne_false}
+use Rattle.std.proofs.lemmas.Bool.{and_from}
 use Rattle.ucd_table.specs.Rows.{in_ranges}
 use Rattle.ucd_table.proofs.TrieCheck.{all_below, all_below-at}
 use Rattle.nf_forms.specs.declared.form.Form.{Form}
 use Rattle.nf_forms.specs.declared.form.Form.TheVariants.{Nfc}
 use Rattle.nf_facts.specs.PlainRanges.{plain_ranges}
-use Rattle.nf_facts.specs.Within.{lies_within, in_ranges-lies_within, or_else, either}
+use Rattle.nf_facts.specs.Within.{lies_within, in_ranges-lies_within, or_else}
 use Rattle.nf_calm.specs.Leads.{lead_bits, wants_look}
 use Rattle.nf_calm.specs.Closer.{pairs_of, triples_of, wants_pair, wants_triple, wants_triples, kana_of, wide_of, look_at}
 use Rattle.nf_lanes.specs.Sets.{byte_sets, pair_sets, triple_sets}
 use Rattle.nf_lanes.specs.declared.sets.Triples.{Triples}
 use Rattle.nf_calm.proofs.LookLemmas.{no_bits}
-
-second_of : (a b : Bool) → (a && b) ≡ false → a ≡ true → b ≡ false
-second_of a b none first = sym (ap (λ x. x && b) first) ∙ none
 
 -- by lead bytes: all that begins with one lies in the form's ranges; or it has to be looked up, also where the bytes behind
 -- lead bytes of another length are asked, and each that the bytes behind do not find lies there
@@ -67,7 +64,7 @@ told Nfc = record { ascii = refl; of_two = refl; of_three = refl; of_kana = refl
 told _ = record { ascii = refl; of_two = refl; of_three = refl; of_kana = refl; of_wide = refl; of_four = refl }
 
 module _ (f : Form) where
-  lies : (first last c : ℕ) → lies_within (plain_ranges f) first last ≡ true → first ≤ c → c ≤ last → in_ranges (plain_ranges f) c ≡ true
+  lies : (first last c : ℕ) → within f first last ≡ true → first ≤ c → c ≤ last → in_ranges (plain_ranges f) c ≡ true
   lies = in_ranges-lies_within (plain_ranges f)
 
   -- what is said of the bytes at a place
@@ -76,7 +73,7 @@ module _ (f : Form) where
 
   -- where a bit of the lead byte's is set, the bits of the sets with it are not none
   asked_by : (sets bits : ℕ) → not (bits == 0) ≡ true → not (bit_or sets bits == 0) ≡ true
-  asked_by sets bits others = true_from_ne_false _ (λ none. true≢false (sym others ∙ ap (λ n. not (n == 0)) (no_bits sets bits none).1))
+  asked_by sets bits others = grind (arith, no_bits sets bits)
 
   asked_triple : (lead next last : ℕ) → not (bit_and (lead_bits f lead) 11 == 0) ≡ true → wants_triples f lead next last ≡ true
   asked_triple lead next last others =
@@ -85,77 +82,58 @@ module _ (f : Form) where
 
   by_two : (k i last : ℕ) → k < 32 → i < 64 → look3 (192 + k) (128 + i) last ≡ false → in_ranges (plain_ranges f) (64 * k + i) ≡ true
   by_two k i last short little plain =
-      ⊎_elim (λ whole. lies (64 * k) (64 * k + 63) (64 * k + i) whole (omega arith) (omega arith))
-      (λ rest.
-      let looked = and_parts (wants_look f (192 + k)) _ rest in
-      let parts = and_parts (not (bit_and (lead_bits f (192 + k)) 11 == 0)) _ looked.1 in
-      let behind = second_of (wants_look f (192 + k)) _ plain looked.0 in
-      ⊎_elim (λ hit. absurd (true≢false (sym (and_from _ _ hit (asked_triple (192 + k) (128 + i) last parts.0)) ∙ behind)))
-      (λ here. lies (64 * k + i) (64 * k + i) (64 * k + i) here (omega arith) (omega arith))
-      (either (wants_pair f (192 + k) (128 + i)) _ (all_below-at (told_second f k) 64 i parts.1 little)))
-      (either (lies_within (plain_ranges f) (64 * k) (64 * k + 63)) _ (all_below-at (told_two f) 32 k (told f).of_two short))
+      let c = 64 * k + i in
+      grind (arith, lies (64 * k) (64 * k + 63) c, lies c c c, all_below-at (told_two f) 32 k (told f).of_two short, all_below-at (told_second f k) 64 i, asked_triple (192 + k) (128 + i) last)
 
   by_three_in : (t : Triples) → all_below (told_three f t) 16 ≡ true → (k i j : ℕ) → k < 16 → i < 64 → j < 64 → 2048 ≤ 4096 * k + 64 * i + j
       → (wants_look f (224 + k) && (wants_pair f (224 + k) (128 + i) && wants_triple t f (224 + k) (128 + i) (128 + j))) ≡ false → in_ranges (plain_ranges f) (4096 * k + 64 * i + j) ≡ true
   by_three_in t all k i j short little small large plain =
-      ⊎_elim (λ whole. lies (4096 * k) (4096 * k + 4095) (4096 * k + 64 * i + j) whole (omega arith) (omega arith))
-      (λ rest.
-      let looked = and_parts (wants_look f (224 + k)) _ rest in
-      let parts = and_parts (not (bit_and (lead_bits f (224 + k)) 13 == 0)) _ looked.1 in
-      let behind = second_of (wants_look f (224 + k)) _ plain looked.0 in
-      let triple = second_of (wants_pair f (224 + k) (128 + i)) (wants_triple t f (224 + k) (128 + i) (128 + j)) behind (asked_by (pair_sets (pairs_of f) (224 + k) (128 + i)) _ parts.0) in
-      let missed : triple_sets t (224 + k) (128 + i) (128 + j) ≡ 0 = (no_bits _ (bit_and (lead_bits f (224 + k)) 11) triple).0 in
-      ⊎_elim (λ block. lies (4096 * k + 64 * i) (4096 * k + 64 * i + 63) (4096 * k + 64 * i + j) block (omega arith) (omega arith))
-      (λ others.
-      ⊎_elim (λ low. let under : 4096 * k + 64 * i < 2048 = ltb-true _ _ low in absurd (omega arith))
-      (λ thirds.
-      ⊎_elim (λ hit. absurd (true≢false (sym hit ∙ ap (λ n. not (n == 0)) missed)))
-      (λ here. lies (4096 * k + 64 * i + j) (4096 * k + 64 * i + j) (4096 * k + 64 * i + j) here (omega arith) (omega arith))
-      (either _ _ (all_below-at (told_third f t (pair_sets t.pairs (224 + k) (128 + i)) (4096 * k + 64 * i)) 64 j thirds small)))
-      (either (nat_lt (4096 * k + 64 * i) 2048) _ others))
-      (either (lies_within (plain_ranges f) (4096 * k + 64 * i) (4096 * k + 64 * i + 63)) _ (all_below-at (told_block f t k) 64 i parts.1 little)))
-      (either (lies_within (plain_ranges f) (4096 * k) (4096 * k + 4095)) _ (all_below-at (told_three f t) 16 k all short))
+      let base = 4096 * k + 64 * i in
+      let c = base + j in
+      let hits = pair_sets t.pairs (224 + k) (128 + i) in
+      grind (
+        arith,
+        lies (4096 * k) (4096 * k + 4095) c,
+        lies base (base + 63) c,
+        lies c c c,
+        le-ltb base 2048,
+        all_below-at (told_three f t) 16 k all short,
+        all_below-at (told_block f t k) 64 i,
+        all_below-at (told_third f t hits base) 64 j,
+        asked_by (pair_sets (pairs_of f) (224 + k) (128 + i)) (bit_and (lead_bits f (224 + k)) 13),
+        no_bits (triple_sets t (224 + k) (128 + i) (128 + j)) (bit_and (lead_bits f (224 + k)) 11),
+      )
 
   -- one of the sets tells it
   by_three : (k i j : ℕ) → k < 16 → i < 64 → j < 64 → 2048 ≤ 4096 * k + 64 * i + j → look3 (224 + k) (128 + i) (128 + j) ≡ false → in_ranges (plain_ranges f) (4096 * k + 64 * i + j) ≡ true
-  by_three k i j short little small large =
-      of (wants_look f (224 + k)) (wants_pair f (224 + k) (128 + i)) (wants_triple (triples_of f) f (224 + k) (128 + i) (128 + j)) (wants_triple (kana_of f) f (224 + k) (128 + i) (128 + j))
-      (wants_triple (wide_of f) f (224 + k) (128 + i) (128 + j)) _
-      (by_three_in (triples_of f) (told f).of_three k i j short little small large)
-      (by_three_in (kana_of f) (told f).of_kana k i j short little small large)
-      (by_three_in (wide_of f) (told f).of_wide k i j short little small large)
-    where
-      of : (a b c d w : Bool) (P : Type 0) → ((a && (b && c)) ≡ false → P) → ((a && (b && d)) ≡ false → P) → ((a && (b && w)) ≡ false → P) → (a && (b && (c && (d && w)))) ≡ false → P
-      of false b c d w P first second third e = first refl
-      of true false c d w P first second third e = first refl
-      of true true false d w P first second third e = first refl
-      of true true true false w P first second third e = second refl
-      of true true true true w P first second third e = third e
+  by_three k i j short little small large plain =
+      grind (
+        arith,
+        by_three_in (triples_of f) (told f).of_three k i j short little small large,
+        by_three_in (kana_of f) (told f).of_kana k i j short little small large,
+        by_three_in (wide_of f) (told f).of_wide k i j short little small large,
+      )
 
   by_four : (k next last c : ℕ) → k < 8 → 262144 * k ≤ c → c ≤ 262144 * k + 262143 → look3 (240 + k) next last ≡ false → in_ranges (plain_ranges f) c ≡ true
   by_four k next last c short low high plain =
-      ⊎_elim (λ whole. lies (262144 * k) (262144 * k + 262143) c whole low high)
-      (λ rest.
-      let looked = and_parts (wants_look f (240 + k)) _ rest in
-      let parts = and_parts (not (bit_and (lead_bits f (240 + k)) 13 == 0)) _ looked.1 in
-      let behind = second_of (wants_look f (240 + k)) _ plain looked.0 in
-      let triple = second_of (wants_pair f (240 + k) next) (wants_triples f (240 + k) next last) behind (asked_by (pair_sets (pairs_of f) (240 + k) next) _ parts.0) in
-      absurd (true≢false (sym (asked_triple (240 + k) next last parts.1) ∙ triple)))
-      (either (lies_within (plain_ranges f) (262144 * k) (262144 * k + 262143)) _ (all_below-at (told_four f) 8 k (told f).of_four short))
+      grind (
+        arith,
+        lies (262144 * k) (262144 * k + 262143) c,
+        all_below-at (told_four f) 8 k (told f).of_four short,
+        asked_by (pair_sets (pairs_of f) (240 + k) next) (bit_and (lead_bits f (240 + k)) 13),
+        asked_triple (240 + k) next last,
+      )
 
   -- a character that stands at the front of these bytes
   pub by_told : (c : ℕ) (more : List ℕ) → c < 1114112 → look_at f (encode_utf8 c ++ more) 0 ≡ false → in_ranges (plain_ranges f) c ≡ true
   by_told c more scalar plain = at (order c 128) (order c 2048) (order c 65536)
     where
-      of : (bytes : List ℕ) → encode_utf8 c ≡ bytes → look_at f (bytes ++ more) 0 ≡ false
-      of bytes e = subst (λ l. look_at f (l ++ more) 0 ≡ false) e plain
-
       at : (c < 128) ⊎ (128 ≤ c) → (c < 2048) ⊎ (2048 ≤ c) → (c < 65536) ⊎ (65536 ≤ c) → in_ranges (plain_ranges f) c ≡ true
       at (inl small) _ _ = lies 0 127 c (told f).ascii (omega arith) (omega arith)
       at (inr large) (inl small) _ =
           let is : 64 * (c / 64) + c % 64 ≡ c = omega arith in
-          subst (λ n. in_ranges (plain_ranges f) n ≡ true) is (by_two (c / 64) (c % 64) _ (omega arith) (omega arith) (of _ (two c large small)))
+          rw (← is) (by_two (c / 64) (c % 64) _ (omega arith) (omega arith) (rw (two c large small) at plain))
       at (inr _) (inr large) (inl small) =
           let is : 4096 * (c / 4096) + 64 * (c / 64 % 64) + c % 64 ≡ c = omega arith in
-          subst (λ n. in_ranges (plain_ranges f) n ≡ true) is (by_three (c / 4096) (c / 64 % 64) (c % 64) (omega arith) (omega arith) (omega arith) (omega (arith, is)) (of _ (three c large small)))
-      at (inr _) (inr _) (inr large) = by_four (c / 262144) _ _ c (omega arith) (omega arith) (omega arith) (of _ (four c large))
+          rw (← is) (by_three (c / 4096) (c / 64 % 64) (c % 64) (omega arith) (omega arith) (omega arith) (omega (arith, is)) (rw (three c large small) at plain))
+      at (inr _) (inr _) (inr large) = by_four (c / 262144) _ _ c (omega arith) (omega arith) (omega arith) (rw (four c large) at plain)

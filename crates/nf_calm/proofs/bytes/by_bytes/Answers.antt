@@ -1,5 +1,5 @@
-use Rattle.std.proofs.Common.{◌≡◌, false, sym, subst, ◌∙◌, ⊎_elim, arith}
-use Rattle.std.proofs.str.Laws.{order}
+use borrow.Author.Count.{below_more}
+use Rattle.std.proofs.Common.{◌≡◌, false, sym, ◌∙◌, arith}
 use Rattle.nf_calm.specs.Closer.{look_at}
 use Rattle.nf_calm.proofs.LookLemmas.{told_by_lead, lead_begins}
 use Rattle.nf_calm.proofs.bytes.by_bytes.Goals as goal
@@ -7,11 +7,9 @@ use Rattle.nf_calm.proofs.bytes.by_bytes.Goals as goal
 pub loop-at-preserved : goal.loop-at-preserved
 loop-at-preserved c = record {
   within = omega arith;
-  plain = λ k inside.
-      ⊎_elim (c.loop-at.invariant.plain k)
-      (λ high. let here : c.loop-at.at ≡ k = omega arith in
-      subst (λ n. look_at c.args.form c.args.bytes.now n ≡ false) here (told_by_lead c.args.form c.args.bytes.now c.loop-at.at (sym c.wants_look.ensures ∙ c.if-not-wants_look.true)))
-      (order k c.loop-at.at);
+  plain =
+      below_more (λ k. look_at c.args.form c.args.bytes.now k ≡ false) c.loop-at.at c.loop-at.invariant.plain
+      (told_by_lead c.args.form c.args.bytes.now c.loop-at.at (sym c.wants_look.ensures ∙ c.if-not-wants_look.true));
 }
 
 pub returns-else-not-wants_look-clause-begins : goal.returns-else-not-wants_look-clause-begins
