@@ -1,7 +1,6 @@
 -- Where bytes tell of a character, and where one begins.
-use Rattle.std.proofs.Common.{◌≡◌, ℕ, ◌+◌, ◌/◌, ◌<◌, ◌≤◌, ⊎_elim, Bool, true, false, not, ◌&&◌, ◌==◌, List, get_or, bit_and, bit_or, refl, sym, ap, ◌∙◌, arith, eqb-true, true≢false}
-use Rattle.std.proofs.str.Laws.{order}
-use Rattle.std.proofs.lemmas.Bool.{and_right, cond-false, cond_both, not-false}
+use Rattle.std.proofs.Common.{◌≡◌, ℕ, ◌+◌, ◌/◌, ◌<◌, ◌≤◌, Bool, true, false, not, ◌&&◌, ◌==◌, List, get_or, bit_and, bit_or, refl, sym, ap, ◌∙◌, arith, eqb-true}
+use Rattle.std.proofs.lemmas.Bool.{cond-false, cond_both}
 use Rattle.std.proofs.lemmas.Nat.{and_le_l, le_or_l, le_or_r}
 use Rattle.ucd_table.proofs.TrieCheck.{all_below, all_below-at}
 use Rattle.nf_forms.specs.declared.form.Form.{Form}
@@ -15,12 +14,7 @@ use Rattle.nf_calm.specs.Closer.{pairs_of, triples_of, wants_pair, wants_triple,
 
 -- neither number has a bit
 pub no_bits : (x y : ℕ) → not (bit_or x y == 0) ≡ false → (x ≡ 0) × (y ≡ 0)
-no_bits x y none =
-    let zero_or : bit_or x y ≡ 0 = eqb-true (bit_or x y) 0 (not-false _ none) in
-    (omega (arith, zero_or, le_or_l x y), omega (arith, zero_or, le_or_r x y))
-
-some_bits : (x y : ℕ) → not (bit_or x y == 0) ≡ true → x ≡ 0 → y ≡ 0 → ⊥
-some_bits x y some a b = true≢false (sym some ∙ ap (λ n. not (bit_or n y == 0)) a ∙ ap (λ n. not (bit_or 0 n == 0)) b)
+no_bits x y none = (grind (arith, le_or_l x y), grind (arith, le_or_r x y))
 
 -- no set has a pair that begins with a byte below C0
 abbrev HasNoLead : Pairs → Type 0
@@ -28,9 +22,7 @@ HasNoLead t = all_below (λ h. get_or t.first_high h 0 == 0) 12 ≡ true
 
 no_sets : (t : Pairs) → HasNoLead t → (lead next : ℕ) → lead < 192 → pair_sets t lead next ≡ 0
 no_sets t rows lead next small =
-    let none : get_or t.first_high (lead / 16) 0 ≡ 0 = eqb-true _ 0 (all_below-at (λ h. get_or t.first_high h 0 == 0) 12 (lead / 16) rows (omega arith)) in
-    let first = and_le_l (get_or t.first_high (lead / 16) 0) (get_or t.first_low (bit_and lead 15) 0) in
-    omega (arith, none, first, and_le_l (byte_sets t.first_high t.first_low lead) (byte_sets t.next_high t.next_low next))
+    grind (arith, all_below-at (λ h. get_or t.first_high h 0 == 0) 12 (lead / 16) rows, and_le_l (get_or t.first_high (lead / 16) 0) (get_or t.first_low (bit_and lead 15) 0), and_le_l (byte_sets t.first_high t.first_low lead) (byte_sets t.next_high t.next_low next))
 
 -- what holds of all the sets holds of those that are asked
 asked_each : (f : Form) (lead : ℕ) (P : Triples → Type 0) → P (kana_of f) → P (wide_of f) → P (triples_of f) → P (asked_of f lead)
@@ -62,14 +54,10 @@ module _ (f : Form) where
 
   -- bytes that want a look begin a character
   pub lead_begins : (byte : ℕ) → wants_look f byte ≡ true → 192 ≤ byte
-  lead_begins byte look = ⊎_elim (λ small. absurd (true≢false (sym look ∙ no_look byte small))) (λ large. large) (order byte 192)
+  lead_begins byte look = grind (arith, no_look byte)
 
   begins_with : (lead sets mask : ℕ) → (lead < 192 → sets ≡ 0) → not (bit_or sets (bit_and (lead_bits f lead) mask) == 0) ≡ true → 192 ≤ lead
-  begins_with lead sets mask none look =
-      ⊎_elim
-      (λ small. absurd (some_bits sets (bit_and (lead_bits f lead) mask) look (none small) (omega (arith, no_lead_bits lead small, and_le_l (lead_bits f lead) mask))))
-      (λ large. large)
-      (order lead 192)
+  begins_with lead sets mask none look = grind (arith, no_lead_bits lead, and_le_l (lead_bits f lead) mask)
 
   module _ (bytes : List ℕ) where
     abbrev pair_at : ℕ → Bool
@@ -84,36 +72,28 @@ module _ (f : Form) where
     pub told_by_lead : (k : ℕ) → wants_look f (get_or bytes k 0) ≡ false → look_at f bytes k ≡ false
     told_by_lead k e = ap (λ b. b && (pair_at k && triples_at k)) e
 
-    told_behind : (k : ℕ) → (pair_at k && triples_at k) ≡ false → look_at f bytes k ≡ false
-    told_behind k e = and_right (wants_look f (get_or bytes k 0)) (pair_at k && triples_at k) e
-
     -- how far a test tells
     module _ (at run : ℕ) where
+      by_test : (test : ℕ → Bool) → ((k : ℕ) → test k ≡ false → look_at f bytes k ≡ false) → ((k : ℕ) → test k ≡ true → 192 ≤ get_or bytes k 0) → StopsAt test at run → IsPlainRun f bytes at run
+      by_test test told begins here = record { within = here.within; plain = λ k low high. told k (here.none k low high); begins = λ short. begins (at + run) (here.stops short) }
+
       pub by_lead : StopsAt (λ k. wants_look f (get_or bytes k 0)) at run → IsPlainRun f bytes at run
-      by_lead here = record { within = here.within; plain = λ k low high. told_by_lead k (here.none k low high); begins = λ short. lead_begins _ (here.stops short) }
+      by_lead = by_test _ told_by_lead (λ k. lead_begins (get_or bytes k 0))
 
       pub by_pair : StopsAt pair_at at run → IsPlainRun f bytes at run
-      by_pair here = record {
-        within = here.within;
-        plain = λ k low high. told_behind k (ap (λ b. b && triples_at k) (here.none k low high));
-        begins = λ short. begins_with _ _ 13 (no_sets (pairs_of f) (no_lead f).pairs _ _) (here.stops short);
-      }
+      by_pair = by_test pair_at (λ k none. grind arith) (λ k. begins_with (get_or bytes k 0) _ 13 (no_sets (pairs_of f) (no_lead f).pairs _ (get_or bytes (k + 1) 0)))
 
-      by_triple_in : (t : Triples) → HasNoLead t.pairs → ((k : ℕ) → triple_at t k ≡ false → triples_at k ≡ false) → StopsAt (triple_at t) at run → IsPlainRun f bytes at run
-      by_triple_in t rows all here = record {
-        within = here.within;
-        plain = λ k low high. told_behind k (and_right (pair_at k) (triples_at k) (all k (here.none k low high)));
-        begins = λ short.
-            let lead = get_or bytes (at + run) 0 in
-            let next = get_or bytes (at + run + 1) 0 in
-            let none : lead < 192 → triple_sets t lead next (get_or bytes (at + run + 2) 0) ≡ 0 = λ small.
-            omega (arith, no_sets t.pairs rows lead next small, and_le_l (pair_sets t.pairs lead next) (byte_sets t.last_high t.last_low (get_or bytes (at + run + 2) 0))) in
-            begins_with lead _ 11 none (here.stops short);
-      }
+      by_triple_in : (t : Triples) → HasNoLead t.pairs → ((k : ℕ) → triple_at t k ≡ false → look_at f bytes k ≡ false) → StopsAt (triple_at t) at run → IsPlainRun f bytes at run
+      by_triple_in t rows told =
+          by_test (triple_at t) told (λ k.
+          let lead = get_or bytes k 0 in
+          let next = get_or bytes (k + 1) 0 in
+          begins_with lead (triple_sets t lead next (get_or bytes (k + 2) 0)) 11
+          (λ small. omega (arith, no_sets t.pairs rows lead next small, and_le_l (pair_sets t.pairs lead next) (byte_sets t.last_high t.last_low (get_or bytes (k + 2) 0)))))
 
       pub by_triple : (lead : ℕ) → StopsAt (triple_at (asked_of f lead)) at run → IsPlainRun f bytes at run
       by_triple lead =
           asked_each f lead (λ t. StopsAt (triple_at t) at run → IsPlainRun f bytes at run)
-          (by_triple_in (kana_of f) (no_lead f).kana (λ k none. and_right (triple_at (triples_of f) k) _ (ap (λ b. b && triple_at (wide_of f) k) none)))
-          (by_triple_in (wide_of f) (no_lead f).wide (λ k none. and_right (triple_at (triples_of f) k) _ (and_right (triple_at (kana_of f) k) (triple_at (wide_of f) k) none)))
-          (by_triple_in (triples_of f) (no_lead f).triples (λ k none. ap (λ b. b && (triple_at (kana_of f) k && triple_at (wide_of f) k)) none))
+          (by_triple_in (kana_of f) (no_lead f).kana (λ k none. grind arith))
+          (by_triple_in (wide_of f) (no_lead f).wide (λ k none. grind arith))
+          (by_triple_in (triples_of f) (no_lead f).triples (λ k none. grind arith))

@@ -1,5 +1,5 @@
 -- Text of which the bytes tell that each character passes: each parts it.
-use Rattle.std.proofs.Common.{◌≡◌, ℕ, ◌+◌, ◌<◌, ◌≤◌, ⊎_elim, inl, true, false, List, [], ◌∷◌, ◌++◌, length, get_or, refl, sym, ap, subst, ◌∙◌, arith, length-append, append_assoc}
+use Rattle.std.proofs.Common.{◌≡◌, ℕ, ◌+◌, ◌<◌, ◌≤◌, ⊎_elim, inl, true, false, List, [], ◌∷◌, ◌++◌, length, get_or, refl, sym, ap, subst, ◌∙◌, arith, length-append, append_assoc, add_assoc}
 use Rattle.std.specs.Prelude.{chars, encode_utf8, encode_utf8_all, IsUtf8}
 use Rattle.std.specs.Str.{all_scalars, IsCharBoundary}
 use lib.Utf8.{scalar, scalar_cases}
@@ -14,18 +14,12 @@ use Rattle.nf_forms.specs.Calm.{BeginsRun, IsCalmFrom}
 use Rattle.nf_forms.specs.Ucd.{ucd}
 use Rattle.nf_facts.specs.PlainRanges.{plain_ranges}
 use Rattle.nf_calm.specs.Closer.{look_at}
-use Rattle.nf_calm.proofs.ToldLemmas.{by_told, look3}
+use Rattle.nf_calm.proofs.ToldLemmas.{by_told}
 
 module _ (f : Form) where
   -- behind a piece
   look_at-behind : (piece rest : List ℕ) (j : ℕ) → look_at f rest j ≡ look_at f (piece ++ rest) (length piece + j)
-  look_at-behind piece rest j =
-      let whole = piece ++ rest in
-      let n = length piece in
-      let byte : (i k : ℕ) → n + i ≡ k → get_or rest i 0 ≡ get_or whole k 0 = λ i k e. sym (get_or-append-add piece rest i 0) ∙ ap (λ m. get_or whole m 0) e in
-      ap (λ x. look3 f x (get_or rest (j + 1) 0) (get_or rest (j + 2) 0)) (byte j (n + j) refl)
-      ∙ ap (λ x. look3 f (get_or whole (n + j) 0) x (get_or rest (j + 2) 0)) (byte (j + 1) (n + j + 1) (omega arith))
-      ∙ ap (λ x. look3 f (get_or whole (n + j) 0) (get_or whole (n + j + 1) 0) x) (byte (j + 2) (n + j + 2) (omega arith))
+  look_at-behind piece rest j = simp (add_assoc, get_or-append-add piece rest)
 
   -- of the bytes before n
   abbrev ArePlain : List ℕ → ℕ → Type 0
