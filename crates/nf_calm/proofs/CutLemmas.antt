@@ -1,6 +1,6 @@
 -- A text in two, before its last starter that counts as no mark; and calm text so.
-use Rattle.std.proofs.Common.{◌≡◌, ◌⊎◌, ⊎_elim, inl, inr, ℕ, true, false, not, ◌||◌, List, [], ◌∷◌, ◌++◌, length, take, drop, refl, sym, ap, subst, ◌∙◌, arith, append_assoc, append-nil, eqb-true, true≢false}
-use Rattle.std.proofs.lemmas.Bool.{and_parts, and_from, or_parts, or_from, not-false}
+use Rattle.std.proofs.Common.{◌≡◌, ◌⊎◌, ⊎_elim, inl, inr, ℕ, true, false, ◌||◌, List, [], ◌∷◌, ◌++◌, length, take, drop, refl, sym, ap, subst, ◌∙◌, arith, append_assoc, append-nil, true≢false}
+use Rattle.std.proofs.lemmas.Bool.{and_parts, and_from, or_from}
 use Rattle.std.proofs.Math.Seq.{take-append_seam, drop-append_seam}
 use Rattle.std.specs.Char.{IsScalar}
 use Rattle.std.specs.List.{list_all}
@@ -83,16 +83,14 @@ module _ (f : Form) (lead_none : (c : ℕ) → canonical_combining_class c ≡ 0
   unfolding ucd
   parts k n c class count (inl begins) other = begins.parting
   parts k n c class count (inr (inl stays)) other =
-      absurd (omega (arith, stays.mark.class, stays.mark.above, eqb-true (canonical_combining_class c) 0 (not-false _ (or_parts _ _ other).0)))
+      absurd (grind (arith, stays.mark.class, stays.mark.above))
   parts k n c class count (inr (inr counts)) other =
-      let few = or_parts (is_among halfwidth_marks c) (is_among vowel_signs c) (or_parts _ _ other).1 in
-      absurd (omega (arith, counts.some, lead-marks ucd (ucd.compat c) counts.none, lead_none c (eqb-true (canonical_combining_class c) 0 counts.starts) few.1 few.0))
+      absurd (grind (arith, counts.some, counts.starts, lead-marks ucd (ucd.compat c) counts.none, lead_none c))
 
   -- and NFKD has non-starters alone of a mark
   of_mark : (k n c class count : ℕ) → GoesOn ucd f k n c class count → counts_as_mark c ≡ true → has_starter ucd (ucd.compat c) ≡ false
   unfolding ucd
-  of_mark k n c class count (inl begins) mark =
-      no_starter c (sym (ap (λ b. not b || (is_among halfwidth_marks c || is_among vowel_signs c)) begins.parting.starts) ∙ mark)
+  of_mark k n c class count (inl begins) mark = no_starter c (grind (arith, begins.parting.starts))
   of_mark k n c class count (inr (inl stays)) mark = ap (has_starter ucd) stays.mark.compat ∙ or_from _ _ (mark-not_starter ucd c class stays.mark) refl
   of_mark k n c class count (inr (inr counts)) mark = counts.none
 

@@ -1,5 +1,5 @@
 -- Text of which the bytes tell that each character passes: each parts it.
-use Rattle.std.proofs.Common.{◌≡◌, ℕ, ◌+◌, ◌<◌, ◌≤◌, ⊎_elim, inl, true, false, List, [], ◌∷◌, ◌++◌, length, get_or, refl, sym, ap, subst, ◌∙◌, arith, length-append, append_assoc, add_assoc}
+use Rattle.std.proofs.Common.{◌≡◌, ℕ, ◌+◌, ◌<◌, ◌≤◌, ⊎_elim, inl, true, false, List, [], ◌∷◌, ◌++◌, length, get_or, refl, ap, ◌∙◌, arith, length-append, append_assoc, add_assoc}
 use Rattle.std.specs.Prelude.{chars, encode_utf8, encode_utf8_all, IsUtf8}
 use Rattle.std.specs.Str.{all_scalars, IsCharBoundary}
 use lib.Utf8.{scalar, scalar_cases}
@@ -39,11 +39,9 @@ module _ (f : Form) where
       let bytes = length-append (encode_utf8 c) (encode_utf8_all cs) in
       let joined = append_assoc (encode_utf8 c) (encode_utf8_all cs) more in
       record {
-        passes = by_told f c (encode_utf8_all cs ++ more) fits (subst (λ l. look_at f l 0 ≡ false) joined (plain 0 (omega (arith, width.0, width.1, bytes))));
+        passes = by_told f c (encode_utf8_all cs ++ more) fits (rw joined at (plain 0 (omega arith)));
         scalars = both.1;
-        plain = λ j inside.
-            look_at-behind (encode_utf8 c) (encode_utf8_all cs ++ more) j
-            ∙ subst (λ l. look_at f l (length (encode_utf8 c) + j) ≡ false) joined (plain (length (encode_utf8 c) + j) (omega (arith, bytes)));
+        plain = λ j inside. look_at-behind (encode_utf8 c) (encode_utf8_all cs ++ more) j ∙ rw joined at (plain (length (encode_utf8 c) + j) (omega arith));
       }
 
   -- where a character begins, or nothing stands, the text may be cut
@@ -64,5 +62,5 @@ module _ (f : Form) where
         of : (cs : List ℕ) → all_scalars cs ≡ true → encode_utf8_all cs ≡ text → IsCalmFrom ucd f k n cs 0 max_row
         of [] scalars e = absurd (omega (arith, ap length e))
         of (c ∷ cs) scalars e =
-            let first = first_plain c cs more scalars (subst (λ t. ArePlain (t ++ more) (length t)) (sym e) plain) in
+            let first = first_plain c cs more scalars (rw e plain) in
             (0, max_row, inl (begins c first.passes), calm_behind cs more first.scalars first.plain)
