@@ -1,6 +1,5 @@
 -- A checker's steps.
 use Rattle.nf_safe.proofs.Common.{◌≡◌, ℕ, ◌+◌, ◌≤◌, true, false, not, ◌&&◌, List, [], ◌∷◌, ◌++◌, length, Some, None, is_some, encode_utf8, encode_utf8_all, sym, ap, ap₂, ◌∙◌, arith, append_assoc, if◌then◌else◌, length-append, encodes-append, cond-true, cond-false, run-behind, Properties, Nfkd, trail, decomposed, is_sound, counted, passes, count_step, is_in_format, place_from, count_step-within, trail-decomposed-counted, is_in_format-push, is_in_format-join, is_in_format-short, trail-in_format, decomposed-append, max_run, place_from-in_format, place_from-at, place_from-stays}
-use Rattle.std.proofs.lemmas.Bool.{false_from_ne_true}
 use Rattle.std.specs.Prelude.{IsNone, chars}
 use Rattle.nf_counts.specs.Counts.{IsCountedFront}
 use Rattle.nf_counts.specs.declared.counted.Counted.{Counted}
@@ -11,7 +10,7 @@ use Rattle.nf_safe.specs.declared.checker.Checker.{Checker}
 use Rattle.nf_safe.specs.Checker.{place_of, StandsAfter, HasSeen, CountsFromEnd}
 
 is_on : (checker : Checker) → place_of checker ≡ None → checker.is_over ≡ false
-is_on checker none = false_from_ne_true _ (λ over. let some : place_of checker ≡ Some checker.reached = cond-true _ _ _ over in cc)
+is_on checker none = grind arith
 
 -- while the text is in the format
 pub stands_on : {base : ℕ} {p : Properties} {checker : Checker} {x : List ℕ} → checker.is_over ≡ false → is_in_format p x ≡ true → checker.reached.chars ≡ length x

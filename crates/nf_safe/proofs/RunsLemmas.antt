@@ -1,16 +1,12 @@
 -- The runs of decomposed text that grows at its end.
-use Rattle.nf_safe.proofs.Common.{◌≡◌, ℕ, ◌+◌, max, cond, List, ◌++◌, sym, ◌∙◌, arith, if◌then◌else◌, count_by, sum_by-append, Properties, is_nonstarter, lead, trail, longest, Runs, HasRuns}
+use Rattle.nf_safe.proofs.Common.{◌≡◌, ℕ, ◌+◌, max, cond, List, ◌++◌, arith, if◌then◌else◌, count_by, sum_by-append, Properties, is_nonstarter, lead, trail, longest, Runs, HasRuns}
 use Rattle.nf_forms.specs.Laws.Runs.{lead-marks, trail-append, longest-append}
-use Rattle.std.proofs.lemmas.Bool.{cond_both, cond-true, cond-false}
 use Rattle.nf_counts.specs.Counts.{HasCounts}
 use Rattle.nf_counts.specs.declared.counts.Counts.{Counts}
 
 -- the run that a text ends in, with text behind of which these are the counts
 pub trail-counted : {p : Properties} {v : List ℕ} {counts : Counts} {n : ℕ} (w : List ℕ) → HasCounts p v counts → n ≡ trail p w → (if counts.has_starter then counts.trail else n + counts.lead) ≡ trail p (w ++ v)
-trail-counted {p} {v} {counts} w has is =
-    cond_both counts.has_starter _ _ (λ m. m ≡ trail p (w ++ v))
-    (λ some. has.trail ∙ sym (trail-append p w v ∙ cond-true _ _ _ (sym has.has_starter ∙ some)))
-    (λ none. let marks = sym has.has_starter ∙ none in omega (arith, lead-marks p v marks, trail-append p w v ∙ cond-false _ _ _ marks))
+trail-counted {p} {v} w has is = grind (arith, has.has_starter, has.lead, has.trail, lead-marks p v, trail-append p w v)
 
 pub appends : {p : Properties} {runs new : Runs} {w : List ℕ} (v : List ℕ) → HasRuns p runs w → new.nonstarters ≡ runs.nonstarters + count_by (is_nonstarter p) v
     → new.longest ≡ max runs.longest (max (runs.last + lead p v) (longest p v)) → new.last ≡ trail p (w ++ v) → HasRuns p new (w ++ v)

@@ -1,11 +1,11 @@
 -- What the count is in terms of whole texts.
 use Rattle.std.proofs.Common.{◌≡◌, ℕ, ◌+◌, ◌≤◌, Bool, true, false, List, [], ◌∷◌, ◌++◌, length, map, refl, sym, ap, ◌∙◌, arith}
 use Rattle.std.specs.Prelude.{if◌then◌else◌, fold}
-use Rattle.std.proofs.lemmas.Bool.{and_from, cond_both, ltb-false}
+use Rattle.std.proofs.lemmas.Bool.{and_from, ltb-false}
 use Rattle.std.proofs.lemmas.List.Sums.{fold-append}
 use Rattle.nf_forms.specs.Properties.{Properties}
 use Rattle.nf_forms.specs.declared.form.Form.TheVariants.{Nfkd}
-use Rattle.nf_forms.specs.Runs.{has_starter, lead, trail}
+use Rattle.nf_forms.specs.Runs.{lead, trail}
 use Rattle.nf_forms.specs.Forms.{decomposed}
 use Rattle.nf_forms.specs.StreamSafe.{joiner, max_run, is_too_long, parted, safe_step, stream_safe}
 use Rattle.nf_forms.specs.Sound.{max_row}
@@ -18,15 +18,13 @@ module _ (p : Properties) where
   -- the count stays within the limit, whatever it was
   pub count_step-le : (n : ℕ) (row : List ℕ) → length row ≤ max_row → count_step p n row ≤ max_run
   count_step-le n row few =
-      cond_both (has_starter p row) _ _ (λ m. m ≤ max_run) (λ _. omega (arith, trail-le-length p row))
-      (λ none. cond_both (passes p n row) _ _ (λ m. m + length row ≤ max_run) (λ _. omega arith)
-      (λ e. omega (arith, lead-marks p row none, ltb-false max_run (n + lead p row) e)))
+      grind (arith, trail-le-length p row, lead-marks p row, ltb-false max_run (n + lead p row))
 
   pub count_step-within : (n : ℕ) (row : List ℕ) → passes p n row ≡ false → count_step p n row ≡ counted p n row
   count_step-within n row within = ap (λ b. counted p (if b then 0 else n) row) within
 
   trail-counted : (joined row : List ℕ) → trail p (joined ++ row) ≡ counted p (trail p joined) row
-  trail-counted joined row = trail-append p joined row ∙ ap (λ n. if has_starter p row then trail p row else n) (omega arith)
+  trail-counted joined row = grind (arith, trail-append p joined row)
 
   trail-since_step : (joined row : List ℕ) → trail p (since_step p joined row) ≡ count_step p (trail p joined) row
   trail-since_step joined row = next (passes p (trail p joined) row)

@@ -1,8 +1,8 @@
 -- The stream-safe text is the text's greedy cut with a joiner between each two pieces.
-use Rattle.std.proofs.Common.{◌≡◌, ℕ, zero, suc, ◌+◌, ◌≤◌, Bool, true, false, not, cond, List, [], ◌∷◌, ◌++◌, length, take, drop, refl, sym, ap, ap₂, ◌∙◌, subst, arith, append-nil, append_assoc, length-drop}
+use Rattle.std.proofs.Common.{◌≡◌, ℕ, zero, suc, ◌+◌, ◌≤◌, true, false, cond, List, [], ◌∷◌, ◌++◌, length, take, drop, refl, sym, ap, ap₂, ◌∙◌, subst, arith, append-nil, append_assoc, length-drop}
 use Rattle.std.specs.Prelude.{fold}
 use Rattle.std.specs.List.{list_all}
-use Rattle.std.proofs.lemmas.Bool.{cond-true, and_parts, and_from, false≢true, true_from_ne_false}
+use Rattle.std.proofs.lemmas.Bool.{cond-true, and_parts}
 use Rattle.std.proofs.lemmas.List.{length-append, length-take-le, take-append-drop}
 use Rattle.std.proofs.lemmas.List.Folds.{list_all-append}
 use Rattle.std.proofs.lemmas.List.Sums.{fold-append}
@@ -44,11 +44,7 @@ module _ (p : Properties) where
 
   -- a step takes nothing away
   pub length-safe_step : (out : List ℕ) (c : ℕ) → length (safe_step p out c) ≡ length out + 1 + cond (is_too_long p out c) 1 0
-  length-safe_step out c = next (is_too_long p out c)
-    where
-      next : (b : Bool) → length (cond b (out ++ joiner ∷ []) out ++ c ∷ []) ≡ length out + 1 + cond b 1 0
-      next true = simp length-append (omega arith)
-      next false = simp length-append (omega arith)
+  length-safe_step out c = grind (arith, length-append)
 
   pub length-stream_safe-ge : (x : List ℕ) → length x ≤ length (stream_safe p x)
   length-stream_safe-ge = by_last (λ x. length x ≤ length (stream_safe p x)) (omega arith)
@@ -69,7 +65,7 @@ module _ (p : Properties) where
       let put = piece ++ joiner ∷ [] in
       let d_sound = (and_parts _ _ (sound-parts piece (d ∷ rest) (sound-source (piece ++ d ∷ rest) sound)).1).0 in
       let long : is_too_long p piece d ≡ true =
-      true_from_ne_false _ (λ fits. false≢true (sym out ∙ is_in_format-push p piece d d_sound ∙ and_from _ _ inside (ap not fits))) in
+      grind (arith, is_in_format-push p piece d d_sound) in
       let step : stream_safe p (piece ++ d ∷ rest) ≡ fold (safe_step p) (put ++ d ∷ []) rest =
       fold-append (safe_step p) [] piece (d ∷ rest)
       ∙ ap (λ o. fold (safe_step p) (safe_step p o d) rest) (stream_safe-in_format piece inside)

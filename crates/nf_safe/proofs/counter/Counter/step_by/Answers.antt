@@ -5,7 +5,7 @@ use Rattle.nf_safe.proofs.counter.Counter.step_by.Goals.{then-k, else-k+then-beg
 
 -- a row of non-starters alone
 all_marks : (p : Properties) (n : ℕ) (row : List ℕ) (b : Bool) {m : ℕ} → has_starter p row ≡ false → passes p n row ≡ b → m ≡ (if b then 0 else n) + lead p row → m ≡ count_step p n row
-all_marks p n row b none answer is = rw (none, answer) (omega (arith, lead-marks p row none))
+all_marks p n row b none answer is = grind (arith, lead-marks p row)
 
 pub returns-clause-answer : goal.returns-clause-answer
 returns-clause-answer c = λ p row ends. ap (λ n. nat_lt max_run n) (omega arith)
