@@ -1,5 +1,5 @@
 -- A checker's steps.
-use Rattle.nf_safe.proofs.Common.{◌≡◌, ℕ, ◌+◌, ◌≤◌, true, false, not, ◌&&◌, List, [], ◌∷◌, ◌++◌, length, Some, None, is_some, encode_utf8, encode_utf8_all, sym, ap, ap₂, ◌∙◌, arith, append_assoc, if◌then◌else◌, length-append, encodes-append, cond-true, cond-false, run-behind, Properties, Nfkd, trail, decomposed, is_sound, counted, passes, count_step, is_in_format, place_from, count_step-within, trail-decomposed-counted, is_in_format-push, is_in_format-join, is_in_format-short, trail-in_format, decomposed-append, max_run, place_from-in_format, place_from-at, place_from-stays}
+use Rattle.nf_safe.proofs.Common.{◌≡◌, ℕ, ◌+◌, ◌≤◌, true, false, not, List, [], ◌∷◌, ◌++◌, length, Some, None, is_some, encode_utf8, encode_utf8_all, sym, ap, ap₂, ◌∙◌, arith, append_assoc, if◌then◌else◌, length-append, encodes-append, cond-true, cond-false, run-behind, Properties, Nfkd, trail, decomposed, is_sound, passes, count_step, is_in_format, place_from, count_step-within, trail-decomposed-counted, is_in_format-push, is_in_format-join, is_in_format-short, trail-in_format, decomposed-append, max_run, place_from-in_format, place_from-at, place_from-stays}
 use Rattle.std.specs.Prelude.{IsNone, chars}
 use Rattle.nf_counts.specs.Counts.{IsCountedFront}
 use Rattle.nf_counts.specs.declared.counted.Counted.{Counted}
@@ -41,9 +41,7 @@ module _ {base : ℕ} {p : Properties} {old : Checker} {x : List ℕ} (before : 
 
     -- with c the text is in the format, or not
     in_format : is_in_format p (x ++ c ∷ []) ≡ not (passes p old.counter (p.compat c))
-    in_format =
-        is_in_format-push p x c sound
-        ∙ ap₂ (λ s n. s && not (passes p n (p.compat c))) (before.in_format none) (sym (before.count none))
+    in_format = grind (arith, is_in_format-push p x c sound, before.in_format none, before.count none)
 
     pub leaves : {new : Checker} → passes p old.counter (p.compat c) ≡ true → place_of new ≡ Some old.reached → StandsAfter base p new (x ++ c ∷ [])
     leaves {new} long found =
@@ -57,7 +55,7 @@ module _ {base : ℕ} {p : Properties} {old : Checker} {x : List ℕ} (before : 
         stands_on still (in_format ∙ ap not short)
         (omega (arith, before.chars none, length-append x (c ∷ [])))
         (omega (arith, before.offset none, ap length (encodes-append x (c ∷ [])), length-append (encode_utf8_all x) (encode_utf8 c ++ []), length-append (encode_utf8 c) []))
-        (count ∙ count_step-within p old.counter (p.compat c) short ∙ ap (λ n. counted p n (p.compat c)) (before.count none) ∙ sym (trail-decomposed-counted p x c))
+        (rw (trail-decomposed-counted p x c, ← before.count none, ← count_step-within p old.counter (p.compat c) short) count)
 
 -- behind a front of which the non-starters are counted
 pub goes_on-counted : {base : ℕ} {p : Properties} {old new : Checker} {x : List ℕ} {room : ℕ} {text : List ℕ} {counted : Counted} → StandsAfter base p old x → IsCountedFront p room text counted → IsFront p text counted

@@ -1,6 +1,6 @@
 -- The format and the place of a text that grows at its end.
-use Rattle.std.proofs.Common.{◌≡◌, ℕ, ◌+◌, ◌≤◌, nat_le, true, false, not, ◌&&◌, max, List, [], ◌∷◌, ◌++◌, length, take, drop, Some, None, sym, ap, ◌∙◌, arith}
-use Rattle.std.specs.Prelude.{nat_lt, option_map, encode_utf8_all}
+use Rattle.std.proofs.Common.{◌≡◌, ℕ, ◌+◌, ◌≤◌, nat_le, true, false, not, ◌&&◌, List, [], ◌∷◌, ◌++◌, length, take, drop, Some, None, sym, ap, ◌∙◌, arith}
+use Rattle.std.specs.Prelude.{option_map, encode_utf8_all}
 use Rattle.std.proofs.lemmas.Bool.{leb-true, le-leb, eq-eqb, true_from_ne_false, false_from_ne_true, false≢true, ne_eqb, cond-true, cond-false}
 use Rattle.std.proofs.lemmas.Bool.Decides.{nat_tests}
 use Rattle.std.proofs.lemmas.List.{take-append-le, take-append-drop, append-nil}
@@ -44,12 +44,7 @@ module _ (p : Properties) where
   pub is_in_format-push : (x : List ℕ) (c : ℕ) → is_sound p c ≡ true
       → is_in_format p (x ++ c ∷ []) ≡ (is_in_format p x && not (passes p (trail p (decomposed Nfkd p x)) (p.compat c)))
   is_in_format-push x c sound =
-      longest-normal_form (x ++ c ∷ []) ∙ ap (λ n. nat_le n max_run) (longest-decomposed-push p Nfkd x c)
-      ∙ next _ (trail p (decomposed Nfkd p x) + lead p (p.compat c)) (longest p (p.compat c)) (omega (arith, longest-le-length p (p.compat c), (IsSound-from_test p c sound).compat_few))
-      ∙ ap (λ b. b && not (passes p (trail p (decomposed Nfkd p x)) (p.compat c))) (sym (longest-normal_form x))
-    where
-      next : (a b k : ℕ) → k ≤ max_run → nat_le (max a (max b k)) max_run ≡ (nat_le a max_run && not (nat_lt max_run b))
-      next a b k few = grind (arith, nat_tests)
+      grind (arith, nat_tests, longest-normal_form (x ++ c ∷ []), longest-normal_form x, longest-decomposed-push p Nfkd x c, longest-le-length p (p.compat c), (IsSound-from_test p c sound).compat_few)
 
   pub is_in_format-append : (x y : List ℕ) → is_in_format p (x ++ y) ≡ true → is_in_format p x ≡ true
   is_in_format-append x y here =

@@ -1,4 +1,4 @@
-use Rattle.nf_safe.proofs.Common.{◌≡◌, ◌+◌, cond-true, cond-false, sym, ap, ◌∙◌, arith, if◌then◌else◌}
+use Rattle.nf_safe.proofs.Common.{◌≡◌, ◌+◌, ◌∙◌, arith, if◌then◌else◌}
 use Rattle.nf_safe.proofs.RunsLemmas.{appends, trail-counted}
 use Rattle.nf_safe.proofs.runs.Runs.push_counts.Goals as goal
 use Rattle.nf_safe.proofs.runs.Runs.push_counts.Goals.{then-counts, else-counts}
@@ -7,8 +7,5 @@ pub returns-clause-runs : goal.returns-clause-runs
 returns-clause-runs c = λ p w v has before.
     let counts = c.args.counts.now in
     let last : c.if-counts.self ≡ (if counts.has_starter then counts.trail else c.args.self.now.last + counts.lead) =
-    elim c.if-counts.branch [
-      | then-counts w ↦ w.self-is ∙ w.from-then-counts.ensures ∙ sym (cond-true _ _ _ w.if-counts.true)
-      | else-counts w ↦ w.self-is ∙ ap (λ n. c.args.self.now.last + n) c.from.ensures ∙ sym (cond-false _ _ _ w.if-counts.false)
-    ] in
+    grind arith in
     appends v before (omega arith) (omega arith) (last ∙ trail-counted w has before.last)
