@@ -9,9 +9,6 @@ use Rattle.nf_safe.specs.declared.place.Place.{Place}
 use Rattle.nf_safe.specs.declared.checker.Checker.{Checker}
 use Rattle.nf_safe.specs.Checker.{place_of, StandsAfter, HasSeen, CountsFromEnd}
 
-is_on : (checker : Checker) → place_of checker ≡ None → checker.is_over ≡ false
-is_on checker none = grind arith
-
 -- while the text is in the format
 pub stands_on : {base : ℕ} {p : Properties} {checker : Checker} {x : List ℕ} → checker.is_over ≡ false → is_in_format p x ≡ true → checker.reached.chars ≡ length x
     → checker.reached.bytes ≡ base + length (encode_utf8_all x) → checker.counter ≡ trail p (decomposed Nfkd p x) → StandsAfter base p checker x
@@ -70,7 +67,7 @@ goes_on-counted {base} {p} {old} {new} {x} {room} {text} {counted} before is at 
       front = y;
       is_front = at.split;
       sound = at.sound;
-      stands = stands_on (same ∙ is_on old on) here
+      stands = stands_on (grind arith) here
           (omega (arith, before.chars none, length-append x y))
           (omega (arith, before.offset none, ap length at.bytes, ap length (encodes-append x y), length-append (encode_utf8_all x) (encode_utf8_all y)))
           (count ∙ trail-counted (decomposed Nfkd p x) has (before.count none) ∙ ap (trail p) (sym (decomposed-append p Nfkd x y)));
@@ -83,7 +80,7 @@ pub goes_on_from : {base : ℕ} {p : Properties} {old end new : Checker} {x y z 
 goes_on_from {base} {p} {old} {end} {new} {x} {y} {z} before behind anew on alone same chars bytes count =
     let none = ap is_some on in
     let inside = before.in_format none in
-    stands_on (same ∙ is_on old on) (is_in_format-join p x (y ++ z) inside anew.in_format (omega (arith, trail-in_format p x inside)))
+    stands_on (grind arith) (is_in_format-join p x (y ++ z) inside anew.in_format (omega (arith, trail-in_format p x inside)))
     (omega (arith, before.chars none, length-append x (y ++ z)))
     (omega (arith, behind.offset (ap is_some alone), ap (λ w. length (encode_utf8_all w)) (append_assoc x y z), ap length (encodes-append (x ++ y) z), length-append (encode_utf8_all (x ++ y)) (encode_utf8_all z)))
     (count ∙ behind.count (ap is_some alone) ∙ sym (ap (λ w. trail p (decomposed Nfkd p w)) (sym (append_assoc x y z)) ∙ run-behind p (x ++ y) z anew.some))

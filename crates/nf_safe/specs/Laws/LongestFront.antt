@@ -1,7 +1,7 @@
 -- The longest front of a text that grows at its end, and what makes it the longest.
 use Rattle.std.proofs.Common.{◌≡◌, ℕ, zero, suc, ◌+◌, ◌≤◌, Bool, true, List, [], ◌∷◌, ◌++◌, length, take, refl, sym, ap, ◌∙◌, arith, ⊎_elim, eq-or-lt_of_le, add-one}
 use Rattle.std.specs.Prelude.{if◌then◌else◌}
-use Rattle.std.proofs.lemmas.Bool.{cond_both, false≢true, false_from_ne_true}
+use Rattle.std.proofs.lemmas.Bool.{cond_both, false≢true}
 use Rattle.std.proofs.lemmas.List.{length-append, take-append-le}
 use Rattle.std.proofs.Math.Seq.{take-length}
 use Rattle.nf_safe.specs.LongestFront.{front_len_up_to, longest_front, IsLongestFront}
@@ -47,7 +47,7 @@ module _ (test : List ℕ → Bool) (x : List ℕ) where
   longest_front_is empty = record {
     within = longest_front-le;
     passes = up_to (length x);
-    longer = λ k above within. false_from_ne_true _ (λ pass. omega (arith, longest_front-ge k within pass));
+    longer = λ k above within. grind (arith, longest_front-ge k within);
   }
     where
       up_to : (n : ℕ) → test (take (front_len_up_to test x n) x) ≡ true

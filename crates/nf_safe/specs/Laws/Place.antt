@@ -1,7 +1,7 @@
 -- The format and the place of a text that grows at its end.
 use Rattle.std.proofs.Common.{◌≡◌, ℕ, ◌+◌, ◌≤◌, nat_le, true, false, not, ◌&&◌, List, [], ◌∷◌, ◌++◌, length, take, drop, Some, None, sym, ap, ◌∙◌, arith}
 use Rattle.std.specs.Prelude.{option_map, encode_utf8_all}
-use Rattle.std.proofs.lemmas.Bool.{leb-true, le-leb, eq-eqb, true_from_ne_false, false_from_ne_true, false≢true, ne_eqb, cond-true, cond-false}
+use Rattle.std.proofs.lemmas.Bool.{leb-true, le-leb, eq-eqb, false≢true, ne_eqb, cond-true, cond-false}
 use Rattle.std.proofs.lemmas.Bool.Decides.{nat_tests}
 use Rattle.std.proofs.lemmas.List.{take-append-le, take-append-drop, append-nil}
 use Rattle.std.proofs.Math.Seq.{take-length, take-append_seam}
@@ -75,7 +75,7 @@ module _ (p : Properties) where
     place_from-in_format x here = ap (option_map (place_at base x)) (place-in_format x here)
 
     pub place_from-none : (x : List ℕ) → place_from base p x ≡ None → is_in_format p x ≡ true
-    place_from-none x none = true_from_ne_false _ (λ out. let some = ap (option_map (place_at base x)) (place-out x out) in cc)
+    place_from-none x none = grind (arith, place-out x)
 
     -- the place is where the format is left first
     pub place_from-at : (x : List ℕ) (c : ℕ) → is_in_format p x ≡ true → is_in_format p (x ++ c ∷ []) ≡ false
@@ -85,8 +85,8 @@ module _ (p : Properties) where
     -- and it stays, whatever follows
     pub place_from-stays : (x : List ℕ) (c : ℕ) (at : Place) → place_from base p x ≡ Some at → place_from base p (x ++ c ∷ []) ≡ Some at
     place_from-stays x c at found =
-        let out : is_in_format p x ≡ false = false_from_ne_true _ (λ here. let none = place_from-in_format x here in cc) in
-        let after = false_from_ne_true _ (λ here. false≢true (sym out ∙ is_in_format-append x (c ∷ []) here)) in
+        let out : is_in_format p x ≡ false = grind (arith, place_from-in_format x) in
+        let after : is_in_format p (x ++ c ∷ []) ≡ false = grind (arith, is_in_format-append x (c ∷ [])) in
         rw (place-push x c after, take-append-le (longest_front (is_in_format p) x) x (c ∷ []) (longest_front-le (is_in_format p) x)) (rw (place-out x out) at found)
 
   -- the stream-safe text is in the format

@@ -1,4 +1,4 @@
-use Rattle.nf_safe.proofs.Common.{◌+◌, ap, sym, ◌∙◌, refl, rules}
+use Rattle.nf_safe.proofs.Common.{sym, ◌∙◌, refl, arith, rules}
 use Rattle.nf_safe.proofs.CheckerLemmas.{stays, leaves, goes_on}
 use Rattle.nf_safe.proofs.checker.Checker.see.Goals as goal
 
@@ -14,7 +14,7 @@ pub returns-clause-stands : goal.returns-clause-stands
 returns-clause-stands g c = λ base x before.
     goes_on before _ c.if-self.false (sym c.in-Some.ensures.sound)
     (sym (c.step_by.ensures.answer _ _ c.in-Some.ensures.ends) ∙ c.if-step_by.false) c.if-self.false refl
-    (ap (λ n. c.args.self.now.reached.bytes + n) c.len_utf8-len.ensures.len) (c.step_by.ensures.count _ _ c.in-Some.ensures.ends)
+    (omega arith) (c.step_by.ensures.count _ _ c.in-Some.ensures.ends)
 
 -- It stands so that a wrong body is refused at once: without it the prover would run once more, to offer an answer.
 pub returns-in_default-clause-refused : goal.returns-in_default-clause-refused

@@ -1,4 +1,4 @@
-use Rattle.nf_safe.proofs.Common.{◌+◌, refl, ap, arith, rules}
+use Rattle.nf_safe.proofs.Common.{refl, arith, rules}
 use Rattle.nf_safe.proofs.CountedLemmas.{front_is}
 use Rattle.nf_safe.proofs.CheckerLemmas.{goes_on-counted}
 use Rattle.nf_safe.proofs.checker.Checker.see_counted.Goals as goal
@@ -13,4 +13,4 @@ pub returns-clause-sees : goal.returns-clause-sees
 returns-clause-sees g c = λ base x before.
     let is = c.counted_front-counted.ensures in
     goes_on-counted before is (front_is is (search rules)) (omega arith) c.requires.none refl
-    (ap (λ n. c.args.self.now.reached.chars + n) c.char_count.ensures) refl c.pass.ensures
+    (omega arith) refl c.pass.ensures

@@ -1,4 +1,4 @@
-use Rattle.nf_safe.proofs.Common.{◌+◌, refl, ap, arith, rules}
+use Rattle.nf_safe.proofs.Common.{refl, arith, rules}
 use Rattle.nf_safe.proofs.CountedLemmas.{front_is}
 use Rattle.nf_safe.proofs.MeasurerLemmas.{goes_on-counted}
 use Rattle.nf_safe.proofs.measurer.Measurer.see_counted.Goals as goal
@@ -18,4 +18,4 @@ pub returns-clause-sees : goal.returns-clause-sees
 returns-clause-sees g c = λ x before.
     let is = c.counted_front-counted.ensures in
     goes_on-counted before is (front_is is (search rules)) (omega arith) c.pass.ensures
-    (c.push_counts.ensures.runs _ _ _ is.counts before.runs) refl (ap (λ n. c.args.self.now.chars + n) c.char_count.ensures) refl refl
+    (c.push_counts.ensures.runs _ _ _ is.counts before.runs) refl (omega arith) refl refl
