@@ -1,5 +1,5 @@
 -- A checker's steps.
-use Rattle.nf_safe.proofs.Common.{◌≡◌, ℕ, ◌+◌, ◌≤◌, true, false, not, List, [], ◌∷◌, ◌++◌, length, Some, None, is_some, encode_utf8, encode_utf8_all, sym, ap, ap₂, ◌∙◌, arith, append_assoc, if◌then◌else◌, length-append, encodes-append, cond-true, cond-false, run-behind, Properties, Nfkd, trail, decomposed, is_sound, passes, count_step, is_in_format, place_from, count_step-within, trail-decomposed-counted, is_in_format-push, is_in_format-join, is_in_format-short, trail-in_format, decomposed-append, max_run, place_from-in_format, place_from-at, place_from-stays}
+use Rattle.nf_safe.proofs.Common.{◌≡◌, ℕ, ◌+◌, ◌≤◌, true, false, not, List, [], ◌∷◌, ◌++◌, length, Some, None, is_some, encode_utf8, encode_utf8_all, sym, ap, ◌∙◌, arith, append_assoc, if◌then◌else◌, length-append, encodes-append, cond-true, cond-false, run-behind, Properties, Nfkd, trail, decomposed, is_sound, passes, count_step, is_in_format, place_from, count_step-within, trail-decomposed-counted, is_in_format-push, is_in_format-join, is_in_format-short, trail-in_format, decomposed-append, max_run, place_from-in_format, place_from-at, place_from-stays}
 use Rattle.std.specs.Prelude.{IsNone, chars}
 use Rattle.nf_counts.specs.Counts.{IsCountedFront}
 use Rattle.nf_counts.specs.declared.counted.Counted.{Counted}
@@ -42,9 +42,7 @@ module _ {base : ℕ} {p : Properties} {old : Checker} {x : List ℕ} (before : 
 
     pub leaves : {new : Checker} → passes p old.counter (p.compat c) ≡ true → place_of new ≡ Some old.reached → StandsAfter base p new (x ++ c ∷ [])
     leaves {new} long found =
-        left new old.reached found
-        (place_from-at p base x c (before.in_format none) (in_format ∙ ap not long)
-        ∙ sym (ap₂ (λ n m. Some (record { chars = n; bytes = m })) (before.chars none) (before.offset none)))
+        left new old.reached found (rw (before.chars none, before.offset none) (place_from-at p base x c (before.in_format none) (in_format ∙ ap not long)))
 
     pub goes_on : {new : Checker} → passes p old.counter (p.compat c) ≡ false → new.is_over ≡ false → new.reached.chars ≡ old.reached.chars + 1
         → new.reached.bytes ≡ old.reached.bytes + length (encode_utf8 c) → new.counter ≡ count_step p old.counter (p.compat c) → StandsAfter base p new (x ++ c ∷ [])

@@ -1,5 +1,5 @@
 -- What the count is in terms of whole texts.
-use Rattle.std.proofs.Common.{◌≡◌, ℕ, ◌+◌, ◌≤◌, Bool, true, false, List, [], ◌∷◌, ◌++◌, length, map, refl, sym, ap, ◌∙◌, arith}
+use Rattle.std.proofs.Common.{◌≡◌, ℕ, ◌+◌, ◌≤◌, true, false, List, [], ◌∷◌, ◌++◌, length, map, refl, sym, ap, ◌∙◌, arith}
 use Rattle.std.specs.Prelude.{if◌then◌else◌, fold}
 use Rattle.std.proofs.lemmas.Bool.{and_from, ltb-false}
 use Rattle.std.proofs.lemmas.List.Sums.{fold-append}
@@ -27,11 +27,7 @@ module _ (p : Properties) where
   trail-counted joined row = grind (arith, trail-append p joined row)
 
   trail-since_step : (joined row : List ℕ) → trail p (since_step p joined row) ≡ count_step p (trail p joined) row
-  trail-since_step joined row = next (passes p (trail p joined) row)
-    where
-      next : (b : Bool) → trail p (if b then row else joined ++ row) ≡ counted p (if b then 0 else trail p joined) row
-      next true = trail-counted [] row
-      next false = trail-counted joined row
+  trail-since_step joined row = grind (arith, trail-counted [] row, trail-counted joined row)
 
   pub trail-since_last-push : (rows : List (List ℕ)) (row : List ℕ) → trail p (since_last p (rows ++ row ∷ [])) ≡ count_step p (trail p (since_last p rows)) row
   trail-since_last-push rows row = ap (trail p) (fold-append (since_step p) [] rows (row ∷ [])) ∙ trail-since_step (since_last p rows) row
@@ -44,11 +40,8 @@ module _ (p : Properties) where
   pub trail-decomposed-safe_step : (out : List ℕ) (c : ℕ) → (is_too_long p out c ≡ true → JoinerIsPlain p)
       → trail p (decomposed Nfkd p (safe_step p out c)) ≡ count_step p (trail p (decomposed Nfkd p out)) (p.compat c)
   trail-decomposed-safe_step out c plain =
-      trail-decomposed-counted (parted p out c) c ∙ ap (λ n. counted p n (p.compat c)) (next (is_too_long p out c) plain)
-    where
-      next : (b : Bool) → (b ≡ true → JoinerIsPlain p) → trail p (decomposed Nfkd p (if b then out ++ joiner ∷ [] else out)) ≡ (if b then 0 else trail p (decomposed Nfkd p out))
-      next true plain = trail-decomposed-joiner p (plain refl) Nfkd out
-      next false plain = refl
+      let put : is_too_long p out c ≡ true → trail p (decomposed Nfkd p (out ++ joiner ∷ [])) ≡ 0 = λ long. trail-decomposed-joiner p (plain long) Nfkd out in
+      grind (arith, put, trail-decomposed-counted (parted p out c) c)
 
   -- where the process gives sound characters alone, those before it and the text's own are sound
   pub sound-fold : (out x : List ℕ) → IsSoundText p (fold (safe_step p) out x) → IsSoundText p out × IsSoundText p x

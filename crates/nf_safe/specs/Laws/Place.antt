@@ -1,7 +1,7 @@
 -- The format and the place of a text that grows at its end.
 use Rattle.std.proofs.Common.{◌≡◌, ℕ, ◌+◌, ◌≤◌, nat_le, true, false, not, ◌&&◌, List, [], ◌∷◌, ◌++◌, length, take, drop, Some, None, sym, ap, ◌∙◌, arith}
 use Rattle.std.specs.Prelude.{option_map, encode_utf8_all}
-use Rattle.std.proofs.lemmas.Bool.{leb-true, le-leb, eq-eqb, false≢true, ne_eqb, cond-true, cond-false}
+use Rattle.std.proofs.lemmas.Bool.{leb-true, le-leb, eq-eqb, cond-true, cond-false}
 use Rattle.std.proofs.lemmas.Bool.Decides.{nat_tests}
 use Rattle.std.proofs.lemmas.List.{take-append-le, take-append-drop, append-nil}
 use Rattle.std.proofs.Math.Seq.{take-length, take-append_seam}
@@ -63,8 +63,7 @@ module _ (p : Properties) where
 
   -- the place is the longest front of a text that is not in the format
   place-out : (x : List ℕ) → is_in_format p x ≡ false → place p x ≡ Some (longest_front (is_in_format p) x)
-  place-out x out =
-      cond-false _ _ _ (ne_eqb _ _ (λ all. false≢true (sym out ∙ ap (is_in_format p) (sym (take-length x) ∙ ap (λ n. take n x) (sym all)) ∙ (longest_front_is (is_in_format p) x is_in_format-none).passes)))
+  place-out x out = grind (arith, nat_tests, take-length x, (longest_front_is (is_in_format p) x is_in_format-none).passes)
 
   -- so it is that of the text before the last character
   place-push : (x : List ℕ) (c : ℕ) → is_in_format p (x ++ c ∷ []) ≡ false → place p (x ++ c ∷ []) ≡ Some (longest_front (is_in_format p) x)
