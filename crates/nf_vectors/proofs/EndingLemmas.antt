@@ -1,5 +1,6 @@
 -- Where the reading of a vector file ends.
 use Rattle.nf_vectors.proofs.Common.{◌≡◌, ℕ, suc, ◌+◌, ◌-◌, ◌<◌, ◌≤◌, Bool, true, false, List, [], ◌∷◌, ◌++◌, length, take, drop, get_or, Option, Some, None, Result, Ok, Err, refl, sym, ap, ◌∙◌, subst, arith, append_assoc, append-nil, ⊎_elim, OnOk, is_ok, if◌then◌else◌, lt-ltb, le-ltb, false≢true, cases_lt, or-false, take-append-add, length-append, take_at, drop_more, take-append-drop, VectorFault, VectorKind, Size, Read, Memory, Reading, is_line_end, lines_of, Bad, judged, rows_from, names_part1_from, last_fault, first_fault, rows_in, StandsAfter, EndsLine, limit, block, lines_within, stop_of, Finds, RunsOut, take_all}
+use Rattle.std.proofs.lemmas.Bool.{cond-true}
 use Rattle.std.proofs.lemmas.Grind.{common_steps}
 use Rattle.nf_vectors.proofs.StandingLemmas.{lines_of-ended, lines_of-last, first_fault-ended}
 
@@ -25,8 +26,7 @@ module _ (reading : Reading) (bytes : List ℕ) (stands : StandsAfter reading by
     -- the first fault there
     pub ends_at : (failed : Bool) → first_fault 1 (stop_of bytes failed) (lines_within bytes) ≡ last_fault reading.line (if failed then Some Read else None) reading.bytes.items
     ends_at failed =
-        let stop : stop_of bytes failed ≡ (if failed then Some Read else None) = ap (λ b. if b then Some Size else (if failed then Some Read else None)) (le-ltb limit (length bytes) few) in
-        rw (within, stop) (last_line (if failed then Some Read else None))
+        rw (within, le-ltb limit (length bytes) few) (last_line (if failed then Some Read else None))
 
     -- where memory runs out over the next byte, or at the end
     pub runs_out : (rest all : List ℕ) → length rest ≤ block → all ≡ bytes ++ rest → (at_end : Bool) → (at_end ≡ true → rest ≡ []) → (fault : VectorFault) (kind : VectorKind) → fault ≡ record { line = reading.line; kind = kind }
@@ -49,7 +49,7 @@ module _ (reading : Reading) (bytes : List ℕ) (stands : StandsAfter reading by
       all_parts = rw (within, ← append-nil bytes, stands.part1 [], lines_of-last reading.bytes.items stands.one_line, or-false, ends.has_part1) refl
 
 pub Tells-found : (bytes : List ℕ) (failed : Bool) (fault : VectorFault) → Finds bytes fault → first_fault 1 (stop_of bytes failed) (lines_within bytes) ≡ Some fault
-Tells-found bytes failed fault finds = finds (stop_of bytes failed) (λ past. ap (λ b. if b then Some Size else (if failed then Some Read else None)) (lt-ltb limit (length bytes) past))
+Tells-found bytes failed fault finds = finds (stop_of bytes failed) (λ past. cond-true _ _ _ (lt-ltb limit (length bytes) past))
 
 -- the fault at one byte, whatever stands behind it: at the limit, that it is one too many
 pub found_here : (reading : Reading) (bytes : List ℕ) → StandsAfter reading bytes → (b : ℕ) (rest : List ℕ) (kind : VectorKind) (fault : VectorFault)

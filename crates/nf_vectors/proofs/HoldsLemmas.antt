@@ -1,5 +1,5 @@
 -- What the filter gives of a text to a sink that compares, and whether that is as expected.
-use Rattle.nf_vectors.proofs.Common.{◌≡◌, ℕ, Bool, true, false, ◌&&◌, List, [], ◌++◌, length, take, drop, Some, None, refl, sym, ap, ◌∙◌, subst, append-nil, bytes_eq, encode_utf8_all, IsUtf8, if◌then◌else◌, Ok, Err, is_ok, ⊎_elim, and_right, false_from_ne_true, same_from_decides, bytes_eq-Decides, encodes_same, Properties, Form, safe_form, is_usable, holds}
+use Rattle.nf_vectors.proofs.Common.{◌≡◌, ℕ, Bool, true, false, ◌&&◌, List, [], ◌++◌, length, take, drop, Some, None, refl, arith, sym, ap, ◌∙◌, subst, append-nil, bytes_eq, encode_utf8_all, IsUtf8, if◌then◌else◌, Ok, Err, is_ok, ⊎_elim, and_right, false_from_ne_true, same_from_decides, bytes_eq-Decides, encodes_same, Properties, Form, safe_form, is_usable, holds}
 use Rattle.std.proofs.Math.Seq.{take-append_seam}
 use Rattle.std.proofs.lemmas.List.{append_cancel_left}
 use Rattle.std.specs.Io.KnownBytes.{Appends}
@@ -54,11 +54,7 @@ module _ (reads : ReadsBack) (f : Form) (p : Properties) (bytes x e : List ℕ) 
 
   -- it holds where all is taken and what is given is as expected
   holds_is : holds f p x e ≡ (is_ok (whole_answer p bytes) && bytes_eq (whole_utf8 f p bytes) (encode_utf8_all e))
-  holds_is = next (is_usable p x) refl ∙ ap (λ b. b && bytes_eq (whole_utf8 f p bytes) (encode_utf8_all e)) (sym answer_is)
-    where
-      next : (b : Bool) → is_usable p x ≡ b → (is_usable p x && bytes_eq (safe_form f p x) e) ≡ (is_usable p x && bytes_eq (whole_utf8 f p bytes) (encode_utf8_all e))
-      next true used = rw (used, form_is used) (encodes_eq (safe_form f p x) e)
-      next false used = rw used refl
+  holds_is = grind (arith, encodes_eq (safe_form f p x) e, form_is, answer_is)
 
   module _ (old new : Comparing) (expected : old.expected.now ≡ encode_utf8_all e) (fresh : taken_by old ≡ []) where
     -- what it is to compare with is kept, and it has taken just what was given

@@ -1,5 +1,6 @@
 -- The pieces of a row.
-use Rattle.nf_vectors.proofs.Common.{◌≡◌, ◌+◌, count_by, ℕ, ◌<◌, Bool, true, false, List, [], ◌∷◌, length, Err, refl, sym, ap, ◌∙◌, arith, if◌then◌else◌, slice_index_or, ⊎_elim, not, slice_split, before_first, after_first, position_or_len, list_all, cases_lt, nat_tests, slice_split_first, slice_split_none, fails_before_first, AllPass-from_list_all, prefix_len-le-length, Fields, is_semicolon, is_blank, columns_of, columns_in}
+use Rattle.nf_vectors.proofs.Common.{◌≡◌, ◌+◌, count_by, ℕ, ◌<◌, Bool, true, false, List, [], ◌∷◌, length, Err, refl, sym, ap, ◌∙◌, arith, slice_index_or, ⊎_elim, not, slice_split, before_first, after_first, position_or_len, list_all, cases_lt, nat_tests, slice_split_first, slice_split_none, fails_before_first, AllPass-from_list_all, prefix_len-le-length, Fields, is_semicolon, is_blank, columns_in}
+use Rattle.std.proofs.lemmas.Bool.{cond-false}
 use Rattle.std.proofs.lemmas.List.Splits.{length-slice_split}
 
 -- bytes are cut at the first semicolon
@@ -31,5 +32,5 @@ columns_in-more a b c d e v other = ⊎_elim
     let some = split-some is_semicolon (after_first is_semicolon v) in
     ap (λ l. columns_in (a ∷ b ∷ c ∷ d ∷ e ∷ l)) (slice_split_first is_semicolon v 0 inside ∙ ap (λ l. before_first is_semicolon v ∷ l) some.2))
     (λ past. ap (λ l. columns_in (a ∷ b ∷ c ∷ d ∷ e ∷ l)) (split-none v (omega (arith, past, prefix_len-le-length (λ b. not (is_semicolon b)) v)))
-    ∙ ap (λ t. if t then columns_of a b c d e else Err Fields) other)
+    ∙ cond-false _ _ _ other)
     (cases_lt (position_or_len is_semicolon v) (length v))

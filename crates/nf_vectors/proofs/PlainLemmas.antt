@@ -1,9 +1,10 @@
 -- No form changes a sound starter that is its own decomposition.
-use Rattle.nf_vectors.proofs.Common.{◌≡◌, ℕ, ◌+◌, Bool, true, false, List, [], ◌∷◌, ◌++◌, length, refl, ap, ◌∙◌, arith, if◌then◌else◌, and_from, le-ltb, bytes_eq-Decides, list_all, Properties, is_sound, Form, Nfc, Nfd, Nfkc, Nfkd, is_usable, safe_form, holds, is_unchanged, eq-eqb}
+use Rattle.nf_vectors.proofs.Common.{◌≡◌, ℕ, Bool, true, false, List, [], ◌∷◌, ◌++◌, length, refl, ap, ◌∙◌, arith, and_from, le-ltb, bytes_eq-Decides, list_all, Properties, is_sound, Form, Nfc, Nfd, Nfkc, Nfkd, is_usable, safe_form, holds, is_unchanged, eq-eqb}
+use Rattle.std.proofs.lemmas.Bool.{cond-true}
 use Rattle.nf_forms.specs.Order.{by_class, order}
 use Rattle.nf_forms.specs.Compose.{compose}
 use Rattle.nf_forms.specs.Forms.{arranged, composes, finished, decomposed, normal_form}
-use Rattle.nf_forms.specs.StreamSafe.{joiner, max_run, stream_safe}
+use Rattle.nf_forms.specs.StreamSafe.{max_run, stream_safe}
 use Rattle.nf_forms.specs.Runs.{lead}
 use Rattle.nf_forms.specs.Laws.Runs.{lead-le-length}
 use Rattle.nf_vectors.specs.Plain.{IsPlain}
@@ -11,7 +12,7 @@ use Rattle.nf_vectors.specs.Plain.{IsPlain}
 module _ (p : Properties) (c : ℕ) (plain : IsPlain p c) where
   order-one : order p (c ∷ []) ≡ c ∷ []
   unfolding by_class
-  order-one = ap (λ b. if b then by_class p [] ++ c ∷ by_class p [] else by_class p ([] ++ c ∷ [])) (eq-eqb (p.class c) 0 plain.class)
+  order-one = cond-true _ _ _ (eq-eqb (p.class c) 0 plain.class)
 
   arranged-one : (b : Bool) → arranged b p (c ∷ []) ≡ c ∷ []
   arranged-one false = order-one
@@ -27,7 +28,7 @@ module _ (p : Properties) (c : ℕ) (plain : IsPlain p c) where
   safe-one : stream_safe p (c ∷ []) ≡ c ∷ []
   safe-one =
       let few : length (p.compat c) ≡ 1 = ap (λ (l : List ℕ). length l) plain.compat in
-      ap (λ b. (if b then joiner ∷ [] else []) ++ c ∷ []) (le-ltb max_run (0 + lead p (p.compat c)) (omega (arith, few, lead-le-length p (p.compat c))))
+      grind (arith, le-ltb max_run (lead p (p.compat c)), lead-le-length p (p.compat c))
 
   held-one : (f : Form) → holds f p (c ∷ []) (c ∷ []) ≡ true
   unfolding is_usable safe_form

@@ -40,14 +40,10 @@ loop-code-preserved g c =
     (λ i. record { unlisted = (c.loop-code.invariant i).unlisted + 1; failed = (c.loop-code.invariant i).failed + 1; first = first i })
 
 pub overflow_add-unlisted : goal.overflow_add-unlisted
-overflow_add-unlisted g c =
-    let few = sweep-few (g.R.Rows.properties c.args.rows.now) (rows_of c.args.self.now) c.loop-code.code in
-    grind arith
+overflow_add-unlisted g c = grind (arith, sweep-few (g.R.Rows.properties c.args.rows.now) (rows_of c.args.self.now) c.loop-code.code)
 
 pub overflow_add-sweep : goal.overflow_add-sweep
-overflow_add-sweep g c =
-    let few = sweep-few (g.R.Rows.properties c.args.rows.now) (rows_of c.args.self.now) c.loop-code.code in
-    grind arith
+overflow_add-sweep g c = grind (arith, sweep-few (g.R.Rows.properties c.args.rows.now) (rows_of c.args.self.now) c.loop-code.code)
 
 pub returns : goal.returns
 unfolding sweep_of
