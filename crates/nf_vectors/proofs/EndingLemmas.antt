@@ -8,7 +8,7 @@ pub at_ok : {A E : Type 0} {P : Type 0} (r : Result A E) → is_ok r ≡ true �
 at_ok (Ok x) e p = p
 at_ok (Err e) is p = absurd (false≢true is)
 
-module _ (reading : Reading) (bytes : List ℕ) (stands : StandsAfter reading bytes) where
+module _ {reading : Reading} {bytes : List ℕ} (stands : StandsAfter reading bytes) where
   -- a bad line is the first fault, whatever follows
   pub bad_line : (b : ℕ) (kind : VectorKind) → is_line_end b ≡ true → judged reading.line reading.bytes.items ≡ Bad kind
       → (stop : Option VectorKind) (more : List ℕ) → first_fault 1 stop (lines_of (bytes ++ b ∷ more)) ≡ Some (record { line = reading.line; kind = kind })
@@ -52,19 +52,19 @@ pub Tells-found : (bytes : List ℕ) (failed : Bool) (fault : VectorFault) → F
 Tells-found bytes failed fault finds = finds (stop_of bytes failed) (λ past. cond-true _ _ _ (lt-ltb limit (length bytes) past))
 
 -- the fault at one byte, whatever stands behind it: at the limit, that it is one too many
-pub found_here : (reading : Reading) (bytes : List ℕ) → StandsAfter reading bytes → (b : ℕ) (rest : List ℕ) (kind : VectorKind) (fault : VectorFault)
+pub found_here : {reading : Reading} {bytes : List ℕ} {kind : VectorKind} {fault : VectorFault} → StandsAfter reading bytes → (b : ℕ) (rest : List ℕ)
     → reading.taken ≤ 67108864 → fault ≡ record { line = reading.line; kind = kind } → (kind ≡ Size → reading.taken ≡ 67108864) → (reading.taken ≡ 67108864 → kind ≡ Size)
     → (¬ (kind ≡ Size) → (stop : Option VectorKind) (more : List ℕ) → first_fault 1 stop (lines_of (bytes ++ b ∷ more)) ≡ Some (record { line = reading.line; kind = kind }))
     → Finds (bytes ++ b ∷ rest) fault
-found_here reading bytes stands b rest kind fault few is full size found =
+found_here {reading} {bytes} stands b rest few is full size found =
     subst (Finds (bytes ++ b ∷ rest)) (sym is) (λ stop past. ⊎_elim
     (λ below.
     let n = limit - length bytes - 1 in
-    let within : limit ≡ length bytes + suc n = omega (arith, below, stands.taken) in
-    ap (λ l. first_fault 1 stop (lines_of l)) (ap (λ m. take m (bytes ++ b ∷ rest)) within ∙ take-append-add bytes (b ∷ rest) (suc n)) ∙ found (λ e. omega (arith, below, full e)) stop (take n rest))
+    let within : limit ≡ length bytes + suc n = omega arith in
+    ap (λ l. first_fault 1 stop (lines_of l)) (ap (λ m. take m (bytes ++ b ∷ rest)) within ∙ take-append-add bytes (b ∷ rest) (suc n)) ∙ found (λ e. omega (arith, full e)) stop (take n rest))
     (λ above.
-    let end : length bytes ≡ limit = omega (arith, above, few, stands.taken) in
-    rw (past (omega (arith, end, length-append bytes (b ∷ rest))), take_at bytes (b ∷ rest) limit end, size (omega (arith, above, few))) (last_line reading bytes stands (Some Size)))
+    let end : length bytes ≡ limit = omega arith in
+    rw (past (omega (arith, length-append bytes (b ∷ rest))), take_at bytes (b ∷ rest) limit end, size (omega arith)) (last_line stands (Some Size)))
     (cases_lt reading.taken 67108864))
 
 pub piece_at : (bytes piece : List ℕ) (i : ℕ) → i < length piece → (bytes ++ take i piece) ++ get_or piece i 0 ∷ drop (i + 1) piece ≡ bytes ++ piece

@@ -9,7 +9,7 @@ pub split-cut : (bytes first rest : List ℕ) → (position_or_len is_semicolon 
 split-cut bytes first rest parts = slice_split_first is_semicolon bytes 0 parts.0 ∙ (λ i. sym parts.1 i ∷ slice_split is_semicolon (sym parts.2 i))
 
 pub split-none : (bytes : List ℕ) → position_or_len is_semicolon bytes ≡ length bytes → slice_split is_semicolon bytes ≡ bytes ∷ []
-split-none bytes end = slice_split_none is_semicolon bytes (λ k d within. fails_before_first is_semicolon bytes k d (omega (arith, end, within)))
+split-none bytes end = slice_split_none is_semicolon bytes (λ k d within. fails_before_first is_semicolon bytes k d (omega arith))
 
 -- there is a first part
 pub split-some : (test : ℕ → Bool) (bytes : List ℕ) → (first : List ℕ) × (rest : List (List ℕ)) × (slice_split test bytes ≡ first ∷ rest)
@@ -31,6 +31,6 @@ columns_in-more a b c d e v other = ⊎_elim
     (λ inside.
     let some = split-some is_semicolon (after_first is_semicolon v) in
     ap (λ l. columns_in (a ∷ b ∷ c ∷ d ∷ e ∷ l)) (slice_split_first is_semicolon v 0 inside ∙ ap (λ l. before_first is_semicolon v ∷ l) some.2))
-    (λ past. ap (λ l. columns_in (a ∷ b ∷ c ∷ d ∷ e ∷ l)) (split-none v (omega (arith, past, prefix_len-le-length (λ b. not (is_semicolon b)) v)))
+    (λ past. ap (λ l. columns_in (a ∷ b ∷ c ∷ d ∷ e ∷ l)) (split-none v (omega (arith, prefix_len-le-length (λ b. not (is_semicolon b)) v)))
     ∙ cond-false _ _ _ other)
     (cases_lt (position_or_len is_semicolon v) (length v))

@@ -15,9 +15,9 @@ first_fault-ended n stop line bytes =
     let some = split-some is_line_end bytes in
     ap (λ more. first_fault n stop (line ∷ more)) some.2 ∙ ap (λ more. fault_or n (judged n line) (first_fault (n + 1) stop more)) (sym some.2)
 
-module _ (old new : Reading) (bytes : List ℕ) (b : ℕ) (before : StandsAfter old bytes) (taken : new.taken ≡ old.taken + 1) where
+module _ {old : Reading} {bytes : List ℕ} (new : Reading) (b : ℕ) (before : StandsAfter old bytes) (taken : new.taken ≡ old.taken + 1) where
   taken-more : new.taken ≡ length (bytes ++ b ∷ [])
-  taken-more = omega (arith, before.taken, taken, length-append bytes (b ∷ []))
+  taken-more = omega (arith, length-append bytes (b ∷ []))
 
   -- the end of the line
   pub StandsAfter-line : is_line_end b ≡ true → EndsLine (judged old.line old.bytes.items) old new

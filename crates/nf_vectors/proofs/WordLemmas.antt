@@ -16,16 +16,16 @@ code_points-empty [] words none = refl
 code_points-empty (b ∷ bs) words none = absurd (omega arith)
 
 -- the words of a column, of which an iterator gave these, with these code points
-module _ {S : Type 0} {steps : S → Option (Bor (List ℕ)) → S → Type 0} {s : S} (column : List ℕ) (yields : YieldsList steps (λ word. word.now) s (slice_split is_gap column))
-    (words : List (Bor (List ℕ))) (t : S) (gave : Yields steps s words t)
+module _ {S : Type 0} {steps : S → Option (Bor (List ℕ)) → S → Type 0} {s t : S} (column : List ℕ) (yields : YieldsList steps (λ word. word.now) s (slice_split is_gap column))
+    (words : List (Bor (List ℕ))) (gave : Yields steps s words t)
     (codes : List ℕ) (so_far : code_points (slice_split is_gap column) ≡ before codes (code_points (drop (length words) (slice_split is_gap column)))) where
   -- no more
-  pub whole : (r : Option (Bor (List ℕ))) (u : S) → r ≡ None → steps t r u → code_points (slice_split is_gap column) ≡ Ok codes
-  whole r u none step =
+  pub whole : {r : Option (Bor (List ℕ))} {u : S} → r ≡ None → steps t r u → code_points (slice_split is_gap column) ≡ Ok codes
+  whole {r} {u} none step =
       so_far ∙ ap (λ ws. before codes (code_points ws)) (drop_all (length words) (slice_split is_gap column) (omega (arith, (YieldsList-end yields words t gave r u none step).1))) ∙ ap Ok (append-nil codes)
 
   -- one more
-  module _ (r : Option (Bor (List ℕ))) (u : S) (word : Bor (List ℕ)) (some : r ≡ Some word) (step : steps t r u) where
+  module _ {r : Option (Bor (List ℕ))} {u : S} {word : Bor (List ℕ)} (some : r ≡ Some word) (step : steps t r u) where
     abbrev rest : List (List ℕ)
     rest = drop (length (words ++ word ∷ [])) (slice_split is_gap column)
 

@@ -13,8 +13,8 @@ loop-word-preserved-then-is_empty c =
       read = (
         read.0,
         read.1,
-        skipped c.args.column.now (YieldsList-from_slice_split _ is_gap c.args.column.now (cc) (cc) (cc) (λ x b q k. search (rules, tests))) c.loop-word.yielded _ c.loop-word.yielded_by read.0 read.2 _ _
-            c.in-Some.word c.in-Some.is c.next.ensures.steps (eqb-true _ _ (sym c.is_empty.ensures ∙ c.if-is_empty.true)),
+        skipped c.args.column.now (YieldsList-from_slice_split _ is_gap c.args.column.now (cc) (cc) (cc) (λ x b q k. search (rules, tests))) c.loop-word.yielded c.loop-word.yielded_by read.0 read.2
+            c.in-Some.is c.next.ensures.steps (eqb-true _ _ (sym c.is_empty.ensures ∙ c.if-is_empty.true)),
       );
     }
 
@@ -27,8 +27,8 @@ loop-word-preserved c =
       read = (
         read.0 ++ c.in_ok-c.c ∷ [],
         c.in-Ok.ensures.items ∙ ap (λ l. l ++ c.in_ok-c.c ∷ []) read.1 ∙ append_assoc c.args.text.now.items read.0 (c.in_ok-c.c ∷ []),
-        pushed c.args.column.now (YieldsList-from_slice_split _ is_gap c.args.column.now (cc) (cc) (cc) (λ x b q k. search (rules, tests))) c.loop-word.yielded _ c.loop-word.yielded_by read.0 read.2 _ _
-            c.in-Some.word c.in-Some.is c.next.ensures.steps c.in_ok-c.c (eqb-false _ _ (sym c.is_empty.ensures ∙ c.if-is_empty.false)) (sym c.in_ok-c.ensures.value),
+        pushed c.args.column.now (YieldsList-from_slice_split _ is_gap c.args.column.now (cc) (cc) (cc) (λ x b q k. search (rules, tests))) c.loop-word.yielded c.loop-word.yielded_by read.0 read.2
+            c.in-Some.is c.next.ensures.steps c.in_ok-c.c (eqb-false _ _ (sym c.is_empty.ensures ∙ c.if-is_empty.false)) (sym c.in_ok-c.ensures.value),
       );
     }
 
@@ -37,32 +37,32 @@ unfolding column_in
 returns-in_err-c-clause-column c =
     let read = c.loop-word.invariant.read in
     refused_by _ _ _ _ c.from_residual.ensures (λ _. ap some_or_empty (
-    refused c.args.column.now (YieldsList-from_slice_split _ is_gap c.args.column.now (cc) (cc) (cc) (λ x b q k. search (rules, tests))) c.loop-word.yielded _ c.loop-word.yielded_by read.0 read.2 _ _
-    c.in-Some.word c.in-Some.is c.next.ensures.steps c.in_err-c.field-0.0 (eqb-false _ _ (sym c.is_empty.ensures ∙ c.if-is_empty.false)) (sym c.in_err-c.ensures.value)))
+    refused c.args.column.now (YieldsList-from_slice_split _ is_gap c.args.column.now (cc) (cc) (cc) (λ x b q k. search (rules, tests))) c.loop-word.yielded c.loop-word.yielded_by read.0 read.2
+    c.in-Some.is c.next.ensures.steps c.in_err-c.field-0.0 (eqb-false _ _ (sym c.is_empty.ensures ∙ c.if-is_empty.false)) (sym c.in_err-c.ensures.value)))
 
 pub returns-then-len-start-clause-column : goal.returns-then-len-start-clause-column
 returns-then-len-start-clause-column c = λ _.
     let read = c.loop-word.invariant.read in
-    let codes = whole c.args.column.now (YieldsList-from_slice_split _ is_gap c.args.column.now (cc) (cc) (cc) (λ x b q k. search (rules, tests))) c.loop-word.yielded _ c.loop-word.yielded_by
-    read.0 read.2 _ _ c.in-None.is c.next.ensures.steps in
-    column_in-empty c.args.column.now read.0 codes (omega (arith, ap length read.1, length-append c.args.text.now.items read.0, c.loop-word.text.ok.0, c.args.text.now.ok.0, c.if-len-start.true))
+    let codes = whole c.args.column.now (YieldsList-from_slice_split _ is_gap c.args.column.now (cc) (cc) (cc) (λ x b q k. search (rules, tests))) c.loop-word.yielded c.loop-word.yielded_by
+    read.0 read.2 c.in-None.is c.next.ensures.steps in
+    column_in-empty c.args.column.now read.0 codes (omega (arith, ap length read.1, length-append c.args.text.now.items read.0))
 
 pub overflow_cast-result : goal.overflow_cast-result
 overflow_cast-result c =
     let read = c.loop-word.invariant.read in
-    let codes = whole c.args.column.now (YieldsList-from_slice_split _ is_gap c.args.column.now (cc) (cc) (cc) (λ x b q k. search (rules, tests))) c.loop-word.yielded _ c.loop-word.yielded_by
-    read.0 read.2 _ _ c.in-None.is c.next.ensures.steps in
-    omega (arith, codes-le c.args.column.now read.0 codes, ap length read.1, length-append c.args.text.now.items read.0, c.loop-word.text.ok.0, c.requires)
+    let codes = whole c.args.column.now (YieldsList-from_slice_split _ is_gap c.args.column.now (cc) (cc) (cc) (λ x b q k. search (rules, tests))) c.loop-word.yielded c.loop-word.yielded_by
+    read.0 read.2 c.in-None.is c.next.ensures.steps in
+    omega (arith, codes-le c.args.column.now read.0 codes, ap length read.1, length-append c.args.text.now.items read.0)
 
 pub returns : goal.returns
 returns c =
     let read = c.loop-word.invariant.read in
-    let codes = whole c.args.column.now (YieldsList-from_slice_split _ is_gap c.args.column.now (cc) (cc) (cc) (λ x b q k. search (rules, tests))) c.loop-word.yielded _ c.loop-word.yielded_by
-    read.0 read.2 _ _ c.in-None.is c.next.ensures.steps in
+    let codes = whole c.args.column.now (YieldsList-from_slice_split _ is_gap c.args.column.now (cc) (cc) (cc) (λ x b q k. search (rules, tests))) c.loop-word.yielded c.loop-word.yielded_by
+    read.0 read.2 c.in-None.is c.next.ensures.steps in
     let le = codes-le c.args.column.now read.0 codes in
     let sum = ap length read.1 ∙ length-append c.args.text.now.items read.0 in
     record {
       len = search (rules, sum, le);
-      column = (read.0, column_in-some c.args.column.now read.0 codes (λ none. c.if-len-start.false (omega (arith, none, sum, c.loop-word.text.ok.0, c.args.text.now.ok.0))), read.1);
+      column = (read.0, column_in-some c.args.column.now read.0 codes (λ none. c.if-len-start.false (omega arith)), read.1);
       faults = search rules;
     }

@@ -10,12 +10,12 @@ returns-then-byte-eq10-clause-stands c = λ bytes stands.
     if_ok_if r _ (λ ok.
     let rest = at_ok r ok c.end_line.ensures.rest in
     let ends = at_ok r ok c.end_line.ensures.ends in
-    StandsAfter-line c.args.self.now c.end_line.new.self bytes c.args.byte stands rest.1 (eq-eqb c.args.byte 10 c.if-byte-eq10.true)
+    StandsAfter-line c.end_line.new.self c.args.byte stands rest.1 (eq-eqb c.args.byte 10 c.if-byte-eq10.true)
     (record { rows = ends.rows; in_part1 = ends.in_part1; has_part1 = ends.has_part1 }) (λ other. at_ok r ok (c.end_line.ensures.fine other)) rest.0 rest.2)
 
 pub returns-then-byte-eq10-clause-finds : goal.returns-then-byte-eq10-clause-finds
 returns-then-byte-eq10-clause-finds c = λ bytes stands.
-    IfErr-weaker c.end_line.result _ _ (λ kind bad sound _. bad_line c.args.self.now bytes stands c.args.byte kind (eq-eqb c.args.byte 10 c.if-byte-eq10.true) (bad sound)) c.end_line.ensures.bad
+    IfErr-weaker c.end_line.result _ _ (λ kind bad sound _. bad_line stands c.args.byte kind (eq-eqb c.args.byte 10 c.if-byte-eq10.true) (bad sound)) c.end_line.ensures.bad
 
 -- These two would be found without a word here: they stand so that a wrong body is refused at once.
 pub returns-then-self-eq-LIMIT-clause-unread : goal.returns-then-self-eq-LIMIT-clause-unread

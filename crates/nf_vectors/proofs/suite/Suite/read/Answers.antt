@@ -7,13 +7,13 @@ pub returns-in-Err-clause-reads : goal.returns-in-Err-clause-reads
 returns-in-Err-clause-reads g c =
     let read = c.loop-given.invariant.read in
     let failed : true ≡ (g.I.Source.state c.get.new.self).is_failed = sym c.in-Err.ensures.failed.0 in
-    let few : length read.0 ≤ limit = omega (arith, read.2.taken, c.loop-given.invariant.within.taken) in
+    let few : length read.0 ≤ limit = omega (arith, read.2.taken) in
     record {
       bytes = read.0;
       given = Consumes-kept _ _ _ read.0 read.1 c.in-Err.ensures.kept;
       read_out = λ end. absurd (false≢true (sym c.in-Err.ensures.failed.1 ∙ end));
       memory = λ memory. let e = sym (ap (λ f. f.kind) c.fault.ensures) ∙ memory in cc;
-      tells = λ _. ap (λ b. first_fault 1 (stop_of read.0 b) (lines_within read.0)) (sym failed) ∙ ends_at c.loop-given.reading read.0 read.2 few true ∙ ap Some (sym c.fault.ensures);
+      tells = λ _. ap (λ b. first_fault 1 (stop_of read.0 b) (lines_within read.0)) (sym failed) ∙ ends_at read.2 few true ∙ ap Some (sym c.fault.ensures);
       end = tt;
       before_end = λ _ unfailed. absurd (false≢true (sym unfailed ∙ sym failed));
     }
@@ -24,7 +24,7 @@ returns-in-Err-take-clause-reads g c =
     let piece = take c.in-Ok.given c.get.new.buf in
     let finds = c.in-Err-take.ensures.finds read.0 read.2 in
     let unended : (g.I.Source.state c.get.new.self).is_at_end ≡ false = c.in-Ok.ensures.end ∙ ne_eqb c.in-Ok.given 0 c.if-given-eq0.false in
-    let short : length piece ≤ block = omega (arith, length-take-le c.in-Ok.given c.get.new.buf c.in-Ok.ensures.count, c.in-Ok.ensures.count, c.loop-given.invariant.room, c.get.auto.buf) in
+    let short : length piece ≤ block = omega (arith, length-take-le c.in-Ok.given c.get.new.buf c.in-Ok.ensures.count, c.in-Ok.ensures.count) in
     record {
       bytes = read.0 ++ piece;
       given = Consumes-trans _ _ _ read.0 piece read.1 c.in-Ok.ensures.given;
@@ -32,7 +32,7 @@ returns-in-Err-take-clause-reads g c =
       memory = λ memory. subst (λ (b : Bool). RunsOut (read.0 ++ piece) b c.in-Err-take.fault) (sym unended) (c.in-Err-take.ensures.memory read.0 read.2 short memory);
       tells = λ sound. Tells-found (read.0 ++ piece) (g.I.Source.state c.get.new.self).is_failed c.in-Err-take.fault (finds sound);
       end = tt;
-      before_end = λ _ _ few sound stop. finds sound stop (λ past. absurd (omega (arith, past, few)));
+      before_end = λ _ _ few sound stop. finds sound stop (λ past. absurd (omega arith));
     }
 
 pub returns-then-given-eq0-clause-reads : goal.returns-then-given-eq0-clause-reads
