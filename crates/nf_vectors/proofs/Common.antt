@@ -30,7 +30,7 @@ pub use Rattle.nf_vectors.specs.Limits.{limit, block}
 pub use Rattle.nf_vectors.specs.Columns.{Columns, each}
 pub use Rattle.nf_vectors.specs.Comparison.{leaves_format, holds, broken_column, holds_at}
 pub use Rattle.nf_vectors.specs.Held.{columns_at}
-pub use Rattle.nf_vectors.specs.Judgement.{columns_of, judgement, Bad, Nothing, Part, Row, columns_in}
+pub use Rattle.nf_vectors.specs.Judgement.{judgement, Bad, Nothing, Part, Row, columns_in}
 pub use Rattle.nf_vectors.specs.Line.{lines_of, is_line_end, is_semicolon, is_blank, is_gap}
 pub use Rattle.nf_vectors.specs.ReadsSuite.{lines_within, stop_of, Finds, Tells}
 unfoldable pub use Rattle.nf_vectors.specs.Report.{report_of}
