@@ -22,7 +22,9 @@ HasNoLead t = all_below (λ h. get_or t.first_high h 0 == 0) 12 ≡ true
 
 no_sets : (t : Pairs) → HasNoLead t → (lead next : ℕ) → lead < 192 → pair_sets t lead next ≡ 0
 no_sets t rows lead next small =
-    grind (arith, all_below-at (λ h. get_or t.first_high h 0 == 0) 12 (lead / 16) rows, and_le_l (get_or t.first_high (lead / 16) 0) (get_or t.first_low (bit_and lead 15) 0), and_le_l (byte_sets t.first_high t.first_low lead) (byte_sets t.next_high t.next_low next))
+    let none = all_below-at (λ h. get_or t.first_high h 0 == 0) 12 (lead / 16) rows in
+    let first = and_le_l (get_or t.first_high (lead / 16) 0) (get_or t.first_low (bit_and lead 15) 0) in
+    grind (arith, none, first, and_le_l (byte_sets t.first_high t.first_low lead) (byte_sets t.next_high t.next_low next))
 
 -- what holds of all the sets holds of those that are asked
 asked_each : (f : Form) (lead : ℕ) (P : Triples → Type 0) → P (kana_of f) → P (wide_of f) → P (triples_of f) → P (asked_of f lead)
