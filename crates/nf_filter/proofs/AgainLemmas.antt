@@ -1,6 +1,7 @@
 -- What a filter wrote to the end is a text that is stream-safe and its own form, so that a second one changes nothing.
-use Rattle.nf_filter.proofs.Common.{◌≡◌, ℕ, ◌+◌, ◌-◌, Bool, true, false, ◌==◌, List, [], ◌∷◌, ◌++◌, length, Option, Some, None, Result, Ok, Err, refl, sym, ap, ap₂, ◌∙◌, subst, arith, append-nil, eq-eqb, IsTrue, OnOk, if◌then◌else◌, encode_utf8_all, inl, and_from, and_parts, list_all, Appends, Consumes, all_scalars, chars, Properties, Form, is_sound, stream_safe, safe_form, ChangesOnce, IsSoundText, is_in_format, in_format-unchanged, IsText, BeginsText, Ending, Whole, Cut, moved, text_of, ending_of, replacement, begun_at_end, replaced, replaced_whole, ReadsLongestText, ReadsBack, ReplacesParts, Fault, Policy, Tally, as_is, allowed, text_under, whole_under, len_under, is_usable, settled_utf8, answer_at_end, bad_byte, bad_under, first_fault, fault_in, tally_of, answer_or, end_under, end_of, whole_or, is_taken, final_under, final_utf8, SinkState, SourceState, Puts, due_utf8, Drives, DrivesToEnd, whole_utf8, Converts, settled_utf8-none}
+use Rattle.nf_filter.proofs.Common.{◌≡◌, ℕ, ◌+◌, Bool, true, false, ◌==◌, List, [], ◌∷◌, ◌++◌, length, Option, Some, None, Result, Ok, Err, refl, sym, ap, ◌∙◌, append-nil, eq-eqb, IsTrue, OnOk, if◌then◌else◌, encode_utf8_all, inl, and_from, and_parts, list_all, Appends, all_scalars, Properties, Form, is_sound, stream_safe, safe_form, ChangesOnce, IsSoundText, is_in_format, in_format-unchanged, IsText, BeginsText, Ending, Whole, Cut, text_of, ending_of, replacement, begun_at_end, replaced, replaced_whole, ReadsLongestText, ReadsBack, ReplacesParts, Fault, Policy, Tally, as_is, allowed, text_under, whole_under, len_under, is_usable, settled_utf8, answer_at_end, bad_under, first_fault, fault_in, tally_of, answer_or, end_under, end_of, whole_or, is_taken, final_under, final_utf8, SinkState, SourceState, Puts, Drives, DrivesToEnd, whole_utf8, Converts, settled_utf8-none}
 use Rattle.std.proofs.str.Laws.{scalars-append}
+use Rattle.std.proofs.Math.Nat.{sub_self}
 use Rattle.std.proofs.Math.Utf8.{scalar}
 use Rattle.nf_filter.specs.Again.{TakesAll, nothing_put, StaysAsItIs, AddsWhatStays, DrivesOnce, FinishedStays}
 use Rattle.nf_filter.proofs.PolicyLemmas.{first_fault-none, taken}
@@ -22,8 +23,7 @@ module _ (p : Properties) where
   module _ (base : ℕ) (bytes : List ℕ) (tally : Tally) where
     final_under-whole : (replace assigned : Bool) → end_under replace assigned p base bytes ≡ Ok tally → (settled whole : List ℕ) → final_under replace assigned p bytes settled whole ≡ whole
     final_under-whole false assigned end settled whole = answered base (tally_of false p bytes) tally (ending_of bytes) end settled whole
-    final_under-whole true assigned end settled whole =
-        ap (λ (b : Bool). if b then whole else settled) (taken p assigned (λ front. base + len_under true bytes front) (whole_under true bytes) None (none_told _ (tally_of true p bytes) tally end))
+    final_under-whole true assigned end settled whole = rw (taken p assigned _ (whole_under true bytes) None (none_told _ (tally_of true p bytes) tally end))
 
     pub final-whole : (f : Form) (policy : Policy) → end_of policy p base bytes ≡ Ok tally → final_utf8 policy f p bytes ≡ encode_utf8_all (safe_form f p (whole_under policy.replace bytes))
     unfolding final_utf8 end_of
@@ -41,10 +41,10 @@ module _ (back : ReadsBack) (replacing : ReplacesParts) where
     bytes_is = encode_utf8_all o
 
     text-is : text_of bytes_is ≡ o
-    text-is = ap text_of (sym (append-nil bytes_is)) ∙ back.text o [] scalars ∙ ap (λ l. o ++ l) text_of-none ∙ append-nil o
+    text-is = rw (append-nil bytes_is, text_of-none, append-nil o) at (back.text o [] scalars)
 
     ending-is : ending_of bytes_is ≡ Whole
-    ending-is = ap ending_of (sym (append-nil bytes_is)) ∙ back.ending o [] scalars ∙ ap (moved (length bytes_is)) ending_of-none
+    ending-is = rw (append-nil bytes_is, ending_of-none) at (back.ending o [] scalars)
 
     begins : BeginsText bytes_is
     begins = ([], (o, (scalars, sym (append-nil bytes_is))))
@@ -53,11 +53,11 @@ module _ (back : ReadsBack) (replacing : ReplacesParts) where
     text_under-is replace = text_under-begun replacing bytes_is begins replace ∙ text-is
 
     begun-is : begun_at_end bytes_is ≡ 0
-    begun-is = omega (arith, begun_at_end-begun replacing bytes_is begins, ap (λ x. length (encode_utf8_all x)) text-is)
+    begun-is = rw (begun_at_end-begun replacing bytes_is begins, text-is) (sub_self (length bytes_is))
 
     whole-is : replaced_whole bytes_is ≡ o
     unfolding replaced_whole
-    whole-is = ap₂ (λ w n. w ++ (if n == 0 then [] else replacement ∷ [])) (text_under-is true) begun-is ∙ append-nil o
+    whole-is = rw (text_under-is true, begun-is) (append-nil o)
 
     whole_under-is : (replace : Bool) → whole_under replace bytes_is ≡ o
     whole_under-is false = text-is
@@ -71,12 +71,7 @@ module _ (back : ReadsBack) (replacing : ReplacesParts) where
       usable-is = ap (list_all (is_sound p)) safe ∙ sound
 
       put-is : (replace : Bool) → tally_of replace p bytes_is ≡ nothing_put bytes_is
-      put-is replace =
-          ap (λ x. tally_by (length x) (length (stream_safe p x) - length x)) (whole_under-is replace)
-          ∙ ap₂ tally_by (sym (ap length text-is)) (let same = ap length safe in omega (arith, same))
-        where
-          tally_by : ℕ → ℕ → Tally
-          tally_by chars put = record { bytes = length bytes_is; chars = chars; put = put }
+      put-is replace = rw (whole_under-is replace, text-is, safe, sub_self (length o))
 
       module _ (policy : Policy) (all : TakesAll policy p bytes_is) where
         all-is : allowed policy.assigned p o ≡ o
@@ -84,20 +79,15 @@ module _ (back : ReadsBack) (replacing : ReplacesParts) where
 
         no_fault-is : (base : ℕ) → fault_in policy p base bytes_is ≡ None
         unfolding fault_in
-        no_fault-is base =
-            ap (λ x. first_fault policy.assigned p (λ front. base + len_under policy.replace bytes_is front) x (bad_under policy.replace base bytes_is)) (text_under-is policy.replace)
-            ∙ first_fault-none p policy.assigned _ o _ usable-is all-is ∙ none_bad policy.replace
+        no_fault-is base = rw (text_under-is policy.replace) (first_fault-none p policy.assigned _ o _ usable-is all-is ∙ none_bad policy.replace)
           where
             none_bad : (replace : Bool) → bad_under replace base bytes_is ≡ None
-            none_bad false = ap (bad_byte base) ending-is
+            none_bad false = rw ending-is
             none_bad true = refl
 
         end-is : (replace : Bool) (base : ℕ) → end_under replace policy.assigned p base bytes_is ≡ Ok (nothing_put bytes_is)
-        end-is false base = ap (answer_at_end base (tally_of false p bytes_is)) ending-is ∙ ap (λ t. Ok t) (put-is false)
-        end-is true base =
-            ap (λ x. answer_or (first_fault policy.assigned p (λ front. base + len_under true bytes_is front) x None) (tally_of true p bytes_is)) whole-is
-            ∙ ap (λ fault. answer_or fault (tally_of true p bytes_is)) (first_fault-none p policy.assigned _ o None usable-is all-is)
-            ∙ ap (λ t. Ok t) (put-is true)
+        end-is false base = rw ending-is (ap Ok (put-is false))
+        end-is true base = rw (ap (λ x. first_fault policy.assigned p (λ front. base + len_under true bytes_is front) x None) whole-is, first_fault-none p policy.assigned _ o None usable-is all-is) (ap Ok (put-is true))
 
         tally-is : (base : ℕ) → end_of policy p base bytes_is ≡ Ok (nothing_put bytes_is)
         unfolding end_of
@@ -107,15 +97,12 @@ module _ (back : ReadsBack) (replacing : ReplacesParts) where
         taken-is = and_from _ _ (ap (is_usable p) all-is ∙ usable-is) (eq-eqb _ _ (ap length all-is))
 
         final-is : (replace : Bool) (settled : List ℕ) → final_under replace policy.assigned p bytes_is settled bytes_is ≡ bytes_is
-        final-is false settled = ap (λ e. whole_or e settled bytes_is) ending-is
-        final-is true settled = ap (λ x. if is_taken policy.assigned p x then bytes_is else settled) whole-is ∙ ap (λ (b : Bool). if b then bytes_is else settled) taken-is
+        final-is false settled = rw ending-is
+        final-is true settled = rw (whole-is, taken-is)
 
         again-is : final_utf8 policy f p bytes_is ≡ bytes_is
         unfolding final_utf8
-        again-is =
-            ap (λ x. final_under policy.replace policy.assigned p bytes_is (settled_utf8 policy f p bytes_is) (encode_utf8_all (safe_form f p x))) (whole_under-is policy.replace)
-            ∙ ap (λ x. final_under policy.replace policy.assigned p bytes_is (settled_utf8 policy f p bytes_is) (encode_utf8_all x)) form
-            ∙ final-is policy.replace (settled_utf8 policy f p bytes_is)
+        again-is = rw (whole_under-is policy.replace, form) (final-is policy.replace (settled_utf8 policy f p bytes_is))
 
       stays : StaysAsItIs f p bytes_is
       stays = record {
@@ -147,7 +134,7 @@ module _ (back : ReadsBack) (replacing : ReplacesParts) where
         last false = refl
 
     pub stays-final : (base : ℕ) (bytes : List ℕ) (tally : Tally) (policy : Policy) → end_of policy p base bytes ≡ Ok tally → StaysAsItIs f p (final_utf8 policy f p bytes)
-    stays-final base bytes tally policy end = subst (StaysAsItIs f p) (sym (final-whole p base bytes tally f policy end)) (stays-form (whole_under policy.replace bytes) (text-whole policy.replace bytes))
+    stays-final base bytes tally policy end = rw (final-whole p base bytes tally f policy end) (stays-form (whole_under policy.replace bytes) (text-whole policy.replace bytes))
 
 pub finished_stays : ReadsLongestText → ReadsBack → ReplacesParts → FinishedStays
 finished_stays longest back replacing = λ policy f p base bytes tally once end. stays-final back replacing longest f p once base bytes tally policy end
@@ -160,9 +147,9 @@ pub drives_to_end : {Says : List ℕ → Type 0} → (most : ℕ) (policy : Poli
 drives_to_end most policy f p base bytes source left old new (Err fault) law end drives = tt
 drives_to_end most policy f p base bytes source left old new (Ok tally) law end drives = record {
   fed = drives.fed;
-  given = subst (Consumes source.coming left.coming) (ap (λ l. drives.fed ++ l) (drives.all_fed (λ e. cc)) ∙ append-nil drives.fed) drives.given;
+  given = rw (drives.all_fed (λ e. cc), append-nil drives.fed) at drives.given;
   read_out = drives.read_out end;
-  written = subst (λ b. Puts old new (settled_utf8 policy f p bytes) (due_utf8 b policy f p (bytes ++ drives.fed))) end (drives.written (λ e. cc));
+  written = rw end at (drives.written (λ e. cc));
   says = law (bytes ++ drives.fed) tally (drives.no_fault (inl end)) (sym (drives.finished end (λ e. cc)));
 }
 
@@ -173,7 +160,7 @@ drives_once law most policy f p base bytes source left old new result once end d
 
 module _ (f : Form) (p : Properties) (old new : SinkState) where
   put-stays : (out whole : List ℕ) → whole ≡ out → Appends old.taken new.taken out → StaysAsItIs f p whole → AddsWhatStays f p old.taken new.taken
-  put-stays out whole is given stays = (out, given, subst (StaysAsItIs f p) is stays)
+  put-stays out whole is given stays = (out, given, rw is at stays)
 
   pub adds_what_stays : (policy : Policy) (source left : SourceState) (result : Result Tally Fault) → OnOk result (DrivesOnce policy f p [] source left old new)
       → OnOk result (AddsWhatStays f p old.taken new.taken)
@@ -198,6 +185,4 @@ module _ (f : Form) (p : Properties) (old new : SinkState) where
 
 -- what stands where nothing stood before
 pub taken_stays : (f : Form) (p : Properties) (taken now : Option (List ℕ)) (out : List ℕ) → taken ≡ Some [] → now ≡ Some out → AddsWhatStays f p taken now → StaysAsItIs f p out
-taken_stays f p taken now out is_taken is_now adds =
-    let all : out ≡ adds.0 = subst (λ (o : Option (List ℕ)). Appends (Some []) o adds.0) is_now (subst (λ (o : Option (List ℕ)). Appends o now adds.0) is_taken adds.1) in
-    subst (StaysAsItIs f p) (sym all) adds.2
+taken_stays f p taken now out is_taken is_now adds = let all : out ≡ adds.0 = rw (is_taken, is_now) at adds.1 in rw all adds.2

@@ -30,7 +30,7 @@ allowed-part a at rest {p} {text = text} {y} whole front takes f place x start t
 module _ (p : Properties) (a : Bool) (w z : List ℕ) (front : allowed a p w ≡ z) where
   written_is : (f : Form) → usable_utf8 f p z ≡ taken_utf8 a f p w
   unfolding usable_utf8
-  written_is f = ap (λ l. settled_text f p (usable p l)) (sym front)
+  written_is f = rw front
 
   refused_is : (place : List ℕ → ℕ) (fault : Fault) → Some fault ≡ unusable_at p place z → Some fault ≡ first_fault a p place w None
   unfolding unusable_at

@@ -1,5 +1,5 @@
 -- What a check decides, character by character.
-use Rattle.nf_filter.proofs.Common.{◌≡◌, ℕ, ◌+◌, ◌<◌, Bool, true, false, List, [], ◌∷◌, ◌++◌, length, Some, None, Ok, Err, inl, inr, ◌⊎◌, refl, sym, ap, ◌∙◌, subst, arith, append_assoc, append-nil, if◌then◌else◌, Option, chars, encode_utf8_all, list_all, cond-true, or_left, and_parts, and_from, and_left, and_right, list_all-append, Properties, has_starter, lead, Form, Nfkd, decomposed, stream_safe, is_sound, IsSoundText, text_of, ending_of, Place, is_in_format, place_from, Fault, Row, bad_byte, decided_or, decided_in, sound_front, check_fault, place_or_fault, check_decision, text_decision, no_stop, has_starter-append, lead-append, CountsFromEnd}
+use Rattle.nf_filter.proofs.Common.{◌≡◌, ℕ, ◌+◌, ◌<◌, Bool, true, false, List, [], ◌∷◌, ◌++◌, length, Some, None, Ok, Err, inl, inr, ◌⊎◌, refl, sym, ap, ◌∙◌, arith, append_assoc, append-nil, if◌then◌else◌, Option, chars, encode_utf8_all, list_all, cond-true, or_left, and_parts, and_from, and_left, and_right, list_all-append, Properties, has_starter, lead, Form, Nfkd, decomposed, stream_safe, is_sound, IsSoundText, text_of, ending_of, Place, is_in_format, place_from, Fault, Row, bad_byte, decided_or, decided_in, sound_front, check_fault, place_or_fault, check_decision, text_decision, no_stop, has_starter-append, lead-append, CountsFromEnd}
 use Rattle.nf_forms.specs.Parting.{CountsAnew}
 use Rattle.nf_forms.specs.Calm.{IsCalm}
 use Rattle.nf_forms.specs.Laws.Last.{by_last}
@@ -17,25 +17,19 @@ module _ (p : Properties) where
   not_all x c y unsound = list_all-append (is_sound p) (x ++ c ∷ []) y ∙ and_left _ _ (list_all-append (is_sound p) x (c ∷ []) ∙ and_right _ _ (and_left (is_sound p c) true unsound))
 
   module _ (base : ℕ) where
-    stop_at : (x y : List ℕ) (o : Option Place) (b : Bool) → sound_front p x ≡ y → place_from base p y ≡ o → list_all (is_sound p) x ≡ b
-        → text_decision p base x ≡ place_or_fault o (if b then None else Some (Row (base + length (encode_utf8_all y))))
-    unfolding text_decision
-    stop_at x y o b front at all =
-        ap (λ z. place_or_fault (place_from base p z) (if list_all (is_sound p) x then None else Some (Row (base + length (encode_utf8_all z))))) front
-        ∙ ap (λ o. place_or_fault o (if list_all (is_sound p) x then None else Some (Row (base + length (encode_utf8_all y))))) at
-        ∙ ap (λ b. place_or_fault o (if b then None else Some (Row (base + length (encode_utf8_all y))))) all
-
     -- a place stays
     place_stays : (x z : List ℕ) (at : Place) → place_from base p x ≡ Some at → place_from base p (x ++ z) ≡ Some at
     place_stays x z at found = by_last (λ z. place_from base p (x ++ z) ≡ Some at) (ap (place_from base p) (append-nil x) ∙ found)
         (λ z c before. ap (place_from base p) (sym (append_assoc x z (c ∷ []))) ∙ place_from-stays p base (x ++ z) c at before) z
 
     pub stop_place : (x y : List ℕ) (at : Place) → list_all (is_sound p) x ≡ true → place_from base p x ≡ Some at → text_decision p base (x ++ y) ≡ Some (Ok (Some at))
-    stop_place x y at all found = stop_at (x ++ y) (x ++ sound_front p y) (Some at) (list_all (is_sound p) (x ++ y)) (take_while-append (is_sound p) x y all) (place_stays x (sound_front p y) at found) refl
+    unfolding text_decision
+    stop_place x y at all found = rw (take_while-append (is_sound p) x y all, place_stays x (sound_front p y) at found)
 
     pub stop_row : (x : List ℕ) (c : ℕ) (y : List ℕ) → list_all (is_sound p) x ≡ true → place_from base p x ≡ None → is_sound p c ≡ false
         → text_decision p base ((x ++ c ∷ []) ++ y) ≡ Some (Err (Row (base + length (encode_utf8_all x))))
-    stop_row x c y all none unsound = stop_at ((x ++ c ∷ []) ++ y) x None false (take_while-stop (is_sound p) x c y all unsound) none (not_all x c y unsound)
+    unfolding text_decision
+    stop_row x c y all none unsound = rw (take_while-stop (is_sound p) x c y all unsound, none, not_all x c y unsound)
 
     -- what the bytes decide is what their text does
     pub decides : (bytes : List ℕ) → check_decision p base bytes ≡ decided_in (text_decision p base) base bytes
@@ -67,7 +61,7 @@ module _ (p : Properties) where
     lead-calm (c ∷ s) t class count calm end = lead-anew c (s ++ t) (calm-begins p f c (s ++ t) class count calm).counts
 
     in_format-safe : (x : List ℕ) → stream_safe p x ≡ x → IsSoundText p x → is_in_format p x ≡ true
-    in_format-safe x safe sound = ap (is_in_format p) (sym safe) ∙ is_in_format-stream_safe p x (subst (IsSoundText p) (sym safe) sound)
+    in_format-safe x safe sound = rw safe at (is_in_format-stream_safe p x (rw safe sound))
 
     module _ (s t : List ℕ) (class count : ℕ) (calm : IsCalm p f (s ++ t) class count) (sound : IsSoundText p (s ++ t)) (end : BeginsAndMarks p f t) where
       pub counts_from_end : CountsFromEnd p s t
@@ -81,6 +75,6 @@ module _ (p : Properties) where
       pub unstopped : (base : ℕ) → text_decision p base t ≡ None
       unstopped base =
           let alone : IsSoundText p t = (and_parts _ _ (sym (list_all-append (is_sound p) s t) ∙ sound)).1 in
-          let tail = calm-tail p f s end.first end.marks class count (subst (λ v. IsCalm p f (s ++ v) class count) end.text calm) end.parting in
+          let tail = calm-tail p f s end.first end.marks class count (rw end.text at calm) end.parting in
           no_stop p base t alone
-          (place_from-in_format p base t (in_format-safe t (stream_safe-calm p f t class count (subst (λ v. IsCalm p f v class count) (sym end.text) tail) [] refl) alone))
+          (place_from-in_format p base t (in_format-safe t (stream_safe-calm p f t class count (rw end.text tail) [] refl) alone))

@@ -1,5 +1,5 @@
 -- What is left of a piece, up to its first ill-formed byte.
-use Rattle.nf_filter.proofs.Common.{◌≡◌, ℕ, ◌+◌, ◌-◌, ◌<◌, ◌≤◌, ◌==◌, true, false, List, [], ◌∷◌, ◌++◌, length, drop, Some, Ok, Err, refl, sym, ap, ap₂, ◌∙◌, subst, arith, nat_tests, append_assoc, append-nil, Option, Result, if◌then◌else◌, encode_utf8_all, chars, length-append, drop-drop, drop_at, encodes-append, Properties, Form, End, EndsBad, Bad, text_of, text_len, ending_of, replacement, part_end, ReplacesParts, SplitsBytes, DecoderStandsAfter, first_text, Takes, bytes_behind, Fault, BadByte, Write, Counted, Policy, Reading, Start, BlockState, Written, bad_byte, bad_under, first_fault, fault_in, taken_utf8, TakesAllowed, IsLeft, HasReadTo, ReadsTo, RefusesBytes, HasTaken, IsPlacedAt, settled_text, allowed, text_under, usable, Extends}
+use Rattle.nf_filter.proofs.Common.{◌≡◌, ℕ, ◌+◌, ◌-◌, ◌<◌, ◌≤◌, ◌==◌, true, false, List, [], ◌∷◌, ◌++◌, length, drop, Some, Ok, Err, refl, sym, ap, ap₂, ◌∙◌, arith, nat_tests, append_assoc, append-nil, Option, Result, if◌then◌else◌, encode_utf8_all, chars, length-append, drop-drop, drop_at, encodes-append, Properties, Form, End, EndsBad, Bad, text_of, text_len, ending_of, replacement, part_end, ReplacesParts, SplitsBytes, DecoderStandsAfter, first_text, Takes, bytes_behind, Fault, BadByte, Write, Counted, Policy, Reading, Start, BlockState, Written, bad_byte, bad_under, first_fault, fault_in, taken_utf8, TakesAllowed, IsLeft, HasReadTo, ReadsTo, RefusesBytes, IsPlacedAt, settled_text, allowed, text_under, usable}
 use Rattle.nf_filter.proofs.BlockLemmas.{Written-at, Broken-extends}
 use Rattle.nf_filter.proofs.PolicyLemmas.{first_fault-none, first_fault-stays, taken_utf8-grows}
 use Rattle.nf_filter.proofs.AllowingLemmas.{TakesBehind, TakesAllowed-settled}
@@ -8,7 +8,7 @@ use Rattle.nf_filter.proofs.PieceLemmas.{place_in, left-text, left-place, left-b
 
 -- in a text of one character no other is placed
 pub one_placed : (place : List ℕ → ℕ) (at : ℕ) (x : List ℕ) (c : ℕ) → place x ≡ at → IsPlacedAt place at x (c ∷ [])
-one_placed place at x c here [] d rest is = ap place (append-nil x) ∙ here ∙ (let n : at ≡ at + 0 = omega arith in n)
+one_placed place at x c here [] d rest is = rw (append-nil x) (omega (arith, here))
 one_placed place at x c here (e ∷ front) d rest is = absurd (omega (arith, ap length is, length-append front (d ∷ rest)))
 
 -- how many bytes of the rest a part takes that a byte breaks off: a byte that begins nothing is a part by itself
@@ -28,7 +28,7 @@ module _ {policy : Policy} {f : Form} {p : Properties} {base : ℕ} {bytes : Lis
       → RefusesBytes policy f p start now base bytes fault
   unfolding fault_in
   RefusesBytes-front {v} more text takes = record {
-    broken = λ e. Broken-extends start (subst (λ x. Extends (taken_utf8 policy.assigned f p v) (taken_utf8 policy.assigned f p x)) (sym text) (taken_utf8-grows p policy.assigned f v more)) (takes.broken (ap Err e));
+    broken = λ e. Broken-extends start (rw text (taken_utf8-grows p policy.assigned f v more)) (takes.broken (ap Err e));
     written = λ not. Written-at (sym (ap (taken_utf8 policy.assigned f p) text ∙ ap (settled_text f p) (stays not).1)) (takes.written (λ e. not (let same : fault ≡ Write = cc in same)));
     is = λ not. sym (ap (λ x. first_fault policy.assigned p (place_in policy.replace base bytes) x (bad_under policy.replace base bytes)) text ∙ (stays not).0);
   }
@@ -102,12 +102,12 @@ module _ (laws : ReplacesParts) {policy : Policy} {f : Form} {p : Properties} {b
           before = read.before;
           n = read.n;
           tail = all;
-          left = subst (IsLeft policy.replace bytes read.before read.n) (sym (append-nil all)) read.left;
-          decoder = subst (DecoderStandsAfter next.decoder) (all_behind read.tail rest end well) decoder;
+          left = rw (append-nil all) read.left;
+          decoder = rw (all_behind read.tail rest end well) at decoder;
           good = λ n. ends_well read.tail rest end n well took.ends;
           offset = omega (arith, offset, read.offset, length-append read.tail rest);
-          taken = subst (HasTaken f p after) joined_is taken.taken.0;
-          allowed = subst (λ x. allowed policy.assigned p x ≡ x) joined_is taken.taken.1;
+          taken = rw joined_is at taken.taken.0;
+          allowed = rw joined_is at taken.taken.1;
         },
         Written-at (ap (settled_text f p) joined_is) (TakesAllowed-settled taken),
       )
@@ -116,8 +116,8 @@ module _ (laws : ReplacesParts) {policy : Policy} {f : Form} {p : Properties} {b
         -- a byte of it is bad, and not replaced
         pub chunk-bad : policy.replace ≡ false → RefusesBytes policy f p start now base bytes (BadByte (reading.offset + at) (reading.offset + at - back))
         chunk-bad strict =
-            let whole : text_under policy.replace bytes ≡ taken_text = left-text _ _ _ _ _ read.left ∙ ap (λ l. read.before ++ l) (ap (λ r. text_under r all) strict) ∙ sym joined_is in
-            RefusesBytes-bad (λ e. cc) (subst (λ x. TakesAllowed policy.assigned f p after start now (place_in policy.replace base bytes) x (Ok tt)) (sym whole) taken)
+            let whole : text_under policy.replace bytes ≡ taken_text = rw (strict, joined_is) (rw strict at (left-text _ _ _ _ _ read.left)) in
+            RefusesBytes-bad (λ e. cc) (rw (← whole) at taken)
             (left-bad _ _ _ _ _ read.left base ∙ ap (λ r. bad_under r (base + read.n) all) strict ∙ ap (bad_byte (base + read.n)) ends.0 ∙ ap₂ (λ k m. Some (BadByte k m)) (omega (arith, read.offset)) (omega (arith, read.offset, ends.1)))
 
         module _ (split : SplitsBytes) (replaces : policy.replace ≡ true) (len : ℕ) (is_len : len ≡ part_len_of at back) where
@@ -170,12 +170,12 @@ module _ (laws : ReplacesParts) {policy : Policy} {f : Form} {p : Properties} {b
                     before = read.before ++ own;
                     n = read.n + (length read.tail + len);
                     tail = [];
-                    left = subst (IsLeft policy.replace bytes (read.before ++ own) (read.n + (length read.tail + len))) (sym is_behind) left_behind;
+                    left = rw is_behind left_behind;
                     decoder = decoder;
                     good = λ n. ap (bad_byte n) ending_of-none;
                     offset = omega (arith, offset, read.offset);
-                    taken = subst (HasTaken f p last) whole replaced.taken.0;
-                    allowed = subst (λ x. allowed policy.assigned p x ≡ x) whole replaced.taken.1;
+                    taken = rw whole at replaced.taken.0;
+                    allowed = rw whole at replaced.taken.1;
                   },
                   Written-at (ap (settled_text f p) whole) (TakesAllowed-settled replaced),
                 ),

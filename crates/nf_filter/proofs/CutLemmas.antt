@@ -1,5 +1,5 @@
 -- A character that the end cuts, taken as U+FFFD.
-use Rattle.nf_filter.proofs.Common.{◌≡◌, ℕ, ◌+◌, ◌-◌, true, List, [], ◌∷◌, ◌++◌, length, None, Ok, refl, sym, ap, ◌∙◌, subst, arith, Result, encode_utf8_all, ⊎_elim, Properties, Form, text_of, replacement, ReplacesParts, Fault, Counted, Policy, Reading, SinkState, Start, BlockState, Written, WritesTo, GivesAll, taken_utf8, TakesAllowed, HasReadTo, ReplacesCut, HasTaken, settled_text, allowed, whole_under, is_usable, settled_utf8}
+use Rattle.nf_filter.proofs.Common.{◌≡◌, ℕ, ◌+◌, ◌-◌, true, List, [], ◌∷◌, ◌++◌, length, None, Ok, refl, sym, ap, ◌∙◌, arith, Result, encode_utf8_all, ⊎_elim, Properties, Form, text_of, replacement, ReplacesParts, Fault, Counted, Policy, Reading, SinkState, Start, BlockState, Written, WritesTo, GivesAll, taken_utf8, HasReadTo, ReplacesCut, settled_text, allowed, whole_under, is_usable, settled_utf8}
 use Rattle.nf_filter.proofs.WritesLemmas.{Puts-none, Puts-at}
 use Rattle.nf_filter.proofs.BlockLemmas.{start_at, Written-at}
 use Rattle.nf_filter.proofs.FilterLemmas.{write_or_kept}
@@ -19,13 +19,13 @@ module _ (laws : ReplacesParts) {policy : Policy} {f : Form} {p : Properties} {b
   cut-none sink none =
       let taken = read.taken in
       let is : whole ≡ read.before ++ text_of read.tail = whole-none laws read replaces carried is_carried none in
-      let sound : is_usable p whole ≡ true = ap (is_usable p) is ∙ taken.machine.usable in
-      let all : allowed policy.assigned p whole ≡ whole = ap (allowed policy.assigned p) is ∙ read.allowed ∙ sym is in
+      let sound : is_usable p whole ≡ true = rw is taken.machine.usable in
+      let all : allowed policy.assigned p whole ≡ whole = rw is read.allowed in
       record {
         broken = λ e. cc;
         puts = λ _. Puts-at refl (sym (read-settled _ _ _ _ laws _ _ _ read) ∙ ap (settled_text f p) (sym (taken-all p policy.assigned whole sound all ∙ is))) (Puts-none sink (settled_utf8 policy f p bytes));
         fault = λ _. sym (first_fault-none p policy.assigned (place_in policy.replace base bytes) whole None sound all);
-        taken = (subst (HasTaken f p counted) (sym is) taken, all);
+        taken = (rw is taken, all);
       }
 
   abbrev start : SinkState → Start
@@ -38,7 +38,7 @@ module _ (laws : ReplacesParts) {policy : Policy} {f : Form} {p : Properties} {b
   cut-closed some {after} {sink} {new} {old} {now} r result written one close =
       let place = place_in policy.replace base bytes in
       let text = read.before ++ text_of read.tail in
-      let here = subst (λ x. TakesAllowed policy.assigned f p after (start sink) now place x r) (sym (whole-some laws read replaces carried is_carried some))
+      let here = rw (← whole-some laws read replaces carried is_carried some) at
       (one f place text (start sink) read.taken read.allowed (one_placed place (reading.offset - carried) text replacement (omega (arith, read-place laws read, is_carried, read.offset))) (Written-at (sym (read-settled _ _ _ _ laws _ _ _ read)) written)) in
       let closed = close (taken_utf8 policy.assigned f p whole) (record { broken = here.broken; written = here.written }) in
       record {

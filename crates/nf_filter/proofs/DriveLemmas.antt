@@ -1,6 +1,6 @@
 -- What driving answers, by what was fed.
-use Rattle.nf_filter.proofs.Common.{◌≡◌, ℕ, true, false, List, ◌++◌, Ok, Err, inl, inr, ⊎_elim, refl, sym, ap, Result, Properties, Form, Fault, Policy, TooLong, Read, Write, State, Tally, SinkState, SourceState, Puts, BreaksOff, settled_utf8, final_utf8, Finishes, due_utf8, FeedsAll, Drives}
-use Rattle.nf_filter.proofs.WritesLemmas.{Puts-join, Puts-at, BreaksOff-join, BreaksOff-at}
+use Rattle.nf_filter.proofs.Common.{◌≡◌, ℕ, true, false, List, ◌++◌, Ok, Err, inl, inr, ⊎_elim, refl, sym, ap, Result, Properties, Form, Fault, Policy, TooLong, Read, Write, State, Tally, SinkState, SourceState, Puts, BreaksOff, settled_utf8, Finishes, due_utf8, FeedsAll, Drives}
+use Rattle.nf_filter.proofs.WritesLemmas.{Puts-join, BreaksOff-join}
 use Rattle.nf_filter.proofs.FilterLemmas.{failed_if, never, err_is}
 
 abbrev pub refused_by : Fault → Result Tally Fault
@@ -9,14 +9,11 @@ refused_by fault = Err fault
 module _ (most : ℕ) (policy : Policy) (f : Form) (p : Properties) (base : ℕ) (bytes : List ℕ) (source left : SourceState) (old new : SinkState) (state : State) where
   -- feeding was refused
   module _ (fault : Fault) (going : left.is_at_end ≡ false) (feeds : FeedsAll most policy f p base bytes source left old new state (Err fault)) where
-    due_is : settled_utf8 policy f p (bytes ++ feeds.fed) ≡ due_utf8 left.is_at_end policy f p (bytes ++ feeds.fed)
-    due_is = ap (λ b. due_utf8 b policy f p (bytes ++ feeds.fed)) (sym going)
-
     breaks : refused_by fault ≡ Err Write → BreaksOff old new (settled_utf8 policy f p bytes) (due_utf8 left.is_at_end policy f p (bytes ++ feeds.fed))
-    breaks e = BreaksOff-at refl due_is (feeds.broken_off (ap Err (err_is e)))
+    breaks e = rw going (feeds.broken_off (ap Err (err_is e)))
 
     puts : ¬ (refused_by fault ≡ Err Write) → Puts old new (settled_utf8 policy f p bytes) (due_utf8 left.is_at_end policy f p (bytes ++ feeds.fed))
-    puts not = Puts-at refl due_is (feeds.written (λ e. not (ap Err (err_is e))))
+    puts not = rw going (feeds.written (λ e. not (ap Err (err_is e))))
 
     pub Drives-refused : Drives most policy f p base bytes source left old new (Err fault)
     Drives-refused = record {
@@ -41,14 +38,11 @@ module _ (most : ℕ) (policy : Policy) (f : Form) (p : Properties) (base : ℕ)
     first : Puts old new (settled_utf8 policy f p bytes) (settled_utf8 policy f p (bytes ++ feeds.fed))
     first = feeds.written (λ e. cc)
 
-    whole_is : final_utf8 policy f p (bytes ++ feeds.fed) ≡ due_utf8 left.is_at_end policy f p (bytes ++ feeds.fed)
-    whole_is = ap (λ b. due_utf8 b policy f p (bytes ++ feeds.fed)) (sym ended)
-
     breaks_at_end : r ≡ Err Write → BreaksOff old last (settled_utf8 policy f p bytes) (due_utf8 left.is_at_end policy f p (bytes ++ feeds.fed))
-    breaks_at_end e = BreaksOff-at refl whole_is (BreaksOff-join first (finishes.broken_off e))
+    breaks_at_end e = rw ended (BreaksOff-join first (finishes.broken_off e))
 
     puts_at_end : ¬ (r ≡ Err Write) → Puts old last (settled_utf8 policy f p bytes) (due_utf8 left.is_at_end policy f p (bytes ++ feeds.fed))
-    puts_at_end not = Puts-at refl whole_is (Puts-join first (finishes.written not))
+    puts_at_end not = rw ended (Puts-join first (finishes.written not))
 
     pub Drives-finished : Drives most policy f p base bytes source left old last r
     Drives-finished = record {

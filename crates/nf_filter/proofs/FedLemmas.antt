@@ -1,5 +1,5 @@
 -- A piece that was read: what it comes to by the bytes.
-use Rattle.nf_filter.proofs.Common.{◌≡◌, ℕ, suc, ◌+◌, ◌<◌, ◌==◌, Bool, true, false, cond, MatchResult, List, [], ◌∷◌, ◌++◌, length, None, Ok, Err, refl, sym, ap, ◌∙◌, subst, arith, append_assoc, append-nil, eq-eqb, ne_eqb, OnOk, Result, if◌then◌else◌, encode_utf8_all, ⊎_elim, result_err, nat_tests, Properties, Form, text_of, ending_of, replacement, begun_at_end, replaced_whole, ReplacesParts, Fault, Write, Counted, Policy, Reading, Start, BlockState, Written, WritesTo, GivesAll, bad_byte, bad_under, fault_in, taken_utf8, IsLeft, HasReadTo, ReadsTo, RefusesBytes, settled_text, allowed, len_under, text_under, whole_under, is_usable, settled_utf8, SinkState, Feeds}
+use Rattle.nf_filter.proofs.Common.{◌≡◌, ℕ, suc, ◌+◌, ◌<◌, ◌==◌, Bool, true, false, cond, MatchResult, List, [], ◌∷◌, ◌++◌, length, None, Ok, Err, refl, sym, ap, ◌∙◌, arith, append_assoc, append-nil, eq-eqb, ne_eqb, OnOk, Result, if◌then◌else◌, encode_utf8_all, ⊎_elim, result_err, nat_tests, Properties, Form, text_of, ending_of, replacement, begun_at_end, replaced_whole, ReplacesParts, Fault, Write, Counted, Policy, Reading, Start, BlockState, Written, WritesTo, GivesAll, bad_byte, bad_under, fault_in, taken_utf8, IsLeft, HasReadTo, ReadsTo, RefusesBytes, settled_text, len_under, text_under, whole_under, settled_utf8, SinkState, Feeds}
 use Rattle.nf_filter.proofs.BlockLemmas.{start_at, Written-at, Broken-at}
 use Rattle.nf_filter.proofs.FilterLemmas.{err_is, failed_if, write_or_kept}
 use Rattle.nf_filter.proofs.PolicyLemmas.{first_fault-none, taken-all}
@@ -16,11 +16,11 @@ settled_utf8-taken policy f p bytes = refl
 
 module _ (policy : Policy) (f : Form) (p : Properties) (base : ℕ) (laws : ReplacesParts) (counted : Counted) (reading : Reading) (bytes : List ℕ) (read : HasReadTo policy f p counted base reading bytes []) where
   pub left_is : IsLeft policy.replace bytes read.before read.n read.tail
-  left_is = subst (IsLeft policy.replace bytes read.before read.n) (append-nil read.tail) read.left
+  left_is = rw (append-nil read.tail) at read.left
 
   -- the text that was read
   pub read-text : text_under policy.replace bytes ≡ read.before ++ text_of read.tail
-  read-text = left-text _ _ _ _ _ left_is ∙ ap (λ l. read.before ++ l) (text_under-begun laws read.tail read.decoder.begins policy.replace)
+  read-text = rw (text_under-begun laws read.tail read.decoder.begins policy.replace) at (left-text _ _ _ _ _ left_is)
 
   pub read-settled : settled_text f p (read.before ++ text_of read.tail) ≡ settled_utf8 policy f p bytes
   read-settled =
@@ -31,8 +31,8 @@ module _ (policy : Policy) (f : Form) (p : Properties) (base : ℕ) (laws : Repl
   unfolding fault_in
   read-no_fault =
       let taken = read.taken in
-      first_fault-none p policy.assigned (place_in policy.replace base bytes) (text_under policy.replace bytes) (bad_under policy.replace base bytes) (subst (λ x. is_usable p x ≡ true) (sym read-text) taken.machine.usable)
-      (ap (allowed policy.assigned p) read-text ∙ read.allowed ∙ sym read-text)
+      first_fault-none p policy.assigned (place_in policy.replace base bytes) (text_under policy.replace bytes) (bad_under policy.replace base bytes) (rw read-text taken.machine.usable)
+      (rw read-text read.allowed)
       ∙ left-bad _ _ _ _ _ left_is base ∙ good_under policy.replace (base + read.n) read.tail (read.good (base + read.n))
 
 module _ (laws : ReplacesParts) {policy : Policy} {f : Form} {p : Properties} {base : ℕ} {counted : Counted} {reading : Reading} {bytes : List ℕ} (read : HasReadTo policy f p counted base reading bytes []) where

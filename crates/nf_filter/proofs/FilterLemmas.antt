@@ -1,5 +1,5 @@
 -- What a filter answers.
-use Rattle.nf_filter.proofs.Common.{◌≡◌, ℕ, ◌+◌, ◌<◌, ◌^◌, Bool, true, false, List, [], ◌++◌, length, Some, None, Err, ◌⊎◌, inl, inr, ⊎_elim, refl, sym, ap, ◌∙◌, arith, IsTrue, Option, Result, option_map, if◌then◌else◌, length-append, ◌↔◌, subst, Properties, Form, text_of, ending_of, Fault, Write, State, Policy, SinkState, Puts, BreaksOff, as_is, is_usable, bad_byte, fault_in, unusable_at, unusable_decision, decided_or, decided_in, base_of, offset_of, StandsAfter, HasReadTo}
+use Rattle.nf_filter.proofs.Common.{◌≡◌, ℕ, ◌+◌, ◌<◌, ◌^◌, Bool, true, false, List, [], ◌++◌, length, Some, None, Err, ◌⊎◌, inl, inr, ⊎_elim, refl, sym, ap, ◌∙◌, arith, IsTrue, Option, Result, option_map, if◌then◌else◌, length-append, ◌↔◌, Properties, Form, text_of, ending_of, Fault, Write, State, Policy, SinkState, Puts, BreaksOff, as_is, is_usable, bad_byte, fault_in, unusable_at, unusable_decision, decided_or, decided_in, base_of, offset_of, StandsAfter, HasReadTo}
 
 module _ {old new : SinkState} {before after : List ℕ} where
   -- a sink that stood failed was given nothing
@@ -55,7 +55,7 @@ module _ {policy : Policy} {f : Form} {p : Properties} {state : State} {bytes : 
 
   -- under its own policy
   pub read_before : HasReadTo state.policy f p state.counted state.base state.reading bytes []
-  read_before = subst (λ (q : Policy). HasReadTo q f p state.counted state.base state.reading bytes []) (sym stands.policy_is) stands.reading
+  read_before = rw stands.policy_is stands.reading
 
   pub no_fault_before : fault_in state.policy p state.base bytes ≡ None
-  no_fault_before = subst (λ (q : Policy). fault_in q p state.base bytes ≡ None) (sym stands.policy_is) stands.no_fault
+  no_fault_before = rw stands.policy_is stands.no_fault

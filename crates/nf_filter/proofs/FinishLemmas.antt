@@ -1,5 +1,5 @@
 -- What finishing answers.
-use Rattle.nf_filter.proofs.Common.{◌≡◌, ℕ, ◌+◌, ◌<◌, Bool, true, false, List, [], ◌∷◌, ◌++◌, length, None, Ok, Err, ⊎_elim, refl, sym, ap, ◌∙◌, subst, arith, append-nil, eq-eqb, zero, suc, Option, Result, if◌then◌else◌, encode_utf8_all, length-append, cases_Bool, false_from_ne_true, and_from, Properties, Form, safe_form, Ending, Cut, text_of, ending_of, replacement, ReplacesParts, Fault, Write, Counted, Policy, Reading, Tally, SinkState, Puts, BreaksOff, allowed, whole_under, settled, is_usable, usable, settled_utf8, answer_at_end, first_fault, taken_utf8, HasReadTo, ReplacesCut, HasTaken, settled_text, tally_of, answer_or, end_of, whole_or, is_taken, final_utf8, Closes, Finishes, Extends-encodes, usable-all, usable-stop, nil_from_length}
+use Rattle.nf_filter.proofs.Common.{◌≡◌, ℕ, ◌+◌, ◌<◌, Bool, true, false, List, [], ◌∷◌, ◌++◌, length, None, Ok, Err, ⊎_elim, refl, sym, ap, ◌∙◌, arith, append-nil, eq-eqb, zero, suc, Result, if◌then◌else◌, encode_utf8_all, length-append, cases_Bool, false_from_ne_true, and_from, Properties, Form, safe_form, Ending, Cut, text_of, ending_of, replacement, ReplacesParts, Fault, Write, Counted, Policy, Reading, Tally, SinkState, Puts, BreaksOff, allowed, whole_under, settled, is_usable, usable, settled_utf8, answer_at_end, first_fault, taken_utf8, HasReadTo, ReplacesCut, HasTaken, settled_text, tally_of, answer_or, end_of, whole_or, is_taken, final_utf8, Closes, Finishes, Extends-encodes, usable-all, usable-stop, nil_from_length}
 use Rattle.nf_filter.proofs.WritesLemmas.{Puts-none, Puts-join, Puts-at, BreaksOff-join, BreaksOff-extends, BreaksOff-at}
 use Rattle.nf_filter.proofs.FilterLemmas.{err_is, failed_if}
 use Rattle.nf_filter.proofs.PolicyLemmas.{allowed-append, allowed-grows, taken-all, taken_whole, first_fault-none, taken}
@@ -56,7 +56,7 @@ module _ (laws : ReplacesParts) {policy : Policy} {f : Form} {p : Properties} {b
     unfolding end_of final_utf8
     close-strict (Ok u) is other =
         let told : Ok (tt {0}) ≡ answer_at_end base (tt {0}) (ending_of bytes) = is ∙ sym end_is in (
-          subst (HasTaken f p counted) (sym whole_is) read.taken,
+          rw whole_is read.taken,
           Puts-at refl (sym (read-settled _ _ _ _ laws _ _ _ read) ∙ ap (settled_text f p) (sym whole_is)) (Puts-none sink (settled_utf8 policy f p bytes)),
           rw strict (sym (end_valued base _ (ending_of bytes) (Ok tt) told)),
           rw strict (answered base (tt {0}) (tt {0}) (ending_of bytes) (sym told) _ _),
@@ -102,7 +102,7 @@ module _ (laws : ReplacesParts) {policy : Policy} {f : Form} {p : Properties} {b
         let machine = cut.taken.0.machine in (
           cut.taken.0,
           Puts-at refl (ap (settled_text f p) (taken-all p policy.assigned (whole_under policy.replace bytes) machine.usable cut.taken.1)) (cut.puts (λ e. cc)),
-          end_at ∙ ap (λ (o : Option Fault). answer_or o (tally_of policy.replace p bytes)) none,
+          rw none at end_at,
           final_is true (taken p policy.assigned _ (whole_under policy.replace bytes) None none),
         )
     close-replaced {after} {old} {new} (Err fault) cut = Finishes-of (Err fault) breaks puts
@@ -125,7 +125,7 @@ module _ (laws : ReplacesParts) {policy : Policy} {f : Form} {p : Properties} {b
             let out : is_taken policy.assigned p (whole_under policy.replace bytes) ≡ false = false_from_ne_true _ (λ all.
             let both = taken_whole p policy.assigned (whole_under policy.replace bytes) all in
             let never = told ∙ first_fault-none p policy.assigned _ (whole_under policy.replace bytes) None both.0 both.1 in cc) in
-            (Puts-at refl (kept out ∙ sym (final_is false out)) (cut.puts other), sym (end_at ∙ ap (λ (o : Option Fault). answer_or o (tally_of policy.replace p bytes)) (sym told)))
+            (Puts-at refl (kept out ∙ sym (final_is false out)) (cut.puts other), sym (rw (← told) at end_at))
 
 -- the rest of the form, behind what came before
 module _ {policy : Policy} {f : Form} {p : Properties} {base : ℕ} {bytes : List ℕ} {after : Counted} {old mid new : SinkState} (closes : Closes policy f p after base bytes old mid (Ok tt)) where

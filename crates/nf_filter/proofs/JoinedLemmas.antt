@@ -1,5 +1,5 @@
 -- What was written to the end is the form of the longest pieces, joined.
-use Rattle.nf_filter.proofs.Common.{◌≡◌, ℕ, ◌+◌, Bool, true, false, List, None, Ok, ap, ◌∙◌, encode_utf8_all, Properties, Form, normal_form, stream_safe, safe_form, IsSoundText, cut-some, sound-source, stream_safe-cut, stream_safe-in_format, Policy, Tally, len_under, text_under, whole_under, is_usable, bad_under, first_fault, fault_in, tally_of, end_under, end_of, is_taken, final_utf8}
+use Rattle.nf_filter.proofs.Common.{◌≡◌, ℕ, ◌+◌, Bool, true, false, List, None, Ok, encode_utf8_all, Properties, Form, normal_form, stream_safe, safe_form, IsSoundText, cut-some, sound-source, stream_safe-cut, stream_safe-in_format, Policy, Tally, len_under, text_under, whole_under, is_usable, bad_under, first_fault, fault_in, tally_of, end_under, end_of, is_taken, final_utf8}
 use Rattle.nf_filter.specs.Joined.{JoinsPieces}
 use Rattle.nf_filter.proofs.PolicyLemmas.{taken_whole, taken}
 use Rattle.nf_filter.proofs.AgainLemmas.{none_told, final-whole}
@@ -20,6 +20,6 @@ module _ (p : Properties) (base : ℕ) (bytes : List ℕ) (tally : Tally) where
       record {
         pieces = cut.0;
         cut = cut.1;
-        joined = whole ∙ ap (λ s. encode_utf8_all (normal_form f p s)) (stream_safe-cut p x sound cut.0 cut.1);
-        in_format = λ inside. whole ∙ ap (λ s. encode_utf8_all (normal_form f p s)) (stream_safe-in_format p x inside);
+        joined = rw (stream_safe-cut p x sound cut.0 cut.1) at whole;
+        in_format = λ inside. rw (stream_safe-in_format p x inside) at whole;
       }

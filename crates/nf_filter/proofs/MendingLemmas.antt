@@ -1,6 +1,6 @@
 -- A front of the bytes whose ill-formed parts are replaced, taken as one text where every character is sound: wherever its
 -- bytes stand, none is refused.
-use Rattle.nf_filter.proofs.Common.{◌≡◌, ℕ, ◌+◌, true, List, [], ◌++◌, length, drop, drop_at, encode_utf8_all, Ok, Err, Some, None, Result, ⊎_elim, refl, sym, ap, ◌∙◌, subst, arith, append-nil, length-drop, Properties, Form, ReplacesParts, text_of, DecoderStandsAfter, Fault, Write, Counted, Policy, Reading, Start, BlockState, Written, bad_byte, IsLeft, HasReadTo, ReadsTo, RefusesBytes, HasTaken, IsPlacedAt, TakesOn, settled_text, usable_utf8, allowed, text_under, is_usable, AreSound, unusable_at-usable}
+use Rattle.nf_filter.proofs.Common.{◌≡◌, ℕ, ◌+◌, true, List, [], ◌++◌, length, drop, drop_at, encode_utf8_all, Ok, Err, Some, None, Result, ⊎_elim, refl, sym, ap, ◌∙◌, arith, append-nil, length-drop, Properties, Form, ReplacesParts, text_of, Fault, Write, Counted, Policy, Reading, Start, BlockState, Written, bad_byte, IsLeft, HasReadTo, ReadsTo, RefusesBytes, HasTaken, IsPlacedAt, TakesOn, settled_text, usable_utf8, allowed, text_under, is_usable, AreSound, unusable_at-usable}
 use Rattle.nf_utf8.specs.Mending.{IsReplacedFront}
 use Rattle.nf_filter.proofs.BlockLemmas.{Written-at, Broken-at}
 use Rattle.nf_filter.proofs.FilterLemmas.{err_is, write_or_not}
@@ -29,7 +29,7 @@ module _ (laws : ReplacesParts) {policy : Policy} {f : Form} {p : Properties} {b
   next_text = read.before ++ own
 
   before_is : read.before ++ text_of read.tail ≡ read.before
-  before_is = ap (λ l. read.before ++ text_of l) none ∙ ap (λ l. read.before ++ l) text_of-none ∙ append-nil read.before
+  before_is = rw (none, text_of-none) (append-nil read.before)
 
   next_allowed : allowed policy.assigned p next_text ≡ next_text
   next_allowed = allowed-append p policy.assigned read.before own (rw before_is at read.allowed) ∙ ap (λ l. read.before ++ l) assigned
@@ -55,18 +55,18 @@ module _ (laws : ReplacesParts) {policy : Policy} {f : Form} {p : Properties} {b
   pub mended-read : {now : BlockState} {after : Counted} → TakesText p counted old after now 0 own (Ok tt)
       → (next : Reading) → next.decoder ≡ reading.decoder → next.offset ≡ reading.offset + len → ReadsTo policy f p after start now base next bytes (drop len rest)
   mended-read {after = after} takes next decoder offset =
-      let whole : next_text ++ text_of [] ≡ next_text = ap (λ l. next_text ++ l) text_of-none ∙ append-nil next_text in
+      let whole : next_text ++ text_of [] ≡ next_text = rw text_of-none (append-nil next_text) in
       let next_taken = takes_next takes in (
         record {
           before = next_text;
           n = read.n + len;
           tail = [];
           left = left;
-          decoder = subst (λ l. DecoderStandsAfter next.decoder l) none (subst (λ d. DecoderStandsAfter d read.tail) (sym decoder) read.decoder);
+          decoder = rw decoder (rw none at read.decoder);
           good = λ n. ap (bad_byte n) ending_of-none;
           offset = omega (arith, offset, read.offset, ap length none);
-          taken = subst (HasTaken f p after) (sym whole) next_taken.taken;
-          allowed = subst (λ x. allowed policy.assigned p x ≡ x) (sym whole) next_allowed;
+          taken = rw whole next_taken.taken;
+          allowed = rw whole next_allowed;
         },
         Written-at (settled_is ∙ ap (settled_text f p) (sym whole)) (next_taken.written (λ e. cc)),
       )

@@ -36,10 +36,8 @@ module _ (p : Properties) where
 
   stops : (text rest : List ℕ) → IsBehindAssigned p text rest → take_while p.assigned (chars rest) ≡ [] → length text - length rest ≡ length (encode_utf8_all (take_while p.assigned (chars text)))
   stops text rest here none =
-      let front : take_while p.assigned (chars text) ≡ chars here.front =
-      ap (λ t. take_while p.assigned (chars t)) here.split ∙ ap (take_while p.assigned) (chars-append here.front rest here.front_utf8) ∙ take_while-append p.assigned (chars here.front) (chars rest) here.assigned
-      ∙ ap (λ t. chars here.front ++ t) none ∙ append-nil (chars here.front) in
-      let long : length (encode_utf8_all (take_while p.assigned (chars text))) ≡ length here.front = ap (λ l. length (encode_utf8_all l)) front ∙ ap length (encodes-chars here.front here.front_utf8) in
+      let long : length (encode_utf8_all (take_while p.assigned (chars text))) ≡ length here.front =
+      rw (here.split, chars-append here.front rest here.front_utf8, take_while-append p.assigned (chars here.front) (chars rest) here.assigned, none, append-nil (chars here.front), encodes-chars here.front here.front_utf8) in
       omega (arith, long, ap length here.split, length-append here.front rest)
 
   -- where nothing is left, and where a character that is not assigned stands next

@@ -1,5 +1,5 @@
 -- A piece more.
-use Rattle.nf_filter.proofs.Common.{ap₂, ◌≡◌, ℕ, ◌+◌, ◌-◌, ◌≤◌, ◌==◌, List, [], ◌++◌, length, Some, None, refl, ap, ◌∙◌, arith, eq-eqb, subst, Option, Result, if◌then◌else◌, chars, length-drop, result_map_both, utf8_valid_len_le, End, EndsWhole, EndsCut, EndsBad, first_bytes, EndsPiece, bytes_behind, Counts, Takes, first_text, Ending, Whole, Bad, Cut, text_len, text_of, rest_of, begun_len, ending_of, DecoderStandsAfter, Fault, BadByte, Reading, bad_byte, answer_at_end, Survey, decided_or, decided_in, HasSurveyed, false, text_under-none}
+use Rattle.nf_filter.proofs.Common.{ap₂, ◌≡◌, ℕ, ◌+◌, ◌-◌, ◌≤◌, List, [], ◌++◌, length, Some, None, refl, ap, ◌∙◌, arith, eq-eqb, subst, Option, Result, chars, length-drop, result_map_both, utf8_valid_len_le, End, EndsWhole, EndsCut, EndsBad, first_bytes, EndsPiece, bytes_behind, Counts, Takes, first_text, Ending, Whole, text_len, text_of, rest_of, ending_of, DecoderStandsAfter, Fault, BadByte, Reading, bad_byte, answer_at_end, Survey, decided_or, decided_in, HasSurveyed, false, text_under-none}
 use Rattle.nf_utf8.specs.declared.decoder.Decoder.{Decoder}
 
 -- no bytes spell nothing
@@ -8,8 +8,7 @@ text_of-none = text_under-none false
 
 pub ending_of-none : ending_of [] ≡ Whole
 unfolding ending_of
-ending_of-none = ap (λ b. if b then Whole else (if begun_len [] == length {A = ℕ} [] then Cut (begun_len []) (text_len []) else Bad (begun_len []) (text_len [])))
-    (eq-eqb (text_len []) 0 (omega (arith, utf8_valid_len_le [])))
+ending_of-none = rw (eq-eqb (text_len []) 0 (omega (arith, utf8_valid_len_le [])))
 
 -- a new decoder holds nothing
 pub holds_nothing : (decoder : Decoder) → DecoderStandsAfter decoder [] → length decoder ≡ 0

@@ -1,5 +1,5 @@
 -- Each filter that is spent or stands after bytes has a state of which one can be made.
-use Rattle.nf_filter.proofs.Common.{◌≡◌, zero, suc, ℕ, ◌+◌, ◌≤◌, Bool, true, false, not, ◌&&◌, eqb, ltb, inl, inr, List, [], ◌∷◌, ◌++◌, length, map, take, drop, encode_utf8, Option, Some, None, IfSome, refl, sym, ap, ◌∙◌, subst, arith, length-append, encode_utf8_all, and_parts, and_from, or_parts, eqb-true, eq-eqb, le-leb, nat_tests, length-map, nil_from_length, length-le-encodes, take-length, list_all, is_some, Properties, is_starter, Form, Nfc, Nfd, Nfkd, row_of, decomposed, composes, is_sound, max_run, stream_safe, back-starter, IsSound, IsSound-from_test, Ending, Bad, ReplacesParts, text_of, ending_of, Part, own_parts, part_end, behind_text, parts_within, parts_of, replaced, replaced_len, bytes_in, State, Policy, is_spent, StandsAfter, len_under, text_under, saved_of, are_marks, IsCounted, CountsFit, IsPending, IsRestorable, is_usable, has_starter, trail, trail-marks}
+use Rattle.nf_filter.proofs.Common.{◌≡◌, zero, suc, ℕ, ◌+◌, ◌≤◌, Bool, true, false, not, ◌&&◌, eqb, ltb, inl, inr, List, [], ◌∷◌, ◌++◌, length, map, drop, encode_utf8, Option, Some, None, IfSome, refl, sym, ap, ◌∙◌, arith, length-append, encode_utf8_all, and_parts, and_from, or_parts, eqb-true, eq-eqb, le-leb, nat_tests, length-map, nil_from_length, length-le-encodes, take-length, list_all, is_some, Properties, is_starter, Form, Nfc, Nfd, Nfkd, row_of, decomposed, composes, is_sound, max_run, stream_safe, back-starter, IsSound, IsSound-from_test, Ending, Bad, ReplacesParts, text_of, ending_of, Part, own_parts, part_end, behind_text, parts_within, parts_of, replaced, replaced_len, bytes_in, State, Policy, is_spent, StandsAfter, len_under, text_under, saved_of, are_marks, IsCounted, CountsFit, IsPending, IsRestorable, is_usable, has_starter, trail, trail-marks}
 use Rattle.std.specs.Option.{option_to_list}
 use Rattle.nf_forms.specs.Order.{by_class}
 use Rattle.nf_forms.specs.Ordering.{is_ordered}
@@ -32,11 +32,7 @@ module _ (laws : ReplacesParts) where
   chars_few : (replace : Bool) (bytes : List ℕ) → length (text_under replace bytes) ≤ len_under replace bytes (text_under replace bytes)
   unfolding replaced replaced_len parts_of
   chars_few false bytes = length-le-encodes (text_of bytes)
-  chars_few true bytes =
-      let parts = parts_of bytes in
-      let same : length (replaced bytes) ≡ length parts = length-map parts (λ part. part.char) in
-      subst (λ n. length (replaced bytes) ≤ bytes_in (take n parts)) (sym same)
-      (subst (λ l. length (replaced bytes) ≤ bytes_in l) (sym (take-length parts)) (omega (arith, same, parts_some (suc (length bytes)) bytes)))
+  chars_few true bytes = rw (length-map (parts_of bytes) (λ part. part.char), take-length (parts_of bytes)) (parts_some (suc (length bytes)) bytes)
 
 module _ (p : Properties) where
   row_some : (f : Form) (c : ℕ) → IsSound p c → 1 ≤ length (row_of f p c)
@@ -115,13 +111,11 @@ module _ (laws : ReplacesParts) {policy : Policy} {f : Form} {p : Properties} {s
 
   pub counts_fit : length (encode_utf8_all (text_of tail)) + length state.reading.decoder ≡ length tail → run ≤ state.counted.normalizer.counter → state.counted.put ≤ state.counted.chars → CountsFit (saved_of state)
   counts_fit held few put =
-      let taken = stands.reading.taken in
-      let chars : length text ≤ stands.reading.n + length (encode_utf8_all (text_of tail)) =
-      subst (λ x. length x ≤ stands.reading.n + length (encode_utf8_all (text_of tail))) (taken-text laws stands) (subst (λ n. length (text_under policy.replace bytes) ≤ n) (taken-len laws stands) (chars_few laws policy.replace bytes)) in record {
+      let taken = stands.reading.taken in record {
         held = omega (arith, held, stands.reading.offset);
-        chars = omega (arith, held, chars, taken.chars, stands.reading.offset);
+        chars = omega (arith, held, chars_few laws policy.replace bytes, taken-len laws stands, ap length (taken-text laws stands), taken.chars, stands.reading.offset);
         put = put;
-        counted = subst (λ g. IsCounted g run state.counted.normalizer.counter) (sym taken.machine.form) (counted_by f few run_is);
+        counted = rw taken.machine.form (counted_by f few run_is);
         new = λ e. new_text (nil_from_length text (sym taken.chars ∙ e));
         unstarted = λ e. omega (arith, all_pending e, taken.chars, taken.put);
       }

@@ -1,5 +1,5 @@
 -- Where each character is sound, none is refused, and where characters that are not assigned are taken, none for that.
-use Rattle.nf_filter.proofs.Common.{◌≡◌, ℕ, ◌+◌, Bool, true, false, ◌&&◌, List, [], ◌∷◌, ◌++◌, length, ◌==◌, Option, Some, None, Result, Err, refl, sym, ap, ◌∙◌, encode_utf8_all, option_map, if◌then◌else◌, subst, result_err, list_all, Properties, Form, stream_safe, is_sound, Ending, Bad, Cut, text_of, ending_of, Place, place_from, Fault, BadByte, CutShort, Read, Row, TooLong, Unassigned, Write, Policy, Tally, SinkState, SourceState, is_usable, usable, answer_at_end, bad_byte, bad_under, first_fault, fault_in, tally_of, answer_or, end_under, end_of, Finishes, as_is, allowed, len_under, text_under, whole_under, Feeds, Drives, Surveys, sound_front, check_fault, place_or_fault, check_decision, measure_decision, AreSound}
+use Rattle.nf_filter.proofs.Common.{◌≡◌, ℕ, ◌+◌, Bool, true, false, List, [], ◌∷◌, ◌++◌, length, ◌==◌, Option, Some, None, Result, Err, refl, sym, ap, ◌∙◌, option_map, if◌then◌else◌, subst, result_err, list_all, Properties, Form, stream_safe, is_sound, Ending, Bad, Cut, text_of, ending_of, Place, place_from, Fault, BadByte, CutShort, Read, Row, TooLong, Unassigned, Write, Policy, Tally, SinkState, SourceState, is_usable, usable, answer_at_end, bad_byte, bad_under, first_fault, fault_in, tally_of, answer_or, end_under, end_of, Finishes, as_is, allowed, len_under, text_under, whole_under, Feeds, Drives, Surveys, sound_front, check_fault, place_or_fault, check_decision, measure_decision, AreSound}
 use Rattle.nf_filter.specs.Kinds.{row, unassigned, IsAmong}
 use Rattle.nf_filter.proofs.PolicyLemmas.{first_fault-is}
 
@@ -60,7 +60,7 @@ unmapped fault None e = cc
 module _ (p : Properties) (sound : AreSound p) where
   pub all_sound : (x : List ℕ) → list_all (is_sound p) x ≡ true
   all_sound [] = refl
-  all_sound (c ∷ x) = ap (λ b. b && list_all (is_sound p) x) (sound c) ∙ all_sound x
+  all_sound (c ∷ x) = rw (sound c) (all_sound x)
 
   pub usable_is : (x : List ℕ) → is_usable p x ≡ true
   unfolding is_usable
@@ -83,8 +83,7 @@ module _ (p : Properties) (sound : AreSound p) (base at : ℕ) where
 
   not_a_check_fault : (bytes : List ℕ) → ¬ (check_fault p base bytes ≡ Some (Row at))
   unfolding check_fault
-  not_a_check_fault bytes e = not_bad_byte (Row at) tt base (ending_of bytes)
-      (sym (ap (λ u. if u then bad_byte base (ending_of bytes) else Some (Row (base + length (encode_utf8_all (sound_front p (text_of bytes)))))) (all_sound p sound (text_of bytes))) ∙ e)
+  not_a_check_fault bytes e = not_bad_byte (Row at) tt base (ending_of bytes) (rw (all_sound p sound (text_of bytes)) at e)
 
   pub not_checked : (bytes : List ℕ) → ¬ (check_decision p base bytes ≡ Some (Err (Row at)))
   unfolding check_decision

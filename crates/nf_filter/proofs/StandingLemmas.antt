@@ -1,5 +1,5 @@
 -- Where a filter stands that has taken nothing, and how many of the bytes that it has taken it holds.
-use Rattle.nf_filter.proofs.Common.{◌≡◌, ℕ, ◌+◌, Bool, true, false, List, [], ◌++◌, length, None, refl, sym, ap, ◌∙◌, subst, arith, encode_utf8_all, length-append, Properties, Form, ReplacesParts, text_of, DecoderStandsAfter, State, Policy, bad_byte, bad_under, first_fault, fault_in, base_of, offset_of, is_spent, StandsAfter, text_under-none, HasTaken, len_under, text_under, nil_from_length, is_usable-none}
+use Rattle.nf_filter.proofs.Common.{◌≡◌, ℕ, ◌+◌, Bool, true, false, List, [], ◌++◌, length, None, refl, sym, ap, ◌∙◌, arith, encode_utf8_all, length-append, Properties, Form, ReplacesParts, text_of, DecoderStandsAfter, State, Policy, bad_byte, bad_under, fault_in, base_of, offset_of, is_spent, StandsAfter, text_under-none, HasTaken, len_under, text_under, nil_from_length, is_usable-none}
 use Rattle.nf_filter.proofs.FilterLemmas.{StandsAfter-offset}
 use Rattle.nf_filter.proofs.PieceLemmas.{IsLeft-all, left-text}
 use Rattle.nf_filter.proofs.FedLemmas.{read-text, read-place}
@@ -13,9 +13,7 @@ bad_under-none true base = refl
 module _ (p : Properties) where
   fault_in-none : (policy : Policy) (base : ℕ) → fault_in policy p base [] ≡ None
   unfolding fault_in
-  fault_in-none policy base =
-      ap (λ l. first_fault policy.assigned p (λ front. base + len_under policy.replace [] front) l (bad_under policy.replace base [])) (text_under-none policy.replace)
-      ∙ first_fault-none p policy.assigned _ [] _ (is_usable-none p) (allowed-none p policy.assigned) ∙ bad_under-none policy.replace base
+  fault_in-none policy base = rw (text_under-none policy.replace) (first_fault-none p policy.assigned _ [] _ (is_usable-none p) (allowed-none p policy.assigned) ∙ bad_under-none policy.replace base)
 
   module _ (policy : Policy) (f : Form) (state : State) where
     -- a new filter
@@ -32,7 +30,7 @@ module _ (p : Properties) where
         decoder = decoder;
         good = λ n. ap (bad_byte n) ending_of-none;
         offset = omega (arith, offset);
-        taken = subst (HasTaken f p state.counted) (sym text_of-none) taken;
+        taken = rw text_of-none taken;
         allowed = rw text_of-none (allowed-none p policy.assigned);
       };
       no_fault = fault_in-none policy (base_of state);
@@ -54,10 +52,10 @@ module _ (p : Properties) where
           (omega (arith, ap length (sym (left-text _ _ _ _ _ stands.reading.left) ∙ text_is), length-append {A = ℕ}))
 
       pub nothing_read : DecoderStandsAfter state.reading.decoder []
-      nothing_read = subst (DecoderStandsAfter state.reading.decoder) tail_is stands.reading.decoder
+      nothing_read = rw tail_is at stands.reading.decoder
 
       pub nothing_taken : HasTaken f p state.counted []
-      nothing_taken = subst (HasTaken f p state.counted) (ap (λ l. l ++ text_of stands.reading.tail) before_is ∙ ap text_of tail_is ∙ text_of-none) stands.reading.taken
+      nothing_taken = rw (before_is, tail_is, text_of-none) at stands.reading.taken
 
 -- what was taken is the text of the bytes, and what the decoder holds gave nothing of it
 module _ (laws : ReplacesParts) {policy : Policy} {f : Form} {p : Properties} {state : State} {bytes : List ℕ} (stands : StandsAfter policy f p state bytes) where

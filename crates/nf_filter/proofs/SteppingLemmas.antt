@@ -1,5 +1,5 @@
 -- A step of a normalizer, and what of it went to the sink.
-use Rattle.nf_filter.proofs.Common.{◌≡◌, ℕ, ◌+◌, ◌<◌, List, [], ◌∷◌, ◌++◌, length, Some, Ok, Err, inl, inr, refl, sym, ap, ◌∙◌, subst, arith, append_assoc, encode_utf8_all, IsUtf8, chars, length-append, encodes-chars, Properties, Form, safe_form, Given, Extends, Extends-join, Counted, Row, WriteFault, BreaksOff, IsPlacedAt, Start, BlockState, Written, Broken, HasTaken, TakesOn, settled_text, usable_utf8, Standing, StandsInFront}
+use Rattle.nf_filter.proofs.Common.{◌≡◌, ℕ, ◌+◌, ◌<◌, List, [], ◌∷◌, ◌++◌, length, Some, Ok, Err, inl, inr, refl, sym, ap, ◌∙◌, subst, arith, append_assoc, encode_utf8_all, IsUtf8, chars, length-append, encodes-chars, Properties, Form, safe_form, Given, Extends, Extends-join, Counted, Row, WriteFault, IsPlacedAt, Start, BlockState, Written, Broken, HasTaken, TakesOn, settled_text, usable_utf8, Standing, StandsInFront}
 use Rattle.nf_normalizer.specs.declared.normalizer.Normalizer.{Normalizer}
 use Rattle.nf_normalizer.specs.Front.{Between, Stands, StepsTo}
 use Rattle.nf_normalizer.specs.Step.{RefusesRest}
@@ -38,8 +38,8 @@ module _ {f : Form} {p : Properties} where
 module _ {f : Form} {p : Properties} {start : Start} where
   -- the sink failed in it
   stands-broken : {n : Normalizer} {given out x next w : List ℕ} (now : BlockState) → Stands f p n (given_to start given) out x next → w ≡ given ++ out → Broken (apart start) now w → Broken start now (usable_utf8 f p (x ++ next))
-  stands-broken {x = x} {next = next} now (inl inside) is broken = Broken-extends start (usable_utf8-extends p f x next inside.taken.usable) (subst (BreaksOff start.sink now.sink start.before) (is ∙ sym inside.holds.text) broken)
-  stands-broken now (inr between) is broken = Broken-extends start (due-between between) (subst (BreaksOff start.sink now.sink start.before) (is ∙ sym between.holds.text) broken)
+  stands-broken {x = x} {next = next} now (inl inside) is broken = Broken-extends start (usable_utf8-extends p f x next inside.taken.usable) (rw (is ∙ sym inside.holds.text) at broken)
+  stands-broken now (inr between) is broken = Broken-extends start (due-between between) (rw (is ∙ sym between.holds.text) at broken)
 
   TakesOn-failed : {counted : Counted} {now : BlockState} {place : List ℕ → ℕ} {x : List ℕ} → Broken start now (usable_utf8 f p x) → TakesOn f p counted start now place x (Err WriteFault)
   TakesOn-failed broken = record { broken = λ _. broken; written = λ no. absurd (no refl); fault = λ no. absurd (no refl); taken = tt }
@@ -84,7 +84,7 @@ module _ {f : Form} {p : Properties} {start : Start} where
         let here = placed-first place at y refuses.first refuses.rest (rw refuses.is_first at (placed-behind place begin x (chars text) stopped.front (chars rest) at stopped.is_front offset placed)) in
         let whole : (y ++ refuses.first ∷ []) ++ refuses.rest ≡ x ++ chars text =
         append_assoc y (refuses.first ∷ []) refuses.rest ∙ ap (λ l. y ++ l) (sym refuses.is_first) ∙ front-joined x (chars text) stopped.front (chars rest) stopped.is_front in
-        subst (λ z. TakesOn f p new start (record { sink = old.sink; kept = kept }) place z (Err (Row at))) whole (record {
+        rw (← whole) (record {
           broken = λ e. cc;
           written = λ _. Written-at (usable_utf8-stop p f y refuses.first refuses.rest refuses.usable refuses.unusable) (record { given = standing.given; puts = standing.puts; text = refuses.holds.text });
           fault = λ _. ap (λ n. Some (Row n)) (sym here) ∙ sym (unusable_at-stop p place y refuses.first refuses.rest refuses.usable refuses.unusable);
@@ -110,7 +110,7 @@ module _ {f : Form} {p : Properties} {start : Start} where
       -- or the sink failed
       pub step-failed : {place : List ℕ → ℕ} → ((start : Start) (w : List ℕ) → Written start (record { sink = old.sink; kept = room }) w → Broken start now (w ++ y))
           → TakesOn f p new start now place (x ++ chars text) (Err WriteFault)
-      step-failed {place} writes = subst (λ z. TakesOn f p new start now place z (Err WriteFault)) (front-joined x (chars text) steps.front (chars rest) steps.is_front)
+      step-failed {place} writes = rw (← front-joined x (chars text) steps.front (chars rest) steps.is_front)
           (TakesOn-failed (stands-broken now steps.stands (append_assoc standing.given room y) (writes (apart start) (standing.given ++ room) (given_and standing room))))
 
   -- to its end, where no boundary can follow
@@ -122,7 +122,7 @@ module _ {f : Form} {p : Properties} {start : Start} where
       whole = ap (λ l. x ++ l) (front-whole text here.front rest here.is_front none)
 
       next : Stands f p counted.normalizer (given_to start here.taken.given) now.kept (x ++ here.front) (chars rest) → TakesOn f p new start now place (x ++ chars text) (Ok tt)
-      next (inl inside) = subst (λ y. TakesOn f p new start now place y (Ok tt)) whole
+      next (inl inside) = rw (← whole)
           (TakesOn-all p f new start now place (x ++ here.front)
           (record {
             machine = rw same inside.taken;

@@ -1,5 +1,5 @@
 -- A text that is taken front by front.
-use Rattle.nf_filter.proofs.Common.{◌≡◌, ℕ, List, [], ◌∷◌, ◌++◌, length, Option, Result, refl, sym, ap, ◌∙◌, subst, append-nil, append_assoc, chars, Fault, Decides, HasTakenFront}
+use Rattle.nf_filter.proofs.Common.{◌≡◌, ℕ, List, [], ◌∷◌, ◌++◌, length, Option, Result, refl, ap, ◌∙◌, subst, append-nil, append_assoc, chars, Fault, Decides, HasTakenFront}
 use Rattle.nf_filter.proofs.TakingLemmas.{front-joined, front-more, front-whole}
 
 -- what is decided behind a front of a text, or in it, is decided by the text
@@ -12,7 +12,7 @@ module _ {T : Type 0} (decides : List ℕ → Option (Result T Fault)) (answer :
 
 module _ (stands : List ℕ → Type 0) (x text : List ℕ) where
   pub takes-none : stands x → HasTakenFront stands x text text
-  takes-none taken = record { front = []; is_front = refl; taken = subst stands (sym (append-nil x)) taken }
+  takes-none taken = record { front = []; is_front = refl; taken = rw (append-nil x) taken }
 
   pub takes-more : (front rest behind : List ℕ) → chars text ≡ front ++ chars rest → HasTakenFront stands (x ++ front) rest behind → HasTakenFront stands x text behind
   takes-more front rest behind is next = record {

@@ -1,5 +1,5 @@
 -- A text more.
-use Rattle.nf_filter.proofs.Common.{◌≡◌, ℕ, true, false, List, [], ◌∷◌, ◌++◌, Some, None, Ok, refl, sym, ap, ◌∙◌, subst, append-nil, if◌then◌else◌, Properties, Form, Row, Counted, settled, is_usable, usable, SinkState, Puts, Start, BlockState, Written, HasTaken, settled_text, usable_utf8, unusable_at, TakesOn, Extends, Extends-encodes, settled-extends, is_usable-stays_out, usable-all, usable-stop, usable-extends, unusable_at-usable}
+use Rattle.nf_filter.proofs.Common.{◌≡◌, ℕ, true, false, List, [], ◌∷◌, ◌++◌, Some, Ok, refl, sym, ap, ◌∙◌, append-nil, Properties, Form, Row, Counted, is_usable, SinkState, Puts, Start, BlockState, Written, HasTaken, settled_text, usable_utf8, unusable_at, TakesOn, Extends, Extends-encodes, settled-extends, is_usable-stays_out, usable-all, usable-stop, usable-extends, unusable_at-usable}
 use Rattle.nf_filter.proofs.WritesLemmas.{Puts-at}
 use Rattle.nf_filter.proofs.BlockLemmas.{Written-at}
 
@@ -7,24 +7,22 @@ module _ (p : Properties) where
   pub unusable_at-stop : (place : List ℕ → ℕ) (x : List ℕ) (c : ℕ) (rest : List ℕ) → is_usable p x ≡ true → is_usable p (x ++ c ∷ []) ≡ false
       → unusable_at p place ((x ++ c ∷ []) ++ rest) ≡ Some (Row (place x))
   unfolding unusable_at
-  unusable_at-stop place x c rest sound out =
-      ap (λ b. if b then None else Some (Row (place (usable p ((x ++ c ∷ []) ++ rest))))) (is_usable-stays_out p (x ++ c ∷ []) rest out)
-      ∙ ap (λ y. Some (Row (place y))) (usable-stop p x c rest sound out)
+  unusable_at-stop place x c rest sound out = rw (is_usable-stays_out p (x ++ c ∷ []) rest out, usable-stop p x c rest sound out)
 
   module _ (f : Form) where
     pub usable_utf8-usable : (x : List ℕ) → is_usable p x ≡ true → settled_text f p x ≡ usable_utf8 f p x
     unfolding usable_utf8
-    usable_utf8-usable x sound = ap (settled_text f p) (sym (usable-all p x sound))
+    usable_utf8-usable x sound = rw (usable-all p x sound)
 
     pub usable_utf8-stop : (x : List ℕ) (c : ℕ) (rest : List ℕ) → is_usable p x ≡ true → is_usable p (x ++ c ∷ []) ≡ false → settled_text f p x ≡ usable_utf8 f p ((x ++ c ∷ []) ++ rest)
     unfolding usable_utf8
-    usable_utf8-stop x c rest sound out = ap (settled_text f p) (sym (usable-stop p x c rest sound out))
+    usable_utf8-stop x c rest sound out = rw (usable-stop p x c rest sound out)
 
     pub usable_utf8-extends : (x rest : List ℕ) → is_usable p x ≡ true → Extends (settled_text f p x) (usable_utf8 f p (x ++ rest))
     unfolding usable_utf8
     usable_utf8-extends x rest sound =
         let more = usable-extends p x rest sound in
-        Extends-encodes (subst (λ y. Extends (settled f p x) (settled f p y)) (sym more.text) (settled-extends p f x more.more))
+        Extends-encodes (rw more.text (settled-extends p f x more.more))
 
     module _ (counted : Counted) (start : Start) (now : BlockState) (place : List ℕ → ℕ) where
       pub TakesOn-all : (x : List ℕ) → HasTaken f p counted x → Written start now (settled_text f p x) → TakesOn f p counted start now place x (Ok tt)

@@ -1,6 +1,6 @@
 -- What feeding all bytes at once, and finishing, come to.
-use Rattle.nf_filter.proofs.Common.{◌≡◌, ℕ, ◌+◌, Bool, true, false, List, [], length, Option, Some, None, Result, Ok, Err, refl, sym, ap, ◌∙◌, subst, ⊎_elim, IfErr, if◌then◌else◌, encode_utf8_all, Appends, Properties, Form, back, safe_form, front-append-back, Ending, Whole, Bad, CutEnd, text_of, ending_of, Fault, Write, Row, Tally, SinkState, Puts, BreaksOff, as_is, len_under, settled, is_usable, usable, settled_utf8, answer_at_end, bad_byte, fault_in, tally_of, end_of, whole_or, final_utf8, Finishes, Feeds, IsFormOf, IsOfWhole, fault_or, whole_answer, whole_utf8, Converts, settled_utf8-none, AreSound, RefusesNone, Extends, Extends-none, Extends-encodes, usable-all, and_parts}
-use Rattle.nf_utf8.specs.Reads.{Reads, EndsAs}
+use Rattle.nf_filter.proofs.Common.{◌≡◌, ℕ, ◌+◌, Bool, true, false, List, [], length, Option, Some, None, Result, Ok, Err, refl, sym, ap, ◌∙◌, subst, ⊎_elim, IfErr, if◌then◌else◌, encode_utf8_all, Properties, Form, back, safe_form, front-append-back, Ending, Whole, Bad, CutEnd, text_of, ending_of, Fault, Write, Row, Tally, SinkState, Puts, BreaksOff, as_is, len_under, settled, is_usable, usable, settled_utf8, answer_at_end, bad_byte, fault_in, tally_of, end_of, whole_or, final_utf8, Finishes, Feeds, IsFormOf, IsOfWhole, fault_or, whole_answer, whole_utf8, Converts, settled_utf8-none, AreSound, RefusesNone, Extends, Extends-none, Extends-encodes, usable-all, and_parts}
+use Rattle.nf_utf8.specs.Reads.{Reads}
 use Rattle.nf_filter.proofs.WritesLemmas.{Puts-join, Puts-at, BreaksOff-join, BreaksOff-extends, BreaksOff-at}
 use Rattle.nf_filter.proofs.FilterLemmas.{err_is, failed_if, write_or_not}
 use Rattle.nf_filter.proofs.SoundnessLemmas.{not_at_end, not_a_fault}
@@ -41,7 +41,7 @@ module _ (p : Properties) where
 module _ (f : Form) (p : Properties) where
   pub final_is : (bytes : List ℕ) → ending_of bytes ≡ Whole → final_utf8 as_is f p bytes ≡ encode_utf8_all (safe_form f p (text_of bytes))
   unfolding final_utf8
-  final_is bytes end = ap (λ e. whole_or e (settled_utf8 as_is f p bytes) (encode_utf8_all (safe_form f p (text_of bytes)))) end
+  final_is bytes end = rw end
 
   pub settled-whole : (x : List ℕ) → Extends (settled f p x) (safe_form f p x)
   unfolding settled
@@ -52,7 +52,7 @@ module _ (f : Form) (p : Properties) where
   final-extends bytes sound = next (ending_of bytes)
     where
       whole : Extends (encode_utf8_all (settled f p (usable p (text_of bytes)))) (encode_utf8_all (safe_form f p (text_of bytes)))
-      whole = Extends-encodes (subst (λ x. Extends (settled f p x) (safe_form f p (text_of bytes))) (sym (usable-all p (text_of bytes) sound)) (settled-whole (text_of bytes)))
+      whole = Extends-encodes (rw (usable-all p (text_of bytes) sound) (settled-whole (text_of bytes)))
 
       next : (e : Ending) → Extends (encode_utf8_all (settled f p (usable p (text_of bytes))))
           (whole_or e (encode_utf8_all (settled f p (usable p (text_of bytes)))) (encode_utf8_all (safe_form f p (text_of bytes))))
@@ -72,8 +72,8 @@ module _ (f : Form) (p : Properties) where
     whole-extends = next (fault_in as_is p 0 bytes) refl
       where
         next : (o : Option Fault) → o ≡ fault_in as_is p 0 bytes → Extends (settled_utf8 as_is f p bytes) (whole_utf8 f p bytes)
-        next None told = subst (Extends (settled_utf8 as_is f p bytes)) (without told) (final-extends bytes (is_usable-from p bytes told))
-        next (Some fault) told = subst (Extends (settled_utf8 as_is f p bytes)) (at_fault fault told).0 (Extends-none (settled_utf8 as_is f p bytes))
+        next None told = rw (← without told) (final-extends bytes (is_usable-from p bytes told))
+        next (Some fault) told = rw (at_fault fault told).0 (Extends-none _)
 
     pub answer_without : None ≡ fault_in as_is p 0 bytes → end_of as_is p 0 bytes ≡ whole_answer p bytes
     unfolding whole_answer
@@ -112,7 +112,7 @@ module _ (f : Form) (p : Properties) where
       Converts-faults (Err fault) converts = ⊎_elim (λ is. subst IsOfWhole (sym is) tt) other (write_or_not fault)
         where
           other : ¬ (fault ≡ Write) → IsOfWhole fault
-          other not = subst (λ (r : Result Tally Fault). IfErr r IsOfWhole) (sym (converts.answer (λ e. not (err_is e)))) (whole_answer-faults p bytes)
+          other not = rw (← converts.answer (λ e. not (err_is e))) at (whole_answer-faults p bytes)
 
       pub Converts-sound : (r : Result Tally Fault) → AreSound p → Converts f p bytes old new r → RefusesNone r
       Converts-sound r sound converts at is = whole_answer-sound p sound bytes at (sym (converts.answer (λ w. let both = sym w ∙ is in cc)) ∙ is)
@@ -126,7 +126,7 @@ module _ (f : Form) (p : Properties) where
           puts = converts.written (λ w. cc)
 
           taken : out ≡ puts.out
-          taken = subst (λ (o : Option (List ℕ)). Appends (Some []) o puts.out) is_new (subst (λ (o : Option (List ℕ)). Appends o new.taken puts.out) is_old puts.given)
+          taken = simp (is_old, is_new) at puts.given
 
           next : (o : Option Fault) → o ≡ fault_in as_is p 0 bytes → IsFormOf f p bytes out
           next (Some fault) told = let answer = converts.answer (λ w. cc) ∙ sym (at_fault fault told).1 in cc
@@ -134,6 +134,6 @@ module _ (f : Form) (p : Properties) where
               let end = ending_whole p bytes tally (converts.answer (λ w. cc) ∙ sym (answer_without told)) (sym told) in (
                 text_of bytes,
                 reads.front.scalars,
-                subst (λ e. EndsAs bytes (text_of bytes) e) end reads.end,
+                rw end at reads.end,
                 taken ∙ sym puts.behind ∙ sym (without told) ∙ final_is bytes end,
               )

@@ -1,5 +1,5 @@
 -- What no bytes give, and what is settled of that.
-use Rattle.std.proofs.Common.{◌≡◌, true, false, Bool, [], refl, ap, ◌∙◌, encode_utf8_all}
+use Rattle.std.proofs.Common.{◌≡◌, true, false, Bool, [], refl, encode_utf8_all}
 use Rattle.std.specs.Str.{chars}
 use Rattle.std.specs.Str.Lossy.{utf8_valid_len}
 use Rattle.nf_forms.specs.Properties.{Properties}
@@ -23,7 +23,7 @@ text_under-none true = refl
 -- nothing
 pub settled_utf8-none : (policy : Policy) (f : Form) (p : Properties) → settled_utf8 policy f p [] ≡ []
 unfolding settled_utf8 settled safe_form usable is_usable longest_front by_class
-settled_utf8-none policy f p = ap (λ x. encode_utf8_all (settled f p (usable p (allowed policy.assigned p x)))) (text_under-none policy.replace) ∙ by_policy policy.assigned f
+settled_utf8-none policy f p = rw (text_under-none policy.replace) (by_policy policy.assigned f)
   where
     by_policy : (assigned : Bool) (f : Form) → encode_utf8_all (settled f p (usable p (allowed assigned p []))) ≡ []
     by_policy false Nfc = refl

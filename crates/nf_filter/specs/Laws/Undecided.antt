@@ -1,5 +1,5 @@
 -- A text that was taken decides nothing.
-use Rattle.std.proofs.Common.{◌≡◌, ℕ, ◌+◌, Bool, true, List, [], ◌∷◌, length, Some, None, Err, refl, sym, ap, ◌∙◌, if◌then◌else◌, option_map, encode_utf8_all}
+use Rattle.std.proofs.Common.{◌≡◌, ℕ, Bool, true, List, [], ◌∷◌, None, Err, refl, sym, ap, ◌∙◌, option_map}
 use Rattle.std.specs.List.{list_all, take_while}
 use Rattle.std.proofs.lemmas.Bool.{cond-true, and_parts}
 use Rattle.std.proofs.lemmas.List.Sums.{take_while-cons}
@@ -8,10 +8,9 @@ use Rattle.nf_forms.specs.Sound.{is_sound}
 use Rattle.nf_safe.specs.declared.checker.Checker.{Checker}
 use Rattle.nf_safe.specs.declared.measurer.Measurer.{Measurer}
 use Rattle.nf_safe.specs.Place.{place_from}
-use Rattle.nf_filter.specs.declared.fault.Fault.TheVariants.{Row}
-use Rattle.nf_filter.specs.Settled.{is_usable, usable}
+use Rattle.nf_filter.specs.Settled.{is_usable}
 use Rattle.nf_filter.specs.Counted.{unusable_at, utf8_place}
-use Rattle.nf_filter.specs.Checks.{sound_front, place_or_fault, text_decision, HasChecked}
+use Rattle.nf_filter.specs.Checks.{text_decision, HasChecked}
 use Rattle.nf_filter.specs.Measures.{unusable_decision, HasMeasured}
 
 pub take_while-all : (test : ℕ → Bool) (x : List ℕ) → list_all test x ≡ true → take_while test x ≡ x
@@ -23,9 +22,7 @@ take_while-all test (c ∷ x) all =
 -- sound text without a place
 pub no_stop : (p : Properties) (base : ℕ) (x : List ℕ) → list_all (is_sound p) x ≡ true → place_from base p x ≡ None → text_decision p base x ≡ None
 unfolding text_decision
-no_stop p base x all none =
-    ap (λ b. place_or_fault (place_from base p (sound_front p x)) (if b then None else Some (Row (base + length (encode_utf8_all (sound_front p x)))))) all
-    ∙ ap (λ y. place_or_fault (place_from base p y) None) (take_while-all (is_sound p) x all) ∙ ap (λ o. place_or_fault o None) none
+no_stop p base x all none = rw (take_while-all (is_sound p) x all, all, none)
 
 pub checked_undecided : (p : Properties) (checker : Checker) (base : ℕ) (x : List ℕ) → HasChecked p checker base x → text_decision p base x ≡ None
 checked_undecided p checker base x seen = no_stop p base x seen.sound (sym seen.stands.place ∙ seen.none)
@@ -33,7 +30,7 @@ checked_undecided p checker base x seen = no_stop p base x seen.sound (sym seen.
 -- usable text
 pub unusable_at-usable : (p : Properties) (place : List ℕ → ℕ) (x : List ℕ) → is_usable p x ≡ true → unusable_at p place x ≡ None
 unfolding unusable_at
-unusable_at-usable p place x sound = ap (λ b. if b then None else Some (Row (place (usable p x)))) sound
+unusable_at-usable p place x sound = rw sound
 
 pub measured_undecided : (p : Properties) (measurer : Measurer) (base : ℕ) (x : List ℕ) → HasMeasured p measurer base x → unusable_decision p base x ≡ None
 unfolding is_usable
