@@ -1,5 +1,5 @@
 -- What is left of a piece, up to its first ill-formed byte.
-use Rattle.nf_filter.proofs.Common.{◌≡◌, ℕ, ◌+◌, ◌-◌, ◌<◌, ◌≤◌, ◌==◌, true, false, List, [], ◌∷◌, ◌++◌, length, drop, Some, Ok, Err, refl, sym, ap, ap₂, ◌∙◌, arith, nat_tests, append_assoc, append-nil, Option, Result, if◌then◌else◌, encode_utf8_all, chars, length-append, drop-drop, drop_at, encodes-append, Properties, Form, End, EndsBad, Bad, text_of, text_len, ending_of, replacement, part_end, ReplacesParts, SplitsBytes, DecoderStandsAfter, first_text, Takes, bytes_behind, Fault, BadByte, Write, Counted, Policy, Reading, Start, BlockState, Written, bad_byte, bad_under, first_fault, fault_in, taken_utf8, TakesAllowed, IsLeft, HasReadTo, ReadsTo, RefusesBytes, IsPlacedAt, settled_text, allowed, text_under, usable}
+use Rattle.nf_filter.proofs.Common.{EndsPiece, ◌≡◌, ℕ, ◌+◌, ◌-◌, ◌≤◌, ◌==◌, true, false, List, [], ◌∷◌, ◌++◌, length, drop, Some, Ok, Err, refl, sym, ap, ap₂, ◌∙◌, arith, nat_tests, append_assoc, append-nil, Option, Result, if◌then◌else◌, encode_utf8_all, chars, length-append, drop-drop, drop_at, encodes-append, Properties, Form, End, EndsBad, text_of, text_len, replacement, part_end, ReplacesParts, SplitsBytes, DecoderStandsAfter, first_text, Takes, bytes_behind, Fault, BadByte, Write, Counted, Policy, Reading, Start, BlockState, bad_byte, bad_under, first_fault, fault_in, taken_utf8, TakesAllowed, IsLeft, HasReadTo, ReadsTo, RefusesBytes, IsPlacedAt, settled_text, allowed, text_under, usable}
 use Rattle.nf_filter.proofs.BlockLemmas.{Written-at, Broken-extends}
 use Rattle.nf_filter.proofs.PolicyLemmas.{first_fault-none, first_fault-stays, taken_utf8-grows}
 use Rattle.nf_filter.proofs.AllowingLemmas.{TakesBehind, TakesAllowed-settled}
@@ -48,8 +48,15 @@ module _ {policy : Policy} {f : Form} {p : Properties} {base : ℕ} {bytes : Lis
         is = λ _. sym (first_fault-none p policy.assigned (place_in policy.replace base bytes) (text_under policy.replace bytes) (bad_under policy.replace base bytes) taken.machine.usable takes.taken.1 ∙ told);
       }
 
-module _ (laws : ReplacesParts) {policy : Policy} {f : Form} {p : Properties} {base : ℕ} {bytes : List ℕ} {counted : Counted} {reading : Reading} {rest : List ℕ} (read : HasReadTo policy f p counted base reading bytes rest)
-    {first : Option ℕ} {text : List ℕ} {end : End} (took : Takes read.tail rest first text end) (carried : ℕ) (is_carried : length (encode_utf8_all (text_of read.tail)) + carried ≡ length read.tail) where
+module _ (laws : ReplacesParts) {policy : Policy} {f : Form} {p : Properties} {base : ℕ} {bytes : List ℕ} {counted : Counted} {reading : Reading} {rest : List ℕ} {start : Start} {old : BlockState} (both : ReadsTo policy f p counted start old base reading bytes rest)
+    {first : Option ℕ} {text : List ℕ} {end : End} (takes : (tail : List ℕ) → DecoderStandsAfter reading.decoder tail → Takes tail rest first text end)
+    (carried : ℕ) (behind : (tail : List ℕ) → DecoderStandsAfter reading.decoder tail → length (encode_utf8_all (text_of tail)) + carried ≡ length tail) where
+  abbrev read : HasReadTo policy f p counted base reading bytes rest
+  read = both.0
+
+  took : Takes read.tail rest first text end
+  took = takes read.tail read.decoder
+
   abbrev all : List ℕ
   all = read.tail ++ rest
 
@@ -75,109 +82,111 @@ module _ (laws : ReplacesParts) {policy : Policy} {f : Form} {p : Properties} {b
         len_under-first laws policy.replace all (text_of read.tail ++ front) (c ∷ last) (next_is ∙ ap (λ l. text_of read.tail ++ l) is ∙ sym (append_assoc (text_of read.tail) front (c ∷ last))),
         ap length (encodes-append (text_of read.tail) front),
         length-append (encode_utf8_all (text_of read.tail)) (encode_utf8_all front),
-        is_carried,
+        behind read.tail read.decoder,
         read.offset,
       )
 
-  module _ {start : Start} {old : BlockState} (written : Written start old (settled_text f p (read.before ++ text_of read.tail))) where
-    chunk-takes : {now : BlockState} {after : Counted} {r : Result (Unit {0}) Fault} → TakesBehind policy.assigned p counted old after now (reading.offset - carried) next_text r
-        → TakesAllowed policy.assigned f p after start now (place_in policy.replace base bytes) taken_text r
-    chunk-takes takes = takes f (place_in policy.replace base bytes) (read.before ++ text_of read.tail) start read.taken read.allowed placed written
+  chunk-takes : {now : BlockState} {after : Counted} {r : Result (Unit {0}) Fault} → TakesBehind policy.assigned p counted old after now (reading.offset - carried) next_text r
+      → TakesAllowed policy.assigned f p after start now (place_in policy.replace base bytes) taken_text r
+  chunk-takes one = one f (place_in policy.replace base bytes) (read.before ++ text_of read.tail) start read.taken read.allowed placed both.1
 
-    -- a character of it was refused
-    pub chunk-refused : {now : BlockState} {after : Counted} {fault : Fault} → TakesBehind policy.assigned p counted old after now (reading.offset - carried) next_text (Err fault) → RefusesBytes policy f p start now base bytes fault
-    chunk-refused takes =
-        let more = text_under-first laws policy.replace all in
-        RefusesBytes-front more.more (left-text _ _ _ _ _ read.left ∙ ap (λ l. read.before ++ l) more.text ∙ sym (append_assoc read.before (text_of all) more.more) ∙ ap (λ l. l ++ more.more) (sym joined_is)) (chunk-takes takes)
+  -- a character of it was refused
+  pub chunk-refused : {now : BlockState} {after : Counted} {fault : Fault} → TakesBehind policy.assigned p counted old after now (reading.offset - carried) next_text (Err fault) → RefusesBytes policy f p start now base bytes fault
+  chunk-refused one =
+      let more = text_under-first laws policy.replace all in
+      RefusesBytes-front more.more (left-text _ _ _ _ _ read.left ∙ ap (λ l. read.before ++ l) more.text ∙ sym (append_assoc read.before (text_of all) more.more) ∙ ap (λ l. l ++ more.more) (sym joined_is)) (chunk-takes one)
 
-    module _ {now : BlockState} {after : Counted} (takes : TakesBehind policy.assigned p counted old after now (reading.offset - carried) next_text (Ok tt)) where
-      taken : TakesAllowed policy.assigned f p after start now (place_in policy.replace base bytes) taken_text (Ok tt)
-      taken = chunk-takes takes
+  module _ {now : BlockState} {after : Counted} (text_takes : TakesBehind policy.assigned p counted old after now (reading.offset - carried) next_text (Ok tt)) where
+    taken : TakesAllowed policy.assigned f p after start now (place_in policy.replace base bytes) taken_text (Ok tt)
+    taken = chunk-takes text_takes
 
-      -- all of the rest was read
-      pub chunk-read : (next : Reading) → ((at back : ℕ) → ¬ (end ≡ EndsBad at back)) → DecoderStandsAfter next.decoder (bytes_behind read.tail rest end) → next.offset ≡ reading.offset + length rest
-          → ReadsTo policy f p after start now base next bytes []
-      chunk-read next well decoder offset = (
-        record {
-          before = read.before;
-          n = read.n;
-          tail = all;
-          left = rw (append-nil all) read.left;
-          decoder = rw (all_behind read.tail rest end well) at decoder;
-          good = λ n. ends_well read.tail rest end n well took.ends;
-          offset = omega (arith, offset, read.offset, length-append read.tail rest);
-          taken = rw joined_is at taken.taken.0;
-          allowed = rw joined_is at taken.taken.1;
-        },
-        Written-at (ap (settled_text f p) joined_is) (TakesAllowed-settled taken),
-      )
+    -- all of the rest was read
+    pub chunk-read : (next : Reading) → ((at back : ℕ) → ¬ (end ≡ EndsBad at back)) → DecoderStandsAfter next.decoder (bytes_behind read.tail rest end) → next.offset ≡ reading.offset + length rest
+        → ReadsTo policy f p after start now base next bytes []
+    chunk-read next well decoder offset = (
+      record {
+        before = read.before;
+        n = read.n;
+        tail = all;
+        left = rw (append-nil all) read.left;
+        decoder = rw (all_behind read.tail rest end well) at decoder;
+        good = λ n. ends_well read.tail rest end n well took.ends;
+        offset = omega (arith, offset, read.offset, length-append read.tail rest);
+        taken = rw joined_is at taken.taken.0;
+        allowed = rw joined_is at taken.taken.1;
+      },
+      Written-at (ap (settled_text f p) joined_is) (TakesAllowed-settled taken),
+    )
 
-      module _ (at back : ℕ) (ends : (ending_of all ≡ Bad (length read.tail + at) (text_len all)) × (text_len all + back ≡ length read.tail + at) × (at < length rest)) where
-        -- a byte of it is bad, and not replaced
-        pub chunk-bad : policy.replace ≡ false → RefusesBytes policy f p start now base bytes (BadByte (reading.offset + at) (reading.offset + at - back))
-        chunk-bad strict =
-            let whole : text_under policy.replace bytes ≡ taken_text = rw (strict, joined_is) (rw strict at (left-text _ _ _ _ _ read.left)) in
-            RefusesBytes-bad (λ e. cc) (rw (← whole) at taken)
-            (left-bad _ _ _ _ _ read.left base ∙ ap (λ r. bad_under r (base + read.n) all) strict ∙ ap (bad_byte (base + read.n)) ends.0 ∙ ap₂ (λ k m. Some (BadByte k m)) (omega (arith, read.offset)) (omega (arith, read.offset, ends.1)))
+    module _ (at back : ℕ) (is : end ≡ EndsBad at back) where
+      ends : EndsPiece read.tail rest (EndsBad at back)
+      ends = rw is at took.ends
 
-        module _ (split : SplitsBytes) (replaces : policy.replace ≡ true) (len : ℕ) (is_len : len ≡ part_len_of at back) where
-          abbrev own : List ℕ
-          own = text_of all ++ replacement ∷ []
+      -- a byte of it is bad, and not replaced
+      pub chunk-bad : policy.replace ≡ false → RefusesBytes policy f p start now base bytes (BadByte (reading.offset + at) (reading.offset + at - back))
+      chunk-bad strict =
+          let whole : text_under policy.replace bytes ≡ taken_text = simp strict (rw joined_is (simp strict at (left-text _ _ _ _ _ read.left))) in
+          RefusesBytes-bad (λ e. cc) (rw (← whole) at taken)
+          (left-bad _ _ _ _ _ read.left base ∙ ap (λ r. bad_under r (base + read.n) all) strict ∙ ap (bad_byte (base + read.n)) ends.0 ∙ ap₂ (λ k m. Some (BadByte k m)) (omega (arith, read.offset)) (omega (arith, read.offset, ends.1)))
 
-          bounds : (at ≤ len) × (len ≤ at + 1)
-          bounds = rw is_len (part_len_of-bounds at back)
+      module _ (split : SplitsBytes) (replaces : policy.replace ≡ true) (len : ℕ) (is_len : len ≡ part_len_of at back) where
+        abbrev own : List ℕ
+        own = text_of all ++ replacement ∷ []
 
-          end_is : part_end (length read.tail + at) (text_len all) ≡ length read.tail + len
-          end_is = part_end-is (length read.tail) at (text_len all) back ends.1 ∙ ap (λ n. length read.tail + n) (sym is_len)
+        bounds : (at ≤ len) × (len ≤ at + 1)
+        bounds = rw is_len (part_len_of-bounds at back)
 
-          -- the part is replaced, and the rest is left
-          left_behind : IsLeft policy.replace bytes (read.before ++ own) (read.n + (length read.tail + len)) (drop len rest)
-          left_behind = rw (replaces, ← dropped, ← end_is) (IsLeft-behind laws split all (length read.tail + at) (text_len all) ends.0 refl
-              (omega (arith, end_is, bounds, ends.2, length-append read.tail rest)) (omega (arith, end_is, bounds, ends.1)) bytes read.before read.n (rw replaces at read.left))
-            where
-              dropped : drop (length read.tail + len) all ≡ drop len rest
-              dropped = sym (drop-drop len (length read.tail) all) ∙ ap (drop len) (drop_at read.tail rest (length read.tail) refl)
+        end_is : part_end (length read.tail + at) (text_len all) ≡ length read.tail + len
+        end_is = part_end-is (length read.tail) at (text_len all) back ends.1 ∙ ap (λ n. length read.tail + n) (sym is_len)
 
-          behind_is : taken_text ++ replacement ∷ [] ≡ read.before ++ own
-          behind_is = ap (λ l. l ++ replacement ∷ []) joined_is ∙ append_assoc read.before (text_of all) (replacement ∷ [])
+        -- the part is replaced, and the rest is left
+        left_behind : IsLeft policy.replace bytes (read.before ++ own) (read.n + (length read.tail + len)) (drop len rest)
+        left_behind = simp replaces (rw (← dropped, ← end_is) (IsLeft-behind laws split all (length read.tail + at) (text_len all) ends.0 refl
+            (omega (arith, end_is, bounds, ends.2, length-append read.tail rest)) (omega (arith, end_is, bounds, ends.1)) bytes read.before read.n (simp replaces at read.left)))
+          where
+            dropped : drop (length read.tail + len) all ≡ drop len rest
+            dropped = sym (drop-drop len (length read.tail) all) ∙ ap (drop len) (drop_at read.tail rest (length read.tail) refl)
 
-          -- U+FFFD was taken where it stands, or why not
-          part-takes : {last : Counted} {final : BlockState} {r : Result (Unit {0}) Fault} → TakesBehind policy.assigned p after now last final (reading.offset + at - back) (replacement ∷ []) r
-              → TakesAllowed policy.assigned f p last start final (place_in policy.replace base bytes) (taken_text ++ replacement ∷ []) r
-          part-takes one = one f (place_in policy.replace base bytes) taken_text start taken.taken.0 taken.taken.1
-              (one_placed (place_in policy.replace base bytes) (reading.offset + at - back) taken_text replacement
-              (ap (place_in policy.replace base bytes) joined_is
-              ∙ omega (
-                arith,
-                left-place _ _ _ _ _ read.left (text_of all),
-                len_under-first laws policy.replace all (text_of all) [] (sym (append-nil (text_of all))),
-                split.len all,
-                ends.1,
-                read.offset,
-              )))
-              (TakesAllowed-settled taken)
+        behind_is : taken_text ++ replacement ∷ [] ≡ read.before ++ own
+        behind_is = ap (λ l. l ++ replacement ∷ []) joined_is ∙ append_assoc read.before (text_of all) (replacement ∷ [])
 
-          pub part-refused : {last : Counted} {final : BlockState} {fault : Fault} → TakesBehind policy.assigned p after now last final (reading.offset + at - back) (replacement ∷ []) (Err fault) → RefusesBytes policy f p start final base bytes fault
-          part-refused one = RefusesBytes-front (text_under policy.replace (drop len rest)) (left-text _ _ _ _ _ left_behind ∙ ap (λ l. l ++ text_under policy.replace (drop len rest)) (sym behind_is)) (part-takes one)
+        -- U+FFFD was taken where it stands, or why not
+        part-takes : {last : Counted} {final : BlockState} {r : Result (Unit {0}) Fault} → TakesBehind policy.assigned p after now last final (reading.offset + at - back) (replacement ∷ []) r
+            → TakesAllowed policy.assigned f p last start final (place_in policy.replace base bytes) (taken_text ++ replacement ∷ []) r
+        part-takes one = one f (place_in policy.replace base bytes) taken_text start taken.taken.0 taken.taken.1
+            (one_placed (place_in policy.replace base bytes) (reading.offset + at - back) taken_text replacement
+            (ap (place_in policy.replace base bytes) joined_is
+            ∙ omega (
+              arith,
+              left-place _ _ _ _ _ read.left (text_of all),
+              len_under-first laws policy.replace all (text_of all) [] (sym (append-nil (text_of all))),
+              split.len all,
+              ends.1,
+              read.offset,
+            )))
+            (TakesAllowed-settled taken)
 
-          pub part-read : {last : Counted} {final : BlockState} (next : Reading) → TakesBehind policy.assigned p after now last final (reading.offset + at - back) (replacement ∷ []) (Ok tt) → DecoderStandsAfter next.decoder [] → next.offset ≡ reading.offset + len
-              → (behind : List ℕ) → behind ≡ drop len rest → (both : ReadsTo policy f p last start final base next bytes behind) × (both.0.tail ≡ [])
-          part-read {last = last} next one decoder offset behind is_behind =
-              let replaced = part-takes one in
-              let whole : taken_text ++ replacement ∷ [] ≡ (read.before ++ own) ++ text_of [] = behind_is ∙ sym (ap (λ l. (read.before ++ own) ++ l) text_of-none ∙ append-nil (read.before ++ own)) in (
-                (
-                  record {
-                    before = read.before ++ own;
-                    n = read.n + (length read.tail + len);
-                    tail = [];
-                    left = rw is_behind left_behind;
-                    decoder = decoder;
-                    good = λ n. ap (bad_byte n) ending_of-none;
-                    offset = omega (arith, offset, read.offset);
-                    taken = rw whole at replaced.taken.0;
-                    allowed = rw whole at replaced.taken.1;
-                  },
-                  Written-at (ap (settled_text f p) whole) (TakesAllowed-settled replaced),
-                ),
-                refl,
-              )
+        pub part-refused : {last : Counted} {final : BlockState} {fault : Fault} → TakesBehind policy.assigned p after now last final (reading.offset + at - back) (replacement ∷ []) (Err fault) → RefusesBytes policy f p start final base bytes fault
+        part-refused one = RefusesBytes-front (text_under policy.replace (drop len rest)) (left-text _ _ _ _ _ left_behind ∙ ap (λ l. l ++ text_under policy.replace (drop len rest)) (sym behind_is)) (part-takes one)
+
+        pub part-read : {last : Counted} {final : BlockState} (next : Reading) → TakesBehind policy.assigned p after now last final (reading.offset + at - back) (replacement ∷ []) (Ok tt) → DecoderStandsAfter next.decoder [] → next.offset ≡ reading.offset + len
+            → (behind : List ℕ) → behind ≡ drop len rest → (both : ReadsTo policy f p last start final base next bytes behind) × (both.0.tail ≡ [])
+        part-read {last = last} next one decoder offset behind is_behind =
+            let replaced = part-takes one in
+            let whole : taken_text ++ replacement ∷ [] ≡ (read.before ++ own) ++ text_of [] = behind_is ∙ sym (ap (λ l. (read.before ++ own) ++ l) text_of-none ∙ append-nil (read.before ++ own)) in (
+              (
+                record {
+                  before = read.before ++ own;
+                  n = read.n + (length read.tail + len);
+                  tail = [];
+                  left = rw is_behind left_behind;
+                  decoder = decoder;
+                  good = λ n. ap (bad_byte n) ending_of-none;
+                  offset = omega (arith, offset, read.offset);
+                  taken = rw whole at replaced.taken.0;
+                  allowed = rw whole at replaced.taken.1;
+                },
+                Written-at (ap (settled_text f p) whole) (TakesAllowed-settled replaced),
+              ),
+              refl,
+            )

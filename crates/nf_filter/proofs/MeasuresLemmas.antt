@@ -1,5 +1,5 @@
 -- What a measurement decides, character by character.
-use Rattle.nf_filter.proofs.Common.{◌≡◌, ℕ, ◌+◌, Bool, true, false, not, ◌&&◌, ◌||◌, List, [], ◌∷◌, ◌++◌, length, Some, None, sym, ap, ◌∙◌, arith, if◌then◌else◌, option_map, encode_utf8_all, Properties, joiner, is_too_long, stream_safe, is_sound, IsSoundText, refusal, unsound_at, Row, is_usable, unusable_at, utf8_place, is_usable-push}
+use Rattle.nf_filter.proofs.Common.{◌≡◌, ℕ, ◌+◌, Bool, true, false, not, ◌&&◌, ◌||◌, List, [], ◌∷◌, ◌++◌, length, Some, None, ◌∙◌, arith, if◌then◌else◌, option_map, encode_utf8_all, Properties, joiner, is_too_long, stream_safe, is_sound, IsSoundText, refusal, unsound_at, Row, is_usable, unusable_at, utf8_place, is_usable-push}
 use Rattle.nf_row.specs.declared.unsound.Unsound.{Unsound}
 use Rattle.nf_filter.proofs.TextLemmas.{unusable_at-stop}
 
@@ -19,7 +19,6 @@ module _ (p : Properties) where
       next u l j false is = grind arith
 
   -- a character that is refused behind x
-  pub refusal_at : (base at : ℕ) (x : List ℕ) (c : ℕ) (y : List ℕ) (e : Unsound) → IsSoundText p (stream_safe p x) → at ≡ base + length (encode_utf8_all x) → Some e ≡ option_map refusal (unsound_at p x c)
+  pub refusal_at : (base : ℕ) {at : ℕ} (x : List ℕ) (c : ℕ) {e : Unsound} (y : List ℕ) → IsSoundText p (stream_safe p x) → at ≡ base + length (encode_utf8_all x) → Some e ≡ option_map refusal (unsound_at p x c)
       → unusable_at p (utf8_place base) ((x ++ c ∷ []) ++ y) ≡ Some (Row at)
-  refusal_at base at x c y e sound here refused =
-      unusable_at-stop p (utf8_place base) x c y (usable_is x sound) (unusable x c e refused) ∙ ap (λ n. Some (Row n)) (sym here)
+  refusal_at base x c {e} y sound here refused = rw here (unusable_at-stop p (utf8_place base) x c y (usable_is x sound) (unusable x c e refused))

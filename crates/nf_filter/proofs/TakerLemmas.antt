@@ -1,35 +1,40 @@
 -- A text that is taken front by front.
-use Rattle.nf_filter.proofs.Common.{◌≡◌, ℕ, List, [], ◌∷◌, ◌++◌, length, Option, Result, refl, ap, ◌∙◌, subst, append-nil, append_assoc, chars, Fault, Decides, HasTakenFront}
-use Rattle.nf_filter.proofs.TakingLemmas.{front-joined, front-more, front-whole}
+use Rattle.nf_filter.proofs.Common.{◌≡◌, ℕ, ◌+◌, ◌-◌, List, [], ◌∷◌, ◌++◌, length, Option, Result, refl, ap, arith, append-nil, append_assoc, length-append, chars, encode_utf8, encode_utf8_all, IsUtf8, encodes-append, chars_past_char, Fault, Decides, HasTakenFront, IsPlacedAt}
+use Rattle.nf_filter.proofs.TakingLemmas.{front_len, front-joined, front-more, front-whole, placed-behind}
 
--- what is decided behind a front of a text, or in it, is decided by the text
-module _ {T : Type 0} (decides : List ℕ → Option (Result T Fault)) (answer : Result T Fault) (x text front rest : List ℕ) (is : text ≡ front ++ rest) where
-  pub decides-behind : Decides decides ((x ++ front) ++ rest) answer → Decides decides (x ++ text) answer
-  decides-behind decided = subst (λ y. Decides decides y answer) (front-joined x text front rest is) decided
+-- what is decided in a front of a text is decided by the text
+pub decides-within : {T : Type 0} (decides : List ℕ → Option (Result T Fault)) {answer : Result T Fault} (x text front rest : List ℕ) → text ≡ front ++ rest → Decides decides (x ++ front) answer → Decides decides (x ++ text) answer
+decides-within decides x text front rest is decided = λ more. rw (is, ← append_assoc x front rest, append_assoc (x ++ front) rest more) (decided (rest ++ more))
 
-  pub decides-within : Decides decides (x ++ front) answer → Decides decides (x ++ text) answer
-  decides-within decided = decides-behind (λ more. ap decides (append_assoc (x ++ front) rest more) ∙ decided (rest ++ more))
+pub takes-none : (stands : List ℕ → Type 0) (x text : List ℕ) → stands x → HasTakenFront stands x text text
+takes-none stands x text taken = record { front = []; is_front = refl; taken = rw (append-nil x) taken }
 
-module _ (stands : List ℕ → Type 0) (x text : List ℕ) where
-  pub takes-none : stands x → HasTakenFront stands x text text
-  takes-none taken = record { front = []; is_front = refl; taken = rw (append-nil x) taken }
+-- behind a front that was taken
+module _ {stands : List ℕ → Type 0} {x text rest : List ℕ} (here : HasTakenFront stands x text rest) where
+  pub joined : (x ++ here.front) ++ chars rest ≡ x ++ chars text
+  joined = front-joined x (chars text) here.front (chars rest) here.is_front
 
-  pub takes-more : (front rest behind : List ℕ) → chars text ≡ front ++ chars rest → HasTakenFront stands (x ++ front) rest behind → HasTakenFront stands x text behind
-  takes-more front rest behind is next = record {
-    front = front ++ next.front;
-    is_front = front-more text front rest is next.front behind next.is_front;
-    taken = subst stands (append_assoc x front next.front) next.taken;
+  -- the offset, and those of what is left
+  pub offset_behind : {at : ℕ} (base : ℕ) → IsUtf8 text → IsUtf8 rest → at ≡ base + length (encode_utf8_all x) → at + (length text - length rest) ≡ base + length (encode_utf8_all (x ++ here.front))
+  offset_behind base whole left begun = omega (arith, begun, front_len text here.front rest whole left here.is_front, ap length (encodes-append x here.front), length-append (encode_utf8_all x) (encode_utf8_all here.front))
+
+  pub placed-left : (place : List ℕ → ℕ) (at : ℕ) → IsUtf8 text → IsUtf8 rest → IsPlacedAt place at x (chars text) → IsPlacedAt place (at + (length text - length rest)) (x ++ here.front) (chars rest)
+  placed-left place at whole left placed = placed-behind place at x (chars text) here.front (chars rest) _ here.is_front (omega (arith, front_len text here.front rest whole left here.is_front)) placed
+
+  pub takes-more : {next : List ℕ → Type 0} {behind : List ℕ} → HasTakenFront next (x ++ here.front) rest behind → HasTakenFront next x text behind
+  takes-more {behind = behind} more = record {
+    front = here.front ++ more.front;
+    is_front = front-more text here.front rest here.is_front more.front behind more.is_front;
+    taken = rw (append_assoc x here.front more.front) at more.taken;
   }
 
-  pub takes-whole : (rest : List ℕ) → length rest ≡ 0 → HasTakenFront stands x text rest → stands (x ++ chars text)
-  takes-whole rest none here = subst (λ l. stands (x ++ l)) (front-whole text here.front rest here.is_front none) here.taken
+  pub takes-whole : length rest ≡ 0 → stands (x ++ chars text)
+  takes-whole none = rw (front-whole text here.front rest here.is_front none) at here.taken
 
-  -- with the character behind it
-  pub takes-char : (front rest behind : List ℕ) (c : ℕ) → chars text ≡ front ++ chars rest → chars rest ≡ c ∷ chars behind → stands ((x ++ front) ++ c ∷ []) → HasTakenFront stands x text behind
-  takes-char front rest behind c is first taken = takes-more front rest behind is (record { front = c ∷ []; is_front = first; taken = taken })
+  -- with the character there
+  module _ (c : ℕ) (behind : List ℕ) (utf8 : IsUtf8 rest) (is : rest ≡ encode_utf8 c ++ behind) where
+    pub takes-char : {next : List ℕ → Type 0} → next ((x ++ here.front) ++ c ∷ []) → HasTakenFront next x text behind
+    takes-char taken = takes-more (record { front = c ∷ []; is_front = chars_past_char rest behind c utf8 is; taken = taken })
 
--- what the character behind it decides
-pub decides-char : {T : Type 0} (decides : List ℕ → Option (Result T Fault)) (answer : Result T Fault) (x text front rest behind : List ℕ) (c : ℕ) → chars text ≡ front ++ chars rest → chars rest ≡ c ∷ chars behind
-    → Decides decides ((x ++ front) ++ c ∷ []) answer → Decides decides (x ++ chars text) answer
-decides-char decides answer x text front rest behind c is first decided =
-    decides-behind decides answer x (chars text) front (chars rest) is (decides-within decides answer (x ++ front) (chars rest) (c ∷ []) (chars behind) first decided)
+    pub decides-char : {T : Type 0} (decides : List ℕ → Option (Result T Fault)) {answer : Result T Fault} → Decides decides ((x ++ here.front) ++ c ∷ []) answer → Decides decides (x ++ chars text) answer
+    decides-char decides decided = rw joined at (decides-within decides (x ++ here.front) (chars rest) (c ∷ []) (chars behind) (chars_past_char rest behind c utf8 is) decided)

@@ -1,5 +1,6 @@
 use Rattle.nf_filter.proofs.Common.{⊎_elim, ◌≡◌, ℕ, append-nil, ◌+◌, ◌^◌, ◌++◌, [], length, take, refl, sym, ap, ◌∙◌, arith, Err, Some, eq-eqb, ne_eqb, length-take, Consumes-kept, Consumes-trans, cases_lt, Ending, Whole, ending_of, TooLong, answer_at_end}
 use Rattle.nf_filter.proofs.FilterLemmas.{never}
+use Rattle.nf_filter.proofs.SurveysLemmas.{no_more}
 use Rattle.nf_filter.proofs.sources.survey.Goals as goal
 
 -- an end is no refusal of a length
@@ -11,19 +12,8 @@ pub returns-in-Err-clause-surveys : goal.returns-in-Err-clause-surveys
 returns-in-Err-clause-surveys g c = λ survey begun.
     let fed = c.loop-given.invariant.fed in
     let stands = g.met.S.Surveyor.stands _ survey fed.0 (fed.2 survey begun) in
-    let before_end = c.in-Err.ensures.failed.1 in
-    record {
-      before = fed.0;
-      last = [];
-      given = rw (append-nil fed.0) (Consumes-kept _ _ _ fed.0 fed.1 c.in-Err.ensures.kept);
-      few = omega arith;
-      read_out = λ end. never end before_end;
-      undecided = stands.0;
-      too_long = (λ e. cc, λ over. absurd (omega (arith, over, c.loop-given.invariant.fits, stands.1)));
-      failed = λ _. refl;
-      ended = λ end. never end before_end;
-      decided = λ _ _ unread. absurd (unread refl);
-    }
+    let going = c.in-Err.ensures.failed.1 in
+    no_more _ (Consumes-kept _ _ _ fed.0 fed.1 c.in-Err.ensures.kept) (λ end. never end going) stands.0 (omega (arith, c.loop-given.invariant.fits, stands.1)) (λ e. cc) (λ end. never end going) (λ _. refl)
 
 pub returns-then-given-eq0-clause-surveys : goal.returns-then-given-eq0-clause-surveys
 returns-then-given-eq0-clause-surveys g c = λ survey begun.
@@ -31,18 +21,8 @@ returns-then-given-eq0-clause-surveys g c = λ survey begun.
     let taken = fed.2 survey begun in
     let stands = g.met.S.Surveyor.stands _ survey fed.0 taken in
     let is = c.end.ensures.ends survey fed.0 taken in
-    record {
-      before = fed.0;
-      last = [];
-      given = Consumes-trans _ _ _ fed.0 [] fed.1 (rw c.if-given-eq0.true at c.in-Ok.ensures.given);
-      few = omega arith;
-      read_out = λ _. c.in-Ok.ensures.read_out c.if-given-eq0.true;
-      undecided = stands.0;
-      too_long = (λ e. absurd (not_long survey.base (survey.value fed.0) (ending_of fed.0) (sym is ∙ e)), λ over. absurd (omega (arith, over, c.loop-given.invariant.fits, stands.1)));
-      failed = λ _. refl;
-      ended = λ _. (refl, is);
-      decided = λ before_end. never (c.in-Ok.ensures.end ∙ eq-eqb c.in-Ok.given 0 c.if-given-eq0.true) before_end;
-    }
+    no_more _ (rw (append-nil fed.0) at (Consumes-trans _ _ _ fed.0 [] fed.1 (rw c.if-given-eq0.true at c.in-Ok.ensures.given))) (λ _. c.in-Ok.ensures.read_out c.if-given-eq0.true) stands.0
+    (omega (arith, c.loop-given.invariant.fits, stands.1)) (λ e. not_long survey.base (survey.value fed.0) (ending_of fed.0) (sym is ∙ e)) (λ _. is) (never (c.in-Ok.ensures.end ∙ eq-eqb c.in-Ok.given 0 c.if-given-eq0.true))
 
 pub returns-in-Some-clause-surveys : goal.returns-in-Some-clause-surveys
 returns-in-Some-clause-surveys g c = λ survey begun.

@@ -1,11 +1,10 @@
-use Rattle.nf_filter.proofs.Common.{◌≡◌, ℕ, List, ◌++◌, sym, ap, ap₂, ◌∙◌, rules, take, drop, take-append-drop, IsUtf8, chars, chars-append, text_decision}
+use Rattle.nf_filter.proofs.Common.{◌≡◌, ℕ, List, ◌++◌, rules, take, drop, take-append-drop, IsUtf8, chars, chars-append, text_decision}
 use Rattle.nf_filter.proofs.TakingLemmas.{chars-three}
 use Rattle.nf_filter.proofs.TakerLemmas.{decides-within}
 use Rattle.nf_filter.proofs.checking.CalmCheckerTaker.take_front.Goals as goal
 
 in_two : (text : List ℕ) (n : ℕ) (window rest : List ℕ) → IsUtf8 window → window ≡ take n text → rest ≡ drop n text → chars text ≡ chars window ++ chars rest
-in_two text n window rest utf8 first second =
-    ap chars (sym (ap₂ (λ a b. a ++ b) first second ∙ take-append-drop n text)) ∙ chars-append window rest utf8
+in_two text n window rest utf8 first second = rw (← chars-append window rest utf8, first, second, take-append-drop n text)
 
 pub returns-in-Some-clause-takes : goal.returns-in-Some-clause-takes
 returns-in-Some-clause-takes g c = λ base x before here.
@@ -29,5 +28,5 @@ returns-in-None-clause-takes g c = λ base x before here.
 pub returns-in-Some-take_text-clause-takes : goal.returns-in-Some-take_text-clause-takes
 returns-in-Some-take_text-clause-takes g c = λ base x before here.
     let utf8 : IsUtf8 c.split_at.result.0.now = search rules in
-    decides-within (text_decision (g.R.Rows.properties c.args.rows.now) base) _ x (chars c.args.text.now) (chars c.split_at.result.0.now) (chars c.split_at.result.1.now) (in_two _ _ _ _ utf8 c.split_at.ensures.front c.split_at.ensures.back)
+    decides-within (text_decision (g.R.Rows.properties c.args.rows.now) base) x (chars c.args.text.now) (chars c.split_at.result.0.now) (chars c.split_at.result.1.now) (in_two _ _ _ _ utf8 c.split_at.ensures.front c.split_at.ensures.back)
     (c.in-Some-take_text.ensures.takes base x before here)

@@ -1,6 +1,6 @@
-use Rattle.nf_filter.proofs.Common.{◌++◌, refl, ap, ◌∙◌, arith, rules, IsUtf8}
+use Rattle.nf_filter.proofs.Common.{◌++◌, refl, arith, rules, IsUtf8}
 use Rattle.nf_filter.proofs.TakingLemmas.{front_len}
-use Rattle.nf_filter.proofs.SteppingLemmas.{first-left, Standing-moved, Standing-failed, step-refused, step-stands, step-failed, given_to}
+use Rattle.nf_filter.proofs.SteppingLemmas.{next_place, Standing-moved, Standing-failed, step-refused, step-stands, step-failed, given_to}
 use Rattle.nf_filter.proofs.counted.Counted.step.Goals as goal
 
 pub returns-in-Err-clause-steps : goal.returns-in-Err-clause-steps
@@ -10,9 +10,7 @@ pub overflow_add-result : goal.overflow_add-result
 overflow_add-result g c =
     let stops = rw c.in-Unsound.is at c.step.ensures.passes in
     let rest : IsUtf8 c.in-Unsound.rest.now = search rules in
-    let first = first-left c.in-Unsound.rest.now rest stops.some in
-    let len = front_len c.args.text.now stops.front c.in-Unsound.rest.now c.utf8.text rest stops.is_front in
-    omega (arith, c.requires.fits stops.front first.0 first.1 (stops.is_front ∙ ap (λ l. stops.front ++ l) first.2), len)
+    omega (arith, next_place _ _ stops.front c.requires.fits rest stops.some stops.is_front, front_len c.args.text.now stops.front c.in-Unsound.rest.now c.utf8.text rest stops.is_front)
 
 pub returns-in-Unsound-clause-steps : goal.returns-in-Unsound-clause-steps
 returns-in-Unsound-clause-steps g c = λ f place x start standing here.

@@ -1,7 +1,7 @@
-use Rattle.nf_filter.proofs.Common.{◌≡◌, [], ◌∷◌, ◌++◌, append_assoc, length-append, encode_utf8_all, length, rules, refl, sym, ap, subst, arith, ◌∙◌, chars, Err, encodes-append, block_state, TakesOn}
-use Rattle.nf_filter.proofs.TakingLemmas.{front_len, front-joined, front-more, placed-behind}
-use Rattle.nf_filter.proofs.TakerLemmas.{takes-none, takes-more}
-use Rattle.nf_filter.proofs.SteppingLemmas.{TakesOn-whole, first-left}
+use Rattle.nf_filter.proofs.Common.{◌≡◌, [], ◌∷◌, ◌++◌, append_assoc, length-append, encode_utf8_all, length, rules, refl, sym, ap, arith, ◌∙◌, chars, encodes-append}
+use Rattle.nf_filter.proofs.TakingLemmas.{front_len, front-more}
+use Rattle.nf_filter.proofs.TakerLemmas.{joined, placed-left, takes-none, takes-more}
+use Rattle.nf_filter.proofs.SteppingLemmas.{TakesOn-whole, next_place}
 use Rattle.nf_filter.proofs.counted.Counted.take_text.Goals as goal
 
 pub loop-rest-init : goal.loop-rest-init
@@ -34,19 +34,14 @@ loop-rest-preserved g c = record {
       omega (arith, c.in-Ok.ensures.passes.put, leaves.few, ap length leaves.is_front, length-append leaves.front (chars c.in-Ok.behind.now), c.loop-rest.invariant.put);
   stands = λ f place x start standing here.
       let before = c.loop-rest.invariant.stands f place x start standing here in
-      let len = front_len c.args.text.now before.front c.loop-rest.rest.now c.utf8.text c.loop-rest.invariant.utf8 before.is_front in
-      takes-more _ x c.args.text.now before.front c.loop-rest.rest.now c.in-Ok.behind.now before.is_front
-      (c.in-Ok.ensures.steps f place (x ++ before.front) start before.taken (placed-behind place c.args.at x (chars c.args.text.now) before.front (chars c.loop-rest.rest.now) _ before.is_front (omega (arith, len, c.loop-rest.invariant.left)) here));
+      takes-more before (c.in-Ok.ensures.steps f place (x ++ before.front) start before.taken (placed-left before place c.args.at c.utf8.text c.loop-rest.invariant.utf8 here));
   lender = c.in-Ok.ensures.lender ∙ c.loop-rest.invariant.lender;
 }
 
 pub returns-in-Err-clause-takes : goal.returns-in-Err-clause-takes
 returns-in-Err-clause-takes g c = λ f place x start counted standing here.
-    let p = g.R.Rows.properties c.args.rows.now in
     let before = c.loop-rest.invariant.stands f place x start standing here in
-    let len = front_len c.args.text.now before.front c.loop-rest.rest.now c.utf8.text c.loop-rest.invariant.utf8 before.is_front in
-    subst (λ y. TakesOn f p c.step.new.self start (block_state (g.S.Sink.state c.step.new.sink) c.step.new.block) place y (Err c.in-Err.fault)) (front-joined x (chars c.args.text.now) before.front (chars c.loop-rest.rest.now) before.is_front)
-    (c.in-Err.ensures.steps f place (x ++ before.front) start before.taken (placed-behind place c.args.at x (chars c.args.text.now) before.front (chars c.loop-rest.rest.now) _ before.is_front (omega (arith, len, c.loop-rest.invariant.left)) here))
+    rw (joined before) at (c.in-Err.ensures.steps f place (x ++ before.front) start before.taken (placed-left before place c.args.at c.utf8.text c.loop-rest.invariant.utf8 here))
 
 pub returns-clause-takes : goal.returns-clause-takes
 returns-clause-takes g c = λ f place x start counted standing here.
@@ -56,6 +51,4 @@ returns-clause-takes g c = λ f place x start counted standing here.
 pub overflow_add-place : goal.overflow_add-place
 overflow_add-place g c =
     let gone = c.loop-rest.invariant.gone in
-    let first = first-left c.loop-rest.rest.now c.loop-rest.invariant.utf8 (search rules) in
-    let len = front_len c.args.text.now gone.0 c.loop-rest.rest.now c.utf8.text c.loop-rest.invariant.utf8 gone.1 in
-    omega (arith, c.requires.fits gone.0 first.0 first.1 (gone.1 ∙ ap (λ l. gone.0 ++ l) first.2), len)
+    omega (arith, next_place _ _ _ c.requires.fits c.loop-rest.invariant.utf8 (search rules) gone.1, front_len c.args.text.now gone.0 c.loop-rest.rest.now c.utf8.text c.loop-rest.invariant.utf8 gone.1)

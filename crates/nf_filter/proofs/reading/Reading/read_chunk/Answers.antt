@@ -5,48 +5,32 @@ use Rattle.nf_filter.proofs.reading.Reading.read_chunk.Goals as goal
 use Rattle.nf_filter.proofs.reading.Reading.read_chunk.Goals.{then-back-eq0, else-back-eq0}
 
 pub returns-in-Err-clause-reads : goal.returns-in-Err-clause-reads
-returns-in-Err-clause-reads g c = λ f base bytes start both.
-    let read = both.0 in
-    chunk-refused c.replacing.ensures read (c.take-chunk.ensures.takes read.tail read.decoder) c.carried.result (c.carried.ensures.behind read.tail read.decoder) both.1 c.in-Err.ensures.takes
+returns-in-Err-clause-reads g c = λ f base bytes start both. chunk-refused c.replacing.ensures both c.take-chunk.ensures.takes _ c.carried.ensures.behind c.in-Err.ensures.takes
 
-pub returns-in_default-chunk_end : goal.returns-in_default-chunk_end
-returns-in_default-chunk_end g c =
+pub returns-in_default-chunk_end-clause-ready : goal.returns-in_default-chunk_end-clause-ready
+returns-in_default-chunk_end-clause-ready g c =
     let chunk = c.take-chunk.result in
     let after = ready_after (λ at. c.take_both.new.self.chars ≤ at) c.args.self.now.decoder c.args.rest.now chunk.first chunk.text.now chunk.end c.take-chunk.new.self c.args.self.now.offset c.carried.result (c.args.self.now.offset + length c.args.rest.now)
     c.in_default-chunk_end.not-Bad c.take-chunk.ensures.counts c.carried.ensures.count c.requires.ready.held refl c.in_default.ensures.chars in
-    record {
-      ready = record { held = after.0; end = (c.in_default.ensures.within, after.1) };
-      goes_on = (omega arith, λ some. omega (arith, some));
-      faults = tt;
-      reads = λ f base bytes start both.
-          let read = both.0 in
-          chunk-read c.replacing.ensures read (c.take-chunk.ensures.takes read.tail read.decoder) c.carried.result (c.carried.ensures.behind read.tail read.decoder) both.1 c.in_default.ensures.takes
-          _ c.in_default-chunk_end.not-Bad (c.take-chunk.ensures.stands read.tail read.decoder) refl;
-      lender = c.in_default.ensures.lender;
-    }
+    record { held = after.0; end = (c.in_default.ensures.within, after.1) }
+
+pub returns-in_default-chunk_end-clause-reads : goal.returns-in_default-chunk_end-clause-reads
+returns-in_default-chunk_end-clause-reads g c = λ f base bytes start both.
+    chunk-read c.replacing.ensures both c.take-chunk.ensures.takes _ c.carried.ensures.behind c.in_default.ensures.takes _ c.in_default-chunk_end.not-Bad (c.take-chunk.ensures.stands _ both.0.decoder) refl
 
 pub returns-then-not-policy-clause-reads : goal.returns-then-not-policy-clause-reads
 returns-then-not-policy-clause-reads g c = λ f base bytes start both.
-    let read = both.0 in
-    let took = c.take-chunk.ensures.takes read.tail read.decoder in
-    chunk-bad c.replacing.ensures read took c.carried.result (c.carried.ensures.behind read.tail read.decoder) both.1 c.in_default.ensures.takes
-    c.in-Bad.at c.in-Bad.back (rw c.in-Bad.is at took.ends) (not-true c.args.policy.replace c.if-not-policy.true)
+    chunk-bad c.replacing.ensures both c.take-chunk.ensures.takes _ c.carried.ensures.behind c.in_default.ensures.takes _ _ c.in-Bad.is (not-true c.args.policy.replace c.if-not-policy.true)
 
 pub returns-in-Err-take_one-clause-reads : goal.returns-in-Err-take_one-clause-reads
 returns-in-Err-take_one-clause-reads g c = λ f base bytes start both.
-    let read = both.0 in
-    let took = c.take-chunk.ensures.takes read.tail read.decoder in
-    part-refused c.replacing.ensures read took c.carried.result (c.carried.ensures.behind read.tail read.decoder) both.1 c.in_default.ensures.takes
-    c.in-Bad.at c.in-Bad.back (rw c.in-Bad.is at took.ends) c.split.ensures (not-false c.args.policy.replace c.if-not-policy.false) _ refl c.in-Err-take_one.ensures.takes
+    part-refused c.replacing.ensures both c.take-chunk.ensures.takes _ c.carried.ensures.behind c.in_default.ensures.takes _ _ c.in-Bad.is c.split.ensures (not-false c.args.policy.replace c.if-not-policy.false) _ refl c.in-Err-take_one.ensures.takes
 
 pub returns-clause-reads : goal.returns-clause-reads
 returns-clause-reads g c = λ f base bytes start both.
-    let read = both.0 in
-    let took = c.take-chunk.ensures.takes read.tail read.decoder in
     let len = c.if-back-eq0.len in
     let is_len : len ≡ part_len_of c.in-Bad.at c.in-Bad.back = elim c.if-back-eq0.branch [ then-back-eq0 w ↦ grind (arith, nat_tests) | else-back-eq0 w ↦ grind (arith, nat_tests) ] in
     let slice : take (length c.args.rest.now - len) (drop len c.args.rest.now) ≡ drop len c.args.rest.now = take_all (length c.args.rest.now - len) (drop len c.args.rest.now) (omega (arith, length-drop len c.args.rest.now)) in
-    let part = part-read c.replacing.ensures read took c.carried.result (c.carried.ensures.behind read.tail read.decoder) both.1 c.in_default.ensures.takes
-    c.in-Bad.at c.in-Bad.back (rw c.in-Bad.is at took.ends) c.split.ensures (not-false c.args.policy.replace c.if-not-policy.false) len is_len _ c.in_default-take_one.ensures.takes
-    (rw c.in-Bad.is at (c.take-chunk.ensures.stands read.tail read.decoder)) refl _ slice in
+    let part = part-read c.replacing.ensures both c.take-chunk.ensures.takes _ c.carried.ensures.behind c.in_default.ensures.takes _ _ c.in-Bad.is c.split.ensures (not-false c.args.policy.replace c.if-not-policy.false) len is_len _ c.in_default-take_one.ensures.takes
+    (rw c.in-Bad.is at (c.take-chunk.ensures.stands _ both.0.decoder)) refl _ slice in
     c.read_mended.ensures.reads f base bytes start part.0 part.1
