@@ -68,22 +68,24 @@ module _ (laws : ReplacesParts) {policy : Policy} {f : Form} {p : Properties} {b
   )
 
   -- the text where nothing follows
-  module _ (replaces : policy.replace ≡ true) (carried : ℕ) (is_carried : length (encode_utf8_all (text_of read.tail)) + carried ≡ length read.tail) where
-    whole_begun : (r : Bool) → r ≡ true → whole_under r read.tail ≡ text_of read.tail ++ (if carried == 0 then [] else replacement ∷ [])
+  module _ (replaces : policy.replace ≡ true) where
+    whole_begun : (r : Bool) → r ≡ true → whole_under r read.tail ≡ text_of read.tail ++ (if begun_at_end read.tail == 0 then [] else replacement ∷ [])
     unfolding replaced_whole
-    whole_begun true e =
-        ap (λ l. l ++ (if begun_at_end read.tail == 0 then [] else replacement ∷ [])) (text_under-begun laws read.tail read.decoder.begins true)
-        ∙ ap (λ n. text_of read.tail ++ (if n == 0 then [] else replacement ∷ [])) (omega (arith, begun_at_end-begun laws read.tail read.decoder.begins, is_carried))
+    whole_begun true e = rw (text_under-begun laws read.tail read.decoder.begins true)
     whole_begun false e = cc
 
-    whole_is : whole_under policy.replace bytes ≡ text ++ (if carried == 0 then [] else replacement ∷ [])
-    whole_is = left-whole _ _ _ _ _ left ∙ ap (λ l. read.before ++ l) (whole_begun policy.replace replaces) ∙ sym (append_assoc read.before (text_of read.tail) (if carried == 0 then [] else replacement ∷ []))
+    pub whole_is : whole_under policy.replace bytes ≡ text ++ (if begun_at_end read.tail == 0 then [] else replacement ∷ [])
+    whole_is = left-whole _ _ _ _ _ left ∙ ap (λ l. read.before ++ l) (whole_begun policy.replace replaces) ∙ sym (append_assoc read.before (text_of read.tail) _)
 
-    pub whole-none : carried ≡ 0 → whole_under policy.replace bytes ≡ text
-    whole-none none = whole_is ∙ ap (λ (b : Bool). text ++ (if b then [] else replacement ∷ [])) (eq-eqb carried 0 none) ∙ append-nil text
+    module _ (carried : ℕ) (is_carried : length (encode_utf8_all (text_of read.tail)) + carried ≡ length read.tail) where
+      begun_is : begun_at_end read.tail ≡ carried
+      begun_is = omega (arith, begun_at_end-begun laws read.tail read.decoder.begins, is_carried)
 
-    pub whole-some : ¬ (carried ≡ 0) → whole_under policy.replace bytes ≡ text ++ replacement ∷ []
-    whole-some some = whole_is ∙ ap (λ (b : Bool). text ++ (if b then [] else replacement ∷ [])) (ne_eqb carried 0 some)
+      pub whole-none : carried ≡ 0 → whole_under policy.replace bytes ≡ text
+      whole-none none = rw (eq-eqb _ 0 (begun_is ∙ none)) at whole_is ∙ append-nil text
+
+      pub whole-some : ¬ (carried ≡ 0) → whole_under policy.replace bytes ≡ text ++ replacement ∷ []
+      whole-some some = rw (ne_eqb _ 0 (λ e. some (sym begun_is ∙ e))) at whole_is
 
 -- how much is left of a piece, with the bytes that the decoder holds: nothing where all was read
 abbrev pub left_of : ℕ → ℕ → ℕ

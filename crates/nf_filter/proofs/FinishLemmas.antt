@@ -1,11 +1,11 @@
 -- What finishing answers.
-use Rattle.nf_filter.proofs.Common.{◌≡◌, ℕ, ◌+◌, ◌<◌, Bool, true, false, List, [], ◌∷◌, ◌++◌, length, None, Ok, Err, ⊎_elim, refl, sym, ap, ◌∙◌, arith, append-nil, eq-eqb, zero, suc, Result, if◌then◌else◌, encode_utf8_all, length-append, cases_Bool, false_from_ne_true, and_from, Properties, Form, safe_form, Ending, Cut, text_of, ending_of, replacement, ReplacesParts, Fault, Write, Counted, Policy, Reading, Tally, SinkState, Puts, BreaksOff, allowed, whole_under, settled, is_usable, usable, settled_utf8, answer_at_end, first_fault, taken_utf8, HasReadTo, ReplacesCut, HasTaken, settled_text, tally_of, answer_or, end_of, whole_or, is_taken, final_utf8, Closes, Finishes, Extends-encodes, usable-all, usable-stop, nil_from_length}
+use Rattle.nf_filter.proofs.Common.{◌==◌, begun_at_end, ◌≡◌, ℕ, ◌+◌, ◌<◌, Bool, true, false, List, [], ◌∷◌, ◌++◌, length, None, Ok, Err, ⊎_elim, refl, sym, ap, ◌∙◌, arith, append-nil, eq-eqb, Result, if◌then◌else◌, encode_utf8_all, length-append, cases_Bool, false_from_ne_true, and_from, Properties, Form, safe_form, Ending, Cut, text_of, ending_of, replacement, ReplacesParts, Fault, Write, Counted, Policy, Reading, Tally, SinkState, Puts, BreaksOff, allowed, whole_under, settled, is_usable, usable, settled_utf8, answer_at_end, first_fault, taken_utf8, HasReadTo, ReplacesCut, HasTaken, settled_text, tally_of, answer_or, end_of, whole_or, is_taken, final_utf8, Closes, Finishes, Extends-encodes, usable-all, usable-stop, nil_from_length}
 use Rattle.nf_filter.proofs.WritesLemmas.{Puts-none, Puts-join, Puts-at, BreaksOff-join, BreaksOff-extends, BreaksOff-at}
 use Rattle.nf_filter.proofs.FilterLemmas.{err_is, failed_if}
 use Rattle.nf_filter.proofs.PolicyLemmas.{allowed-append, allowed-grows, taken-all, taken_whole, first_fault-none, taken}
 use Rattle.nf_filter.proofs.PieceLemmas.{place_in, left-end}
 use Rattle.nf_filter.proofs.ReadingLemmas.{end_is as end_valued}
-use Rattle.nf_filter.proofs.FedLemmas.{read-text, read-settled, whole-none, whole-some, left_is}
+use Rattle.nf_filter.proofs.FedLemmas.{read-text, read-settled, whole_is as whole_replaced, left_is}
 use Rattle.nf_filter.proofs.WholeLemmas.{settled-whole}
 use Rattle.nf_filter.proofs.AgainLemmas.{answered}
 use Rattle.nf_filter.proofs.DriveLemmas.{refused_by}
@@ -70,23 +70,17 @@ module _ (laws : ReplacesParts) {policy : Policy} {f : Form} {p : Properties} {b
         ))
 
   -- what the end cuts is replaced
-  module _ (replaces : policy.replace ≡ true) (carried : ℕ) (is_carried : length (encode_utf8_all (text_of read.tail)) + carried ≡ length read.tail) where
+  module _ (replaces : policy.replace ≡ true) where
     -- where not all is taken, only what was settled before is
     kept : is_taken policy.assigned p (whole_under policy.replace bytes) ≡ false → taken_utf8 policy.assigned f p (whole_under policy.replace bytes) ≡ settled_utf8 policy f p bytes
-    kept out = next carried is_carried
+    kept out = next (begun_at_end read.tail == 0) (whole_replaced laws read replaces)
       where
         taken : HasTaken f p counted (read.before ++ text_of read.tail)
         taken = read.taken
 
-        next : (n : ℕ) → length (encode_utf8_all (text_of read.tail)) + n ≡ length read.tail → taken_utf8 policy.assigned f p (whole_under policy.replace bytes) ≡ settled_utf8 policy f p bytes
-        next zero is =
-            ap (taken_utf8 policy.assigned f p) (whole-none laws read replaces zero is refl)
-            ∙ ap (settled_text f p) (taken-all p policy.assigned (read.before ++ text_of read.tail) taken.machine.usable read.allowed) ∙ read-settled _ _ _ _ laws _ _ _ read
-        next (suc n) is =
-            let some : whole_under policy.replace bytes ≡ (read.before ++ text_of read.tail) ++ replacement ∷ [] = whole-some laws read replaces (suc n) is (λ e. omega (arith, e)) in
-            ap (taken_utf8 policy.assigned f p) some
-            ∙ ap (settled_text f p) (kept_before p policy.assigned (read.before ++ text_of read.tail) replacement taken.machine.usable read.allowed (ap (is_taken policy.assigned p) (sym some) ∙ out))
-            ∙ read-settled _ _ _ _ laws _ _ _ read
+        next : (b : Bool) → whole_under policy.replace bytes ≡ (read.before ++ text_of read.tail) ++ (if b then [] else replacement ∷ []) → taken_utf8 policy.assigned f p (whole_under policy.replace bytes) ≡ settled_utf8 policy f p bytes
+        next true is = rw (is, append-nil (read.before ++ text_of read.tail), taken-all p policy.assigned (read.before ++ text_of read.tail) taken.machine.usable read.allowed) (read-settled _ _ _ _ laws _ _ _ read)
+        next false is = rw (is, kept_before p policy.assigned (read.before ++ text_of read.tail) replacement taken.machine.usable read.allowed (rw is at out)) (read-settled _ _ _ _ laws _ _ _ read)
 
     final_is : (b : Bool) → is_taken policy.assigned p (whole_under policy.replace bytes) ≡ b → final_utf8 policy f p bytes ≡ (if b then final else settled_utf8 policy f p bytes)
     unfolding final_utf8

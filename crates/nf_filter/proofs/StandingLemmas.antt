@@ -10,52 +10,49 @@ bad_under-none : (replace : Bool) (base : ℕ) → bad_under replace base [] ≡
 bad_under-none false base = ap (bad_byte base) ending_of-none
 bad_under-none true base = refl
 
-module _ (p : Properties) where
-  fault_in-none : (policy : Policy) (base : ℕ) → fault_in policy p base [] ≡ None
-  unfolding fault_in
-  fault_in-none policy base = rw (text_under-none policy.replace) (first_fault-none p policy.assigned _ [] _ (is_usable-none p) (allowed-none p policy.assigned) ∙ bad_under-none policy.replace base)
+fault_in-none : (p : Properties) (policy : Policy) (base : ℕ) → fault_in policy p base [] ≡ None
+unfolding fault_in
+fault_in-none p policy base = rw (text_under-none policy.replace) (first_fault-none p policy.assigned _ [] _ (is_usable-none p) (allowed-none p policy.assigned) ∙ bad_under-none policy.replace base)
 
-  module _ (policy : Policy) (f : Form) (state : State) where
-    -- a new filter
-    pub StandsAfter-none : is_spent state ≡ false → state.policy ≡ policy → offset_of state ≡ base_of state → DecoderStandsAfter state.reading.decoder [] → HasTaken f p state.counted []
-        → StandsAfter policy f p state []
-    StandsAfter-none unspent is offset decoder taken = record {
-      unspent = unspent;
-      policy_is = is;
-      reading = record {
-        before = [];
-        n = 0;
-        tail = [];
-        left = IsLeft-all policy.replace [];
-        decoder = decoder;
-        good = λ n. ap (bad_byte n) ending_of-none;
-        offset = omega (arith, offset);
-        taken = rw text_of-none taken;
-        allowed = rw text_of-none (allowed-none p policy.assigned);
-      };
-      no_fault = fault_in-none policy (base_of state);
-    }
+-- a new filter
+pub StandsAfter-none : {policy : Policy} {f : Form} {p : Properties} (state : State) → is_spent state ≡ false → state.policy ≡ policy → offset_of state ≡ base_of state → DecoderStandsAfter state.reading.decoder []
+    → HasTaken f p state.counted [] → StandsAfter policy f p state []
+StandsAfter-none {policy} {p = p} state unspent is offset decoder taken = record {
+  unspent = unspent;
+  policy_is = is;
+  reading = record {
+    before = [];
+    n = 0;
+    tail = [];
+    left = IsLeft-all policy.replace [];
+    decoder = decoder;
+    good = λ n. ap (bad_byte n) ending_of-none;
+    offset = omega (arith, offset);
+    taken = rw text_of-none taken;
+    allowed = rw text_of-none (allowed-none p policy.assigned);
+  };
+  no_fault = fault_in-none p policy (base_of state);
+}
 
-    -- one that has taken nothing so far, under any policy
-    module _ (before : Policy) (bytes : List ℕ) (stands : StandsAfter before f p state bytes) (fresh : offset_of state ≡ base_of state) where
-      len_is : length bytes ≡ 0
-      len_is = omega (arith, StandsAfter-offset stands, fresh)
+-- one that has taken nothing so far
+module _ {policy : Policy} {f : Form} {p : Properties} {state : State} {bytes : List ℕ} (stands : StandsAfter policy f p state bytes) (fresh : offset_of state ≡ base_of state) where
+  len_is : length bytes ≡ 0
+  len_is = omega (arith, StandsAfter-offset stands, fresh)
 
-      tail_is : stands.reading.tail ≡ []
-      tail_is = nil_from_length stands.reading.tail (omega (arith, len_is, StandsAfter-offset stands, stands.reading.offset))
+  tail_is : stands.reading.tail ≡ []
+  tail_is = nil_from_length stands.reading.tail (omega (arith, len_is, StandsAfter-offset stands, stands.reading.offset))
 
-      text_is : text_under before.replace bytes ≡ []
-      text_is = ap (text_under before.replace) (nil_from_length bytes len_is) ∙ text_under-none before.replace
+  text_is : text_under policy.replace bytes ≡ []
+  text_is = rw (nil_from_length bytes len_is) (text_under-none policy.replace)
 
-      before_is : stands.reading.before ≡ []
-      before_is = nil_from_length stands.reading.before
-          (omega (arith, ap length (sym (left-text _ _ _ _ _ stands.reading.left) ∙ text_is), length-append {A = ℕ}))
+  before_is : stands.reading.before ≡ []
+  before_is = nil_from_length stands.reading.before (omega (arith, ap length (sym (left-text _ _ _ _ _ stands.reading.left) ∙ text_is), length-append {A = ℕ}))
 
-      pub nothing_read : DecoderStandsAfter state.reading.decoder []
-      nothing_read = rw tail_is at stands.reading.decoder
+  pub nothing_read : DecoderStandsAfter state.reading.decoder []
+  nothing_read = rw tail_is at stands.reading.decoder
 
-      pub nothing_taken : HasTaken f p state.counted []
-      nothing_taken = rw (before_is, tail_is, text_of-none) at stands.reading.taken
+  pub nothing_taken : HasTaken f p state.counted []
+  nothing_taken = rw (before_is, tail_is, text_of-none) at stands.reading.taken
 
 -- what was taken is the text of the bytes, and what the decoder holds gave nothing of it
 module _ (laws : ReplacesParts) {policy : Policy} {f : Form} {p : Properties} {state : State} {bytes : List ℕ} (stands : StandsAfter policy f p state bytes) where

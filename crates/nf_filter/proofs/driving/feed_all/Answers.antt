@@ -1,4 +1,4 @@
-use Rattle.nf_filter.proofs.Common.{[], ◌++◌, length, take, inr, ap, ◌∙◌, arith, rules, append-nil, ne_eqb, length-take, Consumes-kept, Consumes-trans, state_of}
+use Rattle.nf_filter.proofs.Common.{[], ◌++◌, take, inr, ap, ◌∙◌, arith, rules, append-nil, ne_eqb, length-take, Consumes-kept, Consumes-trans}
 use Rattle.nf_filter.proofs.FilterLemmas.{err_is}
 use Rattle.nf_filter.proofs.FeedingLemmas.{HasFed-more, FeedsAll-failed, FeedsAll-ended, FeedsAll-refused}
 use Rattle.nf_filter.proofs.driving.feed_all.Goals as goal
@@ -6,15 +6,13 @@ use Rattle.nf_filter.proofs.driving.feed_all.Goals as goal
 pub returns-in-Err-clause-feeds : goal.returns-in-Err-clause-feeds
 returns-in-Err-clause-feeds g c = λ policy f bytes stands.
     let fed = c.loop-given.invariant.fed in
-    FeedsAll-failed policy f _ _ _ bytes fed.0 _ _ (fed.2 policy f bytes stands) (length c.args.buffer.now) (g.I.Source.state c.args.source.now) (g.I.Source.state c.get.new.self)
-    c.in-Err.ensures.failed.1 (Consumes-kept _ _ _ fed.0 fed.1 c.in-Err.ensures.kept)
+    FeedsAll-failed _ _ _ _ _ _ _ _ _ (fed.2 policy f bytes stands) _ _ _ c.in-Err.ensures.failed.1 (Consumes-kept _ _ _ fed.0 fed.1 c.in-Err.ensures.kept)
 
 pub returns-then-given-eq0-clause-feeds : goal.returns-then-given-eq0-clause-feeds
 returns-then-given-eq0-clause-feeds g c = λ policy f bytes stands.
     let fed = c.loop-given.invariant.fed in
     let consumed = rw (append-nil fed.0) at (Consumes-trans _ _ _ fed.0 [] fed.1 (rw c.if-given-eq0.true at c.in-Ok.ensures.given)) in
-    FeedsAll-ended policy f _ _ _ bytes fed.0 _ _ (fed.2 policy f bytes stands) (length c.args.buffer.now) (g.I.Source.state c.args.source.now) (g.I.Source.state c.get.new.self)
-    consumed (c.in-Ok.ensures.read_out c.if-given-eq0.true)
+    FeedsAll-ended _ _ _ _ _ _ _ _ _ (fed.2 policy f bytes stands) _ _ _ consumed (c.in-Ok.ensures.read_out c.if-given-eq0.true)
 
 pub returns-in-Err-feed-clause-feeds : goal.returns-in-Err-feed-clause-feeds
 returns-in-Err-feed-clause-feeds g c = λ policy f bytes stands.
@@ -22,8 +20,7 @@ returns-in-Err-feed-clause-feeds g c = λ policy f bytes stands.
     let so_far = fed.2 policy f bytes stands in
     let piece = take c.in-Ok.given c.get.new.buf in
     let feeds = rw c.loop-given.invariant.base at ((rw (ap g.R.Rows.properties c.loop-given.invariant.rows) at (c.in-Err-feed.ensures.feeds policy f (bytes ++ fed.0))) so_far.stands) in
-    FeedsAll-refused policy f _ _ _ bytes fed.0 _ _ so_far (length c.args.buffer.now) (g.I.Source.state c.args.source.now) (g.I.Source.state c.get.new.self) _ piece _ c.in-Err-feed.fault
-    (c.in-Ok.ensures.end ∙ ne_eqb c.in-Ok.given 0 c.if-given-eq0.false) (Consumes-trans _ _ _ fed.0 piece fed.1 c.in-Ok.ensures.given)
+    FeedsAll-refused _ _ _ _ _ _ _ _ _ so_far _ _ _ _ _ _ _ (c.in-Ok.ensures.end ∙ ne_eqb c.in-Ok.given 0 c.if-given-eq0.false) (Consumes-trans _ _ _ fed.0 piece fed.1 c.in-Ok.ensures.given)
     (omega (arith, length-take c.in-Ok.given c.get.new.buf, c.get.auto.buf, c.loop-given.invariant.room)) (λ e. rw (err_is e) at c.in-Err-feed.ensures.faults) c.in-Err-feed.ensures.too_long
     (λ e. ap g.S.Sink.state (c.in-Err-feed.ensures.kept (inr e)).1) feeds
 
@@ -44,7 +41,7 @@ loop-given-preserved g c =
         λ policy f bytes stands.
             let so_far = fed.2 policy f bytes stands in
             let feeds = rw c.loop-given.invariant.base at ((rw rows at (c.in_default.ensures.feeds policy f (bytes ++ fed.0))) so_far.stands (λ e. cc)) in
-            HasFed-more policy f _ _ _ bytes fed.0 _ _ so_far (state_of c.feed.new.self) piece _ base ((rw rows at (c.in_default.ensures.stands policy f (bytes ++ fed.0))) so_far.stands) feeds,
+            HasFed-more _ _ _ _ _ _ _ _ _ so_far _ _ _ base ((rw rows at (c.in_default.ensures.stands policy f (bytes ++ fed.0))) so_far.stands) feeds,
       );
       lenders = (c.get.ensures.lender ∙ c.loop-given.invariant.lenders.0, c.feed.ensures.lender ∙ c.loop-given.invariant.lenders.1);
     }

@@ -5,4 +5,4 @@ use Rattle.nf_filter.proofs.driving.run.Goals as goal
 pub returns-clause-again : goal.returns-clause-again
 returns-clause-again g c = λ once.
     let again = rw (ap g.R.Rows.properties c.new.ensures.rows) at (c.drive.ensures.again as_is c.args.form []) in
-    adds_what_stays c.args.form (g.R.Rows.properties c.args.rows.now) _ _ as_is _ _ c.drive.result (again c.new.ensures.stands once)
+    adds_what_stays _ _ _ _ as_is _ _ _ (again c.new.ensures.stands once)

@@ -6,7 +6,7 @@ pub returns-then-is_empty-clause-allowed : goal.returns-then-is_empty-clause-all
 returns-then-is_empty-clause-allowed g c =
     let split = c.split_allowed.ensures in
     let front = c.split_allowed.result.0.now in
-    rw (sym c.mended_text.ensures) (sym split.front ∙ front-whole c.mended_text.result.now (chars front) c.split_allowed.result.1.now split.whole (search rules))
+    rw (sym c.mended_text.ensures) (sym split.front ∙ front-whole _ _ _ split.whole (search rules))
 
 pub loop-front-smaller : goal.loop-front-smaller
 loop-front-smaller g c =

@@ -3,7 +3,7 @@ use Rattle.nf_filter.proofs.PassedLemmas.{none_behind, piece_behind, char_behind
 use Rattle.nf_filter.proofs.taking.assigned_len.Goals as goal
 
 pub loop-rest-init : goal.loop-rest-init
-loop-rest-init g c = record { utf8 = c.utf8.text; behind = none_behind (g.R.Rows.properties c.args.rows.now) c.args.text.now c.utf8.text }
+loop-rest-init g c = record { utf8 = c.utf8.text; behind = none_behind _ _ c.utf8.text }
 
 pub returns-in_default : goal.returns-in_default
 returns-in_default g c =
@@ -21,9 +21,8 @@ loop-rest-preserved g c =
     let e = sym c.chars-chars.ensures.rest ∙ c.in-Some.ensures.steps.0 ∙ ap (λ t. encode_utf8 c.in-Some.c ++ t) (sym c.as_str-rest.ensures) in
     record {
       utf8 = c.as_str-rest.utf8;
-      behind = piece_behind _ _ _ here c.as_str-rest.result.now
-          (char_behind _ c.past_known-more.result.1.now c.as_str-rest.result.now c.in-Some.c here.rest_utf8 c.as_str-rest.utf8 e (sym c.assigned.ensures ∙ c.if-not-assigned.false));
+      behind = piece_behind _ _ _ here _ (char_behind _ _ _ _ here.rest_utf8 c.as_str-rest.utf8 e (sym c.assigned.ensures ∙ c.if-not-assigned.false));
     }
 
 pub returns : goal.returns
-returns g c = ends (g.R.Rows.properties c.args.rows.now) c.args.text.now c.loop-rest.rest.now c.loop-rest.invariant.behind (eqb-true _ 0 (sym c.is_empty.ensures ∙ c.loop-rest-test.false))
+returns g c = ends _ _ _ c.loop-rest.invariant.behind (eqb-true _ 0 (sym c.is_empty.ensures ∙ c.loop-rest-test.false))

@@ -39,15 +39,12 @@ module _ (assigned : Bool) (p : Properties) (text : List ℕ) (utf8 : IsUtf8 tex
 pub split_at-requires : goal.split_at-requires
 split_at-requires g c =
     let p = g.R.Rows.properties c.args.rows.now in
-    let text = c.args.text.now in
-    rw c.allowed_len.ensures (IsCharBoundary-at_seam text (encode_utf8_all (front c.args.assigned p text c.utf8.text)) (encode_utf8_all (rest c.args.assigned p text c.utf8.text)) (in_two c.args.assigned p text c.utf8.text) (behind c.args.assigned p text c.utf8.text))
+    rw c.allowed_len.ensures (IsCharBoundary-at_seam _ _ _ (in_two c.args.assigned p c.args.text.now c.utf8.text) (behind c.args.assigned p c.args.text.now c.utf8.text))
 
 pub returns-clause-front : goal.returns-clause-front
 returns-clause-front g c =
-    a_is c.args.assigned (g.R.Rows.properties c.args.rows.now) c.args.text.now c.utf8.text c.split_at.result.0.now c.split_at.result.1.now (search rules) (search rules)
-    c.allowed_len.result c.allowed_len.ensures c.split_at.ensures.front c.split_at.ensures.back
+    a_is _ _ _ c.utf8.text _ _ (search rules) (search rules) _ c.allowed_len.ensures c.split_at.ensures.front c.split_at.ensures.back
 
 pub returns-clause-whole : goal.returns-clause-whole
 returns-clause-whole g c =
-    whole_is c.args.assigned (g.R.Rows.properties c.args.rows.now) c.args.text.now c.utf8.text c.split_at.result.0.now c.split_at.result.1.now (search rules) (search rules)
-    c.allowed_len.result c.allowed_len.ensures c.split_at.ensures.front c.split_at.ensures.back
+    whole_is c.args.assigned _ _ c.utf8.text _ _ (search rules) (search rules) _ c.allowed_len.ensures c.split_at.ensures.front c.split_at.ensures.back

@@ -28,5 +28,5 @@ returns-in-None-clause-takes g c = λ base x before here.
 pub returns-in-Some-take_text-clause-takes : goal.returns-in-Some-take_text-clause-takes
 returns-in-Some-take_text-clause-takes g c = λ base x before here.
     let utf8 : IsUtf8 c.split_at.result.0.now = search rules in
-    decides-within (text_decision (g.R.Rows.properties c.args.rows.now) base) x (chars c.args.text.now) (chars c.split_at.result.0.now) (chars c.split_at.result.1.now) (in_two _ _ _ _ utf8 c.split_at.ensures.front c.split_at.ensures.back)
+    decides-within (text_decision (g.R.Rows.properties c.args.rows.now) base) x _ _ _ (in_two _ _ _ _ utf8 c.split_at.ensures.front c.split_at.ensures.back)
     (c.in-Some-take_text.ensures.takes base x before here)

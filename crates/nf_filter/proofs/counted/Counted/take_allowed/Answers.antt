@@ -6,13 +6,13 @@ use Rattle.nf_filter.proofs.counted.Counted.take_allowed.Goals as goal
 
 pub returns-in-Err-clause-takes : goal.returns-in-Err-clause-takes
 returns-in-Err-clause-takes g c = λ f place x start taken all here written.
-    let part = allowed-part c.args.assigned c.args.at _ c.split_allowed.ensures.whole c.split_allowed.ensures.front c.in-Err.ensures.takes f place x start taken all here written in
+    let part = allowed-part _ _ _ c.split_allowed.ensures.whole c.split_allowed.ensures.front c.in-Err.ensures.takes f place x start taken all here written in
     TakesAllowed-refused part.0 part.1
 
 pub returns-then-is_empty-clause-takes : goal.returns-then-is_empty-clause-takes
 returns-then-is_empty-clause-takes g c = λ f place x start taken all here written.
-    let same = front-whole c.args.text.now (chars c.split_allowed.result.0.now) c.split_allowed.result.1.now c.split_allowed.ensures.whole (search rules) in
-    let part = allowed-part c.args.assigned c.args.at _ c.split_allowed.ensures.whole c.split_allowed.ensures.front c.in_default.ensures.takes f place x start taken all here written in
+    let same = front-whole _ _ c.split_allowed.result.1.now c.split_allowed.ensures.whole (search rules) in
+    let part = allowed-part _ _ _ c.split_allowed.ensures.whole c.split_allowed.ensures.front c.in_default.ensures.takes f place x start taken all here written in
     TakesAllowed-all (part.0 ∙ ap (λ l. x ++ l) same) (rw same at part.1)
 
 pub returns-clause-takes : goal.returns-clause-takes
@@ -23,7 +23,7 @@ returns-clause-takes g c = λ f place x start taken all here written.
     let some = first-left c.split_allowed.result.1.now (search rules) (search rules) in
     let more : text ≡ chars a ++ some.0 ∷ some.1 = rw some.2 at c.split_allowed.ensures.whole in
     let less : length (x ++ chars a) < length (x ++ text) = omega (arith, length-append x (chars a), length-append x text, ap length more, length-append (chars a) (some.0 ∷ some.1)) in
-    let part = allowed-part c.args.assigned c.args.at _ c.split_allowed.ensures.whole c.split_allowed.ensures.front c.in_default.ensures.takes f place x start taken all here written in
+    let part = allowed-part _ _ _ c.split_allowed.ensures.whole c.split_allowed.ensures.front c.in_default.ensures.takes f place x start taken all here written in
     TakesAllowed-unassigned part.0 less (here (chars a) some.0 some.1 more ∙ ap (λ n. c.args.at + n) (ap length (encodes-chars a utf8) ∙ (let len : length a ≡ _ = search rules in len))) part.1
 
 pub overflow_add-result : goal.overflow_add-result
@@ -34,6 +34,4 @@ overflow_add-result g c =
 
 pub returns-then-is_empty-clause-chars : goal.returns-then-is_empty-clause-chars
 returns-then-is_empty-clause-chars g c =
-    let a = c.split_allowed.result.0.now in
-    let same = front-whole c.args.text.now (chars a) c.split_allowed.result.1.now c.split_allowed.ensures.whole (search rules) in
-    rw same at c.in_default.ensures.chars
+    rw (front-whole _ _ c.split_allowed.result.1.now c.split_allowed.ensures.whole (search rules)) at c.in_default.ensures.chars

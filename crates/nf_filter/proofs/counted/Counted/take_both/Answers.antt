@@ -11,7 +11,7 @@ pub take_allowed-requires-clause-counts : goal.take_allowed-requires-clause-coun
 take_allowed-requires-clause-counts g c = omega (arith, few c.args.text.now c.utf8.text, c.requires.chars, c.requires.fits)
 
 pub take_allowed-requires-clause-fits : goal.take_allowed-requires-clause-fits
-take_allowed-requires-clause-fits g c = HasPlaces-all c.args.at c.args.text.now c.utf8.text (omega (arith, c.requires.fits))
+take_allowed-requires-clause-fits g c = HasPlaces-all _ _ c.utf8.text (omega (arith, c.requires.fits))
 
 pub take_one-requires-clause-counts : goal.take_one-requires-clause-counts
 take_one-requires-clause-counts g c =
@@ -26,18 +26,18 @@ take_allowed-requires-2-clause-counts g c =
 pub take_allowed-requires-2-clause-fits : goal.take_allowed-requires-2-clause-fits
 take_allowed-requires-2-clause-fits g c =
     let fits = rw c.in-Some.is at c.requires.fits in
-    HasPlaces-all (c.args.at + c.len_utf8.result) c.args.text.now c.utf8.text (omega (arith, fits, length-encode c.in-Some.c, c.len_utf8.ensures.value))
+    HasPlaces-all _ _ c.utf8.text (omega (arith, fits, length-encode c.in-Some.c, c.len_utf8.ensures.value))
 
 pub returns-in-Err-clause-takes : goal.returns-in-Err-clause-takes
 returns-in-Err-clause-takes g c = λ f place x start taken all here written.
-    let one = c.in-Err.ensures.takes f place x start taken all (placed-within place c.args.at x (c.in-Some.c ∷ chars c.args.text.now) (c.in-Some.c ∷ []) (chars c.args.text.now) refl (rw c.in-Some.is at here)) written in
+    let one = c.in-Err.ensures.takes f place x start taken all (placed-within place c.args.at x _ (c.in-Some.c ∷ []) (chars c.args.text.now) refl (rw c.in-Some.is at here)) written in
     rw (c.in-Some.is, ← append_assoc x (c.in-Some.c ∷ []) (chars c.args.text.now))
     (TakesAllowed-more (chars c.args.text.now) one)
 
 pub returns-clause-takes : goal.returns-clause-takes
 returns-clause-takes g c = λ f place x start taken all here written.
-    let first = c.in_default-take_one.ensures.takes f place x start taken all (placed-within place c.args.at x (c.in-Some.c ∷ chars c.args.text.now) (c.in-Some.c ∷ []) (chars c.args.text.now) refl (rw c.in-Some.is at here)) written in
-    let behind = placed-behind place c.args.at x (c.in-Some.c ∷ chars c.args.text.now) (c.in-Some.c ∷ []) (chars c.args.text.now) (c.args.at + c.len_utf8.result) refl
+    let first = c.in_default-take_one.ensures.takes f place x start taken all (placed-within place c.args.at x _ (c.in-Some.c ∷ []) (chars c.args.text.now) refl (rw c.in-Some.is at here)) written in
+    let behind = placed-behind place c.args.at x _ (c.in-Some.c ∷ []) (chars c.args.text.now) (c.args.at + c.len_utf8.result) refl
     (omega (arith, length-append (encode_utf8 c.in-Some.c) [], length-encode c.in-Some.c, c.len_utf8.ensures.value)) (rw c.in-Some.is at here) in
     rw (c.in-Some.is, ← append_assoc x (c.in-Some.c ∷ []) (chars c.args.text.now)) (c.take_allowed-2.ensures.takes f place (x ++ c.in-Some.c ∷ []) start first.taken.0 first.taken.1 behind (TakesAllowed-settled first))
 

@@ -21,26 +21,20 @@ returns-in-Err-clause-finishes g c = λ policy f bytes stands.
 
 pub returns-in-Ok-clause-finishes : goal.returns-in-Ok-clause-finishes
 returns-in-Ok-clause-finishes g c = λ policy f bytes stands.
-    let state = c.args.self.state in
-    let closes = c.in_default.ensures.closes f state.base bytes (read_before stands) in
-    rw (← stands.policy_is) (Finishes-whole closes _ (counted policy f _ state bytes stands state.policy.replace c.close.new.counted closes.0) (c.in-Ok.ensures.puts f (whole_under state.policy.replace bytes) closes.0))
+    let closes = c.in_default.ensures.closes f c.args.self.state.base bytes (read_before stands) in
+    rw (← stands.policy_is) (Finishes-whole closes _ (counted policy f _ _ bytes stands c.args.self.state.policy.replace c.close.new.counted closes.0) (c.in-Ok.ensures.puts f _ closes.0))
 
 pub returns-in-Err-end-clause-finishes : goal.returns-in-Err-end-clause-finishes
 returns-in-Err-end-clause-finishes g c = λ policy f bytes stands.
-    let state = c.args.self.state in
-    let closes = c.in_default.ensures.closes f state.base bytes (read_before stands) in
-    rw (← stands.policy_is) (Finishes-broken closes (c.in-Err-end.ensures.puts f (whole_under state.policy.replace bytes) closes.0))
+    let closes = c.in_default.ensures.closes f c.args.self.state.base bytes (read_before stands) in
+    rw (← stands.policy_is) (Finishes-broken closes (c.in-Err-end.ensures.puts f _ closes.0))
 
 pub returns-in-Ok-clause-again : goal.returns-in-Ok-clause-again
 returns-in-Ok-clause-again g c = λ policy f bytes stands once.
-    let p = g.R.Rows.properties c.args.self.rows.now in
-    let state = c.args.self.state in
-    let closes = c.in_default.ensures.closes f state.base bytes (read_before stands) in
-    rw (← stands.policy_is) (c.what_was_finished_stays.ensures state.policy f p state.base bytes (tally_of state.policy.replace p bytes) once closes.2)
+    let closes = c.in_default.ensures.closes f c.args.self.state.base bytes (read_before stands) in
+    rw (← stands.policy_is) (c.what_was_finished_stays.ensures _ f _ _ _ _ once closes.2)
 
 pub returns-in-Ok-clause-joined : goal.returns-in-Ok-clause-joined
 returns-in-Ok-clause-joined g c = λ policy f bytes stands.
-    let p = g.R.Rows.properties c.args.self.rows.now in
-    let state = c.args.self.state in
-    let closes = c.in_default.ensures.closes f state.base bytes (read_before stands) in
-    rw (← stands.policy_is) (joins_pieces p state.base bytes (tally_of state.policy.replace p bytes) state.policy f (no_fault_before stands) closes.2)
+    let closes = c.in_default.ensures.closes f c.args.self.state.base bytes (read_before stands) in
+    rw (← stands.policy_is) (joins_pieces _ _ _ _ _ f (no_fault_before stands) closes.2)

@@ -1,16 +1,11 @@
-use Rattle.nf_filter.proofs.Common.{refl, arith, as_is}
+use Rattle.nf_filter.proofs.Common.{refl, arith}
 use Rattle.nf_filter.proofs.ReadingLemmas.{holds_nothing}
 use Rattle.nf_filter.proofs.StandingLemmas.{StandsAfter-none}
 use Rattle.nf_filter.proofs.filter.Filter.new.Goals as goal
 
-pub invariant_of-result : goal.invariant_of-result
-invariant_of-result g c =
-    let none = holds_nothing c.new.result.decoder c.new.ensures.decoder in
-    record {
-      base_within = omega (arith, c.new.ensures.offset);
-      ready = λ _. record { held = omega (arith, none); end = (c.new-3.ensures.within, omega (arith, c.new-3.ensures.chars)) };
-    }
+pub invariant_of-result-clause-ready : goal.invariant_of-result-clause-ready
+invariant_of-result-clause-ready g c = λ _. record { held = omega (arith, holds_nothing c.new.result.decoder c.new.ensures.decoder); end = (c.new-3.ensures.within, omega (arith, c.new-3.ensures.chars)) }
 
 pub returns-clause-stands : goal.returns-clause-stands
 returns-clause-stands g c =
-    StandsAfter-none _ as_is c.args.form _ refl refl c.new.ensures.offset c.new.ensures.decoder (c.new-3.ensures.taken c.args.form _ (c.new-2.ensures.taken _))
+    StandsAfter-none _ refl refl c.new.ensures.offset c.new.ensures.decoder (c.new-3.ensures.taken c.args.form _ (c.new-2.ensures.taken _))

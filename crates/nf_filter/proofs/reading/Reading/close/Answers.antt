@@ -1,12 +1,10 @@
-use Rattle.nf_filter.proofs.Common.{Err, ◌∙◌, ◌+◌, ◌-◌, length, ap, arith, encode_utf8_all, length-append, text_of, rest_of}
+use Rattle.nf_filter.proofs.Common.{Err, ◌∙◌, ◌+◌, ap}
 use Rattle.nf_filter.proofs.FinishLemmas.{close-strict, close-replaced}
 use Rattle.nf_filter.proofs.reading.Reading.close.Goals as goal
 
 pub returns-then-policy-clause-closes : goal.returns-then-policy-clause-closes
 returns-then-policy-clause-closes g c = λ f base bytes read.
-    close-replaced c.replacing.ensures read c.if-policy.true (length read.tail - length (encode_utf8_all (text_of read.tail)))
-    (omega (arith, ap length (c.split.ensures.split read.tail), length-append (encode_utf8_all (text_of read.tail)) (rest_of read.tail)))
-    c.replace_cut.result (c.replace_cut.ensures.cut f base bytes read c.if-policy.true)
+    close-replaced c.replacing.ensures read c.if-policy.true c.replace_cut.result (c.replace_cut.ensures.cut f base bytes read c.if-policy.true)
 
 pub returns-clause-closes : goal.returns-clause-closes
 returns-clause-closes g c = λ f base bytes read.

@@ -5,7 +5,7 @@ use Rattle.nf_filter.proofs.MendingLemmas.{mended-read, mended-refused}
 use Rattle.nf_filter.proofs.reading.Reading.read_mended.Goals as goal
 
 pub take_text-requires-clause-fits : goal.take_text-requires-clause-fits
-take_text-requires-clause-fits g c = HasPlaces-all 0 c.mended_text.result.now c.mended_text.utf8 (omega (arith, ap length c.mended_text.ensures))
+take_text-requires-clause-fits g c = HasPlaces-all _ _ c.mended_text.utf8 (omega (arith, ap length c.mended_text.ensures))
 
 pub returns-in-Err-clause-reads : goal.returns-in-Err-clause-reads
 returns-in-Err-clause-reads g c = λ f base bytes start both none.

@@ -5,10 +5,10 @@ use Rattle.nf_filter.proofs.reading.Reading.replace_cut.Goals as goal
 
 pub returns-then-carried-eq0-clause-cut : goal.returns-then-carried-eq0-clause-cut
 returns-then-carried-eq0-clause-cut g c = λ f base bytes read replaces.
-    cut-none c.replacing.ensures read replaces c.carried-carried.result (c.carried-carried.ensures.behind read.tail read.decoder) (g.S.Sink.state c.args.sink.now) c.if-carried-eq0.true
+    cut-none c.replacing.ensures read replaces _ (c.carried-carried.ensures.behind read.tail read.decoder) _ c.if-carried-eq0.true
 
 pub returns-clause-cut : goal.returns-clause-cut
 returns-clause-cut g c = λ f base bytes read replaces.
     let written = Written-none (settled_utf8 c.args.policy f (g.R.Rows.properties c.args.rows.now) bytes) c.new-block.ensures.empty in
-    cut-closed c.replacing.ensures read replaces c.carried-carried.result (c.carried-carried.ensures.behind read.tail read.decoder) c.if-carried-eq0.false
-    c.take_one-taken.result _ written c.take_one-taken.ensures.takes (c.close.ensures.gives _)
+    cut-closed c.replacing.ensures read replaces _ (c.carried-carried.ensures.behind read.tail read.decoder) c.if-carried-eq0.false
+    _ _ written c.take_one-taken.ensures.takes (c.close.ensures.gives _)
