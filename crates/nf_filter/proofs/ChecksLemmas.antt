@@ -1,5 +1,5 @@
 -- What a check decides, character by character.
-use Rattle.nf_filter.proofs.Common.{◌≡◌, ℕ, ◌+◌, ◌<◌, Bool, true, false, List, [], ◌∷◌, ◌++◌, length, Some, None, Ok, Err, inl, inr, ◌⊎◌, refl, sym, ap, ◌∙◌, arith, append_assoc, append-nil, if◌then◌else◌, Option, chars, encode_utf8_all, list_all, cond-true, or_left, and_parts, and_from, and_left, and_right, list_all-append, Properties, has_starter, lead, Form, Nfkd, decomposed, stream_safe, is_sound, IsSoundText, text_of, ending_of, Place, is_in_format, place_from, Fault, Row, bad_byte, decided_or, decided_in, sound_front, check_fault, place_or_fault, check_decision, text_decision, no_stop, has_starter-append, lead-append, CountsFromEnd}
+use Rattle.nf_filter.proofs.Common.{⊎_elim, ◌≡◌, ℕ, ◌+◌, ◌<◌, Bool, true, false, List, [], ◌∷◌, ◌++◌, length, Some, None, Ok, Err, refl, sym, ap, ◌∙◌, arith, append_assoc, append-nil, if◌then◌else◌, Option, chars, encode_utf8_all, list_all, cond-true, or_left, and_parts, and_from, and_left, and_right, list_all-append, Properties, has_starter, lead, Form, Nfkd, decomposed, stream_safe, is_sound, IsSoundText, text_of, ending_of, Place, is_in_format, place_from, Fault, Row, bad_byte, decided_or, decided_in, sound_front, check_fault, place_or_fault, check_decision, text_decision, no_stop, has_starter-append, lead-append, CountsFromEnd}
 use Rattle.nf_forms.specs.Parting.{CountsAnew}
 use Rattle.nf_forms.specs.Calm.{IsCalm}
 use Rattle.nf_forms.specs.Laws.Last.{by_last}
@@ -47,11 +47,7 @@ module _ (p : Properties) where
   module _ (f : Form) where
     -- where the end is not empty, it ends in a character that parts a text
     pub ends : (whole s t rest : List ℕ) → IsCalmFront p f whole s t rest → 0 < length t → BeginsAndMarks p f (chars t)
-    ends whole s t rest calm some = next calm.end
-      where
-        next : ((s ≡ []) × (t ≡ [])) ⊎ BeginsAndMarks p f (chars t) → BeginsAndMarks p f (chars t)
-        next (inl none) = absurd (omega (arith, some, ap length none.1))
-        next (inr begins) = begins
+    ends whole s t rest calm some = ⊎_elim (λ none. absurd (omega (arith, some, ap length none.1))) (λ begins. begins) calm.end
 
     lead-anew : (c : ℕ) (cs : List ℕ) → CountsAnew p c → lead p (decomposed Nfkd p (c ∷ cs)) ≡ 0
     lead-anew c cs anew = lead-append p (p.compat c) (decomposed Nfkd p cs) ∙ cond-true _ _ _ anew.some ∙ anew.lead

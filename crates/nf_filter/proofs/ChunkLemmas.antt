@@ -1,9 +1,9 @@
 -- What is left of a piece, up to its first ill-formed byte.
-use Rattle.nf_filter.proofs.Common.{EndsPiece, ◌≡◌, ℕ, ◌+◌, ◌-◌, ◌≤◌, ◌==◌, true, false, List, [], ◌∷◌, ◌++◌, length, drop, Some, Ok, Err, refl, sym, ap, ap₂, ◌∙◌, arith, nat_tests, append_assoc, append-nil, Option, Result, if◌then◌else◌, encode_utf8_all, chars, length-append, drop-drop, drop_at, encodes-append, Properties, Form, End, EndsBad, text_of, text_len, replacement, part_end, ReplacesParts, SplitsBytes, DecoderStandsAfter, first_text, Takes, bytes_behind, Fault, BadByte, Write, Counted, Policy, Reading, Start, BlockState, bad_byte, bad_under, first_fault, fault_in, taken_utf8, TakesAllowed, IsLeft, HasReadTo, ReadsTo, RefusesBytes, IsPlacedAt, settled_text, allowed, text_under, usable}
+use Rattle.nf_filter.proofs.Common.{EndsPiece, ◌≡◌, ℕ, ◌+◌, ◌-◌, ◌≤◌, ◌==◌, true, false, List, [], ◌∷◌, ◌++◌, length, drop, Some, Ok, Err, refl, sym, ap, ◌∙◌, arith, nat_tests, append_assoc, append-nil, Option, Result, if◌then◌else◌, encode_utf8_all, chars, length-append, drop-drop, drop_at, encodes-append, Properties, Form, End, EndsBad, text_of, text_len, replacement, part_end, ReplacesParts, SplitsBytes, DecoderStandsAfter, first_text, Takes, bytes_behind, Fault, BadByte, Write, Counted, Policy, Reading, Start, BlockState, bad_byte, bad_under, first_fault, fault_in, taken_utf8, TakesAllowed, IsLeft, HasReadTo, ReadsTo, RefusesBytes, IsPlacedAt, settled_text, allowed, text_under, usable}
 use Rattle.nf_filter.proofs.BlockLemmas.{Written-at, Broken-extends}
 use Rattle.nf_filter.proofs.PolicyLemmas.{first_fault-none, first_fault-stays, taken_utf8-grows}
 use Rattle.nf_filter.proofs.AllowingLemmas.{TakesBehind, TakesAllowed-settled}
-use Rattle.nf_filter.proofs.ReadingLemmas.{ends_well, all_behind, ending_of-none, text_of-none}
+use Rattle.nf_filter.proofs.ReadingLemmas.{ends_well, ends_badly, all_behind, ending_of-none, text_of-none}
 use Rattle.nf_filter.proofs.PieceLemmas.{place_in, left-text, left-place, left-bad, text_under-first, len_under-first, IsLeft-behind}
 
 -- in a text of one character no other is placed
@@ -127,7 +127,7 @@ module _ (laws : ReplacesParts) {policy : Policy} {f : Form} {p : Properties} {b
       chunk-bad strict =
           let whole : text_under policy.replace bytes ≡ taken_text = simp strict (rw joined_is (simp strict at (left-text _ _ _ _ _ read.left))) in
           RefusesBytes-bad (λ e. cc) (rw (← whole) at taken)
-          (left-bad _ _ _ _ _ read.left base ∙ ap (λ r. bad_under r (base + read.n) all) strict ∙ ap (bad_byte (base + read.n)) ends.0 ∙ ap₂ (λ k m. Some (BadByte k m)) (omega (arith, read.offset)) (omega (arith, read.offset, ends.1)))
+          (left-bad _ _ _ _ _ read.left base ∙ ap (λ r. bad_under r (base + read.n) all) strict ∙ ends_badly read.tail rest (base + read.n) reading.offset at back read.offset ends)
 
       module _ (split : SplitsBytes) (replaces : policy.replace ≡ true) (len : ℕ) (is_len : len ≡ part_len_of at back) where
         abbrev own : List ℕ

@@ -92,14 +92,7 @@ abbrev pub left_of : ℕ → ℕ → ℕ
 left_of rest held = cond (rest == 0) 0 (suc (rest + held))
 
 pub left_of-less : (rest held left next : ℕ) → 0 < rest → (0 < left → left + next < rest + held) → left_of left next < left_of rest held
-left_of-less rest held left next some less = by (left == 0) refl
-  where
-    all : left_of rest held ≡ suc (rest + held)
-    all = ap (λ b. cond b 0 (suc (rest + held))) (ne_eqb rest 0 (omega (arith, some)))
-
-    by : (b : Bool) → (left == 0) ≡ b → cond b 0 (suc (left + next)) < left_of rest held
-    by true e = omega (arith, all)
-    by false e = let more : ¬ (left ≡ 0) = grind (arith, nat_tests) in omega (arith, all, less (omega (arith, more)))
+left_of-less rest held left next some less = grind (arith, nat_tests)
 
 -- all of a piece was read, or it was refused
 module _ (laws : ReplacesParts) (policy : Policy) (f : Form) (p : Properties) (base : ℕ) (counted : Counted) (now : BlockState) (reading : Reading) where

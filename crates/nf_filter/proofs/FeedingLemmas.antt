@@ -1,5 +1,5 @@
 -- What feeding all that a source gives comes to, by where it stopped.
-use Rattle.nf_filter.proofs.Common.{◌≡◌, ℕ, ◌+◌, ◌<◌, ◌≤◌, ◌^◌, ◌↔◌, false, List, [], ◌++◌, length, None, Ok, Err, ⊎_elim, refl, sym, ◌∙◌, subst, arith, append_assoc, append-nil, IsTrue, IsFalse, Result, length-append, OnOk, Consumes, IsAtEnd, cases_lt, Properties, Form, Fault, Policy, TooLong, Read, Write, State, SinkState, SourceState, Puts, settled_utf8, fault_in, base_of, offset_of, is_spent, StandsAfter, Feeds, FeedsAll, result_err}
+use Rattle.nf_filter.proofs.Common.{◌≡◌, ℕ, ◌+◌, ◌<◌, ◌≤◌, ◌^◌, ◌↔◌, false, List, [], ◌++◌, length, None, Ok, Err, ⊎_elim, refl, sym, ◌∙◌, arith, append_assoc, append-nil, IsTrue, IsFalse, Result, length-append, OnOk, Consumes, IsAtEnd, cases_lt, Properties, Form, Fault, Policy, TooLong, Read, Write, State, SinkState, SourceState, Puts, settled_utf8, fault_in, base_of, offset_of, is_spent, StandsAfter, Feeds, FeedsAll, result_err}
 use Rattle.nf_filter.proofs.WritesLemmas.{Puts-none, Puts-join, BreaksOff-join}
 use Rattle.nf_filter.proofs.FilterLemmas.{StandsAfter-offset, StandsAfter-fits, never}
 
@@ -46,7 +46,7 @@ module _ (policy : Policy) (f : Form) (p : Properties) (base : ℕ) (state : Sta
     fed_no_more r short whole told consumed read_out stands = record {
       fed = fed;
       last = [];
-      given = subst (Consumes source.coming left.coming) (sym (append-nil fed)) consumed;
+      given = rw (append-nil fed) consumed;
       few = omega arith;
       read_out = read_out;
       too_long = (λ e. absurd (short e), λ over. absurd (omega (arith, over, fits)));
@@ -86,7 +86,7 @@ module _ (policy : Policy) (f : Form) (p : Properties) (base : ℕ) (state : Sta
             too_long = too_long_is;
             all_fed = λ short. absurd (short is);
             broken_off = λ e. let both : fed_by TooLong ≡ Err Write = sym is ∙ e in cc;
-            written = λ _. subst (λ s. Puts old s (settled_utf8 policy f p bytes) (settled_utf8 policy f p (bytes ++ fed))) (sym (kept is)) so_far.put;
+            written = λ _. rw (kept is) so_far.put;
             no_fault = λ _. so_far.no_fault;
             answer = λ _ _ short. absurd (short is);
             stands = tt;
@@ -99,7 +99,7 @@ module _ (policy : Policy) (f : Form) (p : Properties) (base : ℕ) (state : Sta
           record {
             fed = fed ++ piece;
             last = [];
-            given = subst (Consumes source.coming left.coming) (sym (append-nil (fed ++ piece))) consumed;
+            given = rw (append-nil (fed ++ piece)) consumed;
             few = omega arith;
             read_out = λ end. never end before_end;
             too_long = (λ e. absurd (short e), λ over. absurd (omega (arith, over, less, length-append fed piece)));

@@ -23,7 +23,7 @@ placed_behind x y front c rest is =
 
 module _ (laws : ReplacesParts) {policy : Policy} {f : Form} {p : Properties} {base : ℕ} {bytes : List ℕ} {counted : Counted} {reading : Reading} {rest : List ℕ}
     (replaces : policy.replace ≡ true) (read : HasReadTo policy f p counted base reading bytes rest) (none : read.tail ≡ [])
-    {own : List ℕ} (len : ℕ) (is : IsReplacedFront rest own len) (assigned : allowed policy.assigned p own ≡ own) (sound : AreSound p)
+    {own : List ℕ} {len : ℕ} (is : IsReplacedFront rest own len) (assigned : allowed policy.assigned p own ≡ own) (sound : AreSound p)
     {start : Start} {old : BlockState} (written : Written start old (settled_text f p (read.before ++ text_of read.tail))) where
   abbrev next_text : List ℕ
   next_text = read.before ++ own

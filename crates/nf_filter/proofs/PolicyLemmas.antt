@@ -1,5 +1,5 @@
 -- How far a text is taken under a policy.
-use Rattle.nf_filter.proofs.Common.{◌≡◌, ℕ, ◌==◌, ◌<◌, Bool, true, false, List, [], ◌∷◌, ◌++◌, length, Option, Some, None, ◌⊎◌, inl, inr, ⊎_elim, refl, sym, ap, ◌∙◌, subst, arith, append-nil, append_assoc, eq-eqb, ne_eqb, take_while, if◌then◌else◌, length-append, take, ◌&&◌, list_all, prefix_len, and_parts, cond-true, cond-false, eqb-true, eqb-false, Properties, Form, Fault, Row, Unassigned, first_fault, taken_utf8, allowed, settled, is_usable, usable, Extends, Extends-none, Extends-encodes, settled-extends, is_usable-stays_out, usable-all, usable-grows, usable-stays, is_taken, length-prefix_len, prefix_len-append, take-append-le, take_all, take-append-add}
+use Rattle.nf_filter.proofs.Common.{cases_Bool, ◌≡◌, ℕ, ◌==◌, ◌<◌, Bool, true, false, List, [], ◌∷◌, ◌++◌, length, Option, Some, None, ◌⊎◌, inl, inr, ⊎_elim, refl, sym, ap, ◌∙◌, arith, append-nil, append_assoc, eq-eqb, ne_eqb, take_while, if◌then◌else◌, length-append, ◌&&◌, list_all, prefix_len, and_parts, cond-true, cond-false, eqb-true, eqb-false, Properties, Form, Fault, Row, Unassigned, first_fault, taken_utf8, allowed, is_usable, usable, Extends, Extends-none, Extends-encodes, settled-extends, is_usable-stays_out, usable-all, usable-grows, usable-stays, is_taken, length-prefix_len, prefix_len-append, take-append-le, take_all, take-append-add}
 use Rattle.std.proofs.lemmas.List.Sums.{take_while-cons, prefix_len-le-length}
 pub use Rattle.nf_filter.specs.Laws.Undecided.{take_while-all}
 
@@ -18,12 +18,12 @@ module _ (test : ℕ → Bool) where
   take_while-more : (x y : List ℕ) → take_while test x ≡ x → take_while test (x ++ y) ≡ x ++ take_while test y
   take_while-more x y all =
       let n : prefix_len test x ≡ length x = sym (length-prefix_len test x) ∙ ap length all in
-      ap (λ n. take n (x ++ y)) (prefix_len-append test x y ∙ cond-true _ _ _ (eq-eqb _ _ n)) ∙ take-append-add x y (prefix_len test y)
+      rw (prefix_len-append test x y, eq-eqb (prefix_len test x) (length x) n) (take-append-add x y (prefix_len test y))
 
   take_while-no_more : (x y : List ℕ) → ¬ (prefix_len test x ≡ length x) → (length (take_while test x) < length x) × (take_while test (x ++ y) ≡ take_while test x)
   take_while-no_more x y not = (
     omega (arith, length-prefix_len test x, prefix_len-le-length test x, not),
-    ap (λ n. take n (x ++ y)) (prefix_len-append test x y ∙ cond-false _ _ _ (ne_eqb _ _ not)) ∙ take-append-le (prefix_len test x) x y (prefix_len-le-length test x),
+    rw (prefix_len-append test x y, ne_eqb (prefix_len test x) (length x) not) (take-append-le (prefix_len test x) x y (prefix_len-le-length test x)),
   )
 
 module _ (p : Properties) where
@@ -39,11 +39,7 @@ module _ (p : Properties) where
   -- what was allowed stays, and where not all was, no more is
   pub allowed-grows : (a : Bool) (x y : List ℕ) → (allowed a p x ≡ x) ⊎ ((length (allowed a p x) < length x) × (allowed a p (x ++ y) ≡ allowed a p x))
   allowed-grows false x y = inl refl
-  allowed-grows true x y = next (prefix_len p.assigned x == length x) refl
-    where
-      next : (b : Bool) → (prefix_len p.assigned x == length x) ≡ b → (allowed true p x ≡ x) ⊎ ((length (allowed true p x) < length x) × (allowed true p (x ++ y) ≡ allowed true p x))
-      next true e = inl (take_all (prefix_len p.assigned x) x (omega (arith, eqb-true _ _ e)))
-      next false e = inr (take_while-no_more p.assigned x y (eqb-false _ _ e))
+  allowed-grows true x y = ⊎_elim (λ e. inl (take_all (prefix_len p.assigned x) x (omega (arith, eqb-true _ _ e)))) (λ e. inr (take_while-no_more p.assigned x y (eqb-false _ _ e))) (cases_Bool (prefix_len p.assigned x == length x))
 
   -- the first fault, by what may be taken of a text of n characters
   abbrev fault_by : (List ℕ → ℕ) → List ℕ → ℕ → Option Fault → Option Fault
@@ -71,7 +67,7 @@ module _ (p : Properties) where
   taken_whole a x is =
       let parts = and_parts (is_usable p (allowed a p x)) _ is in
       let all : allowed a p x ≡ x = ⊎_elim (λ all. all) (λ few. absurd (omega (arith, few.0, eqb-true _ _ parts.1))) (allowed-grows a x []) in
-      (ap (is_usable p) (sym all) ∙ parts.0, all)
+      (rw all at parts.0, all)
 
   -- what was not taken stays so, whatever follows
   pub first_fault-stays : (a : Bool) (place : List ℕ → ℕ) (x y : List ℕ) (other : Option Fault) (fault : Fault) → Some fault ≡ first_fault a p place x None
@@ -90,23 +86,22 @@ module _ (p : Properties) where
       all : allowed a p x ≡ x → (b : Bool) → is_usable p x ≡ b → (first_fault a p place (x ++ y) other ≡ Some fault) × (usable p (allowed a p (x ++ y)) ≡ usable p (allowed a p x))
       all same true e = let none : None ≡ Some fault = rw (same, e, eq-eqb (length x) (length x) refl) at told in cc
       all same false e =
-          let longer : allowed a p (x ++ y) ≡ x ++ allowed a p y = allowed-append a x y same in
-          let out : is_usable p (allowed a p (x ++ y)) ≡ false = ap (is_usable p) longer ∙ is_usable-stays_out p x (allowed a p y) e in
-          let stays : usable p (allowed a p (x ++ y)) ≡ usable p x = ap (usable p) longer ∙ usable-stays p x (allowed a p y) e in
-          (rw (first_fault-is a place (x ++ y) other, out, stays) (rw (same, e) at told), stays ∙ ap (usable p) (sym same))
+          let longer = allowed-append a x y same in
+          let stays = usable-stays p x (allowed a p y) e in
+          (rw (first_fault-is a place (x ++ y) other, longer, is_usable-stays_out p x (allowed a p y) e, stays) (rw (same, e) at told), rw (longer, same) stays)
 
   -- what of a text is taken is not lost when more follows
   pub taken-grows : (a : Bool) (x y : List ℕ) → Extends (usable p (allowed a p x)) (usable p (allowed a p (x ++ y)))
   taken-grows a x y = ⊎_elim
-      (λ all. subst (λ l. Extends (usable p (allowed a p x)) (usable p l)) (ap (λ l. l ++ allowed a p y) all ∙ sym (allowed-append a x y all)) (usable-grows p (allowed a p x) (allowed a p y)))
-      (λ less. subst (λ l. Extends (usable p (allowed a p x)) (usable p l)) (sym less.1) (Extends-none (usable p (allowed a p x))))
+      (λ all. rw (allowed-append a x y all, all) (usable-grows p x (allowed a p y)))
+      (λ less. rw less.1 (Extends-none _))
       (allowed-grows a x y)
 
   pub taken_utf8-grows : (a : Bool) (f : Form) (x y : List ℕ) → Extends (taken_utf8 a f p x) (taken_utf8 a f p (x ++ y))
   taken_utf8-grows a f x y =
       let more = taken-grows a x y in
-      Extends-encodes (subst (λ l. Extends (settled f p (usable p (allowed a p x))) (settled f p l)) (sym more.text) (settled-extends p f (usable p (allowed a p x)) more.more))
+      Extends-encodes (rw more.text (settled-extends p f _ more.more))
 
   -- all of it
   pub taken-all : (a : Bool) (x : List ℕ) → is_usable p x ≡ true → allowed a p x ≡ x → usable p (allowed a p x) ≡ x
-  taken-all a x sound all = ap (usable p) all ∙ usable-all p x sound
+  taken-all a x sound all = rw all (usable-all p x sound)

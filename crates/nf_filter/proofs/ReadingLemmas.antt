@@ -32,8 +32,8 @@ HasSurveyed-none offset decoder taken undecided decides worth = record {
 -- an answer at the end, by another that differs in the value alone
 pub end_is : {T : Type 0} (base : ℕ) (value : T) (ending : Ending) (end : Result (Unit {0}) Fault) → end ≡ answer_at_end base (tt {0}) ending
     → result_map_both (λ _. value) (λ fault. fault) end ≡ answer_at_end base value ending
-end_is base value Whole end is = ap (result_map_both (λ _. value) (λ fault. fault)) is
-end_is base value _ end is = ap (result_map_both (λ _. value) (λ fault. fault)) is
+end_is base value Whole end is = rw is
+end_is base value _ end is = rw is
 
 -- a piece without an ill-formed byte is taken whole
 module _ (bytes piece : List ℕ) where
@@ -42,7 +42,7 @@ module _ (bytes piece : List ℕ) where
   ends_well _ base well ends = ap (bad_byte base) ends
 
   pub ends_badly : (base offset at back : ℕ) → offset ≡ base + length bytes → EndsPiece bytes piece (EndsBad at back) → bad_byte base (ending_of (bytes ++ piece)) ≡ Some (BadByte (offset + at) (offset + at - back))
-  ends_badly base offset at back here ends = ap (bad_byte base) ends.0 ∙ ap₂ (λ n m. Some (BadByte n m)) (omega (arith, here)) (omega (arith, here, ends.1))
+  ends_badly base offset at back here ends = rw ends.0 (ap₂ (λ n m. Some (BadByte n m)) (omega (arith, here)) (omega (arith, here, ends.1)))
 
   pub all_behind : (end : End) → ((at back : ℕ) → ¬ (end ≡ EndsBad at back)) → bytes_behind bytes piece end ≡ bytes ++ piece
   all_behind (EndsBad at back) well = absurd (well at back refl)
@@ -66,4 +66,4 @@ pub decided_then : {bytes piece : List ℕ} {first : Option ℕ} {text : List �
     → {T : Type 0} {stands : List ℕ → Type 0} {decides : List ℕ → Option (Result T Fault)} {value : List ℕ → T} {survey : Survey T} {reading : Reading} → HasSurveyed stands decides value survey reading bytes
     → (o : Option (Result T Fault)) → decides ((text_of bytes ++ first_text first) ++ chars text) ≡ o → survey.decision (bytes ++ piece) ≡ decided_or o (bad_byte survey.base (ending_of (bytes ++ piece)))
 decided_then {bytes = bytes} {piece = piece} took {decides = decides} {survey = survey} before o is =
-    before.decides (bytes ++ piece) ∙ ap (λ o. decided_or o (bad_byte survey.base (ending_of (bytes ++ piece)))) (ap decides took.spelled ∙ is)
+    rw (before.decides (bytes ++ piece), took.spelled, is)

@@ -1,5 +1,5 @@
 -- Where each character is sound, none is refused, and where characters that are not assigned are taken, none for that.
-use Rattle.nf_filter.proofs.Common.{◌≡◌, ℕ, ◌+◌, Bool, true, false, List, [], ◌∷◌, ◌++◌, length, ◌==◌, Option, Some, None, Result, Err, refl, sym, ap, ◌∙◌, option_map, if◌then◌else◌, subst, result_err, list_all, Properties, Form, stream_safe, is_sound, Ending, Bad, Cut, text_of, ending_of, Place, place_from, Fault, BadByte, CutShort, Read, Row, TooLong, Unassigned, Write, Policy, Tally, SinkState, SourceState, is_usable, usable, answer_at_end, bad_byte, bad_under, first_fault, fault_in, tally_of, answer_or, end_under, end_of, Finishes, as_is, allowed, len_under, text_under, whole_under, Feeds, Drives, Surveys, sound_front, check_fault, place_or_fault, check_decision, measure_decision, AreSound}
+use Rattle.nf_filter.proofs.Common.{⊎_elim, cases_Bool, ◌≡◌, ℕ, ◌+◌, Bool, true, false, List, [], ◌∷◌, ◌++◌, length, ◌==◌, Option, Some, None, Result, Err, refl, sym, ap, ◌∙◌, option_map, if◌then◌else◌, subst, result_err, list_all, Properties, Form, stream_safe, is_sound, Ending, Bad, Cut, text_of, ending_of, Place, place_from, Fault, BadByte, CutShort, Read, Row, TooLong, Unassigned, Write, Policy, Tally, SinkState, SourceState, is_usable, usable, answer_at_end, bad_byte, bad_under, first_fault, fault_in, tally_of, answer_or, end_under, end_of, Finishes, as_is, allowed, len_under, text_under, whole_under, Feeds, Drives, Surveys, sound_front, check_fault, place_or_fault, check_decision, measure_decision, AreSound}
 use Rattle.nf_filter.specs.Kinds.{row, unassigned, IsAmong}
 use Rattle.nf_filter.proofs.PolicyLemmas.{first_fault-is}
 
@@ -47,11 +47,8 @@ module _ (refusal : Fault) (is : IsAmong (row ∷ unassigned ∷ []) refusal) wh
 
     pub never_driven : {most : ℕ} {f : Form} {bytes : List ℕ} {source left : SourceState} {old new : SinkState} {result : Result Tally Fault} → Drives most policy f p base bytes source left old new result
         → ¬ (result ≡ Err refusal)
-    never_driven {bytes = bytes} {left = left} drives refused = by_end left.is_at_end refl
-      where
-        by_end : (b : Bool) → left.is_at_end ≡ b → ⊥
-        by_end true end = not_in_all (bytes ++ drives.fed) (sym (drives.finished end (λ e. apart Write cc)) ∙ refused)
-        by_end false end = not_in_bytes (bytes ++ drives.fed) (sym (drives.stopped end (λ e. apart Write cc) (λ e. apart Read cc) (λ e. apart TooLong cc)).1 ∙ ap result_err refused)
+    never_driven {left = left} drives refused = ⊎_elim (λ end. not_in_all _ (sym (drives.finished end (λ e. apart Write cc)) ∙ refused))
+        (λ going. not_in_bytes _ (sym (drives.stopped going (λ e. apart Write cc) (λ e. apart Read cc) (λ e. apart TooLong cc)).1 ∙ ap result_err refused)) (cases_Bool left.is_at_end)
 
 unmapped : {T : Type 0} (fault : Fault) (o : Option Fault) → option_map (λ g. let r : Result T Fault = Err g in r) o ≡ Some (Err fault) → o ≡ Some fault
 unmapped fault (Some other) e = cc
@@ -102,11 +99,8 @@ module _ (p : Properties) (sound : AreSound p) (base at : ℕ) where
 -- a survey whose decision is none
 pub not_surveyed : {T : Type 0} (most base at : ℕ) (decision : List ℕ → Option (Result T Fault)) (value : List ℕ → T) (source left : SourceState) (result : Result T Fault)
     → ((bytes : List ℕ) → ¬ (decision bytes ≡ Some (Err (Row at)))) → Surveys most base decision value source left result → ¬ (result ≡ Err (Row at))
-not_surveyed most base at decision value source left result undecided surveys refused = by_end left.is_at_end refl
-  where
-    by_end : (b : Bool) → left.is_at_end ≡ b → ⊥
-    by_end true end = not_at_end (Row at) tt base (value surveys.before) (ending_of surveys.before) (sym (surveys.ended end).1 ∙ refused)
-    by_end false end = undecided (surveys.before ++ surveys.last) (surveys.decided end (λ e. cc) (λ e. cc) ∙ ap Some refused)
+not_surveyed most base at decision value source left result undecided surveys refused = ⊎_elim (λ end. not_at_end (Row at) tt base (value surveys.before) (ending_of surveys.before) (sym (surveys.ended end).1 ∙ refused))
+    (λ going. undecided (surveys.before ++ surveys.last) (surveys.decided going (λ e. cc) (λ e. cc) ∙ ap Some refused)) (cases_Bool left.is_at_end)
 
 -- where characters that are not assigned are taken, no text is refused for that
 pub not_unassigned : (p : Properties) (at : ℕ) (assigned : Bool) → assigned ≡ false → (place : List ℕ → ℕ) (x : List ℕ) (other : Option Fault) → ¬ (other ≡ Some (Unassigned at))

@@ -1,5 +1,5 @@
 -- A step of a normalizer, and what of it went to the sink.
-use Rattle.nf_filter.proofs.Common.{◌≡◌, ℕ, ◌+◌, ◌<◌, List, [], ◌∷◌, ◌++◌, length, Some, Ok, Err, inl, inr, refl, sym, ap, ◌∙◌, subst, arith, append_assoc, encode_utf8_all, IsUtf8, chars, length-append, encodes-chars, Properties, Form, safe_form, Given, Extends, Extends-join, Counted, Row, WriteFault, IsPlacedAt, Start, BlockState, Written, Broken, HasPlaces, ◌^◌, HasTaken, TakesOn, settled_text, usable_utf8, Standing, StandsInFront}
+use Rattle.nf_filter.proofs.Common.{◌≡◌, ℕ, ◌+◌, ◌<◌, List, [], ◌∷◌, ◌++◌, length, Some, Ok, Err, inl, inr, refl, sym, ap, ◌∙◌, arith, append_assoc, encode_utf8_all, IsUtf8, chars, length-append, encodes-chars, Properties, Form, safe_form, Given, Extends, Extends-join, Counted, Row, WriteFault, IsPlacedAt, Start, BlockState, Written, Broken, HasPlaces, ◌^◌, HasTaken, TakesOn, settled_text, usable_utf8, Standing, StandsInFront}
 use Rattle.nf_normalizer.specs.declared.normalizer.Normalizer.{Normalizer}
 use Rattle.nf_normalizer.specs.Front.{Between, Stands, StepsTo}
 use Rattle.nf_normalizer.specs.Step.{RefusesRest}
@@ -36,8 +36,7 @@ module _ {f : Form} {p : Properties} where
       let usable = usable_both p f x between.usable next [] rest between.boundary one (usable-alone p f first between.boundary.boundary between.boundary.sound) in
       let grows : Extends (encode_utf8_all (safe_form f p x)) (settled_text f p (x ++ first ∷ [])) =
       record { more = settled_text f p (first ∷ []); text = sym (settled_text-behind p f x between.usable next [] rest between.boundary one) } in
-      subst (λ y. Extends (encode_utf8_all (safe_form f p x)) (usable_utf8 f p y)) (append_assoc x (first ∷ []) rest ∙ ap (λ l. x ++ l) (sym one))
-      (Extends-join grows (usable_utf8-extends p f (x ++ first ∷ []) rest usable))
+      rw (one, ← append_assoc x (first ∷ []) rest) (Extends-join grows (usable_utf8-extends p f (x ++ first ∷ []) rest usable))
 
 module _ {f : Form} {p : Properties} {start : Start} where
   -- the sink failed in it
@@ -123,15 +122,15 @@ module _ {f : Form} {p : Properties} {start : Start} where
   TakesOn-whole {counted} {new} {now} {place} {x} {text} {rest} none same put counts here = next here.taken.stands
     where
       whole : x ++ here.front ≡ x ++ chars text
-      whole = ap (λ l. x ++ l) (front-whole text here.front rest here.is_front none)
+      whole = rw (front-whole text here.front rest here.is_front none)
 
       next : Stands f p counted.normalizer (given_to start here.taken.given) now.kept (x ++ here.front) (chars rest) → TakesOn f p new start now place (x ++ chars text) (Ok tt)
       next (inl inside) = rw (← whole)
           (TakesOn-all p f new start now place (x ++ here.front)
           (record {
             machine = rw same inside.taken;
-            chars = counts ∙ sym (length-append x (chars text)) ∙ sym (ap length whole);
-            put = here.taken.put ∙ ap (λ n. length (x ++ here.front) + n) (sym put);
+            chars = omega (arith, counts, length-append x (chars text), ap length whole);
+            put = rw put here.taken.put;
           })
           (record { given = here.taken.given; puts = here.taken.puts; text = inside.holds.text }))
       next (inr between) = let begins : [] ≡ between.boundary.first ∷ between.boundary.rest = sym (nothing-left rest none) ∙ between.boundary.text in cc

@@ -1,5 +1,5 @@
 -- What feeding all bytes at once, and finishing, come to.
-use Rattle.nf_filter.proofs.Common.{◌≡◌, ℕ, ◌+◌, Bool, true, false, List, [], length, Option, Some, None, Result, Ok, Err, refl, sym, ap, ◌∙◌, subst, ⊎_elim, IfErr, if◌then◌else◌, encode_utf8_all, Properties, Form, back, safe_form, front-append-back, Ending, Whole, Bad, CutEnd, text_of, ending_of, Fault, Write, Row, Tally, SinkState, Puts, BreaksOff, as_is, len_under, settled, is_usable, usable, settled_utf8, answer_at_end, bad_byte, fault_in, tally_of, end_of, whole_or, final_utf8, Finishes, Feeds, IsFormOf, IsOfWhole, fault_or, whole_answer, whole_utf8, Converts, settled_utf8-none, AreSound, RefusesNone, Extends, Extends-none, Extends-encodes, usable-all, and_parts}
+use Rattle.nf_filter.proofs.Common.{◌≡◌, ℕ, ◌+◌, Bool, true, false, List, [], length, Option, Some, None, Result, Ok, Err, refl, sym, ap, ◌∙◌, ⊎_elim, IfErr, if◌then◌else◌, encode_utf8_all, Properties, Form, back, safe_form, front-append-back, Ending, Whole, Bad, CutEnd, text_of, ending_of, Fault, Write, Row, Tally, SinkState, Puts, BreaksOff, as_is, len_under, settled, is_usable, usable, settled_utf8, answer_at_end, bad_byte, fault_in, tally_of, end_of, whole_or, final_utf8, Finishes, Feeds, IsFormOf, IsOfWhole, fault_or, whole_answer, whole_utf8, Converts, settled_utf8-none, AreSound, RefusesNone, Extends, Extends-none, Extends-encodes, usable-all, and_parts}
 use Rattle.nf_utf8.specs.Reads.{Reads}
 use Rattle.nf_filter.proofs.WritesLemmas.{Puts-join, Puts-at, BreaksOff-join, BreaksOff-extends, BreaksOff-at}
 use Rattle.nf_filter.proofs.FilterLemmas.{err_is, failed_if, write_or_not}
@@ -109,7 +109,7 @@ module _ (f : Form) (p : Properties) where
     module _ (old new : SinkState) where
       pub Converts-faults : (r : Result Tally Fault) → Converts f p bytes old new r → IfErr r IsOfWhole
       Converts-faults (Ok tally) converts = tt
-      Converts-faults (Err fault) converts = ⊎_elim (λ is. subst IsOfWhole (sym is) tt) other (write_or_not fault)
+      Converts-faults (Err fault) converts = ⊎_elim (λ is. rw is tt) other (write_or_not fault)
         where
           other : ¬ (fault ≡ Write) → IsOfWhole fault
           other not = rw (← converts.answer (λ e. not (err_is e))) at (whole_answer-faults p bytes)

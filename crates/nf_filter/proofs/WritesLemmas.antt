@@ -9,7 +9,7 @@ pub Puts-more : {old mid new : SinkState} {before after : List ℕ} (ys : List �
     → new.is_failed ≡ mid.is_failed → (mid.is_failed ≡ true → ys ≡ []) → Puts old new before (after ++ ys)
 Puts-more {old} {mid} {new} {before} {after} ys first given stands idle = record {
   out = first.out ++ ys;
-  behind = ap (λ l. l ++ ys) first.behind ∙ append_assoc before first.out ys;
+  behind = simp (first.behind, append_assoc);
   given = Appends-trans old.taken mid.taken new.taken first.out ys first.given given;
   stands = stands ∙ first.stands;
   idle = λ failed. ap (λ l. l ++ ys) (first.idle failed) ∙ idle (first.stands ∙ failed);
@@ -20,30 +20,25 @@ pub BreaksOff-more : {old mid new : SinkState} {before after : List ℕ} (ys res
 BreaksOff-more {old} {mid} {new} {before} {after} ys rest first given failed more = record {
   out = first.out ++ ys;
   rest = rest;
-  behind = ap (λ l. (l ++ ys) ++ rest) first.behind ∙ ap (λ l. l ++ rest) (append_assoc before first.out ys);
+  behind = simp (first.behind, append_assoc);
   more = more;
   given = Appends-trans old.taken mid.taken new.taken first.out ys first.given given;
   failed = failed;
 }
 
 pub Puts-join : {old mid new : SinkState} {a b c : List ℕ} → Puts old mid a b → Puts mid new b c → Puts old new a c
-Puts-join {old} {mid} {new} {a} {b} {c} first second =
-    subst (λ l. Puts old new a l) (sym second.behind) (Puts-more second.out first second.given second.stands second.idle)
+Puts-join first second = rw second.behind (Puts-more second.out first second.given second.stands second.idle)
 
 pub BreaksOff-join : {old mid new : SinkState} {a b c : List ℕ} → Puts old mid a b → BreaksOff mid new b c → BreaksOff old new a c
-BreaksOff-join {old} {mid} {new} {a} {b} {c} first second =
-    subst (λ l. BreaksOff old new a l) (sym second.behind) (BreaksOff-more second.out second.rest first second.given second.failed second.more)
+BreaksOff-join first second = rw second.behind (BreaksOff-more second.out second.rest first second.given second.failed second.more)
 
 -- what was given to a sink behind other bytes
 pub Puts-behind : {old mid new : SinkState} {before after out w : List ℕ} → w ≡ after ++ out → Puts old mid before after → Puts mid new [] out → Puts old new before w
-Puts-behind {old} {mid} {new} {before} {after} is first puts =
-    subst (Puts old new before) (ap (λ l. after ++ l) (sym puts.behind) ∙ sym is) (Puts-more puts.out first puts.given puts.stands puts.idle)
+Puts-behind is first puts = rw (is, puts.behind) (Puts-more puts.out first puts.given puts.stands puts.idle)
 
 pub BreaksOff-behind : {old mid new : SinkState} {before after out w : List ℕ} → w ≡ after ++ out → Puts old mid before after → BreaksOff mid new [] out
     → BreaksOff old new before w
-BreaksOff-behind {old} {mid} {new} {before} {after} is first stops =
-    subst (BreaksOff old new before) (append_assoc after stops.out stops.rest ∙ ap (λ l. after ++ l) (sym stops.behind) ∙ sym is)
-    (BreaksOff-more stops.out stops.rest first stops.given stops.failed stops.more)
+BreaksOff-behind {after = after} is first stops = rw (is, stops.behind, ← append_assoc after stops.out stops.rest) (BreaksOff-more stops.out stops.rest first stops.given stops.failed stops.more)
 
 -- more is to come behind
 pub BreaksOff-extends : {old new : SinkState} {a b d : List ℕ} → Extends b d → BreaksOff old new a b → BreaksOff old new a d
