@@ -182,7 +182,3 @@ module _ (f : Form) (p : Properties) (old new : SinkState) where
       next None told =
           put-stays puts.out _ (without f p bytes told ∙ puts.behind) puts.given
           (law as_is f p 0 bytes tally once (answer_without f p bytes told ∙ sym (converts.answer (λ e. cc))))
-
--- what stands where nothing stood before
-pub taken_stays : (f : Form) (p : Properties) (taken now : Option (List ℕ)) (out : List ℕ) → taken ≡ Some [] → now ≡ Some out → AddsWhatStays f p taken now → StaysAsItIs f p out
-taken_stays f p taken now out is_taken is_now adds = let all : out ≡ adds.0 = rw (is_taken, is_now) at adds.1 in rw all adds.2

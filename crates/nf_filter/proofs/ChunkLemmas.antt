@@ -48,8 +48,8 @@ module _ {policy : Policy} {f : Form} {p : Properties} {base : ℕ} {bytes : Lis
         is = λ _. sym (first_fault-none p policy.assigned (place_in policy.replace base bytes) (text_under policy.replace bytes) (bad_under policy.replace base bytes) taken.machine.usable takes.taken.1 ∙ told);
       }
 
-module _ (laws : ReplacesParts) {policy : Policy} {f : Form} {p : Properties} {base : ℕ} {bytes : List ℕ} {counted : Counted} {reading : Reading} {rest : List ℕ} {start : Start} {old : BlockState} (both : ReadsTo policy f p counted start old base reading bytes rest)
-    {first : Option ℕ} {text : List ℕ} {end : End} (takes : (tail : List ℕ) → DecoderStandsAfter reading.decoder tail → Takes tail rest first text end)
+module _ (laws : ReplacesParts) {policy : Policy} {f : Form} {p : Properties} {base : ℕ} {bytes : List ℕ} {counted : Counted} {reading : Reading} {rest : List ℕ} {start : Start} {old : BlockState}
+    (both : ReadsTo policy f p counted start old base reading bytes rest) {first : Option ℕ} {text : List ℕ} {end : End} (takes : (tail : List ℕ) → DecoderStandsAfter reading.decoder tail → Takes tail rest first text end)
     (carried : ℕ) (behind : (tail : List ℕ) → DecoderStandsAfter reading.decoder tail → length (encode_utf8_all (text_of tail)) + carried ≡ length tail) where
   abbrev read : HasReadTo policy f p counted base reading bytes rest
   read = both.0

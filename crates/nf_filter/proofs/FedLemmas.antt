@@ -1,5 +1,5 @@
 -- A piece that was read: what it comes to by the bytes.
-use Rattle.nf_filter.proofs.Common.{◌≡◌, ℕ, suc, ◌+◌, ◌<◌, ◌==◌, Bool, true, false, cond, MatchResult, List, [], ◌∷◌, ◌++◌, length, None, Ok, Err, refl, sym, ap, ◌∙◌, arith, append_assoc, append-nil, eq-eqb, ne_eqb, OnOk, Result, if◌then◌else◌, encode_utf8_all, ⊎_elim, result_err, nat_tests, Properties, Form, text_of, ending_of, replacement, begun_at_end, replaced_whole, ReplacesParts, Fault, Write, Counted, Policy, Reading, Start, BlockState, Written, WritesTo, GivesAll, bad_byte, bad_under, fault_in, taken_utf8, IsLeft, HasReadTo, ReadsTo, RefusesBytes, settled_text, len_under, text_under, whole_under, settled_utf8, SinkState, Feeds}
+use Rattle.nf_filter.proofs.Common.{◌≡◌, ℕ, suc, ◌+◌, ◌==◌, Bool, true, false, cond, MatchResult, List, [], ◌∷◌, ◌++◌, length, None, Ok, Err, refl, sym, ap, ◌∙◌, arith, append_assoc, append-nil, eq-eqb, ne_eqb, OnOk, Result, if◌then◌else◌, encode_utf8_all, ⊎_elim, result_err, Properties, Form, text_of, ending_of, replacement, begun_at_end, replaced_whole, ReplacesParts, Fault, Write, Counted, Policy, Reading, Start, BlockState, Written, WritesTo, GivesAll, bad_byte, bad_under, fault_in, taken_utf8, IsLeft, HasReadTo, ReadsTo, RefusesBytes, settled_text, len_under, text_under, whole_under, settled_utf8, SinkState, Feeds}
 use Rattle.nf_filter.proofs.BlockLemmas.{start_at, Written-at, Broken-at}
 use Rattle.nf_filter.proofs.FilterLemmas.{err_is, failed_if, write_or_kept}
 use Rattle.nf_filter.proofs.PolicyLemmas.{first_fault-none, taken-all}
@@ -90,9 +90,6 @@ module _ (laws : ReplacesParts) {policy : Policy} {f : Form} {p : Properties} {b
 -- how much is left of a piece, with the bytes that the decoder holds: nothing where all was read
 abbrev pub left_of : ℕ → ℕ → ℕ
 left_of rest held = cond (rest == 0) 0 (suc (rest + held))
-
-pub left_of-less : (rest held left next : ℕ) → 0 < rest → (0 < left → left + next < rest + held) → left_of left next < left_of rest held
-left_of-less rest held left next some less = grind (arith, nat_tests)
 
 -- all of a piece was read, or it was refused
 module _ (laws : ReplacesParts) (policy : Policy) (f : Form) (p : Properties) (base : ℕ) (counted : Counted) (now : BlockState) (reading : Reading) where

@@ -1,5 +1,6 @@
 -- A piece more.
-use Rattle.nf_filter.proofs.Common.{ap₂, ◌≡◌, ℕ, ◌+◌, ◌-◌, ◌≤◌, List, [], ◌++◌, length, Some, None, refl, ap, ◌∙◌, arith, eq-eqb, subst, Option, Result, chars, length-drop, result_map_both, utf8_valid_len_le, End, EndsWhole, EndsCut, EndsBad, first_bytes, EndsPiece, bytes_behind, Counts, Takes, first_text, Ending, Whole, text_len, text_of, rest_of, ending_of, DecoderStandsAfter, Fault, BadByte, Reading, bad_byte, answer_at_end, Survey, decided_or, decided_in, HasSurveyed, false, text_under-none}
+use Rattle.nf_filter.proofs.Common.{IsReady, encode_utf8_all, ap₂, ◌≡◌, ℕ, ◌+◌, ◌-◌, ◌≤◌, List, [], ◌++◌, length, Some, None, refl, ap, ◌∙◌, arith, eq-eqb, subst, Option, Result, chars, length-drop, result_map_both, utf8_valid_len_le, End, EndsWhole, EndsCut, EndsBad, first_bytes, EndsPiece, bytes_behind, Counts, Takes, first_text, Ending, Whole, text_len, text_of, rest_of, ending_of, DecoderStandsAfter, Fault, BadByte, Reading, bad_byte, answer_at_end, Survey, decided_or, decided_in, HasSurveyed, false, text_under-none}
+use Rattle.nf_utf8.specs.declared.chunk.Chunk.{Chunk}
 use Rattle.nf_utf8.specs.declared.decoder.Decoder.{Decoder}
 
 -- no bytes spell nothing
@@ -55,11 +56,15 @@ all_counted held piece first text EndsCut left well counts = omega (arith, count
 all_counted held piece first text (EndsBad at back) left well counts = absurd (well at back refl)
 
 -- what was taken then ends before the bytes of a begun character
-pub ready_after : (ends_at : ℕ → Type 0) (held piece : List ℕ) (first : Option ℕ) (text : List ℕ) (end : End) (left : List ℕ) (offset carried last : ℕ)
-    → ((at back : ℕ) → ¬ (end ≡ EndsBad at back)) → Counts held piece first text end left
-    → carried ≡ length held → length held ≤ offset → last ≡ offset + length piece → ends_at (offset - carried + length (first_bytes first) + length text) → (length left ≤ last) × ends_at (last - length left)
-ready_after ends_at held piece first text end left offset carried last well counts is within all ends =
-    let counted = all_counted held piece first text end left well counts in (omega arith, subst ends_at (omega arith) ends)
+pub ready_after : {ends_at : ℕ → Type 0} {next : Reading} (held piece : List ℕ) (chunk : Chunk) (offset carried : ℕ) → ((at back : ℕ) → ¬ (chunk.end ≡ EndsBad at back)) → Counts held piece chunk.first chunk.text.now chunk.end next.decoder
+    → carried ≡ length held → length held ≤ offset → next.offset ≡ offset + length piece → ends_at (offset - carried + length (first_bytes chunk.first) + length chunk.text.now) → IsReady ends_at next
+ready_after {ends_at} {next} held piece chunk offset carried well counts is within all ends =
+    let counted = all_counted held piece chunk.first chunk.text.now chunk.end next.decoder well counts in record { held = omega arith; end = subst ends_at (omega arith) ends }
+
+-- where its text begins
+pub begins_at : {T : Type 0} {stands : List ℕ → Type 0} {decides : List ℕ → Option (Result T Fault)} {value : List ℕ → T} {survey : Survey T} {reading : Reading} {bytes : List ℕ} → HasSurveyed stands decides value survey reading bytes
+    → (carried : ℕ) → length (encode_utf8_all (text_of bytes)) + carried ≡ length bytes → reading.offset - carried ≡ survey.base + length (encode_utf8_all (text_of bytes))
+begins_at before carried behind = omega (arith, before.offset, behind)
 
 -- what all the bytes decide with a piece
 pub decided_then : {bytes piece : List ℕ} {first : Option ℕ} {text : List ℕ} {end : End} → Takes bytes piece first text end

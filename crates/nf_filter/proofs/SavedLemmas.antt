@@ -1,5 +1,5 @@
 -- Each filter that is spent or stands after bytes has a state of which one can be made.
-use Rattle.nf_filter.proofs.Common.{◌≡◌, zero, suc, ℕ, ◌+◌, ◌≤◌, Bool, true, false, not, ◌&&◌, eqb, ltb, inl, inr, List, [], ◌∷◌, ◌++◌, length, map, drop, encode_utf8, Option, Some, None, IfSome, refl, sym, ap, ◌∙◌, arith, length-append, encode_utf8_all, and_parts, and_from, or_parts, eqb-true, eq-eqb, le-leb, nat_tests, length-map, nil_from_length, length-le-encodes, take-length, list_all, is_some, Properties, is_starter, Form, Nfc, Nfd, Nfkd, row_of, decomposed, composes, is_sound, max_run, stream_safe, back-starter, IsSound, IsSound-from_test, Ending, Bad, ReplacesParts, text_of, ending_of, Part, own_parts, part_end, behind_text, parts_within, parts_of, replaced, replaced_len, bytes_in, State, Policy, is_spent, StandsAfter, len_under, text_under, saved_of, are_marks, IsCounted, CountsFit, IsPending, IsRestorable, is_usable, has_starter, trail, trail-marks}
+use Rattle.nf_filter.proofs.Common.{◌≡◌, zero, suc, ℕ, ◌+◌, ◌≤◌, Bool, true, false, not, ◌&&◌, eqb, ltb, inr, List, [], ◌∷◌, ◌++◌, length, map, drop, encode_utf8, Option, Some, None, IfSome, refl, sym, ap, ◌∙◌, arith, length-append, encode_utf8_all, and_parts, and_from, or_parts, eqb-true, eq-eqb, le-leb, nat_tests, length-map, nil_from_length, length-le-encodes, take-length, list_all, is_some, Properties, is_starter, Form, Nfc, Nfd, Nfkd, row_of, decomposed, composes, is_sound, max_run, stream_safe, back-starter, IsSound, IsSound-from_test, Ending, Bad, ReplacesParts, text_of, ending_of, Part, own_parts, part_end, behind_text, parts_within, parts_of, replaced, replaced_len, bytes_in, State, Policy, StandsAfter, len_under, text_under, saved_of, are_marks, IsCounted, CountsFit, IsPending, IsRestorable, is_usable, has_starter, trail, trail-marks}
 use Rattle.std.specs.Option.{option_to_list}
 use Rattle.nf_forms.specs.Order.{by_class}
 use Rattle.nf_forms.specs.Ordering.{is_ordered}
@@ -133,11 +133,7 @@ module _ (laws : ReplacesParts) {policy : Policy} {f : Form} {p : Properties} {s
       marks : are_marks p 1 state.counted.normalizer.pending.marks.items ≡ true
       marks = ap (are_marks p 1) pending.held ∙ marks_of_run p (by_class p pending.run) ordered (has_starter-by_class p pending.run)
 
--- a filter that is spent
-pub IsRestorable-spent : (p : Properties) (state : State) → IsPart state.reading.decoder → state.counted.normalizer.counter ≤ max_run → is_spent state ≡ true → IsRestorable p (saved_of state)
-IsRestorable-spent p state held count spent = record { held = held; count = count; base = state.base_within; fits = inl spent }
-
--- or one that stands after bytes
+-- one that stands after bytes
 pub IsRestorable-stands : (laws : ReplacesParts) {policy : Policy} {f : Form} {p : Properties} {state : State} {bytes : List ℕ} (stands : StandsAfter policy f p state bytes) → IsPart state.reading.decoder → state.counted.normalizer.counter ≤ max_run
     → length (encode_utf8_all (text_of stands.reading.tail)) + length state.reading.decoder ≡ length stands.reading.tail → IsRestorable p (saved_of state)
 IsRestorable-stands laws {state = state} stands held count few =

@@ -1,43 +1,36 @@
 -- A text, front by front.
-use Rattle.nf_filter.proofs.Common.{◌≡◌, ℕ, ◌+◌, ◌<◌, ◌≤◌, ◌^◌, List, [], ◌∷◌, ◌++◌, length, Option, Some, refl, sym, ap, ◌∙◌, arith, append-nil, append_assoc, encode_utf8, encode_utf8_all, IsUtf8, chars, length-append, None, chars-nil, chars-append, encodes-append, encodes-chars, length-le-encodes, chars_past_char, HasPlaces, IsPlacedAt, nil_from_length}
+use Rattle.nf_filter.proofs.Common.{◌≡◌, ℕ, ◌+◌, ◌<◌, ◌≤◌, ◌^◌, List, [], ◌∷◌, ◌++◌, length, Option, Some, refl, sym, ap, arith, append-nil, append_assoc, encode_utf8, encode_utf8_all, IsUtf8, chars, length-append, None, chars-nil, chars-append, encodes-append, encodes-chars, length-le-encodes, chars_past_char, HasPlaces, IsPlacedAt, nil_from_length}
 
 pub front_len : (text front rest : List ℕ) → IsUtf8 text → IsUtf8 rest → chars text ≡ front ++ chars rest → length text ≡ length (encode_utf8_all front) + length rest
 front_len text front rest whole behind is =
-    ap length (sym (encodes-chars text whole) ∙ ap encode_utf8_all is ∙ encodes-append front (chars rest) ∙ ap (λ b. encode_utf8_all front ++ b) (encodes-chars rest behind))
-    ∙ length-append (encode_utf8_all front) rest
+    rw (is, encodes-append front (chars rest), encodes-chars rest behind, length-append (encode_utf8_all front) rest) at (ap length (sym (encodes-chars text whole)))
 
 -- there are no more characters than bytes
 pub few : (bytes : List ℕ) → IsUtf8 bytes → length (chars bytes) ≤ length bytes
 few bytes utf8 = omega (arith, length-le-encodes (chars bytes), ap length (encodes-chars bytes utf8))
 
--- the offset behind what was taken
-pub place_at : (place at base : ℕ) (x xs : List ℕ) → place ≡ at + length (encode_utf8_all xs) → at ≡ base + length (encode_utf8_all x) → place ≡ base + length (encode_utf8_all (x ++ xs))
-place_at place at base x xs here begun = omega (arith, ap length (encodes-append x xs), length-append (encode_utf8_all x) (encode_utf8_all xs))
-
 -- the offset of the first character
 pub placed-first : (place : List ℕ → ℕ) (at : ℕ) (x : List ℕ) (c : ℕ) (rest : List ℕ) → IsPlacedAt place at x (c ∷ rest) → place x ≡ at
-placed-first place at x c rest here = ap place (sym (append-nil x)) ∙ here [] c rest refl ∙ (let n : at + 0 ≡ at = omega arith in n)
+placed-first place at x c rest here = omega (arith, rw (append-nil x) at (here [] c rest refl))
 
 -- and of those behind a front
 pub placed-behind : (place : List ℕ → ℕ) (at : ℕ) (x y front rest : List ℕ) (behind : ℕ) → y ≡ front ++ rest → behind ≡ at + length (encode_utf8_all front) → IsPlacedAt place at x y
     → IsPlacedAt place behind (x ++ front) rest
 placed-behind place at x y front rest behind is offset here more c last text =
-    ap place (append_assoc x front more) ∙ here (front ++ more) c last (is ∙ ap (λ l. front ++ l) text ∙ sym (append_assoc front more (c ∷ last)))
-    ∙ (let n : at + length (encode_utf8_all (front ++ more)) ≡ behind + length (encode_utf8_all more) =
-    omega (arith, offset, ap length (encodes-append front more), length-append (encode_utf8_all front) (encode_utf8_all more)) in n)
+    rw (append_assoc x front more) (omega (arith, here (front ++ more) c last (rw (text, ← append_assoc front more (c ∷ last)) at is), offset, ap length (encodes-append front more), length-append (encode_utf8_all front) (encode_utf8_all more)))
 
 -- in a front
 pub placed-within : (place : List ℕ → ℕ) (at : ℕ) (x y front rest : List ℕ) → y ≡ front ++ rest → IsPlacedAt place at x y → IsPlacedAt place at x front
-placed-within place at x y front rest is here more c last text = here more c (last ++ rest) (is ∙ ap (λ l. l ++ rest) text ∙ append_assoc more (c ∷ last) rest)
+placed-within place at x y front rest is here more c last text = here more c (last ++ rest) (rw (text, append_assoc more (c ∷ last) rest) at is)
 
 -- three parts
 pub chars-three : (text a b rest : List ℕ) → IsUtf8 a → IsUtf8 b → text ≡ a ++ (b ++ rest) → chars text ≡ (chars a ++ chars b) ++ chars rest
 chars-three text a b rest first second is =
-    ap chars is ∙ chars-append a (b ++ rest) first ∙ ap (λ l. chars a ++ l) (chars-append b rest second) ∙ sym (append_assoc (chars a) (chars b) (chars rest))
+    rw (is, chars-append a (b ++ rest) first, chars-append b rest second) (sym (append_assoc (chars a) (chars b) (chars rest)))
 
 -- the bytes of one character
 pub chars_of_one : (bytes : List ℕ) (c : ℕ) → IsUtf8 bytes → bytes ≡ encode_utf8 c → chars bytes ≡ c ∷ []
-chars_of_one bytes c utf8 is = chars_past_char bytes [] c utf8 (is ∙ sym (append-nil (encode_utf8 c))) ∙ ap (λ l. c ∷ l) chars-nil
+chars_of_one bytes c utf8 is = rw chars-nil at (chars_past_char bytes [] c utf8 (rw (append-nil (encode_utf8 c)) is))
 
 -- an option that is no `Some`
 pub is_none : (o : Option ℕ) → ((c : ℕ) → ¬ (o ≡ Some c)) → o ≡ None
@@ -47,20 +40,20 @@ is_none (Some c) none = absurd (none c refl)
 -- in bytes of so many, each offset can be told
 pub HasPlaces-all : (at : ℕ) (text : List ℕ) → IsUtf8 text → at + length text < 2 ^ 64 → HasPlaces at text
 HasPlaces-all at text utf8 fits front c rest is =
-    omega (arith, fits, ap length (sym (encodes-chars text utf8) ∙ ap encode_utf8_all is ∙ encodes-append front (c ∷ rest)), length-append (encode_utf8_all front) (encode_utf8_all (c ∷ rest)))
+    omega (arith, fits, ap length (rw (is, encodes-append front (c ∷ rest)) at (encodes-chars text utf8)), length-append (encode_utf8_all front) (encode_utf8_all (c ∷ rest)))
 
 -- what is left of a text has characters as long as it has bytes
 pub nothing-left : (rest : List ℕ) → length rest ≡ 0 → chars rest ≡ []
-nothing-left rest none = ap chars (nil_from_length rest none) ∙ chars-nil
+nothing-left rest none = rw (nil_from_length rest none) chars-nil
 
 -- a front behind x, and what stands behind that
 pub front-joined : (x text front rest : List ℕ) → text ≡ front ++ rest → (x ++ front) ++ rest ≡ x ++ text
-front-joined x text front rest is = append_assoc x front rest ∙ ap (λ l. x ++ l) (sym is)
+front-joined x text front rest is = rw is (append_assoc x front rest)
 
 -- a longer front, and the one behind which nothing stands
 module _ (text front rest : List ℕ) (is : chars text ≡ front ++ chars rest) where
   pub front-more : (next behind : List ℕ) → chars rest ≡ next ++ chars behind → chars text ≡ (front ++ next) ++ chars behind
-  front-more next behind more = is ∙ ap (λ l. front ++ l) more ∙ sym (append_assoc front next (chars behind))
+  front-more next behind more = rw (more, ← append_assoc front next (chars behind)) at is
 
   pub front-whole : length rest ≡ 0 → front ≡ chars text
-  front-whole none = sym (is ∙ ap (λ l. front ++ l) (nothing-left rest none) ∙ append-nil front)
+  front-whole none = sym (rw (nothing-left rest none, append-nil front) at is)

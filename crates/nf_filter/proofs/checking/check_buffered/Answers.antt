@@ -1,7 +1,7 @@
-use Rattle.nf_filter.proofs.Common.{[], Some, refl, sym, ap, ◌∙◌, arith, check_decision, no_place, HasChecked, checked_undecided}
+use Rattle.nf_filter.proofs.Common.{[], Some, refl, sym, ap, ◌∙◌, arith, check_decision, no_place, checked_undecided}
 use Rattle.nf_filter.proofs.ReadingLemmas.{holds_nothing, HasSurveyed-none}
 use Rattle.nf_filter.proofs.SurveysLemmas.{all_read, place_told}
-use Rattle.nf_filter.proofs.ChecksLemmas.{decides}
+use Rattle.nf_filter.proofs.ChecksLemmas.{decides, new_checked}
 use Rattle.nf_filter.proofs.checking.check_buffered.Goals as goal
 
 pub survey-requires-clause-ready : goal.survey-requires-clause-ready
@@ -13,7 +13,7 @@ pub returns-clause-surveys : goal.returns-clause-surveys
 returns-clause-surveys g c =
     let p = g.R.Rows.properties c.args.rows.now in
     let base = c.args.base in
-    let seen : HasChecked p c.new-2.result base [] = record { stands = c.new-2.ensures.stands p; none = c.new-2.ensures.place; sound = refl } in
+    let seen = new_checked (c.new-2.ensures.stands p) c.new-2.ensures.place in
     c.survey.ensures.surveys (record { base = base; decision = check_decision p base; value = no_place })
     (HasSurveyed-none c.new.ensures.offset c.new.ensures.decoder seen (checked_undecided p c.new-2.result base [] seen) (decides p base) (λ bytes. refl))
 

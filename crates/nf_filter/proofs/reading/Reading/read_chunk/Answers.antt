@@ -1,4 +1,4 @@
-use Rattle.nf_filter.proofs.Common.{◌≡◌, ◌+◌, ◌-◌, ◌≤◌, length, take, drop, refl, arith, nat_tests, length-drop, take_all, not-false, not-true}
+use Rattle.nf_filter.proofs.Common.{◌≡◌, ◌-◌, length, take, drop, refl, arith, nat_tests, length-drop, take_all, not-false, not-true}
 use Rattle.nf_filter.proofs.ReadingLemmas.{ready_after}
 use Rattle.nf_filter.proofs.ChunkLemmas.{chunk-refused, chunk-read, chunk-bad, part_len_of, part-refused, part-read}
 use Rattle.nf_filter.proofs.reading.Reading.read_chunk.Goals as goal
@@ -9,10 +9,8 @@ returns-in-Err-clause-reads g c = λ f base bytes start both. chunk-refused c.re
 
 pub returns-in_default-chunk_end-clause-ready : goal.returns-in_default-chunk_end-clause-ready
 returns-in_default-chunk_end-clause-ready g c =
-    let chunk = c.take-chunk.result in
-    let after = ready_after (λ at. c.take_both.new.self.chars ≤ at) c.args.self.now.decoder c.args.rest.now chunk.first chunk.text.now chunk.end c.take-chunk.new.self c.args.self.now.offset c.carried.result (c.args.self.now.offset + length c.args.rest.now)
-    c.in_default-chunk_end.not-Bad c.take-chunk.ensures.counts c.carried.ensures.count c.requires.ready.held refl c.in_default.ensures.chars in
-    record { held = after.0; end = (c.in_default.ensures.within, after.1) }
+    ready_after c.args.self.now.decoder c.args.rest.now c.take-chunk.result c.args.self.now.offset c.carried.result c.in_default-chunk_end.not-Bad c.take-chunk.ensures.counts c.carried.ensures.count c.requires.ready.held refl
+    (c.in_default.ensures.within, c.in_default.ensures.chars)
 
 pub returns-in_default-chunk_end-clause-reads : goal.returns-in_default-chunk_end-clause-reads
 returns-in_default-chunk_end-clause-reads g c = λ f base bytes start both.
@@ -31,6 +29,6 @@ returns-clause-reads g c = λ f base bytes start both.
     let len = c.if-back-eq0.len in
     let is_len : len ≡ part_len_of c.in-Bad.at c.in-Bad.back = elim c.if-back-eq0.branch [ then-back-eq0 w ↦ grind (arith, nat_tests) | else-back-eq0 w ↦ grind (arith, nat_tests) ] in
     let slice : take (length c.args.rest.now - len) (drop len c.args.rest.now) ≡ drop len c.args.rest.now = take_all (length c.args.rest.now - len) (drop len c.args.rest.now) (omega (arith, length-drop len c.args.rest.now)) in
-    let part = part-read c.replacing.ensures both c.take-chunk.ensures.takes _ c.carried.ensures.behind c.in_default.ensures.takes _ _ c.in-Bad.is c.split.ensures (not-false c.args.policy.replace c.if-not-policy.false) len is_len _ c.in_default-take_one.ensures.takes
-    (rw c.in-Bad.is at (c.take-chunk.ensures.stands _ both.0.decoder)) refl _ slice in
+    let part = part-read c.replacing.ensures both c.take-chunk.ensures.takes _ c.carried.ensures.behind c.in_default.ensures.takes _ _ c.in-Bad.is c.split.ensures (not-false c.args.policy.replace c.if-not-policy.false) len is_len _
+    c.in_default-take_one.ensures.takes (rw c.in-Bad.is at (c.take-chunk.ensures.stands _ both.0.decoder)) refl _ slice in
     c.read_mended.ensures.reads f base bytes start part.0 part.1

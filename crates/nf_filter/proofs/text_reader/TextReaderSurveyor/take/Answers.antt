@@ -1,16 +1,15 @@
-use Rattle.nf_filter.proofs.Common.{◌≡◌, ℕ, ◌+◌, ◌-◌, List, ◌++◌, [], length, rules, IsUtf8, chars, encode_utf8_all, encodes-chars, None, Some, Err, refl, sym, ap, ◌∙◌, arith, append-nil, length-append, option_map, text_of}
-use Rattle.nf_filter.proofs.TakingLemmas.{place_at}
-use Rattle.nf_filter.proofs.ReadingLemmas.{ends_well, ends_badly, all_behind, ready_after, decided_then}
+use Rattle.nf_filter.proofs.Common.{encodes-append, ◌≡◌, ℕ, ◌+◌, List, ◌++◌, [], length, rules, IsUtf8, chars, encode_utf8_all, encodes-chars, None, Some, Err, refl, sym, ap, ◌∙◌, arith, append-nil, length-append, option_map, text_of}
+use Rattle.nf_filter.proofs.ReadingLemmas.{ends_well, ends_badly, all_behind, ready_after, begins_at, decided_then}
 use Rattle.nf_filter.proofs.text_reader.TextReaderSurveyor.take.Goals as goal
 
 -- where the text behind the first character begins
 begins : (at base : ℕ) (x first : List ℕ) → IsUtf8 first → at ≡ base + length (encode_utf8_all x) → at + length first ≡ base + length (encode_utf8_all (x ++ chars first))
-begins at base x first utf8 here = place_at (at + length first) at base x (chars first) (ap (λ l. at + length l) (sym (encodes-chars first utf8))) here
+begins at base x first utf8 here = omega (arith, here, ap length (encodes-append x (chars first)), length-append (encode_utf8_all x) (encode_utf8_all (chars first)), ap length (encodes-chars first utf8))
 
 pub returns-in-Some-take_text-2-clause-decides : goal.returns-in-Some-take_text-2-clause-decides
 returns-in-Some-take_text-2-clause-decides g c = λ survey bytes before short.
     let took = c.take-chunk.ensures.takes bytes before.decoder in
-    let here : c.args.self.now.reading.offset - c.carried.result ≡ survey.base + length (encode_utf8_all (text_of bytes)) = omega (arith, before.offset, c.carried.ensures.behind bytes before.decoder) in
+    let here = begins_at before c.carried.result (c.carried.ensures.behind bytes before.decoder) in
     let taken = c.in_default-take_text.ensures.takes survey.base (text_of bytes) before.taken here in
     let decided = c.in-Some-take_text-2.ensures.takes survey.base _ taken (begins _ survey.base _ _ (search rules) here) in
     (sym (decided_then took before (Some c.in-Some-take_text-2.answer) (rw (sym c.encoded-first.ensures.text) (ap (g.T.Taker.decides _ survey.base) (sym (append-nil _)) ∙ decided []))), λ none. cc)
@@ -18,22 +17,22 @@ returns-in-Some-take_text-2-clause-decides g c = λ survey bytes before short.
 pub returns-in-Bad-clause-decides : goal.returns-in-Bad-clause-decides
 returns-in-Bad-clause-decides g c = λ survey bytes before short.
     let took = c.take-chunk.ensures.takes bytes before.decoder in
-    let here : c.args.self.now.reading.offset - c.carried.result ≡ survey.base + length (encode_utf8_all (text_of bytes)) = omega (arith, before.offset, c.carried.ensures.behind bytes before.decoder) in
+    let here = begins_at before c.carried.result (c.carried.ensures.behind bytes before.decoder) in
     let taken = c.in_default-take_text-2.ensures.takes survey.base _ (c.in_default-take_text.ensures.takes survey.base (text_of bytes) before.taken here) (begins _ survey.base _ _ (search rules) here) in
     let bad = ends_badly _ _ survey.base _ _ c.in-Bad.back before.offset (rw c.in-Bad.is at took.ends) in
     (sym (decided_then took before None (rw (sym c.encoded-first.ensures.text) (g.met.T.Taker.undecided _ _ survey.base _ taken)) ∙ ap (option_map Err) bad), λ none. cc)
 
 pub returns-clause-goes_on : goal.returns-clause-goes_on
-returns-clause-goes_on g c = λ _.
-    let chunk = c.take-chunk.result in
-    let after = ready_after (g.T.Taker.ends_at c.take_text-2.new.taker) c.args.self.now.reading.decoder c.args.piece.now chunk.first chunk.text.now chunk.end c.take-chunk.new.self c.args.self.now.reading.offset c.carried.result c.in-Some.end
-    c.in_default-piece_end.not-Bad c.take-chunk.ensures.counts c.carried.ensures.count c.requires.held (omega (arith, c.in-Some.ensures)) (rw (sym c.encoded-first.ensures.len) (c.in_default-take_text-2.ensures.ready refl)) in
-    (record { held = after.0; end = after.1 }, omega (arith, c.in-Some.ensures))
+returns-clause-goes_on g c = λ _. (
+  ready_after c.args.self.now.reading.decoder c.args.piece.now c.take-chunk.result c.args.self.now.reading.offset c.carried.result c.in_default-piece_end.not-Bad c.take-chunk.ensures.counts c.carried.ensures.count c.requires.held
+  (omega (arith, c.in-Some.ensures)) (rw (sym c.encoded-first.ensures.len) (c.in_default-take_text-2.ensures.ready refl)),
+  omega (arith, c.in-Some.ensures),
+)
 
 pub returns-clause-decides : goal.returns-clause-decides
 returns-clause-decides g c = λ survey bytes before short.
     let took = c.take-chunk.ensures.takes bytes before.decoder in
-    let here : c.args.self.now.reading.offset - c.carried.result ≡ survey.base + length (encode_utf8_all (text_of bytes)) = omega (arith, before.offset, c.carried.ensures.behind bytes before.decoder) in
+    let here = begins_at before c.carried.result (c.carried.ensures.behind bytes before.decoder) in
     let taken = rw c.encoded-first.ensures.text at (c.in_default-take_text-2.ensures.takes survey.base _ (c.in_default-take_text.ensures.takes survey.base (text_of bytes) before.taken here) (begins _ survey.base _ _ (search rules) here)) in
     let undecided = decided_then took before None (g.met.T.Taker.undecided _ _ survey.base _ taken)
     ∙ ap (option_map Err) (ends_well bytes c.args.piece.now _ survey.base c.in_default-piece_end.not-Bad took.ends) in (
