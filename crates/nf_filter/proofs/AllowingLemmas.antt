@@ -1,6 +1,6 @@
 -- A text of which only assigned characters may be taken.
 use Rattle.nf_filter.proofs.Common.{◌≡◌, ℕ, ◌==◌, ◌<◌, Bool, true, false, List, ◌++◌, length, Some, None, Ok, Err, refl, sym, ap, ◌∙◌, arith, ne_eqb, Result, if◌then◌else◌, Properties, Form, Fault, Row, WriteFault, Unassigned, Counted, Start, BlockState, Written, first_fault, taken_utf8, TakesAllowed, HasTaken, IsPlacedAt, TakesOn, settled_text, unusable_at, usable_utf8, allowed, is_usable, usable, Standing}
-use Rattle.nf_filter.proofs.BlockLemmas.{Written-at, Broken-at, Broken-extends}
+use Rattle.nf_filter.proofs.BlockLemmas.{WritesTo-written, Broken-extends}
 use Rattle.nf_filter.proofs.PolicyLemmas.{allowed-append, first_fault-none, first_fault-stays, taken-all, taken_utf8-grows, first_fault-is}
 use Rattle.nf_filter.proofs.TakingLemmas.{placed-within}
 use Rattle.nf_filter.proofs.SteppingLemmas.{Standing-taken}
@@ -46,8 +46,7 @@ module _ {f : Form} {p : Properties} where
     -- all of a text was taken
     pub TakesAllowed-all : {a : Bool} {x : List ℕ} → allowed a p x ≡ x → TakesOn f p counted start now place x (Ok tt) → TakesAllowed a f p counted start now place x (Ok tt)
     TakesAllowed-all {a} {x} all takes = record {
-      broken = λ e. cc;
-      written = λ not. Written-at (written_is p a x x all f) (takes.written not);
+      writes = rw (written_is p a x x all f) at takes.writes;
       fault = λ _. sym (first_fault-none p a place x None takes.taken.machine.usable all);
       taken = (takes.taken, all);
     }
@@ -55,8 +54,7 @@ module _ {f : Form} {p : Properties} where
     -- what may be taken of it was refused
     pub TakesAllowed-refused : {a : Bool} {w z : List ℕ} {fault : Fault} → allowed a p w ≡ z → TakesOn f p counted start now place z (Err fault) → TakesAllowed a f p counted start now place w (Err fault)
     TakesAllowed-refused {a} {w} {z} {fault} front takes = record {
-      broken = λ e. Broken-at start (written_is p a w z front f) (takes.broken e);
-      written = λ not. Written-at (written_is p a w z front f) (takes.written not);
+      writes = rw (written_is p a w z front f) at takes.writes;
       fault = λ not. refused_is p a w z front place fault (takes.fault not);
       taken = tt;
     }
@@ -65,8 +63,7 @@ module _ {f : Form} {p : Properties} where
     pub TakesAllowed-unassigned : {a : Bool} {w z : List ℕ} {at : ℕ} → allowed a p w ≡ z → length z < length w → place z ≡ at → TakesOn f p counted start now place z (Ok tt)
         → TakesAllowed a f p counted start now place w (Err (Unassigned at))
     TakesAllowed-unassigned {a} {w} {z} front less here takes = record {
-      broken = λ e. cc;
-      written = λ _. Written-at (written_is p a w z front f) (takes.written (λ e. cc));
+      writes = WritesTo-written (λ e. cc) (rw (written_is p a w z front f) at (takes.writes.written (λ e. cc)));
       fault = λ _. ap (λ n. Some (Unassigned n)) (sym here)
           ∙ sym (rw (first_fault-is p a place w None, front, takes.taken.machine.usable, ne_eqb (length z) (length w) (λ e. omega (arith, less, e))) refl);
       taken = tt;
@@ -76,8 +73,7 @@ module _ {f : Form} {p : Properties} where
     pub TakesAllowed-more : {a : Bool} {w : List ℕ} {fault : Fault} (y : List ℕ) → TakesAllowed a f p counted start now place w (Err fault)
         → TakesAllowed a f p counted start now place (w ++ y) (Err fault)
     TakesAllowed-more {a} {w} {fault} y takes = record {
-      broken = λ e. Broken-extends start (taken_utf8-grows p a f w y) (takes.broken e);
-      written = λ not. Written-at (sym (ap (settled_text f p) (stays not).1)) (takes.written not);
+      writes = record { broken = λ e. Broken-extends start (taken_utf8-grows p a f w y) (takes.writes.broken e); written = λ not. rw (stays not).1 (takes.writes.written not) };
       fault = λ not. sym (stays not).0;
       taken = tt;
     }
@@ -87,4 +83,4 @@ module _ {f : Form} {p : Properties} where
 
     -- all of a text was taken
     pub TakesAllowed-settled : {a : Bool} {x : List ℕ} → TakesAllowed a f p counted start now place x (Ok tt) → Written start now (settled_text f p x)
-    TakesAllowed-settled {a} {x} takes = let taken = takes.taken.0 in Written-at (ap (settled_text f p) (taken-all p a x taken.machine.usable takes.taken.1)) (takes.written (λ e. cc))
+    TakesAllowed-settled {a} {x} takes = let taken = takes.taken.0 in rw (taken-all p a x taken.machine.usable takes.taken.1) at (takes.writes.written (λ e. cc))

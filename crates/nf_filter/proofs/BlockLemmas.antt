@@ -1,5 +1,5 @@
 -- What is written through a block.
-use Rattle.nf_filter.proofs.Common.{◌≡◌, List, ℕ, [], ◌++◌, sym, ap, ◌∙◌, subst, append-nil, append_assoc, SinkState, BreaksOff, Start, BlockState, Written, Extends}
+use Rattle.nf_filter.proofs.Common.{◌≡◌, List, ℕ, [], ◌++◌, sym, ap, ◌∙◌, append-nil, append_assoc, SinkState, BreaksOff, Start, BlockState, Written, WritesTo, Result, Err, Fault, Write, Extends}
 use Rattle.nf_filter.proofs.WritesLemmas.{Puts-none, BreaksOff-extends}
 
 abbrev pub start_at : SinkState → List ℕ → Start
@@ -9,16 +9,12 @@ start_at sink before = record { sink = sink; before = before; ahead = [] }
 pub Written-none : {sink : SinkState} {kept : List ℕ} (before : List ℕ) → kept ≡ [] → Written (start_at sink before) (record { sink = sink; kept = kept }) before
 Written-none {sink} before none = rw none (record { given = before; puts = Puts-none sink before; text = sym (append-nil before) })
 
--- at the same place
-pub Written-at : {start : Start} {now : BlockState} {a b : List ℕ} → a ≡ b → Written start now a → Written start now b
-Written-at {start} {now} {a} {b} same written = subst (λ w. Written start now w) same written
+-- what was found is no failure of the sink
+pub WritesTo-written : {start : Start} {now : BlockState} {w : List ℕ} {found : Result (Unit {0}) Fault} → ¬ (found ≡ Err Write) → Written start now w → WritesTo start now w found
+WritesTo-written other written = record { broken = λ e. absurd (other e); written = λ _. written }
 
 -- more is to come behind, also where text stands ahead
 pub Broken-extends : (start : Start) {new : SinkState} {a b : List ℕ} → Extends a b → BreaksOff start.sink new start.before (start.ahead ++ a)
     → BreaksOff start.sink new start.before (start.ahead ++ b)
 Broken-extends start {a = a} more broken =
     BreaksOff-extends (record { more = more.more; text = ap (λ l. start.ahead ++ l) more.text ∙ sym (append_assoc start.ahead a more.more) }) broken
-
-pub Broken-at : (start : Start) {new : SinkState} {a b : List ℕ} → a ≡ b → BreaksOff start.sink new start.before (start.ahead ++ a)
-    → BreaksOff start.sink new start.before (start.ahead ++ b)
-Broken-at start {new} same broken = subst (λ w. BreaksOff start.sink new start.before (start.ahead ++ w)) same broken

@@ -1,6 +1,7 @@
 -- What is left of a piece, up to its first ill-formed byte.
-use Rattle.nf_filter.proofs.Common.{EndsPiece, ◌≡◌, ℕ, ◌+◌, ◌-◌, ◌≤◌, ◌==◌, true, false, List, [], ◌∷◌, ◌++◌, length, drop, Some, Ok, Err, refl, sym, ap, ◌∙◌, arith, nat_tests, append_assoc, append-nil, Option, Result, if◌then◌else◌, encode_utf8_all, chars, length-append, drop-drop, drop_at, encodes-append, Properties, Form, End, EndsBad, text_of, text_len, replacement, part_end, ReplacesParts, SplitsBytes, DecoderStandsAfter, first_text, Takes, bytes_behind, Fault, BadByte, Write, Counted, Policy, Reading, Start, BlockState, bad_byte, bad_under, first_fault, fault_in, taken_utf8, TakesAllowed, IsLeft, HasReadTo, ReadsTo, RefusesBytes, IsPlacedAt, settled_text, allowed, text_under, usable}
-use Rattle.nf_filter.proofs.BlockLemmas.{Written-at, Broken-extends}
+use Rattle.nf_filter.proofs.Common.{EndsPiece, ◌≡◌, ℕ, ◌+◌, ◌-◌, ◌≤◌, ◌==◌, true, false, List, [], ◌∷◌, ◌++◌, length, drop, Some, Ok, Err, refl, sym, ap, ◌∙◌, arith, nat_tests, append_assoc, append-nil, Option, Result, if◌then◌else◌, encode_utf8_all, chars, length-append, drop-drop, drop_at, encodes-append, Properties, Form, End, EndsBad, text_of, text_len, replacement, part_end, ReplacesParts, SplitsBytes, DecoderStandsAfter, first_text, Takes, bytes_behind, Fault, BadByte, Write, Counted, Policy, Reading, Start, BlockState, bad_byte, bad_under, first_fault, fault_in, TakesAllowed, IsLeft, HasReadTo, ReadsTo, RefusesBytes, IsPlacedAt, allowed, text_under, usable}
+use Rattle.nf_filter.proofs.BlockLemmas.{WritesTo-written, Broken-extends}
+use Rattle.nf_filter.proofs.FilterLemmas.{err_is}
 use Rattle.nf_filter.proofs.PolicyLemmas.{first_fault-none, first_fault-stays, taken_utf8-grows}
 use Rattle.nf_filter.proofs.AllowingLemmas.{TakesBehind, TakesAllowed-settled}
 use Rattle.nf_filter.proofs.ReadingLemmas.{ends_well, ends_badly, all_behind, ending_of-none, text_of-none}
@@ -28,9 +29,11 @@ module _ {policy : Policy} {f : Form} {p : Properties} {base : ℕ} {bytes : Lis
       → RefusesBytes policy f p start now base bytes fault
   unfolding fault_in
   RefusesBytes-front {v} more text takes = record {
-    broken = λ e. Broken-extends start (rw text (taken_utf8-grows p policy.assigned f v more)) (takes.broken (ap Err e));
-    written = λ not. Written-at (sym (ap (taken_utf8 policy.assigned f p) text ∙ ap (settled_text f p) (stays not).1)) (takes.written (λ e. not (let same : fault ≡ Write = cc in same)));
-    is = λ not. sym (ap (λ x. first_fault policy.assigned p (place_in policy.replace base bytes) x (bad_under policy.replace base bytes)) text ∙ (stays not).0);
+    writes = record {
+      broken = λ e. Broken-extends start (rw text (taken_utf8-grows p policy.assigned f v more)) (takes.writes.broken e);
+      written = λ not. rw (text, (stays (λ e. not (ap Err e))).1) (takes.writes.written not);
+    };
+    is = λ not. rw text (sym (stays not).0);
   }
     where
       stays : ¬ (fault ≡ Write) → (first_fault policy.assigned p (place_in policy.replace base bytes) (v ++ more) (bad_under policy.replace base bytes) ≡ Some fault) × (usable p (allowed policy.assigned p (v ++ more)) ≡ usable p (allowed policy.assigned p v))
@@ -43,8 +46,7 @@ module _ {policy : Policy} {f : Form} {p : Properties} {base : ℕ} {bytes : Lis
   RefusesBytes-bad other takes told =
       let taken = takes.taken.0 in
       record {
-        broken = λ e. absurd (other e);
-        written = λ _. takes.written (λ e. cc);
+        writes = WritesTo-written (λ e. other (err_is e)) (takes.writes.written (λ e. cc));
         is = λ _. sym (first_fault-none p policy.assigned (place_in policy.replace base bytes) (text_under policy.replace bytes) (bad_under policy.replace base bytes) taken.machine.usable takes.taken.1 ∙ told);
       }
 
@@ -115,7 +117,7 @@ module _ (laws : ReplacesParts) {policy : Policy} {f : Form} {p : Properties} {b
         taken = rw joined_is at taken.taken.0;
         allowed = rw joined_is at taken.taken.1;
       },
-      Written-at (ap (settled_text f p) joined_is) (TakesAllowed-settled taken),
+      rw joined_is at (TakesAllowed-settled taken),
     )
 
     module _ (at back : ℕ) (is : end ≡ EndsBad at back) where
@@ -186,7 +188,7 @@ module _ (laws : ReplacesParts) {policy : Policy} {f : Form} {p : Properties} {b
                   taken = rw whole at replaced.taken.0;
                   allowed = rw whole at replaced.taken.1;
                 },
-                Written-at (ap (settled_text f p) whole) (TakesAllowed-settled replaced),
+                rw whole at (TakesAllowed-settled replaced),
               ),
               refl,
             )

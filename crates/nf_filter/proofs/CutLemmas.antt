@@ -1,7 +1,7 @@
 -- A character that the end cuts, taken as U+FFFD.
 use Rattle.nf_filter.proofs.Common.{◌≡◌, ℕ, ◌+◌, ◌-◌, true, List, [], ◌∷◌, ◌++◌, length, None, Ok, refl, sym, ap, ◌∙◌, arith, Result, encode_utf8_all, ⊎_elim, Properties, Form, text_of, replacement, ReplacesParts, Fault, Counted, Policy, Reading, SinkState, Start, BlockState, Written, WritesTo, GivesAll, taken_utf8, HasReadTo, ReplacesCut, settled_text, allowed, whole_under, is_usable, settled_utf8}
 use Rattle.nf_filter.proofs.WritesLemmas.{Puts-none, Puts-at}
-use Rattle.nf_filter.proofs.BlockLemmas.{start_at, Written-at}
+use Rattle.nf_filter.proofs.BlockLemmas.{start_at}
 use Rattle.nf_filter.proofs.FilterLemmas.{write_or_kept}
 use Rattle.nf_filter.proofs.PolicyLemmas.{first_fault-none, taken-all}
 use Rattle.nf_filter.proofs.PieceLemmas.{place_in}
@@ -39,8 +39,8 @@ module _ (laws : ReplacesParts) {policy : Policy} {f : Form} {p : Properties} {b
       let place = place_in policy.replace base bytes in
       let text = read.before ++ text_of read.tail in
       let here = rw (← whole-some laws read replaces carried is_carried some) at
-      (one f place text (start sink) read.taken read.allowed (one_placed place (reading.offset - carried) text replacement (omega (arith, read-place laws read, is_carried, read.offset))) (Written-at (sym (read-settled _ _ _ _ laws _ _ _ read)) written)) in
-      let closed = close (taken_utf8 policy.assigned f p whole) (record { broken = here.broken; written = here.written }) in
+      (one f place text (start sink) read.taken read.allowed (one_placed place (reading.offset - carried) text replacement (omega (arith, read-place laws read, is_carried, read.offset))) (rw (read-settled _ _ _ _ laws _ _ _ read) written)) in
+      let closed = close (taken_utf8 policy.assigned f p whole) here.writes in
       record {
         broken = closed.broken;
         puts = λ not. (closed.given not).0;

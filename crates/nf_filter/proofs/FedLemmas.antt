@@ -1,7 +1,7 @@
 -- A piece that was read: what it comes to by the bytes.
 use Rattle.nf_filter.proofs.Common.{◌≡◌, ℕ, suc, ◌+◌, ◌==◌, Bool, true, false, cond, MatchResult, List, [], ◌∷◌, ◌++◌, length, None, Ok, Err, refl, sym, ap, ◌∙◌, arith, append_assoc, append-nil, eq-eqb, ne_eqb, OnOk, Result, if◌then◌else◌, encode_utf8_all, ⊎_elim, result_err, Properties, Form, text_of, ending_of, replacement, begun_at_end, replaced_whole, ReplacesParts, Fault, Write, Counted, Policy, Reading, Start, BlockState, Written, WritesTo, GivesAll, bad_byte, bad_under, fault_in, taken_utf8, IsLeft, HasReadTo, ReadsTo, RefusesBytes, settled_text, len_under, text_under, whole_under, settled_utf8, SinkState, Feeds}
-use Rattle.nf_filter.proofs.BlockLemmas.{start_at, Written-at, Broken-at}
-use Rattle.nf_filter.proofs.FilterLemmas.{err_is, failed_if, write_or_kept}
+use Rattle.nf_filter.proofs.BlockLemmas.{start_at, WritesTo-written}
+use Rattle.nf_filter.proofs.FilterLemmas.{failed_if, write_or_kept}
 use Rattle.nf_filter.proofs.PolicyLemmas.{first_fault-none, taken-all}
 use Rattle.nf_filter.proofs.PieceLemmas.{place_in, IsLeft-more, left-text, left-place, left-bad, left-whole, text_under-begun, begun_at_end-begun, len_under-first}
 
@@ -56,7 +56,7 @@ module _ (laws : ReplacesParts) {policy : Policy} {f : Form} {p : Properties} {b
       taken = read.taken;
       allowed = read.allowed;
     },
-    Written-at (sym (read-settled _ _ _ _ laws _ _ _ read)) written,
+    rw (read-settled _ _ _ _ laws _ _ _ read) written,
   )
 
   -- where the bytes of a begun character begin
@@ -96,18 +96,11 @@ module _ (laws : ReplacesParts) (policy : Policy) (f : Form) (p : Properties) (b
   rest-is : (start : Start) (bytes : List ℕ) (r : Result (Unit {0}) Fault) → MatchResult r (λ _. ReadsTo policy f p counted start now base reading bytes []) (RefusesBytes policy f p start now base bytes)
       → WritesTo start now (settled_utf8 policy f p bytes) r × (¬ (r ≡ Err Write) → result_err r ≡ fault_in policy p base bytes) × OnOk r (HasReadTo policy f p counted base reading bytes [])
   rest-is start bytes (Ok u) reads = (
-    record { broken = λ e. cc; written = λ _. Written-at (read-settled _ _ _ _ laws _ _ _ reads.0) reads.1 },
+    WritesTo-written (λ e. cc) (rw (read-settled _ _ _ _ laws _ _ _ reads.0) at reads.1),
     λ _. sym (read-no_fault _ _ _ _ laws _ _ _ reads.0),
     reads.0,
   )
-  rest-is start bytes (Err fault) reads = (
-    record {
-      broken = λ e. Broken-at start (settled_utf8-taken policy f p bytes) (reads.broken (err_is e));
-      written = λ not. Written-at (settled_utf8-taken policy f p bytes) (reads.written (λ e. not (ap Err e)));
-    },
-    λ not. reads.is (λ e. not (ap Err e)),
-    tt,
-  )
+  rest-is start bytes (Err fault) reads = (rw (settled_utf8-taken policy f p bytes) at reads.writes, λ not. reads.is (λ e. not (ap Err e)), tt)
 
   -- a piece was fed: the sink failed, or all was given
   pub fed-closed : (sink : SinkState) {new : SinkState} (bytes piece : List ℕ) (r result : Result (Unit {0}) Fault)

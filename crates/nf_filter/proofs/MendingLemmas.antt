@@ -2,7 +2,6 @@
 -- bytes stand, none is refused.
 use Rattle.nf_filter.proofs.Common.{◌≡◌, ℕ, ◌+◌, true, List, [], ◌++◌, length, drop, drop_at, encode_utf8_all, Ok, Err, Some, None, Result, ⊎_elim, refl, sym, ap, ◌∙◌, arith, append-nil, length-drop, Properties, Form, ReplacesParts, text_of, Fault, Write, Counted, Policy, Reading, Start, BlockState, Written, bad_byte, IsLeft, HasReadTo, ReadsTo, RefusesBytes, HasTaken, IsPlacedAt, TakesOn, settled_text, usable_utf8, allowed, text_under, is_usable, AreSound, unusable_at-usable}
 use Rattle.nf_utf8.specs.Mending.{IsReplacedFront}
-use Rattle.nf_filter.proofs.BlockLemmas.{Written-at, Broken-at}
 use Rattle.nf_filter.proofs.FilterLemmas.{err_is, write_or_not}
 use Rattle.nf_filter.proofs.SoundnessLemmas.{usable_is}
 use Rattle.nf_filter.proofs.SteppingLemmas.{Standing-taken}
@@ -68,7 +67,7 @@ module _ (laws : ReplacesParts) {policy : Policy} {f : Form} {p : Properties} {b
           taken = rw whole next_taken.taken;
           allowed = rw whole next_allowed;
         },
-        Written-at (settled_is ∙ ap (settled_text f p) (sym whole)) (next_taken.written (λ e. cc)),
+        rw whole (rw settled_is at (next_taken.writes.written (λ e. cc))),
       )
 
   -- or the sink failed
@@ -77,8 +76,7 @@ module _ (laws : ReplacesParts) {policy : Policy} {f : Form} {p : Properties} {b
       let refused = takes_next takes in
       ⊎_elim
       (λ write. RefusesBytes-front {counted = counted} (text_under policy.replace (drop len rest)) (left-text _ _ _ _ _ left) (record {
-        broken = λ e. Broken-at start (settled_is ∙ ap (settled_text f p) (sym (taken-all p policy.assigned next_text usable next_allowed))) (refused.broken (ap Err write));
-        written = λ not. absurd (not refl);
+        writes = record { broken = λ _. rw (taken-all p policy.assigned next_text usable next_allowed) (rw settled_is at (refused.writes.broken (ap Err write))); written = λ not. absurd (not refl) };
         fault = λ not. absurd (not refl);
         taken = tt;
       }))

@@ -4,7 +4,7 @@ use Rattle.nf_normalizer.specs.declared.normalizer.Normalizer.{Normalizer}
 use Rattle.nf_normalizer.specs.Front.{Between, Stands, StepsTo}
 use Rattle.nf_normalizer.specs.Step.{RefusesRest}
 use Rattle.nf_normalizer.specs.Laws.Boundary.{usable-alone, usable_both, settled_text-behind}
-use Rattle.nf_filter.proofs.BlockLemmas.{Written-at, Broken-extends}
+use Rattle.nf_filter.proofs.BlockLemmas.{WritesTo-written, Broken-extends}
 use Rattle.nf_filter.proofs.TextLemmas.{TakesOn-all, usable_utf8-extends, usable_utf8-stop, unusable_at-stop}
 use Rattle.nf_filter.proofs.TakingLemmas.{front-joined, front-whole, nothing-left, placed-first, placed-behind}
 
@@ -45,7 +45,7 @@ module _ {f : Form} {p : Properties} {start : Start} where
   stands-broken now (inr between) is broken = Broken-extends start (due-between between) (rw (is ∙ sym between.holds.text) at broken)
 
   TakesOn-failed : {counted : Counted} {now : BlockState} {place : List ℕ → ℕ} {x : List ℕ} → Broken start now (usable_utf8 f p x) → TakesOn f p counted start now place x (Err WriteFault)
-  TakesOn-failed broken = record { broken = λ _. broken; written = λ no. absurd (no refl); fault = λ no. absurd (no refl); taken = tt }
+  TakesOn-failed broken = record { writes = record { broken = λ _. broken; written = λ no. absurd (no refl) }; fault = λ no. absurd (no refl); taken = tt }
 
   -- or more was given, and the rest is kept
   stands-moved : {n : Normalizer} {given out x next w : List ℕ} {now : BlockState} → Stands f p n (given_to start given) out x next → w ≡ given ++ out → (written : Written (apart start) now w)
@@ -88,8 +88,7 @@ module _ {f : Form} {p : Properties} {start : Start} where
         let whole : (y ++ refuses.first ∷ []) ++ refuses.rest ≡ x ++ chars text =
         append_assoc y (refuses.first ∷ []) refuses.rest ∙ ap (λ l. y ++ l) (sym refuses.is_first) ∙ front-joined x (chars text) stopped.front (chars rest) stopped.is_front in
         rw (← whole) (record {
-          broken = λ e. cc;
-          written = λ _. Written-at (usable_utf8-stop p f y refuses.first refuses.rest refuses.usable refuses.unusable) (record { given = standing.given; puts = standing.puts; text = refuses.holds.text });
+          writes = WritesTo-written (λ e. cc) (rw (← usable_utf8-stop p f y refuses.first refuses.rest refuses.usable refuses.unusable) (record { given = standing.given; puts = standing.puts; text = refuses.holds.text }));
           fault = λ _. ap (λ n. Some (Row n)) (sym here) ∙ sym (unusable_at-stop p place y refuses.first refuses.rest refuses.usable refuses.unusable);
           taken = tt;
         })

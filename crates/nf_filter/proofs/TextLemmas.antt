@@ -1,7 +1,7 @@
 -- A text more.
 use Rattle.nf_filter.proofs.Common.{◌≡◌, ℕ, true, false, List, [], ◌∷◌, ◌++◌, Some, Ok, refl, sym, ap, ◌∙◌, append-nil, Properties, Form, Row, Counted, is_usable, SinkState, Puts, Start, BlockState, Written, HasTaken, settled_text, usable_utf8, unusable_at, TakesOn, Extends, Extends-encodes, settled-extends, is_usable-stays_out, usable-all, usable-stop, usable-extends, unusable_at-usable}
 use Rattle.nf_filter.proofs.WritesLemmas.{Puts-at}
-use Rattle.nf_filter.proofs.BlockLemmas.{Written-at}
+use Rattle.nf_filter.proofs.BlockLemmas.{WritesTo-written}
 
 module _ (p : Properties) where
   pub unusable_at-stop : (place : List ℕ → ℕ) (x : List ℕ) (c : ℕ) (rest : List ℕ) → is_usable p x ≡ true → is_usable p (x ++ c ∷ []) ≡ false
@@ -27,8 +27,7 @@ module _ (p : Properties) where
     module _ (counted : Counted) (start : Start) (now : BlockState) (place : List ℕ → ℕ) where
       pub TakesOn-all : (x : List ℕ) → HasTaken f p counted x → Written start now (settled_text f p x) → TakesOn f p counted start now place x (Ok tt)
       TakesOn-all x taken written = record {
-        broken = λ e. cc;
-        written = λ _. Written-at (usable_utf8-usable x taken.machine.usable) written;
+        writes = WritesTo-written (λ e. cc) (rw (usable_utf8-usable x taken.machine.usable) at written);
         fault = λ _. sym (unusable_at-usable p place x taken.machine.usable);
         taken = taken;
       }

@@ -9,7 +9,7 @@ use Rattle.nf_filter.specs.declared.counted.Counted.{Counted}
 use Rattle.nf_filter.specs.declared.fault.Fault.{Fault}
 use Rattle.nf_filter.specs.declared.fault.Fault.TheVariants.{Row, Write as WriteFault}
 use Rattle.nf_filter.specs.Settled.{is_usable, usable}
-use Rattle.nf_filter.specs.Block.{Start, BlockState, Written, Broken}
+use Rattle.nf_filter.specs.Block.{Start, BlockState, WritesTo}
 pub use Rattle.nf_normalizer.specs.Normalizer.{settled_text}
 
 -- the characters x were taken, and counted
@@ -49,7 +49,6 @@ usable_utf8 f p x = settled_text f p (usable p x)
 
 -- the text x was taken, or why not all of it
 pub record TakesOn (f : Form) (p : Properties) (counted : Counted) (start : Start) (now : BlockState) (place : List ℕ → ℕ) (x : List ℕ) (result : Result (Unit {0}) Fault) : Type 0 where
-  pub broken : result ≡ Err WriteFault → Broken start now (usable_utf8 f p x)
-  pub written : ¬ (result ≡ Err WriteFault) → Written start now (usable_utf8 f p x)
+  pub writes : WritesTo start now (usable_utf8 f p x) result
   pub fault : ¬ (result ≡ Err WriteFault) → result_err result ≡ unusable_at p place x
   pub taken : OnOk result (HasTaken f p counted x)

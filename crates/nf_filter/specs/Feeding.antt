@@ -12,7 +12,7 @@ use Rattle.nf_filter.specs.declared.policy.Policy.{Policy}
 use Rattle.nf_filter.specs.declared.reading.Reading.{Reading}
 use Rattle.nf_filter.specs.Devices.{SinkState}
 use Rattle.nf_filter.specs.Writes.{Puts, BreaksOff}
-use Rattle.nf_filter.specs.Block.{Start, BlockState, Written, Broken}
+use Rattle.nf_filter.specs.Block.{Start, BlockState, Written, WritesTo}
 use Rattle.nf_filter.specs.Faults.{answer_at_end, bad_byte, bad_under, first_fault, fault_in}
 use Rattle.nf_filter.specs.Counted.{HasTaken, settled_text}
 use Rattle.nf_filter.specs.Policy.{allowed, len_under, text_under, whole_under}
@@ -25,8 +25,7 @@ taken_utf8 assigned f p x = settled_text f p (usable p (allowed assigned p x))
 -- the text x was taken, or why not all of it; `place` tells where what stands behind a front of it begins
 pub record TakesAllowed (assigned : Bool) (f : Form) (p : Properties) (counted : Counted) (start : Start) (now : BlockState) (place : List ℕ → ℕ) (x : List ℕ)
     (result : Result (Unit {0}) Fault) : Type 0 where
-  pub broken : result ≡ Err Write → Broken start now (taken_utf8 assigned f p x)
-  pub written : ¬ (result ≡ Err Write) → Written start now (taken_utf8 assigned f p x)
+  pub writes : WritesTo start now (taken_utf8 assigned f p x) result
   pub fault : ¬ (result ≡ Err Write) → result_err result ≡ first_fault assigned p place x None
   pub taken : OnOk result (HasTaken f p counted x × (allowed assigned p x ≡ x))
 
@@ -58,8 +57,7 @@ ReadsTo policy f p counted start now base reading bytes rest =
 
 -- or reading them was refused
 pub record RefusesBytes (policy : Policy) (f : Form) (p : Properties) (start : Start) (now : BlockState) (base : ℕ) (bytes : List ℕ) (fault : Fault) : Type 0 where
-  pub broken : fault ≡ Write → Broken start now (taken_utf8 policy.assigned f p (text_under policy.replace bytes))
-  pub written : ¬ (fault ≡ Write) → Written start now (taken_utf8 policy.assigned f p (text_under policy.replace bytes))
+  pub writes : WritesTo start now (taken_utf8 policy.assigned f p (text_under policy.replace bytes)) (Err fault)
   pub is : ¬ (fault ≡ Write) → Some fault ≡ fault_in policy p base bytes
 
 -- behind the bytes U+FFFD was taken for a character that the end cuts, or why not

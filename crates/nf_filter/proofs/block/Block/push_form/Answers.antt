@@ -1,5 +1,5 @@
 use Rattle.std.proofs.Common.{◌++◌, refl, sym, append_assoc}
-use Rattle.nf_filter.proofs.BlockLemmas.{Broken-at, Broken-extends}
+use Rattle.nf_filter.proofs.BlockLemmas.{Broken-extends}
 use Rattle.nf_filter.proofs.block.Block.push_form.Goals as goal
 
 pub returns-in-Err-clause-writes : goal.returns-in-Err-clause-writes
@@ -8,5 +8,5 @@ returns-in-Err-clause-writes g c = λ start w written.
 
 pub returns-in-Err-make_room-clause-writes : goal.returns-in-Err-make_room-clause-writes
 returns-in-Err-make_room-clause-writes g c = λ start w written.
-    Broken-at start (append_assoc w c.args.same.now c.args.formed.now.items)
+    rw (← append_assoc w c.args.same.now c.args.formed.now.items)
     (Broken-extends start (record { more = c.args.formed.now.items; text = refl }) (c.in-Err-make_room.ensures.writes start (w ++ c.args.same.now) (c.in_default.ensures.writes start w written)))
