@@ -1,5 +1,5 @@
 -- What a filter wrote to the end is a text that is stream-safe and its own form, so that a second one changes nothing.
-use Rattle.nf_filter.proofs.Common.{◌≡◌, ℕ, ◌+◌, Bool, true, false, ◌==◌, List, [], ◌∷◌, ◌++◌, length, Option, Some, None, Result, Ok, Err, refl, sym, ap, ◌∙◌, append-nil, eq-eqb, IsTrue, OnOk, if◌then◌else◌, encode_utf8_all, inl, and_from, and_parts, list_all, Appends, all_scalars, Properties, Form, is_sound, stream_safe, safe_form, ChangesOnce, IsSoundText, is_in_format, in_format-unchanged, IsText, BeginsText, Ending, Whole, Cut, text_of, ending_of, replacement, begun_at_end, replaced, replaced_whole, ReadsLongestText, ReadsBack, ReplacesParts, Fault, Policy, Tally, as_is, allowed, text_under, whole_under, len_under, is_usable, settled_utf8, answer_at_end, bad_under, first_fault, fault_in, tally_of, answer_or, end_under, end_of, whole_or, is_taken, final_under, final_utf8, SinkState, SourceState, Puts, Drives, DrivesToEnd, whole_utf8, Converts, settled_utf8-none}
+use Rattle.nf_filter.proofs.Common.{◌≡◌, ℕ, ◌+◌, Bool, true, false, ◌==◌, List, [], ◌∷◌, ◌++◌, length, Option, Some, None, Result, Ok, Err, refl, sym, ap, ◌∙◌, append-nil, eq-eqb, IsTrue, OnOk, if◌then◌else◌, encode_utf8_all, inl, and_from, and_parts, Appends, all_scalars, Properties, Form, is_sound, stream_safe, safe_form, ChangesOnce, IsSoundText, in_format-unchanged, IsText, BeginsText, Ending, Whole, Cut, text_of, ending_of, replacement, begun_at_end, replaced, replaced_whole, ReadsLongestText, ReadsBack, ReplacesParts, Fault, Policy, Tally, as_is, allowed, text_under, whole_under, len_under, is_usable, settled_utf8, answer_at_end, bad_under, first_fault, fault_in, tally_of, answer_or, end_under, end_of, whole_or, is_taken, final_under, final_utf8, SinkState, SourceState, Puts, Drives, DrivesToEnd, whole_utf8, Converts, settled_utf8-none}
 use Rattle.std.proofs.str.Laws.{scalars-append}
 use Rattle.std.proofs.Math.Nat.{sub_self}
 use Rattle.std.proofs.Math.Utf8.{scalar}
@@ -68,14 +68,14 @@ module _ (back : ReadsBack) (replacing : ReplacesParts) where
     module _ (f : Form) (p : Properties) (sound : IsSoundText p o) (safe : stream_safe p o ≡ o) (form : safe_form f p o ≡ o) where
       usable-is : is_usable p o ≡ true
       unfolding is_usable
-      usable-is = ap (list_all (is_sound p)) safe ∙ sound
+      usable-is = rw safe sound
 
       put-is : (replace : Bool) → tally_of replace p bytes_is ≡ nothing_put bytes_is
       put-is replace = rw (whole_under-is replace, text-is, safe, sub_self (length o))
 
       module _ (policy : Policy) (all : TakesAll policy p bytes_is) where
         all-is : allowed policy.assigned p o ≡ o
-        all-is = ap (allowed policy.assigned p) (sym text-is) ∙ all ∙ text-is
+        all-is = rw text-is at all
 
         no_fault-is : (base : ℕ) → fault_in policy p base bytes_is ≡ None
         unfolding fault_in
@@ -94,7 +94,7 @@ module _ (back : ReadsBack) (replacing : ReplacesParts) where
         tally-is base = end-is policy.replace base
 
         taken-is : is_taken policy.assigned p o ≡ true
-        taken-is = and_from _ _ (ap (is_usable p) all-is ∙ usable-is) (eq-eqb _ _ (ap length all-is))
+        taken-is = and_from _ _ (rw all-is usable-is) (eq-eqb _ _ (ap length all-is))
 
         final-is : (replace : Bool) (settled : List ℕ) → final_under replace policy.assigned p bytes_is settled bytes_is ≡ bytes_is
         final-is false settled = rw ending-is
@@ -106,11 +106,11 @@ module _ (back : ReadsBack) (replacing : ReplacesParts) where
 
       stays : StaysAsItIs f p bytes_is
       stays = record {
-        spelled = ap encode_utf8_all (sym text-is);
+        spelled = rw text-is;
         whole = ending-is;
-        in_format = ap (is_in_format p) text-is ∙ in_format-unchanged p o sound safe;
-        safe = ap (stream_safe p) text-is ∙ safe ∙ sym text-is;
-        form = ap (safe_form f p) text-is ∙ form ∙ sym text-is;
+        in_format = rw text-is (in_format-unchanged p o sound safe);
+        safe = rw text-is safe;
+        form = rw text-is form;
         no_fault = λ policy base all. no_fault-is policy all base;
         again = again-is;
         tally = λ policy base all. tally-is policy all base;
@@ -166,7 +166,7 @@ module _ (f : Form) (p : Properties) (old new : SinkState) where
       → OnOk result (AddsWhatStays f p old.taken new.taken)
   adds_what_stays policy source left (Err fault) once = tt
   adds_what_stays policy source left (Ok tally) once =
-      put-stays once.written.out _ (once.written.behind ∙ ap (λ l. l ++ once.written.out) (settled_utf8-none policy f p)) once.written.given once.says
+      put-stays once.written.out _ (simp (settled_utf8-none policy f p) at once.written.behind) once.written.given once.says
 
   -- ---- of bytes that were all there was
 

@@ -22,7 +22,7 @@ pub allowed-part : (a : Bool) (at : ℕ) (rest : List ℕ) {p : Properties} {old
     → (f : Form) (place : List ℕ → ℕ) (x : List ℕ) (start : Start) → HasTaken f p old x → allowed a p x ≡ x → IsPlacedAt place at x text → Written start before (settled_text f p x)
     → (allowed a p (x ++ text) ≡ x ++ y) × TakesOn f p new start now place (x ++ y) r
 allowed-part a at rest {p} {text = text} {y} whole front takes f place x start taken all here written = (
-  allowed-append p a x text all ∙ ap (λ l. x ++ l) (sym front),
+  rw front (allowed-append p a x text all),
   takes f place x start taken.chars (Standing-taken y taken written) (placed-within place at x text y rest whole here),
 )
 

@@ -1,6 +1,6 @@
 -- A character that the end cuts, taken as U+FFFD.
-use Rattle.nf_filter.proofs.Common.{◌≡◌, ℕ, ◌+◌, ◌-◌, true, List, [], ◌∷◌, ◌++◌, length, None, Ok, refl, sym, ap, ◌∙◌, arith, Result, encode_utf8_all, ⊎_elim, Properties, Form, text_of, replacement, ReplacesParts, Fault, Counted, Policy, Reading, SinkState, Start, BlockState, Written, WritesTo, GivesAll, taken_utf8, HasReadTo, ReplacesCut, settled_text, allowed, whole_under, is_usable, settled_utf8}
-use Rattle.nf_filter.proofs.WritesLemmas.{Puts-none, Puts-at}
+use Rattle.nf_filter.proofs.Common.{◌≡◌, ℕ, ◌+◌, ◌-◌, true, List, [], ◌∷◌, ◌++◌, length, None, Ok, sym, ◌∙◌, arith, Result, encode_utf8_all, ⊎_elim, Properties, Form, text_of, replacement, ReplacesParts, Fault, Counted, Policy, Reading, SinkState, Start, BlockState, Written, WritesTo, GivesAll, taken_utf8, HasReadTo, ReplacesCut, allowed, whole_under, is_usable, settled_utf8}
+use Rattle.nf_filter.proofs.WritesLemmas.{Puts-none}
 use Rattle.nf_filter.proofs.BlockLemmas.{start_at}
 use Rattle.nf_filter.proofs.FilterLemmas.{write_or_kept}
 use Rattle.nf_filter.proofs.PolicyLemmas.{first_fault-none, taken-all}
@@ -23,7 +23,7 @@ module _ (laws : ReplacesParts) {policy : Policy} {f : Form} {p : Properties} {b
       let all : allowed policy.assigned p whole ≡ whole = rw is read.allowed in
       record {
         broken = λ e. cc;
-        puts = λ _. Puts-at refl (sym (read-settled _ _ _ _ laws _ _ _ read) ∙ ap (settled_text f p) (sym (taken-all p policy.assigned whole sound all ∙ is))) (Puts-none sink (settled_utf8 policy f p bytes));
+        puts = λ _. rw (taken-all p policy.assigned whole sound all, is, read-settled _ _ _ _ laws _ _ _ read) (Puts-none sink _);
         fault = λ _. sym (first_fault-none p policy.assigned (place_in policy.replace base bytes) whole None sound all);
         taken = (rw is taken, all);
       }

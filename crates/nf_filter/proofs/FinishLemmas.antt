@@ -1,6 +1,6 @@
 -- What finishing answers.
-use Rattle.nf_filter.proofs.Common.{◌==◌, begun_at_end, ◌≡◌, ℕ, ◌+◌, ◌<◌, Bool, true, false, List, [], ◌∷◌, ◌++◌, length, None, Ok, Err, ⊎_elim, refl, sym, ap, ◌∙◌, arith, append-nil, eq-eqb, Result, if◌then◌else◌, encode_utf8_all, length-append, cases_Bool, false_from_ne_true, and_from, Properties, Form, safe_form, Ending, Cut, text_of, ending_of, replacement, ReplacesParts, Fault, Write, Counted, Policy, Reading, Tally, SinkState, Puts, BreaksOff, allowed, whole_under, settled, is_usable, usable, settled_utf8, answer_at_end, first_fault, taken_utf8, HasReadTo, ReplacesCut, HasTaken, settled_text, tally_of, answer_or, end_of, whole_or, is_taken, final_utf8, Closes, Finishes, Extends-encodes, usable-all, usable-stop, nil_from_length}
-use Rattle.nf_filter.proofs.WritesLemmas.{Puts-none, Puts-join, Puts-at, BreaksOff-join, BreaksOff-extends, BreaksOff-at}
+use Rattle.nf_filter.proofs.Common.{◌==◌, begun_at_end, ◌≡◌, ℕ, ◌+◌, Bool, true, false, List, [], ◌∷◌, ◌++◌, length, None, Ok, Err, ⊎_elim, refl, sym, ap, ◌∙◌, arith, append-nil, eq-eqb, Result, if◌then◌else◌, encode_utf8_all, length-append, cases_Bool, false_from_ne_true, and_from, Properties, Form, safe_form, Ending, Cut, text_of, ending_of, replacement, ReplacesParts, Fault, Write, Counted, Policy, Reading, Tally, SinkState, Puts, BreaksOff, allowed, whole_under, settled, is_usable, usable, settled_utf8, answer_at_end, first_fault, taken_utf8, HasReadTo, ReplacesCut, HasTaken, settled_text, tally_of, answer_or, end_of, whole_or, is_taken, final_utf8, Closes, Finishes, Extends-encodes, usable-all, usable-stop, nil_from_length}
+use Rattle.nf_filter.proofs.WritesLemmas.{Puts-none, Puts-join, Puts-at, BreaksOff-join, BreaksOff-extends}
 use Rattle.nf_filter.proofs.FilterLemmas.{err_is, failed_if}
 use Rattle.nf_filter.proofs.PolicyLemmas.{allowed-append, allowed-grows, taken-all, taken_whole, first_fault-none, taken}
 use Rattle.nf_filter.proofs.PieceLemmas.{place_in, left-end}
@@ -25,20 +25,15 @@ Finishes-of r breaks puts = record { write = failed_if r breaks (λ not. (puts n
 module _ (p : Properties) where
   -- behind a text that is taken, a character that is not
   kept_before : (a : Bool) (x : List ℕ) (c : ℕ) → is_usable p x ≡ true → allowed a p x ≡ x → is_taken a p (x ++ c ∷ []) ≡ false → usable p (allowed a p (x ++ c ∷ [])) ≡ x
-  kept_before a x c sound all out = ⊎_elim whole less (allowed-grows p a (x ++ c ∷ []) [])
-    where
-      more : allowed a p (x ++ c ∷ []) ≡ x ++ allowed a p (c ∷ [])
-      more = allowed-append p a x (c ∷ []) all
-
-      whole : allowed a p (x ++ c ∷ []) ≡ x ++ c ∷ [] → usable p (allowed a p (x ++ c ∷ [])) ≡ x
-      whole same =
-          let unsound : is_usable p (x ++ c ∷ []) ≡ false = false_from_ne_true _ (λ sound. let taken = and_from _ _ (ap (is_usable p) same ∙ sound) (eq-eqb _ _ (ap length same)) in cc) in
-          ap (usable p) same ∙ ap (usable p) (sym (append-nil (x ++ c ∷ []))) ∙ usable-stop p x c [] sound unsound
-
-      less : (length (allowed a p (x ++ c ∷ [])) < length (x ++ c ∷ [])) × (allowed a p ((x ++ c ∷ []) ++ []) ≡ allowed a p (x ++ c ∷ [])) → usable p (allowed a p (x ++ c ∷ [])) ≡ x
-      less short =
-          let none = nil_from_length (allowed a p (c ∷ [])) (omega (arith, short.0, ap length more, length-append x (allowed a p (c ∷ [])), length-append x (c ∷ []))) in
-          ap (usable p) (more ∙ ap (λ l. x ++ l) none ∙ append-nil x) ∙ usable-all p x sound
+  kept_before a x c sound all out = ⊎_elim
+      (λ same.
+      let unsound : is_usable p (x ++ c ∷ []) ≡ false = false_from_ne_true _ (λ sound. let taken = and_from _ _ (ap (is_usable p) same ∙ sound) (eq-eqb _ _ (ap length same)) in cc) in
+      rw same (rw (append-nil (x ++ c ∷ [])) at (usable-stop p x c [] sound unsound)))
+      (λ short.
+      let more : allowed a p (x ++ c ∷ []) ≡ x ++ allowed a p (c ∷ []) = allowed-append p a x (c ∷ []) all in
+      let none = nil_from_length (allowed a p (c ∷ [])) (omega (arith, short.0, ap length more, length-append x (allowed a p (c ∷ [])), length-append x (c ∷ []))) in
+      rw (more, none, append-nil x) (usable-all p x sound))
+      (allowed-grows p a (x ++ c ∷ []) [])
 
 module _ (laws : ReplacesParts) {policy : Policy} {f : Form} {p : Properties} {base : ℕ} {counted : Counted} {reading : Reading} {bytes : List ℕ} (read : HasReadTo policy f p counted base reading bytes []) where
   abbrev final : List ℕ
@@ -57,7 +52,7 @@ module _ (laws : ReplacesParts) {policy : Policy} {f : Form} {p : Properties} {b
     close-strict (Ok u) is other =
         let told : Ok (tt {0}) ≡ answer_at_end base (tt {0}) (ending_of bytes) = is ∙ sym end_is in (
           rw whole_is read.taken,
-          Puts-at refl (sym (read-settled _ _ _ _ laws _ _ _ read) ∙ ap (settled_text f p) (sym whole_is)) (Puts-none sink (settled_utf8 policy f p bytes)),
+          rw (whole_is, read-settled _ _ _ _ laws _ _ _ read) (Puts-none sink _),
           rw strict (sym (end_valued base _ (ending_of bytes) (Ok tt) told)),
           rw strict (answered base (tt {0}) (tt {0}) (ending_of bytes) (sym told) _ _),
         )
@@ -95,7 +90,7 @@ module _ (laws : ReplacesParts) {policy : Policy} {f : Form} {p : Properties} {b
         let none = sym (cut.fault (λ e. cc)) in
         let machine = cut.taken.0.machine in (
           cut.taken.0,
-          Puts-at refl (ap (settled_text f p) (taken-all p policy.assigned (whole_under policy.replace bytes) machine.usable cut.taken.1)) (cut.puts (λ e. cc)),
+          rw (taken-all p policy.assigned (whole_under policy.replace bytes) machine.usable cut.taken.1) at (cut.puts (λ e. cc)),
           rw none at end_at,
           final_is true (taken p policy.assigned _ (whole_under policy.replace bytes) None none),
         )
@@ -107,9 +102,8 @@ module _ (laws : ReplacesParts) {policy : Policy} {f : Form} {p : Properties} {b
             ⊎_elim
             (λ all.
             let both = taken_whole p policy.assigned (whole_under policy.replace bytes) all in
-            BreaksOff-at refl (sym (final_is true all)) (BreaksOff-extends (Extends-encodes (settled-whole f p (whole_under policy.replace bytes)))
-            (BreaksOff-at refl (ap (settled_text f p) (taken-all p policy.assigned (whole_under policy.replace bytes) both.0 both.1)) broken)))
-            (λ out. BreaksOff-at refl (kept out ∙ sym (final_is false out)) broken)
+            rw (final_is true all) (BreaksOff-extends (Extends-encodes (settled-whole f p (whole_under policy.replace bytes))) (rw (taken-all p policy.assigned (whole_under policy.replace bytes) both.0 both.1) at broken)))
+            (λ out. rw (final_is false out) (rw (kept out) at broken))
             (cases_Bool (is_taken policy.assigned p (whole_under policy.replace bytes)))
 
         puts : ¬ (refused_by fault ≡ Err Write) → Puts old new (settled_utf8 policy f p bytes) (final_utf8 policy f p bytes) × (refused_by fault ≡ end_of policy p base bytes)
@@ -119,13 +113,13 @@ module _ (laws : ReplacesParts) {policy : Policy} {f : Form} {p : Properties} {b
             let out : is_taken policy.assigned p (whole_under policy.replace bytes) ≡ false = false_from_ne_true _ (λ all.
             let both = taken_whole p policy.assigned (whole_under policy.replace bytes) all in
             let never = told ∙ first_fault-none p policy.assigned _ (whole_under policy.replace bytes) None both.0 both.1 in cc) in
-            (Puts-at refl (kept out ∙ sym (final_is false out)) (cut.puts other), sym (rw (← told) at end_at))
+            (rw (final_is false out) (rw (kept out) at (cut.puts other)), sym (rw (← told) at end_at))
 
 -- the rest of the form, behind what came before
 module _ {policy : Policy} {f : Form} {p : Properties} {base : ℕ} {bytes : List ℕ} {after : Counted} {old mid new : SinkState} (closes : Closes policy f p after base bytes old mid (Ok tt)) where
   pub Finishes-whole : (tally : Tally) → tally ≡ tally_of policy.replace p bytes → Puts mid new (settled_text f p (whole_under policy.replace bytes)) (encode_utf8_all (safe_form f p (whole_under policy.replace bytes)))
       → Finishes policy f p base bytes old new (Ok tally)
-  Finishes-whole tally same given = Finishes-of (Ok tally) (λ e. cc) (λ _. (Puts-at refl (sym closes.3) (Puts-join closes.1 given), sym (closes.2 ∙ ap Ok (sym same))))
+  Finishes-whole tally same given = Finishes-of (Ok tally) (λ e. cc) (λ _. (rw closes.3 (Puts-join closes.1 given), rw same (sym closes.2)))
 
   pub Finishes-broken : BreaksOff mid new (settled_text f p (whole_under policy.replace bytes)) (encode_utf8_all (safe_form f p (whole_under policy.replace bytes))) → Finishes policy f p base bytes old new (Err Write)
-  Finishes-broken given = Finishes-of (Err Write) (λ _. BreaksOff-at refl (sym closes.3) (BreaksOff-join closes.1 given)) (λ no. absurd (no refl))
+  Finishes-broken given = Finishes-of (Err Write) (λ _. rw closes.3 (BreaksOff-join closes.1 given)) (λ no. absurd (no refl))

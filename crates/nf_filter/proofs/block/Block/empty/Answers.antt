@@ -1,4 +1,4 @@
-use Rattle.nf_filter.proofs.Common.{◌++◌, sym, ap, ◌∙◌, append-nil}
+use Rattle.nf_filter.proofs.Common.{◌++◌, sym, append-nil}
 use Rattle.nf_filter.proofs.WritesLemmas.{Puts-behind, BreaksOff-behind}
 use Rattle.nf_filter.proofs.block.Block.empty.Goals as goal
 
@@ -9,5 +9,5 @@ pub returns-clause-writes : goal.returns-clause-writes
 returns-clause-writes g c = λ start w written. record {
   given = start.ahead ++ w;
   puts = Puts-behind written.text written.puts (rw c.as_slice.ensures.value at c.in_default.ensures.puts);
-  text = sym (append-nil (start.ahead ++ w)) ∙ ap (λ l. (start.ahead ++ w) ++ l) (sym c.clear.ensures);
+  text = rw c.clear.ensures (sym (append-nil (start.ahead ++ w)));
 }

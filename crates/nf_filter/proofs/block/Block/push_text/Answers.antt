@@ -1,24 +1,17 @@
-use Rattle.nf_filter.proofs.Common.{◌≡◌, ℕ, List, [], ◌++◌, refl, sym, ap, ◌∙◌, append-nil, append_assoc, Result, Ok, Err, MatchResult, Failed, SinkState, Puts, BreaksOff, Start, BlockState, Written, WritesOn}
+use Rattle.nf_filter.proofs.Common.{◌≡◌, ℕ, List, [], ◌++◌, refl, append-nil, append_assoc, Result, Ok, Err, MatchResult, Failed, SinkState, Puts, BreaksOff, Start, BlockState, Written, WritesOn}
 use Rattle.nf_filter.proofs.WritesLemmas.{Puts-behind, BreaksOff-behind}
 use Rattle.nf_filter.proofs.BlockLemmas.{Broken-extends}
 use Rattle.nf_filter.proofs.block.Block.push_text.Goals as goal
 
 -- past an empty block
+whole : (start : Start) (now : BlockState) (w bytes : List ℕ) → now.kept ≡ [] → (written : Written start now w) → start.ahead ++ (w ++ bytes) ≡ written.given ++ bytes
+whole start now w bytes none written = rw (← append_assoc start.ahead w bytes, written.text, none, append-nil written.given)
+
 passed : (start : Start) (now : BlockState) (sink : SinkState) (w bytes : List ℕ) (r : Result (Unit {0}) Failed) → now.kept ≡ [] → Written start now w
     → MatchResult r (λ _. Puts now.sink sink [] bytes) (λ _. BreaksOff now.sink sink [] bytes) → WritesOn start (record { sink = sink; kept = now.kept }) (w ++ bytes) r
-passed start now sink w bytes r none written puts = next r puts
-  where
-    whole : start.ahead ++ (w ++ bytes) ≡ written.given ++ bytes
-    whole = sym (append_assoc start.ahead w bytes) ∙ ap (λ l. l ++ bytes) (written.text ∙ ap (λ l. written.given ++ l) none ∙ append-nil written.given)
-
-    next : (r : Result (Unit {0}) Failed) → MatchResult r (λ _. Puts now.sink sink [] bytes) (λ _. BreaksOff now.sink sink [] bytes)
-        → WritesOn start (record { sink = sink; kept = now.kept }) (w ++ bytes) r
-    next (Ok _) puts = record {
-      given = written.given ++ bytes;
-      puts = Puts-behind refl written.puts puts;
-      text = whole ∙ sym (append-nil (written.given ++ bytes)) ∙ ap (λ l. (written.given ++ bytes) ++ l) (sym none);
-    }
-    next (Err _) breaks = BreaksOff-behind whole written.puts breaks
+passed start now sink w bytes (Ok _) none written puts =
+    record { given = written.given ++ bytes; puts = Puts-behind refl written.puts puts; text = rw (none, append-nil (written.given ++ bytes)) (whole start now w bytes none written) }
+passed start now sink w bytes (Err _) none written breaks = BreaksOff-behind (whole start now w bytes none written) written.puts breaks
 
 pub returns-in-Err-clause-writes : goal.returns-in-Err-clause-writes
 returns-in-Err-clause-writes g c = λ start w written. Broken-extends _ (record { more = c.args.text.now; text = refl }) (c.in-Err.ensures.writes start w written)

@@ -1,4 +1,4 @@
-use Rattle.nf_filter.proofs.Common.{◌≡◌, List, ℕ, [], ◌++◌, Ok, Err, refl, sym, ap, ◌∙◌, append-nil, Result, MatchResult, encode_utf8_all, safe_form, Given, Failed, SinkState, Puts, BreaksOff, BlockState, WritesOn, settled_text}
+use Rattle.nf_filter.proofs.Common.{◌≡◌, List, ℕ, [], Ok, Err, refl, sym, append-nil, Result, MatchResult, encode_utf8_all, safe_form, Given, Failed, SinkState, Puts, BreaksOff, BlockState, WritesOn, settled_text}
 use Rattle.nf_filter.proofs.WritesLemmas.{Puts-none}
 use Rattle.nf_filter.proofs.BlockLemmas.{start_at}
 use Rattle.nf_filter.proofs.TextLemmas.{Puts-emptied}
@@ -17,6 +17,6 @@ returns-clause-puts g c = λ f x taken.
     let p = g.R.Rows.properties c.args.rows.now in
     let sink = g.S.Sink.state c.args.sink.now in
     let before = settled_text f p x in
-    let holds = c.settle.ensures.settles f x (given before) taken.machine (record { text = sym (append-nil before) ∙ ap (λ l. before ++ l) (sym c.new-block.ensures.empty) }) in
+    let holds = c.settle.ensures.settles f x (given before) taken.machine (record { text = rw c.new-block.ensures.empty (sym (append-nil before)) }) in
     let emptied = c.empty.ensures.writes (start_at sink before) (encode_utf8_all (safe_form f p x)) (record { given = before; puts = Puts-none sink before; text = holds.text }) in
     ended sink _ before (encode_utf8_all (safe_form f p x)) c.empty.result (λ e. rw e at c.empty.ensures.none) emptied
