@@ -1,17 +1,16 @@
 -- The names that most of these proofs cite, passed on from one place. Declares nothing.
-pub use Rattle.std.proofs.Common.{◌≡◌, ℕ, ◌+◌, ◌-◌, Bool, true, false, ◌==◌, List, [], ◌∷◌, ◌++◌, length, Option, Some, None, Result, Ok, Err, refl, sym, ap, ap₂, ◌∙◌, subst, arith, append-nil, eq-eqb, IsTrue, OnOk, if◌then◌else◌, encode_utf8_all, inl, chars, ◌<◌, ⊎_elim, ne_eqb, append_assoc, ◌≤◌, take, drop, get_or, map, map-id, encode_utf8, IsUtf8, length-append, take-append-drop, zero, suc, drop-drop, drop_at, inr, cond, MatchResult, ◌^◌, ◌↔◌, IsFalse, ◌⊎◌, option_map, not, ◌&&◌, ◌||◌, length-drop, take_at, take_while, eqb-true, take_all, eqb, ltb, IfSome, is_some, IfErr, subst₂, length-take, rules}
-pub use Rattle.std.proofs.KnownBytes.{Appends-nil, Appends-trans, Consumes-kept, Consumes-nil, Consumes-trans}
+pub use Rattle.std.proofs.Common.{◌≡◌, ℕ, ◌+◌, ◌-◌, Bool, true, false, ◌==◌, List, [], ◌∷◌, ◌++◌, length, Option, Some, None, Result, Ok, Err, refl, sym, ap, ap₂, ◌∙◌, subst, arith, append-nil, eq-eqb, IsTrue, OnOk, if◌then◌else◌, encode_utf8_all, inl, chars, ◌<◌, ⊎_elim, ne_eqb, append_assoc, ◌≤◌, take, drop, map, encode_utf8, IsUtf8, length-append, take-append-drop, zero, suc, drop-drop, drop_at, inr, cond, MatchResult, ◌^◌, ◌↔◌, IsFalse, ◌⊎◌, option_map, not, ◌&&◌, ◌||◌, length-drop, take_at, take_while, eqb-true, take_all, eqb, ltb, IfSome, is_some, IfErr, subst₂, length-take, rules}
+pub use Rattle.std.proofs.KnownBytes.{Appends-nil, Appends-trans, Consumes-kept, Consumes-trans}
 pub use Rattle.std.proofs.Math.Seq.{take-append-add, take-length}
 pub use Rattle.std.proofs.lemmas.Bool.{and_from, and_parts, and_left, and_right, or_left, cases_lt, cases_Bool, false_from_ne_true, cond-true, cond-false, eqb-false, or_parts, le-leb, true_from_ne_false, false≢true, not-false, not-true}
 pub use Rattle.std.proofs.lemmas.Bool.Decides.{nat_tests}
-pub use Rattle.std.proofs.lemmas.List.{take_more, nil_from_length, length-map, map-append, drop-append-le, take-append-le, take-take, drop-take, take_rest}
+pub use Rattle.std.proofs.lemmas.List.{nil_from_length, length-map, map-append, drop-append-le, take-append-le, take-take, take_rest}
 pub use Rattle.std.proofs.lemmas.List.Folds.{list_all-append, length-prefix_len, prefix_len-append}
 pub use Rattle.std.proofs.lemmas.Str.{encodes-append, encodes-chars, chars-nil, chars-append, chars_past_char, IsUtf8-append, IsUtf8-take, IsCharBoundary-at_seam, utf8_valid_len_le, length-le-encodes, length-encode, len_utf8_bounds, chars_from_encodes, scalars-chars}
 pub use Rattle.std.specs.Io.KnownBytes.{Appends, Consumes, IsAtEnd}
 pub use Rattle.std.specs.List.{list_all, prefix_len}
 pub use Rattle.std.specs.Result.{result_err, result_map_both}
 pub use Rattle.std.specs.Str.{all_scalars, IsCharBoundary, chars as characters}
-pub use Rattle.std.specs.Str.Iter.{chars_rest}
 pub use Rattle.nf_filter.specs.Block.{Start, BlockState, Written, WritesTo, GivesAll, Broken, WritesOn, block_state}
 unfoldable pub use Rattle.nf_filter.specs.Checks.{check_fault, check_decision, text_decision}
 pub use Rattle.nf_filter.specs.Checks.{sound_front, place_or_fault, no_place, HasChecked}
@@ -20,7 +19,7 @@ pub use Rattle.nf_filter.specs.Counted.{HasTaken, TakesOn, settled_text, IsPlace
 pub use Rattle.nf_filter.specs.Devices.{SinkState, SourceState}
 pub use Rattle.nf_filter.specs.Drives.{due_utf8, Drives, DrivesToEnd, FeedsAll}
 unfoldable pub use Rattle.nf_filter.specs.Faults.{fault_in}
-pub use Rattle.nf_filter.specs.Faults.{answer_at_end, bad_byte, bad_under, first_fault, IsOfFeeding}
+pub use Rattle.nf_filter.specs.Faults.{answer_at_end, bad_byte, bad_under, first_fault}
 pub use Rattle.nf_filter.specs.Feeding.{taken_utf8, TakesAllowed, IsLeft, HasReadTo, ReadsTo, RefusesBytes, ReplacesCut}
 pub use Rattle.nf_filter.specs.Feeds.{Feeds}
 pub use Rattle.nf_filter.specs.Filter.{base_of, offset_of, is_spent, StandsAfter, state_of, rows_of}
@@ -36,8 +35,8 @@ pub use Rattle.nf_filter.specs.Saved.{saved_of, are_marks, IsCounted, CountsFit,
 unfoldable pub use Rattle.nf_filter.specs.Settled.{is_usable, settled_utf8, settled}
 pub use Rattle.nf_filter.specs.Settled.{usable}
 pub use Rattle.nf_filter.specs.Stepping.{Standing, StandsInFront}
-pub use Rattle.nf_filter.specs.Surveys.{Survey, Surveys, IsCut}
-pub use Rattle.nf_filter.specs.Taker.{decided_or, decided_in, Decides, TakesText, HasTakenFront, HasSurveyed, IsReady}
+pub use Rattle.nf_filter.specs.Surveys.{Survey, Surveys}
+pub use Rattle.nf_filter.specs.Taker.{decided_or, decided_in, Decides, HasTakenFront, HasSurveyed, IsReady}
 unfoldable pub use Rattle.nf_filter.specs.Whole.{whole_utf8, whole_answer}
 pub use Rattle.nf_filter.specs.Whole.{Converts, IsFormOf, IsOfWhole, fault_or}
 pub use Rattle.nf_filter.specs.Writes.{Puts, BreaksOff}
@@ -73,10 +72,10 @@ pub use Rattle.nf_safe.specs.Measurer.{refusal, unsound_at}
 pub use Rattle.nf_safe.specs.Place.{is_in_format, place_from}
 pub use Rattle.nf_safe.specs.declared.checker.Checker.{Checker}
 pub use Rattle.nf_safe.specs.declared.place.Place.{Place}
-pub use Rattle.nf_utf8.specs.Ending.{Ending, Whole, Bad, Cut, moved, Cut as CutEnd}
+pub use Rattle.nf_utf8.specs.Ending.{Ending, Whole, Bad, Cut, Cut as CutEnd}
 pub use Rattle.nf_utf8.specs.Laws.{ReadsLongestText, ReadsBack, ReplacesParts, SplitsBytes}
 unfoldable pub use Rattle.nf_utf8.specs.Reading.{text_of, ending_of, rest_of}
-pub use Rattle.nf_utf8.specs.Reading.{text_len, begun_len}
+pub use Rattle.nf_utf8.specs.Reading.{text_len}
 unfoldable pub use Rattle.nf_utf8.specs.Replaced.{replaced, replaced_whole, parts_of, replaced_len}
 pub use Rattle.nf_utf8.specs.Replaced.{replacement, begun_at_end, part_end, Part, own_parts, behind_text, parts_within, bytes_in}
 pub use Rattle.nf_utf8.specs.Standing.{StandsAfter as DecoderStandsAfter}

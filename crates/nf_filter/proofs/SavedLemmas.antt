@@ -1,5 +1,5 @@
 -- Each filter that is spent or stands after bytes has a state of which one can be made.
-use Rattle.nf_filter.proofs.Common.{◌≡◌, zero, suc, ℕ, ◌+◌, ◌≤◌, Bool, true, false, not, ◌&&◌, eqb, ltb, inr, List, [], ◌∷◌, ◌++◌, length, map, drop, encode_utf8, Option, Some, None, IfSome, refl, sym, ap, ◌∙◌, arith, length-append, encode_utf8_all, and_parts, and_from, or_parts, eqb-true, eq-eqb, le-leb, nat_tests, length-map, nil_from_length, length-le-encodes, take-length, list_all, is_some, Properties, is_starter, Form, Nfc, Nfd, Nfkd, row_of, decomposed, composes, is_sound, max_run, stream_safe, back-starter, IsSound, IsSound-from_test, Ending, Bad, ReplacesParts, text_of, ending_of, Part, own_parts, part_end, behind_text, parts_within, parts_of, replaced, replaced_len, bytes_in, State, Policy, StandsAfter, len_under, text_under, saved_of, are_marks, IsCounted, CountsFit, IsPending, IsRestorable, is_usable, has_starter, trail, trail-marks}
+use Rattle.nf_filter.proofs.Common.{◌≡◌, zero, suc, ℕ, ◌+◌, ◌≤◌, Bool, true, false, not, ◌&&◌, eqb, ltb, inr, List, [], ◌∷◌, ◌++◌, length, map, drop, encode_utf8, Option, Some, None, IfSome, refl, sym, ap, ◌∙◌, arith, length-append, encode_utf8_all, and_parts, and_from, or_parts, eqb-true, eq-eqb, le-leb, nat_tests, length-map, nil_from_length, length-le-encodes, take-length, list_all, is_some, Properties, is_starter, Form, Nfc, Nfd, row_of, decomposed, composes, is_sound, max_run, stream_safe, back-starter, IsSound, IsSound-from_test, Ending, Bad, ReplacesParts, text_of, ending_of, Part, own_parts, part_end, behind_text, parts_within, parts_of, replaced, replaced_len, bytes_in, State, Policy, StandsAfter, len_under, text_under, saved_of, are_marks, IsCounted, CountsFit, IsPending, IsRestorable, is_usable, has_starter, trail, trail-marks}
 use Rattle.std.specs.Option.{option_to_list}
 use Rattle.nf_forms.specs.Order.{by_class}
 use Rattle.nf_forms.specs.Ordering.{is_ordered}
@@ -99,8 +99,8 @@ module _ (laws : ReplacesParts) {policy : Policy} {f : Form} {p : Properties} {s
 
   new_text : text ≡ [] → (state.counted.normalizer.counter ≡ 0) × (state.counted.normalizer.pending.starter ≡ None)
   new_text e = (
-    stands.reading.taken.machine.count ∙ ap (λ x. trail p (decomposed Nfkd p (stream_safe p x))) e,
-    none state.counted.normalizer.pending.starter (sym (ap (λ x. has_starter p (decomposed f p (stream_safe p x))) e) ∙ starts),
+    rw e at stands.reading.taken.machine.count,
+    none state.counted.normalizer.pending.starter (rw e at starts),
   )
 
   all_pending : state.counted.normalizer.pending.starter ≡ None → length (stream_safe p text) ≤ run
@@ -128,10 +128,10 @@ module _ (laws : ReplacesParts) {policy : Policy} {f : Form} {p : Properties} {s
       starter (Some c) e = eqb-true (p.class c) 0 (back-starter p (composes f) pending.head pending.ends c (sym pending.starter ∙ ap option_to_list e))
 
       ordered : is_ordered p (by_class p pending.run) ≡ true
-      ordered = ap (is_ordered p) (sym (order-marks p pending.run pending.marks)) ∙ (ordering p pending.run).ordered
+      ordered = rw (order-marks p pending.run pending.marks) at (ordering p pending.run).ordered
 
       marks : are_marks p 1 state.counted.normalizer.pending.marks.items ≡ true
-      marks = ap (are_marks p 1) pending.held ∙ marks_of_run p (by_class p pending.run) ordered (has_starter-by_class p pending.run)
+      marks = rw pending.held (marks_of_run p (by_class p pending.run) ordered (has_starter-by_class p pending.run))
 
 -- one that stands after bytes
 pub IsRestorable-stands : (laws : ReplacesParts) {policy : Policy} {f : Form} {p : Properties} {state : State} {bytes : List ℕ} (stands : StandsAfter policy f p state bytes) → IsPart state.reading.decoder → state.counted.normalizer.counter ≤ max_run

@@ -1,12 +1,12 @@
 -- A step of a normalizer, and what of it went to the sink.
-use Rattle.nf_filter.proofs.Common.{◌≡◌, ℕ, ◌+◌, ◌<◌, List, [], ◌∷◌, ◌++◌, length, Some, Ok, Err, inl, inr, refl, sym, ap, ◌∙◌, arith, append_assoc, encode_utf8_all, IsUtf8, chars, length-append, encodes-chars, Properties, Form, safe_form, Given, Extends, Extends-join, Counted, Row, WriteFault, IsPlacedAt, Start, BlockState, Written, Broken, HasPlaces, ◌^◌, HasTaken, TakesOn, settled_text, usable_utf8, Standing, StandsInFront}
+use Rattle.nf_filter.proofs.Common.{⊎_elim, ◌≡◌, ℕ, ◌+◌, ◌<◌, List, [], ◌∷◌, ◌++◌, length, Ok, Err, inl, inr, refl, sym, ap, ◌∙◌, arith, append_assoc, encode_utf8_all, IsUtf8, chars, length-append, encodes-chars, Properties, Form, safe_form, Given, Extends, Extends-join, Counted, Row, WriteFault, IsPlacedAt, Start, BlockState, Written, Broken, HasPlaces, ◌^◌, HasTaken, TakesOn, settled_text, usable_utf8, Standing, StandsInFront}
 use Rattle.nf_normalizer.specs.declared.normalizer.Normalizer.{Normalizer}
 use Rattle.nf_normalizer.specs.Front.{Between, Stands, StepsTo}
 use Rattle.nf_normalizer.specs.Step.{RefusesRest}
 use Rattle.nf_normalizer.specs.Laws.Boundary.{usable-alone, usable_both, settled_text-behind}
 use Rattle.nf_filter.proofs.BlockLemmas.{WritesTo-written, Broken-extends}
 use Rattle.nf_filter.proofs.TextLemmas.{TakesOn-all, usable_utf8-extends, usable_utf8-stop, unusable_at-stop}
-use Rattle.nf_filter.proofs.TakingLemmas.{front-joined, front-whole, nothing-left, placed-first, placed-behind}
+use Rattle.nf_filter.proofs.TakingLemmas.{front-joined, front-whole, nothing-left}
 
 pub first-left : (rest : List ℕ) → IsUtf8 rest → 0 < length rest → (c : ℕ) × (more : List ℕ) × (chars rest ≡ c ∷ more)
 first-left rest utf8 some = next (chars rest) (encodes-chars rest utf8)
@@ -84,12 +84,12 @@ module _ {f : Form} {p : Properties} {start : Start} where
     step-refused {new} {kept} {rest} {place} begin {at} stopped placed offset =
         let refuses = stopped.refuses in
         let y = x ++ stopped.front in
-        let here = placed-first place at y refuses.first refuses.rest (rw refuses.is_first at (placed-behind place begin x (chars text) stopped.front (chars rest) at stopped.is_front offset placed)) in
+        let here = placed stopped.front refuses.first refuses.rest (rw refuses.is_first at stopped.is_front) ∙ sym offset in
         let whole : (y ++ refuses.first ∷ []) ++ refuses.rest ≡ x ++ chars text =
-        append_assoc y (refuses.first ∷ []) refuses.rest ∙ ap (λ l. y ++ l) (sym refuses.is_first) ∙ front-joined x (chars text) stopped.front (chars rest) stopped.is_front in
+        rw (append_assoc y (refuses.first ∷ []) refuses.rest, ← refuses.is_first) (front-joined x (chars text) stopped.front (chars rest) stopped.is_front) in
         rw (← whole) (record {
           writes = WritesTo-written (λ e. cc) (rw (← usable_utf8-stop p f y refuses.first refuses.rest refuses.usable refuses.unusable) (record { given = standing.given; puts = standing.puts; text = refuses.holds.text }));
-          fault = λ _. ap (λ n. Some (Row n)) (sym here) ∙ sym (unusable_at-stop p place y refuses.first refuses.rest refuses.usable refuses.unusable);
+          fault = λ _. rw here at (sym (unusable_at-stop p place y refuses.first refuses.rest refuses.usable refuses.unusable));
           taken = tt;
         })
 
@@ -118,18 +118,11 @@ module _ {f : Form} {p : Properties} {start : Start} where
   -- to its end, where no boundary can follow
   pub TakesOn-whole : {counted new : Counted} {now : BlockState} {place : List ℕ → ℕ} {x text rest : List ℕ} → length rest ≡ 0 → new.normalizer ≡ counted.normalizer → new.put ≡ counted.put → new.chars ≡ length x + length (chars text)
       → StandsInFront f p counted start now x text rest → TakesOn f p new start now place (x ++ chars text) (Ok tt)
-  TakesOn-whole {counted} {new} {now} {place} {x} {text} {rest} none same put counts here = next here.taken.stands
-    where
-      whole : x ++ here.front ≡ x ++ chars text
-      whole = rw (front-whole text here.front rest here.is_front none)
-
-      next : Stands f p counted.normalizer (given_to start here.taken.given) now.kept (x ++ here.front) (chars rest) → TakesOn f p new start now place (x ++ chars text) (Ok tt)
-      next (inl inside) = rw (← whole)
-          (TakesOn-all p f new start now place (x ++ here.front)
-          (record {
-            machine = rw same inside.taken;
-            chars = omega (arith, counts, length-append x (chars text), ap length whole);
-            put = rw put here.taken.put;
-          })
-          (record { given = here.taken.given; puts = here.taken.puts; text = inside.holds.text }))
-      next (inr between) = let begins : [] ≡ between.boundary.first ∷ between.boundary.rest = sym (nothing-left rest none) ∙ between.boundary.text in cc
+  TakesOn-whole {counted} {new} {now} {place} {x} {text} {rest} none same put counts here =
+      let whole : x ++ here.front ≡ x ++ chars text = rw (front-whole text here.front rest here.is_front none) in
+      ⊎_elim
+      (λ inside. rw (← whole) (TakesOn-all p f new start now place (x ++ here.front)
+      (record { machine = rw same inside.taken; chars = omega (arith, counts, length-append x (chars text), ap length whole); put = rw put here.taken.put })
+      (record { given = here.taken.given; puts = here.taken.puts; text = inside.holds.text })))
+      (λ between. let begins : [] ≡ between.boundary.first ∷ between.boundary.rest = sym (nothing-left rest none) ∙ between.boundary.text in cc)
+      here.taken.stands

@@ -9,11 +9,7 @@ front_len text front rest whole behind is =
 pub few : (bytes : List ℕ) → IsUtf8 bytes → length (chars bytes) ≤ length bytes
 few bytes utf8 = omega (arith, length-le-encodes (chars bytes), ap length (encodes-chars bytes utf8))
 
--- the offset of the first character
-pub placed-first : (place : List ℕ → ℕ) (at : ℕ) (x : List ℕ) (c : ℕ) (rest : List ℕ) → IsPlacedAt place at x (c ∷ rest) → place x ≡ at
-placed-first place at x c rest here = omega (arith, rw (append-nil x) at (here [] c rest refl))
-
--- and of those behind a front
+-- the offsets behind a front
 pub placed-behind : (place : List ℕ → ℕ) (at : ℕ) (x y front rest : List ℕ) (behind : ℕ) → y ≡ front ++ rest → behind ≡ at + length (encode_utf8_all front) → IsPlacedAt place at x y
     → IsPlacedAt place behind (x ++ front) rest
 placed-behind place at x y front rest behind is offset here more c last text =
