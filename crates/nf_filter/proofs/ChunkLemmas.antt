@@ -72,7 +72,7 @@ module _ (laws : ReplacesParts) {policy : Policy} {f : Form} {p : Properties} {b
   next_is = took.spelled ∙ append_assoc (text_of read.tail) (first_text first) (chars text)
 
   joined_is : taken_text ≡ read.before ++ text_of all
-  joined_is = append_assoc read.before (text_of read.tail) next_text ∙ ap (λ l. read.before ++ l) (sym next_is)
+  joined_is = rw next_is (append_assoc read.before (text_of read.tail) next_text)
 
   -- the offsets of its characters
   placed : IsPlacedAt (place_in policy.replace base bytes) (reading.offset - carried) (read.before ++ text_of read.tail) next_text
@@ -81,7 +81,7 @@ module _ (laws : ReplacesParts) {policy : Policy} {f : Form} {p : Properties} {b
       ∙ omega (
         arith,
         left-place _ _ _ _ _ read.left (text_of read.tail ++ front),
-        len_under-first laws policy.replace all (text_of read.tail ++ front) (c ∷ last) (next_is ∙ ap (λ l. text_of read.tail ++ l) is ∙ sym (append_assoc (text_of read.tail) front (c ∷ last))),
+        len_under-first laws policy.replace all (text_of read.tail ++ front) (c ∷ last) (rw (is, ← append_assoc (text_of read.tail) front (c ∷ last)) at next_is),
         ap length (encodes-append (text_of read.tail) front),
         length-append (encode_utf8_all (text_of read.tail)) (encode_utf8_all front),
         behind read.tail read.decoder,
@@ -96,7 +96,7 @@ module _ (laws : ReplacesParts) {policy : Policy} {f : Form} {p : Properties} {b
   pub chunk-refused : {now : BlockState} {after : Counted} {fault : Fault} → TakesBehind policy.assigned p counted old after now (reading.offset - carried) next_text (Err fault) → RefusesBytes policy f p start now base bytes fault
   chunk-refused one =
       let more = text_under-first laws policy.replace all in
-      RefusesBytes-front more.more (left-text _ _ _ _ _ read.left ∙ ap (λ l. read.before ++ l) more.text ∙ sym (append_assoc read.before (text_of all) more.more) ∙ ap (λ l. l ++ more.more) (sym joined_is)) (chunk-takes one)
+      RefusesBytes-front more.more (rw (joined_is, append_assoc read.before (text_of all) more.more, ← more.text) (left-text _ _ _ _ _ read.left)) (chunk-takes one)
 
   module _ {now : BlockState} {after : Counted} (text_takes : TakesBehind policy.assigned p counted old after now (reading.offset - carried) next_text (Ok tt)) where
     taken : TakesAllowed policy.assigned f p after start now (place_in policy.replace base bytes) taken_text (Ok tt)
@@ -139,7 +139,7 @@ module _ (laws : ReplacesParts) {policy : Policy} {f : Form} {p : Properties} {b
         bounds = rw is_len (part_len_of-bounds at back)
 
         end_is : part_end (length read.tail + at) (text_len all) ≡ length read.tail + len
-        end_is = part_end-is (length read.tail) at (text_len all) back ends.1 ∙ ap (λ n. length read.tail + n) (sym is_len)
+        end_is = rw is_len (part_end-is (length read.tail) at (text_len all) back ends.1)
 
         -- the part is replaced, and the rest is left
         left_behind : IsLeft policy.replace bytes (read.before ++ own) (read.n + (length read.tail + len)) (drop len rest)
@@ -150,7 +150,7 @@ module _ (laws : ReplacesParts) {policy : Policy} {f : Form} {p : Properties} {b
             dropped = sym (drop-drop len (length read.tail) all) ∙ ap (drop len) (drop_at read.tail rest (length read.tail) refl)
 
         behind_is : taken_text ++ replacement ∷ [] ≡ read.before ++ own
-        behind_is = ap (λ l. l ++ replacement ∷ []) joined_is ∙ append_assoc read.before (text_of all) (replacement ∷ [])
+        behind_is = rw joined_is (append_assoc read.before (text_of all) (replacement ∷ []))
 
         -- U+FFFD was taken where it stands, or why not
         part-takes : {last : Counted} {final : BlockState} {r : Result (Unit {0}) Fault} → TakesBehind policy.assigned p after now last final (reading.offset + at - back) (replacement ∷ []) r
@@ -169,13 +169,13 @@ module _ (laws : ReplacesParts) {policy : Policy} {f : Form} {p : Properties} {b
             (TakesAllowed-settled taken)
 
         pub part-refused : {last : Counted} {final : BlockState} {fault : Fault} → TakesBehind policy.assigned p after now last final (reading.offset + at - back) (replacement ∷ []) (Err fault) → RefusesBytes policy f p start final base bytes fault
-        part-refused one = RefusesBytes-front (text_under policy.replace (drop len rest)) (left-text _ _ _ _ _ left_behind ∙ ap (λ l. l ++ text_under policy.replace (drop len rest)) (sym behind_is)) (part-takes one)
+        part-refused one = RefusesBytes-front (text_under policy.replace (drop len rest)) (rw behind_is (left-text _ _ _ _ _ left_behind)) (part-takes one)
 
         pub part-read : {last : Counted} {final : BlockState} (next : Reading) → TakesBehind policy.assigned p after now last final (reading.offset + at - back) (replacement ∷ []) (Ok tt) → DecoderStandsAfter next.decoder [] → next.offset ≡ reading.offset + len
             → (behind : List ℕ) → behind ≡ drop len rest → (both : ReadsTo policy f p last start final base next bytes behind) × (both.0.tail ≡ [])
         part-read {last = last} next one decoder offset behind is_behind =
             let replaced = part-takes one in
-            let whole : taken_text ++ replacement ∷ [] ≡ (read.before ++ own) ++ text_of [] = behind_is ∙ sym (ap (λ l. (read.before ++ own) ++ l) text_of-none ∙ append-nil (read.before ++ own)) in (
+            let whole : taken_text ++ replacement ∷ [] ≡ (read.before ++ own) ++ text_of [] = rw (behind_is, text_of-none, append-nil (read.before ++ own)) in (
               (
                 record {
                   before = read.before ++ own;

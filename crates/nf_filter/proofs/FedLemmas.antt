@@ -75,7 +75,7 @@ module _ (laws : ReplacesParts) {policy : Policy} {f : Form} {p : Properties} {b
     whole_begun false e = cc
 
     pub whole_is : whole_under policy.replace bytes ≡ text ++ (if begun_at_end read.tail == 0 then [] else replacement ∷ [])
-    whole_is = left-whole _ _ _ _ _ left ∙ ap (λ l. read.before ++ l) (whole_begun policy.replace replaces) ∙ sym (append_assoc read.before (text_of read.tail) _)
+    whole_is = rw (append_assoc read.before (text_of read.tail), ← whole_begun policy.replace replaces) (left-whole _ _ _ _ _ left)
 
     module _ (carried : ℕ) (is_carried : length (encode_utf8_all (text_of read.tail)) + carried ≡ length read.tail) where
       begun_is : begun_at_end read.tail ≡ carried

@@ -17,8 +17,7 @@ abbrev place_behind : List ℕ → List ℕ → ℕ
 place_behind x z = length (encode_utf8_all (drop (length x) z))
 
 placed_behind : (x y : List ℕ) → IsPlacedAt (place_behind x) 0 x y
-placed_behind x y front c rest is =
-    ap (λ l. length (encode_utf8_all l)) (drop_at x front (length x) refl) ∙ (let n : length (encode_utf8_all front) ≡ 0 + length (encode_utf8_all front) = omega arith in n)
+placed_behind x y front c rest is = rw (drop_at x front (length x) refl) (omega arith)
 
 module _ (laws : ReplacesParts) {policy : Policy} {f : Form} {p : Properties} {base : ℕ} {bytes : List ℕ} {counted : Counted} {reading : Reading} {rest : List ℕ}
     (replaces : policy.replace ≡ true) (read : HasReadTo policy f p counted base reading bytes rest) (none : read.tail ≡ [])
@@ -31,7 +30,7 @@ module _ (laws : ReplacesParts) {policy : Policy} {f : Form} {p : Properties} {b
   before_is = rw (none, text_of-none) (append-nil read.before)
 
   next_allowed : allowed policy.assigned p next_text ≡ next_text
-  next_allowed = allowed-append p policy.assigned read.before own (rw before_is at read.allowed) ∙ ap (λ l. read.before ++ l) assigned
+  next_allowed = rw assigned at (allowed-append p policy.assigned read.before own (rw before_is at read.allowed))
 
   -- what is left behind them
   left : IsLeft policy.replace bytes next_text (read.n + len) (drop len rest)

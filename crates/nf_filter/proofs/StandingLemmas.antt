@@ -60,4 +60,4 @@ module _ (laws : ReplacesParts) {policy : Policy} {f : Form} {p : Properties} {s
   taken-text = read-text _ _ _ _ laws _ _ _ stands.reading
 
   pub taken-len : len_under policy.replace bytes (text_under policy.replace bytes) ≡ stands.reading.n + length (encode_utf8_all (text_of stands.reading.tail))
-  taken-len = ap (len_under policy.replace bytes) taken-text ∙ omega (arith, read-place laws stands.reading)
+  taken-len = rw taken-text (omega (arith, read-place laws stands.reading))

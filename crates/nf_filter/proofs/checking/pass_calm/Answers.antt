@@ -1,4 +1,4 @@
-use Rattle.nf_filter.proofs.Common.{◌≡◌, ◌+◌, [], ◌++◌, length, is_some, append-nil, rules, refl, ap, ◌∙◌, arith, encode_utf8_all, IsUtf8, chars, length-append, and_from, list_all-append, encodes-append, encodes-chars, is_sound}
+use Rattle.nf_filter.proofs.Common.{◌≡◌, ◌+◌, [], ◌++◌, length, is_some, append-nil, rules, refl, ap, ◌∙◌, arith, encode_utf8_all, chars, length-append, and_from, list_all-append, encodes-append, encodes-chars, is_sound}
 use Rattle.nf_filter.proofs.TakingLemmas.{few}
 use Rattle.nf_filter.proofs.ChecksLemmas.{counts_from_end, unstopped, new_checked}
 use Rattle.nf_filter.proofs.checking.pass_calm.Goals as goal
@@ -13,16 +13,11 @@ unreachable-requires g c =
     cc
 
 pub overflow_add-count : goal.overflow_add-count
-overflow_add-count g c =
-    let first : IsUtf8 c.args.calm.settled.now = search rules in
-    let second : IsUtf8 c.args.calm.tail.now = search rules in
-    omega (arith, c.requires.fits, c.char_count.ensures, c.char_count-2.ensures, few _ first, few _ second)
+overflow_add-count g c = omega (arith, c.requires.fits, c.char_count.ensures, c.char_count-2.ensures, few c.args.calm.settled.now (search rules), few c.args.calm.tail.now (search rules))
 
 pub go_on_from-requires-clause-fits : goal.go_on_from-requires-clause-fits
 go_on_from-requires-clause-fits g c =
-    let first : IsUtf8 c.args.calm.settled.now = search rules in
-    let second : IsUtf8 c.args.calm.tail.now = search rules in
-    omega (arith, (c.in-None.ensures.ready refl).1, c.new-end.ensures.offset, c.char_count.ensures, c.char_count-2.ensures, few _ first, few _ second)
+    omega (arith, (c.in-None.ensures.ready refl).1, c.new-end.ensures.offset, c.char_count.ensures, c.char_count-2.ensures, few c.args.calm.settled.now (search rules), few c.args.calm.tail.now (search rules))
 
 pub returns-clause-sees : goal.returns-clause-sees
 returns-clause-sees g c = λ base x before.
@@ -30,10 +25,9 @@ returns-clause-sees g c = λ base x before.
     let place = c.args.at + length c.args.calm.settled.now in
     let front = chars c.args.calm.settled.now in
     let end = chars c.args.calm.tail.now in
-    let first : IsUtf8 c.args.calm.settled.now = search rules in
     let seen = c.in-None.ensures.takes place [] (new_checked (c.new-end.ensures.stands p) c.new-end.ensures.place) (omega arith) in
     let here : place ≡ base + length (encode_utf8_all (x ++ front)) =
-    omega (arith, c.requires.ready.1, before.stands.offset (ap is_some c.requires.ready.0), ap length (encodes-append x front), length-append (encode_utf8_all x) (encode_utf8_all front), ap length (encodes-chars _ first)) in
+    omega (arith, c.requires.ready.1, before.stands.offset (ap is_some c.requires.ready.0), ap length (encodes-append x front), length-append (encode_utf8_all x) (encode_utf8_all front), ap length (encodes-chars c.args.calm.settled.now (search rules))) in
     record {
       stands = c.go_on_from.ensures.stands base p x front end before.stands (omega (arith, c.char_count.ensures, c.char_count-2.ensures, length-append front end))
           (counts_from_end p c.args._form c.requires.calm c.requires.some) (rw here at seen.stands);

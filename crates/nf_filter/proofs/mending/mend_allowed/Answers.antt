@@ -1,4 +1,4 @@
-use Rattle.nf_filter.proofs.Common.{◌<◌, length, chars, sym, ap, ◌∙◌, rules, arith, IsUtf8, encodes-chars}
+use Rattle.nf_filter.proofs.Common.{◌<◌, length, chars, sym, ap, ◌∙◌, rules, arith, encodes-chars}
 use Rattle.nf_filter.proofs.TakingLemmas.{front_len, front-whole}
 use Rattle.nf_filter.proofs.mending.mend_allowed.Goals as goal
 
@@ -13,8 +13,5 @@ loop-front-smaller g c =
     let text = c.mended_text.result.now in
     let front = c.split_allowed.result.0.now in
     let rest = c.split_allowed.result.1.now in
-    let front-utf8 : IsUtf8 front = search rules in
-    let rest-utf8 : IsUtf8 rest = search rules in
     let some : 0 < length rest = search rules in
-    let whole = front_len text (chars front) rest c.mended_text.utf8 rest-utf8 c.split_allowed.ensures.whole in
-    omega (arith, whole, some, ap length (encodes-chars front front-utf8), ap length c.mended_text.ensures, c.mend_front-len.ensures.within)
+    omega (arith, front_len text (chars front) rest c.mended_text.utf8 (search rules) c.split_allowed.ensures.whole, some, ap length (encodes-chars front (search rules)), ap length c.mended_text.ensures, c.mend_front-len.ensures.within)

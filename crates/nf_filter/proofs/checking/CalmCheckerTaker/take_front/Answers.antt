@@ -7,26 +7,20 @@ in_two : (text : List ℕ) (n : ℕ) (window rest : List ℕ) → IsUtf8 window 
 in_two text n window rest utf8 first second = rw (← chars-append window rest utf8, first, second, take-append-drop n text)
 
 pub returns-in-Some-clause-takes : goal.returns-in-Some-clause-takes
-returns-in-Some-clause-takes g c = λ base x before here.
-    let first : IsUtf8 c.in-Some.calm.settled.now = search rules in
-    let second : IsUtf8 c.in-Some.calm.tail.now = search rules in
-    record {
-      front = chars c.in-Some.calm.settled.now ++ chars c.in-Some.calm.tail.now;
-      is_front = chars-three _ _ _ _ first second c.in-Some.ensures.calm.text;
-      taken = c.pass_calm.ensures.sees base x before;
-    }
+returns-in-Some-clause-takes g c = λ base x before here. record {
+  front = chars c.in-Some.calm.settled.now ++ chars c.in-Some.calm.tail.now;
+  is_front = chars-three _ _ _ _ (search rules) (search rules) c.in-Some.ensures.calm.text;
+  taken = c.pass_calm.ensures.sees base x before;
+}
 
 pub returns-in-None-clause-takes : goal.returns-in-None-clause-takes
-returns-in-None-clause-takes g c = λ base x before here.
-    let utf8 : IsUtf8 c.split_at.result.0.now = search rules in
-    record {
-      front = chars c.split_at.result.0.now;
-      is_front = in_two _ _ _ _ utf8 c.split_at.ensures.front c.split_at.ensures.back;
-      taken = c.in-None.ensures.takes base x before here;
-    }
+returns-in-None-clause-takes g c = λ base x before here. record {
+  front = chars c.split_at.result.0.now;
+  is_front = in_two _ _ _ _ (search rules) c.split_at.ensures.front c.split_at.ensures.back;
+  taken = c.in-None.ensures.takes base x before here;
+}
 
 pub returns-in-Some-take_text-clause-takes : goal.returns-in-Some-take_text-clause-takes
 returns-in-Some-take_text-clause-takes g c = λ base x before here.
-    let utf8 : IsUtf8 c.split_at.result.0.now = search rules in
-    decides-within (text_decision (g.R.Rows.properties c.args.rows.now) base) x _ _ _ (in_two _ _ _ _ utf8 c.split_at.ensures.front c.split_at.ensures.back)
+    decides-within (text_decision (g.R.Rows.properties c.args.rows.now) base) x _ _ _ (in_two _ _ _ _ (search rules) c.split_at.ensures.front c.split_at.ensures.back)
     (c.in-Some-take_text.ensures.takes base x before here)

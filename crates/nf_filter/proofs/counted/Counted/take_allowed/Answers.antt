@@ -1,4 +1,4 @@
-use Rattle.nf_filter.proofs.Common.{◌≡◌, ◌+◌, ◌<◌, ◌∷◌, ◌++◌, length, ap, ◌∙◌, arith, rules, length-append, chars, IsUtf8, encodes-chars}
+use Rattle.nf_filter.proofs.Common.{◌≡◌, ◌+◌, ◌<◌, ◌∷◌, ◌++◌, length, ap, ◌∙◌, arith, rules, length-append, chars, encodes-chars}
 use Rattle.nf_filter.proofs.TakingLemmas.{front-whole}
 use Rattle.nf_filter.proofs.SteppingLemmas.{first-left, next_place}
 use Rattle.nf_filter.proofs.AllowingLemmas.{allowed-part, TakesAllowed-all, TakesAllowed-refused, TakesAllowed-unassigned}
@@ -19,18 +19,16 @@ pub returns-clause-takes : goal.returns-clause-takes
 returns-clause-takes g c = λ f place x start taken all here written.
     let text = chars c.args.text.now in
     let a = c.split_allowed.result.0.now in
-    let utf8 : IsUtf8 a = search rules in
     let some = first-left c.split_allowed.result.1.now (search rules) (search rules) in
     let more : text ≡ chars a ++ some.0 ∷ some.1 = rw some.2 at c.split_allowed.ensures.whole in
     let less : length (x ++ chars a) < length (x ++ text) = omega (arith, length-append x (chars a), length-append x text, ap length more, length-append (chars a) (some.0 ∷ some.1)) in
     let part = allowed-part _ _ _ c.split_allowed.ensures.whole c.split_allowed.ensures.front c.in_default.ensures.takes f place x start taken all here written in
-    TakesAllowed-unassigned part.0 less (here (chars a) some.0 some.1 more ∙ ap (λ n. c.args.at + n) (ap length (encodes-chars a utf8) ∙ (let len : length a ≡ _ = search rules in len))) part.1
+    TakesAllowed-unassigned part.0 less (here (chars a) some.0 some.1 more ∙ ap (λ n. c.args.at + n) (ap length (encodes-chars a (search rules)) ∙ (let len : length a ≡ _ = search rules in len))) part.1
 
 pub overflow_add-result : goal.overflow_add-result
 overflow_add-result g c =
     let a = c.split_allowed.result.0.now in
-    let utf8 : IsUtf8 a = search rules in
-    omega (arith, next_place _ _ _ c.requires.fits (search rules) (search rules) c.split_allowed.ensures.whole, ap length (encodes-chars a utf8))
+    omega (arith, next_place _ _ _ c.requires.fits (search rules) (search rules) c.split_allowed.ensures.whole, ap length (encodes-chars a (search rules)))
 
 pub returns-then-is_empty-clause-chars : goal.returns-then-is_empty-clause-chars
 returns-then-is_empty-clause-chars g c =

@@ -1,4 +1,4 @@
-use Rattle.nf_filter.proofs.Common.{◌≡◌, [], ◌∷◌, ◌++◌, append_assoc, length-append, encode_utf8_all, length, rules, refl, sym, ap, arith, ◌∙◌, chars, encodes-append}
+use Rattle.nf_filter.proofs.Common.{[], ◌∷◌, ◌++◌, append_assoc, length-append, encode_utf8_all, length, rules, refl, sym, ap, arith, ◌∙◌, chars, encodes-append}
 use Rattle.nf_filter.proofs.TakingLemmas.{front_len, front-more}
 use Rattle.nf_filter.proofs.TakerLemmas.{joined, placed-left, takes-none, takes-more}
 use Rattle.nf_filter.proofs.SteppingLemmas.{TakesOn-whole, next_place}
@@ -45,8 +45,7 @@ returns-in-Err-clause-takes g c = λ f place x start counted standing here.
 
 pub returns-clause-takes : goal.returns-clause-takes
 returns-clause-takes g c = λ f place x start counted standing here.
-    let none : length c.loop-rest.rest.now ≡ 0 = search rules in
-    TakesOn-whole none refl refl (omega (arith, counted, c.loop-rest.invariant.chars, c.char_count.ensures)) (c.loop-rest.invariant.stands f place x start standing here)
+    TakesOn-whole (search rules) refl refl (omega (arith, counted, c.loop-rest.invariant.chars, c.char_count.ensures)) (c.loop-rest.invariant.stands f place x start standing here)
 
 pub overflow_add-place : goal.overflow_add-place
 overflow_add-place g c =

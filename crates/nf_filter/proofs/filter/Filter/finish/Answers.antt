@@ -8,7 +8,7 @@ abbrev tally_from : ℕ → ℕ → ℕ → Tally
 tally_from bytes chars put = record { bytes = bytes; chars = chars; put = put }
 
 -- what was counted
-module _ (policy : Policy) (f : Form) (p : Properties) (state : State) (bytes : List ℕ) (stands : StandsAfter policy f p state bytes) where
+module _ {policy : Policy} {f : Form} {p : Properties} {state : State} {bytes : List ℕ} (stands : StandsAfter policy f p state bytes) where
   counted : (replace : Bool) (after : Counted) → HasTaken f p after (whole_under replace bytes) → tally_from (offset_of state - base_of state) after.chars after.put ≡ tally_of replace p bytes
   counted replace after taken = same (omega (arith, StandsAfter-offset stands)) taken.chars (omega (arith, taken.put, taken.chars))
     where
@@ -22,7 +22,7 @@ returns-in-Err-clause-finishes g c = λ policy f bytes stands.
 pub returns-in-Ok-clause-finishes : goal.returns-in-Ok-clause-finishes
 returns-in-Ok-clause-finishes g c = λ policy f bytes stands.
     let closes = c.in_default.ensures.closes f c.args.self.state.base bytes (read_before stands) in
-    rw (← stands.policy_is) (Finishes-whole closes _ (counted policy f _ _ bytes stands c.args.self.state.policy.replace c.close.new.counted closes.0) (c.in-Ok.ensures.puts f _ closes.0))
+    rw (← stands.policy_is) (Finishes-whole closes _ (counted stands c.args.self.state.policy.replace c.close.new.counted closes.0) (c.in-Ok.ensures.puts f _ closes.0))
 
 pub returns-in-Err-end-clause-finishes : goal.returns-in-Err-end-clause-finishes
 returns-in-Err-end-clause-finishes g c = λ policy f bytes stands.

@@ -1,4 +1,4 @@
-use Rattle.nf_filter.proofs.Common.{◌≡◌, length, rules, ◌∙◌, arith, nil_from_length}
+use Rattle.nf_filter.proofs.Common.{rules, ◌∙◌, arith, nil_from_length}
 use Rattle.nf_filter.proofs.reading.Reading.read_rest.Goals as goal
 
 pub loop-left-preserved : goal.loop-left-preserved
@@ -14,5 +14,4 @@ returns-in-Err-clause-reads g c = λ f base bytes start both. c.in-Err.ensures.r
 
 pub returns-clause-reads : goal.returns-clause-reads
 returns-clause-reads g c = λ f base bytes start both.
-    let none : length c.loop-left.left.now ≡ 0 = search rules in
-    rw (nil_from_length c.loop-left.left.now none) at (c.loop-left.invariant.reads f base bytes start both)
+    rw (nil_from_length c.loop-left.left.now (search rules)) at (c.loop-left.invariant.reads f base bytes start both)
