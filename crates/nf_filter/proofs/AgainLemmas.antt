@@ -1,5 +1,5 @@
 -- What a filter wrote to the end is a text that is stream-safe and its own form, so that a second one changes nothing.
-use Rattle.nf_filter.proofs.Common.{◌≡◌, ℕ, ◌+◌, Bool, true, false, ◌==◌, List, [], ◌∷◌, ◌++◌, length, Option, Some, None, Result, Ok, Err, refl, sym, ap, ◌∙◌, append-nil, eq-eqb, IsTrue, OnOk, if◌then◌else◌, encode_utf8_all, inl, and_from, and_parts, Appends, all_scalars, Properties, Form, is_sound, stream_safe, safe_form, ChangesOnce, IsSoundText, in_format-unchanged, IsText, BeginsText, Ending, Whole, Cut, text_of, ending_of, replacement, begun_at_end, replaced, replaced_whole, ReadsLongestText, ReadsBack, ReplacesParts, Fault, Policy, Tally, as_is, allowed, text_under, whole_under, len_under, is_usable, settled_utf8, answer_at_end, bad_under, first_fault, fault_in, tally_of, answer_or, end_under, end_of, whole_or, is_taken, final_under, final_utf8, SinkState, SourceState, Puts, Drives, DrivesToEnd, whole_utf8, Converts, settled_utf8-none}
+use Rattle.nf_filter.proofs.Common.{◌≡◌, ℕ, Bool, true, false, ◌==◌, List, [], ◌∷◌, ◌++◌, length, Option, Some, None, Result, Ok, Err, refl, sym, ap, ◌∙◌, append-nil, eq-eqb, IsTrue, OnOk, if◌then◌else◌, encode_utf8_all, inl, and_from, and_parts, Appends, all_scalars, Properties, Form, is_sound, stream_safe, safe_form, ChangesOnce, IsSoundText, in_format-unchanged, IsText, BeginsText, Ending, Whole, Cut, text_of, ending_of, replacement, begun_at_end, replaced, replaced_whole, ReadsLongestText, ReadsBack, ReplacesParts, Fault, Policy, Tally, as_is, allowed, text_under, whole_under, is_usable, settled_utf8, answer_at_end, bad_under, fault_in, tally_of, answer_or, end_under, end_of, whole_or, is_taken, final_under, final_utf8, SinkState, SourceState, Puts, Drives, DrivesToEnd, whole_utf8, Converts, settled_utf8-none}
 use Rattle.std.proofs.str.Laws.{scalars-append}
 use Rattle.std.proofs.Math.Nat.{sub_self}
 use Rattle.std.proofs.Math.Utf8.{scalar}
@@ -87,7 +87,7 @@ module _ (back : ReadsBack) (replacing : ReplacesParts) where
 
         end-is : (replace : Bool) (base : ℕ) → end_under replace policy.assigned p base bytes_is ≡ Ok (nothing_put bytes_is)
         end-is false base = rw ending-is (ap Ok (put-is false))
-        end-is true base = rw (ap (λ x. first_fault policy.assigned p (λ front. base + len_under true bytes_is front) x None) whole-is, first_fault-none p policy.assigned _ o None usable-is all-is) (ap Ok (put-is true))
+        end-is true base = rw (whole-is, first_fault-none p policy.assigned _ o None usable-is all-is) (ap Ok (rw whole-is at (put-is true)))
 
         tally-is : (base : ℕ) → end_of policy p base bytes_is ≡ Ok (nothing_put bytes_is)
         unfolding end_of
@@ -141,11 +141,11 @@ finished_stays longest back replacing = λ policy f p base bytes tally once end.
 
 -- ---- of a source that was driven to its end
 
-pub drives_to_end : {Says : List ℕ → Type 0} → (most : ℕ) (policy : Policy) (f : Form) (p : Properties) (base : ℕ) (bytes : List ℕ) (source left : SourceState) (old new : SinkState) (result : Result Tally Fault)
+pub drives_to_end : {Says : List ℕ → Type 0} {most : ℕ} {policy : Policy} {f : Form} {p : Properties} {base : ℕ} {bytes : List ℕ} {source left : SourceState} {old new : SinkState} (result : Result Tally Fault)
     → ((all : List ℕ) (tally : Tally) → fault_in policy p base all ≡ None → end_of policy p base all ≡ Ok tally → Says all)
     → IsTrue left.is_at_end → Drives most policy f p base bytes source left old new result → OnOk result (DrivesToEnd policy f p bytes source left old new Says)
-drives_to_end most policy f p base bytes source left old new (Err fault) law end drives = tt
-drives_to_end most policy f p base bytes source left old new (Ok tally) law end drives = record {
+drives_to_end (Err fault) law end drives = tt
+drives_to_end {bytes = bytes} (Ok tally) law end drives = record {
   fed = drives.fed;
   given = rw (drives.all_fed (λ e. cc), append-nil drives.fed) at drives.given;
   read_out = drives.read_out end;
@@ -156,7 +156,7 @@ drives_to_end most policy f p base bytes source left old new (Ok tally) law end 
 pub drives_once : FinishedStays → (most : ℕ) (policy : Policy) (f : Form) (p : Properties) (base : ℕ) (bytes : List ℕ) (source left : SourceState) (old new : SinkState) (result : Result Tally Fault)
     → ChangesOnce f p → IsTrue left.is_at_end → Drives most policy f p base bytes source left old new result → OnOk result (DrivesOnce policy f p bytes source left old new)
 drives_once law most policy f p base bytes source left old new result once end drives =
-    drives_to_end most policy f p base bytes source left old new result (λ all tally _ end. law policy f p base all tally once end) end drives
+    drives_to_end result (λ all tally _ end. law policy f p base all tally once end) end drives
 
 module _ (f : Form) (p : Properties) (old new : SinkState) where
   put-stays : (out whole : List ℕ) → whole ≡ out → Appends old.taken new.taken out → StaysAsItIs f p whole → AddsWhatStays f p old.taken new.taken

@@ -1,5 +1,5 @@
 -- A text of which only assigned characters may be taken.
-use Rattle.nf_filter.proofs.Common.{◌≡◌, ℕ, ◌==◌, ◌<◌, Bool, true, false, List, ◌++◌, length, Some, None, Ok, Err, refl, sym, ap, ◌∙◌, arith, ne_eqb, Result, if◌then◌else◌, Properties, Form, Fault, Row, WriteFault, Unassigned, Counted, Start, BlockState, Written, first_fault, taken_utf8, TakesAllowed, HasTaken, IsPlacedAt, TakesOn, settled_text, unusable_at, usable_utf8, allowed, is_usable, usable, Standing}
+use Rattle.nf_filter.proofs.Common.{◌≡◌, ℕ, ◌==◌, ◌<◌, Bool, true, false, List, ◌++◌, length, Some, None, Ok, Err, sym, arith, ne_eqb, Result, if◌then◌else◌, Properties, Form, Fault, Row, WriteFault, Unassigned, Counted, Start, BlockState, Written, first_fault, taken_utf8, TakesAllowed, HasTaken, IsPlacedAt, TakesOn, settled_text, unusable_at, usable_utf8, allowed, is_usable, usable, Standing}
 use Rattle.nf_filter.proofs.BlockLemmas.{WritesTo-written, Broken-extends}
 use Rattle.nf_filter.proofs.PolicyLemmas.{allowed-append, first_fault-none, first_fault-stays, taken-all, taken_utf8-grows, first_fault-is}
 use Rattle.nf_filter.proofs.TakingLemmas.{placed-within}
@@ -64,8 +64,7 @@ module _ {f : Form} {p : Properties} where
         → TakesAllowed a f p counted start now place w (Err (Unassigned at))
     TakesAllowed-unassigned {a} {w} {z} front less here takes = record {
       writes = WritesTo-written (λ e. cc) (rw (written_is p a w z front f) at (takes.writes.written (λ e. cc)));
-      fault = λ _. ap (λ n. Some (Unassigned n)) (sym here)
-          ∙ sym (rw (first_fault-is p a place w None, front, takes.taken.machine.usable, ne_eqb (length z) (length w) (λ e. omega (arith, less, e))) refl);
+      fault = λ _. rw (first_fault-is p a place w None, front, takes.taken.machine.usable, ne_eqb (length z) (length w) (λ e. omega (arith, less, e)), here);
       taken = tt;
     }
 

@@ -1,5 +1,5 @@
 -- What is written through a block.
-use Rattle.nf_filter.proofs.Common.{◌≡◌, List, ℕ, [], ◌++◌, sym, ap, ◌∙◌, append-nil, append_assoc, SinkState, BreaksOff, Start, BlockState, Written, WritesTo, Result, Err, Fault, Write, Extends}
+use Rattle.nf_filter.proofs.Common.{◌≡◌, List, ℕ, [], ◌++◌, sym, append-nil, append_assoc, SinkState, BreaksOff, Start, BlockState, Written, WritesTo, Result, Err, Fault, Write, Extends}
 use Rattle.nf_filter.proofs.WritesLemmas.{Puts-none, BreaksOff-extends}
 
 abbrev pub start_at : SinkState → List ℕ → Start
@@ -17,4 +17,4 @@ WritesTo-written other written = record { broken = λ e. absurd (other e); writt
 pub Broken-extends : (start : Start) {new : SinkState} {a b : List ℕ} → Extends a b → BreaksOff start.sink new start.before (start.ahead ++ a)
     → BreaksOff start.sink new start.before (start.ahead ++ b)
 Broken-extends start {a = a} more broken =
-    BreaksOff-extends (record { more = more.more; text = ap (λ l. start.ahead ++ l) more.text ∙ sym (append_assoc start.ahead a more.more) }) broken
+    BreaksOff-extends (record { more = more.more; text = simp (more.text, append_assoc) }) broken

@@ -1,5 +1,5 @@
 -- How far a text is taken under a policy.
-use Rattle.nf_filter.proofs.Common.{cases_Bool, ◌≡◌, ℕ, ◌==◌, ◌<◌, Bool, true, false, List, [], ◌∷◌, ◌++◌, length, Option, Some, None, ◌⊎◌, inl, inr, ⊎_elim, refl, sym, ap, ◌∙◌, arith, append-nil, append_assoc, eq-eqb, ne_eqb, take_while, if◌then◌else◌, length-append, ◌&&◌, list_all, prefix_len, and_parts, cond-true, cond-false, eqb-true, eqb-false, Properties, Form, Fault, Row, Unassigned, first_fault, taken_utf8, allowed, is_usable, usable, Extends, Extends-none, Extends-encodes, settled-extends, is_usable-stays_out, usable-all, usable-grows, usable-stays, is_taken, length-prefix_len, prefix_len-append, take-append-le, take_all, take-append-add}
+use Rattle.nf_filter.proofs.Common.{cases_Bool, ◌≡◌, ℕ, ◌==◌, ◌<◌, Bool, true, false, List, [], ◌∷◌, ◌++◌, length, Option, Some, None, ◌⊎◌, inl, inr, ⊎_elim, refl, sym, ap, ◌∙◌, arith, append-nil, append_assoc, eq-eqb, ne_eqb, take_while, if◌then◌else◌, length-append, ◌&&◌, list_all, prefix_len, and_parts, eqb-true, eqb-false, Properties, Form, Fault, Row, Unassigned, first_fault, taken_utf8, allowed, is_usable, usable, Extends, Extends-none, Extends-encodes, settled-extends, is_usable-stays_out, usable-all, usable-grows, usable-stays, is_taken, length-prefix_len, prefix_len-append, take-append-le, take_all, take-append-add}
 use Rattle.std.proofs.lemmas.List.Sums.{take_while-cons, prefix_len-le-length}
 pub use Rattle.nf_filter.specs.Laws.Undecided.{take_while-all}
 
@@ -8,11 +8,11 @@ module _ (test : ℕ → Bool) where
   take_while-append [] y all = refl
   take_while-append (c ∷ x) y all =
       let parts = and_parts (test c) (list_all test x) all in
-      take_while-cons test c (x ++ y) ∙ cond-true _ _ _ parts.0 ∙ ap (λ l. c ∷ l) (take_while-append x y parts.1)
+      rw (take_while-cons test c (x ++ y), parts.0, take_while-append x y parts.1)
 
   pub take_while-stop : (x : List ℕ) (c : ℕ) (y : List ℕ) → list_all test x ≡ true → test c ≡ false → take_while test ((x ++ c ∷ []) ++ y) ≡ x
   take_while-stop x c y all fails =
-      ap (take_while test) (append_assoc x (c ∷ []) y) ∙ take_while-append x (c ∷ y) all ∙ ap (λ l. x ++ l) (take_while-cons test c y ∙ cond-false _ _ _ fails) ∙ append-nil x
+      rw (append_assoc x (c ∷ []) y, take_while-append x (c ∷ y) all, take_while-cons test c y, fails) (append-nil x)
 
   -- where all of x pass, more of a longer text may; where not, no more does
   take_while-more : (x y : List ℕ) → take_while test x ≡ x → take_while test (x ++ y) ≡ x ++ take_while test y

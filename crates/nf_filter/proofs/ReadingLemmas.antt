@@ -1,5 +1,5 @@
 -- A piece more.
-use Rattle.nf_filter.proofs.Common.{IsReady, encode_utf8_all, ap₂, ◌≡◌, ℕ, ◌+◌, ◌-◌, ◌≤◌, List, [], ◌++◌, length, Some, None, refl, ap, ◌∙◌, arith, eq-eqb, subst, Option, Result, chars, length-drop, result_map_both, utf8_valid_len_le, End, EndsWhole, EndsCut, EndsBad, first_bytes, EndsPiece, bytes_behind, Counts, Takes, first_text, Ending, Whole, text_len, text_of, rest_of, ending_of, DecoderStandsAfter, Fault, BadByte, Reading, bad_byte, answer_at_end, Survey, decided_or, decided_in, HasSurveyed, false, text_under-none}
+use Rattle.nf_filter.proofs.Common.{IsReady, encode_utf8_all, ap₂, ◌≡◌, ℕ, ◌+◌, ◌-◌, ◌≤◌, List, [], ◌++◌, length, Some, None, refl, ap, arith, eq-eqb, subst, Option, Result, chars, length-drop, result_map_both, utf8_valid_len_le, End, EndsWhole, EndsCut, EndsBad, first_bytes, EndsPiece, bytes_behind, Counts, Takes, first_text, Ending, Whole, text_len, text_of, rest_of, ending_of, DecoderStandsAfter, Fault, BadByte, Reading, bad_byte, answer_at_end, Survey, decided_or, decided_in, HasSurveyed, false, text_under-none}
 use Rattle.nf_utf8.specs.declared.chunk.Chunk.{Chunk}
 use Rattle.nf_utf8.specs.declared.decoder.Decoder.{Decoder}
 
@@ -27,7 +27,7 @@ HasSurveyed-none offset decoder taken undecided decides worth = record {
   taken = rw text_of-none taken;
   decides = decides;
   worth = worth;
-  undecided = decides [] ∙ rw (text_of-none, ending_of-none) (ap (λ o. decided_or o None) undecided);
+  undecided = rw (decides [], text_of-none, ending_of-none, undecided);
 }
 
 -- an answer at the end, by another that differs in the value alone

@@ -1,12 +1,12 @@
 -- Where each character is sound, none is refused, and where characters that are not assigned are taken, none for that.
-use Rattle.nf_filter.proofs.Common.{⊎_elim, cases_Bool, ◌≡◌, ℕ, ◌+◌, Bool, true, false, List, [], ◌∷◌, ◌++◌, length, ◌==◌, Option, Some, None, Result, Err, refl, sym, ap, ◌∙◌, option_map, if◌then◌else◌, subst, result_err, list_all, Properties, Form, stream_safe, is_sound, Ending, Bad, Cut, text_of, ending_of, Place, place_from, Fault, BadByte, CutShort, Read, Row, TooLong, Unassigned, Write, Policy, Tally, SinkState, SourceState, is_usable, usable, answer_at_end, bad_byte, bad_under, first_fault, fault_in, tally_of, answer_or, end_under, end_of, Finishes, as_is, allowed, len_under, text_under, whole_under, Feeds, Drives, Surveys, sound_front, check_fault, place_or_fault, check_decision, measure_decision, AreSound}
+use Rattle.nf_filter.proofs.Common.{⊎_elim, cases_Bool, ◌≡◌, ℕ, ◌+◌, Bool, true, false, List, [], ◌∷◌, ◌++◌, length, ◌==◌, Option, Some, None, Result, Err, refl, sym, ap, ◌∙◌, option_map, if◌then◌else◌, result_err, list_all, Properties, Form, stream_safe, is_sound, Ending, Bad, Cut, text_of, ending_of, Place, place_from, Fault, BadByte, CutShort, Read, Row, TooLong, Unassigned, Write, Policy, Tally, SinkState, SourceState, is_usable, usable, answer_at_end, bad_byte, bad_under, first_fault, fault_in, tally_of, answer_or, end_under, end_of, Finishes, as_is, allowed, len_under, text_under, whole_under, Feeds, Drives, Surveys, sound_front, check_fault, place_or_fault, check_decision, measure_decision, AreSound}
 use Rattle.nf_filter.specs.Kinds.{row, unassigned, IsAmong}
 use Rattle.nf_filter.proofs.PolicyLemmas.{first_fault-is}
 
 -- neither the end nor a bad byte refuses a character
 module _ (refusal : Fault) (is : IsAmong (row ∷ unassigned ∷ []) refusal) where
   apart : (fault : Fault) → fault ≡ refusal → IsAmong (row ∷ unassigned ∷ []) fault
-  apart fault same = subst (IsAmong (row ∷ unassigned ∷ [])) (sym same) is
+  apart fault same = rw same is
 
   pub not_at_end : {T : Type 0} (base : ℕ) (value : T) (e : Ending) → ¬ (answer_at_end base value e ≡ Err refusal)
   not_at_end base value (Cut at start) e = apart (CutShort (base + at) (base + start)) cc

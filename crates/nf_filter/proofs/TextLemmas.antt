@@ -1,6 +1,5 @@
 -- A text more.
-use Rattle.nf_filter.proofs.Common.{◌≡◌, ℕ, true, false, List, [], ◌∷◌, ◌++◌, Some, Ok, refl, sym, ap, ◌∙◌, append-nil, Properties, Form, Row, Counted, is_usable, SinkState, Puts, Start, BlockState, Written, HasTaken, settled_text, usable_utf8, unusable_at, TakesOn, Extends, Extends-encodes, settled-extends, is_usable-stays_out, usable-all, usable-stop, usable-extends, unusable_at-usable}
-use Rattle.nf_filter.proofs.WritesLemmas.{Puts-at}
+use Rattle.nf_filter.proofs.Common.{◌≡◌, ℕ, true, false, List, [], ◌∷◌, ◌++◌, Some, Ok, sym, append-nil, Properties, Form, Row, Counted, is_usable, SinkState, Puts, Start, BlockState, Written, HasTaken, settled_text, usable_utf8, unusable_at, TakesOn, Extends, Extends-encodes, settled-extends, is_usable-stays_out, usable-all, usable-stop, usable-extends, unusable_at-usable}
 use Rattle.nf_filter.proofs.BlockLemmas.{WritesTo-written}
 
 module _ (p : Properties) where
@@ -36,4 +35,4 @@ module _ (p : Properties) where
 pub Puts-emptied : {start : Start} {sink : SinkState} {kept w : List ℕ} → kept ≡ [] → Written start (record { sink = sink; kept = kept }) w
     → Puts start.sink sink start.before (start.ahead ++ w)
 Puts-emptied {start} {sink} {kept} {w} none written =
-    Puts-at refl (sym (written.text ∙ ap (λ l. written.given ++ l) none ∙ append-nil written.given)) written.puts
+    simp (written.text, none, append-nil) written.puts

@@ -1,5 +1,5 @@
 -- Calls that give to a sink in turn.
-use Rattle.nf_filter.proofs.Common.{◌≡◌, ℕ, ◌<◌, true, List, [], ◌++◌, length, refl, sym, ap, ◌∙◌, subst, arith, append_assoc, append-nil, length-append, subst₂, Appends, Appends-nil, Appends-trans, SinkState, Puts, BreaksOff, Extends}
+use Rattle.nf_filter.proofs.Common.{◌≡◌, ℕ, ◌<◌, true, List, [], ◌++◌, length, refl, sym, ap, ◌∙◌, subst, arith, append_assoc, append-nil, length-append, Appends, Appends-nil, Appends-trans, SinkState, Puts, BreaksOff, Extends}
 
 pub Puts-none : (state : SinkState) (before : List ℕ) → Puts state state before before
 Puts-none state before = record { out = []; behind = sym (append-nil before); given = Appends-nil state.taken; stands = refl; idle = λ _. refl }
@@ -52,4 +52,4 @@ Puts-at {old} {new} {a} {b} {c} {d} same_before same_after puts =
     record { out = puts.out; behind = sym same_after ∙ puts.behind ∙ ap (λ l. l ++ puts.out) same_before; given = puts.given; stands = puts.stands; idle = puts.idle }
 
 pub BreaksOff-at : {old new : SinkState} {a b c d : List ℕ} → a ≡ c → b ≡ d → BreaksOff old new a b → BreaksOff old new c d
-BreaksOff-at {old} {new} same_before same_after stops = subst₂ (BreaksOff old new) same_before same_after stops
+BreaksOff-at same_before same_after stops = rw (same_before, same_after) at stops

@@ -1,7 +1,7 @@
 -- A text that was taken decides nothing.
 use Rattle.std.proofs.Common.{◌≡◌, ℕ, Bool, true, List, [], ◌∷◌, None, Err, refl, sym, ap, ◌∙◌, option_map}
 use Rattle.std.specs.List.{list_all, take_while}
-use Rattle.std.proofs.lemmas.Bool.{cond-true, and_parts}
+use Rattle.std.proofs.lemmas.Bool.{and_parts}
 use Rattle.std.proofs.lemmas.List.Sums.{take_while-cons}
 use Rattle.nf_forms.specs.Properties.{Properties}
 use Rattle.nf_forms.specs.Sound.{is_sound}
@@ -17,7 +17,7 @@ pub take_while-all : (test : ℕ → Bool) (x : List ℕ) → list_all test x �
 take_while-all test [] all = refl
 take_while-all test (c ∷ x) all =
     let parts = and_parts (test c) (list_all test x) all in
-    take_while-cons test c x ∙ cond-true _ _ _ parts.0 ∙ ap (λ l. c ∷ l) (take_while-all test x parts.1)
+    rw (take_while-cons test c x, parts.0, take_while-all test x parts.1)
 
 -- sound text without a place
 pub no_stop : (p : Properties) (base : ℕ) (x : List ℕ) → list_all (is_sound p) x ≡ true → place_from base p x ≡ None → text_decision p base x ≡ None

@@ -20,4 +20,4 @@ returns-clause-again g c = λ policy f bytes stands once.
 
 pub returns-clause-joined : goal.returns-clause-joined
 returns-clause-joined g c = λ policy f bytes stands.
-    drives_to_end _ _ _ _ _ _ _ _ _ _ _ (λ all tally. joins_pieces _ _ all tally policy f) c.in_default.ensures.end (returns-clause-drives g c policy f bytes stands)
+    drives_to_end c.finish.result (λ all tally. joins_pieces _ _ all tally policy f) c.in_default.ensures.end (returns-clause-drives g c policy f bytes stands)

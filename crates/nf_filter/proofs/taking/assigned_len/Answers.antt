@@ -1,4 +1,4 @@
-use Rattle.std.proofs.Common.{◌++◌, sym, ap, ◌∙◌, eqb-true, length, encode_utf8}
+use Rattle.std.proofs.Common.{sym, ap, ◌∙◌, eqb-true, length}
 use Rattle.nf_filter.proofs.PassedLemmas.{none_behind, piece_behind, char_behind, stops_before, ends}
 use Rattle.nf_filter.proofs.taking.assigned_len.Goals as goal
 
@@ -18,7 +18,7 @@ returns-then-not-assigned g c =
 pub loop-rest-preserved : goal.loop-rest-preserved
 loop-rest-preserved g c =
     let here = piece_behind _ _ _ c.loop-rest.invariant.behind _ c.past_known-more.ensures.behind in
-    let e = sym c.chars-chars.ensures.rest ∙ c.in-Some.ensures.steps.0 ∙ ap (λ t. encode_utf8 c.in-Some.c ++ t) (sym c.as_str-rest.ensures) in
+    let e = rw (← c.as_str-rest.ensures) at (sym c.chars-chars.ensures.rest ∙ c.in-Some.ensures.steps.0) in
     record {
       utf8 = c.as_str-rest.utf8;
       behind = piece_behind _ _ _ here _ (char_behind _ _ _ _ here.rest_utf8 c.as_str-rest.utf8 e (sym c.assigned.ensures ∙ c.if-not-assigned.false));

@@ -34,7 +34,7 @@ module _ (assigned : Bool) (p : Properties) (text : List ℕ) (utf8 : IsUtf8 tex
     b_is = sym (chars_from_encodes rest b second (sym (is_b ∙ ap (drop n) in_two ∙ drop_at (encode_utf8_all front) (encode_utf8_all rest) n (sym is_n))))
 
     whole_is : chars text ≡ chars a ++ chars b
-    whole_is = is_front ∙ ap (λ l. l ++ rest) (sym a_is) ∙ ap (λ l. chars a ++ l) (sym b_is)
+    whole_is = rw (a_is, b_is) is_front
 
 pub split_at-requires : goal.split_at-requires
 split_at-requires g c =

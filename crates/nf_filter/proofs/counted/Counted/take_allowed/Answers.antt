@@ -1,4 +1,4 @@
-use Rattle.nf_filter.proofs.Common.{◌≡◌, ◌+◌, ◌<◌, ◌∷◌, ◌++◌, length, ap, ◌∙◌, arith, rules, length-append, chars, encodes-chars}
+use Rattle.nf_filter.proofs.Common.{◌≡◌, ◌<◌, ◌∷◌, ◌++◌, length, ap, arith, rules, length-append, chars, encodes-chars}
 use Rattle.nf_filter.proofs.TakingLemmas.{front-whole}
 use Rattle.nf_filter.proofs.SteppingLemmas.{first-left, next_place}
 use Rattle.nf_filter.proofs.AllowingLemmas.{allowed-part, TakesAllowed-all, TakesAllowed-refused, TakesAllowed-unassigned}
@@ -13,7 +13,7 @@ pub returns-then-is_empty-clause-takes : goal.returns-then-is_empty-clause-takes
 returns-then-is_empty-clause-takes g c = λ f place x start taken all here written.
     let same = front-whole _ _ c.split_allowed.result.1.now c.split_allowed.ensures.whole (search rules) in
     let part = allowed-part _ _ _ c.split_allowed.ensures.whole c.split_allowed.ensures.front c.in_default.ensures.takes f place x start taken all here written in
-    TakesAllowed-all (part.0 ∙ ap (λ l. x ++ l) same) (rw same at part.1)
+    TakesAllowed-all (rw same at part.0) (rw same at part.1)
 
 pub returns-clause-takes : goal.returns-clause-takes
 returns-clause-takes g c = λ f place x start taken all here written.
@@ -23,7 +23,7 @@ returns-clause-takes g c = λ f place x start taken all here written.
     let more : text ≡ chars a ++ some.0 ∷ some.1 = rw some.2 at c.split_allowed.ensures.whole in
     let less : length (x ++ chars a) < length (x ++ text) = omega (arith, length-append x (chars a), length-append x text, ap length more, length-append (chars a) (some.0 ∷ some.1)) in
     let part = allowed-part _ _ _ c.split_allowed.ensures.whole c.split_allowed.ensures.front c.in_default.ensures.takes f place x start taken all here written in
-    TakesAllowed-unassigned part.0 less (here (chars a) some.0 some.1 more ∙ ap (λ n. c.args.at + n) (ap length (encodes-chars a (search rules)) ∙ (let len : length a ≡ _ = search rules in len))) part.1
+    TakesAllowed-unassigned part.0 less (omega (arith, here (chars a) some.0 some.1 more, ap length (encodes-chars a (search rules)))) part.1
 
 pub overflow_add-result : goal.overflow_add-result
 overflow_add-result g c =

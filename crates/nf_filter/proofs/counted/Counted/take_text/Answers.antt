@@ -1,4 +1,4 @@
-use Rattle.nf_filter.proofs.Common.{[], ◌∷◌, ◌++◌, append_assoc, length-append, encode_utf8_all, length, rules, refl, sym, ap, arith, ◌∙◌, chars, encodes-append}
+use Rattle.nf_filter.proofs.Common.{[], ◌∷◌, ◌++◌, append_assoc, length-append, encode_utf8_all, length, rules, refl, ap, arith, ◌∙◌, chars, encodes-append}
 use Rattle.nf_filter.proofs.TakingLemmas.{front_len, front-more}
 use Rattle.nf_filter.proofs.TakerLemmas.{joined, placed-left, takes-none, takes-more}
 use Rattle.nf_filter.proofs.SteppingLemmas.{TakesOn-whole, next_place}
@@ -20,7 +20,7 @@ pub step-requires-clause-fits : goal.step-requires-clause-fits
 step-requires-clause-fits g c = λ front d more is.
     let gone = c.loop-rest.invariant.gone in
     let len = front_len c.args.text.now gone.0 c.loop-rest.rest.now c.utf8.text c.loop-rest.invariant.utf8 gone.1 in
-    let all = c.requires.fits (gone.0 ++ front) d more (gone.1 ∙ ap (λ l. gone.0 ++ l) is ∙ sym (append_assoc gone.0 front (d ∷ more))) in
+    let all = c.requires.fits (gone.0 ++ front) d more (rw (is, ← append_assoc gone.0 front (d ∷ more)) at gone.1) in
     omega (arith, all, len, ap length (encodes-append gone.0 front), length-append (encode_utf8_all gone.0) (encode_utf8_all front), c.loop-rest.invariant.left)
 
 pub loop-rest-preserved : goal.loop-rest-preserved
