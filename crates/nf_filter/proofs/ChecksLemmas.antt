@@ -1,5 +1,5 @@
 -- What a check decides, character by character.
-use Rattle.nf_filter.proofs.Common.{Checker, HasChecked, place_of, ⊎_elim, ◌≡◌, ℕ, ◌+◌, ◌<◌, Bool, true, false, List, [], ◌∷◌, ◌++◌, length, Some, None, Ok, Err, refl, sym, ap, ◌∙◌, arith, append_assoc, append-nil, if◌then◌else◌, Option, chars, encode_utf8_all, list_all, cond-true, or_left, and_parts, and_from, and_left, and_right, list_all-append, Properties, lead, Form, Nfkd, decomposed, stream_safe, is_sound, IsSoundText, text_of, ending_of, Place, is_in_format, place_from, Fault, Row, bad_byte, decided_or, decided_in, sound_front, check_fault, place_or_fault, check_decision, text_decision, no_stop, has_starter-append, lead-append, CountsFromEnd}
+use Rattle.nf_filter.proofs.Common.{Checker, HasChecked, place_of, ⊎_elim, ◌≡◌, ℕ, ◌+◌, ◌<◌, Bool, true, false, List, [], ◌∷◌, ◌++◌, length, Some, None, Ok, Err, refl, ap, ◌∙◌, arith, append_assoc, append-nil, if◌then◌else◌, Option, chars, encode_utf8_all, list_all, cond-true, or_left, and_parts, and_from, and_left, and_right, list_all-append, Properties, lead, Form, Nfkd, decomposed, stream_safe, is_sound, IsSoundText, text_of, ending_of, Place, is_in_format, place_from, Fault, Row, bad_byte, decided_or, decided_in, sound_front, check_fault, place_or_fault, check_decision, text_decision, no_stop, has_starter-append, lead-append, CountsFromEnd}
 use Rattle.nf_forms.specs.Parting.{CountsAnew}
 use Rattle.nf_forms.specs.Calm.{IsCalm}
 use Rattle.nf_forms.specs.Laws.Last.{by_last}
@@ -20,8 +20,8 @@ module _ (p : Properties) where
   module _ (base : ℕ) where
     -- a place stays
     place_stays : (x z : List ℕ) (at : Place) → place_from base p x ≡ Some at → place_from base p (x ++ z) ≡ Some at
-    place_stays x z at found = by_last (λ z. place_from base p (x ++ z) ≡ Some at) (ap (place_from base p) (append-nil x) ∙ found)
-        (λ z c before. ap (place_from base p) (sym (append_assoc x z (c ∷ []))) ∙ place_from-stays p base (x ++ z) c at before) z
+    place_stays x z at found = by_last (λ z. place_from base p (x ++ z) ≡ Some at) (rw (append-nil x) found)
+        (λ z c before. rw (← append_assoc x z (c ∷ [])) (place_from-stays p base (x ++ z) c at before)) z
 
     pub stop_place : (x y : List ℕ) (at : Place) → list_all (is_sound p) x ≡ true → place_from base p x ≡ Some at → text_decision p base (x ++ y) ≡ Some (Ok (Some at))
     unfolding text_decision

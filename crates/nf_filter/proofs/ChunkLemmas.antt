@@ -1,5 +1,5 @@
 -- What is left of a piece, up to its first ill-formed byte.
-use Rattle.nf_filter.proofs.Common.{EndsPiece, ◌≡◌, ℕ, ◌+◌, ◌-◌, ◌≤◌, ◌==◌, true, false, List, [], ◌∷◌, ◌++◌, length, drop, Some, Ok, Err, refl, sym, ap, ◌∙◌, arith, nat_tests, append_assoc, append-nil, Option, Result, if◌then◌else◌, encode_utf8_all, chars, length-append, drop-drop, drop_at, encodes-append, Properties, Form, End, EndsBad, text_of, text_len, replacement, part_end, ReplacesParts, SplitsBytes, DecoderStandsAfter, first_text, Takes, bytes_behind, Fault, BadByte, Write, Counted, Policy, Reading, Start, BlockState, bad_byte, bad_under, first_fault, fault_in, TakesAllowed, IsLeft, HasReadTo, ReadsTo, RefusesBytes, IsPlacedAt, allowed, text_under, usable}
+use Rattle.nf_filter.proofs.Common.{EndsPiece, ◌≡◌, ℕ, ◌+◌, ◌-◌, ◌≤◌, ◌==◌, true, false, List, [], ◌∷◌, ◌++◌, length, drop, Some, Ok, Err, refl, sym, ap, ◌∙◌, arith, nat_tests, append_assoc, append-nil, Option, Result, if◌then◌else◌, encode_utf8_all, chars, length-append, drop-drop, drop_at, encodes-append, Properties, Form, End, EndsBad, text_of, text_len, replacement, part_end, ReplacesParts, SplitsBytes, DecoderStandsAfter, first_text, Takes, bytes_behind, Fault, BadByte, Write, Counted, Policy, Reading, Start, BlockState, bad_under, first_fault, fault_in, TakesAllowed, IsLeft, HasReadTo, ReadsTo, RefusesBytes, IsPlacedAt, allowed, text_under, usable}
 use Rattle.nf_filter.proofs.BlockLemmas.{WritesTo-written, Broken-extends}
 use Rattle.nf_filter.proofs.FilterLemmas.{err_is}
 use Rattle.nf_filter.proofs.PolicyLemmas.{first_fault-none, first_fault-stays, taken_utf8-grows}
@@ -77,8 +77,7 @@ module _ (laws : ReplacesParts) {policy : Policy} {f : Form} {p : Properties} {b
   -- the offsets of its characters
   placed : IsPlacedAt (place_in policy.replace base bytes) (reading.offset - carried) (read.before ++ text_of read.tail) next_text
   placed front c last is =
-      ap (place_in policy.replace base bytes) (append_assoc read.before (text_of read.tail) front)
-      ∙ omega (
+      rw (append_assoc read.before (text_of read.tail) front) (omega (
         arith,
         left-place _ _ _ _ _ read.left (text_of read.tail ++ front),
         len_under-first laws policy.replace all (text_of read.tail ++ front) (c ∷ last) (rw (is, ← append_assoc (text_of read.tail) front (c ∷ last)) at next_is),
@@ -86,7 +85,7 @@ module _ (laws : ReplacesParts) {policy : Policy} {f : Form} {p : Properties} {b
         length-append (encode_utf8_all (text_of read.tail)) (encode_utf8_all front),
         behind read.tail read.decoder,
         read.offset,
-      )
+      ))
 
   chunk-takes : {now : BlockState} {after : Counted} {r : Result (Unit {0}) Fault} → TakesBehind policy.assigned p counted old after now (reading.offset - carried) next_text r
       → TakesAllowed policy.assigned f p after start now (place_in policy.replace base bytes) taken_text r
@@ -157,15 +156,14 @@ module _ (laws : ReplacesParts) {policy : Policy} {f : Form} {p : Properties} {b
             → TakesAllowed policy.assigned f p last start final (place_in policy.replace base bytes) (taken_text ++ replacement ∷ []) r
         part-takes one = one f (place_in policy.replace base bytes) taken_text start taken.taken.0 taken.taken.1
             (one_placed (place_in policy.replace base bytes) (reading.offset + at - back) taken_text replacement
-            (ap (place_in policy.replace base bytes) joined_is
-            ∙ omega (
+            (rw joined_is (omega (
               arith,
               left-place _ _ _ _ _ read.left (text_of all),
               len_under-first laws policy.replace all (text_of all) [] (sym (append-nil (text_of all))),
               split.len all,
               ends.1,
               read.offset,
-            )))
+            ))))
             (TakesAllowed-settled taken)
 
         pub part-refused : {last : Counted} {final : BlockState} {fault : Fault} → TakesBehind policy.assigned p after now last final (reading.offset + at - back) (replacement ∷ []) (Err fault) → RefusesBytes policy f p start final base bytes fault
@@ -183,7 +181,7 @@ module _ (laws : ReplacesParts) {policy : Policy} {f : Form} {p : Properties} {b
                   tail = [];
                   left = rw is_behind left_behind;
                   decoder = decoder;
-                  good = λ n. ap (bad_byte n) ending_of-none;
+                  good = λ n. rw ending_of-none;
                   offset = omega (arith, offset, read.offset);
                   taken = rw whole at replaced.taken.0;
                   allowed = rw whole at replaced.taken.1;

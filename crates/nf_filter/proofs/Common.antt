@@ -1,8 +1,8 @@
 -- The names that most of these proofs cite, passed on from one place. Declares nothing.
-pub use Rattle.std.proofs.Common.{◌≡◌, ℕ, ◌+◌, ◌-◌, Bool, true, false, ◌==◌, List, [], ◌∷◌, ◌++◌, length, Option, Some, None, Result, Ok, Err, refl, sym, ap, ap₂, ◌∙◌, subst, arith, append-nil, eq-eqb, IsTrue, OnOk, if◌then◌else◌, encode_utf8_all, inl, chars, ◌<◌, ⊎_elim, ne_eqb, append_assoc, ◌≤◌, take, drop, map, encode_utf8, IsUtf8, length-append, take-append-drop, zero, suc, drop-drop, drop_at, inr, cond, MatchResult, ◌^◌, ◌↔◌, IsFalse, ◌⊎◌, option_map, not, ◌&&◌, ◌||◌, length-drop, take_at, take_while, eqb-true, take_all, eqb, ltb, IfSome, is_some, IfErr, subst₂, length-take, rules}
+pub use Rattle.std.proofs.Common.{◌≡◌, ℕ, ◌+◌, ◌-◌, Bool, true, false, ◌==◌, List, [], ◌∷◌, ◌++◌, length, Option, Some, None, Result, Ok, Err, refl, sym, ap, ap₂, ◌∙◌, subst, arith, append-nil, eq-eqb, IsTrue, OnOk, if◌then◌else◌, encode_utf8_all, inl, chars, ◌<◌, ⊎_elim, ne_eqb, append_assoc, ◌≤◌, take, drop, map, encode_utf8, IsUtf8, length-append, take-append-drop, zero, suc, drop-drop, drop_at, inr, cond, MatchResult, ◌^◌, ◌↔◌, IsFalse, ◌⊎◌, option_map, not, ◌&&◌, ◌||◌, length-drop, take_at, take_while, eqb-true, take_all, eqb, ltb, IfSome, is_some, IfErr, length-take, rules}
 pub use Rattle.std.proofs.KnownBytes.{Appends-nil, Appends-trans, Consumes-kept, Consumes-trans}
 pub use Rattle.std.proofs.Math.Seq.{take-append-add, take-length}
-pub use Rattle.std.proofs.lemmas.Bool.{and_from, and_parts, and_left, and_right, or_left, cases_lt, cases_Bool, false_from_ne_true, cond-true, cond-false, eqb-false, or_parts, le-leb, true_from_ne_false, false≢true, not-false, not-true}
+pub use Rattle.std.proofs.lemmas.Bool.{and_from, and_parts, and_left, and_right, or_left, cases_lt, cases_Bool, false_from_ne_true, cond-true, eqb-false, or_parts, le-leb, true_from_ne_false, false≢true, not-false, not-true}
 pub use Rattle.std.proofs.lemmas.Bool.Decides.{nat_tests}
 pub use Rattle.std.proofs.lemmas.List.{nil_from_length, length-map, map-append, drop-append-le, take-append-le, take-take, take_rest}
 pub use Rattle.std.proofs.lemmas.List.Folds.{list_all-append, length-prefix_len, prefix_len-append}

@@ -25,7 +25,7 @@ module _ (policy : Policy) (f : Form) (p : Properties) (base : ℕ) (laws : Repl
   pub read-settled : settled_text f p (read.before ++ text_of read.tail) ≡ settled_utf8 policy f p bytes
   read-settled =
       let taken = read.taken in
-      ap (settled_text f p) (sym (taken-all p policy.assigned _ taken.machine.usable read.allowed)) ∙ ap (taken_utf8 policy.assigned f p) (sym read-text) ∙ settled_utf8-taken policy f p bytes
+      rw (← settled_utf8-taken policy f p bytes, read-text, taken-all p policy.assigned _ taken.machine.usable read.allowed)
 
   pub read-no_fault : fault_in policy p base bytes ≡ None
   unfolding fault_in

@@ -1,6 +1,6 @@
 -- A front of the bytes whose ill-formed parts are replaced, taken as one text where every character is sound: wherever its
 -- bytes stand, none is refused.
-use Rattle.nf_filter.proofs.Common.{◌≡◌, ℕ, ◌+◌, true, List, [], ◌++◌, length, drop, drop_at, encode_utf8_all, Ok, Err, Some, None, Result, ⊎_elim, refl, sym, ap, ◌∙◌, arith, append-nil, length-drop, Properties, Form, ReplacesParts, text_of, Fault, Write, Counted, Policy, Reading, Start, BlockState, Written, bad_byte, IsLeft, HasReadTo, ReadsTo, RefusesBytes, HasTaken, IsPlacedAt, TakesOn, settled_text, usable_utf8, allowed, text_under, is_usable, AreSound, unusable_at-usable}
+use Rattle.nf_filter.proofs.Common.{◌≡◌, ℕ, ◌+◌, true, List, [], ◌++◌, length, drop, drop_at, encode_utf8_all, Ok, Err, Some, None, Result, ⊎_elim, refl, sym, ap, ◌∙◌, arith, append-nil, length-drop, Properties, Form, ReplacesParts, text_of, Fault, Write, Counted, Policy, Reading, Start, BlockState, Written, IsLeft, HasReadTo, ReadsTo, RefusesBytes, HasTaken, IsPlacedAt, TakesOn, settled_text, usable_utf8, allowed, text_under, is_usable, AreSound, unusable_at-usable}
 use Rattle.nf_utf8.specs.Mending.{IsReplacedFront}
 use Rattle.nf_filter.proofs.FilterLemmas.{err_is, write_or_not}
 use Rattle.nf_filter.proofs.SoundnessLemmas.{usable_is}
@@ -61,7 +61,7 @@ module _ (laws : ReplacesParts) {policy : Policy} {f : Form} {p : Properties} {b
           tail = [];
           left = left;
           decoder = rw decoder (rw none at read.decoder);
-          good = λ n. ap (bad_byte n) ending_of-none;
+          good = λ n. rw ending_of-none;
           offset = omega (arith, offset, read.offset, ap length none);
           taken = rw whole next_taken.taken;
           allowed = rw whole next_allowed;

@@ -40,7 +40,7 @@ end_is base value _ end is = rw is
 module _ (bytes piece : List ℕ) where
   pub ends_well : (end : End) (base : ℕ) → ((at back : ℕ) → ¬ (end ≡ EndsBad at back)) → EndsPiece bytes piece end → bad_byte base (ending_of (bytes ++ piece)) ≡ None
   ends_well (EndsBad at back) base well ends = absurd (well at back refl)
-  ends_well _ base well ends = ap (bad_byte base) ends
+  ends_well _ base well ends = rw ends
 
   pub ends_badly : (base offset at back : ℕ) → offset ≡ base + length bytes → EndsPiece bytes piece (EndsBad at back) → bad_byte base (ending_of (bytes ++ piece)) ≡ Some (BadByte (offset + at) (offset + at - back))
   ends_badly base offset at back here ends = rw ends.0 (ap₂ (λ n m. Some (BadByte n m)) (omega (arith, here)) (omega (arith, here, ends.1)))

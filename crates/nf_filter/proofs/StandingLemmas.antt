@@ -1,5 +1,5 @@
 -- Where a filter stands that has taken nothing, and how many of the bytes that it has taken it holds.
-use Rattle.nf_filter.proofs.Common.{◌≡◌, ℕ, ◌+◌, Bool, true, false, List, [], ◌++◌, length, None, refl, sym, ap, ◌∙◌, arith, encode_utf8_all, length-append, Properties, Form, ReplacesParts, text_of, DecoderStandsAfter, State, Policy, bad_byte, bad_under, fault_in, base_of, offset_of, is_spent, StandsAfter, text_under-none, HasTaken, len_under, text_under, nil_from_length, is_usable-none}
+use Rattle.nf_filter.proofs.Common.{◌≡◌, ℕ, ◌+◌, Bool, true, false, List, [], ◌++◌, length, None, refl, sym, ap, ◌∙◌, arith, encode_utf8_all, length-append, Properties, Form, ReplacesParts, text_of, DecoderStandsAfter, State, Policy, bad_under, fault_in, base_of, offset_of, is_spent, StandsAfter, text_under-none, HasTaken, len_under, text_under, nil_from_length, is_usable-none}
 use Rattle.nf_filter.proofs.FilterLemmas.{StandsAfter-offset}
 use Rattle.nf_filter.proofs.PieceLemmas.{IsLeft-all, left-text}
 use Rattle.nf_filter.proofs.FedLemmas.{read-text, read-place}
@@ -7,7 +7,7 @@ use Rattle.nf_filter.proofs.ReadingLemmas.{text_of-none, ending_of-none}
 use Rattle.nf_filter.proofs.PolicyLemmas.{first_fault-none, allowed-none}
 
 bad_under-none : (replace : Bool) (base : ℕ) → bad_under replace base [] ≡ None
-bad_under-none false base = ap (bad_byte base) ending_of-none
+bad_under-none false base = rw ending_of-none
 bad_under-none true base = refl
 
 fault_in-none : (p : Properties) (policy : Policy) (base : ℕ) → fault_in policy p base [] ≡ None
@@ -26,7 +26,7 @@ StandsAfter-none {policy} {p = p} state unspent is offset decoder taken = record
     tail = [];
     left = IsLeft-all policy.replace [];
     decoder = decoder;
-    good = λ n. ap (bad_byte n) ending_of-none;
+    good = λ n. rw ending_of-none;
     offset = omega (arith, offset);
     taken = rw text_of-none taken;
     allowed = rw text_of-none (allowed-none p policy.assigned);

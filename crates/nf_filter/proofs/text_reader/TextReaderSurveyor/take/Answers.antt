@@ -25,7 +25,7 @@ returns-in-Bad-clause-decides g c = λ survey bytes before short.
 pub returns-clause-goes_on : goal.returns-clause-goes_on
 returns-clause-goes_on g c = λ _. (
   ready_after c.args.self.now.reading.decoder c.args.piece.now c.take-chunk.result c.args.self.now.reading.offset c.carried.result c.in_default-piece_end.not-Bad c.take-chunk.ensures.counts c.carried.ensures.count c.requires.held
-  (omega (arith, c.in-Some.ensures)) (rw (sym c.encoded-first.ensures.len) (c.in_default-take_text-2.ensures.ready refl)),
+      (omega (arith, c.in-Some.ensures)) (rw (sym c.encoded-first.ensures.len) (c.in_default-take_text-2.ensures.ready refl)),
   omega (arith, c.in-Some.ensures),
 )
 
