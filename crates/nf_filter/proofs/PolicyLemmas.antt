@@ -39,7 +39,8 @@ module _ (p : Properties) where
   -- what was allowed stays, and where not all was, no more is
   pub allowed-grows : (a : Bool) (x y : List ℕ) → (allowed a p x ≡ x) ⊎ ((length (allowed a p x) < length x) × (allowed a p (x ++ y) ≡ allowed a p x))
   allowed-grows false x y = inl refl
-  allowed-grows true x y = ⊎_elim (λ e. inl (take_all (prefix_len p.assigned x) x (omega (arith, eqb-true _ _ e)))) (λ e. inr (take_while-no_more p.assigned x y (eqb-false _ _ e))) (cases_Bool (prefix_len p.assigned x == length x))
+  allowed-grows true x y = ⊎_elim (λ e. inl (take_all (prefix_len p.assigned x) x (omega (arith, eqb-true _ _ e))))
+      (λ e. inr (take_while-no_more p.assigned x y (eqb-false _ _ e))) (cases_Bool (prefix_len p.assigned x == length x))
 
   -- the first fault, by what may be taken of a text of n characters
   abbrev fault_by : (List ℕ → ℕ) → List ℕ → ℕ → Option Fault → Option Fault

@@ -12,7 +12,8 @@ pub returns-in-Err-clause-surveys : goal.returns-in-Err-clause-surveys
 returns-in-Err-clause-surveys g c = λ survey begun.
     let fed = c.loop-given.invariant.fed in
     let stands = g.met.S.Surveyor.stands _ survey fed.0 (fed.2 survey begun) in
-    no_more _ (Consumes-kept _ _ _ fed.0 fed.1 c.in-Err.ensures.kept) (λ end. never end c.in-Err.ensures.failed.1) stands.0 (omega (arith, c.loop-given.invariant.fits, stands.1)) (λ e. cc) (λ end. never end c.in-Err.ensures.failed.1) (λ _. refl)
+    no_more _ (Consumes-kept _ _ _ fed.0 fed.1 c.in-Err.ensures.kept) (λ end. never end c.in-Err.ensures.failed.1) stands.0
+    (omega (arith, c.loop-given.invariant.fits, stands.1)) (λ e. cc) (λ end. never end c.in-Err.ensures.failed.1) (λ _. refl)
 
 pub returns-then-given-eq0-clause-surveys : goal.returns-then-given-eq0-clause-surveys
 returns-then-given-eq0-clause-surveys g c = λ survey begun.
