@@ -13,13 +13,8 @@ few bytes utf8 = omega (arith, length-le-encodes (chars bytes), ap length (encod
 pub placed-behind : (place : List ℕ → ℕ) (at : ℕ) (x y front rest : List ℕ) (behind : ℕ) → y ≡ front ++ rest → behind ≡ at + length (encode_utf8_all front) → IsPlacedAt place at x y
     → IsPlacedAt place behind (x ++ front) rest
 placed-behind place at x y front rest behind is offset here more c last text =
-    rw (append_assoc x front more) (omega (
-      arith,
-      here (front ++ more) c last (rw (text, ← append_assoc front more (c ∷ last)) at is),
-      offset,
-      ap length (encodes-append front more),
-      length-append (encode_utf8_all front) (encode_utf8_all more),
-    ))
+    rw (append_assoc x front more)
+    (omega (arith, here (front ++ more) c last (rw (text, ← append_assoc front more (c ∷ last)) at is), offset, ap length (encodes-append front more), length-append (encode_utf8_all front) (encode_utf8_all more)))
 
 -- in a front
 pub placed-within : (place : List ℕ → ℕ) (at : ℕ) (x y front rest : List ℕ) → y ≡ front ++ rest → IsPlacedAt place at x y → IsPlacedAt place at x front

@@ -14,11 +14,5 @@ loop-front-smaller g c =
     let front = c.split_allowed.result.0.now in
     let rest = c.split_allowed.result.1.now in
     let some : 0 < length rest = search rules in
-    omega (
-      arith,
-      front_len text (chars front) rest c.mended_text.utf8 (search rules) c.split_allowed.ensures.whole,
-      some,
-      ap length (encodes-chars front (search rules)),
-      ap length c.mended_text.ensures,
-      c.mend_front-len.ensures.within,
-    )
+    let whole = front_len text (chars front) rest c.mended_text.utf8 (search rules) c.split_allowed.ensures.whole in
+    omega (arith, whole, some, ap length (encodes-chars front (search rules)), ap length c.mended_text.ensures, c.mend_front-len.ensures.within)
