@@ -3,7 +3,7 @@ use Rattle.nf_utf8.proofs.Common.{◌≡◌, subst₂, ℕ, suc, ◌+◌, ◌<�
 use Rattle.nf_utf8.proofs.Fronts.{IsLongestFront, longest_same, longest_behind}
 use Rattle.nf_utf8.proofs.Texts.{BeginsText-append, BeginsText-behind, BeginsText-front, BeginsText-IsUtf8}
 use Rattle.nf_utf8.proofs.TextLen.{text_len-longest, length-front, text_len-rest, no_char-text_len}
-use Rattle.nf_utf8.proofs.Sequences.{IsUtf8-one, IsUtf8-two, IsUtf8-three, IsUtf8-four, begins_one, begins_two, begins_three, no_first, no_second, no_third, no_fourth, second_facts}
+use Rattle.nf_utf8.proofs.Sequences.{IsUtf8-one, IsUtf8-two, IsUtf8-three, IsUtf8-four, begins_one, begins_two, begins_three, no_first, no_second, no_third, no_fourth}
 
 abbrev pub BeginsFor : List ℕ → ℕ → Type 0
 BeginsFor bytes n = IsLongestFront BeginsText bytes n
@@ -72,8 +72,8 @@ after_one a (b ∷ rest) first none =
     cond_both _ _ _ Is
     (λ t. let short = ltb-true (length (a ∷ b ∷ rest)) 2 t in absurd (omega arith))
     (λ _. cond_both _ _ _ Is
-    (λ t. let k = in_range _ _ b t in let s = second_facts a b k in
-    ⊎_elim (λ below. absurd (no_text (a ∷ b ∷ []) rest none (IsUtf8-two a b (first.0, omega arith) (s.low, omega (arith, s.high))) (omega arith)))
+    (λ t. let k = in_range _ _ b t in
+    ⊎_elim (λ below. absurd (no_text (a ∷ b ∷ []) rest none (IsUtf8-two a b (first.0, omega arith) (grind (arith, nat_tests))) (omega arith)))
     (λ above. after_two a b rest (above, first.1) k none) (order a 0xE0))
     (λ t. some_begin (a ∷ b ∷ rest) 1 (omega arith) (omega arith) (begins_one a first) (no_second a b first (out_of_range _ _ b t))))
 
@@ -87,7 +87,7 @@ part_len-counted (a ∷ rest) none =
     (λ t. record {
       begins = begins_until bytes 0 (omega arith) (BeginsText-IsUtf8 [] IsUtf8-nil)
           (⊎_elim (λ low. absurd (no_text (a ∷ []) rest none (IsUtf8-one a low) (omega arith)))
-          (λ high. no_first a high (λ lead. ⊎_elim (λ within. absurd (out_of_range 0xC2 0xF4 a t (lead, omega arith))) (λ above. above) (order a 0xF5)))
+          (λ high. no_first a high (out_of_range 0xC2 0xF4 a t))
           (order a 0x80));
       few = omega arith;
       broken = λ _ _. omega arith;

@@ -1,5 +1,5 @@
 -- What a byte tells of the bytes that begin a character, said of all the bytes that a decoder stands after.
-use Rattle.nf_utf8.proofs.Common.{add-zero, ◌≡◌, ℕ, suc, ◌+◌, ◌-◌, ◌<◌, ◌≤◌, ◌==◌, true, ◌&&◌, List, [], ◌∷◌, ◌++◌, length, take, drop, IsUtf8, encode_utf8, encode_utf8_all, chars, refl, sym, ap, subst, ◌∙◌, arith, append-nil, length-drop, take_all, take_at, take-take, length-take-le, inl, IsScalar, one, eqb-true, cond_both, nat_tests, length_push, same_from_push, drop_all, IsUtf8-encode, utf8_valid_len-IsUtf8, Step, More, Char, BadByte, BeginsText, Bad, Cut, moved, text_len, text_of, rest_of, begun_len, ending_of, StandsAfter, Answers, bytes_after, ending_at, IsPart}
+use Rattle.nf_utf8.proofs.Common.{add-zero, ◌≡◌, ℕ, suc, ◌+◌, ◌-◌, ◌<◌, ◌≤◌, ◌==◌, true, ◌&&◌, List, [], ◌∷◌, ◌++◌, length, take, drop, IsUtf8, encode_utf8, encode_utf8_all, chars, refl, sym, ap, subst, ◌∙◌, arith, append-nil, length-drop, take_all, take_at, take-take, length-take-le, IsScalar, one, eqb-true, cond_both, nat_tests, length_push, same_from_push, drop_all, IsUtf8-encode, utf8_valid_len-IsUtf8, Step, More, Char, BadByte, BeginsText, Bad, Cut, moved, text_len, text_of, rest_of, begun_len, ending_of, StandsAfter, Answers, bytes_after, ending_at, IsPart}
 use Rattle.std.proofs.str.Decodes.{chars-nil, chars-encodes}
 use Rattle.nf_utf8.specs.Tells.{Tells, part_after}
 use Rattle.nf_utf8.proofs.Texts.{BeginsText-IsUtf8}
@@ -7,7 +7,7 @@ use Rattle.nf_utf8.proofs.TextLen.{text_len-longest, text_len-no_char}
 use Rattle.nf_utf8.proofs.BegunLen.{begun_len-is, begun_all, begins_until}
 use Rattle.nf_utf8.proofs.Endings.{ending_of-full, ending_of-begun, ending_of-broken}
 use Rattle.nf_utf8.proofs.ReadingLemmas.{text_on, rest_on, ending_on, begins_on, length-encodes-text_of}
-use Rattle.nf_utf8.proofs.Sequences.{BeginsText-part, part_no_char, scalar_from}
+use Rattle.nf_utf8.proofs.Sequences.{BeginsText-part, part_no_char}
 
 -- ---- bytes with no text, and bytes that are one
 
@@ -111,7 +111,7 @@ module _ (part bytes : List ℕ) (byte : ℕ) (s : StandsAfter part bytes) where
 -- a byte of ASCII where no character is begun
 module _ (held bytes : List ℕ) (byte c : ℕ) (s : StandsAfter held bytes) (nothing : held ≡ []) (low : byte < 0x80) (same : c ≡ byte) where
   ascii_tells : Tells [] byte (Char c)
-  ascii_tells = (scalar_from c (inl (omega arith)), ap (λ x. x ∷ []) (sym same) ∙ sym (one c (omega arith)))
+  ascii_tells = (grind (arith, nat_tests), ap (λ x. x ∷ []) (sym same) ∙ sym (one c (omega arith)))
 
   stood : StandsAfter [] bytes
   stood = subst (λ part. StandsAfter part bytes) nothing s
