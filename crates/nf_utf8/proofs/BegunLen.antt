@@ -1,5 +1,5 @@
 -- `begun_len`, the length of the longest front that begins a text.
-use Rattle.nf_utf8.proofs.Common.{◌≡◌, subst₂, ℕ, suc, ◌+◌, ◌<◌, ◌≤◌, ⊎_elim, true, false, cond, nat_lt, true≢false, List, [], ◌∷◌, ◌++◌, length, take, drop, Option, Some, None, unwrap_or, IsUtf8, sym, ap, subst, ◌∙◌, arith, take-append-drop, length-drop, take-take, take_all, IsInRange, is_in_range, StartsWithNoChar, utf8_error_len, error_len_after_one, error_len_after_two, order, utf8_error_len-nil, utf8_error_len_some, no_text, ltb-true, cond_both, nat_tests, IsUtf8-nil, BeginsText, IsSecond, IsContinuation, text_len, part_len, begun_len}
+use Rattle.nf_utf8.proofs.Common.{◌≡◌, subst₂, ℕ, suc, ◌+◌, ◌<◌, ◌≤◌, ⊎_elim, true, false, cond, nat_lt, true≢false, List, [], ◌∷◌, ◌++◌, length, take, drop, Option, Some, None, unwrap_or, IsUtf8, sym, ap, subst, ◌∙◌, arith, take-append-drop, length-drop, take-take, take_all, IsInRange, is_in_range, StartsWithNoChar, utf8_error_len, error_len_after_one, error_len_after_two, error_len_of_some, order, utf8_error_len-nil, utf8_error_len_some, no_text, ltb-true, le-ltb, cond_both, nat_tests, IsUtf8-nil, BeginsText, IsSecond, IsContinuation, text_len, part_len, begun_len}
 use Rattle.nf_utf8.proofs.Fronts.{IsLongestFront, longest_same, longest_behind}
 use Rattle.nf_utf8.proofs.Texts.{BeginsText-append, BeginsText-behind, BeginsText-front, BeginsText-IsUtf8}
 use Rattle.nf_utf8.proofs.TextLen.{text_len-longest, length-front, text_len-rest, no_char-text_len}
@@ -9,20 +9,19 @@ abbrev pub BeginsFor : List ℕ → ℕ → Type 0
 BeginsFor bytes n = IsLongestFront BeginsText bytes n
 
 begins_for_all : (bytes : List ℕ) → BeginsText bytes → BeginsFor bytes (length bytes)
-begins_for_all bytes b = record { within = omega arith; holds = subst BeginsText (sym (take_all (length bytes) bytes (omega arith))) b; longest = λ m le _. le }
+begins_for_all bytes b = record { within = omega arith; holds = rw (take_all (length bytes) bytes (omega arith)) b; longest = λ m le _. le }
 
 pub begins_until : (bytes : List ℕ) (n : ℕ) → n < length bytes → BeginsText (take n bytes) → ¬ BeginsText (take (suc n) bytes) → BeginsFor bytes n
 begins_until bytes n short b none = record {
   within = omega arith;
   holds = b;
   longest = λ m le c. ⊎_elim (λ below. omega arith)
-      (λ past. absurd (none (BeginsText-front (take (suc n) bytes) (drop (suc n) (take m bytes))
-      (subst BeginsText (sym (ap (λ l. l ++ drop (suc n) (take m bytes)) (sym (take-take (suc n) m bytes past)) ∙ take-append-drop (suc n) (take m bytes))) c))))
+      (λ past. absurd (none (rw (take-take (suc n) m bytes past) at (BeginsText-front (take (suc n) (take m bytes)) (drop (suc n) (take m bytes)) (rw take-append-drop c)))))
       (order m (suc n));
 }
 
 in_range : (lo hi c : ℕ) → is_in_range lo hi c ≡ true → IsInRange lo hi c
-in_range lo hi c e = (grind (arith, nat_tests), grind (arith, nat_tests))
+in_range lo hi c e = grind (arith, nat_tests)
 
 out_of_range : (lo hi c : ℕ) → is_in_range lo hi c ≡ false → ¬ IsInRange lo hi c
 out_of_range lo hi c e h = grind (arith, nat_tests)
@@ -46,52 +45,40 @@ some_begin bytes n few short b none = record { begins = begins_until bytes n sho
 
 after_three : (a b d : ℕ) (rest : List ℕ) → IsInRange 0xF0 0xF4 a → IsSecond a b → IsContinuation d → StartsWithNoChar (a ∷ b ∷ d ∷ rest)
     → CountedLen (a ∷ b ∷ d ∷ rest) (cond (nat_lt (length (a ∷ b ∷ d ∷ rest)) 4) None (Some 3))
-after_three a b d [] first second third none = all_begin (a ∷ b ∷ d ∷ []) (omega arith) (begins_three a b d (omega (arith, first.0), first.1) second third)
+after_three a b d [] first second third none = all_begin (a ∷ b ∷ d ∷ []) (omega arith) (grind (arith, begins_three))
 after_three a b d (e ∷ rest) first second third none =
-    cond_both _ _ _ (CountedLen (a ∷ b ∷ d ∷ e ∷ rest))
-    (λ t. let short = ltb-true (length (a ∷ b ∷ d ∷ e ∷ rest)) 4 t in absurd (omega arith))
-    (λ _. some_begin (a ∷ b ∷ d ∷ e ∷ rest) 3 (omega arith) (omega arith) (begins_three a b d (omega (arith, first.0), first.1) second third)
+    rw (le-ltb (length (a ∷ b ∷ d ∷ e ∷ rest)) 4 (omega arith)) (some_begin (a ∷ b ∷ d ∷ e ∷ rest) 3 (omega arith) (omega arith) (grind (arith, begins_three))
     (no_fourth a b d e first.0 (λ fourth. no_text (a ∷ b ∷ d ∷ e ∷ []) rest none (IsUtf8-four a b d e first second third fourth) (omega arith))))
 
 after_two : (a b : ℕ) (rest : List ℕ) → IsInRange 0xE0 0xF4 a → IsSecond a b → StartsWithNoChar (a ∷ b ∷ rest) → CountedLen (a ∷ b ∷ rest) (error_len_after_two (a ∷ b ∷ rest))
-after_two a b [] first second none = all_begin (a ∷ b ∷ []) (omega arith) (begins_two a b (omega (arith, first.0), first.1) second)
+after_two a b [] first second none = all_begin (a ∷ b ∷ []) (omega arith) (grind (arith, begins_two))
 after_two a b (d ∷ rest) first second none =
-    let Is : Option ℕ → Type 0 = CountedLen (a ∷ b ∷ d ∷ rest) in
-    cond_both _ _ _ Is
-    (λ t. let short = ltb-true (length (a ∷ b ∷ d ∷ rest)) 3 t in absurd (omega arith))
-    (λ _. cond_both _ _ _ Is
+    rw (le-ltb (length (a ∷ b ∷ d ∷ rest)) 3 (omega arith)) (cond_both _ _ _ (CountedLen (a ∷ b ∷ d ∷ rest))
     (λ t. let k = in_range 0x80 0xBF d t in
-    ⊎_elim (λ below. absurd (no_text (a ∷ b ∷ d ∷ []) rest none (IsUtf8-three a b d (first.0, omega arith) second k) (omega arith)))
+    ⊎_elim (λ below. absurd (no_text (a ∷ b ∷ d ∷ []) rest none (grind (arith, IsUtf8-three)) (omega arith)))
     (λ above. after_three a b d rest (above, first.1) second k none) (order a 0xF0))
-    (λ t. some_begin (a ∷ b ∷ d ∷ rest) 2 (omega arith) (omega arith) (begins_two a b (omega (arith, first.0), first.1) second) (no_third a b d first.0 (out_of_range 0x80 0xBF d t))))
+    (λ t. some_begin (a ∷ b ∷ d ∷ rest) 2 (omega arith) (omega arith) (grind (arith, begins_two)) (no_third a b d first.0 (out_of_range 0x80 0xBF d t))))
 
 after_one : (a : ℕ) (rest : List ℕ) → IsInRange 0xC2 0xF4 a → StartsWithNoChar (a ∷ rest) → CountedLen (a ∷ rest) (error_len_after_one (a ∷ rest))
 after_one a [] first none = all_begin (a ∷ []) (omega arith) (begins_one a first)
 after_one a (b ∷ rest) first none =
-    let Is : Option ℕ → Type 0 = CountedLen (a ∷ b ∷ rest) in
-    cond_both _ _ _ Is
-    (λ t. let short = ltb-true (length (a ∷ b ∷ rest)) 2 t in absurd (omega arith))
-    (λ _. cond_both _ _ _ Is
+    rw (le-ltb (length (a ∷ b ∷ rest)) 2 (omega arith)) (cond_both _ _ _ (CountedLen (a ∷ b ∷ rest))
     (λ t. let k = in_range _ _ b t in
-    ⊎_elim (λ below. absurd (no_text (a ∷ b ∷ []) rest none (IsUtf8-two a b (first.0, omega arith) (grind (arith, nat_tests))) (omega arith)))
+    ⊎_elim (λ below. absurd (no_text (a ∷ b ∷ []) rest none (grind (arith, nat_tests, IsUtf8-two)) (omega arith)))
     (λ above. after_two a b rest (above, first.1) k none) (order a 0xE0))
     (λ t. some_begin (a ∷ b ∷ rest) 1 (omega arith) (omega arith) (begins_one a first) (no_second a b first (out_of_range _ _ b t))))
 
 part_len-counted : (bytes : List ℕ) → StartsWithNoChar bytes → Counted bytes (utf8_error_len bytes) (part_len bytes)
-part_len-counted [] none = record { begins = begins_for_all [] (BeginsText-IsUtf8 [] IsUtf8-nil); few = omega arith; broken = λ n e. absurd (let f = utf8_error_len-nil in cc) }
+part_len-counted [] none = rw utf8_error_len-nil (all_begin [] (omega arith) (BeginsText-IsUtf8 [] IsUtf8-nil))
 part_len-counted (a ∷ rest) none =
-    let bytes : List ℕ = a ∷ rest in
-    cond_both _ _ _ (Counted bytes (utf8_error_len bytes))
-    (λ t. subst (CountedLen bytes) (sym (utf8_error_len_some bytes (omega arith)))
-    (cond_both _ _ _ (CountedLen bytes) (λ _. after_one a rest (in_range 0xC2 0xF4 a t) none) (λ f. absurd (true≢false (sym t ∙ f)))))
+    rw (utf8_error_len_some (a ∷ rest) (omega arith)) (cond_both _ _ _ (λ k. Counted (a ∷ rest) (error_len_of_some (a ∷ rest)) k)
+    (λ t. rw t (after_one a rest (in_range 0xC2 0xF4 a t) none))
     (λ t. record {
-      begins = begins_until bytes 0 (omega arith) (BeginsText-IsUtf8 [] IsUtf8-nil)
-          (⊎_elim (λ low. absurd (no_text (a ∷ []) rest none (IsUtf8-one a low) (omega arith)))
-          (λ high. no_first a high (out_of_range 0xC2 0xF4 a t))
-          (order a 0x80));
+      begins = begins_until (a ∷ rest) 0 (omega arith) (BeginsText-IsUtf8 [] IsUtf8-nil)
+          (⊎_elim (λ low. absurd (no_text (a ∷ []) rest none (IsUtf8-one a low) (omega arith))) (λ high. no_first a high (out_of_range 0xC2 0xF4 a t)) (order a 0x80));
       few = omega arith;
       broken = λ _ _. omega arith;
-    })
+    }))
 
 -- ---- the longest front that begins a text
 
@@ -100,12 +87,10 @@ part_counted bytes = part_len-counted (drop (text_len bytes) bytes) (no_char-tex
 
 pub begun_len-longest : (bytes : List ℕ) → BeginsFor bytes (begun_len bytes)
 begun_len-longest bytes =
-    let n : ℕ = text_len bytes in
+    let front : List ℕ = take (text_len bytes) bytes in
+    let rest : List ℕ = drop (text_len bytes) bytes in
     let u = (text_len-longest bytes).holds in
-    let both : BeginsFor (take n bytes ++ drop n bytes) (length (take n bytes) + part_len (drop n bytes)) =
-    longest_behind BeginsText (take n bytes) (drop n bytes) (part_len (drop n bytes)) (λ zs. BeginsText-append (take n bytes) zs u) (λ zs. BeginsText-behind (take n bytes) zs u)
-    (part_counted bytes).begins in
-    subst₂ (λ l m. BeginsFor l (m + part_len (drop n bytes))) (take-append-drop n bytes) (length-front bytes) both
+    rw (take-append-drop, length-front) at (longest_behind BeginsText front rest (part_len rest) (λ zs. BeginsText-append front zs u) (λ zs. BeginsText-behind front zs u) (part_counted bytes).begins)
 
 -- no more than three bytes behind the text begin a character
 pub begun_few : (bytes : List ℕ) → begun_len bytes ≤ text_len bytes + 3
@@ -122,7 +107,7 @@ pub begun_all : (bytes : List ℕ) → BeginsText bytes → begun_len bytes ≡ 
 begun_all bytes b = begun_len-is bytes (length bytes) (begins_for_all bytes b)
 
 pub begins_all : (bytes : List ℕ) → begun_len bytes ≡ length bytes → BeginsText bytes
-begins_all bytes e = subst BeginsText (take_all (begun_len bytes) bytes (omega arith)) (begun_len-longest bytes).holds
+begins_all bytes e = rw (take_all (begun_len bytes) bytes (omega arith)) at (begun_len-longest bytes).holds
 
 pub begun_len-behind : (xs ys : List ℕ) → IsUtf8 xs → begun_len (xs ++ ys) ≡ length xs + begun_len ys
 begun_len-behind xs ys u = begun_len-is (xs ++ ys) _ (longest_behind BeginsText xs ys (begun_len ys) (λ zs. BeginsText-append xs zs u) (λ zs. BeginsText-behind xs zs u) (begun_len-longest ys))

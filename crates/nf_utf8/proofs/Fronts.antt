@@ -9,22 +9,17 @@ pub record IsLongestFront (P : List ℕ → Type 0) (xs : List ℕ) (n : ℕ) : 
 module _ (P : List ℕ → Type 0) where
   -- only one length is
   pub longest_same : (xs : List ℕ) (m n : ℕ) → IsLongestFront P xs m → IsLongestFront P xs n → m ≡ n
-  longest_same xs m n a b =
-      let up : m ≤ n = b.longest m a.within a.holds in
-      let down : n ≤ m = a.longest n b.within b.holds in
-      omega arith
+  longest_same xs m n a b = omega (arith, b.longest m a.within a.holds, a.longest n b.within b.holds)
 
   -- behind bytes that do not matter to the property
   pub longest_behind : (xs ys : List ℕ) (n : ℕ) → ((zs : List ℕ) → P zs → P (xs ++ zs)) → ((zs : List ℕ) → P (xs ++ zs) → P zs)
       → IsLongestFront P ys n → IsLongestFront P (xs ++ ys) (length xs + n)
   longest_behind xs ys n add cancel h = record {
-    within = let w : n ≤ length ys = h.within in omega (arith, length-append xs ys);
-    holds = subst P (sym (take-append-add xs ys n)) (add (take n ys) h.holds);
+    within = omega (arith, h.within, length-append xs ys);
+    holds = rw take-append-add (add (take n ys) h.holds);
     longest = λ m le p. ⊎_elim (λ below. omega arith)
         (λ past.
-        let k : ℕ = m - length xs in
-        let split : m ≡ length xs + k = omega arith in
-        let short : k ≤ n = h.longest k (omega (arith, le, length-append xs ys)) (cancel (take k ys) (subst P (ap (λ j. take j (xs ++ ys)) split ∙ take-append-add xs ys k) p)) in
-        omega arith)
+        let split : m ≡ length xs + (m - length xs) = omega arith in
+        omega (arith, h.longest (m - length xs) (omega (arith, le, length-append xs ys)) (cancel _ (rw take-append-add at (rw split at p)))))
         (order m (length xs));
   }

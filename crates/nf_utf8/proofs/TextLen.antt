@@ -11,10 +11,10 @@ found : (bytes : List ℕ) (m : ℕ) → IsGreatest bytes m (valid_len_up_to byt
 found bytes zero = (omega arith, IsUtf8-nil, λ k le _. le)
 found bytes (suc m) =
     let f = found bytes m in
-    let at_end : is_utf8 (take (suc m) bytes) ≡ false → (k : ℕ) → suc m ≤ k → k ≤ suc m → ¬ (IsUtf8 (take k bytes)) =
-    λ e k past le u. let same : k ≡ suc m = omega arith in true≢false (sym (is_utf8-from_IsUtf8 _ (subst (λ j. IsUtf8 (take j bytes)) same u)) ∙ e) in
     cond_both _ _ _ (IsGreatest bytes (suc m)) (λ t. (omega arith, IsUtf8-from_is_utf8 _ t, λ k le _. le))
-    (λ e. (omega (arith, f.0), f.1, λ k le u. ⊎_elim (λ below. f.2 k (omega arith) u) (λ past. absurd (at_end e k past le u)) (order k (suc m))))
+    (λ e. (omega (arith, f.0), f.1, λ k le u.
+        let t = is_utf8-from_IsUtf8 _ u in
+        ⊎_elim (λ below. f.2 k (omega arith) u) (λ past. let same : k ≡ suc m = omega arith in absurd (cc)) (order k (suc m))))
 
 pub text_len-longest : (bytes : List ℕ) → IsLongestFront IsUtf8 bytes (text_len bytes)
 unfolding utf8_valid_len
@@ -33,22 +33,17 @@ length-front bytes = length-take-le (text_len bytes) bytes (text_len-longest byt
 pub text_len-rest : (bytes : List ℕ) → text_len (drop (text_len bytes) bytes) ≡ 0
 text_len-rest bytes =
     let n : ℕ = text_len bytes in
-    let all : text_len (take n bytes ++ drop n bytes) ≡ length (take n bytes) + text_len (drop n bytes) = text_len-behind (take n bytes) (drop n bytes) (text_len-longest bytes).holds in
-    let same : text_len (take n bytes ++ drop n bytes) ≡ n = ap (λ l. text_len l) (take-append-drop n bytes) in
-    omega (arith, length-front bytes)
+    let both = rw (take-append-drop, length-front) at (text_len-behind (take n bytes) (drop n bytes) (text_len-longest bytes).holds) in
+    omega arith
 
 -- where no character begins them, and only there, they have no text
 pub no_char-text_len : (bytes : List ℕ) → text_len bytes ≡ 0 → StartsWithNoChar bytes
-no_char-text_len bytes none c rest s e =
-    let w = width_is c in
-    let some : text_len bytes ≡ length (encode_utf8 c) + text_len rest = ap (λ l. text_len l) e ∙ text_len-behind (encode_utf8 c) rest (IsUtf8-encode c s) in
-    omega (arith, w.0, w.1)
+no_char-text_len bytes none c rest s e = omega (arith, width_is c, ap (λ l. text_len l) e, text_len-behind (encode_utf8 c) rest (IsUtf8-encode c s))
 
 pub text_len-no_char : (bytes : List ℕ) → StartsWithNoChar bytes → text_len bytes ≡ 0
-text_len-no_char bytes none = ⊎_elim
-    (λ some. absurd (no_text (take (text_len bytes) bytes) (drop (text_len bytes) bytes) (subst StartsWithNoChar (sym (take-append-drop (text_len bytes) bytes)) none) (text_len-longest bytes).holds (omega (arith, length-front bytes))))
-    (λ zero. omega arith)
-    (order 0 (text_len bytes))
+text_len-no_char bytes none =
+    let t = no_text (take (text_len bytes) bytes) (drop (text_len bytes) bytes) (rw take-append-drop none) (text_len-longest bytes).holds in
+    grind (arith, length-front bytes)
 
 -- behind a well-formed front
 module _ (bytes : List ℕ) (at : ℕ) (within : at ≤ length bytes) (front : IsUtf8 (take at bytes)) where
@@ -56,9 +51,7 @@ module _ (bytes : List ℕ) (at : ℕ) (within : at ≤ length bytes) (front : I
   front_to end le more = let e : at + (end - at) ≡ end = omega arith in rw e at (longer bytes at (end - at) front more)
 
   pub text_len-split : text_len bytes ≡ at + text_len (drop at bytes)
-  text_len-split =
-      ap (λ l. text_len l) (sym (take-append-drop at bytes)) ∙ text_len-behind (take at bytes) (drop at bytes) front
-      ∙ ap (λ n. n + text_len (drop at bytes)) (length-take-le at bytes within)
+  text_len-split = rw (take-append-drop, length-take-le at bytes within) at (text_len-behind (take at bytes) (drop at bytes) front)
 
   pub text_len-all : IsUtf8 (drop at bytes) → text_len bytes ≡ length bytes
-  text_len-all rest = utf8_valid_len-IsUtf8 bytes (subst IsUtf8 (take-append-drop at bytes) (IsUtf8-append (take at bytes) (drop at bytes) front rest))
+  text_len-all rest = utf8_valid_len-IsUtf8 bytes (rw take-append-drop at (IsUtf8-append (take at bytes) (drop at bytes) front rest))
