@@ -1,5 +1,5 @@
 -- The longest front of a list that has a property.
-use Rattle.nf_utf8.proofs.Common.{◌≡◌, ℕ, ◌+◌, ◌-◌, ◌≤◌, List, ◌++◌, length, take, ⊎_elim, sym, ap, subst, ◌∙◌, arith, length-append, order, take-append-add}
+use Rattle.nf_utf8.proofs.Common.{◌≡◌, ℕ, ◌+◌, ◌-◌, ◌≤◌, List, ◌++◌, length, take, ⊎_elim, arith, length-append, order, take-append-add}
 
 pub record IsLongestFront (P : List ℕ → Type 0) (xs : List ℕ) (n : ℕ) : Type 0 where
   pub within : n ≤ length xs

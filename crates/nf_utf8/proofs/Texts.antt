@@ -1,5 +1,5 @@
 -- What is well-formed and what begins a text, behind a text and in front of more.
-use Rattle.nf_utf8.proofs.Common.{ℕ, List, [], ◌++◌, length, IsUtf8, refl, sym, subst, append_assoc, append-nil, take_at, drop_at, after_text, IsUtf8-append, BeginsText}
+use Rattle.nf_utf8.proofs.Common.{ℕ, List, [], ◌++◌, length, IsUtf8, refl, append_assoc, append-nil, take_at, drop_at, after_text, IsUtf8-append, BeginsText}
 
 pub IsUtf8-behind : (xs ys : List ℕ) → IsUtf8 xs → IsUtf8 (xs ++ ys) → IsUtf8 ys
 IsUtf8-behind xs ys u v = rw (drop_at xs ys (length xs) refl) at (after_text (xs ++ ys) (length xs) v (rw (take_at xs ys (length xs) refl) u))

@@ -1,6 +1,5 @@
-use Rattle.nf_utf8.proofs.Common.{◌≡◌, List, ℕ, [], None, Some, refl, sym, ◌∙◌, subst, inr, arith, true≢false, IsUtf8-nil, StandsAfter, Completes, IsFront}
-use Rattle.nf_utf8.specs.declared.front.Front.TheVariants.{Char}
-use Rattle.nf_utf8.proofs.TakingLemmas.{Taken, taken, counts, takes_same}
+use Rattle.nf_utf8.proofs.Common.{◌≡◌, List, ℕ, [], None, Some, refl, sym, ◌∙◌, inr, arith, true≢false, IsUtf8-nil, StandsAfter, Completes, IsFront}
+use Rattle.nf_utf8.proofs.TakingLemmas.{Joined, Taken, taken, counts, takes_same}
 use Rattle.nf_utf8.proofs.decoder.Decoder.take.Goals as goal
 
 nothing : (c : goal.After-take_text) → Completes c.args.self.now c.args.piece.now None 0
@@ -21,7 +20,7 @@ returns-then-is_empty-clause-counts c = c.take_text.ensures.counts c.args.self.n
 begun : (c : goal.After-take_text-in-Char) → Completes c.args.self.now c.args.piece.now (Some c.in-Char.c) c.in-Char.len
 begun c =
     let some : ¬ (c.args.self.now ≡ []) = λ none. absurd (true≢false (sym (c.is_empty.ensures.1 (c.self.view_is ∙ none)) ∙ c.if-is_empty.false)) in
-    (some, subst (λ part. IsFront part c.args.piece.now (Char c.in-Char.c c.in-Char.len)) c.self.view_is c.in-Char.ensures)
+    (some, rw c.self.view_is at c.in-Char.ensures)
 
 pub returns-in-Char-clause-takes : goal.returns-in-Char-clause-takes
 returns-in-Char-clause-takes c bytes s = c.take_text-in-Char.ensures.takes c.args.self.now bytes (begun c) s
@@ -39,14 +38,15 @@ pub returns-in_default : goal.returns-in_default
 returns-in_default c =
     let part : List ℕ = c.args.self.now in
     let piece : List ℕ = c.args.piece.now in
-    let front : IsFront part piece c.front.result = subst (λ l. IsFront l piece c.front.result) c.self.view_is c.front.ensures in
+    let front : IsFront part piece c.front.result = rw c.self.view_is at c.front.ensures in
+    let joined : Joined part piece None [] part piece 0 = record { scalar = tt; utf8 = IsUtf8-nil; begun = inr refl; joins = refl; sum = omega arith } in
     let all : (bytes : List ℕ) → StandsAfter part bytes → Taken bytes piece None [] c.end.result c.end.new.self =
-    λ bytes s. taken part bytes piece None [] s tt IsUtf8-nil (inr refl) part piece 0 c.front.result c.end.result c.end.new.self refl (omega arith) front c.end.ensures in
+    λ bytes s. taken s joined c.front.result c.end.result c.end.new.self front c.end.ensures in
     record {
       takes = λ bytes s. (all bytes s).0;
       only = λ bytes first text end s t. takes_same bytes piece first None text [] end c.end.result t (all bytes s).0;
       stands = λ bytes s. (all bytes s).1;
       inside = omega arith;
       text = refl;
-      counts = counts part piece None [] part piece 0 refl (omega arith) c.front.result c.end.result c.end.new.self front c.end.ensures;
+      counts = counts joined c.front.result c.end.result c.end.new.self front c.end.ensures;
     }

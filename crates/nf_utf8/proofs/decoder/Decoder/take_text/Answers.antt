@@ -1,6 +1,6 @@
-use Rattle.nf_utf8.proofs.Common.{◌≡◌, ◌+◌, ◌-◌, ◌++◌, length, take, drop, ap, sym, ◌∙◌, arith, length-drop, length-take, take_rest, text_len}
+use Rattle.nf_utf8.proofs.Common.{◌≡◌, ◌+◌, ◌-◌, ◌++◌, ℕ, List, [], Completes, length, take, drop, ap, sym, ◌∙◌, arith, length-drop, length-take, take_rest, text_len}
 use Rattle.nf_utf8.proofs.TextLen.{text_len-longest, text_len-rest}
-use Rattle.nf_utf8.proofs.TakingLemmas.{taken_from, counts_from, can_end}
+use Rattle.nf_utf8.proofs.TakingLemmas.{Joined, joined_from, taken, counts, can_end}
 use Rattle.nf_utf8.proofs.decoder.Decoder.take_text.Goals as goal
 
 pub split_at-requires : goal.split_at-requires
@@ -15,20 +15,18 @@ end-requires c =
     can_end c.split_at.result.1.now c.front.result (c.args.from + length c.from_utf8_unchecked-text.result.now) c.front.ensures none
     (omega (arith, c.split_at.ensures.front_len, c.split_at.ensures.back_len, length-drop c.args.from c.args.piece.now, length-take (length c.args.piece.now - c.args.from) (drop c.args.from c.args.piece.now), ap length c.from_utf8_unchecked-text.ensures))
 
-pub returns-clause-takes : goal.returns-clause-takes
-returns-clause-takes c held bytes h s =
+joined : (c : goal.After-text-1) (held : List ℕ) → Completes held c.args.piece.now c.args.first c.args.from
+    → Joined held c.args.piece.now c.args.first c.from_utf8_unchecked-text.result.now [] c.split_at.result.1.now (c.args.from + length c.from_utf8_unchecked-text.result.now)
+joined c held h =
     let text = c.from_utf8_unchecked-text in
-    (taken_from held c.args.piece.now c.args.first c.args.from text.result.now c.split_at.result.1.now c.front.result c.end.result c.end.new.self h c.requires
-    (sym (take_rest c.args.piece.now c.args.from) ∙ c.split_at.ensures.by_index.0 ∙ ap (λ l. l ++ c.split_at.result.1.now) (sym text.ensures)) c.front.ensures c.end.ensures bytes s text.utf8).0
+    joined_from held c.args.piece.now c.args.first c.args.from text.result.now c.split_at.result.1.now h c.requires
+    (sym (take_rest c.args.piece.now c.args.from) ∙ c.split_at.ensures.by_index.0 ∙ ap (λ l. l ++ c.split_at.result.1.now) (sym text.ensures)) text.utf8
+
+pub returns-clause-takes : goal.returns-clause-takes
+returns-clause-takes c held bytes h s = (taken s (joined c held h) c.front.result c.end.result c.end.new.self c.front.ensures c.end.ensures).0
 
 pub returns-clause-stands : goal.returns-clause-stands
-returns-clause-stands c held bytes h s =
-    let text = c.from_utf8_unchecked-text in
-    (taken_from held c.args.piece.now c.args.first c.args.from text.result.now c.split_at.result.1.now c.front.result c.end.result c.end.new.self h c.requires
-    (sym (take_rest c.args.piece.now c.args.from) ∙ c.split_at.ensures.by_index.0 ∙ ap (λ l. l ++ c.split_at.result.1.now) (sym text.ensures)) c.front.ensures c.end.ensures bytes s text.utf8).1
+returns-clause-stands c held bytes h s = (taken s (joined c held h) c.front.result c.end.result c.end.new.self c.front.ensures c.end.ensures).1
 
 pub returns-clause-counts : goal.returns-clause-counts
-returns-clause-counts c held h =
-    let text = c.from_utf8_unchecked-text in
-    counts_from held c.args.piece.now c.args.first c.args.from text.result.now c.split_at.result.1.now c.front.result c.end.result c.end.new.self h c.requires
-    (sym (take_rest c.args.piece.now c.args.from) ∙ c.split_at.ensures.by_index.0 ∙ ap (λ l. l ++ c.split_at.result.1.now) (sym text.ensures)) c.front.ensures c.end.ensures
+returns-clause-counts c held h = counts (joined c held h) c.front.result c.end.result c.end.new.self c.front.ensures c.end.ensures
