@@ -9,16 +9,14 @@ use Rattle.nf_utf8.proofs.ReplacedLemmas.{chars-own, broken_part, by_parts, part
 
 -- where more than three bytes stand behind the text, it ends there whatever follows
 pub text_len-front : (bytes : List ℕ) (n : ℕ) → text_len (take n bytes) + 3 < length (take n bytes) → text_len bytes ≡ text_len (take n bytes)
-text_len-front bytes n far =
-    ap (λ l. text_len l) (sym (take-append-drop n bytes)) ∙ text_same (take n bytes) (omega (arith, far, begun_few (take n bytes))) (drop n bytes)
+text_len-front bytes n far = rw take-append-drop at (text_same (take n bytes) (omega (arith, far, begun_few (take n bytes))) (drop n bytes))
 
 -- std's count of them is this crate's, where any do; where none does, one byte is invalid
 invalid_begun : (rest : List ℕ) → 0 < part_len rest → utf8_invalid_len rest ≡ part_len rest
-invalid_begun rest = cond_both _ _ _ (λ n. 0 < n → utf8_invalid_len rest ≡ n) (λ _ _. refl) (λ _ (some : 0 < 0). absurd (omega arith))
+invalid_begun rest some = grind (arith, nat_tests)
 
 invalid_one : (rest : List ℕ) → 0 < length rest → part_len rest ≡ 0 → utf8_invalid_len rest ≡ 1
-invalid_one rest some = cond_both _ _ _ (λ n. n ≡ 0 → utf8_invalid_len rest ≡ 1) (λ _ none. absurd (omega (arith, none, utf8_invalid_len_pos rest some)))
-    (λ t _. ap (λ o. unwrap_or o (length rest)) (utf8_error_len_some rest some) ∙ ap (λ b. unwrap_or (cond b (error_len_after_one rest) (Some 1)) (length rest)) t)
+invalid_one rest some none = grind (arith, nat_tests, utf8_error_len_some rest some, utf8_invalid_len_pos rest some)
 
 -- the bytes behind the text
 abbrev rest_at : List ℕ → List ℕ
@@ -26,10 +24,7 @@ rest_at bytes = drop (text_len bytes) bytes
 
 broken_invalid : (bytes : List ℕ) (at start : ℕ) → ending_of bytes ≡ Bad at start → text_len bytes + utf8_invalid_len (rest_at bytes) ≡ part_end at start
 broken_invalid bytes at start e =
-    let b = broken bytes at start e in
-    cond_both (at == start) _ _ (λ end. text_len bytes + utf8_invalid_len (rest_at bytes) ≡ end)
-    (λ t. let same = eqb-true at start t in omega (arith, same, b.1, b.2, invalid_one (rest_at bytes) (omega (arith, b.0, length-drop (text_len bytes) bytes)) (omega (arith, same, b.1, b.2))))
-    (λ f. let differs : ¬ (at ≡ start) = grind (arith, nat_tests) in omega (arith, b.1, invalid_begun (rest_at bytes) (omega (arith, b.1, b.2))))
+    grind (arith, nat_tests, broken bytes at start e, invalid_one (rest_at bytes), invalid_begun (rest_at bytes), length-drop (text_len bytes) bytes)
 
 -- std tells how many bytes are invalid: those of the part that a byte breaks off
 pub record IsTold (bytes : List ℕ) (n : ℕ) : Type 0 where
@@ -50,19 +45,16 @@ few_at_end = by_parts (λ bytes. begun_at_end bytes ≤ 3)
 
 replaced-all : (bytes : List ℕ) → begun_len bytes ≡ length bytes → replaced bytes ≡ text_of bytes
 unfolding replaced
-replaced-all bytes all = ap (map (λ part. part.char)) (parts_of-all bytes all) ∙ chars-own (text_of bytes)
+replaced-all bytes all = rw (parts_of-all bytes all) (chars-own (text_of bytes))
 
 replaced-broken : (bytes : List ℕ) (at start : ℕ) → ending_of bytes ≡ Bad at start → replaced bytes ≡ text_of bytes ++ replacement ∷ replaced (drop (part_end at start) bytes)
 unfolding replaced
-replaced-broken bytes at start e =
-    let rest : List Part = broken_part at start ∷ parts_of (drop (part_end at start) bytes) in
-    ap (map (λ part. part.char)) (parts_of-broken bytes at start e) ∙ map-append (λ part. part.char) (own_parts (text_of bytes)) rest
-    ∙ ap (λ l. l ++ map (λ part. part.char) rest) (chars-own (text_of bytes))
+replaced-broken bytes at start e = rw (parts_of-broken bytes at start e, map-append, chars-own)
 
 pub replaced-IsText : (bytes : List ℕ) → IsText (replaced bytes)
 replaced-IsText = by_parts (λ bytes. IsText (replaced bytes))
-    (λ bytes all. subst IsText (sym (replaced-all bytes all)) (text_of-IsText bytes))
-    (λ bytes at start e h. subst IsText (sym (replaced-broken bytes at start e)) (scalars-append (text_of bytes) (replacement ∷ replaced (drop (part_end at start) bytes)) (text_of-IsText bytes) h))
+    (λ bytes all. rw (replaced-all bytes all) (text_of-IsText bytes))
+    (λ bytes at start e h. rw (replaced-broken bytes at start e) (scalars-append (text_of bytes) (replacement ∷ replaced (drop (part_end at start) bytes)) (text_of-IsText bytes) h))
 
 -- ---- its bytes, where nothing follows
 
@@ -75,39 +67,46 @@ whole_is bytes text begun p q = (λ i. p i ++ tail (q i))
 
 -- U+FFFD as text
 pub encodes_replacement : encode_utf8_all (replacement ∷ []) ≡ replacement_bytes
-encodes_replacement = ap (λ l. l ++ []) (three replacement (omega arith) (omega arith))
+encodes_replacement = rw (three replacement (omega arith) (omega arith))
 
 encodes_behind : (bytes rest : List ℕ) → encode_utf8_all (text_of bytes ++ rest) ≡ front_of bytes ++ encode_utf8_all rest
-encodes_behind bytes rest = encodes-append (text_of bytes) rest ∙ ap (λ l. l ++ encode_utf8_all rest) (encodes-text_of bytes)
+encodes_behind bytes rest = rw (encodes-append, encodes-text_of)
 
 lossy_whole : (bytes : List ℕ) → text_len bytes ≡ length bytes → begun_len bytes ≡ length bytes → encode_utf8_all (replaced_whole bytes) ≡ utf8_lossy bytes
 lossy_whole bytes whole all =
     let same : front_of bytes ≡ bytes = take_all (text_len bytes) bytes (omega (arith, whole)) in
-    ap encode_utf8_all (whole_is bytes (text_of bytes) 0 (replaced-all bytes all) (omega (arith, bytes_in-all bytes all, whole)))
-    ∙ encodes_behind bytes [] ∙ append-nil (front_of bytes) ∙ same ∙ sym (utf8_lossy-IsUtf8 bytes (subst IsUtf8 same (front_of-IsUtf8 bytes)))
+    let is = whole_is bytes (text_of bytes) 0 (replaced-all bytes all) (omega (arith, bytes_in-all bytes all, whole)) in
+    rw (is, encodes_behind bytes [], append-nil, same) (sym (utf8_lossy-IsUtf8 bytes (rw same at (front_of-IsUtf8 bytes))))
 
 lossy_cut : (bytes : List ℕ) → text_len bytes < length bytes → begun_len bytes ≡ length bytes → encode_utf8_all (replaced_whole bytes) ≡ utf8_lossy bytes
 lossy_cut bytes short all =
-    let some : tail (begun_at_end bytes) ≡ replacement ∷ [] = ap (λ b. cond b [] (replacement ∷ [])) (ne_eqb (begun_at_end bytes) 0 (omega (arith, short, bytes_in-all bytes all))) in
+    let is = whole_is bytes (text_of bytes) (begun_at_end bytes) (replaced-all bytes all) refl in
     let past : length bytes ≤ text_len bytes + utf8_invalid_len (rest_at bytes) = omega (arith, all, invalid_begun (rest_at bytes) (omega (arith, short, all))) in
-    let none : utf8_lossy (after_first_chunk bytes) ≡ [] = ap utf8_lossy (drop_all _ bytes past) ∙ utf8_lossy_empty [] refl in
-    ap encode_utf8_all (whole_is bytes (text_of bytes) (begun_at_end bytes) (replaced-all bytes all) refl ∙ ap (λ l. text_of bytes ++ l) some)
-    ∙ encodes_behind bytes (replacement ∷ [])
-    ∙ ap (λ l. front_of bytes ++ l) (encodes_replacement ∙ ap (λ l. replacement_bytes ++ l) (sym none))
-    ∙ sym (utf8_lossy_step bytes (omega (arith, short)))
+    rw (
+      is,
+      ne_eqb (begun_at_end bytes) 0 (omega (arith, short, bytes_in-all bytes all)),
+      encodes_behind bytes (replacement ∷ []),
+      encodes_replacement,
+      utf8_lossy_step bytes (omega (arith, short)),
+      drop_all _ bytes past,
+      utf8_lossy_empty [] refl,
+    )
 
 lossy_broken : (bytes : List ℕ) (at start : ℕ) → ending_of bytes ≡ Bad at start
     → encode_utf8_all (replaced_whole (drop (part_end at start) bytes)) ≡ utf8_lossy (drop (part_end at start) bytes) → encode_utf8_all (replaced_whole bytes) ≡ utf8_lossy bytes
 lossy_broken bytes at start e h =
     let rest : List ℕ = drop (part_end at start) bytes in
-    let same : begun_at_end bytes ≡ begun_at_end rest = omega (arith, bytes_in-broken bytes at start e, length-drop (part_end at start) bytes) in
-    let more : replaced_whole bytes ≡ text_of bytes ++ replacement ∷ replaced_whole rest =
-    whole_is bytes _ (begun_at_end rest) (replaced-broken bytes at start e) same ∙ append_assoc (text_of bytes) (replacement ∷ replaced rest) (tail (begun_at_end rest))
-    ∙ ap (λ l. text_of bytes ++ replacement ∷ l) (sym (whole_is rest (replaced rest) (begun_at_end rest) refl refl)) in
-    ap encode_utf8_all more ∙ encodes_behind bytes (replacement ∷ replaced_whole rest)
-    ∙ ap (λ l. front_of bytes ++ l) (encodes-append (replacement ∷ []) (replaced_whole rest) ∙ (λ i. encodes_replacement i ++ h i))
-    ∙ ap (λ n. front_of bytes ++ (replacement_bytes ++ utf8_lossy (drop n bytes))) (sym (broken_invalid bytes at start e))
-    ∙ sym (utf8_lossy_step bytes (omega (arith, (broken bytes at start e).0)))
+    let is = whole_is bytes _ (begun_at_end rest) (replaced-broken bytes at start e) (omega (arith, bytes_in-broken bytes at start e, length-drop (part_end at start) bytes)) in
+    rw (
+      is,
+      append_assoc,
+      ← (whole_is rest (replaced rest) (begun_at_end rest) refl refl),
+      encodes_behind bytes (replacement ∷ replaced_whole rest),
+      three replacement (omega arith) (omega arith),
+      h,
+      utf8_lossy_step bytes (omega (arith, broken bytes at start e)),
+      broken_invalid bytes at start e,
+    )
 
 pub encodes-replaced_whole : (bytes : List ℕ) → encode_utf8_all (replaced_whole bytes) ≡ utf8_lossy bytes
 encodes-replaced_whole = by_parts (λ bytes. encode_utf8_all (replaced_whole bytes) ≡ utf8_lossy bytes)

@@ -17,16 +17,12 @@ bytes_in-own (c ∷ x) = omega (arith, bytes_in-own x, length-append (encode_utf
 
 pub chars-own : (x : List ℕ) → map (λ part. part.char) (own_parts x) ≡ x
 chars-own [] = refl
-chars-own (c ∷ x) = ap (λ l. c ∷ l) (chars-own x)
+chars-own (c ∷ x) = rw (chars-own x)
 
 -- ---- what a bad byte breaks off
 
-part_end-bounds : (at start n : ℕ) → start ≤ at → at < n → (start < part_end at start) × (part_end at start ≤ n)
-part_end-bounds at start n le inside = cond_both (at == start) _ _ (λ end. (start < end) × (end ≤ n)) (λ t. (omega arith, omega arith))
-    (λ f. let differs : ¬ (at ≡ start) = grind (arith, nat_tests) in (omega arith, omega arith))
-
 pub broken_end : (bytes : List ℕ) (at start : ℕ) → ending_of bytes ≡ Bad at start → (start < part_end at start) × (part_end at start ≤ length bytes)
-broken_end bytes at start e = let b = broken bytes at start e in part_end-bounds at start (length bytes) (omega (arith, b.1, b.2)) (omega (arith, b.0, b.1))
+broken_end bytes at start e = grind (arith, nat_tests, broken bytes at start e)
 
 -- the part that it breaks off
 abbrev pub broken_part : (at start : ℕ) → Part
@@ -40,9 +36,7 @@ module _ (P : List ℕ → Type 0) (at_begun : (bytes : List ℕ) → begun_len 
   by_length (suc k) bytes few = ⊎_elim
       (λ short.
       let e = ending_of-broken bytes short in
-      let end = broken_end bytes (begun_len bytes) (text_len bytes) e in
-      let stop : ℕ = part_end (begun_len bytes) (text_len bytes) in
-      at_bad bytes (begun_len bytes) (text_len bytes) e (by_length k (drop stop bytes) (omega (arith, end.0, end.1, length-drop stop bytes))))
+      at_bad bytes _ _ e (by_length k _ (omega (arith, broken_end bytes _ _ e, length-drop (part_end (begun_len bytes) (text_len bytes)) bytes))))
       (λ all. at_begun bytes (omega (arith, all, (begun_len-longest bytes).within)))
       (order (begun_len bytes) (length bytes))
 
@@ -55,9 +49,8 @@ parts-begun : (k : ℕ) (bytes : List ℕ) → begun_len bytes ≡ length bytes 
 parts-begun k bytes all = by (ending_of bytes) (ending_of-says bytes)
   where
     by : (e : Ending) → Says bytes e → own_parts (text_of bytes) ++ behind_text e (λ n. parts_within k (drop n bytes)) ≡ own_parts (text_of bytes)
-    by Whole s = append-nil (own_parts (text_of bytes))
-    by (Cut at start) s = append-nil (own_parts (text_of bytes))
     by (Bad at start) s = absurd (omega (arith, s.0, all))
+    by _ s = append-nil (own_parts (text_of bytes))
 
 parts-broken : (k : ℕ) (bytes : List ℕ) (at start : ℕ) → ending_of bytes ≡ Bad at start
     → parts_within (suc k) bytes ≡ own_parts (text_of bytes) ++ broken_part at start ∷ parts_within k (drop (part_end at start) bytes)
@@ -73,13 +66,10 @@ within_any (suc k) zero bytes p q = absurd (omega arith)
 within_any (suc k) (suc j) bytes p q = ⊎_elim
     (λ short.
     let e = ending_of-broken bytes short in
-    let end = broken_end bytes (begun_len bytes) (text_len bytes) e in
     let stop : ℕ = part_end (begun_len bytes) (text_len bytes) in
-    parts-broken k bytes (begun_len bytes) (text_len bytes) e
-    ∙ ap (λ l. own_parts (text_of bytes) ++ broken_part (begun_len bytes) (text_len bytes) ∷ l)
-    (within_any k j (drop stop bytes) (omega (arith, end.0, end.1, length-drop stop bytes)) (omega (arith, end.0, end.1, length-drop stop bytes)))
-    ∙ sym (parts-broken j bytes (begun_len bytes) (text_len bytes) e))
-    (λ past. let all : begun_len bytes ≡ length bytes = omega (arith, past, (begun_len-longest bytes).within) in parts-begun k bytes all ∙ sym (parts-begun j bytes all))
+    let less : length (drop stop bytes) < length bytes = omega (arith, broken_end bytes _ _ e, length-drop stop bytes) in
+    rw (parts-broken k bytes _ _ e, parts-broken j bytes _ _ e, within_any k j (drop stop bytes) (omega arith) (omega arith)))
+    (λ past. let all : begun_len bytes ≡ length bytes = omega (arith, past, (begun_len-longest bytes).within) in rw (parts-begun k bytes all, parts-begun j bytes all))
     (order (begun_len bytes) (length bytes))
 
 pub parts_of-begun : (bytes : List ℕ) → BeginsText bytes → parts_of bytes ≡ own_parts (text_of bytes)
@@ -89,34 +79,23 @@ pub parts_of-broken : (bytes : List ℕ) (at start : ℕ) → ending_of bytes �
     → parts_of bytes ≡ own_parts (text_of bytes) ++ broken_part at start ∷ parts_of (drop (part_end at start) bytes)
 unfolding parts_of
 parts_of-broken bytes at start e =
-    let b = broken_end bytes at start e in
     let rest : List ℕ = drop (part_end at start) bytes in
-    parts-broken (length bytes) bytes at start e
-    ∙ ap (λ l. own_parts (text_of bytes) ++ broken_part at start ∷ l)
-    (within_any (length bytes) (suc (length rest)) rest (omega (arith, b.0, b.1, length-drop (part_end at start) bytes)) (omega arith))
+    rw (parts-broken (length bytes) bytes at start e, within_any (length bytes) (suc (length rest)) rest (omega (arith, broken_end bytes at start e, length-drop (part_end at start) bytes)) (omega arith))
 
 pub parts_of-bad : (bytes more : List ℕ) (at start : ℕ) → ending_of bytes ≡ Bad at start
     → parts_of (bytes ++ more) ≡ own_parts (text_of bytes) ++ broken_part at start ∷ parts_of (drop (part_end at start) (bytes ++ more))
-parts_of-bad bytes more at start e =
-    parts_of-broken (bytes ++ more) at start (ending_of-bad bytes more at start e)
-    ∙ ap (λ x. own_parts x ++ broken_part at start ∷ parts_of (drop (part_end at start) (bytes ++ more))) (text_of-bad bytes more at start e)
+parts_of-bad bytes more at start e = rw (parts_of-broken (bytes ++ more) at start (ending_of-bad bytes more at start e), text_of-bad bytes more at start e)
 
 -- ---- how many bytes they are of
 
-text_bytes : (bytes : List ℕ) → bytes_in (own_parts (text_of bytes)) ≡ text_len bytes
-text_bytes bytes = bytes_in-own (text_of bytes) ∙ length-encodes-text_of bytes
-
 pub bytes_in-all : (bytes : List ℕ) → begun_len bytes ≡ length bytes → bytes_in (parts_of bytes) ≡ text_len bytes
-bytes_in-all bytes all = ap bytes_in (parts_of-all bytes all) ∙ text_bytes bytes
+bytes_in-all bytes all = rw (parts_of-all bytes all, bytes_in-own) (length-encodes-text_of bytes)
 
 pub bytes_in-broken : (bytes : List ℕ) (at start : ℕ) → ending_of bytes ≡ Bad at start → bytes_in (parts_of bytes) ≡ part_end at start + bytes_in (parts_of (drop (part_end at start) bytes))
 bytes_in-broken bytes at start e =
-    let rest : List Part = parts_of (drop (part_end at start) bytes) in
-    let sum : bytes_in (parts_of bytes) ≡ bytes_in (own_parts (text_of bytes)) + bytes_in (broken_part at start ∷ rest) =
-    ap bytes_in (parts_of-broken bytes at start e) ∙ bytes_in-append (own_parts (text_of bytes)) (broken_part at start ∷ rest) in
-    omega (arith, sum, text_bytes bytes, (broken bytes at start e).2, (broken_end bytes at start e).0)
+    rw (parts_of-broken bytes at start e, bytes_in-append, bytes_in-own) (omega (arith, length-encodes-text_of bytes, broken bytes at start e, broken_end bytes at start e))
 
 pub parts_of-within : (bytes : List ℕ) → bytes_in (parts_of bytes) ≤ length bytes
 parts_of-within = by_parts (λ bytes. bytes_in (parts_of bytes) ≤ length bytes)
     (λ bytes all. omega (arith, bytes_in-all bytes all, (text_len-longest bytes).within))
-    (λ bytes at start e h. omega (arith, bytes_in-broken bytes at start e, (broken_end bytes at start e).1, length-drop (part_end at start) bytes, h))
+    (λ bytes at start e h. omega (arith, bytes_in-broken bytes at start e, broken_end bytes at start e, length-drop (part_end at start) bytes, h))
