@@ -1,5 +1,5 @@
 -- Bytes read with one U+FFFD for each maximal subpart of an ill-formed sequence.
-use Rattle.nf_utf8.proofs.Common.{◌≡◌, ℕ, zero, suc, ◌+◌, ◌-◌, ◌<◌, ◌≤◌, ◌==◌, List, [], ◌∷◌, ◌++◌, map, length, drop, encode_utf8, encode_utf8_all, refl, sym, ap, ◌∙◌, ⊎_elim, arith, append-nil, length-append, length-drop, order, cond_both, nat_tests, BeginsText, Ending, Whole, Bad, Cut, text_len, text_of, begun_len, ending_of, Part, replacement, own_parts, part_end, behind_text, parts_within, parts_of, bytes_in}
+use Rattle.nf_utf8.proofs.Common.{◌≡◌, ℕ, zero, suc, ◌+◌, ◌-◌, ◌<◌, ◌≤◌, List, [], ◌∷◌, ◌++◌, map, length, drop, encode_utf8, encode_utf8_all, refl, ap, ⊎_elim, arith, append-nil, length-append, length-drop, order, nat_tests, BeginsText, Ending, Bad, text_len, text_of, begun_len, ending_of, Part, replacement, own_parts, part_end, behind_text, parts_within, parts_of, bytes_in}
 use Rattle.nf_utf8.proofs.TextLen.{text_len-longest}
 use Rattle.nf_utf8.proofs.BegunLen.{begun_len-longest, begun_all}
 use Rattle.nf_utf8.proofs.Endings.{ending_of-broken, Says, ending_of-says}

@@ -1,23 +1,15 @@
-use Rattle.nf_utf8.proofs.Common.{◌≡◌, ◌+◌, [], length, drop, refl, sym, subst, ap, chars, IsUtf8, arith, ◌∙◌, take_rest, IsUtf8-nil, chars-encodes, IsReplacedFront, IsStretch}
+use Rattle.nf_utf8.proofs.Common.{◌≡◌, ◌+◌, ◌-◌, refl, arith, take_rest, IsUtf8-nil, chars-nil}
 use Rattle.nf_utf8.proofs.MendingLemmas.{no_front, IsMendedWith, one_stretch}
 use Rattle.nf_utf8.proofs.mending.mend_front.Goals as goal
 
 pub loop-stretch-init : goal.loop-stretch-init
-loop-stretch-init c =
-    let none : [] ≡ c.clear.new.self.items = sym c.clear.ensures in
-    let no_chars : [] ≡ chars c.clear.new.self.items = sym (chars-encodes [] refl) ∙ ap chars none in
-    record {
-      text = subst IsUtf8 none IsUtf8-nil;
-      within = omega (arith, ap length none);
-      replaced = subst (λ x. IsReplacedFront c.args.bytes.now x 0) no_chars (no_front c.args.bytes.now);
-      few = omega (arith, ap length no_chars);
-    }
+loop-stretch-init c = rw (c.clear.ensures, chars-nil) (record { text = IsUtf8-nil; within = omega arith; replaced = no_front c.args.bytes.now; few = omega arith })
 
 mended_with : (c : goal.After-struct_known-in-Some-1) → IsMendedWith c.args.bytes.now c.append.new.mended.items c.loop-stretch.len (c.loop-stretch.len + c.in-Some.stretch.len)
 mended_with c =
     let i = c.loop-stretch.invariant in
-    let next : IsStretch (drop c.loop-stretch.len c.args.bytes.now) c.in-Some.stretch = rw take_rest at c.in-Some.ensures in
-    one_stretch c.args.bytes.now c.loop-stretch.mended.items c.append.new.mended.items c.loop-stretch.len c.in-Some.stretch i.text i.replaced i.few next (c.if-not-append.ensures.grown refl)
+    let size : (c.loop-stretch.len + c.in-Some.stretch.text) - c.loop-stretch.len ≡ c.in-Some.stretch.text = omega arith in
+    rw (c.if-not-append.ensures.grown refl, size) (one_stretch c.args.bytes.now c.loop-stretch.mended.items c.loop-stretch.len c.in-Some.stretch i.text i.replaced i.few (rw take_rest at c.in-Some.ensures))
 
 pub overflow_add-len-in-Some : goal.overflow_add-len-in-Some
 overflow_add-len-in-Some c = omega (arith, (mended_with c).within)
