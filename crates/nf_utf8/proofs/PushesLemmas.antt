@@ -14,10 +14,10 @@ ReadsOn from bytes all text end = (text_of all ≡ text_of bytes ++ text) × End
 -- ---- where they go on
 
 pub begins_cut : (bytes : List ℕ) (at start : ℕ) → ending_of bytes ≡ IsCut at start → BeginsText bytes
-begins_cut bytes at start e = begins_all bytes (subst (Says bytes) e (ending_of-says bytes)).1
+begins_cut bytes at start e = begins_all bytes (rw e at (ending_of-says bytes)).1
 
 pub begins_whole : (bytes : List ℕ) → ending_of bytes ≡ IsWhole → BeginsText bytes
-begins_whole bytes e = begins_all bytes (omega (arith, (begun_len-longest bytes).within, subst (Says bytes) e (ending_of-says bytes)))
+begins_whole bytes e = begins_all bytes (omega (arith, (begun_len-longest bytes).within, rw e at (ending_of-says bytes)))
 
 -- ---- byte by byte
 
@@ -25,37 +25,22 @@ module _ (from : List ℕ) where
   broken : (bytes piece : List ℕ) (byte at back : ℕ) → Answers bytes byte (BadByte back) → length from + at ≡ length bytes
       → ReadsOn from bytes (bytes ++ byte ∷ [] ++ piece) [] (Bad at back)
   broken bytes piece byte at back answer place =
-      let all : List ℕ = bytes ++ byte ∷ [] ++ piece in
-      let text : text_of all ≡ text_of bytes = text_of-bad (bytes ++ byte ∷ []) piece (length bytes) (text_len bytes) answer.1 ∙ answer.0 in
-      let len : text_len all ≡ text_len bytes = sym (length-encodes-text_of all) ∙ ap (λ l. length (encode_utf8_all l)) text ∙ length-encodes-text_of bytes in (
-        text ∙ sym (append-nil (text_of bytes)),
-        (
-          ending_of-bad (bytes ++ byte ∷ []) piece (length bytes) (text_len bytes) answer.1 ∙ (λ i. IsBad (sym place i) (sym len i)),
-          omega (arith, len, place, answer.2),
-          omega (arith, place, length-append (bytes ++ byte ∷ []) piece, length-append bytes (byte ∷ [])),
-        ),
-      )
+      let text = text_of-bad (bytes ++ byte ∷ []) piece (length bytes) (text_len bytes) answer.1 ∙ answer.0 in
+      let len : text_len (bytes ++ byte ∷ [] ++ piece) ≡ text_len bytes = rw (text, length-encodes-text_of) at (sym (length-encodes-text_of (bytes ++ byte ∷ [] ++ piece))) in
+      (rw append-nil text, (rw (place, len) (ending_of-bad (bytes ++ byte ∷ []) piece (length bytes) (text_len bytes) answer.1), omega (arith, len, place, answer.2), simp length-append (omega (arith, place))))
 
   -- `Next` is what the bytes behind the step give
   step_on : (bytes piece text : List ℕ) (byte : ℕ) (end : End) (step : Step) (Next : List ℕ → Type 0)
       → ((more : List ℕ) → BeginsText (bytes ++ byte ∷ []) → Next more → ReadsOn from (bytes ++ byte ∷ []) (bytes ++ byte ∷ [] ++ piece) more end)
       → Answers bytes byte step → GoesOn from bytes Next text end step → ReadsOn from bytes (bytes ++ byte ∷ [] ++ piece) text end
-  step_on bytes piece text byte end More Next read answer on =
-      let r = read text (begins_cut (bytes ++ byte ∷ []) (length bytes + 1) (text_len bytes) answer.1) on in
-      (r.0 ∙ ap (λ l. l ++ text) answer.0, r.1)
-  step_on bytes piece text byte end (Char c) Next read answer on =
-      let r = read on.0 (begins_whole (bytes ++ byte ∷ []) answer.1) on.2 in
-      (r.0 ∙ ap (λ l. l ++ on.0) answer.0 ∙ append_assoc (text_of bytes) (c ∷ []) on.0 ∙ ap (λ l. text_of bytes ++ l) (sym on.1), r.1)
-  step_on bytes piece text byte end (BadByte back) Next read answer on =
-      subst₂ (ReadsOn from bytes (bytes ++ byte ∷ [] ++ piece)) (sym on.0) (sym on.1.2) (broken bytes piece byte on.1.0 back answer on.1.1)
+  step_on bytes piece text byte end More Next read answer on = rw answer.0 at (read text (begins_cut _ _ _ answer.1) on)
+  step_on bytes piece text byte end (Char c) Next read answer on = rw on.1 (rw (answer.0, append_assoc (text_of bytes) (c ∷ []) on.0) at (read on.0 (begins_whole _ answer.1) on.2))
+  step_on bytes piece text byte end (BadByte back) Next read answer on = rw (on.0, on.1.2) (broken bytes piece byte on.1.0 back answer on.1.1)
 
   pub reads_on : (bytes piece text : List ℕ) (end : End) → BeginsText bytes → Pushes from bytes piece text end → ReadsOn from bytes (bytes ++ piece) text end
-  reads_on bytes [] text end b p =
-      subst (λ all. ReadsOn from bytes all text end) (sym (append-nil bytes))
-      (sym (append-nil (text_of bytes)) ∙ ap (λ l. text_of bytes ++ l) (sym p.0), subst (EndsAll from bytes) (sym p.1) (ends_holding from bytes (rest_of bytes) (record { rest = refl; begins = b })))
+  reads_on bytes [] text end b p = rw (append-nil, p.0, p.1, append-nil) (refl, ends_holding from bytes (rest_of bytes) (record { rest = refl; begins = b }))
   reads_on bytes (byte ∷ piece) text end b p =
-      subst (λ all. ReadsOn from bytes all text end) (append_assoc bytes (byte ∷ []) piece)
-      (step_on bytes piece text byte end p.0 (λ more. Pushes from (bytes ++ byte ∷ []) piece more end) (λ more. reads_on (bytes ++ byte ∷ []) piece more end) p.1 p.2)
+      rw append_assoc at (step_on bytes piece text byte end p.0 (λ more. Pushes from (bytes ++ byte ∷ []) piece more end) (λ more. reads_on (bytes ++ byte ∷ []) piece more end) p.1 p.2)
 
 -- ---- the piece as a whole
 
@@ -64,7 +49,7 @@ module _ (bytes piece text taken : List ℕ) (first : Option ℕ) (end stop : En
   read = reads_on bytes bytes piece text end b p
 
   pub pushed_text : text ≡ first_text first ++ chars taken
-  pushed_text = append_cancel_left (text_of bytes) text (first_text first ++ chars taken) (sym read.0 ∙ t.spelled ∙ append_assoc (text_of bytes) (first_text first) (chars taken))
+  pushed_text = append_cancel_left (text_of bytes) _ _ (sym read.0 ∙ rw append_assoc at t.spelled)
 
   pub pushed_end : end ≡ stop
   pushed_end = same_end bytes piece end stop (ends_piece bytes piece end read.1) t.ends

@@ -18,16 +18,13 @@ pub ending_of-is : (bytes : List ℕ) → EndsAs bytes (text_of bytes) (ending_o
 ending_of-is bytes = by (ending_of bytes) (ending_of-says bytes)
   where
     by : (ending : Ending) → Says bytes ending → EndsAs bytes (text_of bytes) ending
-    by Whole e = sym (encodes-text_of bytes ∙ take_all (text_len bytes) bytes (omega arith))
-    by (Cut at start) e = (record { end = e.2; more = omega (arith, e.0, e.2, length-encodes-text_of bytes); begins = begins_all bytes e.1 }, e.3 ∙ sym (length-encodes-text_of bytes))
-    by (Bad at start) e = (
-      record {
-        inside = omega (arith, e.0, e.1);
-        before = subst (λ n. BeginsText (take n bytes)) (sym e.1) (begun_len-longest bytes).holds;
-        here = λ h. let k : at + 1 ≤ begun_len bytes = (begun_len-longest bytes).longest (at + 1) (omega (arith, e.0, e.1)) h in omega (arith, e.1);
-      },
-      e.2 ∙ sym (length-encodes-text_of bytes),
-    )
+    by Whole e = rw (encodes-text_of bytes) (sym (take_all (text_len bytes) bytes (omega arith)))
+    by (Cut at start) e = (record { end = e.2; more = omega (arith, e, length-encodes-text_of bytes); begins = begins_all bytes e.1 }, rw (length-encodes-text_of bytes) e.3)
+    by (Bad at start) e =
+        let h = begun_len-longest bytes in (
+          record { inside = omega (arith, e); before = rw e.1 h.holds; here = λ b. omega (arith, e.1, h.longest (at + 1) (omega (arith, e)) b) },
+          rw (length-encodes-text_of bytes) e.2,
+        )
 
 pub reads : (bytes : List ℕ) → Reads bytes (text_of bytes) (ending_of bytes)
 reads bytes = record { front = text_of-longest bytes; end = ending_of-is bytes }
@@ -39,21 +36,17 @@ longest_text_same bytes a b p q =
     let more = q.longest a p.spelled.0 p.scalars p.spelled.1 in
     let less = p.longest b q.spelled.0 q.scalars q.spelled.1 in
     let none : more.0 ≡ [] = nil_from_length more.0 (omega (arith, ap length more.1, ap length less.1, length-append a more.0, length-append b less.0)) in
-    sym (more.1 ∙ ap (λ l. a ++ l) none ∙ append-nil a)
+    sym (rw (none, append-nil) at more.1)
 
-module _ (bytes : List ℕ) where
-  size : length (encode_utf8_all (text_of bytes)) ≡ text_len bytes
-  size = length-encodes-text_of bytes
-
-  only_ending : (ending : Ending) → EndsAs bytes (text_of bytes) ending → ending ≡ ending_of bytes
-  only_ending Whole e = sym (ending_of-full bytes (sym (ap length e ∙ size)))
-  only_ending (Cut at start) e =
-      (λ i. Cut (e.0.end i) ((e.1 ∙ size) i)) ∙ sym (ending_of-begun bytes (omega (arith, size, e.0.more, e.0.end)) (begun_all bytes e.0.begins))
-  only_ending (Bad at start) e =
-      let begun : begun_len bytes ≡ at = begun_len-is bytes at (begins_until bytes at e.0.inside e.0.before (λ h. e.0.here (rw add-one h))) in
-      (λ i. Bad (sym begun i) ((e.1 ∙ size) i)) ∙ sym (ending_of-broken bytes (omega (arith, begun, e.0.inside)))
+only_ending : (bytes : List ℕ) (ending : Ending) → EndsAs bytes (text_of bytes) ending → ending ≡ ending_of bytes
+only_ending bytes Whole e = sym (ending_of-full bytes (sym (rw (length-encodes-text_of bytes) at (ap length e))))
+only_ending bytes (Cut at start) e =
+    rw (e.0.end, e.1, length-encodes-text_of bytes) (sym (ending_of-begun bytes (omega (arith, length-encodes-text_of bytes, e.0.more, e.0.end)) (begun_all bytes e.0.begins)))
+only_ending bytes (Bad at start) e =
+    let begun : begun_len bytes ≡ at = begun_len-is bytes at (begins_until bytes at e.0.inside e.0.before (λ h. e.0.here (rw add-one h))) in
+    rw (e.1, length-encodes-text_of bytes, ← begun) (sym (ending_of-broken bytes (omega (arith, begun, e.0.inside))))
 
 pub reads_only : (bytes text : List ℕ) (ending : Ending) → Reads bytes text ending → (text ≡ text_of bytes) × (ending ≡ ending_of bytes)
 reads_only bytes text ending r =
     let same = longest_text_same bytes text (text_of bytes) r.front (text_of-longest bytes) in
-    (same, only_ending bytes ending (subst (λ x. EndsAs bytes x ending) same r.end))
+    (same, only_ending bytes ending (rw same at r.end))
