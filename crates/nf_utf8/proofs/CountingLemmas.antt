@@ -11,23 +11,14 @@ starts_at byte = cond (is_char_start byte) 1 0
 
 -- ---- a text has as many characters as bytes that begin one
 
-begins : (byte : ℕ) → 0xC0 ≤ byte → is_char_start byte ≡ true
-begins byte h = grind (arith, nat_tests)
-
-begins_ascii : (byte : ℕ) → byte < 0x80 → is_char_start byte ≡ true
-begins_ascii byte h = grind (arith, nat_tests)
-
-goes_on : (bits : ℕ) → is_char_start (128 + bits % 64) ≡ false
-goes_on bits = grind (arith, nat_tests)
-
 starts-encode : (c : ℕ) → starts (encode_utf8 c) ≡ 1
 starts-encode c = ⊎_elim
-    (λ ascii. rw (one c ascii, begins_ascii c ascii) refl)
+    (λ ascii. rw (one c ascii) (grind (arith, nat_tests)))
     (λ past_one. ⊎_elim
-    (λ below. rw (two c past_one below, begins (192 + c / 64) (omega arith), goes_on c) refl)
+    (λ below. rw (two c past_one below) (grind (arith, nat_tests)))
     (λ past_two. ⊎_elim
-    (λ below. rw (three c past_two below, begins (224 + c / 4096) (omega arith), goes_on (c / 64), goes_on c) refl)
-    (λ past_three. rw (four c past_three, begins (240 + c / 262144) (omega arith), goes_on (c / 4096), goes_on (c / 64), goes_on c) refl)
+    (λ below. rw (three c past_two below) (grind (arith, nat_tests)))
+    (λ past_three. rw (four c past_three) (grind (arith, nat_tests)))
     (order c 0x10000))
     (order c 0x800))
     (order c 0x80)
@@ -37,19 +28,19 @@ starts-encode_all [] = refl
 starts-encode_all (c ∷ cs) = omega (arith, sum_by-append starts_at (encode_utf8 c) (encode_utf8_all cs), starts-encode c, starts-encode_all cs)
 
 pub count-chars : (bytes : List ℕ) → IsUtf8 bytes → starts bytes ≡ length (chars bytes)
-count-chars bytes u = ap starts (sym (encodes-chars bytes u)) ∙ starts-encode_all (chars bytes)
+count-chars bytes u = rw (encodes-chars bytes u) at (starts-encode_all (chars bytes))
 
 -- each byte of ASCII begins one
 pub starts-front : (bytes : List ℕ) (n : ℕ) → n ≤ length bytes → IsAscii (take n bytes) → starts (take n bytes) ≡ n
-starts-front bytes n within ascii = count-chars (take n bytes) (IsUtf8-from_ascii (take n bytes) ascii) ∙ ap length (chars-IsAscii (take n bytes) ascii) ∙ length-take-le n bytes within
+starts-front bytes n within ascii = rw (count-chars (take n bytes) (IsUtf8-from_ascii (take n bytes) ascii), chars-IsAscii (take n bytes) ascii) (length-take-le n bytes within)
 
 -- ---- the count up to a place
 
 pub count-more : (bytes : List ℕ) (at n : ℕ) → starts (take at bytes) + starts (chunk at n bytes) ≡ starts (take (at + n) bytes)
-count-more bytes at n = sym (ap starts (take-add at n bytes) ∙ sum_by-append starts_at (take at bytes) (chunk at n bytes))
+count-more bytes at n = rw (take-add at n bytes) (sym (sum_by-append starts_at (take at bytes) (chunk at n bytes)))
 
 pub count-rest : (bytes : List ℕ) (at : ℕ) → starts (take at bytes) + starts (take (length bytes - at) (drop at bytes)) ≡ starts bytes
-count-rest bytes at = ap (λ l. starts (take at bytes) + starts l) (take_rest bytes at) ∙ sum_by-take-drop starts_at bytes at
+count-rest bytes at = rw take_rest (sum_by-take-drop starts_at bytes at)
 
 pub count-le : (bytes : List ℕ) (at : ℕ) → starts (take at bytes) ≤ length bytes
 count-le bytes at = omega (arith, sum_by-take-le starts_at bytes at, count_by-le-length is_char_start bytes)
@@ -74,8 +65,4 @@ lanes_count lanes n long few =
     let low = zip2_splat is_low lanes n 0x80 long in
     let high = zip2_splat_left is_high 0xC0 n lanes long in
     let joined = zip2_of_maps (λ a b. bit_or a b) (λ x. is_low x 0x80) (λ x. is_high 0xC0 x) lanes low high in
-    let tops = ap (map (top 7)) joined ∙ map-map (top 7) (λ x. bit_or (is_low x 0x80) (is_high 0xC0 x)) lanes
-    ∙ (λ i. map (λ x. either (nat_lt x 0x80) (nat_le 0xC0 x) i) lanes) in
-    ap (λ l. count_ones (mask_l l % 2 ^ 64)) tops
-    ∙ ap count_ones (mask_l-mod (map is_char_start lanes) 64 (omega (arith, length-map lanes is_char_start)))
-    ∙ ones-mask_l is_char_start lanes
+    simp (joined, map-map, either) (rw (mask_l-mod (map is_char_start lanes) 64 (omega (arith, length-map lanes is_char_start))) (ones-mask_l is_char_start lanes))
