@@ -1,5 +1,5 @@
 -- The bytes below 80 under the lanes of one load.
-use Rattle.nf_utf8.proofs.Common.{w64, ◌≡◌, ℕ, ◌+◌, ◌%◌, ◌^◌, ◌<◌, ◌≤◌, Bool, false, not, cond, leb, List, map, length, take, get_or, sym, ap, ◌∙◌, ⊎_elim, arith, prefix_len, IsAscii, order, leb-false, leb-true, length-map, get_or_past, get_or-take, length-take-le, mask_l-mod, bit_mask_l, length-chunk, trailing_mask_l, run_in_chunk_fails, run_in_chunk_stops, none_from_empty_mask, bit_at, chunk, mask_l}
+use Rattle.nf_utf8.proofs.Common.{w64, ◌≡◌, ℕ, ◌+◌, ◌%◌, ◌^◌, ◌<◌, ◌≤◌, Bool, false, not, leb, List, map, length, take, get_or, ◌∙◌, ⊎_elim, arith, prefix_len, IsAscii, order, leb-false, leb-true, length-map, get_or_past, get_or-take, length-take-le, mask_l-mod, bit_mask_l, length-chunk, trailing_mask_l, run_in_chunk_fails, run_in_chunk_stops, none_from_empty_mask, chunk, mask_l}
 use Rattle.std.proofs.lemmas.Str.Ascii.{IsAscii-from_reads}
 use Rattle.std.proofs.lemmas.Nat.Bits.{bit_at-trailing_zeros}
 use lib.Count.{count_trailing_zeros}

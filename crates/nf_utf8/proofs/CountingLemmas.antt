@@ -1,5 +1,5 @@
 -- The characters of a text, counted by the bytes that begin them.
-use Rattle.nf_utf8.proofs.Common.{◌≡◌, ℕ, ◌+◌, ◌-◌, ◌/◌, ◌%◌, ◌^◌, ◌<◌, ◌≤◌, ◌||◌, Bool, true, false, cond, nat_lt, nat_le, bit_or, ⊎_elim, List, [], ◌∷◌, length, take, drop, map, replicate, IsUtf8, encode_utf8, encode_utf8_all, refl, sym, ap, ◌∙◌, arith, take-add, is_char_start, count_by, chars, IsAscii, order, one, two, three, four, nat_tests, length-map, length-take-le, take_rest, zip2_of_maps, zip2_splat, zip2_splat_left, map-map, mask_l-mod, ones-mask_l, encodes-chars, IsUtf8-from_ascii, chars-IsAscii, chunk, zip2, mask_l, top}
+use Rattle.nf_utf8.proofs.Common.{◌≡◌, ℕ, ◌+◌, ◌-◌, ◌%◌, ◌^◌, ◌≤◌, ◌||◌, Bool, true, false, cond, nat_lt, nat_le, bit_or, ⊎_elim, List, [], ◌∷◌, length, take, drop, map, replicate, IsUtf8, encode_utf8, encode_utf8_all, refl, sym, arith, take-add, is_char_start, count_by, chars, IsAscii, order, one, two, three, four, nat_tests, length-map, length-take-le, take_rest, zip2_of_maps, zip2_splat, zip2_splat_left, map-map, mask_l-mod, ones-mask_l, encodes-chars, IsUtf8-from_ascii, chars-IsAscii, chunk, zip2, mask_l, top}
 use Rattle.std.specs.Int.RustNames.{count_ones}
 use Rattle.std.proofs.lemmas.List.Sums.{sum_by-append, sum_by-take-drop, sum_by-take-le, count_by-le-length}
 

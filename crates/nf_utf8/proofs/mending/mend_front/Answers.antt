@@ -12,10 +12,10 @@ mended_with c =
     rw (c.if-not-append.ensures.grown refl, size) (one_stretch c.args.bytes.now c.loop-stretch.mended.items c.loop-stretch.len c.in-Some.stretch i.text i.replaced i.few (rw take_rest at c.in-Some.ensures))
 
 pub overflow_add-len-in-Some : goal.overflow_add-len-in-Some
-overflow_add-len-in-Some c = omega (arith, (mended_with c).within)
+overflow_add-len-in-Some c = omega (arith, mended_with c)
 
 pub loop-stretch-smaller : goal.loop-stretch-smaller
-loop-stretch-smaller c = omega (arith, (mended_with c).more, (mended_with c).within)
+loop-stretch-smaller c = omega (arith, mended_with c)
 
 pub loop-stretch-preserved : goal.loop-stretch-preserved
-loop-stretch-preserved c = let m = mended_with c in record { text = m.text; within = c.if-not-append.ensures.within refl; replaced = m.replaced; few = m.few }
+loop-stretch-preserved c = grind (arith, mended_with c)

@@ -1,38 +1,41 @@
-use Rattle.nf_utf8.proofs.Common.{◌≡◌, List, ℕ, [], None, Some, refl, sym, ◌∙◌, inr, arith, true≢false, IsUtf8-nil, StandsAfter, Completes, IsFront}
+use Rattle.std.proofs.Common.{rules}
+use Rattle.nf_utf8.proofs.Common.{◌≡◌, List, ℕ, [], None, Some, refl, sym, ◌∙◌, inr, arith, IsUtf8-nil, StandsAfter, Completes, IsFront}
 use Rattle.nf_utf8.proofs.TakingLemmas.{Joined, Taken, taken, counts, takes_same}
 use Rattle.nf_utf8.proofs.decoder.Decoder.take.Goals as goal
 
 nothing : (c : goal.After-take_text) → Completes c.args.self.now c.args.piece.now None 0
 nothing c = (sym c.self.view_is ∙ c.if-is_empty.ensures.0 refl, refl)
 
-pub returns-then-is_empty-clause-takes : goal.returns-then-is_empty-clause-takes
-returns-then-is_empty-clause-takes c bytes s = c.take_text.ensures.takes c.args.self.now bytes (nothing c) s
-
-pub returns-then-is_empty-clause-only : goal.returns-then-is_empty-clause-only
-returns-then-is_empty-clause-only c bytes first text end s t = takes_same bytes c.args.piece.now first _ text _ end _ t (returns-then-is_empty-clause-takes c bytes s)
-
-pub returns-then-is_empty-clause-stands : goal.returns-then-is_empty-clause-stands
-returns-then-is_empty-clause-stands c bytes s = c.take_text.ensures.stands c.args.self.now bytes (nothing c) s
-
-pub returns-then-is_empty-clause-counts : goal.returns-then-is_empty-clause-counts
-returns-then-is_empty-clause-counts c = c.take_text.ensures.counts c.args.self.now (nothing c)
+pub returns-then-is_empty : goal.returns-then-is_empty
+returns-then-is_empty c =
+    let part : List ℕ = c.args.self.now in
+    let taken = c.take_text.ensures in
+    record {
+      takes = λ bytes s. taken.takes part bytes (nothing c) s;
+      only = λ bytes first text end s t. takes_same bytes c.args.piece.now first _ text _ end _ t (taken.takes part bytes (nothing c) s);
+      stands = λ bytes s. taken.stands part bytes (nothing c) s;
+      inside = search rules;
+      text = search rules;
+      counts = taken.counts part (nothing c);
+    }
 
 begun : (c : goal.After-take_text-in-Char) → Completes c.args.self.now c.args.piece.now (Some c.in-Char.c) c.in-Char.len
 begun c =
-    let some : ¬ (c.args.self.now ≡ []) = λ none. absurd (true≢false (sym (c.is_empty.ensures.1 (c.self.view_is ∙ none)) ∙ c.if-is_empty.false)) in
+    let some : ¬ (c.args.self.now ≡ []) = λ none. let empty = c.is_empty.ensures.1 (c.self.view_is ∙ none) in absurd (cc) in
     (some, rw c.self.view_is at c.in-Char.ensures)
 
-pub returns-in-Char-clause-takes : goal.returns-in-Char-clause-takes
-returns-in-Char-clause-takes c bytes s = c.take_text-in-Char.ensures.takes c.args.self.now bytes (begun c) s
-
-pub returns-in-Char-clause-only : goal.returns-in-Char-clause-only
-returns-in-Char-clause-only c bytes first text end s t = takes_same bytes c.args.piece.now first _ text _ end _ t (returns-in-Char-clause-takes c bytes s)
-
-pub returns-in-Char-clause-stands : goal.returns-in-Char-clause-stands
-returns-in-Char-clause-stands c bytes s = c.take_text-in-Char.ensures.stands c.args.self.now bytes (begun c) s
-
-pub returns-in-Char-clause-counts : goal.returns-in-Char-clause-counts
-returns-in-Char-clause-counts c = c.take_text-in-Char.ensures.counts c.args.self.now (begun c)
+pub returns-in-Char : goal.returns-in-Char
+returns-in-Char c =
+    let part : List ℕ = c.args.self.now in
+    let taken = c.take_text-in-Char.ensures in
+    record {
+      takes = λ bytes s. taken.takes part bytes (begun c) s;
+      only = λ bytes first text end s t. takes_same bytes c.args.piece.now first _ text _ end _ t (taken.takes part bytes (begun c) s);
+      stands = λ bytes s. taken.stands part bytes (begun c) s;
+      inside = search rules;
+      text = search rules;
+      counts = taken.counts part (begun c);
+    }
 
 pub returns-in_default : goal.returns-in_default
 returns-in_default c =
