@@ -34,7 +34,7 @@ flat_map-same : (f g : ℕ → List ℕ) (test : ℕ → Bool) → ((x : ℕ) �
 flat_map-same f g test same [] all = refl
 flat_map-same f g test same (x ∷ xs) all =
     let parts = and_parts (test x) (list_all test xs) all in
-    ap₂ (λ u v. u ++ v) (same x parts.0) (flat_map-same f g test same xs parts.1)
+    rw (same x parts.0, flat_map-same f g test same xs parts.1)
 
 compat-final : (x : ℕ) → is_final Nfd x ≡ true → decompose Nfkd x ≡ compat_by by_rows x
 compat-final x final = decompose-other Nfkd x (is_final-parts Nfd x final).1
@@ -43,7 +43,7 @@ pub compat-joined : (c : ℕ) → flat_map ucd.compat (ucd.canonical c) ≡ ucd.
 unfolding ucd
 compat-joined c =
     by_mapping c _
-    (λ same. ap (flat_map (decompose Nfkd)) same ∙ flat_map-final (decompose Nfkd) (is_final Nfkd) (decompose-final Nfkd) _ (IsFull-decompose Nfkd c).final)
+    (λ same. rw same (flat_map-final (decompose Nfkd) (is_final Nfkd) (decompose-final Nfkd) _ (IsFull-decompose Nfkd c).final))
     (λ mapped. flat_map-same (decompose Nfkd) (compat_by by_rows) (is_final Nfd) compat-final _ (IsFull-decompose Nfd c).final ∙ mapped.joined)
 
 -- ---- each non-starter of the canonical row is its own compatibility row
@@ -55,17 +55,15 @@ is_fixed = is_fixed_by by_rows
 pub canonical-fixed : (c : ℕ) → list_all is_fixed (decompose Nfd c) ≡ true
 canonical-fixed c =
     by_mapping c _
-    (λ same.
-    ap (list_all is_fixed) same
-    ∙ list_all-from_AllPass is_fixed (decompose Nfkd c)
-    (All-from (is_final Nfkd) (λ x. is_fixed x ≡ true) (λ x final. or_right _ _ (is_final-parts Nfkd x final).0) (decompose Nfkd c) (IsFull-decompose Nfkd c).final))
+    (λ same. rw same (list_all-from_AllPass is_fixed (decompose Nfkd c)
+    (All-from (is_final Nfkd) (λ x. is_fixed x ≡ true) (λ x final. or_right _ _ (is_final-parts Nfkd x final).0) (decompose Nfkd c) (IsFull-decompose Nfkd c).final)))
     (λ mapped. mapped.fixed)
 
 pub compat-fixed : (x : ℕ) → is_fixed x ≡ true → is_starter ucd x ≡ false → decompose Nfkd x ≡ x ∷ []
 unfolding ucd
 compat-fixed x fixed mark =
-    let none : is_empty (pick Nfkd (decomposition x)) ≡ true = sym (ap (λ b. b || is_empty (pick Nfkd (decomposition x))) mark) ∙ fixed in
-    decompose-final Nfkd x (and_from _ _ none (not_from_false _ (false_from_ne_true _ (λ syllable. let clash = sym mark ∙ eq-eqb (ccc x) 0 (class-syllable x syllable) in cc))))
+    let none : is_empty (pick Nfkd (decomposition x)) ≡ true = rw mark at fixed in
+    decompose-final Nfkd x (and_from _ _ none (not_from_false _ (false_from_ne_true _ (λ syllable. let starter = eq-eqb (ccc x) 0 (class-syllable x syllable) in cc))))
 
 pub canonical-marks : (c : ℕ) → All (λ x. IsTrue (is_nonstarter ucd x) → ucd.compat x ≡ x ∷ []) (ucd.canonical c)
 unfolding ucd

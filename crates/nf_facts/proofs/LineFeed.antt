@@ -20,7 +20,7 @@ no_compositions = refl
 
 first_in_none : (b : ℕ) → composite ucd line_feed b ≡ None
 unfolding ucd primary_composite compose_hangul paired_with
-first_in_none b = ap (starter_only ucd) (composite-paired_with line_feed b ∙ ap (paired_with b) no_compositions)
+first_in_none b = rw (composite-paired_with line_feed b, no_compositions)
 
 pub IsClosing-line_feed : (f : Form) → IsClosing ucd f line_feed
 IsClosing-line_feed f =

@@ -43,10 +43,6 @@ compat_by t x = or_itself x (full t Nfkd x)
 abbrev pub is_fixed_by : Tables → ℕ → Bool
 is_fixed_by t x = t.class x == 0 || is_empty (pick Nfkd (t.entry x))
 
--- the compatibility rows of the members of the canonical row make up the compatibility row, its non-starters unchanged
-abbrev is_within : Tables → List ℕ → List ℕ → Bool
-is_within t canonical compat = same_string (flat_map (compat_by t) canonical) compat && list_all (is_fixed_by t) canonical
-
 -- the compatibility row of a starter begins with one, with the exceptions
 abbrev begins_so : Tables → ℕ → List ℕ → Bool
 begins_so t c compat =
@@ -56,18 +52,12 @@ begins_so t c compat =
 abbrev is_starter_so : Tables → ℕ → Bool
 is_starter_so t c = t.class c == 0 || is_among mapped_marks c
 
--- both rows are in canonical order
-abbrev in_order : Properties → List ℕ → List ℕ → Bool
-in_order p canonical compat = is_ordered p canonical && is_ordered p compat
-
--- the character and the members of both rows are scalar values
-abbrev are_scalars : ℕ → List ℕ → List ℕ → Bool
-are_scalars c canonical compat = scalar c && (list_all scalar canonical && list_all scalar compat)
-
+-- besides these: the compatibility rows of the members of the canonical row make up the compatibility row, its non-starters
+-- unchanged; both rows are in canonical order; the character and the members of both rows are scalar values
 passes_all : Tables → ℕ → List ℕ → List ℕ → Bool
 passes_all t c canonical compat =
-    ((ends_agree (classes_of t) canonical compat && is_within t canonical compat) && (begins_so t c compat && is_starter_so t c))
-    && (in_order (classes_of t) canonical compat && are_scalars c canonical compat)
+    ends_agree (classes_of t) canonical compat && (same_string (flat_map (compat_by t) canonical) compat && (list_all (is_fixed_by t) canonical && (begins_so t c compat
+    && (is_starter_so t c && (is_ordered (classes_of t) canonical && (is_ordered (classes_of t) compat && (scalar c && (list_all scalar canonical && list_all scalar compat))))))))
 
 abbrev row_passes : Tables → ℕ → Bool
 row_passes t c = passes_all t c (or_itself c (full t Nfd c)) (full t Nfkd c)
@@ -92,38 +82,29 @@ pub record IsMapped (c : ℕ) : Type 0 where
   pub canonical_scalars : list_all scalar (decompose Nfd c) ≡ true
   pub compat_scalars : list_all scalar (decompose Nfkd c) ≡ true
 
+split : (a b c : Bool) (class n : ℕ) (sign half mark : Bool) (d e f g h : Bool)
+    → (a && (b && (c && ((not (class == 0) || (sign || (half || n == 0))) && ((class == 0 || mark) && (d && (e && (f && (g && h))))))))) ≡ true
+    → (a ≡ true) × (b ≡ true) × (c ≡ true) × (class ≡ 0 → sign ≡ false → half ≡ false → n ≡ 0) × (mark ≡ false → class ≡ 0)
+        × (d ≡ true) × (e ≡ true) × (f ≡ true) × (g ≡ true) × (h ≡ true)
+split a b c class n sign half mark d e f g h all = grind (arith, nat_tests)
+
 pub mapped : (c : ℕ) → is_syllable c ≡ false → is_empty (pick Nfkd (decomposition c)) ≡ false → IsMapped c
 unfolding ucd passes_all
 mapped c other some =
-    let rows : passes_all by_rows c (decompose Nfd c) (decompose Nfkd c) ≡ true =
-    ap₂ (passes_all by_rows c) (decompose-other Nfd c other) (decompose-mapped Nfkd c other some) ∙ computed c some in
-    let both = and_parts _ _ rows in
-    let all = and_parts _ _ both.0 in
-    let rest = and_parts _ _ both.1 in
-    let ordered = and_parts _ _ rest.0 in
-    let scalars = and_parts _ _ rest.1 in
-    let of_rows = and_parts _ _ scalars.1 in
-    let first = and_parts _ _ all.0 in
-    let second = and_parts _ _ all.1 in
-    let within = and_parts _ _ first.1 in
+    let rows : passes_all by_rows c (decompose Nfd c) (decompose Nfkd c) ≡ true = rw (decompose-other Nfd c other, decompose-mapped Nfkd c other some) (computed c some) in
+    let all = split _ _ _ (ccc c) (lead ucd (decompose Nfkd c)) (is_among vowel_signs c) (is_among halfwidth_marks c) (is_among mapped_marks c) _ _ _ _ _ rows in
     record {
-      agree = first.0;
-      joined = same_string-true _ _ within.0;
-      fixed = within.1;
-      begins = begins_from (ccc c) _ (is_among vowel_signs c) (is_among halfwidth_marks c) second.0;
-      starter = starter_from (ccc c) (is_among mapped_marks c) second.1;
-      canonical_ordered = ordered.0;
-      compat_ordered = ordered.1;
-      is_scalar = scalars.0;
-      canonical_scalars = of_rows.0;
-      compat_scalars = of_rows.1;
+      agree = all.0;
+      joined = same_string-true _ _ all.1;
+      fixed = all.2;
+      begins = all.3;
+      starter = all.4;
+      canonical_ordered = all.5;
+      compat_ordered = all.6;
+      is_scalar = all.7;
+      canonical_scalars = all.8;
+      compat_scalars = all.9;
     }
-  where
-    begins_from : (class n : ℕ) (sign mark : Bool) → (not (class == 0) || (sign || (mark || n == 0))) ≡ true → class ≡ 0 → sign ≡ false → mark ≡ false → n ≡ 0
-    begins_from class n sign mark test starter no_sign no_mark = grind (arith, nat_tests)
-
-    starter_from : (class : ℕ) (mark : Bool) → (class == 0 || mark) ≡ true → mark ≡ false → class ≡ 0
-    starter_from class mark test no_mark = grind (arith, nat_tests)
 
 -- ---- every character is a Hangul syllable, or decomposes no further, or has a mapping
 
@@ -155,8 +136,8 @@ by_row form c Q none letter itself =
     let range = is_syllable-true c syllable in
     let behind : (w : List ℕ) → Q w → Q ((0x1100 + (c - 0xAC00) / 588) ∷ (0x1161 + (c - 0xAC00) % 588 / 28) ∷ w) =
     λ w rest. letter _ _ (omega arith) (omega arith) (letter _ w (omega arith) (omega arith) rest) in
-    subst Q (sym (decompose-syllable form c syllable)) (elim (cases_eq ((c - 0xAC00) % 28) 0) [
-      | inl two ↦ subst Q (sym (decompose_hangul-two c two)) (behind [] none)
-      | inr three ↦ subst Q (sym (decompose_hangul-three c three)) (behind _ (letter _ [] (omega arith) (omega arith) none))
+    rw (decompose-syllable form c syllable) (elim (cases_eq ((c - 0xAC00) % 28) 0) [
+      | inl two ↦ rw (decompose_hangul-two c two) (behind [] none)
+      | inr three ↦ rw (decompose_hangul-three c three) (behind _ (letter _ [] (omega arith) (omega arith) none))
     ]))
-    (λ own. subst Q (sym (own form)) itself)
+    (λ own. rw (own form) itself)

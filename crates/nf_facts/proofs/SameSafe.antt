@@ -1,6 +1,7 @@
 -- The Stream-Safe Text Process over Unicode's data is that of `unicode_normalization`.
 use Rattle.std.proofs.Common.{◌≡◌, ℕ, suc, ◌<◌, ◌+◌, Bool, true, false, not, ◌||◌, cond, List, [], ◌∷◌, ◌++◌, length, refl, sym, ap, ◌∙◌, inl, inr, arith, append-nil, append_assoc, fold, if◌then◌else◌}
-use Rattle.std.proofs.lemmas.Bool.{cases_Bool, cond-true, cond-false}
+use Rattle.std.proofs.lemmas.Bool.{cases_Bool}
+use Rattle.std.proofs.lemmas.Bool.Decides.{nat_tests}
 use Rattle.unicode_normalization.specs.StreamSafe.{leading_nonstarters, trailing_nonstarters, is_too_many, count_after, stream_safe_after, stream_safe as kit_stream_safe}
 use Rattle.unicode_normalization.proofs.StreamSafeLemmas.{count_after-all, count_after-some, stream_safe_after-nil, stream_safe_after-parted, stream_safe_after-together}
 use Rattle.nf_forms.specs.Properties.{Properties, is_starter}
@@ -16,28 +17,19 @@ use Rattle.nf_facts.proofs.Soundness.{is_sound-ucd}
 
 lead-some : (p : Properties) (w : List ℕ) → has_starter p w ≡ true → lead p w < length w
 lead-some p [] h = cc
-lead-some p (c ∷ w) h = next (is_starter p c) (has_starter p w) (lead p w) (length w) h (lead-some p w)
-  where
-    next : (b s : Bool) (n l : ℕ) → (b || s) ≡ true → (s ≡ true → n < l) → cond (not b) (1 + n) 0 < suc l
-    next true s n l h e = omega arith
-    next false true n l h e = omega (arith, e refl)
-    next false false n l h e = cc
+lead-some p (c ∷ w) h = grind (arith, nat_tests, lead-some p w)
 
 -- the non-starters in a row after c, in this library's words
 count_after-ucd : (count c : ℕ) → count_after count c ≡ (if has_starter ucd (ucd.compat c) then trail ucd (ucd.compat c) else length (ucd.compat c) + count)
 unfolding ucd leading_nonstarters trailing_nonstarters
 count_after-ucd count c =
     elim (cases_Bool (has_starter ucd (ucd.compat c))) [
-      | inl some ↦
-          let fewer = lead-some ucd (ucd.compat c) some in
-          count_after-some count c (λ e. omega arith) ∙ sym (cond-true _ _ _ some)
-      | inr none ↦
-          let swap : count + length (ucd.compat c) ≡ length (ucd.compat c) + count = omega arith in
-          count_after-all count c (lead-marks ucd (ucd.compat c) none) ∙ swap ∙ sym (cond-false _ _ _ none)
+      | inl some ↦ let fewer = lead-some ucd (ucd.compat c) some in rw some (count_after-some count c (λ e. omega arith))
+      | inr none ↦ rw none (omega (arith, count_after-all count c (lead-marks ucd (ucd.compat c) none)))
     ]
 
 last_run-push : (out : List ℕ) (c : ℕ) → last_run ucd (out ++ c ∷ []) ≡ count_after (last_run ucd out) c
-last_run-push out c = trail-decomposed-push ucd Nfkd out c ∙ sym (count_after-ucd (last_run ucd out) c)
+last_run-push out c = rw (count_after-ucd (last_run ucd out) c) (trail-decomposed-push ucd Nfkd out c)
 
 plain : JoinerIsPlain ucd
 plain = JoinerIsPlain-from_sound ucd (is_sound-ucd joiner)
@@ -47,25 +39,17 @@ unfolding ucd leading_nonstarters
 too_long-ucd out c = refl
 
 safe-after : (out x : List ℕ) → fold (safe_step ucd) out x ≡ out ++ stream_safe_after (last_run ucd out) x
-safe-after out [] = sym (ap (λ v. out ++ v) (stream_safe_after-nil (last_run ucd out)) ∙ append-nil out)
+safe-after out [] = rw (stream_safe_after-nil, append-nil)
 safe-after out (c ∷ x) =
     elim (cases_Bool (is_too_many (last_run ucd out) c)) [
       | inl many ↦
           let put = out ++ joiner ∷ [] in
-          let here : safe_step ucd out c ≡ put ++ c ∷ [] = ap (λ v. v ++ c ∷ []) (cond-true _ _ _ (too_long-ucd out c ∙ many)) in
+          let here : safe_step ucd out c ≡ put ++ c ∷ [] = rw (too_long-ucd out c, many) in
           let count = last_run-push put c ∙ ap (λ n. count_after n c) (trail-decomposed-joiner ucd plain Nfkd out) in
-          ap (λ v. fold (safe_step ucd) v x) here
-          ∙ safe-after (put ++ c ∷ []) x
-          ∙ append_assoc put (c ∷ []) _ ∙ append_assoc out (joiner ∷ []) _
-          ∙ ap (λ n. out ++ joiner ∷ c ∷ stream_safe_after n x) count
-          ∙ ap (λ v. out ++ v) (sym (stream_safe_after-parted (last_run ucd out) c x many))
+          rw (here, safe-after (put ++ c ∷ []) x, append_assoc, append_assoc, count, stream_safe_after-parted (last_run ucd out) c x many)
       | inr few ↦
-          let here : safe_step ucd out c ≡ out ++ c ∷ [] = ap (λ v. v ++ c ∷ []) (cond-false _ _ _ (too_long-ucd out c ∙ few)) in
-          ap (λ v. fold (safe_step ucd) v x) here
-          ∙ safe-after (out ++ c ∷ []) x
-          ∙ append_assoc out (c ∷ []) _
-          ∙ ap (λ n. out ++ c ∷ stream_safe_after n x) (last_run-push out c)
-          ∙ ap (λ v. out ++ v) (sym (stream_safe_after-together (last_run ucd out) c x few))
+          let here : safe_step ucd out c ≡ out ++ c ∷ [] = rw (too_long-ucd out c, few) in
+          rw (here, safe-after (out ++ c ∷ []) x, append_assoc, last_run-push out c, stream_safe_after-together (last_run ucd out) c x few)
     ]
 
 pub stream_safe-ucd : (x : List ℕ) → stream_safe ucd x ≡ kit_stream_safe x

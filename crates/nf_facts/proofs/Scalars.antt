@@ -1,5 +1,5 @@
 -- What Unicode's data has for scalar values are scalar values, so that the form of a text is a text.
-use Rattle.std.proofs.Common.{◌≡◌, ℕ, true, List, Some, refl, sym, ap, ◌∙◌, inl, inr, arith}
+use Rattle.std.proofs.Common.{rules, ◌≡◌, ℕ, true, List, Some, refl, sym, ap, ◌∙◌, inl, inr, arith}
 use Rattle.std.proofs.lemmas.Bool.{and_from, false_from_ne_true}
 use Rattle.std.proofs.Math.Utf8.{scalar, low_scalar}
 use Rattle.std.specs.List.{list_all}
@@ -30,9 +30,7 @@ use Rattle.nf_facts.proofs.Soundness.{is_sound-ucd}
 scalars-mapped : (form : KitForm) (c : ℕ) → IsMapped c → list_all scalar (decompose form c) ≡ true
 unfolding decompose
 scalars-mapped KitNfd c with_mapping = with_mapping.canonical_scalars
-scalars-mapped KitNfc c with_mapping = with_mapping.canonical_scalars
-scalars-mapped KitNfkd c with_mapping = with_mapping.compat_scalars
-scalars-mapped KitNfkc c with_mapping = with_mapping.compat_scalars
+scalars-mapped _ c with_mapping = search rules
 
 scalars-row : (form : KitForm) (c : ℕ) → scalar c ≡ true → list_all scalar (decompose form c) ≡ true
 scalars-row form c is =
@@ -41,8 +39,8 @@ scalars-row form c is =
 pub scalar-rows : HasScalarRows ucd
 unfolding ucd
 scalar-rows = record {
-  canonical = λ c is. scalars-all (decompose KitNfd c) ∙ scalars-row KitNfd c is;
-  compat = λ c is. scalars-all (decompose KitNfkd c) ∙ scalars-row KitNfkd c is;
+  canonical = λ c is. rw scalars-all (scalars-row KitNfd c is);
+  compat = λ c is. rw scalars-all (scalars-row KitNfkd c is);
 }
 
 -- ---- composites
@@ -55,7 +53,7 @@ pub scalar-pair : (a b c : ℕ) → ucd.pair a b ≡ Some c → scalar c ≡ tru
 unfolding ucd
 scalar-pair a b c h =
     elim (primary_composite-some a b c h) [
-      | inl hangul ↦ elim hangul [ inl lv ↦ low_scalar c (omega arith) | inr lvt ↦ low_scalar c (omega arith) ]
+      | inl hangul ↦ low_scalar c (grind arith)
       | inr table ↦ scalar-by_table a b c table
     ]
 
@@ -64,18 +62,12 @@ scalar-pair a b c h =
 pub scalars-normal_form : (f : Form) (x : List ℕ) → all_scalars x ≡ true → all_scalars (normal_form f ucd x) ≡ true
 unfolding ucd
 scalars-normal_form f x is =
-    ap all_scalars (normal_form-ucd f x) ∙ scalars-all (normalize (kit_form f) x)
-    ∙ list_all-normalize (kit_form f) scalar (scalars-row (kit_form f)) (λ a b c _ _ made. scalar-pair a b c made) x (sym (scalars-all x) ∙ is)
+    rw (normal_form-ucd f x, scalars-all) (list_all-normalize (kit_form f) scalar (scalars-row (kit_form f)) (λ a b c _ _ made. scalar-pair a b c made) x (rw scalars-all at is))
 
 scalars-safe_form : (f : Form) (x : List ℕ) → all_scalars x ≡ true → all_scalars (safe_form f ucd x) ≡ true
 unfolding safe_form
 scalars-safe_form f x is =
-    scalars-normal_form f (stream_safe ucd x) (scalars-all (stream_safe ucd x) ∙ list_all-stream_safe ucd scalar refl x (sym (scalars-all x) ∙ is))
+    scalars-normal_form f (stream_safe ucd x) (rw scalars-all (list_all-stream_safe ucd scalar refl x (rw scalars-all at is)))
 
 pub changes_once : (f : Form) → ChangesOnce f ucd
-changes_once f = record {
-  text = scalars-safe_form f;
-  sound = λ c _. is_sound-ucd c;
-  safe = λ x _. stream_safe-safe_form f x;
-  form = λ x _. safe_form-twice f x;
-}
+changes_once f = record { text = scalars-safe_form f; sound = λ c _. is_sound-ucd c; safe = λ x _. stream_safe-safe_form f x; form = λ x _. safe_form-twice f x }

@@ -1,7 +1,7 @@
 -- Every character of Unicode's data is sound.
-use Rattle.std.proofs.Common.{◌≡◌, ℕ, ◌≤◌, true, List, [], ◌∷◌, length, refl, sym, ap, ◌∙◌, le-leb, le_refl}
+use Rattle.std.proofs.Common.{◌≡◌, ℕ, ◌≤◌, true, List, [], ◌∷◌, length, refl, sym, ap, ◌∙◌, arith}
 use Rattle.std.proofs.lemmas.Bool.{and_from, and_parts, or_right}
-use Rattle.std.proofs.Math.Bool.{or-not_self}
+use Rattle.std.proofs.lemmas.Bool.Decides.{nat_tests}
 use Rattle.ucd_normal.specs.declared.forms.Form.TheVariants.{Nfd, Nfkd}
 use Rattle.unicode_normalization.specs.Decompose.{decompose}
 use Rattle.unicode_normalization.proofs.Computing.{unicode_normalization}
@@ -14,15 +14,13 @@ use Rattle.nf_forms.specs.Laws.Sound.{IsSoundText}
 use Rattle.nf_facts.proofs.Mapped.{ends_agree, by_mapping}
 
 agree-same : (p : Properties) (w v : List ℕ) → w ≡ v → ends_agree p w v ≡ true
-agree-same p w v e =
-    ap (λ u. ends_agree p w u) (sym e)
-    ∙ and_from _ _ (and_from _ _ (le-leb (lead p w) (lead p w) (le_refl (lead p w))) (le-leb (trail p w) (trail p w) (le_refl (trail p w)))) (or-not_self (has_starter p w))
+agree-same p w v e = rw e (grind (arith, nat_tests))
 
 agree-rows : (c : ℕ) → ends_agree ucd (decompose Nfd c) (decompose Nfkd c) ≡ true
 agree-rows c = by_mapping c _ (agree-same ucd _ _) (λ mapped. mapped.agree)
 
 fits-full : (w : List ℕ) → 1 ≤ length w → length w ≤ 18 → fits w ≡ true
-fits-full w some few = and_from _ _ (le-leb 1 (length w) some) (le-leb (length w) 18 few)
+fits-full w some few = grind (arith, nat_tests)
 
 joiner-plain : joiner_is_plain ucd ≡ true
 unfolding ucd unicode_normalization

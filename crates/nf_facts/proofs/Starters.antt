@@ -31,7 +31,7 @@ use Rattle.nf_facts.proofs.Soundness.{is_sound-ucd}
 
 lead-starter : (s : ℕ) (w : List ℕ) → ccc s ≡ 0 → lead ucd (s ∷ w) ≡ 0
 unfolding ucd
-lead-starter s w starter = cond-false _ _ _ (not_from_true _ (eq-eqb (ccc s) 0 starter))
+lead-starter s w starter = rw starter
 
 pub compat-lead : (c : ℕ) → ccc c ≡ 0 → is_among vowel_signs c ≡ false → is_among halfwidth_marks c ≡ false → lead ucd (ucd.compat c) ≡ 0
 unfolding ucd
@@ -43,8 +43,7 @@ compat-lead c starter sign mark =
 pub never_second-yes : (f : Form) (c : ℕ) → quick_check (kit_form f) c ≡ Yes → NeverSecond ucd f c
 never_second-yes Nfc c is composes a = composite-ucd a c ∙ never_second KitNfc IsComposed-Nfc c (ap is_yes is) a
 never_second-yes Nfkc c is composes a = composite-ucd a c ∙ never_second KitNfkc IsComposed-Nfkc c (ap is_yes is) a
-never_second-yes Nfd c is composes a = cc
-never_second-yes Nfkd c is composes a = cc
+never_second-yes _ c is composes a = cc
 
 -- ---- its row begins with such a one
 
@@ -73,6 +72,6 @@ parting-ucd f c h =
     record {
       starts = starter_at c (omega arith);
       anew = begins_anew f c starter is;
-      counts = counts_anew-lead ucd f c (is_sound-ucd c) (compat-lead c starter (no_vowel_sign f c (λ no. let clash = sym is ∙ no in cc)) (not-true _ parts.1));
+      counts = counts_anew-lead ucd f c (is_sound-ucd c) (compat-lead c starter (no_vowel_sign f c (λ no. cc)) (not-true _ parts.1));
       alone = alone f c is;
     }

@@ -18,8 +18,7 @@ refuses f cs = list_all (λ x. is_no (quick_check (kit_form f) x)) cs
 
 is_no-true : (v : QuickCheck) → is_no v ≡ true → v ≡ No
 is_no-true No h = refl
-is_no-true Yes h = cc
-is_no-true Maybe h = cc
+is_no-true _ h = cc
 
 pub not_among : (f : Form) (c : ℕ) → quick_check (kit_form f) c ≢ No → (cs : List ℕ) → refuses f cs ≡ true → is_among cs c ≡ false
 not_among f c may [] all = refl
@@ -30,9 +29,7 @@ not_among f c may (x ∷ cs) all =
 exceptions-refused : (f : Form) → (refuses f vowel_signs ≡ true) × (refuses f mapped_marks ≡ true)
 unfolding unicode_normalization
 exceptions-refused Nfc = (refl, refl)
-exceptions-refused Nfd = (refl, refl)
-exceptions-refused Nfkc = (refl, refl)
-exceptions-refused Nfkd = (refl, refl)
+exceptions-refused _ = (refl, refl)
 
 pub no_vowel_sign : (f : Form) (c : ℕ) → quick_check (kit_form f) c ≢ No → is_among vowel_signs c ≡ false
 no_vowel_sign f c may = not_among f c may vowel_signs (exceptions-refused f).0

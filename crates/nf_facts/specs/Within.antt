@@ -1,6 +1,6 @@
 -- Ranges that lie within others, as proofs by one computation ask for them.
 use Rattle.std.proofs.Common.{◌≡◌, ℕ, ◌≤◌, ◌⊎◌, inl, inr, Bool, true, false, ◌&&◌, ◌||◌, nat_le, List, [], ◌∷◌, refl, sym, ap, ◌∙◌, arith, leb-true, le-leb}
-use Rattle.std.proofs.lemmas.Bool.{and_parts, and_from}
+use Rattle.std.proofs.lemmas.Bool.Decides.{nat_tests}
 use Rattle.ucd_table.specs.Rows.{Range, in_ranges}
 
 -- the range lies within one of these
@@ -11,17 +11,7 @@ lies_within (r ∷ rs) first last = (nat_le r.0 first && nat_le last r.1) || lie
 pub in_ranges-lies_within : (rs : List Range) (first last c : ℕ) → lies_within rs first last ≡ true → first ≤ c → c ≤ last → in_ranges rs c ≡ true
 unfolding in_ranges
 in_ranges-lies_within [] first last c h low high = cc
-in_ranges-lies_within (r ∷ rs) first last c h low high = next (nat_le r.0 first && nat_le last r.1) (in_ranges rs c) refl (in_ranges-lies_within rs first last c)
-  where
-    either_of : (a : Bool) {t : Bool} → t ≡ true → (a || t) ≡ true
-    either_of true e = refl
-    either_of false e = e
-
-    next : (b t : Bool) → (nat_le r.0 first && nat_le last r.1) ≡ b → (lies_within rs first last ≡ true → first ≤ c → c ≤ last → t ≡ true) → ((nat_le r.0 c && nat_le c r.1) || t) ≡ true
-    next true t e more =
-        let both = and_parts (nat_le r.0 first) (nat_le last r.1) e in
-        ap (λ a. a || t) (and_from (nat_le r.0 c) (nat_le c r.1) (le-leb r.0 c (omega (arith, leb-true r.0 first both.0))) (le-leb c r.1 (omega (arith, leb-true last r.1 both.1))))
-    next false t e more = either_of (nat_le r.0 c && nat_le c r.1) (more (sym (ap (λ a. a || lies_within rs first last) e) ∙ h) low high)
+in_ranges-lies_within (r ∷ rs) first last c h low high = grind (arith, nat_tests, in_ranges-lies_within rs first last c)
 
 -- a test that is made only where the first fails, so that the computation is short
 abbrev pub or_else : Bool → (Unit {0} → Bool) → Bool
