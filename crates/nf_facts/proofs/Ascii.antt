@@ -1,6 +1,6 @@
 -- ASCII characters are plain in Unicode's data.
 use Rattle.std.proofs.Common.{◌≡◌, ℕ, ◌<◌, true, not, ◌||◌, List, [], ◌∷◌, refl, ap, arith, le-leb, zero-le}
-use Rattle.std.proofs.lemmas.Bool.{and_from, or_left}
+use Rattle.std.proofs.lemmas.Bool.Decides.{nat_tests}
 use Rattle.ucd_table.specs.Rows.{Range, in_ranges}
 use Rattle.ucd_table.proofs.Stepped.{Stepped, of_ranges, map_stepped, zip_stepped}
 use Rattle.ucd_table.proofs.RangedFacts.{points_ok}
@@ -29,7 +29,7 @@ assigned_there =
 assigned-ascii : (c : ℕ) → c < 0x80 → is_assigned c ≡ true
 unfolding assigned_there none_fails
 assigned-ascii c below =
-    none_fails-true ascii is_assigned assigned_there refl c (or_left _ _ (and_from _ _ (le-leb 0 c zero-le) (le-leb c 0x7F (omega arith))))
+    none_fails-true ascii is_assigned assigned_there refl c (grind (arith, nat_tests))
 
 pub IsPlain-ascii : (c : ℕ) → c < 0x80 → IsPlain ucd c
 unfolding ucd

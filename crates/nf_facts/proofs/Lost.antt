@@ -20,20 +20,12 @@ in_compatible : (safe_form Nfkc ucd ligature ≡ 0x66 ∷ 0x69 ∷ []) × (safe_
 unfolding ligature safe_form by_class ucd unicode_normalization
 in_compatible = (refl, refl)
 
-apart : (x y : List ℕ) → x ≡ 0x66 ∷ 0x69 ∷ [] → y ≡ 0xFB01 ∷ [] → x ≢ y
-apart x y is other same = let clash : 0x66 ∷ 0x69 ∷ [] ≡ 0xFB01 ∷ [] = sym is ∙ same ∙ other in cc
-
 pub direct : (f g : Form) → after g f ≡ g → (x : List ℕ) → safe_form g ucd (safe_form f ucd x) ≡ safe_form g ucd x
-direct f g same x = safe_form-after f g x ∙ ap (λ h. safe_form h ucd x) same
+direct f g same x = rw same at (safe_form-after f g x)
 
 pub lost : (f g : Form) → after g f ≢ g → (x : List ℕ) × (safe_form g ucd (safe_form f ucd x) ≢ safe_form g ucd x)
-lost Nfc g other = absurd (other refl)
-lost Nfd g other = absurd (other refl)
-lost Nfkc Nfc other = (ligature, apart _ _ (safe_form-after Nfkc Nfc ligature ∙ in_compatible.0) in_canonical.0)
-lost Nfkc Nfd other = (ligature, apart _ _ (safe_form-after Nfkc Nfd ligature ∙ in_compatible.1) in_canonical.1)
-lost Nfkc Nfkc other = absurd (other refl)
-lost Nfkc Nfkd other = absurd (other refl)
-lost Nfkd Nfc other = (ligature, apart _ _ (safe_form-after Nfkd Nfc ligature ∙ in_compatible.0) in_canonical.0)
-lost Nfkd Nfd other = (ligature, apart _ _ (safe_form-after Nfkd Nfd ligature ∙ in_compatible.1) in_canonical.1)
-lost Nfkd Nfkc other = absurd (other refl)
-lost Nfkd Nfkd other = absurd (other refl)
+lost Nfkc Nfc other = (ligature, λ same. cc (safe_form-after Nfkc Nfc ligature, in_compatible.0, in_canonical.0))
+lost Nfkc Nfd other = (ligature, λ same. cc (safe_form-after Nfkc Nfd ligature, in_compatible.1, in_canonical.1))
+lost Nfkd Nfc other = (ligature, λ same. cc (safe_form-after Nfkd Nfc ligature, in_compatible.0, in_canonical.0))
+lost Nfkd Nfd other = (ligature, λ same. cc (safe_form-after Nfkd Nfd ligature, in_compatible.1, in_canonical.1))
+lost _ _ other = absurd (other refl)

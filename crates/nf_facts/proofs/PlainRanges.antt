@@ -35,13 +35,11 @@ of_form f rising two =
 all_plain : (f : Form) (c : ℕ) → in_ranges (plain_ranges f) c ≡ true → passes_by_range f c ≡ true
 unfolding of_form none_fails
 all_plain Nfc = none_fails-true (plain_ranges Nfc) (passes_by_range Nfc) (of_form Nfc refl refl) refl
-all_plain Nfd = none_fails-true (plain_ranges Nfd) (passes_by_range Nfd) (of_form Nfd refl refl) refl
-all_plain Nfkc = none_fails-true (plain_ranges Nfkc) (passes_by_range Nfkc) (of_form Nfkc refl refl) refl
-all_plain Nfkd = none_fails-true (plain_ranges Nfkd) (passes_by_range Nfkd) (of_form Nfkd refl refl) refl
+all_plain f = none_fails-true (plain_ranges f) (passes_by_range f) (of_form f refl refl) refl
 
 outside : (c : ℕ) → in_ranges halfwidth c ≡ false → is_among halfwidth_marks c ≡ false
 unfolding tables halfwidth
-outside c h = false_from_ne_true _ (λ is. let clash = sym h ∙ each (λ c. in_ranges halfwidth c ≡ true) halfwidth_marks (refl, (refl, tt)) c is in cc)
+outside c h = false_from_ne_true _ (λ is. let inside = each (λ c. in_ranges halfwidth c ≡ true) halfwidth_marks (refl, (refl, tt)) c is in cc)
 
 -- each part of the test gives the other form of it
 pub plain-passes : (f : Form) (c : ℕ) → in_ranges (plain_ranges f) c ≡ true → passes_check f c ≡ true

@@ -13,5 +13,4 @@ none_fails p s = at_points p s (λ b. b) (λ _ _. false)
 pub none_fails-true : (ranges : List Range) (p : ℕ → Bool) (s : Stepped (λ c. not (in_ranges ranges c) || p c)) → none_fails _ s ≡ true → (c : ℕ) → in_ranges ranges c ≡ true → p c ≡ true
 unfolding none_fails
 none_fails-true ranges p s ok c inside =
-    let all = true_from_ne_false _ (λ fails. let clash = Stepped-at_points _ s (λ b. b) (λ _ _. false) ok c fails in cc) in
-    ap (λ b. not b || p c) (sym inside) ∙ all
+    rw inside at (true_from_ne_false _ (λ fails. let fault = Stepped-at_points _ s (λ b. b) (λ _ _. false) ok c fails in cc))

@@ -19,9 +19,6 @@ agree-same p w v e = rw e (grind (arith, nat_tests))
 agree-rows : (c : ℕ) → ends_agree ucd (decompose Nfd c) (decompose Nfkd c) ≡ true
 agree-rows c = by_mapping c _ (agree-same ucd _ _) (λ mapped. mapped.agree)
 
-fits-full : (w : List ℕ) → 1 ≤ length w → length w ≤ 18 → fits w ≡ true
-fits-full w some few = grind (arith, nat_tests)
-
 joiner-plain : joiner_is_plain ucd ≡ true
 unfolding ucd unicode_normalization
 joiner-plain = refl
@@ -31,10 +28,7 @@ unfolding ucd
 is_sound-ucd c =
     let canonical = IsFull-decompose Nfd c in
     let compat = IsFull-decompose Nfkd c in
-    let first = fits-full (decompose Nfd c) canonical.some canonical.few in
-    let second = fits-full (decompose Nfkd c) compat.some compat.few in
-    let agreed = and_parts _ _ (agree-rows c) in
-    and_from _ _ (and_from _ _ (and_from _ _ (and_from _ _ first second) (agreed.0)) (agreed.1)) (or_right _ _ joiner-plain)
+    grind (arith, nat_tests, agree-rows c, joiner-plain)
 
 pub IsSoundText-ucd : (x : List ℕ) → IsSoundText ucd x
 IsSoundText-ucd [] = refl
