@@ -1,17 +1,16 @@
 -- Two forms one after the other, over Unicode's data, and the form of the stream-safe text brought into a form again.
-use Rattle.std.proofs.Common.{◌≡◌, ℕ, true, List, [], ◌∷◌, ◌++◌, flat_map, refl, sym, ap, ap₂, ◌∙◌, inl, inr, arith}
+use Rattle.std.proofs.Common.{◌≡◌, ℕ, true, List, [], ◌∷◌, ◌++◌, flat_map, refl, sym, ◌∙◌, inl, inr, arith}
 use Rattle.std.proofs.lemmas.Bool.{cases_Bool, and_parts}
 use Rattle.std.proofs.lemmas.Grind.{flat_map-append}
 use Rattle.std.specs.List.{list_all}
-use Rattle.ucd_normal.specs.declared.forms.Form.TheVariants.{Nfc as KitNfc, Nfd as KitNfd, Nfkc as KitNfkc, Nfkd as KitNfkd}
-use Rattle.unicode_normalization.specs.Compose.{compose as kit_compose}
+use Rattle.ucd_normal.specs.declared.forms.Form.TheVariants.{Nfd as KitNfd, Nfkd as KitNfkd}
 use Rattle.unicode_normalization.specs.Decompose.{decompose}
 use Rattle.unicode_normalization.specs.Forms.{decomposed as kit_decomposed, normalize, nfd, nfkd, nfc, nfkc}
 use Rattle.unicode_normalization.specs.Order.{is_reorderable, sink, canonical_order}
-use Rattle.unicode_normalization.specs.StreamSafe.{has_short_runs, is_stream_safe, stream_safe as kit_stream_safe}
+use Rattle.unicode_normalization.specs.StreamSafe.{is_stream_safe, stream_safe as kit_stream_safe}
 use Rattle.unicode_normalization.proofs.ComposeLemmas.{list_all-append}
 use Rattle.unicode_normalization.proofs.FormsLemmas.{normalize_idem, nfd-nfc, nfkd-nfkc, nfd-nfkc, nfd-nfkd, nfc-nfd, nfc-nfkd, nfc-nfkc, nfkc-nfkd, nfkc-by_nfkd}
-use Rattle.unicode_normalization.proofs.OrderLemmas.{is_reorderable-true, sink-nil, sink-past, sink-stays, sink_all, canonical_order-append, canonical_order-nil, canonical_order-cons, canonical_order-exchange, list_all-canonical_order}
+use Rattle.unicode_normalization.proofs.OrderLemmas.{is_reorderable-true, sink-nil, sink-past, sink-stays, canonical_order-append, canonical_order-nil, canonical_order-cons, canonical_order-exchange, list_all-canonical_order}
 use Rattle.unicode_normalization.proofs.ShortRuns.{is_stream_safe-nfkd, is_stream_safe-stream_safe}
 use Rattle.unicode_normalization.proofs.StreamSafeLemmas.{stream_safe-safe}
 use Rattle.nf_forms.specs.declared.form.Form.{Form}

@@ -1,16 +1,14 @@
 -- The rows of Unicode's data are full, and the canonical row of a character lies within its compatibility row.
-use Rattle.std.proofs.Common.{◌≡◌, ℕ, Bool, true, false, ◌||◌, List, [], ◌∷◌, ◌++◌, flat_map, refl, sym, ap, ap₂, ◌∙◌, IsTrue}
-use Rattle.std.proofs.lemmas.Bool.{and_from, and_parts, or_right, not-true, not_from_false, false_from_ne_true, eq-eqb}
+use Rattle.std.proofs.Common.{◌≡◌, ℕ, Bool, true, false, List, [], ◌∷◌, flat_map, refl, ◌∙◌, arith, IsTrue}
+use Rattle.std.proofs.lemmas.Bool.{and_parts, or_right, not-true}
+use Rattle.std.proofs.lemmas.Bool.Decides.{nat_tests}
 use Rattle.std.proofs.lemmas.List.Sums.{AllPass-from_list_all, list_all-from_AllPass}
 use Rattle.std.specs.List.{list_all, All}
 use Rattle.ucd_normal.specs.declared.forms.Form.TheVariants.{Nfd, Nfkd}
-use Rattle.ucd_normal.specs.CanonicalCombiningClass.{canonical_combining_class as ccc}
-use Rattle.ucd_normal.specs.Decomposition.{decomposition}
-use Rattle.ucd_normal.proofs.CompositionLemmas.{is_empty}
 use Rattle.unicode_normalization.specs.Decompose.{decompose}
 use Rattle.unicode_normalization.proofs.ComposeLemmas.{flat_map-final}
 use Rattle.unicode_normalization.proofs.DecomposeLemmas.{decompose-other, decompose-final, is_final-parts, IsFull-decompose}
-use Rattle.unicode_normalization.proofs.TableFacts.{by_rows, pick, is_final}
+use Rattle.unicode_normalization.proofs.TableFacts.{by_rows, is_final}
 use Rattle.nf_forms.specs.Properties.{is_starter, is_nonstarter}
 use Rattle.nf_forms.specs.Ucd.{ucd}
 use Rattle.nf_facts.proofs.Mapped.{class-syllable, compat_by, is_fixed_by, by_mapping}
@@ -61,9 +59,7 @@ canonical-fixed c =
 
 pub compat-fixed : (x : ℕ) → is_fixed x ≡ true → is_starter ucd x ≡ false → decompose Nfkd x ≡ x ∷ []
 unfolding ucd
-compat-fixed x fixed mark =
-    let none : is_empty (pick Nfkd (decomposition x)) ≡ true = rw mark at fixed in
-    decompose-final Nfkd x (and_from _ _ none (not_from_false _ (false_from_ne_true _ (λ syllable. let starter = eq-eqb (ccc x) 0 (class-syllable x syllable) in cc))))
+compat-fixed x fixed mark = decompose-final Nfkd x (grind (arith, nat_tests, class-syllable x))
 
 pub canonical-marks : (c : ℕ) → All (λ x. IsTrue (is_nonstarter ucd x) → ucd.compat x ≡ x ∷ []) (ucd.canonical c)
 unfolding ucd

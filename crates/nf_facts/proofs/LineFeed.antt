@@ -1,5 +1,5 @@
 -- U+000A closes what stands before it, in each form.
-use Rattle.std.proofs.Common.{◌≡◌, ◌==◌, ℕ, [], None, refl, ap, ◌∙◌, arith}
+use Rattle.std.proofs.Common.{◌≡◌, ◌==◌, ℕ, [], None, refl, ap, arith}
 use Rattle.ucd_normal.specs.Composition.{paired_with}
 use Rattle.ucd_normal.specs.Compositions.{compositions}
 use Rattle.ucd_normal.proofs.CompositionLemmas.{composite-paired_with}

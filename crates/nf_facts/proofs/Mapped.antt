@@ -1,6 +1,6 @@
 -- What is so of each character with a decomposition mapping, by one computation over the tables.
-use Rattle.std.proofs.Common.{◌≡◌, ℕ, ◌≤◌, ◌<◌, ◌+◌, ◌-◌, ◌/◌, ◌%◌, Bool, true, false, not, ◌&&◌, ◌||◌, ◌==◌, List, [], ◌∷◌, flat_map, refl, sym, ap, ap₂, subst, ◌∙◌, inl, inr, arith, eqb-true}
-use Rattle.std.proofs.lemmas.Bool.{cases_Bool, cases_eq, and_from, and_parts, not_from_false}
+use Rattle.std.proofs.Common.{◌≡◌, ℕ, ◌≤◌, ◌<◌, ◌+◌, ◌-◌, ◌/◌, ◌%◌, Bool, true, false, not, ◌&&◌, ◌||◌, ◌==◌, List, [], ◌∷◌, flat_map, refl, sym, ap, ◌∙◌, inl, inr, arith, eqb-true}
+use Rattle.std.proofs.lemmas.Bool.{cases_Bool, cases_eq}
 use Rattle.std.proofs.lemmas.Bool.Decides.{nat_tests}
 use Rattle.std.specs.List.{list_all}
 use lib.Utf8.{scalar}
@@ -29,7 +29,7 @@ use Rattle.nf_facts.proofs.Trees.{by_trees, same_tables}
 
 -- Unicode's data by another look-up of the class, of which alone the tests read
 abbrev pub classes_of : Tables → Properties
-classes_of t = record { class = t.class; canonical = ucd.canonical; compat = ucd.compat; pair = ucd.pair; assigned = ucd.assigned }
+classes_of t = record ucd { class = t.class }
 
 -- what soundness asks of the two rows together
 abbrev pub ends_agree : Properties → List ℕ → List ℕ → Bool
@@ -117,7 +117,7 @@ by_kind c Q syllable own with_mapping =
       | inl is ↦ syllable is
       | inr other ↦
           elim (cases_Bool (is_empty (pick Nfkd (decomposition c)))) [
-            | inl none ↦ own (λ form. decompose-final form c (and_from _ _ (pick-none form c none) (not_from_false _ other)))
+            | inl none ↦ own (λ form. decompose-final form c (grind (arith, nat_tests, pick-none form c none)))
             | inr some ↦ with_mapping (mapped c other some)
           ]
     ]

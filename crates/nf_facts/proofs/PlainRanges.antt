@@ -1,6 +1,6 @@
 -- Each character of the plain ranges passes, shown by one computation a form.
-use Rattle.std.proofs.Common.{◌≡◌, ℕ, Bool, true, false, not, ◌&&◌, ◌||◌, ◌==◌, List, [], ◌∷◌, refl, sym, ◌∙◌}
-use Rattle.std.proofs.lemmas.Bool.{and_parts, and_from, false_from_ne_true, not-true, not_from_false}
+use Rattle.std.proofs.Common.{◌≡◌, ℕ, Bool, true, not, ◌&&◌, ◌||◌, ◌==◌, List, [], ◌∷◌, refl, arith}
+use Rattle.std.proofs.lemmas.Bool.Decides.{nat_tests}
 use Rattle.ucd_table.specs.Rows.{Range, in_ranges}
 use Rattle.ucd_table.proofs.Stepped.{Stepped, of_ranges, zip_stepped}
 use Rattle.ucd_table.proofs.StepsLemmas.{rises_from, range_rows}
@@ -11,11 +11,10 @@ use Rattle.ucd_normal.specs.QuickCheck.{quick_check}
 use Rattle.ucd_normal.proofs.CanonicalCombiningClassLemmas.{canonical_combining_class_stepped}
 use Rattle.ucd_normal.proofs.QuickCheckLemmas.{quick_check_stepped}
 use Rattle.nf_forms.specs.declared.form.Form.{Form}
-use Rattle.nf_forms.specs.declared.form.Form.TheVariants.{Nfc, Nfd, Nfkc, Nfkd}
+use Rattle.nf_forms.specs.declared.form.Form.TheVariants.{Nfc}
 use Rattle.nf_facts.specs.PlainRanges.{plain_ranges}
 use Rattle.nf_facts.specs.KitForm.{kit_form}
-use Rattle.nf_facts.specs.Passing.{is_among, halfwidth_marks, is_yes, passes_check}
-use Rattle.nf_facts.proofs.MarkStarters.{each}
+use Rattle.nf_facts.specs.Passing.{is_yes, passes_check}
 use Rattle.nf_facts.proofs.Ranges.{none_fails, none_fails-true}
 
 -- the test as steps: the class and the answer zipped, and the two halfwidth marks taken out as a range
@@ -37,12 +36,7 @@ unfolding of_form none_fails
 all_plain Nfc = none_fails-true (plain_ranges Nfc) (passes_by_range Nfc) (of_form Nfc refl refl) refl
 all_plain f = none_fails-true (plain_ranges f) (passes_by_range f) (of_form f refl refl) refl
 
-outside : (c : ℕ) → in_ranges halfwidth c ≡ false → is_among halfwidth_marks c ≡ false
-unfolding tables halfwidth
-outside c h = false_from_ne_true _ (λ is. let inside = each (λ c. in_ranges halfwidth c ≡ true) halfwidth_marks (refl, (refl, tt)) c is in cc)
-
 -- each part of the test gives the other form of it
 pub plain-passes : (f : Form) (c : ℕ) → in_ranges (plain_ranges f) c ≡ true → passes_check f c ≡ true
-plain-passes f c inside =
-    let parts = and_parts _ _ (all_plain f c inside) in
-    and_from _ _ parts.0 (not_from_false _ (outside c (not-true _ parts.1)))
+unfolding halfwidth in_ranges
+plain-passes f c inside = grind (arith, nat_tests, all_plain f c)

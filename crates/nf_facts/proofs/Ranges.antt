@@ -1,5 +1,5 @@
 -- A test that fails at no code point, by the steps of its values.
-use Rattle.std.proofs.Common.{◌≡◌, ℕ, Bool, true, false, not, ◌||◌, List, sym, ap, ◌∙◌}
+use Rattle.std.proofs.Common.{◌≡◌, ℕ, Bool, true, false, not, ◌||◌, List}
 use Rattle.std.proofs.lemmas.Bool.{true_from_ne_false}
 use Rattle.ucd_table.specs.Rows.{Range, in_ranges}
 use Rattle.ucd_table.proofs.Stepped.{Stepped}

@@ -1,6 +1,6 @@
 -- The forms over Unicode's data are those of `unicode_normalization`.
-use Rattle.std.proofs.Common.{◌≡◌, ℕ, ◌<◌, ◌≤◌, Bool, true, false, not, ◌&&◌, ◌||◌, ◌==◌, cond, nat_le, List, [], ◌∷◌, ◌++◌, Option, Some, None, refl, sym, ap, ap₂, ◌∙◌, inl, inr, arith, append-nil, append_assoc, fold}
-use Rattle.std.proofs.lemmas.Bool.{cases_Bool, cond-true, or_parts}
+use Rattle.std.proofs.Common.{◌≡◌, ℕ, ◌<◌, ◌≤◌, true, false, List, [], ◌∷◌, ◌++◌, Option, Some, None, refl, sym, ◌∙◌, inl, inr, arith, append-nil, append_assoc, fold}
+use Rattle.std.proofs.lemmas.Bool.{cases_Bool, or_parts}
 use Rattle.std.proofs.lemmas.Bool.Decides.{nat_tests}
 use Rattle.ucd_normal.specs.CanonicalCombiningClass.{canonical_combining_class as ccc}
 use Rattle.unicode_normalization.specs.Compose.{primary_composite, is_blocked as kit_is_blocked, joined as kit_joined, compose_after, compose as kit_compose}
@@ -17,7 +17,7 @@ use Rattle.nf_forms.specs.Ordering.{is_ordered, with_class}
 use Rattle.nf_forms.specs.Compose.{starter_only, composite, is_blocked, joined, replaced, compose_step, compose}
 use Rattle.nf_forms.specs.declared.form.Form.{Form}
 use Rattle.nf_forms.specs.declared.form.Form.TheVariants.{Nfc, Nfd, Nfkc, Nfkd}
-use Rattle.nf_forms.specs.Forms.{decomposed, normal_form}
+use Rattle.nf_forms.specs.Forms.{normal_form}
 use Rattle.nf_forms.specs.Ucd.{ucd}
 use Rattle.nf_facts.specs.KitForm.{kit_form}
 use Rattle.nf_forms.specs.Laws.Front.{marks_push}

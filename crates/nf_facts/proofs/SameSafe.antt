@@ -1,13 +1,13 @@
 -- The Stream-Safe Text Process over Unicode's data is that of `unicode_normalization`.
-use Rattle.std.proofs.Common.{◌≡◌, ℕ, suc, ◌<◌, ◌+◌, Bool, true, false, not, ◌||◌, cond, List, [], ◌∷◌, ◌++◌, length, refl, sym, ap, ◌∙◌, inl, inr, arith, append-nil, append_assoc, fold, if◌then◌else◌}
+use Rattle.std.proofs.Common.{◌≡◌, ℕ, ◌<◌, ◌+◌, true, List, [], ◌∷◌, ◌++◌, length, ap, ◌∙◌, inl, inr, arith, append-nil, append_assoc, fold, if◌then◌else◌}
 use Rattle.std.proofs.lemmas.Bool.{cases_Bool}
 use Rattle.std.proofs.lemmas.Bool.Decides.{nat_tests}
 use Rattle.unicode_normalization.specs.StreamSafe.{leading_nonstarters, trailing_nonstarters, is_too_many, count_after, stream_safe_after, stream_safe as kit_stream_safe}
 use Rattle.unicode_normalization.proofs.StreamSafeLemmas.{count_after-all, count_after-some, stream_safe_after-nil, stream_safe_after-parted, stream_safe_after-together}
-use Rattle.nf_forms.specs.Properties.{Properties, is_starter}
+use Rattle.nf_forms.specs.Properties.{Properties}
 use Rattle.nf_forms.specs.Runs.{has_starter, lead, trail}
 use Rattle.nf_forms.specs.declared.form.Form.TheVariants.{Nfkd}
-use Rattle.nf_forms.specs.StreamSafe.{joiner, is_too_long, safe_step, stream_safe}
+use Rattle.nf_forms.specs.StreamSafe.{joiner, safe_step, stream_safe}
 use Rattle.nf_forms.specs.Ucd.{ucd}
 use Rattle.nf_forms.specs.Laws.Runs.{lead-marks}
 use Rattle.nf_forms.specs.Laws.Sound.{JoinerIsPlain, JoinerIsPlain-from_sound}
@@ -34,21 +34,18 @@ last_run-push out c = rw (count_after-ucd (last_run ucd out) c) (trail-decompose
 plain : JoinerIsPlain ucd
 plain = JoinerIsPlain-from_sound ucd (is_sound-ucd joiner)
 
-too_long-ucd : (out : List ℕ) (c : ℕ) → is_too_long ucd out c ≡ is_too_many (last_run ucd out) c
-unfolding ucd leading_nonstarters
-too_long-ucd out c = refl
-
 safe-after : (out x : List ℕ) → fold (safe_step ucd) out x ≡ out ++ stream_safe_after (last_run ucd out) x
+unfolding ucd leading_nonstarters
 safe-after out [] = rw (stream_safe_after-nil, append-nil)
 safe-after out (c ∷ x) =
     elim (cases_Bool (is_too_many (last_run ucd out) c)) [
       | inl many ↦
           let put = out ++ joiner ∷ [] in
-          let here : safe_step ucd out c ≡ put ++ c ∷ [] = rw (too_long-ucd out c, many) in
+          let here : safe_step ucd out c ≡ put ++ c ∷ [] = rw many in
           let count = last_run-push put c ∙ ap (λ n. count_after n c) (trail-decomposed-joiner ucd plain Nfkd out) in
           rw (here, safe-after (put ++ c ∷ []) x, append_assoc, append_assoc, count, stream_safe_after-parted (last_run ucd out) c x many)
       | inr few ↦
-          let here : safe_step ucd out c ≡ out ++ c ∷ [] = rw (too_long-ucd out c, few) in
+          let here : safe_step ucd out c ≡ out ++ c ∷ [] = rw few in
           rw (here, safe-after (out ++ c ∷ []) x, append_assoc, last_run-push out c, stream_safe_after-together (last_run ucd out) c x few)
     ]
 

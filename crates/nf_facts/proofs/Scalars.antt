@@ -5,11 +5,10 @@ use Rattle.std.proofs.Math.Utf8.{scalar, low_scalar}
 use Rattle.std.specs.List.{list_all}
 use Rattle.std.specs.Str.{all_scalars}
 use Rattle.ucd_normal.specs.declared.forms.Form.{Form as KitForm}
-use Rattle.ucd_normal.specs.declared.forms.Form.TheVariants.{Nfc as KitNfc, Nfd as KitNfd, Nfkc as KitNfkc, Nfkd as KitNfkd}
+use Rattle.ucd_normal.specs.declared.forms.Form.TheVariants.{Nfd as KitNfd, Nfkd as KitNfkd}
 use Rattle.ucd_normal.specs.Composition.{IsCompositeOf}
 use Rattle.ucd_normal.proofs.CompositionLemmas.{is_empty}
 use Rattle.unicode_normalization.specs.Decompose.{decompose}
-use Rattle.unicode_normalization.specs.Forms.{normalize}
 use Rattle.unicode_normalization.proofs.DecomposeLemmas.{pick-none, primary_composite-some, IsCompositeOf-IsTableComposite}
 use Rattle.unicode_normalization.proofs.KeptLemmas.{list_all-normalize}
 use Rattle.nf_forms.specs.declared.form.Form.{Form}

@@ -1,14 +1,13 @@
 -- Every character of Unicode's data is sound.
-use Rattle.std.proofs.Common.{◌≡◌, ℕ, ◌≤◌, true, List, [], ◌∷◌, length, refl, sym, ap, ◌∙◌, arith}
-use Rattle.std.proofs.lemmas.Bool.{and_from, and_parts, or_right}
+use Rattle.std.proofs.Common.{◌≡◌, ℕ, true, List, [], ◌∷◌, refl, arith}
+use Rattle.std.proofs.lemmas.Bool.{and_from}
 use Rattle.std.proofs.lemmas.Bool.Decides.{nat_tests}
 use Rattle.ucd_normal.specs.declared.forms.Form.TheVariants.{Nfd, Nfkd}
 use Rattle.unicode_normalization.specs.Decompose.{decompose}
 use Rattle.unicode_normalization.proofs.Computing.{unicode_normalization}
 use Rattle.unicode_normalization.proofs.DecomposeLemmas.{IsFull-decompose}
 use Rattle.nf_forms.specs.Properties.{Properties}
-use Rattle.nf_forms.specs.Runs.{has_starter, lead, trail}
-use Rattle.nf_forms.specs.Sound.{fits, joiner_is_plain, is_sound}
+use Rattle.nf_forms.specs.Sound.{joiner_is_plain, is_sound}
 use Rattle.nf_forms.specs.Ucd.{ucd}
 use Rattle.nf_forms.specs.Laws.Sound.{IsSoundText}
 use Rattle.nf_facts.proofs.Mapped.{ends_agree, by_mapping}

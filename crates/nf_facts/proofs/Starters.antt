@@ -1,6 +1,6 @@
 -- Starters that pass the quick check of a form part a text, but for the two halfwidth marks.
-use Rattle.std.proofs.Common.{◌≡◌, ℕ, true, false, List, [], ◌∷◌, refl, sym, ap, ◌∙◌, arith, eqb-true, eq-eqb}
-use Rattle.std.proofs.lemmas.Bool.{cond-false, and_from, and_parts, not-true, not_from_true}
+use Rattle.std.proofs.Common.{◌≡◌, ℕ, true, false, List, [], ◌∷◌, refl, ◌∙◌, arith}
+use Rattle.std.proofs.lemmas.Bool.Decides.{nat_tests}
 use Rattle.ucd_normal.specs.declared.forms.Form.TheVariants.{Nfd as KitNfd, Nfkd as KitNfkd, Nfc as KitNfc, Nfkc as KitNfkc}
 use Rattle.ucd_normal.specs.declared.forms.QuickCheck.TheVariants.{Yes}
 use Rattle.ucd_normal.specs.CanonicalCombiningClass.{canonical_combining_class as ccc}
@@ -11,7 +11,6 @@ use Rattle.unicode_normalization.proofs.DecomposeLemmas.{decompose-final}
 use Rattle.unicode_normalization.proofs.FormsLemmas.{is_final-Nfd, is_final-Nfkd, is_yes-true, normalize-passes}
 use Rattle.unicode_normalization.proofs.OrderLemmas.{is_ordered-one}
 use Rattle.unicode_normalization.proofs.RebuildLemmas.{IsRebuilt}
-use Rattle.unicode_normalization.proofs.TableFacts.{is_yes}
 use Rattle.nf_forms.specs.Runs.{lead}
 use Rattle.nf_forms.specs.declared.form.Form.{Form}
 use Rattle.nf_forms.specs.declared.form.Form.TheVariants.{Nfc, Nfd, Nfkc, Nfkd}
@@ -41,8 +40,8 @@ compat-lead c starter sign mark =
 -- ---- what passes the quick check of a composing form is second in no composite
 
 pub never_second-yes : (f : Form) (c : ℕ) → quick_check (kit_form f) c ≡ Yes → NeverSecond ucd f c
-never_second-yes Nfc c is composes a = composite-ucd a c ∙ never_second KitNfc IsComposed-Nfc c (ap is_yes is) a
-never_second-yes Nfkc c is composes a = composite-ucd a c ∙ never_second KitNfkc IsComposed-Nfkc c (ap is_yes is) a
+never_second-yes Nfc c is composes a = composite-ucd a c ∙ never_second KitNfc IsComposed-Nfc c (rw is) a
+never_second-yes Nfkc c is composes a = composite-ucd a c ∙ never_second KitNfkc IsComposed-Nfkc c (rw is) a
 never_second-yes _ c is composes a = cc
 
 -- ---- its row begins with such a one
@@ -53,25 +52,23 @@ anew_rebuilt f c r =
 
 pub begins_anew : (f : Form) (c : ℕ) → ccc c ≡ 0 → quick_check (kit_form f) c ≡ Yes → BeginsAnew ucd f c
 unfolding ucd decompose
-begins_anew Nfc c starter is = anew_rebuilt Nfc c (of_starter KitNfc IsComposed-Nfc c (ap is_yes is) (omega arith))
-begins_anew Nfkc c starter is = anew_rebuilt Nfkc c (of_starter KitNfkc IsComposed-Nfkc c (ap is_yes is) (omega arith))
+begins_anew Nfc c starter is = anew_rebuilt Nfc c (of_starter KitNfc IsComposed-Nfc c (rw is) (omega arith))
+begins_anew Nfkc c starter is = anew_rebuilt Nfkc c (of_starter KitNfkc IsComposed-Nfkc c (rw is) (omega arith))
 begins_anew Nfd c starter is =
     record { first = c; rest = []; row = decompose-final KitNfd c (is_final-Nfd c is); starter = starter_at c (omega arith); never_second = never_second-yes Nfd c is }
 begins_anew Nfkd c starter is =
     record { first = c; rest = []; row = decompose-final KitNfkd c (is_final-Nfkd c is); starter = starter_at c (omega arith); never_second = never_second-yes Nfkd c is }
 
 pub alone : (f : Form) (c : ℕ) → quick_check (kit_form f) c ≡ Yes → normal_form f ucd (c ∷ []) ≡ c ∷ []
-alone f c is = normal_form-ucd f (c ∷ []) ∙ normalize-passes (kit_form f) (c ∷ []) (and_from _ _ (ap is_yes is) refl) (is_ordered-one c)
+alone f c is = normal_form-ucd f (c ∷ []) ∙ normalize-passes (kit_form f) (c ∷ []) (rw is) (is_ordered-one c)
 
 pub parting-ucd : (f : Form) (c : ℕ) → passes_check f c ≡ true → IsParting ucd f c
 parting-ucd f c h =
-    let parts = and_parts _ _ h in
-    let first = and_parts _ _ parts.0 in
-    let starter : ccc c ≡ 0 = eqb-true (ccc c) 0 first.0 in
-    let is : quick_check (kit_form f) c ≡ Yes = is_yes-true _ first.1 in
+    let starter : ccc c ≡ 0 = grind (arith, nat_tests) in
+    let is : quick_check (kit_form f) c ≡ Yes = is_yes-true _ (grind (arith, nat_tests)) in
     record {
       starts = starter_at c (omega arith);
       anew = begins_anew f c starter is;
-      counts = counts_anew-lead ucd f c (is_sound-ucd c) (compat-lead c starter (no_vowel_sign f c (λ no. cc)) (not-true _ parts.1));
+      counts = counts_anew-lead ucd f c (is_sound-ucd c) (compat-lead c starter (no_vowel_sign f c (λ no. cc)) (grind (arith, nat_tests)));
       alone = alone f c is;
     }

@@ -3,12 +3,12 @@ use Rattle.std.proofs.Common.{◌≡◌, ◌≢◌, ℕ, Bool, true, false, List
 use Rattle.std.proofs.lemmas.Bool.{and_parts, or_from}
 use Rattle.std.specs.List.{list_all}
 use Rattle.ucd_normal.specs.declared.forms.QuickCheck.{QuickCheck}
-use Rattle.ucd_normal.specs.declared.forms.QuickCheck.TheVariants.{Yes, No, Maybe}
+use Rattle.ucd_normal.specs.declared.forms.QuickCheck.TheVariants.{No}
 use Rattle.ucd_normal.specs.QuickCheck.{quick_check}
 use Rattle.unicode_normalization.proofs.Computing.{unicode_normalization}
 use Rattle.unicode_normalization.proofs.TableFacts.{is_no}
 use Rattle.nf_forms.specs.declared.form.Form.{Form}
-use Rattle.nf_forms.specs.declared.form.Form.TheVariants.{Nfc, Nfd, Nfkc, Nfkd}
+use Rattle.nf_forms.specs.declared.form.Form.TheVariants.{Nfc}
 use Rattle.nf_facts.specs.KitForm.{kit_form}
 use Rattle.nf_facts.specs.Passing.{is_among, vowel_signs, mapped_marks}
 
