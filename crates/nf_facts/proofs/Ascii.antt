@@ -1,6 +1,6 @@
 -- ASCII characters are plain in Unicode's data.
 use Rattle.std.proofs.Common.{◌≡◌, ℕ, ◌<◌, true, not, ◌||◌, List, [], ◌∷◌, refl, ap, arith}
-use Rattle.std.proofs.lemmas.Bool.Decides.{nat_tests}
+use Rattle.nf_facts.proofs.Common.{nat_tests, KitNfkd, KitNfc, ucd}
 use Rattle.ucd_table.specs.Rows.{Range, in_ranges}
 use Rattle.ucd_table.proofs.Stepped.{Stepped, of_ranges, map_stepped, zip_stepped}
 use Rattle.ucd_table.proofs.RangedFacts.{points_ok}
@@ -8,11 +8,10 @@ use Rattle.ucd_table.proofs.Computing.{tables}
 use Rattle.ucd_category.specs.GeneralCategory.{general_category, general_category_eq}
 use Rattle.ucd_category.specs.declared.GeneralCategory.TheVariants.{Unassigned}
 use Rattle.ucd_category.proofs.GeneralCategoryLemmas.{general_category_stepped}
-use Rattle.ucd_normal.specs.declared.forms.Form.TheVariants.{Nfkd as KitNfkd, Nfc as KitNfc}
 use Rattle.unicode_normalization.proofs.ComposedForms.{IsComposed-Nfc, never_second}
 use Rattle.unicode_normalization.proofs.FormsLemmas.{class-latin, quick_check-ascii}
 use Rattle.unicode_normalization.proofs.TableFacts.{is_yes}
-use Rattle.nf_forms.specs.Ucd.{ucd, is_assigned}
+use Rattle.nf_forms.specs.Ucd.{is_assigned}
 use Rattle.nf_facts.specs.Plain.{IsPlain}
 use Rattle.nf_facts.proofs.Ranges.{none_fails, none_fails-true}
 use Rattle.nf_facts.proofs.Rows.{own_row-passing}

@@ -1,10 +1,7 @@
 -- Two forms one after the other, over Unicode's data, and the form of the stream-safe text brought into a form again.
 use Rattle.std.proofs.Common.{◌≡◌, ℕ, true, List, [], ◌∷◌, ◌++◌, flat_map, refl, sym, ◌∙◌, inl, inr, arith}
-use Rattle.std.proofs.lemmas.Bool.{cases_Bool, and_parts}
+use Rattle.nf_facts.proofs.Common.{cases_Bool, and_parts, list_all, KitNfd, KitNfkd, decompose, Form, Nfc, Nfd, Nfkc, Nfkd, normal_form, ucd, kit_form}
 use Rattle.std.proofs.lemmas.Grind.{flat_map-append}
-use Rattle.std.specs.List.{list_all}
-use Rattle.ucd_normal.specs.declared.forms.Form.TheVariants.{Nfd as KitNfd, Nfkd as KitNfkd}
-use Rattle.unicode_normalization.specs.Decompose.{decompose}
 use Rattle.unicode_normalization.specs.Forms.{decomposed as kit_decomposed, normalize, nfd, nfkd, nfc, nfkc}
 use Rattle.unicode_normalization.specs.Order.{is_reorderable, sink, canonical_order}
 use Rattle.unicode_normalization.specs.StreamSafe.{is_stream_safe, stream_safe as kit_stream_safe}
@@ -13,14 +10,9 @@ use Rattle.unicode_normalization.proofs.FormsLemmas.{normalize_idem, nfd-nfc, nf
 use Rattle.unicode_normalization.proofs.OrderLemmas.{is_reorderable-true, sink-nil, sink-past, sink-stays, canonical_order-append, canonical_order-nil, canonical_order-cons, canonical_order-exchange, list_all-canonical_order}
 use Rattle.unicode_normalization.proofs.ShortRuns.{is_stream_safe-nfkd, is_stream_safe-stream_safe}
 use Rattle.unicode_normalization.proofs.StreamSafeLemmas.{stream_safe-safe}
-use Rattle.nf_forms.specs.declared.form.Form.{Form}
-use Rattle.nf_forms.specs.declared.form.Form.TheVariants.{Nfc, Nfd, Nfkc, Nfkd}
-use Rattle.nf_forms.specs.Forms.{normal_form}
 use Rattle.nf_forms.specs.StreamSafe.{stream_safe}
 use Rattle.nf_forms.specs.SafeForm.{safe_form}
-use Rattle.nf_forms.specs.Ucd.{ucd}
 use Rattle.nf_facts.specs.After.{after}
-use Rattle.nf_facts.specs.KitForm.{kit_form}
 use Rattle.nf_facts.proofs.Fullness.{is_fixed, compat-fixed, compat-joined, canonical-fixed}
 use Rattle.nf_facts.proofs.SameForms.{normal_form-ucd, mark_at}
 use Rattle.nf_facts.proofs.SameSafe.{stream_safe-ucd}

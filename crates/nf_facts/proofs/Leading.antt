@@ -1,15 +1,10 @@
 -- The leading consonants of Hangul pass the quick check.
 use Rattle.std.proofs.Common.{◌≡◌, ℕ, ◌≤◌, ◌<◌, ◌∙◌, arith}
+use Rattle.nf_facts.proofs.Common.{KitNfd, KitNfkd, Yes, quick_check, Form, Nfc, Nfd, Nfkc, Nfkd, kit_form}
 use Rattle.ucd_table.proofs.Facts.{same_from_beq}
-use Rattle.ucd_normal.specs.declared.forms.Form.TheVariants.{Nfd as KitNfd, Nfkd as KitNfkd}
-use Rattle.ucd_normal.specs.declared.forms.QuickCheck.TheVariants.{Yes}
-use Rattle.ucd_normal.specs.QuickCheck.{quick_check}
 use Rattle.unicode_normalization.proofs.DecomposeLemmas.{is_final-jamo}
 use Rattle.unicode_normalization.proofs.FormsLemmas.{is_yes-true}
 use Rattle.unicode_normalization.proofs.TableFacts.{nfd_yes, nfkd_yes, nfc_of_leading, nfkc_of_leading}
-use Rattle.nf_forms.specs.declared.form.Form.{Form}
-use Rattle.nf_forms.specs.declared.form.Form.TheVariants.{Nfc, Nfd, Nfkc, Nfkd}
-use Rattle.nf_facts.specs.KitForm.{kit_form}
 
 pub leading-yes : (f : Form) (c : ℕ) → 0x1100 ≤ c → c < 0x1113 → quick_check (kit_form f) c ≡ Yes
 leading-yes Nfc c low high = is_yes-true _ (nfc_of_leading c low high)

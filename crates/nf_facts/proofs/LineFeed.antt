@@ -1,14 +1,12 @@
 -- U+000A closes what stands before it, in each form.
 use Rattle.std.proofs.Common.{◌≡◌, ◌==◌, ℕ, [], None, refl, ap, arith}
+use Rattle.nf_facts.proofs.Common.{unicode_normalization, Form, ucd}
 use Rattle.ucd_normal.specs.Composition.{paired_with}
 use Rattle.ucd_normal.specs.Compositions.{compositions}
 use Rattle.ucd_normal.proofs.CompositionLemmas.{composite-paired_with}
 use Rattle.unicode_normalization.specs.Compose.{primary_composite}
 use Rattle.unicode_normalization.specs.Hangul.{compose_hangul}
-use Rattle.unicode_normalization.proofs.Computing.{unicode_normalization}
 use Rattle.nf_forms.specs.Compose.{composite, starter_only}
-use Rattle.nf_forms.specs.declared.form.Form.{Form}
-use Rattle.nf_forms.specs.Ucd.{ucd}
 use Rattle.nf_forms.specs.Closing.{IsClosing}
 use Rattle.nf_forms.specs.Laws.Cluster.{row-own}
 use Rattle.nf_facts.specs.LineFeed.{line_feed}

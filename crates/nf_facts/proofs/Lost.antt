@@ -1,11 +1,8 @@
 -- What a compatibility form takes from a text is not there for a canonical form behind it: the ligature U+FB01.
 use Rattle.std.proofs.Common.{◌≡◌, ◌≢◌, ℕ, List, [], ◌∷◌, refl}
-use Rattle.unicode_normalization.proofs.Computing.{unicode_normalization}
-use Rattle.nf_forms.specs.declared.form.Form.{Form}
-use Rattle.nf_forms.specs.declared.form.Form.TheVariants.{Nfc, Nfd, Nfkc, Nfkd}
+use Rattle.nf_facts.proofs.Common.{unicode_normalization, Form, Nfc, Nfd, Nfkc, Nfkd, ucd}
 use Rattle.nf_forms.specs.Order.{by_class}
 use Rattle.nf_forms.specs.SafeForm.{safe_form}
-use Rattle.nf_forms.specs.Ucd.{ucd}
 use Rattle.nf_facts.specs.After.{after}
 use Rattle.nf_facts.proofs.FormsAfter.{safe_form-after}
 

@@ -1,27 +1,19 @@
 -- What is so of each character with a decomposition mapping, by one computation over the tables.
 use Rattle.std.proofs.Common.{◌≡◌, ℕ, ◌≤◌, ◌<◌, ◌+◌, ◌-◌, ◌/◌, ◌%◌, Bool, true, false, not, ◌&&◌, ◌||◌, ◌==◌, List, [], ◌∷◌, flat_map, refl, sym, ap, ◌∙◌, inl, inr, arith, eqb-true}
-use Rattle.std.proofs.lemmas.Bool.{cases_Bool, cases_eq}
-use Rattle.std.proofs.lemmas.Bool.Decides.{nat_tests}
-use Rattle.std.specs.List.{list_all}
+use Rattle.nf_facts.proofs.Common.{cases_Bool, cases_eq, nat_tests, list_all, KitNfd, KitNfkd, ccc, decompose, Properties, lead, ucd}
 use lib.Utf8.{scalar}
 use Rattle.ucd_table.proofs.GroupsCheck.{same_string, same_string-true}
 use Rattle.ucd_table.proofs.RangedFacts.{Stepped-at_points}
 use Rattle.ucd_normal.specs.declared.forms.Form.{Form}
-use Rattle.ucd_normal.specs.declared.forms.Form.TheVariants.{Nfd, Nfkd}
-use Rattle.ucd_normal.specs.CanonicalCombiningClass.{canonical_combining_class as ccc}
 use Rattle.ucd_normal.specs.Decomposition.{decomposition, or_itself}
 use Rattle.ucd_normal.proofs.CompositionLemmas.{is_empty}
 use Rattle.ucd_normal.proofs.DecompositionLemmas.{decomposition_stepped}
-use Rattle.unicode_normalization.specs.Decompose.{decompose}
 use Rattle.unicode_normalization.specs.Hangul.{is_syllable}
 use Rattle.unicode_normalization.proofs.DecomposeLemmas.{decompose-syllable, decompose-other, decompose-mapped, decompose-final, pick-none}
 use Rattle.unicode_normalization.proofs.HangulLemmas.{is_syllable-true, decompose_hangul-two, decompose_hangul-three}
 use Rattle.unicode_normalization.proofs.TableFacts.{Tables, by_rows, full, pick, class_of_syllable}
-use Rattle.nf_forms.specs.Properties.{Properties}
-use Rattle.nf_forms.specs.Runs.{lead}
 use Rattle.nf_forms.specs.Ordering.{is_ordered}
 use Rattle.nf_forms.specs.Sound.{ends_within, marks_agree}
-use Rattle.nf_forms.specs.Ucd.{ucd}
 use Rattle.nf_facts.specs.Passing.{is_among, halfwidth_marks, vowel_signs, mapped_marks}
 use Rattle.nf_facts.proofs.Trees.{by_trees, same_tables}
 
@@ -37,11 +29,11 @@ ends_agree p canonical compat = ends_within p canonical compat && marks_agree p 
 
 -- the compatibility row of a character that is no Hangul syllable
 abbrev pub compat_by : Tables → ℕ → List ℕ
-compat_by t x = or_itself x (full t Nfkd x)
+compat_by t x = or_itself x (full t KitNfkd x)
 
 -- a starter, or without a mapping
 abbrev pub is_fixed_by : Tables → ℕ → Bool
-is_fixed_by t x = t.class x == 0 || is_empty (pick Nfkd (t.entry x))
+is_fixed_by t x = t.class x == 0 || is_empty (pick KitNfkd (t.entry x))
 
 -- the compatibility row of a starter begins with one, with the exceptions
 abbrev begins_so : Tables → ℕ → List ℕ → Bool
@@ -60,27 +52,27 @@ passes_all t c canonical compat =
     && (is_starter_so t c && (is_ordered (classes_of t) canonical && (is_ordered (classes_of t) compat && (scalar c && (list_all scalar canonical && list_all scalar compat))))))))
 
 abbrev row_passes : Tables → ℕ → Bool
-row_passes t c = passes_all t c (or_itself c (full t Nfd c)) (full t Nfkd c)
+row_passes t c = passes_all t c (or_itself c (full t KitNfd c)) (full t KitNfkd c)
 
 -- ---- the computation
 
-computed : (c : ℕ) → is_empty (pick Nfkd (decomposition c)) ≡ false → row_passes by_rows c ≡ true
+computed : (c : ℕ) → is_empty (pick KitNfkd (decomposition c)) ≡ false → row_passes by_rows c ≡ true
 unfolding by_trees passes_all
 computed c some =
     ap (λ t. row_passes t c) same_tables
-    ∙ Stepped-at_points decomposition decomposition_stepped (λ e. is_empty (pick Nfkd e)) (λ x _. row_passes by_trees x) refl c some
+    ∙ Stepped-at_points decomposition decomposition_stepped (λ e. is_empty (pick KitNfkd e)) (λ x _. row_passes by_trees x) refl c some
 
 pub record IsMapped (c : ℕ) : Type 0 where
-  pub agree : ends_agree ucd (decompose Nfd c) (decompose Nfkd c) ≡ true
-  pub joined : flat_map (compat_by by_rows) (decompose Nfd c) ≡ decompose Nfkd c
-  pub fixed : list_all (is_fixed_by by_rows) (decompose Nfd c) ≡ true
-  pub begins : ccc c ≡ 0 → is_among vowel_signs c ≡ false → is_among halfwidth_marks c ≡ false → lead ucd (decompose Nfkd c) ≡ 0
+  pub agree : ends_agree ucd (decompose KitNfd c) (decompose KitNfkd c) ≡ true
+  pub joined : flat_map (compat_by by_rows) (decompose KitNfd c) ≡ decompose KitNfkd c
+  pub fixed : list_all (is_fixed_by by_rows) (decompose KitNfd c) ≡ true
+  pub begins : ccc c ≡ 0 → is_among vowel_signs c ≡ false → is_among halfwidth_marks c ≡ false → lead ucd (decompose KitNfkd c) ≡ 0
   pub starter : is_among mapped_marks c ≡ false → ccc c ≡ 0
-  pub canonical_ordered : is_ordered ucd (decompose Nfd c) ≡ true
-  pub compat_ordered : is_ordered ucd (decompose Nfkd c) ≡ true
+  pub canonical_ordered : is_ordered ucd (decompose KitNfd c) ≡ true
+  pub compat_ordered : is_ordered ucd (decompose KitNfkd c) ≡ true
   pub is_scalar : scalar c ≡ true
-  pub canonical_scalars : list_all scalar (decompose Nfd c) ≡ true
-  pub compat_scalars : list_all scalar (decompose Nfkd c) ≡ true
+  pub canonical_scalars : list_all scalar (decompose KitNfd c) ≡ true
+  pub compat_scalars : list_all scalar (decompose KitNfkd c) ≡ true
 
 split : (a b c : Bool) (class n : ℕ) (sign half mark : Bool) (d e f g h : Bool)
     → (a && (b && (c && ((not (class == 0) || (sign || (half || n == 0))) && ((class == 0 || mark) && (d && (e && (f && (g && h))))))))) ≡ true
@@ -88,11 +80,11 @@ split : (a b c : Bool) (class n : ℕ) (sign half mark : Bool) (d e f g h : Bool
         × (d ≡ true) × (e ≡ true) × (f ≡ true) × (g ≡ true) × (h ≡ true)
 split a b c class n sign half mark d e f g h all = grind (arith, nat_tests)
 
-pub mapped : (c : ℕ) → is_syllable c ≡ false → is_empty (pick Nfkd (decomposition c)) ≡ false → IsMapped c
+pub mapped : (c : ℕ) → is_syllable c ≡ false → is_empty (pick KitNfkd (decomposition c)) ≡ false → IsMapped c
 unfolding ucd passes_all
 mapped c other some =
-    let rows : passes_all by_rows c (decompose Nfd c) (decompose Nfkd c) ≡ true = rw (decompose-other Nfd c other, decompose-mapped Nfkd c other some) (computed c some) in
-    let all = split _ _ _ (ccc c) (lead ucd (decompose Nfkd c)) (is_among vowel_signs c) (is_among halfwidth_marks c) (is_among mapped_marks c) _ _ _ _ _ rows in
+    let rows : passes_all by_rows c (decompose KitNfd c) (decompose KitNfkd c) ≡ true = rw (decompose-other KitNfd c other, decompose-mapped KitNfkd c other some) (computed c some) in
+    let all = split _ _ _ (ccc c) (lead ucd (decompose KitNfkd c)) (is_among vowel_signs c) (is_among halfwidth_marks c) (is_among mapped_marks c) _ _ _ _ _ rows in
     record {
       agree = all.0;
       joined = same_string-true _ _ all.1;
@@ -116,16 +108,16 @@ by_kind c Q syllable own with_mapping =
     elim (cases_Bool (is_syllable c)) [
       | inl is ↦ syllable is
       | inr other ↦
-          elim (cases_Bool (is_empty (pick Nfkd (decomposition c)))) [
+          elim (cases_Bool (is_empty (pick KitNfkd (decomposition c)))) [
             | inl none ↦ own (λ form. decompose-final form c (grind (arith, nat_tests, pick-none form c none)))
             | inr some ↦ with_mapping (mapped c other some)
           ]
     ]
 
 -- its two rows are one, or it has a mapping
-pub by_mapping : (c : ℕ) (Q : Type 0) → (decompose Nfd c ≡ decompose Nfkd c → Q) → (IsMapped c → Q) → Q
+pub by_mapping : (c : ℕ) (Q : Type 0) → (decompose KitNfd c ≡ decompose KitNfkd c → Q) → (IsMapped c → Q) → Q
 by_mapping c Q same =
-    by_kind c Q (λ syllable. same (decompose-syllable Nfd c syllable ∙ sym (decompose-syllable Nfkd c syllable))) (λ own. same (own Nfd ∙ sym (own Nfkd)))
+    by_kind c Q (λ syllable. same (decompose-syllable KitNfd c syllable ∙ sym (decompose-syllable KitNfkd c syllable))) (λ own. same (own KitNfd ∙ sym (own KitNfkd)))
 
 -- its row in a form is made of conjoining Hangul letters, or is the character itself, or comes of a mapping
 pub by_row : (form : Form) (c : ℕ) (Q : List ℕ → Type 0) → Q [] → ((x : ℕ) (w : List ℕ) → 0x1100 ≤ x → x < 0x1200 → Q w → Q (x ∷ w)) → Q (c ∷ [])

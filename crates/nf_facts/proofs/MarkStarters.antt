@@ -1,10 +1,7 @@
 -- Starters of which NFKD has non-starters alone: two halfwidth marks, of one each, which are their own canonical rows, and three
 -- vowel signs.
 use Rattle.std.proofs.Common.{◌≡◌, ⊎_elim, ℕ, true, false, ◌==◌, ◌||◌, List, [], ◌∷◌, length, refl, sym, subst, eqb-true}
-use Rattle.std.proofs.lemmas.Bool.{or_cases}
-use Rattle.unicode_normalization.proofs.Computing.{unicode_normalization}
-use Rattle.nf_forms.specs.Runs.{has_starter}
-use Rattle.nf_forms.specs.Ucd.{ucd}
+use Rattle.nf_facts.proofs.Common.{or_cases, unicode_normalization, has_starter, ucd}
 use Rattle.nf_facts.specs.Passing.{is_among, halfwidth_marks, vowel_signs}
 
 abbrev Each : (ℕ → Type 0) → List ℕ → Type 0

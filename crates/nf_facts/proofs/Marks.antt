@@ -1,13 +1,7 @@
 -- A non-starter is its own row, canonical and compatibility, but for those that no form's quick check lets pass.
 use Rattle.std.proofs.Common.{◌≡◌, ◌≢◌, ℕ, ◌<◌, false, refl, arith}
-use Rattle.ucd_normal.specs.declared.forms.Form.TheVariants.{Nfd as KitNfd, Nfkd as KitNfkd}
-use Rattle.ucd_normal.specs.declared.forms.QuickCheck.TheVariants.{No}
-use Rattle.ucd_normal.specs.CanonicalCombiningClass.{canonical_combining_class as ccc}
-use Rattle.ucd_normal.specs.QuickCheck.{quick_check}
-use Rattle.nf_forms.specs.declared.form.Form.{Form}
-use Rattle.nf_forms.specs.Ucd.{ucd}
+use Rattle.nf_facts.proofs.Common.{KitNfd, KitNfkd, No, ccc, quick_check, Form, ucd, kit_form}
 use Rattle.nf_forms.specs.Calm.{IsMark}
-use Rattle.nf_facts.specs.KitForm.{kit_form}
 use Rattle.nf_facts.specs.Passing.{is_among, mapped_marks}
 use Rattle.nf_facts.proofs.Mapped.{class-syllable, by_kind}
 use Rattle.nf_facts.specs.Refused.{no_mapped_mark}

@@ -1,19 +1,14 @@
 -- Each character of the plain ranges passes, shown by one computation a form.
 use Rattle.std.proofs.Common.{◌≡◌, ℕ, Bool, true, not, ◌&&◌, ◌||◌, ◌==◌, List, [], ◌∷◌, refl, arith}
-use Rattle.std.proofs.lemmas.Bool.Decides.{nat_tests}
+use Rattle.nf_facts.proofs.Common.{nat_tests, ccc, quick_check, Form, Nfc, kit_form}
 use Rattle.ucd_table.specs.Rows.{Range, in_ranges}
 use Rattle.ucd_table.proofs.Stepped.{Stepped, of_ranges, zip_stepped}
 use Rattle.ucd_table.proofs.StepsLemmas.{rises_from, range_rows}
 use Rattle.ucd_table.proofs.RangedFacts.{points_ok}
 use Rattle.ucd_table.proofs.Computing.{tables}
-use Rattle.ucd_normal.specs.CanonicalCombiningClass.{canonical_combining_class as ccc}
-use Rattle.ucd_normal.specs.QuickCheck.{quick_check}
 use Rattle.ucd_normal.proofs.CanonicalCombiningClassLemmas.{canonical_combining_class_stepped}
 use Rattle.ucd_normal.proofs.QuickCheckLemmas.{quick_check_stepped}
-use Rattle.nf_forms.specs.declared.form.Form.{Form}
-use Rattle.nf_forms.specs.declared.form.Form.TheVariants.{Nfc}
 use Rattle.nf_facts.specs.PlainRanges.{plain_ranges}
-use Rattle.nf_facts.specs.KitForm.{kit_form}
 use Rattle.nf_facts.specs.Passing.{is_yes, passes_check}
 use Rattle.nf_facts.proofs.Ranges.{none_fails, none_fails-true}
 

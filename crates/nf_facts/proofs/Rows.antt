@@ -1,16 +1,11 @@
 -- The rows of Unicode's data are in canonical order; what passes the quick check of NFKD is its own row in each form.
 use Rattle.std.proofs.Common.{◌≡◌, ℕ, ◌≤◌, ◌<◌, true, [], refl, arith, eqb-true}
+use Rattle.nf_facts.proofs.Common.{KitNfd, KitNfkd, Yes, ccc, quick_check, decompose, ucd}
 use Rattle.ucd_normal.specs.declared.forms.Form.{Form as KitForm}
-use Rattle.ucd_normal.specs.declared.forms.Form.TheVariants.{Nfd as KitNfd, Nfkd as KitNfkd}
-use Rattle.ucd_normal.specs.declared.forms.QuickCheck.TheVariants.{Yes}
-use Rattle.ucd_normal.specs.CanonicalCombiningClass.{canonical_combining_class as ccc}
-use Rattle.ucd_normal.specs.QuickCheck.{quick_check}
-use Rattle.unicode_normalization.specs.Decompose.{decompose}
 use Rattle.unicode_normalization.proofs.DecomposeLemmas.{decompose-final, is_final-canonical, is_final-jamo}
 use Rattle.unicode_normalization.proofs.FormsLemmas.{is_final-Nfkd}
 use Rattle.unicode_normalization.proofs.TableFacts.{class_of_jamo, is_final}
 use Rattle.nf_forms.specs.Ordering.{is_ordered}
-use Rattle.nf_forms.specs.Ucd.{ucd}
 use Rattle.nf_forms.specs.Cluster.{IsOwnRow}
 use Rattle.nf_forms.specs.Laws.Ordering.{is_ordered-starter}
 use Rattle.nf_facts.proofs.Mapped.{IsMapped, by_row}

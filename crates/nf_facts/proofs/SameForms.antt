@@ -1,25 +1,15 @@
 -- The forms over Unicode's data are those of `unicode_normalization`.
 use Rattle.std.proofs.Common.{◌≡◌, ℕ, ◌<◌, ◌≤◌, true, false, List, [], ◌∷◌, ◌++◌, Option, Some, None, refl, sym, ◌∙◌, inl, inr, arith, append-nil, append_assoc, fold}
-use Rattle.std.proofs.lemmas.Bool.{cases_Bool, or_parts}
-use Rattle.std.proofs.lemmas.Bool.Decides.{nat_tests}
-use Rattle.ucd_normal.specs.CanonicalCombiningClass.{canonical_combining_class as ccc}
+use Rattle.nf_facts.proofs.Common.{cases_Bool, or_parts, nat_tests, ccc, decompose, is_starter, has_starter, Form, Nfc, Nfd, Nfkc, Nfkd, normal_form, ucd, kit_form}
 use Rattle.unicode_normalization.specs.Compose.{primary_composite, is_blocked as kit_is_blocked, joined as kit_joined, compose_after, compose as kit_compose}
-use Rattle.unicode_normalization.specs.Decompose.{decompose}
 use Rattle.unicode_normalization.specs.Forms.{decomposed as kit_decomposed, normalize}
 use Rattle.unicode_normalization.specs.Order.{is_reorderable as kit_is_reorderable, is_ordered as kit_is_ordered, sink, canonical_order}
 use Rattle.unicode_normalization.proofs.ComposeLemmas.{is_starter_from, not_starter_from, is_starter-true, is_starter-false, joined-free, compose_after-nil, compose_after-cases, compose-nil, compose-starter, compose-mark}
 use Rattle.unicode_normalization.proofs.DecomposeLemmas.{primary_composite-starter}
 use Rattle.unicode_normalization.proofs.OrderLemmas.{is_reorderable-true, sink-nil, sink-past, sink-stays, canonical_order-nil, canonical_order-cons, is_ordered-canonical_order}
-use Rattle.nf_forms.specs.Properties.{is_starter}
-use Rattle.nf_forms.specs.Runs.{has_starter}
 use Rattle.nf_forms.specs.Order.{order}
 use Rattle.nf_forms.specs.Ordering.{is_ordered, with_class}
 use Rattle.nf_forms.specs.Compose.{starter_only, composite, is_blocked, joined, replaced, compose_step, compose}
-use Rattle.nf_forms.specs.declared.form.Form.{Form}
-use Rattle.nf_forms.specs.declared.form.Form.TheVariants.{Nfc, Nfd, Nfkc, Nfkd}
-use Rattle.nf_forms.specs.Forms.{normal_form}
-use Rattle.nf_forms.specs.Ucd.{ucd}
-use Rattle.nf_facts.specs.KitForm.{kit_form}
 use Rattle.nf_forms.specs.Laws.Front.{marks_push}
 use Rattle.nf_forms.specs.Laws.Ordering.{order-only, ordering}
 use Rattle.nf_forms.specs.Laws.Compose.{compose_step-at, compose_step-none}

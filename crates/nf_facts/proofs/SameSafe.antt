@@ -1,14 +1,9 @@
 -- The Stream-Safe Text Process over Unicode's data is that of `unicode_normalization`.
 use Rattle.std.proofs.Common.{◌≡◌, ℕ, ◌<◌, ◌+◌, true, List, [], ◌∷◌, ◌++◌, length, ap, ◌∙◌, inl, inr, arith, append-nil, append_assoc, fold, if◌then◌else◌}
-use Rattle.std.proofs.lemmas.Bool.{cases_Bool}
-use Rattle.std.proofs.lemmas.Bool.Decides.{nat_tests}
+use Rattle.nf_facts.proofs.Common.{cases_Bool, nat_tests, Properties, has_starter, lead, trail, Nfkd, ucd}
 use Rattle.unicode_normalization.specs.StreamSafe.{leading_nonstarters, trailing_nonstarters, is_too_many, count_after, stream_safe_after, stream_safe as kit_stream_safe}
 use Rattle.unicode_normalization.proofs.StreamSafeLemmas.{count_after-all, count_after-some, stream_safe_after-nil, stream_safe_after-parted, stream_safe_after-together}
-use Rattle.nf_forms.specs.Properties.{Properties}
-use Rattle.nf_forms.specs.Runs.{has_starter, lead, trail}
-use Rattle.nf_forms.specs.declared.form.Form.TheVariants.{Nfkd}
 use Rattle.nf_forms.specs.StreamSafe.{joiner, safe_step, stream_safe}
-use Rattle.nf_forms.specs.Ucd.{ucd}
 use Rattle.nf_forms.specs.Laws.Runs.{lead-marks}
 use Rattle.nf_forms.specs.Laws.Sound.{JoinerIsPlain, JoinerIsPlain-from_sound}
 use Rattle.nf_forms.specs.Laws.StreamSafe.{trail-decomposed-push, trail-decomposed-joiner}

@@ -1,24 +1,17 @@
 -- What Unicode's data has for scalar values are scalar values, so that the form of a text is a text.
 use Rattle.std.proofs.Common.{rules, ◌≡◌, ℕ, true, List, Some, refl, sym, ap, ◌∙◌, inl, inr, arith}
-use Rattle.std.proofs.lemmas.Bool.{and_from, false_from_ne_true}
+use Rattle.nf_facts.proofs.Common.{and_from, false_from_ne_true, list_all, KitNfd, KitNfkd, decompose, Form, normal_form, ucd, kit_form}
 use Rattle.std.proofs.Math.Utf8.{scalar, low_scalar}
-use Rattle.std.specs.List.{list_all}
 use Rattle.std.specs.Str.{all_scalars}
 use Rattle.ucd_normal.specs.declared.forms.Form.{Form as KitForm}
-use Rattle.ucd_normal.specs.declared.forms.Form.TheVariants.{Nfd as KitNfd, Nfkd as KitNfkd}
 use Rattle.ucd_normal.specs.Composition.{IsCompositeOf}
 use Rattle.ucd_normal.proofs.CompositionLemmas.{is_empty}
-use Rattle.unicode_normalization.specs.Decompose.{decompose}
 use Rattle.unicode_normalization.proofs.DecomposeLemmas.{pick-none, primary_composite-some, IsCompositeOf-IsTableComposite}
 use Rattle.unicode_normalization.proofs.KeptLemmas.{list_all-normalize}
-use Rattle.nf_forms.specs.declared.form.Form.{Form}
-use Rattle.nf_forms.specs.Forms.{normal_form}
 use Rattle.nf_forms.specs.StreamSafe.{stream_safe}
 use Rattle.nf_forms.specs.SafeForm.{safe_form}
 use Rattle.nf_forms.specs.Twice.{HasScalarRows, ChangesOnce}
-use Rattle.nf_forms.specs.Ucd.{ucd}
 use Rattle.nf_forms.specs.Laws.Audited.{scalars-all, list_all-stream_safe}
-use Rattle.nf_facts.specs.KitForm.{kit_form}
 use Rattle.nf_facts.proofs.Mapped.{IsMapped, mapped, by_row}
 use Rattle.nf_facts.proofs.FormsAfter.{stream_safe-safe_form, safe_form-twice}
 use Rattle.nf_facts.proofs.SameForms.{normal_form-ucd}

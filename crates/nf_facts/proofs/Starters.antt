@@ -1,24 +1,13 @@
 -- Starters that pass the quick check of a form part a text, but for the two halfwidth marks.
 use Rattle.std.proofs.Common.{◌≡◌, ℕ, true, false, List, [], ◌∷◌, refl, ◌∙◌, arith}
-use Rattle.std.proofs.lemmas.Bool.Decides.{nat_tests}
-use Rattle.ucd_normal.specs.declared.forms.Form.TheVariants.{Nfd as KitNfd, Nfkd as KitNfkd, Nfc as KitNfc, Nfkc as KitNfkc}
-use Rattle.ucd_normal.specs.declared.forms.QuickCheck.TheVariants.{Yes}
-use Rattle.ucd_normal.specs.CanonicalCombiningClass.{canonical_combining_class as ccc}
-use Rattle.ucd_normal.specs.QuickCheck.{quick_check}
-use Rattle.unicode_normalization.specs.Decompose.{decompose}
+use Rattle.nf_facts.proofs.Common.{nat_tests, KitNfd, KitNfkd, KitNfc, KitNfkc, Yes, ccc, quick_check, decompose, lead, Form, Nfc, Nfd, Nfkc, Nfkd, row_of, normal_form, ucd, kit_form}
 use Rattle.unicode_normalization.proofs.ComposedForms.{IsComposed-Nfc, IsComposed-Nfkc, of_starter, never_second}
 use Rattle.unicode_normalization.proofs.DecomposeLemmas.{decompose-final}
 use Rattle.unicode_normalization.proofs.FormsLemmas.{is_final-Nfd, is_final-Nfkd, is_yes-true, normalize-passes}
 use Rattle.unicode_normalization.proofs.OrderLemmas.{is_ordered-one}
 use Rattle.unicode_normalization.proofs.RebuildLemmas.{IsRebuilt}
-use Rattle.nf_forms.specs.Runs.{lead}
-use Rattle.nf_forms.specs.declared.form.Form.{Form}
-use Rattle.nf_forms.specs.declared.form.Form.TheVariants.{Nfc, Nfd, Nfkc, Nfkd}
-use Rattle.nf_forms.specs.Forms.{row_of, normal_form}
-use Rattle.nf_forms.specs.Ucd.{ucd}
 use Rattle.nf_forms.specs.Parting.{NeverSecond, BeginsAnew, IsParting}
 use Rattle.nf_forms.specs.Laws.ClosedForms.{counts_anew-lead}
-use Rattle.nf_facts.specs.KitForm.{kit_form}
 use Rattle.nf_facts.specs.Passing.{is_among, vowel_signs, halfwidth_marks, passes_check}
 use Rattle.nf_facts.proofs.Mapped.{by_row}
 use Rattle.nf_facts.specs.Refused.{no_vowel_sign}

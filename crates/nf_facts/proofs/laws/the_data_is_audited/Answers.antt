@@ -1,12 +1,11 @@
 use Rattle.std.proofs.Common.{◌≡◌, ℕ, true, List, [], ◌∷◌, ap, sym, ◌∙◌}
+use Rattle.nf_facts.proofs.Common.{All, ucd}
 use Rattle.std.proofs.lemmas.List.Sums.{AllPass-from_list_all}
 use Rattle.std.proofs.Math.Utf8.{scalar}
-use Rattle.std.specs.List.{All}
 use Rattle.std.specs.Str.{all_scalars}
 use Rattle.nf_forms.specs.Audit.{IsFullText}
 use Rattle.nf_forms.specs.Laws.Audited.{scalars-all}
 use Rattle.nf_forms.specs.Order.{order}
-use Rattle.nf_forms.specs.Ucd.{ucd}
 use Rattle.nf_facts.proofs.Fullness.{canonical-full, compat-full, compat-joined, canonical-marks}
 use Rattle.nf_facts.proofs.Scalars.{scalar-rows}
 use Rattle.nf_facts.proofs.Soundness.{is_sound-ucd}
