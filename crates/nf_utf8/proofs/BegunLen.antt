@@ -37,39 +37,39 @@ record Counted (bytes : List ℕ) (o : Option ℕ) (k : ℕ) : Type 0 where
 abbrev CountedLen : List ℕ → Option ℕ → Type 0
 CountedLen bytes o = Counted bytes o (unwrap_or o (length bytes))
 
-all_begin : (bytes : List ℕ) → length bytes ≤ 3 → BeginsText bytes → CountedLen bytes None
-all_begin bytes few b = record { begins = begins_for_all bytes b; few = few; broken = λ n e. absurd (cc) }
+all_begin : {bytes : List ℕ} → length bytes ≤ 3 → BeginsText bytes → CountedLen bytes None
+all_begin {bytes} few b = record { begins = begins_for_all bytes b; few = few; broken = λ n e. cc }
 
-some_begin : (bytes : List ℕ) (n : ℕ) → n ≤ 3 → n < length bytes → BeginsText (take n bytes) → ¬ BeginsText (take (suc n) bytes) → CountedLen bytes (Some n)
-some_begin bytes n few short b none = record { begins = begins_until bytes n short b none; few = few; broken = λ _ _. short }
+some_begin : {bytes : List ℕ} {n : ℕ} → n ≤ 3 → n < length bytes → BeginsText (take n bytes) → ¬ BeginsText (take (suc n) bytes) → CountedLen bytes (Some n)
+some_begin {bytes} {n} few short b none = record { begins = begins_until bytes n short b none; few = few; broken = λ _ _. short }
 
 after_three : (a b d : ℕ) (rest : List ℕ) → IsInRange 0xF0 0xF4 a → IsSecond a b → IsContinuation d → StartsWithNoChar (a ∷ b ∷ d ∷ rest)
     → CountedLen (a ∷ b ∷ d ∷ rest) (cond (nat_lt (length (a ∷ b ∷ d ∷ rest)) 4) None (Some 3))
-after_three a b d [] first second third none = all_begin (a ∷ b ∷ d ∷ []) (omega arith) (grind (arith, begins_three))
+after_three a b d [] first second third none = all_begin (omega arith) (grind (arith, begins_three))
 after_three a b d (e ∷ rest) first second third none =
-    rw (le-ltb (length (a ∷ b ∷ d ∷ e ∷ rest)) 4 (omega arith)) (some_begin (a ∷ b ∷ d ∷ e ∷ rest) 3 (omega arith) (omega arith) (grind (arith, begins_three))
+    rw (le-ltb (length (a ∷ b ∷ d ∷ e ∷ rest)) 4 (omega arith)) (some_begin (omega arith) (omega arith) (grind (arith, begins_three))
     (no_fourth a b d e first.0 (λ fourth. no_text (a ∷ b ∷ d ∷ e ∷ []) rest none (IsUtf8-four a b d e first second third fourth) (omega arith))))
 
 after_two : (a b : ℕ) (rest : List ℕ) → IsInRange 0xE0 0xF4 a → IsSecond a b → StartsWithNoChar (a ∷ b ∷ rest) → CountedLen (a ∷ b ∷ rest) (error_len_after_two (a ∷ b ∷ rest))
-after_two a b [] first second none = all_begin (a ∷ b ∷ []) (omega arith) (grind (arith, begins_two))
+after_two a b [] first second none = all_begin (omega arith) (grind (arith, begins_two))
 after_two a b (d ∷ rest) first second none =
     rw (le-ltb (length (a ∷ b ∷ d ∷ rest)) 3 (omega arith)) (cond_both _ _ _ (CountedLen (a ∷ b ∷ d ∷ rest))
     (λ t. let k = in_range 0x80 0xBF d t in
     ⊎_elim (λ below. absurd (no_text (a ∷ b ∷ d ∷ []) rest none (grind (arith, IsUtf8-three)) (omega arith)))
     (λ above. after_three a b d rest (above, first.1) second k none) (order a 0xF0))
-    (λ t. some_begin (a ∷ b ∷ d ∷ rest) 2 (omega arith) (omega arith) (grind (arith, begins_two)) (no_third a b d first.0 (out_of_range 0x80 0xBF d t))))
+    (λ t. some_begin (omega arith) (omega arith) (grind (arith, begins_two)) (no_third a b d first.0 (out_of_range 0x80 0xBF d t))))
 
 after_one : (a : ℕ) (rest : List ℕ) → IsInRange 0xC2 0xF4 a → StartsWithNoChar (a ∷ rest) → CountedLen (a ∷ rest) (error_len_after_one (a ∷ rest))
-after_one a [] first none = all_begin (a ∷ []) (omega arith) (begins_one a first)
+after_one a [] first none = all_begin (omega arith) (begins_one a first)
 after_one a (b ∷ rest) first none =
     rw (le-ltb (length (a ∷ b ∷ rest)) 2 (omega arith)) (cond_both _ _ _ (CountedLen (a ∷ b ∷ rest))
     (λ t. let k = in_range _ _ b t in
     ⊎_elim (λ below. absurd (no_text (a ∷ b ∷ []) rest none (grind (arith, nat_tests, IsUtf8-two)) (omega arith)))
     (λ above. after_two a b rest (above, first.1) k none) (order a 0xE0))
-    (λ t. some_begin (a ∷ b ∷ rest) 1 (omega arith) (omega arith) (begins_one a first) (no_second a b first (out_of_range _ _ b t))))
+    (λ t. some_begin (omega arith) (omega arith) (begins_one a first) (no_second a b first (out_of_range _ _ b t))))
 
 part_len-counted : (bytes : List ℕ) → StartsWithNoChar bytes → Counted bytes (utf8_error_len bytes) (part_len bytes)
-part_len-counted [] none = rw utf8_error_len-nil (all_begin [] (omega arith) (BeginsText-IsUtf8 [] IsUtf8-nil))
+part_len-counted [] none = rw utf8_error_len-nil (all_begin (omega arith) (BeginsText-IsUtf8 [] IsUtf8-nil))
 part_len-counted (a ∷ rest) none =
     rw (utf8_error_len_some (a ∷ rest) (omega arith)) (cond_both _ _ _ (λ k. Counted (a ∷ rest) (error_len_of_some (a ∷ rest)) k)
     (λ t. rw t (after_one a rest (in_range 0xC2 0xF4 a t) none))

@@ -1,5 +1,5 @@
 -- What a piece gives, from what stands at its front, its text, and what stands behind that.
-use Rattle.nf_utf8.proofs.Common.{◌≡◌, ℕ, suc, ◌+◌, ◌^◌, ◌<◌, ◌≤◌, inl, List, [], ◌∷◌, ◌++◌, length, take, drop, Option, Some, None, IfSome, IsUtf8, chars, refl, sym, ap, ◌∙◌, arith, nat_tests, append_assoc, append-nil, length-append, length-take-le, take-append-drop, IsScalar, append_cancel_left, take-append-add, IsUtf8-nil, IsUtf8-append, IsUtf8-encode, chars-nil, chars-append, encodes-chars, End, Begun, BadFront, BeginsText, IsWhole, IsCut, IsBad, text_len, text_of, rest_of, ending_of, StandsAfter, IsPart, IsFront, Completes, CanEnd, EndsBy, first_text, first_bytes, IsFirst, EndsPiece, Takes, end_holding, bytes_behind, Counts}
+use Rattle.nf_utf8.proofs.Common.{◌≡◌, ℕ, suc, ◌+◌, ◌^◌, ◌<◌, ◌≤◌, inl, List, [], ◌∷◌, ◌++◌, length, take, drop, Option, Some, None, IsUtf8, chars, refl, sym, ap, ◌∙◌, arith, nat_tests, append_assoc, append-nil, length-append, length-take-le, take-append-drop, append_cancel_left, take-append-add, IsUtf8-nil, IsUtf8-append, IsUtf8-encode, chars-nil, chars-append, encodes-chars, End, Begun, BadFront, BeginsText, IsWhole, IsCut, IsBad, text_len, text_of, rest_of, ending_of, StandsAfter, IsPart, IsFront, Completes, CanEnd, EndsBy, first_text, first_bytes, IsFirst, EndsPiece, Takes, end_holding, bytes_behind, Counts}
 use Rattle.nf_utf8.specs.declared.chunk.End.TheVariants.{Whole, Cut, Bad}
 use Rattle.nf_utf8.specs.declared.front.Front.{Front}
 use Rattle.nf_utf8.specs.declared.front.Front.TheVariants.{Char}
@@ -28,17 +28,9 @@ ends_piece bytes piece (Bad at back) e = (e.0, e.1, omega (arith, e.2, length-ap
 
 -- ---- a piece in three: the first character, the text, and what is behind it
 
-first_IsUtf8 : (o : Option ℕ) → IfSome o IsScalar → IsUtf8 (first_bytes o)
-first_IsUtf8 None h = IsUtf8-nil
-first_IsUtf8 (Some c) h = IsUtf8-encode c h
-
-first_chars : (o : Option ℕ) → IfSome o IsScalar → chars (first_bytes o) ≡ first_text o
-first_chars None h = chars-nil
-first_chars (Some c) h = chars_of_one c h
-
 -- `part` and `rest` stand behind the text, and the part up to `skipped` of the piece
 pub record Joined (held piece : List ℕ) (first : Option ℕ) (text part rest : List ℕ) (skipped : ℕ) : Type 0 where
-  pub scalar : IfSome first IsScalar
+  pub leads : IsUtf8 (first_bytes first) × (chars (first_bytes first) ≡ first_text first)
   pub utf8 : IsUtf8 text
   pub begun : IsFirst held first text
   pub joins : held ++ piece ≡ first_bytes first ++ text ++ (part ++ rest)
@@ -57,7 +49,7 @@ module _ (held bytes piece : List ℕ) (first : Option ℕ) (text part rest : Li
   front = first_bytes first ++ text
 
   utf8 : IsUtf8 front
-  utf8 = IsUtf8-append (first_bytes first) text (first_IsUtf8 first j.scalar) j.utf8
+  utf8 = IsUtf8-append (first_bytes first) text j.leads.0 j.utf8
 
   taken_rest : rest_of (bytes ++ piece) ≡ part ++ rest
   taken_rest = rw (rest_on held bytes piece s.rest, j.joins, rest_of-behind front (part ++ rest) utf8) (rest_of-none (part ++ rest) none)
@@ -73,8 +65,8 @@ module _ (held bytes piece : List ℕ) (first : Option ℕ) (text part rest : Li
         text_of-behind front (part ++ rest) utf8,
         text_of-none (part ++ rest) none,
         append-nil,
-        chars-append (first_bytes first) text (first_IsUtf8 first j.scalar),
-        first_chars first j.scalar,
+        chars-append (first_bytes first) text j.leads.0,
+        j.leads.1,
       ) (sym (append_assoc (text_of bytes) (first_text first) (chars text)));
     well_formed = j.utf8;
     begun = rw s.rest j.begun;
@@ -123,16 +115,16 @@ counts {part = part} {rest = rest} j (BadFront at back) end left is by =
 
 -- ---- the piece from `from` on, behind the first character
 
-completed : (held piece text : List ℕ) (first : Option ℕ) (from : ℕ) → Completes held piece first from → (held ++ take from piece ≡ first_bytes first) × IsFirst held first text × IfSome first IsScalar
-completed held piece text None from h = (rw (h.0, h.1), inl h.0, tt)
-completed held piece text (Some c) from h = (h.1.2, h.0, h.1.1)
+completed : (held piece text : List ℕ) (first : Option ℕ) (from : ℕ) → Completes held piece first from → (held ++ take from piece ≡ first_bytes first) × IsFirst held first text × IsUtf8 (first_bytes first) × (chars (first_bytes first) ≡ first_text first)
+completed held piece text None from h = (rw (h.0, h.1), inl h.0, IsUtf8-nil, chars-nil)
+completed held piece text (Some c) from h = (h.1.2, h.0, IsUtf8-encode c h.1.1, chars_of_one c h.1.1)
 
 pub joined_from : (held piece : List ℕ) (first : Option ℕ) (from : ℕ) (text behind : List ℕ) → Completes held piece first from → from ≤ length piece → drop from piece ≡ text ++ behind
     → IsUtf8 text → Joined held piece first text [] behind (from + length text)
 joined_from held piece first from text behind h within split u =
     let done = completed held piece text first from h in
     record {
-      scalar = done.2;
+      leads = (done.2, done.3);
       utf8 = u;
       begun = done.1;
       joins = rw (← done.0, append_assoc, append_assoc, ← split, take-append-drop);

@@ -1,5 +1,5 @@
 use Rattle.std.proofs.Common.{rules}
-use Rattle.nf_utf8.proofs.Common.{◌≡◌, List, ℕ, [], None, Some, refl, sym, ◌∙◌, inr, arith, IsUtf8-nil, StandsAfter, Completes, IsFront}
+use Rattle.nf_utf8.proofs.Common.{◌≡◌, List, ℕ, [], None, Some, refl, sym, ◌∙◌, inr, arith, IsUtf8-nil, chars-nil, StandsAfter, Completes, IsFront}
 use Rattle.nf_utf8.proofs.TakingLemmas.{Joined, Taken, taken, counts, takes_same}
 use Rattle.nf_utf8.proofs.decoder.Decoder.take.Goals as goal
 
@@ -42,7 +42,7 @@ returns-in_default c =
     let part : List ℕ = c.args.self.now in
     let piece : List ℕ = c.args.piece.now in
     let front : IsFront part piece c.front.result = rw c.self.view_is at c.front.ensures in
-    let joined : Joined part piece None [] part piece 0 = record { scalar = tt; utf8 = IsUtf8-nil; begun = inr refl; joins = refl; sum = omega arith } in
+    let joined : Joined part piece None [] part piece 0 = record { leads = (IsUtf8-nil, chars-nil); utf8 = IsUtf8-nil; begun = inr refl; joins = refl; sum = omega arith } in
     let all : (bytes : List ℕ) → StandsAfter part bytes → Taken bytes piece None [] c.end.result c.end.new.self =
     λ bytes s. taken s joined c.front.result c.end.result c.end.new.self front c.end.ensures in
     record {
