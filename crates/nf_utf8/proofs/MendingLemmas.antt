@@ -11,8 +11,8 @@ pub no_front : (bytes : List ℕ) → IsReplacedFront bytes [] 0
 no_front bytes = record { parts = []; chars = refl; size = refl; within = omega arith; front = λ more. refl }
 
 -- one front after another
-both_fronts : (bytes x y : List ℕ) (l m : ℕ) → IsReplacedFront bytes x l → IsReplacedFront (drop l bytes) y m → IsReplacedFront bytes (x ++ y) (l + m)
-both_fronts bytes x y l m is next = record {
+both_fronts : {bytes x y : List ℕ} {l m : ℕ} → IsReplacedFront bytes x l → IsReplacedFront (drop l bytes) y m → IsReplacedFront bytes (x ++ y) (l + m)
+both_fronts {bytes} {l = l} is next = record {
   parts = is.parts ++ next.parts;
   chars = rw (map-append, is.chars, next.chars);
   size = omega (arith, bytes_in-append is.parts next.parts, is.size, next.size);
@@ -21,8 +21,8 @@ both_fronts bytes x y l m is next = record {
 }
 
 -- a front of the first bytes is one of all
-longer : (bytes behind x : List ℕ) (len : ℕ) → IsReplacedFront bytes x len → IsReplacedFront (bytes ++ behind) x len
-longer bytes behind x len is = record {
+longer : {bytes x : List ℕ} {len : ℕ} (behind : List ℕ) → IsReplacedFront bytes x len → IsReplacedFront (bytes ++ behind) x len
+longer {bytes} {len = len} behind is = record {
   parts = is.parts;
   chars = is.chars;
   size = is.size;
@@ -63,7 +63,7 @@ stretch_is bytes near n told =
       within = omega (arith, end, length-take near bytes);
       utf8 = rw same at (front_of-IsUtf8 start);
       part = omega (arith, end, told.end);
-      front = rw (take-append-drop, same) at (longer start (drop near bytes) (text_of start ++ replacement ∷ []) (text_len start + n) (broken_front start n told));
+      front = rw (take-append-drop, same) at (longer (drop near bytes) (broken_front start n told));
     }
 
 -- ---- one more stretch
@@ -83,7 +83,7 @@ one_stretch bytes mended len stretch before is few next =
     let front = IsUtf8-append mended text before next.utf8 in
     let all : chars (mended ++ text ++ replacement_bytes) ≡ chars mended ++ (chars text ++ replacement ∷ []) =
     rw (chars-append (mended ++ text) replacement_bytes front, chars-append mended text before, replacement-chars, append_assoc) in
-    let both = both_fronts bytes (chars mended) (chars text ++ replacement ∷ []) len stretch.len is next.front in
+    let both = both_fronts is next.front in
     record {
       text = IsUtf8-append (mended ++ text) replacement_bytes front replacement-utf8;
       replaced = rw all both;

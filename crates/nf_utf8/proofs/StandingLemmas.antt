@@ -38,16 +38,16 @@ stands_alone part h = record { rest = rest_of-none part (text_len-no_char part (
 pub stands_new : StandsAfter [] []
 stands_new = stands_alone [] tt
 
-pub stands_on : (part bytes piece left : List ℕ) → StandsAfter part bytes → StandsAfter left (part ++ piece) → StandsAfter left (bytes ++ piece)
-stands_on part bytes piece left s t = record { rest = rest_on part bytes piece s.rest ∙ t.rest; begins = begins_on part bytes piece s.rest t.begins }
+pub stands_on : {part bytes left : List ℕ} (piece : List ℕ) → StandsAfter part bytes → StandsAfter left (part ++ piece) → StandsAfter left (bytes ++ piece)
+stands_on piece s t = record { rest = rest_on _ _ piece s.rest ∙ t.rest; begins = begins_on _ _ piece s.rest t.begins }
 
-pub held_len : (part bytes : List ℕ) → StandsAfter part bytes → text_len bytes + length part ≡ length bytes
+pub held_len : {part bytes : List ℕ} → StandsAfter part bytes → text_len bytes + length part ≡ length bytes
 unfolding rest_of
-held_len part bytes s = omega (arith, (text_len-longest bytes).within, length-drop (text_len bytes) bytes, ap length s.rest)
+held_len {bytes = bytes} s = omega (arith, (text_len-longest bytes).within, length-drop (text_len bytes) bytes, ap length s.rest)
 
-pub ending_of-standing : (part bytes : List ℕ) → StandsAfter part bytes → ending_of bytes ≡ ending_at (length bytes) (length part)
+pub ending_of-standing : {part bytes : List ℕ} → StandsAfter part bytes → ending_of bytes ≡ ending_at (length bytes) (length part)
 unfolding ending_of
-ending_of-standing part bytes s = grind (arith, nat_tests, held_len part bytes s, begun_all bytes s.begins)
+ending_of-standing {bytes = bytes} s = grind (arith, nat_tests, held_len s, begun_all bytes s.begins)
 
 -- ---- a byte that breaks off a character
 
@@ -69,12 +69,12 @@ broken_by part byte h none =
 
 -- ---- one byte more
 
-module _ (part bytes : List ℕ) (byte : ℕ) (s : StandsAfter part bytes) where
+module _ {part bytes : List ℕ} (byte : ℕ) (s : StandsAfter part bytes) where
   pub tells-stands : IsPart part → (step : Step) → Tells part byte step → StandsAfter (part_after part byte step) (bytes_after bytes byte step)
-  tells-stands h More p = stands_on part bytes (byte ∷ []) _ s (stands_alone _ p)
+  tells-stands h More p = stands_on (byte ∷ []) s (stands_alone _ p)
   tells-stands h (Char c) p =
       let u : IsUtf8 (part ++ byte ∷ []) = rw p.1 (IsUtf8-encode c p.0) in
-      stands_on part bytes (byte ∷ []) [] s (record { rest = rest_of-whole _ u; begins = BeginsText-IsUtf8 _ u })
+      stands_on (byte ∷ []) s (record { rest = rest_of-whole _ u; begins = BeginsText-IsUtf8 _ u })
   tells-stands h (BadByte back) p = stands_new
 
   text_more : text_of (bytes ++ byte ∷ []) ≡ text_of bytes ++ text_of (part ++ byte ∷ [])
@@ -84,17 +84,17 @@ module _ (part bytes : List ℕ) (byte : ℕ) (s : StandsAfter part bytes) where
   tells-answers h More p =
       let q : List ℕ = part ++ byte ∷ [] in (
         rw (text_more, text_of-none q (text_len-no_char q (part_no_char q p))) (append-nil (text_of bytes)),
-        grind (arith, nat_tests, ending_of-standing q _ (tells-stands h More p), held_len part bytes s, length_push bytes byte, length_push part byte),
+        grind (arith, nat_tests, ending_of-standing (tells-stands h More p), held_len s, length_push bytes byte, length_push part byte),
       )
   tells-answers h (Char c) p = (
     rw (text_more, p.1, text_of-whole (encode_utf8 c) (IsUtf8-encode c p.0)) (ap (λ l. text_of bytes ++ l) (chars_of_one c p.0)),
-    ending_of-standing [] _ (tells-stands h (Char c) p),
+    ending_of-standing (tells-stands h (Char c) p),
   )
   tells-answers h (BadByte back) p =
       let b = broken_by part byte h p.1 in (
         rw (text_more, text_of-none (part ++ byte ∷ []) b.0) (append-nil (text_of bytes)),
-        grind (arith, ending_on part bytes (byte ∷ []) s.rest, b.1, held_len part bytes s),
-        omega (arith, held_len part bytes s, p.0),
+        grind (arith, ending_on part bytes (byte ∷ []) s.rest, b.1, held_len s),
+        omega (arith, held_len s, p.0),
       )
 
 -- a byte of ASCII where no character is begun

@@ -18,8 +18,8 @@ EndsAll from all Cut = ending_of all ≡ IsCut (length all) (text_len all)
 EndsAll from all (Bad at back) = (ending_of all ≡ IsBad (length from + at) (text_len all)) × (text_len all + back ≡ length from + at) × (length from + at < length all)
 
 pub ends_holding : (from bytes held : List ℕ) → StandsAfter held bytes → EndsAll from bytes (end_holding held)
-ends_holding from bytes [] s = ending_of-standing [] bytes s
-ends_holding from bytes (a ∷ held) s = grind (arith, nat_tests, ending_of-standing (a ∷ held) bytes s, held_len (a ∷ held) bytes s)
+ends_holding from bytes [] s = ending_of-standing s
+ends_holding from bytes (a ∷ held) s = grind (arith, nat_tests, ending_of-standing s, held_len s)
 
 pub ends_piece : (bytes piece : List ℕ) (end : End) → EndsAll bytes (bytes ++ piece) end → EndsPiece bytes piece end
 ends_piece bytes piece Whole e = e
@@ -43,75 +43,73 @@ behind_holding : (bytes piece held : List ℕ) → bytes_behind bytes piece (end
 behind_holding bytes piece [] = refl
 behind_holding bytes piece (a ∷ held) = refl
 
-module _ (held bytes piece : List ℕ) (first : Option ℕ) (text part rest : List ℕ) (skipped : ℕ) (s : StandsAfter held bytes) (j : Joined held piece first text part rest skipped)
-    (none : text_len (part ++ rest) ≡ 0) where
-  abbrev front : List ℕ
-  front = first_bytes first ++ text
-
-  utf8 : IsUtf8 front
-  utf8 = IsUtf8-append (first_bytes first) text j.leads.0 j.utf8
-
-  taken_rest : rest_of (bytes ++ piece) ≡ part ++ rest
-  taken_rest = rw (rest_on held bytes piece s.rest, j.joins, rest_of-behind front (part ++ rest) utf8) (rest_of-none (part ++ rest) none)
-
-  taken_len : text_len (bytes ++ piece) ≡ text_len bytes + length (first_bytes first) + length text
-  taken_len = rw (len_on held bytes piece s.rest, j.joins, text_len-behind front (part ++ rest) utf8) (omega (arith, none, length-append (first_bytes first) text))
-
-  takes : (end : End) → EndsPiece bytes piece end → Takes bytes piece first text end
-  takes end e = record {
-    spelled = rw (
-        text_on held bytes piece s.rest,
-        j.joins,
-        text_of-behind front (part ++ rest) utf8,
-        text_of-none (part ++ rest) none,
-        append-nil,
-        chars-append (first_bytes first) text j.leads.0,
-        j.leads.1,
-      ) (sym (append_assoc (text_of bytes) (first_text first) (chars text)));
-    well_formed = j.utf8;
-    begun = rw s.rest j.begun;
-    ends = e;
-    placed = rw (s.rest, taken_rest) j.joins;
-    len = taken_len;
-  }
-
-  taken_part : IsPart (part ++ rest) → Taken bytes piece first text (end_holding (part ++ rest)) (part ++ rest)
-  taken_part p =
-      let all : BeginsText (held ++ piece) = rw j.joins (BeginsText-append front (part ++ rest) utf8 (BeginsText-part (part ++ rest) p)) in
-      let stands : StandsAfter (part ++ rest) (bytes ++ piece) = record { rest = taken_rest; begins = begins_on held bytes piece s.rest all } in
-      (takes _ (ends_piece bytes piece _ (ends_holding bytes (bytes ++ piece) (part ++ rest) stands)), rw (behind_holding bytes piece (part ++ rest)) stands)
-
-  taken_bad : (at : ℕ) → at < length rest → ending_of (part ++ rest) ≡ IsBad (length part + at) 0 → Taken bytes piece first text (Bad (skipped + at) (length part + at)) []
-  taken_bad at inside bad =
-      let ending = rw (j.joins, ending_of-behind front (part ++ rest) utf8, bad) at (ending_on held bytes piece s.rest) in
-      let sizes = simp length-append at (ap length j.joins) in
-      (takes _ (grind (arith, ending, taken_len, held_len held bytes s, j.sum, length-append (first_bytes first) text), omega (arith, taken_len, held_len held bytes s, j.sum), omega (arith, j.sum)), stands_new)
-
-pub taken : {held bytes piece : List ℕ} {first : Option ℕ} {text part rest : List ℕ} {skipped : ℕ} → StandsAfter held bytes → Joined held piece first text part rest skipped
-    → (front : Front) (end : End) (left : List ℕ) → IsFront part rest front → EndsBy front skipped end left → Taken bytes piece first text end left
-taken s j (Char c len) end left is by = absurd by
-taken {part = part} {rest = rest} s j (Begun carry) end left is by =
-    rw (by.0, by.1, is.1) (taken_part _ _ _ _ _ part rest _ s j (text_len-no_char (part ++ rest) (part_no_char (part ++ rest) is.0)) is.0)
-taken {part = part} {rest = rest} s j (BadFront at back) end left is by =
-    let next : suc (length part + at) ≡ length part + (at + 1) = omega arith in
-    let bad = broken_at (part ++ rest) (length part + at) (omega (arith, is.0, length-append part rest)) (rw take-append-add is.1) (λ b. is.2 (rw (next, take-append-add) at b)) in
-    rw (by.0, by.1, is.3) (taken_bad _ _ _ _ _ part rest _ s j bad.0 at is.0 bad.1)
-
--- ---- how many bytes there are of each
-
 part_size : (part : List ℕ) → IsPart part → length part ≤ 3
 part_size (a ∷ b ∷ c ∷ d ∷ rest) h = absurd h
 part_size _ h = omega arith
 
-pub counts : {held piece : List ℕ} {first : Option ℕ} {text part rest : List ℕ} {skipped : ℕ} → Joined held piece first text part rest skipped
-    → (front : Front) (end : End) (left : List ℕ) → IsFront part rest front → EndsBy front skipped end left → Counts held piece first text end left
-counts j (Char c len) end left is by = absurd by
-counts j (Begun carry) end [] is by = let sizes = simp length-append at (ap length (rw (← is.1, ← by.1) at j.joins)) in rw (by.0, ← by.1) (omega arith, refl)
-counts j (Begun carry) end (a ∷ left) is by = let sizes = simp length-append at (ap length (rw (← is.1, ← by.1) at j.joins)) in rw (by.0, ← by.1) (omega arith, omega arith)
-counts {part = part} {rest = rest} j (BadFront at back) end left is by =
-    let sizes = simp length-append at (ap length j.joins) in
-    let front = length-append part (take at rest) in
-    rw by.0 (omega (arith, j.sum, is.3), omega (arith, j.sum, is.0), omega (arith, is.3, length-take-le at rest (omega (arith, is.0)), part_size (part ++ take at rest) is.1), by.1)
+module _ {held piece : List ℕ} {first : Option ℕ} {text part rest : List ℕ} {skipped : ℕ} (j : Joined held piece first text part rest skipped) where
+  abbrev lead : List ℕ
+  lead = first_bytes first ++ text
+
+  utf8 : IsUtf8 lead
+  utf8 = IsUtf8-append (first_bytes first) text j.leads.0 j.utf8
+
+  module _ {bytes : List ℕ} (s : StandsAfter held bytes) where
+    module _ (none : text_len (part ++ rest) ≡ 0) where
+      taken_rest : rest_of (bytes ++ piece) ≡ part ++ rest
+      taken_rest = rw (rest_on held bytes piece s.rest, j.joins, rest_of-behind lead (part ++ rest) utf8) (rest_of-none (part ++ rest) none)
+
+      taken_len : text_len (bytes ++ piece) ≡ text_len bytes + length (first_bytes first) + length text
+      taken_len = rw (len_on held bytes piece s.rest, j.joins, text_len-behind lead (part ++ rest) utf8) (omega (arith, none, length-append (first_bytes first) text))
+
+      takes : (end : End) → EndsPiece bytes piece end → Takes bytes piece first text end
+      takes end e = record {
+        spelled = rw (
+            text_on held bytes piece s.rest,
+            j.joins,
+            text_of-behind lead (part ++ rest) utf8,
+            text_of-none (part ++ rest) none,
+            append-nil,
+            chars-append (first_bytes first) text j.leads.0,
+            j.leads.1,
+          ) (sym (append_assoc (text_of bytes) (first_text first) (chars text)));
+        well_formed = j.utf8;
+        begun = rw s.rest j.begun;
+        ends = e;
+        placed = rw (s.rest, taken_rest) j.joins;
+        len = taken_len;
+      }
+
+      taken_part : IsPart (part ++ rest) → Taken bytes piece first text (end_holding (part ++ rest)) (part ++ rest)
+      taken_part p =
+          let all : BeginsText (held ++ piece) = rw j.joins (BeginsText-append lead (part ++ rest) utf8 (BeginsText-part (part ++ rest) p)) in
+          let stands : StandsAfter (part ++ rest) (bytes ++ piece) = record { rest = taken_rest; begins = begins_on held bytes piece s.rest all } in
+          (takes _ (ends_piece bytes piece _ (ends_holding bytes (bytes ++ piece) (part ++ rest) stands)), rw (behind_holding bytes piece (part ++ rest)) stands)
+
+      taken_bad : (at : ℕ) → at < length rest → ending_of (part ++ rest) ≡ IsBad (length part + at) 0 → Taken bytes piece first text (Bad (skipped + at) (length part + at)) []
+      taken_bad at inside bad =
+          let ending = rw (j.joins, ending_of-behind lead (part ++ rest) utf8, bad) at (ending_on held bytes piece s.rest) in
+          let sizes = simp length-append at (ap length j.joins) in
+          (takes _ (grind (arith, ending, taken_len, held_len s, j.sum, length-append (first_bytes first) text), omega (arith, taken_len, held_len s, j.sum), omega (arith, j.sum)), stands_new)
+
+    pub taken : (front : Front) (end : End) (left : List ℕ) → IsFront part rest front → EndsBy front skipped end left → Taken bytes piece first text end left
+    taken (Char c len) end left is by = absurd by
+    taken (Begun carry) end left is by = rw (by.0, by.1, is.1) (taken_part (text_len-no_char (part ++ rest) (part_no_char (part ++ rest) is.0)) is.0)
+    taken (BadFront at back) end left is by =
+        let next : suc (length part + at) ≡ length part + (at + 1) = omega arith in
+        let bad = broken_at (part ++ rest) (length part + at) (omega (arith, is.0, length-append part rest)) (rw take-append-add is.1) (λ b. is.2 (rw (next, take-append-add) at b)) in
+        rw (by.0, by.1, is.3) (taken_bad bad.0 at is.0 bad.1)
+
+  -- ---- how many bytes there are of each
+
+  pub counts : (front : Front) (end : End) (left : List ℕ) → IsFront part rest front → EndsBy front skipped end left → Counts held piece first text end left
+  counts (Char c len) end left is by = absurd by
+  counts (Begun carry) end [] is by = let sizes = simp length-append at (ap length (rw (← is.1, ← by.1) at j.joins)) in rw (by.0, ← by.1) (omega arith, refl)
+  counts (Begun carry) end (a ∷ left) is by = let sizes = simp length-append at (ap length (rw (← is.1, ← by.1) at j.joins)) in rw (by.0, ← by.1) (omega arith, omega arith)
+  counts (BadFront at back) end left is by =
+      let sizes = simp length-append at (ap length j.joins) in
+      let front = length-append part (take at rest) in
+      rw by.0 (omega (arith, j.sum, is.3), omega (arith, j.sum, is.0), omega (arith, is.3, length-take-le at rest (omega (arith, is.0)), part_size (part ++ take at rest) is.1), by.1)
 
 -- ---- the piece from `from` on, behind the first character
 
@@ -155,8 +153,8 @@ module _ (bytes piece : List ℕ) where
   same_end Cut Cut p q = refl
   same_end _ _ p q = grind arith
 
-  pub takes_same : (f g : Option ℕ) (x y : List ℕ) (a b : End) → Takes bytes piece f x a → Takes bytes piece g y b → (f ≡ g) × (x ≡ y) × (a ≡ b)
-  takes_same f g x y a b p q =
-      let spelled = append_cancel_left (text_of bytes) _ _ (rw append_assoc at (sym p.spelled) ∙ rw append_assoc at q.spelled) in
-      let front = same_front f g x y p.begun q.begun p.well_formed q.well_formed spelled in
-      (front.0, front.1, same_end a b p.ends q.ends)
+pub takes_same : {bytes piece : List ℕ} {f g : Option ℕ} {x y : List ℕ} {a b : End} → Takes bytes piece f x a → Takes bytes piece g y b → (f ≡ g) × (x ≡ y) × (a ≡ b)
+takes_same {bytes} {piece} {a = a} {b = b} p q =
+    let spelled = append_cancel_left (text_of bytes) _ _ (rw append_assoc at (sym p.spelled) ∙ rw append_assoc at q.spelled) in
+    let front = same_front bytes piece _ _ _ _ p.begun q.begun p.well_formed q.well_formed spelled in
+    (front.0, front.1, same_end bytes piece a b p.ends q.ends)

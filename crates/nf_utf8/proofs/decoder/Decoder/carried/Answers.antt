@@ -7,10 +7,10 @@ counted : (c : goal.After-len) → c.len.result ≡ length c.args.self.now
 counted c = c.len.ensures.count ∙ ap length c.self.view_is
 
 pub returns-clause-behind : goal.returns-clause-behind
-returns-clause-behind c bytes s = omega (arith, counted c, length-encodes-text_of bytes, held_len c.args.self.now bytes s)
+returns-clause-behind c bytes s = omega (arith, counted c, length-encodes-text_of bytes, held_len s)
 
 pub returns-clause-ending : goal.returns-clause-ending
-returns-clause-ending c bytes s = rw (counted c) (ending_of-standing c.args.self.now bytes s)
+returns-clause-ending c bytes s = rw (counted c) (ending_of-standing s)
 
 pub returns-clause-alone : goal.returns-clause-alone
 returns-clause-alone c = rw c.self.view_is at (stands_alone _ c.self.invariant)

@@ -10,10 +10,10 @@ told : (c : goal.After-from) → Tells [] c.args.byte (Char c.from.result)
 told c = ascii_tells c.args.byte c.from.result c.if-byte-lt128.true c.from.ensures
 
 pub returns-then-byte-lt128-clause-answer : goal.returns-then-byte-lt128-clause-answer
-returns-then-byte-lt128-clause-answer c bytes s = tells-answers [] bytes c.args.byte (rw (nothing c) at s) tt (Char c.from.result) (told c)
+returns-then-byte-lt128-clause-answer c bytes s = tells-answers c.args.byte (rw (nothing c) at s) tt (Char c.from.result) (told c)
 
 pub returns-then-byte-lt128-clause-only : goal.returns-then-byte-lt128-clause-only
 returns-then-byte-lt128-clause-only c bytes step s a = answers_same bytes c.args.byte step (Char c.from.result) a (returns-then-byte-lt128-clause-answer c bytes s)
 
 pub returns-then-byte-lt128-clause-stands : goal.returns-then-byte-lt128-clause-stands
-returns-then-byte-lt128-clause-stands c bytes s = rw (nothing c) (tells-stands [] bytes c.args.byte (rw (nothing c) at s) tt (Char c.from.result) (told c))
+returns-then-byte-lt128-clause-stands c bytes s = rw (nothing c) (tells-stands c.args.byte (rw (nothing c) at s) tt (Char c.from.result) (told c))

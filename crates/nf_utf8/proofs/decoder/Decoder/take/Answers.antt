@@ -12,7 +12,7 @@ returns-then-is_empty c =
     let taken = c.take_text.ensures in
     record {
       takes = λ bytes s. taken.takes part bytes (nothing c) s;
-      only = λ bytes first text end s t. takes_same bytes c.args.piece.now first _ text _ end _ t (taken.takes part bytes (nothing c) s);
+      only = λ bytes first text end s t. takes_same t (taken.takes part bytes (nothing c) s);
       stands = λ bytes s. taken.stands part bytes (nothing c) s;
       inside = search rules;
       text = search rules;
@@ -30,7 +30,7 @@ returns-in-Char c =
     let taken = c.take_text-in-Char.ensures in
     record {
       takes = λ bytes s. taken.takes part bytes (begun c) s;
-      only = λ bytes first text end s t. takes_same bytes c.args.piece.now first _ text _ end _ t (taken.takes part bytes (begun c) s);
+      only = λ bytes first text end s t. takes_same t (taken.takes part bytes (begun c) s);
       stands = λ bytes s. taken.stands part bytes (begun c) s;
       inside = search rules;
       text = search rules;
@@ -44,10 +44,10 @@ returns-in_default c =
     let front : IsFront part piece c.front.result = rw c.self.view_is at c.front.ensures in
     let joined : Joined part piece None [] part piece 0 = record { leads = (IsUtf8-nil, chars-nil); utf8 = IsUtf8-nil; begun = inr refl; joins = refl; sum = omega arith } in
     let all : (bytes : List ℕ) → StandsAfter part bytes → Taken bytes piece None [] c.end.result c.end.new.self =
-    λ bytes s. taken s joined c.front.result c.end.result c.end.new.self front c.end.ensures in
+    λ bytes s. taken joined s c.front.result c.end.result c.end.new.self front c.end.ensures in
     record {
       takes = λ bytes s. (all bytes s).0;
-      only = λ bytes first text end s t. takes_same bytes piece first None text [] end c.end.result t (all bytes s).0;
+      only = λ bytes first text end s t. takes_same t (all bytes s).0;
       stands = λ bytes s. (all bytes s).1;
       inside = omega arith;
       text = refl;

@@ -23,10 +23,10 @@ joined c held h =
     (rw text.ensures (rw take_rest at c.split_at.ensures.by_index.0)) text.utf8
 
 pub returns-clause-takes : goal.returns-clause-takes
-returns-clause-takes c held bytes h s = (taken s (joined c held h) c.front.result c.end.result c.end.new.self c.front.ensures c.end.ensures).0
+returns-clause-takes c held bytes h s = (taken (joined c held h) s c.front.result c.end.result c.end.new.self c.front.ensures c.end.ensures).0
 
 pub returns-clause-stands : goal.returns-clause-stands
-returns-clause-stands c held bytes h s = (taken s (joined c held h) c.front.result c.end.result c.end.new.self c.front.ensures c.end.ensures).1
+returns-clause-stands c held bytes h s = (taken (joined c held h) s c.front.result c.end.result c.end.new.self c.front.ensures c.end.ensures).1
 
 pub returns-clause-counts : goal.returns-clause-counts
 returns-clause-counts c held h = counts (joined c held h) c.front.result c.end.result c.end.new.self c.front.ensures c.end.ensures
