@@ -90,7 +90,7 @@ begun_len-longest bytes =
     let front : List ℕ = take (text_len bytes) bytes in
     let rest : List ℕ = drop (text_len bytes) bytes in
     let u = (text_len-longest bytes).holds in
-    rw (take-append-drop, length-front) at (longest_behind BeginsText front rest (part_len rest) (λ zs. BeginsText-append front zs u) (λ zs. BeginsText-behind front zs u) (part_counted bytes).begins)
+    rw (take-append-drop, length-front) at (longest_behind front (λ zs. BeginsText-append front zs u) (λ zs. BeginsText-behind front zs u) (part_counted bytes).begins)
 
 -- no more than three bytes behind the text begin a character
 pub begun_few : (bytes : List ℕ) → begun_len bytes ≤ text_len bytes + 3
@@ -100,14 +100,14 @@ begun_few bytes = omega (arith, (part_counted bytes).few)
 pub told_broken : (bytes : List ℕ) (n : ℕ) → utf8_error_len (drop (text_len bytes) bytes) ≡ Some n → begun_len bytes < length bytes
 told_broken bytes n told = omega (arith, (part_counted bytes).broken n told, length-drop (text_len bytes) bytes)
 
-pub begun_len-is : (bytes : List ℕ) (n : ℕ) → BeginsFor bytes n → begun_len bytes ≡ n
-begun_len-is bytes n h = longest_same BeginsText bytes _ _ (begun_len-longest bytes) h
+pub begun_len-is : {bytes : List ℕ} {n : ℕ} → BeginsFor bytes n → begun_len bytes ≡ n
+begun_len-is {bytes} h = longest_same (begun_len-longest bytes) h
 
 pub begun_all : (bytes : List ℕ) → BeginsText bytes → begun_len bytes ≡ length bytes
-begun_all bytes b = begun_len-is bytes (length bytes) (begins_for_all bytes b)
+begun_all bytes b = begun_len-is (begins_for_all bytes b)
 
 pub begins_all : (bytes : List ℕ) → begun_len bytes ≡ length bytes → BeginsText bytes
 begins_all bytes e = rw (take_all (begun_len bytes) bytes (omega arith)) at (begun_len-longest bytes).holds
 
 pub begun_len-behind : (xs ys : List ℕ) → IsUtf8 xs → begun_len (xs ++ ys) ≡ length xs + begun_len ys
-begun_len-behind xs ys u = begun_len-is (xs ++ ys) _ (longest_behind BeginsText xs ys (begun_len ys) (λ zs. BeginsText-append xs zs u) (λ zs. BeginsText-behind xs zs u) (begun_len-longest ys))
+begun_len-behind xs ys u = begun_len-is (longest_behind xs (λ zs. BeginsText-append xs zs u) (λ zs. BeginsText-behind xs zs u) (begun_len-longest ys))

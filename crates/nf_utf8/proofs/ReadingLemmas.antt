@@ -49,7 +49,7 @@ text_of-split bytes = rw (encodes-text_of bytes) (sym (take-append-drop (text_le
 
 -- ---- behind bytes that were read before, where `part` is what stood behind their text
 
-module _ (part bytes piece : List ℕ) (r : rest_of bytes ≡ part) where
+module _ {part : List ℕ} (bytes piece : List ℕ) (r : rest_of bytes ≡ part) where
   joined : front_of bytes ++ (part ++ piece) ≡ bytes ++ piece
   unfolding rest_of
   joined = sym (append_assoc (front_of bytes) part piece) ∙ ap (λ l. l ++ piece) (rw r at (take-append-drop (text_len bytes) bytes))
@@ -77,13 +77,13 @@ module _ (bytes : List ℕ) (begun : begun_len bytes < length bytes) (piece : Li
   begun_same =
       let g : ℕ = begun_len bytes in
       let h = begun_len-longest bytes in
-      begun_len-is (bytes ++ piece) g (begins_until (bytes ++ piece) g (omega (arith, begun, length-append bytes piece)) (rw (take-append-le g bytes piece (omega arith)) h.holds)
+      begun_len-is (begins_until (bytes ++ piece) g (omega (arith, begun, length-append bytes piece)) (rw (take-append-le g bytes piece (omega arith)) h.holds)
       (λ b. let k = h.longest (suc g) begun (rw (take-append-le (suc g) bytes piece begun) at b) in omega arith))
 
   pub text_same : text_len (bytes ++ piece) ≡ text_len bytes
   text_same =
       let h = text_len-longest bytes in
-      text_len-is (bytes ++ piece) (text_len bytes) (record {
+      text_len-is (record {
         within = omega (arith, h.within, length-append bytes piece);
         holds = rw (take-append-le (text_len bytes) bytes piece h.within) h.holds;
         longest = λ m le u.

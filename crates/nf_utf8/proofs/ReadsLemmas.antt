@@ -43,7 +43,7 @@ only_ending bytes Whole e = sym (ending_of-full bytes (sym (rw (length-encodes-t
 only_ending bytes (Cut at start) e =
     rw (e.0.end, e.1, length-encodes-text_of bytes) (sym (ending_of-begun bytes (omega (arith, length-encodes-text_of bytes, e.0.more, e.0.end)) (begun_all bytes e.0.begins)))
 only_ending bytes (Bad at start) e =
-    let begun : begun_len bytes ≡ at = begun_len-is bytes at (begins_until bytes at e.0.inside e.0.before (λ h. e.0.here (rw add-one h))) in
+    let begun : begun_len bytes ≡ at = begun_len-is (begins_until bytes at e.0.inside e.0.before (λ h. e.0.here (rw add-one h))) in
     rw (e.1, length-encodes-text_of bytes, ← begun) (sym (ending_of-broken bytes (omega (arith, begun, e.0.inside))))
 
 pub reads_only : (bytes text : List ℕ) (ending : Ending) → Reads bytes text ending → (text ≡ text_of bytes) × (ending ≡ ending_of bytes)

@@ -39,7 +39,7 @@ pub stands_new : StandsAfter [] []
 stands_new = stands_alone [] tt
 
 pub stands_on : {part bytes left : List ℕ} (piece : List ℕ) → StandsAfter part bytes → StandsAfter left (part ++ piece) → StandsAfter left (bytes ++ piece)
-stands_on piece s t = record { rest = rest_on _ _ piece s.rest ∙ t.rest; begins = begins_on _ _ piece s.rest t.begins }
+stands_on piece s t = record { rest = rest_on _ piece s.rest ∙ t.rest; begins = begins_on _ piece s.rest t.begins }
 
 pub held_len : {part bytes : List ℕ} → StandsAfter part bytes → text_len bytes + length part ≡ length bytes
 unfolding rest_of
@@ -55,7 +55,7 @@ ending_of-standing {bytes = bytes} s = grind (arith, nat_tests, held_len s, begu
 pub broken_at : (bytes : List ℕ) (n : ℕ) → n < length bytes → IsPart (take n bytes) → ¬ BeginsText (take (suc n) bytes) → (text_len bytes ≡ 0) × (ending_of bytes ≡ Bad n 0)
 broken_at bytes n short part none =
     let front : List ℕ = take n bytes in
-    let begun : begun_len bytes ≡ n = begun_len-is bytes n (begins_until bytes n short (BeginsText-part front part) none) in
+    let begun : begun_len bytes ≡ n = begun_len-is (begins_until bytes n short (BeginsText-part front part) none) in
     let u : IsUtf8 (take (text_len bytes) front) = rw (take-take (text_len bytes) n bytes (omega (arith, begun))) (text_len-longest bytes).holds in
     let least = (text_len-longest front).longest (text_len bytes) (omega (arith, begun, length-take-le n bytes (omega arith))) u in
     let text : text_len bytes ≡ 0 = omega (arith, least, text_len-no_char front (part_no_char front part)) in
@@ -78,7 +78,7 @@ module _ {part bytes : List ℕ} (byte : ℕ) (s : StandsAfter part bytes) where
   tells-stands h (BadByte back) p = stands_new
 
   text_more : text_of (bytes ++ byte ∷ []) ≡ text_of bytes ++ text_of (part ++ byte ∷ [])
-  text_more = text_on part bytes (byte ∷ []) s.rest
+  text_more = text_on bytes (byte ∷ []) s.rest
 
   pub tells-answers : IsPart part → (step : Step) → Tells part byte step → Answers bytes byte step
   tells-answers h More p =
@@ -93,7 +93,7 @@ module _ {part bytes : List ℕ} (byte : ℕ) (s : StandsAfter part bytes) where
   tells-answers h (BadByte back) p =
       let b = broken_by part byte h p.1 in (
         rw (text_more, text_of-none (part ++ byte ∷ []) b.0) (append-nil (text_of bytes)),
-        grind (arith, ending_on part bytes (byte ∷ []) s.rest, b.1, held_len s),
+        grind (arith, ending_on bytes (byte ∷ []) s.rest, b.1, held_len s),
         omega (arith, held_len s, p.0),
       )
 

@@ -57,15 +57,15 @@ module _ {held piece : List ℕ} {first : Option ℕ} {text part rest : List ℕ
   module _ {bytes : List ℕ} (s : StandsAfter held bytes) where
     module _ (none : text_len (part ++ rest) ≡ 0) where
       taken_rest : rest_of (bytes ++ piece) ≡ part ++ rest
-      taken_rest = rw (rest_on held bytes piece s.rest, j.joins, rest_of-behind lead (part ++ rest) utf8) (rest_of-none (part ++ rest) none)
+      taken_rest = rw (rest_on bytes piece s.rest, j.joins, rest_of-behind lead (part ++ rest) utf8) (rest_of-none (part ++ rest) none)
 
       taken_len : text_len (bytes ++ piece) ≡ text_len bytes + length (first_bytes first) + length text
-      taken_len = rw (len_on held bytes piece s.rest, j.joins, text_len-behind lead (part ++ rest) utf8) (omega (arith, none, length-append (first_bytes first) text))
+      taken_len = rw (len_on bytes piece s.rest, j.joins, text_len-behind lead (part ++ rest) utf8) (omega (arith, none, length-append (first_bytes first) text))
 
       takes : (end : End) → EndsPiece bytes piece end → Takes bytes piece first text end
       takes end e = record {
         spelled = rw (
-            text_on held bytes piece s.rest,
+            text_on bytes piece s.rest,
             j.joins,
             text_of-behind lead (part ++ rest) utf8,
             text_of-none (part ++ rest) none,
@@ -83,12 +83,12 @@ module _ {held piece : List ℕ} {first : Option ℕ} {text part rest : List ℕ
       taken_part : IsPart (part ++ rest) → Taken bytes piece first text (end_holding (part ++ rest)) (part ++ rest)
       taken_part p =
           let all : BeginsText (held ++ piece) = rw j.joins (BeginsText-append lead (part ++ rest) utf8 (BeginsText-part (part ++ rest) p)) in
-          let stands : StandsAfter (part ++ rest) (bytes ++ piece) = record { rest = taken_rest; begins = begins_on held bytes piece s.rest all } in
+          let stands : StandsAfter (part ++ rest) (bytes ++ piece) = record { rest = taken_rest; begins = begins_on bytes piece s.rest all } in
           (takes _ (ends_piece bytes piece _ (ends_holding bytes (bytes ++ piece) (part ++ rest) stands)), rw (behind_holding bytes piece (part ++ rest)) stands)
 
       taken_bad : (at : ℕ) → at < length rest → ending_of (part ++ rest) ≡ IsBad (length part + at) 0 → Taken bytes piece first text (Bad (skipped + at) (length part + at)) []
       taken_bad at inside bad =
-          let ending = rw (j.joins, ending_of-behind lead (part ++ rest) utf8, bad) at (ending_on held bytes piece s.rest) in
+          let ending = rw (j.joins, ending_of-behind lead (part ++ rest) utf8, bad) at (ending_on bytes piece s.rest) in
           let sizes = simp length-append at (ap length j.joins) in
           (takes _ (grind (arith, ending, taken_len, held_len s, j.sum, length-append (first_bytes first) text), omega (arith, taken_len, held_len s, j.sum), omega (arith, j.sum)), stands_new)
 
@@ -113,16 +113,17 @@ module _ {held piece : List ℕ} {first : Option ℕ} {text part rest : List ℕ
 
 -- ---- the piece from `from` on, behind the first character
 
-completed : (held piece text : List ℕ) (first : Option ℕ) (from : ℕ) → Completes held piece first from → (held ++ take from piece ≡ first_bytes first) × IsFirst held first text × IsUtf8 (first_bytes first) × (chars (first_bytes first) ≡ first_text first)
-completed held piece text None from h = (rw (h.0, h.1), inl h.0, IsUtf8-nil, chars-nil)
-completed held piece text (Some c) from h = (h.1.2, h.0, IsUtf8-encode c h.1.1, chars_of_one c h.1.1)
+completed : (held piece text : List ℕ) (first : Option ℕ) (from : ℕ) → Completes held piece first from
+    → (held ++ take from piece ≡ first_bytes first) × IsFirst held first text × (IsUtf8 (first_bytes first) × (chars (first_bytes first) ≡ first_text first))
+completed held piece text None from h = (rw (h.0, h.1), inl h.0, (IsUtf8-nil, chars-nil))
+completed held piece text (Some c) from h = (h.1.2, h.0, (IsUtf8-encode c h.1.1, chars_of_one c h.1.1))
 
 pub joined_from : (held piece : List ℕ) (first : Option ℕ) (from : ℕ) (text behind : List ℕ) → Completes held piece first from → from ≤ length piece → drop from piece ≡ text ++ behind
     → IsUtf8 text → Joined held piece first text [] behind (from + length text)
 joined_from held piece first from text behind h within split u =
     let done = completed held piece text first from h in
     record {
-      leads = (done.2, done.3);
+      leads = done.2;
       utf8 = u;
       begun = done.1;
       joins = rw (← done.0, append_assoc, append_assoc, ← split, take-append-drop);

@@ -20,11 +20,11 @@ pub text_len-longest : (bytes : List ℕ) → IsLongestFront IsUtf8 bytes (text_
 unfolding utf8_valid_len
 text_len-longest bytes = let f = found bytes (length bytes) in record { within = f.0; holds = f.1; longest = f.2 }
 
-pub text_len-is : (bytes : List ℕ) (n : ℕ) → IsLongestFront IsUtf8 bytes n → text_len bytes ≡ n
-text_len-is bytes n h = longest_same IsUtf8 bytes _ _ (text_len-longest bytes) h
+pub text_len-is : {bytes : List ℕ} {n : ℕ} → IsLongestFront IsUtf8 bytes n → text_len bytes ≡ n
+text_len-is {bytes} h = longest_same (text_len-longest bytes) h
 
 pub text_len-behind : (xs ys : List ℕ) → IsUtf8 xs → text_len (xs ++ ys) ≡ length xs + text_len ys
-text_len-behind xs ys u = text_len-is (xs ++ ys) _ (longest_behind IsUtf8 xs ys (text_len ys) (λ zs. IsUtf8-append xs zs u) (λ zs. IsUtf8-behind xs zs u) (text_len-longest ys))
+text_len-behind xs ys u = text_len-is (longest_behind xs (λ zs. IsUtf8-append xs zs u) (λ zs. IsUtf8-behind xs zs u) (text_len-longest ys))
 
 -- the bytes in two behind their text
 pub length-front : (bytes : List ℕ) → length (take (text_len bytes) bytes) ≡ text_len bytes

@@ -4,9 +4,9 @@ use Rattle.nf_utf8.proofs.laws.pieces.Goals as goal
 
 pub returns : goal.returns
 returns c = record {
-  text = λ bytes piece. text_on _ bytes piece refl;
-  rest = λ bytes piece. rest_on _ bytes piece refl;
-  ending = λ bytes piece. ending_on _ bytes piece refl;
+  text = λ bytes piece. text_on bytes piece refl;
+  rest = λ bytes piece. rest_on bytes piece refl;
+  ending = λ bytes piece. ending_on bytes piece refl;
   bad_text = text_of-bad;
   bad_ending = ending_of-bad;
 }
