@@ -77,7 +77,7 @@ pub record IsMapped (c : ℕ) : Type 0 where
 split : (a b c : Bool) (class n : ℕ) (sign half mark : Bool) (d e f g h : Bool)
     → (a && (b && (c && ((not (class == 0) || (sign || (half || n == 0))) && ((class == 0 || mark) && (d && (e && (f && (g && h))))))))) ≡ true
     → (a ≡ true) × (b ≡ true) × (c ≡ true) × (class ≡ 0 → sign ≡ false → half ≡ false → n ≡ 0) × (mark ≡ false → class ≡ 0)
-        × (d ≡ true) × (e ≡ true) × (f ≡ true) × (g ≡ true) × (h ≡ true)
+    × (d ≡ true) × (e ≡ true) × (f ≡ true) × (g ≡ true) × (h ≡ true)
 split a b c class n sign half mark d e f g h all = grind (arith, nat_tests)
 
 pub mapped : (c : ℕ) → is_syllable c ≡ false → is_empty (pick KitNfkd (decomposition c)) ≡ false → IsMapped c

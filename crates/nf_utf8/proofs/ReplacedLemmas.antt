@@ -1,8 +1,8 @@
 -- Bytes read with one U+FFFD for each maximal subpart of an ill-formed sequence.
-use Rattle.nf_utf8.proofs.Common.{◌≡◌, ℕ, zero, suc, ◌+◌, ◌-◌, ◌<◌, ◌≤◌, List, [], ◌∷◌, ◌++◌, map, length, drop, encode_utf8, encode_utf8_all, refl, ap, ⊎_elim, arith, append-nil, length-append, length-drop, order, nat_tests, BeginsText, Ending, Bad, text_len, text_of, begun_len, ending_of, Part, replacement, own_parts, part_end, behind_text, parts_within, parts_of, bytes_in}
+use Rattle.nf_utf8.proofs.Common.{◌≡◌, ℕ, zero, suc, ◌+◌, ◌-◌, ◌<◌, ◌≤◌, List, [], ◌∷◌, ◌++◌, map, length, drop, encode_utf8, encode_utf8_all, refl, ap, ⊎_elim, arith, append-nil, length-append, length-drop, order, nat_tests, BeginsText, Bad, text_len, text_of, begun_len, ending_of, Part, replacement, own_parts, part_end, behind_text, parts_within, parts_of, bytes_in}
 use Rattle.nf_utf8.proofs.TextLen.{text_len-longest}
 use Rattle.nf_utf8.proofs.BegunLen.{begun_len-longest, begun_all}
-use Rattle.nf_utf8.proofs.Endings.{ending_of-broken, Says, ending_of-says}
+use Rattle.nf_utf8.proofs.Endings.{ending_of-full, ending_of-begun, ending_of-broken}
 use Rattle.nf_utf8.proofs.ReadingLemmas.{length-encodes-text_of, broken, text_of-bad, ending_of-bad}
 
 -- ---- parts alone
@@ -46,11 +46,10 @@ module _ (P : List ℕ → Type 0) (at_begun : (bytes : List ℕ) → begun_len 
 -- ---- the parts of bytes, in which any bound above the length gives the same
 
 parts-begun : (k : ℕ) (bytes : List ℕ) → begun_len bytes ≡ length bytes → parts_within (suc k) bytes ≡ own_parts (text_of bytes)
-parts-begun k bytes all = by (ending_of bytes) (ending_of-says bytes)
-  where
-    by : (e : Ending) → Says bytes e → own_parts (text_of bytes) ++ behind_text e (λ n. parts_within k (drop n bytes)) ≡ own_parts (text_of bytes)
-    by (Bad at start) s = absurd (omega (arith, s.0, all))
-    by _ s = append-nil (own_parts (text_of bytes))
+parts-begun k bytes all = ⊎_elim
+    (λ cut. rw (ending_of-begun bytes cut all) (append-nil (own_parts (text_of bytes))))
+    (λ whole. rw (ending_of-full bytes (omega (arith, whole, (text_len-longest bytes).within))) (append-nil (own_parts (text_of bytes))))
+    (order (text_len bytes) (length bytes))
 
 parts-broken : (k : ℕ) (bytes : List ℕ) (at start : ℕ) → ending_of bytes ≡ Bad at start
     → parts_within (suc k) bytes ≡ own_parts (text_of bytes) ++ broken_part at start ∷ parts_within k (drop (part_end at start) bytes)

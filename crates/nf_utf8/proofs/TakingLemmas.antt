@@ -54,25 +54,28 @@ module _ {held piece : List ℕ} {first : Option ℕ} {text part rest : List ℕ
   utf8 : IsUtf8 lead
   utf8 = IsUtf8-append (first_bytes first) text j.leads.0 j.utf8
 
+  abbrev tail : List ℕ
+  tail = part ++ rest
+
   module _ {bytes : List ℕ} (s : StandsAfter held bytes) where
-    module _ (none : text_len (part ++ rest) ≡ 0) where
-      taken_rest : rest_of (bytes ++ piece) ≡ part ++ rest
-      taken_rest = rw (rest_on bytes piece s.rest, j.joins, rest_of-behind lead (part ++ rest) utf8) (rest_of-none (part ++ rest) none)
+    module _ (none : text_len tail ≡ 0) where
+      taken_rest : rest_of (bytes ++ piece) ≡ tail
+      taken_rest = rw (rest_on bytes piece s.rest, j.joins, rest_of-behind lead tail utf8) (rest_of-none tail none)
 
       taken_len : text_len (bytes ++ piece) ≡ text_len bytes + length (first_bytes first) + length text
-      taken_len = rw (len_on bytes piece s.rest, j.joins, text_len-behind lead (part ++ rest) utf8) (omega (arith, none, length-append (first_bytes first) text))
+      taken_len = rw (len_on bytes piece s.rest, j.joins, text_len-behind lead tail utf8) (omega (arith, none, length-append (first_bytes first) text))
 
       takes : (end : End) → EndsPiece bytes piece end → Takes bytes piece first text end
       takes end e = record {
         spelled = rw (
-            text_on bytes piece s.rest,
-            j.joins,
-            text_of-behind lead (part ++ rest) utf8,
-            text_of-none (part ++ rest) none,
-            append-nil,
-            chars-append (first_bytes first) text j.leads.0,
-            j.leads.1,
-          ) (sym (append_assoc (text_of bytes) (first_text first) (chars text)));
+          text_on bytes piece s.rest,
+          j.joins,
+          text_of-behind lead tail utf8,
+          text_of-none tail none,
+          append-nil,
+          chars-append (first_bytes first) text j.leads.0,
+          j.leads.1,
+        ) (sym (append_assoc (text_of bytes) (first_text first) (chars text)));
         well_formed = j.utf8;
         begun = rw s.rest j.begun;
         ends = e;
@@ -80,24 +83,24 @@ module _ {held piece : List ℕ} {first : Option ℕ} {text part rest : List ℕ
         len = taken_len;
       }
 
-      taken_part : IsPart (part ++ rest) → Taken bytes piece first text (end_holding (part ++ rest)) (part ++ rest)
+      taken_part : IsPart tail → Taken bytes piece first text (end_holding tail) tail
       taken_part p =
-          let all : BeginsText (held ++ piece) = rw j.joins (BeginsText-append lead (part ++ rest) utf8 (BeginsText-part (part ++ rest) p)) in
-          let stands : StandsAfter (part ++ rest) (bytes ++ piece) = record { rest = taken_rest; begins = begins_on bytes piece s.rest all } in
-          (takes _ (ends_piece bytes piece _ (ends_holding bytes (bytes ++ piece) (part ++ rest) stands)), rw (behind_holding bytes piece (part ++ rest)) stands)
+          let all : BeginsText (held ++ piece) = rw j.joins (BeginsText-append lead tail utf8 (BeginsText-part tail p)) in
+          let stands : StandsAfter tail (bytes ++ piece) = record { rest = taken_rest; begins = begins_on bytes piece s.rest all } in
+          (takes _ (ends_piece bytes piece _ (ends_holding bytes (bytes ++ piece) tail stands)), rw (behind_holding bytes piece tail) stands)
 
-      taken_bad : (at : ℕ) → at < length rest → ending_of (part ++ rest) ≡ IsBad (length part + at) 0 → Taken bytes piece first text (Bad (skipped + at) (length part + at)) []
+      taken_bad : (at : ℕ) → at < length rest → ending_of tail ≡ IsBad (length part + at) 0 → Taken bytes piece first text (Bad (skipped + at) (length part + at)) []
       taken_bad at inside bad =
-          let ending = rw (j.joins, ending_of-behind lead (part ++ rest) utf8, bad) at (ending_on bytes piece s.rest) in
+          let ending = rw (j.joins, ending_of-behind lead tail utf8, bad) at (ending_on bytes piece s.rest) in
           let sizes = simp length-append at (ap length j.joins) in
           (takes _ (grind (arith, ending, taken_len, held_len s, j.sum, length-append (first_bytes first) text), omega (arith, taken_len, held_len s, j.sum), omega (arith, j.sum)), stands_new)
 
     pub taken : (front : Front) (end : End) (left : List ℕ) → IsFront part rest front → EndsBy front skipped end left → Taken bytes piece first text end left
     taken (Char c len) end left is by = absurd by
-    taken (Begun carry) end left is by = rw (by.0, by.1, is.1) (taken_part (text_len-no_char (part ++ rest) (part_no_char (part ++ rest) is.0)) is.0)
+    taken (Begun carry) end left is by = rw (by.0, by.1, is.1) (taken_part (text_len-no_char tail (part_no_char tail is.0)) is.0)
     taken (BadFront at back) end left is by =
         let next : suc (length part + at) ≡ length part + (at + 1) = omega arith in
-        let bad = broken_at (part ++ rest) (length part + at) (omega (arith, is.0, length-append part rest)) (rw take-append-add is.1) (λ b. is.2 (rw (next, take-append-add) at b)) in
+        let bad = broken_at tail (length part + at) (omega (arith, is.0, length-append part rest)) (rw take-append-add is.1) (λ b. is.2 (rw (next, take-append-add) at b)) in
         rw (by.0, by.1, is.3) (taken_bad bad.0 at is.0 bad.1)
 
   -- ---- how many bytes there are of each

@@ -1,5 +1,5 @@
 -- `text_len`, the length of the longest front that is well-formed.
-use Rattle.nf_utf8.proofs.Common.{◌≡◌, ℕ, zero, suc, ◌+◌, ◌-◌, ◌≤◌, ⊎_elim, List, ◌++◌, length, take, drop, IsUtf8, encode_utf8, ap, arith, length-take-le, take-append-drop, StartsWithNoChar, utf8_valid_len, valid_len_up_to, order, width_is, longer, IsUtf8-from_is_utf8, is_utf8-from_IsUtf8, no_text, cond_both, IsUtf8-nil, IsUtf8-append, IsUtf8-encode, utf8_valid_len-IsUtf8, text_len}
+use Rattle.nf_utf8.proofs.Common.{◌≡◌, ℕ, zero, suc, ◌+◌, ◌-◌, ◌≤◌, List, ◌++◌, length, take, drop, IsUtf8, encode_utf8, ap, arith, length-take-le, take-append-drop, StartsWithNoChar, utf8_valid_len, valid_len_up_to, width_is, longer, IsUtf8-from_is_utf8, is_utf8-from_IsUtf8, no_text, cond_both, IsUtf8-nil, IsUtf8-append, IsUtf8-encode, utf8_valid_len-IsUtf8, text_len}
 use Rattle.nf_utf8.proofs.Fronts.{IsLongestFront, longest_same, longest_behind}
 use Rattle.nf_utf8.proofs.Texts.{IsUtf8-behind}
 
@@ -12,9 +12,7 @@ found bytes zero = (omega arith, IsUtf8-nil, λ k le _. le)
 found bytes (suc m) =
     let f = found bytes m in
     cond_both _ _ _ (IsGreatest bytes (suc m)) (λ t. (omega arith, IsUtf8-from_is_utf8 _ t, λ k le _. le))
-    (λ e. (omega (arith, f.0), f.1, λ k le u.
-        let t = is_utf8-from_IsUtf8 _ u in
-        ⊎_elim (λ below. f.2 k (omega arith) u) (λ past. let same : k ≡ suc m = omega arith in absurd (cc)) (order k (suc m))))
+    (λ e. (omega (arith, f.0), f.1, λ k le u. let t = is_utf8-from_IsUtf8 _ u in let other : ¬ (k ≡ suc m) = λ same. cc in f.2 k (omega arith) u))
 
 pub text_len-longest : (bytes : List ℕ) → IsLongestFront IsUtf8 bytes (text_len bytes)
 unfolding utf8_valid_len

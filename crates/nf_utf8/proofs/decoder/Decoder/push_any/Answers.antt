@@ -1,4 +1,3 @@
-use Rattle.nf_utf8.specs.Carry.{bytes_of}
 use Rattle.nf_utf8.proofs.StandingLemmas.{tells-answers, tells-stands}
 use Rattle.nf_utf8.proofs.decoder.Decoder.push_any.Goals as goal
 
