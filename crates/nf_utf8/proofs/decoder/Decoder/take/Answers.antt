@@ -11,9 +11,9 @@ returns-then-is_empty c =
     let part : List ℕ = c.args.self.now in
     let taken = c.take_text.ensures in
     record {
-      takes = λ bytes s. taken.takes part bytes (nothing c) s;
+      takes = λ bytes. taken.takes part bytes (nothing c);
       only = λ bytes first text end s t. takes_same t (taken.takes part bytes (nothing c) s);
-      stands = λ bytes s. taken.stands part bytes (nothing c) s;
+      stands = λ bytes. taken.stands part bytes (nothing c);
       inside = search rules;
       text = search rules;
       counts = taken.counts part (nothing c);
@@ -29,9 +29,9 @@ returns-in-Char c =
     let part : List ℕ = c.args.self.now in
     let taken = c.take_text-in-Char.ensures in
     record {
-      takes = λ bytes s. taken.takes part bytes (begun c) s;
+      takes = λ bytes. taken.takes part bytes (begun c);
       only = λ bytes first text end s t. takes_same t (taken.takes part bytes (begun c) s);
-      stands = λ bytes s. taken.stands part bytes (begun c) s;
+      stands = λ bytes. taken.stands part bytes (begun c);
       inside = search rules;
       text = search rules;
       counts = taken.counts part (begun c);
@@ -43,8 +43,7 @@ returns-in_default c =
     let piece : List ℕ = c.args.piece.now in
     let front : IsFront part piece c.front.result = rw c.self.view_is at c.front.ensures in
     let joined : Joined part piece None [] part piece 0 = record { leads = (IsUtf8-nil, chars-nil); utf8 = IsUtf8-nil; begun = inr refl; joins = refl; sum = omega arith } in
-    let all : (bytes : List ℕ) → StandsAfter part bytes → Taken bytes piece None [] c.end.result c.end.new.self =
-    λ bytes s. taken joined s c.front.result c.end.result c.end.new.self front c.end.ensures in
+    let all = λ (bytes : List ℕ) (s : StandsAfter part bytes). taken joined s c.front.result c.end.result c.end.new.self front c.end.ensures in
     record {
       takes = λ bytes s. (all bytes s).0;
       only = λ bytes first text end s t. takes_same t (all bytes s).0;
