@@ -1,12 +1,12 @@
 -- U+000A closes what stands before it, in each form.
-use Rattle.std.proofs.Common.{◌≡◌, ◌==◌, ℕ, [], None, refl, ap, arith}
+use Rattle.std.proofs.Common.{◌≡◌, ℕ, [], None, refl, arith}
 use Rattle.nf_facts.proofs.Common.{unicode_normalization, Form, ucd}
 use Rattle.ucd_normal.specs.Composition.{paired_with}
 use Rattle.ucd_normal.specs.Compositions.{compositions}
 use Rattle.ucd_normal.proofs.CompositionLemmas.{composite-paired_with}
 use Rattle.unicode_normalization.specs.Compose.{primary_composite}
 use Rattle.unicode_normalization.specs.Hangul.{compose_hangul}
-use Rattle.nf_forms.specs.Compose.{composite, starter_only}
+use Rattle.nf_forms.specs.Compose.{composite}
 use Rattle.nf_forms.specs.Closing.{IsClosing}
 use Rattle.nf_forms.specs.Laws.Cluster.{row-own}
 use Rattle.nf_facts.specs.LineFeed.{line_feed}
@@ -24,9 +24,9 @@ pub IsClosing-line_feed : (f : Form) → IsClosing ucd f line_feed
 IsClosing-line_feed f =
     let plain = IsPlain-ascii line_feed (omega arith) in
     record {
-      starts = ap (λ k. k == 0) plain.class;
+      starts = rw plain.class;
       row = row-own ucd f line_feed (record { canonical = plain.canonical; compat = plain.compat });
       compat = plain.compat;
-      never_second = λ _ a. ap (starter_only ucd) (plain.never_second a);
-      never_first = λ _ b. first_in_none b;
+      never_second = λ _ a. rw (plain.never_second a);
+      never_first = λ _. first_in_none;
     }

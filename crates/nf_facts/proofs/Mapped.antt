@@ -1,5 +1,5 @@
 -- What is so of each character with a decomposition mapping, by one computation over the tables.
-use Rattle.std.proofs.Common.{◌≡◌, ℕ, ◌≤◌, ◌<◌, ◌+◌, ◌-◌, ◌/◌, ◌%◌, Bool, true, false, not, ◌&&◌, ◌||◌, ◌==◌, List, [], ◌∷◌, flat_map, refl, sym, ap, ◌∙◌, inl, inr, arith, eqb-true}
+use Rattle.std.proofs.Common.{◌≡◌, ℕ, ◌≤◌, ◌<◌, ◌+◌, ◌-◌, ◌/◌, ◌%◌, Bool, true, false, not, ◌&&◌, ◌||◌, ◌==◌, List, [], ◌∷◌, flat_map, refl, ap, ◌∙◌, inl, inr, arith, eqb-true}
 use Rattle.nf_facts.proofs.Common.{cases_Bool, cases_eq, nat_tests, list_all, KitNfd, KitNfkd, ccc, decompose, Properties, lead, ucd}
 use lib.Utf8.{scalar}
 use Rattle.ucd_table.proofs.GroupsCheck.{same_string, same_string-true}
@@ -101,7 +101,7 @@ mapped c other some =
 -- ---- every character is a Hangul syllable, or decomposes no further, or has a mapping
 
 pub class-syllable : (c : ℕ) → is_syllable c ≡ true → ccc c ≡ 0
-class-syllable c syllable = let range = is_syllable-true c syllable in eqb-true (ccc c) 0 (class_of_syllable c range.0 range.1)
+class-syllable c syllable = let range = is_syllable-true c syllable in eqb-true _ 0 (class_of_syllable c range.0 range.1)
 
 pub by_kind : (c : ℕ) (Q : Type 0) → (is_syllable c ≡ true → Q) → (((form : Form) → decompose form c ≡ c ∷ []) → Q) → (IsMapped c → Q) → Q
 by_kind c Q syllable own with_mapping =
@@ -116,8 +116,7 @@ by_kind c Q syllable own with_mapping =
 
 -- its two rows are one, or it has a mapping
 pub by_mapping : (c : ℕ) (Q : Type 0) → (decompose KitNfd c ≡ decompose KitNfkd c → Q) → (IsMapped c → Q) → Q
-by_mapping c Q same =
-    by_kind c Q (λ syllable. same (decompose-syllable KitNfd c syllable ∙ sym (decompose-syllable KitNfkd c syllable))) (λ own. same (own KitNfd ∙ sym (own KitNfkd)))
+by_mapping c Q same = by_kind c Q (λ syllable. same (rw (decompose-syllable KitNfd c syllable, decompose-syllable KitNfkd c syllable))) (λ own. same (rw (own KitNfd, own KitNfkd)))
 
 -- its row in a form is made of conjoining Hangul letters, or is the character itself, or comes of a mapping
 pub by_row : (form : Form) (c : ℕ) (Q : List ℕ → Type 0) → Q [] → ((x : ℕ) (w : List ℕ) → 0x1100 ≤ x → x < 0x1200 → Q w → Q (x ∷ w)) → Q (c ∷ [])

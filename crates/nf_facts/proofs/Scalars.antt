@@ -1,11 +1,10 @@
 -- What Unicode's data has for scalar values are scalar values, so that the form of a text is a text.
-use Rattle.std.proofs.Common.{rules, ◌≡◌, ℕ, true, List, Some, refl, sym, ap, ◌∙◌, inl, inr, arith}
-use Rattle.nf_facts.proofs.Common.{and_from, false_from_ne_true, list_all, KitNfd, KitNfkd, decompose, Form, normal_form, ucd, kit_form}
+use Rattle.std.proofs.Common.{rules, ◌≡◌, ℕ, true, List, Some, refl, inl, inr, arith}
+use Rattle.nf_facts.proofs.Common.{false_from_ne_true, list_all, KitNfd, KitNfkd, decompose, Form, normal_form, ucd, kit_form}
 use Rattle.std.proofs.Math.Utf8.{scalar, low_scalar}
 use Rattle.std.specs.Str.{all_scalars}
 use Rattle.ucd_normal.specs.declared.forms.Form.{Form as KitForm}
 use Rattle.ucd_normal.specs.Composition.{IsCompositeOf}
-use Rattle.ucd_normal.proofs.CompositionLemmas.{is_empty}
 use Rattle.unicode_normalization.proofs.DecomposeLemmas.{pick-none, primary_composite-some, IsCompositeOf-IsTableComposite}
 use Rattle.unicode_normalization.proofs.KeptLemmas.{list_all-normalize}
 use Rattle.nf_forms.specs.StreamSafe.{stream_safe}
@@ -26,20 +25,17 @@ scalars-mapped _ c with_mapping = search rules
 
 scalars-row : (form : KitForm) (c : ℕ) → scalar c ≡ true → list_all scalar (decompose form c) ≡ true
 scalars-row form c is =
-    by_row form c (λ w. list_all scalar w ≡ true) refl (λ x w _ high rest. and_from _ _ (low_scalar x (omega arith)) rest) (and_from _ _ is refl) (scalars-mapped form c)
+    by_row form c (λ w. list_all scalar w ≡ true) refl (λ x w _ high rest. rw (low_scalar x (omega arith)) rest) (rw is) (scalars-mapped form c)
 
 pub scalar-rows : HasScalarRows ucd
 unfolding ucd
-scalar-rows = record {
-  canonical = λ c is. rw scalars-all (scalars-row KitNfd c is);
-  compat = λ c is. rw scalars-all (scalars-row KitNfkd c is);
-}
+scalar-rows = record { canonical = λ c is. rw scalars-all (scalars-row KitNfd c is); compat = λ c is. rw scalars-all (scalars-row KitNfkd c is) }
 
 -- ---- composites
 
 scalar-by_table : (a b c : ℕ) → IsCompositeOf a b c → scalar c ≡ true
 scalar-by_table a b c h =
-    (mapped c (IsCompositeOf-IsTableComposite a b c h).both_other (false_from_ne_true _ (λ none. let clash = sym (pick-none KitNfd c none) ∙ ap is_empty h.mapping in cc))).is_scalar
+    (mapped c (IsCompositeOf-IsTableComposite a b c h).both_other (false_from_ne_true _ (λ none. let empty = pick-none KitNfd c none in let some = h.mapping in cc))).is_scalar
 
 pub scalar-pair : (a b c : ℕ) → ucd.pair a b ≡ Some c → scalar c ≡ true
 unfolding ucd

@@ -1,16 +1,13 @@
 -- Every character of Unicode's data is sound.
 use Rattle.std.proofs.Common.{◌≡◌, ℕ, true, List, [], ◌∷◌, refl, arith}
-use Rattle.nf_facts.proofs.Common.{and_from, nat_tests, KitNfd, KitNfkd, decompose, unicode_normalization, Properties, ucd}
+use Rattle.nf_facts.proofs.Common.{nat_tests, KitNfd, KitNfkd, decompose, unicode_normalization, ucd}
 use Rattle.unicode_normalization.proofs.DecomposeLemmas.{IsFull-decompose}
 use Rattle.nf_forms.specs.Sound.{joiner_is_plain, is_sound}
 use Rattle.nf_forms.specs.Laws.Sound.{IsSoundText}
 use Rattle.nf_facts.proofs.Mapped.{ends_agree, by_mapping}
 
-agree-same : (p : Properties) (w v : List ℕ) → w ≡ v → ends_agree p w v ≡ true
-agree-same p w v e = rw e (grind (arith, nat_tests))
-
 agree-rows : (c : ℕ) → ends_agree ucd (decompose KitNfd c) (decompose KitNfkd c) ≡ true
-agree-rows c = by_mapping c _ (agree-same ucd _ _) (λ mapped. mapped.agree)
+agree-rows c = by_mapping c _ (λ same. rw same (grind (arith, nat_tests))) (λ mapped. mapped.agree)
 
 joiner-plain : joiner_is_plain ucd ≡ true
 unfolding ucd unicode_normalization
@@ -25,4 +22,4 @@ is_sound-ucd c =
 
 pub IsSoundText-ucd : (x : List ℕ) → IsSoundText ucd x
 IsSoundText-ucd [] = refl
-IsSoundText-ucd (c ∷ x) = and_from _ _ (is_sound-ucd c) (IsSoundText-ucd x)
+IsSoundText-ucd (c ∷ x) = rw (is_sound-ucd c) (IsSoundText-ucd x)

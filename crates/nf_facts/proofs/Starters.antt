@@ -29,15 +29,15 @@ compat-lead c starter sign mark =
 -- ---- what passes the quick check of a composing form is second in no composite
 
 pub never_second-yes : (f : Form) (c : ℕ) → quick_check (kit_form f) c ≡ Yes → NeverSecond ucd f c
-never_second-yes Nfc c is composes a = composite-ucd a c ∙ never_second KitNfc IsComposed-Nfc c (rw is) a
-never_second-yes Nfkc c is composes a = composite-ucd a c ∙ never_second KitNfkc IsComposed-Nfkc c (rw is) a
+never_second-yes Nfc c is composes a = rw composite-ucd (never_second KitNfc IsComposed-Nfc c (rw is) a)
+never_second-yes Nfkc c is composes a = rw composite-ucd (never_second KitNfkc IsComposed-Nfkc c (rw is) a)
 never_second-yes _ c is composes a = cc
 
 -- ---- its row begins with such a one
 
 anew_rebuilt : (f : Form) (c : ℕ) → IsRebuilt c (row_of f ucd c) → BeginsAnew ucd f c
 anew_rebuilt f c r =
-    record { first = r.first; rest = r.rest; row = r.split; starter = starter_at r.first r.starter; never_second = λ _ a. composite-ucd a r.first ∙ r.never_second a }
+    record { first = r.first; rest = r.rest; row = r.split; starter = starter_at r.first r.starter; never_second = λ _ a. rw composite-ucd (r.never_second a) }
 
 pub begins_anew : (f : Form) (c : ℕ) → ccc c ≡ 0 → quick_check (kit_form f) c ≡ Yes → BeginsAnew ucd f c
 unfolding ucd decompose
