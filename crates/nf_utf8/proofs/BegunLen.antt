@@ -1,5 +1,5 @@
--- `begun_len`, the length of the longest front that begins a text.
-use Rattle.nf_utf8.proofs.Common.{◌≡◌, ℕ, suc, ◌+◌, ◌<◌, ◌≤◌, ⊎_elim, true, false, cond, nat_lt, List, [], ◌∷◌, ◌++◌, length, take, drop, Option, Some, None, unwrap_or, IsUtf8, arith, take-append-drop, length-drop, take-take, take_all, IsInRange, is_in_range, StartsWithNoChar, utf8_error_len, error_len_after_one, error_len_after_two, error_len_of_some, order, utf8_error_len-nil, utf8_error_len_some, no_text, le-ltb, cond_both, nat_tests, IsUtf8-nil, BeginsText, IsSecond, IsContinuation, text_len, part_len, begun_len}
+-- `begun_len`, the length of the longest front that begins a text, and `ending_of`, by the three lengths that it compares.
+use Rattle.nf_utf8.proofs.Common.{◌≡◌, ℕ, suc, ◌+◌, ◌<◌, ◌≤◌, ⊎_elim, true, false, cond, nat_lt, List, [], ◌∷◌, ◌++◌, length, take, drop, Option, Some, None, unwrap_or, IsUtf8, arith, take-append-drop, length-drop, take-take, take_all, IsInRange, is_in_range, StartsWithNoChar, utf8_error_len, error_len_after_one, error_len_after_two, error_len_of_some, order, utf8_error_len-nil, utf8_error_len_some, no_text, le-ltb, cond_both, nat_tests, IsUtf8-nil, BeginsText, IsSecond, IsContinuation, text_len, part_len, begun_len, ◌==◌, eqb-true, Ending, Whole, Bad, Cut, ending_of}
 use Rattle.nf_utf8.proofs.Fronts.{IsLongestFront, longest_same, longest_behind}
 use Rattle.nf_utf8.proofs.Texts.{BeginsText-append, BeginsText-behind, BeginsText-front, BeginsText-IsUtf8}
 use Rattle.nf_utf8.proofs.TextLen.{text_len-longest, length-front, text_len-rest, no_char-text_len}
@@ -111,3 +111,31 @@ begins_all bytes e = rw (take_all (begun_len bytes) bytes (omega arith)) at (beg
 
 pub begun_len-behind : (xs ys : List ℕ) → IsUtf8 xs → begun_len (xs ++ ys) ≡ length xs + begun_len ys
 begun_len-behind xs ys u = begun_len-is (longest_behind xs (λ zs. BeginsText-append xs zs u) (λ zs. BeginsText-behind xs zs u) (begun_len-longest ys))
+
+-- ---- the ending
+
+module _ (bytes : List ℕ) where
+  pub ending_of-full : text_len bytes ≡ length bytes → ending_of bytes ≡ Whole
+  unfolding ending_of
+  ending_of-full e = grind (arith, nat_tests)
+
+  pub ending_of-begun : text_len bytes < length bytes → begun_len bytes ≡ length bytes → ending_of bytes ≡ Cut (length bytes) (text_len bytes)
+  unfolding ending_of
+  ending_of-begun short e = grind (arith, nat_tests)
+
+  pub ending_of-broken : begun_len bytes < length bytes → ending_of bytes ≡ Bad (begun_len bytes) (text_len bytes)
+  unfolding ending_of
+  ending_of-broken short = grind (arith, nat_tests)
+
+-- what an ending says of the lengths
+abbrev pub Says : List ℕ → Ending → Type 0
+Says bytes Whole = text_len bytes ≡ length bytes
+Says bytes (Cut at start) = (text_len bytes < length bytes) × (begun_len bytes ≡ length bytes) × (at ≡ length bytes) × (start ≡ text_len bytes)
+Says bytes (Bad at start) = (begun_len bytes < length bytes) × (at ≡ begun_len bytes) × (start ≡ text_len bytes)
+
+pub ending_of-says : (bytes : List ℕ) → Says bytes (ending_of bytes)
+unfolding ending_of
+ending_of-says bytes =
+    let within = (begun_len-longest bytes).within in
+    cond_both (text_len bytes == length bytes) _ _ (Says bytes) (λ t. eqb-true _ _ t)
+    (λ f. cond_both (begun_len bytes == length bytes) _ _ (Says bytes) (λ t. grind (arith, nat_tests)) (λ g. grind (arith, nat_tests)))

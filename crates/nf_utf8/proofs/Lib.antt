@@ -2,7 +2,6 @@ pub mod Common
 mod AsciiLemmas
 mod BegunLen
 mod CountingLemmas
-mod Endings
 mod Fronts
 mod LossyLemmas
 mod MendingLemmas

@@ -2,8 +2,7 @@
 use Rattle.nf_utf8.proofs.Common.{◌≡◌, ℕ, ◌+◌, List, [], ◌∷◌, ◌++◌, length, Option, chars, refl, sym, ◌∙◌, arith, append_assoc, append-nil, length-append, append_cancel_left, Step, More, Char, BadByte, End, BeginsText, IsWhole, IsCut, text_len, text_of, rest_of, ending_of, Answers, first_text, Takes}
 use Rattle.nf_utf8.specs.declared.chunk.End.TheVariants.{Bad}
 use Rattle.nf_utf8.specs.Pushes.{Pushes, GoesOn}
-use Rattle.nf_utf8.proofs.BegunLen.{begun_len-longest, begins_all}
-use Rattle.nf_utf8.proofs.Endings.{ending_of-says}
+use Rattle.nf_utf8.proofs.BegunLen.{begun_len-longest, begins_all, ending_of-says}
 use Rattle.nf_utf8.proofs.ReadingLemmas.{text_of-bad, ending_of-bad, length-encodes-text_of}
 use Rattle.nf_utf8.proofs.TakingLemmas.{EndsAll, ends_holding, ends_piece, same_end}
 

@@ -2,8 +2,7 @@
 use Rattle.nf_utf8.proofs.Common.{◌≡◌, ℕ, suc, ◌+◌, ◌<◌, ◌≤◌, List, ◌++◌, length, take, IsUtf8, encode_utf8_all, chars, refl, sym, ap, ◌∙◌, arith, append_assoc, length-append, take-append-drop, take-append-add, drop-append-add, take-append-le, encodes-chars, scalars-chars, chars-append, nat_tests, chars-encodes, IsText, BeginsText, Bad, moved, text_len, text_of, rest_of, begun_len, ending_of}
 use Rattle.nf_utf8.proofs.Texts.{BeginsText-IsUtf8, BeginsText-append}
 use Rattle.nf_utf8.proofs.TextLen.{text_len-longest, text_len-is, text_len-behind, length-front}
-use Rattle.nf_utf8.proofs.BegunLen.{begun_len-longest, begun_len-is, begun_len-behind, begins_until}
-use Rattle.nf_utf8.proofs.Endings.{ending_of-says}
+use Rattle.nf_utf8.proofs.BegunLen.{begun_len-longest, begun_len-is, begun_len-behind, begins_until, ending_of-says}
 
 -- ---- behind a text
 

@@ -1,8 +1,7 @@
 -- A reading is what `specs/Reads.antt` says, and nothing else is.
 use Rattle.nf_utf8.proofs.Common.{◌≡◌, ℕ, ◌+◌, List, [], length, sym, ap, ◌∙◌, arith, append-nil, length-append, take_all, add-one, nil_from_length, Ending, Whole, Bad, Cut, text_len, text_of, rest_of, begun_len, ending_of}
 use Rattle.nf_utf8.specs.Reads.{IsLongestText, EndsAs, Reads}
-use Rattle.nf_utf8.proofs.BegunLen.{begun_len-longest, begun_len-is, begun_all, begins_all, begins_until}
-use Rattle.nf_utf8.proofs.Endings.{ending_of-full, ending_of-begun, ending_of-broken, Says, ending_of-says}
+use Rattle.nf_utf8.proofs.BegunLen.{begun_len-longest, begun_len-is, begun_all, begins_all, begins_until, ending_of-full, ending_of-begun, ending_of-broken, Says, ending_of-says}
 use Rattle.nf_utf8.proofs.ReadingLemmas.{text_of-encodes, text_of-IsText, text_of-split, length-encodes-text_of, encodes-text_of}
 
 -- ---- what is read is so

@@ -1,8 +1,7 @@
 -- Bytes read with one U+FFFD for each maximal subpart of an ill-formed sequence.
 use Rattle.nf_utf8.proofs.Common.{◌≡◌, ℕ, zero, suc, ◌+◌, ◌-◌, ◌<◌, ◌≤◌, List, [], ◌∷◌, ◌++◌, map, length, drop, encode_utf8, encode_utf8_all, refl, ap, ⊎_elim, arith, append-nil, length-append, length-drop, order, nat_tests, BeginsText, Bad, text_len, text_of, begun_len, ending_of, Part, replacement, own_parts, part_end, behind_text, parts_within, parts_of, bytes_in}
 use Rattle.nf_utf8.proofs.TextLen.{text_len-longest}
-use Rattle.nf_utf8.proofs.BegunLen.{begun_len-longest, begun_all}
-use Rattle.nf_utf8.proofs.Endings.{ending_of-full, ending_of-begun, ending_of-broken}
+use Rattle.nf_utf8.proofs.BegunLen.{begun_len-longest, begun_all, ending_of-full, ending_of-begun, ending_of-broken}
 use Rattle.nf_utf8.proofs.ReadingLemmas.{length-encodes-text_of, broken, text_of-bad, ending_of-bad}
 
 -- ---- parts alone

@@ -4,8 +4,7 @@ use Rattle.std.proofs.str.Decodes.{chars-nil, chars-encodes}
 use Rattle.nf_utf8.specs.Tells.{Tells, part_after}
 use Rattle.nf_utf8.proofs.Texts.{BeginsText-IsUtf8}
 use Rattle.nf_utf8.proofs.TextLen.{text_len-longest, text_len-no_char}
-use Rattle.nf_utf8.proofs.BegunLen.{begun_len-is, begun_all, begins_until}
-use Rattle.nf_utf8.proofs.Endings.{ending_of-broken}
+use Rattle.nf_utf8.proofs.BegunLen.{begun_len-is, begun_all, begins_until, ending_of-broken}
 use Rattle.nf_utf8.proofs.ReadingLemmas.{text_on, rest_on, ending_on, begins_on}
 use Rattle.nf_utf8.proofs.Sequences.{BeginsText-part, part_no_char}
 
