@@ -90,11 +90,9 @@ module _ {part bytes : List ℕ} (byte : ℕ) (s : StandsAfter part bytes) where
     ending_of-standing (tells-stands h (Char c) p),
   )
   tells-answers h (BadByte back) p =
-      let b = broken_by part byte h p.1 in (
-        rw (text_more, text_of-none (part ++ byte ∷ []) b.0) (append-nil (text_of bytes)),
-        grind (arith, ending_on bytes (byte ∷ []) s.rest, b.1, held_len s),
-        omega (arith, held_len s, p.0),
-      )
+      let b = broken_by part byte h p.1 in
+      let none = rw (text_of-none (part ++ byte ∷ []) b.0, append-nil) at text_more in
+      grind (arith, none, ending_on bytes (byte ∷ []) s.rest, b.1, held_len s)
 
 -- a byte of ASCII where no character is begun
 pub ascii_tells : (byte c : ℕ) → byte < 0x80 → c ≡ byte → Tells [] byte (Char c)

@@ -24,7 +24,7 @@ ends_holding from bytes (a ∷ held) s = grind (arith, nat_tests, ending_of-stan
 pub ends_piece : (bytes piece : List ℕ) (end : End) → EndsAll bytes (bytes ++ piece) end → EndsPiece bytes piece end
 ends_piece bytes piece Whole e = e
 ends_piece bytes piece Cut e = rw length-append at e
-ends_piece bytes piece (Bad at back) e = (e.0, e.1, omega (arith, e.2, length-append bytes piece))
+ends_piece bytes piece (Bad at back) e = grind (arith, length-append bytes piece)
 
 -- ---- a piece in three: the first character, the text, and what is behind it
 
@@ -93,7 +93,7 @@ module _ {held piece : List ℕ} {first : Option ℕ} {text part rest : List ℕ
       taken_bad at inside bad =
           let ending = rw (j.joins, ending_of-behind lead tail utf8, bad) at (ending_on bytes piece s.rest) in
           let sizes = simp length-append at (ap length j.joins) in
-          (takes _ (grind (arith, ending, taken_len, held_len s, j.sum, length-append (first_bytes first) text), omega (arith, taken_len, held_len s, j.sum), omega (arith, j.sum)), stands_new)
+          (takes _ (grind (arith, ending, sizes, taken_len, held_len s, j.sum, length-append (first_bytes first) text)), stands_new)
 
     pub taken : (front : Front) (end : End) (left : List ℕ) → IsFront part rest front → EndsBy front skipped end left → Taken bytes piece first text end left
     taken (Char c len) end left is by = absurd by
@@ -112,7 +112,7 @@ module _ {held piece : List ℕ} {first : Option ℕ} {text part rest : List ℕ
   counts (BadFront at back) end left is by =
       let sizes = simp length-append at (ap length j.joins) in
       let front = length-append part (take at rest) in
-      rw by.0 (omega (arith, j.sum, is.3), omega (arith, j.sum, is.0), omega (arith, is.3, length-take-le at rest (omega (arith, is.0)), part_size (part ++ take at rest) is.1), by.1)
+      rw by.0 (grind (arith, sizes, front, j.sum, length-take-le at rest, part_size (part ++ take at rest) is.1))
 
 -- ---- the piece from `from` on, behind the first character
 
