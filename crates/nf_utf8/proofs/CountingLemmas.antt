@@ -1,5 +1,5 @@
 -- The characters of a text, counted by the bytes that begin them.
-use Rattle.nf_utf8.proofs.Common.{◌≡◌, ℕ, ◌+◌, ◌-◌, ◌%◌, ◌^◌, ◌≤◌, ◌||◌, Bool, true, false, cond, nat_lt, nat_le, bit_or, ⊎_elim, List, [], ◌∷◌, length, take, drop, map, replicate, IsUtf8, encode_utf8, encode_utf8_all, refl, sym, arith, take-add, is_char_start, count_by, chars, IsAscii, order, one, two, three, four, nat_tests, length-map, length-take-le, take_rest, zip2_of_maps, zip2_splat, zip2_splat_left, map-map, mask_l-mod, ones-mask_l, encodes-chars, IsUtf8-from_ascii, chars-IsAscii, chunk, zip2, mask_l, top}
+use Rattle.nf_utf8.proofs.Common.{◌≡◌, ℕ, ◌+◌, ◌-◌, ◌%◌, ◌^◌, ◌≤◌, ◌||◌, Bool, true, false, cond, nat_lt, nat_le, bit_or, List, [], ◌∷◌, length, take, drop, map, replicate, IsUtf8, encode_utf8, encode_utf8_all, refl, sym, arith, take-add, is_char_start, count_by, chars, IsAscii, one, two, three, four, nat_tests, length-map, length-take-le, take_rest, zip2_of_maps, zip2_splat, zip2_splat_left, map-map, mask_l-mod, ones-mask_l, encodes-chars, IsUtf8-from_ascii, chars-IsAscii, chunk, zip2, mask_l, top}
 use Rattle.std.specs.Int.RustNames.{count_ones}
 use Rattle.std.proofs.lemmas.List.Sums.{sum_by-append, sum_by-take-drop, sum_by-take-le, count_by-le-length}
 
@@ -12,16 +12,7 @@ starts_at byte = cond (is_char_start byte) 1 0
 -- ---- a text has as many characters as bytes that begin one
 
 starts-encode : (c : ℕ) → starts (encode_utf8 c) ≡ 1
-starts-encode c = ⊎_elim
-    (λ ascii. rw (one c ascii) (grind (arith, nat_tests)))
-    (λ past_one. ⊎_elim
-    (λ below. rw (two c past_one below) (grind (arith, nat_tests)))
-    (λ past_two. ⊎_elim
-    (λ below. rw (three c past_two below) (grind (arith, nat_tests)))
-    (λ past_three. rw (four c past_three) (grind (arith, nat_tests)))
-    (order c 0x10000))
-    (order c 0x800))
-    (order c 0x80)
+starts-encode c = grind (arith, nat_tests, one, two, three, four)
 
 starts-encode_all : (cs : List ℕ) → starts (encode_utf8_all cs) ≡ length cs
 starts-encode_all [] = refl
@@ -49,9 +40,8 @@ count-le bytes at = omega (arith, sum_by-take-le starts_at bytes at, count_by-le
 
 either : (x y : Bool) → top 7 (bit_or (cond x 255 0) (cond y 255 0)) ≡ (x || y)
 either true true = refl
-either true false = refl
 either false true = refl
-either false false = refl
+either _ _ = refl
 
 abbrev is_low : ℕ → ℕ → ℕ
 is_low byte bound = cond (nat_lt byte bound) 255 0

@@ -60,12 +60,6 @@ broken_at bytes n short part none =
     let text : text_len bytes ≡ 0 = omega (arith, least, text_len-no_char front (part_no_char front part)) in
     (text, rw (ending_of-broken bytes (omega (arith, begun)), begun, text))
 
-broken_by : (part : List ℕ) (byte : ℕ) → IsPart part → ¬ BeginsText (part ++ byte ∷ []) → (text_len (part ++ byte ∷ []) ≡ 0) × (ending_of (part ++ byte ∷ []) ≡ Bad (length part) 0)
-broken_by part byte h none =
-    let size = length_push part byte in
-    broken_at (part ++ byte ∷ []) (length part) (omega (arith, size)) (rw (take_at part (byte ∷ []) (length part) refl) h)
-    (λ b. none (rw (take_all (suc (length part)) (part ++ byte ∷ []) (omega (arith, size))) at b))
-
 -- ---- one byte more
 
 module _ {part bytes : List ℕ} (byte : ℕ) (s : StandsAfter part bytes) where
@@ -90,7 +84,9 @@ module _ {part bytes : List ℕ} (byte : ℕ) (s : StandsAfter part bytes) where
     ending_of-standing (tells-stands h (Char c) p),
   )
   tells-answers h (BadByte back) p =
-      let b = broken_by part byte h p.1 in
+      let size = length_push part byte in
+      let held : IsPart (take (length part) (part ++ byte ∷ [])) = rw (take_at part (byte ∷ []) (length part) refl) h in
+      let b = broken_at (part ++ byte ∷ []) (length part) (omega (arith, size)) held (λ b. p.1 (rw (take_all (suc (length part)) (part ++ byte ∷ []) (omega (arith, size))) at b)) in
       let none = rw (text_of-none (part ++ byte ∷ []) b.0, append-nil) at text_more in
       grind (arith, none, ending_on bytes (byte ∷ []) s.rest, b.1, held_len s)
 

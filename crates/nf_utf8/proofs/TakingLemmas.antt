@@ -121,9 +121,9 @@ completed : (held piece text : List ℕ) (first : Option ℕ) (from : ℕ) → C
 completed held piece text None from h = (rw (h.0, h.1), inl h.0, (IsUtf8-nil, chars-nil))
 completed held piece text (Some c) from h = (h.1.2, h.0, (IsUtf8-encode c h.1.1, chars_of_one c h.1.1))
 
-pub joined_from : (held piece : List ℕ) (first : Option ℕ) (from : ℕ) (text behind : List ℕ) → Completes held piece first from → from ≤ length piece → drop from piece ≡ text ++ behind
+pub joined_from : {held piece : List ℕ} {first : Option ℕ} {text behind : List ℕ} (from : ℕ) → Completes held piece first from → from ≤ length piece → drop from piece ≡ text ++ behind
     → IsUtf8 text → Joined held piece first text [] behind (from + length text)
-joined_from held piece first from text behind h within split u =
+joined_from {held} {piece} {first} {text} from h within split u =
     let done = completed held piece text first from h in
     record {
       leads = done.2;

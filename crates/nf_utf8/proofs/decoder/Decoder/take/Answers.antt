@@ -1,6 +1,6 @@
 use Rattle.std.proofs.Common.{rules}
 use Rattle.nf_utf8.proofs.Common.{◌≡◌, List, ℕ, [], None, Some, refl, sym, ◌∙◌, inr, arith, IsUtf8-nil, chars-nil, StandsAfter, Completes, IsFront}
-use Rattle.nf_utf8.proofs.TakingLemmas.{Joined, Taken, taken, counts, takes_same}
+use Rattle.nf_utf8.proofs.TakingLemmas.{Joined, taken, counts, takes_same}
 use Rattle.nf_utf8.proofs.decoder.Decoder.take.Goals as goal
 
 nothing : (c : goal.After-take_text) → Completes c.args.self.now c.args.piece.now None 0

@@ -19,8 +19,7 @@ joined : (c : goal.After-text-1) (held : List ℕ) → Completes held c.args.pie
     → Joined held c.args.piece.now c.args.first c.from_utf8_unchecked-text.result.now [] c.split_at.result.1.now (c.args.from + length c.from_utf8_unchecked-text.result.now)
 joined c held h =
     let text = c.from_utf8_unchecked-text in
-    joined_from held c.args.piece.now c.args.first c.args.from text.result.now c.split_at.result.1.now h c.requires
-    (rw text.ensures (rw take_rest at c.split_at.ensures.by_index.0)) text.utf8
+    joined_from c.args.from h c.requires (rw text.ensures (rw take_rest at c.split_at.ensures.by_index.0)) text.utf8
 
 pub returns-clause-takes : goal.returns-clause-takes
 returns-clause-takes c held bytes h s = (taken (joined c held h) s c.front.result c.end.result c.end.new.self c.front.ensures c.end.ensures).0
