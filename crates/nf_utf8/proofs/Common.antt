@@ -1,5 +1,5 @@
 -- The names that most of these proofs cite, passed on from one place. Declares nothing.
-pub use Rattle.std.proofs.Common.{w64, ◌≡◌, ℕ, ◌+◌, ◌%◌, ◌^◌, ◌<◌, ◌≤◌, Bool, false, not, cond, leb, List, map, length, take, get_or, sym, ap, ◌∙◌, ⊎_elim, arith, length-take-le, suc, true, nat_lt, [], ◌∷◌, ◌++◌, drop, Option, Some, None, unwrap_or, IsUtf8, subst, take-append-drop, length-drop, take-take, take_all, ◌-◌, ◌||◌, nat_le, bit_or, replicate, encode_utf8, encode_utf8_all, refl, take-add, chars, ◌==◌, length-append, append-nil, append_assoc, length-take, add-one, zero, inl, inr, ◌&&◌, take_at, IfSome, drop_at, w8}
+pub use Rattle.std.proofs.Common.{w64, ◌≡◌, ℕ, ◌+◌, ◌%◌, ◌^◌, ◌<◌, ◌≤◌, Bool, false, not, cond, leb, List, map, length, take, get_or, sym, ap, ◌∙◌, ⊎_elim, arith, length-take-le, suc, true, nat_lt, [], ◌∷◌, ◌++◌, drop, Option, Some, None, unwrap_or, IsUtf8, subst, take-append-drop, length-drop, take-take, take_all, ◌-◌, ◌||◌, nat_le, bit_or, replicate, encode_utf8, encode_utf8_all, refl, take-add, chars, ◌==◌, length-append, append-nil, append_assoc, length-take, add-one, zero, inl, inr, ◌&&◌, take_at, drop_at, w8}
 pub use Rattle.std.proofs.Math.Seq.{take-append-add, drop-append-add}
 pub use Rattle.std.proofs.iter.FirstChar.{no_text, after_text}
 pub use Rattle.std.proofs.lemmas.Bool.{leb-false, leb-true, le-ltb, cond_both, ne_eqb, eqb-true}

@@ -21,8 +21,8 @@ invalid_one rest some none = grind (arith, nat_tests, utf8_error_len_some rest s
 abbrev rest_at : List ℕ → List ℕ
 rest_at bytes = drop (text_len bytes) bytes
 
-broken_invalid : (bytes : List ℕ) (at start : ℕ) → ending_of bytes ≡ Bad at start → text_len bytes + utf8_invalid_len (rest_at bytes) ≡ part_end at start
-broken_invalid bytes at start e =
+broken_invalid : (bytes : List ℕ) {at start : ℕ} → ending_of bytes ≡ Bad at start → text_len bytes + utf8_invalid_len (rest_at bytes) ≡ part_end at start
+broken_invalid bytes {at} {start} e =
     grind (arith, nat_tests, broken bytes at start e, invalid_one (rest_at bytes), invalid_begun (rest_at bytes), length-drop (text_len bytes) bytes)
 
 -- std tells how many bytes are invalid: those of the part that a byte breaks off
@@ -33,12 +33,12 @@ pub record IsTold (bytes : List ℕ) (n : ℕ) : Type 0 where
 pub is_told : (bytes : List ℕ) (n : ℕ) → utf8_error_len (rest_at bytes) ≡ Some n → IsTold bytes n
 is_told bytes n told =
     let bad = ending_of-broken bytes (told_broken bytes n told) in
-    record { bad = bad; end = sym (broken_invalid bytes _ _ bad) ∙ ap (λ o. text_len bytes + unwrap_or o (length (rest_at bytes))) told }
+    record { bad = bad; end = sym (broken_invalid bytes bad) ∙ ap (λ o. text_len bytes + unwrap_or o (length (rest_at bytes))) told }
 
 pub few_at_end : (bytes : List ℕ) → begun_at_end bytes ≤ 3
 few_at_end = by_parts (λ bytes. begun_at_end bytes ≤ 3)
     (λ bytes all. omega (arith, bytes_in-all bytes all, all, begun_few bytes))
-    (λ bytes at start e h. omega (arith, bytes_in-broken bytes at start e, length-drop (part_end at start) bytes, h))
+    (λ bytes at start e h. omega (arith, bytes_in-broken bytes e, length-drop (part_end at start) bytes, h))
 
 -- ---- the text, by the ending
 
@@ -46,14 +46,14 @@ replaced-all : (bytes : List ℕ) → begun_len bytes ≡ length bytes → repla
 unfolding replaced
 replaced-all bytes all = rw (parts_of-all bytes all) (chars-own (text_of bytes))
 
-replaced-broken : (bytes : List ℕ) (at start : ℕ) → ending_of bytes ≡ Bad at start → replaced bytes ≡ text_of bytes ++ replacement ∷ replaced (drop (part_end at start) bytes)
+replaced-broken : (bytes : List ℕ) {at start : ℕ} → ending_of bytes ≡ Bad at start → replaced bytes ≡ text_of bytes ++ replacement ∷ replaced (drop (part_end at start) bytes)
 unfolding replaced
-replaced-broken bytes at start e = rw (parts_of-broken bytes at start e, map-append, chars-own)
+replaced-broken bytes {at} {start} e = rw (parts_of-broken bytes at start e, map-append, chars-own)
 
 pub replaced-IsText : (bytes : List ℕ) → IsText (replaced bytes)
 replaced-IsText = by_parts (λ bytes. IsText (replaced bytes))
     (λ bytes all. rw (replaced-all bytes all) (text_of-IsText bytes))
-    (λ bytes at start e h. rw (replaced-broken bytes at start e) (scalars-append (text_of bytes) (replacement ∷ replaced (drop (part_end at start) bytes)) (text_of-IsText bytes) h))
+    (λ bytes at start e h. rw (replaced-broken bytes e) (scalars-append (text_of bytes) (replacement ∷ replaced (drop (part_end at start) bytes)) (text_of-IsText bytes) h))
 
 -- ---- its bytes, where nothing follows
 
@@ -95,7 +95,7 @@ lossy_broken : (bytes : List ℕ) (at start : ℕ) → ending_of bytes ≡ Bad a
     → encode_utf8_all (replaced_whole (drop (part_end at start) bytes)) ≡ utf8_lossy (drop (part_end at start) bytes) → encode_utf8_all (replaced_whole bytes) ≡ utf8_lossy bytes
 lossy_broken bytes at start e h =
     let rest : List ℕ = drop (part_end at start) bytes in
-    let is = whole_is bytes _ (begun_at_end rest) (replaced-broken bytes at start e) (omega (arith, bytes_in-broken bytes at start e, length-drop (part_end at start) bytes)) in
+    let is = whole_is bytes _ (begun_at_end rest) (replaced-broken bytes e) (omega (arith, bytes_in-broken bytes e, length-drop (part_end at start) bytes)) in
     rw (
       is,
       append_assoc,
@@ -104,7 +104,7 @@ lossy_broken bytes at start e h =
       three replacement (omega arith) (omega arith),
       h,
       utf8_lossy_step bytes (omega (arith, broken bytes at start e)),
-      broken_invalid bytes at start e,
+      broken_invalid bytes e,
     )
 
 pub encodes-replaced_whole : (bytes : List ℕ) → encode_utf8_all (replaced_whole bytes) ≡ utf8_lossy bytes

@@ -42,7 +42,7 @@ replacement-chars = rw encodes_replacement at (chars-encodes (replacement ∷ []
 broken_front : (bytes : List ℕ) (n : ℕ) → IsTold bytes n → IsReplacedFront bytes (text_of bytes ++ replacement ∷ []) (text_len bytes + n)
 broken_front bytes n told =
     let part : Part = broken_part (begun_len bytes) (text_len bytes) in
-    let end = broken_end bytes (begun_len bytes) (text_len bytes) told.bad in
+    let end = broken_end bytes _ _ told.bad in
     rw (← told.end) (record {
       parts = own_parts (text_of bytes) ++ part ∷ [];
       chars = rw (map-append, chars-own);

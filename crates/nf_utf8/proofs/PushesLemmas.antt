@@ -24,9 +24,9 @@ module _ (from : List ℕ) where
   broken : (bytes piece : List ℕ) (byte at back : ℕ) → Answers bytes byte (BadByte back) → length from + at ≡ length bytes
       → ReadsOn from bytes (bytes ++ byte ∷ [] ++ piece) [] (Bad at back)
   broken bytes piece byte at back answer place =
-      let text = text_of-bad (bytes ++ byte ∷ []) piece (length bytes) (text_len bytes) answer.1 ∙ answer.0 in
+      let text = text_of-bad (bytes ++ byte ∷ []) piece _ _ answer.1 ∙ answer.0 in
       let len : text_len (bytes ++ byte ∷ [] ++ piece) ≡ text_len bytes = rw (text, length-encodes-text_of) at (sym (length-encodes-text_of (bytes ++ byte ∷ [] ++ piece))) in
-      (rw append-nil text, (rw (place, len) (ending_of-bad (bytes ++ byte ∷ []) piece (length bytes) (text_len bytes) answer.1), omega (arith, len, place, answer.2), simp length-append (omega (arith, place))))
+      (rw append-nil text, (rw (place, len) (ending_of-bad (bytes ++ byte ∷ []) piece _ _ answer.1), omega (arith, len, place, answer.2), simp length-append (omega (arith, place))))
 
   -- `Next` is what the bytes behind the step give
   step_on : (bytes piece text : List ℕ) (byte : ℕ) (end : End) (step : Step) (Next : List ℕ → Type 0)

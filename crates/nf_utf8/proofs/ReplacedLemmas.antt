@@ -50,9 +50,9 @@ parts-begun k bytes all = ⊎_elim
     (λ whole. rw (ending_of-full bytes (omega (arith, whole, (text_len-longest bytes).within))) (append-nil (own_parts (text_of bytes))))
     (order (text_len bytes) (length bytes))
 
-parts-broken : (k : ℕ) (bytes : List ℕ) (at start : ℕ) → ending_of bytes ≡ Bad at start
+parts-broken : (k : ℕ) (bytes : List ℕ) {at start : ℕ} → ending_of bytes ≡ Bad at start
     → parts_within (suc k) bytes ≡ own_parts (text_of bytes) ++ broken_part at start ∷ parts_within k (drop (part_end at start) bytes)
-parts-broken k bytes at start e = ap (λ x. own_parts (text_of bytes) ++ behind_text x (λ n. parts_within k (drop n bytes))) e
+parts-broken k bytes e = ap (λ x. own_parts (text_of bytes) ++ behind_text x (λ n. parts_within k (drop n bytes))) e
 
 pub parts_of-all : (bytes : List ℕ) → begun_len bytes ≡ length bytes → parts_of bytes ≡ own_parts (text_of bytes)
 unfolding parts_of
@@ -66,7 +66,7 @@ within_any (suc k) (suc j) bytes p q = ⊎_elim
     let e = ending_of-broken bytes short in
     let stop : ℕ = part_end (begun_len bytes) (text_len bytes) in
     let less : length (drop stop bytes) < length bytes = omega (arith, broken_end bytes _ _ e, length-drop stop bytes) in
-    rw (parts-broken k bytes _ _ e, parts-broken j bytes _ _ e, within_any k j (drop stop bytes) (omega arith) (omega arith)))
+    rw (parts-broken k bytes e, parts-broken j bytes e, within_any k j (drop stop bytes) (omega arith) (omega arith)))
     (λ past. let all : begun_len bytes ≡ length bytes = omega (arith, past, (begun_len-longest bytes).within) in rw (parts-begun k bytes all, parts-begun j bytes all))
     (order (begun_len bytes) (length bytes))
 
@@ -78,7 +78,7 @@ pub parts_of-broken : (bytes : List ℕ) (at start : ℕ) → ending_of bytes �
 unfolding parts_of
 parts_of-broken bytes at start e =
     let rest : List ℕ = drop (part_end at start) bytes in
-    rw (parts-broken (length bytes) bytes at start e, within_any (length bytes) (suc (length rest)) rest (omega (arith, broken_end bytes at start e, length-drop (part_end at start) bytes)) (omega arith))
+    rw (parts-broken (length bytes) bytes e, within_any (length bytes) (suc (length rest)) rest (omega (arith, broken_end bytes at start e, length-drop (part_end at start) bytes)) (omega arith))
 
 pub parts_of-bad : (bytes more : List ℕ) (at start : ℕ) → ending_of bytes ≡ Bad at start
     → parts_of (bytes ++ more) ≡ own_parts (text_of bytes) ++ broken_part at start ∷ parts_of (drop (part_end at start) (bytes ++ more))
@@ -89,11 +89,11 @@ parts_of-bad bytes more at start e = rw (parts_of-broken (bytes ++ more) at star
 pub bytes_in-all : (bytes : List ℕ) → begun_len bytes ≡ length bytes → bytes_in (parts_of bytes) ≡ text_len bytes
 bytes_in-all bytes all = rw (parts_of-all bytes all, bytes_in-own) (length-encodes-text_of bytes)
 
-pub bytes_in-broken : (bytes : List ℕ) (at start : ℕ) → ending_of bytes ≡ Bad at start → bytes_in (parts_of bytes) ≡ part_end at start + bytes_in (parts_of (drop (part_end at start) bytes))
-bytes_in-broken bytes at start e =
+pub bytes_in-broken : (bytes : List ℕ) {at start : ℕ} → ending_of bytes ≡ Bad at start → bytes_in (parts_of bytes) ≡ part_end at start + bytes_in (parts_of (drop (part_end at start) bytes))
+bytes_in-broken bytes {at} {start} e =
     rw (parts_of-broken bytes at start e, bytes_in-append, bytes_in-own) (omega (arith, length-encodes-text_of bytes, broken bytes at start e, broken_end bytes at start e))
 
 pub parts_of-within : (bytes : List ℕ) → bytes_in (parts_of bytes) ≤ length bytes
 parts_of-within = by_parts (λ bytes. bytes_in (parts_of bytes) ≤ length bytes)
     (λ bytes all. omega (arith, bytes_in-all bytes all, (text_len-longest bytes).within))
-    (λ bytes at start e h. omega (arith, bytes_in-broken bytes at start e, broken_end bytes at start e, length-drop (part_end at start) bytes, h))
+    (λ bytes at start e h. omega (arith, bytes_in-broken bytes e, broken_end bytes at start e, length-drop (part_end at start) bytes, h))

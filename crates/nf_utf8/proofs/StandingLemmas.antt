@@ -1,5 +1,5 @@
 -- What a byte tells of the bytes that begin a character, said of all the bytes that a decoder stands after.
-use Rattle.nf_utf8.proofs.Common.{◌≡◌, ℕ, suc, ◌+◌, ◌<◌, true, ◌&&◌, List, [], ◌∷◌, ◌++◌, length, take, IsUtf8, encode_utf8, chars, refl, sym, ap, ◌∙◌, arith, append-nil, length-drop, take_all, take_at, take-take, length-take-le, IsScalar, one, nat_tests, length_push, same_from_push, drop_all, IsUtf8-encode, utf8_valid_len-IsUtf8, Step, More, Char, BadByte, BeginsText, Bad, text_len, text_of, rest_of, begun_len, ending_of, StandsAfter, Answers, bytes_after, ending_at, IsPart}
+use Rattle.nf_utf8.proofs.Common.{◌≡◌, ℕ, suc, ◌+◌, ◌<◌, true, ◌&&◌, List, [], ◌∷◌, ◌++◌, length, take, IsUtf8, encode_utf8, chars, refl, ap, ◌∙◌, arith, append-nil, length-drop, take_all, take_at, take-take, length-take-le, IsScalar, one, nat_tests, length_push, same_from_push, drop_all, IsUtf8-encode, utf8_valid_len-IsUtf8, Step, More, Char, BadByte, BeginsText, Bad, text_len, text_of, rest_of, begun_len, ending_of, StandsAfter, Answers, bytes_after, ending_at, IsPart}
 use Rattle.std.proofs.str.Decodes.{chars-nil, chars-encodes}
 use Rattle.nf_utf8.specs.Tells.{Tells, part_after}
 use Rattle.nf_utf8.proofs.Texts.{BeginsText-IsUtf8}
@@ -98,6 +98,6 @@ ascii_tells byte c low same = (grind (arith, nat_tests), grind (arith, one))
 
 pub answers_same : (bytes : List ℕ) (byte : ℕ) (a b : Step) → Answers bytes byte a → Answers bytes byte b → a ≡ b
 answers_same bytes byte More More p q = refl
-answers_same bytes byte (Char c) (Char d) p q = ap (λ x. Char x) (same_from_push (text_of bytes) (text_of bytes) c d (sym p.0 ∙ q.0)).1
-answers_same bytes byte (BadByte n) (BadByte m) p q = ap (λ x. BadByte x) (let e : n ≡ m = omega (arith, p.2, q.2) in e)
-answers_same bytes byte _ _ p q = let e = p.1 in let f = q.1 in cc
+answers_same bytes byte (Char c) (Char d) p q = grind (arith, same_from_push (text_of bytes) (text_of bytes) c d)
+answers_same bytes byte (BadByte n) (BadByte m) p q = grind arith
+answers_same bytes byte _ _ p q = grind arith
