@@ -1,5 +1,5 @@
 -- The bytes below 80 under the lanes of one load.
-use Rattle.nf_utf8.proofs.Common.{w64, ◌≡◌, ℕ, ◌+◌, ◌%◌, ◌^◌, ◌<◌, ◌≤◌, Bool, false, not, leb, List, map, length, take, get_or, ◌∙◌, ⊎_elim, arith, prefix_len, IsAscii, order, leb-false, leb-true, length-map, get_or_past, get_or-take, length-take-le, mask_l-mod, bit_mask_l, length-chunk, trailing_mask_l, run_in_chunk_fails, run_in_chunk_stops, none_from_empty_mask, chunk, mask_l}
+use Rattle.nf_utf8.proofs.Common.{w64, ◌≡◌, ℕ, ◌+◌, ◌%◌, ◌^◌, ◌<◌, ◌≤◌, Bool, false, not, leb, List, map, length, take, get_or, ◌∙◌, arith, nat_tests, prefix_len, IsAscii, leb-true, length-map, get_or_past, get_or-take, length-take-le, mask_l-mod, bit_mask_l, length-chunk, trailing_mask_l, run_in_chunk_fails, run_in_chunk_stops, none_from_empty_mask, chunk, mask_l}
 use Rattle.std.proofs.lemmas.Str.Ascii.{IsAscii-from_reads}
 use Rattle.std.proofs.lemmas.Nat.Bits.{bit_at-trailing_zeros}
 use lib.Count.{count_trailing_zeros}
@@ -16,7 +16,7 @@ module _ (bytes : List ℕ) (at n : ℕ) (room : at + n ≤ length bytes) (befor
   mask = mask_l (map is_other (chunk at n bytes))
 
   pub all_below : mask ≡ 0 → (k : ℕ) → k < at + n → get_or bytes k 0 < 0x80
-  all_below none k inside = ⊎_elim (before k) (λ under. leb-false 0x80 _ (none_from_empty_mask is_other bytes at n 0 room none k under inside)) (order k at)
+  all_below none k inside = grind (arith, nat_tests, before k, none_from_empty_mask is_other bytes at n 0 room none k)
 
   module _ (few : n ≤ 64) (some : ¬ (mask ≡ 0)) where
     abbrev run : ℕ
@@ -35,7 +35,7 @@ module _ (bytes : List ℕ) (at n : ℕ) (room : at + n ≤ length bytes) (befor
     pub run_is : (at + run ≤ length bytes) × IsAscii (take (at + run) bytes) × (0x80 ≤ get_or bytes (at + run) 0)
     run_is =
         let below : (k : ℕ) → k < at + run → get_or bytes k 0 < 0x80 =
-        λ k inside. ⊎_elim (before k) (λ under. leb-false 0x80 _ (run_in_chunk_fails is_other bytes at n run 0 room counted k under inside)) (order k at) in
+        λ k inside. grind (arith, nat_tests, before k, run_in_chunk_fails is_other bytes at n run 0 room counted k) in
         let size = length-take-le (at + run) bytes (omega (arith, run_short)) in (
           omega (arith, run_short),
           IsAscii-from_reads _ (at + run) (omega (arith, size)) (λ k inside. omega (arith, below k inside, get_or-take (at + run) bytes k 0 inside)),

@@ -2,7 +2,7 @@
 pub use Rattle.std.proofs.Common.{w64, ◌≡◌, ℕ, ◌+◌, ◌%◌, ◌^◌, ◌<◌, ◌≤◌, Bool, false, not, cond, leb, List, map, length, take, get_or, sym, ap, ◌∙◌, ⊎_elim, arith, length-take-le, suc, true, nat_lt, [], ◌∷◌, ◌++◌, drop, Option, Some, None, unwrap_or, IsUtf8, subst, take-append-drop, length-drop, take-take, take_all, ◌-◌, ◌||◌, nat_le, bit_or, replicate, encode_utf8, encode_utf8_all, refl, take-add, chars, ◌==◌, length-append, append-nil, append_assoc, length-take, add-one, zero, inl, inr, ◌&&◌, take_at, drop_at, w8}
 pub use Rattle.std.proofs.Math.Seq.{take-append-add, drop-append-add}
 pub use Rattle.std.proofs.iter.FirstChar.{no_text, after_text}
-pub use Rattle.std.proofs.lemmas.Bool.{leb-false, leb-true, le-ltb, cond_both, ne_eqb, eqb-true}
+pub use Rattle.std.proofs.lemmas.Bool.{leb-true, le-ltb, cond_both, ne_eqb, eqb-true}
 pub use Rattle.std.proofs.lemmas.Bool.Decides.{nat_tests}
 pub use Rattle.std.proofs.lemmas.List.{length-map, get_or_past, get_or-take, take_rest, map-append, drop_all, drop-drop, drop-append-le, append_cancel_left, take-append-le, nil_from_length, length_push, same_from_push}
 pub use Rattle.std.proofs.lemmas.Simd.{mask_l-mod, bit_mask_l, length-chunk, trailing_mask_l, run_in_chunk_fails, run_in_chunk_stops, none_from_empty_mask, zip2_of_maps, zip2_splat, zip2_splat_left, map-map, ones-mask_l, tops_compared}

@@ -30,8 +30,8 @@ reads bytes = record { front = text_of-longest bytes; end = ending_of-is bytes }
 
 -- ---- and nothing else
 
-longest_text_same : (bytes a b : List ℕ) → IsLongestText bytes a → IsLongestText bytes b → a ≡ b
-longest_text_same bytes a b p q =
+longest_text_same : {bytes a b : List ℕ} → IsLongestText bytes a → IsLongestText bytes b → a ≡ b
+longest_text_same {a = a} {b = b} p q =
     let more = q.longest a p.spelled.0 p.scalars p.spelled.1 in
     let less = p.longest b q.spelled.0 q.scalars q.spelled.1 in
     let none : more.0 ≡ [] = nil_from_length more.0 (omega (arith, ap length more.1, ap length less.1, length-append a more.0, length-append b less.0)) in
@@ -47,5 +47,5 @@ only_ending bytes (Bad at start) e =
 
 pub reads_only : (bytes text : List ℕ) (ending : Ending) → Reads bytes text ending → (text ≡ text_of bytes) × (ending ≡ ending_of bytes)
 reads_only bytes text ending r =
-    let same = longest_text_same bytes text (text_of bytes) r.front (text_of-longest bytes) in
+    let same = longest_text_same r.front (text_of-longest bytes) in
     (same, only_ending bytes ending (rw same at r.end))
