@@ -39,8 +39,8 @@ replacement-chars : chars replacement_bytes ≡ replacement ∷ []
 replacement-chars = rw encodes_replacement at (chars-encodes (replacement ∷ []) refl)
 
 -- the text of bytes, and the part after it, where a byte breaks that off
-broken_front : (bytes : List ℕ) (n : ℕ) → IsTold bytes n → IsReplacedFront bytes (text_of bytes ++ replacement ∷ []) (text_len bytes + n)
-broken_front bytes n told =
+broken_front : {bytes : List ℕ} {n : ℕ} → IsTold bytes n → IsReplacedFront bytes (text_of bytes ++ replacement ∷ []) (text_len bytes + n)
+broken_front {bytes} told =
     let part : Part = broken_part (begun_len bytes) (text_len bytes) in
     let end = broken_end bytes _ _ told.bad in
     rw (← told.end) (record {
@@ -63,7 +63,7 @@ stretch_is bytes near n told =
       within = omega (arith, end, length-take near bytes);
       utf8 = rw same at (front_of-IsUtf8 start);
       part = omega (arith, end, told.end);
-      front = rw (take-append-drop, same) at (longer (drop near bytes) (broken_front start n told));
+      front = rw (take-append-drop, same) at (longer (drop near bytes) (broken_front told));
     }
 
 -- ---- one more stretch

@@ -5,5 +5,4 @@ pub returns-clause-answer : goal.returns-clause-answer
 returns-clause-answer c bytes s = tells-answers c.args.byte (rw c.self.view_is s) c.self.invariant c.step-step.result c.step-step.ensures
 
 pub returns-clause-stands : goal.returns-clause-stands
-returns-clause-stands c bytes s = rw c.after-self-inside.ensures
-    (tells-stands c.args.byte (rw c.self.view_is s) c.self.invariant c.step-step.result c.step-step.ensures)
+returns-clause-stands c bytes s = rw c.after-self-inside.ensures (tells-stands c.args.byte (rw c.self.view_is s) c.self.invariant c.step-step.result c.step-step.ensures)
