@@ -1,5 +1,6 @@
 -- `begun_len`, the length of the longest front that begins a text, and `ending_of`, by the three lengths that it compares.
-use Rattle.nf_utf8.proofs.Common.{◌≡◌, ℕ, suc, ◌+◌, ◌<◌, ◌≤◌, ⊎_elim, true, false, cond, nat_lt, List, [], ◌∷◌, ◌++◌, length, take, drop, Option, Some, None, unwrap_or, IsUtf8, arith, take-append-drop, length-drop, take-take, take_all, IsInRange, is_in_range, StartsWithNoChar, utf8_error_len, error_len_after_one, error_len_after_two, error_len_of_some, order, utf8_error_len-nil, utf8_error_len_some, no_text, le-ltb, cond_both, nat_tests, IsUtf8-nil, BeginsText, IsSecond, IsContinuation, text_len, part_len, begun_len, ◌==◌, eqb-true, Ending, Whole, Bad, Cut, ending_of}
+use Rattle.nf_utf8.proofs.Common.{◌≡◌, ℕ, suc, ◌+◌, ◌<◌, ◌≤◌, ⊎_elim, true, false, cond, nat_lt, List, [], ◌∷◌, ◌++◌, length, take, drop, Option, Some, None, unwrap_or, IsUtf8, arith, take-append-drop, length-drop, take-take, take_all, IsInRange, is_in_range, StartsWithNoChar, utf8_error_len, error_len_after_one, error_len_after_two, error_len_of_some, order, utf8_error_len-nil, utf8_error_len_some, no_text, le-ltb, cond_both, nat_tests, IsUtf8-nil, BeginsText, IsSecond, IsContinuation}
+use Rattle.nf_utf8.proofs.Common.{text_len, part_len, begun_len, ◌==◌, eqb-true, Ending, Whole, Bad, Cut, ending_of}
 use Rattle.nf_utf8.proofs.Fronts.{IsLongestFront, longest_same, longest_behind}
 use Rattle.nf_utf8.proofs.Texts.{BeginsText-append, BeginsText-behind, BeginsText-front, BeginsText-IsUtf8}
 use Rattle.nf_utf8.proofs.TextLen.{text_len-longest, length-front, text_len-rest, no_char-text_len}
