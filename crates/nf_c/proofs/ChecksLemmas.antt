@@ -1,9 +1,9 @@
 -- What checking a text in memory comes to.
-use Rattle.std.proofs.Common.{◌≡◌, ◌⊎◌, inl, inr, Bool, true, false, ℕ, ◌<◌, ◌^◌, List, ◌++◌, length, Option, Some, None, Result, Ok, Err, refl, sym, ap, ◌∙◌, arith, append-nil, IfErr, length-append}
+use Rattle.std.proofs.Common.{◌≡◌, ◌⊎◌, inl, inr, Bool, true, false, ℕ, ◌<◌, ◌^◌, List, ◌++◌, length, Option, Some, None, Result, Err, refl, sym, ap, ◌∙◌, arith, append-nil, IfErr, length-append}
 use Rattle.nf_utf8.specs.Reading.{ending_of}
 use Rattle.nf_safe.specs.declared.place.Place.{Place}
 use Rattle.nf_filter.specs.declared.fault.Fault.{Fault}
-use Rattle.nf_filter.specs.declared.fault.Fault.TheVariants.{Spent, TooLong, Read, Write, Row, BadByte, Cut, Unassigned}
+use Rattle.nf_filter.specs.declared.fault.Fault.TheVariants.{TooLong, Read, Row}
 use Rattle.nf_filter.specs.Faults.{answer_at_end}
 use Rattle.nf_filter.specs.Surveys.{IsOfSurvey, Surveys}
 use Rattle.nf_filter.specs.Laws.Soundness.{RefusesNone}
@@ -14,26 +14,15 @@ use Rattle.nf_c.specs.declared.status.Status.{Status}
 use Rattle.nf_c.specs.Checks.{state_of, checked, IsOfCheck, IsOfFormCheck, ChecksBy}
 
 pub of_check : (answer : Result (Option Place) Fault) → IfErr answer IsOfSurvey → RefusesNone answer → ¬ (answer ≡ Err TooLong) → ¬ (answer ≡ Err Read) → IfErr answer IsOfCheck
-of_check (Ok place) among sound long read = tt
-of_check (Err Spent) among sound long read = among
 of_check (Err TooLong) among sound long read = absurd (long refl)
 of_check (Err Read) among sound long read = absurd (read refl)
-of_check (Err Write) among sound long read = among
 of_check (Err (Row at)) among sound long read = absurd (sound at refl)
-of_check (Err (BadByte at start)) among sound long read = tt
-of_check (Err (Cut at start)) among sound long read = tt
-of_check (Err (Unassigned at)) among sound long read = among
+of_check answer among sound long read = among
 
 pub of_form_check : (answer : Result (Option Place) Fault) → IfErr answer IsOfText → ¬ (answer ≡ Err TooLong) → ¬ (answer ≡ Err Read) → IfErr answer IsOfFormCheck
-of_form_check (Ok place) among long read = tt
-of_form_check (Err Spent) among long read = among
 of_form_check (Err TooLong) among long read = absurd (long refl)
 of_form_check (Err Read) among long read = absurd (read refl)
-of_form_check (Err Write) among long read = among
-of_form_check (Err (Row at)) among long read = among
-of_form_check (Err (BadByte at start)) among long read = tt
-of_form_check (Err (Cut at start)) among long read = tt
-of_form_check (Err (Unassigned at)) among long read = tt
+of_form_check answer among long read = among
 
 module _ (decision : List ℕ → Option (Result (Option Place) Fault)) (value : List ℕ → Option Place) (found : Status) (IsOfKind : Fault → Type 0)
     (input : List ℕ) (text left : Text) (answer : Result (Option Place) Fault) (all : text.rest.now ≡ input) (surveys : Surveys 4096 0 decision value (state_of text) (state_of left) answer) where

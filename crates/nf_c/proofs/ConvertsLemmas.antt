@@ -1,13 +1,14 @@
 -- A whole text, fed and finished.
-use Rattle.std.proofs.Common.{◌≡◌, inl, inr, ℕ, ◌+◌, ◌-◌, ◌≤◌, ◌<◌, List, [], ◌++◌, length, take, Some, None, Result, Ok, Err, refl, sym, ap, ◌∙◌, subst, arith, length-take-le, IfSome}
+use Rattle.std.proofs.Common.{◌≡◌, inl, inr, ℕ, ◌+◌, ◌-◌, ◌≤◌, ◌<◌, List, [], ◌++◌, length, take, Some, None, Result, Ok, Err, refl, sym, ap, ◌∙◌, subst, arith, length-take-le}
 use Rattle.std.specs.Result.{result_err}
 use Rattle.std.proofs.lemmas.Slice.{take-put_mid_below}
 use Rattle.std.proofs.Math.Seq.{take-length}
 use borrow.Rule.Slice.PartMut.{put_mid}
 use Rattle.nf_forms.specs.Ucd.{ucd}
 use Rattle.nf_forms.specs.declared.form.Form.{Form}
-use Rattle.nf_utf8.specs.Reading.{text_of, ending_of}
-use Rattle.nf_utf8.specs.Reads.{Reads, EndsAs}
+use Rattle.nf_utf8.specs.Laws.{ReadsLongestText}
+use Rattle.nf_utf8.specs.Reading.{text_of}
+use Rattle.nf_utf8.specs.Reads.{EndsAs}
 use Rattle.nf_filter.specs.declared.fault.Fault.{Fault}
 use Rattle.nf_filter.specs.declared.fault.Fault.TheVariants.{TooLong, Write}
 use Rattle.nf_filter.specs.declared.filter.State.{State as FilterState}
@@ -24,26 +25,20 @@ use Rattle.nf_filter.proofs.WholeLemmas.{ending_whole, final_is}
 use Rattle.nf_c.specs.declared.feeding.Fed.{Fed}
 use Rattle.nf_c.specs.declared.finishing.Finished.{Finished}
 use Rattle.nf_c.specs.Feeds.{ends, FeedsFront}
-use Rattle.nf_c.specs.Finishes.{IsOfFinishing, FinishesFilter}
+use Rattle.nf_c.specs.Finishes.{FinishesFilter}
 use Rattle.nf_c.specs.Converts.{ConvertsText}
 use Rattle.nf_c.proofs.FeedsLemmas.{take_put, length_put}
 
 -- what ended without a fault is the form of a text
-is_form : (f : Form) (input out : List ℕ) → ((bytes : List ℕ) → Reads bytes (text_of bytes) (ending_of bytes)) → fault_in as_is ucd 0 input ≡ None → result_err (end_of as_is ucd 0 input) ≡ None
-    → out ≡ final_utf8 as_is f ucd input → IsFormOf f ucd input out
-is_form f input out reads none ok is = next (end_of as_is ucd 0 input) refl ok
-  where
-    next : (r : Result Tally Fault) → r ≡ end_of as_is ucd 0 input → result_err r ≡ None → IsFormOf f ucd input out
-    next (Ok tally) told e =
-        let end = ending_whole ucd input tally told none in (
-          text_of input,
-          (reads input).front.scalars,
-          subst (λ e. EndsAs input (text_of input) e) end (reads input).end,
-          is ∙ final_is f ucd input end,
-        )
-    next (Err fault) told e = cc
+is_form : (policy : Policy) (f : Form) (input out : List ℕ) (r : Result Tally Fault) → policy ≡ as_is → ReadsLongestText → fault_in policy ucd 0 input ≡ None → r ≡ end_of policy ucd 0 input → result_err r ≡ None
+    → out ≡ final_utf8 policy f ucd input → IsFormOf f ucd input out
+is_form policy f input out (Err fault) plain longest none told e is = cc
+is_form policy f input out (Ok tally) plain longest none told e is =
+    let end = ending_whole ucd input tally (rw plain at told) (rw plain at none) in
+    let reads = longest.reads input in
+    (text_of input, reads.front.scalars, subst (λ e. EndsAs input (text_of input) e) end reads.end, rw plain at is ∙ final_is f ucd input end)
 
-module _ (policy : Policy) (f : Form) (input output : List ℕ) (was now : FilterState) (fed : Fed) (base : base_of was ≡ 0) (front : FeedsFront policy f [] input output was now fed) where
+module _ {policy : Policy} {f : Form} {input output : List ℕ} {was now : FilterState} {fed : Fed} (base : base_of was ≡ 0) (front : FeedsFront policy f [] input output was now fed) where
   settles : take fed.written output ≡ settled_utf8 policy f ucd (take fed.read input)
   settles = sym (front.settles ∙ ap (λ l. l ++ take fed.written output) (settled_utf8-none policy f ucd))
 
@@ -54,12 +49,7 @@ module _ (policy : Policy) (f : Form) (input output : List ℕ) (was now : Filte
     read = front.read;
     written = front.written;
     fits = fits;
-    how = inl (record {
-      stopped = stopped;
-      settles = settles;
-      told = λ over. front.fault over ∙ ap (λ n. fault_in policy ucd n (take fed.read input)) base;
-      full = λ e. omega (arith, full e, ap length (settled_utf8-none policy f ucd));
-    });
+    how = inl (record { stopped = stopped; settles = settles; told = rw (← base) front.fault; full = λ e. omega (arith, full e, ap length (settled_utf8-none policy f ucd)) });
     form = λ _ none. absurd (stopped none);
   }
 
@@ -70,7 +60,7 @@ module _ (policy : Policy) (f : Form) (input output : List ℕ) (was now : Filte
     pub stands_whole : StandsAfter policy f ucd now input
     stands_whole = subst (StandsAfter policy f ucd now) whole (front.stands (ap ends goes))
 
-    module _ (part : List ℕ) (finished : Finished) (rest : length part ≡ length output - fed.written) (finishes : FinishesFilter policy f (base_of now) input part finished) where
+    module _ {part : List ℕ} {finished : Finished} (rest : length part ≡ length output - fed.written) (finishes : FinishesFilter policy f (base_of now) input part finished) where
       abbrev after : List ℕ
       after = put_mid fed.written (length output - fed.written) output part
 
@@ -78,7 +68,7 @@ module _ (policy : Policy) (f : Form) (input output : List ℕ) (was now : Filte
       base_is = front.base ∙ base
 
       no_fault : fault_in policy ucd 0 input ≡ None
-      no_fault = ap (λ n. fault_in policy ucd n input) (sym base_is) ∙ stands_whole.no_fault
+      no_fault = rw (← base_is) stands_whole.no_fault
 
       settled : take fed.written output ≡ settled_utf8 policy f ucd input
       settled = settles ∙ ap (settled_utf8 policy f ucd) whole
@@ -88,7 +78,7 @@ module _ (policy : Policy) (f : Form) (input output : List ℕ) (was now : Filte
       full_at_end is = record {
         read = front.read;
         written = omega (arith, front.written, length_put output part fed.written front.written rest);
-        fits = λ e. absurd (let clash : Some Write ≡ Some TooLong = sym is ∙ e in cc);
+        fits = λ e. cc;
         how = inr (record {
           all = all;
           no_fault = no_fault;
@@ -97,34 +87,21 @@ module _ (policy : Policy) (f : Form) (input output : List ℕ) (was now : Filte
           settles = λ _. take-put_mid_below fed.written (length output - fed.written) output part fed.written (omega arith) front.written ∙ settled;
           full = λ _. omega (arith, finishes.full.0 is, rest, front.written, ap length settled, length-take-le fed.written output front.written, length_put output part fed.written front.written rest);
         });
-        form = λ _ none. absurd (let clash : Some Write ≡ None = sym is ∙ none in cc);
+        form = λ _ none. cc;
       }
 
       -- or the rest was written
-      pub reaches_end : ¬ (finished.fault ≡ Some Write) → finished.written ≤ length part → ((bytes : List ℕ) → Reads bytes (text_of bytes) (ending_of bytes))
-          → ConvertsText policy f input after (record { read = fed.read; written = fed.written + finished.written; fault = finished.fault })
-      reaches_end not fits reads = record {
+      pub reaches_end : ¬ (finished.fault ≡ Some Write) → finished.written ≤ length part → ReadsLongestText → ConvertsText policy f input after (record { read = fed.read; written = fed.written + finished.written; fault = finished.fault })
+      reaches_end not fits longest = record {
         read = front.read;
         written = omega (arith, front.written, rest, fits, length_put output part fed.written front.written rest);
-        fits = λ e. (let among = subst (λ o. IfSome o IsOfFinishing) e finishes.among in among);
-        how = inr (record {
-          all = all;
-          no_fault = no_fault;
-          whole = λ _. final;
-          told = λ _. told;
-          settles = λ e. absurd (not e);
-          full = λ e. absurd (not e);
-        });
-        form = λ plain none. formed policy plain none no_fault told final;
+        fits = λ e. rw e at finishes.among;
+        how = inr (record { all = all; no_fault = no_fault; whole = λ _. final; told = λ _. told; settles = λ e. absurd (not e); full = λ e. absurd (not e) });
+        form = λ plain none. is_form policy f input _ _ plain longest no_fault refl (sym told ∙ none) final;
       }
         where
           final : take (fed.written + finished.written) after ≡ final_utf8 policy f ucd input
           final = take_put output part fed.written front.written rest finished.written fits ∙ ap (λ l. l ++ take finished.written part) settled ∙ sym (finishes.settles not)
 
           told : finished.fault ≡ result_err (end_of policy ucd 0 input)
-          told = finishes.is not ∙ ap (λ n. result_err (end_of policy ucd n input)) base_is
-
-          formed : (q : Policy) → q ≡ as_is → finished.fault ≡ None → fault_in q ucd 0 input ≡ None → finished.fault ≡ result_err (end_of q ucd 0 input)
-              → take (fed.written + finished.written) after ≡ final_utf8 q f ucd input → IsFormOf f ucd input (take (fed.written + finished.written) after)
-          formed q plain none no_fault_q told_q final_q = is_form f input _ reads (ap (λ (r : Policy). fault_in r ucd 0 input) (sym plain) ∙ no_fault_q)
-              (ap (λ (r : Policy). result_err (end_of r ucd 0 input)) (sym plain) ∙ sym told_q ∙ none) (final_q ∙ ap (λ (r : Policy). final_utf8 r f ucd input) plain)
+          told = rw (← base_is) (finishes.is not)

@@ -1,10 +1,10 @@
 -- What a filter that ends gives to a room.
-use Rattle.std.proofs.Common.{◌≡◌, ℕ, ◌+◌, ◌<◌, inl, inr, List, [], ◌++◌, length, take, Some, Result, Ok, Err, refl, sym, ap, ◌∙◌, subst, arith, ◌↔◌, IfSome, IfErr, length-append, length-take}
+use Rattle.std.proofs.Common.{◌≡◌, false, rules, ℕ, ◌+◌, ◌<◌, inl, inr, List, [], ◌++◌, length, take, Some, Result, Ok, Err, refl, sym, ap, ◌∙◌, arith, ◌↔◌, IfSome, IfErr, length-append, length-take}
 use Rattle.std.specs.Result.{result_err}
 use Rattle.nf_forms.specs.Ucd.{ucd}
 use Rattle.nf_forms.specs.declared.form.Form.{Form}
 use Rattle.nf_filter.specs.declared.fault.Fault.{Fault}
-use Rattle.nf_filter.specs.declared.fault.Fault.TheVariants.{Spent, TooLong, Read, Write, Row, BadByte, Cut, Unassigned}
+use Rattle.nf_filter.specs.declared.fault.Fault.TheVariants.{Spent, Write, Row}
 use Rattle.nf_filter.specs.declared.policy.Policy.{Policy}
 use Rattle.nf_filter.specs.declared.tally.Tally.{Tally}
 use Rattle.nf_filter.specs.Devices.{SinkState}
@@ -14,61 +14,35 @@ use Rattle.nf_filter.specs.Settled.{settled_utf8}
 use Rattle.nf_filter.specs.Laws.Soundness.{AreSound}
 use Rattle.nf_filter.proofs.FilterLemmas.{write_or_kept}
 use Rattle.nf_filter.proofs.SoundnessLemmas.{not_in_end}
-use Rattle.nf_c.specs.declared.finishing.Finished.{Finished}
 use Rattle.nf_c.specs.declared.room.Room.{Room}
 use Rattle.nf_c.specs.Room.{state_of as room_state}
 use Rattle.nf_c.specs.Finishes.{IsOfFinishing, FinishesFilter}
 use Rattle.nf_c.specs.State.{CanStand}
 use Rattle.nf_c.specs.declared.state.State.{State}
-use Rattle.nf_c.proofs.FeedsLemmas.{written_is, too_little}
+use Rattle.nf_c.proofs.FeedsLemmas.{puts_is, too_little}
 
 -- a state stays one when its text has ended
 pub CanStand-spent : (state : State) → CanStand state → CanStand (record state { spent = 1 })
-CanStand-spent state can = (
-  record {
-    magic_is = can.0.magic_is;
-    unicode_is = can.0.unicode_is;
-    form = can.0.form;
-    policy = can.0.policy;
-    spent = omega arith;
-    held = can.0.held;
-    marks_len = can.0.marks_len;
-    marks = can.0.marks;
-    starter = can.0.starter;
-  },
-  record { held = can.1.held; count = can.1.count; base = can.1.base; fits = inl refl },
-)
+CanStand-spent state can = (search (rules, can.0), record { held = can.1.held; count = can.1.count; base = can.1.base; fits = inl refl })
 
 -- a filter that is not spent ends by these faults, where no character is unsound
 of_finishing : (result : Result Tally Fault) → IfErr result IsOfFilter → ¬ (result ≡ Err Spent) → ((at : ℕ) → ¬ (result ≡ Err (Row at))) → IfSome (result_err result) IsOfFinishing
-of_finishing (Ok tally) among unspent sound = tt
 of_finishing (Err Spent) among unspent sound = absurd (unspent refl)
-of_finishing (Err TooLong) among unspent sound = among
-of_finishing (Err Read) among unspent sound = among
-of_finishing (Err Write) among unspent sound = tt
 of_finishing (Err (Row at)) among unspent sound = absurd (sound at refl)
-of_finishing (Err (BadByte at start)) among unspent sound = among
-of_finishing (Err (Cut at start)) among unspent sound = tt
-of_finishing (Err (Unassigned at)) among unspent sound = tt
+of_finishing result among unspent sound = among
 
 from_err : (result : Result Tally Fault) → result_err result ≡ Some Write → result ≡ Err Write
 from_err (Ok tally) e = cc
-from_err (Err fault) e = ap Err (let same : fault ≡ Write = cc in same)
+from_err (Err fault) e = cc
 
--- of a text with this base
-pub FinishesFilter-at : (policy : Policy) (f : Form) (bytes output : List ℕ) (finished : Finished) (base other : ℕ) → base ≡ other → FinishesFilter policy f base bytes output finished → FinishesFilter policy f other bytes output finished
-FinishesFilter-at policy f bytes output finished base other same = subst (λ n. FinishesFilter policy f n bytes output finished) same
-
-module _ (policy : Policy) (f : Form) (base : ℕ) (bytes output : List ℕ) (old : SinkState) (room : Room) (n : ℕ) (result : Result Tally Fault)
-    (was_empty : old.taken ≡ Some []) (is : output ≡ room.bytes.now) (taken : (room_state room).taken ≡ Some (take n room.bytes.now)) (finishes : FilterFinishes policy f ucd base bytes old (room_state room) result) where
+module _ {policy : Policy} {f : Form} {base : ℕ} {bytes output : List ℕ} {old : SinkState} (room : Room) (n : ℕ) {lender : ℕ} {result : Result Tally Fault} (was_empty : old ≡ record { taken = Some []; is_failed = false; lender = lender })
+    (is : output ≡ room.bytes.now) (taken : (room_state room).taken ≡ Some (take n room.bytes.now)) (finishes : FilterFinishes policy f ucd base bytes old (room_state room) result) where
   settles : ¬ (result ≡ Err Write) → final_utf8 policy f ucd bytes ≡ settled_utf8 policy f ucd bytes ++ take n output
-  settles not =
-      let puts = finishes.written not in
-      puts.behind ∙ ap (λ l. settled_utf8 policy f ucd bytes ++ l) (written_is old.taken (room_state room).taken (take n room.bytes.now) puts.out was_empty taken puts.given ∙ ap (take n) (sym is))
+  settles not = rw is (puts_is was_empty taken (finishes.written not))
 
   full : (result ≡ Err Write) ↔ (length (settled_utf8 policy f ucd bytes) + length output < length (final_utf8 policy f ucd bytes))
   full = (
-    λ e. too_little old room output _ _ was_empty is (finishes.broken_off e),
+    λ e. too_little room was_empty is (finishes.broken_off e),
     λ more. elim (write_or_kept result) [
       | inl e ↦ e
       | inr not ↦ absurd (omega (arith, more, ap length (settles not), length-append (settled_utf8 policy f ucd bytes) (take n output), length-take n output))
@@ -84,7 +58,4 @@ module _ (policy : Policy) (f : Form) (base : ℕ) (bytes output : List ℕ) (ol
   }
     where
       row : (at : ℕ) → ¬ (result ≡ Err (Row at))
-      row at e = elim (write_or_kept result) [
-        | inl w ↦ let same : Err Write ≡ Err (Row at) = sym w ∙ e in cc
-        | inr not ↦ not_in_end ucd sound base at policy bytes (sym (finishes.answer not) ∙ e)
-      ]
+      row at e = not_in_end ucd sound base at policy bytes (sym (finishes.answer (λ w. let same : Err Write ≡ Err (Row at) = sym w ∙ e in cc)) ∙ e)

@@ -3,4 +3,3 @@ pub mod FinishesLemmas
 pub mod ConvertsLemmas
 pub mod ChecksLemmas
 pub mod PassingLemmas
-pub mod PassedLemmas

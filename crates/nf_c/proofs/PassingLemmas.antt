@@ -1,10 +1,14 @@
--- Plain ASCII behind one such character that is pending alone: where it leaves a filter, and its state.
-use Rattle.std.proofs.Common.{◌≡◌, ℕ, zero, suc, ◌+◌, ◌-◌, ◌<◌, ◌^◌, Bool, true, false, List, [], ◌∷◌, ◌++◌, length, take, get_or, Some, refl, sym, ap, ◌∙◌, subst, arith, append_assoc, append-nil, length-append, encode_utf8_all, IsAscii, IsUtf8, IfSome}
+-- Plain ASCII behind one such character that is pending alone: where it leaves a filter and its state, and what a call tells.
+use Rattle.std.proofs.Common.{◌≡◌, ℕ, ◌+◌, ◌-◌, ◌<◌, ◌≤◌, ◌^◌, Bool, true, false, List, [], ◌∷◌, ◌++◌, length, map, take, get_or, Option, Some, None, if◌then◌else◌, inr}
+use Rattle.std.proofs.Common.{refl, sym, ap, ◌∙◌, subst, arith, rules, append_assoc, append-nil, length-append, encode_utf8_all, IsAscii, IsUtf8, IfSome, take-take, get_or-take, slice_set}
 use Rattle.std.specs.List.{list_all}
-use Rattle.std.proofs.lemmas.Bool.{and_from}
-use Rattle.std.proofs.lemmas.List.{nil_from_length}
-use Rattle.std.proofs.lemmas.Str.{encodes-IsAscii, chars-IsAscii, scalars-chars, IsUtf8-from_ascii, IsUtf8-append}
-use Rattle.std.proofs.lemmas.Str.Ascii.{All-from_ascii, IsAscii-from_all}
+use Rattle.std.proofs.lemmas.Bool.{and_from, ne_eqb, false≢true}
+use Rattle.std.proofs.lemmas.Bool.Decides.{nat_tests}
+use Rattle.std.proofs.lemmas.List.{nil_from_length, length-take-le, take-append-le, take_all}
+use Rattle.std.proofs.lemmas.Str.{encode_ascii, chars-IsAscii, IsUtf8-from_ascii, IsAscii-take}
+use Rattle.std.proofs.lemmas.Str.Ascii.{All-from_ascii}
+use Rattle.std.proofs.Math.Seq.{take-append-add}
+use borrow.Rule.Slice.PartMut.{put_mid, post_of}
 use Rattle.nf_forms.specs.Ucd.{ucd}
 use Rattle.nf_forms.specs.Properties.{Properties}
 use Rattle.nf_forms.specs.Front.{back}
@@ -13,19 +17,23 @@ use Rattle.nf_forms.specs.Forms.{decomposed, finished}
 use Rattle.nf_forms.specs.StreamSafe.{stream_safe}
 use Rattle.nf_row.specs.Ascii.{IsPlainAscii, AreAscii}
 use Rattle.nf_row.specs.Laws.Ascii.{ascii-head, ascii-tail}
-use Rattle.nf_utf8.specs.Text.{IsText, BeginsText}
-use Rattle.nf_utf8.specs.Ending.{Whole, moved}
-use Rattle.nf_utf8.specs.Laws.{ReadsPieces, ReadsBack, ReplacesParts, SplitsBytes}
+use Rattle.nf_utf8.specs.Laws.{ReplacesParts}
 use Rattle.nf_utf8.specs.Part.{IsPart}
+use Rattle.nf_utf8.specs.Ending.{Whole, moved}
 use Rattle.nf_utf8.specs.Reading.{text_len, text_of, rest_of, ending_of}
+use Rattle.nf_utf8.specs.Standing.{StandsAfter as DecoderStandsAfter}
+use Rattle.nf_utf8.proofs.ReadingLemmas.{text_of-behind, rest_of-behind, ending_of-behind, text_of-split, text_on, rest_on, ending_on, begins_on}
 use Rattle.nf_pending.specs.declared.pending.Pending.{Pending}
 use Rattle.nf_pending.proofs.Standing.{back_alone, stands_unmarked}
 use Rattle.nf_normalizer.specs.Normalizer.{settled_text}
 use Rattle.nf_normalizer.proofs.AsciiLemmas.{joins-run, settled_text-run, HasTaken-run}
 use Rattle.nf_filter.specs.declared.counted.Counted.{Counted}
+use Rattle.nf_filter.specs.declared.fault.Fault.{Fault}
+use Rattle.nf_filter.specs.declared.fault.Fault.TheVariants.{TooLong, Write}
 use Rattle.nf_filter.specs.declared.filter.State.{State as FilterState}
 use Rattle.nf_filter.specs.declared.policy.Policy.{Policy}
 use Rattle.nf_filter.specs.declared.reading.Reading.{Reading}
+use Rattle.nf_filter.specs.declared.saved.Saved.{Saved}
 use Rattle.nf_filter.specs.Counted.{HasTaken}
 use Rattle.nf_filter.specs.Faults.{bad_byte}
 use Rattle.nf_filter.specs.Feeding.{IsLeft, HasReadTo}
@@ -38,10 +46,11 @@ use Rattle.nf_filter.proofs.PieceLemmas.{IsLeft-more}
 use Rattle.nf_filter.proofs.PolicyLemmas.{allowed-append, take_while-all}
 use Rattle.nf_filter.proofs.ReadingLemmas.{text_of-none, ending_of-none}
 use Rattle.nf_filter.proofs.SavedLemmas.{IsRestorable-stands}
-
--- no bytes leave nothing
-rest_of-none : (split : SplitsBytes) → rest_of [] ≡ []
-rest_of-none split = nil_from_length (rest_of []) (omega (arith, ap length (split.split []), length-append (encode_utf8_all (text_of [])) (rest_of [])))
+use Rattle.nf_c.specs.declared.moved.Moved.{Moved}
+use Rattle.nf_c.specs.declared.state.State.{State}
+use Rattle.nf_c.specs.Feeds.{ends, IsOfFeeding, CanPass, Feeds}
+use Rattle.nf_c.specs.Moved.{ended, read_before}
+use Rattle.nf_c.specs.State.{mark_at, starter_at, unpacked, IsStarter, IsCalm, StandsAfter}
 
 -- where ASCII is assigned, it is allowed
 all_assigned : (p : Properties) → IsPlainAscii p → (cs : List ℕ) → AreAscii cs → list_all p.assigned cs ≡ true
@@ -52,35 +61,33 @@ allowed-ascii : (p : Properties) → IsPlainAscii p → (a : Bool) (t : List ℕ
 allowed-ascii p plain false t ascii = refl
 allowed-ascii p plain true t ascii = take_while-all p.assigned t (all_assigned p plain t (All-from_ascii t ascii))
 
--- where no character is begun, ASCII reads as its characters
-module _ (pieces : ReadsPieces) (whole : ReadsBack) (split : SplitsBytes) (tail t : List ℕ) (none : rest_of tail ≡ []) (ascii : IsAscii t) where
-  own : encode_utf8_all t ++ [] ≡ t
-  own = append-nil (encode_utf8_all t) ∙ encodes-IsAscii t ascii
+starter_low : (a : ℕ) → a < 0x80 → starter_at a ≡ Some a
+starter_low a below = ap (λ (b : Bool). if b then None else Some a) (ne_eqb a 0xFFFFFFFF (λ (e : a ≡ 0xFFFFFFFF). omega arith))
 
-  is_text : IsText t
-  is_text = subst IsText (chars-IsAscii t ascii) (scalars-chars t (IsUtf8-from_ascii t ascii))
+-- where no character is begun, ASCII reads as its characters
+module _ (tail t : List ℕ) (none : rest_of tail ≡ []) (ascii : IsAscii t) where
+  utf8 : IsUtf8 t
+  utf8 = IsUtf8-from_ascii t ascii
 
   text_of-ascii : text_of (tail ++ t) ≡ text_of tail ++ t
-  text_of-ascii = pieces.text tail t ∙ ap (λ r. text_of tail ++ text_of (r ++ t)) none
-      ∙ ap (λ r. text_of tail ++ r) (ap text_of (sym own) ∙ whole.text t [] is_text ∙ ap (λ r. t ++ r) text_of-none ∙ append-nil t)
-
-  rest_of-ascii : rest_of (tail ++ t) ≡ []
-  rest_of-ascii = pieces.rest tail t ∙ ap (λ r. rest_of (r ++ t)) none ∙ ap rest_of (sym own) ∙ whole.rest t [] is_text ∙ rest_of-none split
+  text_of-ascii = text_on [] tail t none ∙ ap (λ l. text_of tail ++ l) (simp (append-nil, text_of-none, chars-IsAscii t ascii) at (text_of-behind t [] utf8))
 
   ending_of-ascii : ending_of (tail ++ t) ≡ Whole
-  ending_of-ascii = pieces.ending tail t ∙ ap (λ r. moved (text_len tail) (ending_of (r ++ t))) none
-      ∙ ap (moved (text_len tail)) (ap ending_of (sym own) ∙ whole.ending t [] is_text ∙ ap (moved (length (encode_utf8_all t))) ending_of-none)
+  ending_of-ascii = ending_on [] tail t none ∙ ap (moved (text_len tail)) (simp (append-nil, ending_of-none) at (ending_of-behind t [] utf8))
 
-  begins-ascii : BeginsText (tail ++ t)
-  begins-ascii =
-      let is : encode_utf8_all (text_of tail) ≡ tail = sym (append-nil (encode_utf8_all (text_of tail))) ∙ ap (λ r. encode_utf8_all (text_of tail) ++ r) (sym none) ∙ sym (split.split tail) in
-      ([], subst IsUtf8 (sym (append-nil (tail ++ t))) (IsUtf8-append tail t (text_of tail, (split.scalars tail, is)) (IsUtf8-from_ascii t ascii)))
+  stands-ascii : DecoderStandsAfter [] (tail ++ t)
+  stands-ascii = record {
+    rest = rest_on [] tail t none ∙ rw append-nil at (rest_of-behind t [] utf8) ∙ sym (rw text_of-none at (text_of-split []));
+    begins = begins_on [] tail t none ([], rw (append-nil t) utf8);
+  }
 
-module _ (pieces : ReadsPieces) (whole : ReadsBack) (laws : ReplacesParts) (split : SplitsBytes) (plain : IsPlainAscii ucd) (policy : Policy) (f : Form) (filter : FilterState) (bytes t : List ℕ) (n a : ℕ)
-    (stands : FilterStandsAfter policy f ucd filter bytes) (none : filter.reading.decoder ≡ []) (starter : filter.counted.normalizer.pending.starter ≡ Some a) (marks : length filter.counted.normalizer.pending.marks.items ≡ 0) (below : a < 0x80)
-    (len : length t ≡ n) (some : 0 < n) (ascii : IsAscii t) (fits : filter.reading.offset + n < 2 ^ 64) where
+module _ (laws : ReplacesParts) (plain : IsPlainAscii ucd) (policy : Policy) (f : Form) (old : State) (bytes t : List ℕ) (n : ℕ)
+    (calm : IsCalm old) (stand : StandsAfter policy f old bytes) (len : length t ≡ n) (some : 0 < n) (ascii : IsAscii t) (fits : old.offset + n < 2 ^ 64) where
+  abbrev filter : FilterState
+  filter = stand.filter
+
   abbrev read : HasReadTo policy f ucd filter.counted (base_of filter) filter.reading bytes []
-  read = stands.reading
+  read = stand.stands.reading
 
   abbrev x : List ℕ
   x = read.before ++ text_of read.tail
@@ -88,27 +95,31 @@ module _ (pieces : ReadsPieces) (whole : ReadsBack) (laws : ReplacesParts) (spli
   abbrev last : ℕ
   last = get_or t (n - 1) 0
 
+  none : filter.reading.decoder ≡ []
+  none = ap (λ (s : Saved). s.held.items) stand.saved ∙ ap (λ k. take k old.held) calm.held
+
+  marks : length filter.counted.normalizer.pending.marks.items ≡ 0
+  marks = ap (λ (s : Saved). length s.marks.items) stand.saved ∙ ap (λ k. length (map mark_at (take k old.marks))) calm.marks
+
   nothing : rest_of read.tail ≡ []
   nothing = read.decoder.rest ∙ none
 
-  alone : back ucd (finished f ucd (decomposed f ucd (stream_safe ucd x))) ≡ a ∷ []
-  alone = subst (λ o. IfSome o (λ a. back ucd (finished f ucd (decomposed f ucd (stream_safe ucd x))) ≡ a ∷ [])) starter (back_alone f ucd filter.counted.normalizer.pending _ read.taken.machine.pending marks)
-
-  abbrev pending : Pending
-  pending = record { composes = filter.counted.normalizer.pending.composes; starter = Some last; marks = filter.counted.normalizer.pending.marks }
-
-  abbrev counted : Counted
-  counted = record { normalizer = record filter.counted.normalizer { counter = 0; pending = pending }; chars = filter.counted.chars + n; put = filter.counted.put }
-
-  abbrev reading : Reading
-  reading = record { decoder = filter.reading.decoder; offset = filter.reading.offset + n; offset_fits = fits }
+  alone : back ucd (finished f ucd (decomposed f ucd (stream_safe ucd x))) ≡ old.starter ∷ []
+  alone = subst (λ o. IfSome o (λ a. back ucd (finished f ucd (decomposed f ucd (stream_safe ucd x))) ≡ a ∷ [])) (ap (λ (s : Saved). s.starter) stand.saved ∙ starter_low old.starter calm.starter)
+      (back_alone f ucd filter.counted.normalizer.pending _ read.taken.machine.pending marks)
 
   -- the filter behind it
-  abbrev pub after : FilterState
-  after = record {
-    base = filter.base;
-    spent = filter.spent;
-    policy = filter.policy;
+  abbrev pending : Pending
+  pending = record filter.counted.normalizer.pending { starter = Some last }
+
+  abbrev counted : Counted
+  counted = record filter.counted { normalizer = record filter.counted.normalizer { counter = 0; pending = pending }; chars = filter.counted.chars + n }
+
+  abbrev reading : Reading
+  reading = record { decoder = filter.reading.decoder; offset = filter.reading.offset + n; offset_fits = omega (arith, ap (λ (s : Saved). s.offset) stand.saved) }
+
+  abbrev after : FilterState
+  after = record filter {
     reading = reading;
     counted = counted;
     base_within = omega (arith, filter.base_within);
@@ -117,15 +128,12 @@ module _ (pieces : ReadsPieces) (whole : ReadsBack) (laws : ReplacesParts) (spli
         record { held = omega (arith, ready.held); end = (record { machine = record { run = omega (arith, marks); bound = omega arith }; put = omega (arith, ready.end.0.put) }, omega (arith, ready.end.1, ready.held)) };
   }
 
-  text_is : text_of (read.tail ++ t) ≡ text_of read.tail ++ t
-  text_is = text_of-ascii pieces whole split read.tail t nothing ascii
-
   joined : x ++ t ≡ read.before ++ text_of (read.tail ++ t)
-  joined = append_assoc read.before (text_of read.tail) t ∙ ap (λ l. read.before ++ l) (sym text_is)
+  joined = append_assoc read.before (text_of read.tail) t ∙ ap (λ l. read.before ++ l) (sym (text_of-ascii read.tail t nothing ascii))
 
   taken : HasTaken f ucd counted (x ++ t)
   taken = record {
-    machine = HasTaken-run ucd plain f x t n len some ascii read.taken.machine.usable a alone below filter.counted.normalizer 0 pending last read.taken.machine refl refl
+    machine = HasTaken-run ucd plain f x t n len some ascii read.taken.machine.usable old.starter alone calm.starter filter.counted.normalizer 0 pending last read.taken.machine refl refl
         (λ w v s ends leaves. stands_unmarked f ucd pending v leaves s.composes (sym ends) (nil_from_length filter.counted.normalizer.pending.marks.items marks));
     chars = omega (arith, read.taken.chars, length-append x t, len);
     put = omega (arith, read.taken.put, length-append x t, joins-run ucd plain f x t n len some ascii read.taken.machine.usable);
@@ -137,38 +145,107 @@ module _ (pieces : ReadsPieces) (whole : ReadsBack) (laws : ReplacesParts) (spli
     n = read.n;
     tail = read.tail ++ t;
     left = subst (IsLeft policy.replace (bytes ++ t) read.before read.n) (sym (append-nil (read.tail ++ t))) (IsLeft-more policy.replace bytes read.before read.n read.tail t (left_is policy f ucd (base_of filter) laws filter.counted filter.reading bytes read));
-    decoder = record { rest = rest_of-ascii pieces whole split read.tail t nothing ascii ∙ sym none; begins = begins-ascii pieces whole split read.tail t nothing ascii };
-    good = λ k. ap (bad_byte k) (ending_of-ascii pieces whole split read.tail t nothing ascii);
+    decoder = subst (λ d. DecoderStandsAfter d (read.tail ++ t)) (sym none) (stands-ascii read.tail t nothing ascii);
+    good = λ k. ap (bad_byte k) (ending_of-ascii read.tail t nothing ascii);
     offset = omega (arith, read.offset, length-append read.tail t, len);
     taken = subst (HasTaken f ucd counted) joined taken;
     allowed = subst (λ l. allowed policy.assigned ucd l ≡ l) joined (allowed-append ucd policy.assigned x t read.allowed ∙ ap (λ l. x ++ l) (allowed-ascii ucd plain policy.assigned t ascii));
   }
 
-  pub after-stands : FilterStandsAfter policy f ucd after (bytes ++ t)
+  after-stands : FilterStandsAfter policy f ucd after (bytes ++ t)
   after-stands = record {
-    unspent = stands.unspent;
-    policy_is = stands.policy_is;
+    unspent = stand.stands.unspent;
+    policy_is = stand.stands.policy_is;
     reading = reads;
     no_fault = read-no_fault policy f ucd (base_of filter) laws counted reading (bytes ++ t) reads;
   }
 
-  pub after-restorable : IsRestorable ucd (saved_of after)
-  after-restorable = IsRestorable-stands laws {state = after} after-stands (subst IsPart (sym none) tt) (omega arith)
-      (omega (arith, ap length (split.split after-stands.reading.tail), length-append (encode_utf8_all (text_of after-stands.reading.tail)) (rest_of after-stands.reading.tail), ap length after-stands.reading.decoder.rest))
+  -- the state behind it
+  abbrev passed : State
+  passed = record old { starter = last; offset = old.offset + n; chars = old.chars + n }
+
+  low : last < 0x80
+  low = ascii (n - 1)
+
+  saved : saved_of after ≡ unpacked passed
+  saved = ap (λ (s : Saved). record s { offset = s.offset + n; chars = s.chars + n; count = 0; starter = Some last }) stand.saved ∙ cc (calm.count, starter_low last low)
+
+  starter : IsStarter last
+  starter = inr (grind (arith, nat_tests, low))
+
+  restorable : IsRestorable ucd (saved_of after)
+  restorable = IsRestorable-stands laws {state = after} after-stands (subst IsPart (sym none) tt) (omega arith)
+      (let r = after-stands.reading in omega (arith, ap length (text_of-split r.tail), length-append (encode_utf8_all (text_of r.tail)) (rest_of r.tail), ap length r.decoder.rest))
+
+  passed-stands : StandsAfter policy f passed (bytes ++ t)
+  passed-stands = record {
+    can = (search (rules, calm.can.0, starter), subst (IsRestorable ucd) saved restorable);
+    filter = after;
+    saved = saved;
+    stands = after-stands;
+  }
 
   -- for it goes out all but the last
-  pub settles : settled_utf8 policy f ucd (bytes ++ t) ≡ settled_utf8 policy f ucd bytes ++ (a ∷ take (n - 1) t)
+  passed-settles : settled_utf8 policy f ucd (bytes ++ t) ≡ settled_utf8 policy f ucd bytes ++ (old.starter ∷ take (n - 1) t)
   unfolding reads
-  settles =
+  passed-settles =
       sym (read-settled policy f ucd (base_of filter) laws counted reading (bytes ++ t) reads) ∙ ap (settled_text f ucd) (sym joined)
-      ∙ sym (settled_text-run ucd plain f x t n len some ascii read.taken.machine.usable a alone below)
-      ∙ ap (λ l. (settled_text f ucd x ++ l) ++ take (n - 1) t) (encodes-IsAscii (a ∷ []) one)
-      ∙ append_assoc (settled_text f ucd x) (a ∷ []) (take (n - 1) t)
-      ∙ ap (λ l. l ++ (a ∷ take (n - 1) t)) (read-settled policy f ucd (base_of filter) laws filter.counted filter.reading bytes read)
-    where
-      at : (k d : ℕ) → k < 1 → get_or (a ∷ []) k d < 128
-      at zero d inside = below
-      at (suc k) d inside = absurd (omega (arith, inside))
+      ∙ sym (settled_text-run ucd plain f x t n len some ascii read.taken.machine.usable old.starter alone calm.starter)
+      ∙ ap (λ l. (settled_text f ucd x ++ (l ++ [])) ++ take (n - 1) t) (encode_ascii old.starter calm.starter)
+      ∙ append_assoc (settled_text f ucd x) (old.starter ∷ []) (take (n - 1) t)
+      ∙ ap (λ l. l ++ (old.starter ∷ take (n - 1) t)) (read-settled policy f ucd (base_of filter) laws filter.counted filter.reading bytes read)
 
-      one : IsAscii (a ∷ [])
-      one = IsAscii-from_all (a ∷ []) at
+-- what a call tells that let a front of its input pass
+module _ (laws : ReplacesParts) (plain : IsPlainAscii ucd) (policy : Policy) (f : Form) (old new : State) (bytes input output : List ℕ) (space len : ℕ)
+    (can : CanPass old input space len) (stand : StandsAfter policy f old bytes) (some : 0 < len) (fits : old.offset + length input < 2 ^ 64)
+    (is : new ≡ record old { starter = get_or input (len - 1) 0; offset = old.offset + len; chars = old.chars + len }) (out : take len output ≡ old.starter ∷ take (len - 1) input) (room : length output ≡ space) where
+  settles_to : (n : ℕ) → 0 < n → n ≤ length input → IsAscii (take n input) → settled_utf8 policy f ucd (bytes ++ take n input) ≡ settled_utf8 policy f ucd bytes ++ (old.starter ∷ take (n - 1) input)
+  settles_to n more within ascii =
+      passed-settles laws plain policy f old bytes (take n input) n can.calm stand (length-take-le n input within) more ascii (omega (arith, fits, within))
+      ∙ ap (λ l. settled_utf8 policy f ucd bytes ++ (old.starter ∷ l)) (take-take (n - 1) n input (omega arith))
+
+  new-stands : StandsAfter policy f new (bytes ++ take len input)
+  new-stands = subst (λ s. StandsAfter policy f s (bytes ++ take len input))
+      (sym (is ∙ ap (λ s. record old { starter = s; offset = old.offset + len; chars = old.chars + len }) (sym (get_or-take len input (len - 1) 0 (omega (arith, some))))))
+      (passed-stands laws plain policy f old bytes (take len input) len can.calm stand (length-take-le len input can.within) some can.ascii (omega (arith, fits, can.within)))
+
+  pub pass-feeds : (fault : Option Fault) (moved : Moved) → moved ≡ ended fault (read_before fault old.offset (length input) len) len → ends fault ≡ false → IfSome fault IsOfFeeding → ¬ (fault ≡ Some TooLong)
+      → (fault ≡ None → len ≡ length input) → (fault ≡ Some Write → len < length input) → Feeds policy f bytes input old new output moved
+  pass-feeds fault told moved goes among not_long all less = record {
+    fault = fault;
+    seen = len;
+    written = len;
+    is = moved;
+    among = among;
+    seen_within = can.within;
+    written_within = omega (arith, can.room, room);
+    settles = settles_to len some can.within can.ascii ∙ ap (λ l. settled_utf8 policy f ucd bytes ++ l) (sym out);
+    all = all;
+    full = λ e.
+        let more = can.more (less e) in
+        let longer = settles_to (len + 1) (omega arith) (omega (arith, less e)) more.1 in
+        omega (arith, ap length longer, length-append (settled_utf8 policy f ucd bytes) (old.starter ∷ take (len + 1 - 1) input), length-take-le (len + 1 - 1) input (omega (arith, less e)), more.0, room);
+    stands = λ _. new-stands;
+    told = λ e. absurd (false≢true (sym goes ∙ e));
+    spent = λ e. absurd (false≢true (sym goes ∙ e));
+    too_long = (λ e. absurd (not_long e), λ long. absurd (omega (arith, fits, long)));
+    nothing = λ e. absurd (not_long e);
+  }
+
+-- a front of ASCII
+pub ascii_front : (xs : List ℕ) (k seen n : ℕ) → seen ≤ k → IsAscii (take k (take seen xs)) → n ≤ seen → IsAscii (take n xs)
+ascii_front xs k seen n all ascii few = subst IsAscii (take-take n k (take seen xs) (omega arith) ∙ take-take n seen xs few) (IsAscii-take (take k (take seen xs)) n ascii)
+
+-- what stands at the front of a list, the first of which was written, and then those behind it
+pub first_set : (xs : List ℕ) (v : ℕ) → 0 < length xs → take 1 (slice_set xs 0 v) ≡ v ∷ []
+first_set [] v some = absurd (omega (arith, some))
+first_set (x ∷ xs) v some = refl
+
+pub take_behind : (xs ys : List ℕ) (v len : ℕ) → 0 < len → take 1 xs ≡ v ∷ [] → length ys ≡ len - 1 → take len (put_mid 1 (len - 1) xs ys) ≡ v ∷ ys
+take_behind xs ys v len some first is =
+    ap (λ k. take k (put_mid 1 (len - 1) xs ys)) at ∙ take-append-add (take 1 xs) (ys ++ post_of 1 (len - 1) xs) (len - 1)
+    ∙ ap (λ l. l ++ take (len - 1) (ys ++ post_of 1 (len - 1) xs)) first
+    ∙ ap (λ l. v ∷ l) (take-append-le (len - 1) ys (post_of 1 (len - 1) xs) (omega (arith, is)) ∙ take_all (len - 1) ys (omega (arith, is)))
+  where
+    at : len ≡ length (take 1 xs) + (len - 1)
+    at = omega (arith, some, ap length first)

@@ -1,13 +1,9 @@
-use Rattle.std.proofs.Common.{eqb-true, arith, ◌≡◌, ℕ, ◌+◌, ◌<◌, ◌^◌, ◌==◌, length, ◌++◌, take, Some, refl, sym, ap, ◌∙◌, subst, append-nil}
+use Rattle.std.proofs.Common.{eqb-true, arith, ◌≡◌, ◌+◌, ◌<◌, ◌^◌, ◌==◌, length, ◌++◌, take, Some, refl, sym, ap, ◌∙◌, append-nil}
 use Rattle.nf_forms.specs.Ucd.{ucd}
 use Rattle.nf_filter.specs.declared.fault.Fault.TheVariants.{TooLong}
 use Rattle.nf_filter.specs.declared.saved.Saved.{Saved}
 use Rattle.nf_filter.specs.Faults.{fault_in}
-use Rattle.nf_filter.specs.Settled.{settled_utf8}
-use Rattle.nf_c.specs.declared.moved.Moved.{Moved}
-use Rattle.nf_c.specs.Moved.{read_before}
-use Rattle.nf_c.specs.State.{StandsAfter}
-use Rattle.nf_c.proofs.FeedsLemmas.{read_before-within, read_ended, written_ended, StandsAfter-of}
+use Rattle.nf_c.proofs.FeedsLemmas.{read_before-within, ended_moved, StandsAfter-of}
 use Rattle.nf_c.proofs.feeding.feed.Goals as goal
 
 pub returns-then-is_too_long-clause-feeds : goal.returns-then-is_too_long-clause-feeds
@@ -19,10 +15,10 @@ returns-then-is_too_long-clause-feeds c = λ policy f bytes stands. record {
   among = tt;
   seen_within = omega arith;
   written_within = omega arith;
-  settles = ap (settled_utf8 policy f ucd) (append-nil bytes) ∙ sym (append-nil (settled_utf8 policy f ucd bytes));
+  settles = simp append-nil;
   all = λ e. cc;
   full = λ e. cc;
-  stands = λ _. subst (StandsAfter policy f c.args.state.now) (sym (append-nil bytes)) stands;
+  stands = λ _. rw (append-nil bytes) stands;
   told = λ e. cc;
   spent = λ e. cc;
   too_long = (λ _. omega (arith, c.is_too_long-2.ensures.long c.if-is_too_long.true), λ _. refl);
@@ -32,14 +28,12 @@ returns-then-is_too_long-clause-feeds c = λ policy f bytes stands. record {
 pub returns-clause-read : goal.returns-clause-read
 returns-clause-read c =
     let fed = c.feed_all-fed.result in
-    let before : ℕ = read_before fed.fault c.args.state.now.offset (length c.args.input.now) fed.read in
-    omega (arith, read_before-within fed.fault c.args.state.now.offset (length c.args.input.now) fed.read c.feed_all-fed.ensures.read, read_ended fed.fault before fed.written, ap (λ (m : Moved). m.read) c.within.ensures)
+    omega (arith, read_before-within fed.fault c.args.state.now.offset (length c.args.input.now) fed.read c.feed_all-fed.ensures.read, (ended_moved fed.fault _ fed.written _ c.within.ensures).0)
 
 pub returns-clause-written : goal.returns-clause-written
 returns-clause-written c =
     let fed = c.feed_all-fed.result in
-    let before : ℕ = read_before fed.fault c.args.state.now.offset (length c.args.input.now) fed.read in
-    omega (arith, c.feed_all-fed.ensures.written, written_ended fed.fault before fed.written, ap (λ (m : Moved). m.written) c.within.ensures)
+    omega (arith, c.feed_all-fed.ensures.written, (ended_moved fed.fault _ fed.written _ c.within.ensures).1)
 
 -- a filter that is spent was saved
 pub returns-clause-state : goal.returns-clause-state

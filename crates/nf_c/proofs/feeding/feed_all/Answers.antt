@@ -1,7 +1,6 @@
 use Rattle.std.proofs.Common.{◌≡◌, ◌+◌, ◌-◌, ◌≤◌, length, take, drop, Some, None, refl, ap, arith, rules}
 use Rattle.std.proofs.lemmas.List.{length-append, length-take, length-take-le, length-drop}
 use Rattle.nf_filter.specs.declared.fault.Fault.TheVariants.{Write}
-use Rattle.nf_filter.specs.Filter.{state_of}
 use Rattle.nf_filter.proofs.FilterLemmas.{StandsAfter-offset}
 use Rattle.nf_c.specs.Feeds.{ends}
 use Rattle.nf_c.proofs.FeedsLemmas.{FeedsFront-goes, FeedsFront-next, full_next, length_put}
@@ -10,21 +9,15 @@ use Rattle.nf_c.proofs.feeding.feed_all.Goals as goal
 
 pub loop-read-preserved-then-len-gt1 : goal.loop-read-preserved-then-len-gt1
 loop-read-preserved-then-len-gt1 c =
-    let at = c.loop-read.read in
-    let written = c.loop-read.written in
-    let end = at + c.len-len.result in
-    let fits : end ≤ length c.args.input.now = omega (arith, c.len-len.ensures.within, c.loop-read-test.true) in
-    let rest : length c.try_piece-fed.new.output ≡ length c.loop-read.output - written = search rules in
+    let fits : c.loop-read.read + c.len-len.result ≤ length c.args.input.now = omega (arith, c.len-len.ensures.within, c.loop-read-test.true) in
+    let rest : length c.try_piece-fed.new.output ≡ length c.loop-read.output - c.loop-read.written = search rules in
     let full : c.try_piece-fed.result.fault ≡ Some Write = search rules in
     let nothing = c.try_piece-fed.ensures.nothing full in record {
       read = c.loop-read.invariant.read;
-      written = omega (arith, c.loop-read.invariant.written, length_put c.loop-read.output c.try_piece-fed.new.output written c.loop-read.invariant.written rest);
+      written = omega (arith, c.loop-read.invariant.written, length_put _ _ _ c.loop-read.invariant.written rest);
       feeds = λ policy f bytes stands.
           let so_far = c.loop-read.invariant.feeds policy f bytes stands in (
-            FeedsFront-goes policy f bytes c.args.input.now _ _ _ (record { read = at + c.try_piece-fed.result.read; written = written + c.try_piece-fed.result.written; fault = c.try_piece-fed.result.fault })
-                at written (ap ends full) (omega (arith, nothing.0)) (omega (arith, nothing.1))
-                (FeedsFront-next policy f bytes c.args.input.now c.loop-read.output c.try_piece-fed.new.output _ _ _ at written end c.try_piece-fed.result so_far.0
-                (omega arith) fits rest (c.try_piece-fed.ensures.feeds policy f _ so_far.1)),
+            FeedsFront-goes (ap ends full) (omega (arith, nothing.0)) (omega (arith, nothing.1)) (FeedsFront-next c.len-len.result so_far.0 fits rest (c.try_piece-fed.ensures.feeds policy f _ so_far.1)),
             (c.try_piece-fed.ensures.full policy f _ so_far.1 full).0,
           );
     }
@@ -33,12 +26,11 @@ loop-read-preserved-then-len-gt1 c =
 pub returns-then-is_some-clause-feeds : goal.returns-then-is_some-clause-feeds
 returns-then-is_some-clause-feeds c = λ policy f bytes stands.
     let so_far = c.loop-read.invariant.feeds policy f bytes stands in
+    let fed = c.try_piece-fed.ensures.feeds policy f _ so_far.1 in
     let at = c.loop-read.read in
-    let end = at + c.len-len.result in
-    let fits : end ≤ length c.args.input.now = omega (arith, c.len-len.ensures.within, c.loop-read-test.true) in
+    let fits : at + c.len-len.result ≤ length c.args.input.now = omega (arith, c.len-len.ensures.within, c.loop-read-test.true) in
     let rest : length c.try_piece-fed.new.output ≡ length c.loop-read.output - c.loop-read.written = search rules in (
-      FeedsFront-next policy f bytes c.args.input.now c.loop-read.output c.try_piece-fed.new.output _ _ _ at c.loop-read.written end c.try_piece-fed.result so_far.0
-          (omega arith) fits rest (c.try_piece-fed.ensures.feeds policy f _ so_far.1),
+      FeedsFront-next c.len-len.result so_far.0 fits rest fed,
       λ small long. absurd (omega (
         arith,
         c.try_piece-fed.ensures.too_long long,
@@ -49,7 +41,7 @@ returns-then-is_some-clause-feeds c = λ policy f bytes stands.
         fits,
         length-append bytes (take at c.args.input.now),
         length-take-le at c.args.input.now c.loop-read.invariant.read,
-        length-take (end - at) (drop at c.args.input.now),
+        length-take (at + c.len-len.result - at) (drop at c.args.input.now),
         length-drop at c.args.input.now,
       )),
       λ is.
@@ -57,26 +49,19 @@ returns-then-is_some-clause-feeds c = λ policy f bytes stands.
             | else-is_full-via-then-is_full+else-len-gt1 w ↦ omega (arith, w.if-len-gt1.false, c.len-len.ensures.some)
             | else-is_full-via-else-is_full w ↦ let told = c.is_full.ensures.1 is in let not = w.if-is_full.false in cc
           ] in
-          let nothing = (c.try_piece-fed.ensures.nothing is).0 in
-          full_next policy f bytes c.args.input.now c.loop-read.output c.try_piece-fed.new.output _ _ (state_of c.try_piece-fed.new.filter) at c.loop-read.written end c.try_piece-fed.result so_far.0
-          (omega arith) fits rest (c.try_piece-fed.ensures.full policy f _ so_far.1 is).1 (ap (λ n. at + n) one) _ (omega (arith, nothing)),
+          full_next c.len-len.result so_far.0 fits rest fed (c.try_piece-fed.ensures.full policy f _ so_far.1 is).1 one (c.try_piece-fed.ensures.nothing is).0,
     )
 
 pub loop-read-preserved : goal.loop-read-preserved
 loop-read-preserved c =
-    let at = c.loop-read.read in
-    let written = c.loop-read.written in
-    let end = at + c.len-len.result in
-    let fits : end ≤ length c.args.input.now = omega (arith, c.len-len.ensures.within, c.loop-read-test.true) in
-    let rest : length c.try_piece-fed.new.output ≡ length c.loop-read.output - written = search rules in
+    let fits : c.loop-read.read + c.len-len.result ≤ length c.args.input.now = omega (arith, c.len-len.ensures.within, c.loop-read-test.true) in
+    let rest : length c.try_piece-fed.new.output ≡ length c.loop-read.output - c.loop-read.written = search rules in
     let none : c.try_piece-fed.result.fault ≡ None = search rules in record {
       read = search rules;
-      written = omega (arith, c.loop-read.invariant.written, c.try_piece-fed.ensures.written, rest, length_put c.loop-read.output c.try_piece-fed.new.output written c.loop-read.invariant.written rest);
+      written = omega (arith, c.loop-read.invariant.written, c.try_piece-fed.ensures.written, rest, length_put _ _ _ c.loop-read.invariant.written rest);
       feeds = λ policy f bytes stands.
           let so_far = c.loop-read.invariant.feeds policy f bytes stands in
-          let front = FeedsFront-goes policy f bytes c.args.input.now _ _ _ (record { read = at + c.try_piece-fed.result.read; written = written + c.try_piece-fed.result.written; fault = c.try_piece-fed.result.fault }) _ _ (ap ends none) refl refl
-          (FeedsFront-next policy f bytes c.args.input.now c.loop-read.output c.try_piece-fed.new.output _ _ _ at written end c.try_piece-fed.result so_far.0
-          (omega arith) fits rest (c.try_piece-fed.ensures.feeds policy f _ so_far.1)) in
+          let front = FeedsFront-goes (ap ends none) refl refl (FeedsFront-next c.len-len.result so_far.0 fits rest (c.try_piece-fed.ensures.feeds policy f _ so_far.1)) in
           (front, c.kept.ensures.stands policy f _ (front.stands refl));
     }
 

@@ -1,9 +1,7 @@
-use Rattle.std.proofs.lemmas.Bool.{false≢true}
-use Rattle.std.proofs.Common.{None, ◌≡◌, true, false, Some, Err, refl, sym, ap, ◌∙◌, rules}
+use Rattle.std.proofs.Common.{◌≡◌, true, false, Some, Err, refl, sym, ap, ◌∙◌, rules}
 use Rattle.nf_forms.specs.Ucd.{ucd}
 use Rattle.nf_filter.specs.declared.fault.Fault.TheVariants.{Write, TooLong}
 use Rattle.nf_filter.specs.declared.saved.Saved.{Saved}
-use Rattle.nf_filter.specs.Devices.{SinkState}
 use Rattle.nf_filter.proofs.SoundnessLemmas.{not_fed}
 use Rattle.nf_c.specs.Feeds.{ends}
 use Rattle.nf_c.proofs.FeedsLemmas.{not_other, of_staying, of_feeding, too_little, StandsAfter-of, FeedsFront-all, FeedsFront-none}
@@ -11,27 +9,22 @@ use Rattle.nf_c.proofs.feeding.try_piece.Goals as goal
 
 pub returns-in_default-clause-feeds : goal.returns-in_default-clause-feeds
 returns-in_default-clause-feeds c = λ policy f bytes stands.
-    let feeds = c.in_default.ensures.feeds policy f bytes stands.stands (λ e. cc) in
-    FeedsFront-all policy f bytes c.args.piece.now _ _ _ _ c.feed.new.sink c.written.result (ap (λ (s : SinkState). s.taken) c.over-room.ensures.state) (search rules) c.written.ensures.taken c.written.ensures.within
-    (feeds.written (λ e. cc)) c.feed.ensures.base None (λ _. c.in_default.ensures.stands policy f bytes stands.stands) (λ e. cc) (λ e. cc) tt
+    FeedsFront-all c.over-room.ensures.state (search rules) c.written.ensures.taken c.written.ensures.within (c.in_default.ensures.feeds policy f bytes stands.stands (λ e. cc)) (λ e. cc) c.feed.ensures.base
+    (λ _. c.in_default.ensures.stands policy f bytes stands.stands) (λ e. cc) tt
 
 pub returns-then-ends-clause-feeds : goal.returns-then-ends-clause-feeds
 returns-then-ends-clause-feeds c = λ policy f bytes stands.
-    let fault = c.in-Err.fault in
-    let over : ends (Some fault) ≡ true = sym c.ends.ensures ∙ c.if-ends.true in
-    let feeds = c.in-Err.ensures.feeds policy f bytes stands.stands (not_other fault TooLong over refl) in
-    let among = of_feeding fault c.in-Err.ensures.faults (λ e. let spent = c.in-Err.ensures.spent.0 (ap Err e) in let unspent = stands.stands.unspent in cc)
-    (λ at e. not_fed ucd c.every_character_is_sound.ensures.character _ at policy f bytes c.args.piece.now _ _ _ feeds (ap Err e)) in
-    FeedsFront-all policy f bytes c.args.piece.now _ _ _ _ c.feed.new.sink c.written-then-ends.result (ap (λ (s : SinkState). s.taken) c.over-room.ensures.state) (search rules) c.written-then-ends.ensures.taken c.written-then-ends.ensures.within
-    (feeds.written (not_other fault Write over refl)) c.feed.ensures.base (Some fault) (λ e. absurd (false≢true (sym e ∙ over)))
-    (λ _. feeds.answer (not_other fault Write over refl)) (λ _. c.in-Err.ensures.spends.1 (refl, not_other fault TooLong over refl)) among
+    let over : ends (Some c.in-Err.fault) ≡ true = sym c.ends.ensures ∙ c.if-ends.true in
+    let feeds = c.in-Err.ensures.feeds policy f bytes stands.stands (not_other over refl) in
+    FeedsFront-all c.over-room.ensures.state (search rules) c.written-then-ends.ensures.taken c.written-then-ends.ensures.within feeds (not_other over refl) c.feed.ensures.base (λ e. cc) (λ _. c.in-Err.ensures.spends.1 (refl, not_other over refl))
+    (of_feeding c.in-Err.fault c.in-Err.ensures.faults (λ e. let spent = c.in-Err.ensures.spent.0 (ap Err e) in let unspent = stands.stands.unspent in cc)
+    (λ at e. not_fed ucd c.every_character_is_sound.ensures.character _ at policy f bytes c.args.piece.now _ _ _ feeds (ap Err e)))
 
 pub returns-clause-feeds : goal.returns-clause-feeds
 returns-clause-feeds c = λ policy f bytes stands.
-    let fault = c.in-Err.fault in
-    let goes : ends (Some fault) ≡ false = sym c.ends.ensures ∙ c.if-ends.false in
+    let goes : ends (Some c.in-Err.fault) ≡ false = sym c.ends.ensures ∙ c.if-ends.false in
     let back = c.go_back.ensures policy f bytes (StandsAfter-of stands) in
-    FeedsFront-none policy f bytes c.args.piece.now _ _ _ (Some fault) goes (of_staying fault goes) (ap (λ (s : Saved). s.base) (back.saved ∙ sym stands.saved)) back.stands
+    FeedsFront-none goes (of_staying c.in-Err.fault goes) (ap (λ (s : Saved). s.base) (back.saved ∙ sym stands.saved)) back.stands
 
 -- the fault is that of the filter
 pub returns-clause-too_long : goal.returns-clause-too_long
@@ -39,8 +32,7 @@ returns-clause-too_long c = λ e. (c.in-Err.ensures.too_long.0 (let same : c.in-
 
 pub returns-clause-full : goal.returns-clause-full
 returns-clause-full c = λ policy f bytes stands is.
-    let full : c.in-Err.fault ≡ Write = let same : c.in-Err.fault ≡ Write = cc in same in (
+    let full : c.in-Err.fault ≡ Write = cc in (
       c.go_back.ensures policy f bytes (StandsAfter-of stands),
-      too_little _ c.feed.new.sink _ _ _ (ap (λ (s : SinkState). s.taken) c.over-room.ensures.state) (search rules)
-          ((c.in-Err.ensures.feeds policy f bytes stands.stands (λ e. let same : Write ≡ TooLong = sym full ∙ (let long : c.in-Err.fault ≡ TooLong = cc in long) in cc)).broken_off (ap Err full)),
+      too_little c.feed.new.sink c.over-room.ensures.state (search rules) ((c.in-Err.ensures.feeds policy f bytes stands.stands (λ e. cc)).broken_off (ap Err full)),
     )

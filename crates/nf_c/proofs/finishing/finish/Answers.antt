@@ -1,16 +1,15 @@
 use Rattle.std.proofs.Common.{arith, ◌≡◌, Some, refl, ap, rules}
 use Rattle.nf_filter.specs.declared.fault.Fault.TheVariants.{Write}
 use Rattle.nf_filter.specs.declared.saved.Saved.{Saved}
-use Rattle.nf_c.specs.declared.moved.Moved.{Moved}
-use Rattle.nf_c.proofs.FeedsLemmas.{written_ended}
-use Rattle.nf_c.proofs.FinishesLemmas.{CanStand-spent, FinishesFilter-at}
+use Rattle.nf_c.proofs.FeedsLemmas.{ended_moved}
+use Rattle.nf_c.proofs.FinishesLemmas.{CanStand-spent}
 use Rattle.nf_c.proofs.finishing.finish.Goals as goal
 
 pub returns-then-is_full-clause-finishes : goal.returns-then-is_full-clause-finishes
 returns-then-is_full-clause-finishes c = λ policy f bytes stands.
     let full : c.finish_filter-finished.result.fault ≡ Some Write = search rules in record {
       finished = c.finish_filter-finished.result;
-      finishes = FinishesFilter-at policy f bytes _ c.finish_filter-finished.result _ _ (ap (λ (s : Saved). s.base) c.in-Some.ensures.saved) (c.finish_filter-finished.ensures.finishes policy f bytes (c.in-Some.ensures.stands policy f bytes stands));
+      finishes = rw (← ap (λ (s : Saved). s.base) c.in-Some.ensures.saved) (c.finish_filter-finished.ensures.finishes policy f bytes (c.in-Some.ensures.stands policy f bytes stands));
       full = λ _. (c.of-then-is_full.ensures, refl);
       told = λ not. absurd (not full);
       written = λ not. absurd (not full);
@@ -18,7 +17,7 @@ returns-then-is_full-clause-finishes c = λ policy f bytes stands.
     }
 
 pub returns-clause-written : goal.returns-clause-written
-returns-clause-written c = omega (arith, c.finish_filter-finished.ensures.written, written_ended c.finish_filter-finished.result.fault 0 c.finish_filter-finished.result.written, ap (λ (m : Moved). m.written) c.ended.ensures)
+returns-clause-written c = omega (arith, c.finish_filter-finished.ensures.written, (ended_moved c.finish_filter-finished.result.fault 0 c.finish_filter-finished.result.written _ c.ended.ensures).1)
 
 pub returns-clause-state : goal.returns-clause-state
 returns-clause-state c = CanStand-spent c.args.state.now
@@ -27,7 +26,7 @@ pub returns-clause-finishes : goal.returns-clause-finishes
 returns-clause-finishes c = λ policy f bytes stands.
     let not_full : ¬ (c.finish_filter-finished.result.fault ≡ Some Write) = search rules in record {
       finished = c.finish_filter-finished.result;
-      finishes = FinishesFilter-at policy f bytes _ c.finish_filter-finished.result _ _ (ap (λ (s : Saved). s.base) c.in-Some.ensures.saved) (c.finish_filter-finished.ensures.finishes policy f bytes (c.in-Some.ensures.stands policy f bytes stands));
+      finishes = rw (← ap (λ (s : Saved). s.base) c.in-Some.ensures.saved) (c.finish_filter-finished.ensures.finishes policy f bytes (c.in-Some.ensures.stands policy f bytes stands));
       full = λ e. absurd (not_full e);
       told = λ _. c.ended.ensures;
       written = λ _. c.finish_filter-finished.ensures.written;

@@ -1,5 +1,5 @@
 use Rattle.std.proofs.Common.{◌+◌, arith, rules}
-use Rattle.nf_c.proofs.PassedLemmas.{ascii_front}
+use Rattle.nf_c.proofs.PassingLemmas.{ascii_front}
 use Rattle.nf_c.proofs.passing.passing_len.Goals as goal
 
 pub returns : goal.returns

@@ -1,6 +1,6 @@
 use Rattle.std.proofs.Common.{◌≡◌, ◌-◌, ◌<◌, ◌∷◌, length, take, slice_set, arith, ap, ◌∙◌, rules}
 use Rattle.std.proofs.lemmas.List.{length-take-le}
-use Rattle.nf_c.proofs.PassedLemmas.{first_set, take_behind}
+use Rattle.nf_c.proofs.PassingLemmas.{first_set, take_behind}
 use Rattle.nf_c.proofs.passing.write_passing.Goals as goal
 
 pub returns-clause-output : goal.returns-clause-output
