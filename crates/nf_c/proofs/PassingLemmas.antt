@@ -1,14 +1,12 @@
 -- Plain ASCII behind one such character that is pending alone: where it leaves a filter and its state, and what a call tells.
 use Rattle.std.proofs.Common.{◌≡◌, ℕ, ◌+◌, ◌-◌, ◌<◌, ◌≤◌, ◌^◌, Bool, true, false, List, [], ◌∷◌, ◌++◌, length, map, take, get_or, Option, Some, None, if◌then◌else◌, inr}
-use Rattle.std.proofs.Common.{refl, sym, ap, ◌∙◌, subst, arith, rules, append_assoc, append-nil, length-append, encode_utf8_all, IsAscii, IsUtf8, IfSome, take-take, get_or-take, slice_set}
+use Rattle.std.proofs.Common.{refl, sym, ap, ◌∙◌, subst, arith, rules, append_assoc, append-nil, length-append, encode_utf8_all, IsAscii, IfSome, take-take, get_or-take}
 use Rattle.std.specs.List.{list_all}
 use Rattle.std.proofs.lemmas.Bool.{and_from, ne_eqb, false≢true}
 use Rattle.std.proofs.lemmas.Bool.Decides.{nat_tests}
-use Rattle.std.proofs.lemmas.List.{nil_from_length, length-take-le, take-append-le, take_all}
-use Rattle.std.proofs.lemmas.Str.{encode_ascii, chars-IsAscii, IsUtf8-from_ascii, IsAscii-take}
+use Rattle.std.proofs.lemmas.List.{nil_from_length, length-take-le}
+use Rattle.std.proofs.lemmas.Str.{encode_ascii, encodes-IsAscii, chars-IsAscii, scalars-chars, IsUtf8-from_ascii, IsUtf8-append, IsAscii-take}
 use Rattle.std.proofs.lemmas.Str.Ascii.{All-from_ascii}
-use Rattle.std.proofs.Math.Seq.{take-append-add}
-use borrow.Rule.Slice.PartMut.{put_mid, post_of}
 use Rattle.nf_forms.specs.Ucd.{ucd}
 use Rattle.nf_forms.specs.Properties.{Properties}
 use Rattle.nf_forms.specs.Front.{back}
@@ -17,12 +15,12 @@ use Rattle.nf_forms.specs.Forms.{decomposed, finished}
 use Rattle.nf_forms.specs.StreamSafe.{stream_safe}
 use Rattle.nf_row.specs.Ascii.{IsPlainAscii, AreAscii}
 use Rattle.nf_row.specs.Laws.Ascii.{ascii-head, ascii-tail}
-use Rattle.nf_utf8.specs.Laws.{ReplacesParts}
+use Rattle.nf_utf8.specs.Text.{IsText}
+use Rattle.nf_utf8.specs.Laws.{ReadsPieces, ReadsBack, ReplacesParts, SplitsBytes}
 use Rattle.nf_utf8.specs.Part.{IsPart}
 use Rattle.nf_utf8.specs.Ending.{Whole, moved}
 use Rattle.nf_utf8.specs.Reading.{text_len, text_of, rest_of, ending_of}
 use Rattle.nf_utf8.specs.Standing.{StandsAfter as DecoderStandsAfter}
-use Rattle.nf_utf8.proofs.ReadingLemmas.{text_of-behind, rest_of-behind, ending_of-behind, text_of-split, text_on, rest_on, ending_on, begins_on}
 use Rattle.nf_pending.specs.declared.pending.Pending.{Pending}
 use Rattle.nf_pending.proofs.Standing.{back_alone, stands_unmarked}
 use Rattle.nf_normalizer.specs.Normalizer.{settled_text}
@@ -39,7 +37,7 @@ use Rattle.nf_filter.specs.Faults.{bad_byte}
 use Rattle.nf_filter.specs.Feeding.{IsLeft, HasReadTo}
 use Rattle.nf_filter.specs.Filter.{base_of, StandsAfter as FilterStandsAfter}
 use Rattle.nf_filter.specs.Policy.{allowed}
-use Rattle.nf_filter.specs.Saved.{saved_of, IsRestorable}
+use Rattle.nf_filter.specs.Saved.{saved_of}
 use Rattle.nf_filter.specs.Settled.{settled_utf8}
 use Rattle.nf_filter.proofs.FedLemmas.{left_is, read-settled, read-no_fault}
 use Rattle.nf_filter.proofs.PieceLemmas.{IsLeft-more}
@@ -64,188 +62,169 @@ allowed-ascii p plain true t ascii = take_while-all p.assigned t (all_assigned p
 starter_low : (a : ℕ) → a < 0x80 → starter_at a ≡ Some a
 starter_low a below = ap (λ (b : Bool). if b then None else Some a) (ne_eqb a 0xFFFFFFFF (λ (e : a ≡ 0xFFFFFFFF). omega arith))
 
--- where no character is begun, ASCII reads as its characters
-module _ (tail t : List ℕ) (none : rest_of tail ≡ []) (ascii : IsAscii t) where
-  utf8 : IsUtf8 t
-  utf8 = IsUtf8-from_ascii t ascii
+module _ (pieces : ReadsPieces) (own : ReadsBack) (laws : ReplacesParts) (split : SplitsBytes) where
+  -- where no character is begun, ASCII reads as its characters
+  module _ (tail t : List ℕ) (none : rest_of tail ≡ []) (ascii : IsAscii t) where
+    is_text : IsText t
+    is_text = subst IsText (chars-IsAscii t ascii) (scalars-chars t (IsUtf8-from_ascii t ascii))
 
-  text_of-ascii : text_of (tail ++ t) ≡ text_of tail ++ t
-  text_of-ascii = text_on [] tail t none ∙ ap (λ l. text_of tail ++ l) (simp (append-nil, text_of-none, chars-IsAscii t ascii) at (text_of-behind t [] utf8))
+    text_of-ascii : text_of (tail ++ t) ≡ text_of tail ++ t
+    text_of-ascii = rw none at (pieces.text tail t) ∙ ap (λ l. text_of tail ++ l) (simp (append-nil, text_of-none, encodes-IsAscii t ascii) at (own.text t [] is_text))
 
-  ending_of-ascii : ending_of (tail ++ t) ≡ Whole
-  ending_of-ascii = ending_on [] tail t none ∙ ap (moved (text_len tail)) (simp (append-nil, ending_of-none) at (ending_of-behind t [] utf8))
+    ending_of-ascii : ending_of (tail ++ t) ≡ Whole
+    ending_of-ascii = rw none at (pieces.ending tail t) ∙ ap (moved (text_len tail)) (simp (append-nil, ending_of-none, encodes-IsAscii t ascii) at (own.ending t [] is_text))
 
-  stands-ascii : DecoderStandsAfter [] (tail ++ t)
-  stands-ascii = record {
-    rest = rest_on [] tail t none ∙ rw append-nil at (rest_of-behind t [] utf8) ∙ sym (rw text_of-none at (text_of-split []));
-    begins = begins_on [] tail t none ([], rw (append-nil t) utf8);
-  }
+    stands-ascii : DecoderStandsAfter [] (tail ++ t)
+    stands-ascii = record {
+      rest = rw none at (pieces.rest tail t) ∙ simp (append-nil, encodes-IsAscii t ascii) at (own.rest t [] is_text) ∙ sym (rw text_of-none at (split.split []));
+      begins = ([], rw (append-nil (tail ++ t)) (IsUtf8-append tail t (text_of tail, (split.scalars tail, sym (rw (none, append-nil) at (split.split tail)))) (IsUtf8-from_ascii t ascii)));
+    }
 
-module _ (laws : ReplacesParts) (plain : IsPlainAscii ucd) (policy : Policy) (f : Form) (old : State) (bytes t : List ℕ) (n : ℕ)
-    (calm : IsCalm old) (stand : StandsAfter policy f old bytes) (len : length t ≡ n) (some : 0 < n) (ascii : IsAscii t) (fits : old.offset + n < 2 ^ 64) where
-  abbrev filter : FilterState
-  filter = stand.filter
+  module _ (plain : IsPlainAscii ucd) {policy : Policy} {f : Form} {old : State} {bytes : List ℕ} (calm : IsCalm old) (stand : StandsAfter policy f old bytes)
+      (t : List ℕ) (n : ℕ) (len : length t ≡ n) (some : 0 < n) (ascii : IsAscii t) (fits : old.offset + n < 2 ^ 64) where
+    abbrev filter : FilterState
+    filter = stand.filter
 
-  abbrev read : HasReadTo policy f ucd filter.counted (base_of filter) filter.reading bytes []
-  read = stand.stands.reading
+    abbrev read : HasReadTo policy f ucd filter.counted (base_of filter) filter.reading bytes []
+    read = stand.stands.reading
 
-  abbrev x : List ℕ
-  x = read.before ++ text_of read.tail
+    abbrev x : List ℕ
+    x = read.before ++ text_of read.tail
 
-  abbrev last : ℕ
-  last = get_or t (n - 1) 0
+    abbrev last : ℕ
+    last = get_or t (n - 1) 0
 
-  none : filter.reading.decoder ≡ []
-  none = ap (λ (s : Saved). s.held.items) stand.saved ∙ ap (λ k. take k old.held) calm.held
+    none : filter.reading.decoder ≡ []
+    none = ap (λ (s : Saved). s.held.items) stand.saved ∙ ap (λ k. take k old.held) calm.held
 
-  marks : length filter.counted.normalizer.pending.marks.items ≡ 0
-  marks = ap (λ (s : Saved). length s.marks.items) stand.saved ∙ ap (λ k. length (map mark_at (take k old.marks))) calm.marks
+    marks : length filter.counted.normalizer.pending.marks.items ≡ 0
+    marks = ap (λ (s : Saved). length s.marks.items) stand.saved ∙ ap (λ k. length (map mark_at (take k old.marks))) calm.marks
 
-  nothing : rest_of read.tail ≡ []
-  nothing = read.decoder.rest ∙ none
+    nothing : rest_of read.tail ≡ []
+    nothing = read.decoder.rest ∙ none
 
-  alone : back ucd (finished f ucd (decomposed f ucd (stream_safe ucd x))) ≡ old.starter ∷ []
-  alone = subst (λ o. IfSome o (λ a. back ucd (finished f ucd (decomposed f ucd (stream_safe ucd x))) ≡ a ∷ [])) (ap (λ (s : Saved). s.starter) stand.saved ∙ starter_low old.starter calm.starter)
-      (back_alone f ucd filter.counted.normalizer.pending _ read.taken.machine.pending marks)
+    alone : back ucd (finished f ucd (decomposed f ucd (stream_safe ucd x))) ≡ old.starter ∷ []
+    alone = subst (λ o. IfSome o (λ a. back ucd (finished f ucd (decomposed f ucd (stream_safe ucd x))) ≡ a ∷ [])) (ap (λ (s : Saved). s.starter) stand.saved ∙ starter_low old.starter calm.starter)
+        (back_alone f ucd filter.counted.normalizer.pending _ read.taken.machine.pending marks)
 
-  -- the filter behind it
-  abbrev pending : Pending
-  pending = record filter.counted.normalizer.pending { starter = Some last }
+    -- the filter behind it
+    abbrev pending : Pending
+    pending = record filter.counted.normalizer.pending { starter = Some last }
 
-  abbrev counted : Counted
-  counted = record filter.counted { normalizer = record filter.counted.normalizer { counter = 0; pending = pending }; chars = filter.counted.chars + n }
+    abbrev counted : Counted
+    counted = record filter.counted { normalizer = record filter.counted.normalizer { counter = 0; pending = pending }; chars = filter.counted.chars + n }
 
-  abbrev reading : Reading
-  reading = record { decoder = filter.reading.decoder; offset = filter.reading.offset + n; offset_fits = omega (arith, ap (λ (s : Saved). s.offset) stand.saved) }
+    abbrev reading : Reading
+    reading = record { decoder = filter.reading.decoder; offset = filter.reading.offset + n; offset_fits = omega (arith, ap (λ (s : Saved). s.offset) stand.saved) }
 
-  abbrev after : FilterState
-  after = record filter {
-    reading = reading;
-    counted = counted;
-    base_within = omega (arith, filter.base_within);
-    ready = λ unspent.
-        let ready = filter.ready unspent in
-        record { held = omega (arith, ready.held); end = (record { machine = record { run = omega (arith, marks); bound = omega arith }; put = omega (arith, ready.end.0.put) }, omega (arith, ready.end.1, ready.held)) };
-  }
+    abbrev after : FilterState
+    after = record filter {
+      reading = reading;
+      counted = counted;
+      base_within = omega (arith, filter.base_within);
+      ready = λ unspent.
+          let ready = filter.ready unspent in
+          record { held = omega (arith, ready.held); end = (record { machine = record { run = omega (arith, marks); bound = omega arith }; put = omega (arith, ready.end.0.put) }, omega (arith, ready.end.1, ready.held)) };
+    }
 
-  joined : x ++ t ≡ read.before ++ text_of (read.tail ++ t)
-  joined = append_assoc read.before (text_of read.tail) t ∙ ap (λ l. read.before ++ l) (sym (text_of-ascii read.tail t nothing ascii))
+    joined : x ++ t ≡ read.before ++ text_of (read.tail ++ t)
+    joined = append_assoc read.before (text_of read.tail) t ∙ ap (λ l. read.before ++ l) (sym (text_of-ascii read.tail t nothing ascii))
 
-  taken : HasTaken f ucd counted (x ++ t)
-  taken = record {
-    machine = HasTaken-run ucd plain f x t n len some ascii read.taken.machine.usable old.starter alone calm.starter filter.counted.normalizer 0 pending last read.taken.machine refl refl
-        (λ w v s ends leaves. stands_unmarked f ucd pending v leaves s.composes (sym ends) (nil_from_length filter.counted.normalizer.pending.marks.items marks));
-    chars = omega (arith, read.taken.chars, length-append x t, len);
-    put = omega (arith, read.taken.put, length-append x t, joins-run ucd plain f x t n len some ascii read.taken.machine.usable);
-  }
+    taken : HasTaken f ucd counted (x ++ t)
+    taken = record {
+      machine = HasTaken-run ucd plain f x t n len some ascii read.taken.machine.usable old.starter alone calm.starter filter.counted.normalizer 0 pending last read.taken.machine refl refl
+          (λ w v s ends leaves. stands_unmarked f ucd pending v leaves s.composes (sym ends) (nil_from_length filter.counted.normalizer.pending.marks.items marks));
+      chars = omega (arith, read.taken.chars, length-append x t, len);
+      put = omega (arith, read.taken.put, length-append x t, joins-run ucd plain f x t n len some ascii read.taken.machine.usable);
+    }
 
-  reads : HasReadTo policy f ucd counted (base_of filter) reading (bytes ++ t) []
-  reads = record {
-    before = read.before;
-    n = read.n;
-    tail = read.tail ++ t;
-    left = subst (IsLeft policy.replace (bytes ++ t) read.before read.n) (sym (append-nil (read.tail ++ t))) (IsLeft-more policy.replace bytes read.before read.n read.tail t (left_is policy f ucd (base_of filter) laws filter.counted filter.reading bytes read));
-    decoder = subst (λ d. DecoderStandsAfter d (read.tail ++ t)) (sym none) (stands-ascii read.tail t nothing ascii);
-    good = λ k. ap (bad_byte k) (ending_of-ascii read.tail t nothing ascii);
-    offset = omega (arith, read.offset, length-append read.tail t, len);
-    taken = subst (HasTaken f ucd counted) joined taken;
-    allowed = subst (λ l. allowed policy.assigned ucd l ≡ l) joined (allowed-append ucd policy.assigned x t read.allowed ∙ ap (λ l. x ++ l) (allowed-ascii ucd plain policy.assigned t ascii));
-  }
+    reads : HasReadTo policy f ucd counted (base_of filter) reading (bytes ++ t) []
+    reads = record {
+      before = read.before;
+      n = read.n;
+      tail = read.tail ++ t;
+      left = subst (IsLeft policy.replace (bytes ++ t) read.before read.n) (sym (append-nil (read.tail ++ t))) (IsLeft-more _ _ _ _ _ t (left_is _ _ _ _ laws _ _ _ read));
+      decoder = subst (λ d. DecoderStandsAfter d (read.tail ++ t)) (sym none) (stands-ascii read.tail t nothing ascii);
+      good = λ k. ap (bad_byte k) (ending_of-ascii read.tail t nothing ascii);
+      offset = omega (arith, read.offset, length-append read.tail t, len);
+      taken = subst (HasTaken f ucd counted) joined taken;
+      allowed = subst (λ l. allowed policy.assigned ucd l ≡ l) joined (allowed-append ucd policy.assigned x t read.allowed ∙ ap (λ l. x ++ l) (allowed-ascii ucd plain policy.assigned t ascii));
+    }
 
-  after-stands : FilterStandsAfter policy f ucd after (bytes ++ t)
-  after-stands = record {
-    unspent = stand.stands.unspent;
-    policy_is = stand.stands.policy_is;
-    reading = reads;
-    no_fault = read-no_fault policy f ucd (base_of filter) laws counted reading (bytes ++ t) reads;
-  }
+    after-stands : FilterStandsAfter policy f ucd after (bytes ++ t)
+    after-stands = record {
+      unspent = stand.stands.unspent;
+      policy_is = stand.stands.policy_is;
+      reading = reads;
+      no_fault = read-no_fault _ _ _ _ laws _ _ _ reads;
+    }
 
-  -- the state behind it
-  abbrev passed : State
-  passed = record old { starter = last; offset = old.offset + n; chars = old.chars + n }
+    -- the state behind it
+    abbrev passed : State
+    passed = record old { starter = last; offset = old.offset + n; chars = old.chars + n }
 
-  low : last < 0x80
-  low = ascii (n - 1)
+    low : last < 0x80
+    low = ascii (n - 1)
 
-  saved : saved_of after ≡ unpacked passed
-  saved = ap (λ (s : Saved). record s { offset = s.offset + n; chars = s.chars + n; count = 0; starter = Some last }) stand.saved ∙ cc (calm.count, starter_low last low)
+    saved : saved_of after ≡ unpacked passed
+    saved = ap (λ (s : Saved). record s { offset = s.offset + n; chars = s.chars + n; count = 0; starter = Some last }) stand.saved ∙ cc (calm.count, starter_low last low)
 
-  starter : IsStarter last
-  starter = inr (grind (arith, nat_tests, low))
+    starter : IsStarter last
+    starter = inr (grind (arith, nat_tests, low))
 
-  restorable : IsRestorable ucd (saved_of after)
-  restorable = IsRestorable-stands laws {state = after} after-stands (subst IsPart (sym none) tt) (omega arith)
-      (let r = after-stands.reading in omega (arith, ap length (text_of-split r.tail), length-append (encode_utf8_all (text_of r.tail)) (rest_of r.tail), ap length r.decoder.rest))
+    passed-stands : StandsAfter policy f passed (bytes ++ t)
+    passed-stands = record {
+      can = (
+        search (rules, calm.can.0, starter),
+        rw (← saved) (IsRestorable-stands laws {state = after} after-stands (subst IsPart (sym none) tt) (omega arith)
+            (let r = after-stands.reading in omega (arith, ap length (split.split r.tail), length-append (encode_utf8_all (text_of r.tail)) (rest_of r.tail), ap length r.decoder.rest))),
+      );
+      filter = after;
+      saved = saved;
+      stands = after-stands;
+    }
 
-  passed-stands : StandsAfter policy f passed (bytes ++ t)
-  passed-stands = record {
-    can = (search (rules, calm.can.0, starter), subst (IsRestorable ucd) saved restorable);
-    filter = after;
-    saved = saved;
-    stands = after-stands;
-  }
+    -- for it goes out all but the last
+    passed-settles : settled_utf8 policy f ucd (bytes ++ t) ≡ settled_utf8 policy f ucd bytes ++ (old.starter ∷ take (n - 1) t)
+    unfolding reads
+    passed-settles =
+        sym (read-settled _ _ _ _ laws _ _ _ reads) ∙ ap (settled_text f ucd) (sym joined)
+        ∙ sym (settled_text-run ucd plain f x t n len some ascii read.taken.machine.usable old.starter alone calm.starter)
+        ∙ ap (λ l. (settled_text f ucd x ++ (l ++ [])) ++ take (n - 1) t) (encode_ascii old.starter calm.starter)
+        ∙ append_assoc (settled_text f ucd x) (old.starter ∷ []) (take (n - 1) t)
+        ∙ ap (λ l. l ++ (old.starter ∷ take (n - 1) t)) (read-settled _ _ _ _ laws _ _ _ read)
 
-  -- for it goes out all but the last
-  passed-settles : settled_utf8 policy f ucd (bytes ++ t) ≡ settled_utf8 policy f ucd bytes ++ (old.starter ∷ take (n - 1) t)
-  unfolding reads
-  passed-settles =
-      sym (read-settled policy f ucd (base_of filter) laws counted reading (bytes ++ t) reads) ∙ ap (settled_text f ucd) (sym joined)
-      ∙ sym (settled_text-run ucd plain f x t n len some ascii read.taken.machine.usable old.starter alone calm.starter)
-      ∙ ap (λ l. (settled_text f ucd x ++ (l ++ [])) ++ take (n - 1) t) (encode_ascii old.starter calm.starter)
-      ∙ append_assoc (settled_text f ucd x) (old.starter ∷ []) (take (n - 1) t)
-      ∙ ap (λ l. l ++ (old.starter ∷ take (n - 1) t)) (read-settled policy f ucd (base_of filter) laws filter.counted filter.reading bytes read)
+  module _ (plain : IsPlainAscii ucd) {policy : Policy} {f : Form} {old : State} {bytes input : List ℕ} {space len : ℕ}
+      (can : CanPass old input space len) (stand : StandsAfter policy f old bytes) (some : 0 < len) (fits : old.offset + length input ≤ 2 ^ 64 - 1) where
+    settles_to : (n : ℕ) → 0 < n → n ≤ length input → IsAscii (take n input) → settled_utf8 policy f ucd (bytes ++ take n input) ≡ settled_utf8 policy f ucd bytes ++ (old.starter ∷ take (n - 1) input)
+    settles_to n more within ascii = passed-settles plain can.calm stand (take n input) n (length-take-le n input within) more ascii (omega (arith, fits, within))
+        ∙ ap (λ l. settled_utf8 policy f ucd bytes ++ (old.starter ∷ l)) (take-take (n - 1) n input (omega arith))
 
--- what a call tells that let a front of its input pass
-module _ (laws : ReplacesParts) (plain : IsPlainAscii ucd) (policy : Policy) (f : Form) (old new : State) (bytes input output : List ℕ) (space len : ℕ)
-    (can : CanPass old input space len) (stand : StandsAfter policy f old bytes) (some : 0 < len) (fits : old.offset + length input < 2 ^ 64)
-    (is : new ≡ record old { starter = get_or input (len - 1) 0; offset = old.offset + len; chars = old.chars + len }) (out : take len output ≡ old.starter ∷ take (len - 1) input) (room : length output ≡ space) where
-  settles_to : (n : ℕ) → 0 < n → n ≤ length input → IsAscii (take n input) → settled_utf8 policy f ucd (bytes ++ take n input) ≡ settled_utf8 policy f ucd bytes ++ (old.starter ∷ take (n - 1) input)
-  settles_to n more within ascii =
-      passed-settles laws plain policy f old bytes (take n input) n can.calm stand (length-take-le n input within) more ascii (omega (arith, fits, within))
-      ∙ ap (λ l. settled_utf8 policy f ucd bytes ++ (old.starter ∷ l)) (take-take (n - 1) n input (omega arith))
-
-  new-stands : StandsAfter policy f new (bytes ++ take len input)
-  new-stands = subst (λ s. StandsAfter policy f s (bytes ++ take len input))
-      (sym (is ∙ ap (λ s. record old { starter = s; offset = old.offset + len; chars = old.chars + len }) (sym (get_or-take len input (len - 1) 0 (omega (arith, some))))))
-      (passed-stands laws plain policy f old bytes (take len input) len can.calm stand (length-take-le len input can.within) some can.ascii (omega (arith, fits, can.within)))
-
-  pub pass-feeds : (fault : Option Fault) (moved : Moved) → moved ≡ ended fault (read_before fault old.offset (length input) len) len → ends fault ≡ false → IfSome fault IsOfFeeding → ¬ (fault ≡ Some TooLong)
-      → (fault ≡ None → len ≡ length input) → (fault ≡ Some Write → len < length input) → Feeds policy f bytes input old new output moved
-  pass-feeds fault told moved goes among not_long all less = record {
-    fault = fault;
-    seen = len;
-    written = len;
-    is = moved;
-    among = among;
-    seen_within = can.within;
-    written_within = omega (arith, can.room, room);
-    settles = settles_to len some can.within can.ascii ∙ ap (λ l. settled_utf8 policy f ucd bytes ++ l) (sym out);
-    all = all;
-    full = λ e.
-        let more = can.more (less e) in
-        let longer = settles_to (len + 1) (omega arith) (omega (arith, less e)) more.1 in
-        omega (arith, ap length longer, length-append (settled_utf8 policy f ucd bytes) (old.starter ∷ take (len + 1 - 1) input), length-take-le (len + 1 - 1) input (omega (arith, less e)), more.0, room);
-    stands = λ _. new-stands;
-    told = λ e. absurd (false≢true (sym goes ∙ e));
-    spent = λ e. absurd (false≢true (sym goes ∙ e));
-    too_long = (λ e. absurd (not_long e), λ long. absurd (omega (arith, fits, long)));
-    nothing = λ e. absurd (not_long e);
-  }
+    -- what a call tells that let a front of its input pass
+    pub pass-feeds : {new : State} {output : List ℕ} → new ≡ record old { starter = get_or input (len - 1) 0; offset = old.offset + len; chars = old.chars + len } → take len output ≡ old.starter ∷ take (len - 1) input → length output ≡ space
+        → (fault : Option Fault) {moved : Moved} → moved ≡ ended fault (read_before fault old.offset (length input) len) len → ends fault ≡ false → IfSome fault IsOfFeeding → ¬ (fault ≡ Some TooLong)
+        → (fault ≡ None → len ≡ length input) → (fault ≡ Some Write → len < length input) → Feeds policy f bytes input old new output moved
+    pass-feeds is out room fault moved goes among not_long all less = record {
+      fault = fault;
+      seen = len;
+      written = len;
+      is = moved;
+      among = among;
+      seen_within = can.within;
+      written_within = omega (arith, can.room, room);
+      settles = settles_to len some can.within can.ascii ∙ ap (λ l. settled_utf8 policy f ucd bytes ++ l) (sym out);
+      all = all;
+      full = λ e.
+          let more = can.more (less e) in
+          let longer = settles_to (len + 1) (omega arith) (omega (arith, less e)) more.1 in
+          omega (arith, ap length longer, length-append (settled_utf8 policy f ucd bytes) (old.starter ∷ take (len + 1 - 1) input), length-take-le (len + 1 - 1) input (omega (arith, less e)), more.0, room);
+      stands = λ _. rw (is, ← get_or-take len input (len - 1) 0 (omega (arith, some))) (passed-stands plain can.calm stand (take len input) len (length-take-le len input can.within) some can.ascii (omega (arith, fits, can.within)));
+      told = λ e. absurd (false≢true (sym goes ∙ e));
+      spent = λ e. absurd (false≢true (sym goes ∙ e));
+      too_long = (λ e. absurd (not_long e), λ long. absurd (omega (arith, fits, long)));
+      nothing = λ e. absurd (not_long e);
+    }
 
 -- a front of ASCII
-pub ascii_front : (xs : List ℕ) (k seen n : ℕ) → seen ≤ k → IsAscii (take k (take seen xs)) → n ≤ seen → IsAscii (take n xs)
-ascii_front xs k seen n all ascii few = subst IsAscii (take-take n k (take seen xs) (omega arith) ∙ take-take n seen xs few) (IsAscii-take (take k (take seen xs)) n ascii)
-
--- what stands at the front of a list, the first of which was written, and then those behind it
-pub first_set : (xs : List ℕ) (v : ℕ) → 0 < length xs → take 1 (slice_set xs 0 v) ≡ v ∷ []
-first_set [] v some = absurd (omega (arith, some))
-first_set (x ∷ xs) v some = refl
-
-pub take_behind : (xs ys : List ℕ) (v len : ℕ) → 0 < len → take 1 xs ≡ v ∷ [] → length ys ≡ len - 1 → take len (put_mid 1 (len - 1) xs ys) ≡ v ∷ ys
-take_behind xs ys v len some first is =
-    ap (λ k. take k (put_mid 1 (len - 1) xs ys)) at ∙ take-append-add (take 1 xs) (ys ++ post_of 1 (len - 1) xs) (len - 1)
-    ∙ ap (λ l. l ++ take (len - 1) (ys ++ post_of 1 (len - 1) xs)) first
-    ∙ ap (λ l. v ∷ l) (take-append-le (len - 1) ys (post_of 1 (len - 1) xs) (omega (arith, is)) ∙ take_all (len - 1) ys (omega (arith, is)))
-  where
-    at : len ≡ length (take 1 xs) + (len - 1)
-    at = omega (arith, some, ap length first)
+pub ascii_front : (xs : List ℕ) (k seen : ℕ) → seen ≤ k → IsAscii (take k (take seen xs)) → (n : ℕ) → n ≤ seen → IsAscii (take n xs)
+ascii_front xs k seen all ascii n few = subst IsAscii (take-take n k (take seen xs) (omega arith) ∙ take-take n seen xs few) (IsAscii-take (take k (take seen xs)) n ascii)

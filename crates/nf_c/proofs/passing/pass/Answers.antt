@@ -5,12 +5,10 @@ use Rattle.nf_c.proofs.passing.pass.Goals as goal
 
 pub returns-then-len-input-clause-feeds : goal.returns-then-len-input-clause-feeds
 returns-then-len-input-clause-feeds c = λ policy f bytes stands.
-    pass-feeds c.replacing.ensures c.plain-plain.ensures policy f c.args.state.now c.write_passing.new.state bytes c.args.input.now c.write_passing.new.output _ c.args.len
-    c.requires.can stands c.requires.some (omega (arith, c.requires.fits)) c.write_passing.ensures.state c.write_passing.ensures.output c.write_passing.ensures.length
-    (Some Write) c.of.result c.of.ensures refl tt (λ e. cc) (λ e. cc) (λ _. c.if-len-input.true)
+    pass-feeds c.pieces.ensures c.read_back.ensures c.replacing.ensures c.split.ensures c.plain-plain.ensures c.requires.can stands c.requires.some c.requires.fits
+    c.write_passing.ensures.state c.write_passing.ensures.output c.write_passing.ensures.length (Some Write) c.of.ensures refl tt (λ e. cc) (λ e. cc) (λ _. c.if-len-input.true)
 
 pub returns-clause-feeds : goal.returns-clause-feeds
 returns-clause-feeds c = λ policy f bytes stands.
-    pass-feeds c.replacing.ensures c.plain-plain.ensures policy f c.args.state.now c.write_passing.new.state bytes c.args.input.now c.write_passing.new.output _ c.args.len
-    c.requires.can stands c.requires.some (omega (arith, c.requires.fits)) c.write_passing.ensures.state c.write_passing.ensures.output c.write_passing.ensures.length
-    None c.of-2.result c.of-2.ensures refl tt (λ e. cc) (λ _. omega (arith, c.requires.can.within, c.if-len-input.false)) (λ e. cc)
+    pass-feeds c.pieces.ensures c.read_back.ensures c.replacing.ensures c.split.ensures c.plain-plain.ensures c.requires.can stands c.requires.some c.requires.fits
+    c.write_passing.ensures.state c.write_passing.ensures.output c.write_passing.ensures.length None c.of-2.ensures refl tt (λ e. cc) (λ _. omega (arith, c.requires.can.within, c.if-len-input.false)) (λ e. cc)
