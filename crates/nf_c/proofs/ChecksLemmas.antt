@@ -2,14 +2,12 @@
 use Rattle.std.proofs.Common.{◌≡◌, ◌⊎◌, inl, inr, Bool, true, false, ℕ, ◌<◌, ◌^◌, List, ◌++◌, length, Option, Some, None, Result, Err, refl, sym, ap, ◌∙◌, arith, append-nil, IfErr, length-append}
 use Rattle.nf_utf8.specs.Reading.{ending_of}
 use Rattle.nf_safe.specs.declared.place.Place.{Place}
-use Rattle.nf_filter.specs.declared.fault.Fault.{Fault}
-use Rattle.nf_filter.specs.declared.fault.Fault.TheVariants.{TooLong, Read, Row}
+use Rattle.nf_c.proofs.Common.{Fault, TooLong, Row, Moved, Read}
 use Rattle.nf_filter.specs.Faults.{answer_at_end}
 use Rattle.nf_filter.specs.Surveys.{IsOfSurvey, Surveys}
 use Rattle.nf_filter.specs.Laws.Soundness.{RefusesNone}
 use Rattle.nf_normalized.specs.Checker.{IsOfText}
 use Rattle.nf_c.specs.declared.checking.Text.{Text}
-use Rattle.nf_c.specs.declared.moved.Moved.{Moved}
 use Rattle.nf_c.specs.declared.status.Status.{Status}
 use Rattle.nf_c.specs.Checks.{state_of, checked, IsOfCheck, IsOfFormCheck, ChecksBy}
 

@@ -1,31 +1,17 @@
 -- A whole text, fed and finished.
 use Rattle.std.proofs.Common.{◌≡◌, inl, inr, ℕ, ◌+◌, ◌-◌, ◌≤◌, ◌<◌, List, [], ◌++◌, length, take, Some, None, Result, Ok, Err, refl, sym, ap, ◌∙◌, subst, arith, length-take-le}
-use Rattle.std.specs.Result.{result_err}
+use Rattle.nf_c.proofs.Common.{FilterStandsAfter, result_err, ucd, Form, Fault, TooLong, Write, FilterState, Policy, Tally, as_is, settled_utf8, final_utf8, base_of, Fed, ends, FeedsFront, FinishesFilter, end_of}
 use Rattle.std.proofs.lemmas.Slice.{take-put_mid_below}
 use Rattle.std.proofs.Math.Seq.{take-length}
 use borrow.Rule.Slice.PartMut.{put_mid}
-use Rattle.nf_forms.specs.Ucd.{ucd}
-use Rattle.nf_forms.specs.declared.form.Form.{Form}
 use Rattle.nf_utf8.specs.Laws.{ReadsLongestText}
 use Rattle.nf_utf8.specs.Reading.{text_of}
 use Rattle.nf_utf8.specs.Reads.{EndsAs}
-use Rattle.nf_filter.specs.declared.fault.Fault.{Fault}
-use Rattle.nf_filter.specs.declared.fault.Fault.TheVariants.{TooLong, Write}
-use Rattle.nf_filter.specs.declared.filter.State.{State as FilterState}
-use Rattle.nf_filter.specs.declared.policy.Policy.{Policy}
-use Rattle.nf_filter.specs.declared.tally.Tally.{Tally}
-use Rattle.nf_filter.specs.Policy.{as_is}
-use Rattle.nf_filter.specs.Settled.{settled_utf8}
 use Rattle.nf_filter.specs.Faults.{fault_in}
-use Rattle.nf_filter.specs.Finishes.{end_of, final_utf8}
-use Rattle.nf_filter.specs.Filter.{base_of, StandsAfter}
 use Rattle.nf_filter.specs.Whole.{IsFormOf}
 use Rattle.nf_filter.specs.Laws.Settled.{settled_utf8-none}
 use Rattle.nf_filter.proofs.WholeLemmas.{ending_whole, final_is}
-use Rattle.nf_c.specs.declared.feeding.Fed.{Fed}
 use Rattle.nf_c.specs.declared.finishing.Finished.{Finished}
-use Rattle.nf_c.specs.Feeds.{ends, FeedsFront}
-use Rattle.nf_c.specs.Finishes.{FinishesFilter}
 use Rattle.nf_c.specs.Converts.{ConvertsText}
 use Rattle.nf_c.proofs.FeedsLemmas.{take_put, length_put}
 
@@ -57,8 +43,8 @@ module _ {policy : Policy} {f : Form} {input output : List ℕ} {was now : Filte
     whole : take fed.read input ≡ input
     whole = ap (λ n. take n input) all ∙ take-length input
 
-    pub stands_whole : StandsAfter policy f ucd now input
-    stands_whole = subst (StandsAfter policy f ucd now) whole (front.stands (ap ends goes))
+    pub stands_whole : FilterStandsAfter policy f ucd now input
+    stands_whole = subst (FilterStandsAfter policy f ucd now) whole (front.stands (ap ends goes))
 
     module _ {part : List ℕ} {finished : Finished} (rest : length part ≡ length output - fed.written) (finishes : FinishesFilter policy f (base_of now) input part finished) where
       abbrev after : List ℕ

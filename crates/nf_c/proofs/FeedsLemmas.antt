@@ -1,29 +1,13 @@
 -- Fronts of a piece that are fed in turn.
 use Rattle.std.proofs.Common.{take-take, ◌≡◌, ℕ, ◌+◌, ◌-◌, ◌≤◌, ◌<◌, true, false, List, [], ◌++◌, length, take, drop, Option, Some, None, refl, sym, ap, ◌∙◌, arith, append_assoc, append-nil, slice_range, Result, Err, IfSome}
-use Rattle.std.specs.Result.{result_err}
+use Rattle.nf_c.proofs.Common.{result_err, ucd, Form, Fault, Spent, TooLong, Write, Row, FilterState, Policy, SinkState, settled_utf8, base_of, FilterStandsAfter, Moved}
+use Rattle.nf_c.proofs.Common.{State, StandsAfter, Fed, Room, ended, read_before, room_state, ends, IsOfFeeding, FeedsFront, BadByte, Unassigned, is_spent, StandAfter}
 use Rattle.std.proofs.lemmas.List.{length-append, length-take, length-drop, length-take-le, take-append-le}
 use borrow.Rule.Slice.PartMut.{put_mid, post_of}
 use Rattle.std.proofs.Math.Seq.{take-add, take-length, take-append-add}
-use Rattle.nf_forms.specs.Ucd.{ucd}
-use Rattle.nf_forms.specs.declared.form.Form.{Form}
-use Rattle.nf_filter.specs.declared.fault.Fault.{Fault}
-use Rattle.nf_filter.specs.declared.fault.Fault.TheVariants.{Spent, TooLong, Write, Row, BadByte, Unassigned}
 use Rattle.nf_filter.specs.Writes.{Puts, BreaksOff}
-use Rattle.nf_filter.specs.declared.filter.State.{State as FilterState}
-use Rattle.nf_filter.specs.declared.policy.Policy.{Policy}
-use Rattle.nf_filter.specs.Devices.{SinkState}
 use Rattle.nf_filter.specs.Feeds.{Feeds}
-use Rattle.nf_filter.specs.Settled.{settled_utf8}
 use Rattle.nf_filter.specs.Faults.{IsOfFeeding as IsOfFilter}
-use Rattle.nf_filter.specs.Filter.{base_of, is_spent, StandsAfter as FilterStandsAfter}
-use Rattle.nf_c.specs.declared.moved.Moved.{Moved}
-use Rattle.nf_c.specs.declared.state.State.{State}
-use Rattle.nf_c.specs.State.{StandAfter, StandsAfter}
-use Rattle.nf_c.specs.declared.feeding.Fed.{Fed}
-use Rattle.nf_c.specs.declared.room.Room.{Room}
-use Rattle.nf_c.specs.Moved.{ended, read_before}
-use Rattle.nf_c.specs.Room.{state_of as room_state}
-use Rattle.nf_c.specs.Feeds.{ends, IsOfFeeding, FeedsFront}
 
 -- a front of a slice behind what stands before it
 slice_seam : (xs : List ℕ) (a b k : ℕ) → k ≤ length (slice_range xs a b) → take a xs ++ take k (slice_range xs a b) ≡ take (a + k) xs

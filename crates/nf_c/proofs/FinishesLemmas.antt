@@ -1,24 +1,10 @@
 -- What a filter that ends gives to a room.
 use Rattle.std.proofs.Common.{◌≡◌, false, rules, ℕ, ◌+◌, ◌<◌, inl, inr, List, [], ◌++◌, length, take, Some, Result, Ok, Err, refl, sym, ap, ◌∙◌, arith, ◌↔◌, IfSome, IfErr, length-append, length-take}
-use Rattle.std.specs.Result.{result_err}
-use Rattle.nf_forms.specs.Ucd.{ucd}
-use Rattle.nf_forms.specs.declared.form.Form.{Form}
-use Rattle.nf_filter.specs.declared.fault.Fault.{Fault}
-use Rattle.nf_filter.specs.declared.fault.Fault.TheVariants.{Spent, Write, Row}
-use Rattle.nf_filter.specs.declared.policy.Policy.{Policy}
-use Rattle.nf_filter.specs.declared.tally.Tally.{Tally}
-use Rattle.nf_filter.specs.Devices.{SinkState}
+use Rattle.nf_c.proofs.Common.{result_err, ucd, Form, Fault, Spent, Write, Row, Policy, Tally, SinkState, final_utf8, settled_utf8, Room, room_state, FinishesFilter, State, FilterFinishes, IsOfFinishing, CanStand}
 use Rattle.nf_filter.specs.Faults.{IsOfFinishing as IsOfFilter}
-use Rattle.nf_filter.specs.Finishes.{final_utf8, Finishes as FilterFinishes}
-use Rattle.nf_filter.specs.Settled.{settled_utf8}
 use Rattle.nf_filter.specs.Laws.Soundness.{AreSound}
 use Rattle.nf_filter.proofs.FilterLemmas.{write_or_kept}
 use Rattle.nf_filter.proofs.SoundnessLemmas.{not_in_end}
-use Rattle.nf_c.specs.declared.room.Room.{Room}
-use Rattle.nf_c.specs.Room.{state_of as room_state}
-use Rattle.nf_c.specs.Finishes.{IsOfFinishing, FinishesFilter}
-use Rattle.nf_c.specs.State.{CanStand}
-use Rattle.nf_c.specs.declared.state.State.{State}
 use Rattle.nf_c.proofs.FeedsLemmas.{puts_is, too_little}
 
 -- a state stays one when its text has ended

@@ -1,3 +1,4 @@
+pub mod Common
 pub mod FeedsLemmas
 pub mod FinishesLemmas
 pub mod ConvertsLemmas

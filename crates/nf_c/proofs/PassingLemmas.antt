@@ -7,10 +7,10 @@ use Rattle.std.proofs.lemmas.Bool.Decides.{nat_tests}
 use Rattle.std.proofs.lemmas.List.{nil_from_length, length-take-le}
 use Rattle.std.proofs.lemmas.Str.{encode_ascii, encodes-IsAscii, chars-IsAscii, scalars-chars, IsUtf8-from_ascii, IsUtf8-append, IsAscii-take}
 use Rattle.std.proofs.lemmas.Str.Ascii.{All-from_ascii}
-use Rattle.nf_forms.specs.Ucd.{ucd}
+use Rattle.nf_c.proofs.Common.{ucd, Form, Fault, TooLong, Write, FilterState, Policy, Saved, base_of, FilterStandsAfter, settled_utf8, Moved, State}
+use Rattle.nf_c.proofs.Common.{ends, IsOfFeeding, ended, read_before, mark_at, StandsAfter, allowed, CanPass, Feeds, starter_at, unpacked, IsStarter, IsCalm}
 use Rattle.nf_forms.specs.Properties.{Properties}
 use Rattle.nf_forms.specs.Front.{back}
-use Rattle.nf_forms.specs.declared.form.Form.{Form}
 use Rattle.nf_forms.specs.Forms.{decomposed, finished}
 use Rattle.nf_forms.specs.StreamSafe.{stream_safe}
 use Rattle.nf_row.specs.Ascii.{IsPlainAscii, AreAscii}
@@ -26,29 +26,16 @@ use Rattle.nf_pending.proofs.Standing.{back_alone, stands_unmarked}
 use Rattle.nf_normalizer.specs.Normalizer.{settled_text}
 use Rattle.nf_normalizer.proofs.AsciiLemmas.{joins-run, settled_text-run, HasTaken-run}
 use Rattle.nf_filter.specs.declared.counted.Counted.{Counted}
-use Rattle.nf_filter.specs.declared.fault.Fault.{Fault}
-use Rattle.nf_filter.specs.declared.fault.Fault.TheVariants.{TooLong, Write}
-use Rattle.nf_filter.specs.declared.filter.State.{State as FilterState}
-use Rattle.nf_filter.specs.declared.policy.Policy.{Policy}
 use Rattle.nf_filter.specs.declared.reading.Reading.{Reading}
-use Rattle.nf_filter.specs.declared.saved.Saved.{Saved}
 use Rattle.nf_filter.specs.Counted.{HasTaken}
 use Rattle.nf_filter.specs.Faults.{bad_byte}
 use Rattle.nf_filter.specs.Feeding.{IsLeft, HasReadTo}
-use Rattle.nf_filter.specs.Filter.{base_of, StandsAfter as FilterStandsAfter}
-use Rattle.nf_filter.specs.Policy.{allowed}
 use Rattle.nf_filter.specs.Saved.{saved_of}
-use Rattle.nf_filter.specs.Settled.{settled_utf8}
 use Rattle.nf_filter.proofs.FedLemmas.{left_is, read-settled, read-no_fault}
 use Rattle.nf_filter.proofs.PieceLemmas.{IsLeft-more}
 use Rattle.nf_filter.proofs.PolicyLemmas.{allowed-append, take_while-all}
 use Rattle.nf_filter.proofs.ReadingLemmas.{text_of-none, ending_of-none}
 use Rattle.nf_filter.proofs.SavedLemmas.{IsRestorable-stands}
-use Rattle.nf_c.specs.declared.moved.Moved.{Moved}
-use Rattle.nf_c.specs.declared.state.State.{State}
-use Rattle.nf_c.specs.Feeds.{ends, IsOfFeeding, CanPass, Feeds}
-use Rattle.nf_c.specs.Moved.{ended, read_before}
-use Rattle.nf_c.specs.State.{mark_at, starter_at, unpacked, IsStarter, IsCalm, StandsAfter}
 
 -- where ASCII is assigned, it is allowed
 all_assigned : (p : Properties) → IsPlainAscii p → (cs : List ℕ) → AreAscii cs → list_all p.assigned cs ≡ true

@@ -1,6 +1,5 @@
 use Rattle.std.proofs.Common.{arith, ◌≡◌, ◌-◌, ◌<◌, ◌^◌, [], length, Some, None, ◌∙◌, rules}
-use Rattle.nf_filter.specs.declared.fault.Fault.TheVariants.{Write}
-use Rattle.nf_filter.specs.Policy.{as_is}
+use Rattle.nf_c.proofs.Common.{Write, as_is}
 use Rattle.nf_c.proofs.ConvertsLemmas.{stops_within, stands_whole, full_at_end, reaches_end}
 use Rattle.nf_c.proofs.converting.convert_text.Goals as goal
 

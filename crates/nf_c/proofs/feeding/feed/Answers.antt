@@ -1,7 +1,5 @@
 use Rattle.std.proofs.Common.{eqb-true, arith, ◌≡◌, ◌+◌, ◌<◌, ◌^◌, ◌==◌, length, ◌++◌, take, Some, refl, sym, ap, ◌∙◌, append-nil}
-use Rattle.nf_forms.specs.Ucd.{ucd}
-use Rattle.nf_filter.specs.declared.fault.Fault.TheVariants.{TooLong}
-use Rattle.nf_filter.specs.declared.saved.Saved.{Saved}
+use Rattle.nf_c.proofs.Common.{ucd, TooLong, Saved}
 use Rattle.nf_filter.specs.Faults.{fault_in}
 use Rattle.nf_c.proofs.FeedsLemmas.{read_before-within, ended_moved, StandsAfter-of}
 use Rattle.nf_c.proofs.feeding.feed.Goals as goal

@@ -1,8 +1,7 @@
 use Rattle.std.proofs.Common.{◌≡◌, ◌+◌, ◌-◌, ◌≤◌, length, take, drop, Some, None, refl, ap, arith, rules}
 use Rattle.std.proofs.lemmas.List.{length-append, length-take, length-take-le, length-drop}
-use Rattle.nf_filter.specs.declared.fault.Fault.TheVariants.{Write}
+use Rattle.nf_c.proofs.Common.{Write, ends}
 use Rattle.nf_filter.proofs.FilterLemmas.{StandsAfter-offset}
-use Rattle.nf_c.specs.Feeds.{ends}
 use Rattle.nf_c.proofs.FeedsLemmas.{FeedsFront-goes, FeedsFront-next, full_next, length_put}
 use Rattle.nf_c.proofs.feeding.feed_all.Goals.{else-is_full-via-then-is_full+else-len-gt1, else-is_full-via-else-is_full}
 use Rattle.nf_c.proofs.feeding.feed_all.Goals as goal

@@ -1,9 +1,5 @@
 use Rattle.std.proofs.Common.{◌+◌, ◌-◌, ◌≤◌, ℕ, List, ◌++◌, length, take, None}
-use Rattle.nf_forms.specs.declared.form.Form.{Form}
-use Rattle.nf_filter.specs.declared.policy.Policy.{Policy}
-use Rattle.nf_filter.specs.Filter.{state_of}
-use Rattle.nf_c.specs.Feeds.{FeedsFront}
-use Rattle.nf_c.specs.State.{StandAfter}
+use Rattle.nf_c.proofs.Common.{Form, Policy, FeedsFront, state_of, StandAfter}
 use Rattle.nf_c.proofs.feeding.feed_all.Given as goal
 
 abbrev pub invariant-loop-read : goal.invariant-loop-read

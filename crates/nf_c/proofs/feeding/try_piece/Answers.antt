@@ -1,9 +1,6 @@
 use Rattle.std.proofs.Common.{◌≡◌, true, false, Some, Err, refl, sym, ap, ◌∙◌, rules}
-use Rattle.nf_forms.specs.Ucd.{ucd}
-use Rattle.nf_filter.specs.declared.fault.Fault.TheVariants.{Write, TooLong}
-use Rattle.nf_filter.specs.declared.saved.Saved.{Saved}
+use Rattle.nf_c.proofs.Common.{ucd, Write, TooLong, Saved, ends}
 use Rattle.nf_filter.proofs.SoundnessLemmas.{not_fed}
-use Rattle.nf_c.specs.Feeds.{ends}
 use Rattle.nf_c.proofs.FeedsLemmas.{not_other, of_staying, of_feeding, too_little, StandsAfter-of, FeedsFront-all, FeedsFront-none}
 use Rattle.nf_c.proofs.feeding.try_piece.Goals as goal
 

@@ -1,6 +1,5 @@
 use Rattle.std.proofs.Common.{arith, ◌≡◌, Some, refl, ap, rules}
-use Rattle.nf_filter.specs.declared.fault.Fault.TheVariants.{Write}
-use Rattle.nf_filter.specs.declared.saved.Saved.{Saved}
+use Rattle.nf_c.proofs.Common.{Write, Saved}
 use Rattle.nf_c.proofs.FeedsLemmas.{ended_moved}
 use Rattle.nf_c.proofs.FinishesLemmas.{CanStand-spent}
 use Rattle.nf_c.proofs.finishing.finish.Goals as goal
