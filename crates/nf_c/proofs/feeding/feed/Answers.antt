@@ -1,7 +1,7 @@
-use Rattle.std.proofs.Common.{eqb-true, arith, ◌≡◌, ◌+◌, ◌<◌, ◌^◌, ◌==◌, length, ◌++◌, take, Some, refl, sym, ap, ◌∙◌, append-nil}
+use Rattle.std.proofs.Common.{eqb-true, arith, ◌≡◌, ◌+◌, ◌<◌, ◌^◌, length, ◌++◌, take, Some, refl, ap, ◌∙◌, append-nil}
 use Rattle.nf_c.proofs.Common.{ucd, TooLong, Saved}
 use Rattle.nf_filter.specs.Faults.{fault_in}
-use Rattle.nf_c.proofs.FeedsLemmas.{read_before-within, ended_moved, StandsAfter-of}
+use Rattle.nf_c.proofs.FeedsLemmas.{StandsAfter-of}
 use Rattle.nf_c.proofs.feeding.feed.Goals as goal
 
 pub returns-then-is_too_long-clause-feeds : goal.returns-then-is_too_long-clause-feeds
@@ -22,20 +22,6 @@ returns-then-is_too_long-clause-feeds c = λ policy f bytes stands. record {
   too_long = (λ _. omega (arith, c.is_too_long-2.ensures.long c.if-is_too_long.true), λ _. refl);
   nothing = λ _. (refl, refl, refl);
 }
-
-pub returns-clause-read : goal.returns-clause-read
-returns-clause-read c =
-    let fed = c.feed_all-fed.result in
-    omega (arith, read_before-within fed.fault c.args.state.now.offset (length c.args.input.now) fed.read c.feed_all-fed.ensures.read, (ended_moved fed.fault _ fed.written _ c.within.ensures).0)
-
-pub returns-clause-written : goal.returns-clause-written
-returns-clause-written c =
-    let fed = c.feed_all-fed.result in
-    omega (arith, c.feed_all-fed.ensures.written, (ended_moved fed.fault _ fed.written _ c.within.ensures).1)
-
--- a filter that is spent was saved
-pub returns-clause-state : goal.returns-clause-state
-returns-clause-state c = λ over _. c.kept.ensures.spent (sym (ap (λ (s : Saved). s.spent) c.kept.ensures.saved) ∙ ap (λ n. n == 1) over)
 
 pub returns-clause-feeds : goal.returns-clause-feeds
 returns-clause-feeds c = λ policy f bytes stands.

@@ -1,5 +1,5 @@
 use Rattle.std.proofs.Common.{◌≡◌, true, false, Some, Err, refl, sym, ap, ◌∙◌, rules}
-use Rattle.nf_c.proofs.Common.{ucd, Write, TooLong, Saved, ends}
+use Rattle.nf_c.proofs.Common.{ucd, Write, Saved, ends}
 use Rattle.nf_filter.proofs.SoundnessLemmas.{not_fed}
 use Rattle.nf_c.proofs.FeedsLemmas.{not_other, of_staying, of_feeding, too_little, StandsAfter-of, FeedsFront-all, FeedsFront-none}
 use Rattle.nf_c.proofs.feeding.try_piece.Goals as goal
@@ -22,10 +22,6 @@ returns-clause-feeds c = λ policy f bytes stands.
     let goes : ends (Some c.in-Err.fault) ≡ false = sym c.ends.ensures ∙ c.if-ends.false in
     let back = c.go_back.ensures policy f bytes (StandsAfter-of stands) in
     FeedsFront-none goes (of_staying c.in-Err.fault goes) (ap (λ (s : Saved). s.base) (back.saved ∙ sym stands.saved)) back.stands
-
--- the fault is that of the filter
-pub returns-clause-too_long : goal.returns-clause-too_long
-returns-clause-too_long c = λ e. (c.in-Err.ensures.too_long.0 (let same : c.in-Err.fault ≡ TooLong = cc in ap Err same)).1
 
 pub returns-clause-full : goal.returns-clause-full
 returns-clause-full c = λ policy f bytes stands is.

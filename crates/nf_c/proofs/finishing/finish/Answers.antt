@@ -1,6 +1,5 @@
-use Rattle.std.proofs.Common.{arith, ◌≡◌, Some, refl, ap, rules}
+use Rattle.std.proofs.Common.{◌≡◌, Some, refl, ap, rules}
 use Rattle.nf_c.proofs.Common.{Write, Saved}
-use Rattle.nf_c.proofs.FeedsLemmas.{ended_moved}
 use Rattle.nf_c.proofs.FinishesLemmas.{CanStand-spent}
 use Rattle.nf_c.proofs.finishing.finish.Goals as goal
 
@@ -14,12 +13,6 @@ returns-then-is_full-clause-finishes c = λ policy f bytes stands.
       written = λ not. absurd (not full);
       spent = λ not. absurd (not full);
     }
-
-pub returns-clause-written : goal.returns-clause-written
-returns-clause-written c = omega (arith, c.finish_filter-finished.ensures.written, (ended_moved c.finish_filter-finished.result.fault 0 c.finish_filter-finished.result.written _ c.ended.ensures).1)
-
-pub returns-clause-state : goal.returns-clause-state
-returns-clause-state c = CanStand-spent c.args.state.now
 
 pub returns-clause-finishes : goal.returns-clause-finishes
 returns-clause-finishes c = λ policy f bytes stands.
