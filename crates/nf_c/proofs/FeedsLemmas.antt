@@ -1,7 +1,7 @@
 -- Fronts of a piece that are fed in turn.
 use Rattle.std.proofs.Common.{take-take, ◌≡◌, ℕ, ◌+◌, ◌-◌, ◌≤◌, ◌<◌, true, false, List, [], ◌++◌, length, take, drop, Option, Some, None, refl, sym, ap, ◌∙◌, arith, append_assoc, append-nil, slice_range, Result, Err, IfSome}
-use Rattle.nf_c.proofs.Common.{result_err, ucd, Form, Fault, Spent, TooLong, Write, Row, FilterState, Policy, SinkState, settled_utf8, base_of, FilterStandsAfter, Moved}
-use Rattle.nf_c.proofs.Common.{State, StandsAfter, Fed, Room, ended, read_before, room_state, ends, IsOfFeeding, FeedsFront, BadByte, Unassigned, is_spent, StandAfter}
+use Rattle.nf_c.proofs.Common.{result_err, ucd, Form, Fault, Spent, TooLong, Write, Row, FilterState, Policy, SinkState, settled_utf8, base_of, FilterStandsAfter}
+use Rattle.nf_c.proofs.Common.{State, StandsAfter, Fed, Room, room_state, ends, IsOfFeeding, FeedsFront, is_spent, StandAfter}
 use Rattle.std.proofs.lemmas.List.{length-append, length-take, length-drop, length-take-le, take-append-le}
 use borrow.Rule.Slice.PartMut.{put_mid, post_of}
 use Rattle.std.proofs.Math.Seq.{take-add, take-length, take-append-add}
@@ -21,17 +21,6 @@ module _ (xs ys : List ℕ) (w : ℕ) (within : w ≤ length xs) (whole : length
 
   pub length_put : length (put_mid w (length xs - w) xs ys) ≡ length xs
   length_put = simp (length-append, length-take, length-drop) (omega (arith, whole))
-
--- no more stand before a fault than the input has
-pub read_before-within : (fault : Option Fault) (offset len read : ℕ) → read ≤ len → read_before fault offset len read ≤ len
-read_before-within (Some (BadByte at start)) offset len read fits = omega arith
-read_before-within (Some (Unassigned at)) offset len read fits = omega arith
-read_before-within fault offset len read fits = fits
-
--- how a call ended does not change what it read and wrote
-pub ended_moved : (fault : Option Fault) (read written : ℕ) (moved : Moved) → moved ≡ ended fault read written → (moved.read ≡ read) × (moved.written ≡ written)
-ended_moved None read written moved is = rw is (refl, refl)
-ended_moved fault read written moved is = rw is (refl, refl)
 
 -- what does not end the text is a full output, or too long an input
 pub of_staying : (fault : Fault) → ends (Some fault) ≡ false → IsOfFeeding fault

@@ -1,15 +1,11 @@
 -- What a filter that ends gives to a room.
-use Rattle.std.proofs.Common.{◌≡◌, false, rules, ℕ, ◌+◌, ◌<◌, inl, inr, List, [], ◌++◌, length, take, Some, Result, Ok, Err, refl, sym, ap, ◌∙◌, arith, ◌↔◌, IfSome, IfErr, length-append, length-take}
-use Rattle.nf_c.proofs.Common.{result_err, ucd, Form, Fault, Spent, Write, Row, Policy, Tally, SinkState, final_utf8, settled_utf8, Room, room_state, FinishesFilter, State, FilterFinishes, IsOfFinishing, CanStand}
+use Rattle.std.proofs.Common.{◌≡◌, false, ℕ, ◌+◌, ◌<◌, inl, inr, List, [], ◌++◌, length, take, Some, Result, Ok, Err, refl, sym, ap, ◌∙◌, arith, ◌↔◌, IfSome, IfErr, length-append, length-take}
+use Rattle.nf_c.proofs.Common.{result_err, ucd, Form, Fault, Spent, Write, Row, Policy, Tally, SinkState, final_utf8, settled_utf8, Room, room_state, FinishesFilter, FilterFinishes, IsOfFinishing}
 use Rattle.nf_filter.specs.Faults.{IsOfFinishing as IsOfFilter}
 use Rattle.nf_filter.specs.Laws.Soundness.{AreSound}
 use Rattle.nf_filter.proofs.FilterLemmas.{write_or_kept}
 use Rattle.nf_filter.proofs.SoundnessLemmas.{not_in_end}
 use Rattle.nf_c.proofs.FeedsLemmas.{puts_is, too_little}
-
--- a state stays one when its text has ended
-pub CanStand-spent : (state : State) → CanStand state → CanStand (record state { spent = 1 })
-CanStand-spent state can = (search (rules, can.0), record { held = can.1.held; count = can.1.count; base = can.1.base; fits = inl refl })
 
 -- a filter that is not spent ends by these faults, where no character is unsound
 of_finishing : (result : Result Tally Fault) → IfErr result IsOfFilter → ¬ (result ≡ Err Spent) → ((at : ℕ) → ¬ (result ≡ Err (Row at))) → IfSome (result_err result) IsOfFinishing

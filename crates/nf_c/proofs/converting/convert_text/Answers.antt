@@ -1,5 +1,5 @@
-use Rattle.std.proofs.Common.{arith, ◌≡◌, ◌-◌, ◌<◌, ◌^◌, [], length, Some, None, ◌∙◌, rules}
-use Rattle.nf_c.proofs.Common.{Write, as_is}
+use Rattle.std.proofs.Common.{arith, ◌≡◌, ◌<◌, ◌^◌, [], length, None, ◌∙◌, rules}
+use Rattle.nf_c.proofs.Common.{as_is}
 use Rattle.nf_c.proofs.ConvertsLemmas.{stops_within, stands_whole, full_at_end, reaches_end}
 use Rattle.nf_c.proofs.converting.convert_text.Goals as goal
 
@@ -15,8 +15,7 @@ returns-then-is_full c =
     let base = c.policy-filter.ensures.base ∙ c.quickest.ensures.base in
     let none : c.feed_all-fed.result.fault ≡ None = search rules in
     let all = c.feed_all-fed.ensures.all none in
-    let rest : length c.finish_filter-finished.new.output ≡ length c.feed_all-fed.new.output - c.feed_all-fed.result.written = search rules in
-    full_at_end base fed_all.0 none all rest (c.finish_filter-finished.ensures.finishes _ _ _ (stands_whole base fed_all.0 none all)) (search rules)
+    full_at_end base fed_all.0 none all (search rules) (c.finish_filter-finished.ensures.finishes _ _ _ (stands_whole base fed_all.0 none all)) (search rules)
 
 pub returns : goal.returns
 returns c =
@@ -24,6 +23,4 @@ returns c =
     let base = c.policy-filter.ensures.base ∙ c.quickest.ensures.base in
     let none : c.feed_all-fed.result.fault ≡ None = search rules in
     let all = c.feed_all-fed.ensures.all none in
-    let rest : length c.finish_filter-finished.new.output ≡ length c.feed_all-fed.new.output - c.feed_all-fed.result.written = search rules in
-    let not_full : ¬ (c.finish_filter-finished.result.fault ≡ Some Write) = search rules in
-    reaches_end base fed_all.0 none all rest (c.finish_filter-finished.ensures.finishes _ _ _ (stands_whole base fed_all.0 none all)) not_full c.finish_filter-finished.ensures.written c.longest_text.ensures
+    reaches_end base fed_all.0 none all (search rules) (c.finish_filter-finished.ensures.finishes _ _ _ (stands_whole base fed_all.0 none all)) (search rules) c.finish_filter-finished.ensures.written c.longest_text.ensures

@@ -2,21 +2,20 @@ use Rattle.std.proofs.Common.{◌≡◌, ◌+◌, ◌-◌, ◌≤◌, length, ta
 use Rattle.std.proofs.lemmas.List.{length-append, length-take, length-take-le, length-drop}
 use Rattle.nf_c.proofs.Common.{Write, ends}
 use Rattle.nf_filter.proofs.FilterLemmas.{StandsAfter-offset}
-use Rattle.nf_c.proofs.FeedsLemmas.{FeedsFront-goes, FeedsFront-next, full_next, length_put}
+use Rattle.nf_c.proofs.FeedsLemmas.{FeedsFront-goes, FeedsFront-next, full_next}
 use Rattle.nf_c.proofs.feeding.feed_all.Goals.{else-is_full-via-then-is_full+else-len-gt1, else-is_full-via-else-is_full}
 use Rattle.nf_c.proofs.feeding.feed_all.Goals as goal
 
 pub loop-read-preserved-then-len-gt1 : goal.loop-read-preserved-then-len-gt1
 loop-read-preserved-then-len-gt1 c =
-    let fits : c.loop-read.read + c.len-len.result ≤ length c.args.input.now = omega (arith, c.len-len.ensures.within, c.loop-read-test.true) in
-    let rest : length c.try_piece-fed.new.output ≡ length c.loop-read.output - c.loop-read.written = search rules in
     let full : c.try_piece-fed.result.fault ≡ Some Write = search rules in
     let nothing = c.try_piece-fed.ensures.nothing full in record {
-      read = c.loop-read.invariant.read;
-      written = omega (arith, c.loop-read.invariant.written, length_put _ _ _ c.loop-read.invariant.written rest);
+      read = search rules;
+      written = search rules;
       feeds = λ policy f bytes stands.
           let so_far = c.loop-read.invariant.feeds policy f bytes stands in (
-            FeedsFront-goes (ap ends full) (omega (arith, nothing.0)) (omega (arith, nothing.1)) (FeedsFront-next c.len-len.result so_far.0 fits rest (c.try_piece-fed.ensures.feeds policy f _ so_far.1)),
+            FeedsFront-goes (ap ends full) (omega (arith, nothing.0)) (omega (arith, nothing.1))
+                (FeedsFront-next c.len-len.result so_far.0 (omega (arith, c.len-len.ensures.within, c.loop-read-test.true)) (search rules) (c.try_piece-fed.ensures.feeds policy f _ so_far.1)),
             (c.try_piece-fed.ensures.full policy f _ so_far.1 full).0,
           );
     }
@@ -27,9 +26,8 @@ returns-then-is_some-clause-feeds c = λ policy f bytes stands.
     let so_far = c.loop-read.invariant.feeds policy f bytes stands in
     let fed = c.try_piece-fed.ensures.feeds policy f _ so_far.1 in
     let at = c.loop-read.read in
-    let fits : at + c.len-len.result ≤ length c.args.input.now = omega (arith, c.len-len.ensures.within, c.loop-read-test.true) in
-    let rest : length c.try_piece-fed.new.output ≡ length c.loop-read.output - c.loop-read.written = search rules in (
-      FeedsFront-next c.len-len.result so_far.0 fits rest fed,
+    let fits : at + c.len-len.result ≤ length c.args.input.now = omega (arith, c.len-len.ensures.within, c.loop-read-test.true) in (
+      FeedsFront-next c.len-len.result so_far.0 fits (search rules) fed,
       λ small long. absurd (omega (
         arith,
         c.try_piece-fed.ensures.too_long long,
@@ -45,22 +43,20 @@ returns-then-is_some-clause-feeds c = λ policy f bytes stands.
       )),
       λ is.
           let one : c.len-len.result ≡ 1 = elim c.else-is_full.branch [
-            | else-is_full-via-then-is_full+else-len-gt1 w ↦ omega (arith, w.if-len-gt1.false, c.len-len.ensures.some)
+            | else-is_full-via-then-is_full+else-len-gt1 w ↦ search rules
             | else-is_full-via-else-is_full w ↦ let told = c.is_full.ensures.1 is in let not = w.if-is_full.false in cc
           ] in
-          full_next c.len-len.result so_far.0 fits rest fed (c.try_piece-fed.ensures.full policy f _ so_far.1 is).1 one (c.try_piece-fed.ensures.nothing is).0,
+          full_next c.len-len.result so_far.0 fits (search rules) fed (c.try_piece-fed.ensures.full policy f _ so_far.1 is).1 one (c.try_piece-fed.ensures.nothing is).0,
     )
 
 pub loop-read-preserved : goal.loop-read-preserved
 loop-read-preserved c =
-    let fits : c.loop-read.read + c.len-len.result ≤ length c.args.input.now = omega (arith, c.len-len.ensures.within, c.loop-read-test.true) in
-    let rest : length c.try_piece-fed.new.output ≡ length c.loop-read.output - c.loop-read.written = search rules in
     let none : c.try_piece-fed.result.fault ≡ None = search rules in record {
       read = search rules;
-      written = omega (arith, c.loop-read.invariant.written, c.try_piece-fed.ensures.written, rest, length_put _ _ _ c.loop-read.invariant.written rest);
+      written = search rules;
       feeds = λ policy f bytes stands.
           let so_far = c.loop-read.invariant.feeds policy f bytes stands in
-          let front = FeedsFront-goes (ap ends none) refl refl (FeedsFront-next c.len-len.result so_far.0 fits rest (c.try_piece-fed.ensures.feeds policy f _ so_far.1)) in
+          let front = FeedsFront-goes (ap ends none) refl refl (FeedsFront-next c.len-len.result so_far.0 (omega (arith, c.len-len.ensures.within, c.loop-read-test.true)) (search rules) (c.try_piece-fed.ensures.feeds policy f _ so_far.1)) in
           (front, c.kept.ensures.stands policy f _ (front.stands refl));
     }
 

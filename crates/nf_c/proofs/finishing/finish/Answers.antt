@@ -1,6 +1,5 @@
 use Rattle.std.proofs.Common.{◌≡◌, Some, refl, ap, rules}
 use Rattle.nf_c.proofs.Common.{Write, Saved}
-use Rattle.nf_c.proofs.FinishesLemmas.{CanStand-spent}
 use Rattle.nf_c.proofs.finishing.finish.Goals as goal
 
 pub returns-then-is_full-clause-finishes : goal.returns-then-is_full-clause-finishes
@@ -22,5 +21,5 @@ returns-clause-finishes c = λ policy f bytes stands.
       full = λ e. absurd (not_full e);
       told = λ _. c.ended.ensures;
       written = λ _. c.finish_filter-finished.ensures.written;
-      spent = λ _. (CanStand-spent c.args.state.now stands.can, refl);
+      spent = λ _. (search (rules, stands.can), refl);
     }
