@@ -1,5 +1,5 @@
 -- What is taken of a text at once, and a character at a boundary after any text.
-use Rattle.nf_normalizer.proofs.Common.{◌≡◌, ℕ, ◌+◌, ◌<◌, ◌≤◌, true, false, Bool, List, [], ◌∷◌, ◌++◌, length, take, drop, Option, Some, Result, Ok, Err, IfOk, inl, inr, refl, sym, ap, ◌∙◌, subst, arith, append-nil, append_assoc, encode_utf8, encode_utf8_all, IsUtf8, IsAscii, chars, length-append, take-append-drop, MatchOption, if◌then◌else◌, false≢true, chars-nil, chars-append, chars-IsAscii, encodes-append, encodes-chars, IsUtf8-from_ascii, chars_past_char, length-encode, len_utf8_bounds, Properties, Form, Nfc, Nfd, Nfkc, Nfkd, front, joiner, is_too_long, stream_safe, safe_form, IsSoundText, stream_safe-push, IsClosedFront, Normalizer, Unsound, settled, is_usable, Start, Holds, HasTaken, TakesChar, settled_text, Stands, one_if, Leaves, Passes, Joins, StepsTo, Refuses, Takes}
+use Rattle.nf_normalizer.proofs.Common.{◌≡◌, ℕ, ◌+◌, ◌<◌, ◌≤◌, true, false, Bool, List, [], ◌∷◌, ◌++◌, length, take, drop, Result, Ok, Err, IfOk, inl, inr, refl, sym, ap, ◌∙◌, subst, arith, append-nil, append_assoc, encode_utf8, encode_utf8_all, IsUtf8, IsAscii, chars, length-append, take-append-drop, if◌then◌else◌, false≢true, chars-nil, chars-append, chars-IsAscii, encodes-append, encodes-chars, IsUtf8-from_ascii, chars_past_char, length-encode, len_utf8_bounds, Properties, Form, Nfc, Nfd, Nfkc, Nfkd, front, joiner, is_too_long, stream_safe, safe_form, IsSoundText, stream_safe-push, IsClosedFront, Normalizer, Unsound, settled, is_usable, Start, Holds, HasTaken, TakesChar, settled_text, Stands, one_if, Leaves, Passes, Joins, StepsTo, Refuses, Takes}
 use Rattle.nf_forms.specs.Order.{by_class}
 use Rattle.nf_forms.specs.Closed.{BeginsAtBoundary}
 use Rattle.nf_forms.specs.Laws.Closed.{stream_safe-closed, sound-closed, safe_form-closed}
@@ -8,10 +8,6 @@ use Rattle.nf_normalizer.specs.Laws.Boundary.{usable-alone, usable_both, joins-b
 use Rattle.nf_normalizer.proofs.RoomLemmas.{Holds-at, Holds-more, Holds-alone}
 
 -- ---- fronts of a text
-
--- its first character
-pub begins : (none : Type 0) (bytes rest : List ℕ) (r : Option ℕ) (c : ℕ) → r ≡ Some c → MatchOption r none (λ d. bytes ≡ encode_utf8 d ++ rest) → bytes ≡ encode_utf8 c ++ rest
-begins none bytes rest r c is step = subst (λ o. MatchOption o none (λ d. bytes ≡ encode_utf8 d ++ rest)) is step
 
 -- ASCII bytes spell themselves
 pub ascii_front : (text : List ℕ) (n : ℕ) → IsAscii (take n text) → chars text ≡ take n text ++ chars (drop n text)
@@ -24,8 +20,8 @@ one_few true = omega arith
 one_few false = omega arith
 
 -- one character is past
-pub leaves-one : (text rest : List ℕ) (c : ℕ) → IsUtf8 text → (joined : Bool) → text ≡ encode_utf8 c ++ rest → Leaves text rest (one_if joined)
-leaves-one text rest c utf8 joined is = record {
+pub leaves-one : {text rest : List ℕ} (c : ℕ) (joined : Bool) → IsUtf8 text → text ≡ encode_utf8 c ++ rest → Leaves text rest (one_if joined)
+leaves-one {text} {rest} c joined utf8 is = record {
   few = one_few joined;
   front = c ∷ [];
   some = omega arith;
@@ -34,8 +30,8 @@ leaves-one text rest c utf8 joined is = record {
 }
 
 -- a closed front is past
-pub leaves-closed : (p : Properties) (f : Form) (text same formed rest : List ℕ) → IsClosedFront p f text same formed rest → Leaves text rest 0
-leaves-closed p f text same formed rest closed = record {
+pub leaves-closed : {p : Properties} {f : Form} {text same formed rest : List ℕ} → IsClosedFront p f text same formed rest → Leaves text rest 0
+leaves-closed {text = text} {rest = rest} closed = record {
   front = chars closed.front;
   some = omega (arith, ap length closed.form.begins.text);
   few = omega arith;
@@ -47,78 +43,57 @@ leaves-closed p f text same formed rest closed = record {
     next [] is begins = let none = chars-nil in cc
     next (c ∷ b) is begins = omega (arith, is, length-append (c ∷ b) rest)
 
-module _ (p : Properties) where
-  -- whether a joiner is put before a character
-  pub joins-one : (x : List ℕ) (c : ℕ) (joined : Bool) → joined ≡ is_too_long p (stream_safe p x) c → Joins p x (c ∷ []) (one_if joined)
-  joins-one x c joined is = next joined (is_too_long p (stream_safe p x) c) is (stream_safe-push p x c)
-    where
-      next : (j b : Bool) → j ≡ b → stream_safe p (x ++ c ∷ []) ≡ (if b then stream_safe p x ++ joiner ∷ [] else stream_safe p x) ++ c ∷ []
-          → length (stream_safe p (x ++ c ∷ [])) ≡ length (stream_safe p x) + 1 + (if j then 1 else 0)
-      next true true e text = omega (arith, ap length text, length-append (stream_safe p x ++ joiner ∷ []) (c ∷ []), length-append (stream_safe p x) (joiner ∷ []))
-      next false false e text = omega (arith, ap length text, length-append (stream_safe p x) (c ∷ []))
-      next true false e text = cc
-      next false true e text = cc
+-- whether a joiner is put before a character
+joins-one : (p : Properties) (x : List ℕ) (c : ℕ) (joined : Bool) → joined ≡ is_too_long p (stream_safe p x) c → Joins p x (c ∷ []) (one_if joined)
+joins-one p x c joined is = rw is (next (is_too_long p (stream_safe p x) c) (stream_safe-push p x c))
+  where
+    next : (b : Bool) → stream_safe p (x ++ c ∷ []) ≡ (if b then stream_safe p x ++ joiner ∷ [] else stream_safe p x) ++ c ∷ []
+        → length (stream_safe p (x ++ c ∷ [])) ≡ length (stream_safe p x) + 1 + (if b then 1 else 0)
+    next true text = omega (arith, ap length text, length-append (stream_safe p x ++ joiner ∷ []) (c ∷ []), length-append (stream_safe p x) (joiner ∷ []))
+    next false text = omega (arith, ap length text, length-append (stream_safe p x) (c ∷ []))
 
-  -- one character was taken, or refused
-  pub takes-one : (f : Form) (normalizer : Normalizer) (start : Start) (room x text rest : List ℕ) (c : ℕ) (joined : Bool) → IsUtf8 text → text ≡ encode_utf8 c ++ rest
-      → TakesChar f p normalizer start room x c (Ok joined) → StepsTo f p normalizer start (room ++ []) x text rest (one_if joined)
-  takes-one f normalizer start room x text rest c joined utf8 is taken = record {
-    front = c ∷ [];
-    is_front = chars_past_char text rest c utf8 is;
-    stands = inl (record { taken = taken.0; holds = Holds-alone taken.1 });
-    joins = joins-one x c joined taken.2;
+-- one character was taken, or refused
+pub takes-one : {f : Form} {p : Properties} {normalizer : Normalizer} {start : Start} {room x text rest : List ℕ} (c : ℕ) (joined : Bool) → IsUtf8 text → text ≡ encode_utf8 c ++ rest
+    → TakesChar f p normalizer start room x c (Ok joined) → StepsTo f p normalizer start (room ++ []) x text rest (one_if joined)
+takes-one {p = p} {x = x} {text} {rest} c joined utf8 is taken = record {
+  front = c ∷ [];
+  is_front = chars_past_char text rest c utf8 is;
+  stands = inl (record { taken = taken.0; holds = Holds-alone taken.1 });
+  joins = joins-one p x c joined taken.2;
+}
+
+pub refuses-one : {f : Form} {p : Properties} {start : Start} {room x text : List ℕ} (c : ℕ) (rest : List ℕ) → IsUtf8 text → text ≡ encode_utf8 c ++ rest → is_usable p x ≡ true
+    → (is_usable p (x ++ c ∷ []) ≡ false) × Holds start room (settled_text f p x) → Refuses f p start room x text
+refuses-one {text = text} c rest utf8 is usable refused = record {
+  first = c;
+  rest = chars rest;
+  is_first = chars_past_char text rest c utf8 is;
+  usable = usable;
+  unusable = refused.0;
+  holds = refused.1;
+}
+
+-- a closed front was taken
+module _ {p : Properties} {f : Form} (x : List ℕ) {text same formed rest : List ℕ} (usable : is_usable p x ≡ true) (closed : IsClosedFront p f text same formed rest) where
+  sound : IsSoundText p (stream_safe p x)
+  unfolding is_usable
+  sound = usable
+
+  usable-closed : is_usable p (x ++ chars closed.front) ≡ true
+  unfolding is_usable
+  usable-closed = sound-closed p f x (chars closed.front) (chars same ++ closed.more) sound closed.form
+
+  due-closed : IsUtf8 same → encode_utf8_all (safe_form f p x) ++ (same ++ formed) ≡ encode_utf8_all (safe_form f p (x ++ chars closed.front))
+  due-closed utf8 = rw (closed.put, safe_form-closed p f x (chars closed.front) (chars same ++ closed.more) sound closed.form)
+      (simp (encodes-append, encodes-chars same utf8))
+
+  pub takes-closed : {new : Normalizer} {start : Start} {room : List ℕ} → IsUtf8 same → HasTaken f p new [] → Holds start room (encode_utf8_all (safe_form f p x)) → StepsTo f p new start (room ++ (same ++ formed)) x text rest 0
+  takes-closed utf8 anew holds = record {
+    front = chars closed.front;
+    is_front = closed.characters;
+    stands = inr (record { anew = anew; usable = usable-closed; boundary = closed.next; holds = Holds-at (due-closed utf8) (Holds-more (same ++ formed) refl holds) });
+    joins = omega (arith, ap length (stream_safe-closed p f x (chars closed.front) (chars same ++ closed.more) sound closed.form), length-append (stream_safe p x) (chars closed.front));
   }
-
-  pub refuses-one : (f : Form) (start : Start) (room x text rest : List ℕ) (c : ℕ) → IsUtf8 text → text ≡ encode_utf8 c ++ rest → is_usable p x ≡ true
-      → (is_usable p (x ++ c ∷ []) ≡ false) × Holds start room (settled_text f p x) → Refuses f p start room x text
-  refuses-one f start room x text rest c utf8 is usable refused = record {
-    first = c;
-    rest = chars rest;
-    is_first = chars_past_char text rest c utf8 is;
-    usable = usable;
-    unusable = refused.0;
-    holds = refused.1;
-  }
-
-  module _ (f : Form) (x : List ℕ) (usable : is_usable p x ≡ true) where
-    sound : IsSoundText p (stream_safe p x)
-    unfolding is_usable
-    sound = usable
-
-    -- ---- a closed front
-    module _ (text same formed rest : List ℕ) (closed : IsClosedFront p f text same formed rest) where
-      whole : safe_form f p (x ++ chars closed.front) ≡ safe_form f p x ++ (chars same ++ closed.more)
-      whole = safe_form-closed p f x (chars closed.front) (chars same ++ closed.more) sound closed.form
-
-      pub usable-closed : is_usable p (x ++ chars closed.front) ≡ true
-      unfolding is_usable
-      usable-closed = sound-closed p f x (chars closed.front) (chars same ++ closed.more) sound closed.form
-
-      pub joins-closed : Joins p x (chars closed.front) 0
-      joins-closed =
-          omega (arith, ap length (stream_safe-closed p f x (chars closed.front) (chars same ++ closed.more) sound closed.form), length-append (stream_safe p x) (chars closed.front))
-
-      pub due-closed : IsUtf8 same → encode_utf8_all (safe_form f p x) ++ (same ++ formed) ≡ encode_utf8_all (safe_form f p (x ++ chars closed.front))
-      due-closed utf8 =
-          ap (λ b. encode_utf8_all (safe_form f p x) ++ (same ++ b)) closed.put
-          ∙ ap (λ b. encode_utf8_all (safe_form f p x) ++ (b ++ encode_utf8_all closed.more)) (sym (encodes-chars same utf8))
-          ∙ ap (λ b. encode_utf8_all (safe_form f p x) ++ b) (sym (encodes-append (chars same) closed.more))
-          ∙ sym (encodes-append (safe_form f p x) (chars same ++ closed.more)) ∙ ap encode_utf8_all (sym whole)
-
-      -- it was taken
-      pub takes-closed : (new : Normalizer) (start : Start) (room : List ℕ) → IsUtf8 same → HasTaken f p new [] → Holds start room (encode_utf8_all (safe_form f p x))
-          → StepsTo f p new start (room ++ (same ++ formed)) x text rest 0
-      takes-closed new start room utf8 anew holds = record {
-        front = chars closed.front;
-        is_front = closed.characters;
-        stands = inr (record {
-          anew = anew;
-          usable = usable-closed;
-          boundary = closed.next;
-          holds = Holds-at (due-closed utf8) (Holds-more (same ++ formed) refl holds);
-        });
-        joins = joins-closed;
-      }
 
 -- ---- at a boundary, where the normalizer is as a new one
 
@@ -135,7 +110,7 @@ abbrev past : Start → List ℕ → Start
 past start w = record start { ahead = start.ahead ++ w }
 
 Holds-past : {start : Start} {room w : List ℕ} (none : List ℕ) → none ≡ [] → Holds start room w → Holds (past start w) room none
-Holds-past {start} {room} {w} none is holds = record { text = ap (λ l. (start.ahead ++ w) ++ l) is ∙ append-nil (start.ahead ++ w) ∙ holds.text }
+Holds-past none is holds = record { text = rw (is, append-nil) holds.text }
 
 Holds-whole : {start : Start} {room a : List ℕ} (w : List ℕ) → Holds (past start w) room a → Holds start room (w ++ a)
 Holds-whole {start} {room} {a} w holds = record { text = sym (append_assoc start.ahead w a) ∙ holds.text }
@@ -182,11 +157,11 @@ module _ (p : Properties) (f : Form) (new : Normalizer) (start : Start) (after x
         absurd (false≢true (sym refuses.unusable ∙ ap (λ c. is_usable p (c ∷ [])) first ∙ usable-alone p f boundary.first boundary.boundary boundary.sound))
 
   -- what is done to a text behind all that was taken is done wherever the normalizer stands
-  pub steps-on : (formed : List ℕ) (old : Normalizer) (before : List ℕ) (r : Result Front Unsound) → IfOk r (Passes text)
+  pub steps-on : (formed : List ℕ) {old : Normalizer} {before : List ℕ} (r : Result Front Unsound) → IfOk r (Passes text)
       → ((f : Form) (x : List ℕ) (start : Start) → HasTaken f p old x → Holds start before (settled_text f p x) → Takes f p new start after formed x text r)
       → Stands f p old start before x (chars text) → Takes f p new start after formed x text r
-  steps-on formed old before r passes takes (inl inside) = takes f x start inside.taken inside.holds
-  steps-on formed old before r passes takes (inr between) = next r passes
+  steps-on formed r passes takes (inl inside) = takes f x start inside.taken inside.holds
+  steps-on formed r passes takes (inr between) = next r passes
       (takes f [] (past start (encode_utf8_all (safe_form f p x))) between.anew (Holds-past (settled_text f p []) (settled_text-none f p) between.holds))
     where
       next : (r : Result Front Unsound) → IfOk r (Passes text) → Takes f p new (past start (encode_utf8_all (safe_form f p x))) after formed [] text r → Takes f p new start after formed x text r
@@ -195,27 +170,23 @@ module _ (p : Properties) (f : Form) (new : Normalizer) (start : Start) (after x
 
 -- ---- one front after another
 
-module _ (p : Properties) (f : Form) (start : Start) (x text : List ℕ) where
-  pub StepsTo-none : (normalizer : Normalizer) (out : List ℕ) → Stands f p normalizer start out x (chars text) → StepsTo f p normalizer start out x text text 0
-  StepsTo-none normalizer out stands = record {
-    front = [];
-    is_front = refl;
-    stands = subst (λ y. Stands f p normalizer start out y (chars text)) (sym (append-nil x)) stands;
-    joins = omega (arith, ap (λ y. length (stream_safe p y)) (append-nil x));
-  }
+pub StepsTo-none : {f : Form} {p : Properties} {normalizer : Normalizer} {start : Start} {out x text : List ℕ} → Stands f p normalizer start out x (chars text) → StepsTo f p normalizer start out x text text 0
+StepsTo-none {f} {p} {normalizer} {start} {out} {x} {text} stands = record {
+  front = [];
+  is_front = refl;
+  stands = subst (λ y. Stands f p normalizer start out y (chars text)) (sym (append-nil x)) stands;
+  joins = omega (arith, ap (λ y. length (stream_safe p y)) (append-nil x));
+}
 
-  pub StepsTo-more : (old new : Normalizer) (room out rest behind : List ℕ) (m n k : ℕ) → m + n ≡ k → (first : StepsTo f p old start room x text rest m) → StepsTo f p new start out (x ++ first.front) rest behind n
-      → StepsTo f p new start out x text behind k
-  StepsTo-more old new room out rest behind m n k sum first next = record {
-    front = first.front ++ next.front;
-    is_front = first.is_front ∙ ap (λ l. first.front ++ l) next.is_front ∙ sym (append_assoc first.front next.front (chars behind));
-    stands = subst (λ y. Stands f p new start out y (chars behind)) (append_assoc x first.front next.front) next.stands;
-    joins = omega (arith, first.joins, next.joins, sum, ap (λ y. length (stream_safe p y)) (append_assoc x first.front next.front), length-append first.front next.front);
-  }
+pub StepsTo-more : {f : Form} {p : Properties} {old new : Normalizer} {start : Start} {room out x text rest behind : List ℕ} {m n k : ℕ} → m + n ≡ k → (first : StepsTo f p old start room x text rest m) → StepsTo f p new start out (x ++ first.front) rest behind n
+    → StepsTo f p new start out x text behind k
+StepsTo-more {f} {p} {new = new} {start} {out = out} {x} {behind = behind} sum first next = record {
+  front = first.front ++ next.front;
+  is_front = first.is_front ∙ ap (λ l. first.front ++ l) next.is_front ∙ sym (append_assoc first.front next.front (chars behind));
+  stands = subst (λ y. Stands f p new start out y (chars behind)) (append_assoc x first.front next.front) next.stands;
+  joins = omega (arith, first.joins, next.joins, sum, ap (λ y. length (stream_safe p y)) (append_assoc x first.front next.front), length-append first.front next.front);
+}
 
-pub leaves-all : (text rest : List ℕ) (n : ℕ) (front : List ℕ) → IsUtf8 text → IsUtf8 rest → chars text ≡ front ++ chars rest → n ≤ length front → length rest < length text → Leaves text rest n
-leaves-all text rest n front utf8 behind is few shorter = record { front = front; some = next front is; few = few; is_front = is; shorter = shorter }
-  where
-    next : (front : List ℕ) → chars text ≡ front ++ chars rest → 0 < length front
-    next [] is = absurd (omega (arith, shorter, ap length (sym (encodes-chars text utf8) ∙ ap encode_utf8_all is ∙ encodes-chars rest behind)))
-    next (c ∷ front) is = omega arith
+pub leaves-all : {text rest : List ℕ} {n : ℕ} (front : List ℕ) → IsUtf8 text → IsUtf8 rest → chars text ≡ front ++ chars rest → n ≤ length front → length rest < length text → Leaves text rest n
+leaves-all [] utf8 behind is few shorter = absurd (omega (arith, shorter, ap length (sym (encodes-chars _ utf8) ∙ ap encode_utf8_all is ∙ encodes-chars _ behind)))
+leaves-all (c ∷ front) utf8 behind is few shorter = record { front = c ∷ front; some = omega arith; few = few; is_front = is; shorter = shorter }

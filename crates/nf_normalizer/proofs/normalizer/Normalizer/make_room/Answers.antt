@@ -1,4 +1,4 @@
-use Rattle.nf_normalizer.proofs.Common.{sym, ◌∙◌, arith, decomposed, stream_safe}
+use Rattle.nf_normalizer.proofs.Common.{sym, ◌∙◌, decomposed, stream_safe}
 use Rattle.nf_normalizer.proofs.RoomLemmas.{Holds-at}
 use Rattle.nf_normalizer.proofs.CharacterLemmas.{counting-is, HasRoom-without, HasRoom-with, Parts-without, Parts-with, Parts-stopped, settled_text-front}
 use Rattle.nf_normalizer.proofs.normalizer.Normalizer.make_room.Goals as goal
@@ -39,6 +39,3 @@ returns-in-Err-clause-parts g c = λ f x start before holds.
     Parts-stopped p f c.args.self.now x c.args._c before c.requires.sound c.put_joiner.new.self start _ _
     (sym (c.step_by.ensures.answer p (p.compat c.args._c) c.requires.compat) ∙ c.if-not-step_by.false)
     (c.in-Err.ensures.puts f (decomposed f p (stream_safe p x)) start before.pending (Holds-at (settled_text-front p f x) holds))
-
-pub put_joiner-requires : goal.put_joiner-requires
-put_joiner-requires g c = omega (arith, c.requires.within.run, c.requires.within.bound, c.requires.room)

@@ -1,4 +1,4 @@
-use Rattle.nf_normalizer.proofs.Common.{◌≡◌, ℕ, ◌+◌, ◌<◌, ◌≤◌, [], ◌++◌, length, List, Bool, true, false, Ok, Err, inl, inr, ⊎_elim, refl, sym, ap, subst, ◌∙◌, arith, rules, append_assoc, append-nil, chars, length-append, nil_from_length, encodes-chars, length-le-encodes, Form, Stands, StepsTo, one_if, Start}
+use Rattle.nf_normalizer.proofs.Common.{◌≡◌, ℕ, ◌+◌, ◌<◌, ◌≤◌, [], ◌++◌, length, List, Bool, true, false, Ok, Err, inl, inr, ⊎_elim, refl, sym, ap, ◌∙◌, arith, rules, append_assoc, append-nil, chars, length-append, nil_from_length, encodes-chars, length-le-encodes, Form, Stands, StepsTo, one_if, Start}
 use mir.Val.{bool_byte}
 use Rattle.nf_normalizer.proofs.FrontLemmas.{steps-on, StepsTo-none, StepsTo-more, leaves-all}
 use Rattle.nf_normalizer.proofs.normalizer.Normalizer.step.Given as given
@@ -9,10 +9,6 @@ byte_of : (b : Bool) → bool_byte b ≡ one_if b
 byte_of true = refl
 byte_of false = refl
 
--- nothing goes out
-nothing_out : (room same formed : List ℕ) → length same ≡ 0 → length formed ≡ 0 → room ++ (same ++ formed) ≡ room
-nothing_out room same formed e g = ap (λ l. room ++ (l ++ formed)) (nil_from_length same e) ∙ ap (λ l. room ++ l) (nil_from_length formed g) ∙ append-nil room
-
 pub loop-room-init : goal.loop-room-init
 loop-room-init g c = record {
   utf8 = c.utf8.text;
@@ -21,7 +17,7 @@ loop-room-init g c = record {
   within = c.requires.within;
   empty = search rules;
   begun = inr c.requires.room;
-  steps = λ f x start stands. StepsTo-none (g.R.Rows.properties c.args.rows.now) f start x c.args.text.now _ _ stands;
+  steps = λ f x start stands. StepsTo-none stands;
 }
 
 -- with one front more
@@ -41,8 +37,7 @@ steps_more : (g : given.Over) (c : After-from g) (f : Form) (x : List ℕ) (star
 steps_more g c f x start stands =
     let p = g.R.Rows.properties c.args.rows.now in
     let before = c.loop-room.invariant.steps f x start stands in
-    StepsTo-more p f start x c.args.text.now _ _ _ _ _ _ _ _ _ (ap (λ n. c.loop-room.put + n) (sym (c.from.ensures ∙ byte_of c.in-Ok.front.joined))) before
-    (steps-on p f _ start _ (x ++ before.front) c.loop-room.rest.now _ _ _ (Ok c.in-Ok.front) c.in-Ok.ensures.passes c.in-Ok.ensures.takes before.stands)
+    StepsTo-more (omega (arith, c.from.ensures ∙ byte_of c.in-Ok.front.joined)) before (steps-on p f _ start _ _ c.loop-room.rest.now _ (Ok c.in-Ok.front) c.in-Ok.ensures.passes c.in-Ok.ensures.takes before.stands)
 
 pub overflow_add-put : goal.overflow_add-put
 overflow_add-put g c =
@@ -53,7 +48,7 @@ overflow_add-put g c =
 pub returns-then-not-is_empty-clause-passes : goal.returns-then-not-is_empty-clause-passes
 returns-then-not-is_empty-clause-passes g c =
     let gone = gone_more g (goal.at.returns-then-not-is_empty-clause-passes g c).After-from in
-    leaves-all c.args.text.now c.in-Ok.front.rest.now (c.loop-room.put + c.from.result) gone.0 c.utf8.text (search rules) gone.1 gone.2
+    leaves-all gone.0 c.utf8.text (search rules) gone.1 gone.2
     (omega (arith, c.in-Ok.ensures.passes.shorter, c.loop-room.invariant.left))
 
 pub returns-then-not-is_empty-clause-steps : goal.returns-then-not-is_empty-clause-steps
@@ -71,8 +66,9 @@ loop-room-preserved g c =
       empty = nil_from_length c.take_front.new.formed.items (search rules);
       begun = inl (omega (arith, shorter, c.loop-room.invariant.left));
       steps = λ f x start stands.
-          subst (λ o. StepsTo f (g.R.Rows.properties c.args.rows.now) c.take_front.new.self start o x c.args.text.now c.in-Ok.front.rest.now (c.loop-room.put + c.from.result))
-          (nothing_out c.take_front.new.room.items c.in-Ok.front.same.now c.take_front.new.formed.items (search rules) (search rules)) (steps_more g at f x start stands);
+          let same : c.in-Ok.front.same.now ≡ [] = nil_from_length c.in-Ok.front.same.now (search rules) in
+          let formed : c.take_front.new.formed.items ≡ [] = nil_from_length c.take_front.new.formed.items (search rules) in
+          rw (same, formed, append-nil) at (steps_more g at f x start stands);
     }
 
 pub returns-in-Err-clause-steps : goal.returns-in-Err-clause-steps
@@ -82,8 +78,7 @@ returns-in-Err-clause-steps g c = λ f x start stands.
     record {
       front = before.front;
       is_front = before.is_front;
-      refuses = steps-on p f c.take_front.new.self start _ (x ++ before.front) c.loop-room.rest.now c.take_front.new.formed.items _ _ (Err c.in-Err.field-0)
-          c.in-Err.ensures.passes c.in-Err.ensures.takes before.stands;
+      refuses = steps-on p f c.take_front.new.self start _ _ c.loop-room.rest.now c.take_front.new.formed.items (Err c.in-Err.field-0) c.in-Err.ensures.passes c.in-Err.ensures.takes before.stands;
     }
 
 pub returns-clause-passes : goal.returns-clause-passes
@@ -93,14 +88,7 @@ returns-clause-passes g c =
       | then-loop-room-test+else-len-ge-STEP w ↦ absurd (omega (arith, room, w.if-len-ge-STEP.false, w.len.ensures.value))
       | else-loop-room-test w ↦ (let none : length c.loop-room.rest.now ≡ 0 = search rules in omega (arith, none, c.requires.some))
     ]) c.loop-room.invariant.begun in
-    leaves-all c.args.text.now c.loop-room.rest.now c.loop-room.put gone.0 c.utf8.text c.loop-room.invariant.utf8 gone.1 gone.2 shorter
+    leaves-all gone.0 c.utf8.text c.loop-room.invariant.utf8 gone.1 gone.2 shorter
 
 pub returns-clause-steps : goal.returns-clause-steps
-returns-clause-steps g c = λ f x start stands.
-    subst (λ o. StepsTo f (g.R.Rows.properties c.args.rows.now) c.loop-room.self start o x c.args.text.now c.loop-room.rest.now c.loop-room.put)
-    (sym (nothing_out c.loop-room.room.items [] c.loop-room.formed.items refl (ap length c.loop-room.invariant.empty))) (c.loop-room.invariant.steps f x start stands)
-
-pub returns-in-Err-clause-passes : goal.returns-in-Err-clause-passes
-returns-in-Err-clause-passes g c =
-    let gone = c.loop-room.invariant.gone in
-    record { front = gone.0; is_front = gone.1; some = search rules; left = c.loop-room.invariant.left }
+returns-clause-steps g c = λ f x start stands. rw (c.loop-room.invariant.empty, append-nil) (c.loop-room.invariant.steps f x start stands)

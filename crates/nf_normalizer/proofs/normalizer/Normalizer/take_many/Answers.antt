@@ -1,4 +1,4 @@
-use Rattle.nf_normalizer.proofs.Common.{◌≡◌, ◌∙◌, ◌++◌, List, ℕ, [], take, length, ap, sym, subst, arith, rules, chars, inl, append-nil, length-take, length-drop, IsClosedFront, Inside}
+use Rattle.nf_normalizer.proofs.Common.{◌≡◌, ◌∙◌, ◌++◌, List, ℕ, [], take, length, ap, sym, subst, arith, rules, chars, inl, append-nil, length-take, length-drop, Inside}
 use Rattle.nf_normalizer.proofs.FrontLemmas.{ascii_front, leaves-closed, takes-closed}
 use Rattle.nf_normalizer.proofs.normalizer.Normalizer.take_many.Goals as goal
 
@@ -7,14 +7,11 @@ only : (same formed : List ℕ) → formed ≡ [] → same ≡ same ++ formed
 only same formed none = sym (ap (λ l. same ++ l) none ∙ append-nil same)
 
 pub returns-in-Some-clause-passes : goal.returns-in-Some-clause-passes
-returns-in-Some-clause-passes g c = leaves-closed (g.R.Rows.properties c.args.rows.now) c.args.self.now.form c.args.text.now _ _ _ c.in-Some.ensures
+returns-in-Some-clause-passes g c = leaves-closed c.in-Some.ensures
 
 pub returns-in-Some-clause-takes : goal.returns-in-Some-clause-takes
 returns-in-Some-clause-takes g c = λ f x start taken holds.
-    let p = g.R.Rows.properties c.args.rows.now in
-    let closed = subst (λ h. IsClosedFront p h c.args.text.now c.in-Some.field-0.same.now c.closed_front.new.formed.items c.in-Some.field-0.rest.now) taken.form c.in-Some.ensures in
-    takes-closed p f x taken.usable c.args.text.now c.in-Some.field-0.same.now c.closed_front.new.formed.items c.in-Some.field-0.rest.now closed c.settle.new.self start c.settle.new.room.items (search rules)
-    (c.settle.ensures.anew f x taken) (c.settle.ensures.settles f x start taken holds)
+    takes-closed x taken.usable (rw taken.form at c.in-Some.ensures) (search rules) (c.settle.ensures.anew f x taken) (c.settle.ensures.settles f x start taken holds)
 
 pub returns-clause-passes : goal.returns-clause-passes
 returns-clause-passes g c =

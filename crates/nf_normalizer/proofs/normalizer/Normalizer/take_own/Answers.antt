@@ -1,14 +1,6 @@
 use Rattle.nf_normalizer.proofs.Common.{[], ◌∷◌, refl, sym, decomposed, parted, stream_safe}
-use Rattle.nf_normalizer.proofs.CharacterLemmas.{row-known, ends-known, room_for-single, within-single, TakesChar-row}
+use Rattle.nf_normalizer.proofs.CharacterLemmas.{row-known, within-single, TakesChar-row}
 use Rattle.nf_normalizer.proofs.normalizer.Normalizer.take_own.Goals as goal
-
-pub make_room-requires-clause-compat : goal.make_room-requires-clause-compat
-make_room-requires-clause-compat g c = ends-known (g.R.Rows.properties c.args.rows.now) c.args.c c.args.class _ c.requires.own c.of_one.ensures
-
-pub push_of_class-requires-clause-mark : goal.push_of_class-requires-clause-mark
-push_of_class-requires-clause-mark g c = λ mark.
-    let p = g.R.Rows.properties c.args.rows.now in
-    room_for-single p c.make_room.new.self c.args.c c.args.c (row-known p c.make_room.new.self.form c.args.c c.args.class c.requires.own) c.in-Ok.ensures.has_room mark
 
 pub returns-clause-within : goal.returns-clause-within
 returns-clause-within g c =
