@@ -1,9 +1,6 @@
 -- One character more.
-use Rattle.std.proofs.Common.{◌==◌}
-use Rattle.nf_normalizer.proofs.Common.{◌≡◌, ℕ, ◌+◌, ◌<◌, ◌≤◌, Bool, true, false, not, ◌||◌, List, [], ◌∷◌, ◌++◌, Ok, Err, refl, sym, ap, ◌∙◌, subst, arith, if◌then◌else◌, encode_utf8_all, false≢true, cond-true, cond-false, and_from, and_left, and_right, or_from, not_from_true, ltb-false, encodes-append, Properties, is_starter, is_nonstarter, Form, Nfc, Nfd, Nfkc, Nfkd, has_starter, lead, trail, front, row_of, decomposed, finished, joiner, max_run, is_too_long, parted, stream_safe, is_sound, safe_form, lead-marks, lead-le-length, trail-marks, stream_safe-push, decomposed-push, JoinerIsPlain, IsSound, IsSound-from_test, JoinerIsPlain-from_sound, run_len, PendingStandsAfter, Normalizer, Unsound, settled, is_usable, Start, Holds, HasTaken, HasParted, IsWithin, HasRoom, run_behind, front_utf8, settled_text, Pushes, PutsJoiner, Parts, TakesChar, is_usable-push}
+use Rattle.nf_normalizer.proofs.Common.{◌≡◌, ℕ, ◌+◌, ◌≤◌, Bool, true, false, not, ◌||◌, List, [], ◌∷◌, ◌++◌, Ok, refl, sym, ap, ◌∙◌, subst, arith, if◌then◌else◌, encode_utf8_all, false≢true, cond-true, cond-false, and_from, and_left, and_right, or_from, not_from_true, ltb-false, encodes-append, Properties, is_starter, Form, Nfc, Nfd, Nfkc, Nfkd, has_starter, lead, trail, front, row_of, decomposed, finished, joiner, max_run, is_too_long, parted, stream_safe, is_sound, safe_form, lead-marks, lead-le-length, trail-marks, stream_safe-push, decomposed-push, JoinerIsPlain, IsSound, IsSound-from_test, JoinerIsPlain-from_sound, run_len, Pending, PendingStandsAfter, Normalizer, settled, is_usable, Start, Holds, HasTaken, IsWithin, HasRoom, run_behind, front_utf8, settled_text, Pushes, PutsJoiner, Parts, TakesChar, is_usable-push}
 use Rattle.nf_forms.specs.Laws.Cluster.{row-own}
-use Rattle.nf_row.specs.declared.ends.Ends.{Ends}
-use Rattle.nf_row.specs.Ends.{HasEnds}
 use Rattle.nf_row.specs.Kind.{IsOwn}
 use Rattle.nf_safe.specs.Count.{counted, passes, count_step}
 use Rattle.nf_safe.specs.Laws.Count.{count_step-le, count_step-within, trail-decomposed-safe_step}
@@ -62,57 +59,42 @@ module _ (p : Properties) where
   pub row-known : (f : Form) (c k : ℕ) → IsOwn p c k → row_of f p c ≡ c ∷ []
   row-known f c k own = row-own p f c (record { canonical = own.canonical; compat = own.compat })
 
-  pub ends-known : (c k : ℕ) (ends : Ends) → IsOwn p c k → ((q : Properties) (d : ℕ) → (k == 0) ≡ is_starter q d → HasEnds q (d ∷ []) ends) → HasEnds p (p.compat c) ends
-  ends-known c k ends own one = subst (λ row. HasEnds p row ends) (sym own.compat) (one p c (ap (λ n. n == 0) (sym own.class)))
-
   lead-row : (f : Form) (c : ℕ) → is_sound p c ≡ true → lead p (row_of f p c) ≤ lead p (p.compat c)
   lead-row f c sound = of_row (λ row. lead p row ≤ lead p (p.compat c)) c (IsSound-from_test p c sound).lead_within (omega arith) f
 
-  -- a row of one member behind a run, and where there is room for it
+  -- a row of one member behind a run
   one_behind : (n c : ℕ) → (if is_starter p c then 0 else n + 1) ≡ run_behind p n (c ∷ [])
   one_behind n c =
       let none : n ≡ n + 0 = omega arith in
       ap (λ k. if is_starter p c then 0 else k + 1) none ∙ sym (run_behind-push p n [] c)
 
-  pub within-single : (part new : Normalizer) (c d : ℕ) → row_of part.form p c ≡ d ∷ [] → HasRoom p part c
-      → run_len new.pending ≡ (if is_starter p d then 0 else run_len part.pending + 1) → new.counter ≡ part.counter → IsWithin new
-  within-single part new c d row room run count = record {
-    run = let same = run ∙ one_behind (run_len part.pending) d ∙ ap (run_behind p (run_len part.pending)) (sym row) in omega (arith, room.run);
-    bound = omega (arith, room.bound);
+  pub within-single : {part : Normalizer} {pending : Pending} (c : ℕ) → row_of part.form p c ≡ c ∷ [] → HasRoom p part c → run_len pending ≡ (if is_starter p c then 0 else run_len part.pending + 1)
+      → IsWithin (record part { pending = pending })
+  within-single {part} c row room run = record {
+    run = let same = run ∙ one_behind (run_len part.pending) c ∙ ap (run_behind p (run_len part.pending)) (sym row) in omega (arith, room.run);
+    bound = room.bound;
   }
 
-  pub room_for-single : (part : Normalizer) (c d : ℕ) → row_of part.form p c ≡ d ∷ [] → HasRoom p part c → is_nonstarter p d ≡ true → run_len part.pending < 30
-  room_for-single part c d row room mark =
-      let alone : lead p (row_of part.form p c) ≡ 1 = ap (lead p) row ∙ cond-true _ _ _ mark in
-      omega (arith, room.lead)
+  -- a character is counted
+  module _ (taken : Normalizer) (c n : ℕ) (counts : n ≡ count_step p taken.counter (p.compat c)) (sound : is_sound p c ≡ true) where
+    bound : n ≤ 30
+    bound = omega (arith, counts, count_step-le p taken.counter (p.compat c) (IsSound-from_test p c sound).compat_few)
 
-  abbrev counting : Normalizer → ℕ → Normalizer
-  counting taken c = record taken { counter = count_step p taken.counter (p.compat c) }
+    -- there is room without a joiner
+    pub HasRoom-without : IsWithin taken → passes p taken.counter (p.compat c) ≡ false → HasRoom p (record taken { counter = n }) c
+    HasRoom-without within short = record {
+      lead = omega (arith, within.run, lead-row taken.form c sound, ltb-false max_run (taken.counter + lead p (p.compat c)) short);
+      run = rw (counts, count_step-within p taken.counter (p.compat c) short) (run_behind-le taken.form c (run_len taken.pending) taken.counter sound within.run);
+      bound = bound;
+    }
 
-  pub counting-is : (taken : Normalizer) (c n : ℕ) → n ≡ count_step p taken.counter (p.compat c) → record taken { counter = n } ≡ counting taken c
-  counting-is taken c n counts = ap (λ m. record taken { counter = m }) counts
-
-  -- there is room without a joiner
-  pub HasRoom-without : (taken new : Normalizer) (c : ℕ) → IsWithin taken → is_sound p c ≡ true → passes p taken.counter (p.compat c) ≡ false
-      → new ≡ counting taken c → HasRoom p new c
-  HasRoom-without taken new c within sound short is = subst (λ t. HasRoom p t c) (sym is) (record {
-    lead = omega (arith, within.run, lead-row taken.form c sound, ltb-false max_run (taken.counter + lead p (p.compat c)) short);
-    run = subst (λ n. run_behind p (run_len taken.pending) (row_of taken.form p c) ≤ n) (sym (count_step-within p taken.counter (p.compat c) short))
-        (run_behind-le taken.form c (run_len taken.pending) taken.counter sound within.run);
-    bound = count_step-le p taken.counter (p.compat c) (IsSound-from_test p c sound).compat_few;
-  })
-
-  -- and with one
-  pub HasRoom-with : (taken mid new : Normalizer) (c : ℕ) → IsWithin taken → is_sound p c ≡ true → passes p taken.counter (p.compat c) ≡ true
-      → mid ≡ counting taken c → new ≡ record mid { pending = new.pending } → run_len new.pending ≡ 0 → HasRoom p new c
-  HasRoom-with taken mid new c within sound long counts joins run = record {
-    lead = omega (arith, run, lead-row new.form c sound, lead-le-length p (p.compat c), (IsSound-from_test p c sound).compat_few);
-    run = subst (λ n. run_behind p (run_len new.pending) (row_of new.form p c) ≤ n) (sym counter) (run_behind-le new.form c (run_len new.pending) 0 sound (omega (arith, run)));
-    bound = let few = count_step-le p taken.counter (p.compat c) (IsSound-from_test p c sound).compat_few in omega (arith, few, ap (λ t. t.counter) joins, ap (λ t. t.counter) counts);
-  }
-    where
-      counter : new.counter ≡ counted p 0 (p.compat c)
-      counter = ap (λ t. t.counter) joins ∙ ap (λ t. t.counter) counts ∙ ap (λ b. counted p (if b then 0 else taken.counter) (p.compat c)) long
+    -- and with one
+    pub HasRoom-with : {pending : Pending} → passes p taken.counter (p.compat c) ≡ true → run_len pending ≡ 0 → HasRoom p (record taken { counter = n; pending = pending }) c
+    HasRoom-with {pending} long run = record {
+      lead = omega (arith, run, lead-row taken.form c sound, lead-le-length p (p.compat c), (IsSound-from_test p c sound).compat_few);
+      run = rw (counts, long) (run_behind-le taken.form c (run_len pending) 0 sound (omega (arith, run)));
+      bound = bound;
+    }
 
   module _ (f : Form) where
     pub settled_text-front : (x : List ℕ) → settled_text f p x ≡ front_utf8 f p (decomposed f p (stream_safe p x))
@@ -128,78 +110,59 @@ module _ (p : Properties) where
     pub decomposed-safe : (x : List ℕ) (c : ℕ) → decomposed f p (stream_safe p (x ++ c ∷ [])) ≡ decomposed f p (parted p (stream_safe p x) c) ++ row_of f p c
     decomposed-safe x c = ap (decomposed f p) (stream_safe-push p x c) ∙ decomposed-push p f (parted p (stream_safe p x) c) c
 
-    module _ (taken : Normalizer) (x : List ℕ) (c : ℕ) (before : HasTaken f p taken x) (sound : is_sound p c ≡ true) where
+    module _ (taken : Normalizer) (c n : ℕ) (counts : n ≡ count_step p taken.counter (p.compat c)) (sound : is_sound p c ≡ true) (x : List ℕ) (before : HasTaken f p taken x) where
       long_is : passes p taken.counter (p.compat c) ≡ is_too_long p (stream_safe p x) c
       long_is = ap (λ n. passes p n (p.compat c)) before.count
 
-      count_is : (is_too_long p (stream_safe p x) c ≡ true → JoinerIsPlain p) → count_step p taken.counter (p.compat c) ≡ trail p (decomposed Nfkd p (stream_safe p (x ++ c ∷ [])))
+      count_is : (is_too_long p (stream_safe p x) c ≡ true → JoinerIsPlain p) → n ≡ trail p (decomposed Nfkd p (stream_safe p (x ++ c ∷ [])))
       count_is plain =
-          ap (λ n. count_step p n (p.compat c)) before.count ∙ sym (trail-decomposed-safe_step p (stream_safe p x) c plain)
+          counts ∙ ap (λ n. count_step p n (p.compat c)) before.count ∙ sym (trail-decomposed-safe_step p (stream_safe p x) c plain)
           ∙ ap (λ o. trail p (decomposed Nfkd p o)) (sym (stream_safe-push p x c))
 
-      pub Parts-without : (new : Normalizer) (start : Start) (room : List ℕ) → passes p taken.counter (p.compat c) ≡ false
-          → new ≡ counting taken c → Holds start room (settled_text f p x) → Parts f p new start room x c (Ok false)
-      Parts-without new start room short is holds =
+      pub Parts-without : {start : Start} {room : List ℕ} → passes p taken.counter (p.compat c) ≡ false → Holds start room (settled_text f p x) → Parts f p (record taken { counter = n }) start room x c (Ok false)
+      Parts-without short holds =
           let short_is : is_too_long p (stream_safe p x) c ≡ false = sym long_is ∙ short in
           let same : parted p (stream_safe p x) c ≡ stream_safe p x = cond-false _ _ _ short_is in (
-            subst (λ t. HasParted f p t x c) (sym is) (record {
+            record {
               usable = is_usable-sound x c before.usable sound (λ e. absurd (false≢true (sym short_is ∙ e)));
               form = before.form;
               plain = before.plain;
               count = count_is (λ e. absurd (false≢true (sym short_is ∙ e)));
               pending = subst (λ o. PendingStandsAfter f p taken.pending (decomposed f p o)) (sym same) before.pending;
-            }),
+            },
             Holds-at (settled_text-front x ∙ ap (λ o. front_utf8 f p (decomposed f p o)) (sym same)) holds,
             sym short_is,
           )
 
-      pub Parts-with : (mid new : Normalizer) (start : Start) (room : List ℕ) → passes p taken.counter (p.compat c) ≡ true
-          → mid ≡ counting taken c → new ≡ record mid { pending = new.pending } → PutsJoiner f p new.pending start room (decomposed f p (stream_safe p x)) (Ok tt)
-          → Parts f p new start room x c (Ok true)
-      Parts-with mid new start room long is joins puts =
+      pub Parts-with : {pending : Pending} {start : Start} {room : List ℕ} → passes p taken.counter (p.compat c) ≡ true → PutsJoiner f p pending start room (decomposed f p (stream_safe p x)) (Ok tt)
+          → Parts f p (record taken { counter = n; pending = pending }) start room x c (Ok true)
+      Parts-with {pending} long puts =
           let long_here : is_too_long p (stream_safe p x) c ≡ true = sym long_is ∙ long in
           let plain = JoinerIsPlain-from_sound p puts.0 in
           let longer : parted p (stream_safe p x) c ≡ stream_safe p x ++ joiner ∷ [] = cond-true _ _ _ long_here in
           let text = ap (decomposed f p) longer ∙ decomposed-joiner plain f (stream_safe p x) in (
             record {
               usable = is_usable-sound x c before.usable sound (λ _. puts.0);
-              form = ap (λ t. t.form) joins ∙ ap (λ t. t.form) is ∙ before.form;
-              plain = λ e. before.plain (sym (ap (λ t. t.is_plain) joins ∙ ap (λ t. t.is_plain) is) ∙ e);
-              count = ap (λ t. t.counter) joins ∙ ap (λ t. t.counter) is ∙ count_is (λ _. plain);
-              pending = subst (λ w. PendingStandsAfter f p new.pending w) (sym text) puts.1.0;
+              form = before.form;
+              plain = before.plain;
+              count = count_is (λ _. plain);
+              pending = subst (λ w. PendingStandsAfter f p pending w) (sym text) puts.1.0;
             },
             Holds-at (ap (front_utf8 f p) (sym text)) puts.1.1,
             sym long_here,
           )
 
-      pub Parts-stopped : (new : Normalizer) (start : Start) (room : List ℕ) (stop : Unsound) → passes p taken.counter (p.compat c) ≡ true
-          → PutsJoiner f p new.pending start room (decomposed f p (stream_safe p x)) (Err stop) → Parts f p new start room x c (Err stop)
-      Parts-stopped new start room stop long puts = (is_usable-unsound_joiner x c (sym long_is ∙ long) puts.0, Holds-at (sym (settled_text-front x)) puts.1)
+      pub Parts-stopped : {start : Start} {room : List ℕ} → passes p taken.counter (p.compat c) ≡ true → (is_sound p joiner ≡ false) × Holds start room (front_utf8 f p (decomposed f p (stream_safe p x)))
+          → (is_usable p (x ++ c ∷ []) ≡ false) × Holds start room (settled_text f p x)
+      Parts-stopped long puts = (is_usable-unsound_joiner x c (sym long_is ∙ long) puts.0, Holds-at (sym (settled_text-front x)) puts.1)
 
-    pub row_text : (part : Normalizer) (x row : List ℕ) (c : ℕ) → HasParted f p part x c → row ≡ row_of part.form p c
-        → decomposed f p (parted p (stream_safe p x) c) ++ row ≡ decomposed f p (stream_safe p (x ++ c ∷ []))
-    row_text part x row c here is =
-        ap (λ r. decomposed f p (parted p (stream_safe p x) c) ++ r) (is ∙ ap (λ h. row_of h p c) here.form) ∙ sym (decomposed-safe x c)
-
-    -- the row follows
-    pub HasTaken-row : (part new : Normalizer) (x row : List ℕ) (c : ℕ) → HasParted f p part x c → row ≡ row_of part.form p c
-        → new ≡ record part { pending = new.pending }
-        → PendingStandsAfter f p new.pending (decomposed f p (parted p (stream_safe p x) c) ++ row) → HasTaken f p new (x ++ c ∷ [])
-    HasTaken-row part new x row c here is same stands = record {
-      usable = here.usable;
-      form = ap (λ t. t.form) same ∙ here.form;
-      plain = λ e. here.plain (sym (ap (λ t. t.is_plain) same) ∙ e);
-      count = ap (λ t. t.counter) same ∙ here.count;
-      pending = subst (λ w. PendingStandsAfter f p new.pending w) (row_text part x row c here is) stands;
-    }
-
-    -- so the character was taken
-    pub TakesChar-row : (part new : Normalizer) (start : Start) (middle room x row : List ℕ) (c : ℕ) (joined : Bool) → Parts f p part start middle x c (Ok joined)
-        → row ≡ row_of part.form p c → new ≡ record part { pending = new.pending }
-        → Pushes f p new.pending start room (decomposed f p (parted p (stream_safe p x) c) ++ row) → TakesChar f p new start room x c (Ok joined)
-    TakesChar-row part new start middle room x row c joined parts is same pushed =
-        let text = row_text part x row c parts.0 is in (
-          HasTaken-row part new x row c parts.0 is same pushed.0,
+    -- the row follows, and so the character was taken
+    pub TakesChar-row : {part : Normalizer} {pending : Pending} {start : Start} {middle room x row : List ℕ} (c : ℕ) {joined : Bool} → Parts f p part start middle x c (Ok joined) → row ≡ row_of part.form p c
+        → Pushes f p pending start room (decomposed f p (parted p (stream_safe p x) c) ++ row) → TakesChar f p (record part { pending = pending }) start room x c (Ok joined)
+    TakesChar-row {pending = pending} {x = x} c parts is pushed =
+        let here = parts.0 in
+        let text = ap (λ r. decomposed f p (parted p (stream_safe p x) c) ++ r) (is ∙ ap (λ h. row_of h p c) here.form) ∙ sym (decomposed-safe x c) in (
+          record { usable = here.usable; form = here.form; plain = here.plain; count = here.count; pending = subst (λ w. PendingStandsAfter f p pending w) text pushed.0 },
           Holds-at (ap (front_utf8 f p) text ∙ sym (settled_text-front (x ++ c ∷ []))) pushed.1,
           parts.2,
         )

@@ -1,4 +1,4 @@
-use Rattle.nf_normalizer.proofs.Common.{refl, sym, row_of, decomposed, parted, stream_safe}
+use Rattle.nf_normalizer.proofs.Common.{refl, sym, decomposed, parted, stream_safe}
 use Rattle.nf_normalizer.proofs.CharacterLemmas.{is_usable-unsound, TakesChar-row}
 use Rattle.nf_normalizer.proofs.normalizer.Normalizer.take_row.Goals as goal
 
@@ -10,5 +10,5 @@ pub returns-clause-takes : goal.returns-clause-takes
 returns-clause-takes g c = λ f x start before holds.
     let p = g.R.Rows.properties c.args.rows.now in
     let parts = c.in-Ok.ensures.parts f x start before holds in
-    TakesChar-row p f c.make_room.new.self _ start _ _ x (row_of c.make_room.new.self.form p c.args.c) c.args.c _ parts refl refl
+    TakesChar-row p f c.args.c parts refl
     (c.push_decomposition.ensures.pushes f (decomposed f p (parted p (stream_safe p x) c.args.c)) start parts.0.pending parts.1)
