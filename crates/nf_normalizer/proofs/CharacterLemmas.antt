@@ -1,5 +1,6 @@
 -- One character more.
-use Rattle.nf_normalizer.proofs.Common.{◌≡◌, ℕ, ◌+◌, ◌≤◌, Bool, true, false, not, ◌||◌, List, [], ◌∷◌, ◌++◌, Ok, refl, sym, ap, ◌∙◌, subst, arith, if◌then◌else◌, encode_utf8_all, false≢true, cond-true, cond-false, and_from, and_left, and_right, or_from, not_from_true, ltb-false, encodes-append, Properties, is_starter, Form, Nfc, Nfd, Nfkc, Nfkd, has_starter, lead, trail, front, row_of, decomposed, finished, joiner, max_run, is_too_long, parted, stream_safe, is_sound, safe_form, lead-marks, lead-le-length, trail-marks, stream_safe-push, decomposed-push, JoinerIsPlain, IsSound, IsSound-from_test, JoinerIsPlain-from_sound, run_len, Pending, PendingStandsAfter, Normalizer, settled, is_usable, Start, Holds, HasTaken, IsWithin, HasRoom, run_behind, front_utf8, settled_text, Pushes, PutsJoiner, Parts, TakesChar, is_usable-push}
+use Rattle.nf_normalizer.proofs.Common.{◌≡◌, ℕ, ◌+◌, ◌≤◌, Bool, true, false, List, [], ◌∷◌, ◌++◌, Ok, refl, sym, ap, ◌∙◌, subst, arith, if◌then◌else◌, encode_utf8_all, false≢true, cond-true, cond-false, and_right, ltb-false, encodes-append, Properties, is_starter, Form, Nfc, Nfd, Nfkd, has_starter, lead, trail, front, row_of, decomposed, finished, joiner, max_run, is_too_long, parted, stream_safe, is_sound, safe_form, lead-marks, lead-le-length, trail-marks, stream_safe-push, decomposed-push, JoinerIsPlain, IsSound, IsSound-from_test, JoinerIsPlain-from_sound, run_len, Pending, PendingStandsAfter, Normalizer, settled, is_usable, Start, Holds, HasTaken, IsWithin, HasRoom, run_behind, front_utf8, settled_text, Pushes, PutsJoiner, Parts, TakesChar, is_usable-push}
+use Rattle.std.proofs.lemmas.Bool.Decides.{nat_tests}
 use Rattle.nf_forms.specs.Laws.Cluster.{row-own}
 use Rattle.nf_row.specs.Kind.{IsOwn}
 use Rattle.nf_safe.specs.Count.{counted, passes, count_step}
@@ -12,23 +13,17 @@ module _ (p : Properties) where
   of_row : (Q : List ℕ → Type 0) (c : ℕ) → Q (p.canonical c) → Q (p.compat c) → (f : Form) → Q (row_of f p c)
   of_row Q c canonical compat Nfc = canonical
   of_row Q c canonical compat Nfd = canonical
-  of_row Q c canonical compat Nfkc = compat
-  of_row Q c canonical compat Nfkd = compat
+  of_row Q c canonical compat _ = compat
 
   pub is_usable-unsound : (x : List ℕ) (c : ℕ) → is_sound p c ≡ false → is_usable p (x ++ c ∷ []) ≡ false
   is_usable-unsound x c unsound = is_usable-push p x c ∙ and_right _ _ unsound
 
   pub is_usable-unsound_joiner : (x : List ℕ) (c : ℕ) → is_too_long p (stream_safe p x) c ≡ true → is_sound p joiner ≡ false → is_usable p (x ++ c ∷ []) ≡ false
-  is_usable-unsound_joiner x c long unsound =
-      is_usable-push p x c ∙ and_left _ _ (and_right _ _ (or_from _ _ (not_from_true _ long) unsound))
+  is_usable-unsound_joiner x c long unsound = is_usable-push p x c ∙ grind (arith, nat_tests)
 
   pub is_usable-sound : (x : List ℕ) (c : ℕ) → is_usable p x ≡ true → is_sound p c ≡ true → (is_too_long p (stream_safe p x) c ≡ true → is_sound p joiner ≡ true)
       → is_usable p (x ++ c ∷ []) ≡ true
-  is_usable-sound x c usable sound joins = is_usable-push p x c ∙ and_from _ _ (and_from _ _ usable (next (is_too_long p (stream_safe p x) c) joins)) sound
-    where
-      next : (b : Bool) → (b ≡ true → is_sound p joiner ≡ true) → (not b || is_sound p joiner) ≡ true
-      next true e = e refl
-      next false e = refl
+  is_usable-sound x c usable sound joins = is_usable-push p x c ∙ grind (arith, nat_tests)
 
   decomposed-joiner : JoinerIsPlain p → (f : Form) (o : List ℕ) → decomposed f p (o ++ joiner ∷ []) ≡ decomposed f p o ++ joiner ∷ []
   decomposed-joiner plain f o =
@@ -43,19 +38,11 @@ module _ (p : Properties) where
       row : IsSound p c
       row = IsSound-from_test p c sound
 
-      next : (b d : Bool) (tc lc hc tk lk hk : ℕ) → (b ≡ false → d ≡ false) → (b ≡ false → hc ≡ lc) → (d ≡ false → hk ≡ lk) → (d ≡ false → tk ≡ lk) → tc ≤ tk → hc ≤ hk
-          → (if b then tc else run + lc) ≤ (if d then tk else n + lk)
-      next true true tc lc hc tk lk hk agree e f g t h = omega arith
-      next true false tc lc hc tk lk hk agree e f g t h = omega (arith, g refl)
-      next false true tc lc hc tk lk hk agree e f g t h = let absent : true ≡ false = agree refl in cc
-      next false false tc lc hc tk lk hk agree e f g t h = omega (arith, e refl, f refl)
-
       at : (w : List ℕ) → (has_starter p w ≡ false → has_starter p (p.compat c) ≡ false) → trail p w ≤ trail p (p.compat c) → lead p w ≤ lead p (p.compat c)
           → run_behind p run w ≤ counted p n (p.compat c)
-      at w agree trails leads =
-          next (has_starter p w) (has_starter p (p.compat c)) _ _ (lead p w) _ _ (lead p (p.compat c)) agree (lead-marks p w) (lead-marks p (p.compat c)) (trail-marks p (p.compat c)) trails leads
+      at w agree trails leads = grind (arith, lead-marks p w, lead-marks p (p.compat c), trail-marks p (p.compat c))
 
-  -- a character that is its own row, and its ends
+  -- a character that is its own row
   pub row-known : (f : Form) (c k : ℕ) → IsOwn p c k → row_of f p c ≡ c ∷ []
   row-known f c k own = row-own p f c (record { canonical = own.canonical; compat = own.compat })
 
@@ -63,15 +50,10 @@ module _ (p : Properties) where
   lead-row f c sound = of_row (λ row. lead p row ≤ lead p (p.compat c)) c (IsSound-from_test p c sound).lead_within (omega arith) f
 
   -- a row of one member behind a run
-  one_behind : (n c : ℕ) → (if is_starter p c then 0 else n + 1) ≡ run_behind p n (c ∷ [])
-  one_behind n c =
-      let none : n ≡ n + 0 = omega arith in
-      ap (λ k. if is_starter p c then 0 else k + 1) none ∙ sym (run_behind-push p n [] c)
-
   pub within-single : {part : Normalizer} {pending : Pending} (c : ℕ) → row_of part.form p c ≡ c ∷ [] → HasRoom p part c → run_len pending ≡ (if is_starter p c then 0 else run_len part.pending + 1)
       → IsWithin (record part { pending = pending })
   within-single {part} c row room run = record {
-    run = let same = run ∙ one_behind (run_len part.pending) c ∙ ap (run_behind p (run_len part.pending)) (sym row) in omega (arith, room.run);
+    run = let same = ap (run_behind p (run_len part.pending)) row in grind (arith, nat_tests, room.run, same, run_behind-push p (run_len part.pending) [] c);
     bound = room.bound;
   }
 

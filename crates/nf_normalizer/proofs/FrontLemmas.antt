@@ -1,5 +1,6 @@
 -- What is taken of a text at once, and a character at a boundary after any text.
-use Rattle.nf_normalizer.proofs.Common.{◌≡◌, ℕ, ◌+◌, ◌<◌, ◌≤◌, true, false, Bool, List, [], ◌∷◌, ◌++◌, length, take, drop, Result, Ok, Err, IfOk, inl, inr, refl, sym, ap, ◌∙◌, subst, arith, append-nil, append_assoc, encode_utf8, encode_utf8_all, IsUtf8, IsAscii, chars, length-append, take-append-drop, if◌then◌else◌, false≢true, chars-nil, chars-append, chars-IsAscii, encodes-append, encodes-chars, IsUtf8-from_ascii, chars_past_char, length-encode, len_utf8_bounds, Properties, Form, Nfc, Nfd, Nfkc, Nfkd, front, joiner, is_too_long, stream_safe, safe_form, IsSoundText, stream_safe-push, IsClosedFront, Normalizer, Unsound, settled, is_usable, Start, Holds, HasTaken, TakesChar, settled_text, Stands, one_if, Leaves, Passes, Joins, StepsTo, Refuses, Takes}
+use Rattle.nf_normalizer.proofs.Common.{◌≡◌, ℕ, ◌+◌, ◌<◌, ◌≤◌, true, false, Bool, List, [], ◌∷◌, ◌++◌, length, take, drop, Result, Ok, Err, IfOk, inl, inr, refl, sym, ap, ◌∙◌, subst, arith, append-nil, append_assoc, encode_utf8, encode_utf8_all, IsUtf8, IsAscii, chars, length-append, take-append-drop, if◌then◌else◌, false≢true, chars-nil, chars-append, chars-IsAscii, encodes-append, encodes-chars, IsUtf8-from_ascii, chars_past_char, length-encode, len_utf8_bounds, Properties, Form, Nfc, front, joiner, is_too_long, stream_safe, safe_form, IsSoundText, stream_safe-push, IsClosedFront, Normalizer, Unsound, settled, is_usable, Start, Holds, HasTaken, TakesChar, settled_text, Stands, one_if, Leaves, Passes, Joins, StepsTo, Refuses, Takes}
+use Rattle.std.proofs.lemmas.Bool.Decides.{nat_tests}
 use Rattle.nf_forms.specs.Order.{by_class}
 use Rattle.nf_forms.specs.Closed.{BeginsAtBoundary}
 use Rattle.nf_forms.specs.Laws.Closed.{stream_safe-closed, sound-closed, safe_form-closed}
@@ -15,14 +16,10 @@ ascii_front text n ascii =
     ap chars (sym (take-append-drop n text)) ∙ chars-append (take n text) (drop n text) (IsUtf8-from_ascii (take n text) ascii)
     ∙ ap (λ l. l ++ chars (drop n text)) (chars-IsAscii (take n text) ascii)
 
-one_few : (joined : Bool) → one_if joined ≤ 1
-one_few true = omega arith
-one_few false = omega arith
-
 -- one character is past
 pub leaves-one : {text rest : List ℕ} (c : ℕ) (joined : Bool) → IsUtf8 text → text ≡ encode_utf8 c ++ rest → Leaves text rest (one_if joined)
 leaves-one {text} {rest} c joined utf8 is = record {
-  few = one_few joined;
+  few = grind (arith, nat_tests);
   front = c ∷ [];
   some = omega arith;
   is_front = chars_past_char text rest c utf8 is;
@@ -101,9 +98,7 @@ module _ {p : Properties} {f : Form} (x : List ℕ) {text same formed rest : Lis
 settled_text-none : (f : Form) (p : Properties) → settled_text f p [] ≡ []
 unfolding settled safe_form by_class
 settled_text-none Nfc p = refl
-settled_text-none Nfd p = refl
-settled_text-none Nfkc p = refl
-settled_text-none Nfkd p = refl
+settled_text-none _ p = refl
 
 -- the text w was given or stands in the room, and what is told next stands behind it
 abbrev past : Start → List ℕ → Start

@@ -58,16 +58,15 @@ pub loop-room-preserved : goal.loop-room-preserved
 loop-room-preserved g c =
     let shorter = c.in-Ok.ensures.passes.shorter in
     let at = (goal.at.loop-room-preserved g c).After-from in
-    record {
+    let formed : c.take_front.new.formed.items ≡ [] = nil_from_length c.take_front.new.formed.items (search rules) in record {
       utf8 = search rules;
       left = omega (arith, shorter, c.loop-room.invariant.left);
       gone = gone_more g at;
       within = c.in-Ok.ensures.within;
-      empty = nil_from_length c.take_front.new.formed.items (search rules);
+      empty = formed;
       begun = inl (omega (arith, shorter, c.loop-room.invariant.left));
       steps = λ f x start stands.
           let same : c.in-Ok.front.same.now ≡ [] = nil_from_length c.in-Ok.front.same.now (search rules) in
-          let formed : c.take_front.new.formed.items ≡ [] = nil_from_length c.take_front.new.formed.items (search rules) in
           rw (same, formed, append-nil) at (steps_more g at f x start stands);
     }
 
