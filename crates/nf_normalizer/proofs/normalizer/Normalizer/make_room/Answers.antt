@@ -16,7 +16,8 @@ returns-then-not-step_by-clause-parts g c = λ f x start before holds.
 pub returns-in-Ok-clause-has_room : goal.returns-in-Ok-clause-has_room
 returns-in-Ok-clause-has_room g c =
     let p = g.R.Rows.properties c.args.rows.now in
-    rw c.in-Ok.ensures.same (HasRoom-with p c.args.self.now c.args._c _ (c.step_by.ensures.count p _ c.requires.compat) c.requires.sound (sym (c.step_by.ensures.answer p _ c.requires.compat) ∙ c.if-not-step_by.false) c.in-Ok.ensures.run)
+    rw c.in-Ok.ensures.same (HasRoom-with p c.args.self.now c.args._c _ (c.step_by.ensures.count p _ c.requires.compat) c.requires.sound
+    (sym (c.step_by.ensures.answer p _ c.requires.compat) ∙ c.if-not-step_by.false) c.in-Ok.ensures.run)
 
 pub returns-in-Ok-clause-parts : goal.returns-in-Ok-clause-parts
 returns-in-Ok-clause-parts g c = λ f x start before holds.

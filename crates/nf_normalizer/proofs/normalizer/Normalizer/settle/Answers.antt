@@ -1,23 +1,21 @@
-use Rattle.nf_normalizer.proofs.Common.{[], sym, ◌∙◌, append-nil, encode_utf8_all, settled_text, is_usable-none}
+use Rattle.nf_normalizer.proofs.Common.{rules, [], ◌∙◌, append-nil, encode_utf8_all, is_usable-none}
 use Rattle.nf_normalizer.proofs.RoomLemmas.{Holds-at, Holds-more}
 use Rattle.nf_normalizer.proofs.CharacterLemmas.{settled_text-rest}
 use Rattle.nf_normalizer.proofs.normalizer.Normalizer.settle.Goals as goal
 
 pub returns-then-is_empty-clause-anew : goal.returns-then-is_empty-clause-anew
 returns-then-is_empty-clause-anew g c = λ f x taken.
-    let p = g.R.Rows.properties c.args.rows.now in
-    record { usable = is_usable-none p; form = taken.form; plain = taken.plain; count = c.new-self.ensures.count; pending = (c.is_empty.ensures.none c.if-is_empty.true f p _ taken.pending).0 }
+    let alone = (c.is_empty.ensures.none c.if-is_empty.true f _ _ taken.pending).0 in search (rules, is_usable-none, c.new-self.ensures.count, taken.plain)
 
 pub returns-then-is_empty-clause-settles : goal.returns-then-is_empty-clause-settles
 returns-then-is_empty-clause-settles g c = λ f x start taken holds.
     let p = g.R.Rows.properties c.args.rows.now in
     let all = (c.is_empty.ensures.none c.if-is_empty.true f p _ taken.pending).1 in
-    Holds-at (sym (append-nil (settled_text f p x)) ∙ settled_text-rest p f x [] (append-nil _ ∙ all)) holds
+    rw (← settled_text-rest p f x [] (append-nil _ ∙ all), append-nil) holds
 
 pub returns-clause-anew : goal.returns-clause-anew
 returns-clause-anew g c = λ f x taken.
-    let p = g.R.Rows.properties c.args.rows.now in
-    record { usable = is_usable-none p; form = taken.form; plain = taken.plain; count = c.new-self.ensures.count; pending = c.restart-held.ensures.stands f p _ taken.pending }
+    let alone = c.restart-held.ensures.stands f _ _ taken.pending in search (rules, is_usable-none, c.new-self.ensures.count, taken.plain)
 
 pub returns-clause-settles : goal.returns-clause-settles
 returns-clause-settles g c = λ f x start taken holds.
