@@ -52,7 +52,7 @@ module _ (alone : LinesStandAlone) (policy : Policy) (f : Form) (most : ℕ) (so
     broken_off = λ e. BreaksOff-at refl (ap due (sym going)) (takes.broken_off e);
     written = λ kept. Puts-at refl (ap due (sym going)) (takes.written kept);
     form = tt;
-    settled = (joins alone policy f t.whole t.rest takes.whole takes.no_fault).settled;
+    settled = (joins alone t.whole t.rest takes.whole takes.no_fault).settled;
     finished = never going;
     stopped = λ _ kept _ short. (refl, takes.answer kept short);
   }
@@ -79,7 +79,7 @@ module _ (alone : LinesStandAlone) (policy : Policy) (f : Form) (most : ℕ) (so
       broken_off = breaks;
       written = puts;
       form = form;
-      settled = (joins alone policy f t.whole t.rest has.whole has.no_fault).settled;
+      settled = (joins alone t.whole t.rest has.whole has.no_fault).settled;
       finished = finished;
       stopped = λ going _ unread _. absurd (unread (unended going));
     }
@@ -98,8 +98,8 @@ module _ (alone : LinesStandAlone) (policy : Policy) (f : Form) (most : ℕ) (so
         (formed r finishes.answer) (λ _ kept. untold_err r ∙ ap result_err (finishes.answer (λ e. kept (ap untold e))) ∙ sym joined.end)
         (λ going. never going ended)
       where
-        joined : Joins alone policy f (base_of state) t.whole t.rest
-        joined = join alone policy f state t old now has t.rest
+        joined : Joins policy f (base_of state) t.whole t.rest
+        joined = join alone has t.rest
 
         ended : left.is_at_end ≡ true
         ended = at_end ∙ eq-eqb n 0 none

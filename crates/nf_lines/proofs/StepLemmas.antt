@@ -36,17 +36,24 @@ pub told : (r : Result Tally Fault) (fault : Fault) → untold r ≡ Err fault �
 told (Ok tally) fault e = cc
 told (Err other) fault e = ap refused_by (let same : other ≡ fault = cc in same)
 
-module _ (alone : LinesStandAlone) (policy : Policy) (f : Form) where
-  -- what stands behind whole lines, or none: its first byte has the offset `base`
-  pub record Joins (base : ℕ) (whole rest : List ℕ) : Type 0 where
-    pub fault : fault_in policy ucd 0 (whole ++ rest) ≡ fault_in policy ucd base rest
-    pub end : end_fault policy ucd 0 (whole ++ rest) ≡ end_fault policy ucd base rest
-    pub final : end_fault policy ucd base rest ≡ None → final_utf8 policy f ucd (whole ++ rest) ≡ final_utf8 policy f ucd whole ++ final_utf8 policy f ucd rest
-    pub settled : SameOrLineFeed (settled_utf8 policy f ucd (whole ++ rest)) (final_utf8 policy f ucd whole ++ settled_utf8 policy f ucd rest)
+-- what stands behind whole lines, or none: its first byte has the offset `base`
+pub record Joins (policy : Policy) (f : Form) (base : ℕ) (whole rest : List ℕ) : Type 0 where
+  pub fault : fault_in policy ucd 0 (whole ++ rest) ≡ fault_in policy ucd base rest
+  pub end : end_fault policy ucd 0 (whole ++ rest) ≡ end_fault policy ucd base rest
+  pub final : end_fault policy ucd base rest ≡ None → final_utf8 policy f ucd (whole ++ rest) ≡ final_utf8 policy f ucd whole ++ final_utf8 policy f ucd rest
+  pub settled : SameOrLineFeed (settled_utf8 policy f ucd (whole ++ rest)) (final_utf8 policy f ucd whole ++ settled_utf8 policy f ucd rest)
 
-  pub joins : (whole rest : List ℕ) → AreLines whole → fault_in policy ucd 0 whole ≡ None → Joins (length whole) whole rest
+-- what is known of a call that feeds a piece
+pub record Fed (policy : Policy) (f : Form) (state after : State) (bytes piece : List ℕ) (old new : SinkState) (r : Result (Unit {0}) Fault) : Type 0 where
+  pub feeds : ¬ (r ≡ Err TooLong) → Feeds policy f ucd (base_of state) bytes piece old new r
+  pub stands : OnOk r (StandsAfter policy f ucd after (bytes ++ piece))
+  pub base : base_of after ≡ base_of state
+  pub kept : r ≡ Err TooLong → new ≡ old
+
+module _ (alone : LinesStandAlone) {policy : Policy} {f : Form} where
+  pub joins : (whole rest : List ℕ) → AreLines whole → fault_in policy ucd 0 whole ≡ None → Joins policy f (length whole) whole rest
   joins whole rest (inl none) good =
-      subst (λ w. Joins (length w) w rest) (sym none) (record {
+      subst (λ w. Joins policy f (length w) w rest) (sym none) (record {
         fault = refl;
         end = refl;
         final = λ _. ap (λ l. l ++ final_utf8 policy f ucd rest) (sym (final-none policy f ucd));
@@ -54,30 +61,23 @@ module _ (alone : LinesStandAlone) (policy : Policy) (f : Form) where
       })
   joins whole rest (inr lines) good =
       let all = alone policy f 0 whole rest lines good in
-      subst (λ n. Joins n whole rest) (let same : 0 + length whole ≡ length whole = omega arith in same) (record { fault = all.fault; end = all.end; final = all.final; settled = all.settled })
+      subst (λ n. Joins policy f n whole rest) (let same : 0 + length whole ≡ length whole = omega arith in same) (record { fault = all.fault; end = all.end; final = all.final; settled = all.settled })
 
-  -- what is known of a call that feeds a piece
-  pub record Fed (state after : State) (bytes piece : List ℕ) (old new : SinkState) (r : Result (Unit {0}) Fault) : Type 0 where
-    pub feeds : ¬ (r ≡ Err TooLong) → Feeds policy f ucd (base_of state) bytes piece old new r
-    pub stands : OnOk r (StandsAfter policy f ucd after (bytes ++ piece))
-    pub base : base_of after ≡ base_of state
-    pub kept : r ≡ Err TooLong → new ≡ old
-
-  module _ (state : State) (l : Lines) (first old : SinkState) (has : TakesLines policy f ucd state l first old (Ok tt)) where
+  module _ {state : State} {l : Lines} {first old : SinkState} (has : TakesLines policy f ucd state l first old (Ok tt)) where
     abbrev pub lines : List ℕ
     lines = final_utf8 policy f ucd l.whole
 
     so_far : Puts first old [] (lines_utf8 policy f ucd l)
     so_far = has.written (λ e. cc)
 
-    pub join : (rest : List ℕ) → Joins (base_of state) l.whole rest
-    join rest = subst (λ n. Joins n l.whole rest) (sym (has.stands refl).1) (joins l.whole rest has.whole has.no_fault)
+    pub join : (rest : List ℕ) → Joins policy f (base_of state) l.whole rest
+    join rest = subst (λ n. Joins policy f n l.whole rest) (sym (has.stands refl).1) (joins l.whole rest has.whole has.no_fault)
 
     -- a piece was fed, and `behind` was not
-    module _ (after : State) (piece : List ℕ) (new : SinkState) (r : Result (Unit {0}) Fault) (fed : Fed state after l.rest piece old new r) where
-      pub fed_lines : (most : ℕ) (all behind : List ℕ) → (bytes_of l ++ piece) ++ behind ≡ all → length piece + length behind ≤ most → (r ≡ Ok tt → (behind ≡ []) × HasNoLineFeed piece)
+    module _ {after : State} {piece : List ℕ} {new : SinkState} {r : Result (Unit {0}) Fault} (fed : Fed policy f state after l.rest piece old new r) where
+      pub fed_lines : {most : ℕ} {all : List ℕ} (behind : List ℕ) → (bytes_of l ++ piece) ++ behind ≡ all → length piece + length behind ≤ most → (r ≡ Ok tt → (behind ≡ []) × HasNoLineFeed piece)
           → FeedsLines policy f ucd after most all first new r
-      fed_lines most all behind is few none = ⊎_elim long taken (long_or_not r)
+      fed_lines {most} {all} behind is few none = ⊎_elim long taken (long_or_not r)
         where
           long : r ≡ Err TooLong → FeedsLines policy f ucd after most all first new r
           long over = (
@@ -116,7 +116,7 @@ module _ (alone : LinesStandAlone) (policy : Policy) (f : Form) where
           )
 
     -- a piece was fed that ends in a line feed: then the filter was finished, and a new one begun
-    module _ (piece : List ℕ) (line : EndsInLineFeed piece) (new : SinkState) (feeds : Feeds policy f ucd (base_of state) l.rest piece old new (Ok tt)) where
+    module _ {piece : List ℕ} {new : SinkState} (line : EndsInLineFeed piece) (feeds : Feeds policy f ucd (base_of state) l.rest piece old new (Ok tt)) where
       abbrev ended : Lines
       ended = record { whole = l.whole ++ (l.rest ++ piece); rest = [] }
 
@@ -138,10 +138,10 @@ module _ (alone : LinesStandAlone) (policy : Policy) (f : Form) where
       put : Puts first new [] (lines ++ settled_utf8 policy f ucd (l.rest ++ piece))
       put = Puts-on lines so_far (feeds.written (λ e. cc))
 
-      pub ended_lines : (fresh : State) (last : SinkState) (r : Result Tally Fault) → Finishes policy f ucd (base_of state) (l.rest ++ piece) new last r
+      pub ended_lines : {fresh : State} {last : SinkState} (r : Result Tally Fault) → Finishes policy f ucd (base_of state) (l.rest ++ piece) new last r
           → (untold r ≡ Ok tt → (base_of fresh ≡ offset_of state + length piece) × StandsAfter policy f ucd fresh [])
           → (next : Lines) × ((more : List ℕ) → bytes_of next ++ more ≡ bytes_of l ++ (piece ++ more)) × TakesLines policy f ucd fresh next first last (untold r)
-      ended_lines fresh last r finishes begun = (
+      ended_lines {fresh} r finishes begun = (
         ended,
         λ more. simp (append_assoc, append-nil),
         record {
