@@ -8,8 +8,8 @@ use Rattle.nf_lines.proofs.AloneLemmas.{final-none}
 use Rattle.nf_lines.proofs.StepLemmas.{Joins, joins, join, Puts-on, BreaksOff-on, long_or_not, untold, untold_err, told}
 
 -- nothing was read
-pub takes_none : (policy : Policy) (f : Form) (state : State) (sink : SinkState) → StandsAfter policy f ucd state [] → base_of state ≡ 0 → TakesLines policy f ucd state (record { whole = []; rest = [] }) sink sink (Ok tt)
-takes_none policy f state sink stands base = record {
+pub takes_none : {policy : Policy} {f : Form} {state : State} {sink : SinkState} → StandsAfter policy f ucd state [] → base_of state ≡ 0 → TakesLines policy f ucd state (record { whole = []; rest = [] }) sink sink (Ok tt)
+takes_none {policy} {f} {sink = sink} stands base = record {
   whole = inl refl;
   no_fault = good;
   broken_off = λ e. cc;
@@ -25,17 +25,17 @@ takes_none policy f state sink stands base = record {
 pub takes_offset : {policy : Policy} {f : Form} {state : State} {l : Lines} {first now : SinkState} → TakesLines policy f ucd state l first now (Ok tt) → offset_of state ≡ length (bytes_of l)
 takes_offset {l = l} has = omega (arith, StandsAfter-offset (has.stands refl).2, (has.stands refl).1, length-append l.whole l.rest)
 
-module _ (alone : LinesStandAlone) (policy : Policy) (f : Form) (most : ℕ) (source left : SourceState) (old : SinkState) (t : Lines) where
-  never : {A : Type 0} → left.is_at_end ≡ false → IsTrue left.is_at_end → A
-  never going end = let absent : true ≡ false = sym end ∙ going in cc
+never : {b : Bool} {A : Type 0} → b ≡ false → IsTrue b → A
+never going end = let absent : true ≡ false = sym end ∙ going in cc
 
-  abbrev due : Bool → List ℕ
-  due b = final_utf8 policy f ucd t.whole ++ due_utf8 b policy f ucd t.rest
+abbrev due : Policy → Form → Lines → Bool → List ℕ
+due policy f t b = final_utf8 policy f ucd t.whole ++ due_utf8 b policy f ucd t.rest
 
+module _ (alone : LinesStandAlone) {policy : Policy} {f : Form} {most : ℕ} {source left : SourceState} {old : SinkState} {t : Lines} where
   -- a piece was refused
-  pub drives-stopped : (state : State) (last : List ℕ) (new : SinkState) (fault : Fault) → ¬ (fed_by fault ≡ Err Read) → left.is_at_end ≡ false → Consumes source.coming left.coming (bytes_of t ++ last) → length last ≤ most
+  pub drives-stopped : {state : State} (last : List ℕ) {new : SinkState} (fault : Fault) → ¬ (fed_by fault ≡ Err Read) → left.is_at_end ≡ false → Consumes source.coming left.coming (bytes_of t ++ last) → length last ≤ most
       → (fed_by fault ≡ Err TooLong → 2 ^ 64 ≤ length (bytes_of t) + length last) → TakesLines policy f ucd state t old new (Err fault) → DrivesLines most policy f ucd source left old new (Err fault)
-  drives-stopped state last new fault unread going given few long takes = record {
+  drives-stopped last fault unread going given few long takes = record {
     taken = t;
     last = last;
     given = given;
@@ -49,21 +49,18 @@ module _ (alone : LinesStandAlone) (policy : Policy) (f : Form) (most : ℕ) (so
       λ e. (long e, (takes.too_long e).1, λ broken. let both : fed_by TooLong ≡ Err Write = sym e ∙ broken in cc),
       λ over. ⊎_elim (λ is. is) (λ short. let none : Some fault ≡ None = takes.answer over.2 short ∙ over.1 in cc) (long_or_not (Err fault)),
     );
-    broken_off = λ e. BreaksOff-at refl (ap due (sym going)) (takes.broken_off e);
-    written = λ kept. Puts-at refl (ap due (sym going)) (takes.written kept);
+    broken_off = λ e. BreaksOff-at refl (ap (due policy f t) (sym going)) (takes.broken_off e);
+    written = λ kept. Puts-at refl (ap (due policy f t) (sym going)) (takes.written kept);
     form = tt;
     settled = (joins alone t.whole t.rest takes.whole takes.no_fault).settled;
     finished = never going;
     stopped = λ _ kept _ short. (refl, takes.answer kept short);
   }
 
-  module _ (state : State) (now : SinkState) (has : TakesLines policy f ucd state t old now (Ok tt)) where
-    fits : length (bytes_of t) < 2 ^ 64
-    fits = omega (arith, StandsAfter-fits (has.stands refl).2, (has.stands refl).1, length-append t.whole t.rest)
-
+  module _ {state : State} {now : SinkState} (has : TakesLines policy f ucd state t old now (Ok tt)) where
     -- all that was read was taken
     all_read : (new : SinkState) (r : Result (Unit {0}) Fault) → Consumes source.coming left.coming (bytes_of t) → (IsTrue left.is_at_end → IsAtEnd left.coming) → ¬ (r ≡ Err TooLong)
-        → (r ≡ Err Write → BreaksOff old new [] (due left.is_at_end)) → (¬ (r ≡ Err Write) → Puts old new [] (due left.is_at_end)) → OnOk r (due left.is_at_end ≡ final_utf8 policy f ucd (bytes_of t))
+        → (r ≡ Err Write → BreaksOff old new [] (due policy f t left.is_at_end)) → (¬ (r ≡ Err Write) → Puts old new [] (due policy f t left.is_at_end)) → OnOk r (due policy f t left.is_at_end ≡ final_utf8 policy f ucd (bytes_of t))
         → (IsTrue left.is_at_end → ¬ (r ≡ Err Write) → result_err r ≡ end_fault policy ucd 0 (bytes_of t)) → (IsFalse left.is_at_end → r ≡ Err Read) → DrivesLines most policy f ucd source left old new r
     all_read new r given read_out short breaks puts form finished unended = record {
       taken = t;
@@ -75,7 +72,7 @@ module _ (alone : LinesStandAlone) (policy : Policy) (f : Form) (most : ℕ) (so
       whole = has.whole;
       lines_no_fault = has.no_fault;
       rest = λ _. ((has.stands refl).0, sym (has.answer (λ e. cc) (λ e. cc)));
-      too_long = (λ e. absurd (short e), λ over. absurd (omega (arith, over.0, fits)));
+      too_long = (λ e. absurd (short e), λ over. absurd (omega (arith, over.0, StandsAfter-fits (has.stands refl).2, (has.stands refl).1, length-append t.whole t.rest)));
       broken_off = breaks;
       written = puts;
       form = form;
@@ -86,15 +83,15 @@ module _ (alone : LinesStandAlone) (policy : Policy) (f : Form) (most : ℕ) (so
 
     -- the source failed
     pub drives-failed : left.is_at_end ≡ false → Consumes source.coming left.coming (bytes_of t) → DrivesLines most policy f ucd source left old now (Err Read)
-    drives-failed going given = all_read now (Err Read) given (never going) (λ e. cc) (λ e. cc) (λ _. Puts-at refl (ap due (sym going)) (has.written (λ e. cc))) tt (never going) (λ _. refl)
+    drives-failed going given = all_read now (Err Read) given (never going) (λ e. cc) (λ e. cc) (λ _. Puts-at refl (ap (due policy f t) (sym going)) (has.written (λ e. cc))) tt (never going) (λ _. refl)
 
     -- it ended, and the filter was finished
-    pub drives-finished : (mid : SourceState) (buffer : List ℕ) (n : ℕ) (new : SinkState) (r : Result Tally Fault) → n ≡ 0 → left.is_at_end ≡ (n == 0) → IsAtEnd left.coming → Consumes source.coming mid.coming (bytes_of t)
+    pub drives-finished : (mid : SourceState) {n : ℕ} {new : SinkState} (buffer : List ℕ) (r : Result Tally Fault) → n ≡ 0 → left.is_at_end ≡ (n == 0) → IsAtEnd left.coming → Consumes source.coming mid.coming (bytes_of t)
         → Consumes mid.coming left.coming (take n buffer) → ¬ (r ≡ Err TooLong) → Finishes policy f ucd (base_of state) t.rest now new r → DrivesLines most policy f ucd source left old new (untold r)
-    drives-finished mid buffer n new r none at_end empty read given short finishes =
+    drives-finished mid {n} {new} buffer r none at_end empty read given short finishes =
         all_read new (untold r) consumed (λ _. empty) (λ e. short (told r TooLong e))
-        (λ e. BreaksOff-at refl (ap due (sym ended)) (BreaksOff-on (final_utf8 policy f ucd t.whole) (has.written (λ e. cc)) (finishes.broken_off (told r Write e))))
-        (λ kept. Puts-at refl (ap due (sym ended)) (Puts-on (final_utf8 policy f ucd t.whole) (has.written (λ e. cc)) (finishes.written (λ e. kept (ap untold e)))))
+        (λ e. BreaksOff-at refl (ap (due policy f t) (sym ended)) (BreaksOff-on (final_utf8 policy f ucd t.whole) (has.written (λ e. cc)) (finishes.broken_off (told r Write e))))
+        (λ kept. Puts-at refl (ap (due policy f t) (sym ended)) (Puts-on (final_utf8 policy f ucd t.whole) (has.written (λ e. cc)) (finishes.written (λ e. kept (ap untold e)))))
         (formed r finishes.answer) (λ _ kept. untold_err r ∙ ap result_err (finishes.answer (λ e. kept (ap untold e))) ∙ sym joined.end)
         (λ going. never going ended)
       where
@@ -109,6 +106,6 @@ module _ (alone : LinesStandAlone) (policy : Policy) (f : Form) (most : ℕ) (so
             subst (Consumes source.coming left.coming) (append-nil (bytes_of t))
             (Consumes-trans source.coming mid.coming left.coming (bytes_of t) [] read (subst (λ n. Consumes mid.coming left.coming (take n buffer)) none given))
 
-        formed : (r : Result Tally Fault) → (¬ (r ≡ Err Write) → r ≡ end_of policy ucd (base_of state) t.rest) → OnOk (untold r) (due left.is_at_end ≡ final_utf8 policy f ucd (bytes_of t))
-        formed (Ok tally) answers = ap due ended ∙ sym (joined.final (sym (ap result_err (answers (λ e. cc)))))
+        formed : (r : Result Tally Fault) → (¬ (r ≡ Err Write) → r ≡ end_of policy ucd (base_of state) t.rest) → OnOk (untold r) (due policy f t left.is_at_end ≡ final_utf8 policy f ucd (bytes_of t))
+        formed (Ok tally) answers = ap (due policy f t) ended ∙ sym (joined.final (sym (ap result_err (answers (λ e. cc)))))
         formed (Err fault) answers = tt

@@ -7,15 +7,14 @@ pub loop-given-init : goal.loop-given-init
 loop-given-init g c = record {
   room = refl;
   unspent = search rules;
-  read = (record { whole = []; rest = [] }, Consumes-nil (g.I.Source.state c.args.source.now).coming, takes_none c.args.policy c.args.form _ _ (c.policy-filter.ensures.stands as_is c.args.form [] c.quickest.ensures.stands) (c.policy-filter.ensures.base ∙ c.quickest.ensures.base));
+  read = (record { whole = []; rest = [] }, Consumes-nil (g.I.Source.state c.args.source.now).coming, takes_none (c.policy-filter.ensures.stands as_is c.args.form [] c.quickest.ensures.stands) (c.policy-filter.ensures.base ∙ c.quickest.ensures.base));
   lenders = (refl, refl);
 }
 
 pub returns-in-Err-clause-drives : goal.returns-in-Err-clause-drives
 returns-in-Err-clause-drives g c =
     let read = c.loop-given.invariant.read in
-    drives-failed c.lines_stand_alone.ensures c.args.policy c.args.form (length c.args.buffer.now) _ _ _ read.0 _ _ read.2
-    c.in-Err.ensures.failed.1 (Consumes-kept _ _ _ (bytes_of read.0) read.1 c.in-Err.ensures.kept)
+    drives-failed c.lines_stand_alone.ensures read.2 c.in-Err.ensures.failed.1 (Consumes-kept _ _ _ (bytes_of read.0) read.1 c.in-Err.ensures.kept)
 
 pub returns-in-Err-feed_lines-clause-drives : goal.returns-in-Err-feed_lines-clause-drives
 returns-in-Err-feed_lines-clause-drives g c =
@@ -23,7 +22,7 @@ returns-in-Err-feed_lines-clause-drives g c =
     let piece = take c.in-Ok.given c.get.new.buf in
     let stopped = c.in-Err-feed_lines.ensures in
     let feeds = stopped.feeds _ read.0 read.2 in
-    drives-stopped c.lines_stand_alone.ensures c.args.policy c.args.form (length c.args.buffer.now) _ _ _ feeds.0 _ feeds.1 _ c.in-Err-feed_lines.fault stopped.not_read
+    drives-stopped c.lines_stand_alone.ensures feeds.1 c.in-Err-feed_lines.fault stopped.not_read
     (c.in-Ok.ensures.end ∙ ne_eqb c.in-Ok.given 0 c.if-given-eq0.false)
     (subst (Consumes (g.I.Source.state c.args.source.now).coming (g.I.Source.state c.get.new.self).coming) (sym feeds.2) (Consumes-trans _ _ _ (bytes_of read.0) piece read.1 c.in-Ok.ensures.given))
     (omega (arith, feeds.3, length-take c.in-Ok.given c.get.new.buf, c.get.auto.buf, c.loop-given.invariant.room))
@@ -50,13 +49,13 @@ loop-given-preserved g c =
 pub returns-in-Ok-finish-clause-drives : goal.returns-in-Ok-finish-clause-drives
 returns-in-Ok-finish-clause-drives g c =
     let read = c.loop-given.invariant.read in
-    drives-finished c.lines_stand_alone.ensures c.args.policy c.args.form (length c.args.buffer.now) _ _ _ read.0 _ _ read.2 (g.I.Source.state c.loop-given.source) c.get.new.buf c.in-Ok.given _ (Ok c.in-Ok-finish.field-0)
+    drives-finished c.lines_stand_alone.ensures read.2 (g.I.Source.state c.loop-given.source) c.get.new.buf (Ok c.in-Ok-finish.field-0)
     c.if-given-eq0.true c.in-Ok.ensures.end (c.in-Ok.ensures.read_out c.if-given-eq0.true) read.1 c.in-Ok.ensures.given (λ e. cc)
     (c.in-Ok-finish.ensures.finishes c.args.policy c.args.form read.0.rest (read.2.stands refl).2)
 
 pub returns-in-Err-finish-clause-drives : goal.returns-in-Err-finish-clause-drives
 returns-in-Err-finish-clause-drives g c =
     let read = c.loop-given.invariant.read in
-    drives-finished c.lines_stand_alone.ensures c.args.policy c.args.form (length c.args.buffer.now) _ _ _ read.0 _ _ read.2 (g.I.Source.state c.loop-given.source) c.get.new.buf c.in-Ok.given _ (Err c.in-Err-finish.fault)
+    drives-finished c.lines_stand_alone.ensures read.2 (g.I.Source.state c.loop-given.source) c.get.new.buf (Err c.in-Err-finish.fault)
     c.if-given-eq0.true c.in-Ok.ensures.end (c.in-Ok.ensures.read_out c.if-given-eq0.true) read.1 c.in-Ok.ensures.given (λ e. let long : c.in-Err-finish.fault ≡ TooLong = cc in rw long at c.in-Err-finish.ensures.faults)
     (c.in-Err-finish.ensures.finishes c.args.policy c.args.form read.0.rest (read.2.stands refl).2)
