@@ -95,26 +95,29 @@ module _ (p : Properties) (sound : AreSound p) where
 
     -- ---- lines of which nothing is left
     module _ (parting : IsParting p f line_feed) (closing : IsClosing p f line_feed) (policy : Policy) (base : ℕ) (lines rest : List ℕ) (read : ReadsLines policy.replace lines) (unfaulted : fault_in policy p base lines ≡ None) where
-      text_is : text_under policy.replace lines ≡ read.before ++ line_feed ∷ []
-      text_is = left-text policy.replace lines (read.before ++ line_feed ∷ []) (length lines) [] read.left ∙ ap (λ l. (read.before ++ line_feed ∷ []) ++ l) (text_under-none policy.replace) ∙ append-nil (read.before ++ line_feed ∷ [])
+      abbrev text : List ℕ
+      text = read.before ++ line_feed ∷ []
 
-      taken : (allowed policy.assigned p (read.before ++ line_feed ∷ []) ≡ read.before ++ line_feed ∷ []) × (bad_under policy.replace base lines ≡ None)
+      text_is : text_under policy.replace lines ≡ text
+      text_is = simp (text_under-none, append-nil) at (left-text policy.replace lines text (length lines) [] read.left)
+
+      taken : (allowed policy.assigned p text ≡ text) × (bad_under policy.replace base lines ≡ None)
       unfolding fault_in
       taken =
           let all = taken_all policy.assigned (λ front. base + len_under policy.replace lines front) (text_under policy.replace lines) (bad_under policy.replace base lines) unfaulted in
           (subst (λ z. allowed policy.assigned p z ≡ z) text_is all.0, all.1)
 
       -- behind them the fault is that of the rest
-      past : (r : Bool) → IsLeft r lines (read.before ++ line_feed ∷ []) (length lines) [] → (more z : List ℕ) (other : Option Fault)
-          → first_fault policy.assigned p (λ front. base + len_under r (lines ++ more) front) ((read.before ++ line_feed ∷ []) ++ z) other
+      past : (r : Bool) → IsLeft r lines text (length lines) [] → (more z : List ℕ) (other : Option Fault)
+          → first_fault policy.assigned p (λ front. base + len_under r (lines ++ more) front) (text ++ z) other
           ≡ first_fault policy.assigned p (λ front. base + length lines + len_under r more front) z other
-      past r left more z other = fault_behind policy.assigned (read.before ++ line_feed ∷ []) z _ _ other taken.0 (λ y. omega (arith, left.place more y))
+      past r left more z other = fault_behind policy.assigned text z _ _ other taken.0 (λ y. omega (arith, left.place more y))
 
       end_behind : (more : List ℕ) → end_fault policy p base (lines ++ more) ≡ end_fault policy p (base + length lines) more
       unfolding end_of
       end_behind more = by policy.replace read.left
         where
-          by : (b : Bool) → IsLeft b lines (read.before ++ line_feed ∷ []) (length lines) [] → result_err (end_under b policy.assigned p base (lines ++ more)) ≡ result_err (end_under b policy.assigned p (base + length lines) more)
+          by : (b : Bool) → IsLeft b lines text (length lines) [] → result_err (end_under b policy.assigned p base (lines ++ more)) ≡ result_err (end_under b policy.assigned p (base + length lines) more)
           by false left =
               strict_end base (tally_of false p (lines ++ more)) (ending_of (lines ++ more)) ∙ ap result_err (left.end refl base more) ∙ sym (strict_end (base + length lines) (tally_of false p more) (ending_of more))
           by true left =
@@ -125,11 +128,10 @@ module _ (p : Properties) (sound : AreSound p) where
       alone_whole : end_fault policy p base lines ≡ None
       alone_whole = ap (end_fault policy p base) (sym (append-nil lines)) ∙ end_behind [] ∙ end_nothing policy p (base + length lines)
 
-      whole_is : whole_under policy.replace lines ≡ read.before ++ line_feed ∷ []
-      whole_is =
-          left-whole policy.replace lines (read.before ++ line_feed ∷ []) (length lines) [] read.left ∙ ap (λ l. (read.before ++ line_feed ∷ []) ++ l) (whole_under-none policy.replace) ∙ append-nil (read.before ++ line_feed ∷ [])
+      whole_is : whole_under policy.replace lines ≡ text
+      whole_is = simp (whole_under-none, append-nil) at (left-whole policy.replace lines text (length lines) [] read.left)
 
-      lines_form : final_utf8 policy f p lines ≡ encode_utf8_all (safe_form f p (read.before ++ line_feed ∷ []))
+      lines_form : final_utf8 policy f p lines ≡ encode_utf8_all (safe_form f p text)
       lines_form = final_whole f p policy base lines alone_whole ∙ ap (λ z. encode_utf8_all (safe_form f p z)) whole_is
 
       pub alone : StandAlone policy f p base lines rest
@@ -143,13 +145,13 @@ module _ (p : Properties) (sound : AreSound p) where
             final_whole f p policy base (lines ++ rest) (end_behind rest ∙ none)
             ∙ ap (λ z. encode_utf8_all (safe_form f p z)) (read.left.whole rest)
             ∙ ap encode_utf8_all (safe_form-closed p f line_feed closing read.before (whole_under policy.replace rest))
-            ∙ encodes-append (safe_form f p (read.before ++ line_feed ∷ [])) (safe_form f p (whole_under policy.replace rest))
+            ∙ encodes-append (safe_form f p text) (safe_form f p (whole_under policy.replace rest))
             ∙ (λ i. sym lines_form i ++ sym (final_whole f p policy (base + length lines) rest none) i);
         settled = ⊎_elim (λ some. inl (some_starter some)) (λ none. inr (no_starter none)) (cases_Bool (has_starter p tail));
       }
         where
           head : List ℕ
-          head = safe_form f p (read.before ++ line_feed ∷ [])
+          head = safe_form f p text
 
           tail : List ℕ
           tail = safe_form f p (allowed policy.assigned p (text_under policy.replace rest))
@@ -159,7 +161,7 @@ module _ (p : Properties) (sound : AreSound p) where
               rw (
                 settled_is policy (lines ++ rest),
                 read.left.text rest,
-                allowed-append p policy.assigned (read.before ++ line_feed ∷ []) (text_under policy.replace rest) taken.0,
+                allowed-append p policy.assigned text (text_under policy.replace rest) taken.0,
                 safe_form-closed p f line_feed closing read.before (allowed policy.assigned p (text_under policy.replace rest)),
               ) refl
 

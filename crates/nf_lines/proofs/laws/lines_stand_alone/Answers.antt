@@ -1,4 +1,4 @@
-use Rattle.nf_lines.proofs.Common.{◌≡◌, true, refl, Form, Nfc, Nfd, Nfkc, Nfkd, ucd, line_feed}
+use Rattle.nf_lines.proofs.Common.{◌≡◌, true, refl, Form, Nfc, ucd, line_feed}
 use Rattle.ucd_table.specs.Rows.{in_ranges}
 use Rattle.nf_facts.specs.PlainRanges.{plain_ranges}
 use Rattle.nf_lines.proofs.WholeParts.{Reading}
@@ -8,9 +8,7 @@ use Rattle.nf_lines.proofs.laws.lines_stand_alone.Goals as goal
 plain : (f : Form) → in_ranges (plain_ranges f) line_feed ≡ true
 unfolding in_ranges plain_ranges
 plain Nfc = refl
-plain Nfd = refl
-plain Nfkc = refl
-plain Nfkd = refl
+plain _ = refl
 
 pub returns : goal.returns
 returns c = λ policy f base lines rest.
