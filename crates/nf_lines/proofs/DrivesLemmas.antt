@@ -1,5 +1,5 @@
 -- What driving line by line comes to.
-use Rattle.nf_lines.proofs.Common.{fed_by, Bool, ◌≡◌, ℕ, ◌+◌, ◌<◌, ◌≤◌, ◌==◌, ◌^◌, true, false, List, [], ◌++◌, length, take, Some, None, Result, Ok, Err, inl, ⊎_elim, refl, sym, ap, subst, ◌∙◌, arith, append-nil, length-append, eq-eqb, OnOk, IsTrue, IsFalse, result_err, Consumes, IsAtEnd, Form, Fault, TooLong, Read, Write, State, Policy, Tally, SinkState, SourceState, settled_utf8-none, settled_utf8, fault_in, base_of, StandsAfter, end_of, final_utf8, Finishes, offset_of, StandsAfter-no_fault, StandsAfter-offset, StandsAfter-fits, Puts-none, Puts-at, BreaksOff-at, ucd, end_fault, Lines, bytes_of, TakesLines, DrivesLines}
+use Rattle.nf_lines.proofs.Common.{fed_by, Bool, ◌≡◌, ℕ, ◌+◌, ◌≤◌, ◌==◌, ◌^◌, true, false, List, [], ◌++◌, length, take, Some, None, Result, Ok, Err, inl, ⊎_elim, refl, sym, ap, subst, ◌∙◌, arith, append-nil, length-append, eq-eqb, OnOk, IsTrue, IsFalse, result_err, Consumes, IsAtEnd, Form, Fault, TooLong, Read, Write, State, Policy, Tally, SinkState, SourceState, settled_utf8-none, settled_utf8, fault_in, base_of, StandsAfter, end_of, final_utf8, Finishes, offset_of, StandsAfter-no_fault, StandsAfter-offset, StandsAfter-fits, Puts-none, Puts-at, BreaksOff-at, ucd, end_fault, Lines, bytes_of, TakesLines, DrivesLines}
 use Rattle.std.proofs.KnownBytes.{Consumes-trans}
 use Rattle.nf_filter.specs.Drives.{due_utf8}
 use Rattle.nf_filter.specs.Writes.{Puts, BreaksOff}
@@ -26,7 +26,7 @@ pub takes_offset : {policy : Policy} {f : Form} {state : State} {l : Lines} {fir
 takes_offset {l = l} has = omega (arith, StandsAfter-offset (has.stands refl).2, (has.stands refl).1, length-append l.whole l.rest)
 
 never : {b : Bool} {A : Type 0} → b ≡ false → IsTrue b → A
-never going end = let absent : true ≡ false = sym end ∙ going in cc
+never going end = cc
 
 abbrev due : Policy → Form → Lines → Bool → List ℕ
 due policy f t b = final_utf8 policy f ucd t.whole ++ due_utf8 b policy f ucd t.rest
@@ -46,7 +46,7 @@ module _ (alone : LinesStandAlone) {policy : Policy} {f : Form} {most : ℕ} {so
     lines_no_fault = takes.no_fault;
     rest = ⊎_elim (never going) (⊎_elim (λ e. absurd (unread e)) takes.too_long);
     too_long = (
-      λ e. (long e, (takes.too_long e).1, λ broken. let both : fed_by TooLong ≡ Err Write = sym e ∙ broken in cc),
+      λ e. (long e, (takes.too_long e).1, λ broken. cc),
       λ over. ⊎_elim (λ is. is) (λ short. let none : Some fault ≡ None = takes.answer over.2 short ∙ over.1 in cc) (long_or_not (Err fault)),
     );
     broken_off = λ e. BreaksOff-at refl (ap (due policy f t) (sym going)) (takes.broken_off e);

@@ -1,8 +1,7 @@
 -- A piece more.
-use Rattle.nf_lines.proofs.Common.{fed_by, ◌≡◌, ℕ, ◌+◌, ◌≤◌, List, [], ◌∷◌, ◌++◌, length, None, Result, Ok, Err, ◌⊎◌, inl, inr, ⊎_elim, refl, sym, ap, subst, ◌∙◌, arith, append_assoc, append-nil, length-append, OnOk, result_err, Form, line_feed, Fault, TooLong, Write, State, Policy, Tally, SinkState, settled_utf8-none, settled_utf8, fault_in, base_of, offset_of, StandsAfter, final_utf8, Finishes, StandsAfter-offset, Puts-at, BreaksOff-at, ucd, EndsInLineFeed, AreLines, HasNoLineFeed, end_fault, SameOrLineFeed, Lines, bytes_of, lines_utf8, TakesLines}
+use Rattle.nf_lines.proofs.Common.{◌≡◌, ℕ, ◌+◌, ◌≤◌, List, [], ◌∷◌, ◌++◌, length, None, Result, Ok, Err, ◌⊎◌, inl, inr, ⊎_elim, refl, sym, ap, subst, ◌∙◌, arith, append_assoc, append-nil, length-append, OnOk, result_err, Form, line_feed, Fault, TooLong, Write, State, Policy, Tally, SinkState, settled_utf8-none, settled_utf8, fault_in, base_of, offset_of, StandsAfter, final_utf8, Finishes, StandsAfter-offset, Puts-at, BreaksOff-at, ucd, EndsInLineFeed, AreLines, HasNoLineFeed, end_fault, SameOrLineFeed, Lines, bytes_of, lines_utf8, TakesLines}
 use Rattle.nf_filter.specs.Writes.{Puts, BreaksOff}
 use Rattle.nf_filter.specs.Feeds.{Feeds}
-use Rattle.nf_filter.proofs.DriveLemmas.{refused_by}
 use Rattle.nf_filter.proofs.WritesLemmas.{Puts-more, BreaksOff-more}
 use Rattle.nf_lines.specs.Alone.{LinesStandAlone}
 use Rattle.nf_lines.specs.Drives.{FeedsLines}
@@ -34,7 +33,7 @@ untold_err (Err fault) = refl
 
 pub told : (r : Result Tally Fault) (fault : Fault) → untold r ≡ Err fault → r ≡ Err fault
 told (Ok tally) fault e = cc
-told (Err other) fault e = ap refused_by (let same : other ≡ fault = cc in same)
+told (Err other) fault e = cc
 
 -- what stands behind whole lines, or none: its first byte has the offset `base`
 pub record Joins (policy : Policy) (f : Form) (base : ℕ) (whole rest : List ℕ) : Type 0 where
@@ -85,15 +84,15 @@ module _ (alone : LinesStandAlone) {policy : Policy} {f : Form} where
             piece ++ behind,
             sym (append_assoc (bytes_of l) piece behind) ∙ is,
             omega (arith, few, length-append piece behind),
-            λ e. (let both : fed_by TooLong ≡ Ok tt = sym over ∙ e in cc),
+            λ e. cc,
             record {
               whole = has.whole;
               no_fault = has.no_fault;
-              broken_off = λ e. let both : fed_by TooLong ≡ Err Write = sym over ∙ e in cc;
-              written = λ _. subst (λ s. Puts first s [] (lines_utf8 policy f ucd l)) (sym (fed.kept over)) so_far;
+              broken_off = λ e. cc;
+              written = λ _. rw (fed.kept over) so_far;
               answer = λ _ short. absurd (short over);
               too_long = λ _. ((has.stands refl).0, sym (has.answer (λ e. cc) (λ e. cc)));
-              stands = λ e. let both : fed_by TooLong ≡ Ok tt = sym over ∙ e in cc;
+              stands = λ e. cc;
             },
           )
 
