@@ -1,5 +1,5 @@
 -- One character more.
-use Rattle.nf_normalizer.proofs.Common.{◌≡◌, ℕ, ◌+◌, ◌≤◌, Bool, true, false, List, [], ◌∷◌, ◌++◌, Ok, refl, sym, ap, ◌∙◌, subst, arith, if◌then◌else◌, encode_utf8_all, false≢true, cond-true, cond-false, and_right, ltb-false, encodes-append, Properties, is_starter, Form, Nfc, Nfd, Nfkd, has_starter, lead, trail, front, row_of, decomposed, finished, joiner, max_run, is_too_long, parted, stream_safe, is_sound, safe_form, lead-marks, lead-le-length, trail-marks, stream_safe-push, decomposed-push, JoinerIsPlain, IsSound, IsSound-from_test, JoinerIsPlain-from_sound, run_len, Pending, PendingStandsAfter, Normalizer, settled, is_usable, Start, Holds, HasTaken, IsWithin, HasRoom, run_behind, front_utf8, settled_text, Pushes, PutsJoiner, Parts, TakesChar, is_usable-push}
+use Rattle.nf_normalizer.proofs.Common.{◌≡◌, ℕ, ◌+◌, ◌≤◌, Bool, true, false, List, [], ◌∷◌, ◌++◌, Ok, refl, sym, ap, ◌∙◌, arith, if◌then◌else◌, encode_utf8_all, false≢true, cond-true, cond-false, and_right, ltb-false, encodes-append, Properties, is_starter, Form, Nfc, Nfd, Nfkd, has_starter, lead, trail, front, row_of, decomposed, finished, joiner, max_run, is_too_long, parted, stream_safe, is_sound, safe_form, lead-marks, lead-le-length, trail-marks, stream_safe-push, decomposed-push, JoinerIsPlain, IsSound, IsSound-from_test, JoinerIsPlain-from_sound, run_len, Pending, Normalizer, settled, is_usable, Start, Holds, HasTaken, IsWithin, HasRoom, run_behind, front_utf8, settled_text, Pushes, PutsJoiner, Parts, TakesChar, is_usable-push}
 use Rattle.std.proofs.lemmas.Bool.Decides.{nat_tests}
 use Rattle.nf_forms.specs.Laws.Cluster.{row-own}
 use Rattle.nf_row.specs.Kind.{IsOwn}
@@ -110,7 +110,7 @@ module _ (p : Properties) where
               form = before.form;
               plain = before.plain;
               count = count_is (λ e. absurd (false≢true (sym short_is ∙ e)));
-              pending = subst (λ o. PendingStandsAfter f p taken.pending (decomposed f p o)) (sym same) before.pending;
+              pending = rw same before.pending;
             },
             Holds-at (settled_text-front x ∙ ap (λ o. front_utf8 f p (decomposed f p o)) (sym same)) holds,
             sym short_is,
@@ -128,7 +128,7 @@ module _ (p : Properties) where
               form = before.form;
               plain = before.plain;
               count = count_is (λ _. plain);
-              pending = subst (λ w. PendingStandsAfter f p pending w) (sym text) puts.1.0;
+              pending = rw text puts.1.0;
             },
             Holds-at (ap (front_utf8 f p) (sym text)) puts.1.1,
             sym long_here,
@@ -144,7 +144,7 @@ module _ (p : Properties) where
     TakesChar-row {pending = pending} {x = x} c parts is pushed =
         let here = parts.0 in
         let text = ap (λ r. decomposed f p (parted p (stream_safe p x) c) ++ r) (is ∙ ap (λ h. row_of h p c) here.form) ∙ sym (decomposed-safe x c) in (
-          record { usable = here.usable; form = here.form; plain = here.plain; count = here.count; pending = subst (λ w. PendingStandsAfter f p pending w) text pushed.0 },
+          record { usable = here.usable; form = here.form; plain = here.plain; count = here.count; pending = rw (← text) pushed.0 },
           Holds-at (ap (front_utf8 f p) text ∙ sym (settled_text-front (x ++ c ∷ []))) pushed.1,
           parts.2,
         )

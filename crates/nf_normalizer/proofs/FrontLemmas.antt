@@ -1,5 +1,5 @@
 -- What is taken of a text at once, and a character at a boundary after any text.
-use Rattle.nf_normalizer.proofs.Common.{◌≡◌, ℕ, ◌+◌, ◌<◌, ◌≤◌, true, false, Bool, List, [], ◌∷◌, ◌++◌, length, take, drop, Result, Ok, Err, IfOk, inl, inr, refl, sym, ap, ◌∙◌, subst, arith, append-nil, append_assoc, encode_utf8, encode_utf8_all, IsUtf8, IsAscii, chars, length-append, take-append-drop, if◌then◌else◌, false≢true, chars-nil, chars-append, chars-IsAscii, encodes-append, encodes-chars, IsUtf8-from_ascii, chars_past_char, length-encode, len_utf8_bounds, Properties, Form, Nfc, front, joiner, is_too_long, stream_safe, safe_form, IsSoundText, stream_safe-push, IsClosedFront, Normalizer, Unsound, settled, is_usable, Start, Holds, HasTaken, TakesChar, settled_text, Stands, one_if, Leaves, Passes, Joins, StepsTo, Refuses, Takes}
+use Rattle.nf_normalizer.proofs.Common.{◌≡◌, ℕ, ◌+◌, ◌<◌, ◌≤◌, true, false, Bool, List, [], ◌∷◌, ◌++◌, length, take, drop, Result, Ok, Err, IfOk, inl, inr, refl, sym, ap, ◌∙◌, arith, append-nil, append_assoc, encode_utf8, encode_utf8_all, IsUtf8, IsAscii, chars, length-append, take-append-drop, if◌then◌else◌, false≢true, chars-nil, chars-append, chars-IsAscii, encodes-append, encodes-chars, IsUtf8-from_ascii, chars_past_char, length-encode, len_utf8_bounds, Properties, Form, Nfc, front, joiner, is_too_long, stream_safe, safe_form, IsSoundText, stream_safe-push, IsClosedFront, Normalizer, Unsound, settled, is_usable, Start, Holds, HasTaken, TakesChar, settled_text, Stands, one_if, Leaves, Passes, Joins, StepsTo, Refuses, Takes}
 use Rattle.std.proofs.lemmas.Bool.Decides.{nat_tests}
 use Rattle.nf_forms.specs.Order.{by_class}
 use Rattle.nf_forms.specs.Closed.{BeginsAtBoundary}
@@ -142,8 +142,8 @@ module _ (p : Properties) (f : Form) (new : Normalizer) (start : Start) (after x
         record {
           front = boundary.first ∷ begins.0;
           is_front = is;
-          stands = stands-behind begins.0 (chars rest) is out (subst (λ l. Stands f p new there out l (chars rest)) begins.1 steps.stands);
-          joins = joins-behind p f x usable (chars text) begins.0 (chars rest) boundary is n (subst (λ l. Joins p [] l n) begins.1 steps.joins);
+          stands = stands-behind begins.0 (chars rest) is out (rw begins.1 at steps.stands);
+          joins = joins-behind p f x usable (chars text) begins.0 (chars rest) boundary is n (rw begins.1 at steps.joins);
         }
 
     refused : Refuses f p there after [] text → Refuses f p start after x text
@@ -166,19 +166,19 @@ module _ (p : Properties) (f : Form) (new : Normalizer) (start : Start) (after x
 -- ---- one front after another
 
 pub StepsTo-none : {f : Form} {p : Properties} {normalizer : Normalizer} {start : Start} {out x text : List ℕ} → Stands f p normalizer start out x (chars text) → StepsTo f p normalizer start out x text text 0
-StepsTo-none {f} {p} {normalizer} {start} {out} {x} {text} stands = record {
+StepsTo-none {p = p} {x = x} stands = record {
   front = [];
   is_front = refl;
-  stands = subst (λ y. Stands f p normalizer start out y (chars text)) (sym (append-nil x)) stands;
+  stands = rw (append-nil x) stands;
   joins = omega (arith, ap (λ y. length (stream_safe p y)) (append-nil x));
 }
 
 pub StepsTo-more : {f : Form} {p : Properties} {old new : Normalizer} {start : Start} {room out x text rest behind : List ℕ} {m n k : ℕ} → m + n ≡ k → (first : StepsTo f p old start room x text rest m) → StepsTo f p new start out (x ++ first.front) rest behind n
     → StepsTo f p new start out x text behind k
-StepsTo-more {f} {p} {new = new} {start} {out = out} {x} {behind = behind} sum first next = record {
+StepsTo-more {p = p} {x = x} {behind = behind} sum first next = record {
   front = first.front ++ next.front;
   is_front = first.is_front ∙ ap (λ l. first.front ++ l) next.is_front ∙ sym (append_assoc first.front next.front (chars behind));
-  stands = subst (λ y. Stands f p new start out y (chars behind)) (append_assoc x first.front next.front) next.stands;
+  stands = rw (← append_assoc x first.front next.front) next.stands;
   joins = omega (arith, first.joins, next.joins, sum, ap (λ y. length (stream_safe p y)) (append_assoc x first.front next.front), length-append first.front next.front);
 }
 
