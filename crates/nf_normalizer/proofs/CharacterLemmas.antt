@@ -112,13 +112,13 @@ module _ (p : Properties) where
               count = count_is (λ e. absurd (false≢true (sym short_is ∙ e)));
               pending = rw same before.pending;
             },
-            Holds-at (settled_text-front x ∙ ap (λ o. front_utf8 f p (decomposed f p o)) (sym same)) holds,
+            rw (same, ← settled_text-front x) holds,
             sym short_is,
           )
 
       pub Parts-with : {pending : Pending} {start : Start} {room : List ℕ} → passes p taken.counter (p.compat c) ≡ true → PutsJoiner f p pending start room (decomposed f p (stream_safe p x)) (Ok tt)
           → Parts f p (record taken { counter = n; pending = pending }) start room x c (Ok true)
-      Parts-with {pending} long puts =
+      Parts-with long puts =
           let long_here : is_too_long p (stream_safe p x) c ≡ true = sym long_is ∙ long in
           let plain = JoinerIsPlain-from_sound p puts.0 in
           let longer : parted p (stream_safe p x) c ≡ stream_safe p x ++ joiner ∷ [] = cond-true _ _ _ long_here in
@@ -130,7 +130,7 @@ module _ (p : Properties) where
               count = count_is (λ _. plain);
               pending = rw text puts.1.0;
             },
-            Holds-at (ap (front_utf8 f p) (sym text)) puts.1.1,
+            rw text puts.1.1,
             sym long_here,
           )
 
@@ -141,10 +141,10 @@ module _ (p : Properties) where
     -- the row follows, and so the character was taken
     pub TakesChar-row : {part : Normalizer} {pending : Pending} {start : Start} {middle room x row : List ℕ} (c : ℕ) {joined : Bool} → Parts f p part start middle x c (Ok joined) → row ≡ row_of part.form p c
         → Pushes f p pending start room (decomposed f p (parted p (stream_safe p x) c) ++ row) → TakesChar f p (record part { pending = pending }) start room x c (Ok joined)
-    TakesChar-row {pending = pending} {x = x} c parts is pushed =
+    TakesChar-row {x = x} c parts is pushed =
         let here = parts.0 in
         let text = ap (λ r. decomposed f p (parted p (stream_safe p x) c) ++ r) (is ∙ ap (λ h. row_of h p c) here.form) ∙ sym (decomposed-safe x c) in (
           record { usable = here.usable; form = here.form; plain = here.plain; count = here.count; pending = rw (← text) pushed.0 },
-          Holds-at (ap (front_utf8 f p) text ∙ sym (settled_text-front (x ++ c ∷ []))) pushed.1,
+          rw (settled_text-front (x ++ c ∷ []), ← text) pushed.1,
           parts.2,
         )
