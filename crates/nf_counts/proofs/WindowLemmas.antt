@@ -54,6 +54,7 @@ module _ (text : List ℕ) (at : ℕ) (window : Window) (left : AreLeft text at 
       let here = left.leads n within set in
       record {
         order = here.1;
+        within = omega (arith, here.0);
         lead = here.2;
         told = told_before n (omega (arith, here.0)) none;
         others = λ behind past inner. record {

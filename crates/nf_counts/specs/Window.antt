@@ -25,6 +25,7 @@ pub record AreLeft (text : List ℕ) (at : ℕ) (window : Window) : Type 0 where
 -- there is the next, and behind its character the window has the others
 pub record IsNext (text : List ℕ) (at place : ℕ) (window : Window) : Type 0 where
   pub order : at ≤ place
+  pub within : place < window.base + 63
   pub lead : 0xC0 ≤ slice_index text place
   pub told : AreTold text at place
   pub others : (behind : ℕ) → place < behind → ((k : ℕ) → place < k → k < behind → slice_index text k < 0xC0) → AreLeft text behind window

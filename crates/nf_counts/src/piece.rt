@@ -1,6 +1,6 @@
 //! What a text begins with, by its bytes.
 
-ghost use Rattle.std.specs.Prelude.{◌<◌, ◌≤◌, ℕ, slice_index, IfSome};
+ghost use Rattle.std.specs.Prelude.{◌≡◌, ◌<◌, ◌≤◌, ℕ, length, slice_index, IfSome};
 ghost use Rattle.nf_forms.specs.Ucd.{ucd};
 ghost use Rattle.nf_counts.specs.Piece.{IsPiece};
 
@@ -27,7 +27,7 @@ pub(crate) fn first_piece(text: &str) -> Option<Piece>
         return None;
     }
     if bytes[0] >= 0x80 {
-        return first_character(text);
+        return first_character(text, if bytes.len() > 2 { bytes[2] } else { 0 });
     }
     Some(Piece {
         len: ascii_prefix(bytes),
@@ -35,10 +35,12 @@ pub(crate) fn first_piece(text: &str) -> Option<Piece>
     })
 }
 
-/// The character that a text begins with, where it has two or three bytes and its value tells something.
+/// The character that a text begins with, where it has two or three bytes and its value tells something; `third` is the third
+/// byte of the text, if it has one.
 #[inline(always)]
-pub(crate) fn first_character(text: &str) -> Option<Piece>
-    requires { 0x80 ≤ slice_index text.now 0 }
+pub(crate) fn first_character(text: &str, third: u8) -> Option<Piece>
+    requires high { 0x80 ≤ slice_index text.now 0 }
+    requires third { 2 < length text.now → third ≡ slice_index text.now 2 }
     ensures piece { IfSome result (λ piece. IsPiece ucd text.now piece) }
     ensures one { IfSome result (λ piece. (k : ℕ) → 0 < k → k < piece.len → slice_index text.now k < 0xC0) }
 {
@@ -47,7 +49,6 @@ pub(crate) fn first_character(text: &str) -> Option<Piece>
     if lead >= 0xF0 {
         return None;
     }
-    let third = if bytes.len() > 2 { bytes[2] } else { 0 };
     let bits = (u32::from(lead) % 32 * 64 + u32::from(bytes[1]) % 64) * 64 + u32::from(third) % 64;
     let (len, code) = if lead >= 0xE0 {
         (3, bits % 65536)

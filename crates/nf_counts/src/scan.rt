@@ -104,7 +104,8 @@ impl<'t> Scan<'t> {
         let mut window = Window::new(text, base);
         while let Some(place) = window.next() {
             self.pass_plain(place, room);
-            let Some(character) = first_character(&text[place..]) else {
+            let third = text.as_bytes()[place + 2];
+            let Some(character) = first_character(&text[place..], third) else {
                 return false;
             };
             if !self.pass(character, room) {

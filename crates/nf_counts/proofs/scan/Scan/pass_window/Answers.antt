@@ -1,4 +1,4 @@
-use Rattle.std.proofs.Common.{◌≡◌, ◌+◌, ◌-◌, slice_index, refl, sym, ap, subst, ◌∙◌, arith}
+use Rattle.std.proofs.Common.{◌≡◌, length, ◌+◌, ◌-◌, slice_index, refl, sym, ap, subst, ◌∙◌, arith}
 use Rattle.std.specs.Str.{IsCharBoundary}
 use Rattle.std.proofs.lemmas.List.{get_or-drop}
 use Rattle.nf_counts.specs.Window.{AreAsked, AreTold}
@@ -14,14 +14,22 @@ pass_plain-requires-clause-boundary c = subst (λ t. IsCharBoundary t c.in-Some.
 pub pass_plain-requires-clause-told : goal.pass_plain-requires-clause-told
 pass_plain-requires-clause-told c = subst (λ t. AreTold t c.loop-place.self.at c.in-Some.place) (sym c.loop-place.invariant.text) (c.in-Some.ensures.next _ _ c.loop-place.invariant.left).told
 
+pub bounds-as_bytes-place : goal.bounds-as_bytes-place
+bounds-as_bytes-place c =
+    omega (arith, (c.in-Some.ensures.next _ _ c.loop-place.invariant.left).within, c.next.ensures.base, c.loop-place.invariant.base, c.loop-place.invariant.fits, ap length c.as_bytes.ensures.value)
+
 pub range_from-requires : goal.range_from-requires
 range_from-requires c = λ _. begins_at _ _ (c.in-Some.ensures.next _ _ c.loop-place.invariant.left).lead
 
 pub first_character-requires : goal.first_character-requires
 first_character-requires c =
     let text = c.args.self.now.text.now in
-    let first : slice_index c.range_from.result.now 0 ≡ slice_index text c.in-Some.place = ap (λ t. slice_index t 0) c.range_from.ensures.value ∙ get_or-drop c.in-Some.place text 0 0 ∙ ap (λ n. slice_index text n) (omega arith) in
-    omega (arith, first, (c.in-Some.ensures.next _ _ c.loop-place.invariant.left).lead)
+    let place = c.in-Some.place in
+    let first : slice_index c.range_from.result.now 0 ≡ slice_index text place = ap (λ t. slice_index t 0) c.range_from.ensures.value ∙ get_or-drop place text 0 0 ∙ ap (λ n. slice_index text n) (omega arith) in
+    record {
+      high = omega (arith, first, (c.in-Some.ensures.next _ _ c.loop-place.invariant.left).lead);
+      third = λ _. ap (λ t. slice_index t (place + 2)) c.as_bytes.ensures.value ∙ sym (ap (λ t. slice_index t 2) c.range_from.ensures.value ∙ get_or-drop place text 2 0);
+    }
 
 pub loop-place-smaller : goal.loop-place-smaller
 loop-place-smaller c =
