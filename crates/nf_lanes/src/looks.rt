@@ -9,7 +9,7 @@ use crate::lanes::{LANES, at_least, before, bits, none_of, of_64};
 use crate::sets::{Pairs, pair_sets};
 
 /// Of so few characters no pair is asked: in Latin most of those that are not ASCII have to be looked up.
-const FEW: u32 = 10;
+const FEW: u32 = 14;
 
 /// Two families of eight sets of pairs. A pair that is in a set of each has to be looked up.
 pub struct Looks {
