@@ -1,16 +1,17 @@
 -- What pairs of bytes tell of a text is so.
-use Rattle.std.proofs.Common.{◌≡◌, ℕ, ◌+◌, ◌*◌, ◌/◌, ◌%◌, ◌<◌, ◌≤◌, ◌⊎◌, ⊎_elim, inl, inr, Bool, true, false, true≢false, nat_lt, ltb-true, List, [], ◌∷◌, ◌++◌, length, get_or, take, drop, sym, ap, subst, ◌∙◌, arith, length-append, append_assoc, take-append-drop, length-take-le}
+use Rattle.std.proofs.Common.{◌≡◌, ℕ, ◌+◌, ◌*◌, ◌/◌, ◌%◌, ◌<◌, ◌≤◌, ◌⊎◌, ⊎_elim, inl, inr, Bool, true, false, nat_lt, List, [], ◌∷◌, ◌++◌, length, take, drop, arith, length-append, append_assoc, add_assoc, take-append-drop, length-take-le}
 use Rattle.std.specs.Prelude.{All, chars, encode_utf8, encode_utf8_all, IsUtf8}
 use Rattle.std.specs.Str.{all_scalars, IsCharBoundary}
 use lib.Utf8.{scalar, scalar_cases}
 use Rattle.std.proofs.str.Laws.{order, two, three, four}
 use Rattle.std.proofs.lemmas.Bool.{and_parts}
+use Rattle.std.proofs.lemmas.Bool.Decides.{nat_tests}
 use Rattle.std.proofs.lemmas.List.Elements.{All-nil, All-cons}
 use Rattle.std.proofs.lemmas.List.{get_or-append-add}
 use Rattle.std.proofs.lemmas.Str.{encodes-chars, scalars-chars, IsUtf8-take}
-use Rattle.nf_facts.specs.Within.{or_else, either}
+use Rattle.nf_facts.specs.Within.{or_else}
 use Rattle.ucd_table.proofs.TrieCheck.{all_below, all_below-at}
-use Rattle.nf_lanes.specs.Looks.{finds, finds_at, AreTold}
+use Rattle.nf_lanes.specs.Looks.{finds, AreTold}
 use Rattle.nf_lanes.specs.declared.looks.Looks.{Looks}
 
 -- characters of four bytes are looked up
@@ -51,23 +52,15 @@ pub record Tells (t : Looks) (least low : ℕ) (P : ℕ → Type 0) : Type 0 whe
 module _ (t : Looks) (least low : ℕ) (P : ℕ → Type 0) (tells : Tells t least low P) where
   by_two : (k i : ℕ) → k < 32 → i < 64 → finds t (192 + k) (128 + i) ≡ false → P (64 * k + i)
   by_two k i short little none =
-      ⊎_elim (tells.in_block k i (omega arith) little)
-      (λ seconds. ⊎_elim (λ hit. absurd (true≢false (sym hit ∙ none))) (tells.in_place k i (omega arith) little)
-      (either (finds t (192 + k) (128 + i)) _ (all_below-at _ 64 i seconds little)))
-      (either (tells.whole k) _ (all_below-at (two_told t tells.whole tells.is) 32 k tells.of_two short))
+      let here = all_below-at (two_told t tells.whole tells.is) 32 k tells.of_two short in
+      grind (arith, tells.in_block k i, tells.in_place k i, all_below-at (second_told t tells.whole tells.is k) 64 i)
 
   by_three : (k i j : ℕ) → k < 16 → i < 64 → j < 64 → 32 ≤ 64 * k + i → finds t (224 + k) (128 + i) ≡ false → finds t (128 + i) (128 + j) ≡ false → P (64 * (64 * k + i) + j)
   by_three k i j short little small large first second =
       let b = 64 * k + i in
-      let same : i ≡ b % 64 = omega arith in
-      ⊎_elim (tells.in_block b j (omega arith) small)
-      (λ others. ⊎_elim (λ hit. absurd (true≢false (sym hit ∙ first)))
-      (λ more. ⊎_elim (λ under. let below : b < 32 = ltb-true _ _ under in absurd (omega arith))
-      (λ thirds. ⊎_elim (λ hit. absurd (true≢false (sym hit ∙ subst (λ n. finds t (128 + n) (128 + j) ≡ false) same second))) (tells.in_place b j (omega arith) small)
-      (either (finds t (128 + b % 64) (128 + j)) _ (all_below-at _ 64 j thirds small)))
-      (either (nat_lt b 32) _ more))
-      (either (finds t (224 + k) (128 + i)) _ others))
-      (either (tells.whole b) _ (all_below-at _ 64 i (all_below-at (λ k. all_below (three_told t tells.whole tells.is k) 64) 16 k tells.of_three short) little))
+      let same : b % 64 ≡ i = omega arith in
+      let here = all_below-at _ 64 i (all_below-at (λ k. all_below (three_told t tells.whole tells.is k) 64) 16 k tells.of_three short) little in
+      grind (arith, nat_tests, tells.in_block b j, tells.in_place b j, all_below-at (third_told t tells.whole tells.is b) 64 j)
 
   by_four : (k i : ℕ) → k < 5 → i < 64 → finds t (240 + k) (128 + i) ≡ true
   by_four k i short little = all_below-at (λ i. finds t (240 + k) (128 + i)) 64 i (all_below-at (four_looked_up t) 5 k tells.of_four short) little
@@ -79,53 +72,39 @@ module _ (t : Looks) (least low : ℕ) (P : ℕ → Type 0) (tells : Tells t lea
   by_told : (c : ℕ) (more : List ℕ) → c < 1114112 → AreTold t least (encode_utf8 c ++ more) (length (encode_utf8 c)) → P c
   by_told c more scalar told = at (order c low) (order c 2048) (order c 65536)
     where
-      of : (bytes : List ℕ) → encode_utf8 c ≡ bytes → AreTold t least (bytes ++ more) (length bytes)
-      of bytes e = subst (λ l. AreTold t least (l ++ more) (length l)) e told
-
       at : (c < low) ⊎ (low ≤ c) → (c < 2048) ⊎ (2048 ≤ c) → (c < 65536) ⊎ (65536 ≤ c) → P c
       at (inl below) _ _ = tells.below c below
       at (inr some) (inl small) _ =
           let is : 64 * (c / 64) + c % 64 ≡ c = omega arith in
-          let here = of _ (two c (omega (arith, tells.ascii)) small) 0 (omega arith) (omega (arith, tells.of_low)) in
-          subst P is (by_two (c / 64) (c % 64) (omega arith) (omega arith) here.0)
+          let here = (rw (two c (omega (arith, tells.ascii)) small) at told) 0 (omega arith) (omega (arith, tells.of_low)) in
+          rw is at (by_two (c / 64) (c % 64) (omega arith) (omega arith) here.0)
       at (inr some) (inr large) (inl small) =
           let is : 64 * (64 * (c / 4096) + c / 64 % 64) + c % 64 ≡ c = omega arith in
-          let here = of _ (three c large small) 0 (omega arith) (omega (arith, tells.is_low)) in
-          subst P is (by_three (c / 4096) (c / 64 % 64) (c % 64) (omega arith) (omega arith) (omega arith) (omega (arith, is)) here.0 (here.1 (omega arith) (omega arith)))
+          let here = (rw (three c large small) at told) 0 (omega arith) (omega (arith, tells.is_low)) in
+          rw is at (by_three (c / 4096) (c / 64 % 64) (c % 64) (omega arith) (omega arith) (omega arith) (omega (arith, is)) here.0 (here.1 (omega arith) (omega arith)))
       at (inr some) (inr _) (inr large) =
-          absurd (true≢false (sym (by_four (c / 262144) (c / 4096 % 64) (omega arith) (omega arith)) ∙ (of _ (four c large) 0 (omega arith) (omega (arith, tells.is_low))).0))
+          let here = (rw (four c large) at told) 0 (omega arith) (omega (arith, tells.is_low)) in
+          let found = by_four (c / 262144) (c / 4096 % 64) (omega arith) (omega arith) in
+          cc
 
   -- behind a piece
-  finds_at-behind : (piece rest : List ℕ) (j : ℕ) → finds_at t (piece ++ rest) (length piece + j) ≡ finds_at t rest j
-  finds_at-behind piece rest j =
-      let whole = piece ++ rest in
-      let next : length piece + j + 1 ≡ length piece + (j + 1) = omega arith in
-      ap (λ x. finds t x (get_or whole (length piece + j + 1) 0)) (get_or-append-add piece rest j 0)
-      ∙ ap (λ x. finds t (get_or rest j 0) x) (ap (λ n. get_or whole n 0) next ∙ get_or-append-add piece rest (j + 1) 0)
-
   told_behind : (piece rest : List ℕ) (n : ℕ) → AreTold t least (piece ++ rest) (length piece + n) → AreTold t least rest n
   told_behind piece rest n told k inside high =
-      let here = told (length piece + k) (omega arith) (omega (arith, get_or-append-add piece rest k 0)) in
-      let next : length piece + k + 1 ≡ length piece + (k + 1) = omega arith in
-      (sym (finds_at-behind piece rest k) ∙ here.0, λ three more. sym (finds_at-behind piece rest (k + 1)) ∙ ap (finds_at t (piece ++ rest)) (sym next) ∙ here.1 (omega (arith, three, get_or-append-add piece rest k 0)) (omega arith))
+      let here = (simp (add_assoc, get_or-append-add) at (told (length piece + k))) (omega arith) high in
+      (here.0, λ three more. simp add_assoc (here.1 three (omega arith)))
 
   told_chars : (cs more : List ℕ) → all_scalars cs ≡ true → AreTold t least (encode_utf8_all cs ++ more) (length (encode_utf8_all cs)) → All P cs
   told_chars [] more scalars told = All-nil P
   told_chars (c ∷ cs) more scalars told =
       let both = and_parts (scalar c) (all_scalars cs) scalars in
       let fits : c < 1114112 = ⊎_elim (λ low. omega arith) (λ high. high.1) (scalar_cases c both.0) in
-      let rest = encode_utf8_all cs ++ more in
-      let bytes = length-append (encode_utf8 c) (encode_utf8_all cs) in
-      let here : AreTold t least (encode_utf8 c ++ rest) (length (encode_utf8 c) + length (encode_utf8_all cs)) =
-      subst (λ n. AreTold t least (encode_utf8 c ++ rest) n) bytes (subst (λ l. AreTold t least l (length (encode_utf8_all (c ∷ cs)))) (append_assoc (encode_utf8 c) (encode_utf8_all cs) more) told) in
-      All-cons P c cs (by_told c rest fits (shorter (encode_utf8 c ++ rest) (length (encode_utf8 c)) _ (omega arith) here))
-      (told_chars cs more both.1 (told_behind (encode_utf8 c) rest (length (encode_utf8_all cs)) here))
+      let here = rw (append_assoc, length-append) at told in
+      All-cons P c cs (by_told c _ fits (shorter _ _ _ (omega arith) here)) (told_chars cs more both.1 (told_behind _ _ _ here))
 
   -- a front that ends between two characters
   pub told_front : (text : List ℕ) (n m : ℕ) → IsUtf8 text → IsCharBoundary text n → n ≤ m → AreTold t least text m → All P (chars (take n text))
   told_front text n m u boundary short told =
       let front = take n text in
       let front_utf8 = IsUtf8-take text n u boundary in
-      let told_here : AreTold t least (front ++ drop n text) (length front) =
-      subst (λ l. AreTold t least l (length front)) (sym (take-append-drop n text)) (subst (AreTold t least text) (sym (length-take-le n text boundary.0)) (shorter text n m short told)) in
-      told_chars (chars front) (drop n text) (scalars-chars front front_utf8) (subst (λ l. AreTold t least (l ++ drop n text) (length l)) (sym (encodes-chars front front_utf8)) told_here)
+      told_chars (chars front) (drop n text) (scalars-chars front front_utf8)
+      (rw (encodes-chars front front_utf8, take-append-drop n text, length-take-le n text boundary.0) (shorter text n m short told))

@@ -1,5 +1,5 @@
 -- 16 places, what is read from them, and the first whose bit is set.
-use Rattle.std.proofs.Common.{◌≡◌, ℕ, zero, suc, ◌+◌, ◌-◌, ◌*◌, ◌^◌, ◌<◌, ◌≤◌, ⊎_elim, Bool, true, false, not, cond, List, ◌∷◌, map, length, get_or, eqb, refl, sym, ap, subst, ◌∙◌, arith}
+use Rattle.std.proofs.Common.{◌≡◌, ℕ, zero, suc, ◌+◌, ◌-◌, ◌*◌, ◌<◌, ◌≤◌, ⊎_elim, Bool, false, not, cond, List, ◌∷◌, map, length, get_or, eqb, refl, sym, ap, ◌∙◌, arith}
 use Rattle.std.specs.List.{prefix_len, range_with_len}
 use Rattle.std.proofs.str.Laws.{order}
 use Rattle.std.proofs.lemmas.List.Sums.{prefix_len-le-length, prefix_len_passes, prefix_len_stops}
@@ -7,7 +7,6 @@ use Rattle.std.specs.Int.{bit_at}
 use Rattle.std.proofs.lemmas.List.{get_or-map, length-map}
 use Rattle.std.proofs.lemmas.Nat.Bits.{bit_at_cat_low, bit_at_cat_high}
 use Rattle.std.proofs.lemmas.List.FromFn.{get_or-range_with_len, length-range_with_len}
-use Rattle.std.proofs.lemmas.Bool.{not-true, not-false}
 use Rattle.std.proofs.lemmas.Simd.{map-map, pick_l-range_with_len, first_set_mask_l, mask_l-lt, bit_mask_l}
 use lib.Lanes.{chunk, mask_l}
 use lib.Count.{count_trailing_zeros}
@@ -42,30 +41,21 @@ module _ (p : ℕ → Bool) (at found : ℕ) (is : found ≡ bits_at p at) where
   pub stops_at : (run : ℕ) → run ≡ cond (eqb found 0) 16 (count_trailing_zeros 64 found) → StopsAt p at run
   stops_at run counted = record {
     within = omega (arith, run_is, long, prefix_len-le-length fails (places at));
-    none = λ k low high.
-        let i = k - at in
-        let short : i < unset = omega (arith, run_is) in
-        let place : get_or (places at) i 0 ≡ k = get_or-places at i (omega (arith, long, prefix_len-le-length fails (places at))) ∙ omega arith in
-        not-true (p k) (subst (λ x. fails x ≡ true) place (prefix_len_passes fails (places at) i 0 short));
-    stops = λ short.
-        let place : get_or (places at) unset 0 ≡ at + run = get_or-places at unset (omega (arith, run_is)) ∙ ap (λ n. at + n) (sym run_is) in
-        not-false (p (at + run)) (subst (λ x. fails x ≡ false) place (prefix_len_stops fails (places at) 0 (omega (arith, run_is, long))));
+    none = λ k low high. grind (arith, run_is, get_or-places at (k - at), prefix_len_passes fails (places at) (k - at) 0, prefix_len-le-length fails (places at), long);
+    stops = λ short. grind (arith, run_is, long, get_or-places at run, prefix_len_stops fails (places at) 0);
   }
     where
       fails : ℕ → Bool
       fails k = not (p k)
 
-      unset : ℕ
-      unset = prefix_len fails (places at)
-
       long : length (places at) ≡ 16
       long = length-places at
 
-      run_is : run ≡ unset
-      run_is = counted ∙ ap (λ n. cond (eqb n 0) 16 (count_trailing_zeros 64 n)) is ∙ first_set_mask_l p (places at) 16 long (omega arith)
+      run_is : run ≡ prefix_len fails (places at)
+      run_is = rw is at counted ∙ first_set_mask_l p (places at) 16 long (omega arith)
 
   pub none_from_zero : found ≡ 0 → NonePass p at 16
-  none_from_zero none = (stops_at 16 (ap (λ n. cond (eqb n 0) 16 (count_trailing_zeros 64 n)) (sym none))).none
+  none_from_zero none = (stops_at 16 (rw none refl)).none
 
   pub zero_from_none : NonePass p at 16 → found ≡ 0
   unfolding places
@@ -73,23 +63,19 @@ module _ (p : ℕ → Bool) (at found : ℕ) (is : found ≡ bits_at p at) where
     where
       clear : (from n : ℕ) → NonePass p from n → mask_l (map p (range_with_len from n)) ≡ 0
       clear from zero none = refl
-      clear from (suc n) none =
-          omega (arith, ap {B = ℕ} (λ b. cond b 1 0) (none from (omega arith) (omega arith)), clear (from + 1) n (λ k low high. none k (omega arith) (omega arith)))
+      clear from (suc n) none = rw (none from (omega arith) (omega arith), clear (from + 1) n (λ k low high. none k (omega arith) (omega arith)))
 
 pub NonePass-join : (p : ℕ → Bool) (at m n : ℕ) → NonePass p at m → NonePass p (at + m) n → NonePass p at (m + n)
 NonePass-join p at m n first second k low high = ⊎_elim (first k low) (λ behind. second k behind (omega arith)) (order k (at + m))
 
 pub bits_at-below : (p : ℕ → Bool) (at : ℕ) → bits_at p at < 65536
-bits_at-below p at = subst (λ n. bits_at p at < 2 ^ n) (length-map (places at) p ∙ length-places at) (mask_l-lt (map p (places at)))
+bits_at-below p at = rw (length-map, length-places at) at (mask_l-lt (map p (places at)))
 
 -- a bit of 16, and of 16 that stand below others
 pub bit_of : (p : ℕ → Bool) (at bits k place : ℕ) → bits ≡ bits_at p at → place ≡ at + k → k < 16 → bit_at bits k ≡ cond (p place) 1 0
 bit_of p at bits k place is there within =
-    ap (λ n. bit_at n k) is ∙ bit_mask_l (map p (places at)) k ∙ ap (λ b. cond b 1 0) (get_or-map p (places at) k 0 false (omega (arith, length-places at)) ∙ ap p (get_or-places at k within ∙ sym there))
+    rw (is, bit_mask_l, get_or-map p (places at) k 0 false (omega (arith, length-places at)), get_or-places at k within, there)
 
 pub bit_below : (p : ℕ → Bool) (at rest bits k place : ℕ) → bits ≡ bits_at p at → place ≡ at + k → ((j : ℕ) → k ≡ 16 + j → bit_at rest j ≡ cond (p place) 1 0) → bit_at (rest * 65536 + bits) k ≡ cond (p place) 1 0
 bit_below p at rest bits k place is there others =
-    ⊎_elim
-    (λ low. bit_at_cat_low rest 16 bits k low ∙ bit_of p at bits k place is there low)
-    (λ high. bit_at_cat_high rest 16 bits k (omega (arith, is, bits_at-below p at)) high ∙ others (k - 16) (omega arith))
-    (order k 16)
+    grind (arith, bit_at_cat_low rest 16 bits k, bit_of p at bits k place is there, bit_at_cat_high rest 16 bits k, bits_at-below p at, others (k - 16))
