@@ -2,5 +2,4 @@ mod Told
 mod CountsLemmas
 mod PieceLemmas
 mod PlainLemmas
-mod ScanLemmas
 mod WindowLemmas

@@ -1,22 +1,26 @@
 -- What pairs of bytes tell of a character is what the table has, shown by one computation; and what they tell of a text.
-use Rattle.std.proofs.Common.{◌≡◌, ℕ, ◌+◌, ◌-◌, ◌*◌, ◌<◌, ◌==◌, true, List, slice_index, take, drop, refl, sym, ap, ap₂, ◌∙◌, arith, eqb-true, length-drop}
-use Rattle.std.specs.Prelude.{chars}
+use Rattle.std.proofs.Common.{◌≡◌, ℕ, ◌+◌, ◌-◌, ◌*◌, ◌<◌, ◌==◌, true, cond, List, [], ◌∷◌, ◌++◌, length, slice_index, take, drop, refl, sym, ap, ◌∙◌, arith, add_assoc, append-nil, eqb-true, length-drop, length-take-le, take-append-drop}
+use Rattle.std.specs.Prelude.{All, chars, encode_utf8_all}
 use Rattle.std.specs.Str.{IsUtf8, IsCharBoundary}
 use Rattle.std.proofs.lemmas.List.{get_or-drop}
-use Rattle.std.proofs.lemmas.List.Elements.{All-weaker}
-use Rattle.std.proofs.lemmas.Str.{encodes-chars, IsUtf8-drop, IsUtf8-take}
+use Rattle.std.proofs.lemmas.List.Elements.{All-head, All-tail, All-weaker}
+use Rattle.std.proofs.lemmas.List.Sums.{sum_by-append, list_all-from_AllPass}
+use Rattle.std.proofs.lemmas.Str.{length-le-encodes, encodes-chars, IsUtf8-drop, IsUtf8-take}
 use Rattle.ucd_table.specs.Trie.{block_value}
 use Rattle.ucd_table.proofs.TrieCheck.{all_below, all_below-at}
+use Rattle.nf_forms.specs.Forms.{decomposed}
+use Rattle.nf_forms.specs.Laws.Runs.{has_starter-append, lead-append, trail-append, longest-append}
+use Rattle.nf_forms.specs.Properties.{Properties, is_nonstarter}
 use Rattle.nf_forms.specs.Sound.{is_sound}
+use Rattle.nf_forms.specs.declared.form.Form.TheVariants.{Nfkd}
 use Rattle.nf_forms.specs.Ucd.{ucd}
-use Rattle.nf_lanes.specs.Looks.{finds, finds_at, AreTold as AreLooksTold}
+use Rattle.nf_lanes.specs.Looks.{AreTold as AreLooksTold}
 use Rattle.nf_lanes.proofs.LooksLemmas.{Tells, told_front}
-use Rattle.nf_counts.specs.Counts.{IsValued}
+use Rattle.nf_counts.specs.Counts.{HasValue, IsValued, is_fit}
 use Rattle.nf_counts.specs.Piece.{IsPiece}
 use Rattle.nf_counts.specs.Window.{AreTold}
 use Rattle.nf_counts.specs.declared.pairs.TheConstants.{LOOKS}
 use Rattle.nf_counts.specs.declared.rows.TheConstants.{INDEX, WORDS}
-use Rattle.nf_counts.proofs.ScanLemmas.{piece_of_plain}
 use Rattle.nf_counts.proofs.Told.{told, told-ascii, told-valued, trie-told, trie-block}
 
 told-block : (b j v : ℕ) → b < 1024 → j < 64 → block_value 4 4 WORDS (slice_index INDEX b) j ≡ v → told (64 * b + j) ≡ v
@@ -46,18 +50,48 @@ tells = record {
   is_low = omega arith;
 }
 
--- characters of which none is looked up are a piece of the value 0
-pub piece_between : (text : List ℕ) (at place : ℕ) → ((c : ℕ) → is_sound ucd c ≡ true) → IsUtf8 text → IsCharBoundary text at → IsCharBoundary text place → at < place → AreTold text at place
-    → IsPiece ucd (drop at text) record { len = place - at; value = 0 }
-piece_between text at place sound u from to some none =
-    let len = place - at in
-    let rest = drop at text in
-    let rest_utf8 = IsUtf8-drop text at u from in
-    let end : slice_index rest len ≡ slice_index text place = get_or-drop at text len 0 ∙ ap (λ n. slice_index text n) (omega (arith, some)) in
-    let boundary : IsCharBoundary rest len = (omega (arith, length-drop at text, to.0), λ inside high. omega (arith, end, to.1 (omega (arith, length-drop at text, inside, some)) (omega (arith, end, high)))) in
-    let finds_is : (k : ℕ) → finds_at LOOKS rest k ≡ finds_at LOOKS text (at + k) = λ k. ap₂ (finds LOOKS) (get_or-drop at text k 0) (get_or-drop at text (k + 1) 0 ∙ ap (λ n. slice_index text n) (omega arith)) in
-    let are_told : AreLooksTold LOOKS 0xC0 rest len = λ k inside high.
-    let here = none (at + k) (omega arith) (omega (arith, inside, some)) (omega (arith, high, get_or-drop at text k 0)) in
-    (finds_is k ∙ here.0, λ _ _. finds_is (k + 1) ∙ ap (finds_at LOOKS text) (omega arith) ∙ here.1) in
-    let plain = All-weaker (λ (d : ℕ). told d ≡ 0) (λ d. IsValued ucd d 0) (λ d e. told-valued d (sound d) 0 (sym e) refl) _ (told_front LOOKS 0xC0 0x80 (λ (d : ℕ). told d ≡ 0) tells rest len len rest_utf8 boundary (omega arith) are_told) in
-    piece_of_plain ucd rest (chars (take len rest)) len (encodes-chars (take len rest) (IsUtf8-take rest len rest_utf8 boundary)) boundary.0 (IsUtf8-drop rest len rest_utf8 boundary) (omega (arith, some)) plain
+-- text of the value 0 behind such text
+value-append : (p : Properties) (w v : List ℕ) → HasValue p w 0 → HasValue p v 0 → HasValue p (w ++ v) 0
+value-append p w v first next = record {
+  has_starter = rw (has_starter-append, ← first.has_starter);
+  lead = rw (lead-append, ← first.has_starter) first.lead;
+  trail = rw (trail-append, ← next.has_starter) next.trail;
+  longest = omega (arith, first.longest, next.longest, first.trail, next.lead, longest-append p w v);
+  nonstarters = omega (arith, first.nonstarters, next.nonstarters, sum_by-append (λ d. cond (is_nonstarter p d) 1 0) w v);
+}
+
+module _ (p : Properties) where
+  abbrev is_plain : ℕ → Type 0
+  is_plain c = IsValued p c 0
+
+  value-plain : (cs : List ℕ) → 0 < length (encode_utf8_all cs) → All is_plain cs → HasValue p (decomposed Nfkd p cs) 0
+  value-plain [] some plain = absurd (omega arith)
+  value-plain (c ∷ []) some plain = rw append-nil (All-head is_plain c [] plain).row
+  value-plain (c ∷ d ∷ cs) some plain =
+      let others = d ∷ cs in
+      value-append p (p.compat c) _ (All-head is_plain c others plain).row (value-plain (d ∷ cs) (omega (arith, length-le-encodes others)) (All-tail is_plain c others plain))
+
+module _ (sound : (c : ℕ) → is_sound ucd c ≡ true) where
+  -- characters of which none is looked up are a piece of the value 0
+  pub plain_piece : (text : List ℕ) (len : ℕ) → IsUtf8 text → IsCharBoundary text len → 0 < len → AreLooksTold LOOKS 0xC0 text len → IsPiece ucd text record { len = len; value = 0 }
+  plain_piece text len u boundary some none =
+      let cs = chars (take len text) in
+      let same : encode_utf8_all cs ≡ take len text = encodes-chars _ (IsUtf8-take text len u boundary) in
+      let long : length (encode_utf8_all cs) ≡ len = rw same (length-take-le len text boundary.0) in
+      let plain = All-weaker (λ (d : ℕ). told d ≡ 0) (λ d. IsValued ucd d 0) (λ d e. told-valued d (sound d) 0 (sym e) refl) _ (told_front LOOKS 0xC0 0x80 (λ (d : ℕ). told d ≡ 0) tells text len len u boundary (omega arith) none) in
+      record {
+        chars = cs;
+        begins = record { rest = drop len text; split = rw (same, take-append-drop); rest_utf8 = IsUtf8-drop text len u boundary; is_long = sym long };
+        some = some;
+        within = omega arith;
+        fit = list_all-from_AllPass (is_fit ucd) cs (All-weaker (λ c. IsValued ucd c 0) (λ c. is_fit ucd c ≡ true) (λ c valued. valued.fit) cs plain);
+        row = value-plain ucd cs (omega (arith, long)) plain;
+      }
+
+  pub piece_between : (text : List ℕ) (at place : ℕ) → IsUtf8 text → IsCharBoundary text at → IsCharBoundary text place → at < place → AreTold text at place
+      → IsPiece ucd (drop at text) record { len = place - at; value = 0 }
+  piece_between text at place u from to some none =
+      let is : at + (place - at) ≡ place = omega (arith, some) in
+      plain_piece (drop at text) (place - at) (IsUtf8-drop text at u from) (simp (length-drop, get_or-drop, is) (omega (arith, to.0), λ inside. to.1 (omega arith))) (omega (arith, some)) (λ k inside high.
+      let here = none (at + k) (omega arith) (omega (arith, inside, some)) (rw get_or-drop at high) in
+      simp (get_or-drop, ← add_assoc) (here.0, λ _ _. here.1))

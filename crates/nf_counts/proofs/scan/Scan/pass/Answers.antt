@@ -1,8 +1,26 @@
-use Rattle.std.proofs.Common.{refl}
+use Rattle.std.proofs.Common.{◌++◌, append_assoc, length-append, arith}
+use Rattle.std.proofs.lemmas.List.Folds.{list_all-append}
+use Rattle.std.proofs.lemmas.Str.{encodes-append}
+use Rattle.nf_forms.specs.Laws.StreamSafe.{decomposed-append}
 use Rattle.nf_forms.specs.Ucd.{ucd}
-use Rattle.nf_counts.proofs.ScanLemmas.{reaches}
+use Rattle.nf_counts.proofs.PieceLemmas.{rest_is}
 use Rattle.nf_counts.proofs.scan.Scan.pass.Goals as goal
 
 pub returns-clause-reaches : goal.returns-clause-reaches
 returns-clause-reaches c =
-    reaches ucd c.args.room c.args.self.now _ c.args.piece c.requires.reaches c.requires.piece refl refl c.add.ensures.few c.add.ensures.room (c.add.ensures.counts c.if-not-add.false ucd)
+    let here = c.requires.reaches in
+    let piece = c.requires.piece in
+    record {
+      utf8 = here.utf8;
+      front = here.front ++ piece.chars;
+      begins = record {
+        rest = piece.begins.rest;
+        split = rw (encodes-append, append_assoc, ← piece.begins.split, rest_is _ _ _ here.begins) here.begins.split;
+        rest_utf8 = piece.begins.rest_utf8;
+        is_long = rw (encodes-append, length-append) (omega (arith, here.begins.is_long, piece.begins.is_long));
+      };
+      fit = rw (list_all-append, here.fit, piece.fit);
+      counts = rw decomposed-append (c.add.ensures.counts c.if-not-add.false ucd _ _ piece.row here.counts);
+      few = omega (arith, here.few, piece.some);
+      leads = c.add.ensures.room;
+    }
