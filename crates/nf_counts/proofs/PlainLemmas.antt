@@ -1,5 +1,5 @@
 -- What pairs of bytes tell of a character is what the table has, shown by one computation; and what they tell of a text.
-use Rattle.std.proofs.Common.{◌≡◌, ℕ, ◌+◌, ◌-◌, ◌*◌, ◌<◌, ◌==◌, true, cond, List, [], ◌∷◌, ◌++◌, length, slice_index, take, drop, refl, sym, ap, ◌∙◌, arith, add_assoc, append-nil, eqb-true, length-drop, length-take-le, take-append-drop}
+use Rattle.std.proofs.Common.{◌≡◌, ℕ, ◌+◌, ◌-◌, ◌<◌, ◌==◌, true, cond, List, [], ◌∷◌, ◌++◌, length, slice_index, take, drop, refl, sym, ◌∙◌, arith, add_assoc, append-nil, eqb-true, length-drop, length-take-le, take-append-drop}
 use Rattle.std.specs.Prelude.{All, chars, encode_utf8_all}
 use Rattle.std.specs.Str.{IsUtf8, IsCharBoundary}
 use Rattle.std.proofs.lemmas.List.{get_or-drop}
@@ -21,10 +21,7 @@ use Rattle.nf_counts.specs.Piece.{IsPiece}
 use Rattle.nf_counts.specs.Window.{AreTold}
 use Rattle.nf_counts.specs.declared.pairs.TheConstants.{LOOKS}
 use Rattle.nf_counts.specs.declared.rows.TheConstants.{INDEX, WORDS}
-use Rattle.nf_counts.proofs.Told.{told, told-ascii, told-valued, trie-told, trie-block}
-
-told-block : (b j v : ℕ) → b < 1024 → j < 64 → block_value 4 4 WORDS (slice_index INDEX b) j ≡ v → told (64 * b + j) ≡ v
-told-block b j v small little is = sym (trie-told (64 * b + j) (omega arith)) ∙ trie-block (64 * b + j) b j (omega arith) (omega arith) small ∙ is
+use Rattle.nf_counts.proofs.Told.{told, told-ascii, told-valued, told-block}
 
 -- the first block is of 0 alone
 first_block : all_below (λ j. block_value 4 4 WORDS 0 j == 0) 64 ≡ true
@@ -40,10 +37,8 @@ tells = record {
   of_two = refl;
   of_three = refl;
   of_four = refl;
-  in_block = λ b j small little zero.
-      let first = all_below-at (λ j. block_value 4 4 WORDS 0 j == 0) 64 j first_block little in
-      told-block b j 0 small little (ap (λ n. block_value 4 4 WORDS n j) (eqb-true _ 0 zero) ∙ eqb-true _ 0 first);
-  in_place = λ b j small little here. told-block b j 0 small little (eqb-true _ 0 here);
+  in_block = λ b j small little zero. sym (told-block b j small little) ∙ rw (eqb-true _ 0 zero) (eqb-true _ 0 (all_below-at (λ j. block_value 4 4 WORDS 0 j == 0) 64 j first_block little));
+  in_place = λ b j small little here. sym (told-block b j small little) ∙ eqb-true _ 0 here;
   below = told-ascii;
   ascii = omega arith;
   of_low = omega arith;

@@ -1,8 +1,8 @@
 -- The table has what the data of Unicode has, shown by one computation.
-use Rattle.std.proofs.Common.{◌≡◌, ℕ, ◌+◌, ◌*◌, ◌-◌, ◌/◌, ◌^◌, ◌%◌, ◌<◌, ◌≤◌, max, Bool, true, false, not, cond, ◌&&◌, ◌||◌, ◌==◌, nat_lt, List, [], ◌∷◌, slice_index, count_by, inl, inr, refl, sym, ap, ap₂, ◌∙◌, arith, eqb-true, eq-eqb, ltb-true, lt-ltb, le-ltb}
-use Rattle.std.proofs.lemmas.Bool.{cases_Bool, cases_eq, and_parts, and_from, cond-true, cond-false}
+use Rattle.std.proofs.Common.{◌≡◌, ℕ, ◌+◌, ◌*◌, ◌-◌, ◌/◌, ◌^◌, ◌%◌, ◌<◌, ◌≤◌, Bool, true, false, not, cond, ◌&&◌, ◌==◌, nat_lt, List, [], ◌∷◌, slice_index, count_by, inl, inr, refl, sym, ap, ◌∙◌, arith, eqb-true, lt-ltb}
+use Rattle.std.proofs.lemmas.Bool.{cases_Bool, cases_eq}
+use Rattle.std.proofs.lemmas.Bool.Decides.{nat_tests}
 use Rattle.ucd_table.specs.Rows.{Range, in_ranges}
-use Rattle.ucd_table.specs.Steps.{run_value}
 use Rattle.ucd_table.specs.Trie.{IsTrie, block_value, trie_value}
 use Rattle.ucd_table.proofs.Stepped.{Stepped, of_ranges, map_stepped, zip_stepped, runs_of}
 use Rattle.ucd_table.proofs.Facts.{Stepped-below, tree_value, tree_of, tree_value-tree_of}
@@ -80,98 +80,54 @@ trie_is = refl
 pub is_trie : IsTrie 4 4 INDEX WORDS
 is_trie = trie_ok-IsTrie 4 4 8 INDEX WORDS tail _ trie_is
 
-pub trie-told : (c : ℕ) → c < 0x11_0000 → trie_value 4 4 INDEX WORDS tail c ≡ told c
-trie-told = trie_value-Stepped 4 4 8 INDEX WORDS tail (λ c. told c) told_stepped trie_is
-
 pub told-ascii : (c : ℕ) → c < 0x80 → told c ≡ 0
 unfolding tables told_stepped
 told-ascii c low = eqb-true _ _ (Stepped-below told told_stepped (λ _ (v : ℕ). v == 0) 0x80 refl c low)
 
 -- ---- the value of a code point by its block
 
-pub trie-block : (c b j : ℕ) → c / 64 ≡ b → c % 64 ≡ j → b < 1024 → trie_value 4 4 INDEX WORDS tail c ≡ block_value 4 4 WORDS (slice_index INDEX b) j
+pub told-block : (b j : ℕ) → b < 1024 → j < 64 → block_value 4 4 WORDS (slice_index INDEX b) j ≡ told (64 * b + j)
 unfolding trie_value
-trie-block c b j at within small =
-    ap₂ (λ x y. cond (nat_lt x 1024) (block_value 4 4 WORDS (slice_index INDEX x) y) (run_value tail c)) at within ∙ cond-true _ _ _ (lt-ltb b 1024 small)
+told-block b j small little =
+    let block : (64 * b + j) / 64 ≡ b = omega arith in
+    let place : (64 * b + j) % 64 ≡ j = omega arith in
+    rw (block, place, lt-ltb b 1024 small) at (trie_value-Stepped 4 4 8 INDEX WORDS tail (λ c. told c) told_stepped trie_is (64 * b + j) (omega arith))
 
 -- four bits of a word, as they are read
-pub word-told : (b j : ℕ) → b < 1024 → j < 64 → (slice_index WORDS (slice_index INDEX b * 4 + j / 16) / 2 ^ (j % 16 * 4)) % 16 ≡ told (b * 64 + j)
+pub word-told : (code : ℕ) → code < 65536 → (slice_index WORDS (slice_index INDEX (code / 64) * 4 + code % 64 / 16) / 2 ^ (code % 64 % 16 * 4)) % 16 ≡ told code
 unfolding block_value
-word-told b j small little = sym (trie-block (b * 64 + j) b j (omega arith) (omega arith) small) ∙ trie-told (b * 64 + j) (omega arith)
+word-told code small = told-block (code / 64) (code % 64) (omega arith) (omega arith) ∙ ap told (omega arith)
 
 -- ---- what a value tells
 
 -- a value is below 8
 row_value-small : (p : Properties) (w : List ℕ) → row_value p w < 8
-row_value-small p w =
-    let n = trail p w in
-    let has = has_starter p w in
-    next (nat_lt n 4 && (n == longest p w && (n == count_by (is_nonstarter p) w && cond has 0 n == lead p w))) refl
-  where
-    few : (has : Bool) (n : ℕ) → n < 4 → cond has 0 4 + n < 8
-    few true n small = omega arith
-    few false n small = omega arith
-
-    next : (b : Bool) → (nat_lt (trail p w) 4 && (trail p w == longest p w && (trail p w == count_by (is_nonstarter p) w && cond (has_starter p w) 0 (trail p w) == lead p w))) ≡ b → cond b (cond (has_starter p w) 0 4 + trail p w) 4 < 8
-    next true e = few (has_starter p w) (trail p w) (ltb-true (trail p w) 4 (and_parts _ _ e).0)
-    next false e = omega arith
+row_value-small p w = grind (arith, nat_tests)
 
 pub told-small : (c : ℕ) → told c < 8
 unfolding told
-told-small c = next (tells c) (is_empty (compatibility_decomposition c)) (ccc c == 0)
-  where
-    next : (b e z : Bool) → cond b (cond e (cond z 0 5) (row_value (classes ccc) (compatibility_decomposition c))) 4 < 8
-    next true true true = omega arith
-    next true true false = omega arith
-    next true false z = row_value-small (classes ccc) (compatibility_decomposition c)
-    next false e z = omega arith
+told-small c = grind (arith, row_value-small (classes ccc) (compatibility_decomposition c))
 
 -- a row of starters, and behind them so many non-starters
 value-row : (p : Properties) (w : List ℕ) (v : ℕ) → v ≡ row_value p w → (v == 4) ≡ false → HasValue p w v
-value-row p w v is told =
-    let n = trail p w in
-    let has = has_starter p w in
-    let all = nat_lt n 4 && (n == longest p w && (n == count_by (is_nonstarter p) w && cond has 0 n == lead p w)) in
-    let fine : all ≡ true = next all is in
-    let short = and_parts _ _ fine in
-    let run = and_parts _ _ short.1 in
-    let number = and_parts _ _ run.1 in
-    let small : n < 4 = ltb-true n 4 short.0 in
-    let here = is ∙ ap (λ b. cond b (cond has 0 4 + n) 4) fine in
-    let both = numbers has n v small here told in
-    record {
-      has_starter = both.0;
-      lead = ap₂ (λ (b : Bool) (n : ℕ). cond b 0 n) both.0 both.1 ∙ eqb-true _ _ number.1;
-      trail = both.1;
-      longest = both.1 ∙ eqb-true _ _ run.0;
-      nonstarters = both.1 ∙ eqb-true _ _ number.0;
-    }
-  where
-    next : (b : Bool) → v ≡ cond b (cond (has_starter p w) 0 4 + trail p w) 4 → b ≡ true
-    next true e = refl
-    next false e = let clash : (v == 4) ≡ true = eq-eqb v 4 e in cc
-
-    numbers : (has : Bool) (n v : ℕ) → n < 4 → v ≡ cond has 0 4 + n → (v == 4) ≡ false → (nat_lt v 4 ≡ has) × (v % 4 ≡ n)
-    numbers true n v small e told = (lt-ltb v 4 (omega arith), omega arith)
-    numbers false n v small e told = (le-ltb v 4 (omega arith), omega arith)
+value-row p w v is some = record {
+  has_starter = grind (arith, nat_tests);
+  lead = grind (arith, nat_tests);
+  trail = grind (arith, nat_tests);
+  longest = grind (arith, nat_tests);
+  nonstarters = grind (arith, nat_tests);
+}
 
 one_value : (p : Properties) (c : ℕ) → row_value p (c ∷ []) ≡ cond (p.class c == 0) 0 5
-one_value p c = next (p.class c == 0)
-  where
-    next : (b : Bool) → (let n = cond (not b) 1 0 in cond (nat_lt n 4 && (n == max n 0 && (n == 0 + n && cond (b || false) 0 n == n))) (cond (b || false) 0 4 + n) 4) ≡ cond b 0 5
-    next true = refl
-    next false = refl
+one_value p c = grind (arith, nat_tests)
 
 -- two or three starters
-abbrev of_three : ℕ → ℕ → ℕ → Properties
-of_three k m n = classes (λ c. cond (c == 0) k (cond (c == 1) m n))
-
 module _ (k m n : ℕ) (a : ccc k ≡ 0) (b : ccc m ≡ 0) where
   two_value : row_value (classes ccc) (k ∷ m ∷ []) ≡ 0
-  two_value = ap₂ (λ i j. row_value (of_three i j 0) (0 ∷ 1 ∷ [])) a b
+  two_value = rw (a, b)
 
   three_value : ccc n ≡ 0 → row_value (classes ccc) (k ∷ m ∷ n ∷ []) ≡ 0
-  three_value c = ap₂ (λ i j. row_value (of_three i j (ccc n)) (0 ∷ 1 ∷ 2 ∷ [])) a b ∙ ap (λ i. row_value (of_three 0 0 i) (0 ∷ 1 ∷ 2 ∷ [])) c
+  three_value c = rw (a, b, c)
 
 letter : (c : ℕ) → 0x1100 ≤ c → c < 0x1200 → ccc c ≡ 0
 letter c low high = eqb-true (ccc c) 0 (class_of_jamo c low high)
@@ -182,8 +138,8 @@ syllable_value c syllable =
     let first = letter (0x1100 + (c - 0xAC00) / 588) (omega arith) (omega arith) in
     let second = letter (0x1161 + (c - 0xAC00) % 588 / 28) (omega arith) (omega arith) in
     elim (cases_eq ((c - 0xAC00) % 28) 0) [
-      | inl none ↦ ap (row_value (classes ccc)) (decompose_hangul-two c none) ∙ two_value _ _ 0 first second
-      | inr some ↦ ap (row_value (classes ccc)) (decompose_hangul-three c some) ∙ three_value _ _ _ first second (letter _ (omega arith) (omega arith))
+      | inl none ↦ rw (decompose_hangul-two c none) (two_value _ _ 0 first second)
+      | inr some ↦ rw (decompose_hangul-three c some) (three_value _ _ _ first second (letter _ (omega arith) (omega arith)))
     ]
 
 -- the value of a row, whether it is a mapping's, a syllable's or the character alone
@@ -197,9 +153,8 @@ row_told c =
       | inl syllable ↦
           let range = is_syllable-true c syllable in
           let none : is_empty (compatibility_decomposition c) ≡ true = ap is_empty (table_of-full Nfkd c) ∙ is_empty-full Nfkd c ∙ entry_of_syllable c range.0 range.1 in
-          cond-true _ _ _ none ∙ cond-true _ _ _ (class_of_syllable c range.0 range.1)
-          ∙ sym (ap (row_value (classes ccc)) (decompose-syllable Nfkd c syllable) ∙ syllable_value c syllable)
-      | inr other ↦ next (compatibility_decomposition c) ∙ sym (ap (row_value (classes ccc)) (cond-false _ _ _ other))
+          rw (none, class_of_syllable c range.0 range.1, decompose-syllable Nfkd c syllable) (sym (syllable_value c syllable))
+      | inr other ↦ next (compatibility_decomposition c) ∙ rw other
     ]
   where
     next : (w : List ℕ) → cond (is_empty w) (cond (ccc c == 0) 0 5) (row_value (classes ccc) w) ≡ row_value (classes ccc) (or_itself c w)
@@ -207,18 +162,11 @@ row_told c =
     next (x ∷ w) = refl
 
 -- so a value other than 4 tells of the character
+known : (b : Bool) (n v : ℕ) → v ≡ cond b n 4 → (v == 4) ≡ false → (b ≡ true) × (v ≡ n)
+known b n v is some = grind (arith, nat_tests)
+
 pub told-valued : (c : ℕ) → is_sound ucd c ≡ true → (v : ℕ) → v ≡ told c → (v == 4) ≡ false → IsValued ucd c v
 unfolding told ucd
-told-valued c sound v is some = next (tells c) refl is
-  where
-    assigned : (far : Bool) → cond far false (is_assigned c) ≡ true → is_assigned c ≡ true
-    assigned true h = cc
-    assigned false h = h
-
-    next : (b : Bool) → tells c ≡ b → v ≡ cond b (stood_for c) 4 → IsValued ucd c v
-    next true here e =
-        record {
-          fit = and_from (is_sound ucd c) (is_assigned c) sound (assigned (in_ranges untold c) here);
-          row = value-row ucd (decompose Nfkd c) v (e ∙ row_told c) some;
-        }
-    next false here e = let clash = sym some ∙ eq-eqb v 4 e in cc
+told-valued c sound v is some =
+    let here = known (tells c) (stood_for c) v is some in
+    record { fit = grind (arith, here); row = value-row ucd (decompose Nfkd c) v (here.1 ∙ row_told c) some }

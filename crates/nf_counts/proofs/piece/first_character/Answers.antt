@@ -8,10 +8,10 @@ pub bounds-bytes-1 : goal.bounds-bytes-1
 bounds-bytes-1 c =
     let value = c.as_bytes-bytes.ensures.value in
     rw value (
-      ⊎_elim
-      (λ two. omega (arith, fits _ _ _ two.1.begins))
-      (λ three. omega (arith, fits _ _ _ three.1.begins))
-      (first_of c.args.text.now c.utf8.text c.requires.high (omega (arith, ap (λ t. slice_index t 0) value)))
+    ⊎_elim
+    (λ two. omega (arith, fits _ _ _ two.1.begins))
+    (λ three. omega (arith, fits _ _ _ three.1.begins))
+    (first_of c.args.text.now c.utf8.text c.requires.high (omega (arith, ap (λ t. slice_index t 0) value)))
     )
 
 character : (c : Else-value-eq-NOTHING) → HasCode c.args.text.now c.if-lead-ge224.len.0 c.if-lead-ge224.len.1
