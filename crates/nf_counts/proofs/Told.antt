@@ -121,43 +121,30 @@ value-row p w v is some = record {
 one_value : (p : Properties) (c : ℕ) → row_value p (c ∷ []) ≡ cond (p.class c == 0) 0 5
 one_value p c = grind (arith, nat_tests)
 
--- two or three starters
-module _ (k m n : ℕ) (a : ccc k ≡ 0) (b : ccc m ≡ 0) where
-  two_value : row_value (classes ccc) (k ∷ m ∷ []) ≡ 0
-  two_value = rw (a, b)
-
-  three_value : ccc n ≡ 0 → row_value (classes ccc) (k ∷ m ∷ n ∷ []) ≡ 0
-  three_value c = rw (a, b, c)
-
-letter : (c : ℕ) → 0x1100 ≤ c → c < 0x1200 → ccc c ≡ 0
-letter c low high = eqb-true (ccc c) 0 (class_of_jamo c low high)
-
 syllable_value : (c : ℕ) → is_syllable c ≡ true → row_value (classes ccc) (decompose_hangul c) ≡ 0
 syllable_value c syllable =
     let range = is_syllable-true c syllable in
+    let letter : (n : ℕ) → 0x1100 ≤ n → n < 0x1200 → ccc n ≡ 0 = λ n low high. eqb-true (ccc n) 0 (class_of_jamo n low high) in
     let first = letter (0x1100 + (c - 0xAC00) / 588) (omega arith) (omega arith) in
     let second = letter (0x1161 + (c - 0xAC00) % 588 / 28) (omega arith) (omega arith) in
     elim (cases_eq ((c - 0xAC00) % 28) 0) [
-      | inl none ↦ rw (decompose_hangul-two c none) (two_value _ _ 0 first second)
-      | inr some ↦ rw (decompose_hangul-three c some) (three_value _ _ _ first second (letter _ (omega arith) (omega arith)))
+      | inl none ↦ rw (decompose_hangul-two c none, first, second)
+      | inr some ↦ rw (decompose_hangul-three c some, first, second, letter (0x11A7 + (c - 0xAC00) % 28) (omega arith) (omega arith))
     ]
 
 -- the value of a row, whether it is a mapping's, a syllable's or the character alone
-abbrev stood_for : ℕ → ℕ
-stood_for c = cond (is_empty (compatibility_decomposition c)) (cond (ccc c == 0) 0 5) (row_value (classes ccc) (compatibility_decomposition c))
-
-row_told : (c : ℕ) → stood_for c ≡ row_value (classes ccc) (decompose Nfkd c)
+row_told : (c : ℕ) → value ccc true (ccc c) (compatibility_decomposition c) ≡ row_value (classes ccc) (decompose Nfkd c)
 unfolding decompose
 row_told c =
     elim (cases_Bool (is_syllable c)) [
       | inl syllable ↦
           let range = is_syllable-true c syllable in
-          let none : is_empty (compatibility_decomposition c) ≡ true = ap is_empty (table_of-full Nfkd c) ∙ is_empty-full Nfkd c ∙ entry_of_syllable c range.0 range.1 in
+          let none : is_empty (compatibility_decomposition c) ≡ true = rw (table_of-full Nfkd c, is_empty-full Nfkd c, entry_of_syllable c range.0 range.1) in
           rw (none, class_of_syllable c range.0 range.1, decompose-syllable Nfkd c syllable) (sym (syllable_value c syllable))
       | inr other ↦ next (compatibility_decomposition c) ∙ rw other
     ]
   where
-    next : (w : List ℕ) → cond (is_empty w) (cond (ccc c == 0) 0 5) (row_value (classes ccc) w) ≡ row_value (classes ccc) (or_itself c w)
+    next : (w : List ℕ) → value ccc true (ccc c) w ≡ row_value (classes ccc) (or_itself c w)
     next [] = sym (one_value (classes ccc) c)
     next (x ∷ w) = refl
 
@@ -168,5 +155,5 @@ known b n v is some = grind (arith, nat_tests)
 pub told-valued : (c : ℕ) → is_sound ucd c ≡ true → (v : ℕ) → v ≡ told c → (v == 4) ≡ false → IsValued ucd c v
 unfolding told ucd
 told-valued c sound v is some =
-    let here = known (tells c) (stood_for c) v is some in
+    let here = known (tells c) (value ccc true (ccc c) (compatibility_decomposition c)) v is some in
     record { fit = grind (arith, here); row = value-row ucd (decompose Nfkd c) v (here.1 ∙ row_told c) some }

@@ -1,4 +1,4 @@
-use Rattle.std.proofs.Common.{◌≡◌, ◌+◌, ◌-◌, refl, arith}
+use Rattle.std.proofs.Common.{◌≡◌, rules, ◌+◌, ◌-◌, refl, arith}
 use Rattle.std.proofs.lemmas.List.{get_or-drop}
 use Rattle.nf_counts.proofs.WindowLemmas.{stands, begins_at}
 use Rattle.nf_counts.proofs.scan.Scan.pass_window.Goals as goal
@@ -45,13 +45,7 @@ loop-place-preserved c =
     }
 
 pub loop-place-init : goal.loop-place-init
-loop-place-init c = record {
-  text = refl;
-  base = c.new-window.ensures.base;
-  fits = c.requires.fits;
-  left = c.new-window.ensures.left _ c.requires.asked;
-  reaches = c.requires.reaches;
-}
+loop-place-init c = search (rules, c.new-window.ensures.left _ c.requires.asked)
 
 pub returns-clause-asked : goal.returns-clause-asked
 returns-clause-asked c = λ _. rw (c.loop-place.invariant.text, ← c.loop-place.invariant.base) (c.in_default.ensures.none refl _ _ c.loop-place.invariant.left)
