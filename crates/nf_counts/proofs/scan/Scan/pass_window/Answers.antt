@@ -23,9 +23,6 @@ range_from-requires c = λ _. begins_at _ _ (c.in-Some.ensures.next _ _ c.loop-p
 pub first_character-requires-clause-high : goal.first_character-requires-clause-high
 first_character-requires-clause-high c = rw (c.range_from.ensures.value, get_or-drop) (grind (arith, (c.in-Some.ensures.next _ _ c.loop-place.invariant.left).lead))
 
-pub first_character-requires-clause-third : goal.first_character-requires-clause-third
-first_character-requires-clause-third c = λ _. rw (c.as_bytes.ensures.value, c.range_from.ensures.value, get_or-drop) refl
-
 pub loop-place-smaller : goal.loop-place-smaller
 loop-place-smaller c =
     let next = c.in-Some.ensures.next _ _ c.loop-place.invariant.left in

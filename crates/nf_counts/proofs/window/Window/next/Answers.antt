@@ -1,16 +1,27 @@
-use Rattle.std.proofs.Common.{arith, ap, ◌∙◌, w64}
-use Rattle.std.specs.Int.{bit_at}
-use Rattle.std.proofs.lemmas.Nat.Bits.{bit_at-trailing_zeros, bit_at-zero}
-use Rattle.nf_counts.proofs.WindowLemmas.{none_left, first}
+use Rattle.std.proofs.Common.{◌+◌, arith, w64}
+use Rattle.std.proofs.lemmas.Nat.Bits.{bit_at-trailing_zeros, bit_at-zero, bit_at_clear_same, bit_at_clear_other}
+use Rattle.nf_counts.proofs.WindowLemmas.{told_before}
 use Rattle.nf_counts.proofs.window.Window.next.Goals as goal
 
 pub returns-then-self-eq0-clause-none : goal.returns-then-self-eq0-clause-none
-returns-then-self-eq0-clause-none c _ text at left = none_left text at c.args.self.now left (λ i. ap (λ n. bit_at n i) c.if-self-eq0.true ∙ bit_at-zero i)
-
-pub overflow_add-result : goal.overflow_add-result
-overflow_add-result c = let place = bit_at-trailing_zeros w64 c.args.self.now.found (omega (arith, c.if-self-eq0.false)) (omega arith) in record { fits = omega (arith, place.0, c.requires) }
+returns-then-self-eq0-clause-none c _ text at left = record { told = told_before text at _ left 63 (omega arith) (λ i _. rw (c.if-self-eq0.true, bit_at-zero)); inner = left.inner }
 
 pub returns-clause-next : goal.returns-clause-next
 returns-clause-next c text at left =
-    let place = bit_at-trailing_zeros w64 c.args.self.now.found (omega (arith, c.if-self-eq0.false)) (omega arith) in
-    first text at c.args.self.now left _ place.0 place.1 place.2
+    let window = c.args.self.now in
+    let place = bit_at-trailing_zeros w64 window.found (omega (arith, c.if-self-eq0.false)) (omega arith) in
+    let here = left.leads _ place.0 place.1 in
+    let same = bit_at_clear_same w64 window.found _ place.0 in
+    let other = bit_at_clear_other w64 window.found _ place.0 in
+    record {
+      order = here.1;
+      within = omega (arith, here.0);
+      lead = here.2;
+      told = told_before text at window left _ (omega (arith, here.0)) place.2;
+      others = λ behind past inner. record {
+        before = λ k from to. absurd (omega (arith, past, from, to));
+        inner = λ k beyond. inner k (omega (arith, beyond, here.0));
+        leads = λ k small is. grind (arith, same, other k small, place.2 k, left.leads k small, inner (window.base + k));
+        told = λ k few unset from. left.told k few (grind (arith, other k)) (omega (arith, here.1, past));
+      };
+    }
