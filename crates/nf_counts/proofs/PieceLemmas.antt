@@ -1,5 +1,5 @@
 -- What a text begins with, by its bytes.
-use Rattle.std.proofs.Common.{◌≡◌, ℕ, ◌+◌, ◌*◌, ◌%◌, ◌<◌, ◌≤◌, ◌⊎◌, inl, inr, zero, suc, ◌==◌, false, List, [], ◌∷◌, ◌++◌, length, slice_index, ⊎_elim, drop, drop_at, refl, sym, ap, subst, arith, length-append, append-nil}
+use Rattle.std.proofs.Common.{◌≡◌, ℕ, ◌+◌, ◌*◌, ◌%◌, ◌<◌, ◌≤◌, ◌⊎◌, inl, inr, List, [], ◌∷◌, ◌++◌, length, slice_index, drop, drop_at, refl, sym, ap, arith, length-append, append-nil}
 use Rattle.std.specs.Prelude.{encode_utf8, encode_utf8_all}
 use Rattle.std.specs.Str.{IsUtf8, IsCharBoundary, all_scalars}
 use Rattle.std.proofs.lemmas.Str.{IsCharBoundary-at_seam}
@@ -7,22 +7,6 @@ use lib.Utf8.{scalar}
 use Rattle.std.proofs.str.Laws.{order, one, two, three, four}
 use Rattle.std.proofs.lemmas.Bool.{and_parts}
 use Rattle.nf_counts.specs.Piece.{BeginsWith}
-
-pub some_of : (n : ℕ) → (n == 0) ≡ false → 0 < n
-some_of zero e = cc
-some_of (suc n) e = omega arith
-
-pub some_bytes : (text : List ℕ) → 0 < slice_index text 0 → 0 < length text
-some_bytes [] none = none
-some_bytes (b ∷ text) _ = omega arith
-
--- a front that ends before no byte below 80 has the first, if that is one
-pub first_passed : (bytes : List ℕ) (n : ℕ) → 0 < length bytes → slice_index bytes 0 < 0x80 → (n < length bytes → 0x80 ≤ slice_index bytes n) → 0 < n
-first_passed bytes n some first stops =
-    ⊎_elim
-    (λ none. let e : n ≡ 0 = omega arith in let high : 0x80 ≤ slice_index bytes 0 = subst (λ k. 0x80 ≤ slice_index bytes k) e (stops (omega arith)) in absurd (omega arith))
-    (λ more. omega arith)
-    (order n 1)
 
 -- so many bytes there are, and there it may be cut
 module _ (text chars : List ℕ) (len : ℕ) (begins : BeginsWith text chars len) where

@@ -28,23 +28,6 @@ first_block : all_below (λ j. block_value 4 4 WORDS 0 j == 0) 64 ≡ true
 unfolding all_below block_value
 first_block = refl
 
--- so of a character that no pair finds
-pub tells : Tells LOOKS 0xC0 0x80 (λ c. told c ≡ 0)
-unfolding all_below block_value
-tells = record {
-  whole = λ b. slice_index INDEX b == 0;
-  is = λ b j. block_value 4 4 WORDS (slice_index INDEX b) j == 0;
-  of_two = refl;
-  of_three = refl;
-  of_four = refl;
-  in_block = λ b j small little zero. sym (told-block b j small little) ∙ rw (eqb-true _ 0 zero) (eqb-true _ 0 (all_below-at (λ j. block_value 4 4 WORDS 0 j == 0) 64 j first_block little));
-  in_place = λ b j small little here. sym (told-block b j small little) ∙ eqb-true _ 0 here;
-  below = told-ascii;
-  ascii = omega arith;
-  of_low = omega arith;
-  is_low = omega arith;
-}
-
 -- text of the value 0 behind such text
 value-append : (p : Properties) (w v : List ℕ) → HasValue p w 0 → HasValue p v 0 → HasValue p (w ++ v) 0
 value-append p w v first next = record {
@@ -67,13 +50,34 @@ module _ (p : Properties) where
       value-append p (p.compat c) _ (All-head is_plain c others plain).row (value-plain (d ∷ cs) (omega (arith, length-le-encodes others)) (All-tail is_plain c others plain))
 
 module _ (sound : (c : ℕ) → is_sound ucd c ≡ true) where
+  plain_of : (c : ℕ) → told c ≡ 0 → IsValued ucd c 0
+  plain_of c e = told-valued c (sound c) 0 (sym e) refl
+
+  -- so is a character that no pair finds
+  tells : Tells LOOKS 0xC0 0x80 (λ c. IsValued ucd c 0)
+  unfolding all_below block_value
+  tells = record {
+    whole = λ b. slice_index INDEX b == 0;
+    is = λ b j. block_value 4 4 WORDS (slice_index INDEX b) j == 0;
+    of_two = refl;
+    of_three = refl;
+    of_four = refl;
+    in_block = λ b j small little zero.
+        plain_of _ (sym (told-block b j small little) ∙ rw (eqb-true _ 0 zero) (eqb-true _ 0 (all_below-at (λ j. block_value 4 4 WORDS 0 j == 0) 64 j first_block little)));
+    in_place = λ b j small little here. plain_of _ (sym (told-block b j small little) ∙ eqb-true _ 0 here);
+    below = λ c low. plain_of c (told-ascii c low);
+    ascii = omega arith;
+    of_low = omega arith;
+    is_low = omega arith;
+  }
+
   -- characters of which none is looked up are a piece of the value 0
   pub plain_piece : (text : List ℕ) (len : ℕ) → IsUtf8 text → IsCharBoundary text len → 0 < len → AreLooksTold LOOKS 0xC0 text len → IsPiece ucd text record { len = len; value = 0 }
   plain_piece text len u boundary some none =
       let cs = chars (take len text) in
       let same : encode_utf8_all cs ≡ take len text = encodes-chars _ (IsUtf8-take text len u boundary) in
       let long : length (encode_utf8_all cs) ≡ len = rw same (length-take-le len text boundary.0) in
-      let plain = All-weaker (λ (d : ℕ). told d ≡ 0) (λ d. IsValued ucd d 0) (λ d e. told-valued d (sound d) 0 (sym e) refl) _ (told_front LOOKS 0xC0 0x80 (λ (d : ℕ). told d ≡ 0) tells text len len u boundary (omega arith) none) in
+      let plain = told_front _ _ _ _ tells text len len u boundary (omega arith) none in
       record {
         chars = cs;
         begins = record { rest = drop len text; split = rw (same, take-append-drop); rest_utf8 = IsUtf8-drop text len u boundary; is_long = sym long };

@@ -1,4 +1,4 @@
-use Rattle.std.proofs.Common.{◌≡◌, slice_index, ap, ⊎_elim, [], ◌∷◌, append-nil, ◌∙◌, arith}
+use Rattle.std.proofs.Common.{◌≡◌, ⊎_elim, [], ◌∷◌, append-nil, arith}
 use Rattle.std.proofs.lemmas.Bool.{ne_eqb}
 use Rattle.nf_counts.proofs.PieceLemmas.{HasCode, of_two, of_three, first_of, fits}
 use Rattle.nf_counts.proofs.piece.first_character.Goals as goal
@@ -6,26 +6,22 @@ use Rattle.nf_counts.proofs.piece.first_character.Goals.{Else-value-eq-NOTHING, 
 
 pub bounds-bytes-1 : goal.bounds-bytes-1
 bounds-bytes-1 c =
-    let value = c.as_bytes-bytes.ensures.value in
-    rw value (
+    rw c.as_bytes-bytes.ensures.value (
     ⊎_elim
     (λ two. omega (arith, fits _ _ _ two.1.begins))
     (λ three. omega (arith, fits _ _ _ three.1.begins))
-    (first_of c.args.text.now c.utf8.text c.requires.high (omega (arith, ap (λ t. slice_index t 0) value)))
+    (first_of c.args.text.now c.utf8.text c.requires.high (grind arith))
     )
 
 character : (c : Else-value-eq-NOTHING) → HasCode c.args.text.now c.if-lead-ge224.len.0 c.if-lead-ge224.len.1
 character c =
     let text = c.args.text.now in
-    let value = c.as_bytes-bytes.ensures.value in
-    let first : c.from.result ≡ slice_index text 0 = c.from.ensures ∙ ap (λ t. slice_index t 0) value in
-    let second : c.from-2.result ≡ slice_index text 1 = c.from-2.ensures ∙ ap (λ t. slice_index t 1) value in
     ⊎_elim
-    (λ two. let is : (c.if-lead-ge224.len.0 ≡ 2) × (c.if-lead-ge224.len.1 ≡ of_two text) = grind (arith, first, second, two.0) in rw (is.0, is.1) two.1)
+    (λ two. let is : (c.if-lead-ge224.len.0 ≡ 2) × (c.if-lead-ge224.len.1 ≡ of_two text) = grind (arith, two.0) in rw (is.0, is.1) two.1)
     (λ three.
-    let is : (c.if-lead-ge224.len.0 ≡ 3) × (c.if-lead-ge224.len.1 ≡ of_three text) = grind (arith, first, second, three.0, fits _ _ _ three.1.begins) in
+    let is : (c.if-lead-ge224.len.0 ≡ 3) × (c.if-lead-ge224.len.1 ≡ of_three text) = grind (arith, three.0, fits _ _ _ three.1.begins) in
     rw (is.0, is.1) three.1)
-    (first_of text c.utf8.text c.requires.high (omega (arith, ap (λ t. slice_index t 0) value)))
+    (first_of text c.utf8.text c.requires.high (grind arith))
 
 pub returns-clause-piece : goal.returns-clause-piece
 returns-clause-piece c =
