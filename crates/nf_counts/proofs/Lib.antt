@@ -1,5 +1,4 @@
 mod Told
-mod CountsLemmas
 mod PieceLemmas
 mod PlainLemmas
 mod WindowLemmas

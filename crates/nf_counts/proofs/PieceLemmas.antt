@@ -31,8 +31,10 @@ of_two text = slice_index text 0 % 32 * 64 + slice_index text 1 % 64
 abbrev pub of_three : List ℕ → ℕ
 of_three text = slice_index text 0 % 16 * 4096 + slice_index text 1 % 64 * 64 + slice_index text 2 % 64
 
-pub first_of : (text : List ℕ) → IsUtf8 text → 0x80 ≤ slice_index text 0 → slice_index text 0 < 0xF0
-    → ((slice_index text 0 < 0xE0) × HasCode text 2 (of_two text)) ⊎ ((0xE0 ≤ slice_index text 0) × HasCode text 3 (of_three text))
+abbrev HasFirst : List ℕ → Type 0
+HasFirst text = ((slice_index text 0 < 0xE0) × HasCode text 2 (of_two text)) ⊎ ((0xE0 ≤ slice_index text 0) × HasCode text 3 (of_three text))
+
+pub first_of : (text : List ℕ) → IsUtf8 text → 0x80 ≤ slice_index text 0 → slice_index text 0 < 0xF0 → HasFirst text
 first_of text ([], spells) high low = absurd (omega (arith, rw (← spells.1) at high))
 first_of text (c ∷ cs, spells) high low = within (order c 128) (order c 2048) (order c 65536)
   where
@@ -47,8 +49,7 @@ first_of text (c ∷ cs, spells) high low = within (order c 128) (order c 2048) 
     at : (k : ℕ) (bytes : List ℕ) → encode_utf8 c ≡ bytes → slice_index text k ≡ slice_index (bytes ++ encode_utf8_all cs) k
     at k bytes e = rw (← spells.1, e)
 
-    within : (c < 128) ⊎ (128 ≤ c) → (c < 2048) ⊎ (2048 ≤ c) → (c < 65536) ⊎ (65536 ≤ c)
-        → ((slice_index text 0 < 0xE0) × HasCode text 2 (of_two text)) ⊎ ((0xE0 ≤ slice_index text 0) × HasCode text 3 (of_three text))
+    within : (c < 128) ⊎ (128 ≤ c) → (c < 2048) ⊎ (2048 ≤ c) → (c < 65536) ⊎ (65536 ≤ c) → HasFirst text
     within (inl ascii) _ _ = absurd (omega (arith, high, at 0 _ (one c ascii)))
     within (inr more) (inl small) _ =
         let e = two c more small in

@@ -1,12 +1,33 @@
-use Rattle.std.proofs.Common.{refl, arith}
-use Rattle.nf_counts.proofs.CountsLemmas.{starts, goes_on}
+use Rattle.std.proofs.Common.{◌≡◌, ◌-◌, ◌%◌, true, false, cond, nat_lt, length, arith, lt-ltb, le-ltb}
+use Rattle.std.proofs.lemmas.List.Sums.{sum_by-append}
+use Rattle.nf_forms.specs.Laws.Runs.{has_starter-append, lead-append, trail-append, longest-append, lead-marks, trail-marks}
+use Rattle.nf_forms.specs.Properties.{is_nonstarter}
+use Rattle.nf_forms.specs.Runs.{has_starter, lead}
 use Rattle.nf_counts.proofs.counts.Counts.add.Goals as goal
-use Rattle.nf_counts.proofs.counts.Counts.add.Goals.{then-self, else-self}
 
 pub returns-then-value-lt4-clause-counts : goal.returns-then-value-lt4-clause-counts
 returns-then-value-lt4-clause-counts c = λ _ p w row value before.
-    starts p w row c.args.self.now _ c.args.value value before c.if-value-lt4.true (omega arith) c.max-self.ensures refl refl refl
+    let here : nat_lt c.args.value 4 ≡ true = lt-ltb c.args.value 4 c.if-value-lt4.true in
+    let row_has : has_starter p row ≡ true = cc in
+    let row_lead : 0 ≡ lead p row = rw here at value.lead in
+    record {
+      has_starter = rw (has_starter-append, row_has) (grind arith);
+      lead = grind (arith, before.lead, lead-append p w row, lead-marks p w);
+      trail = rw (trail-append, row_has) (omega (arith, value.trail));
+      longest = omega (arith, before.longest, before.trail, value.longest, longest-append p w row);
+      nonstarters = omega (arith, before.nonstarters, value.nonstarters, sum_by-append (λ d. cond (is_nonstarter p d) 1 0) w row);
+    }
 
 pub returns-clause-counts : goal.returns-clause-counts
 returns-clause-counts c = λ _ p w row value before.
-    goes_on p w row c.args.self.now _ c.args.value value before (omega arith) c.requires.value (omega arith) c.max-self-2.ensures refl (grind arith) refl
+    let here : nat_lt c.args.value 4 ≡ false = le-ltb c.args.value 4 c.if-value-lt4.false in
+    let row_has : has_starter p row ≡ false = cc in
+    let row_lead : c.args.value % 4 ≡ lead p row = rw here at value.lead in
+    let row_trail : length row ≡ c.args.value - 4 = omega (arith, trail-marks p row row_has, value.trail) in
+    record {
+      has_starter = grind (arith, before.has_starter, has_starter-append p w row);
+      lead = grind (arith, before.has_starter, before.lead, before.trail, lead-append p w row, trail-marks p w);
+      trail = grind (arith, before.trail, trail-append p w row);
+      longest = omega (arith, before.longest, before.trail, value.longest, longest-append p w row);
+      nonstarters = omega (arith, before.nonstarters, value.nonstarters, sum_by-append (λ d. cond (is_nonstarter p d) 1 0) w row);
+    }
