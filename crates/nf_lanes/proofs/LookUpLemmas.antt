@@ -1,5 +1,5 @@
 -- A table of 16 entries, read at 16 places at once.
-use Rattle.std.proofs.Common.{◌≡◌, ℕ, ◌+◌, ◌*◌, ◌/◌, ◌^◌, ◌<◌, List, map, length, get_or, replicate, bit_and, sym, ap, ◌∙◌, arith, w8, Fits, refl}
+use Rattle.std.proofs.Common.{◌≡◌, ℕ, ◌+◌, ◌*◌, ◌/◌, ◌^◌, ◌<◌, List, map, length, get_or, replicate, bit_and, arith, w8, Fits, refl}
 use Rattle.std.proofs.lemmas.List.{get_or-map, length-map, ext_get_or}
 use Rattle.std.proofs.lemmas.Nat.{and_le_r}
 use Rattle.std.proofs.lemmas.Simd.{Each1-all, Each1-weaker, Each1-zip2, Each2-splat, Each1-get_or, below_from_Fits, length-zip2, swz_l, SwzOk, SwzOk-from_below, length-swz_l, get_or-swz_l_below}
@@ -26,11 +26,11 @@ low_ok v fits =
 -- at places g x below 16
 pub looked_up : (t : List ℕ) (g : ℕ → ℕ) (v js : List ℕ) → IsBlock v → js ≡ map g v → ((x : ℕ) → x < 256 → g x < 16) → swz_l w8 16 t 0 js ≡ map (λ x. get_or t (g x) 0) v
 looked_up t g v js fits e small =
-    let long : length js ≡ 16 = ap length e ∙ length-map v g ∙ fits.0 in
-    ext_get_or 0 _ _ (length-swz_l w8 16 t 0 js ∙ long ∙ sym (length-map v (λ x. get_or t (g x) 0) ∙ fits.0)) (λ i h.
+    let long : length js ≡ 16 = rw (e, length-map, fits.0) in
+    ext_get_or 0 _ _ (rw (length-swz_l, long, length-map, fits.0)) (λ i h.
     let lt : i < 16 = omega (arith, length-swz_l w8 16 t 0 js) in
     let within : i < length v = omega (arith, fits.0) in
-    let is : get_or js i 0 ≡ g (get_or v i 0) = ap (λ l. get_or l i 0) e ∙ get_or-map g v i 0 0 within in
+    let is : get_or js i 0 ≡ g (get_or v i 0) = rw e (get_or-map g v i 0 0 within) in
     let below : get_or js i 0 < 16 = omega (arith, small (get_or v i 0) (Each1-get_or (λ a. a < 256) v i 0 within (below_from_Fits w8 v fits.1))) in
     let first : 16 * ((0 + i) / 16) + get_or js i 0 ≡ get_or js i 0 = omega arith in
-    get_or-swz_l_below w8 16 t 0 js i (omega arith) below ∙ ap (λ k. get_or t k 0) (first ∙ is) ∙ sym (get_or-map (λ x. get_or t (g x) 0) v i 0 0 within))
+    rw (get_or-swz_l_below w8 16 t 0 js i (omega arith) below, first, is, get_or-map (λ x. get_or t (g x) 0) v i 0 0 within))

@@ -1,7 +1,6 @@
-use Rattle.std.proofs.Common.{◌+◌, ℕ, Bool, get_or, bit_and, ap₂, ◌∙◌}
+use Rattle.std.proofs.Common.{◌+◌, ℕ, Bool, bit_and, ap₂, ◌∙◌}
 use Rattle.nf_lanes.specs.Lanes.{places}
 use Rattle.nf_lanes.specs.Looks.{is_in}
-use Rattle.nf_lanes.specs.Sets.{pair_sets}
 use Rattle.nf_lanes.specs.declared.sets.Pairs.{Pairs}
 use Rattle.nf_lanes.proofs.MaskLemmas.{mask_and}
 use Rattle.nf_lanes.proofs.looks.look_bits.Goals as goal
@@ -11,9 +10,4 @@ in_at t byte k = is_in t (byte k) (byte (k + 1))
 
 pub returns : goal.returns
 returns c =
-    let byte : ℕ → ℕ = λ k. get_or c.args.bytes.now k 0 in
-    let at = c.args.at in
-    ap₂ bit_and
-    (c.bits.ensures (λ k. pair_sets c.args.looks.now.first (byte k) (byte (k + 1))) at c.pair_sets.ensures)
-    (c.bits-2.ensures (λ k. pair_sets c.args.looks.now.second (byte k) (byte (k + 1))) at c.pair_sets-2.ensures)
-    ∙ mask_and (in_at c.args.looks.now.first byte) (in_at c.args.looks.now.second byte) (places at)
+    ap₂ bit_and (c.bits.ensures _ c.args.at c.pair_sets.ensures) (c.bits-2.ensures _ c.args.at c.pair_sets-2.ensures) ∙ mask_and _ _ (places c.args.at)

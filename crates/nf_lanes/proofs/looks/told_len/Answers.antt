@@ -1,4 +1,4 @@
-use Rattle.std.proofs.Common.{◌≡◌, ◌+◌, ◌-◌, true, subst, arith}
+use Rattle.std.proofs.Common.{◌≡◌, ◌+◌, ◌-◌, arith}
 use Rattle.nf_lanes.specs.Looks.{finds_at}
 use Rattle.nf_lanes.proofs.looks.told_len.Goals as goal
 use Rattle.nf_lanes.proofs.looks.told_len.Goals.{else-loop-end-test, then-loop-end-test+then-run-lt-LANES}
@@ -6,9 +6,9 @@ use Rattle.nf_lanes.proofs.looks.told_len.Goals.{else-loop-end-test, then-loop-e
 pub returns-clause-stops : goal.returns-clause-stops
 returns-clause-stops c = λ room.
     elim c.loop-end-test.branch [
-      | else-loop-end-test w ↦ absurd (omega (arith, room, w.loop-end-test.false, w.end-is, c.loop-end.invariant.from, c.loop-end.invariant.within))
+      | else-loop-end-test w ↦ absurd (omega arith)
       | then-loop-end-test+then-run-lt-LANES w ↦
           let stops = (w.before-run.ensures (finds_at c.args.looks.now c.args.bytes.now) c.loop-end.end w.look_bits.ensures).stops w.if-run-lt-LANES.true in
-          let same : c.loop-end.end + w.before-run.result ≡ c.args.at + (c.loop-end-test.end - c.args.at) = omega (arith, w.end-is, c.loop-end.invariant.from) in
-          subst (λ n. finds_at c.args.looks.now c.args.bytes.now n ≡ true) same stops
+          let same : c.loop-end.end + w.before-run.result ≡ c.args.at + (c.loop-end-test.end - c.args.at) = omega arith in
+          rw same at stops
     ]

@@ -1,4 +1,4 @@
-use Rattle.std.proofs.Common.{◌/◌, get_or, bit_and, arith}
+use Rattle.std.proofs.Common.{◌/◌, bit_and, arith}
 use Rattle.std.proofs.lemmas.Nat.{and_le_r}
 use Rattle.std.proofs.lemmas.Simd.{zip2_splat, zip2_of_maps}
 use Rattle.nf_lanes.proofs.LookUpLemmas.{down, high_ok, low_ok, looked_up}
@@ -15,4 +15,4 @@ returns c =
     let v = c.args.lanes in
     let by_high = looked_up c.args.high.now (λ x. x / 16) v _ c.fits-lanes (zip2_splat down v 16 4 c.fits-lanes.0) (λ x h. omega arith) in
     let by_low = looked_up c.args.low.now (λ x. bit_and x 15) v _ c.fits-lanes (zip2_splat bit_and v 16 15 c.fits-lanes.0) (λ x h. omega (arith, and_le_r x 15)) in
-    zip2_of_maps bit_and (λ x. get_or c.args.high.now (x / 16) 0) (λ x. get_or c.args.low.now (bit_and x 15) 0) v by_high by_low
+    zip2_of_maps bit_and _ _ v by_high by_low

@@ -1,13 +1,8 @@
-use Rattle.std.proofs.Common.{ℕ, get_or, bit_and, ◌+◌, ◌∙◌}
+use Rattle.std.proofs.Common.{bit_and, ◌∙◌}
 use Rattle.std.proofs.lemmas.Simd.{zip2_of_maps}
 use Rattle.nf_lanes.specs.Lanes.{places}
-use Rattle.nf_lanes.specs.Sets.{byte_sets}
 use Rattle.nf_lanes.proofs.PlacesLemmas.{places_behind}
 use Rattle.nf_lanes.proofs.sets.pair_sets.Goals as goal
 
 pub returns : goal.returns
-returns c =
-    let t = c.args.pairs.now in
-    let first = λ (k : ℕ). byte_sets t.first_high t.first_low (get_or c.args.bytes.now k 0) in
-    let next = λ (k : ℕ). byte_sets t.next_high t.next_low (get_or c.args.bytes.now k 0) in
-    zip2_of_maps bit_and first (λ k. next (k + 1)) (places c.args.at) c.byte_sets-first.ensures (c.byte_sets-next.ensures ∙ places_behind next c.args.at 1)
+returns c = zip2_of_maps bit_and _ _ (places c.args.at) c.byte_sets-first.ensures (c.byte_sets-next.ensures ∙ places_behind _ c.args.at 1)
