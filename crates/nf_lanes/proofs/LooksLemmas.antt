@@ -1,5 +1,5 @@
 -- What pairs of bytes tell of a text is so.
-use Rattle.std.proofs.Common.{◌≡◌, ℕ, ◌+◌, ◌*◌, ◌/◌, ◌%◌, ◌<◌, ◌≤◌, ◌⊎◌, ⊎_elim, inl, inr, Bool, true, false, nat_lt, List, [], ◌∷◌, ◌++◌, length, take, drop, arith, length-append, append_assoc, add_assoc, take-append-drop, length-take-le}
+use Rattle.std.proofs.Common.{◌≡◌, ℕ, ◌+◌, ◌*◌, ◌/◌, ◌%◌, ◌<◌, ◌≤◌, ◌⊎◌, inl, inr, Bool, true, false, nat_lt, List, [], ◌∷◌, ◌++◌, length, take, drop, arith, length-append, append_assoc, add_assoc, take-append-drop, length-take-le}
 use Rattle.std.specs.Prelude.{All, chars, encode_utf8, encode_utf8_all, IsUtf8}
 use Rattle.std.specs.Str.{all_scalars, IsCharBoundary}
 use lib.Utf8.{scalar, scalar_cases}
@@ -62,12 +62,6 @@ module _ (t : Looks) (least low : ℕ) (P : ℕ → Type 0) (tells : Tells t lea
       let here = all_below-at _ 64 i (all_below-at (λ k. all_below (three_told t tells.whole tells.is k) 64) 16 k tells.of_three short) little in
       grind (arith, nat_tests, tells.in_block b j, tells.in_place b j, all_below-at (third_told t tells.whole tells.is b) 64 j)
 
-  by_four : (k i : ℕ) → k < 5 → i < 64 → finds t (240 + k) (128 + i) ≡ true
-  by_four k i short little = all_below-at (λ i. finds t (240 + k) (128 + i)) 64 i (all_below-at (four_looked_up t) 5 k tells.of_four short) little
-
-  shorter : (bytes : List ℕ) (n m : ℕ) → n ≤ m → AreTold t least bytes m → AreTold t least bytes n
-  shorter bytes n m short told k inside high = let here = told k (omega arith) high in (here.0, λ three more. here.1 three (omega arith))
-
   -- a character that stands at the front of these bytes
   by_told : (c : ℕ) (more : List ℕ) → c < 1114112 → AreTold t least (encode_utf8 c ++ more) (length (encode_utf8 c)) → P c
   by_told c more scalar told = at (order c low) (order c 2048) (order c 65536)
@@ -84,12 +78,12 @@ module _ (t : Looks) (least low : ℕ) (P : ℕ → Type 0) (tells : Tells t lea
           rw is at (by_three (c / 4096) (c / 64 % 64) (c % 64) (omega arith) (omega arith) (omega arith) (omega (arith, is)) here.0 (here.1 (omega arith) (omega arith)))
       at (inr some) (inr _) (inr large) =
           let here = (rw (four c large) at told) 0 (omega arith) (omega (arith, tells.is_low)) in
-          let found = by_four (c / 262144) (c / 4096 % 64) (omega arith) (omega arith) in
+          let found = all_below-at (λ i. finds t (240 + c / 262144) (128 + i)) 64 (c / 4096 % 64) (all_below-at (four_looked_up t) 5 (c / 262144) tells.of_four (omega arith)) (omega arith) in
           cc
 
-  -- behind a piece
-  told_behind : (piece rest : List ℕ) (n : ℕ) → AreTold t least (piece ++ rest) (length piece + n) → AreTold t least rest n
-  told_behind piece rest n told k inside high =
+  -- of so many behind a piece
+  told_behind : (piece rest : List ℕ) (n m : ℕ) → length piece + n ≤ m → AreTold t least (piece ++ rest) m → AreTold t least rest n
+  told_behind piece rest n m short told k inside high =
       let here = (simp (add_assoc, get_or-append-add) at (told (length piece + k))) (omega arith) high in
       (here.0, λ three more. simp add_assoc (here.1 three (omega arith)))
 
@@ -97,14 +91,13 @@ module _ (t : Looks) (least low : ℕ) (P : ℕ → Type 0) (tells : Tells t lea
   told_chars [] more scalars told = All-nil P
   told_chars (c ∷ cs) more scalars told =
       let both = and_parts (scalar c) (all_scalars cs) scalars in
-      let fits : c < 1114112 = ⊎_elim (λ low. omega arith) (λ high. high.1) (scalar_cases c both.0) in
+      let fits : c < 1114112 = grind (arith, scalar_cases c) in
       let here = rw (append_assoc, length-append) at told in
-      All-cons P c cs (by_told c _ fits (shorter _ _ _ (omega arith) here)) (told_chars cs more both.1 (told_behind _ _ _ here))
+      All-cons P c cs (by_told c _ fits (told_behind [] _ _ _ (omega arith) here)) (told_chars cs more both.1 (told_behind (encode_utf8 c) _ _ _ (omega arith) here))
 
   -- a front that ends between two characters
   pub told_front : (text : List ℕ) (n m : ℕ) → IsUtf8 text → IsCharBoundary text n → n ≤ m → AreTold t least text m → All P (chars (take n text))
   told_front text n m u boundary short told =
-      let front = take n text in
       let front_utf8 = IsUtf8-take text n u boundary in
-      told_chars (chars front) (drop n text) (scalars-chars front front_utf8)
-      (rw (encodes-chars front front_utf8, take-append-drop n text, length-take-le n text boundary.0) (shorter text n m short told))
+      told_chars _ (drop n text) (scalars-chars _ front_utf8)
+      (rw (encodes-chars (take n text) front_utf8, take-append-drop n text, length-take-le n text boundary.0) (told_behind [] text n m (omega arith) told))
