@@ -1,7 +1,6 @@
 -- 16 places, what is read from them, and the first whose bit is set.
-use Rattle.std.proofs.Common.{◌≡◌, ℕ, zero, suc, ◌+◌, ◌-◌, ◌*◌, ◌<◌, ◌≤◌, ⊎_elim, Bool, false, not, cond, List, ◌∷◌, map, length, get_or, eqb, refl, sym, ap, ◌∙◌, arith}
+use Rattle.std.proofs.Common.{◌≡◌, ℕ, zero, suc, ◌+◌, ◌-◌, ◌*◌, ◌<◌, ◌≤◌, Bool, false, not, cond, List, map, length, get_or, eqb, refl, sym, ap, ◌∙◌, arith}
 use Rattle.std.specs.List.{prefix_len, range_with_len}
-use Rattle.std.proofs.str.Laws.{order}
 use Rattle.std.proofs.lemmas.List.Sums.{prefix_len-le-length, prefix_len_passes, prefix_len_stops}
 use Rattle.std.specs.Int.{bit_at}
 use Rattle.std.proofs.lemmas.List.{get_or-map, length-map}
@@ -30,7 +29,7 @@ range_behind : {V : Type 0} (h : ℕ → V) (at n len : ℕ) → map h (range_wi
 range_behind h at n zero = refl
 range_behind h at n (suc len) =
     let next : at + n + 1 ≡ at + 1 + n = omega arith in
-    ap (λ m. h (at + n) ∷ map h (range_with_len m len)) next ∙ ap (λ t. h (at + n) ∷ t) (range_behind h (at + 1) n len)
+    rw (next, range_behind h (at + 1) n len)
 
 pub places_behind : {V : Type 0} (h : ℕ → V) (at n : ℕ) → map h (places (at + n)) ≡ map (λ k. h (k + n)) (places at)
 unfolding places
@@ -40,19 +39,16 @@ module _ (p : ℕ → Bool) (at found : ℕ) (is : found ≡ bits_at p at) where
   -- how many stand before the first whose bit is set
   pub stops_at : (run : ℕ) → run ≡ cond (eqb found 0) 16 (count_trailing_zeros 64 found) → StopsAt p at run
   stops_at run counted = record {
-    within = omega (arith, run_is, long, prefix_len-le-length fails (places at));
-    none = λ k low high. grind (arith, run_is, get_or-places at (k - at), prefix_len_passes fails (places at) (k - at) 0, prefix_len-le-length fails (places at), long);
-    stops = λ short. grind (arith, run_is, long, get_or-places at run, prefix_len_stops fails (places at) 0);
+    within = omega (arith, run_is, length-places at, prefix_len-le-length fails (places at));
+    none = λ k low high. grind (arith, run_is, length-places at, get_or-places at (k - at), prefix_len-le-length fails (places at), prefix_len_passes fails (places at) (k - at) 0);
+    stops = λ short. grind (arith, run_is, length-places at, get_or-places at run, prefix_len_stops fails (places at) 0);
   }
     where
       fails : ℕ → Bool
       fails k = not (p k)
 
-      long : length (places at) ≡ 16
-      long = length-places at
-
       run_is : run ≡ prefix_len fails (places at)
-      run_is = rw is at counted ∙ first_set_mask_l p (places at) 16 long (omega arith)
+      run_is = rw is at counted ∙ first_set_mask_l p (places at) 16 (length-places at) (omega arith)
 
   pub none_from_zero : found ≡ 0 → NonePass p at 16
   none_from_zero none = (stops_at 16 (rw none refl)).none
@@ -64,9 +60,6 @@ module _ (p : ℕ → Bool) (at found : ℕ) (is : found ≡ bits_at p at) where
       clear : (from n : ℕ) → NonePass p from n → mask_l (map p (range_with_len from n)) ≡ 0
       clear from zero none = refl
       clear from (suc n) none = rw (none from (omega arith) (omega arith), clear (from + 1) n (λ k low high. none k (omega arith) (omega arith)))
-
-pub NonePass-join : (p : ℕ → Bool) (at m n : ℕ) → NonePass p at m → NonePass p (at + m) n → NonePass p at (m + n)
-NonePass-join p at m n first second k low high = ⊎_elim (first k low) (λ behind. second k behind (omega arith)) (order k (at + m))
 
 pub bits_at-below : (p : ℕ → Bool) (at : ℕ) → bits_at p at < 65536
 bits_at-below p at = rw (length-map, length-places at) at (mask_l-lt (map p (places at)))
