@@ -1,5 +1,5 @@
 -- What a text begins with, by its bytes.
-use Rattle.std.proofs.Common.{◌≡◌, ℕ, ◌+◌, ◌*◌, ◌%◌, ◌<◌, ◌≤◌, ◌⊎◌, inl, inr, List, [], ◌∷◌, ◌++◌, length, slice_index, drop, drop_at, refl, sym, ap, arith, length-append, append-nil}
+use Rattle.std.proofs.Common.{◌≡◌, ℕ, ◌+◌, ◌*◌, ◌%◌, ◌<◌, ◌≤◌, ◌⊎◌, inl, inr, List, [], ◌∷◌, ◌++◌, length, slice_index, drop, drop_at, refl, sym, arith, append-nil}
 use Rattle.std.specs.Prelude.{encode_utf8, encode_utf8_all}
 use Rattle.std.specs.Str.{IsUtf8, IsCharBoundary, all_scalars}
 use Rattle.std.proofs.lemmas.Str.{IsCharBoundary-at_seam}
@@ -8,11 +8,8 @@ use Rattle.std.proofs.str.Laws.{order, one, two, three, four}
 use Rattle.std.proofs.lemmas.Bool.{and_parts}
 use Rattle.nf_counts.specs.Piece.{BeginsWith}
 
--- so many bytes there are, and there it may be cut
+-- there it may be cut
 module _ (text chars : List ℕ) (len : ℕ) (begins : BeginsWith text chars len) where
-  pub fits : len ≤ length text
-  fits = omega (arith, begins.is_long, ap length begins.split, length-append (encode_utf8_all chars) begins.rest)
-
   pub boundary : IsCharBoundary text len
   boundary = rw begins.is_long (IsCharBoundary-at_seam text (encode_utf8_all chars) begins.rest begins.split begins.rest_utf8)
 
@@ -25,15 +22,17 @@ pub record HasCode (text : List ℕ) (n code : ℕ) : Type 0 where
   pub some : 0 < n
   pub one : (k : ℕ) → 0 < k → k < n → slice_index text k < 0xC0
 
-abbrev pub of_two : List ℕ → ℕ
-of_two text = slice_index text 0 % 32 * 64 + slice_index text 1 % 64
+-- what two bytes, or three, spell
+abbrev pub two_spell : List ℕ → ℕ
+two_spell text = slice_index text 0 % 32 * 64 + slice_index text 1 % 64
 
-abbrev pub of_three : List ℕ → ℕ
-of_three text = slice_index text 0 % 16 * 4096 + slice_index text 1 % 64 * 64 + slice_index text 2 % 64
+abbrev pub three_spell : List ℕ → ℕ
+three_spell text = slice_index text 0 % 16 * 4096 + slice_index text 1 % 64 * 64 + slice_index text 2 % 64
 
 abbrev HasFirst : List ℕ → Type 0
-HasFirst text = ((slice_index text 0 < 0xE0) × HasCode text 2 (of_two text)) ⊎ ((0xE0 ≤ slice_index text 0) × HasCode text 3 (of_three text))
+HasFirst text = ((slice_index text 0 < 0xE0) × HasCode text 2 (two_spell text)) ⊎ ((0xE0 ≤ slice_index text 0) × HasCode text 3 (three_spell text))
 
+-- from a byte on that is not ASCII, nor begins four
 pub first_of : (text : List ℕ) → IsUtf8 text → 0x80 ≤ slice_index text 0 → slice_index text 0 < 0xF0 → HasFirst text
 first_of text ([], spells) high low = absurd (omega (arith, rw (← spells.1) at high))
 first_of text (c ∷ cs, spells) high low = within (order c 128) (order c 2048) (order c 65536)
@@ -53,10 +52,10 @@ first_of text (c ∷ cs, spells) high low = within (order c 128) (order c 2048) 
     within (inl ascii) _ _ = absurd (omega (arith, high, at 0 _ (one c ascii)))
     within (inr more) (inl small) _ =
         let e = two c more small in
-        let is : c ≡ of_two text = omega (arith, at 0 _ e, at 1 _ e) in
+        let is : c ≡ two_spell text = omega (arith, at 0 _ e, at 1 _ e) in
         inl (omega (arith, at 0 _ e), record { begins = rw (e, is) at begins; some = omega arith; one = λ k above below. grind (arith, at 1 _ e) })
     within (inr _) (inr more) (inl small) =
         let e = three c more small in
-        let is : c ≡ of_three text = omega (arith, at 0 _ e, at 1 _ e, at 2 _ e) in
+        let is : c ≡ three_spell text = omega (arith, at 0 _ e, at 1 _ e, at 2 _ e) in
         inr (omega (arith, at 0 _ e), record { begins = rw (e, is) at begins; some = omega arith; one = λ k above below. grind (arith, order k 2, at 1 _ e, at 2 _ e) })
     within (inr _) (inr _) (inr more) = absurd (omega (arith, low, at 0 _ (four c more)))

@@ -10,13 +10,12 @@ split_at-requires c = rw (c.pass_all.ensures.text, c.new-scan.ensures.text) at (
 pub returns : goal.returns
 returns c =
     let here = c.pass_all.ensures.reaches in
-    let text = c.args.text.now in
     let end = c.pass_all.new.self.at in
     let begins = rw (c.pass_all.ensures.text, c.new-scan.ensures.text) at here.begins in
     let front = encode_utf8_all here.front in
     let is : c.split_at.result.0.now ≡ front = c.split_at.ensures.front ∙ rw begins.split (take_at front begins.rest end (sym begins.is_long)) in
     let behind : c.split_at.result.1.now ≡ begins.rest = c.split_at.ensures.back ∙ rest_is _ _ _ begins in
-    let chars_are : here.front ≡ chars c.split_at.result.0.now = chars_from_encodes here.front c.split_at.result.0.now (rw c.split_at.ensures.front (IsUtf8-take text end c.utf8.text (boundary _ _ _ begins))) (sym is) in
+    let chars_are : here.front ≡ chars c.split_at.result.0.now = chars_from_encodes here.front c.split_at.result.0.now (rw c.split_at.ensures.front (IsUtf8-take _ end c.utf8.text (boundary _ _ _ begins))) (sym is) in
     record {
       split = rw (is, behind) begins.split;
       fit = rw (← chars_are) here.fit;

@@ -1,6 +1,6 @@
 use Rattle.std.proofs.Common.{◌≡◌, ⊎_elim, [], ◌∷◌, append-nil, arith}
 use Rattle.std.proofs.lemmas.Bool.{ne_eqb}
-use Rattle.nf_counts.proofs.PieceLemmas.{HasCode, of_two, of_three, first_of, fits}
+use Rattle.nf_counts.proofs.PieceLemmas.{HasCode, two_spell, three_spell, first_of, boundary}
 use Rattle.nf_counts.proofs.piece.first_character.Goals as goal
 use Rattle.nf_counts.proofs.piece.first_character.Goals.{Else-value-eq-NOTHING, then-lead-ge224, else-lead-ge224}
 
@@ -8,8 +8,8 @@ pub bounds-bytes-1 : goal.bounds-bytes-1
 bounds-bytes-1 c =
     rw c.as_bytes-bytes.ensures.value (
     ⊎_elim
-    (λ two. omega (arith, fits _ _ _ two.1.begins))
-    (λ three. omega (arith, fits _ _ _ three.1.begins))
+    (λ two. omega (arith, (boundary _ _ _ two.1.begins).0))
+    (λ three. omega (arith, (boundary _ _ _ three.1.begins).0))
     (first_of c.args.text.now c.utf8.text c.requires.high (grind arith))
     )
 
@@ -17,9 +17,9 @@ character : (c : Else-value-eq-NOTHING) → HasCode c.args.text.now c.if-lead-ge
 character c =
     let text = c.args.text.now in
     ⊎_elim
-    (λ two. let is : (c.if-lead-ge224.len.0 ≡ 2) × (c.if-lead-ge224.len.1 ≡ of_two text) = grind (arith, two.0) in rw (is.0, is.1) two.1)
+    (λ two. let is : (c.if-lead-ge224.len.0 ≡ 2) × (c.if-lead-ge224.len.1 ≡ two_spell text) = grind (arith, two.0) in rw (is.0, is.1) two.1)
     (λ three.
-    let is : (c.if-lead-ge224.len.0 ≡ 3) × (c.if-lead-ge224.len.1 ≡ of_three text) = grind (arith, three.0, fits _ _ _ three.1.begins) in
+    let is : (c.if-lead-ge224.len.0 ≡ 3) × (c.if-lead-ge224.len.1 ≡ three_spell text) = grind (arith, three.0, (boundary _ _ _ three.1.begins).0) in
     rw (is.0, is.1) three.1)
     (first_of text c.utf8.text c.requires.high (grind arith))
 

@@ -7,5 +7,5 @@ returns c = λ p room. record {
   split = refl;
   fit = rw chars-nil;
   counts = rw chars-nil (c.new.ensures.counts p);
-  leads = omega (arith, c.new.ensures.lead);
+  leads = omega arith;
 }

@@ -9,6 +9,6 @@ returns-clause-reaches c = λ room. record {
   begins = record { rest = c.args.text.now; split = refl; rest_utf8 = c.utf8.text; is_long = refl };
   fit = refl;
   counts = c.new.ensures.counts ucd;
-  few = omega (arith, c.new.ensures.none);
-  leads = omega (arith, c.new.ensures.lead);
+  few = omega arith;
+  leads = omega arith;
 }

@@ -17,10 +17,10 @@ returns-clause-reaches c =
         rest = piece.begins.rest;
         split = rw (encodes-append, append_assoc, ← piece.begins.split, rest_is _ _ _ here.begins) here.begins.split;
         rest_utf8 = piece.begins.rest_utf8;
-        is_long = rw (encodes-append, length-append) (omega (arith, here.begins.is_long, piece.begins.is_long));
+        is_long = rw (encodes-append, length-append) (omega arith);
       };
       fit = rw (list_all-append, here.fit, piece.fit);
       counts = rw decomposed-append (c.add.ensures.counts c.if-not-add.false ucd _ _ piece.row here.counts);
-      few = omega (arith, here.few, piece.some);
+      few = omega arith;
       leads = c.add.ensures.room;
     }

@@ -26,7 +26,7 @@ first_character-requires-clause-high c = rw (c.range_from.ensures.value, get_or-
 pub loop-place-smaller : goal.loop-place-smaller
 loop-place-smaller c =
     let next = c.in-Some.ensures.next _ _ c.loop-place.invariant.left in
-    omega (arith, next.order, stands c.args.self.now.text.now c.in-Some.place next.lead, c.pass.ensures.further c.if-not-pass.false, c.in-Some-first_character.ensures.piece.some)
+    omega (arith, stands c.args.self.now.text.now c.in-Some.place next.lead, c.pass.ensures.further c.if-not-pass.false, c.in-Some-first_character.ensures.piece.some)
 
 pub loop-place-preserved : goal.loop-place-preserved
 loop-place-preserved c =
@@ -35,7 +35,6 @@ loop-place-preserved c =
     record {
       text = cc;
       base = cc;
-      fits = c.loop-place.invariant.fits;
       left = (c.in-Some.ensures.next _ _ c.loop-place.invariant.left).others _ (omega (arith, c.in-Some-first_character.ensures.piece.some)) (λ k above below.
           grind (arith, one (k - c.in-Some.place), get_or-drop c.in-Some.place c.args.self.now.text.now (k - c.in-Some.place) 0));
       reaches = c.pass.ensures.reaches;

@@ -1,4 +1,4 @@
-use Rattle.std.proofs.Common.{◌≡◌, ◌+◌, ◌-◌, ◌<◌, length}
+use Rattle.std.proofs.Common.{◌≡◌, ◌-◌, length}
 use Rattle.nf_forms.specs.Ucd.{ucd}
 use Rattle.nf_counts.specs.Scan.{Reaches}
 use Rattle.nf_counts.specs.Window.{AreLeft}
@@ -8,7 +8,6 @@ abbrev pub invariant-loop-place : goal.invariant-loop-place
 invariant-loop-place l = record {
   text : l.self.text.now ≡ l.text;
   base : l.window.base ≡ l.base;
-  fits : l.base + 64 < length l.text;
   left : AreLeft l.text l.self.at l.window;
   reaches : Reaches ucd l.room l.self;
 }
