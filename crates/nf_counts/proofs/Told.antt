@@ -118,9 +118,6 @@ value-row p w v is some = record {
   nonstarters = grind (arith, nat_tests);
 }
 
-one_value : (p : Properties) (c : ℕ) → row_value p (c ∷ []) ≡ cond (p.class c == 0) 0 5
-one_value p c = grind (arith, nat_tests)
-
 syllable_value : (c : ℕ) → is_syllable c ≡ true → row_value (classes ccc) (decompose_hangul c) ≡ 0
 syllable_value c syllable =
     let range = is_syllable-true c syllable in
@@ -145,7 +142,7 @@ row_told c =
     ]
   where
     next : (w : List ℕ) → value ccc true (ccc c) w ≡ row_value (classes ccc) (or_itself c w)
-    next [] = sym (one_value (classes ccc) c)
+    next [] = grind (arith, nat_tests)
     next (x ∷ w) = refl
 
 -- so a value other than 4 tells of the character
