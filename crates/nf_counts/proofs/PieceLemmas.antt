@@ -19,7 +19,6 @@ module _ (text chars : List ℕ) (len : ℕ) (begins : BeginsWith text chars len
 -- it begins with this code point, in so many bytes
 pub record HasCode (text : List ℕ) (n code : ℕ) : Type 0 where
   pub begins : BeginsWith text (code ∷ []) n
-  pub some : 0 < n
   pub one : (k : ℕ) → 0 < k → k < n → slice_index text k < 0xC0
 
 -- what two bytes, or three, spell
@@ -53,9 +52,9 @@ first_of text (c ∷ cs, spells) high low = within (order c 128) (order c 2048) 
     within (inr more) (inl small) _ =
         let e = two c more small in
         let is : c ≡ two_spell text = omega (arith, at 0 _ e, at 1 _ e) in
-        inl (omega (arith, at 0 _ e), record { begins = rw (e, is) at begins; some = omega arith; one = λ k above below. grind (arith, at 1 _ e) })
+        inl (omega (arith, at 0 _ e), record { begins = rw (e, is) at begins; one = λ k above below. grind (arith, at 1 _ e) })
     within (inr _) (inr more) (inl small) =
         let e = three c more small in
         let is : c ≡ three_spell text = omega (arith, at 0 _ e, at 1 _ e, at 2 _ e) in
-        inr (omega (arith, at 0 _ e), record { begins = rw (e, is) at begins; some = omega arith; one = λ k above below. grind (arith, order k 2, at 1 _ e, at 2 _ e) })
+        inr (omega (arith, at 0 _ e), record { begins = rw (e, is) at begins; one = λ k above below. grind (arith, order k 2, at 1 _ e, at 2 _ e) })
     within (inr _) (inr _) (inr more) = absurd (omega (arith, low, at 0 _ (four c more)))

@@ -30,7 +30,7 @@ returns-clause-piece c =
     record {
       chars = c.if-lead-ge224.len.1 ∷ [];
       begins = here.begins;
-      some = here.some;
+      some = grind arith;
       within = c.value-value.ensures.within;
       fit = rw valued.fit;
       row = rw append-nil valued.row;

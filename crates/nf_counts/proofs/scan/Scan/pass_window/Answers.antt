@@ -30,13 +30,15 @@ loop-place-smaller c =
 
 pub loop-place-preserved : goal.loop-place-preserved
 loop-place-preserved c =
-    let there : c.pass.new.self.at ≡ c.in-Some.place + c.in-Some-first_character.character.len = omega (arith, c.pass.ensures.further c.if-not-pass.false) in
-    let one = rw (c.range_from.ensures.value) at c.in-Some-first_character.ensures.one in
+    let text = c.args.self.now.text.now in
+    let place = c.in-Some.place in
+    let character = c.in-Some-first_character.ensures in
+    let there : c.pass.new.self.at ≡ place + c.in-Some-first_character.character.len = omega (arith, c.pass.ensures.further c.if-not-pass.false) in
+    let one = rw c.range_from.ensures.value at character.one in
     record {
       text = cc;
       base = cc;
-      left = (c.in-Some.ensures.next _ _ c.loop-place.invariant.left).others _ (omega (arith, c.in-Some-first_character.ensures.piece.some)) (λ k above below.
-          grind (arith, one (k - c.in-Some.place), get_or-drop c.in-Some.place c.args.self.now.text.now (k - c.in-Some.place) 0));
+      left = (c.in-Some.ensures.next _ _ c.loop-place.invariant.left).others _ (omega (arith, character.piece.some)) (λ k above below. grind (arith, one (k - place), get_or-drop place text (k - place) 0));
       reaches = c.pass.ensures.reaches;
     }
 
