@@ -23,11 +23,6 @@ use Rattle.nf_counts.specs.declared.pairs.TheConstants.{LOOKS}
 use Rattle.nf_counts.specs.declared.rows.TheConstants.{INDEX, WORDS}
 use Rattle.nf_counts.proofs.Told.{told, told-ascii, told-valued, told-block}
 
--- the first block is of 0 alone
-first_block : all_below (λ j. block_value 4 4 WORDS 0 j == 0) 64 ≡ true
-unfolding all_below block_value
-first_block = refl
-
 -- text of the value 0 behind such text
 value-append : (p : Properties) (w v : List ℕ) → HasValue p w 0 → HasValue p v 0 → HasValue p (w ++ v) 0
 value-append p w v first next = record {
@@ -62,8 +57,9 @@ module _ (sound : (c : ℕ) → is_sound ucd c ≡ true) where
     of_two = refl;
     of_three = refl;
     of_four = refl;
+    -- the first block is of 0 alone
     in_block = λ b j small little zero.
-        plain_of _ (sym (told-block b j small little) ∙ rw (eqb-true _ 0 zero) (eqb-true _ 0 (all_below-at (λ j. block_value 4 4 WORDS 0 j == 0) 64 j first_block little)));
+        plain_of _ (sym (told-block b j small little) ∙ rw (eqb-true _ 0 zero) (eqb-true _ 0 (all_below-at (λ j. block_value 4 4 WORDS 0 j == 0) 64 j refl little)));
     in_place = λ b j small little here. plain_of _ (sym (told-block b j small little) ∙ eqb-true _ 0 here);
     below = λ c low. plain_of c (told-ascii c low);
     ascii = omega arith;
