@@ -101,22 +101,13 @@ word-told code small = told-block (code / 64) (code % 64) (omega arith) (omega a
 -- ---- what a value tells
 
 -- a value is below 8
-row_value-small : (p : Properties) (w : List ℕ) → row_value p w < 8
-row_value-small p w = grind (arith, nat_tests)
-
 pub told-small : (c : ℕ) → told c < 8
 unfolding told
-told-small c = grind (arith, row_value-small (classes ccc) (compatibility_decomposition c))
+told-small c = grind (arith, nat_tests)
 
 -- a row of starters, and behind them so many non-starters
 value-row : (p : Properties) (w : List ℕ) (v : ℕ) → v ≡ row_value p w → (v == 4) ≡ false → HasValue p w v
-value-row p w v is some = record {
-  has_starter = grind (arith, nat_tests);
-  lead = grind (arith, nat_tests);
-  trail = grind (arith, nat_tests);
-  longest = grind (arith, nat_tests);
-  nonstarters = grind (arith, nat_tests);
-}
+value-row p w v is some = grind (arith, nat_tests)
 
 syllable_value : (c : ℕ) → is_syllable c ≡ true → row_value (classes ccc) (decompose_hangul c) ≡ 0
 syllable_value c syllable =
