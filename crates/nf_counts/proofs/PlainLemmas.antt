@@ -25,13 +25,8 @@ use Rattle.nf_counts.proofs.Told.{told, told-ascii, told-valued, told-block}
 
 -- text of the value 0 behind such text
 value-append : (p : Properties) (w v : List ℕ) → HasValue p w 0 → HasValue p v 0 → HasValue p (w ++ v) 0
-value-append p w v first next = record {
-  has_starter = rw (has_starter-append, ← first.has_starter);
-  lead = rw (lead-append, ← first.has_starter) first.lead;
-  trail = rw (trail-append, ← next.has_starter) next.trail;
-  longest = omega (arith, first.longest, next.longest, first.trail, next.lead, longest-append p w v);
-  nonstarters = omega (arith, first.nonstarters, next.nonstarters, sum_by-append (λ d. cond (is_nonstarter p d) 1 0) w v);
-}
+value-append p w v first next =
+    grind (arith, has_starter-append p w v, lead-append p w v, trail-append p w v, longest-append p w v, sum_by-append (λ d. cond (is_nonstarter p d) 1 0) w v)
 
 module _ (p : Properties) where
   abbrev is_plain : ℕ → Type 0

@@ -10,13 +10,7 @@ returns-then-value-lt4-clause-counts c = λ _ p w row value before.
     let here : nat_lt c.args.value 4 ≡ true = lt-ltb c.args.value 4 c.if-value-lt4.true in
     let row_has : has_starter p row ≡ true = cc in
     let row_lead : 0 ≡ lead p row = rw here at value.lead in
-    record {
-      has_starter = rw (has_starter-append, row_has) (grind arith);
-      lead = grind (arith, before.lead, lead-append p w row, lead-marks p w);
-      trail = rw (trail-append, row_has) (omega (arith, value.trail));
-      longest = omega (arith, before.longest, before.trail, value.longest, longest-append p w row);
-      nonstarters = omega (arith, before.nonstarters, value.nonstarters, sum_by-append (λ d. cond (is_nonstarter p d) 1 0) w row);
-    }
+    grind (arith, lead-marks p w, has_starter-append p w row, lead-append p w row, trail-append p w row, longest-append p w row, sum_by-append (λ d. cond (is_nonstarter p d) 1 0) w row)
 
 pub returns-clause-counts : goal.returns-clause-counts
 returns-clause-counts c = λ _ p w row value before.
@@ -24,10 +18,4 @@ returns-clause-counts c = λ _ p w row value before.
     let row_has : has_starter p row ≡ false = cc in
     let row_lead : c.args.value % 4 ≡ lead p row = rw here at value.lead in
     let row_trail : length row ≡ c.args.value - 4 = omega (arith, trail-marks p row row_has, value.trail) in
-    record {
-      has_starter = grind (arith, before.has_starter, has_starter-append p w row);
-      lead = grind (arith, before.has_starter, before.lead, before.trail, lead-append p w row, trail-marks p w);
-      trail = grind (arith, before.trail, trail-append p w row);
-      longest = omega (arith, before.longest, before.trail, value.longest, longest-append p w row);
-      nonstarters = omega (arith, before.nonstarters, value.nonstarters, sum_by-append (λ d. cond (is_nonstarter p d) 1 0) w row);
-    }
+    grind (arith, trail-marks p w, has_starter-append p w row, lead-append p w row, trail-append p w row, longest-append p w row, sum_by-append (λ d. cond (is_nonstarter p d) 1 0) w row)
