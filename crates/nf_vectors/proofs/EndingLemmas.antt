@@ -1,12 +1,9 @@
 -- Where the reading of a vector file ends.
-use Rattle.nf_vectors.proofs.Common.{◌≡◌, ℕ, suc, ◌+◌, ◌-◌, ◌<◌, ◌≤◌, Bool, true, false, List, [], ◌∷◌, ◌++◌, length, take, drop, get_or, Option, Some, None, Result, Ok, Err, refl, sym, ap, ◌∙◌, subst, arith, append_assoc, append-nil, ⊎_elim, OnOk, is_ok, if◌then◌else◌, lt-ltb, le-ltb, false≢true, cases_lt, or-false, take-append-add, length-append, take_at, drop_more, take-append-drop, VectorFault, VectorKind, Size, Read, Memory, Reading, is_line_end, lines_of, Bad, judged, rows_from, names_part1_from, last_fault, first_fault, rows_in, StandsAfter, EndsLine, limit, block, lines_within, stop_of, Finds, RunsOut, take_all}
+use Rattle.nf_vectors.proofs.Common.{◌≡◌, ◌↔◌, ℕ, suc, ◌+◌, ◌-◌, ◌<◌, ◌≤◌, Bool, true, false, List, [], ◌∷◌, ◌++◌, length, take, drop, get_or, Option, Some, None, Result, Err, refl, sym, ap, ◌∙◌, arith, append_assoc, append-nil, ⊎_elim, if◌then◌else◌, lt-ltb, le-ltb, cases_lt, or-false, take-append-add, length-append, take_at, drop_more, take-append-drop, VectorFault, VectorKind, Size, Read, Memory, Reading, is_line_end, lines_of, Bad, judged, rows_from, names_part1_from, last_fault, first_fault, rows_in, StandsAfter, EndsLine, limit, block, lines_within, stop_of, Finds, RunsOut, take_all}
+use Rattle.std.proofs.Common.{subst₂}
 use Rattle.std.proofs.lemmas.Bool.{cond-true}
 use Rattle.std.proofs.lemmas.Grind.{common_steps}
 use Rattle.nf_vectors.proofs.StandingLemmas.{lines_of-ended, lines_of-last, first_fault-ended}
-
-pub at_ok : {A E : Type 0} {P : Type 0} (r : Result A E) → is_ok r ≡ true → OnOk r P → P
-at_ok (Ok x) e p = p
-at_ok (Err e) is p = absurd (false≢true is)
 
 module _ {reading : Reading} {bytes : List ℕ} (stands : StandsAfter reading bytes) where
   -- a bad line is the first fault, whatever follows
@@ -29,19 +26,18 @@ module _ {reading : Reading} {bytes : List ℕ} (stands : StandsAfter reading by
         rw (within, le-ltb limit (length bytes) few) (last_line (if failed then Some Read else None))
 
     -- where memory runs out over the next byte, or at the end
-    pub runs_out : (rest all : List ℕ) → length rest ≤ block → all ≡ bytes ++ rest → (at_end : Bool) → (at_end ≡ true → rest ≡ []) → (fault : VectorFault) (kind : VectorKind) → fault ≡ record { line = reading.line; kind = kind }
-        → fault.kind ≡ Memory → RunsOut all at_end fault
-    runs_out rest all short is at_end end fault kind here memory = record {
+    pub runs_out : (rest : List ℕ) {all : List ℕ} {at_end : Bool} {fault : VectorFault} → length rest ≤ block → all ≡ bytes ++ rest → (at_end ≡ true → rest ≡ []) → fault.line ≡ reading.line → fault.kind ≡ Memory → RunsOut all at_end fault
+    runs_out rest short is end line memory = record {
       read = bytes;
       rest = rest;
       is = is;
       within = few;
       last = short;
       end = end;
-      first = last_line (Some Memory) ∙ ap (λ k. Some (record { line = reading.line; kind = k })) (sym memory ∙ ap (λ f. f.kind) here) ∙ ap Some (sym here);
+      first = last_line (Some Memory) ∙ (λ i. Some (record { line = sym line i; kind = sym memory i }));
     }
 
-    module _ (new : Reading) (ends : EndsLine (judged reading.line reading.bytes.items) reading new) where
+    module _ {new : Reading} (ends : EndsLine (judged reading.line reading.bytes.items) reading new) where
       pub all_rows : rows_in new.text.items new.entries.items ≡ rows_from 1 false (lines_within bytes)
       all_rows = rw (within, ← append-nil bytes, stands.rows [], lines_of-last reading.bytes.items stands.one_line, append-nil, ends.rows) refl
 
@@ -52,19 +48,20 @@ pub Tells-found : (bytes : List ℕ) (failed : Bool) (fault : VectorFault) → F
 Tells-found bytes failed fault finds = finds (stop_of bytes failed) (λ past. cond-true _ _ _ (lt-ltb limit (length bytes) past))
 
 -- the fault at one byte, whatever stands behind it: at the limit, that it is one too many
-pub found_here : {reading : Reading} {bytes : List ℕ} {kind : VectorKind} {fault : VectorFault} → StandsAfter reading bytes → (b : ℕ) (rest : List ℕ)
-    → reading.taken ≤ 67108864 → fault ≡ record { line = reading.line; kind = kind } → (kind ≡ Size → reading.taken ≡ 67108864) → (reading.taken ≡ 67108864 → kind ≡ Size)
+pub found_here : {reading : Reading} {bytes : List ℕ} {kind : VectorKind} {fault : VectorFault} → StandsAfter reading bytes → (b : ℕ) (rest all : List ℕ) → bytes ++ b ∷ rest ≡ all
+    → reading.taken ≤ 67108864 → fault ≡ record { line = reading.line; kind = kind } → ◌≡◌ {A = Result (Unit {0}) VectorKind} (Err kind) (Err Size) ↔ (reading.taken ≡ 67108864)
     → (¬ (kind ≡ Size) → (stop : Option VectorKind) (more : List ℕ) → first_fault 1 stop (lines_of (bytes ++ b ∷ more)) ≡ Some (record { line = reading.line; kind = kind }))
-    → Finds (bytes ++ b ∷ rest) fault
-found_here {reading} {bytes} stands b rest few is full size found =
-    subst (Finds (bytes ++ b ∷ rest)) (sym is) (λ stop past. ⊎_elim
+    → Finds all fault
+found_here {reading} {bytes} {kind} stands b rest all is few here size found =
+    subst₂ Finds is (sym here) (λ stop past. ⊎_elim
     (λ below.
     let n = limit - length bytes - 1 in
     let within : limit ≡ length bytes + suc n = omega arith in
-    ap (λ l. first_fault 1 stop (lines_of l)) (ap (λ m. take m (bytes ++ b ∷ rest)) within ∙ take-append-add bytes (b ∷ rest) (suc n)) ∙ found (λ e. omega (arith, full e)) stop (take n rest))
+    ap (λ l. first_fault 1 stop (lines_of l)) (ap (λ m. take m (bytes ++ b ∷ rest)) within ∙ take-append-add bytes (b ∷ rest) (suc n)) ∙ found (λ e. omega (arith, size.0 (ap Err e))) stop (take n rest))
     (λ above.
     let end : length bytes ≡ limit = omega arith in
-    rw (past (omega (arith, length-append bytes (b ∷ rest))), take_at bytes (b ∷ rest) limit end, size (omega arith)) (last_line stands (Some Size)))
+    let one_more : kind ≡ Size = let e = size.1 (omega arith) in cc in
+    rw (past (omega (arith, length-append bytes (b ∷ rest))), take_at bytes (b ∷ rest) limit end, one_more) (last_line stands (Some Size)))
     (cases_lt reading.taken 67108864))
 
 pub piece_at : (bytes piece : List ℕ) (i : ℕ) → i < length piece → (bytes ++ take i piece) ++ get_or piece i 0 ∷ drop (i + 1) piece ≡ bytes ++ piece

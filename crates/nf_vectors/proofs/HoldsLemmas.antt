@@ -1,5 +1,5 @@
 -- What the filter gives of a text to a sink that compares, and whether that is as expected.
-use Rattle.nf_vectors.proofs.Common.{◌≡◌, ℕ, Bool, true, false, ◌&&◌, List, [], ◌++◌, length, take, drop, Some, None, refl, arith, sym, ap, ◌∙◌, subst, append-nil, bytes_eq, encode_utf8_all, IsUtf8, if◌then◌else◌, Ok, Err, is_ok, ⊎_elim, and_right, false_from_ne_true, same_from_decides, bytes_eq-Decides, encodes_same, Properties, Form, safe_form, is_usable, holds}
+use Rattle.nf_vectors.proofs.Common.{◌≡◌, ℕ, Bool, true, false, ◌&&◌, List, [], Some, None, refl, arith, sym, ap, ◌∙◌, subst, append-nil, bytes_eq, encode_utf8_all, IsUtf8, if◌then◌else◌, Result, Err, is_ok, ⊎_elim, and_right, false_from_ne_true, same_from_decides, bytes_eq-Decides, encodes_same, Properties, Form, safe_form, is_usable, holds}
 use Rattle.std.proofs.Math.Seq.{take-append_seam}
 use Rattle.std.proofs.lemmas.List.{append_cancel_left}
 use Rattle.std.specs.Io.KnownBytes.{Appends}
@@ -16,7 +16,7 @@ use Rattle.nf_filter.specs.Faults.{answer_at_end, bad_byte, fault_in}
 use Rattle.nf_filter.specs.Policy.{as_is}
 use Rattle.nf_filter.specs.Finishes.{end_of}
 use Rattle.nf_filter.specs.Whole.{Converts, fault_or, whole_answer, whole_utf8}
-use Rattle.nf_filter.proofs.FilterLemmas.{write_or_not}
+use Rattle.nf_filter.proofs.FilterLemmas.{write_or_kept}
 use Rattle.nf_filter.proofs.WholeLemmas.{without, final_is}
 use Rattle.nf_vectors.specs.declared.comparing.Comparing.{Comparing}
 use Rattle.nf_vectors.specs.Comparing.{taken_by, state_of}
@@ -32,11 +32,11 @@ module _ (reads : ReadsBack) (f : Form) (p : Properties) (bytes x e : List ℕ) 
 
   text_is : text_of bytes ≡ x
   unfolding text_of chars utf8_valid_len
-  text_is = ap text_of (is ∙ sym (append-nil (encode_utf8_all x))) ∙ reads.text x [] text ∙ append-nil x
+  text_is = rw (is, ← append-nil (encode_utf8_all x), reads.text x [] text) (append-nil x)
 
   ending_is : ending_of bytes ≡ Whole
   unfolding ending_of chars utf8_valid_len
-  ending_is = ap ending_of (is ∙ sym (append-nil (encode_utf8_all x))) ∙ reads.ending x [] text
+  ending_is = rw (is, ← append-nil (encode_utf8_all x), reads.ending x [] text) refl
 
   answer_is : is_ok (whole_answer p bytes) ≡ is_usable p x
   unfolding whole_answer fault_in end_of
@@ -50,7 +50,7 @@ module _ (reads : ReadsBack) (f : Form) (p : Properties) (bytes x e : List ℕ) 
   unfolding fault_in
   form_is used =
       let none : fault_in as_is p 0 bytes ≡ None = rw (text_is, ending_is, used) refl in
-      sym (without f p bytes (sym none)) ∙ final_is f p bytes ending_is ∙ ap (λ t. encode_utf8_all (safe_form f p t)) text_is
+      rw (← without f p bytes (sym none), final_is f p bytes ending_is, text_is) refl
 
   -- it holds where all is taken and what is given is as expected
   holds_is : holds f p x e ≡ (is_ok (whole_answer p bytes) && bytes_eq (whole_utf8 f p bytes) (encode_utf8_all e))
@@ -60,30 +60,21 @@ module _ (reads : ReadsBack) (f : Form) (p : Properties) (bytes x e : List ℕ) 
     -- what it is to compare with is kept, and it has taken just what was given
     kept : (out : List ℕ) → Appends (state_of old).taken (state_of new).taken out → (new.expected.now ≡ encode_utf8_all e) × (taken_by new ≡ out)
     kept out given =
-        let all : new.expected.now ++ taken_by new ≡ old.expected.now ++ out =
-        ap (drop 1) given ∙ ap (λ t. (old.expected.now ++ t) ++ out) fresh ∙ ap (λ t. t ++ out) (append-nil old.expected.now) in
-        let len : length new.expected.now ≡ length old.expected.now = cc in
-        let same : new.expected.now ≡ old.expected.now =
-        sym (take-append_seam new.expected.now (taken_by new)) ∙ (λ i. take (len i) (all i)) ∙ take-append_seam old.expected.now out in
-        (same ∙ expected, append_cancel_left old.expected.now (taken_by new) out (ap (λ t. t ++ taken_by new) (sym same) ∙ all))
+        let same : new.expected.now ≡ old.expected.now = cc (append-nil old.expected.now, take-append_seam new.expected.now (taken_by new), take-append_seam old.expected.now out) in
+        (same ∙ expected, append_cancel_left old.expected.now (taken_by new) out (cc (append-nil old.expected.now)))
 
-    pub holds-given : (tally : Tally) → Converts f p bytes (state_of old) (state_of new) (Ok tally) → bytes_eq (taken_by new) new.expected.now ≡ holds f p x e
-    holds-given tally converts =
-        let puts = converts.written (λ w. cc) in
-        let both = kept puts.out puts.given in
-        ap (bytes_eq (taken_by new)) both.0 ∙ ap (λ t. bytes_eq t (encode_utf8_all e)) (both.1 ∙ sym puts.behind)
-        ∙ ap (λ r. is_ok r && bytes_eq (whole_utf8 f p bytes) (encode_utf8_all e)) (converts.answer (λ w. cc)) ∙ sym holds_is
-
-    pub holds-refused : (fault : Fault) → Converts f p bytes (state_of old) (state_of new) (Err fault) → false ≡ holds f p x e
-    holds-refused fault converts = ⊎_elim broken other (write_or_not fault)
+    pub holds-told : (r : Result Tally Fault) → Converts f p bytes (state_of old) (state_of new) r → (is_ok r && bytes_eq (taken_by new) new.expected.now) ≡ holds f p x e
+    holds-told r converts = ⊎_elim broken other (write_or_kept r)
       where
-        other : ¬ (fault ≡ Write) → false ≡ holds f p x e
-        other not = ap (λ r. is_ok r && bytes_eq (whole_utf8 f p bytes) (encode_utf8_all e)) (converts.answer (λ w. not (let same : fault ≡ Write = cc in same))) ∙ sym holds_is
-
-        broken : fault ≡ Write → false ≡ holds f p x e
+        broken : r ≡ Err Write → (is_ok r && bytes_eq (taken_by new) new.expected.now) ≡ holds f p x e
         broken write =
-            let breaks = converts.broken_off (ap Err write) in
+            let breaks = converts.broken_off write in
             let both = kept breaks.out breaks.given in
             let apart = new.apart (new.refused breaks.failed) breaks.rest in
-            sym (holds_is ∙ and_right (is_ok (whole_answer p bytes)) _ (false_from_ne_true _ (λ same.
-            apart (ap (λ t. t ++ breaks.rest) both.1 ∙ sym breaks.behind ∙ (bytes_eq-Decides (whole_utf8 f p bytes) (encode_utf8_all e)).0 same ∙ sym both.0))))
+            rw (write, holds_is) (sym (and_right (is_ok (whole_answer p bytes)) _ (false_from_ne_true _ (λ same. apart (cc (both.0, both.1, breaks.behind, (bytes_eq-Decides (whole_utf8 f p bytes) (encode_utf8_all e)).0 same))))))
+
+        other : ¬ (r ≡ Err Write) → (is_ok r && bytes_eq (taken_by new) new.expected.now) ≡ holds f p x e
+        other not =
+            let puts = converts.written not in
+            let both = kept puts.out puts.given in
+            rw (holds_is, ← converts.answer not, puts.behind, both.1, both.0) refl

@@ -1,58 +1,19 @@
 -- The code points of a column, word by word.
 use Rattle.std.specs.Iterator.{Yields}
 use Rattle.std.proofs.lemmas.Result.{IfOk-weaker, IfOk-at_ok}
-use Rattle.nf_vectors.proofs.Common.{YieldsList, YieldsList-turn, YieldsList-end, Bor, ◌≡◌, Option, Some, None, drop_all, length_push, IfOk, ℕ, ◌≤◌, Bool, true, false, cond, List, [], ◌∷◌, ◌++◌, length, drop, Result, Ok, Err, refl, sym, ap, ◌∙◌, arith, append_assoc, append-nil, sum_by, slice_split, onto_first, drop_more, sum_by-cons, VectorKind, Empty, is_gap, code_point, and_then, before, code_points, some_or_empty, column_in}
+use Rattle.nf_vectors.proofs.Common.{YieldsList, YieldsList-turn, YieldsList-end, Bor, ◌==◌, ◌≡◌, ◌+◌, Option, Some, None, drop_all, length_push, length-append, IfOk, ℕ, ◌≤◌, Bool, true, false, cond, List, [], ◌∷◌, ◌++◌, length, drop, Result, Ok, Err, refl, sym, ap, ◌∙◌, arith, append_assoc, append-nil, sum_by, slice_split, onto_first, eqb-true, drop_more, sum_by-cons, VectorKind, Empty, is_gap, code_point, and_then, before, code_points, some_or_empty, column_in, HoldsColumn}
 
 before-before : (cs : List ℕ) (c : ℕ) (r : Result (List ℕ) VectorKind) → before cs (before (c ∷ []) r) ≡ before (cs ++ c ∷ []) r
 before-before cs c (Ok more) = ap Ok (sym (append_assoc cs (c ∷ []) more))
 before-before cs c (Err kind) = refl
 
-code_points-word : (word : List ℕ) (words : List (List ℕ)) → ¬ (length word ≡ 0) → code_points (word ∷ words) ≡ and_then (code_point word) (λ c. before (c ∷ []) (code_points words))
-code_points-word [] words some = absurd (some refl)
+code_points-word : (word : List ℕ) (words : List (List ℕ)) → (length word == 0) ≡ false → code_points (word ∷ words) ≡ and_then (code_point word) (λ c. before (c ∷ []) (code_points words))
+code_points-word [] words some = cc
 code_points-word (b ∷ bs) words some = refl
 
-code_points-empty : (word : List ℕ) (words : List (List ℕ)) → length word ≡ 0 → code_points (word ∷ words) ≡ code_points words
+code_points-empty : (word : List ℕ) (words : List (List ℕ)) → (length word == 0) ≡ true → code_points (word ∷ words) ≡ code_points words
 code_points-empty [] words none = refl
-code_points-empty (b ∷ bs) words none = absurd (omega arith)
-
--- the words of a column, of which an iterator gave these, with these code points
-module _ {S : Type 0} {steps : S → Option (Bor (List ℕ)) → S → Type 0} {s t : S} (column : List ℕ) (yields : YieldsList steps (λ word. word.now) s (slice_split is_gap column))
-    (words : List (Bor (List ℕ))) (gave : Yields steps s words t)
-    (codes : List ℕ) (so_far : code_points (slice_split is_gap column) ≡ before codes (code_points (drop (length words) (slice_split is_gap column)))) where
-  -- no more
-  pub whole : {r : Option (Bor (List ℕ))} {u : S} → r ≡ None → steps t r u → code_points (slice_split is_gap column) ≡ Ok codes
-  whole {r} {u} none step =
-      so_far ∙ ap (λ ws. before codes (code_points ws)) (drop_all (length words) (slice_split is_gap column) (omega (arith, (YieldsList-end yields words t gave r u none step).1))) ∙ ap Ok (append-nil codes)
-
-  -- one more
-  module _ {r : Option (Bor (List ℕ))} {u : S} {word : Bor (List ℕ)} (some : r ≡ Some word) (step : steps t r u) where
-    abbrev rest : List (List ℕ)
-    rest = drop (length (words ++ word ∷ [])) (slice_split is_gap column)
-
-    at_word : code_points (slice_split is_gap column) ≡ before codes (code_points (word.now ∷ rest))
-    at_word =
-        let turn = YieldsList-turn yields words t gave r u word some step in
-        so_far ∙ ap (λ ws. before codes (code_points ws)) (drop_more (slice_split is_gap column) (length words) word.now turn.0
-        ∙ (λ i. sym turn.1 i ∷ drop (sym (length_push words word) i) (slice_split is_gap column)))
-
-    pub skipped : length word.now ≡ 0 → code_points (slice_split is_gap column) ≡ before codes (code_points rest)
-    skipped none = at_word ∙ ap (before codes) (code_points-empty word.now rest none)
-
-    pub pushed : (c : ℕ) → ¬ (length word.now ≡ 0) → code_point word.now ≡ Ok c → code_points (slice_split is_gap column) ≡ before (codes ++ c ∷ []) (code_points rest)
-    pushed c letters e = at_word ∙ ap (before codes) (code_points-word word.now rest letters ∙ ap (λ r. and_then r (λ c. before (c ∷ []) (code_points rest))) e) ∙ before-before codes c (code_points rest)
-
-    pub refused : (kind : VectorKind) → ¬ (length word.now ≡ 0) → code_point word.now ≡ Err kind → code_points (slice_split is_gap column) ≡ Err kind
-    refused kind letters e = at_word ∙ ap (before codes) (code_points-word word.now rest letters ∙ ap (λ r. and_then r (λ c. before (c ∷ []) (code_points rest))) e)
-
-pub column_in-some : (column codes : List ℕ) → code_points (slice_split is_gap column) ≡ Ok codes → ¬ (length codes ≡ 0) → column_in column ≡ Ok codes
-unfolding column_in
-column_in-some column [] e some = absurd (some refl)
-column_in-some column (c ∷ cs) e some = ap some_or_empty e
-
-pub column_in-empty : (column codes : List ℕ) → code_points (slice_split is_gap column) ≡ Ok codes → length codes ≡ 0 → column_in column ≡ Err Empty
-unfolding column_in
-column_in-empty column [] e none = ap some_or_empty e
-column_in-empty column (c ∷ cs) e none = absurd (omega arith)
+code_points-empty (b ∷ bs) words none = absurd (omega (arith, eqb-true _ _ none))
 
 -- there are no more code points than bytes
 code_points-le : (words : List (List ℕ)) → IfOk (code_points words) (λ codes. length codes ≤ sum_by length words)
@@ -74,6 +35,66 @@ split-le p (b ∷ bytes) = next (p b) (slice_split p bytes) (split-le p bytes)
     next false [] le = omega (arith, sum_by-cons length (b ∷ []) [])
     next false (part ∷ parts) le = omega (arith, le, sum_by-cons length part parts, sum_by-cons length (b ∷ part) parts)
 
-pub codes-le : (column codes : List ℕ) → code_points (slice_split is_gap column) ≡ Ok codes → length codes ≤ length column
-codes-le column codes e =
-    omega (arith, IfOk-at_ok (λ codes. length codes ≤ sum_by length (slice_split is_gap column)) e (code_points-le (slice_split is_gap column)), split-le is_gap column)
+-- the text has grown from old to new by the code points of these words, which are the first of the column
+pub record HasRead {S : Type 0} (steps : S → Option (Bor (List ℕ)) → S → Type 0) (s : S) (column old : List ℕ) (words : List (Bor (List ℕ))) (new : List ℕ) : Type 0 where
+  pub yields : YieldsList steps (λ word. word.now) s (slice_split is_gap column)
+  pub so_far : before old (code_points (slice_split is_gap column)) ≡ before new (code_points (drop (length words) (slice_split is_gap column)))
+
+module _ {S : Type 0} {steps : S → Option (Bor (List ℕ)) → S → Type 0} {s t : S} {column old new : List ℕ} {words : List (Bor (List ℕ))} (read : HasRead steps s column old words new) (gave : Yields steps s words t)
+    {r : Option (Bor (List ℕ))} {u : S} (step : steps t r u) where
+  -- one word more
+  module _ {word : Bor (List ℕ)} (some : r ≡ Some word) {none : Bool} (is_empty : none ≡ (length word.now == 0)) where
+    abbrev rest : List (List ℕ)
+    rest = drop (length (words ++ word ∷ [])) (slice_split is_gap column)
+
+    at_word : before old (code_points (slice_split is_gap column)) ≡ before new (code_points (word.now ∷ rest))
+    at_word =
+        let turn = YieldsList-turn read.yields words t gave r u word some step in
+        read.so_far ∙ ap (λ ws. before new (code_points ws)) (drop_more (slice_split is_gap column) (length words) word.now turn.0
+        ∙ (λ i. sym turn.1 i ∷ drop (sym (length_push words word) i) (slice_split is_gap column)))
+
+    pub skipped : none ≡ true → HasRead steps s column old (words ++ word ∷ []) new
+    skipped empty = record { yields = read.yields; so_far = at_word ∙ ap (before new) (code_points-empty word.now rest (sym is_empty ∙ empty)) }
+
+    pub pushed : none ≡ false → (c : ℕ) → Ok c ≡ code_point word.now → HasRead steps s column old (words ++ word ∷ []) (new ++ c ∷ [])
+    pushed letters c e = record { yields = read.yields; so_far = rw (at_word, code_points-word word.now rest (sym is_empty ∙ letters), ← e) (before-before new c (code_points rest)) }
+
+    pub refused : none ≡ false → (kind : VectorKind) → Err kind ≡ code_point word.now → column_in column ≡ Err kind
+    unfolding column_in
+    refused letters kind e = by (code_points (slice_split is_gap column)) (rw (at_word, code_points-word word.now rest (sym is_empty ∙ letters), ← e) refl)
+      where
+        by : (read : Result (List ℕ) VectorKind) → before old read ≡ Err kind → some_or_empty read ≡ Err kind
+        by (Ok codes) e = cc
+        by (Err other) e = e
+
+  -- no more words
+  module _ (none : r ≡ None) where
+    whole : HoldsColumn old new (code_points (slice_split is_gap column))
+    whole =
+        let end = drop_all (length words) (slice_split is_gap column) (omega (arith, (YieldsList-end read.yields words t gave r u none step).1)) in
+        by (code_points (slice_split is_gap column)) (rw (read.so_far, end, append-nil) refl)
+      where
+        by : (read : Result (List ℕ) VectorKind) → before old read ≡ Ok new → HoldsColumn old new read
+        by (Ok codes) e = (codes, refl, cc)
+        by (Err kind) e = cc
+
+    pub empty : length new ≡ length old → column_in column ≡ Err Empty
+    unfolding column_in
+    empty same = by whole.0 whole.1 whole.2
+      where
+        by : (codes : List ℕ) → code_points (slice_split is_gap column) ≡ Ok codes → new ≡ old ++ codes → some_or_empty (code_points (slice_split is_gap column)) ≡ Err Empty
+        by [] e is = ap some_or_empty e
+        by (c ∷ cs) e is = absurd (omega (arith, ap length is, length-append old (c ∷ cs)))
+
+    pub held : ¬ (length new ≡ length old) → HoldsColumn old new (column_in column)
+    unfolding column_in
+    held other = by whole.0 whole.1 whole.2
+      where
+        by : (codes : List ℕ) → code_points (slice_split is_gap column) ≡ Ok codes → new ≡ old ++ codes → HoldsColumn old new (some_or_empty (code_points (slice_split is_gap column)))
+        by [] e is = absurd (other (ap length is ∙ ap length (append-nil old)))
+        by (c ∷ cs) e is = (c ∷ cs, ap some_or_empty e, is)
+
+    pub few : (length old ≤ length new) × (length new ≤ length old + length column)
+    few =
+        let le = IfOk-at_ok (λ codes. length codes ≤ sum_by length (slice_split is_gap column)) whole.1 (code_points-le (slice_split is_gap column)) in
+        grind (arith, le, split-le is_gap column, ap length whole.2, length-append old whole.0)

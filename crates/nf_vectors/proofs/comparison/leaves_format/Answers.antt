@@ -1,4 +1,4 @@
-use Rattle.nf_vectors.proofs.Common.{rules, ℕ, ◌*◌, ◌≤◌, List, ◌∙◌, length, encode_utf8, encode_utf8_all, refl, sym, ap, arith, is_some, true_from_ne_false, false≢true, length-take-le, get_or, is_sound, length-encode, len_utf8_bounds}
+use Rattle.nf_vectors.proofs.Common.{rules, ℕ, ◌*◌, ◌≤◌, List, length, encode_utf8, encode_utf8_all, refl, ap, arith, is_some, length-take-le, get_or, length-encode, len_utf8_bounds}
 use Rattle.std.proofs.lemmas.List.Concat.{length-flat_map}
 use Rattle.std.proofs.lemmas.List.Sums.{sum_by-le}
 use Rattle.nf_vectors.proofs.ComparisonLemmas.{leaves-none, leaves-at, leaves-unsound}
@@ -18,13 +18,8 @@ see-requires g c = λ none. grind (arith, encode_utf8_all-le, encode_utf8-le, le
 
 pub returns-in-Ok-Some : goal.returns-in-Ok-Some
 returns-in-Ok-Some g c =
-    let p = g.R.Rows.properties c.args.rows.now in
     let seen = c.loop-c.invariant in
-    let item = c.c-item.result in
-    let sound = true_from_ne_false (is_sound p item) (λ bad. false≢true ((c.in-Ok-Some.ensures.refuses (ap is_some seen.none)).1 bad)) in
-    let stands = c.in-Ok-Some.ensures.stands 0 _ seen.stands in
-    leaves-at p c.args.column.now _ item c.loop-c-test.true c.c-item.is seen.sound sound c.in-Ok-Some.field-0-0
-    (sym stands.place ∙ sym c.in-Ok-Some.ensures.place ∙ c.in-Ok-Some.field-0-is)
+    grind (arith, leaves-at, c.in-Ok-Some.ensures.refuses (ap is_some seen.none), c.in-Ok-Some.ensures.stands 0 _ seen.stands)
 
 pub returns-in-Err : goal.returns-in-Err
 returns-in-Err g c = search (rules, leaves-unsound)

@@ -1,17 +1,12 @@
-use Rattle.nf_vectors.proofs.Common.{if_ok_if, rules, eq-eqb}
+use Rattle.nf_vectors.proofs.Common.{rules, eq-eqb}
 use Rattle.std.proofs.lemmas.Result.{IfErr-weaker}
 use Rattle.nf_vectors.proofs.StandingLemmas.{StandsAfter-line}
-use Rattle.nf_vectors.proofs.EndingLemmas.{at_ok, bad_line}
+use Rattle.nf_vectors.proofs.EndingLemmas.{bad_line}
 use Rattle.nf_vectors.proofs.reading.Reading.take_byte.Goals as goal
 
 pub returns-then-byte-eq10-clause-stands : goal.returns-then-byte-eq10-clause-stands
 returns-then-byte-eq10-clause-stands c = λ bytes stands.
-    let r = c.end_line.result in
-    if_ok_if r _ (λ ok.
-    let rest = at_ok r ok c.end_line.ensures.rest in
-    let ends = at_ok r ok c.end_line.ensures.ends in
-    StandsAfter-line c.end_line.new.self c.args.byte stands rest.1 (eq-eqb c.args.byte 10 c.if-byte-eq10.true)
-    (record { rows = ends.rows; in_part1 = ends.in_part1; has_part1 = ends.has_part1 }) (λ other. at_ok r ok (c.end_line.ensures.fine other)) rest.0 rest.2)
+    StandsAfter-line _ c.args.byte stands (eq-eqb c.args.byte 10 c.if-byte-eq10.true) c.end_line.result c.end_line.ensures.rest c.end_line.ensures.ends c.end_line.ensures.fine
 
 pub returns-then-byte-eq10-clause-finds : goal.returns-then-byte-eq10-clause-finds
 returns-then-byte-eq10-clause-finds c = λ bytes stands.
