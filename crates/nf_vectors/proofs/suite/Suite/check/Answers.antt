@@ -1,4 +1,4 @@
-use Rattle.nf_vectors.proofs.Common.{arith, rules, ◌≡◌, ◌∙◌, ◌+◌, ◌++◌, ◌∷◌, [], take, refl, sym, ap, map_push, row_of, rows_in, rows_of, verdict_of, report_of, report_and, take_all}
+use Rattle.nf_vectors.proofs.Common.{arith, rules, ◌≡◌, ◌+◌, ◌++◌, ◌∷◌, [], take, refl, map_push, row_of, rows_in, rows_of, verdict_of, report_of, take_all}
 use Rattle.std.proofs.lemmas.Grind.{common_steps}
 use Rattle.nf_vectors.proofs.ReportLemmas.{report_of-push, and-counts}
 use Rattle.nf_vectors.proofs.suite.Suite.check.Goals as goal
@@ -13,17 +13,14 @@ loop-entry-preserved g c =
     let text = c.args.self.now.text.items in
     let entries = c.args.self.now.entries.items in
     let i = c.loop-entry.entry-index in
-    let item = c.entry-item.result in
-    let row = row_of text item in
-    let report = c.loop-entry.report in
+    let row = row_of text c.entry-item.result in
     let rows : rows_in text (take (i + 1) entries) ≡ rows_in text (take i entries) ++ row ∷ [] = grind (arith, common_steps, map_push) in
     let judged : c.in_ok-verdict.verdict ≡ verdict_of p row = search (rules, c.in_ok-verdict.ensures row refl) in
-    let counts = and-counts report c.in_ok-verdict.verdict in
+    let counts = and-counts c.loop-entry.report c.in_ok-verdict.verdict in
     record {
-      report = c.and-report.ensures ∙ ap (λ v. report_and report v) judged ∙ ap (λ r. report_and r (verdict_of p row)) c.loop-entry.invariant.report
-          ∙ sym (ap (report_of p) rows ∙ report_of-push p (rows_in text (take i entries)) row);
+      report = rw (rows, report_of-push, ← judged, c.and-report.ensures) (cc);
       sum = rw c.and-report.ensures (counts.1 c.loop-entry.invariant.sum);
-      count = rw c.and-report.ensures counts.0 ∙ ap (λ n. n + 1) c.loop-entry.invariant.count;
+      count = rw c.and-report.ensures (omega (arith, counts.0));
     }
 
 pub returns-clause-report : goal.returns-clause-report
