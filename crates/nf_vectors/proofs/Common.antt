@@ -1,8 +1,8 @@
 -- The names that most of these proofs cite, passed on from one place. Declares nothing.
-pub use Rattle.std.proofs.Common.{Bor, ◌≡◌, ℕ, ◌+◌, ◌≤◌, ◌<◌, true, false, List, [], ◌∷◌, ◌++◌, length, take, Option, Some, None, is_some, refl, sym, ap, ◌∙◌, arith, ◌-◌, ⊎_elim, drop, get_or, append_assoc, option_map, append-nil, zero, suc, ◌*◌, Bool, ◌&&◌, Ok, Err, rules, if◌then◌else◌, Result, subst, OnOk, is_ok, take_all, codes, bytes_eq, encode_utf8_all, IsUtf8, slice_range, eq-eqb, ne_eqb, cond, slice_index_or, not, add-zero, count_by, nat_eq, MatchResult, IsErr, IsErrAnd, All, find, IfOk, sum_by, string_bytes, encode_utf8, tests, ◌==◌, IfErr, reverse, ◌^◌, ◌↔◌}
+pub use Rattle.std.proofs.Common.{Bor, ◌≡◌, ℕ, ◌+◌, ◌≤◌, ◌<◌, true, false, List, [], ◌∷◌, ◌++◌, length, take, Option, Some, None, is_some, refl, sym, ap, ◌∙◌, arith, ◌-◌, ⊎_elim, drop, get_or, append_assoc, option_map, append-nil, zero, suc, ◌*◌, Bool, ◌&&◌, Ok, Err, rules, if◌then◌else◌, Result, subst, OnOk, is_ok, take_all, codes, bytes_eq, encode_utf8_all, IsUtf8, slice_range, eq-eqb, ne_eqb, cond, slice_index_or, not, add-zero, count_by, nat_eq, MatchResult, IsErr, IsErrAnd, All, find, IfOk, sum_by, string_bytes, encode_utf8, tests, ◌==◌, reverse, ◌^◌, ◌↔◌}
 pub use Rattle.std.proofs.Math.Bool.{or-false, or_assoc}
 pub use Rattle.std.proofs.Math.Seq.{take-length, take-append-add}
-pub use Rattle.std.proofs.lemmas.Bool.{and_parts, false≢true, false_from_ne_true, cases_lt, le-leb, and_from, lt-ltb, le-ltb, eqb-true, leb-true, true_from_ne_false, eqb-false, and_right}
+pub use Rattle.std.proofs.lemmas.Bool.{and_parts, false_from_ne_true, cases_lt, le-leb, and_from, lt-ltb, le-ltb, eqb-true, leb-true, and_right}
 pub use Rattle.std.proofs.lemmas.Bool.Decides.{nat_tests, same_from_decides}
 pub use Rattle.std.proofs.lemmas.Iterator.{YieldsList, YieldsList-from_slice}
 pub use Rattle.std.proofs.lemmas.Iterator.Consumers.{YieldsList-end, YieldsList-turn, count_from_yields_List}
@@ -32,7 +32,7 @@ pub use Rattle.nf_vectors.specs.Comparison.{leaves_format, holds, broken_column,
 pub use Rattle.nf_vectors.specs.Held.{columns_at, HoldsColumn}
 pub use Rattle.nf_vectors.specs.Judgement.{judgement, Bad, Nothing, Part, Row, columns_in}
 pub use Rattle.nf_vectors.specs.Line.{lines_of, is_line_end, is_semicolon, is_blank, is_gap}
-pub use Rattle.nf_vectors.specs.ReadsSuite.{lines_within, stop_of, Finds, Tells}
+pub use Rattle.nf_vectors.specs.ReadsSuite.{lines_within, stop_of, Finds}
 unfoldable pub use Rattle.nf_vectors.specs.Report.{report_of}
 pub use Rattle.nf_vectors.specs.Report.{verdict_of, is_skip, is_pass, is_failure, failure_or, first_failure_of, report_and}
 pub use Rattle.nf_vectors.specs.RunsOut.{RunsOut}
@@ -49,5 +49,5 @@ pub use Rattle.nf_vectors.specs.declared.fault.VectorKind.{VectorKind}
 pub use Rattle.nf_vectors.specs.declared.fault.VectorKind.TheVariants.{Hex, Scalar, Fields, Empty, Size, Read, Memory}
 pub use Rattle.nf_vectors.specs.declared.reading.Reading.{Reading}
 pub use Rattle.nf_vectors.specs.declared.report.Failure.{Failure}
-pub use Rattle.nf_vectors.specs.declared.report.Verdict.TheVariants.{Skipped, Passed, Failed}
+pub use Rattle.nf_vectors.specs.declared.report.Verdict.TheVariants.{Skipped, Failed}
 pub use Rattle.nf_vectors.specs.declared.suite.Entry.{Entry}

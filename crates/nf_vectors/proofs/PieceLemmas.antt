@@ -1,12 +1,11 @@
 -- The pieces of a row.
-use Rattle.nf_vectors.proofs.Common.{◌≡◌, ◌+◌, count_by, ℕ, ◌<◌, Bool, true, false, List, [], ◌∷◌, length, Err, refl, sym, ap, ◌∙◌, arith, slice_index_or, ⊎_elim, not, slice_split, before_first, after_first, position_or_len, list_all, cases_lt, nat_tests, slice_split_first, slice_split_none, fails_before_first, AllPass-from_list_all, prefix_len-le-length, Fields, is_semicolon, is_blank, columns_in}
-use Rattle.std.proofs.lemmas.Bool.{cond-false}
+use Rattle.nf_vectors.proofs.Common.{◌≡◌, ◌+◌, count_by, ℕ, ◌<◌, Bool, true, false, List, [], ◌∷◌, length, Err, refl, arith, slice_index_or, ⊎_elim, not, slice_split, before_first, after_first, position_or_len, list_all, cases_lt, nat_tests, slice_split_first, slice_split_none, fails_before_first, AllPass-from_list_all, prefix_len-le-length, Fields, is_semicolon, is_blank, columns_in}
 use Rattle.std.proofs.lemmas.List.Splits.{length-slice_split}
 
 -- bytes are cut at the first semicolon
 pub split-cut : (bytes first rest : List ℕ) → (position_or_len is_semicolon bytes < length bytes) × (first ≡ before_first is_semicolon bytes) × (rest ≡ after_first is_semicolon bytes)
     → slice_split is_semicolon bytes ≡ first ∷ slice_split is_semicolon rest
-split-cut bytes first rest parts = slice_split_first is_semicolon bytes 0 parts.0 ∙ (λ i. sym parts.1 i ∷ slice_split is_semicolon (sym parts.2 i))
+split-cut bytes first rest parts = rw (parts.1, parts.2) (slice_split_first is_semicolon bytes 0 parts.0)
 
 pub split-none : (bytes : List ℕ) → position_or_len is_semicolon bytes ≡ length bytes → slice_split is_semicolon bytes ≡ bytes ∷ []
 split-none bytes end = slice_split_none is_semicolon bytes (λ k d within. fails_before_first is_semicolon bytes k d (omega arith))
@@ -28,9 +27,6 @@ split-blank bytes blank = slice_split_none is_semicolon bytes (λ k d within. no
 -- behind the fifth piece stands another that is not blank, and perhaps more
 pub columns_in-more : (a b c d e v : List ℕ) → list_all is_blank v ≡ false → columns_in (a ∷ b ∷ c ∷ d ∷ e ∷ slice_split is_semicolon v) ≡ Err Fields
 columns_in-more a b c d e v other = ⊎_elim
-    (λ inside.
-    let some = split-some is_semicolon (after_first is_semicolon v) in
-    ap (λ l. columns_in (a ∷ b ∷ c ∷ d ∷ e ∷ l)) (slice_split_first is_semicolon v 0 inside ∙ ap (λ l. before_first is_semicolon v ∷ l) some.2))
-    (λ past. ap (λ l. columns_in (a ∷ b ∷ c ∷ d ∷ e ∷ l)) (split-none v (omega (arith, prefix_len-le-length (λ b. not (is_semicolon b)) v)))
-    ∙ cond-false _ _ _ other)
+    (λ inside. rw (slice_split_first is_semicolon v 0 inside, (split-some is_semicolon (after_first is_semicolon v)).2) refl)
+    (λ past. rw (split-none v (omega (arith, prefix_len-le-length (λ b. not (is_semicolon b)) v)), other) refl)
     (cases_lt (position_or_len is_semicolon v) (length v))

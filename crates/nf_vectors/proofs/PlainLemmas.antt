@@ -1,8 +1,7 @@
 -- No form changes a sound starter that is its own decomposition.
-use Rattle.nf_vectors.proofs.Common.{◌≡◌, ℕ, Bool, true, false, List, [], ◌∷◌, ◌++◌, length, refl, ap, ◌∙◌, arith, and_from, le-ltb, bytes_eq-Decides, list_all, Properties, is_sound, Form, Nfc, Nfd, Nfkc, Nfkd, is_usable, safe_form, holds, is_unchanged, eq-eqb}
+use Rattle.nf_vectors.proofs.Common.{◌≡◌, ℕ, Bool, true, false, List, [], ◌∷◌, length, refl, ap, ◌∙◌, arith, and_from, le-ltb, bytes_eq-Decides, list_all, Properties, is_sound, Form, Nfc, Nfd, Nfkc, Nfkd, is_usable, safe_form, holds, is_unchanged, eq-eqb}
 use Rattle.std.proofs.lemmas.Bool.{cond-true}
 use Rattle.nf_forms.specs.Order.{by_class, order}
-use Rattle.nf_forms.specs.Compose.{compose}
 use Rattle.nf_forms.specs.Forms.{arranged, composes, finished, decomposed, normal_form}
 use Rattle.nf_forms.specs.StreamSafe.{max_run, stream_safe}
 use Rattle.nf_forms.specs.Runs.{lead}
@@ -16,13 +15,13 @@ module _ (p : Properties) (c : ℕ) (plain : IsPlain p c) where
 
   arranged-one : (b : Bool) → arranged b p (c ∷ []) ≡ c ∷ []
   arranged-one false = order-one
-  arranged-one true = ap (compose p) order-one
+  arranged-one true = rw order-one
 
   decomposed-one : (f : Form) → decomposed f p (c ∷ []) ≡ c ∷ []
-  decomposed-one Nfc = ap (λ row. row ++ []) plain.canonical
-  decomposed-one Nfd = ap (λ row. row ++ []) plain.canonical
-  decomposed-one Nfkc = ap (λ row. row ++ []) plain.compat
-  decomposed-one Nfkd = ap (λ row. row ++ []) plain.compat
+  decomposed-one Nfc = rw plain.canonical
+  decomposed-one Nfd = rw plain.canonical
+  decomposed-one Nfkc = rw plain.compat
+  decomposed-one Nfkd = rw plain.compat
 
   -- no joiner stands before it
   safe-one : stream_safe p (c ∷ []) ≡ c ∷ []
@@ -36,4 +35,4 @@ module _ (p : Properties) (c : ℕ) (plain : IsPlain p c) where
       (ap (normal_form f p) safe-one ∙ ap (finished f p) (decomposed-one f) ∙ arranged-one (composes f)))
 
   pub unchanged-plain : is_unchanged p c ≡ true
-  unchanged-plain = and_from _ _ (and_from _ _ (and_from _ _ (held-one Nfc) (held-one Nfd)) (held-one Nfkc)) (held-one Nfkd)
+  unchanged-plain = simp held-one
