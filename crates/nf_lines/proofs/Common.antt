@@ -1,5 +1,5 @@
 -- The names that most of these proofs cite, passed on from one place. Declares nothing.
-pub use Rattle.std.proofs.Common.{◌≡◌, ℕ, ◌+◌, ◌==◌, Bool, true, false, List, [], ◌∷◌, ◌++◌, length, Option, Some, None, inl, inr, ⊎_elim, encode_utf8_all, refl, sym, ap, subst, ◌∙◌, arith, append_assoc, append-nil, length-append, eq-eqb, ne_eqb, suc, ◌-◌, ◌<◌, ◌≤◌, take, drop, get_or, Result, Ok, Err, OnOk, IsTrue, ◌^◌, ◌⊎◌, take_at, take_all, take-append-drop, IsUtf8, rules, length-take, IsFalse}
+pub use Rattle.std.proofs.Common.{◌≡◌, ℕ, ◌+◌, ◌==◌, Bool, true, false, List, [], ◌∷◌, ◌++◌, length, Option, Some, None, inl, inr, ⊎_elim, encode_utf8_all, refl, sym, ap, subst, ◌∙◌, arith, append_assoc, append-nil, length-append, eq-eqb, ne_eqb, suc, ◌-◌, ◌<◌, ◌≤◌, take, drop, get_or, Result, Ok, Err, OnOk, IsTrue, ◌^◌, ◌⊎◌, take_at, take_all, take-append-drop, IsUtf8, rules, length-take, length-drop, IsFalse}
 pub use Rattle.std.proofs.Math.Seq.{drop-cons, drop-length, take-suc, get_or-append_seam, drop-append-add}
 pub use Rattle.std.proofs.lemmas.Bool.{cases_Bool, or_from}
 pub use Rattle.std.proofs.lemmas.List.{drop-append-le}
@@ -30,7 +30,7 @@ pub use Rattle.nf_filter.specs.declared.tally.Tally.{Tally}
 pub use Rattle.nf_forms.specs.Properties.{Properties}
 pub use Rattle.nf_forms.specs.Ucd.{ucd}
 pub use Rattle.nf_forms.specs.declared.form.Form.{Form}
-pub use Rattle.nf_forms.specs.declared.form.Form.TheVariants.{Nfc, Nfd, Nfkc, Nfkd}
+pub use Rattle.nf_forms.specs.declared.form.Form.TheVariants.{Nfc}
 pub use Rattle.nf_lines.specs.Alone.{end_fault, SameOrLineFeed, StandAlone}
 pub use Rattle.nf_lines.specs.Cut.{EndsInLineFeed, HasNoLineFeed, IsCutAt, AreLines}
 pub use Rattle.nf_lines.specs.Drives.{Lines, bytes_of, lines_utf8, TakesLines, DrivesLines}

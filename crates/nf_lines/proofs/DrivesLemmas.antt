@@ -1,5 +1,5 @@
 -- What driving line by line comes to.
-use Rattle.nf_lines.proofs.Common.{fed_by, Bool, ◌≡◌, ℕ, ◌+◌, ◌≤◌, ◌==◌, ◌^◌, true, false, List, [], ◌++◌, length, take, Some, None, Result, Ok, Err, inl, ⊎_elim, refl, sym, ap, subst, ◌∙◌, arith, append-nil, length-append, eq-eqb, OnOk, IsTrue, IsFalse, result_err, Consumes, IsAtEnd, Form, Fault, TooLong, Read, Write, State, Policy, Tally, SinkState, SourceState, settled_utf8-none, settled_utf8, fault_in, base_of, StandsAfter, end_of, final_utf8, Finishes, offset_of, StandsAfter-no_fault, StandsAfter-offset, StandsAfter-fits, Puts-none, Puts-at, BreaksOff-at, ucd, end_fault, Lines, bytes_of, TakesLines, DrivesLines}
+use Rattle.nf_lines.proofs.Common.{fed_by, Bool, ◌≡◌, ℕ, ◌+◌, ◌≤◌, ◌==◌, ◌^◌, true, false, List, [], ◌++◌, length, take, Some, None, Result, Ok, Err, inl, ⊎_elim, refl, sym, ap, ◌∙◌, arith, append-nil, length-append, eq-eqb, OnOk, IsTrue, IsFalse, result_err, Consumes, IsAtEnd, Form, Fault, TooLong, Read, Write, State, Policy, Tally, SinkState, SourceState, settled_utf8-none, fault_in, base_of, StandsAfter, end_of, final_utf8, Finishes, offset_of, StandsAfter-no_fault, StandsAfter-offset, StandsAfter-fits, Puts-none, Puts-at, BreaksOff-at, ucd, end_fault, Lines, bytes_of, TakesLines, DrivesLines}
 use Rattle.std.proofs.KnownBytes.{Consumes-trans}
 use Rattle.nf_filter.specs.Drives.{due_utf8}
 use Rattle.nf_filter.specs.Writes.{Puts, BreaksOff}
@@ -13,14 +13,14 @@ takes_none {policy} {f} {sink = sink} stands base = record {
   whole = inl refl;
   no_fault = good;
   broken_off = λ e. cc;
-  written = λ _. Puts-at refl (sym (ap (λ b. b ++ settled_utf8 policy f ucd []) (final-none policy f ucd) ∙ settled_utf8-none policy f ucd)) (Puts-none sink []);
+  written = λ _. Puts-at refl (rw (final-none, settled_utf8-none) refl) (Puts-none sink []);
   answer = λ _ _. sym good;
   too_long = λ e. cc;
   stands = λ _. (refl, base, stands);
 }
   where
     good : fault_in policy ucd 0 [] ≡ None
-    good = ap (λ n. fault_in policy ucd n []) (sym base) ∙ StandsAfter-no_fault stands
+    good = rw base at (StandsAfter-no_fault stands)
 
 pub takes_offset : {policy : Policy} {f : Form} {state : State} {l : Lines} {first now : SinkState} → TakesLines policy f ucd state l first now (Ok tt) → offset_of state ≡ length (bytes_of l)
 takes_offset {l = l} has = omega (arith, StandsAfter-offset (has.stands refl).2, (has.stands refl).1, length-append l.whole l.rest)
@@ -49,8 +49,8 @@ module _ (alone : LinesStandAlone) {policy : Policy} {f : Form} {most : ℕ} {so
       λ e. (long e, (takes.too_long e).1, λ broken. cc),
       λ over. ⊎_elim (λ is. is) (λ short. let none : Some fault ≡ None = takes.answer over.2 short ∙ over.1 in cc) (long_or_not (Err fault)),
     );
-    broken_off = λ e. BreaksOff-at refl (ap (due policy f t) (sym going)) (takes.broken_off e);
-    written = λ kept. Puts-at refl (ap (due policy f t) (sym going)) (takes.written kept);
+    broken_off = λ e. BreaksOff-at refl (rw going) (takes.broken_off e);
+    written = λ kept. Puts-at refl (rw going) (takes.written kept);
     form = tt;
     settled = (joins alone t.whole t.rest takes.whole takes.no_fault).settled;
     finished = never going;
@@ -65,7 +65,7 @@ module _ (alone : LinesStandAlone) {policy : Policy} {f : Form} {most : ℕ} {so
     all_read new r given read_out short breaks puts form finished unended = record {
       taken = t;
       last = [];
-      given = subst (Consumes source.coming left.coming) (sym (append-nil (bytes_of t))) given;
+      given = rw append-nil given;
       few = omega arith;
       read_out = read_out;
       all_taken = λ _. refl;
@@ -83,15 +83,15 @@ module _ (alone : LinesStandAlone) {policy : Policy} {f : Form} {most : ℕ} {so
 
     -- the source failed
     pub drives-failed : left.is_at_end ≡ false → Consumes source.coming left.coming (bytes_of t) → DrivesLines most policy f ucd source left old now (Err Read)
-    drives-failed going given = all_read now (Err Read) given (never going) (λ e. cc) (λ e. cc) (λ _. Puts-at refl (ap (due policy f t) (sym going)) (has.written (λ e. cc))) tt (never going) (λ _. refl)
+    drives-failed going given = all_read now (Err Read) given (never going) (λ e. cc) (λ e. cc) (λ _. Puts-at refl (rw going) (has.written (λ e. cc))) tt (never going) (λ _. refl)
 
     -- it ended, and the filter was finished
     pub drives-finished : (mid : SourceState) {n : ℕ} {new : SinkState} (buffer : List ℕ) (r : Result Tally Fault) → n ≡ 0 → left.is_at_end ≡ (n == 0) → IsAtEnd left.coming → Consumes source.coming mid.coming (bytes_of t)
         → Consumes mid.coming left.coming (take n buffer) → ¬ (r ≡ Err TooLong) → Finishes policy f ucd (base_of state) t.rest now new r → DrivesLines most policy f ucd source left old new (untold r)
     drives-finished mid {n} {new} buffer r none at_end empty read given short finishes =
         all_read new (untold r) consumed (λ _. empty) (λ e. short (told r TooLong e))
-        (λ e. BreaksOff-at refl (ap (due policy f t) (sym ended)) (BreaksOff-on (final_utf8 policy f ucd t.whole) (has.written (λ e. cc)) (finishes.broken_off (told r Write e))))
-        (λ kept. Puts-at refl (ap (due policy f t) (sym ended)) (Puts-on (final_utf8 policy f ucd t.whole) (has.written (λ e. cc)) (finishes.written (λ e. kept (ap untold e)))))
+        (λ e. BreaksOff-at refl (rw ended) (BreaksOff-on (final_utf8 policy f ucd t.whole) (has.written (λ e. cc)) (finishes.broken_off (told r Write e))))
+        (λ kept. Puts-at refl (rw ended) (Puts-on (final_utf8 policy f ucd t.whole) (has.written (λ e. cc)) (finishes.written (λ e. kept (ap untold e)))))
         (formed r finishes.answer) (λ _ kept. untold_err r ∙ ap result_err (finishes.answer (λ e. kept (ap untold e))) ∙ sym joined.end)
         (λ going. never going ended)
       where
@@ -102,10 +102,8 @@ module _ (alone : LinesStandAlone) {policy : Policy} {f : Form} {most : ℕ} {so
         ended = at_end ∙ eq-eqb n 0 none
 
         consumed : Consumes source.coming left.coming (bytes_of t)
-        consumed =
-            subst (Consumes source.coming left.coming) (append-nil (bytes_of t))
-            (Consumes-trans source.coming mid.coming left.coming (bytes_of t) [] read (subst (λ n. Consumes mid.coming left.coming (take n buffer)) none given))
+        consumed = rw append-nil at (Consumes-trans source.coming mid.coming left.coming (bytes_of t) [] read (rw none at given))
 
         formed : (r : Result Tally Fault) → (¬ (r ≡ Err Write) → r ≡ end_of policy ucd (base_of state) t.rest) → OnOk (untold r) (due policy f t left.is_at_end ≡ final_utf8 policy f ucd (bytes_of t))
-        formed (Ok tally) answers = ap (due policy f t) ended ∙ sym (joined.final (sym (ap result_err (answers (λ e. cc)))))
+        formed (Ok tally) answers = rw ended (sym (joined.final (sym (ap result_err (answers (λ e. cc))))))
         formed (Err fault) answers = tt

@@ -1,4 +1,4 @@
-use Rattle.nf_lines.proofs.Common.{◌≡◌, TooLong, ◌∙◌, [], ◌++◌, length, take, Ok, Err, refl, sym, ap, subst, arith, rules, append-nil, length-take, length-append, ne_eqb, Consumes, as_is, bytes_of}
+use Rattle.nf_lines.proofs.Common.{◌≡◌, TooLong, ◌∙◌, [], length, take, Ok, Err, refl, ap, arith, rules, append-nil, length-take, length-append, ne_eqb, as_is, bytes_of}
 use Rattle.std.proofs.KnownBytes.{Consumes-kept, Consumes-nil, Consumes-trans}
 use Rattle.nf_lines.proofs.DrivesLemmas.{takes_none, drives-stopped, drives-failed, drives-finished, takes_offset}
 use Rattle.nf_lines.proofs.driving.drive_lines.Goals as goal
@@ -24,7 +24,7 @@ returns-in-Err-feed_lines-clause-drives g c =
     let feeds = stopped.feeds _ read.0 read.2 in
     drives-stopped c.lines_stand_alone.ensures feeds.1 c.in-Err-feed_lines.fault stopped.not_read
     (c.in-Ok.ensures.end ∙ ne_eqb c.in-Ok.given 0 c.if-given-eq0.false)
-    (subst (Consumes (g.I.Source.state c.args.source.now).coming (g.I.Source.state c.get.new.self).coming) (sym feeds.2) (Consumes-trans _ _ _ (bytes_of read.0) piece read.1 c.in-Ok.ensures.given))
+    (rw feeds.2 (Consumes-trans _ _ _ (bytes_of read.0) piece read.1 c.in-Ok.ensures.given))
     (omega (arith, feeds.3, length-take c.in-Ok.given c.get.new.buf, c.get.auto.buf, c.loop-given.invariant.room))
     (λ e. let over = stopped.too_long e in omega (arith, over, takes_offset read.2, ap length feeds.2, length-append (bytes_of feeds.0) feeds.1, length-append (bytes_of read.0) piece))
     feeds.5
@@ -34,13 +34,13 @@ loop-given-preserved g c =
     let read = c.loop-given.invariant.read in
     let piece = take c.in-Ok.given c.get.new.buf in
     let feeds = c.in_default.ensures.feeds _ read.0 read.2 in
-    let all = sym (append-nil (bytes_of feeds.0)) ∙ ap (λ b. bytes_of feeds.0 ++ b) (sym (feeds.4 refl)) ∙ feeds.2 in
+    let all = rw (feeds.4 refl, append-nil) at feeds.2 in
     record {
       room = c.get.auto.buf ∙ c.loop-given.invariant.room;
       unspent = search rules;
       read = (
         feeds.0,
-        subst (Consumes (g.I.Source.state c.args.source.now).coming (g.I.Source.state c.get.new.self).coming) (sym all) (Consumes-trans _ _ _ (bytes_of read.0) piece read.1 c.in-Ok.ensures.given),
+        rw all (Consumes-trans _ _ _ (bytes_of read.0) piece read.1 c.in-Ok.ensures.given),
         feeds.5,
       );
       lenders = (c.get.ensures.lender ∙ c.loop-given.invariant.lenders.0, c.feed_lines.ensures.lender ∙ c.loop-given.invariant.lenders.1);
