@@ -1,5 +1,5 @@
 -- Lines, and what stands behind them.
-use Rattle.nf_lines.proofs.Common.{Result, Ok, Err, ◌≡◌, ℕ, ◌+◌, ◌==◌, Bool, true, false, List, [], ◌∷◌, ◌++◌, length, Option, Some, None, inl, inr, ⊎_elim, encode_utf8_all, refl, sym, ap, subst, ◌∙◌, arith, append_assoc, append-nil, length-append, result_err, cases_Bool, encodes-append, Properties, Form, Nfc, Ending, Whole, text_of, ending_of, parts_of, replaced, replaced_whole, line_feed, Fault, Policy, Tally, text_under-none, answer_at_end, bad_under, first_fault, fault_in, IsLeft, answer_or, end_under, end_of, final_utf8, tally_of, allowed, len_under, text_under, whole_under, settled, settled_utf8, left-text, EndsInLineFeed, end_fault, StandAlone}
+use Rattle.nf_lines.proofs.Common.{Result, Ok, Err, ◌≡◌, ℕ, ◌+◌, ◌==◌, Bool, true, false, List, [], ◌∷◌, ◌++◌, length, Option, Some, None, inl, inr, ⊎_elim, encode_utf8_all, refl, sym, ◌∙◌, arith, append_assoc, append-nil, length-append, result_err, cases_Bool, encodes-append, Properties, Form, Nfc, Ending, Whole, text_of, ending_of, parts_of, replaced, replaced_whole, line_feed, Fault, Policy, Tally, text_under-none, answer_at_end, bad_under, first_fault, fault_in, IsLeft, answer_or, end_under, end_of, final_utf8, tally_of, allowed, len_under, text_under, whole_under, settled, settled_utf8, left-text, EndsInLineFeed, end_fault, StandAlone}
 use Rattle.std.specs.Str.{chars}
 use Rattle.std.specs.Str.Lossy.{utf8_valid_len}
 use Rattle.nf_forms.specs.Order.{by_class}
@@ -58,7 +58,7 @@ end_nothing policy p base = by policy.replace policy.assigned
 
 pub final-none : (policy : Policy) (f : Form) (p : Properties) → final_utf8 policy f p [] ≡ []
 unfolding safe_form by_class
-final-none policy f p = final_whole f p policy 0 [] (end_nothing policy p 0) ∙ ap (λ x. encode_utf8_all (safe_form f p x)) (whole_under-none policy.replace) ∙ by f
+final-none policy f p = rw (final_whole f p policy 0 [] (end_nothing policy p 0), whole_under-none) (by f)
   where
     by : (f : Form) → encode_utf8_all (safe_form f p []) ≡ []
     by Nfc = refl
@@ -77,7 +77,7 @@ module _ (p : Properties) (sound : AreSound p) where
   fault_behind a x y place behind other all places =
       let taken : allowed a p (x ++ y) ≡ x ++ allowed a p y = allowed-append p a x y all in
       let same : (length (x ++ allowed a p y) == length (x ++ y)) ≡ (length (allowed a p y) == length y) =
-      (λ i. length-append x (allowed a p y) i == length-append x y i) ∙ eqb_past (length x) (length (allowed a p y)) (length y) in
+      rw (length-append, length-append) (eqb_past (length x) (length (allowed a p y)) (length y)) in
       rw (
         first_fault-is p a place (x ++ y) other,
         first_fault-is p a behind y other,
@@ -91,7 +91,7 @@ module _ (p : Properties) (sound : AreSound p) where
   module _ (f : Form) where
     settled_is : (policy : Policy) (bytes : List ℕ) → settled_utf8 policy f p bytes ≡ encode_utf8_all (front p (safe_form f p (allowed policy.assigned p (text_under policy.replace bytes))))
     unfolding settled_utf8 settled
-    settled_is policy bytes = ap (λ x. encode_utf8_all (settled f p x)) (usable-all p (allowed policy.assigned p (text_under policy.replace bytes)) (usable_is p sound (allowed policy.assigned p (text_under policy.replace bytes))))
+    settled_is policy bytes = rw (usable-all p _ (usable_is p sound (allowed policy.assigned p (text_under policy.replace bytes)))) refl
 
     -- ---- lines of which nothing is left
     module _ (parting : IsParting p f line_feed) (closing : IsClosing p f line_feed) (policy : Policy) (base : ℕ) (lines rest : List ℕ) (read : ReadsLines policy.replace lines) (unfaulted : fault_in policy p base lines ≡ None) where
@@ -105,7 +105,7 @@ module _ (p : Properties) (sound : AreSound p) where
       unfolding fault_in
       taken =
           let all = taken_all policy.assigned (λ front. base + len_under policy.replace lines front) (text_under policy.replace lines) (bad_under policy.replace base lines) unfaulted in
-          (subst (λ z. allowed policy.assigned p z ≡ z) text_is all.0, all.1)
+          (rw text_is at all.0, all.1)
 
       -- behind them the fault is that of the rest
       past : (r : Bool) → IsLeft r lines text (length lines) [] → (more z : List ℕ) (other : Option Fault)
@@ -119,34 +119,33 @@ module _ (p : Properties) (sound : AreSound p) where
         where
           by : (b : Bool) → IsLeft b lines text (length lines) [] → result_err (end_under b policy.assigned p base (lines ++ more)) ≡ result_err (end_under b policy.assigned p (base + length lines) more)
           by false left =
-              strict_end base (tally_of false p (lines ++ more)) (ending_of (lines ++ more)) ∙ ap result_err (left.end refl base more) ∙ sym (strict_end (base + length lines) (tally_of false p more) (ending_of more))
-          by true left =
-              answered _ (tally_of true p (lines ++ more))
-              ∙ ap (λ z. first_fault policy.assigned p (λ front. base + len_under true (lines ++ more) front) z None) (left.whole more) ∙ past true left more (whole_under true more) None
-              ∙ sym (answered _ (tally_of true p more))
+              rw (strict_end base (tally_of false p (lines ++ more)), strict_end (base + length lines) (tally_of false p more), left.end refl base more) refl
+          by true left = rw (answered _ (tally_of true p (lines ++ more)), answered _ (tally_of true p more), left.whole more) (past true left more (whole_under true more) None)
 
       alone_whole : end_fault policy p base lines ≡ None
-      alone_whole = ap (end_fault policy p base) (sym (append-nil lines)) ∙ end_behind [] ∙ end_nothing policy p (base + length lines)
+      alone_whole = rw append-nil at (end_behind [] ∙ end_nothing policy p (base + length lines))
 
       whole_is : whole_under policy.replace lines ≡ text
       whole_is = simp (whole_under-none, append-nil) at (left-whole policy.replace lines text (length lines) [] read.left)
 
       lines_form : final_utf8 policy f p lines ≡ encode_utf8_all (safe_form f p text)
-      lines_form = final_whole f p policy base lines alone_whole ∙ ap (λ z. encode_utf8_all (safe_form f p z)) whole_is
+      lines_form = rw (final_whole f p policy base lines alone_whole, whole_is) refl
 
       pub alone : StandAlone policy f p base lines rest
       unfolding fault_in
       alone = record {
         whole = alone_whole;
-        fault = (λ i. first_fault policy.assigned p (λ front. base + len_under policy.replace (lines ++ rest) front) (read.left.text rest i) (read.left.bad base rest i))
-            ∙ past policy.replace read.left rest (text_under policy.replace rest) (bad_under policy.replace (base + length lines) rest);
+        fault = rw (read.left.text rest, read.left.bad base rest) (past policy.replace read.left rest (text_under policy.replace rest) (bad_under policy.replace (base + length lines) rest));
         end = end_behind rest;
         final = λ none.
-            final_whole f p policy base (lines ++ rest) (end_behind rest ∙ none)
-            ∙ ap (λ z. encode_utf8_all (safe_form f p z)) (read.left.whole rest)
-            ∙ ap encode_utf8_all (safe_form-closed p f line_feed closing read.before (whole_under policy.replace rest))
-            ∙ encodes-append (safe_form f p text) (safe_form f p (whole_under policy.replace rest))
-            ∙ (λ i. sym lines_form i ++ sym (final_whole f p policy (base + length lines) rest none) i);
+            rw (
+              final_whole f p policy base (lines ++ rest) (end_behind rest ∙ none),
+              read.left.whole rest,
+              safe_form-closed p f line_feed closing read.before (whole_under policy.replace rest),
+              encodes-append,
+              lines_form,
+              final_whole f p policy (base + length lines) rest none,
+            ) refl;
         settled = ⊎_elim (λ some. inl (some_starter some)) (λ none. inr (no_starter none)) (cases_Bool (has_starter p tail));
       }
         where
@@ -167,18 +166,14 @@ module _ (p : Properties) (sound : AreSound p) where
 
           some_starter : has_starter p tail ≡ true → final_utf8 policy f p lines ++ settled_utf8 policy f p rest ≡ settled_utf8 policy f p (lines ++ rest)
           some_starter some =
-              (λ i. lines_form i ++ settled_is policy rest i) ∙ sym (encodes-append head (front p tail)) ∙ ap encode_utf8_all (sym (front-append_some p head tail some)) ∙ sym all_settled
+              rw (all_settled, front-append_some p head tail some, encodes-append, lines_form, settled_is policy rest) refl
 
           no_starter : has_starter p tail ≡ false → final_utf8 policy f p lines ++ settled_utf8 policy f p rest ≡ settled_utf8 policy f p (lines ++ rest) ++ line_feed ∷ []
           no_starter none =
               let before : List ℕ = safe_form f p read.before in
               let pushed : head ≡ before ++ line_feed ∷ [] = safe_form-push p f line_feed parting read.before (all_sound p sound (stream_safe p read.before)) in
-              let fronted : front p (head ++ tail) ≡ before =
-              ap (λ z. front p (z ++ tail)) pushed ∙ ap (front p) (append_assoc before (line_feed ∷ []) tail) ∙ front-at p before line_feed tail parting.starts none in
-              (λ i. (lines_form ∙ ap encode_utf8_all pushed ∙ encodes-append before (line_feed ∷ []) ∙ ap (λ z. encode_utf8_all before ++ z) line_encodes) i ++ (settled_is policy rest ∙ ap encode_utf8_all (front-none p tail none)) i)
-              ∙ append-nil (encode_utf8_all before ++ line_feed ∷ [])
-              ∙ ap (λ z. encode_utf8_all z ++ line_feed ∷ []) (sym fronted)
-              ∙ ap (λ z. z ++ line_feed ∷ []) (sym all_settled)
+              let fronted : front p (head ++ tail) ≡ before = rw (pushed, append_assoc before (line_feed ∷ []) tail) (front-at p before line_feed tail parting.starts none) in
+              rw (all_settled, fronted, lines_form, settled_is policy rest, front-none p tail none, pushed, encodes-append before (line_feed ∷ []), line_encodes) (append-nil (encode_utf8_all before ++ line_feed ∷ []))
 
   -- lines without a fault leave nothing
   pub lines_alone : Reading → (f : Form) → IsParting p f line_feed → IsClosing p f line_feed → (policy : Policy) (base : ℕ) (lines rest : List ℕ) → EndsInLineFeed lines

@@ -1,6 +1,6 @@
 -- The names that most of these proofs cite, passed on from one place. Declares nothing.
 pub use Rattle.std.proofs.Common.{◌≡◌, ℕ, ◌+◌, ◌==◌, Bool, true, false, List, [], ◌∷◌, ◌++◌, length, Option, Some, None, inl, inr, ⊎_elim, encode_utf8_all, refl, sym, ap, subst, ◌∙◌, arith, append_assoc, append-nil, length-append, eq-eqb, ne_eqb, suc, ◌-◌, ◌<◌, ◌≤◌, take, drop, get_or, Result, Ok, Err, OnOk, IsTrue, ◌^◌, ◌⊎◌, take_at, take_all, take-append-drop, IsUtf8, rules, length-take, length-drop, IsFalse}
-pub use Rattle.std.proofs.Math.Seq.{drop-cons, drop-length, take-suc, get_or-append_seam, drop-append-add}
+pub use Rattle.std.proofs.Math.Seq.{drop-cons, drop-length, get_or-append_seam, drop-append-add}
 pub use Rattle.std.proofs.lemmas.Bool.{cases_Bool, or_from}
 pub use Rattle.std.proofs.lemmas.List.{drop-append-le}
 pub use Rattle.std.proofs.lemmas.Str.{encodes-append, IsUtf8-take}

@@ -1,6 +1,5 @@
 -- Of whole lines nothing is left to be read.
-use Rattle.nf_lines.proofs.Common.{◌≡◌, ℕ, ◌+◌, ◌≤◌, Bool, true, false, None, List, [], ◌∷◌, ◌++◌, length, take, drop, encode_utf8_all, refl, sym, ap, subst, ◌∙◌, arith, append_assoc, append-nil, length-append, take_at, take_all, drop-append-le, encodes-append, scalars-append, BeginsText, Ending, Whole, Bad, Cut, text_of, ending_of, replacement, part_end, line_feed, bad_byte, bad_under, IsLeft, IsLeft-all, IsLeft-behind, IsLeft-join, EndsInLineFeed}
-use Rattle.std.proofs.Common.{subst₂}
+use Rattle.nf_lines.proofs.Common.{◌≡◌, ℕ, ◌+◌, ◌≤◌, Bool, true, false, None, List, [], ◌∷◌, ◌++◌, length, take, drop, encode_utf8_all, refl, sym, ap, subst, arith, append_assoc, append-nil, length-append, take_at, take_all, drop-append-le, encodes-append, scalars-append, BeginsText, Ending, Whole, Bad, Cut, text_of, ending_of, replacement, part_end, line_feed, bad_under, IsLeft, IsLeft-all, IsLeft-behind, IsLeft-join, EndsInLineFeed}
 use Rattle.std.proofs.lemmas.Bool.Decides.{nat_tests}
 use Rattle.nf_lines.proofs.WholeParts.{Reading, front_utf8, line_encodes, text_left}
 use Rattle.nf_utf8.specs.Reads.{EndsAs}
@@ -23,8 +22,8 @@ module _ (laws : Reading) where
   lines_begun : (r : Bool) (lines : List ℕ) → EndsInLineFeed lines → BeginsText lines → ReadsLines r lines
   lines_begun r lines is b =
       let text = front_utf8 is.0 (subst BeginsText is.1 b) in
-      subst (ReadsLines r) (encodes-append text.0 (line_feed ∷ []) ∙ (λ i. text.1.1 i ++ line_encodes i) ∙ sym is.1)
-      (record { before = text.0; left = text_left laws (text.0 ++ line_feed ∷ []) (scalars-append text.0 (line_feed ∷ []) text.1.0 refl) r })
+      let whole : encode_utf8_all (text.0 ++ line_feed ∷ []) ≡ lines = rw (encodes-append, text.1.1, line_encodes) (sym is.1) in
+      subst (ReadsLines r) whole (record { before = text.0; left = text_left laws (text.0 ++ line_feed ∷ []) (scalars-append text.0 (line_feed ∷ []) text.1.0 refl) r })
 
   -- a line feed behind a text is no bad byte
   line_good : (lines : List ℕ) (at : ℕ) → EndsInLineFeed lines → ending_of lines ≡ Bad at at → ¬ (at + 1 ≡ length lines)
@@ -33,19 +32,18 @@ module _ (laws : Reading) where
       let reads = laws.longest.reads lines in
       let bad = subst (EndsAs lines text) e reads.end in
       let len : length is.0 ≡ at = omega (arith, last, ap length is.1, length-append is.0 (line_feed ∷ [])) in
-      let front : encode_utf8_all text ≡ is.0 =
-      sym (take_at (encode_utf8_all text) reads.front.spelled.0 at (sym bad.1)) ∙ ap (take at) (sym reads.front.spelled.1 ∙ is.1) ∙ take_at is.0 (line_feed ∷ []) at len in
+      let front : encode_utf8_all text ≡ is.0 = cc (take_at (encode_utf8_all text) reads.front.spelled.0 at (sym bad.1), reads.front.spelled.1, is.1, take_at is.0 (line_feed ∷ []) at len) in
       let whole : encode_utf8_all (text ++ line_feed ∷ []) ≡ take (at + 1) lines ++ [] =
-      encodes-append text (line_feed ∷ []) ∙ (λ i. front i ++ line_encodes i) ∙ sym is.1 ∙ sym (take_all (at + 1) lines (omega (arith, last))) ∙ sym (append-nil (take (at + 1) lines)) in
+      rw (encodes-append, front, line_encodes, append-nil, take_all (at + 1) lines (omega arith)) (sym is.1) in
       bad.0.here ([], (text ++ line_feed ∷ [], (scalars-append text (line_feed ∷ []) reads.front.scalars refl, whole)))
 
   -- what a bad byte leaves of them ends in the line feed
   lines_after : (lines : List ℕ) (at start : ℕ) → EndsInLineFeed lines → ending_of lines ≡ Bad at start → EndsInLineFeed (drop (part_end at start) lines)
   lines_after lines at start is e =
-      (drop (part_end at start) is.0, ap (drop (part_end at start)) is.1 ∙ drop-append-le (part_end at start) is.0 (line_feed ∷ []) within)
+      (drop (part_end at start) is.0, rw is.1 (drop-append-le (part_end at start) is.0 (line_feed ∷ []) within))
     where
       good : at ≡ start → ¬ (at + 1 ≡ length lines)
-      good same = line_good lines at is (e ∙ ap (λ n. Bad at n) (sym same))
+      good same = line_good lines at is (rw (← same) at e)
 
       within : part_end at start ≤ length is.0
       within = let b = broken lines at start e in grind (arith, nat_tests, good, b.0, b.1, ap length is.1, length-append is.0 (line_feed ∷ []))
@@ -56,7 +54,7 @@ module _ (laws : Reading) where
     AreRead r lines = EndsInLineFeed lines → bad_under r base lines ≡ None → ReadsLines r lines
 
     behind_bad : (r : Bool) (lines : List ℕ) (at start : ℕ) → ending_of lines ≡ Bad at start → AreRead r (drop (part_end at start) lines) → AreRead r lines
-    behind_bad false lines at start e on is good = let absurd_is : bad_byte base (Bad at start) ≡ None = sym (ap (bad_byte base) e) ∙ good in cc
+    behind_bad false lines at start e on is good = let absurd_is = rw e at good in cc
     behind_bad true lines at start e on is good =
         let end = broken_end lines at start e in
         let rest = on (lines_after lines at start is e) refl in
@@ -67,7 +65,7 @@ module _ (laws : Reading) where
         let len : (0 + part_end at start) + length left ≡ length lines = omega (arith, all.len) in
         record {
           before = own ++ rest.before;
-          left = subst₂ (λ x n. IsLeft true lines x n []) (sym (append_assoc own rest.before (line_feed ∷ []))) len all;
+          left = rw (append_assoc own, ← len) all;
         }
 
     pub reads_lines : (r : Bool) (lines : List ℕ) → AreRead r lines

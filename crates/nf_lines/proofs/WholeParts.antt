@@ -1,5 +1,6 @@
 -- A line feed ends every character that was begun: of bytes that end in one nothing is left to be read.
-use Rattle.nf_lines.proofs.Common.{◌≡◌, ℕ, ◌+◌, ◌-◌, ◌==◌, Bool, true, false, List, [], ◌∷◌, ◌++◌, length, drop, encode_utf8_all, refl, sym, ap, subst, ◌∙◌, arith, append_assoc, append-nil, length-append, take_at, IsUtf8, get_or-append_seam, drop-append-add, IsUtf8-take, encodes-append, IsText, BeginsText, Ending, Whole, Bad, Cut, moved, text_of, ending_of, replacement, own_parts, part_end, parts_of, line_feed, answer_at_end, bad_byte, IsLeft, IsLeft-parts, own_parts-append}
+use Rattle.nf_lines.proofs.Common.{◌≡◌, ℕ, ◌+◌, ◌-◌, ◌==◌, Bool, true, false, List, [], ◌∷◌, ◌++◌, length, drop, encode_utf8_all, refl, sym, ap, ◌∙◌, arith, append_assoc, append-nil, length-append, take_at, IsUtf8, get_or-append_seam, drop-append-add, IsUtf8-take, encodes-append, IsText, BeginsText, Ending, Whole, Bad, Cut, moved, text_of, ending_of, own_parts, part_end, parts_of, line_feed, answer_at_end, bad_byte, IsLeft, IsLeft-parts, own_parts-append}
+use Rattle.std.proofs.Common.{add_assoc}
 use Rattle.std.proofs.Math.Utf8.{encode}
 use Rattle.std.proofs.lemmas.Bool.Decides.{nat_tests}
 use Rattle.std.proofs.lemmas.Str.{IsCharBoundary-before_ascii}
@@ -23,18 +24,17 @@ line_encodes = refl
 pub front_utf8 : (front : List ℕ) → BeginsText (front ++ line_feed ∷ []) → IsUtf8 front
 front_utf8 front b =
     let bytes : List ℕ = front ++ line_feed ∷ b.0 in
-    subst IsUtf8 (take_at front (line_feed ∷ b.0) (length front) refl)
-    (IsUtf8-take bytes (length front) (subst IsUtf8 (append_assoc front (line_feed ∷ []) b.0) b.1)
+    rw (take_at front (line_feed ∷ b.0) (length front) refl) at (IsUtf8-take bytes (length front) (rw append_assoc at b.1)
     (IsCharBoundary-before_ascii bytes (length front) (omega (arith, length-append front (line_feed ∷ b.0))) (omega (arith, get_or-append_seam front line_feed b.0 0))))
 
 -- ---- behind a text
 
 bad_moved : (base n : ℕ) (e : Ending) → bad_byte base (moved n e) ≡ bad_byte (base + n) e
-bad_moved base n (Bad at start) = (let a : base + (n + at) ≡ base + n + at = omega arith in let s : base + (n + start) ≡ base + n + start = omega arith in cc)
+bad_moved base n (Bad at start) = simp add_assoc
 bad_moved base n _ = refl
 
 end_moved : (base n : ℕ) (e : Ending) → answer_at_end base (tt {0}) (moved n e) ≡ answer_at_end (base + n) (tt {0}) e
-end_moved base n (Cut at start) = (let a : base + (n + at) ≡ base + n + at = omega arith in let s : base + (n + start) ≡ base + n + start = omega arith in cc)
+end_moved base n (Cut at start) = simp add_assoc
 end_moved base n _ = refl
 
 -- one length more on both sides
@@ -54,7 +54,7 @@ behind-moved : (x more : List ℕ) (e : Ending) → behind_text (moved (length x
 behind-moved x more (Bad at start) =
     let past = part_end-moved (length x) at start in
     let len : part_end (length x + at) (length x + start) - (length x + start) ≡ part_end at start - start = omega (arith, past) in
-    λ i. record { char = replacement; len = len i } ∷ parts_of ((ap (λ n. drop n (x ++ more)) past ∙ drop-append-add x more (part_end at start)) i)
+    rw (len, past, drop-append-add) refl
 behind-moved x more _ = refl
 
 module _ (laws : Reading) (x : List ℕ) (s : IsText x) where
@@ -62,20 +62,23 @@ module _ (laws : Reading) (x : List ℕ) (s : IsText x) where
   strict_left = record {
     text = λ more. laws.back.text x more s;
     place = λ more y. omega (arith, ap length (encodes-append x y), length-append (encode_utf8_all x) (encode_utf8_all y));
-    bad = λ base more. ap (bad_byte base) (laws.back.ending x more s) ∙ bad_moved base (length (encode_utf8_all x)) (ending_of more);
+    bad = λ base more. rw (laws.back.ending x more s) (bad_moved base (length (encode_utf8_all x)) (ending_of more));
     whole = λ more. laws.back.text x more s;
-    end = λ _ base more. ap (answer_at_end base (tt {0})) (laws.back.ending x more s) ∙ end_moved base (length (encode_utf8_all x)) (ending_of more);
+    end = λ _ base more. rw (laws.back.ending x more s) (end_moved base (length (encode_utf8_all x)) (ending_of more));
     len = omega arith;
   }
 
   -- the parts of a text, and those of what stands behind it
   parts_behind : (more : List ℕ) → parts_of (encode_utf8_all x ++ more) ≡ own_parts x ++ parts_of more
   parts_behind more =
-      let own = ap own_parts (laws.back.text x more s) ∙ own_parts-append x (text_of more) in
-      parts_by laws.replacing (encode_utf8_all x ++ more) (moved (length (encode_utf8_all x)) (ending_of more)) (laws.back.ending x more s)
-      ∙ (λ i. own i ++ behind-moved (encode_utf8_all x) more (ending_of more) i)
-      ∙ append_assoc (own_parts x) (own_parts (text_of more)) (behind_text (ending_of more) (λ n. parts_of (drop n more)))
-      ∙ ap (λ l. own_parts x ++ l) (sym (parts_by laws.replacing more (ending_of more) refl))
+      rw (
+        parts_by laws.replacing (encode_utf8_all x ++ more) (moved (length (encode_utf8_all x)) (ending_of more)) (laws.back.ending x more s),
+        laws.back.text x more s,
+        own_parts-append,
+        behind-moved (encode_utf8_all x) more (ending_of more),
+        parts_by laws.replacing more (ending_of more) refl,
+        append_assoc,
+      ) refl
 
   pub text_left : (r : Bool) → IsLeft r (encode_utf8_all x) x (length (encode_utf8_all x)) []
   text_left false = strict_left
