@@ -1,4 +1,4 @@
-use Rattle.nf_lines.proofs.Common.{◌≡◌, ◌∙◌, ◌-◌, ◌+◌, ◌++◌, [], length, take, drop, Ok, Err, refl, inr, ap, sym, subst, arith, append-nil, length-append, take-append-drop, length-drop, StandsAfter, as_is, ucd, state_of, base_of, offset_of}
+use Rattle.nf_lines.proofs.Common.{◌≡◌, ◌∙◌, ◌-◌, ◌++◌, [], length, take, drop, Ok, Err, refl, inr, ap, arith, append-nil, length-append, take-append-drop, length-drop, as_is, state_of}
 use Rattle.std.proofs.lemmas.List.{take_rest}
 use Rattle.nf_lines.proofs.StepLemmas.{fed_lines, ended_lines}
 use Rattle.nf_lines.proofs.CutLemmas.{cut_behind}
@@ -35,10 +35,9 @@ returns-clause-feeds g c = λ first l has.
     let last = c.feed-3.ensures in
     let line = cut_behind c.args.piece.now c.lines_len-n.result c.if-n-eq0.false c.lines_len-n.ensures in
     let next = ap (λ f. state_of f) c.replace.ensures.after in
-    let base : base_of (state_of c.replace.new.dest) ≡ offset_of (state_of c.args.filter.now) + length front =
-    ap base_of next ∙ c.policy-next.ensures.base ∙ c.quickest.ensures.base ∙ c.offset.ensures ∙ fed.offset in
-    let fresh = subst (λ s. StandsAfter c.args.policy c.args.form ucd s []) (sym next) (c.policy-next.ensures.stands as_is c.args.form [] c.quickest.ensures.stands) in
+    let base = c.policy-next.ensures.base ∙ c.quickest.ensures.base ∙ c.offset.ensures ∙ fed.offset in
+    let fresh = c.policy-next.ensures.stands as_is c.args.form [] c.quickest.ensures.stands in
     let lines = ended_lines c.lines_stand_alone.ensures has line (fed.feeds c.args.policy c.args.form) (fed.stands c.args.policy c.args.form) fed.base {fresh = state_of c.replace.new.dest} (Ok c.in_default-finish.field-0)
-    (rw c.replace.ensures.value at (c.in_default-finish.ensures.finishes c.args.policy c.args.form)) (λ _. (base, fresh)) in
+    (rw c.replace.ensures.value at (c.in_default-finish.ensures.finishes c.args.policy c.args.form)) (λ _. rw next (base, fresh)) in
     fed_lines c.lines_stand_alone.ensures lines.2 (last.feeds c.args.policy c.args.form) (last.stands c.args.policy c.args.form) last.base (λ e. ap g.S.Sink.state (last.kept (inr e)).1)
     [] (lines.1 (behind ++ []) _ (rw append-nil both)) (rw append-nil (omega (arith, ap length both, length-append front behind))) (λ _. (refl, rw (take_rest c.args.piece.now c.lines_len-n.result) c.lines_len-n.ensures.rest))
