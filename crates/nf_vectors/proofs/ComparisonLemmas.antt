@@ -1,5 +1,5 @@
 -- Whether the sound front of a text leaves the Stream-Safe Text Format.
-use Rattle.nf_vectors.proofs.Common.{arith, ◌≡◌, ℕ, ◌+◌, ◌≤◌, ◌<◌, Bool, true, false, List, [], ◌∷◌, ◌++◌, length, take, drop, Option, Some, None, is_some, option_map, Result, Ok, refl, sym, ap, ◌∙◌, get_or, list_all, if◌then◌else◌, take_all, take_more, take-append-drop, Properties, is_sound, Place, place, place_from, leaves_format}
+use Rattle.nf_vectors.proofs.Common.{arith, ◌≡◌, ℕ, ◌+◌, ◌≤◌, ◌<◌, Bool, true, false, List, [], ◌∷◌, ◌++◌, length, take, drop, Option, Some, None, is_some, option_map, Result, Ok, refl, get_or, list_all, if◌then◌else◌, take_all, take_more, take-append-drop, Properties, is_sound, Place, place, place_from, leaves_format}
 use Rattle.nf_filter.specs.declared.fault.Fault.{Fault}
 use Rattle.nf_filter.specs.Checks.{sound_front, place_or_fault, text_decision}
 use Rattle.nf_safe.specs.Place.{place_at}
@@ -25,7 +25,7 @@ module _ (p : Properties) (x : List ℕ) where
   unfolding is_place
   leaves-none i end sound none =
       let all = take_all i x end in
-      sym (leaves-by ∙ ap is_place (no_stop p 0 x (ap (list_all (is_sound p)) (sym all) ∙ sound) (ap (place_from 0 p) (sym all) ∙ none)))
+      rw (leaves-by, no_stop p 0 x (rw all at sound) (rw all at none)) refl
 
   -- a character behind sound ones
   module _ (i c : ℕ) (within : i < length x) (is : c ≡ get_or x i c) (sound : list_all (is_sound p) (take i x) ≡ true) where
@@ -35,9 +35,9 @@ module _ (p : Properties) (x : List ℕ) where
     pub leaves-at : is_sound p c ≡ true → (at : Place) → place_from 0 p (take i x ++ c ∷ []) ≡ Some at → true ≡ leaves_format p x
     unfolding is_place
     leaves-at next at found =
-        sym (leaves-by ∙ ap (λ x. is_place (text_decision p 0 x)) cut ∙ ap is_place (stop_place p 0 (take i x ++ c ∷ []) (drop (i + 1) x) at (all_sound-push p (take i x) c sound next) found))
+        rw (leaves-by, cut, stop_place p 0 (take i x ++ c ∷ []) (drop (i + 1) x) at (all_sound-push p (take i x) c sound next) found) refl
 
     pub leaves-unsound : is_sound p c ≡ false → place_from 0 p (take i x) ≡ None → false ≡ leaves_format p x
     unfolding is_place
     leaves-unsound next none =
-        sym (leaves-by ∙ ap (λ x. is_place (text_decision p 0 x)) cut ∙ ap is_place (stop_row p 0 (take i x) c (drop (i + 1) x) sound none next))
+        rw (leaves-by, cut, stop_row p 0 (take i x) c (drop (i + 1) x) sound none next) refl

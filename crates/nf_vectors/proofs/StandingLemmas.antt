@@ -1,5 +1,5 @@
 -- How the reading of a vector file goes on, byte by byte.
-use Rattle.nf_vectors.proofs.Common.{◌≡◌, ℕ, ◌+◌, true, false, List, [], ◌∷◌, ◌++◌, Option, Result, Ok, Err, OnOk, refl, sym, ap, ◌∙◌, arith, rules, append_assoc, append-nil, All, or_assoc, slice_split_at, slice_split_none, VectorFault, VectorKind, Reading, is_line_end, lines_of, judged, fault_or, first_fault, StandsAfter, EndsLine, length-append}
+use Rattle.nf_vectors.proofs.Common.{◌≡◌, ℕ, ◌+◌, true, false, List, [], ◌∷◌, ◌++◌, Option, Result, Ok, Err, OnOk, refl, arith, rules, append_assoc, append-nil, All, or_assoc, slice_split_at, slice_split_none, VectorFault, VectorKind, Reading, is_line_end, lines_of, judged, fault_or, first_fault, StandsAfter, EndsLine, length-append}
 use Rattle.nf_vectors.proofs.PieceLemmas.{split-some}
 
 module _ (line : List ℕ) (one : All (λ b. is_line_end b ≡ false) line) where
@@ -7,13 +7,11 @@ module _ (line : List ℕ) (one : All (λ b. is_line_end b ≡ false) line) wher
   lines_of-ended b more e = slice_split_at is_line_end line b more one e
 
   pub lines_of-last : lines_of (line ++ []) ≡ line ∷ []
-  lines_of-last = ap lines_of (append-nil line) ∙ slice_split_none is_line_end line one
+  lines_of-last = rw append-nil (slice_split_none is_line_end line one)
 
 pub first_fault-ended : (n : ℕ) (stop : Option VectorKind) (line bytes : List ℕ)
     → first_fault n stop (line ∷ lines_of bytes) ≡ fault_or n (judged n line) (first_fault (n + 1) stop (lines_of bytes))
-first_fault-ended n stop line bytes =
-    let some = split-some is_line_end bytes in
-    ap (λ more. first_fault n stop (line ∷ more)) some.2 ∙ ap (λ more. fault_or n (judged n line) (first_fault (n + 1) stop more)) (sym some.2)
+first_fault-ended n stop line bytes = rw (split-some is_line_end bytes).2 refl
 
 -- the end of the line
 pub StandsAfter-line : {old : Reading} {bytes : List ℕ} (new : Reading) (b : ℕ) → StandsAfter old bytes → is_line_end b ≡ true → (r : Result (Unit {0}) VectorKind)

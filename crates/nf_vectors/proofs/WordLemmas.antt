@@ -4,7 +4,7 @@ use Rattle.std.proofs.lemmas.Result.{IfOk-weaker, IfOk-at_ok}
 use Rattle.nf_vectors.proofs.Common.{YieldsList, YieldsList-turn, YieldsList-end, Bor, ◌==◌, ◌≡◌, ◌+◌, Option, Some, None, drop_all, length_push, length-append, IfOk, ℕ, ◌≤◌, Bool, true, false, cond, List, [], ◌∷◌, ◌++◌, length, drop, Result, Ok, Err, refl, sym, ap, ◌∙◌, arith, append_assoc, append-nil, sum_by, slice_split, onto_first, eqb-true, drop_more, sum_by-cons, VectorKind, Empty, is_gap, code_point, and_then, before, code_points, some_or_empty, column_in, HoldsColumn}
 
 before-before : (cs : List ℕ) (c : ℕ) (r : Result (List ℕ) VectorKind) → before cs (before (c ∷ []) r) ≡ before (cs ++ c ∷ []) r
-before-before cs c (Ok more) = ap Ok (sym (append_assoc cs (c ∷ []) more))
+before-before cs c (Ok more) = simp append_assoc
 before-before cs c (Err kind) = refl
 
 code_points-word : (word : List ℕ) (words : List (List ℕ)) → (length word == 0) ≡ false → code_points (word ∷ words) ≡ and_then (code_point word) (λ c. before (c ∷ []) (code_points words))
@@ -50,11 +50,10 @@ module _ {S : Type 0} {steps : S → Option (Bor (List ℕ)) → S → Type 0} {
     at_word : before old (code_points (slice_split is_gap column)) ≡ before new (code_points (word.now ∷ rest))
     at_word =
         let turn = YieldsList-turn read.yields words t gave r u word some step in
-        read.so_far ∙ ap (λ ws. before new (code_points ws)) (drop_more (slice_split is_gap column) (length words) word.now turn.0
-        ∙ (λ i. sym turn.1 i ∷ drop (sym (length_push words word) i) (slice_split is_gap column)))
+        rw (read.so_far, drop_more (slice_split is_gap column) (length words) word.now turn.0, ← turn.1, length_push) refl
 
     pub skipped : none ≡ true → HasRead steps s column old (words ++ word ∷ []) new
-    skipped empty = record { yields = read.yields; so_far = at_word ∙ ap (before new) (code_points-empty word.now rest (sym is_empty ∙ empty)) }
+    skipped empty = record { yields = read.yields; so_far = rw (at_word, code_points-empty word.now rest (sym is_empty ∙ empty)) refl }
 
     pub pushed : none ≡ false → (c : ℕ) → Ok c ≡ code_point word.now → HasRead steps s column old (words ++ word ∷ []) (new ++ c ∷ [])
     pushed letters c e = record { yields = read.yields; so_far = rw (at_word, code_points-word word.now rest (sym is_empty ∙ letters), ← e) (before-before new c (code_points rest)) }

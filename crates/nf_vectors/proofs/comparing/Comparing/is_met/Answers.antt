@@ -5,10 +5,9 @@ use Rattle.nf_vectors.proofs.comparing.Comparing.is_met.Goals as goal
 
 by_length : (e : List ℕ) (same : ℕ) (other : Option ℕ) → same ≤ length e → is_some other ≡ false → nat_eq same (length e) ≡ bytes_eq (take same e ++ option_to_list other) e
 by_length e same None within none =
-    let plain = append-nil (take same e) in
     same_from_decides (nat_eq same (length e)) (bytes_eq (take same e ++ []) e) (
-      (λ b. plain ∙ ap (λ n. take n e) (eqb-true same (length e) b) ∙ take-length e),
-      (λ is. eq-eqb same (length e) (sym (length-take-le same e within) ∙ ap (λ (l : List ℕ). length l) (sym plain ∙ is))),
+      (λ b. rw (append-nil, eqb-true same (length e) b) (take-length e)),
+      (λ is. eq-eqb same (length e) (sym (length-take-le same e within) ∙ ap length (rw append-nil at is))),
     ) (bytes_eq-Decides (take same e ++ []) e)
 by_length e same (Some b) within none = cc
 
