@@ -1,5 +1,5 @@
 -- Lines, and what stands behind them.
-use Rattle.nf_lines.proofs.Common.{Result, Ok, Err, ◌≡◌, ℕ, ◌+◌, ◌==◌, Bool, true, false, List, [], ◌∷◌, ◌++◌, length, Option, Some, None, inl, inr, ⊎_elim, encode_utf8_all, refl, sym, ◌∙◌, arith, append_assoc, append-nil, length-append, result_err, cases_Bool, encodes-append, Properties, Form, Nfc, Ending, Whole, text_of, ending_of, parts_of, replaced, replaced_whole, line_feed, Fault, Policy, Tally, text_under-none, answer_at_end, bad_under, first_fault, fault_in, IsLeft, answer_or, end_under, end_of, final_utf8, tally_of, allowed, len_under, text_under, whole_under, settled, settled_utf8, left-text, EndsInLineFeed, end_fault, StandAlone}
+use Rattle.nf_lines.proofs.Common.{Result, Ok, Err, ◌≡◌, ℕ, ◌+◌, ◌==◌, Bool, true, false, List, [], ◌∷◌, ◌++◌, length, Option, Some, None, inl, inr, ⊎_elim, encode_utf8_all, refl, ◌∙◌, arith, append_assoc, append-nil, length-append, result_err, cases_Bool, encodes-append, Properties, Form, Nfc, Ending, Whole, text_of, ending_of, parts_of, replaced, replaced_whole, line_feed, Fault, Policy, Tally, text_under-none, answer_at_end, bad_under, first_fault, fault_in, IsLeft, answer_or, end_under, end_of, final_utf8, tally_of, allowed, len_under, text_under, whole_under, settled, settled_utf8, left-text, EndsInLineFeed, end_fault, StandAlone}
 use Rattle.std.specs.Str.{chars}
 use Rattle.std.specs.Str.Lossy.{utf8_valid_len}
 use Rattle.nf_forms.specs.Order.{by_class}
@@ -69,7 +69,7 @@ module _ (p : Properties) (sound : AreSound p) where
   taken_all : (a : Bool) (place : List ℕ → ℕ) (x : List ℕ) (other : Option Fault) → first_fault a p place x other ≡ None → (allowed a p x ≡ x) × (other ≡ None)
   taken_all a place x other none =
       let all = (taken_whole p a x (is_taken-from p a place x other none)).1 in
-      (all, sym (first_fault-none p a place x other (usable_is p sound x) all) ∙ none)
+      (all, rw (first_fault-none p a place x other (usable_is p sound x) all) at none)
 
   -- behind a text that is taken the fault is that of the rest
   fault_behind : (a : Bool) (x y : List ℕ) (place behind : List ℕ → ℕ) (other : Option Fault) → allowed a p x ≡ x → ((z : List ℕ) → place (x ++ z) ≡ behind z)
@@ -77,7 +77,7 @@ module _ (p : Properties) (sound : AreSound p) where
   fault_behind a x y place behind other all places =
       let taken : allowed a p (x ++ y) ≡ x ++ allowed a p y = allowed-append p a x y all in
       let same : (length (x ++ allowed a p y) == length (x ++ y)) ≡ (length (allowed a p y) == length y) =
-      rw (length-append, length-append) (eqb_past (length x) (length (allowed a p y)) (length y)) in
+      simp length-append (eqb_past (length x) (length (allowed a p y)) (length y)) in
       rw (
         first_fault-is p a place (x ++ y) other,
         first_fault-is p a behind y other,

@@ -23,7 +23,7 @@ module _ (laws : Reading) where
   lines_begun r lines is b =
       let text = front_utf8 is.0 (subst BeginsText is.1 b) in
       let whole : encode_utf8_all (text.0 ++ line_feed ∷ []) ≡ lines = rw (encodes-append, text.1.1, line_encodes) (sym is.1) in
-      subst (ReadsLines r) whole (record { before = text.0; left = text_left laws (text.0 ++ line_feed ∷ []) (scalars-append text.0 (line_feed ∷ []) text.1.0 refl) r })
+      rw (← whole) (record { before = text.0; left = text_left laws (text.0 ++ line_feed ∷ []) (scalars-append text.0 (line_feed ∷ []) text.1.0 refl) r })
 
   -- a line feed behind a text is no bad byte
   line_good : (lines : List ℕ) (at : ℕ) → EndsInLineFeed lines → ending_of lines ≡ Bad at at → ¬ (at + 1 ≡ length lines)

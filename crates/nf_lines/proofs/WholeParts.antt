@@ -1,5 +1,5 @@
 -- A line feed ends every character that was begun: of bytes that end in one nothing is left to be read.
-use Rattle.nf_lines.proofs.Common.{◌≡◌, ℕ, ◌+◌, ◌-◌, ◌==◌, Bool, true, false, List, [], ◌∷◌, ◌++◌, length, drop, encode_utf8_all, refl, sym, ap, ◌∙◌, arith, append_assoc, append-nil, length-append, take_at, IsUtf8, get_or-append_seam, drop-append-add, IsUtf8-take, encodes-append, IsText, BeginsText, Ending, Whole, Bad, Cut, moved, text_of, ending_of, own_parts, part_end, parts_of, line_feed, answer_at_end, bad_byte, IsLeft, IsLeft-parts, own_parts-append}
+use Rattle.nf_lines.proofs.Common.{◌≡◌, ℕ, ◌+◌, ◌-◌, ◌==◌, Bool, true, false, List, [], ◌∷◌, ◌++◌, length, drop, encode_utf8_all, refl, ap, arith, append_assoc, append-nil, length-append, take_at, IsUtf8, get_or-append_seam, drop-append-add, IsUtf8-take, encodes-append, IsText, BeginsText, Ending, Whole, Bad, Cut, moved, text_of, ending_of, own_parts, part_end, parts_of, line_feed, answer_at_end, bad_byte, IsLeft, IsLeft-parts, own_parts-append}
 use Rattle.std.proofs.Common.{add_assoc}
 use Rattle.std.proofs.Math.Utf8.{encode}
 use Rattle.std.proofs.lemmas.Bool.Decides.{nat_tests}
@@ -46,8 +46,8 @@ part_end-moved n at start = grind (arith, nat_tests)
 
 -- the parts behind a text of bytes, by their ending
 parts_by : ReplacesParts → (bytes : List ℕ) (e : Ending) → ending_of bytes ≡ e → parts_of bytes ≡ own_parts (text_of bytes) ++ behind_text e (λ n. parts_of (drop n bytes))
-parts_by laws bytes Whole e = laws.begun bytes (begins_whole bytes e) ∙ sym (append-nil (own_parts (text_of bytes)))
-parts_by laws bytes (Cut at start) e = laws.begun bytes (begins_cut bytes at start e) ∙ sym (append-nil (own_parts (text_of bytes)))
+parts_by laws bytes Whole e = rw append-nil (laws.begun bytes (begins_whole bytes e))
+parts_by laws bytes (Cut at start) e = rw append-nil (laws.begun bytes (begins_cut bytes at start e))
 parts_by laws bytes (Bad at start) e = parts_of-broken bytes at start e
 
 behind-moved : (x more : List ℕ) (e : Ending) → behind_text (moved (length x) e) (λ n. parts_of (drop n (x ++ more))) ≡ behind_text e (λ n. parts_of (drop n more))
