@@ -3,7 +3,7 @@ pub use Rattle.std.proofs.Common.{Bor, ◌≡◌, ℕ, ◌+◌, ◌≤◌, ◌<�
 pub use Rattle.std.proofs.Math.Bool.{or-false, or_assoc}
 pub use Rattle.std.proofs.Math.Seq.{take-length, take-append-add}
 pub use Rattle.std.proofs.lemmas.Bool.{and_parts, false_from_ne_true, cases_lt, le-leb, and_from, lt-ltb, le-ltb, eqb-true, leb-true, and_right}
-pub use Rattle.std.proofs.lemmas.Bool.Decides.{nat_tests, same_from_decides}
+pub use Rattle.std.proofs.lemmas.Bool.Decides.{nat_tests}
 pub use Rattle.std.proofs.lemmas.Iterator.{YieldsList, YieldsList-from_slice}
 pub use Rattle.std.proofs.lemmas.Iterator.Consumers.{YieldsList-end, YieldsList-turn, count_from_yields_List}
 pub use Rattle.std.proofs.lemmas.Iterator.Search.{YieldsList-from_take_while}

@@ -1,5 +1,5 @@
 -- What the filter gives of a text to a sink that compares, and whether that is as expected.
-use Rattle.nf_vectors.proofs.Common.{◌≡◌, ℕ, Bool, true, false, ◌&&◌, List, [], Some, None, refl, arith, sym, ap, ◌∙◌, subst, append-nil, bytes_eq, encode_utf8_all, IsUtf8, if◌then◌else◌, Result, Err, is_ok, ⊎_elim, and_right, false_from_ne_true, same_from_decides, bytes_eq-Decides, encodes_same, Properties, Form, safe_form, is_usable, holds}
+use Rattle.nf_vectors.proofs.Common.{◌≡◌, ℕ, Bool, true, false, ◌&&◌, List, [], Some, None, refl, arith, sym, ◌∙◌, subst, append-nil, bytes_eq, encode_utf8_all, IsUtf8, if◌then◌else◌, Result, Err, is_ok, ⊎_elim, and_right, false_from_ne_true, bytes_eq-Decides, encodes_same, Properties, Form, safe_form, is_usable, holds}
 use Rattle.std.proofs.Math.Seq.{take-append_seam}
 use Rattle.std.proofs.lemmas.List.{append_cancel_left}
 use Rattle.std.specs.Io.KnownBytes.{Appends}
@@ -23,8 +23,7 @@ use Rattle.nf_vectors.specs.Comparing.{taken_by, state_of}
 
 -- texts are the same where their UTF-8 is
 encodes_eq : (x y : List ℕ) → bytes_eq x y ≡ bytes_eq (encode_utf8_all x) (encode_utf8_all y)
-encodes_eq x y = same_from_decides (bytes_eq x y) (bytes_eq (encode_utf8_all x) (encode_utf8_all y)) (bytes_eq-Decides x y)
-    ((λ b. encodes_same x y ((bytes_eq-Decides (encode_utf8_all x) (encode_utf8_all y)).0 b)), (λ same. (bytes_eq-Decides (encode_utf8_all x) (encode_utf8_all y)).1 (ap encode_utf8_all same)))
+encodes_eq x y = grind (arith, encodes_same, bytes_eq-Decides x y, bytes_eq-Decides (encode_utf8_all x) (encode_utf8_all y))
 
 module _ (reads : ReadsBack) (f : Form) (p : Properties) (bytes x e : List ℕ) (utf8 : IsUtf8 bytes) (is : bytes ≡ encode_utf8_all x) where
   text : IsText x

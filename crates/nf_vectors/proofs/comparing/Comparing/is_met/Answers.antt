@@ -1,14 +1,10 @@
-use Rattle.nf_vectors.proofs.Common.{rules, ◌≡◌, ℕ, ◌≤◌, false, List, [], ◌++◌, length, take, Option, Some, None, is_some, sym, ap, ◌∙◌, append-nil, nat_eq, eq-eqb, eqb-true, bytes_eq, same_from_decides, bytes_eq-Decides, take-length, length-take-le, false_from_ne_true}
+use Rattle.nf_vectors.proofs.Common.{nat_tests, arith, rules, ◌≡◌, ℕ, ◌≤◌, false, List, [], ◌++◌, length, take, Option, Some, None, is_some, sym, ◌∙◌, append-nil, nat_eq, bytes_eq, bytes_eq-Decides, take-length, length-take-le, false_from_ne_true}
 use Rattle.std.specs.Option.{option_to_list}
 use Rattle.nf_vectors.specs.Comparing.{taken_by}
 use Rattle.nf_vectors.proofs.comparing.Comparing.is_met.Goals as goal
 
 by_length : (e : List ℕ) (same : ℕ) (other : Option ℕ) → same ≤ length e → is_some other ≡ false → nat_eq same (length e) ≡ bytes_eq (take same e ++ option_to_list other) e
-by_length e same None within none =
-    same_from_decides (nat_eq same (length e)) (bytes_eq (take same e ++ []) e) (
-      (λ b. rw (append-nil, eqb-true same (length e) b) (take-length e)),
-      (λ is. eq-eqb same (length e) (sym (length-take-le same e within) ∙ ap length (rw append-nil at is))),
-    ) (bytes_eq-Decides (take same e ++ []) e)
+by_length e same None within none = grind (arith, nat_tests, append-nil, take-length e, length-take-le same e within, bytes_eq-Decides (take same e ++ []) e)
 by_length e same (Some b) within none = cc
 
 pub returns-then-is_none : goal.returns-then-is_none
