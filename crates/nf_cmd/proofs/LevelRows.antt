@@ -1,10 +1,8 @@
 -- What a level without a fault ends with: the value of an option of one value, which is there where it is required.
-use Rattle.nf_cmd.proofs.Common.{◌≡◌, ◌∙◌, ◌&&◌, Bool, cond, true, false, not, refl, sym, ap, subst, List, [], ◌∷◌, fold, Option, Some, None, inl, inr, true≢false, find, option_and_then, slice_get, bytes_eq, list_any, option_map_or, bytes_eq-Decides, DefaultValue, explicit_source, Kinds, check_kinds, or_else, is_given, value_passes, Held, Names, Row, Rule, Text, has_row, reading_by, settled, default_rows, finished, first_of, nothing_held, stop_after, rows_after, walk, walk_from, with_default, Shape, level_fault, check_fault, defaults_fault, settle_fault, walk_fault, not-false}
-use Rattle.std.proofs.lemmas.Bool.{or_parts}
-use Rattle.nf_cmd.proofs.Rows.{both_none, IsIn, IsSingle, HasOne, Fits, EachFits, each-with_values, no_kind, second_false, find-in}
-use Rattle.nf_cmd.proofs.NoHelp.{StopsAtNoHelp}
-use Rattle.nf_cmd.proofs.WordRows.{each-settled}
-use Rattle.nf_cmd.proofs.WalkRows.{each-walk}
+use Rattle.nf_cmd.proofs.Common.{◌≡◌, ◌∙◌, ◌&&◌, Bool, true, false, not, refl, sym, ap, subst, List, [], ◌∷◌, fold, Option, Some, None, inl, inr, true≢false, find, option_and_then, slice_get, bytes_eq, list_any, option_map_or, bytes_eq-Decides, DefaultValue, explicit_source, Kinds, check_kinds, or_else, is_given, value_passes, Held, Names, Row, Rule, Text, has_row, reading_by, settled, default_rows, finished, first_of, nothing_held, stop_after, rows_after, walk, walk_from, with_default, Shape, level_fault, check_fault, defaults_fault, settle_fault, walk_fault, not-false}
+use Rattle.std.proofs.lemmas.Bool.{cond_both, or_parts}
+use Rattle.nf_cmd.proofs.Rows.{both_none, IsIn, IsSingle, HasOne, Fits, EachFits, each-with_values, no_kind, second_false, find-in, StopsAtNoHelp}
+use Rattle.nf_cmd.proofs.WalkRows.{each-settled, each-walk}
 
 -- what an argument that was not used gets, by its defaults
 each-default_rows : (c : List Rule) (a : Rule) → IsIn a c → (rows : List Row) → EachFits c rows → (values : List Text) → a.defaults ≡ values
@@ -14,11 +12,7 @@ each-default_rows c a inside rows f (v ∷ vs) e =
     each-with_values c a inside (λ s. let none : a.defaults ≡ [] = s.no_default in let bad : ⊥ = cc in bad) _ DefaultValue (v ∷ vs) rows f
 
 each-with_default : (c : List Rule) (a : Rule) → IsIn a c → (rows : List Row) → EachFits c rows → EachFits c (with_default rows a)
-each-with_default c a inside rows f = go (has_row a.id rows)
-  where
-    go : (b : Bool) → EachFits c (cond b rows (default_rows a.id (reading_by a) a.defaults rows))
-    go true = f
-    go false = each-default_rows c a inside rows f a.defaults refl
+each-with_default c a inside rows f = cond_both (has_row a.id rows) _ _ (EachFits c) (λ e. f) (λ e. each-default_rows c a inside rows f a.defaults refl)
 
 each-defaults : (c xs : List Rule) → ((a : Rule) → IsIn a xs → IsIn a c) → (rows : List Row) → EachFits c rows → EachFits c (fold with_default rows xs)
 each-defaults c [] inside rows f = f

@@ -1,13 +1,9 @@
 mod Common
 mod Rows
-mod WordRows
 mod WalkRows
-mod NoHelp
 mod LevelRows
 mod Requests
 mod AnswerLemmas
 mod RunsLemmas
-mod SoundLemmas
-mod AgainLemmas
 mod CodeDigits
 mod Examples

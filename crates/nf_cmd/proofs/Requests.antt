@@ -1,8 +1,8 @@
 -- Words in which clap finds no fault ask for something, or are `check` that lacks a form.
-use Rattle.nf_cmd.proofs.Common.{◌≡◌, ◌∙◌, ◌&&◌, ◌||◌, ◌⊎◌, Bool, true, false, not, refl, sym, ap, subst, List, [], ◌∷◌, drop, Option, Some, None, inl, inr, codes, is_some, true≢false, ap₂, find, option_and_then, option_map, Bor, bytes_eq, list_any, option_map_or, bytes_eq-Decides, ErrorKind, MissingRequiredArgument, OutOfMemory, IsAmong, takes, value_passes, Row, Rule, Text, answers_to, first_of, nothing_held, rows_after, stop_after, texts, App, Shape, argument_words, built, entered, label_of, names_of, rows_at, subcommand_of, new_shape, with_index, filled, built_fault, entered_fault, fault_of, is_simple_and_free, level_fault, list_any-map, Form, Nfc, Nfd, Nfkc, Nfkd, Request, Check, CheckForm, Measure, Test, IsLine, IsRefusal, check, checking, conversion, convert, flag_rule, form_named, form_names, form_rule, is_set, lacks_form, line, policy_of, request_of, Kinds, not-false}
+use Rattle.nf_cmd.proofs.Common.{◌≡◌, ◌∙◌, ◌&&◌, ◌||◌, ◌⊎◌, Bool, true, false, not, refl, sym, ap, subst, List, [], ◌∷◌, drop, Option, Some, None, inl, inr, codes, is_some, true≢false, ap₂, find, option_and_then, option_map, Bor, bytes_eq, list_any, option_map_or, bytes_eq-Decides, ErrorKind, MissingRequiredArgument, OutOfMemory, IsAmong, takes, value_passes, Row, Rule, Text, answers_to, first_of, nothing_held, rows_after, stop_after, texts, App, Shape, argument_words, built, entered, label_of, names_of, rows_at, subcommand_of, new_shape, with_index, filled, built_fault, entered_fault, fault_of, is_simple_and_free, level_fault, list_any-map, Form, Nfc, Nfd, Nfkc, Nfkd, Request, Check, CheckForm, Measure, Test, IsLine, IsRefusal, check, checking, conversion, convert, flag_rule, form_named, form_names, form_rule, is_set, lacks_form, line, policy_of, request_of, not-false, ⊎_elim, get_or}
 use Rattle.std.proofs.Math.Bool.{or-false}
-use Rattle.nf_cmd.proofs.Rows.{first_false, IsIn, IsSingle, find-in}
-use Rattle.nf_cmd.proofs.NoHelp.{IsNoHelp, StopsAtNoHelp}
+use Rattle.std.proofs.lemmas.Bool.{cases_Bool, or_cases}
+use Rattle.nf_cmd.proofs.Rows.{first_false, IsIn, IsSingle, find-in, IsNoHelp, StopsAtNoHelp}
 use Rattle.nf_cmd.proofs.LevelRows.{none_of, below_faultless, checked, given, passes, nothing_wanted, stops}
 
 -- a subcommand was entered, which is not help, and its own words have no fault
@@ -23,16 +23,10 @@ module _ (a : App) (words : List Text) (off : a.top.args_override_self ≡ false
 
   enters : Enters a (entered a stop)
   enters = go stop
-      (stops a.top off (names_of a) words has fails none)
-      (below_faultless a.top off (names_of a) words has fails none)
-      (not-false has (first_false (not has) a.top.subcommand_required (nothing_wanted _ _ _ (checked a.top off (names_of a) words has fails none)).0 needs))
+      (stops a.top off (names_of a) words _ _ none)
+      (below_faultless a.top off (names_of a) words _ _ none)
+      (not-false _ (first_false _ a.top.subcommand_required (nothing_wanted _ _ _ (checked a.top off (names_of a) words _ _ none)).0 needs))
     where
-      has : Bool
-      has = is_some (entered a stop)
-
-      fails : Kinds
-      fails = entered_fault a stop
-
       at : (p : Text × List Text) → IsNoHelp p.0 → (o : Option Shape) → find (λ s. answers_to p.0 (label_of s)) a.subs ≡ o
           → option_map_or (λ s. level_fault s [] nothing_held p.1 false []) o [] ≡ [] → is_some (option_map (λ s. rows_at s p.1) o) ≡ true
           → Enters a (option_map (λ s. rows_at s p.1) o)
@@ -56,14 +50,6 @@ pub simple_and_free : (names : Bor (List (Bor Text))) → is_simple_and_free (li
 unfolding line check convert form_rule flag_rule
 simple_and_free names = refl
 
-abbrev first_of_subs : List Shape → Shape
-first_of_subs [] = new_shape []
-first_of_subs (s ∷ rest) = s
-
-abbrev second_of_subs : List Shape → Shape
-second_of_subs [] = new_shape []
-second_of_subs (s ∷ rest) = first_of_subs rest
-
 -- where no other rule has its id, the first is the one of that id
 only_first : (a : Rule) (rest : List Rule) → list_any (λ r. bytes_eq a.id r.id) rest ≡ false → (x : Rule) → IsIn x (a ∷ rest) → x.id ≡ a.id → x ≡ a
 only_first a rest differ x (inl same) e = same
@@ -76,25 +62,23 @@ IsAsked found = ((r : Request) × (request_of found ≡ Some r)) ⊎ (lacks_form
 
 -- the names are those of forms
 named : (text : Text) → list_any (λ n. bytes_eq n text) form_names ≡ true → (f : Form) × (form_named text ≡ Some f)
-named text e = go (bytes_eq (codes "nfc") text) (bytes_eq (codes "nfd") text) (bytes_eq (codes "nfkc") text) (bytes_eq (codes "nfkd") text) refl refl refl refl e
+named text e = either (is (codes "nfc") Nfc refl) (either (is (codes "nfd") Nfd refl) (either (is (codes "nfkc") Nfkc refl) (either (is (codes "nfkd") Nfkd refl) (λ none. absurd (true≢false (sym none)))))) e
   where
-    is : (name : Text) (f : Form) → bytes_eq name text ≡ true → form_named name ≡ Some f → (g : Form) × (form_named text ≡ Some g)
-    is name f same by = (f, ap form_named (sym ((bytes_eq-Decides name text).0 same)) ∙ by)
+    Named : Type 0
+    Named = (f : Form) × (form_named text ≡ Some f)
 
-    go : (c d kc kd : Bool) → bytes_eq (codes "nfc") text ≡ c → bytes_eq (codes "nfd") text ≡ d → bytes_eq (codes "nfkc") text ≡ kc → bytes_eq (codes "nfkd") text ≡ kd
-        → (c || (d || (kc || (kd || false)))) ≡ true → (f : Form) × (form_named text ≡ Some f)
-    go true d kc kd t u v w h = is (codes "nfc") Nfc t refl
-    go false true kc kd t u v w h = is (codes "nfd") Nfd u refl
-    go false false true kd t u v w h = is (codes "nfkc") Nfkc v refl
-    go false false false true t u v w h = is (codes "nfkd") Nfkd w refl
-    go false false false false t u v w h = absurd (true≢false (sym h))
+    is : (name : Text) (f : Form) → form_named name ≡ Some f → bytes_eq name text ≡ true → Named
+    is name f by same = (f, ap form_named (sym ((bytes_eq-Decides name text).0 same)) ∙ by)
+
+    either : {a b : Bool} → (a ≡ true → Named) → (b ≡ true → Named) → (a || b) ≡ true → Named
+    either {a} {b} first second h = ⊎_elim first second (or_cases a b h)
 
 module _ (names : Bor (List (Bor Text))) (are : texts names.now ≡ form_names) where
   abbrev converting : Shape
-  converting = first_of_subs (built (line names)).subs
+  converting = get_or (built (line names)).subs 0 (new_shape [])
 
   abbrev checker : Shape
-  checker = second_of_subs (built (line names)).subs
+  checker = get_or (built (line names)).subs 1 (new_shape [])
 
   abbrev form : Bool → Rule
   form required = with_index 1 (filled (form_rule names required))
@@ -134,44 +118,34 @@ module _ (names : Bor (List (Bor Text))) (are : texts names.now ≡ form_names) 
   unfolding line check convert form_rule flag_rule
   asked words none =
       let e = enters (built (line names)) (argument_words (line names) words) refl refl refl none in
-      subst IsAsked (sym e.is) (of e.sub e.inside e.name e.answers e.no_help e.words e.faultless)
+      rw e.is (of e.sub e.inside e.name e.answers e.no_help e.words e.faultless)
     where
-      Comes : List Text → Shape → Type 0
-      Comes left s = level_fault s [] nothing_held left false [] ≡ [] → IsAsked (Some (s.name, rows_after s.rules [] left))
-
       of : (s : Shape) → IsIn s (built (line names)).subs → (name : Text) → answers_to name (label_of s) ≡ true → IsNoHelp name
-          → (left : List Text) → Comes left s
-      of s (inl same) name answers helpless left = subst (Comes left) (sym same) (converts left)
-      of s (inr (inl same)) name answers helpless left = subst (Comes left) (sym same) (checks left)
-      of s (inr (inr (inl same))) name answers helpless left = subst (Comes left) (sym same) (λ below. inl (Measure, refl))
-      of s (inr (inr (inr (inl same)))) name answers helpless left = subst (Comes left) (sym same) (λ below. inl (Test, refl))
-      of s (inr (inr (inr (inr (inl same))))) name answers helpless left =
-          absurd (help_differs name (ap (λ (x : Shape). answers_to name (label_of x)) (sym same) ∙ answers) helpless)
+          → (left : List Text) → level_fault s [] nothing_held left false [] ≡ [] → IsAsked (Some (s.name, rows_after s.rules [] left))
+      of s (inl same) name answers helpless left = rw same (converts left)
+      of s (inr (inl same)) name answers helpless left = rw same (checks left)
+      of s (inr (inr (inl same))) name answers helpless left = rw same (λ below. inl (Measure, refl))
+      of s (inr (inr (inr (inl same)))) name answers helpless left = rw same (λ below. inl (Test, refl))
+      of s (inr (inr (inr (inr (inl same))))) name answers helpless left = absurd (help_differs name (rw same at answers) helpless)
       of s (inr (inr (inr (inr (inr bad))))) name answers helpless left = absurd bad
 
 -- ---- the same of any description of the line
 
-pub line_simple : (a : App) → IsLine a → is_simple_and_free a ≡ true
-line_simple a is = ap is_simple_and_free is.2 ∙ simple_and_free is.0
+module _ {a : App} (is : IsLine a) where
+  pub line_simple : is_simple_and_free a ≡ true
+  line_simple = ap is_simple_and_free is.2 ∙ simple_and_free is.0
 
-pub line_asked : (a : App) → IsLine a → (words : List Text) → fault_of a words ≡ [] → IsAsked (subcommand_of a words)
-line_asked a is words none = subst (λ x. IsAsked (subcommand_of x words)) (sym is.2) (asked is.0 is.1 words (sym (ap (λ x. fault_of x words) is.2) ∙ none))
+  module _ {words : List Text} {k : ErrorKind} where
+    -- where they ask for nothing, it is a form that is lacking
+    pub line_lacks : fault_of a words ≡ [] → request_of (subcommand_of a words) ≡ None → k ≡ MissingRequiredArgument → IsRefusal words k
+    line_lacks none nothing kind = by (subst (λ x. IsAsked (subcommand_of x words)) (sym is.2) (asked is.0 is.1 words (rw is.2 at none)))
+      where
+        by : IsAsked (subcommand_of a words) → IsRefusal words k
+        by (inl asks) = let bad : None ≡ Some asks.0 = sym nothing ∙ asks.1 in cc
+        by (inr lacks) = inr (inr (record { app = a; is_line = is; faultless = none; lacks = lacks; kind = kind }))
 
--- where they ask for nothing, it is a form that is lacking
-pub line_lacks : (a : App) → IsLine a → (words : List Text) (k : ErrorKind) → fault_of a words ≡ [] → request_of (subcommand_of a words) ≡ None → k ≡ MissingRequiredArgument
-    → IsRefusal words k
-line_lacks a is words k none nothing kind = by (line_asked a is words none)
-  where
-    by : IsAsked (subcommand_of a words) → IsRefusal words k
-    by (inl asks) = let bad : None ≡ Some asks.0 = sym nothing ∙ asks.1 in cc
-    by (inr lacks) = inr (inr (record { app = a; is_line = is; faultless = none; lacks = lacks; kind = kind }))
-
--- an error of the parse is a refusal
-pub line_refused : (a : App) → IsLine a → (words : List Text) (k : ErrorKind) → (takes a words ≡ true → k ≡ OutOfMemory) → (k ≡ OutOfMemory) ⊎ IsAmong k (fault_of a words)
-    → IsRefusal words k
-line_refused a is words k passes (inl memory) = inl memory
-line_refused a is words k passes (inr among) = go (takes a words) refl
-  where
-    go : (b : Bool) → takes a words ≡ b → IsRefusal words k
-    go true e = inl (passes e)
-    go false e = inr (inl (record { app = a; is_line = is; refused = e; kind = among }))
+    -- an error of the parse is a refusal
+    pub line_refused : (takes a words ≡ true → k ≡ OutOfMemory) → (k ≡ OutOfMemory) ⊎ IsAmong k (fault_of a words) → IsRefusal words k
+    line_refused free (inl memory) = inl memory
+    line_refused free (inr among) =
+        ⊎_elim (λ e. inl (free e)) (λ e. inr (inl (record { app = a; is_line = is; refused = e; kind = among }))) (cases_Bool (takes a words))

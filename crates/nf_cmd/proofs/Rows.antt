@@ -1,5 +1,6 @@
--- Rows that fit the rules of one level: for an option of one value, one that passes.
-use Rattle.nf_cmd.proofs.Common.{◌≡◌, ◌∙◌, ◌&&◌, ◌||◌, ◌⊎◌, ◌==◌, ℕ, Bool, cond, true, false, not, refl, sym, ap, ap₂, subst, min, ◌+◌, append-nil, arith, List, [], ◌∷◌, ◌++◌, length, Some, None, true≢false, eqb-true, bytes_eq, bytes_eq-Decides, CommandLine, unwrap_or_range, Kinds, or_else, range_kinds, value_passes, Row, Rule, Text, action_of, at_row, count_of, counted, has_row, more_values, most_values, new_count, reading_by, used, used_as, values_or_missing, with_count, with_values, without, action_fault, repeat_fault, use_fault, values_fault, ErrorKind, find, inl, inr}
+-- Rows that fit the rules of one level, for an option of one value one that passes, and subcommands that are not help.
+use Rattle.nf_cmd.proofs.Common.{◌≡◌, ◌∙◌, ◌&&◌, ◌⊎◌, ◌==◌, ℕ, Bool, cond, true, false, not, refl, sym, ap, ap₂, subst, min, ◌+◌, append-nil, arith, List, [], ◌∷◌, ◌++◌, length, Some, None, true≢false, eqb-true, bytes_eq, bytes_eq-Decides, CommandLine, unwrap_or_range, Kinds, or_else, range_kinds, value_passes, Row, Rule, Text, action_of, at_row, count_of, counted, has_row, more_values, most_values, new_count, reading_by, used, used_as, values_or_missing, with_count, with_values, without, action_fault, repeat_fault, use_fault, values_fault, ErrorKind, find, inl, inr, Option, codes, Step, subcommand}
+use Rattle.std.proofs.lemmas.Bool.{cond_both, cond-false, or_parts}
 use Rattle.clap.specs.declared.builder.action.ArgAction.{ArgAction}
 use Rattle.clap.specs.declared.builder.action.ArgAction.TheVariants.{Set, Append, SetTrue, SetFalse, Count}
 use Rattle.clap.specs.declared.builder.value_parser.Reading.{Reading}
@@ -35,11 +36,8 @@ IsIn a (x ∷ xs) = (a ≡ x) ⊎ IsIn a xs
 -- what is found is one of them, and passes
 pub find-in : {X : Type 0} (p : X → Bool) (xs : List X) (a : X) → find p xs ≡ Some a → IsIn a xs × (p a ≡ true)
 find-in p [] a e = let bad : ⊥ = cc in absurd bad
-find-in p (x ∷ xs) a e = go (find-in p xs a) (p x) refl e
-  where
-    go : (find p xs ≡ Some a → IsIn a xs × (p a ≡ true)) → (b : Bool) → p x ≡ b → cond b (Some x) (find p xs) ≡ Some a → IsIn a (x ∷ xs) × (p a ≡ true)
-    go rest true t h = let same : a ≡ x = cc in (inl same, ap p same ∙ t)
-    go rest false t h = let found = rest h in (inr found.0, found.1)
+find-in p (x ∷ xs) a e = cond_both (p x) (Some x) (find p xs) (λ o. o ≡ Some a → IsIn a (x ∷ xs) × (p a ≡ true))
+    (λ t h. let same : a ≡ x = cc in (inl same, ap p same ∙ t)) (λ t h. let found = find-in p xs a h in (inr found.0, found.1)) e
 
 -- an option that takes one value and has no default
 pub record IsSingle (a : Rule) : Type 0 where
@@ -65,6 +63,18 @@ abbrev pub EachFits : List Rule → List Row → Type 0
 EachFits c [] = Unit {0}
 EachFits c (r ∷ rs) = Fits c r × EachFits c rs
 
+-- where help is on, the subcommand that is met, or at which a walk stops, is not help; `off` says that help is off
+abbrev pub IsNoHelp : Text → Type 0
+IsNoHelp name = bytes_eq name (codes "help") ≡ false
+
+abbrev pub StepsToNoHelp : Bool → Step → Type 0
+StepsToNoHelp off (subcommand name) = off ≡ false → IsNoHelp name
+StepsToNoHelp off _ = Unit {0}
+
+abbrev pub StopsAtNoHelp : Bool → Option (Text × List Text) → Type 0
+StopsAtNoHelp off None = Unit {0}
+StopsAtNoHelp off (Some p) = off ≡ false → IsNoHelp p.0
+
 each-append : (c : List Rule) (xs ys : List Row) → EachFits c xs → EachFits c ys → EachFits c (xs ++ ys)
 each-append c [] ys f g = g
 each-append c (x ∷ xs) ys f g = (f.0, each-append c xs ys f.1 g)
@@ -72,11 +82,8 @@ each-append c (x ∷ xs) ys f g = (f.0, each-append c xs ys f.1 g)
 each-at_row : (c : List Rule) (id : Text) (change : Row → List Row) (missing : List Row) (rows : List Row) → EachFits c rows
     → ((r : Row) → r.id ≡ id → EachFits c (change r)) → EachFits c missing → EachFits c (at_row id change missing rows)
 each-at_row c id change missing [] f g m = m
-each-at_row c id change missing (r ∷ rs) f g m = go (each-at_row c id change missing rs f.1 g m) (bytes_eq r.id id) refl
-  where
-    go : EachFits c (at_row id change missing rs) → (b : Bool) → bytes_eq r.id id ≡ b → EachFits c (cond b (change r ++ rs) (r ∷ at_row id change missing rs))
-    go rest true e = each-append c (change r) rs (g r ((bytes_eq-Decides r.id id).0 e)) f.1
-    go rest false e = (f.0, rest)
+each-at_row c id change missing (r ∷ rs) f g m = cond_both (bytes_eq r.id id) _ _ (EachFits c)
+    (λ e. each-append c (change r) rs (g r ((bytes_eq-Decides r.id id).0 e)) f.1) (λ e. (f.0, each-at_row c id change missing rs f.1 g m))
 
 each-without : (c : List Rule) (id : Text) (rows : List Row) → EachFits c rows → EachFits c (without id rows)
 each-without c id rows f = each-at_row c id (λ _. []) [] rows f (λ r e. tt) tt
@@ -84,12 +91,8 @@ each-without c id rows f = each-at_row c id (λ _. []) [] rows f (λ r e. tt) tt
 -- where the id has no row, the row that was missing goes to the end
 new_row : (id : Text) (change : Row → List Row) (missing : List Row) (rows : List Row) → has_row id rows ≡ false → at_row id change missing rows ≡ rows ++ missing
 new_row id change missing [] none = refl
-new_row id change missing (r ∷ rs) none = go (λ e. new_row id change missing rs e) (bytes_eq r.id id) none
-  where
-    go : (has_row id rs ≡ false → at_row id change missing rs ≡ rs ++ missing) → (b : Bool) → (b || has_row id rs) ≡ false
-        → cond b (change r ++ rs) (r ∷ at_row id change missing rs) ≡ r ∷ (rs ++ missing)
-    go rest true e = absurd (true≢false e)
-    go rest false e = ap (λ xs. r ∷ xs) (rest e)
+new_row id change missing (r ∷ rs) none = let parts = or_parts (bytes_eq r.id id) _ none in
+    cond-false (bytes_eq r.id id) _ _ parts.0 ∙ ap (λ xs. r ∷ xs) (new_row id change missing rs parts.1)
 
 -- ---- one use of an argument
 

@@ -1,18 +1,148 @@
--- What the library did, over devices of which only the bytes are told.
-use Rattle.nf_cmd.proofs.Common.{◌≡◌, ℕ, List, Option, Result, false, IsTrue, OnOk, SinkState, SourceState, Runs}
+-- What a run shows, by what the library did: devices of which only the bytes are told, no fault of an unsound character where none
+-- of the data is one, and that what `convert` wrote to the end without a fault is not changed by a second run.
+use Rattle.nf_cmd.proofs.Common.{◌≡◌, ℕ, Bool, true, false, List, [], Option, Some, None, Result, Ok, Err, inl, inr, sym, ap, ◌∙◌, subst, ◌⊎◌, ⊎_elim, refl, IsTrue, OnOk, Appends-kept, Form, ucd, Policy, Tally, Fault, Write, Convert, ConvertLines, Check, CheckForm, Measure, Test, SinkState, SourceState, Drives, bytes_of, DrivesLines, end_of, Runs, status_of, NeverRow}
+use Rattle.std.specs.Result.{result_err}
+use Rattle.nf_forms.specs.Twice.{ChangesOnce}
+use Rattle.nf_safe.specs.declared.place.Place.{Place}
 use Rattle.nf_filter.specs.declared.fault.Fault.{Fault as Found}
+use Rattle.nf_filter.specs.declared.fault.Fault.TheVariants as found
+use Rattle.nf_filter.specs.Laws.Soundness.{AreSound, DrivingRefusesNone, CheckingRefusesNone, MeasuringRefusesNone}
+use Rattle.nf_filter.specs.Writes.{Puts}
+use Rattle.nf_filter.specs.Finishes.{end_of as finished, final_utf8}
+use Rattle.nf_filter.specs.Again.{StaysAsItIs, AddsWhatStays, FinishedStays}
+use Rattle.nf_filter.specs.Checks.{place_or_fault}
+use Rattle.nf_filter.specs.Faults.{fault_in}
+use Rattle.nf_filter.proofs.WritesLemmas.{Puts-at}
+use Rattle.nf_filter.proofs.AgainLemmas.{drives_once, adds_what_stays}
+use Rattle.nf_filter.proofs.SoundnessLemmas.{not_a_fault, not_in_end, not_surveyed}
+use Rattle.nf_normalized.specs.Change.{form_decision, form_value, under}
+use Rattle.nf_vectors.specs.declared.fault.VectorFault.{VectorFault}
+use Rattle.nf_vectors.specs.declared.fault.VectorKind.{VectorKind}
+use Rattle.nf_vectors.specs.declared.fault.VectorKind.TheVariants as kind
+use Rattle.nf_vectors.specs.declared.suite.Suite.{Suite}
+use Rattle.nf_cmd.specs.declared.fault.Fault.TheVariants.{Row}
+use Rattle.nf_cmd.specs.declared.test.Finding.{Finding}
+use Rattle.nf_cmd.specs.Faults.{told_at}
+use Rattle.nf_cmd.specs.Converts.{Ends}
+use Rattle.nf_cmd.specs.Checks.{check_end, ChecksForm}
+use Rattle.nf_cmd.specs.Tests.{Tests, Finds, finding_end}
+use Rattle.nf_cmd.specs.Again.{EachConvertsOnce}
 
-pub runs_from : {T : Type 0} (drives : SourceState → SourceState → SinkState → SinkState → Result T Found → Type 0) (coming left taken now : Option (List ℕ)) (source rest : SourceState) (old new : SinkState) (answer : Result T Found)
+pub runs_from : {T : Type 0} {drives : SourceState → SourceState → SinkState → SinkState → Result T Found → Type 0} {coming left taken now : Option (List ℕ)} (source rest : SourceState) (old new : SinkState) {answer : Result T Found}
     → drives source rest old new answer → OnOk answer (IsTrue rest.is_at_end)
-    → source.coming ≡ coming → rest.coming ≡ left → old.taken ≡ taken → new.taken ≡ now → old.is_failed ≡ false → Runs drives coming left taken now answer
-runs_from drives coming left taken now source rest old new answer driven end source_is rest_is old_is new_is unfailed = record {
-  source = source;
-  rest = rest;
-  old = old;
-  new = new;
-  input_is = (source_is, rest_is);
-  output_is = (old_is, new_is);
-  unfailed = unfailed;
-  end = end;
-  driven = driven;
-}
+    → (source.coming ≡ coming) × (rest.coming ≡ left) → (old.taken ≡ taken) × (new.taken ≡ now) → old.is_failed ≡ false → Runs drives coming left taken now answer
+runs_from source rest old new driven end input output unfailed =
+    record { source = source; rest = rest; old = old; new = new; input_is = input; output_is = output; unfailed = unfailed; end = end; driven = driven }
+
+-- ---- no character is unsound
+
+-- no fault of a vector file is that of a character
+not_of_file : (n : ℕ) (k : VectorKind) (at : ℕ) → ¬ (told_at n k ≡ Row at)
+not_of_file n kind.Fields at e = cc
+not_of_file n _ at e = cc
+
+-- what ends by that of a character was answered so: it ends by the answer, and not by a failed write
+module _ {ended : Result ℕ Fault} {at : ℕ} (row : ended ≡ Err (Row at)) where
+  ends_row : {T : Type 0} (answer : Result T Found) → (Some ended ≡ end_of answer) ⊎ (ended ≡ Err Write) → answer ≡ Err (found.Row at)
+  ends_row (Ok value) (inl is) = cc
+  ends_row (Err found.Spent) (inl is) = cc
+  ends_row (Err _) (inl is) = cc
+  ends_row answer (inr is) = cc
+
+  check_row : (answer : Result (Option Place) Found) → (Some ended ≡ check_end answer) ⊎ (ended ≡ Err Write) → answer ≡ Err (found.Row at)
+  check_row (Ok None) (inl is) = cc
+  check_row (Ok (Some place)) (inl is) = cc
+  check_row (Err found.Spent) (inl is) = cc
+  check_row (Err _) (inl is) = cc
+  check_row answer (inr is) = cc
+
+  tested : {coming left taken now : Option (List ℕ)} → ¬ (Tests ucd coming left taken now ended)
+  tested does = by does.suite does.finding does.finds does.found_is
+    where
+      by : (suite : Result Suite VectorFault) (finding : Result Finding Fault) → Finds ucd suite finding → (ended ≡ finding_end finding) ⊎ (ended ≡ Err Write) → ⊥
+      by suite finding finds (inr is) = cc
+      by suite (Ok finding) finds (inl is) = cc
+      by (Ok suite) (Err fault) finds (inl is) = cc
+      by (Err refused) (Err fault) finds (inl is) = not_of_file refused.line refused.kind at (cc)
+
+module _ (sound : AreSound ucd) {at : ℕ} where
+  from_err : (r : Result Tally Found) → result_err r ≡ Some (found.Row at) → r ≡ Err (found.Row at)
+  from_err (Ok tally) e = cc
+  from_err (Err fault) e = cc
+
+  -- by driving line by line
+  lines_row : {policy : Policy} {f : Form} {source rest : SourceState} {old new : SinkState} {answer : Result (Unit {0}) Found}
+      → DrivesLines 65536 policy f ucd source rest old new answer → ¬ (answer ≡ Err (found.Row at))
+  lines_row {policy} {rest = rest} drives row = by rest.is_at_end refl
+    where
+      by : (b : Bool) → rest.is_at_end ≡ b → ⊥
+      by true end = not_in_end ucd sound 0 at policy (bytes_of drives.taken) (from_err (finished policy ucd 0 (bytes_of drives.taken)) (sym (drives.finished end (λ e. cc)) ∙ ap result_err row))
+      by false end = not_a_fault ucd sound 0 at policy (bytes_of drives.taken) (sym (drives.stopped end (λ e. cc) (λ e. cc) (λ e. cc)).1 ∙ ap result_err row)
+
+  -- by checking a form
+  form_row : {coming left taken now : Option (List ℕ)} {ended : Result ℕ Fault} (f : Form) (assigned : Bool) → ChecksForm f assigned coming left taken now ended → ¬ (ended ≡ Err (Row at))
+  unfolding form_decision
+  form_row f assigned does row =
+      not_surveyed 65536 0 at (form_decision assigned f 0) (form_value f 0) _ _ _ (λ bytes. undecided bytes _) does.surveyed.surveys (check_row row does.answer does.found_is)
+    where
+      by_fault : (o : Option Found) → ¬ (o ≡ Some (found.Row at)) → ¬ (place_or_fault None o ≡ Some (Err (found.Row at)))
+      by_fault None not e = cc
+      by_fault (Some fault) not e = not (cc)
+
+      undecided : (bytes : List ℕ) (place : Option Place) → ¬ (place_or_fault place (fault_in (under assigned) ucd 0 bytes) ≡ Some (Err (found.Row at)))
+      undecided bytes (Some place) e = cc
+      undecided bytes None e = by_fault (fault_in (under assigned) ucd 0 bytes) (not_a_fault ucd sound 0 at (under assigned) bytes) e
+
+pub never_row : DrivingRefusesNone → CheckingRefusesNone → MeasuringRefusesNone → AreSound ucd → NeverRow
+never_row driving checking measuring sound (Convert form policy) before after ended does at row = driving _ _ _ _ _ _ _ _ _ _ _ sound does.runs.driven at (ends_row row does.answer does.found_is)
+never_row driving checking measuring sound (ConvertLines form policy) before after ended does at row = lines_row sound does.runs.driven (ends_row row does.answer does.found_is)
+never_row driving checking measuring sound Check before after ended does at row = checking _ _ _ _ _ _ sound does.surveyed.surveys at (check_row row does.answer does.found_is)
+never_row driving checking measuring sound (CheckForm form assigned) before after ended does at row = form_row sound form assigned does row
+never_row driving checking measuring sound Measure before after ended does at row = measuring _ _ _ _ _ _ sound does.surveyed.surveys at (ends_row row does.answer does.found_is)
+never_row driving checking measuring sound Test before after ended does at row = tested row does
+
+-- ---- what was converted stays
+
+abbrev no_fault : Result ℕ Fault
+no_fault = Ok 0
+
+-- no fault ends with status 0
+found_ok : (ended : Result ℕ Fault) → status_of ended ≡ 0 → ended ≡ Ok 0
+found_ok (Ok status) e = cc
+found_ok (Err (Row at)) e = cc
+found_ok (Err _) e = cc
+
+-- where a run of the library that has no fault adds what stays, the program's does; a flush behind it changes nothing
+module _ {T : Type 0} (f : Form) (drives : SourceState → SourceState → SinkState → SinkState → Result T Found → Type 0)
+    (stays : (source rest : SourceState) (old new : SinkState) (value : T) → IsTrue rest.is_at_end → drives source rest old new (Ok value) → AddsWhatStays f ucd old.taken new.taken) where
+  ends_once : {coming left taken now : Option (List ℕ)} → Ends drives coming left taken now (Ok 0) → AddsWhatStays f ucd taken now
+  ends_once {coming} {left} {taken} {now} does = by does.answer does.found_is does.runs
+    where
+      by : (answer : Result T Found) → (Some no_fault ≡ end_of answer) ⊎ (no_fault ≡ Err Write) → Runs drives coming left taken does.given answer → AddsWhatStays f ucd taken now
+      by (Ok value) is runs =
+          let adds = rw (runs.output_is.0, runs.output_is.1) at (stays _ _ _ _ value runs.end runs.driven) in
+          (adds.0, Appends-kept _ _ _ adds.0 adds.1 does.flushed, adds.2)
+      by (Err found.Spent) (inl is) runs = cc
+      by (Err _) (inl is) runs = cc
+      by answer (inr is) runs = cc
+
+module _ (law : FinishedStays) (f : Form) (policy : Policy) (once : ChangesOnce f ucd) where
+  whole_once : (source rest : SourceState) (old new : SinkState) (tally : Tally) → IsTrue rest.is_at_end → Drives 65536 policy f ucd 0 [] source rest old new (Ok tally) → AddsWhatStays f ucd old.taken new.taken
+  whole_once source rest old new tally end driven =
+      adds_what_stays f ucd old new policy source rest (Ok tally) (drives_once law _ policy f ucd 0 [] _ _ _ _ (Ok tally) once end driven)
+
+  lines_once : (source rest : SourceState) (old new : SinkState) (value : Unit {0}) → IsTrue rest.is_at_end → DrivesLines 65536 policy f ucd source rest old new (Ok value) → AddsWhatStays f ucd old.taken new.taken
+  lines_once source rest old new value end driven = by (finished policy ucd 0 (bytes_of driven.taken)) refl
+    where
+      puts : Puts old new [] (final_utf8 policy f ucd (bytes_of driven.taken))
+      puts = Puts-at refl driven.form (driven.written (λ e. cc))
+
+      by : (r : Result Tally Found) → finished policy ucd 0 (bytes_of driven.taken) ≡ r → AddsWhatStays f ucd old.taken new.taken
+      by (Ok tally) is = (puts.out, puts.given, subst (StaysAsItIs f ucd) puts.behind (law policy f ucd 0 (bytes_of driven.taken) tally once is))
+      by (Err fault) is = let told : None ≡ Some fault = driven.finished end (λ e. cc) ∙ ap result_err is in cc
+
+pub each_converts_once : FinishedStays → ((f : Form) → ChangesOnce f ucd) → EachConvertsOnce
+each_converts_once law once words before after status f policy done asked zero =
+    let does = rw (found_ok done.found (sym done.ends.status_is ∙ zero)) at done.does in
+    ⊎_elim (λ is. ends_once f (Drives 65536 policy f ucd 0 []) (whole_once law f policy (once f)) (rw is at does))
+    (λ is. ends_once f (DrivesLines 65536 policy f ucd) (lines_once law f policy (once f)) (rw is at does)) asked

@@ -1,4 +1,4 @@
-use Rattle.nf_cmd.proofs.Common.{◌≡◌, ◌∙◌, [], rules, ucd, Drives}
+use Rattle.nf_cmd.proofs.Common.{◌≡◌, ◌∙◌, [], rules}
 use Rattle.nf_filter.specs.Filter.{base_of, state_of}
 use Rattle.nf_filter.specs.Policy.{as_is}
 use Rattle.nf_cmd.proofs.RunsLemmas.{runs_from}
@@ -8,4 +8,4 @@ pub returns-clause-runs : goal.returns-clause-runs
 returns-clause-runs g c =
     let base : base_of (state_of c.policy.result) ≡ 0 = c.policy.ensures.base ∙ c.quickest.ensures.base in
     let driven = rw base at (c.drive_buffered.ensures.drives c.args.policy c.args.form [] (c.policy.ensures.stands as_is c.args.form [] c.quickest.ensures.stands)) in
-    runs_from (Drives 65536 c.args.policy c.args.form ucd 0 []) _ _ _ _ _ _ _ _ _ driven c.drive_buffered.ensures.end (search rules) (search rules) (search rules) (search rules) (search rules)
+    runs_from _ _ _ _ driven c.drive_buffered.ensures.end (search rules) (search rules) (search rules)

@@ -1,4 +1,5 @@
 use Rattle.nf_cmd.proofs.Common.{◌≡◌, ◌∙◌, Bool, true, false, refl, sym, ap, Option, Some, None, codes, bytes_eq, option_eq, option_map_or, bytes_eq-Decides, ReadsOne, found_of, Text, one_text-rows}
+use Rattle.std.proofs.lemmas.Bool.{false_from_ne_true}
 use Rattle.std.specs.Bool.{beq}
 use Rattle.std.specs.Str.Parse.{ParsesBool}
 use Rattle.nf_cmd.proofs.line.is_set.Goals as goal
@@ -9,11 +10,7 @@ read : (E : Type 0) (text : Option Text) (value : Option Bool) → (text ≡ Non
 read E None value none some = ap (λ v. option_eq beq v (Some true)) (none refl)
 read E (Some t) (Some true) none some = sym (ap (λ x. bytes_eq x (codes "true")) (some t refl))
 read E (Some t) (Some false) none some = sym (ap (λ x. bytes_eq x (codes "true")) (some t refl))
-read E (Some t) None none some = go (bytes_eq t (codes "true")) refl
-  where
-    go : (b : Bool) → bytes_eq t (codes "true") ≡ b → false ≡ b
-    go true e = absurd ((some t refl).1.0 ((bytes_eq-Decides t (codes "true")).0 e))
-    go false e = refl
+read E (Some t) None none some = sym (false_from_ne_true _ (λ e. (some t refl).1.0 ((bytes_eq-Decides t (codes "true")).0 e)))
 
 pub returns : goal.returns
 returns c = c.eq.ensures ∙ read _ _ c.get_one.result c.get_one.ensures.none c.get_one.ensures.value ∙ ap (λ o. option_map_or (λ t. bytes_eq t (codes "true")) o false) (one_text-rows (found_of c.args.found.now) c.args.flag.now)

@@ -1,4 +1,4 @@
-use Rattle.nf_cmd.proofs.SoundLemmas.{never_row}
+use Rattle.nf_cmd.proofs.RunsLemmas.{never_row}
 use Rattle.nf_cmd.proofs.program.no_character_is_refused.Goals as goal
 
 pub returns : goal.returns

@@ -1,4 +1,4 @@
-use Rattle.nf_cmd.proofs.AgainLemmas.{each_converts_once}
+use Rattle.nf_cmd.proofs.RunsLemmas.{each_converts_once}
 use Rattle.nf_cmd.proofs.program.what_was_converted_stays.Goals as goal
 
 pub returns : goal.returns

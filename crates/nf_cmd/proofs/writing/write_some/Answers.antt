@@ -1,17 +1,16 @@
-use Rattle.nf_cmd.proofs.Common.{◌∙◌, ◌-◌, ◌++◌, ap, rules, length, take, drop, sym, subst, append-nil, take-add, Appends, Appends-kept, Appends-trans}
+use Rattle.nf_cmd.proofs.Common.{rules, take, subst, append-nil, take-add, Appends, Appends-kept, Appends-trans}
 use Rattle.std.proofs.lemmas.List.{take_rest}
 use Rattle.nf_cmd.proofs.writing.write_some.Goals as goal
 
 pub loop-at-preserved : goal.loop-at-preserved
 loop-at-preserved g c =
     let bytes = c.args.bytes.now in
-    (search rules, subst (Appends _ _) (ap (λ rest. take c.loop-at.at bytes ++ take c.in-Ok.n rest) (take_rest bytes c.loop-at.at) ∙ sym (take-add c.loop-at.at c.in-Ok.n bytes)) (Appends-trans _ _ _ _ _ c.loop-at.invariant.1 c.in-Ok.ensures.bytes))
+    (search rules, rw (take-add c.loop-at.at c.in-Ok.n bytes, ← take_rest bytes c.loop-at.at) (Appends-trans _ _ _ _ _ c.loop-at.invariant.1 c.in-Ok.ensures.bytes))
 
 pub returns-in-Ok-eq0-clause-written : goal.returns-in-Ok-eq0-clause-written
 returns-in-Ok-eq0-clause-written g c =
     let bytes = c.args.bytes.now in
-    let at = c.loop-at.at in
-    subst (Appends _ _) (ap (λ n. take at bytes ++ take n (take (length bytes - at) (drop at bytes))) c.in-Ok-eq0.field-0-test ∙ append-nil (take at bytes)) (Appends-trans _ _ _ _ _ c.loop-at.invariant.1 c.in-Ok-eq0.ensures.bytes)
+    subst (Appends _ _) (append-nil (take c.loop-at.at bytes)) (Appends-trans _ _ _ _ _ c.loop-at.invariant.1 (rw c.in-Ok-eq0.field-0-test at c.in-Ok-eq0.ensures.bytes))
 
 pub returns-in-Err-clause-written : goal.returns-in-Err-clause-written
 returns-in-Err-clause-written g c = Appends-kept _ _ _ _ c.loop-at.invariant.1 c.in-Err.ensures.bytes
