@@ -1,7 +1,7 @@
 -- What a level without a fault ends with: the value of an option of one value, which is there where it is required.
-use Rattle.nf_cmd.proofs.Common.{◌≡◌, ◌∙◌, ◌&&◌, Bool, true, false, not, refl, sym, ap, subst, List, [], ◌∷◌, fold, Option, Some, None, inl, inr, true≢false, find, option_and_then, slice_get, bytes_eq, list_any, option_map_or, bytes_eq-Decides, DefaultValue, explicit_source, Kinds, check_kinds, or_else, is_given, value_passes, Held, Names, Row, Rule, Text, has_row, reading_by, settled, default_rows, finished, first_of, nothing_held, stop_after, rows_after, walk, walk_from, with_default, Shape, level_fault, check_fault, defaults_fault, settle_fault, walk_fault, not-false}
+use Rattle.nf_cmd.proofs.Common.{◌≡◌, ◌∙◌, ◌&&◌, Bool, true, false, not, refl, sym, ap, subst, List, [], ◌∷◌, fold, Option, Some, None, inl, inr, find, option_and_then, slice_get, bytes_eq, list_any, option_map_or, bytes_eq-Decides, DefaultValue, explicit_source, Kinds, check_kinds, is_given, value_passes, Held, Names, Row, Rule, Text, has_row, reading_by, settled, default_rows, first_of, nothing_held, stop_after, rows_after, walk, walk_from, with_default, Shape, level_fault, check_fault, settle_fault, walk_fault, not-false}
 use Rattle.std.proofs.lemmas.Bool.{cond_both, or_parts}
-use Rattle.nf_cmd.proofs.Rows.{both_none, IsIn, IsSingle, HasOne, Fits, EachFits, each-with_values, no_kind, second_false, find-in, StopsAtNoHelp}
+use Rattle.nf_cmd.proofs.Rows.{both_none, IsIn, IsSingle, Fits, EachFits, each-with_values, no_kind, second_false, find-in, StopsAtNoHelp}
 use Rattle.nf_cmd.proofs.WalkRows.{each-settled, each-walk}
 
 -- what an argument that was not used gets, by its defaults
@@ -9,7 +9,7 @@ each-default_rows : (c : List Rule) (a : Rule) → IsIn a c → (rows : List Row
     → EachFits c (default_rows a.id (reading_by a) values rows)
 each-default_rows c a inside rows f [] e = f
 each-default_rows c a inside rows f (v ∷ vs) e =
-    each-with_values c a inside (λ s. let none : a.defaults ≡ [] = s.no_default in let bad : ⊥ = cc in bad) _ DefaultValue (v ∷ vs) rows f
+    each-with_values c a inside (λ s. cc) _ DefaultValue (v ∷ vs) rows f
 
 each-with_default : (c : List Rule) (a : Rule) → IsIn a c → (rows : List Row) → EachFits c rows → EachFits c (with_default rows a)
 each-with_default c a inside rows f = cond_both (has_row a.id rows) _ _ (EachFits c) (λ e. f) (λ e. each-default_rows c a inside rows f a.defaults refl)
@@ -48,29 +48,26 @@ module _ (s : Shape) (off : s.args_override_self ≡ false) (names : Names) (wor
   abbrev rows : List Row
   rows = rows_after s.rules names words
 
-  walk_faults : (walk_fault s names (walk_from nothing_held) words ≡ []) × (or_else below (or_else (settle_fault s.rules s.args_override_self end)
-      (or_else (defaults_fault (settled s.rules end).rows s.rules) (check_fault s (finished s.rules end) has))) ≡ [])
-  walk_faults = both_none _ _ none
-
-  settle_faults : (settle_fault s.rules s.args_override_self end ≡ [])
-      × (or_else (defaults_fault (settled s.rules end).rows s.rules) (check_fault s (finished s.rules end) has) ≡ [])
-  settle_faults = both_none _ _ (both_none _ _ walk_faults.1).1
+  faults : (walk_fault s names (walk_from nothing_held) words ≡ []) × (below ≡ []) × (settle_fault s.rules s.args_override_self end ≡ [])
+      × (check_fault s rows has ≡ [])
+  faults =
+      let first = both_none _ _ none in
+      let second = both_none _ _ first.1 in
+      let third = both_none _ _ second.1 in
+      (first.0, second.0, third.0, (both_none _ _ third.1).1)
 
   pub below_faultless : below ≡ []
-  below_faultless = (both_none _ _ walk_faults.1).0
-
-  walked : EachFits s.rules end.rows × StopsAtNoHelp s.disable_help_subcommand (stop_after s.rules names words)
-  walked = each-walk s off names (walk_from nothing_held) words walk_faults.0 (tt, tt)
-
-  pub stops : StopsAtNoHelp s.disable_help_subcommand (stop_after s.rules names words)
-  stops = walked.1
+  below_faultless = faults.1
 
   pub checked : check_fault s rows has ≡ []
-  checked = (both_none _ _ settle_faults.1).1
+  checked = faults.3
+
+  pub walked : EachFits s.rules end.rows × StopsAtNoHelp s.disable_help_subcommand (stop_after s.rules names words)
+  walked = each-walk s off names (walk_from nothing_held) words faults.0 (tt, tt)
 
   each-row : EachFits s.rules rows
   each-row = each-defaults s.rules s.rules (λ a i. i) (settled s.rules end).rows
-      (each-settled s.rules s.args_override_self off end settle_faults.0 walked.0)
+      (each-settled s.rules s.args_override_self off end faults.2 walked.0)
 
   is_given-required : s.subcommand_negates_reqs ≡ false → (a : Rule) → IsIn a s.rules → a.required ≡ true → is_given a.id rows ≡ true
   is_given-required lifts a inside required =
@@ -82,11 +79,12 @@ module _ (s : Shape) (off : s.args_override_self ≡ false) (names : Names) (wor
     abbrev value_of : Option Row → Option Text
     value_of = option_and_then (λ (r : Row). slice_get r.values 0)
 
-    one_value : (r : Row) → find (λ x. bytes_eq x.id a.id) rows ≡ Some r → HasOne a r.values
+    one_value : (r : Row) → find (λ x. bytes_eq x.id a.id) rows ≡ Some r → Given a rows
     one_value r e =
         let found = find-in (λ (x : Row). bytes_eq x.id a.id) rows r e in
         let f : Fits s.rules r = each-in s.rules rows r each-row found.0 in
-        subst (λ y. IsSingle y → HasOne y r.values) (only f.rule f.inside (f.same ∙ (bytes_eq-Decides r.id a.id).0 found.1)) f.one single
+        let one = (rw (only f.rule f.inside (f.same ∙ (bytes_eq-Decides r.id a.id).0 found.1)) at f.one) single in
+        record { text = one.text; first = ap value_of e ∙ ap (λ vs. slice_get vs 0) one.alone; passes = one.passes }
 
     -- where it is there, its value passes
     pub passes : (text : Text) → first_of a.id rows ≡ Some text → value_passes a text ≡ true
@@ -95,16 +93,14 @@ module _ (s : Shape) (off : s.args_override_self ≡ false) (names : Names) (wor
         go : (o : Option Row) → find (λ x. bytes_eq x.id a.id) rows ≡ o → value_passes a text ≡ true
         go None e = let bad : None ≡ Some text = sym (ap value_of e) ∙ first in cc
         go (Some r) e =
-            let h = one_value r e in
-            let is : Some h.text ≡ Some text = sym (ap value_of e ∙ ap (λ vs. slice_get vs 0) h.alone) ∙ first in
-            let same : h.text ≡ text = cc in
-            subst (λ t. value_passes a t ≡ true) same h.passes
+            let one = one_value r e in
+            let is : Some one.text ≡ Some text = sym one.first ∙ first in
+            let same : one.text ≡ text = cc in
+            rw same at one.passes
 
     pub given : s.subcommand_negates_reqs ≡ false → IsIn a s.rules → a.required ≡ true → Given a rows
     given lifts inside required = go (find (λ r. bytes_eq r.id a.id) rows) refl (is_given-required lifts a inside required)
       where
         go : (o : Option Row) → find (λ x. bytes_eq x.id a.id) rows ≡ o → option_map_or (λ (r : Row). explicit_source r.source) o false ≡ true → Given a rows
-        go None e h = absurd (true≢false (sym h))
-        go (Some r) e h =
-            let one = one_value r e in
-            record { text = one.text; first = ap value_of e ∙ ap (λ vs. slice_get vs 0) one.alone; passes = one.passes }
+        go None e h = cc
+        go (Some r) e h = one_value r e

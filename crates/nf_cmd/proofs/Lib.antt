@@ -3,7 +3,6 @@ mod Rows
 mod WalkRows
 mod LevelRows
 mod Requests
-mod AnswerLemmas
 mod RunsLemmas
 mod CodeDigits
 mod Examples

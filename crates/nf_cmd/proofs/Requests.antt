@@ -1,42 +1,30 @@
 -- Words in which clap finds no fault ask for something, or are `check` that lacks a form.
-use Rattle.nf_cmd.proofs.Common.{◌≡◌, ◌∙◌, ◌&&◌, ◌||◌, ◌⊎◌, Bool, true, false, not, refl, sym, ap, subst, List, [], ◌∷◌, drop, Option, Some, None, inl, inr, codes, is_some, true≢false, ap₂, find, option_and_then, option_map, Bor, bytes_eq, list_any, option_map_or, bytes_eq-Decides, ErrorKind, MissingRequiredArgument, OutOfMemory, IsAmong, takes, value_passes, Row, Rule, Text, answers_to, first_of, nothing_held, rows_after, stop_after, texts, App, Shape, argument_words, built, entered, label_of, names_of, rows_at, subcommand_of, new_shape, with_index, filled, built_fault, entered_fault, fault_of, is_simple_and_free, level_fault, list_any-map, Form, Nfc, Nfd, Nfkc, Nfkd, Request, Check, CheckForm, Measure, Test, IsLine, IsRefusal, check, checking, conversion, convert, flag_rule, form_named, form_names, form_rule, is_set, lacks_form, line, policy_of, request_of, not-false, ⊎_elim, get_or}
+use Rattle.nf_cmd.proofs.Common.{◌≡◌, ◌∙◌, ◌||◌, ◌⊎◌, Bool, true, false, refl, sym, ap, subst, List, [], ◌∷◌, drop, Option, Some, None, inl, inr, codes, is_some, true≢false, find, option_map, Bor, bytes_eq, list_any, option_map_or, bytes_eq-Decides, ErrorKind, MissingRequiredArgument, OutOfMemory, IsAmong, takes, value_passes, Row, Rule, Text, answers_to, first_of, nothing_held, rows_after, stop_after, texts, Shape, subcommand_of, built_fault, entered_fault, fault_of, is_simple_and_free, level_fault, list_any-map, Form, Nfc, Nfd, Nfkc, Nfkd, Request, Check, CheckForm, Measure, Test, IsLine, IsRefusal, check, conversion, convert, flag_rule, form_named, form_names, form_rule, is_set, lacks_form, line, policy_of, request_of, not-false, ⊎_elim, get_or}
+use Rattle.clap.specs.Simple.{App, argument_words, built, entered, label_of, names_of, rows_at, new_shape, with_index, filled}
 use Rattle.std.proofs.Math.Bool.{or-false}
 use Rattle.std.proofs.lemmas.Bool.{cases_Bool, or_cases}
 use Rattle.nf_cmd.proofs.Rows.{first_false, IsIn, IsSingle, find-in, IsNoHelp, StopsAtNoHelp}
-use Rattle.nf_cmd.proofs.LevelRows.{none_of, below_faultless, checked, given, passes, nothing_wanted, stops}
+use Rattle.nf_cmd.proofs.LevelRows.{none_of, below_faultless, checked, given, passes, nothing_wanted, walked}
 
--- a subcommand was entered, which is not help, and its own words have no fault
-record Enters (a : App) (found : Option (Text × List Row)) : Type 0 where
-  pub sub : Shape
-  pub name : Text
-  pub words : List Text
-  pub inside : IsIn sub a.subs
-  pub answers : answers_to name (label_of sub) ≡ true
-  pub no_help : IsNoHelp name
-  pub is : found ≡ Some (sub.name, rows_after sub.rules [] words)
-  pub faultless : level_fault sub [] nothing_held words false [] ≡ []
-
-module _ (a : App) (words : List Text) (off : a.top.args_override_self ≡ false) (helps : a.top.disable_help_subcommand ≡ false)
-    (needs : a.top.subcommand_required ≡ true) (none : built_fault a nothing_held words ≡ []) where
-  abbrev stop : Option (Text × List Text)
-  stop = stop_after a.top.rules (names_of a) words
-
-  enters : Enters a (entered a stop)
-  enters = go stop
-      (stops a.top off (names_of a) words _ _ none)
+-- what holds of each subcommand that is not help, and whose own words have no fault, holds of the one that is entered
+module _ (P : Option (Text × List Row) → Type 0) (a : App) (words : List Text) (off : a.top.args_override_self ≡ false) (helps : a.top.disable_help_subcommand ≡ false)
+    (needs : a.top.subcommand_required ≡ true) (none : built_fault a nothing_held words ≡ [])
+    (each : (s : Shape) → IsIn s a.subs → (name : Text) → answers_to name (label_of s) ≡ true → IsNoHelp name
+        → (left : List Text) → level_fault s [] nothing_held left false [] ≡ [] → P (Some (s.name, rows_after s.rules [] left))) where
+  enters : P (entered a (stop_after a.top.rules (names_of a) words))
+  enters = go (stop_after a.top.rules (names_of a) words)
+      (walked a.top off (names_of a) words _ _ none).1
       (below_faultless a.top off (names_of a) words _ _ none)
       (not-false _ (first_false _ a.top.subcommand_required (nothing_wanted _ _ _ (checked a.top off (names_of a) words _ _ none)).0 needs))
     where
       at : (p : Text × List Text) → IsNoHelp p.0 → (o : Option Shape) → find (λ s. answers_to p.0 (label_of s)) a.subs ≡ o
           → option_map_or (λ s. level_fault s [] nothing_held p.1 false []) o [] ≡ [] → is_some (option_map (λ s. rows_at s p.1) o) ≡ true
-          → Enters a (option_map (λ s. rows_at s p.1) o)
-      at p helpless None e below there = absurd (true≢false (sym there))
-      at p helpless (Some s) e below there =
-          let found = find-in _ a.subs s e in
-          record { sub = s; name = p.0; words = p.1; inside = found.0; answers = found.1; no_help = helpless; is = refl; faultless = below }
+          → P (option_map (λ s. rows_at s p.1) o)
+      at p helpless None e below there = cc
+      at p helpless (Some s) e below there = let found = find-in _ a.subs s e in each s found.0 p.0 found.1 helpless p.1 below
 
-      go : (o : Option (Text × List Text)) → StopsAtNoHelp a.top.disable_help_subcommand o → entered_fault a o ≡ [] → is_some (entered a o) ≡ true → Enters a (entered a o)
-      go None helpless below there = absurd (true≢false (sym there))
+      go : (o : Option (Text × List Text)) → StopsAtNoHelp a.top.disable_help_subcommand o → entered_fault a o ≡ [] → is_some (entered a o) ≡ true → P (entered a o)
+      go None helpless below there = cc
       go (Some p) helpless below there = at p (helpless helps) (find (λ s. answers_to p.0 (label_of s)) a.subs) refl below there
 
 -- help answers to its own name alone
@@ -96,9 +84,8 @@ module _ (names : Bor (List (Bor Text))) (are : texts names.now ≡ form_names) 
   converts words none =
       let g = given converting refl [] words false [] none (form true) (single true) (only_first (form true) (drop 1 converting.rules) refl) refl (inl refl) refl in
       let f = value_named true g.text g.passes in
-      let policy = policy_of (rows_after converting.rules [] words) in
-      let lines = is_set (codes "line-buffered") (rows_after converting.rules [] words) in
-      inl (conversion f.0 policy lines, ap (λ o. option_map (λ x. conversion x policy lines) (option_and_then form_named o)) g.first ∙ ap (option_map (λ x. conversion x policy lines)) f.1)
+      let rows = rows_after converting.rules [] words in
+      inl (conversion f.0 (policy_of rows) (is_set (codes "line-buffered") rows), rw (g.first, f.1))
 
   checks : (words : List Text) → level_fault checker [] nothing_held words false [] ≡ [] → IsAsked (Some (checker.name, rows_after checker.rules [] words))
   unfolding line check convert form_rule flag_rule
@@ -110,15 +97,13 @@ module _ (names : Bor (List (Bor Text))) (are : texts names.now ≡ form_names) 
       go : (o : Option Text) → first_of (codes "form") rows ≡ o → (b : Bool) → is_set (codes "assigned") rows ≡ b → IsAsked (Some (checker.name, rows))
       go (Some text) first b set =
           let f = value_named false text (passes checker refl [] words false [] none (form false) (single false) (only_first (form false) (drop 1 checker.rules) refl) text first) in
-          inl (CheckForm f.0 b, ap₂ checking first set ∙ ap (option_map (λ x. CheckForm x b)) f.1)
-      go None first true set = inr (ap₂ (λ a o. a && not (is_some o)) set first)
-      go None first false set = inl (Check, ap₂ checking first set)
+          inl (CheckForm f.0 b, rw (first, set, f.1))
+      go None first true set = inr (rw (first, set))
+      go None first false set = inl (Check, rw (first, set))
 
   pub asked : (words : List Text) → fault_of (line names) words ≡ [] → IsAsked (subcommand_of (line names) words)
   unfolding line check convert form_rule flag_rule
-  asked words none =
-      let e = enters (built (line names)) (argument_words (line names) words) refl refl refl none in
-      rw e.is (of e.sub e.inside e.name e.answers e.no_help e.words e.faultless)
+  asked words none = enters IsAsked (built (line names)) (argument_words (line names) words) refl refl refl none of
     where
       of : (s : Shape) → IsIn s (built (line names)).subs → (name : Text) → answers_to name (label_of s) ≡ true → IsNoHelp name
           → (left : List Text) → level_fault s [] nothing_held left false [] ≡ [] → IsAsked (Some (s.name, rows_after s.rules [] left))

@@ -1,5 +1,6 @@
 -- Rows that fit the rules of one level, for an option of one value one that passes, and subcommands that are not help.
-use Rattle.nf_cmd.proofs.Common.{◌≡◌, ◌∙◌, ◌&&◌, ◌⊎◌, ◌==◌, ℕ, Bool, cond, true, false, not, refl, sym, ap, ap₂, subst, min, ◌+◌, append-nil, arith, List, [], ◌∷◌, ◌++◌, length, Some, None, true≢false, eqb-true, bytes_eq, bytes_eq-Decides, CommandLine, unwrap_or_range, Kinds, or_else, range_kinds, value_passes, Row, Rule, Text, action_of, at_row, count_of, counted, has_row, more_values, most_values, new_count, reading_by, used, used_as, values_or_missing, with_count, with_values, without, action_fault, repeat_fault, use_fault, values_fault, ErrorKind, find, inl, inr, Option, codes, Step, subcommand}
+use Rattle.nf_cmd.proofs.Common.{◌≡◌, ◌∙◌, ◌&&◌, ◌⊎◌, ◌==◌, ℕ, Bool, cond, true, false, not, refl, sym, ap, ap₂, min, ◌+◌, append-nil, arith, List, [], ◌∷◌, ◌++◌, length, Some, None, true≢false, eqb-true, bytes_eq, bytes_eq-Decides, CommandLine, unwrap_or_range, Kinds, or_else, range_kinds, value_passes, Row, Rule, Text, has_row, reading_by, action_fault, use_fault, values_fault, ErrorKind, find, inl, inr, Option, codes, Step, subcommand}
+use Rattle.clap.specs.Walk.{action_of, at_row, count_of, counted, more_values, most_values, new_count, used, used_as, values_or_missing, with_values, without}
 use Rattle.std.proofs.lemmas.Bool.{cond_both, cond-false, or_parts}
 use Rattle.clap.specs.declared.builder.action.ArgAction.{ArgAction}
 use Rattle.clap.specs.declared.builder.action.ArgAction.TheVariants.{Set, Append, SetTrue, SetFalse, Count}
@@ -8,17 +9,17 @@ use Rattle.clap.specs.declared.parser.matches.ValueSource.{ValueSource}
 
 pub both_none : (a b : Kinds) → or_else a b ≡ [] → (a ≡ []) × (b ≡ [])
 both_none [] b e = (refl, e)
-both_none (k ∷ ks) b e = let bad : ⊥ = cc in absurd bad
+both_none (k ∷ ks) b e = cc
 
 -- a kind that did not come
 pub no_kind : (b : Bool) (k : ErrorKind) (ks rest : Kinds) → cond b (k ∷ ks) rest ≡ [] → (b ≡ false) × (rest ≡ [])
-no_kind true k ks rest e = let bad : ⊥ = cc in absurd bad
+no_kind true k ks rest e = cc
 no_kind false k ks rest e = (refl, e)
 
 -- one that would have come without the test
 no_kind_else : (b : Bool) (k : ErrorKind) → cond b [] (k ∷ []) ≡ [] → b ≡ true
 no_kind_else true k e = refl
-no_kind_else false k e = let bad : ⊥ = cc in absurd bad
+no_kind_else false k e = cc
 
 -- of two tests of which one does not hold, the one where the other does
 pub first_false : (a b : Bool) → (a && b) ≡ false → b ≡ true → a ≡ false
@@ -35,7 +36,7 @@ IsIn a (x ∷ xs) = (a ≡ x) ⊎ IsIn a xs
 
 -- what is found is one of them, and passes
 pub find-in : {X : Type 0} (p : X → Bool) (xs : List X) (a : X) → find p xs ≡ Some a → IsIn a xs × (p a ≡ true)
-find-in p [] a e = let bad : ⊥ = cc in absurd bad
+find-in p [] a e = cc
 find-in p (x ∷ xs) a e = cond_both (p x) (Some x) (find p xs) (λ o. o ≡ Some a → IsIn a (x ∷ xs) × (p a ≡ true))
     (λ t h. let same : a ≡ x = cc in (inl same, ap p same ∙ t)) (λ t h. let found = find-in p xs a h in (inr found.0, found.1)) e
 
@@ -99,16 +100,9 @@ new_row id change missing (r ∷ rs) none = let parts = or_parts (bytes_eq r.id 
 one_of_one : (n : ℕ) → range_kinds 1 1 n ≡ [] → n ≡ 1
 one_of_one n e = sym (eqb-true 1 n (no_kind_else (1 == n) _ (no_kind (n == 0) _ _ _ e).1))
 
-passing : (a : Rule) (text : Text) → values_fault a (text ∷ []) ≡ [] → value_passes a text ≡ true
-passing a text e = no_kind_else (value_passes a text) _ (both_none _ _ e).0
-
 has_one : (a : Rule) (values : List Text) → length values ≡ 1 → values_fault a (values_or_missing a values) ≡ [] → HasOne a (values_or_missing a values)
-has_one a [] one e = absurd (omega arith)
-has_one a (v ∷ []) one e = record { text = v; alone = refl; passes = passing a v e }
-has_one a (v ∷ w ∷ rest) one e = absurd (omega arith)
-
-not_there : (again : Bool) (a : Rule) (rows : List Row) → again ≡ false → repeat_fault again a.id rows ≡ [] → has_row a.id rows ≡ false
-not_there again a rows off e = first_false (has_row a.id rows) (not again) (no_kind _ _ _ _ e).0 (ap not off)
+has_one a (v ∷ []) one e = record { text = v; alone = refl; passes = no_kind_else (value_passes a v) _ (both_none _ _ e).0 }
+has_one a _ one e = absurd (omega arith)
 
 module _ (c : List Rule) (a : Rule) (inside : IsIn a c) where
   -- an argument that is no option of one value asks nothing of its row
@@ -119,11 +113,9 @@ module _ (c : List Rule) (a : Rule) (inside : IsIn a c) where
     pub each-with_values : (how : Reading) (s : ValueSource) (values : List Text) (rows : List Row) → EachFits c rows → EachFits c (with_values a.id how s values rows)
     each-with_values how s values rows f = each-at_row c a.id (more_values s values) _ rows f (λ r e. (loose _ (sym e), tt)) (loose _ refl, tt)
 
-    each-with_count : (how : Reading) (s : ValueSource) (n : ℕ) (rows : List Row) → EachFits c rows → EachFits c (with_count a.id how s n rows)
-    each-with_count how s n rows f = each-at_row c a.id (new_count s n) _ rows f (λ r e. (loose _ (sym e), tt)) (loose _ refl, tt)
-
     each-counted : (how : Reading) (values : List Text) (rows : List Row) → EachFits c rows → EachFits c (counted a.id how values rows)
-    each-counted how [] rows f = each-with_count how CommandLine (min (count_of a.id rows + 1) 255) _ (each-without c a.id rows f)
+    each-counted how [] rows f =
+        each-at_row c a.id (new_count CommandLine (min (count_of a.id rows + 1) 255)) _ _ (each-without c a.id rows f) (λ r e. (loose _ (sym e), tt)) (loose _ refl, tt)
     each-counted how (v ∷ vs) rows f = each-with_values how CommandLine (v ∷ vs) _ (each-without c a.id rows f)
 
   module _ (again : Bool) (off : again ≡ false) where
@@ -133,26 +125,21 @@ module _ (c : List Rule) (a : Rule) (inside : IsIn a c) where
         given : List Text
         given = values_or_missing a values
 
-        is_other : (x : ArgAction) → x ≡ action_of a → (x ≡ Set → ⊥) → IsSingle a → ⊥
-        is_other x e differs s = differs (e ∙ s.set)
-
         set : action_fault Set again a given rows ≡ [] → EachFits c (with_values a.id (reading_by a) CommandLine given (without a.id rows))
         set h =
             let faults = both_none _ _ h in
-            let absent = not_there again a rows off faults.0 in
+            let absent = first_false (has_row a.id rows) (not again) (no_kind _ _ _ _ faults.0).0 (ap not off) in
             let kept : without a.id rows ≡ rows = new_row a.id (λ _. []) [] rows absent ∙ append-nil rows in
             let row : Row = record { id = a.id; values = given; count = None; source = Some CommandLine; reading = reading_by a } in
-            let made : with_values a.id (reading_by a) CommandLine given (without a.id rows) ≡ rows ++ row ∷ [] =
-            ap (with_values a.id (reading_by a) CommandLine given) kept ∙ new_row a.id (more_values CommandLine given) (row ∷ []) rows absent in
-            let single : IsSingle a → length values ≡ 1 = λ s.
-            one_of_one (length values) (sym (ap₂ (λ x y. range_kinds x y (length values)) s.least s.most) ∙ (both_none _ _ none).0) in
-            let fits : Fits c row = record { rule = a; inside = inside; same = refl; one = λ s. has_one a values (single s) faults.1 } in
-            subst (EachFits c) (sym made) (each-append c rows (row ∷ []) f (fits, tt))
+            let one : IsSingle a → HasOne a given = λ s.
+            has_one a values (one_of_one (length values) (sym (ap₂ (λ x y. range_kinds x y (length values)) s.least s.most) ∙ (both_none _ _ none).0)) faults.1 in
+            rw (kept, new_row a.id (more_values CommandLine given) (row ∷ []) rows absent)
+            (each-append c rows (row ∷ []) f (record { rule = a; inside = inside; same = refl; one = one }, tt))
 
         go : (x : ArgAction) → x ≡ action_of a → EachFits c (used_as x a.id (reading_by a) (values_or_missing a values) rows)
         go Set e = set (ap (λ y. action_fault y again a given rows) e ∙ (both_none _ _ none).1)
-        go Append e = each-with_values (is_other Append e (λ h. let bad : ⊥ = cc in bad)) _ _ given rows f
-        go SetTrue e = each-with_values (is_other SetTrue e (λ h. let bad : ⊥ = cc in bad)) _ _ given _ (each-without c a.id rows f)
-        go SetFalse e = each-with_values (is_other SetFalse e (λ h. let bad : ⊥ = cc in bad)) _ _ given _ (each-without c a.id rows f)
-        go Count e = each-counted (is_other Count e (λ h. let bad : ⊥ = cc in bad)) _ given rows f
+        go Append e = each-with_values (λ s. cc) _ _ given rows f
+        go SetTrue e = each-with_values (λ s. cc) _ _ given _ (each-without c a.id rows f)
+        go SetFalse e = each-with_values (λ s. cc) _ _ given _ (each-without c a.id rows f)
+        go Count e = each-counted (λ s. cc) _ given rows f
         go _ e = f

@@ -1,6 +1,15 @@
--- What a run shows, by what the library did: devices of which only the bytes are told, no fault of an unsound character where none
--- of the data is one, and that what `convert` wrote to the end without a fault is not changed by a second run.
-use Rattle.nf_cmd.proofs.Common.{◌≡◌, ℕ, Bool, true, false, List, [], Option, Some, None, Result, Ok, Err, inl, inr, sym, ap, ◌∙◌, subst, ◌⊎◌, ⊎_elim, refl, IsTrue, OnOk, Appends-kept, Form, ucd, Policy, Tally, Fault, Write, Convert, ConvertLines, Check, CheckForm, Measure, Test, SinkState, SourceState, Drives, bytes_of, DrivesLines, end_of, Runs, status_of, NeverRow}
+-- What a run shows: its parts put together, no fault of an unsound character where none of the data is one, and that what `convert`
+-- wrote to the end without a fault is not changed by a second run.
+use Rattle.nf_cmd.proofs.Common.{◌≡◌, ℕ, Bool, true, false, List, [], Option, Some, None, Result, Ok, Err, inl, inr, sym, ap, ◌∙◌, subst, ◌⊎◌, ⊎_elim, refl, IsTrue, OnOk, Appends-kept, Form, Convert, ConvertLines, Check, CheckForm, Measure, Test, arith, Keeps, Appends-nil, ErrorKind, DisplayHelp, Text, Request, line_of, Asks, IsRefusal, IsRefused}
+use Rattle.nf_cmd.specs.Answers.{Does, Answers, ComesOf, Devices, NeverRow}
+use Rattle.nf_cmd.specs.Lines.{status_of}
+use Rattle.nf_cmd.specs.declared.fault.Fault.{Fault}
+use Rattle.nf_filter.specs.Devices.{SinkState, SourceState}
+use Rattle.nf_filter.specs.Drives.{Drives}
+use Rattle.nf_filter.specs.declared.policy.Policy.{Policy}
+use Rattle.nf_filter.specs.declared.tally.Tally.{Tally}
+use Rattle.nf_forms.specs.Ucd.{ucd}
+use Rattle.nf_lines.specs.Drives.{bytes_of, DrivesLines}
 use Rattle.std.specs.Result.{result_err}
 use Rattle.nf_forms.specs.Twice.{ChangesOnce}
 use Rattle.nf_safe.specs.declared.place.Place.{Place}
@@ -20,14 +29,38 @@ use Rattle.nf_vectors.specs.declared.fault.VectorFault.{VectorFault}
 use Rattle.nf_vectors.specs.declared.fault.VectorKind.{VectorKind}
 use Rattle.nf_vectors.specs.declared.fault.VectorKind.TheVariants as kind
 use Rattle.nf_vectors.specs.declared.suite.Suite.{Suite}
-use Rattle.nf_cmd.specs.declared.fault.Fault.TheVariants.{Row}
+use Rattle.nf_cmd.specs.declared.fault.Fault.TheVariants.{Row, Write}
 use Rattle.nf_cmd.specs.declared.test.Finding.{Finding}
+use Rattle.nf_cmd.specs.Fronts.{AppendsFront}
 use Rattle.nf_cmd.specs.Faults.{told_at}
-use Rattle.nf_cmd.specs.Converts.{Ends}
+use Rattle.nf_cmd.specs.Converts.{Ends, end_of, Runs}
 use Rattle.nf_cmd.specs.Checks.{check_end, ChecksForm}
 use Rattle.nf_cmd.specs.Tests.{Tests, Finds, finding_end}
 use Rattle.nf_cmd.specs.Again.{EachConvertsOnce}
 
+-- status 2 is not that of memory
+pub refused_by : {words : List Text} {k : ErrorKind} (before after : Devices) {status : ℕ} → IsRefusal words k → ComesOf k before after status → status ≡ 2 → IsRefused words
+refused_by before after (inl memory) comes two = let none = rw memory at comes in absurd (omega (arith, none.ends.status_is))
+refused_by {k = k} before after (inr refuses) comes two = (k, refuses)
+
+-- an error of clap is answered as one of memory, or as a refusal
+pub refused_answers : {words : List Text} {k : ErrorKind} {before after : Devices} {status : ℕ} → IsRefusal words k → Keeps before.input after.input
+    → ComesOf k before after status → Answers words before after status
+refused_answers (inl memory) unread comes = inl (rw memory at comes)
+refused_answers (inr refuses) unread comes = inr (inl (record { kind = _; refuses = refuses; unread = unread; comes = comes }))
+
+-- help that was written
+pub help_answers : {k : ErrorKind} (before after : Devices) → DisplayHelp ≡ k → after.err ≡ before.err → ComesOf k before after 0
+unfolding line_of
+help_answers before after help same = rw (← help) (inr (inl (record { status_is = refl; line = ([], [], refl, rw same (Appends-nil before.err)) })))
+
+-- what was asked for was done
+pub done_answers : {words : List Text} {parsed request : Request} {before after : Devices} {status : ℕ} → NeverRow → parsed ≡ request → Asks words parsed → (found : Result ℕ Fault)
+    → Does request before after found → status ≡ status_of found → AppendsFront before.err after.err (line_of found) → Answers words before after status
+done_answers never is asks found does status_is line =
+    inr (inr (record { request = _; asks = rw is at asks; found = found; does = does; sound = never _ _ _ _ does; ends = record { status_is = status_is; line = line } }))
+
+-- what the library did, over devices of which only the bytes are told
 pub runs_from : {T : Type 0} {drives : SourceState → SourceState → SinkState → SinkState → Result T Found → Type 0} {coming left taken now : Option (List ℕ)} (source rest : SourceState) (old new : SinkState) {answer : Result T Found}
     → drives source rest old new answer → OnOk answer (IsTrue rest.is_at_end)
     → (source.coming ≡ coming) × (rest.coming ≡ left) → (old.taken ≡ taken) × (new.taken ≡ now) → old.is_failed ≡ false → Runs drives coming left taken now answer

@@ -1,6 +1,11 @@
 -- A word, and a walk over words, in which there is no fault leave rows that fit; where help is on the subcommand that is met, or at
 -- which the walk stops, is not help.
-use Rattle.nf_cmd.proofs.Common.{◌≡◌, ◌&&◌, ℕ, Bool, cond, true, false, zero, suc, refl, List, [], ◌∷◌, length, drop, Option, Some, None, encode_utf8, find, slice_get, is_some, chars, option_map_or, Kinds, or_else, short_of, Held, Outcome, Row, Rule, Text, Waiting, after_flag, arg_by_id, arg_by_long, arg_by_short, attached_value, bundle, bundle_met, bundle_step, done, plain, waits, flag_met, is_pending, long_met, long_or_other, option, option_met, option_word, plain_word, positional_held, reacted, settled, settled_rows, short_met, short_or_plain, takes_several, takes_values, used_by_id, bundle_fault, bundle_step_fault, flag_word_fault, flags_fault, long_fault, option_fault, positional_fault, react_fault, settle_fault, short_fault, use_fault, Step, fold, codes, bytes_eq, long_of, Names, Walk, after_step, arg_by_index, next, subcommand, subcommand_met, subcommand_or_other, to_positional, trailing, value, walked, walked_from, word_met, Shape, other_fault, step_fault, stray_fault, turn_fault, walk_fault, word_fault, ap, not}
+use Rattle.nf_cmd.proofs.Common.{◌≡◌, ◌&&◌, ℕ, Bool, cond, true, false, zero, suc, refl, List, [], ◌∷◌, length, drop, Option, Some, None, encode_utf8, find, slice_get, is_some, chars, option_map_or, Kinds, or_else, Held, Row, Rule, Text, settled, settle_fault, use_fault, Step, fold, codes, bytes_eq, Names, subcommand, walked, Shape, walk_fault, ap, not}
+unfoldable use Rattle.clap.specs.Faults.{flags_fault}
+use Rattle.clap.specs.Faults.{other_fault, step_fault, turn_fault, word_fault, flag_word_fault, positional_fault, stray_fault, bundle_fault, bundle_step_fault, long_fault, option_fault, react_fault, short_fault}
+use Rattle.clap.specs.Lexer.{long_of, short_of}
+unfoldable use Rattle.clap.specs.Walk.{bundle_met}
+use Rattle.clap.specs.Walk.{Outcome, Waiting, Walk, after_flag, after_step, arg_by_index, done, plain, waits, long_or_other, next, option, plain_word, short_or_plain, subcommand_met, subcommand_or_other, to_positional, trailing, value, walked_from, word_met, arg_by_id, arg_by_long, arg_by_short, attached_value, bundle, bundle_step, flag_met, is_pending, long_met, option_met, option_word, positional_held, reacted, settled_rows, short_met, takes_several, takes_values, used_by_id}
 use Rattle.std.proofs.lemmas.Bool.{cond_both}
 use Rattle.clap.specs.declared.error.kind.ErrorKind.TheVariants as kind
 use Rattle.nf_cmd.proofs.Rows.{both_none, IsIn, EachFits, each-used, find-in, StepsToNoHelp, StopsAtNoHelp, no_kind, first_false}

@@ -1,5 +1,5 @@
-use Rattle.nf_cmd.proofs.Common.{rules, codes, true, ◌≡◌, ◌∙◌, ap, ap₂, IfOk-weaker, app_of, new_app, with_subcommand, on_top, texts, line}
-use Rattle.clap.specs.Words.{App}
+use Rattle.nf_cmd.proofs.Common.{rules, codes, true, ◌≡◌, ◌∙◌, ap, ap₂, IfOk-weaker, on_top, texts, line}
+use Rattle.clap.specs.Words.{App, app_of, new_app, with_subcommand}
 use Rattle.nf_cmd.proofs.line.line.Goals as goal
 
 pub returns : goal.returns

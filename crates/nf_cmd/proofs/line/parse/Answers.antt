@@ -1,4 +1,5 @@
-use Rattle.nf_cmd.proofs.Common.{◌∙◌, ap, sym, both, kind_of, texts, IsRefusal, request_of}
+use Rattle.nf_cmd.proofs.Common.{◌∙◌, ap, sym, both, texts, IsRefusal, request_of}
+use Rattle.clap.specs.Values.{kind_of}
 use Rattle.clap.proofs.TakesLemmas.{passed_up}
 use Rattle.nf_cmd.proofs.Requests.{line_lacks, line_refused, line_simple}
 use Rattle.nf_cmd.proofs.line.parse.Goals as goal

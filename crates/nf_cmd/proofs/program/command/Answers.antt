@@ -1,5 +1,5 @@
 use Rattle.nf_cmd.proofs.Common.{Keeps-refl}
-use Rattle.nf_cmd.proofs.AnswerLemmas.{done_answers, refused_answers, refused_by}
+use Rattle.nf_cmd.proofs.RunsLemmas.{done_answers, refused_answers, refused_by}
 use Rattle.nf_cmd.proofs.program.command.Goals as goal
 
 pub returns-in-Err-clause-answer : goal.returns-in-Err-clause-answer

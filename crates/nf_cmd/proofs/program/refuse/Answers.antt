@@ -1,7 +1,7 @@
 use Rattle.nf_cmd.proofs.Common.{◌∙◌, rules, refl, sym, not-false, DisplayHelp}
 use denote.Enum.Bare.{same_true}
 use Rattle.clap.specs.contracts.error.kind.ErrorKind.{the_type}
-use Rattle.nf_cmd.proofs.AnswerLemmas.{help_answers}
+use Rattle.nf_cmd.proofs.RunsLemmas.{help_answers}
 use Rattle.nf_cmd.proofs.program.refuse.Goals as goal
 
 pub returns-in-Ok-write_whole : goal.returns-in-Ok-write_whole
