@@ -1,6 +1,7 @@
 -- What a level without a fault ends with: the value of an option of one value, which is there where it is required.
 use Rattle.nf_cmd.proofs.Common.{◌≡◌, ◌∙◌, ◌&&◌, Bool, true, false, not, refl, sym, ap, subst, List, [], ◌∷◌, fold, Option, Some, None, inl, inr, find, option_and_then, slice_get, bytes_eq, list_any, option_map_or, bytes_eq-Decides, DefaultValue, explicit_source, Kinds, check_kinds, is_given, value_passes, Held, Names, Row, Rule, Text, has_row, reading_by, settled, default_rows, first_of, nothing_held, stop_after, rows_after, walk, walk_from, with_default, Shape, level_fault, check_fault, settle_fault, walk_fault, not-false}
 use Rattle.std.proofs.lemmas.Bool.{cond_both, or_parts}
+use Rattle.std.proofs.lemmas.Option.{option_and_then_some}
 use Rattle.nf_cmd.proofs.Rows.{both_none, IsIn, IsSingle, Fits, EachFits, each-with_values, no_kind, second_false, find-in, StopsAtNoHelp}
 use Rattle.nf_cmd.proofs.WalkRows.{each-settled, each-walk}
 
@@ -88,15 +89,11 @@ module _ (s : Shape) (off : s.args_override_self ≡ false) (names : Names) (wor
 
     -- where it is there, its value passes
     pub passes : (text : Text) → first_of a.id rows ≡ Some text → value_passes a text ≡ true
-    passes text first = go (find (λ x. bytes_eq x.id a.id) rows) refl
-      where
-        go : (o : Option Row) → find (λ x. bytes_eq x.id a.id) rows ≡ o → value_passes a text ≡ true
-        go None e = let bad : None ≡ Some text = sym (ap value_of e) ∙ first in cc
-        go (Some r) e =
-            let one = one_value r e in
-            let is : Some one.text ≡ Some text = sym one.first ∙ first in
-            let same : one.text ≡ text = cc in
-            rw same at one.passes
+    passes text first = option_and_then_some _ _ text first (λ r e _.
+        let one = one_value r e in
+        let is : Some one.text ≡ Some text = sym one.first ∙ first in
+        let same : one.text ≡ text = cc in
+        rw same at one.passes)
 
     pub given : s.subcommand_negates_reqs ≡ false → IsIn a s.rules → a.required ≡ true → Given a rows
     given lifts inside required = go (find (λ r. bytes_eq r.id a.id) rows) refl (is_given-required lifts a inside required)

@@ -87,11 +87,7 @@ module _ (c : List Rule) (again : Bool) (off : again ≡ false) where
     Steps m = Holds m.0 × StepsToNoHelp help_off m.1
 
     each-plain_word : (waiting : Waiting) (word : Text) (h : Held) → Holds h → Steps (plain_word c waiting word h)
-    each-plain_word (option id) word h f = (go (arg_by_id c id), tt)
-      where
-        go : (o : Option Rule) → Holds (option_word o id word h).0
-        go None = f
-        go (Some a) = f
+    each-plain_word (option id) word h f = (elim (arg_by_id c id) as (λ o. Holds (option_word o id word h).0) [ None ↦ f | Some a ↦ f ], tt)
     each-plain_word _ word h f = (f, tt)
 
     each-after_flag : (waiting : Waiting) (word : Text) (m : Held × Outcome) → Met m → Steps (after_flag c waiting word m.0 m.1)

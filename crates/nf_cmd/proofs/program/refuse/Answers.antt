@@ -8,7 +8,3 @@ pub returns-in-Ok-write_whole : goal.returns-in-Ok-write_whole
 returns-in-Ok-write_whole g c input input_after =
     let help = same_true the_type (search rules) c.kind-kind.result DisplayHelp (not-false _ (sym c.ne.ensures ∙ c.if-ne.false)) in
     help_answers _ _ (sym help ∙ c.kind-kind.ensures) refl
-
--- Without an answer the check would try this goal a second time, at a wrong body, to offer one.
-pub returns-then-ne : goal.returns-then-ne
-returns-then-ne g c = search rules
