@@ -68,7 +68,7 @@ module _ (s : Shape) (off : s.args_override_self ≡ false) (names : Names) (wor
 
   each-row : EachFits s.rules rows
   each-row = each-defaults s.rules s.rules (λ a i. i) (settled s.rules end).rows
-      (each-settled s.rules s.args_override_self off end faults.2 walked.0)
+      (each-settled s.rules end (rw off at faults.2) walked.0)
 
   is_given-required : s.subcommand_negates_reqs ≡ false → (a : Rule) → IsIn a s.rules → a.required ≡ true → is_given a.id rows ≡ true
   is_given-required lifts a inside required =

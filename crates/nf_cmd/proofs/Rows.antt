@@ -1,5 +1,5 @@
 -- Rows that fit the rules of one level, for an option of one value one that passes, and subcommands that are not help.
-use Rattle.nf_cmd.proofs.Common.{◌≡◌, ◌∙◌, ◌&&◌, ◌⊎◌, ◌==◌, ℕ, Bool, cond, true, false, not, refl, sym, ap, ap₂, min, ◌+◌, append-nil, arith, List, [], ◌∷◌, ◌++◌, length, Some, None, true≢false, eqb-true, bytes_eq, bytes_eq-Decides, CommandLine, unwrap_or_range, Kinds, or_else, range_kinds, value_passes, Row, Rule, Text, has_row, reading_by, action_fault, use_fault, values_fault, ErrorKind, find, inl, inr, Option, codes, Step, subcommand}
+use Rattle.nf_cmd.proofs.Common.{◌≡◌, ◌∙◌, ◌&&◌, ◌⊎◌, ◌==◌, ℕ, Bool, cond, true, false, refl, sym, ap, ap₂, min, ◌+◌, append-nil, arith, List, [], ◌∷◌, ◌++◌, length, Some, None, true≢false, eqb-true, bytes_eq, bytes_eq-Decides, CommandLine, unwrap_or_range, Kinds, or_else, range_kinds, value_passes, Row, Rule, Text, has_row, reading_by, action_fault, use_fault, values_fault, ErrorKind, find, inl, inr, Option, codes, Step, subcommand}
 use Rattle.clap.specs.Walk.{action_of, at_row, count_of, counted, more_values, most_values, new_count, used, used_as, values_or_missing, with_values, without}
 use Rattle.std.proofs.lemmas.Bool.{cond_both, cond-false, or_parts}
 use Rattle.clap.specs.declared.builder.action.ArgAction.{ArgAction}
@@ -118,28 +118,27 @@ module _ (c : List Rule) (a : Rule) (inside : IsIn a c) where
         each-at_row c a.id (new_count CommandLine (min (count_of a.id rows + 1) 255)) _ _ (each-without c a.id rows f) (λ r e. (loose _ (sym e), tt)) (loose _ refl, tt)
     each-counted how (v ∷ vs) rows f = each-with_values how CommandLine (v ∷ vs) _ (each-without c a.id rows f)
 
-  module _ (again : Bool) (off : again ≡ false) where
-    pub each-used : (values : List Text) (rows : List Row) → use_fault again a values rows ≡ [] → EachFits c rows → EachFits c (used a values rows)
-    each-used values rows none f = go (action_of a) refl
-      where
-        given : List Text
-        given = values_or_missing a values
+  pub each-used : (values : List Text) (rows : List Row) → use_fault false a values rows ≡ [] → EachFits c rows → EachFits c (used a values rows)
+  each-used values rows none f = go (action_of a) refl
+    where
+      given : List Text
+      given = values_or_missing a values
 
-        set : action_fault Set again a given rows ≡ [] → EachFits c (with_values a.id (reading_by a) CommandLine given (without a.id rows))
-        set h =
-            let faults = both_none _ _ h in
-            let absent = first_false (has_row a.id rows) (not again) (no_kind _ _ _ _ faults.0).0 (ap not off) in
-            let kept : without a.id rows ≡ rows = new_row a.id (λ _. []) [] rows absent ∙ append-nil rows in
-            let row : Row = record { id = a.id; values = given; count = None; source = Some CommandLine; reading = reading_by a } in
-            let one : IsSingle a → HasOne a given = λ s.
-            has_one a values (one_of_one (length values) (sym (ap₂ (λ x y. range_kinds x y (length values)) s.least s.most) ∙ (both_none _ _ none).0)) faults.1 in
-            rw (kept, new_row a.id (more_values CommandLine given) (row ∷ []) rows absent)
-            (each-append c rows (row ∷ []) f (record { rule = a; inside = inside; same = refl; one = one }, tt))
+      set : action_fault Set false a given rows ≡ [] → EachFits c (with_values a.id (reading_by a) CommandLine given (without a.id rows))
+      set h =
+          let faults = both_none _ _ h in
+          let absent = first_false (has_row a.id rows) true (no_kind _ _ _ _ faults.0).0 refl in
+          let kept : without a.id rows ≡ rows = new_row a.id (λ _. []) [] rows absent ∙ append-nil rows in
+          let row : Row = record { id = a.id; values = given; count = None; source = Some CommandLine; reading = reading_by a } in
+          let one : IsSingle a → HasOne a given = λ s.
+          has_one a values (one_of_one (length values) (sym (ap₂ (λ x y. range_kinds x y (length values)) s.least s.most) ∙ (both_none _ _ none).0)) faults.1 in
+          rw (kept, new_row a.id (more_values CommandLine given) (row ∷ []) rows absent)
+          (each-append c rows (row ∷ []) f (record { rule = a; inside = inside; same = refl; one = one }, tt))
 
-        go : (x : ArgAction) → x ≡ action_of a → EachFits c (used_as x a.id (reading_by a) (values_or_missing a values) rows)
-        go Set e = set (ap (λ y. action_fault y again a given rows) e ∙ (both_none _ _ none).1)
-        go Append e = each-with_values (λ s. cc) _ _ given rows f
-        go SetTrue e = each-with_values (λ s. cc) _ _ given _ (each-without c a.id rows f)
-        go SetFalse e = each-with_values (λ s. cc) _ _ given _ (each-without c a.id rows f)
-        go Count e = each-counted (λ s. cc) _ given rows f
-        go _ e = f
+      go : (x : ArgAction) → x ≡ action_of a → EachFits c (used_as x a.id (reading_by a) (values_or_missing a values) rows)
+      go Set e = set (ap (λ y. action_fault y false a given rows) e ∙ (both_none _ _ none).1)
+      go Append e = each-with_values (λ s. cc) _ _ given rows f
+      go SetTrue e = each-with_values (λ s. cc) _ _ given _ (each-without c a.id rows f)
+      go SetFalse e = each-with_values (λ s. cc) _ _ given _ (each-without c a.id rows f)
+      go Count e = each-counted (λ s. cc) _ given rows f
+      go _ e = f

@@ -17,68 +17,68 @@ IfIn o c = (a : Rule) → o ≡ Some a → IsIn a c
 find-if_in : (p : Rule → Bool) (c : List Rule) → IfIn (find p c) c
 find-if_in p c a e = (find-in p c a e).0
 
-module _ (c : List Rule) (again : Bool) (off : again ≡ false) where
+module _ (c : List Rule) where
   abbrev Holds : Held → Type 0
   Holds h = EachFits c h.rows
 
   abbrev Met : Held × Outcome → Type 0
   Met m = Holds m.0
 
-  each-used_by : (o : Option Rule) (values : List Text) (rows : List Row) → IfIn o c → option_map_or (λ a. use_fault again a values rows) o [] ≡ []
+  each-used_by : (o : Option Rule) (values : List Text) (rows : List Row) → IfIn o c → option_map_or (λ a. use_fault false a values rows) o [] ≡ []
       → EachFits c rows → EachFits c (used_by_id o values rows)
   each-used_by None values rows inside none f = f
-  each-used_by (Some a) values rows inside none f = each-used c a (inside a refl) again off values rows none f
+  each-used_by (Some a) values rows inside none f = each-used c a (inside a refl) values rows none f
 
   each-settled_rows : (p : Option (Text × List Text)) (rows : List Row)
-      → option_map_or (λ q. option_map_or (λ a. use_fault again a q.1 rows) (arg_by_id c q.0) []) p [] ≡ [] → EachFits c rows → EachFits c (settled_rows c p rows)
+      → option_map_or (λ q. option_map_or (λ a. use_fault false a q.1 rows) (arg_by_id c q.0) []) p [] ≡ [] → EachFits c rows → EachFits c (settled_rows c p rows)
   each-settled_rows None rows none f = f
   each-settled_rows (Some q) rows none f = each-used_by (arg_by_id c q.0) q.1 rows (find-if_in _ c) none f
 
-  pub each-settled : (h : Held) → settle_fault c again h ≡ [] → Holds h → Holds (settled c h)
+  pub each-settled : (h : Held) → settle_fault c false h ≡ [] → Holds h → Holds (settled c h)
   each-settled h none f = each-settled_rows h.pending h.rows none f
 
-  each-reacted : (a : Rule) (values : List Text) (h : Held) → IsIn a c → react_fault c again a values h ≡ [] → Holds h → Holds (reacted c a values h)
+  each-reacted : (a : Rule) (values : List Text) (h : Held) → IsIn a c → react_fault c false a values h ≡ [] → Holds h → Holds (reacted c a values h)
   each-reacted a values h inside none f =
       let faults = both_none _ _ none in
-      each-used c a inside again off values (settled c h).rows faults.1 (each-settled h faults.0 f)
+      each-used c a inside values (settled c h).rows faults.1 (each-settled h faults.0 f)
 
-  each-option_met : (a : Rule) (v : Option Text) (h : Held) → IsIn a c → option_fault c again a v h ≡ [] → Holds h → Met (option_met c a v h)
+  each-option_met : (a : Rule) (v : Option Text) (h : Held) → IsIn a c → option_fault c false a v h ≡ [] → Holds h → Met (option_met c a v h)
   each-option_met a (Some v) h inside none f = each-reacted a (v ∷ []) h inside none f
   each-option_met a None h inside none f = each-settled h none f
 
-  each-flag_met : (a : Rule) (v : Option Text) (h : Held) → IsIn a c → cond (is_some v) (kind.TooManyValues ∷ []) (react_fault c again a [] h) ≡ [] → Holds h
+  each-flag_met : (a : Rule) (v : Option Text) (h : Held) → IsIn a c → cond (is_some v) (kind.TooManyValues ∷ []) (react_fault c false a [] h) ≡ [] → Holds h
       → Met (flag_met c a v h)
   each-flag_met a (Some v) h inside none f = f
   each-flag_met a None h inside none f = each-reacted a [] h inside none f
 
-  each-long_met : (o : Option Rule) (v : Option Text) (h : Held) → IfIn o c → long_fault c again o v h ≡ [] → Holds h → Met (long_met c o v h)
+  each-long_met : (o : Option Rule) (v : Option Text) (h : Held) → IfIn o c → long_fault c false o v h ≡ [] → Holds h → Met (long_met c o v h)
   each-long_met None v h inside none f = f
   each-long_met (Some a) v h inside none f = cond_both (takes_values a) _ _ Met
       (λ e. each-option_met a v h (inside a refl) (rw e at none) f) (λ e. each-flag_met a v h (inside a refl) (rw e at none) f)
 
   each-short_met : (o : Option Rule) (rest : Text) (h : Held) (then : Held → Held × Outcome) (fault : Held → Kinds) → IfIn o c
-      → short_fault c again o rest h fault ≡ [] → ((k : Held) → fault k ≡ [] → Holds k → Met (then k)) → Holds h → Met (short_met c o rest h then)
+      → short_fault c false o rest h fault ≡ [] → ((k : Held) → fault k ≡ [] → Holds k → Met (then k)) → Holds h → Met (short_met c o rest h then)
   each-short_met None rest h then fault inside none step f = f
   each-short_met (Some a) rest h then fault inside none step f = cond_both (takes_values a) _ _ Met
       (λ e. each-option_met a (attached_value rest) h (inside a refl) (rw e at none) f)
       (λ e. let faults = both_none _ _ (rw e at none) in step (reacted c a [] h) faults.1 (each-reacted a [] h (inside a refl) faults.0 f))
 
-  each-bundle_met : (k : ℕ) (flags : Text) (skip : ℕ) (so_far : Outcome) (h : Held) → flags_fault c again k flags skip h ≡ [] → Holds h
+  each-bundle_met : (k : ℕ) (flags : Text) (skip : ℕ) (so_far : Outcome) (h : Held) → flags_fault c false k flags skip h ≡ [] → Holds h
       → Met (bundle_met c k flags skip so_far h)
   unfolding bundle_met flags_fault
   each-bundle_met zero flags skip so_far h none f = f
   each-bundle_met (suc k) flags skip so_far h none f =
       go (λ t n o m e g. each-bundle_met k t n o m e g) (slice_get (chars flags) 0) skip none
     where
-      go : ((t : Text) (n : ℕ) (o : Outcome) (m : Held) → flags_fault c again k t n m ≡ [] → Holds m → Met (bundle_met c k t n o m))
-          → (x : Option ℕ) (n : ℕ) → bundle_step_fault c again x flags n h (flags_fault c again k) ≡ []
+      go : ((t : Text) (n : ℕ) (o : Outcome) (m : Held) → flags_fault c false k t n m ≡ [] → Holds m → Met (bundle_met c k t n o m))
+          → (x : Option ℕ) (n : ℕ) → bundle_step_fault c false x flags n h (flags_fault c false k) ≡ []
           → Met (bundle_step c x flags n so_far h (bundle_met c k))
       go rest None n e = f
       go rest (Some x) zero e =
           each-short_met (arg_by_short c x) (drop (length (encode_utf8 x)) flags) h _ _ (find-if_in _ c) e (λ m e' g. rest _ 0 done m e' g) f
       go rest (Some x) (suc n) e = rest (drop (length (encode_utf8 x)) flags) n so_far h e f
 
-  each-positional : (a : Rule) (word : Text) (h : Held) → positional_fault c again a h ≡ [] → Holds h → Holds (positional_held c a word h)
+  each-positional : (a : Rule) (word : Text) (h : Held) → positional_fault c false a h ≡ [] → Holds h → Holds (positional_held c a word h)
   each-positional a word h none f =
       cond_both (is_pending a h.pending && takes_several a) _ _ Holds (λ e. f) (λ e. each-settled h (rw e at none) f)
 
@@ -95,22 +95,19 @@ module _ (c : List Rule) (again : Bool) (off : again ≡ false) where
     each-after_flag waiting word (h, waits id) f = (f, tt)
     each-after_flag waiting word (h, _) f = each-plain_word waiting word h f
 
-    each-short_or_plain : (waiting : Waiting) (word : Text) (o : Option Text) (h : Held) → option_map_or (λ flags. bundle_fault c again flags h) o [] ≡ []
+    each-short_or_plain : (waiting : Waiting) (word : Text) (o : Option Text) (h : Held) → option_map_or (λ flags. bundle_fault c false flags h) o [] ≡ []
         → Holds h → Steps (short_or_plain c waiting word o h)
     each-short_or_plain waiting word None h none f = each-plain_word waiting word h f
     each-short_or_plain waiting word (Some flags) h none f = each-after_flag waiting word (bundle c flags h)
         (each-bundle_met (length flags) flags h.skip plain (record h { skip = 0 }) none f)
 
-    each-long_or_other : (waiting : Waiting) (word : Text) (o : Option (Text × Option Text)) (h : Held) → flag_word_fault c again o word h ≡ []
+    each-long_or_other : (waiting : Waiting) (word : Text) (o : Option (Text × Option Text)) (h : Held) → flag_word_fault c false o word h ≡ []
         → Holds h → Steps (long_or_other c waiting word o h)
     each-long_or_other waiting word None h none f = each-short_or_plain waiting word (short_of word) h none f
     each-long_or_other waiting word (Some p) h none f = each-after_flag waiting word (long_met c (arg_by_long c p.0) p.1 h)
         (each-long_met (arg_by_long c p.0) p.1 h (find-if_in _ c) none f)
 
 module _ (s : Shape) (off : s.args_override_self ≡ false) (names : Names) where
-  abbrev again : Bool
-  again = s.args_override_self
-
   abbrev Keeps : Walk → Type 0
   Keeps w = EachFits s.rules w.held.rows × StopsAtNoHelp s.disable_help_subcommand w.stopped
 
@@ -121,17 +118,17 @@ module _ (s : Shape) (off : s.args_override_self ≡ false) (names : Names) wher
       → Turns (subcommand_or_other s.rules found waiting position word h)
   each-other (Some name) waiting position word h none f = (f, λ helps. first_false (bytes_eq name (codes "help")) _ (no_kind _ _ _ _ none).0 (ap not helps))
   each-other None waiting position word h none f = cond_both (bytes_eq word (45 ∷ 45 ∷ [])) _ _ Turns
-      (λ e. (f, tt)) (λ e. each-long_or_other s.rules again off s.disable_help_subcommand waiting word (long_of word) h (rw e at none) f)
+      (λ e. (f, tt)) (λ e. each-long_or_other s.rules s.disable_help_subcommand waiting word (long_of word) h (rw (e, off) at none) f)
 
   each-word_met : (is_trailing : Bool) (waiting : Waiting) (position : ℕ) (word : Text) (h : Held) → word_fault s names is_trailing waiting word h ≡ []
       → EachFits s.rules h.rows → Turns (word_met s.rules names is_trailing waiting position word h)
   each-word_met true waiting position word h none f = (f, tt)
   each-word_met false waiting position word h none f = each-other (subcommand_met names waiting word) waiting position word h none f
 
-  each-to_positional : (o : Option Rule) (word : Text) (w : Walk) (h : Held) → option_map_or (λ a. positional_fault s.rules again a h) o (stray_fault s) ≡ []
+  each-to_positional : (o : Option Rule) (word : Text) (w : Walk) (h : Held) → option_map_or (λ a. positional_fault s.rules s.args_override_self a h) o (stray_fault s) ≡ []
       → EachFits s.rules h.rows → StopsAtNoHelp s.disable_help_subcommand w.stopped → Keeps (to_positional s.rules o word w h)
   each-to_positional None word w h none f stops = (f, stops)
-  each-to_positional (Some a) word w h none f stops = (each-positional s.rules again off a word h none f, tt)
+  each-to_positional (Some a) word w h none f stops = (each-positional s.rules a word h (rw off at none) f, tt)
 
   each-after_step : (word : Text) (w : Walk) (m : Held × Step) → step_fault s w.position m.0 m.1 ≡ [] → Turns m → StopsAtNoHelp s.disable_help_subcommand w.stopped
       → Keeps (after_step s.rules word w m.0 m.1)
