@@ -1,5 +1,5 @@
 -- The names that most of these proofs cite, passed on from one place. Declares nothing.
-pub use Rattle.std.proofs.Common.{⊎_elim, get_or, ◌≡◌, ℕ, List, [], Option, Some, None, Result, Ok, Err, inl, inr, sym, ap, ◌∙◌, subst, ◌⊎◌, refl, arith, zero, suc, ◌-◌, ◌/◌, ◌%◌, ◌<◌, ◌≤◌, true, cond, ◌∷◌, ◌++◌, drop, length, replicate, false, codes, Bor, ◌&&◌, ◌||◌, Bool, not, fold, true≢false, find, option_and_then, slice_get, bytes_eq, is_some, option_map, ◌==◌, ap₂, min, ◌+◌, append-nil, eqb-true, IsTrue, OnOk, encode_utf8, chars, rules, Box, unwrap_or, box_value, is_ok, take, take-append-drop, take-add}
+pub use Rattle.std.proofs.Common.{⊎_elim, get_or, ◌≡◌, ℕ, List, [], Option, Some, None, Result, Ok, Err, inl, inr, sym, ap, ◌∙◌, subst, ◌⊎◌, refl, arith, zero, suc, ◌-◌, ◌/◌, ◌%◌, ◌<◌, ◌≤◌, true, cond, ◌∷◌, ◌++◌, drop, length, replicate, false, codes, Bor, ◌&&◌, ◌||◌, Bool, not, fold, true≢false, find, slice_get, bytes_eq, is_some, option_map, ap₂, min, ◌+◌, append-nil, eqb-true, IsTrue, OnOk, encode_utf8, chars, rules, Box, box_value, is_ok, take, take-append-drop, take-add}
 pub use Rattle.std.proofs.KnownBytes.{Appends-nil, Keeps-refl, Appends-kept, Appends-trans}
 pub use Rattle.std.proofs.lemmas.Bool.{cases_lt, not-false}
 pub use Rattle.std.proofs.lemmas.Result.{IfOk-weaker}
@@ -11,7 +11,7 @@ pub use Rattle.clap.proofs.WalkLemmas.{list_any-map, one_text-rows, both, first_
 pub use Rattle.clap.specs.Facts.{explicit_source, unwrap_or_range}
 unfoldable pub use Rattle.clap.specs.Faults.{walk_fault}
 pub use Rattle.clap.specs.Faults.{level_fault, check_fault, settle_fault, built_fault, entered_fault, fault_of, is_simple_and_free, action_fault, use_fault, values_fault}
-pub use Rattle.clap.specs.Kinds.{Kinds, check_kinds, or_else, IsAmong, range_kinds}
+pub use Rattle.clap.specs.Kinds.{Kinds, or_else, IsAmong}
 pub use Rattle.clap.specs.Matches.{ReadsOne, found_of}
 pub use Rattle.clap.specs.Simple.{subcommand_of, Shape, on_top, subcommand_rows}
 pub use Rattle.clap.specs.Takes.{is_given, value_passes, takes}

@@ -1,8 +1,8 @@
 -- What a level without a fault ends with: the value of an option of one value, which is there where it is required.
-use Rattle.nf_cmd.proofs.Common.{◌≡◌, ◌∙◌, ◌&&◌, Bool, true, false, not, refl, sym, ap, subst, List, [], ◌∷◌, fold, Option, Some, None, inl, inr, find, option_and_then, slice_get, bytes_eq, list_any, option_map_or, bytes_eq-Decides, DefaultValue, explicit_source, Kinds, check_kinds, is_given, value_passes, Held, Names, Row, Rule, Text, has_row, reading_by, settled, default_rows, first_of, nothing_held, stop_after, rows_after, walk, walk_from, with_default, Shape, level_fault, check_fault, settle_fault, walk_fault, not-false}
+use Rattle.nf_cmd.proofs.Common.{arith, ◌≡◌, ◌∙◌, ◌&&◌, Bool, true, false, not, refl, sym, ap, subst, List, [], ◌∷◌, fold, Option, Some, None, inl, inr, find, bytes_eq, list_any, option_map_or, bytes_eq-Decides, DefaultValue, explicit_source, Kinds, is_given, value_passes, Held, Names, Row, Rule, Text, has_row, reading_by, settled, default_rows, first_of, nothing_held, stop_after, rows_after, walk, walk_from, with_default, Shape, level_fault, check_fault, settle_fault, walk_fault}
 use Rattle.std.proofs.lemmas.Bool.{cond_both, or_parts}
 use Rattle.std.proofs.lemmas.Option.{option_and_then_some}
-use Rattle.nf_cmd.proofs.Rows.{both_none, IsIn, IsSingle, Fits, EachFits, each-with_values, no_kind, second_false, find-in, StopsAtNoHelp}
+use Rattle.nf_cmd.proofs.Rows.{IsIn, IsSingle, Fits, EachFits, each-with_values, find-in, StopsAtNoHelp}
 use Rattle.nf_cmd.proofs.WalkRows.{each-settled, each-walk}
 
 -- what an argument that was not used gets, by its defaults
@@ -19,11 +19,6 @@ each-defaults : (c xs : List Rule) → ((a : Rule) → IsIn a xs → IsIn a c) �
 each-defaults c [] inside rows f = f
 each-defaults c (x ∷ xs) inside rows f =
     each-defaults c xs (λ a i. inside a (inr i)) (with_default rows x) (each-with_default c x (inside x (inl refl)) rows f)
-
-pub nothing_wanted : (a b c : Bool) → check_kinds a b c ≡ [] → (b ≡ false) × (c ≡ false)
-nothing_wanted a b c e =
-    let wanted = no_kind b _ _ _ (no_kind a _ _ _ e).1 in
-    (wanted.0, (no_kind c _ _ _ wanted.1).0)
 
 pub none_of : (p : Rule → Bool) (c : List Rule) (a : Rule) → IsIn a c → list_any p c ≡ false → p a ≡ false
 none_of p [] a inside e = absurd inside
@@ -51,11 +46,7 @@ module _ (s : Shape) (off : s.args_override_self ≡ false) (names : Names) (wor
 
   faults : (walk_fault s names (walk_from nothing_held) words ≡ []) × (below ≡ []) × (settle_fault s.rules s.args_override_self end ≡ [])
       × (check_fault s rows has ≡ [])
-  faults =
-      let first = both_none _ _ none in
-      let second = both_none _ _ first.1 in
-      let third = both_none _ _ second.1 in
-      (first.0, second.0, third.0, (both_none _ _ third.1).1)
+  faults = grind arith
 
   pub below_faultless : below ≡ []
   below_faultless = faults.1
@@ -72,28 +63,19 @@ module _ (s : Shape) (off : s.args_override_self ≡ false) (names : Names) (wor
 
   is_given-required : s.subcommand_negates_reqs ≡ false → (a : Rule) → IsIn a s.rules → a.required ≡ true → is_given a.id rows ≡ true
   is_given-required lifts a inside required =
-      let none_lacks = second_false (not (s.subcommand_negates_reqs && has)) _ (nothing_wanted _ _ _ checked).1 (ap (λ n. not (n && has)) lifts) in
-      not-false _ (second_false a.required _ (none_of (λ x. x.required && not (is_given x.id rows)) s.rules a inside none_lacks) required)
+      grind (arith, none_of (λ x. x.required && not (is_given x.id rows)) s.rules a inside (grind (arith, checked)))
 
   module _ (a : Rule) (single : IsSingle a) (only : (x : Rule) → IsIn x s.rules → x.id ≡ a.id → x ≡ a) where
-    -- the first value of a row of it
-    abbrev value_of : Option Row → Option Text
-    value_of = option_and_then (λ (r : Row). slice_get r.values 0)
-
     one_value : (r : Row) → find (λ x. bytes_eq x.id a.id) rows ≡ Some r → Given a rows
     one_value r e =
         let found = find-in (λ (x : Row). bytes_eq x.id a.id) rows r e in
         let f : Fits s.rules r = each-in s.rules rows r each-row found.0 in
         let one = (rw (only f.rule f.inside (f.same ∙ (bytes_eq-Decides r.id a.id).0 found.1)) at f.one) single in
-        record { text = one.text; first = ap value_of e ∙ ap (λ vs. slice_get vs 0) one.alone; passes = one.passes }
+        record { text = one.text; first = cc; passes = one.passes }
 
     -- where it is there, its value passes
     pub passes : (text : Text) → first_of a.id rows ≡ Some text → value_passes a text ≡ true
-    passes text first = option_and_then_some _ _ text first (λ r e _.
-        let one = one_value r e in
-        let is : Some one.text ≡ Some text = sym one.first ∙ first in
-        let same : one.text ≡ text = cc in
-        rw same at one.passes)
+    passes text first = option_and_then_some _ _ text first (λ r e _. let one = one_value r e in cc)
 
     pub given : s.subcommand_negates_reqs ≡ false → IsIn a s.rules → a.required ≡ true → Given a rows
     given lifts inside required = go (find (λ r. bytes_eq r.id a.id) rows) refl (is_given-required lifts a inside required)

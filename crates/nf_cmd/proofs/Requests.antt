@@ -1,10 +1,9 @@
 -- Words in which clap finds no fault ask for something, or are `check` that lacks a form.
-use Rattle.nf_cmd.proofs.Common.{◌≡◌, ◌∙◌, ◌||◌, ◌⊎◌, Bool, true, false, refl, sym, ap, subst, List, [], ◌∷◌, drop, Option, Some, None, inl, inr, codes, is_some, true≢false, find, option_map, Bor, bytes_eq, list_any, option_map_or, bytes_eq-Decides, ErrorKind, MissingRequiredArgument, OutOfMemory, IsAmong, takes, value_passes, Row, Rule, Text, answers_to, first_of, nothing_held, rows_after, stop_after, texts, Shape, subcommand_of, built_fault, entered_fault, fault_of, is_simple_and_free, level_fault, list_any-map, Form, Nfc, Nfd, Nfkc, Nfkd, Request, Check, CheckForm, Measure, Test, IsLine, IsRefusal, check, conversion, convert, flag_rule, form_named, form_names, form_rule, is_set, lacks_form, line, policy_of, request_of, not-false, ⊎_elim, get_or}
+use Rattle.nf_cmd.proofs.Common.{arith, ◌≡◌, ◌∙◌, ◌||◌, ◌⊎◌, Bool, true, false, refl, sym, ap, subst, List, [], ◌∷◌, drop, Option, Some, None, inl, inr, codes, is_some, true≢false, find, option_map, Bor, bytes_eq, list_any, option_map_or, bytes_eq-Decides, ErrorKind, MissingRequiredArgument, OutOfMemory, IsAmong, takes, value_passes, Row, Rule, Text, answers_to, first_of, nothing_held, rows_after, stop_after, texts, Shape, subcommand_of, built_fault, entered_fault, fault_of, is_simple_and_free, level_fault, list_any-map, Form, Nfc, Nfd, Nfkc, Nfkd, Request, Check, CheckForm, Measure, Test, IsLine, IsRefusal, check, conversion, convert, flag_rule, form_named, form_names, form_rule, is_set, lacks_form, line, policy_of, request_of, ⊎_elim, get_or}
 use Rattle.clap.specs.Simple.{App, argument_words, built, entered, label_of, names_of, rows_at, new_shape, with_index, filled}
-use Rattle.std.proofs.Math.Bool.{or-false}
 use Rattle.std.proofs.lemmas.Bool.{cases_Bool, or_cases}
-use Rattle.nf_cmd.proofs.Rows.{first_false, IsIn, IsSingle, find-in, IsNoHelp, StopsAtNoHelp}
-use Rattle.nf_cmd.proofs.LevelRows.{none_of, below_faultless, checked, given, passes, nothing_wanted, walked}
+use Rattle.nf_cmd.proofs.Rows.{IsIn, IsSingle, find-in, IsNoHelp, StopsAtNoHelp}
+use Rattle.nf_cmd.proofs.LevelRows.{none_of, below_faultless, checked, given, passes, walked}
 
 -- what holds of each subcommand that is not help, and whose own words have no fault, holds of the one that is entered
 module _ (P : Option (Text × List Row) → Type 0) (a : App) (words : List Text) (off : a.top.args_override_self ≡ false) (helps : a.top.disable_help_subcommand ≡ false)
@@ -15,7 +14,7 @@ module _ (P : Option (Text × List Row) → Type 0) (a : App) (words : List Text
   enters = go (stop_after a.top.rules (names_of a) words)
       (walked a.top off (names_of a) words _ _ none).1
       (below_faultless a.top off (names_of a) words _ _ none)
-      (not-false _ (first_false _ a.top.subcommand_required (nothing_wanted _ _ _ (checked a.top off (names_of a) words _ _ none)).0 needs))
+      (grind (arith, checked a.top off (names_of a) words _ _ none))
     where
       at : (p : Text × List Text) → IsNoHelp p.0 → (o : Option Shape) → find (λ s. answers_to p.0 (label_of s)) a.subs ≡ o
           → option_map_or (λ s. level_fault s [] nothing_held p.1 false []) o [] ≡ [] → is_some (option_map (λ s. rows_at s p.1) o) ≡ true
@@ -29,8 +28,7 @@ module _ (P : Option (Text × List Row) → Type 0) (a : App) (words : List Text
 
 -- help answers to its own name alone
 help_differs : (name : Text) → (bytes_eq (codes "help") name || false) ≡ true → IsNoHelp name → ⊥
-help_differs name e helpless =
-    true≢false (ap (λ x. bytes_eq x (codes "help")) ((bytes_eq-Decides (codes "help") name).0 (sym (or-false _) ∙ e)) ∙ helpless)
+help_differs name e helpless = grind (arith, bytes_eq-Decides (codes "help") name)
 
 -- ---- this program's line
 
@@ -42,7 +40,7 @@ simple_and_free names = refl
 only_first : (a : Rule) (rest : List Rule) → list_any (λ r. bytes_eq a.id r.id) rest ≡ false → (x : Rule) → IsIn x (a ∷ rest) → x.id ≡ a.id → x ≡ a
 only_first a rest differ x (inl same) e = same
 only_first a rest differ x (inr inside) e =
-    absurd (true≢false (sym ((bytes_eq-Decides a.id x.id).1 (sym e)) ∙ none_of (λ r. bytes_eq a.id r.id) rest x inside differ))
+    cc ((bytes_eq-Decides a.id x.id).1 (sym e), none_of (λ r. bytes_eq a.id r.id) rest x inside differ)
 
 -- what a subcommand's words come to: a request, or that a form is lacking
 abbrev pub IsAsked : Option (Text × List Row) → Type 0
@@ -126,7 +124,7 @@ module _ {a : App} (is : IsLine a) where
     line_lacks none nothing kind = by (subst (λ x. IsAsked (subcommand_of x words)) (sym is.2) (asked is.0 is.1 words (rw is.2 at none)))
       where
         by : IsAsked (subcommand_of a words) → IsRefusal words k
-        by (inl asks) = let bad : None ≡ Some asks.0 = sym nothing ∙ asks.1 in cc
+        by (inl asks) = cc
         by (inr lacks) = inr (inr (record { app = a; is_line = is; faultless = none; lacks = lacks; kind = kind }))
 
     -- an error of the parse is a refusal

@@ -1,33 +1,11 @@
 -- Rows that fit the rules of one level, for an option of one value one that passes, and subcommands that are not help.
-use Rattle.nf_cmd.proofs.Common.{◌≡◌, ◌∙◌, ◌&&◌, ◌⊎◌, ◌==◌, ℕ, Bool, cond, true, false, refl, sym, ap, ap₂, min, ◌+◌, append-nil, arith, List, [], ◌∷◌, ◌++◌, length, Some, None, true≢false, eqb-true, bytes_eq, bytes_eq-Decides, CommandLine, unwrap_or_range, Kinds, or_else, range_kinds, value_passes, Row, Rule, Text, has_row, reading_by, action_fault, use_fault, values_fault, ErrorKind, find, inl, inr, Option, codes, Step, subcommand}
+use Rattle.nf_cmd.proofs.Common.{◌≡◌, ◌∙◌, ◌⊎◌, Bool, true, false, refl, sym, ap, min, ◌+◌, append-nil, arith, List, [], ◌∷◌, ◌++◌, length, Some, None, eqb-true, bytes_eq, bytes_eq-Decides, CommandLine, unwrap_or_range, value_passes, Row, Rule, Text, has_row, reading_by, action_fault, use_fault, values_fault, find, inl, inr, Option, codes, Step, subcommand}
 use Rattle.clap.specs.Walk.{action_of, at_row, count_of, counted, more_values, most_values, new_count, used, used_as, values_or_missing, with_values, without}
 use Rattle.std.proofs.lemmas.Bool.{cond_both, cond-false, or_parts}
 use Rattle.clap.specs.declared.builder.action.ArgAction.{ArgAction}
 use Rattle.clap.specs.declared.builder.action.ArgAction.TheVariants.{Set, Append, SetTrue, SetFalse, Count}
 use Rattle.clap.specs.declared.builder.value_parser.Reading.{Reading}
 use Rattle.clap.specs.declared.parser.matches.ValueSource.{ValueSource}
-
-pub both_none : (a b : Kinds) → or_else a b ≡ [] → (a ≡ []) × (b ≡ [])
-both_none [] b e = (refl, e)
-both_none (k ∷ ks) b e = cc
-
--- a kind that did not come
-pub no_kind : (b : Bool) (k : ErrorKind) (ks rest : Kinds) → cond b (k ∷ ks) rest ≡ [] → (b ≡ false) × (rest ≡ [])
-no_kind true k ks rest e = cc
-no_kind false k ks rest e = (refl, e)
-
--- one that would have come without the test
-no_kind_else : (b : Bool) (k : ErrorKind) → cond b [] (k ∷ []) ≡ [] → b ≡ true
-no_kind_else true k e = refl
-no_kind_else false k e = cc
-
--- of two tests of which one does not hold, the one where the other does
-pub first_false : (a b : Bool) → (a && b) ≡ false → b ≡ true → a ≡ false
-first_false true b none second = absurd (true≢false (sym second ∙ none))
-first_false false b none second = refl
-
-pub second_false : (a b : Bool) → (a && b) ≡ false → a ≡ true → b ≡ false
-second_false a b none first = sym (ap (λ x. x && b) first) ∙ none
 
 -- a is one of these
 abbrev pub IsIn : {X : Type 0} → X → List X → Type 0
@@ -97,11 +75,8 @@ new_row id change missing (r ∷ rs) none = let parts = or_parts (bytes_eq r.id 
 
 -- ---- one use of an argument
 
-one_of_one : (n : ℕ) → range_kinds 1 1 n ≡ [] → n ≡ 1
-one_of_one n e = sym (eqb-true 1 n (no_kind_else (1 == n) _ (no_kind (n == 0) _ _ _ e).1))
-
 has_one : (a : Rule) (values : List Text) → length values ≡ 1 → values_fault a (values_or_missing a values) ≡ [] → HasOne a (values_or_missing a values)
-has_one a (v ∷ []) one e = record { text = v; alone = refl; passes = no_kind_else (value_passes a v) _ (both_none _ _ e).0 }
+has_one a (v ∷ []) one e = record { text = v; alone = refl; passes = grind arith }
 has_one a _ one e = absurd (omega arith)
 
 module _ (c : List Rule) (a : Rule) (inside : IsIn a c) where
@@ -126,17 +101,15 @@ module _ (c : List Rule) (a : Rule) (inside : IsIn a c) where
 
       set : action_fault Set false a given rows ≡ [] → EachFits c (with_values a.id (reading_by a) CommandLine given (without a.id rows))
       set h =
-          let faults = both_none _ _ h in
-          let absent = first_false (has_row a.id rows) true (no_kind _ _ _ _ faults.0).0 refl in
+          let absent : has_row a.id rows ≡ false = grind arith in
           let kept : without a.id rows ≡ rows = new_row a.id (λ _. []) [] rows absent ∙ append-nil rows in
           let row : Row = record { id = a.id; values = given; count = None; source = Some CommandLine; reading = reading_by a } in
-          let one : IsSingle a → HasOne a given = λ s.
-          has_one a values (one_of_one (length values) (sym (ap₂ (λ x y. range_kinds x y (length values)) s.least s.most) ∙ (both_none _ _ none).0)) faults.1 in
+          let one : IsSingle a → HasOne a given = λ s. has_one a values (grind (arith, eqb-true)) (grind arith) in
           rw (kept, new_row a.id (more_values CommandLine given) (row ∷ []) rows absent)
           (each-append c rows (row ∷ []) f (record { rule = a; inside = inside; same = refl; one = one }, tt))
 
       go : (x : ArgAction) → x ≡ action_of a → EachFits c (used_as x a.id (reading_by a) (values_or_missing a values) rows)
-      go Set e = set (ap (λ y. action_fault y false a given rows) e ∙ (both_none _ _ none).1)
+      go Set e = set (grind arith)
       go Append e = each-with_values (λ s. cc) _ _ given rows f
       go SetTrue e = each-with_values (λ s. cc) _ _ given _ (each-without c a.id rows f)
       go SetFalse e = each-with_values (λ s. cc) _ _ given _ (each-without c a.id rows f)

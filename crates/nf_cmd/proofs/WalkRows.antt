@@ -1,6 +1,6 @@
 -- A word, and a walk over words, in which there is no fault leave rows that fit; where help is on the subcommand that is met, or at
 -- which the walk stops, is not help.
-use Rattle.nf_cmd.proofs.Common.{◌≡◌, ◌&&◌, ℕ, Bool, cond, true, false, zero, suc, refl, List, [], ◌∷◌, length, drop, Option, Some, None, encode_utf8, find, slice_get, is_some, chars, option_map_or, Kinds, or_else, Held, Row, Rule, Text, settled, settle_fault, use_fault, Step, fold, codes, bytes_eq, Names, subcommand, walked, Shape, walk_fault, ap, not}
+use Rattle.nf_cmd.proofs.Common.{arith, ◌≡◌, ◌&&◌, ℕ, Bool, cond, true, false, zero, suc, refl, List, [], ◌∷◌, length, drop, Option, Some, None, encode_utf8, find, slice_get, is_some, chars, option_map_or, Kinds, or_else, Held, Row, Rule, Text, settled, settle_fault, use_fault, Step, fold, bytes_eq, Names, subcommand, walked, Shape, walk_fault}
 unfoldable use Rattle.clap.specs.Faults.{flags_fault}
 use Rattle.clap.specs.Faults.{other_fault, step_fault, turn_fault, word_fault, flag_word_fault, positional_fault, stray_fault, bundle_fault, bundle_step_fault, long_fault, option_fault, react_fault, short_fault}
 use Rattle.clap.specs.Lexer.{long_of, short_of}
@@ -8,7 +8,7 @@ unfoldable use Rattle.clap.specs.Walk.{bundle_met}
 use Rattle.clap.specs.Walk.{Outcome, Waiting, Walk, after_flag, after_step, arg_by_index, done, plain, waits, long_or_other, next, option, plain_word, short_or_plain, subcommand_met, subcommand_or_other, to_positional, trailing, value, walked_from, word_met, arg_by_id, arg_by_long, arg_by_short, attached_value, bundle, bundle_step, flag_met, is_pending, long_met, option_met, option_word, positional_held, reacted, settled_rows, short_met, takes_several, takes_values, used_by_id}
 use Rattle.std.proofs.lemmas.Bool.{cond_both}
 use Rattle.clap.specs.declared.error.kind.ErrorKind.TheVariants as kind
-use Rattle.nf_cmd.proofs.Rows.{both_none, IsIn, EachFits, each-used, find-in, StepsToNoHelp, StopsAtNoHelp, no_kind, first_false}
+use Rattle.nf_cmd.proofs.Rows.{IsIn, EachFits, each-used, find-in, StepsToNoHelp, StopsAtNoHelp}
 
 -- the option is one of the rules, where it is there
 abbrev IfIn : Option Rule → List Rule → Type 0
@@ -39,8 +39,7 @@ module _ (c : List Rule) where
 
   each-reacted : (a : Rule) (values : List Text) (h : Held) → IsIn a c → react_fault c false a values h ≡ [] → Holds h → Holds (reacted c a values h)
   each-reacted a values h inside none f =
-      let faults = both_none _ _ none in
-      each-used c a inside values (settled c h).rows faults.1 (each-settled h faults.0 f)
+      each-used c a inside values (settled c h).rows (grind arith) (each-settled h (grind arith) f)
 
   each-option_met : (a : Rule) (v : Option Text) (h : Held) → IsIn a c → option_fault c false a v h ≡ [] → Holds h → Met (option_met c a v h)
   each-option_met a (Some v) h inside none f = each-reacted a (v ∷ []) h inside none f
@@ -54,14 +53,14 @@ module _ (c : List Rule) where
   each-long_met : (o : Option Rule) (v : Option Text) (h : Held) → IfIn o c → long_fault c false o v h ≡ [] → Holds h → Met (long_met c o v h)
   each-long_met None v h inside none f = f
   each-long_met (Some a) v h inside none f = cond_both (takes_values a) _ _ Met
-      (λ e. each-option_met a v h (inside a refl) (rw e at none) f) (λ e. each-flag_met a v h (inside a refl) (rw e at none) f)
+      (λ e. each-option_met a v h (inside a refl) (grind arith) f) (λ e. each-flag_met a v h (inside a refl) (grind arith) f)
 
   each-short_met : (o : Option Rule) (rest : Text) (h : Held) (then : Held → Held × Outcome) (fault : Held → Kinds) → IfIn o c
       → short_fault c false o rest h fault ≡ [] → ((k : Held) → fault k ≡ [] → Holds k → Met (then k)) → Holds h → Met (short_met c o rest h then)
   each-short_met None rest h then fault inside none step f = f
   each-short_met (Some a) rest h then fault inside none step f = cond_both (takes_values a) _ _ Met
-      (λ e. each-option_met a (attached_value rest) h (inside a refl) (rw e at none) f)
-      (λ e. let faults = both_none _ _ (rw e at none) in step (reacted c a [] h) faults.1 (each-reacted a [] h (inside a refl) faults.0 f))
+      (λ e. each-option_met a (attached_value rest) h (inside a refl) (grind arith) f)
+      (λ e. step (reacted c a [] h) (grind arith) (each-reacted a [] h (inside a refl) (grind arith) f))
 
   each-bundle_met : (k : ℕ) (flags : Text) (skip : ℕ) (so_far : Outcome) (h : Held) → flags_fault c false k flags skip h ≡ [] → Holds h
       → Met (bundle_met c k flags skip so_far h)
@@ -80,7 +79,7 @@ module _ (c : List Rule) where
 
   each-positional : (a : Rule) (word : Text) (h : Held) → positional_fault c false a h ≡ [] → Holds h → Holds (positional_held c a word h)
   each-positional a word h none f =
-      cond_both (is_pending a h.pending && takes_several a) _ _ Holds (λ e. f) (λ e. each-settled h (rw e at none) f)
+      cond_both (is_pending a h.pending && takes_several a) _ _ Holds (λ e. f) (λ e. each-settled h (grind arith) f)
 
   module _ (help_off : Bool) where
     abbrev Steps : Held × Step → Type 0
@@ -116,7 +115,7 @@ module _ (s : Shape) (off : s.args_override_self ≡ false) (names : Names) wher
 
   each-other : (found : Option Text) (waiting : Waiting) (position : ℕ) (word : Text) (h : Held) → other_fault s found word h ≡ [] → EachFits s.rules h.rows
       → Turns (subcommand_or_other s.rules found waiting position word h)
-  each-other (Some name) waiting position word h none f = (f, λ helps. first_false (bytes_eq name (codes "help")) _ (no_kind _ _ _ _ none).0 (ap not helps))
+  each-other (Some name) waiting position word h none f = (f, λ helps. grind arith)
   each-other None waiting position word h none f = cond_both (bytes_eq word (45 ∷ 45 ∷ [])) _ _ Turns
       (λ e. (f, tt)) (λ e. each-long_or_other s.rules s.disable_help_subcommand waiting word (long_of word) h (rw (e, off) at none) f)
 
@@ -148,12 +147,10 @@ module _ (s : Shape) (off : s.args_override_self ≡ false) (names : Names) wher
           → StopsAtNoHelp s.disable_help_subcommand o → Keeps (walked_from s.rules names o w word)
       go (Some p) e stops = (f.0, stops)
       go None e stops =
-          let faults = both_none _ _ e in
-          each-after_step word w m faults.1 (each-word_met w.is_trailing w.waiting w.position word w.held faults.0 f.0) f.1
+          each-after_step word w m (grind arith) (each-word_met w.is_trailing w.waiting w.position word w.held (grind arith) f.0) f.1
 
   pub each-walk : (w : Walk) (words : List Text) → walk_fault s names w words ≡ [] → Keeps w → Keeps (fold (walked s.rules names) w words)
   unfolding walk_fault
   each-walk w [] none f = f
   each-walk w (word ∷ rest) none f =
-      let faults = both_none _ _ none in
-      each-walk (walked s.rules names w word) rest faults.1 (each-walked w word faults.0 f)
+      each-walk (walked s.rules names w word) rest (grind arith) (each-walked w word (grind arith) f)

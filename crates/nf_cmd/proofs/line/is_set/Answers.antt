@@ -7,9 +7,9 @@ use Rattle.nf_cmd.proofs.line.is_set.Goals as goal
 -- what is read of a text as a truth value is true exactly of the text `true`
 read : (E : Type 0) (text : Option Text) (value : Option Bool) → (text ≡ None → value ≡ None) → ((t : Text) → text ≡ Some t → ReadsOne (ParsesBool {E = E}) t value)
     → option_eq beq value (Some true) ≡ option_map_or (λ t. bytes_eq t (codes "true")) text false
-read E None value none some = ap (λ v. option_eq beq v (Some true)) (none refl)
-read E (Some t) (Some true) none some = sym (ap (λ x. bytes_eq x (codes "true")) (some t refl))
-read E (Some t) (Some false) none some = sym (ap (λ x. bytes_eq x (codes "true")) (some t refl))
+read E None value none some = rw (none refl)
+read E (Some t) (Some true) none some = rw (some t refl)
+read E (Some t) (Some false) none some = rw (some t refl)
 read E (Some t) None none some = sym (false_from_ne_true _ (λ e. (some t refl).1.0 ((bytes_eq-Decides t (codes "true")).0 e)))
 
 pub returns : goal.returns
