@@ -1,5 +1,5 @@
 -- The names that most of these proofs cite, passed on from one place. Declares nothing.
-pub use Rattle.std.proofs.Common.{⊎_elim, get_or, ◌≡◌, ℕ, List, [], Option, Some, None, Result, Ok, Err, inl, inr, sym, ap, ◌∙◌, subst, ◌⊎◌, refl, arith, zero, suc, ◌-◌, ◌/◌, ◌%◌, ◌<◌, ◌≤◌, true, cond, ◌∷◌, ◌++◌, drop, length, replicate, false, codes, Bor, ◌&&◌, ◌||◌, Bool, not, fold, true≢false, find, slice_get, bytes_eq, is_some, option_map, ap₂, min, ◌+◌, append-nil, eqb-true, IsTrue, OnOk, encode_utf8, chars, rules, Box, box_value, is_ok, take, take-append-drop, take-add}
+pub use Rattle.std.proofs.Common.{⊎_elim, get_or, ◌≡◌, ℕ, List, [], Option, Some, None, Result, Ok, Err, inl, inr, sym, ap, ◌∙◌, subst, ◌⊎◌, refl, arith, zero, suc, ◌-◌, ◌/◌, ◌%◌, ◌<◌, ◌≤◌, true, cond, ◌∷◌, ◌++◌, drop, length, replicate, false, codes, Bor, ◌&&◌, Bool, not, fold, find, slice_get, bytes_eq, is_some, option_map, ap₂, min, ◌+◌, append-nil, eqb-true, IsTrue, OnOk, encode_utf8, chars, rules, Box, box_value, is_ok, take, take-append-drop, take-add}
 pub use Rattle.std.proofs.KnownBytes.{Appends-nil, Keeps-refl, Appends-kept, Appends-trans}
 pub use Rattle.std.proofs.lemmas.Bool.{cases_lt, not-false}
 pub use Rattle.std.proofs.lemmas.Result.{IfOk-weaker}
@@ -28,4 +28,4 @@ pub use Rattle.nf_cmd.specs.Text.{six_digits, zeros_before}
 pub use Rattle.nf_cmd.specs.declared.line.Request.{Request}
 pub use Rattle.nf_cmd.specs.declared.line.Request.TheVariants.{Convert, ConvertLines, Check, CheckForm, Measure, Test}
 pub use Rattle.nf_forms.specs.declared.form.Form.{Form}
-pub use Rattle.nf_forms.specs.declared.form.Form.TheVariants.{Nfc, Nfd, Nfkc, Nfkd}
+pub use Rattle.nf_forms.specs.declared.form.Form.TheVariants.{Nfc, Nfd}

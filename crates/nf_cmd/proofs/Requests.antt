@@ -1,7 +1,7 @@
 -- Words in which clap finds no fault ask for something, or are `check` that lacks a form.
-use Rattle.nf_cmd.proofs.Common.{arith, ◌≡◌, ◌∙◌, ◌||◌, ◌⊎◌, Bool, true, false, refl, sym, ap, subst, List, [], ◌∷◌, drop, Option, Some, None, inl, inr, codes, is_some, true≢false, find, option_map, Bor, bytes_eq, list_any, option_map_or, bytes_eq-Decides, ErrorKind, MissingRequiredArgument, OutOfMemory, IsAmong, takes, value_passes, Row, Rule, Text, answers_to, first_of, nothing_held, rows_after, stop_after, texts, Shape, subcommand_of, built_fault, entered_fault, fault_of, is_simple_and_free, level_fault, list_any-map, Form, Nfc, Nfd, Nfkc, Nfkd, Request, Check, CheckForm, Measure, Test, IsLine, IsRefusal, check, conversion, convert, flag_rule, form_named, form_names, form_rule, is_set, lacks_form, line, policy_of, request_of, ⊎_elim, get_or}
+use Rattle.nf_cmd.proofs.Common.{arith, ◌≡◌, ◌∙◌, ◌⊎◌, Bool, true, false, refl, sym, ap, subst, List, [], ◌∷◌, drop, Option, Some, None, inl, inr, codes, is_some, find, option_map, Bor, bytes_eq, list_any, option_map_or, bytes_eq-Decides, ErrorKind, MissingRequiredArgument, OutOfMemory, IsAmong, takes, value_passes, Row, Rule, Text, answers_to, first_of, nothing_held, rows_after, stop_after, texts, Shape, subcommand_of, built_fault, entered_fault, fault_of, is_simple_and_free, level_fault, list_any-map, Form, Request, Check, CheckForm, Measure, Test, IsLine, IsRefusal, check, conversion, convert, flag_rule, form_named, form_names, form_rule, is_set, lacks_form, line, policy_of, request_of, ⊎_elim, get_or}
 use Rattle.clap.specs.Simple.{App, argument_words, built, entered, label_of, names_of, rows_at, new_shape, with_index, filled}
-use Rattle.std.proofs.lemmas.Bool.{cases_Bool, or_cases}
+use Rattle.std.proofs.lemmas.Bool.{cases_Bool}
 use Rattle.nf_cmd.proofs.Rows.{IsIn, IsSingle, find-in, IsNoHelp, StopsAtNoHelp}
 use Rattle.nf_cmd.proofs.LevelRows.{none_of, below_faultless, checked, given, passes, walked}
 
@@ -26,10 +26,6 @@ module _ (P : Option (Text × List Row) → Type 0) (a : App) (words : List Text
       go None helpless below there = cc
       go (Some p) helpless below there = at p (helpless helps) (find (λ s. answers_to p.0 (label_of s)) a.subs) refl below there
 
--- help answers to its own name alone
-help_differs : (name : Text) → (bytes_eq (codes "help") name || false) ≡ true → IsNoHelp name → ⊥
-help_differs name e helpless = grind (arith, bytes_eq-Decides (codes "help") name)
-
 -- ---- this program's line
 
 pub simple_and_free : (names : Bor (List (Bor Text))) → is_simple_and_free (line names) ≡ true
@@ -48,16 +44,7 @@ IsAsked found = ((r : Request) × (request_of found ≡ Some r)) ⊎ (lacks_form
 
 -- the names are those of forms
 named : (text : Text) → list_any (λ n. bytes_eq n text) form_names ≡ true → (f : Form) × (form_named text ≡ Some f)
-named text e = either (is (codes "nfc") Nfc refl) (either (is (codes "nfd") Nfd refl) (either (is (codes "nfkc") Nfkc refl) (either (is (codes "nfkd") Nfkd refl) (λ none. absurd (true≢false (sym none)))))) e
-  where
-    Named : Type 0
-    Named = (f : Form) × (form_named text ≡ Some f)
-
-    is : (name : Text) (f : Form) → form_named name ≡ Some f → bytes_eq name text ≡ true → Named
-    is name f by same = (f, ap form_named (sym ((bytes_eq-Decides name text).0 same)) ∙ by)
-
-    either : {a b : Bool} → (a ≡ true → Named) → (b ≡ true → Named) → (a || b) ≡ true → Named
-    either {a} {b} first second h = ⊎_elim first second (or_cases a b h)
+named text e = grind (arith, bytes_eq-Decides)
 
 module _ (names : Bor (List (Bor Text))) (are : texts names.now ≡ form_names) where
   abbrev converting : Shape
@@ -109,7 +96,7 @@ module _ (names : Bor (List (Bor Text))) (are : texts names.now ≡ form_names) 
       of s (inr (inl same)) name answers helpless left = rw same (checks left)
       of s (inr (inr (inl same))) name answers helpless left = rw same (λ below. inl (Measure, refl))
       of s (inr (inr (inr (inl same)))) name answers helpless left = rw same (λ below. inl (Test, refl))
-      of s (inr (inr (inr (inr (inl same))))) name answers helpless left = absurd (help_differs name (rw same at answers) helpless)
+      of s (inr (inr (inr (inr (inl same))))) name answers helpless left = let help = rw same at answers in absurd (grind (arith, bytes_eq-Decides (codes "help") name))
       of s (inr (inr (inr (inr (inr bad))))) name answers helpless left = absurd bad
 
 -- ---- the same of any description of the line

@@ -1,6 +1,6 @@
 -- What a run shows: its parts put together, no fault of an unsound character where none of the data is one, and that what `convert`
 -- wrote to the end without a fault is not changed by a second run.
-use Rattle.nf_cmd.proofs.Common.{◌≡◌, ℕ, Bool, true, false, List, [], Option, Some, None, Result, Ok, Err, inl, inr, sym, ap, ◌∙◌, subst, ◌⊎◌, ⊎_elim, refl, IsTrue, OnOk, Appends-kept, Form, Convert, ConvertLines, Check, CheckForm, Measure, Test, arith, Keeps, Appends-nil, ErrorKind, DisplayHelp, Text, Request, line_of, Asks, IsRefusal, IsRefused}
+use Rattle.nf_cmd.proofs.Common.{◌≡◌, ℕ, Bool, true, false, List, [], Option, Some, Result, Ok, Err, inl, inr, subst, ◌⊎◌, ⊎_elim, refl, IsTrue, OnOk, Appends-kept, Form, Convert, ConvertLines, Check, CheckForm, Measure, Test, arith, Keeps, Appends-nil, ErrorKind, DisplayHelp, Text, Request, line_of, Asks, IsRefusal, IsRefused}
 use Rattle.nf_cmd.specs.Answers.{Does, Answers, ComesOf, Devices, NeverRow}
 use Rattle.nf_cmd.specs.Lines.{status_of}
 use Rattle.nf_cmd.specs.declared.fault.Fault.{Fault}
@@ -10,7 +10,6 @@ use Rattle.nf_filter.specs.declared.policy.Policy.{Policy}
 use Rattle.nf_filter.specs.declared.tally.Tally.{Tally}
 use Rattle.nf_forms.specs.Ucd.{ucd}
 use Rattle.nf_lines.specs.Drives.{bytes_of, DrivesLines}
-use Rattle.std.specs.Result.{result_err}
 use Rattle.nf_forms.specs.Twice.{ChangesOnce}
 use Rattle.nf_safe.specs.declared.place.Place.{Place}
 use Rattle.nf_filter.specs.declared.fault.Fault.{Fault as Found}
@@ -25,22 +24,15 @@ use Rattle.nf_filter.proofs.WritesLemmas.{Puts-at}
 use Rattle.nf_filter.proofs.AgainLemmas.{drives_once, adds_what_stays}
 use Rattle.nf_filter.proofs.SoundnessLemmas.{not_a_fault, not_in_end, not_surveyed}
 use Rattle.nf_normalized.specs.Change.{form_decision, form_value, under}
-use Rattle.nf_vectors.specs.declared.fault.VectorFault.{VectorFault}
-use Rattle.nf_vectors.specs.declared.fault.VectorKind.{VectorKind}
-use Rattle.nf_vectors.specs.declared.fault.VectorKind.TheVariants as kind
-use Rattle.nf_vectors.specs.declared.suite.Suite.{Suite}
 use Rattle.nf_cmd.specs.declared.fault.Fault.TheVariants.{Row, Write}
-use Rattle.nf_cmd.specs.declared.test.Finding.{Finding}
 use Rattle.nf_cmd.specs.Fronts.{AppendsFront}
-use Rattle.nf_cmd.specs.Faults.{told_at}
 use Rattle.nf_cmd.specs.Converts.{Ends, end_of, Runs}
-use Rattle.nf_cmd.specs.Checks.{check_end, ChecksForm}
-use Rattle.nf_cmd.specs.Tests.{Tests, Finds, finding_end}
+use Rattle.nf_cmd.specs.Checks.{ChecksForm}
 use Rattle.nf_cmd.specs.Again.{EachConvertsOnce}
 
 -- status 2 is not that of memory
 pub refused_by : {words : List Text} {k : ErrorKind} (before after : Devices) {status : ℕ} → IsRefusal words k → ComesOf k before after status → status ≡ 2 → IsRefused words
-refused_by before after (inl memory) comes two = let none = rw memory at comes in absurd (omega (arith, none.ends.status_is))
+refused_by before after (inl memory) comes two = let none = rw memory at comes in absurd (omega arith)
 refused_by {k = k} before after (inr refuses) comes two = (k, refuses)
 
 -- an error of clap is answered as one of memory, or as a refusal
@@ -69,81 +61,37 @@ runs_from source rest old new driven end input output unfailed =
 
 -- ---- no character is unsound
 
--- no fault of a vector file is that of a character
-not_of_file : (n : ℕ) (k : VectorKind) (at : ℕ) → ¬ (told_at n k ≡ Row at)
-not_of_file n kind.Fields at e = cc
-not_of_file n _ at e = cc
-
--- what ends by that of a character was answered so: it ends by the answer, and not by a failed write
-module _ {ended : Result ℕ Fault} {at : ℕ} (row : ended ≡ Err (Row at)) where
-  ends_row : {T : Type 0} (answer : Result T Found) → (Some ended ≡ end_of answer) ⊎ (ended ≡ Err Write) → answer ≡ Err (found.Row at)
-  ends_row (Ok value) (inl is) = cc
-  ends_row (Err found.Spent) (inl is) = cc
-  ends_row (Err _) (inl is) = cc
-  ends_row answer (inr is) = cc
-
-  check_row : (answer : Result (Option Place) Found) → (Some ended ≡ check_end answer) ⊎ (ended ≡ Err Write) → answer ≡ Err (found.Row at)
-  check_row (Ok None) (inl is) = cc
-  check_row (Ok (Some place)) (inl is) = cc
-  check_row (Err found.Spent) (inl is) = cc
-  check_row (Err _) (inl is) = cc
-  check_row answer (inr is) = cc
-
-  tested : {coming left taken now : Option (List ℕ)} → ¬ (Tests ucd coming left taken now ended)
-  tested does = by does.suite does.finding does.finds does.found_is
-    where
-      by : (suite : Result Suite VectorFault) (finding : Result Finding Fault) → Finds ucd suite finding → (ended ≡ finding_end finding) ⊎ (ended ≡ Err Write) → ⊥
-      by suite finding finds (inr is) = cc
-      by suite (Ok finding) finds (inl is) = cc
-      by (Ok suite) (Err fault) finds (inl is) = cc
-      by (Err refused) (Err fault) finds (inl is) = not_of_file refused.line refused.kind at (cc)
-
-module _ (sound : AreSound ucd) {at : ℕ} where
-  from_err : (r : Result Tally Found) → result_err r ≡ Some (found.Row at) → r ≡ Err (found.Row at)
-  from_err (Ok tally) e = cc
-  from_err (Err fault) e = cc
-
+module _ (sound : AreSound ucd) (at : ℕ) where
   -- by driving line by line
   lines_row : {policy : Policy} {f : Form} {source rest : SourceState} {old new : SinkState} {answer : Result (Unit {0}) Found}
       → DrivesLines 65536 policy f ucd source rest old new answer → ¬ (answer ≡ Err (found.Row at))
   lines_row {policy} {rest = rest} drives row = by rest.is_at_end refl
     where
       by : (b : Bool) → rest.is_at_end ≡ b → ⊥
-      by true end = not_in_end ucd sound 0 at policy (bytes_of drives.taken) (from_err (finished policy ucd 0 (bytes_of drives.taken)) (sym (drives.finished end (λ e. cc)) ∙ ap result_err row))
-      by false end = not_a_fault ucd sound 0 at policy (bytes_of drives.taken) (sym (drives.stopped end (λ e. cc) (λ e. cc) (λ e. cc)).1 ∙ ap result_err row)
+      by true end = not_in_end ucd sound 0 at policy (bytes_of drives.taken) (grind (arith, drives.finished end (λ e. cc)))
+      by false end = not_a_fault ucd sound 0 at policy (bytes_of drives.taken) (grind (arith, drives.stopped end (λ e. cc) (λ e. cc) (λ e. cc)))
 
   -- by checking a form
   form_row : {coming left taken now : Option (List ℕ)} {ended : Result ℕ Fault} (f : Form) (assigned : Bool) → ChecksForm f assigned coming left taken now ended → ¬ (ended ≡ Err (Row at))
   unfolding form_decision
   form_row f assigned does row =
-      not_surveyed 65536 0 at (form_decision assigned f 0) (form_value f 0) _ _ _ (λ bytes. undecided bytes _) does.surveyed.surveys (check_row row does.answer does.found_is)
+      not_surveyed 65536 0 at (form_decision assigned f 0) (form_value f 0) _ _ _ (λ bytes. undecided bytes _) does.surveyed.surveys (grind arith)
     where
-      by_fault : (o : Option Found) → ¬ (o ≡ Some (found.Row at)) → ¬ (place_or_fault None o ≡ Some (Err (found.Row at)))
-      by_fault None not e = cc
-      by_fault (Some fault) not e = not (cc)
-
       undecided : (bytes : List ℕ) (place : Option Place) → ¬ (place_or_fault place (fault_in (under assigned) ucd 0 bytes) ≡ Some (Err (found.Row at)))
-      undecided bytes (Some place) e = cc
-      undecided bytes None e = by_fault (fault_in (under assigned) ucd 0 bytes) (not_a_fault ucd sound 0 at (under assigned) bytes) e
+      undecided bytes place e = grind (arith, not_a_fault ucd sound 0 at (under assigned) bytes)
 
 pub never_row : DrivingRefusesNone → CheckingRefusesNone → MeasuringRefusesNone → AreSound ucd → NeverRow
-never_row driving checking measuring sound (Convert form policy) before after ended does at row = driving _ _ _ _ _ _ _ _ _ _ _ sound does.runs.driven at (ends_row row does.answer does.found_is)
-never_row driving checking measuring sound (ConvertLines form policy) before after ended does at row = lines_row sound does.runs.driven (ends_row row does.answer does.found_is)
-never_row driving checking measuring sound Check before after ended does at row = checking _ _ _ _ _ _ sound does.surveyed.surveys at (check_row row does.answer does.found_is)
-never_row driving checking measuring sound (CheckForm form assigned) before after ended does at row = form_row sound form assigned does row
-never_row driving checking measuring sound Measure before after ended does at row = measuring _ _ _ _ _ _ sound does.surveyed.surveys at (ends_row row does.answer does.found_is)
-never_row driving checking measuring sound Test before after ended does at row = tested row does
+never_row driving checking measuring sound (Convert form policy) before after ended does at row = driving _ _ _ _ _ _ _ _ _ _ _ sound does.runs.driven at (grind arith)
+never_row driving checking measuring sound (ConvertLines form policy) before after ended does at row = lines_row sound at does.runs.driven (grind arith)
+never_row driving checking measuring sound Check before after ended does at row = checking _ _ _ _ _ _ sound does.surveyed.surveys at (grind arith)
+never_row driving checking measuring sound (CheckForm form assigned) before after ended does at row = form_row sound at form assigned does row
+never_row driving checking measuring sound Measure before after ended does at row = measuring _ _ _ _ _ _ sound does.surveyed.surveys at (grind arith)
+never_row driving checking measuring sound Test before after ended does at row = grind arith
 
 -- ---- what was converted stays
 
 abbrev no_fault : Result ℕ Fault
 no_fault = Ok 0
-
--- no fault ends with status 0
-found_ok : (ended : Result ℕ Fault) → status_of ended ≡ 0 → ended ≡ Ok 0
-found_ok (Ok status) e = cc
-found_ok (Err (Row at)) e = cc
-found_ok (Err _) e = cc
 
 -- where a run of the library that has no fault adds what stays, the program's does; a flush behind it changes nothing
 module _ {T : Type 0} (f : Form) (drives : SourceState → SourceState → SinkState → SinkState → Result T Found → Type 0)
@@ -155,9 +103,7 @@ module _ {T : Type 0} (f : Form) (drives : SourceState → SourceState → SinkS
       by (Ok value) is runs =
           let adds = rw (runs.output_is.0, runs.output_is.1) at (stays _ _ _ _ value runs.end runs.driven) in
           (adds.0, Appends-kept _ _ _ adds.0 adds.1 does.flushed, adds.2)
-      by (Err found.Spent) (inl is) runs = cc
-      by (Err _) (inl is) runs = cc
-      by answer (inr is) runs = cc
+      by (Err fault) is runs = absurd (grind arith)
 
 module _ (law : FinishedStays) (f : Form) (policy : Policy) (once : ChangesOnce f ucd) where
   whole_once : (source rest : SourceState) (old new : SinkState) (tally : Tally) → IsTrue rest.is_at_end → Drives 65536 policy f ucd 0 [] source rest old new (Ok tally) → AddsWhatStays f ucd old.taken new.taken
@@ -172,10 +118,11 @@ module _ (law : FinishedStays) (f : Form) (policy : Policy) (once : ChangesOnce 
 
       by : (r : Result Tally Found) → finished policy ucd 0 (bytes_of driven.taken) ≡ r → AddsWhatStays f ucd old.taken new.taken
       by (Ok tally) is = (puts.out, puts.given, subst (StaysAsItIs f ucd) puts.behind (law policy f ucd 0 (bytes_of driven.taken) tally once is))
-      by (Err fault) is = let told : None ≡ Some fault = driven.finished end (λ e. cc) ∙ ap result_err is in cc
+      by (Err fault) is = absurd (grind (arith, driven.finished end (λ e. cc)))
 
 pub each_converts_once : FinishedStays → ((f : Form) → ChangesOnce f ucd) → EachConvertsOnce
 each_converts_once law once words before after status f policy done asked zero =
-    let does = rw (found_ok done.found (sym done.ends.status_is ∙ zero)) at done.does in
+    let ok : done.found ≡ no_fault = grind arith in
+    let does = rw ok at done.does in
     ⊎_elim (λ is. ends_once f (Drives 65536 policy f ucd 0 []) (whole_once law f policy (once f)) (rw is at does))
     (λ is. ends_once f (DrivesLines 65536 policy f ucd) (lines_once law f policy (once f)) (rw is at does)) asked
