@@ -24,12 +24,7 @@ onto (suc j) k n acc few h =
     digits_onto_step 16 true n acc k (omega arith) (λ e. omega (arith, h.0)) ∙ onto j (k - 1) (n / 16) (digit n ∷ acc) (omega arith) h.1
 
 six : (n : ℕ) → six_digits n ≡ spell 6 n []
-six n =
-    let two : n / 16 / 16 ≡ n / 0x100 = omega arith in
-    let three : n / 0x100 / 16 ≡ n / 0x1000 = omega arith in
-    let four : n / 0x1000 / 16 ≡ n / 0x10000 = omega arith in
-    let five : n / 0x10000 / 16 ≡ n / 0x100000 = omega arith in
-    rw (two, three, four, five) refl
+six n = grind arith
 
 abbrev pub IsWritten : ℕ → Type 0
 IsWritten n = drop (zeros_before n) (six_digits n) ≡ code_digits n
@@ -44,7 +39,7 @@ written n z j few behind zeros same =
 
 pub code_digits-six : (n : ℕ) → n < 0x110000 → IsWritten n
 code_digits-six n scalar =
-    ⊎_elim (λ one. let zero : n / 16 ≡ 0 = omega arith in written n 2 0 (omega arith) (omega arith) (grind (arith, nat_tests)) (rw zero refl))
+    ⊎_elim (λ one. written n 2 0 (omega arith) (omega arith) (grind (arith, nat_tests)) (grind arith))
     (λ two. ⊎_elim (λ few. let zero : n / 16 / 16 ≡ 0 = omega arith in written n 2 1 (omega arith) (search arith) (grind (arith, nat_tests)) (rw zero refl))
     (λ three. ⊎_elim (λ few. let zero : n / 16 / 16 / 16 ≡ 0 = omega arith in written n 2 2 (omega arith) (search arith) (grind (arith, nat_tests)) (rw zero refl))
     (λ four. ⊎_elim (λ few. written n 2 3 (omega arith) (search arith) (grind (arith, nat_tests)) refl)

@@ -44,15 +44,9 @@ module _ (s : Shape) (off : s.args_override_self ≡ false) (names : Names) (wor
   abbrev rows : List Row
   rows = rows_after s.rules names words
 
-  faults : (walk_fault s names (walk_from nothing_held) words ≡ []) × (below ≡ []) × (settle_fault s.rules s.args_override_self end ≡ [])
+  pub faults : (walk_fault s names (walk_from nothing_held) words ≡ []) × (below ≡ []) × (settle_fault s.rules s.args_override_self end ≡ [])
       × (check_fault s rows has ≡ [])
   faults = grind arith
-
-  pub below_faultless : below ≡ []
-  below_faultless = faults.1
-
-  pub checked : check_fault s rows has ≡ []
-  checked = faults.3
 
   pub walked : EachFits s.rules end.rows × StopsAtNoHelp s.disable_help_subcommand (stop_after s.rules names words)
   walked = each-walk s off names (walk_from nothing_held) words faults.0 (tt, tt)
@@ -63,7 +57,7 @@ module _ (s : Shape) (off : s.args_override_self ≡ false) (names : Names) (wor
 
   is_given-required : s.subcommand_negates_reqs ≡ false → (a : Rule) → IsIn a s.rules → a.required ≡ true → is_given a.id rows ≡ true
   is_given-required lifts a inside required =
-      grind (arith, none_of (λ x. x.required && not (is_given x.id rows)) s.rules a inside (grind (arith, checked)))
+      grind (arith, none_of (λ x. x.required && not (is_given x.id rows)) s.rules a inside (grind (arith, faults)))
 
   module _ (a : Rule) (single : IsSingle a) (only : (x : Rule) → IsIn x s.rules → x.id ≡ a.id → x ≡ a) where
     one_value : (r : Row) → find (λ x. bytes_eq x.id a.id) rows ≡ Some r → Given a rows

@@ -3,7 +3,7 @@ use Rattle.nf_cmd.proofs.Common.{arith, ◌≡◌, ◌∙◌, ◌⊎◌, Bool, t
 use Rattle.clap.specs.Simple.{App, argument_words, built, entered, label_of, names_of, rows_at, new_shape, with_index, filled}
 use Rattle.std.proofs.lemmas.Bool.{cases_Bool}
 use Rattle.nf_cmd.proofs.Rows.{IsIn, IsSingle, find-in, IsNoHelp, StopsAtNoHelp}
-use Rattle.nf_cmd.proofs.LevelRows.{none_of, below_faultless, checked, given, passes, walked}
+use Rattle.nf_cmd.proofs.LevelRows.{none_of, faults, given, passes, walked}
 
 -- what holds of each subcommand that is not help, and whose own words have no fault, holds of the one that is entered
 module _ (P : Option (Text × List Row) → Type 0) (a : App) (words : List Text) (off : a.top.args_override_self ≡ false) (helps : a.top.disable_help_subcommand ≡ false)
@@ -13,8 +13,8 @@ module _ (P : Option (Text × List Row) → Type 0) (a : App) (words : List Text
   enters : P (entered a (stop_after a.top.rules (names_of a) words))
   enters = go (stop_after a.top.rules (names_of a) words)
       (walked a.top off (names_of a) words _ _ none).1
-      (below_faultless a.top off (names_of a) words _ _ none)
-      (grind (arith, checked a.top off (names_of a) words _ _ none))
+      (faults a.top off (names_of a) words _ _ none).1
+      (grind (arith, faults a.top off (names_of a) words _ _ none))
     where
       at : (p : Text × List Text) → IsNoHelp p.0 → (o : Option Shape) → find (λ s. answers_to p.0 (label_of s)) a.subs ≡ o
           → option_map_or (λ s. level_fault s [] nothing_held p.1 false []) o [] ≡ [] → is_some (option_map (λ s. rows_at s p.1) o) ≡ true
@@ -42,10 +42,6 @@ only_first a rest differ x (inr inside) e =
 abbrev pub IsAsked : Option (Text × List Row) → Type 0
 IsAsked found = ((r : Request) × (request_of found ≡ Some r)) ⊎ (lacks_form found ≡ true)
 
--- the names are those of forms
-named : (text : Text) → list_any (λ n. bytes_eq n text) form_names ≡ true → (f : Form) × (form_named text ≡ Some f)
-named text e = grind (arith, bytes_eq-Decides)
-
 module _ (names : Bor (List (Bor Text))) (are : texts names.now ≡ form_names) where
   abbrev converting : Shape
   converting = get_or (built (line names)).subs 0 (new_shape [])
@@ -62,7 +58,9 @@ module _ (names : Bor (List (Bor Text))) (are : texts names.now ≡ form_names) 
 
   value_named : (required : Bool) (text : Text) → value_passes (form required) text ≡ true → (f : Form) × (form_named text ≡ Some f)
   unfolding form_rule
-  value_named required text e = named text (sym (list_any-map (λ n. bytes_eq n text) (λ (n : Bor Text). n.now) names.now ∙ ap (list_any (λ n. bytes_eq n text)) are) ∙ e)
+  value_named required text e =
+      let named : list_any (λ n. bytes_eq n text) form_names ≡ true = sym (list_any-map (λ n. bytes_eq n text) (λ (n : Bor Text). n.now) names.now ∙ ap (list_any (λ n. bytes_eq n text)) are) ∙ e in
+      grind (arith, named, bytes_eq-Decides)
 
   converts : (words : List Text) → level_fault converting [] nothing_held words false [] ≡ [] → IsAsked (Some (converting.name, rows_after converting.rules [] words))
   unfolding line check convert form_rule flag_rule
@@ -108,11 +106,9 @@ module _ {a : App} (is : IsLine a) where
   module _ {words : List Text} {k : ErrorKind} where
     -- where they ask for nothing, it is a form that is lacking
     pub line_lacks : fault_of a words ≡ [] → request_of (subcommand_of a words) ≡ None → k ≡ MissingRequiredArgument → IsRefusal words k
-    line_lacks none nothing kind = by (subst (λ x. IsAsked (subcommand_of x words)) (sym is.2) (asked is.0 is.1 words (rw is.2 at none)))
-      where
-        by : IsAsked (subcommand_of a words) → IsRefusal words k
-        by (inl asks) = cc
-        by (inr lacks) = inr (inr (record { app = a; is_line = is; faultless = none; lacks = lacks; kind = kind }))
+    line_lacks none nothing kind = ⊎_elim (λ asks. cc)
+        (λ lacks. inr (inr (record { app = a; is_line = is; faultless = none; lacks = lacks; kind = kind })))
+        (subst (λ x. IsAsked (subcommand_of x words)) (sym is.2) (asked is.0 is.1 words (rw is.2 at none)))
 
     -- an error of the parse is a refusal
     pub line_refused : (takes a words ≡ true → k ≡ OutOfMemory) → (k ≡ OutOfMemory) ⊎ IsAmong k (fault_of a words) → IsRefusal words k
