@@ -40,8 +40,8 @@ written n z j few behind zeros same =
 pub code_digits-six : (n : ℕ) → n < 0x110000 → IsWritten n
 code_digits-six n scalar =
     ⊎_elim (λ one. written n 2 0 (omega arith) (omega arith) (grind (arith, nat_tests)) (grind arith))
-    (λ two. ⊎_elim (λ few. let zero : n / 16 / 16 ≡ 0 = omega arith in written n 2 1 (omega arith) (search arith) (grind (arith, nat_tests)) (rw zero refl))
-    (λ three. ⊎_elim (λ few. let zero : n / 16 / 16 / 16 ≡ 0 = omega arith in written n 2 2 (omega arith) (search arith) (grind (arith, nat_tests)) (rw zero refl))
+    (λ two. ⊎_elim (λ few. written n 2 1 (omega arith) (search arith) (grind (arith, nat_tests)) (grind arith))
+    (λ three. ⊎_elim (λ few. written n 2 2 (omega arith) (search arith) (grind (arith, nat_tests)) (grind arith))
     (λ four. ⊎_elim (λ few. written n 2 3 (omega arith) (search arith) (grind (arith, nat_tests)) refl)
     (λ five. ⊎_elim (λ few. written n 1 4 (omega arith) (search arith) (grind (arith, nat_tests)) refl)
     (λ many. written n 0 5 (omega arith) (search arith) (grind (arith, nat_tests)) refl)

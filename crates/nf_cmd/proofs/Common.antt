@@ -28,4 +28,3 @@ pub use Rattle.nf_cmd.specs.Text.{six_digits, zeros_before}
 pub use Rattle.nf_cmd.specs.declared.line.Request.{Request}
 pub use Rattle.nf_cmd.specs.declared.line.Request.TheVariants.{Convert, ConvertLines, Check, CheckForm, Measure, Test}
 pub use Rattle.nf_forms.specs.declared.form.Form.{Form}
-pub use Rattle.nf_forms.specs.declared.form.Form.TheVariants.{Nfc, Nfd}

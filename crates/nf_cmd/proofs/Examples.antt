@@ -1,5 +1,6 @@
 -- What some command lines ask for.
-use Rattle.nf_cmd.proofs.Common.{◌≡◌, refl, true, false, List, [], ◌∷◌, Some, codes, Bor, Text, walked, subcommand_of, Nfc, Nfd, Request, Convert, ConvertLines, Check, CheckForm, check, convert, flag_rule, form_rule, lacks_form, line, request_of}
+use Rattle.nf_cmd.proofs.Common.{◌≡◌, refl, true, false, List, [], ◌∷◌, Some, codes, Bor, Text, walked, subcommand_of, Request, Convert, ConvertLines, Check, CheckForm, check, convert, flag_rule, form_rule, lacks_form, line, request_of}
+use Rattle.nf_forms.specs.declared.form.Form.TheVariants.{Nfc, Nfd}
 
 module _ (names : Bor (List (Bor Text))) where
   -- each of these words, behind the program's name, ask for their request

@@ -1,6 +1,6 @@
 -- What a level without a fault ends with: the value of an option of one value, which is there where it is required.
-use Rattle.nf_cmd.proofs.Common.{arith, ◌≡◌, ◌∙◌, ◌&&◌, Bool, true, false, not, refl, sym, ap, subst, List, [], ◌∷◌, fold, Option, Some, None, inl, inr, find, bytes_eq, list_any, option_map_or, bytes_eq-Decides, DefaultValue, explicit_source, Kinds, is_given, value_passes, Held, Names, Row, Rule, Text, has_row, reading_by, settled, default_rows, first_of, nothing_held, stop_after, rows_after, walk, walk_from, with_default, Shape, level_fault, check_fault, settle_fault, walk_fault}
-use Rattle.std.proofs.lemmas.Bool.{cond_both, or_parts}
+use Rattle.nf_cmd.proofs.Common.{arith, ◌≡◌, ◌∙◌, ◌&&◌, Bool, true, false, not, refl, sym, subst, List, [], ◌∷◌, fold, Option, Some, None, inl, inr, find, bytes_eq, list_any, option_map_or, bytes_eq-Decides, DefaultValue, explicit_source, Kinds, is_given, value_passes, Held, Names, Row, Rule, Text, has_row, reading_by, settled, default_rows, first_of, nothing_held, stop_after, rows_after, walk, walk_from, with_default, Shape, level_fault, check_fault, settle_fault, walk_fault}
+use Rattle.std.proofs.lemmas.Bool.{cond_both}
 use Rattle.std.proofs.lemmas.Option.{option_and_then_some}
 use Rattle.nf_cmd.proofs.Rows.{IsIn, IsSingle, Fits, EachFits, each-with_values, find-in, StopsAtNoHelp}
 use Rattle.nf_cmd.proofs.WalkRows.{each-settled, each-walk}
@@ -22,8 +22,7 @@ each-defaults c (x ∷ xs) inside rows f =
 
 pub none_of : (p : Rule → Bool) (c : List Rule) (a : Rule) → IsIn a c → list_any p c ≡ false → p a ≡ false
 none_of p [] a inside e = absurd inside
-none_of p (x ∷ xs) a (inl same) e = ap p same ∙ (or_parts (p x) _ e).0
-none_of p (x ∷ xs) a (inr inside) e = none_of p xs a inside (or_parts (p x) _ e).1
+none_of p (x ∷ xs) a inside e = grind (arith, none_of p xs a)
 
 each-in : (c : List Rule) (rows : List Row) (r : Row) → EachFits c rows → IsIn r rows → Fits c r
 each-in c [] r f inside = absurd inside
@@ -55,10 +54,6 @@ module _ (s : Shape) (off : s.args_override_self ≡ false) (names : Names) (wor
   each-row = each-defaults s.rules s.rules (λ a i. i) (settled s.rules end).rows
       (each-settled s.rules end (rw off at faults.2) walked.0)
 
-  is_given-required : s.subcommand_negates_reqs ≡ false → (a : Rule) → IsIn a s.rules → a.required ≡ true → is_given a.id rows ≡ true
-  is_given-required lifts a inside required =
-      grind (arith, none_of (λ x. x.required && not (is_given x.id rows)) s.rules a inside (grind (arith, faults)))
-
   module _ (a : Rule) (single : IsSingle a) (only : (x : Rule) → IsIn x s.rules → x.id ≡ a.id → x ≡ a) where
     one_value : (r : Row) → find (λ x. bytes_eq x.id a.id) rows ≡ Some r → Given a rows
     one_value r e =
@@ -72,7 +67,8 @@ module _ (s : Shape) (off : s.args_override_self ≡ false) (names : Names) (wor
     passes text first = option_and_then_some _ _ text first (λ r e _. let one = one_value r e in cc)
 
     pub given : s.subcommand_negates_reqs ≡ false → IsIn a s.rules → a.required ≡ true → Given a rows
-    given lifts inside required = go (find (λ r. bytes_eq r.id a.id) rows) refl (is_given-required lifts a inside required)
+    given lifts inside required = go (find (λ r. bytes_eq r.id a.id) rows) refl
+        (grind (arith, none_of (λ x. x.required && not (is_given x.id rows)) s.rules a inside (grind (arith, faults))))
       where
         go : (o : Option Row) → find (λ x. bytes_eq x.id a.id) rows ≡ o → option_map_or (λ (r : Row). explicit_source r.source) o false ≡ true → Given a rows
         go None e h = cc

@@ -28,15 +28,9 @@ module _ (P : Option (Text × List Row) → Type 0) (a : App) (words : List Text
 
 -- ---- this program's line
 
-pub simple_and_free : (names : Bor (List (Bor Text))) → is_simple_and_free (line names) ≡ true
-unfolding line check convert form_rule flag_rule
-simple_and_free names = refl
-
 -- where no other rule has its id, the first is the one of that id
 only_first : (a : Rule) (rest : List Rule) → list_any (λ r. bytes_eq a.id r.id) rest ≡ false → (x : Rule) → IsIn x (a ∷ rest) → x.id ≡ a.id → x ≡ a
-only_first a rest differ x (inl same) e = same
-only_first a rest differ x (inr inside) e =
-    cc ((bytes_eq-Decides a.id x.id).1 (sym e), none_of (λ r. bytes_eq a.id r.id) rest x inside differ)
+only_first a rest differ x inside e = grind (arith, none_of (λ r. bytes_eq a.id r.id) rest x, bytes_eq-Decides a.id x.id)
 
 -- what a subcommand's words come to: a request, or that a form is lacking
 abbrev pub IsAsked : Option (Text × List Row) → Type 0
@@ -60,7 +54,7 @@ module _ (names : Bor (List (Bor Text))) (are : texts names.now ≡ form_names) 
   unfolding form_rule
   value_named required text e =
       let named : list_any (λ n. bytes_eq n text) form_names ≡ true = sym (list_any-map (λ n. bytes_eq n text) (λ (n : Bor Text). n.now) names.now ∙ ap (list_any (λ n. bytes_eq n text)) are) ∙ e in
-      grind (arith, named, bytes_eq-Decides)
+      grind (arith, bytes_eq-Decides)
 
   converts : (words : List Text) → level_fault converting [] nothing_held words false [] ≡ [] → IsAsked (Some (converting.name, rows_after converting.rules [] words))
   unfolding line check convert form_rule flag_rule
@@ -101,7 +95,8 @@ module _ (names : Bor (List (Bor Text))) (are : texts names.now ≡ form_names) 
 
 module _ {a : App} (is : IsLine a) where
   pub line_simple : is_simple_and_free a ≡ true
-  line_simple = ap is_simple_and_free is.2 ∙ simple_and_free is.0
+  unfolding line check convert form_rule flag_rule
+  line_simple = rw is.2
 
   module _ {words : List Text} {k : ErrorKind} where
     -- where they ask for nothing, it is a form that is lacking

@@ -1,7 +1,7 @@
 -- Rows that fit the rules of one level, for an option of one value one that passes, and subcommands that are not help.
-use Rattle.nf_cmd.proofs.Common.{◌≡◌, ◌∙◌, ◌⊎◌, Bool, true, false, refl, sym, ap, min, ◌+◌, append-nil, arith, List, [], ◌∷◌, ◌++◌, length, Some, None, eqb-true, bytes_eq, bytes_eq-Decides, CommandLine, unwrap_or_range, value_passes, Row, Rule, Text, has_row, reading_by, action_fault, use_fault, values_fault, find, inl, inr, Option, codes, Step, subcommand}
+use Rattle.nf_cmd.proofs.Common.{◌≡◌, ◌∙◌, ◌⊎◌, Bool, true, false, refl, sym, min, ◌+◌, append-nil, arith, List, [], ◌∷◌, ◌++◌, length, Some, None, eqb-true, bytes_eq, bytes_eq-Decides, CommandLine, unwrap_or_range, value_passes, Row, Rule, Text, has_row, reading_by, action_fault, use_fault, values_fault, find, Option, codes, Step, subcommand}
 use Rattle.clap.specs.Walk.{action_of, at_row, count_of, counted, more_values, most_values, new_count, used, used_as, values_or_missing, with_values, without}
-use Rattle.std.proofs.lemmas.Bool.{cond_both, cond-false, or_parts}
+use Rattle.std.proofs.lemmas.Bool.{cond_both}
 use Rattle.clap.specs.declared.builder.action.ArgAction.{ArgAction}
 use Rattle.clap.specs.declared.builder.action.ArgAction.TheVariants.{Set, Append, SetTrue, SetFalse, Count}
 use Rattle.clap.specs.declared.builder.value_parser.Reading.{Reading}
@@ -15,8 +15,7 @@ IsIn a (x ∷ xs) = (a ≡ x) ⊎ IsIn a xs
 -- what is found is one of them, and passes
 pub find-in : {X : Type 0} (p : X → Bool) (xs : List X) (a : X) → find p xs ≡ Some a → IsIn a xs × (p a ≡ true)
 find-in p [] a e = cc
-find-in p (x ∷ xs) a e = cond_both (p x) (Some x) (find p xs) (λ o. o ≡ Some a → IsIn a (x ∷ xs) × (p a ≡ true))
-    (λ t h. let same : a ≡ x = cc in (inl same, ap p same ∙ t)) (λ t h. let found = find-in p xs a h in (inr found.0, found.1)) e
+find-in p (x ∷ xs) a e = grind (arith, find-in p xs a)
 
 -- an option that takes one value and has no default
 pub record IsSingle (a : Rule) : Type 0 where
@@ -70,8 +69,7 @@ each-without c id rows f = each-at_row c id (λ _. []) [] rows f (λ r e. tt) tt
 -- where the id has no row, the row that was missing goes to the end
 new_row : (id : Text) (change : Row → List Row) (missing : List Row) (rows : List Row) → has_row id rows ≡ false → at_row id change missing rows ≡ rows ++ missing
 new_row id change missing [] none = refl
-new_row id change missing (r ∷ rs) none = let parts = or_parts (bytes_eq r.id id) _ none in
-    cond-false (bytes_eq r.id id) _ _ parts.0 ∙ ap (λ xs. r ∷ xs) (new_row id change missing rs parts.1)
+new_row id change missing (r ∷ rs) none = grind (arith, new_row id change missing rs)
 
 -- ---- one use of an argument
 

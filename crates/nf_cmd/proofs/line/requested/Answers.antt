@@ -1,4 +1,4 @@
-use Rattle.nf_cmd.proofs.Common.{◌≡◌, ◌∙◌, ap, sym, codes, List, Option, Some, None, option_map, Box, box_value, found_of, Row, Text, rows_of, subcommand_rows, first_value-rows, request_by, request_of}
+use Rattle.nf_cmd.proofs.Common.{arith, ◌≡◌, ◌∙◌, ap, sym, codes, List, Option, Some, option_map, Box, box_value, found_of, Row, Text, rows_of, subcommand_rows, first_value-rows, request_by, request_of}
 use Rattle.clap.specs.declared.parser.matches.SubCommand.{SubCommand}
 use Rattle.clap.specs.declared.parser.matches.ArgMatches.TheViews.{out-SubCommand}
 use Rattle.nf_cmd.proofs.line.requested.Goals as goal
@@ -6,8 +6,7 @@ use Rattle.nf_cmd.proofs.line.requested.Goals as goal
 -- the subcommand by its name and its rows
 rows_named : {Z : Type 0} (sub : Option (Box SubCommand Z)) (name : Text) (rows : List Row) → Some name ≡ option_map (λ b. (out-SubCommand (box_value b)).name.now) sub
     → Some rows ≡ option_map (λ p. p.1) (subcommand_rows sub) → subcommand_rows sub ≡ Some (name, rows)
-rows_named None name rows e f = cc
-rows_named (Some b) name rows e f = cc
+rows_named sub name rows e f = grind arith
 
 pub returns : goal.returns
 returns c =
