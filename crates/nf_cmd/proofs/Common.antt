@@ -1,7 +1,7 @@
 -- The names that most of these proofs cite, passed on from one place. Declares nothing.
 pub use Rattle.std.proofs.Common.{⊎_elim, get_or, ◌≡◌, ℕ, List, [], Option, Some, None, Result, Ok, Err, inl, inr, sym, ap, ◌∙◌, subst, ◌⊎◌, refl, arith, zero, suc, ◌-◌, ◌/◌, ◌%◌, ◌<◌, ◌≤◌, true, cond, ◌∷◌, ◌++◌, drop, length, replicate, false, codes, Bor, ◌&&◌, Bool, not, fold, find, slice_get, bytes_eq, is_some, option_map, ap₂, min, ◌+◌, append-nil, eqb-true, IsTrue, OnOk, encode_utf8, chars, rules, Box, box_value, is_ok, take, take-append-drop, take-add}
 pub use Rattle.std.proofs.KnownBytes.{Appends-nil, Keeps-refl, Appends-kept, Appends-trans}
-pub use Rattle.std.proofs.lemmas.Bool.{cases_lt, not-false}
+pub use Rattle.std.proofs.lemmas.Bool.{cond_both, cases_Bool, cases_lt, not-false}
 pub use Rattle.std.proofs.lemmas.Result.{IfOk-weaker}
 pub use Rattle.std.proofs.lemmas.Slice.Eq.{bytes_eq-Decides}
 pub use Rattle.std.specs.Io.KnownBytes.{Appends, Keeps}

@@ -1,6 +1,5 @@
 -- What a level without a fault ends with: the value of an option of one value, which is there where it is required.
-use Rattle.nf_cmd.proofs.Common.{arith, ◌≡◌, ◌∙◌, ◌&&◌, Bool, true, false, not, refl, sym, subst, List, [], ◌∷◌, fold, Option, Some, None, inl, inr, find, bytes_eq, list_any, option_map_or, bytes_eq-Decides, DefaultValue, explicit_source, Kinds, is_given, value_passes, Held, Names, Row, Rule, Text, has_row, reading_by, settled, default_rows, first_of, nothing_held, stop_after, rows_after, walk, walk_from, with_default, Shape, level_fault, check_fault, settle_fault, walk_fault}
-use Rattle.std.proofs.lemmas.Bool.{cond_both}
+use Rattle.nf_cmd.proofs.Common.{cond_both, arith, ◌≡◌, ◌∙◌, ◌&&◌, Bool, true, false, not, refl, sym, subst, List, [], ◌∷◌, fold, Option, Some, None, inl, inr, find, bytes_eq, list_any, option_map_or, bytes_eq-Decides, DefaultValue, explicit_source, Kinds, is_given, value_passes, Held, Names, Row, Rule, Text, has_row, reading_by, settled, default_rows, first_of, nothing_held, stop_after, rows_after, walk, walk_from, with_default, Shape, level_fault, check_fault, settle_fault, walk_fault}
 use Rattle.std.proofs.lemmas.Option.{option_and_then_some}
 use Rattle.nf_cmd.proofs.Rows.{IsIn, IsSingle, Fits, EachFits, each-with_values, find-in, StopsAtNoHelp}
 use Rattle.nf_cmd.proofs.WalkRows.{each-settled, each-walk}

@@ -1,7 +1,6 @@
 -- Words in which clap finds no fault ask for something, or are `check` that lacks a form.
-use Rattle.nf_cmd.proofs.Common.{arith, ◌≡◌, ◌∙◌, ◌⊎◌, Bool, true, false, refl, sym, ap, subst, List, [], ◌∷◌, drop, Option, Some, None, inl, inr, codes, is_some, find, option_map, Bor, bytes_eq, list_any, option_map_or, bytes_eq-Decides, ErrorKind, MissingRequiredArgument, OutOfMemory, IsAmong, takes, value_passes, Row, Rule, Text, answers_to, first_of, nothing_held, rows_after, stop_after, texts, Shape, subcommand_of, built_fault, entered_fault, fault_of, is_simple_and_free, level_fault, list_any-map, Form, Request, Check, CheckForm, Measure, Test, IsLine, IsRefusal, check, conversion, convert, flag_rule, form_named, form_names, form_rule, is_set, lacks_form, line, policy_of, request_of, ⊎_elim, get_or}
+use Rattle.nf_cmd.proofs.Common.{cases_Bool, arith, ◌≡◌, ◌∙◌, ◌⊎◌, Bool, true, false, refl, sym, ap, subst, List, [], ◌∷◌, drop, Option, Some, None, inl, inr, codes, is_some, find, option_map, Bor, bytes_eq, list_any, option_map_or, bytes_eq-Decides, ErrorKind, MissingRequiredArgument, OutOfMemory, IsAmong, takes, value_passes, Row, Rule, Text, answers_to, first_of, nothing_held, rows_after, stop_after, texts, Shape, subcommand_of, built_fault, entered_fault, fault_of, is_simple_and_free, level_fault, list_any-map, Form, Request, Check, CheckForm, Measure, Test, IsLine, IsRefusal, check, conversion, convert, flag_rule, form_named, form_names, form_rule, is_set, lacks_form, line, policy_of, request_of, ⊎_elim, get_or}
 use Rattle.clap.specs.Simple.{App, argument_words, built, entered, label_of, names_of, rows_at, new_shape, with_index, filled}
-use Rattle.std.proofs.lemmas.Bool.{cases_Bool}
 use Rattle.nf_cmd.proofs.Rows.{IsIn, IsSingle, find-in, IsNoHelp, StopsAtNoHelp}
 use Rattle.nf_cmd.proofs.LevelRows.{none_of, faults, given, passes, walked}
 

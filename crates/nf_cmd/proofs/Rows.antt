@@ -1,7 +1,6 @@
 -- Rows that fit the rules of one level, for an option of one value one that passes, and subcommands that are not help.
-use Rattle.nf_cmd.proofs.Common.{◌≡◌, ◌∙◌, ◌⊎◌, Bool, true, false, refl, sym, min, ◌+◌, append-nil, arith, List, [], ◌∷◌, ◌++◌, length, Some, None, eqb-true, bytes_eq, bytes_eq-Decides, CommandLine, unwrap_or_range, value_passes, Row, Rule, Text, has_row, reading_by, action_fault, use_fault, values_fault, find, Option, codes, Step, subcommand}
+use Rattle.nf_cmd.proofs.Common.{cond_both, ◌≡◌, ◌∙◌, ◌⊎◌, Bool, true, false, refl, sym, min, ◌+◌, append-nil, arith, List, [], ◌∷◌, ◌++◌, length, Some, None, eqb-true, bytes_eq, bytes_eq-Decides, CommandLine, unwrap_or_range, value_passes, Row, Rule, Text, has_row, reading_by, action_fault, use_fault, values_fault, find, Option, codes, Step, subcommand}
 use Rattle.clap.specs.Walk.{action_of, at_row, count_of, counted, more_values, most_values, new_count, used, used_as, values_or_missing, with_values, without}
-use Rattle.std.proofs.lemmas.Bool.{cond_both}
 use Rattle.clap.specs.declared.builder.action.ArgAction.{ArgAction}
 use Rattle.clap.specs.declared.builder.action.ArgAction.TheVariants.{Set, Append, SetTrue, SetFalse, Count}
 use Rattle.clap.specs.declared.builder.value_parser.Reading.{Reading}

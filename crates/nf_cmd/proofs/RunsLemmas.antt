@@ -1,6 +1,6 @@
 -- What a run shows: its parts put together, no fault of an unsound character where none of the data is one, and that what `convert`
 -- wrote to the end without a fault is not changed by a second run.
-use Rattle.nf_cmd.proofs.Common.{◌≡◌, ℕ, Bool, true, false, List, [], Option, Some, Result, Ok, Err, inl, inr, subst, ◌⊎◌, ⊎_elim, refl, IsTrue, OnOk, Appends-kept, Form, Convert, ConvertLines, Check, CheckForm, Measure, Test, arith, Keeps, Appends-nil, ErrorKind, DisplayHelp, Text, Request, line_of, Asks, IsRefusal, IsRefused}
+use Rattle.nf_cmd.proofs.Common.{cases_Bool, ◌≡◌, ℕ, Bool, false, List, [], Option, Some, Result, Ok, Err, inl, inr, subst, ◌⊎◌, ⊎_elim, refl, IsTrue, OnOk, Appends-kept, Form, Convert, ConvertLines, Check, CheckForm, Measure, Test, arith, Keeps, Appends-nil, ErrorKind, DisplayHelp, Text, Request, line_of, Asks, IsRefusal, IsRefused}
 use Rattle.nf_cmd.specs.Answers.{Does, Answers, ComesOf, Devices, NeverRow}
 use Rattle.nf_cmd.specs.Lines.{status_of}
 use Rattle.nf_cmd.specs.declared.fault.Fault.{Fault}
@@ -11,15 +11,12 @@ use Rattle.nf_filter.specs.declared.tally.Tally.{Tally}
 use Rattle.nf_forms.specs.Ucd.{ucd}
 use Rattle.nf_lines.specs.Drives.{bytes_of, DrivesLines}
 use Rattle.nf_forms.specs.Twice.{ChangesOnce}
-use Rattle.nf_safe.specs.declared.place.Place.{Place}
 use Rattle.nf_filter.specs.declared.fault.Fault.{Fault as Found}
 use Rattle.nf_filter.specs.declared.fault.Fault.TheVariants as found
 use Rattle.nf_filter.specs.Laws.Soundness.{AreSound, DrivingRefusesNone, CheckingRefusesNone, MeasuringRefusesNone}
 use Rattle.nf_filter.specs.Writes.{Puts}
 use Rattle.nf_filter.specs.Finishes.{end_of as finished, final_utf8}
 use Rattle.nf_filter.specs.Again.{StaysAsItIs, AddsWhatStays, FinishedStays}
-use Rattle.nf_filter.specs.Checks.{place_or_fault}
-use Rattle.nf_filter.specs.Faults.{fault_in}
 use Rattle.nf_filter.proofs.WritesLemmas.{Puts-at}
 use Rattle.nf_filter.proofs.AgainLemmas.{drives_once, adds_what_stays}
 use Rattle.nf_filter.proofs.SoundnessLemmas.{not_a_fault, not_in_end, not_surveyed}
@@ -65,20 +62,16 @@ module _ (sound : AreSound ucd) (at : ℕ) where
   -- by driving line by line
   lines_row : {policy : Policy} {f : Form} {source rest : SourceState} {old new : SinkState} {answer : Result (Unit {0}) Found}
       → DrivesLines 65536 policy f ucd source rest old new answer → ¬ (answer ≡ Err (found.Row at))
-  lines_row {policy} {rest = rest} drives row = by rest.is_at_end refl
-    where
-      by : (b : Bool) → rest.is_at_end ≡ b → ⊥
-      by true end = not_in_end ucd sound 0 at policy (bytes_of drives.taken) (grind (arith, drives.finished end (λ e. cc)))
-      by false end = not_a_fault ucd sound 0 at policy (bytes_of drives.taken) (grind (arith, drives.stopped end (λ e. cc) (λ e. cc) (λ e. cc)))
+  lines_row {policy} {rest = rest} drives row = ⊎_elim
+      (λ end. not_in_end ucd sound 0 at policy (bytes_of drives.taken) (grind (arith, drives.finished end (λ e. cc))))
+      (λ end. not_a_fault ucd sound 0 at policy (bytes_of drives.taken) (grind (arith, drives.stopped end (λ e. cc) (λ e. cc) (λ e. cc))))
+      (cases_Bool rest.is_at_end)
 
   -- by checking a form
   form_row : {coming left taken now : Option (List ℕ)} {ended : Result ℕ Fault} (f : Form) (assigned : Bool) → ChecksForm f assigned coming left taken now ended → ¬ (ended ≡ Err (Row at))
   unfolding form_decision
   form_row f assigned does row =
-      not_surveyed 65536 0 at (form_decision assigned f 0) (form_value f 0) _ _ _ (λ bytes. undecided bytes _) does.surveyed.surveys (grind arith)
-    where
-      undecided : (bytes : List ℕ) (place : Option Place) → ¬ (place_or_fault place (fault_in (under assigned) ucd 0 bytes) ≡ Some (Err (found.Row at)))
-      undecided bytes place e = grind (arith, not_a_fault ucd sound 0 at (under assigned) bytes)
+      not_surveyed 65536 0 at (form_decision assigned f 0) (form_value f 0) _ _ _ (λ bytes e. grind (arith, not_a_fault ucd sound 0 at (under assigned) bytes)) does.surveyed.surveys (grind arith)
 
 pub never_row : DrivingRefusesNone → CheckingRefusesNone → MeasuringRefusesNone → AreSound ucd → NeverRow
 never_row driving checking measuring sound (Convert form policy) before after ended does at row = driving _ _ _ _ _ _ _ _ _ _ _ sound does.runs.driven at (grind arith)

@@ -1,12 +1,11 @@
 -- A word, and a walk over words, in which there is no fault leave rows that fit; where help is on the subcommand that is met, or at
 -- which the walk stops, is not help.
-use Rattle.nf_cmd.proofs.Common.{arith, ◌≡◌, ◌&&◌, ℕ, Bool, cond, true, false, zero, suc, refl, List, [], ◌∷◌, length, drop, Option, Some, None, encode_utf8, find, slice_get, is_some, chars, option_map_or, Kinds, or_else, Held, Row, Rule, Text, settled, settle_fault, use_fault, Step, fold, bytes_eq, Names, subcommand, walked, Shape, walk_fault}
+use Rattle.nf_cmd.proofs.Common.{cond_both, arith, ◌≡◌, ◌&&◌, ℕ, Bool, cond, true, false, zero, suc, refl, List, [], ◌∷◌, length, drop, Option, Some, None, encode_utf8, find, slice_get, is_some, chars, option_map_or, Kinds, or_else, Held, Row, Rule, Text, settled, settle_fault, use_fault, Step, fold, bytes_eq, Names, subcommand, walked, Shape, walk_fault}
 unfoldable use Rattle.clap.specs.Faults.{flags_fault}
 use Rattle.clap.specs.Faults.{other_fault, step_fault, turn_fault, word_fault, flag_word_fault, positional_fault, stray_fault, bundle_fault, bundle_step_fault, long_fault, option_fault, react_fault, short_fault}
 use Rattle.clap.specs.Lexer.{long_of, short_of}
 unfoldable use Rattle.clap.specs.Walk.{bundle_met}
 use Rattle.clap.specs.Walk.{Outcome, Waiting, Walk, after_flag, after_step, arg_by_index, done, plain, waits, long_or_other, next, option, plain_word, short_or_plain, subcommand_met, subcommand_or_other, to_positional, trailing, value, walked_from, word_met, arg_by_id, arg_by_long, arg_by_short, attached_value, bundle, bundle_step, flag_met, is_pending, long_met, option_met, option_word, positional_held, reacted, settled_rows, short_met, takes_several, takes_values, used_by_id}
-use Rattle.std.proofs.lemmas.Bool.{cond_both}
 use Rattle.clap.specs.declared.error.kind.ErrorKind.TheVariants as kind
 use Rattle.nf_cmd.proofs.Rows.{IsIn, EachFits, each-used, find-in, StepsToNoHelp, StopsAtNoHelp}
 
