@@ -8,7 +8,7 @@ use Rattle.nf_cmd.proofs.LevelRows.{none_of, faults, given, passes, walked}
 module _ (P : Option (Text × List Row) → Type 0) (a : App) (words : List Text) (off : a.top.args_override_self ≡ false) (helps : a.top.disable_help_subcommand ≡ false)
     (needs : a.top.subcommand_required ≡ true) (none : built_fault a nothing_held words ≡ [])
     (each : (s : Shape) → IsIn s a.subs → (name : Text) → answers_to name (label_of s) ≡ true → IsNoHelp name
-        → (left : List Text) → level_fault s [] nothing_held left false [] ≡ [] → P (Some (s.name, rows_after s.rules [] left))) where
+    → (left : List Text) → level_fault s [] nothing_held left false [] ≡ [] → P (Some (s.name, rows_after s.rules [] left))) where
   enters : P (entered a (stop_after a.top.rules (names_of a) words))
   enters = go (stop_after a.top.rules (names_of a) words)
       (walked a.top off (names_of a) words _ _ none).1
@@ -87,6 +87,7 @@ module _ (names : Bor (List (Bor Text))) (are : texts names.now ≡ form_names) 
       of s (inr (inl same)) name answers helpless left = rw same (checks left)
       of s (inr (inr (inl same))) name answers helpless left = rw same (λ below. inl (Measure, refl))
       of s (inr (inr (inr (inl same)))) name answers helpless left = rw same (λ below. inl (Test, refl))
+      -- help answers to its own name alone
       of s (inr (inr (inr (inr (inl same))))) name answers helpless left = let help = rw same at answers in absurd (grind (arith, bytes_eq-Decides (codes "help") name))
       of s (inr (inr (inr (inr (inr bad))))) name answers helpless left = absurd bad
 
