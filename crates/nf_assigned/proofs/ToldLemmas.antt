@@ -3,6 +3,7 @@ use Rattle.std.proofs.Common.{◌≡◌, ℕ, ◌+◌, ◌*◌, ◌≤◌, Bool,
 use Rattle.nf_forms.specs.Ucd.{is_assigned}
 use Rattle.nf_facts.specs.Within.{lies_within, in_ranges-lies_within}
 use Rattle.ucd_table.proofs.TrieCheck.{all_below}
+use Rattle.nf_lanes.specs.Looks.{finds}
 use Rattle.nf_lanes.proofs.LooksLemmas.{Tells}
 use Rattle.nf_assigned.specs.declared.pairs.TheConstants.{LOOKS}
 use Rattle.nf_assigned.proofs.RangeLemmas.{told_ranges, told-assigned}
@@ -14,7 +15,7 @@ lies : (first last c : ℕ) → within first last ≡ true → first ≤ c → c
 lies first last c e low high = told-assigned c (in_ranges-lies_within told_ranges first last c e low high)
 
 -- so of a character that no pair finds
-pub tells : Tells LOOKS 0xCD 0x340 (λ c. is_assigned c ≡ true)
+pub tells : Tells (finds LOOKS) 0xCD 0x340 (λ c. is_assigned c ≡ true)
 unfolding told_ranges all_below
 tells = record {
   whole = λ b. within (64 * b) (64 * b + 63);

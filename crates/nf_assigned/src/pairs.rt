@@ -2,29 +2,28 @@
 //!
 //! Most pairs are a lead byte and its second. The third byte is asked by pairs of the last two, where a block of 64 code
 //! points is much used and has few holes: 81 before 80, for U+3040, 82 before 97 and 98, for U+3097 and U+3098, and BC before
-//! 80, for U+FF00. Eight sets cannot tell all that is assigned; the second family tells most of what the first leaves.
+//! 80, for U+FF00. Eight sets cannot tell all that is assigned: the first family tells most of what is written, but for Hebrew,
+//! and the second most of what that leaves.
 
 use nf_lanes::{Looks, Pairs};
 
 pub(crate) static LOOKS: Looks = Looks {
     first: Pairs {
-        first_high: [0, 0, 0, 0, 0, 0, 0, 0, 128, 0, 0, 136, 8, 222, 39, 66],
-        first_low: [
-            71, 245, 215, 66, 64, 80, 128, 18, 0, 0, 32, 80, 144, 28, 58, 19,
-        ],
-        next_high: [0, 0, 0, 0, 0, 0, 0, 0, 219, 228, 125, 94, 0, 0, 0, 0],
+        first_high: [0, 0, 0, 0, 0, 0, 0, 0, 132, 0, 0, 128, 68, 8, 55, 239],
+        first_low: [83, 227, 31, 56, 8, 8, 8, 72, 64, 0, 33, 0, 136, 76, 121, 57],
+        next_high: [0, 0, 0, 0, 0, 0, 0, 0, 217, 109, 107, 90, 0, 0, 0, 0],
         next_low: [
-            236, 109, 108, 109, 98, 98, 102, 227, 235, 107, 99, 123, 117, 125, 85, 111,
+            238, 75, 106, 75, 120, 120, 122, 126, 126, 123, 121, 121, 11, 107, 95, 63,
         ],
     },
     second: Pairs {
-        first_high: [0, 0, 0, 0, 0, 0, 0, 0, 28, 108, 58, 130, 85, 160, 31, 119],
+        first_high: [0, 0, 0, 0, 0, 0, 0, 0, 161, 177, 73, 17, 147, 183, 61, 255],
         first_low: [
-            95, 71, 75, 88, 215, 52, 224, 104, 6, 23, 243, 6, 34, 33, 188, 49,
+            111, 165, 233, 239, 52, 244, 232, 3, 222, 100, 174, 112, 27, 90, 188, 191,
         ],
-        next_high: [0, 0, 0, 0, 0, 0, 0, 0, 118, 125, 123, 227, 0, 0, 0, 0],
+        next_high: [0, 0, 0, 0, 0, 0, 0, 0, 247, 244, 173, 47, 0, 0, 0, 0],
         next_low: [
-            238, 238, 118, 214, 213, 101, 118, 121, 121, 101, 109, 229, 237, 101, 245, 237,
+            122, 160, 168, 116, 76, 122, 226, 142, 206, 142, 78, 235, 157, 185, 87, 85,
         ],
     },
 };

@@ -1,13 +1,17 @@
 -- Which characters of a text are looked up.
-use Rattle.std.specs.Prelude.{◌≡◌, ℕ, ◌+◌, ◌<◌, ◌≤◌, false, List, slice_index}
+use Rattle.std.specs.Prelude.{◌≡◌, ℕ, ◌+◌, ◌<◌, ◌≤◌, ◌⊎◌, List, slice_index}
 use Rattle.std.specs.Int.{bit_at}
-use Rattle.nf_lanes.specs.Looks.{finds_at}
-use Rattle.nf_counts.specs.declared.pairs.TheConstants.{LOOKS}
+use Rattle.nf_lanes.specs.Looks.{finds, is_in, NoneFound}
+use Rattle.nf_counts.specs.declared.pairs.TheConstants.{KANA, LOOKS}
 use Rattle.nf_counts.specs.declared.window.Window.{Window}
+
+-- the character that begins at k is not looked up: both families tell it, or the other one
+abbrev pub IsTold : List ℕ → ℕ → Type 0
+IsTold text k = NoneFound (finds LOOKS) text k ⊎ NoneFound (is_in KANA) text k
 
 -- of the characters that begin from one place on and before another none has more bytes than one and is looked up
 abbrev pub AreTold : List ℕ → ℕ → ℕ → Type 0
-AreTold text from to = (k : ℕ) → from ≤ k → k < to → 0xC0 ≤ slice_index text k → (finds_at LOOKS text k ≡ false) × (finds_at LOOKS text (k + 1) ≡ false)
+AreTold text from to = (k : ℕ) → from ≤ k → k < to → 0xC0 ≤ slice_index text k → IsTold text k
 
 -- before `base` stands no more of them, from a place on that is the end of a character
 pub record AreAsked (text : List ℕ) (at base : ℕ) : Type 0 where
@@ -19,8 +23,7 @@ pub record AreLeft (text : List ℕ) (at : ℕ) (window : Window) : Type 0 where
   pub before : AreTold text at window.base
   pub inner : (k : ℕ) → window.base + 63 ≤ k → k < at → slice_index text k < 0xC0
   pub leads : (k : ℕ) → k < 64 → bit_at window.found k ≡ 1 → (k < 63) × (at ≤ window.base + k) × (0xC0 ≤ slice_index text (window.base + k))
-  pub told : (k : ℕ) → k < 63 → bit_at window.found k ≡ 0 → at ≤ window.base + k → 0xC0 ≤ slice_index text (window.base + k)
-      → (finds_at LOOKS text (window.base + k) ≡ false) × (finds_at LOOKS text (window.base + k + 1) ≡ false)
+  pub told : (k : ℕ) → k < 63 → bit_at window.found k ≡ 0 → at ≤ window.base + k → 0xC0 ≤ slice_index text (window.base + k) → IsTold text (window.base + k)
 
 -- there is the next, and behind its character the window has the others
 pub record IsNext (text : List ℕ) (at place : ℕ) (window : Window) : Type 0 where

@@ -1,5 +1,5 @@
 -- What pairs of bytes tell of a text is so.
-use Rattle.std.proofs.Common.{◌≡◌, ℕ, ◌+◌, ◌*◌, ◌/◌, ◌%◌, ◌<◌, ◌≤◌, ◌⊎◌, inl, inr, Bool, true, false, nat_lt, List, [], ◌∷◌, ◌++◌, length, take, drop, arith, length-append, append_assoc, add_assoc, take-append-drop, length-take-le}
+use Rattle.std.proofs.Common.{◌≡◌, ℕ, ◌+◌, ◌*◌, ◌/◌, ◌%◌, ◌<◌, ◌≤◌, ◌⊎◌, inl, inr, ⊎_elim, slice_index, Bool, true, false, nat_lt, List, [], ◌∷◌, ◌++◌, length, take, drop, arith, length-append, append_assoc, add_assoc, take-append-drop, length-take-le}
 use Rattle.std.specs.Prelude.{All, chars, encode_utf8, encode_utf8_all, IsUtf8}
 use Rattle.std.specs.Str.{all_scalars, IsCharBoundary}
 use lib.Utf8.{scalar, scalar_cases}
@@ -8,40 +8,39 @@ use Rattle.std.proofs.lemmas.Bool.{and_parts}
 use Rattle.std.proofs.lemmas.Bool.Decides.{nat_tests}
 use Rattle.std.proofs.lemmas.List.Elements.{All-nil, All-cons}
 use Rattle.std.proofs.lemmas.List.{get_or-append-add}
-use Rattle.std.proofs.lemmas.Str.{encodes-chars, scalars-chars, IsUtf8-take}
+use Rattle.std.proofs.lemmas.Str.{encodes-chars, length-le-encodes, scalars-chars, IsUtf8-take}
 use Rattle.nf_facts.specs.Within.{or_else}
 use Rattle.ucd_table.proofs.TrieCheck.{all_below, all_below-at}
-use Rattle.nf_lanes.specs.Looks.{finds, AreTold}
-use Rattle.nf_lanes.specs.declared.looks.Looks.{Looks}
+use Rattle.nf_lanes.specs.Looks.{IsTold}
 
 -- characters of four bytes are looked up
-abbrev pub four_looked_up : Looks → ℕ → Bool
-four_looked_up t k = all_below (λ i. finds t (240 + k) (128 + i)) 64
+abbrev pub four_looked_up : (ℕ → ℕ → Bool) → ℕ → Bool
+four_looked_up finds k = all_below (λ i. finds (240 + k) (128 + i)) 64
 
 -- blocks of 64 code points are so as a whole, or each of the block that no pair finds is so; the second bytes of E0 begin at A0
-module _ (t : Looks) (whole : ℕ → Bool) (is : ℕ → ℕ → Bool) where
+module _ (finds : ℕ → ℕ → Bool) (whole : ℕ → Bool) (is : ℕ → ℕ → Bool) where
   abbrev pub second_told : ℕ → ℕ → Bool
-  second_told k i = or_else (finds t (192 + k) (128 + i)) (λ _. is k i)
+  second_told k i = or_else (finds (192 + k) (128 + i)) (λ _. is k i)
 
   abbrev pub two_told : ℕ → Bool
   two_told k = or_else (whole k) (λ _. all_below (second_told k) 64)
 
   abbrev pub third_told : ℕ → ℕ → Bool
-  third_told b j = or_else (finds t (128 + b % 64) (128 + j)) (λ _. is b j)
+  third_told b j = or_else (finds (128 + b % 64) (128 + j)) (λ _. is b j)
 
   abbrev pub three_told : ℕ → ℕ → Bool
   three_told k i =
       or_else (whole (64 * k + i)) (λ _.
-      or_else (finds t (224 + k) (128 + i)) (λ _.
+      or_else (finds (224 + k) (128 + i)) (λ _.
       or_else (nat_lt (64 * k + i) 32) (λ _. all_below (third_told (64 * k + i)) 64)))
 
 -- so it is of each character below `low`, and of each from there on that no pair finds: those begin with bytes from `least` on
-pub record Tells (t : Looks) (least low : ℕ) (P : ℕ → Type 0) : Type 0 where
+pub record Tells (finds : ℕ → ℕ → Bool) (least low : ℕ) (P : ℕ → Type 0) : Type 0 where
   pub whole : ℕ → Bool
   pub is : ℕ → ℕ → Bool
-  pub of_two : all_below (two_told t whole is) 32 ≡ true
-  pub of_three : all_below (λ k. all_below (three_told t whole is k) 64) 16 ≡ true
-  pub of_four : all_below (four_looked_up t) 5 ≡ true
+  pub of_two : all_below (two_told finds whole is) 32 ≡ true
+  pub of_three : all_below (λ k. all_below (three_told finds whole is k) 64) 16 ≡ true
+  pub of_four : all_below (four_looked_up finds) 5 ≡ true
   pub in_block : (b j : ℕ) → b < 1024 → j < 64 → whole b ≡ true → P (64 * b + j)
   pub in_place : (b j : ℕ) → b < 1024 → j < 64 → is b j ≡ true → P (64 * b + j)
   pub below : (c : ℕ) → c < low → P c
@@ -49,54 +48,69 @@ pub record Tells (t : Looks) (least low : ℕ) (P : ℕ → Type 0) : Type 0 whe
   pub of_low : least ≤ 192 + low / 64
   pub is_low : least ≤ 224
 
-module _ (t : Looks) (least low : ℕ) (P : ℕ → Type 0) (tells : Tells t least low P) where
-  by_two : (k i : ℕ) → k < 32 → i < 64 → finds t (192 + k) (128 + i) ≡ false → P (64 * k + i)
+module _ (finds : ℕ → ℕ → Bool) (least low : ℕ) (P : ℕ → Type 0) (tells : Tells finds least low P) where
+  by_two : (k i : ℕ) → k < 32 → i < 64 → finds (192 + k) (128 + i) ≡ false → P (64 * k + i)
   by_two k i short little none =
-      let here = all_below-at (two_told t tells.whole tells.is) 32 k tells.of_two short in
-      grind (arith, tells.in_block k i, tells.in_place k i, all_below-at (second_told t tells.whole tells.is k) 64 i)
+      let here = all_below-at (two_told finds tells.whole tells.is) 32 k tells.of_two short in
+      grind (arith, tells.in_block k i, tells.in_place k i, all_below-at (second_told finds tells.whole tells.is k) 64 i)
 
-  by_three : (k i j : ℕ) → k < 16 → i < 64 → j < 64 → 32 ≤ 64 * k + i → finds t (224 + k) (128 + i) ≡ false → finds t (128 + i) (128 + j) ≡ false → P (64 * (64 * k + i) + j)
+  by_three : (k i j : ℕ) → k < 16 → i < 64 → j < 64 → 32 ≤ 64 * k + i → finds (224 + k) (128 + i) ≡ false → finds (128 + i) (128 + j) ≡ false → P (64 * (64 * k + i) + j)
   by_three k i j short little small large first second =
       let b = 64 * k + i in
       let same : b % 64 ≡ i = omega arith in
-      let here = all_below-at _ 64 i (all_below-at (λ k. all_below (three_told t tells.whole tells.is k) 64) 16 k tells.of_three short) little in
-      grind (arith, nat_tests, tells.in_block b j, tells.in_place b j, all_below-at (third_told t tells.whole tells.is b) 64 j)
+      let here = all_below-at _ 64 i (all_below-at (λ k. all_below (three_told finds tells.whole tells.is k) 64) 16 k tells.of_three short) little in
+      grind (arith, nat_tests, tells.in_block b j, tells.in_place b j, all_below-at (third_told finds tells.whole tells.is b) 64 j)
 
-  -- a character that stands at the front of these bytes
-  by_told : (c : ℕ) (more : List ℕ) → c < 1114112 → AreTold t least (encode_utf8 c ++ more) (length (encode_utf8 c)) → P c
-  by_told c more scalar told = at (order c low) (order c 2048) (order c 65536)
+  -- what a character that stands at the front of these bytes begins with
+  begins : (c : ℕ) (more : List ℕ) → low ≤ c → least ≤ slice_index (encode_utf8 c ++ more) 0
+  begins c more some = at (order c 2048) (order c 65536)
     where
-      at : (c < low) ⊎ (low ≤ c) → (c < 2048) ⊎ (2048 ≤ c) → (c < 65536) ⊎ (65536 ≤ c) → P c
-      at (inl below) _ _ = tells.below c below
-      at (inr some) (inl small) _ =
+      at : (c < 2048) ⊎ (2048 ≤ c) → (c < 65536) ⊎ (65536 ≤ c) → least ≤ slice_index (encode_utf8 c ++ more) 0
+      at (inl small) _ = rw (two c (omega (arith, tells.ascii)) small) (omega (arith, tells.of_low))
+      at (inr large) (inl small) = rw (three c large small) (omega (arith, tells.is_low))
+      at (inr _) (inr large) = rw (four c large) (omega (arith, tells.is_low))
+
+  by_told : (c : ℕ) (more : List ℕ) → c < 1114112 → low ≤ c → IsTold finds (encode_utf8 c ++ more) (length (encode_utf8 c)) 0 → P c
+  by_told c more scalar some told = at (order c 2048) (order c 65536)
+    where
+      at : (c < 2048) ⊎ (2048 ≤ c) → (c < 65536) ⊎ (65536 ≤ c) → P c
+      at (inl small) _ =
           let is : 64 * (c / 64) + c % 64 ≡ c = omega arith in
-          let here = (rw (two c (omega (arith, tells.ascii)) small) at told) 0 (omega arith) (omega (arith, tells.of_low)) in
+          let here = rw (two c (omega (arith, tells.ascii)) small) at told in
           rw is at (by_two (c / 64) (c % 64) (omega arith) (omega arith) here.0)
-      at (inr some) (inr large) (inl small) =
+      at (inr large) (inl small) =
           let is : 64 * (64 * (c / 4096) + c / 64 % 64) + c % 64 ≡ c = omega arith in
-          let here = (rw (three c large small) at told) 0 (omega arith) (omega (arith, tells.is_low)) in
+          let here = rw (three c large small) at told in
           rw is at (by_three (c / 4096) (c / 64 % 64) (c % 64) (omega arith) (omega arith) (omega arith) (omega (arith, is)) here.0 (here.1 (omega arith) (omega arith)))
-      at (inr some) (inr _) (inr large) =
-          let here = (rw (four c large) at told) 0 (omega arith) (omega (arith, tells.is_low)) in
-          let found = all_below-at (λ i. finds t (240 + c / 262144) (128 + i)) 64 (c / 4096 % 64) (all_below-at (four_looked_up t) 5 (c / 262144) tells.of_four (omega arith)) (omega arith) in
+      at (inr _) (inr large) =
+          let here = rw (four c large) at told in
+          let found = all_below-at (λ i. finds (240 + c / 262144) (128 + i)) 64 (c / 4096 % 64) (all_below-at (four_looked_up finds) 5 (c / 262144) tells.of_four (omega arith)) (omega arith) in
           cc
 
-  -- of so many behind a piece
-  told_behind : (piece rest : List ℕ) (n m : ℕ) → length piece + n ≤ m → AreTold t least (piece ++ rest) m → AreTold t least rest n
-  told_behind piece rest n m short told k inside high =
-      let here = (simp (add_assoc, get_or-append-add) at (told (length piece + k))) (omega arith) high in
-      (here.0, λ three more. simp add_assoc (here.1 three (omega arith)))
+-- of each character of a text one of two tells
+module _ (finds others : ℕ → ℕ → Bool) (least low : ℕ) (P : ℕ → Type 0) (tells : Tells finds least low P) (tell : Tells others least low P) where
+  abbrev EitherTold : List ℕ → ℕ → Type 0
+  EitherTold text n = (k : ℕ) → k < n → least ≤ slice_index text k → IsTold finds text n k ⊎ IsTold others text n k
 
-  told_chars : (cs more : List ℕ) → all_scalars cs ≡ true → AreTold t least (encode_utf8_all cs ++ more) (length (encode_utf8_all cs)) → All P cs
+  -- of so many behind a piece
+  told_behind : (piece rest : List ℕ) (n m : ℕ) → length piece + n ≤ m → EitherTold (piece ++ rest) m → EitherTold rest n
+  told_behind piece rest n m short told k inside high =
+      ⊎_elim
+      (λ here. inl (here.0, λ three more. simp add_assoc (here.1 three (omega arith))))
+      (λ here. inr (here.0, λ three more. simp add_assoc (here.1 three (omega arith))))
+      ((simp (add_assoc, get_or-append-add) at (told (length piece + k))) (omega arith) high)
+
+  told_chars : (cs more : List ℕ) → all_scalars cs ≡ true → EitherTold (encode_utf8_all cs ++ more) (length (encode_utf8_all cs)) → All P cs
   told_chars [] more scalars told = All-nil P
   told_chars (c ∷ cs) more scalars told =
       let both = and_parts (scalar c) (all_scalars cs) scalars in
       let fits : c < 1114112 = grind (arith, scalar_cases c) in
       let here = rw (append_assoc, length-append) at told in
-      All-cons P c cs (by_told c _ fits (told_behind [] _ _ _ (omega arith) here)) (told_chars cs more both.1 (told_behind (encode_utf8 c) _ _ _ (omega arith) here))
+      let first = told_behind [] _ (length (encode_utf8 c)) _ (omega arith) here 0 (omega (arith, length-le-encodes (c ∷ []), length-append (encode_utf8 c) [])) in
+      All-cons P c cs (⊎_elim (tells.below c) (λ some. ⊎_elim (by_told finds least low P tells c _ fits some) (by_told others least low P tell c _ fits some) (first (begins finds least low P tells c _ some))) (order c low)) (told_chars cs more both.1 (told_behind (encode_utf8 c) _ _ _ (omega arith) here))
 
   -- a front that ends between two characters
-  pub told_front : (text : List ℕ) (n m : ℕ) → IsUtf8 text → IsCharBoundary text n → n ≤ m → AreTold t least text m → All P (chars (take n text))
+  pub told_front : (text : List ℕ) (n m : ℕ) → IsUtf8 text → IsCharBoundary text n → n ≤ m → EitherTold text m → All P (chars (take n text))
   told_front text n m u boundary short told =
       let front_utf8 = IsUtf8-take text n u boundary in
       told_chars _ (drop n text) (scalars-chars _ front_utf8)

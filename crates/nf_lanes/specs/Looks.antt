@@ -12,11 +12,18 @@ is_in t byte next = not (pair_sets t byte next == 0)
 abbrev pub finds : Looks → ℕ → ℕ → Bool
 finds t byte next = is_in t.first byte next && is_in t.second byte next
 
--- the byte at k and the one behind it are such a pair
-abbrev pub finds_at : Looks → List ℕ → ℕ → Bool
-finds_at t bytes k = finds t (slice_index bytes k) (slice_index bytes (k + 1))
+-- what is so of the byte at k and the one behind it
+abbrev pub at_pair : (ℕ → ℕ → Bool) → List ℕ → ℕ → Bool
+at_pair test bytes k = test (slice_index bytes k) (slice_index bytes (k + 1))
 
--- of the bytes before n: one that is no less than `least` and the one behind it are no such pair, nor, where it begins three
--- bytes or four, is the next pair
-abbrev pub AreTold : Looks → ℕ → List ℕ → ℕ → Type 0
-AreTold t least bytes n = (k : ℕ) → k < n → least ≤ slice_index bytes k → (finds_at t bytes k ≡ false) × (0xE0 ≤ slice_index bytes k → k + 1 < n → finds_at t bytes (k + 1) ≡ false)
+-- neither of the two pairs from k on is found
+abbrev pub NoneFound : (ℕ → ℕ → Bool) → List ℕ → ℕ → Type 0
+NoneFound test bytes k = (at_pair test bytes k ≡ false) × (at_pair test bytes (k + 1) ≡ false)
+
+-- of the pairs before n: from k on none is found, nor, where three bytes or four begin there, behind that
+abbrev pub IsTold : (ℕ → ℕ → Bool) → List ℕ → ℕ → ℕ → Type 0
+IsTold test bytes n k = (at_pair test bytes k ≡ false) × (0xE0 ≤ slice_index bytes k → k + 1 < n → at_pair test bytes (k + 1) ≡ false)
+
+-- so it is wherever a byte is no less than `least`
+abbrev pub AreTold : (ℕ → ℕ → Bool) → ℕ → List ℕ → ℕ → Type 0
+AreTold test least bytes n = (k : ℕ) → k < n → least ≤ slice_index bytes k → IsTold test bytes n k

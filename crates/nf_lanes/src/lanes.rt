@@ -1,6 +1,6 @@
 //! A bit for each of 16 places, the lowest for the first.
 
-ghost use Rattle.std.specs.Prelude.{◌≡◌, ◌<◌, ◌≤◌, ◌+◌, ℕ, Bool, length, slice_index, map, not, ◌==◌, bit_and, bit_or, bit_xor, nat_le, IsTrue, ◌↔◌, if◌then◌else◌};
+ghost use Rattle.std.specs.Prelude.{◌≡◌, ◌<◌, ◌≤◌, ◌+◌, ℕ, Bool, length, slice_index, map, not, ◌==◌, bit_and, bit_or, nat_le, IsTrue, ◌↔◌, if◌then◌else◌};
 ghost use Rattle.std.specs.Int.{bit_at};
 ghost use Rattle.nf_lanes.specs.Lanes.{places, bits_at, NonePass, StopsAt};
 
@@ -25,14 +25,14 @@ pub fn bits_of_either(lanes: u8x16, others: u8x16, mask: u8) -> u64
     bits(lanes | (others & u8x16::splat(mask)))
 }
 
-/// A bit for each byte from `at` on that is `least` or above once the bits of `flip` are turned.
+/// A bit for each byte from `at` on that is `least` or above.
 #[inline(always)]
-pub fn at_least(least: u8, flip: u8, bytes: &[u8], at: usize) -> u64
+pub fn at_least(least: u8, bytes: &[u8], at: usize) -> u64
     requires room { at + 16 ≤ length bytes.now }
-    ensures { result ≡ bits_at (λ k. nat_le least (bit_xor (slice_index bytes.now k) flip)) at }
+    ensures { result ≡ bits_at (λ k. nat_le least (slice_index bytes.now k)) at }
 {
-    let flipped = u8x16::from_slice(&bytes[at..]) ^ u8x16::splat(flip);
-    flipped.simd_ge(u8x16::splat(least)).to_bitmask()
+    let lanes = u8x16::from_slice(&bytes[at..]);
+    lanes.simd_ge(u8x16::splat(least)).to_bitmask()
 }
 
 /// How many places stand before the first whose bit is set.

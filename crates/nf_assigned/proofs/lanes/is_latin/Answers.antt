@@ -1,8 +1,8 @@
-use Rattle.std.proofs.Common.{inl, refl}
-use Rattle.ucd_table.proofs.TrieCheck.{all_below}
-use Rattle.nf_assigned.proofs.BlockLemmas.{low_byte}
+use Rattle.std.proofs.Common.{ℕ, leb, leb-false, slice_index}
 use Rattle.nf_assigned.proofs.lanes.is_latin.Goals as goal
 
 pub returns-then-bytes-at-lt128 : goal.returns-then-bytes-at-lt128
-unfolding all_below
-returns-then-bytes-at-lt128 c true = (inl c.if-bytes-at-lt128.true, λ k low high. low_byte 0xCD 0 _ refl (c.type_inv.bytes k).fits (c.are_below.ensures true k low high))
+returns-then-bytes-at-lt128 c = record {
+  first = λ _. c.if-bytes-at-lt128.true;
+  below = λ true k low high. leb-false 0xCD _ ((c.none_of.ensures (λ (k : ℕ). leb 0xCD (slice_index c.args.bytes.now k)) c.args.at c.at_least.ensures c.at_least-then-bytes-at-lt128.ensures c.at_least-then-bytes-at-lt128-2.ensures c.at_least-then-bytes-at-lt128-3.ensures).0 true k low high);
+}

@@ -13,4 +13,4 @@ returns c =
     let len = c.ascii_prefix.result in
     let some : 0 < len = grind (arith, nat_tests, prefix.longest) in
     rw (← text.value) (plain_piece c.every_character_is_sound.ensures.character bytes len text.utf8 (IsCharBoundary-from_take bytes len text.utf8 prefix.within (IsUtf8-from_ascii _ prefix.ascii)) some
-    (λ k inside high. absurd (omega (arith, high, inside, prefix.ascii k, get_or-take len bytes k 0))))
+    (λ k _ inside high. absurd (omega (arith, high, inside, prefix.ascii k, get_or-take len bytes k 0))))
