@@ -1,10 +1,9 @@
 use crate::closed::Formed;
 use crate::encoding::{put_character, put_utf8};
-use crate::mark::MAX_RUN;
 use crate::seen::{Seen, is_own_row};
 use arrayvec::ArrayVec;
 use nf_facts::laws;
-use nf_forms::Form;
+use nf_forms::{Form, MAX_RUN};
 use ucd_normal::QuickCheck;
 use unicode_normalization::char::compose;
 

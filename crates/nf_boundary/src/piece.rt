@@ -12,11 +12,11 @@ use crate::closed::Formed;
 use crate::closing::{Segment, close_off};
 use crate::composites::Database;
 use crate::encoding::{append_one, put_utf8};
-use crate::mark::{MAX_RUN, Mark, Run, hold};
+use crate::mark::{Mark, Run, hold};
 use crate::rows::{Row, passes};
 use crate::seen::{Seen, is_own_row};
 use nf_facts::{in_tables, laws};
-use nf_forms::Form;
+use nf_forms::{Form, MAX_RUN};
 use ucd_normal::{QuickCheck, canonical_combining_class};
 use unicode_normalization::char::decomposition;
 

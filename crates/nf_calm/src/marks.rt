@@ -4,11 +4,8 @@ ghost use Rattle.nf_forms.specs.Calm.{GoesOn};
 ghost use Rattle.nf_calm.specs.Going.{goes_on};
 
 use nf_facts::{in_tables, is_halfwidth_mark, laws};
-use nf_forms::Form;
+use nf_forms::{Form, MAX_RUN};
 use ucd_normal::{QuickCheck, class_and_quick_check};
-
-/// As many non-starters may follow one another in NFKD (UAX #15, section 13).
-const MAX_RUN: u8 = 30;
 
 /// No decomposition has more members, so that behind one character this is a bound of how many there are.
 const MAX_ROW: u8 = 18;

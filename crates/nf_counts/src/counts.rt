@@ -1,7 +1,6 @@
 ghost use Rattle.std.specs.Prelude.{◌≤◌};
 
-/// So many non-starters in a row a text may have before U+034F is put (UAX #15, section 13).
-const MAX_RUN: u32 = 30;
+use nf_forms::MAX_RUN;
 
 /// The non-starters of decomposed text, and its runs of them, none of more than 30.
 #[derive(Clone, Copy, Debug)]
@@ -64,7 +63,7 @@ impl Counts {
         let marks = value - 4;
         let trail = self.trail + marks;
         let lead = if self.has_starter { self.lead } else { trail };
-        if trail > MAX_RUN || lead > room {
+        if trail > u32::from(MAX_RUN) || lead > room {
             return false;
         }
         self.nonstarters += u128::from(marks);

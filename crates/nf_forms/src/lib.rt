@@ -10,4 +10,4 @@ mod joiner;
 pub mod laws;
 
 pub use form::Form;
-pub use joiner::JOINER;
+pub use joiner::{JOINER, MAX_RUN};

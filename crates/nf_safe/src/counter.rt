@@ -5,11 +5,9 @@ ghost use Rattle.nf_forms.specs.StreamSafe.{max_run};
 ghost use Rattle.nf_safe.specs.Count.{passes, count_step};
 ghost use Rattle.nf_safe.specs.Counter.{StandsAfter};
 
+use nf_forms::MAX_RUN;
 use nf_row::{Counts, Ends, Row, Rows};
 use std::marker::Model;
-
-/// How many non-starters a run may have (UAX #15, section 13).
-const MAX_RUN: usize = 30;
 
 /// Counts the non-starters that the NFKD of a text ends in, and tells where the Stream-Safe Text Process puts U+034F
 /// (UAX #15, section 13).
@@ -44,7 +42,7 @@ impl Counter {
         ensures some { IsSome result ↔ (count ≤ max_run) }
         ensures count { IfSome result (λ counter. counter ≡ count) }
     {
-        if count as usize <= MAX_RUN {
+        if count <= MAX_RUN {
             Some(Counter { count })
         } else {
             None
@@ -71,7 +69,7 @@ impl Counter {
         ensures stands { (p : Properties) (row : List ℕ) → HasEnds p row k → (rows : List (List ℕ)) → StandsAfter p self.old rows
             → StandsAfter p self.new (rows ++ row ∷ []) }
     {
-        let begins_anew = self.count as usize + k.lead > MAX_RUN;
+        let begins_anew = self.count as usize + k.lead > usize::from(MAX_RUN);
         self.count = if k.has_starter {
             k.trail as u8
         } else if begins_anew {
@@ -88,7 +86,7 @@ impl Counter {
         ensures room { result ≡ max_run - self.now }
         ensures within { self.now ≤ max_run }
     {
-        MAX_RUN as u32 - u32::from(self.count)
+        u32::from(MAX_RUN - self.count)
     }
 
     /// Goes on over text of which these are the counts, where no U+034F is put.

@@ -1,11 +1,11 @@
-use Rattle.nf_safe.proofs.Common.{ap, arith, nat_lt, max_run, trail-since_last-push}
+use Rattle.nf_safe.proofs.Common.{arith, trail-since_last-push}
 use Rattle.std.proofs.lemmas.Bool.Decides.{nat_tests}
 use Rattle.nf_forms.specs.Laws.Runs.{lead-marks}
 use Rattle.nf_safe.proofs.counter.Counter.step_by.Goals as goal
 use Rattle.nf_safe.proofs.counter.Counter.step_by.Goals.{then-k, else-k+then-begins_anew, else-k+else-begins_anew}
 
 pub returns-clause-answer : goal.returns-clause-answer
-returns-clause-answer c = λ p row ends. ap (λ n. nat_lt max_run n) (omega arith)
+returns-clause-answer c = λ p row ends. grind (arith, nat_tests)
 
 pub returns-clause-count : goal.returns-clause-count
 returns-clause-count c = λ p row ends. grind (arith, nat_tests, lead-marks p row)
