@@ -11,9 +11,6 @@ use crate::sets::{Pairs, pair_sets};
 /// Of so few characters no pair is asked: in Latin most of those that are not ASCII have to be looked up.
 const FEW: u32 = 14;
 
-/// Of so many that are found the other family is asked: in Japanese most kana are.
-const MANY: u32 = 8;
-
 /// Two families of eight sets of pairs. A pair that is in a set of each has to be looked up. Blocks are quickest where of the
 /// first family, too, few pairs are.
 pub struct Looks {
@@ -60,8 +57,8 @@ pub fn told_len(looks: &Looks, bytes: &[u8], at: usize) -> usize
 }
 
 /// A bit for each of 63 bytes from `at` on, the lowest for the first: of those that begin more bytes than one, each at which a
-/// pair has to be looked up, or at the byte behind it, is set; of a few all are; and of many only those of which a pair is in
-/// the other family, too.
+/// pair has to be looked up, or at the byte behind it, is set; of a few all are; and where three of three bytes stand in a row,
+/// as kana do in Japanese, only those of which a pair is in the other family, too.
 #[inline(always)]
 pub fn found_leads(looks: &Looks, other: &Pairs, bytes: &[u8], at: usize) -> u64
     requires room { at + 64 < length bytes.now }
@@ -85,7 +82,7 @@ pub fn found_leads(looks: &Looks, other: &Pairs, bytes: &[u8], at: usize) -> u64
         look_bits(looks, bytes, at + 48),
     );
     let found = leads & (pairs | (pairs >> 1));
-    if found.count_ones() < MANY {
+    if found & (found >> 3) & (found >> 6) == 0 {
         return found;
     }
     let others = of_64(

@@ -44,8 +44,8 @@ returns-then-leads-lt-FEW c =
     let are = c.of_64.ensures (begins c.args.bytes.now) c.args.at c.at_least.ensures c.at_least-2.ensures c.at_least-3.ensures c.at_least-4.ensures in
     record { leads = set _ _ _ are; told = λ k few none high. let one = lead _ _ _ are k few high in absurd (omega arith) }
 
-pub returns-then-found-lt-MANY : goal.returns-then-found-lt-MANY
-returns-then-found-lt-MANY c =
+pub returns-then-found-eq0 : goal.returns-then-found-eq0
+returns-then-found-eq0 c =
     let are = c.of_64.ensures (begins c.args.bytes.now) c.args.at c.at_least.ensures c.at_least-2.ensures c.at_least-3.ensures c.at_least-4.ensures in
     let asked = c.of_64-pairs.ensures (at_pair (finds c.args.looks.now) c.args.bytes.now) c.args.at c.look_bits.ensures c.look_bits-2.ensures c.look_bits-3.ensures c.look_bits-4.ensures in
     record {
