@@ -1,29 +1,30 @@
-//! Pairs of bytes at which a character is looked up; one that has no such pair, but for what its last byte begins, is assigned.
+//! Pairs of bytes at which a character is looked up; one that has no such pair in one of two families, but for what its last
+//! byte begins, is assigned.
 //!
 //! Most pairs are a lead byte and its second. The third byte is asked by pairs of the last two, where a block of 64 code
-//! points is much used and has few holes: 81 before 80, for U+3040, 82 before 97 and 98, for U+3097 and U+3098, and BC before
-//! 80, for U+FF00. Eight sets cannot tell all that is assigned: the first family tells most of what is written, but for Hebrew,
-//! and the second most of what that leaves.
+//! points is much used and has few holes, as hiragana and fullwidth letters. The first family tells most of what is written,
+//! but for Hebrew and some of what stands in Chinese and Korean, and the second what that leaves.
 
-use nf_lanes::{Looks, Pairs};
+use nf_lanes::Pairs;
 
-pub(crate) static LOOKS: Looks = Looks {
-    first: Pairs {
-        first_high: [0, 0, 0, 0, 0, 0, 0, 0, 132, 0, 0, 128, 68, 8, 55, 239],
-        first_low: [83, 227, 31, 56, 8, 8, 8, 72, 64, 0, 33, 0, 136, 76, 121, 57],
-        next_high: [0, 0, 0, 0, 0, 0, 0, 0, 217, 109, 107, 90, 0, 0, 0, 0],
-        next_low: [
-            238, 75, 106, 75, 120, 120, 122, 126, 126, 123, 121, 121, 11, 107, 95, 63,
-        ],
-    },
-    second: Pairs {
-        first_high: [0, 0, 0, 0, 0, 0, 0, 0, 161, 177, 73, 17, 147, 183, 61, 255],
-        first_low: [
-            111, 165, 233, 239, 52, 244, 232, 3, 222, 100, 174, 112, 27, 90, 188, 191,
-        ],
-        next_high: [0, 0, 0, 0, 0, 0, 0, 0, 247, 244, 173, 47, 0, 0, 0, 0],
-        next_low: [
-            122, 160, 168, 116, 76, 122, 226, 142, 206, 142, 78, 235, 157, 185, 87, 85,
-        ],
-    },
+pub(crate) static FIRST: Pairs = Pairs {
+    first_high: [0, 0, 0, 0, 0, 0, 0, 0, 130, 0, 0, 0, 65, 160, 29, 231],
+    first_low: [
+        77, 87, 205, 40, 49, 96, 128, 32, 66, 64, 17, 32, 32, 118, 127, 57,
+    ],
+    next_high: [0, 0, 0, 0, 0, 0, 0, 0, 107, 237, 117, 108, 0, 0, 0, 0],
+    next_low: [
+        246, 37, 53, 37, 120, 120, 124, 252, 233, 121, 105, 233, 125, 181, 61, 253,
+    ],
+};
+
+pub(crate) static SECOND: Pairs = Pairs {
+    first_high: [0, 0, 0, 0, 0, 0, 0, 0, 102, 40, 232, 31, 157, 165, 119, 254],
+    first_low: [
+        251, 223, 147, 229, 147, 157, 218, 71, 140, 148, 212, 233, 136, 167, 162, 130,
+    ],
+    next_high: [0, 0, 0, 0, 0, 0, 0, 0, 237, 240, 147, 247, 0, 0, 0, 0],
+    next_low: [
+        154, 212, 150, 210, 170, 166, 198, 134, 230, 198, 252, 197, 209, 213, 225, 235,
+    ],
 };

@@ -1,4 +1,5 @@
 pub mod PlacesLemmas
+pub mod BitsLemmas
 pub mod LookUpLemmas
 pub mod MaskLemmas
 pub mod LooksLemmas

@@ -11,7 +11,7 @@ use Rattle.std.proofs.lemmas.List.{get_or-append-add}
 use Rattle.std.proofs.lemmas.Str.{encodes-chars, length-le-encodes, scalars-chars, IsUtf8-take}
 use Rattle.nf_facts.specs.Within.{or_else}
 use Rattle.ucd_table.proofs.TrieCheck.{all_below, all_below-at}
-use Rattle.nf_lanes.specs.Looks.{IsTold}
+use Rattle.nf_lanes.specs.Looks.{NoneFound}
 
 -- characters of four bytes are looked up
 abbrev pub four_looked_up : (ℕ → ℕ → Bool) → ℕ → Bool
@@ -70,7 +70,7 @@ module _ (finds : ℕ → ℕ → Bool) (least low : ℕ) (P : ℕ → Type 0) (
       at (inr large) (inl small) = rw (three c large small) (omega (arith, tells.is_low))
       at (inr _) (inr large) = rw (four c large) (omega (arith, tells.is_low))
 
-  by_told : (c : ℕ) (more : List ℕ) → c < 1114112 → low ≤ c → IsTold finds (encode_utf8 c ++ more) (length (encode_utf8 c)) 0 → P c
+  by_told : (c : ℕ) (more : List ℕ) → c < 1114112 → low ≤ c → NoneFound finds (encode_utf8 c ++ more) 0 → P c
   by_told c more scalar some told = at (order c 2048) (order c 65536)
     where
       at : (c < 2048) ⊎ (2048 ≤ c) → (c < 65536) ⊎ (65536 ≤ c) → P c
@@ -81,7 +81,7 @@ module _ (finds : ℕ → ℕ → Bool) (least low : ℕ) (P : ℕ → Type 0) (
       at (inr large) (inl small) =
           let is : 64 * (64 * (c / 4096) + c / 64 % 64) + c % 64 ≡ c = omega arith in
           let here = rw (three c large small) at told in
-          rw is at (by_three (c / 4096) (c / 64 % 64) (c % 64) (omega arith) (omega arith) (omega arith) (omega (arith, is)) here.0 (here.1 (omega arith) (omega arith)))
+          rw is at (by_three (c / 4096) (c / 64 % 64) (c % 64) (omega arith) (omega arith) (omega arith) (omega (arith, is)) here.0 here.1)
       at (inr _) (inr large) =
           let here = rw (four c large) at told in
           let found = all_below-at (λ i. finds (240 + c / 262144) (128 + i)) 64 (c / 4096 % 64) (all_below-at (four_looked_up finds) 5 (c / 262144) tells.of_four (omega arith)) (omega arith) in
@@ -90,15 +90,12 @@ module _ (finds : ℕ → ℕ → Bool) (least low : ℕ) (P : ℕ → Type 0) (
 -- of each character of a text one of two tells
 module _ (finds others : ℕ → ℕ → Bool) (least low : ℕ) (P : ℕ → Type 0) (tells : Tells finds least low P) (tell : Tells others least low P) where
   abbrev EitherTold : List ℕ → ℕ → Type 0
-  EitherTold text n = (k : ℕ) → k < n → least ≤ slice_index text k → IsTold finds text n k ⊎ IsTold others text n k
+  EitherTold text n = (k : ℕ) → k < n → least ≤ slice_index text k → NoneFound finds text k ⊎ NoneFound others text k
 
   -- of so many behind a piece
   told_behind : (piece rest : List ℕ) (n m : ℕ) → length piece + n ≤ m → EitherTold (piece ++ rest) m → EitherTold rest n
   told_behind piece rest n m short told k inside high =
-      ⊎_elim
-      (λ here. inl (here.0, λ three more. simp add_assoc (here.1 three (omega arith))))
-      (λ here. inr (here.0, λ three more. simp add_assoc (here.1 three (omega arith))))
-      ((simp (add_assoc, get_or-append-add) at (told (length piece + k))) (omega arith) high)
+      simp add_assoc ((simp (add_assoc, get_or-append-add) at (told (length piece + k))) (omega arith) high)
 
   told_chars : (cs more : List ℕ) → all_scalars cs ≡ true → EitherTold (encode_utf8_all cs ++ more) (length (encode_utf8_all cs)) → All P cs
   told_chars [] more scalars told = All-nil P

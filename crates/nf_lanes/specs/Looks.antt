@@ -1,5 +1,5 @@
 -- Pairs of bytes of UTF-8 (The Unicode Standard, section 3.9, Table 3-6) at which a text is looked up.
-use Rattle.std.specs.Prelude.{◌≡◌, ◌<◌, ◌≤◌, ℕ, ◌+◌, Bool, false, not, ◌&&◌, ◌==◌, List, slice_index}
+use Rattle.std.specs.Prelude.{◌≡◌, ℕ, ◌+◌, Bool, false, not, ◌&&◌, ◌==◌, List, slice_index}
 use Rattle.nf_lanes.specs.Sets.{pair_sets}
 use Rattle.nf_lanes.specs.declared.sets.Pairs.{Pairs}
 use Rattle.nf_lanes.specs.declared.looks.Looks.{Looks}
@@ -19,11 +19,3 @@ at_pair test bytes k = test (slice_index bytes k) (slice_index bytes (k + 1))
 -- neither of the two pairs from k on is found
 abbrev pub NoneFound : (ℕ → ℕ → Bool) → List ℕ → ℕ → Type 0
 NoneFound test bytes k = (at_pair test bytes k ≡ false) × (at_pair test bytes (k + 1) ≡ false)
-
--- of the pairs before n: from k on none is found, nor, where three bytes or four begin there, behind that
-abbrev pub IsTold : (ℕ → ℕ → Bool) → List ℕ → ℕ → ℕ → Type 0
-IsTold test bytes n k = (at_pair test bytes k ≡ false) × (0xE0 ≤ slice_index bytes k → k + 1 < n → at_pair test bytes (k + 1) ≡ false)
-
--- so it is wherever a byte is no less than `least`
-abbrev pub AreTold : (ℕ → ℕ → Bool) → ℕ → List ℕ → ℕ → Type 0
-AreTold test least bytes n = (k : ℕ) → k < n → least ≤ slice_index bytes k → IsTold test bytes n k

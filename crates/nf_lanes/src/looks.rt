@@ -1,59 +1,38 @@
 //! Pairs of bytes at which a text is looked up, many at once.
 
-ghost use Rattle.std.specs.Prelude.{◌≡◌, ◌<◌, ◌≤◌, ◌+◌, ◌↔◌, ◌⊎◌, ℕ, true, false, length, slice_index, IsTrue};
+ghost use Rattle.std.specs.Prelude.{◌≡◌, ◌<◌, ◌≤◌, ◌+◌, ◌⊎◌, ℕ, length, slice_index, if◌then◌else◌};
 ghost use Rattle.std.specs.Int.{bit_at};
-ghost use Rattle.nf_lanes.specs.Lanes.{bits_at, NonePass};
+ghost use Rattle.nf_lanes.specs.Lanes.{bits_at};
 ghost use Rattle.nf_lanes.specs.Looks.{is_in, finds, at_pair, NoneFound};
 
-use crate::lanes::{LANES, at_least, before, bits, none_of, of_64};
+use crate::lanes::{at_least, bits, of_64};
 use crate::sets::{Pairs, pair_sets};
 
 /// Of so few characters no pair is asked: in Latin most of those that are not ASCII have to be looked up.
 const FEW: u32 = 14;
 
-/// Two families of eight sets of pairs. A pair that is in a set of each has to be looked up. Blocks are quickest where of the
-/// first family, too, few pairs are.
+/// Two families of eight sets of pairs. A pair that is in a set of each has to be looked up.
 pub struct Looks {
     pub first: Pairs,
     pub second: Pairs,
 }
 
-/// Whether none of the 64 pairs from `at` on has to be looked up.
+/// A bit for each of 63 bytes from `at` on, the lowest for the first: of those from `least` on, each of which a pair is in the one
+/// family, and one in the other: the pair that it begins, or the next.
 #[inline(always)]
-pub fn are_told(looks: &Looks, bytes: &[u8], at: usize) -> bool
+pub fn found_by_both(first: &Pairs, second: &Pairs, least: u8, bytes: &[u8], at: usize) -> u64
     requires room { at + 64 < length bytes.now }
-    ensures { IsTrue result ↔ NonePass (at_pair (finds looks.now) bytes.now) at 64 }
+    ensures high { (k : ℕ) → k < 64 → bit_at result k ≡ 1 → (k < 63) × (least ≤ slice_index bytes.now (at + k)) }
+    ensures told { (k : ℕ) → k < 63 → bit_at result k ≡ 0 → least ≤ slice_index bytes.now (at + k)
+        → NoneFound (is_in first.now) bytes.now (at + k) ⊎ NoneFound (is_in second.now) bytes.now (at + k) }
 {
-    none_of(
-        set_bits(&looks.first, bytes, at),
-        set_bits(&looks.first, bytes, at + 16),
-        set_bits(&looks.first, bytes, at + 32),
-        set_bits(&looks.first, bytes, at + 48),
-    ) || none_of(
-        look_bits(looks, bytes, at),
-        look_bits(looks, bytes, at + 16),
-        look_bits(looks, bytes, at + 32),
-        look_bits(looks, bytes, at + 48),
-    )
-}
-
-/// How many bytes there are from `at` on before a pair that has to be looked up. Of the last 16 none is asked.
-#[inline(always)]
-pub fn told_len(looks: &Looks, bytes: &[u8], at: usize) -> usize
-    requires { at ≤ length bytes.now }
-    ensures within { at + result ≤ length bytes.now }
-    ensures told { NonePass (at_pair (finds looks.now) bytes.now) at result }
-    ensures stops { at + result + 16 < length bytes.now → at_pair (finds looks.now) bytes.now (at + result) ≡ true }
-{
-    let mut end = at;
-    while bytes.len() - end > LANES {
-        let run = before(look_bits(looks, bytes, end));
-        end += run;
-        if run < LANES {
-            break;
-        }
+    let pairs = family_bits(first, bytes, at);
+    if pairs == 0 {
+        return 0;
     }
-    end - at
+    let found = high_bits(least, bytes, at) & (pairs | (pairs >> 1));
+    let others = family_bits(second, bytes, at);
+    found & (others | (others >> 1))
 }
 
 /// A bit for each of 63 bytes from `at` on, the lowest for the first: of those that begin more bytes than one, each at which a
@@ -66,12 +45,7 @@ pub fn found_leads(looks: &Looks, other: &Pairs, bytes: &[u8], at: usize) -> u64
     ensures told { (k : ℕ) → k < 63 → bit_at result k ≡ 0 → 0xC0 ≤ slice_index bytes.now (at + k)
         → NoneFound (finds looks.now) bytes.now (at + k) ⊎ NoneFound (is_in other.now) bytes.now (at + k) }
 {
-    let leads = of_64(
-        at_least(0xC0, bytes, at),
-        at_least(0xC0, bytes, at + 16),
-        at_least(0xC0, bytes, at + 32),
-        at_least(0xC0, bytes, at + 48),
-    ) & (u64::MAX >> 1);
+    let leads = high_bits(0xC0, bytes, at);
     if leads.count_ones() < FEW {
         return leads;
     }
@@ -85,13 +59,38 @@ pub fn found_leads(looks: &Looks, other: &Pairs, bytes: &[u8], at: usize) -> u64
     if found & (found >> 3) & (found >> 6) == 0 {
         return found;
     }
-    let others = of_64(
-        set_bits(other, bytes, at),
-        set_bits(other, bytes, at + 16),
-        set_bits(other, bytes, at + 32),
-        set_bits(other, bytes, at + 48),
-    );
+    let others = family_bits(other, bytes, at);
     found & (others | (others >> 1))
+}
+
+/// A bit for each of 63 bytes from `at` on, the lowest for the first, that is `least` or above.
+#[inline(always)]
+fn high_bits(least: u8, bytes: &[u8], at: usize) -> u64
+    requires room { at + 64 < length bytes.now }
+    ensures high { (k : ℕ) → k < 64 → bit_at result k ≡ 1 → (k < 63) × (least ≤ slice_index bytes.now (at + k)) }
+    ensures all { (k : ℕ) → k < 63 → least ≤ slice_index bytes.now (at + k) → bit_at result k ≡ 1 }
+{
+    let all = of_64(
+        at_least(least, bytes, at),
+        at_least(least, bytes, at + 16),
+        at_least(least, bytes, at + 32),
+        at_least(least, bytes, at + 48),
+    );
+    all & (u64::MAX >> 1)
+}
+
+/// A bit for each of 64 pairs from `at` on that is in a set of the family.
+#[inline(always)]
+fn family_bits(family: &Pairs, bytes: &[u8], at: usize) -> u64
+    requires room { at + 64 < length bytes.now }
+    ensures { (k : ℕ) → k < 64 → bit_at result k ≡ (if at_pair (is_in family.now) bytes.now (at + k) then 1 else 0) }
+{
+    of_64(
+        set_bits(family, bytes, at),
+        set_bits(family, bytes, at + 16),
+        set_bits(family, bytes, at + 32),
+        set_bits(family, bytes, at + 48),
+    )
 }
 
 /// A bit for each byte from `at` on, the lowest for the first: whether it and the byte behind it are in a set of the family.

@@ -1,12 +1,11 @@
 use Rattle.std.proofs.Common.{◌-◌, ◌≤◌, length}
-use Rattle.nf_lanes.specs.Looks.{finds, AreTold}
-use Rattle.nf_assigned.specs.declared.pairs.TheConstants.{LOOKS}
-use Rattle.nf_assigned.proofs.lanes.told_blocks.Given as goal
+use Rattle.nf_assigned.specs.Bytes.{AreTold}
+use Rattle.nf_assigned.proofs.lanes.assigned_len.Given as goal
 
 abbrev pub invariant-loop-at : goal.invariant-loop-at
 invariant-loop-at l = record {
   within : l.at ≤ length l.bytes;
-  told : AreTold (finds LOOKS) 0xCD l.bytes l.at;
+  told : AreTold l.bytes l.at;
 }
 
 abbrev pub decreases-loop-at : goal.decreases-loop-at
