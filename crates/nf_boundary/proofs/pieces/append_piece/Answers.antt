@@ -1,10 +1,7 @@
 use Rattle.nf_boundary.proofs.Common.{rules, refl}
 use Rattle.nf_boundary.proofs.SeenLemmas.{shorter}
-use Rattle.nf_boundary.proofs.FillsLemmas.{fills_first, fills_more, fills_closed}
+use Rattle.nf_boundary.proofs.FillsLemmas.{fills_more, fills_closed}
 use Rattle.nf_boundary.proofs.pieces.append_piece.Goals as goal
-
-pub loop-next-init : goal.loop-next-init
-loop-next-init c = search (rules, fills_first, c.in_ok-begin.ensures.becomes refl, c.in_ok-begin.ensures.leaves refl)
 
 pub loop-next-smaller : goal.loop-next-smaller
 loop-next-smaller c = search (rules, shorter)

@@ -1,13 +1,10 @@
-use Rattle.nf_boundary.proofs.Common.{◌∷◌, ◌≡◌, rules, refl, take_all, row_of, ucd}
+use Rattle.nf_boundary.proofs.Common.{◌∷◌, ◌≡◌, rules, refl, row_of, ucd}
 use Rattle.nf_boundary.proofs.BecomesLemmas.{leaves_any}
-use Rattle.nf_boundary.proofs.FillsLemmas.{becomes_own, leaves_first, becomes_row, take_behind}
+use Rattle.nf_boundary.proofs.FillsLemmas.{becomes_own, becomes_row, take_behind}
 use Rattle.nf_boundary.proofs.piece.Piece.begin.Goals as goal
 
 pub returns-then-is_own_row-clause-becomes : goal.returns-then-is_own_row-clause-becomes
 returns-then-is_own_row-clause-becomes c = search (rules, becomes_own)
-
-pub returns-then-is_own_row-clause-leaves : goal.returns-then-is_own_row-clause-leaves
-returns-then-is_own_row-clause-leaves c = search (rules, leaves_first)
 
 pub loop-member-init : goal.loop-member-init
 loop-member-init c = search (rules, becomes_row, c.in_ok-starter.ensures.cases.0)
@@ -17,9 +14,6 @@ loop-member-preserved c =
     let is : row_of c.args.form ucd c.args.first.seen.character ≡ c.in_ok-starter.starter.now ∷ c.in_ok-starter.others.now = cc c.in_ok-starter.ensures.cases.0 in
     let next = take_behind _ _ _ is _ c.member-item.result c.loop-member-test.true c.member-item.is in
     rw next (c.in_ok-push.ensures.becomes refl _ _ c.loop-member.invariant)
-
-pub returns-clause-becomes : goal.returns-clause-becomes
-returns-clause-becomes c = search (rules, take_all)
 
 pub returns-clause-leaves : goal.returns-clause-leaves
 returns-clause-leaves c = search (rules, leaves_any)
