@@ -1,6 +1,6 @@
 -- What decomposed text from a boundary on becomes: a member more, and its form when a boundary comes.
-use Rattle.std.proofs.Common.{◌≡◌, ◌≢◌, ◌==◌, ℕ, ◌+◌, Bool, true, false, List, [], ◌∷◌, ◌++◌, length, map, get_or, Some, refl, sym, ap, ◌∙◌, append_assoc, append-nil, arith, leb, IsTrue, insert, not, if◌then◌else◌, encode_utf8_all}
-use Rattle.nf_boundary.proofs.Common.{ucd, Form, row_of, decomposed, composes, arranged, finished, canonical_combining_class, IsSound-from_test, ne_eqb, cond-true, has_starter, trail, longest, nat_tests, Becomes, Leaves, Nfc, Nfd, Nfkc, Nfkd, compose, is_sound, NeverSecond, IsOwnRow, Mark}
+use Rattle.std.proofs.Common.{◌≡◌, ◌≢◌, ◌==◌, ℕ, ◌+◌, Bool, true, false, List, [], ◌∷◌, ◌++◌, length, map, Some, refl, sym, ap, ◌∙◌, append_assoc, append-nil, arith, leb, IsTrue, insert, encode_utf8_all}
+use Rattle.nf_boundary.proofs.Common.{ucd, Form, row_of, decomposed, composes, arranged, finished, canonical_combining_class, IsSound-from_test, ne_eqb, cond-true, has_starter, trail, longest, nat_tests, Becomes, Leaves, Nfkd, compose, is_sound, NeverSecond, IsOwnRow, Mark}
 use Rattle.nf_boundary.specs.Laws.Held.{held-push}
 use Rattle.std.specs.List.{prefix_len, flat_map}
 use Rattle.nf_forms.specs.Properties.{Properties, is_starter}
@@ -31,17 +31,12 @@ arranged-marked p s run starts plain true =
     ap (compose p) (order-marked p s run starts plain)
     ∙ compose-behind p [] (s ∷ []) (by_class p run) (record { starter = s; marks = []; text = refl; starts = starts; no_starter = refl }) (has_starter-by_class p run)
 
-arranged-none : (p : Properties) (b : Bool) → arranged b p [] ≡ []
-unfolding by_class
-arranged-none p false = refl
-arranged-none p true = refl
-
 module _ (f : Form) where
   -- a starter alone
   pub becomes_one : (starter : ℕ) (marks : List Mark) (w before : List ℕ) → w ≡ starter ∷ [] → is_starter ucd starter ≡ true → marks ≡ [] → Becomes f w starter marks before before
   unfolding by_class
   becomes_one starter marks w before text starts alone =
-      let none = arranged-none ucd (composes f) in
+      let none : arranged (composes f) ucd [] ≡ [] = grind arith in
       record {
         done = [];
         run = [];
@@ -63,11 +58,10 @@ module _ (f : Form) where
         record {
           done = here.done;
           run = here.run ++ c ∷ [];
-          text = ap (λ k. k ++ c ∷ []) here.text ∙ append_assoc here.done (starter ∷ here.run) (c ∷ []);
+          text = rw (here.text, append_assoc);
           starts = here.starts;
           no_starter = marks_push ucd here.run c here.no_starter mark;
-          held = held-push ucd here.run c marks marks' here.no_starter mark here.held
-              (λ rising. inserted rising ∙ ap (λ k. insert marks (prefix_len (λ m. leb m.class k) marks) (record { character = c; class = k })) same);
+          held = held-push ucd here.run c marks marks' here.no_starter mark here.held (rw (← same) inserted);
           formed = here.formed;
           parted = here.parted;
         }
@@ -76,21 +70,16 @@ module _ (f : Form) where
     pub becomes_closed : (new : List ℕ) → ((m : List ℕ) → marks ≡ map (mark_of ucd) m → has_starter ucd m ≡ false → new ≡ now ++ encode_utf8_all (closed_off ucd (composes f) (Some starter) m))
         → new ≡ before ++ encode_utf8_all (finished f ucd w)
     becomes_closed new closed =
-        closed (by_class ucd here.run) here.held (has_starter-by_class ucd here.run)
-        ∙ appended before (finished f ucd here.done) (closed_off ucd (composes f) (Some starter) (by_class ucd here.run)) now _ here.formed refl
-        ∙ ap (λ k. before ++ encode_utf8_all k) (
-        ap (λ k. finished f ucd here.done ++ k) (sym (arranged-marked ucd starter here.run here.starts here.no_starter (composes f)))
-        ∙ sym (here.parted here.run)
-        ∙ ap (λ k. finished f ucd k) (sym here.text))
+        rw (here.text, here.parted here.run, arranged-marked ucd starter here.run here.starts here.no_starter (composes f))
+        (appended before (finished f ucd here.done) _ now new here.formed (closed (by_class ucd here.run) here.held (has_starter-by_class ucd here.run)))
 
     -- the starter alone, where no marks are held
     pub becomes_closed_one : true ≡ (length marks == 0) → (new : List ℕ) → new ≡ now ++ encode_utf8_all (starter ∷ []) → new ≡ before ++ encode_utf8_all (finished f ucd w)
     becomes_closed_one alone new grown = becomes_closed new (λ m held _. grown ∙ ap (λ k. now ++ encode_utf8_all k) (one m (alone ∙ ap (λ v. length v == 0) held) (composes f)))
       where
         one : (m : List ℕ) → true ≡ (length (map (mark_of ucd) m) == 0) → (b : Bool) → starter ∷ [] ≡ closed_off ucd b (Some starter) m
-        one [] none false = refl
-        one [] none true = refl
-        one (c ∷ m) none b = absurd (grind (arith, nat_tests, none))
+        one [] none b = grind arith
+        one (c ∷ m) none b = absurd (grind (arith, nat_tests))
 
   -- a starter more, that composes with nothing before it, where that is closed off
   pub becomes_parted : (w before now : List ℕ) (c : ℕ) → now ≡ before ++ encode_utf8_all (finished f ucd w) → is_starter ucd c ≡ true → NeverSecond ucd f c → Becomes f (w ++ c ∷ []) c [] before now
@@ -111,22 +100,14 @@ module _ (f : Form) where
 -- a starter that is its own row
 pub leaves_own : (c : ℕ) → IsOwnRow ucd c → is_starter ucd c ≡ true → Leaves (c ∷ []) 30
 leaves_own c own starts =
-    let row : decomposed Nfkd ucd (c ∷ []) ≡ c ∷ [] = append-nil (ucd.compat c) ∙ own.compat in
-    let none : trail ucd (c ∷ []) ≡ 0 = trail-push ucd [] c ∙ cond-true _ _ _ starts in
-    record {
-      trail = omega (arith, ap (trail ucd) row, none);
-      longest = omega (arith, ap (longest ucd) row, longest-le-length ucd (c ∷ []));
-    }
+    let row = append-nil (ucd.compat c) ∙ own.compat in
+    omega (arith, ap (trail ucd) row, trail-push ucd [] c ∙ cond-true _ _ _ starts, ap (longest ucd) row, longest-le-length ucd (c ∷ []))
 
 -- any character
 pub leaves_any : (c : ℕ) → IsTrue (is_sound ucd c) → Leaves (c ∷ []) 12
 leaves_any c sound =
-    let row : decomposed Nfkd ucd (c ∷ []) ≡ ucd.compat c = append-nil (ucd.compat c) in
-    let few = (IsSound-from_test ucd c sound).compat_few in
-    record {
-      trail = omega (arith, ap (trail ucd) row, trail-le-length ucd (ucd.compat c), few);
-      longest = omega (arith, ap (longest ucd) row, longest-le-length ucd (ucd.compat c), few);
-    }
+    let row = append-nil (ucd.compat c) in
+    omega (arith, ap (trail ucd) row, trail-le-length ucd (ucd.compat c), ap (longest ucd) row, longest-le-length ucd (ucd.compat c), (IsSound-from_test ucd c sound).compat_few)
 
 -- and a character more whose row is of non-starters
 pub leaves_more : (cs : List ℕ) (c room room' : ℕ) → has_starter ucd (ucd.compat c) ≡ false → room' + length (ucd.compat c) ≡ room → Leaves cs room → Leaves (cs ++ c ∷ []) room'
@@ -134,26 +115,15 @@ leaves_more cs c room room' marks less here =
     let w = decomposed Nfkd ucd cs in
     let row = ucd.compat c in
     let both = decomposed-push ucd Nfkd cs c in
-    let counted : trail ucd (w ++ row) ≡ length row + trail ucd w = trail-append ucd w row ∙ ap (λ b. if b then trail ucd row else length row + trail ucd w) marks in
-    record {
-      trail = omega (arith, ap (trail ucd) both, counted, here.trail);
-      longest = omega (arith, ap (longest ucd) both, longest-append ucd w row, lead-le-length ucd row, longest-le-length ucd row, here.trail, here.longest);
-    }
+    omega (arith, ap (trail ucd) both, rw marks at (trail-append ucd w row), ap (longest ucd) both, longest-append ucd w row, lead-le-length ucd row, longest-le-length ucd row)
 
 -- a row of non-starters is the row of both kinds
 module _ (joined : (c : ℕ) → flat_map ucd.compat (ucd.canonical c) ≡ ucd.compat c) (marks : (c : ℕ) → AreOwnMarks ucd (ucd.canonical c)) where
   own : (w : List ℕ) → AreOwnMarks ucd w → has_starter ucd w ≡ false → IsFull ucd.compat w
-  own w all none k d within = one (is_starter ucd (get_or w k d)) refl
-    where
-      one : (b : Bool) → is_starter ucd (get_or w k d) ≡ b → ucd.compat (get_or w k d) ≡ get_or w k d ∷ []
-      one true starts = let some = list_any_at (is_starter ucd) w k d within starts in cc
-      one false mark = all k d within (ap not mark)
+  own w all none k d within = grind (arith, list_any_at (is_starter ucd) w k d within, all k d within)
 
-  canonical : (c : ℕ) → has_starter ucd (ucd.canonical c) ≡ false → ucd.compat c ≡ ucd.canonical c
-  canonical c none = sym (joined c) ∙ flat_map-full ucd ucd.compat (ucd.canonical c) (own (ucd.canonical c) (marks c) none)
-
-  pub row-of_marks : (f : Form) (c : ℕ) → has_starter ucd (row_of f ucd c) ≡ false → ucd.compat c ≡ row_of f ucd c
-  row-of_marks Nfc c none = canonical c none
-  row-of_marks Nfd c none = canonical c none
-  row-of_marks Nfkc c none = refl
-  row-of_marks Nfkd c none = refl
+  pub leaves_row : (f : Form) (c : ℕ) (row : List ℕ) → row ≡ row_of f ucd c → has_starter ucd row ≡ false → (cs : List ℕ) (room room' : ℕ) → room' + length row ≡ room → Leaves cs room → Leaves (cs ++ c ∷ []) room'
+  leaves_row f c row is none cs room room' less here =
+      let full = λ (plain : has_starter ucd (ucd.canonical c) ≡ false). flat_map-full ucd ucd.compat (ucd.canonical c) (own (ucd.canonical c) (marks c) plain) in
+      let same : ucd.compat c ≡ row = grind (arith, full, joined c) in
+      leaves_more cs c room room' (rw same none) (rw same less) here

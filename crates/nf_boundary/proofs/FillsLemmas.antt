@@ -1,14 +1,13 @@
 -- A piece of text from one boundary to the next, character by character.
-use Rattle.std.proofs.Common.{add-one, ◌≡◌, ◌≢◌, ℕ, ◌+◌, ◌<◌, true, false, List, [], ◌∷◌, ◌++◌, length, take, get_or, refl, sym, ap, subst, ◌∙◌, append-nil, arith, eq-eqb, flat_map, encode_utf8_all}
+use Rattle.std.proofs.Common.{add-one, ◌≡◌, ◌≢◌, ℕ, ◌+◌, ◌<◌, true, false, List, [], ◌∷◌, ◌++◌, length, take, get_or, refl, sym, ap, subst, ◌∙◌, append-nil, arith, eq-eqb, encode_utf8_all}
 use Rattle.nf_boundary.proofs.Common.{ucd, Sees, IsAtBoundary, Closes, Form, row_of, decomposed, finished, No, Seen, take_more, canonical_combining_class, has_starter, IsSoundText, ne_eqb, or_from, kit_form, Becomes, Leaves, Fills, quick_check, IsMark, IsOwnRow, row-own, is_starter, Mark}
-use Rattle.nf_forms.specs.Audit.{AreOwnMarks}
 use Rattle.nf_forms.specs.Laws.Front.{marks_push}
 use Rattle.nf_forms.specs.Laws.StreamSafe.{decomposed-push}
 use Rattle.nf_forms.specs.Laws.Audited.{stream_safe-short}
 use Rattle.nf_boundary.specs.declared.piece.Piece.{Piece}
 use Rattle.nf_boundary.proofs.JoinLemmas.{class_of}
 use Rattle.nf_boundary.proofs.LetterLemmas.{begins_more, begins_first, split_more, split_seen}
-use Rattle.nf_boundary.proofs.BecomesLemmas.{becomes_one, leaves_own, leaves_more, row-of_marks}
+use Rattle.nf_boundary.proofs.BecomesLemmas.{becomes_one, leaves_own, leaves_more}
 
 -- a row read member by member
 pub take_next : (row : List ℕ) (i c : ℕ) → i < length row → c ≡ get_or row i c → take (i + 1) row ≡ take i row ++ c ∷ []
@@ -91,12 +90,6 @@ module _ (f : Form) (seen : Seen) (sees : Sees f seen) where
       let own = marks c (omega (arith, sees.class, some)) (λ no. may (sees.answer ∙ no)) in
       let mark : is_starter ucd c ≡ false = ne_eqb (ucd.class c) 0 (λ none. some (sees.class ∙ sym (class_of c) ∙ none)) in
       leaves_more cs c room room' (ap (has_starter ucd) own.compat ∙ or_from _ _ mark refl) (ap (λ row. room' + length row) own.compat ∙ less) here
-
-pub leaves_row : (f : Form) (c : ℕ) → ((c : ℕ) → flat_map ucd.compat (ucd.canonical c) ≡ ucd.compat c) → ((c : ℕ) → AreOwnMarks ucd (ucd.canonical c)) → (row : List ℕ) → row ≡ row_of f ucd c → has_starter ucd row ≡ false
-    → (cs : List ℕ) (room room' : ℕ) → room' + length row ≡ room → Leaves cs room → Leaves (cs ++ c ∷ []) room'
-leaves_row f c joined marks row is none cs room room' less here =
-    let same : ucd.compat c ≡ row = row-of_marks joined marks f c (ap (has_starter ucd) (sym is) ∙ none) ∙ sym is in
-    leaves_more cs c room room' (ap (has_starter ucd) same ∙ none) (ap (λ row. room' + length row) same ∙ less) here
 
 -- the members of a row that were held, and one more
 pub marks_next : (row : List ℕ) (i c : ℕ) → i < length row → c ≡ get_or row i c → canonical_combining_class c ≢ 0 → has_starter ucd (take i row) ≡ false → has_starter ucd (take (i + 1) row) ≡ false
