@@ -1,6 +1,6 @@
 -- What decomposed text from a boundary on becomes: a member more, and its form when a boundary comes.
 use Rattle.std.proofs.Common.{◌≡◌, ◌≢◌, ◌==◌, ℕ, ◌+◌, Bool, true, false, List, [], ◌∷◌, ◌++◌, length, map, Some, refl, sym, ap, ◌∙◌, append_assoc, append-nil, arith, leb, IsTrue, insert, encode_utf8_all}
-use Rattle.nf_boundary.proofs.Common.{ucd, Form, row_of, decomposed, composes, arranged, finished, canonical_combining_class, IsSound-from_test, ne_eqb, cond-true, has_starter, trail, longest, nat_tests, Becomes, Leaves, Nfkd, compose, is_sound, NeverSecond, IsOwnRow, Mark}
+use Rattle.nf_boundary.proofs.Common.{ucd, Form, row_of, decomposed, composes, arranged, finished, canonical_combining_class, IsSound-from_test, ne_eqb, cond-true, has_starter, trail, longest, nat_tests, Becomes, Leaves, Nfkd, compose, is_sound, NeverSecond, Mark}
 use Rattle.nf_boundary.specs.Laws.Held.{held-push}
 use Rattle.std.specs.List.{prefix_len, flat_map}
 use Rattle.nf_forms.specs.Properties.{Properties, is_starter}
@@ -96,12 +96,6 @@ module _ (f : Form) where
   }
 
 -- ---- how many non-starters may follow
-
--- a starter that is its own row
-pub leaves_own : (c : ℕ) → IsOwnRow ucd c → is_starter ucd c ≡ true → Leaves (c ∷ []) 30
-leaves_own c own starts =
-    let row = append-nil (ucd.compat c) ∙ own.compat in
-    omega (arith, ap (trail ucd) row, trail-push ucd [] c ∙ cond-true _ _ _ starts, ap (longest ucd) row, longest-le-length ucd (c ∷ []))
 
 -- any character
 pub leaves_any : (c : ℕ) → IsTrue (is_sound ucd c) → Leaves (c ∷ []) 12

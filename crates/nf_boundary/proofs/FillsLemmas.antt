@@ -1,58 +1,36 @@
 -- A piece of text from one boundary to the next, character by character.
-use Rattle.std.proofs.Common.{add-one, ◌≡◌, ◌≢◌, ℕ, ◌+◌, ◌<◌, true, false, List, [], ◌∷◌, ◌++◌, length, take, get_or, refl, sym, ap, subst, ◌∙◌, append-nil, arith, eq-eqb, encode_utf8_all}
+use Rattle.std.proofs.Common.{add-one, ◌≡◌, ◌≢◌, ℕ, ◌+◌, ◌<◌, false, List, [], ◌∷◌, ◌++◌, length, take, get_or, refl, sym, ap, ◌∙◌, arith, eq-eqb, encode_utf8_all}
 use Rattle.nf_boundary.proofs.Common.{ucd, Sees, IsAtBoundary, Closes, Form, row_of, decomposed, finished, No, Seen, take_more, canonical_combining_class, has_starter, IsSoundText, ne_eqb, or_from, kit_form, Becomes, Leaves, Fills, quick_check, IsMark, IsOwnRow, row-own, is_starter, Mark}
 use Rattle.nf_forms.specs.Laws.Front.{marks_push}
 use Rattle.nf_forms.specs.Laws.StreamSafe.{decomposed-push}
 use Rattle.nf_forms.specs.Laws.Audited.{stream_safe-short}
 use Rattle.nf_boundary.specs.declared.piece.Piece.{Piece}
 use Rattle.nf_boundary.proofs.JoinLemmas.{class_of}
-use Rattle.nf_boundary.proofs.LetterLemmas.{begins_more, begins_first, split_more, split_seen}
-use Rattle.nf_boundary.proofs.BecomesLemmas.{becomes_one, leaves_own, leaves_more}
+use Rattle.nf_boundary.proofs.LetterLemmas.{begins_more, split_more, split_seen}
+use Rattle.nf_boundary.proofs.BecomesLemmas.{becomes_one, leaves_more}
 
 -- a row read member by member
 pub take_next : (row : List ℕ) (i c : ℕ) → i < length row → c ≡ get_or row i c → take (i + 1) row ≡ take i row ++ c ∷ []
-take_next row i c within is = take_more row i c within ∙ ap (λ d. take i row ++ d ∷ []) (sym is)
+take_next row i c within is = rw is (take_more row i c within)
 
 -- behind its first member
 pub take_behind : (row : List ℕ) (s : ℕ) (others : List ℕ) → row ≡ s ∷ others → (i c : ℕ) → i < length others → c ≡ get_or others i c → take (i + 1 + 1) row ≡ take (i + 1) row ++ c ∷ []
-take_behind row s others is i c within read =
-    let e : get_or (s ∷ others) (i + 1) c ≡ c = rw add-one (sym read) in
-    take_next row (i + 1) c (omega (arith, ap length is)) (sym e ∙ ap (λ r. get_or r (i + 1) c) (sym is))
+take_behind row s others is i c within read = rw is (take_next (s ∷ others) (i + 1) c (omega arith) (rw add-one read))
 
 module _ (f : Form) (first : Seen) (at : IsAtBoundary f first) where
-  starts_first : is_starter ucd first.character ≡ true
-  starts_first = eq-eqb (ucd.class first.character) 0 (class_of first.character ∙ sym at.sees.class ∙ at.class)
-
-  module _ (own : IsOwnRow ucd first.character) where
-    -- a first that is its own row
-    pub becomes_own : (s : ℕ) (marks : List Mark) → s ≡ first.character → marks ≡ [] → (before : List ℕ) → Becomes f (row_of f ucd first.character) s marks before before
-    becomes_own s marks is alone before =
-        becomes_one f s marks (row_of f ucd first.character) before (row-own ucd f first.character own ∙ ap (λ k. k ∷ []) (sym is)) (ap (is_starter ucd) is ∙ starts_first) alone
-
-    pub leaves_first : (room : ℕ) → room ≡ 30 → Leaves (first.character ∷ []) room
-    leaves_first room is = subst (Leaves (first.character ∷ [])) (sym is) (leaves_own first.character own starts_first)
+  -- a first that is its own row
+  pub becomes_own : IsOwnRow ucd first.character → (marks : List Mark) → marks ≡ [] → (before : List ℕ) → Becomes f (row_of f ucd first.character) first.character marks before before
+  becomes_own own marks alone before =
+      becomes_one f first.character marks (row_of f ucd first.character) before (row-own ucd f first.character own)
+      (eq-eqb (ucd.class first.character) 0 (class_of first.character ∙ sym at.sees.class ∙ at.class)) alone
 
   -- the first member of its row
-  pub becomes_row : (row : List ℕ) (starter : ℕ) (others : List ℕ) → row ≡ row_of f ucd first.character → row ≡ starter ∷ others → (s : ℕ) (marks : List Mark) → s ≡ starter → marks ≡ [] → (before : List ℕ)
-      → Becomes f (take 1 (row_of f ucd first.character)) s marks before before
-  becomes_row row starter others is members s marks same alone before =
+  pub becomes_row : (row : List ℕ) (starter : ℕ) (others : List ℕ) → row ≡ row_of f ucd first.character → row ≡ starter ∷ others → (marks : List Mark) → marks ≡ [] → (before : List ℕ)
+      → Becomes f (take 1 (row_of f ucd first.character)) starter marks before before
+  becomes_row row starter others is members marks alone before =
       let anew = at.boundary.anew in
       let both : anew.first ∷ anew.rest ≡ starter ∷ others = sym anew.row ∙ sym is ∙ members in
-      let one : anew.first ≡ starter = cc in
-      becomes_one f s marks (take 1 (row_of f ucd first.character)) before
-      (ap (take 1) (sym is ∙ members) ∙ ap (λ k. k ∷ []) (sym same)) (ap (is_starter ucd) (same ∙ sym one) ∙ anew.starter) alone
-
-  -- its first character
-  pub fills_first : (piece : Piece) (before now : List ℕ) → Becomes f (row_of f ucd first.character) piece.starter piece.run.items before now → Leaves (first.character ∷ []) piece.room
-      → (next : Seen) → next.text.now ≡ first.behind.now → Sees f next → Fills f first next piece before now
-  fills_first piece before now becomes leaves next is sees = record {
-    front = first.character ∷ [];
-    split = split_seen f first at.sees next.text.now is;
-    begins = begins_first f first at [];
-    becomes = subst (λ w. Becomes f w piece.starter piece.run.items before now) (sym (append-nil (row_of f ucd first.character))) becomes;
-    leaves = leaves;
-    sees = sees;
-  }
+      becomes_one f starter marks (take 1 (row_of f ucd first.character)) before (ap (take 1) (sym is ∙ members)) (cc anew.starter) alone
 
   module _ (seen : Seen) (piece : Piece) (before now : List ℕ) (here : Fills f first seen piece before now) where
     -- one more
@@ -89,9 +67,9 @@ module _ (f : Form) (seen : Seen) (sees : Sees f seen) where
       let c = seen.character in
       let own = marks c (omega (arith, sees.class, some)) (λ no. may (sees.answer ∙ no)) in
       let mark : is_starter ucd c ≡ false = ne_eqb (ucd.class c) 0 (λ none. some (sees.class ∙ sym (class_of c) ∙ none)) in
-      leaves_more cs c room room' (ap (has_starter ucd) own.compat ∙ or_from _ _ mark refl) (ap (λ row. room' + length row) own.compat ∙ less) here
+      leaves_more cs c room room' (rw own.compat (or_from _ _ mark refl)) (rw own.compat less) here
 
 -- the members of a row that were held, and one more
 pub marks_next : (row : List ℕ) (i c : ℕ) → i < length row → c ≡ get_or row i c → canonical_combining_class c ≢ 0 → has_starter ucd (take i row) ≡ false → has_starter ucd (take (i + 1) row) ≡ false
 marks_next row i c within is some none =
-    ap (has_starter ucd) (take_next row i c within is) ∙ marks_push ucd (take i row) c none (ne_eqb (ucd.class c) 0 (λ zero. some (sym (class_of c) ∙ zero)))
+    rw (take_next row i c within is) (marks_push ucd (take i row) c none (ne_eqb (ucd.class c) 0 (λ zero. some (sym (class_of c) ∙ zero))))
