@@ -1,6 +1,6 @@
 -- A character that is taken apart, where a boundary comes behind it.
-use Rattle.std.proofs.Common.{◌≡◌, ℕ, true, false, List, ◌++◌, refl, ap, ◌∙◌, IsTrue, encode_utf8_all}
-use Rattle.nf_boundary.proofs.Common.{Form, Nfc, Nfd, Nfkc, Nfkd, row_of, composes, is_sound, ucd, HasForm-row, kit_form, Seen, IsAtBoundary, Closes}
+use Rattle.std.proofs.Common.{arith, ◌≡◌, ℕ, true, false, List, ◌++◌, ap, ◌∙◌, IsTrue, encode_utf8_all}
+use Rattle.nf_boundary.proofs.Common.{Form, row_of, composes, is_sound, ucd, HasForm-row, kit_form, Seen, IsAtBoundary, Closes}
 use Rattle.nf_forms.specs.Ordering.{is_ordered}
 use Rattle.unicode_normalization.specs.Decompose.{decompose}
 use Rattle.nf_boundary.proofs.LetterLemmas.{closes_letter}
@@ -8,16 +8,10 @@ use Rattle.nf_boundary.proofs.LetterLemmas.{closes_letter}
 -- what the kit calls the decomposition of a character is the row
 pub row_is : (f : Form) (c : ℕ) → decompose (kit_form f) c ≡ row_of f ucd c
 unfolding ucd decompose
-row_is Nfc c = refl
-row_is Nfd c = refl
-row_is Nfkc c = refl
-row_is Nfkd c = refl
+row_is f c = grind arith
 
 row_ordered : ((c : ℕ) → IsTrue (is_ordered ucd (ucd.canonical c))) → ((c : ℕ) → IsTrue (is_ordered ucd (ucd.compat c))) → (f : Form) (c : ℕ) → is_ordered ucd (row_of f ucd c) ≡ true
-row_ordered canonical compat Nfc c = canonical c
-row_ordered canonical compat Nfd c = canonical c
-row_ordered canonical compat Nfkc c = compat c
-row_ordered canonical compat Nfkd c = compat c
+row_ordered canonical compat f c = grind (arith, canonical c, compat c)
 
 pub closes_apart : (f : Form) (first : Seen) → IsAtBoundary f first → composes f ≡ false → ((c : ℕ) → IsTrue (is_sound ucd c))
     → ((c : ℕ) → IsTrue (is_ordered ucd (ucd.canonical c))) → ((c : ℕ) → IsTrue (is_ordered ucd (ucd.compat c))) → (next : Seen) → next.text.now ≡ first.behind.now → IsAtBoundary f next

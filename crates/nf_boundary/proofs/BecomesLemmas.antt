@@ -37,16 +37,7 @@ module _ (f : Form) where
   unfolding by_class
   becomes_one starter marks w before text starts alone =
       let none : arranged (composes f) ucd [] ≡ [] = grind arith in
-      record {
-        done = [];
-        run = [];
-        text = text;
-        starts = starts;
-        no_starter = refl;
-        held = alone;
-        formed = sym (ap (λ k. before ++ encode_utf8_all k) none ∙ append-nil before);
-        parted = λ v. sym (ap (λ k. k ++ finished f ucd (starter ∷ v)) none);
-      }
+      record { done = []; run = []; text = text; starts = starts; no_starter = refl; held = alone; formed = rw (none, append-nil); parted = λ v. rw none }
 
   module _ (w : List ℕ) (starter : ℕ) (marks : List Mark) (before now : List ℕ) (here : Becomes f w starter marks before now) where
     -- a non-starter more, behind those of no greater class
@@ -84,16 +75,7 @@ module _ (f : Form) where
   -- a starter more, that composes with nothing before it, where that is closed off
   pub becomes_parted : (w before now : List ℕ) (c : ℕ) → now ≡ before ++ encode_utf8_all (finished f ucd w) → is_starter ucd c ≡ true → NeverSecond ucd f c → Becomes f (w ++ c ∷ []) c [] before now
   unfolding by_class
-  becomes_parted w before now c formed starts never = record {
-    done = w;
-    run = [];
-    text = refl;
-    starts = starts;
-    no_starter = refl;
-    held = refl;
-    formed = formed;
-    parted = λ v. arranged-boundary ucd (composes f) w c v starts never;
-  }
+  becomes_parted w before now c formed starts never = grind (arith, λ (v : List ℕ). arranged-boundary ucd (composes f) w c v starts never)
 
 -- ---- how many non-starters may follow
 

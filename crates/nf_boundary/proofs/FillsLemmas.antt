@@ -37,26 +37,15 @@ module _ (f : Form) (first : Seen) (at : IsAtBoundary f first) where
     pub fills_more : (piece' : Piece) → ((w before now : List ℕ) → Becomes f w piece.starter piece.run.items before now → Becomes f (w ++ row_of f ucd seen.character) piece'.starter piece'.run.items before now)
         → ((cs : List ℕ) → Leaves cs piece.room → Leaves (cs ++ seen.character ∷ []) piece'.room)
         → (next : Seen) → next.text.now ≡ seen.behind.now → Sees f next → Fills f first next piece' before now
-    fills_more piece' becomes leaves next is sees = record {
-      front = here.front ++ seen.character ∷ [];
-      split = split_more first.text.now seen.text.now next.text.now here.front (seen.character ∷ []) here.split (split_seen f seen here.sees next.text.now is);
-      begins = begins_more f here.front (seen.character ∷ []) here.begins;
-      becomes = rw (decomposed-push ucd f here.front seen.character) (becomes (decomposed f ucd here.front) before now here.becomes);
-      leaves = leaves here.front here.leaves;
-      sees = sees;
-    }
+    fills_more piece' becomes leaves next is sees =
+        let split = split_more first.text.now seen.text.now next.text.now here.front (seen.character ∷ []) here.split (split_seen f seen here.sees next.text.now is) in
+        grind (arith, begins_more f here.front (seen.character ∷ []) here.begins, decomposed-push ucd f here.front seen.character, becomes (decomposed f ucd here.front) before now here.becomes, leaves here.front here.leaves)
 
     -- and then a boundary
     pub fills_closed : ((x : List ℕ) → IsSoundText ucd x) → (behind : Seen) → behind ≡ seen → IsAtBoundary f behind
         → (new : List ℕ) → ((w before : List ℕ) → Becomes f w piece.starter piece.run.items before now → new ≡ before ++ encode_utf8_all (finished f ucd w)) → Closes f first.text.now behind before new
-    fills_closed sound behind same at_behind new closed = record {
-      piece = here.front;
-      more = finished f ucd (decomposed f ucd here.front);
-      split = here.split ∙ ap (λ k. encode_utf8_all here.front ++ k.text.now) (sym same);
-      form = record { begins = here.begins; sound = sound here.front; safe = stream_safe-short ucd here.front here.leaves.longest; form = refl };
-      formed = closed (decomposed f ucd here.front) before here.becomes;
-      behind = at_behind;
-    }
+    fills_closed sound behind same at_behind new closed =
+        grind (arith, sound here.front, stream_safe-short ucd here.front here.leaves.longest, closed (decomposed f ucd here.front) before here.becomes)
 
 -- ---- a non-starter more, or a character whose row is of non-starters
 

@@ -1,5 +1,5 @@
 -- A Hangul syllable that is written with letters: what it becomes, and that it is closed.
-use Rattle.std.proofs.Common.{◌≡◌, inr, ℕ, ◌+◌, ◌≤◌, ◌<◌, true, List, [], ◌∷◌, ◌++◌, Some, refl, ap, subst, ◌∙◌, arith, eq-eqb, encode_utf8, encode_utf8_all}
+use Rattle.std.proofs.Common.{◌≡◌, inr, ℕ, ◌+◌, ◌≤◌, ◌<◌, true, List, [], ◌∷◌, ◌++◌, Some, refl, ap, ◌∙◌, arith, eq-eqb, encode_utf8, encode_utf8_all}
 use Rattle.nf_boundary.proofs.Common.{canonical_combining_class, compose_hangul, IsLv, IsLvt, compose_hangul-lv, compose_hangul-lvt, Form, composes, composite, IsOwnRow, IsCluster, ucd, cluster-one, cluster-joined, HasForm-cluster, IsSoundText, Seen, IsAtBoundary, Closes}
 use Rattle.ucd_normal.specs.Composition.{composite as listed}
 use Rattle.unicode_normalization.specs.Compose.{or_else, primary_composite}
@@ -18,8 +18,7 @@ module _ (starter : (c : ℕ) → 0x1100 ≤ c → c < 0x1200 → canonical_comb
   joins : (cs : List ℕ) (first count : ℕ) → IsCluster ucd cs first [] 0 0 count → count < 30 → (c d : ℕ) → 0x1100 ≤ c → c < 0x1200 → compose_hangul first c ≡ Some d → IsCluster ucd (cs ++ c ∷ []) d [] 0 0 (count + 1)
   joins cs first count here room c d low high both =
       let class = class_of c ∙ starter c low high in
-      subst (λ k. IsCluster ucd (cs ++ c ∷ []) d [] k 0 (count + 1)) class
-      (cluster-joined ucd cs first [] 0 0 count here c (own c low high) (inr class) room d (primary first c ∙ pair-hangul first c d both))
+      rw class at (cluster-joined ucd cs first [] 0 0 count here c (own c low high) (inr class) room d (primary first c ∙ pair-hangul first c d both))
 
   module _ (l v lv : ℕ) (two : IsLv l v lv) where
     open_cluster : IsCluster ucd (l ∷ v ∷ []) lv [] 0 0 2
@@ -31,17 +30,13 @@ module _ (starter : (c : ℕ) → 0x1100 ≤ c → c < 0x1200 → canonical_comb
         joins (l ∷ []) l 1 one (omega arith) v lv (omega arith) (omega arith) (compose_hangul-lv l v lv two)
 
     pub spells_two : (text rest : List ℕ) → text ≡ encode_utf8 v ++ rest → Spells l text rest lv
-    spells_two text rest e = record { front = v ∷ []; count = 2; split = split_one text rest v e; made = open_cluster }
+    spells_two text rest e = grind (arith, split_one text rest v e, open_cluster)
 
     pub spells_three : (t lvt : ℕ) → IsLvt lv t lvt → (text middle rest : List ℕ) → text ≡ encode_utf8 v ++ middle → middle ≡ encode_utf8 t ++ rest → Spells l text rest lvt
     spells_three t lvt three text middle rest e g =
         let trailing = three.trailing in
-        record {
-          front = v ∷ t ∷ [];
-          count = 3;
-          split = split_more text middle rest (v ∷ []) (t ∷ []) (split_one text middle v e) (split_one middle rest t g);
-          made = joins (l ∷ v ∷ []) lv 2 open_cluster (omega arith) t lvt (omega arith) (omega arith) (compose_hangul-lvt lv t lvt three);
-        }
+        let made = joins (l ∷ v ∷ []) lv 2 open_cluster (omega arith) t lvt (omega arith) (omega arith) (compose_hangul-lvt lv t lvt three) in
+        grind (arith, made, split_more text middle rest (v ∷ []) (t ∷ []) (split_one text middle v e) (split_one middle rest t g))
 
 -- where a boundary comes behind it, it is closed
 pub closes_syllable : (f : Form) (first : Seen) → IsAtBoundary f first → composes f ≡ true → ((x : List ℕ) → IsSoundText ucd x)
@@ -49,11 +44,5 @@ pub closes_syllable : (f : Form) (first : Seen) → IsAtBoundary f first → com
     → (old new : List ℕ) → new ≡ old ++ encode_utf8_all (syllable ∷ []) → Closes f first.text.now next old new
 closes_syllable f first at composing sound rest syllable letters next is behind old new formed =
     let cs = first.character ∷ letters.front in
-    record {
-      piece = cs;
-      more = syllable ∷ [];
-      split = cc (split_more first.text.now first.behind.now rest (first.character ∷ []) letters.front (split_seen f first at.sees first.behind.now refl) letters.split);
-      form = HasForm-cluster ucd f composing cs syllable [] 0 0 letters.count letters.made (begins_first f first at letters.front) (sound cs);
-      formed = formed;
-      behind = behind;
-    }
+    let split = split_more first.text.now first.behind.now rest (first.character ∷ []) letters.front (split_seen f first at.sees first.behind.now refl) letters.split in
+    grind (arith, HasForm-cluster ucd f composing cs syllable [] 0 0 letters.count letters.made (begins_first f first at letters.front) (sound cs))

@@ -1,7 +1,7 @@
 -- A cluster of Unicode's characters: how a character more joins it, and what it is when a boundary comes.
-use Rattle.std.proofs.Common.{Option, ◌≡◌, ◌≢◌, ◌⊎◌, inl, inr, ℕ, ◌+◌, ◌<◌, ◌≤◌, true, not, ◌&&◌, ◌==◌, nat_le, cond, List, [], ◌∷◌, ◌++◌, length, Some, None, refl, sym, ap, subst, ◌∙◌, append_assoc, append-nil, arith, eq-eqb}
+use Rattle.std.proofs.Common.{Option, ◌≡◌, ◌≢◌, ◌⊎◌, inr, ℕ, ◌+◌, ◌<◌, ◌≤◌, true, not, ◌&&◌, ◌==◌, nat_le, cond, List, [], ◌∷◌, ◌++◌, length, Some, None, refl, sym, ◌∙◌, append_assoc, append-nil, arith, eq-eqb}
 use Rattle.std.specs.Prelude.{encode_utf8, encode_utf8_all}
-use Rattle.nf_boundary.proofs.Common.{ucd, Sees, IsAtBoundary, Closes, Form, composes, Seen, Yes, No, canonical_combining_class, IsSoundText, ne_eqb, cases_eq, kit_form, quick_check, IsMark, composite, joined, IsOwnRow, AreClusters, AreMadeOf, JoinsFront, Joins, Gathers}
+use Rattle.nf_boundary.proofs.Common.{ucd, Sees, IsAtBoundary, Closes, Form, composes, Seen, Yes, No, canonical_combining_class, IsSoundText, ne_eqb, kit_form, quick_check, IsMark, composite, joined, IsOwnRow, AreClusters, AreMadeOf, JoinsFront, Joins, Gathers}
 use Rattle.nf_forms.specs.Laws.Cluster.{cluster-joined, cluster-left, cluster-next, HasForm-cluster}
 use Rattle.ucd_normal.specs.declared.forms.Form.TheVariants.{Nfkd as KitNfkd}
 use Rattle.nf_boundary.specs.declared.cluster.Cluster.{Cluster}
@@ -14,20 +14,13 @@ class_of c = refl
 -- what `joined` is, by what blocks c: a mark that is left
 pub joined_is : (done cs : List ℕ) (cluster : Cluster) → AreMadeOf done cs cluster → (c class : ℕ) → class ≡ canonical_combining_class c
     → joined ucd cluster.starter cluster.left.items c ≡ cond (not (length cluster.left.items == 0) && nat_le class cluster.highest) None (composite ucd cluster.starter c)
-joined_is done cs cluster here c class is =
-    ap (λ t. cond t None (composite ucd cluster.starter c)) (here.blocked c ∙ ap (λ k. not (length cluster.left.items == 0) && nat_le k cluster.highest) (class_of c ∙ sym is))
+joined_is done cs cluster here c class is = rw (here.blocked c, class_of c, is)
 
 -- a character that is not refused, and is a mark or passes NFKD, is its own row
 module _ (f : Form) (seen : Seen) (sees : Sees f seen) where
   pub own_row : ((c : ℕ) → 0 < canonical_combining_class c → quick_check (kit_form f) c ≢ No → IsMark ucd c (canonical_combining_class c)) → ((c : ℕ) → quick_check KitNfkd c ≡ Yes → IsOwnRow ucd c)
       → seen.answer ≢ No → (seen.class ≡ 0 → quick_check KitNfkd seen.character ≡ Yes) → IsOwnRow ucd seen.character
-  own_row marks own may starter = elim (cases_eq seen.class 0) [
-    | inl none ↦ own seen.character (starter none)
-    | inr some ↦
-        let above : 0 < seen.class = omega (arith, some) in
-        let mark = marks seen.character (omega (arith, sees.class, above)) (λ no. may (sees.answer ∙ no)) in
-        record { canonical = mark.canonical; compat = mark.compat }
-  ]
+  own_row marks own may starter = grind (arith, marks seen.character, own seen.character)
 
   -- so what it makes of the cluster, by what it composes to with the starter
   module _ (old new : Cluster) (own : IsOwnRow ucd seen.character) (follows : (old.last ≤ seen.class) ⊎ (seen.class ≡ 0)) (room : old.count < 30) (last : new.last ≡ seen.class)
@@ -72,14 +65,13 @@ pub made_letter : (done cs : List ℕ) (cluster : Cluster) → AreMadeOf done cs
     → (d : ℕ) → composite ucd cluster.starter c ≡ Some d → AreClusters ucd done (cs ++ c ∷ []) d cluster.left.items 0 cluster.highest (cluster.count + 1)
 made_letter done cs cluster here c own starter room none d both =
     let class = class_of c ∙ starter in
-    subst (λ k. AreClusters ucd done (cs ++ c ∷ []) d cluster.left.items k cluster.highest (cluster.count + 1)) class
-    (cluster-joined ucd cs cluster.starter cluster.left.items cluster.last cluster.highest cluster.count here c own (inr class) room d (rw (joined_is done cs cluster here c (canonical_combining_class c) refl, none) both))
+    rw class at (cluster-joined ucd cs cluster.starter cluster.left.items cluster.last cluster.highest cluster.count here c own (inr class) room d (rw (joined_is done cs cluster here c (canonical_combining_class c) refl, none) both))
 
 pub joins_letter : (text rest : List ℕ) (old new : Cluster) (c : ℕ) → text ≡ encode_utf8 c ++ rest → ((done cs : List ℕ) → AreMadeOf done cs old → AreMadeOf done (cs ++ c ∷ []) new) → JoinsFront text rest old new
 joins_letter text rest old new c e joins = record { front = c ∷ []; split = split_one text rest c e; joins = joins }
 
 pub joins_none : (text : List ℕ) (cluster : Cluster) → JoinsFront text text cluster cluster
-joins_none text cluster = record { front = []; split = refl; joins = λ done cs made. rw append-nil made }
+joins_none text cluster = grind (arith, append-nil)
 
 pub joins_both : (text middle rest : List ℕ) (a b c : Cluster) → JoinsFront text middle a b → JoinsFront middle rest b c → JoinsFront text rest a c
 joins_both text middle rest a b c first second = record {
@@ -93,35 +85,19 @@ joins_both text middle rest a b c first second = record {
 module _ (f : Form) (first : Seen) (at : IsAtBoundary f first) where
   pub gathers_first : (one cluster : Cluster) (next : Seen) (rest formed : List ℕ) → AreMadeOf [] (first.character ∷ []) one → JoinsFront first.behind.now rest one cluster → next.text.now ≡ rest → Sees f next
       → Gathers f first next cluster formed formed
-  gathers_first one cluster next rest formed made letters is sees = record {
-    front = first.character ∷ letters.front;
-    done = [];
-    split = cc (split_more first.text.now first.behind.now rest (first.character ∷ []) letters.front (split_seen f first at.sees first.behind.now refl) letters.split);
-    begins = begins_first f first at letters.front;
-    sees = sees;
-    formed = sym (append-nil formed);
-    made = letters.joins [] (first.character ∷ []) made;
-  }
+  gathers_first one cluster next rest formed made letters is sees =
+      let split = split_more first.text.now first.behind.now rest (first.character ∷ []) letters.front (split_seen f first at.sees first.behind.now refl) letters.split in
+      grind (arith, append-nil, begins_first f first at letters.front, letters.joins [] (first.character ∷ []) made)
 
   module _ (cluster : Cluster) (seen : Seen) (old new : List ℕ) (here : Gathers f first seen cluster old new) where
     pub gathers_more : (cluster' : Cluster) (next : Seen) (new' : List ℕ) → Joins seen.character cluster cluster' new new' → next.text.now ≡ seen.behind.now → Sees f next
         → Gathers f first next cluster' old new'
-    gathers_more cluster' next new' more is sees = record {
-      front = here.front ++ seen.character ∷ [];
-      done = here.done ++ more.more;
-      split = split_more first.text.now seen.text.now next.text.now here.front (seen.character ∷ []) here.split (split_seen f seen here.sees next.text.now is);
-      begins = begins_more f here.front (seen.character ∷ []) here.begins;
-      sees = sees;
-      formed = appended old here.done more.more new new' here.formed more.formed;
-      made = more.joins here.done here.front here.made;
-    }
+    gathers_more cluster' next new' more is sees =
+        let split = split_more first.text.now seen.text.now next.text.now here.front (seen.character ∷ []) here.split (split_seen f seen here.sees next.text.now is) in
+        let formed = appended old here.done more.more new new' here.formed more.formed in
+        grind (arith, begins_more f here.front (seen.character ∷ []) here.begins, more.joins here.done here.front here.made)
 
     pub gathers_closed : composes f ≡ true → ((x : List ℕ) → IsSoundText ucd x) → IsAtBoundary f seen → (new' : List ℕ) → new' ≡ new ++ encode_utf8_all (cluster.starter ∷ cluster.left.items) → Closes f first.text.now seen old new'
-    gathers_closed composing sound behind new' formed = record {
-      piece = here.front;
-      more = here.done ++ cluster.starter ∷ cluster.left.items;
-      split = here.split;
-      form = HasForm-cluster ucd f composing here.front cluster.starter cluster.left.items cluster.last cluster.highest cluster.count here.made here.begins (sound here.front);
-      formed = appended old here.done (cluster.starter ∷ cluster.left.items) new new' here.formed formed;
-      behind = behind;
-    }
+    gathers_closed composing sound behind new' formed =
+        let form = HasForm-cluster ucd f composing here.front cluster.starter cluster.left.items cluster.last cluster.highest cluster.count here.made here.begins (sound here.front) in
+        grind (arith, form, appended old here.done (cluster.starter ∷ cluster.left.items) new new' here.formed formed)

@@ -1,39 +1,29 @@
 -- Characters that are appended to a text, those that it begins with, and the first of them as a text of its own.
-use Rattle.std.proofs.Common.{refl, ◌≡◌, ℕ, List, [], ◌∷◌, ◌++◌, sym, ap, ◌∙◌, append-nil, append_assoc, encode_utf8, encode_utf8_all}
+use Rattle.std.proofs.Common.{arith, ◌≡◌, ℕ, List, [], ◌∷◌, ◌++◌, append-nil, append_assoc, encode_utf8, encode_utf8_all}
 use Rattle.nf_boundary.proofs.Common.{encodes-append, Form, BeginsAtBoundary, HasForm, ucd, Seen, Sees, IsAtBoundary, Closes}
 
 -- characters appended to a text to which others were
 pub appended : (old a b new new' : List ℕ) → new ≡ old ++ encode_utf8_all a → new' ≡ new ++ encode_utf8_all b → new' ≡ old ++ encode_utf8_all (a ++ b)
-appended old a b new new' first second =
-    second ∙ ap (λ k. k ++ encode_utf8_all b) first ∙ append_assoc old (encode_utf8_all a) (encode_utf8_all b) ∙ ap (λ k. old ++ k) (sym (encodes-append a b))
+appended old a b new new' first second = rw (second, first, encodes-append, append_assoc)
 
 -- a text that begins with a character, or with more of them before others
 pub split_one : (text rest : List ℕ) (c : ℕ) → text ≡ encode_utf8 c ++ rest → text ≡ encode_utf8_all (c ∷ []) ++ rest
-split_one text rest c e = e ∙ ap (λ k. k ++ rest) (sym (append-nil (encode_utf8 c)))
+split_one text rest c e = rw append-nil e
 
 pub split_more : (text middle rest front more : List ℕ) → text ≡ encode_utf8_all front ++ middle → middle ≡ encode_utf8_all more ++ rest → text ≡ encode_utf8_all (front ++ more) ++ rest
-split_more text middle rest front more first second =
-    first ∙ ap (λ k. encode_utf8_all front ++ k) second
-    ∙ sym (ap (λ k. k ++ rest) (encodes-append front more) ∙ append_assoc (encode_utf8_all front) (encode_utf8_all more) rest)
+split_more text middle rest front more first second = rw (first, second, encodes-append, append_assoc)
 
 pub split_seen : (f : Form) (seen : Seen) → Sees f seen → (rest : List ℕ) → rest ≡ seen.behind.now → seen.text.now ≡ encode_utf8_all (seen.character ∷ []) ++ rest
-split_seen f seen sees rest is = split_one seen.text.now rest seen.character (sees.text ∙ ap (λ k. encode_utf8 seen.character ++ k) (sym is))
+split_seen f seen sees rest is = rw (is, append-nil) sees.text
 
 -- characters that begin at a boundary, and more behind them
 pub begins_more : (f : Form) (cs more : List ℕ) → BeginsAtBoundary ucd f cs → BeginsAtBoundary ucd f (cs ++ more)
-begins_more f cs more b = record { first = b.first; rest = b.rest ++ more; text = ap (λ k. k ++ more) b.text; boundary = b.boundary; sound = b.sound }
+begins_more f cs more b = grind arith
 
 pub begins_first : (f : Form) (first : Seen) → IsAtBoundary f first → (rest : List ℕ) → BeginsAtBoundary ucd f (first.character ∷ rest)
-begins_first f first at rest = record { first = first.character; rest = rest; text = refl; boundary = at.boundary; sound = at.sound }
+begins_first f first at rest = grind arith
 
 -- the character is closed, where a boundary comes behind it
 pub closes_letter : (f : Form) (first : Seen) → IsAtBoundary f first → (next : Seen) → next.text.now ≡ first.behind.now → IsAtBoundary f next
     → (more : List ℕ) → HasForm ucd f (first.character ∷ []) more → (old new : List ℕ) → new ≡ old ++ encode_utf8_all more → Closes f first.text.now next old new
-closes_letter f first at next is behind more form old new formed = record {
-  piece = first.character ∷ [];
-  more = more;
-  split = split_seen f first at.sees next.text.now is;
-  form = form;
-  formed = formed;
-  behind = behind;
-}
+closes_letter f first at next is behind more form old new formed = let split = split_seen f first at.sees next.text.now is in grind arith

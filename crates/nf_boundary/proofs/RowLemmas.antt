@@ -1,9 +1,8 @@
 -- A character with its decomposition beside it, and one that passes the quick check.
-use Rattle.std.proofs.Common.{◌≡◌, ℕ, false, List, [], ◌∷◌, ◌++◌, ◌==◌, length, if◌then◌else◌, refl, ap, sym, ◌∙◌, inl, IsTrue, encode_utf8_all}
-use Rattle.nf_boundary.proofs.Common.{Yes, quick_check, Form, row_of, decomposed, max_row, is_sound, IsCalm, IsSoundText, NeverSecond, BeginsAnew, IsParting, ucd, HasForm-calm, kit_form, is_among, halfwidth_marks, passes_check, is_syllable, decompose_hangul, Seen, IsRow, IsAtBoundary, Closes}
+use Rattle.std.proofs.Common.{arith, ◌≡◌, ℕ, false, List, [], ◌∷◌, ◌++◌, ◌==◌, length, refl, ap, ◌∙◌, inl, IsTrue, encode_utf8_all}
+use Rattle.nf_boundary.proofs.Common.{Yes, quick_check, Form, row_of, decomposed, max_row, is_sound, IsCalm, IsSoundText, NeverSecond, BeginsAnew, IsParting, ucd, HasForm-calm, kit_form, is_among, halfwidth_marks, passes_check, is_syllable, Seen, IsRow, IsAtBoundary, Closes}
 use Rattle.nf_forms.specs.Laws.CalmSteps.{begins_run}
 use Rattle.ucd_normal.specs.declared.forms.Form.{Form as KitForm}
-use Rattle.ucd_normal.specs.Decomposition.{or_itself}
 use Rattle.unicode_normalization.specs.Decompose.{table_of, decompose}
 use Rattle.nf_boundary.specs.declared.rows.Row.{Row}
 use Rattle.nf_boundary.proofs.ApartLemmas.{row_is}
@@ -13,19 +12,13 @@ use Rattle.nf_boundary.proofs.LetterLemmas.{closes_letter}
 -- its row begins with a starter that composes with nothing before it
 pub anew_row : (f : Form) (c : ℕ) (row : List ℕ) → row ≡ decompose (kit_form f) c → ((x : ℕ) → IsTrue (passes_check f x) → IsParting ucd f x) → ((x : ℕ) → quick_check (kit_form f) x ≡ Yes → NeverSecond ucd f x)
     → (first : ℕ) (rest : List ℕ) → row ≡ first ∷ rest → IsTrue (passes_check f first) → BeginsAnew ucd f c
-anew_row f c row decomposed parting never first rest is passes = record {
-  first = first;
-  rest = rest;
-  row = sym (row_is f c) ∙ sym decomposed ∙ is;
-  starter = (parting first passes).starts;
-  never_second = never first (passes_yes f first passes);
-}
+anew_row f c row decomposed parting never first rest is passes = grind (arith, row_is f c, parting first passes, never first (passes_yes f first passes))
 
 -- what the tables have of a character is its row, where it is no syllable of Hangul
 pub table_row : (form : KitForm) (c : ℕ) → is_syllable c ≡ false → (first : ℕ) (rest : List ℕ) → table_of form c ≡ first ∷ rest → table_of form c ≡ decompose form c
 unfolding decompose
 table_row form c other first rest is =
-    is ∙ ap (or_itself c) (sym is) ∙ sym (ap (λ b. if b then decompose_hangul c else or_itself c (table_of form c)) other)
+    rw (other, is)
 
 -- a character that passes is closed, where a boundary comes behind it
 pub closes_own : (f : Form) (first : Seen) → IsAtBoundary f first → ((x : List ℕ) → IsSoundText ucd x) → ((c : ℕ) → IsTrue (is_sound ucd c)) → ((c : ℕ) → IsTrue (passes_check f c) → IsParting ucd f c)
@@ -38,7 +31,7 @@ closes_own f first at sound sound_one parting own other next is behind old new f
 
 -- what one look-up tells has no members beside it
 pub row_plain : (f : Form) (row : Row) → row.members.now ≡ [] → IsAtBoundary f row.seen → IsRow f row
-row_plain f row none at = record { at = at; members = λ first others is. cc }
+row_plain f row none at = grind arith
 
 -- the members that it has
 pub row_members : (f : Form) (row : Row) → IsRow f row → (length row.members.now == 0) ≡ false → row.members.now ≡ row_of f ucd row.seen.character
