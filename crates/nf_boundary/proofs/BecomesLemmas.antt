@@ -1,6 +1,6 @@
 -- What decomposed text from a boundary on becomes: a member more, and its form when a boundary comes.
 use Rattle.std.proofs.Common.{◌≡◌, ◌≢◌, ◌==◌, ℕ, ◌+◌, Bool, true, false, List, [], ◌∷◌, ◌++◌, length, map, Some, refl, sym, ap, ◌∙◌, append_assoc, append-nil, arith, leb, IsTrue, insert, encode_utf8_all}
-use Rattle.nf_boundary.proofs.Common.{ucd, Form, row_of, decomposed, composes, arranged, finished, canonical_combining_class, IsSound-from_test, ne_eqb, cond-true, has_starter, trail, longest, nat_tests, Becomes, Leaves, Nfkd, compose, is_sound, NeverSecond, Mark}
+use Rattle.nf_boundary.proofs.Common.{ucd, Form, row_of, decomposed, composes, arranged, finished, canonical_combining_class, IsSound-from_test, ne_eqb, cond-true, has_starter, trail, longest, nat_tests, Becomes, Leaves, Nfkd, is_sound, NeverSecond, Mark}
 use Rattle.nf_boundary.specs.Laws.Held.{held-push}
 use Rattle.std.specs.List.{prefix_len, flat_map}
 use Rattle.nf_forms.specs.Properties.{Properties, is_starter}
@@ -11,7 +11,7 @@ use Rattle.nf_forms.specs.Laws.Audited.{flat_map-full}
 use Rattle.nf_forms.specs.Audit.{IsFull, AreOwnMarks}
 use Rattle.nf_forms.specs.Laws.StreamSafe.{decomposed-push, longest-le-length}
 use Rattle.nf_boundary.specs.Mark.{mark_of, is_rising}
-use Rattle.nf_forms.specs.Order.{by_class, order}
+use Rattle.nf_forms.specs.Order.{by_class}
 use Rattle.nf_forms.specs.Laws.Runs.{lead-le-length, trail-le-length, trail-append, trail-push, longest-append}
 use Rattle.nf_forms.specs.Laws.Order.{order-behind, has_starter-by_class}
 use Rattle.nf_forms.specs.Laws.Ordering.{order-ordered}
@@ -21,15 +21,10 @@ use Rattle.nf_boundary.proofs.LetterLemmas.{appended}
 use Rattle.nf_boundary.proofs.JoinLemmas.{class_of}
 
 -- a starter and non-starters: they are put in order, and composed
-order-marked : (p : Properties) (s : ℕ) (run : List ℕ) → is_starter p s ≡ true → has_starter p run ≡ false → order p (s ∷ run) ≡ s ∷ by_class p run
-order-marked p s run starts plain =
-    order-behind p (s ∷ []) run (trail-push p [] s ∙ cond-true _ _ _ starts) plain ∙ ap (λ w. w ++ by_class p run) (order-ordered p (s ∷ []) refl)
-
 arranged-marked : (p : Properties) (s : ℕ) (run : List ℕ) → is_starter p s ≡ true → has_starter p run ≡ false → (b : Bool) → arranged b p (s ∷ run) ≡ closed_off p b (Some s) (by_class p run)
-arranged-marked p s run starts plain false = order-marked p s run starts plain
-arranged-marked p s run starts plain true =
-    ap (compose p) (order-marked p s run starts plain)
-    ∙ compose-behind p [] (s ∷ []) (by_class p run) (record { starter = s; marks = []; text = refl; starts = starts; no_starter = refl }) (has_starter-by_class p run)
+arranged-marked p s run starts plain b =
+    let ordered = order-behind p (s ∷ []) run (trail-push p [] s ∙ cond-true _ _ _ starts) plain in
+    grind (arith, ordered, order-ordered p (s ∷ []) refl, compose-behind p [] (s ∷ []) (by_class p run) (grind arith) (has_starter-by_class p run))
 
 module _ (f : Form) where
   -- a starter alone
@@ -46,16 +41,8 @@ module _ (f : Form) where
     becomes_marked c class is some marks' inserted =
         let same : class ≡ ucd.class c = is ∙ sym (class_of c) in
         let mark : is_starter ucd c ≡ false = ne_eqb (ucd.class c) 0 (λ none. some (same ∙ none)) in
-        record {
-          done = here.done;
-          run = here.run ++ c ∷ [];
-          text = rw (here.text, append_assoc);
-          starts = here.starts;
-          no_starter = marks_push ucd here.run c here.no_starter mark;
-          held = held-push ucd here.run c marks marks' here.no_starter mark here.held (rw (← same) inserted);
-          formed = here.formed;
-          parted = here.parted;
-        }
+        let text : w ++ c ∷ [] ≡ here.done ++ starter ∷ (here.run ++ c ∷ []) = rw (here.text, append_assoc) in
+        grind (arith, marks_push ucd here.run c here.no_starter mark, held-push ucd here.run c marks marks' here.no_starter mark here.held (rw (← same) inserted))
 
     -- what is appended when all that stands there is closed off
     pub becomes_closed : (new : List ℕ) → ((m : List ℕ) → marks ≡ map (mark_of ucd) m → has_starter ucd m ≡ false → new ≡ now ++ encode_utf8_all (closed_off ucd (composes f) (Some starter) m))
@@ -66,11 +53,11 @@ module _ (f : Form) where
 
     -- the starter alone, where no marks are held
     pub becomes_closed_one : true ≡ (length marks == 0) → (new : List ℕ) → new ≡ now ++ encode_utf8_all (starter ∷ []) → new ≡ before ++ encode_utf8_all (finished f ucd w)
-    becomes_closed_one alone new grown = becomes_closed new (λ m held _. grown ∙ ap (λ k. now ++ encode_utf8_all k) (one m (alone ∙ ap (λ v. length v == 0) held) (composes f)))
+    becomes_closed_one alone new grown = becomes_closed new (λ m held _. grown ∙ ap (λ k. now ++ encode_utf8_all k) (one m (rw held at alone)))
       where
-        one : (m : List ℕ) → true ≡ (length (map (mark_of ucd) m) == 0) → (b : Bool) → starter ∷ [] ≡ closed_off ucd b (Some starter) m
-        one [] none b = grind arith
-        one (c ∷ m) none b = absurd (grind (arith, nat_tests))
+        one : (m : List ℕ) → true ≡ (length (map (mark_of ucd) m) == 0) → starter ∷ [] ≡ closed_off ucd (composes f) (Some starter) m
+        one [] none = grind arith
+        one (c ∷ m) none = absurd (grind (arith, nat_tests))
 
   -- a starter more, that composes with nothing before it, where that is closed off
   pub becomes_parted : (w before now : List ℕ) (c : ℕ) → now ≡ before ++ encode_utf8_all (finished f ucd w) → is_starter ucd c ≡ true → NeverSecond ucd f c → Becomes f (w ++ c ∷ []) c [] before now

@@ -1,6 +1,6 @@
 -- A piece of text from one boundary to the next, character by character.
-use Rattle.std.proofs.Common.{add-one, ◌≡◌, ◌≢◌, ℕ, ◌+◌, ◌<◌, false, List, [], ◌∷◌, ◌++◌, length, take, get_or, refl, sym, ap, ◌∙◌, arith, eq-eqb, encode_utf8_all}
-use Rattle.nf_boundary.proofs.Common.{ucd, Sees, IsAtBoundary, Closes, Form, row_of, decomposed, finished, No, Seen, take_more, canonical_combining_class, has_starter, IsSoundText, ne_eqb, or_from, kit_form, Becomes, Leaves, Fills, quick_check, IsMark, IsOwnRow, row-own, is_starter, Mark}
+use Rattle.std.proofs.Common.{add-one, ◌≡◌, ◌≢◌, ℕ, ◌+◌, ◌<◌, false, List, [], ◌∷◌, ◌++◌, length, take, get_or, sym, ap, ◌∙◌, arith, eq-eqb, encode_utf8_all}
+use Rattle.nf_boundary.proofs.Common.{nat_tests, ucd, Sees, IsAtBoundary, Closes, Form, row_of, decomposed, finished, No, Seen, take_more, canonical_combining_class, has_starter, IsSoundText, kit_form, Becomes, Leaves, Fills, quick_check, IsMark, IsOwnRow, row-own, Mark}
 use Rattle.nf_forms.specs.Laws.Front.{marks_push}
 use Rattle.nf_forms.specs.Laws.StreamSafe.{decomposed-push}
 use Rattle.nf_forms.specs.Laws.Audited.{stream_safe-short}
@@ -53,12 +53,9 @@ module _ (f : Form) (seen : Seen) (sees : Sees f seen) where
   pub leaves_mark : ((c : ℕ) → 0 < canonical_combining_class c → quick_check (kit_form f) c ≢ No → IsMark ucd c (canonical_combining_class c)) → seen.class ≢ 0 → seen.answer ≢ No
       → (cs : List ℕ) (room room' : ℕ) → room' + 1 ≡ room → Leaves cs room → Leaves (cs ++ seen.character ∷ []) room'
   leaves_mark marks some may cs room room' less here =
-      let c = seen.character in
-      let own = marks c (omega (arith, sees.class, some)) (λ no. may (sees.answer ∙ no)) in
-      let mark : is_starter ucd c ≡ false = ne_eqb (ucd.class c) 0 (λ none. some (sees.class ∙ sym (class_of c) ∙ none)) in
-      leaves_more cs c room room' (rw own.compat (or_from _ _ mark refl)) (rw own.compat less) here
+      grind (arith, nat_tests, marks seen.character, class_of seen.character, leaves_more cs seen.character room room')
 
 -- the members of a row that were held, and one more
 pub marks_next : (row : List ℕ) (i c : ℕ) → i < length row → c ≡ get_or row i c → canonical_combining_class c ≢ 0 → has_starter ucd (take i row) ≡ false → has_starter ucd (take (i + 1) row) ≡ false
 marks_next row i c within is some none =
-    rw (take_next row i c within is) (marks_push ucd (take i row) c none (ne_eqb (ucd.class c) 0 (λ zero. some (sym (class_of c) ∙ zero))))
+    grind (arith, nat_tests, take_next row i c within is, marks_push ucd (take i row) c none, class_of c)

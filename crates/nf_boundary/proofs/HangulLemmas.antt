@@ -23,8 +23,6 @@ module _ (starter : (c : ℕ) → 0x1100 ≤ c → c < 0x1200 → canonical_comb
   module _ (l v lv : ℕ) (two : IsLv l v lv) where
     open_cluster : IsCluster ucd (l ∷ v ∷ []) lv [] 0 0 2
     open_cluster =
-        let leading = two.leading in
-        let vowel = two.vowel in
         let class = class_of l ∙ starter l (omega arith) (omega arith) in
         let one = cluster-one ucd l (own l (omega arith) (omega arith)) (eq-eqb _ 0 class) in
         joins (l ∷ []) l 1 one (omega arith) v lv (omega arith) (omega arith) (compose_hangul-lv l v lv two)
@@ -34,7 +32,6 @@ module _ (starter : (c : ℕ) → 0x1100 ≤ c → c < 0x1200 → canonical_comb
 
     pub spells_three : (t lvt : ℕ) → IsLvt lv t lvt → (text middle rest : List ℕ) → text ≡ encode_utf8 v ++ middle → middle ≡ encode_utf8 t ++ rest → Spells l text rest lvt
     spells_three t lvt three text middle rest e g =
-        let trailing = three.trailing in
         let made = joins (l ∷ v ∷ []) lv 2 open_cluster (omega arith) t lvt (omega arith) (omega arith) (compose_hangul-lvt lv t lvt three) in
         grind (arith, made, split_more text middle rest (v ∷ []) (t ∷ []) (split_one text middle v e) (split_one middle rest t g))
 

@@ -17,8 +17,7 @@ anew_row f c row decomposed parting never first rest is passes = grind (arith, r
 -- what the tables have of a character is its row, where it is no syllable of Hangul
 pub table_row : (form : KitForm) (c : ℕ) → is_syllable c ≡ false → (first : ℕ) (rest : List ℕ) → table_of form c ≡ first ∷ rest → table_of form c ≡ decompose form c
 unfolding decompose
-table_row form c other first rest is =
-    rw (other, is)
+table_row form c other first rest is = rw (other, is)
 
 -- a character that passes is closed, where a boundary comes behind it
 pub closes_own : (f : Form) (first : Seen) → IsAtBoundary f first → ((x : List ℕ) → IsSoundText ucd x) → ((c : ℕ) → IsTrue (is_sound ucd c)) → ((c : ℕ) → IsTrue (passes_check f c) → IsParting ucd f c)

@@ -1,23 +1,17 @@
 -- A character as one look-up sees it: what stands behind it, and when a text may be cut before it.
-use Rattle.std.proofs.Common.{◌≡◌, ◌<◌, ◌||◌, ◌&&◌, ◌≤◌, ◌==◌, ℕ, Bool, true, false, ◌∷◌, length, sym, ap, ◌∙◌, arith, length-append, eq-eqb, chars, encode_utf8, IsTrue}
-use Rattle.nf_boundary.proofs.Common.{ucd, Sees, IsAtBoundary, Form, composes, Yes, Seen, chars_past_char, length-encode, len_utf8_bounds, canonical_combining_class, lead, and_from, and_parts, or_parts, not_from_false, nat_tests, kit_form, quick_check, is_sound, BeginsAnew, IsBoundary, IsParting}
-use Rattle.nf_facts.specs.Passing.{is_among, is_yes, halfwidth_marks, vowel_signs, passes_check}
+use Rattle.std.proofs.Common.{◌≡◌, ◌<◌, ◌||◌, ◌≤◌, ℕ, false, ◌∷◌, length, ap, arith, length-append, chars, encode_utf8, IsTrue}
+use Rattle.nf_boundary.proofs.Common.{ucd, Sees, IsAtBoundary, Form, composes, Yes, Seen, chars_past_char, length-encode, len_utf8_bounds, canonical_combining_class, lead, or_parts, nat_tests, kit_form, quick_check, is_sound, BeginsAnew, IsBoundary, IsParting}
+use Rattle.nf_facts.specs.Passing.{is_among, halfwidth_marks, vowel_signs, passes_check}
 use Rattle.nf_forms.specs.Laws.ClosedForms.{counts_anew-lead, parting-boundary, boundary-decomposing}
 use Rattle.unicode_normalization.proofs.FormsLemmas.{is_yes-true}
 
 -- what passes is a starter of which the quick check says yes
 module _ (f : Form) (c : ℕ) (passes : IsTrue (passes_check f c)) where
-  abbrev class_and_yes : Bool
-  class_and_yes = canonical_combining_class c == 0 && is_yes (quick_check (kit_form f) c)
-
-  both : (canonical_combining_class c == 0 ≡ true) × (is_yes (quick_check (kit_form f) c) ≡ true)
-  both = and_parts (canonical_combining_class c == 0) (is_yes (quick_check (kit_form f) c)) (and_parts class_and_yes _ passes).0
-
   pub passes_class : canonical_combining_class c ≡ 0
-  passes_class = grind (arith, nat_tests, both.0)
+  passes_class = grind (arith, nat_tests)
 
   pub passes_yes : quick_check (kit_form f) c ≡ Yes
-  passes_yes = is_yes-true (quick_check (kit_form f) c) both.1
+  passes_yes = is_yes-true (quick_check (kit_form f) c) (grind arith)
 
 module _ (f : Form) (seen : Seen) (here : Sees f seen) where
   pub chars-seen : chars seen.text.now ≡ seen.character ∷ chars seen.behind.now
@@ -30,32 +24,24 @@ module _ (f : Form) (seen : Seen) (here : Sees f seen) where
       omega (arith, ap length is, ap length here.text, length-append (encode_utf8 seen.character) seen.behind.now, length-encode seen.character, width.0)
 
   pub passing : seen.class ≡ 0 → seen.answer ≡ Yes → is_among halfwidth_marks seen.character ≡ false → IsTrue (passes_check f seen.character)
-  passing class is other =
-      and_from _ _ (and_from _ _ (eq-eqb (canonical_combining_class seen.character) 0 (sym here.class ∙ class)) (ap is_yes (sym here.answer ∙ is))) (not_from_false _ other)
+  passing class is other = grind (arith, nat_tests)
 
   module _ (sound : (c : ℕ) → IsTrue (is_sound ucd c)) (class : seen.class ≡ 0) (plain : (is_among halfwidth_marks seen.character || is_among vowel_signs seen.character) ≡ false) where
     at : IsBoundary ucd f seen.character → IsAtBoundary f seen
     at boundary = record { sees = here; boundary = boundary; sound = sound seen.character; class = class }
 
-    marks : (is_among halfwidth_marks seen.character ≡ false) × (is_among vowel_signs seen.character ≡ false)
-    marks = or_parts (is_among halfwidth_marks seen.character) (is_among vowel_signs seen.character) plain
-
     -- in a form that composes
     pub boundary_composing : ((c : ℕ) → IsTrue (passes_check f c) → IsParting ucd f c) → seen.answer ≡ Yes → IsAtBoundary f seen
-    boundary_composing parting is =
-        at (parting-boundary ucd f seen.character (parting seen.character (passing class is marks.0)))
+    boundary_composing parting is = at (parting-boundary ucd f seen.character (parting seen.character (passing class is (or_parts _ _ plain).0)))
 
     module _ (begins : (c : ℕ) → canonical_combining_class c ≡ 0 → is_among vowel_signs c ≡ false → is_among halfwidth_marks c ≡ false → lead ucd (ucd.compat c) ≡ 0) where
-      none : lead ucd (ucd.compat seen.character) ≡ 0
-      none = begins seen.character (sym here.class ∙ class) marks.1 marks.0
-
       -- where it is changed, by its decomposition
       pub boundary_row : BeginsAnew ucd f seen.character → IsAtBoundary f seen
-      boundary_row anew = at (record { anew = anew; counts = counts_anew-lead ucd f seen.character (sound seen.character) none })
+      boundary_row anew = grind (arith, sound seen.character, begins seen.character, counts_anew-lead ucd f seen.character)
 
       -- in one that does not
       pub boundary_apart : composes f ≡ false → IsAtBoundary f seen
-      boundary_apart apart = at (boundary-decomposing ucd f apart seen.character (sound seen.character) none)
+      boundary_apart apart = at (boundary-decomposing ucd f apart seen.character (sound seen.character) (grind (arith, begins seen.character)))
 
   -- where it is a leading consonant of Hangul
   pub boundary_leading : ((c : ℕ) → IsTrue (is_sound ucd c)) → ((c : ℕ) → IsTrue (passes_check f c) → IsParting ucd f c) → 0x1100 ≤ seen.character → seen.character < 0x1113 → seen.class ≡ 0 → seen.answer ≡ Yes
