@@ -5,7 +5,6 @@ use Rattle.nf_boundary.proofs.hangul.spelled.Goals as goal
 pub returns : goal.returns
 returns c =
     let lv : ℕ = 0xAC00 + ((c.args.leading - 0x1100) * 588 + (c.in_ok-vowel.vowel - 0x1161) * 28) in
-    let two : IsLv c.args.leading c.in_ok-vowel.vowel lv = search rules in
     let three : IsLvt lv c.in-Some.trailing c.in_ok-closed.closed = search rules in
     search (rules, spells_three)
 

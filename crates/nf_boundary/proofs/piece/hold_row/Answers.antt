@@ -6,8 +6,7 @@ use Rattle.nf_boundary.proofs.piece.hold_row.Goals as goal
 
 pub loop-member-preserved : goal.loop-member-preserved
 loop-member-preserved c =
-    let i = c.loop-member.member-index in
-    let next = take_next c.decomposition-members.result.now i c.member-item.result c.loop-member-test.true c.member-item.is in
+    let next = take_next c.decomposition-members.result.now _ c.member-item.result c.loop-member-test.true c.member-item.is in
     let some : canonical_combining_class c.member-item.result ≢ 0 = λ none. c.in_ok-left.ensures.class refl (c.canonical_combining_class.ensures ∙ none) in
     record {
       becomes = λ w starter before now here. rw (next, ← append_assoc w) (c.in_ok-left.ensures.becomes refl c.args.form _ starter before now (c.loop-member.invariant.becomes w starter before now here));

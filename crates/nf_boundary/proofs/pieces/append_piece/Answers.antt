@@ -11,5 +11,4 @@ loop-next-preserved c = search (rules, fills_more, c.in_ok-join.ensures.becomes 
 
 pub returns-clause-closes : goal.returns-clause-closes
 returns-clause-closes c =
-    fills_closed c.args.form c.args.first.seen c.requires.at c.loop-next.next c.loop-next.piece _ _ c.loop-next.invariant c.every_character_is_sound.ensures.text
-    c.in_ok-behind.behind.seen c.in_ok-behind.ensures.seen c.in_ok-behind.ensures.row.at _ (c.in_ok-close.ensures.closes refl)
+    fills_closed _ _ c.requires.at _ _ _ _ c.loop-next.invariant c.every_character_is_sound.ensures.text _ c.in_ok-behind.ensures.seen c.in_ok-behind.ensures.row.at _ (c.in_ok-close.ensures.closes refl)

@@ -1,4 +1,4 @@
-use Rattle.nf_boundary.proofs.Common.{◌≡◌, ℕ, ◌≤◌, Bool, true, false, ◌&&◌, ◌||◌, nat_le, List, [], ◌∷◌, refl, arith, nat_tests, Form, Nfc, Nfd, Nfkc, Nfkd}
+use Rattle.nf_boundary.proofs.Common.{◌≡◌, ℕ, ◌≤◌, Bool, true, false, ◌&&◌, ◌||◌, nat_le, List, [], ◌∷◌, arith, nat_tests, Form}
 use Rattle.ucd_table.specs.Rows.{Range, in_ranges}
 use Rattle.nf_facts.specs.PlainRanges.{plain_ranges}
 use Rattle.nf_boundary.proofs.seen.is_plain.Goals as goal
@@ -16,16 +16,13 @@ in_ranges-lies_within (r ∷ rs) first last c low high within =
 
 plain_in : (f : Form) → (lies_within (plain_ranges f) 0 0x7F ≡ true) × (lies_within (plain_ranges f) 0x627 0x64A ≡ true) × (lies_within (plain_ranges f) 0x3400 0x9FFF ≡ true)
 unfolding plain_ranges
-plain_in Nfc = (refl, refl, refl)
-plain_in Nfd = (refl, refl, refl)
-plain_in Nfkc = (refl, refl, refl)
-plain_in Nfkd = (refl, refl, refl)
+plain_in f = grind arith
 
 pub returns-in-0-to-127 : goal.returns-in-0-to-127
-returns-in-0-to-127 c = λ _ f. c.plain_ranges_pass.ensures f c.args.c (in_ranges-lies_within (plain_ranges f) 0 0x7F c.args.c (omega arith) (omega arith) (plain_in f).0)
+returns-in-0-to-127 c = λ _ f. c.plain_ranges_pass.ensures f c.args.c (in_ranges-lies_within _ 0 0x7F _ (omega arith) (omega arith) (plain_in f).0)
 
 pub returns-in-0-to-127-2 : goal.returns-in-0-to-127-2
-returns-in-0-to-127-2 c = λ _ f. c.plain_ranges_pass.ensures f c.args.c (in_ranges-lies_within (plain_ranges f) 0x627 0x64A c.args.c (omega arith) (omega arith) (plain_in f).1)
+returns-in-0-to-127-2 c = λ _ f. c.plain_ranges_pass.ensures f c.args.c (in_ranges-lies_within _ 0x627 0x64A _ (omega arith) (omega arith) (plain_in f).1)
 
 pub returns-in-0-to-127-3 : goal.returns-in-0-to-127-3
-returns-in-0-to-127-3 c = λ _ f. c.plain_ranges_pass.ensures f c.args.c (in_ranges-lies_within (plain_ranges f) 0x3400 0x9FFF c.args.c (omega arith) (omega arith) (plain_in f).2)
+returns-in-0-to-127-3 c = λ _ f. c.plain_ranges_pass.ensures f c.args.c (in_ranges-lies_within _ 0x3400 0x9FFF _ (omega arith) (omega arith) (plain_in f).2)

@@ -5,10 +5,10 @@ use Rattle.nf_boundary.proofs.piece.Piece.close.Goals as goal
 
 pub returns-then-is_empty-clause-closes : goal.returns-then-is_empty-clause-closes
 returns-then-is_empty-clause-closes c = λ some w before here.
-    becomes_closed_one c.args.form w c.args.self.now.starter c.args.self.now.run.items before c.args.formed.now.items here (c.if-is_empty.ensures) _ (c.append_one.ensures.some some)
+    becomes_closed_one c.args.form w _ _ before _ here c.if-is_empty.ensures _ (c.append_one.ensures.some some)
 
 pub returns-clause-closes : goal.returns-clause-closes
 returns-clause-closes c = λ _ w before here.
-    becomes_closed c.args.form w c.args.self.now.starter c.args.self.now.run.items before c.args.formed.now.items here _ (λ m held marks.
+    becomes_closed c.args.form w _ _ before _ here _ (λ m held marks.
     c.put_utf8.ensures.text ∙ ap (λ v. c.args.formed.now.items ++ encode_utf8_all v)
     (c.as_slice-2.ensures.value ∙ c.close_off.ensures.closed m (c.as_slice.ensures.value ∙ held) marks ∙ ap (λ b. closed_off ucd b (Some c.args.self.now.starter) m) c.composes.ensures))

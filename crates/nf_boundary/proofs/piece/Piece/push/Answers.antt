@@ -8,5 +8,4 @@ returns-clause-becomes c = λ _ w before here.
     let passes : IsTrue (passes_check c.args.form c.args.member) = sym c.passes.ensures ∙ search rules in
     let tells = c.the_quick_check_tells.ensures in
     rw c.clear.ensures
-    (becomes_parted c.args.form w before _ c.args.member (c.in_ok-close.ensures.closes refl w before here) (tells.parting c.args.form c.args.member passes).starts
-    (tells.never_second c.args.form c.args.member (passes_yes c.args.form c.args.member passes)))
+    (becomes_parted c.args.form w before _ c.args.member (c.in_ok-close.ensures.closes refl w before here) (tells.parting _ _ passes).starts (tells.never_second _ _ (passes_yes _ _ passes)))

@@ -5,11 +5,10 @@ use Rattle.nf_boundary.proofs.seen.Seen.leading.Goals as goal
 pub returns : goal.returns
 returns c =
     let letter : ℕ = c.in_ok-character.character in
-    let low : 0x1100 ≤ letter = omega (arith, c.if-character-lt4352.false) in
-    let high : letter < 0x1113 = omega (arith, c.if-character-gt4370.false) in
-    let e = sym c.chars-chars.ensures.rest ∙ c.in_ok-character.ensures.steps.0 ∙ ap (λ k. encode_utf8 letter ++ k) (sym c.as_str.ensures) in
+    let low : 0x1100 ≤ letter = omega arith in
+    let high : letter < 0x1113 = omega arith in
     let sees : Sees c.args.form _ = record {
-      text = e;
+      text = sym c.chars-chars.ensures.rest ∙ c.in_ok-character.ensures.steps.0 ∙ ap (λ k. encode_utf8 letter ++ k) (sym c.as_str.ensures);
       text_utf8 = c.utf8.text;
       class = sym (c.hangul_letters_are_their_own_rows.ensures.starter letter low (omega arith));
       answer = sym (c.leading_consonants_pass.ensures c.args.form letter low high);
