@@ -48,8 +48,8 @@ module _ (f : Form) where
     pub becomes_closed : (new : List ℕ) → ((m : List ℕ) → marks ≡ map (mark_of ucd) m → has_starter ucd m ≡ false → new ≡ now ++ encode_utf8_all (closed_off ucd (composes f) (Some starter) m))
         → new ≡ before ++ encode_utf8_all (finished f ucd w)
     becomes_closed new closed =
-        rw (here.text, here.parted here.run, arranged-marked ucd starter here.run here.starts here.no_starter (composes f))
-        (appended before (finished f ucd here.done) _ now new here.formed (closed (by_class ucd here.run) here.held (has_starter-by_class ucd here.run)))
+        rw (here.text, here.parted here.run, arranged-marked ucd _ _ here.starts here.no_starter (composes f))
+        (appended before (finished f ucd here.done) _ now new here.formed (closed _ here.held (has_starter-by_class ucd here.run)))
 
     -- the starter alone, where no marks are held
     pub becomes_closed_one : true ≡ (length marks == 0) → (new : List ℕ) → new ≡ now ++ encode_utf8_all (starter ∷ []) → new ≡ before ++ encode_utf8_all (finished f ucd w)
@@ -70,7 +70,7 @@ module _ (f : Form) where
 pub leaves_any : (c : ℕ) → IsTrue (is_sound ucd c) → Leaves (c ∷ []) 12
 leaves_any c sound =
     let row = append-nil (ucd.compat c) in
-    omega (arith, ap (trail ucd) row, trail-le-length ucd (ucd.compat c), ap (longest ucd) row, longest-le-length ucd (ucd.compat c), (IsSound-from_test ucd c sound).compat_few)
+    omega (arith, ap (trail ucd) row, trail-le-length, ap (longest ucd) row, longest-le-length, (IsSound-from_test ucd c sound).compat_few)
 
 -- and a character more whose row is of non-starters
 pub leaves_more : (cs : List ℕ) (c room room' : ℕ) → has_starter ucd (ucd.compat c) ≡ false → room' + length (ucd.compat c) ≡ room → Leaves cs room → Leaves (cs ++ c ∷ []) room'
@@ -78,7 +78,7 @@ leaves_more cs c room room' marks less here =
     let w = decomposed Nfkd ucd cs in
     let row = ucd.compat c in
     let both = decomposed-push ucd Nfkd cs c in
-    omega (arith, ap (trail ucd) both, rw marks at (trail-append ucd w row), ap (longest ucd) both, longest-append ucd w row, lead-le-length ucd row, longest-le-length ucd row)
+    omega (arith, ap (trail ucd) both, rw marks at (trail-append ucd w row), ap (longest ucd) both, longest-append, lead-le-length, longest-le-length)
 
 -- a row of non-starters is the row of both kinds
 module _ (joined : (c : ℕ) → flat_map ucd.compat (ucd.canonical c) ≡ ucd.compat c) (marks : (c : ℕ) → AreOwnMarks ucd (ucd.canonical c)) where

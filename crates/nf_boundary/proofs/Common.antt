@@ -1,7 +1,7 @@
 -- The names that most of these proofs cite, passed on from one place. Declares nothing.
 pub use Rattle.std.proofs.Common.{rules, ◌≡◌, ◌∙◌, length, ◌++◌, ℕ, refl, List, ap, sym, ◌∷◌, arith, ◌+◌, [], false, ◌<◌, ◌≢◌, ◌≤◌, append_assoc, take, true, append-nil, Some, eq-eqb, Bool, get_or, leb, map, ◌&&◌, ◌||◌, nat_le, ◌*◌, ◌-◌}
 pub use Rattle.std.specs.Prelude.{IsTrue, IsUtf8, encode_utf8, encode_utf8_all, insert}
-pub use Rattle.std.proofs.lemmas.Bool.{ne_eqb, or_parts, and_from, and_parts, cases_eq, cond-true, eqb-false, leb-true, not_from_false, or_from}
+pub use Rattle.std.proofs.lemmas.Bool.{ne_eqb, or_parts, cond-true, leb-true}
 pub use Rattle.std.proofs.lemmas.Bool.Decides.{nat_tests}
 pub use Rattle.std.proofs.lemmas.List.{take_more, take_all, get_or-map, get_or_default, length-append, length-map}
 pub use Rattle.std.proofs.lemmas.Str.{encodes-append, len_utf8_bounds, length-encode, IsCharBoundary-at_seam, IsUtf8-append, IsUtf8-take, chars-append, chars-nil, chars_from_encodes, chars_past_char, encodes-chars, length-le-encodes}
@@ -11,7 +11,7 @@ pub use Rattle.nf_facts.specs.Passing.{passes_check, halfwidth_marks, is_among}
 pub use Rattle.nf_forms.specs.Calm.{IsCalm, IsMark}
 pub use Rattle.nf_forms.specs.Closed.{HasForm, BeginsAtBoundary}
 pub use Rattle.nf_forms.specs.Cluster.{IsOwnRow, AreClusters, IsCluster}
-pub use Rattle.nf_forms.specs.Compose.{composite, compose, join, joined, replaced}
+pub use Rattle.nf_forms.specs.Compose.{composite, join, joined, replaced}
 pub use Rattle.nf_forms.specs.Forms.{row_of, composes, decomposed, finished, arranged}
 pub use Rattle.nf_forms.specs.Laws.ClosedForms.{HasForm-calm, HasForm-row, calm-front}
 pub use Rattle.nf_forms.specs.Laws.Cluster.{HasForm-cluster, cluster-joined, cluster-one, row-own}
@@ -22,12 +22,12 @@ pub use Rattle.nf_forms.specs.Runs.{has_starter, lead, longest, trail}
 pub use Rattle.nf_forms.specs.Sound.{is_sound, max_row}
 unfoldable pub use Rattle.nf_forms.specs.Ucd.{ucd}
 pub use Rattle.nf_forms.specs.declared.form.Form.{Form}
-pub use Rattle.nf_forms.specs.declared.form.Form.TheVariants.{Nfc, Nfkd, Nfd, Nfkc}
+pub use Rattle.nf_forms.specs.declared.form.Form.TheVariants.{Nfc, Nfkd}
 pub use Rattle.ucd_normal.specs.CanonicalCombiningClass.{canonical_combining_class}
 pub use Rattle.ucd_normal.specs.QuickCheck.{quick_check}
 pub use Rattle.ucd_normal.specs.declared.forms.QuickCheck.TheVariants.{Yes, No}
 pub use Rattle.unicode_normalization.proofs.HangulLemmas.{IsLv, IsLvt, compose_hangul-lv, compose_hangul-lvt}
-pub use Rattle.unicode_normalization.specs.Hangul.{compose_hangul, decompose_hangul, is_syllable}
+pub use Rattle.unicode_normalization.specs.Hangul.{compose_hangul, is_syllable}
 pub use Rattle.nf_boundary.specs.Joins.{Gathers, JoinsFront, AreMadeOf, Joins}
 pub use Rattle.nf_boundary.specs.Laws.Held.{held-characters, prefix_len-rising}
 pub use Rattle.nf_boundary.specs.Piece.{Becomes, Fills, Leaves}

@@ -21,8 +21,7 @@ module _ (f : Form) (first : Seen) (at : IsAtBoundary f first) where
   -- a first that is its own row
   pub becomes_own : IsOwnRow ucd first.character → (marks : List Mark) → marks ≡ [] → (before : List ℕ) → Becomes f (row_of f ucd first.character) first.character marks before before
   becomes_own own marks alone before =
-      becomes_one f first.character marks (row_of f ucd first.character) before (row-own ucd f first.character own)
-      (eq-eqb (ucd.class first.character) 0 (class_of first.character ∙ sym at.sees.class ∙ at.class)) alone
+      becomes_one f _ marks _ before (row-own ucd f _ own) (eq-eqb _ 0 (class_of first.character ∙ sym at.sees.class ∙ at.class)) alone
 
   -- the first member of its row
   pub becomes_row : (row : List ℕ) (starter : ℕ) (others : List ℕ) → row ≡ row_of f ucd first.character → row ≡ starter ∷ others → (marks : List Mark) → marks ≡ [] → (before : List ℕ)
@@ -30,7 +29,7 @@ module _ (f : Form) (first : Seen) (at : IsAtBoundary f first) where
   becomes_row row starter others is members marks alone before =
       let anew = at.boundary.anew in
       let both : anew.first ∷ anew.rest ≡ starter ∷ others = sym anew.row ∙ sym is ∙ members in
-      becomes_one f starter marks (take 1 (row_of f ucd first.character)) before (ap (take 1) (sym is ∙ members)) (cc anew.starter) alone
+      becomes_one f starter marks _ before (ap (take 1) (sym is ∙ members)) (cc anew.starter) alone
 
   module _ (seen : Seen) (piece : Piece) (before now : List ℕ) (here : Fills f first seen piece before now) where
     -- one more

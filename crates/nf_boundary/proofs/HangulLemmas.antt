@@ -18,21 +18,21 @@ module _ (starter : (c : ℕ) → 0x1100 ≤ c → c < 0x1200 → canonical_comb
   joins : (cs : List ℕ) (first count : ℕ) → IsCluster ucd cs first [] 0 0 count → count < 30 → (c d : ℕ) → 0x1100 ≤ c → c < 0x1200 → compose_hangul first c ≡ Some d → IsCluster ucd (cs ++ c ∷ []) d [] 0 0 (count + 1)
   joins cs first count here room c d low high both =
       let class = class_of c ∙ starter c low high in
-      rw class at (cluster-joined ucd cs first [] 0 0 count here c (own c low high) (inr class) room d (primary first c ∙ pair-hangul first c d both))
+      rw class at (cluster-joined ucd _ _ _ _ _ _ here c (own c low high) (inr class) room d (primary first c ∙ pair-hangul first c d both))
 
   module _ (l v lv : ℕ) (two : IsLv l v lv) where
     open_cluster : IsCluster ucd (l ∷ v ∷ []) lv [] 0 0 2
     open_cluster =
         let class = class_of l ∙ starter l (omega arith) (omega arith) in
         let one = cluster-one ucd l (own l (omega arith) (omega arith)) (eq-eqb _ 0 class) in
-        joins (l ∷ []) l 1 one (omega arith) v lv (omega arith) (omega arith) (compose_hangul-lv l v lv two)
+        joins _ _ _ one (omega arith) v lv (omega arith) (omega arith) (compose_hangul-lv l v lv two)
 
     pub spells_two : (text rest : List ℕ) → text ≡ encode_utf8 v ++ rest → Spells l text rest lv
     spells_two text rest e = grind (arith, split_one text rest v e, open_cluster)
 
     pub spells_three : (t lvt : ℕ) → IsLvt lv t lvt → (text middle rest : List ℕ) → text ≡ encode_utf8 v ++ middle → middle ≡ encode_utf8 t ++ rest → Spells l text rest lvt
     spells_three t lvt three text middle rest e g =
-        let made = joins (l ∷ v ∷ []) lv 2 open_cluster (omega arith) t lvt (omega arith) (omega arith) (compose_hangul-lvt lv t lvt three) in
+        let made = joins _ _ _ open_cluster (omega arith) t lvt (omega arith) (omega arith) (compose_hangul-lvt lv t lvt three) in
         grind (arith, made, split_more text middle rest (v ∷ []) (t ∷ []) (split_one text middle v e) (split_one middle rest t g))
 
 -- where a boundary comes behind it, it is closed
@@ -40,6 +40,5 @@ pub closes_syllable : (f : Form) (first : Seen) → IsAtBoundary f first → com
     → (rest : List ℕ) (syllable : ℕ) → Spells first.character first.behind.now rest syllable → (next : Seen) → next.text.now ≡ rest → IsAtBoundary f next
     → (old new : List ℕ) → new ≡ old ++ encode_utf8_all (syllable ∷ []) → Closes f first.text.now next old new
 closes_syllable f first at composing sound rest syllable letters next is behind old new formed =
-    let cs = first.character ∷ letters.front in
     let split = split_more first.text.now first.behind.now rest (first.character ∷ []) letters.front (split_seen f first at.sees first.behind.now refl) letters.split in
-    grind (arith, HasForm-cluster ucd f composing cs syllable [] 0 0 letters.count letters.made (begins_first f first at letters.front) (sound cs))
+    grind (arith, HasForm-cluster ucd f composing _ _ _ _ _ _ letters.made (begins_first f first at letters.front) (sound (first.character ∷ letters.front)))

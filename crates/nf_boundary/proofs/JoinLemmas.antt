@@ -34,19 +34,17 @@ module _ (f : Form) (seen : Seen) (sees : Sees f seen) where
     pub joins_composed : o ≡ Some new.starter → new.left.items ≡ old.left.items → new.highest ≡ old.highest → new.count ≡ old.count + 1 → after ≡ before → Joins seen.character old new before after
     joins_composed is left highest count same = record {
       more = [];
-      formed = same ∙ sym (append-nil before);
-      joins = λ done cs made. rw (append-nil, left, last, highest, count, ← class_is)
-          (cluster-joined ucd cs old.starter old.left.items old.last old.highest old.count made seen.character own in_order room new.starter (sym (joins done cs made) ∙ is));
+      formed = rw (append-nil, same);
+      joins = λ done cs made. rw (append-nil, left, last, highest, count, ← class_is) (cluster-joined ucd _ _ _ _ _ _ made _ own in_order room _ (sym (joins done cs made) ∙ is));
     }
 
     pub joins_left : o ≡ None → seen.class ≢ 0 → new.starter ≡ old.starter → new.left.items ≡ old.left.items ++ seen.character ∷ [] → new.highest ≡ seen.class → new.count ≡ old.count + 1 → after ≡ before
         → Joins seen.character old new before after
     joins_left is mark starter left highest count same = record {
       more = [];
-      formed = same ∙ sym (append-nil before);
+      formed = rw (append-nil, same);
       joins = λ done cs made. rw (append-nil, starter, left, last, highest, count, ← class_is)
-          (cluster-left ucd cs old.starter old.left.items old.last old.highest old.count made seen.character own in_order room (ne_eqb (ucd.class seen.character) 0 (λ e. mark (sym class_is ∙ e)))
-          (sym (joins done cs made) ∙ is));
+          (cluster-left ucd _ _ _ _ _ _ made _ own in_order room (ne_eqb _ 0 (rw class_is mark)) (sym (joins done cs made) ∙ is));
     }
 
     pub joins_next : o ≡ None → seen.class ≡ 0 → new.starter ≡ seen.character → new.left.items ≡ [] → new.highest ≡ old.highest → new.count ≡ 1 → after ≡ before ++ encode_utf8_all (old.starter ∷ old.left.items)
@@ -55,7 +53,7 @@ module _ (f : Form) (seen : Seen) (sees : Sees f seen) where
       more = old.starter ∷ old.left.items;
       formed = grown;
       joins = λ done cs made. rw (starter, left, last, highest, count, ← class_is)
-          (cluster-next ucd cs old.starter old.left.items old.last old.highest old.count made seen.character own in_order room (eq-eqb (ucd.class seen.character) 0 (class_is ∙ none)) (sym (joins done cs made) ∙ is));
+          (cluster-next ucd _ _ _ _ _ _ made _ own in_order room (eq-eqb _ 0 (class_is ∙ none)) (sym (joins done cs made) ∙ is));
     }
 
 -- ---- Hangul letters
@@ -65,7 +63,7 @@ pub made_letter : (done cs : List ℕ) (cluster : Cluster) → AreMadeOf done cs
     → (d : ℕ) → composite ucd cluster.starter c ≡ Some d → AreClusters ucd done (cs ++ c ∷ []) d cluster.left.items 0 cluster.highest (cluster.count + 1)
 made_letter done cs cluster here c own starter room none d both =
     let class = class_of c ∙ starter in
-    rw class at (cluster-joined ucd cs cluster.starter cluster.left.items cluster.last cluster.highest cluster.count here c own (inr class) room d (rw (joined_is done cs cluster here c (canonical_combining_class c) refl, none) both))
+    rw class at (cluster-joined ucd _ _ _ _ _ _ here c own (inr class) room d (rw (joined_is done cs cluster here c _ refl, none) both))
 
 pub joins_letter : (text rest : List ℕ) (old new : Cluster) (c : ℕ) → text ≡ encode_utf8 c ++ rest → ((done cs : List ℕ) → AreMadeOf done cs old → AreMadeOf done (cs ++ c ∷ []) new) → JoinsFront text rest old new
 joins_letter text rest old new c e joins = record { front = c ∷ []; split = split_one text rest c e; joins = joins }
@@ -76,8 +74,8 @@ joins_none text cluster = grind (arith, append-nil)
 pub joins_both : (text middle rest : List ℕ) (a b c : Cluster) → JoinsFront text middle a b → JoinsFront middle rest b c → JoinsFront text rest a c
 joins_both text middle rest a b c first second = record {
   front = first.front ++ second.front;
-  split = split_more text middle rest first.front second.front first.split second.split;
-  joins = λ done cs made. rw (← append_assoc cs first.front second.front) (second.joins done (cs ++ first.front) (first.joins done cs made));
+  split = split_more _ _ _ first.front _ first.split second.split;
+  joins = λ done cs made. rw (← append_assoc cs first.front second.front) (second.joins _ _ (first.joins _ _ made));
 }
 
 -- ---- the characters from one boundary to the next
@@ -99,5 +97,4 @@ module _ (f : Form) (first : Seen) (at : IsAtBoundary f first) where
 
     pub gathers_closed : composes f ≡ true → ((x : List ℕ) → IsSoundText ucd x) → IsAtBoundary f seen → (new' : List ℕ) → new' ≡ new ++ encode_utf8_all (cluster.starter ∷ cluster.left.items) → Closes f first.text.now seen old new'
     gathers_closed composing sound behind new' formed =
-        let form = HasForm-cluster ucd f composing here.front cluster.starter cluster.left.items cluster.last cluster.highest cluster.count here.made here.begins (sound here.front) in
-        grind (arith, form, appended old here.done (cluster.starter ∷ cluster.left.items) new new' here.formed formed)
+        grind (arith, HasForm-cluster ucd f composing _ _ _ _ _ _ here.made here.begins (sound here.front), appended old here.done (cluster.starter ∷ cluster.left.items) new new' here.formed formed)

@@ -37,27 +37,22 @@ module _ (f : Form) where
   pub stands_settled : (whole settled tail rest : List ℕ) → IsCalmFront ucd f whole settled tail rest → IsUtf8 settled → ((x : List ℕ) → IsSoundText ucd x)
       → (next : Seen) → next.text.now ≡ tail ++ rest → IsAtBoundary f next → Stands f whole next
   stands_settled whole settled tail rest calm =
-      let front = calm-front ucd f (chars settled) (chars tail) calm.class calm.count calm.calm in
-      stands_end whole settled (tail ++ rest) front.0 front.1 calm.text front.2
+      stands_end _ _ _ _ _ calm.text (calm-front ucd f _ (chars tail) _ _ calm.calm).2
 
   module _ (whole : List ℕ) (next : Seen) (here : Stands f whole next) where
-    abbrev n : ℕ
-    n = length whole - length next.text.now
-
-    long : length (encode_utf8_all here.front) ≡ n
-    long = omega (arith, ap length here.split, length-append (encode_utf8_all here.front) next.text.now)
+    long : length (encode_utf8_all here.front) ≡ length whole - length next.text.now
+    long = omega (arith, ap length here.split, length-append {A = ℕ})
 
     -- where to cut
     pub stands-seam : IsUtf8 next.text.now → IsCharBoundary whole (length whole - length next.text.now)
-    stands-seam u = seam whole (encode_utf8_all here.front) next.text.now n here.split long u
+    stands-seam u = seam _ _ _ _ here.split long u
 
     before : take (length whole - length next.text.now) whole ≡ encode_utf8_all here.front
-    before = take-seam whole (encode_utf8_all here.front) next.text.now n here.split long
+    before = take-seam _ _ _ _ here.split long
 
     -- what stands before it, and nothing more as yet
     pub reaches_own : (same formed : List ℕ) → same ≡ take (length whole - length next.text.now) whole → IsUtf8 same → formed ≡ [] → Reaches f whole same formed next
-    reaches_own same formed is u none =
-        grind (arith, before, append-nil, chars_from_encodes here.front same u (sym (is ∙ before)))
+    reaches_own same formed is u none = grind (arith, before, append-nil, chars_from_encodes here.front same u (sym (is ∙ before)))
 
     -- what stands before it, put as it is
     pub closes_run : (run : List ℕ) → run ≡ take (length whole - length next.text.now) whole → length run ≢ 0 → (old new : List ℕ) → new ≡ old ++ run → Closes f whole next old new
@@ -71,7 +66,7 @@ module _ (f : Form) where
 
   pub closes_shorter : (text : List ℕ) (next : Seen) (old new : List ℕ) → Closes f text next old new → length next.text.now < length text
   closes_shorter text next old new here =
-      omega (arith, ap length here.split, length-append (encode_utf8_all here.piece) next.text.now, length-le-encodes here.piece, ap length here.form.begins.text)
+      omega (arith, ap length here.split, length-append {A = ℕ}, length-le-encodes, ap length here.form.begins.text)
 
   module _ (whole same formed : List ℕ) (next : Seen) (here : Reaches f whole same formed next) where
     pub reaches_more : (next' : Seen) (formed' : List ℕ) → Closes f next.text.now next' formed formed' → Reaches f whole same formed' next'
