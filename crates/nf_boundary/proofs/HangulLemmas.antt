@@ -1,15 +1,14 @@
 -- A Hangul syllable that is written with letters: what it becomes, and that it is closed.
-use Rattle.std.proofs.Common.{◌≡◌, inr, ℕ, ◌+◌, ◌≤◌, ◌<◌, true, List, [], ◌∷◌, ◌++◌, Some, refl, ap, ◌∙◌, arith, eq-eqb, encode_utf8, encode_utf8_all}
+use Rattle.std.proofs.Common.{append-nil, append_assoc, ◌≡◌, inr, ℕ, ◌+◌, ◌≤◌, ◌<◌, true, List, [], ◌∷◌, ◌++◌, Some, refl, ◌∙◌, arith, eq-eqb, encode_utf8, encode_utf8_all}
 use Rattle.nf_boundary.proofs.Common.{canonical_combining_class, compose_hangul, IsLv, IsLvt, compose_hangul-lv, compose_hangul-lvt, Form, composes, composite, IsOwnRow, IsCluster, ucd, cluster-one, cluster-joined, HasForm-cluster, IsSoundText, Seen, IsAtBoundary, Closes}
-use Rattle.ucd_normal.specs.Composition.{composite as listed}
-use Rattle.unicode_normalization.specs.Compose.{or_else, primary_composite}
+use Rattle.unicode_normalization.specs.Compose.{primary_composite}
 use Rattle.nf_boundary.specs.Hangul.{Spells}
-use Rattle.nf_boundary.proofs.LetterLemmas.{begins_first, split_one, split_more, split_seen}
+use Rattle.nf_boundary.proofs.LetterLemmas.{begins_first, split_more, split_seen}
 use Rattle.nf_boundary.proofs.JoinLemmas.{class_of}
 
 pair-hangul : (a b d : ℕ) → compose_hangul a b ≡ Some d → ucd.pair a b ≡ Some d
 unfolding ucd primary_composite
-pair-hangul a b d both = ap (λ o. or_else o (listed a b)) both
+pair-hangul a b d both = rw both
 
 -- the letters are starters and their own rows, and a pair of them is a primary composite
 module _ (starter : (c : ℕ) → 0x1100 ≤ c → c < 0x1200 → canonical_combining_class c ≡ 0) (own : (c : ℕ) → 0x1100 ≤ c → c < 0x1200 → IsOwnRow ucd c)
@@ -28,12 +27,12 @@ module _ (starter : (c : ℕ) → 0x1100 ≤ c → c < 0x1200 → canonical_comb
         joins _ _ _ one (omega arith) v lv (omega arith) (omega arith) (compose_hangul-lv l v lv two)
 
     pub spells_two : (text rest : List ℕ) → text ≡ encode_utf8 v ++ rest → Spells l text rest lv
-    spells_two text rest e = grind (arith, split_one text rest v e, open_cluster)
+    spells_two text rest e = record { front = v ∷ []; count = 2; split = rw append-nil e; made = open_cluster }
 
     pub spells_three : (t lvt : ℕ) → IsLvt lv t lvt → (text middle rest : List ℕ) → text ≡ encode_utf8 v ++ middle → middle ≡ encode_utf8 t ++ rest → Spells l text rest lvt
     spells_three t lvt three text middle rest e g =
         let made = joins _ _ _ open_cluster (omega arith) t lvt (omega arith) (omega arith) (compose_hangul-lvt lv t lvt three) in
-        grind (arith, made, split_more text middle rest (v ∷ []) (t ∷ []) (split_one text middle v e) (split_one middle rest t g))
+        record { front = v ∷ t ∷ []; count = 3; split = rw (e, g, append-nil, append_assoc); made = made }
 
 -- where a boundary comes behind it, it is closed
 pub closes_syllable : (f : Form) (first : Seen) → IsAtBoundary f first → composes f ≡ true → ((x : List ℕ) → IsSoundText ucd x)

@@ -5,7 +5,7 @@ use Rattle.nf_boundary.proofs.Common.{ucd, Sees, IsAtBoundary, Closes, Form, com
 use Rattle.nf_forms.specs.Laws.Cluster.{cluster-joined, cluster-left, cluster-next, HasForm-cluster}
 use Rattle.ucd_normal.specs.declared.forms.Form.TheVariants.{Nfkd as KitNfkd}
 use Rattle.nf_boundary.specs.declared.cluster.Cluster.{Cluster}
-use Rattle.nf_boundary.proofs.LetterLemmas.{appended, begins_first, begins_more, split_one, split_more, split_seen}
+use Rattle.nf_boundary.proofs.LetterLemmas.{appended, begins_more, split_more, split_seen}
 
 pub class_of : (c : ℕ) → ucd.class c ≡ canonical_combining_class c
 unfolding ucd
@@ -66,7 +66,7 @@ made_letter done cs cluster here c own starter room none d both =
     rw class at (cluster-joined ucd _ _ _ _ _ _ here c own (inr class) room d (rw (joined_is done cs cluster here c _ refl, none) both))
 
 pub joins_letter : (text rest : List ℕ) (old new : Cluster) (c : ℕ) → text ≡ encode_utf8 c ++ rest → ((done cs : List ℕ) → AreMadeOf done cs old → AreMadeOf done (cs ++ c ∷ []) new) → JoinsFront text rest old new
-joins_letter text rest old new c e joins = record { front = c ∷ []; split = split_one text rest c e; joins = joins }
+joins_letter text rest old new c e joins = record { front = c ∷ []; split = rw append-nil e; joins = joins }
 
 pub joins_none : (text : List ℕ) (cluster : Cluster) → JoinsFront text text cluster cluster
 joins_none text cluster = grind (arith, append-nil)
@@ -85,7 +85,7 @@ module _ (f : Form) (first : Seen) (at : IsAtBoundary f first) where
       → Gathers f first next cluster formed formed
   gathers_first one cluster next rest formed made letters is sees =
       let split = split_more first.text.now first.behind.now rest (first.character ∷ []) letters.front (split_seen f first at.sees first.behind.now refl) letters.split in
-      grind (arith, append-nil, begins_first f first at letters.front, letters.joins [] (first.character ∷ []) made)
+      grind (arith, append-nil, letters.joins [] (first.character ∷ []) made)
 
   module _ (cluster : Cluster) (seen : Seen) (old new : List ℕ) (here : Gathers f first seen cluster old new) where
     pub gathers_more : (cluster' : Cluster) (next : Seen) (new' : List ℕ) → Joins seen.character cluster cluster' new new' → next.text.now ≡ seen.behind.now → Sees f next

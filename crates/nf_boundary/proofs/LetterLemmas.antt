@@ -1,15 +1,12 @@
 -- Characters that are appended to a text, those that it begins with, and the first of them as a text of its own.
-use Rattle.std.proofs.Common.{arith, ◌≡◌, ℕ, List, [], ◌∷◌, ◌++◌, append-nil, append_assoc, encode_utf8, encode_utf8_all}
+use Rattle.std.proofs.Common.{arith, ◌≡◌, ℕ, List, [], ◌∷◌, ◌++◌, append-nil, append_assoc, encode_utf8_all}
 use Rattle.nf_boundary.proofs.Common.{encodes-append, Form, BeginsAtBoundary, HasForm, ucd, Seen, Sees, IsAtBoundary, Closes}
 
 -- characters appended to a text to which others were
 pub appended : (old a b new new' : List ℕ) → new ≡ old ++ encode_utf8_all a → new' ≡ new ++ encode_utf8_all b → new' ≡ old ++ encode_utf8_all (a ++ b)
 appended old a b new new' first second = rw (second, first, encodes-append, append_assoc)
 
--- a text that begins with a character, or with more of them before others
-pub split_one : (text rest : List ℕ) (c : ℕ) → text ≡ encode_utf8 c ++ rest → text ≡ encode_utf8_all (c ∷ []) ++ rest
-split_one text rest c e = rw append-nil e
-
+-- a text that begins with characters, and with more of them before others
 pub split_more : (text middle rest front more : List ℕ) → text ≡ encode_utf8_all front ++ middle → middle ≡ encode_utf8_all more ++ rest → text ≡ encode_utf8_all (front ++ more) ++ rest
 split_more text middle rest front more first second = rw (first, second, encodes-append, append_assoc)
 

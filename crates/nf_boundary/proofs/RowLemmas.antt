@@ -28,10 +28,6 @@ closes_own f first at sound sound_one parting own other next is behind old new f
     let calm : IsCalm ucd f (c ∷ []) 0 max_row = (0, max_row, inl (begins_run ucd f c (parting c (passing f first at.sees at.class own other)) (sound_one c)), (refl, refl)) in
     closes_letter f first at next is behind (first.character ∷ []) (HasForm-calm ucd f c [] 0 max_row calm (sound (c ∷ []))) old new formed
 
--- what one look-up tells has no members beside it
-pub row_plain : (f : Form) (row : Row) → row.members.now ≡ [] → IsAtBoundary f row.seen → IsRow f row
-row_plain f row none at = grind arith
-
 -- the members that it has
 pub row_members : (f : Form) (row : Row) → IsRow f row → (length row.members.now == 0) ≡ false → row.members.now ≡ row_of f ucd row.seen.character
 row_members f row is some = next row.members.now refl

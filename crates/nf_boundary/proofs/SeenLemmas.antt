@@ -1,5 +1,5 @@
 -- A character as one look-up sees it: what stands behind it, and when a text may be cut before it.
-use Rattle.std.proofs.Common.{◌≡◌, ◌<◌, ◌||◌, ◌≤◌, ℕ, false, ◌∷◌, length, ap, arith, length-append, chars, encode_utf8, IsTrue}
+use Rattle.std.proofs.Common.{◌≡◌, ◌<◌, ◌||◌, ◌≤◌, ℕ, false, ◌∷◌, length, ap, arith, length-append, chars, IsTrue}
 use Rattle.nf_boundary.proofs.Common.{ucd, Sees, IsAtBoundary, Form, composes, Yes, Seen, chars_past_char, length-encode, len_utf8_bounds, canonical_combining_class, lead, or_parts, nat_tests, kit_form, quick_check, is_sound, BeginsAnew, IsBoundary, IsParting}
 use Rattle.nf_facts.specs.Passing.{is_among, halfwidth_marks, vowel_signs, passes_check}
 use Rattle.nf_forms.specs.Laws.ClosedForms.{counts_anew-lead, parting-boundary, boundary-decomposing}
@@ -11,17 +11,16 @@ module _ (f : Form) (c : ℕ) (passes : IsTrue (passes_check f c)) where
   passes_class = grind (arith, nat_tests)
 
   pub passes_yes : quick_check (kit_form f) c ≡ Yes
-  passes_yes = is_yes-true (quick_check (kit_form f) c) (grind arith)
+  passes_yes = is_yes-true _ (grind arith)
 
 module _ (f : Form) (seen : Seen) (here : Sees f seen) where
   pub chars-seen : chars seen.text.now ≡ seen.character ∷ chars seen.behind.now
-  chars-seen = chars_past_char seen.text.now seen.behind.now seen.character here.text_utf8 here.text
+  chars-seen = chars_past_char _ _ _ here.text_utf8 here.text
 
   -- what stands behind it is shorter
   pub shorter : (next : Seen) → next.text.now ≡ seen.behind.now → length next.text.now < length seen.text.now
   shorter next is =
-      let width = len_utf8_bounds seen.character in
-      omega (arith, ap length is, ap length here.text, length-append (encode_utf8 seen.character) seen.behind.now, length-encode seen.character, width.0)
+      omega (arith, ap length is, ap length here.text, length-append {A = ℕ}, length-encode, (len_utf8_bounds seen.character).0)
 
   pub passing : seen.class ≡ 0 → seen.answer ≡ Yes → is_among halfwidth_marks seen.character ≡ false → IsTrue (passes_check f seen.character)
   passing class is other = grind (arith, nat_tests)
@@ -46,5 +45,4 @@ module _ (f : Form) (seen : Seen) (here : Sees f seen) where
   -- where it is a leading consonant of Hangul
   pub boundary_leading : ((c : ℕ) → IsTrue (is_sound ucd c)) → ((c : ℕ) → IsTrue (passes_check f c) → IsParting ucd f c) → 0x1100 ≤ seen.character → seen.character < 0x1113 → seen.class ≡ 0 → seen.answer ≡ Yes
       → IsAtBoundary f seen
-  boundary_leading sound parting low high class is =
-      boundary_composing sound class (grind (arith, nat_tests)) parting is
+  boundary_leading sound parting low high class is = boundary_composing sound class (grind (arith, nat_tests)) parting is
