@@ -23,36 +23,39 @@ module _ (f : Form) (seen : Seen) (sees : Sees f seen) where
   own_row marks own may starter = grind (arith, marks seen.character, own seen.character)
 
   -- so what it makes of the cluster, by what it composes to with the starter
-  module _ (old new : Cluster) (own : IsOwnRow ucd seen.character) (follows : (old.last ≤ seen.class) ⊎ (seen.class ≡ 0)) (room : old.count < 30) (last : new.last ≡ seen.class)
+  module _ (old mid : Cluster) (own : IsOwnRow ucd seen.character) (follows : (old.last ≤ seen.class) ⊎ (seen.class ≡ 0)) (room : old.count < 30)
       (o : Option ℕ) (joins : (done cs : List ℕ) → AreMadeOf done cs old → o ≡ joined ucd old.starter old.left.items seen.character) (before after : List ℕ) where
+    abbrev new : Cluster
+    new = record mid { last = seen.class; count = mid.count + 1 }
+
     class_is : ucd.class seen.character ≡ seen.class
     class_is = class_of seen.character ∙ sym sees.class
 
     in_order : (old.last ≤ ucd.class seen.character) ⊎ (ucd.class seen.character ≡ 0)
     in_order = rw class_is follows
 
-    pub joins_composed : o ≡ Some new.starter → new.left.items ≡ old.left.items → new.highest ≡ old.highest → new.count ≡ old.count + 1 → after ≡ before → Joins seen.character old new before after
+    pub joins_composed : o ≡ Some mid.starter → mid.left.items ≡ old.left.items → mid.highest ≡ old.highest → mid.count ≡ old.count → after ≡ before → Joins seen.character old new before after
     joins_composed is left highest count same = record {
       more = [];
       formed = rw (append-nil, same);
-      joins = λ done cs made. rw (append-nil, left, last, highest, count, ← class_is) (cluster-joined ucd _ _ _ _ _ _ made _ own in_order room _ (sym (joins done cs made) ∙ is));
+      joins = λ done cs made. rw (append-nil, left, highest, count, ← class_is) (cluster-joined ucd _ _ _ _ _ _ made _ own in_order room _ (sym (joins done cs made) ∙ is));
     }
 
-    pub joins_left : o ≡ None → seen.class ≢ 0 → new.starter ≡ old.starter → new.left.items ≡ old.left.items ++ seen.character ∷ [] → new.highest ≡ seen.class → new.count ≡ old.count + 1 → after ≡ before
+    pub joins_left : o ≡ None → seen.class ≢ 0 → mid.starter ≡ old.starter → mid.left.items ≡ old.left.items ++ seen.character ∷ [] → mid.highest ≡ seen.class → mid.count ≡ old.count → after ≡ before
         → Joins seen.character old new before after
     joins_left is mark starter left highest count same = record {
       more = [];
       formed = rw (append-nil, same);
-      joins = λ done cs made. rw (append-nil, starter, left, last, highest, count, ← class_is)
+      joins = λ done cs made. rw (append-nil, starter, left, highest, count, ← class_is)
           (cluster-left ucd _ _ _ _ _ _ made _ own in_order room (ne_eqb _ 0 (rw class_is mark)) (sym (joins done cs made) ∙ is));
     }
 
-    pub joins_next : o ≡ None → seen.class ≡ 0 → new.starter ≡ seen.character → new.left.items ≡ [] → new.highest ≡ old.highest → new.count ≡ 1 → after ≡ before ++ encode_utf8_all (old.starter ∷ old.left.items)
+    pub joins_next : o ≡ None → seen.class ≡ 0 → mid.starter ≡ seen.character → mid.left.items ≡ [] → mid.highest ≡ old.highest → mid.count ≡ 0 → after ≡ before ++ encode_utf8_all (old.starter ∷ old.left.items)
         → Joins seen.character old new before after
     joins_next is none starter left highest count grown = record {
       more = old.starter ∷ old.left.items;
       formed = grown;
-      joins = λ done cs made. rw (starter, left, last, highest, count, ← class_is)
+      joins = λ done cs made. rw (starter, left, highest, count, ← class_is)
           (cluster-next ucd _ _ _ _ _ _ made _ own in_order room (eq-eqb _ 0 (class_is ∙ none)) (sym (joins done cs made) ∙ is));
     }
 

@@ -1,4 +1,4 @@
-use Rattle.nf_boundary.proofs.Common.{false, rules, ◌≡◌, ◌≢◌, ◌+◌, length, refl, ◌∙◌, append_assoc, arith, take_all, canonical_combining_class, has_starter, row_of, ucd}
+use Rattle.nf_boundary.proofs.Common.{false, rules, ◌≡◌, ◌≢◌, ◌+◌, length, refl, append_assoc, arith, take_all, canonical_combining_class, has_starter, row_of, ucd}
 use Rattle.nf_boundary.proofs.ApartLemmas.{row_is}
 use Rattle.nf_boundary.proofs.BecomesLemmas.{leaves_row}
 use Rattle.nf_boundary.proofs.FillsLemmas.{take_next, marks_next}
@@ -7,7 +7,7 @@ use Rattle.nf_boundary.proofs.piece.hold_row.Goals as goal
 pub loop-member-preserved : goal.loop-member-preserved
 loop-member-preserved c =
     let next = take_next c.decomposition-members.result.now _ c.member-item.result c.loop-member-test.true c.member-item.is in
-    let some : canonical_combining_class c.member-item.result ≢ 0 = λ none. c.in_ok-left.ensures.class refl (c.canonical_combining_class.ensures ∙ none) in
+    let some : canonical_combining_class c.member-item.result ≢ 0 = rw c.canonical_combining_class.ensures at (c.in_ok-left.ensures.class refl) in
     record {
       becomes = λ w starter before now here. rw (next, ← append_assoc w) (c.in_ok-left.ensures.becomes refl c.args.form _ starter before now (c.loop-member.invariant.becomes w starter before now here));
       marks = search (rules, marks_next);
