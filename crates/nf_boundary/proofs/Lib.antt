@@ -4,7 +4,6 @@ pub mod SeenLemmas
 pub mod PieceLemmas
 pub mod LetterLemmas
 pub mod JoinLemmas
-pub mod ApartLemmas
 pub mod RowLemmas
 pub mod HangulLemmas
 pub mod BecomesLemmas

@@ -1,9 +1,8 @@
 -- A text closed piece by piece: its calm part, a piece more, and the front that comes of it.
-use Rattle.std.proofs.Common.{◌≡◌, ◌≢◌, ◌⊎◌, inl, inr, ℕ, ◌<◌, ◌-◌, List, [], ◌∷◌, ◌++◌, length, take, drop, refl, sym, ap, ◌∙◌, arith, append_assoc, append-nil, length-append, take_at, drop_at, IsCharBoundary}
+use Rattle.std.proofs.Common.{◌≡◌, ◌≢◌, ◌⊎◌, inl, inr, ℕ, ◌<◌, ◌-◌, List, [], ◌∷◌, ◌++◌, length, take, refl, sym, ap, ◌∙◌, arith, append_assoc, append-nil, length-append, take_at, IsCharBoundary}
 use Rattle.std.specs.Prelude.{chars, encode_utf8_all, IsUtf8}
-use Rattle.nf_boundary.proofs.Common.{chars-nil, chars-append, chars_from_encodes, encodes-chars, length-le-encodes, IsUtf8-take, IsCharBoundary-at_seam, Form, IsCalm, HasForm, ucd, IsSoundText, calm-front, HasForm-calm, Seen, IsAtBoundary, Closes, Reaches}
+use Rattle.nf_boundary.proofs.Common.{chars-nil, chars-append, chars_from_encodes, encodes-chars, length-le-encodes, IsUtf8-take, IsCharBoundary-at_seam, Form, IsCalm, HasForm, ucd, IsSoundText, HasForm-calm, Seen, IsAtBoundary, Closes, Reaches}
 use Rattle.nf_forms.specs.Laws.Closed.{HasForm-append}
-use Rattle.nf_calm.specs.Front.{IsCalmFront}
 use Rattle.nf_boundary.specs.Front.{IsClosedFront}
 use Rattle.nf_boundary.specs.Stands.{Stands}
 use Rattle.nf_boundary.proofs.LetterLemmas.{appended, split_more}
@@ -18,9 +17,6 @@ module _ (text a b : List ℕ) (n : ℕ) (e : text ≡ a ++ b) (same : length a 
   pub take-seam : take n text ≡ a
   take-seam = rw e (take_at a b n same)
 
-  pub drop-seam : drop n text ≡ b
-  drop-seam = rw e (drop_at a b n same)
-
 module _ (f : Form) where
   -- ---- calm text
 
@@ -32,12 +28,6 @@ module _ (f : Form) where
   pub stands_end : (whole calm rest : List ℕ) (class count : ℕ) → whole ≡ calm ++ rest → IsCalm ucd f (chars calm) class count → IsUtf8 calm → ((x : List ℕ) → IsSoundText ucd x)
       → (next : Seen) → next.text.now ≡ rest → IsAtBoundary f next → Stands f whole next
   stands_end whole calm rest class count text is_calm u sound next is behind = grind (arith, encodes-chars calm u, own_calm (chars calm) class count is_calm sound)
-
-  -- up to what of it is settled
-  pub stands_settled : (whole settled tail rest : List ℕ) → IsCalmFront ucd f whole settled tail rest → IsUtf8 settled → ((x : List ℕ) → IsSoundText ucd x)
-      → (next : Seen) → next.text.now ≡ tail ++ rest → IsAtBoundary f next → Stands f whole next
-  stands_settled whole settled tail rest calm =
-      stands_end _ _ _ _ _ calm.text (calm-front ucd f _ (chars tail) _ _ calm.calm).2
 
   module _ (whole : List ℕ) (next : Seen) (here : Stands f whole next) where
     long : length (encode_utf8_all here.front) ≡ length whole - length next.text.now

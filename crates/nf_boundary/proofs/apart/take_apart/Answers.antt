@@ -1,5 +1,5 @@
 use Rattle.nf_boundary.proofs.Common.{rules}
-use Rattle.nf_boundary.proofs.ApartLemmas.{closes_apart}
+use Rattle.nf_boundary.proofs.RowLemmas.{closes_apart}
 use Rattle.nf_boundary.proofs.apart.take_apart.Goals as goal
 
 pub returns-clause-closes : goal.returns-clause-closes

@@ -1,5 +1,6 @@
-use Rattle.nf_boundary.proofs.Common.{rules, ◌++◌, refl, ◌∙◌, IsUtf8-append}
-use Rattle.nf_boundary.proofs.PieceLemmas.{seam, drop-seam, stands_end, stands_settled}
+use Rattle.std.proofs.Common.{chars, drop_at}
+use Rattle.nf_boundary.proofs.Common.{ucd, calm-front, rules, refl, ◌∙◌, IsUtf8-append}
+use Rattle.nf_boundary.proofs.PieceLemmas.{seam, stands_end}
 use Rattle.nf_boundary.proofs.parting.boundary_behind.Goals as goal
 
 pub returns : goal.returns
@@ -15,5 +16,6 @@ pub returns-2 : goal.returns-2
 returns-2 c =
     let calm = c.split-calm.result in
     let here = c.split-calm.ensures c.args.form c.args.text.now c.requires in
-    let back = c.in_ok-next.ensures.0 ∙ c.split_at.ensures.back ∙ drop-seam c.args.text.now calm.settled.now (calm.tail.now ++ calm.rest.now) _ here.text refl in
-    stands_settled c.args.form _ _ _ _ here (search rules) c.every_character_is_sound.ensures.text _ back c.in_ok-next.ensures.1
+    let front = calm-front ucd c.args.form _ (chars calm.tail.now) _ _ here.calm in
+    let back = c.in_ok-next.ensures.0 ∙ rw (here.text, drop_at calm.settled.now _ _ refl) at c.split_at.ensures.back in
+    stands_end _ _ _ _ _ _ here.text front.2 (search rules) c.every_character_is_sound.ensures.text _ back c.in_ok-next.ensures.1
