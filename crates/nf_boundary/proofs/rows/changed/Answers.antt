@@ -1,5 +1,5 @@
-use Rattle.nf_boundary.proofs.Common.{rules}
-use Rattle.nf_boundary.proofs.SeenLemmas.{boundary_row}
+use Rattle.nf_boundary.proofs.Common.{sym, ◌∙◌, IsTrue, passes_check, rules}
+use Rattle.nf_boundary.proofs.SeenLemmas.{boundary_row, passes_yes}
 use Rattle.nf_boundary.proofs.RowLemmas.{anew_row}
 use Rattle.nf_boundary.proofs.rows.changed.Goals as goal
 
@@ -7,5 +7,6 @@ pub returns-clause-row : goal.returns-clause-row
 returns-clause-row c =
     let is = c.in_ok-first.ensures.cases.0 in
     let tells = c.the_quick_check_tells.ensures in
-    let anew = anew_row c.args.form _ _ (c.members-members.ensures _ _ is) (tells.parting c.args.form) (tells.never_second c.args.form) _ _ is (search (rules, c.passes.ensures)) in
+    let passes : IsTrue (passes_check c.args.form c.in_ok-first.first.now) = search (rules, c.passes.ensures) in
+    let anew = anew_row _ _ _ _ (sym (c.members-members.ensures _ _ is) ∙ is) (tells.parting _ _ passes) (tells.never_second _ _ (passes_yes _ _ passes)) in
     search (rules, boundary_row)
