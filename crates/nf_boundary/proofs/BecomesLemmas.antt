@@ -1,10 +1,11 @@
 -- What decomposed text from a boundary on becomes: a member more, and its form when a boundary comes.
 use Rattle.std.proofs.Common.{◌≡◌, ◌≢◌, ◌==◌, ℕ, ◌+◌, Bool, true, false, List, [], ◌∷◌, ◌++◌, length, map, Some, refl, sym, ap, ◌∙◌, append_assoc, append-nil, arith, leb, IsTrue, insert, encode_utf8_all}
-use Rattle.nf_boundary.proofs.Common.{ucd, Form, row_of, decomposed, composes, arranged, finished, canonical_combining_class, IsSound-from_test, ne_eqb, cond-true, has_starter, trail, longest, nat_tests, Becomes, Leaves, Nfkd, is_sound, NeverSecond, Mark}
+use Rattle.nf_boundary.proofs.Common.{length-map, ucd, Form, row_of, decomposed, composes, arranged, finished, canonical_combining_class, IsSound-from_test, ne_eqb, cond-true, has_starter, trail, longest, nat_tests, Becomes, Leaves, Nfkd, is_sound, NeverSecond, Mark}
 use Rattle.nf_boundary.specs.Laws.Held.{held-push}
 use Rattle.std.specs.List.{prefix_len, flat_map}
 use Rattle.nf_forms.specs.Properties.{Properties, is_starter}
 use Rattle.std.proofs.lemmas.List.Folds.{list_any_at}
+use Rattle.std.proofs.lemmas.List.{nil_from_length}
 use Rattle.nf_forms.specs.Laws.Front.{marks_push}
 use Rattle.nf_forms.specs.Laws.Settling.{closed_off}
 use Rattle.nf_forms.specs.Laws.Audited.{flat_map-full}
@@ -53,11 +54,9 @@ module _ (f : Form) where
 
     -- the starter alone, where no marks are held
     pub becomes_closed_one : true ≡ (length marks == 0) → (new : List ℕ) → new ≡ now ++ encode_utf8_all (starter ∷ []) → new ≡ before ++ encode_utf8_all (finished f ucd w)
-    becomes_closed_one alone new grown = becomes_closed new (λ m held _. grown ∙ ap (λ k. now ++ encode_utf8_all k) (one m (rw held at alone)))
-      where
-        one : (m : List ℕ) → true ≡ (length (map (mark_of ucd) m) == 0) → starter ∷ [] ≡ closed_off ucd (composes f) (Some starter) m
-        one [] none = grind arith
-        one (c ∷ m) none = absurd (grind (arith, nat_tests))
+    becomes_closed_one alone new grown = becomes_closed new (λ m held _.
+        let none : m ≡ [] = nil_from_length m (grind (arith, nat_tests, length-map m (mark_of ucd))) in
+        grind (arith, none))
 
   -- a starter more, that composes with nothing before it, where that is closed off
   pub becomes_parted : (w before now : List ℕ) (c : ℕ) → now ≡ before ++ encode_utf8_all (finished f ucd w) → is_starter ucd c ≡ true → NeverSecond ucd f c → Becomes f (w ++ c ∷ []) c [] before now

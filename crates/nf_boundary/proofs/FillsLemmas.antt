@@ -27,9 +27,7 @@ module _ (f : Form) (first : Seen) (at : IsAtBoundary f first) where
   pub becomes_row : (row : List ℕ) (starter : ℕ) (others : List ℕ) → row ≡ row_of f ucd first.character → row ≡ starter ∷ others → (marks : List Mark) → marks ≡ [] → (before : List ℕ)
       → Becomes f (take 1 (row_of f ucd first.character)) starter marks before before
   becomes_row row starter others is members marks alone before =
-      let anew = at.boundary.anew in
-      let both : anew.first ∷ anew.rest ≡ starter ∷ others = sym anew.row ∙ sym is ∙ members in
-      becomes_one f starter marks _ before (ap (take 1) (sym is ∙ members)) (cc anew.starter) alone
+      becomes_one f starter marks _ before (ap (take 1) (sym is ∙ members)) (grind arith) alone
 
   module _ (seen : Seen) (piece : Piece) (before now : List ℕ) (here : Fills f first seen piece before now) where
     -- one more
@@ -48,11 +46,10 @@ module _ (f : Form) (first : Seen) (at : IsAtBoundary f first) where
 
 -- ---- a non-starter more, or a character whose row is of non-starters
 
-module _ (f : Form) (seen : Seen) (sees : Sees f seen) where
-  pub leaves_mark : ((c : ℕ) → 0 < canonical_combining_class c → quick_check (kit_form f) c ≢ No → IsMark ucd c (canonical_combining_class c)) → seen.class ≢ 0 → seen.answer ≢ No
-      → (cs : List ℕ) (room room' : ℕ) → room' + 1 ≡ room → Leaves cs room → Leaves (cs ++ seen.character ∷ []) room'
-  leaves_mark marks some may cs room room' less here =
-      grind (arith, nat_tests, marks seen.character, class_of seen.character, leaves_more cs seen.character room room')
+pub leaves_mark : (f : Form) (seen : Seen) → Sees f seen → ((c : ℕ) → 0 < canonical_combining_class c → quick_check (kit_form f) c ≢ No → IsMark ucd c (canonical_combining_class c)) → seen.class ≢ 0 → seen.answer ≢ No
+    → (cs : List ℕ) (room room' : ℕ) → room' + 1 ≡ room → Leaves cs room → Leaves (cs ++ seen.character ∷ []) room'
+leaves_mark f seen sees marks some may cs room room' less here =
+    grind (arith, nat_tests, marks seen.character, class_of seen.character, leaves_more cs seen.character room room')
 
 -- the members of a row that were held, and one more
 pub marks_next : (row : List ℕ) (i c : ℕ) → i < length row → c ≡ get_or row i c → canonical_combining_class c ≢ 0 → has_starter ucd (take i row) ≡ false → has_starter ucd (take (i + 1) row) ≡ false

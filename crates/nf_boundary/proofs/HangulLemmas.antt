@@ -3,7 +3,7 @@ use Rattle.std.proofs.Common.{append-nil, append_assoc, ◌≡◌, inr, ℕ, ◌
 use Rattle.nf_boundary.proofs.Common.{canonical_combining_class, compose_hangul, IsLv, IsLvt, compose_hangul-lv, compose_hangul-lvt, Form, composes, composite, IsOwnRow, IsCluster, ucd, cluster-one, cluster-joined, HasForm-cluster, IsSoundText, Seen, IsAtBoundary, Closes}
 use Rattle.unicode_normalization.specs.Compose.{primary_composite}
 use Rattle.nf_boundary.specs.Hangul.{Spells}
-use Rattle.nf_boundary.proofs.LetterLemmas.{begins_first, split_more, split_seen}
+use Rattle.nf_boundary.proofs.LetterLemmas.{split_more, split_seen}
 use Rattle.nf_boundary.proofs.JoinLemmas.{class_of}
 
 pair-hangul : (a b d : ℕ) → compose_hangul a b ≡ Some d → ucd.pair a b ≡ Some d
@@ -40,4 +40,4 @@ pub closes_syllable : (f : Form) (first : Seen) → IsAtBoundary f first → com
     → (old new : List ℕ) → new ≡ old ++ encode_utf8_all (syllable ∷ []) → Closes f first.text.now next old new
 closes_syllable f first at composing sound rest syllable letters next is behind old new formed =
     let split = split_more first.text.now first.behind.now rest (first.character ∷ []) letters.front (split_seen f first at.sees first.behind.now refl) letters.split in
-    grind (arith, HasForm-cluster ucd f composing _ _ _ _ _ _ letters.made (begins_first f first at letters.front) (sound (first.character ∷ letters.front)))
+    grind (arith, HasForm-cluster ucd f composing _ _ _ _ _ _ letters.made (grind arith) (sound (first.character ∷ letters.front)))

@@ -17,9 +17,6 @@ split_seen f seen sees rest is = rw (is, append-nil) sees.text
 pub begins_more : (f : Form) (cs more : List ℕ) → BeginsAtBoundary ucd f cs → BeginsAtBoundary ucd f (cs ++ more)
 begins_more f cs more b = grind arith
 
-pub begins_first : (f : Form) (first : Seen) → IsAtBoundary f first → (rest : List ℕ) → BeginsAtBoundary ucd f (first.character ∷ rest)
-begins_first f first at rest = grind arith
-
 -- the character is closed, where a boundary comes behind it
 pub closes_letter : (f : Form) (first : Seen) → IsAtBoundary f first → (next : Seen) → next.text.now ≡ first.behind.now → IsAtBoundary f next
     → (more : List ℕ) → HasForm ucd f (first.character ∷ []) more → (old new : List ℕ) → new ≡ old ++ encode_utf8_all more → Closes f first.text.now next old new

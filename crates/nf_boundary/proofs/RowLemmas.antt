@@ -1,6 +1,7 @@
 -- A character with its decomposition beside it, one that is taken apart, and one that passes the quick check.
-use Rattle.std.proofs.Common.{arith, ◌≡◌, ℕ, false, List, [], ◌∷◌, ◌==◌, length, refl, ap, ◌∙◌, inl, IsTrue}
-use Rattle.nf_boundary.proofs.Common.{HasForm, composes, HasForm-row, Yes, Form, row_of, max_row, is_sound, IsCalm, IsSoundText, NeverSecond, BeginsAnew, IsParting, ucd, HasForm-calm, kit_form, is_among, halfwidth_marks, passes_check, is_syllable, Seen, IsRow, IsAtBoundary}
+use Rattle.std.proofs.Common.{arith, ◌≡◌, ℕ, false, List, [], ◌∷◌, ◌==◌, length, refl, ◌∙◌, inl, IsTrue}
+use Rattle.std.proofs.Math.Seq.{drop-cons}
+use Rattle.nf_boundary.proofs.Common.{nat_tests, HasForm, composes, HasForm-row, Yes, Form, row_of, max_row, is_sound, IsCalm, IsSoundText, NeverSecond, BeginsAnew, IsParting, ucd, HasForm-calm, kit_form, is_among, halfwidth_marks, passes_check, is_syllable, Seen, IsRow, IsAtBoundary}
 use Rattle.nf_forms.specs.Laws.CalmSteps.{begins_run}
 use Rattle.ucd_normal.specs.declared.forms.Form.{Form as KitForm}
 use Rattle.unicode_normalization.specs.Decompose.{table_of, decompose}
@@ -37,8 +38,4 @@ module _ (f : Form) (first : Seen) (at : IsAtBoundary f first) (sound_one : (c :
 
 -- the members that it has
 pub row_members : (f : Form) (row : Row) → IsRow f row → (length row.members.now == 0) ≡ false → row.members.now ≡ row_of f ucd row.seen.character
-row_members f row is some = next row.members.now refl
-  where
-    next : (members : List ℕ) → row.members.now ≡ members → row.members.now ≡ row_of f ucd row.seen.character
-    next [] e = cc (ap (λ m. length m == 0) e)
-    next (first ∷ others) e = is.members first others e ∙ row_is f row.seen.character
+row_members f row is some = is.members _ _ (drop-cons row.members.now 0 0 (grind (arith, nat_tests))) ∙ row_is f row.seen.character
