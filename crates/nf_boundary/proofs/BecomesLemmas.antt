@@ -1,17 +1,8 @@
 -- What decomposed text from a boundary on becomes: a member more, and its form when a boundary comes.
 use Rattle.std.proofs.Common.{◌≡◌, ◌≢◌, ◌==◌, ℕ, ◌+◌, Bool, true, false, List, [], ◌∷◌, ◌++◌, length, map, Some, refl, sym, ap, ◌∙◌, append_assoc, append-nil, arith, leb, IsTrue, insert, encode_utf8_all}
-use Rattle.nf_boundary.proofs.Common.{length-map, ucd, Form, row_of, decomposed, composes, arranged, finished, canonical_combining_class, IsSound-from_test, ne_eqb, cond-true, has_starter, trail, longest, nat_tests, Becomes, Leaves, Nfkd, is_sound, NeverSecond, Mark}
-use Rattle.nf_boundary.specs.Laws.Held.{held-push}
-use Rattle.std.specs.List.{prefix_len, flat_map}
-use Rattle.nf_forms.specs.Properties.{Properties, is_starter}
-use Rattle.std.proofs.lemmas.List.Folds.{list_any_at}
-use Rattle.std.proofs.lemmas.List.{nil_from_length}
-use Rattle.nf_forms.specs.Laws.Front.{marks_push}
+use Rattle.nf_boundary.proofs.Common.{length-map, ucd, Form, row_of, decomposed, composes, arranged, finished, canonical_combining_class, IsSound-from_test, ne_eqb, cond-true, has_starter, trail, longest, nat_tests, Becomes, Leaves, Nfkd, is_sound, NeverSecond, Mark, held-push, prefix_len, flat_map, Properties, is_starter, list_any_at, nil_from_length, marks_push, flat_map-full, decomposed-push, longest-le-length, mark_of, is_rising}
 use Rattle.nf_forms.specs.Laws.Settling.{closed_off}
-use Rattle.nf_forms.specs.Laws.Audited.{flat_map-full}
 use Rattle.nf_forms.specs.Audit.{IsFull, AreOwnMarks}
-use Rattle.nf_forms.specs.Laws.StreamSafe.{decomposed-push, longest-le-length}
-use Rattle.nf_boundary.specs.Mark.{mark_of, is_rising}
 use Rattle.nf_forms.specs.Order.{by_class}
 use Rattle.nf_forms.specs.Laws.Runs.{lead-le-length, trail-le-length, trail-append, trail-push, longest-append}
 use Rattle.nf_forms.specs.Laws.Order.{order-behind, has_starter-by_class}

@@ -1,20 +1,21 @@
 -- The names that most of these proofs cite, passed on from one place. Declares nothing.
-pub use Rattle.std.proofs.Common.{rules, ◌≡◌, ◌∙◌, length, ◌++◌, ℕ, refl, List, ap, sym, ◌∷◌, arith, ◌+◌, [], false, ◌<◌, ◌≢◌, ◌≤◌, append_assoc, take, true, append-nil, Some, eq-eqb, Bool, get_or, leb, map, ◌&&◌, ◌||◌, nat_le, ◌*◌, ◌-◌}
-pub use Rattle.std.specs.Prelude.{IsTrue, IsUtf8, encode_utf8, encode_utf8_all, insert}
+pub use Rattle.std.proofs.Common.{rules, ◌≡◌, ◌∙◌, length, ◌++◌, ℕ, refl, List, ap, sym, ◌∷◌, arith, ◌+◌, [], false, ◌<◌, ◌≢◌, ◌≤◌, append_assoc, take, true, append-nil, eq-eqb, Bool, get_or, map, ◌&&◌, ◌||◌, nat_le, ◌*◌, ◌-◌}
+pub use Rattle.std.specs.Prelude.{IsTrue, IsUtf8, encode_utf8, encode_utf8_all, chars}
 pub use Rattle.std.proofs.lemmas.Bool.{ne_eqb, or_parts, cond-true, leb-true}
 pub use Rattle.std.proofs.lemmas.Bool.Decides.{nat_tests}
-pub use Rattle.std.proofs.lemmas.List.{take_more, take_all, get_or-map, get_or_default, length-append, length-map}
+pub use Rattle.std.proofs.lemmas.List.{take_more, take_all, get_or-map, get_or_default, length-append, length-map, nil_from_length}
 pub use Rattle.std.proofs.lemmas.Str.{encodes-append, len_utf8_bounds, length-encode, IsCharBoundary-at_seam, IsUtf8-append, IsUtf8-take, chars-append, chars-nil, chars_from_encodes, chars_past_char, encodes-chars, length-le-encodes}
-pub use Rattle.std.specs.List.{prefix_len, list_any}
+pub use Rattle.std.specs.List.{prefix_len, list_any, flat_map}
+pub use Rattle.std.proofs.lemmas.List.Folds.{list_any_at, list_any-append}
 pub use Rattle.nf_facts.specs.KitForm.{kit_form}
-pub use Rattle.nf_facts.specs.Passing.{passes_check, halfwidth_marks, is_among}
+pub use Rattle.nf_facts.specs.Passing.{passes_check, halfwidth_marks, is_among, vowel_signs}
 pub use Rattle.nf_forms.specs.Calm.{IsCalm, IsMark}
 pub use Rattle.nf_forms.specs.Closed.{HasForm, BeginsAtBoundary}
 pub use Rattle.nf_forms.specs.Cluster.{IsOwnRow, AreClusters, IsCluster}
 pub use Rattle.nf_forms.specs.Compose.{composite, join, joined, replaced}
 pub use Rattle.nf_forms.specs.Forms.{row_of, composes, decomposed, finished, arranged}
-pub use Rattle.nf_forms.specs.Laws.ClosedForms.{HasForm-calm, HasForm-row, calm-front}
-pub use Rattle.nf_forms.specs.Laws.Cluster.{HasForm-cluster, cluster-joined, cluster-one, row-own}
+pub use Rattle.nf_forms.specs.Laws.ClosedForms.{HasForm-calm, HasForm-row, calm-front, counts_anew-lead, parting-boundary, boundary-decomposing}
+pub use Rattle.nf_forms.specs.Laws.Cluster.{HasForm-cluster, cluster-joined, cluster-one, row-own, cluster-left, cluster-next}
 pub use Rattle.nf_forms.specs.Laws.Sound.{IsSoundText, IsSound-from_test}
 pub use Rattle.nf_forms.specs.Parting.{BeginsAnew, IsBoundary, IsParting, NeverSecond}
 pub use Rattle.nf_forms.specs.Properties.{is_starter, Properties}
@@ -23,16 +24,20 @@ pub use Rattle.nf_forms.specs.Sound.{is_sound, max_row}
 unfoldable pub use Rattle.nf_forms.specs.Ucd.{ucd}
 pub use Rattle.nf_forms.specs.declared.form.Form.{Form}
 pub use Rattle.nf_forms.specs.declared.form.Form.TheVariants.{Nfc, Nfkd}
+pub use Rattle.nf_forms.specs.Laws.Front.{marks_push}
+pub use Rattle.nf_forms.specs.Laws.Audited.{flat_map-full, stream_safe-short}
+pub use Rattle.nf_forms.specs.Laws.StreamSafe.{decomposed-push, longest-le-length}
 pub use Rattle.ucd_normal.specs.CanonicalCombiningClass.{canonical_combining_class}
 pub use Rattle.ucd_normal.specs.QuickCheck.{quick_check}
 pub use Rattle.ucd_normal.specs.declared.forms.QuickCheck.TheVariants.{Yes, No}
 pub use Rattle.unicode_normalization.proofs.HangulLemmas.{IsLv, IsLvt, compose_hangul-lv, compose_hangul-lvt}
 pub use Rattle.unicode_normalization.specs.Hangul.{compose_hangul, is_syllable}
 pub use Rattle.nf_boundary.specs.Joins.{Gathers, JoinsFront, AreMadeOf, Joins}
-pub use Rattle.nf_boundary.specs.Laws.Held.{held-characters, prefix_len-rising}
+pub use Rattle.nf_boundary.specs.Laws.Held.{held-characters, prefix_len-rising, held-push}
 pub use Rattle.nf_boundary.specs.Piece.{Becomes, Fills, Leaves}
 pub use Rattle.nf_boundary.specs.Pieces.{Closes, Reaches}
 pub use Rattle.nf_boundary.specs.Rows.{IsRow}
 pub use Rattle.nf_boundary.specs.Seen.{IsAtBoundary, Sees}
 pub use Rattle.nf_boundary.specs.declared.mark.Mark.{Mark}
 pub use Rattle.nf_boundary.specs.declared.seen.Seen.{Seen}
+pub use Rattle.nf_boundary.specs.Mark.{mark_of, is_rising}

@@ -1,9 +1,6 @@
 -- A piece of text from one boundary to the next, character by character.
 use Rattle.std.proofs.Common.{add-one, ◌≡◌, ◌≢◌, ℕ, ◌+◌, ◌<◌, false, List, [], ◌∷◌, ◌++◌, length, take, get_or, sym, ap, ◌∙◌, arith, eq-eqb, encode_utf8_all}
-use Rattle.nf_boundary.proofs.Common.{nat_tests, ucd, Sees, IsAtBoundary, Closes, Form, row_of, decomposed, finished, No, Seen, take_more, canonical_combining_class, has_starter, IsSoundText, kit_form, Becomes, Leaves, Fills, quick_check, IsMark, IsOwnRow, row-own, Mark}
-use Rattle.nf_forms.specs.Laws.Front.{marks_push}
-use Rattle.nf_forms.specs.Laws.StreamSafe.{decomposed-push}
-use Rattle.nf_forms.specs.Laws.Audited.{stream_safe-short}
+use Rattle.nf_boundary.proofs.Common.{nat_tests, ucd, Sees, IsAtBoundary, Closes, Form, row_of, decomposed, finished, No, Seen, take_more, canonical_combining_class, has_starter, IsSoundText, kit_form, Becomes, Leaves, Fills, quick_check, IsMark, IsOwnRow, row-own, Mark, marks_push, stream_safe-short, decomposed-push}
 use Rattle.nf_boundary.specs.declared.piece.Piece.{Piece}
 use Rattle.nf_boundary.proofs.JoinLemmas.{class_of}
 use Rattle.nf_boundary.proofs.LetterLemmas.{begins_more, split_more, split_seen}

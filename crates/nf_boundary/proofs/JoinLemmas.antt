@@ -1,8 +1,6 @@
 -- A cluster of Unicode's characters: how a character more joins it, and what it is when a boundary comes.
 use Rattle.std.proofs.Common.{Option, ◌≡◌, ◌≢◌, ◌⊎◌, inr, ℕ, ◌+◌, ◌<◌, ◌≤◌, true, not, ◌&&◌, ◌==◌, nat_le, cond, List, [], ◌∷◌, ◌++◌, length, Some, None, refl, sym, ◌∙◌, append_assoc, append-nil, arith, eq-eqb}
-use Rattle.std.specs.Prelude.{encode_utf8, encode_utf8_all}
-use Rattle.nf_boundary.proofs.Common.{ucd, Sees, IsAtBoundary, Closes, Form, composes, Seen, Yes, No, canonical_combining_class, IsSoundText, ne_eqb, kit_form, quick_check, IsMark, composite, joined, IsOwnRow, AreClusters, AreMadeOf, JoinsFront, Joins, Gathers}
-use Rattle.nf_forms.specs.Laws.Cluster.{cluster-joined, cluster-left, cluster-next, HasForm-cluster}
+use Rattle.nf_boundary.proofs.Common.{ucd, Sees, IsAtBoundary, Closes, Form, composes, Seen, Yes, No, canonical_combining_class, IsSoundText, ne_eqb, kit_form, quick_check, IsMark, composite, joined, IsOwnRow, AreClusters, AreMadeOf, JoinsFront, Joins, Gathers, encode_utf8, encode_utf8_all, cluster-joined, cluster-left, cluster-next, HasForm-cluster}
 use Rattle.ucd_normal.specs.declared.forms.Form.TheVariants.{Nfkd as KitNfkd}
 use Rattle.nf_boundary.specs.declared.cluster.Cluster.{Cluster}
 use Rattle.nf_boundary.proofs.LetterLemmas.{appended, begins_more, split_more, split_seen}

@@ -1,7 +1,6 @@
 -- A text closed piece by piece: its calm part, a piece more, and the front that comes of it.
 use Rattle.std.proofs.Common.{◌≡◌, ◌≢◌, ◌⊎◌, inl, inr, ℕ, ◌<◌, ◌-◌, List, [], ◌∷◌, ◌++◌, length, take, refl, sym, ap, ◌∙◌, arith, append_assoc, append-nil, length-append, take_at, IsCharBoundary}
-use Rattle.std.specs.Prelude.{chars, encode_utf8_all, IsUtf8}
-use Rattle.nf_boundary.proofs.Common.{chars-nil, chars-append, chars_from_encodes, encodes-chars, length-le-encodes, IsUtf8-take, IsCharBoundary-at_seam, Form, IsCalm, HasForm, ucd, IsSoundText, HasForm-calm, Seen, IsAtBoundary, Closes, Reaches}
+use Rattle.nf_boundary.proofs.Common.{chars-nil, chars-append, chars_from_encodes, encodes-chars, length-le-encodes, IsUtf8-take, IsCharBoundary-at_seam, Form, IsCalm, HasForm, ucd, IsSoundText, HasForm-calm, Seen, IsAtBoundary, Closes, Reaches, chars, encode_utf8_all, IsUtf8}
 use Rattle.nf_forms.specs.Laws.Closed.{HasForm-append}
 use Rattle.nf_boundary.specs.Front.{IsClosedFront}
 use Rattle.nf_boundary.specs.Stands.{Stands}
@@ -55,8 +54,7 @@ module _ (f : Form) where
   -- ---- a piece more
 
   pub closes_shorter : (text : List ℕ) (next : Seen) (old new : List ℕ) → Closes f text next old new → length next.text.now < length text
-  closes_shorter text next old new here =
-      omega (arith, ap length here.split, length-append {A = ℕ}, length-le-encodes, ap length here.form.begins.text)
+  closes_shorter text next old new here = omega (arith, ap length here.split, length-append {A = ℕ}, length-le-encodes, ap length here.form.begins.text)
 
   module _ (whole same formed : List ℕ) (next : Seen) (here : Reaches f whole same formed next) where
     pub reaches_more : (next' : Seen) (formed' : List ℕ) → Closes f next.text.now next' formed formed' → Reaches f whole same formed' next'
@@ -71,5 +69,5 @@ module _ (f : Form) where
     closed_front whole_utf8 some =
         let before = encode_utf8_all here.front in
         let sees = here.behind.sees in
-        let u = rw (take-seam whole before next.text.now (length before) here.split refl) at (IsUtf8-take whole (length before) whole_utf8 (IsCharBoundary-at_seam whole before next.text.now here.split sees.text_utf8)) in
+        let u = rw (take-seam whole before _ _ here.split refl) at (IsUtf8-take whole (length before) whole_utf8 (IsCharBoundary-at_seam _ _ _ here.split sees.text_utf8)) in
         grind (arith, chars-append before next.text.now u, chars_from_encodes here.front before u refl, chars-seen f next sees)

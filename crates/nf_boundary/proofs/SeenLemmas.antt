@@ -1,8 +1,6 @@
 -- A character as one look-up sees it: what stands behind it, and when a text may be cut before it.
 use Rattle.std.proofs.Common.{◌≡◌, ◌<◌, ◌||◌, ◌≤◌, ℕ, false, ◌∷◌, length, ap, arith, length-append, chars, IsTrue}
-use Rattle.nf_boundary.proofs.Common.{ucd, Sees, IsAtBoundary, Form, composes, Yes, Seen, chars_past_char, length-encode, len_utf8_bounds, canonical_combining_class, lead, or_parts, nat_tests, kit_form, quick_check, is_sound, BeginsAnew, IsBoundary, IsParting}
-use Rattle.nf_facts.specs.Passing.{is_among, halfwidth_marks, vowel_signs, passes_check}
-use Rattle.nf_forms.specs.Laws.ClosedForms.{counts_anew-lead, parting-boundary, boundary-decomposing}
+use Rattle.nf_boundary.proofs.Common.{ucd, Sees, IsAtBoundary, Form, composes, Yes, Seen, chars_past_char, length-encode, len_utf8_bounds, canonical_combining_class, lead, or_parts, nat_tests, kit_form, quick_check, is_sound, BeginsAnew, IsBoundary, IsParting, is_among, halfwidth_marks, vowel_signs, passes_check, counts_anew-lead, parting-boundary, boundary-decomposing}
 use Rattle.unicode_normalization.proofs.FormsLemmas.{is_yes-true}
 
 -- what passes is a starter of which the quick check says yes

@@ -4,8 +4,7 @@ use Rattle.nf_boundary.proofs.PieceLemmas.{seam, stands_end}
 use Rattle.nf_boundary.proofs.parting.boundary_behind.Goals as goal
 
 pub returns : goal.returns
-returns c =
-    search (rules, stands_end, c.requires.text, c.requires.is_calm, c.in-Some.ensures.0, c.in-Some.ensures.1)
+returns c = search (rules, stands_end, c.requires.text, c.requires.is_calm, c.in-Some.ensures.0, c.in-Some.ensures.1)
 
 pub split_at-requires : goal.split_at-requires
 split_at-requires c =
