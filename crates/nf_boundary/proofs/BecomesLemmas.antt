@@ -32,7 +32,7 @@ module _ (f : Form) where
         → (is_rising marks ≡ true → marks' ≡ insert marks (prefix_len (λ m. leb m.class class) marks) (record { character = c; class = class })) → Becomes f (w ++ c ∷ []) starter marks' before now
     becomes_marked c class is some marks' inserted =
         let same : class ≡ ucd.class c = is ∙ sym (class_of c) in
-        let mark : is_starter ucd c ≡ false = ne_eqb (ucd.class c) 0 (λ none. some (same ∙ none)) in
+        let mark : is_starter ucd c ≡ false = ne_eqb _ 0 (rw (← same) some) in
         let text : w ++ c ∷ [] ≡ here.done ++ starter ∷ (here.run ++ c ∷ []) = rw (here.text, append_assoc) in
         grind (arith, marks_push ucd here.run c here.no_starter mark, held-push ucd here.run c marks marks' here.no_starter mark here.held (rw (← same) inserted))
 

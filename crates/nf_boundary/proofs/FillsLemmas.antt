@@ -17,14 +17,12 @@ take_behind row s others is i c within read = rw is (take_next (s ∷ others) (i
 module _ (f : Form) (first : Seen) (at : IsAtBoundary f first) where
   -- a first that is its own row
   pub becomes_own : IsOwnRow ucd first.character → (marks : List Mark) → marks ≡ [] → (before : List ℕ) → Becomes f (row_of f ucd first.character) first.character marks before before
-  becomes_own own marks alone before =
-      becomes_one f _ marks _ before (row-own ucd f _ own) (eq-eqb _ 0 (class_of first.character ∙ sym at.sees.class ∙ at.class)) alone
+  becomes_own own marks alone before = becomes_one f _ marks _ before (row-own ucd f _ own) (eq-eqb _ 0 (class_of first.character ∙ sym at.sees.class ∙ at.class)) alone
 
   -- the first member of its row
   pub becomes_row : (row : List ℕ) (starter : ℕ) (others : List ℕ) → row ≡ row_of f ucd first.character → row ≡ starter ∷ others → (marks : List Mark) → marks ≡ [] → (before : List ℕ)
       → Becomes f (take 1 (row_of f ucd first.character)) starter marks before before
-  becomes_row row starter others is members marks alone before =
-      becomes_one f starter marks _ before (ap (take 1) (sym is ∙ members)) (grind arith) alone
+  becomes_row row starter others is members marks alone before = becomes_one f starter marks _ before (ap (take 1) (sym is ∙ members)) (grind arith) alone
 
   module _ (seen : Seen) (piece : Piece) (before now : List ℕ) (here : Fills f first seen piece before now) where
     -- one more
@@ -38,17 +36,14 @@ module _ (f : Form) (first : Seen) (at : IsAtBoundary f first) where
     -- and then a boundary
     pub fills_closed : ((x : List ℕ) → IsSoundText ucd x) → (behind : Seen) → behind ≡ seen → IsAtBoundary f behind
         → (new : List ℕ) → ((w before : List ℕ) → Becomes f w piece.starter piece.run.items before now → new ≡ before ++ encode_utf8_all (finished f ucd w)) → Closes f first.text.now behind before new
-    fills_closed sound behind same at_behind new closed =
-        grind (arith, sound here.front, stream_safe-short ucd here.front here.leaves.longest, closed (decomposed f ucd here.front) before here.becomes)
+    fills_closed sound behind same at_behind new closed = grind (arith, sound here.front, stream_safe-short ucd here.front here.leaves.longest, closed (decomposed f ucd here.front) before here.becomes)
 
 -- ---- a non-starter more, or a character whose row is of non-starters
 
 pub leaves_mark : (f : Form) (seen : Seen) → Sees f seen → ((c : ℕ) → 0 < canonical_combining_class c → quick_check (kit_form f) c ≢ No → IsMark ucd c (canonical_combining_class c)) → seen.class ≢ 0 → seen.answer ≢ No
     → (cs : List ℕ) (room room' : ℕ) → room' + 1 ≡ room → Leaves cs room → Leaves (cs ++ seen.character ∷ []) room'
-leaves_mark f seen sees marks some may cs room room' less here =
-    grind (arith, nat_tests, marks seen.character, class_of seen.character, leaves_more cs seen.character room room')
+leaves_mark f seen sees marks some may cs room room' less here = grind (arith, nat_tests, marks seen.character, class_of seen.character, leaves_more cs seen.character room room')
 
 -- the members of a row that were held, and one more
 pub marks_next : (row : List ℕ) (i c : ℕ) → i < length row → c ≡ get_or row i c → canonical_combining_class c ≢ 0 → has_starter ucd (take i row) ≡ false → has_starter ucd (take (i + 1) row) ≡ false
-marks_next row i c within is some none =
-    grind (arith, nat_tests, take_next row i c within is, marks_push ucd (take i row) c none, class_of c)
+marks_next row i c within is some none = grind (arith, nat_tests, take_next row i c within is, marks_push ucd (take i row) c none, class_of c)

@@ -73,11 +73,9 @@ pub joins_none : (text : List ℕ) (cluster : Cluster) → JoinsFront text text 
 joins_none text cluster = grind (arith, append-nil)
 
 pub joins_both : (text middle rest : List ℕ) (a b c : Cluster) → JoinsFront text middle a b → JoinsFront middle rest b c → JoinsFront text rest a c
-joins_both text middle rest a b c first second = record {
-  front = first.front ++ second.front;
-  split = split_more _ _ _ first.front _ first.split second.split;
-  joins = λ done cs made. rw (← append_assoc cs first.front second.front) (second.joins _ _ (first.joins _ _ made));
-}
+joins_both text middle rest a b c first second =
+    let split = split_more text middle rest first.front second.front first.split second.split in
+    grind (arith, λ (cs : List ℕ). append_assoc cs first.front second.front)
 
 -- ---- the characters from one boundary to the next
 

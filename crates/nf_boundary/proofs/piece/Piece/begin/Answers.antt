@@ -12,8 +12,7 @@ loop-member-init c = search (rules, becomes_row, c.in_ok-starter.ensures.cases.0
 pub loop-member-preserved : goal.loop-member-preserved
 loop-member-preserved c =
     let is : row_of c.args.form ucd c.args.first.seen.character ≡ c.in_ok-starter.starter.now ∷ c.in_ok-starter.others.now = cc c.in_ok-starter.ensures.cases.0 in
-    let next = take_behind _ _ _ is _ c.member-item.result c.loop-member-test.true c.member-item.is in
-    rw next (c.in_ok-push.ensures.becomes refl _ _ c.loop-member.invariant)
+    rw (take_behind _ _ _ is _ c.member-item.result c.loop-member-test.true c.member-item.is) (c.in_ok-push.ensures.becomes refl _ _ c.loop-member.invariant)
 
 pub returns-clause-leaves : goal.returns-clause-leaves
 returns-clause-leaves c = search (rules, leaves_any)
