@@ -26,7 +26,7 @@ module _ (p : Properties) (first : ℕ) (marks : List Mark) where
         rw (take_more m i 0 within, fold-append (join p), w.made m same plain, w.blocks m same plain _ class, joins, mark_at m i mark same below read)
 
     pub walks_joined : (d : ℕ) → o ≡ Some d → Walks p first marks (i + 1) highest d text
-    walks_joined d is = grind (arith, next)
+    walks_joined d is = record { left = w.left; text_is = w.text_is; room = omega (arith, w.room); made = λ m same plain. rw is at (next m same plain); blocks = w.blocks }
 
     pub walks_left : o ≡ None → Walks p first marks (i + 1) (max highest mark.class) starter (text ++ mark.character ∷ [])
     walks_left is = record {
