@@ -33,8 +33,16 @@ module _ (f : Form) where
     becomes_marked c class is some marks' inserted =
         let same : class ≡ ucd.class c = is ∙ sym (class_of c) in
         let mark : is_starter ucd c ≡ false = ne_eqb _ 0 (rw (← same) some) in
-        let text : w ++ c ∷ [] ≡ here.done ++ starter ∷ (here.run ++ c ∷ []) = rw (here.text, append_assoc) in
-        grind (arith, marks_push ucd here.run c here.no_starter mark, held-push ucd here.run c marks marks' here.no_starter mark here.held (rw (← same) inserted))
+        record {
+          done = here.done;
+          run = here.run ++ c ∷ [];
+          text = rw (here.text, append_assoc);
+          starts = here.starts;
+          no_starter = marks_push ucd here.run c here.no_starter mark;
+          held = held-push ucd here.run c marks marks' here.no_starter mark here.held (rw (← same) inserted);
+          formed = here.formed;
+          parted = here.parted;
+        }
 
     -- what is appended when all that stands there is closed off
     pub becomes_closed : (new : List ℕ) → ((m : List ℕ) → marks ≡ map (mark_of ucd) m → has_starter ucd m ≡ false → new ≡ now ++ encode_utf8_all (closed_off ucd (composes f) (Some starter) m))
