@@ -21,19 +21,17 @@ front_all x y z e same = grind (arith, common_steps, append-nil)
 -- ---- a chunk, and another
 
 pub one_piece : {first : List ℕ} {c : Option ℕ} {text : List ℕ} {end : End} → Takes [] first c text end → text_of first ≡ first_text c ++ chars text
-one_piece {first} {c} {text} takes = takes.spelled ∙ ap (λ l. (l ++ first_text c) ++ chars text) text_of-none
+one_piece takes = grind (arith, takes.spelled, text_of-none)
 
 module _ (pieces : ReadsPieces) (first second : List ℕ) where
   pub bad_piece : {c : Option ℕ} {text : List ℕ} (end : End) {at back : ℕ} → end ≡ Bad at back → Takes [] first c text end → text_of (first ++ second) ≡ first_text c ++ chars text
-  bad_piece (Bad at back) is takes = pieces.bad_text first second _ _ (takes.ends.0) ∙ one_piece takes
-  bad_piece _ is takes = cc
+  bad_piece end is takes = grind (arith, pieces.bad_text first second, takes.ends, one_piece takes)
 
   pub two_pieces : {c d : Option ℕ} {text more : List ℕ} (end : End) {decoder : Decoder} {end_more : End} → ((at back : ℕ) → end ≡ Bad at back → ⊥) → Takes [] first c text end
       → StandsAfter decoder (bytes_behind [] first end) → ((bytes : List ℕ) → StandsAfter decoder bytes → Takes bytes second d more end_more)
       → text_of (first ++ second) ≡ (first_text c ++ chars text) ++ (first_text d ++ chars more)
   two_pieces (Bad at back) not_bad takes stands next = absurd (not_bad at back refl)
-  two_pieces {c} {d} {text} {more} _ not_bad takes stands next =
-      (next first stands).spelled ∙ ap (λ l. (l ++ first_text d) ++ chars more) (one_piece takes) ∙ append_assoc (first_text c ++ chars text) (first_text d) (chars more)
+  two_pieces _ not_bad takes stands next = grind (arith, (next first stands).spelled, one_piece takes, append_assoc)
 
 -- ---- two texts that go on otherwise
 

@@ -1,15 +1,15 @@
 -- What a call of a filter tells of a text, by what it wrote to a sink that compares.
-use Rattle.nf_normalized.proofs.Common.{take-append-drop, append_assoc, bytes_eq-Decides, subst, ◌≡◌, ℕ, ◌+◌, ◌<◌, ◌^◌, Bool, true, false, List, ◌++◌, length, IsTrue, sym, ap, ap₂, ◌∙◌, arith, length-append, Option, Some, None, is_some, option_map, encode_utf8_all, Result, Ok, Err, result_err, false_from_ne_true, take_at, encodes_same, length-le-encodes, take-length, ucd, Form, safe_form, IsText, Ending, Whole, Bad, CutOff, text_of, EndsAs, Place, place_at, Fault, Write, place_or_fault, fault_in, answer_at_end, bad_byte, whole_or, is_spent, IsAmong, Comparing, same, left, HasRoom, IsBehind, under, made_of, common, change_at, form_value, form_decision, HoldsSome, filter_state, IsOfPiece, IsOfEnd}
+use Rattle.nf_normalized.proofs.Common.{take-append-drop, append_assoc, append-nil, common_steps, bytes_eq-Decides, ◌≡◌, ℕ, ◌+◌, ◌<◌, ◌^◌, Bool, true, false, List, ◌++◌, length, IsTrue, sym, ap, ◌∙◌, arith, length-append, Option, Some, None, is_some, option_map, encode_utf8_all, Result, Ok, Err, result_err, false_from_ne_true, take_at, encodes_same, length-le-encodes, take-length, ucd, Form, safe_form, IsText, Ending, Whole, Bad, CutOff, text_of, EndsAs, Place, place_at, Fault, Write, Row, fault_in, answer_at_end, bad_byte, whole_or, is_spent, IsAmong, Comparing, same, left, HasRoom, IsBehind, under, made_of, common, change_at, form_value, form_decision, HoldsSome, filter_state, IsOfPiece, IsOfEnd}
 use Rattle.nf_filter.specs.declared.tally.Tally.{Tally}
 use Rattle.nf_filter.specs.Faults.{IsOfFeeding}
 use Rattle.nf_filter.specs.Laws.Soundness.{AreSound}
 use Rattle.nf_filter.proofs.SoundnessLemmas.{not_a_fault}
 use Rattle.nf_normalized.specs.declared.checker.FormChecker.{FormChecker}
-use Rattle.nf_normalized.proofs.BytesLemmas.{Known, Shares, Departs, departs, text_of-encodes, front_all}
+use Rattle.nf_normalized.proofs.BytesLemmas.{Known, Shares, Departs, departs, text_of-encodes}
 use Rattle.nf_normalized.proofs.CommonLemmas.{common-front}
 use Rattle.nf_normalized.proofs.ComparingLemmas.{none_is}
 use Rattle.nf_normalized.proofs.WroteLemmas.{Wrote, gave, other_written, unfailed, all_written}
-use Rattle.nf_normalized.proofs.CheckerLemmas.{written, written_is, is_text, chars_behind, bytes_behind, unparted, of_piece}
+use Rattle.nf_normalized.proofs.CheckerLemmas.{written, written_is, is_text, chars_behind, bytes_behind, unparted}
 
 -- a fault is of some kinds where it cannot be of none
 pub stable : (kinds : List ℕ) (fault : Fault) → ((IsAmong kinds fault → ⊥) → ⊥) → IsAmong kinds fault
@@ -60,15 +60,10 @@ module _ {assigned : Bool} {f : Form} {base : ℕ} {held bytes all due : List �
     pub placed : Shares (text_of all) s (text_of (written assigned f bytes ++ same new)) → (place : Place) → IsBehind held (same new) chars offset place
         → Some (place_at base (text_of all) (common (text_of all) s)) ≡ Some place
     placed shares place behind =
-        let chars = chars_behind call.known assigned f bytes (same new) in
-        let bytes = bytes_behind call.known assigned f bytes (same new) in
-        grind (arith, shares, chars, chars_held, bytes, bytes_held, behind)
+        grind (arith, shares, chars_behind call.known assigned f bytes (same new), bytes_behind call.known assigned f bytes (same new), chars_held, bytes_held, behind)
 
     pub parted : is_some new.other ≡ true → Departs (text_of all) s (text_of (written assigned f bytes ++ same new))
-    parted is_other =
-        let o = other_written call.wrote is_other in
-        let seen = written assigned f bytes ++ same new in
-        subst (λ l. Departs (text_of l) s (text_of seen)) (sym read) (departs call.known seen (left new) o.0 o.1 o.2 s scalars (sym is ∙ o.3))
+    parted is_other = let o = other_written call.wrote is_other in rw read (departs call.known _ (left new) o.0 o.1 o.2 s scalars (sym is ∙ o.3))
 
     module _ (none : is_some new.other ≡ false) where
       pub read_on : all ≡ encode_utf8_all s ++ left new
@@ -76,10 +71,7 @@ module _ {assigned : Bool} {f : Form} {base : ℕ} {held bytes all due : List �
 
       -- it is a front of the text that was read
       pub is_front : Shares (text_of all) s (text_of (written assigned f bytes ++ same new))
-      is_front =
-          let text : text_of all ≡ s ++ text_of (left new) = ap text_of read_on ∙ call.known.back.text s (left new) scalars in
-          let same_is : text_of (written assigned f bytes ++ same new) ≡ s = grind (arith, text_of-encodes call.known s scalars, is, all_written call.wrote none) in
-          rw same_is (record { count = grind (arith, text, common-front); front = grind (arith, text, take_at) })
+      is_front = grind (arith, read_on, call.known.back.text s (left new) scalars, text_of-encodes call.known s scalars, is, all_written call.wrote none, common-front, take_at)
 
 -- ---- a piece was fed
 
@@ -88,22 +80,22 @@ module _ {assigned : Bool} {f : Form} {base : ℕ} {held bytes all : List ℕ} {
   pub parted_decides : is_some new.other ≡ true → (place : Place) → IsBehind held (same new) chars offset place → Some (Ok (Some place)) ≡ form_decision assigned f base all
   unfolding form_decision
   parted_decides is place behind =
-      let made = made_of assigned f (text_of all) in
       let scalars = is_text call.known assigned f all in
-      let d = parted call made scalars (written_is assigned f all) is in
-      grind (arith, bytes_eq-Decides, d.other, placed call made scalars (written_is assigned f all) d.shares place behind)
+      let d = parted call _ scalars (written_is assigned f all) is in
+      grind (arith, bytes_eq-Decides, d.other, placed call _ scalars (written_is assigned f all) d.shares place behind)
 
   module _ (none : is_some new.other ≡ false) where
     pub piece_kinds : AreSound ucd → (fault : Fault) → IsOfFeeding fault → r ≡ Err fault → IsOfPiece fault
-    piece_kinds sound fault may is = of_piece fault may (λ e. unfailed call.wrote none (is ∙ ap Err e))
-        (λ at e. not_a_fault ucd sound base at (under assigned) all (sym (told call none) ∙ ap result_err is ∙ ap Some e))
+    piece_kinds sound Write may is = absurd (unfailed call.wrote none is)
+    piece_kinds sound (Row at) may is = absurd (not_a_fault ucd sound base at (under assigned) all (rw is at (sym (told call none))))
+    piece_kinds sound _ may is = grind arith
 
     pub split_now : all ≡ written assigned f all ++ left new
     split_now = grind (arith, read call, all_written call.wrote none)
 
     pub unparted_decides : option_map Err (result_err r) ≡ form_decision assigned f base all
     unfolding form_decision
-    unparted_decides = sym (ap₂ place_or_fault (unparted call.known assigned f all base (left new) split_now) (sym (told call none)))
+    unparted_decides = grind (arith, unparted call.known assigned f all base (left new) split_now, told call none)
 
 -- ---- the end
 
@@ -116,8 +108,7 @@ pub record Due (assigned : Bool) (f : Form) (base : ℕ) (bytes due : List ℕ) 
 -- a fault is that of the end
 pub fault_end : {fault : Fault} (base : ℕ) (tally : Tally) (value : Option Place) (ending : Ending) → Err fault ≡ answer_at_end base tally ending
     → (Err fault ≡ answer_at_end base value ending) × IsOfEnd fault
-fault_end base tally value (CutOff at start) e = (cc, grind arith)
-fault_end base tally value _ e = cc
+fault_end base tally value ending e = grind arith
 
 module _ {assigned : Bool} {f : Form} {base : ℕ} {held bytes due : List ℕ} {old new : Comparing} {r : Result Tally Fault} {chars offset : ℕ} {Tells : Type 0}
     (call : Call assigned f base held bytes bytes due old new r chars offset Tells) where
@@ -132,11 +123,9 @@ module _ {assigned : Bool} {f : Form} {base : ℕ} {held bytes due : List ℕ} {
   unfolding change_at
   parted_end is place behind Whole at_end =
       let d = parted call form scalars at_end.is is in
-      let other : ¬ (form ≡ text_of bytes) = λ same. d.other (grind (arith, take-length)) in
-      grind (arith, bytes_eq-Decides, other, placed call form scalars at_end.is d.shares place behind)
+      grind (arith, bytes_eq-Decides form (text_of bytes), d.other, take-length (text_of bytes), placed call form scalars at_end.is d.shares place behind)
   parted_end is place behind (CutOff at start) at_end =
-      let o = other_written call.wrote is in
-      absurd (omega (arith, simp length-append at (ap length (sym at_end.is ∙ o.3))))
+      absurd (grind (arith, ap length (other_written call.wrote is).3, at_end.is, length-append))
   parted_end is place behind (Bad at start) at_end = cc
 
   module _ (none : is_some new.other ≡ false) where
@@ -145,16 +134,12 @@ module _ {assigned : Bool} {f : Form} {base : ℕ} {held bytes due : List ℕ} {
         → Ok None ≡ answer_at_end base (form_value f base bytes) ending
     unfolding change_at
     done_end no_more tally Whole at_end e =
-        let read = read_on call form scalars at_end.is none in
-        let all = front_all (encode_utf8_all form) (left new) bytes (sym read) (grind (arith, no_more, read, length-append)) in
-        grind (arith, bytes_eq-Decides, encodes_same form (text_of bytes) (all ∙ at_end.ends))
+        grind (arith, common_steps, bytes_eq-Decides, encodes_same form (text_of bytes), at_end.ends, read_on call form scalars at_end.is none, no_more, append-nil)
     done_end no_more tally _ at_end e = cc
 
     pub short_end : (length (left new) ≡ 0 → ⊥) → (place : Place) → IsBehind held (same new) chars offset place → {given : Tally} (tally : Tally) (ending : Ending)
         → Due assigned f base bytes due ending → Ok given ≡ answer_at_end base tally ending → Ok (Some place) ≡ answer_at_end base (form_value f base bytes) ending
     unfolding change_at
     short_end more place behind tally Whole at_end e =
-        let read = read_on call form scalars at_end.is none in
-        let other : ¬ (form ≡ text_of bytes) = λ same. more (grind (arith, ap length read, at_end.ends, length-append)) in
-        grind (arith, bytes_eq-Decides, other, placed call form scalars at_end.is (is_front call form scalars at_end.is none) place behind)
+        grind (arith, bytes_eq-Decides, ap length (read_on call form scalars at_end.is none), at_end.ends, length-append, more, placed call form scalars at_end.is (is_front call form scalars at_end.is none) place behind)
     short_end more place behind tally _ at_end e = cc

@@ -1,7 +1,6 @@
 -- What a filter that is fed a text tells of it, by what it writes.
-use Rattle.nf_normalized.proofs.Common.{bytes_eq-Decides, ◌≡◌, ℕ, ◌+◌, ◌*◌, ◌≤◌, Bool, false, List, [], ◌∷◌, ◌++◌, length, refl, sym, ap, ap₂, ◌∙◌, subst, arith, length-append, None, encode_utf8_all, take_at, encodes-append, length-encode, len_utf8_bounds, ucd, Form, front, back, safe_form, ChangesOnce, front-append-back, IsText, Ending, Whole, Bad, Cut, text_of, ending_of, EndsAs, ReadsLongestText, ReplacesParts, Fault, Write, Row, fault_in, bad_byte, base_of, settled, usable, settled_utf8, place_or_fault, under, made_of, settled_change_at, form_decision, Holds, IsOfPiece}
+use Rattle.nf_normalized.proofs.Common.{bytes_eq-Decides, ◌≡◌, ℕ, ◌+◌, ◌*◌, ◌≤◌, Bool, false, List, [], ◌∷◌, ◌++◌, length, refl, sym, ap, ap₂, ◌∙◌, subst, arith, length-append, None, encode_utf8_all, take_at, encodes-append, length-encode, len_utf8_bounds, ucd, Form, front, back, safe_form, ChangesOnce, front-append-back, IsText, Ending, Whole, Bad, Cut, text_of, ending_of, EndsAs, ReadsLongestText, ReplacesParts, fault_in, bad_byte, base_of, settled, usable, settled_utf8, place_or_fault, under, made_of, settled_change_at, form_decision, Holds}
 use Rattle.nf_utf8.specs.Replaced.{bytes_in}
-use Rattle.nf_filter.specs.Faults.{IsOfFeeding}
 use Rattle.nf_filter.specs.Laws.Soundness.{AreSound}
 use Rattle.nf_filter.proofs.PolicyLemmas.{first_fault-none, taken, taken_whole, taken-all}
 use Rattle.nf_filter.proofs.SoundnessLemmas.{usable_is}
@@ -48,15 +47,9 @@ module _ (known : Known) (assigned : Bool) (f : Form) (bytes : List ℕ) where
 
   -- all that is settled was read
   pub unparted : (base : ℕ) (left : List ℕ) → bytes ≡ written assigned f bytes ++ left → settled_change_at base (text_of bytes) (made_of assigned f (text_of bytes)) ≡ None
-  unparted base left read =
-      let text = ap text_of read ∙ behind left in
-      grind (arith, bytes_eq-Decides, text, take_at)
+  unparted base left read = grind (arith, bytes_eq-Decides, ap text_of read, behind left, take_at)
 
 -- ---- no fault
-
--- of the faults of feeding, those where the sink does not fail and each character can be used
-pub of_piece : (fault : Fault) → IsOfFeeding fault → ¬ (fault ≡ Write) → ((at : ℕ) → ¬ (fault ≡ Row at)) → IsOfPiece fault
-of_piece fault may kept used = grind arith
 
 module _ (sound : AreSound ucd) where
   pub no_fault_parts : (assigned : Bool) (base : ℕ) (bytes : List ℕ) → fault_in (under assigned) ucd base bytes ≡ None

@@ -10,7 +10,7 @@ use Rattle.unicode_normalization.proofs.DecomposeLemmas.{decompose-primary_compo
 use Rattle.unicode_normalization.proofs.FormsLemmas.{quick_check_text-No}
 use Rattle.nf_facts.specs.KitForm.{kit_form}
 use Rattle.nf_facts.specs.Refused.{refuses, not_among, no_vowel_sign}
-use Rattle.nf_normalized.proofs.KeptLemmas.{by_row, some_of, length-form_of}
+use Rattle.nf_normalized.proofs.KeptLemmas.{some_of, length-form_of}
 use Rattle.nf_normalized.proofs.TakenLemmas.{IsRow, last_taken}
 
 -- ---- no character of a text in a form is refused by its quick check
@@ -72,15 +72,14 @@ module _ (sound : (c : ℕ) → IsTrue (is_sound ucd c))
     unfolding ucd
     longer f a b d made =
         let pair = sym (pairs a b) ∙ made in
-        let rows = by_row (λ row. row d ≡ row a ++ row b) (decompose-primary_composite KitNfd a b d pair) (decompose-primary_composite KitNfkd a b d pair) f in
-        grind (arith, some_of sound f f b, rows, length-append)
+        grind (arith, some_of sound f f b, decompose-primary_composite KitNfd a b d pair, decompose-primary_composite KitNfkd a b d pair, length-append)
 
     -- ---- fronts
 
     -- a text in a form is in it without its last character
     form-last_taken : (f : Form) (y : List ℕ) (c : ℕ) → normal_form f ucd (y ++ c ∷ []) ≡ y ++ c ∷ [] → normal_form f ucd y ≡ y
     form-last_taken f y c same =
-        let may : quick_check (kit_form f) c ≢ No = λ no. quick_check_text-No (kit_form f) (y ++ c ∷ []) (text-refused (kit_form f) y c no) (sym (kit f (y ++ c ∷ [])) ∙ same) in
+        let may : quick_check (kit_form f) c ≢ No = λ no. quick_check_text-No (kit_form f) _ (text-refused (kit_form f) y c no) (sym (kit f _) ∙ same) in
         last_taken ucd (row_of f ucd) (some_of sound f f) (longer f) (composes f) (decomposed f ucd y) y c (row_from f c may) (length-form_of sound f twice f y)
         (ap (finished f ucd) (sym (decomposed-push ucd f y c)) ∙ same)
 

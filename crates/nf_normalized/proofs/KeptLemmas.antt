@@ -1,5 +1,5 @@
 -- How many characters can stand behind what is settled of a form.
-use Rattle.nf_normalized.proofs.Common.{◌≡◌, nat_tests, inl, inr, leb, leb-true, list_all, pos_of_ne-zero, ℕ, ◌*◌, ◌<◌, ◌≤◌, Bool, true, false, List, [], ◌∷◌, ◌++◌, length, refl, arith, IsTrue, cases_Bool, or_parts, eqb-false, length-append, unicode_normalization, canonical_combining_class, is_starter, has_starter, front, back, Form, Nfd, Nfkc, Nfkd, row_of, decomposed, normal_form, stream_safe, safe_form, is_sound, ucd, IsMark, row-mark, by_last, front-append-back, back-at, back-none, EndsInGroup, last_starter, IsSound-from_test, IsSoundText, stream_safe-push, decomposed-append, is_among, mapped_marks, after, settled, is_usable, LittleIsHeldBack}
+use Rattle.nf_normalized.proofs.Common.{◌≡◌, nat_tests, inl, inr, leb, list_all, ℕ, ◌*◌, ◌<◌, ◌≤◌, Bool, true, false, List, [], ◌∷◌, ◌++◌, length, refl, arith, IsTrue, cases_Bool, or_parts, length-append, unicode_normalization, canonical_combining_class, is_starter, has_starter, front, back, Form, Nfd, Nfkc, Nfkd, row_of, decomposed, normal_form, stream_safe, safe_form, is_sound, ucd, IsMark, row-mark, by_last, front-append-back, back-at, back-none, last_starter, IsSound-from_test, IsSoundText, stream_safe-push, decomposed-append, is_among, mapped_marks, after, settled, is_usable, LittleIsHeldBack}
 use Rattle.nf_forms.specs.Laws.Starters.{length-order}
 
 -- what a test finds of each of some characters it finds of one among them
@@ -20,10 +20,10 @@ module _ (sound : (c : ℕ) → IsTrue (is_sound ucd c)) (f : Form) where
   row = row_of f ucd
 
   pub some_of : (f : Form) (c : ℕ) → 1 ≤ length (row_of f ucd c)
-  some_of f c = let is = IsSound-from_test ucd c (sound c) in by_row (λ row. 1 ≤ length (row c)) is.canonical_some is.compat_some f
+  some_of f c = grind (arith, IsSound-from_test ucd c (sound c))
 
   few_of : (f : Form) (c : ℕ) → length (row_of f ucd c) ≤ 18
-  few_of f c = let is = IsSound-from_test ucd c (sound c) in by_row (λ row. length (row c) ≤ 18) is.canonical_few is.compat_few f
+  few_of f c = grind (arith, IsSound-from_test ucd c (sound c))
 
   pub length-decomposed : (x : List ℕ) → length x ≤ length (decomposed f ucd x)
   length-decomposed [] = omega arith
@@ -53,10 +53,8 @@ module _ (sound : (c : ℕ) → IsTrue (is_sound ucd c)) (f : Form) where
 
       short_of : (f : Form) (c : ℕ) → is_starter ucd c ≡ false → length (row_of f ucd c) ≤ 2
       unfolding ucd
-      short_of f c mark = elim (cases_Bool (is_among mapped_marks c)) [
-        | inl is ↦ leb-true _ 2 (among (λ c. leb (length (row_of f ucd c)) 2) mapped_marks c (mapped f) is)
-        | inr other ↦ grind (arith, row-mark ucd f c _ (is_mark c (pos_of_ne-zero (eqb-false _ 0 mark)) other))
-      ]
+      short_of f c mark =
+          grind (arith, nat_tests, cases_Bool (is_among mapped_marks c), among (λ c. leb (length (row_of f ucd c)) 2) mapped_marks c (mapped f), row-mark ucd f c (canonical_combining_class c), is_mark c)
 
       marks_short : (m : List ℕ) → has_starter ucd m ≡ false → length (decomposed f ucd m) ≤ 2 * length m
       marks_short [] none = omega arith
@@ -64,12 +62,9 @@ module _ (sound : (c : ℕ) → IsTrue (is_sound ucd c)) (f : Form) where
 
       back_short : (w : List ℕ) → length (back ucd w) ≤ 31 → length (decomposed f ucd (back ucd w)) ≤ 78
       back_short w few = elim (cases_Bool (has_starter ucd w)) [
-        | inl some ↦ at (last_starter ucd w some)
+        | inl some ↦ let r = last_starter ucd w some in grind (arith, r, back-at ucd r.before, few, length-append, few_of f r.starter, marks_short r.marks)
         | inr none ↦ grind (arith, few, back-none ucd w none, marks_short w none)
       ]
-        where
-          at : EndsInGroup ucd w → length (decomposed f ucd (back ucd w)) ≤ 78
-          at r = grind (arith, back-at ucd r.before, few, length-append, few_of f r.starter, marks_short r.marks)
 
       module _ (texts : (x : List ℕ) → IsSoundText ucd x) (held_back : LittleIsHeldBack) where
         pub kept_short : (x u : List ℕ) → x ≡ settled f ucd x ++ u → length u ≤ 78

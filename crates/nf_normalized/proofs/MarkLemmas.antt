@@ -9,8 +9,8 @@ use Rattle.nf_forms.specs.Laws.MarkBehind.{all_above, placed, is_ordered-by_clas
 -- where y with c behind it goes on behind e, it is y that goes on there, and then c
 pub behind : (e y : List ℕ) (c a : ℕ) (v : List ℕ) → y ++ c ∷ [] ≡ e ++ a ∷ v → (rest : List ℕ) × (y ≡ e ++ rest) × (rest ++ c ∷ [] ≡ a ∷ v)
 behind [] y c a v same = (y, refl, same)
-behind (b ∷ e) [] c a v same = absurd (omega (arith, ap length same, length-append e (a ∷ v)))
-behind (b ∷ e) (d ∷ y) c a v same = let rest = behind e y c a v cc in (rest.0, cc, rest.2)
+behind (b ∷ e) [] c a v same = absurd (grind (arith, ap length same, length-append))
+behind (b ∷ e) (d ∷ y) c a v same = grind (arith, behind e y c a v)
 
 module _ (p : Properties) where
   -- ---- a mark more
@@ -83,8 +83,7 @@ module _ (p : Properties) where
 
       -- behind a starter it composed, and could not be the last, or stayed, and stands behind what there was without it
       at : EndsInGroup p u → fold (compose_step p) u tail ≡ y
-      at g = next (joined p g.starter g.marks c) refl
-          (sym text ∙ ap (λ k. fold (compose_step p) k tail) (ap (λ k. compose_step p k c) g.text ∙ compose_step-at p g.before g.starter g.marks c g.starts g.no_starter))
+      at g = next (joined p g.starter g.marks c) refl (cc (compose_step-at p g.before g.starter g.marks c g.starts g.no_starter))
         where
           next : (o : Option ℕ) → joined p g.starter g.marks c ≡ o → y ++ c ∷ [] ≡ fold (compose_step p) (g.before ++ replaced o g.starter g.marks c) tail → fold (compose_step p) u tail ≡ y
           next None none with_c =
@@ -95,5 +94,5 @@ module _ (p : Properties) where
               let starts = joined-starter p g.starter g.marks c d made in
               let group = compose-behind p g.before (d ∷ g.marks) tail (record { starter = d; marks = g.marks; text = refl; starts = starts; no_starter = g.no_starter }) marks in
               let r = avoiding (p.class c) (pos_of_ne-zero (eqb-false (p.class c) 0 mark)) d g.marks tail starts (avoids-unblocked g.marks c (joined-some p g.starter g.marks c d made).0) above in
-              let rest = behind g.before y c r.0 r.1 (with_c ∙ group ∙ ap (λ k. g.before ++ k) r.2) in
-              absurd (avoids-last rest.0 c (ap (avoids (p.class c)) rest.2 ∙ r.3))
+              let rest = behind g.before y c r.0 r.1 (cc) in
+              absurd (avoids-last rest.0 c (rw rest.2 r.3))

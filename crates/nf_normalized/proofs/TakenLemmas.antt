@@ -1,5 +1,5 @@
 -- A text in a form, and what the form makes of it without its last character, over any character data.
-use Rattle.nf_normalized.proofs.Common.{◌≡◌, ℕ, ◌≤◌, ◌<◌, Bool, true, false, List, [], ◌∷◌, ◌++◌, length, flat_map, Option, Some, None, refl, sym, ap, ◌∙◌, arith, ◌⊎◌, inl, inr, append-nil, append_assoc, cases_Bool, or_left, length-append, fold, Properties, is_starter, has_starter, order, composite, joined, replaced, compose_step, compose, arranged, EndsInGroup, last_starter, order_after-at, compose_step-at, compose_step-none, joined-some, joined-starter, joined-behind_marks, BeginsInStarter}
+use Rattle.nf_normalized.proofs.Common.{◌≡◌, ℕ, ◌≤◌, ◌<◌, Bool, true, false, List, [], ◌∷◌, ◌++◌, length, flat_map, Option, Some, None, refl, arith, ◌⊎◌, inl, inr, append-nil, append_assoc, cases_Bool, or_left, length-append, fold, Properties, is_starter, has_starter, order, composite, joined, replaced, compose_step, compose, arranged, EndsInGroup, last_starter, order_after-at, compose_step-at, compose_step-none, joined-some, joined-starter, joined-behind_marks, BeginsInStarter}
 use Rattle.std.proofs.lemmas.Grind.{flat_map-append}
 use Rattle.std.proofs.lemmas.List.Sums.{fold-append}
 use Rattle.nf_forms.specs.Laws.Parting.{step-behind, fold-behind}
@@ -47,7 +47,7 @@ module _ (p : Properties) where
             → (rest : List ℕ) × (a : ℕ) × (k : List ℕ) × (y ≡ e ++ rest) × (rest ++ c ∷ [] ≡ a ∷ k) × (length (row d) ≤ length (row a))
         goes_on e d begins step =
             let first = first_of d [] v begins in
-            let rest = behind e y c first.0 first.1 (sym text ∙ ap (λ k. fold (compose_step p) k v) step ∙ fold-behind p e (d ∷ []) v (or_left _ _ begins) ∙ ap (λ k. e ++ k) first.2) in
+            let rest = behind e y c first.0 first.1 (cc (fold-behind p e (d ∷ []) v (or_left _ _ begins))) in
             (rest.0, first.0, first.1, rest.1, rest.2, first.3)
 
         apart : compose_step p z s ≡ z ++ s ∷ [] → z ≡ y
@@ -61,32 +61,29 @@ module _ (p : Properties) where
         made : (e : List ℕ) (t d : ℕ) → z ≡ e ++ t ∷ [] → compose_step p z s ≡ e ++ d ∷ [] → is_starter p d ≡ true → length (row t) < length (row d) → z ≡ y
         made e t d whole step begins above =
             let r = goes_on e d begins step in
-            let kept : size r.0 ≡ length (row t) = grind (arith, same, whole, r.3, flat_map-append, length-append) in
-            absurd (too_long t r.1 r.0 r.2 r.4 (omega (arith, above, r.5)) kept)
+            absurd (too_long t r.1 r.0 r.2 r.4 (omega (arith, r.5)) (grind (arith, same, whole, r.3, flat_map-append, length-append)))
 
         next : (e : List ℕ) (t : ℕ) (m : List ℕ) (o : Option ℕ) → z ≡ e ++ t ∷ m → joined p t m s ≡ o → compose_step p z s ≡ e ++ replaced o t m s → z ≡ y
         next e t m None whole is step = apart (grind (arith, step, whole, append_assoc))
         next e t [] (Some d) whole is step = made e t d whole step (joined-starter p t [] s d is) (longer t s d (joined-some p t [] s d is).1)
-        next e t (x ∷ m) (Some d) whole is step = let clash = sym is ∙ joined-behind_marks p t x m s starts in cc
+        next e t (x ∷ m) (Some d) whole is step = cc (joined-behind_marks p t x m s starts)
 
         at : EndsInGroup p z → z ≡ y
-        at g =
-            next g.before g.starter g.marks (joined p g.starter g.marks s) g.text refl
-            (ap (λ k. compose_step p k s) g.text ∙ compose_step-at p g.before g.starter g.marks s g.starts g.no_starter)
+        at g = next g.before g.starter g.marks (joined p g.starter g.marks s) g.text refl (cc (compose_step-at p g.before g.starter g.marks s g.starts g.no_starter))
 
     -- ---- the last character taken away
 
     -- where the form of a text and the row of c is y and c, the form of the text alone is y
     pub last_taken : (b : Bool) (w y : List ℕ) (c : ℕ) → IsRow c (row c) → size (arranged b p w) ≡ size y → arranged b p (w ++ row c) ≡ y ++ c ∷ [] → arranged b p w ≡ y
     last_taken false w y c (inl r) same text =
-        let rest = behind (order p w) y c r.first (order p r.rest) (sym text ∙ ap (λ k. order p (w ++ k)) r.text ∙ order_after-at p [] w r.first r.rest r.starter) in
+        let rest = behind (order p w) y c r.first (order p r.rest) (cc (order_after-at p [] w r.first r.rest r.starter)) in
         same_size y (order p w) rest.0 rest.1 same
     last_taken true w y c (inl r) same text =
         starter_taken (compose p (order p w)) y c r.first (order p r.rest) r.starter same
         (grind (arith, fold-append (compose_step p) [] (order p w) (r.first ∷ order p r.rest), order_after-at p [] w r.first r.rest r.starter, r.text, text))
     last_taken false w y c (inr r) same text =
         let l = inserted p w c r.1 in
-        same_front p c l.head l.tail y (order p w) l.above l.without (sym text ∙ ap (λ k. order p (w ++ k)) r.0 ∙ l.with_c)
+        same_front p c l.head l.tail y (order p w) l.above l.without (cc)
     last_taken true w y c (inr r) same text =
         let l = inserted p w c r.1 in
         let with_c : fold (compose_step p) (compose p l.head) (c ∷ l.tail) ≡ y ++ c ∷ [] = grind (arith, fold-append (compose_step p) [] l.head (c ∷ l.tail), l.with_c, r.0, text) in
