@@ -1,5 +1,5 @@
 -- Bytes and the texts that they spell.
-use Rattle.nf_normalized.proofs.Common.{◌≡◌, nat_tests, common_steps, list_all-append, ℕ, false, List, [], ◌∷◌, ◌++◌, length, take, drop, refl, sym, ap, ◌∙◌, subst, arith, append_assoc, append-nil, length-append, Option, chars, encode_utf8_all, and_parts, take_at, length-take, take-append-drop, encodes-append, ucd, Form, ChangesOnce, text_of, rest_of, first_text, bytes_behind, Takes, IsText, SplitsBytes, ReadsBack, ReadsPieces, common, goes_on_with}
+use Rattle.nf_normalized.proofs.Common.{◌≡◌, nat_tests, common_steps, list_all-append, ℕ, false, List, [], ◌∷◌, ◌++◌, length, take, drop, refl, sym, ap, ◌∙◌, arith, append_assoc, append-nil, length-append, Option, chars, encode_utf8_all, and_parts, take_at, length-take, take-append-drop, encodes-append, ucd, Form, ChangesOnce, text_of, rest_of, first_text, bytes_behind, Takes, IsText, SplitsBytes, ReadsBack, ReadsPieces, common, goes_on_with}
 use Rattle.nf_utf8.specs.declared.chunk.End.{End}
 use Rattle.nf_utf8.specs.declared.chunk.End.TheVariants.{Bad}
 use Rattle.nf_utf8.specs.declared.decoder.Decoder.{Decoder}
@@ -55,7 +55,7 @@ pub scalars_front : (x y : List ℕ) → IsText (x ++ y) → IsText x
 scalars_front x y scalars = (and_parts _ _ (sym (list_all-append _ x y) ∙ scalars)).0
 
 pub scalars_take : (n : ℕ) (x : List ℕ) → IsText x → IsText (take n x)
-scalars_take n x scalars = scalars_front (take n x) (drop n x) (subst IsText (sym (take-append-drop n x)) scalars)
+scalars_take n x scalars = scalars_front (take n x) (drop n x) (rw take-append-drop scalars)
 
 module _ (known : Known) where
   pub text_of-encodes : (x : List ℕ) → IsText x → text_of (encode_utf8_all x) ≡ x
@@ -68,19 +68,21 @@ module _ (known : Known) where
       let n = common x s in
       let x_is = known.pieces.text m i in
       let s_is = sym (text_of-encodes s scalars) ∙ ap text_of is ∙ known.pieces.text m (b ∷ t) in
-      let first : m ++ i ≡ encode_utf8_all (take n x) ++ (encode_utf8_all (drop n x) ++ rest_of (m ++ i)) =
-      grind (arith, known.split.split (m ++ i), take-append-drop n x, encodes-append, append_assoc) in
-      let second : m ++ b ∷ t ≡ encode_utf8_all (take n x) ++ encode_utf8_all (drop n s) = grind (arith, is, take-append-drop n s, encodes-append, take-common x s) in
-      let inside = in_both (encode_utf8_all (take n x)) m i _ _ b t differ first second in
-      let text : text_of m ≡ take n x ++ text_of inside.0 =
-      grind (arith, inside.1, known.back.text (take n x) inside.0 (scalars_take n x (known.split.scalars (m ++ i)))) in
-      let both = common-behind (text_of m) (text_of (rest_of m ++ i)) (text_of (rest_of m ++ b ∷ t)) in
-      let count : n ≡ length (text_of m) = grind (arith, text, length-append, length-take, common-le-left x s, x_is, s_is, both) in
+      let inside = in_both (encode_utf8_all (take n x)) m i (encode_utf8_all (drop n x) ++ rest_of (m ++ i)) (encode_utf8_all (drop n s)) b t differ
+      (grind (arith, known.split.split (m ++ i), take-append-drop n x, encodes-append, append_assoc)) (grind (arith, is, take-append-drop n s, encodes-append, take-common x s)) in
+      let text = known.back.text (take n x) inside.0 (scalars_take n x (known.split.scalars (m ++ i))) in
+      let count : n ≡ length (text_of m) = grind (arith, text, inside.1, length-append, length-take, common-le-left x s, x_is, s_is, common-behind) in
       record {
-        shares = record { count = count; front = ap (take (length (text_of m))) x_is ∙ take_at (text_of m) (text_of (rest_of m ++ i)) (length (text_of m)) refl };
-        other = λ same.
-            let len : n ≡ length s = grind (arith, same, take-append-drop (length s) x, common-front) in
-            let all = front_all (text_of m) (text_of (rest_of m ++ b ∷ t)) s (sym s_is) (sym count ∙ len) in
-            let read = ap length (known.split.split m) in
-            absurd (omega (arith, ap (λ l. length (encode_utf8_all l)) all, simp length-append at (ap length is), simp length-append at read));
+        shares = grind (arith, count, x_is, take_at);
+        other = λ same. grind (
+          arith,
+          same,
+          take-append-drop (length s) x,
+          common-front,
+          count,
+          front_all (text_of m) (text_of (rest_of m ++ b ∷ t)) s (sym s_is),
+          ap length is,
+          ap length (known.split.split m),
+          length-append,
+        );
       }

@@ -1,15 +1,15 @@
 -- What a call of a filter tells of a text, by what it wrote to a sink that compares.
-use Rattle.nf_normalized.proofs.Common.{take-append-drop, append_assoc, append-nil, common_steps, bytes_eq-Decides, ◌≡◌, ℕ, ◌+◌, ◌<◌, ◌^◌, Bool, true, false, List, ◌++◌, length, IsTrue, sym, ap, ◌∙◌, arith, length-append, Option, Some, None, is_some, option_map, encode_utf8_all, Result, Ok, Err, result_err, false_from_ne_true, take_at, encodes_same, length-le-encodes, take-length, ucd, Form, safe_form, IsText, Ending, Whole, Bad, CutOff, text_of, EndsAs, Place, place_at, Fault, Write, Row, fault_in, answer_at_end, bad_byte, whole_or, is_spent, IsAmong, Comparing, same, left, HasRoom, IsBehind, under, made_of, common, change_at, form_value, form_decision, HoldsSome, filter_state, IsOfPiece, IsOfEnd}
+use Rattle.nf_normalized.proofs.Common.{take-append-drop, append_assoc, append-nil, common_steps, bytes_eq-Decides, ◌≡◌, ℕ, ◌+◌, ◌<◌, ◌^◌, Bool, true, false, List, ◌++◌, length, take, IsTrue, sym, ap, ◌∙◌, arith, length-append, Option, Some, None, is_some, option_map, encode_utf8_all, encodes-append, Result, Ok, Err, result_err, false_from_ne_true, take_at, encodes_same, length-le-encodes, take-length, ucd, Form, safe_form, IsText, Ending, Whole, Bad, CutOff, text_of, EndsAs, Place, place_at, Fault, Write, Row, fault_in, answer_at_end, bad_byte, whole_or, is_spent, IsAmong, Comparing, same, left, HasRoom, IsBehind, under, made_of, common, change_at, form_value, form_decision, HoldsSome, filter_state, IsOfPiece, IsOfEnd}
 use Rattle.nf_filter.specs.declared.tally.Tally.{Tally}
 use Rattle.nf_filter.specs.Faults.{IsOfFeeding}
 use Rattle.nf_filter.specs.Laws.Soundness.{AreSound}
 use Rattle.nf_filter.proofs.SoundnessLemmas.{not_a_fault}
 use Rattle.nf_normalized.specs.declared.checker.FormChecker.{FormChecker}
-use Rattle.nf_normalized.proofs.BytesLemmas.{Known, Shares, Departs, departs, text_of-encodes}
+use Rattle.nf_normalized.proofs.BytesLemmas.{Known, Shares, departs, text_of-encodes}
 use Rattle.nf_normalized.proofs.CommonLemmas.{common-front}
 use Rattle.nf_normalized.proofs.ComparingLemmas.{none_is}
 use Rattle.nf_normalized.proofs.WroteLemmas.{Wrote, gave, other_written, unfailed, all_written}
-use Rattle.nf_normalized.proofs.CheckerLemmas.{written, written_is, is_text, chars_behind, bytes_behind, unparted}
+use Rattle.nf_normalized.proofs.CheckerLemmas.{written, written_is, is_text, behind, unparted}
 
 -- a fault is of some kinds where it cannot be of none
 pub stable : (kinds : List ℕ) (fault : Fault) → ((IsAmong kinds fault → ⊥) → ⊥) → IsAmong kinds fault
@@ -37,7 +37,7 @@ pub record Call (assigned : Bool) (f : Form) (base : ℕ) (held bytes all due : 
 module _ {assigned : Bool} {f : Form} {base : ℕ} {held bytes all due : List ℕ} {old new : Comparing} {T : Type 0} {r : Result T Fault} {chars offset : ℕ} {Tells : Type 0}
     (call : Call assigned f base held bytes all due old new r chars offset Tells) where
   chars_held : chars ≡ length (made_of assigned f (text_of bytes)) + length (text_of held)
-  chars_held = grind (arith, call.chars_are, call.split, chars_behind call.known assigned f bytes held)
+  chars_held = grind (arith, call.chars_are, call.split, behind call.known assigned f bytes held, length-append)
 
   bytes_held : offset ≡ base + (length (written assigned f bytes) + length held)
   bytes_held = grind (arith, call.offset_is, call.split, length-append)
@@ -47,31 +47,27 @@ module _ {assigned : Bool} {f : Form} {base : ℕ} {held bytes all due : List �
 
   pub room : base + length all < 2 ^ 64 → HasRoom held (same new) chars offset
   room fits =
-      let now = same new in
-      let few : base + (length (written assigned f bytes) + length now) < 2 ^ 64 = grind (arith, fits, ap length read, length-append) in
-      grind (arith, chars_held, bytes_held, few, length-le-encodes, ap length (call.known.split.split now), length-append, written_is)
+      grind (arith, chars_held, bytes_held, fits, ap length read, length-le-encodes, ap length (call.known.split.split (same new)), length-append, written_is)
 
   pub told : is_some new.other ≡ false → Tells
   told none = call.answer (unfailed call.wrote none)
 
-  -- a text is due
-  module _ (s : List ℕ) (scalars : IsText s) (is : due ≡ encode_utf8_all s) where
-    -- the place behind what it shares with what was read
-    pub placed : Shares (text_of all) s (text_of (written assigned f bytes ++ same new)) → (place : Place) → IsBehind held (same new) chars offset place
-        → Some (place_at base (text_of all) (common (text_of all) s)) ≡ Some place
-    placed shares place behind =
-        grind (arith, shares, chars_behind call.known assigned f bytes (same new), bytes_behind call.known assigned f bytes (same new), chars_held, bytes_held, behind)
+  -- a text is due, and a place is told behind what is as expected
+  module _ (s : List ℕ) (scalars : IsText s) (is : due ≡ encode_utf8_all s) (place : Place) (at : IsBehind held (same new) chars offset place) where
+    -- it stands behind what the text shares with what was read
+    placed : Shares (text_of all) s (text_of (written assigned f bytes ++ same new)) → place_at base (text_of all) (common (text_of all) s) ≡ place
+    placed shares = grind (arith, shares, behind call.known assigned f bytes (same new), chars_held, bytes_held, at, length-append, encodes-append, written_is)
 
-    pub parted : is_some new.other ≡ true → Departs (text_of all) s (text_of (written assigned f bytes ++ same new))
-    parted is_other = let o = other_written call.wrote is_other in rw read (departs call.known _ (left new) o.0 o.1 o.2 s scalars (sym is ∙ o.3))
+    pub parted : is_some new.other ≡ true → (¬ (s ≡ take (length s) (text_of all))) × (place_at base (text_of all) (common (text_of all) s) ≡ place)
+    parted is_other =
+        let o = other_written call.wrote is_other in
+        let d = rw (← read) at (departs call.known _ (left new) o.0 o.1 o.2 s scalars (sym is ∙ o.3)) in
+        (d.other, placed d.shares)
 
-    module _ (none : is_some new.other ≡ false) where
-      pub read_on : all ≡ encode_utf8_all s ++ left new
-      read_on = grind (arith, read, all_written call.wrote none, is)
-
-      -- it is a front of the text that was read
-      pub is_front : Shares (text_of all) s (text_of (written assigned f bytes ++ same new))
-      is_front = grind (arith, read_on, call.known.back.text s (left new) scalars, text_of-encodes call.known s scalars, is, all_written call.wrote none, common-front, take_at)
+    -- the text is a front of what was read
+    pub placed_front : is_some new.other ≡ false → place_at base (text_of all) (common (text_of all) s) ≡ place
+    placed_front none =
+        placed (grind (arith, read, call.known.back.text s (left new) scalars, text_of-encodes call.known s scalars, is, all_written call.wrote none, common-front, take_at))
 
 -- ---- a piece was fed
 
@@ -79,10 +75,7 @@ module _ {assigned : Bool} {f : Form} {base : ℕ} {held bytes all : List ℕ} {
     (call : Call assigned f base held bytes all (written assigned f all) old new r chars offset (result_err r ≡ fault_in (under assigned) ucd base all)) where
   pub parted_decides : is_some new.other ≡ true → (place : Place) → IsBehind held (same new) chars offset place → Some (Ok (Some place)) ≡ form_decision assigned f base all
   unfolding form_decision
-  parted_decides is place behind =
-      let scalars = is_text call.known assigned f all in
-      let d = parted call _ scalars (written_is assigned f all) is in
-      grind (arith, bytes_eq-Decides, d.other, placed call _ scalars (written_is assigned f all) d.shares place behind)
+  parted_decides is place at = grind (arith, bytes_eq-Decides, parted call _ (is_text call.known assigned f all) (written_is assigned f all) place at is)
 
   module _ (none : is_some new.other ≡ false) where
     pub piece_kinds : AreSound ucd → (fault : Fault) → IsOfFeeding fault → r ≡ Err fault → IsOfPiece fault
@@ -94,7 +87,6 @@ module _ {assigned : Bool} {f : Form} {base : ℕ} {held bytes all : List ℕ} {
     split_now = grind (arith, read call, all_written call.wrote none)
 
     pub unparted_decides : option_map Err (result_err r) ≡ form_decision assigned f base all
-    unfolding form_decision
     unparted_decides = grind (arith, unparted call.known assigned f all base (left new) split_now, told call none)
 
 -- ---- the end
@@ -121,9 +113,7 @@ module _ {assigned : Bool} {f : Form} {base : ℕ} {held bytes due : List ℕ} {
   pub parted_end : is_some new.other ≡ true → (place : Place) → IsBehind held (same new) chars offset place → (ending : Ending) → Due assigned f base bytes due ending
       → Ok (Some place) ≡ answer_at_end base (form_value f base bytes) ending
   unfolding change_at
-  parted_end is place behind Whole at_end =
-      let d = parted call form scalars at_end.is is in
-      grind (arith, bytes_eq-Decides form (text_of bytes), d.other, take-length (text_of bytes), placed call form scalars at_end.is d.shares place behind)
+  parted_end is place at Whole at_end = grind (arith, bytes_eq-Decides form (text_of bytes), take-length (text_of bytes), parted call form scalars at_end.is place at is)
   parted_end is place behind (CutOff at start) at_end =
       absurd (grind (arith, ap length (other_written call.wrote is).3, at_end.is, length-append))
   parted_end is place behind (Bad at start) at_end = cc
@@ -134,12 +124,12 @@ module _ {assigned : Bool} {f : Form} {base : ℕ} {held bytes due : List ℕ} {
         → Ok None ≡ answer_at_end base (form_value f base bytes) ending
     unfolding change_at
     done_end no_more tally Whole at_end e =
-        grind (arith, common_steps, bytes_eq-Decides, encodes_same form (text_of bytes), at_end.ends, read_on call form scalars at_end.is none, no_more, append-nil)
+        grind (arith, common_steps, bytes_eq-Decides, encodes_same form (text_of bytes), at_end.ends, read call, all_written call.wrote none, at_end.is, no_more, append-nil)
     done_end no_more tally _ at_end e = cc
 
     pub short_end : (length (left new) ≡ 0 → ⊥) → (place : Place) → IsBehind held (same new) chars offset place → {given : Tally} (tally : Tally) (ending : Ending)
         → Due assigned f base bytes due ending → Ok given ≡ answer_at_end base tally ending → Ok (Some place) ≡ answer_at_end base (form_value f base bytes) ending
     unfolding change_at
     short_end more place behind tally Whole at_end e =
-        grind (arith, bytes_eq-Decides, ap length (read_on call form scalars at_end.is none), at_end.ends, length-append, more, placed call form scalars at_end.is (is_front call form scalars at_end.is none) place behind)
+        grind (arith, bytes_eq-Decides, ap length (read call), all_written call.wrote none, at_end.is, at_end.ends, length-append, more, placed_front call form scalars at_end.is place behind none)
     short_end more place behind tally _ at_end e = cc

@@ -1,6 +1,5 @@
 -- Where a form changes a text.
-use Rattle.nf_normalized.proofs.Common.{◌≡◌, ◌↔◌, ℕ, ◌<◌, ◌≤◌, List, [], ◌++◌, length, take, drop, refl, sym, ap, ◌∙◌, arith, Some, IsTrue, append_assoc, append-nil, bytes_eq-Decides, take-length, length-append, take_at, take_all, take-append-le, take-append-drop, Form, decomposed, stream_safe, safe_form, front, back, ucd, front-append-back, IsSoundText, decomposed-append, Place, place_at, is_in_format, settled, SettledOnlyGrows, common, change_at, settled_change_at}
-use Rattle.nf_normalized.proofs.BytesLemmas.{front_all}
+use Rattle.nf_normalized.proofs.Common.{common_steps, ◌≡◌, ◌↔◌, ℕ, ◌<◌, ◌≤◌, List, [], ◌++◌, length, take, drop, ap, ◌∙◌, arith, Some, IsTrue, append_assoc, append-nil, bytes_eq-Decides, take-length, length-append, take_at, take_all, take-append-le, take-append-drop, Form, decomposed, stream_safe, safe_form, front, back, ucd, front-append-back, IsSoundText, decomposed-append, Place, place_at, is_in_format, settled, SettledOnlyGrows, common, change_at, settled_change_at}
 use Rattle.nf_normalized.proofs.CommonLemmas.{common-le-right, take-common, common-front, common-within}
 
 -- ---- a settled place stays
@@ -9,15 +8,15 @@ use Rattle.nf_normalized.proofs.CommonLemmas.{common-le-right, take-common, comm
 module _ (sound : (x : List ℕ) → IsSoundText ucd x) (safe : (f : Form) (x : List ℕ) → stream_safe ucd (safe_form f ucd x) ≡ safe_form f ucd x)
     (fronts : (x : List ℕ) (n : ℕ) → IsTrue (is_in_format ucd x) → IsTrue (is_in_format ucd (take n x)))
     (unchanged : (x : List ℕ) → IsSoundText ucd x → (stream_safe ucd x ≡ x) ↔ IsTrue (is_in_format ucd x))
-    (lengths : (f : Form) (x : List ℕ) → length (decomposed f ucd (safe_form f ucd x)) ≡ length (decomposed f ucd (stream_safe ucd x)))
-    (some : (f : Form) (x : List ℕ) → length x ≤ length (decomposed f ucd x)) (f : Form) where
-  goes_on : (x rest more : List ℕ) → safe_form f ucd x ≡ (x ++ rest) ++ more → rest ≡ []
-  goes_on x rest more e =
+    (f : Form) (lengths : (x : List ℕ) → length (decomposed f ucd (safe_form f ucd x)) ≡ length (decomposed f ucd (stream_safe ucd x)))
+    (some : (x : List ℕ) → length x ≤ length (decomposed f ucd x)) where
+  goes_on : (x rest : List ℕ) → front ucd (safe_form f ucd x) ≡ x ++ rest → rest ≡ []
+  goes_on x rest e =
       let form = safe_form f ucd x in
       let in_format = (unchanged form (sound form)).0 (safe f x) in
-      let front : take (length x) form ≡ x = grind (arith, e, append_assoc, take_at) in
+      let front : take (length x) form ≡ x = grind (arith, front-append-back ucd form, e, append_assoc, take_at) in
       let stays = (unchanged x (sound x)).1 (rw front at (fronts form (length x) in_format)) in
-      sym (front_all [] rest rest refl (grind (arith, some f rest, lengths f x, stays, e, decomposed-append, length-append)))
+      grind (arith, common_steps, some rest, lengths x, stays, front-append-back ucd form, e, decomposed-append, length-append)
 
   pub place_stays : SettledOnlyGrows → (base : ℕ) (x y : List ℕ) (place : Place) → settled_change_at base x (settled f ucd x) ≡ Some place → change_at base f (x ++ y) ≡ Some place
   unfolding change_at settled
@@ -36,17 +35,11 @@ module _ (sound : (x : List ℕ) → IsSoundText ucd x) (safe : (f : Form) (x : 
       whole_is : whole ≡ m ++ more
       whole_is = grind (arith, front-append-back ucd whole, grows f ucd x y, append_assoc)
 
-      -- x is no front of that
-      longer : ¬ (m ≡ take (length m) x) → (rest : List ℕ) → m ≡ x ++ rest → ⊥
-      longer other rest r =
-          let none = goes_on x rest (back ucd (safe_form f ucd x)) (grind (arith, front-append-back ucd (safe_form f ucd x), r)) in
-          other (grind (arith, none, r, append-nil, take-length))
-
       stays : ¬ (m ≡ take (length m) x) → change_at base f (x ++ y) ≡ Some (place_at base x (common x m))
       stays other =
           let n = common x m in
           let in_m : n < length m = grind (arith, common-le-right, take-common, take_all, take-length, other) in
-          let in_x : n < length x = grind (arith, longer other (drop n m), take-append-drop n m, take-common x m, take_all n x) in
+          let in_x : n < length x = grind (arith, goes_on x (drop n m), other, take-append-drop n m, take-common x m, take_all n x, append-nil, take-length) in
           let long : common (x ++ y) whole ≡ n = ap (common (x ++ y)) whole_is ∙ common-within x m y more in_x in_m in
           let other : ¬ (whole ≡ x ++ y) = λ same. absurd (grind (arith, common-front (x ++ y) [], append-nil, length-append)) in
           grind (arith, bytes_eq-Decides, other, long, take-append-le n x y)

@@ -1,26 +1,17 @@
 -- What a filter that is fed a text tells of it, by what it writes.
-use Rattle.nf_normalized.proofs.Common.{bytes_eq-Decides, ◌≡◌, ℕ, ◌+◌, ◌*◌, ◌≤◌, Bool, false, List, [], ◌∷◌, ◌++◌, length, refl, sym, ap, ap₂, ◌∙◌, subst, arith, length-append, None, encode_utf8_all, take_at, encodes-append, length-encode, len_utf8_bounds, ucd, Form, front, back, safe_form, ChangesOnce, front-append-back, IsText, Ending, Whole, Bad, Cut, text_of, ending_of, EndsAs, ReadsLongestText, ReplacesParts, fault_in, bad_byte, base_of, settled, usable, settled_utf8, place_or_fault, under, made_of, settled_change_at, form_decision, Holds}
-use Rattle.nf_utf8.specs.Replaced.{bytes_in}
+use Rattle.nf_normalized.proofs.Common.{bytes_eq-Decides, ◌≡◌, ℕ, ◌+◌, ◌*◌, ◌≤◌, Bool, List, [], ◌∷◌, ◌++◌, length, refl, sym, ap, ◌∙◌, arith, length-append, None, Err, option_map, encode_utf8_all, take_at, encodes-append, length-encode, len_utf8_bounds, ucd, Form, front, back, safe_form, front-append-back, IsText, text_of, ending_of, ReadsLongestText, ReplacesParts, fault_in, bad_byte, base_of, settled, usable, settled_utf8, under, made_of, form_decision, Holds}
 use Rattle.nf_filter.specs.Laws.Soundness.{AreSound}
 use Rattle.nf_filter.proofs.PolicyLemmas.{first_fault-none, taken, taken_whole, taken-all}
 use Rattle.nf_filter.proofs.SoundnessLemmas.{usable_is}
 use Rattle.nf_filter.specs.declared.filter.State.{State}
-use Rattle.nf_filter.specs.Policy.{allowed, len_under}
+use Rattle.nf_filter.specs.Policy.{allowed}
 use Rattle.nf_normalized.proofs.BytesLemmas.{Known, scalars_front, scalars_take}
 
 -- ---- texts
 
-module _ (once : (f : Form) → ChangesOnce f ucd) (assigned : Bool) (f : Form) where
-  taken_scalars : (assigned : Bool) (x : List ℕ) → IsText x → IsText (usable ucd (allowed assigned ucd x))
-  unfolding usable
-  taken_scalars assigned x scalars = grind (arith, scalars_take)
-
-  -- what is settled of a text is a text
-  pub made_scalars : (x : List ℕ) → IsText x → IsText (made_of assigned f x)
-  unfolding settled
-  made_scalars x scalars =
-      let form = safe_form f ucd (usable ucd (allowed assigned ucd x)) in
-      scalars_front (front ucd form) (back ucd form) (subst IsText (sym (front-append-back ucd form)) ((once f).text (usable ucd (allowed assigned ucd x)) (taken_scalars assigned x scalars)))
+taken_scalars : (assigned : Bool) (x : List ℕ) → IsText x → IsText (usable ucd (allowed assigned ucd x))
+unfolding usable
+taken_scalars assigned x scalars = grind (arith, scalars_take)
 
 abbrev pub written : Bool → Form → List ℕ → List ℕ
 written assigned f bytes = settled_utf8 (under assigned) f ucd bytes
@@ -33,20 +24,18 @@ written_is assigned f bytes = refl
 
 module _ (known : Known) (assigned : Bool) (f : Form) (bytes : List ℕ) where
   pub is_text : IsText (made_of assigned f (text_of bytes))
-  is_text = made_scalars known.once assigned f (text_of bytes) (known.split.scalars bytes)
+  unfolding settled
+  is_text =
+      let form = safe_form f ucd (usable ucd (allowed assigned ucd (text_of bytes))) in
+      scalars_front (front ucd form) (back ucd form) (rw front-append-back ((known.once f).text _ (taken_scalars assigned (text_of bytes) (known.split.scalars bytes))))
 
   -- the text of bytes that go on behind what is settled of some
   pub behind : (more : List ℕ) → text_of (written assigned f bytes ++ more) ≡ made_of assigned f (text_of bytes) ++ text_of more
   behind more = grind (arith, written_is, known.back.text (made_of assigned f (text_of bytes)) more is_text)
 
-  pub chars_behind : (more : List ℕ) → length (text_of (written assigned f bytes ++ more)) ≡ length (made_of assigned f (text_of bytes)) + length (text_of more)
-  chars_behind more = grind (arith, behind, length-append)
-
-  pub bytes_behind : (more : List ℕ) → length (encode_utf8_all (text_of (written assigned f bytes ++ more))) ≡ length (written assigned f bytes) + length (encode_utf8_all (text_of more))
-  bytes_behind more = grind (arith, behind, encodes-append, written_is, length-append)
-
-  -- all that is settled was read
-  pub unparted : (base : ℕ) (left : List ℕ) → bytes ≡ written assigned f bytes ++ left → settled_change_at base (text_of bytes) (made_of assigned f (text_of bytes)) ≡ None
+  -- where all that is settled was read, what was read decides no more than a fault
+  pub unparted : (base : ℕ) (left : List ℕ) → bytes ≡ written assigned f bytes ++ left → form_decision assigned f base bytes ≡ option_map Err (fault_in (under assigned) ucd base bytes)
+  unfolding form_decision
   unparted base left read = grind (arith, bytes_eq-Decides, ap text_of read, behind left, take_at)
 
 -- ---- no fault
@@ -56,10 +45,8 @@ module _ (sound : AreSound ucd) where
       → (allowed assigned ucd (text_of bytes) ≡ text_of bytes) × (bad_byte base (ending_of bytes) ≡ None)
   unfolding fault_in
   no_fault_parts assigned base bytes none =
-      let place = λ (front : List ℕ). base + len_under false bytes front in
-      let bad = bad_byte base (ending_of bytes) in
-      let all = (taken_whole ucd assigned (text_of bytes) (taken ucd assigned place (text_of bytes) bad none)).1 in
-      (all, sym (first_fault-none ucd assigned place (text_of bytes) bad (usable_is ucd sound (text_of bytes)) all) ∙ none)
+      let all = (taken_whole ucd assigned (text_of bytes) (taken ucd assigned _ (text_of bytes) _ none)).1 in
+      (all, sym (first_fault-none ucd assigned _ (text_of bytes) _ (usable_is ucd sound (text_of bytes)) all) ∙ none)
 
   module _ (assigned : Bool) (f : Form) (base : ℕ) (bytes : List ℕ) (none : fault_in (under assigned) ucd base bytes ≡ None) where
     pub made_all : made_of assigned f (text_of bytes) ≡ settled f ucd (text_of bytes)
@@ -67,30 +54,33 @@ module _ (sound : AreSound ucd) where
 
     -- less than a character stands behind the text
     pub rest_few : ReadsLongestText → ReplacesParts → length bytes ≤ length (encode_utf8_all (text_of bytes)) + 3
-    rest_few longest replacing = next (ending_of bytes) (no_fault_parts assigned base bytes none).1 ((longest.reads bytes).end)
-      where
-        next : (ending : Ending) → bad_byte base ending ≡ None → EndsAs bytes (text_of bytes) ending → length bytes ≤ length (encode_utf8_all (text_of bytes)) + 3
-        next Whole none ends = omega (arith, ap length ends)
-        next (Bad at start) none ends = cc
-        next (Cut at start) none ends = omega (arith, replacing.few bytes, ap bytes_in (replacing.begun bytes ends.0.begins), replacing.own_len (text_of bytes))
+    rest_few longest replacing =
+        grind (arith, (no_fault_parts assigned base bytes none).1, (longest.reads bytes).end, replacing.few bytes, replacing.begun bytes, replacing.own_len (text_of bytes))
 
 -- ---- where a filter stands
 
 module _ (known : Known) {assigned : Bool} {f : Form} {state : State} {held bytes : List ℕ} (holds : Holds assigned f state held bytes) where
   -- what was read decides nothing so far
   pub undecided : form_decision assigned f (base_of state) bytes ≡ None
-  unfolding form_decision
-  undecided = ap₂ place_or_fault (unparted known assigned f bytes (base_of state) held holds.split) holds.filter.no_fault
+  undecided = grind (arith, unparted known assigned f bytes (base_of state) held holds.split, holds.filter.no_fault)
 
   -- little is held
   pub held_few : ReadsLongestText → ReplacesParts → AreSound ucd → ((f : Form) (x u : List ℕ) → x ≡ settled f ucd x ++ u → length u ≤ 78) → length held ≤ 315
   held_few longest replacing sound kept =
       let none = holds.filter.no_fault in
       let text = ap text_of holds.split ∙ behind known assigned f bytes held in
-      let made = text ∙ ap (λ l. l ++ text_of held) (made_all sound assigned f (base_of state) bytes none) in
-      let len = ap length holds.split ∙ length-append (written assigned f bytes) held in
-      let encoded = ap (λ l. length (encode_utf8_all (text_of l))) holds.split ∙ bytes_behind known assigned f bytes held in
-      omega (arith, kept f (text_of bytes) (text_of held) made, four (text_of held), rest_few sound assigned f (base_of state) bytes none longest replacing)
+      grind (
+        arith,
+        text,
+        kept f (text_of bytes) (text_of held),
+        made_all sound assigned f (base_of state) bytes none,
+        ap length holds.split,
+        encodes-append,
+        written_is,
+        length-append,
+        four (text_of held),
+        rest_few sound assigned f (base_of state) bytes none longest replacing,
+      )
     where
       four : (x : List ℕ) → length (encode_utf8_all x) ≤ 4 * length x
       four [] = omega arith

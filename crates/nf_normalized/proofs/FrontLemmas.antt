@@ -72,7 +72,7 @@ module _ (sound : (c : ℕ) → IsTrue (is_sound ucd c))
     unfolding ucd
     longer f a b d made =
         let pair = sym (pairs a b) ∙ made in
-        grind (arith, some_of sound f f b, decompose-primary_composite KitNfd a b d pair, decompose-primary_composite KitNfkd a b d pair, length-append)
+        grind (arith, some_of sound f b, decompose-primary_composite KitNfd a b d pair, decompose-primary_composite KitNfkd a b d pair, length-append)
 
     -- ---- fronts
 
@@ -80,7 +80,7 @@ module _ (sound : (c : ℕ) → IsTrue (is_sound ucd c))
     form-last_taken : (f : Form) (y : List ℕ) (c : ℕ) → normal_form f ucd (y ++ c ∷ []) ≡ y ++ c ∷ [] → normal_form f ucd y ≡ y
     form-last_taken f y c same =
         let may : quick_check (kit_form f) c ≢ No = λ no. quick_check_text-No (kit_form f) _ (text-refused (kit_form f) y c no) (sym (kit f _) ∙ same) in
-        last_taken ucd (row_of f ucd) (some_of sound f f) (longer f) (composes f) (decomposed f ucd y) y c (row_from f c may) (length-form_of sound f twice f y)
+        last_taken ucd (row_of f ucd) (some_of sound f) (longer f) (composes f) (decomposed f ucd y) y c (row_from f c may) (length-form_of sound f twice y)
         (ap (finished f ucd) (sym (decomposed-push ucd f y c)) ∙ same)
 
     form-front : (f : Form) (x y : List ℕ) → normal_form f ucd (x ++ y) ≡ x ++ y → normal_form f ucd x ≡ x

@@ -1,9 +1,10 @@
 -- What a comparing sink tells of what a filter wrote.
-use Rattle.nf_normalized.proofs.Common.{arith, ◌≡◌, inl, inr, ℕ, true, false, List, [], ◌∷◌, ◌++◌, refl, append_assoc, append-nil, Option, Some, None, is_some, Result, Err, Fault, Write, Comparing, goes_on_with, same, left, given, taken, sink_state}
+use Rattle.nf_normalized.proofs.Common.{arith, ◌≡◌, inl, inr, ℕ, true, false, List, [], ◌∷◌, ◌++◌, append_assoc, append-nil, Some, None, is_some, Result, Err, Fault, Write, Comparing, goes_on_with, same, left, given, taken, sink_state}
 use Rattle.std.specs.Io.KnownBytes.{Appends}
 use Rattle.nf_filter.specs.Writes.{Puts, BreaksOff}
 use Rattle.nf_filter.proofs.FilterLemmas.{write_or_kept}
 use Rattle.nf_normalized.proofs.ComparingLemmas.{none_is, preface-same}
+use Rattle.unicode_normalization.proofs.ComposeLemmas.{cases_Option}
 
 -- of what is due the front `before` was written, and the call r then wrote on, to a sink to which nothing was given
 pub record Wrote (old new : Comparing) (before due : List ℕ) {T : Type 0} (r : Result T Fault) : Type 0 where
@@ -24,11 +25,10 @@ module _ {old new : Comparing} {before due : List ℕ} {T : Type 0} {r : Result 
 
   -- a byte was another, and that goes on what was written
   pub other_written : is_some new.other ≡ true → (b : ℕ) × (rest : List ℕ) × (goes_on_with b (left new) ≡ false) × (due ≡ (before ++ same new) ++ b ∷ rest)
-  other_written is = by new.other refl
-    where
-      by : (other : Option ℕ) → new.other ≡ other → (b : ℕ) × (rest : List ℕ) × (goes_on_with b (left new) ≡ false) × (due ≡ (before ++ same new) ++ b ∷ rest)
-      by None e = absurd (grind arith)
-      by (Some b) e = (b, gave.0, new.other_is b e, grind (arith, gave, append_assoc))
+  other_written is = elim (cases_Option new.other) [
+    | inl none ↦ absurd (grind arith)
+    | inr some ↦ (some.0, gave.0, new.other_is _ some.1, grind (arith, gave, append_assoc))
+  ]
 
   -- none was: all was written, as expected
   module _ (none : is_some new.other ≡ false) where
