@@ -74,15 +74,7 @@ module _ (known : Known) where
       let count : n ≡ length (text_of m) = grind (arith, text, inside.1, length-append, length-take, common-le-left x s, x_is, s_is, common-behind) in
       record {
         shares = grind (arith, count, x_is, take_at);
-        other = λ same. grind (
-          arith,
-          same,
-          take-append-drop (length s) x,
-          common-front,
-          count,
-          front_all (text_of m) (text_of (rest_of m ++ b ∷ t)) s (sym s_is),
-          ap length is,
-          ap length (known.split.split m),
-          length-append,
-        );
+        other = λ same.
+            let all = front_all (text_of m) (text_of (rest_of m ++ b ∷ t)) s (sym s_is) in
+            grind (arith, same, take-append-drop (length s) x, common-front, count, all, ap length is, ap length (known.split.split m), length-append);
       }

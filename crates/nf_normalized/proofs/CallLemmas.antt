@@ -15,10 +15,6 @@ use Rattle.nf_normalized.proofs.CheckerLemmas.{written, written_is, is_text, beh
 pub stable : (kinds : List ℕ) (fault : Fault) → ((IsAmong kinds fault → ⊥) → ⊥) → IsAmong kinds fault
 stable kinds fault not_out = grind arith
 
--- nothing was given to a sink that stays as it was
-pub parted_apart : {old new : Comparing} → old.other ≡ None → is_some new.other ≡ true → new ≡ old → ⊥
-parted_apart none is e = grind arith
-
 -- where no call was refused, some bytes were taken
 pub holds_some : (checker : FormChecker) → is_some checker.place ≡ false → (IsTrue (is_spent (filter_state checker)) → ⊥) → ∥ HoldsSome (filter_state checker) checker.held.items ∥₁
 holds_some checker none unspent = checker.holds (none_is checker.place none) (false_from_ne_true _ unspent)
@@ -114,8 +110,7 @@ module _ {assigned : Bool} {f : Form} {base : ℕ} {held bytes due : List ℕ} {
       → Ok (Some place) ≡ answer_at_end base (form_value f base bytes) ending
   unfolding change_at
   parted_end is place at Whole at_end = grind (arith, bytes_eq-Decides form (text_of bytes), take-length (text_of bytes), parted call form scalars at_end.is place at is)
-  parted_end is place behind (CutOff at start) at_end =
-      absurd (grind (arith, ap length (other_written call.wrote is).3, at_end.is, length-append))
+  parted_end is place behind (CutOff at start) at_end = absurd (grind (arith, ap length (other_written call.wrote is).3, at_end.is, length-append))
   parted_end is place behind (Bad at start) at_end = cc
 
   module _ (none : is_some new.other ≡ false) where

@@ -48,14 +48,11 @@ module _ (sound : AreSound ucd) where
       let all = (taken_whole ucd assigned (text_of bytes) (taken ucd assigned _ (text_of bytes) _ none)).1 in
       (all, sym (first_fault-none ucd assigned _ (text_of bytes) _ (usable_is ucd sound (text_of bytes)) all) ∙ none)
 
-  module _ (assigned : Bool) (f : Form) (base : ℕ) (bytes : List ℕ) (none : fault_in (under assigned) ucd base bytes ≡ None) where
-    pub made_all : made_of assigned f (text_of bytes) ≡ settled f ucd (text_of bytes)
-    made_all = ap (settled f ucd) (taken-all ucd assigned (text_of bytes) (usable_is ucd sound (text_of bytes)) (no_fault_parts assigned base bytes none).0)
-
-    -- less than a character stands behind the text
-    pub rest_few : ReadsLongestText → ReplacesParts → length bytes ≤ length (encode_utf8_all (text_of bytes)) + 3
-    rest_few longest replacing =
-        grind (arith, (no_fault_parts assigned base bytes none).1, (longest.reads bytes).end, replacing.few bytes, replacing.begun bytes, replacing.own_len (text_of bytes))
+  -- less than a character stands behind the text
+  pub rest_few : (assigned : Bool) (base : ℕ) (bytes : List ℕ) → fault_in (under assigned) ucd base bytes ≡ None → ReadsLongestText → ReplacesParts
+      → length bytes ≤ length (encode_utf8_all (text_of bytes)) + 3
+  rest_few assigned base bytes none longest replacing =
+      grind (arith, no_fault_parts assigned base bytes none, (longest.reads bytes).end, replacing.few bytes, replacing.begun bytes, replacing.own_len (text_of bytes))
 
 -- ---- where a filter stands
 
@@ -67,20 +64,10 @@ module _ (known : Known) {assigned : Bool} {f : Form} {state : State} {held byte
   -- little is held
   pub held_few : ReadsLongestText → ReplacesParts → AreSound ucd → ((f : Form) (x u : List ℕ) → x ≡ settled f ucd x ++ u → length u ≤ 78) → length held ≤ 315
   held_few longest replacing sound kept =
-      let none = holds.filter.no_fault in
+      let few = rest_few sound assigned (base_of state) bytes holds.filter.no_fault longest replacing in
+      let all = taken-all ucd assigned (text_of bytes) (usable_is ucd sound (text_of bytes)) (no_fault_parts sound assigned _ bytes holds.filter.no_fault).0 in
       let text = ap text_of holds.split ∙ behind known assigned f bytes held in
-      grind (
-        arith,
-        text,
-        kept f (text_of bytes) (text_of held),
-        made_all sound assigned f (base_of state) bytes none,
-        ap length holds.split,
-        encodes-append,
-        written_is,
-        length-append,
-        four (text_of held),
-        rest_few sound assigned f (base_of state) bytes none longest replacing,
-      )
+      grind (arith, kept f (text_of bytes) (text_of held), text, all, few, ap length holds.split, encodes-append, written_is, length-append, four (text_of held))
     where
       four : (x : List ℕ) → length (encode_utf8_all x) ≤ 4 * length x
       four [] = omega arith

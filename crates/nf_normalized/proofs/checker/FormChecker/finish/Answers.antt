@@ -1,36 +1,31 @@
-use Rattle.nf_normalized.proofs.Common.{refl, nat_tests, append_assoc, [], ◌∷◌, ◌≡◌, Bool, false, ℕ, List, sym, ◌∙◌, arith, None, append-nil, ∥∥₁_elim, le_prop, ucd, Form, ending_of, answer_at_end, base_of, final_utf8, end_of, tally_of, spent, under, filter_state, Holds, StandsAfter-offset}
+use Rattle.nf_normalized.proofs.Common.{refl, nat_tests, [], ◌∷◌, ◌≡◌, Bool, false, ℕ, List, sym, ◌∙◌, arith, None, append-nil, ∥∥₁_elim, le_prop, ucd, Form, ending_of, answer_at_end, base_of, final_utf8, end_of, tally_of, spent, under, filter_state, Holds, StandsAfter-offset}
 use Rattle.nf_filter.specs.Kinds.{cut}
 use Rattle.nf_normalized.proofs.CheckerLemmas.{no_fault_parts}
-use Rattle.nf_normalized.proofs.CallLemmas.{stable, parted_apart, holds_some, room, Call, told, Due, fault_end, done_end, short_end, parted_end}
+use Rattle.nf_normalized.proofs.CallLemmas.{stable, holds_some, room, Call, told, Due, fault_end, done_end, short_end, parted_end}
 use Rattle.nf_normalized.proofs.checker.FormChecker.finish.Goals as goal
 use Rattle.nf_normalized.proofs.checker.FormChecker.finish.Goals.{After-finish-finished, then-not-has_parted+in_default+else-is_at_end, else-not-has_parted}
 
--- what was seen of the call, where the filter stood after these bytes
-seen : (c : After-finish-finished) → {assigned : Bool} {f : Form} {bytes : List ℕ} → Holds assigned f (filter_state c.args.self) c.args.self.held.items bytes
-    → Call assigned f (base_of (filter_state c.args.self)) c.as_slice-held.result.now bytes bytes (final_utf8 (under assigned) f ucd bytes) c.new-sink.result c.finish-finished.new.sink
-    c.finish-finished.result c.chars-chars.result c.offset-offset.result (c.finish-finished.result ≡ answer_at_end (base_of (filter_state c.args.self)) (tally_of false ucd bytes) (ending_of bytes))
-unfolding end_of
-seen c {assigned} {f} {bytes} holds =
-    let fin = c.finish-finished.ensures.finishes _ f bytes holds.filter in
-    record {
-      known = record { split = c.split.ensures; back = c.read_back.ensures; pieces = c.pieces.ensures; once = c.each_form_changes_a_text_once.ensures };
-      split = rw c.as_slice-held.ensures.value holds.split;
-      expects = grind (arith, holds.split, c.as_slice-held.ensures.value, c.new-sink.ensures.expected, append_assoc, append-nil);
-      wrote = record { begun = c.new-sink.ensures.none; broken = fin.broken_off; puts = fin.written };
-      chars_are = c.chars-chars.ensures _ f bytes holds.filter;
-      offset_is = c.offset-offset.ensures ∙ StandsAfter-offset holds.filter;
-      answer = fin.answer;
-    }
+module _ (c : After-finish-finished) {assigned : Bool} {f : Form} {bytes : List ℕ} (holds : Holds assigned f (filter_state c.args.self) c.args.self.held.items bytes) where
+  -- what was seen of the call, where the filter stood after these bytes
+  seen : Call assigned f (base_of (filter_state c.args.self)) c.as_slice-held.result.now bytes bytes (final_utf8 (under assigned) f ucd bytes) c.new-sink.result c.finish-finished.new.sink
+      c.finish-finished.result c.chars-chars.result c.offset-offset.result (c.finish-finished.result ≡ answer_at_end (base_of (filter_state c.args.self)) (tally_of false ucd bytes) (ending_of bytes))
+  unfolding end_of
+  seen =
+      let fin = c.finish-finished.ensures.finishes _ f bytes holds.filter in
+      record {
+        known = grind (arith, c.split.ensures, c.read_back.ensures, c.pieces.ensures, c.each_form_changes_a_text_once.ensures);
+        split = rw c.as_slice-held.ensures.value holds.split;
+        expects = grind (arith, holds.split, c.as_slice-held.ensures.value, c.new-sink.ensures.expected, append-nil);
+        wrote = record { begun = c.new-sink.ensures.none; broken = fin.broken_off; puts = fin.written };
+        chars_are = c.chars-chars.ensures _ f bytes holds.filter;
+        offset_is = c.offset-offset.ensures ∙ StandsAfter-offset holds.filter;
+        answer = fin.answer;
+      }
 
--- and what was due
-due : (c : After-finish-finished) → {assigned : Bool} {f : Form} {bytes : List ℕ} → Holds assigned f (filter_state c.args.self) c.args.self.held.items bytes
-    → Due assigned f (base_of (filter_state c.args.self)) bytes (final_utf8 (under assigned) f ucd bytes) (ending_of bytes)
-unfolding final_utf8
-due c {assigned} {f} {bytes} holds = record {
-  good = (no_fault_parts c.every_character_is_sound.ensures.character assigned _ bytes holds.filter.no_fault).1;
-  ends = (c.longest_text.ensures.reads bytes).end;
-  is = refl;
-}
+  -- and what was due
+  due : Due assigned f (base_of (filter_state c.args.self)) bytes (final_utf8 (under assigned) f ucd bytes) (ending_of bytes)
+  unfolding final_utf8
+  due = record { good = (no_fault_parts c.every_character_is_sound.ensures.character assigned _ bytes holds.filter.no_fault).1; ends = (c.longest_text.ensures.reads bytes).end; is = refl }
 
 pub returns-in-Err-clause-faults : goal.returns-in-Err-clause-faults
 returns-in-Err-clause-faults c =
@@ -54,11 +49,8 @@ returns-then-is_at_end-clause-decides c = λ assigned f base bytes stands.
 pub place_behind-requires : goal.place_behind-requires
 place_behind-requires c =
     let at = (goal.at.place_behind-requires c).After-finish-finished in
-    let some = holds_some c.args.self (cc) (λ ended. elim c.if-not-has_parted.branch [
-      | then-not-has_parted+in_default+else-is_at_end w ↦ cc (c.finish-finished.ensures.spent.1 ended)
-      | else-not-has_parted w ↦ parted_apart c.new-sink.ensures.none.1 (cc) (c.finish-finished.ensures.kept ended)
-    ]) in
-    ∥∥₁_elim some (hlevel le_prop) (λ h. room (seen at h.holds) (omega (arith, StandsAfter-offset h.holds.filter, c.offset-offset.ensures, c.offset-offset.type_inv)))
+    ∥∥₁_elim (holds_some c.args.self (cc) (λ ended. grind (arith, c.finish-finished.ensures.kept ended, c.finish-finished.ensures.spent))) (hlevel le_prop)
+    (λ h. room (seen at h.holds) (omega (arith, StandsAfter-offset h.holds.filter, c.offset-offset.ensures, c.offset-offset.type_inv)))
 
 pub returns-clause-decides : goal.returns-clause-decides
 returns-clause-decides c = λ assigned f base bytes stands.

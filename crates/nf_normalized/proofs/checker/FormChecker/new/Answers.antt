@@ -24,5 +24,5 @@ returns-clause-stands c =
       none = refl;
       base_is = base_is;
       holds = stands;
-      undecided = rw (← base_is) (undecided (record { split = c.split.ensures; back = c.read_back.ensures; pieces = c.pieces.ensures; once = c.each_form_changes_a_text_once.ensures }) stands);
+      undecided = rw (← base_is) (undecided (grind (arith, c.split.ensures, c.read_back.ensures, c.pieces.ensures, c.each_form_changes_a_text_once.ensures)) stands);
     }
