@@ -1,5 +1,5 @@
 -- What a call of a filter tells of a text, by what it wrote to a sink that compares.
-use Rattle.nf_normalized.proofs.Common.{take-append-drop, append_assoc, append-nil, common_steps, bytes_eq-Decides, ◌≡◌, ℕ, ◌+◌, ◌<◌, ◌^◌, Bool, true, false, List, ◌++◌, length, take, IsTrue, sym, ap, ◌∙◌, arith, length-append, Option, Some, None, is_some, option_map, encode_utf8_all, encodes-append, Result, Ok, Err, result_err, false_from_ne_true, take_at, encodes_same, length-le-encodes, take-length, ucd, Form, safe_form, IsText, Ending, Whole, Bad, CutOff, text_of, EndsAs, Place, place_at, Fault, Write, Row, fault_in, answer_at_end, bad_byte, whole_or, is_spent, IsAmong, Comparing, same, left, HasRoom, IsBehind, under, made_of, common, change_at, form_value, form_decision, HoldsSome, filter_state, IsOfPiece, IsOfEnd}
+use Rattle.nf_normalized.proofs.Common.{take-append-drop, append_assoc, append-nil, common_steps, bytes_eq-Decides, ◌≡◌, ℕ, ◌+◌, ◌<◌, ◌^◌, Bool, true, false, List, ◌++◌, length, take, IsTrue, sym, ap, ◌∙◌, arith, length-append, Some, None, is_some, option_map, encode_utf8_all, encodes-append, Result, Ok, Err, result_err, false_from_ne_true, take_at, encodes_same, length-le-encodes, take-length, ucd, Form, safe_form, IsText, Ending, Whole, Bad, CutOff, text_of, EndsAs, Place, place_at, Fault, Write, Row, fault_in, answer_at_end, bad_byte, whole_or, is_spent, IsAmong, Comparing, same, left, HasRoom, IsBehind, under, made_of, common, change_at, form_value, form_decision, HoldsSome, filter_state, IsOfPiece}
 use Rattle.nf_filter.specs.declared.tally.Tally.{Tally}
 use Rattle.nf_filter.specs.Faults.{IsOfFeeding}
 use Rattle.nf_filter.specs.Laws.Soundness.{AreSound}
@@ -92,11 +92,6 @@ pub record Due (assigned : Bool) (f : Form) (base : ℕ) (bytes due : List ℕ) 
   pub good : bad_byte base ending ≡ None
   pub ends : EndsAs bytes (text_of bytes) ending
   pub is : due ≡ whole_or ending (written assigned f bytes) (encode_utf8_all (safe_form f ucd (text_of bytes)))
-
--- a fault is that of the end
-pub fault_end : {fault : Fault} (base : ℕ) (tally : Tally) (value : Option Place) (ending : Ending) → Err fault ≡ answer_at_end base tally ending
-    → (Err fault ≡ answer_at_end base value ending) × IsOfEnd fault
-fault_end base tally value ending e = grind arith
 
 module _ {assigned : Bool} {f : Form} {base : ℕ} {held bytes due : List ℕ} {old new : Comparing} {r : Result Tally Fault} {chars offset : ℕ} {Tells : Type 0}
     (call : Call assigned f base held bytes bytes due old new r chars offset Tells) where

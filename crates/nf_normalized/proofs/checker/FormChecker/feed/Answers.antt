@@ -1,9 +1,8 @@
 use Rattle.nf_normalized.proofs.Common.{append_assoc, [], ◌∷◌, ◌⊎◌, ◌≡◌, ◌<◌, ◌+◌, ◌++◌, ◌^◌, Bool, false, ℕ, List, IsTrue, inl, inr, length, sym, ◌∙◌, arith, is_some, Ok, Err, length-append, false_from_ne_true, ∥∥₁_elim, ∥∥₁_map, le_prop, result_err, ucd, Form, fault_in, state_of, base_of, is_spent, offset_of, spent, too_long, ill_formed, unassigned, TooLong, under, filter_state, left, Holds, StandsAfter-offset}
 use Rattle.nf_normalized.proofs.CheckerLemmas.{written, held_few}
-use Rattle.nf_normalized.proofs.ComparingLemmas.{none_is}
 use Rattle.nf_normalized.proofs.CallLemmas.{stable, holds_some, room, Call, piece_kinds, parted_decides, split_now, unparted_decides}
 use Rattle.nf_normalized.proofs.checker.FormChecker.feed.Goals as goal
-use Rattle.nf_normalized.proofs.checker.FormChecker.feed.Goals.{After-feed-fed, After-has_parted}
+use Rattle.nf_normalized.proofs.checker.FormChecker.feed.Goals.{After-feed-fed}
 
 module _ (c : After-feed-fed) {assigned : Bool} {f : Form} {bytes : List ℕ} (holds : Holds assigned f (filter_state c.args.self.now) c.args.self.now.held.items bytes) where
   -- what was seen of the call, where the filter stood after these bytes
@@ -14,11 +13,11 @@ module _ (c : After-feed-fed) {assigned : Bool} {f : Form} {bytes : List ℕ} (h
       let feeds = c.feed-fed.ensures.feeds _ f bytes holds.filter short in
       record {
         known = grind (arith, c.split.ensures, c.read_back.ensures, c.pieces.ensures, c.each_form_changes_a_text_once.ensures);
-        split = rw c.as_slice-held.ensures.value holds.split;
-        expects = grind (arith, holds.split, c.as_slice-held.ensures.value, c.new-sink.ensures.expected, append_assoc);
-        wrote = record { begun = c.new-sink.ensures.none; broken = feeds.broken_off; puts = feeds.written };
+        split = grind (arith, holds.split);
+        expects = grind (arith, holds.split, append_assoc);
+        wrote = grind (arith, feeds);
         chars_are = c.chars-chars.ensures _ f bytes holds.filter;
-        offset_is = c.offset-offset.ensures ∙ StandsAfter-offset holds.filter;
+        offset_is = grind (arith, StandsAfter-offset holds.filter);
         answer = feeds.answer;
       }
 
@@ -64,12 +63,9 @@ joined-self-requires c =
 pub invariant_of-self-2 : goal.invariant_of-self-2
 invariant_of-self-2 c = record {
   holds = λ _ _.
-      ∥∥₁_map (holds_some c.args.self.now (cc) (λ ended. cc (c.in_default.is, c.feed-fed.ensures.spent.1 ended))) (λ h. record {
-        assigned = h.assigned;
-        form = h.form;
-        bytes = h.bytes ++ c.args.piece.now;
-        holds = rw (c.joined-self.ensures, c.left.ensures.left) (holds_now (goal.at.invariant_of-self-2 c).After-feed-fed h.holds (cc) c.in_default.is);
-      });
+      ∥∥₁_map (holds_some c.args.self.now (cc) (λ ended. cc (c.in_default.is, c.feed-fed.ensures.spent.1 ended))) (λ h.
+      let holds = holds_now (goal.at.invariant_of-self-2 c).After-feed-fed h.holds (cc) c.in_default.is in
+      record { assigned = _; form = _; bytes = _; holds = rw (← c.left.ensures.left, ← c.joined-self.ensures) at holds });
 }
 
 pub returns-clause-decides : goal.returns-clause-decides
@@ -79,7 +75,7 @@ returns-clause-decides c = λ assigned f base bytes stands other.
 
 pub returns-clause-stands : goal.returns-clause-stands
 returns-clause-stands c = λ assigned f base bytes stands ok. record {
-  none = none_is c.args.self.now.place (cc);
+  none = grind arith;
   undecided = sym (returns-clause-decides c assigned f base bytes stands (λ e. cc));
   base_is = c.feed-fed.ensures.base ∙ stands.base_is;
   holds = rw (c.joined-self.ensures, c.left.ensures.left) (holds_now (goal.at.returns-clause-stands c).After-feed-fed stands.holds (cc) c.in_default.is);

@@ -1,7 +1,7 @@
-use Rattle.nf_normalized.proofs.Common.{refl, nat_tests, [], ◌∷◌, ◌≡◌, Bool, false, ℕ, List, sym, ◌∙◌, arith, None, append-nil, ∥∥₁_elim, le_prop, ucd, Form, ending_of, answer_at_end, base_of, final_utf8, end_of, tally_of, spent, under, filter_state, Holds, StandsAfter-offset}
+use Rattle.nf_normalized.proofs.Common.{refl, nat_tests, [], ◌∷◌, ◌≡◌, Bool, false, ℕ, List, sym, ◌∙◌, arith, append_assoc, append-nil, ∥∥₁_elim, le_prop, ucd, Form, ending_of, answer_at_end, base_of, final_utf8, end_of, tally_of, spent, under, filter_state, Holds, StandsAfter-offset}
 use Rattle.nf_filter.specs.Kinds.{cut}
 use Rattle.nf_normalized.proofs.CheckerLemmas.{no_fault_parts}
-use Rattle.nf_normalized.proofs.CallLemmas.{stable, holds_some, room, Call, told, Due, fault_end, done_end, short_end, parted_end}
+use Rattle.nf_normalized.proofs.CallLemmas.{stable, holds_some, room, Call, told, Due, done_end, short_end, parted_end}
 use Rattle.nf_normalized.proofs.checker.FormChecker.finish.Goals as goal
 use Rattle.nf_normalized.proofs.checker.FormChecker.finish.Goals.{After-finish-finished, then-not-has_parted+in_default+else-is_at_end, else-not-has_parted}
 
@@ -11,15 +11,15 @@ module _ (c : After-finish-finished) {assigned : Bool} {f : Form} {bytes : List 
       c.finish-finished.result c.chars-chars.result c.offset-offset.result (c.finish-finished.result ≡ answer_at_end (base_of (filter_state c.args.self)) (tally_of false ucd bytes) (ending_of bytes))
   unfolding end_of
   seen =
-      let fin = c.finish-finished.ensures.finishes _ f bytes holds.filter in
+      let finishes = c.finish-finished.ensures.finishes _ f bytes holds.filter in
       record {
         known = grind (arith, c.split.ensures, c.read_back.ensures, c.pieces.ensures, c.each_form_changes_a_text_once.ensures);
-        split = rw c.as_slice-held.ensures.value holds.split;
-        expects = grind (arith, holds.split, c.as_slice-held.ensures.value, c.new-sink.ensures.expected, append-nil);
-        wrote = record { begun = c.new-sink.ensures.none; broken = fin.broken_off; puts = fin.written };
+        split = grind (arith, holds.split);
+        expects = grind (arith, holds.split, append_assoc, append-nil);
+        wrote = grind (arith, finishes);
         chars_are = c.chars-chars.ensures _ f bytes holds.filter;
-        offset_is = c.offset-offset.ensures ∙ StandsAfter-offset holds.filter;
-        answer = fin.answer;
+        offset_is = grind (arith, StandsAfter-offset holds.filter);
+        answer = finishes.answer;
       }
 
   -- and what was due
@@ -32,19 +32,17 @@ returns-in-Err-clause-faults c =
     let at = (goal.at.returns-in-Err-clause-faults c).After-finish-finished in
     stable (spent ∷ cut ∷ []) c.in-Err.fault (λ out.
     ∥∥₁_elim (holds_some c.args.self (cc) (λ ended. out (grind (arith, c.finish-finished.ensures.spent))))
-    (λ x y. absurd x) (λ h. out (fault_end _ _ None (ending_of h.bytes) (sym c.in-Err.is ∙ told (seen at h.holds) (cc))).1))
+    (λ x y. absurd x) (λ h. out (grind (arith, c.in-Err.is, told (seen at h.holds) (cc)))))
 
 pub returns-in-Err-clause-decides : goal.returns-in-Err-clause-decides
 returns-in-Err-clause-decides c = λ assigned f base bytes stands.
     let at = (goal.at.returns-in-Err-clause-decides c).After-finish-finished in
-    rw (← stands.base_is) (fault_end _ _ _ (ending_of bytes) (sym c.in-Err.is ∙ told (seen at stands.holds) (cc))).0
+    rw (← stands.base_is) (grind (arith, c.in-Err.is, told (seen at stands.holds) (cc)))
 
 pub returns-then-is_at_end-clause-decides : goal.returns-then-is_at_end-clause-decides
 returns-then-is_at_end-clause-decides c = λ assigned f base bytes stands.
     let at = (goal.at.returns-then-is_at_end-clause-decides c).After-finish-finished in
-    let none = sym c.has_parted.ensures ∙ c.if-not-has_parted.true in
-    rw (← stands.base_is) (done_end (seen at stands.holds) none (grind (arith, nat_tests)) _ _ (due at stands.holds)
-    (sym c.in_default.is ∙ told (seen at stands.holds) none))
+    rw (← stands.base_is) (done_end (seen at stands.holds) (cc) (grind (arith, nat_tests)) _ _ (due at stands.holds) (sym c.in_default.is ∙ told (seen at stands.holds) (cc)))
 
 pub place_behind-requires : goal.place_behind-requires
 place_behind-requires c =
@@ -57,8 +55,7 @@ returns-clause-decides c = λ assigned f base bytes stands.
     let at = (goal.at.returns-clause-decides c).After-finish-finished in
     let call = seen at stands.holds in
     rw (← stands.base_is) (elim c.if-not-has_parted.branch [
-      | then-not-has_parted+in_default+else-is_at_end w ↦ let none = sym c.has_parted.ensures ∙ w.if-not-has_parted.true in
-          short_end call none (grind (arith, nat_tests)) c.place_behind.result c.place_behind.ensures _ _ (due at stands.holds)
-          (sym w.in_default.is ∙ told call none)
+      | then-not-has_parted+in_default+else-is_at_end w ↦
+          short_end call (cc) (grind (arith, nat_tests)) c.place_behind.result c.place_behind.ensures _ _ (due at stands.holds) (sym w.in_default.is ∙ told call (cc))
       | else-not-has_parted w ↦ parted_end call (cc) c.place_behind.result c.place_behind.ensures _ (due at stands.holds)
     ])
