@@ -1,5 +1,5 @@
 -- Fronts of a text in a form, over Unicode's data.
-use Rattle.nf_normalized.proofs.Common.{◌≡◌, ◌≢◌, ◌↔◌, ℕ, ◌<◌, true, false, List, [], ◌∷◌, ◌++◌, length, take, Some, refl, sym, ap, ◌∙◌, arith, inl, inr, IsTrue, append-nil, append_assoc, eqb-true, pos_of_ne-zero, cases_Bool, eqb-false, length-append, take_at, canonical_combining_class, unicode_normalization, is_starter, lead, Form, Nfkc, Nfkd, composite, row_of, decomposed, composes, finished, normal_form, stream_safe, safe_form, is_sound, IsMark, ucd, by_last, row-mark, BeginsInStarter, begins_in_starter, IsSound, IsSoundText, IsSound-from_test, decomposed-push, is_in_format, after, is_among, halfwidth_marks, vowel_signs}
+use Rattle.nf_normalized.proofs.Common.{◌≡◌, ◌≢◌, ◌↔◌, ℕ, ◌<◌, true, false, List, [], ◌∷◌, ◌++◌, length, take, Some, refl, sym, ap, ◌∙◌, arith, inl, inr, IsTrue, append-nil, append_assoc, eqb-true, pos_of_ne-zero, cases_Bool, eqb-false, length-append, take_at, canonical_combining_class, unicode_normalization, is_starter, lead, Form, Nfkc, Nfkd, composite, row_of, decomposed, composes, finished, normal_form, stream_safe, safe_form, is_sound, IsMark, ucd, by_last, row-mark, BeginsInStarter, begins_in_starter, IsSoundText, IsSound-from_test, decomposed-push, is_in_format, after, is_among, halfwidth_marks, vowel_signs}
 use Rattle.ucd_normal.specs.declared.forms.Form.{Form as KitForm}
 use Rattle.ucd_normal.specs.declared.forms.Form.TheVariants.{Nfd as KitNfd, Nfkd as KitNfkd}
 use Rattle.ucd_normal.specs.declared.forms.QuickCheck.TheVariants.{No}
@@ -9,7 +9,7 @@ use Rattle.unicode_normalization.specs.QuickCheck.{worst, quick_check_text}
 use Rattle.unicode_normalization.proofs.DecomposeLemmas.{decompose-primary_composite}
 use Rattle.unicode_normalization.proofs.FormsLemmas.{quick_check_text-No}
 use Rattle.nf_facts.specs.KitForm.{kit_form}
-use Rattle.nf_facts.specs.Refused.{refuses, not_among, no_vowel_sign}
+use Rattle.nf_facts.specs.Refused.{not_among, no_vowel_sign}
 use Rattle.nf_normalized.proofs.KeptLemmas.{some_of, length-form_of}
 use Rattle.nf_normalized.proofs.TakenLemmas.{IsRow, last_taken}
 
@@ -20,14 +20,6 @@ unfolding worst
 worst-last f [] c refused = grind arith
 worst-last f (x ∷ y) c refused = grind (arith, worst-last f y c)
 
-text-refused : (f : KitForm) (y : List ℕ) (c : ℕ) → quick_check f c ≡ No → quick_check_text f (y ++ c ∷ []) ≡ No
-unfolding quick_check_text
-text-refused f y c refused = grind (arith, worst-last f y c)
-
-halfwidth_marks-refused : (refuses Nfkc halfwidth_marks ≡ true) × (refuses Nfkd halfwidth_marks ≡ true)
-unfolding unicode_normalization
-halfwidth_marks-refused = (refl, refl)
-
 -- ---- the row of one that is not refused
 
 module _ (sound : (c : ℕ) → IsTrue (is_sound ucd c))
@@ -36,24 +28,17 @@ module _ (sound : (c : ℕ) → IsTrue (is_sound ucd c))
     (marks : (f : Form) (c : ℕ) → 0 < canonical_combining_class c → quick_check (kit_form f) c ≢ No → IsMark ucd c (canonical_combining_class c)) where
   row_of_starter : (f : Form) (c : ℕ) → canonical_combining_class c ≡ 0 → is_starter ucd c ≡ true → quick_check (kit_form f) c ≢ No
       → BeginsInStarter ucd (row_of f ucd c)
-  row_of_starter f c none starts may = at f (no_vowel_sign f c may) may
-    where
-      own : IsSound ucd c
-      own = IsSound-from_test ucd c (sound c)
-
-      canonical : is_among vowel_signs c ≡ false → BeginsInStarter ucd (ucd.canonical c)
-      canonical no_sign = elim (cases_Bool (is_among halfwidth_marks c)) [
+  unfolding unicode_normalization
+  row_of_starter Nfkc c none starts may =
+      begins_in_starter ucd (ucd.compat c) (IsSound-from_test ucd c (sound c)).compat_some (starters c none (no_vowel_sign Nfkc c may) (not_among Nfkc c may halfwidth_marks refl))
+  row_of_starter Nfkd c none starts may =
+      begins_in_starter ucd (ucd.compat c) (IsSound-from_test ucd c (sound c)).compat_some (starters c none (no_vowel_sign Nfkd c may) (not_among Nfkd c may halfwidth_marks refl))
+  row_of_starter f c none starts may =
+      let own = IsSound-from_test ucd c (sound c) in
+      elim (cases_Bool (is_among halfwidth_marks c)) [
         | inl among ↦ record { first = c; rest = []; text = halfwidth c among; starter = starts }
-        | inr other ↦ begins_in_starter ucd (ucd.canonical c) own.canonical_some (omega (arith, own.lead_within, starters c none no_sign other))
+        | inr other ↦ begins_in_starter ucd (ucd.canonical c) own.canonical_some (omega (arith, own.lead_within, starters c none (no_vowel_sign f c may) other))
       ]
-
-      compat : is_among vowel_signs c ≡ false → is_among halfwidth_marks c ≡ false → BeginsInStarter ucd (ucd.compat c)
-      compat no_sign no_mark = begins_in_starter ucd (ucd.compat c) own.compat_some (starters c none no_sign no_mark)
-
-      at : (f : Form) → is_among vowel_signs c ≡ false → quick_check (kit_form f) c ≢ No → BeginsInStarter ucd (row_of f ucd c)
-      at Nfkc no_sign may = compat no_sign (not_among Nfkc c may halfwidth_marks halfwidth_marks-refused.0)
-      at Nfkd no_sign may = compat no_sign (not_among Nfkd c may halfwidth_marks halfwidth_marks-refused.1)
-      at _ no_sign may = canonical no_sign
 
   row_from : (f : Form) (c : ℕ) → quick_check (kit_form f) c ≢ No → IsRow ucd c (row_of f ucd c)
   unfolding ucd
@@ -78,8 +63,9 @@ module _ (sound : (c : ℕ) → IsTrue (is_sound ucd c))
 
     -- a text in a form is in it without its last character
     form-last_taken : (f : Form) (y : List ℕ) (c : ℕ) → normal_form f ucd (y ++ c ∷ []) ≡ y ++ c ∷ [] → normal_form f ucd y ≡ y
+    unfolding quick_check_text
     form-last_taken f y c same =
-        let may : quick_check (kit_form f) c ≢ No = λ no. quick_check_text-No (kit_form f) _ (text-refused (kit_form f) y c no) (sym (kit f _) ∙ same) in
+        let may : quick_check (kit_form f) c ≢ No = λ no. quick_check_text-No (kit_form f) _ (grind (arith, worst-last (kit_form f) y c no)) (sym (kit f _) ∙ same) in
         last_taken ucd (row_of f ucd) (some_of sound f) (longer f) (composes f) (decomposed f ucd y) y c (row_from f c may) (length-form_of sound f twice y)
         (ap (finished f ucd) (sym (decomposed-push ucd f y c)) ∙ same)
 

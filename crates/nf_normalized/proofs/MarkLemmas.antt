@@ -1,16 +1,17 @@
 -- A mark more behind a text, over any character data: where it stands in the form, and what the form was without it.
-use Rattle.nf_normalized.proofs.Common.{◌≡◌, nat_tests, list_all-append, ℕ, ◌<◌, Bool, true, false, not, ◌==◌, List, [], ◌∷◌, ◌++◌, length, Option, Some, None, refl, sym, ap, ◌∙◌, arith, pos_of_ne-zero, inl, inr, append-nil, append_assoc, cases_Bool, or_parts, or_from, eqb-false, length-append, list_all, fold, Properties, is_starter, has_starter, by_class, order, is_blocked, joined, replaced, join, compose_step, EndsInGroup, last_starter, marks_push, IsCut, cut, order-behind, by_class-push, has_starter-by_class, compose_step-at, compose-behind, fold-none, joined-some, joined-starter}
+use Rattle.nf_normalized.proofs.Common.{◌⊎◌, ◌≡◌, nat_tests, list_all-append, ℕ, ◌<◌, Bool, true, false, not, ◌==◌, List, [], ◌∷◌, ◌++◌, length, refl, sym, ap, ◌∙◌, arith, pos_of_ne-zero, inl, inr, append-nil, append_assoc, cases_Bool, or_parts, or_from, eqb-false, length-append, list_all, fold, Properties, is_starter, has_starter, by_class, order, is_blocked, joined, join, compose_step, last_starter, marks_push, IsCut, cut, order-behind, by_class-push, has_starter-by_class, compose_step-at, compose-behind, fold-none, joined-some, joined-starter}
 use Rattle.unicode_normalization.proofs.ComposeLemmas.{cases_Option}
 use Rattle.nf_forms.specs.Laws.Runs.{has_starter-append}
 use Rattle.nf_forms.specs.Laws.MarkBehind.{all_above, placed, is_ordered-by_class, lands}
 
 -- ---- lists
 
--- where y with c behind it goes on behind e, it is y that goes on there, and then c
-pub behind : (e y : List ℕ) (c a : ℕ) (v : List ℕ) → y ++ c ∷ [] ≡ e ++ a ∷ v → (rest : List ℕ) × (y ≡ e ++ rest) × (rest ++ c ∷ [] ≡ a ∷ v)
-behind [] y c a v same = (y, refl, same)
+-- where y with c behind it goes on behind e with a, a is c itself, at the end, or y goes on with it
+pub behind : (e y : List ℕ) (c a : ℕ) (v : List ℕ) → y ++ c ∷ [] ≡ e ++ a ∷ v → ((y ≡ e) × (c ≡ a) × (v ≡ [])) ⊎ ((more : List ℕ) × (y ≡ e ++ a ∷ more) × (v ≡ more ++ c ∷ []))
+behind [] [] c a v same = inl (refl, cc, cc)
+behind [] (d ∷ y) c a v same = inr (y, cc, cc)
 behind (b ∷ e) [] c a v same = absurd (grind (arith, ap length same, length-append))
-behind (b ∷ e) (d ∷ y) c a v same = grind (arith, behind e y c a v)
+behind (b ∷ e) (d ∷ y) c a v same = elim (behind e y c a v cc) [ inl r ↦ inl (cc, r.1, r.2) | inr r ↦ inr (r.0, cc, r.2) ]
 
 module _ (p : Properties) where
   -- ---- a mark more
@@ -43,11 +44,7 @@ module _ (p : Properties) where
 
   -- two texts that differ by c alone, of which the longer one is y with c behind it
   pub same_front : (c : ℕ) (e q y z : List ℕ) → all_above p (p.class c) q ≡ true → z ≡ e ++ q → y ++ c ∷ [] ≡ e ++ c ∷ q → z ≡ y
-  same_front c e q y z above without with_c = let rest = behind e y c c q with_c in next rest.0 rest.1 rest.2
-    where
-      next : (rest : List ℕ) → y ≡ e ++ rest → rest ++ c ∷ [] ≡ c ∷ q → z ≡ y
-      next [] text same = cc
-      next (a ∷ rest) text same = grind (arith, nat_tests, list_all-append)
+  same_front c e q y z above without with_c = grind (arith, nat_tests, list_all-append, append-nil, behind e y c c q with_c)
 
   -- ---- a mark that composes is gone: nothing of its class is left behind the starter
 
@@ -68,31 +65,27 @@ module _ (p : Properties) where
   avoids-unblocked [] c free = refl
   avoids-unblocked (x ∷ m) c free = grind (arith, nat_tests, avoids-unblocked m c)
 
-  avoids-last : (v : List ℕ) (c : ℕ) → avoids (p.class c) (v ++ c ∷ []) ≡ true → ⊥
-  avoids-last v c all = grind (arith, nat_tests, list_all-append)
-
   -- ---- a mark taken away
 
   -- u and marks behind it are composed to y, where with c before those marks they are composed to y and c
   pub mark_taken : (u tail y : List ℕ) (c : ℕ) → is_starter p c ≡ false → has_starter p tail ≡ false → all_above p (p.class c) tail ≡ true
       → fold (compose_step p) u (c ∷ tail) ≡ y ++ c ∷ [] → fold (compose_step p) u tail ≡ y
-  mark_taken u tail y c mark marks above text = elim (cases_Bool (has_starter p u)) [ inl some ↦ at (last_starter p u some) | inr none ↦ alone none ]
-    where
-      alone : has_starter p u ≡ false → fold (compose_step p) u tail ≡ y
-      alone none = same_front c u tail y _ above (fold-none p u tail none marks) (sym text ∙ fold-none p u (c ∷ tail) none (or_from _ _ mark marks))
-
-      -- behind a starter it composed, and could not be the last, or stayed, and stands behind what there was without it
-      at : EndsInGroup p u → fold (compose_step p) u tail ≡ y
-      at g = next (joined p g.starter g.marks c) refl (cc (compose_step-at p g.before g.starter g.marks c g.starts g.no_starter))
-        where
-          next : (o : Option ℕ) → joined p g.starter g.marks c ≡ o → y ++ c ∷ [] ≡ fold (compose_step p) (g.before ++ replaced o g.starter g.marks c) tail → fold (compose_step p) u tail ≡ y
-          next None none with_c =
+  mark_taken u tail y c mark marks above text = elim (cases_Bool (has_starter p u)) [
+    | inr none ↦ same_front c u tail y _ above (fold-none p u tail none marks) (sym text ∙ fold-none p u (c ∷ tail) none (or_from _ _ mark marks))
+    -- behind a starter it composed, and could not be the last, or stayed, and stands behind what there was without it
+    | inl some ↦
+        let g = last_starter p u some in
+        let step = compose_step-at p g.before g.starter g.marks c g.starts g.no_starter in
+        elim (cases_Option (joined p g.starter g.marks c)) [
+          | inl none ↦
               let l = lands p true g.before g.marks c g.no_starter mark g.starter [] tail g.starts refl marks refl above in
               same_front c (g.before ++ l.starter ∷ g.marks) l.rest y _ l.above
-              (grind (arith, g.text, append-nil, l.one, append_assoc)) (grind (arith, with_c, l.other, append_assoc))
-          next (Some d) made with_c =
-              let starts = joined-starter p g.starter g.marks c d made in
-              let group = compose-behind p g.before (d ∷ g.marks) tail (record { starter = d; marks = g.marks; text = refl; starts = starts; no_starter = g.no_starter }) marks in
-              let r = avoiding (p.class c) (pos_of_ne-zero (eqb-false (p.class c) 0 mark)) d g.marks tail starts (avoids-unblocked g.marks c (joined-some p g.starter g.marks c d made).0) above in
-              let rest = behind g.before y c r.0 r.1 (cc) in
-              absurd (avoids-last rest.0 c (rw rest.2 r.3))
+              (grind (arith, g.text, append-nil, l.one, append_assoc)) (grind (arith, text, g.text, step, none, l.other, append_assoc))
+          | inr made ↦
+              let starts = joined-starter p g.starter g.marks c made.0 made.1 in
+              let group = compose-behind p g.before (made.0 ∷ g.marks) tail (record { starter = made.0; marks = g.marks; text = refl; starts = starts; no_starter = g.no_starter }) marks in
+              let free = avoids-unblocked g.marks c (joined-some p g.starter g.marks c made.0 made.1).0 in
+              let r = avoiding (p.class c) (pos_of_ne-zero (eqb-false (p.class c) 0 mark)) made.0 g.marks tail starts free above in
+              absurd (grind (arith, nat_tests, list_all-append, behind g.before y c r.0 r.1, text, g.text, step, made.1, group, r.2, r.3))
+        ]
+  ]

@@ -1,5 +1,5 @@
 -- A text in a form, and what the form makes of it without its last character, over any character data.
-use Rattle.nf_normalized.proofs.Common.{◌≡◌, ℕ, ◌≤◌, ◌<◌, Bool, true, false, List, [], ◌∷◌, ◌++◌, length, flat_map, Option, Some, None, refl, arith, ◌⊎◌, inl, inr, append-nil, append_assoc, cases_Bool, or_left, length-append, fold, Properties, is_starter, has_starter, order, composite, joined, replaced, compose_step, compose, arranged, EndsInGroup, last_starter, order_after-at, compose_step-at, compose_step-none, joined-some, joined-starter, joined-behind_marks, BeginsInStarter}
+use Rattle.nf_normalized.proofs.Common.{◌≡◌, ℕ, ◌≤◌, ◌<◌, Bool, true, false, List, [], ◌∷◌, ◌++◌, length, flat_map, Option, Some, None, refl, arith, ◌⊎◌, inl, inr, append_assoc, cases_Bool, or_left, length-append, fold, Properties, is_starter, has_starter, order, composite, joined, replaced, compose_step, compose, arranged, EndsInGroup, last_starter, order_after-at, compose_step-at, compose_step-none, joined-some, joined-starter, joined-behind_marks, BeginsInStarter}
 use Rattle.std.proofs.lemmas.Grind.{flat_map-append}
 use Rattle.std.proofs.lemmas.List.Sums.{fold-append}
 use Rattle.nf_forms.specs.Laws.Parting.{step-behind, fold-behind}
@@ -17,11 +17,6 @@ module _ (p : Properties) where
     -- of how many members the decomposition is
     abbrev size : List ℕ → ℕ
     size x = length (flat_map row x)
-
-    -- a front of a text with as many members is the text
-    same_size : (y z rest : List ℕ) → y ≡ z ++ rest → size z ≡ size y → z ≡ y
-    same_size y z [] text same = grind (arith, append-nil)
-    same_size y z (a ∷ rest) text same = absurd (grind (arith, some a, flat_map-append, length-append))
 
     -- the first starter stays, or becomes one of a longer row
     first_of : (d : ℕ) (m v : List ℕ) → is_starter p d ≡ true → (t : ℕ) × (rest : List ℕ) × (fold (compose_step p) (d ∷ m) v ≡ t ∷ rest) × (length (row d) ≤ length (row t))
@@ -42,30 +37,21 @@ module _ (p : Properties) where
     starter_taken : (z y : List ℕ) (c s : ℕ) (v : List ℕ) → is_starter p s ≡ true → size z ≡ size y → fold (compose_step p) z (s ∷ v) ≡ y ++ c ∷ [] → z ≡ y
     starter_taken z y c s v starts same text = elim (cases_Bool (has_starter p z)) [ inl begun ↦ at (last_starter p z begun) | inr none ↦ apart (compose_step-none p z s none) ]
       where
-        -- behind a front e that stays y goes on, and with c begins with d or what d became
-        goes_on : (e : List ℕ) (d : ℕ) → is_starter p d ≡ true → compose_step p z s ≡ e ++ d ∷ []
-            → (rest : List ℕ) × (a : ℕ) × (k : List ℕ) × (y ≡ e ++ rest) × (rest ++ c ∷ [] ≡ a ∷ k) × (length (row d) ≤ length (row a))
+        -- behind a front e that stays y ends, or goes on with d or what d became
+        goes_on : (e : List ℕ) (d : ℕ) → is_starter p d ≡ true → compose_step p z s ≡ e ++ d ∷ [] → (y ≡ e) ⊎ ((a : ℕ) × (more : List ℕ) × (y ≡ e ++ a ∷ more) × (length (row d) ≤ length (row a)))
         goes_on e d begins step =
             let first = first_of d [] v begins in
-            let rest = behind e y c first.0 first.1 (cc (fold-behind p e (d ∷ []) v (or_left _ _ begins))) in
-            (rest.0, first.0, first.1, rest.1, rest.2, first.3)
+            elim (behind e y c first.0 first.1 (cc (fold-behind p e (d ∷ []) v (or_left _ _ begins)))) [ inl r ↦ inl r.0 | inr r ↦ inr (first.0, r.0, r.1, first.3) ]
 
         apart : compose_step p z s ≡ z ++ s ∷ [] → z ≡ y
-        apart step = let r = goes_on z s starts step in same_size y z r.0 r.3 same
-
-        -- that would be longer than the starter that was there
-        too_long : (t a : ℕ) (rest k : List ℕ) → rest ++ c ∷ [] ≡ a ∷ k → length (row t) < length (row a) → size rest ≡ length (row t) → ⊥
-        too_long t a [] k ends above whole = omega (arith, some t)
-        too_long t a (b ∷ rest) k ends above whole = grind (arith, length-append)
-
-        made : (e : List ℕ) (t d : ℕ) → z ≡ e ++ t ∷ [] → compose_step p z s ≡ e ++ d ∷ [] → is_starter p d ≡ true → length (row t) < length (row d) → z ≡ y
-        made e t d whole step begins above =
-            let r = goes_on e d begins step in
-            absurd (too_long t r.1 r.0 r.2 r.4 (omega (arith, r.5)) (grind (arith, same, whole, r.3, flat_map-append, length-append)))
+        apart step = grind (arith, goes_on z s starts step, some, same, flat_map-append, length-append)
 
         next : (e : List ℕ) (t : ℕ) (m : List ℕ) (o : Option ℕ) → z ≡ e ++ t ∷ m → joined p t m s ≡ o → compose_step p z s ≡ e ++ replaced o t m s → z ≡ y
         next e t m None whole is step = apart (grind (arith, step, whole, append_assoc))
-        next e t [] (Some d) whole is step = made e t d whole step (joined-starter p t [] s d is) (longer t s d (joined-some p t [] s d is).1)
+        next e t [] (Some d) whole is step =
+            -- that would be longer than the starter that was there
+            let above = longer t s d (joined-some p t [] s d is).1 in
+            grind (arith, goes_on e d (joined-starter p t [] s d is) step, above, some t, same, whole, flat_map-append, length-append)
         next e t (x ∷ m) (Some d) whole is step = cc (joined-behind_marks p t x m s starts)
 
         at : EndsInGroup p z → z ≡ y
@@ -76,8 +62,8 @@ module _ (p : Properties) where
     -- where the form of a text and the row of c is y and c, the form of the text alone is y
     pub last_taken : (b : Bool) (w y : List ℕ) (c : ℕ) → IsRow c (row c) → size (arranged b p w) ≡ size y → arranged b p (w ++ row c) ≡ y ++ c ∷ [] → arranged b p w ≡ y
     last_taken false w y c (inl r) same text =
-        let rest = behind (order p w) y c r.first (order p r.rest) (cc (order_after-at p [] w r.first r.rest r.starter)) in
-        same_size y (order p w) rest.0 rest.1 same
+        let text = behind (order p w) y c r.first (order p r.rest) (cc (order_after-at p [] w r.first r.rest r.starter)) in
+        grind (arith, text, some, same, flat_map-append, length-append)
     last_taken true w y c (inl r) same text =
         starter_taken (compose p (order p w)) y c r.first (order p r.rest) r.starter same
         (grind (arith, fold-append (compose_step p) [] (order p w) (r.first ∷ order p r.rest), order_after-at p [] w r.first r.rest r.starter, r.text, text))
