@@ -1,9 +1,5 @@
 -- Bytes and the texts that they spell.
-use Rattle.nf_normalized.proofs.Common.{◌≡◌, nat_tests, common_steps, list_all-append, ℕ, false, List, [], ◌∷◌, ◌++◌, length, take, drop, refl, sym, ap, ◌∙◌, arith, append_assoc, append-nil, length-append, Option, chars, encode_utf8_all, and_parts, take_at, length-take, take-append-drop, encodes-append, ucd, Form, ChangesOnce, text_of, rest_of, first_text, bytes_behind, Takes, IsText, SplitsBytes, ReadsBack, ReadsPieces, common, goes_on_with}
-use Rattle.nf_utf8.specs.declared.chunk.End.{End}
-use Rattle.nf_utf8.specs.declared.chunk.End.TheVariants.{Bad}
-use Rattle.nf_utf8.specs.declared.decoder.Decoder.{Decoder}
-use Rattle.nf_utf8.specs.Standing.{StandsAfter}
+use Rattle.nf_normalized.proofs.Common.{◌≡◌, nat_tests, common_steps, list_all-append, ℕ, false, List, [], ◌∷◌, ◌++◌, length, take, drop, refl, sym, ap, ◌∙◌, arith, append_assoc, append-nil, length-append, encode_utf8_all, and_parts, take_at, length-take, take-append-drop, encodes-append, ucd, Form, ChangesOnce, text_of, rest_of, IsText, SplitsBytes, ReadsBack, ReadsPieces, common, goes_on_with}
 use Rattle.nf_filter.proofs.ReadingLemmas.{text_of-none}
 use Rattle.nf_normalized.proofs.CommonLemmas.{common-le-left, take-common, common-behind, common-front}
 
@@ -17,21 +13,6 @@ pub record Known : Type 0 where
 -- a front that is no shorter is all
 pub front_all : (x y z : List ℕ) → x ++ y ≡ z → length x ≡ length z → x ≡ z
 front_all x y z e same = grind (arith, common_steps, append-nil)
-
--- ---- a chunk, and another
-
-pub one_piece : {first : List ℕ} {c : Option ℕ} {text : List ℕ} {end : End} → Takes [] first c text end → text_of first ≡ first_text c ++ chars text
-one_piece takes = grind (arith, takes.spelled, text_of-none)
-
-module _ (pieces : ReadsPieces) (first second : List ℕ) where
-  pub bad_piece : {c : Option ℕ} {text : List ℕ} (end : End) {at back : ℕ} → end ≡ Bad at back → Takes [] first c text end → text_of (first ++ second) ≡ first_text c ++ chars text
-  bad_piece end is takes = grind (arith, pieces.bad_text first second, takes.ends, one_piece takes)
-
-  pub two_pieces : {c d : Option ℕ} {text more : List ℕ} (end : End) {decoder : Decoder} {end_more : End} → ((at back : ℕ) → end ≡ Bad at back → ⊥) → Takes [] first c text end
-      → StandsAfter decoder (bytes_behind [] first end) → ((bytes : List ℕ) → StandsAfter decoder bytes → Takes bytes second d more end_more)
-      → text_of (first ++ second) ≡ (first_text c ++ chars text) ++ (first_text d ++ chars more)
-  two_pieces (Bad at back) not_bad takes stands next = absurd (not_bad at back refl)
-  two_pieces _ not_bad takes stands next = grind (arith, (next first stands).spelled, one_piece takes, append_assoc)
 
 -- ---- two texts that go on otherwise
 

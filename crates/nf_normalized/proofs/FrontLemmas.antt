@@ -1,5 +1,5 @@
 -- Fronts of a text in a form, over Unicode's data.
-use Rattle.nf_normalized.proofs.Common.{◌≡◌, ◌≢◌, ◌↔◌, ℕ, ◌<◌, true, false, List, [], ◌∷◌, ◌++◌, length, take, Some, refl, sym, ap, ◌∙◌, arith, inl, inr, IsTrue, append-nil, append_assoc, eqb-true, pos_of_ne-zero, cases_Bool, eqb-false, length-append, take_at, canonical_combining_class, unicode_normalization, is_starter, lead, Form, Nfkc, Nfkd, composite, row_of, decomposed, composes, finished, normal_form, stream_safe, safe_form, is_sound, IsMark, ucd, by_last, row-mark, BeginsInStarter, begins_in_starter, IsSoundText, IsSound-from_test, decomposed-push, is_in_format, after, is_among, halfwidth_marks, vowel_signs}
+use Rattle.nf_normalized.proofs.Common.{nat_tests, ◌≡◌, ◌≢◌, ◌↔◌, ℕ, ◌<◌, false, List, [], ◌∷◌, ◌++◌, length, take, Some, refl, sym, ap, ◌∙◌, arith, inl, inr, IsTrue, append-nil, append_assoc, cases_Bool, length-append, take_at, canonical_combining_class, unicode_normalization, is_starter, lead, Form, Nfkc, Nfkd, composite, row_of, decomposed, composes, finished, normal_form, stream_safe, safe_form, is_sound, IsMark, ucd, by_last, row-mark, BeginsInStarter, begins_in_starter, IsSoundText, IsSound-from_test, decomposed-push, is_in_format, after, is_among, halfwidth_marks, vowel_signs}
 use Rattle.ucd_normal.specs.declared.forms.Form.{Form as KitForm}
 use Rattle.ucd_normal.specs.declared.forms.Form.TheVariants.{Nfd as KitNfd, Nfkd as KitNfkd}
 use Rattle.ucd_normal.specs.declared.forms.QuickCheck.TheVariants.{No}
@@ -26,17 +26,16 @@ module _ (sound : (c : ℕ) → IsTrue (is_sound ucd c))
     (starters : (c : ℕ) → canonical_combining_class c ≡ 0 → is_among vowel_signs c ≡ false → is_among halfwidth_marks c ≡ false → lead ucd (ucd.compat c) ≡ 0)
     (halfwidth : (c : ℕ) → IsTrue (is_among halfwidth_marks c) → ucd.canonical c ≡ c ∷ [])
     (marks : (f : Form) (c : ℕ) → 0 < canonical_combining_class c → quick_check (kit_form f) c ≢ No → IsMark ucd c (canonical_combining_class c)) where
-  row_of_starter : (f : Form) (c : ℕ) → canonical_combining_class c ≡ 0 → is_starter ucd c ≡ true → quick_check (kit_form f) c ≢ No
-      → BeginsInStarter ucd (row_of f ucd c)
-  unfolding unicode_normalization
-  row_of_starter Nfkc c none starts may =
+  row_of_starter : (f : Form) (c : ℕ) → canonical_combining_class c ≡ 0 → quick_check (kit_form f) c ≢ No → BeginsInStarter ucd (row_of f ucd c)
+  unfolding ucd unicode_normalization
+  row_of_starter Nfkc c none may =
       begins_in_starter ucd (ucd.compat c) (IsSound-from_test ucd c (sound c)).compat_some (starters c none (no_vowel_sign Nfkc c may) (not_among Nfkc c may halfwidth_marks refl))
-  row_of_starter Nfkd c none starts may =
+  row_of_starter Nfkd c none may =
       begins_in_starter ucd (ucd.compat c) (IsSound-from_test ucd c (sound c)).compat_some (starters c none (no_vowel_sign Nfkd c may) (not_among Nfkd c may halfwidth_marks refl))
-  row_of_starter f c none starts may =
+  row_of_starter f c none may =
       let own = IsSound-from_test ucd c (sound c) in
       elim (cases_Bool (is_among halfwidth_marks c)) [
-        | inl among ↦ record { first = c; rest = []; text = halfwidth c among; starter = starts }
+        | inl among ↦ record { first = c; rest = []; text = halfwidth c among; starter = grind (arith, nat_tests) }
         | inr other ↦ begins_in_starter ucd (ucd.canonical c) own.canonical_some (omega (arith, own.lead_within, starters c none (no_vowel_sign f c may) other))
       ]
 
@@ -44,8 +43,8 @@ module _ (sound : (c : ℕ) → IsTrue (is_sound ucd c))
   unfolding ucd
   row_from f c may =
       elim (cases_Bool (is_starter ucd c)) [
-        | inl starts ↦ inl (row_of_starter f c (eqb-true (canonical_combining_class c) 0 starts) starts may)
-        | inr mark ↦ inr (row-mark ucd f c (canonical_combining_class c) (marks f c (pos_of_ne-zero (eqb-false (canonical_combining_class c) 0 mark)) may), mark)
+        | inl starts ↦ inl (row_of_starter f c (grind (arith, nat_tests)) may)
+        | inr mark ↦ inr (row-mark ucd f c (canonical_combining_class c) (marks f c (grind (arith, nat_tests)) may), mark)
       ]
 
   -- ---- a composite's row is longer than that of its first part

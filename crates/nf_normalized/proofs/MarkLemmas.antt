@@ -1,5 +1,5 @@
 -- A mark more behind a text, over any character data: where it stands in the form, and what the form was without it.
-use Rattle.nf_normalized.proofs.Common.{◌⊎◌, ◌≡◌, nat_tests, list_all-append, ℕ, ◌<◌, Bool, true, false, not, ◌==◌, List, [], ◌∷◌, ◌++◌, length, refl, sym, ap, ◌∙◌, arith, pos_of_ne-zero, inl, inr, append-nil, append_assoc, cases_Bool, or_parts, or_from, eqb-false, length-append, list_all, fold, Properties, is_starter, has_starter, by_class, order, is_blocked, joined, join, compose_step, last_starter, marks_push, IsCut, cut, order-behind, by_class-push, has_starter-by_class, compose_step-at, compose-behind, fold-none, joined-some, joined-starter}
+use Rattle.nf_normalized.proofs.Common.{◌⊎◌, ◌≡◌, nat_tests, list_all-append, ℕ, ◌<◌, Bool, true, false, not, ◌==◌, List, [], ◌∷◌, ◌++◌, length, refl, sym, ap, ◌∙◌, arith, inl, inr, append-nil, append_assoc, cases_Bool, or_parts, or_from, length-append, list_all, fold, Properties, is_starter, has_starter, by_class, order, is_blocked, joined, join, compose_step, last_starter, marks_push, cut, order-behind, by_class-push, has_starter-by_class, compose_step-at, compose-behind, fold-none, joined-some, joined-starter}
 use Rattle.unicode_normalization.proofs.ComposeLemmas.{cases_Option}
 use Rattle.nf_forms.specs.Laws.Runs.{has_starter-append}
 use Rattle.nf_forms.specs.Laws.MarkBehind.{all_above, placed, is_ordered-by_class, lands}
@@ -26,21 +26,19 @@ module _ (p : Properties) where
     pub above : all_above p (p.class c) tail ≡ true
 
   pub inserted : (w : List ℕ) (c : ℕ) → is_starter p c ≡ false → Inserted w c
-  inserted w c mark = at (cut p w)
-    where
-      at : IsCut p w → Inserted w c
-      at r =
-          let run = by_class p r.run in
-          let marks = has_starter-by_class p r.run in
-          let l = placed p c run marks (is_ordered-by_class p r.run r.marks) in
-          record {
-            head = order p r.head ++ l.head;
-            tail = l.tail;
-            without = grind (arith, r, order-behind p r.head r.run, l.before, append_assoc);
-            with_c = grind (arith, r.text, append_assoc, order-behind p r.head (r.run ++ c ∷ []) r.ends, marks_push, by_class-push, mark, l.after);
-            marks = grind (arith, has_starter-append p l.head l.tail, l.before, marks, or_parts);
-            above = l.above;
-          }
+  inserted w c mark =
+      let r = cut p w in
+      let run = by_class p r.run in
+      let marks = has_starter-by_class p r.run in
+      let l = placed p c run marks (is_ordered-by_class p r.run r.marks) in
+      record {
+        head = order p r.head ++ l.head;
+        tail = l.tail;
+        without = grind (arith, r, order-behind p r.head r.run, l.before, append_assoc);
+        with_c = grind (arith, r.text, append_assoc, order-behind p r.head (r.run ++ c ∷ []) r.ends, marks_push, by_class-push, mark, l.after);
+        marks = grind (arith, has_starter-append p l.head l.tail, l.before, marks, or_parts);
+        above = l.above;
+      }
 
   -- two texts that differ by c alone, of which the longer one is y with c behind it
   pub same_front : (c : ℕ) (e q y z : List ℕ) → all_above p (p.class c) q ≡ true → z ≡ e ++ q → y ++ c ∷ [] ≡ e ++ c ∷ q → z ≡ y
@@ -85,7 +83,7 @@ module _ (p : Properties) where
               let starts = joined-starter p g.starter g.marks c made.0 made.1 in
               let group = compose-behind p g.before (made.0 ∷ g.marks) tail (record { starter = made.0; marks = g.marks; text = refl; starts = starts; no_starter = g.no_starter }) marks in
               let free = avoids-unblocked g.marks c (joined-some p g.starter g.marks c made.0 made.1).0 in
-              let r = avoiding (p.class c) (pos_of_ne-zero (eqb-false (p.class c) 0 mark)) made.0 g.marks tail starts free above in
+              let r = avoiding (p.class c) (grind (arith, nat_tests)) made.0 g.marks tail starts free above in
               absurd (grind (arith, nat_tests, list_all-append, behind g.before y c r.0 r.1, text, g.text, step, made.1, group, r.2, r.3))
         ]
   ]

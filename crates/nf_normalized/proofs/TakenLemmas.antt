@@ -1,5 +1,5 @@
 -- A text in a form, and what the form makes of it without its last character, over any character data.
-use Rattle.nf_normalized.proofs.Common.{◌≡◌, ℕ, ◌≤◌, ◌<◌, Bool, true, false, List, [], ◌∷◌, ◌++◌, length, flat_map, Option, Some, None, refl, arith, ◌⊎◌, inl, inr, append_assoc, cases_Bool, or_left, length-append, fold, Properties, is_starter, has_starter, order, composite, joined, replaced, compose_step, compose, arranged, EndsInGroup, last_starter, order_after-at, compose_step-at, compose_step-none, joined-some, joined-starter, joined-behind_marks, BeginsInStarter}
+use Rattle.nf_normalized.proofs.Common.{◌≡◌, ℕ, ◌≤◌, ◌<◌, Bool, true, false, List, [], ◌∷◌, ◌++◌, length, flat_map, Option, Some, None, refl, arith, ◌⊎◌, inl, inr, append_assoc, cases_Bool, or_left, length-append, fold, Properties, is_starter, has_starter, order, composite, joined, replaced, compose_step, compose, arranged, last_starter, order_after-at, compose_step-at, compose_step-none, joined-some, joined-starter, joined-behind_marks, BeginsInStarter}
 use Rattle.std.proofs.lemmas.Grind.{flat_map-append}
 use Rattle.std.proofs.lemmas.List.Sums.{fold-append}
 use Rattle.nf_forms.specs.Laws.Parting.{step-behind, fold-behind}
@@ -28,14 +28,18 @@ module _ (p : Properties) where
             | inl stays ↦ rw (compose_step-at p [] d m c starts none, stays) (first_of d (m ++ c ∷ []) v starts)
             | inr made ↦
                 let more = first_of made.0 m v (joined-starter p d m c made.0 made.1) in
-                let longer_row = longer d c made.0 (joined-some p d m c made.0 made.1).1 in
-                (more.0, more.1, rw (compose_step-at p [] d m c starts none, made.1) more.2, omega (arith, longer_row, more.3))
+                (more.0, more.1, rw (compose_step-at p [] d m c starts none, made.1) more.2, omega (arith, longer d c made.0 (joined-some p d m c made.0 made.1).1, more.3))
           ]
         ]
 
     -- z is y, where with a starter and more behind it is composed to y and c
     starter_taken : (z y : List ℕ) (c s : ℕ) (v : List ℕ) → is_starter p s ≡ true → size z ≡ size y → fold (compose_step p) z (s ∷ v) ≡ y ++ c ∷ [] → z ≡ y
-    starter_taken z y c s v starts same text = elim (cases_Bool (has_starter p z)) [ inl begun ↦ at (last_starter p z begun) | inr none ↦ apart (compose_step-none p z s none) ]
+    starter_taken z y c s v starts same text = elim (cases_Bool (has_starter p z)) [
+      | inl begun ↦
+          let g = last_starter p z begun in
+          next g.before g.starter g.marks (joined p g.starter g.marks s) g.text refl (cc (compose_step-at p g.before g.starter g.marks s g.starts g.no_starter))
+      | inr none ↦ apart (compose_step-none p z s none)
+    ]
       where
         -- behind a front e that stays y ends, or goes on with d or what d became
         goes_on : (e : List ℕ) (d : ℕ) → is_starter p d ≡ true → compose_step p z s ≡ e ++ d ∷ [] → (y ≡ e) ⊎ ((a : ℕ) × (more : List ℕ) × (y ≡ e ++ a ∷ more) × (length (row d) ≤ length (row a)))
@@ -53,9 +57,6 @@ module _ (p : Properties) where
             let above = longer t s d (joined-some p t [] s d is).1 in
             grind (arith, goes_on e d (joined-starter p t [] s d is) step, above, some t, same, whole, flat_map-append, length-append)
         next e t (x ∷ m) (Some d) whole is step = cc (joined-behind_marks p t x m s starts)
-
-        at : EndsInGroup p z → z ≡ y
-        at g = next g.before g.starter g.marks (joined p g.starter g.marks s) g.text refl (cc (compose_step-at p g.before g.starter g.marks s g.starts g.no_starter))
 
     -- ---- the last character taken away
 

@@ -1,18 +1,18 @@
-use Rattle.nf_normalized.proofs.Common.{ap, length, ◌≡◌, ◌+◌, ◌<◌, ◌^◌, text_of, first_text, chars, encodes-append, length-append, length-le-encodes, arith, [], ◌++◌}
-use Rattle.nf_normalized.proofs.BytesLemmas.{bad_piece, two_pieces}
+use Rattle.nf_normalized.proofs.Common.{ap, length, ◌≡◌, ◌+◌, ◌<◌, ◌^◌, text_of, first_text, chars, encodes-append, length-append, length-le-encodes, append_assoc, arith, [], ◌++◌}
+use Rattle.nf_filter.proofs.ReadingLemmas.{text_of-none}
 use Rattle.nf_normalized.proofs.counting.text_in.Goals as goal
 use Rattle.nf_normalized.proofs.counting.text_in.Goals.{After-counted-behind}
 
 pub returns-in-Bad : goal.returns-in-Bad
-returns-in-Bad c =
-    grind (arith, bad_piece c.pieces.ensures c.args.first.now c.args.second.now c.take-chunk.result.end c.in-Bad.is (c.take-chunk.ensures.takes [] c.new-decoder.ensures))
+returns-in-Bad c = grind (arith, c.pieces.ensures.bad_text c.args.first.now c.args.second.now, c.take-chunk.ensures.takes [] c.new-decoder.ensures, text_of-none)
 
 -- what both read
 read : (c : After-counted-behind) → text_of (c.args.first.now ++ c.args.second.now)
     ≡ (first_text c.take-chunk.result.first ++ chars c.take-chunk.result.text.now) ++ (first_text c.take.result.first ++ chars c.take.result.text.now)
 read c =
     let before = c.new-decoder.ensures in
-    two_pieces c.pieces.ensures c.args.first.now c.args.second.now c.take-chunk.result.end c.in_default.not-Bad (c.take-chunk.ensures.takes [] before) (c.take-chunk.ensures.stands [] before) c.take.ensures.takes
+    let behind = (c.take.ensures.takes _ (c.take-chunk.ensures.stands [] before)).spelled in
+    grind (arith, behind, c.take-chunk.ensures.takes [] before, c.in_default.not-Bad, text_of-none, append_assoc)
 
 -- they are no more bytes than were given
 fits : (c : After-counted-behind) → c.counted-front.result.bytes + c.counted-behind.result.bytes < 2 ^ 64
