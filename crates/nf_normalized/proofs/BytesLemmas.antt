@@ -10,10 +10,6 @@ pub record Known : Type 0 where
   pub pieces : ReadsPieces
   pub once : (f : Form) → ChangesOnce f ucd
 
--- a front that is no shorter is all
-pub front_all : (x y z : List ℕ) → x ++ y ≡ z → length x ≡ length z → x ≡ z
-front_all x y z e same = grind (arith, common_steps, append-nil)
-
 -- ---- two texts that go on otherwise
 
 -- two texts begin with `same`, and have no more in common
@@ -56,6 +52,5 @@ module _ (known : Known) where
       record {
         shares = grind (arith, count, x_is, take_at);
         other = λ same.
-            let all = front_all (text_of m) (text_of (rest_of m ++ b ∷ t)) s (sym s_is) in
-            grind (arith, same, take-append-drop (length s) x, common-front, count, all, ap length is, ap length (known.split.split m), length-append);
+            grind (arith, common_steps, same, take-append-drop (length s) x, common-front, count, s_is, ap length is, ap length (known.split.split m), length-append, encodes-append);
       }

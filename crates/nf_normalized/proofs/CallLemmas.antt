@@ -1,23 +1,17 @@
 -- What a call of a filter tells of a text, by what it wrote to a sink that compares.
-use Rattle.nf_normalized.proofs.Common.{take-append-drop, append_assoc, append-nil, common_steps, bytes_eq-Decides, ◌≡◌, ℕ, ◌+◌, ◌<◌, ◌^◌, Bool, true, false, List, ◌++◌, length, take, IsTrue, sym, ap, ◌∙◌, arith, length-append, Some, None, is_some, option_map, encode_utf8_all, encodes-append, Result, Ok, Err, result_err, false_from_ne_true, take_at, encodes_same, length-le-encodes, take-length, ucd, Form, safe_form, IsText, Ending, Whole, Bad, CutOff, text_of, EndsAs, Place, place_at, Fault, Write, Row, fault_in, answer_at_end, bad_byte, whole_or, is_spent, IsAmong, Comparing, same, left, HasRoom, IsBehind, under, made_of, common, change_at, form_value, form_decision, HoldsSome, filter_state, IsOfPiece}
+use Rattle.nf_normalized.proofs.Common.{take-append-drop, append_assoc, append-nil, common_steps, bytes_eq-Decides, ◌≡◌, ℕ, ◌+◌, ◌<◌, ◌^◌, Bool, true, false, List, ◌++◌, length, take, sym, ap, ◌∙◌, arith, length-append, Some, None, is_some, option_map, encode_utf8_all, encodes-append, Result, Ok, Err, result_err, take_at, encodes_same, length-le-encodes, take-length, ucd, Form, safe_form, IsText, Ending, Whole, Bad, CutOff, text_of, EndsAs, Place, place_at, Fault, Write, Row, fault_in, answer_at_end, bad_byte, whole_or, IsAmong, Comparing, same, left, HasRoom, IsBehind, under, made_of, common, change_at, form_value, form_decision, IsOfPiece}
 use Rattle.nf_filter.specs.declared.tally.Tally.{Tally}
 use Rattle.nf_filter.specs.Faults.{IsOfFeeding}
 use Rattle.nf_filter.specs.Laws.Soundness.{AreSound}
 use Rattle.nf_filter.proofs.SoundnessLemmas.{not_a_fault}
-use Rattle.nf_normalized.specs.declared.checker.FormChecker.{FormChecker}
 use Rattle.nf_normalized.proofs.BytesLemmas.{Known, Shares, departs, text_of-encodes}
 use Rattle.nf_normalized.proofs.CommonLemmas.{common-front}
-use Rattle.nf_normalized.proofs.ComparingLemmas.{none_is}
 use Rattle.nf_normalized.proofs.WroteLemmas.{Wrote, gave, other_written, unfailed, all_written}
 use Rattle.nf_normalized.proofs.CheckerLemmas.{written, written_is, is_text, behind, unparted}
 
 -- a fault is of some kinds where it cannot be of none
 pub stable : (kinds : List ℕ) (fault : Fault) → ((IsAmong kinds fault → ⊥) → ⊥) → IsAmong kinds fault
 stable kinds fault not_out = grind arith
-
--- where no call was refused, some bytes were taken
-pub holds_some : (checker : FormChecker) → is_some checker.place ≡ false → (IsTrue (is_spent (filter_state checker)) → ⊥) → ∥ HoldsSome (filter_state checker) checker.held.items ∥₁
-holds_some checker none unspent = checker.holds (none_is checker.place none) (false_from_ne_true _ unspent)
 
 -- a filter that took `bytes`, so many characters up to this offset, and wrote all of them but `held`, wrote on by the call r, with which
 -- `all` is taken, of what was then due; it tells more where the sink did not fail

@@ -57,10 +57,6 @@ module _ (sound : AreSound ucd) where
 -- ---- where a filter stands
 
 module _ (known : Known) {assigned : Bool} {f : Form} {state : State} {held bytes : List ℕ} (holds : Holds assigned f state held bytes) where
-  -- what was read decides nothing so far
-  pub undecided : form_decision assigned f (base_of state) bytes ≡ None
-  undecided = grind (arith, unparted known assigned f bytes (base_of state) held holds.split, holds.filter.no_fault)
-
   -- little is held
   pub held_few : ReadsLongestText → ReplacesParts → AreSound ucd → ((f : Form) (x u : List ℕ) → x ≡ settled f ucd x ++ u → length u ≤ 78) → length held ≤ 315
   held_few longest replacing sound kept =

@@ -31,10 +31,6 @@ module _ (sound : (c : ℕ) → IsTrue (is_sound ucd c)) (f : Form) where
     pub length-form_of : (y : List ℕ) → length (decomposed f ucd (normal_form f ucd y)) ≡ length (decomposed f ucd y)
     length-form_of y = grind (arith, twice f Nfd y, twice f Nfkd y, length-order)
 
-    pub length-form : (x : List ℕ) → length (decomposed f ucd (safe_form f ucd x)) ≡ length (decomposed f ucd (stream_safe ucd x))
-    unfolding safe_form
-    length-form x = length-form_of (stream_safe ucd x)
-
     -- ---- what is not settled
 
     module _ (is_mark : (c : ℕ) → 0 < canonical_combining_class c → is_among mapped_marks c ≡ false → IsMark ucd c (canonical_combining_class c)) where
@@ -60,8 +56,8 @@ module _ (sound : (c : ℕ) → IsTrue (is_sound ucd c)) (f : Form) where
 
       module _ (texts : (x : List ℕ) → IsSoundText ucd x) (held_back : LittleIsHeldBack) where
         pub kept_short : (x u : List ℕ) → x ≡ settled f ucd x ++ u → length u ≤ 78
-        unfolding settled is_usable
+        unfolding settled is_usable safe_form
         kept_short x u split =
             let form = safe_form f ucd x in
             let few : length (back ucd form) ≤ 31 = grind (arith, held_back f ucd x (texts (stream_safe ucd x)), front-append-back ucd form, length-append) in
-            grind (arith, back_short form few, length-decomposed u, length-stream_safe x, length-form x, split, decomposed-append, length-append, front-append-back ucd form)
+            grind (arith, back_short form few, length-decomposed u, length-stream_safe x, length-form_of (stream_safe ucd x), split, decomposed-append, length-append, front-append-back ucd form)

@@ -36,6 +36,4 @@ module _ {old new : Comparing} {before due : List ℕ} {T : Type 0} {r : Result 
     unfailed e = grind (arith, new.failed_behind, w.broken e)
 
     pub all_written : due ≡ before ++ same new
-    all_written =
-        let p = w.puts unfailed in
-        grind (arith, p.behind, told p.out p.given, none_is, append-nil)
+    all_written = grind (arith, w.puts unfailed, told (w.puts unfailed).out, none_is, append-nil)

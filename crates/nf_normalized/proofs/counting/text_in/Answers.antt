@@ -19,7 +19,7 @@ fits : (c : After-counted-behind) → c.counted-front.result.bytes + c.counted-b
 fits c = grind (arith, read c, ap length (c.split.ensures.split (c.args.first.now ++ c.args.second.now)), encodes-append, length-append)
 
 pub overflow_add-result : goal.overflow_add-result
-overflow_add-result c = let few = fits (goal.at.overflow_add-result c).After-counted-behind in grind (arith, length-le-encodes)
+overflow_add-result c = grind (arith, fits (goal.at.overflow_add-result c).After-counted-behind, length-le-encodes)
 
 pub overflow_add-result-2 : goal.overflow_add-result-2
 overflow_add-result-2 c = omega (arith, fits (goal.at.overflow_add-result-2 c).After-counted-behind)

@@ -1,6 +1,6 @@
-use Rattle.nf_normalized.proofs.Common.{append_assoc, [], ◌∷◌, ◌⊎◌, ◌≡◌, ◌<◌, ◌+◌, ◌++◌, ◌^◌, Bool, false, ℕ, List, IsTrue, inl, inr, length, sym, ◌∙◌, arith, is_some, Ok, Err, length-append, false_from_ne_true, ∥∥₁_elim, ∥∥₁_map, le_prop, result_err, ucd, Form, fault_in, state_of, base_of, is_spent, offset_of, spent, too_long, ill_formed, unassigned, TooLong, under, filter_state, left, Holds, StandsAfter-offset}
+use Rattle.nf_normalized.proofs.Common.{append_assoc, [], ◌∷◌, ◌⊎◌, ◌≡◌, ◌<◌, ◌+◌, ◌++◌, ◌^◌, Bool, false, ℕ, List, IsTrue, inr, length, sym, ◌∙◌, arith, is_some, Ok, Err, length-append, false_from_ne_true, ∥∥₁_elim, ∥∥₁_map, le_prop, result_err, ucd, Form, fault_in, state_of, base_of, is_spent, offset_of, spent, too_long, ill_formed, unassigned, TooLong, under, filter_state, left, Holds, StandsAfter-offset}
 use Rattle.nf_normalized.proofs.CheckerLemmas.{written, held_few}
-use Rattle.nf_normalized.proofs.CallLemmas.{stable, holds_some, room, Call, piece_kinds, parted_decides, split_now, unparted_decides}
+use Rattle.nf_normalized.proofs.CallLemmas.{stable, room, Call, piece_kinds, parted_decides, split_now, unparted_decides}
 use Rattle.nf_normalized.proofs.checker.FormChecker.feed.Goals as goal
 use Rattle.nf_normalized.proofs.checker.FormChecker.feed.Goals.{After-feed-fed}
 
@@ -31,7 +31,7 @@ place_behind-requires c =
     let at = (goal.at.place_behind-requires c).After-feed-fed in
     let refused : (IsTrue (is_spent (filter_state c.args.self.now)) ⊎ (c.feed-fed.result ≡ Err TooLong)) → ⊥ = λ is. grind (arith, c.feed-fed.ensures.kept is) in
     let fits : offset_of (filter_state c.args.self.now) + length c.args.piece.now < 2 ^ 64 = grind (arith, refused, c.feed-fed.ensures.too_long, false_from_ne_true) in
-    ∥∥₁_elim (holds_some c.args.self.now (cc) (λ ended. refused (inl ended))) (hlevel le_prop)
+    ∥∥₁_elim (c.args.self.now.holds (grind arith) (grind (arith, refused))) (hlevel le_prop)
     (λ h. room (seen at h.holds (λ long. refused (inr long))) (omega (arith, fits, StandsAfter-offset h.holds.filter, length-append h.bytes c.args.piece.now)))
 
 pub returns-then-has_parted-clause-decides : goal.returns-then-has_parted-clause-decides
@@ -43,7 +43,7 @@ pub returns-in-Err-clause-faults : goal.returns-in-Err-clause-faults
 returns-in-Err-clause-faults c =
     let at = (goal.at.returns-in-Err-clause-faults c).After-feed-fed in
     stable (spent ∷ too_long ∷ ill_formed ∷ unassigned ∷ []) c.in-Err.fault (λ out.
-    ∥∥₁_elim (holds_some c.args.self.now (cc) (λ ended. out (grind (arith, c.feed-fed.ensures.spent))))
+    ∥∥₁_elim (c.args.self.now.holds (grind arith) (grind (arith, out, c.feed-fed.ensures.spent)))
     (λ x y. absurd x) (λ h. out (piece_kinds (seen at h.holds (λ long. out (grind arith))) (cc)
     c.every_character_is_sound.ensures.character c.in-Err.fault c.in-Err.ensures.faults c.in-Err.is)))
 
@@ -55,7 +55,7 @@ returns-in-Err-clause-decides c = λ assigned f base bytes stands other.
 pub joined-self-requires : goal.joined-self-requires
 joined-self-requires c =
     let at = (goal.at.joined-self-requires c).After-feed-fed in
-    let few = ∥∥₁_elim (holds_some c.args.self.now (cc) (λ ended. cc (c.feed-fed.ensures.spent.1 ended))) le_prop (λ h.
+    let few = ∥∥₁_elim (c.args.self.now.holds (grind arith) (grind (arith, c.feed-fed.ensures.spent))) le_prop (λ h.
     held_few (seen at h.holds (λ e. cc)).known (holds_now at h.holds (cc) c.in_default.is)
     c.longest_text.ensures c.replacing.ensures c.every_character_is_sound.ensures.character c.little_is_kept.ensures) in
     grind (arith, few, length-append, c.left.ensures.left)
@@ -63,7 +63,7 @@ joined-self-requires c =
 pub invariant_of-self-2 : goal.invariant_of-self-2
 invariant_of-self-2 c = record {
   holds = λ _ _.
-      ∥∥₁_map (holds_some c.args.self.now (cc) (λ ended. cc (c.in_default.is, c.feed-fed.ensures.spent.1 ended))) (λ h.
+      ∥∥₁_map (c.args.self.now.holds (grind arith) (grind (arith, c.feed-fed.ensures.spent))) (λ h.
       let holds = holds_now (goal.at.invariant_of-self-2 c).After-feed-fed h.holds (cc) c.in_default.is in
       record { assigned = _; form = _; bytes = _; holds = rw (← c.left.ensures.left, ← c.joined-self.ensures) at holds });
 }

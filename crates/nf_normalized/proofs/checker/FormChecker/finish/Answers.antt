@@ -1,7 +1,7 @@
 use Rattle.nf_normalized.proofs.Common.{refl, nat_tests, [], ◌∷◌, ◌≡◌, Bool, false, ℕ, List, sym, ◌∙◌, arith, append_assoc, append-nil, ∥∥₁_elim, le_prop, ucd, Form, ending_of, answer_at_end, base_of, final_utf8, end_of, tally_of, spent, under, filter_state, Holds, StandsAfter-offset}
 use Rattle.nf_filter.specs.Kinds.{cut}
 use Rattle.nf_normalized.proofs.CheckerLemmas.{no_fault_parts}
-use Rattle.nf_normalized.proofs.CallLemmas.{stable, holds_some, room, Call, told, Due, done_end, short_end, parted_end}
+use Rattle.nf_normalized.proofs.CallLemmas.{stable, room, Call, told, Due, done_end, short_end, parted_end}
 use Rattle.nf_normalized.proofs.checker.FormChecker.finish.Goals as goal
 use Rattle.nf_normalized.proofs.checker.FormChecker.finish.Goals.{After-finish-finished, then-not-has_parted+in_default+else-is_at_end, else-not-has_parted}
 
@@ -31,7 +31,7 @@ pub returns-in-Err-clause-faults : goal.returns-in-Err-clause-faults
 returns-in-Err-clause-faults c =
     let at = (goal.at.returns-in-Err-clause-faults c).After-finish-finished in
     stable (spent ∷ cut ∷ []) c.in-Err.fault (λ out.
-    ∥∥₁_elim (holds_some c.args.self (cc) (λ ended. out (grind (arith, c.finish-finished.ensures.spent))))
+    ∥∥₁_elim (c.args.self.holds (grind arith) (grind (arith, out, c.finish-finished.ensures.spent)))
     (λ x y. absurd x) (λ h. out (grind (arith, c.in-Err.is, told (seen at h.holds) (cc)))))
 
 pub returns-in-Err-clause-decides : goal.returns-in-Err-clause-decides
@@ -47,7 +47,7 @@ returns-then-is_at_end-clause-decides c = λ assigned f base bytes stands.
 pub place_behind-requires : goal.place_behind-requires
 place_behind-requires c =
     let at = (goal.at.place_behind-requires c).After-finish-finished in
-    ∥∥₁_elim (holds_some c.args.self (cc) (λ ended. grind (arith, c.finish-finished.ensures.kept ended, c.finish-finished.ensures.spent))) (hlevel le_prop)
+    ∥∥₁_elim (c.args.self.holds (grind arith) (grind (arith, c.finish-finished.ensures.kept, c.finish-finished.ensures.spent))) (hlevel le_prop)
     (λ h. room (seen at h.holds) (omega (arith, StandsAfter-offset h.holds.filter, c.offset-offset.ensures, c.offset-offset.type_inv)))
 
 pub returns-clause-decides : goal.returns-clause-decides

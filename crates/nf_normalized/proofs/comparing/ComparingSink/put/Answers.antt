@@ -1,17 +1,12 @@
-use Rattle.nf_normalized.proofs.Common.{◌+◌, ◌≤◌, append-nil, append_assoc, common_steps, length, length-append, length-drop, take-add, take-append-le, ap, arith}
+use Rattle.nf_normalized.proofs.Common.{append-nil, append_assoc, common_steps, length, length-append, length-drop, take-add, take-append-le, ap, arith}
 use Rattle.nf_normalized.proofs.CommonLemmas.{common-le-left, common-le-right, common-none, take-common}
 use Rattle.nf_normalized.proofs.comparing.ComparingSink.put.Goals as goal
-use Rattle.nf_normalized.proofs.comparing.ComparingSink.put.Goals.{After-common_len-len}
-
--- so many more are as expected
-has : (c : After-common_len-len) → c.args.self.now.count + c.common_len-len.result ≤ length c.args.self.now.first.now + length c.args.self.now.second.now
-has c = grind (arith, ap length c.next.ensures.front.1, length-append, length-drop, common-le-left)
 
 pub overflow_add-self : goal.overflow_add-self
-overflow_add-self c = omega (arith, has (goal.at.overflow_add-self c).After-common_len-len, c.next.ensures.fits)
+overflow_add-self c = grind (arith, ap length c.next.ensures.front.1, length-append, length-drop, common-le-left)
 
 pub invariant_of-self-then-len-gt0 : goal.invariant_of-self-then-len-gt0
-invariant_of-self-then-len-gt0 c = grind (arith, has (goal.at.invariant_of-self-then-len-gt0 c).After-common_len-len)
+invariant_of-self-then-len-gt0 c = grind (arith, ap length c.next.ensures.front.1, length-append, length-drop, common-le-left)
 
 pub returns-then-len-gt0-clause-count : goal.returns-then-len-gt0-clause-count
 returns-then-len-gt0-clause-count c = grind (arith, common-le-right)
