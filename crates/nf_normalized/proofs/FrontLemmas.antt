@@ -66,7 +66,7 @@ module _ (sound : (c : ℕ) → IsTrue (is_sound ucd c))
     form-last_taken f y c same =
         let may : quick_check (kit_form f) c ≢ No = λ no. quick_check_text-No (kit_form f) _ (grind (arith, worst-last (kit_form f) y c no)) (sym (kit f _) ∙ same) in
         last_taken ucd (row_of f ucd) (some_of sound f) (longer f) (composes f) (decomposed f ucd y) y c (row_from f c may) (length-form_of sound f twice y)
-        (ap (finished f ucd) (sym (decomposed-push ucd f y c)) ∙ same)
+        (rw decomposed-push at same)
 
     form-front : (f : Form) (x y : List ℕ) → normal_form f ucd (x ++ y) ≡ x ++ y → normal_form f ucd x ≡ x
     form-front f x = by_last (λ y. normal_form f ucd (x ++ y) ≡ x ++ y → normal_form f ucd x ≡ x) (λ same. rw append-nil at same)
@@ -80,4 +80,4 @@ module _ (sound : (c : ℕ) → IsTrue (is_sound ucd c))
       front_in_form f x y same =
           let whole : stream_safe ucd (x ++ y) ≡ x ++ y = grind (arith, same, safe f (x ++ y)) in
           let front = rw (take_at x y (length x) refl) at (in_format (x ++ y) (length x) ((unchanged (x ++ y) (texts (x ++ y))).0 whole)) in
-          ap (normal_form f ucd) ((unchanged x (texts x)).1 front) ∙ form-front f x y (ap (normal_form f ucd) (sym whole) ∙ same)
+          rw ((unchanged x (texts x)).1 front) (form-front f x y (rw whole at same))

@@ -1,4 +1,4 @@
-use Rattle.nf_normalized.proofs.Common.{[], ◌∙◌, refl, arith, append-nil, state_of, under, ucd, Holds}
+use Rattle.nf_normalized.proofs.Common.{[], ◌∙◌, refl, arith, append-nil, state_of, Holds}
 use Rattle.nf_filter.specs.Laws.Settled.{settled_utf8-none}
 use Rattle.nf_normalized.proofs.CheckerLemmas.{unparted}
 use Rattle.nf_normalized.proofs.BytesLemmas.{Known}
@@ -9,7 +9,7 @@ use Rattle.nf_normalized.proofs.checker.FormChecker.new.Goals.{After-new}
 holds : (c : After-new) → Holds c.args.assigned c.args.form (state_of c.policy-filter.result) c.new.result.items []
 holds c = record {
   filter = c.policy-filter.ensures.stands _ c.args.form [] c.quickest.ensures.stands;
-  split = grind (arith, settled_utf8-none (under c.args.assigned) c.args.form ucd, append-nil, c.new.ensures);
+  split = grind (arith, settled_utf8-none, append-nil);
 }
 
 pub invariant_of-result : goal.invariant_of-result
