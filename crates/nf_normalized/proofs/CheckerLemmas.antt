@@ -40,31 +40,27 @@ module _ (known : Known) (assigned : Bool) (f : Form) (bytes : List ℕ) where
 
 -- ---- no fault
 
-module _ (sound : AreSound ucd) where
-  pub no_fault_parts : (assigned : Bool) (base : ℕ) (bytes : List ℕ) → fault_in (under assigned) ucd base bytes ≡ None
-      → (allowed assigned ucd (text_of bytes) ≡ text_of bytes) × (bad_byte base (ending_of bytes) ≡ None)
-  unfolding fault_in
-  no_fault_parts assigned base bytes none =
-      let all = (taken_whole ucd assigned (text_of bytes) (taken ucd assigned _ (text_of bytes) _ none)).1 in
-      (all, sym (first_fault-none ucd assigned _ (text_of bytes) _ (usable_is ucd sound (text_of bytes)) all) ∙ none)
-
-  -- less than a character stands behind the text
-  pub rest_few : (assigned : Bool) (base : ℕ) (bytes : List ℕ) → fault_in (under assigned) ucd base bytes ≡ None → ReadsLongestText → ReplacesParts
-      → length bytes ≤ length (encode_utf8_all (text_of bytes)) + 3
-  rest_few assigned base bytes none longest replacing =
-      grind (arith, no_fault_parts assigned base bytes none, (longest.reads bytes).end, replacing.few bytes, replacing.begun bytes, replacing.own_len (text_of bytes))
+pub no_fault_parts : AreSound ucd → (assigned : Bool) (base : ℕ) (bytes : List ℕ) → fault_in (under assigned) ucd base bytes ≡ None
+    → (allowed assigned ucd (text_of bytes) ≡ text_of bytes) × (bad_byte base (ending_of bytes) ≡ None)
+unfolding fault_in
+no_fault_parts sound assigned base bytes none =
+    let all = (taken_whole ucd assigned (text_of bytes) (taken ucd assigned _ (text_of bytes) _ none)).1 in
+    (all, sym (first_fault-none ucd assigned _ (text_of bytes) _ (usable_is ucd sound (text_of bytes)) all) ∙ none)
 
 -- ---- where a filter stands
 
-module _ (known : Known) {assigned : Bool} {f : Form} {state : State} {held bytes : List ℕ} (holds : Holds assigned f state held bytes) where
-  -- little is held
-  pub held_few : ReadsLongestText → ReplacesParts → AreSound ucd → ((f : Form) (x u : List ℕ) → x ≡ settled f ucd x ++ u → length u ≤ 78) → length held ≤ 315
-  held_few longest replacing sound kept =
-      let few = rest_few sound assigned (base_of state) bytes holds.filter.no_fault longest replacing in
-      let all = taken-all ucd assigned (text_of bytes) (usable_is ucd sound (text_of bytes)) (no_fault_parts sound assigned _ bytes holds.filter.no_fault).0 in
-      let text = ap text_of holds.split ∙ behind known assigned f bytes held in
-      grind (arith, kept f (text_of bytes) (text_of held), text, all, few, ap length holds.split, encodes-append, written_is, length-append, four (text_of held))
-    where
-      four : (x : List ℕ) → length (encode_utf8_all x) ≤ 4 * length x
-      four [] = omega arith
-      four (c ∷ x) = grind (arith, length-append, length-encode, len_utf8_bounds, four x)
+-- little is held
+pub held_few : Known → {assigned : Bool} {f : Form} {state : State} {held bytes : List ℕ} → Holds assigned f state held bytes
+    → ReadsLongestText → ReplacesParts → AreSound ucd → ((f : Form) (x u : List ℕ) → x ≡ settled f ucd x ++ u → length u ≤ 78) → length held ≤ 315
+held_few known {assigned} {f} {state} {held} {bytes} holds longest replacing sound kept =
+    let parts = no_fault_parts sound assigned (base_of state) bytes holds.filter.no_fault in
+    let all = taken-all ucd assigned (text_of bytes) (usable_is ucd sound (text_of bytes)) parts.0 in
+    -- less than a character stands behind the text
+    let few : length bytes ≤ length (encode_utf8_all (text_of bytes)) + 3 =
+    grind (arith, parts, (longest.reads bytes).end, replacing.few bytes, replacing.begun bytes, replacing.own_len (text_of bytes)) in
+    let text = ap text_of holds.split ∙ behind known assigned f bytes held in
+    grind (arith, kept f (text_of bytes) (text_of held), text, all, few, ap length holds.split, encodes-append, written_is, length-append, four (text_of held))
+  where
+    four : (x : List ℕ) → length (encode_utf8_all x) ≤ 4 * length x
+    four [] = omega arith
+    four (c ∷ x) = grind (arith, length-append, length-encode, len_utf8_bounds, four x)

@@ -1,5 +1,5 @@
 -- Fronts of a text in a form, over Unicode's data.
-use Rattle.nf_normalized.proofs.Common.{nat_tests, ◌≡◌, ◌≢◌, ◌↔◌, ℕ, ◌<◌, false, List, [], ◌∷◌, ◌++◌, length, take, Some, refl, sym, ap, ◌∙◌, arith, inl, inr, IsTrue, append-nil, append_assoc, cases_Bool, length-append, take_at, canonical_combining_class, unicode_normalization, is_starter, lead, Form, Nfkc, Nfkd, composite, row_of, decomposed, composes, finished, normal_form, stream_safe, safe_form, is_sound, IsMark, ucd, by_last, row-mark, BeginsInStarter, begins_in_starter, IsSoundText, IsSound-from_test, decomposed-push, is_in_format, after, is_among, halfwidth_marks, vowel_signs}
+use Rattle.nf_normalized.proofs.Common.{nat_tests, ◌≡◌, ◌≢◌, ◌↔◌, ℕ, ◌<◌, false, List, [], ◌∷◌, ◌++◌, length, take, Some, refl, sym, ◌∙◌, arith, inl, inr, IsTrue, append-nil, append_assoc, cases_Bool, length-append, take_at, canonical_combining_class, unicode_normalization, is_starter, lead, Form, Nfkc, Nfkd, composite, row_of, decomposed, composes, normal_form, stream_safe, safe_form, is_sound, IsMark, ucd, by_last, row-mark, BeginsInStarter, begins_in_starter, IsSoundText, IsSound-from_test, decomposed-push, is_in_format, after, is_among, halfwidth_marks, vowel_signs}
 use Rattle.ucd_normal.specs.declared.forms.Form.{Form as KitForm}
 use Rattle.ucd_normal.specs.declared.forms.Form.TheVariants.{Nfd as KitNfd, Nfkd as KitNfkd}
 use Rattle.ucd_normal.specs.declared.forms.QuickCheck.TheVariants.{No}

@@ -3,7 +3,7 @@ use Rattle.nf_normalized.proofs.Common.{arith, ◌≡◌, inl, inr, ℕ, true, f
 use Rattle.std.specs.Io.KnownBytes.{Appends}
 use Rattle.nf_filter.specs.Writes.{Puts, BreaksOff}
 use Rattle.nf_filter.proofs.FilterLemmas.{write_or_kept}
-use Rattle.nf_normalized.proofs.ComparingLemmas.{none_is, preface-same}
+use Rattle.nf_normalized.proofs.ComparingLemmas.{preface-same}
 use Rattle.unicode_normalization.proofs.ComposeLemmas.{cases_Option}
 
 -- of what is due the front `before` was written, and the call r then wrote on, to a sink to which nothing was given
@@ -26,7 +26,7 @@ module _ {old new : Comparing} {before due : List ℕ} {T : Type 0} {r : Result 
   -- a byte was another, and that goes on what was written
   pub other_written : is_some new.other ≡ true → (b : ℕ) × (rest : List ℕ) × (goes_on_with b (left new) ≡ false) × (due ≡ (before ++ same new) ++ b ∷ rest)
   other_written is = elim (cases_Option new.other) [
-    | inl none ↦ absurd (grind arith)
+    | inl none ↦ cc
     | inr some ↦ (some.0, gave.0, new.other_is _ some.1, grind (arith, gave, append_assoc))
   ]
 
@@ -36,4 +36,4 @@ module _ {old new : Comparing} {before due : List ℕ} {T : Type 0} {r : Result 
     unfailed e = grind (arith, new.failed_behind, w.broken e)
 
     pub all_written : due ≡ before ++ same new
-    all_written = grind (arith, w.puts unfailed, told (w.puts unfailed).out, none_is, append-nil)
+    all_written = grind (arith, w.puts unfailed, told (w.puts unfailed).out, append-nil)

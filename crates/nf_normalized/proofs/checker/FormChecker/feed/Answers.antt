@@ -49,8 +49,7 @@ returns-in-Err-clause-faults c =
 
 pub returns-in-Err-clause-decides : goal.returns-in-Err-clause-decides
 returns-in-Err-clause-decides c = λ assigned f base bytes stands other.
-    let at = (goal.at.returns-in-Err-clause-decides c).After-feed-fed in
-    rw (← stands.base_is) (rw c.in-Err.is at (unparted_decides (seen at stands.holds (λ e. other (cc))) (cc)))
+    rw (← stands.base_is) (rw c.in-Err.is at (unparted_decides (seen (goal.at.returns-in-Err-clause-decides c).After-feed-fed stands.holds (λ e. other (cc))) (cc)))
 
 pub joined-self-requires : goal.joined-self-requires
 joined-self-requires c =
@@ -70,8 +69,7 @@ invariant_of-self-2 c = record {
 
 pub returns-clause-decides : goal.returns-clause-decides
 returns-clause-decides c = λ assigned f base bytes stands other.
-    let at = (goal.at.returns-clause-decides c).After-feed-fed in
-    rw (← stands.base_is) (rw c.in_default.is at (unparted_decides (seen at stands.holds (λ e. cc)) (cc)))
+    rw (← stands.base_is) (rw c.in_default.is at (unparted_decides (seen (goal.at.returns-clause-decides c).After-feed-fed stands.holds (λ e. cc)) (cc)))
 
 pub returns-clause-stands : goal.returns-clause-stands
 returns-clause-stands c = λ assigned f base bytes stands ok. record {

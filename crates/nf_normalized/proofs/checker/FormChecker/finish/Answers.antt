@@ -29,15 +29,13 @@ module _ (c : After-finish-finished) {assigned : Bool} {f : Form} {bytes : List 
 
 pub returns-in-Err-clause-faults : goal.returns-in-Err-clause-faults
 returns-in-Err-clause-faults c =
-    let at = (goal.at.returns-in-Err-clause-faults c).After-finish-finished in
     stable (spent ∷ cut ∷ []) c.in-Err.fault (λ out.
     ∥∥₁_elim (c.args.self.holds (grind arith) (grind (arith, out, c.finish-finished.ensures.spent)))
-    (λ x y. absurd x) (λ h. out (grind (arith, c.in-Err.is, told (seen at h.holds) (cc)))))
+    (λ x y. absurd x) (λ h. out (grind (arith, c.in-Err.is, told (seen (goal.at.returns-in-Err-clause-faults c).After-finish-finished h.holds) (cc)))))
 
 pub returns-in-Err-clause-decides : goal.returns-in-Err-clause-decides
 returns-in-Err-clause-decides c = λ assigned f base bytes stands.
-    let at = (goal.at.returns-in-Err-clause-decides c).After-finish-finished in
-    rw (← stands.base_is) (grind (arith, c.in-Err.is, told (seen at stands.holds) (cc)))
+    rw (← stands.base_is) (grind (arith, c.in-Err.is, told (seen (goal.at.returns-in-Err-clause-decides c).After-finish-finished stands.holds) (cc)))
 
 pub returns-then-is_at_end-clause-decides : goal.returns-then-is_at_end-clause-decides
 returns-then-is_at_end-clause-decides c = λ assigned f base bytes stands.
@@ -46,9 +44,8 @@ returns-then-is_at_end-clause-decides c = λ assigned f base bytes stands.
 
 pub place_behind-requires : goal.place_behind-requires
 place_behind-requires c =
-    let at = (goal.at.place_behind-requires c).After-finish-finished in
     ∥∥₁_elim (c.args.self.holds (grind arith) (grind (arith, c.finish-finished.ensures.kept, c.finish-finished.ensures.spent))) (hlevel le_prop)
-    (λ h. room (seen at h.holds) (omega (arith, StandsAfter-offset h.holds.filter, c.offset-offset.ensures, c.offset-offset.type_inv)))
+    (λ h. room (seen (goal.at.place_behind-requires c).After-finish-finished h.holds) (omega (arith, StandsAfter-offset h.holds.filter, c.offset-offset.ensures, c.offset-offset.type_inv)))
 
 pub returns-clause-decides : goal.returns-clause-decides
 returns-clause-decides c = λ assigned f base bytes stands.
