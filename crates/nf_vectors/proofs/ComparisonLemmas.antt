@@ -1,8 +1,7 @@
 -- Whether the sound front of a text leaves the Stream-Safe Text Format.
-use Rattle.nf_vectors.proofs.Common.{arith, ◌≡◌, ℕ, ◌+◌, ◌≤◌, ◌<◌, Bool, true, false, List, [], ◌∷◌, ◌++◌, length, take, drop, Option, Some, None, is_some, option_map, Result, Ok, refl, get_or, list_all, if◌then◌else◌, take_all, take_more, take-append-drop, Properties, is_sound, Place, place, place_from, leaves_format}
+use Rattle.nf_vectors.proofs.Common.{arith, ◌≡◌, ℕ, ◌+◌, ◌≤◌, ◌<◌, Bool, true, false, List, [], ◌∷◌, ◌++◌, length, take, drop, Option, Some, None, Result, Ok, refl, get_or, list_all, take_all, take_more, take-append-drop, Properties, is_sound, Place, place_from, leaves_format}
 use Rattle.nf_filter.specs.declared.fault.Fault.{Fault}
-use Rattle.nf_filter.specs.Checks.{sound_front, place_or_fault, text_decision}
-use Rattle.nf_safe.specs.Place.{place_at}
+use Rattle.nf_filter.specs.Checks.{text_decision}
 use Rattle.nf_filter.specs.Laws.Undecided.{no_stop}
 use Rattle.nf_filter.proofs.ChecksLemmas.{all_sound-push, stop_place, stop_row}
 
@@ -14,12 +13,7 @@ is_place _ = false
 module _ (p : Properties) (x : List ℕ) where
   leaves-by : leaves_format p x ≡ is_place (text_decision p 0 x)
   unfolding text_decision is_place
-  leaves-by = next (place p (sound_front p x)) (list_all (is_sound p) x) _
-    where
-      next : (o : Option ℕ) (b : Bool) (row : Fault) → is_some o ≡ is_place (place_or_fault (option_map (place_at 0 (sound_front p x)) o) (if b then None else Some row))
-      next (Some n) b row = refl
-      next None true row = refl
-      next None false row = refl
+  leaves-by = grind arith
 
   pub leaves-none : (i : ℕ) → length x ≤ i → list_all (is_sound p) (take i x) ≡ true → place_from 0 p (take i x) ≡ None → false ≡ leaves_format p x
   unfolding is_place

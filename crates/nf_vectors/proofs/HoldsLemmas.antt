@@ -1,5 +1,5 @@
 -- What the filter gives of a text to a sink that compares, and whether that is as expected.
-use Rattle.nf_vectors.proofs.Common.{◌≡◌, ℕ, Bool, true, false, ◌&&◌, List, [], Some, None, refl, arith, sym, ◌∙◌, subst, append-nil, bytes_eq, encode_utf8_all, IsUtf8, if◌then◌else◌, Result, Err, is_ok, ⊎_elim, and_right, false_from_ne_true, bytes_eq-Decides, encodes_same, Properties, Form, safe_form, is_usable, holds}
+use Rattle.nf_vectors.proofs.Common.{inl, inr, ◌≡◌, ℕ, true, ◌&&◌, List, [], None, refl, arith, sym, ◌∙◌, append-nil, bytes_eq, encode_utf8_all, IsUtf8, Result, is_ok, bytes_eq-Decides, encodes_same, Properties, Form, safe_form, is_usable, holds}
 use Rattle.std.proofs.Math.Seq.{take-append_seam}
 use Rattle.std.proofs.lemmas.List.{append_cancel_left}
 use Rattle.std.specs.Io.KnownBytes.{Appends}
@@ -10,12 +10,11 @@ use Rattle.nf_utf8.specs.Ending.{Whole}
 use Rattle.nf_utf8.specs.Reading.{text_of, ending_of}
 use Rattle.nf_utf8.specs.Laws.{ReadsBack}
 use Rattle.nf_filter.specs.declared.fault.Fault.{Fault}
-use Rattle.nf_filter.specs.declared.fault.Fault.TheVariants.{Row, Write}
 use Rattle.nf_filter.specs.declared.tally.Tally.{Tally}
-use Rattle.nf_filter.specs.Faults.{answer_at_end, bad_byte, fault_in}
+use Rattle.nf_filter.specs.Faults.{fault_in}
 use Rattle.nf_filter.specs.Policy.{as_is}
 use Rattle.nf_filter.specs.Finishes.{end_of}
-use Rattle.nf_filter.specs.Whole.{Converts, fault_or, whole_answer, whole_utf8}
+use Rattle.nf_filter.specs.Whole.{Converts, whole_answer, whole_utf8}
 use Rattle.nf_filter.proofs.FilterLemmas.{write_or_kept}
 use Rattle.nf_filter.proofs.WholeLemmas.{without, final_is}
 use Rattle.nf_vectors.specs.declared.comparing.Comparing.{Comparing}
@@ -27,7 +26,7 @@ encodes_eq x y = grind (arith, encodes_same, bytes_eq-Decides x y, bytes_eq-Deci
 
 module _ (reads : ReadsBack) (f : Form) (p : Properties) (bytes x e : List ℕ) (utf8 : IsUtf8 bytes) (is : bytes ≡ encode_utf8_all x) where
   text : IsText x
-  text = subst IsText (encodes_same utf8.0 x (utf8.1.1 ∙ is)) utf8.1.0
+  text = grind (arith, encodes_same utf8.0 x, utf8, is)
 
   text_is : text_of bytes ≡ x
   unfolding text_of chars utf8_valid_len
@@ -39,11 +38,7 @@ module _ (reads : ReadsBack) (f : Form) (p : Properties) (bytes x e : List ℕ) 
 
   answer_is : is_ok (whole_answer p bytes) ≡ is_usable p x
   unfolding whole_answer fault_in end_of
-  answer_is = rw (text_is, ending_is) (by (is_usable p x) _ _)
-    where
-      by : (b : Bool) (at : ℕ) (tally : Tally) → is_ok (fault_or (if b then bad_byte 0 Whole else Some (Row at)) (answer_at_end 0 tally Whole)) ≡ b
-      by true at tally = refl
-      by false at tally = refl
+  answer_is = grind (arith, text_is, ending_is)
 
   form_is : is_usable p x ≡ true → whole_utf8 f p bytes ≡ encode_utf8_all (safe_form f p x)
   unfolding fault_in
@@ -63,17 +58,14 @@ module _ (reads : ReadsBack) (f : Form) (p : Properties) (bytes x e : List ℕ) 
         (same ∙ expected, append_cancel_left old.expected.now (taken_by new) out (cc (append-nil old.expected.now)))
 
     pub holds-told : (r : Result Tally Fault) → Converts f p bytes (state_of old) (state_of new) r → (is_ok r && bytes_eq (taken_by new) new.expected.now) ≡ holds f p x e
-    holds-told r converts = ⊎_elim broken other (write_or_kept r)
-      where
-        broken : r ≡ Err Write → (is_ok r && bytes_eq (taken_by new) new.expected.now) ≡ holds f p x e
-        broken write =
-            let breaks = converts.broken_off write in
-            let both = kept breaks.out breaks.given in
-            let apart = new.apart (new.refused breaks.failed) breaks.rest in
-            rw (write, holds_is) (sym (and_right (is_ok (whole_answer p bytes)) _ (false_from_ne_true _ (λ same. apart (cc (both.0, both.1, breaks.behind, (bytes_eq-Decides (whole_utf8 f p bytes) (encode_utf8_all e)).0 same))))))
-
-        other : ¬ (r ≡ Err Write) → (is_ok r && bytes_eq (taken_by new) new.expected.now) ≡ holds f p x e
-        other not =
-            let puts = converts.written not in
-            let both = kept puts.out puts.given in
-            rw (holds_is, ← converts.answer not, puts.behind, both.1, both.0) refl
+    holds-told r converts = elim (write_or_kept r) [
+      | inl write ↦
+          let breaks = converts.broken_off write in
+          let both = kept breaks.out breaks.given in
+          let apart = new.apart (new.refused breaks.failed) breaks.rest in
+          grind (arith, write, holds_is, bytes_eq-Decides (whole_utf8 f p bytes) (encode_utf8_all e), apart, both, breaks.behind)
+      | inr other ↦
+          let puts = converts.written other in
+          let both = kept puts.out puts.given in
+          rw (holds_is, ← converts.answer other, puts.behind, both.1, both.0) refl
+    ]

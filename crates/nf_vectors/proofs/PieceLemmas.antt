@@ -1,5 +1,5 @@
 -- The pieces of a row.
-use Rattle.nf_vectors.proofs.Common.{◌≡◌, ◌+◌, count_by, ℕ, ◌<◌, Bool, true, false, List, [], ◌∷◌, length, Err, refl, arith, slice_index_or, ⊎_elim, not, slice_split, before_first, after_first, position_or_len, list_all, cases_lt, nat_tests, slice_split_first, slice_split_none, fails_before_first, AllPass-from_list_all, prefix_len-le-length, Fields, is_semicolon, is_blank, columns_in}
+use Rattle.nf_vectors.proofs.Common.{inl, inr, ◌≡◌, ◌+◌, count_by, ℕ, ◌<◌, Bool, true, false, List, [], ◌∷◌, length, Err, refl, arith, not, slice_split, before_first, after_first, position_or_len, list_all, cases_lt, nat_tests, slice_split_first, slice_split_none, fails_before_first, AllPass-from_list_all, prefix_len-le-length, Fields, is_semicolon, is_blank, columns_in}
 use Rattle.std.proofs.lemmas.List.Splits.{length-slice_split}
 
 -- bytes are cut at the first semicolon
@@ -19,14 +19,11 @@ split-some test bytes = next (slice_split test bytes) (length-slice_split test b
     next (first ∷ rest) e = (first, rest, refl)
 
 pub split-blank : (bytes : List ℕ) → list_all is_blank bytes ≡ true → slice_split is_semicolon bytes ≡ bytes ∷ []
-split-blank bytes blank = slice_split_none is_semicolon bytes (λ k d within. no (slice_index_or bytes k d) (AllPass-from_list_all is_blank bytes blank k d within))
-  where
-    no : (b : ℕ) → is_blank b ≡ true → is_semicolon b ≡ false
-    no b e = grind (arith, nat_tests)
+split-blank bytes blank = slice_split_none is_semicolon bytes (λ k d within. grind (arith, nat_tests, AllPass-from_list_all is_blank bytes blank k d within))
 
 -- behind the fifth piece stands another that is not blank, and perhaps more
 pub columns_in-more : (a b c d e v : List ℕ) → list_all is_blank v ≡ false → columns_in (a ∷ b ∷ c ∷ d ∷ e ∷ slice_split is_semicolon v) ≡ Err Fields
-columns_in-more a b c d e v other = ⊎_elim
-    (λ inside. rw (slice_split_first is_semicolon v 0 inside, (split-some is_semicolon (after_first is_semicolon v)).2) refl)
-    (λ past. rw (split-none v (omega (arith, prefix_len-le-length (λ b. not (is_semicolon b)) v)), other) refl)
-    (cases_lt (position_or_len is_semicolon v) (length v))
+columns_in-more a b c d e v other = elim (cases_lt (position_or_len is_semicolon v) (length v)) [
+  | inl inside ↦ rw (slice_split_first is_semicolon v 0 inside, (split-some is_semicolon (after_first is_semicolon v)).2) refl
+  | inr past ↦ rw (split-none v (omega (arith, prefix_len-le-length (λ b. not (is_semicolon b)) v)), other) refl
+]

@@ -1,5 +1,5 @@
 -- A report of one row more.
-use Rattle.nf_vectors.proofs.Common.{◌≡◌, ◌+◌, cond, List, [], ◌∷◌, ◌++◌, Option, Some, None, refl, arith, add-zero, option_or, length_push, sum_by_push, Properties, Failure, Skipped, Failed, VectorRow, verdict_of, is_skip, is_pass, is_failure, failure_or, first_failure_of, report_of, report_and}
+use Rattle.nf_vectors.proofs.Common.{◌≡◌, ◌+◌, cond, List, [], ◌∷◌, ◌++◌, Option, Some, None, refl, arith, option_or, length_push, sum_by_push, Properties, Failure, VectorRow, verdict_of, is_skip, is_pass, is_failure, failure_or, first_failure_of, report_of, report_and}
 use Rattle.nf_vectors.specs.declared.report.Report.{Report}
 use Rattle.nf_vectors.specs.declared.report.Verdict.{Verdict}
 
@@ -13,8 +13,7 @@ module _ (p : Properties) where
   first_failure-push (first ∷ rows) row = rw (first_failure-push rows row) (next (verdict_of p first) _ _)
     where
       next : (v : Verdict) (a b : Option Failure) → failure_or v (option_or a b) ≡ option_or (failure_or v a) b
-      next (Failed failure) a b = refl
-      next _ a b = refl
+      next v a b = grind arith
 
   pub report_of-push : (rows : List VectorRow) (row : VectorRow) → report_of p (rows ++ row ∷ []) ≡ report_and (report_of p rows) (verdict_of p row)
   unfolding report_of
@@ -28,10 +27,8 @@ module _ (p : Properties) where
             skipped = r.skipped + cond (is_skip v) 1 0;
             first_failure = option_or r.first_failure (failure_or v None);
           }) (report_and r v)
-      next (Failed failure) r = simp add-zero
-      next _ r = simp (add-zero, or_none)
+      next v r = grind (arith, or_none)
 
 pub and-counts : (report : Report) (v : Verdict) → let new = report_and report v in
     (new.rows ≡ report.rows + 1) × (report.rows ≡ report.passed + report.failed + report.skipped → new.rows ≡ new.passed + new.failed + new.skipped)
-and-counts report Skipped = (refl, λ sum. omega (arith, sum))
-and-counts report _ = (refl, λ sum. omega (arith, sum))
+and-counts report v = grind arith

@@ -1,7 +1,6 @@
 -- A fault that a call answers is passed on.
-use Rattle.nf_vectors.proofs.Common.{◌≡◌, sym, subst, Result, Ok, Err, MatchResult, IsErr, IsErrAnd, VectorKind, Memory}
+use Rattle.nf_vectors.proofs.Common.{◌≡◌, arith, Result, Err, MatchResult, IsErr, IsErrAnd, VectorKind, Memory}
 
 pub refused_by : {A B : Type 0} (P : A → Type 0) (r : Result A VectorKind) (kind : VectorKind) (read : Result B VectorKind) → IsErr r × IsErrAnd r (λ k. k ≡ kind)
     → (¬ (kind ≡ Memory) → read ≡ Err kind) → MatchResult r P (λ k. ¬ (k ≡ Memory) → read ≡ Err k)
-refused_by P (Ok x) kind read e told = absurd (e.1)
-refused_by P (Err k) kind read e told = subst (λ k. ¬ (k ≡ Memory) → read ≡ Err k) (sym e.1) told
+refused_by P r kind read e told = grind arith

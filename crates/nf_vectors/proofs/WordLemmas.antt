@@ -1,7 +1,7 @@
 -- The code points of a column, word by word.
 use Rattle.std.specs.Iterator.{Yields}
-use Rattle.std.proofs.lemmas.Result.{IfOk-weaker, IfOk-at_ok}
-use Rattle.nf_vectors.proofs.Common.{YieldsList, YieldsList-turn, YieldsList-end, Bor, ◌==◌, ◌≡◌, ◌+◌, Option, Some, None, drop_all, length_push, length-append, IfOk, ℕ, ◌≤◌, Bool, true, false, cond, List, [], ◌∷◌, ◌++◌, length, drop, Result, Ok, Err, refl, sym, ap, ◌∙◌, arith, append_assoc, append-nil, sum_by, slice_split, onto_first, eqb-true, drop_more, sum_by-cons, VectorKind, Empty, is_gap, code_point, and_then, before, code_points, some_or_empty, column_in, HoldsColumn}
+use Rattle.std.proofs.lemmas.Result.{IfOk-at_ok}
+use Rattle.nf_vectors.proofs.Common.{nat_tests, YieldsList, YieldsList-turn, YieldsList-end, Bor, ◌==◌, ◌≡◌, ◌+◌, Option, Some, None, drop_all, length_push, length-append, IfOk, ℕ, ◌≤◌, Bool, true, false, cond, List, [], ◌∷◌, ◌++◌, length, drop, Result, Ok, Err, refl, sym, ap, ◌∙◌, arith, append_assoc, append-nil, sum_by, slice_split, onto_first, drop_more, sum_by-cons, VectorKind, Empty, is_gap, code_point, and_then, before, code_points, column_in, HoldsColumn}
 
 before-before : (cs : List ℕ) (c : ℕ) (r : Result (List ℕ) VectorKind) → before cs (before (c ∷ []) r) ≡ before (cs ++ c ∷ []) r
 before-before cs c (Ok more) = simp append_assoc
@@ -13,18 +13,13 @@ code_points-word (b ∷ bs) words some = refl
 
 code_points-empty : (word : List ℕ) (words : List (List ℕ)) → (length word == 0) ≡ true → code_points (word ∷ words) ≡ code_points words
 code_points-empty [] words none = refl
-code_points-empty (b ∷ bs) words none = absurd (omega (arith, eqb-true _ _ none))
+code_points-empty (b ∷ bs) words none = absurd (grind (arith, nat_tests))
 
 -- there are no more code points than bytes
 code_points-le : (words : List (List ℕ)) → IfOk (code_points words) (λ codes. length codes ≤ sum_by length words)
 code_points-le [] = omega arith
-code_points-le ([] ∷ words) = IfOk-weaker (code_points words) _ _ (λ codes le. omega (arith, le, sum_by-cons length [] words)) (code_points-le words)
-code_points-le ((b ∷ bs) ∷ words) = next (code_point (b ∷ bs)) (code_points words) (code_points-le words)
-  where
-    next : (r : Result ℕ VectorKind) (rs : Result (List ℕ) VectorKind) → IfOk rs (λ codes. length codes ≤ sum_by length words) → IfOk (and_then r (λ c. before (c ∷ []) rs)) (λ codes. length codes ≤ sum_by length ((b ∷ bs) ∷ words))
-    next (Err kind) rs le = tt
-    next (Ok c) (Err kind) le = tt
-    next (Ok c) (Ok cs) le = omega (arith, le, sum_by-cons length (b ∷ bs) words)
+code_points-le ([] ∷ words) = grind (arith, code_points-le words, sum_by-cons length [] words)
+code_points-le ((b ∷ bs) ∷ words) = grind (arith, code_points-le words, sum_by-cons length (b ∷ bs) words)
 
 split-le : (p : ℕ → Bool) (bytes : List ℕ) → sum_by length (slice_split p bytes) ≤ length bytes
 split-le p [] = omega (arith, sum_by-cons (length {A = ℕ}) [] [])
@@ -60,11 +55,7 @@ module _ {S : Type 0} {steps : S → Option (Bor (List ℕ)) → S → Type 0} {
 
     pub refused : none ≡ false → (kind : VectorKind) → Err kind ≡ code_point word.now → column_in column ≡ Err kind
     unfolding column_in
-    refused letters kind e = by (code_points (slice_split is_gap column)) (rw (at_word, code_points-word word.now rest (sym is_empty ∙ letters), ← e) refl)
-      where
-        by : (read : Result (List ℕ) VectorKind) → before old read ≡ Err kind → some_or_empty read ≡ Err kind
-        by (Ok codes) e = cc
-        by (Err other) e = e
+    refused letters kind e = grind (arith, at_word, code_points-word word.now rest, is_empty, letters, e)
 
   -- no more words
   module _ (none : r ≡ None) where
@@ -79,19 +70,11 @@ module _ {S : Type 0} {steps : S → Option (Bor (List ℕ)) → S → Type 0} {
 
     pub empty : length new ≡ length old → column_in column ≡ Err Empty
     unfolding column_in
-    empty same = by whole.0 whole.1 whole.2
-      where
-        by : (codes : List ℕ) → code_points (slice_split is_gap column) ≡ Ok codes → new ≡ old ++ codes → some_or_empty (code_points (slice_split is_gap column)) ≡ Err Empty
-        by [] e is = ap some_or_empty e
-        by (c ∷ cs) e is = absurd (omega (arith, ap length is, length-append old (c ∷ cs)))
+    empty same = grind (arith, whole.1, ap length whole.2, length-append old whole.0)
 
     pub held : ¬ (length new ≡ length old) → HoldsColumn old new (column_in column)
     unfolding column_in
-    held other = by whole.0 whole.1 whole.2
-      where
-        by : (codes : List ℕ) → code_points (slice_split is_gap column) ≡ Ok codes → new ≡ old ++ codes → HoldsColumn old new (some_or_empty (code_points (slice_split is_gap column)))
-        by [] e is = absurd (other (ap length is ∙ ap length (append-nil old)))
-        by (c ∷ cs) e is = (c ∷ cs, ap some_or_empty e, is)
+    held other = (whole.0, grind (arith, whole.1, whole.2, append-nil), whole.2)
 
     pub few : (length old ≤ length new) × (length new ≤ length old + length column)
     few =

@@ -1,4 +1,4 @@
-use Rattle.nf_vectors.proofs.Common.{nat_tests, arith, rules, ◌≡◌, ℕ, ◌≤◌, false, List, [], ◌++◌, length, take, Option, Some, None, is_some, sym, ◌∙◌, append-nil, nat_eq, bytes_eq, bytes_eq-Decides, take-length, length-take-le, false_from_ne_true}
+use Rattle.nf_vectors.proofs.Common.{nat_tests, arith, rules, ◌≡◌, ℕ, ◌≤◌, false, List, [], ◌++◌, length, take, Option, Some, None, is_some, append-nil, nat_eq, bytes_eq, bytes_eq-Decides, take-length, length-take-le}
 use Rattle.std.specs.Option.{option_to_list}
 use Rattle.nf_vectors.specs.Comparing.{taken_by}
 use Rattle.nf_vectors.proofs.comparing.Comparing.is_met.Goals as goal
@@ -13,4 +13,4 @@ returns-then-is_none c = search (rules, by_length)
 pub returns-else-is_none : goal.returns-else-is_none
 returns-else-is_none c =
     let sink = c.args.self.now in
-    c.if-is_none.false ∙ sym (false_from_ne_true _ (λ b. sink.apart c.if-is_none.ensures [] (append-nil (taken_by sink) ∙ (bytes_eq-Decides (taken_by sink) sink.expected.now).0 b)))
+    grind (arith, sink.apart c.if-is_none.ensures [], bytes_eq-Decides (taken_by sink) sink.expected.now, append-nil (taken_by sink))
