@@ -56,7 +56,7 @@ found_here {reading} {bytes} {kind} stands b rest all is few here size found =
     (λ below.
     let n = limit - length bytes - 1 in
     let within : limit ≡ length bytes + suc n = omega arith in
-    ap (λ l. first_fault 1 stop (lines_of l)) (ap (λ m. take m (bytes ++ b ∷ rest)) within ∙ take-append-add bytes (b ∷ rest) (suc n)) ∙ found (λ e. omega (arith, size.0 (ap Err e))) stop (take n rest))
+    rw (within, take-append-add) (found (λ e. omega (arith, size.0 (ap Err e))) stop (take n rest)))
     (λ above.
     let end : length bytes ≡ limit = omega arith in
     let one_more : kind ≡ Size = let e = size.1 (omega arith) in cc in

@@ -1,11 +1,10 @@
 -- A report of one row more.
-use Rattle.nf_vectors.proofs.Common.{◌≡◌, ◌+◌, cond, List, [], ◌∷◌, ◌++◌, Option, Some, None, refl, arith, option_or, length_push, sum_by_push, Properties, Failure, VectorRow, verdict_of, is_skip, is_pass, is_failure, failure_or, first_failure_of, report_of, report_and}
+use Rattle.nf_vectors.proofs.Common.{◌≡◌, ◌+◌, cond, List, [], ◌∷◌, ◌++◌, Option, None, refl, arith, option_or, length_push, sum_by_push, Properties, Failure, VectorRow, verdict_of, is_skip, is_pass, is_failure, failure_or, first_failure_of, report_of, report_and}
 use Rattle.nf_vectors.specs.declared.report.Report.{Report}
 use Rattle.nf_vectors.specs.declared.report.Verdict.{Verdict}
 
 pub or_none : {T : Type 0} (o : Option T) → option_or o None ≡ o
-or_none None = refl
-or_none (Some x) = refl
+or_none o = grind arith
 
 module _ (p : Properties) where
   first_failure-push : (rows : List VectorRow) (row : VectorRow) → first_failure_of p (rows ++ row ∷ []) ≡ option_or (first_failure_of p rows) (failure_or (verdict_of p row) None)

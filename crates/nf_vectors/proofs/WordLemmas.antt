@@ -1,11 +1,9 @@
 -- The code points of a column, word by word.
 use Rattle.std.specs.Iterator.{Yields}
-use Rattle.std.proofs.lemmas.Result.{IfOk-at_ok}
 use Rattle.nf_vectors.proofs.Common.{nat_tests, YieldsList, YieldsList-turn, YieldsList-end, Bor, ◌==◌, ◌≡◌, ◌+◌, Option, Some, None, drop_all, length_push, length-append, IfOk, ℕ, ◌≤◌, Bool, true, false, cond, List, [], ◌∷◌, ◌++◌, length, drop, Result, Ok, Err, refl, sym, ap, ◌∙◌, arith, append_assoc, append-nil, sum_by, slice_split, onto_first, drop_more, sum_by-cons, VectorKind, Empty, is_gap, code_point, and_then, before, code_points, column_in, HoldsColumn}
 
 before-before : (cs : List ℕ) (c : ℕ) (r : Result (List ℕ) VectorKind) → before cs (before (c ∷ []) r) ≡ before (cs ++ c ∷ []) r
-before-before cs c (Ok more) = simp append_assoc
-before-before cs c (Err kind) = refl
+before-before cs c r = grind (arith, append_assoc)
 
 code_points-word : (word : List ℕ) (words : List (List ℕ)) → (length word == 0) ≡ false → code_points (word ∷ words) ≡ and_then (code_point word) (λ c. before (c ∷ []) (code_points words))
 code_points-word [] words some = cc
@@ -77,6 +75,4 @@ module _ {S : Type 0} {steps : S → Option (Bor (List ℕ)) → S → Type 0} {
     held other = (whole.0, grind (arith, whole.1, whole.2, append-nil), whole.2)
 
     pub few : (length old ≤ length new) × (length new ≤ length old + length column)
-    few =
-        let le = IfOk-at_ok (λ codes. length codes ≤ sum_by length (slice_split is_gap column)) whole.1 (code_points-le (slice_split is_gap column)) in
-        grind (arith, le, split-le is_gap column, ap length whole.2, length-append old whole.0)
+    few = grind (arith, whole.1, code_points-le (slice_split is_gap column), split-le is_gap column, ap length whole.2, length-append old whole.0)
