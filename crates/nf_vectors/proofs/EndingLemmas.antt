@@ -1,5 +1,5 @@
 -- Where the reading of a vector file ends.
-use Rattle.nf_vectors.proofs.Common.{◌≡◌, ◌↔◌, ℕ, suc, ◌+◌, ◌-◌, ◌<◌, ◌≤◌, Bool, true, false, List, [], ◌∷◌, ◌++◌, length, take, drop, get_or, Option, Some, None, Result, Err, refl, sym, ap, ◌∙◌, arith, append_assoc, append-nil, ⊎_elim, if◌then◌else◌, lt-ltb, le-ltb, cases_lt, or-false, take-append-add, length-append, take_at, drop_more, take-append-drop, VectorFault, VectorKind, Size, Read, Memory, Reading, is_line_end, lines_of, Bad, judged, rows_from, names_part1_from, last_fault, first_fault, rows_in, StandsAfter, EndsLine, limit, block, lines_within, stop_of, Finds, RunsOut, take_all}
+use Rattle.nf_vectors.proofs.Common.{◌≡◌, ◌↔◌, ℕ, suc, ◌+◌, ◌-◌, ◌<◌, ◌≤◌, Bool, true, false, List, [], ◌∷◌, ◌++◌, length, take, drop, get_or, Option, Some, None, Result, Err, refl, sym, ap, arith, append_assoc, append-nil, ⊎_elim, if◌then◌else◌, lt-ltb, le-ltb, cases_lt, or-false, take-append-add, length-append, take_at, drop_more, take-append-drop, VectorFault, VectorKind, Size, Read, Memory, Reading, is_line_end, lines_of, Bad, judged, rows_from, names_part1_from, last_fault, first_fault, rows_in, StandsAfter, EndsLine, limit, block, lines_within, stop_of, Finds, RunsOut, take_all}
 use Rattle.std.proofs.Common.{subst₂}
 use Rattle.std.proofs.lemmas.Grind.{common_steps}
 use Rattle.nf_vectors.proofs.StandingLemmas.{lines_of-ended, lines_of-last, first_fault-ended}
@@ -33,7 +33,7 @@ module _ {reading : Reading} {bytes : List ℕ} (stands : StandsAfter reading by
       within = few;
       last = short;
       end = end;
-      first = last_line (Some Memory) ∙ (λ i. Some (record { line = sym line i; kind = sym memory i }));
+      first = grind (arith, last_line (Some Memory));
     }
 
     module _ {new : Reading} (ends : EndsLine (judged reading.line reading.bytes.items) reading new) where

@@ -61,11 +61,7 @@ module _ (reads : ReadsBack) (f : Form) (p : Properties) (bytes x e : List ℕ) 
     holds-told r converts = elim (write_or_kept r) [
       | inl write ↦
           let breaks = converts.broken_off write in
-          let both = kept breaks.out breaks.given in
           let apart = new.apart (new.refused breaks.failed) breaks.rest in
-          grind (arith, write, holds_is, bytes_eq-Decides (whole_utf8 f p bytes) (encode_utf8_all e), apart, both, breaks.behind)
-      | inr other ↦
-          let puts = converts.written other in
-          let both = kept puts.out puts.given in
-          rw (holds_is, ← converts.answer other, puts.behind, both.1, both.0) refl
+          grind (arith, write, holds_is, bytes_eq-Decides (whole_utf8 f p bytes) (encode_utf8_all e), apart, kept breaks.out breaks.given, breaks.behind)
+      | inr other ↦ let puts = converts.written other in grind (arith, holds_is, converts.answer other, puts.behind, kept puts.out puts.given)
     ]

@@ -1,6 +1,4 @@
-use Rattle.nf_vectors.proofs.Common.{rules, ℕ, ◌*◌, ◌≤◌, List, length, encode_utf8, encode_utf8_all, refl, ap, arith, is_some, length-take-le, get_or, length-encode, len_utf8_bounds}
-use Rattle.std.proofs.lemmas.List.Concat.{length-flat_map}
-use Rattle.std.proofs.lemmas.List.Sums.{sum_by-le}
+use Rattle.nf_vectors.proofs.Common.{rules, [], ◌∷◌, length-append, ℕ, ◌*◌, ◌≤◌, List, length, encode_utf8, encode_utf8_all, refl, ap, arith, is_some, length-take-le, length-encode, len_utf8_bounds}
 use Rattle.nf_vectors.proofs.ComparisonLemmas.{leaves-none, leaves-at, leaves-unsound}
 use Rattle.nf_vectors.proofs.comparison.leaves_format.Goals as goal
 
@@ -8,7 +6,8 @@ encode_utf8-le : (c : ℕ) → length (encode_utf8 c) ≤ 4
 encode_utf8-le c = omega (arith, length-encode c, (len_utf8_bounds c).1)
 
 encode_utf8_all-le : (x : List ℕ) → length (encode_utf8_all x) ≤ 4 * length x
-encode_utf8_all-le x = omega (arith, length-flat_map encode_utf8 x, sum_by-le (λ c. length (encode_utf8 c)) 4 x (λ k d _. encode_utf8-le (get_or x k d)))
+encode_utf8_all-le [] = omega arith
+encode_utf8_all-le (c ∷ x) = grind (arith, length-append, encode_utf8-le, encode_utf8_all-le x)
 
 pub loop-c-init : goal.loop-c-init
 loop-c-init g c = record { stands = c.new-checker.ensures.stands (g.R.Rows.properties c.args.rows.now); none = c.new-checker.ensures.place; sound = refl }
