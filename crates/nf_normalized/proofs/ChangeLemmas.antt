@@ -14,9 +14,8 @@ module _ (sound : (x : List ℕ) → IsSoundText ucd x) (safe : (f : Form) (x : 
   unfolding safe_form
   goes_on x rest e =
       let form = safe_form f ucd x in
-      let in_format = (unchanged form (sound form)).0 (safe f x) in
       let front : take (length x) form ≡ x = grind (arith, front-append-back ucd form, e, append_assoc, take_at) in
-      let stays = (unchanged x (sound x)).1 (rw front at (fronts form (length x) in_format)) in
+      let stays : stream_safe ucd x ≡ x = grind (arith, unchanged x (sound x), unchanged form (sound form), safe f x, fronts form (length x), front) in
       grind (arith, common_steps, some rest, lengths (stream_safe ucd x), stays, front-append-back ucd form, e, decomposed-append, length-append)
 
   pub place_stays : SettledOnlyGrows → (base : ℕ) (x y : List ℕ) (place : Place) → settled_change_at base x (settled f ucd x) ≡ Some place → change_at base f (x ++ y) ≡ Some place

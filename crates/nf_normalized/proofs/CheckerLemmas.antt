@@ -58,8 +58,7 @@ held_few known {assigned} {f} {state} {held} {bytes} holds longest replacing sou
     -- less than a character stands behind the text
     let few : length bytes ≤ length (encode_utf8_all (text_of bytes)) + 3 =
     grind (arith, parts, (longest.reads bytes).end, replacing.few bytes, replacing.begun bytes, replacing.own_len (text_of bytes)) in
-    let text = ap text_of holds.split ∙ behind known assigned f bytes held in
-    grind (arith, kept f (text_of bytes) (text_of held), text, all, few, ap length holds.split, encodes-append, written_is, length-append, four (text_of held))
+    grind (arith, kept f (text_of bytes) (text_of held), ap text_of holds.split, behind known assigned f bytes held, all, few, ap length holds.split, encodes-append, written_is, length-append, four (text_of held))
   where
     four : (x : List ℕ) → length (encode_utf8_all x) ≤ 4 * length x
     four [] = omega arith

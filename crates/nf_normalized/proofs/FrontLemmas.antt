@@ -79,5 +79,5 @@ module _ (sound : (c : ℕ) → IsTrue (is_sound ucd c))
       unfolding safe_form
       front_in_form f x y same =
           let whole : stream_safe ucd (x ++ y) ≡ x ++ y = grind (arith, same, safe f (x ++ y)) in
-          let front = rw (take_at x y (length x) refl) at (in_format (x ++ y) (length x) ((unchanged (x ++ y) (texts (x ++ y))).0 whole)) in
+          let front = rw take_at at (in_format (x ++ y) (length x) ((unchanged (x ++ y) (texts (x ++ y))).0 whole)) in
           rw ((unchanged x (texts x)).1 front) (form-front f x y (rw whole at same))

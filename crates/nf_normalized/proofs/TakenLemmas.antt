@@ -69,9 +69,8 @@ module _ (p : Properties) where
         starter_taken (compose p (order p w)) y c r.first (order p r.rest) r.starter same
         (grind (arith, fold-append (compose_step p) [] (order p w) (r.first ∷ order p r.rest), order_after-at p [] w r.first r.rest r.starter, r.text, text))
     last_taken false w y c (inr r) same text =
-        let l = inserted p w c r.1 in
-        same_front p c l.head l.tail y (order p w) l.above l.without (cc)
+        let l = inserted p w c r.1 in same_front p c l.head l.tail y (order p w) l.above l.without (cc)
     last_taken true w y c (inr r) same text =
         let l = inserted p w c r.1 in
-        let with_c : fold (compose_step p) (compose p l.head) (c ∷ l.tail) ≡ y ++ c ∷ [] = grind (arith, fold-append (compose_step p) [] l.head (c ∷ l.tail), l.with_c, r.0, text) in
-        grind (arith, l.without, fold-append (compose_step p) [] l.head l.tail, mark_taken p (compose p l.head) l.tail y c r.1 l.marks l.above with_c)
+        let taken = mark_taken p (compose p l.head) l.tail y c r.1 l.marks l.above (grind (arith, fold-append (compose_step p) [] l.head (c ∷ l.tail), l.with_c, r.0, text)) in
+        grind (arith, l.without, fold-append (compose_step p) [] l.head l.tail, taken)

@@ -20,7 +20,7 @@ module _ {old new : Comparing} {before due : List ℕ} {T : Type 0} {r : Result 
   pub gave : (rest : List ℕ) × (new.first.now ++ new.second.now ≡ old.first.now ++ old.second.now) × (due ≡ (before ++ given new) ++ rest)
   gave = elim (write_or_kept r) [
     | inl e ↦ let b = w.broken e in let t = told b.out b.given in (b.rest, t.0, rw t.1 b.behind)
-    | inr other ↦ let p = w.puts other in let t = told p.out p.given in ([], t.0, grind (arith, p.behind, t.1, append-nil))
+    | inr other ↦ let p = w.puts other in let t = told p.out p.given in ([], t.0, grind (arith, p, t, append-nil))
   ]
 
   -- a byte was another, and that goes on what was written
