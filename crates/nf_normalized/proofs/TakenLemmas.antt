@@ -42,7 +42,8 @@ module _ (p : Properties) where
     ]
       where
         -- behind a front e that stays y ends, or goes on with d or what d became
-        goes_on : (e : List ℕ) (d : ℕ) → is_starter p d ≡ true → compose_step p z s ≡ e ++ d ∷ [] → (y ≡ e) ⊎ ((a : ℕ) × (more : List ℕ) × (y ≡ e ++ a ∷ more) × (length (row d) ≤ length (row a)))
+        goes_on : (e : List ℕ) (d : ℕ) → is_starter p d ≡ true → compose_step p z s ≡ e ++ d ∷ []
+            → (y ≡ e) ⊎ ((a : ℕ) × (more : List ℕ) × (y ≡ e ++ a ∷ more) × (length (row d) ≤ length (row a)))
         goes_on e d begins step =
             let first = first_of d [] v begins in
             elim (behind e y c first.0 first.1 (cc (fold-behind p e (d ∷ []) v (or_left _ _ begins)))) [ inl r ↦ inl r.0 | inr r ↦ inr (first.0, r.0, r.1, first.3) ]

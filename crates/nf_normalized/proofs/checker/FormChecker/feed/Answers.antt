@@ -22,7 +22,8 @@ module _ (c : After-feed-fed) {assigned : Bool} {f : Form} {bytes : List ℕ} (h
       }
 
   -- where the piece was taken, what is left of what was read is held
-  holds_now : is_some c.feed-fed.new.sink.other ≡ false → {done : Unit {0}} → c.feed-fed.result ≡ Ok done → Holds assigned f (state_of c.feed-fed.new.self) (left c.feed-fed.new.sink) (bytes ++ c.args.piece.now)
+  holds_now : is_some c.feed-fed.new.sink.other ≡ false → {done : Unit {0}} → c.feed-fed.result ≡ Ok done
+      → Holds assigned f (state_of c.feed-fed.new.self) (left c.feed-fed.new.sink) (bytes ++ c.args.piece.now)
   holds_now none ok = record { filter = rw ok at c.feed-fed.ensures.stands _ _ _ holds.filter; split = split_now (seen (λ e. cc)) none }
 
 -- a call that is refused leaves the sink as it was
