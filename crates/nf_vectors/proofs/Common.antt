@@ -1,8 +1,8 @@
 -- The names that most of these proofs cite, passed on from one place. Declares nothing.
-pub use Rattle.std.proofs.Common.{inl, inr, Bor, ◌≡◌, ℕ, ◌+◌, ◌≤◌, ◌<◌, true, false, List, [], ◌∷◌, ◌++◌, length, take, Option, Some, None, is_some, refl, sym, ap, ◌∙◌, arith, ◌-◌, ⊎_elim, drop, get_or, append_assoc, option_map, append-nil, zero, suc, ◌*◌, Bool, ◌&&◌, Ok, Err, rules, if◌then◌else◌, Result, subst, OnOk, is_ok, take_all, codes, bytes_eq, encode_utf8_all, IsUtf8, slice_range, eq-eqb, ne_eqb, cond, slice_index_or, not, add-zero, count_by, nat_eq, MatchResult, IsErr, IsErrAnd, All, find, IfOk, sum_by, string_bytes, encode_utf8, tests, ◌==◌, reverse, ◌^◌, ◌↔◌}
+pub use Rattle.std.proofs.Common.{inl, inr, Bor, ◌≡◌, ℕ, ◌+◌, ◌≤◌, ◌<◌, true, false, List, [], ◌∷◌, ◌++◌, length, take, Option, Some, None, is_some, refl, sym, ap, ◌∙◌, arith, ◌-◌, ⊎_elim, drop, get_or, append_assoc, append-nil, zero, suc, ◌*◌, Bool, ◌&&◌, Ok, Err, rules, if◌then◌else◌, Result, OnOk, is_ok, take_all, codes, bytes_eq, encode_utf8_all, IsUtf8, slice_range, eq-eqb, ne_eqb, cond, not, add-zero, count_by, nat_eq, MatchResult, IsErr, IsErrAnd, All, find, IfOk, sum_by, string_bytes, encode_utf8, tests, ◌==◌, reverse, ◌^◌, ◌↔◌}
 pub use Rattle.std.proofs.Math.Bool.{or-false, or_assoc}
 pub use Rattle.std.proofs.Math.Seq.{take-length, take-append-add}
-pub use Rattle.std.proofs.lemmas.Bool.{and_parts, false_from_ne_true, cases_lt, le-leb, and_from, lt-ltb, le-ltb, eqb-true, leb-true, and_right}
+pub use Rattle.std.proofs.lemmas.Bool.{cases_lt, lt-ltb, le-ltb}
 pub use Rattle.std.proofs.lemmas.Bool.Decides.{nat_tests}
 pub use Rattle.std.proofs.lemmas.Iterator.{YieldsList, YieldsList-from_slice}
 pub use Rattle.std.proofs.lemmas.Iterator.Consumers.{YieldsList-end, YieldsList-turn, count_from_yields_List}
@@ -23,8 +23,7 @@ pub use Rattle.nf_forms.specs.Properties.{Properties}
 unfoldable pub use Rattle.nf_forms.specs.SafeForm.{safe_form}
 pub use Rattle.nf_forms.specs.Sound.{is_sound}
 pub use Rattle.nf_forms.specs.declared.form.Form.{Form}
-pub use Rattle.nf_forms.specs.declared.form.Form.TheVariants.{Nfc, Nfd, Nfkc, Nfkd}
-pub use Rattle.nf_safe.specs.Place.{place, place_from}
+pub use Rattle.nf_safe.specs.Place.{place_from}
 pub use Rattle.nf_safe.specs.declared.place.Place.{Place}
 pub use Rattle.nf_vectors.specs.Limits.{limit, block}
 pub use Rattle.nf_vectors.specs.Columns.{Columns, each}
@@ -43,11 +42,10 @@ pub use Rattle.nf_vectors.specs.SuiteView.{AreWithin, rows_in, row_of}
 unfoldable pub use Rattle.nf_vectors.specs.Sweep.{below, sweep_of}
 pub use Rattle.nf_vectors.specs.Sweep.{sweep_below, is_listed, is_unchanged, is_unlisted, is_failed, lists}
 unfoldable pub use Rattle.nf_vectors.specs.Words.{column_in}
-pub use Rattle.nf_vectors.specs.Words.{code_point, is_digit, value_of, is_scalar, and_then, before, code_points, some_or_empty}
+pub use Rattle.nf_vectors.specs.Words.{code_point, is_digit, value_of, is_scalar, and_then, before, code_points}
 pub use Rattle.nf_vectors.specs.declared.fault.VectorFault.{VectorFault}
 pub use Rattle.nf_vectors.specs.declared.fault.VectorKind.{VectorKind}
 pub use Rattle.nf_vectors.specs.declared.fault.VectorKind.TheVariants.{Hex, Scalar, Fields, Empty, Size, Read, Memory}
 pub use Rattle.nf_vectors.specs.declared.reading.Reading.{Reading}
 pub use Rattle.nf_vectors.specs.declared.report.Failure.{Failure}
-pub use Rattle.nf_vectors.specs.declared.report.Verdict.TheVariants.{Skipped, Failed}
 pub use Rattle.nf_vectors.specs.declared.suite.Entry.{Entry}
