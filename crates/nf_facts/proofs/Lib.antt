@@ -1,5 +1,4 @@
 mod Common
-mod Trees
 mod Mapped
 mod Soundness
 mod Fullness

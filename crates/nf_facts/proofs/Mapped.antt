@@ -1,11 +1,15 @@
 -- What is so of each character with a decomposition mapping, by one computation over the tables.
-use Rattle.std.proofs.Common.{◌≡◌, ℕ, ◌≤◌, ◌<◌, ◌+◌, ◌-◌, ◌/◌, ◌%◌, Bool, true, false, not, ◌&&◌, ◌||◌, ◌==◌, List, [], ◌∷◌, flat_map, refl, ap, ◌∙◌, inl, inr, arith, eqb-true}
+use Rattle.std.proofs.Common.{◌≡◌, ℕ, ◌≤◌, ◌<◌, ◌-◌, ◌%◌, Bool, true, false, not, ◌&&◌, ◌||◌, ◌==◌, List, [], ◌∷◌, flat_map, refl, ◌∙◌, arith, eqb-true, ap₂, ⊎_elim}
 use Rattle.nf_facts.proofs.Common.{cases_Bool, cases_eq, nat_tests, list_all, KitNfd, KitNfkd, ccc, decompose, Properties, lead, ucd}
 use lib.Utf8.{scalar}
+use Rattle.ucd_table.proofs.Stepped.{Stepped}
+use Rattle.ucd_table.proofs.Facts.{tree_value, tree_of, tree_value-tree_of}
 use Rattle.ucd_table.proofs.GroupsCheck.{same_string, same_string-true}
-use Rattle.ucd_table.proofs.RangedFacts.{Stepped-at_points}
+use Rattle.ucd_table.proofs.RangedFacts.{points_ok, values_ok, Stepped-at_points}
+use Rattle.ucd_table.proofs.Computing.{tables}
 use Rattle.ucd_normal.specs.declared.forms.Form.{Form}
-use Rattle.ucd_normal.specs.Decomposition.{decomposition, or_itself}
+use Rattle.ucd_normal.specs.Decomposition.{decomposition, expand, or_itself}
+use Rattle.ucd_normal.proofs.CanonicalCombiningClassLemmas.{canonical_combining_class_stepped}
 use Rattle.ucd_normal.proofs.CompositionLemmas.{is_empty}
 use Rattle.ucd_normal.proofs.DecompositionLemmas.{decomposition_stepped}
 use Rattle.unicode_normalization.specs.Hangul.{is_syllable}
@@ -15,7 +19,6 @@ use Rattle.unicode_normalization.proofs.TableFacts.{Tables, by_rows, full, pick,
 use Rattle.nf_forms.specs.Ordering.{is_ordered}
 use Rattle.nf_forms.specs.Sound.{ends_within, marks_agree}
 use Rattle.nf_facts.specs.Passing.{is_among, halfwidth_marks, vowel_signs, mapped_marks}
-use Rattle.nf_facts.proofs.Trees.{by_trees, same_tables}
 
 -- ---- the tests, on the two rows of a character
 
@@ -36,12 +39,12 @@ abbrev pub is_fixed_by : Tables → ℕ → Bool
 is_fixed_by t x = t.class x == 0 || is_empty (pick KitNfkd (t.entry x))
 
 -- the compatibility row of a starter begins with one, with the exceptions
-abbrev begins_so : Tables → ℕ → List ℕ → Bool
+abbrev pub begins_so : Tables → ℕ → List ℕ → Bool
 begins_so t c compat =
     not (t.class c == 0) || (is_among vowel_signs c || (is_among halfwidth_marks c || lead (classes_of t) compat == 0))
 
 -- a character with a mapping is a starter, with the exceptions
-abbrev is_starter_so : Tables → ℕ → Bool
+abbrev pub is_starter_so : Tables → ℕ → Bool
 is_starter_so t c = t.class c == 0 || is_among mapped_marks c
 
 -- besides these: the compatibility rows of the members of the canonical row make up the compatibility row, its non-starters
@@ -56,35 +59,41 @@ row_passes t c = passes_all t c (or_itself c (full t KitNfd c)) (full t KitNfkd 
 
 -- ---- the computation
 
+abbrev by_tree : {V : Type 0} (f : ℕ → V) → Stepped f → ℕ → V
+by_tree f s = tree_value s.default (tree_of f s)
+
+-- the class and the decomposition, which alone are read, by trees
+abbrev by_trees : Tables
+by_trees = record by_rows { class = by_tree ccc canonical_combining_class_stepped; entry = by_tree decomposition decomposition_stepped }
+
 computed : (c : ℕ) → is_empty (pick KitNfkd (decomposition c)) ≡ false → row_passes by_rows c ≡ true
-unfolding by_trees passes_all
+unfolding tables points_ok values_ok expand canonical_combining_class_stepped decomposition_stepped passes_all
 computed c some =
-    ap (λ t. row_passes t c) same_tables
+    ap₂ (λ class entry. row_passes (record by_rows { class = class; entry = entry }) c)
+    (tree_value-tree_of ccc canonical_combining_class_stepped) (tree_value-tree_of decomposition decomposition_stepped)
     ∙ Stepped-at_points decomposition decomposition_stepped (λ e. is_empty (pick KitNfkd e)) (λ x _. row_passes by_trees x) refl c some
 
 pub record IsMapped (c : ℕ) : Type 0 where
   pub agree : ends_agree ucd (decompose KitNfd c) (decompose KitNfkd c) ≡ true
   pub joined : flat_map (compat_by by_rows) (decompose KitNfd c) ≡ decompose KitNfkd c
   pub fixed : list_all (is_fixed_by by_rows) (decompose KitNfd c) ≡ true
-  pub begins : ccc c ≡ 0 → is_among vowel_signs c ≡ false → is_among halfwidth_marks c ≡ false → lead ucd (decompose KitNfkd c) ≡ 0
-  pub starter : is_among mapped_marks c ≡ false → ccc c ≡ 0
+  pub begins : begins_so by_rows c (decompose KitNfkd c) ≡ true
+  pub starter : is_starter_so by_rows c ≡ true
   pub canonical_ordered : is_ordered ucd (decompose KitNfd c) ≡ true
   pub compat_ordered : is_ordered ucd (decompose KitNfkd c) ≡ true
   pub is_scalar : scalar c ≡ true
   pub canonical_scalars : list_all scalar (decompose KitNfd c) ≡ true
   pub compat_scalars : list_all scalar (decompose KitNfkd c) ≡ true
 
-split : (a b c : Bool) (class n : ℕ) (sign half mark : Bool) (d e f g h : Bool)
-    → (a && (b && (c && ((not (class == 0) || (sign || (half || n == 0))) && ((class == 0 || mark) && (d && (e && (f && (g && h))))))))) ≡ true
-    → (a ≡ true) × (b ≡ true) × (c ≡ true) × (class ≡ 0 → sign ≡ false → half ≡ false → n ≡ 0) × (mark ≡ false → class ≡ 0)
-    × (d ≡ true) × (e ≡ true) × (f ≡ true) × (g ≡ true) × (h ≡ true)
-split a b c class n sign half mark d e f g h all = grind (arith, nat_tests)
+split : (a b c d e f g h i j : Bool) → (a && (b && (c && (d && (e && (f && (g && (h && (i && j))))))))) ≡ true
+    → (a ≡ true) × (b ≡ true) × (c ≡ true) × (d ≡ true) × (e ≡ true) × (f ≡ true) × (g ≡ true) × (h ≡ true) × (i ≡ true) × (j ≡ true)
+split a b c d e f g h i j all = grind (arith, nat_tests)
 
 pub mapped : (c : ℕ) → is_syllable c ≡ false → is_empty (pick KitNfkd (decomposition c)) ≡ false → IsMapped c
 unfolding ucd passes_all
 mapped c other some =
     let rows : passes_all by_rows c (decompose KitNfd c) (decompose KitNfkd c) ≡ true = rw (decompose-other KitNfd c other, decompose-mapped KitNfkd c other some) (computed c some) in
-    let all = split _ _ _ (ccc c) (lead ucd (decompose KitNfkd c)) (is_among vowel_signs c) (is_among halfwidth_marks c) (is_among mapped_marks c) _ _ _ _ _ rows in
+    let all = split _ _ _ _ _ _ _ _ _ _ rows in
     record {
       agree = all.0;
       joined = same_string-true _ _ all.1;
@@ -105,14 +114,9 @@ class-syllable c syllable = let range = is_syllable-true c syllable in eqb-true 
 
 pub by_kind : (c : ℕ) (Q : Type 0) → (is_syllable c ≡ true → Q) → (((form : Form) → decompose form c ≡ c ∷ []) → Q) → (IsMapped c → Q) → Q
 by_kind c Q syllable own with_mapping =
-    elim (cases_Bool (is_syllable c)) [
-      | inl is ↦ syllable is
-      | inr other ↦
-          elim (cases_Bool (is_empty (pick KitNfkd (decomposition c)))) [
-            | inl none ↦ own (λ form. decompose-final form c (grind (arith, nat_tests, pick-none form c none)))
-            | inr some ↦ with_mapping (mapped c other some)
-          ]
-    ]
+    ⊎_elim syllable
+    (λ other. ⊎_elim (λ none. own (λ form. decompose-final form c (grind (arith, nat_tests, pick-none form c none)))) (λ some. with_mapping (mapped c other some))
+    (cases_Bool (is_empty (pick KitNfkd (decomposition c))))) (cases_Bool (is_syllable c))
 
 -- its two rows are one, or it has a mapping
 pub by_mapping : (c : ℕ) (Q : Type 0) → (decompose KitNfd c ≡ decompose KitNfkd c → Q) → (IsMapped c → Q) → Q
@@ -125,10 +129,6 @@ by_row form c Q none letter itself =
     by_kind c _
     (λ syllable.
     let range = is_syllable-true c syllable in
-    let behind : (w : List ℕ) → Q w → Q ((0x1100 + (c - 0xAC00) / 588) ∷ (0x1161 + (c - 0xAC00) % 588 / 28) ∷ w) =
-    λ w rest. letter _ _ (omega arith) (omega arith) (letter _ w (omega arith) (omega arith) rest) in
-    rw (decompose-syllable form c syllable) (elim (cases_eq ((c - 0xAC00) % 28) 0) [
-      | inl two ↦ rw (decompose_hangul-two c two) (behind [] none)
-      | inr three ↦ rw (decompose_hangul-three c three) (behind _ (letter _ [] (omega arith) (omega arith) none))
-    ]))
+    rw (decompose-syllable form c syllable)
+    (⊎_elim (λ two. rw (decompose_hangul-two c two) (search arith)) (λ three. rw (decompose_hangul-three c three) (search arith)) (cases_eq ((c - 0xAC00) % 28) 0)))
     (λ own. rw (own form) itself)

@@ -1,6 +1,6 @@
 -- A non-starter is its own row, canonical and compatibility, but for those that no form's quick check lets pass.
 use Rattle.std.proofs.Common.{◌≡◌, ◌≢◌, ℕ, ◌<◌, false, refl, arith}
-use Rattle.nf_facts.proofs.Common.{KitNfd, KitNfkd, No, ccc, quick_check, Form, ucd, kit_form}
+use Rattle.nf_facts.proofs.Common.{nat_tests, KitNfd, KitNfkd, No, ccc, quick_check, Form, ucd, kit_form}
 use Rattle.nf_forms.specs.Calm.{IsMark}
 use Rattle.nf_facts.specs.Passing.{is_among, mapped_marks}
 use Rattle.nf_facts.proofs.Mapped.{class-syllable, by_kind}
@@ -12,7 +12,7 @@ mark-ucd c above plain =
     by_kind c _
     (λ syllable. absurd (omega (arith, class-syllable c syllable)))
     (λ own. record { class = refl; above = above; canonical = own KitNfd; compat = own KitNfkd })
-    (λ mapped. absurd (omega (arith, mapped.starter plain)))
+    (λ mapped. absurd (grind (arith, nat_tests, mapped.starter)))
 
 pub mark-passing : (f : Form) (c : ℕ) → 0 < ccc c → quick_check (kit_form f) c ≢ No → IsMark ucd c (ccc c)
 mark-passing f c above may = mark-ucd c above (no_mapped_mark f c may)

@@ -24,7 +24,7 @@ lead-starter s w starter = rw starter
 pub compat-lead : (c : ℕ) → ccc c ≡ 0 → is_among vowel_signs c ≡ false → is_among halfwidth_marks c ≡ false → lead ucd (ucd.compat c) ≡ 0
 unfolding ucd
 compat-lead c starter sign mark =
-    by_row KitNfkd c (λ w. lead ucd w ≡ 0) refl (λ x w low high _. lead-starter x w (class-letter x low high)) (lead-starter c [] starter) (λ mapped. mapped.begins starter sign mark)
+    by_row KitNfkd c (λ w. lead ucd w ≡ 0) refl (λ x w low high _. lead-starter x w (class-letter x low high)) (lead-starter c [] starter) (λ mapped. grind (arith, nat_tests, mapped.begins))
 
 -- ---- what passes the quick check of a composing form is second in no composite
 
