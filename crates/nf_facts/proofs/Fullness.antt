@@ -2,10 +2,11 @@
 use Rattle.std.proofs.Common.{◌≡◌, ℕ, Bool, true, false, List, [], ◌∷◌, flat_map, refl, ◌∙◌, arith, IsTrue}
 use Rattle.nf_facts.proofs.Common.{and_parts, or_right, not-true, nat_tests, list_all, All, KitNfd, KitNfkd, decompose, is_starter, is_nonstarter, ucd}
 use Rattle.std.proofs.lemmas.List.Sums.{AllPass-from_list_all, list_all-from_AllPass}
+use Rattle.ucd_table.proofs.GroupsCheck.{same_string-true}
 use Rattle.unicode_normalization.proofs.ComposeLemmas.{flat_map-final}
 use Rattle.unicode_normalization.proofs.DecomposeLemmas.{decompose-other, decompose-final, is_final-parts, IsFull-decompose}
 use Rattle.unicode_normalization.proofs.TableFacts.{by_rows, is_final}
-use Rattle.nf_facts.proofs.Mapped.{class-syllable, compat_by, is_fixed_by, by_mapping}
+use Rattle.nf_facts.proofs.Mapped.{Joined, Fixed, class-syllable, compat_by, is_fixed_by, by_mapping}
 
 All-from : (test : ℕ → Bool) (P : ℕ → Type 0) → ((x : ℕ) → test x ≡ true → P x) → (xs : List ℕ) → list_all test xs ≡ true → All P xs
 All-from test P h xs all = λ k d within. h _ (AllPass-from_list_all test xs all k d within)
@@ -36,7 +37,7 @@ unfolding ucd
 compat-joined c =
     by_mapping c _
     (λ same. rw same (flat_map-final (decompose KitNfkd) (is_final KitNfkd) (decompose-final KitNfkd) _ (IsFull-decompose KitNfkd c).final))
-    (λ mapped. flat_map-same (decompose KitNfkd) (compat_by by_rows) (is_final KitNfd) compat-final _ (IsFull-decompose KitNfd c).final ∙ mapped.joined)
+    (λ mapped. flat_map-same (decompose KitNfkd) (compat_by by_rows) (is_final KitNfd) compat-final _ (IsFull-decompose KitNfd c).final ∙ same_string-true _ _ (mapped Joined))
 
 -- ---- each non-starter of the canonical row is its own compatibility row
 
@@ -49,7 +50,7 @@ canonical-fixed c =
     by_mapping c _
     (λ same. rw same (list_all-from_AllPass is_fixed (decompose KitNfkd c)
     (All-from (is_final KitNfkd) (λ x. is_fixed x ≡ true) (λ x final. or_right _ _ (is_final-parts KitNfkd x final).0) (decompose KitNfkd c) (IsFull-decompose KitNfkd c).final)))
-    (λ mapped. mapped.fixed)
+    (λ mapped. mapped Fixed)
 
 pub compat-fixed : (x : ℕ) → is_fixed x ≡ true → is_starter ucd x ≡ false → decompose KitNfkd x ≡ x ∷ []
 unfolding ucd

@@ -4,7 +4,7 @@ use Rattle.nf_facts.proofs.Common.{cases_Bool, cases_eq, nat_tests, list_all, Ki
 use lib.Utf8.{scalar}
 use Rattle.ucd_table.proofs.Stepped.{Stepped}
 use Rattle.ucd_table.proofs.Facts.{tree_value, tree_of, tree_value-tree_of}
-use Rattle.ucd_table.proofs.GroupsCheck.{same_string, same_string-true}
+use Rattle.ucd_table.proofs.GroupsCheck.{same_string}
 use Rattle.ucd_table.proofs.RangedFacts.{points_ok, values_ok, Stepped-at_points}
 use Rattle.ucd_table.proofs.Computing.{tables}
 use Rattle.ucd_normal.specs.declared.forms.Form.{Form}
@@ -38,24 +38,34 @@ compat_by t x = or_itself x (full t KitNfkd x)
 abbrev pub is_fixed_by : Tables → ℕ → Bool
 is_fixed_by t x = t.class x == 0 || is_empty (pick KitNfkd (t.entry x))
 
--- the compatibility row of a starter begins with one, with the exceptions
-abbrev pub begins_so : Tables → ℕ → List ℕ → Bool
-begins_so t c compat =
-    not (t.class c == 0) || (is_among vowel_signs c || (is_among halfwidth_marks c || lead (classes_of t) compat == 0))
+-- what is asked of a character with a mapping, and of its two rows: `Joined` and `Fixed`, that the compatibility rows of the
+-- members of the canonical row make up the compatibility row, its non-starters unchanged; `Begins`, that the compatibility
+-- row of a starter begins with one, and `Starts`, that the character is a starter, both with the exceptions
+pub data Fact : Type 0 where
+  Agree Joined Fixed Begins Starts CanonicalOrdered CompatOrdered OfScalar CanonicalScalars CompatScalars : Fact
 
--- a character with a mapping is a starter, with the exceptions
-abbrev pub is_starter_so : Tables → ℕ → Bool
-is_starter_so t c = t.class c == 0 || is_among mapped_marks c
+abbrev pub holds : Tables → ℕ → List ℕ → List ℕ → Fact → Bool
+holds t c canonical compat Agree = ends_agree (classes_of t) canonical compat
+holds t c canonical compat Joined = same_string (flat_map (compat_by t) canonical) compat
+holds t c canonical compat Fixed = list_all (is_fixed_by t) canonical
+holds t c canonical compat Begins = not (t.class c == 0) || (is_among vowel_signs c || (is_among halfwidth_marks c || lead (classes_of t) compat == 0))
+holds t c canonical compat Starts = t.class c == 0 || is_among mapped_marks c
+holds t c canonical compat CanonicalOrdered = is_ordered (classes_of t) canonical
+holds t c canonical compat CompatOrdered = is_ordered (classes_of t) compat
+holds t c canonical compat OfScalar = scalar c
+holds t c canonical compat CanonicalScalars = list_all scalar canonical
+holds t c canonical compat CompatScalars = list_all scalar compat
 
--- besides these: the compatibility rows of the members of the canonical row make up the compatibility row, its non-starters
--- unchanged; both rows are in canonical order; the character and the members of both rows are scalar values
-passes_all : Tables → ℕ → List ℕ → List ℕ → Bool
-passes_all t c canonical compat =
-    ends_agree (classes_of t) canonical compat && (same_string (flat_map (compat_by t) canonical) compat && (list_all (is_fixed_by t) canonical && (begins_so t c compat
-    && (is_starter_so t c && (is_ordered (classes_of t) canonical && (is_ordered (classes_of t) compat && (scalar c && (list_all scalar canonical && list_all scalar compat))))))))
+passes_all : (Fact → Bool) → Bool
+passes_all p = list_all p (Agree ∷ Joined ∷ Fixed ∷ Begins ∷ Starts ∷ CanonicalOrdered ∷ CompatOrdered ∷ OfScalar ∷ CanonicalScalars ∷ CompatScalars ∷ [])
+
+each : (p : Fact → Bool) → passes_all p ≡ true → (f : Fact) → p f ≡ true
+unfolding passes_all
+each p all Agree = grind (arith, nat_tests)
+each p all _ = grind (arith, nat_tests)
 
 abbrev row_passes : Tables → ℕ → Bool
-row_passes t c = passes_all t c (or_itself c (full t KitNfd c)) (full t KitNfkd c)
+row_passes t c = passes_all (holds t c (or_itself c (full t KitNfd c)) (full t KitNfkd c))
 
 -- ---- the computation
 
@@ -73,39 +83,12 @@ computed c some =
     (tree_value-tree_of ccc canonical_combining_class_stepped) (tree_value-tree_of decomposition decomposition_stepped)
     ∙ Stepped-at_points decomposition decomposition_stepped (λ e. is_empty (pick KitNfkd e)) (λ x _. row_passes by_trees x) refl c some
 
-pub record IsMapped (c : ℕ) : Type 0 where
-  pub agree : ends_agree ucd (decompose KitNfd c) (decompose KitNfkd c) ≡ true
-  pub joined : flat_map (compat_by by_rows) (decompose KitNfd c) ≡ decompose KitNfkd c
-  pub fixed : list_all (is_fixed_by by_rows) (decompose KitNfd c) ≡ true
-  pub begins : begins_so by_rows c (decompose KitNfkd c) ≡ true
-  pub starter : is_starter_so by_rows c ≡ true
-  pub canonical_ordered : is_ordered ucd (decompose KitNfd c) ≡ true
-  pub compat_ordered : is_ordered ucd (decompose KitNfkd c) ≡ true
-  pub is_scalar : scalar c ≡ true
-  pub canonical_scalars : list_all scalar (decompose KitNfd c) ≡ true
-  pub compat_scalars : list_all scalar (decompose KitNfkd c) ≡ true
-
-split : (a b c d e f g h i j : Bool) → (a && (b && (c && (d && (e && (f && (g && (h && (i && j))))))))) ≡ true
-    → (a ≡ true) × (b ≡ true) × (c ≡ true) × (d ≡ true) × (e ≡ true) × (f ≡ true) × (g ≡ true) × (h ≡ true) × (i ≡ true) × (j ≡ true)
-split a b c d e f g h i j all = grind (arith, nat_tests)
+abbrev pub IsMapped : ℕ → Type 0
+IsMapped c = (f : Fact) → holds by_rows c (decompose KitNfd c) (decompose KitNfkd c) f ≡ true
 
 pub mapped : (c : ℕ) → is_syllable c ≡ false → is_empty (pick KitNfkd (decomposition c)) ≡ false → IsMapped c
-unfolding ucd passes_all
 mapped c other some =
-    let rows : passes_all by_rows c (decompose KitNfd c) (decompose KitNfkd c) ≡ true = rw (decompose-other KitNfd c other, decompose-mapped KitNfkd c other some) (computed c some) in
-    let all = split _ _ _ _ _ _ _ _ _ _ rows in
-    record {
-      agree = all.0;
-      joined = same_string-true _ _ all.1;
-      fixed = all.2;
-      begins = all.3;
-      starter = all.4;
-      canonical_ordered = all.5;
-      compat_ordered = all.6;
-      is_scalar = all.7;
-      canonical_scalars = all.8;
-      compat_scalars = all.9;
-    }
+    each (holds by_rows c (decompose KitNfd c) (decompose KitNfkd c)) (rw (decompose-other KitNfd c other, decompose-mapped KitNfkd c other some) (computed c some))
 
 -- ---- every character is a Hangul syllable, or decomposes no further, or has a mapping
 

@@ -8,7 +8,7 @@ use Rattle.unicode_normalization.proofs.TableFacts.{class_of_jamo, is_final}
 use Rattle.nf_forms.specs.Ordering.{is_ordered}
 use Rattle.nf_forms.specs.Cluster.{IsOwnRow}
 use Rattle.nf_forms.specs.Laws.Ordering.{is_ordered-starter}
-use Rattle.nf_facts.proofs.Mapped.{IsMapped, by_row}
+use Rattle.nf_facts.proofs.Mapped.{CanonicalOrdered, CompatOrdered, IsMapped, by_row}
 use Rattle.nf_facts.proofs.SameForms.{starter_at}
 
 pub class-letter : (x : ℕ) → 0x1100 ≤ x → x < 0x1200 → ccc x ≡ 0
@@ -31,8 +31,8 @@ ordered form c =
 
 pub canonical-ordered : (c : ℕ) → is_ordered ucd (ucd.canonical c) ≡ true
 unfolding ucd
-canonical-ordered c = ordered KitNfd c (λ mapped. mapped.canonical_ordered)
+canonical-ordered c = ordered KitNfd c (λ mapped. mapped CanonicalOrdered)
 
 pub compat-ordered : (c : ℕ) → is_ordered ucd (ucd.compat c) ≡ true
 unfolding ucd
-compat-ordered c = ordered KitNfkd c (λ mapped. mapped.compat_ordered)
+compat-ordered c = ordered KitNfkd c (λ mapped. mapped CompatOrdered)

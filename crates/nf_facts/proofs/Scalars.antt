@@ -1,5 +1,5 @@
 -- What Unicode's data has for scalar values are scalar values, so that the form of a text is a text.
-use Rattle.std.proofs.Common.{rules, ◌≡◌, ℕ, true, List, Some, refl, inl, inr, arith}
+use Rattle.std.proofs.Common.{◌≡◌, ℕ, true, List, Some, refl, inl, inr, arith}
 use Rattle.nf_facts.proofs.Common.{false_from_ne_true, list_all, KitNfd, KitNfkd, decompose, Form, normal_form, ucd, kit_form}
 use Rattle.std.proofs.Math.Utf8.{scalar, low_scalar}
 use Rattle.std.specs.Str.{all_scalars}
@@ -11,7 +11,7 @@ use Rattle.nf_forms.specs.StreamSafe.{stream_safe}
 use Rattle.nf_forms.specs.SafeForm.{safe_form}
 use Rattle.nf_forms.specs.Twice.{HasScalarRows, ChangesOnce}
 use Rattle.nf_forms.specs.Laws.Audited.{scalars-all, list_all-stream_safe}
-use Rattle.nf_facts.proofs.Mapped.{IsMapped, mapped, by_row}
+use Rattle.nf_facts.proofs.Mapped.{CanonicalScalars, CompatScalars, OfScalar, IsMapped, mapped, by_row}
 use Rattle.nf_facts.proofs.FormsAfter.{stream_safe-safe_form, safe_form-twice}
 use Rattle.nf_facts.proofs.SameForms.{normal_form-ucd}
 use Rattle.nf_facts.proofs.Soundness.{is_sound-ucd}
@@ -20,8 +20,8 @@ use Rattle.nf_facts.proofs.Soundness.{is_sound-ucd}
 
 scalars-mapped : (form : KitForm) (c : ℕ) → IsMapped c → list_all scalar (decompose form c) ≡ true
 unfolding decompose
-scalars-mapped KitNfd c with_mapping = with_mapping.canonical_scalars
-scalars-mapped _ c with_mapping = search rules
+scalars-mapped KitNfd c with_mapping = with_mapping CanonicalScalars
+scalars-mapped _ c with_mapping = search (with_mapping CanonicalScalars, with_mapping CompatScalars)
 
 scalars-row : (form : KitForm) (c : ℕ) → scalar c ≡ true → list_all scalar (decompose form c) ≡ true
 scalars-row form c is =
@@ -35,7 +35,7 @@ scalar-rows = record { canonical = λ c is. rw scalars-all (scalars-row KitNfd c
 
 scalar-by_table : (a b c : ℕ) → IsCompositeOf a b c → scalar c ≡ true
 scalar-by_table a b c h =
-    (mapped c (IsCompositeOf-IsTableComposite a b c h).both_other (false_from_ne_true _ (λ none. let empty = pick-none KitNfd c none in let some = h.mapping in cc))).is_scalar
+    (mapped c (IsCompositeOf-IsTableComposite a b c h).both_other (false_from_ne_true _ (λ none. let empty = pick-none KitNfd c none in let some = h.mapping in cc))) OfScalar
 
 pub scalar-pair : (a b c : ℕ) → ucd.pair a b ≡ Some c → scalar c ≡ true
 unfolding ucd

@@ -4,10 +4,11 @@ use Rattle.nf_facts.proofs.Common.{nat_tests, KitNfd, KitNfkd, decompose, unicod
 use Rattle.unicode_normalization.proofs.DecomposeLemmas.{IsFull-decompose}
 use Rattle.nf_forms.specs.Sound.{joiner_is_plain, is_sound}
 use Rattle.nf_forms.specs.Laws.Sound.{IsSoundText}
-use Rattle.nf_facts.proofs.Mapped.{ends_agree, by_mapping}
+use Rattle.nf_facts.proofs.Mapped.{Agree, ends_agree, by_mapping}
 
 agree-rows : (c : ℕ) → ends_agree ucd (decompose KitNfd c) (decompose KitNfkd c) ≡ true
-agree-rows c = by_mapping c _ (λ same. rw same (grind (arith, nat_tests))) (λ mapped. mapped.agree)
+unfolding ucd
+agree-rows c = by_mapping c _ (λ same. rw same (grind (arith, nat_tests))) (λ mapped. mapped Agree)
 
 joiner-plain : joiner_is_plain ucd ≡ true
 unfolding ucd unicode_normalization

@@ -9,7 +9,7 @@ use Rattle.unicode_normalization.proofs.RebuildLemmas.{IsRebuilt}
 use Rattle.nf_forms.specs.Parting.{NeverSecond, BeginsAnew, IsParting}
 use Rattle.nf_forms.specs.Laws.ClosedForms.{counts_anew-lead}
 use Rattle.nf_facts.specs.Passing.{is_among, vowel_signs, halfwidth_marks, passes_check}
-use Rattle.nf_facts.proofs.Mapped.{by_row}
+use Rattle.nf_facts.proofs.Mapped.{Begins, by_row}
 use Rattle.nf_facts.specs.Refused.{no_vowel_sign}
 use Rattle.nf_facts.proofs.Rows.{class-letter}
 use Rattle.nf_facts.proofs.SameForms.{composite-ucd, normal_form-ucd, starter_at}
@@ -24,7 +24,7 @@ lead-starter s w starter = rw starter
 pub compat-lead : (c : ℕ) → ccc c ≡ 0 → is_among vowel_signs c ≡ false → is_among halfwidth_marks c ≡ false → lead ucd (ucd.compat c) ≡ 0
 unfolding ucd
 compat-lead c starter sign mark =
-    by_row KitNfkd c (λ w. lead ucd w ≡ 0) refl (λ x w low high _. lead-starter x w (class-letter x low high)) (lead-starter c [] starter) (λ mapped. grind (arith, nat_tests, mapped.begins))
+    by_row KitNfkd c (λ w. lead ucd w ≡ 0) refl (λ x w low high _. lead-starter x w (class-letter x low high)) (lead-starter c [] starter) (λ mapped. grind (arith, nat_tests, mapped Begins))
 
 -- ---- what passes the quick check of a composing form is second in no composite
 
