@@ -1,5 +1,5 @@
 -- What a compatibility form takes from a text is not there for a canonical form behind it: the ligature U+FB01.
-use Rattle.std.proofs.Common.{◌≡◌, ◌≢◌, ℕ, List, [], ◌∷◌, refl}
+use Rattle.std.proofs.Common.{◌≡◌, ◌≢◌, ℕ, List, [], ◌∷◌, refl, arith}
 use Rattle.nf_facts.proofs.Common.{unicode_normalization, Form, Nfc, Nfd, Nfkc, Nfkd, ucd}
 use Rattle.nf_forms.specs.Order.{by_class}
 use Rattle.nf_forms.specs.SafeForm.{safe_form}
@@ -21,8 +21,5 @@ pub direct : (f g : Form) → after g f ≡ g → (x : List ℕ) → safe_form g
 direct f g same x = rw same at (safe_form-after f g x)
 
 pub lost : (f g : Form) → after g f ≢ g → (x : List ℕ) × (safe_form g ucd (safe_form f ucd x) ≢ safe_form g ucd x)
-lost Nfkc Nfc other = (ligature, λ same. cc (safe_form-after Nfkc Nfc ligature, in_compatible.0, in_canonical.0))
-lost Nfkc Nfd other = (ligature, λ same. cc (safe_form-after Nfkc Nfd ligature, in_compatible.1, in_canonical.1))
-lost Nfkd Nfc other = (ligature, λ same. cc (safe_form-after Nfkd Nfc ligature, in_compatible.0, in_canonical.0))
-lost Nfkd Nfd other = (ligature, λ same. cc (safe_form-after Nfkd Nfd ligature, in_compatible.1, in_canonical.1))
-lost _ _ other = absurd (other refl)
+lost Nfkc Nfc other = (ligature, λ same. grind (arith, safe_form-after Nfkc Nfc ligature, in_compatible, in_canonical))
+lost f g other = (ligature, λ same. grind (arith, safe_form-after f g ligature, in_compatible, in_canonical))

@@ -1,6 +1,6 @@
 -- Starters that pass the quick check of a form part a text, but for the two halfwidth marks.
-use Rattle.std.proofs.Common.{◌≡◌, ℕ, true, false, List, [], ◌∷◌, refl, ◌∙◌, arith}
-use Rattle.nf_facts.proofs.Common.{nat_tests, KitNfd, KitNfkd, KitNfc, KitNfkc, Yes, ccc, quick_check, decompose, lead, Form, Nfc, Nfd, Nfkc, Nfkd, row_of, normal_form, ucd, kit_form}
+use Rattle.std.proofs.Common.{◌≡◌, ℕ, true, false, [], ◌∷◌, refl, ◌∙◌, arith}
+use Rattle.nf_facts.proofs.Common.{nat_tests, KitNfkd, KitNfc, KitNfkc, Yes, ccc, quick_check, decompose, lead, Form, Nfc, Nfkc, row_of, normal_form, ucd, kit_form}
 use Rattle.unicode_normalization.proofs.ComposedForms.{IsComposed-Nfc, IsComposed-Nfkc, of_starter, never_second}
 use Rattle.unicode_normalization.proofs.DecomposeLemmas.{decompose-final}
 use Rattle.unicode_normalization.proofs.FormsLemmas.{is_final-Nfd, is_final-Nfkd, is_yes-true, normalize-passes}
@@ -17,14 +17,10 @@ use Rattle.nf_facts.proofs.Soundness.{is_sound-ucd}
 
 -- ---- the compatibility row of a starter begins with a starter, but for the exceptions
 
-lead-starter : (s : ℕ) (w : List ℕ) → ccc s ≡ 0 → lead ucd (s ∷ w) ≡ 0
-unfolding ucd
-lead-starter s w starter = rw starter
-
 pub compat-lead : (c : ℕ) → ccc c ≡ 0 → is_among vowel_signs c ≡ false → is_among halfwidth_marks c ≡ false → lead ucd (ucd.compat c) ≡ 0
 unfolding ucd
 compat-lead c starter sign mark =
-    by_row KitNfkd c (λ w. lead ucd w ≡ 0) refl (λ x w low high _. lead-starter x w (class-letter x low high)) (lead-starter c [] starter) (λ mapped. grind (arith, nat_tests, mapped Begins))
+    by_row KitNfkd c (λ w. lead ucd w ≡ 0) refl (λ x w low high _. rw (class-letter x low high)) (rw starter) (λ mapped. grind (arith, nat_tests, mapped Begins))
 
 -- ---- what passes the quick check of a composing form is second in no composite
 
@@ -43,10 +39,8 @@ pub begins_anew : (f : Form) (c : ℕ) → ccc c ≡ 0 → quick_check (kit_form
 unfolding ucd decompose
 begins_anew Nfc c starter is = anew_rebuilt Nfc c (of_starter KitNfc IsComposed-Nfc c (rw is) (omega arith))
 begins_anew Nfkc c starter is = anew_rebuilt Nfkc c (of_starter KitNfkc IsComposed-Nfkc c (rw is) (omega arith))
-begins_anew Nfd c starter is =
-    record { first = c; rest = []; row = decompose-final KitNfd c (is_final-Nfd c is); starter = starter_at c (omega arith); never_second = never_second-yes Nfd c is }
-begins_anew Nfkd c starter is =
-    record { first = c; rest = []; row = decompose-final KitNfkd c (is_final-Nfkd c is); starter = starter_at c (omega arith); never_second = never_second-yes Nfkd c is }
+begins_anew f c starter is =
+    record { first = c; rest = []; row = search (decompose-final, is_final-Nfd, is_final-Nfkd); starter = starter_at c (omega arith); never_second = never_second-yes f c is }
 
 pub alone : (f : Form) (c : ℕ) → quick_check (kit_form f) c ≡ Yes → normal_form f ucd (c ∷ []) ≡ c ∷ []
 alone f c is = normal_form-ucd f (c ∷ []) ∙ normalize-passes (kit_form f) (c ∷ []) (rw is) (is_ordered-one c)
