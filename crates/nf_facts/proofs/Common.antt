@@ -4,6 +4,7 @@ pub use Rattle.std.proofs.lemmas.Bool.Decides.{nat_tests}
 pub use Rattle.std.specs.List.{list_all, All}
 pub use Rattle.ucd_normal.specs.CanonicalCombiningClass.{canonical_combining_class as ccc}
 pub use Rattle.ucd_normal.specs.QuickCheck.{quick_check}
+pub use Rattle.ucd_normal.specs.declared.forms.Form.{Form as KitForm}
 pub use Rattle.ucd_normal.specs.declared.forms.Form.TheVariants.{Nfd as KitNfd, Nfkd as KitNfkd, Nfc as KitNfc, Nfkc as KitNfkc}
 pub use Rattle.ucd_normal.specs.declared.forms.QuickCheck.TheVariants.{No, Yes}
 unfoldable pub use Rattle.unicode_normalization.specs.Decompose.{decompose}

@@ -13,8 +13,8 @@ use Rattle.unicode_normalization.proofs.StreamSafeLemmas.{stream_safe-safe}
 use Rattle.nf_forms.specs.StreamSafe.{stream_safe}
 use Rattle.nf_forms.specs.SafeForm.{safe_form}
 use Rattle.nf_facts.specs.After.{after}
-use Rattle.nf_facts.proofs.Fullness.{is_fixed, compat-fixed, compat-joined, canonical-fixed}
-use Rattle.nf_facts.proofs.SameForms.{normal_form-ucd, mark_at}
+use Rattle.nf_facts.proofs.Rows.{is_fixed, compat-fixed, compat-joined, canonical-fixed}
+use Rattle.nf_facts.proofs.SameForms.{normal_form-ucd}
 use Rattle.nf_facts.proofs.SameSafe.{stream_safe-ucd}
 
 -- ---- NFKD sees no difference between a text and its NFD
@@ -23,9 +23,9 @@ abbrev compat_of : ℕ → List ℕ
 compat_of = decompose KitNfkd
 
 compat-sink : (c : ℕ) (ds : List ℕ) → list_all is_fixed (c ∷ ds) ≡ true → canonical_order (flat_map compat_of (sink c ds)) ≡ canonical_order (flat_map compat_of (c ∷ ds))
-unfolding sink canonical_order
+unfolding ucd sink canonical_order
 compat-sink c [] all = refl
-compat-sink c (d ∷ ds) all = grind (arith, nat_tests, compat-fixed c, compat-fixed d, is_reorderable-true c d, mark_at, sink_comm c d (canonical_order (flat_map compat_of ds)), compat-sink c ds)
+compat-sink c (d ∷ ds) all = grind (arith, nat_tests, compat-fixed c, compat-fixed d, is_reorderable-true c d, sink_comm c d (canonical_order (flat_map compat_of ds)), compat-sink c ds)
 
 compat-order : (w : List ℕ) → list_all is_fixed w ≡ true → canonical_order (flat_map compat_of (canonical_order w)) ≡ canonical_order (flat_map compat_of w)
 unfolding canonical_order

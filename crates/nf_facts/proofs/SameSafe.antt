@@ -8,7 +8,7 @@ use Rattle.nf_forms.specs.Laws.Runs.{lead-marks}
 use Rattle.nf_forms.specs.Laws.Sound.{JoinerIsPlain, JoinerIsPlain-from_sound}
 use Rattle.nf_forms.specs.Laws.StreamSafe.{trail-decomposed-push, trail-decomposed-joiner}
 use Rattle.nf_forms.specs.Laws.Parting.{last_run}
-use Rattle.nf_facts.proofs.Soundness.{is_sound-ucd}
+use Rattle.nf_facts.proofs.Rows.{is_sound-ucd}
 
 lead-some : (p : Properties) (w : List ℕ) → has_starter p w ≡ true → lead p w < length w
 lead-some p [] h = cc

@@ -1,10 +1,8 @@
 -- What Unicode's data has for scalar values are scalar values, so that the form of a text is a text.
-use Rattle.std.proofs.Common.{◌≡◌, ℕ, true, List, Some, refl, inl, inr, arith}
-use Rattle.nf_facts.proofs.Common.{false_from_ne_true, list_all, KitNfd, KitNfkd, decompose, Form, normal_form, ucd, kit_form}
+use Rattle.std.proofs.Common.{⊎_elim, ◌≡◌, ℕ, true, List, Some, refl, arith}
+use Rattle.nf_facts.proofs.Common.{KitForm, false_from_ne_true, list_all, KitNfd, KitNfkd, decompose, Form, normal_form, ucd, kit_form}
 use Rattle.std.proofs.Math.Utf8.{scalar, low_scalar}
 use Rattle.std.specs.Str.{all_scalars}
-use Rattle.ucd_normal.specs.declared.forms.Form.{Form as KitForm}
-use Rattle.ucd_normal.specs.Composition.{IsCompositeOf}
 use Rattle.unicode_normalization.proofs.DecomposeLemmas.{pick-none, primary_composite-some, IsCompositeOf-IsTableComposite}
 use Rattle.unicode_normalization.proofs.KeptLemmas.{list_all-normalize}
 use Rattle.nf_forms.specs.StreamSafe.{stream_safe}
@@ -14,7 +12,7 @@ use Rattle.nf_forms.specs.Laws.Audited.{scalars-all, list_all-stream_safe}
 use Rattle.nf_facts.proofs.Mapped.{CanonicalScalars, CompatScalars, OfScalar, IsMapped, mapped, by_row}
 use Rattle.nf_facts.proofs.FormsAfter.{stream_safe-safe_form, safe_form-twice}
 use Rattle.nf_facts.proofs.SameForms.{normal_form-ucd}
-use Rattle.nf_facts.proofs.Soundness.{is_sound-ucd}
+use Rattle.nf_facts.proofs.Rows.{is_sound-ucd}
 
 -- ---- rows
 
@@ -33,24 +31,19 @@ scalar-rows = record { canonical = λ c is. rw scalars-all (scalars-row KitNfd c
 
 -- ---- composites
 
-scalar-by_table : (a b c : ℕ) → IsCompositeOf a b c → scalar c ≡ true
-scalar-by_table a b c h =
-    (mapped c (IsCompositeOf-IsTableComposite a b c h).both_other (false_from_ne_true _ (λ none. let empty = pick-none KitNfd c none in let some = h.mapping in cc))) OfScalar
-
 pub scalar-pair : (a b c : ℕ) → ucd.pair a b ≡ Some c → scalar c ≡ true
 unfolding ucd
 scalar-pair a b c h =
-    elim (primary_composite-some a b c h) [
-      | inl hangul ↦ low_scalar c (grind arith)
-      | inr table ↦ scalar-by_table a b c table
-    ]
+    ⊎_elim (λ hangul. low_scalar c (grind arith))
+    (λ table. mapped c (IsCompositeOf-IsTableComposite a b c table).both_other (false_from_ne_true _ (λ none. let empty = pick-none KitNfd c none in let some = table.mapping in cc)) OfScalar)
+    (primary_composite-some a b c h)
 
 -- ---- forms
 
 pub scalars-normal_form : (f : Form) (x : List ℕ) → all_scalars x ≡ true → all_scalars (normal_form f ucd x) ≡ true
 unfolding ucd
 scalars-normal_form f x is =
-    rw (normal_form-ucd f x, scalars-all) (list_all-normalize (kit_form f) scalar (scalars-row (kit_form f)) (λ a b c _ _ made. scalar-pair a b c made) x (rw scalars-all at is))
+    rw (normal_form-ucd f x, scalars-all) (list_all-normalize (kit_form f) scalar (scalars-row (kit_form f)) (λ a b c _ _. scalar-pair a b c) x (rw scalars-all at is))
 
 scalars-safe_form : (f : Form) (x : List ℕ) → all_scalars x ≡ true → all_scalars (safe_form f ucd x) ≡ true
 unfolding safe_form

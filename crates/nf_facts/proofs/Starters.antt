@@ -11,9 +11,8 @@ use Rattle.nf_forms.specs.Laws.ClosedForms.{counts_anew-lead}
 use Rattle.nf_facts.specs.Passing.{is_among, vowel_signs, halfwidth_marks, passes_check}
 use Rattle.nf_facts.proofs.Mapped.{Begins, by_row}
 use Rattle.nf_facts.specs.Refused.{no_vowel_sign}
-use Rattle.nf_facts.proofs.Rows.{class-letter}
+use Rattle.nf_facts.proofs.Rows.{class-letter, is_sound-ucd}
 use Rattle.nf_facts.proofs.SameForms.{composite-ucd, normal_form-ucd, starter_at}
-use Rattle.nf_facts.proofs.Soundness.{is_sound-ucd}
 
 -- ---- the compatibility row of a starter begins with a starter, but for the exceptions
 

@@ -1,4 +1,4 @@
-use Rattle.nf_facts.proofs.Ascii.{IsPlain-ascii}
+use Rattle.nf_facts.proofs.Ranges.{IsPlain-ascii}
 use Rattle.nf_facts.proofs.laws.ascii_is_plain.Goals as goal
 
 pub returns : goal.returns

@@ -1,4 +1,4 @@
-use Rattle.nf_facts.proofs.Soundness.{is_sound-ucd, IsSoundText-ucd}
+use Rattle.nf_facts.proofs.Rows.{is_sound-ucd, IsSoundText-ucd}
 use Rattle.nf_facts.proofs.laws.every_character_is_sound.Goals as goal
 
 pub returns : goal.returns
