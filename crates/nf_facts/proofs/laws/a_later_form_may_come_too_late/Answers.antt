@@ -18,12 +18,9 @@ in_compatible : (safe_form Nfkc ucd ligature ≡ 0x66 ∷ 0x69 ∷ []) × (safe_
 unfolding ligature safe_form by_class ucd unicode_normalization
 in_compatible = (refl, refl)
 
-direct : (f g : Form) → after g f ≡ g → (x : List ℕ) → safe_form g ucd (safe_form f ucd x) ≡ safe_form g ucd x
-direct f g same x = rw same at (safe_form-after f g x)
-
 lost : (f g : Form) → after g f ≢ g → (x : List ℕ) × (safe_form g ucd (safe_form f ucd x) ≢ safe_form g ucd x)
 lost Nfkc Nfc other = (ligature, λ same. grind (arith, safe_form-after Nfkc Nfc ligature, in_compatible, in_canonical))
 lost f g other = (ligature, λ same. grind (arith, safe_form-after f g ligature, in_compatible, in_canonical))
 
 pub returns : goal.returns
-returns c = record { direct = direct; lost = lost }
+returns c = record { direct = λ f g same x. rw same at (safe_form-after f g x); lost = lost }

@@ -1,12 +1,11 @@
 -- U+000A closes what stands before it, in each form.
-use Rattle.std.proofs.Common.{◌≡◌, ℕ, [], None, refl, arith}
+use Rattle.std.proofs.Common.{◌≡◌, [], refl, arith}
 use Rattle.nf_facts.proofs.Common.{unicode_normalization, Form, ucd}
 use Rattle.ucd_normal.specs.Composition.{paired_with}
 use Rattle.ucd_normal.specs.Compositions.{compositions}
 use Rattle.ucd_normal.proofs.CompositionLemmas.{composite-paired_with}
 use Rattle.unicode_normalization.specs.Compose.{primary_composite}
 use Rattle.unicode_normalization.specs.Hangul.{compose_hangul}
-use Rattle.nf_forms.specs.Compose.{composite}
 use Rattle.nf_forms.specs.Closing.{IsClosing}
 use Rattle.nf_forms.specs.Laws.Cluster.{row-own}
 use Rattle.nf_facts.specs.LineFeed.{line_feed}
@@ -19,11 +18,8 @@ no_compositions : compositions line_feed ≡ []
 unfolding unicode_normalization
 no_compositions = refl
 
-first_in_none : (b : ℕ) → composite ucd line_feed b ≡ None
-unfolding ucd primary_composite compose_hangul paired_with
-first_in_none b = rw (composite-paired_with line_feed b, no_compositions)
-
 IsClosing-line_feed : (f : Form) → IsClosing ucd f line_feed
+unfolding ucd primary_composite compose_hangul paired_with
 IsClosing-line_feed f =
     let plain = IsPlain-ascii line_feed (omega arith) in
     record {
@@ -31,7 +27,7 @@ IsClosing-line_feed f =
       row = row-own ucd f line_feed (record { canonical = plain.canonical; compat = plain.compat });
       compat = plain.compat;
       never_second = λ _ a. rw (plain.never_second a);
-      never_first = λ _. first_in_none;
+      never_first = λ _ b. rw (composite-paired_with line_feed b, no_compositions);
     }
 
 pub returns : goal.returns

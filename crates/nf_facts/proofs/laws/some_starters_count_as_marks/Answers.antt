@@ -1,8 +1,7 @@
 -- Starters of which NFKD has non-starters alone: two halfwidth marks, of one each, which are their own canonical rows, and three
 -- vowel signs.
-use Rattle.std.proofs.Common.{◌≡◌, ℕ, true, false, ◌||◌, [], ◌∷◌, length, arith, refl}
+use Rattle.std.proofs.Common.{◌≡◌, ℕ, false, [], ◌∷◌, length, arith, refl}
 use Rattle.nf_facts.proofs.Common.{nat_tests, unicode_normalization, has_starter, ucd}
-use Rattle.nf_facts.specs.Passing.{is_among, halfwidth_marks, vowel_signs}
 use Rattle.nf_facts.proofs.laws.some_starters_count_as_marks.Goals as goal
 
 abbrev IsCounted : ℕ → Type 0
@@ -16,11 +15,5 @@ at_vowels : (has_starter ucd (ucd.compat 0xF73) ≡ false) × (has_starter ucd (
 unfolding ucd unicode_normalization
 at_vowels = (refl, refl, refl)
 
-counted : (c : ℕ) → is_among halfwidth_marks c ≡ true → IsCounted c
-counted c is = grind (arith, nat_tests, at_marks)
-
-no_starter : (c : ℕ) → (is_among halfwidth_marks c || is_among vowel_signs c) ≡ true → has_starter ucd (ucd.compat c) ≡ false
-no_starter c is = grind (arith, nat_tests, at_marks, at_vowels)
-
 pub returns : goal.returns
-returns c = record { none = no_starter; once = λ x among. (counted x among).1; own = λ x among. (counted x among).2 }
+returns c = grind (arith, nat_tests, at_marks, at_vowels)
