@@ -3,6 +3,7 @@ use Rattle.std.proofs.Common.{◌≡◌, ℕ, Bool, true, false, not, ◌||◌, 
 use Rattle.std.proofs.lemmas.Bool.{true_from_ne_false}
 use Rattle.ucd_table.specs.Rows.{Range, in_ranges}
 use Rattle.ucd_table.proofs.Stepped.{Stepped, of_ranges, map_stepped, zip_stepped}
+use Rattle.ucd_table.proofs.StepsLemmas.{rises_from, range_rows}
 use Rattle.ucd_table.proofs.RangedFacts.{at_points, Stepped-at_points, points_ok}
 use Rattle.nf_facts.proofs.Common.{nat_tests, KitNfkd, KitNfc, ucd}
 use Rattle.ucd_table.proofs.Computing.{tables}
@@ -16,29 +17,22 @@ use Rattle.nf_forms.specs.Ucd.{is_assigned}
 use Rattle.nf_facts.specs.Plain.{IsPlain}
 use Rattle.nf_facts.proofs.Rows.{own_row-passing}
 
--- no step at which the test fails holds a code point
-unfoldable pub none_fails : (p : ℕ → Bool) → Stepped p → Bool
-none_fails p s = at_points p s (λ b. b) (λ _ _. false)
+-- no step at which the test fails holds a code point of the ranges
+unfoldable pub none_fails : (ranges : List Range) → rises_from 0 (range_rows ranges) ≡ true → (p : ℕ → Bool) → Stepped p → Bool
+none_fails ranges rising p s = at_points _ (zip_stepped (λ inside b. not inside || b) (in_ranges ranges) p (of_ranges ranges rising) s) (λ b. b) (λ _ _. false)
 
--- so each code point of the ranges passes
-pub none_fails-true : (ranges : List Range) (p : ℕ → Bool) (s : Stepped (λ c. not (in_ranges ranges c) || p c)) → none_fails _ s ≡ true → (c : ℕ) → in_ranges ranges c ≡ true → p c ≡ true
+-- so each of them passes
+pub none_fails-true : (ranges : List Range) (rising : rises_from 0 (range_rows ranges) ≡ true) (p : ℕ → Bool) (s : Stepped p) → none_fails ranges rising p s ≡ true
+    → (c : ℕ) → in_ranges ranges c ≡ true → p c ≡ true
 unfolding none_fails
-none_fails-true ranges p s ok c inside =
-    rw inside at (true_from_ne_false _ (λ fails. let fault = Stepped-at_points _ s (λ b. b) (λ _ _. false) ok c fails in cc))
-
-ascii : List Range
-ascii = (0x00, 0x7F) ∷ []
-
-assigned_there : Stepped (λ c. not (in_ranges ascii c) || is_assigned c)
-unfolding tables points_ok ascii is_assigned general_category_stepped
-assigned_there =
-    zip_stepped (λ inside b. not inside || b) (in_ranges ascii) is_assigned (of_ranges ascii refl)
-    (map_stepped (λ v. not (general_category_eq v Unassigned)) general_category general_category_stepped)
+none_fails-true ranges rising p s ok c inside =
+    let steps = zip_stepped (λ inside b. not inside || b) (in_ranges ranges) p (of_ranges ranges rising) s in
+    rw inside at (true_from_ne_false _ (λ fails. let fault = Stepped-at_points _ steps (λ b. b) (λ _ _. false) ok c fails in cc))
 
 assigned-ascii : (c : ℕ) → c < 0x80 → is_assigned c ≡ true
-unfolding assigned_there none_fails
+unfolding tables points_ok is_assigned general_category_stepped none_fails
 assigned-ascii c below =
-    none_fails-true ascii is_assigned assigned_there refl c (grind (arith, nat_tests))
+    none_fails-true ((0x00, 0x7F) ∷ []) refl is_assigned (map_stepped (λ v. not (general_category_eq v Unassigned)) general_category general_category_stepped) refl c (grind (arith, nat_tests))
 
 pub IsPlain-ascii : (c : ℕ) → c < 0x80 → IsPlain ucd c
 unfolding ucd
