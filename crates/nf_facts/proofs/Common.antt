@@ -1,5 +1,5 @@
 -- The names that most of these proofs cite, passed on from one place. Declares nothing.
-pub use Rattle.std.proofs.lemmas.Bool.{cases_Bool, false_from_ne_true, or_parts, or_cases, and_parts, cases_eq, or_right, not-true}
+pub use Rattle.std.proofs.lemmas.Bool.{cases_Bool, false_from_ne_true, cases_eq, or_right}
 pub use Rattle.std.proofs.lemmas.Bool.Decides.{nat_tests}
 pub use Rattle.std.specs.List.{list_all, All}
 pub use Rattle.ucd_normal.specs.CanonicalCombiningClass.{canonical_combining_class as ccc}

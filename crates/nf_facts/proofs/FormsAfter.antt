@@ -70,8 +70,9 @@ nfkd-form f = normalize-after f Nfkd
 pub stream_safe-safe_form : (f : Form) (x : List ℕ) → stream_safe ucd (safe_form f ucd x) ≡ safe_form f ucd x
 unfolding safe_form
 stream_safe-safe_form f x =
-    simp (stream_safe-ucd, normal_form-ucd)
-    (stream_safe-safe _ (rw (is_stream_safe-nfkd (normalize (kit_form f) (kit_stream_safe x)), nfkd-form f (kit_stream_safe x), ← (is_stream_safe-nfkd (kit_stream_safe x))) (is_stream_safe-stream_safe x)))
+    let y = kit_stream_safe x in
+    simp (stream_safe-ucd, normal_form-ucd) (stream_safe-safe (normalize (kit_form f) y)
+    (rw (is_stream_safe-nfkd (normalize (kit_form f) y), nfkd-form f y, ← (is_stream_safe-nfkd y)) (is_stream_safe-stream_safe x)))
 
 pub safe_form-after : (f g : Form) (x : List ℕ) → safe_form g ucd (safe_form f ucd x) ≡ safe_form (after g f) ucd x
 unfolding safe_form

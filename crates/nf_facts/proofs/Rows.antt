@@ -62,7 +62,8 @@ is_fixed = is_fixed_by by_rows
 pub canonical-fixed : (c : ℕ) → list_all is_fixed (decompose KitNfd c) ≡ true
 canonical-fixed c =
     by_mapping c _
-    (λ same. rw same (list_all-from_AllPass is_fixed _ (λ k d within. or_right _ _ (is_final-parts KitNfkd _ (AllPass-from_list_all (is_final KitNfkd) _ (IsFull-decompose KitNfkd c).final k d within)).0)))
+    (λ same. rw same (list_all-from_AllPass is_fixed _ (λ k d within.
+    or_right _ _ (is_final-parts KitNfkd _ (AllPass-from_list_all (is_final KitNfkd) _ (IsFull-decompose KitNfkd c).final k d within)).0)))
     (λ mapped. mapped Fixed)
 
 pub compat-fixed : (x : ℕ) → is_fixed x ≡ true → is_nonstarter ucd x ≡ true → decompose KitNfkd x ≡ x ∷ []

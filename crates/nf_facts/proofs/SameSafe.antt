@@ -5,7 +5,7 @@ use Rattle.unicode_normalization.specs.StreamSafe.{leading_nonstarters, trailing
 use Rattle.unicode_normalization.proofs.StreamSafeLemmas.{stream_safe_after-nil, stream_safe_after-parted, stream_safe_after-together}
 use Rattle.nf_forms.specs.StreamSafe.{joiner, safe_step, stream_safe}
 use Rattle.nf_forms.specs.Laws.Runs.{lead-marks}
-use Rattle.nf_forms.specs.Laws.Sound.{JoinerIsPlain, JoinerIsPlain-from_sound}
+use Rattle.nf_forms.specs.Laws.Sound.{JoinerIsPlain-from_sound}
 use Rattle.nf_forms.specs.Laws.StreamSafe.{trail-decomposed-push, trail-decomposed-joiner}
 use Rattle.nf_forms.specs.Laws.Parting.{last_run}
 use Rattle.nf_facts.proofs.Rows.{is_sound-ucd}
@@ -22,9 +22,6 @@ count_after-ucd count c = grind (arith, nat_tests, lead-some ucd (ucd.compat c),
 last_run-push : (out : List ℕ) (c : ℕ) → last_run ucd (out ++ c ∷ []) ≡ count_after (last_run ucd out) c
 last_run-push out c = rw (count_after-ucd (last_run ucd out) c) (trail-decomposed-push ucd Nfkd out c)
 
-plain : JoinerIsPlain ucd
-plain = JoinerIsPlain-from_sound ucd (is_sound-ucd joiner)
-
 safe-after : (out x : List ℕ) → fold (safe_step ucd) out x ≡ out ++ stream_safe_after (last_run ucd out) x
 unfolding ucd leading_nonstarters
 safe-after out [] = rw (stream_safe_after-nil, append-nil)
@@ -32,7 +29,8 @@ safe-after out (c ∷ x) =
     ⊎_elim
     (λ many.
     let here : safe_step ucd out c ≡ (out ++ joiner ∷ []) ++ c ∷ [] = rw many in
-    rw (here, safe-after ((out ++ joiner ∷ []) ++ c ∷ []) x, append_assoc, append_assoc, last_run-push (out ++ joiner ∷ []) c, trail-decomposed-joiner ucd plain Nfkd out, stream_safe_after-parted (last_run ucd out) c x many))
+    let anew = trail-decomposed-joiner ucd (JoinerIsPlain-from_sound ucd (is_sound-ucd joiner)) Nfkd out in
+    rw (here, safe-after ((out ++ joiner ∷ []) ++ c ∷ []) x, append_assoc, append_assoc, last_run-push (out ++ joiner ∷ []) c, anew, stream_safe_after-parted (last_run ucd out) c x many))
     (λ few.
     let here : safe_step ucd out c ≡ out ++ c ∷ [] = rw few in
     rw (here, safe-after (out ++ c ∷ []) x, append_assoc, last_run-push out c, stream_safe_after-together (last_run ucd out) c x few))

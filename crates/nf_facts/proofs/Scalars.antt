@@ -45,10 +45,11 @@ unfolding ucd
 scalars-normal_form f x is =
     rw (normal_form-ucd f x, scalars-all) (list_all-normalize (kit_form f) scalar (scalars-row (kit_form f)) (λ a b c _ _. scalar-pair a b c) x (rw scalars-all at is))
 
-scalars-safe_form : (f : Form) (x : List ℕ) → all_scalars x ≡ true → all_scalars (safe_form f ucd x) ≡ true
-unfolding safe_form
-scalars-safe_form f x is =
-    scalars-normal_form f (stream_safe ucd x) (rw scalars-all (list_all-stream_safe ucd scalar refl x (rw scalars-all at is)))
-
 pub changes_once : (f : Form) → ChangesOnce f ucd
-changes_once f = record { text = scalars-safe_form f; sound = λ c _. is_sound-ucd c; safe = λ x _. stream_safe-safe_form f x; form = λ x _. safe_form-twice f x }
+unfolding safe_form
+changes_once f = record {
+  text = λ x is. scalars-normal_form f (stream_safe ucd x) (rw scalars-all (list_all-stream_safe ucd scalar refl x (rw scalars-all at is)));
+  sound = λ c _. is_sound-ucd c;
+  safe = λ x _. stream_safe-safe_form f x;
+  form = λ x _. safe_form-twice f x;
+}
