@@ -1,4 +1,3 @@
-pub mod EndsLemmas
 pub mod OwnLemmas
 pub mod OrderingLemmas
 pub mod AuditLemmas

@@ -1,29 +1,22 @@
 -- What is known of a character of which a decomposed form is itself.
-use Rattle.std.proofs.Common.{◌≡◌, ℕ, true, List, [], ◌∷◌, ◌++◌, refl, sym, ap, ◌∙◌, append-nil, eqb-true}
+use Rattle.std.proofs.Common.{◌≡◌, ℕ, true, List, [], ◌∷◌, ◌++◌, append-nil, eqb-true}
 use Rattle.nf_forms.specs.Properties.{Properties, is_starter}
 use Rattle.nf_forms.specs.declared.form.Form.TheVariants.{Nfd, Nfkd}
 use Rattle.nf_forms.specs.Order.{by_class, order}
-use Rattle.nf_forms.specs.Laws.Order.{order-push_starter}
 use Rattle.nf_forms.specs.Laws.Starters.{starters, starters-order}
 use Rattle.nf_row.specs.Kind.{IsKnownParting, IsOwn}
 
 module _ (p : Properties) where
-  order-none : order p [] ≡ []
-  unfolding by_class
-  order-none = refl
-
   -- decomposed text of which the order is a starter alone
   order-one : (c : ℕ) (w : List ℕ) → starters p w ≡ true ∷ [] → order p w ≡ c ∷ [] → w ≡ c ∷ []
+  unfolding by_class
   order-one c [] one is = cc
-  order-one c (d ∷ []) one is =
-      let starts : is_starter p d ≡ true = cc in
-      sym (order-push_starter p [] d starts ∙ ap (λ v. v ++ d ∷ []) order-none) ∙ is
+  order-one c (d ∷ []) one is = let starts : is_starter p d ≡ true = cc in rw starts at is
   order-one c (d ∷ e ∷ w) one is = cc
 
   row_is : (c : ℕ) (row : List ℕ) → is_starter p c ≡ true → order p (row ++ []) ≡ c ∷ [] → row ≡ c ∷ []
   row_is c row starts is =
-      let same = ap (order p) (sym (append-nil row)) ∙ is in
-      order-one c row (sym (starters-order p row) ∙ ap (starters p) same ∙ ap (λ b. b ∷ []) starts) same
+      let same : order p row ≡ c ∷ [] = rw append-nil at is in order-one c row (rw (← (starters-order p row), same, starts)) same
 
   pub own_starter : (c : ℕ) → IsKnownParting p Nfkd c → IsKnownParting p Nfd c → IsOwn p c 0
   own_starter c compat canonical = record {

@@ -1,15 +1,12 @@
-use Rattle.std.proofs.Common.{◌≤◌, arith, sym, ◌∙◌, subst, inl, inr, rules, eq-or-lt_of_le}
+use Rattle.std.proofs.Common.{rules}
+use borrow.Author.Count.{below_more}
+use Rattle.std.specs.Char.{IsScalar}
 use Rattle.nf_forms.specs.Audit.{PassesAudit}
 use Rattle.nf_row.proofs.auditing.audit.Goals as goal
 
 pub loop-code-preserved : goal.loop-code-preserved
-loop-code-preserved g c = λ d below scalar.
-    let p = g.R.Rows.properties c.args.rows.now in
-    let within : d ≤ c.loop-code.code = omega (arith, below) in
-    elim (eq-or-lt_of_le within) [
-      | inl same ↦ subst (PassesAudit p) (c.in-Some.ensures.value.1 ∙ sym same) c.in_default-first_failed.ensures
-      | inr earlier ↦ c.loop-code.invariant d earlier scalar
-    ]
+loop-code-preserved g c =
+    below_more (λ d. IsScalar d → PassesAudit (g.R.Rows.properties c.args.rows.now) d) _ c.loop-code.invariant (λ _. rw c.in-Some.ensures.value.1 at c.in_default-first_failed.ensures)
 
 -- It stands so that a wrong body is refused at once: without it the prover would run once more, to offer an answer.
 pub returns-clause-audited : goal.returns-clause-audited

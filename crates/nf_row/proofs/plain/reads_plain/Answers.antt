@@ -1,17 +1,13 @@
-use Rattle.std.proofs.Common.{◌≤◌, refl, sym, ◌∙◌, inl, inr, subst, arith, eq-or-lt_of_le}
+use Rattle.std.proofs.Common.{refl, subst, arith}
+use borrow.Author.Count.{below_more}
 use Rattle.nf_row.specs.Ascii.{IsUnchanged, IsFirstInNone}
 use Rattle.nf_row.proofs.plain.reads_plain.Goals as goal
 
 pub loop-code-preserved : goal.loop-code-preserved
-loop-code-preserved g c = λ a below.
+loop-code-preserved g c =
     let p = g.R.Rows.properties c.args.rows.now in
-    let within : a ≤ c.loop-code.code = omega arith in
-    elim (eq-or-lt_of_le within) [
-      | inl same ↦
-          subst (λ x. IsUnchanged p x × IsFirstInNone p x) (c.from-a.ensures ∙ sym same)
-          (c.is_unchanged.ensures.0 c.if-not-is_unchanged.false, c.is_first_in_none.ensures.0 c.if-not-is_first_in_none.false)
-      | inr earlier ↦ c.loop-code.invariant a earlier
-    ]
+    below_more (λ a. IsUnchanged p a × IsFirstInNone p a) _ c.loop-code.invariant
+    (subst (λ a. IsUnchanged p a × IsFirstInNone p a) c.from-a.ensures (c.is_unchanged.ensures.0 c.if-not-is_unchanged.false, c.is_first_in_none.ensures.0 c.if-not-is_first_in_none.false))
 
 pub returns : goal.returns
 returns g c =
