@@ -1,3 +1,1 @@
-pub mod OwnLemmas
 pub mod OrderingLemmas
-pub mod AuditLemmas
