@@ -1,4 +1,4 @@
-use Rattle.std.proofs.Common.{◌≤◌, arith, ap, length, refl, flat_map}
+use Rattle.std.proofs.Common.{arith, ap, length, refl, flat_map}
 use Rattle.nf_forms.specs.Laws.Starters.{length-order}
 use Rattle.nf_row.proofs.auditing.is_within.Goals as goal
 
@@ -6,9 +6,14 @@ pub returns-in-None : goal.returns-in-None
 returns-in-None g c =
     let p = g.R.Rows.properties c.args.rows.now in (
       λ e. cc,
-      λ same.
-          let few : length c.args.compat.now.items ≤ 18 =
-          omega (arith, c.as_slice-whole.ensures.fits, ap length c.as_slice-whole.ensures.value, ap length c.ordered-whole.ensures, length-order p c.args.compat.now.items) in
-          let many = c.in-None.ensures.none refl in
-          absurd (omega (arith, many, ap length same, few, length-order p (flat_map p.compat c.args.canonical.now.items), length-order p c.args.compat.now.items)),
+      λ same. absurd (omega (
+        arith,
+        c.in-None.ensures.none refl,
+        ap length same,
+        c.as_slice-whole.ensures.fits,
+        ap length c.as_slice-whole.ensures.value,
+        ap length c.ordered-whole.ensures,
+        length-order p (flat_map p.compat c.args.canonical.now.items),
+        length-order p c.args.compat.now.items,
+      )),
     )

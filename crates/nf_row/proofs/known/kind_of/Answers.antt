@@ -7,15 +7,8 @@ pub returns-in-Maybe-2 : goal.returns-in-Maybe-2
 unfolding ucd
 returns-in-Maybe-2 c =
     let row = c.is_own_row.ensures c.if-is_own_row.true in
-    record {
-      own = record {
-        sound = c.every_character_is_sound.ensures.character c.args.c;
-        class = cc;
-        canonical = row.canonical;
-        compat = row.compat;
-      };
-      never_second = λ none. cc;
-    }
+    let sound = c.every_character_is_sound.ensures.character c.args.c in
+    grind arith
 
 pub returns-in-Yes-2 : goal.returns-in-Yes-2
 returns-in-Yes-2 c = record {

@@ -1,12 +1,8 @@
--- They stand so that a wrong body is refused at once: without them the prover would run once more, to offer answers.
+-- It stands so that a wrong body is refused at once: without it the prover would run once more, to offer an answer.
 use Rattle.std.proofs.Common.{rules}
 use Rattle.nf_forms.specs.Ucd.{ucd}
 use Rattle.nf_row.proofs.ucd.UcdRows.canonical.Goals as goal
 
-pub returns-clause-row : goal.returns-clause-row
+pub returns : goal.returns
 unfolding ucd
-returns-clause-row c = search rules
-
-pub returns-clause-long : goal.returns-clause-long
-unfolding ucd
-returns-clause-long c = search rules
+returns c = search rules
