@@ -26,10 +26,6 @@ use Rattle.nf_facts.specs.Passing.{is_among, halfwidth_marks, vowel_signs, mappe
 abbrev pub classes_of : Tables → Properties
 classes_of t = record ucd { class = t.class }
 
--- what soundness asks of the two rows together
-abbrev pub ends_agree : Properties → List ℕ → List ℕ → Bool
-ends_agree p canonical compat = ends_within p canonical compat && marks_agree p canonical compat
-
 -- the compatibility row of a character that is no Hangul syllable
 abbrev pub compat_by : Tables → ℕ → List ℕ
 compat_by t x = or_itself x (full t KitNfkd x)
@@ -38,14 +34,15 @@ compat_by t x = or_itself x (full t KitNfkd x)
 abbrev pub is_fixed_by : Tables → ℕ → Bool
 is_fixed_by t x = t.class x == 0 || is_empty (pick KitNfkd (t.entry x))
 
--- what is asked of a character with a mapping, and of its two rows: `Joined` and `Fixed`, that the compatibility rows of the
--- members of the canonical row make up the compatibility row, its non-starters unchanged; `Begins`, that the compatibility
--- row of a starter begins with one, and `Starts`, that the character is a starter, both with the exceptions
+-- what is asked of a character with a mapping, and of its two rows: `Agree`, what soundness asks of the two together; `Joined`
+-- and `Fixed`, that the compatibility rows of the members of the canonical row make up the compatibility row, its
+-- non-starters unchanged; `Begins`, that the compatibility row of a starter begins with one, and `Starts`, that the character
+-- is a starter, both with the exceptions
 pub data Fact : Type 0 where
   Agree Joined Fixed Begins Starts CanonicalOrdered CompatOrdered OfScalar CanonicalScalars CompatScalars : Fact
 
 abbrev pub holds : Tables → ℕ → List ℕ → List ℕ → Fact → Bool
-holds t c canonical compat Agree = ends_agree (classes_of t) canonical compat
+holds t c canonical compat Agree = ends_within (classes_of t) canonical compat && marks_agree (classes_of t) canonical compat
 holds t c canonical compat Joined = same_string (flat_map (compat_by t) canonical) compat
 holds t c canonical compat Fixed = list_all (is_fixed_by t) canonical
 holds t c canonical compat Begins = not (t.class c == 0) || (is_among vowel_signs c || (is_among halfwidth_marks c || lead (classes_of t) compat == 0))

@@ -1,11 +1,11 @@
 -- The rows of Unicode's data are sound, full and in canonical order, and the canonical row of a character lies within its
 -- compatibility row. Hangul letters, what passes the quick check of NFKD, and all but a few non-starters are their own rows.
-use Rattle.std.proofs.Common.{◌≡◌, ◌≢◌, ℕ, ◌≤◌, ◌<◌, Bool, true, false, List, [], ◌∷◌, flat_map, refl, ◌∙◌, arith, eqb-true, IsTrue}
-use Rattle.nf_facts.proofs.Common.{KitForm, or_right, nat_tests, list_all, All, KitNfd, KitNfkd, No, Yes, ccc, quick_check, decompose, is_nonstarter, Form, unicode_normalization, ucd, kit_form}
+use Rattle.std.proofs.Common.{◌≡◌, ℕ, ◌≤◌, ◌<◌, Bool, true, false, List, [], ◌∷◌, flat_map, refl, ◌∙◌, arith, eqb-true, IsTrue}
+use Rattle.nf_facts.proofs.Common.{KitForm, or_right, nat_tests, list_all, All, KitNfd, KitNfkd, Yes, ccc, quick_check, decompose, is_nonstarter, unicode_normalization, ucd}
 use Rattle.std.proofs.lemmas.List.Sums.{AllPass-from_list_all, list_all-from_AllPass}
 use Rattle.ucd_table.proofs.GroupsCheck.{same_string-true}
 use Rattle.unicode_normalization.proofs.ComposeLemmas.{flat_map-final}
-use Rattle.unicode_normalization.proofs.DecomposeLemmas.{decompose-other, decompose-final, is_final-parts, is_final-canonical, is_final-jamo, IsFull-decompose}
+use Rattle.unicode_normalization.proofs.DecomposeLemmas.{decompose-other, decompose-final, is_final-parts, is_final-canonical, IsFull-decompose}
 use Rattle.unicode_normalization.proofs.FormsLemmas.{is_final-Nfkd}
 use Rattle.unicode_normalization.proofs.TableFacts.{by_rows, class_of_jamo, is_final}
 use Rattle.nf_forms.specs.Calm.{IsMark}
@@ -13,11 +13,8 @@ use Rattle.nf_forms.specs.Cluster.{IsOwnRow}
 use Rattle.nf_forms.specs.Ordering.{is_ordered}
 use Rattle.nf_forms.specs.Sound.{joiner_is_plain, is_sound}
 use Rattle.nf_forms.specs.Laws.Ordering.{is_ordered-starter}
-use Rattle.nf_forms.specs.Laws.Sound.{IsSoundText}
 use Rattle.nf_facts.specs.Passing.{is_among, mapped_marks}
-use Rattle.nf_facts.specs.Refused.{no_mapped_mark}
 use Rattle.nf_facts.proofs.Mapped.{Agree, Joined, Fixed, Starts, IsMapped, class-syllable, compat_by, is_fixed_by, by_kind, by_mapping, by_row}
-use Rattle.nf_facts.proofs.SameForms.{starter_at}
 
 -- ---- each character is sound
 
@@ -31,9 +28,6 @@ is_sound-ucd c =
     let canonical = IsFull-decompose KitNfd c in
     let compat = IsFull-decompose KitNfkd c in
     by_mapping c _ (λ same. grind (arith, nat_tests, joiner-plain)) (λ mapped. grind (arith, nat_tests, mapped Agree, joiner-plain))
-
-pub IsSoundText-ucd : (x : List ℕ) → IsSoundText ucd x
-IsSoundText-ucd x = list_all-from_AllPass (is_sound ucd) x (λ k d within. is_sound-ucd _)
 
 -- ---- each member of a row is its own row
 
@@ -79,12 +73,9 @@ canonical-marks c k d within = compat-fixed _ (AllPass-from_list_all is_fixed _ 
 pub class-letter : (x : ℕ) → 0x1100 ≤ x → x < 0x1200 → ccc x ≡ 0
 class-letter x low high = eqb-true (ccc x) 0 (class_of_jamo x low high)
 
-own_row-final : (c : ℕ) → is_final KitNfkd c ≡ true → IsOwnRow ucd c
+pub own_row-final : (c : ℕ) → is_final KitNfkd c ≡ true → IsOwnRow ucd c
 unfolding ucd
 own_row-final c final = record { canonical = decompose-final KitNfd c (is_final-canonical KitNfkd c final); compat = decompose-final KitNfkd c final }
-
-pub own_row-letter : (x : ℕ) → 0x1100 ≤ x → x < 0x1200 → IsOwnRow ucd x
-own_row-letter x low high = own_row-final x (is_final-jamo KitNfkd x low high)
 
 pub own_row-passing : (c : ℕ) → quick_check KitNfkd c ≡ Yes → IsOwnRow ucd c
 own_row-passing c is = own_row-final c (is_final-Nfkd c is)
@@ -97,12 +88,10 @@ mark-ucd c above plain =
     (λ own. record { class = refl; above = above; canonical = own KitNfd; compat = own KitNfkd })
     (λ mapped. absurd (grind (arith, nat_tests, mapped Starts)))
 
-pub mark-passing : (f : Form) (c : ℕ) → 0 < ccc c → quick_check (kit_form f) c ≢ No → IsMark ucd c (ccc c)
-mark-passing f c above may = mark-ucd c above (no_mapped_mark f c may)
-
 -- ---- each row is in canonical order
 
 pub ordered : (form : KitForm) (c : ℕ) → (IsMapped c → is_ordered ucd (decompose form c) ≡ true) → is_ordered ucd (decompose form c) ≡ true
+unfolding ucd
 ordered form c =
     by_row form c (λ w. is_ordered ucd w ≡ true) refl
-    (λ x w low high rest. is_ordered-starter ucd [] x w (starter_at x (omega (arith, class-letter x low high))) refl rest) refl
+    (λ x w low high rest. is_ordered-starter ucd [] x w (rw (class-letter x low high)) refl rest) refl

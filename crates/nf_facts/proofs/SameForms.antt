@@ -1,6 +1,6 @@
 -- The forms over Unicode's data are those of `unicode_normalization`.
-use Rattle.std.proofs.Common.{⊎_elim, ◌≡◌, ℕ, ◌<◌, ◌≤◌, true, false, List, [], ◌∷◌, ◌++◌, Option, Some, None, refl, sym, ◌∙◌, arith, append-nil, append_assoc, fold}
-use Rattle.nf_facts.proofs.Common.{cases_Bool, nat_tests, ccc, decompose, is_starter, has_starter, Form, Nfc, normal_form, ucd, kit_form}
+use Rattle.std.proofs.Common.{⊎_elim, ◌≡◌, ℕ, true, false, List, [], ◌∷◌, ◌++◌, Option, Some, None, refl, sym, ◌∙◌, arith, append-nil, append_assoc, fold}
+use Rattle.nf_facts.proofs.Common.{cases_Bool, nat_tests, decompose, is_starter, has_starter, Form, Nfc, normal_form, ucd, kit_form}
 use Rattle.unicode_normalization.specs.Compose.{primary_composite, is_blocked as kit_is_blocked, joined as kit_joined, compose_after, compose as kit_compose}
 use Rattle.unicode_normalization.specs.Forms.{decomposed as kit_decomposed, normalize}
 use Rattle.unicode_normalization.specs.Order.{is_reorderable as kit_is_reorderable, is_ordered as kit_is_ordered, sink, canonical_order}
@@ -48,22 +48,14 @@ unfolding ucd kit_is_blocked
 is_blocked-ucd [] c marks = refl
 is_blocked-ucd (x ∷ m) c marks = grind (arith, nat_tests, is_blocked-ucd m c)
 
-pub starter_at : (x : ℕ) → ccc x ≤ 0 → is_starter ucd x ≡ true
-unfolding ucd
-starter_at x h = is_starter_from x h
-
-pub mark_at : (x : ℕ) → 0 < ccc x → is_starter ucd x ≡ false
-unfolding ucd
-mark_at x h = not_starter_from x h
-
 after : (e : List ℕ) (s : ℕ) (m cs : List ℕ) → is_starter ucd s ≡ true → has_starter ucd m ≡ false → fold (compose_step ucd) (e ++ s ∷ m) cs ≡ e ++ compose_after s m cs
-unfolding kit_joined
+unfolding ucd kit_joined
 after e s m [] starts marks = rw (compose_after-nil s m)
 after e s m (c ∷ cs) starts marks =
     compose_after-cases s m c cs (λ l. fold (compose_step ucd) (compose_step ucd (e ++ s ∷ m) c) cs ≡ e ++ l)
-    (λ d free both. rw (step (Some d) (joined-free s m c free ∙ both)) (after e d m cs (starter_at d (primary_composite-starter s c d both)) marks))
-    (λ none first. rw (step None none, ← (append_assoc e (s ∷ m) (c ∷ [])), after (e ++ s ∷ m) c [] cs (starter_at c first) refl) (append_assoc e (s ∷ m) (compose_after c [] cs)))
-    (λ none mark. rw (step None none) (after e s (m ++ c ∷ []) cs starts (marks_push ucd m c marks (mark_at c mark))))
+    (λ d free both. rw (step (Some d) (joined-free s m c free ∙ both)) (after e d m cs (is_starter_from d (primary_composite-starter s c d both)) marks))
+    (λ none first. rw (step None none, ← (append_assoc e (s ∷ m) (c ∷ [])), after (e ++ s ∷ m) c [] cs (is_starter_from c first) refl) (append_assoc e (s ∷ m) (compose_after c [] cs)))
+    (λ none mark. rw (step None none) (after e s (m ++ c ∷ []) cs starts (marks_push ucd m c marks (not_starter_from c mark))))
   where
     step : (o : Option ℕ) → kit_joined s m c ≡ o → compose_step ucd (e ++ s ∷ m) c ≡ e ++ replaced o s m c
     step o h = rw (compose_step-at ucd e s m c starts marks, is_blocked-ucd m c marks, composite-ucd s c, h)
