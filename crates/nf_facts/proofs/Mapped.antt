@@ -1,5 +1,5 @@
 -- What is so of each character with a decomposition mapping, by one computation over the tables.
-use Rattle.std.proofs.Common.{◌≡◌, ℕ, ◌≤◌, ◌<◌, ◌-◌, ◌%◌, Bool, true, false, not, ◌&&◌, ◌||◌, ◌==◌, List, [], ◌∷◌, flat_map, refl, ◌∙◌, arith, eqb-true, ap₂, ⊎_elim}
+use Rattle.std.proofs.Common.{◌≡◌, ℕ, ◌≤◌, ◌<◌, ◌-◌, ◌%◌, Bool, true, false, not, ◌&&◌, ◌||◌, ◌==◌, List, [], ◌∷◌, flat_map, refl, ◌∙◌, arith, ap₂, ⊎_elim}
 use Rattle.nf_facts.proofs.Common.{cases_Bool, cases_eq, nat_tests, list_all, KitNfd, KitNfkd, ccc, decompose, Properties, lead, ucd}
 use lib.Utf8.{scalar}
 use Rattle.ucd_table.proofs.Stepped.{Stepped}
@@ -90,7 +90,7 @@ mapped c other some =
 -- ---- every character is a Hangul syllable, or decomposes no further, or has a mapping
 
 pub class-syllable : (c : ℕ) → is_syllable c ≡ true → ccc c ≡ 0
-class-syllable c syllable = let range = is_syllable-true c syllable in eqb-true _ 0 (class_of_syllable c range.0 range.1)
+class-syllable c syllable = grind (arith, nat_tests, class_of_syllable c)
 
 pub by_kind : (c : ℕ) (Q : Type 0) → (is_syllable c ≡ true → Q) → (((form : Form) → decompose form c ≡ c ∷ []) → Q) → (IsMapped c → Q) → Q
 by_kind c Q syllable own with_mapping =

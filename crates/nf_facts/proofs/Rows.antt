@@ -1,6 +1,6 @@
 -- The rows of Unicode's data are sound, full and in canonical order, and the canonical row of a character lies within its
 -- compatibility row. Hangul letters, what passes the quick check of NFKD, and all but a few non-starters are their own rows.
-use Rattle.std.proofs.Common.{◌≡◌, ℕ, ◌≤◌, ◌<◌, Bool, true, false, List, [], ◌∷◌, flat_map, refl, ◌∙◌, arith, eqb-true, IsTrue}
+use Rattle.std.proofs.Common.{◌≡◌, ℕ, ◌≤◌, ◌<◌, Bool, true, false, List, [], ◌∷◌, flat_map, refl, ◌∙◌, arith, IsTrue}
 use Rattle.nf_facts.proofs.Common.{KitForm, or_right, nat_tests, list_all, All, KitNfd, KitNfkd, Yes, ccc, quick_check, decompose, is_nonstarter, unicode_normalization, ucd}
 use Rattle.std.proofs.lemmas.List.Sums.{AllPass-from_list_all, list_all-from_AllPass}
 use Rattle.ucd_table.proofs.GroupsCheck.{same_string-true}
@@ -71,7 +71,7 @@ canonical-marks c k d within = compat-fixed _ (AllPass-from_list_all is_fixed _ 
 -- ---- what is its own row
 
 pub class-letter : (x : ℕ) → 0x1100 ≤ x → x < 0x1200 → ccc x ≡ 0
-class-letter x low high = eqb-true (ccc x) 0 (class_of_jamo x low high)
+class-letter x low high = grind (arith, nat_tests, class_of_jamo x)
 
 pub own_row-final : (c : ℕ) → is_final KitNfkd c ≡ true → IsOwnRow ucd c
 unfolding ucd

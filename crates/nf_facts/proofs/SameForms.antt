@@ -1,5 +1,5 @@
 -- The forms over Unicode's data are those of `unicode_normalization`.
-use Rattle.std.proofs.Common.{⊎_elim, ◌≡◌, ℕ, true, false, List, [], ◌∷◌, ◌++◌, Option, Some, None, refl, sym, ◌∙◌, arith, append-nil, append_assoc, fold}
+use Rattle.std.proofs.Common.{⊎_elim, ◌≡◌, ℕ, true, false, List, [], ◌∷◌, ◌++◌, Option, Some, None, refl, ◌∙◌, arith, append-nil, append_assoc, fold}
 use Rattle.nf_facts.proofs.Common.{cases_Bool, nat_tests, decompose, is_starter, has_starter, Form, Nfc, normal_form, ucd, kit_form}
 use Rattle.unicode_normalization.specs.Compose.{primary_composite, is_blocked as kit_is_blocked, joined as kit_joined, compose_after, compose as kit_compose}
 use Rattle.unicode_normalization.specs.Forms.{decomposed as kit_decomposed, normalize}
@@ -11,7 +11,8 @@ use Rattle.nf_forms.specs.Order.{order}
 use Rattle.nf_forms.specs.Ordering.{is_ordered, with_class}
 use Rattle.nf_forms.specs.Compose.{composite, is_blocked, replaced, compose_step, compose}
 use Rattle.nf_forms.specs.Laws.Front.{marks_push}
-use Rattle.nf_forms.specs.Laws.Ordering.{order-only, ordering}
+use Rattle.nf_forms.specs.Laws.Audited.{order-same}
+use Rattle.nf_forms.specs.Laws.Ordering.{order-ordered}
 use Rattle.nf_forms.specs.Laws.Compose.{compose_step-at, compose_step-none}
 
 -- ---- ordering
@@ -34,8 +35,8 @@ with_class-canonical_order k (c ∷ w) = rw (with_class-sink k c (canonical_orde
 
 order-ucd : (w : List ℕ) → order ucd w ≡ canonical_order w
 order-ucd w =
-    order-only ucd (order ucd w) (canonical_order w) ((ordering ucd w).ordered) (is_ordered-same (canonical_order w) ∙ is_ordered-canonical_order w)
-    (λ k. (ordering ucd w).stable k ∙ sym (with_class-canonical_order k w))
+    order-same ucd w (canonical_order w) (λ k. rw (with_class-canonical_order k w))
+    ∙ order-ordered ucd (canonical_order w) (rw (is_ordered-same (canonical_order w)) (is_ordered-canonical_order w))
 
 -- ---- composition
 
