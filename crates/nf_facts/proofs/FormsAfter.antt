@@ -14,8 +14,7 @@ use Rattle.nf_forms.specs.StreamSafe.{stream_safe}
 use Rattle.nf_forms.specs.SafeForm.{safe_form}
 use Rattle.nf_facts.specs.After.{after}
 use Rattle.nf_facts.proofs.Rows.{is_fixed, compat-fixed, compat-joined, canonical-fixed}
-use Rattle.nf_facts.proofs.SameForms.{normal_form-ucd}
-use Rattle.nf_facts.proofs.SameSafe.{stream_safe-ucd}
+use Rattle.nf_facts.proofs.SameForms.{normal_form-ucd, stream_safe-ucd}
 
 -- ---- NFKD sees no difference between a text and its NFD
 

@@ -1,7 +1,6 @@
 mod Common
 mod Mapped
 mod SameForms
-mod SameSafe
 mod FormsAfter
 mod Scalars
 mod Starters

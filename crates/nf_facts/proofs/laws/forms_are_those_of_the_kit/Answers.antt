@@ -1,5 +1,4 @@
-use Rattle.nf_facts.proofs.SameForms.{normal_form-ucd}
-use Rattle.nf_facts.proofs.SameSafe.{stream_safe-ucd}
+use Rattle.nf_facts.proofs.SameForms.{normal_form-ucd, stream_safe-ucd}
 use Rattle.nf_facts.proofs.laws.forms_are_those_of_the_kit.Goals as goal
 
 pub returns : goal.returns
