@@ -23,4 +23,4 @@ pub returns-then-is_err-clause-none : goal.returns-then-is_err-clause-none
 returns-then-is_err-clause-none g c = λ _.
     let grown = length-joined (g.R.Rows.properties c.args.rows.now).compat c.loop-c.c-index c.as_slice-c-items.ensures.value c.c-item.is c.loop-c-test.true in
     let over = overflows _ _ c.try_extend_from_slice.ensures.variant.1 (sym c.is_err.ensures.value ∙ c.if-is_err.true) in
-    omega (arith, grown, over, ap length c.loop-c.invariant, ap length c.in-Ok.ensures.row, ap length c.as_slice.ensures.value)
+    omega (arith, ap length c.loop-c.invariant, ap length c.in-Ok.ensures.row, ap length c.as_slice.ensures.value)
