@@ -4,12 +4,6 @@ use Rattle.std.proofs.lemmas.Bool.Decides.{nat_tests}
 use Rattle.nf_forms.specs.Laws.Runs.{has_starter-append, lead-append, lead-marks, trail-push}
 use Rattle.nf_row.proofs.ends.Ends.of_members.Goals as goal
 
-pub and-so_far-requires-clause-lead : goal.and-so_far-requires-clause-lead
-and-so_far-requires-clause-lead g c = omega arith
-
-pub and-so_far-requires-clause-trail : goal.and-so_far-requires-clause-trail
-and-so_far-requires-clause-trail g c = omega arith
-
 pub loop-c-init : goal.loop-c-init
 loop-c-init g c = let none = c.none-so_far.ensures (g.R.Rows.properties c.args.rows.now) in grind (arith, none)
 
