@@ -1,5 +1,4 @@
 use Rattle.std.proofs.Common.{arith}
-use Rattle.std.proofs.lemmas.Bool.Decides.{nat_tests}
 use Rattle.nf_forms.specs.Ucd.{ucd}
 use Rattle.nf_row.proofs.known.kind_of.Goals as goal
 
@@ -9,9 +8,3 @@ returns-in-Maybe-2 c =
     let row = c.is_own_row.ensures c.if-is_own_row.true in
     let sound = c.every_character_is_sound.ensures.character c.args.c in
     grind arith
-
-pub returns-in-Yes-2 : goal.returns-in-Yes-2
-returns-in-Yes-2 c = record {
-  sound = c.every_character_is_sound.ensures.character c.args.c;
-  parting = c.the_quick_check_tells.ensures.parting c.args.form c.args.c (grind (arith, nat_tests));
-}

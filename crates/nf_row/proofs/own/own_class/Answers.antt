@@ -1,8 +1,9 @@
 -- What is known of a character of which a decomposed form is itself.
-use Rattle.std.proofs.Common.{◌≡◌, ℕ, true, List, [], ◌∷◌, ◌++◌, append-nil, eqb-true}
+use Rattle.std.proofs.Common.{arith, ◌≡◌, ℕ, true, List, [], ◌∷◌, ◌++◌, append-nil}
 use Rattle.nf_forms.specs.Properties.{Properties, is_starter}
 use Rattle.nf_forms.specs.Order.{by_class, order}
 use Rattle.nf_forms.specs.Laws.Starters.{starters, starters-order}
+use Rattle.std.proofs.lemmas.Bool.Decides.{nat_tests}
 use Rattle.nf_row.proofs.own.own_class.Goals as goal
 
 -- decomposed text of which the order is a starter alone
@@ -21,9 +22,4 @@ returns-in-Parts-kind g c =
     let p = g.R.Rows.properties c.args.rows.now in
     let compat = c.in-Parts.ensures in
     let canonical = c.in-Parts-kind.ensures in
-    record {
-      sound = compat.sound;
-      class = eqb-true (p.class c.args.c) 0 compat.parting.starts;
-      canonical = row_is p c.args.c (p.canonical c.args.c) canonical.parting.starts canonical.parting.alone;
-      compat = row_is p c.args.c (p.compat c.args.c) compat.parting.starts compat.parting.alone;
-    }
+    grind (arith, nat_tests, row_is p c.args.c (p.canonical c.args.c), row_is p c.args.c (p.compat c.args.c))
