@@ -12,7 +12,7 @@ pub(crate) fn is_assigned(c: char) -> bool {
 }
 
 /// The front ends right before a character that is not told to be assigned, and each that is unassigned is such; behind the
-/// others it goes on to the last 16 bytes. The place in a block is another for each.
+/// others it goes on to the last 64 bytes. The place in a block is another for each.
 #[test]
 fn no_unassigned_character_is_passed_over(rt: HostRuntime) -> Result<(), Fail> {
     for code in 0..0x11_0000u32 {
@@ -22,7 +22,7 @@ fn no_unassigned_character_is_passed_over(rt: HostRuntime) -> Result<(), Fail> {
         let before = LETTERS.get(..(code % 131) as usize).unwrap_or_default();
         let text = format!(in rt.alloc(); "{before}{c}{LETTERS}")?;
         let front = assigned_front(&text);
-        let passed = front >= text.len().saturating_sub(16);
+        let passed = front >= text.len().saturating_sub(64);
         assert!(rt;
             front == before.len() || (passed && is_assigned(c)),
             "{code:x}"

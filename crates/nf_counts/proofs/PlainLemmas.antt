@@ -1,5 +1,5 @@
 -- What pairs of bytes tell of a character is what the table has, shown by one computation; and what they tell of a text.
-use Rattle.std.proofs.Common.{◌≡◌, ℕ, ◌+◌, ◌-◌, ◌<◌, ◌==◌, ⊎_elim, inl, inr, Bool, true, cond, List, [], ◌∷◌, ◌++◌, length, slice_index, take, drop, refl, sym, ◌∙◌, arith, add_assoc, append-nil, eqb-true, length-drop, length-take-le, take-append-drop}
+use Rattle.std.proofs.Common.{◌≡◌, ℕ, ◌+◌, ◌-◌, ◌<◌, ◌==◌, Bool, true, cond, List, [], ◌∷◌, ◌++◌, length, slice_index, take, drop, refl, sym, ◌∙◌, arith, add_assoc, append-nil, eqb-true, length-drop, length-take-le, take-append-drop}
 use Rattle.std.specs.Prelude.{All, chars, encode_utf8_all}
 use Rattle.std.specs.Str.{IsUtf8, IsCharBoundary}
 use Rattle.std.proofs.lemmas.List.{get_or-drop}
@@ -83,7 +83,7 @@ module _ (sound : (c : ℕ) → is_sound ucd c ≡ true) where
       let cs = chars (take len text) in
       let same : encode_utf8_all cs ≡ take len text = encodes-chars _ (IsUtf8-take text len u boundary) in
       let long : length (encode_utf8_all cs) ≡ len = rw same (length-take-le len text boundary.0) in
-      let plain = told_front _ _ _ _ _ tells_looks tells_kana text len len u boundary (omega arith) (λ k inside high. ⊎_elim (λ here. inl (here.0, λ _ _. here.1)) (λ here. inr (here.0, λ _ _. here.1)) (none k (omega arith) inside high)) in
+      let plain = told_front _ _ _ _ _ tells_looks tells_kana text len len u boundary (omega arith) (λ k inside high. none k (omega arith) inside high) in
       record {
         chars = cs;
         begins = record { rest = drop len text; split = rw (same, take-append-drop); rest_utf8 = IsUtf8-drop text len u boundary; is_long = sym long };
