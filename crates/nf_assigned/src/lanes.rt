@@ -27,16 +27,18 @@ pub(crate) fn assigned_len(bytes: &[u8]) -> usize
     at
 }
 
-/// Whether all of 64 bytes lie below CD: of the characters that those begin all are assigned.
+/// Whether the first of 64 bytes is ASCII, so that it is worth a look, and all lie below CD: of the characters that those begin
+/// all are assigned.
 #[inline(always)]
 fn is_latin(bytes: &[u8], at: usize) -> bool
     requires room { at + 64 < length bytes.now }
     ensures { IsTrue result → (k : ℕ) → at ≤ k → k < at + 64 → slice_index bytes.now k < 0xCD }
 {
-    none_of(
-        at_least(0xCD, bytes, at),
-        at_least(0xCD, bytes, at + 16),
-        at_least(0xCD, bytes, at + 32),
-        at_least(0xCD, bytes, at + 48),
-    )
+    bytes[at] < 0x80
+        && none_of(
+            at_least(0xCD, bytes, at),
+            at_least(0xCD, bytes, at + 16),
+            at_least(0xCD, bytes, at + 32),
+            at_least(0xCD, bytes, at + 48),
+        )
 }

@@ -5,7 +5,7 @@ ghost use Rattle.std.specs.Int.{bit_at};
 ghost use Rattle.nf_lanes.specs.Lanes.{bits_at};
 ghost use Rattle.nf_lanes.specs.Looks.{is_in, finds, at_pair, NoneFound};
 
-use crate::lanes::{at_least, bits, of_64};
+use crate::lanes::{at_least, bits, none_of, of_64};
 use crate::sets::{Pairs, pair_sets};
 
 /// Of so few characters no pair is asked: in Latin most of those that are not ASCII have to be looked up.
@@ -26,10 +26,15 @@ pub fn found_by_both(first: &Pairs, second: &Pairs, least: u8, bytes: &[u8], at:
     ensures told { (k : ℕ) → k < 63 → bit_at result k ≡ 0 → least ≤ slice_index bytes.now (at + k)
         → NoneFound (is_in first.now) bytes.now (at + k) ⊎ NoneFound (is_in second.now) bytes.now (at + k) }
 {
-    let pairs = family_bits(first, bytes, at);
-    if pairs == 0 {
+    if none_of(
+        set_bits(first, bytes, at),
+        set_bits(first, bytes, at + 16),
+        set_bits(first, bytes, at + 32),
+        set_bits(first, bytes, at + 48),
+    ) {
         return 0;
     }
+    let pairs = family_bits(first, bytes, at);
     let found = high_bits(least, bytes, at) & (pairs | (pairs >> 1));
     let others = family_bits(second, bytes, at);
     found & (others | (others >> 1))
