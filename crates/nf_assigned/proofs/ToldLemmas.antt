@@ -4,7 +4,7 @@ use Rattle.nf_forms.specs.Ucd.{is_assigned}
 use Rattle.nf_facts.specs.Within.{lies_within, in_ranges-lies_within}
 use Rattle.ucd_table.proofs.TrieCheck.{all_below}
 use Rattle.nf_lanes.specs.Looks.{is_in}
-use Rattle.nf_lanes.proofs.LooksLemmas.{Tells, two_told, three_told, four_looked_up}
+use Rattle.nf_lanes.proofs.LooksLemmas.{Known, Tells}
 use Rattle.nf_assigned.specs.declared.pairs.TheConstants.{FIRST, SECOND}
 use Rattle.nf_assigned.proofs.RangeLemmas.{told_ranges, told-assigned}
 
@@ -20,15 +20,11 @@ whole b = within (64 * b) (64 * b + 63)
 abbrev there : ℕ → ℕ → Bool
 there b j = within (64 * b + j) (64 * b + j)
 
-tells : (asks : ℕ → ℕ → Bool) → all_below (two_told asks whole there) 32 ≡ true → all_below (λ k. all_below (three_told asks whole there k) 64) 16 ≡ true → all_below (four_looked_up asks) 5 ≡ true
-    → Tells asks 0xCD 0x340 (λ c. is_assigned c ≡ true)
+pub known : Known 0xCD 0x340 (λ c. is_assigned c ≡ true)
 unfolding told_ranges
-tells asks of_two of_three of_four = record {
+known = record {
   whole = whole;
   is = there;
-  of_two = of_two;
-  of_three = of_three;
-  of_four = of_four;
   in_block = λ b j small little all. lies (64 * b) (64 * b + 63) (64 * b + j) all (omega arith) (omega arith);
   in_place = λ b j small little here. lies (64 * b + j) (64 * b + j) (64 * b + j) here (omega arith) (omega arith);
   below = λ c small. lies 0 0x33F c refl (omega arith) (omega arith);
@@ -38,10 +34,10 @@ tells asks of_two of_three of_four = record {
 }
 
 -- so of a character that either family does not find
-pub first_tells : Tells (is_in FIRST) 0xCD 0x340 (λ c. is_assigned c ≡ true)
-unfolding told_ranges all_below
-first_tells = tells (is_in FIRST) refl refl refl
+pub first_tells : Tells _ _ _ known (is_in FIRST)
+unfolding told_ranges all_below known
+first_tells = record { of_two = refl; of_three = refl; of_four = refl }
 
-pub second_tells : Tells (is_in SECOND) 0xCD 0x340 (λ c. is_assigned c ≡ true)
-unfolding told_ranges all_below
-second_tells = tells (is_in SECOND) refl refl refl
+pub second_tells : Tells _ _ _ known (is_in SECOND)
+unfolding told_ranges all_below known
+second_tells = record { of_two = refl; of_three = refl; of_four = refl }

@@ -1,5 +1,5 @@
 -- What pairs of bytes tell of a character is what the table has, shown by one computation; and what they tell of a text.
-use Rattle.std.proofs.Common.{◌≡◌, ℕ, ◌+◌, ◌-◌, ◌<◌, ◌==◌, Bool, true, cond, List, [], ◌∷◌, ◌++◌, length, slice_index, take, drop, refl, sym, ◌∙◌, arith, add_assoc, append-nil, eqb-true, length-drop, length-take-le, take-append-drop}
+use Rattle.std.proofs.Common.{◌≡◌, ℕ, ◌+◌, ◌-◌, ◌<◌, ◌==◌, true, cond, List, [], ◌∷◌, ◌++◌, length, slice_index, take, drop, refl, sym, ◌∙◌, arith, add_assoc, append-nil, eqb-true, length-drop, length-take-le, take-append-drop}
 use Rattle.std.specs.Prelude.{All, chars, encode_utf8_all}
 use Rattle.std.specs.Str.{IsUtf8, IsCharBoundary}
 use Rattle.std.proofs.lemmas.List.{get_or-drop}
@@ -15,7 +15,7 @@ use Rattle.nf_forms.specs.Sound.{is_sound}
 use Rattle.nf_forms.specs.declared.form.Form.TheVariants.{Nfkd}
 use Rattle.nf_forms.specs.Ucd.{ucd}
 use Rattle.nf_lanes.specs.Looks.{finds, is_in}
-use Rattle.nf_lanes.proofs.LooksLemmas.{Tells, told_front, two_told, three_told, four_looked_up}
+use Rattle.nf_lanes.proofs.LooksLemmas.{Known, Tells, told_front}
 use Rattle.nf_counts.specs.Counts.{HasValue, IsValued, is_fit}
 use Rattle.nf_counts.specs.Piece.{IsPiece}
 use Rattle.nf_counts.specs.Window.{AreTold}
@@ -43,22 +43,11 @@ module _ (sound : (c : ℕ) → is_sound ucd c ≡ true) where
   plain_of : (c : ℕ) → told c ≡ 0 → IsValued ucd c 0
   plain_of c e = told-valued c (sound c) 0 (sym e) refl
 
-  abbrev whole : ℕ → Bool
-  whole b = slice_index INDEX b == 0
-
-  abbrev is_zero : ℕ → ℕ → Bool
-  is_zero b j = block_value 4 4 WORDS (slice_index INDEX b) j == 0
-
-  -- so is a character that no pair finds
-  tells : (asks : ℕ → ℕ → Bool) → all_below (two_told asks whole is_zero) 32 ≡ true → all_below (λ k. all_below (three_told asks whole is_zero k) 64) 16 ≡ true → all_below (four_looked_up asks) 5 ≡ true
-      → Tells asks 0xC0 0x80 (λ c. IsValued ucd c 0)
+  known : Known 0xC0 0x80 (λ c. IsValued ucd c 0)
   unfolding all_below block_value
-  tells asks of_two of_three of_four = record {
-    whole = whole;
-    is = is_zero;
-    of_two = of_two;
-    of_three = of_three;
-    of_four = of_four;
+  known = record {
+    whole = λ b. slice_index INDEX b == 0;
+    is = λ b j. block_value 4 4 WORDS (slice_index INDEX b) j == 0;
     -- the first block is of 0 alone
     in_block = λ b j small little zero.
         plain_of _ (sym (told-block b j small little) ∙ rw (eqb-true _ 0 zero) (eqb-true _ 0 (all_below-at (λ j. block_value 4 4 WORDS 0 j == 0) 64 j refl little)));
@@ -69,13 +58,14 @@ module _ (sound : (c : ℕ) → is_sound ucd c ≡ true) where
     is_low = omega arith;
   }
 
-  tells_looks : Tells (finds LOOKS) 0xC0 0x80 (λ c. IsValued ucd c 0)
-  unfolding all_below block_value
-  tells_looks = tells (finds LOOKS) refl refl refl
+  -- so is a character that the two families do not find, or the one of kana
+  tells_looks : Tells _ _ _ known (finds LOOKS)
+  unfolding all_below block_value known
+  tells_looks = record { of_two = refl; of_three = refl; of_four = refl }
 
-  tells_kana : Tells (is_in KANA) 0xC0 0x80 (λ c. IsValued ucd c 0)
-  unfolding all_below block_value
-  tells_kana = tells (is_in KANA) refl refl refl
+  tells_kana : Tells _ _ _ known (is_in KANA)
+  unfolding all_below block_value known
+  tells_kana = record { of_two = refl; of_three = refl; of_four = refl }
 
   -- characters of which none is looked up are a piece of the value 0
   pub plain_piece : (text : List ℕ) (len : ℕ) → IsUtf8 text → IsCharBoundary text len → 0 < len → AreTold text 0 len → IsPiece ucd text record { len = len; value = 0 }
@@ -83,7 +73,7 @@ module _ (sound : (c : ℕ) → is_sound ucd c ≡ true) where
       let cs = chars (take len text) in
       let same : encode_utf8_all cs ≡ take len text = encodes-chars _ (IsUtf8-take text len u boundary) in
       let long : length (encode_utf8_all cs) ≡ len = rw same (length-take-le len text boundary.0) in
-      let plain = told_front _ _ _ _ _ tells_looks tells_kana text len len u boundary (omega arith) (λ k inside high. none k (omega arith) inside high) in
+      let plain = told_front _ _ _ _ _ _ tells_looks tells_kana text len len u boundary (omega arith) (λ k inside high. none k (omega arith) inside high) in
       record {
         chars = cs;
         begins = record { rest = drop len text; split = rw (same, take-append-drop); rest_utf8 = IsUtf8-drop text len u boundary; is_long = sym long };

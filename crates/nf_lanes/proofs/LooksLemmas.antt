@@ -34,13 +34,10 @@ module _ (finds : ℕ → ℕ → Bool) (whole : ℕ → Bool) (is : ℕ → ℕ
       or_else (finds (224 + k) (128 + i)) (λ _.
       or_else (nat_lt (64 * k + i) 32) (λ _. all_below (third_told (64 * k + i)) 64)))
 
--- so it is of each character below `low`, and of each from there on that no pair finds: those begin with bytes from `least` on
-pub record Tells (finds : ℕ → ℕ → Bool) (least low : ℕ) (P : ℕ → Type 0) : Type 0 where
+-- what is known: it is so of each character below `low`, and of blocks and places from there on: those begin with bytes from `least`
+pub record Known (least low : ℕ) (P : ℕ → Type 0) : Type 0 where
   pub whole : ℕ → Bool
   pub is : ℕ → ℕ → Bool
-  pub of_two : all_below (two_told finds whole is) 32 ≡ true
-  pub of_three : all_below (λ k. all_below (three_told finds whole is k) 64) 16 ≡ true
-  pub of_four : all_below (four_looked_up finds) 5 ≡ true
   pub in_block : (b j : ℕ) → b < 1024 → j < 64 → whole b ≡ true → P (64 * b + j)
   pub in_place : (b j : ℕ) → b < 1024 → j < 64 → is b j ≡ true → P (64 * b + j)
   pub below : (c : ℕ) → c < low → P c
@@ -48,27 +45,33 @@ pub record Tells (finds : ℕ → ℕ → Bool) (least low : ℕ) (P : ℕ → T
   pub of_low : least ≤ 192 + low / 64
   pub is_low : least ≤ 224
 
-module _ (finds : ℕ → ℕ → Bool) (least low : ℕ) (P : ℕ → Type 0) (tells : Tells finds least low P) where
+-- so it is of each character that no pair finds
+pub record Tells (least low : ℕ) (P : ℕ → Type 0) (known : Known least low P) (finds : ℕ → ℕ → Bool) : Type 0 where
+  pub of_two : all_below (two_told finds known.whole known.is) 32 ≡ true
+  pub of_three : all_below (λ k. all_below (three_told finds known.whole known.is k) 64) 16 ≡ true
+  pub of_four : all_below (four_looked_up finds) 5 ≡ true
+
+module _ (least low : ℕ) (P : ℕ → Type 0) (known : Known least low P) (finds : ℕ → ℕ → Bool) (tells : Tells least low P known finds) where
   by_two : (k i : ℕ) → k < 32 → i < 64 → finds (192 + k) (128 + i) ≡ false → P (64 * k + i)
   by_two k i short little none =
-      let here = all_below-at (two_told finds tells.whole tells.is) 32 k tells.of_two short in
-      grind (arith, tells.in_block k i, tells.in_place k i, all_below-at (second_told finds tells.whole tells.is k) 64 i)
+      let here = all_below-at (two_told finds known.whole known.is) 32 k tells.of_two short in
+      grind (arith, known.in_block k i, known.in_place k i, all_below-at (second_told finds known.whole known.is k) 64 i)
 
   by_three : (k i j : ℕ) → k < 16 → i < 64 → j < 64 → 32 ≤ 64 * k + i → finds (224 + k) (128 + i) ≡ false → finds (128 + i) (128 + j) ≡ false → P (64 * (64 * k + i) + j)
   by_three k i j short little small large first second =
       let b = 64 * k + i in
       let same : b % 64 ≡ i = omega arith in
-      let here = all_below-at _ 64 i (all_below-at (λ k. all_below (three_told finds tells.whole tells.is k) 64) 16 k tells.of_three short) little in
-      grind (arith, nat_tests, tells.in_block b j, tells.in_place b j, all_below-at (third_told finds tells.whole tells.is b) 64 j)
+      let here = all_below-at _ 64 i (all_below-at (λ k. all_below (three_told finds known.whole known.is k) 64) 16 k tells.of_three short) little in
+      grind (arith, nat_tests, known.in_block b j, known.in_place b j, all_below-at (third_told finds known.whole known.is b) 64 j)
 
   -- what a character that stands at the front of these bytes begins with
   begins : (c : ℕ) (more : List ℕ) → low ≤ c → least ≤ slice_index (encode_utf8 c ++ more) 0
   begins c more some = at (order c 2048) (order c 65536)
     where
       at : (c < 2048) ⊎ (2048 ≤ c) → (c < 65536) ⊎ (65536 ≤ c) → least ≤ slice_index (encode_utf8 c ++ more) 0
-      at (inl small) _ = rw (two c (omega (arith, tells.ascii)) small) (omega (arith, tells.of_low))
-      at (inr large) (inl small) = rw (three c large small) (omega (arith, tells.is_low))
-      at (inr _) (inr large) = rw (four c large) (omega (arith, tells.is_low))
+      at (inl small) _ = rw (two c (omega (arith, known.ascii)) small) (omega (arith, known.of_low))
+      at (inr large) (inl small) = rw (three c large small) (omega (arith, known.is_low))
+      at (inr _) (inr large) = rw (four c large) (omega (arith, known.is_low))
 
   by_told : (c : ℕ) (more : List ℕ) → c < 1114112 → low ≤ c → NoneFound finds (encode_utf8 c ++ more) 0 → P c
   by_told c more scalar some told = at (order c 2048) (order c 65536)
@@ -76,7 +79,7 @@ module _ (finds : ℕ → ℕ → Bool) (least low : ℕ) (P : ℕ → Type 0) (
       at : (c < 2048) ⊎ (2048 ≤ c) → (c < 65536) ⊎ (65536 ≤ c) → P c
       at (inl small) _ =
           let is : 64 * (c / 64) + c % 64 ≡ c = omega arith in
-          let here = rw (two c (omega (arith, tells.ascii)) small) at told in
+          let here = rw (two c (omega (arith, known.ascii)) small) at told in
           rw is at (by_two (c / 64) (c % 64) (omega arith) (omega arith) here.0)
       at (inr large) (inl small) =
           let is : 64 * (64 * (c / 4096) + c / 64 % 64) + c % 64 ≡ c = omega arith in
@@ -88,7 +91,7 @@ module _ (finds : ℕ → ℕ → Bool) (least low : ℕ) (P : ℕ → Type 0) (
           cc
 
 -- of each character of a text one of two tells
-module _ (finds others : ℕ → ℕ → Bool) (least low : ℕ) (P : ℕ → Type 0) (tells : Tells finds least low P) (tell : Tells others least low P) where
+module _ (least low : ℕ) (P : ℕ → Type 0) (known : Known least low P) (finds others : ℕ → ℕ → Bool) (tells : Tells least low P known finds) (tell : Tells least low P known others) where
   abbrev EitherTold : List ℕ → ℕ → Type 0
   EitherTold text n = (k : ℕ) → k < n → least ≤ slice_index text k → NoneFound finds text k ⊎ NoneFound others text k
 
@@ -104,7 +107,7 @@ module _ (finds others : ℕ → ℕ → Bool) (least low : ℕ) (P : ℕ → Ty
       let fits : c < 1114112 = grind (arith, scalar_cases c) in
       let here = rw (append_assoc, length-append) at told in
       let first = told_behind [] _ (length (encode_utf8 c)) _ (omega arith) here 0 (omega (arith, length-le-encodes (c ∷ []), length-append (encode_utf8 c) [])) in
-      All-cons P c cs (⊎_elim (tells.below c) (λ some. ⊎_elim (by_told finds least low P tells c _ fits some) (by_told others least low P tell c _ fits some) (first (begins finds least low P tells c _ some))) (order c low)) (told_chars cs more both.1 (told_behind (encode_utf8 c) _ _ _ (omega arith) here))
+      All-cons P c cs (⊎_elim (known.below c) (λ some. ⊎_elim (by_told least low P known finds tells c _ fits some) (by_told least low P known others tell c _ fits some) (first (begins least low P known finds tells c _ some))) (order c low)) (told_chars cs more both.1 (told_behind (encode_utf8 c) _ _ _ (omega arith) here))
 
   -- a front that ends between two characters
   pub told_front : (text : List ℕ) (n m : ℕ) → IsUtf8 text → IsCharBoundary text n → n ≤ m → EitherTold text m → All P (chars (take n text))
