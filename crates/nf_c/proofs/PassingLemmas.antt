@@ -33,7 +33,8 @@ use Rattle.nf_filter.specs.Feeding.{IsLeft, HasReadTo}
 use Rattle.nf_filter.specs.Saved.{saved_of}
 use Rattle.nf_filter.proofs.FedLemmas.{left_is, read-settled, read-no_fault}
 use Rattle.nf_filter.proofs.PieceLemmas.{IsLeft-more}
-use Rattle.nf_filter.proofs.PolicyLemmas.{allowed-append, take_while-all}
+use Rattle.nf_filter.proofs.PolicyLemmas.{allowed-append}
+use Rattle.nf_filter.specs.Laws.Undecided.{take_while-all}
 use Rattle.nf_filter.proofs.ReadingLemmas.{text_of-none, ending_of-none}
 use Rattle.nf_filter.proofs.SavedLemmas.{IsRestorable-stands}
 
@@ -130,7 +131,7 @@ module _ (pieces : ReadsPieces) (own : ReadsBack) (laws : ReplacesParts) (split 
       before = read.before;
       n = read.n;
       tail = read.tail ++ t;
-      left = subst (IsLeft policy.replace (bytes ++ t) read.before read.n) (sym (append-nil (read.tail ++ t))) (IsLeft-more _ _ _ _ _ t (left_is _ _ _ _ laws _ _ _ read));
+      left = subst (IsLeft policy.replace (bytes ++ t) read.before read.n) (sym (append-nil (read.tail ++ t))) (IsLeft-more _ _ _ _ _ t (left_is laws read));
       decoder = subst (λ d. DecoderStandsAfter d (read.tail ++ t)) (sym none) (stands-ascii read.tail t nothing ascii);
       good = λ k. ap (bad_byte k) (ending_of-ascii read.tail t nothing ascii);
       offset = omega (arith, read.offset, length-append read.tail t, len);
@@ -143,7 +144,7 @@ module _ (pieces : ReadsPieces) (own : ReadsBack) (laws : ReplacesParts) (split 
       unspent = stand.stands.unspent;
       policy_is = stand.stands.policy_is;
       reading = reads;
-      no_fault = read-no_fault _ _ _ _ laws _ _ _ reads;
+      no_fault = read-no_fault laws reads;
     }
 
     -- the state behind it
@@ -175,11 +176,11 @@ module _ (pieces : ReadsPieces) (own : ReadsBack) (laws : ReplacesParts) (split 
     passed-settles : settled_utf8 policy f ucd (bytes ++ t) ≡ settled_utf8 policy f ucd bytes ++ (old.starter ∷ take (n - 1) t)
     unfolding reads
     passed-settles =
-        sym (read-settled _ _ _ _ laws _ _ _ reads) ∙ ap (settled_text f ucd) (sym joined)
+        sym (read-settled laws reads) ∙ ap (settled_text f ucd) (sym joined)
         ∙ sym (settled_text-run ucd plain f x t n len some ascii read.taken.machine.usable old.starter alone calm.starter)
         ∙ ap (λ l. (settled_text f ucd x ++ (l ++ [])) ++ take (n - 1) t) (encode_ascii old.starter calm.starter)
         ∙ append_assoc (settled_text f ucd x) (old.starter ∷ []) (take (n - 1) t)
-        ∙ ap (λ l. l ++ (old.starter ∷ take (n - 1) t)) (read-settled _ _ _ _ laws _ _ _ read)
+        ∙ ap (λ l. l ++ (old.starter ∷ take (n - 1) t)) (read-settled laws read)
 
   module _ (plain : IsPlainAscii ucd) {policy : Policy} {f : Form} {old : State} {bytes input : List ℕ} {space len : ℕ}
       (can : CanPass old input space len) (stand : StandsAfter policy f old bytes) (some : 0 < len) (fits : old.offset + length input ≤ 2 ^ 64 - 1) where

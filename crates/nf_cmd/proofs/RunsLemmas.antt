@@ -18,7 +18,7 @@ use Rattle.nf_filter.specs.Writes.{Puts}
 use Rattle.nf_filter.specs.Finishes.{end_of as finished, final_utf8}
 use Rattle.nf_filter.specs.Again.{StaysAsItIs, AddsWhatStays, FinishedStays}
 use Rattle.nf_filter.proofs.WritesLemmas.{Puts-at}
-use Rattle.nf_filter.proofs.AgainLemmas.{drives_once, adds_what_stays}
+use Rattle.nf_filter.proofs.AgainLemmas.{drives_to_end, adds_what_stays}
 use Rattle.nf_filter.proofs.SoundnessLemmas.{not_a_fault, not_in_end, not_surveyed}
 use Rattle.nf_normalized.specs.Change.{form_decision, form_value, under}
 use Rattle.nf_cmd.specs.declared.fault.Fault.TheVariants.{Row, Write}
@@ -71,7 +71,7 @@ module _ (sound : AreSound ucd) (at : ℕ) where
   form_row : {coming left taken now : Option (List ℕ)} {ended : Result ℕ Fault} (f : Form) (assigned : Bool) → ChecksForm f assigned coming left taken now ended → ¬ (ended ≡ Err (Row at))
   unfolding form_decision
   form_row f assigned does row =
-      not_surveyed 65536 0 at (form_decision assigned f 0) (form_value f 0) _ _ _ (λ bytes e. grind (arith, not_a_fault ucd sound 0 at (under assigned) bytes)) does.surveyed.surveys (grind arith)
+      not_surveyed {most = 65536} {base = 0} {at = at} {decision = form_decision assigned f 0} {value = form_value f 0} (λ bytes e. grind (arith, not_a_fault ucd sound 0 at (under assigned) bytes)) does.surveyed.surveys (grind arith)
 
 pub never_row : DrivingRefusesNone → CheckingRefusesNone → MeasuringRefusesNone → AreSound ucd → NeverRow
 never_row driving checking measuring sound (Convert form policy) before after ended does at row = driving _ _ _ _ _ _ _ _ _ _ _ sound does.runs.driven at (grind arith)
@@ -101,7 +101,7 @@ module _ {T : Type 0} (f : Form) (drives : SourceState → SourceState → SinkS
 module _ (law : FinishedStays) (f : Form) (policy : Policy) (once : ChangesOnce f ucd) where
   whole_once : (source rest : SourceState) (old new : SinkState) (tally : Tally) → IsTrue rest.is_at_end → Drives 65536 policy f ucd 0 [] source rest old new (Ok tally) → AddsWhatStays f ucd old.taken new.taken
   whole_once source rest old new tally end driven =
-      adds_what_stays f ucd old new policy source rest (Ok tally) (drives_once law _ policy f ucd 0 [] _ _ _ _ (Ok tally) once end driven)
+      adds_what_stays f ucd old new policy source rest (Ok tally) (drives_to_end (Ok tally) (λ all tally _ end. law policy f ucd 0 all tally once end) end driven)
 
   lines_once : (source rest : SourceState) (old new : SinkState) (value : Unit {0}) → IsTrue rest.is_at_end → DrivesLines 65536 policy f ucd source rest old new (Ok value) → AddsWhatStays f ucd old.taken new.taken
   lines_once source rest old new value end driven = by (finished policy ucd 0 (bytes_of driven.taken)) refl

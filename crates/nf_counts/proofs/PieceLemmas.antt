@@ -3,7 +3,7 @@ use Rattle.std.proofs.Common.{◌≡◌, ℕ, ◌+◌, ◌*◌, ◌%◌, ◌<◌
 use Rattle.std.specs.Prelude.{encode_utf8, encode_utf8_all}
 use Rattle.std.specs.Str.{IsUtf8, IsCharBoundary, all_scalars}
 use Rattle.std.proofs.lemmas.Str.{IsCharBoundary-at_seam}
-use lib.Utf8.{scalar}
+use lib.Utf8.{scalar, scalar_cases}
 use Rattle.std.proofs.str.Laws.{order, one, two, three, four}
 use Rattle.std.proofs.lemmas.Bool.{and_parts}
 use Rattle.nf_counts.specs.Piece.{BeginsWith}
@@ -28,13 +28,18 @@ two_spell text = slice_index text 0 % 32 * 64 + slice_index text 1 % 64
 abbrev pub three_spell : List ℕ → ℕ
 three_spell text = slice_index text 0 % 16 * 4096 + slice_index text 1 % 64 * 64 + slice_index text 2 % 64
 
-abbrev HasFirst : List ℕ → Type 0
-HasFirst text = ((slice_index text 0 < 0xE0) × HasCode text 2 (two_spell text)) ⊎ ((0xE0 ≤ slice_index text 0) × HasCode text 3 (three_spell text))
+abbrev pub four_spell : List ℕ → ℕ
+four_spell text = slice_index text 0 % 8 * 262144 + slice_index text 1 % 64 * 4096 + slice_index text 2 % 64 * 64 + slice_index text 3 % 64
 
--- from a byte on that is not ASCII, nor begins four
-pub first_of : (text : List ℕ) → IsUtf8 text → 0x80 ≤ slice_index text 0 → slice_index text 0 < 0xF0 → HasFirst text
-first_of text ([], spells) high low = absurd (omega (arith, rw (← spells.1) at high))
-first_of text (c ∷ cs, spells) high low = within (order c 128) (order c 2048) (order c 65536)
+abbrev HasFirst : List ℕ → Type 0
+HasFirst text =
+    ((slice_index text 0 < 0xE0) × HasCode text 2 (two_spell text))
+    ⊎ (((0xE0 ≤ slice_index text 0) × (slice_index text 0 < 0xF0) × HasCode text 3 (three_spell text)) ⊎ ((0xF0 ≤ slice_index text 0) × HasCode text 4 (four_spell text)))
+
+-- from a byte on that is not ASCII
+pub first_of : (text : List ℕ) → IsUtf8 text → 0x80 ≤ slice_index text 0 → HasFirst text
+first_of text ([], spells) high = absurd (omega (arith, rw (← spells.1) at high))
+first_of text (c ∷ cs, spells) high = within (order c 128) (order c 2048) (order c 65536)
   where
     begins : BeginsWith text (c ∷ []) (length (encode_utf8 c))
     begins = record {
@@ -56,5 +61,9 @@ first_of text (c ∷ cs, spells) high low = within (order c 128) (order c 2048) 
     within (inr _) (inr more) (inl small) =
         let e = three c more small in
         let is : c ≡ three_spell text = omega (arith, at 0 _ e, at 1 _ e, at 2 _ e) in
-        inr (omega (arith, at 0 _ e), record { begins = rw (e, is) at begins; one = λ k above below. grind (arith, order k 2, at 1 _ e, at 2 _ e) })
-    within (inr _) (inr _) (inr more) = absurd (omega (arith, low, at 0 _ (four c more)))
+        inr (inl (omega (arith, at 0 _ e), omega (arith, small, at 0 _ e), record { begins = rw (e, is) at begins; one = λ k above below. grind (arith, order k 2, at 1 _ e, at 2 _ e) }))
+    within (inr _) (inr _) (inr more) =
+        let fits : c < 1114112 = grind (arith, scalar_cases c, (and_parts (scalar c) (all_scalars cs) spells.0).0) in
+        let e = four c more in
+        let is : c ≡ four_spell text = omega (arith, fits, at 0 _ e, at 1 _ e, at 2 _ e, at 3 _ e) in
+        inr (inr (omega (arith, at 0 _ e), record { begins = rw (e, is) at begins; one = λ k above below. grind (arith, order k 2, order k 3, at 1 _ e, at 2 _ e, at 3 _ e) }))

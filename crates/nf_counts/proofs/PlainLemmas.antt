@@ -50,8 +50,8 @@ module _ (sound : (c : ℕ) → is_sound ucd c ≡ true) where
     is = λ b j. block_value 4 4 WORDS (slice_index INDEX b) j == 0;
     -- the first block is of 0 alone
     in_block = λ b j small little zero.
-        plain_of _ (sym (told-block b j small little) ∙ rw (eqb-true _ 0 zero) (eqb-true _ 0 (all_below-at (λ j. block_value 4 4 WORDS 0 j == 0) 64 j refl little)));
-    in_place = λ b j small little here. plain_of _ (sym (told-block b j small little) ∙ eqb-true _ 0 here);
+        plain_of _ (sym (told-block b j (omega (arith, small)) little) ∙ rw (eqb-true _ 0 zero) (eqb-true _ 0 (all_below-at (λ j. block_value 4 4 WORDS 0 j == 0) 64 j refl little)));
+    in_place = λ b j small little here. plain_of _ (sym (told-block b j (omega (arith, small)) little) ∙ eqb-true _ 0 here);
     below = λ c low. plain_of c (told-ascii c low);
     ascii = omega arith;
     of_low = omega arith;

@@ -47,7 +47,7 @@ value class told own w = cond told (cond (is_empty w) (cond (own == 0) 0 5) (row
 
 -- of these nothing is told
 unfoldable pub untold : List Range
-untold = (0x10000, 0x10FFFF) ∷ []
+untold = (0x20000, 0x10FFFF) ∷ []
 
 abbrev tells : ℕ → Bool
 tells c = cond (in_ranges untold c) false (is_assigned c)
@@ -86,15 +86,15 @@ told-ascii c low = eqb-true _ _ (Stepped-below told told_stepped (λ _ (v : ℕ)
 
 -- ---- the value of a code point by its block
 
-pub told-block : (b j : ℕ) → b < 1024 → j < 64 → block_value 4 4 WORDS (slice_index INDEX b) j ≡ told (64 * b + j)
+pub told-block : (b j : ℕ) → b < 2048 → j < 64 → block_value 4 4 WORDS (slice_index INDEX b) j ≡ told (64 * b + j)
 unfolding trie_value
 told-block b j small little =
     let block : (64 * b + j) / 64 ≡ b = omega arith in
     let place : (64 * b + j) % 64 ≡ j = omega arith in
-    rw (block, place, lt-ltb b 1024 small) at (trie_value-Stepped 4 4 8 INDEX WORDS tail (λ c. told c) told_stepped trie_is (64 * b + j) (omega arith))
+    rw (block, place, lt-ltb b 2048 small) at (trie_value-Stepped 4 4 8 INDEX WORDS tail (λ c. told c) told_stepped trie_is (64 * b + j) (omega arith))
 
 -- four bits of a word, as they are read
-pub word-told : (code : ℕ) → code < 65536 → (slice_index WORDS (slice_index INDEX (code / 64) * 4 + code % 64 / 16) / 2 ^ (code % 64 % 16 * 4)) % 16 ≡ told code
+pub word-told : (code : ℕ) → code < 131072 → (slice_index WORDS (slice_index INDEX (code / 64) * 4 + code % 64 / 16) / 2 ^ (code % 64 % 16 * 4)) % 16 ≡ told code
 unfolding block_value
 word-told code small = told-block (code / 64) (code % 64) (omega arith) (omega arith) ∙ ap told (omega arith)
 

@@ -16,7 +16,7 @@ pub(crate) struct Piece {
     pub value: u32,
 }
 
-/// What a text begins with, where that is ASCII, or a character of two or three bytes of which the value tells something.
+/// What a text begins with, where that is ASCII, or a character of which the value tells something.
 #[inline(always)]
 pub(crate) fn first_piece(text: &str) -> Option<Piece>
     ensures { IfSome result (λ piece. IsPiece ucd text.now piece) }
@@ -35,8 +35,8 @@ pub(crate) fn first_piece(text: &str) -> Option<Piece>
     })
 }
 
-/// The character that a text begins with, where it has two or three bytes and its value tells something; `third` is the third
-/// byte of the text, if it has one.
+/// The character that a text begins with, where it is not ASCII and its value tells something; `third` is the third byte of the
+/// text, if it has one.
 #[inline(always)]
 pub(crate) fn first_character(text: &str, third: u8) -> Option<Piece>
     requires high { 0x80 ≤ slice_index text.now 0 }
@@ -46,12 +46,11 @@ pub(crate) fn first_character(text: &str, third: u8) -> Option<Piece>
 {
     let bytes = text.as_bytes();
     let lead = bytes[0];
-    if lead >= 0xF0 {
-        return None;
-    }
     let bits = (u32::from(lead) % 32 * 64 + u32::from(bytes[1]) % 64) * 64 + u32::from(third) % 64;
-    let (len, code) = if lead >= 0xE0 {
-        (3, bits % 65536)
+    let (len, code) = if lead >= 0xF0 {
+        (4, (bits * 64 + u32::from(bytes[3]) % 64) % 0x20_0000)
+    } else if lead >= 0xE0 {
+        (3, bits % 0x1_0000)
     } else {
         (2, bits / 64)
     };

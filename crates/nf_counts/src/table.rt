@@ -8,14 +8,16 @@ use nf_facts::laws;
 /// The value that tells nothing.
 pub(crate) const NOTHING: u32 = 4;
 
-/// The value of a code point up to U+FFFF, 0 to 7.
+/// The value of a code point, 0 to 7; from U+20000 on nothing is told.
 #[inline(always)]
 pub(crate) fn value(code: u32) -> u32
-    requires { code < 65536 }
     ensures within { result < 8 }
     ensures valued { (result == 4) ≡ false → IsValued ucd code result }
 {
     laws::every_character_is_sound();
+    if code >= 0x2_0000 {
+        return NOTHING;
+    }
     let place = u64::from(code % 64);
     let word = WORDS[usize::from(INDEX[(code / 64) as usize]) * 4 + (place / 16) as usize];
     ((word >> (place % 16 * 4)) % 16) as u32

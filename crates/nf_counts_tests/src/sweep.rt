@@ -6,8 +6,8 @@ use unicode::properties::GeneralCategory;
 use unicode_normalization::{Form, char as lookup};
 
 /// Whether the compatibility decomposition of `c` has a starter, and how many non-starters stand behind it; none where one
-/// stands before a starter, or `c` is unassigned.
-fn looked_up(c: char) -> Option<(bool, u32)> {
+/// stands before a starter, `c` is unassigned, or above U+1FFFF.
+pub(crate) fn told_of(c: char) -> Option<(bool, u32)> {
     let mut room = [c; 3];
     let mut counts = (false, 0u32);
     for member in lookup::decomposition(c, Form::Nfkd, &mut room) {
@@ -19,7 +19,9 @@ fn looked_up(c: char) -> Option<(bool, u32)> {
             counts.0 = true;
         }
     }
-    (GeneralCategory::for_char(c) != GeneralCategory::Unassigned).then_some(counts)
+    (c < '\u{20000}' && GeneralCategory::for_char(c) != GeneralCategory::Unassigned).then_some(
+        counts,
+    )
 }
 
 /// The non-starters of a front, its longest run, those before the first starter and behind the last one, and whether there is
@@ -42,7 +44,7 @@ fn counted_plainly(room: u32, chars: &[char]) -> (usize, Counts) {
     let mut now: Counts = (0, 0, 0, 0, false);
     let mut count = 0usize;
     for c in chars {
-        let told = if *c > '\u{FFFF}' { None } else { looked_up(*c) };
+        let told = told_of(*c);
         let Some((starts, marks)) = told else {
             break;
         };
@@ -68,7 +70,7 @@ fn counted_plainly(room: u32, chars: &[char]) -> (usize, Counts) {
     (count, now)
 }
 
-/// Each alone: up to U+FFFF what is assigned is counted, where no non-starter stands before a starter.
+/// Each alone: up to U+1FFFF what is assigned is counted, where no non-starter stands before a starter.
 #[test]
 fn characters_are_counted_by_their_decompositions(rt: HostRuntime) -> Result<(), Fail> {
     for code in 0..0x11_0000u32 {
@@ -108,7 +110,7 @@ fn characters_are_counted_among_letters(rt: HostRuntime) -> Result<(), Fail> {
         }
         let text = str::from_utf8(&bytes).expect(&rt, "text");
         let counted = counted_front(30, text);
-        let told = if c > '\u{FFFF}' { None } else { looked_up(c) };
+        let told = told_of(c);
         let (len, marks) = told.map_or((place, 0), |told| (160, told.1));
         assert_eq!(rt; counted.front.len(), len, "{code:x}");
         assert_eq!(rt;
@@ -120,7 +122,7 @@ fn characters_are_counted_among_letters(rt: HostRuntime) -> Result<(), Fail> {
     Ok(())
 }
 
-const SOME: [char; 24] = [
+const SOME: [char; 26] = [
     'a',
     ' ',
     'b',
@@ -145,6 +147,8 @@ const SOME: [char; 24] = [
     '\u{344}',
     '\u{378}',
     '\u{1F600}',
+    '\u{1D15E}',
+    '\u{20000}',
 ];
 
 /// Up to 200 characters, drawn from some, each a few times in a row, so that there are runs of ASCII and of marks.
@@ -153,7 +157,7 @@ fn fronts_are_counted_as_their_characters(rt: HostRuntime) -> Result<(), Fail> {
     let mut seeded = Seeded::new(26);
     for turn in 0..3000u32 {
         let mut chars = ['a'; 200];
-        let kinds = 1 + seeded.below(24);
+        let kinds = 1 + seeded.below(26);
         let mut c = 'a';
         for at in 0..200usize {
             if seeded.below(9) < 2 + turn % 7 {

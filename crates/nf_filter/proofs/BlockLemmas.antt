@@ -16,5 +16,4 @@ WritesTo-written other written = record { broken = λ e. absurd (other e); writt
 -- more is to come behind, also where text stands ahead
 pub Broken-extends : (start : Start) {new : SinkState} {a b : List ℕ} → Extends a b → BreaksOff start.sink new start.before (start.ahead ++ a)
     → BreaksOff start.sink new start.before (start.ahead ++ b)
-Broken-extends start {a = a} more broken =
-    BreaksOff-extends (record { more = more.more; text = simp (more.text, append_assoc) }) broken
+Broken-extends start {a = a} more broken = BreaksOff-extends (record { more = more.more; text = simp (more.text, append_assoc) }) broken

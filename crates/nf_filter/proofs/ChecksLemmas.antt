@@ -1,5 +1,5 @@
 -- What a check decides, character by character.
-use Rattle.nf_filter.proofs.Common.{Checker, HasChecked, place_of, ⊎_elim, ◌≡◌, ℕ, ◌+◌, ◌<◌, Bool, true, false, List, [], ◌∷◌, ◌++◌, length, Some, None, Ok, Err, refl, ap, ◌∙◌, arith, append_assoc, append-nil, if◌then◌else◌, Option, chars, encode_utf8_all, list_all, cond-true, or_left, and_parts, and_from, and_left, and_right, list_all-append, Properties, lead, Form, Nfkd, decomposed, stream_safe, is_sound, IsSoundText, text_of, ending_of, Place, is_in_format, place_from, Fault, Row, bad_byte, decided_or, decided_in, sound_front, check_fault, place_or_fault, check_decision, text_decision, no_stop, has_starter-append, lead-append, CountsFromEnd}
+use Rattle.nf_filter.proofs.Common.{Checker, HasChecked, place_of, ⊎_elim, ◌≡◌, ℕ, ◌+◌, ◌<◌, Bool, true, false, List, [], ◌∷◌, ◌++◌, length, Some, None, Ok, Err, refl, ap, ◌∙◌, arith, append_assoc, append-nil, if◌then◌else◌, Option, chars, encode_utf8_all, list_all, cond-true, or_left, and_parts, list_all-append, Properties, lead, Form, Nfkd, decomposed, stream_safe, is_sound, IsSoundText, text_of, ending_of, Place, is_in_format, place_from, Fault, Row, bad_byte, decided_or, decided_in, sound_front, check_fault, place_or_fault, check_decision, text_decision, no_stop, has_starter-append, lead-append, CountsFromEnd}
 use Rattle.nf_forms.specs.Parting.{CountsAnew}
 use Rattle.nf_forms.specs.Calm.{IsCalm}
 use Rattle.nf_forms.specs.Laws.Last.{by_last}
@@ -12,25 +12,20 @@ use Rattle.nf_filter.proofs.PolicyLemmas.{take_while-append, take_while-stop}
 
 module _ (p : Properties) where
   pub all_sound-push : (x : List ℕ) (c : ℕ) → list_all (is_sound p) x ≡ true → is_sound p c ≡ true → list_all (is_sound p) (x ++ c ∷ []) ≡ true
-  all_sound-push x c all sound = list_all-append (is_sound p) x (c ∷ []) ∙ and_from _ _ all (and_from _ _ sound refl)
-
-  not_all : (x : List ℕ) (c : ℕ) (y : List ℕ) → is_sound p c ≡ false → list_all (is_sound p) ((x ++ c ∷ []) ++ y) ≡ false
-  not_all x c y unsound = list_all-append (is_sound p) (x ++ c ∷ []) y ∙ and_left _ _ (list_all-append (is_sound p) x (c ∷ []) ∙ and_right _ _ (and_left (is_sound p c) true unsound))
+  all_sound-push x c all sound = rw (list_all-append (is_sound p) x (c ∷ []), all, sound)
 
   module _ (base : ℕ) where
-    -- a place stays
-    place_stays : (x z : List ℕ) (at : Place) → place_from base p x ≡ Some at → place_from base p (x ++ z) ≡ Some at
-    place_stays x z at found = by_last (λ z. place_from base p (x ++ z) ≡ Some at) (rw (append-nil x) found)
-        (λ z c before. rw (← append_assoc x z (c ∷ [])) (place_from-stays p base (x ++ z) c at before)) z
-
     pub stop_place : (x y : List ℕ) (at : Place) → list_all (is_sound p) x ≡ true → place_from base p x ≡ Some at → text_decision p base (x ++ y) ≡ Some (Ok (Some at))
     unfolding text_decision
-    stop_place x y at all found = rw (take_while-append (is_sound p) x y all, place_stays x (sound_front p y) at found)
+    stop_place x y at all found =
+        let stays : place_from base p (x ++ sound_front p y) ≡ Some at =
+        by_last (λ z. place_from base p (x ++ z) ≡ Some at) (rw (append-nil x) found) (λ z c before. rw (← append_assoc x z (c ∷ [])) (place_from-stays p base (x ++ z) c at before)) (sound_front p y) in
+        rw (take_while-append (is_sound p) x y all, stays)
 
     pub stop_row : (x : List ℕ) (c : ℕ) (y : List ℕ) → list_all (is_sound p) x ≡ true → place_from base p x ≡ None → is_sound p c ≡ false
         → text_decision p base ((x ++ c ∷ []) ++ y) ≡ Some (Err (Row (base + length (encode_utf8_all x))))
     unfolding text_decision
-    stop_row x c y all none unsound = rw (take_while-stop (is_sound p) x c y all unsound, none, not_all x c y unsound)
+    stop_row x c y all none unsound = rw (take_while-stop (is_sound p) x c y all unsound, none, list_all-append (is_sound p) (x ++ c ∷ []) y, list_all-append (is_sound p) x (c ∷ []), all, unsound)
 
     -- what the bytes decide is what their text does
     pub decides : (bytes : List ℕ) → check_decision p base bytes ≡ decided_in (text_decision p base) base bytes
@@ -65,7 +60,7 @@ module _ (p : Properties) where
 
       -- it ends in a character that parts a text
       end : BeginsAndMarks p f t
-      end = ⊎_elim (λ none. absurd (omega (arith, some, ap length none.1))) (λ begins. begins) calm.end
+      end = ⊎_elim (λ none. absurd (omega (arith, ap length none.1))) (λ begins. begins) calm.end
 
       pub counts_from_end : CountsFromEnd p s t
       counts_from_end = record {

@@ -1,60 +1,45 @@
 -- What is left of a piece, up to its first ill-formed byte.
-use Rattle.nf_filter.proofs.Common.{EndsPiece, ◌≡◌, ℕ, ◌+◌, ◌-◌, ◌≤◌, ◌==◌, true, false, List, [], ◌∷◌, ◌++◌, length, drop, Some, Ok, Err, refl, sym, ap, ◌∙◌, arith, nat_tests, append_assoc, append-nil, Option, Result, if◌then◌else◌, encode_utf8_all, chars, length-append, drop-drop, drop_at, encodes-append, Properties, Form, End, EndsBad, text_of, text_len, replacement, part_end, ReplacesParts, SplitsBytes, DecoderStandsAfter, first_text, Takes, bytes_behind, Fault, BadByte, Write, Counted, Policy, Reading, Start, BlockState, bad_under, first_fault, fault_in, TakesAllowed, IsLeft, HasReadTo, ReadsTo, RefusesBytes, IsPlacedAt, allowed, text_under, usable}
-use Rattle.nf_filter.proofs.BlockLemmas.{WritesTo-written, Broken-extends}
-use Rattle.nf_filter.proofs.FilterLemmas.{err_is}
-use Rattle.nf_filter.proofs.PolicyLemmas.{first_fault-none, first_fault-stays, taken_utf8-grows}
-use Rattle.nf_filter.proofs.AllowingLemmas.{TakesBehind, TakesAllowed-settled}
-use Rattle.nf_filter.proofs.ReadingLemmas.{ends_well, ends_badly, all_behind, ending_of-none, text_of-none}
-use Rattle.nf_filter.proofs.PieceLemmas.{place_in, left-text, left-place, left-bad, text_under-first, len_under-first, IsLeft-behind}
+use Rattle.nf_filter.proofs.Common.{EndsPiece, ◌≡◌, ℕ, ◌+◌, ◌-◌, ◌==◌, true, false, List, [], ◌∷◌, ◌++◌, length, drop, Ok, Err, refl, sym, ap, ◌∙◌, arith, nat_tests, append_assoc, append-nil, Option, Result, if◌then◌else◌, encode_utf8_all, chars, length-append, drop_at, encodes-append, Properties, Form, End, EndsBad, text_of, text_len, replacement, part_end, ReplacesParts, SplitsBytes, DecoderStandsAfter, first_text, Takes, bytes_behind, Fault, BadByte, Write, Counted, Policy, Reading, Start, BlockState, bad_under, fault_in, TakesAllowed, IsLeft, HasReadTo, ReadsTo, RefusesBytes, IsPlacedAt, allowed, text_under, None, ⊎_elim, Written, TakesOn, settled_text, bad_byte, unusable_at-usable, AreSound, ending_of}
+use Rattle.nf_filter.proofs.BlockLemmas.{WritesTo-written}
+use Rattle.nf_filter.proofs.FilterLemmas.{err_is, write_or_not}
+use Rattle.nf_filter.proofs.SoundnessLemmas.{usable_is}
+use Rattle.nf_filter.proofs.SteppingLemmas.{Standing-taken}
+use Rattle.nf_utf8.specs.Mending.{IsReplacedFront}
+use Rattle.std.proofs.Math.Seq.{drop-append-add}
+use Rattle.nf_filter.proofs.PolicyLemmas.{first_fault-none, allowed-append}
+use Rattle.nf_filter.proofs.AllowingLemmas.{TakesBehind, TakesText, TakesAllowed-settled, TakesAllowed-all, TakesAllowed-refused, refused-more}
+use Rattle.nf_filter.proofs.ReadingLemmas.{EndsWell, ends_well, ends_badly, all_behind, ending_of-none, text_of-none}
+use Rattle.nf_filter.proofs.PieceLemmas.{place_in, left-text, left-place, left-bad, text_under-first, len_under-first, IsLeft-front, bad_front}
 
 -- in a text of one character no other is placed
 pub one_placed : (place : List ℕ → ℕ) (at : ℕ) (x : List ℕ) (c : ℕ) → place x ≡ at → IsPlacedAt place at x (c ∷ [])
-one_placed place at x c here [] d rest is = rw (append-nil x) (omega (arith, here))
+one_placed place at x c here [] d rest is = rw (append-nil x) (omega arith)
 one_placed place at x c here (e ∷ front) d rest is = absurd (omega (arith, ap length is, length-append front (d ∷ rest)))
 
--- how many bytes of the rest a part takes that a byte breaks off: a byte that begins nothing is a part by itself
-abbrev pub part_len_of : ℕ → ℕ → ℕ
-part_len_of at back = if back == 0 then at + 1 else at
-
-part_len_of-bounds : (at back : ℕ) → (at ≤ part_len_of at back) × (part_len_of at back ≤ at + 1)
-part_len_of-bounds at back = (grind (arith, nat_tests), grind (arith, nat_tests))
-
--- the bytes of a part that a bad byte breaks off, behind those held
-part_end-is : (held at start back : ℕ) → start + back ≡ held + at → part_end (held + at) start ≡ held + part_len_of at back
-part_end-is held at start back is = grind (arith, nat_tests)
-
-module _ {policy : Policy} {f : Form} {p : Properties} {base : ℕ} {bytes : List ℕ} {start : Start} {now : BlockState} {counted : Counted} {fault : Fault} where
+module _ {policy : Policy} {f : Form} {p : Properties} {base : ℕ} {bytes : List ℕ} {counted : Counted} {start : Start} {now : BlockState} where
   -- a front of the text was refused
-  pub RefusesBytes-front : {v : List ℕ} (more : List ℕ) → text_under policy.replace bytes ≡ v ++ more → TakesAllowed policy.assigned f p counted start now (place_in policy.replace base bytes) v (Err fault)
+  RefusesBytes-front : {fault : Fault} {v : List ℕ} (more : List ℕ) → text_under policy.replace bytes ≡ v ++ more → TakesAllowed policy.assigned f p counted start now (place_in policy.replace base bytes) v (Err fault)
       → RefusesBytes policy f p start now base bytes fault
   unfolding fault_in
-  RefusesBytes-front {v} more text takes = record {
-    writes = record {
-      broken = λ e. Broken-extends start (rw text (taken_utf8-grows p policy.assigned f v more)) (takes.writes.broken e);
-      written = λ not. rw (text, (stays (λ e. not (ap Err e))).1) (takes.writes.written not);
-    };
-    is = λ not. rw text (sym (stays not).0);
-  }
-    where
-      stays : ¬ (fault ≡ Write) → (first_fault policy.assigned p (place_in policy.replace base bytes) (v ++ more) (bad_under policy.replace base bytes) ≡ Some fault) × (usable p (allowed policy.assigned p (v ++ more)) ≡ usable p (allowed policy.assigned p v))
-      stays not = first_fault-stays p policy.assigned (place_in policy.replace base bytes) v more (bad_under policy.replace base bytes) fault (takes.fault (λ e. not (let same : fault ≡ Write = cc in same)))
+  RefusesBytes-front more text takes =
+      let refused = refused-more more (bad_under policy.replace base bytes) takes in
+      record { writes = rw text refused.0; is = λ not. rw text (refused.1 (λ e. not (err_is e))) }
 
-  -- all of the text was taken, and a bad byte stands behind it
-  pub RefusesBytes-bad : ¬ (fault ≡ Write) → TakesAllowed policy.assigned f p counted start now (place_in policy.replace base bytes) (text_under policy.replace bytes) (Ok tt)
-      → bad_under policy.replace base bytes ≡ Some fault → RefusesBytes policy f p start now base bytes fault
-  unfolding fault_in
-  RefusesBytes-bad other takes told =
-      let taken = takes.taken.0 in
-      record {
-        writes = WritesTo-written (λ e. other (err_is e)) (takes.writes.written (λ e. cc));
-        is = λ _. sym (first_fault-none p policy.assigned (place_in policy.replace base bytes) (text_under policy.replace bytes) (bad_under policy.replace base bytes) taken.machine.usable takes.taken.1 ∙ told);
-      }
+  -- a front of the bytes was taken, of which the decoder holds the last
+  reads-from : (before : List ℕ) (n : ℕ) (tail : List ℕ) {next : Reading} {rest x : List ℕ} {place : List ℕ → ℕ} → IsLeft policy.replace bytes before n (tail ++ rest) → DecoderStandsAfter next.decoder tail → ((n : ℕ) → bad_byte n (ending_of tail) ≡ None)
+      → next.offset ≡ base + n + length tail → x ≡ before ++ text_of tail → TakesAllowed policy.assigned f p counted start now place x (Ok tt) → (both : ReadsTo policy f p counted start now base next bytes rest) × (both.0.tail ≡ tail)
+  reads-from before n tail left decoder good offset is takes =
+      let all = rw is at takes in
+      ((record { before = before; n = n; tail = tail; left = left; decoder = decoder; good = good; offset = offset; taken = all.taken.0; allowed = all.taken.1 }, TakesAllowed-settled all), refl)
 
-module _ (laws : ReplacesParts) {policy : Policy} {f : Form} {p : Properties} {base : ℕ} {bytes : List ℕ} {counted : Counted} {reading : Reading} {rest : List ℕ} {start : Start} {old : BlockState}
+module _ (laws : ReplacesParts) {policy : Policy} {f : Form} {p : Properties} {base : ℕ} {bytes rest : List ℕ} {counted : Counted} {reading : Reading} {start : Start} {old : BlockState}
     (both : ReadsTo policy f p counted start old base reading bytes rest) {first : Option ℕ} {text : List ℕ} {end : End} (takes : (tail : List ℕ) → DecoderStandsAfter reading.decoder tail → Takes tail rest first text end)
     (carried : ℕ) (behind : (tail : List ℕ) → DecoderStandsAfter reading.decoder tail → length (encode_utf8_all (text_of tail)) + carried ≡ length tail) where
   abbrev read : HasReadTo policy f p counted base reading bytes rest
   read = both.0
+
+  abbrev place : List ℕ → ℕ
+  place = place_in policy.replace base bytes
 
   took : Takes read.tail rest first text end
   took = takes read.tail read.decoder
@@ -69,124 +54,127 @@ module _ (laws : ReplacesParts) {policy : Policy} {f : Form} {p : Properties} {b
   taken_text = (read.before ++ text_of read.tail) ++ next_text
 
   next_is : text_of all ≡ text_of read.tail ++ next_text
-  next_is = took.spelled ∙ append_assoc (text_of read.tail) (first_text first) (chars text)
+  next_is = rw (took.spelled, append_assoc)
 
   joined_is : taken_text ≡ read.before ++ text_of all
-  joined_is = rw next_is (append_assoc read.before (text_of read.tail) next_text)
+  joined_is = rw (next_is, append_assoc)
 
   -- the offsets of its characters
-  placed : IsPlacedAt (place_in policy.replace base bytes) (reading.offset - carried) (read.before ++ text_of read.tail) next_text
+  placed : IsPlacedAt place (reading.offset - carried) (read.before ++ text_of read.tail) next_text
   placed front c last is =
-      rw (append_assoc read.before (text_of read.tail) front) (omega (
-        arith,
-        left-place _ _ _ _ _ read.left (text_of read.tail ++ front),
-        len_under-first laws policy.replace all (text_of read.tail ++ front) (c ∷ last) (rw (is, ← append_assoc (text_of read.tail) front (c ∷ last)) at next_is),
-        ap length (encodes-append (text_of read.tail) front),
-        length-append (encode_utf8_all (text_of read.tail)) (encode_utf8_all front),
-        behind read.tail read.decoder,
-        read.offset,
-      ))
+      let front_is = left-place _ _ _ _ _ read.left (text_of read.tail ++ front) in
+      let len = len_under-first laws policy.replace all (text_of read.tail ++ front) (c ∷ last) (rw (is, ← append_assoc (text_of read.tail) front (c ∷ last)) at next_is) in
+      rw append_assoc (grind (arith, behind read.tail read.decoder, encodes-append (text_of read.tail) front, length-append))
 
-  chunk-takes : {now : BlockState} {after : Counted} {r : Result (Unit {0}) Fault} → TakesBehind policy.assigned p counted old after now (reading.offset - carried) next_text r
-      → TakesAllowed policy.assigned f p after start now (place_in policy.replace base bytes) taken_text r
-  chunk-takes one = one f (place_in policy.replace base bytes) (read.before ++ text_of read.tail) start read.taken read.allowed placed both.1
+  module _ {now : BlockState} {after : Counted} {r : Result (Unit {0}) Fault} (text_takes : TakesBehind policy.assigned p counted old after now (reading.offset - carried) next_text r) where
+    chunk-takes : TakesAllowed policy.assigned f p after start now place taken_text r
+    chunk-takes = text_takes f place (read.before ++ text_of read.tail) start read.taken read.allowed placed both.1
 
-  -- a character of it was refused
-  pub chunk-refused : {now : BlockState} {after : Counted} {fault : Fault} → TakesBehind policy.assigned p counted old after now (reading.offset - carried) next_text (Err fault) → RefusesBytes policy f p start now base bytes fault
-  chunk-refused one =
-      let more = text_under-first laws policy.replace all in
-      RefusesBytes-front more.more (rw (joined_is, append_assoc read.before (text_of all) more.more, ← more.text) (left-text _ _ _ _ _ read.left)) (chunk-takes one)
+    -- a character of it was refused
+    pub chunk-refused : {fault : Fault} → r ≡ Err fault → RefusesBytes policy f p start now base bytes fault
+    chunk-refused refused =
+        let more = text_under-first laws policy.replace all in
+        RefusesBytes-front more.more (rw (joined_is, append_assoc, ← more.text) (left-text _ _ _ _ _ read.left)) (rw refused at chunk-takes)
 
-  module _ {now : BlockState} {after : Counted} (text_takes : TakesBehind policy.assigned p counted old after now (reading.offset - carried) next_text (Ok tt)) where
-    taken : TakesAllowed policy.assigned f p after start now (place_in policy.replace base bytes) taken_text (Ok tt)
-    taken = chunk-takes text_takes
+    module _ (ok : r ≡ Ok tt) where
+      taken : TakesAllowed policy.assigned f p after start now place taken_text (Ok tt)
+      taken = rw ok at chunk-takes
 
-    -- all of the rest was read
-    pub chunk-read : (next : Reading) → ((at back : ℕ) → ¬ (end ≡ EndsBad at back)) → DecoderStandsAfter next.decoder (bytes_behind read.tail rest end) → next.offset ≡ reading.offset + length rest
-        → ReadsTo policy f p after start now base next bytes []
-    chunk-read next well decoder offset = (
-      record {
-        before = read.before;
-        n = read.n;
-        tail = all;
-        left = rw (append-nil all) read.left;
-        decoder = rw (all_behind read.tail rest end well) at decoder;
-        good = λ n. ends_well read.tail rest end n well took.ends;
-        offset = omega (arith, offset, read.offset, length-append read.tail rest);
-        taken = rw joined_is at taken.taken.0;
-        allowed = rw joined_is at taken.taken.1;
-      },
-      rw joined_is at (TakesAllowed-settled taken),
-    )
+      -- all of the rest was read
+      pub chunk-read : {next : Reading} → EndsWell end → DecoderStandsAfter next.decoder (bytes_behind read.tail rest end) → next.offset ≡ reading.offset + length rest → ReadsTo policy f p after start now base next bytes []
+      chunk-read well decoder offset =
+          (reads-from read.before read.n all (rw (append-nil all) read.left) (rw (all_behind read.tail rest end well) at decoder) (λ n. ends_well read.tail rest end n well took.ends) (grind (arith, length-append)) joined_is taken).0
 
-    module _ (at back : ℕ) (is : end ≡ EndsBad at back) where
-      ends : EndsPiece read.tail rest (EndsBad at back)
-      ends = rw is at took.ends
+      module _ {at back : ℕ} (is : end ≡ EndsBad at back) where
+        ends : EndsPiece read.tail rest (EndsBad at back)
+        ends = rw is at took.ends
 
-      -- a byte of it is bad, and not replaced
-      pub chunk-bad : policy.replace ≡ false → RefusesBytes policy f p start now base bytes (BadByte (reading.offset + at) (reading.offset + at - back))
-      chunk-bad strict =
-          let whole : text_under policy.replace bytes ≡ taken_text = simp strict (rw joined_is (simp strict at (left-text _ _ _ _ _ read.left))) in
-          RefusesBytes-bad (λ e. cc) (rw (← whole) at taken)
-          (left-bad _ _ _ _ _ read.left base ∙ ap (λ r. bad_under r (base + read.n) all) strict ∙ ends_badly read.tail rest (base + read.n) reading.offset at back read.offset ends)
+        -- a byte of it is bad, and not replaced
+        pub chunk-bad : policy.replace ≡ false → RefusesBytes policy f p start now base bytes (BadByte (reading.offset + at) (reading.offset + at - back))
+        unfolding fault_in
+        chunk-bad strict =
+            let whole : text_under policy.replace bytes ≡ taken_text = simp strict (rw joined_is (simp strict at (left-text _ _ _ _ _ read.left))) in
+            let told = left-bad _ _ _ _ _ read.left base ∙ ap (λ r. bad_under r (base + read.n) all) strict ∙ ends_badly read.tail rest (base + read.n) reading.offset at back read.offset ends in
+            record {
+              writes = WritesTo-written (λ e. cc) (rw whole (taken.writes.written (λ e. cc)));
+              is = λ _. sym (rw whole (first_fault-none p policy.assigned place taken_text (bad_under policy.replace base bytes) taken.taken.0.machine.usable taken.taken.1) ∙ told);
+            }
 
-      module _ (split : SplitsBytes) (replaces : policy.replace ≡ true) (len : ℕ) (is_len : len ≡ part_len_of at back) where
-        abbrev own : List ℕ
-        own = text_of all ++ replacement ∷ []
+        module _ (split : SplitsBytes) (replaces : policy.replace ≡ true) {len : ℕ} (is_len : len ≡ (if back == 0 then at + 1 else at)) where
+          abbrev own : List ℕ
+          own = text_of all ++ replacement ∷ []
 
-        bounds : (at ≤ len) × (len ≤ at + 1)
-        bounds = rw is_len (part_len_of-bounds at back)
+          end_is : part_end (length read.tail + at) (text_len all) ≡ length read.tail + len
+          end_is = grind (arith, nat_tests)
 
-        end_is : part_end (length read.tail + at) (text_len all) ≡ length read.tail + len
-        end_is = rw is_len (part_end-is (length read.tail) at (text_len all) back ends.1)
+          -- the part is replaced, and the rest is left
+          left_behind : IsLeft policy.replace bytes (read.before ++ own) (read.n + (length read.tail + len)) (drop len rest)
+          left_behind = simp replaces (rw (drop-append-add read.tail rest len) at (IsLeft-front laws (simp replaces at read.left) (rw end_is at (bad_front laws split ends.0))))
 
-        -- the part is replaced, and the rest is left
-        left_behind : IsLeft policy.replace bytes (read.before ++ own) (read.n + (length read.tail + len)) (drop len rest)
-        left_behind = simp replaces (rw (← dropped, ← end_is) (IsLeft-behind laws split all (length read.tail + at) (text_len all) ends.0 refl
-            (omega (arith, end_is, bounds, ends.2, length-append read.tail rest)) (omega (arith, end_is, bounds, ends.1)) bytes read.before read.n (simp replaces at read.left)))
-          where
-            dropped : drop (length read.tail + len) all ≡ drop len rest
-            dropped = sym (drop-drop len (length read.tail) all) ∙ ap (drop len) (drop_at read.tail rest (length read.tail) refl)
+          behind_is : taken_text ++ replacement ∷ [] ≡ read.before ++ own
+          behind_is = rw (joined_is, append_assoc)
 
-        behind_is : taken_text ++ replacement ∷ [] ≡ read.before ++ own
-        behind_is = rw joined_is (append_assoc read.before (text_of all) (replacement ∷ []))
+          -- U+FFFD was taken where it stands, or why not
+          module _ {last : Counted} {final : BlockState} {told : Result (Unit {0}) Fault} (one : TakesBehind policy.assigned p after now last final (reading.offset + at - back) (replacement ∷ []) told) where
+            part-takes : TakesAllowed policy.assigned f p last start final place (taken_text ++ replacement ∷ []) told
+            part-takes =
+                let front_is = left-place _ _ _ _ _ read.left (text_of all) in
+                let text_len = len_under-first laws policy.replace all (text_of all) [] (sym (append-nil (text_of all))) in
+                one f place taken_text start taken.taken.0 taken.taken.1 (one_placed place (reading.offset + at - back) taken_text replacement (rw joined_is (omega (arith, split.len all, ends.1, read.offset))))
+                (TakesAllowed-settled taken)
 
-        -- U+FFFD was taken where it stands, or why not
-        part-takes : {last : Counted} {final : BlockState} {r : Result (Unit {0}) Fault} → TakesBehind policy.assigned p after now last final (reading.offset + at - back) (replacement ∷ []) r
-            → TakesAllowed policy.assigned f p last start final (place_in policy.replace base bytes) (taken_text ++ replacement ∷ []) r
-        part-takes one = one f (place_in policy.replace base bytes) taken_text start taken.taken.0 taken.taken.1
-            (one_placed (place_in policy.replace base bytes) (reading.offset + at - back) taken_text replacement
-            (rw joined_is (omega (
-              arith,
-              left-place _ _ _ _ _ read.left (text_of all),
-              len_under-first laws policy.replace all (text_of all) [] (sym (append-nil (text_of all))),
-              split.len all,
-              ends.1,
-              read.offset,
-            ))))
-            (TakesAllowed-settled taken)
+            pub part-refused : {fault : Fault} → told ≡ Err fault → RefusesBytes policy f p start final base bytes fault
+            part-refused refused = RefusesBytes-front (text_under policy.replace (drop len rest)) (rw behind_is (left-text _ _ _ _ _ left_behind)) (rw refused at part-takes)
 
-        pub part-refused : {last : Counted} {final : BlockState} {fault : Fault} → TakesBehind policy.assigned p after now last final (reading.offset + at - back) (replacement ∷ []) (Err fault) → RefusesBytes policy f p start final base bytes fault
-        part-refused one = RefusesBytes-front (text_under policy.replace (drop len rest)) (rw behind_is (left-text _ _ _ _ _ left_behind)) (part-takes one)
+            pub part-read : told ≡ Ok tt → {next : Reading} {behind : List ℕ} → DecoderStandsAfter next.decoder [] → next.offset ≡ reading.offset + len → behind ≡ drop len rest
+                → (both : ReadsTo policy f p last start final base next bytes behind) × (both.0.tail ≡ [])
+            part-read fine decoder offset is_behind =
+                reads-from (read.before ++ own) (read.n + (length read.tail + len)) [] (rw is_behind left_behind) decoder (λ n. rw ending_of-none) (omega arith) (rw (behind_is, text_of-none, append-nil)) (rw fine at part-takes)
 
-        pub part-read : {last : Counted} {final : BlockState} (next : Reading) → TakesBehind policy.assigned p after now last final (reading.offset + at - back) (replacement ∷ []) (Ok tt) → DecoderStandsAfter next.decoder [] → next.offset ≡ reading.offset + len
-            → (behind : List ℕ) → behind ≡ drop len rest → (both : ReadsTo policy f p last start final base next bytes behind) × (both.0.tail ≡ [])
-        part-read {last = last} next one decoder offset behind is_behind =
-            let replaced = part-takes one in
-            let whole : taken_text ++ replacement ∷ [] ≡ (read.before ++ own) ++ text_of [] = rw (behind_is, text_of-none, append-nil (read.before ++ own)) in (
-              (
-                record {
-                  before = read.before ++ own;
-                  n = read.n + (length read.tail + len);
-                  tail = [];
-                  left = rw is_behind left_behind;
-                  decoder = decoder;
-                  good = λ n. rw ending_of-none;
-                  offset = omega (arith, offset, read.offset);
-                  taken = rw whole at replaced.taken.0;
-                  allowed = rw whole at replaced.taken.1;
-                },
-                rw whole at (TakesAllowed-settled replaced),
-              ),
-              refl,
-            )
+-- A front of the bytes whose ill-formed parts are replaced, taken as one text where every character is sound: wherever its
+-- bytes stand, none is refused.
+
+-- places as if the text stood in the bytes behind x
+abbrev place_behind : List ℕ → List ℕ → ℕ
+place_behind x z = length (encode_utf8_all (drop (length x) z))
+
+module _ (laws : ReplacesParts) {policy : Policy} {f : Form} {p : Properties} {base len : ℕ} {bytes rest own : List ℕ} {counted : Counted} {reading : Reading} {start : Start} {old : BlockState}
+    (replaces : policy.replace ≡ true) (read : HasReadTo policy f p counted base reading bytes rest) (none : read.tail ≡ [])
+    (is : IsReplacedFront rest own len) (assigned : allowed policy.assigned p own ≡ own) (sound : AreSound p)
+    (written : Written start old (settled_text f p (read.before ++ text_of read.tail))) where
+  abbrev mended : List ℕ
+  mended = read.before ++ own
+
+  before_is : read.before ++ text_of read.tail ≡ read.before
+  before_is = rw (none, text_of-none, append-nil)
+
+  all_allowed : allowed policy.assigned p mended ≡ mended
+  all_allowed = rw assigned at (allowed-append p policy.assigned read.before own (rw before_is at read.allowed))
+
+  -- what is left behind them
+  left : IsLeft policy.replace bytes mended (read.n + len) (drop len rest)
+  left = simp replaces (IsLeft-front laws (rw (replaces, none) at read.left) is)
+
+  takes_next : {now : BlockState} {after : Counted} {r : Result (Unit {0}) Fault} → TakesText p counted old after now 0 own r → TakesOn f p after start now (place_behind read.before) mended r
+  takes_next takes =
+      let taken = rw before_is at read.taken in
+      takes f (place_behind read.before) read.before start taken.chars (Standing-taken own taken (rw before_is at written))
+      (λ front c more _. rw (drop_at read.before front (length read.before) refl) (omega arith))
+
+  -- they were taken
+  pub mended-read : {now : BlockState} {after : Counted} → TakesText p counted old after now 0 own (Ok tt)
+      → (next : Reading) → next.decoder ≡ reading.decoder → next.offset ≡ reading.offset + len → ReadsTo policy f p after start now base next bytes (drop len rest)
+  mended-read takes next decoder offset =
+      (reads-from mended (read.n + len) [] left (rw decoder (rw none at read.decoder)) (λ n. rw ending_of-none) (omega (arith, ap length none)) (rw (text_of-none, append-nil)) (TakesAllowed-all all_allowed (takes_next takes))).0
+
+  -- or the sink failed
+  pub mended-refused : {now : BlockState} {after : Counted} {fault : Fault} → TakesText p counted old after now 0 own (Err fault) → RefusesBytes policy f p start now base bytes Write
+  mended-refused {fault = fault} takes =
+      let refused = takes_next takes in
+      ⊎_elim
+      (λ write. record {
+        writes = rw (← write) (rw (← left-text _ _ _ _ _ left) at (refused-more {a = policy.assigned} {w = mended} (text_under policy.replace (drop len rest)) None (TakesAllowed-refused all_allowed refused)).0);
+        is = λ not. absurd (not refl);
+      })
+      (λ not. absurd (cc (refused.fault (λ e. not (err_is e)) ∙ unusable_at-usable p (place_behind read.before) mended (usable_is p sound mended))))
+      (write_or_not fault)

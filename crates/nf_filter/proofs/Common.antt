@@ -2,22 +2,22 @@
 pub use Rattle.std.proofs.Common.{◌≡◌, ℕ, ◌+◌, ◌-◌, Bool, true, false, ◌==◌, List, [], ◌∷◌, ◌++◌, length, Option, Some, None, Result, Ok, Err, refl, sym, ap, ap₂, ◌∙◌, subst, arith, append-nil, eq-eqb, IsTrue, OnOk, if◌then◌else◌, encode_utf8_all, inl, chars, ◌<◌, ⊎_elim, ne_eqb, append_assoc, ◌≤◌, take, drop, map, encode_utf8, IsUtf8, length-append, take-append-drop, zero, suc, drop-drop, drop_at, inr, cond, MatchResult, ◌^◌, ◌↔◌, IsFalse, ◌⊎◌, option_map, not, ◌&&◌, ◌||◌, length-drop, take_at, take_while, eqb-true, take_all, eqb, ltb, IfSome, is_some, IfErr, length-take, rules}
 pub use Rattle.std.proofs.KnownBytes.{Appends-nil, Appends-trans, Consumes-kept, Consumes-trans}
 pub use Rattle.std.proofs.Math.Seq.{take-append-add, take-length}
-pub use Rattle.std.proofs.lemmas.Bool.{and_from, and_parts, and_left, and_right, or_left, cases_lt, cases_Bool, false_from_ne_true, cond-true, eqb-false, or_parts, le-leb, true_from_ne_false, false≢true, not-false, not-true}
+pub use Rattle.std.proofs.lemmas.Bool.{and_from, and_parts, or_left, cases_lt, cases_Bool, false_from_ne_true, cond-true, eqb-false, or_parts, le-leb, true_from_ne_false, false≢true, not-false, not-true}
 pub use Rattle.std.proofs.lemmas.Bool.Decides.{nat_tests}
 pub use Rattle.std.proofs.lemmas.List.{nil_from_length, length-map, map-append, drop-append-le, take-append-le, take-take, take_rest}
 pub use Rattle.std.proofs.lemmas.List.Folds.{list_all-append, length-prefix_len, prefix_len-append}
-pub use Rattle.std.proofs.lemmas.Str.{encodes-append, encodes-chars, chars-nil, chars-append, chars_past_char, IsUtf8-append, IsUtf8-take, IsCharBoundary-at_seam, utf8_valid_len_le, length-le-encodes, length-encode, len_utf8_bounds, chars_from_encodes, scalars-chars}
+pub use Rattle.std.proofs.lemmas.Str.{encodes-append, encodes-chars, chars-nil, chars-append, chars_past_char, IsUtf8-append, IsUtf8-take, IsCharBoundary-at_seam, utf8_valid_len_le, length-le-encodes, length-encode, len_utf8_bounds, chars_from_encodes}
 pub use Rattle.std.specs.Io.KnownBytes.{Appends, Consumes, IsAtEnd}
 pub use Rattle.std.specs.List.{list_all, prefix_len}
 pub use Rattle.std.specs.Result.{result_err, result_map_both}
-pub use Rattle.std.specs.Str.{all_scalars, IsCharBoundary, chars as characters}
-pub use Rattle.nf_filter.specs.Block.{Start, BlockState, Written, WritesTo, GivesAll, Broken, WritesOn, block_state}
+pub use Rattle.std.specs.Str.{all_scalars, chars as characters}
+pub use Rattle.nf_filter.specs.Block.{Start, BlockState, Written, WritesTo, Broken, WritesOn, block_state}
 unfoldable pub use Rattle.nf_filter.specs.Checks.{check_fault, check_decision, text_decision}
 pub use Rattle.nf_filter.specs.Checks.{sound_front, place_or_fault, no_place, HasChecked}
 unfoldable pub use Rattle.nf_filter.specs.Counted.{unusable_at, usable_utf8}
 pub use Rattle.nf_filter.specs.Counted.{HasTaken, TakesOn, settled_text, IsPlacedAt, utf8_place, HasPlaces, ends_at}
 pub use Rattle.nf_filter.specs.Devices.{SinkState, SourceState}
-pub use Rattle.nf_filter.specs.Drives.{due_utf8, Drives, DrivesToEnd, FeedsAll}
+pub use Rattle.nf_filter.specs.Drives.{Drives, DrivesToEnd, FeedsAll}
 unfoldable pub use Rattle.nf_filter.specs.Faults.{fault_in}
 pub use Rattle.nf_filter.specs.Faults.{answer_at_end, bad_byte, bad_under, first_fault}
 pub use Rattle.nf_filter.specs.Feeding.{taken_utf8, TakesAllowed, IsLeft, HasReadTo, ReadsTo, RefusesBytes, ReplacesCut}
@@ -49,7 +49,7 @@ pub use Rattle.nf_filter.specs.declared.policy.Policy.{Policy}
 pub use Rattle.nf_filter.specs.declared.reading.Reading.{Reading}
 pub use Rattle.nf_filter.specs.declared.tally.Tally.{Tally}
 pub use Rattle.nf_forms.specs.Forms.{normal_form, row_of, decomposed, composes, finished}
-pub use Rattle.nf_forms.specs.Front.{back, front}
+pub use Rattle.nf_forms.specs.Front.{back}
 pub use Rattle.nf_forms.specs.Laws.Front.{front-append-back}
 pub use Rattle.nf_forms.specs.Laws.Settling.{back-starter, length-back}
 pub use Rattle.nf_forms.specs.Laws.Sound.{IsSoundText, IsSound, IsSound-from_test}

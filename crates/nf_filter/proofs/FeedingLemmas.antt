@@ -1,7 +1,7 @@
 -- What feeding all that a source gives comes to, by where it stopped.
 use Rattle.nf_filter.proofs.Common.{◌≡◌, ℕ, ◌+◌, ◌<◌, ◌≤◌, ◌^◌, ◌↔◌, false, List, [], ◌++◌, length, None, Ok, Err, ⊎_elim, refl, sym, ◌∙◌, arith, append_assoc, append-nil, IsTrue, IsFalse, Result, length-append, OnOk, Consumes, IsAtEnd, cases_lt, Properties, Form, Fault, Policy, TooLong, Read, Write, State, SinkState, SourceState, Puts, settled_utf8, fault_in, base_of, offset_of, is_spent, StandsAfter, Feeds, FeedsAll, result_err}
 use Rattle.nf_filter.proofs.WritesLemmas.{Puts-join, BreaksOff-join}
-use Rattle.nf_filter.proofs.FilterLemmas.{StandsAfter-offset, StandsAfter-fits, never}
+use Rattle.nf_filter.proofs.FilterLemmas.{StandsAfter-offset, StandsAfter-fits}
 
 abbrev pub fed_by : Fault → Result (Unit {0}) Fault
 fed_by fault = Err fault
@@ -15,10 +15,10 @@ pub record HasFed (policy : Policy) (f : Form) (p : Properties) (base : ℕ) (st
 
 module _ (policy : Policy) (f : Form) (p : Properties) (base : ℕ) (state : State) (bytes fed : List ℕ) (old mid : SinkState) (so_far : HasFed policy f p base state bytes fed old mid) where
   here : offset_of state ≡ base + length bytes + length fed
-  here = omega (arith, StandsAfter-offset so_far.stands, so_far.base_is, length-append bytes fed)
+  here = omega (arith, StandsAfter-offset so_far.stands, length-append bytes fed)
 
   fits : base + length bytes + length fed < 2 ^ 64
-  fits = omega (arith, StandsAfter-fits so_far.stands, so_far.base_is, length-append bytes fed)
+  fits = omega (arith, StandsAfter-fits so_far.stands, length-append bytes fed)
 
   -- a piece more
   pub HasFed-more : (after : State) (piece : List ℕ) (new : SinkState) → base_of after ≡ base → StandsAfter policy f p after ((bytes ++ fed) ++ piece) → Feeds policy f p base (bytes ++ fed) piece mid new (Ok tt)
@@ -41,7 +41,7 @@ module _ (policy : Policy) (f : Form) (p : Properties) (base : ℕ) (state : Sta
       given = rw (append-nil fed) consumed;
       few = omega arith;
       read_out = read_out;
-      too_long = (λ e. absurd (short e), λ over. absurd (omega (arith, over, fits)));
+      too_long = (λ e. absurd (short e), λ over. absurd (omega (arith, fits)));
       all_fed = λ _. refl;
       broken_off = λ e. absurd (whole e);
       written = λ _. so_far.put;
@@ -52,7 +52,7 @@ module _ (policy : Policy) (f : Form) (p : Properties) (base : ℕ) (state : Sta
 
     -- the source failed
     pub FeedsAll-failed : left.is_at_end ≡ false → Consumes source.coming left.coming fed → FeedsAll most policy f p base bytes source left old mid state (Err Read)
-    FeedsAll-failed before_end consumed = fed_no_more (Err Read) (λ e. cc) (λ e. cc) (λ unread. absurd (unread refl)) consumed (λ end. never end before_end) tt
+    FeedsAll-failed before_end consumed = fed_no_more (Err Read) (λ e. cc) (λ e. cc) (λ unread. absurd (unread refl)) consumed (λ end. cc) tt
 
     -- it ended
     pub FeedsAll-ended : Consumes source.coming left.coming fed → IsAtEnd left.coming → FeedsAll most policy f p base bytes source left old mid state (Ok tt)
@@ -63,18 +63,35 @@ module _ (policy : Policy) (f : Form) (p : Properties) (base : ℕ) (state : Sta
         (not_read : ¬ (fed_by fault ≡ Err Read)) (too_long : (fed_by fault ≡ Err TooLong) ↔ (IsFalse (is_spent state) × (18446744073709551615 < offset_of state + length piece)))
         (kept : fed_by fault ≡ Err TooLong → new ≡ mid) (feeds : ¬ (fed_by fault ≡ Err TooLong) → Feeds policy f p base (bytes ++ fed) piece mid new (Err fault)) where
       too_long_is : (fed_by fault ≡ Err TooLong) ↔ (2 ^ 64 ≤ base + length bytes + length fed + length piece)
-      too_long_is = (λ e. let over = (too_long.0 e).1 in omega (arith, over, here), λ over. too_long.1 (so_far.stands.unspent, omega (arith, over, here)))
+      too_long_is = (λ e. let over = (too_long.0 e).1 in omega (arith, here), λ over. too_long.1 (so_far.stands.unspent, omega (arith, here)))
 
-      -- for its length
-      refused_unread : 2 ^ 64 ≤ base + length bytes + length fed + length piece → FeedsAll most policy f p base bytes source left old new after (Err fault)
-      refused_unread over =
+      -- for its length, or for what is in it, or by the sink
+      pub FeedsAll-refused : FeedsAll most policy f p base bytes source left old new after (Err fault)
+      FeedsAll-refused = ⊎_elim
+          (λ less.
+          let short : ¬ (fed_by fault ≡ Err TooLong) = λ e. let over = too_long_is.0 e in absurd (omega arith) in
+          record {
+            fed = fed ++ piece;
+            last = [];
+            given = rw (append-nil (fed ++ piece)) consumed;
+            few = omega arith;
+            read_out = λ end. cc;
+            too_long = (λ e. absurd (short e), λ over. absurd (omega (arith, length-append fed piece)));
+            all_fed = λ _. refl;
+            broken_off = λ e. BreaksOff-join so_far.put (rw (← append_assoc bytes fed piece) ((feeds short).broken_off e));
+            written = λ no. Puts-join so_far.put (rw (← append_assoc bytes fed piece) ((feeds short).written no));
+            no_fault = ⊎_elim (λ e. absurd (not_read e)) (λ e. absurd (short e));
+            answer = λ no _ _. rw (← append_assoc bytes fed piece) ((feeds short).answer no);
+            stands = tt;
+          })
+          (λ over.
           let is = too_long_is.1 over in
           record {
             fed = fed;
             last = piece;
             given = consumed;
             few = few;
-            read_out = λ end. never end before_end;
+            read_out = λ end. cc;
             too_long = too_long_is;
             all_fed = λ short. absurd (short is);
             broken_off = λ e. let both : fed_by TooLong ≡ Err Write = sym is ∙ e in cc;
@@ -82,26 +99,5 @@ module _ (policy : Policy) (f : Form) (p : Properties) (base : ℕ) (state : Sta
             no_fault = λ _. so_far.no_fault;
             answer = λ _ _ short. absurd (short is);
             stands = tt;
-          }
-
-      -- for what is in it, or by the sink
-      refused_read : base + length bytes + length fed + length piece < 2 ^ 64 → FeedsAll most policy f p base bytes source left old new after (Err fault)
-      refused_read less =
-          let short : ¬ (fed_by fault ≡ Err TooLong) = λ e. let over = too_long_is.0 e in absurd (omega (arith, over, less)) in
-          record {
-            fed = fed ++ piece;
-            last = [];
-            given = rw (append-nil (fed ++ piece)) consumed;
-            few = omega arith;
-            read_out = λ end. never end before_end;
-            too_long = (λ e. absurd (short e), λ over. absurd (omega (arith, over, less, length-append fed piece)));
-            all_fed = λ _. refl;
-            broken_off = λ e. BreaksOff-join so_far.put (rw (← append_assoc bytes fed piece) ((feeds short).broken_off e));
-            written = λ no. Puts-join so_far.put (rw (← append_assoc bytes fed piece) ((feeds short).written no));
-            no_fault = ⊎_elim (λ e. absurd (not_read e)) (λ e. absurd (short e));
-            answer = λ no _ _. rw (← append_assoc bytes fed piece) ((feeds short).answer no);
-            stands = tt;
-          }
-
-      pub FeedsAll-refused : FeedsAll most policy f p base bytes source left old new after (Err fault)
-      FeedsAll-refused = ⊎_elim refused_read refused_unread (cases_lt (base + length bytes + length fed + length piece) (2 ^ 64))
+          })
+          (cases_lt (base + length bytes + length fed + length piece) (2 ^ 64))

@@ -1,6 +1,6 @@
 -- What finishing answers.
-use Rattle.nf_filter.proofs.Common.{◌==◌, begun_at_end, ◌≡◌, ℕ, ◌+◌, Bool, true, false, List, [], ◌∷◌, ◌++◌, length, None, Ok, Err, ⊎_elim, refl, sym, ap, ◌∙◌, arith, append-nil, eq-eqb, Result, if◌then◌else◌, encode_utf8_all, length-append, cases_Bool, false_from_ne_true, and_from, Properties, Form, safe_form, Ending, Cut, text_of, ending_of, replacement, ReplacesParts, Fault, Write, Counted, Policy, Reading, Tally, SinkState, Puts, BreaksOff, allowed, whole_under, settled, is_usable, usable, settled_utf8, answer_at_end, first_fault, taken_utf8, HasReadTo, ReplacesCut, HasTaken, settled_text, tally_of, answer_or, end_of, whole_or, is_taken, final_utf8, Closes, Finishes, Extends-encodes, usable-all, usable-stop, nil_from_length}
-use Rattle.nf_filter.proofs.WritesLemmas.{Puts-none, Puts-join, Puts-at, BreaksOff-join, BreaksOff-extends}
+use Rattle.nf_filter.proofs.Common.{◌==◌, begun_at_end, ◌≡◌, ℕ, ◌+◌, Bool, true, false, List, [], ◌∷◌, ◌++◌, length, None, Ok, Err, ⊎_elim, refl, sym, ap, ◌∙◌, arith, append-nil, eq-eqb, Result, if◌then◌else◌, encode_utf8_all, length-append, cases_Bool, false_from_ne_true, and_from, Properties, Form, safe_form, Ending, Cut, text_of, ending_of, replacement, ReplacesParts, Fault, Write, Counted, Policy, Reading, Tally, SinkState, Puts, BreaksOff, allowed, whole_under, settled, is_usable, usable, settled_utf8, answer_at_end, first_fault, taken_utf8, HasReadTo, ReplacesCut, tally_of, answer_or, end_of, whole_or, is_taken, final_utf8, Closes, Finishes, Extends-encodes, usable-all, usable-stop, nil_from_length}
+use Rattle.nf_filter.proofs.WritesLemmas.{Puts-none, Puts-at, BreaksOff-extends}
 use Rattle.nf_filter.proofs.FilterLemmas.{err_is, failed_if}
 use Rattle.nf_filter.proofs.PolicyLemmas.{allowed-append, allowed-grows, taken-all, taken_whole, first_fault-none, taken}
 use Rattle.nf_filter.proofs.PieceLemmas.{place_in, left-end}
@@ -8,7 +8,6 @@ use Rattle.nf_filter.proofs.ReadingLemmas.{end_is as end_valued}
 use Rattle.nf_filter.proofs.FedLemmas.{read-text, read-settled, whole_is as whole_replaced, left_is}
 use Rattle.nf_filter.proofs.WholeLemmas.{settled-whole}
 use Rattle.nf_filter.proofs.AgainLemmas.{answered}
-use Rattle.nf_filter.proofs.DriveLemmas.{refused_by}
 use Rattle.nf_filter.proofs.FeedingLemmas.{fed_by}
 
 -- what is written where the end is a fault
@@ -17,71 +16,70 @@ cut_short base (Cut at start) fault settled whole e = refl
 cut_short base _ fault settled whole e = cc
 
 -- by what was written
-Finishes-of : {policy : Policy} {f : Form} {p : Properties} {base : ℕ} {bytes : List ℕ} {old new : SinkState} (r : Result Tally Fault)
+pub Finishes-of : {policy : Policy} {f : Form} {p : Properties} {base : ℕ} {bytes : List ℕ} {old new : SinkState} (r : Result Tally Fault)
     → (r ≡ Err Write → BreaksOff old new (settled_utf8 policy f p bytes) (final_utf8 policy f p bytes))
     → (¬ (r ≡ Err Write) → Puts old new (settled_utf8 policy f p bytes) (final_utf8 policy f p bytes) × (r ≡ end_of policy p base bytes)) → Finishes policy f p base bytes old new r
 Finishes-of r breaks puts = record { write = failed_if r breaks (λ not. (puts not).0); broken_off = breaks; written = λ not. (puts not).0; answer = λ not. (puts not).1 }
 
-module _ (p : Properties) where
-  -- behind a text that is taken, a character that is not
-  kept_before : (a : Bool) (x : List ℕ) (c : ℕ) → is_usable p x ≡ true → allowed a p x ≡ x → is_taken a p (x ++ c ∷ []) ≡ false → usable p (allowed a p (x ++ c ∷ [])) ≡ x
-  kept_before a x c sound all out = ⊎_elim
-      (λ same.
-      let unsound : is_usable p (x ++ c ∷ []) ≡ false = false_from_ne_true _ (λ sound. let taken = and_from _ _ (ap (is_usable p) same ∙ sound) (eq-eqb _ _ (ap length same)) in cc) in
-      rw same (rw (append-nil (x ++ c ∷ [])) at (usable-stop p x c [] sound unsound)))
-      (λ short.
-      let more : allowed a p (x ++ c ∷ []) ≡ x ++ allowed a p (c ∷ []) = allowed-append p a x (c ∷ []) all in
-      let none = nil_from_length (allowed a p (c ∷ [])) (omega (arith, short.0, ap length more, length-append x (allowed a p (c ∷ [])), length-append x (c ∷ []))) in
-      rw (more, none, append-nil x) (usable-all p x sound))
-      (allowed-grows p a (x ++ c ∷ []) [])
-
 module _ (laws : ReplacesParts) {policy : Policy} {f : Form} {p : Properties} {base : ℕ} {counted : Counted} {reading : Reading} {bytes : List ℕ} (read : HasReadTo policy f p counted base reading bytes []) where
-  abbrev final : List ℕ
-  final = encode_utf8_all (safe_form f p (whole_under policy.replace bytes))
+  abbrev whole : List ℕ
+  whole = whole_under policy.replace bytes
+
+  abbrev text : List ℕ
+  text = read.before ++ text_of read.tail
 
   -- nothing is replaced
   module _ (strict : policy.replace ≡ false) (sink : SinkState) where
     end_is : answer_at_end base (tt {0}) (ending_of bytes) ≡ answer_at_end (base + read.n) (tt {0}) (ending_of read.tail)
-    end_is = left-end _ _ _ _ _ (left_is _ _ _ _ laws _ _ _ read) strict base
+    end_is = left-end _ _ _ _ _ (left_is laws read) strict base
 
-    whole_is : whole_under policy.replace bytes ≡ read.before ++ text_of read.tail
-    whole_is = rw strict (rw strict at (read-text _ _ _ _ laws _ _ _ read))
+    whole_is : whole ≡ text
+    whole_is = rw strict (rw strict at (read-text laws read))
 
     pub close-strict : (r : Result (Unit {0}) Fault) → r ≡ answer_at_end (base + read.n) (tt {0}) (ending_of read.tail) → ((fault : Fault) → r ≡ Err fault → ¬ (fault ≡ Write)) → Closes policy f p counted base bytes sink sink r
     unfolding end_of final_utf8
     close-strict (Ok u) is other =
         let told : Ok (tt {0}) ≡ answer_at_end base (tt {0}) (ending_of bytes) = is ∙ sym end_is in (
           rw whole_is read.taken,
-          rw (whole_is, read-settled _ _ _ _ laws _ _ _ read) (Puts-none sink _),
+          rw (whole_is, read-settled laws read) (Puts-none sink _),
           rw strict (sym (end_valued base _ (ending_of bytes) (Ok tt) told)),
           rw strict (answered base (tt {0}) (tt {0}) (ending_of bytes) (sym told) _ _),
         )
     close-strict (Err fault) is other =
         let told : Err fault ≡ answer_at_end base (tt {0}) (ending_of bytes) = is ∙ sym end_is in
         Finishes-of (Err fault) (λ e. absurd (other fault refl (err_is e)))
-        (λ _. (
-          Puts-at refl (rw strict (sym (cut_short base (ending_of bytes) fault _ _ told))) (Puts-none sink (settled_utf8 policy f p bytes)),
-          rw strict (end_valued base _ (ending_of bytes) (Err fault) told),
-        ))
+        (λ _. (Puts-at refl (rw strict (sym (cut_short base (ending_of bytes) fault _ _ told))) (Puts-none sink (settled_utf8 policy f p bytes)), rw strict (end_valued base _ (ending_of bytes) (Err fault) told)))
 
   -- what the end cuts is replaced
   module _ (replaces : policy.replace ≡ true) where
     -- where not all is taken, only what was settled before is
-    kept : is_taken policy.assigned p (whole_under policy.replace bytes) ≡ false → taken_utf8 policy.assigned f p (whole_under policy.replace bytes) ≡ settled_utf8 policy f p bytes
-    kept out = next (begun_at_end read.tail == 0) (whole_replaced laws read replaces)
-      where
-        taken : HasTaken f p counted (read.before ++ text_of read.tail)
-        taken = read.taken
+    kept : is_taken policy.assigned p whole ≡ false → taken_utf8 policy.assigned f p whole ≡ settled_utf8 policy f p bytes
+    kept out =
+        let sound = read.taken.machine.usable in
+        let whole = whole_replaced laws read replaces in
+        ⊎_elim
+        (λ e. let is = rw e at whole in rw (is, append-nil text, taken-all p policy.assigned text sound read.allowed) (read-settled laws read))
+        (λ e.
+        let is = rw e at whole in
+        let last = text ++ replacement ∷ [] in
+        let refused = rw is at out in
+        let left : usable p (allowed policy.assigned p last) ≡ text = ⊎_elim
+        (λ same.
+        let unsound : is_usable p last ≡ false = false_from_ne_true _ (λ sound. let taken = and_from _ _ (ap (is_usable p) same ∙ sound) (eq-eqb _ _ (ap length same)) in cc) in
+        rw same (rw (append-nil last) at (usable-stop p text replacement [] sound unsound)))
+        (λ short.
+        let more = allowed-append p policy.assigned text (replacement ∷ []) read.allowed in
+        let none = nil_from_length (allowed policy.assigned p (replacement ∷ [])) (omega (arith, short.0, ap length more, length-append {A = ℕ})) in
+        rw (more, none, append-nil text) (usable-all p text sound))
+        (allowed-grows p policy.assigned last []) in
+        rw (is, left) (read-settled laws read))
+        (cases_Bool (begun_at_end read.tail == 0))
 
-        next : (b : Bool) → whole_under policy.replace bytes ≡ (read.before ++ text_of read.tail) ++ (if b then [] else replacement ∷ []) → taken_utf8 policy.assigned f p (whole_under policy.replace bytes) ≡ settled_utf8 policy f p bytes
-        next true is = rw (is, append-nil (read.before ++ text_of read.tail), taken-all p policy.assigned (read.before ++ text_of read.tail) taken.machine.usable read.allowed) (read-settled _ _ _ _ laws _ _ _ read)
-        next false is = rw (is, kept_before p policy.assigned (read.before ++ text_of read.tail) replacement taken.machine.usable read.allowed (rw is at out)) (read-settled _ _ _ _ laws _ _ _ read)
-
-    final_is : (b : Bool) → is_taken policy.assigned p (whole_under policy.replace bytes) ≡ b → final_utf8 policy f p bytes ≡ (if b then final else settled_utf8 policy f p bytes)
+    final_is : (b : Bool) → is_taken policy.assigned p whole ≡ b → final_utf8 policy f p bytes ≡ (if b then encode_utf8_all (safe_form f p whole) else settled_utf8 policy f p bytes)
     unfolding final_utf8
     final_is b taken = rw (← taken, replaces) refl
 
-    end_at : end_of policy p base bytes ≡ answer_or (first_fault policy.assigned p (place_in policy.replace base bytes) (whole_under policy.replace bytes) None) (tally_of policy.replace p bytes)
+    end_at : end_of policy p base bytes ≡ answer_or (first_fault policy.assigned p (place_in policy.replace base bytes) whole None) (tally_of policy.replace p bytes)
     unfolding end_of
     end_at = rw replaces refl
 
@@ -90,36 +88,23 @@ module _ (laws : ReplacesParts) {policy : Policy} {f : Form} {p : Properties} {b
         let none = sym (cut.fault (λ e. cc)) in
         let machine = cut.taken.0.machine in (
           cut.taken.0,
-          rw (taken-all p policy.assigned (whole_under policy.replace bytes) machine.usable cut.taken.1) at (cut.puts (λ e. cc)),
+          rw (taken-all p policy.assigned whole machine.usable cut.taken.1) at (cut.puts (λ e. cc)),
           rw none at end_at,
-          final_is true (taken p policy.assigned _ (whole_under policy.replace bytes) None none),
+          final_is true (taken p policy.assigned _ whole None none),
         )
-    close-replaced {after} {old} {new} (Err fault) cut = Finishes-of (Err fault) breaks puts
-      where
-        breaks : refused_by fault ≡ Err Write → BreaksOff old new (settled_utf8 policy f p bytes) (final_utf8 policy f p bytes)
-        breaks e =
-            let broken = cut.broken (ap Err (err_is e)) in
-            ⊎_elim
-            (λ all.
-            let both = taken_whole p policy.assigned (whole_under policy.replace bytes) all in
-            rw (final_is true all) (BreaksOff-extends (Extends-encodes (settled-whole f p (whole_under policy.replace bytes))) (rw (taken-all p policy.assigned (whole_under policy.replace bytes) both.0 both.1) at broken)))
-            (λ out. rw (final_is false out) (rw (kept out) at broken))
-            (cases_Bool (is_taken policy.assigned p (whole_under policy.replace bytes)))
-
-        puts : ¬ (refused_by fault ≡ Err Write) → Puts old new (settled_utf8 policy f p bytes) (final_utf8 policy f p bytes) × (refused_by fault ≡ end_of policy p base bytes)
-        puts not =
-            let other : ¬ (fed_by fault ≡ Err Write) = λ e. not (ap Err (err_is e)) in
-            let told = cut.fault other in
-            let out : is_taken policy.assigned p (whole_under policy.replace bytes) ≡ false = false_from_ne_true _ (λ all.
-            let both = taken_whole p policy.assigned (whole_under policy.replace bytes) all in
-            let never = told ∙ first_fault-none p policy.assigned _ (whole_under policy.replace bytes) None both.0 both.1 in cc) in
-            (rw (final_is false out) (rw (kept out) at (cut.puts other)), sym (rw (← told) at end_at))
-
--- the rest of the form, behind what came before
-module _ {policy : Policy} {f : Form} {p : Properties} {base : ℕ} {bytes : List ℕ} {after : Counted} {old mid new : SinkState} (closes : Closes policy f p after base bytes old mid (Ok tt)) where
-  pub Finishes-whole : (tally : Tally) → tally ≡ tally_of policy.replace p bytes → Puts mid new (settled_text f p (whole_under policy.replace bytes)) (encode_utf8_all (safe_form f p (whole_under policy.replace bytes)))
-      → Finishes policy f p base bytes old new (Ok tally)
-  Finishes-whole tally same given = Finishes-of (Ok tally) (λ e. cc) (λ _. (rw closes.3 (Puts-join closes.1 given), rw same (sym closes.2)))
-
-  pub Finishes-broken : BreaksOff mid new (settled_text f p (whole_under policy.replace bytes)) (encode_utf8_all (safe_form f p (whole_under policy.replace bytes))) → Finishes policy f p base bytes old new (Err Write)
-  Finishes-broken given = Finishes-of (Err Write) (λ _. rw closes.3 (BreaksOff-join closes.1 given)) (λ no. absurd (no refl))
+    close-replaced (Err fault) cut = Finishes-of (Err fault)
+        (λ e.
+        let broken = cut.broken (cc) in
+        ⊎_elim
+        (λ all.
+        let both = taken_whole p policy.assigned whole all in
+        rw (final_is true all) (BreaksOff-extends (Extends-encodes (settled-whole f p whole)) (rw (taken-all p policy.assigned whole both.0 both.1) at broken)))
+        (λ out. rw (final_is false out) (rw (kept out) at broken))
+        (cases_Bool (is_taken policy.assigned p whole)))
+        (λ not.
+        let other : ¬ (fed_by fault ≡ Err Write) = λ e. not (cc) in
+        let told = cut.fault other in
+        let out : is_taken policy.assigned p whole ≡ false = false_from_ne_true _ (λ all.
+        let both = taken_whole p policy.assigned whole all in
+        let never = told ∙ first_fault-none p policy.assigned _ whole None both.0 both.1 in cc) in
+        (rw (final_is false out) (rw (kept out) at (cut.puts other)), sym (rw (← told) at end_at)))

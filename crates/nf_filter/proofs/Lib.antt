@@ -13,7 +13,6 @@ pub mod ChunkLemmas
 pub mod FedLemmas
 pub mod ReadingLemmas
 pub mod FilterLemmas
-pub mod CutLemmas
 pub mod FinishLemmas
 pub mod StandingLemmas
 pub mod FeedingLemmas
@@ -22,7 +21,6 @@ pub mod SurveysLemmas
 pub mod ChecksLemmas
 pub mod MeasuresLemmas
 pub mod SoundnessLemmas
-pub mod MendingLemmas
 pub mod WholeLemmas
 pub mod AgainLemmas
 pub mod JoinedLemmas

@@ -4,21 +4,17 @@ use Rattle.nf_row.specs.declared.unsound.Unsound.{Unsound}
 use Rattle.nf_filter.proofs.TextLemmas.{unusable_at-stop}
 
 module _ (p : Properties) where
-  -- what a measurer has seen can be used
-  usable_is : (x : List ℕ) → IsSoundText p (stream_safe p x) → is_usable p x ≡ true
-  unfolding is_usable
-  usable_is x sound = sound
-
-  -- and what it refuses cannot
+  -- what a measurer refuses cannot be used
   unusable : (x : List ℕ) (c : ℕ) (e : Unsound) → Some e ≡ option_map refusal (unsound_at p x c) → is_usable p (x ++ c ∷ []) ≡ false
   unusable x c e refused =
       is_usable-push p x c ∙ next (is_usable p x) (is_too_long p (stream_safe p x) c) (is_sound p joiner) (is_sound p c) refused
     where
       next : (u l j s : Bool) → Some e ≡ option_map refusal (if s then (if l && not j then Some joiner else None) else Some c) → (u && (not l || j) && s) ≡ false
-      next u l j true is = grind (arith, is)
+      next u l j true is = grind arith
       next u l j false is = grind arith
 
   -- a character that is refused behind x
   pub refusal_at : (base : ℕ) {at : ℕ} (x : List ℕ) (c : ℕ) {e : Unsound} (y : List ℕ) → IsSoundText p (stream_safe p x) → at ≡ base + length (encode_utf8_all x) → Some e ≡ option_map refusal (unsound_at p x c)
       → unusable_at p (utf8_place base) ((x ++ c ∷ []) ++ y) ≡ Some (Row at)
-  refusal_at base x c {e} y sound here refused = rw here (unusable_at-stop p (utf8_place base) x c y (usable_is x sound) (unusable x c e refused))
+  unfolding is_usable
+  refusal_at base x c {e} y sound here refused = rw here (unusable_at-stop p x c y sound (unusable x c e refused) (utf8_place base))

@@ -1,6 +1,9 @@
 -- Bytes, part by part: what a front of them gives does not change what the rest gives.
-use Rattle.nf_filter.proofs.Common.{◌≡◌, ℕ, ◌+◌, ◌-◌, ◌≤◌, Bool, true, false, List, [], ◌∷◌, ◌++◌, length, map, take, drop, refl, sym, ap, ◌∙◌, arith, append_assoc, append-nil, encode_utf8, encode_utf8_all, take-append-add, length-append, length-drop, length-map, map-append, take_at, drop-append-le, BeginsText, Bad, text_of, text_len, ending_of, Part, replacement, own_parts, part_end, behind_text, parts_within, parts_of, replaced, bytes_in, replaced_len, begun_at_end, replaced_whole, ReplacesParts, SplitsBytes, answer_at_end, bad_under, IsLeft, len_under, text_under, whole_under, Extends}
-use Rattle.std.proofs.Math.Nat.{add-zero, add_assoc}
+use Rattle.nf_filter.proofs.Common.{◌≡◌, ℕ, ◌+◌, ◌-◌, Bool, true, false, List, [], ◌∷◌, ◌++◌, length, map, drop, refl, sym, arith, append_assoc, append-nil, encode_utf8, encode_utf8_all, take-append-add, length-append, length-drop, length-map, map-append, take_at, drop-append-le, BeginsText, Bad, text_of, text_len, ending_of, Part, replacement, own_parts, part_end, behind_text, parts_within, parts_of, replaced, replaced_len, begun_at_end, replaced_whole, ReplacesParts, SplitsBytes, answer_at_end, bad_under, IsLeft, len_under, text_under, whole_under, Extends}
+use Rattle.std.proofs.Common.{add_assoc}
+use Rattle.std.proofs.Math.Nat.{add-zero}
+use Rattle.nf_utf8.specs.Mending.{IsReplacedFront}
+use Rattle.nf_utf8.proofs.ReplacedLemmas.{broken_end}
 
 -- where what stands behind a front of the text of the bytes begins, the first of which has the offset `base`
 abbrev pub place_in : Bool → ℕ → List ℕ → List ℕ → ℕ
@@ -25,7 +28,7 @@ IsLeft-more r bytes x n left piece is = record {
   bad = λ base more. simp append_assoc (is.bad base (piece ++ more));
   whole = λ more. simp append_assoc (is.whole (piece ++ more));
   end = λ strict base more. simp append_assoc (is.end strict base (piece ++ more));
-  len = omega (arith, is.len, length-append bytes piece, length-append left piece);
+  len = grind (arith, length-append);
 }
 
 module _ (r : Bool) (bytes x : List ℕ) (n : ℕ) (left : List ℕ) (is : IsLeft r bytes x n left) where
@@ -56,95 +59,61 @@ IsLeft-join r bytes x n mid y m left a b = record {
   len = omega (arith, a.len, b.len);
 }
 
--- parts that are replaced, whatever follows
-module _ (laws : ReplacesParts) (bytes x : List ℕ) (parts : List Part) (n : ℕ) (left : List ℕ) (front : (more : List ℕ) → parts_of (bytes ++ more) ≡ parts ++ parts_of (left ++ more))
-    (chars : map (λ part. part.char) parts ≡ x) (size : bytes_in parts ≡ n) (len : length bytes ≡ n + length left) where
-  chars_are : (more : List ℕ) → replaced (bytes ++ more) ≡ x ++ replaced (left ++ more)
-  unfolding replaced
-  chars_are more = rw (front more, map-append (λ part. part.char) parts (parts_of (left ++ more)), chars)
+-- where ill-formed parts are replaced, a front of what is left
+module _ (laws : ReplacesParts) {all x bytes own : List ℕ} {n len : ℕ} (left : IsLeft true all x n bytes) (is : IsReplacedFront bytes own len) where
+  held : (more : List ℕ) → begun_at_end (bytes ++ more) ≡ begun_at_end (drop len bytes ++ more)
+  held more = grind (arith, is.front more, laws.joined, is.size, length-append, length-drop, is.within)
 
-  places : (more y : List ℕ) → replaced_len (length (x ++ y)) (bytes ++ more) ≡ n + replaced_len (length y) (left ++ more)
-  unfolding replaced_len
-  places more y =
-      let rest = parts_of (left ++ more) in
-      let count : length (x ++ y) ≡ length parts + length y = omega (arith, length-append x y, ap length chars, length-map parts (λ part. part.char)) in
-      rw (count, front more, take-append-add parts rest (length y), laws.joined parts (take (length y) rest), size)
-
-  held : (more : List ℕ) → begun_at_end (bytes ++ more) ≡ begun_at_end (left ++ more)
-  held more = omega (arith, ap bytes_in (front more), laws.joined parts (parts_of (left ++ more)), size, length-append bytes more, length-append left more, len)
-
-  whole_is : (more : List ℕ) → replaced_whole (bytes ++ more) ≡ x ++ replaced_whole (left ++ more)
-  unfolding replaced_whole
-  whole_is more = rw (chars_are more, held more) (append_assoc x (replaced (left ++ more)) _)
-
-  pub IsLeft-parts : IsLeft true bytes x n left
-  IsLeft-parts = record { text = chars_are; place = places; bad = λ base more. refl; whole = whole_is; end = λ strict base more. cc; len = len }
+  pub IsLeft-front : IsLeft true all (x ++ own) (n + len) (drop len bytes)
+  unfolding replaced replaced_len replaced_whole
+  IsLeft-front = record {
+    text = λ more. simp (left.text more, is.front more, map-append, is.chars, append_assoc);
+    place = λ more y.
+        let count : length (own ++ y) ≡ length is.parts + length y = grind (arith, length-append, is.chars, length-map) in
+        rw (append_assoc, left.place more (own ++ y), count, is.front more, take-append-add, laws.joined, is.size) (omega arith);
+    bad = λ base more. refl;
+    whole = λ more. rw (left.whole more, held more) (simp (is.front more, map-append, is.chars, append_assoc));
+    end = λ strict base more. cc;
+    len = grind (arith, left.len, length-drop, is.within);
+  }
 
 pub own_parts-append : (x y : List ℕ) → own_parts (x ++ y) ≡ own_parts x ++ own_parts y
 own_parts-append x y = map-append (λ c. record { char = c; len = length (encode_utf8 c) }) x y
 
-pub own_parts-length : (x : List ℕ) → length (own_parts x) ≡ length x
-own_parts-length x = length-map x _
-
 module _ (laws : ReplacesParts) where
   -- the first characters are those that the bytes spell before any bad one
-  text_first : (bytes : List ℕ) → Extends (text_of bytes) (replaced bytes)
-  unfolding replaced parts_of
-  text_first bytes =
-      let more = behind_text (ending_of bytes) (λ n. parts_within (length bytes) (drop n bytes)) in
-      record {
-        more = map (λ part. part.char) more;
-        text = rw (map-append (λ part. part.char) (own_parts (text_of bytes)) more, laws.own_chars (text_of bytes));
-      }
-
   pub text_under-first : (r : Bool) (bytes : List ℕ) → Extends (text_of bytes) (text_under r bytes)
+  unfolding replaced parts_of
   text_under-first false bytes = record { more = []; text = sym (append-nil (text_of bytes)) }
-  text_under-first true bytes = text_first bytes
-
-  first_len : (parts : List Part) (y : List ℕ) → bytes_in (take (length y) (own_parts y ++ parts)) ≡ length (encode_utf8_all y)
-  first_len parts y = rw (take_at (own_parts y) parts (length y) (own_parts-length y)) (laws.own_len y)
-
-  len_first : (bytes y z : List ℕ) → text_of bytes ≡ y ++ z → replaced_len (length y) bytes ≡ length (encode_utf8_all y)
-  unfolding replaced_len parts_of
-  len_first bytes y z is = rw (is, own_parts-append y z, append_assoc (own_parts y) (own_parts z)) (first_len _ y)
+  text_under-first true bytes =
+      let more = behind_text (ending_of bytes) (λ n. parts_within (length bytes) (drop n bytes)) in
+      record { more = map (λ part. part.char) more; text = simp (map-append, laws.own_chars) }
 
   pub len_under-first : (r : Bool) (bytes y z : List ℕ) → text_of bytes ≡ y ++ z → len_under r bytes y ≡ length (encode_utf8_all y)
+  unfolding replaced_len parts_of
   len_under-first false bytes y z is = refl
-  len_under-first true bytes y z is = len_first bytes y z is
+  len_under-first true bytes y z is = rw (is, own_parts-append, append_assoc, take_at (own_parts y) _ (length y) (length-map y _)) (laws.own_len y)
 
   -- bytes that begin a text
   module _ (bytes : List ℕ) (begins : BeginsText bytes) where
-    text_begun : replaced bytes ≡ text_of bytes
-    unfolding replaced
-    text_begun = rw (laws.begun bytes begins) (laws.own_chars (text_of bytes))
-
     pub text_under-begun : (r : Bool) → text_under r bytes ≡ text_of bytes
+    unfolding replaced
     text_under-begun false = refl
-    text_under-begun true = text_begun
+    text_under-begun true = rw (laws.begun bytes begins) (laws.own_chars (text_of bytes))
 
     pub begun_at_end-begun : begun_at_end bytes ≡ length bytes - length (encode_utf8_all (text_of bytes))
     begun_at_end-begun = rw (laws.begun bytes begins, laws.own_len (text_of bytes))
 
-  -- a bad byte, whatever follows
-  module _ (split : SplitsBytes) (bytes : List ℕ) (at start : ℕ) (bad : ending_of bytes ≡ Bad at start) (is_start : start ≡ text_len bytes) (inside : part_end at start ≤ length bytes) (past : start ≤ part_end at start) where
-    abbrev pub end : ℕ
-    end = part_end at start
-
-    abbrev pub own : List ℕ
-    own = text_of bytes ++ replacement ∷ []
-
-    abbrev pub part : Part
-    part = record { char = replacement; len = end - start }
-
-    parts_are : (more : List ℕ) → parts_of (bytes ++ more) ≡ own_parts (text_of bytes) ++ part ∷ parts_of (drop end bytes ++ more)
-    parts_are more = rw (drop-append-le end bytes more inside) at (laws.bad bytes more at start bad)
-
-    -- what is left behind it
-    pub IsLeft-behind : (all x : List ℕ) (n : ℕ) → IsLeft true all x n bytes → IsLeft true all (x ++ own) (n + end) (drop end bytes)
-    IsLeft-behind all x n is =
-        let parts : List Part = own_parts (text_of bytes) in
-        IsLeft-join true all x n bytes own end (drop end bytes) is (IsLeft-parts laws bytes own (parts ++ part ∷ []) end (drop end bytes)
-        (λ more. parts_are more ∙ sym (append_assoc parts (part ∷ []) (parts_of (drop end bytes ++ more))))
-        (rw (map-append (λ part. part.char) parts (part ∷ []), laws.own_chars (text_of bytes)))
-        (omega (arith, laws.joined parts (part ∷ []), laws.own_len (text_of bytes), split.len bytes, is_start, past))
-        (omega (arith, length-drop end bytes, inside)))
+  -- the text before a bad byte, and the part that it breaks off
+  pub bad_front : SplitsBytes → {bytes : List ℕ} {at : ℕ} → ending_of bytes ≡ Bad at (text_len bytes) → IsReplacedFront bytes (text_of bytes ++ replacement ∷ []) (part_end at (text_len bytes))
+  bad_front split {bytes} {at} bad =
+      let text = own_parts (text_of bytes) in
+      let part : Part = record { char = replacement; len = part_end at (text_len bytes) - text_len bytes } in
+      let broken = broken_end bytes at (text_len bytes) bad in
+      record {
+        parts = text ++ part ∷ [];
+        chars = simp (map-append, laws.own_chars);
+        size = grind (arith, laws.joined, laws.own_len, split.len);
+        within = broken.1;
+        front = λ more. rw (append_assoc text (part ∷ []) _, ← drop-append-le (part_end at (text_len bytes)) bytes more broken.1) (laws.bad bytes more at (text_len bytes) bad);
+      }

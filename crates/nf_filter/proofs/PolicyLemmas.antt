@@ -1,7 +1,6 @@
 -- How far a text is taken under a policy.
-use Rattle.nf_filter.proofs.Common.{cases_Bool, ◌≡◌, ℕ, ◌==◌, ◌<◌, Bool, true, false, List, [], ◌∷◌, ◌++◌, length, Option, Some, None, ◌⊎◌, inl, inr, ⊎_elim, refl, sym, ap, ◌∙◌, arith, append-nil, append_assoc, eq-eqb, ne_eqb, take_while, if◌then◌else◌, length-append, ◌&&◌, list_all, prefix_len, and_parts, eqb-true, eqb-false, Properties, Form, Fault, Row, Unassigned, first_fault, taken_utf8, allowed, is_usable, usable, Extends, Extends-none, Extends-encodes, settled-extends, is_usable-stays_out, usable-all, usable-grows, usable-stays, is_taken, length-prefix_len, prefix_len-append, take-append-le, take_all, take-append-add}
+use Rattle.nf_filter.proofs.Common.{cases_Bool, ◌≡◌, ℕ, ◌==◌, ◌<◌, Bool, true, false, List, [], ◌∷◌, ◌++◌, length, Option, Some, None, ◌⊎◌, inl, inr, ⊎_elim, refl, sym, ap, ◌∙◌, arith, append-nil, append_assoc, eq-eqb, ne_eqb, take_while, if◌then◌else◌, length-append, list_all, prefix_len, and_parts, eqb-true, eqb-false, Properties, Form, Fault, Row, Unassigned, first_fault, taken_utf8, allowed, is_usable, usable, Extends, Extends-none, Extends-encodes, settled-extends, is_usable-stays_out, usable-all, usable-grows, usable-stays, is_taken, length-prefix_len, prefix_len-append, take-append-le, take_all, take-append-add}
 use Rattle.std.proofs.lemmas.List.Sums.{take_while-cons, prefix_len-le-length}
-pub use Rattle.nf_filter.specs.Laws.Undecided.{take_while-all}
 
 module _ (test : ℕ → Bool) where
   pub take_while-append : (x y : List ℕ) → list_all test x ≡ true → take_while test (x ++ y) ≡ x ++ take_while test y
@@ -11,26 +10,15 @@ module _ (test : ℕ → Bool) where
       rw (take_while-cons test c (x ++ y), parts.0, take_while-append x y parts.1)
 
   pub take_while-stop : (x : List ℕ) (c : ℕ) (y : List ℕ) → list_all test x ≡ true → test c ≡ false → take_while test ((x ++ c ∷ []) ++ y) ≡ x
-  take_while-stop x c y all fails =
-      rw (append_assoc x (c ∷ []) y, take_while-append x (c ∷ y) all, take_while-cons test c y, fails) (append-nil x)
-
-  -- where all of x pass, more of a longer text may; where not, no more does
-  take_while-more : (x y : List ℕ) → take_while test x ≡ x → take_while test (x ++ y) ≡ x ++ take_while test y
-  take_while-more x y all =
-      let n : prefix_len test x ≡ length x = sym (length-prefix_len test x) ∙ ap length all in
-      rw (prefix_len-append test x y, eq-eqb (prefix_len test x) (length x) n) (take-append-add x y (prefix_len test y))
-
-  take_while-no_more : (x y : List ℕ) → ¬ (prefix_len test x ≡ length x) → (length (take_while test x) < length x) × (take_while test (x ++ y) ≡ take_while test x)
-  take_while-no_more x y not = (
-    omega (arith, length-prefix_len test x, prefix_len-le-length test x, not),
-    rw (prefix_len-append test x y, ne_eqb (prefix_len test x) (length x) not) (take-append-le (prefix_len test x) x y (prefix_len-le-length test x)),
-  )
+  take_while-stop x c y all fails = rw (append_assoc x (c ∷ []) y, take_while-append x (c ∷ y) all, take_while-cons test c y, fails) (append-nil x)
 
 module _ (p : Properties) where
   -- where all are allowed, one more
   pub allowed-append : (a : Bool) (x y : List ℕ) → allowed a p x ≡ x → allowed a p (x ++ y) ≡ x ++ allowed a p y
   allowed-append false x y all = refl
-  allowed-append true x y all = take_while-more p.assigned x y all
+  allowed-append true x y all =
+      let n : prefix_len p.assigned x ≡ length x = sym (length-prefix_len p.assigned x) ∙ ap length all in
+      rw (prefix_len-append p.assigned x y, eq-eqb (prefix_len p.assigned x) (length x) n) (take-append-add x y (prefix_len p.assigned y))
 
   pub allowed-none : (a : Bool) → allowed a p [] ≡ []
   allowed-none false = refl
@@ -40,7 +28,10 @@ module _ (p : Properties) where
   pub allowed-grows : (a : Bool) (x y : List ℕ) → (allowed a p x ≡ x) ⊎ ((length (allowed a p x) < length x) × (allowed a p (x ++ y) ≡ allowed a p x))
   allowed-grows false x y = inl refl
   allowed-grows true x y = ⊎_elim (λ e. inl (take_all (prefix_len p.assigned x) x (omega (arith, eqb-true _ _ e))))
-      (λ e. inr (take_while-no_more p.assigned x y (eqb-false _ _ e))) (cases_Bool (prefix_len p.assigned x == length x))
+      (λ e. inr (
+        omega (arith, length-prefix_len p.assigned x, prefix_len-le-length p.assigned x, eqb-false _ _ e),
+        rw (prefix_len-append p.assigned x y, ne_eqb (prefix_len p.assigned x) (length x) (eqb-false _ _ e)) (take-append-le (prefix_len p.assigned x) x y (prefix_len-le-length p.assigned x)),
+      )) (cases_Bool (prefix_len p.assigned x == length x))
 
   -- the first fault, by what may be taken of a text of n characters
   abbrev fault_by : (List ℕ → ℕ) → List ℕ → ℕ → Option Fault → Option Fault
@@ -56,51 +47,40 @@ module _ (p : Properties) where
 
   -- what has no fault is taken
   pub taken : (a : Bool) (place : List ℕ → ℕ) (x : List ℕ) (other : Option Fault) → first_fault a p place x other ≡ None → is_taken a p x ≡ true
-  taken a place x other none = both (is_usable p (allowed a p x)) (length (allowed a p x) == length x) _ _ (sym (first_fault-is a place x other) ∙ none)
-    where
-      both : (b d : Bool) (first second : Fault) → (if b then (if d then other else Some first) else Some second) ≡ None → (b && d) ≡ true
-      both true true first second e = refl
-      both true false first second e = cc
-      both false d first second e = cc
+  taken a place x other none =
+      let none : fault_by place (allowed a p x) (length x) other ≡ None = sym (first_fault-is a place x other) ∙ none in grind arith
 
   -- what is taken to its end
   pub taken_whole : (a : Bool) (x : List ℕ) → is_taken a p x ≡ true → (is_usable p x ≡ true) × (allowed a p x ≡ x)
   taken_whole a x is =
       let parts = and_parts (is_usable p (allowed a p x)) _ is in
-      let all : allowed a p x ≡ x = ⊎_elim (λ all. all) (λ few. absurd (omega (arith, few.0, eqb-true _ _ parts.1))) (allowed-grows a x []) in
+      let all : allowed a p x ≡ x = ⊎_elim (λ all. all) (λ few. absurd (omega (arith, eqb-true _ _ parts.1))) (allowed-grows a x []) in
       (rw all at parts.0, all)
 
   -- what was not taken stays so, whatever follows
   pub first_fault-stays : (a : Bool) (place : List ℕ → ℕ) (x y : List ℕ) (other : Option Fault) (fault : Fault) → Some fault ≡ first_fault a p place x None
       → (first_fault a p place (x ++ y) other ≡ Some fault) × (usable p (allowed a p (x ++ y)) ≡ usable p (allowed a p x))
-  first_fault-stays a place x y other fault is = elim (allowed-grows a x y) [
-    | inl same ↦ all same (is_usable p x) refl
-    | inr less ↦
-        let less_too : ¬ (length (allowed a p x) ≡ length (x ++ y)) = λ e. omega (arith, less.0, e, length-append x y) in
-        let not_all : ¬ (length (allowed a p x) ≡ length x) = λ e. omega (arith, less.0, e) in
-        (rw (first_fault-is a place (x ++ y) other, less.1, ne_eqb _ _ less_too) (rw (ne_eqb _ _ not_all) at told), ap (usable p) less.1)
-  ]
-    where
-      told : fault_by place (allowed a p x) (length x) None ≡ Some fault
-      told = sym (is ∙ first_fault-is a place x None)
-
-      all : allowed a p x ≡ x → (b : Bool) → is_usable p x ≡ b → (first_fault a p place (x ++ y) other ≡ Some fault) × (usable p (allowed a p (x ++ y)) ≡ usable p (allowed a p x))
-      all same true e = let none : None ≡ Some fault = rw (same, e, eq-eqb (length x) (length x) refl) at told in cc
-      all same false e =
-          let longer = allowed-append a x y same in
-          let stays = usable-stays p x (allowed a p y) e in
-          (rw (first_fault-is a place (x ++ y) other, longer, is_usable-stays_out p x (allowed a p y) e, stays) (rw (same, e) at told), rw (longer, same) stays)
-
-  -- what of a text is taken is not lost when more follows
-  pub taken-grows : (a : Bool) (x y : List ℕ) → Extends (usable p (allowed a p x)) (usable p (allowed a p (x ++ y)))
-  taken-grows a x y = ⊎_elim
-      (λ all. rw (allowed-append a x y all, all) (usable-grows p x (allowed a p y)))
-      (λ less. rw less.1 (Extends-none _))
+  first_fault-stays a place x y other fault is =
+      let told : fault_by place (allowed a p x) (length x) None ≡ Some fault = sym (is ∙ first_fault-is a place x None) in
+      ⊎_elim
+      (λ (same : allowed a p x ≡ x). ⊎_elim
+      (λ (e : is_usable p x ≡ true). let none : None ≡ Some fault = rw (same, e, eq-eqb (length x) (length x) refl) at told in cc)
+      (λ (e : is_usable p x ≡ false).
+      let longer = allowed-append a x y same in
+      let stays = usable-stays p x (allowed a p y) e in
+      (rw (first_fault-is a place (x ++ y) other, longer, is_usable-stays_out p x (allowed a p y) e, stays) (rw (same, e) at told), rw (longer, same) stays))
+      (cases_Bool (is_usable p x)))
+      (λ less.
+      let less_too : ¬ (length (allowed a p x) ≡ length (x ++ y)) = λ e. omega (arith, less.0, e, length-append x y) in
+      let not_all : ¬ (length (allowed a p x) ≡ length x) = λ e. omega (arith, less.0, e) in
+      (rw (first_fault-is a place (x ++ y) other, less.1, ne_eqb _ _ less_too) (rw (ne_eqb _ _ not_all) at told), ap (usable p) less.1))
       (allowed-grows a x y)
 
+  -- what of a text is taken is not lost when more follows
   pub taken_utf8-grows : (a : Bool) (f : Form) (x y : List ℕ) → Extends (taken_utf8 a f p x) (taken_utf8 a f p (x ++ y))
   taken_utf8-grows a f x y =
-      let more = taken-grows a x y in
+      let more : Extends (usable p (allowed a p x)) (usable p (allowed a p (x ++ y))) =
+      ⊎_elim (λ all. rw (allowed-append a x y all, all) (usable-grows p x (allowed a p y))) (λ less. rw less.1 (Extends-none _)) (allowed-grows a x y) in
       Extends-encodes (rw more.text (settled-extends p f _ more.more))
 
   -- all of it

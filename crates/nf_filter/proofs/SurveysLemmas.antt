@@ -8,9 +8,8 @@ all_read (Ok answer) surveys early = true_from_ne_false _ (λ before_end. early 
 all_read (Err fault) surveys early = tt
 
 pub place_told : (place : Option Place) (fault : Option Fault) → ¬ (place_or_fault place fault ≡ Some (Ok None))
-place_told (Some place) fault e = cc
 place_told None None e = cc
-place_told None (Some fault) e = cc
+place_told _ _ e = cc
 
 -- nothing more was taken: the source failed, or is at its end
 pub no_more : {T : Type 0} {most : ℕ} {survey : Survey T} {source left : SourceState} {result : Result T Fault} (fed : List ℕ) → Consumes source.coming left.coming fed → (IsTrue left.is_at_end → IsAtEnd left.coming)
@@ -23,7 +22,7 @@ no_more fed given read_out undecided fits short ends fails = record {
   few = omega arith;
   read_out = read_out;
   undecided = undecided;
-  too_long = (λ e. absurd (short e), λ over. absurd (omega (arith, over, fits)));
+  too_long = (λ e. absurd (short e), λ over. absurd (omega arith));
   failed = λ _. refl;
   ended = λ end. (refl, ends end);
   decided = λ going _ unread. absurd (unread (fails going));

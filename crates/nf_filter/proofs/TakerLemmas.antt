@@ -16,7 +16,7 @@ module _ {stands : List ℕ → Type 0} {x text rest : List ℕ} (here : HasTake
 
   -- the offset, and those of what is left
   pub offset_behind : {at : ℕ} (base : ℕ) → IsUtf8 text → IsUtf8 rest → at ≡ base + length (encode_utf8_all x) → at + (length text - length rest) ≡ base + length (encode_utf8_all (x ++ here.front))
-  offset_behind base whole left begun = omega (arith, begun, front_len text here.front rest whole left here.is_front, ap length (encodes-append x here.front), length-append (encode_utf8_all x) (encode_utf8_all here.front))
+  offset_behind base whole left begun = omega (arith, front_len text here.front rest whole left here.is_front, ap length (encodes-append x here.front), length-append {A = ℕ})
 
   pub placed-left : (place : List ℕ → ℕ) (at : ℕ) → IsUtf8 text → IsUtf8 rest → IsPlacedAt place at x (chars text) → IsPlacedAt place (at + (length text - length rest)) (x ++ here.front) (chars rest)
   placed-left place at whole left placed = placed-behind place at x (chars text) here.front (chars rest) _ here.is_front (omega (arith, front_len text here.front rest whole left here.is_front)) placed

@@ -14,7 +14,7 @@ pub placed-behind : (place : List ℕ → ℕ) (at : ℕ) (x y front rest : List
     → IsPlacedAt place behind (x ++ front) rest
 placed-behind place at x y front rest behind is offset here more c last text =
     rw (append_assoc x front more)
-    (omega (arith, here (front ++ more) c last (rw (text, ← append_assoc front more (c ∷ last)) at is), offset, ap length (encodes-append front more), length-append (encode_utf8_all front) (encode_utf8_all more)))
+    (omega (arith, here (front ++ more) c last (rw (text, ← append_assoc front more (c ∷ last)) at is), ap length (encodes-append front more), length-append {A = ℕ}))
 
 -- in a front
 pub placed-within : (place : List ℕ → ℕ) (at : ℕ) (x y front rest : List ℕ) → y ≡ front ++ rest → IsPlacedAt place at x y → IsPlacedAt place at x front
@@ -37,7 +37,7 @@ is_none (Some c) none = absurd (none c refl)
 -- in bytes of so many, each offset can be told
 pub HasPlaces-all : (at : ℕ) (text : List ℕ) → IsUtf8 text → at + length text < 2 ^ 64 → HasPlaces at text
 HasPlaces-all at text utf8 fits front c rest is =
-    omega (arith, fits, ap length (rw (is, encodes-append front (c ∷ rest)) at (encodes-chars text utf8)), length-append (encode_utf8_all front) (encode_utf8_all (c ∷ rest)))
+    omega (arith, ap length (rw (is, encodes-append front (c ∷ rest)) at (encodes-chars text utf8)), length-append {A = ℕ})
 
 -- what is left of a text has characters as long as it has bytes
 pub nothing-left : (rest : List ℕ) → length rest ≡ 0 → chars rest ≡ []

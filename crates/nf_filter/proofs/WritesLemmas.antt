@@ -1,5 +1,5 @@
 -- Calls that give to a sink in turn.
-use Rattle.nf_filter.proofs.Common.{◌≡◌, ℕ, ◌<◌, true, List, [], ◌++◌, length, refl, sym, ap, ◌∙◌, subst, arith, append_assoc, append-nil, length-append, Appends, Appends-nil, Appends-trans, SinkState, Puts, BreaksOff, Extends}
+use Rattle.nf_filter.proofs.Common.{◌≡◌, ℕ, ◌<◌, true, List, [], ◌++◌, length, refl, sym, ◌∙◌, arith, append_assoc, append-nil, length-append, Appends, Appends-nil, Appends-trans, SinkState, Puts, BreaksOff, Extends}
 
 pub Puts-none : (state : SinkState) (before : List ℕ) → Puts state state before before
 Puts-none state before = record { out = []; behind = sym (append-nil before); given = Appends-nil state.taken; stands = refl; idle = λ _. refl }
@@ -12,7 +12,7 @@ Puts-more {old} {mid} {new} {before} {after} ys first given stands idle = record
   behind = simp (first.behind, append_assoc);
   given = Appends-trans old.taken mid.taken new.taken first.out ys first.given given;
   stands = stands ∙ first.stands;
-  idle = λ failed. ap (λ l. l ++ ys) (first.idle failed) ∙ idle (first.stands ∙ failed);
+  idle = λ failed. rw (first.idle failed) (idle (first.stands ∙ failed));
 }
 
 pub BreaksOff-more : {old mid new : SinkState} {before after : List ℕ} (ys rest : List ℕ) → Puts old mid before after → Appends mid.taken new.taken ys
@@ -42,14 +42,18 @@ BreaksOff-behind {after = after} is first stops = rw (is, stops.behind, ← appe
 
 -- more is to come behind
 pub BreaksOff-extends : {old new : SinkState} {a b d : List ℕ} → Extends b d → BreaksOff old new a b → BreaksOff old new a d
-BreaksOff-extends {old} {new} {a} {b} {d} longer stops =
-    subst (BreaksOff old new a) (sym (append_assoc (a ++ stops.out) stops.rest longer.more) ∙ ap (λ l. l ++ longer.more) (sym stops.behind) ∙ sym longer.text)
-    (BreaksOff-more stops.out (stops.rest ++ longer.more) (Puts-none old a) stops.given stops.failed (omega (arith, length-append stops.rest longer.more, stops.more)))
+BreaksOff-extends longer stops = record {
+  out = stops.out;
+  rest = stops.rest ++ longer.more;
+  behind = simp (longer.text, stops.behind, append_assoc);
+  more = omega (arith, length-append stops.rest longer.more);
+  given = stops.given;
+  failed = stops.failed;
+}
 
 -- at the same places
 pub Puts-at : {old new : SinkState} {a b c d : List ℕ} → a ≡ c → b ≡ d → Puts old new a b → Puts old new c d
-Puts-at {old} {new} {a} {b} {c} {d} same_before same_after puts =
-    record { out = puts.out; behind = sym same_after ∙ puts.behind ∙ ap (λ l. l ++ puts.out) same_before; given = puts.given; stands = puts.stands; idle = puts.idle }
+Puts-at same_before same_after puts = rw (same_before, same_after) at puts
 
 pub BreaksOff-at : {old new : SinkState} {a b c d : List ℕ} → a ≡ c → b ≡ d → BreaksOff old new a b → BreaksOff old new c d
 BreaksOff-at same_before same_after stops = rw (same_before, same_after) at stops

@@ -1,7 +1,8 @@
 -- Lines, and what stands behind them.
-use Rattle.nf_lines.proofs.Common.{Result, Ok, Err, ◌≡◌, ℕ, ◌+◌, ◌==◌, Bool, true, false, List, [], ◌∷◌, ◌++◌, length, Option, Some, None, inl, inr, ⊎_elim, encode_utf8_all, refl, ◌∙◌, arith, append_assoc, append-nil, length-append, result_err, cases_Bool, encodes-append, Properties, Form, Nfc, Ending, Whole, text_of, ending_of, parts_of, replaced, replaced_whole, line_feed, Fault, Policy, Tally, text_under-none, answer_at_end, bad_under, first_fault, fault_in, IsLeft, answer_or, end_under, end_of, final_utf8, tally_of, allowed, len_under, text_under, whole_under, settled, settled_utf8, left-text, EndsInLineFeed, end_fault, StandAlone}
+use Rattle.nf_lines.proofs.Common.{Result, Ok, Err, ◌≡◌, ℕ, ◌+◌, Bool, true, false, List, [], ◌∷◌, ◌++◌, length, Option, Some, None, inl, inr, encode_utf8_all, refl, ◌∙◌, arith, append_assoc, append-nil, length-append, result_err, cases_Bool, encodes-append, Form, Nfc, Ending, Whole, text_of, ending_of, parts_of, replaced, replaced_whole, line_feed, Fault, Policy, Tally, text_under-none, answer_at_end, first_fault, fault_in, IsLeft, answer_or, end_under, end_of, final_utf8, allowed, text_under, whole_under, settled_utf8, EndsInLineFeed, end_fault, StandAlone}
 use Rattle.std.specs.Str.{chars}
 use Rattle.std.specs.Str.Lossy.{utf8_valid_len}
+use Rattle.nf_forms.specs.Properties.{Properties}
 use Rattle.nf_forms.specs.Order.{by_class}
 use Rattle.nf_forms.specs.Front.{front}
 use Rattle.nf_forms.specs.Runs.{has_starter}
@@ -12,15 +13,14 @@ use Rattle.nf_forms.specs.Parting.{IsParting}
 use Rattle.nf_forms.specs.Laws.Closing.{safe_form-closed}
 use Rattle.nf_forms.specs.Laws.Front.{front-append_some, front-at, front-none}
 use Rattle.nf_forms.specs.Laws.Parting.{safe_form-push}
-use Rattle.nf_filter.specs.Laws.Soundness.{AreSound}
-use Rattle.nf_filter.proofs.PolicyLemmas.{allowed-append, first_fault-is, first_fault-none, taken_whole, taken as is_taken-from}
-use Rattle.nf_filter.specs.Settled.{is_usable}
-use Rattle.nf_filter.proofs.AgainLemmas.{final-whole}
-use Rattle.nf_filter.proofs.PieceLemmas.{left-whole}
 use Rattle.nf_normalizer.specs.Laws.Settled.{usable-all}
+use Rattle.nf_filter.specs.Laws.Soundness.{AreSound}
+use Rattle.nf_filter.specs.Settled.{is_usable, settled}
+use Rattle.nf_filter.proofs.PolicyLemmas.{allowed-append, first_fault-is, first_fault-none, taken_whole, taken as is_taken-from}
+use Rattle.nf_filter.proofs.AgainLemmas.{final-whole}
+use Rattle.nf_filter.proofs.PieceLemmas.{left-whole, left-text}
 use Rattle.nf_filter.proofs.SoundnessLemmas.{all_sound, usable_is}
-use Rattle.nf_lines.proofs.WholeParts.{Reading, eqb_past, line_encodes}
-use Rattle.nf_lines.proofs.WholeLines.{ReadsLines, reads_lines}
+use Rattle.nf_lines.proofs.WholeLines.{Reading, eqb_past, line_encodes, ReadsLines, reads_lines}
 
 -- the fault at the end, where a character that it cuts is one
 strict_end : (base : ℕ) (tally : Tally) (e : Ending) → result_err (answer_at_end base tally e) ≡ result_err (answer_at_end base (tt {0}) e)
@@ -45,9 +45,9 @@ whole_under-none true = refl
 -- where the end is no fault the whole form is written
 final_whole : (f : Form) (p : Properties) (policy : Policy) (base : ℕ) (bytes : List ℕ) → end_fault policy p base bytes ≡ None
     → final_utf8 policy f p bytes ≡ encode_utf8_all (safe_form f p (whole_under policy.replace bytes))
-final_whole f p policy base bytes none = let all = told (end_of policy p base bytes) none in final-whole p base bytes all.0 f policy all.1
+final_whole f p policy base bytes none = final-whole p base bytes _ f policy (told (end_of policy p base bytes) none).1
 
-end_nothing : (policy : Policy) (p : Properties) (base : ℕ) → end_fault policy p base [] ≡ None
+pub end_nothing : (policy : Policy) (p : Properties) (base : ℕ) → end_fault policy p base [] ≡ None
 unfolding end_of text_of ending_of replaced replaced_whole parts_of chars utf8_valid_len is_usable
 end_nothing policy p base = by policy.replace policy.assigned
   where
@@ -74,111 +74,60 @@ module _ (p : Properties) (sound : AreSound p) where
   -- behind a text that is taken the fault is that of the rest
   fault_behind : (a : Bool) (x y : List ℕ) (place behind : List ℕ → ℕ) (other : Option Fault) → allowed a p x ≡ x → ((z : List ℕ) → place (x ++ z) ≡ behind z)
       → first_fault a p place (x ++ y) other ≡ first_fault a p behind y other
-  fault_behind a x y place behind other all places =
-      let taken : allowed a p (x ++ y) ≡ x ++ allowed a p y = allowed-append p a x y all in
-      let same : (length (x ++ allowed a p y) == length (x ++ y)) ≡ (length (allowed a p y) == length y) =
-      simp length-append (eqb_past (length x) (length (allowed a p y)) (length y)) in
-      rw (
-        first_fault-is p a place (x ++ y) other,
-        first_fault-is p a behind y other,
-        usable_is p sound (allowed a p (x ++ y)),
-        usable_is p sound (allowed a p y),
-        taken,
-        same,
-        places (allowed a p y),
-      ) refl
+  fault_behind a x y place behind other all places = simp (first_fault-is p, usable_is p sound, allowed-append p a x y all, length-append, eqb_past, places)
 
   module _ (f : Form) where
     settled_is : (policy : Policy) (bytes : List ℕ) → settled_utf8 policy f p bytes ≡ encode_utf8_all (front p (safe_form f p (allowed policy.assigned p (text_under policy.replace bytes))))
     unfolding settled_utf8 settled
-    settled_is policy bytes = rw (usable-all p _ (usable_is p sound (allowed policy.assigned p (text_under policy.replace bytes)))) refl
+    settled_is policy bytes = simp (usable-all p, usable_is p sound)
 
     -- ---- lines of which nothing is left
-    module _ (parting : IsParting p f line_feed) (closing : IsClosing p f line_feed) (policy : Policy) (base : ℕ) (lines rest : List ℕ) (read : ReadsLines policy.replace lines) (unfaulted : fault_in policy p base lines ≡ None) where
+    module _ (parting : IsParting p f line_feed) (closing : IsClosing p f line_feed) (policy : Policy) (base : ℕ) (lines rest : List ℕ) (read : ReadsLines policy.replace lines)
+        (all : allowed policy.assigned p (read.before ++ line_feed ∷ []) ≡ read.before ++ line_feed ∷ []) where
       abbrev text : List ℕ
       text = read.before ++ line_feed ∷ []
 
-      text_is : text_under policy.replace lines ≡ text
-      text_is = simp (text_under-none, append-nil) at (left-text policy.replace lines text (length lines) [] read.left)
+      abbrev head : List ℕ
+      head = safe_form f p text
 
-      taken : (allowed policy.assigned p text ≡ text) × (bad_under policy.replace base lines ≡ None)
-      unfolding fault_in
-      taken =
-          let all = taken_all policy.assigned (λ front. base + len_under policy.replace lines front) (text_under policy.replace lines) (bad_under policy.replace base lines) unfaulted in
-          (rw text_is at all.0, all.1)
-
-      -- behind them the fault is that of the rest
-      past : (r : Bool) → IsLeft r lines text (length lines) [] → (more z : List ℕ) (other : Option Fault)
-          → first_fault policy.assigned p (λ front. base + len_under r (lines ++ more) front) (text ++ z) other
-          ≡ first_fault policy.assigned p (λ front. base + length lines + len_under r more front) z other
-      past r left more z other = fault_behind policy.assigned text z _ _ other taken.0 (λ y. omega (arith, left.place more y))
+      abbrev tail : List ℕ
+      tail = safe_form f p (allowed policy.assigned p (text_under policy.replace rest))
 
       end_behind : (more : List ℕ) → end_fault policy p base (lines ++ more) ≡ end_fault policy p (base + length lines) more
       unfolding end_of
       end_behind more = by policy.replace read.left
         where
           by : (b : Bool) → IsLeft b lines text (length lines) [] → result_err (end_under b policy.assigned p base (lines ++ more)) ≡ result_err (end_under b policy.assigned p (base + length lines) more)
-          by false left =
-              rw (strict_end base (tally_of false p (lines ++ more)), strict_end (base + length lines) (tally_of false p more), left.end refl base more) refl
-          by true left = rw (answered _ (tally_of true p (lines ++ more)), answered _ (tally_of true p more), left.whole more) (past true left more (whole_under true more) None)
+          by false left = simp (strict_end, left.end refl base more)
+          by true left = simp (answered, left.whole more) (fault_behind policy.assigned text (whole_under true more) _ _ None all (λ y. omega (arith, left.place more y)))
 
       alone_whole : end_fault policy p base lines ≡ None
       alone_whole = rw append-nil at (end_behind [] ∙ end_nothing policy p (base + length lines))
 
-      whole_is : whole_under policy.replace lines ≡ text
-      whole_is = simp (whole_under-none, append-nil) at (left-whole policy.replace lines text (length lines) [] read.left)
-
-      lines_form : final_utf8 policy f p lines ≡ encode_utf8_all (safe_form f p text)
-      lines_form = rw (final_whole f p policy base lines alone_whole, whole_is) refl
+      lines_form : final_utf8 policy f p lines ≡ encode_utf8_all head
+      lines_form = rw (final_whole f p policy base lines alone_whole, left-whole policy.replace lines text (length lines) [] read.left, whole_under-none, append-nil)
 
       pub alone : StandAlone policy f p base lines rest
       unfolding fault_in
       alone = record {
         whole = alone_whole;
-        fault = rw (read.left.text rest, read.left.bad base rest) (past policy.replace read.left rest (text_under policy.replace rest) (bad_under policy.replace (base + length lines) rest));
+        fault = rw (read.left.text rest, read.left.bad base rest) (fault_behind policy.assigned text (text_under policy.replace rest) _ _ _ all (λ y. omega (arith, read.left.place rest y)));
         end = end_behind rest;
-        final = λ none.
-            rw (
-              final_whole f p policy base (lines ++ rest) (end_behind rest ∙ none),
-              read.left.whole rest,
-              safe_form-closed p f line_feed closing read.before (whole_under policy.replace rest),
-              encodes-append,
-              lines_form,
-              final_whole f p policy (base + length lines) rest none,
-            ) refl;
-        settled = ⊎_elim (λ some. inl (some_starter some)) (λ none. inr (no_starter none)) (cases_Bool (has_starter p tail));
-      }
-        where
-          head : List ℕ
-          head = safe_form f p text
-
-          tail : List ℕ
-          tail = safe_form f p (allowed policy.assigned p (text_under policy.replace rest))
-
-          all_settled : settled_utf8 policy f p (lines ++ rest) ≡ encode_utf8_all (front p (head ++ tail))
-          all_settled =
-              rw (
-                settled_is policy (lines ++ rest),
-                read.left.text rest,
-                allowed-append p policy.assigned text (text_under policy.replace rest) taken.0,
-                safe_form-closed p f line_feed closing read.before (allowed policy.assigned p (text_under policy.replace rest)),
-              ) refl
-
-          some_starter : has_starter p tail ≡ true → final_utf8 policy f p lines ++ settled_utf8 policy f p rest ≡ settled_utf8 policy f p (lines ++ rest)
-          some_starter some =
-              rw (all_settled, front-append_some p head tail some, encodes-append, lines_form, settled_is policy rest) refl
-
-          no_starter : has_starter p tail ≡ false → final_utf8 policy f p lines ++ settled_utf8 policy f p rest ≡ settled_utf8 policy f p (lines ++ rest) ++ line_feed ∷ []
-          no_starter none =
+        final = λ none. rw (final_whole f p policy base (lines ++ rest) (end_behind rest ∙ none), read.left.whole rest, safe_form-closed p f line_feed closing read.before, encodes-append, lines_form, final_whole f p policy (base + length lines) rest none);
+        settled = rw (lines_form, settled_is policy (lines ++ rest), settled_is policy rest, read.left.text rest, allowed-append p policy.assigned text _ all, safe_form-closed p f line_feed closing read.before) (elim (cases_Bool (has_starter p tail)) [
+          | inl some ↦ inl (rw (front-append_some p head tail some, encodes-append))
+          | inr none ↦
               let before : List ℕ = safe_form f p read.before in
               let pushed : head ≡ before ++ line_feed ∷ [] = safe_form-push p f line_feed parting read.before (all_sound p sound (stream_safe p read.before)) in
-              let fronted : front p (head ++ tail) ≡ before = rw (pushed, append_assoc before (line_feed ∷ []) tail) (front-at p before line_feed tail parting.starts none) in
-              rw (all_settled, fronted, lines_form, settled_is policy rest, front-none p tail none, pushed, encodes-append before (line_feed ∷ []), line_encodes) (append-nil (encode_utf8_all before ++ line_feed ∷ []))
+              inr (rw (pushed, append_assoc before (line_feed ∷ []) tail, front-at p before line_feed tail parting.starts none, front-none p tail none, encodes-append before (line_feed ∷ []), line_encodes, append-nil))
+        ]);
+      }
 
   -- lines without a fault leave nothing
   pub lines_alone : Reading → (f : Form) → IsParting p f line_feed → IsClosing p f line_feed → (policy : Policy) (base : ℕ) (lines rest : List ℕ) → EndsInLineFeed lines
       → fault_in policy p base lines ≡ None → StandAlone policy f p base lines rest
   unfolding fault_in
   lines_alone laws f parting closing policy base lines rest is none =
-      let good = (taken_all policy.assigned (λ front. base + len_under policy.replace lines front) (text_under policy.replace lines) (bad_under policy.replace base lines) none).1 in
-      alone f parting closing policy base lines rest (reads_lines laws base policy.replace lines is good) none
+      let good = taken_all policy.assigned _ _ _ none in
+      let read = reads_lines laws base policy.replace lines is good.1 in
+      alone f parting closing policy base lines rest read (rw (left-text policy.replace lines _ (length lines) [] read.left, text_under-none, append-nil) at good.0)

@@ -1,22 +1,97 @@
--- Of whole lines nothing is left to be read.
-use Rattle.nf_lines.proofs.Common.{◌≡◌, ℕ, ◌+◌, ◌≤◌, Bool, true, false, None, List, [], ◌∷◌, ◌++◌, length, take, drop, encode_utf8_all, refl, sym, ap, subst, arith, append_assoc, append-nil, length-append, take_at, take_all, drop-append-le, encodes-append, scalars-append, BeginsText, Ending, Whole, Bad, Cut, text_of, ending_of, replacement, part_end, line_feed, bad_under, IsLeft, IsLeft-all, IsLeft-behind, IsLeft-join, EndsInLineFeed}
+-- A line feed ends every character that was begun: of whole lines nothing is left to be read.
+use Rattle.nf_lines.proofs.Common.{◌≡◌, ℕ, ◌+◌, ◌-◌, ◌==◌, ◌≤◌, Bool, true, false, None, List, [], ◌∷◌, ◌++◌, length, take, drop, encode_utf8_all, refl, sym, ap, ◌∙◌, arith, append_assoc, append-nil, length-append, encodes-append, Ending, Whole, Bad, Cut, moved, text_of, ending_of, parts_of, line_feed, answer_at_end, bad_byte, bad_under, IsLeft, EndsInLineFeed}
+use Rattle.std.proofs.str.Laws.{scalars-append}
+use Rattle.std.proofs.lemmas.List.{drop-append-le, drop_all}
+use Rattle.std.proofs.Math.Nat.{zero-add}
+use Rattle.std.proofs.Math.Seq.{get_or-append_seam, drop-append-add}
+use Rattle.std.proofs.Common.{add_assoc, take_at, take_all, IsUtf8, subst}
+use Rattle.std.proofs.Math.Utf8.{encode}
 use Rattle.std.proofs.lemmas.Bool.Decides.{nat_tests}
-use Rattle.nf_lines.proofs.WholeParts.{Reading, front_utf8, line_encodes, text_left}
+use Rattle.std.proofs.lemmas.Str.{IsCharBoundary-before_ascii, IsUtf8-append, IsUtf8-take}
+use Rattle.nf_utf8.specs.Text.{IsText, BeginsText}
+use Rattle.nf_utf8.specs.Replaced.{replacement, part_end, own_parts}
+use Rattle.nf_utf8.specs.Mending.{IsReplacedFront}
+use Rattle.nf_utf8.specs.Laws.{ReadsBack, ReplacesParts, SplitsBytes, ReadsLongestText}
 use Rattle.nf_utf8.specs.Reads.{EndsAs}
 use Rattle.nf_utf8.specs.Reading.{begun_len}
 use Rattle.nf_utf8.proofs.PushesLemmas.{begins_whole, begins_cut}
 use Rattle.nf_utf8.proofs.ReadingLemmas.{broken}
-use Rattle.nf_utf8.proofs.ReplacedLemmas.{broken_end, by_parts}
+use Rattle.nf_utf8.proofs.ReplacedLemmas.{by_parts, parts_of-begun, parts_of-broken}
+use Rattle.nf_filter.proofs.PieceLemmas.{IsLeft-all, IsLeft-front, IsLeft-join, bad_front, own_parts-append}
+
+-- what is known of reading UTF-8
+pub record Reading : Type 0 where
+  pub longest : ReadsLongestText
+  pub split : SplitsBytes
+  pub back : ReadsBack
+  pub replacing : ReplacesParts
+
+pub line_encodes : encode_utf8_all (line_feed ∷ []) ≡ line_feed ∷ []
+unfolding encode
+line_encodes = refl
+
+-- where bytes with a line feed at their end begin a text, those before it are a text
+front_utf8 : (front : List ℕ) → BeginsText (front ++ line_feed ∷ []) → IsUtf8 front
+front_utf8 front b =
+    let bytes : List ℕ = front ++ line_feed ∷ b.0 in
+    rw (take_at front (line_feed ∷ b.0) (length front) refl) at (IsUtf8-take bytes (length front) (rw append_assoc at b.1)
+    (IsCharBoundary-before_ascii bytes (length front) (omega (arith, length-append front (line_feed ∷ b.0))) (omega (arith, get_or-append_seam front line_feed b.0 0))))
+
+-- bytes no byte of which is bad begin a text
+begins : (bytes : List ℕ) (e : Ending) → ending_of bytes ≡ e → begun_len bytes ≡ length bytes → BeginsText bytes
+begins bytes Whole e all = begins_whole bytes e
+begins bytes (Cut at start) e all = begins_cut bytes at start e
+begins bytes (Bad at start) e all = absurd (omega (arith, (broken bytes at start e).0, all))
+
+-- ---- behind a text
+
+bad_moved : (base n : ℕ) (e : Ending) → bad_byte base (moved n e) ≡ bad_byte (base + n) e
+bad_moved base n (Bad at start) = simp add_assoc
+bad_moved base n _ = refl
+
+end_moved : (base n : ℕ) (e : Ending) → answer_at_end base (tt {0}) (moved n e) ≡ answer_at_end (base + n) (tt {0}) e
+end_moved base n (Cut at start) = simp add_assoc
+end_moved base n _ = refl
+
+-- one length more on both sides
+pub eqb_past : (n a b : ℕ) → (n + a == n + b) ≡ (a == b)
+eqb_past n a b = grind (arith, nat_tests)
+
+part_end-moved : (n at start : ℕ) → (part_end (n + at) (n + start) ≡ n + part_end at start) × (n + part_end at start - (n + start) ≡ part_end at start - start)
+part_end-moved n at start = (grind (arith, nat_tests), omega arith)
+
+module _ (laws : Reading) (x : List ℕ) (s : IsText x) where
+  abbrev bytes : List ℕ
+  bytes = encode_utf8_all x
+
+  -- the parts of a text, and those of what stands behind it
+  parts_behind : (more : List ℕ) → parts_of (bytes ++ more) ≡ own_parts x ++ parts_of more
+  parts_behind = by_parts (λ more. parts_of (bytes ++ more) ≡ own_parts x ++ parts_of more)
+      (λ more all. let b = begins more (ending_of more) refl all in
+      rw (parts_of-begun (bytes ++ more) (b.0, rw append_assoc (IsUtf8-append bytes (more ++ b.0) (x, (s, refl)) b.1)), parts_of-begun more b, laws.back.text x more s, own_parts-append))
+      (λ more at start e _. let past = part_end-moved (length bytes) at start in
+      rw (parts_of-broken (bytes ++ more) _ _ (laws.back.ending x more s ∙ ap (moved (length bytes)) e), parts_of-broken more at start e, laws.back.text x more s, own_parts-append, past.0, past.1, drop-append-add, append_assoc))
+
+  text_left : (r : Bool) → IsLeft r bytes x (length bytes) []
+  text_left true =
+      let none : drop (length bytes) bytes ≡ [] = drop_all (length bytes) bytes (omega arith) in
+      let one : IsReplacedFront bytes x (length bytes) = record { parts = own_parts x; chars = laws.replacing.own_chars x; size = laws.replacing.own_len x; within = omega arith; front = λ more. rw none (parts_behind more) } in
+      rw (zero-add, none) at (IsLeft-front laws.replacing (IsLeft-all true bytes) one)
+  text_left false = record {
+    text = λ more. laws.back.text x more s;
+    place = λ more y. omega (arith, ap length (encodes-append x y), length-append bytes (encode_utf8_all y));
+    bad = λ base more. rw (laws.back.ending x more s) (bad_moved base (length bytes) (ending_of more));
+    whole = λ more. laws.back.text x more s;
+    end = λ _ base more. rw (laws.back.ending x more s) (end_moved base (length bytes) (ending_of more));
+    len = omega arith;
+  }
+
+-- ---- whole lines
 
 -- they give a text that ends in a line feed, and the rest is read as if it stood alone
 pub record ReadsLines (r : Bool) (lines : List ℕ) : Type 0 where
   pub before : List ℕ
   pub left : IsLeft r lines (before ++ line_feed ∷ []) (length lines) []
-
-begins : (bytes : List ℕ) (e : Ending) → ending_of bytes ≡ e → begun_len bytes ≡ length bytes → BeginsText bytes
-begins bytes Whole e all = begins_whole bytes e
-begins bytes (Cut at start) e all = begins_cut bytes at start e
-begins bytes (Bad at start) e all = absurd (omega (arith, (broken bytes at start e).0, all))
 
 module _ (laws : Reading) where
   lines_begun : (r : Bool) (lines : List ℕ) → EndsInLineFeed lines → BeginsText lines → ReadsLines r lines
@@ -33,20 +108,15 @@ module _ (laws : Reading) where
       let bad = subst (EndsAs lines text) e reads.end in
       let len : length is.0 ≡ at = omega (arith, last, ap length is.1, length-append is.0 (line_feed ∷ [])) in
       let front : encode_utf8_all text ≡ is.0 = cc (take_at (encode_utf8_all text) reads.front.spelled.0 at (sym bad.1), reads.front.spelled.1, is.1, take_at is.0 (line_feed ∷ []) at len) in
-      let whole : encode_utf8_all (text ++ line_feed ∷ []) ≡ take (at + 1) lines ++ [] =
-      rw (encodes-append, front, line_encodes, append-nil, take_all (at + 1) lines (omega arith)) (sym is.1) in
+      let whole : encode_utf8_all (text ++ line_feed ∷ []) ≡ take (at + 1) lines ++ [] = rw (encodes-append, front, line_encodes, append-nil, take_all (at + 1) lines (omega arith)) (sym is.1) in
       bad.0.here ([], (text ++ line_feed ∷ [], (scalars-append text (line_feed ∷ []) reads.front.scalars refl, whole)))
 
   -- what a bad byte leaves of them ends in the line feed
   lines_after : (lines : List ℕ) (at start : ℕ) → EndsInLineFeed lines → ending_of lines ≡ Bad at start → EndsInLineFeed (drop (part_end at start) lines)
   lines_after lines at start is e =
+      let good : at ≡ start → ¬ (at + 1 ≡ length lines) = λ same. line_good lines at is (rw (← same) at e) in
+      let within : part_end at start ≤ length is.0 = grind (arith, nat_tests, broken lines at start e, ap length is.1, length-append is.0 (line_feed ∷ [])) in
       (drop (part_end at start) is.0, rw is.1 (drop-append-le (part_end at start) is.0 (line_feed ∷ []) within))
-    where
-      good : at ≡ start → ¬ (at + 1 ≡ length lines)
-      good same = line_good lines at is (rw (← same) at e)
-
-      within : part_end at start ≤ length is.0
-      within = let b = broken lines at start e in grind (arith, nat_tests, good, b.0, b.1, ap length is.1, length-append is.0 (line_feed ∷ []))
 
   module _ (base : ℕ) where
     -- where they have no bad byte, or those are replaced
@@ -56,9 +126,9 @@ module _ (laws : Reading) where
     behind_bad : (r : Bool) (lines : List ℕ) (at start : ℕ) → ending_of lines ≡ Bad at start → AreRead r (drop (part_end at start) lines) → AreRead r lines
     behind_bad false lines at start e on is good = let absurd_is = rw e at good in cc
     behind_bad true lines at start e on is good =
-        let end = broken_end lines at start e in
         let rest = on (lines_after lines at start is e) refl in
-        let one = IsLeft-behind laws.replacing laws.split lines at start e (broken lines at start e).2 end.1 (omega (arith, end.0)) lines [] 0 (IsLeft-all true lines) in
+        let is = (broken lines at start e).2 in
+        let one = rw (← is) at (IsLeft-front laws.replacing (IsLeft-all true lines) (bad_front laws.replacing laws.split (rw is at e))) in
         let own : List ℕ = text_of lines ++ replacement ∷ [] in
         let left : List ℕ = drop (part_end at start) lines in
         let all = IsLeft-join true lines own (0 + part_end at start) left (rest.before ++ line_feed ∷ []) (length left) [] one rest.left in

@@ -1,6 +1,6 @@
 -- A run of plain ASCII behind one such character that is pending alone.
-use Rattle.nf_normalizer.proofs.Common.{◌≡◌, ℕ, ◌-◌, ◌<◌, true, List, [], ◌∷◌, ◌++◌, length, take, get_or, refl, sym, ap, ◌∙◌, subst, arith, append_assoc, encode_utf8_all, IsAscii, and_from, cond-true, length-append, take_more, take_all, encodes-append, encodes-IsAscii, IsAscii-take, Properties, trail, front, back, Form, Nfkd, decomposed, finished, stream_safe, safe_form, is_sound, trail-push, IsSoundText, decomposed-append, Pending, PendingStandsAfter, Normalizer, settled, is_usable, HasTaken, settled_text, Joins}
-use Rattle.std.specs.List.{list_all}
+use Rattle.nf_normalizer.proofs.Common.{◌≡◌, ℕ, ◌-◌, ◌<◌, true, List, [], ◌∷◌, ◌++◌, length, take, get_or, refl, ap, arith, append_assoc, encode_utf8_all, IsAscii, and_from, length-append, encodes-append, encodes-IsAscii, IsAscii-take, Properties, trail, front, back, Form, Nfkd, decomposed, finished, stream_safe, safe_form, is_sound, trail-push, IsSoundText, decomposed-append, Pending, PendingStandsAfter, Normalizer, settled, is_usable, HasTaken, settled_text, Joins}
+use Rattle.std.proofs.lemmas.Grind.{common_steps}
 use Rattle.std.proofs.lemmas.List.Folds.{list_all-append}
 use Rattle.std.proofs.lemmas.Str.Ascii.{All-from_ascii}
 use Rattle.nf_row.specs.Ascii.{IsPlainAscii, AreAscii}
@@ -18,23 +18,21 @@ module _ (p : Properties) (plain : IsPlainAscii p) where
 
     -- its last apart
     whole : y ≡ take (n - 1) y ++ end ∷ []
-    whole = sym (take_all n y (omega (arith, len))) ∙ ap (λ k. take k y) (omega arith) ∙ take_more y (n - 1) 0 (omega (arith, len))
+    whole = grind (arith, common_steps)
 
     safe : stream_safe p (x ++ y) ≡ stream_safe p x ++ y
     unfolding is_usable
     safe = stream_safe-ascii p plain y (All-from_ascii y ascii) x usable
 
     rows : (g : Form) → decomposed g p (stream_safe p (x ++ y)) ≡ decomposed g p (stream_safe p x) ++ y
-    rows g = ap (decomposed g p) safe ∙ decomposed-append p g (stream_safe p x) y ∙ ap (λ w. decomposed g p (stream_safe p x) ++ w) (decomposed-ascii p plain g y (All-from_ascii y ascii))
+    rows g = rw (safe, decomposed-append p g, decomposed-ascii p plain g y (All-from_ascii y ascii))
 
     run_none : (g : Form) → trail p (decomposed g p (stream_safe p (x ++ y))) ≡ 0
-    run_none g =
-        ap (trail p) (rows g ∙ ap (λ w. decomposed g p (stream_safe p x) ++ w) whole ∙ sym (append_assoc (decomposed g p (stream_safe p x)) (take (n - 1) y) (end ∷ [])))
-        ∙ trail-push p (decomposed g p (stream_safe p x) ++ take (n - 1) y) end ∙ cond-true _ _ _ (starter-ascii p plain end (ascii (n - 1)))
+    run_none g = rw (rows g, whole, ← append_assoc, trail-push p, starter-ascii p plain end (ascii (n - 1)))
 
     usable_on : is_usable p (x ++ y) ≡ true
     unfolding is_usable
-    usable_on = ap (list_all (is_sound p)) safe ∙ list_all-append (is_sound p) (stream_safe p x) y ∙ and_from _ _ usable (all_sound y (All-from_ascii y ascii))
+    usable_on = rw (safe, list_all-append (is_sound p), usable) (all_sound y (All-from_ascii y ascii))
 
     -- no joiner is put
     pub joins-run : Joins p x y 0
@@ -45,16 +43,12 @@ module _ (p : Properties) (plain : IsPlainAscii p) where
       old_rows = decomposed f p (stream_safe p x)
 
       parts : (back p (finished f p (old_rows ++ y)) ≡ end ∷ []) × (front p (finished f p (old_rows ++ y)) ≡ front p (finished f p old_rows) ++ (a ∷ take (n - 1) y))
-      parts = subst (λ l. (back p (finished f p (old_rows ++ l)) ≡ end ∷ []) × (front p (finished f p (old_rows ++ l)) ≡ front p (finished f p old_rows) ++ (a ∷ take (n - 1) y))) (sym whole)
-          (finished-ascii p plain f old_rows a (take (n - 1) y) end alone below (subst AreAscii whole (All-from_ascii y ascii)))
+      parts = rw (← whole) at (finished-ascii p plain f old_rows a (take (n - 1) y) end alone below (rw whole at (All-from_ascii y ascii)))
 
       pub settled_text-run : (settled_text f p x ++ encode_utf8_all (a ∷ [])) ++ take (n - 1) y ≡ settled_text f p (x ++ y)
       unfolding settled safe_form
-      settled_text-run = sym (
-          ap (λ w. encode_utf8_all (front p (finished f p w))) (rows f) ∙ ap encode_utf8_all parts.1
-          ∙ encodes-append (front p (finished f p old_rows)) (a ∷ take (n - 1) y)
-          ∙ ap (λ b. settled_text f p x ++ b) (encodes-append (a ∷ []) (take (n - 1) y) ∙ ap (λ l. encode_utf8_all (a ∷ []) ++ l) (encodes-IsAscii (take (n - 1) y) (IsAscii-take y (n - 1) ascii)))
-          ∙ sym (append_assoc (settled_text f p x) (encode_utf8_all (a ∷ [])) (take (n - 1) y)))
+      settled_text-run =
+          rw (rows f, parts.1, encodes-append (front p (finished f p old_rows)), encodes-append (a ∷ []) (take (n - 1) y), encodes-IsAscii (take (n - 1) y) (IsAscii-take y (n - 1) ascii), append_assoc)
 
       pub HasTaken-run : (old : Normalizer) (counter : ℕ) (pending : Pending) (last : ℕ) → HasTaken f p old x → counter ≡ 0 → last ≡ get_or y (n - 1) 0
           → ((w v : List ℕ) → PendingStandsAfter f p old.pending w → back p (finished f p v) ≡ last ∷ [] → trail p v ≡ 0 → PendingStandsAfter f p pending v)
@@ -63,6 +57,6 @@ module _ (p : Properties) (plain : IsPlainAscii p) where
         usable = usable_on;
         form = before.form;
         plain = λ _. plain;
-        count = none ∙ sym (run_none Nfkd);
-        pending = stands _ _ before.pending (ap (λ w. back p (finished f p w)) (rows f) ∙ parts.0 ∙ ap (λ c. c ∷ []) (sym is)) (run_none f);
+        count = rw (run_none Nfkd) none;
+        pending = stands _ _ before.pending (rw (rows f, is) parts.0) (run_none f);
       }

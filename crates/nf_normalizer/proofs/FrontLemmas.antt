@@ -1,30 +1,20 @@
 -- What is taken of a text at once, and a character at a boundary after any text.
-use Rattle.nf_normalizer.proofs.Common.{◌≡◌, ℕ, ◌+◌, ◌<◌, ◌≤◌, true, false, Bool, List, [], ◌∷◌, ◌++◌, length, take, drop, Result, Ok, Err, IfOk, inl, inr, refl, sym, ap, ◌∙◌, arith, append-nil, append_assoc, encode_utf8, encode_utf8_all, IsUtf8, IsAscii, chars, length-append, take-append-drop, if◌then◌else◌, false≢true, chars-nil, chars-append, chars-IsAscii, encodes-append, encodes-chars, IsUtf8-from_ascii, chars_past_char, length-encode, len_utf8_bounds, Properties, Form, Nfc, front, joiner, is_too_long, stream_safe, safe_form, IsSoundText, stream_safe-push, IsClosedFront, Normalizer, Unsound, settled, is_usable, Start, Holds, HasTaken, TakesChar, settled_text, Stands, one_if, Leaves, Passes, Joins, StepsTo, Refuses, Takes}
+use Rattle.nf_normalizer.proofs.Common.{◌≡◌, ℕ, ◌+◌, ◌<◌, ◌≤◌, true, false, Bool, List, [], ◌∷◌, ◌++◌, length, take, drop, Result, Ok, Err, IfOk, inl, inr, refl, sym, ap, ◌∙◌, arith, append-nil, append_assoc, encode_utf8, encode_utf8_all, IsUtf8, IsAscii, chars, length-append, take-append-drop, chars-nil, chars-append, chars-IsAscii, encodes-append, encodes-chars, IsUtf8-from_ascii, chars_past_char, length-encode, len_utf8_bounds, Properties, Form, Nfc, front, stream_safe, safe_form, IsSoundText, stream_safe-push, Normalizer, settled, is_usable, Start, Holds, HasTaken, TakesChar, settled_text, Stands, one_if, Leaves, Passes, StepsTo, Refuses, Takes}
 use Rattle.std.proofs.lemmas.Bool.Decides.{nat_tests}
 use Rattle.nf_forms.specs.Order.{by_class}
 use Rattle.nf_forms.specs.Closed.{BeginsAtBoundary}
 use Rattle.nf_forms.specs.Laws.Closed.{stream_safe-closed, sound-closed, safe_form-closed}
+use Rattle.nf_boundary.specs.Front.{IsClosedFront}
+use Rattle.nf_normalizer.specs.declared.front.Unsound.{Unsound}
 use Rattle.nf_normalizer.specs.declared.front.Front.{Front}
 use Rattle.nf_normalizer.specs.Laws.Boundary.{usable-alone, usable_both, joins-behind, safe_form-behind, settled_text-behind, HasTaken-behind}
-use Rattle.nf_normalizer.proofs.RoomLemmas.{Holds-at, Holds-more, Holds-alone}
+use Rattle.nf_normalizer.proofs.PushingLemmas.{Holds-more}
 
 -- ---- fronts of a text
 
 -- ASCII bytes spell themselves
 pub ascii_front : (text : List ℕ) (n : ℕ) → IsAscii (take n text) → chars text ≡ take n text ++ chars (drop n text)
-ascii_front text n ascii =
-    ap chars (sym (take-append-drop n text)) ∙ chars-append (take n text) (drop n text) (IsUtf8-from_ascii (take n text) ascii)
-    ∙ ap (λ l. l ++ chars (drop n text)) (chars-IsAscii (take n text) ascii)
-
--- one character is past
-pub leaves-one : {text rest : List ℕ} (c : ℕ) (joined : Bool) → IsUtf8 text → text ≡ encode_utf8 c ++ rest → Leaves text rest (one_if joined)
-leaves-one {text} {rest} c joined utf8 is = record {
-  few = grind (arith, nat_tests);
-  front = c ∷ [];
-  some = omega arith;
-  is_front = chars_past_char text rest c utf8 is;
-  shorter = omega (arith, ap length is, length-append (encode_utf8 c) rest, length-encode c, (len_utf8_bounds c).0);
-}
+ascii_front text n ascii = rw (take-append-drop, chars-IsAscii (take n text) ascii) at (chars-append (take n text) (drop n text) (IsUtf8-from_ascii (take n text) ascii))
 
 -- a closed front is past
 pub leaves-closed : {p : Properties} {f : Form} {text same formed rest : List ℕ} → IsClosedFront p f text same formed rest → Leaves text rest 0
@@ -40,57 +30,47 @@ leaves-closed {text = text} {rest = rest} closed = record {
     next [] is begins = let none = chars-nil in cc
     next (c ∷ b) is begins = omega (arith, is, length-append (c ∷ b) rest)
 
--- whether a joiner is put before a character
-joins-one : (p : Properties) (x : List ℕ) (c : ℕ) (joined : Bool) → joined ≡ is_too_long p (stream_safe p x) c → Joins p x (c ∷ []) (one_if joined)
-joins-one p x c joined is = rw is (next (is_too_long p (stream_safe p x) c) (stream_safe-push p x c))
-  where
-    next : (b : Bool) → stream_safe p (x ++ c ∷ []) ≡ (if b then stream_safe p x ++ joiner ∷ [] else stream_safe p x) ++ c ∷ []
-        → length (stream_safe p (x ++ c ∷ [])) ≡ length (stream_safe p x) + 1 + (if b then 1 else 0)
-    next true text = omega (arith, ap length text, length-append (stream_safe p x ++ joiner ∷ []) (c ∷ []), length-append (stream_safe p x) (joiner ∷ []))
-    next false text = omega (arith, ap length text, length-append (stream_safe p x) (c ∷ []))
+-- a character more is past, and was taken or refused
+module _ {text : List ℕ} (c : ℕ) (rest : List ℕ) (utf8 : IsUtf8 text) (is : text ≡ encode_utf8 c ++ rest) where
+  pub leaves-one : (joined : Bool) → Leaves text rest (one_if joined)
+  leaves-one joined = record {
+    few = grind (arith, nat_tests);
+    front = c ∷ [];
+    some = omega arith;
+    is_front = chars_past_char text rest c utf8 is;
+    shorter = omega (arith, ap length is, length-append (encode_utf8 c) rest, length-encode c, (len_utf8_bounds c).0);
+  }
 
--- one character was taken, or refused
-pub takes-one : {f : Form} {p : Properties} {normalizer : Normalizer} {start : Start} {room x text rest : List ℕ} (c : ℕ) (joined : Bool) → IsUtf8 text → text ≡ encode_utf8 c ++ rest
-    → TakesChar f p normalizer start room x c (Ok joined) → StepsTo f p normalizer start (room ++ []) x text rest (one_if joined)
-takes-one {p = p} {x = x} {text} {rest} c joined utf8 is taken = record {
-  front = c ∷ [];
-  is_front = chars_past_char text rest c utf8 is;
-  stands = inl (record { taken = taken.0; holds = Holds-alone taken.1 });
-  joins = joins-one p x c joined taken.2;
-}
+  module _ {f : Form} {p : Properties} {start : Start} {room x : List ℕ} where
+    pub takes-one : {normalizer : Normalizer} (joined : Bool) → TakesChar f p normalizer start room x c (Ok joined) → StepsTo f p normalizer start (room ++ []) x text rest (one_if joined)
+    takes-one joined taken = record {
+      front = c ∷ [];
+      is_front = chars_past_char text rest c utf8 is;
+      stands = inl (record { taken = taken.0; holds = rw append-nil taken.1 });
+      joins = grind (arith, nat_tests, taken.2, ap length (stream_safe-push p x c), length-append {A = ℕ});
+    }
 
-pub refuses-one : {f : Form} {p : Properties} {start : Start} {room x text : List ℕ} (c : ℕ) (rest : List ℕ) → IsUtf8 text → text ≡ encode_utf8 c ++ rest → is_usable p x ≡ true
-    → (is_usable p (x ++ c ∷ []) ≡ false) × Holds start room (settled_text f p x) → Refuses f p start room x text
-refuses-one {text = text} c rest utf8 is usable refused = record {
-  first = c;
-  rest = chars rest;
-  is_first = chars_past_char text rest c utf8 is;
-  usable = usable;
-  unusable = refused.0;
-  holds = refused.1;
-}
+    pub refuses-one : is_usable p x ≡ true → (is_usable p (x ++ c ∷ []) ≡ false) × Holds start room (settled_text f p x) → Refuses f p start room x text
+    refuses-one usable refused = record { first = c; rest = chars rest; is_first = chars_past_char text rest c utf8 is; usable = usable; unusable = refused.0; holds = refused.1 }
 
 -- a closed front was taken
-module _ {p : Properties} {f : Form} (x : List ℕ) {text same formed rest : List ℕ} (usable : is_usable p x ≡ true) (closed : IsClosedFront p f text same formed rest) where
-  sound : IsSoundText p (stream_safe p x)
-  unfolding is_usable
-  sound = usable
-
-  usable-closed : is_usable p (x ++ chars closed.front) ≡ true
-  unfolding is_usable
-  usable-closed = sound-closed p f x (chars closed.front) (chars same ++ closed.more) sound closed.form
-
-  due-closed : IsUtf8 same → encode_utf8_all (safe_form f p x) ++ (same ++ formed) ≡ encode_utf8_all (safe_form f p (x ++ chars closed.front))
-  due-closed utf8 = rw (closed.put, safe_form-closed p f x (chars closed.front) (chars same ++ closed.more) sound closed.form)
-      (simp (encodes-append, encodes-chars same utf8))
-
-  pub takes-closed : {new : Normalizer} {start : Start} {room : List ℕ} → IsUtf8 same → HasTaken f p new [] → Holds start room (encode_utf8_all (safe_form f p x)) → StepsTo f p new start (room ++ (same ++ formed)) x text rest 0
-  takes-closed utf8 anew holds = record {
-    front = chars closed.front;
-    is_front = closed.characters;
-    stands = inr (record { anew = anew; usable = usable-closed; boundary = closed.next; holds = Holds-at (due-closed utf8) (Holds-more (same ++ formed) refl holds) });
-    joins = omega (arith, ap length (stream_safe-closed p f x (chars closed.front) (chars same ++ closed.more) sound closed.form), length-append (stream_safe p x) (chars closed.front));
-  }
+pub takes-closed : {p : Properties} {f : Form} (x : List ℕ) {text same formed rest : List ℕ} {new : Normalizer} {start : Start} {room : List ℕ} → is_usable p x ≡ true → IsClosedFront p f text same formed rest → IsUtf8 same
+    → HasTaken f p new [] → Holds start room (encode_utf8_all (safe_form f p x)) → StepsTo f p new start (room ++ (same ++ formed)) x text rest 0
+unfolding is_usable
+takes-closed {p} {f} x {same = same} {formed} usable closed utf8 anew holds =
+    let sound : IsSoundText p (stream_safe p x) = usable in
+    let formed_is : List ℕ = chars same ++ closed.more in
+    record {
+      front = chars closed.front;
+      is_front = closed.characters;
+      stands = inr (record {
+        anew = anew;
+        usable = sound-closed p f x (chars closed.front) formed_is sound closed.form;
+        boundary = closed.next;
+        holds = rw (safe_form-closed p f x (chars closed.front) formed_is sound closed.form, encodes-append, encodes-append, encodes-chars same utf8, ← closed.put) (Holds-more (same ++ formed) refl holds);
+      });
+      joins = omega (arith, simp length-append at (ap length (stream_safe-closed p f x (chars closed.front) formed_is sound closed.form)));
+    }
 
 -- ---- at a boundary, where the normalizer is as a new one
 
@@ -108,12 +88,12 @@ Holds-past : {start : Start} {room w : List ℕ} (none : List ℕ) → none ≡ 
 Holds-past none is holds = record { text = rw (is, append-nil) holds.text }
 
 Holds-whole : {start : Start} {room a : List ℕ} (w : List ℕ) → Holds (past start w) room a → Holds start room (w ++ a)
-Holds-whole {start} {room} {a} w holds = record { text = sym (append_assoc start.ahead w a) ∙ holds.text }
+Holds-whole w holds = record { text = rw (← append_assoc) holds.text }
 
 -- what was taken begins where the text does
-front_is : (front rest text : List ℕ) (c : ℕ) (more : List ℕ) → 0 < length front → text ≡ front ++ rest → text ≡ c ∷ more → (tail : List ℕ) × (front ≡ c ∷ tail)
-front_is [] rest text c more some is first = absurd (omega (arith, some))
-front_is (d ∷ tail) rest text c more some is first = (tail, cc)
+front_is : (front rest : List ℕ) {c : ℕ} {more : List ℕ} → 0 < length front → front ++ rest ≡ c ∷ more → (tail : List ℕ) × (front ≡ c ∷ tail)
+front_is [] rest some first = absurd (omega arith)
+front_is (d ∷ tail) rest some first = (tail, cc)
 
 module _ (p : Properties) (f : Form) (new : Normalizer) (start : Start) (after x text : List ℕ) where
   module _ (usable : is_usable p x ≡ true) (boundary : BeginsAtBoundary p f (chars text)) where
@@ -124,21 +104,20 @@ module _ (p : Properties) (f : Form) (new : Normalizer) (start : Start) (after x
       stands-behind : (out : List ℕ) → Stands f p new there out (boundary.first ∷ more) next → Stands f p new start out (x ++ boundary.first ∷ more) next
       stands-behind out (inl inside) = inl (record {
         taken = HasTaken-behind p f x usable (chars text) more next boundary is new inside.taken;
-        holds = Holds-at (settled_text-behind p f x usable (chars text) more next boundary is) (Holds-whole (encode_utf8_all (safe_form f p x)) inside.holds);
+        holds = rw (settled_text-behind p f x usable (chars text) more next boundary is) at (Holds-whole (encode_utf8_all (safe_form f p x)) inside.holds);
       })
       stands-behind out (inr between) = inr (record {
         anew = between.anew;
         usable = usable_both p f x usable (chars text) more next boundary is between.usable;
         boundary = between.boundary;
-        holds = Holds-at (safe_form-behind p f x usable (chars text) more next boundary is) (Holds-whole (encode_utf8_all (safe_form f p x)) between.holds);
+        holds = rw (safe_form-behind p f x usable (chars text) more next boundary is) at (Holds-whole (encode_utf8_all (safe_form f p x)) between.holds);
       })
 
     steps-behind : (out rest : List ℕ) (n : ℕ) → Leaves text rest n → StepsTo f p new there out [] text rest n → StepsTo f p new start out x text rest n
     steps-behind out rest n leaves steps =
-        let some : 0 < length steps.front =
-        omega (arith, leaves.some, ap length leaves.is_front, ap length steps.is_front, length-append leaves.front (chars rest), length-append steps.front (chars rest)) in
-        let begins = front_is steps.front (chars rest) (chars text) boundary.first boundary.rest some steps.is_front boundary.text in
-        let is = steps.is_front ∙ ap (λ l. l ++ chars rest) begins.1 in
+        let some : 0 < length steps.front = omega (arith, leaves.some, simp length-append at (ap length (sym leaves.is_front ∙ steps.is_front))) in
+        let begins = front_is steps.front (chars rest) some (sym steps.is_front ∙ boundary.text) in
+        let is = rw begins.1 at steps.is_front in
         record {
           front = boundary.first ∷ begins.0;
           is_front = is;
@@ -147,9 +126,7 @@ module _ (p : Properties) (f : Form) (new : Normalizer) (start : Start) (after x
         }
 
     refused : Refuses f p there after [] text → Refuses f p start after x text
-    refused refuses =
-        let first : refuses.first ≡ boundary.first = let both = sym refuses.is_first ∙ boundary.text in cc in
-        absurd (false≢true (sym refuses.unusable ∙ ap (λ c. is_usable p (c ∷ [])) first ∙ usable-alone p f boundary.first boundary.boundary boundary.sound))
+    refused refuses = cc (usable-alone p f boundary.first boundary.boundary boundary.sound)
 
   -- what is done to a text behind all that was taken is done wherever the normalizer stands
   pub steps-on : (formed : List ℕ) {old : Normalizer} {before : List ℕ} (r : Result Front Unsound) → IfOk r (Passes text)
@@ -166,22 +143,22 @@ module _ (p : Properties) (f : Form) (new : Normalizer) (start : Start) (after x
 -- ---- one front after another
 
 pub StepsTo-none : {f : Form} {p : Properties} {normalizer : Normalizer} {start : Start} {out x text : List ℕ} → Stands f p normalizer start out x (chars text) → StepsTo f p normalizer start out x text text 0
-StepsTo-none {p = p} {x = x} stands = record {
+StepsTo-none stands = record {
   front = [];
   is_front = refl;
-  stands = rw (append-nil x) stands;
-  joins = omega (arith, ap (λ y. length (stream_safe p y)) (append-nil x));
+  stands = rw append-nil stands;
+  joins = rw append-nil (omega arith);
 }
 
 pub StepsTo-more : {f : Form} {p : Properties} {old new : Normalizer} {start : Start} {room out x text rest behind : List ℕ} {m n k : ℕ} → m + n ≡ k → (first : StepsTo f p old start room x text rest m) → StepsTo f p new start out (x ++ first.front) rest behind n
     → StepsTo f p new start out x text behind k
-StepsTo-more {p = p} {x = x} {behind = behind} sum first next = record {
+StepsTo-more {x = x} sum first next = record {
   front = first.front ++ next.front;
-  is_front = first.is_front ∙ ap (λ l. first.front ++ l) next.is_front ∙ sym (append_assoc first.front next.front (chars behind));
+  is_front = rw (first.is_front, next.is_front, append_assoc);
   stands = rw (← append_assoc x first.front next.front) next.stands;
-  joins = omega (arith, first.joins, next.joins, sum, ap (λ y. length (stream_safe p y)) (append_assoc x first.front next.front), length-append first.front next.front);
+  joins = rw (← append_assoc x first.front next.front) (omega (arith, first.joins, next.joins, sum, length-append first.front next.front));
 }
 
 pub leaves-all : {text rest : List ℕ} {n : ℕ} (front : List ℕ) → IsUtf8 text → IsUtf8 rest → chars text ≡ front ++ chars rest → n ≤ length front → length rest < length text → Leaves text rest n
-leaves-all [] utf8 behind is few shorter = absurd (omega (arith, shorter, ap length (sym (encodes-chars _ utf8) ∙ ap encode_utf8_all is ∙ encodes-chars _ behind)))
+leaves-all [] utf8 behind is few shorter = absurd (omega (arith, shorter, ap length (rw (is, encodes-chars _ behind) at (encodes-chars _ utf8))))
 leaves-all (c ∷ front) utf8 behind is few shorter = record { front = c ∷ front; some = omega arith; few = few; is_front = is; shorter = shorter }

@@ -1,5 +1,4 @@
 pub mod Common
-pub mod RoomLemmas
 pub mod PushingLemmas
 pub mod CharacterLemmas
 pub mod AsciiLemmas

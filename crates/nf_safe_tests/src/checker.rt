@@ -129,7 +129,7 @@ fn a_front_is_checked_by_look_ups(rt: HostRuntime) {
         (30, "ab\u{4E2D}\u{301}", "", Ok(None)),
         (29, "\u{301}", "", place(30, 160)),
         (29, "\u{301}\u{301}a", "\u{301}a", place(30, 160)),
-        (3, "\u{301}\u{1F600}", "\u{1F600}", Ok(None)),
+        (3, "\u{301}\u{20000}", "\u{20000}", Ok(None)),
         (30, "\u{FF9E}", "\u{FF9E}", place(30, 160)),
     ];
     for (marks, text, left, answer) in cases {

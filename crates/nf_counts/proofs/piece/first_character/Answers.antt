@@ -1,34 +1,47 @@
 use Rattle.std.proofs.Common.{◌≡◌, ⊎_elim, [], ◌∷◌, append-nil, arith}
 use Rattle.std.proofs.lemmas.Bool.{ne_eqb}
-use Rattle.nf_counts.proofs.PieceLemmas.{HasCode, two_spell, three_spell, first_of, boundary}
+use Rattle.nf_counts.proofs.PieceLemmas.{HasCode, two_spell, three_spell, four_spell, first_of, boundary}
 use Rattle.nf_counts.proofs.piece.first_character.Goals as goal
-use Rattle.nf_counts.proofs.piece.first_character.Goals.{Else-value-eq-NOTHING, then-lead-ge224, else-lead-ge224}
+use Rattle.nf_counts.proofs.piece.first_character.Goals.{Else-value-eq-NOTHING, then-lead-ge240, else-lead-ge240+then-lead-ge224, else-lead-ge240+else-lead-ge224}
 
 pub bounds-bytes-1 : goal.bounds-bytes-1
 bounds-bytes-1 c =
     rw c.as_bytes-bytes.ensures.value (
     ⊎_elim
     (λ two. omega (arith, (boundary _ _ _ two.1.begins).0))
-    (λ three. omega (arith, (boundary _ _ _ three.1.begins).0))
-    (first_of c.args.text.now c.utf8.text c.requires.high (grind arith))
+    (⊎_elim (λ three. omega (arith, (boundary _ _ _ three.2.begins).0)) (λ four. omega (arith, (boundary _ _ _ four.1.begins).0)))
+    (first_of c.args.text.now c.utf8.text c.requires.high)
     )
 
-character : (c : Else-value-eq-NOTHING) → HasCode c.args.text.now c.if-lead-ge224.len.0 c.if-lead-ge224.len.1
+pub bounds-bytes-3 : goal.bounds-bytes-3
+bounds-bytes-3 c =
+    rw c.as_bytes-bytes.ensures.value (
+    ⊎_elim
+    (λ two. absurd (grind (arith, two.0, c.if-lead-ge240.true)))
+    (⊎_elim (λ three. absurd (grind (arith, three.1, c.if-lead-ge240.true))) (λ four. omega (arith, (boundary _ _ _ four.1.begins).0)))
+    (first_of c.args.text.now c.utf8.text c.requires.high)
+    )
+
+character : (c : Else-value-eq-NOTHING) → HasCode c.args.text.now c.if-lead-ge240.len.0 c.if-lead-ge240.len.1
 character c =
     let text = c.args.text.now in
     ⊎_elim
-    (λ two. let is : (c.if-lead-ge224.len.0 ≡ 2) × (c.if-lead-ge224.len.1 ≡ two_spell text) = grind (arith, two.0) in rw (is.0, is.1) two.1)
+    (λ two. let is : (c.if-lead-ge240.len.0 ≡ 2) × (c.if-lead-ge240.len.1 ≡ two_spell text) = grind (arith, two.0) in rw (is.0, is.1) two.1)
+    (⊎_elim
     (λ three.
-    let is : (c.if-lead-ge224.len.0 ≡ 3) × (c.if-lead-ge224.len.1 ≡ three_spell text) = grind (arith, three.0, (boundary _ _ _ three.1.begins).0) in
-    rw (is.0, is.1) three.1)
-    (first_of text c.utf8.text c.requires.high (grind arith))
+    let is : (c.if-lead-ge240.len.0 ≡ 3) × (c.if-lead-ge240.len.1 ≡ three_spell text) = grind (arith, three.0, three.1, (boundary _ _ _ three.2.begins).0) in
+    rw (is.0, is.1) three.2)
+    (λ four.
+    let is : (c.if-lead-ge240.len.0 ≡ 4) × (c.if-lead-ge240.len.1 ≡ four_spell text) = grind (arith, four.0, (boundary _ _ _ four.1.begins).0) in
+    rw (is.0, is.1) four.1))
+    (first_of text c.utf8.text c.requires.high)
 
 pub returns-clause-piece : goal.returns-clause-piece
 returns-clause-piece c =
     let here = character c in
     let valued = c.value-value.ensures.valued (ne_eqb _ 4 c.if-value-eq-NOTHING.false) in
     record {
-      chars = c.if-lead-ge224.len.1 ∷ [];
+      chars = c.if-lead-ge240.len.1 ∷ [];
       begins = here.begins;
       some = grind arith;
       within = c.value-value.ensures.within;

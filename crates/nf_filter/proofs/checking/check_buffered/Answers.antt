@@ -7,7 +7,7 @@ use Rattle.nf_filter.proofs.checking.check_buffered.Goals as goal
 pub survey-requires-clause-ready : goal.survey-requires-clause-ready
 survey-requires-clause-ready g c =
     let none = holds_nothing c.new.result.decoder c.new.ensures.decoder in
-    record { held = omega (arith, none); end = (c.new-2.ensures.place, omega (arith, none, c.new-2.ensures.offset, c.new.ensures.offset)) }
+    record { held = omega arith; end = (c.new-2.ensures.place, omega arith) }
 
 pub returns-clause-surveys : goal.returns-clause-surveys
 returns-clause-surveys g c =

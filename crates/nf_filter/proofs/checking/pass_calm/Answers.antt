@@ -9,15 +9,14 @@ unreachable-requires g c =
     let place = c.args.at + length c.args.calm.settled.now in
     let stopped = rw c.in_default.is at (c.take_text.ensures.takes place [] (new_checked (c.new-end.ensures.stands p) c.new-end.ensures.place) (omega arith)) in
     let none = unstopped p c.args._form c.requires.calm c.requires.some place in
-    let decided = rw (append-nil (chars c.args.calm.tail.now)) at (stopped []) in
-    cc
+    cc (rw (append-nil (chars c.args.calm.tail.now)) at (stopped []))
 
 pub overflow_add-count : goal.overflow_add-count
-overflow_add-count g c = omega (arith, c.requires.fits, c.char_count.ensures, c.char_count-2.ensures, few c.args.calm.settled.now (search rules), few c.args.calm.tail.now (search rules))
+overflow_add-count g c = omega (arith, few c.args.calm.settled.now (search rules), few c.args.calm.tail.now (search rules))
 
 pub go_on_from-requires-clause-fits : goal.go_on_from-requires-clause-fits
 go_on_from-requires-clause-fits g c =
-    omega (arith, (c.in-None.ensures.ready refl).1, c.new-end.ensures.offset, c.char_count.ensures, c.char_count-2.ensures, few c.args.calm.settled.now (search rules), few c.args.calm.tail.now (search rules))
+    omega (arith, (c.in-None.ensures.ready refl).1, few c.args.calm.settled.now (search rules), few c.args.calm.tail.now (search rules))
 
 pub returns-clause-sees : goal.returns-clause-sees
 returns-clause-sees g c = λ base x before.
@@ -27,9 +26,9 @@ returns-clause-sees g c = λ base x before.
     let end = chars c.args.calm.tail.now in
     let seen = c.in-None.ensures.takes place [] (new_checked (c.new-end.ensures.stands p) c.new-end.ensures.place) (omega arith) in
     let here : place ≡ base + length (encode_utf8_all (x ++ front)) =
-    omega (arith, c.requires.ready.1, before.stands.offset (ap is_some c.requires.ready.0), ap length (encodes-append x front), length-append (encode_utf8_all x) (encode_utf8_all front), ap length (encodes-chars c.args.calm.settled.now (search rules))) in
+    grind (arith, before.stands.offset (ap is_some c.requires.ready.0), encodes-append x front, length-append, encodes-chars c.args.calm.settled.now (search rules)) in
     record {
-      stands = c.go_on_from.ensures.stands base p x front end before.stands (omega (arith, c.char_count.ensures, c.char_count-2.ensures, length-append front end))
+      stands = c.go_on_from.ensures.stands base p x front end before.stands (omega (arith, length-append front end))
           (counts_from_end p c.args._form c.requires.calm c.requires.some) (rw here at seen.stands);
       none = c.go_on_from.ensures.none;
       sound = list_all-append (is_sound p) x (front ++ end) ∙ and_from _ _ before.sound c.requires.calm.sound;

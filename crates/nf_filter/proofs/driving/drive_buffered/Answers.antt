@@ -1,6 +1,6 @@
 use Rattle.nf_filter.proofs.Common.{◌++◌, ap}
 use Rattle.nf_filter.proofs.DriveLemmas.{Drives-refused, Drives-finished}
-use Rattle.nf_filter.proofs.AgainLemmas.{drives_to_end, drives_once}
+use Rattle.nf_filter.proofs.AgainLemmas.{drives_to_end}
 use Rattle.nf_filter.proofs.JoinedLemmas.{joins_pieces}
 use Rattle.nf_filter.proofs.driving.drive_buffered.Goals as goal
 
@@ -16,7 +16,7 @@ returns-clause-drives g c = λ policy f bytes stands.
 
 pub returns-clause-again : goal.returns-clause-again
 returns-clause-again g c = λ policy f bytes stands once.
-    drives_once c.what_was_finished_stays.ensures _ _ _ _ _ _ _ _ _ _ _ once c.in_default.ensures.end (returns-clause-drives g c policy f bytes stands)
+    drives_to_end c.finish.result (λ all tally _. c.what_was_finished_stays.ensures policy f _ _ all tally once) c.in_default.ensures.end (returns-clause-drives g c policy f bytes stands)
 
 pub returns-clause-joined : goal.returns-clause-joined
 returns-clause-joined g c = λ policy f bytes stands.

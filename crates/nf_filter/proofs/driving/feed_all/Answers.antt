@@ -21,7 +21,7 @@ returns-in-Err-feed-clause-feeds g c = λ policy f bytes stands.
     let piece = take c.in-Ok.given c.get.new.buf in
     let feeds = rw c.loop-given.invariant.base at ((rw (ap g.R.Rows.properties c.loop-given.invariant.rows) at (c.in-Err-feed.ensures.feeds policy f (bytes ++ fed.0))) so_far.stands) in
     FeedsAll-refused _ _ _ _ _ _ _ _ _ so_far _ _ _ _ _ _ _ (c.in-Ok.ensures.end ∙ ne_eqb c.in-Ok.given 0 c.if-given-eq0.false) (Consumes-trans _ _ _ fed.0 piece fed.1 c.in-Ok.ensures.given)
-    (omega (arith, length-take c.in-Ok.given c.get.new.buf, c.get.auto.buf, c.loop-given.invariant.room)) (λ e. rw (err_is e) at c.in-Err-feed.ensures.faults) c.in-Err-feed.ensures.too_long
+    (omega (arith, length-take c.in-Ok.given c.get.new.buf)) (λ e. rw (err_is e) at c.in-Err-feed.ensures.faults) c.in-Err-feed.ensures.too_long
     (λ e. ap g.S.Sink.state (c.in-Err-feed.ensures.kept (inr e)).1) feeds
 
 pub loop-given-preserved : goal.loop-given-preserved

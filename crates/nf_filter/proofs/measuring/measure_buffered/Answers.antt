@@ -9,7 +9,7 @@ pub survey-requires-clause-ready : goal.survey-requires-clause-ready
 survey-requires-clause-ready g c =
     let none = holds_nothing c.new.result.decoder c.new.ensures.decoder in
     let zero = ap (λ m. m.bytes) (c.new-2.ensures (g.R.Rows.properties c.args.rows.now)).values in
-    record { held = omega (arith, none); end = omega (arith, none, zero) }
+    record { held = omega arith; end = omega arith }
 
 pub returns-clause-surveys : goal.returns-clause-surveys
 returns-clause-surveys g c =

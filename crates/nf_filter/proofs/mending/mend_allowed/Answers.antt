@@ -10,9 +10,8 @@ returns-then-is_empty-clause-allowed g c =
 
 pub loop-front-smaller : goal.loop-front-smaller
 loop-front-smaller g c =
-    let text = c.mended_text.result.now in
     let front = c.split_allowed.result.0.now in
     let rest = c.split_allowed.result.1.now in
     let some : 0 < length rest = search rules in
-    let whole = front_len text (chars front) rest c.mended_text.utf8 (search rules) c.split_allowed.ensures.whole in
-    omega (arith, whole, some, ap length (encodes-chars front (search rules)), ap length c.mended_text.ensures, c.mend_front-len.ensures.within)
+    let whole = front_len c.mended_text.result.now (chars front) rest c.mended_text.utf8 (search rules) c.split_allowed.ensures.whole in
+    omega (arith, ap length (encodes-chars front (search rules)), ap length c.mended_text.ensures)

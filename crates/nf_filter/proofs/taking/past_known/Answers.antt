@@ -1,9 +1,17 @@
-use Rattle.nf_filter.proofs.PassedLemmas.{none_behind, front_behind}
+use Rattle.nf_filter.proofs.Common.{take, take-append-drop, IsUtf8-take}
+use Rattle.nf_filter.proofs.PassedLemmas.{none_behind}
 use Rattle.nf_filter.proofs.taking.past_known.Goals as goal
 
 pub returns-then-few-gt0-clause-behind : goal.returns-then-few-gt0-clause-behind
-returns-then-few-gt0-clause-behind g c = none_behind _ _ c.utf8.text
+returns-then-few-gt0-clause-behind g c = none_behind c.utf8.text
 
 pub returns-clause-behind : goal.returns-clause-behind
 returns-clause-behind g c =
-    front_behind _ _ _ c.utf8.text c.assigned_front-known.ensures.boundary c.assigned_front-known.ensures.assigned _ c.range_from.ensures.value c.range_from.utf8
+    let known = c.assigned_front-known.result in
+    record {
+      front = take known c.args.text.now;
+      split = rw (c.range_from.ensures.value, take-append-drop known c.args.text.now);
+      front_utf8 = IsUtf8-take _ _ c.utf8.text c.assigned_front-known.ensures.boundary;
+      rest_utf8 = c.range_from.utf8;
+      assigned = c.assigned_front-known.ensures.assigned;
+    }

@@ -32,17 +32,11 @@ returns-in-Err-feed_lines-clause-drives g c =
 pub loop-given-preserved : goal.loop-given-preserved
 loop-given-preserved g c =
     let read = c.loop-given.invariant.read in
-    let piece = take c.in-Ok.given c.get.new.buf in
     let feeds = c.in_default.ensures.feeds _ read.0 read.2 in
-    let all = rw (feeds.4 refl, append-nil) at feeds.2 in
     record {
       room = c.get.auto.buf ∙ c.loop-given.invariant.room;
       unspent = search rules;
-      read = (
-        feeds.0,
-        rw all (Consumes-trans _ _ _ (bytes_of read.0) piece read.1 c.in-Ok.ensures.given),
-        feeds.5,
-      );
+      read = (feeds.0, rw (rw (feeds.4 refl, append-nil) at feeds.2) (Consumes-trans _ _ _ (bytes_of read.0) (take c.in-Ok.given c.get.new.buf) read.1 c.in-Ok.ensures.given), feeds.5);
       lenders = (c.get.ensures.lender ∙ c.loop-given.invariant.lenders.0, c.feed_lines.ensures.lender ∙ c.loop-given.invariant.lenders.1);
     }
 
@@ -50,12 +44,10 @@ pub returns-in-Ok-finish-clause-drives : goal.returns-in-Ok-finish-clause-drives
 returns-in-Ok-finish-clause-drives g c =
     let read = c.loop-given.invariant.read in
     drives-finished c.lines_stand_alone.ensures read.2 (g.I.Source.state c.loop-given.source) c.get.new.buf (Ok c.in-Ok-finish.field-0)
-    c.if-given-eq0.true c.in-Ok.ensures.end (c.in-Ok.ensures.read_out c.if-given-eq0.true) read.1 c.in-Ok.ensures.given (λ e. cc)
-    (c.in-Ok-finish.ensures.finishes c.args.policy c.args.form read.0.rest (read.2.stands refl).2)
+    c.if-given-eq0.true c.in-Ok.ensures.end (c.in-Ok.ensures.read_out c.if-given-eq0.true) read.1 c.in-Ok.ensures.given (λ e. cc) c.in-Ok-finish.ensures.finishes
 
 pub returns-in-Err-finish-clause-drives : goal.returns-in-Err-finish-clause-drives
 returns-in-Err-finish-clause-drives g c =
     let read = c.loop-given.invariant.read in
     drives-finished c.lines_stand_alone.ensures read.2 (g.I.Source.state c.loop-given.source) c.get.new.buf (Err c.in-Err-finish.fault)
-    c.if-given-eq0.true c.in-Ok.ensures.end (c.in-Ok.ensures.read_out c.if-given-eq0.true) read.1 c.in-Ok.ensures.given (λ e. let long : c.in-Err-finish.fault ≡ TooLong = cc in rw long at c.in-Err-finish.ensures.faults)
-    (c.in-Err-finish.ensures.finishes c.args.policy c.args.form read.0.rest (read.2.stands refl).2)
+    c.if-given-eq0.true c.in-Ok.ensures.end (c.in-Ok.ensures.read_out c.if-given-eq0.true) read.1 c.in-Ok.ensures.given (λ e. let long : c.in-Err-finish.fault ≡ TooLong = cc in rw long at c.in-Err-finish.ensures.faults) c.in-Err-finish.ensures.finishes

@@ -1,7 +1,7 @@
 use Rattle.nf_lines.proofs.Common.{◌≡◌, true, refl, Form, Nfc, ucd, line_feed}
 use Rattle.ucd_table.specs.Rows.{in_ranges}
 use Rattle.nf_facts.specs.PlainRanges.{plain_ranges}
-use Rattle.nf_lines.proofs.WholeParts.{Reading}
+use Rattle.nf_lines.proofs.WholeLines.{Reading}
 use Rattle.nf_lines.proofs.AloneLemmas.{lines_alone}
 use Rattle.nf_lines.proofs.laws.lines_stand_alone.Goals as goal
 

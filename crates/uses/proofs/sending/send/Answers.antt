@@ -18,7 +18,7 @@ use Rattle.uses.proofs.sending.send.Goals as goal
 form_of : (f : Form) (p : Properties) (bytes : List ℕ) (old new : SinkState) (held holds : Option (List ℕ)) → old.taken ≡ held → new.taken ≡ holds
     → Reads bytes (text_of bytes) (ending_of bytes) → (r : Result Tally Fault) → Converts f p bytes old new r
     → OnOk r ((out : List ℕ) → held ≡ Some [] → holds ≡ Some out → IsFormOf f p bytes out)
-form_of f p bytes old new held holds was is reads (Ok tally) converts = λ out before after. IsFormOf-from f p bytes old new out (was ∙ before) (is ∙ after) tally reads converts
+form_of f p bytes old new held holds was is reads (Ok tally) converts = λ out before after. IsFormOf-from (was ∙ before) (is ∙ after) reads converts
 form_of f p bytes old new held holds was is reads (Err fault) converts = tt
 
 pub returns-clause-form : goal.returns-clause-form

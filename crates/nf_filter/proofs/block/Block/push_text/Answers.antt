@@ -4,19 +4,16 @@ use Rattle.nf_filter.proofs.BlockLemmas.{Broken-extends}
 use Rattle.nf_filter.proofs.block.Block.push_text.Goals as goal
 
 -- past an empty block
-whole : (start : Start) (now : BlockState) (w bytes : List ℕ) → now.kept ≡ [] → (written : Written start now w) → start.ahead ++ (w ++ bytes) ≡ written.given ++ bytes
-whole start now w bytes none written = rw (← append_assoc start.ahead w bytes, written.text, none, append-nil written.given)
-
-passed : (start : Start) (now : BlockState) (sink : SinkState) (w bytes : List ℕ) (r : Result (Unit {0}) Failed) → now.kept ≡ [] → Written start now w
+passed : (start : Start) (now : BlockState) (sink : SinkState) (w bytes : List ℕ) (r : Result (Unit {0}) Failed) → now.kept ≡ [] → (written : Written start now w) → start.ahead ++ (w ++ bytes) ≡ written.given ++ bytes
     → MatchResult r (λ _. Puts now.sink sink [] bytes) (λ _. BreaksOff now.sink sink [] bytes) → WritesOn start (record { sink = sink; kept = now.kept }) (w ++ bytes) r
-passed start now sink w bytes (Ok _) none written puts =
-    record { given = written.given ++ bytes; puts = Puts-behind refl written.puts puts; text = rw (none, append-nil (written.given ++ bytes)) (whole start now w bytes none written) }
-passed start now sink w bytes (Err _) none written breaks = BreaksOff-behind (whole start now w bytes none written) written.puts breaks
+passed start now sink w bytes (Ok _) none written whole puts = record { given = written.given ++ bytes; puts = Puts-behind refl written.puts puts; text = rw (none, append-nil (written.given ++ bytes)) whole }
+passed start now sink w bytes (Err _) none written whole breaks = BreaksOff-behind whole written.puts breaks
 
 pub returns-in-Err-clause-writes : goal.returns-in-Err-clause-writes
 returns-in-Err-clause-writes g c = λ start w written. Broken-extends _ (record { more = c.args.text.now; text = refl }) (c.in-Err.ensures.writes start w written)
 
 pub returns-clause-writes : goal.returns-clause-writes
 returns-clause-writes g c = λ start w written.
-    let puts = rw c.as_bytes-2.ensures.value at c.put_all.ensures.puts in
-    passed start _ _ w c.args.text.now c.put_all.result c.in_default.ensures.none (c.in_default.ensures.writes start w written) puts
+    let none = c.in_default.ensures.none in
+    let before = c.in_default.ensures.writes start w written in
+    passed start _ _ w c.args.text.now c.put_all.result none before (rw (← append_assoc start.ahead w c.args.text.now, before.text, none, append-nil before.given)) (rw c.as_bytes-2.ensures.value at c.put_all.ensures.puts)

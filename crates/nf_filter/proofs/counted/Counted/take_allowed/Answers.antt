@@ -1,4 +1,4 @@
-use Rattle.nf_filter.proofs.Common.{◌≡◌, ◌<◌, ◌∷◌, ◌++◌, length, ap, arith, rules, length-append, chars, encodes-chars}
+use Rattle.nf_filter.proofs.Common.{ℕ, ◌≡◌, ◌<◌, ◌∷◌, ◌++◌, length, ap, arith, rules, length-append, chars, encodes-chars}
 use Rattle.nf_filter.proofs.TakingLemmas.{front-whole}
 use Rattle.nf_filter.proofs.SteppingLemmas.{first-left, next_place}
 use Rattle.nf_filter.proofs.AllowingLemmas.{allowed-part, TakesAllowed-all, TakesAllowed-refused, TakesAllowed-unassigned}
@@ -21,7 +21,7 @@ returns-clause-takes g c = λ f place x start taken all here written.
     let a = c.split_allowed.result.0.now in
     let some = first-left c.split_allowed.result.1.now (search rules) (search rules) in
     let more : text ≡ chars a ++ some.0 ∷ some.1 = rw some.2 at c.split_allowed.ensures.whole in
-    let less : length (x ++ chars a) < length (x ++ text) = omega (arith, length-append x (chars a), length-append x text, ap length more, length-append (chars a) (some.0 ∷ some.1)) in
+    let less : length (x ++ chars a) < length (x ++ text) = omega (arith, length-append {A = ℕ}, ap length more) in
     let part = allowed-part _ _ _ c.split_allowed.ensures.whole c.split_allowed.ensures.front c.in_default.ensures.takes f place x start taken all here written in
     TakesAllowed-unassigned part.0 less (omega (arith, here (chars a) some.0 some.1 more, ap length (encodes-chars a (search rules)))) part.1
 
@@ -31,5 +31,4 @@ overflow_add-result g c =
     omega (arith, next_place _ _ _ c.requires.fits (search rules) (search rules) c.split_allowed.ensures.whole, ap length (encodes-chars a (search rules)))
 
 pub returns-then-is_empty-clause-chars : goal.returns-then-is_empty-clause-chars
-returns-then-is_empty-clause-chars g c =
-    rw (front-whole _ _ c.split_allowed.result.1.now c.split_allowed.ensures.whole (search rules)) at c.in_default.ensures.chars
+returns-then-is_empty-clause-chars g c = rw (front-whole _ _ c.split_allowed.result.1.now c.split_allowed.ensures.whole (search rules)) at c.in_default.ensures.chars

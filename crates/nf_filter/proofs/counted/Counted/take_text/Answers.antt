@@ -1,27 +1,19 @@
-use Rattle.nf_filter.proofs.Common.{[], ◌∷◌, ◌++◌, append_assoc, length-append, encode_utf8_all, length, rules, refl, ap, arith, ◌∙◌, chars, encodes-append}
-use Rattle.nf_filter.proofs.TakingLemmas.{front_len, front-more}
+use Rattle.nf_filter.proofs.Common.{[], ◌≡◌, ⊎_elim, sym, unusable_at-usable, ℕ, ◌∷◌, ◌++◌, append_assoc, length-append, length, rules, ap, arith, ◌∙◌, chars, encodes-append}
+use Rattle.nf_filter.proofs.TakingLemmas.{front_len, front-more, front-whole, nothing-left}
 use Rattle.nf_filter.proofs.TakerLemmas.{joined, placed-left, takes-none, takes-more}
-use Rattle.nf_filter.proofs.SteppingLemmas.{TakesOn-whole, next_place}
+use Rattle.nf_filter.proofs.SteppingLemmas.{next_place}
+use Rattle.nf_filter.proofs.TextLemmas.{usable_utf8-usable}
 use Rattle.nf_filter.proofs.counted.Counted.take_text.Goals as goal
 
 pub loop-rest-init : goal.loop-rest-init
-loop-rest-init g c = record {
-  utf8 = c.utf8.text;
-  left = omega arith;
-  gone = ([], refl);
-  within = c.requires.within.machine;
-  chars = refl;
-  put = omega arith;
-  stands = λ f place x start standing here. takes-none _ x c.args.text.now standing;
-  lender = refl;
-}
+loop-rest-init g c = search (arith, rules, takes-none)
 
 pub step-requires-clause-fits : goal.step-requires-clause-fits
 step-requires-clause-fits g c = λ front d more is.
     let gone = c.loop-rest.invariant.gone in
     let len = front_len c.args.text.now gone.0 c.loop-rest.rest.now c.utf8.text c.loop-rest.invariant.utf8 gone.1 in
     let all = c.requires.fits (gone.0 ++ front) d more (rw (is, ← append_assoc gone.0 front (d ∷ more)) at gone.1) in
-    omega (arith, all, len, ap length (encodes-append gone.0 front), length-append (encode_utf8_all gone.0) (encode_utf8_all front), c.loop-rest.invariant.left)
+    omega (arith, ap length (encodes-append gone.0 front), length-append {A = ℕ})
 
 pub loop-rest-preserved : goal.loop-rest-preserved
 loop-rest-preserved g c = record {
@@ -44,8 +36,21 @@ returns-in-Err-clause-takes g c = λ f place x start counted standing here.
     rw (joined before) at (c.in-Err.ensures.steps f place (x ++ before.front) start before.taken (placed-left before place c.args.at c.utf8.text c.loop-rest.invariant.utf8 here))
 
 pub returns-clause-takes : goal.returns-clause-takes
-returns-clause-takes g c = λ f place x start counted standing here.
-    TakesOn-whole (search rules) refl refl (omega (arith, counted, c.loop-rest.invariant.chars, c.char_count.ensures)) (c.loop-rest.invariant.stands f place x start standing here)
+returns-clause-takes g c = λ f place x start counted standing placed.
+    let text = c.args.text.now in
+    let rest = c.loop-rest.rest.now in
+    let p = g.R.Rows.properties c.args.rows.now in
+    let here = c.loop-rest.invariant.stands f place x start standing placed in
+    let none : length rest ≡ 0 = search rules in
+    let whole : x ++ here.front ≡ x ++ chars text = rw (front-whole text here.front rest here.is_front none) in
+    ⊎_elim
+    (λ inside. rw (← whole) (record {
+      writes = record { broken = λ e. cc; written = λ _. rw (← usable_utf8-usable p f (x ++ here.front) inside.taken.usable) (record { given = here.taken.given; puts = here.taken.puts; text = inside.holds.text }) };
+      fault = λ _. sym (unusable_at-usable p place (x ++ here.front) inside.taken.usable);
+      taken = record { machine = inside.taken; chars = omega (arith, c.char_count.ensures, length-append x (chars text), ap length whole); put = here.taken.put };
+    }))
+    (λ between. let begins : [] ≡ between.boundary.first ∷ between.boundary.rest = sym (nothing-left rest none) ∙ between.boundary.text in cc)
+    here.taken.stands
 
 pub overflow_add-place : goal.overflow_add-place
 overflow_add-place g c =

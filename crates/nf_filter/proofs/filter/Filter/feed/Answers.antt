@@ -9,12 +9,11 @@ returns-in-Ok-clause-feeds g c = λ policy f bytes stands short.
 pub returns-in-Ok-clause-stands : goal.returns-in-Ok-clause-stands
 returns-in-Ok-clause-stands g c = λ policy f bytes stands.
     let both = c.in-Ok.ensures.feeds f c.args.self.now.state.base bytes (read_before stands) (no_fault_before stands) in
-    let feeds = both.0 in
     record {
       unspent = stands.unspent;
       policy_is = stands.policy_is;
       reading = rw (← stands.policy_is) both.1;
-      no_fault = rw (← stands.policy_is) (sym (feeds.answer (λ e. cc)));
+      no_fault = rw (← stands.policy_is) (sym (both.0.answer (λ e. cc)));
     }
 
 pub returns-in-Err-clause-feeds : goal.returns-in-Err-clause-feeds

@@ -6,7 +6,7 @@ use Rattle.nf_filter.proofs.filter.Filter.held.Goals as goal
 pub returns-clause-bytes : goal.returns-clause-bytes
 returns-clause-bytes g c = λ policy f bytes stands.
     let read = stands.reading in
-    omega (arith, taken-len c.replacing.ensures stands, c.carried.ensures.behind read.tail read.decoder, StandsAfter-offset stands, read.offset)
+    omega (arith, taken-len c.replacing.ensures stands, StandsAfter-offset stands)
 
 pub returns-clause-pending : goal.returns-clause-pending
 returns-clause-pending g c = λ policy f bytes stands.

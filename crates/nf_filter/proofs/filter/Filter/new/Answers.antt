@@ -1,11 +1,10 @@
-use Rattle.nf_filter.proofs.Common.{refl, arith}
+use Rattle.nf_filter.proofs.Common.{refl, arith, rules}
 use Rattle.nf_filter.proofs.ReadingLemmas.{holds_nothing}
 use Rattle.nf_filter.proofs.StandingLemmas.{StandsAfter-none}
 use Rattle.nf_filter.proofs.filter.Filter.new.Goals as goal
 
 pub invariant_of-result-clause-ready : goal.invariant_of-result-clause-ready
-invariant_of-result-clause-ready g c = λ _. record { held = omega (arith, holds_nothing c.new.result.decoder c.new.ensures.decoder); end = (c.new-3.ensures.within, omega (arith, c.new-3.ensures.chars)) }
+invariant_of-result-clause-ready g c = λ _. search (arith, rules, holds_nothing)
 
 pub returns-clause-stands : goal.returns-clause-stands
-returns-clause-stands g c =
-    StandsAfter-none _ refl refl c.new.ensures.offset c.new.ensures.decoder (c.new-3.ensures.taken c.args.form _ (c.new-2.ensures.taken _))
+returns-clause-stands g c = StandsAfter-none _ refl refl c.new.ensures.offset c.new.ensures.decoder (c.new-3.ensures.taken c.args.form _ (c.new-2.ensures.taken _))

@@ -1,7 +1,7 @@
 use Rattle.std.proofs.lemmas.Bool.{not-false}
 use Rattle.nf_filter.proofs.Common.{refl, length, arith, ap, take_rest}
 use Rattle.nf_filter.proofs.TakingLemmas.{HasPlaces-all}
-use Rattle.nf_filter.proofs.MendingLemmas.{mended-read, mended-refused}
+use Rattle.nf_filter.proofs.ChunkLemmas.{mended-read, mended-refused}
 use Rattle.nf_filter.proofs.reading.Reading.read_mended.Goals as goal
 
 pub take_text-requires-clause-fits : goal.take_text-requires-clause-fits

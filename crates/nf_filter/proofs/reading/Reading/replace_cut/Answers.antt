@@ -1,14 +1,43 @@
-use Rattle.nf_filter.proofs.Common.{settled_utf8}
-use Rattle.nf_filter.proofs.BlockLemmas.{Written-none}
-use Rattle.nf_filter.proofs.CutLemmas.{cut-none, cut-closed}
+use Rattle.nf_filter.proofs.Common.{append-nil, eq-eqb, ne_eqb, begun_at_end, ◌≡◌, true, ◌++◌, None, sym, ◌∙◌, arith, ⊎_elim, text_of, replacement, allowed, whole_under, is_usable, settled_utf8}
+use Rattle.nf_filter.proofs.WritesLemmas.{Puts-none}
+use Rattle.nf_filter.proofs.BlockLemmas.{start_at, Written-none}
+use Rattle.nf_filter.proofs.FilterLemmas.{write_or_kept}
+use Rattle.nf_filter.proofs.PolicyLemmas.{first_fault-none, taken-all}
+use Rattle.nf_filter.proofs.PieceLemmas.{place_in, begun_at_end-begun}
+use Rattle.nf_filter.proofs.ChunkLemmas.{one_placed}
+use Rattle.nf_filter.proofs.FedLemmas.{read-settled, read-place, whole_is}
 use Rattle.nf_filter.proofs.reading.Reading.replace_cut.Goals as goal
 
 pub returns-then-carried-eq0-clause-cut : goal.returns-then-carried-eq0-clause-cut
 returns-then-carried-eq0-clause-cut g c = λ f base bytes read replaces.
-    cut-none c.replacing.ensures read replaces _ (c.carried-carried.ensures.behind read.tail read.decoder) _ c.if-carried-eq0.true
+    let p = g.R.Rows.properties c.args.rows.now in
+    let policy = c.args.policy in
+    let whole = whole_under policy.replace bytes in
+    let begun : begun_at_end read.tail ≡ 0 = omega (arith, begun_at_end-begun c.replacing.ensures read.tail read.decoder.begins) in
+    let is : whole ≡ read.before ++ text_of read.tail = rw (eq-eqb _ 0 begun) at (whole_is c.replacing.ensures read replaces) ∙ append-nil (read.before ++ text_of read.tail) in
+    let sound : is_usable p whole ≡ true = rw is read.taken.machine.usable in
+    let all : allowed policy.assigned p whole ≡ whole = rw is read.allowed in
+    record {
+      broken = λ e. cc;
+      puts = λ _. rw (taken-all p policy.assigned whole sound all, is, read-settled c.replacing.ensures read) (Puts-none _ _);
+      fault = λ _. sym (first_fault-none p policy.assigned (place_in policy.replace base bytes) whole None sound all);
+      taken = (rw is read.taken, all);
+    }
 
 pub returns-clause-cut : goal.returns-clause-cut
 returns-clause-cut g c = λ f base bytes read replaces.
-    let written = Written-none (settled_utf8 c.args.policy f (g.R.Rows.properties c.args.rows.now) bytes) c.new-block.ensures.empty in
-    cut-closed c.replacing.ensures read replaces _ (c.carried-carried.ensures.behind read.tail read.decoder) c.if-carried-eq0.false
-    _ _ written c.take_one-taken.ensures.takes (c.close.ensures.gives _)
+    let laws = c.replacing.ensures in
+    let carried = c.carried-carried.ensures.behind read.tail read.decoder in
+    let place = place_in c.args.policy.replace base bytes in
+    let text = read.before ++ text_of read.tail in
+    let start = start_at (g.S.Sink.state c.args.sink.now) (settled_utf8 c.args.policy f (g.R.Rows.properties c.args.rows.now) bytes) in
+    let begun : ¬ (begun_at_end read.tail ≡ 0) = λ e. c.if-carried-eq0.false (omega (arith, begun_at_end-begun laws read.tail read.decoder.begins, carried)) in
+    let here = rw (← rw (ne_eqb _ 0 begun) at (whole_is laws read replaces)) at
+    (c.take_one-taken.ensures.takes f place text start read.taken read.allowed (one_placed place _ text replacement (omega (arith, read-place laws read, carried))) (rw (read-settled laws read) (Written-none _ c.new-block.ensures.empty))) in
+    let closed = c.close.ensures.gives _ _ here.writes in
+    record {
+      broken = closed.broken;
+      puts = λ not. (closed.given not).0;
+      fault = λ not. rw (closed.given not).1 (here.fault (λ e. not ((closed.given not).1 ∙ e)));
+      taken = ⊎_elim (λ e. rw e tt) (λ not. rw (closed.given not).1 here.taken) (write_or_kept c.close.result);
+    }

@@ -1,10 +1,10 @@
-use Rattle.nf_filter.proofs.Common.{encodes-append, ◌≡◌, ℕ, ◌+◌, List, ◌++◌, [], length, rules, IsUtf8, chars, encode_utf8_all, encodes-chars, None, Some, Err, refl, sym, ap, ◌∙◌, arith, append-nil, length-append, option_map, text_of}
-use Rattle.nf_filter.proofs.ReadingLemmas.{ends_well, ends_badly, all_behind, ready_after, begins_at, decided_then}
+use Rattle.nf_filter.proofs.Common.{encodes-append, ◌≡◌, ℕ, ◌+◌, List, ◌++◌, [], length, rules, IsUtf8, chars, encode_utf8_all, encodes-chars, None, Some, Err, sym, ap, ◌∙◌, arith, append-nil, length-append, option_map, text_of}
+use Rattle.nf_filter.proofs.ReadingLemmas.{ends_well, ends_badly, all_behind, begins_at, decided_then}
 use Rattle.nf_filter.proofs.text_reader.TextReaderSurveyor.take.Goals as goal
 
 -- where the text behind the first character begins
 begins : (at base : ℕ) (x first : List ℕ) → IsUtf8 first → at ≡ base + length (encode_utf8_all x) → at + length first ≡ base + length (encode_utf8_all (x ++ chars first))
-begins at base x first utf8 here = omega (arith, here, ap length (encodes-append x (chars first)), length-append (encode_utf8_all x) (encode_utf8_all (chars first)), ap length (encodes-chars first utf8))
+begins at base x first utf8 here = grind (arith, encodes-append x (chars first), length-append, encodes-chars first utf8)
 
 pub returns-in-Some-take_text-2-clause-decides : goal.returns-in-Some-take_text-2-clause-decides
 returns-in-Some-take_text-2-clause-decides g c = λ survey bytes before short.
@@ -12,7 +12,7 @@ returns-in-Some-take_text-2-clause-decides g c = λ survey bytes before short.
     let here = begins_at before c.carried.result (c.carried.ensures.behind bytes before.decoder) in
     let taken = c.in_default-take_text.ensures.takes survey.base (text_of bytes) before.taken here in
     let decided = c.in-Some-take_text-2.ensures.takes survey.base _ taken (begins _ survey.base _ _ (search rules) here) in
-    (sym (decided_then took before (Some c.in-Some-take_text-2.answer) (rw (sym c.encoded-first.ensures.text) (ap (g.T.Taker.decides _ survey.base) (sym (append-nil _)) ∙ decided []))), λ none. cc)
+    (sym (decided_then before took (Some c.in-Some-take_text-2.answer) (rw (← c.encoded-first.ensures.text) (rw append-nil at (decided [])))), λ none. cc)
 
 pub returns-in-Bad-clause-decides : goal.returns-in-Bad-clause-decides
 returns-in-Bad-clause-decides g c = λ survey bytes before short.
@@ -20,21 +20,14 @@ returns-in-Bad-clause-decides g c = λ survey bytes before short.
     let here = begins_at before c.carried.result (c.carried.ensures.behind bytes before.decoder) in
     let taken = c.in_default-take_text-2.ensures.takes survey.base _ (c.in_default-take_text.ensures.takes survey.base (text_of bytes) before.taken here) (begins _ survey.base _ _ (search rules) here) in
     let bad = ends_badly _ _ survey.base _ _ c.in-Bad.back before.offset (rw c.in-Bad.is at took.ends) in
-    (sym (decided_then took before None (rw (sym c.encoded-first.ensures.text) (g.met.T.Taker.undecided _ _ survey.base _ taken)) ∙ ap (option_map Err) bad), λ none. cc)
-
-pub returns-clause-goes_on : goal.returns-clause-goes_on
-returns-clause-goes_on g c = λ _. (
-  ready_after c.args.self.now.reading.decoder c.args.piece.now c.take-chunk.result c.args.self.now.reading.offset c.carried.result c.in_default-piece_end.not-Bad c.take-chunk.ensures.counts c.carried.ensures.count c.requires.held
-      (omega (arith, c.in-Some.ensures)) (rw (sym c.encoded-first.ensures.len) (c.in_default-take_text-2.ensures.ready refl)),
-  omega (arith, c.in-Some.ensures),
-)
+    (sym (decided_then before took None (rw (sym c.encoded-first.ensures.text) (g.met.T.Taker.undecided _ _ survey.base _ taken)) ∙ ap (option_map Err) bad), λ none. cc)
 
 pub returns-clause-decides : goal.returns-clause-decides
 returns-clause-decides g c = λ survey bytes before short.
     let took = c.take-chunk.ensures.takes bytes before.decoder in
     let here = begins_at before c.carried.result (c.carried.ensures.behind bytes before.decoder) in
     let taken = rw c.encoded-first.ensures.text at (c.in_default-take_text-2.ensures.takes survey.base _ (c.in_default-take_text.ensures.takes survey.base (text_of bytes) before.taken here) (begins _ survey.base _ _ (search rules) here)) in
-    let undecided = decided_then took before None (g.met.T.Taker.undecided _ _ survey.base _ taken)
+    let undecided = decided_then before took None (g.met.T.Taker.undecided _ _ survey.base _ taken)
     ∙ ap (option_map Err) (ends_well bytes c.args.piece.now _ survey.base c.in_default-piece_end.not-Bad took.ends) in (
       sym undecided,
       λ _. record {

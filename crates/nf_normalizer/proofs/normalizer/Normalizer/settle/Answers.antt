@@ -1,5 +1,5 @@
-use Rattle.nf_normalizer.proofs.Common.{rules, [], ◌∙◌, append-nil, encode_utf8_all, is_usable-none}
-use Rattle.nf_normalizer.proofs.RoomLemmas.{Holds-at, Holds-more}
+use Rattle.nf_normalizer.proofs.Common.{rules, [], append-nil, is_usable-none}
+use Rattle.nf_normalizer.proofs.PushingLemmas.{Holds-more}
 use Rattle.nf_normalizer.proofs.CharacterLemmas.{settled_text-rest}
 use Rattle.nf_normalizer.proofs.normalizer.Normalizer.settle.Goals as goal
 
@@ -9,9 +9,7 @@ returns-then-is_empty-clause-anew g c = λ f x taken.
 
 pub returns-then-is_empty-clause-settles : goal.returns-then-is_empty-clause-settles
 returns-then-is_empty-clause-settles g c = λ f x start taken holds.
-    let p = g.R.Rows.properties c.args.rows.now in
-    let all = (c.is_empty.ensures.none c.if-is_empty.true f p _ taken.pending).1 in
-    rw (← settled_text-rest p f x [] (append-nil _ ∙ all), append-nil) holds
+    rw (← settled_text-rest (g.R.Rows.properties c.args.rows.now) f x [] (rw append-nil (c.is_empty.ensures.none c.if-is_empty.true f _ _ taken.pending).1), append-nil) holds
 
 pub returns-clause-anew : goal.returns-clause-anew
 returns-clause-anew g c = λ f x taken.
@@ -19,5 +17,4 @@ returns-clause-anew g c = λ f x taken.
 
 pub returns-clause-settles : goal.returns-clause-settles
 returns-clause-settles g c = λ f x start taken holds.
-    let whole = settled_text-rest (g.R.Rows.properties c.args.rows.now) f x c.restart-held.result.items (c.restart-held.ensures.settles f _ taken.pending) in
-    Holds-at whole (Holds-more (encode_utf8_all c.restart-held.result.items) (rw c.as_slice.ensures.value at c.put_utf8.ensures.text) holds)
+    rw (settled_text-rest _ f x c.restart-held.result.items (c.restart-held.ensures.settles f _ taken.pending)) at (Holds-more _ (rw c.as_slice.ensures.value at c.put_utf8.ensures.text) holds)
