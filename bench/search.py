@@ -90,7 +90,7 @@ class Search:
 
     def __init__(self, command: list[str], random: Random, others: list[bytes]):
         self.command, self.random = command, random
-        # Without --replace nothing goes on behind bytes that are no text, and check stops where it finds a place.
+        # Without --replace nothing goes on after bytes that are no text, and check stops where it finds a place.
         self.others = others if "--replace" in command else [kind for kind in others if is_text(kind)]
         self.start = counted(command, b"")[0]
         self.found: dict[Unit, Found] = {}

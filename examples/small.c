@@ -171,7 +171,7 @@ int main(void) {
   must(nf_check(text, 76, &moved) == NF_DONE && moved.read == 76, "safe");
   must(nf_check((const uint8_t *)"ab\xff", 3, &moved) == NF_BAD_BYTE && moved.at == 2, "check a bad byte");
   must(nf_check((const uint8_t *)"ab\xc3", 3, &moved) == NF_CUT && moved.at == 3 && moved.start == 2, "check a cut");
-  /* Each form is in itself. NFC composes the e at byte 8, and NFD puts the marks behind it in order. */
+  /* Each form is in itself. NFC composes the e at byte 8, and NFD puts the marks after it in order. */
   for (uint32_t form = NF_NFC; form <= NF_NFKD; form++) {
     due_len = run(form, text, len, len, sizeof due / 2, due);
     must(nf_check_form(form, NF_ASSIGNED, due, due_len, &moved) == NF_DONE && moved.read == due_len && moved.at == 0, "in the form");

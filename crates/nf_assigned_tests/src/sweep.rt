@@ -11,7 +11,7 @@ pub(crate) fn is_assigned(c: char) -> bool {
     GeneralCategory::for_char(c) != GeneralCategory::Unassigned
 }
 
-/// The front ends right before a character that is not told to be assigned, and each that is unassigned is such; behind the
+/// The front ends right before a character that is not told to be assigned, and each that is unassigned is such; after the
 /// others it goes on to the last 64 bytes. The place in a block is another for each.
 #[test]
 fn no_unassigned_character_is_passed_over(rt: HostRuntime) -> Result<(), Fail> {

@@ -5,9 +5,9 @@ use Rattle.nf_forms.specs.Laws.Settling.{closed_off}
 use Rattle.nf_forms.specs.Audit.{IsFull, AreOwnMarks}
 use Rattle.nf_forms.specs.Order.{by_class}
 use Rattle.nf_forms.specs.Laws.Runs.{lead-le-length, trail-le-length, trail-append, trail-push, longest-append}
-use Rattle.nf_forms.specs.Laws.Order.{order-behind, has_starter-by_class}
+use Rattle.nf_forms.specs.Laws.Order.{order-after, has_starter-by_class}
 use Rattle.nf_forms.specs.Laws.Ordering.{order-ordered}
-use Rattle.nf_forms.specs.Laws.Compose.{compose-behind}
+use Rattle.nf_forms.specs.Laws.Compose.{compose-after}
 use Rattle.nf_forms.specs.Laws.Parting.{arranged-boundary}
 use Rattle.nf_boundary.proofs.LetterLemmas.{appended}
 use Rattle.nf_boundary.proofs.JoinLemmas.{class_of}
@@ -15,8 +15,8 @@ use Rattle.nf_boundary.proofs.JoinLemmas.{class_of}
 -- a starter and non-starters: they are put in order, and composed
 arranged-marked : (p : Properties) (s : ℕ) (run : List ℕ) → is_starter p s ≡ true → has_starter p run ≡ false → (b : Bool) → arranged b p (s ∷ run) ≡ closed_off p b (Some s) (by_class p run)
 arranged-marked p s run starts plain b =
-    let ordered = order-behind p (s ∷ []) run (trail-push p [] s ∙ cond-true _ _ _ starts) plain in
-    grind (arith, ordered, order-ordered p (s ∷ []) refl, compose-behind p [] (s ∷ []) (by_class p run) (grind arith) (has_starter-by_class p run))
+    let ordered = order-after p (s ∷ []) run (trail-push p [] s ∙ cond-true _ _ _ starts) plain in
+    grind (arith, ordered, order-ordered p (s ∷ []) refl, compose-after p [] (s ∷ []) (by_class p run) (grind arith) (has_starter-by_class p run))
 
 module _ (f : Form) where
   -- a starter alone
@@ -27,7 +27,7 @@ module _ (f : Form) where
       record { done = []; run = []; text = text; starts = starts; no_starter = refl; held = alone; formed = rw (none, append-nil); parted = λ v. rw none }
 
   module _ (w : List ℕ) (starter : ℕ) (marks : List Mark) (before now : List ℕ) (here : Becomes f w starter marks before now) where
-    -- a non-starter more, behind those of no greater class
+    -- a non-starter more, after those of no greater class
     pub becomes_marked : (c class : ℕ) → class ≡ canonical_combining_class c → class ≢ 0 → (marks' : List Mark)
         → (is_rising marks ≡ true → marks' ≡ insert marks (prefix_len (λ m. leb m.class class) marks) (record { character = c; class = class })) → Becomes f (w ++ c ∷ []) starter marks' before now
     becomes_marked c class is some marks' inserted =

@@ -9,12 +9,12 @@ pub use Rattle.std.specs.List.{prefix_len, list_any, flat_map}
 pub use Rattle.std.proofs.lemmas.List.Folds.{list_any_at, list_any-append}
 pub use Rattle.nf_facts.specs.KitForm.{kit_form}
 pub use Rattle.nf_facts.specs.Passing.{passes_check, halfwidth_marks, is_among, vowel_signs}
-pub use Rattle.nf_forms.specs.Calm.{IsCalm, IsMark}
-pub use Rattle.nf_forms.specs.Closed.{HasForm, BeginsAtBoundary}
+pub use Rattle.nf_forms.specs.Span.{IsSpan, IsMark}
+pub use Rattle.nf_forms.specs.Segments.{HasForm, BeginsAtBoundary}
 pub use Rattle.nf_forms.specs.Cluster.{IsOwnRow, AreClusters, IsCluster}
 pub use Rattle.nf_forms.specs.Compose.{composite, join, joined, replaced}
 pub use Rattle.nf_forms.specs.Forms.{row_of, composes, decomposed, finished, arranged}
-pub use Rattle.nf_forms.specs.Laws.ClosedForms.{HasForm-calm, HasForm-row, calm-front, counts_anew-lead, parting-boundary, boundary-decomposing}
+pub use Rattle.nf_forms.specs.Laws.SegmentForms.{HasForm-span, HasForm-row, span-front, counts_anew-lead, parting-boundary, boundary-decomposing}
 pub use Rattle.nf_forms.specs.Laws.Cluster.{HasForm-cluster, cluster-joined, cluster-one, row-own, cluster-left, cluster-next}
 pub use Rattle.nf_forms.specs.Laws.Sound.{IsSoundText, IsSound-from_test}
 pub use Rattle.nf_forms.specs.Parting.{BeginsAnew, IsBoundary, IsParting, NeverSecond}

@@ -10,9 +10,9 @@ use Rattle.nf_boundary.proofs.BecomesLemmas.{becomes_one, leaves_more}
 pub take_next : (row : List ℕ) (i c : ℕ) → i < length row → c ≡ get_or row i c → take (i + 1) row ≡ take i row ++ c ∷ []
 take_next row i c within is = rw is (take_more row i c within)
 
--- behind its first member
-pub take_behind : (row : List ℕ) (s : ℕ) (others : List ℕ) → row ≡ s ∷ others → (i c : ℕ) → i < length others → c ≡ get_or others i c → take (i + 1 + 1) row ≡ take (i + 1) row ++ c ∷ []
-take_behind row s others is i c within read = rw is (take_next (s ∷ others) (i + 1) c (omega arith) (rw add-one read))
+-- after its first member
+pub take_after : (row : List ℕ) (s : ℕ) (others : List ℕ) → row ≡ s ∷ others → (i c : ℕ) → i < length others → c ≡ get_or others i c → take (i + 1 + 1) row ≡ take (i + 1) row ++ c ∷ []
+take_after row s others is i c within read = rw is (take_next (s ∷ others) (i + 1) c (omega arith) (rw add-one read))
 
 module _ (f : Form) (first : Seen) (at : IsAtBoundary f first) where
   -- a first that is its own row
@@ -28,15 +28,15 @@ module _ (f : Form) (first : Seen) (at : IsAtBoundary f first) where
     -- one more
     pub fills_more : (piece' : Piece) → ((w before now : List ℕ) → Becomes f w piece.starter piece.run.items before now → Becomes f (w ++ row_of f ucd seen.character) piece'.starter piece'.run.items before now)
         → ((cs : List ℕ) → Leaves cs piece.room → Leaves (cs ++ seen.character ∷ []) piece'.room)
-        → (next : Seen) → next.text.now ≡ seen.behind.now → Sees f next → Fills f first next piece' before now
+        → (next : Seen) → next.text.now ≡ seen.after.now → Sees f next → Fills f first next piece' before now
     fills_more piece' becomes leaves next is sees =
         let split = split_more first.text.now seen.text.now next.text.now here.front (seen.character ∷ []) here.split (split_seen f seen here.sees next.text.now is) in
         grind (arith, begins_more f here.front (seen.character ∷ []) here.begins, decomposed-push ucd f here.front seen.character, becomes (decomposed f ucd here.front) before now here.becomes, leaves here.front here.leaves)
 
     -- and then a boundary
-    pub fills_closed : ((x : List ℕ) → IsSoundText ucd x) → (behind : Seen) → behind ≡ seen → IsAtBoundary f behind
-        → (new : List ℕ) → ((w before : List ℕ) → Becomes f w piece.starter piece.run.items before now → new ≡ before ++ encode_utf8_all (finished f ucd w)) → Closes f first.text.now behind before new
-    fills_closed sound behind same at_behind new closed = grind (arith, sound here.front, stream_safe-short ucd here.front here.leaves.longest, closed (decomposed f ucd here.front) before here.becomes)
+    pub fills_segments : ((x : List ℕ) → IsSoundText ucd x) → (after : Seen) → after ≡ seen → IsAtBoundary f after
+        → (new : List ℕ) → ((w before : List ℕ) → Becomes f w piece.starter piece.run.items before now → new ≡ before ++ encode_utf8_all (finished f ucd w)) → Closes f first.text.now after before new
+    fills_segments sound after same at_after new closed = grind (arith, sound here.front, stream_safe-short ucd here.front here.leaves.longest, closed (decomposed f ucd here.front) before here.becomes)
 
 -- ---- a non-starter more, or a character whose row is of non-starters
 

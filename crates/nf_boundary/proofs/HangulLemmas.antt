@@ -34,10 +34,10 @@ module _ (starter : (c : ℕ) → 0x1100 ≤ c → c < 0x1200 → canonical_comb
         let made = joins _ _ _ open_cluster (omega arith) t lvt (omega arith) (omega arith) (compose_hangul-lvt lv t lvt three) in
         record { front = v ∷ t ∷ []; count = 3; split = rw (e, g, append-nil, append_assoc); made = made }
 
--- where a boundary comes behind it, it is closed
+-- where a boundary comes after it, it is closed
 pub closes_syllable : (f : Form) (first : Seen) → IsAtBoundary f first → composes f ≡ true → ((x : List ℕ) → IsSoundText ucd x)
-    → (rest : List ℕ) (syllable : ℕ) → Spells first.character first.behind.now rest syllable → (next : Seen) → next.text.now ≡ rest → IsAtBoundary f next
+    → (rest : List ℕ) (syllable : ℕ) → Spells first.character first.after.now rest syllable → (next : Seen) → next.text.now ≡ rest → IsAtBoundary f next
     → (old new : List ℕ) → new ≡ old ++ encode_utf8_all (syllable ∷ []) → Closes f first.text.now next old new
-closes_syllable f first at composing sound rest syllable letters next is behind old new formed =
-    let split = split_more first.text.now first.behind.now rest (first.character ∷ []) letters.front (split_seen f first at.sees first.behind.now refl) letters.split in
+closes_syllable f first at composing sound rest syllable letters next is after old new formed =
+    let split = split_more first.text.now first.after.now rest (first.character ∷ []) letters.front (split_seen f first at.sees first.after.now refl) letters.split in
     grind (arith, HasForm-cluster ucd f composing _ _ _ _ _ _ letters.made (grind arith) (sound (first.character ∷ letters.front)))

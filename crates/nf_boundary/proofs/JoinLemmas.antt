@@ -80,20 +80,20 @@ joins_both text middle rest a b c first second =
 -- ---- the characters from one boundary to the next
 
 module _ (f : Form) (first : Seen) (at : IsAtBoundary f first) where
-  pub gathers_first : (one cluster : Cluster) (next : Seen) (rest formed : List ℕ) → AreMadeOf [] (first.character ∷ []) one → JoinsFront first.behind.now rest one cluster → next.text.now ≡ rest → Sees f next
+  pub gathers_first : (one cluster : Cluster) (next : Seen) (rest formed : List ℕ) → AreMadeOf [] (first.character ∷ []) one → JoinsFront first.after.now rest one cluster → next.text.now ≡ rest → Sees f next
       → Gathers f first next cluster formed formed
   gathers_first one cluster next rest formed made letters is sees =
-      let split = split_more first.text.now first.behind.now rest (first.character ∷ []) letters.front (split_seen f first at.sees first.behind.now refl) letters.split in
+      let split = split_more first.text.now first.after.now rest (first.character ∷ []) letters.front (split_seen f first at.sees first.after.now refl) letters.split in
       grind (arith, append-nil, letters.joins [] (first.character ∷ []) made)
 
   module _ (cluster : Cluster) (seen : Seen) (old new : List ℕ) (here : Gathers f first seen cluster old new) where
-    pub gathers_more : (cluster' : Cluster) (next : Seen) (new' : List ℕ) → Joins seen.character cluster cluster' new new' → next.text.now ≡ seen.behind.now → Sees f next
+    pub gathers_more : (cluster' : Cluster) (next : Seen) (new' : List ℕ) → Joins seen.character cluster cluster' new new' → next.text.now ≡ seen.after.now → Sees f next
         → Gathers f first next cluster' old new'
     gathers_more cluster' next new' more is sees =
         let split = split_more first.text.now seen.text.now next.text.now here.front (seen.character ∷ []) here.split (split_seen f seen here.sees next.text.now is) in
         let formed = appended old here.done more.more new new' here.formed more.formed in
         grind (arith, begins_more f here.front (seen.character ∷ []) here.begins, more.joins here.done here.front here.made)
 
-    pub gathers_closed : composes f ≡ true → ((x : List ℕ) → IsSoundText ucd x) → IsAtBoundary f seen → (new' : List ℕ) → new' ≡ new ++ encode_utf8_all (cluster.starter ∷ cluster.left.items) → Closes f first.text.now seen old new'
-    gathers_closed composing sound behind new' formed =
+    pub gathers_segments : composes f ≡ true → ((x : List ℕ) → IsSoundText ucd x) → IsAtBoundary f seen → (new' : List ℕ) → new' ≡ new ++ encode_utf8_all (cluster.starter ∷ cluster.left.items) → Closes f first.text.now seen old new'
+    gathers_segments composing sound after new' formed =
         grind (arith, HasForm-cluster ucd f composing _ _ _ _ _ _ here.made here.begins (sound here.front), appended old here.done (cluster.starter ∷ cluster.left.items) new new' here.formed formed)

@@ -1,8 +1,8 @@
--- A text closed piece by piece: its calm part, a piece more, and the front that comes of it.
+-- A text closed piece by piece: its span, a piece more, and the front that comes of it.
 use Rattle.std.proofs.Common.{◌≡◌, ◌≢◌, ◌⊎◌, inl, inr, ℕ, ◌<◌, ◌-◌, List, [], ◌∷◌, ◌++◌, length, take, refl, sym, ap, ◌∙◌, arith, append_assoc, append-nil, length-append, take_at, IsCharBoundary}
-use Rattle.nf_boundary.proofs.Common.{chars-nil, chars-append, chars_from_encodes, encodes-chars, length-le-encodes, IsUtf8-take, IsCharBoundary-at_seam, Form, IsCalm, HasForm, ucd, IsSoundText, HasForm-calm, Seen, IsAtBoundary, Closes, Reaches, chars, encode_utf8_all, IsUtf8}
-use Rattle.nf_forms.specs.Laws.Closed.{HasForm-append}
-use Rattle.nf_boundary.specs.Front.{IsClosedFront}
+use Rattle.nf_boundary.proofs.Common.{chars-nil, chars-append, chars_from_encodes, encodes-chars, length-le-encodes, IsUtf8-take, IsCharBoundary-at_seam, Form, IsSpan, HasForm, ucd, IsSoundText, HasForm-span, Seen, IsAtBoundary, Closes, Reaches, chars, encode_utf8_all, IsUtf8}
+use Rattle.nf_forms.specs.Laws.Segments.{HasForm-append}
+use Rattle.nf_boundary.specs.Front.{IsFirstSegments}
 use Rattle.nf_boundary.specs.Stands.{Stands}
 use Rattle.nf_boundary.proofs.LetterLemmas.{appended, split_more}
 use Rattle.nf_boundary.proofs.SeenLemmas.{chars-seen}
@@ -17,16 +17,16 @@ module _ (text a b : List ℕ) (n : ℕ) (e : text ≡ a ++ b) (same : length a 
   take-seam = rw e (take_at a b n same)
 
 module _ (f : Form) where
-  -- ---- calm text
+  -- ---- a span
 
-  own_calm : (cs : List ℕ) (class count : ℕ) → IsCalm ucd f cs class count → ((x : List ℕ) → IsSoundText ucd x) → (cs ≡ []) ⊎ HasForm ucd f cs cs
-  own_calm [] class count calm sound = inl refl
-  own_calm (c ∷ cs) class count calm sound = inr (HasForm-calm ucd f c cs class count calm (sound (c ∷ cs)))
+  own_span : (cs : List ℕ) (class count : ℕ) → IsSpan ucd f cs class count → ((x : List ℕ) → IsSoundText ucd x) → (cs ≡ []) ⊎ HasForm ucd f cs cs
+  own_span [] class count span sound = inl refl
+  own_span (c ∷ cs) class count span sound = inr (HasForm-span ucd f c cs class count span (sound (c ∷ cs)))
 
   -- up to where it ends
-  pub stands_end : (whole calm rest : List ℕ) (class count : ℕ) → whole ≡ calm ++ rest → IsCalm ucd f (chars calm) class count → IsUtf8 calm → ((x : List ℕ) → IsSoundText ucd x)
+  pub stands_end : (whole span rest : List ℕ) (class count : ℕ) → whole ≡ span ++ rest → IsSpan ucd f (chars span) class count → IsUtf8 span → ((x : List ℕ) → IsSoundText ucd x)
       → (next : Seen) → next.text.now ≡ rest → IsAtBoundary f next → Stands f whole next
-  stands_end whole calm rest class count text is_calm u sound next is behind = grind (arith, encodes-chars calm u, own_calm (chars calm) class count is_calm sound)
+  stands_end whole span rest class count text is_span u sound next is after = grind (arith, encodes-chars span u, own_span (chars span) class count is_span sound)
 
   module _ (whole : List ℕ) (next : Seen) (here : Stands f whole next) where
     long : length (encode_utf8_all here.front) ≡ length whole - length next.text.now
@@ -49,7 +49,7 @@ module _ (f : Form) where
 
   -- nothing stands before the first character
   pub reaches_none : (text formed : List ℕ) (next : Seen) → formed ≡ [] → next.text.now ≡ text → IsAtBoundary f next → Reaches f text [] formed next
-  reaches_none text formed next none is behind = record { front = []; split = sym is; more = []; put = none; form = inl (refl, refl, refl); behind = behind }
+  reaches_none text formed next none is after = record { front = []; split = sym is; more = []; put = none; form = inl (refl, refl, refl); after = after }
 
   -- ---- a piece more
 
@@ -64,10 +64,10 @@ module _ (f : Form) where
         let form = λ (h : HasForm ucd f here.front (chars same ++ here.more)). HasForm-append ucd f here.front more.piece (chars same ++ here.more) more.more h more.form in
         grind (arith, split, put, form, chars-nil, append_assoc)
 
-    -- where it is not empty, it is a closed front
-    pub closed_front : IsUtf8 whole → length next.text.now ≢ length whole → IsClosedFront ucd f whole same formed next.text.now
-    closed_front whole_utf8 some =
+    -- where it is not empty, it is segments
+    pub first_segments : IsUtf8 whole → length next.text.now ≢ length whole → IsFirstSegments ucd f whole same formed next.text.now
+    first_segments whole_utf8 some =
         let before = encode_utf8_all here.front in
-        let sees = here.behind.sees in
+        let sees = here.after.sees in
         let u = rw (take-seam whole before _ _ here.split refl) at (IsUtf8-take whole (length before) whole_utf8 (IsCharBoundary-at_seam _ _ _ here.split sees.text_utf8)) in
         grind (arith, chars-append before next.text.now u, chars_from_encodes here.front before u refl, chars-seen f next sees)

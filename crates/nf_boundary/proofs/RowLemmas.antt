@@ -1,8 +1,8 @@
 -- A character with its decomposition beside it, one that is taken apart, and one that passes the quick check.
 use Rattle.std.proofs.Common.{arith, ◌≡◌, ℕ, false, List, [], ◌∷◌, ◌==◌, length, refl, ◌∙◌, inl, IsTrue}
 use Rattle.std.proofs.Math.Seq.{drop-cons}
-use Rattle.nf_boundary.proofs.Common.{nat_tests, HasForm, composes, HasForm-row, Yes, Form, row_of, max_row, is_sound, IsCalm, IsSoundText, NeverSecond, BeginsAnew, IsParting, ucd, HasForm-calm, kit_form, is_among, halfwidth_marks, passes_check, is_syllable, Seen, IsRow, IsAtBoundary}
-use Rattle.nf_forms.specs.Laws.CalmSteps.{begins_run}
+use Rattle.nf_boundary.proofs.Common.{nat_tests, HasForm, composes, HasForm-row, Yes, Form, row_of, max_row, is_sound, IsSpan, IsSoundText, NeverSecond, BeginsAnew, IsParting, ucd, HasForm-span, kit_form, is_among, halfwidth_marks, passes_check, is_syllable, Seen, IsRow, IsAtBoundary}
+use Rattle.nf_forms.specs.Laws.SpanSteps.{begins_run}
 use Rattle.ucd_normal.specs.declared.forms.Form.{Form as KitForm}
 use Rattle.unicode_normalization.specs.Decompose.{table_of, decompose}
 use Rattle.nf_boundary.specs.declared.rows.Row.{Row}
@@ -29,8 +29,8 @@ module _ (f : Form) (first : Seen) (at : IsAtBoundary f first) (sound_one : (c :
       → first.answer ≡ Yes → is_among halfwidth_marks first.character ≡ false → HasForm ucd f (first.character ∷ []) (first.character ∷ [])
   form_own sound parting own other =
       let c = first.character in
-      let calm : IsCalm ucd f (c ∷ []) 0 max_row = (0, max_row, inl (begins_run ucd f c (parting c (passing f first at.sees at.class own other)) (sound_one c)), (refl, refl)) in
-      HasForm-calm ucd f c [] 0 max_row calm (sound (c ∷ []))
+      let span : IsSpan ucd f (c ∷ []) 0 max_row = (0, max_row, inl (begins_run ucd f c (parting c (passing f first at.sees at.class own other)) (sound_one c)), (refl, refl)) in
+      HasForm-span ucd f c [] 0 max_row span (sound (c ∷ []))
 
   -- and that of one that is taken apart is its row
   pub form_apart : composes f ≡ false → ((c : ℕ) → IsTrue (is_ordered ucd (ucd.canonical c))) → ((c : ℕ) → IsTrue (is_ordered ucd (ucd.compat c))) → HasForm ucd f (first.character ∷ []) (decompose (kit_form f) first.character)

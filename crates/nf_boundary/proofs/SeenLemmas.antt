@@ -1,4 +1,4 @@
--- A character as one look-up sees it: what stands behind it, and when a text may be cut before it.
+-- A character as one look-up sees it: what stands after it, and when a text may be cut before it.
 use Rattle.std.proofs.Common.{◌≡◌, ◌<◌, ◌||◌, ◌≤◌, ℕ, false, ◌∷◌, length, ap, arith, length-append, chars, IsTrue}
 use Rattle.nf_boundary.proofs.Common.{ucd, Sees, IsAtBoundary, Form, composes, Yes, Seen, chars_past_char, length-encode, len_utf8_bounds, canonical_combining_class, lead, or_parts, nat_tests, kit_form, quick_check, is_sound, BeginsAnew, IsBoundary, IsParting, is_among, halfwidth_marks, vowel_signs, passes_check, counts_anew-lead, parting-boundary, boundary-decomposing}
 use Rattle.unicode_normalization.proofs.FormsLemmas.{is_yes-true}
@@ -12,11 +12,11 @@ module _ (f : Form) (c : ℕ) (passes : IsTrue (passes_check f c)) where
   passes_yes = is_yes-true _ (grind arith)
 
 module _ (f : Form) (seen : Seen) (here : Sees f seen) where
-  pub chars-seen : chars seen.text.now ≡ seen.character ∷ chars seen.behind.now
+  pub chars-seen : chars seen.text.now ≡ seen.character ∷ chars seen.after.now
   chars-seen = chars_past_char _ _ _ here.text_utf8 here.text
 
-  -- what stands behind it is shorter
-  pub shorter : (next : Seen) → next.text.now ≡ seen.behind.now → length next.text.now < length seen.text.now
+  -- what stands after it is shorter
+  pub shorter : (next : Seen) → next.text.now ≡ seen.after.now → length next.text.now < length seen.text.now
   shorter next is =
       omega (arith, ap length is, ap length here.text, length-append {A = ℕ}, length-encode, (len_utf8_bounds seen.character).0)
 

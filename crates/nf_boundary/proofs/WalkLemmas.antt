@@ -1,4 +1,4 @@
--- A starter that walks over the marks behind it, and composes with those that nothing blocks (The Unicode Standard, section
+-- A starter that walks over the marks after it, and composes with those that nothing blocks (The Unicode Standard, section
 -- 3.11, D117).
 use Rattle.std.proofs.Common.{◌≡◌, ℕ, ◌+◌, ◌<◌, ◌≤◌, max, false, leb, List, [], ◌∷◌, ◌++◌, length, map, take, get_or, Option, Some, None, ap, arith, if◌then◌else◌, fold}
 use Rattle.nf_boundary.proofs.Common.{nat_tests, length-map, length-append, get_or-map, take_more, list_any, Properties, is_starter, has_starter, composite, replaced, join, Mark, list_any-append, list_any_at, mark_of}

@@ -3,7 +3,7 @@ use Rattle.std.specs.Prelude.{◌≡◌, ℕ, List, [], ◌∷◌, ◌++◌, enc
 use Rattle.nf_forms.specs.Cluster.{IsCluster}
 use Rattle.nf_forms.specs.Ucd.{ucd}
 
--- a letter and a front of the text behind it become this one character, and the rest of the text stands behind them
+-- a letter and a front of the text after it become this one character, and the rest of the text stands after them
 pub record Spells (letter : ℕ) (text rest : List ℕ) (syllable : ℕ) : Type 0 where
   pub front : List ℕ
   pub count : ℕ

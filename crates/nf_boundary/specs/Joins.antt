@@ -1,18 +1,18 @@
 -- What the characters of clusters have become.
 use Rattle.std.specs.Prelude.{◌≡◌, ℕ, List, [], ◌∷◌, ◌++◌, encode_utf8_all}
 use Rattle.nf_forms.specs.declared.form.Form.{Form}
-use Rattle.nf_forms.specs.Closed.{BeginsAtBoundary}
+use Rattle.nf_forms.specs.Segments.{BeginsAtBoundary}
 use Rattle.nf_forms.specs.Cluster.{AreClusters}
 use Rattle.nf_forms.specs.Ucd.{ucd}
 use Rattle.nf_boundary.specs.declared.seen.Seen.{Seen}
 use Rattle.nf_boundary.specs.declared.cluster.Cluster.{Cluster}
 use Rattle.nf_boundary.specs.Seen.{Sees}
 
--- the characters have become these, and behind them the cluster
+-- the characters have become these, and after them the cluster
 abbrev pub AreMadeOf : List ℕ → List ℕ → Cluster → Type 0
 AreMadeOf done cs cluster = AreClusters ucd done cs cluster.starter cluster.left.items cluster.last cluster.highest cluster.count
 
--- a front of the text joins what there was, and the rest stands behind it
+-- a front of the text joins what there was, and the rest stands after it
 pub record JoinsFront (text rest : List ℕ) (old new : Cluster) : Type 0 where
   pub front : List ℕ
   pub split : text ≡ encode_utf8_all front ++ rest

@@ -7,7 +7,7 @@ use Rattle.nf_forms.specs.declared.form.Form.{Form}
 use Rattle.nf_forms.specs.declared.form.Form.TheVariants.{Nfkd}
 use Rattle.nf_forms.specs.Forms.{decomposed, finished}
 use Rattle.nf_forms.specs.StreamSafe.{max_run}
-use Rattle.nf_forms.specs.Closed.{BeginsAtBoundary}
+use Rattle.nf_forms.specs.Segments.{BeginsAtBoundary}
 use Rattle.nf_forms.specs.Ucd.{ucd}
 use Rattle.nf_boundary.specs.declared.seen.Seen.{Seen}
 use Rattle.nf_boundary.specs.declared.piece.Piece.{Piece}
@@ -15,7 +15,7 @@ use Rattle.nf_boundary.specs.declared.mark.Mark.{Mark}
 use Rattle.nf_boundary.specs.Mark.{mark_of}
 use Rattle.nf_boundary.specs.Seen.{Sees}
 
--- decomposed text has become what was appended, and behind it a starter and non-starters, held in order of class
+-- decomposed text has become what was appended, and after it a starter and non-starters, held in order of class
 pub record Becomes (f : Form) (w : List ℕ) (starter : ℕ) (marks : List Mark) (before now : List ℕ) : Type 0 where
   pub done : List ℕ
   pub run : List ℕ
@@ -26,7 +26,7 @@ pub record Becomes (f : Form) (w : List ℕ) (starter : ℕ) (marks : List Mark)
   pub formed : now ≡ before ++ encode_utf8_all (finished f ucd done)
   pub parted : (v : List ℕ) → finished f ucd (done ++ starter ∷ v) ≡ finished f ucd done ++ finished f ucd (starter ∷ v)
 
--- in NFKD so many non-starters more may come behind these characters, and no run of them is too long
+-- in NFKD so many non-starters more may come after these characters, and no run of them is too long
 pub record Leaves (cs : List ℕ) (room : ℕ) : Type 0 where
   pub trail : trail ucd (decomposed Nfkd ucd cs) + room ≤ max_run
   pub longest : longest ucd (decomposed Nfkd ucd cs) ≤ max_run

@@ -10,7 +10,7 @@ use Rattle.nf_facts.specs.KitForm.{kit_form}
 use Rattle.nf_boundary.specs.declared.seen.Seen.{Seen}
 
 pub record Sees (f : Form) (seen : Seen) : Type 0 where
-  pub text : seen.text.now ≡ encode_utf8 seen.character ++ seen.behind.now
+  pub text : seen.text.now ≡ encode_utf8 seen.character ++ seen.after.now
   pub text_utf8 : IsUtf8 seen.text.now
   pub class : seen.class ≡ canonical_combining_class seen.character
   pub answer : seen.answer ≡ quick_check (kit_form f) seen.character

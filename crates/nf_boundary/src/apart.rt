@@ -3,10 +3,10 @@ ghost use Rattle.nf_forms.specs.Forms.{composes};
 ghost use Rattle.nf_boundary.specs.Seen.{IsAtBoundary};
 ghost use Rattle.nf_boundary.specs.Pieces.{Closes, Reaches};
 
-use crate::closed::Formed;
 use crate::encoding::append;
 use crate::lone::take_kept;
 use crate::seen::Seen;
+use crate::segments::Formed;
 use nf_facts::{in_tables, laws};
 use nf_forms::Form;
 use ucd_normal::QuickCheck;
@@ -19,14 +19,14 @@ pub(crate) fn take_front_apart<'t>(form: Form, first: Seen<'t>, formed: &mut For
     ensures { (whole same : List ℕ) → Reaches form whole same formed.old.items first.entry → Reaches form whole same formed.new.items result }
 {
     let mut next = first;
-    while let Some(behind) = take_apart(form, next, formed) {
-        next = behind;
+    while let Some(after) = take_apart(form, next, formed) {
+        next = after;
     }
     next
 }
 
-/// Appends the decomposition of a character that the form changes, where a boundary comes behind it, and answers that: in
-/// a form that does not compose, so much is closed. Calm text is left, to be taken as it stands, but for a little before
+/// Appends the decomposition of a character that the form changes, where a boundary comes after it, and answers that: in
+/// a form that does not compose, so much is a segment. A span is left, to be taken as it stands, but for a little before
 /// another that is changed.
 #[inline(always)]
 fn take_apart<'t>(form: Form, first: Seen<'t>, formed: &mut Formed) -> Option<Seen<'t>>
@@ -40,7 +40,7 @@ fn take_apart<'t>(form: Form, first: Seen<'t>, formed: &mut Formed) -> Option<Se
     if first.answer == QuickCheck::Yes {
         return take_kept(form, first, formed);
     }
-    let next = Seen::boundary(form, first.behind)?;
+    let next = Seen::boundary(form, first.after)?;
     let mut room = [first.character; 3];
     append(
         formed,

@@ -1,6 +1,6 @@
-use crate::closed::Formed;
 use crate::encoding::{put_character, put_utf8};
 use crate::seen::{Seen, is_own_row};
+use crate::segments::Formed;
 use arrayvec::ArrayVec;
 use nf_facts::laws;
 use nf_forms::{Form, MAX_RUN};
@@ -11,7 +11,7 @@ use unicode_normalization::char::compose;
 const MOST_BYTES: usize = 52;
 
 /// What the characters from a starter on have become, by canonical composition (The Unicode Standard, section 3.11,
-/// D117): a starter, and the marks that are left behind it.
+/// D117): a starter, and the marks that are left after it.
 #[derive(Drop)]
 pub(crate) struct Cluster {
     starter: char,
@@ -52,15 +52,15 @@ impl Cluster {
         }
     }
 
-    /// The Hangul letters that the text begins with and that compose with the starter; answers what stands behind them.
+    /// The Hangul letters that the text begins with and that compose with the starter; answers what stands after them.
     /// By arithmetic (The Unicode Standard, section 3.12), with no look-up.
     #[inline(always)]
     pub fn join_letters<'t>(&mut self, text: &'t str) -> &'t str
         ensures { JoinsFront text.now result.now self.old self.new }
     {
         let mut rest = text;
-        while let Some(behind) = self.join_letter(rest) {
-            rest = behind;
+        while let Some(after) = self.join_letter(rest) {
+            rest = after;
         }
         rest
     }

@@ -3,11 +3,11 @@ ghost use Rattle.nf_forms.specs.Forms.{composes};
 ghost use Rattle.nf_boundary.specs.Seen.{IsAtBoundary};
 ghost use Rattle.nf_boundary.specs.Pieces.{Closes, Reaches};
 
-use crate::closed::Formed;
 use crate::cluster::Cluster;
 use crate::hangul::take_syllable;
 use crate::lone::take_run;
 use crate::seen::{Seen, is_own_row, may_begin_with_mark};
+use crate::segments::Formed;
 use nf_facts::laws;
 use nf_forms::Form;
 
@@ -18,13 +18,13 @@ pub(crate) fn compose_front<'t>(form: Form, first: Seen<'t>, formed: &mut Formed
     ensures { (whole same : List ℕ) → Reaches form whole same formed.old.items first.entry → Reaches form whole same formed.new.items result }
 {
     let mut next = first;
-    while let Some(behind) = take_composed(form, next, formed) {
-        next = behind;
+    while let Some(after) = take_composed(form, next, formed) {
+        next = after;
     }
     next
 }
 
-/// Appends the next piece that composes, or calm text before one.
+/// Appends the next piece that composes, or a span before one.
 #[inline(always)]
 fn take_composed<'t>(form: Form, first: Seen<'t>, formed: &mut Formed) -> Option<Seen<'t>>
     requires first { IsAtBoundary form first }
@@ -32,7 +32,7 @@ fn take_composed<'t>(form: Form, first: Seen<'t>, formed: &mut Formed) -> Option
     ensures closes { IfSome result (λ next. Closes form first.entry.text.now next formed.old.items formed.new.items) }
     ensures stays { IsNone result → formed.new ≡ formed.old }
 {
-    if may_begin_run(first.behind)
+    if may_begin_run(first.after)
         && let Some(next) = take_run(form, first.text, formed)
     {
         return Some(next);
@@ -43,7 +43,7 @@ fn take_composed<'t>(form: Form, first: Seen<'t>, formed: &mut Formed) -> Option
     }
 }
 
-/// Whether the first byte leaves it open that calm text comes first that ends at a mark: most letters of Latin, Cyrillic and
+/// Whether the first byte leaves it open that a span comes first that ends at a mark: most letters of Latin, Cyrillic and
 /// Japanese do, and of Arabic few.
 #[inline(always)]
 fn may_begin_run(text: &str) -> bool {
@@ -53,8 +53,8 @@ fn may_begin_run(text: &str) -> bool {
         && !may_begin_with_mark(text)
 }
 
-/// Appends what a starter and the characters behind it become, up to the next boundary, and answers that: in a form that
-/// composes, so much is closed. It answers only where something comes between, or behind it a leading consonant of Hangul or
+/// Appends what a starter and the characters after it become, up to the next boundary, and answers that: in a form that
+/// composes, so much is a segment. It answers only where something comes between, or after it a leading consonant of Hangul or
 /// a character with a mark.
 #[inline(always)]
 fn compose_cluster<'t>(form: Form, first: Seen<'t>, formed: &mut Formed) -> Option<Seen<'t>>
@@ -85,13 +85,13 @@ fn append_clusters<'t>(form: Form, first: Seen<'t>, formed: &mut Formed) -> Opti
     }
     let length = formed.len();
     let mut cluster = Cluster::new(first.character);
-    let behind = cluster.join_letters(first.behind);
-    let mut next = Seen::first(form, behind)?;
+    let after = cluster.join_letters(first.after);
+    let mut next = Seen::first(form, after)?;
     while !next.is_boundary(form) {
         cluster.join(form, next, formed)?;
-        next = Seen::first(form, next.behind)?;
+        next = Seen::first(form, next.after)?;
     }
-    // Behind others that is calm text, most likely, but between two that compose it need not be sought as such.
+    // After others that is a span, most likely, but between two that compose it need not be sought as such.
     if length > 0 && formed.len() == length && cluster.is_as_it_was() && !next.goes_on(form) {
         return None;
     }

@@ -1,7 +1,7 @@
-//! Characters as UTF-8 (The Unicode Standard, section 3.9, table 3-6), behind bytes that are there.
+//! Characters as UTF-8 (The Unicode Standard, section 3.9, table 3-6), after bytes that are there.
 ghost use Rattle.std.specs.Prelude.{◌≡◌, ◌+◌, ◌*◌, ◌≤◌, [], ◌∷◌, ◌++◌, length, encode_utf8, encode_utf8_all, IsSome, IsNone};
 
-use crate::closed::Formed;
+use crate::segments::Formed;
 use arrayvec::ArrayVec;
 
 /// Appends the UTF-8 of `c`, where there is room for the longest.

@@ -4,14 +4,14 @@ ghost use Rattle.nf_boundary.specs.Seen.{IsAtBoundary};
 ghost use Rattle.nf_boundary.specs.Pieces.{Closes};
 ghost use Rattle.nf_boundary.specs.Hangul.{Spells};
 
-use crate::closed::Formed;
 use crate::encoding::append_one;
 use crate::seen::Seen;
+use crate::segments::Formed;
 use nf_facts::laws;
 use nf_forms::Form;
 
-/// Appends the syllable that is written with a leading consonant and the letters behind it, where a boundary comes behind
-/// them, and answers that: in a form that composes, so much is closed.
+/// Appends the syllable that is written with a leading consonant and the letters after it, where a boundary comes after
+/// them, and answers that: in a form that composes, so much is a segment.
 #[inline(always)]
 pub(crate) fn take_syllable<'t>(
     form: Form,
@@ -24,8 +24,8 @@ pub(crate) fn take_syllable<'t>(
     ensures stays { IsNone result → formed.new ≡ formed.old }
 {
     laws::every_character_is_sound();
-    let (syllable, behind) = spelled(first.character, first.behind)?;
-    let next = boundary(form, behind)?;
+    let (syllable, after) = spelled(first.character, first.after)?;
+    let next = boundary(form, after)?;
     append_one(formed, syllable)?;
     Some(next)
 }
@@ -42,7 +42,7 @@ fn boundary<'t>(form: Form, text: &'t str) -> Option<Seen<'t>>
 }
 
 /// The syllable that is written with a leading consonant and the letters that the text begins with, by the arithmetic of
-/// The Unicode Standard, section 3.12, with no look-up; and what stands behind those.
+/// The Unicode Standard, section 3.12, with no look-up; and what stands after those.
 #[inline(always)]
 fn spelled<'t>(leading: char, text: &'t str) -> Option<(char, &'t str)>
     ensures { IfSome result (λ both. Spells leading text.now both.1.now both.0) }
@@ -58,7 +58,7 @@ fn spelled<'t>(leading: char, text: &'t str) -> Option<(char, &'t str)>
         return None;
     }
     let open = 0xAC00 + (leading as u32 - 0x1100) * 588 + (vowel as u32 - 0x1161) * 28;
-    let behind = chars.as_str();
+    let after = chars.as_str();
     if let Some(trailing) = chars.next()
         && trailing >= '\u{11A8}'
         && trailing <= '\u{11C2}'
@@ -66,5 +66,5 @@ fn spelled<'t>(leading: char, text: &'t str) -> Option<(char, &'t str)>
         let closed = char::from_u32(open + (trailing as u32 - 0x11A7))?;
         return Some((closed, chars.as_str()));
     }
-    Some((char::from_u32(open)?, behind))
+    Some((char::from_u32(open)?, after))
 }

@@ -8,25 +8,25 @@ ghost use Rattle.nf_boundary.specs.Seen.{Sees};
 ghost use Rattle.nf_boundary.specs.Rows.{IsRow};
 ghost use Rattle.nf_boundary.specs.Piece.{Becomes, Leaves};
 
-use crate::closed::Formed;
 use crate::closing::{Segment, close_off};
 use crate::composites::Database;
 use crate::encoding::{append_one, put_utf8};
 use crate::mark::{Mark, Run, hold};
 use crate::rows::{Row, passes};
 use crate::seen::{Seen, is_own_row};
+use crate::segments::Formed;
 use nf_facts::{in_tables, laws};
 use nf_forms::{Form, MAX_RUN};
 use ucd_normal::{QuickCheck, canonical_combining_class};
 use unicode_normalization::char::decomposition;
 
-/// So many may stand behind any character, whose compatibility decomposition has at most 18 members.
+/// So many may stand after any character, whose compatibility decomposition has at most 18 members.
 const MAX_MARKS: u8 = 12;
 
 /// So many bytes have a starter and the marks of a run at most.
 const MOST_BYTES: usize = 124;
 
-/// What the characters from a boundary on have become: their last starter, and the non-starters behind it in order of class.
+/// What the characters from a boundary on have become: their last starter, and the non-starters after it in order of class.
 /// What comes before that starter is appended.
 #[derive(Drop)]
 pub(crate) struct Piece {
@@ -113,7 +113,7 @@ impl Piece {
         Some(())
     }
 
-    /// Appends the starter and the non-starters behind it, where there is room.
+    /// Appends the starter and the non-starters after it, where there is room.
     #[inline(always)]
     pub fn close(&self, form: Form, formed: &mut Formed) -> Option<()>
         ensures closes { IsSome result → (w before : List ℕ) → Becomes form w self.now.starter self.now.run.items before formed.old.items → formed.new.items ≡ before ++ encode_utf8_all (finished form ucd w) }

@@ -2,10 +2,10 @@ ghost use Rattle.std.specs.Prelude.{◌≡◌, ℕ, List, take, length, IfSome, 
 ghost use Rattle.nf_boundary.specs.Rows.{IsRow};
 ghost use Rattle.nf_boundary.specs.Pieces.{Closes, Reaches};
 
-use crate::closed::Formed;
 use crate::piece::Piece;
 use crate::rows::Row;
 use crate::seen::Seen;
+use crate::segments::Formed;
 use nf_facts::{begins_with_mark, laws};
 use nf_forms::Form;
 
@@ -13,7 +13,7 @@ use nf_forms::Form;
 /// been read in vain.
 const MOST_BEFORE: usize = 896;
 
-/// Appends what the pieces become that the text begins with, as far as boundaries come behind them; answers the last boundary.
+/// Appends what the pieces become that the text begins with, as far as boundaries come after them; answers the last boundary.
 /// It stands out of line, to keep its callers' loops short.
 pub(crate) fn take_pieces<'t>(form: Form, first: Row<'t>, formed: &mut Formed) -> Seen<'t>
     requires { IsRow form first }
@@ -35,13 +35,13 @@ fn pieces_in<'t>(form: Form, first: Row<'t>, formed: &mut Formed) -> Seen<'t>
 {
     let mut piece = Piece::new();
     let mut next = first;
-    while let Some(behind) = take_piece(form, next, &mut piece, formed) {
-        next = behind;
+    while let Some(after) = take_piece(form, next, &mut piece, formed) {
+        next = after;
     }
     next.seen
 }
 
-/// Appends what a piece becomes, where a boundary comes behind it, and answers that.
+/// Appends what a piece becomes, where a boundary comes after it, and answers that.
 #[inline(always)]
 fn take_piece<'t>(
     form: Form,
@@ -65,7 +65,7 @@ fn take_piece<'t>(
     next
 }
 
-/// The same, but some of it may be appended where no boundary comes. Calm text is left, to be taken as it stands.
+/// The same, but some of it may be appended where no boundary comes. A span is left, to be taken as it stands.
 #[inline(always)]
 fn append_piece<'t>(
     form: Form,
@@ -79,16 +79,16 @@ fn append_piece<'t>(
     ensures keeps { IsNone result → take (length formed.old.items) formed.new.items ≡ formed.old.items }
 {
     laws::every_character_is_sound();
-    let mut next = Seen::first(form, first.seen.behind)?;
-    if first.seen.is_calm_before(form, next) {
+    let mut next = Seen::first(form, first.seen.after)?;
+    if first.seen.is_span_before(form, next) {
         return None;
     }
     piece.begin(form, first, formed)?;
     while next.class != 0 || begins_with_mark(next.character) {
         piece.join(form, next)?;
-        next = Seen::first(form, next.behind)?;
+        next = Seen::first(form, next.after)?;
     }
-    let behind = Row::at(form, next)?;
+    let after = Row::at(form, next)?;
     piece.close(form, formed)?;
-    Some(behind)
+    Some(after)
 }

@@ -20,8 +20,8 @@ pub(crate) struct Seen<'t> {
     pub character: char,
     pub class: u8,
     pub answer: QuickCheck,
-    /// What stands behind it.
-    pub behind: &'t str,
+    /// What stands after it.
+    pub after: &'t str,
 }
 
 impl<'t> Seen<'t> {
@@ -40,7 +40,7 @@ impl<'t> Seen<'t> {
             character,
             class,
             answer,
-            behind: chars.as_str(),
+            after: chars.as_str(),
         })
     }
 
@@ -75,7 +75,7 @@ impl<'t> Seen<'t> {
             character,
             class: 0,
             answer: QuickCheck::Yes,
-            behind: chars.as_str(),
+            after: chars.as_str(),
         })
     }
 
@@ -85,25 +85,25 @@ impl<'t> Seen<'t> {
         matches!(self.character, '\u{1100}'..='\u{1112}')
     }
 
-    /// Whether it composes with what comes behind it, by all that is likely: a leading consonant of Hangul, or a character
-    /// with a mark behind it.
+    /// Whether it composes with what comes after it, by all that is likely: a leading consonant of Hangul, or a character
+    /// with a mark after it.
     #[inline(always)]
     pub fn goes_on(self, form: Form) -> bool {
         if self.is_leading() {
             return true;
         }
-        if !may_begin_with_mark(self.behind) {
+        if !may_begin_with_mark(self.after) {
             return false;
         }
-        match Seen::first(form, self.behind) {
+        match Seen::first(form, self.after) {
             Some(next) => next.class != 0,
             None => false,
         }
     }
 
-    /// Whether it is left as it is, and so is the one behind it, before which a text may be cut.
+    /// Whether it is left as it is, and so is the one after it, before which a text may be cut.
     #[inline(always)]
-    pub fn is_calm_before(self, form: Form, next: Seen<'_>) -> bool
+    pub fn is_span_before(self, form: Form, next: Seen<'_>) -> bool
         requires { Sees form next }
     {
         self.answer == QuickCheck::Yes && next.answer == QuickCheck::Yes && next.is_boundary(form)

@@ -1,6 +1,6 @@
-//! Texts whose closed front was found by hand, from UnicodeData.txt and DerivedNormalizationProps.txt.
+//! Texts whose segments were found by hand, from UnicodeData.txt and DerivedNormalizationProps.txt.
 use crate::reference::{checked, text_of};
-use nf_boundary::{Formed, closed_front};
+use nf_boundary::{Formed, first_segments};
 use nf_forms::Form;
 use std::alloc::Global;
 use std::process::Abort;
@@ -21,11 +21,11 @@ pub(crate) fn check<T: Abort>(
     for (same, changed, formed, rest) in fronts {
         let text = format!(in alloc; "{same}{changed}{rest}")?;
         let mut put = Formed::new();
-        let closed = closed_front(form, &text, &mut put);
-        assert!(rt; closed.is_some(), "{form:?}: {text:?}");
-        if let Some(closed) = closed {
+        let segments = first_segments(form, &text, &mut put);
+        assert!(rt; segments.is_some(), "{form:?}: {text:?}");
+        if let Some(segments) = segments {
             assert_eq!(rt;
-                (closed.same, text_of(&put), closed.rest),
+                (segments.same, text_of(&put), segments.rest),
                 (*same, *formed, *rest),
                 "{form:?}: {text:?}"
             );
@@ -36,7 +36,7 @@ pub(crate) fn check<T: Abort>(
 }
 
 pub(crate) fn is_none(form: Form, text: &str) -> bool {
-    closed_front(form, text, &mut Formed::new()).is_none()
+    first_segments(form, text, &mut Formed::new()).is_none()
 }
 
 pub(crate) fn check_none<T: Abort>(rt: &T, form: Form, texts: &[&str]) {
@@ -137,7 +137,7 @@ fn syllables(rt: HostRuntime) -> Result<(), Fail> {
 }
 
 /// A vowel composes with a leading consonant alone, and a trailing consonant with a syllable of two letters that no mark
-/// parts from it: any other is left, and what stands behind it meets it alone. U+11A8 and U+D558 make up U+D559; U+1161 and
+/// parts from it: any other is left, and what stands after it meets it alone. U+11A8 and U+D558 make up U+D559; U+1161 and
 /// U+0301 have no composite. U+09BE composes with U+09C7 alone of these letters.
 #[test]
 fn letters_that_do_not_compose(rt: HostRuntime) -> Result<(), Fail> {
@@ -190,10 +190,10 @@ fn letters_up_to_the_room(rt: HostRuntime) -> Result<(), Fail> {
     let text = format!(in rt.alloc(); "a{vowels}b")?;
     assert_eq!(rt; checked(&rt, rt.alloc(), Form::Nfc, &text)?, Some("b"));
     let text = format!(in rt.alloc(); "e\u{301}e\u{301}a{vowels}b")?;
-    let behind = format!(in rt.alloc(); "a{vowels}b")?;
+    let after = format!(in rt.alloc(); "a{vowels}b")?;
     assert_eq!(rt;
         checked(&rt, rt.alloc(), Form::Nfc, &text)?,
-        Some(behind.as_str())
+        Some(after.as_str())
     );
     let text = format!(in rt.alloc(); "a{vowels}\u{1161}b")?;
     assert_eq!(rt; is_none(Form::Nfc, &text), true);
@@ -209,10 +209,10 @@ fn syllables_up_to_the_room(rt: HostRuntime) -> Result<(), Fail> {
     let many = letters.repeat(rt.alloc(), 400)?;
     let text = format!(in rt.alloc(); "{many}b")?;
     let left = letters.repeat(rt.alloc(), 59)?;
-    let behind = format!(in rt.alloc(); "{left}b")?;
+    let after = format!(in rt.alloc(); "{left}b")?;
     assert_eq!(rt;
         checked(&rt, rt.alloc(), Form::Nfc, &text)?,
-        Some(behind.as_str())
+        Some(after.as_str())
     );
     Ok(())
 }
@@ -273,7 +273,7 @@ fn decomposed(rt: HostRuntime) -> Result<(), Fail> {
     check(&rt, rt.alloc(), Form::Nfkd, &compatible)
 }
 
-/// Nothing is told where the text does not begin at a boundary, or none comes behind.
+/// Nothing is told where the text does not begin at a boundary, or none comes after.
 #[test]
 fn none(rt: HostRuntime) {
     check_none(

@@ -1,6 +1,6 @@
 //! All Hangul syllables, by the arithmetic of The Unicode Standard, section 3.12.
 use crate::reference::text_of;
-use nf_boundary::{Formed, closed_front};
+use nf_boundary::{Formed, first_segments};
 use nf_forms::Form;
 use std::test::Fail;
 
@@ -21,12 +21,12 @@ fn each_syllable_both_ways(rt: HostRuntime) -> Result<(), Fail> {
         }
         let mut formed = Formed::new();
         let text = format!(in rt.alloc(); "{letters}\u{1100}")?;
-        let closed = closed_front(Form::Nfc, &text, &mut formed);
-        assert!(rt; closed.is_some(), "{index}");
+        let segments = first_segments(Form::Nfc, &text, &mut formed);
+        assert!(rt; segments.is_some(), "{index}");
         assert_eq!(rt; text_of(&formed).chars().next(), Some(syllable), "{index}");
         let text = format!(in rt.alloc(); "{syllable}\u{1100}")?;
-        let closed = closed_front(Form::Nfd, &text, &mut formed);
-        assert!(rt; closed.is_some(), "{index}");
+        let segments = first_segments(Form::Nfd, &text, &mut formed);
+        assert!(rt; segments.is_some(), "{index}");
         assert_eq!(rt; text_of(&formed), letters.as_str(), "{index}");
     }
     Ok(())

@@ -4,7 +4,7 @@ use crate::reference::{FORMS, checked};
 use nf_forms::Form;
 use std::test::Fail;
 
-/// U+FF9E and U+FF9F are their own rows in the canonical forms, and calm text goes on with them.
+/// U+FF9E and U+FF9F are their own rows in the canonical forms, and a span goes on with them.
 #[test]
 fn halfwidth_marks_stay(rt: HostRuntime) -> Result<(), Fail> {
     let kept = "a\u{FF76}\u{FF9E}\u{FF8A}\u{FF9F}\u{FF9E}\u{FF77}c\u{FF8A}\u{FF9F}";
@@ -24,7 +24,7 @@ fn halfwidth_marks_stay(rt: HostRuntime) -> Result<(), Fail> {
     check(&rt, rt.alloc(), Form::Nfd, &decomposed)
 }
 
-/// A row has at most 18 members, so that 12 marks make no run too long behind any character.
+/// A row has at most 18 members, so that 12 marks make no run too long after any character.
 #[test]
 fn twelve_halfwidth_marks_stay(rt: HostRuntime) -> Result<(), Fail> {
     let marks = "\u{FF9E}".repeat(rt.alloc(), 12)?;
@@ -157,7 +157,7 @@ fn marks_that_decompose(rt: HostRuntime) -> Result<(), Fail> {
     check(&rt, rt.alloc(), Form::Nfkd, &decomposed)
 }
 
-/// Behind a character with a decomposition 12 marks are known to make no run too long, and 30 behind one that has none.
+/// After a character with a decomposition 12 marks are known to make no run too long, and 30 after one that has none.
 #[test]
 fn marks_up_to_the_run(rt: HostRuntime) -> Result<(), Fail> {
     let text = format!(in rt.alloc(); "\u{958}{TWELVE}b")?;

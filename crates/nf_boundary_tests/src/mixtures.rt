@@ -22,8 +22,8 @@ fn each_front_of_a_mixture(rt: HostRuntime) -> Result<(), Fail> {
         for form in FORMS {
             let mut rest = text.as_str();
             for _ in 0..200u32 {
-                if let Some(behind) = checked(&rt, rt.alloc(), form, rest)? {
-                    rest = behind;
+                if let Some(after) = checked(&rt, rt.alloc(), form, rest)? {
+                    rest = after;
                     continue;
                 }
                 let mut chars = rest.chars();

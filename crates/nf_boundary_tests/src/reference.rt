@@ -1,5 +1,5 @@
-//! A closed front against the forms of whole texts.
-use nf_boundary::{Formed, closed_front};
+//! Segments against the forms of whole texts.
+use nf_boundary::{Formed, first_segments};
 use nf_forms::Form;
 use std::alloc::{AllocError, Global};
 use std::process::Abort;
@@ -25,8 +25,8 @@ pub fn text_of(put: &Formed) -> &str {
     std::str::from_utf8(put.as_slice()).unwrap_or("not UTF-8")
 }
 
-/// What stands behind the closed front of the text, if one is told: the front has the form that is said, and so has what
-/// stands before and behind it, each alone.
+/// What stands after the segments that the text begins with, if they are told: the front has the form that is said, and so has what
+/// stands before and after it, each alone.
 pub fn checked<'t, T: Abort>(
     rt: &T,
     alloc: Global,
@@ -34,23 +34,23 @@ pub fn checked<'t, T: Abort>(
     text: &'t str,
 ) -> Result<Option<&'t str>, Fail> {
     let mut put = Formed::new();
-    let Some(closed) = closed_front(form, text, &mut put) else {
+    let Some(segments) = first_segments(form, text, &mut put) else {
         return Ok(None);
     };
-    let front = text.strip_suffix(closed.rest).unwrap_or("");
+    let front = text.strip_suffix(segments.rest).unwrap_or("");
     assert!(rt;
-        !front.is_empty() && !closed.rest.is_empty(),
+        !front.is_empty() && !segments.rest.is_empty(),
         "{form:?}: {text:?}"
     );
-    let formed = format!(in alloc; "{}{}", closed.same, text_of(&put))?;
+    let formed = format!(in alloc; "{}{}", segments.same, text_of(&put))?;
     assert_eq!(rt; formed, form_of(form, alloc, front)?, "{form:?}: {front:?}");
     let before = form_of(form, alloc, BEFORE)?;
-    let behind = form_of(form, alloc, closed.rest)?;
+    let after = form_of(form, alloc, segments.rest)?;
     let whole = format!(in alloc; "{BEFORE}{text}")?;
     assert_eq!(rt;
         form_of(form, alloc, &whole)?,
-        format!(in alloc; "{before}{formed}{behind}")?,
+        format!(in alloc; "{before}{formed}{after}")?,
         "{form:?}: {text:?}"
     );
-    Ok(Some(closed.rest))
+    Ok(Some(segments.rest))
 }

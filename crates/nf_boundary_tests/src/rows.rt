@@ -5,7 +5,7 @@ use nf_forms::Form;
 use std::test::Fail;
 
 /// In a form that composes, a character that it changes is closed where its decomposition begins with a starter that passes the
-/// quick check. The form of that is what the marks in it, and those behind it, leave: U+212B is the letter U+00C5, U+0958 and
+/// quick check. The form of that is what the marks in it, and those after it, leave: U+212B is the letter U+00C5, U+0958 and
 /// U+FB2A stay apart, and U+2126 takes in U+0301.
 #[test]
 fn rows_between_boundaries(rt: HostRuntime) -> Result<(), Fail> {

@@ -32,9 +32,9 @@ fn each_scalar_value(rt: HostRuntime) -> Result<(), Fail> {
         {
             let text = format!(in rt.alloc(); "{c}b")?;
             for form in FORMS {
-                let behind = checked(&rt, rt.alloc(), form, &text)?;
+                let after = checked(&rt, rt.alloc(), form, &text)?;
                 if form == Form::Nfd || form == Form::Nfkd {
-                    assert_eq!(rt; behind == Some("b"), is_boundary(c), "{form:?}, {code:x}");
+                    assert_eq!(rt; after == Some("b"), is_boundary(c), "{form:?}, {code:x}");
                 }
             }
         }

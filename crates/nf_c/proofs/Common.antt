@@ -3,7 +3,7 @@ pub use Rattle.nf_c.specs.Feeds.{FeedsFront, IsOfFeeding, ends, CanPass, Feeds}
 pub use Rattle.nf_c.specs.Finishes.{FinishesFilter, IsOfFinishing}
 pub use Rattle.nf_c.specs.Moved.{ended, read_before}
 pub use Rattle.nf_c.specs.Room.{state_of as room_state}
-pub use Rattle.nf_c.specs.State.{StandsAfter, mark_at, starter_at, unpacked, IsStarter, IsCalm, CanStand, StandAfter}
+pub use Rattle.nf_c.specs.State.{StandsAfter, mark_at, starter_at, unpacked, IsStarter, HoldsAscii, CanStand, StandAfter}
 pub use Rattle.nf_c.specs.declared.feeding.Fed.{Fed}
 pub use Rattle.nf_c.specs.declared.moved.Moved.{Moved}
 pub use Rattle.nf_c.specs.declared.room.Room.{Room}

@@ -9,7 +9,7 @@ use Rattle.nf_filter.specs.Writes.{Puts, BreaksOff}
 use Rattle.nf_filter.specs.Feeds.{Feeds}
 use Rattle.nf_filter.specs.Faults.{IsOfFeeding as IsOfFilter}
 
--- a front of a slice behind what stands before it
+-- a front of a slice after what stands before it
 slice_seam : (xs : List ℕ) (a b k : ℕ) → k ≤ length (slice_range xs a b) → take a xs ++ take k (slice_range xs a b) ≡ take (a + k) xs
 slice_seam xs a b k within = ap (λ l. take a xs ++ l) (take-take k (b - a) (drop a xs) (omega (arith, within, length-take (b - a) (drop a xs)))) ∙ sym (take-add a k xs)
 
@@ -40,14 +40,14 @@ of_feeding fault among unspent sound = among
 
 -- what was put into a room that had nothing
 pub puts_is : {old new : SinkState} {before after l : List ℕ} {lender : ℕ} → old ≡ record { taken = Some []; is_failed = false; lender = lender } → new.taken ≡ Some l → Puts old new before after → after ≡ before ++ l
-puts_is {before = before} was is puts = puts.behind ∙ ap (λ l. before ++ l) (sym (rw (was, is) at puts.given))
+puts_is {before = before} was is puts = puts.after ∙ ap (λ l. before ++ l) (sym (rw (was, is) at puts.given))
 
 -- it failed because it is full
 pub too_little : (room : Room) {old : SinkState} {output before after : List ℕ} {lender : ℕ} → old ≡ record { taken = Some []; is_failed = false; lender = lender } → output ≡ room.bytes.now → BreaksOff old (room_state room) before after
     → length before + length output < length after
 too_little room {before = before} was is breaks =
     let out : take room.written room.bytes.now ≡ breaks.out = rw was at breaks.given in
-    omega (arith, breaks.more, ap length breaks.behind, length-append (before ++ breaks.out) breaks.rest, length-append before breaks.out, ap length out, length-take room.written room.bytes.now, room.full breaks.failed, ap length is)
+    omega (arith, breaks.more, ap length breaks.after, length-append (before ++ breaks.out) breaks.rest, length-append before breaks.out, ap length out, length-take room.written room.bytes.now, room.full breaks.failed, ap length is)
 
 -- the state alone
 pub StandsAfter-of : {policy : Policy} {f : Form} {state : State} {filter : FilterState} {bytes : List ℕ} → StandAfter policy f state filter bytes → StandsAfter policy f state bytes

@@ -1,4 +1,4 @@
--- Plain ASCII behind one such character that is pending alone: where it leaves a filter and its state, and what a call tells.
+-- Plain ASCII after one such character that is pending alone: where it leaves a filter and its state, and what a call tells.
 use Rattle.std.proofs.Common.{◌≡◌, ℕ, ◌+◌, ◌-◌, ◌<◌, ◌≤◌, ◌^◌, Bool, true, false, List, [], ◌∷◌, ◌++◌, length, map, take, get_or, Option, Some, None, if◌then◌else◌, inr}
 use Rattle.std.proofs.Common.{refl, sym, ap, ◌∙◌, subst, arith, rules, append_assoc, append-nil, length-append, encode_utf8_all, IsAscii, IfSome, take-take, get_or-take}
 use Rattle.std.specs.List.{list_all}
@@ -8,7 +8,7 @@ use Rattle.std.proofs.lemmas.List.{nil_from_length, length-take-le}
 use Rattle.std.proofs.lemmas.Str.{encode_ascii, encodes-IsAscii, chars-IsAscii, scalars-chars, IsUtf8-from_ascii, IsUtf8-append, IsAscii-take}
 use Rattle.std.proofs.lemmas.Str.Ascii.{All-from_ascii}
 use Rattle.nf_c.proofs.Common.{ucd, Form, Fault, TooLong, Write, FilterState, Policy, Saved, base_of, FilterStandsAfter, settled_utf8, Moved, State}
-use Rattle.nf_c.proofs.Common.{ends, IsOfFeeding, ended, read_before, mark_at, StandsAfter, allowed, CanPass, Feeds, starter_at, unpacked, IsStarter, IsCalm}
+use Rattle.nf_c.proofs.Common.{ends, IsOfFeeding, ended, read_before, mark_at, StandsAfter, allowed, CanPass, Feeds, starter_at, unpacked, IsStarter, HoldsAscii}
 use Rattle.nf_forms.specs.Properties.{Properties}
 use Rattle.nf_forms.specs.Front.{back}
 use Rattle.nf_forms.specs.Forms.{decomposed, finished}
@@ -17,7 +17,7 @@ use Rattle.nf_row.specs.Ascii.{IsPlainAscii, AreAscii}
 use Rattle.nf_row.specs.Laws.Ascii.{ascii-head, ascii-tail}
 use Rattle.nf_utf8.specs.Text.{IsText}
 use Rattle.nf_utf8.specs.Laws.{ReadsPieces, ReadsBack, ReplacesParts, SplitsBytes}
-use Rattle.nf_utf8.specs.Part.{IsPart}
+use Rattle.nf_utf8.specs.Part.{IsSubpart}
 use Rattle.nf_utf8.specs.Ending.{Whole, moved}
 use Rattle.nf_utf8.specs.Reading.{text_len, text_of, rest_of, ending_of}
 use Rattle.nf_utf8.specs.Standing.{StandsAfter as DecoderStandsAfter}
@@ -68,7 +68,7 @@ module _ (pieces : ReadsPieces) (own : ReadsBack) (laws : ReplacesParts) (split 
       begins = ([], rw (append-nil (tail ++ t)) (IsUtf8-append tail t (text_of tail, (split.scalars tail, sym (rw (none, append-nil) at (split.split tail)))) (IsUtf8-from_ascii t ascii)));
     }
 
-  module _ (plain : IsPlainAscii ucd) {policy : Policy} {f : Form} {old : State} {bytes : List ℕ} (calm : IsCalm old) (stand : StandsAfter policy f old bytes)
+  module _ (plain : IsPlainAscii ucd) {policy : Policy} {f : Form} {old : State} {bytes : List ℕ} (holds : HoldsAscii old) (stand : StandsAfter policy f old bytes)
       (t : List ℕ) (n : ℕ) (len : length t ≡ n) (some : 0 < n) (ascii : IsAscii t) (fits : old.offset + n < 2 ^ 64) where
     abbrev filter : FilterState
     filter = stand.filter
@@ -83,19 +83,19 @@ module _ (pieces : ReadsPieces) (own : ReadsBack) (laws : ReplacesParts) (split 
     last = get_or t (n - 1) 0
 
     none : filter.reading.decoder ≡ []
-    none = ap (λ (s : Saved). s.held.items) stand.saved ∙ ap (λ k. take k old.held) calm.held
+    none = ap (λ (s : Saved). s.held.items) stand.saved ∙ ap (λ k. take k old.held) holds.held
 
     marks : length filter.counted.normalizer.pending.marks.items ≡ 0
-    marks = ap (λ (s : Saved). length s.marks.items) stand.saved ∙ ap (λ k. length (map mark_at (take k old.marks))) calm.marks
+    marks = ap (λ (s : Saved). length s.marks.items) stand.saved ∙ ap (λ k. length (map mark_at (take k old.marks))) holds.marks
 
     nothing : rest_of read.tail ≡ []
     nothing = read.decoder.rest ∙ none
 
     alone : back ucd (finished f ucd (decomposed f ucd (stream_safe ucd x))) ≡ old.starter ∷ []
-    alone = subst (λ o. IfSome o (λ a. back ucd (finished f ucd (decomposed f ucd (stream_safe ucd x))) ≡ a ∷ [])) (ap (λ (s : Saved). s.starter) stand.saved ∙ starter_low old.starter calm.starter)
+    alone = subst (λ o. IfSome o (λ a. back ucd (finished f ucd (decomposed f ucd (stream_safe ucd x))) ≡ a ∷ [])) (ap (λ (s : Saved). s.starter) stand.saved ∙ starter_low old.starter holds.starter)
         (back_alone f ucd filter.counted.normalizer.pending _ read.taken.machine.pending marks)
 
-    -- the filter behind it
+    -- the filter after it
     abbrev pending : Pending
     pending = record filter.counted.normalizer.pending { starter = Some last }
 
@@ -120,7 +120,7 @@ module _ (pieces : ReadsPieces) (own : ReadsBack) (laws : ReplacesParts) (split 
 
     taken : HasTaken f ucd counted (x ++ t)
     taken = record {
-      machine = HasTaken-run ucd plain f x t n len some ascii read.taken.machine.usable old.starter alone calm.starter filter.counted.normalizer 0 pending last read.taken.machine refl refl
+      machine = HasTaken-run ucd plain f x t n len some ascii read.taken.machine.usable old.starter alone holds.starter filter.counted.normalizer 0 pending last read.taken.machine refl refl
           (λ w v s ends leaves. stands_unmarked f ucd pending v leaves s.composes (sym ends) (nil_from_length filter.counted.normalizer.pending.marks.items marks));
       chars = omega (arith, read.taken.chars, length-append x t, len);
       put = omega (arith, read.taken.put, length-append x t, joins-run ucd plain f x t n len some ascii read.taken.machine.usable);
@@ -147,7 +147,7 @@ module _ (pieces : ReadsPieces) (own : ReadsBack) (laws : ReplacesParts) (split 
       no_fault = read-no_fault laws reads;
     }
 
-    -- the state behind it
+    -- the state after it
     abbrev passed : State
     passed = record old { starter = last; offset = old.offset + n; chars = old.chars + n }
 
@@ -155,7 +155,7 @@ module _ (pieces : ReadsPieces) (own : ReadsBack) (laws : ReplacesParts) (split 
     low = ascii (n - 1)
 
     saved : saved_of after ≡ unpacked passed
-    saved = ap (λ (s : Saved). record s { offset = s.offset + n; chars = s.chars + n; count = 0; starter = Some last }) stand.saved ∙ cc (calm.count, starter_low last low)
+    saved = ap (λ (s : Saved). record s { offset = s.offset + n; chars = s.chars + n; count = 0; starter = Some last }) stand.saved ∙ cc (holds.count, starter_low last low)
 
     starter : IsStarter last
     starter = inr (grind (arith, nat_tests, low))
@@ -163,8 +163,8 @@ module _ (pieces : ReadsPieces) (own : ReadsBack) (laws : ReplacesParts) (split 
     passed-stands : StandsAfter policy f passed (bytes ++ t)
     passed-stands = record {
       can = (
-        search (rules, calm.can.0, starter),
-        rw (← saved) (IsRestorable-stands laws {state = after} after-stands (subst IsPart (sym none) tt) (omega arith)
+        search (rules, holds.can.0, starter),
+        rw (← saved) (IsRestorable-stands laws {state = after} after-stands (subst IsSubpart (sym none) tt) (omega arith)
             (let r = after-stands.reading in omega (arith, ap length (split.split r.tail), length-append (encode_utf8_all (text_of r.tail)) (rest_of r.tail), ap length r.decoder.rest))),
       );
       filter = after;
@@ -177,15 +177,15 @@ module _ (pieces : ReadsPieces) (own : ReadsBack) (laws : ReplacesParts) (split 
     unfolding reads
     passed-settles =
         sym (read-settled laws reads) ∙ ap (settled_text f ucd) (sym joined)
-        ∙ sym (settled_text-run ucd plain f x t n len some ascii read.taken.machine.usable old.starter alone calm.starter)
-        ∙ ap (λ l. (settled_text f ucd x ++ (l ++ [])) ++ take (n - 1) t) (encode_ascii old.starter calm.starter)
+        ∙ sym (settled_text-run ucd plain f x t n len some ascii read.taken.machine.usable old.starter alone holds.starter)
+        ∙ ap (λ l. (settled_text f ucd x ++ (l ++ [])) ++ take (n - 1) t) (encode_ascii old.starter holds.starter)
         ∙ append_assoc (settled_text f ucd x) (old.starter ∷ []) (take (n - 1) t)
         ∙ ap (λ l. l ++ (old.starter ∷ take (n - 1) t)) (read-settled laws read)
 
   module _ (plain : IsPlainAscii ucd) {policy : Policy} {f : Form} {old : State} {bytes input : List ℕ} {space len : ℕ}
       (can : CanPass old input space len) (stand : StandsAfter policy f old bytes) (some : 0 < len) (fits : old.offset + length input ≤ 2 ^ 64 - 1) where
     settles_to : (n : ℕ) → 0 < n → n ≤ length input → IsAscii (take n input) → settled_utf8 policy f ucd (bytes ++ take n input) ≡ settled_utf8 policy f ucd bytes ++ (old.starter ∷ take (n - 1) input)
-    settles_to n more within ascii = passed-settles plain can.calm stand (take n input) n (length-take-le n input within) more ascii (omega (arith, fits, within))
+    settles_to n more within ascii = passed-settles plain can.holds stand (take n input) n (length-take-le n input within) more ascii (omega (arith, fits, within))
         ∙ ap (λ l. settled_utf8 policy f ucd bytes ++ (old.starter ∷ l)) (take-take (n - 1) n input (omega arith))
 
     -- what a call tells that let a front of its input pass
@@ -206,7 +206,7 @@ module _ (pieces : ReadsPieces) (own : ReadsBack) (laws : ReplacesParts) (split 
           let more = can.more (less e) in
           let longer = settles_to (len + 1) (omega arith) (omega (arith, less e)) more.1 in
           omega (arith, ap length longer, length-append (settled_utf8 policy f ucd bytes) (old.starter ∷ take (len + 1 - 1) input), length-take-le (len + 1 - 1) input (omega (arith, less e)), more.0, room);
-      stands = λ _. rw (is, ← get_or-take len input (len - 1) 0 (omega (arith, some))) (passed-stands plain can.calm stand (take len input) len (length-take-le len input can.within) some can.ascii (omega (arith, fits, can.within)));
+      stands = λ _. rw (is, ← get_or-take len input (len - 1) 0 (omega (arith, some))) (passed-stands plain can.holds stand (take len input) len (length-take-le len input can.within) some can.ascii (omega (arith, fits, can.within)));
       told = λ e. absurd (false≢true (sym goes ∙ e));
       spent = λ e. absurd (false≢true (sym goes ∙ e));
       too_long = (λ e. absurd (not_long e), λ long. absurd (omega (arith, fits, long)));

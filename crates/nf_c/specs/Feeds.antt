@@ -15,7 +15,7 @@ use Rattle.nf_c.specs.declared.feeding.Fed.{Fed}
 use Rattle.nf_c.specs.declared.moved.Moved.{Moved}
 use Rattle.nf_c.specs.declared.state.State.{State}
 use Rattle.nf_c.specs.Moved.{ended, read_before}
-use Rattle.nf_c.specs.State.{CanStand, IsCalm, StandsAfter}
+use Rattle.nf_c.specs.State.{CanStand, HoldsAscii, StandsAfter}
 
 -- the text ends there: a full output or too long an input does not end it
 abbrev pub ends : Option Fault → Bool
@@ -34,7 +34,7 @@ abbrev pub IsOfFeeding : Fault → Type 0
 IsOfFeeding = IsAmong (too_long ∷ write ∷ ill_formed ∷ unassigned ∷ [])
 
 -- a front of the piece was fed to the filter, which stood after the bytes: what that settles was written, and then there is
--- a fault in it, or the filter stands behind it
+-- a fault in it, or the filter stands after it
 pub record FeedsFront (policy : Policy) (f : Form) (bytes piece output : List ℕ) (was now : FilterState) (fed : Fed) : Type 0 where
   pub read : fed.read ≤ length piece
   pub written : fed.written ≤ length output
@@ -60,18 +60,18 @@ pub record Feeds (policy : Policy) (f : Form) (bytes input : List ℕ) (old new 
   pub all : fault ≡ None → seen ≡ length input
   -- the output has no room for what one byte more settles
   pub full : fault ≡ Some Write → length (settled_utf8 policy f ucd bytes) + length output < length (settled_utf8 policy f ucd (bytes ++ take (seen + 1) input))
-  -- the state stands behind what was read, or a fault is in that, and the state is spent
+  -- the state stands after what was read, or a fault is in that, and the state is spent
   pub stands : ends fault ≡ false → StandsAfter policy f new (bytes ++ take seen input)
   pub told : ends fault ≡ true → fault ≡ fault_in policy ucd old.base (bytes ++ take seen input)
   pub spent : ends fault ≡ true → CanStand new × (new.spent ≡ 1)
-  -- too long is told where the offset behind the input would be no `u64`, and then nothing was read
+  -- too long is told where the offset after the input would be no `u64`, and then nothing was read
   pub too_long : (fault ≡ Some TooLong) ↔ (2 ^ 64 ≤ old.offset + length input)
   pub nothing : fault ≡ Some TooLong → (seen ≡ 0) × (written ≡ 0) × (new ≡ old)
 
--- the first so many bytes of the input are ASCII behind an ASCII character, and what goes out for them has room: they are all, or
+-- the first so many bytes of the input are ASCII after an ASCII character, and what goes out for them has room: they are all, or
 -- there is room for no more, and the next is ASCII too
 pub record CanPass (state : State) (input : List ℕ) (space len : ℕ) : Type 0 where
-  pub calm : IsCalm state
+  pub holds : HoldsAscii state
   pub within : len ≤ length input
   pub room : len ≤ space
   pub ascii : IsAscii (take len input)

@@ -91,7 +91,7 @@ pub record StandAfter (policy : Policy) (f : Form) (state : State) (filter : Fil
   pub stands : FilterStandsAfter policy f ucd filter bytes
 
 -- it is that of a filter which holds nothing but an ASCII character
-pub record IsCalm (state : State) : Type 0 where
+pub record HoldsAscii (state : State) : Type 0 where
   pub can : CanStand state
   pub unspent : state.spent ≡ 0
   pub held : state.held_len ≡ 0

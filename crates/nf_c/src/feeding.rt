@@ -58,7 +58,7 @@ pub fn feed(state: &mut State, input: &[u8], output: &mut [u8]) -> Moved
     Moved::within(fed.fault, offset, input.len(), fed.read, fed.written)
 }
 
-/// Whether the offset would pass `u64::MAX` behind the input.
+/// Whether the offset would pass `u64::MAX` after the input.
 fn is_too_long(state: &State, input: &[u8]) -> bool
     ensures long { IsTrue result → u64.MAX < state.now.offset + length input.now }
     ensures fits { IsFalse result → state.now.offset + length input.now ≤ u64.MAX }
@@ -67,7 +67,7 @@ fn is_too_long(state: &State, input: &[u8]) -> bool
 }
 
 /// Feeds as much of the input as there is room for, piece by piece. The filter is that of the state, which stands where it
-/// can go back to, and at the end behind no more than the filter.
+/// can go back to, and at the end after no more than the filter.
 pub fn feed_all(
     state: &mut State,
     filter: &mut Filter<'_, Ucd>,

@@ -14,7 +14,7 @@ const CARRY: usize = 16;
 #[derive(Clone, Copy)]
 enum Pace {
     New,
-    Calm,
+    Quiet,
     Grows,
 }
 
@@ -50,7 +50,7 @@ impl Guess {
         let sure = room.saturating_sub(LEAST) / self.growth;
         let wanted = match self.pace {
             Pace::New => 0,
-            Pace::Calm => room.saturating_sub(CARRY),
+            Pace::Quiet => room.saturating_sub(CARRY),
             Pace::Grows => sure,
         };
         let wanted = wanted.max(room.min(CHUNK));
@@ -71,7 +71,7 @@ impl Guess {
         ensures { self.new.most ≤ self.old.most }
     {
         self.pace = if self.most == usize::MAX && written <= len {
-            Pace::Calm
+            Pace::Quiet
         } else {
             Pace::Grows
         };

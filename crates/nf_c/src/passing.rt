@@ -1,10 +1,10 @@
-//! Plain ASCII behind one such character that is pending alone: all but its last goes out as it stands, and the state's numbers
+//! Plain ASCII after one such character that is pending alone: all but its last goes out as it stands, and the state's numbers
 //! say where that leaves a filter, so that none is made.
 ghost use Rattle.std.specs.Prelude.{◌≡◌, ◌+◌, ◌-◌, ◌<◌, ◌≤◌, ◌∷◌, ℕ, List, length, take, slice_index, IsTrue};
 ghost use Rattle.nf_forms.specs.declared.form.Form.{Form};
 ghost use Rattle.nf_filter.specs.declared.policy.Policy.{Policy};
 ghost use Rattle.nf_c.specs.Feeds.{Feeds, CanPass};
-ghost use Rattle.nf_c.specs.State.{IsCalm, StandsAfter};
+ghost use Rattle.nf_c.specs.State.{HoldsAscii, StandsAfter};
 
 use crate::moved::Moved;
 use crate::starting::plain;
@@ -18,15 +18,15 @@ pub fn passing_len(state: &State, input: &[u8], room: usize) -> usize
 {
     let len = input.len().min(room);
     let seen = input.len().min(len + 1);
-    if !is_calm(state) || ascii_prefix(&input[..seen]) < seen {
+    if !holds_ascii(state) || ascii_prefix(&input[..seen]) < seen {
         return 0;
     }
     len
 }
 
 /// Whether the state is that of a filter that holds nothing but an ASCII character.
-fn is_calm(state: &State) -> bool
-    ensures { IsTrue result → IsCalm state.now }
+fn holds_ascii(state: &State) -> bool
+    ensures { IsTrue result → HoldsAscii state.now }
 {
     let _plain = plain();
     if state.magic != MAGIC || state.unicode != UNICODE || state.spent != 0 {
@@ -44,7 +44,7 @@ fn is_calm(state: &State) -> bool
     state.chars > 0 && state.put <= state.chars
 }
 
-/// Lets the first `len` bytes of the input pass, and puts the state behind them.
+/// Lets the first `len` bytes of the input pass, and puts the state after them.
 pub fn pass(state: &mut State, input: &[u8], len: usize, output: &mut [u8]) -> Moved
     requires some { 0 < len }
     requires can { CanPass state.old input.now (length output.old) len }
@@ -67,7 +67,7 @@ pub fn pass(state: &mut State, input: &[u8], len: usize, output: &mut [u8]) -> M
     Moved::of(Status::Done, len, len)
 }
 
-/// Writes the character that is pending and the bytes before the last of those that pass, and puts the state behind them.
+/// Writes the character that is pending and the bytes before the last of those that pass, and puts the state after them.
 fn write_passing(state: &mut State, input: &[u8], len: usize, output: &mut [u8])
     requires some { 0 < len }
     requires within { len ≤ length input.now }

@@ -14,7 +14,7 @@ pub struct State {
     pub put: u64,
     /// The starter that is not settled, or 2^32 - 1 for none.
     pub starter: u32,
-    /// The marks behind it, in order of class: class times 2^21, and the code point.
+    /// The marks after it, in order of class: class times 2^21, and the code point.
     pub marks: [u32; 30],
     /// The bytes of a begun character.
     pub held: [u8; 3],

@@ -3,7 +3,7 @@ use crate::kit::{AS_IS, NFC, started, told};
 use nf_c::{Status, feed, finish};
 use std::test::Fail;
 
-/// Into 3 bytes, and into none. In the end an accent stands behind a letter that was pending.
+/// Into 3 bytes, and into none. In the end an accent stands after a letter that was pending.
 #[test]
 fn ascii_passes_as_far_as_there_is_room(rt: HostRuntime) -> Result<(), Fail> {
     let mut output = [0; 3];

@@ -39,7 +39,7 @@ fn pieces_of_every_size_give_the_form(rt: HostRuntime) -> Result<(), Fail> {
     Ok(())
 }
 
-/// 35 times U+0301 and U+0323: behind each 30 a joiner stands, and of these those of class 220 come first.
+/// 35 times U+0301 and U+0323: after each 30 a joiner stands, and of these those of class 220 come first.
 #[test]
 fn long_runs_are_parted(rt: HostRuntime) -> Result<(), Fail> {
     let alloc = rt.alloc();

@@ -148,8 +148,8 @@ fn the_first_fault_or_change_is_told(rt: HostRuntime) -> Result<(), Fail> {
     let unassigned = check_form(NFD, ASSIGNED, b"a\xCD\xB8\xC3\xA9");
     assert_eq!(rt; unassigned, told(Status::Unassigned, 0, 0, 1, 1));
     assert_eq!(rt; check_form(NFD, AS_IS, b"a\xCD\xB8\xC3\xA9"), changed(3));
-    for behind in [b"\xC3\xA9ab\xFF", b"\xC3\xA9ab\xC3"] {
-        assert_eq!(rt; check_form(NFD, AS_IS, behind), changed(0));
+    for after in [b"\xC3\xA9ab\xFF", b"\xC3\xA9ab\xC3"] {
+        assert_eq!(rt; check_form(NFD, AS_IS, after), changed(0));
     }
     assert_eq!(rt; check_form(NFD, ASSIGNED, b"\xC3\xA9a\xCD\xB8"), changed(0));
     Ok(())

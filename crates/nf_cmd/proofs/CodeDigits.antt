@@ -13,12 +13,12 @@ abbrev spell : ℕ → ℕ → List ℕ → List ℕ
 spell zero n acc = acc
 spell (suc j) n acc = spell j (n / 16) (digit n ∷ acc)
 
--- n has j digits behind its first
-abbrev HasBehind : ℕ → ℕ → Type 0
-HasBehind zero n = n < 16
-HasBehind (suc j) n = (16 ≤ n) × HasBehind j (n / 16)
+-- n has j digits after its first
+abbrev HasAfter : ℕ → ℕ → Type 0
+HasAfter zero n = n < 16
+HasAfter (suc j) n = (16 ≤ n) × HasAfter j (n / 16)
 
-onto : (j k n : ℕ) (acc : List ℕ) → j < k → HasBehind j n → digits_onto k 16 true n acc ≡ spell (suc j) n acc
+onto : (j k n : ℕ) (acc : List ℕ) → j < k → HasAfter j n → digits_onto k 16 true n acc ≡ spell (suc j) n acc
 onto zero k n acc few h = digits_onto_last 16 true n acc k few (omega arith)
 onto (suc j) k n acc few h =
     digits_onto_step 16 true n acc k (omega arith) (λ e. omega (arith, h.0)) ∙ onto j (k - 1) (n / 16) (digit n ∷ acc) (omega arith) h.1
@@ -30,12 +30,12 @@ abbrev pub IsWritten : ℕ → Type 0
 IsWritten n = drop (zeros_before n) (six_digits n) ≡ code_digits n
 
 -- those that are not written are those that stand before
-written : (n z j : ℕ) → j < 64 → HasBehind j n → zeros_before n ≡ z
+written : (n z j : ℕ) → j < 64 → HasAfter j n → zeros_before n ≡ z
     → drop z (spell 6 n []) ≡ replicate (4 - length (spell (suc j) n [])) 48 ++ spell (suc j) n [] → IsWritten n
 unfolding code_digits
-written n z j few behind zeros same =
+written n z j few after zeros same =
     ap (λ k. drop k (six_digits n)) zeros ∙ ap (drop z) (six n) ∙ same
-    ∙ ap (λ (shown : List ℕ). replicate (4 - length shown) 48 ++ shown) (sym (onto j 64 n [] few behind) ∙ digits_onto-nil 16 true n)
+    ∙ ap (λ (shown : List ℕ). replicate (4 - length shown) 48 ++ shown) (sym (onto j 64 n [] few after) ∙ digits_onto-nil 16 true n)
 
 pub code_digits-six : (n : ℕ) → n < 0x110000 → IsWritten n
 code_digits-six n scalar =

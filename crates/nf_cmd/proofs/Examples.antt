@@ -3,7 +3,7 @@ use Rattle.nf_cmd.proofs.Common.{◌≡◌, refl, true, false, List, [], ◌∷�
 use Rattle.nf_forms.specs.declared.form.Form.TheVariants.{Nfc, Nfd}
 
 module _ (names : Bor (List (Bor Text))) where
-  -- each of these words, behind the program's name, ask for their request
+  -- each of these words, after the program's name, ask for their request
   abbrev EachAsks : List (List Text × Request) → Type 0
   EachAsks [] = Unit {0}
   EachAsks (asks ∷ rest) = (request_of (subcommand_of (line names) (codes "nfstream" ∷ asks.0)) ≡ Some asks.1) × EachAsks rest

@@ -86,7 +86,7 @@ never_row driving checking measuring sound Test before after ended does at row =
 abbrev no_fault : Result ℕ Fault
 no_fault = Ok 0
 
--- where a run of the library that has no fault adds what stays, the program's does; a flush behind it changes nothing
+-- where a run of the library that has no fault adds what stays, the program's does; a flush after it changes nothing
 module _ {T : Type 0} (f : Form) (drives : SourceState → SourceState → SinkState → SinkState → Result T Found → Type 0)
     (stays : (source rest : SourceState) (old new : SinkState) (value : T) → IsTrue rest.is_at_end → drives source rest old new (Ok value) → AddsWhatStays f ucd old.taken new.taken) where
   ends_once : {coming left taken now : Option (List ℕ)} → Ends drives coming left taken now (Ok 0) → AddsWhatStays f ucd taken now
@@ -110,7 +110,7 @@ module _ (law : FinishedStays) (f : Form) (policy : Policy) (once : ChangesOnce 
       puts = Puts-at refl driven.form (driven.written (λ e. cc))
 
       by : (r : Result Tally Found) → finished policy ucd 0 (bytes_of driven.taken) ≡ r → AddsWhatStays f ucd old.taken new.taken
-      by (Ok tally) is = (puts.out, puts.given, subst (StaysAsItIs f ucd) puts.behind (law policy f ucd 0 (bytes_of driven.taken) tally once is))
+      by (Ok tally) is = (puts.out, puts.given, subst (StaysAsItIs f ucd) puts.after (law policy f ucd 0 (bytes_of driven.taken) tally once is))
       by (Err fault) is = absurd (grind (arith, driven.finished end (λ e. cc)))
 
 pub each_converts_once : FinishedStays → ((f : Form) → ChangesOnce f ucd) → EachConvertsOnce

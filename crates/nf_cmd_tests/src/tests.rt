@@ -42,7 +42,7 @@ struct Shown {
     err: Vec<u8>,
 }
 
-/// An input, the texts and these bytes behind them; and the status, the output and the line that a run must give of it.
+/// An input, the texts and these bytes after them; and the status, the output and the line that a run must give of it.
 type Case<'a> = (Parts<'a>, &'a [u8], u8, &'a str, &'a str);
 
 fn run<I: Read>(alloc: Global, words: &[&str], input: &mut I) -> Shown

@@ -23,7 +23,7 @@ use Rattle.nf_counts.specs.declared.pairs.TheConstants.{KANA, LOOKS}
 use Rattle.nf_counts.specs.declared.rows.TheConstants.{INDEX, WORDS}
 use Rattle.nf_counts.proofs.Told.{told, told-ascii, told-valued, told-block}
 
--- text of the value 0 behind such text
+-- text of the value 0 after such text
 value-append : (p : Properties) (w v : List ℕ) → HasValue p w 0 → HasValue p v 0 → HasValue p (w ++ v) 0
 value-append p w v first next =
     grind (arith, has_starter-append p w v, lead-append p w v, trail-append p w v, longest-append p w v, sum_by-append (λ d. cond (is_nonstarter p d) 1 0) w v)

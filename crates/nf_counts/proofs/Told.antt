@@ -105,7 +105,7 @@ pub told-small : (c : ℕ) → told c < 8
 unfolding told
 told-small c = grind (arith, nat_tests)
 
--- a row of starters, and behind them so many non-starters
+-- a row of starters, and after them so many non-starters
 value-row : (p : Properties) (w : List ℕ) (v : ℕ) → v ≡ row_value p w → (v == 4) ≡ false → HasValue p w v
 value-row p w v is some = grind (arith, nat_tests)
 

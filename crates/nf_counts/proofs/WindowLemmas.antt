@@ -19,7 +19,7 @@ pub told_before : (text : List ℕ) (at : ℕ) (window : Window) → AreLeft tex
 told_before text at window left n few none k from to high =
     ⊎_elim
     (λ before. left.before k from before high)
-    (λ behind.
-    let is : window.base + (k - window.base) ≡ k = omega (arith, behind) in
+    (λ after.
+    let is : window.base + (k - window.base) ≡ k = omega (arith, after) in
     (rw is at (left.told (k - window.base))) (omega arith) (none _ (omega arith)) from high)
     (order k window.base)

@@ -17,7 +17,7 @@ pub record HasCounts (p : Properties) (w : List ℕ) (counts : Counts) : Type 0 
   pub longest : counts.longest ≡ longest p w
   pub nonstarters : counts.nonstarters ≡ count_by (is_nonstarter p) w
 
--- the text is starters, if any, and behind them so many non-starters as the two low bits of the value are: from 4 on there is
+-- the text is starters, if any, and after them so many non-starters as the two low bits of the value are: from 4 on there is
 -- no starter
 pub record HasValue (p : Properties) (w : List ℕ) (value : ℕ) : Type 0 where
   pub has_starter : nat_lt value 4 ≡ has_starter p w

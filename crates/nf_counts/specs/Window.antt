@@ -25,10 +25,10 @@ pub record AreLeft (text : List ℕ) (at : ℕ) (window : Window) : Type 0 where
   pub leads : (k : ℕ) → k < 64 → bit_at window.found k ≡ 1 → (k < 63) × (at ≤ window.base + k) × (0xC0 ≤ slice_index text (window.base + k))
   pub told : (k : ℕ) → k < 63 → bit_at window.found k ≡ 0 → at ≤ window.base + k → 0xC0 ≤ slice_index text (window.base + k) → IsTold text (window.base + k)
 
--- there is the next, and behind its character the window has the others
+-- there is the next, and after its character the window has the others
 pub record IsNext (text : List ℕ) (at place : ℕ) (window : Window) : Type 0 where
   pub order : at ≤ place
   pub within : place < window.base + 63
   pub lead : 0xC0 ≤ slice_index text place
   pub told : AreTold text at place
-  pub others : (behind : ℕ) → place < behind → ((k : ℕ) → place < k → k < behind → slice_index text k < 0xC0) → AreLeft text behind window
+  pub others : (after : ℕ) → place < after → ((k : ℕ) → place < k → k < after → slice_index text k < 0xC0) → AreLeft text after window

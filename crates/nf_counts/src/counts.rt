@@ -11,7 +11,7 @@ pub struct Counts {
     pub longest: u32,
     /// How many stand before the first starter; all of them where there is none.
     pub lead: u32,
-    /// How many stand behind the last starter; all of them where there is none.
+    /// How many stand after the last starter; all of them where there is none.
     pub trail: u32,
     pub has_starter: bool,
     ghost longest_within: { longest ≤ 30 },
@@ -40,7 +40,7 @@ impl Counts {
         }
     }
 
-    /// Puts text of this value behind, where no run gets too long, and no more than `room` non-starters stand before the first
+    /// Puts text of this value after, where no run gets too long, and no more than `room` non-starters stand before the first
     /// starter; answers whether that is so.
     #[inline(always)]
     pub(crate) fn add(&mut self, value: u32, room: u32) -> bool

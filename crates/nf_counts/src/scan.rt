@@ -6,7 +6,7 @@ use crate::window::Window;
 use nf_facts::laws;
 
 /// So many bytes at the front of a text are asked piece by piece: where little is told, no window is read.
-const FEW: usize = 16;
+const PIECEWISE_LEN: usize = 16;
 
 /// A place in a text, up to which its non-starters are counted.
 #[derive(Clone, Copy)]
@@ -47,7 +47,7 @@ impl<'t> Scan<'t> {
         ensures reaches { Reaches ucd room self.new }
     {
         let len = self.text.len();
-        if self.pass_pieces(FEW.min(len), room) && self.pass_windows(room) {
+        if self.pass_pieces(PIECEWISE_LEN.min(len), room) && self.pass_windows(room) {
             self.pass_pieces(len, room);
         }
     }
@@ -90,7 +90,7 @@ impl<'t> Scan<'t> {
         true
     }
 
-    /// Goes on behind the last character that is looked up of those that begin in the 63 bytes from `base` on.
+    /// Goes on after the last character that is looked up of those that begin in the 63 bytes from `base` on.
     #[inline(always)]
     fn pass_window(&mut self, base: usize, room: u32) -> bool
         requires reaches { Reaches ucd room self.old }
@@ -133,7 +133,7 @@ impl<'t> Scan<'t> {
         }
     }
 
-    /// Goes on behind a piece, if it may.
+    /// Goes on after a piece, if it may.
     #[inline(always)]
     fn pass(&mut self, piece: Piece, room: u32) -> bool
         requires reaches { Reaches ucd room self.old }

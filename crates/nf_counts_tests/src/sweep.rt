@@ -5,7 +5,7 @@ use std::test::Fail;
 use unicode::properties::GeneralCategory;
 use unicode_normalization::{Form, char as lookup};
 
-/// Whether the compatibility decomposition of `c` has a starter, and how many non-starters stand behind it; none where one
+/// Whether the compatibility decomposition of `c` has a starter, and how many non-starters stand after it; none where one
 /// stands before a starter, `c` is unassigned, or above U+1FFFF.
 pub(crate) fn told_of(c: char) -> Option<(bool, u32)> {
     let mut room = [c; 3];
@@ -24,7 +24,7 @@ pub(crate) fn told_of(c: char) -> Option<(bool, u32)> {
     )
 }
 
-/// The non-starters of a front, its longest run, those before the first starter and behind the last one, and whether there is
+/// The non-starters of a front, its longest run, those before the first starter and after the last one, and whether there is
 /// a starter.
 type Counts = (u128, u32, u32, u32, bool);
 
@@ -88,7 +88,7 @@ fn characters_are_counted_by_their_decompositions(rt: HostRuntime) -> Result<(),
     Ok(())
 }
 
-/// Each among letters, at one of 64 places behind 16 bytes.
+/// Each among letters, at one of 64 places after 16 bytes.
 #[test]
 fn characters_are_counted_among_letters(rt: HostRuntime) -> Result<(), Fail> {
     for code in 0..0x11_0000u32 {

@@ -8,7 +8,7 @@ use Rattle.unicode_normalization.proofs.ComposeLemmas.{flat_map-final}
 use Rattle.unicode_normalization.proofs.DecomposeLemmas.{decompose-other, decompose-final, is_final-parts, is_final-canonical, IsFull-decompose}
 use Rattle.unicode_normalization.proofs.FormsLemmas.{is_final-Nfkd}
 use Rattle.unicode_normalization.proofs.TableFacts.{by_rows, class_of_jamo, is_final}
-use Rattle.nf_forms.specs.Calm.{IsMark}
+use Rattle.nf_forms.specs.Span.{IsMark}
 use Rattle.nf_forms.specs.Cluster.{IsOwnRow}
 use Rattle.nf_forms.specs.Ordering.{is_ordered}
 use Rattle.nf_forms.specs.Sound.{joiner_is_plain, is_sound}

@@ -8,7 +8,7 @@ use Rattle.unicode_normalization.proofs.FormsLemmas.{is_final-Nfd, is_final-Nfkd
 use Rattle.unicode_normalization.proofs.OrderLemmas.{is_ordered-one}
 use Rattle.unicode_normalization.proofs.RebuildLemmas.{IsRebuilt}
 use Rattle.nf_forms.specs.Parting.{NeverSecond, BeginsAnew, IsParting}
-use Rattle.nf_forms.specs.Laws.ClosedForms.{counts_anew-lead}
+use Rattle.nf_forms.specs.Laws.SegmentForms.{counts_anew-lead}
 use Rattle.nf_facts.specs.Passing.{is_among, vowel_signs, halfwidth_marks, passes_check}
 use Rattle.nf_facts.proofs.Mapped.{Begins, by_row}
 use Rattle.nf_facts.specs.Refused.{no_vowel_sign}

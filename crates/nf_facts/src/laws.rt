@@ -26,7 +26,7 @@ ghost use Rattle.nf_forms.specs.Twice.{HasScalarRows, ChangesOnce};
 ghost use Rattle.nf_forms.specs.Ucd.{ucd};
 ghost use Rattle.nf_forms.specs.Parting.{NeverSecond, BeginsAnew, IsParting};
 ghost use Rattle.nf_forms.specs.Closing.{IsClosing};
-ghost use Rattle.nf_forms.specs.Calm.{IsMark};
+ghost use Rattle.nf_forms.specs.Span.{IsMark};
 ghost use Rattle.nf_forms.specs.Laws.Sound.{IsSoundText};
 ghost use Rattle.nf_facts.specs.KitForm.{kit_form};
 ghost use Rattle.nf_facts.specs.After.{after};
@@ -165,7 +165,7 @@ pub fn each_pair_has_a_primary_composite()
     ensures { (a b : ℕ) → composite ucd a b ≡ ucd.pair a b }
 {}
 
-/// A text may be cut behind each line feed (U+000A), and each part brought into the form by itself, whatever the parts are.
+/// A text may be cut after each line feed (U+000A), and each part brought into the form by itself, whatever the parts are.
 #[inline]
 pub fn lines_are_formed_alone()
     ensures closing { (f : Form) → IsClosing ucd f line_feed }
@@ -173,7 +173,7 @@ pub fn lines_are_formed_alone()
         → safe_form f ucd ((x ++ line_feed ∷ []) ++ y) ≡ safe_form f ucd (x ++ line_feed ∷ []) ++ safe_form f ucd y }
 {}
 
-/// Behind a canonical form each form can be had as of the source, and behind any form the compatibility forms can. Behind
+/// After a canonical form each form can be had as of the source, and after any form the compatibility forms can. After
 /// NFKC and NFKD the canonical forms cannot: some text comes out otherwise, as U+FB01, of which they have two letters.
 #[inline]
 pub fn a_later_form_may_come_too_late()

@@ -125,7 +125,7 @@ drives_to_end {bytes = bytes} (Ok tally) law end drives = record {
 module _ (f : Form) (p : Properties) (old new : SinkState) where
   pub adds_what_stays : (policy : Policy) (source left : SourceState) (result : Result Tally Fault) → OnOk result (DrivesOnce policy f p [] source left old new) → OnOk result (AddsWhatStays f p old.taken new.taken)
   adds_what_stays policy source left (Err fault) once = tt
-  adds_what_stays policy source left (Ok tally) once = (once.written.out, once.written.given, rw (simp (settled_utf8-none policy f p) at once.written.behind) at once.says)
+  adds_what_stays policy source left (Ok tally) once = (once.written.out, once.written.given, rw (simp (settled_utf8-none policy f p) at once.written.after) at once.says)
 
 -- of bytes that were all there was
 pub converts_once : FinishedStays → {f : Form} {p : Properties} {old new : SinkState} {bytes : List ℕ} (result : Result Tally Fault) → ChangesOnce f p → Converts f p bytes old new result
@@ -133,4 +133,4 @@ pub converts_once : FinishedStays → {f : Form} {p : Properties} {old new : Sin
 converts_once law (Err fault) once converts = tt
 converts_once law {f} {p} {bytes = bytes} (Ok tally) once converts =
     let all = Converts-all converts in
-    (all.0.out, all.0.given, rw all.0.behind at (law as_is f p 0 bytes tally once (sym all.1)))
+    (all.0.out, all.0.given, rw all.0.after at (law as_is f p 0 bytes tally once (sym all.1)))

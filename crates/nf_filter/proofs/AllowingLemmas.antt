@@ -6,9 +6,9 @@ use Rattle.nf_filter.proofs.TakingLemmas.{placed-within}
 use Rattle.nf_filter.proofs.SteppingLemmas.{Standing-taken}
 use Rattle.nf_filter.proofs.FeedingLemmas.{fed_by}
 
--- what taking the text y, which begins at the offset `at`, comes to behind any that was taken
-abbrev pub TakesBehind : Bool → Properties → Counted → BlockState → Counted → BlockState → ℕ → List ℕ → Result (Unit {0}) Fault → Type 0
-TakesBehind a p old before new now at y r = (f : Form) (place : List ℕ → ℕ) (x : List ℕ) (start : Start) → HasTaken f p old x → allowed a p x ≡ x → IsPlacedAt place at x y
+-- what taking the text y, which begins at the offset `at`, comes to after any that was taken
+abbrev pub TakesAfter : Bool → Properties → Counted → BlockState → Counted → BlockState → ℕ → List ℕ → Result (Unit {0}) Fault → Type 0
+TakesAfter a p old before new now at y r = (f : Form) (place : List ℕ → ℕ) (x : List ℕ) (start : Start) → HasTaken f p old x → allowed a p x ≡ x → IsPlacedAt place at x y
     → Written start before (settled_text f p x) → TakesAllowed a f p new start now place (x ++ y) r
 
 -- and what taking it as it is comes to

@@ -13,7 +13,7 @@ Written-none {sink} before none = rw none (record { given = before; puts = Puts-
 pub WritesTo-written : {start : Start} {now : BlockState} {w : List ℕ} {found : Result (Unit {0}) Fault} → ¬ (found ≡ Err Write) → Written start now w → WritesTo start now w found
 WritesTo-written other written = record { broken = λ e. absurd (other e); written = λ _. written }
 
--- more is to come behind, also where text stands ahead
+-- more is to come after, also where text stands ahead
 pub Broken-extends : (start : Start) {new : SinkState} {a b : List ℕ} → Extends a b → BreaksOff start.sink new start.before (start.ahead ++ a)
     → BreaksOff start.sink new start.before (start.ahead ++ b)
 Broken-extends start {a = a} more broken = BreaksOff-extends (record { more = more.more; text = simp (more.text, append_assoc) }) broken

@@ -29,7 +29,7 @@ pub use Rattle.nf_filter.specs.Laws.Settled.{settled_utf8-none, text_under-none}
 pub use Rattle.nf_filter.specs.Laws.Undecided.{no_stop, unusable_at-usable, checked_undecided, measured_undecided}
 pub use Rattle.nf_filter.specs.Laws.Soundness.{AreSound, RefusesNone}
 pub use Rattle.nf_filter.specs.Measures.{unusable_decision, HasMeasured, measure_decision, text_measure}
-pub use Rattle.nf_filter.specs.Passed.{IsBehindAssigned}
+pub use Rattle.nf_filter.specs.Passed.{IsAfterAssigned}
 pub use Rattle.nf_filter.specs.Policy.{as_is, allowed, text_under, whole_under, len_under}
 pub use Rattle.nf_filter.specs.Saved.{saved_of, are_marks, IsCounted, CountsFit, IsPending, IsRestorable}
 unfoldable pub use Rattle.nf_filter.specs.Settled.{is_usable, settled_utf8, settled}
@@ -77,9 +77,9 @@ pub use Rattle.nf_utf8.specs.Laws.{ReadsLongestText, ReadsBack, ReplacesParts, S
 unfoldable pub use Rattle.nf_utf8.specs.Reading.{text_of, ending_of, rest_of}
 pub use Rattle.nf_utf8.specs.Reading.{text_len}
 unfoldable pub use Rattle.nf_utf8.specs.Replaced.{replaced, replaced_whole, parts_of, replaced_len}
-pub use Rattle.nf_utf8.specs.Replaced.{replacement, begun_at_end, part_end, Part, own_parts, behind_text, parts_within, bytes_in}
+pub use Rattle.nf_utf8.specs.Replaced.{replacement, begun_at_end, subpart_end, Part, own_parts, parts_after_text, parts_within, bytes_in}
 pub use Rattle.nf_utf8.specs.Standing.{StandsAfter as DecoderStandsAfter}
-pub use Rattle.nf_utf8.specs.Taking.{first_text, Takes, bytes_behind, first_bytes, EndsPiece, Counts}
+pub use Rattle.nf_utf8.specs.Taking.{first_text, Takes, bytes_after_piece, first_bytes, EndsPiece, Counts}
 pub use Rattle.nf_utf8.specs.Text.{IsText, BeginsText}
 pub use Rattle.nf_utf8.specs.declared.chunk.End.{End}
 pub use Rattle.nf_utf8.specs.declared.chunk.End.TheVariants.{Bad as EndsBad, Whole as EndsWhole, Cut as EndsCut}

@@ -22,8 +22,8 @@ write_or_kept _ = inr (λ e. cc)
 pub failed_if : {T : Type 0} {old new : SinkState} {before after : List ℕ} (r : Result T Fault) → (r ≡ Err Write → BreaksOff old new before after) → (¬ (r ≡ Err Write) → Puts old new before after)
     → (r ≡ Err Write) ↔ (IsTrue new.is_failed × (length before < length after))
 failed_if {before = before} r breaks puts = (
-  λ e. let stops = breaks e in (stops.failed, omega (arith, ap length stops.behind, length-append {A = ℕ})),
-  λ both. ⊎_elim (λ e. e) (λ not. let given = puts not in absurd (omega (arith, ap length given.behind, length-append before given.out, ap length (given.idle (sym given.stands ∙ both.0))))) (write_or_kept r),
+  λ e. let stops = breaks e in (stops.failed, omega (arith, ap length stops.after, length-append {A = ℕ})),
+  λ both. ⊎_elim (λ e. e) (λ not. let given = puts not in absurd (omega (arith, ap length given.after, length-append before given.out, ap length (given.idle (sym given.stands ∙ both.0))))) (write_or_kept r),
 )
 
 -- what a text decides that is refused where a filter refuses it

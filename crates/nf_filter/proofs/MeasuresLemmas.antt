@@ -13,7 +13,7 @@ module _ (p : Properties) where
       next u l j true is = grind arith
       next u l j false is = grind arith
 
-  -- a character that is refused behind x
+  -- a character that is refused after x
   pub refusal_at : (base : ℕ) {at : ℕ} (x : List ℕ) (c : ℕ) {e : Unsound} (y : List ℕ) → IsSoundText p (stream_safe p x) → at ≡ base + length (encode_utf8_all x) → Some e ≡ option_map refusal (unsound_at p x c)
       → unusable_at p (utf8_place base) ((x ++ c ∷ []) ++ y) ≡ Some (Row at)
   unfolding is_usable

@@ -1,21 +1,21 @@
 -- How far a text is assigned, piece by piece.
-use Rattle.nf_filter.proofs.Common.{◌≡◌, ℕ, ◌-◌, true, List, [], ◌++◌, length, refl, ap, arith, length-append, append_assoc, append-nil, take_at, take_while, chars, encode_utf8, encode_utf8_all, IsUtf8, list_all-append, chars-nil, chars-append, IsUtf8-append, IsUtf8-take, IsCharBoundary-at_seam, encodes-chars, Properties, IsBehindAssigned}
+use Rattle.nf_filter.proofs.Common.{◌≡◌, ℕ, ◌-◌, true, List, [], ◌++◌, length, refl, ap, arith, length-append, append_assoc, append-nil, take_at, take_while, chars, encode_utf8, encode_utf8_all, IsUtf8, list_all-append, chars-nil, chars-append, IsUtf8-append, IsUtf8-take, IsCharBoundary-at_seam, encodes-chars, Properties, IsAfterAssigned}
 use Rattle.nf_filter.proofs.PolicyLemmas.{take_while-append}
 use Rattle.nf_filter.proofs.TakingLemmas.{nothing-left, chars_of_one}
 
 module _ {p : Properties} where
-  pub none_behind : {text : List ℕ} → IsUtf8 text → IsBehindAssigned p text text
-  none_behind u = record { front = []; split = refl; front_utf8 = ([], (refl, refl)); rest_utf8 = u; assigned = rw chars-nil }
+  pub none_after : {text : List ℕ} → IsUtf8 text → IsAfterAssigned p text text
+  none_after u = record { front = []; split = refl; front_utf8 = ([], (refl, refl)); rest_utf8 = u; assigned = rw chars-nil }
 
-  pub char_behind : {text rest : List ℕ} (c : ℕ) → IsUtf8 text → IsUtf8 rest → text ≡ encode_utf8 c ++ rest → p.assigned c ≡ true → IsBehindAssigned p text rest
-  char_behind {text} {rest} c u rest_utf8 e assigned =
+  pub char_after : {text rest : List ℕ} (c : ℕ) → IsUtf8 text → IsUtf8 rest → text ≡ encode_utf8 c ++ rest → p.assigned c ≡ true → IsAfterAssigned p text rest
+  char_after {text} {rest} c u rest_utf8 e assigned =
       let n = length (encode_utf8 c) in
       let piece : IsUtf8 (encode_utf8 c) = rw (e, take_at (encode_utf8 c) rest n refl) at (IsUtf8-take text n u (IsCharBoundary-at_seam text (encode_utf8 c) rest e rest_utf8)) in
       record { front = encode_utf8 c; split = e; front_utf8 = piece; rest_utf8 = rest_utf8; assigned = rw (chars_of_one (encode_utf8 c) c piece refl, assigned) }
 
-module _ {p : Properties} {text rest : List ℕ} (here : IsBehindAssigned p text rest) where
-  pub piece_behind : {next : List ℕ} → IsBehindAssigned p rest next → IsBehindAssigned p text next
-  piece_behind more = record {
+module _ {p : Properties} {text rest : List ℕ} (here : IsAfterAssigned p text rest) where
+  pub piece_after : {next : List ℕ} → IsAfterAssigned p rest next → IsAfterAssigned p text next
+  piece_after more = record {
     front = here.front ++ more.front;
     split = simp (here.split, more.split, append_assoc);
     front_utf8 = IsUtf8-append here.front more.front here.front_utf8 more.front_utf8;

@@ -1,11 +1,11 @@
 -- Bytes, part by part: what a front of them gives does not change what the rest gives.
-use Rattle.nf_filter.proofs.Common.{◌≡◌, ℕ, ◌+◌, ◌-◌, Bool, true, false, List, [], ◌∷◌, ◌++◌, length, map, drop, refl, sym, arith, append_assoc, append-nil, encode_utf8, encode_utf8_all, take-append-add, length-append, length-drop, length-map, map-append, take_at, drop-append-le, BeginsText, Bad, text_of, text_len, ending_of, Part, replacement, own_parts, part_end, behind_text, parts_within, parts_of, replaced, replaced_len, begun_at_end, replaced_whole, ReplacesParts, SplitsBytes, answer_at_end, bad_under, IsLeft, len_under, text_under, whole_under, Extends}
+use Rattle.nf_filter.proofs.Common.{◌≡◌, ℕ, ◌+◌, ◌-◌, Bool, true, false, List, [], ◌∷◌, ◌++◌, length, map, drop, refl, sym, arith, append_assoc, append-nil, encode_utf8, encode_utf8_all, take-append-add, length-append, length-drop, length-map, map-append, take_at, drop-append-le, BeginsText, Bad, text_of, text_len, ending_of, Part, replacement, own_parts, subpart_end, parts_after_text, parts_within, parts_of, replaced, replaced_len, begun_at_end, replaced_whole, ReplacesParts, SplitsBytes, answer_at_end, bad_under, IsLeft, len_under, text_under, whole_under, Extends}
 use Rattle.std.proofs.Common.{add_assoc}
 use Rattle.std.proofs.Math.Nat.{add-zero}
-use Rattle.nf_utf8.specs.Mending.{IsReplacedFront}
+use Rattle.nf_utf8.specs.Lossy.{IsReplacedFront}
 use Rattle.nf_utf8.proofs.ReplacedLemmas.{broken_end}
 
--- where what stands behind a front of the text of the bytes begins, the first of which has the offset `base`
+-- where what stands after a front of the text of the bytes begins, the first of which has the offset `base`
 abbrev pub place_in : Bool → ℕ → List ℕ → List ℕ → ℕ
 place_in r base bytes front = base + len_under r bytes front
 
@@ -86,7 +86,7 @@ module _ (laws : ReplacesParts) where
   unfolding replaced parts_of
   text_under-first false bytes = record { more = []; text = sym (append-nil (text_of bytes)) }
   text_under-first true bytes =
-      let more = behind_text (ending_of bytes) (λ n. parts_within (length bytes) (drop n bytes)) in
+      let more = parts_after_text (ending_of bytes) (λ n. parts_within (length bytes) (drop n bytes)) in
       record { more = map (λ part. part.char) more; text = simp (map-append, laws.own_chars) }
 
   pub len_under-first : (r : Bool) (bytes y z : List ℕ) → text_of bytes ≡ y ++ z → len_under r bytes y ≡ length (encode_utf8_all y)
@@ -105,15 +105,15 @@ module _ (laws : ReplacesParts) where
     begun_at_end-begun = rw (laws.begun bytes begins, laws.own_len (text_of bytes))
 
   -- the text before a bad byte, and the part that it breaks off
-  pub bad_front : SplitsBytes → {bytes : List ℕ} {at : ℕ} → ending_of bytes ≡ Bad at (text_len bytes) → IsReplacedFront bytes (text_of bytes ++ replacement ∷ []) (part_end at (text_len bytes))
+  pub bad_front : SplitsBytes → {bytes : List ℕ} {at : ℕ} → ending_of bytes ≡ Bad at (text_len bytes) → IsReplacedFront bytes (text_of bytes ++ replacement ∷ []) (subpart_end at (text_len bytes))
   bad_front split {bytes} {at} bad =
       let text = own_parts (text_of bytes) in
-      let part : Part = record { char = replacement; len = part_end at (text_len bytes) - text_len bytes } in
+      let part : Part = record { char = replacement; len = subpart_end at (text_len bytes) - text_len bytes } in
       let broken = broken_end bytes at (text_len bytes) bad in
       record {
         parts = text ++ part ∷ [];
         chars = simp (map-append, laws.own_chars);
         size = grind (arith, laws.joined, laws.own_len, split.len);
         within = broken.1;
-        front = λ more. rw (append_assoc text (part ∷ []) _, ← drop-append-le (part_end at (text_len bytes)) bytes more broken.1) (laws.bad bytes more at (text_len bytes) bad);
+        front = λ more. rw (append_assoc text (part ∷ []) _, ← drop-append-le (subpart_end at (text_len bytes)) bytes more broken.1) (laws.bad bytes more at (text_len bytes) bad);
       }

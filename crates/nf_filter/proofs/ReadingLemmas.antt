@@ -1,5 +1,5 @@
 -- A piece more.
-use Rattle.nf_filter.proofs.Common.{encode_utf8_all, ◌≡◌, ℕ, ◌+◌, ◌-◌, List, [], ◌++◌, length, Some, None, refl, arith, Option, Result, chars, length-drop, result_map_both, utf8_valid_len_le, End, EndsBad, EndsPiece, bytes_behind, Takes, first_text, Ending, Whole, text_of, rest_of, ending_of, DecoderStandsAfter, Fault, BadByte, Reading, bad_byte, answer_at_end, Survey, decided_or, decided_in, HasSurveyed, false, text_under-none, nat_tests}
+use Rattle.nf_filter.proofs.Common.{encode_utf8_all, ◌≡◌, ℕ, ◌+◌, ◌-◌, List, [], ◌++◌, length, Some, None, refl, arith, Option, Result, chars, length-drop, result_map_both, utf8_valid_len_le, End, EndsBad, EndsPiece, bytes_after_piece, Takes, first_text, Ending, Whole, text_of, rest_of, ending_of, DecoderStandsAfter, Fault, BadByte, Reading, bad_byte, answer_at_end, Survey, decided_or, decided_in, HasSurveyed, false, text_under-none, nat_tests}
 use Rattle.nf_utf8.specs.declared.decoder.Decoder.{Decoder}
 
 -- no bytes spell nothing
@@ -34,9 +34,9 @@ module _ (bytes piece : List ℕ) where
   pub ends_badly : (base offset at back : ℕ) → offset ≡ base + length bytes → EndsPiece bytes piece (EndsBad at back) → bad_byte base (ending_of (bytes ++ piece)) ≡ Some (BadByte (offset + at) (offset + at - back))
   ends_badly base offset at back here ends = grind (arith, ends.0, ends.1)
 
-  pub all_behind : (end : End) → EndsWell end → bytes_behind bytes piece end ≡ bytes ++ piece
-  all_behind (EndsBad at back) well = absurd (well at back refl)
-  all_behind _ well = refl
+  pub all_after : (end : End) → EndsWell end → bytes_after_piece bytes piece end ≡ bytes ++ piece
+  all_after (EndsBad at back) well = absurd (well at back refl)
+  all_after _ well = refl
 
 module _ {T : Type 0} {stands : List ℕ → Type 0} {decides : List ℕ → Option (Result T Fault)} {value : List ℕ → T} {survey : Survey T} {reading : Reading} where
   -- nothing was read, and a text of no characters decides nothing
@@ -48,7 +48,7 @@ module _ {T : Type 0} {stands : List ℕ → Type 0} {decides : List ℕ → Opt
   module _ {bytes : List ℕ} (before : HasSurveyed stands decides value survey reading bytes) where
     -- where the text of a piece begins
     pub begins_at : (carried : ℕ) → length (encode_utf8_all (text_of bytes)) + carried ≡ length bytes → reading.offset - carried ≡ survey.base + length (encode_utf8_all (text_of bytes))
-    begins_at carried behind = omega arith
+    begins_at carried after = omega arith
 
     -- what all the bytes decide with it
     pub decided_then : {piece : List ℕ} {first : Option ℕ} {text : List ℕ} {end : End} → Takes bytes piece first text end

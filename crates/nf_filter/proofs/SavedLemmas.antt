@@ -6,7 +6,7 @@ use Rattle.nf_forms.specs.Ordering.{is_ordered}
 use Rattle.nf_forms.specs.Laws.Order.{order-marks, has_starter-by_class}
 use Rattle.nf_forms.specs.Laws.Ordering.{ordering}
 use Rattle.nf_boundary.specs.Mark.{mark_of}
-use Rattle.nf_utf8.specs.Part.{IsPart}
+use Rattle.nf_utf8.specs.Part.{IsSubpart}
 use Rattle.nf_pending.specs.StandsAfter.{StandsAfter as PendingStandsAfter}
 use Rattle.nf_pending.specs.Laws.Standing.{run_len-trail}
 use Rattle.nf_pending.proofs.Standing.{starter_held}
@@ -74,7 +74,7 @@ module _ (laws : ReplacesParts) {policy : Policy} {f : Form} {p : Properties} {s
   starter None e = tt
   starter (Some c) e = eqb-true (p.class c) 0 (back-starter p (composes f) pending.head pending.ends c (sym pending.starter ∙ ap option_to_list e))
 
-  pub IsRestorable-stands : IsPart state.reading.decoder → state.counted.normalizer.counter ≤ max_run → length (encode_utf8_all (text_of stands.reading.tail)) + length state.reading.decoder ≡ length stands.reading.tail → IsRestorable p (saved_of state)
+  pub IsRestorable-stands : IsSubpart state.reading.decoder → state.counted.normalizer.counter ≤ max_run → length (encode_utf8_all (text_of stands.reading.tail)) + length state.reading.decoder ≡ length stands.reading.tail → IsRestorable p (saved_of state)
   unfolding is_usable
   IsRestorable-stands part count begun =
       let taken = stands.reading.taken in

@@ -3,7 +3,7 @@ use Rattle.nf_filter.proofs.Common.{⊎_elim, cases_Bool, ◌≡◌, ℕ, ◌+�
 use Rattle.nf_filter.specs.Kinds.{row, unassigned, IsAmong}
 use Rattle.nf_filter.proofs.PolicyLemmas.{first_fault-is}
 
--- a text does not tell it, where what stands behind it does not
+-- a text does not tell it, where what stands after it does not
 abbrev TellsNot : Fault → Bool → Properties → Type 0
 TellsNot refusal assigned p = (place : List ℕ → ℕ) (x : List ℕ) (other : Option Fault) → ¬ (other ≡ Some refusal) → ¬ (first_fault assigned p place x other ≡ Some refusal)
 

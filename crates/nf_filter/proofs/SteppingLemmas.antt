@@ -2,7 +2,7 @@
 use Rattle.nf_filter.proofs.Common.{⊎_elim, ◌≡◌, ℕ, ◌+◌, ◌<◌, List, [], ◌∷◌, ◌++◌, length, Err, inl, inr, refl, sym, ap, ◌∙◌, arith, append_assoc, encode_utf8_all, IsUtf8, chars, encodes-chars, Properties, Form, safe_form, Given, Extends, Extends-join, Counted, WriteFault, Start, BlockState, Written, Broken, HasPlaces, ◌^◌, HasTaken, TakesOn, settled_text, usable_utf8, Standing}
 use Rattle.nf_normalizer.specs.declared.normalizer.Normalizer.{Normalizer}
 use Rattle.nf_normalizer.specs.Front.{Stands}
-use Rattle.nf_normalizer.specs.Laws.Boundary.{usable-alone, usable_both, settled_text-behind}
+use Rattle.nf_normalizer.specs.Laws.Boundary.{usable-alone, usable_both, settled_text-after}
 use Rattle.nf_filter.proofs.BlockLemmas.{Broken-extends}
 use Rattle.nf_filter.proofs.TextLemmas.{usable_utf8-extends}
 
@@ -37,7 +37,7 @@ module _ {f : Form} {p : Properties} {start : Start} where
           let rest = between.boundary.rest in
           let one : next ≡ (first ∷ []) ++ rest = between.boundary.text in
           let usable = usable_both p f x between.usable next [] rest between.boundary one (usable-alone p f first between.boundary.boundary between.boundary.sound) in
-          let grows : Extends (encode_utf8_all (safe_form f p x)) (settled_text f p (x ++ first ∷ [])) = record { more = settled_text f p (first ∷ []); text = sym (settled_text-behind p f x between.usable next [] rest between.boundary one) } in
+          let grows : Extends (encode_utf8_all (safe_form f p x)) (settled_text f p (x ++ first ∷ [])) = record { more = settled_text f p (first ∷ []); text = sym (settled_text-after p f x between.usable next [] rest between.boundary one) } in
           let due : Extends (encode_utf8_all (safe_form f p x)) (usable_utf8 f p (x ++ next)) = rw (one, ← append_assoc x (first ∷ []) rest) (Extends-join grows (usable_utf8-extends p f (x ++ first ∷ []) rest usable)) in
           Broken-extends start due (rw (is ∙ sym between.holds.text) at broken))
           stands;
@@ -63,7 +63,7 @@ module _ {f : Form} {p : Properties} {start : Start} where
   }
 
   module _ {counted : Counted} {old : BlockState} {x next : List ℕ} (standing : Standing f p counted start old x next) where
-    -- all that was given, and what the room holds behind it
+    -- all that was given, and what the room holds after it
     pub given_and : (room : List ℕ) → Written (apart start) (record { sink = old.sink; kept = room }) (standing.given ++ room)
     given_and room = record { given = standing.given; puts = standing.puts; text = refl }
 

@@ -2,17 +2,17 @@
 use Rattle.nf_filter.proofs.Common.{◌≡◌, ℕ, ◌+◌, ◌<◌, ◌≤◌, ◌^◌, List, [], ◌∷◌, ◌++◌, length, Option, Some, refl, sym, ap, arith, append-nil, append_assoc, encode_utf8, encode_utf8_all, IsUtf8, chars, length-append, None, chars-nil, chars-append, encodes-append, encodes-chars, length-le-encodes, chars_past_char, HasPlaces, IsPlacedAt, nil_from_length}
 
 pub front_len : (text front rest : List ℕ) → IsUtf8 text → IsUtf8 rest → chars text ≡ front ++ chars rest → length text ≡ length (encode_utf8_all front) + length rest
-front_len text front rest whole behind is =
-    rw (is, encodes-append front (chars rest), encodes-chars rest behind, length-append (encode_utf8_all front) rest) at (ap length (sym (encodes-chars text whole)))
+front_len text front rest whole after is =
+    rw (is, encodes-append front (chars rest), encodes-chars rest after, length-append (encode_utf8_all front) rest) at (ap length (sym (encodes-chars text whole)))
 
 -- there are no more characters than bytes
 pub few : (bytes : List ℕ) → IsUtf8 bytes → length (chars bytes) ≤ length bytes
 few bytes utf8 = omega (arith, length-le-encodes (chars bytes), ap length (encodes-chars bytes utf8))
 
--- the offsets behind a front
-pub placed-behind : (place : List ℕ → ℕ) (at : ℕ) (x y front rest : List ℕ) (behind : ℕ) → y ≡ front ++ rest → behind ≡ at + length (encode_utf8_all front) → IsPlacedAt place at x y
-    → IsPlacedAt place behind (x ++ front) rest
-placed-behind place at x y front rest behind is offset here more c last text =
+-- the offsets after a front
+pub placed-after : (place : List ℕ → ℕ) (at : ℕ) (x y front rest : List ℕ) (after : ℕ) → y ≡ front ++ rest → after ≡ at + length (encode_utf8_all front) → IsPlacedAt place at x y
+    → IsPlacedAt place after (x ++ front) rest
+placed-after place at x y front rest after is offset here more c last text =
     rw (append_assoc x front more)
     (omega (arith, here (front ++ more) c last (rw (text, ← append_assoc front more (c ∷ last)) at is), ap length (encodes-append front more), length-append {A = ℕ}))
 
@@ -43,14 +43,14 @@ HasPlaces-all at text utf8 fits front c rest is =
 pub nothing-left : (rest : List ℕ) → length rest ≡ 0 → chars rest ≡ []
 nothing-left rest none = rw (nil_from_length rest none) chars-nil
 
--- a front behind x, and what stands behind that
+-- a front after x, and what stands after that
 pub front-joined : (x text front rest : List ℕ) → text ≡ front ++ rest → (x ++ front) ++ rest ≡ x ++ text
 front-joined x text front rest is = rw is (append_assoc x front rest)
 
--- a longer front, and the one behind which nothing stands
+-- a longer front, and the one after which nothing stands
 module _ (text front rest : List ℕ) (is : chars text ≡ front ++ chars rest) where
-  pub front-more : (next behind : List ℕ) → chars rest ≡ next ++ chars behind → chars text ≡ (front ++ next) ++ chars behind
-  front-more next behind more = rw (more, ← append_assoc front next (chars behind)) at is
+  pub front-more : (next after : List ℕ) → chars rest ≡ next ++ chars after → chars text ≡ (front ++ next) ++ chars after
+  front-more next after more = rw (more, ← append_assoc front next (chars after)) at is
 
   pub front-whole : length rest ≡ 0 → front ≡ chars text
   front-whole none = sym (rw (nothing-left rest none, append-nil front) at is)

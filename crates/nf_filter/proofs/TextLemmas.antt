@@ -2,7 +2,7 @@
 use Rattle.nf_filter.proofs.Common.{◌≡◌, ℕ, true, false, List, [], ◌∷◌, ◌++◌, Some, Properties, Form, Row, is_usable, settled_text, usable_utf8, unusable_at, Extends, Extends-encodes, settled-extends, is_usable-stays_out, usable-all, usable-stop, usable-extends}
 
 module _ (p : Properties) where
-  -- a character behind x that cannot be used
+  -- a character after x that cannot be used
   module _ (x : List ℕ) (c : ℕ) (rest : List ℕ) (sound : is_usable p x ≡ true) (out : is_usable p (x ++ c ∷ []) ≡ false) where
     pub unusable_at-stop : (place : List ℕ → ℕ) → unusable_at p place ((x ++ c ∷ []) ++ rest) ≡ Some (Row (place x))
     unfolding unusable_at

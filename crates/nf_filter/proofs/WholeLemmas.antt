@@ -27,10 +27,26 @@ module _ (p : Properties) (bytes : List ℕ) where
       next None told e = not_in_end p sound 0 at as_is bytes e
       next (Some fault) told e = not_a_fault p sound 0 at as_is bytes (told ∙ ap Some (err_is e))
 
+module _ (p : Properties) where
+  pub ending_whole : (bytes : List ℕ) (tally : Tally) → Ok tally ≡ end_of as_is p 0 bytes → fault_in as_is p 0 bytes ≡ None → ending_of bytes ≡ Whole
+  unfolding end_of fault_in
+  ending_whole bytes tally answer none = next (ending_of bytes) (is_usable p (text_of bytes)) _ (sym answer) none
+    where
+      next : (e : Ending) (usable : Bool) (at : ℕ) → answer_at_end 0 (tally_of false p bytes) e ≡ Ok tally → (if usable then bad_byte 0 e else Some (Row at)) ≡ None → e ≡ Whole
+      next Whole usable at answer none = refl
+      next _ usable at answer none = grind (arith, nat_tests)
+
 module _ (f : Form) (p : Properties) (bytes : List ℕ) where
   whole_is : (o : Option Fault) → o ≡ fault_in as_is p 0 bytes → ((if is_some o then settled_utf8 as_is f p bytes else final_utf8 as_is f p bytes) ≡ whole_utf8 f p bytes) × (fault_or o (end_of as_is p 0 bytes) ≡ whole_answer p bytes)
   unfolding whole_utf8 whole_answer
   whole_is o told = (rw (← told) refl, rw (← told) refl)
+
+  pub final_is : ending_of bytes ≡ Whole → final_utf8 as_is f p bytes ≡ encode_utf8_all (safe_form f p (text_of bytes))
+  unfolding final_utf8
+  final_is end = rw end
+
+  pub without : None ≡ fault_in as_is p 0 bytes → final_utf8 as_is f p bytes ≡ whole_utf8 f p bytes
+  without told = (whole_is None told).0
 
   abbrev now : List ℕ
   now = encode_utf8_all (settled f p (usable p (text_of bytes)))
@@ -86,32 +102,7 @@ module _ {f : Form} {p : Properties} {bytes : List ℕ} {old new : SinkState} wh
 
   -- what a sink that was empty has then
   pub IsFormOf-from : {out : List ℕ} {tally : Tally} → old.taken ≡ Some [] → new.taken ≡ Some out → Reads bytes (text_of bytes) (ending_of bytes) → Converts f p bytes old new (Ok tally) → IsFormOf f p bytes out
-  unfolding end_of fault_in final_utf8
   IsFormOf-from {out} {tally} is_old is_new reads converts =
       let all = Converts-all converts in
-      let end = next (ending_of bytes) (is_usable p (text_of bytes)) _ (sym all.1) all.2 in
-      let taken = simp (is_old, is_new) at all.0.given in
-      (text_of bytes, reads.front.scalars, rw end at reads.end, taken ∙ sym all.0.behind ∙ rw end)
-    where
-      next : (e : Ending) (usable : Bool) (at : ℕ) → answer_at_end 0 (tally_of false p bytes) e ≡ Ok tally → (if usable then bad_byte 0 e else Some (Row at)) ≡ None → e ≡ Whole
-      next Whole usable at answer none = refl
-      next _ usable at answer none = grind (arith, nat_tests)
-
--- what ends with no fault, and has none before, is whole
-is_whole : {A : Type 0} (value : A) (e : Ending) (usable : Bool) (at : ℕ) (told : A) → answer_at_end 0 value e ≡ Ok told → (if usable then bad_byte 0 e else Some (Row at)) ≡ None → e ≡ Whole
-is_whole value Whole usable at told answer none = refl
-is_whole value (Bad at start) true other told answer none = cc
-is_whole value _ usable other told answer none = cc
-
-module _ (p : Properties) where
-  pub ending_whole : (bytes : List ℕ) (tally : Tally) → Ok tally ≡ end_of as_is p 0 bytes → fault_in as_is p 0 bytes ≡ None → ending_of bytes ≡ Whole
-  unfolding end_of fault_in
-  ending_whole bytes tally answer none = is_whole (tally_of false p bytes) (ending_of bytes) (is_usable p (text_of bytes)) (0 + length (encode_utf8_all (usable p (text_of bytes)))) tally (sym answer) none
-
-module _ (f : Form) (p : Properties) (bytes : List ℕ) where
-  pub final_is : ending_of bytes ≡ Whole → final_utf8 as_is f p bytes ≡ encode_utf8_all (safe_form f p (text_of bytes))
-  unfolding final_utf8
-  final_is end = rw end
-
-  pub without : None ≡ fault_in as_is p 0 bytes → final_utf8 as_is f p bytes ≡ whole_utf8 f p bytes
-  without told = (whole_is f p bytes None told).0
+      let end = ending_whole p bytes tally all.1 all.2 in
+      (text_of bytes, reads.front.scalars, rw end at reads.end, simp (is_old, is_new) at all.0.given ∙ sym all.0.after ∙ final_is f p bytes end)

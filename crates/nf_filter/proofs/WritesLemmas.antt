@@ -2,14 +2,14 @@
 use Rattle.nf_filter.proofs.Common.{◌≡◌, ℕ, ◌<◌, true, List, [], ◌++◌, length, refl, sym, ◌∙◌, arith, append_assoc, append-nil, length-append, Appends, Appends-nil, Appends-trans, SinkState, Puts, BreaksOff, Extends}
 
 pub Puts-none : (state : SinkState) (before : List ℕ) → Puts state state before before
-Puts-none state before = record { out = []; behind = sym (append-nil before); given = Appends-nil state.taken; stands = refl; idle = λ _. refl }
+Puts-none state before = record { out = []; after = sym (append-nil before); given = Appends-nil state.taken; stands = refl; idle = λ _. refl }
 
 -- one call more
 pub Puts-more : {old mid new : SinkState} {before after : List ℕ} (ys : List ℕ) → Puts old mid before after → Appends mid.taken new.taken ys
     → new.is_failed ≡ mid.is_failed → (mid.is_failed ≡ true → ys ≡ []) → Puts old new before (after ++ ys)
 Puts-more {old} {mid} {new} {before} {after} ys first given stands idle = record {
   out = first.out ++ ys;
-  behind = simp (first.behind, append_assoc);
+  after = simp (first.after, append_assoc);
   given = Appends-trans old.taken mid.taken new.taken first.out ys first.given given;
   stands = stands ∙ first.stands;
   idle = λ failed. rw (first.idle failed) (idle (first.stands ∙ failed));
@@ -20,32 +20,32 @@ pub BreaksOff-more : {old mid new : SinkState} {before after : List ℕ} (ys res
 BreaksOff-more {old} {mid} {new} {before} {after} ys rest first given failed more = record {
   out = first.out ++ ys;
   rest = rest;
-  behind = simp (first.behind, append_assoc);
+  after = simp (first.after, append_assoc);
   more = more;
   given = Appends-trans old.taken mid.taken new.taken first.out ys first.given given;
   failed = failed;
 }
 
 pub Puts-join : {old mid new : SinkState} {a b c : List ℕ} → Puts old mid a b → Puts mid new b c → Puts old new a c
-Puts-join first second = rw second.behind (Puts-more second.out first second.given second.stands second.idle)
+Puts-join first second = rw second.after (Puts-more second.out first second.given second.stands second.idle)
 
 pub BreaksOff-join : {old mid new : SinkState} {a b c : List ℕ} → Puts old mid a b → BreaksOff mid new b c → BreaksOff old new a c
-BreaksOff-join first second = rw second.behind (BreaksOff-more second.out second.rest first second.given second.failed second.more)
+BreaksOff-join first second = rw second.after (BreaksOff-more second.out second.rest first second.given second.failed second.more)
 
--- what was given to a sink behind other bytes
-pub Puts-behind : {old mid new : SinkState} {before after out w : List ℕ} → w ≡ after ++ out → Puts old mid before after → Puts mid new [] out → Puts old new before w
-Puts-behind is first puts = rw (is, puts.behind) (Puts-more puts.out first puts.given puts.stands puts.idle)
+-- what was given to a sink after other bytes
+pub Puts-after : {old mid new : SinkState} {before after out w : List ℕ} → w ≡ after ++ out → Puts old mid before after → Puts mid new [] out → Puts old new before w
+Puts-after is first puts = rw (is, puts.after) (Puts-more puts.out first puts.given puts.stands puts.idle)
 
-pub BreaksOff-behind : {old mid new : SinkState} {before after out w : List ℕ} → w ≡ after ++ out → Puts old mid before after → BreaksOff mid new [] out
+pub BreaksOff-after : {old mid new : SinkState} {before after out w : List ℕ} → w ≡ after ++ out → Puts old mid before after → BreaksOff mid new [] out
     → BreaksOff old new before w
-BreaksOff-behind {after = after} is first stops = rw (is, stops.behind, ← append_assoc after stops.out stops.rest) (BreaksOff-more stops.out stops.rest first stops.given stops.failed stops.more)
+BreaksOff-after {after = after} is first stops = rw (is, stops.after, ← append_assoc after stops.out stops.rest) (BreaksOff-more stops.out stops.rest first stops.given stops.failed stops.more)
 
--- more is to come behind
+-- more is to come after
 pub BreaksOff-extends : {old new : SinkState} {a b d : List ℕ} → Extends b d → BreaksOff old new a b → BreaksOff old new a d
 BreaksOff-extends longer stops = record {
   out = stops.out;
   rest = stops.rest ++ longer.more;
-  behind = simp (longer.text, stops.behind, append_assoc);
+  after = simp (longer.text, stops.after, append_assoc);
   more = omega (arith, length-append stops.rest longer.more);
   given = stops.given;
   failed = stops.failed;

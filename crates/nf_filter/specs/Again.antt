@@ -38,7 +38,7 @@ pub record StaysAsItIs (f : Form) (p : Properties) (bytes : List ℕ) : Type 0 w
   pub again : (policy : Policy) → TakesAll policy p bytes → final_utf8 policy f p bytes ≡ bytes
   pub tally : (policy : Policy) (base : ℕ) → TakesAll policy p bytes → end_of policy p base bytes ≡ Ok (nothing_put bytes)
 
--- behind what was taken, where that is told, there stand bytes that stay so
+-- after what was taken, where that is told, there stand bytes that stay so
 abbrev pub AddsWhatStays : Form → Properties → Option (List ℕ) → Option (List ℕ) → Type 0
 AddsWhatStays f p taken now = (out : List ℕ) × Appends taken now out × StaysAsItIs f p out
 

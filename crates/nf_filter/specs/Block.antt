@@ -22,7 +22,7 @@ pub record BlockState : Type 0 where
 abbrev pub block_state : SinkState → Block → BlockState
 block_state sink block = record { sink = sink; kept = block.room.items }
 
--- all of `after` that stands behind what was written before is given to the sink, or kept
+-- all of `after` that stands after what was written before is given to the sink, or kept
 pub record Written (start : Start) (now : BlockState) (after : List ℕ) : Type 0 where
   pub given : List ℕ
   pub puts : Puts start.sink now.sink start.before given

@@ -27,7 +27,7 @@ pub record IsWithin (counted : Counted) : Type 0 where
 abbrev pub ends_at : Counted → ℕ → Type 0
 ends_at counted at = IsWithin counted × (counted.chars ≤ at)
 
--- where what stands behind a front of UTF-8 begins, the first byte of which has the offset `base`
+-- where what stands after a front of UTF-8 begins, the first byte of which has the offset `base`
 abbrev pub utf8_place : ℕ → List ℕ → ℕ
 utf8_place base front = base + length (encode_utf8_all front)
 
@@ -35,11 +35,11 @@ utf8_place base front = base + length (encode_utf8_all front)
 abbrev pub HasPlaces : ℕ → List ℕ → Type 0
 HasPlaces at text = (front : List ℕ) (c : ℕ) (rest : List ℕ) → chars text ≡ front ++ c ∷ rest → at + length (encode_utf8_all front) < 2 ^ 64
 
--- so `place` tells it of each character of the text y, which begins at the offset `at` behind x
+-- so `place` tells it of each character of the text y, which begins at the offset `at` after x
 abbrev pub IsPlacedAt : (List ℕ → ℕ) → ℕ → List ℕ → List ℕ → Type 0
 IsPlacedAt place at x y = (front : List ℕ) (c : ℕ) (rest : List ℕ) → y ≡ front ++ c ∷ rest → place (x ++ front) ≡ at + length (encode_utf8_all front)
 
--- the fault at which it stops in a text, by where what stands behind a front of it begins
+-- the fault at which it stops in a text, by where what stands after a front of it begins
 unfoldable pub unusable_at : Properties → (List ℕ → ℕ) → List ℕ → Option Fault
 unusable_at p place x = if is_usable p x then None else Some (Row (place (usable p x)))
 

@@ -28,7 +28,7 @@ abbrev pub bad_under : Bool → ℕ → List ℕ → Option Fault
 bad_under false base bytes = bad_byte base (ending_of bytes)
 bad_under true base bytes = None
 
--- at the first character of a text that is not taken, or else another; `place` tells where what stands behind a front of
+-- at the first character of a text that is not taken, or else another; `place` tells where what stands after a front of
 -- it begins
 abbrev pub first_fault : Bool → Properties → (List ℕ → ℕ) → List ℕ → Option Fault → Option Fault
 first_fault false p place x other = if is_usable p x then other else Some (Row (place (usable p x)))

@@ -22,7 +22,7 @@ use Rattle.nf_filter.specs.Settled.{usable, settled_utf8}
 abbrev pub taken_utf8 : Bool → Form → Properties → List ℕ → List ℕ
 taken_utf8 assigned f p x = settled_text f p (usable p (allowed assigned p x))
 
--- the text x was taken, or why not all of it; `place` tells where what stands behind a front of it begins
+-- the text x was taken, or why not all of it; `place` tells where what stands after a front of it begins
 pub record TakesAllowed (assigned : Bool) (f : Form) (p : Properties) (counted : Counted) (start : Start) (now : BlockState) (place : List ℕ → ℕ) (x : List ℕ)
     (result : Result (Unit {0}) Fault) : Type 0 where
   pub writes : WritesTo start now (taken_utf8 assigned f p x) result
@@ -60,7 +60,7 @@ pub record RefusesBytes (policy : Policy) (f : Form) (p : Properties) (start : S
   pub writes : WritesTo start now (taken_utf8 policy.assigned f p (text_under policy.replace bytes)) (Err fault)
   pub is : ¬ (fault ≡ Write) → Some fault ≡ fault_in policy p base bytes
 
--- behind the bytes U+FFFD was taken for a character that the end cuts, or why not
+-- after the bytes U+FFFD was taken for a character that the end cuts, or why not
 pub record ReplacesCut (policy : Policy) (f : Form) (p : Properties) (counted : Counted) (base : ℕ) (bytes : List ℕ) (old new : SinkState) (result : Result (Unit {0}) Fault) : Type 0 where
   pub broken : result ≡ Err Write → BreaksOff old new (settled_utf8 policy f p bytes) (taken_utf8 policy.assigned f p (whole_under policy.replace bytes))
   pub puts : ¬ (result ≡ Err Write) → Puts old new (settled_utf8 policy f p bytes) (taken_utf8 policy.assigned f p (whole_under policy.replace bytes))

@@ -38,7 +38,7 @@ end_under true assigned p base bytes = answer_or (first_fault assigned p (λ fro
 unfoldable pub end_of : Policy → Properties → ℕ → List ℕ → Result Tally Fault
 end_of policy p base bytes = end_under policy.replace policy.assigned p base bytes
 
--- what was written then: behind a begun character the settled part alone
+-- what was written then: after a begun character the settled part alone
 abbrev pub whole_or : Ending → List ℕ → List ℕ → List ℕ
 whole_or Whole settled whole = whole
 whole_or (Bad at start) settled whole = whole

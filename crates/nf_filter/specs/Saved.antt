@@ -5,7 +5,7 @@ use Rattle.nf_forms.specs.StreamSafe.{max_run}
 use Rattle.nf_forms.specs.declared.form.Form.{Form}
 use Rattle.nf_forms.specs.declared.form.Form.TheVariants.{Nfc, Nfd, Nfkc, Nfkd}
 use Rattle.nf_boundary.specs.declared.mark.Mark.{Mark}
-use Rattle.nf_utf8.specs.Part.{IsPart}
+use Rattle.nf_utf8.specs.Part.{IsSubpart}
 use Rattle.nf_pending.specs.StandsAfter.{starter_of, marks_of}
 use Rattle.nf_filter.specs.declared.filter.State.{State}
 use Rattle.nf_filter.specs.declared.saved.Saved.{Saved}
@@ -56,7 +56,7 @@ pub record IsPending (p : Properties) (saved : Saved) : Type 0 where
 
 -- of such data a filter can be made, and each that is spent or stands after bytes has such
 pub record IsRestorable (p : Properties) (saved : Saved) : Type 0 where
-  pub held : IsPart saved.held.items
+  pub held : IsSubpart saved.held.items
   pub count : saved.count ≤ max_run
   pub base : saved.base ≤ saved.offset
   pub fits : (saved.spent ≡ true) ⊎ (CountsFit saved × IsPending p saved)

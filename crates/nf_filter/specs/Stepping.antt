@@ -17,11 +17,11 @@ pub record Standing (f : Form) (p : Properties) (counted : Counted) (start : Sta
   pub stands : Stands f p counted.normalizer (record { given = given; ahead = start.ahead }) now.kept x next
   pub put : length (stream_safe p x) ≡ length x + counted.put
 
--- behind x a front of the text was taken; `rest` is what stands behind that
+-- after x a front of the text was taken; `rest` is what stands after that
 abbrev pub StandsInFront : Form → Properties → Counted → Start → BlockState → List ℕ → List ℕ → List ℕ → Type 0
 StandsInFront f p counted start now x text rest = HasTakenFront (λ y. Standing f p counted start now y (chars rest)) x text rest
 
--- a front of the text is behind it, with at most a joiner a character
+-- a front of the text is after it, with at most a joiner a character
 pub record HasStepped (old new : Counted) (text rest : List ℕ) : Type 0 where
   pub n : ℕ
   pub leaves : Leaves text rest n

@@ -17,7 +17,7 @@ abbrev pub TakesText : {T : Type 0} → (List ℕ → Type 0) → (List ℕ → 
 TakesText stands decides x None = stands x
 TakesText stands decides x (Some answer) = Decides decides x answer
 
--- behind x a front of the text was taken; `rest` is what stands behind that
+-- after x a front of the text was taken; `rest` is what stands after that
 pub record HasTakenFront (stands : List ℕ → Type 0) (x text rest : List ℕ) : Type 0 where
   pub front : List ℕ
   pub is_front : chars text ≡ front ++ chars rest

@@ -1,5 +1,5 @@
 ghost use Rattle.std.specs.Prelude.{◌≡◌, ◌↔◌, ◌+◌, ◌<◌, ◌≤◌, ℕ, List, ◌++◌, length, chars, None, IsTrue, IfErr};
-ghost use Rattle.nf_calm.specs.Front.{IsCalmFront};
+ghost use Rattle.nf_span.specs.Front.{IsFirstSpan};
 ghost use Rattle.nf_filter.specs.Surveys.{Surveys, IsOfSurvey, IsCut};
 ghost use Rattle.nf_filter.specs.Checks.{check_decision, no_place, ends_at, HasChecked};
 
@@ -9,14 +9,14 @@ use crate::reading::Reading;
 use crate::sources::{BLOCK, survey};
 use crate::taker::{Taker, take_text};
 use crate::text_reader::TextReader;
-use nf_row::{Calm, Form, Rows};
+use nf_row::{Form, Rows, Span};
 use nf_safe::{Checker, Place};
 use nf_utf8::char_count;
 
 /// Reads what the source gives until it is no longer in the Stream-Safe Text Format (UAX #15, section 13), and answers
 /// that place; none where all of it is in the format. The first byte has the offset `base`. A fault that stands before
 /// a place is answered in its stead: `Row` for an unsound character, `BadByte`, `Cut`, `Read` and `TooLong`. Of what
-/// stands behind the place nothing is told. At most 4,096 bytes are asked for at once.
+/// stands after the place nothing is told. At most 4,096 bytes are asked for at once.
 pub fn check<R: Rows, I: Source>(
     rows: &R,
     base: u64,
@@ -53,7 +53,7 @@ pub fn check_buffered<R: Rows, I: Source>(
     let reader = TextReader {
         reading: Reading::new(base),
         rows,
-        taker: CalmChecker {
+        taker: SpanChecker {
             checker: Checker::new(base),
             search: Search::new(),
         },
@@ -64,7 +64,7 @@ pub fn check_buffered<R: Rows, I: Source>(
 /// What is decided before the end: a place, or a fault.
 type Decision = Result<Option<Place>, Fault>;
 
-/// Without a search for calm text.
+/// Without a search for a span.
 impl Taker for Checker {
     ghost use Rattle.nf_filter.specs.Checks.{HasChecked, ends_at, text_decision};
     ghost use Rattle.nf_filter.specs.Laws.Undecided.{checked_undecided};
@@ -79,7 +79,7 @@ impl Taker for Checker {
 
     ghost value = { λ p x. None };
 
-    /// What is known of it by one look-up for each character, and the character behind that, which decides where it is
+    /// What is known of it by one look-up for each character, and the character after that, which decides where it is
     /// unsound or the text leaves the format.
     fn take_front<'t, R: Rows>(
         &mut self,
@@ -106,37 +106,37 @@ impl Taker for Checker {
     ghost undecided = { checked_undecided };
 }
 
-/// A checker that looks for calm text.
+/// A checker that looks for a span.
 #[derive(Drop)]
-struct CalmChecker {
+struct SpanChecker {
     checker: Checker,
     search: Search,
 }
 
-impl Taker for CalmChecker {
+impl Taker for SpanChecker {
     ghost use Rattle.nf_filter.specs.Checks.{HasChecked, ends_at, text_decision};
     ghost use Rattle.nf_filter.specs.Laws.Undecided.{checked_undecided};
 
     type Answer = Option<Place>;
 
-    ghost has_taken = { λ p calm. HasChecked p calm.checker };
+    ghost has_taken = { λ p span. HasChecked p span.checker };
 
-    ghost ends_at = { λ calm. ends_at calm.checker };
+    ghost ends_at = { λ span. ends_at span.checker };
 
     ghost decides = { text_decision };
 
     ghost value = { λ p x. None };
 
-    /// What of it is found to be calm, or else a window.
+    /// What of it is found to be a span, or else a window.
     fn take_front<'t, R: Rows>(
         &mut self,
         rows: &R,
         at: u64,
         text: &'t str,
     ) -> Result<&'t str, Decision> {
-        if let Some((form, calm)) = self.search.front(rows, text) {
-            pass_calm(&mut self.checker, rows, at, form, calm);
-            return Ok(calm.rest);
+        if let Some((form, span)) = self.search.front(rows, text) {
+            pass_span(&mut self.checker, rows, at, form, span);
+            return Ok(span.rest);
         }
         let (window, rest) = text.split_at(text.ceil_char_boundary(self.search.most));
         match take_text(&mut self.checker, rows, at, window) {
@@ -149,56 +149,56 @@ impl Taker for CalmChecker {
         None
     }
 
-    ghost undecided = { λ p calm. checked_undecided p calm.checker };
+    ghost undecided = { λ p span. checked_undecided p span.checker };
 }
 
-/// Where at least so many bytes were calm, it is asked again behind them.
+/// Where at least so many bytes were a span, it is asked again after them.
 const WORTH: usize = 8;
 
 /// At least so many bytes are seen before it is asked again, and at most.
-const FEW: usize = 8;
+const MIN_WINDOW_LEN: usize = 8;
 
 const MANY: usize = 256;
 
-/// How calm text is looked for: the longer little was found, the less often.
+/// How a span is looked for: the longer little was found, the less often.
 #[derive(Clone, Copy)]
 struct Search {
-    /// The form that is asked: composed text is calm in NFC, decomposed text in NFD. Where little was found, the other.
+    /// The form that is asked: composed text is a span in NFC, decomposed text in NFD. Where little was found, the other.
     form: Form,
-    /// Where nothing is calm, a window of so many bytes is seen without a search.
+    /// Where nothing is a span, a window of so many bytes is seen without a search.
     most: usize,
     ghost some: { 0 < most },
 }
 
 impl Search {
     ghost use Rattle.std.specs.Prelude.{◌<◌, length, IfSome};
-    ghost use Rattle.nf_calm.specs.Front.{IsCalmFront};
+    ghost use Rattle.nf_span.specs.Front.{IsFirstSpan};
 
     const fn new() -> Search {
         Search {
             form: Form::Nfc,
-            most: FEW,
+            most: MIN_WINDOW_LEN,
         }
     }
 
-    /// The calm front of a text, and its form, where there is one.
-    fn front<'t, R: Rows>(&mut self, rows: &R, text: &'t str) -> Option<(Form, Calm<'t>)>
-        ensures calm { IfSome result (λ found. IsCalmFront (R.properties rows.now) found.0 text.now found.1.settled.now found.1.tail.now found.1.rest.now) }
+    /// The span that a text begins with, and its form, where there is one.
+    fn front<'t, R: Rows>(&mut self, rows: &R, text: &'t str) -> Option<(Form, Span<'t>)>
+        ensures span { IfSome result (λ found. IsFirstSpan (R.properties rows.now) found.0 text.now found.1.settled.now found.1.tail.now found.1.rest.now) }
         ensures some { IfSome result (λ found. 0 < length found.1.tail.now) }
     {
         let form = self.form;
-        let calm = rows.calm_front(form, text);
-        self.found(text.len() - calm.rest.len());
-        if calm.tail.is_empty() {
+        let span = rows.first_span(form, text);
+        self.found(text.len() - span.rest.len());
+        if span.tail.is_empty() {
             return None;
         }
-        Some((form, calm))
+        Some((form, span))
     }
 
-    /// So many bytes were calm.
+    /// So many bytes were a span.
     fn found(&mut self, len: usize) {
         if len >= WORTH {
-            self.most = FEW;
+            self.most = MIN_WINDOW_LEN;
             return;
         }
         self.form = match self.form {
@@ -211,22 +211,22 @@ impl Search {
     }
 }
 
-/// Goes over the calm front of a text that begins at the offset `at`; no text leaves the format there. Only from its last
+/// Goes over the span that a text at the offset `at` begins with; no text leaves the format there. Only from its last
 /// character that parts a text on is it seen, by a checker that begins anew.
-fn pass_calm<R: Rows>(checker: &mut Checker, rows: &R, at: u64, _form: Form, calm: Calm<'_>)
-    requires calm { IsCalmFront (R.properties rows.now) _form (calm.settled.now ++ (calm.tail.now ++ calm.rest.now)) calm.settled.now calm.tail.now calm.rest.now }
-    requires some { 0 < length calm.tail.now }
+fn pass_span<R: Rows>(checker: &mut Checker, rows: &R, at: u64, _form: Form, span: Span<'_>)
+    requires span { IsFirstSpan (R.properties rows.now) _form (span.settled.now ++ (span.tail.now ++ span.rest.now)) span.settled.now span.tail.now span.rest.now }
+    requires some { 0 < length span.tail.now }
     requires ready { ends_at checker.old at }
-    requires fits { at + length calm.settled.now + length calm.tail.now ≤ u64.MAX }
-    ensures ready { ends_at checker.new (at + length calm.entry.settled.now + length calm.entry.tail.now) }
+    requires fits { at + length span.settled.now + length span.tail.now ≤ u64.MAX }
+    ensures ready { ends_at checker.new (at + length span.entry.settled.now + length span.entry.tail.now) }
     ensures sees { let p = R.properties rows.now in (base : ℕ) (x : List ℕ) → HasChecked p checker.old base x
-        → HasChecked p checker.new base (x ++ (chars calm.entry.settled.now ++ chars calm.entry.tail.now)) }
+        → HasChecked p checker.new base (x ++ (chars span.entry.settled.now ++ chars span.entry.tail.now)) }
 {
-    let place = at + calm.settled.len() as u64;
+    let place = at + span.settled.len() as u64;
     let mut end = Checker::new(place);
-    let None = take_text(&mut end, rows, place, calm.tail) else {
+    let None = take_text(&mut end, rows, place, span.tail) else {
         unreachable!();
     };
-    let count = char_count(calm.settled) + char_count(calm.tail);
+    let count = char_count(span.settled) + char_count(span.tail);
     checker.go_on_from(count as u64, end);
 }

@@ -137,7 +137,7 @@ impl Reading {
         // A byte that breaks a begun character off is read again.
         let len = if back == 0 { at + 1 } else { at };
         self.offset += len as u64;
-        self.read_mended(policy, rows, &rest[len..], counted, block, sink)
+        self.read_lossy(policy, rows, &rest[len..], counted, block, sink)
     }
 
     /// At the end of all bytes: a character that it cuts is refused, or U+FFFD is taken for it.

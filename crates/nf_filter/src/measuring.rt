@@ -66,7 +66,7 @@ impl Taker for Measurer {
 
     ghost value = { measure_of };
 
-    /// What is known of it by one look-up for each character, and the character behind that. A character that a filter would
+    /// What is known of it by one look-up for each character, and the character after that. A character that a filter would
     /// refuse decides.
     fn take_front<'t, R: Rows>(
         &mut self,

@@ -31,7 +31,7 @@ impl Reading {
         }
     }
 
-    /// Whether the offset would pass `u64::MAX` behind the piece.
+    /// Whether the offset would pass `u64::MAX` after the piece.
     #[inline]
     pub fn is_too_long(&self, piece: &[u8]) -> bool
         ensures { IsTrue result ↔ (u64.MAX < self.now.offset + length piece.now) }

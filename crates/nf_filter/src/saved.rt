@@ -29,7 +29,7 @@ pub struct Saved {
     pub count: u8,
     /// The bytes of a begun character.
     pub held: ArrayVec<u8, 3>,
-    /// What is not settled: a starter, and marks behind it in order of class.
+    /// What is not settled: a starter, and marks after it in order of class.
     pub starter: Option<char>,
     pub marks: Run,
 }

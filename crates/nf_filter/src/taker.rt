@@ -25,7 +25,7 @@ pub trait Taker: Drop {
     /// What a text comes to that decides nothing.
     ghost value: { Properties → List ℕ → Self.Answer };
 
-    /// Takes a front of a text that begins at the offset `at`. Answers what stands behind it, or what is decided with it, if
+    /// Takes a front of a text that begins at the offset `at`. Answers what stands after it, or what is decided with it, if
     /// that is anything: then it takes no more.
     fn take_front<'t, R: Rows>(
         &mut self,
@@ -70,7 +70,7 @@ pub fn take_text<R: Rows, T: Taker>(
     while !rest.is_empty() {
         let place = at + (text.len() - rest.len()) as u64;
         match taker.take_front(rows, place, rest) {
-            Ok(behind) => rest = behind,
+            Ok(after) => rest = after,
             Err(answer) => return Some(answer),
         }
     }

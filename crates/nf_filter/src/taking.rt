@@ -1,6 +1,6 @@
 //! How text goes through a normalizer to a sink, step by step.
 ghost use Rattle.std.specs.Prelude.{◌≡◌, ◌<◌, ◌≤◌, ◌++◌, length, chars, take_while, encode_utf8_all};
-ghost use Rattle.nf_filter.specs.Passed.{IsBehindAssigned};
+ghost use Rattle.nf_filter.specs.Passed.{IsAfterAssigned};
 ghost use Rattle.nf_filter.specs.Policy.{allowed};
 
 use crate::block::Block;
@@ -11,11 +11,11 @@ use nf_normalizer::{STEP, Step};
 use nf_row::{Formed, Rows};
 use nf_utf8::char_count;
 
-/// Where at least so many bytes were known, bytes are asked again behind the next character.
+/// Where at least so many bytes were known, bytes are asked again after the next character.
 const WORTH: usize = 16;
 
 /// So many characters are looked up where fewer were.
-const FEW: usize = 16;
+const MIN_LOOK_UPS: usize = 16;
 
 impl Counted {
     ghost use Rattle.std.specs.Prelude.{◌≡◌, ◌+◌, ◌<◌, ◌≤◌, Bool, ℕ, List, [], ◌∷◌, ◌++◌, length, chars, Err, IfErr, OnOk, MatchResult};
@@ -29,7 +29,7 @@ impl Counted {
     ghost use Rattle.nf_filter.specs.Policy.{allowed};
     ghost use Rattle.nf_filter.specs.Stepping.{HasStepped, Standing, StandsInFront};
 
-    /// Takes the first character, where there is one, and the text behind it, which begins with it at the offset `at`.
+    /// Takes the first character, where there is one, and the text after it, which begins with it at the offset `at`.
     /// Where only assigned characters are allowed, the first other is refused.
     pub(crate) fn take_both<R: Rows, S: Sink>(
         &mut self,
@@ -148,7 +148,7 @@ impl Counted {
         while !rest.is_empty() {
             let place = at + (text.len() - rest.len()) as u64;
             match self.step(rows, place, rest, &mut formed, block, sink) {
-                Ok(behind) => rest = behind,
+                Ok(after) => rest = after,
                 Err(fault) => return Err(fault),
             }
         }
@@ -196,7 +196,7 @@ impl Counted {
     }
 }
 
-/// The characters at the front of the text that are taken, all or the assigned ones, and what stands behind them.
+/// The characters at the front of the text that are taken, all or the assigned ones, and what stands after them.
 pub(crate) fn split_allowed<'t, R: Rows>(
     rows: &R,
     assigned: bool,
@@ -226,13 +226,13 @@ fn assigned_len<R: Rows>(rows: &R, text: &str) -> usize
     let mut rest = text;
     let mut few = 0;
     while !rest.is_empty() {
-        let (more, behind) = past_known(rows, few, rest);
-        let mut chars = behind.chars();
+        let (more, after) = past_known(rows, few, rest);
+        let mut chars = after.chars();
         let Some(c) = chars.next() else {
             return text.len();
         };
         if !rows.assigned(c) {
-            return text.len() - behind.len();
+            return text.len() - after.len();
         }
         rest = chars.as_str();
         few = more - 1;
@@ -240,19 +240,19 @@ fn assigned_len<R: Rows>(rows: &R, text: &str) -> usize
     text.len()
 }
 
-/// What stands behind the characters that are known to be assigned, which are asked for where no few are left to be looked
+/// What stands after the characters that are known to be assigned, which are asked for where no few are left to be looked
 /// up. It tells how many are then to be looked up, one by one: where little was known, more than one, so that hostile text
 /// makes few calls in vain.
 #[inline(always)]
 fn past_known<'t, R: Rows>(rows: &R, few: usize, text: &'t str) -> (usize, &'t str)
     ensures some { 0 < result.0 }
     ensures shorter { length result.1.now ≤ length text.now }
-    ensures behind { IsBehindAssigned (R.properties rows.now) text.now result.1.now }
+    ensures after { IsAfterAssigned (R.properties rows.now) text.now result.1.now }
 {
     if few > 0 {
         return (few, text);
     }
     let known = rows.assigned_front(text);
-    let more = if known < WORTH { FEW } else { 1 };
+    let more = if known < WORTH { MIN_LOOK_UPS } else { 1 };
     (more, &text[known..])
 }

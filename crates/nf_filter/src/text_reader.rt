@@ -48,8 +48,8 @@ impl<R: Rows, T: Taker> Surveyor for TextReader<'_, R, T> {
         if let Some(answer) = take_text(taker, *rows, at, first) {
             return Some(answer);
         }
-        let behind = at + first.len() as u64;
-        if let Some(answer) = take_text(taker, *rows, behind, chunk.text) {
+        let after = at + first.len() as u64;
+        if let Some(answer) = take_text(taker, *rows, after, chunk.text) {
             return Some(answer);
         }
         let piece_end = chunk.end;

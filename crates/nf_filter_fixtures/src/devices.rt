@@ -73,7 +73,7 @@ impl Sink for Kept {
 }
 
 /// A source that gives a piece in a call, as much of it as the buffer has room for, and then ends or fails. An empty
-/// piece is its end too, whatever it gives behind that.
+/// piece is its end too, whatever it gives after that.
 #[derive(Drop)]
 pub struct Pieces<'a> {
     pieces: &'a [&'a [u8]],

@@ -6,14 +6,14 @@ use nf_row::{Form, Patched, Plain, Rows, Ucd};
 use std::alloc::{AllocError, Global};
 use std::process::Abort;
 
-/// What a call answers, how the filter stands behind it (the offset, and whether it is spent), and how many bytes it has
+/// What a call answers, how the filter stands after it (the offset, and whether it is spent), and how many bytes it has
 /// written.
 type Step = (Result<(), Fault>, Held, u64, bool, usize);
 
 /// What a filter did.
 #[derive(Drop)]
 struct Course {
-    /// Behind each call, up to the first that was refused.
+    /// After each call, up to the first that was refused.
     steps: Vec<Step>,
     written: Vec<u8>,
     /// What `finish` answered.
@@ -53,7 +53,7 @@ fn course_of<R: Rows>(
     })
 }
 
-/// Behind each call the same was written, and the filter stands in the same way. Answers the length of the longest slice
+/// After each call the same was written, and the filter stands in the same way. Answers the length of the longest slice
 /// that it gave, in bytes.
 fn check_course<R: Rows>(
     rt: &impl Abort,
@@ -69,7 +69,7 @@ fn check_course<R: Rows>(
     given.longest
 }
 
-/// Feeds the pieces every way, as far as they are taken, and then finishes. Behind each call all have written the same and
+/// Feeds the pieces every way, as far as they are taken, and then finishes. After each call all have written the same and
 /// stand in the same way, and a filter that was not made fast gave no slice longer than a block. Answers the fault, or the
 /// tally.
 pub fn same_both_ways(

@@ -1,4 +1,4 @@
-//! A million of what makes a run longer, behind a letter and alone: how many joiners are put, how much is written, and how
+//! A million of what makes a run longer, after a letter and alone: how many joiners are put, how much is written, and how
 //! little is held.
 use nf_filter::{Filter, Tally, check, measure};
 use nf_filter_fixtures::{FORMS, Kept, Pieces, joined};

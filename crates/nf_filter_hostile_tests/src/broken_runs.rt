@@ -1,8 +1,8 @@
 //! A run of characters that a form leaves as they stand, broken by each kind of other character near the end of a piece and
-//! of a block, with short and long runs of marks behind it. By data of which all is known and of which nothing is, the same
-//! is written, and held, behind each piece.
+//! of a block, with short and long runs of marks after it. By data of which all is known and of which nothing is, the same
+//! is written, and held, after each piece.
 use crate::both_ways::same_over;
-use crate::calm::{BLOCK, CALM, filled};
+use crate::span::{BLOCK, SPAN, filled};
 use nf_filter_fixtures::{FORMS, joined};
 use nf_row::{Form, Patched, Plain};
 use std::alloc::{AllocError, Global};
@@ -11,7 +11,7 @@ use std::test::Fail;
 
 /// What breaks it.
 const OTHERS: [&str; 18] = [
-    // Nothing but the marks behind; marks that compose and that do not; the joiner.
+    // Nothing but the marks after; marks that compose and that do not; the joiner.
     "",
     "\u{301}",
     "\u{316}",
@@ -35,7 +35,7 @@ const OTHERS: [&str; 18] = [
     "\u{958}",
 ];
 
-/// How many marks stand behind that.
+/// How many marks stand after that.
 const COUNTS: [usize; 7] = [0, 28, 29, 30, 31, 32, 33];
 
 /// Which: in one order by class, in none, and of one class that composes with nothing.
@@ -59,7 +59,7 @@ impl Broken<'_> {
         let mut text = filled(alloc, self.plain, self.len)?;
         let times = self.count / self.marks.chars().count().max(1);
         let odd = self.count % self.marks.chars().count().max(1);
-        let behind = joined(
+        let after = joined(
             alloc,
             &[
                 (self.other, 1),
@@ -68,7 +68,7 @@ impl Broken<'_> {
                 (self.plain, 12),
             ],
         )?;
-        text.extend_from_slice(behind.as_slice())?;
+        text.extend_from_slice(after.as_slice())?;
         Ok(text)
     }
 }
@@ -79,7 +79,7 @@ fn pieces_end_near_a_break(rt: HostRuntime) -> Result<(), Fail> {
     let unchanged = Plain::of(&rows).ok_or("not plain")?;
     for (i, other) in OTHERS.iter().enumerate() {
         for (k, count) in COUNTS.iter().enumerate() {
-            for plain in [CALM[0], CALM[1 + (i + k) % 9]] {
+            for plain in [SPAN[0], SPAN[1 + (i + k) % 9]] {
                 let broken = Broken {
                     plain,
                     len: FAR,
@@ -94,7 +94,7 @@ fn pieces_end_near_a_break(rt: HostRuntime) -> Result<(), Fail> {
     Ok(())
 }
 
-/// Cuts the text at each byte from its front to 70 bytes behind the run.
+/// Cuts the text at each byte from its front to 70 bytes after the run.
 fn check_cuts(
     rt: &impl Abort,
     alloc: Global,
@@ -122,7 +122,7 @@ fn blocks_end_near_a_break(rt: HostRuntime) -> Result<(), Fail> {
     for (i, other) in OTHERS.iter().enumerate() {
         for len in BLOCK - FAR..=BLOCK + FAR {
             let broken = Broken {
-                plain: CALM[(len + i) % 10],
+                plain: SPAN[(len + i) % 10],
                 len,
                 other: *other,
                 marks: MARKS[(len + i) % 3],

@@ -32,9 +32,9 @@ fn growing<'t>(alloc: Global, text: &'t [u8]) -> Result<Vec<&'t [u8]>, AllocErro
     let mut pieces = Vec::new(alloc);
     let mut rest = text;
     for len in 1..=4096usize {
-        let (piece, behind) = rest.split_at(len.min(rest.len()));
+        let (piece, after) = rest.split_at(len.min(rest.len()));
         pieces.push(piece)?;
-        rest = behind;
+        rest = after;
     }
     Ok(pieces)
 }

@@ -1,5 +1,5 @@
-//! Halfwidth sound marks behind one another: starters that count as marks, and of which the compatibility forms have marks.
-//! By data of which all is known and of which nothing is, the same is written, and held, behind each piece.
+//! Halfwidth sound marks after one another: starters that count as marks, and of which the compatibility forms have marks.
+//! By data of which all is known and of which nothing is, the same is written, and held, after each piece.
 use crate::both_ways::same_over;
 use nf_filter_fixtures::{FORMS, joined};
 use nf_row::{Form, Patched, Plain};
@@ -26,11 +26,11 @@ const MARKS: [&str; 5] = [
     "\u{FF9E}\u{334}\u{301}",
 ];
 
-/// How many of these stand behind one another.
+/// How many of these stand after one another.
 const COUNTS: [usize; 11] = [1, 12, 13, 15, 28, 29, 30, 31, 32, 33, 62];
 
-/// What stands behind.
-const BEHIND: [&str; 4] = ["", "b", "\u{FF76}\u{FF9E}", "\u{3099}\u{301}"];
+/// What follows.
+const AFTER: [&str; 4] = ["", "b", "\u{FF76}\u{FF9E}", "\u{3099}\u{301}"];
 
 /// How many bytes a piece has.
 const SIZES: [usize; 6] = [1, 2, 3, 4, 31, 10_000];
@@ -42,7 +42,7 @@ fn runs_of_halfwidth_marks(rt: HostRuntime) -> Result<(), Fail> {
     for before in BEFORE {
         for marks in MARKS {
             for (i, count) in COUNTS.iter().enumerate() {
-                let parts = [(before, 1), (marks, *count), (BEHIND[i % 4], 1)];
+                let parts = [(before, 1), (marks, *count), (AFTER[i % 4], 1)];
                 check_text(&rt, rt.alloc(), unchanged, &parts)?;
             }
         }

@@ -1,6 +1,6 @@
-//! Ill-formed bytes behind text that a form leaves as it stands: they have their places, wherever pieces and blocks end.
+//! Ill-formed bytes after text that a form leaves as it stands: they have their places, wherever pieces and blocks end.
 use crate::both_ways::same_over;
-use crate::calm::{BLOCK, CALM, filled};
+use crate::span::{BLOCK, SPAN, filled};
 use nf_filter::Fault;
 use nf_filter_fixtures::{BASE, FORMS};
 use nf_row::{Patched, Plain};
@@ -8,7 +8,7 @@ use std::alloc::{AllocError, Global};
 use std::process::Abort;
 use std::test::Fail;
 
-/// Bytes that are ill-formed behind a character, and the place in them of the first that is.
+/// Bytes that are ill-formed after a character, and the place in them of the first that is.
 const BAD: [(&[u8], u64); 8] = [
     (b"\xFF", 0),
     (b"\x80", 0),
@@ -45,14 +45,14 @@ const LENGTHS: [usize; 14] = [
 const FAR: usize = 70;
 
 #[test]
-fn ill_formed_bytes_have_their_places_behind_calm_text(rt: HostRuntime) -> Result<(), Fail> {
+fn ill_formed_bytes_have_their_places_after_a_span(rt: HostRuntime) -> Result<(), Fail> {
     let alloc = rt.alloc();
     let rows = Patched::new(&[]);
     let unchanged = Plain::of(&rows).ok_or("not plain")?;
-    for calm in CALM {
+    for span in SPAN {
         for len in LENGTHS {
-            let text = filled(alloc, calm, len)?;
-            check_bad(&rt, alloc, unchanged, text.as_slice(), calm)?;
+            let text = filled(alloc, span, len)?;
+            check_bad(&rt, alloc, unchanged, text.as_slice(), span)?;
             check_begun(&rt, alloc, unchanged, text.as_slice())?;
         }
     }
@@ -64,13 +64,13 @@ fn check_bad(
     alloc: Global,
     unchanged: Plain<'_, Patched<'_>>,
     text: &[u8],
-    calm: &str,
+    span: &str,
 ) -> Result<(), AllocError> {
     let start = BASE.saturating_add(text.len() as u64);
     for (bad, place) in BAD {
         let at = start.saturating_add(place);
         let fault = Fault::BadByte { at, start };
-        check_fault(rt, alloc, unchanged, text, bad, calm, fault)?;
+        check_fault(rt, alloc, unchanged, text, bad, span, fault)?;
     }
     Ok(())
 }
@@ -98,10 +98,10 @@ fn check_fault(
     unchanged: Plain<'_, Patched<'_>>,
     text: &[u8],
     bad: &[u8],
-    behind: &str,
+    after: &str,
     fault: Fault,
 ) -> Result<(), AllocError> {
-    let bytes = [text, bad, behind.as_bytes()].concat(alloc)?;
+    let bytes = [text, bad, after.as_bytes()].concat(alloc)?;
     let bytes = bytes.as_slice();
     let step = if text.len() <= FAR { 1 } else { 9 };
     for at in (text.len().saturating_sub(FAR)..=bytes.len()).step_by(step) {

@@ -10,10 +10,6 @@ mod bounds;
 #[cfg(test)]
 mod broken_runs;
 #[cfg(test)]
-mod calm;
-#[cfg(test)]
-mod closed;
-#[cfg(test)]
 mod growing;
 #[cfg(test)]
 mod halfwidth;
@@ -33,6 +29,10 @@ mod once;
 mod pieces;
 #[cfg(test)]
 mod seeds;
+#[cfg(test)]
+mod segments;
+#[cfg(test)]
+mod span;
 #[cfg(test)]
 mod turns;
 #[cfg(test)]

@@ -49,11 +49,11 @@ fn check_lie<R: Rows>(rt: &impl Abort, alloc: Global, rows: &R, c: char) -> Resu
         (b"pq", b"", row(2), "p"),
         (b"", b"ab", row(0), ""),
     ];
-    for (front, behind, fault, written) in cases {
+    for (front, after, fault, written) in cases {
         let mut text = joined(alloc, &[])?;
         text.extend_from_slice(front)?;
         text.extend_from_slice(c.encode_utf8(&mut [0; 4]).as_bytes())?;
-        text.extend_from_slice(behind)?;
+        text.extend_from_slice(after)?;
         check_text_of(
             rt,
             alloc,
@@ -168,7 +168,7 @@ const FULL: [char; 18] = [M; 18];
 
 /// Data that is sound and unlike Unicode's, and texts that meet it. By the definitions on whole texts.
 const HOSTILE: [(&[Change<'static>], Text<'static>); 12] = [
-    // A letter that takes in all letters, or all marks, behind it.
+    // A letter that takes in all letters, or all marks, after it.
     (
         &[Pair('a', 'a', Some('a'))],
         (&[("a", 9), ("b", 1), ("a", 3)], b""),
@@ -181,7 +181,7 @@ const HOSTILE: [(&[Change<'static>], Text<'static>); 12] = [
         &[Pair('q', M, Some('r')), Pair('r', M, Some('q'))],
         (&[("q", 1), ("\u{301}", 33)], b""),
     ),
-    // The joiner that is put composes with what is before it, and with what is behind it.
+    // The joiner that is put composes with what is before it, and with what is after it.
     (
         &[Pair('\u{FF9E}', J, Some('z'))],
         (&[("\u{FF9E}", 32)], b""),

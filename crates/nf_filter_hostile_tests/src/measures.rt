@@ -109,8 +109,8 @@ fn a_text_is_measured_wherever_it_is_cut(rt: HostRuntime) -> Result<(), Fail> {
         unassigned: 1,
     };
     for at in 1..text.len() {
-        let (front, behind) = text.split_at(at);
-        assert_eq!(rt; measured(&[front, behind]), Ok(values), "at {at}");
+        let (front, after) = text.split_at(at);
+        assert_eq!(rt; measured(&[front, after]), Ok(values), "at {at}");
     }
     Ok(())
 }

@@ -2,8 +2,8 @@
 ghost use Rattle.std.specs.Prelude.{◌<◌, length};
 
 use crate::both_ways::{same_both_ways, same_over};
-use crate::calm::{BREAKS, CALM};
-use crate::closed::CLUSTERS;
+use crate::segments::CLUSTERS;
+use crate::span::{BREAKS, SPAN};
 use nf_filter_fixtures::{FORMS, joined};
 use nf_row::{Patched, Plain};
 use nf_seeded::Seeded;
@@ -19,7 +19,7 @@ fn is_taken(code: u32) -> bool {
     code < 0x3_4000 || (code >= 0xE_0000 && code < 0xE_1000) || code % 16 == 0
 }
 
-/// Appends the character between letters, behind a starter with a mark, and before a mark.
+/// Appends the character between letters, after a starter with a mark, and before a mark.
 fn push_surrounded(text: &mut String, c: char) -> Result<(), AllocError> {
     text.push_str("be")?;
     text.push(c)?;
@@ -103,13 +103,13 @@ fn push_jamo(text: &mut String, seeded: &mut Seeded) -> Result<(), AllocError> {
     Ok(())
 }
 
-/// Appends calm text, marks, what breaks calm text, closed text, or any character.
+/// Appends a span, marks, what breaks a span, segments, or any character.
 pub fn push_part(text: &mut String, seeded: &mut Seeded) -> Result<(), AllocError> {
     match seeded.below(10) {
         0..=2 => {
-            let calm = seeded.pick(&CALM);
+            let span = seeded.pick(&SPAN);
             let times = seeded.below(101) as usize;
-            push_some(text, seeded, &[calm], times)
+            push_some(text, seeded, &[span], times)
         }
         3 => {
             let mark = seeded.pick(&MARKS);
@@ -159,9 +159,9 @@ pub fn cut<'t>(
         if rest.is_empty() {
             break;
         }
-        let (piece, behind) = rest.split_at(size(seeded).min(rest.len()));
+        let (piece, after) = rest.split_at(size(seeded).min(rest.len()));
         pieces.push(piece)?;
-        rest = behind;
+        rest = after;
     }
     Ok(pieces)
 }

@@ -39,7 +39,7 @@ fn fast(rt: &impl Abort, form: Form) -> Filter<'static, Ucd> {
 }
 
 #[test]
-fn a_reader_is_asked_nothing_behind_a_failure_or_its_end(rt: HostRuntime) -> Result<(), Fail> {
+fn a_reader_is_asked_nothing_after_a_failure_or_its_end(rt: HostRuntime) -> Result<(), Fail> {
     for form in FORMS {
         // Seven reads give the text, and the eighth is its end.
         for call in 0..9 {
@@ -138,7 +138,7 @@ fn measured(odd: Odd) -> (Option<Fault>, usize) {
 }
 
 #[test]
-fn a_writer_is_asked_nothing_behind_a_failure(rt: HostRuntime) -> Result<(), Fail> {
+fn a_writer_is_asked_nothing_after_a_failure(rt: HostRuntime) -> Result<(), Fail> {
     for form in FORMS {
         // At most 47 bytes are written.
         for call in 0..64 {

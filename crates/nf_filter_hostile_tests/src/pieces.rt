@@ -14,11 +14,11 @@ const J: &str = "\u{34F}";
 
 const M: &str = "\u{301}";
 
-/// Strings, each so many times, and bytes behind them.
+/// Strings, each so many times, and bytes after them.
 pub type Text<'a> = (&'a [(&'a str, usize)], &'a [u8]);
 
 /// Texts that hold what is hard: marks out of order, long runs, what composes across pieces, long decompositions, and such
-/// behind text that stays as it is.
+/// after text that stays as it is.
 pub const TEXTS: [Text<'static>; 27] = [
     (&[], b""),
     (&[], b"A\xCC\x8A"),

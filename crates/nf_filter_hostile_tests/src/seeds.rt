@@ -1,5 +1,5 @@
 //! Many short texts of hostile mixtures, made from seeds, in pieces of made-up sizes: by data of which all is known and of
-//! which nothing is, the same is written, and held, behind each piece.
+//! which nothing is, the same is written, and held, after each piece.
 ghost use Rattle.std.specs.Prelude.{◌<◌};
 
 use crate::both_ways::same_over;

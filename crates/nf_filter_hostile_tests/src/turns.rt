@@ -115,7 +115,7 @@ struct Whole<'a> {
     answer: Result<Tally, Fault>,
 }
 
-/// Lets a sink fail behind each number of calls in a range, each way.
+/// Lets a sink fail after each number of calls in a range, each way.
 fn check_writes(
     rt: &impl Abort,
     alloc: Global,
@@ -132,7 +132,7 @@ fn check_writes(
     }
 }
 
-/// Lets a sink that takes a byte in a call fail behind so many calls: it has taken that many bytes, and is asked once
+/// Lets a sink that takes a byte in a call fail after so many calls: it has taken that many bytes, and is asked once
 /// more. Where there are no more to write, the filter answers as it does over any sink.
 fn check_write(
     rt: &impl Abort,
@@ -203,7 +203,7 @@ fn each_read_fails_in_turn(rt: HostRuntime) -> Result<(), Fail> {
     Ok(())
 }
 
-/// Lets a source that gives a byte in a call fail behind each of its calls.
+/// Lets a source that gives a byte in a call fail after each of its calls.
 fn check_reads(rt: &impl Abort, alloc: Global, form: Form, text: &[u8]) -> Result<(), AllocError> {
     let calls: Vec<&[u8]> = text.chunks(1).collect(alloc)?;
     for given in 0..=text.len().min(calls.len()) {
@@ -213,7 +213,7 @@ fn check_reads(rt: &impl Abort, alloc: Global, form: Form, text: &[u8]) -> Resul
     Ok(())
 }
 
-/// What the source gave has been settled. A bad byte is told before, and nothing is asked for behind it.
+/// What the source gave has been settled. A bad byte is told before, and nothing is asked for after it.
 fn check_read(rt: &impl Abort, alloc: Global, form: Form, calls: &[&[u8]], due: &Due) {
     let fault = due.answer.err().unwrap_or(Fault::Read);
     let refused = usize::from(fault == Fault::Read);
@@ -233,7 +233,7 @@ fn check_read(rt: &impl Abort, alloc: Global, form: Form, calls: &[&[u8]], due: 
     assert_eq!(rt; source.refused, refused);
 }
 
-/// The mark with which a run is too long is the 63rd byte: before it a failed read is told, and behind it nothing is read.
+/// The mark with which a run is too long is the 63rd byte: before it a failed read is told, and after it nothing is read.
 #[test]
 fn each_read_of_a_check_fails_in_turn(rt: HostRuntime) -> Result<(), Fail> {
     let alloc = rt.alloc();

@@ -59,7 +59,7 @@ const KINDS: [(&[u8], usize); 45] = [
     (b"\xFF", 1),
 ];
 
-/// Texts before and behind it, which are their own NFC there.
+/// Texts before and after it, which are their own NFC there.
 const AROUND: [(&str, &str); 7] = [
     ("", ""),
     ("ab", "cd"),

@@ -145,7 +145,7 @@ fn mixtures_go_by_the_plain_reading(rt: HostRuntime) -> Result<(), Fail> {
     Ok(())
 }
 
-/// Parts up to so many bytes: more than are mended at once.
+/// Parts up to so many bytes: more than are replaced at once.
 fn long_mixture(alloc: Global, seeded: &mut Seeded, len: usize) -> Result<Vec<u8>, AllocError> {
     let mut bytes = Vec::new(alloc);
     for _ in 0..len {

@@ -27,7 +27,7 @@ const REPLACED: [(&[u8], usize, &str, u64); 7] = [
     (b"\x61\xF0\x90\x80", 0, "a\u{FFFD}", 2),
     (b"", 0, "", 0),
     (b"\x80", 0, "\u{FFFD}", 1),
-    // What is put composes with nothing, and takes the marks behind it.
+    // What is put composes with nothing, and takes the marks after it.
     (b"e\xFF\xCC\x81", 1, "e\u{FFFD}\u{301}", 3),
     (b"e\xCC\x81\xC3e\xCC\x81", 5, "\u{E9}\u{FFFD}\u{E9}", 5),
 ];

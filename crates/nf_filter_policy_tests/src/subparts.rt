@@ -54,10 +54,10 @@ pub fn read(
         let start = bytes.len().saturating_sub(rest.len()) as u64;
         let (n, is_whole) = begun(rest);
         // A byte that begins nothing is a part by itself.
-        let (part, behind) = rest.split_at(n.max(1).min(rest.len()));
+        let (part, after) = rest.split_at(n.max(1).min(rest.len()));
         if !is_whole && !policy.replace {
             let at = start.saturating_add(n as u64);
-            let fault = if n > 0 && behind.is_empty() {
+            let fault = if n > 0 && after.is_empty() {
                 Fault::Cut { at, start }
             } else {
                 Fault::BadByte { at, start }
@@ -74,7 +74,7 @@ pub fn read(
         }
         text.push(c)?;
         chars = u64::saturating_add(chars, 1);
-        rest = behind;
+        rest = after;
     }
     let tally = Tally {
         bytes: bytes.len() as u64,

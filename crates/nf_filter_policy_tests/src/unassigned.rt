@@ -55,7 +55,7 @@ const REFUSED: [(&[Change<'static>], Policy, &[u8], Fault, &[u8]); 24] = [
         Unassigned { at: 2 },
         b"\x61",
     ),
-    // U+0378, behind what settles and what does not.
+    // U+0378, after what settles and what does not.
     (
         &NONE,
         ASSIGNED,
@@ -77,7 +77,7 @@ const REFUSED: [(&[Change<'static>], Policy, &[u8], Fault, &[u8]); 24] = [
         Unassigned { at: 4 },
         b"\xC3\xA9",
     ),
-    // The first of two, and one before and one behind an ill-formed byte.
+    // The first of two, and one before and one after an ill-formed byte.
     (
         &NONE,
         ASSIGNED,
@@ -120,7 +120,7 @@ const REFUSED: [(&[Change<'static>], Policy, &[u8], Fault, &[u8]); 24] = [
         Unassigned { at: 5 },
         b"ab\xEF\xBF\xBD",
     ),
-    // Behind many ill-formed parts, with no text between them and with some.
+    // After many ill-formed parts, with no text between them and with some.
     (
         &NONE,
         BOTH,

@@ -133,7 +133,7 @@ fn what_a_read_settles_is_written_before_the_next(rt: HostRuntime) -> Result<(),
             ("\u{1F600}b\u{C5}", 1),
         ],
     )?;
-    let calm = joined(
+    let span = joined(
         alloc,
         &[
             ("a", 35),
@@ -144,7 +144,7 @@ fn what_a_read_settles_is_written_before_the_next(rt: HostRuntime) -> Result<(),
     for form in FORMS {
         for step in [1, 2, 5, 200] {
             check_order(&rt, alloc, form, hard.as_slice(), step)?;
-            check_order(&rt, alloc, form, calm.as_slice(), step)?;
+            check_order(&rt, alloc, form, span.as_slice(), step)?;
         }
     }
     Ok(())

@@ -197,7 +197,7 @@ fn check_fault(rt: &impl Abort, base: u64, bytes: &[u8], step: usize, fault: Fau
 }
 
 #[test]
-fn nothing_is_told_of_what_is_behind_a_place(rt: HostRuntime) -> Result<(), Fail> {
+fn nothing_is_told_of_what_is_after_a_place(rt: HostRuntime) -> Result<(), Fail> {
     let alloc = rt.alloc();
     let mut bytes = joined(alloc, &[("q", 1), (M, 31)])?;
     bytes.push(0xFF)?;
@@ -212,7 +212,7 @@ fn nothing_is_told_of_what_is_behind_a_place(rt: HostRuntime) -> Result<(), Fail
         );
         assert!(rt; !source.failed);
     }
-    // One byte at a time, nothing is asked for behind the mark that makes the run too long.
+    // One byte at a time, nothing is asked for after the mark that makes the run too long.
     let mut source = Bytes::breaking(bytes.as_slice(), 1);
     assert_eq!(rt; check(&Ucd, 0, &mut source), place(31, 61));
     assert_eq!(rt; source.coming, b"\xFF".as_slice());

@@ -1,4 +1,4 @@
-//! How calm text reaches the sink: how much of it at once, how much by when, and what is left where the sink fails.
+//! How a span reaches the sink: how much of it at once, how much by when, and what is left where the sink fails.
 use nf_filter::{Fault, Filter, Held, Tally};
 use nf_filter_fixtures::{BASE, FORMS, Kept, course_of, joined};
 use nf_row::{Form, Patched, Ucd};
@@ -8,9 +8,9 @@ use std::test::Fail;
 
 /// A character, the forms that leave it as it stands wherever it follows itself, and how many code points of its
 /// decomposition stand from the last starter on.
-type Calm<'a> = (&'a str, &'a [Form], usize);
+type Span<'a> = (&'a str, &'a [Form], usize);
 
-const CALM: [Calm<'static>; 7] = [
+const SPAN: [Span<'static>; 7] = [
     ("a", &FORMS, 1),
     ("\u{43B}", &FORMS, 1),
     ("\u{6F22}", &FORMS, 1),
@@ -21,29 +21,29 @@ const CALM: [Calm<'static>; 7] = [
 ];
 
 #[test]
-fn calm_text_is_written_at_once_and_in_blocks(rt: HostRuntime) -> Result<(), Fail> {
-    for calm in CALM {
-        let (_, forms, _) = calm;
+fn a_span_is_written_at_once_and_in_blocks(rt: HostRuntime) -> Result<(), Fail> {
+    for span in SPAN {
+        let (_, forms, _) = span;
         for form in forms {
             for size in [65_536, 4097, 1000] {
-                check_blocks(&rt, rt.alloc(), calm, *form, size)?;
+                check_blocks(&rt, rt.alloc(), span, *form, size)?;
             }
         }
     }
     Ok(())
 }
 
-/// Feeds pieces of that size of a long text of one character: behind each all of it but the last is written, in slices
+/// Feeds pieces of that size of a long text of one character: after each all of it but the last is written, in slices
 /// of no more than a block.
 fn check_blocks(
     rt: &impl Abort,
     alloc: Global,
-    (calm, _, pending): Calm<'_>,
+    (span, _, pending): Span<'_>,
     form: Form,
     size: usize,
 ) -> Result<(), AllocError> {
-    let width = calm.len().max(1);
-    let text = joined(alloc, &[(calm, 65_536 / width + 5000)])?;
+    let width = span.len().max(1);
+    let text = joined(alloc, &[(span, 65_536 / width + 5000)])?;
     let text = text.as_slice();
     let mut sink = Kept::new(alloc);
     let mut filter = Filter::new(&Ucd, form, BASE);
@@ -53,15 +53,15 @@ fn check_blocks(
         fed = fed.saturating_add(piece.len());
         let bytes = fed % width;
         let settled = fed.saturating_sub(bytes).saturating_sub(width);
-        assert_eq!(rt; sink.bytes.len(), settled, "{form:?} behind {fed}");
+        assert_eq!(rt; sink.bytes.len(), settled, "{form:?} after {fed}");
         assert!(rt;
             text.starts_with(sink.bytes.as_slice()),
-            "{form:?} behind {fed}"
+            "{form:?} after {fed}"
         );
         assert_eq!(rt;
             filter.held(),
             Held { bytes, pending },
-            "{form:?} of {calm}"
+            "{form:?} of {span}"
         );
     }
     let tally = Tally {
@@ -70,7 +70,7 @@ fn check_blocks(
         put: 0,
     };
     assert_eq!(rt; filter.finish(&mut sink), Ok(tally));
-    assert!(rt; sink.bytes.as_slice() == text, "{form:?} of {calm}");
+    assert!(rt; sink.bytes.as_slice() == text, "{form:?} of {span}");
     assert!(rt;
         sink.longest > 124 && sink.longest <= 4096,
         "{} at once",
@@ -79,7 +79,7 @@ fn check_blocks(
     Ok(())
 }
 
-/// Long calm text, alone and with what breaks it.
+/// A long span, alone and with what breaks it.
 const LONG: [&[(&str, usize)]; 5] = [
     &[("a", 9000)],
     &[("a", 4095), ("\u{301}", 31), ("a", 4096)],
@@ -96,7 +96,7 @@ const LONG: [&[(&str, usize)]; 5] = [
 ];
 
 #[test]
-fn a_sink_that_fails_under_calm_text_holds_the_beginning(rt: HostRuntime) -> Result<(), Fail> {
+fn a_sink_that_fails_under_a_span_holds_the_beginning(rt: HostRuntime) -> Result<(), Fail> {
     let alloc = rt.alloc();
     for long in LONG {
         let text = joined(alloc, long)?;

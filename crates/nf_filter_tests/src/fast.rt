@@ -90,7 +90,7 @@ fn check_front(rt: &impl Abort, sink: &Kept, held: Held) {
 
 /// Nothing is known of a pair whose first is not ASCII: it composes.
 #[test]
-fn ascii_behind_another_starter_may_compose(rt: HostRuntime) -> Result<(), Fail> {
+fn ascii_after_another_starter_may_compose(rt: HostRuntime) -> Result<(), Fail> {
     let changes = [Pair('\u{C5}', 'b', Some('c'))];
     let rows = Patched::new(&changes);
     let mut sink = Kept::new(rt.alloc());

@@ -39,7 +39,7 @@ fn a_filter_goes_on_where_it_was_saved(rt: HostRuntime) -> Result<(), Fail> {
                 let sink = saved_between(&rt, alloc, form, &[first, second, third])?;
                 assert!(rt;
                     sink.bytes.as_slice() == due.as_bytes(),
-                    "cut at {at}, and {len} behind"
+                    "cut at {at}, and {len} after"
                 );
             }
         }
@@ -47,7 +47,7 @@ fn a_filter_goes_on_where_it_was_saved(rt: HostRuntime) -> Result<(), Fail> {
     Ok(())
 }
 
-/// What a filter gives its sink that is saved and restored behind each piece.
+/// What a filter gives its sink that is saved and restored after each piece.
 fn saved_between(
     rt: &impl Abort,
     alloc: Global,
@@ -113,7 +113,7 @@ fn what_no_filter_has_is_refused(rt: HostRuntime) -> Result<(), Fail> {
             count: 1,
             ..stood()?
         },
-        // The first byte behind the next; fewer bytes than are held, and than are left for the characters.
+        // The first byte after the next; fewer bytes than are held, and than are left for the characters.
         Saved {
             base: 8,
             ..stood()?

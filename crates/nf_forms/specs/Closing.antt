@@ -1,4 +1,4 @@
--- What the data must say of a character for a text to be cut behind it: nothing that follows changes it, and the count of
+-- What the data must say of a character for a text to be cut after it: nothing that follows changes it, and the count of
 -- the Stream-Safe Text Process is 0 there (UAX #15, sections 9 and 13).
 use Rattle.std.specs.Prelude.{◌≡◌, ℕ, true, [], ◌∷◌, None}
 use Rattle.nf_forms.specs.Properties.{Properties, is_starter}
@@ -7,7 +7,7 @@ use Rattle.nf_forms.specs.declared.form.Form.{Form}
 use Rattle.nf_forms.specs.Forms.{row_of, composes}
 use Rattle.nf_forms.specs.Parting.{NeverSecond}
 
--- in a composing form it composes with nothing behind it
+-- in a composing form it composes with nothing after it
 abbrev pub NeverFirst : Properties → Form → ℕ → Type 0
 NeverFirst p f c = composes f ≡ true → (b : ℕ) → composite p c b ≡ None
 

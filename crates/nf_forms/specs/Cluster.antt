@@ -1,4 +1,4 @@
--- A starter and the characters behind it that may compose with it, each its own decomposition, on the way through canonical
+-- A starter and the characters after it that may compose with it, each its own decomposition, on the way through canonical
 -- composition (The Unicode Standard, section 3.11, D115 to D117).
 use Rattle.std.specs.Prelude.{◌≡◌, ◌≤◌, ℕ, nat_le, Bool, true, false, not, ◌&&◌, ◌==◌, List, [], ◌∷◌, ◌++◌, length}
 use Rattle.nf_forms.specs.Properties.{Properties, is_starter}
@@ -14,11 +14,11 @@ pub record IsOwnRow (p : Properties) (c : ℕ) : Type 0 where
   pub canonical : p.canonical c ≡ c ∷ []
   pub compat : p.compat c ≡ c ∷ []
 
--- D115: a mark is left behind the starter, and c is of no class above the greatest of those
+-- D115: a mark is left after the starter, and c is of no class above the greatest of those
 abbrev pub blocks : Properties → List ℕ → ℕ → ℕ → Bool
 blocks p left highest c = not (length left == 0) && nat_le (p.class c) highest
 
--- clusters, one behind the other, have become `done`, and behind it a starter and the marks that are left: the last cluster.
+-- clusters, one after the other, have become `done`, and after it a starter and the marks that are left: the last cluster.
 -- `last` is the class of the last character, `highest` the greatest class of a mark that is left, and no more than `count`
 -- non-starters come last
 pub record AreClusters (p : Properties) (done cs : List ℕ) (starter : ℕ) (left : List ℕ) (last highest count : ℕ) : Type 0 where

@@ -14,7 +14,7 @@ starter_only p (Some c) = if is_starter p c then Some c else None
 abbrev pub composite : Properties → ℕ → ℕ → Option ℕ
 composite p a b = starter_only p (p.pair a b)
 
--- D115: one of the marks behind the starter keeps c from it
+-- D115: one of the marks after the starter keeps c from it
 abbrev pub is_blocked : Properties → List ℕ → ℕ → Bool
 is_blocked p marks c = list_any (λ m. nat_le (p.class c) (p.class m)) marks
 
@@ -22,7 +22,7 @@ is_blocked p marks c = list_any (λ m. nat_le (p.class c) (p.class m)) marks
 abbrev pub joined : Properties → ℕ → List ℕ → ℕ → Option ℕ
 joined p starter marks c = if is_blocked p marks c then None else composite p starter c
 
--- the composite in the starter's place, or c behind the rest
+-- the composite in the starter's place, or c after the rest
 abbrev pub replaced : Option ℕ → ℕ → List ℕ → ℕ → List ℕ
 replaced (Some d) starter marks c = d ∷ marks
 replaced None starter marks c = starter ∷ marks ++ c ∷ []

@@ -9,9 +9,9 @@ pub mod StreamSafe
 pub mod SafeForm
 pub mod Parting
 pub mod Closing
-pub mod Calm
+pub mod Span
 pub mod Sound
-pub mod Closed
+pub mod Segments
 pub mod Audit
 pub mod Twice
 pub mod Cluster

@@ -13,11 +13,11 @@ joiner = 0x34F
 abbrev pub max_run : ℕ
 max_run = 30
 
--- behind this output c would make a run of its NFKD too long
+-- after this output c would make a run of its NFKD too long
 abbrev pub is_too_long : Properties → List ℕ → ℕ → Bool
 is_too_long p out c = nat_lt max_run (trail p (decomposed Nfkd p out) + lead p (p.compat c))
 
--- the output, with a joiner behind it where c needs one
+-- the output, with a joiner after it where c needs one
 abbrev pub parted : Properties → List ℕ → ℕ → List ℕ
 parted p out c = if is_too_long p out c then out ++ joiner ∷ [] else out
 

@@ -13,7 +13,7 @@ ghost use Rattle.nf_forms.specs.StreamSafe.{stream_safe};
 ghost use Rattle.nf_forms.specs.SafeForm.{safe_form};
 ghost use Rattle.nf_forms.specs.Parting.{BeginsAnew, IsParting};
 ghost use Rattle.nf_forms.specs.Closing.{IsClosing};
-ghost use Rattle.nf_forms.specs.Calm.{IsCalm};
+ghost use Rattle.nf_forms.specs.Span.{IsSpan};
 ghost use Rattle.nf_forms.specs.Audit.{IsAudited};
 ghost use Rattle.nf_forms.specs.Twice.{ChangesOnce};
 ghost use Rattle.nf_forms.specs.Laws.Sound.{IsSoundText};
@@ -37,16 +37,16 @@ pub fn a_text_may_be_cut()
         → front p (safe_form f p (x ++ c ∷ [])) ≡ safe_form f p x }
 {}
 
-/// Calm text goes into the stream-safe text and into the form as it is, whatever stands before it. It settles what
+/// A span goes into the stream-safe text and into the form as it is, whatever stands before it. It settles what
 /// stood before it, and its own front.
-pub fn calm_text_is_its_own_form()
-    ensures safe { (p : Properties) (f : Form) (cs : List ℕ) (class count : ℕ) → IsCalm p f cs class count → (x : List ℕ)
+pub fn a_span_is_its_own_form()
+    ensures safe { (p : Properties) (f : Form) (cs : List ℕ) (class count : ℕ) → IsSpan p f cs class count → (x : List ℕ)
         → IsSoundText p (stream_safe p x) → stream_safe p (x ++ cs) ≡ stream_safe p x ++ cs }
-    ensures form { (p : Properties) (f : Form) (cs : List ℕ) (class count : ℕ) → IsCalm p f cs class count → (x : List ℕ)
+    ensures form { (p : Properties) (f : Form) (cs : List ℕ) (class count : ℕ) → IsSpan p f cs class count → (x : List ℕ)
         → IsSoundText p (stream_safe p x) → safe_form f p (x ++ cs) ≡ safe_form f p x ++ cs }
-    ensures settled { (p : Properties) (f : Form) (c : ℕ) (cs : List ℕ) (class count : ℕ) → IsCalm p f (c ∷ cs) class count → (x : List ℕ)
+    ensures settled { (p : Properties) (f : Form) (c : ℕ) (cs : List ℕ) (class count : ℕ) → IsSpan p f (c ∷ cs) class count → (x : List ℕ)
         → IsSoundText p (stream_safe p x) → front p (safe_form f p (x ++ c ∷ cs)) ≡ safe_form f p x ++ front p (c ∷ cs) }
-    ensures bound { (p : Properties) (f : Form) (c : ℕ) (cs : List ℕ) (class count : ℕ) → IsCalm p f (c ∷ cs) class count → (x : List ℕ)
+    ensures bound { (p : Properties) (f : Form) (c : ℕ) (cs : List ℕ) (class count : ℕ) → IsSpan p f (c ∷ cs) class count → (x : List ℕ)
         → IsSoundText p (stream_safe p x) → trail p (decomposed Nfkd p (stream_safe p (x ++ c ∷ cs))) ≤ count }
 {}
 
@@ -66,9 +66,9 @@ pub fn decompositions_change_a_text_once()
     ensures { (p : Properties) → IsAudited p → (f : Form) → composes f ≡ false → ChangesOnce f p }
 {}
 
-/// A text may be cut behind a character that closes it, as at the end of a line, and each part brought into the form by
+/// A text may be cut after a character that closes it, as at the end of a line, and each part brought into the form by
 /// itself, whatever the parts are.
-pub fn a_text_may_be_cut_behind()
+pub fn a_text_may_be_cut_after()
     ensures safe { (p : Properties) (f : Form) (c : ℕ) → IsClosing p f c → (x y : List ℕ)
         → stream_safe p ((x ++ c ∷ []) ++ y) ≡ stream_safe p (x ++ c ∷ []) ++ stream_safe p y }
     ensures form { (p : Properties) (f : Form) (c : ℕ) → IsClosing p f c → (x y : List ℕ)

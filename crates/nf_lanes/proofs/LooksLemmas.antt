@@ -95,9 +95,9 @@ module _ (least low : ℕ) (P : ℕ → Type 0) (known : Known least low P) (fin
   abbrev EitherTold : List ℕ → ℕ → Type 0
   EitherTold text n = (k : ℕ) → k < n → least ≤ slice_index text k → NoneFound finds text k ⊎ NoneFound others text k
 
-  -- of so many behind a piece
-  told_behind : (piece rest : List ℕ) (n m : ℕ) → length piece + n ≤ m → EitherTold (piece ++ rest) m → EitherTold rest n
-  told_behind piece rest n m short told k inside high =
+  -- of so many after a piece
+  told_after : (piece rest : List ℕ) (n m : ℕ) → length piece + n ≤ m → EitherTold (piece ++ rest) m → EitherTold rest n
+  told_after piece rest n m short told k inside high =
       simp add_assoc ((simp (add_assoc, get_or-append-add) at (told (length piece + k))) (omega arith) high)
 
   told_chars : (cs more : List ℕ) → all_scalars cs ≡ true → EitherTold (encode_utf8_all cs ++ more) (length (encode_utf8_all cs)) → All P cs
@@ -106,12 +106,12 @@ module _ (least low : ℕ) (P : ℕ → Type 0) (known : Known least low P) (fin
       let both = and_parts (scalar c) (all_scalars cs) scalars in
       let fits : c < 1114112 = grind (arith, scalar_cases c) in
       let here = rw (append_assoc, length-append) at told in
-      let first = told_behind [] _ (length (encode_utf8 c)) _ (omega arith) here 0 (omega (arith, length-le-encodes (c ∷ []), length-append (encode_utf8 c) [])) in
-      All-cons P c cs (⊎_elim (known.below c) (λ some. ⊎_elim (by_told least low P known finds tells c _ fits some) (by_told least low P known others tell c _ fits some) (first (begins least low P known finds tells c _ some))) (order c low)) (told_chars cs more both.1 (told_behind (encode_utf8 c) _ _ _ (omega arith) here))
+      let first = told_after [] _ (length (encode_utf8 c)) _ (omega arith) here 0 (omega (arith, length-le-encodes (c ∷ []), length-append (encode_utf8 c) [])) in
+      All-cons P c cs (⊎_elim (known.below c) (λ some. ⊎_elim (by_told least low P known finds tells c _ fits some) (by_told least low P known others tell c _ fits some) (first (begins least low P known finds tells c _ some))) (order c low)) (told_chars cs more both.1 (told_after (encode_utf8 c) _ _ _ (omega arith) here))
 
   -- a front that ends between two characters
   pub told_front : (text : List ℕ) (n m : ℕ) → IsUtf8 text → IsCharBoundary text n → n ≤ m → EitherTold text m → All P (chars (take n text))
   told_front text n m u boundary short told =
       let front_utf8 = IsUtf8-take text n u boundary in
       told_chars _ (drop n text) (scalars-chars _ front_utf8)
-      (rw (encodes-chars (take n text) front_utf8, take-append-drop n text, length-take-le n text boundary.0) (told_behind [] text n m (omega arith) told))
+      (rw (encodes-chars (take n text) front_utf8, take-append-drop n text, length-take-le n text boundary.0) (told_after [] text n m (omega arith) told))

@@ -24,16 +24,16 @@ pub loaded : {V : Type 0} (g : ℕ → V) (bytes : List ℕ) (at : ℕ) → at +
 unfolding places
 loaded g bytes at room = ap (map g) (sym (pick_l-range_with_len 0 bytes at 16 room)) ∙ map-map g (λ k. get_or bytes k 0) (range_with_len at 16)
 
--- the places n behind those
-range_behind : {V : Type 0} (h : ℕ → V) (at n len : ℕ) → map h (range_with_len (at + n) len) ≡ map (λ k. h (k + n)) (range_with_len at len)
-range_behind h at n zero = refl
-range_behind h at n (suc len) =
+-- the places n after those
+range_after : {V : Type 0} (h : ℕ → V) (at n len : ℕ) → map h (range_with_len (at + n) len) ≡ map (λ k. h (k + n)) (range_with_len at len)
+range_after h at n zero = refl
+range_after h at n (suc len) =
     let next : at + n + 1 ≡ at + 1 + n = omega arith in
-    rw (next, range_behind h (at + 1) n len)
+    rw (next, range_after h (at + 1) n len)
 
-pub places_behind : {V : Type 0} (h : ℕ → V) (at n : ℕ) → map h (places (at + n)) ≡ map (λ k. h (k + n)) (places at)
+pub places_after : {V : Type 0} (h : ℕ → V) (at n : ℕ) → map h (places (at + n)) ≡ map (λ k. h (k + n)) (places at)
 unfolding places
-places_behind h at n = range_behind h at n 16
+places_after h at n = range_after h at n 16
 
 module _ (p : ℕ → Bool) (at found : ℕ) (is : found ≡ bits_at p at) where
   -- how many stand before the first whose bit is set

@@ -12,7 +12,7 @@ is_in t byte next = not (pair_sets t byte next == 0)
 abbrev pub finds : Looks → ℕ → ℕ → Bool
 finds t byte next = is_in t.first byte next && is_in t.second byte next
 
--- what is so of the byte at k and the one behind it
+-- what is so of the byte at k and the one after it
 abbrev pub at_pair : (ℕ → ℕ → Bool) → List ℕ → ℕ → Bool
 at_pair test bytes k = test (slice_index bytes k) (slice_index bytes (k + 1))
 

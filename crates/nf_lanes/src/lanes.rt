@@ -47,7 +47,7 @@ pub fn before(bits: u64) -> usize
     }
 }
 
-/// Whether no bit is set of four times 16 places, one behind the other.
+/// Whether no bit is set of four times 16 places, one after the other.
 #[inline(always)]
 pub fn none_of(first: u64, second: u64, third: u64, last: u64) -> bool
     ensures { (p : ℕ → Bool) (at : ℕ) → first ≡ bits_at p at → second ≡ bits_at p (at + 16) → third ≡ bits_at p (at + 32) → last ≡ bits_at p (at + 48) → (IsTrue result ↔ NonePass p at 64) }
@@ -55,7 +55,7 @@ pub fn none_of(first: u64, second: u64, third: u64, last: u64) -> bool
     (first == 0) & (second == 0) & (third == 0) & (last == 0)
 }
 
-/// The bits of four times 16 places, one behind the other, as those of 64.
+/// The bits of four times 16 places, one after the other, as those of 64.
 #[inline(always)]
 pub(crate) fn of_64(first: u64, second: u64, third: u64, last: u64) -> u64
     requires few { (first < 65536) × (second < 65536) × (third < 65536) × (last < 65536) }

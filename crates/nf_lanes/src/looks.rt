@@ -9,7 +9,7 @@ use crate::lanes::{at_least, bits, none_of, of_64};
 use crate::sets::{Pairs, pair_sets};
 
 /// Of so few characters no pair is asked: in Latin most of those that are not ASCII have to be looked up.
-const FEW: u32 = 14;
+const MIN_LEADS: u32 = 14;
 
 /// Two families of eight sets of pairs. A pair that is in a set of each has to be looked up.
 pub struct Looks {
@@ -41,7 +41,7 @@ pub fn found_by_both(first: &Pairs, second: &Pairs, least: u8, bytes: &[u8], at:
 }
 
 /// A bit for each of 63 bytes from `at` on, the lowest for the first: of those that begin more bytes than one, each at which a
-/// pair has to be looked up, or at the byte behind it, is set; of a few all are; and where three of three bytes stand in a row,
+/// pair has to be looked up, or at the byte after it, is set; of a few all are; and where three of three bytes stand in a row,
 /// as kana do in Japanese, only those of which a pair is in the other family, too.
 #[inline(always)]
 pub fn found_leads(looks: &Looks, other: &Pairs, bytes: &[u8], at: usize) -> u64
@@ -51,7 +51,7 @@ pub fn found_leads(looks: &Looks, other: &Pairs, bytes: &[u8], at: usize) -> u64
         → NoneFound (finds looks.now) bytes.now (at + k) ⊎ NoneFound (is_in other.now) bytes.now (at + k) }
 {
     let leads = high_bits(0xC0, bytes, at);
-    if leads.count_ones() < FEW {
+    if leads.count_ones() < MIN_LEADS {
         return leads;
     }
     let pairs = of_64(
@@ -98,7 +98,7 @@ fn family_bits(family: &Pairs, bytes: &[u8], at: usize) -> u64
     )
 }
 
-/// A bit for each byte from `at` on, the lowest for the first: whether it and the byte behind it are in a set of the family.
+/// A bit for each byte from `at` on, the lowest for the first: whether it and the byte after it are in a set of the family.
 #[inline(always)]
 fn set_bits(family: &Pairs, bytes: &[u8], at: usize) -> u64
     requires room { at + 16 < length bytes.now }

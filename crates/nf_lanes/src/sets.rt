@@ -6,7 +6,7 @@ ghost use Rattle.nf_lanes.specs.Sets.{byte_sets, pair_sets, triple_sets};
 
 use std::simd::prelude::*;
 
-/// Eight sets of pairs of bytes, each a bit: by the high and the low half of a byte and of the one behind it, the sets that
+/// Eight sets of pairs of bytes, each a bit: by the high and the low half of a byte and of the one after it, the sets that
 /// allow it.
 pub struct Pairs {
     pub first_high: [u8; 16],

@@ -1,4 +1,4 @@
--- Lines, and what stands behind them.
+-- Lines, and what stands after them.
 use Rattle.nf_lines.proofs.Common.{Result, Ok, Err, ◌≡◌, ℕ, ◌+◌, Bool, true, false, List, [], ◌∷◌, ◌++◌, length, Option, Some, None, inl, inr, encode_utf8_all, refl, ◌∙◌, arith, append_assoc, append-nil, length-append, result_err, cases_Bool, encodes-append, Form, Nfc, Ending, Whole, text_of, ending_of, parts_of, replaced, replaced_whole, line_feed, Fault, Policy, Tally, text_under-none, answer_at_end, first_fault, fault_in, IsLeft, answer_or, end_under, end_of, final_utf8, allowed, text_under, whole_under, settled_utf8, EndsInLineFeed, end_fault, StandAlone}
 use Rattle.std.specs.Str.{chars}
 use Rattle.std.specs.Str.Lossy.{utf8_valid_len}
@@ -10,7 +10,7 @@ use Rattle.nf_forms.specs.StreamSafe.{stream_safe}
 use Rattle.nf_forms.specs.SafeForm.{safe_form}
 use Rattle.nf_forms.specs.Closing.{IsClosing}
 use Rattle.nf_forms.specs.Parting.{IsParting}
-use Rattle.nf_forms.specs.Laws.Closing.{safe_form-closed}
+use Rattle.nf_forms.specs.Laws.Closing.{safe_form-segments}
 use Rattle.nf_forms.specs.Laws.Front.{front-append_some, front-at, front-none}
 use Rattle.nf_forms.specs.Laws.Parting.{safe_form-push}
 use Rattle.nf_normalizer.specs.Laws.Settled.{usable-all}
@@ -71,10 +71,10 @@ module _ (p : Properties) (sound : AreSound p) where
       let all = (taken_whole p a x (is_taken-from p a place x other none)).1 in
       (all, rw (first_fault-none p a place x other (usable_is p sound x) all) at none)
 
-  -- behind a text that is taken the fault is that of the rest
-  fault_behind : (a : Bool) (x y : List ℕ) (place behind : List ℕ → ℕ) (other : Option Fault) → allowed a p x ≡ x → ((z : List ℕ) → place (x ++ z) ≡ behind z)
-      → first_fault a p place (x ++ y) other ≡ first_fault a p behind y other
-  fault_behind a x y place behind other all places = simp (first_fault-is p, usable_is p sound, allowed-append p a x y all, length-append, eqb_past, places)
+  -- after a text that is taken the fault is that of the rest
+  fault_after : (a : Bool) (x y : List ℕ) (place after : List ℕ → ℕ) (other : Option Fault) → allowed a p x ≡ x → ((z : List ℕ) → place (x ++ z) ≡ after z)
+      → first_fault a p place (x ++ y) other ≡ first_fault a p after y other
+  fault_after a x y place after other all places = simp (first_fault-is p, usable_is p sound, allowed-append p a x y all, length-append, eqb_past, places)
 
   module _ (f : Form) where
     settled_is : (policy : Policy) (bytes : List ℕ) → settled_utf8 policy f p bytes ≡ encode_utf8_all (front p (safe_form f p (allowed policy.assigned p (text_under policy.replace bytes))))
@@ -93,16 +93,16 @@ module _ (p : Properties) (sound : AreSound p) where
       abbrev tail : List ℕ
       tail = safe_form f p (allowed policy.assigned p (text_under policy.replace rest))
 
-      end_behind : (more : List ℕ) → end_fault policy p base (lines ++ more) ≡ end_fault policy p (base + length lines) more
+      end_after : (more : List ℕ) → end_fault policy p base (lines ++ more) ≡ end_fault policy p (base + length lines) more
       unfolding end_of
-      end_behind more = by policy.replace read.left
+      end_after more = by policy.replace read.left
         where
           by : (b : Bool) → IsLeft b lines text (length lines) [] → result_err (end_under b policy.assigned p base (lines ++ more)) ≡ result_err (end_under b policy.assigned p (base + length lines) more)
           by false left = simp (strict_end, left.end refl base more)
-          by true left = simp (answered, left.whole more) (fault_behind policy.assigned text (whole_under true more) _ _ None all (λ y. omega (arith, left.place more y)))
+          by true left = simp (answered, left.whole more) (fault_after policy.assigned text (whole_under true more) _ _ None all (λ y. omega (arith, left.place more y)))
 
       alone_whole : end_fault policy p base lines ≡ None
-      alone_whole = rw append-nil at (end_behind [] ∙ end_nothing policy p (base + length lines))
+      alone_whole = rw append-nil at (end_after [] ∙ end_nothing policy p (base + length lines))
 
       lines_form : final_utf8 policy f p lines ≡ encode_utf8_all head
       lines_form = rw (final_whole f p policy base lines alone_whole, left-whole policy.replace lines text (length lines) [] read.left, whole_under-none, append-nil)
@@ -111,10 +111,10 @@ module _ (p : Properties) (sound : AreSound p) where
       unfolding fault_in
       alone = record {
         whole = alone_whole;
-        fault = rw (read.left.text rest, read.left.bad base rest) (fault_behind policy.assigned text (text_under policy.replace rest) _ _ _ all (λ y. omega (arith, read.left.place rest y)));
-        end = end_behind rest;
-        final = λ none. rw (final_whole f p policy base (lines ++ rest) (end_behind rest ∙ none), read.left.whole rest, safe_form-closed p f line_feed closing read.before, encodes-append, lines_form, final_whole f p policy (base + length lines) rest none);
-        settled = rw (lines_form, settled_is policy (lines ++ rest), settled_is policy rest, read.left.text rest, allowed-append p policy.assigned text _ all, safe_form-closed p f line_feed closing read.before) (elim (cases_Bool (has_starter p tail)) [
+        fault = rw (read.left.text rest, read.left.bad base rest) (fault_after policy.assigned text (text_under policy.replace rest) _ _ _ all (λ y. omega (arith, read.left.place rest y)));
+        end = end_after rest;
+        final = λ none. rw (final_whole f p policy base (lines ++ rest) (end_after rest ∙ none), read.left.whole rest, safe_form-segments p f line_feed closing read.before, encodes-append, lines_form, final_whole f p policy (base + length lines) rest none);
+        settled = rw (lines_form, settled_is policy (lines ++ rest), settled_is policy rest, read.left.text rest, allowed-append p policy.assigned text _ all, safe_form-segments p f line_feed closing read.before) (elim (cases_Bool (has_starter p tail)) [
           | inl some ↦ inl (rw (front-append_some p head tail some, encodes-append))
           | inr none ↦
               let before : List ℕ = safe_form f p read.before in

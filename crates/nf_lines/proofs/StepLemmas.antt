@@ -9,19 +9,19 @@ use Rattle.nf_lines.specs.Drives.{FeedsLines, lines_utf8}
 use Rattle.nf_lines.proofs.AloneLemmas.{end_nothing, final-none}
 
 -- where there are whole lines, the last of them ends
-pub cut_behind : {bytes : List ℕ} {n : ℕ} → ¬ (n ≡ 0) → IsCutAt bytes n → EndsInLineFeed (take n bytes)
-cut_behind {bytes} {n} some cut = ⊎_elim (λ none. absurd (some (omega (arith, ap length none, length-take n bytes, cut.within)))) (λ is. is) cut.lines
+pub cut_after : {bytes : List ℕ} {n : ℕ} → ¬ (n ≡ 0) → IsCutAt bytes n → EndsInLineFeed (take n bytes)
+cut_after {bytes} {n} some cut = ⊎_elim (λ none. absurd (some (omega (arith, ap length none, length-take n bytes, cut.within)))) (λ is. is) cut.lines
 
 -- a piece more in which no line ends
 none_more : (rest piece : List ℕ) → HasNoLineFeed rest → HasNoLineFeed piece → HasNoLineFeed (rest ++ piece)
 none_more rest piece none more = rw (list_any-append (λ b. b == line_feed) rest piece) (or_from _ _ none more)
 
--- a call more, which writes on behind a front of which it knows nothing
+-- a call more, which writes on after a front of which it knows nothing
 pub Puts-on : {old mid new : SinkState} {a b : List ℕ} (lines : List ℕ) → Puts old mid [] (lines ++ a) → Puts mid new a b → Puts old new [] (lines ++ b)
-Puts-on lines first second = rw (second.behind, ← append_assoc) (Puts-more second.out first second.given second.stands second.idle)
+Puts-on lines first second = rw (second.after, ← append_assoc) (Puts-more second.out first second.given second.stands second.idle)
 
 pub BreaksOff-on : {old mid new : SinkState} {a b : List ℕ} (lines : List ℕ) → Puts old mid [] (lines ++ a) → BreaksOff mid new a b → BreaksOff old new [] (lines ++ b)
-BreaksOff-on lines first second = rw (second.behind, ← append_assoc, ← append_assoc) (BreaksOff-more second.out second.rest first second.given second.failed second.more)
+BreaksOff-on lines first second = rw (second.after, ← append_assoc, ← append_assoc) (BreaksOff-more second.out second.rest first second.given second.failed second.more)
 
 pub long_or_not : (r : Result (Unit {0}) Fault) → (r ≡ Err TooLong) ⊎ (¬ (r ≡ Err TooLong))
 long_or_not (Err TooLong) = inl refl
@@ -44,11 +44,11 @@ told (Err other) fault e = cc
 abbrev FeedsPiece : State → List ℕ → SinkState → SinkState → Result (Unit {0}) Fault → Type 0
 FeedsPiece state piece old new r = (policy : Policy) (f : Form) (bytes : List ℕ) → StandsAfter policy f ucd state bytes → ¬ (r ≡ Err TooLong) → Feeds policy f ucd (base_of state) bytes piece old new r
 
-abbrev StandsBehind : State → State → List ℕ → Result (Unit {0}) Fault → Type 0
-StandsBehind state after piece r = (policy : Policy) (f : Form) (bytes : List ℕ) → StandsAfter policy f ucd state bytes → OnOk r (StandsAfter policy f ucd after (bytes ++ piece))
+abbrev GoesOnAfter : State → State → List ℕ → Result (Unit {0}) Fault → Type 0
+GoesOnAfter state after piece r = (policy : Policy) (f : Form) (bytes : List ℕ) → StandsAfter policy f ucd state bytes → OnOk r (StandsAfter policy f ucd after (bytes ++ piece))
 
 module _ (alone : LinesStandAlone) {policy : Policy} {f : Form} {state : State} {l : Lines} {first old : SinkState} where
-  -- what stands behind whole lines, or none
+  -- what stands after whole lines, or none
   pub join : {r : Result (Unit {0}) Fault} → TakesLines policy f ucd state l first old r → (rest : List ℕ) → StandAlone policy f ucd 0 l.whole rest
   join takes rest = ⊎_elim
       (λ none. rw none (record { whole = end_nothing policy ucd 0; fault = refl; end = refl; final = λ _. rw final-none; settled = inl (rw final-none) }))
@@ -64,14 +64,14 @@ module _ (alone : LinesStandAlone) {policy : Policy} {f : Form} {state : State} 
     pub begins_at : base_of state ≡ 0 + length l.whole
     begins_at = omega (arith, (has.stands refl).1)
 
-    -- a piece was fed, and `behind` was not
-    pub fed_lines : {after : State} {piece : List ℕ} {new : SinkState} {r : Result (Unit {0}) Fault} → FeedsPiece state piece old new r → StandsBehind state after piece r → base_of after ≡ base_of state
-        → (r ≡ Err TooLong → new ≡ old) → {most : ℕ} {all : List ℕ} (behind : List ℕ) → bytes_of l ++ (piece ++ behind) ≡ all → length (piece ++ behind) ≤ most → (r ≡ Ok tt → (behind ≡ []) × HasNoLineFeed piece)
-        → FeedsLines policy f ucd after most all first new r
-    fed_lines {piece = piece} {r = r} feeds stands base kept behind is few none = elim (long_or_not r) [
+    -- a piece was fed, and `after` was not
+    pub fed_lines : {next : State} {piece : List ℕ} {new : SinkState} {r : Result (Unit {0}) Fault} → FeedsPiece state piece old new r → GoesOnAfter state next piece r → base_of next ≡ base_of state
+        → (r ≡ Err TooLong → new ≡ old) → {most : ℕ} {all : List ℕ} (after : List ℕ) → bytes_of l ++ (piece ++ after) ≡ all → length (piece ++ after) ≤ most → (r ≡ Ok tt → (after ≡ []) × HasNoLineFeed piece)
+        → FeedsLines policy f ucd next most all first new r
+    fed_lines {piece = piece} {r = r} feeds stands base kept after is few none = elim (long_or_not r) [
       | inl over ↦ (
         l,
-        piece ++ behind,
+        piece ++ after,
         is,
         few,
         λ e. cc,
@@ -87,9 +87,9 @@ module _ (alone : LinesStandAlone) {policy : Policy} {f : Form} {state : State} 
       )
       | inr short ↦ let fed = rw begins_at at (feeds policy f l.rest (has.stands refl).2 short) in (
         record { whole = l.whole; rest = l.rest ++ piece },
-        behind,
+        after,
         rw (← is) (simp append_assoc),
-        omega (arith, few, length-append piece behind),
+        omega (arith, few, length-append piece after),
         λ e. (none e).0,
         record {
           whole = has.whole;
@@ -104,7 +104,7 @@ module _ (alone : LinesStandAlone) {policy : Policy} {f : Form} {state : State} 
     ]
 
     -- a piece was fed that ends in a line feed: then the filter was finished, and a new one begun
-    module _ {mid : State} {piece : List ℕ} {new : SinkState} (line : EndsInLineFeed piece) (feeds : FeedsPiece state piece old new (Ok tt)) (stands : StandsBehind state mid piece (Ok tt)) (base : base_of mid ≡ base_of state) where
+    module _ {mid : State} {piece : List ℕ} {new : SinkState} (line : EndsInLineFeed piece) (feeds : FeedsPiece state piece old new (Ok tt)) (stands : GoesOnAfter state mid piece (Ok tt)) (base : base_of mid ≡ base_of state) where
       fed : Feeds policy f ucd (0 + length l.whole) l.rest piece old new (Ok tt)
       fed = rw begins_at at (feeds policy f l.rest (has.stands refl).2 (λ e. cc))
 

@@ -9,8 +9,8 @@ use Rattle.std.proofs.Math.Utf8.{encode}
 use Rattle.std.proofs.lemmas.Bool.Decides.{nat_tests}
 use Rattle.std.proofs.lemmas.Str.{IsCharBoundary-before_ascii, IsUtf8-append, IsUtf8-take}
 use Rattle.nf_utf8.specs.Text.{IsText, BeginsText}
-use Rattle.nf_utf8.specs.Replaced.{replacement, part_end, own_parts}
-use Rattle.nf_utf8.specs.Mending.{IsReplacedFront}
+use Rattle.nf_utf8.specs.Replaced.{replacement, subpart_end, own_parts}
+use Rattle.nf_utf8.specs.Lossy.{IsReplacedFront}
 use Rattle.nf_utf8.specs.Laws.{ReadsBack, ReplacesParts, SplitsBytes, ReadsLongestText}
 use Rattle.nf_utf8.specs.Reads.{EndsAs}
 use Rattle.nf_utf8.specs.Reading.{begun_len}
@@ -43,7 +43,7 @@ begins bytes Whole e all = begins_whole bytes e
 begins bytes (Cut at start) e all = begins_cut bytes at start e
 begins bytes (Bad at start) e all = absurd (omega (arith, (broken bytes at start e).0, all))
 
--- ---- behind a text
+-- ---- after a text
 
 bad_moved : (base n : ℕ) (e : Ending) → bad_byte base (moved n e) ≡ bad_byte (base + n) e
 bad_moved base n (Bad at start) = simp add_assoc
@@ -57,25 +57,25 @@ end_moved base n _ = refl
 pub eqb_past : (n a b : ℕ) → (n + a == n + b) ≡ (a == b)
 eqb_past n a b = grind (arith, nat_tests)
 
-part_end-moved : (n at start : ℕ) → (part_end (n + at) (n + start) ≡ n + part_end at start) × (n + part_end at start - (n + start) ≡ part_end at start - start)
-part_end-moved n at start = (grind (arith, nat_tests), omega arith)
+subpart_end-moved : (n at start : ℕ) → (subpart_end (n + at) (n + start) ≡ n + subpart_end at start) × (n + subpart_end at start - (n + start) ≡ subpart_end at start - start)
+subpart_end-moved n at start = (grind (arith, nat_tests), omega arith)
 
 module _ (laws : Reading) (x : List ℕ) (s : IsText x) where
   abbrev bytes : List ℕ
   bytes = encode_utf8_all x
 
-  -- the parts of a text, and those of what stands behind it
-  parts_behind : (more : List ℕ) → parts_of (bytes ++ more) ≡ own_parts x ++ parts_of more
-  parts_behind = by_parts (λ more. parts_of (bytes ++ more) ≡ own_parts x ++ parts_of more)
+  -- the parts of a text, and those of what stands after it
+  parts_after : (more : List ℕ) → parts_of (bytes ++ more) ≡ own_parts x ++ parts_of more
+  parts_after = by_parts (λ more. parts_of (bytes ++ more) ≡ own_parts x ++ parts_of more)
       (λ more all. let b = begins more (ending_of more) refl all in
       rw (parts_of-begun (bytes ++ more) (b.0, rw append_assoc (IsUtf8-append bytes (more ++ b.0) (x, (s, refl)) b.1)), parts_of-begun more b, laws.back.text x more s, own_parts-append))
-      (λ more at start e _. let past = part_end-moved (length bytes) at start in
+      (λ more at start e _. let past = subpart_end-moved (length bytes) at start in
       rw (parts_of-broken (bytes ++ more) _ _ (laws.back.ending x more s ∙ ap (moved (length bytes)) e), parts_of-broken more at start e, laws.back.text x more s, own_parts-append, past.0, past.1, drop-append-add, append_assoc))
 
   text_left : (r : Bool) → IsLeft r bytes x (length bytes) []
   text_left true =
       let none : drop (length bytes) bytes ≡ [] = drop_all (length bytes) bytes (omega arith) in
-      let one : IsReplacedFront bytes x (length bytes) = record { parts = own_parts x; chars = laws.replacing.own_chars x; size = laws.replacing.own_len x; within = omega arith; front = λ more. rw none (parts_behind more) } in
+      let one : IsReplacedFront bytes x (length bytes) = record { parts = own_parts x; chars = laws.replacing.own_chars x; size = laws.replacing.own_len x; within = omega arith; front = λ more. rw none (parts_after more) } in
       rw (zero-add, none) at (IsLeft-front laws.replacing (IsLeft-all true bytes) one)
   text_left false = record {
     text = λ more. laws.back.text x more s;
@@ -100,7 +100,7 @@ module _ (laws : Reading) where
       let whole : encode_utf8_all (text.0 ++ line_feed ∷ []) ≡ lines = rw (encodes-append, text.1.1, line_encodes) (sym is.1) in
       rw (← whole) (record { before = text.0; left = text_left laws (text.0 ++ line_feed ∷ []) (scalars-append text.0 (line_feed ∷ []) text.1.0 refl) r })
 
-  -- a line feed behind a text is no bad byte
+  -- a line feed after a text is no bad byte
   line_good : (lines : List ℕ) (at : ℕ) → EndsInLineFeed lines → ending_of lines ≡ Bad at at → ¬ (at + 1 ≡ length lines)
   line_good lines at is e last =
       let text : List ℕ = text_of lines in
@@ -112,31 +112,31 @@ module _ (laws : Reading) where
       bad.0.here ([], (text ++ line_feed ∷ [], (scalars-append text (line_feed ∷ []) reads.front.scalars refl, whole)))
 
   -- what a bad byte leaves of them ends in the line feed
-  lines_after : (lines : List ℕ) (at start : ℕ) → EndsInLineFeed lines → ending_of lines ≡ Bad at start → EndsInLineFeed (drop (part_end at start) lines)
+  lines_after : (lines : List ℕ) (at start : ℕ) → EndsInLineFeed lines → ending_of lines ≡ Bad at start → EndsInLineFeed (drop (subpart_end at start) lines)
   lines_after lines at start is e =
       let good : at ≡ start → ¬ (at + 1 ≡ length lines) = λ same. line_good lines at is (rw (← same) at e) in
-      let within : part_end at start ≤ length is.0 = grind (arith, nat_tests, broken lines at start e, ap length is.1, length-append is.0 (line_feed ∷ [])) in
-      (drop (part_end at start) is.0, rw is.1 (drop-append-le (part_end at start) is.0 (line_feed ∷ []) within))
+      let within : subpart_end at start ≤ length is.0 = grind (arith, nat_tests, broken lines at start e, ap length is.1, length-append is.0 (line_feed ∷ [])) in
+      (drop (subpart_end at start) is.0, rw is.1 (drop-append-le (subpart_end at start) is.0 (line_feed ∷ []) within))
 
   module _ (base : ℕ) where
     -- where they have no bad byte, or those are replaced
     abbrev AreRead : Bool → List ℕ → Type 0
     AreRead r lines = EndsInLineFeed lines → bad_under r base lines ≡ None → ReadsLines r lines
 
-    behind_bad : (r : Bool) (lines : List ℕ) (at start : ℕ) → ending_of lines ≡ Bad at start → AreRead r (drop (part_end at start) lines) → AreRead r lines
-    behind_bad false lines at start e on is good = let absurd_is = rw e at good in cc
-    behind_bad true lines at start e on is good =
+    after_bad : (r : Bool) (lines : List ℕ) (at start : ℕ) → ending_of lines ≡ Bad at start → AreRead r (drop (subpart_end at start) lines) → AreRead r lines
+    after_bad false lines at start e on is good = let absurd_is = rw e at good in cc
+    after_bad true lines at start e on is good =
         let rest = on (lines_after lines at start is e) refl in
         let is = (broken lines at start e).2 in
         let one = rw (← is) at (IsLeft-front laws.replacing (IsLeft-all true lines) (bad_front laws.replacing laws.split (rw is at e))) in
         let own : List ℕ = text_of lines ++ replacement ∷ [] in
-        let left : List ℕ = drop (part_end at start) lines in
-        let all = IsLeft-join true lines own (0 + part_end at start) left (rest.before ++ line_feed ∷ []) (length left) [] one rest.left in
-        let len : (0 + part_end at start) + length left ≡ length lines = omega (arith, all.len) in
+        let left : List ℕ = drop (subpart_end at start) lines in
+        let all = IsLeft-join true lines own (0 + subpart_end at start) left (rest.before ++ line_feed ∷ []) (length left) [] one rest.left in
+        let len : (0 + subpart_end at start) + length left ≡ length lines = omega (arith, all.len) in
         record {
           before = own ++ rest.before;
           left = rw (append_assoc own, ← len) all;
         }
 
     pub reads_lines : (r : Bool) (lines : List ℕ) → AreRead r lines
-    reads_lines r = by_parts (AreRead r) (λ lines all is good. lines_begun r lines is (begins lines (ending_of lines) refl all)) (behind_bad r)
+    reads_lines r = by_parts (AreRead r) (λ lines all is good. lines_begun r lines is (begins lines (ending_of lines) refl all)) (after_bad r)

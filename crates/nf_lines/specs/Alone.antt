@@ -1,4 +1,4 @@
--- Bytes that are cut behind a line feed come to what the parts come to, one after the other (UAX #15, section 9: nothing
+-- Bytes that are cut after a line feed come to what the parts come to, one after the other (UAX #15, section 9: nothing
 -- composes over a line feed).
 use Rattle.std.specs.Prelude.{◌≡◌, ◌⊎◌, ◌+◌, ℕ, List, [], ◌∷◌, ◌++◌, length, Option, None}
 use Rattle.std.specs.Result.{result_err}
@@ -21,7 +21,7 @@ end_fault policy p base bytes = result_err (end_of policy p base bytes)
 abbrev pub SameOrLineFeed : List ℕ → List ℕ → Type 0
 SameOrLineFeed a b = (b ≡ a) ⊎ (b ≡ a ++ line_feed ∷ [])
 
--- the lines, the first byte of which has the offset `base`, have no fault, and any bytes stand behind them
+-- the lines, the first byte of which has the offset `base`, have no fault, and any bytes stand after them
 pub record StandAlone (policy : Policy) (f : Form) (p : Properties) (base : ℕ) (lines rest : List ℕ) : Type 0 where
   pub whole : end_fault policy p base lines ≡ None
   -- the faults are those of the rest
@@ -29,7 +29,7 @@ pub record StandAlone (policy : Policy) (f : Form) (p : Properties) (base : ℕ)
   pub end : end_fault policy p base (lines ++ rest) ≡ end_fault policy p (base + length lines) rest
   -- where that does not end with a fault, all comes to the form of the lines and that of the rest
   pub final : end_fault policy p (base + length lines) rest ≡ None → final_utf8 policy f p (lines ++ rest) ≡ final_utf8 policy f p lines ++ final_utf8 policy f p rest
-  -- what is settled of all lacks the last line feed as long as no starter stands behind it
+  -- what is settled of all lacks the last line feed as long as no starter stands after it
   pub settled : SameOrLineFeed (settled_utf8 policy f p (lines ++ rest)) (final_utf8 policy f p lines ++ settled_utf8 policy f p rest)
 
 -- so it is of Unicode's data

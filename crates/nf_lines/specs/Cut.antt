@@ -1,4 +1,4 @@
--- Bytes that are cut behind their last line feed.
+-- Bytes that are cut after their last line feed.
 use Rattle.std.specs.Prelude.{◌≡◌, ◌≤◌, ◌==◌, ◌⊎◌, false, ℕ, List, [], ◌∷◌, ◌++◌, length, take, drop}
 use Rattle.std.specs.List.{list_any}
 use Rattle.nf_facts.specs.LineFeed.{line_feed}

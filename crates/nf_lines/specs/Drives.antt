@@ -18,7 +18,7 @@ use Rattle.nf_filter.specs.Drives.{due_utf8}
 use Rattle.nf_lines.specs.Cut.{AreLines, HasNoLineFeed}
 use Rattle.nf_lines.specs.Alone.{end_fault, SameOrLineFeed}
 
--- bytes that were read: whole lines, and those behind them
+-- bytes that were read: whole lines, and those after them
 pub record Lines : Type 0 where
   pub whole : List ℕ
   pub rest : List ℕ
@@ -30,7 +30,7 @@ bytes_of l = l.whole ++ l.rest
 abbrev pub lines_utf8 : Policy → Form → Properties → Lines → List ℕ
 lines_utf8 policy f p l = final_utf8 policy f p l.whole ++ settled_utf8 policy f p l.rest
 
--- the bytes of `l` were taken, and what they come to written; where no fault stopped it, the filter stands behind the rest, in
+-- the bytes of `l` were taken, and what they come to written; where no fault stopped it, the filter stands after the rest, in
 -- which no line ends
 pub record TakesLines (policy : Policy) (f : Form) (p : Properties) (state : State) (l : Lines) (first now : SinkState) (result : Result (Unit {0}) Fault) : Type 0 where
   pub whole : AreLines l.whole

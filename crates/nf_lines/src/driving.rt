@@ -13,7 +13,7 @@ use nf_row::{Form, Ucd};
 use std::mem;
 
 /// Feeds what the source gives to a new filter, in pieces of at most as many bytes as the buffer has, which is not empty,
-/// and begins a new one behind the last line feed of each piece: so each line is written whole once its line feed was
+/// and begins a new one after the last line feed of each piece: so each line is written whole once its line feed was
 /// read. What stands in the buffer is overwritten.
 pub fn drive_lines<I: Source, S: Sink>(
     form: Form,
@@ -49,7 +49,7 @@ pub fn drive_lines<I: Source, S: Sink>(
     }
 }
 
-// Takes the next bytes: the lines that they end are written whole, and a new filter is begun behind them; of the rest what it
+// Takes the next bytes: the lines that they end are written whole, and a new filter is begun after them; of the rest what it
 // settles is written.
 fn feed_lines<S: Sink>(
     form: Form,

@@ -6,7 +6,7 @@ use nf_facts::laws::{
 };
 use nf_utf8::laws::{longest_text, read_back, replacing, split};
 
-/// Bytes may be cut behind a line feed: what they come to is what the parts come to, one after the other.
+/// Bytes may be cut after a line feed: what they come to is what the parts come to, one after the other.
 #[inline]
 pub fn lines_stand_alone()
     ensures { LinesStandAlone }

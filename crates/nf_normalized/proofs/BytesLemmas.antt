@@ -1,7 +1,7 @@
 -- Bytes and the texts that they spell.
 use Rattle.nf_normalized.proofs.Common.{◌≡◌, nat_tests, common_steps, list_all-append, ℕ, false, List, [], ◌∷◌, ◌++◌, length, take, drop, refl, sym, ap, ◌∙◌, arith, append_assoc, append-nil, length-append, encode_utf8_all, and_parts, take_at, length-take, take-append-drop, encodes-append, ucd, Form, ChangesOnce, text_of, rest_of, IsText, SplitsBytes, ReadsBack, ReadsPieces, common, goes_on_with}
 use Rattle.nf_filter.proofs.ReadingLemmas.{text_of-none}
-use Rattle.nf_normalized.proofs.CommonLemmas.{common-le-left, take-common, common-behind, common-front}
+use Rattle.nf_normalized.proofs.CommonLemmas.{common-le-left, take-common, common-after, common-front}
 
 -- what is known of bytes and of the forms
 pub record Known : Type 0 where
@@ -22,7 +22,7 @@ pub record Departs (x s same : List ℕ) : Type 0 where
   pub shares : Shares x s same
   pub other : ¬ (s ≡ take (length s) x)
 
--- what stands at the front of two lists that go on otherwise behind m stands in m
+-- what stands at the front of two lists that go on otherwise after m stands in m
 in_both : (e m i p q : List ℕ) (b : ℕ) (t : List ℕ) → goes_on_with b i ≡ false → m ++ i ≡ e ++ p → m ++ b ∷ t ≡ e ++ q → (more : List ℕ) × (m ≡ e ++ more)
 in_both [] m i p q b t differ first second = (m, refl)
 in_both (d ∷ e) [] i p q b t differ first second = grind (arith, nat_tests)
@@ -48,7 +48,7 @@ module _ (known : Known) where
       let inside = in_both (encode_utf8_all (take n x)) m i (encode_utf8_all (drop n x) ++ rest_of (m ++ i)) (encode_utf8_all (drop n s)) b t differ
       (grind (arith, known.split.split (m ++ i), take-append-drop n x, encodes-append, append_assoc)) (grind (arith, is, take-append-drop n s, encodes-append, take-common x s)) in
       let text = known.back.text (take n x) inside.0 (scalars_take n x (known.split.scalars (m ++ i))) in
-      let count : n ≡ length (text_of m) = grind (arith, text, inside.1, length-append, length-take, common-le-left x s, x_is, s_is, common-behind) in
+      let count : n ≡ length (text_of m) = grind (arith, text, inside.1, length-append, length-take, common-le-left x s, x_is, s_is, common-after) in
       record {
         shares = grind (arith, count, x_is, take_at);
         other = λ same.

@@ -1,5 +1,5 @@
 -- What a call of a filter tells of a text, by what it wrote to a sink that compares.
-use Rattle.nf_normalized.proofs.Common.{take-append-drop, append_assoc, append-nil, common_steps, bytes_eq-Decides, ◌≡◌, ℕ, ◌+◌, ◌<◌, ◌^◌, Bool, true, false, List, ◌++◌, length, take, sym, ap, ◌∙◌, arith, length-append, Some, None, is_some, option_map, encode_utf8_all, encodes-append, Result, Ok, Err, result_err, take_at, encodes_same, length-le-encodes, take-length, ucd, Form, safe_form, IsText, Ending, Whole, Bad, CutOff, text_of, EndsAs, Place, place_at, Fault, Write, Row, fault_in, answer_at_end, bad_byte, whole_or, IsAmong, Comparing, same, left, HasRoom, IsBehind, under, made_of, common, change_at, form_value, form_decision, IsOfPiece}
+use Rattle.nf_normalized.proofs.Common.{take-append-drop, append_assoc, append-nil, common_steps, bytes_eq-Decides, ◌≡◌, ℕ, ◌+◌, ◌<◌, ◌^◌, Bool, true, false, List, ◌++◌, length, take, sym, ap, ◌∙◌, arith, length-append, Some, None, is_some, option_map, encode_utf8_all, encodes-append, Result, Ok, Err, result_err, take_at, encodes_same, length-le-encodes, take-length, ucd, Form, safe_form, IsText, Ending, Whole, Bad, CutOff, text_of, EndsAs, Place, place_at, Fault, Write, Row, fault_in, answer_at_end, bad_byte, whole_or, IsAmong, Comparing, same, left, HasRoom, IsAfter, under, made_of, common, change_at, form_value, form_decision, IsOfPiece}
 use Rattle.nf_filter.specs.declared.tally.Tally.{Tally}
 use Rattle.nf_filter.specs.Faults.{IsOfFeeding}
 use Rattle.nf_filter.specs.Laws.Soundness.{AreSound}
@@ -7,7 +7,7 @@ use Rattle.nf_filter.proofs.SoundnessLemmas.{not_a_fault}
 use Rattle.nf_normalized.proofs.BytesLemmas.{Known, Shares, departs, text_of-encodes}
 use Rattle.nf_normalized.proofs.CommonLemmas.{common-front}
 use Rattle.nf_normalized.proofs.WroteLemmas.{Wrote, gave, other_written, unfailed, all_written}
-use Rattle.nf_normalized.proofs.CheckerLemmas.{written, written_is, is_text, behind, unparted}
+use Rattle.nf_normalized.proofs.CheckerLemmas.{written, written_is, is_text, after, unparted}
 
 -- a fault is of some kinds where it cannot be of none
 pub stable : (kinds : List ℕ) (fault : Fault) → ((IsAmong kinds fault → ⊥) → ⊥) → IsAmong kinds fault
@@ -27,7 +27,7 @@ pub record Call (assigned : Bool) (f : Form) (base : ℕ) (held bytes all due : 
 module _ {assigned : Bool} {f : Form} {base : ℕ} {held bytes all due : List ℕ} {old new : Comparing} {T : Type 0} {r : Result T Fault} {chars offset : ℕ} {Tells : Type 0}
     (call : Call assigned f base held bytes all due old new r chars offset Tells) where
   chars_held : chars ≡ length (made_of assigned f (text_of bytes)) + length (text_of held)
-  chars_held = grind (arith, call.chars_are, call.split, behind call.known assigned f bytes held, length-append)
+  chars_held = grind (arith, call.chars_are, call.split, after call.known assigned f bytes held, length-append)
 
   bytes_held : offset ≡ base + (length (written assigned f bytes) + length held)
   bytes_held = grind (arith, call.offset_is, call.split, length-append)
@@ -42,11 +42,11 @@ module _ {assigned : Bool} {f : Form} {base : ℕ} {held bytes all due : List �
   pub told : is_some new.other ≡ false → Tells
   told none = call.answer (unfailed call.wrote none)
 
-  -- a text is due, and a place is told behind what is as expected
-  module _ (s : List ℕ) (scalars : IsText s) (is : due ≡ encode_utf8_all s) (place : Place) (at : IsBehind held (same new) chars offset place) where
-    -- it stands behind what the text shares with what was read
+  -- a text is due, and a place is told after what is as expected
+  module _ (s : List ℕ) (scalars : IsText s) (is : due ≡ encode_utf8_all s) (place : Place) (at : IsAfter held (same new) chars offset place) where
+    -- it stands after what the text shares with what was read
     placed : Shares (text_of all) s (text_of (written assigned f bytes ++ same new)) → place_at base (text_of all) (common (text_of all) s) ≡ place
-    placed shares = grind (arith, shares, behind call.known assigned f bytes (same new), chars_held, bytes_held, at, length-append, encodes-append, written_is)
+    placed shares = grind (arith, shares, after call.known assigned f bytes (same new), chars_held, bytes_held, at, length-append, encodes-append, written_is)
 
     pub parted : is_some new.other ≡ true → (¬ (s ≡ take (length s) (text_of all))) × (place_at base (text_of all) (common (text_of all) s) ≡ place)
     parted is_other =
@@ -63,7 +63,7 @@ module _ {assigned : Bool} {f : Form} {base : ℕ} {held bytes all due : List �
 
 module _ {assigned : Bool} {f : Form} {base : ℕ} {held bytes all : List ℕ} {old new : Comparing} {r : Result (Unit {0}) Fault} {chars offset : ℕ}
     (call : Call assigned f base held bytes all (written assigned f all) old new r chars offset (result_err r ≡ fault_in (under assigned) ucd base all)) where
-  pub parted_decides : is_some new.other ≡ true → (place : Place) → IsBehind held (same new) chars offset place → Some (Ok (Some place)) ≡ form_decision assigned f base all
+  pub parted_decides : is_some new.other ≡ true → (place : Place) → IsAfter held (same new) chars offset place → Some (Ok (Some place)) ≡ form_decision assigned f base all
   unfolding form_decision
   parted_decides is place at = grind (arith, bytes_eq-Decides, parted call _ (is_text call.known assigned f all) (written_is assigned f all) place at is)
 
@@ -95,12 +95,12 @@ module _ {assigned : Bool} {f : Form} {base : ℕ} {held bytes due : List ℕ} {
   scalars : IsText form
   scalars = (call.known.once f).text (text_of bytes) (call.known.split.scalars bytes)
 
-  pub parted_end : is_some new.other ≡ true → (place : Place) → IsBehind held (same new) chars offset place → (ending : Ending) → Due assigned f base bytes due ending
+  pub parted_end : is_some new.other ≡ true → (place : Place) → IsAfter held (same new) chars offset place → (ending : Ending) → Due assigned f base bytes due ending
       → Ok (Some place) ≡ answer_at_end base (form_value f base bytes) ending
   unfolding change_at
   parted_end is place at Whole at_end = grind (arith, bytes_eq-Decides form (text_of bytes), take-length (text_of bytes), parted call form scalars at_end.is place at is)
-  parted_end is place behind (CutOff at start) at_end = absurd (grind (arith, ap length (other_written call.wrote is).3, at_end.is, length-append))
-  parted_end is place behind (Bad at start) at_end = cc
+  parted_end is place after (CutOff at start) at_end = absurd (grind (arith, ap length (other_written call.wrote is).3, at_end.is, length-append))
+  parted_end is place after (Bad at start) at_end = cc
 
   module _ (none : is_some new.other ≡ false) where
     -- all is read, or the form is at its end before the text
@@ -111,9 +111,9 @@ module _ {assigned : Bool} {f : Form} {base : ℕ} {held bytes due : List ℕ} {
         grind (arith, common_steps, bytes_eq-Decides, encodes_same form (text_of bytes), at_end.ends, read call, all_written call.wrote none, at_end.is, no_more, append-nil)
     done_end no_more tally _ at_end e = cc
 
-    pub short_end : (length (left new) ≡ 0 → ⊥) → (place : Place) → IsBehind held (same new) chars offset place → {given : Tally} (tally : Tally) (ending : Ending)
+    pub short_end : (length (left new) ≡ 0 → ⊥) → (place : Place) → IsAfter held (same new) chars offset place → {given : Tally} (tally : Tally) (ending : Ending)
         → Due assigned f base bytes due ending → Ok given ≡ answer_at_end base tally ending → Ok (Some place) ≡ answer_at_end base (form_value f base bytes) ending
     unfolding change_at
-    short_end more place behind tally Whole at_end e =
-        grind (arith, bytes_eq-Decides, ap length (read call), all_written call.wrote none, at_end.is, at_end.ends, length-append, more, placed_front call form scalars at_end.is place behind none)
-    short_end more place behind tally _ at_end e = cc
+    short_end more place after tally Whole at_end e =
+        grind (arith, bytes_eq-Decides, ap length (read call), all_written call.wrote none, at_end.is, at_end.ends, length-append, more, placed_front call form scalars at_end.is place after none)
+    short_end more place after tally _ at_end e = cc

@@ -29,14 +29,14 @@ module _ (known : Known) (assigned : Bool) (f : Form) (bytes : List ℕ) where
       let form = safe_form f ucd (usable ucd (allowed assigned ucd (text_of bytes))) in
       scalars_front (front ucd form) (back ucd form) (rw front-append-back ((known.once f).text _ (taken_scalars assigned (text_of bytes) (known.split.scalars bytes))))
 
-  -- the text of bytes that go on behind what is settled of some
-  pub behind : (more : List ℕ) → text_of (written assigned f bytes ++ more) ≡ made_of assigned f (text_of bytes) ++ text_of more
-  behind more = grind (arith, written_is, known.back.text (made_of assigned f (text_of bytes)) more is_text)
+  -- the text of bytes that go on after what is settled of some
+  pub after : (more : List ℕ) → text_of (written assigned f bytes ++ more) ≡ made_of assigned f (text_of bytes) ++ text_of more
+  after more = grind (arith, written_is, known.back.text (made_of assigned f (text_of bytes)) more is_text)
 
   -- where all that is settled was read, what was read decides no more than a fault
   pub unparted : (base : ℕ) (left : List ℕ) → bytes ≡ written assigned f bytes ++ left → form_decision assigned f base bytes ≡ option_map Err (fault_in (under assigned) ucd base bytes)
   unfolding form_decision
-  unparted base left read = grind (arith, bytes_eq-Decides, ap text_of read, behind left, take_at)
+  unparted base left read = grind (arith, bytes_eq-Decides, ap text_of read, after left, take_at)
 
 -- ---- no fault
 
@@ -55,10 +55,10 @@ pub held_few : Known → {assigned : Bool} {f : Form} {state : State} {held byte
 held_few known {assigned} {f} {state} {held} {bytes} holds longest replacing sound kept =
     let parts = no_fault_parts sound assigned (base_of state) bytes holds.filter.no_fault in
     let all = taken-all ucd assigned (text_of bytes) (usable_is ucd sound (text_of bytes)) parts.0 in
-    -- less than a character stands behind the text
+    -- less than a character stands after the text
     let few : length bytes ≤ length (encode_utf8_all (text_of bytes)) + 3 =
     grind (arith, parts, (longest.reads bytes).end, replacing.few bytes, replacing.begun bytes, replacing.own_len (text_of bytes)) in
-    grind (arith, kept f (text_of bytes) (text_of held), ap text_of holds.split, behind known assigned f bytes held, all, few, ap length holds.split, encodes-append, written_is, length-append, four (text_of held))
+    grind (arith, kept f (text_of bytes) (text_of held), ap text_of holds.split, after known assigned f bytes held, all, few, ap length holds.split, encodes-append, written_is, length-append, four (text_of held))
   where
     four : (x : List ℕ) → length (encode_utf8_all x) ≤ 4 * length x
     four [] = omega arith

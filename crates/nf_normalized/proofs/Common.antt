@@ -20,15 +20,15 @@ pub use Rattle.nf_filter.specs.Laws.{SettledOnlyGrows, LittleIsHeldBack}
 unfoldable pub use Rattle.nf_filter.specs.Settled.{usable}
 pub use Rattle.nf_filter.specs.declared.fault.Fault.{Fault}
 pub use Rattle.nf_filter.specs.declared.fault.Fault.TheVariants.{Write, Row, TooLong}
-pub use Rattle.nf_forms.specs.Calm.{IsMark}
+pub use Rattle.nf_forms.specs.Span.{IsMark}
 pub use Rattle.nf_forms.specs.Compose.{composite, is_blocked, joined, replaced, join, compose_step, compose}
 pub use Rattle.nf_forms.specs.Forms.{arranged}
-pub use Rattle.nf_forms.specs.Laws.Calm.{row-mark}
-pub use Rattle.nf_forms.specs.Laws.ClosedForms.{BeginsInStarter, begins_in_starter}
-pub use Rattle.nf_forms.specs.Laws.Compose.{compose_step-at, compose-behind, fold-none, joined-some, joined-starter, compose_step-none, joined-behind_marks}
+pub use Rattle.nf_forms.specs.Laws.Span.{row-mark}
+pub use Rattle.nf_forms.specs.Laws.SegmentForms.{BeginsInStarter, begins_in_starter}
+pub use Rattle.nf_forms.specs.Laws.Compose.{compose_step-at, compose-after, fold-none, joined-some, joined-starter, compose_step-none, joined-after_marks}
 pub use Rattle.nf_forms.specs.Laws.Front.{back-at, back-none, last_starter, marks_push, cut}
 pub use Rattle.nf_forms.specs.Laws.Last.{by_last}
-pub use Rattle.nf_forms.specs.Laws.Order.{order-behind, by_class-push, has_starter-by_class, order_after-at}
+pub use Rattle.nf_forms.specs.Laws.Order.{order-after, by_class-push, has_starter-by_class, order_after-at}
 pub use Rattle.nf_forms.specs.Laws.StreamSafe.{decomposed-append, decomposed-push, stream_safe-push}
 pub use Rattle.nf_forms.specs.Order.{order, by_class}
 unfoldable pub use Rattle.nf_forms.specs.Ucd.{ucd}
@@ -37,7 +37,7 @@ pub use Rattle.nf_normalized.specs.Bytes.{goes_on_with}
 unfoldable pub use Rattle.nf_normalized.specs.Change.{change_at, form_decision}
 pub use Rattle.nf_normalized.specs.Change.{common, under, made_of, form_value, settled_change_at}
 pub use Rattle.nf_normalized.specs.Checker.{filter_state, IsOfPiece}
-pub use Rattle.nf_normalized.specs.Comparing.{same, left, HasRoom, IsBehind, preface, given, taken, sink_state}
+pub use Rattle.nf_normalized.specs.Comparing.{same, left, HasRoom, IsAfter, preface, given, taken, sink_state}
 pub use Rattle.nf_normalized.specs.Holds.{Holds}
 pub use Rattle.nf_normalized.specs.declared.comparing.Comparing.{Comparing}
 pub use Rattle.nf_safe.specs.Place.{place_at}

@@ -12,9 +12,9 @@ take-common _ _ = grind (arith, common_steps)
 pub common-le-right : (x y : List ℕ) → common x y ≤ length y
 common-le-right x y = grind (arith, common-le-left x y, ap length (take-common x y), length-take)
 
-pub common-behind : (t x y : List ℕ) → common (t ++ x) (t ++ y) ≡ length t + common x y
-common-behind [] x y = omega arith
-common-behind (a ∷ t) x y = grind (arith, nat_tests, common-behind t x y)
+pub common-after : (t x y : List ℕ) → common (t ++ x) (t ++ y) ≡ length t + common x y
+common-after [] x y = omega arith
+common-after (a ∷ t) x y = grind (arith, nat_tests, common-after t x y)
 
 pub common-front : (x more : List ℕ) → common (x ++ more) x ≡ length x
 common-front (a ∷ x) more = grind (arith, nat_tests, common-front x more)

@@ -1,4 +1,4 @@
--- How many characters can stand behind what is settled of a form.
+-- How many characters can stand after what is settled of a form.
 use Rattle.nf_normalized.proofs.Common.{◌≡◌, nat_tests, inl, inr, leb, list_all, ℕ, ◌*◌, ◌<◌, ◌≤◌, Bool, true, false, List, [], ◌∷◌, ◌++◌, length, refl, arith, IsTrue, cases_Bool, or_parts, length-append, unicode_normalization, canonical_combining_class, is_starter, has_starter, back, Form, Nfd, Nfkc, Nfkd, row_of, decomposed, normal_form, stream_safe, safe_form, is_sound, ucd, IsMark, row-mark, by_last, front-append-back, back-at, back-none, last_starter, IsSound-from_test, IsSoundText, stream_safe-push, decomposed-append, is_among, mapped_marks, after, settled, is_usable, LittleIsHeldBack}
 use Rattle.nf_forms.specs.Laws.Starters.{length-order}
 

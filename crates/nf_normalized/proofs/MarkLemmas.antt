@@ -1,22 +1,22 @@
--- A mark more behind a text, over any character data: where it stands in the form, and what the form was without it.
-use Rattle.nf_normalized.proofs.Common.{◌⊎◌, ◌≡◌, nat_tests, list_all-append, ℕ, ◌<◌, Bool, true, false, not, ◌==◌, List, [], ◌∷◌, ◌++◌, length, refl, sym, ap, ◌∙◌, arith, inl, inr, append-nil, append_assoc, cases_Bool, or_parts, or_from, length-append, list_all, fold, Properties, is_starter, has_starter, by_class, order, is_blocked, joined, join, compose_step, last_starter, marks_push, cut, order-behind, by_class-push, has_starter-by_class, compose_step-at, compose-behind, fold-none, joined-some, joined-starter}
+-- A mark more after a text, over any character data: where it stands in the form, and what the form was without it.
+use Rattle.nf_normalized.proofs.Common.{◌⊎◌, ◌≡◌, nat_tests, list_all-append, ℕ, ◌<◌, Bool, true, false, not, ◌==◌, List, [], ◌∷◌, ◌++◌, length, refl, sym, ap, ◌∙◌, arith, inl, inr, append-nil, append_assoc, cases_Bool, or_parts, or_from, length-append, list_all, fold, Properties, is_starter, has_starter, by_class, order, is_blocked, joined, join, compose_step, last_starter, marks_push, cut, order-after, by_class-push, has_starter-by_class, compose_step-at, compose-after, fold-none, joined-some, joined-starter}
 use Rattle.unicode_normalization.proofs.ComposeLemmas.{cases_Option}
 use Rattle.nf_forms.specs.Laws.Runs.{has_starter-append}
-use Rattle.nf_forms.specs.Laws.MarkBehind.{all_above, placed, is_ordered-by_class, lands}
+use Rattle.nf_forms.specs.Laws.MarkAfter.{all_above, placed, is_ordered-by_class, lands}
 
 -- ---- lists
 
--- where y with c behind it goes on behind e with a, a is c itself, at the end, or y goes on with it
-pub behind : (e y : List ℕ) (c a : ℕ) (v : List ℕ) → y ++ c ∷ [] ≡ e ++ a ∷ v → ((y ≡ e) × (c ≡ a) × (v ≡ [])) ⊎ ((more : List ℕ) × (y ≡ e ++ a ∷ more) × (v ≡ more ++ c ∷ []))
-behind [] [] c a v same = inl (refl, cc, cc)
-behind [] (d ∷ y) c a v same = inr (y, cc, cc)
-behind (b ∷ e) [] c a v same = absurd (grind (arith, ap length same, length-append))
-behind (b ∷ e) (d ∷ y) c a v same = elim (behind e y c a v cc) [ inl r ↦ inl (cc, r.1, r.2) | inr r ↦ inr (r.0, cc, r.2) ]
+-- where y with c after it goes on after e with a, a is c itself, at the end, or y goes on with it
+pub last_or_more : (e y : List ℕ) (c a : ℕ) (v : List ℕ) → y ++ c ∷ [] ≡ e ++ a ∷ v → ((y ≡ e) × (c ≡ a) × (v ≡ [])) ⊎ ((more : List ℕ) × (y ≡ e ++ a ∷ more) × (v ≡ more ++ c ∷ []))
+last_or_more [] [] c a v same = inl (refl, cc, cc)
+last_or_more [] (d ∷ y) c a v same = inr (y, cc, cc)
+last_or_more (b ∷ e) [] c a v same = absurd (grind (arith, ap length same, length-append))
+last_or_more (b ∷ e) (d ∷ y) c a v same = elim (last_or_more e y c a v cc) [ inl r ↦ inl (cc, r.1, r.2) | inr r ↦ inr (r.0, cc, r.2) ]
 
 module _ (p : Properties) where
   -- ---- a mark more
 
-  -- a mark more behind w stands before nothing but marks of greater classes
+  -- a mark more after w stands before nothing but marks of greater classes
   pub record Inserted (w : List ℕ) (c : ℕ) : Type 0 where
     pub head : List ℕ
     pub tail : List ℕ
@@ -34,17 +34,17 @@ module _ (p : Properties) where
       record {
         head = order p r.head ++ l.head;
         tail = l.tail;
-        without = grind (arith, r, order-behind p r.head r.run, l.before, append_assoc);
-        with_c = grind (arith, r.text, append_assoc, order-behind p r.head (r.run ++ c ∷ []) r.ends, marks_push, by_class-push, mark, l.after);
+        without = grind (arith, r, order-after p r.head r.run, l.before, append_assoc);
+        with_c = grind (arith, r.text, append_assoc, order-after p r.head (r.run ++ c ∷ []) r.ends, marks_push, by_class-push, mark, l.after);
         marks = grind (arith, has_starter-append p l.head l.tail, l.before, marks, or_parts);
         above = l.above;
       }
 
-  -- two texts that differ by c alone, of which the longer one is y with c behind it
+  -- two texts that differ by c alone, of which the longer one is y with c after it
   pub same_front : (c : ℕ) (e q y z : List ℕ) → all_above p (p.class c) q ≡ true → z ≡ e ++ q → y ++ c ∷ [] ≡ e ++ c ∷ q → z ≡ y
-  same_front c e q y z above without with_c = grind (arith, nat_tests, list_all-append, append-nil, behind e y c c q with_c)
+  same_front c e q y z above without with_c = grind (arith, nat_tests, list_all-append, append-nil, last_or_more e y c c q with_c)
 
-  -- ---- a mark that composes is gone: nothing of its class is left behind the starter
+  -- ---- a mark that composes is gone: nothing of its class is left after the starter
 
   abbrev avoids : ℕ → List ℕ → Bool
   avoids k v = list_all (λ x. not (p.class x == k)) v
@@ -65,12 +65,12 @@ module _ (p : Properties) where
 
   -- ---- a mark taken away
 
-  -- u and marks behind it are composed to y, where with c before those marks they are composed to y and c
+  -- u and marks after it are composed to y, where with c before those marks they are composed to y and c
   pub mark_taken : (u tail y : List ℕ) (c : ℕ) → is_starter p c ≡ false → has_starter p tail ≡ false → all_above p (p.class c) tail ≡ true
       → fold (compose_step p) u (c ∷ tail) ≡ y ++ c ∷ [] → fold (compose_step p) u tail ≡ y
   mark_taken u tail y c mark marks above text = elim (cases_Bool (has_starter p u)) [
     | inr none ↦ same_front c u tail y _ above (fold-none p u tail none marks) (sym text ∙ fold-none p u (c ∷ tail) none (or_from _ _ mark marks))
-    -- behind a starter it composed, and could not be the last, or stayed, and stands behind what there was without it
+    -- after a starter it composed, and could not be the last, or stayed, and stands after what there was without it
     | inl some ↦
         let g = last_starter p u some in
         let step = compose_step-at p g.before g.starter g.marks c g.starts g.no_starter in
@@ -81,9 +81,9 @@ module _ (p : Properties) where
               (grind (arith, g.text, append-nil, l.one, append_assoc)) (grind (arith, text, g.text, step, none, l.other, append_assoc))
           | inr made ↦
               let starts = joined-starter p g.starter g.marks c made.0 made.1 in
-              let group = compose-behind p g.before (made.0 ∷ g.marks) tail (record { starter = made.0; marks = g.marks; text = refl; starts = starts; no_starter = g.no_starter }) marks in
+              let group = compose-after p g.before (made.0 ∷ g.marks) tail (record { starter = made.0; marks = g.marks; text = refl; starts = starts; no_starter = g.no_starter }) marks in
               let free = avoids-unblocked g.marks c (joined-some p g.starter g.marks c made.0 made.1).0 in
               let r = avoiding (p.class c) (grind (arith, nat_tests)) made.0 g.marks tail starts free above in
-              absurd (grind (arith, nat_tests, list_all-append, behind g.before y c r.0 r.1, text, g.text, step, made.1, group, r.2, r.3))
+              absurd (grind (arith, nat_tests, list_all-append, last_or_more g.before y c r.0 r.1, text, g.text, step, made.1, group, r.2, r.3))
         ]
   ]

@@ -1,10 +1,10 @@
 -- A text in a form, and what the form makes of it without its last character, over any character data.
-use Rattle.nf_normalized.proofs.Common.{◌≡◌, ℕ, ◌≤◌, ◌<◌, Bool, true, false, List, [], ◌∷◌, ◌++◌, length, flat_map, Option, Some, None, refl, arith, ◌⊎◌, inl, inr, append_assoc, cases_Bool, or_left, length-append, fold, Properties, is_starter, has_starter, order, composite, joined, replaced, compose_step, compose, arranged, last_starter, order_after-at, compose_step-at, compose_step-none, joined-some, joined-starter, joined-behind_marks, BeginsInStarter}
+use Rattle.nf_normalized.proofs.Common.{◌≡◌, ℕ, ◌≤◌, ◌<◌, Bool, true, false, List, [], ◌∷◌, ◌++◌, length, flat_map, Option, Some, None, refl, arith, ◌⊎◌, inl, inr, append_assoc, cases_Bool, or_left, length-append, fold, Properties, is_starter, has_starter, order, composite, joined, replaced, compose_step, compose, arranged, last_starter, order_after-at, compose_step-at, compose_step-none, joined-some, joined-starter, joined-after_marks, BeginsInStarter}
 use Rattle.std.proofs.lemmas.Grind.{flat_map-append}
 use Rattle.std.proofs.lemmas.List.Sums.{fold-append}
-use Rattle.nf_forms.specs.Laws.Parting.{step-behind, fold-behind}
+use Rattle.nf_forms.specs.Laws.Parting.{step-after, fold-after}
 use Rattle.unicode_normalization.proofs.ComposeLemmas.{cases_Option}
-use Rattle.nf_normalized.proofs.MarkLemmas.{behind, inserted, same_front, mark_taken}
+use Rattle.nf_normalized.proofs.MarkLemmas.{last_or_more, inserted, same_front, mark_taken}
 
 module _ (p : Properties) where
   -- a row that begins with a starter, or that of a mark which decomposes no further
@@ -23,7 +23,7 @@ module _ (p : Properties) where
     first_of d m [] starts = (d, m, refl, omega arith)
     first_of d m (c ∷ v) starts =
         elim (cases_Bool (has_starter p m)) [
-          | inl more ↦ rw (step-behind p (d ∷ []) m c more).0 (first_of d (compose_step p m c) v starts)
+          | inl more ↦ rw (step-after p (d ∷ []) m c more).0 (first_of d (compose_step p m c) v starts)
           | inr none ↦ elim (cases_Option (joined p d m c)) [
             | inl stays ↦ rw (compose_step-at p [] d m c starts none, stays) (first_of d (m ++ c ∷ []) v starts)
             | inr made ↦
@@ -32,7 +32,7 @@ module _ (p : Properties) where
           ]
         ]
 
-    -- z is y, where with a starter and more behind it is composed to y and c
+    -- z is y, where with a starter and more after it is composed to y and c
     starter_taken : (z y : List ℕ) (c s : ℕ) (v : List ℕ) → is_starter p s ≡ true → size z ≡ size y → fold (compose_step p) z (s ∷ v) ≡ y ++ c ∷ [] → z ≡ y
     starter_taken z y c s v starts same text = elim (cases_Bool (has_starter p z)) [
       | inl begun ↦
@@ -41,12 +41,12 @@ module _ (p : Properties) where
       | inr none ↦ apart (compose_step-none p z s none)
     ]
       where
-        -- behind a front e that stays y ends, or goes on with d or what d became
+        -- after a front e that stays y ends, or goes on with d or what d became
         goes_on : (e : List ℕ) (d : ℕ) → is_starter p d ≡ true → compose_step p z s ≡ e ++ d ∷ []
             → (y ≡ e) ⊎ ((a : ℕ) × (more : List ℕ) × (y ≡ e ++ a ∷ more) × (length (row d) ≤ length (row a)))
         goes_on e d begins step =
             let first = first_of d [] v begins in
-            elim (behind e y c first.0 first.1 (cc (fold-behind p e (d ∷ []) v (or_left _ _ begins)))) [ inl r ↦ inl r.0 | inr r ↦ inr (first.0, r.0, r.1, first.3) ]
+            elim (last_or_more e y c first.0 first.1 (cc (fold-after p e (d ∷ []) v (or_left _ _ begins)))) [ inl r ↦ inl r.0 | inr r ↦ inr (first.0, r.0, r.1, first.3) ]
 
         apart : compose_step p z s ≡ z ++ s ∷ [] → z ≡ y
         apart step = grind (arith, goes_on z s starts step, some, same, flat_map-append, length-append)
@@ -57,14 +57,14 @@ module _ (p : Properties) where
             -- that would be longer than the starter that was there
             let above = longer t s d (joined-some p t [] s d is).1 in
             grind (arith, goes_on e d (joined-starter p t [] s d is) step, above, some t, same, whole, flat_map-append, length-append)
-        next e t (x ∷ m) (Some d) whole is step = cc (joined-behind_marks p t x m s starts)
+        next e t (x ∷ m) (Some d) whole is step = cc (joined-after_marks p t x m s starts)
 
     -- ---- the last character taken away
 
     -- where the form of a text and the row of c is y and c, the form of the text alone is y
     pub last_taken : (b : Bool) (w y : List ℕ) (c : ℕ) → IsRow c (row c) → size (arranged b p w) ≡ size y → arranged b p (w ++ row c) ≡ y ++ c ∷ [] → arranged b p w ≡ y
     last_taken false w y c (inl r) same text =
-        let text = behind (order p w) y c r.first (order p r.rest) (cc (order_after-at p [] w r.first r.rest r.starter)) in
+        let text = last_or_more (order p w) y c r.first (order p r.rest) (cc (order_after-at p [] w r.first r.rest r.starter)) in
         grind (arith, text, some, same, flat_map-append, length-append)
     last_taken true w y c (inl r) same text =
         starter_taken (compose p (order p w)) y c r.first (order p r.rest) r.starter same

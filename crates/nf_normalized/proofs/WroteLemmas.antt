@@ -19,7 +19,7 @@ module _ {old new : Comparing} {before due : List ℕ} {T : Type 0} {r : Result 
   -- what was given was due, and perhaps more is
   pub gave : (rest : List ℕ) × (new.first.now ++ new.second.now ≡ old.first.now ++ old.second.now) × (due ≡ (before ++ given new) ++ rest)
   gave = elim (write_or_kept r) [
-    | inl e ↦ let b = w.broken e in let t = told b.out b.given in (b.rest, t.0, rw t.1 b.behind)
+    | inl e ↦ let b = w.broken e in let t = told b.out b.given in (b.rest, t.0, rw t.1 b.after)
     | inr other ↦ let p = w.puts other in let t = told p.out p.given in ([], t.0, grind (arith, p, t, append-nil))
   ]
 
@@ -33,7 +33,7 @@ module _ {old new : Comparing} {before due : List ℕ} {T : Type 0} {r : Result 
   -- none was: all was written, as expected
   module _ (none : is_some new.other ≡ false) where
     pub unfailed : (r ≡ Err Write) → ⊥
-    unfailed e = grind (arith, new.failed_behind, w.broken e)
+    unfailed e = grind (arith, new.failed_after, w.broken e)
 
     pub all_written : due ≡ before ++ same new
     all_written = grind (arith, w.puts unfailed, told (w.puts unfailed).out, append-nil)

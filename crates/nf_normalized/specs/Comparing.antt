@@ -10,11 +10,11 @@ use Rattle.nf_normalized.specs.declared.comparing.Comparing.{Comparing}
 abbrev pub same : Comparing → List ℕ
 same sink = take sink.count (sink.first.now ++ sink.second.now)
 
--- those that are expected behind them
+-- those that are expected after them
 abbrev pub left : Comparing → List ℕ
 left sink = drop sink.count (sink.first.now ++ sink.second.now)
 
--- all that were given: behind them at most one that is another
+-- all that were given: after them at most one that is another
 abbrev pub given : Comparing → List ℕ
 given sink = same sink ++ option_to_list sink.other
 
@@ -36,6 +36,6 @@ pub record HasRoom (held now : List ℕ) (chars offset : ℕ) : Type 0 where
   pub bytes_fit : offset + length now < 2 ^ 64 + length held
   pub chars_fit : chars + length (text_of now) < 2 ^ 64 + length (text_of held)
 
--- the place behind them
-abbrev pub IsBehind : List ℕ → List ℕ → ℕ → ℕ → Place → Type 0
-IsBehind held now chars offset place = (place.chars + length (text_of held) ≡ chars + length (text_of now)) × (place.bytes + length held ≡ offset + length (encode_utf8_all (text_of now)))
+-- the place after them
+abbrev pub IsAfter : List ℕ → List ℕ → ℕ → ℕ → Place → Type 0
+IsAfter held now chars offset place = (place.chars + length (text_of held) ≡ chars + length (text_of now)) × (place.bytes + length held ≡ offset + length (encode_utf8_all (text_of now)))

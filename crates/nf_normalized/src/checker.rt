@@ -2,7 +2,7 @@
 ghost use Rattle.std.specs.Prelude.{◌≡◌, ◌+◌, ◌≤◌, ◌++◌, false, length, None};
 ghost use Rattle.nf_filter.specs.Filter.{state_of, is_spent};
 ghost use Rattle.nf_normalized.specs.Holds.{HoldsSome};
-ghost use Rattle.nf_normalized.specs.Comparing.{same, HasRoom, IsBehind};
+ghost use Rattle.nf_normalized.specs.Comparing.{same, HasRoom, IsAfter};
 
 use crate::comparing::Comparing;
 use crate::counting::text_in;
@@ -90,7 +90,7 @@ impl FormChecker {
         let mut sink = Comparing::new(held, piece);
         let fed = self.filter.feed(piece, &mut sink);
         if sink.has_parted() {
-            self.place = Some(place_behind(chars, offset, held, &sink));
+            self.place = Some(place_after(chars, offset, held, &sink));
             return Ok(self.place);
         }
         if let Err(fault) = fed {
@@ -135,7 +135,7 @@ impl FormChecker {
                 return Ok(None);
             }
         }
-        Ok(Some(place_behind(chars, offset, held, &sink)))
+        Ok(Some(place_after(chars, offset, held, &sink)))
     }
 
     /// How many bytes it keeps: at most 315.
@@ -147,10 +147,10 @@ impl FormChecker {
     }
 }
 
-/// Behind what was as expected, where so many characters were taken before, up to this offset, and these bytes kept.
-fn place_behind(chars: u64, offset: u64, held: &[u8], sink: &Comparing<'_>) -> Place
+/// After what was as expected, where so many characters were taken before, up to this offset, and these bytes kept.
+fn place_after(chars: u64, offset: u64, held: &[u8], sink: &Comparing<'_>) -> Place
     requires { HasRoom held.now (same sink.now) chars offset }
-    ensures { IsBehind held.now (same sink.now) chars offset result }
+    ensures { IsAfter held.now (same sink.now) chars offset result }
 {
     split();
     let kept = text_in(held, &[]);

@@ -14,7 +14,7 @@ const BLOCK: usize = 4096;
 /// Reads what the source gives until it is settled that it is not in the form, or not stream-safe, and answers the place of the
 /// first character that the form changes; none where the form of the stream-safe text is the text. The first byte has the offset
 /// `base`. A fault that comes before the place is settled is answered in its stead: `BadByte`, `Cut`, `Read` and `TooLong`, and
-/// `Unassigned` where `assigned` is set. Of what stands behind the place nothing is told. At most 4,096 bytes are asked for at
+/// `Unassigned` where `assigned` is set. Of what stands after the place nothing is told. At most 4,096 bytes are asked for at
 /// once.
 pub fn check_form<I: Source>(
     form: Form,

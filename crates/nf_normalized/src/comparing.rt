@@ -6,7 +6,7 @@ ghost use Rattle.nf_normalized.specs.Bytes.{goes_on_with};
 
 use nf_filter::{Failed, Sink};
 
-/// The bytes to come are expected to be those of two slices, one behind the other. The first that is another it takes, and fails
+/// The bytes to come are expected to be those of two slices, one after the other. The first that is another it takes, and fails
 /// from then on.
 #[derive(Drop)]
 pub(crate) struct Comparing<'t> {
@@ -19,7 +19,7 @@ pub(crate) struct Comparing<'t> {
     failed: bool,
     ghost within: { count ≤ length first.now + length second.now },
     ghost other_is: { ForSome other (λ byte. goes_on_with byte (drop count (first.now ++ second.now)) ≡ false) },
-    ghost failed_behind: { failed ≡ true → IsSome other },
+    ghost failed_after: { failed ≡ true → IsSome other },
 }
 
 impl<'t> Comparing<'t> {
@@ -58,7 +58,7 @@ impl<'t> Comparing<'t> {
         )
     }
 
-    /// What is expected behind that.
+    /// What is expected after that.
     pub fn left(&self) -> (&'t [u8], &'t [u8])
         ensures left { result.0.now ++ result.1.now ≡ left self.now }
         ensures fits { length self.now.first.now + length self.now.second.now ≤ usize.MAX }

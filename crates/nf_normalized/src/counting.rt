@@ -6,7 +6,7 @@ ghost use Rattle.nf_utf8.specs.Taking.{first_text, first_bytes};
 use nf_safe::Place;
 use nf_utf8::{Chunk, Decoder, End, char_count, laws};
 
-/// How many characters the bytes of both slices, one behind the other, begin with, and of how many bytes these are.
+/// How many characters the bytes of both slices, one after the other, begin with, and of how many bytes these are.
 pub(crate) fn text_in(first: &[u8], second: &[u8]) -> Place
     requires { length first.now + length second.now ≤ u64.MAX }
     ensures chars { result.chars ≡ length (text_of (first.now ++ second.now)) }
@@ -20,10 +20,10 @@ pub(crate) fn text_in(first: &[u8], second: &[u8]) -> Place
     if let End::Bad { .. } = chunk.end {
         return front;
     }
-    let behind = counted(decoder.take(second));
+    let after = counted(decoder.take(second));
     Place {
-        chars: front.chars + behind.chars,
-        bytes: front.bytes + behind.bytes,
+        chars: front.chars + after.chars,
+        bytes: front.bytes + after.bytes,
     }
 }
 

@@ -32,7 +32,7 @@ pub fn a_settled_place_stays()
     settled_only_grows();
 }
 
-/// As long as a text begins with what is settled of its form, at most 78 characters stand behind that: a decomposition of 18 and
+/// As long as a text begins with what is settled of its form, at most 78 characters stand after that: a decomposition of 18 and
 /// 30 non-starters, of which the longest is of 2.
 pub fn little_is_kept()
     ensures { (f : Form) (x u : List ℕ) → x ≡ settled f ucd x ++ u → length u ≤ 78 }

@@ -119,13 +119,13 @@ fn nearly_formed(alloc: Global, seeded: &mut Seeded, form: Form) -> Result<Vec<u
     if seeded.below(3) > 0 {
         push_part(&mut between, seeded)?;
     }
-    let mut behind = String::new(alloc);
-    push_parts(&mut behind, seeded, 4)?;
-    let Ok(behind) = converted(alloc, &Ucd, form, behind.as_bytes()) else {
+    let mut after = String::new(alloc);
+    push_parts(&mut after, seeded, 4)?;
+    let Ok(after) = converted(alloc, &Ucd, form, after.as_bytes()) else {
         return Err(Fail::from("no form"));
     };
     bytes.extend_from_slice(between.as_bytes())?;
-    bytes.extend_from_slice(behind.as_slice())?;
+    bytes.extend_from_slice(after.as_slice())?;
     Ok(bytes)
 }
 
@@ -172,8 +172,8 @@ fn assert_cut(
 ) -> Result<(), AllocError> {
     let due = due(alloc, form, assigned, bytes);
     for at in 0..=bytes.len() {
-        let (front, behind) = bytes.split_at(at);
-        let told = answer(rt, form, assigned, &[front, behind]);
+        let (front, after) = bytes.split_at(at);
+        let told = answer(rt, form, assigned, &[front, after]);
         assert_eq!(rt; told, due, "{form:?}, cut at {at}: {bytes:?}");
     }
     let mut pieces = Vec::new(alloc);

@@ -16,32 +16,32 @@ fn assert_few_kept(rt: &impl Abort, form: Form, text: &[u8], size: usize, place:
         if rest.is_empty() {
             break;
         }
-        let (piece, behind) = rest.split_at(size.min(rest.len()));
+        let (piece, after) = rest.split_at(size.min(rest.len()));
         let told = checker.feed(piece);
         assert!(rt; told == Ok(None) || told == Ok(place), "{form:?}: {told:?}");
         assert!(rt; checker.held() <= 315);
-        rest = behind;
+        rest = after;
     }
     assert_eq!(rt; checker.finish(), Ok(place), "{form:?}");
 }
 
 #[test]
 fn a_run_is_not_kept_whole(rt: HostRuntime) -> Result<(), Fail> {
-    // The joiner would be put behind 30 marks.
-    let behind_30 = Place {
+    // The joiner would be put after 30 marks.
+    let after_30 = Place {
         chars: 31,
         bytes: 61,
     };
     let text = joined(rt.alloc(), &[("q", 1), ("\u{301}", MEBIBYTE / 2)])?;
     for form in FORMS {
         for size in [1, 7, 4096] {
-            assert_few_kept(&rt, form, text.as_slice(), size, Some(behind_30));
+            assert_few_kept(&rt, form, text.as_slice(), size, Some(after_30));
         }
     }
     Ok(())
 }
 
-/// Marks in runs of 30: of two bytes, behind joiners, and of four, behind letters.
+/// Marks in runs of 30: of two bytes, after joiners, and of four, after letters.
 #[test]
 fn runs_that_are_short_enough_are_not_kept(rt: HostRuntime) -> Result<(), Fail> {
     for (starter, mark) in [("\u{34F}", "\u{301}"), ("q", "\u{1D165}")] {

@@ -39,7 +39,7 @@ fn each_scalar_value_is_in_the_forms_that_leave_it(rt: HostRuntime) -> Result<()
 }
 
 #[test]
-fn so_is_each_of_the_planes_behind(rt: HostRuntime) -> Result<(), Fail> {
+fn so_is_each_of_the_planes_after(rt: HostRuntime) -> Result<(), Fail> {
     sweep(&rt, rt.alloc(), 0x3_0000..=0x10_FFFF)?;
     Ok(())
 }

@@ -1,4 +1,4 @@
--- A run of plain ASCII behind one such character that is pending alone.
+-- A run of plain ASCII after one such character that is pending alone.
 use Rattle.nf_normalizer.proofs.Common.{◌≡◌, ℕ, ◌-◌, ◌<◌, true, List, [], ◌∷◌, ◌++◌, length, take, get_or, refl, ap, arith, append_assoc, encode_utf8_all, IsAscii, and_from, length-append, encodes-append, encodes-IsAscii, IsAscii-take, Properties, trail, front, back, Form, Nfkd, decomposed, finished, stream_safe, safe_form, is_sound, trail-push, IsSoundText, decomposed-append, Pending, PendingStandsAfter, Normalizer, settled, is_usable, HasTaken, settled_text, Joins}
 use Rattle.std.proofs.lemmas.Grind.{common_steps}
 use Rattle.std.proofs.lemmas.List.Folds.{list_all-append}

@@ -1,5 +1,5 @@
 -- One character more.
-use Rattle.nf_normalizer.proofs.Common.{◌≡◌, ℕ, ◌+◌, ◌≤◌, Bool, true, false, List, [], ◌∷◌, ◌++◌, Ok, refl, sym, ◌∙◌, arith, encode_utf8_all, and_right, ltb-false, encodes-append, Properties, Form, Nfc, Nfd, Nfkd, has_starter, lead, trail, front, row_of, decomposed, finished, joiner, max_run, is_too_long, parted, stream_safe, is_sound, safe_form, lead-marks, lead-le-length, trail-marks, stream_safe-push, decomposed-push, JoinerIsPlain, IsSound, IsSound-from_test, JoinerIsPlain-from_sound, run_len, Pending, Normalizer, settled, is_usable, Start, Holds, HasTaken, IsWithin, HasRoom, run_behind, front_utf8, settled_text, Pushes, PutsJoiner, Parts, TakesChar, is_usable-push}
+use Rattle.nf_normalizer.proofs.Common.{◌≡◌, ℕ, ◌+◌, ◌≤◌, Bool, true, false, List, [], ◌∷◌, ◌++◌, Ok, refl, sym, ◌∙◌, arith, encode_utf8_all, and_right, ltb-false, encodes-append, Properties, Form, Nfc, Nfd, Nfkd, has_starter, lead, trail, front, row_of, decomposed, finished, joiner, max_run, is_too_long, parted, stream_safe, is_sound, safe_form, lead-marks, lead-le-length, trail-marks, stream_safe-push, decomposed-push, JoinerIsPlain, IsSound, IsSound-from_test, JoinerIsPlain-from_sound, run_len, Pending, Normalizer, settled, is_usable, Start, Holds, HasTaken, IsWithin, HasRoom, run_after, front_utf8, settled_text, Pushes, PutsJoiner, Parts, TakesChar, is_usable-push}
 use Rattle.std.proofs.lemmas.Bool.Decides.{nat_tests}
 use Rattle.nf_forms.specs.Laws.Cluster.{row-own}
 use Rattle.nf_row.specs.Kind.{IsOwn}
@@ -16,17 +16,17 @@ module _ (p : Properties) where
   pub is_usable-unsound : (x : List ℕ) (c : ℕ) → is_sound p c ≡ false → is_usable p (x ++ c ∷ []) ≡ false
   is_usable-unsound x c unsound = is_usable-push p x c ∙ grind (arith, nat_tests)
 
-  -- the run behind the row of a sound character is no longer than what is counted
-  pub run_behind-le : (f : Form) (c run n : ℕ) → is_sound p c ≡ true → run ≤ n → run_behind p run (row_of f p c) ≤ counted p n (p.compat c)
-  run_behind-le f c run n sound below =
-      of_row (λ w. run_behind p run w ≤ counted p n (p.compat c)) c (at (p.canonical c) row.marks_agree row.trail_within row.lead_within)
+  -- the run after the row of a sound character is no longer than what is counted
+  pub run_after-le : (f : Form) (c run n : ℕ) → is_sound p c ≡ true → run ≤ n → run_after p run (row_of f p c) ≤ counted p n (p.compat c)
+  run_after-le f c run n sound below =
+      of_row (λ w. run_after p run w ≤ counted p n (p.compat c)) c (at (p.canonical c) row.marks_agree row.trail_within row.lead_within)
       (at (p.compat c) (λ e. e) (omega arith) (omega arith)) f
     where
       row : IsSound p c
       row = IsSound-from_test p c sound
 
       at : (w : List ℕ) → (has_starter p w ≡ false → has_starter p (p.compat c) ≡ false) → trail p w ≤ trail p (p.compat c) → lead p w ≤ lead p (p.compat c)
-          → run_behind p run w ≤ counted p n (p.compat c)
+          → run_after p run w ≤ counted p n (p.compat c)
       at w agree trails leads = grind (arith, lead-marks p w, lead-marks p (p.compat c), trail-marks p (p.compat c))
 
   -- a character that is its own row
@@ -70,7 +70,7 @@ module _ (p : Properties) where
     pub HasRoom-without : IsWithin taken → passes p taken.counter (p.compat c) ≡ false → HasRoom p (record taken { counter = n }) c
     HasRoom-without within short = record {
       lead = omega (arith, within.run, lead-row taken.form c sound, ltb-false max_run (taken.counter + lead p (p.compat c)) short);
-      run = rw (counts, count_step-within p taken.counter (p.compat c) short) (run_behind-le taken.form c (run_len taken.pending) taken.counter sound within.run);
+      run = rw (counts, count_step-within p taken.counter (p.compat c) short) (run_after-le taken.form c (run_len taken.pending) taken.counter sound within.run);
       bound = bound;
     }
 
@@ -78,7 +78,7 @@ module _ (p : Properties) where
     pub HasRoom-with : {pending : Pending} → passes p taken.counter (p.compat c) ≡ true → run_len pending ≡ 0 → HasRoom p (record taken { counter = n; pending = pending }) c
     HasRoom-with {pending} long run = record {
       lead = omega (arith, run, lead-row taken.form c sound, lead-le-length p (p.compat c), (IsSound-from_test p c sound).compat_few);
-      run = rw (counts, long) (run_behind-le taken.form c (run_len pending) 0 sound (omega (arith, run)));
+      run = rw (counts, long) (run_after-le taken.form c (run_len pending) 0 sound (omega (arith, run)));
       bound = bound;
     }
 

@@ -17,7 +17,7 @@ pub use Rattle.nf_forms.specs.declared.form.Form.{Form}
 pub use Rattle.nf_forms.specs.declared.form.Form.TheVariants.{Nfkd, Nfc, Nfd}
 pub use Rattle.nf_normalizer.specs.Front.{Joins, Stands, one_if, Leaves, Passes, StepsTo, Refuses, Takes}
 pub use Rattle.nf_normalizer.specs.Laws.Settled.{is_usable-push, is_usable-none}
-pub use Rattle.nf_normalizer.specs.Normalizer.{HasTaken, settled_text, IsWithin, HasRoom, run_behind, front_utf8, Pushes, PutsJoiner, Parts, TakesChar, TakesNext}
+pub use Rattle.nf_normalizer.specs.Normalizer.{HasTaken, settled_text, IsWithin, HasRoom, run_after, front_utf8, Pushes, PutsJoiner, Parts, TakesChar, TakesNext}
 pub use Rattle.nf_normalizer.specs.Room.{Start, Holds}
 unfoldable pub use Rattle.nf_normalizer.specs.Settled.{settled, is_usable}
 pub use Rattle.nf_normalizer.specs.declared.normalizer.Normalizer.{Normalizer}

@@ -2,12 +2,12 @@
 use Rattle.nf_normalizer.proofs.Common.{◌≡◌, ℕ, ◌+◌, ◌<◌, ◌≤◌, true, false, Bool, List, [], ◌∷◌, ◌++◌, length, take, drop, Result, Ok, Err, IfOk, inl, inr, refl, sym, ap, ◌∙◌, arith, append-nil, append_assoc, encode_utf8, encode_utf8_all, IsUtf8, IsAscii, chars, length-append, take-append-drop, chars-nil, chars-append, chars-IsAscii, encodes-append, encodes-chars, IsUtf8-from_ascii, chars_past_char, length-encode, len_utf8_bounds, Properties, Form, Nfc, front, stream_safe, safe_form, IsSoundText, stream_safe-push, Normalizer, settled, is_usable, Start, Holds, HasTaken, TakesChar, settled_text, Stands, one_if, Leaves, Passes, StepsTo, Refuses, Takes}
 use Rattle.std.proofs.lemmas.Bool.Decides.{nat_tests}
 use Rattle.nf_forms.specs.Order.{by_class}
-use Rattle.nf_forms.specs.Closed.{BeginsAtBoundary}
-use Rattle.nf_forms.specs.Laws.Closed.{stream_safe-closed, sound-closed, safe_form-closed}
-use Rattle.nf_boundary.specs.Front.{IsClosedFront}
+use Rattle.nf_forms.specs.Segments.{BeginsAtBoundary}
+use Rattle.nf_forms.specs.Laws.Segments.{stream_safe-segments, sound-segments, safe_form-segments}
+use Rattle.nf_boundary.specs.Front.{IsFirstSegments}
 use Rattle.nf_normalizer.specs.declared.front.Unsound.{Unsound}
 use Rattle.nf_normalizer.specs.declared.front.Front.{Front}
-use Rattle.nf_normalizer.specs.Laws.Boundary.{usable-alone, usable_both, joins-behind, safe_form-behind, settled_text-behind, HasTaken-behind}
+use Rattle.nf_normalizer.specs.Laws.Boundary.{usable-alone, usable_both, joins-after, safe_form-after, settled_text-after, HasTaken-after}
 use Rattle.nf_normalizer.proofs.PushingLemmas.{Holds-more}
 
 -- ---- fronts of a text
@@ -16,17 +16,17 @@ use Rattle.nf_normalizer.proofs.PushingLemmas.{Holds-more}
 pub ascii_front : (text : List ℕ) (n : ℕ) → IsAscii (take n text) → chars text ≡ take n text ++ chars (drop n text)
 ascii_front text n ascii = rw (take-append-drop, chars-IsAscii (take n text) ascii) at (chars-append (take n text) (drop n text) (IsUtf8-from_ascii (take n text) ascii))
 
--- a closed front is past
-pub leaves-closed : {p : Properties} {f : Form} {text same formed rest : List ℕ} → IsClosedFront p f text same formed rest → Leaves text rest 0
-leaves-closed {text = text} {rest = rest} closed = record {
-  front = chars closed.front;
-  some = omega (arith, ap length closed.form.begins.text);
+-- segments are past
+pub leaves-segments : {p : Properties} {f : Form} {text same formed rest : List ℕ} → IsFirstSegments p f text same formed rest → Leaves text rest 0
+leaves-segments {text = text} {rest = rest} segments = record {
+  front = chars segments.front;
+  some = omega (arith, ap length segments.form.begins.text);
   few = omega arith;
-  is_front = closed.characters;
-  shorter = next closed.front (ap length closed.text) closed.form.begins.text;
+  is_front = segments.characters;
+  shorter = next segments.front (ap length segments.text) segments.form.begins.text;
 }
   where
-    next : (b : List ℕ) → length text ≡ length (b ++ rest) → chars b ≡ closed.form.begins.first ∷ closed.form.begins.rest → length rest < length text
+    next : (b : List ℕ) → length text ≡ length (b ++ rest) → chars b ≡ segments.form.begins.first ∷ segments.form.begins.rest → length rest < length text
     next [] is begins = let none = chars-nil in cc
     next (c ∷ b) is begins = omega (arith, is, length-append (c ∷ b) rest)
 
@@ -53,23 +53,23 @@ module _ {text : List ℕ} (c : ℕ) (rest : List ℕ) (utf8 : IsUtf8 text) (is 
     pub refuses-one : is_usable p x ≡ true → (is_usable p (x ++ c ∷ []) ≡ false) × Holds start room (settled_text f p x) → Refuses f p start room x text
     refuses-one usable refused = record { first = c; rest = chars rest; is_first = chars_past_char text rest c utf8 is; usable = usable; unusable = refused.0; holds = refused.1 }
 
--- a closed front was taken
-pub takes-closed : {p : Properties} {f : Form} (x : List ℕ) {text same formed rest : List ℕ} {new : Normalizer} {start : Start} {room : List ℕ} → is_usable p x ≡ true → IsClosedFront p f text same formed rest → IsUtf8 same
+-- segments were taken
+pub takes-segments : {p : Properties} {f : Form} (x : List ℕ) {text same formed rest : List ℕ} {new : Normalizer} {start : Start} {room : List ℕ} → is_usable p x ≡ true → IsFirstSegments p f text same formed rest → IsUtf8 same
     → HasTaken f p new [] → Holds start room (encode_utf8_all (safe_form f p x)) → StepsTo f p new start (room ++ (same ++ formed)) x text rest 0
 unfolding is_usable
-takes-closed {p} {f} x {same = same} {formed} usable closed utf8 anew holds =
+takes-segments {p} {f} x {same = same} {formed} usable segments utf8 anew holds =
     let sound : IsSoundText p (stream_safe p x) = usable in
-    let formed_is : List ℕ = chars same ++ closed.more in
+    let formed_is : List ℕ = chars same ++ segments.more in
     record {
-      front = chars closed.front;
-      is_front = closed.characters;
+      front = chars segments.front;
+      is_front = segments.characters;
       stands = inr (record {
         anew = anew;
-        usable = sound-closed p f x (chars closed.front) formed_is sound closed.form;
-        boundary = closed.next;
-        holds = rw (safe_form-closed p f x (chars closed.front) formed_is sound closed.form, encodes-append, encodes-append, encodes-chars same utf8, ← closed.put) (Holds-more (same ++ formed) refl holds);
+        usable = sound-segments p f x (chars segments.front) formed_is sound segments.form;
+        boundary = segments.next;
+        holds = rw (safe_form-segments p f x (chars segments.front) formed_is sound segments.form, encodes-append, encodes-append, encodes-chars same utf8, ← segments.put) (Holds-more (same ++ formed) refl holds);
       });
-      joins = omega (arith, simp length-append at (ap length (stream_safe-closed p f x (chars closed.front) formed_is sound closed.form)));
+      joins = omega (arith, simp length-append at (ap length (stream_safe-segments p f x (chars segments.front) formed_is sound segments.form)));
     }
 
 -- ---- at a boundary, where the normalizer is as a new one
@@ -80,7 +80,7 @@ unfolding settled safe_form by_class
 settled_text-none Nfc p = refl
 settled_text-none _ p = refl
 
--- the text w was given or stands in the room, and what is told next stands behind it
+-- the text w was given or stands in the room, and what is told next stands after it
 abbrev past : Start → List ℕ → Start
 past start w = record start { ahead = start.ahead ++ w }
 
@@ -101,34 +101,34 @@ module _ (p : Properties) (f : Form) (new : Normalizer) (start : Start) (after x
     there = past start (encode_utf8_all (safe_form f p x))
 
     module _ (more next : List ℕ) (is : chars text ≡ (boundary.first ∷ more) ++ next) where
-      stands-behind : (out : List ℕ) → Stands f p new there out (boundary.first ∷ more) next → Stands f p new start out (x ++ boundary.first ∷ more) next
-      stands-behind out (inl inside) = inl (record {
-        taken = HasTaken-behind p f x usable (chars text) more next boundary is new inside.taken;
-        holds = rw (settled_text-behind p f x usable (chars text) more next boundary is) at (Holds-whole (encode_utf8_all (safe_form f p x)) inside.holds);
+      stands-after : (out : List ℕ) → Stands f p new there out (boundary.first ∷ more) next → Stands f p new start out (x ++ boundary.first ∷ more) next
+      stands-after out (inl inside) = inl (record {
+        taken = HasTaken-after p f x usable (chars text) more next boundary is new inside.taken;
+        holds = rw (settled_text-after p f x usable (chars text) more next boundary is) at (Holds-whole (encode_utf8_all (safe_form f p x)) inside.holds);
       })
-      stands-behind out (inr between) = inr (record {
+      stands-after out (inr between) = inr (record {
         anew = between.anew;
         usable = usable_both p f x usable (chars text) more next boundary is between.usable;
         boundary = between.boundary;
-        holds = rw (safe_form-behind p f x usable (chars text) more next boundary is) at (Holds-whole (encode_utf8_all (safe_form f p x)) between.holds);
+        holds = rw (safe_form-after p f x usable (chars text) more next boundary is) at (Holds-whole (encode_utf8_all (safe_form f p x)) between.holds);
       })
 
-    steps-behind : (out rest : List ℕ) (n : ℕ) → Leaves text rest n → StepsTo f p new there out [] text rest n → StepsTo f p new start out x text rest n
-    steps-behind out rest n leaves steps =
+    steps-after : (out rest : List ℕ) (n : ℕ) → Leaves text rest n → StepsTo f p new there out [] text rest n → StepsTo f p new start out x text rest n
+    steps-after out rest n leaves steps =
         let some : 0 < length steps.front = omega (arith, leaves.some, simp length-append at (ap length (sym leaves.is_front ∙ steps.is_front))) in
         let begins = front_is steps.front (chars rest) some (sym steps.is_front ∙ boundary.text) in
         let is = rw begins.1 at steps.is_front in
         record {
           front = boundary.first ∷ begins.0;
           is_front = is;
-          stands = stands-behind begins.0 (chars rest) is out (rw begins.1 at steps.stands);
-          joins = joins-behind p f x usable (chars text) begins.0 (chars rest) boundary is n (rw begins.1 at steps.joins);
+          stands = stands-after begins.0 (chars rest) is out (rw begins.1 at steps.stands);
+          joins = joins-after p f x usable (chars text) begins.0 (chars rest) boundary is n (rw begins.1 at steps.joins);
         }
 
     refused : Refuses f p there after [] text → Refuses f p start after x text
     refused refuses = cc (usable-alone p f boundary.first boundary.boundary boundary.sound)
 
-  -- what is done to a text behind all that was taken is done wherever the normalizer stands
+  -- what is done to a text after all that was taken is done wherever the normalizer stands
   pub steps-on : (formed : List ℕ) {old : Normalizer} {before : List ℕ} (r : Result Front Unsound) → IfOk r (Passes text)
       → ((f : Form) (x : List ℕ) (start : Start) → HasTaken f p old x → Holds start before (settled_text f p x) → Takes f p new start after formed x text r)
       → Stands f p old start before x (chars text) → Takes f p new start after formed x text r
@@ -137,7 +137,7 @@ module _ (p : Properties) (f : Form) (new : Normalizer) (start : Start) (after x
       (takes f [] (past start (encode_utf8_all (safe_form f p x))) between.anew (Holds-past (settled_text f p []) (settled_text-none f p) between.holds))
     where
       next : (r : Result Front Unsound) → IfOk r (Passes text) → Takes f p new (past start (encode_utf8_all (safe_form f p x))) after formed [] text r → Takes f p new start after formed x text r
-      next (Ok front) passes takes = steps-behind between.usable between.boundary (after ++ (front.same.now ++ formed)) front.rest.now (one_if front.joined) passes takes
+      next (Ok front) passes takes = steps-after between.usable between.boundary (after ++ (front.same.now ++ formed)) front.rest.now (one_if front.joined) passes takes
       next (Err stop) passes takes = refused between.usable between.boundary takes
 
 -- ---- one front after another
@@ -150,8 +150,8 @@ StepsTo-none stands = record {
   joins = rw append-nil (omega arith);
 }
 
-pub StepsTo-more : {f : Form} {p : Properties} {old new : Normalizer} {start : Start} {room out x text rest behind : List ℕ} {m n k : ℕ} → m + n ≡ k → (first : StepsTo f p old start room x text rest m) → StepsTo f p new start out (x ++ first.front) rest behind n
-    → StepsTo f p new start out x text behind k
+pub StepsTo-more : {f : Form} {p : Properties} {old new : Normalizer} {start : Start} {room out x text rest after : List ℕ} {m n k : ℕ} → m + n ≡ k → (first : StepsTo f p old start room x text rest m) → StepsTo f p new start out (x ++ first.front) rest after n
+    → StepsTo f p new start out x text after k
 StepsTo-more {x = x} sum first next = record {
   front = first.front ++ next.front;
   is_front = rw (first.is_front, next.is_front, append_assoc);
@@ -160,5 +160,5 @@ StepsTo-more {x = x} sum first next = record {
 }
 
 pub leaves-all : {text rest : List ℕ} {n : ℕ} (front : List ℕ) → IsUtf8 text → IsUtf8 rest → chars text ≡ front ++ chars rest → n ≤ length front → length rest < length text → Leaves text rest n
-leaves-all [] utf8 behind is few shorter = absurd (omega (arith, shorter, ap length (rw (is, encodes-chars _ behind) at (encodes-chars _ utf8))))
-leaves-all (c ∷ front) utf8 behind is few shorter = record { front = c ∷ front; some = omega arith; few = few; is_front = is; shorter = shorter }
+leaves-all [] utf8 after is few shorter = absurd (omega (arith, shorter, ap length (rw (is, encodes-chars _ after) at (encodes-chars _ utf8))))
+leaves-all (c ∷ front) utf8 after is few shorter = record { front = c ∷ front; some = omega arith; few = few; is_front = is; shorter = shorter }

@@ -37,14 +37,14 @@ pub record IsWithin (normalizer : Normalizer) : Type 0 where
   pub run : run_len normalizer.pending ≤ normalizer.counter
   pub bound : normalizer.counter ≤ 30
 
--- how long a run of n is behind a row
-abbrev pub run_behind : Properties → ℕ → List ℕ → ℕ
-run_behind p n row = if has_starter p row then trail p row else n + length row
+-- how long a run of n is after a row
+abbrev pub run_after : Properties → ℕ → List ℕ → ℕ
+run_after p n row = if has_starter p row then trail p row else n + length row
 
 -- there is room for the row of c, and what is counted is then within
 pub record HasRoom (p : Properties) (normalizer : Normalizer) (c : ℕ) : Type 0 where
   pub lead : run_len normalizer.pending + lead p (row_of normalizer.form p c) ≤ 30
-  pub run : run_behind p (run_len normalizer.pending) (row_of normalizer.form p c) ≤ normalizer.counter
+  pub run : run_after p (run_len normalizer.pending) (row_of normalizer.form p c) ≤ normalizer.counter
   pub bound : normalizer.counter ≤ 30
 
 -- the UTF-8 of what is settled of decomposed text
@@ -59,7 +59,7 @@ settled_text f p x = encode_utf8_all (settled f p x)
 abbrev pub Pushes : Form → Properties → Pending → Start → List ℕ → List ℕ → Type 0
 Pushes f p pending start room v = PendingStandsAfter f p pending v × Holds start room (front_utf8 f p v)
 
--- the joiner was pushed behind `w`, or it is unsound
+-- the joiner was pushed after `w`, or it is unsound
 abbrev pub PutsJoiner : Form → Properties → Pending → Start → List ℕ → List ℕ → Result (Unit {0}) Unsound → Type 0
 PutsJoiner f p pending start room w (Ok _) = (is_sound p joiner ≡ true) × Pushes f p pending start room (w ++ joiner ∷ [])
 PutsJoiner f p pending start room w (Err _) = (is_sound p joiner ≡ false) × Holds start room (front_utf8 f p w)
@@ -70,13 +70,13 @@ Parts f p normalizer start room x c (Ok joined) =
     HasParted f p normalizer x c × Holds start room (front_utf8 f p (decomposed f p (parted p (stream_safe p x) c))) × (joined ≡ is_too_long p (stream_safe p x) c)
 Parts f p normalizer start room x c (Err _) = (is_usable p (x ++ c ∷ []) ≡ false) × Holds start room (settled_text f p x)
 
--- the character c was taken behind x, and whether a joiner was put before it; or it is refused
+-- the character c was taken after x, and whether a joiner was put before it; or it is refused
 abbrev pub TakesChar : Form → Properties → Normalizer → Start → List ℕ → List ℕ → ℕ → Result Bool Unsound → Type 0
 TakesChar f p normalizer start room x c (Ok joined) =
     HasTaken f p normalizer (x ++ c ∷ []) × Holds start room (settled_text f p (x ++ c ∷ [])) × (joined ≡ is_too_long p (stream_safe p x) c)
 TakesChar f p normalizer start room x c (Err _) = (is_usable p (x ++ c ∷ []) ≡ false) × Holds start room (settled_text f p x)
 
--- so c was taken behind all that the normalizer had taken
+-- so c was taken after all that the normalizer had taken
 abbrev pub TakesNext : Properties → Normalizer → Normalizer → List ℕ → List ℕ → ℕ → Result Bool Unsound → Type 0
 TakesNext p old new before after c result =
     (f : Form) (x : List ℕ) (start : Start) → HasTaken f p old x → Holds start before (settled_text f p x) → TakesChar f p new start after x c result

@@ -17,7 +17,7 @@ pub record StopsIn (text rest : List ℕ) : Type 0 where
   pub some : 0 < length rest
   pub left : length rest ≤ length text
 
--- a front of the text is behind it, unless the rest is refused
+-- a front of the text is after it, unless the rest is refused
 abbrev pub StepsPast : List ℕ → Step → Type 0
 StepsPast text (Taken same rest put) = Leaves text rest.now put
 StepsPast text (Unsound rest) = StopsIn text rest.now
@@ -26,7 +26,7 @@ abbrev pub StaysWithin : Normalizer → Step → Type 0
 StaysWithin normalizer (Taken same rest put) = IsWithin normalizer
 StaysWithin normalizer (Unsound rest) = Unit {0}
 
--- a front of the text was taken, and the first character behind it cannot be used
+-- a front of the text was taken, and the first character after it cannot be used
 pub record RefusesRest (f : Form) (p : Properties) (start : Start) (room x text rest : List ℕ) : Type 0 where
   pub front : List ℕ
   pub is_front : chars text ≡ front ++ chars rest

@@ -1,4 +1,4 @@
-//! Plain ASCII: behind one such character that is pending alone, a run of it goes out as it stands, but for its last,
+//! Plain ASCII: after one such character that is pending alone, a run of it goes out as it stands, but for its last,
 //! which is pending then.
 use crate::normalizer::Normalizer;
 use crate::room::Room;
@@ -35,8 +35,8 @@ impl Normalizer {
         }
     }
 
-    /// Takes the first `len` bytes of the text, which are plain ASCII, behind `starter`, which is such and pending alone.
-    /// All but the last of them go out as they stand, behind what is in the room. Answers these, and what stands behind.
+    /// Takes the first `len` bytes of the text, which are plain ASCII, after `starter`, which is such and pending alone.
+    /// All but the last of them go out as they stand, after what is in the room. Answers these, and what follows.
     pub(crate) fn take_ascii<'t, R: Rows>(
         &mut self,
         _rows: &R,

@@ -3,12 +3,12 @@ use crate::front::Unsound;
 use crate::normalizer::Normalizer;
 use crate::pushing::{push, push_decomposition, push_of_class};
 use crate::room::Room;
-use nf_row::{Ends, JOINER, Rows, own_class, sound, sound_ends};
+use nf_row::{JOINER, NonStarters, Rows, own_class, sound, sound_non_starters};
 
 /// Each call answers whether U+034F was put before the character. Where it is unsound nothing is put.
 impl Normalizer {
     ghost use Rattle.std.specs.Prelude.{◌≡◌, ◌+◌, ◌*◌, ◌<◌, ◌≤◌, ℕ, List, length, IsTrue, OnOk};
-    ghost use Rattle.nf_row.specs.Ends.{HasEnds};
+    ghost use Rattle.nf_row.specs.NonStarters.{HasNonStarters};
     ghost use Rattle.nf_row.specs.Kind.{IsOwn};
     ghost use Rattle.nf_forms.specs.declared.form.Form.{Form};
     ghost use Rattle.nf_forms.specs.Sound.{is_sound};
@@ -49,7 +49,7 @@ impl Normalizer {
         ensures within { OnOk result (IsWithin self.new) }
         ensures takes { TakesNext (R.properties rows.now) self.old self.new room.old.items room.new.items c result }
     {
-        let joined = match self.make_room(rows, c, Ends::of_one(class == 0), room) {
+        let joined = match self.make_room(rows, c, NonStarters::of_one(class == 0), room) {
             Ok(joined) => joined,
             Err(unsound) => return Err(unsound),
         };
@@ -64,7 +64,7 @@ impl Normalizer {
         ensures within { OnOk result (IsWithin self.new) }
         ensures takes { TakesNext (R.properties rows.now) self.old self.new room.old.items room.new.items c result }
     {
-        let Some(compat) = sound_ends(rows, c) else {
+        let Some(compat) = sound_non_starters(rows, c) else {
             return Err(Unsound);
         };
         let joined = match self.make_room(rows, c, compat, room) {
@@ -82,10 +82,10 @@ impl Normalizer {
         &mut self,
         rows: &R,
         _c: char,
-        compat: Ends,
+        compat: NonStarters,
         room: &mut Room,
     ) -> Result<bool, Unsound>
-        requires compat { HasEnds (R.properties rows.now) ((R.properties rows.now).compat _c) compat }
+        requires compat { HasNonStarters (R.properties rows.now) ((R.properties rows.now).compat _c) compat }
         requires sound { IsTrue (is_sound (R.properties rows.now) _c) }
         requires within { IsWithin self.old }
         requires room { length room.old.items + 200 ≤ 4096 }

@@ -1,14 +1,14 @@
-//! What of a text is taken at once: what is closed, or a run of plain ASCII, or a character.
+//! What of a text is taken at once: segments, or a run of plain ASCII, or a character.
 use crate::normalizer::Normalizer;
 use crate::room::Room;
-use nf_row::{Closed, Formed, Kind, Rows};
+use nf_row::{Formed, Kind, Rows, Segments};
 use nf_utf8::ascii_prefix;
 
-/// Of a text of so many bytes no closed front is asked for: each of its characters goes the ordinary way for less.
-const FEW: usize = 4;
+/// The least bytes of a text of which segments are asked for: each character of a shorter one goes the ordinary way for less.
+const MIN_SEGMENT_LEN: usize = 5;
 
 /// The same of one that begins with plain ASCII, most of which is a run of that.
-const SHORT: usize = 128;
+const MIN_ASCII_SEGMENT_LEN: usize = 129;
 
 /// What was taken of a text. For it goes out first what the room holds, then `same`, which stands in the text as it is, and
 /// then what was put into the caller's `Formed`.
@@ -28,7 +28,7 @@ pub(crate) struct Unsound;
 impl Normalizer {
     ghost use Rattle.std.specs.Prelude.{◌≡◌, ◌+◌, ◌<◌, ◌≤◌, ℕ, List, [], length, Ok, IfSome, IsNone, IfOk, OnOk};
     ghost use Rattle.nf_forms.specs.declared.form.Form.{Form};
-    ghost use Rattle.nf_boundary.specs.Front.{IsClosedFront};
+    ghost use Rattle.nf_boundary.specs.Front.{IsFirstSegments};
     ghost use Rattle.nf_normalizer.specs.Room.{Start, Holds};
     ghost use Rattle.nf_normalizer.specs.Normalizer.{HasTaken, IsWithin, TakesNext, settled_text};
     ghost use Rattle.nf_normalizer.specs.Front.{Passes, Takes};
@@ -73,7 +73,7 @@ impl Normalizer {
         }
     }
 
-    /// Takes `c` where it is known to be its own row, and no closed text begins so, for to ask for a front of it would cost
+    /// Takes `c` where it is known to be its own row, and no segments begin so, for to ask for a front of it would cost
     /// more: a mark, or a starter that may compose with the one before.
     #[inline(always)]
     fn take_alone<R: Rows>(
@@ -100,7 +100,7 @@ impl Normalizer {
         }
     }
 
-    /// Takes a front that is closed, where to ask for that costs less than to do without, or a run of plain ASCII behind one
+    /// Takes segments, where to ask for them costs less than to do without, or a run of plain ASCII after one
     /// such character that is pending alone.
     #[inline(always)]
     fn take_many<'t, R: Rows>(
@@ -120,7 +120,7 @@ impl Normalizer {
             (f : Form) (x : List ℕ) (start : Start) → HasTaken f p self.old x → Holds start room.old.items (settled_text f p x)
             → IfSome result (λ front. Takes f p self.new start room.new.items formed.new.items x text.now (Ok front)) }
     {
-        if let Some(Closed { same, rest }) = self.closed_front(rows, text, formed) {
+        if let Some(Segments { same, rest }) = self.first_segments(rows, text, formed) {
             self.settle(rows, room);
             return Some(Front {
                 same,
@@ -144,25 +144,25 @@ impl Normalizer {
         })
     }
 
-    /// The closed front of a text, where to ask for that costs less than to do without.
+    /// The segments that a text begins with, where to ask for them costs less than to do without.
     #[inline(always)]
-    fn closed_front<'t, R: Rows>(
+    fn first_segments<'t, R: Rows>(
         &self,
         rows: &R,
         text: &'t str,
         formed: &mut Formed,
-    ) -> Option<Closed<'t>>
+    ) -> Option<Segments<'t>>
         requires { 0 < length text.now }
-        ensures { IfSome result (λ closed. IsClosedFront (R.properties rows.now) self.now.form text.now closed.same.now formed.new.items closed.rest.now) }
+        ensures { IfSome result (λ segments. IsFirstSegments (R.properties rows.now) self.now.form text.now segments.same.now formed.new.items segments.rest.now) }
     {
-        let few = if self.is_plain && text.as_bytes()[0] < 0x80 {
-            SHORT
+        let least = if self.is_plain && text.as_bytes()[0] < 0x80 {
+            MIN_ASCII_SEGMENT_LEN
         } else {
-            FEW
+            MIN_SEGMENT_LEN
         };
-        if text.len() <= few {
+        if text.len() < least {
             return None;
         }
-        rows.closed_front(self.form, text, formed)
+        rows.first_segments(self.form, text, formed)
     }
 }

@@ -6,7 +6,7 @@ ghost use Rattle.nf_forms.specs.Forms.{row_of};
 ghost use Rattle.nf_forms.specs.Sound.{is_sound};
 ghost use Rattle.nf_pending.specs.StandsAfter.{run_len, StandsAfter};
 ghost use Rattle.nf_normalizer.specs.Room.{Start, Holds};
-ghost use Rattle.nf_normalizer.specs.Normalizer.{run_behind, Pushes, front_utf8};
+ghost use Rattle.nf_normalizer.specs.Normalizer.{run_after, Pushes, front_utf8};
 
 use crate::room::Room;
 use nf_boundary::put_utf8;
@@ -25,7 +25,7 @@ pub fn push_decomposition<R: Rows>(
     requires sound { IsTrue (is_sound (R.properties rows.now) c) }
     requires lead { run_len pending.old + lead (R.properties rows.now) (row_of form (R.properties rows.now) c) ≤ 30 }
     requires room { length room.old.items + 4 * run_len pending.old + 72 ≤ 4096 }
-    ensures run { run_len pending.new ≡ run_behind (R.properties rows.now) (run_len pending.old) (row_of form (R.properties rows.now) c) }
+    ensures run { run_len pending.new ≡ run_after (R.properties rows.now) (run_len pending.old) (row_of form (R.properties rows.now) c) }
     ensures pushes { let p = R.properties rows.now in
         (f : Form) (w : List ℕ) (start : Start) → StandsAfter f p pending.old w → Holds start room.old.items (front_utf8 f p w)
         → Pushes f p pending.new start room.new.items (w ++ row_of form p c) }
@@ -54,7 +54,7 @@ pub fn push_members<R: Rows>(pending: &mut Pending, rows: &R, row: &[char], room
     requires few { length row.now ≤ 18 }
     requires lead { run_len pending.old + lead (R.properties rows.now) row.now ≤ 30 }
     requires room { length room.old.items + 4 * run_len pending.old + 72 ≤ 4096 }
-    ensures run { run_len pending.new ≡ run_behind (R.properties rows.now) (run_len pending.old) row.now }
+    ensures run { run_len pending.new ≡ run_after (R.properties rows.now) (run_len pending.old) row.now }
     ensures pushes { let p = R.properties rows.now in
         (f : Form) (w : List ℕ) (start : Start) → StandsAfter f p pending.old w → Holds start room.old.items (front_utf8 f p w)
         → Pushes f p pending.new start room.new.items (w ++ row.now) }

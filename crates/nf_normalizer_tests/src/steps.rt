@@ -64,7 +64,7 @@ fn steps_of<R: Rows>(
             break;
         }
         match one_step(rt, rows, &mut normalizer, rest, &mut so_far)? {
-            Some(behind) => rest = behind,
+            Some(after) => rest = after,
             None => return Ok(so_far),
         }
     }
@@ -111,7 +111,7 @@ fn steps_give_the_form_of_the_whole(rt: HostRuntime) -> Result<(), Fail> {
     Ok(())
 }
 
-/// By data that knows closed text, with plain ASCII and without, and by data that knows neither.
+/// By data that knows segments, with plain ASCII and without, and by data that knows neither.
 fn check_form(rt: &impl Abort, alloc: Global, form: Form, text: &str) -> Result<(), Fail> {
     let due = whole_form(alloc, form, text)?;
     let plain = Plain::of(&Ucd).ok_or("not plain")?;

@@ -1,5 +1,5 @@
 -- What a machine holds of the text that it stands after.
-use Rattle.nf_pending.proofs.Common.{◌≡◌, ℕ, Bool, true, false, leb, List, [], ◌∷◌, ◌++◌, length, Option, Some, None, refl, sym, ap, ◌∙◌, arith, append_assoc, map, IfSome, insert, is_some, is_none, unwrap_or, composes, finished, front-append-back, marks_push, closed_off, closed_off-group, next_composite, next_composite-none, settled_by, front-push_starter, back-push_starter, front-behind, back-behind, back-starter, back-empty, has_starter-head}
+use Rattle.nf_pending.proofs.Common.{◌≡◌, ℕ, Bool, true, false, leb, List, [], ◌∷◌, ◌++◌, length, Option, Some, None, refl, sym, ap, ◌∙◌, arith, append_assoc, map, IfSome, insert, is_some, is_none, unwrap_or, composes, finished, front-append-back, marks_push, closed_off, closed_off-group, next_composite, next_composite-none, settled_by, front-push_starter, back-push_starter, front-after, back-after, back-starter, back-empty, has_starter-head}
 use Rattle.std.proofs.lemmas.List.{append-nil, length-map, nil_from_length}
 use Rattle.std.specs.List.{prefix_len}
 use Rattle.std.proofs.Math.Bool.{or-false}
@@ -22,16 +22,16 @@ use Rattle.nf_pending.specs.StandsAfter.{StandsAfter}
 module _ (f : Form) (p : Properties) where
   module _ (pending : Pending) (w : List ℕ) (s : StandsAfter f p pending w) where
     back_held : back p (finished f p w) ≡ closed_off p (composes f) pending.starter (by_class p s.run)
-    back_held = cc (back-behind p (composes f) s.head s.run pending.starter s.ends s.marks (sym s.starter))
+    back_held = cc (back-after p (composes f) s.head s.run pending.starter s.ends s.marks (sym s.starter))
 
     pub starter_held : has_starter p w ≡ is_some pending.starter
     starter_held = cc (has_starter-append p s.head s.run, or-false (has_starter p s.head), has_starter-head p (composes f) s.head s.ends pending.starter (sym s.starter))
 
-    -- where no mark is held, what stands behind the front is the starter's alone
+    -- where no mark is held, what stands after the front is the starter's alone
     back_unmarked : length pending.marks.items ≡ 0 → back p (finished f p w) ≡ closed_off p (composes f) pending.starter []
     back_unmarked empty = rw (nil_from_length (by_class p s.run) (omega (arith, length-map (by_class p s.run) (mark_of p), ap (λ m. length m) s.held))) at back_held
 
-    -- a starter more composes with what is held as it does with what stands behind the front
+    -- a starter more composes with what is held as it does with what stands after the front
     composite_held : (c : ℕ) → composite_with p (composes f) pending.starter (closed_off p (composes f) pending.starter (by_class p s.run)) c ≡ next_composite p (composes f) (back p (finished f p w)) c
     composite_held c = rw back_held (at (composes f) pending.starter (λ k e. back-starter p (composes f) s.head s.ends k (sym s.starter ∙ e)))
       where
@@ -65,9 +65,9 @@ module _ (f : Form) (p : Properties) where
 
   pub settles_mark : (old : Pending) (w : List ℕ) (c : ℕ) → is_starter p c ≡ false → StandsAfter f p old w → front p (finished f p w) ≡ front p (finished f p (w ++ c ∷ []))
   settles_mark old w c mark s =
-      cc (append_assoc s.head s.run (c ∷ []), front-behind p (composes f) s.head s.run s.ends s.marks, front-behind p (composes f) s.head (s.run ++ c ∷ []) s.ends (marks_push p s.run c s.marks mark))
+      cc (append_assoc s.head s.run (c ∷ []), front-after p (composes f) s.head s.run s.ends s.marks, front-after p (composes f) s.head (s.run ++ c ∷ []) s.ends (marks_push p s.run c s.marks mark))
 
-  -- a machine without marks, behind a text that ends in none
+  -- a machine without marks, after a text that ends in none
   pub stands_unmarked : (new : Pending) (v : List ℕ) → trail p v ≡ 0 → new.composes ≡ composes f → option_to_list new.starter ≡ back p (finished f p v) → new.marks.items ≡ [] → StandsAfter f p new v
   unfolding by_class
   stands_unmarked new v ends form starter empty = record { head = v; run = []; text = sym (append-nil v); ends = ends; marks = refl; composes = form; starter = starter; held = empty }
@@ -80,7 +80,7 @@ module _ (f : Form) (p : Properties) where
   pub stands_new : (pending : Pending) → pending.composes ≡ composes f → pending.starter ≡ None → pending.marks.items ≡ [] → StandsAfter f p pending []
   stands_new pending form starter empty = stands_unmarked pending [] refl form (rw (starter, back-empty p (composes f))) empty
 
-  -- a starter that is held alone is all that stands behind the front
+  -- a starter that is held alone is all that stands after the front
   pub back_alone : (pending : Pending) (w : List ℕ) → StandsAfter f p pending w → length pending.marks.items ≡ 0 → IfSome pending.starter (λ a. back p (finished f p w) ≡ a ∷ [])
   back_alone pending w s empty = at (composes f) pending.starter (back_unmarked pending w s empty)
     where

@@ -9,7 +9,7 @@ ghost use Rattle.nf_forms.specs.Parting.{BeginsAnew};
 ghost use Rattle.nf_pending.specs.declared.pending.Pending.{Pending};
 ghost use Rattle.nf_pending.specs.StandsAfter.{StandsAfter};
 
-/// What has settled is never taken back: whatever comes behind a decomposed text, the front of its form stays as a
+/// What has settled is never taken back: whatever comes after a decomposed text, the front of its form stays as a
 /// beginning of the front.
 pub fn front_only_grows()
     ensures { (f : Form) (p : Properties) (w v : List ℕ)
@@ -22,7 +22,7 @@ pub fn pending_is_bounded()
         → trail p w ≤ 30 → length (finished f p w) ≤ length (front p (finished f p w)) + 31 }
 {}
 
-/// A machine that has taken the decomposition of a character that begins anew, and what came behind that, stands after
+/// A machine that has taken the decomposition of a character that begins anew, and what came after that, stands after
 /// any text with these at its end: so a new machine can go on there (UAX #15, section 9).
 pub fn a_machine_may_begin_anew()
     ensures { (f : Form) (p : Properties) (pending : Pending) (w v : List ℕ) (c : ℕ) → BeginsAnew p f c

@@ -78,9 +78,9 @@ fn check<T: Abort + Alloc, R: Rows>(
             } else {
                 pushed(rt, rows, &mut pending, text)?
             };
-            let behind = ended(rt, rows, pending)?;
+            let after = ended(rt, rows, pending)?;
             assert_eq!(rt;
-                (before.as_str(), behind.as_str()),
+                (before.as_str(), after.as_str()),
                 (*settled, *rest),
                 "{text:?} in {form:?}"
             );
@@ -233,19 +233,19 @@ fn a_starter_alone_is_told(rt: HostRuntime) -> Result<(), Fail> {
 
 #[test]
 fn a_machine_goes_on_at_a_starter(rt: HostRuntime) -> Result<(), Fail> {
-    // What was held, the starter, what comes behind it, what that settles, and what the end gives.
+    // What was held, the starter, what comes after it, what that settles, and what the end gives.
     let cases = [
         ("", 'a', "", "", "a"),
         ("x\u{301}", 'a', "\u{301}", "", "\u{E1}"),
         ("x\u{301}\u{323}", 'a', "b\u{301}", "a", "b\u{301}"),
         ("\u{1112}", '\u{1100}', "\u{1161}", "", "\u{AC00}"),
     ];
-    for (held, starter, behind, settled, rest) in cases {
+    for (held, starter, after, settled, rest) in cases {
         let mut pending = Pending::new(Form::Nfc);
         pushed(&rt, &Ucd, &mut pending, held)?;
         pending.stand_at(starter);
         assert_eq!(rt; (pending.alone(), pending.run_len()), (Some(starter), 0));
-        let given = pushed(&rt, &Ucd, &mut pending, behind)?;
+        let given = pushed(&rt, &Ucd, &mut pending, after)?;
         let last = ended(&rt, &Ucd, pending)?;
         assert_eq!(rt;
             (given.as_str(), last.as_str()),

@@ -1,7 +1,7 @@
 pub mod Changes
 pub mod Patched
 pub mod Kind
-pub mod Ends
+pub mod NonStarters
 pub mod Shape
 pub mod Ascii
 pub mod Plain

@@ -4,14 +4,14 @@ use Rattle.nf_row.specs.declared.soundness.Shape.{Shape}
 use Rattle.nf_forms.specs.Properties.{Properties}
 use Rattle.nf_forms.specs.StreamSafe.{joiner}
 use Rattle.nf_forms.specs.Sound.{max_row}
-use Rattle.nf_row.specs.Ends.{HasEnds}
+use Rattle.nf_row.specs.NonStarters.{HasNonStarters}
 
 -- this is the shape of w, a row of at most 18 members
 pub record IsShapeOf (p : Properties) (w : List ℕ) (shape : Shape) : Type 0 where
   pub few : length w ≤ max_row
   pub is_empty : shape.is_empty ≡ (length w == 0)
   pub is_joiner : shape.is_joiner ≡ bytes_eq w (joiner ∷ [])
-  pub ends : HasEnds p w shape.ends
+  pub ends : HasNonStarters p w shape.ends
 
 -- what soundness asks of two such rows, but for the joiner
 abbrev pub shapes_agree : Shape → Shape → Bool

@@ -102,7 +102,7 @@ fn is_own_row<R: Rows>(rows: &R, form: Form, c: char) -> bool
     }
 }
 
-/// The compatibility rows of the members, one behind the other. None where they have more than 18 members together.
+/// The compatibility rows of the members, one after the other. None where they have more than 18 members together.
 fn joined<R: Rows>(rows: &R, row: &Row) -> Option<Row>
     ensures some { IfSome result (λ joined. joined.items ≡ flat_map (R.properties rows.now).compat row.now.items) }
     ensures none { IsNone result → 18 < length (flat_map (R.properties rows.now).compat row.now.items) }

@@ -7,10 +7,10 @@
 
 mod auditing;
 mod composites;
-mod ends;
 mod facts;
 mod kind;
 mod known;
+mod non_starters;
 mod ordering;
 mod own;
 mod patched;
@@ -23,18 +23,18 @@ mod unsound;
 
 pub use auditing::audit;
 pub use composites::composite;
-pub use ends::Ends;
 pub use facts::Facts;
 pub use kind::Kind;
-pub use nf_boundary::{Closed, Formed};
-pub use nf_calm::Calm;
+pub use nf_boundary::{Formed, Segments};
 pub use nf_counts::{Counted, Counts};
 pub use nf_forms::{Form, JOINER};
+pub use nf_span::Span;
+pub use non_starters::NonStarters;
 pub use own::own_class;
 pub use patched::{Change, Patched};
 pub use plain::Plain;
 pub use rows::{Long, Row, Rows};
 pub use runs::{has_starter, lead, trail};
-pub use soundness::{SoundRow, sound, sound_ends, sound_row};
+pub use soundness::{SoundRow, sound, sound_non_starters, sound_row};
 pub use ucd::Ucd;
 pub use unsound::{Rule, Unsound};

@@ -3,8 +3,8 @@ ghost use Rattle.std.specs.List.{list_all};
 ghost use Rattle.std.specs.Str.{IsCharBoundary};
 ghost use Rattle.nf_forms.specs.Properties.{Properties};
 ghost use Rattle.nf_forms.specs.Forms.{row_of};
-ghost use Rattle.nf_calm.specs.Front.{IsCalmFront};
-ghost use Rattle.nf_boundary.specs.Front.{IsClosedFront};
+ghost use Rattle.nf_span.specs.Front.{IsFirstSpan};
+ghost use Rattle.nf_boundary.specs.Front.{IsFirstSegments};
 ghost use Rattle.nf_row.specs.Kind.{IsKind};
 ghost use Rattle.nf_row.specs.Facts.{AreFacts};
 ghost use Rattle.nf_counts.specs.Counts.{IsCountedFront};
@@ -12,10 +12,10 @@ ghost use Rattle.nf_counts.specs.Counts.{IsCountedFront};
 use crate::facts::Facts;
 use crate::kind::Kind;
 use arrayvec::ArrayVec;
-use nf_boundary::{Closed, Formed};
-use nf_calm::Calm;
+use nf_boundary::{Formed, Segments};
 use nf_counts::Counted;
 use nf_forms::Form;
+use nf_span::Span;
 
 /// The full decomposition of one character: at most 18 code points, which is the most that one of Unicode's has.
 pub type Row = ArrayVec<char, 18>;
@@ -88,25 +88,25 @@ pub trait Rows {
         Counted::none(text)
     }
 
-    /// The calm front of the text in that form, as far as it is known. Data of which nothing is known leaves it out.
+    /// The span that the text begins with in that form, as far as it is known. Data of which nothing is known leaves it out.
     #[inline]
-    fn calm_front<'t>(&self, _form: Form, text: &'t str) -> Calm<'t>
-        ensures { IsCalmFront (properties self.now) _form text.now result.settled.now result.tail.now result.rest.now }
+    fn first_span<'t>(&self, _form: Form, text: &'t str) -> Span<'t>
+        ensures { IsFirstSpan (properties self.now) _form text.now result.settled.now result.tail.now result.rest.now }
     {
-        Calm::none(text)
+        Span::none(text)
     }
 
     /// A front of the text that ends before a normalization boundary (UAX #15, section 9), as far as one is known. What of
     /// its form does not stand in the text is put in place of what `_formed` holds. Data of which nothing is known leaves it
     /// out.
     #[inline]
-    fn closed_front<'t>(
+    fn first_segments<'t>(
         &self,
         _form: Form,
         _text: &'t str,
         _formed: &mut Formed,
-    ) -> Option<Closed<'t>>
-        ensures { IfSome result (λ closed. IsClosedFront (properties self.now) _form _text.now closed.same.now _formed.new.items closed.rest.now) }
+    ) -> Option<Segments<'t>>
+        ensures { IfSome result (λ segments. IsFirstSegments (properties self.now) _form _text.now segments.same.now _formed.new.items segments.rest.now) }
     {
         None
     }

@@ -1,10 +1,10 @@
 ghost use Rattle.std.specs.Prelude.{◌≡◌, ◌==◌, ◌&&◌, is_some, IfSome, IsTrue};
 ghost use Rattle.nf_forms.specs.StreamSafe.{joiner};
-ghost use Rattle.nf_row.specs.Ends.{HasEnds};
+ghost use Rattle.nf_row.specs.NonStarters.{HasNonStarters};
 ghost use Rattle.nf_row.specs.Shape.{IsShapeOf, shapes_agree};
 ghost use Rattle.nf_forms.specs.Sound.{is_sound};
 
-use crate::ends::Ends;
+use crate::non_starters::NonStarters;
 use crate::rows::{Row, Rows};
 use nf_forms::{Form, JOINER};
 
@@ -12,7 +12,7 @@ use nf_forms::{Form, JOINER};
 #[derive(Debug, Drop)]
 pub struct SoundRow {
     pub row: Row,
-    pub ends: Ends,
+    pub ends: NonStarters,
 }
 
 /// What soundness asks of one row.
@@ -20,7 +20,7 @@ pub struct SoundRow {
 struct Shape {
     is_empty: bool,
     is_joiner: bool,
-    ends: Ends,
+    ends: NonStarters,
 }
 
 /// Whether `c` is sound: both rows have 1 to 18 members, the canonical row begins and ends with no more non-starters
@@ -34,14 +34,14 @@ pub fn sound<R: Rows>(rows: &R, c: char) -> bool
 
 /// The ends of the compatibility row of a sound character, and none of any other. No row is copied where all characters are
 /// known to be sound and the data lends its rows.
-pub fn sound_ends<R: Rows>(rows: &R, c: char) -> Option<Ends>
+pub fn sound_non_starters<R: Rows>(rows: &R, c: char) -> Option<NonStarters>
     ensures sound { is_some result ≡ is_sound (R.properties rows.now) c }
-    ensures ends { IfSome result (λ ends. HasEnds (R.properties rows.now) ((R.properties rows.now).compat c) ends) }
+    ensures ends { IfSome result (λ ends. HasNonStarters (R.properties rows.now) ((R.properties rows.now).compat c) ends) }
 {
     if rows.known().sound {
         let mut room = [c; 3];
         if let Some(row) = rows.lent_row(Form::Nfkd, c, &mut room) {
-            return Some(Ends::of_members(rows, row));
+            return Some(NonStarters::of_members(rows, row));
         }
     }
     match sound_row(rows, c) {
@@ -55,13 +55,13 @@ pub fn sound_ends<R: Rows>(rows: &R, c: char) -> Option<Ends>
 pub fn sound_row<R: Rows>(rows: &R, c: char) -> Option<SoundRow>
     ensures sound { is_some result ≡ is_sound (R.properties rows.now) c }
     ensures row { IfSome result (λ read. read.row.items ≡ (R.properties rows.now).compat c) }
-    ensures ends { IfSome result (λ read. HasEnds (R.properties rows.now) ((R.properties rows.now).compat c) read.ends) }
+    ensures ends { IfSome result (λ read. HasNonStarters (R.properties rows.now) ((R.properties rows.now).compat c) read.ends) }
 {
     if !rows.known().sound {
         return read_row(rows, c);
     }
     let row = rows.compat(c).ok()?;
-    let ends = Ends::of_row(rows, &row);
+    let ends = NonStarters::of_row(rows, &row);
     Some(SoundRow { row, ends })
 }
 
@@ -69,7 +69,7 @@ pub fn sound_row<R: Rows>(rows: &R, c: char) -> Option<SoundRow>
 fn read_row<R: Rows>(rows: &R, c: char) -> Option<SoundRow>
     ensures sound { is_some result ≡ is_sound (R.properties rows.now) c }
     ensures row { IfSome result (λ read. read.row.items ≡ (R.properties rows.now).compat c) }
-    ensures ends { IfSome result (λ read. HasEnds (R.properties rows.now) ((R.properties rows.now).compat c) read.ends) }
+    ensures ends { IfSome result (λ read. HasNonStarters (R.properties rows.now) ((R.properties rows.now).compat c) read.ends) }
 {
     let canonical = shape_of(rows, &rows.canonical(c).ok()?);
     let row = rows.compat(c).ok()?;
@@ -121,6 +121,6 @@ fn shape_of<R: Rows>(rows: &R, row: &Row) -> Shape
     Shape {
         is_empty: row.is_empty(),
         is_joiner: row.as_slice() == [JOINER].as_slice(),
-        ends: Ends::of_row(rows, row),
+        ends: NonStarters::of_row(rows, row),
     }
 }

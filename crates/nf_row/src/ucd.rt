@@ -7,10 +7,10 @@ use crate::kind::Kind;
 use crate::known::kind_of;
 use crate::rows::{Long, Row, Rows, row_from};
 use nf_assigned::assigned_front;
-use nf_boundary::{Closed, Formed, closed_front};
-use nf_calm::{Calm, calm_front};
+use nf_boundary::{Formed, Segments, first_segments};
 use nf_counts::{Counted, counted_front};
 use nf_facts::laws;
+use nf_span::{Span, first_span};
 use unicode::properties::GeneralCategory;
 use unicode_normalization::{Form, char as lookup};
 
@@ -82,18 +82,18 @@ impl Rows for Ucd {
     }
 
     #[inline]
-    fn calm_front<'t>(&self, form: nf_forms::Form, text: &'t str) -> Calm<'t> {
-        calm_front(form, text)
+    fn first_span<'t>(&self, form: nf_forms::Form, text: &'t str) -> Span<'t> {
+        first_span(form, text)
     }
 
     #[inline]
-    fn closed_front<'t>(
+    fn first_segments<'t>(
         &self,
         form: nf_forms::Form,
         text: &'t str,
         formed: &mut Formed,
-    ) -> Option<Closed<'t>> {
-        closed_front(form, text, formed)
+    ) -> Option<Segments<'t>> {
+        first_segments(form, text, formed)
     }
 
     #[inline]

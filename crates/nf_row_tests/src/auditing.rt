@@ -174,10 +174,10 @@ fn has_row_within(c: char) -> bool {
     let mut rest = decomposition(c, TableForm::Nfkd, &mut second);
     for m in decomposition(c, TableForm::Nfd, &mut first) {
         let mut room = [*m; 3];
-        let Some(behind) = rest.strip_prefix(decomposition(*m, TableForm::Nfkd, &mut room)) else {
+        let Some(after) = rest.strip_prefix(decomposition(*m, TableForm::Nfkd, &mut room)) else {
             return false;
         };
-        rest = behind;
+        rest = after;
     }
     rest.is_empty()
 }

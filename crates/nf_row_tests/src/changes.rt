@@ -1,5 +1,5 @@
 use nf_row::Change::{Assigned, Canonical, Class, Compat, Pair};
-use nf_row::{Change, Ends, Patched, Rows, Ucd, composite, has_starter, lead, trail};
+use nf_row::{Change, NonStarters, Patched, Rows, Ucd, composite, has_starter, lead, trail};
 use std::process::Abort;
 use std::test::Fail;
 
@@ -7,7 +7,7 @@ const MARK: char = '\u{301}';
 
 const NINETEEN: [char; 19] = ['a'; 19];
 
-/// What is said of `c`, and of it with a mark behind: its class, the first member of either row (none of a row that is
+/// What is said of `c`, and of it with a mark after: its class, the first member of either row (none of a row that is
 /// too long), what the table of composites has, and whether it is assigned.
 type Answers = (u8, Option<char>, Option<char>, Option<char>, bool);
 
@@ -79,7 +79,7 @@ fn runs_of_a_row(rt: HostRuntime) -> Result<(), Fail> {
         let changes = [Compat('x', members)];
         let rows = Patched::new(&changes);
         let row = rows.compat('x').ok().ok_or("too long")?;
-        let both = Ends::of_row(&rows, &row);
+        let both = NonStarters::of_row(&rows, &row);
         assert_eq!(rt;
             (
                 lead(&rows, &row),

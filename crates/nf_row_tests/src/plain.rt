@@ -14,7 +14,7 @@ fn the_data_of_unicode_is_plain(rt: HostRuntime) {
     assert!(rt; is_plain(Pair('q', '\u{301}', Some('\u{323}'))));
 }
 
-/// U+0080 is the first character behind ASCII.
+/// U+0080 is the first character after ASCII.
 #[test]
 fn one_change_in_ascii_is_seen(rt: HostRuntime) {
     for (c, plain) in [

@@ -1,6 +1,6 @@
 use crate::parts::{Broken, broken_parts};
 use nf_row::Change::{Canonical, Class, Compat};
-use nf_row::{Ends, JOINER, Patched, Rows, Ucd, sound, sound_ends, sound_row};
+use nf_row::{JOINER, NonStarters, Patched, Rows, Ucd, sound, sound_non_starters, sound_row};
 use std::test::Fail;
 use unicode_normalization::Form as TableForm;
 use unicode_normalization::char::decomposition;
@@ -14,7 +14,8 @@ const EIGHTEEN: [char; 18] = ['a'; 18];
 /// Whether each way to ask it says that the character is sound; none where they differ.
 fn says_sound<R: Rows>(rows: &R, c: char) -> Option<bool> {
     let says = sound(rows, c);
-    let agree = sound_row(rows, c).is_some() == says && sound_ends(rows, c).is_some() == says;
+    let agree = sound_row(rows, c).is_some() == says
+        && sound_non_starters(rows, c).is_some() == says;
     agree.then_some(says)
 }
 
@@ -109,13 +110,13 @@ fn a_sound_character_comes_with_its_row_and_ends(rt: HostRuntime) -> Result<(), 
     for (c, row, ends) in cases {
         let read = sound_row(&Ucd, c).ok_or("unsound")?;
         assert_eq!(rt; (read.row.as_slice(), numbers(read.ends)), (row, ends));
-        let told = sound_ends(&Ucd, c).ok_or("unsound")?;
-        let copied = sound_ends(&Patched::new(&[]), c).ok_or("unsound")?;
+        let told = sound_non_starters(&Ucd, c).ok_or("unsound")?;
+        let copied = sound_non_starters(&Patched::new(&[]), c).ok_or("unsound")?;
         assert_eq!(rt; (numbers(told), numbers(copied)), (ends, ends));
     }
     Ok(())
 }
 
-fn numbers(ends: Ends) -> (bool, usize, usize) {
+fn numbers(ends: NonStarters) -> (bool, usize, usize) {
     (ends.has_starter, ends.lead, ends.trail)
 }

@@ -1,4 +1,4 @@
-use nf_row::{Change, Ends, Form, Kind, Patched, Rows, Ucd, composite, own_class};
+use nf_row::{Change, Form, Kind, NonStarters, Patched, Rows, Ucd, composite, own_class};
 use std::process::Abort;
 use std::test::Fail;
 
@@ -195,7 +195,7 @@ fn own_classes(rt: HostRuntime) {
 #[test]
 fn ends_of_one_member(rt: HostRuntime) {
     for (starts, marks) in [(true, 0), (false, 1)] {
-        let ends = Ends::of_one(starts);
+        let ends = NonStarters::of_one(starts);
         assert_eq!(rt;
             (ends.has_starter, ends.lead, ends.trail),
             (starts, marks, marks)

@@ -1,5 +1,5 @@
 -- A checker's steps.
-use Rattle.nf_safe.proofs.Common.{◌≡◌, ℕ, ◌+◌, ◌≤◌, true, false, not, List, [], ◌∷◌, ◌++◌, length, Some, None, is_some, encode_utf8, encode_utf8_all, sym, ap, ◌∙◌, arith, append_assoc, if◌then◌else◌, length-append, encodes-append, cond-true, cond-false, run-behind, Properties, Nfkd, trail, decomposed, is_sound, passes, count_step, is_in_format, place_from, count_step-within, trail-decomposed-counted, is_in_format-push, is_in_format-join, is_in_format-short, trail-in_format, decomposed-append, max_run, place_from-in_format, place_from-at, place_from-stays}
+use Rattle.nf_safe.proofs.Common.{◌≡◌, ℕ, ◌+◌, ◌≤◌, true, false, not, List, [], ◌∷◌, ◌++◌, length, Some, None, is_some, encode_utf8, encode_utf8_all, sym, ap, ◌∙◌, arith, append_assoc, if◌then◌else◌, length-append, encodes-append, cond-true, cond-false, run-after, Properties, Nfkd, trail, decomposed, is_sound, passes, count_step, is_in_format, place_from, count_step-within, trail-decomposed-counted, is_in_format-push, is_in_format-join, is_in_format-short, trail-in_format, decomposed-append, max_run, place_from-in_format, place_from-at, place_from-stays}
 use Rattle.std.specs.Prelude.{IsNone, chars}
 use Rattle.nf_counts.specs.Counts.{IsCountedFront}
 use Rattle.nf_counts.specs.declared.counted.Counted.{Counted}
@@ -52,7 +52,7 @@ module _ {base : ℕ} {p : Properties} {old : Checker} {x : List ℕ} (before : 
         (omega (arith, before.offset none, ap length (encodes-append x (c ∷ [])), length-append (encode_utf8_all x) (encode_utf8 c ++ []), length-append (encode_utf8 c) []))
         (rw (trail-decomposed-counted p x c, ← before.count none, ← count_step-within p old.counter (p.compat c) short) count)
 
--- behind a front of which the non-starters are counted
+-- after a front of which the non-starters are counted
 pub goes_on-counted : {base : ℕ} {p : Properties} {old new : Checker} {x : List ℕ} {room : ℕ} {text : List ℕ} {counted : Counted} → StandsAfter base p old x → IsCountedFront p room text counted → IsFront p text counted
     → old.counter + counted.counts.lead ≤ max_run → place_of old ≡ None → new.is_over ≡ old.is_over → new.reached.chars ≡ old.reached.chars + length (chars counted.front.now)
     → new.reached.bytes ≡ old.reached.bytes + length counted.front.now → new.counter ≡ (if counted.counts.has_starter then counted.counts.trail else old.counter + counted.counts.lead) → HasSeen base p new x text counted.rest.now
@@ -75,10 +75,10 @@ goes_on-counted {base} {p} {old} {new} {x} {room} {text} {counted} before is at 
 pub goes_on_from : {base : ℕ} {p : Properties} {old end new : Checker} {x y z : List ℕ} → StandsAfter base p old x → StandsAfter (base + length (encode_utf8_all (x ++ y))) p end z
     → CountsFromEnd p y z → place_of old ≡ None → place_of end ≡ None → new.is_over ≡ old.is_over → new.reached.chars ≡ old.reached.chars + length (y ++ z)
     → new.reached.bytes ≡ end.reached.bytes → new.counter ≡ end.counter → StandsAfter base p new (x ++ (y ++ z))
-goes_on_from {base} {p} {old} {end} {new} {x} {y} {z} before behind anew on alone same chars bytes count =
+goes_on_from {base} {p} {old} {end} {new} {x} {y} {z} before after anew on alone same chars bytes count =
     let none = ap is_some on in
     let inside = before.in_format none in
     stands_on (grind arith) (is_in_format-join p x (y ++ z) inside anew.in_format (omega (arith, trail-in_format p x inside)))
     (omega (arith, before.chars none, length-append x (y ++ z)))
-    (omega (arith, behind.offset (ap is_some alone), ap (λ w. length (encode_utf8_all w)) (append_assoc x y z), ap length (encodes-append (x ++ y) z), length-append (encode_utf8_all (x ++ y)) (encode_utf8_all z)))
-    (count ∙ behind.count (ap is_some alone) ∙ sym (ap (λ w. trail p (decomposed Nfkd p w)) (sym (append_assoc x y z)) ∙ run-behind p (x ++ y) z anew.some))
+    (omega (arith, after.offset (ap is_some alone), ap (λ w. length (encode_utf8_all w)) (append_assoc x y z), ap length (encodes-append (x ++ y) z), length-append (encode_utf8_all (x ++ y)) (encode_utf8_all z)))
+    (count ∙ after.count (ap is_some alone) ∙ sym (ap (λ w. trail p (decomposed Nfkd p w)) (sym (append_assoc x y z)) ∙ run-after p (x ++ y) z anew.some))

@@ -2,7 +2,7 @@
 use Rattle.nf_safe.proofs.Common.{◌≡◌, ℕ, ◌+◌, ◌≤◌, longest, max_run, ◌==◌, not, Bool, true, cond, List, [], ◌∷◌, ◌++◌, length, encode_utf8, encode_utf8_all, refl, sym, ap, ◌∙◌, subst, arith, if◌then◌else◌, length-append, eqb-true, count_by, and_parts, and_from, sum_by-append, encodes-append, Properties, Nfkd, trail, decomposed, joiner, is_too_long, stream_safe, is_sound, IsSoundText, JoinerIsPlain-from_sound, longest-order, stream_safe-push, decomposed-append, decomposed-push, passes, count_step, trail-decomposed-safe_step, length-stream_safe-ge, HasRuns, is_in_format-stream_safe, is_in_format-join, is_in_format-short}
 use Rattle.std.specs.List.{list_all}
 use Rattle.std.proofs.lemmas.List.Folds.{sum_by-zero}
-use Rattle.nf_forms.specs.Laws.Closed.{sound-append}
+use Rattle.nf_forms.specs.Laws.Segments.{sound-append}
 use Rattle.nf_counts.specs.Counts.{IsCountedFront}
 use Rattle.nf_counts.specs.declared.counted.Counted.{Counted}
 use Rattle.nf_safe.proofs.CountedLemmas.{IsFront, each}
@@ -25,7 +25,7 @@ pub same_values : {a b c d e f k l m n o q : ℕ} → a ≡ k → b ≡ l → c 
 same_values bytes chars nonstarters longest put unassigned = cc
 
 module _ {p : Properties} {old : Measurer} {x : List ℕ} (before : StandsAfter p old x) where
-  -- what is measured with the characters y behind
+  -- what is measured with the characters y after
   values_with : (new : Measurer) (y : List ℕ) → HasRuns p new.runs (decomposed Nfkd p (x ++ y)) → new.bytes ≡ old.bytes + length (encode_utf8_all y) → new.chars ≡ old.chars + length y
       → new.put + length (stream_safe p x) + length y ≡ old.put + length (stream_safe p (x ++ y)) → new.unassigned ≡ old.unassigned + count_by (λ c. not (p.assigned c)) y
       → values_of new ≡ measure_of p (x ++ y)
@@ -58,7 +58,7 @@ module _ {p : Properties} {old : Measurer} {x : List ℕ} (before : StandsAfter 
         runs = runs_are;
       }
 
--- behind a front of which the non-starters are counted
+-- after a front of which the non-starters are counted
 pub goes_on-counted : {p : Properties} {old new : Measurer} {x : List ℕ} {room : ℕ} {text : List ℕ} {counted : Counted} → StandsAfter p old x → IsCountedFront p room text counted → IsFront p text counted
     → old.counter + counted.counts.lead ≤ max_run → new.counter ≡ (if counted.counts.has_starter then counted.counts.trail else old.counter + counted.counts.lead)
     → HasRuns p new.runs (decomposed Nfkd p x ++ decomposed Nfkd p (chars counted.front.now)) → new.bytes ≡ old.bytes + length counted.front.now → new.chars ≡ old.chars + length (chars counted.front.now)

@@ -26,7 +26,7 @@ pub record StandsAfter (base : ℕ) (p : Properties) (checker : Checker) (x : Li
   pub chars : IsNone (place_of checker) → checker.reached.chars ≡ length x
   pub count : IsNone (place_of checker) → checker.counter ≡ trail p (decomposed Nfkd p x)
 
--- behind x it has seen a front of the text, all of it sound, and this is the rest
+-- after x it has seen a front of the text, all of it sound, and this is the rest
 pub record HasSeen (base : ℕ) (p : Properties) (checker : Checker) (x text rest : List ℕ) : Type 0 where
   pub front : List ℕ
   pub is_front : chars text ≡ front ++ chars rest

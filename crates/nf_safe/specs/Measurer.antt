@@ -32,7 +32,7 @@ pub record StandsAfter (p : Properties) (measurer : Measurer) (x : List ℕ) : T
   pub count : measurer.counter ≡ trail p (decomposed Nfkd p (stream_safe p x))
   pub runs : HasRuns p measurer.runs (decomposed Nfkd p x)
 
--- behind x it has seen a front of the text, and this is the rest
+-- after x it has seen a front of the text, and this is the rest
 pub record HasSeen (p : Properties) (measurer : Measurer) (x text rest : List ℕ) : Type 0 where
   pub front : List ℕ
   pub is_front : chars text ≡ front ++ chars rest

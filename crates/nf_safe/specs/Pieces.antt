@@ -11,7 +11,7 @@ IsGreedyCut p x [] = x ≡ []
 IsGreedyCut p x (piece ∷ pieces) = (rest : List ℕ) × (x ≡ piece ++ rest) × (0 < length piece)
     × (length piece ≡ longest_front (is_in_format p) x) × IsGreedyCut p rest pieces
 
--- the pieces one behind the other, with a joiner between each two
+-- the pieces one after the other, with a joiner between each two
 abbrev pub rejoined : List (List ℕ) → List ℕ
 rejoined [] = []
 rejoined (piece ∷ []) = piece

@@ -16,7 +16,7 @@ is_in_format p x = nat_le (longest p (normal_form Nfkd p x)) max_run
 abbrev pub place : Properties → List ℕ → Option ℕ
 place p x = if longest_front (is_in_format p) x == length x then None else Some (longest_front (is_in_format p) x)
 
--- behind n characters of x, the first byte of which has the offset base
+-- after n characters of x, the first byte of which has the offset base
 abbrev pub place_at : ℕ → List ℕ → ℕ → Place
 place_at base x n = record { chars = n; bytes = base + length (encode_utf8_all (take n x)) }
 

@@ -2,7 +2,7 @@ ghost use Rattle.std.specs.Prelude.{◌≤◌};
 
 use crate::counter::Counter;
 use crate::place::Place;
-use nf_row::{Rows, Rule, Unsound, sound_ends};
+use nf_row::{Rows, Rule, Unsound, sound_non_starters};
 use nf_utf8::char_count;
 
 /// Finds where a text leaves the Stream-Safe Text Format, character by character.
@@ -64,7 +64,7 @@ impl Checker {
         if self.is_over {
             return Ok(Some(self.reached));
         }
-        let Some(ends) = sound_ends(rows, c) else {
+        let Some(ends) = sound_non_starters(rows, c) else {
             return Err(Unsound { c, rule: Rule::A1 });
         };
         if self.counter.step_by(ends) {
@@ -80,7 +80,7 @@ impl Checker {
     }
 
     /// Sees the front of the text of which the non-starters are known by one look-up for each character (`Rows::counted_front`),
-    /// and at which the text does not leave the format. Answers what stands behind.
+    /// and at which the text does not leave the format. Answers what follows.
     #[inline]
     pub fn see_counted<'t, R: Rows>(&mut self, rows: &R, text: &'t str) -> &'t str
         requires none { place_of self.old ≡ None }
@@ -100,7 +100,7 @@ impl Checker {
         counted.rest
     }
 
-    /// Goes on behind `chars` more characters, all of them in the format: their last ones `end` has seen, and the count
+    /// Goes on after `chars` more characters, all of them in the format: their last ones `end` has seen, and the count
     /// begins anew before those. The others need not be seen.
     #[inline]
     pub fn go_on_from(&mut self, chars: u64, end: Checker)

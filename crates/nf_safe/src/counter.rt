@@ -1,12 +1,12 @@
 ghost use Rattle.std.specs.Prelude.{◌≡◌, ◌≤◌, ◌+◌, ◌-◌, ◌↔◌, List, ℕ, [], ◌∷◌, ◌++◌, IsSome, IfSome, if◌then◌else◌};
 ghost use Rattle.nf_forms.specs.Properties.{Properties};
-ghost use Rattle.nf_row.specs.Ends.{HasEnds};
+ghost use Rattle.nf_row.specs.NonStarters.{HasNonStarters};
 ghost use Rattle.nf_forms.specs.StreamSafe.{max_run};
 ghost use Rattle.nf_safe.specs.Count.{passes, count_step};
 ghost use Rattle.nf_safe.specs.Counter.{StandsAfter};
 
 use nf_forms::MAX_RUN;
-use nf_row::{Counts, Ends, Row, Rows};
+use nf_row::{Counts, NonStarters, Row, Rows};
 use std::marker::Model;
 
 /// Counts the non-starters that the NFKD of a text ends in, and tells where the Stream-Safe Text Process puts U+034F
@@ -58,15 +58,15 @@ impl Counter {
         ensures stands { (ks : List (List ℕ)) → StandsAfter (R.properties rows.now) self.old ks
             → StandsAfter (R.properties rows.now) self.new (ks ++ k.now.items ∷ []) }
     {
-        self.step_by(Ends::of_row(rows, k))
+        self.step_by(NonStarters::of_row(rows, k))
     }
 
     /// The same for a row of which `k` are the ends: they are all that a step asks of it.
     #[inline]
-    pub fn step_by(&mut self, k: Ends) -> bool
-        ensures answer { (p : Properties) (row : List ℕ) → HasEnds p row k → result ≡ passes p self.old row }
-        ensures count { (p : Properties) (row : List ℕ) → HasEnds p row k → self.new ≡ count_step p self.old row }
-        ensures stands { (p : Properties) (row : List ℕ) → HasEnds p row k → (rows : List (List ℕ)) → StandsAfter p self.old rows
+    pub fn step_by(&mut self, k: NonStarters) -> bool
+        ensures answer { (p : Properties) (row : List ℕ) → HasNonStarters p row k → result ≡ passes p self.old row }
+        ensures count { (p : Properties) (row : List ℕ) → HasNonStarters p row k → self.new ≡ count_step p self.old row }
+        ensures stands { (p : Properties) (row : List ℕ) → HasNonStarters p row k → (rows : List (List ℕ)) → StandsAfter p self.old rows
             → StandsAfter p self.new (rows ++ row ∷ []) }
     {
         let begins_anew = self.count as usize + k.lead > usize::from(MAX_RUN);

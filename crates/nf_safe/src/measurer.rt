@@ -77,7 +77,7 @@ impl Measurer {
     }
 
     /// Sees the front of the text of which the non-starters are known by one look-up for each character (`Rows::counted_front`),
-    /// and answers what stands behind.
+    /// and answers what follows.
     #[inline]
     pub fn see_counted<'t, R: Rows>(&mut self, rows: &R, text: &'t str) -> &'t str
         requires { (values_of self.old).bytes + length text.now ≤ u64.MAX }

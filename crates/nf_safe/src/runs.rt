@@ -1,6 +1,6 @@
 ghost use Rattle.std.specs.Prelude.{◌≤◌};
 
-use nf_row::{Counts, Ends, Rows, SoundRow, own_class, sound_row};
+use nf_row::{Counts, NonStarters, Rows, SoundRow, own_class, sound_row};
 
 /// The non-starters of decomposed text, and its runs of them.
 #[derive(Clone, Copy, Debug)]
@@ -19,7 +19,7 @@ impl Runs {
     ghost use Rattle.nf_forms.specs.Properties.{Properties, is_starter};
     ghost use Rattle.nf_forms.specs.Sound.{is_sound};
     ghost use Rattle.nf_counts.specs.Counts.{HasCounts};
-    ghost use Rattle.nf_row.specs.Ends.{HasEnds};
+    ghost use Rattle.nf_row.specs.NonStarters.{HasNonStarters};
     ghost use Rattle.nf_safe.specs.Runs.{HasRuns};
 
     /// Those of no text.
@@ -34,20 +34,20 @@ impl Runs {
         }
     }
 
-    /// With the compatibility decomposition of `c` behind, and the ends of that; none where `c` is unsound. No row is read
+    /// With the compatibility decomposition of `c` after, and the ends of that; none where `c` is unsound. No row is read
     /// where it is known to be `c` alone.
-    pub fn with_char<R: Rows>(self, rows: &R, c: char) -> Option<(Runs, Ends)>
+    pub fn with_char<R: Rows>(self, rows: &R, c: char) -> Option<(Runs, NonStarters)>
         requires { self.nonstarters + 18 ≤ u128.MAX }
         ensures sound { is_some result ≡ is_sound (R.properties rows.now) c }
         ensures few { IfSome result (λ with. with.0.nonstarters ≤ self.nonstarters + 18) }
         ensures runs { let p = R.properties rows.now in
             IfSome result (λ with. (w : List ℕ) → HasRuns p self w → HasRuns p with.0 (w ++ p.compat c)) }
-        ensures ends { let p = R.properties rows.now in IfSome result (λ with. HasEnds p (p.compat c) with.1) }
+        ensures ends { let p = R.properties rows.now in IfSome result (λ with. HasNonStarters p (p.compat c) with.1) }
     {
         let mut runs = self;
         if let Some(class) = own_class(rows, c) {
             runs.push(class == 0);
-            return Some((runs, Ends::of_one(class == 0)));
+            return Some((runs, NonStarters::of_one(class == 0)));
         }
         let SoundRow { row, ends } = sound_row(rows, c)?;
         runs.push_row(rows, row.as_slice());

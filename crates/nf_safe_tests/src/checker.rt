@@ -9,7 +9,7 @@ const NINETEEN: [char; 19] = ['a'; 19];
 
 const EIGHTEEN: [char; 18] = ['a'; 18];
 
-/// A character, how many times it comes, the last answer, and the offset behind it.
+/// A character, how many times it comes, the last answer, and the offset after it.
 type Steps = (char, u32, Result<Option<Place>, Unsound>, u64);
 
 /// Sees the characters of a text that begins at `base`. A place that is answered is kept; a refusal leaves none.
@@ -70,7 +70,7 @@ fn an_unsound_character_is_refused_and_skipped(rt: HostRuntime) {
             ('x', 1, refusal, 1),
             ('a', 1, Ok(None), 2),
         ],
-        // Behind a place nothing is refused.
+        // After a place nothing is refused.
         &[
             ('q', 1, Ok(None), 1),
             (MARK, 31, place(31, 61), 61),
@@ -98,7 +98,7 @@ fn seen<T: Abort>(rt: &T, base: u64, steps: &[(char, u32)]) -> Checker {
 #[test]
 fn goes_on_from_the_end_of_a_text(rt: HostRuntime) {
     // The offset of that end, what stands there, how many characters there are with those that are not seen, how many
-    // marks may follow, and the place behind them.
+    // marks may follow, and the place after them.
     let cases: [(u64, &[(char, u32)], u64, u32, _); 3] = [
         (164, &[('q', 1), (MARK, 2)], 6, 28, place(65, 225)),
         (161, &[('\u{C5}', 1)], 1, 29, place(61, 221)),
@@ -123,7 +123,7 @@ fn goes_on_from_the_end_of_a_text(rt: HostRuntime) {
 /// The front ends before the character at which the text leaves the format, and before one of which nothing is known.
 #[test]
 fn a_front_is_checked_by_look_ups(rt: HostRuntime) {
-    // Marks that are seen one by one, a text behind them, what is left of it, and the answer to one more mark behind that.
+    // Marks that are seen one by one, a text after them, what is left of it, and the answer to one more mark after that.
     let cases: [(u32, &str, &str, Result<Option<Place>, Unsound>); 6] = [
         (0, "", "", Ok(None)),
         (30, "ab\u{4E2D}\u{301}", "", Ok(None)),

@@ -1,12 +1,12 @@
 use nf_row::Change::Compat;
-use nf_row::{Ends, Patched, Rows, Ucd};
+use nf_row::{NonStarters, Patched, Rows, Ucd};
 use nf_safe::Counter;
 use std::process::Abort;
 use std::test::Fail;
 
 const MARK: char = '\u{301}';
 
-/// A character, how many times it comes, what each of these steps answers, and the count behind them.
+/// A character, how many times it comes, what each of these steps answers, and the count after them.
 type Steps = (char, u32, bool, u8);
 
 /// Counts the characters by their rows, and by the ends of their rows.
@@ -17,7 +17,7 @@ fn check<T: Abort, R: Rows>(rt: &T, rows: &R, steps: &[Steps]) -> Result<(), Fai
         for _ in 0..*times {
             let answers = (
                 by_row.step(rows, &k),
-                by_ends.step_by(Ends::of_row(rows, &k)),
+                by_ends.step_by(NonStarters::of_row(rows, &k)),
             );
             assert_eq!(rt; answers, (*answer, *answer), "{c:?}");
         }

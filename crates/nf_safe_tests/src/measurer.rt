@@ -96,10 +96,10 @@ fn nothing_is_measured_of_what_is_refused(rt: HostRuntime) {
     );
 }
 
-/// Behind marks a front goes on, up to the first character of which nothing is known or before which U+034F is put.
+/// After marks a front goes on, up to the first character of which nothing is known or before which U+034F is put.
 #[test]
 fn a_front_is_measured_by_look_ups(rt: HostRuntime) {
-    // Marks that are seen one by one, a text behind them, what is left of it, and what is measured.
+    // Marks that are seen one by one, a text after them, what is left of it, and what is measured.
     let cases: [(u32, &str, &str, [u64; 6]); 10] = [
         (0, "", "", [0, 0, 0, 0, 0, 0]),
         (0, "\u{E9}\u{301}abcdef", "", [10, 8, 2, 2, 0, 0]),

@@ -1,6 +1,6 @@
 use Rattle.std.specs.Prelude.{ℕ, ◌*◌, ◌/◌, ◌%◌, ◌^◌, bit_xor}
 
--- the state behind `x`: Marsaglia's xorshift of 64 bits
+-- the state after `x`: Marsaglia's xorshift of 64 bits
 unfoldable pub following : ℕ → ℕ
 following x =
     let y = bit_xor x (x * 2 ^ 13 % 2 ^ 64) in

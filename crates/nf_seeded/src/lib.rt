@@ -5,7 +5,7 @@ ghost use Rattle.std.specs.Prelude.{◌≡◌, ◌+◌, ◌*◌, ◌%◌, ◌^�
 ghost use Rattle.std.specs.Char.{IsScalar};
 ghost use Rattle.nf_seeded.specs.Following.{following};
 
-/// The state behind the last number that was drawn.
+/// The state after the last number that was drawn.
 #[derive(Drop)]
 pub struct Seeded {
     pub state: u64,
@@ -44,7 +44,7 @@ impl Seeded {
         (self.next() % bound as u64) as u32
     }
 
-    /// A place in `len` bytes, or behind them.
+    /// A place in `len` bytes, or after them.
     pub fn place(&mut self, len: usize) -> usize
         requires { len + 1 < 2 ^ 64 }
         ensures within { result ≤ len }

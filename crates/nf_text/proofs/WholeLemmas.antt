@@ -50,7 +50,7 @@ module _ (f : Form) (p : Properties) where
         due = ap (λ b. due_utf8 b as_is f p drives.fed) end ∙ ap (final_utf8 as_is f p) fed ∙ final_is f p bytes is
 
         out : puts.out ≡ encode_utf8_all (safe_form f p (text_of bytes))
-        out = ap (λ l. l ++ puts.out) (sym (settled_utf8-none as_is f p)) ∙ sym puts.behind ∙ due
+        out = ap (λ l. l ++ puts.out) (sym (settled_utf8-none as_is f p)) ∙ sym puts.after ∙ due
 
         given : Appends old.taken new.taken (encode_utf8_all (safe_form f p (text_of bytes)))
         given = subst (Appends old.taken new.taken) out puts.given

@@ -1,4 +1,4 @@
--- What stands behind all that a reader gave.
+-- What stands after all that a reader gave.
 use Rattle.std.specs.Prelude.{◌≡◌, false, ℕ, List, Option, Some, Result, OnOk, IsTrue, encode_utf8_all, [], ◌∷◌}
 use Rattle.std.specs.Io.KnownBytes.{Appends}
 use Rattle.nf_forms.specs.Properties.{Properties}

@@ -10,7 +10,7 @@ use nf_row::{Form, Ucd};
 use nf_utf8::laws::longest_text;
 use std::io::{Read, Write};
 
-/// A reader and a writer behind what went from one to the other, and how that ended.
+/// A reader and a writer after what went from one to the other, and how that ended.
 #[derive(Drop)]
 pub struct Passed<R, W> {
     pub reader: R,

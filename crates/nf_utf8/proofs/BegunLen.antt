@@ -1,8 +1,8 @@
 -- `begun_len`, the length of the longest front that begins a text, and `ending_of`, by the three lengths that it compares.
 use Rattle.nf_utf8.proofs.Common.{◌≡◌, ℕ, suc, ◌+◌, ◌<◌, ◌≤◌, ⊎_elim, true, false, cond, nat_lt, List, [], ◌∷◌, ◌++◌, length, take, drop, Option, Some, None, unwrap_or, IsUtf8, arith, take-append-drop, length-drop, take-take, take_all, IsInRange, is_in_range, StartsWithNoChar, utf8_error_len, error_len_after_one, error_len_after_two, error_len_of_some, order, utf8_error_len-nil, utf8_error_len_some, no_text, le-ltb, cond_both, nat_tests, IsUtf8-nil, BeginsText, IsSecond, IsContinuation}
 use Rattle.nf_utf8.proofs.Common.{text_len, part_len, begun_len, ◌==◌, eqb-true, Ending, Whole, Bad, Cut, ending_of}
-use Rattle.nf_utf8.proofs.Fronts.{IsLongestFront, longest_same, longest_behind}
-use Rattle.nf_utf8.proofs.Texts.{BeginsText-append, BeginsText-behind, BeginsText-front, BeginsText-IsUtf8}
+use Rattle.nf_utf8.proofs.Fronts.{IsLongestFront, longest_same, longest_after}
+use Rattle.nf_utf8.proofs.Texts.{BeginsText-append, BeginsText-after, BeginsText-front, BeginsText-IsUtf8}
 use Rattle.nf_utf8.proofs.TextLen.{text_len-longest, length-front, text_len-rest, no_char-text_len}
 use Rattle.nf_utf8.proofs.Sequences.{IsUtf8-one, IsUtf8-two, IsUtf8-three, IsUtf8-four, begins_one, begins_two, begins_three, no_first, no_second, no_third, no_fourth}
 
@@ -91,9 +91,9 @@ begun_len-longest bytes =
     let front : List ℕ = take (text_len bytes) bytes in
     let rest : List ℕ = drop (text_len bytes) bytes in
     let u = (text_len-longest bytes).holds in
-    rw (take-append-drop, length-front) at (longest_behind front (λ zs. BeginsText-append front zs u) (λ zs. BeginsText-behind front zs u) (part_counted bytes).begins)
+    rw (take-append-drop, length-front) at (longest_after front (λ zs. BeginsText-append front zs u) (λ zs. BeginsText-after front zs u) (part_counted bytes).begins)
 
--- no more than three bytes behind the text begin a character
+-- no more than three bytes after the text begin a character
 pub begun_few : (bytes : List ℕ) → begun_len bytes ≤ text_len bytes + 3
 begun_few bytes = omega (arith, (part_counted bytes).few)
 
@@ -110,8 +110,8 @@ begun_all bytes b = begun_len-is (begins_for_all bytes b)
 pub begins_all : (bytes : List ℕ) → begun_len bytes ≡ length bytes → BeginsText bytes
 begins_all bytes e = rw (take_all (begun_len bytes) bytes (omega arith)) at (begun_len-longest bytes).holds
 
-pub begun_len-behind : (xs ys : List ℕ) → IsUtf8 xs → begun_len (xs ++ ys) ≡ length xs + begun_len ys
-begun_len-behind xs ys u = begun_len-is (longest_behind xs (λ zs. BeginsText-append xs zs u) (λ zs. BeginsText-behind xs zs u) (begun_len-longest ys))
+pub begun_len-after : (xs ys : List ℕ) → IsUtf8 xs → begun_len (xs ++ ys) ≡ length xs + begun_len ys
+begun_len-after xs ys u = begun_len-is (longest_after xs (λ zs. BeginsText-append xs zs u) (λ zs. BeginsText-after xs zs u) (begun_len-longest ys))
 
 -- ---- the ending
 

@@ -21,14 +21,14 @@ pub use Rattle.std.specs.Str.Lossy.{utf8_error_len, error_len_of_some, error_len
 pub use Rattle.nf_utf8.specs.Carry.{bytes_of}
 pub use Rattle.nf_utf8.specs.Ending.{Ending, Whole, Bad, Cut, moved, Whole as IsWhole, Cut as IsCut, Bad as IsBad}
 pub use Rattle.nf_utf8.specs.Front.{IsFront, Completes, CanEnd, EndsBy}
-pub use Rattle.nf_utf8.specs.Mending.{IsReplacedFront, IsStretch}
-pub use Rattle.nf_utf8.specs.Part.{IsSecond, IsContinuation, IsPart}
+pub use Rattle.nf_utf8.specs.Lossy.{IsReplacedFront, IsStretch}
+pub use Rattle.nf_utf8.specs.Part.{IsSecond, IsContinuation, IsSubpart}
 unfoldable pub use Rattle.nf_utf8.specs.Reading.{ending_of, text_of, rest_of}
 pub use Rattle.nf_utf8.specs.Reading.{text_len, part_len, begun_len}
 unfoldable pub use Rattle.nf_utf8.specs.Replaced.{parts_of, replaced, replaced_whole}
-pub use Rattle.nf_utf8.specs.Replaced.{Part, replacement, own_parts, part_end, begun_at_end, behind_text, parts_within, bytes_in}
+pub use Rattle.nf_utf8.specs.Replaced.{Part, replacement, own_parts, subpart_end, begun_at_end, parts_after_text, parts_within, bytes_in}
 pub use Rattle.nf_utf8.specs.Standing.{Answers, StandsAfter, bytes_after, ending_at}
-pub use Rattle.nf_utf8.specs.Taking.{first_text, Takes, first_bytes, IsFirst, EndsPiece, end_holding, bytes_behind, Counts}
+pub use Rattle.nf_utf8.specs.Taking.{first_text, Takes, first_bytes, IsFirst, EndsPiece, end_holding, bytes_after_piece, Counts}
 pub use Rattle.nf_utf8.specs.Text.{BeginsText, IsText}
 pub use Rattle.nf_utf8.specs.declared.chunk.End.{End}
 pub use Rattle.nf_utf8.specs.declared.front.Front.TheVariants.{Begun, Bad as BadFront}

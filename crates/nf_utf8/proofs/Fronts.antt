@@ -11,10 +11,10 @@ module _ {P : List ℕ → Type 0} where
   pub longest_same : {xs : List ℕ} {m n : ℕ} → IsLongestFront P xs m → IsLongestFront P xs n → m ≡ n
   longest_same {m = m} {n = n} a b = omega (arith, b.longest m a.within a.holds, a.longest n b.within b.holds)
 
-  -- behind bytes that do not matter to the property
-  pub longest_behind : (xs : List ℕ) {ys : List ℕ} {n : ℕ} → ((zs : List ℕ) → P zs → P (xs ++ zs)) → ((zs : List ℕ) → P (xs ++ zs) → P zs)
+  -- after bytes that do not matter to the property
+  pub longest_after : (xs : List ℕ) {ys : List ℕ} {n : ℕ} → ((zs : List ℕ) → P zs → P (xs ++ zs)) → ((zs : List ℕ) → P (xs ++ zs) → P zs)
       → IsLongestFront P ys n → IsLongestFront P (xs ++ ys) (length xs + n)
-  longest_behind xs {ys} {n} add cancel h = record {
+  longest_after xs {ys} {n} add cancel h = record {
     within = omega (arith, h.within, length-append xs ys);
     holds = rw take-append-add (add (take n ys) h.holds);
     longest = λ m le p. ⊎_elim (λ below. omega arith)

@@ -4,7 +4,7 @@ mod BegunLen
 mod CountingLemmas
 mod Fronts
 mod LossyLemmas
-mod MendingLemmas
+mod ReplacingLemmas
 pub mod PushesLemmas
 pub mod ReadingLemmas
 mod ReadsLemmas

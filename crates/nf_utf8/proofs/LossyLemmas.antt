@@ -1,12 +1,12 @@
 -- The text with U+FFFD for each maximal subpart of an ill-formed sequence, and std's.
-use Rattle.nf_utf8.proofs.Common.{◌≡◌, ℕ, ◌+◌, ◌<◌, ◌≤◌, ◌==◌, cond, List, [], ◌∷◌, ◌++◌, length, take, drop, Some, unwrap_or, encode_utf8_all, ⊎_elim, refl, sym, ap, ◌∙◌, arith, append-nil, append_assoc, length-drop, take_all, take-append-drop, utf8_lossy, utf8_invalid_len, utf8_error_len, replacement_bytes, order, scalars-append, three, utf8_error_len_some, utf8_invalid_len_pos, ne_eqb, nat_tests, map-append, drop_all, encodes-append, utf8_lossy-IsUtf8, utf8_lossy_step, utf8_lossy_empty, IsText, Bad, text_len, text_of, part_len, begun_len, ending_of, replacement, part_end, replaced, begun_at_end, replaced_whole}
+use Rattle.nf_utf8.proofs.Common.{◌≡◌, ℕ, ◌+◌, ◌<◌, ◌≤◌, ◌==◌, cond, List, [], ◌∷◌, ◌++◌, length, take, drop, Some, unwrap_or, encode_utf8_all, ⊎_elim, refl, sym, ap, ◌∙◌, arith, append-nil, append_assoc, length-drop, take_all, take-append-drop, utf8_lossy, utf8_invalid_len, utf8_error_len, replacement_bytes, order, scalars-append, three, utf8_error_len_some, utf8_invalid_len_pos, ne_eqb, nat_tests, map-append, drop_all, encodes-append, utf8_lossy-IsUtf8, utf8_lossy_step, utf8_lossy_empty, IsText, Bad, text_len, text_of, part_len, begun_len, ending_of, replacement, subpart_end, replaced, begun_at_end, replaced_whole}
 use Rattle.nf_utf8.proofs.BegunLen.{begun_few, told_broken, ending_of-broken}
 use Rattle.nf_utf8.proofs.ReadingLemmas.{text_same, text_of-IsText, encodes-text_of, front_of, front_of-IsUtf8, broken}
 use Rattle.nf_utf8.proofs.ReplacedLemmas.{chars-own, by_parts, parts_of-all, parts_of-broken, bytes_in-all, bytes_in-broken}
 
 -- ---- how many bytes begin a character
 
--- where more than three bytes stand behind the text, it ends there whatever follows
+-- where more than three bytes stand after the text, it ends there whatever follows
 pub text_len-front : (bytes : List ℕ) (n : ℕ) → text_len (take n bytes) + 3 < length (take n bytes) → text_len bytes ≡ text_len (take n bytes)
 text_len-front bytes n far = rw take-append-drop at (text_same (take n bytes) (omega (arith, far, begun_few (take n bytes))) (drop n bytes))
 
@@ -17,18 +17,18 @@ invalid_begun rest some = grind (arith, nat_tests)
 invalid_one : (rest : List ℕ) → 0 < length rest → part_len rest ≡ 0 → utf8_invalid_len rest ≡ 1
 invalid_one rest some none = grind (arith, nat_tests, utf8_error_len_some rest some, utf8_invalid_len_pos rest some)
 
--- the bytes behind the text
+-- the bytes after the text
 abbrev rest_at : List ℕ → List ℕ
 rest_at bytes = drop (text_len bytes) bytes
 
-broken_invalid : (bytes : List ℕ) {at start : ℕ} → ending_of bytes ≡ Bad at start → text_len bytes + utf8_invalid_len (rest_at bytes) ≡ part_end at start
+broken_invalid : (bytes : List ℕ) {at start : ℕ} → ending_of bytes ≡ Bad at start → text_len bytes + utf8_invalid_len (rest_at bytes) ≡ subpart_end at start
 broken_invalid bytes {at} {start} e =
     grind (arith, nat_tests, broken bytes at start e, invalid_one (rest_at bytes), invalid_begun (rest_at bytes), length-drop (text_len bytes) bytes)
 
 -- std tells how many bytes are invalid: those of the part that a byte breaks off
 pub record IsTold (bytes : List ℕ) (n : ℕ) : Type 0 where
   pub bad : ending_of bytes ≡ Bad (begun_len bytes) (text_len bytes)
-  pub end : part_end (begun_len bytes) (text_len bytes) ≡ text_len bytes + n
+  pub end : subpart_end (begun_len bytes) (text_len bytes) ≡ text_len bytes + n
 
 pub is_told : (bytes : List ℕ) (n : ℕ) → utf8_error_len (rest_at bytes) ≡ Some n → IsTold bytes n
 is_told bytes n told =
@@ -38,7 +38,7 @@ is_told bytes n told =
 pub few_at_end : (bytes : List ℕ) → begun_at_end bytes ≤ 3
 few_at_end = by_parts (λ bytes. begun_at_end bytes ≤ 3)
     (λ bytes all. omega (arith, bytes_in-all bytes all, all, begun_few bytes))
-    (λ bytes at start e h. omega (arith, bytes_in-broken bytes e, length-drop (part_end at start) bytes, h))
+    (λ bytes at start e h. omega (arith, bytes_in-broken bytes e, length-drop (subpart_end at start) bytes, h))
 
 -- ---- the text, by the ending
 
@@ -46,14 +46,14 @@ replaced-all : (bytes : List ℕ) → begun_len bytes ≡ length bytes → repla
 unfolding replaced
 replaced-all bytes all = rw (parts_of-all bytes all) (chars-own (text_of bytes))
 
-replaced-broken : (bytes : List ℕ) {at start : ℕ} → ending_of bytes ≡ Bad at start → replaced bytes ≡ text_of bytes ++ replacement ∷ replaced (drop (part_end at start) bytes)
+replaced-broken : (bytes : List ℕ) {at start : ℕ} → ending_of bytes ≡ Bad at start → replaced bytes ≡ text_of bytes ++ replacement ∷ replaced (drop (subpart_end at start) bytes)
 unfolding replaced
 replaced-broken bytes {at} {start} e = rw (parts_of-broken bytes at start e, map-append, chars-own)
 
 pub replaced-IsText : (bytes : List ℕ) → IsText (replaced bytes)
 replaced-IsText = by_parts (λ bytes. IsText (replaced bytes))
     (λ bytes all. rw (replaced-all bytes all) (text_of-IsText bytes))
-    (λ bytes at start e h. rw (replaced-broken bytes e) (scalars-append (text_of bytes) (replacement ∷ replaced (drop (part_end at start) bytes)) (text_of-IsText bytes) h))
+    (λ bytes at start e h. rw (replaced-broken bytes e) (scalars-append (text_of bytes) (replacement ∷ replaced (drop (subpart_end at start) bytes)) (text_of-IsText bytes) h))
 
 -- ---- its bytes, where nothing follows
 
@@ -68,14 +68,14 @@ whole_is bytes text begun p q = (λ i. p i ++ tail (q i))
 pub encodes_replacement : encode_utf8_all (replacement ∷ []) ≡ replacement_bytes
 encodes_replacement = rw (three replacement (omega arith) (omega arith))
 
-encodes_behind : (bytes rest : List ℕ) → encode_utf8_all (text_of bytes ++ rest) ≡ front_of bytes ++ encode_utf8_all rest
-encodes_behind bytes rest = rw (encodes-append, encodes-text_of)
+encodes_after : (bytes rest : List ℕ) → encode_utf8_all (text_of bytes ++ rest) ≡ front_of bytes ++ encode_utf8_all rest
+encodes_after bytes rest = rw (encodes-append, encodes-text_of)
 
 lossy_whole : (bytes : List ℕ) → text_len bytes ≡ length bytes → begun_len bytes ≡ length bytes → encode_utf8_all (replaced_whole bytes) ≡ utf8_lossy bytes
 lossy_whole bytes whole all =
     let same : front_of bytes ≡ bytes = take_all (text_len bytes) bytes (omega (arith, whole)) in
     let is = whole_is bytes (text_of bytes) 0 (replaced-all bytes all) (omega (arith, bytes_in-all bytes all, whole)) in
-    rw (is, encodes_behind bytes [], append-nil, same) (sym (utf8_lossy-IsUtf8 bytes (rw same at (front_of-IsUtf8 bytes))))
+    rw (is, encodes_after bytes [], append-nil, same) (sym (utf8_lossy-IsUtf8 bytes (rw same at (front_of-IsUtf8 bytes))))
 
 lossy_cut : (bytes : List ℕ) → text_len bytes < length bytes → begun_len bytes ≡ length bytes → encode_utf8_all (replaced_whole bytes) ≡ utf8_lossy bytes
 lossy_cut bytes short all =
@@ -84,7 +84,7 @@ lossy_cut bytes short all =
     rw (
       is,
       ne_eqb (begun_at_end bytes) 0 (omega (arith, short, bytes_in-all bytes all)),
-      encodes_behind bytes (replacement ∷ []),
+      encodes_after bytes (replacement ∷ []),
       encodes_replacement,
       utf8_lossy_step bytes (omega (arith, short)),
       drop_all _ bytes past,
@@ -92,15 +92,15 @@ lossy_cut bytes short all =
     )
 
 lossy_broken : (bytes : List ℕ) (at start : ℕ) → ending_of bytes ≡ Bad at start
-    → encode_utf8_all (replaced_whole (drop (part_end at start) bytes)) ≡ utf8_lossy (drop (part_end at start) bytes) → encode_utf8_all (replaced_whole bytes) ≡ utf8_lossy bytes
+    → encode_utf8_all (replaced_whole (drop (subpart_end at start) bytes)) ≡ utf8_lossy (drop (subpart_end at start) bytes) → encode_utf8_all (replaced_whole bytes) ≡ utf8_lossy bytes
 lossy_broken bytes at start e h =
-    let rest : List ℕ = drop (part_end at start) bytes in
-    let is = whole_is bytes _ (begun_at_end rest) (replaced-broken bytes e) (omega (arith, bytes_in-broken bytes e, length-drop (part_end at start) bytes)) in
+    let rest : List ℕ = drop (subpart_end at start) bytes in
+    let is = whole_is bytes _ (begun_at_end rest) (replaced-broken bytes e) (omega (arith, bytes_in-broken bytes e, length-drop (subpart_end at start) bytes)) in
     rw (
       is,
       append_assoc,
       ← (whole_is rest (replaced rest) (begun_at_end rest) refl refl),
-      encodes_behind bytes (replacement ∷ replaced_whole rest),
+      encodes_after bytes (replacement ∷ replaced_whole rest),
       three replacement (omega arith) (omega arith),
       h,
       utf8_lossy_step bytes (omega (arith, broken bytes at start e)),

@@ -6,7 +6,7 @@ use Rattle.nf_utf8.proofs.BegunLen.{begun_len-longest, begins_all, ending_of-say
 use Rattle.nf_utf8.proofs.ReadingLemmas.{text_of-bad, ending_of-bad, length-encodes-text_of}
 use Rattle.nf_utf8.proofs.TakingLemmas.{EndsAll, ends_holding, ends_piece, same_end}
 
--- the bytes read as this text behind that of `bytes`, with this end
+-- the bytes read as this text after that of `bytes`, with this end
 abbrev ReadsOn : List ℕ → List ℕ → List ℕ → List ℕ → End → Type 0
 ReadsOn from bytes all text end = (text_of all ≡ text_of bytes ++ text) × EndsAll from all end
 
@@ -28,7 +28,7 @@ module _ (from : List ℕ) where
       let len : text_len (bytes ++ byte ∷ [] ++ piece) ≡ text_len bytes = rw (text, length-encodes-text_of) at (sym (length-encodes-text_of (bytes ++ byte ∷ [] ++ piece))) in
       (rw append-nil text, (rw (place, len) (ending_of-bad (bytes ++ byte ∷ []) piece _ _ answer.1), omega (arith, len, place, answer.2), simp length-append (omega (arith, place))))
 
-  -- `Next` is what the bytes behind the step give
+  -- `Next` is what the bytes after the step give
   step_on : (bytes piece text : List ℕ) (byte : ℕ) (end : End) (step : Step) (Next : List ℕ → Type 0)
       → ((more : List ℕ) → BeginsText (bytes ++ byte ∷ []) → Next more → ReadsOn from (bytes ++ byte ∷ []) (bytes ++ byte ∷ [] ++ piece) more end)
       → Answers bytes byte step → GoesOn from bytes Next text end step → ReadsOn from bytes (bytes ++ byte ∷ [] ++ piece) text end

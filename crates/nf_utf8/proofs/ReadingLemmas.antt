@@ -1,26 +1,26 @@
--- Reading behind a text, and behind bytes that were read before.
+-- Reading after a text, and after bytes that were read before.
 use Rattle.nf_utf8.proofs.Common.{◌≡◌, ℕ, suc, ◌+◌, ◌<◌, ◌≤◌, List, ◌++◌, length, take, IsUtf8, encode_utf8_all, chars, refl, sym, ap, ◌∙◌, arith, append_assoc, length-append, take-append-drop, take-append-add, drop-append-add, take-append-le, encodes-chars, scalars-chars, chars-append, nat_tests, chars-encodes, IsText, BeginsText, Bad, moved, text_len, text_of, rest_of, begun_len, ending_of}
 use Rattle.nf_utf8.proofs.Texts.{BeginsText-IsUtf8, BeginsText-append}
-use Rattle.nf_utf8.proofs.TextLen.{text_len-longest, text_len-is, text_len-behind, length-front}
-use Rattle.nf_utf8.proofs.BegunLen.{begun_len-longest, begun_len-is, begun_len-behind, begins_until, ending_of-says}
+use Rattle.nf_utf8.proofs.TextLen.{text_len-longest, text_len-is, text_len-after, length-front}
+use Rattle.nf_utf8.proofs.BegunLen.{begun_len-longest, begun_len-is, begun_len-after, begins_until, ending_of-says}
 
--- ---- behind a text
+-- ---- after a text
 
-pub text_of-behind : (xs ys : List ℕ) → IsUtf8 xs → text_of (xs ++ ys) ≡ chars xs ++ text_of ys
+pub text_of-after : (xs ys : List ℕ) → IsUtf8 xs → text_of (xs ++ ys) ≡ chars xs ++ text_of ys
 unfolding text_of
-text_of-behind xs ys u = rw (text_len-behind xs ys u, take-append-add) (chars-append xs (take (text_len ys) ys) u)
+text_of-after xs ys u = rw (text_len-after xs ys u, take-append-add) (chars-append xs (take (text_len ys) ys) u)
 
-pub rest_of-behind : (xs ys : List ℕ) → IsUtf8 xs → rest_of (xs ++ ys) ≡ rest_of ys
+pub rest_of-after : (xs ys : List ℕ) → IsUtf8 xs → rest_of (xs ++ ys) ≡ rest_of ys
 unfolding rest_of
-rest_of-behind xs ys u = rw (text_len-behind xs ys u, drop-append-add)
+rest_of-after xs ys u = rw (text_len-after xs ys u, drop-append-add)
 
-pub ending_of-behind : (xs ys : List ℕ) → IsUtf8 xs → ending_of (xs ++ ys) ≡ moved (length xs) (ending_of ys)
+pub ending_of-after : (xs ys : List ℕ) → IsUtf8 xs → ending_of (xs ++ ys) ≡ moved (length xs) (ending_of ys)
 unfolding ending_of
-ending_of-behind xs ys u = grind (arith, nat_tests, length-append xs ys, text_len-behind xs ys u, begun_len-behind xs ys u)
+ending_of-after xs ys u = grind (arith, nat_tests, length-append xs ys, text_len-after xs ys u, begun_len-after xs ys u)
 
 -- the same of a text's bytes
 pub text_of-encodes : (text bytes : List ℕ) → IsText text → text_of (encode_utf8_all text ++ bytes) ≡ text ++ text_of bytes
-text_of-encodes text bytes s = rw (chars-encodes text s) at (text_of-behind (encode_utf8_all text) bytes (text, (s, refl)))
+text_of-encodes text bytes s = rw (chars-encodes text s) at (text_of-after (encode_utf8_all text) bytes (text, (s, refl)))
 
 -- ---- the bytes in two
 
@@ -46,7 +46,7 @@ pub text_of-split : (bytes : List ℕ) → bytes ≡ encode_utf8_all (text_of by
 unfolding rest_of
 text_of-split bytes = rw (encodes-text_of bytes) (sym (take-append-drop (text_len bytes) bytes))
 
--- ---- behind bytes that were read before, where `part` is what stood behind their text
+-- ---- after bytes that were read before, where `part` is what stood after their text
 
 module _ {part : List ℕ} (bytes piece : List ℕ) (r : rest_of bytes ≡ part) where
   joined : front_of bytes ++ (part ++ piece) ≡ bytes ++ piece
@@ -55,21 +55,21 @@ module _ {part : List ℕ} (bytes piece : List ℕ) (r : rest_of bytes ≡ part)
 
   pub text_on : text_of (bytes ++ piece) ≡ text_of bytes ++ text_of (part ++ piece)
   unfolding text_of
-  text_on = rw joined at (text_of-behind (front_of bytes) (part ++ piece) (front_of-IsUtf8 bytes))
+  text_on = rw joined at (text_of-after (front_of bytes) (part ++ piece) (front_of-IsUtf8 bytes))
 
   pub len_on : text_len (bytes ++ piece) ≡ text_len bytes + text_len (part ++ piece)
-  len_on = rw (joined, length-front) at (text_len-behind (front_of bytes) (part ++ piece) (front_of-IsUtf8 bytes))
+  len_on = rw (joined, length-front) at (text_len-after (front_of bytes) (part ++ piece) (front_of-IsUtf8 bytes))
 
   pub rest_on : rest_of (bytes ++ piece) ≡ rest_of (part ++ piece)
-  rest_on = rw joined at (rest_of-behind (front_of bytes) (part ++ piece) (front_of-IsUtf8 bytes))
+  rest_on = rw joined at (rest_of-after (front_of bytes) (part ++ piece) (front_of-IsUtf8 bytes))
 
   pub ending_on : ending_of (bytes ++ piece) ≡ moved (text_len bytes) (ending_of (part ++ piece))
-  ending_on = rw (joined, length-front) at (ending_of-behind (front_of bytes) (part ++ piece) (front_of-IsUtf8 bytes))
+  ending_on = rw (joined, length-front) at (ending_of-after (front_of bytes) (part ++ piece) (front_of-IsUtf8 bytes))
 
   pub begins_on : BeginsText (part ++ piece) → BeginsText (bytes ++ piece)
   begins_on b = rw joined at (BeginsText-append (front_of bytes) (part ++ piece) (front_of-IsUtf8 bytes) b)
 
--- ---- behind a bad byte
+-- ---- after a bad byte
 
 module _ (bytes : List ℕ) (begun : begun_len bytes < length bytes) (piece : List ℕ) where
   begun_same : begun_len (bytes ++ piece) ≡ begun_len bytes

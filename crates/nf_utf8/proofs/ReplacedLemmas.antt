@@ -1,5 +1,5 @@
 -- Bytes read with one U+FFFD for each maximal subpart of an ill-formed sequence.
-use Rattle.nf_utf8.proofs.Common.{◌≡◌, ℕ, zero, suc, ◌+◌, ◌-◌, ◌<◌, ◌≤◌, List, [], ◌∷◌, ◌++◌, map, length, drop, encode_utf8, encode_utf8_all, refl, ap, ⊎_elim, arith, append-nil, length-append, length-drop, order, nat_tests, BeginsText, Bad, text_len, text_of, begun_len, ending_of, Part, replacement, own_parts, part_end, behind_text, parts_within, parts_of, bytes_in}
+use Rattle.nf_utf8.proofs.Common.{◌≡◌, ℕ, zero, suc, ◌+◌, ◌-◌, ◌<◌, ◌≤◌, List, [], ◌∷◌, ◌++◌, map, length, drop, encode_utf8, encode_utf8_all, refl, ap, ⊎_elim, arith, append-nil, length-append, length-drop, order, nat_tests, BeginsText, Bad, text_len, text_of, begun_len, ending_of, Part, replacement, own_parts, subpart_end, parts_after_text, parts_within, parts_of, bytes_in}
 use Rattle.nf_utf8.proofs.TextLen.{text_len-longest}
 use Rattle.nf_utf8.proofs.BegunLen.{begun_len-longest, begun_all, ending_of-full, ending_of-begun, ending_of-broken}
 use Rattle.nf_utf8.proofs.ReadingLemmas.{length-encodes-text_of, broken, text_of-bad, ending_of-bad}
@@ -20,22 +20,22 @@ chars-own (c ∷ x) = rw (chars-own x)
 
 -- ---- what a bad byte breaks off
 
-pub broken_end : (bytes : List ℕ) (at start : ℕ) → ending_of bytes ≡ Bad at start → (start < part_end at start) × (part_end at start ≤ length bytes)
+pub broken_end : (bytes : List ℕ) (at start : ℕ) → ending_of bytes ≡ Bad at start → (start < subpart_end at start) × (subpart_end at start ≤ length bytes)
 broken_end bytes at start e = grind (arith, nat_tests, broken bytes at start e)
 
 -- the part that it breaks off
 abbrev pub broken_part : (at start : ℕ) → Part
-broken_part at start = record { char = replacement; len = part_end at start - start }
+broken_part at start = record { char = replacement; len = subpart_end at start - start }
 
 -- a fact of all bytes, where it holds of what a bad byte leaves
 module _ (P : List ℕ → Type 0) (at_begun : (bytes : List ℕ) → begun_len bytes ≡ length bytes → P bytes)
-    (at_bad : (bytes : List ℕ) (at start : ℕ) → ending_of bytes ≡ Bad at start → P (drop (part_end at start) bytes) → P bytes) where
+    (at_bad : (bytes : List ℕ) (at start : ℕ) → ending_of bytes ≡ Bad at start → P (drop (subpart_end at start) bytes) → P bytes) where
   by_length : (k : ℕ) (bytes : List ℕ) → length bytes < k → P bytes
   by_length zero bytes few = absurd (omega arith)
   by_length (suc k) bytes few = ⊎_elim
       (λ short.
       let e = ending_of-broken bytes short in
-      at_bad bytes _ _ e (by_length k _ (omega (arith, broken_end bytes _ _ e, length-drop (part_end (begun_len bytes) (text_len bytes)) bytes))))
+      at_bad bytes _ _ e (by_length k _ (omega (arith, broken_end bytes _ _ e, length-drop (subpart_end (begun_len bytes) (text_len bytes)) bytes))))
       (λ all. at_begun bytes (omega (arith, all, (begun_len-longest bytes).within)))
       (order (begun_len bytes) (length bytes))
 
@@ -51,8 +51,8 @@ parts-begun k bytes all = ⊎_elim
     (order (text_len bytes) (length bytes))
 
 parts-broken : (k : ℕ) (bytes : List ℕ) {at start : ℕ} → ending_of bytes ≡ Bad at start
-    → parts_within (suc k) bytes ≡ own_parts (text_of bytes) ++ broken_part at start ∷ parts_within k (drop (part_end at start) bytes)
-parts-broken k bytes e = ap (λ x. own_parts (text_of bytes) ++ behind_text x (λ n. parts_within k (drop n bytes))) e
+    → parts_within (suc k) bytes ≡ own_parts (text_of bytes) ++ broken_part at start ∷ parts_within k (drop (subpart_end at start) bytes)
+parts-broken k bytes e = ap (λ x. own_parts (text_of bytes) ++ parts_after_text x (λ n. parts_within k (drop n bytes))) e
 
 pub parts_of-all : (bytes : List ℕ) → begun_len bytes ≡ length bytes → parts_of bytes ≡ own_parts (text_of bytes)
 unfolding parts_of
@@ -64,7 +64,7 @@ within_any (suc k) zero bytes p q = absurd (omega arith)
 within_any (suc k) (suc j) bytes p q = ⊎_elim
     (λ short.
     let e = ending_of-broken bytes short in
-    let stop : ℕ = part_end (begun_len bytes) (text_len bytes) in
+    let stop : ℕ = subpart_end (begun_len bytes) (text_len bytes) in
     let less : length (drop stop bytes) < length bytes = omega (arith, broken_end bytes _ _ e, length-drop stop bytes) in
     rw (parts-broken k bytes e, parts-broken j bytes e, within_any k j (drop stop bytes) (omega arith) (omega arith)))
     (λ past. let all : begun_len bytes ≡ length bytes = omega (arith, past, (begun_len-longest bytes).within) in rw (parts-begun k bytes all, parts-begun j bytes all))
@@ -74,14 +74,14 @@ pub parts_of-begun : (bytes : List ℕ) → BeginsText bytes → parts_of bytes 
 parts_of-begun bytes b = parts_of-all bytes (begun_all bytes b)
 
 pub parts_of-broken : (bytes : List ℕ) (at start : ℕ) → ending_of bytes ≡ Bad at start
-    → parts_of bytes ≡ own_parts (text_of bytes) ++ broken_part at start ∷ parts_of (drop (part_end at start) bytes)
+    → parts_of bytes ≡ own_parts (text_of bytes) ++ broken_part at start ∷ parts_of (drop (subpart_end at start) bytes)
 unfolding parts_of
 parts_of-broken bytes at start e =
-    let rest : List ℕ = drop (part_end at start) bytes in
-    rw (parts-broken (length bytes) bytes e, within_any (length bytes) (suc (length rest)) rest (omega (arith, broken_end bytes at start e, length-drop (part_end at start) bytes)) (omega arith))
+    let rest : List ℕ = drop (subpart_end at start) bytes in
+    rw (parts-broken (length bytes) bytes e, within_any (length bytes) (suc (length rest)) rest (omega (arith, broken_end bytes at start e, length-drop (subpart_end at start) bytes)) (omega arith))
 
 pub parts_of-bad : (bytes more : List ℕ) (at start : ℕ) → ending_of bytes ≡ Bad at start
-    → parts_of (bytes ++ more) ≡ own_parts (text_of bytes) ++ broken_part at start ∷ parts_of (drop (part_end at start) (bytes ++ more))
+    → parts_of (bytes ++ more) ≡ own_parts (text_of bytes) ++ broken_part at start ∷ parts_of (drop (subpart_end at start) (bytes ++ more))
 parts_of-bad bytes more at start e = rw (parts_of-broken (bytes ++ more) at start (ending_of-bad bytes more at start e), text_of-bad bytes more at start e)
 
 -- ---- how many bytes they are of
@@ -89,11 +89,11 @@ parts_of-bad bytes more at start e = rw (parts_of-broken (bytes ++ more) at star
 pub bytes_in-all : (bytes : List ℕ) → begun_len bytes ≡ length bytes → bytes_in (parts_of bytes) ≡ text_len bytes
 bytes_in-all bytes all = rw (parts_of-all bytes all, bytes_in-own) (length-encodes-text_of bytes)
 
-pub bytes_in-broken : (bytes : List ℕ) {at start : ℕ} → ending_of bytes ≡ Bad at start → bytes_in (parts_of bytes) ≡ part_end at start + bytes_in (parts_of (drop (part_end at start) bytes))
+pub bytes_in-broken : (bytes : List ℕ) {at start : ℕ} → ending_of bytes ≡ Bad at start → bytes_in (parts_of bytes) ≡ subpart_end at start + bytes_in (parts_of (drop (subpart_end at start) bytes))
 bytes_in-broken bytes {at} {start} e =
     rw (parts_of-broken bytes at start e, bytes_in-append, bytes_in-own) (omega (arith, length-encodes-text_of bytes, broken bytes at start e, broken_end bytes at start e))
 
 pub parts_of-within : (bytes : List ℕ) → bytes_in (parts_of bytes) ≤ length bytes
 parts_of-within = by_parts (λ bytes. bytes_in (parts_of bytes) ≤ length bytes)
     (λ bytes all. omega (arith, bytes_in-all bytes all, (text_len-longest bytes).within))
-    (λ bytes at start e h. omega (arith, bytes_in-broken bytes e, broken_end bytes at start e, length-drop (part_end at start) bytes, h))
+    (λ bytes at start e h. omega (arith, bytes_in-broken bytes e, broken_end bytes at start e, length-drop (subpart_end at start) bytes, h))

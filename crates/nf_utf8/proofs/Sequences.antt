@@ -1,5 +1,5 @@
 -- Which bytes spell a character, which begin one, and which begin none.
-use Rattle.nf_utf8.proofs.Common.{append-nil, ℕ, ◌-◌, ◌<◌, ◌≤◌, ⊎_elim, List, [], ◌∷◌, ◌++◌, length, get_or, IsUtf8, encode_utf8, refl, sym, ap, arith, length-append, subst, IsInRange, StartsWithNoChar, second_byte_min, order, width_is, no_text, nat_tests, of_one, of_two, of_three, of_four, BeginsText, IsSecond, IsContinuation, IsPart}
+use Rattle.nf_utf8.proofs.Common.{append-nil, ℕ, ◌-◌, ◌<◌, ◌≤◌, ⊎_elim, List, [], ◌∷◌, ◌++◌, length, get_or, IsUtf8, encode_utf8, refl, sym, ap, arith, length-append, subst, IsInRange, StartsWithNoChar, second_byte_min, order, width_is, no_text, nat_tests, of_one, of_two, of_three, of_four, BeginsText, IsSecond, IsContinuation, IsSubpart}
 use Rattle.std.proofs.str.Faults.{Ranged, no_char}
 use Rattle.nf_utf8.proofs.Texts.{BeginsText-front}
 
@@ -34,7 +34,7 @@ begins_two a b first second = ⊎_elim
 pub begins_one : (a : ℕ) → IsInRange 0xC2 0xF4 a → BeginsText (a ∷ [])
 begins_one a first = BeginsText-front (a ∷ []) (second_byte_min a ∷ []) (begins_two a (second_byte_min a) first (grind (arith, nat_tests)))
 
-pub BeginsText-part : (part : List ℕ) → IsPart part → BeginsText part
+pub BeginsText-part : (part : List ℕ) → IsSubpart part → BeginsText part
 BeginsText-part [] h = ([], ([], (refl, refl)))
 BeginsText-part (a ∷ []) h = begins_one a h
 BeginsText-part (a ∷ b ∷ []) h = begins_two a b (omega (arith, h.0.0), h.0.1) h.1
@@ -65,7 +65,7 @@ no_fourth a b d e first none = refuted a (b ∷ d ∷ e ∷ []) (λ more r. grin
 
 -- ---- the bytes that begin a character and are none
 
-pub part_no_char : (part : List ℕ) → IsPart part → StartsWithNoChar part
+pub part_no_char : (part : List ℕ) → IsSubpart part → StartsWithNoChar part
 part_no_char [] h = λ c rest s e. omega (arith, width_is c, ap length e, length-append (encode_utf8 c) rest)
 part_no_char (a ∷ []) h = no_char (a ∷ []) 0 (λ r. omega arith)
 part_no_char (a ∷ b ∷ []) h = no_char (a ∷ b ∷ []) 0 (λ r. omega arith)

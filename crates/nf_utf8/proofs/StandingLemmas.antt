@@ -1,5 +1,5 @@
 -- What a byte tells of the bytes that begin a character, said of all the bytes that a decoder stands after.
-use Rattle.nf_utf8.proofs.Common.{◌≡◌, ℕ, suc, ◌+◌, ◌<◌, true, ◌&&◌, List, [], ◌∷◌, ◌++◌, length, take, IsUtf8, encode_utf8, chars, refl, ap, ◌∙◌, arith, append-nil, length-drop, take_all, take_at, take-take, length-take-le, IsScalar, one, nat_tests, length_push, same_from_push, drop_all, IsUtf8-encode, utf8_valid_len-IsUtf8, Step, More, Char, BadByte, BeginsText, Bad, text_len, text_of, rest_of, begun_len, ending_of, StandsAfter, Answers, bytes_after, ending_at, IsPart}
+use Rattle.nf_utf8.proofs.Common.{◌≡◌, ℕ, suc, ◌+◌, ◌<◌, true, ◌&&◌, List, [], ◌∷◌, ◌++◌, length, take, IsUtf8, encode_utf8, chars, refl, ap, ◌∙◌, arith, append-nil, length-drop, take_all, take_at, take-take, length-take-le, IsScalar, one, nat_tests, length_push, same_from_push, drop_all, IsUtf8-encode, utf8_valid_len-IsUtf8, Step, More, Char, BadByte, BeginsText, Bad, text_len, text_of, rest_of, begun_len, ending_of, StandsAfter, Answers, bytes_after, ending_at, IsSubpart}
 use Rattle.std.proofs.str.Decodes.{chars-nil, chars-encodes}
 use Rattle.nf_utf8.specs.Tells.{Tells, part_after}
 use Rattle.nf_utf8.proofs.Texts.{BeginsText-IsUtf8}
@@ -31,7 +31,7 @@ chars_of_one c s = rw append-nil at (chars-encodes (c ∷ []) (ap (λ b. b && tr
 
 -- ---- where a decoder stands
 
-pub stands_alone : (part : List ℕ) → IsPart part → StandsAfter part part
+pub stands_alone : (part : List ℕ) → IsSubpart part → StandsAfter part part
 stands_alone part h = record { rest = rest_of-none part (text_len-no_char part (part_no_char part h)); begins = BeginsText-part part h }
 
 pub stands_new : StandsAfter [] []
@@ -51,7 +51,7 @@ ending_of-standing {bytes = bytes} s = grind (arith, nat_tests, held_len s, begu
 -- ---- a byte that breaks off a character
 
 -- those before the byte at n begin a character, and with it they begin no text
-pub broken_at : (bytes : List ℕ) (n : ℕ) → n < length bytes → IsPart (take n bytes) → ¬ BeginsText (take (suc n) bytes) → (text_len bytes ≡ 0) × (ending_of bytes ≡ Bad n 0)
+pub broken_at : (bytes : List ℕ) (n : ℕ) → n < length bytes → IsSubpart (take n bytes) → ¬ BeginsText (take (suc n) bytes) → (text_len bytes ≡ 0) × (ending_of bytes ≡ Bad n 0)
 broken_at bytes n short part none =
     let front : List ℕ = take n bytes in
     let begun : begun_len bytes ≡ n = begun_len-is (begins_until bytes n short (BeginsText-part front part) none) in
@@ -63,7 +63,7 @@ broken_at bytes n short part none =
 -- ---- one byte more
 
 module _ {part bytes : List ℕ} (byte : ℕ) (s : StandsAfter part bytes) where
-  pub tells-stands : IsPart part → (step : Step) → Tells part byte step → StandsAfter (part_after part byte step) (bytes_after bytes byte step)
+  pub tells-stands : IsSubpart part → (step : Step) → Tells part byte step → StandsAfter (part_after part byte step) (bytes_after bytes byte step)
   tells-stands h More p = stands_on (byte ∷ []) s (stands_alone _ p)
   tells-stands h (Char c) p =
       let u : IsUtf8 (part ++ byte ∷ []) = rw p.1 (IsUtf8-encode c p.0) in
@@ -73,7 +73,7 @@ module _ {part bytes : List ℕ} (byte : ℕ) (s : StandsAfter part bytes) where
   text_more : text_of (bytes ++ byte ∷ []) ≡ text_of bytes ++ text_of (part ++ byte ∷ [])
   text_more = text_on bytes (byte ∷ []) s.rest
 
-  pub tells-answers : IsPart part → (step : Step) → Tells part byte step → Answers bytes byte step
+  pub tells-answers : IsSubpart part → (step : Step) → Tells part byte step → Answers bytes byte step
   tells-answers h More p =
       let q : List ℕ = part ++ byte ∷ [] in (
         rw (text_more, text_of-none q (text_len-no_char q (part_no_char q p))) (append-nil (text_of bytes)),
@@ -85,7 +85,7 @@ module _ {part bytes : List ℕ} (byte : ℕ) (s : StandsAfter part bytes) where
   )
   tells-answers h (BadByte back) p =
       let size = length_push part byte in
-      let held : IsPart (take (length part) (part ++ byte ∷ [])) = rw (take_at part (byte ∷ []) (length part) refl) h in
+      let held : IsSubpart (take (length part) (part ++ byte ∷ [])) = rw (take_at part (byte ∷ []) (length part) refl) h in
       let b = broken_at (part ++ byte ∷ []) (length part) (omega (arith, size)) held (λ b. p.1 (rw (take_all (suc (length part)) (part ++ byte ∷ []) (omega (arith, size))) at b)) in
       let none = rw (text_of-none (part ++ byte ∷ []) b.0, append-nil) at text_more in
       grind (arith, none, ending_on bytes (byte ∷ []) s.rest, b.1, held_len s)

@@ -1,11 +1,11 @@
--- What a piece gives, from what stands at its front, its text, and what stands behind that.
-use Rattle.nf_utf8.proofs.Common.{◌≡◌, ℕ, suc, ◌+◌, ◌^◌, ◌<◌, ◌≤◌, inl, List, [], ◌∷◌, ◌++◌, length, take, drop, Option, Some, None, IsUtf8, chars, refl, sym, ap, ◌∙◌, arith, nat_tests, append_assoc, append-nil, length-append, length-take-le, take-append-drop, append_cancel_left, take-append-add, IsUtf8-nil, IsUtf8-append, IsUtf8-encode, chars-nil, chars-append, encodes-chars, End, Begun, BadFront, BeginsText, IsWhole, IsCut, IsBad, text_len, text_of, rest_of, ending_of, StandsAfter, IsPart, IsFront, Completes, CanEnd, EndsBy, first_text, first_bytes, IsFirst, EndsPiece, Takes, end_holding, bytes_behind, Counts}
+-- What a piece gives, from what stands at its front, its text, and what stands after that.
+use Rattle.nf_utf8.proofs.Common.{◌≡◌, ℕ, suc, ◌+◌, ◌^◌, ◌<◌, ◌≤◌, inl, List, [], ◌∷◌, ◌++◌, length, take, drop, Option, Some, None, IsUtf8, chars, refl, sym, ap, ◌∙◌, arith, nat_tests, append_assoc, append-nil, length-append, length-take-le, take-append-drop, append_cancel_left, take-append-add, IsUtf8-nil, IsUtf8-append, IsUtf8-encode, chars-nil, chars-append, encodes-chars, End, Begun, BadFront, BeginsText, IsWhole, IsCut, IsBad, text_len, text_of, rest_of, ending_of, StandsAfter, IsSubpart, IsFront, Completes, CanEnd, EndsBy, first_text, first_bytes, IsFirst, EndsPiece, Takes, end_holding, bytes_after_piece, Counts}
 use Rattle.nf_utf8.specs.declared.chunk.End.TheVariants.{Whole, Cut, Bad}
 use Rattle.nf_utf8.specs.declared.front.Front.{Front}
 use Rattle.nf_utf8.specs.declared.front.Front.TheVariants.{Char}
 use Rattle.nf_utf8.proofs.Texts.{BeginsText-append}
-use Rattle.nf_utf8.proofs.TextLen.{text_len-behind, text_len-no_char, no_char-text_len}
-use Rattle.nf_utf8.proofs.ReadingLemmas.{text_on, len_on, rest_on, ending_on, begins_on, text_of-behind, rest_of-behind, ending_of-behind}
+use Rattle.nf_utf8.proofs.TextLen.{text_len-after, text_len-no_char, no_char-text_len}
+use Rattle.nf_utf8.proofs.ReadingLemmas.{text_on, len_on, rest_on, ending_on, begins_on, text_of-after, rest_of-after, ending_of-after}
 use Rattle.nf_utf8.proofs.Sequences.{BeginsText-part, part_no_char}
 use Rattle.nf_utf8.proofs.StandingLemmas.{text_of-none, rest_of-none, chars_of_one, stands_new, held_len, ending_of-standing, broken_at}
 
@@ -26,9 +26,9 @@ ends_piece bytes piece Whole e = e
 ends_piece bytes piece Cut e = rw length-append at e
 ends_piece bytes piece (Bad at back) e = grind (arith, length-append bytes piece)
 
--- ---- a piece in three: the first character, the text, and what is behind it
+-- ---- a piece in three: the first character, the text, and what is after it
 
--- `part` and `rest` stand behind the text, and the part up to `skipped` of the piece
+-- `part` and `rest` stand after the text, and the part up to `skipped` of the piece
 pub record Joined (held piece : List ℕ) (first : Option ℕ) (text part rest : List ℕ) (skipped : ℕ) : Type 0 where
   pub leads : IsUtf8 (first_bytes first) × (chars (first_bytes first) ≡ first_text first)
   pub utf8 : IsUtf8 text
@@ -37,13 +37,13 @@ pub record Joined (held piece : List ℕ) (first : Option ℕ) (text part rest :
   pub sum : length (first_bytes first) + length text + length part ≡ length held + skipped
 
 abbrev pub Taken : List ℕ → List ℕ → Option ℕ → List ℕ → End → List ℕ → Type 0
-Taken bytes piece first text end left = Takes bytes piece first text end × StandsAfter left (bytes_behind bytes piece end)
+Taken bytes piece first text end left = Takes bytes piece first text end × StandsAfter left (bytes_after_piece bytes piece end)
 
-behind_holding : (bytes piece held : List ℕ) → bytes_behind bytes piece (end_holding held) ≡ bytes ++ piece
-behind_holding bytes piece [] = refl
-behind_holding bytes piece (a ∷ held) = refl
+after_holding : (bytes piece held : List ℕ) → bytes_after_piece bytes piece (end_holding held) ≡ bytes ++ piece
+after_holding bytes piece [] = refl
+after_holding bytes piece (a ∷ held) = refl
 
-part_size : (part : List ℕ) → IsPart part → length part ≤ 3
+part_size : (part : List ℕ) → IsSubpart part → length part ≤ 3
 part_size (a ∷ b ∷ c ∷ d ∷ rest) h = absurd h
 part_size _ h = omega arith
 
@@ -60,17 +60,17 @@ module _ {held piece : List ℕ} {first : Option ℕ} {text part rest : List ℕ
   module _ {bytes : List ℕ} (s : StandsAfter held bytes) where
     module _ (none : text_len tail ≡ 0) where
       taken_rest : rest_of (bytes ++ piece) ≡ tail
-      taken_rest = rw (rest_on bytes piece s.rest, j.joins, rest_of-behind lead tail utf8) (rest_of-none tail none)
+      taken_rest = rw (rest_on bytes piece s.rest, j.joins, rest_of-after lead tail utf8) (rest_of-none tail none)
 
       taken_len : text_len (bytes ++ piece) ≡ text_len bytes + length (first_bytes first) + length text
-      taken_len = rw (len_on bytes piece s.rest, j.joins, text_len-behind lead tail utf8) (omega (arith, none, length-append (first_bytes first) text))
+      taken_len = rw (len_on bytes piece s.rest, j.joins, text_len-after lead tail utf8) (omega (arith, none, length-append (first_bytes first) text))
 
       takes : (end : End) → EndsPiece bytes piece end → Takes bytes piece first text end
       takes end e = record {
         spelled = rw (
           text_on bytes piece s.rest,
           j.joins,
-          text_of-behind lead tail utf8,
+          text_of-after lead tail utf8,
           text_of-none tail none,
           append-nil,
           chars-append (first_bytes first) text j.leads.0,
@@ -83,15 +83,15 @@ module _ {held piece : List ℕ} {first : Option ℕ} {text part rest : List ℕ
         len = taken_len;
       }
 
-      taken_part : IsPart tail → Taken bytes piece first text (end_holding tail) tail
+      taken_part : IsSubpart tail → Taken bytes piece first text (end_holding tail) tail
       taken_part p =
           let all : BeginsText (held ++ piece) = rw j.joins (BeginsText-append lead tail utf8 (BeginsText-part tail p)) in
           let stands : StandsAfter tail (bytes ++ piece) = record { rest = taken_rest; begins = begins_on bytes piece s.rest all } in
-          (takes _ (ends_piece bytes piece _ (ends_holding bytes (bytes ++ piece) tail stands)), rw (behind_holding bytes piece tail) stands)
+          (takes _ (ends_piece bytes piece _ (ends_holding bytes (bytes ++ piece) tail stands)), rw (after_holding bytes piece tail) stands)
 
       taken_bad : (at : ℕ) → at < length rest → ending_of tail ≡ IsBad (length part + at) 0 → Taken bytes piece first text (Bad (skipped + at) (length part + at)) []
       taken_bad at inside bad =
-          let ending = rw (j.joins, ending_of-behind lead tail utf8, bad) at (ending_on bytes piece s.rest) in
+          let ending = rw (j.joins, ending_of-after lead tail utf8, bad) at (ending_on bytes piece s.rest) in
           let sizes = simp length-append at (ap length j.joins) in
           (takes _ (grind (arith, ending, sizes, taken_len, held_len s, j.sum, length-append (first_bytes first) text)), stands_new)
 
@@ -114,15 +114,15 @@ module _ {held piece : List ℕ} {first : Option ℕ} {text part rest : List ℕ
       let front = length-append part (take at rest) in
       rw by.0 (grind (arith, sizes, front, j.sum, length-take-le at rest, part_size (part ++ take at rest) is.1))
 
--- ---- the piece from `from` on, behind the first character
+-- ---- the piece from `from` on, after the first character
 
 completed : (held piece text : List ℕ) (first : Option ℕ) (from : ℕ) → Completes held piece first from
     → (held ++ take from piece ≡ first_bytes first) × IsFirst held first text × (IsUtf8 (first_bytes first) × (chars (first_bytes first) ≡ first_text first))
 completed held piece text None from h = (rw (h.0, h.1), inl h.0, (IsUtf8-nil, chars-nil))
 completed held piece text (Some c) from h = (h.1.2, h.0, (IsUtf8-encode c h.1.1, chars_of_one c h.1.1))
 
-pub joined_from : {held piece : List ℕ} {first : Option ℕ} {text behind : List ℕ} (from : ℕ) → Completes held piece first from → from ≤ length piece → drop from piece ≡ text ++ behind
-    → IsUtf8 text → Joined held piece first text [] behind (from + length text)
+pub joined_from : {held piece : List ℕ} {first : Option ℕ} {text after : List ℕ} (from : ℕ) → Completes held piece first from → from ≤ length piece → drop from piece ≡ text ++ after
+    → IsUtf8 text → Joined held piece first text [] after (from + length text)
 joined_from {held} {piece} {first} {text} from h within split u =
     let done = completed held piece text first from h in
     record {
@@ -133,11 +133,11 @@ joined_from {held} {piece} {first} {text} from h within split u =
       sum = omega (arith, length-append held (take from piece), length-take-le from piece within, ap length done.0);
     }
 
-pub can_end : (behind : List ℕ) (front : Front) (skipped : ℕ) → IsFront [] behind front → text_len behind ≡ 0 → skipped + length behind < 2 ^ 64 → CanEnd front skipped
-can_end behind (Char c len) skipped is none few =
-    no_char-text_len behind none c (drop len behind) is.1 (sym (take-append-drop len behind) ∙ ap (λ l. l ++ drop len behind) is.2)
-can_end behind (Begun carry) skipped is none few = rw is.1 is.0
-can_end behind (BadFront at back) skipped is none few = omega (arith, is.0)
+pub can_end : (after : List ℕ) (front : Front) (skipped : ℕ) → IsFront [] after front → text_len after ≡ 0 → skipped + length after < 2 ^ 64 → CanEnd front skipped
+can_end after (Char c len) skipped is none few =
+    no_char-text_len after none c (drop len after) is.1 (sym (take-append-drop len after) ∙ ap (λ l. l ++ drop len after) is.2)
+can_end after (Begun carry) skipped is none few = rw is.1 is.0
+can_end after (BadFront at back) skipped is none few = omega (arith, is.0)
 
 -- ---- one answer alone fits
 

@@ -1,4 +1,4 @@
--- How bytes end behind the text at their front (The Unicode Standard, section 3.9, D84 to D86).
+-- How bytes end after the text at their front (The Unicode Standard, section 3.9, D84 to D86).
 use Rattle.std.specs.Prelude.{ℕ, ◌+◌}
 
 -- with that text; at a bad byte; or inside a character. `at` is how many bytes stand before the bad byte or the

@@ -1,4 +1,4 @@
--- What stands at the front of bytes, behind those of a begun character (The Unicode Standard, section 3.9, Table 3-7).
+-- What stands at the front of bytes, after those of a begun character (The Unicode Standard, section 3.9, Table 3-7).
 use Rattle.std.specs.Prelude.{◌≡◌, ℕ, ◌+◌, ◌^◌, ◌<◌, ◌≤◌, List, [], ◌++◌, length, take, Option, Some, None, encode_utf8}
 use Rattle.std.specs.Char.{IsScalar}
 use Rattle.nf_utf8.specs.declared.front.Front.{Front}
@@ -6,24 +6,24 @@ use Rattle.nf_utf8.specs.declared.front.Front.TheVariants.{Char, Begun, Bad}
 use Rattle.nf_utf8.specs.declared.chunk.End.{End}
 use Rattle.nf_utf8.specs.declared.chunk.End.TheVariants.{Bad as BadEnd}
 use Rattle.nf_utf8.specs.Text.{BeginsText}
-use Rattle.nf_utf8.specs.Part.{IsPart}
+use Rattle.nf_utf8.specs.Part.{IsSubpart}
 use Rattle.nf_utf8.specs.Carry.{bytes_of}
 use Rattle.nf_utf8.specs.Taking.{end_holding}
 
 abbrev pub IsFront : List ℕ → List ℕ → Front → Type 0
 IsFront part bytes (Char c len) = (len ≤ length bytes) × IsScalar c × (part ++ take len bytes ≡ encode_utf8 c)
-IsFront part bytes (Begun carry) = IsPart (part ++ bytes) × (bytes_of carry ≡ part ++ bytes)
-IsFront part bytes (Bad at back) = (at < length bytes) × IsPart (part ++ take at bytes) × (¬ BeginsText (part ++ take (at + 1) bytes)) × (back ≡ length part + at)
+IsFront part bytes (Begun carry) = IsSubpart (part ++ bytes) × (bytes_of carry ≡ part ++ bytes)
+IsFront part bytes (Bad at back) = (at < length bytes) × IsSubpart (part ++ take at bytes) × (¬ BeginsText (part ++ take (at + 1) bytes)) × (back ≡ length part + at)
 
--- the first character has its bytes behind the part up to `from` of the piece, or there is no part and none
+-- the first character has its bytes after the part up to `from` of the piece, or there is no part and none
 abbrev pub Completes : List ℕ → List ℕ → Option ℕ → ℕ → Type 0
 Completes part piece None from = (part ≡ []) × (from ≡ 0)
 Completes part piece (Some c) from = (¬ (part ≡ [])) × IsFront part piece (Char c from)
 
--- what ends a piece behind `skipped` bytes of it, and what is held then
+-- what ends a piece after `skipped` bytes of it, and what is held then
 abbrev pub CanEnd : Front → ℕ → Type 0
 CanEnd (Char c len) skipped = ⊥
-CanEnd (Begun carry) skipped = IsPart (bytes_of carry)
+CanEnd (Begun carry) skipped = IsSubpart (bytes_of carry)
 CanEnd (Bad at back) skipped = skipped + at < 2 ^ 64
 
 abbrev pub EndsBy : Front → ℕ → End → List ℕ → Type 0

@@ -8,7 +8,7 @@ use Rattle.nf_utf8.specs.Reading.{text_len, text_of, rest_of, ending_of}
 use Rattle.nf_utf8.specs.Reads.{Reads}
 use Rattle.nf_utf8.specs.Taking.{first_text, Takes}
 use Rattle.nf_utf8.specs.Pushes.{Pushes}
-use Rattle.nf_utf8.specs.Replaced.{Part, replacement, own_parts, part_end, parts_of, replaced, bytes_in, begun_at_end, replaced_whole}
+use Rattle.nf_utf8.specs.Replaced.{Part, replacement, own_parts, subpart_end, parts_of, replaced, bytes_in, begun_at_end, replaced_whole}
 
 -- bytes read as the longest text that a front of them spells, with their ending, and as nothing else
 pub record ReadsLongestText : Type 0 where
@@ -21,19 +21,19 @@ pub record SplitsBytes : Type 0 where
   pub scalars : (bytes : List ℕ) → IsText (text_of bytes)
   pub len : (bytes : List ℕ) → length (encode_utf8_all (text_of bytes)) ≡ text_len bytes
 
--- the bytes of a text read as that text, and what is behind them as if it stood alone
+-- the bytes of a text read as that text, and what is after them as if it stood alone
 pub record ReadsBack : Type 0 where
   pub text : (text bytes : List ℕ) → IsText text → text_of (encode_utf8_all text ++ bytes) ≡ text ++ text_of bytes
   pub rest : (text bytes : List ℕ) → IsText text → rest_of (encode_utf8_all text ++ bytes) ≡ rest_of bytes
   pub ending : (text bytes : List ℕ) → IsText text → ending_of (encode_utf8_all text ++ bytes) ≡ moved (length (encode_utf8_all text)) (ending_of bytes)
 
--- a piece is read behind the rest of what came before: where the bytes are cut into pieces does not matter, and
+-- a piece is read after the rest of what came before: where the bytes are cut into pieces does not matter, and
 -- no character is taken back
 pub record ReadsPieces : Type 0 where
   pub text : (bytes piece : List ℕ) → text_of (bytes ++ piece) ≡ text_of bytes ++ text_of (rest_of bytes ++ piece)
   pub rest : (bytes piece : List ℕ) → rest_of (bytes ++ piece) ≡ rest_of (rest_of bytes ++ piece)
   pub ending : (bytes piece : List ℕ) → ending_of (bytes ++ piece) ≡ moved (text_len bytes) (ending_of (rest_of bytes ++ piece))
-  -- nothing behind a bad byte is read
+  -- nothing after a bad byte is read
   pub bad_text : (bytes piece : List ℕ) (at start : ℕ) → ending_of bytes ≡ Bad at start → text_of (bytes ++ piece) ≡ text_of bytes
   pub bad_ending : (bytes piece : List ℕ) (at start : ℕ) → ending_of bytes ≡ Bad at start → ending_of (bytes ++ piece) ≡ Bad at start
 
@@ -46,9 +46,9 @@ pub record TakesAsPushed : Type 0 where
 pub record ReplacesParts : Type 0 where
   -- bytes that begin a text give that text
   pub begun : (bytes : List ℕ) → BeginsText bytes → parts_of bytes ≡ own_parts (text_of bytes)
-  -- others give the text before the bad byte, one part for what it breaks off, and what stands behind that part
+  -- others give the text before the bad byte, one part for what it breaks off, and what stands after that part
   pub bad : (bytes more : List ℕ) (at start : ℕ) → ending_of bytes ≡ Bad at start
-      → parts_of (bytes ++ more) ≡ own_parts (text_of bytes) ++ record { char = replacement; len = part_end at start - start } ∷ parts_of (drop (part_end at start) (bytes ++ more))
+      → parts_of (bytes ++ more) ≡ own_parts (text_of bytes) ++ record { char = replacement; len = subpart_end at start - start } ∷ parts_of (drop (subpart_end at start) (bytes ++ more))
   pub own_len : (x : List ℕ) → bytes_in (own_parts x) ≡ length (encode_utf8_all x)
   pub own_chars : (x : List ℕ) → map (λ part. part.char) (own_parts x) ≡ x
   pub joined : (a b : List Part) → bytes_in (a ++ b) ≡ bytes_in a + bytes_in b

@@ -11,4 +11,4 @@ pub mod Front
 pub mod Taking
 pub mod Pushes
 pub mod Replaced
-pub mod Mending
+pub mod Lossy

@@ -12,9 +12,9 @@ abbrev pub IsContinuation : ℕ → Type 0
 IsContinuation c = IsInRange 0x80 0xBF c
 
 -- a row of the table without its last byte or more, or no bytes
-abbrev pub IsPart : List ℕ → Type 0
-IsPart [] = Unit {0}
-IsPart (a ∷ []) = IsInRange 0xC2 0xF4 a
-IsPart (a ∷ b ∷ []) = IsInRange 0xE0 0xF4 a × IsSecond a b
-IsPart (a ∷ b ∷ c ∷ []) = IsInRange 0xF0 0xF4 a × IsSecond a b × IsContinuation c
-IsPart (a ∷ b ∷ c ∷ d ∷ rest) = ⊥
+abbrev pub IsSubpart : List ℕ → Type 0
+IsSubpart [] = Unit {0}
+IsSubpart (a ∷ []) = IsInRange 0xC2 0xF4 a
+IsSubpart (a ∷ b ∷ []) = IsInRange 0xE0 0xF4 a × IsSecond a b
+IsSubpart (a ∷ b ∷ c ∷ []) = IsInRange 0xF0 0xF4 a × IsSecond a b × IsContinuation c
+IsSubpart (a ∷ b ∷ c ∷ d ∷ rest) = ⊥

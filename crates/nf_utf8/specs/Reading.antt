@@ -13,7 +13,7 @@ text_len bytes = utf8_valid_len bytes
 unfoldable pub text_of : List ℕ → List ℕ
 text_of bytes = chars (take (text_len bytes) bytes)
 
--- the bytes behind it
+-- the bytes after it
 unfoldable pub rest_of : List ℕ → List ℕ
 rest_of bytes = drop (text_len bytes) bytes
 

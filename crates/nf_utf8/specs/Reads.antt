@@ -15,13 +15,13 @@ pub record IsBadAt (bytes : List ℕ) (at : ℕ) : Type 0 where
   pub before : BeginsText (take at bytes)
   pub here : ¬ BeginsText (take (at + 1) bytes)
 
--- the bytes end at `at`, behind the text and inside a character
+-- the bytes end at `at`, after the text and inside a character
 pub record IsCutAt (bytes text : List ℕ) (at : ℕ) : Type 0 where
   pub end : at ≡ length bytes
   pub more : length (encode_utf8_all text) < at
   pub begins : BeginsText bytes
 
--- how the bytes end behind the text at their front
+-- how the bytes end after the text at their front
 abbrev pub EndsAs : List ℕ → List ℕ → Ending → Type 0
 EndsAs bytes text Whole = bytes ≡ encode_utf8_all text
 EndsAs bytes text (Bad at start) = IsBadAt bytes at × (start ≡ length (encode_utf8_all text))

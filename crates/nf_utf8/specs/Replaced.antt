@@ -18,20 +18,20 @@ own_parts x = map (λ c. record { char = c; len = length (encode_utf8 c) }) x
 
 -- where a part that a bad byte breaks off ends: before that byte, which begins the next; a byte that begins nothing
 -- is a part by itself
-abbrev pub part_end : (at start : ℕ) → ℕ
-part_end at start = if at == start then start + 1 else at
+abbrev pub subpart_end : (at start : ℕ) → ℕ
+subpart_end at start = if at == start then start + 1 else at
 
--- what stands behind the text of bytes, by their ending; `behind n` are the parts of the bytes from the n-th on.
+-- what stands after the text of bytes, by their ending; `after n` are the parts of the bytes from the n-th on.
 -- Bytes of a character that the end cuts give nothing yet
-abbrev pub behind_text : Ending → (ℕ → List Part) → List Part
-behind_text Whole behind = []
-behind_text (Cut at start) behind = []
-behind_text (Bad at start) behind = record { char = replacement; len = part_end at start - start } ∷ behind (part_end at start)
+abbrev pub parts_after_text : Ending → (ℕ → List Part) → List Part
+parts_after_text Whole after = []
+parts_after_text (Cut at start) after = []
+parts_after_text (Bad at start) after = record { char = replacement; len = subpart_end at start - start } ∷ after (subpart_end at start)
 
 -- the parts, where fewer than k of them are broken off
 abbrev pub parts_within : ℕ → List ℕ → List Part
 parts_within zero bytes = []
-parts_within (suc k) bytes = own_parts (text_of bytes) ++ behind_text (ending_of bytes) (λ n. parts_within k (drop n bytes))
+parts_within (suc k) bytes = own_parts (text_of bytes) ++ parts_after_text (ending_of bytes) (λ n. parts_within k (drop n bytes))
 
 unfoldable pub parts_of : List ℕ → List Part
 parts_of bytes = parts_within (suc (length bytes)) bytes

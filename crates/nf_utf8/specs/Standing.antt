@@ -7,13 +7,13 @@ use Rattle.nf_utf8.specs.Text.{BeginsText}
 use Rattle.nf_utf8.specs.Ending.{Ending, Whole, Bad, Cut}
 use Rattle.nf_utf8.specs.Reading.{text_len, text_of, rest_of, ending_of}
 
--- since it was made or last answered that a byte is bad it was given these bytes, and it holds those behind
+-- since it was made or last answered that a byte is bad it was given these bytes, and it holds those after
 -- their text
 pub record StandsAfter (decoder : Decoder) (bytes : List ℕ) : Type 0 where
   pub rest : rest_of bytes ≡ decoder
   pub begins : BeginsText bytes
 
--- what the step says of `byte` behind these bytes, which begin a text
+-- what the step says of `byte` after these bytes, which begin a text
 abbrev pub Answers : List ℕ → ℕ → Step → Type 0
 Answers bytes byte More = (text_of (bytes ++ byte ∷ []) ≡ text_of bytes)
     × (ending_of (bytes ++ byte ∷ []) ≡ Cut (length bytes + 1) (text_len bytes))

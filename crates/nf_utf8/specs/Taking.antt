@@ -1,4 +1,4 @@
--- What a piece gives behind the bytes that a decoder stands after (The Unicode Standard, section 3.9).
+-- What a piece gives after the bytes that a decoder stands after (The Unicode Standard, section 3.9).
 use Rattle.std.specs.Prelude.{◌≡◌, ℕ, ◌+◌, ◌-◌, ◌<◌, ◌≤◌, ◌⊎◌, List, [], ◌∷◌, ◌++◌, length, Option, Some, None, IsUtf8, chars, encode_utf8}
 use Rattle.nf_utf8.specs.declared.chunk.End.{End}
 use Rattle.nf_utf8.specs.declared.chunk.End.TheVariants.{Whole, Cut, Bad}
@@ -30,7 +30,7 @@ EndsPiece bytes piece Cut = ending_of (bytes ++ piece) ≡ IsCut (length bytes +
 EndsPiece bytes piece (Bad at back) = (ending_of (bytes ++ piece) ≡ IsBad (length bytes + at) (text_len (bytes ++ piece)))
     × (text_len (bytes ++ piece) + back ≡ length bytes + at) × (at < length piece)
 
--- what the piece gives behind these bytes, which begin a text
+-- what the piece gives after these bytes, which begin a text
 pub record Takes (bytes piece : List ℕ) (first : Option ℕ) (text : List ℕ) (end : End) : Type 0 where
   pub spelled : text_of (bytes ++ piece) ≡ text_of bytes ++ first_text first ++ chars text
   pub well_formed : IsUtf8 text
@@ -46,12 +46,12 @@ end_holding [] = Whole
 end_holding (a ∷ held) = Cut
 
 -- the bytes that a decoder stands after then
-abbrev pub bytes_behind : List ℕ → List ℕ → End → List ℕ
-bytes_behind bytes piece Whole = bytes ++ piece
-bytes_behind bytes piece Cut = bytes ++ piece
-bytes_behind bytes piece (Bad at back) = []
+abbrev pub bytes_after_piece : List ℕ → List ℕ → End → List ℕ
+bytes_after_piece bytes piece Whole = bytes ++ piece
+bytes_after_piece bytes piece Cut = bytes ++ piece
+bytes_after_piece bytes piece (Bad at back) = []
 
--- the bytes of the first character, of the text and of what is behind it are those held before and those of the piece,
+-- the bytes of the first character, of the text and of what is after it are those held before and those of the piece,
 -- or of the piece those before the bad byte; `left` is what is held then
 abbrev pub Counts : List ℕ → List ℕ → Option ℕ → List ℕ → End → List ℕ → Type 0
 Counts held piece first text Whole left = (length (first_bytes first) + length text ≡ length held + length piece) × (left ≡ [])

@@ -7,6 +7,6 @@ use Rattle.std.specs.Str.{all_scalars}
 abbrev pub IsText : List ℕ → Type 0
 IsText text = all_scalars text ≡ true
 
--- some bytes behind these, or none, make them well-formed
+-- some bytes after these, or none, make them well-formed
 abbrev pub BeginsText : List ℕ → Type 0
 BeginsText bytes = (more : List ℕ) × IsUtf8 (bytes ++ more)

@@ -7,8 +7,8 @@ use std::simd::prelude::*;
 /// The bytes that are looked at by one branch, as long as all are below 80.
 const BLOCK: usize = 64;
 
-/// Those that are looked at together before such a block, and behind it.
-const FEW: usize = 16;
+/// Those that are looked at together before such a block, and after it.
+const SMALL_BLOCK: usize = 16;
 
 /// The length in bytes of the longest prefix of bytes below 80 (hexadecimal).
 pub fn ascii_prefix(bytes: &[u8]) -> usize
@@ -17,19 +17,19 @@ pub fn ascii_prefix(bytes: &[u8]) -> usize
     ensures longest { result < length bytes.now → 0x80 ≤ slice_index bytes.now result }
 {
     let mut at = 0;
-    while bytes.len() - at >= FEW {
+    while bytes.len() - at >= SMALL_BLOCK {
         let others = not_ascii(u8x16::from_slice(&bytes[at..]));
         if others != 0 {
             return at + others.trailing_zeros() as usize;
         }
-        at = behind_blocks(bytes, at + FEW);
+        at = after_blocks(bytes, at + SMALL_BLOCK);
     }
     by_bytes(bytes, at)
 }
 
-/// Behind the blocks from `from` on before the first that has a byte of 80 or above.
+/// After the blocks from `from` on before the first that has a byte of 80 or above.
 #[inline(always)]
-fn behind_blocks(bytes: &[u8], from: usize) -> usize
+fn after_blocks(bytes: &[u8], from: usize) -> usize
     requires within { from ≤ length bytes.now }
     requires ascii { (k : ℕ) → k < from → slice_index bytes.now k < 0x80 }
     ensures further { from ≤ result }

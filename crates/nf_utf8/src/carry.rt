@@ -1,5 +1,5 @@
 ghost use Rattle.std.specs.Prelude.{◌≡◌, ◌≤◌, ◌↔◌, [], IsTrue, IsSome, IfSome, length, take};
-ghost use Rattle.nf_utf8.specs.Part.{IsPart};
+ghost use Rattle.nf_utf8.specs.Part.{IsSubpart};
 ghost use Rattle.nf_utf8.specs.Carry.{bytes_of};
 ghost use Rattle.nf_utf8.specs.Tells.{Tells, part_after};
 ghost use Rattle.nf_utf8.specs.Front.{IsFront};
@@ -20,7 +20,7 @@ pub enum Carry {
 impl Carry {
     /// These bytes, where they begin a character or are none.
     pub fn holding(bytes: &[u8]) -> Option<Carry>
-        ensures some { IsSome result ↔ IsPart bytes.now }
+        ensures some { IsSome result ↔ IsSubpart bytes.now }
         ensures bytes { IfSome result (λ carry. bytes_of carry ≡ bytes.now) }
     {
         match *bytes {
@@ -65,10 +65,10 @@ impl Carry {
         matches!(self, Carry::Empty)
     }
 
-    /// What `byte` tells behind these.
+    /// What `byte` tells after these.
     #[inline]
     pub fn step(self, byte: u8) -> Step
-        requires { IsPart (bytes_of self) }
+        requires { IsSubpart (bytes_of self) }
         ensures { Tells (bytes_of self) byte result }
     {
         match self {
@@ -96,10 +96,10 @@ impl Carry {
         }
     }
 
-    /// What `bytes` tell behind these, up to the byte that completes the character or is bad.
+    /// What `bytes` tell after these, up to the byte that completes the character or is bad.
     #[inline]
     pub fn front(self, bytes: &[u8]) -> Front
-        requires { IsPart (bytes_of self) }
+        requires { IsSubpart (bytes_of self) }
         ensures { IsFront (bytes_of self) bytes.now result }
     {
         let mut carry = self;

@@ -1,7 +1,7 @@
 /// How a piece ends.
 #[derive(Clone, Copy, Debug, PartialEq, Eq)]
 pub enum End {
-    /// Behind its last character. Nothing is carried.
+    /// After its last character. Nothing is carried.
     Whole,
     /// Inside a character, of which 1 to 3 bytes are carried.
     Cut,
@@ -16,7 +16,7 @@ pub enum End {
 pub struct Chunk<'p> {
     /// The character that was begun in earlier pieces, where this one completes it.
     pub first: Option<char>,
-    /// The well-formed text behind it, in the piece itself.
+    /// The well-formed text after it, in the piece itself.
     pub text: &'p str,
     pub end: End,
 }

@@ -11,7 +11,7 @@ use std::simd::prelude::*;
 const LANES: usize = 32;
 
 /// Those that are, where fewer are left, so that a short text costs little.
-const FEW: usize = 8;
+const SMALL_BLOCK: usize = 8;
 
 /// How many characters a text has: as many as it has bytes that begin one.
 #[inline(never)]
@@ -44,9 +44,9 @@ fn starts_by_few(bytes: &[u8]) -> usize
 {
     let mut at = 0;
     let mut count = 0;
-    while bytes.len() - at >= FEW {
+    while bytes.len() - at >= SMALL_BLOCK {
         count += starts_of_few(u8x8::from_slice(&bytes[at..]));
-        at += FEW;
+        at += SMALL_BLOCK;
     }
     count + starts_by_bytes(&bytes[at..])
 }

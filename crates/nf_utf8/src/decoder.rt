@@ -15,14 +15,14 @@ pub struct Decoder {
 
 impl Model for Decoder {
     ghost use Rattle.std.specs.Prelude.{ℕ, List};
-    ghost use Rattle.nf_utf8.specs.Part.{IsPart};
+    ghost use Rattle.nf_utf8.specs.Part.{IsSubpart};
     ghost use Rattle.nf_utf8.specs.Carry.{bytes_of, carry_of, carry_of-bytes_of};
 
     ghost Value = { List ℕ };
 
     ghost view = { λ d. bytes_of d.carry };
 
-    ghost invariant = { λ d. IsPart (bytes_of d.carry) };
+    ghost invariant = { λ d. IsSubpart (bytes_of d.carry) };
 
     ghost inverse = { λ bytes. record { carry = carry_of bytes } };
 
@@ -30,11 +30,11 @@ impl Model for Decoder {
 }
 
 impl Decoder {
-    ghost use Rattle.nf_utf8.specs.Part.{IsPart};
+    ghost use Rattle.nf_utf8.specs.Part.{IsSubpart};
     ghost use Rattle.nf_utf8.specs.declared.chunk.End.{End};
     ghost use Rattle.nf_utf8.specs.Reading.{text_of, ending_of};
     ghost use Rattle.nf_utf8.specs.Standing.{StandsAfter, Answers, bytes_after, ending_at};
-    ghost use Rattle.nf_utf8.specs.Taking.{Takes, bytes_behind, first_len, Counts};
+    ghost use Rattle.nf_utf8.specs.Taking.{Takes, bytes_after_piece, first_len, Counts};
     ghost use Rattle.nf_utf8.specs.Front.{Completes, CanEnd, EndsBy};
 
     /// A decoder that was given nothing.
@@ -49,7 +49,7 @@ impl Decoder {
 
     /// A decoder that holds these bytes; none unless they begin a character or there are none.
     pub fn holding(bytes: &[u8]) -> Option<Decoder>
-        ensures some { IsSome result ↔ IsPart bytes.now }
+        ensures some { IsSome result ↔ IsSubpart bytes.now }
         ensures holds { IfSome result (λ decoder. decoder ≡ bytes.now) }
     {
         match Carry::holding(bytes) {
@@ -62,12 +62,12 @@ impl Decoder {
     pub fn held(&self) -> ([u8; 3], usize)
         ensures bytes { take result.1 result.0 ≡ self.now }
         ensures few { result.1 ≤ 3 }
-        ensures part { IsPart self.now }
+        ensures part { IsSubpart self.now }
     {
         self.carry.bytes()
     }
 
-    /// Takes one byte. Behind a bad byte the decoder is as a new one: that byte was not kept, and pushed again it
+    /// Takes one byte. After a bad byte the decoder is as a new one: that byte was not kept, and pushed again it
     /// is taken as a first byte.
     #[inline]
     pub fn push(&mut self, byte: u8) -> Step
@@ -81,10 +81,10 @@ impl Decoder {
         self.push_any(byte)
     }
 
-    /// How many bytes it holds (0 to 3): those behind the text read.
+    /// How many bytes it holds (0 to 3): those after the text read.
     #[inline]
     pub fn carried(&self) -> usize
-        ensures behind { (bytes : List ℕ) → StandsAfter self.now bytes → length (encode_utf8_all (text_of bytes)) + result ≡ length bytes }
+        ensures after { (bytes : List ℕ) → StandsAfter self.now bytes → length (encode_utf8_all (text_of bytes)) + result ≡ length bytes }
         ensures ending { (bytes : List ℕ) → StandsAfter self.now bytes → ending_of bytes ≡ ending_at (length bytes) result }
         ensures few { result ≤ 3 }
 
@@ -97,13 +97,13 @@ impl Decoder {
 
     /// Takes a piece, or what of it stands before a bad byte: the same as to push these bytes, in one pass.
     ///
-    /// After a bad byte the decoder is as a new one. The bytes far behind it were not read, so that to take the rest of
+    /// After a bad byte the decoder is as a new one. The bytes further on were not read, so that to take the rest of
     /// the piece again after each of many bad bytes costs no more than a few passes, and a constant for each.
     pub fn take<'p>(&mut self, piece: &'p [u8]) -> Chunk<'p>
         ensures takes { (bytes : List ℕ) → StandsAfter self.old bytes → Takes bytes piece.now result.first result.text.now result.end }
         ensures only { (bytes : List ℕ) (first : Option ℕ) (text : List ℕ) (end : End) → StandsAfter self.old bytes → Takes bytes piece.now first text end
             → (first ≡ result.first) × (text ≡ result.text.now) × (end ≡ result.end) }
-        ensures stands { (bytes : List ℕ) → StandsAfter self.old bytes → StandsAfter self.new (bytes_behind bytes piece.now result.end) }
+        ensures stands { (bytes : List ℕ) → StandsAfter self.old bytes → StandsAfter self.new (bytes_after_piece bytes piece.now result.end) }
 
         // Where the text stands in the piece, and how many bytes there are of each.
         ensures inside { first_len self.old result.first + length result.text.now ≤ length piece.now }
@@ -123,29 +123,29 @@ impl Decoder {
         }
     }
 
-    /// Takes the piece from `from` on, behind the character that is completed there.
+    /// Takes the piece from `from` on, after the character that is completed there.
     fn take_text<'p>(&mut self, first: Option<char>, piece: &'p [u8], from: usize) -> Chunk<'p>
         requires { from ≤ length piece.now }
         ensures takes { (held bytes : List ℕ) → Completes held piece.now first from → StandsAfter held bytes
             → Takes bytes piece.now result.first result.text.now result.end }
         ensures stands { (held bytes : List ℕ) → Completes held piece.now first from → StandsAfter held bytes
-            → StandsAfter self.new (bytes_behind bytes piece.now result.end) }
+            → StandsAfter self.new (bytes_after_piece bytes piece.now result.end) }
         ensures first { result.first ≡ first }
         ensures inside { from + length result.text.now ≤ length piece.now }
         ensures text { result.text.now ≡ take (length result.text.now) (drop from piece.now) }
         ensures counts { (held : List ℕ) → Completes held piece.now first from → Counts held piece.now result.first result.text.now result.end self.new }
     {
         let rest = &piece[from..];
-        let (front, behind) = rest.split_at(valid_len(rest));
+        let (front, after) = rest.split_at(valid_len(rest));
         let text = unsafe { std::str::from_utf8_unchecked(front) };
         Chunk {
             first,
             text,
-            end: self.end(Carry::Empty.front(behind), from + text.len()),
+            end: self.end(Carry::Empty.front(after), from + text.len()),
         }
     }
 
-    /// Ends a piece with what stands behind its first `skipped` bytes.
+    /// Ends a piece with what stands after its first `skipped` bytes.
     fn end(&mut self, front: Front, skipped: usize) -> End
         requires { CanEnd front skipped }
         ensures { EndsBy front skipped result self.new }

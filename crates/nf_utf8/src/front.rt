@@ -1,6 +1,6 @@
 use crate::carry::Carry;
 
-/// What stands at the front of bytes, behind those of a begun character.
+/// What stands at the front of bytes, after those of a begun character.
 #[derive(Clone, Copy)]
 pub enum Front {
     /// The first `len` bytes complete this character.

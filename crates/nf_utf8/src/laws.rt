@@ -20,7 +20,7 @@ pub fn read_back()
     ensures { ReadsBack }
 {}
 
-/// A piece is read behind the rest of what came before it, so it does not matter where bytes are cut into pieces.
+/// A piece is read after the rest of what came before it, so it does not matter where bytes are cut into pieces.
 #[inline]
 pub fn pieces()
     ensures { ReadsPieces }

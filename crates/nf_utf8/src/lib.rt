@@ -2,7 +2,7 @@
 //!
 //! A [`Decoder`] takes bytes one by one or in pieces. [`Decoder::push`] answers by a [`Step`]: the character that
 //! the byte completes, that a character goes on, or that the byte is bad. [`Decoder::take`] answers by a [`Chunk`]:
-//! the character that the piece completes, the text behind it, lent from the piece and validated in blocks, and how
+//! the character that the piece completes, the text after it, lent from the piece and validated in blocks, and how
 //! the piece ends. A decoder holds three bytes at most, allocates nothing and refuses nothing. What is to follow a bad
 //! byte is the caller's choice. [`ascii_prefix`] and [`char_count`] need no decoder.
 //!
@@ -18,7 +18,7 @@ mod counting;
 mod decoder;
 mod front;
 pub mod laws;
-mod mending;
+mod lossy;
 mod sequence;
 mod step;
 mod valid;
@@ -27,5 +27,5 @@ pub use ascii::ascii_prefix;
 pub use chunk::{Chunk, End};
 pub use counting::char_count;
 pub use decoder::Decoder;
-pub use mending::{Mended, mend_front, mended_text};
+pub use lossy::{LossyText, lossy_front, lossy_text};
 pub use step::Step;

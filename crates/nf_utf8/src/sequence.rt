@@ -2,7 +2,7 @@
 
 ghost use Rattle.std.specs.Prelude.{◌≡◌, ◌≤◌, [], ◌∷◌, ◌↔◌, IsTrue, encode_utf8};
 ghost use Rattle.std.specs.Int.{IsInRange};
-ghost use Rattle.nf_utf8.specs.Part.{IsSecond, IsContinuation, IsPart};
+ghost use Rattle.nf_utf8.specs.Part.{IsSecond, IsContinuation, IsSubpart};
 ghost use Rattle.nf_utf8.specs.Tells.{Tells};
 
 use crate::step::Step;
@@ -20,28 +20,28 @@ pub fn first(byte: u8) -> Step
 
 /// Whether `a` begins a character of more bytes.
 pub fn is_lead(a: u8) -> bool
-    ensures { IsTrue result ↔ IsPart (a ∷ []) }
+    ensures { IsTrue result ↔ IsSubpart (a ∷ []) }
 {
     matches!(a, 0xC2..=0xF4)
 }
 
 /// Whether these begin one of more bytes.
 pub fn is_lead_of_three(a: u8, b: u8) -> bool
-    ensures { IsTrue result ↔ IsPart (a ∷ b ∷ []) }
+    ensures { IsTrue result ↔ IsSubpart (a ∷ b ∷ []) }
 {
     matches!(a, 0xE0..=0xF4) && is_second(a, b)
 }
 
 /// The same of three.
 pub fn is_lead_of_four(a: u8, b: u8, c: u8) -> bool
-    ensures { IsTrue result ↔ IsPart (a ∷ b ∷ c ∷ []) }
+    ensures { IsTrue result ↔ IsSubpart (a ∷ b ∷ c ∷ []) }
 {
     matches!(a, 0xF0..=0xF4) && is_second(a, b) && is_continuation(c)
 }
 
 #[inline]
 pub fn second(a: u8, byte: u8) -> Step
-    requires { IsPart (a ∷ []) }
+    requires { IsSubpart (a ∷ []) }
     ensures { Tells (a ∷ []) byte result }
 {
     if !is_second(a, byte) {
@@ -55,7 +55,7 @@ pub fn second(a: u8, byte: u8) -> Step
 
 #[inline]
 pub fn third(a: u8, b: u8, byte: u8) -> Step
-    requires { IsPart (a ∷ b ∷ []) }
+    requires { IsSubpart (a ∷ b ∷ []) }
     ensures { Tells (a ∷ b ∷ []) byte result }
 {
     if !is_continuation(byte) {
@@ -69,7 +69,7 @@ pub fn third(a: u8, b: u8, byte: u8) -> Step
 
 #[inline]
 pub fn fourth(a: u8, b: u8, c: u8, byte: u8) -> Step
-    requires { IsPart (a ∷ b ∷ c ∷ []) }
+    requires { IsSubpart (a ∷ b ∷ c ∷ []) }
     ensures { Tells (a ∷ b ∷ c ∷ []) byte result }
 {
     if is_continuation(byte) {

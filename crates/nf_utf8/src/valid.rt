@@ -8,7 +8,7 @@ use crate::sequence::is_continuation;
 
 /// The length of the longest front of `bytes` that is well-formed.
 ///
-/// Bytes far behind a bad one are not read, so that it costs no more than a few times the front, and a constant.
+/// Bytes far after a bad one are not read, so that it costs no more than a few times the front, and a constant.
 pub fn valid_len(bytes: &[u8]) -> usize
     ensures { result ≡ text_len bytes.now }
 {
@@ -29,7 +29,7 @@ pub fn valid_len(bytes: &[u8]) -> usize
 /// A bad byte among so many is found at once, by a reading that stops there.
 const FIRST: usize = 64;
 
-/// The first part has about this many bytes, and each behind it four times as many as the one before, up to `LARGEST`.
+/// The first part has about this many bytes, and each after it four times as many as the one before, up to `LARGEST`.
 const SMALLEST: usize = 256;
 
 const LARGEST: usize = 65536;

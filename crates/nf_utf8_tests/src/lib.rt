@@ -6,7 +6,7 @@ mod blocks;
 #[cfg(test)]
 mod counting;
 #[cfg(test)]
-mod mending;
+mod lossy;
 #[cfg(test)]
 mod prefix;
 #[cfg(test)]

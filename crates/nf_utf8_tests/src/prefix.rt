@@ -2,7 +2,7 @@
 
 use nf_utf8::ascii_prefix;
 
-/// Prefixes of each length, at each place in the lanes, with a byte behind them that is not ASCII and without.
+/// Prefixes of each length, at each place in the lanes, with a byte after them that is not ASCII and without.
 #[test]
 fn prefixes_of_each_length(rt: HostRuntime) {
     for start in 0..33usize {

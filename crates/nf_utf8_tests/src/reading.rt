@@ -22,7 +22,7 @@ fn pushed(bytes: &[u8]) -> Reading {
     }
     Reading {
         text,
-        ending: ending_behind(&decoder, bytes.len()),
+        ending: ending_after(&decoder, bytes.len()),
     }
 }
 
@@ -53,12 +53,12 @@ fn taken(bytes: &[u8], cut: usize) -> Reading {
     }
     Reading {
         text,
-        ending: ending_behind(&decoder, bytes.len()),
+        ending: ending_after(&decoder, bytes.len()),
     }
 }
 
 /// The ending of this many bytes, none of which was bad.
-fn ending_behind(decoder: &Decoder, at: usize) -> Ending {
+fn ending_after(decoder: &Decoder, at: usize) -> Ending {
     match decoder.carried() {
         0 => Ending::Whole,
         carried => Ending::Cut {

@@ -16,7 +16,7 @@ pub struct Reading {
     pub ending: Ending,
 }
 
-/// Puts the character behind the others.
+/// Puts the character after the others.
 pub fn add(text: &mut [Option<char>], c: Option<char>) {
     for place in text {
         if place.is_none() {

@@ -21,7 +21,7 @@ module _ (p : Properties) (x : List ℕ) where
       let all = take_all i x end in
       rw (leaves-by, no_stop p 0 x (rw all at sound) (rw all at none)) refl
 
-  -- a character behind sound ones
+  -- a character after sound ones
   module _ (i c : ℕ) (within : i < length x) (is : c ≡ get_or x i c) (sound : list_all (is_sound p) (take i x) ≡ true) where
     cut : x ≡ (take i x ++ c ∷ []) ++ drop (i + 1) x
     cut = grind (arith, take_more, take-append-drop)

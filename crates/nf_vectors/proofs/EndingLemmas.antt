@@ -46,7 +46,7 @@ module _ {reading : Reading} {bytes : List ℕ} (stands : StandsAfter reading by
 pub Tells-found : (bytes : List ℕ) (failed : Bool) (fault : VectorFault) → Finds bytes fault → first_fault 1 (stop_of bytes failed) (lines_within bytes) ≡ Some fault
 Tells-found bytes failed fault finds = finds (stop_of bytes failed) (λ past. rw (lt-ltb limit (length bytes) past) refl)
 
--- the fault at one byte, whatever stands behind it: at the limit, that it is one too many
+-- the fault at one byte, whatever stands after it: at the limit, that it is one too many
 pub found_here : {reading : Reading} {bytes : List ℕ} {kind : VectorKind} {fault : VectorFault} → StandsAfter reading bytes → (b : ℕ) (rest all : List ℕ) → bytes ++ b ∷ rest ≡ all
     → reading.taken ≤ 67108864 → fault ≡ record { line = reading.line; kind = kind } → ◌≡◌ {A = Result (Unit {0}) VectorKind} (Err kind) (Err Size) ↔ (reading.taken ≡ 67108864)
     → (¬ (kind ≡ Size) → (stop : Option VectorKind) (more : List ℕ) → first_fault 1 stop (lines_of (bytes ++ b ∷ more)) ≡ Some (record { line = reading.line; kind = kind }))

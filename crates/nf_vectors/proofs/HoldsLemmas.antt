@@ -62,6 +62,6 @@ module _ (reads : ReadsBack) (f : Form) (p : Properties) (bytes x e : List ℕ) 
       | inl write ↦
           let breaks = converts.broken_off write in
           let apart = new.apart (new.refused breaks.failed) breaks.rest in
-          grind (arith, write, holds_is, bytes_eq-Decides (whole_utf8 f p bytes) (encode_utf8_all e), apart, kept breaks.out breaks.given, breaks.behind)
-      | inr other ↦ let puts = converts.written other in grind (arith, holds_is, converts.answer other, puts.behind, kept puts.out puts.given)
+          grind (arith, write, holds_is, bytes_eq-Decides (whole_utf8 f p bytes) (encode_utf8_all e), apart, kept breaks.out breaks.given, breaks.after)
+      | inr other ↦ let puts = converts.written other in grind (arith, holds_is, converts.answer other, puts.after, kept puts.out puts.given)
     ]

@@ -21,7 +21,7 @@ split-some test bytes = next (slice_split test bytes) (length-slice_split test b
 pub split-blank : (bytes : List ℕ) → list_all is_blank bytes ≡ true → slice_split is_semicolon bytes ≡ bytes ∷ []
 split-blank bytes blank = slice_split_none is_semicolon bytes (λ k d within. grind (arith, nat_tests, AllPass-from_list_all is_blank bytes blank k d within))
 
--- behind the fifth piece stands another that is not blank, and perhaps more
+-- after the fifth piece stands another that is not blank, and perhaps more
 pub columns_in-more : (a b c d e v : List ℕ) → list_all is_blank v ≡ false → columns_in (a ∷ b ∷ c ∷ d ∷ e ∷ slice_split is_semicolon v) ≡ Err Fields
 columns_in-more a b c d e v other = elim (cases_lt (position_or_len is_semicolon v) (length v)) [
   | inl inside ↦ rw (slice_split_first is_semicolon v 0 inside, (split-some is_semicolon (after_first is_semicolon v)).2) refl

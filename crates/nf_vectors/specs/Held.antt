@@ -1,4 +1,4 @@
--- What a line holds once its code points stand behind a suite's text.
+-- What a line holds once its code points stand after a suite's text.
 use Rattle.std.specs.Prelude.{◌≡◌, ℕ, List, ◌++◌, length, slice_range, Result, Ok}
 use Rattle.nf_vectors.specs.declared.columns.Ends.{Ends}
 use Rattle.nf_vectors.specs.declared.fault.VectorKind.{VectorKind}

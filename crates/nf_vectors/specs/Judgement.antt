@@ -30,7 +30,7 @@ abbrev pub row_or_bad : Result Columns VectorKind → Judgement
 row_or_bad (Ok columns) = Row columns
 row_or_bad (Err kind) = Bad kind
 
--- behind '@' the name up to the first gap is that of Part 1
+-- after '@' the name up to the first gap is that of Part 1
 abbrev pub is_part1 : List ℕ → Bool
 is_part1 name = bytes_eq (before_first is_gap name) (codes "Part1")
 

@@ -23,11 +23,11 @@ abbrev pub is_blank : ℕ → Bool
 is_blank b = is_gap b || b == 0x0D
 
 -- without the blanks at both ends
-abbrev pub without_blanks_behind : List ℕ → List ℕ
-without_blanks_behind bytes = take (length bytes - suffix_len is_blank bytes) bytes
+abbrev pub without_blanks_after : List ℕ → List ℕ
+without_blanks_after bytes = take (length bytes - suffix_len is_blank bytes) bytes
 
 abbrev pub trimmed : List ℕ → List ℕ
-trimmed bytes = without_blanks_behind (drop (prefix_len is_blank bytes) bytes)
+trimmed bytes = without_blanks_after (drop (prefix_len is_blank bytes) bytes)
 
 -- what a line says: without its comment and the blanks at its ends
 abbrev pub content : List ℕ → List ℕ

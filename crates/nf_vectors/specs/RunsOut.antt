@@ -6,7 +6,7 @@ use Rattle.nf_vectors.specs.Limits.{limit, block}
 use Rattle.nf_vectors.specs.Line.{lines_of}
 use Rattle.nf_vectors.specs.Suite.{first_fault}
 
--- memory ran out behind some of what the source gave
+-- memory ran out after some of what the source gave
 pub record RunsOut (bytes : List ℕ) (at_end : Bool) (fault : VectorFault) : Type 0 where
   -- what was read, and what was not: some of the last block, and at the end nothing
   pub read : List ℕ

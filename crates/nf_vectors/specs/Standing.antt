@@ -4,7 +4,7 @@ use Rattle.nf_vectors.specs.declared.fault.VectorKind.{VectorKind}
 use Rattle.nf_vectors.specs.declared.reading.Reading.{Reading}
 use Rattle.nf_vectors.specs.Line.{is_line_end, lines_of}
 use Rattle.nf_vectors.specs.Judgement.{Judgement}
-use Rattle.nf_vectors.specs.Suite.{row_at, part_behind, is_part1_line, rows_from, names_part1_from, first_fault}
+use Rattle.nf_vectors.specs.Suite.{row_at, part1_after, is_part1_line, rows_from, names_part1_from, first_fault}
 use Rattle.nf_vectors.specs.SuiteView.{AreWithin, rows_in}
 
 -- whatever follows these bytes, the file is that of the lines that were ended, and then of the line begun
@@ -28,5 +28,5 @@ pub record IsWithin (reading : Reading) : Type 0 where
 -- the line was judged, and is ended
 pub record EndsLine (judged : Judgement) (old new : Reading) : Type 0 where
   pub rows : rows_in new.text.items new.entries.items ≡ rows_in old.text.items old.entries.items ++ row_at old.line old.in_part1 judged
-  pub in_part1 : new.in_part1 ≡ part_behind old.in_part1 judged
+  pub in_part1 : new.in_part1 ≡ part1_after old.in_part1 judged
   pub has_part1 : new.has_part1 ≡ (old.has_part1 || is_part1_line judged)

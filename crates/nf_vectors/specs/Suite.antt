@@ -23,10 +23,10 @@ abbrev pub row_at : ℕ → Bool → Judgement → List VectorRow
 row_at n in_part1 (Row columns) = record { line = n; in_part1 = in_part1; columns = columns } ∷ []
 row_at n in_part1 _ = []
 
--- whether the lines behind it are in Part 1
-abbrev pub part_behind : Bool → Judgement → Bool
-part_behind in_part1 (Part is_part1) = is_part1
-part_behind in_part1 _ = in_part1
+-- whether the lines after it are in Part 1
+abbrev pub part1_after : Bool → Judgement → Bool
+part1_after in_part1 (Part is_part1) = is_part1
+part1_after in_part1 _ = in_part1
 
 abbrev pub is_part1_line : Judgement → Bool
 is_part1_line (Part is_part1) = is_part1
@@ -35,7 +35,7 @@ is_part1_line _ = false
 -- the rows of lines, of which the first has the number n
 abbrev pub rows_from : ℕ → Bool → List (List ℕ) → List VectorRow
 rows_from n in_part1 [] = []
-rows_from n in_part1 (line ∷ more) = row_at n in_part1 (judged n line) ++ rows_from (n + 1) (part_behind in_part1 (judged n line)) more
+rows_from n in_part1 (line ∷ more) = row_at n in_part1 (judged n line) ++ rows_from (n + 1) (part1_after in_part1 (judged n line)) more
 
 -- whether one of them names Part 1
 abbrev pub names_part1_from : ℕ → List (List ℕ) → Bool

@@ -29,7 +29,7 @@ abbrev pub and_then : {A B : Type 0} → Result A VectorKind → (A → Result B
 and_then (Ok x) f = f x
 and_then (Err kind) f = Err kind
 
--- code points, and then those behind them
+-- code points, and then those after them
 abbrev pub before : List ℕ → Result (List ℕ) VectorKind → Result (List ℕ) VectorKind
 before codes more = and_then more (λ cs. Ok (codes ++ cs))
 

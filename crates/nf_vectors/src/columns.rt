@@ -36,7 +36,7 @@ pub(crate) struct Columns<T> {
     pub(crate) nfkd: T,
 }
 
-/// Where the five columns of a row stand in the text of a suite, in code points: each behind the one before it.
+/// Where the five columns of a row stand in the text of a suite, in code points: each after the one before it.
 #[derive(Clone, Copy, Debug)]
 pub(crate) struct Ends {
     pub(crate) start: u32,
@@ -45,9 +45,9 @@ pub(crate) struct Ends {
     pub(crate) nfd: u32,
     pub(crate) nfkc: u32,
     pub(crate) nfkd: u32,
-    ghost source_behind: { start ≤ source },
-    ghost nfc_behind: { source ≤ nfc },
-    ghost nfd_behind: { nfc ≤ nfd },
-    ghost nfkc_behind: { nfd ≤ nfkc },
-    ghost nfkd_behind: { nfkc ≤ nfkd },
+    ghost source_after: { start ≤ source },
+    ghost nfc_after: { source ≤ nfc },
+    ghost nfd_after: { nfc ≤ nfd },
+    ghost nfkc_after: { nfd ≤ nfkc },
+    ghost nfkd_after: { nfkc ≤ nfkd },
 }

@@ -10,7 +10,7 @@ pub(crate) struct Comparing<'e> {
     expected: &'e [u8],
     /// How many of those it has taken.
     same: usize,
-    /// The byte that it has taken behind them: no more bytes make the two the same.
+    /// The byte that it has taken after them: no more bytes make the two the same.
     other: Option<u8>,
     failed: bool,
     ghost within: { same ≤ length expected.now },

@@ -8,7 +8,7 @@ pub struct VectorFault {
 /// What is wrong with a vector file, or with the reading of it.
 #[derive(Clone, Copy, Debug, PartialEq, Eq, Hash)]
 pub enum VectorKind {
-    /// The row has fewer than five columns, or anything but blanks behind the fifth.
+    /// The row has fewer than five columns, or anything but blanks after the fifth.
     Fields,
     /// A column has no code point.
     Empty,

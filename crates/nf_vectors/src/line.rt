@@ -19,7 +19,7 @@ pub(crate) enum Line {
     Row(Ends),
 }
 
-/// Judges a line without its end. The code points of a row go behind `text`.
+/// Judges a line without its end. The code points of a row go after `text`.
 pub(crate) fn judge(line: &[u8], text: &mut Vec<char>) -> Result<Line, VectorKind>
     requires { length text.old.items + length line.now < 2 ^ 32 }
     ensures grows { OnOk result (Grows text.old.items text.new.items) }
@@ -104,7 +104,7 @@ fn is_all_blank(bytes: &[u8]) -> bool
     bytes.iter().all(|byte| is_blank(*byte))
 }
 
-/// Puts the code points of a column behind `text`, and answers where they end.
+/// Puts the code points of a column after `text`, and answers where they end.
 fn push_column(column: &[u8], text: &mut Vec<char>) -> Result<u32, VectorKind>
     requires { length text.old.items + length column.now < 2 ^ 32 }
     ensures len { IfOk result (λ end. (end ≡ length text.new.items) × (length text.old.items ≤ end) × (end ≤ length text.old.items + length column.now)) }

@@ -1,7 +1,7 @@
 //! Parts of a line's bytes.
 ghost use Rattle.std.specs.Prelude.{◌≡◌, ◌+◌, ◌-◌, ◌<◌, ◌≤◌, ◌==◌, length, MatchOption, drop, take, ℕ};
 ghost use Rattle.std.specs.List.{before_first, after_first, position_or_len, prefix_len, suffix_len};
-ghost use Rattle.nf_vectors.specs.Line.{is_gap, is_blank, without_blanks_behind, trimmed, content};
+ghost use Rattle.nf_vectors.specs.Line.{is_gap, is_blank, without_blanks_after, trimmed, content};
 
 /// A space or a tab.
 #[inline]
@@ -19,7 +19,7 @@ pub(crate) fn is_blank(byte: u8) -> bool
     is_gap(byte) || byte == b'\r'
 }
 
-/// What stands before the first `separator`, and behind it.
+/// What stands before the first `separator`, and after it.
 pub(crate) fn cut(bytes: &[u8], separator: u8) -> Option<(&[u8], &[u8])>
     ensures parts { MatchOption result (position_or_len (λ b. b == separator) bytes.now ≡ length bytes.now)
         (λ parts. (position_or_len (λ b. b == separator) bytes.now < length bytes.now)
@@ -59,10 +59,10 @@ fn trimmed(bytes: &[u8]) -> &[u8]
 {
     let before = bytes.iter().take_while(|byte| is_blank(**byte)).count();
     let rest = &bytes[before..];
-    let behind = rest
+    let after = rest
         .iter()
         .rev()
         .take_while(|byte| is_blank(**byte))
         .count();
-    &rest[..rest.len() - behind]
+    &rest[..rest.len() - after]
 }

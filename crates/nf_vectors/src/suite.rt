@@ -13,7 +13,7 @@ const BLOCK: usize = 4096;
 /// The rows of a vector file.
 #[derive(Debug, Drop)]
 pub struct Suite {
-    /// The code points of all columns, one behind the other.
+    /// The code points of all columns, one after the other.
     pub(crate) text: Vec<char>,
     pub(crate) entries: Vec<Entry>,
     pub(crate) has_part1: bool,

@@ -63,7 +63,7 @@ fn a_sweep_comes_after_a_refusal(rt: HostRuntime) -> Result<(), Fail> {
         first,
         ..
     } = sweep;
-    // Of the 1,112,064 scalar values three are listed. U+00A8 is the least behind U+00A0 that a form changes.
+    // Of the 1,112,064 scalar values three are listed. U+00A8 is the least after U+00A0 that a form changes.
     assert_eq!(rt; unlisted, 1_112_061);
     assert_eq!(rt; first, Some('\u{A8}'));
     Ok(())

@@ -53,7 +53,7 @@ module _ (f : Form) (p : Properties) where
           text_of bytes,
           (reads bytes).front.scalars,
           subst (λ e. EndsAs bytes (text_of bytes) e) is (reads bytes).end,
-          subst (Appends old.taken new.taken) (sym whole.behind ∙ given) whole.given,
+          subst (Appends old.taken new.taken) (sym whole.after ∙ given) whole.given,
         )
 
   -- the connection as a source that the filter was driven over

@@ -16,7 +16,7 @@ pub record HasRelayed (f : Form) (p : Properties) (coming left taken now : Optio
   pub read : Consumes coming left come
   pub written : Appends taken now (settled_utf8 as_is f p come)
 
--- a new filter was driven over what came: before a fault what is settled of it went on, and nothing behind that; the fault is
+-- a new filter was driven over what came: before a fault what is settled of it went on, and nothing after that; the fault is
 -- the first in it, or the sink's, which stands failed then, or the connection's
 pub record Relays (f : Form) (p : Properties) (coming left : Option (List ℕ)) (old new : SinkState) (answer : Result Tally Fault) : Type 0 where
   pub source : SourceState

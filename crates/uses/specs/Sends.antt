@@ -8,7 +8,7 @@ use Rattle.nf_filter.specs.Devices.{SinkState}
 use Rattle.nf_filter.specs.Whole.{Converts}
 
 -- the library's `convert` answers so, over what the writer has taken, before and after, where it tells that: before a fault
--- what is settled, and nothing behind it
+-- what is settled, and nothing after it
 pub record Sends (f : Form) (p : Properties) (bytes : List ℕ) (taken now : Option (List ℕ)) (answer : Result Tally Fault) : Type 0 where
   pub old : SinkState
   pub new : SinkState

@@ -16,7 +16,7 @@ const PACKET: usize = 1500;
 
 /// Gives the sink the NFC of the stream-safe text that comes over the connection, each time as much as is settled. Where
 /// the connection breaks, all that had come and was settled is with the sink; where a fault stands in what came, what is
-/// settled before it. Nothing goes out behind that, and `Write` is answered only where the sink failed.
+/// settled before it. Nothing goes out after that, and `Write` is answered only where the sink failed.
 pub fn relay<C: Read, S: Sink>(connection: &mut C, sink: &mut S) -> Result<Tally, Fault>
     ensures whole { OnOk result (PassesWhole Nfc ucd (C.remaining connection.old) (S.state sink.old).taken (S.state sink.new).taken) }
     ensures relays { Relays Nfc ucd (C.remaining connection.old) (C.remaining connection.new) (S.state sink.old) (S.state sink.new) result }

@@ -11,7 +11,7 @@ const LINES: [&str; 5] = ["nfstream", "convert", "--form", "nfc", "--line-buffer
 /// No call fails.
 const NONE: usize = usize::MAX;
 
-/// What a run has written when the reader fails behind so many pieces.
+/// What a run has written when the reader fails after so many pieces.
 #[test]
 fn each_line_is_written_once_it_was_read(rt: HostRuntime) {
     let alloc = rt.alloc();

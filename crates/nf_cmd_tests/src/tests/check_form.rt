@@ -66,7 +66,7 @@ fn each_form_has_its_place(rt: HostRuntime) -> Result<(), Fail> {
         // A letter with a nukta, which is excluded from composition.
         (&[("\u{958}", 1)], first),
         (&[("\u{915}\u{93C}", 1)], none),
-        // The joiner would be put behind 30 marks.
+        // The joiner would be put after 30 marks.
         (&[("q", 1), ("\u{301}", 30)], none),
         (&[("q", 1), ("\u{301}", 31)], [Some((31, 61)); 4]),
         (&[("q", 1), ("\u{301}", 30), ("\u{34F}\u{301}", 1)], none),

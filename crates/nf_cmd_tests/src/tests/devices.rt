@@ -2,7 +2,7 @@
 use std::alloc::Global;
 use std::io::{self, ErrorKind, Read, Write};
 
-/// Calls of a device. One of them, counted from 0, fails, and those behind it work.
+/// Calls of a device. One of them, counted from 0, fails, and those after it work.
 #[derive(Clone, Copy, Debug)]
 pub(super) struct Calls {
     pub(super) fails_at: usize,

@@ -12,7 +12,7 @@ use Rattle.nf_forms.specs.declared.form.Form.{Form}
 use Rattle.nf_forms.specs.declared.form.Form.TheVariants.{Nfkd}
 use Rattle.nf_forms.specs.Forms.{row_of, composes, arranged}
 use Rattle.nf_forms.specs.StreamSafe.{max_run, safe_step}
-use Rattle.nf_forms.specs.Closed.{BeginsAtBoundary, HasForm}
+use Rattle.nf_forms.specs.Segments.{BeginsAtBoundary, HasForm}
 use Rattle.nf_forms.specs.Cluster.{IsOwnRow, blocks, AreClusters, IsCluster}
 use Rattle.nf_forms.specs.Laws.Runs.{lead-le-length, trail-le-length, trail-push}
 use Rattle.nf_forms.specs.Laws.Front.{marks_push}
@@ -37,7 +37,7 @@ module _ (p : Properties) where
       let parts = and_parts (not (is_reorderable p x y)) (is_ordered p (y ∷ w ++ a ∷ [])) ordered in
       and_from _ _ parts.0 (is_ordered-push (y ∷ w) a c parts.1 stays)
 
-  -- c may stand behind a character of class `last`
+  -- c may stand after a character of class `last`
   pub is_reorderable-not : (a c last : ℕ) → p.class a ≡ last → (last ≤ p.class c) ⊎ (p.class c ≡ 0) → is_reorderable p a c ≡ false
   is_reorderable-not a c last class (inl up) = grind (arith, nat_tests)
   is_reorderable-not a c last class (inr starter) = ap (λ n. nat_lt 0 n && nat_lt n (p.class a)) starter
@@ -115,7 +115,7 @@ module _ (p : Properties) where
     pub cluster-left : is_starter p c ≡ false → joined p starter left c ≡ None → AreClusters p done (cs ++ c ∷ []) starter (left ++ c ∷ []) (p.class c) (p.class c) (count + 1)
     cluster-left mark none =
         more done starter (left ++ c ∷ []) (p.class c) (count + 1) (joins ∙ ap (λ o. done ++ replaced o starter left c) none) here.starts (marks_push p left c here.no_starter mark)
-        (λ x. list_any-append (λ m. nat_le (p.class x) (p.class m)) left (c ∷ []) ∙ ap (λ b. b || (nat_le (p.class x) (p.class c) || false)) (here.blocked x) ∙ behind x)
+        (λ x. list_any-append (λ m. nat_le (p.class x) (p.class m)) left (c ∷ []) ∙ ap (λ b. b || (nat_le (p.class x) (p.class c) || false)) (here.blocked x) ∙ after x)
         (λ some. omega arith) longer
       where
         next : (a b : Bool) → (a ≡ true → b ≡ true) → (a || (b || false)) ≡ b
@@ -125,8 +125,8 @@ module _ (p : Properties) where
         up : (length left == 0) ≡ false → highest ≤ p.class c
         up some = let within = here.within some in ⊎_elim (λ (above : last ≤ p.class c). omega arith) (λ (starts : p.class c ≡ 0). absurd (true≢false (sym (eq-eqb (p.class c) 0 starts) ∙ mark))) follows
 
-        behind : (x : ℕ) → (blocks p left highest x || (nat_le (p.class x) (p.class c) || false)) ≡ blocks p (left ++ c ∷ []) (p.class c) x
-        behind x =
+        after : (x : ℕ) → (blocks p left highest x || (nat_le (p.class x) (p.class c) || false)) ≡ blocks p (left ++ c ∷ []) (p.class c) x
+        after x =
             next (blocks p left highest x) (nat_le (p.class x) (p.class c))
             (λ both. let parts = and_parts (not (length left == 0)) (nat_le (p.class x) highest) both in
             le-leb (p.class x) (p.class c) (omega (arith, up (not-true _ parts.0), leb-true (p.class x) highest parts.1)))

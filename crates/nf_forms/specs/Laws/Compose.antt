@@ -59,11 +59,11 @@ module _ (p : Properties) where
   pub joined-starter : (s : ℕ) (m : List ℕ) (c d : ℕ) → joined p s m c ≡ Some d → is_starter p d ≡ true
   joined-starter s m c d e = composite-starter s c d (joined-some s m c d e).1
 
-  -- a starter does not compose across what is left behind the one before it
-  pub joined-behind_marks : (s x : ℕ) (m : List ℕ) (c : ℕ) → is_starter p c ≡ true → joined p s (x ∷ m) c ≡ None
-  joined-behind_marks s x m c starts = cond-true _ _ _ (or_left _ _ (le-leb (p.class c) (p.class x) (let none = eqb-true (p.class c) 0 starts in omega arith)))
+  -- a starter does not compose across what is left after the one before it
+  pub joined-after_marks : (s x : ℕ) (m : List ℕ) (c : ℕ) → is_starter p c ≡ true → joined p s (x ∷ m) c ≡ None
+  joined-after_marks s x m c starts = cond-true _ _ _ (or_left _ _ (le-leb (p.class c) (p.class x) (let none = eqb-true (p.class c) 0 starts in omega arith)))
 
-  -- a starter and the marks behind it
+  -- a starter and the marks after it
   pub record IsGroup (z : List ℕ) : Type 0 where
     pub starter : ℕ
     pub marks : List ℕ
@@ -84,15 +84,15 @@ module _ (p : Properties) where
       let parts = or_parts (is_starter p c) (has_starter p v) marks in
       fold-group (join p z c) v (subst (λ k. IsGroup (join p k c)) (sym group.text) (join-group group.starter group.marks c group.starts group.no_starter (parts.0))) (parts.1)
 
-  -- behind a starter marks meet that starter and its marks alone
-  pub compose-behind : (e z v : List ℕ) → IsGroup z → has_starter p v ≡ false → fold (compose_step p) (e ++ z) v ≡ e ++ fold (join p) z v
-  compose-behind e z [] group marks = refl
-  compose-behind e z (c ∷ v) group marks =
+  -- after a starter marks meet that starter and its marks alone
+  pub compose-after : (e z v : List ℕ) → IsGroup z → has_starter p v ≡ false → fold (compose_step p) (e ++ z) v ≡ e ++ fold (join p) z v
+  compose-after e z [] group marks = refl
+  compose-after e z (c ∷ v) group marks =
       let parts = or_parts (is_starter p c) (has_starter p v) marks in
       let same = sym group.text in
       let here : compose_step p (e ++ z) c ≡ e ++ join p z c = subst (λ k. compose_step p (e ++ k) c ≡ e ++ join p k c) same (compose_step-at e group.starter group.marks c group.starts group.no_starter) in
       ap (λ k. fold (compose_step p) k v) here
-      ∙ compose-behind e (join p z c) v (subst (λ k. IsGroup (join p k c)) same (join-group group.starter group.marks c group.starts group.no_starter (parts.0))) (parts.1)
+      ∙ compose-after e (join p z c) v (subst (λ k. IsGroup (join p k c)) same (join-group group.starter group.marks c group.starts group.no_starter (parts.0))) (parts.1)
 
   pub front-group : (e z : List ℕ) → IsGroup z → front p (e ++ z) ≡ e
   front-group e z group = subst (λ k. front p (e ++ k) ≡ e) (sym group.text) (front-at p e group.starter group.marks group.starts group.no_starter)

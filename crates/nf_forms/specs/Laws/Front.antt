@@ -38,12 +38,12 @@ module _ (p : Properties) where
   back-at [] s m starts marks = cond-false _ _ _ marks
   back-at (c ∷ e) s m starts marks = cond-true _ _ _ (has_starter-at e s m starts) ∙ back-at e s m starts marks
 
-  -- a starter behind settles all before it
+  -- a starter after settles all before it
   pub front-append_some : (w v : List ℕ) → has_starter p v ≡ true → front p (w ++ v) ≡ w ++ front p v
   front-append_some [] v some = refl
   front-append_some (c ∷ w) v some = cond-true _ _ _ (has_starter-append p w v ∙ or_right _ _ some) ∙ ap (λ u. c ∷ u) (front-append_some w v some)
 
-  -- a text up to its last starter, that starter, and the marks behind it
+  -- a text up to its last starter, that starter, and the marks after it
   pub record EndsInGroup (w : List ℕ) : Type 0 where
     pub before : List ℕ
     pub starter : ℕ
@@ -54,10 +54,10 @@ module _ (p : Properties) where
 
   pub last_starter : (w : List ℕ) → has_starter p w ≡ true → EndsInGroup w
   last_starter [] some = absurd (false≢true some)
-  last_starter (c ∷ w) some = ⊎_elim (λ more. behind (last_starter w more)) (λ none. record { before = []; starter = c; marks = w; text = refl; starts = sym (ap (λ b. is_starter p c || b) none ∙ or-false (is_starter p c)) ∙ some; no_starter = none }) (cases_Bool (has_starter p w))
+  last_starter (c ∷ w) some = ⊎_elim (λ more. after (last_starter w more)) (λ none. record { before = []; starter = c; marks = w; text = refl; starts = sym (ap (λ b. is_starter p c || b) none ∙ or-false (is_starter p c)) ∙ some; no_starter = none }) (cases_Bool (has_starter p w))
     where
-      behind : EndsInGroup w → EndsInGroup (c ∷ w)
-      behind r = record { before = c ∷ r.before; starter = r.starter; marks = r.marks; text = ap (λ v. c ∷ v) r.text; starts = r.starts; no_starter = r.no_starter }
+      after : EndsInGroup w → EndsInGroup (c ∷ w)
+      after r = record { before = c ∷ r.before; starter = r.starter; marks = r.marks; text = ap (λ v. c ∷ v) r.text; starts = r.starts; no_starter = r.no_starter }
 
   pub marks_push : (m : List ℕ) (c : ℕ) → has_starter p m ≡ false → is_starter p c ≡ false → has_starter p (m ++ c ∷ []) ≡ false
   marks_push m c marks mark = has_starter-append p m (c ∷ []) ∙ or_from _ _ marks (or_from _ _ mark refl)
@@ -104,5 +104,5 @@ module _ (p : Properties) where
         marks = r.no_starter;
       }
 
-  pub trail-behind : (head run : List ℕ) → trail p head ≡ 0 → has_starter p run ≡ false → trail p (head ++ run) ≡ length run
-  trail-behind head run ends marks = trail-append p head run ∙ cond-false _ _ _ marks ∙ ap (λ n. length run + n) ends ∙ add-zero (length run)
+  pub trail-after : (head run : List ℕ) → trail p head ≡ 0 → has_starter p run ≡ false → trail p (head ++ run) ≡ length run
+  trail-after head run ends marks = trail-append p head run ∙ cond-false _ _ _ marks ∙ ap (λ n. length run + n) ends ∙ add-zero (length run)

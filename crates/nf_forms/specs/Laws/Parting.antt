@@ -41,8 +41,8 @@ module _ (p : Properties) where
           ∙ sym (append_assoc r.before (r.starter ∷ r.marks) (s ∷ [])))
 
   -- a step reads no more than what stands from the last starter on
-  pub step-behind : (z u : List ℕ) (c : ℕ) → has_starter p u ≡ true → (compose_step p (z ++ u) c ≡ z ++ compose_step p u c) × (has_starter p (compose_step p u c) ≡ true)
-  step-behind z u c some = at (last_starter p u some)
+  pub step-after : (z u : List ℕ) (c : ℕ) → has_starter p u ≡ true → (compose_step p (z ++ u) c ≡ z ++ compose_step p u c) × (has_starter p (compose_step p u c) ≡ true)
+  step-after z u c some = at (last_starter p u some)
     where
       kept : (b : List ℕ) (s : ℕ) (m : List ℕ) (o : Option ℕ) → is_starter p s ≡ true → joined p s m c ≡ o → has_starter p (b ++ replaced o s m c) ≡ true
       kept b s m None starts e = has_starter-at p b s (m ++ c ∷ []) starts
@@ -59,23 +59,23 @@ module _ (p : Properties) where
                 ∙ kept r.before r.starter r.marks (joined p r.starter r.marks c) r.starts refl,
           )
 
-  -- behind a starter composition goes on alone
-  pub fold-behind : (z u v : List ℕ) → has_starter p u ≡ true → fold (compose_step p) (z ++ u) v ≡ z ++ fold (compose_step p) u v
-  fold-behind z u [] some = refl
-  fold-behind z u (c ∷ v) some =
-      let step = step-behind z u c some in
-      ap (λ k. fold (compose_step p) k v) step.0 ∙ fold-behind z (compose_step p u c) v step.1
+  -- after a starter composition goes on alone
+  pub fold-after : (z u v : List ℕ) → has_starter p u ≡ true → fold (compose_step p) (z ++ u) v ≡ z ++ fold (compose_step p) u v
+  fold-after z u [] some = refl
+  fold-after z u (c ∷ v) some =
+      let step = step-after z u c some in
+      ap (λ k. fold (compose_step p) k v) step.0 ∙ fold-after z (compose_step p u c) v step.1
 
   -- a starter stays one, or becomes another
   fold-some : (u v : List ℕ) → has_starter p u ≡ true → has_starter p (fold (compose_step p) u v) ≡ true
   fold-some u [] some = some
-  fold-some u (c ∷ v) some = fold-some (compose_step p u c) v (step-behind [] u c some).1
+  fold-some u (c ∷ v) some = fold-some (compose_step p u c) v (step-after [] u c some).1
 
   pub compose-boundary : (w : List ℕ) (s : ℕ) (v : List ℕ) → is_starter p s ≡ true → ((a : ℕ) → composite p a s ≡ None) → compose p (w ++ s ∷ v) ≡ compose p w ++ compose p (s ∷ v)
   compose-boundary w s v starts never =
       fold-append (compose_step p) [] w (s ∷ v)
       ∙ ap (λ k. fold (compose_step p) k v) (step-never_second (compose p w) s never)
-      ∙ fold-behind (compose p w) (s ∷ []) v (or_left _ _ starts)
+      ∙ fold-after (compose p w) (s ∷ []) v (or_left _ _ starts)
 
   -- the first starter stays where it is
   order-first : (s : ℕ) (v : List ℕ) → is_starter p s ≡ true → (rest : List ℕ) × (order p (s ∷ v) ≡ s ∷ rest)
@@ -112,12 +112,12 @@ module _ (p : Properties) where
   abbrev pub last_run : List ℕ → ℕ
   last_run out = trail p (decomposed Nfkd p out)
 
-  pub run-behind : (o z : List ℕ) → has_starter p (decomposed Nfkd p z) ≡ true → last_run (o ++ z) ≡ last_run z
-  run-behind o z some = ap (trail p) (decomposed-append p Nfkd o z) ∙ trail-append p (decomposed Nfkd p o) (decomposed Nfkd p z) ∙ cond-true _ _ _ some
+  pub run-after : (o z : List ℕ) → has_starter p (decomposed Nfkd p z) ≡ true → last_run (o ++ z) ≡ last_run z
+  run-after o z some = ap (trail p) (decomposed-append p Nfkd o z) ∙ trail-append p (decomposed Nfkd p o) (decomposed Nfkd p z) ∙ cond-true _ _ _ some
 
   -- where the count reads no more than z, neither does a step
-  pub safe_step-behind : (o z : List ℕ) (c : ℕ) → last_run (o ++ z) ≡ last_run z → safe_step p (o ++ z) c ≡ o ++ safe_step p z c
-  safe_step-behind o z c same =
+  pub safe_step-after : (o z : List ℕ) (c : ℕ) → last_run (o ++ z) ≡ last_run z → safe_step p (o ++ z) c ≡ o ++ safe_step p z c
+  safe_step-after o z c same =
       ap (λ b. (if b then (o ++ z) ++ joiner ∷ [] else o ++ z) ++ c ∷ []) (ap (λ n. nat_lt max_run (n + lead p (p.compat c))) same)
       ∙ next (is_too_long p z c)
     where
@@ -135,10 +135,10 @@ module _ (p : Properties) where
       next true = some-more z (joiner ∷ []) some
       next false = some
 
-  safe-behind : (o z y : List ℕ) → has_starter p (decomposed Nfkd p z) ≡ true → fold (safe_step p) (o ++ z) y ≡ o ++ fold (safe_step p) z y
-  safe-behind o z [] some = refl
-  safe-behind o z (c ∷ y) some =
-      ap (λ k. fold (safe_step p) k y) (safe_step-behind o z c (run-behind o z some)) ∙ safe-behind o (safe_step p z c) y (some-step z c some)
+  safe-after : (o z y : List ℕ) → has_starter p (decomposed Nfkd p z) ≡ true → fold (safe_step p) (o ++ z) y ≡ o ++ fold (safe_step p) z y
+  safe-after o z [] some = refl
+  safe-after o z (c ∷ y) some =
+      ap (λ k. fold (safe_step p) k y) (safe_step-after o z c (run-after o z some)) ∙ safe-after o (safe_step p z c) y (some-step z c some)
 
   -- where there is room for c, nothing is put before it
   pub safe_step-room : (o : List ℕ) (c : ℕ) → last_run o + lead p (p.compat c) ≤ max_run → safe_step p o c ≡ o ++ c ∷ []
@@ -153,7 +153,7 @@ module _ (p : Properties) where
       let some : has_starter p (p.compat c ++ []) ≡ true = ap (has_starter p) (append-nil (p.compat c)) ∙ h.some in
       fold-append (safe_step p) [] x (c ∷ y)
       ∙ ap (λ k. fold (safe_step p) k y) (step-anew out c h room)
-      ∙ safe-behind out (c ∷ []) y some
+      ∙ safe-after out (c ∷ []) y some
       ∙ ap (λ k. out ++ fold (safe_step p) k y) (sym (step-anew [] c h (omega arith)))
 
   -- ---- both: the form of the stream-safe text

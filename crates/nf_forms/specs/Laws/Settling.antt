@@ -11,22 +11,22 @@ use Rattle.nf_forms.specs.Front.{front, back}
 use Rattle.nf_forms.specs.Order.{by_class, order}
 use Rattle.nf_forms.specs.Compose.{composite, joined, replaced, join, compose_step, compose}
 use Rattle.nf_forms.specs.Forms.{arranged}
-use Rattle.nf_forms.specs.Laws.Front.{front-append-back, front-none, back-none, has_starter-at, front-at, back-at, EndsInGroup, last_starter, marks_push, EndsInStarter, ends_in, IsCut, cut, trail-behind}
-use Rattle.nf_forms.specs.Laws.Order.{order-marks, order-push_starter, order-behind, has_starter-by_class}
+use Rattle.nf_forms.specs.Laws.Front.{front-append-back, front-none, back-none, has_starter-at, front-at, back-at, EndsInGroup, last_starter, marks_push, EndsInStarter, ends_in, IsCut, cut, trail-after}
+use Rattle.nf_forms.specs.Laws.Order.{order-marks, order-push_starter, order-after, has_starter-by_class}
 use Rattle.nf_forms.specs.Laws.Starters.{length-by_class}
-use Rattle.nf_forms.specs.Laws.Compose.{compose_step-at, compose_step-none, compose-none, composite-starter, joined-behind_marks, IsGroup, fold-group, compose-behind, front-group, back-group, compose-push}
+use Rattle.nf_forms.specs.Laws.Compose.{compose_step-at, compose_step-none, compose-none, composite-starter, joined-after_marks, IsGroup, fold-group, compose-after, front-group, back-group, compose-push}
 
 module _ (p : Properties) where
   -- ---- a starter more: `b` says whether the form composes
 
-  -- what a starter composes to with what stands behind the front, where that is a starter alone
+  -- what a starter composes to with what stands after the front, where that is a starter alone
   abbrev pub next_composite : Bool → List ℕ → ℕ → Option ℕ
   next_composite false z c = None
   next_composite true [] c = None
   next_composite true (s ∷ []) c = if is_starter p s then composite p s c else None
   next_composite true (s ∷ x ∷ m) c = None
 
-  -- a text and a starter more: with the composite in the place of the two, or with the starter behind it
+  -- a text and a starter more: with the composite in the place of the two, or with the starter after it
   abbrev pub followed : Option ℕ → List ℕ → ℕ → List ℕ
   followed (Some d) z c = front p z ++ d ∷ []
   followed None z c = z ++ c ∷ []
@@ -50,7 +50,7 @@ module _ (p : Properties) where
           next : (o : Option ℕ) → e ++ replaced o s [] c ≡ followed o (e ++ s ∷ []) c
           next (Some d) = ap (λ v. v ++ d ∷ []) (sym (front-at p e s [] starts_s marks))
           next None = sym (append_assoc e (s ∷ []) (c ∷ []))
-      joins e s (x ∷ m) starts_s marks = ap (λ o. e ++ replaced o s (x ∷ m) c) (joined-behind_marks p s x m c starts) ∙ sym (append_assoc e (s ∷ x ∷ m) (c ∷ []))
+      joins e s (x ∷ m) starts_s marks = ap (λ o. e ++ replaced o s (x ∷ m) c) (joined-after_marks p s x m c starts) ∙ sym (append_assoc e (s ∷ x ∷ m) (c ∷ []))
 
       at : EndsInGroup p z → compose_step p z c ≡ followed (next_composite true (back p z) c) z c
       at r = subst (λ k. compose_step p k c ≡ followed (next_composite true (back p k) c) k c) (sym r.text)
@@ -94,7 +94,7 @@ module _ (p : Properties) where
       next (Some d) e = back-at p (front p (arranged b p w)) d [] (next_composite-starter b (back p (arranged b p w)) c d e) refl
       next None e = back-at p (arranged b p w) c [] starts refl
 
-  -- ---- marks behind a text that ends in none
+  -- ---- marks after a text that ends in none
 
   -- a starter that stands alone, if any, and then marks in order: what they become
   abbrev pub closed_off : Bool → Option ℕ → List ℕ → List ℕ
@@ -149,12 +149,12 @@ module _ (p : Properties) where
 
   arranged-settled : (b : Bool) (head run : List ℕ) (r : IsSettled b head) → trail p head ≡ 0 → has_starter p run ≡ false
       → arranged b p (head ++ run) ≡ r.settled ++ closed_off b (Some r.starter) (by_class p run)
-  arranged-settled false head run r ends marks = order-behind p head run ends marks ∙ ap (λ v. v ++ by_class p run) r.text ∙ append_assoc r.settled (r.starter ∷ []) (by_class p run)
+  arranged-settled false head run r ends marks = order-after p head run ends marks ∙ ap (λ v. v ++ by_class p run) r.text ∙ append_assoc r.settled (r.starter ∷ []) (by_class p run)
   arranged-settled true head run r ends marks =
-      ap (λ v. compose p v) (order-behind p head run ends marks)
+      ap (λ v. compose p v) (order-after p head run ends marks)
       ∙ fold-append (compose_step p) [] (order p head) (by_class p run)
       ∙ ap (λ v. fold (compose_step p) v (by_class p run)) r.text
-      ∙ compose-behind p r.settled (r.starter ∷ []) (by_class p run) (record { starter = r.starter; marks = []; text = refl; starts = r.starts; no_starter = refl }) (has_starter-by_class p run)
+      ∙ compose-after p r.settled (r.starter ∷ []) (by_class p run) (record { starter = r.starter; marks = []; text = refl; starts = r.starts; no_starter = refl }) (has_starter-by_class p run)
 
   arranged-none : (b : Bool) (run : List ℕ) → has_starter p run ≡ false → arranged b p run ≡ by_class p run
   arranged-none false run marks = order-marks p run marks
@@ -164,7 +164,7 @@ module _ (p : Properties) where
   unfolding by_class
   back-empty b = ap (λ v. back p v) (arranged-none b [] refl)
 
-  -- a text that ends in no mark, arranged: what is settled, the starter behind that, if any, and what marks more become
+  -- a text that ends in no mark, arranged: what is settled, the starter after that, if any, and what marks more become
   record Settles (b : Bool) (head : List ℕ) : Type 0 where
     settled : List ℕ
     starter : Option ℕ
@@ -172,8 +172,8 @@ module _ (p : Properties) where
     back_is : back p (arranged b p head) ≡ option_to_list starter
     some : has_starter p head ≡ is_some starter
     starts : (s : ℕ) → starter ≡ Some s → is_starter p s ≡ true
-    front_behind : (run : List ℕ) → has_starter p run ≡ false → front p (arranged b p (head ++ run)) ≡ settled
-    back_behind : (run : List ℕ) → has_starter p run ≡ false → back p (arranged b p (head ++ run)) ≡ closed_off b starter (by_class p run)
+    front_after : (run : List ℕ) → has_starter p run ≡ false → front p (arranged b p (head ++ run)) ≡ settled
+    back_after : (run : List ℕ) → has_starter p run ≡ false → back p (arranged b p (head ++ run)) ≡ closed_off b starter (by_class p run)
 
   settles : (b : Bool) (head : List ℕ) → trail p head ≡ 0 → Settles b head
   unfolding by_class
@@ -187,8 +187,8 @@ module _ (p : Properties) where
         back_is = back-empty b;
         some = refl;
         starts = λ s e. cc;
-        front_behind = λ run marks. ap (λ v. front p v) (arranged-none b run marks) ∙ front-none p (by_class p run) (has_starter-by_class p run);
-        back_behind = λ run marks. ap (λ v. back p v) (arranged-none b run marks) ∙ back-none p (by_class p run) (has_starter-by_class p run);
+        front_after = λ run marks. ap (λ v. front p v) (arranged-none b run marks) ∙ front-none p (by_class p run) (has_starter-by_class p run);
+        back_after = λ run marks. ap (λ v. back p v) (arranged-none b run marks) ∙ back-none p (by_class p run) (has_starter-by_class p run);
       }
 
       at : EndsInStarter p head → IsSettled b head → Settles b head
@@ -199,9 +199,9 @@ module _ (p : Properties) where
         back_is = ap (λ v. back p v) r.text ∙ back-at p r.settled r.starter [] r.starts refl;
         some = ap (λ h. has_starter p h) ending.text ∙ has_starter-at p ending.before ending.last [] ending.starts;
         starts = λ s e. let same : r.starter ≡ s = cc in subst (λ k. is_starter p k ≡ true) same r.starts;
-        front_behind = λ run marks. ap (λ v. front p v) (arranged-settled b head run r ends marks)
+        front_after = λ run marks. ap (λ v. front p v) (arranged-settled b head run r ends marks)
             ∙ front-group p r.settled _ (closed_off-group b r.starter (by_class p run) r.starts (has_starter-by_class p run));
-        back_behind = λ run marks. ap (λ v. back p v) (arranged-settled b head run r ends marks)
+        back_after = λ run marks. ap (λ v. back p v) (arranged-settled b head run r ends marks)
             ∙ back-group p r.settled _ (closed_off-group b r.starter (by_class p run) r.starts (has_starter-by_class p run));
       }
 
@@ -212,17 +212,17 @@ module _ (p : Properties) where
   same_option (Some s) (Some t) e = cc
 
   -- marks settle nothing
-  pub front-behind : (b : Bool) (head run : List ℕ) → trail p head ≡ 0 → has_starter p run ≡ false → front p (arranged b p (head ++ run)) ≡ front p (arranged b p head)
-  front-behind b head run ends marks = let r : Settles b head = settles b head ends in r.front_behind run marks ∙ sym r.front_is
+  pub front-after : (b : Bool) (head run : List ℕ) → trail p head ≡ 0 → has_starter p run ≡ false → front p (arranged b p (head ++ run)) ≡ front p (arranged b p head)
+  front-after b head run ends marks = let r : Settles b head = settles b head ends in r.front_after run marks ∙ sym r.front_is
 
-  -- what stands behind the front
-  pub back-behind : (b : Bool) (head run : List ℕ) (starter : Option ℕ) → trail p head ≡ 0 → has_starter p run ≡ false → back p (arranged b p head) ≡ option_to_list starter
+  -- what stands after the front
+  pub back-after : (b : Bool) (head run : List ℕ) (starter : Option ℕ) → trail p head ≡ 0 → has_starter p run ≡ false → back p (arranged b p head) ≡ option_to_list starter
       → back p (arranged b p (head ++ run)) ≡ closed_off b starter (by_class p run)
-  back-behind b head run starter ends marks leaves =
+  back-after b head run starter ends marks leaves =
       let r : Settles b head = settles b head ends in
-      r.back_behind run marks ∙ ap (λ o. closed_off b o (by_class p run)) (same_option r.starter starter (sym r.back_is ∙ leaves))
+      r.back_after run marks ∙ ap (λ o. closed_off b o (by_class p run)) (same_option r.starter starter (sym r.back_is ∙ leaves))
 
-  -- what stands behind the front of a text that ends in no mark: one starter, where the text has one
+  -- what stands after the front of a text that ends in no mark: one starter, where the text has one
   pub back-starter : (b : Bool) (head : List ℕ) → trail p head ≡ 0 → (s : ℕ) → back p (arranged b p head) ≡ s ∷ [] → is_starter p s ≡ true
   back-starter b head ends s leaves = let r : Settles b head = settles b head ends in r.starts s (same_option r.starter (Some s) (sym r.back_is ∙ leaves))
 
@@ -245,8 +245,8 @@ module _ (p : Properties) where
       same r mark = (
         [],
         ap (λ v. front p (arranged b p v)) (ap (λ v. v ++ c ∷ []) r.text ∙ append_assoc r.head r.run (c ∷ []))
-            ∙ front-behind b r.head (r.run ++ c ∷ []) r.ends (marks_push p r.run c r.marks mark)
-            ∙ sym (ap (λ v. front p (arranged b p v)) r.text ∙ front-behind b r.head r.run r.ends r.marks)
+            ∙ front-after b r.head (r.run ++ c ∷ []) r.ends (marks_push p r.run c r.marks mark)
+            ∙ sym (ap (λ v. front p (arranged b p v)) r.text ∙ front-after b r.head r.run r.ends r.marks)
             ∙ sym (append-nil _),
       )
 
@@ -261,13 +261,13 @@ module _ (p : Properties) where
             ∙ rest.1 ∙ ap (λ k. k ++ rest.0) (here.1) ∙ append_assoc (front p (arranged b p w)) (here.0) (rest.0),
       )
 
-  -- no more stands behind the front than the marks that the text ends in, and one starter
+  -- no more stands after the front than the marks that the text ends in, and one starter
   pub length-back : (b : Bool) (w : List ℕ) → length (back p (arranged b p w)) ≤ trail p w + 1
   length-back b w = at (cut p w)
     where
       at : IsCut p w → length (back p (arranged b p w)) ≤ trail p w + 1
       at r =
           let at_head : Settles b r.head = settles b r.head r.ends in
-          let shape = ap (λ v. length (back p (arranged b p v))) r.text ∙ ap (λ v. length v) (at_head.back_behind r.run r.marks) in
-          let run = ap (λ v. trail p v) r.text ∙ trail-behind p r.head r.run r.ends r.marks in
+          let shape = ap (λ v. length (back p (arranged b p v))) r.text ∙ ap (λ v. length v) (at_head.back_after r.run r.marks) in
+          let run = ap (λ v. trail p v) r.text ∙ trail-after p r.head r.run r.ends r.marks in
           omega (arith, length-closed_off b at_head.starter (by_class p r.run), length-by_class p r.run r.marks)

@@ -124,7 +124,7 @@ module _ (p : Properties) where
   length-take-le-lead : (n : ℕ) (w : List ℕ) → has_starter p (take n w) ≡ false → length (take n w) ≤ lead p w
   length-take-le-lead n w none = omega (arith, ap (lead p) (sym (take-append-drop n w)) ∙ lead-append p (take n w) (drop n w) ∙ cond-false _ _ _ none)
 
-  -- while c's row goes on behind the output, the last run stays within the limit in every form
+  -- while c's row goes on after the output, the last run stays within the limit in every form
   pub trail-take-le : (f : Form) (o : List ℕ) (c n : ℕ) → IsSoundText p (safe_step p o c)
       → trail p (decomposed f p (parted p o c) ++ take n (row_of f p c)) ≤ max_run
   trail-take-le f o c n sound =
@@ -172,15 +172,15 @@ module _ (p : Properties) where
             arith,
             ap (λ o. longest p (decomposed Nfkd p o)) (stream_safe-push x c),
             longest-decomposed-push Nfkd (parted p out c) c,
-            behind (is_too_long p out c) members.0,
+            after (is_too_long p out c) members.0,
             trail-parted-le out c whole,
             longest-le-length (p.compat c),
             (IsSound-from_test p c members.1).compat_few,
           )
         where
-          behind : (b : Bool) → IsSoundText p (if b then stream_safe p x ++ joiner ∷ [] else stream_safe p x)
+          after : (b : Bool) → IsSoundText p (if b then stream_safe p x ++ joiner ∷ [] else stream_safe p x)
               → longest p (decomposed Nfkd p (if b then stream_safe p x ++ joiner ∷ [] else stream_safe p x)) ≤ max_run
-          behind true sound =
+          after true sound =
               let members = sound_last p (stream_safe p x) joiner sound in
               let plain = JoinerIsPlain-from_sound p members.1 in
               omega (
@@ -192,4 +192,4 @@ module _ (p : Properties) where
                 longest-le-length (p.compat joiner),
                 ap length plain.compat,
               )
-          behind false sound = before sound
+          after false sound = before sound

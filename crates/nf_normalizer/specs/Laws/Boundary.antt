@@ -1,4 +1,4 @@
--- Text from a normalization boundary on (UAX #15, section 9), behind any text.
+-- Text from a normalization boundary on (UAX #15, section 9), after any text.
 use Rattle.std.proofs.Common.{◌≡◌, ℕ, true, List, [], ◌∷◌, ◌++◌, length, refl, sym, ap, ◌∙◌, subst, arith, encode_utf8_all, length-append}
 use Rattle.std.proofs.lemmas.Bool.{or_left}
 use Rattle.std.proofs.lemmas.Str.{encodes-append}
@@ -12,15 +12,15 @@ use Rattle.nf_forms.specs.Parting.{IsBoundary}
 use Rattle.nf_forms.specs.Forms.{row_of, decomposed, composes, finished, normal_form}
 use Rattle.nf_forms.specs.StreamSafe.{stream_safe}
 use Rattle.nf_forms.specs.SafeForm.{safe_form}
-use Rattle.nf_forms.specs.Closed.{BeginsAtBoundary}
+use Rattle.nf_forms.specs.Segments.{BeginsAtBoundary}
 use Rattle.nf_forms.specs.Laws.Sound.{IsSoundText}
 use Rattle.nf_forms.specs.Laws.StreamSafe.{decomposed-append}
 use Rattle.nf_forms.specs.Laws.Runs.{has_starter-append}
 use Rattle.nf_forms.specs.Laws.Front.{front-append_some}
-use Rattle.nf_forms.specs.Laws.Parting.{last_run, run-behind, has_starter-arranged}
-use Rattle.nf_forms.specs.Laws.Closed.{stream_safe-at_boundary, normal_form-at_boundary, sound-append, sound-closed, HasForm-alone}
+use Rattle.nf_forms.specs.Laws.Parting.{last_run, run-after, has_starter-arranged}
+use Rattle.nf_forms.specs.Laws.Segments.{stream_safe-at_boundary, normal_form-at_boundary, sound-append, sound-segments, HasForm-alone}
 use Rattle.nf_pending.specs.StandsAfter.{StandsAfter as PendingStandsAfter}
-use Rattle.nf_pending.specs.Laws.Behind.{stands-behind}
+use Rattle.nf_pending.specs.Laws.After.{stands-after}
 use Rattle.nf_normalizer.specs.declared.normalizer.Normalizer.{Normalizer}
 use Rattle.nf_normalizer.specs.Settled.{settled, is_usable}
 use Rattle.nf_normalizer.specs.Normalizer.{HasTaken, settled_text}
@@ -31,7 +31,7 @@ module _ (p : Properties) where
   -- a sound character at a boundary can be used alone
   pub usable-alone : (f : Form) (c : ℕ) → IsBoundary p f c → is_sound p c ≡ true → is_usable p (c ∷ []) ≡ true
   unfolding is_usable
-  usable-alone f c boundary own = sound-closed p f [] (c ∷ []) (normal_form f p (c ∷ [])) refl (HasForm-alone p f c boundary own)
+  usable-alone f c boundary own = sound-segments p f [] (c ∷ []) (normal_form f p (c ∷ [])) refl (HasForm-alone p f c boundary own)
 
   module _ (f : Form) (x : List ℕ) (usable : is_usable p x ≡ true) where
     sound : IsSoundText p (stream_safe p x)
@@ -64,26 +64,26 @@ module _ (p : Properties) where
       rows_is : (g : Form) → decomposed g p (stream_safe p (boundary.first ∷ more)) ≡ row_of g p boundary.first ++ decomposed g p grown.more
       rows_is g = ap (decomposed g p) safe_is
 
-      pub joins-behind : (n : ℕ) → Joins p [] (boundary.first ∷ more) n → Joins p x (boundary.first ∷ more) n
-      joins-behind n joins = omega (arith, joins, ap length safe, length-append (stream_safe p x) (stream_safe p (boundary.first ∷ more)))
+      pub joins-after : (n : ℕ) → Joins p [] (boundary.first ∷ more) n → Joins p x (boundary.first ∷ more) n
+      joins-after n joins = omega (arith, joins, ap length safe, length-append (stream_safe p x) (stream_safe p (boundary.first ∷ more)))
 
       some : has_starter p (normal_form f p (stream_safe p (boundary.first ∷ more))) ≡ true
       some =
           ap (λ w. has_starter p (finished f p w)) (rows_is f ∙ ap (λ row. row ++ decomposed f p grown.more) boundary.boundary.anew.row)
           ∙ has_starter-arranged p (composes f) boundary.boundary.anew.first (boundary.boundary.anew.rest ++ decomposed f p grown.more) boundary.boundary.anew.starter
 
-      pub settled_text-behind : encode_utf8_all (safe_form f p x) ++ settled_text f p (boundary.first ∷ more) ≡ settled_text f p (x ++ boundary.first ∷ more)
+      pub settled_text-after : encode_utf8_all (safe_form f p x) ++ settled_text f p (boundary.first ∷ more) ≡ settled_text f p (x ++ boundary.first ∷ more)
       unfolding settled safe_form
-      settled_text-behind =
+      settled_text-after =
           sym (encodes-append (safe_form f p x) (front p (safe_form f p (boundary.first ∷ more))))
           ∙ ap encode_utf8_all (sym (
           ap (λ l. front p (normal_form f p l)) safe ∙ ap (front p) (normal_form-at_boundary p f (stream_safe p x) (stream_safe p (boundary.first ∷ more)) begun_safe)
           ∙ front-append_some p (normal_form f p (stream_safe p x)) (normal_form f p (stream_safe p (boundary.first ∷ more))) some))
 
-      -- the whole forms stand one behind the other
-      pub safe_form-behind : encode_utf8_all (safe_form f p x) ++ encode_utf8_all (safe_form f p (boundary.first ∷ more)) ≡ encode_utf8_all (safe_form f p (x ++ boundary.first ∷ more))
+      -- the whole forms stand one after the other
+      pub safe_form-after : encode_utf8_all (safe_form f p x) ++ encode_utf8_all (safe_form f p (boundary.first ∷ more)) ≡ encode_utf8_all (safe_form f p (x ++ boundary.first ∷ more))
       unfolding safe_form
-      safe_form-behind =
+      safe_form-after =
           sym (encodes-append (safe_form f p x) (safe_form f p (boundary.first ∷ more)))
           ∙ ap encode_utf8_all (sym (ap (normal_form f p) safe ∙ normal_form-at_boundary p f (stream_safe p x) (stream_safe p (boundary.first ∷ more)) begun_safe))
 
@@ -91,14 +91,14 @@ module _ (p : Properties) where
       unfolding is_usable
       usable_both all = subst (IsSoundText p) (sym safe) (sound-append p f (stream_safe p x) (stream_safe p (boundary.first ∷ more)) sound all)
 
-      pub HasTaken-behind : (normalizer : Normalizer) → HasTaken f p normalizer (boundary.first ∷ more) → HasTaken f p normalizer (x ++ boundary.first ∷ more)
-      HasTaken-behind normalizer anew = record {
+      pub HasTaken-after : (normalizer : Normalizer) → HasTaken f p normalizer (boundary.first ∷ more) → HasTaken f p normalizer (x ++ boundary.first ∷ more)
+      HasTaken-after normalizer anew = record {
         usable = usable_both anew.usable;
         form = anew.form;
         plain = anew.plain;
-        count = anew.count ∙ sym (ap (last_run p) safe ∙ run-behind p (stream_safe p x) (stream_safe p (boundary.first ∷ more)) counts);
+        count = anew.count ∙ sym (ap (last_run p) safe ∙ run-after p (stream_safe p x) (stream_safe p (boundary.first ∷ more)) counts);
         pending = subst (PendingStandsAfter f p normalizer.pending) (sym rows)
-            (stands-behind f p normalizer.pending (decomposed f p (stream_safe p x)) (decomposed f p grown.more) boundary.first boundary.boundary.anew
+            (stands-after f p normalizer.pending (decomposed f p (stream_safe p x)) (decomposed f p grown.more) boundary.first boundary.boundary.anew
             (subst (PendingStandsAfter f p normalizer.pending) (rows_is f) anew.pending));
       }
         where

@@ -20,7 +20,7 @@ use Rattle.nf_safe.specs.Laws.LongestFront.{longest_front-push, longest_front-al
 use Rattle.nf_forms.specs.SafeForm.{safe_form}
 use Rattle.nf_normalizer.specs.Settled.{settled, is_usable, usable}
 
--- a text and what stands behind it
+-- a text and what stands after it
 pub record Extends (x y : List ℕ) : Type 0 where
   pub more : List ℕ
   pub text : y ≡ x ++ more

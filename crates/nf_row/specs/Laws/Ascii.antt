@@ -1,5 +1,5 @@
 -- ASCII text over data that leaves it as it is: each character is sound and its own row, none needs a joiner before it,
--- and behind an ASCII starter all but the last character is settled.
+-- and after an ASCII starter all but the last character is settled.
 use Rattle.std.proofs.Common.{◌≡◌, ℕ, ◌+◌, ◌<◌, ◌≤◌, Bool, true, false, not, ◌==◌, cond, List, [], ◌∷◌, ◌++◌, None, refl, sym, ap, ◌∙◌, arith, append_assoc, le-leb}
 use Rattle.std.proofs.lemmas.Bool.{and_from, or_left, cond-true, cond-false, le-ltb, ne_eqb}
 use Rattle.std.proofs.lemmas.List.{append-nil}
@@ -22,7 +22,7 @@ use Rattle.nf_forms.specs.Laws.Front.{front-append-back}
 use Rattle.nf_forms.specs.Laws.Settling.{next_composite, settled_by, front-push_starter, back-push_starter}
 use Rattle.nf_row.specs.Ascii.{IsPlainAscii, AreAscii}
 
--- the first character and those behind it
+-- the first character and those after it
 pub ascii-head : (c : ℕ) (cs : List ℕ) → AreAscii (c ∷ cs) → c < 0x80
 ascii-head c cs all = All-head (λ c. c < 0x80) c cs all
 
@@ -97,7 +97,7 @@ module _ (p : Properties) (plain : IsPlainAscii p) where
             ∙ sym (front-append-back p (finished f p w)) ∙ ap (λ v. front p (finished f p w) ++ v) alone,
       )
 
-  -- behind one ASCII starter alone a run of ASCII settles all but its last character
+  -- after one ASCII starter alone a run of ASCII settles all but its last character
   pub finished-ascii : (f : Form) (w : List ℕ) (a : ℕ) (cs : List ℕ) (last : ℕ) → back p (finished f p w) ≡ a ∷ [] → a < 0x80 → AreAscii (cs ++ last ∷ [])
       → (back p (finished f p (w ++ (cs ++ last ∷ []))) ≡ last ∷ []) × (front p (finished f p (w ++ (cs ++ last ∷ []))) ≡ front p (finished f p w) ++ (a ∷ cs))
   finished-ascii f w a [] last alone below all = push-ascii f w a last alone below (ascii-head last [] all)

@@ -14,7 +14,7 @@ use Rattle.nf_forms.specs.Sound.{is_sound}
 use Rattle.nf_forms.specs.Laws.Last.{by_last}
 use Rattle.nf_forms.specs.Laws.Sound.{IsSoundText, IsSound-from_test, JoinerIsPlain-from_sound, sound_last}
 use Rattle.nf_forms.specs.Laws.StreamSafe.{stream_safe-push, longest-le-length, trail-decomposed-joiner}
-use Rattle.nf_forms.specs.Laws.Closing.{safe-closed}
+use Rattle.nf_forms.specs.Laws.Closing.{safe-segments}
 use Rattle.nf_forms.specs.Laws.Audited.{stream_safe-short}
 use Rattle.nf_safe.specs.LongestFront.{longest_front, IsLongestFront}
 use Rattle.nf_safe.specs.Place.{is_in_format}
@@ -50,7 +50,7 @@ module _ (p : Properties) where
   length-stream_safe-ge = by_last (λ x. length x ≤ length (stream_safe p x)) (omega arith)
       (λ x c before. omega (arith, ap length (stream_safe-push p x c), length-safe_step (stream_safe p x) c, length-append x (c ∷ [])))
 
-  -- ---- a piece, and what comes behind it
+  -- ---- a piece, and what comes after it
 
   -- alone a character is in the format
   one-in_format : (c : ℕ) → is_sound p c ≡ true → is_in_format p (c ∷ []) ≡ true
@@ -58,10 +58,10 @@ module _ (p : Properties) where
       is_in_format-short p (c ∷ []) (omega (arith, longest-le-length p (p.compat c ++ []), length-append (p.compat c) [], (IsSound-from_test p c sound).compat_few))
 
   -- where one character more leaves the format, a joiner goes before it, and the rest is filtered alone
-  parted-behind : (piece : List ℕ) (d : ℕ) (rest : List ℕ) → IsSoundText p (stream_safe p (piece ++ d ∷ rest))
+  parted-after : (piece : List ℕ) (d : ℕ) (rest : List ℕ) → IsSoundText p (stream_safe p (piece ++ d ∷ rest))
       → is_in_format p piece ≡ true → is_in_format p (piece ++ d ∷ []) ≡ false
       → stream_safe p (piece ++ d ∷ rest) ≡ piece ++ joiner ∷ stream_safe p (d ∷ rest)
-  parted-behind piece d rest sound inside out =
+  parted-after piece d rest sound inside out =
       let put = piece ++ joiner ∷ [] in
       let d_sound = (and_parts _ _ (sound-parts piece (d ∷ rest) (sound-source (piece ++ d ∷ rest) sound)).1).0 in
       let long : is_too_long p piece d ≡ true =
@@ -72,13 +72,13 @@ module _ (p : Properties) where
       ∙ ap (λ o. fold (safe_step p) (o ++ d ∷ []) rest) (cond-true _ _ _ long) in
       let joins = (sound_last p piece joiner (sound_last p put d (sound-fold p (put ++ d ∷ []) rest (ap (list_all (is_sound p)) (sym step) ∙ sound)).0).0).1 in
       step
-      ∙ safe-closed p put (d ∷ []) rest (trail-decomposed-joiner p (JoinerIsPlain-from_sound p joins) Nfkd piece)
+      ∙ safe-segments p put (d ∷ []) rest (trail-decomposed-joiner p (JoinerIsPlain-from_sound p joins) Nfkd piece)
       ∙ ap (λ o. put ++ fold (safe_step p) o rest) (sym (stream_safe-in_format (d ∷ []) (one-in_format d d_sound)))
       ∙ append_assoc piece (joiner ∷ []) (stream_safe p (d ∷ rest))
 
   -- ---- the cut
 
-  -- a piece is in the format, and the character behind it leaves the format
+  -- a piece is in the format, and the character after it leaves the format
   piece-inside : (piece rest : List ℕ) → length piece ≡ longest_front (is_in_format p) (piece ++ rest) → is_in_format p piece ≡ true
   piece-inside piece rest len = rw (← len, take-append_seam piece rest) at (longest (piece ++ rest)).passes
 
@@ -96,10 +96,10 @@ module _ (p : Properties) where
     where
       from : (rest : List ℕ) → x ≡ piece ++ rest → IsGreedyCut p rest (next ∷ pieces) → (IsSoundText p (stream_safe p rest) → stream_safe p rest ≡ rejoined (next ∷ pieces))
           → stream_safe p x ≡ piece ++ joiner ∷ rejoined (next ∷ pieces)
-      from [] text behind before = absurd (omega (arith, behind.2, ap length behind.1, length-append next behind.0))
-      from (d ∷ rest) text behind before =
+      from [] text after before = absurd (omega (arith, after.2, ap length after.1, length-append next after.0))
+      from (d ∷ rest) text after before =
           let len = cut.3 ∙ ap (longest_front (is_in_format p)) text in
-          let whole = parted-behind piece d rest (ap (λ v. list_all (is_sound p) (stream_safe p v)) (sym text) ∙ sound) (piece-inside piece (d ∷ rest) len) (piece-ends piece d rest len) in
+          let whole = parted-after piece d rest (ap (λ v. list_all (is_sound p) (stream_safe p v)) (sym text) ∙ sound) (piece-inside piece (d ∷ rest) len) (piece-ends piece d rest len) in
           let split = ap (stream_safe p) text ∙ whole in
           split ∙ ap (λ v. piece ++ joiner ∷ v) (before (and_parts _ _ (sound-parts piece _ (ap (list_all (is_sound p)) (sym split) ∙ sound)).1).1)
 

@@ -1,10 +1,10 @@
 use Rattle.nf_boundary.proofs.Common.{rules, ◌≡◌, ◌++◌, ◌∷◌, encode_utf8_all, refl, IsAtBoundary}
 use Rattle.nf_boundary.proofs.SeenLemmas.{shorter}
-use Rattle.nf_boundary.proofs.JoinLemmas.{gathers_first, gathers_more, gathers_closed}
+use Rattle.nf_boundary.proofs.JoinLemmas.{gathers_first, gathers_more, gathers_segments}
 use Rattle.nf_boundary.proofs.composing.append_clusters.Goals as goal
 
 pub loop-cluster-init : goal.loop-cluster-init
-loop-cluster-init c = search (rules, gathers_first, c.new-cluster.ensures, c.join_letters-behind.ensures, c.in_ok-next.ensures.0, c.in_ok-next.ensures.1)
+loop-cluster-init c = search (rules, gathers_first, c.new-cluster.ensures, c.join_letters-after.ensures, c.in_ok-next.ensures.0, c.in_ok-next.ensures.1)
 
 pub loop-cluster-smaller : goal.loop-cluster-smaller
 loop-cluster-smaller c = search (rules, shorter)
@@ -14,6 +14,6 @@ loop-cluster-preserved c = search (rules, gathers_more, c.in_ok-join.ensures.joi
 
 pub returns-clause-closes : goal.returns-clause-closes
 returns-clause-closes c =
-    let behind : IsAtBoundary c.args.form c.loop-cluster.next = search rules in
+    let after : IsAtBoundary c.args.form c.loop-cluster.next = search rules in
     let grown : c.append_to.new.formed.items ≡ c.loop-cluster.formed.items ++ encode_utf8_all (c.loop-cluster.cluster.starter ∷ c.loop-cluster.cluster.left.items) = search rules in
-    search (rules, gathers_closed)
+    search (rules, gathers_segments)

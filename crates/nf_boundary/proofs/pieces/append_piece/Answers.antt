@@ -1,6 +1,6 @@
 use Rattle.nf_boundary.proofs.Common.{rules, refl}
 use Rattle.nf_boundary.proofs.SeenLemmas.{shorter}
-use Rattle.nf_boundary.proofs.FillsLemmas.{fills_more, fills_closed}
+use Rattle.nf_boundary.proofs.FillsLemmas.{fills_more, fills_segments}
 use Rattle.nf_boundary.proofs.pieces.append_piece.Goals as goal
 
 pub loop-next-smaller : goal.loop-next-smaller
@@ -11,4 +11,4 @@ loop-next-preserved c = search (rules, fills_more, c.in_ok-join.ensures.becomes 
 
 pub returns-clause-closes : goal.returns-clause-closes
 returns-clause-closes c =
-    fills_closed _ _ c.requires.at _ _ _ _ c.loop-next.invariant c.every_character_is_sound.ensures.text _ c.in_ok-behind.ensures.seen c.in_ok-behind.ensures.row.at _ (c.in_ok-close.ensures.closes refl)
+    fills_segments _ _ c.requires.at _ _ _ _ c.loop-next.invariant c.every_character_is_sound.ensures.text _ c.in_ok-after.ensures.seen c.in_ok-after.ensures.row.at _ (c.in_ok-close.ensures.closes refl)

@@ -3,8 +3,8 @@ use Rattle.std.proofs.lemmas.Grind.{common_steps}
 use Rattle.nf_boundary.proofs.PieceLemmas.{closes_shorter, reaches_more}
 use Rattle.nf_boundary.proofs.pieces.pieces_in.Goals as goal
 
-pub loop-behind-smaller : goal.loop-behind-smaller
-loop-behind-smaller c = search (rules, closes_shorter)
+pub loop-after-smaller : goal.loop-after-smaller
+loop-after-smaller c = search (rules, closes_shorter)
 
-pub loop-behind-preserved : goal.loop-behind-preserved
-loop-behind-preserved c = grind (arith, common_steps, reaches_more)
+pub loop-after-preserved : goal.loop-after-preserved
+loop-after-preserved c = grind (arith, common_steps, reaches_more)

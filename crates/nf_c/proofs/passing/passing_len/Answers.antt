@@ -5,7 +5,7 @@ use Rattle.nf_c.proofs.passing.passing_len.Goals as goal
 pub returns : goal.returns
 returns c = λ some.
     let front = ascii_front _ _ _ c.if-ascii_prefix-seen.false c.ascii_prefix.ensures.ascii in record {
-      calm = c.is_calm.ensures (search rules);
+      holds = c.holds_ascii.ensures (search rules);
       within = omega (arith, c.min-len.ensures);
       room = omega (arith, c.min-len.ensures);
       ascii = front c.min-len.result (omega (arith, c.min-len.ensures, c.min-seen.ensures));

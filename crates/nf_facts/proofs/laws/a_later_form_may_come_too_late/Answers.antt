@@ -1,4 +1,4 @@
--- What a compatibility form takes from a text is not there for a canonical form behind it: the ligature U+FB01.
+-- What a compatibility form takes from a text is not there for a canonical form after it: the ligature U+FB01.
 use Rattle.std.proofs.Common.{◌≡◌, ◌≢◌, ℕ, List, [], ◌∷◌, refl, arith}
 use Rattle.nf_facts.proofs.Common.{unicode_normalization, Form, Nfc, Nfd, Nfkc, Nfkd, ucd}
 use Rattle.nf_forms.specs.Order.{by_class}

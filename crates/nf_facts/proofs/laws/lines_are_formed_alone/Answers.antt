@@ -11,7 +11,7 @@ use Rattle.nf_forms.specs.Laws.Cluster.{row-own}
 use Rattle.nf_facts.specs.LineFeed.{line_feed}
 use Rattle.nf_facts.proofs.Ranges.{IsPlain-ascii}
 use Rattle.nf_forms.specs.Ucd.{ucd}
-use Rattle.nf_forms.specs.Laws.Closing.{safe_form-closed}
+use Rattle.nf_forms.specs.Laws.Closing.{safe_form-segments}
 use Rattle.nf_facts.proofs.laws.lines_are_formed_alone.Goals as goal
 
 no_compositions : compositions line_feed ≡ []
@@ -31,4 +31,4 @@ IsClosing-line_feed f =
     }
 
 pub returns : goal.returns
-returns c = record { closing = IsClosing-line_feed; form = λ f. safe_form-closed ucd f line_feed (IsClosing-line_feed f) }
+returns c = record { closing = IsClosing-line_feed; form = λ f. safe_form-segments ucd f line_feed (IsClosing-line_feed f) }

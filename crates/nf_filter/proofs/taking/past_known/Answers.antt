@@ -1,12 +1,12 @@
 use Rattle.nf_filter.proofs.Common.{take, take-append-drop, IsUtf8-take}
-use Rattle.nf_filter.proofs.PassedLemmas.{none_behind}
+use Rattle.nf_filter.proofs.PassedLemmas.{none_after}
 use Rattle.nf_filter.proofs.taking.past_known.Goals as goal
 
-pub returns-then-few-gt0-clause-behind : goal.returns-then-few-gt0-clause-behind
-returns-then-few-gt0-clause-behind g c = none_behind c.utf8.text
+pub returns-then-few-gt0-clause-after : goal.returns-then-few-gt0-clause-after
+returns-then-few-gt0-clause-after g c = none_after c.utf8.text
 
-pub returns-clause-behind : goal.returns-clause-behind
-returns-clause-behind g c =
+pub returns-clause-after : goal.returns-clause-after
+returns-clause-after g c =
     let known = c.assigned_front-known.result in
     record {
       front = take known c.args.text.now;

@@ -2,9 +2,9 @@ use Rattle.std.proofs.lemmas.Str.{IsUtf8-past_char}
 use Rattle.nf_filter.proofs.Common.{◌≡◌, ℕ, Bool, true, false, List, [], ◌∷◌, ◌++◌, take, drop, refl, sym, ap, ◌∙◌, subst, append-nil, encode_utf8_all, rules, take-append-drop, take_at, prefix_len, IsUtf8, chars, IsCharBoundary-at_seam, chars_from_encodes, chars-append, encodes-append, encodes-chars, Properties, allowed}
 use Rattle.nf_filter.proofs.taking.split_allowed.Goals as goal
 
-behind : (front rest : List ℕ) → IsUtf8 (encode_utf8_all (front ++ rest)) → IsUtf8 (encode_utf8_all rest)
-behind [] rest utf8 = utf8
-behind (c ∷ front) rest utf8 = behind front rest (IsUtf8-past_char _ (encode_utf8_all (front ++ rest)) c utf8 refl)
+after : (front rest : List ℕ) → IsUtf8 (encode_utf8_all (front ++ rest)) → IsUtf8 (encode_utf8_all rest)
+after [] rest utf8 = utf8
+after (c ∷ front) rest utf8 = after front rest (IsUtf8-past_char _ (encode_utf8_all (front ++ rest)) c utf8 refl)
 
 module _ (p : Properties) where
   rest_of : (assigned : Bool) (cs : List ℕ) → (rest : List ℕ) × (allowed assigned p cs ++ rest ≡ cs)
@@ -16,7 +16,7 @@ module _ (p : Properties) where
   in_two assigned text utf8 =
       let rest = rest_of assigned (chars text) in
       let whole = ap encode_utf8_all rest.1 ∙ encodes-chars text utf8 in
-      (encode_utf8_all rest.0, sym whole ∙ encodes-append (allowed assigned p (chars text)) rest.0, behind (allowed assigned p (chars text)) rest.0 (subst IsUtf8 (sym whole) utf8))
+      (encode_utf8_all rest.0, sym whole ∙ encodes-append (allowed assigned p (chars text)) rest.0, after (allowed assigned p (chars text)) rest.0 (subst IsUtf8 (sym whole) utf8))
 
 pub split_at-requires : goal.split_at-requires
 split_at-requires g c =

@@ -7,8 +7,8 @@ use Rattle.nf_lanes.proofs.looks.found_leads.Goals as goal
 pub of_64-pairs-requires : goal.of_64-pairs-requires
 of_64-pairs-requires c = search (arith, bits_at-below)
 
-pub returns-then-leads-lt-FEW : goal.returns-then-leads-lt-FEW
-returns-then-leads-lt-FEW c = record {
+pub returns-then-leads-lt-MIN_LEADS : goal.returns-then-leads-lt-MIN_LEADS
+returns-then-leads-lt-MIN_LEADS c = record {
   leads = c.high_bits-leads.ensures.high;
   told = λ k few none high. let one = c.high_bits-leads.ensures.all k few high in absurd (omega arith);
 }

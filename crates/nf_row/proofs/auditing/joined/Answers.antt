@@ -3,7 +3,7 @@ use Rattle.std.proofs.Common.{◌≡◌, ℕ, ◌+◌, ◌≤◌, ◌<◌, true,
 use Rattle.std.proofs.lemmas.List.Folds.{length-flat_map-take}
 use Rattle.nf_row.proofs.auditing.joined.Goals as goal
 
--- what a front and the row behind it have, all have
+-- what a front and the row after it have, all have
 length-joined : (row : ℕ → List ℕ) {w items : List ℕ} {c : ℕ} (i : ℕ) → items ≡ w → c ≡ get_or items i c → i < length items
     → length (flat_map row (take i items)) + length (row c) ≤ length (flat_map row w)
 length-joined row {w} {items} {c} i same is within =

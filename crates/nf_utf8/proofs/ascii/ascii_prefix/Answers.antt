@@ -7,6 +7,6 @@ returns-then-others-ne0 c = rw c.not_ascii-others.ensures (
     let run = run_is c.args.bytes.now c.loop-at.at 16 (omega arith) c.loop-at.invariant.ascii (omega arith) (rw c.not_ascii-others.ensures at c.if-others-ne0.true) in
     record { within = run.0; ascii = run.1; longest = λ _. run.2 })
 
-pub behind_blocks-at-requires-clause-ascii : goal.behind_blocks-at-requires-clause-ascii
-behind_blocks-at-requires-clause-ascii c =
+pub after_blocks-at-requires-clause-ascii : goal.after_blocks-at-requires-clause-ascii
+after_blocks-at-requires-clause-ascii c =
     all_below c.args.bytes.now c.loop-at.at 16 (omega arith) c.loop-at.invariant.ascii (sym c.not_ascii-others.ensures ∙ c.if-others-ne0.false)

@@ -12,8 +12,8 @@ returns-clause-text c =
     count_from_yields_List c.take_while.result _ c.count-before.ensures.ran
     (YieldsList-from_take_while _ is_blank (YieldsList-from_slice bytes cc) c.take_while.ensures.closure c.take_while.ensures.done (λ x b q k. search (rules, tests)))
     ∙ length-prefix_len is_blank bytes in
-    let behind : c.count-behind.result ≡ suffix_len is_blank rest =
-    count_from_yields_List c.take_while-2.result _ c.count-behind.ensures.ran
+    let after : c.count-after.result ≡ suffix_len is_blank rest =
+    count_from_yields_List c.take_while-2.result _ c.count-after.ensures.ran
     (YieldsList-from_take_while _ is_blank (YieldsList-from_rev_slice rest cc) c.take_while-2.ensures.closure c.take_while-2.ensures.done (λ x b q k. search (rules, tests)))
     ∙ length-prefix_len is_blank (reverse rest) in
-    search (rules, before, behind, take_rest)
+    search (rules, before, after, take_rest)

@@ -8,5 +8,5 @@ pass_plain-requires-clause-told c =
     λ k from to high.
     ⊎_elim
     (λ before. rw c.loop-base.invariant.text (asked.told k from before (rw c.loop-base.invariant.text at high)))
-    (λ behind. absurd (grind (arith, asked.inner k, c.ceil_char_boundary.ensures.nearest k)))
+    (λ after. absurd (grind (arith, asked.inner k, c.ceil_char_boundary.ensures.nearest k)))
     (order k c.loop-base.base)

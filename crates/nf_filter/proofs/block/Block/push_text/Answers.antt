@@ -1,13 +1,13 @@
 use Rattle.nf_filter.proofs.Common.{◌≡◌, ℕ, List, [], ◌++◌, refl, append-nil, append_assoc, Result, Ok, Err, MatchResult, Failed, SinkState, Puts, BreaksOff, Start, BlockState, Written, WritesOn}
-use Rattle.nf_filter.proofs.WritesLemmas.{Puts-behind, BreaksOff-behind}
+use Rattle.nf_filter.proofs.WritesLemmas.{Puts-after, BreaksOff-after}
 use Rattle.nf_filter.proofs.BlockLemmas.{Broken-extends}
 use Rattle.nf_filter.proofs.block.Block.push_text.Goals as goal
 
 -- past an empty block
 passed : (start : Start) (now : BlockState) (sink : SinkState) (w bytes : List ℕ) (r : Result (Unit {0}) Failed) → now.kept ≡ [] → (written : Written start now w) → start.ahead ++ (w ++ bytes) ≡ written.given ++ bytes
     → MatchResult r (λ _. Puts now.sink sink [] bytes) (λ _. BreaksOff now.sink sink [] bytes) → WritesOn start (record { sink = sink; kept = now.kept }) (w ++ bytes) r
-passed start now sink w bytes (Ok _) none written whole puts = record { given = written.given ++ bytes; puts = Puts-behind refl written.puts puts; text = rw (none, append-nil (written.given ++ bytes)) whole }
-passed start now sink w bytes (Err _) none written whole breaks = BreaksOff-behind whole written.puts breaks
+passed start now sink w bytes (Ok _) none written whole puts = record { given = written.given ++ bytes; puts = Puts-after refl written.puts puts; text = rw (none, append-nil (written.given ++ bytes)) whole }
+passed start now sink w bytes (Err _) none written whole breaks = BreaksOff-after whole written.puts breaks
 
 pub returns-in-Err-clause-writes : goal.returns-in-Err-clause-writes
 returns-in-Err-clause-writes g c = λ start w written. Broken-extends _ (record { more = c.args.text.now; text = refl }) (c.in-Err.ensures.writes start w written)

@@ -1,5 +1,5 @@
 use Rattle.nf_filter.proofs.Common.{◌≡◌, ℕ, ◌+◌, ◌≤◌, [], ◌∷◌, ◌++◌, length, refl, arith, append_assoc, length-append, encode_utf8, Result, Ok, Err, OnOk, chars, length-encode, len_utf8_bounds, first_bytes, Fault}
-use Rattle.nf_filter.proofs.TakingLemmas.{few, is_none, HasPlaces-all, placed-behind, placed-within}
+use Rattle.nf_filter.proofs.TakingLemmas.{few, is_none, HasPlaces-all, placed-after, placed-within}
 use Rattle.nf_filter.proofs.AllowingLemmas.{TakesAllowed-more, TakesAllowed-settled}
 use Rattle.nf_filter.proofs.counted.Counted.take_both.Goals as goal
 
@@ -32,9 +32,9 @@ returns-in-Err-clause-takes g c = λ f place x start taken all here written.
 pub returns-clause-takes : goal.returns-clause-takes
 returns-clause-takes g c = λ f place x start taken all here written.
     let first = c.in_default-take_one.ensures.takes f place x start taken all (placed-within place c.args.at x _ (c.in-Some.c ∷ []) (chars c.args.text.now) refl (rw c.in-Some.is at here)) written in
-    let behind = placed-behind place c.args.at x _ (c.in-Some.c ∷ []) (chars c.args.text.now) (c.args.at + c.len_utf8.result) refl
+    let after = placed-after place c.args.at x _ (c.in-Some.c ∷ []) (chars c.args.text.now) (c.args.at + c.len_utf8.result) refl
     (omega (arith, length-append (encode_utf8 c.in-Some.c) [])) (rw c.in-Some.is at here) in
-    rw (c.in-Some.is, ← append_assoc x (c.in-Some.c ∷ []) (chars c.args.text.now)) (c.take_allowed-2.ensures.takes f place (x ++ c.in-Some.c ∷ []) start first.taken.0 first.taken.1 behind (TakesAllowed-settled first))
+    rw (c.in-Some.is, ← append_assoc x (c.in-Some.c ∷ []) (chars c.args.text.now)) (c.take_allowed-2.ensures.takes f place (x ++ c.in-Some.c ∷ []) start first.taken.0 first.taken.1 after (TakesAllowed-settled first))
 
 counted_below : (r : Result (Unit {0}) Fault) (old new n first text at : ℕ) → OnOk r (new ≡ old + n) → n ≤ text → old ≤ at + first → OnOk r (new ≤ at + first + text)
 counted_below (Ok u) old new n first text at counts below start = omega arith

@@ -19,11 +19,11 @@ pub loop-rest-preserved : goal.loop-rest-preserved
 loop-rest-preserved g c = record {
   utf8 = search rules;
   left = omega (arith, c.in-Ok.ensures.passes.leaves.shorter, c.loop-rest.invariant.left);
-  gone = (c.loop-rest.invariant.gone.0 ++ c.in-Ok.ensures.passes.leaves.front, front-more c.args.text.now c.loop-rest.invariant.gone.0 c.loop-rest.rest.now c.loop-rest.invariant.gone.1 c.in-Ok.ensures.passes.leaves.front c.in-Ok.behind.now c.in-Ok.ensures.passes.leaves.is_front);
+  gone = (c.loop-rest.invariant.gone.0 ++ c.in-Ok.ensures.passes.leaves.front, front-more c.args.text.now c.loop-rest.invariant.gone.0 c.loop-rest.rest.now c.loop-rest.invariant.gone.1 c.in-Ok.ensures.passes.leaves.front c.in-Ok.after.now c.in-Ok.ensures.passes.leaves.is_front);
   within = c.in-Ok.ensures.passes.within;
   chars = c.in-Ok.ensures.passes.count ∙ c.loop-rest.invariant.chars;
   put = let leaves = c.in-Ok.ensures.passes.leaves in
-      omega (arith, c.in-Ok.ensures.passes.put, leaves.few, ap length leaves.is_front, length-append leaves.front (chars c.in-Ok.behind.now), c.loop-rest.invariant.put);
+      omega (arith, c.in-Ok.ensures.passes.put, leaves.few, ap length leaves.is_front, length-append leaves.front (chars c.in-Ok.after.now), c.loop-rest.invariant.put);
   stands = λ f place x start standing here.
       let before = c.loop-rest.invariant.stands f place x start standing here in
       takes-more before (c.in-Ok.ensures.steps f place (x ++ before.front) start before.taken (placed-left before place c.args.at c.utf8.text c.loop-rest.invariant.utf8 here));

@@ -1,7 +1,7 @@
 use Rattle.nf_filter.proofs.Common.{◌++◌, ℕ, List, Err, sym, ap, ◌∙◌, option_map, HasMeasured, HasTakenFront, unusable_decision, Properties}
 use Rattle.nf_safe.specs.declared.measurer.Measurer.{Measurer}
 use Rattle.nf_safe.specs.Measurer.{HasSeen}
-use Rattle.nf_filter.proofs.TakerLemmas.{offset_behind, takes-char, decides-char}
+use Rattle.nf_filter.proofs.TakerLemmas.{offset_after, takes-char, decides-char}
 use Rattle.nf_filter.proofs.MeasuresLemmas.{refusal_at}
 use Rattle.nf_filter.proofs.measuring.MeasurerTaker.take_front.Goals as goal
 
@@ -20,4 +20,4 @@ returns-in-Err-clause-takes g c = λ base x before here.
     let utf8 = c.see_counted-rest.utf8 in
     let known = counted base (c.see_counted-rest.ensures.sees x before) in
     decides-char known _ _ utf8 (sym c.chars-chars.ensures.rest ∙ c.in-Some.ensures.steps.0) (unusable_decision p base)
-    (λ more. ap (option_map Err) (refusal_at p base _ _ more known.taken.sound (offset_behind known base c.utf8.text utf8 here) (c.in-Err.ensures.refuses (x ++ known.front) known.taken)))
+    (λ more. ap (option_map Err) (refusal_at p base _ _ more known.taken.sound (offset_after known base c.utf8.text utf8 here) (c.in-Err.ensures.refuses (x ++ known.front) known.taken)))

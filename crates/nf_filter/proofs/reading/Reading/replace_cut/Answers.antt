@@ -27,7 +27,7 @@ returns-then-carried-eq0-clause-cut g c = λ f base bytes read replaces.
 pub returns-clause-cut : goal.returns-clause-cut
 returns-clause-cut g c = λ f base bytes read replaces.
     let laws = c.replacing.ensures in
-    let carried = c.carried-carried.ensures.behind read.tail read.decoder in
+    let carried = c.carried-carried.ensures.after read.tail read.decoder in
     let place = place_in c.args.policy.replace base bytes in
     let text = read.before ++ text_of read.tail in
     let start = start_at (g.S.Sink.state c.args.sink.now) (settled_utf8 c.args.policy f (g.R.Rows.properties c.args.rows.now) bytes) in

@@ -27,9 +27,9 @@ module _ (c : After-feed-fed) {assigned : Bool} {f : Form} {bytes : List ℕ} (h
   holds_now none ok = record { filter = rw ok at c.feed-fed.ensures.stands _ _ _ holds.filter; split = split_now (seen (λ e. cc)) none }
 
 -- a call that is refused leaves the sink as it was
-pub place_behind-requires : goal.place_behind-requires
-place_behind-requires c =
-    let at = (goal.at.place_behind-requires c).After-feed-fed in
+pub place_after-requires : goal.place_after-requires
+place_after-requires c =
+    let at = (goal.at.place_after-requires c).After-feed-fed in
     let refused : (IsTrue (is_spent (filter_state c.args.self.now)) ⊎ (c.feed-fed.result ≡ Err TooLong)) → ⊥ = λ is. grind (arith, c.feed-fed.ensures.kept is) in
     let fits : offset_of (filter_state c.args.self.now) + length c.args.piece.now < 2 ^ 64 = grind (arith, refused, c.feed-fed.ensures.too_long, false_from_ne_true) in
     ∥∥₁_elim (c.args.self.now.holds (grind arith) (grind (arith, refused))) (hlevel le_prop)
@@ -38,7 +38,7 @@ place_behind-requires c =
 pub returns-then-has_parted-clause-decides : goal.returns-then-has_parted-clause-decides
 returns-then-has_parted-clause-decides c = λ assigned f base bytes stands other.
     let at = (goal.at.returns-then-has_parted-clause-decides c).After-feed-fed in
-    rw (← stands.base_is) (parted_decides (seen at stands.holds (λ long. grind (arith, c.feed-fed.ensures.kept (inr long)))) (cc) c.place_behind.result c.place_behind.ensures)
+    rw (← stands.base_is) (parted_decides (seen at stands.holds (λ long. grind (arith, c.feed-fed.ensures.kept (inr long)))) (cc) c.place_after.result c.place_after.ensures)
 
 pub returns-in-Err-clause-faults : goal.returns-in-Err-clause-faults
 returns-in-Err-clause-faults c =

@@ -42,10 +42,10 @@ returns-then-is_at_end-clause-decides c = λ assigned f base bytes stands.
     let at = (goal.at.returns-then-is_at_end-clause-decides c).After-finish-finished in
     rw (← stands.base_is) (done_end (seen at stands.holds) (cc) (grind (arith, nat_tests)) _ _ (due at stands.holds) (sym c.in_default.is ∙ told (seen at stands.holds) (cc)))
 
-pub place_behind-requires : goal.place_behind-requires
-place_behind-requires c =
+pub place_after-requires : goal.place_after-requires
+place_after-requires c =
     ∥∥₁_elim (c.args.self.holds (grind arith) (grind (arith, c.finish-finished.ensures.kept, c.finish-finished.ensures.spent))) (hlevel le_prop)
-    (λ h. room (seen (goal.at.place_behind-requires c).After-finish-finished h.holds) (omega (arith, StandsAfter-offset h.holds.filter, c.offset-offset.ensures, c.offset-offset.type_inv)))
+    (λ h. room (seen (goal.at.place_after-requires c).After-finish-finished h.holds) (omega (arith, StandsAfter-offset h.holds.filter, c.offset-offset.ensures, c.offset-offset.type_inv)))
 
 pub returns-clause-decides : goal.returns-clause-decides
 returns-clause-decides c = λ assigned f base bytes stands.
@@ -53,6 +53,6 @@ returns-clause-decides c = λ assigned f base bytes stands.
     let call = seen at stands.holds in
     rw (← stands.base_is) (elim c.if-not-has_parted.branch [
       | then-not-has_parted+in_default+else-is_at_end w ↦
-          short_end call (cc) (grind (arith, nat_tests)) c.place_behind.result c.place_behind.ensures _ _ (due at stands.holds) (sym w.in_default.is ∙ told call (cc))
-      | else-not-has_parted w ↦ parted_end call (cc) c.place_behind.result c.place_behind.ensures _ (due at stands.holds)
+          short_end call (cc) (grind (arith, nat_tests)) c.place_after.result c.place_after.ensures _ _ (due at stands.holds) (sym w.in_default.is ∙ told call (cc))
+      | else-not-has_parted w ↦ parted_end call (cc) c.place_after.result c.place_after.ensures _ (due at stands.holds)
     ])

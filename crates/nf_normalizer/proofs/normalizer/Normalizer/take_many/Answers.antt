@@ -1,13 +1,13 @@
 use Rattle.nf_normalizer.proofs.Common.{◌≡◌, [], take, length, ap, arith, rules, inl, append-nil, length-take, length-drop}
-use Rattle.nf_normalizer.proofs.FrontLemmas.{ascii_front, leaves-closed, takes-closed}
+use Rattle.nf_normalizer.proofs.FrontLemmas.{ascii_front, leaves-segments, takes-segments}
 use Rattle.nf_normalizer.proofs.normalizer.Normalizer.take_many.Goals as goal
 
 pub returns-in-Some-clause-passes : goal.returns-in-Some-clause-passes
-returns-in-Some-clause-passes g c = leaves-closed c.in-Some.ensures
+returns-in-Some-clause-passes g c = leaves-segments c.in-Some.ensures
 
 pub returns-in-Some-clause-takes : goal.returns-in-Some-clause-takes
 returns-in-Some-clause-takes g c = λ f x start taken holds.
-    takes-closed x taken.usable (rw taken.form at c.in-Some.ensures) (search rules) (c.settle.ensures.anew f x taken) (c.settle.ensures.settles f x start taken holds)
+    takes-segments x taken.usable (rw taken.form at c.in-Some.ensures) (search rules) (c.settle.ensures.anew f x taken) (c.settle.ensures.settles f x start taken holds)
 
 pub returns-clause-passes : goal.returns-clause-passes
 returns-clause-passes g c =

@@ -6,8 +6,8 @@ use Rattle.nf_utf8.proofs.decoder.Decoder.carried.Goals as goal
 counted : (c : goal.After-len) → c.len.result ≡ length c.args.self.now
 counted c = c.len.ensures.count ∙ ap length c.self.view_is
 
-pub returns-clause-behind : goal.returns-clause-behind
-returns-clause-behind c bytes s = omega (arith, counted c, length-encodes-text_of bytes, held_len s)
+pub returns-clause-after : goal.returns-clause-after
+returns-clause-after c bytes s = omega (arith, counted c, length-encodes-text_of bytes, held_len s)
 
 pub returns-clause-ending : goal.returns-clause-ending
 returns-clause-ending c bytes s = rw (counted c) (ending_of-standing s)

@@ -1,0 +1,20 @@
+use Rattle.std.proofs.Common.{chars, drop_at}
+use Rattle.nf_boundary.proofs.Common.{ucd, span-front, rules, refl, ◌∙◌, IsUtf8-append}
+use Rattle.nf_boundary.proofs.PieceLemmas.{seam, stands_end}
+use Rattle.nf_boundary.proofs.parting.boundary_after.Goals as goal
+
+pub returns : goal.returns
+returns c = search (rules, stands_end, c.requires.text, c.requires.is_span, c.in-Some.ensures.0, c.in-Some.ensures.1)
+
+pub split_at-requires : goal.split_at-requires
+split_at-requires c =
+    let here = c.split-span.ensures c.args.form c.args.text.now c.requires in
+    search (rules, seam, IsUtf8-append)
+
+pub returns-2 : goal.returns-2
+returns-2 c =
+    let span = c.split-span.result in
+    let here = c.split-span.ensures c.args.form c.args.text.now c.requires in
+    let front = span-front ucd c.args.form _ (chars span.tail.now) _ _ here.span in
+    let back = c.in_ok-next.ensures.0 ∙ rw (here.text, drop_at span.settled.now _ _ refl) at c.split_at.ensures.back in
+    stands_end _ _ _ _ _ _ here.text front.2 (search rules) c.every_character_is_sound.ensures.text _ back c.in_ok-next.ensures.1

@@ -1,0 +1,36 @@
+-- A span goes on after a piece of the text.
+use Rattle.std.proofs.Common.{◌≡◌, ℕ, List, [], ◌∷◌, ◌++◌, refl, sym, ap, ◌∙◌, append_assoc, append-nil}
+use Rattle.std.specs.Prelude.{chars, encode_utf8, IsUtf8}
+use Rattle.std.proofs.lemmas.Str.{chars-append, chars_from_encodes, IsUtf8-append, IsUtf8-encode}
+use Rattle.std.specs.Char.{IsScalar}
+use Rattle.nf_forms.specs.Properties.{Properties}
+use Rattle.nf_forms.specs.declared.form.Form.{Form}
+use Rattle.nf_forms.specs.Span.{GoesOn, IsSpanFrom}
+use Rattle.nf_forms.specs.Ucd.{ucd}
+use Rattle.nf_span.specs.declared.scan.Scan.{Scan}
+use Rattle.nf_span.specs.Scan.{Reaches}
+
+module _ (p : Properties) (f : Form) where
+  pub span_from-append : (k n : ℕ) (xs : List ℕ) (class count : ℕ) → IsSpanFrom p f k n xs class count → (ys : List ℕ) (class' count' : ℕ) → IsSpanFrom p f class count ys class' count'
+      → IsSpanFrom p f k n (xs ++ ys) class' count'
+  span_from-append k n [] class count span ys class' count' more = rw (span.0, span.1) more
+  span_from-append k n (c ∷ cs) class count span ys class' count' more =
+      (span.0, span.1, span.2, span_from-append span.0 span.1 cs class count span.3 ys class' count' more)
+
+module _ {f : Form} {text : List ℕ} {scan next : Scan} (here : Reaches f text scan) (rest_utf8 : IsUtf8 next.rest.now) where
+  pub reaches_past_piece : (piece : List ℕ) → IsUtf8 piece → scan.rest.now ≡ piece ++ next.rest.now
+      → IsSpanFrom ucd f scan.marks.class scan.marks.count (chars piece) next.marks.class next.marks.count → Reaches f text next
+  reaches_past_piece piece u e span = record {
+    front = here.front ++ piece;
+    split = here.split ∙ ap (λ t. here.front ++ t) e ∙ sym (append_assoc here.front piece next.rest.now);
+    front_utf8 = IsUtf8-append here.front piece here.front_utf8 u;
+    rest_utf8 = rest_utf8;
+    span = rw (chars-append here.front piece here.front_utf8) (span_from-append ucd f 0 30 (chars here.front) _ _ here.span (chars piece) _ _ span);
+  }
+
+  pub reaches_past_char : (c : ℕ) → IsScalar c → scan.rest.now ≡ encode_utf8 c ++ next.rest.now
+      → GoesOn ucd f scan.marks.class scan.marks.count c next.marks.class next.marks.count → Reaches f text next
+  reaches_past_char c scalar e goes =
+      let u = IsUtf8-encode c scalar in
+      let alone : chars (encode_utf8 c) ≡ c ∷ [] = sym (chars_from_encodes (c ∷ []) _ u (append-nil _)) in
+      reaches_past_piece (encode_utf8 c) u e (rw alone (next.marks.class, next.marks.count, goes, (refl, refl)))

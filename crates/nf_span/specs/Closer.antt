@@ -1,0 +1,67 @@
+-- What the bytes after a lead byte tell (The Unicode Standard, section 3.9, Table 3-6).
+use Rattle.std.specs.Prelude.{◌<◌, ◌≤◌, ℕ, ◌+◌, Bool, not, ◌&&◌, ◌==◌, List, slice_index, bit_and, bit_or, if◌then◌else◌}
+use Rattle.nf_forms.specs.declared.form.Form.{Form}
+use Rattle.nf_forms.specs.declared.form.Form.TheVariants.{Nfc, Nfd, Nfkc, Nfkd}
+use Rattle.nf_lanes.specs.Lanes.{NonePass}
+use Rattle.nf_lanes.specs.Sets.{pair_sets, triple_sets}
+use Rattle.nf_lanes.specs.declared.sets.Pairs.{Pairs}
+use Rattle.nf_lanes.specs.declared.sets.Triples.{Triples}
+use Rattle.nf_span.specs.declared.closer.TheConstants.{COMPOSED_PAIRS, DECOMPOSED_PAIRS, NFC_TRIPLES, NFKC_TRIPLES, DECOMPOSED_TRIPLES}
+use Rattle.nf_span.specs.declared.kana.TheConstants.{NFKC_KANA, NFD_KANA, NFKD_KANA}
+use Rattle.nf_span.specs.declared.wide.TheConstants.{NFC_WIDE, NFD_WIDE, COMPATIBILITY_WIDE}
+use Rattle.nf_span.specs.Leads.{lead_bits, wants_look}
+
+abbrev pub pairs_of : Form → Pairs
+pairs_of Nfc = COMPOSED_PAIRS
+pairs_of Nfkc = COMPOSED_PAIRS
+pairs_of Nfd = DECOMPOSED_PAIRS
+pairs_of Nfkd = DECOMPOSED_PAIRS
+
+abbrev pub triples_of : Form → Triples
+triples_of Nfc = NFC_TRIPLES
+triples_of Nfkc = NFKC_TRIPLES
+triples_of Nfd = DECOMPOSED_TRIPLES
+triples_of Nfkd = DECOMPOSED_TRIPLES
+
+-- those that tell most of E3
+abbrev pub kana_of : Form → Triples
+kana_of Nfc = NFC_WIDE
+kana_of Nfkc = NFKC_KANA
+kana_of Nfd = NFD_KANA
+kana_of Nfkd = NFKD_KANA
+
+-- those that tell most of EF
+abbrev pub wide_of : Form → Triples
+wide_of Nfc = NFC_WIDE
+wide_of Nfkc = COMPATIBILITY_WIDE
+wide_of Nfd = NFD_WIDE
+wide_of Nfkd = COMPATIBILITY_WIDE
+
+-- the one that is asked for the sake of a lead byte
+abbrev pub asked_of : Form → ℕ → Triples
+asked_of f lead = if lead == 0xE3 then kana_of f else (if lead == 0xEF then wide_of f else triples_of f)
+
+-- a character that begins with these bytes has to be looked up: where the lead byte is not of D0 to DF it tells by itself,
+-- its row being another than 2
+abbrev pub wants_pair : Form → ℕ → ℕ → Bool
+wants_pair f lead next = not (bit_or (pair_sets (pairs_of f) lead next) (bit_and (lead_bits f lead) 13) == 0)
+
+-- the same of E0 to EF, whose row is 4
+abbrev pub wants_triple : Triples → Form → ℕ → ℕ → ℕ → Bool
+wants_triple t f lead next last = not (bit_or (triple_sets t lead next last) (bit_and (lead_bits f lead) 11) == 0)
+
+abbrev pub wants_triples : Form → ℕ → ℕ → ℕ → Bool
+wants_triples f lead next last =
+    wants_triple (triples_of f) f lead next last && (wants_triple (kana_of f) f lead next last && wants_triple (wide_of f) f lead next last)
+
+-- neither the byte at k nor it and those after tell that a character passes which begins there
+abbrev pub look_at : Form → List ℕ → ℕ → Bool
+look_at f bytes k =
+    wants_look f (slice_index bytes k)
+    && (wants_pair f (slice_index bytes k) (slice_index bytes (k + 1)) && wants_triples f (slice_index bytes k) (slice_index bytes (k + 1)) (slice_index bytes (k + 2)))
+
+-- of the 16 bytes from one on none before run begins a character that has to be looked up; there a lead byte stands
+pub record IsPlainRun (f : Form) (bytes : List ℕ) (at run : ℕ) : Type 0 where
+  pub within : run ≤ 16
+  pub plain : NonePass (look_at f bytes) at run
+  pub begins : run < 16 → 192 ≤ slice_index bytes (at + run)

@@ -1,0 +1,66 @@
+ghost use Rattle.std.specs.Prelude.{◌≡◌, [], ◌++◌};
+
+use crate::cut::split_last_starter;
+use nf_facts::laws;
+
+/// A text in three, by the span that it begins with: such text goes into the form, and into the stream-safe text, as it is
+/// (UAX #15, sections 9 and 13).
+#[derive(Clone, Copy, Debug, PartialEq, Eq)]
+pub struct Span<'t> {
+    /// What of the span can change no more, whatever follows.
+    pub settled: &'t str,
+    /// The last character of it before which a text may be cut, and the marks after that. Empty only where nothing is
+    /// a span.
+    pub tail: &'t str,
+    /// What stands after it.
+    pub rest: &'t str,
+}
+
+/// A text in two, by the span that it begins with.
+#[derive(Clone, Copy, Debug)]
+pub struct SpanText<'t> {
+    pub span: &'t str,
+    /// What stands after it.
+    pub rest: &'t str,
+}
+
+impl<'t> SpanText<'t> {
+    ghost use Rattle.std.specs.Prelude.{ℕ, List};
+    ghost use Rattle.nf_forms.specs.declared.form.Form.{Form};
+    ghost use Rattle.nf_forms.specs.Ucd.{ucd};
+    ghost use Rattle.nf_span.specs.Front.{IsSpanText, IsFirstSpan};
+
+    /// The same in three, before the last character of it before which a text may be cut.
+    #[inline(always)]
+    pub fn split(self) -> Span<'t>
+        ensures { (f : Form) (whole : List ℕ) → IsSpanText ucd f whole self.entry.span.now self.entry.rest.now
+            → IsFirstSpan ucd f whole result.settled.now result.tail.now result.rest.now }
+    {
+        laws::exceptions_are_few();
+        laws::some_starters_count_as_marks();
+        let (settled, tail) = split_last_starter(self.span);
+        Span {
+            settled,
+            tail,
+            rest: self.rest,
+        }
+    }
+}
+
+impl<'t> Span<'t> {
+    ghost use Rattle.nf_forms.specs.Properties.{Properties};
+    ghost use Rattle.nf_forms.specs.declared.form.Form.{Form};
+    ghost use Rattle.nf_span.specs.Front.{IsFirstSpan};
+
+    /// Nothing of it is known to be a span.
+    #[inline]
+    pub fn none(text: &'t str) -> Span<'t>
+        ensures { (p : Properties) (f : Form) → IsFirstSpan p f text.now result.settled.now result.tail.now result.rest.now }
+    {
+        Span {
+            settled: "",
+            tail: "",
+            rest: text,
+        }
+    }
+}
