@@ -2,7 +2,7 @@
 # Measures programs beside Rust's unicode-normalization, ICU and cat, and prints a Markdown table:
 #   bash bench/run.sh [OPTION..] [[TITLE=]PROGRAM..]      (./nfstream of the repository where none is named)
 # 'bash bench/run.sh --help' tells the options. Needs python3 (3.10 or later), and the texts that corpora.sh makes.
-# A peer that can't be built is left out. Nothing is left after.
+# A peer that can't be built is left out. Nothing is left behind.
 set -euo pipefail
 bench=$(cd "$(dirname "$0")" && pwd)
 registry=/usr/share/cargo/registry

@@ -96,4 +96,4 @@ cmp out empty
 "$python" "$OLDPWD/dask_nfstream.py" --workers 2 --part 4 --program "$program" text out
 cmp out nfc
 [ -z "$(find . -name 'out.*')" ]
-echo "no text, and workers of its own: the same; no part is left after"
+echo "no text, and workers of its own: the same; no part is left behind"

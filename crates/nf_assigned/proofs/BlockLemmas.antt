@@ -1,11 +1,9 @@
 -- Bytes after bytes that are told.
-use Rattle.std.proofs.Common.{ℕ, ◌+◌, ◌-◌, ◌≡◌, ◌<◌, ◌≤◌, ◌⊎◌, List, slice_index, arith, ⊎_elim}
+use Rattle.std.proofs.Common.{ℕ, ◌+◌, ◌-◌, ◌≡◌, ◌<◌, ◌≤◌, List, slice_index, arith, ⊎_elim}
 use Rattle.std.proofs.str.Laws.{order}
-use Rattle.nf_lanes.specs.Looks.{is_in, NoneFound}
-use Rattle.nf_assigned.specs.Bytes.{AreTold}
-use Rattle.nf_assigned.specs.declared.pairs.TheConstants.{FIRST, SECOND}
+use Rattle.nf_assigned.specs.Bytes.{AreTold, IsTold}
 
-pub told_after : (bytes : List ℕ) (at : ℕ) → AreTold bytes at → (n : ℕ) → ((k : ℕ) → k < n → 0xCD ≤ slice_index bytes (at + k) → NoneFound (is_in FIRST) bytes (at + k) ⊎ NoneFound (is_in SECOND) bytes (at + k)) → AreTold bytes (at + n)
+pub told_after : (bytes : List ℕ) (at : ℕ) → AreTold bytes at → (n : ℕ) → ((k : ℕ) → k < n → 0xCD ≤ slice_index bytes (at + k) → IsTold bytes (at + k)) → AreTold bytes (at + n)
 told_after bytes at told n more k inside high =
     ⊎_elim
     (λ before. told k before high)

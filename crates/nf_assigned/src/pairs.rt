@@ -2,29 +2,29 @@
 //! byte begins, is assigned.
 //!
 //! Most pairs are a lead byte and its second. The third byte is asked by pairs of the last two, where a block of 64 code
-//! points is much used and has few holes, as hiragana and fullwidth letters. The first family tells most of what is written,
-//! but for Hebrew and some of what stands in Chinese and Korean, and the second what that leaves.
+//! points is much used and has few holes, as hiragana and fullwidth letters. The first family tells most of what is written
+//! by itself, and the second Hebrew and Hangul.
 
 use nf_lanes::Pairs;
 
 pub(crate) static FIRST: Pairs = Pairs {
-    first_high: [0, 0, 0, 0, 0, 0, 0, 0, 192, 0, 0, 64, 96, 160, 29, 18],
+    first_high: [0, 0, 0, 0, 0, 0, 0, 0, 72, 0, 0, 8, 20, 32, 135, 63],
     first_low: [
-        15, 87, 143, 26, 51, 128, 130, 34, 2, 0, 19, 2, 98, 38, 45, 41,
+        23, 158, 227, 33, 96, 96, 32, 56, 0, 16, 150, 151, 45, 189, 52, 35,
     ],
-    next_high: [0, 0, 0, 0, 0, 0, 0, 0, 107, 150, 55, 46, 0, 0, 0, 0],
+    next_high: [0, 0, 0, 0, 0, 0, 0, 0, 63, 246, 182, 181, 0, 0, 0, 0],
     next_low: [
-        246, 55, 54, 55, 58, 58, 62, 190, 187, 43, 59, 59, 39, 39, 63, 63,
+        172, 166, 180, 182, 177, 241, 53, 117, 115, 55, 51, 115, 118, 182, 181, 55,
     ],
 };
 
 pub(crate) static SECOND: Pairs = Pairs {
-    first_high: [0, 0, 0, 0, 0, 0, 0, 0, 86, 4, 4, 7, 25, 250, 186, 209],
+    first_high: [0, 0, 0, 0, 0, 0, 0, 0, 0, 0, 0, 0, 82, 53, 240, 254],
     first_low: [
-        209, 161, 11, 77, 7, 9, 59, 53, 57, 41, 161, 131, 64, 17, 170, 128,
+        252, 115, 239, 190, 243, 28, 80, 5, 3, 50, 27, 2, 6, 78, 245, 191,
     ],
-    next_high: [0, 0, 0, 0, 0, 0, 0, 0, 125, 153, 153, 179, 0, 0, 0, 0],
+    next_high: [0, 0, 0, 0, 0, 0, 0, 0, 63, 114, 124, 235, 0, 0, 0, 0],
     next_low: [
-        143, 141, 141, 141, 133, 161, 225, 169, 225, 225, 225, 249, 241, 153, 113, 243,
+        217, 184, 57, 184, 34, 155, 35, 177, 155, 155, 161, 55, 53, 191, 229, 217,
     ],
 };

@@ -16,7 +16,7 @@ use Rattle.nf_forms.specs.declared.form.Form.TheVariants.{Nfkd}
 use Rattle.nf_forms.specs.Ucd.{ucd}
 use Rattle.nf_lanes.specs.Looks.{finds, is_in}
 use Rattle.nf_lanes.proofs.LooksLemmas.{Known, Tells, told_front}
-use Rattle.nf_counts.specs.Counts.{HasValue, IsValued, is_fit}
+use Rattle.nf_counts.specs.Counts.{HasValue, IsValued, unassigned_in}
 use Rattle.nf_counts.specs.Piece.{IsPiece}
 use Rattle.nf_counts.specs.Window.{AreTold}
 use Rattle.nf_counts.specs.declared.pairs.TheConstants.{KANA, LOOKS}
@@ -38,6 +38,10 @@ module _ (p : Properties) where
   value-plain (c ∷ d ∷ cs) some plain =
       let others = d ∷ cs in
       value-append p (p.compat c) _ (All-head is_plain c others plain).row (value-plain (d ∷ cs) (omega (arith, length-le-encodes others)) (All-tail is_plain c others plain))
+
+  none_unassigned : (cs : List ℕ) → All is_plain cs → unassigned_in p cs ≡ 0
+  none_unassigned [] plain = refl
+  none_unassigned (c ∷ cs) plain = rw ((All-head is_plain c cs plain).assigned) (none_unassigned cs (All-tail is_plain c cs plain))
 
 module _ (sound : (c : ℕ) → is_sound ucd c ≡ true) where
   plain_of : (c : ℕ) → told c ≡ 0 → IsValued ucd c 0
@@ -79,7 +83,8 @@ module _ (sound : (c : ℕ) → is_sound ucd c ≡ true) where
         begins = record { rest = drop len text; split = rw (same, take-append-drop); rest_utf8 = IsUtf8-drop text len u boundary; is_long = sym long };
         some = some;
         within = omega arith;
-        fit = list_all-from_AllPass (is_fit ucd) cs (All-weaker (λ c. IsValued ucd c 0) (λ c. is_fit ucd c ≡ true) (λ c valued. valued.fit) cs plain);
+        sound = list_all-from_AllPass (is_sound ucd) cs (All-weaker (λ c. IsValued ucd c 0) (λ c. is_sound ucd c ≡ true) (λ c valued. valued.sound) cs plain);
+        unassigned = none_unassigned ucd cs plain;
         row = value-plain ucd cs (omega (arith, long)) plain;
       }
 

@@ -1,5 +1,5 @@
 -- The table has what the data of Unicode has, shown by one computation.
-use Rattle.std.proofs.Common.{◌≡◌, ℕ, ◌+◌, ◌*◌, ◌-◌, ◌/◌, ◌^◌, ◌%◌, ◌<◌, ◌≤◌, Bool, true, false, not, cond, ◌&&◌, ◌==◌, nat_lt, List, [], ◌∷◌, slice_index, count_by, inl, inr, refl, sym, ap, ◌∙◌, arith, eqb-true, lt-ltb}
+use Rattle.std.proofs.Common.{◌≡◌, ℕ, ◌+◌, ◌*◌, ◌-◌, ◌/◌, ◌^◌, ◌%◌, ◌<◌, ◌≤◌, Bool, true, false, not, cond, ◌&&◌, ◌==◌, nat_lt, nat_le, List, [], ◌∷◌, slice_index, count_by, inl, inr, refl, sym, ap, ◌∙◌, arith, eqb-true, lt-ltb}
 use Rattle.std.proofs.lemmas.Bool.{cases_Bool, cases_eq}
 use Rattle.std.proofs.lemmas.Bool.Decides.{nat_tests}
 use Rattle.ucd_table.specs.Rows.{Range, in_ranges}
@@ -30,55 +30,61 @@ use Rattle.nf_forms.specs.Ucd.{is_assigned, ucd}
 use Rattle.nf_counts.specs.Counts.{HasValue, IsValued}
 use Rattle.nf_counts.specs.declared.rows.TheConstants.{INDEX, WORDS}
 
+-- all non-starters of a row stand together at its end, fewer than 4; or no two stand side by side, nor one at its front
+abbrev together : Properties → List ℕ → Bool
+together p w = nat_lt (trail p w) 4 && (trail p w == longest p w && (trail p w == count_by (is_nonstarter p) w && cond (has_starter p w) 0 (trail p w) == lead p w))
+
+abbrev apart : Properties → List ℕ → Bool
+apart p w =
+    let k = count_by (is_nonstarter p) w in
+    has_starter p w && (1 == longest p w && (0 == lead p w && (nat_lt (trail p w) 2 && (nat_le (trail p w) k && (nat_lt 0 k && nat_lt k 4)))))
+
 -- the value of a row, and of one that is the character alone
 abbrev pub row_value : Properties → List ℕ → ℕ
-row_value p w =
-    let n = trail p w in
-    let has = has_starter p w in
-    let all = nat_lt n 4 && (n == longest p w && (n == count_by (is_nonstarter p) w && cond has 0 n == lead p w)) in
-    cond all (cond has 0 4 + n) 4
+row_value p w = cond (together p w) (cond (has_starter p w) 0 4 + trail p w) (cond (apart p w) (8 + 4 * trail p w + count_by (is_nonstarter p) w) 4)
 
 -- Unicode's data by another look-up of the class, of which alone the counts read
 abbrev classes : (ℕ → ℕ) → Properties
 classes class = record { class = class; canonical = ucd.canonical; compat = ucd.compat; pair = ucd.pair; assigned = ucd.assigned }
 
-abbrev value : (ℕ → ℕ) → Bool → ℕ → List ℕ → ℕ
-value class told own w = cond told (cond (is_empty w) (cond (own == 0) 0 5) (row_value (classes class) w)) 4
+-- by what is known of the character: whether it is near, and whether it is assigned
+abbrev value : (ℕ → ℕ) → Bool × Bool → ℕ → List ℕ → ℕ
+value class known own w = cond known.0 (cond (is_empty w) (cond (own == 0) (cond known.1 0 8) (cond known.1 5 4)) (cond known.1 (row_value (classes class) w) 4)) 4
 
 -- of these nothing is told
 unfoldable pub untold : List Range
-untold = (0x20000, 0x10FFFF) ∷ []
+untold = (0x40000, 0x10FFFF) ∷ []
 
-abbrev tells : ℕ → Bool
-tells c = cond (in_ranges untold c) false (is_assigned c)
+abbrev known_of : ℕ → Bool × Bool
+known_of c = (not (in_ranges untold c), is_assigned c)
 
 unfoldable pub told : ℕ → ℕ
-told c = value ccc (tells c) (ccc c) (compatibility_decomposition c)
+told c = value ccc (known_of c) (ccc c) (compatibility_decomposition c)
 
 unfoldable told_stepped : Stepped told
 unfolding told tables ucd_normal untold is_assigned general_category_stepped
 told_stepped =
     let assigned = map_stepped (λ v. not (general_category_eq v Unassigned)) general_category general_category_stepped in
-    let tells_stepped = zip_stepped (λ far b. cond far false b) (in_ranges untold) is_assigned (of_ranges untold refl) assigned in
+    let known_stepped = zip_stepped (λ far b. (not far, b)) (in_ranges untold) is_assigned (of_ranges untold refl) assigned in
     let class = tree_value canonical_combining_class_stepped.default (tree_of ccc canonical_combining_class_stepped) in
     let rows = zip_stepped (λ (n : ℕ) (w : List ℕ). (n, w)) ccc compatibility_decomposition canonical_combining_class_stepped compatibility_decomposition_stepped in
-    let by_tree = zip_stepped (λ b (r : ℕ × List ℕ). value class b r.0 r.1) tells (λ c. (ccc c, compatibility_decomposition c)) tells_stepped rows in
+    let by_tree = zip_stepped (λ (b : Bool × Bool) (r : ℕ × List ℕ). value class b r.0 r.1) known_of (λ c. (ccc c, compatibility_decomposition c)) known_stepped rows in
     record {
       default = by_tree.default;
       steps = by_tree.steps;
-      gives = λ c. ap (λ class. value class (tells c) (ccc c) (compatibility_decomposition c)) (tree_value-tree_of ccc canonical_combining_class_stepped) ∙ by_tree.gives c;
+      gives = λ c. ap (λ class. value class (known_of c) (ccc c) (compatibility_decomposition c)) (tree_value-tree_of ccc canonical_combining_class_stepped) ∙ by_tree.gives c;
     }
 
 -- beyond the index nothing is told
 abbrev pub tail : List ℕ
 tail = 0x8800_0004 ∷ []
 
-trie_is : trie_ok 4 4 8 INDEX WORDS tail (runs_of (λ c. told c) told_stepped) ≡ true
+trie_is : trie_ok 4 4 16 INDEX WORDS tail (runs_of (λ c. told c) told_stepped) ≡ true
 unfolding tables told_stepped
 trie_is = refl
 
 pub is_trie : IsTrie 4 4 INDEX WORDS
-is_trie = trie_ok-IsTrie 4 4 8 INDEX WORDS tail _ trie_is
+is_trie = trie_ok-IsTrie 4 4 16 INDEX WORDS tail _ trie_is
 
 pub told-ascii : (c : ℕ) → c < 0x80 → told c ≡ 0
 unfolding tables told_stepped
@@ -86,28 +92,46 @@ told-ascii c low = eqb-true _ _ (Stepped-below told told_stepped (λ _ (v : ℕ)
 
 -- ---- the value of a code point by its block
 
-pub told-block : (b j : ℕ) → b < 2048 → j < 64 → block_value 4 4 WORDS (slice_index INDEX b) j ≡ told (64 * b + j)
+pub told-block : (b j : ℕ) → b < 4096 → j < 64 → block_value 4 4 WORDS (slice_index INDEX b) j ≡ told (64 * b + j)
 unfolding trie_value
 told-block b j small little =
     let block : (64 * b + j) / 64 ≡ b = omega arith in
     let place : (64 * b + j) % 64 ≡ j = omega arith in
-    rw (block, place, lt-ltb b 2048 small) at (trie_value-Stepped 4 4 8 INDEX WORDS tail (λ c. told c) told_stepped trie_is (64 * b + j) (omega arith))
+    rw (block, place, lt-ltb b 4096 small) at (trie_value-Stepped 4 4 16 INDEX WORDS tail (λ c. told c) told_stepped trie_is (64 * b + j) (omega arith))
 
 -- four bits of a word, as they are read
-pub word-told : (code : ℕ) → code < 131072 → (slice_index WORDS (slice_index INDEX (code / 64) * 4 + code % 64 / 16) / 2 ^ (code % 64 % 16 * 4)) % 16 ≡ told code
+pub word-told : (code : ℕ) → code < 262144 → (slice_index WORDS (slice_index INDEX (code / 64) * 4 + code % 64 / 16) / 2 ^ (code % 64 % 16 * 4)) % 16 ≡ told code
 unfolding block_value
 word-told code small = told-block (code / 64) (code % 64) (omega arith) (omega arith) ∙ ap told (omega arith)
 
 -- ---- what a value tells
 
--- a value is below 8
-pub told-small : (c : ℕ) → told c < 8
-unfolding told
-told-small c = grind (arith, nat_tests)
+-- what the value of a row says is so of it, and it is not that of an unassigned character
+module _ (p : Properties) (w : List ℕ) where
+  abbrev Says : ℕ → Type 0
+  Says v = (v < 16) × ((v == 4) ≡ false → HasValue p w v × ((v == 8) ≡ false))
 
--- a row of starters, and after them so many non-starters
-value-row : (p : Properties) (w : List ℕ) (v : ℕ) → v ≡ row_value p w → (v == 4) ≡ false → HasValue p w v
-value-row p w v is some = grind (arith, nat_tests)
+  says_together : together p w ≡ true → Says (cond (has_starter p w) 0 4 + trail p w)
+  says_together is = (grind (arith, nat_tests), λ some. (grind (arith, nat_tests), grind (arith, nat_tests)))
+
+  says_apart : apart p w ≡ true → Says (8 + 4 * trail p w + count_by (is_nonstarter p) w)
+  says_apart is = (grind (arith, nat_tests), λ some. (grind (arith, nat_tests), grind (arith, nat_tests)))
+
+  value-row : Says (row_value p w)
+  value-row = next (together p w) (apart p w) _ _ says_together says_apart
+    where
+      next : (b d : Bool) (m n : ℕ) → (b ≡ true → Says m) → (d ≡ true → Says n) → Says (cond b m (cond d n 4))
+      next true d m n first second = first refl
+      next false true m n first second = second refl
+      next false false m n first second = (omega arith, λ some. cc)
+
+-- a value is below 16
+pub told-small : (c : ℕ) → told c < 16
+unfolding told
+told-small c = next (known_of c) (is_empty (compatibility_decomposition c)) (ccc c == 0) (value-row (classes ccc) (compatibility_decomposition c)).0
+  where
+    next : (known : Bool × Bool) (empty zero : Bool) {n : ℕ} → n < 16 → cond known.0 (cond empty (cond zero (cond known.1 0 8) (cond known.1 5 4)) (cond known.1 n 4)) 4 < 16
+    next (near, assigned) empty zero few = grind arith
 
 syllable_value : (c : ℕ) → is_syllable c ≡ true → row_value (classes ccc) (decompose_hangul c) ≡ 0
 syllable_value c syllable =
@@ -121,7 +145,7 @@ syllable_value c syllable =
     ]
 
 -- the value of a row, whether it is a mapping's, a syllable's or the character alone
-row_told : (c : ℕ) → value ccc true (ccc c) (compatibility_decomposition c) ≡ row_value (classes ccc) (decompose Nfkd c)
+row_told : (c : ℕ) → value ccc (true, true) (ccc c) (compatibility_decomposition c) ≡ row_value (classes ccc) (decompose Nfkd c)
 unfolding decompose
 row_told c =
     elim (cases_Bool (is_syllable c)) [
@@ -132,16 +156,33 @@ row_told c =
       | inr other ↦ next (compatibility_decomposition c) ∙ rw other
     ]
   where
-    next : (w : List ℕ) → value ccc true (ccc c) w ≡ row_value (classes ccc) (or_itself c w)
+    next : (w : List ℕ) → value ccc (true, true) (ccc c) w ≡ row_value (classes ccc) (or_itself c w)
     next [] = grind (arith, nat_tests)
     next (x ∷ w) = refl
 
--- so a value other than 4 tells of the character
-known : (b : Bool) (n v : ℕ) → v ≡ cond b n 4 → (v == 4) ≡ false → (b ≡ true) × (v ≡ n)
-known b n v is some = grind (arith, nat_tests)
+-- an unassigned character is a starter, and its own row
+alone : (empty zero : Bool) (m n v : ℕ) → cond empty (cond zero 0 5) m ≡ n → v ≡ cond empty (cond zero 8 4) 4 → (v == 4) ≡ false → (v ≡ 8) × (n ≡ 0)
+alone true true m n v row is some = (is, sym row)
+alone _ _ m n v row is some = absurd (grind (arith, nat_tests))
 
+-- so a value other than 4 tells of the character
 pub told-valued : (c : ℕ) → is_sound ucd c ≡ true → (v : ℕ) → v ≡ told c → (v == 4) ≡ false → IsValued ucd c v
 unfolding told ucd
-told-valued c sound v is some =
-    let here = known (tells c) (value ccc true (ccc c) (compatibility_decomposition c)) v is some in
-    record { fit = grind (arith, here); row = value-row ucd (decompose Nfkd c) v (here.1 ∙ row_told c) some }
+told-valued c sound v is some = next (not (in_ranges untold c)) (is_assigned c) refl (compatibility_decomposition c) (row_told c) is
+  where
+    says : Says ucd (decompose Nfkd c) (row_value (classes ccc) (decompose Nfkd c))
+    says = value-row ucd (decompose Nfkd c)
+
+    next : (near assigned : Bool) → is_assigned c ≡ assigned → (w : List ℕ) → value ccc (true, true) (ccc c) w ≡ row_value (classes ccc) (decompose Nfkd c) → v ≡ value ccc (near, assigned) (ccc c) w → IsValued ucd c v
+    next false assigned told_so w row is = absurd (grind (arith, nat_tests))
+    next true true told_so w row is =
+        let both = (rw (sym (is ∙ row)) at says).1 some in
+        record { sound = sound; assigned = rw both.1 told_so; row = both.0 }
+    next true false told_so w row is =
+        let both = alone (is_empty w) (ccc c == 0) _ _ v row is some in
+        let none = ((rw both.1 at says).1 refl).0 in
+        record {
+          sound = sound;
+          assigned = rw (both.0, told_so);
+          row = rw both.0 (record { has_starter = none.has_starter; lead = none.lead; trail = none.trail; longest = none.longest; nonstarters = none.nonstarters });
+        }

@@ -8,14 +8,17 @@ use nf_facts::laws;
 /// The value that tells nothing.
 pub(crate) const NOTHING: u32 = 4;
 
-/// The value of a code point, 0 to 7; from U+20000 on nothing is told.
+/// That of an unassigned character.
+pub(crate) const UNASSIGNED: u32 = 8;
+
+/// The value of a code point, 0 to 15; from U+40000 on nothing is told.
 #[inline(always)]
 pub(crate) fn value(code: u32) -> u32
-    ensures within { result < 8 }
+    ensures within { result < 16 }
     ensures valued { (result == 4) ≡ false → IsValued ucd code result }
 {
     laws::every_character_is_sound();
-    if code >= 0x2_0000 {
+    if code >= 0x4_0000 {
         return NOTHING;
     }
     let place = u64::from(code % 64);

@@ -5,28 +5,9 @@ use std::test::Fail;
 use unicode::properties::GeneralCategory;
 use unicode_normalization::{Form, char as lookup};
 
-/// Whether the compatibility decomposition of `c` has a starter, and how many non-starters stand after it; none where one
-/// stands before a starter, `c` is unassigned, or above U+1FFFF.
-pub(crate) fn told_of(c: char) -> Option<(bool, u32)> {
-    let mut room = [c; 3];
-    let mut counts = (false, 0u32);
-    for member in lookup::decomposition(c, Form::Nfkd, &mut room) {
-        if lookup::canonical_combining_class(*member) != 0 {
-            counts.1 = counts.1.saturating_add(1);
-        } else if counts.1 > 0 {
-            return None;
-        } else {
-            counts.0 = true;
-        }
-    }
-    (c < '\u{20000}' && GeneralCategory::for_char(c) != GeneralCategory::Unassigned).then_some(
-        counts,
-    )
-}
-
-/// The non-starters of a front, its longest run, those before the first starter and after the last one, and whether there is
-/// a starter.
-type Counts = (u128, u32, u32, u32, bool);
+/// The non-starters of a front, its longest run, those before the first starter and after the last one, whether there is a
+/// starter, and the unassigned characters.
+type Counts = (u128, u32, u32, u32, bool, u64);
 
 fn counts_of(counted: &Counted) -> Counts {
     let counts = counted.counts;
@@ -36,41 +17,48 @@ fn counts_of(counted: &Counted) -> Counts {
         counts.lead,
         counts.trail,
         counts.has_starter,
+        counts.unassigned,
     )
+}
+
+/// The same with the character `c` more, by each member of its compatibility decomposition; none above U+3FFFF.
+fn with_char(now: Counts, c: char) -> Option<Counts> {
+    let (mut nonstarters, mut longest, mut lead, mut trail, mut has_starter, unassigned) = now;
+    let mut room = [c; 3];
+    for member in lookup::decomposition(c, Form::Nfkd, &mut room) {
+        if lookup::canonical_combining_class(*member) == 0 {
+            has_starter = true;
+            trail = 0;
+            continue;
+        }
+        nonstarters = nonstarters.saturating_add(1);
+        trail = trail.saturating_add(1);
+        longest = longest.max(trail);
+        lead = if has_starter { lead } else { trail };
+    }
+    let is_unassigned = GeneralCategory::for_char(c) == GeneralCategory::Unassigned;
+    let unassigned = unassigned.saturating_add(u64::from(is_unassigned));
+    (c < '\u{40000}').then_some((nonstarters, longest, lead, trail, has_starter, unassigned))
 }
 
 /// What is counted of the characters, one by one, and how many they are.
 fn counted_plainly(room: u32, chars: &[char]) -> (usize, Counts) {
-    let mut now: Counts = (0, 0, 0, 0, false);
+    let mut now: Counts = (0, 0, 0, 0, false, 0);
     let mut count = 0usize;
     for c in chars {
-        let told = told_of(*c);
-        let Some((starts, marks)) = told else {
+        let Some(next) = with_char(now, *c) else {
             break;
         };
-        let trail = if starts {
-            marks
-        } else {
-            now.3.saturating_add(marks)
-        };
-        let has_starter = starts || now.4;
-        let lead = if has_starter { now.2 } else { trail };
-        if trail > 30 || lead > room {
+        if next.1 > 30 || next.2 > room {
             break;
         }
-        now = (
-            now.0.saturating_add(u128::from(marks)),
-            now.1.max(trail),
-            lead,
-            trail,
-            has_starter,
-        );
+        now = next;
         count = count.saturating_add(1);
     }
     (count, now)
 }
 
-/// Each alone: up to U+1FFFF what is assigned is counted, where no non-starter stands before a starter.
+/// Each alone: up to U+3FFFF all are counted.
 #[test]
 fn characters_are_counted_by_their_decompositions(rt: HostRuntime) -> Result<(), Fail> {
     for code in 0..0x11_0000u32 {
@@ -110,19 +98,20 @@ fn characters_are_counted_among_letters(rt: HostRuntime) -> Result<(), Fail> {
         }
         let text = str::from_utf8(&bytes).expect(&rt, "text");
         let counted = counted_front(30, text);
-        let told = told_of(c);
-        let (len, marks) = told.map_or((place, 0), |told| (160, told.1));
+        let letters: Counts = (0, 0, 0, 0, true, 0);
+        let (len, counts) = with_char(letters, c).map_or((place, letters), |next| (160, next));
         assert_eq!(rt; counted.front.len(), len, "{code:x}");
+        let (nonstarters, longest, lead, _, has_starter, unassigned) = counts;
         assert_eq!(rt;
             counts_of(&counted),
-            (u128::from(marks), marks, 0, 0, true),
+            (nonstarters, longest, lead, 0, has_starter, unassigned),
             "{code:x}"
         );
     }
     Ok(())
 }
 
-const SOME: [char; 26] = [
+const SOME: [char; 29] = [
     'a',
     ' ',
     'b',
@@ -149,6 +138,9 @@ const SOME: [char; 26] = [
     '\u{1F600}',
     '\u{1D15E}',
     '\u{20000}',
+    '\u{3300}',
+    '\u{3310}',
+    '\u{40000}',
 ];
 
 /// Up to 200 characters, drawn from some, each a few times in a row, so that there are runs of ASCII and of marks.
@@ -157,7 +149,7 @@ fn fronts_are_counted_as_their_characters(rt: HostRuntime) -> Result<(), Fail> {
     let mut seeded = Seeded::new(26);
     for turn in 0..3000u32 {
         let mut chars = ['a'; 200];
-        let kinds = 1 + seeded.below(26);
+        let kinds = 1 + seeded.below(29);
         let mut c = 'a';
         for at in 0..200usize {
             if seeded.below(9) < 2 + turn % 7 {

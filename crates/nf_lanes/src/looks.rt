@@ -1,6 +1,6 @@
 //! Pairs of bytes at which a text is looked up, many at once.
 
-ghost use Rattle.std.specs.Prelude.{◌≡◌, ◌<◌, ◌≤◌, ◌+◌, ◌⊎◌, ℕ, length, slice_index, if◌then◌else◌};
+ghost use Rattle.std.specs.Prelude.{◌≡◌, ◌<◌, ◌≤◌, ◌+◌, ◌⊎◌, ℕ, IsTrue, length, slice_index, if◌then◌else◌};
 ghost use Rattle.std.specs.Int.{bit_at};
 ghost use Rattle.nf_lanes.specs.Lanes.{bits_at};
 ghost use Rattle.nf_lanes.specs.Looks.{is_in, finds, at_pair, NoneFound};
@@ -17,6 +17,20 @@ pub struct Looks {
     pub second: Pairs,
 }
 
+/// Whether no pair is in the family that one of 63 bytes from `at` on begins, or the byte after it.
+#[inline(always)]
+pub fn none_found(family: &Pairs, bytes: &[u8], at: usize) -> bool
+    requires room { at + 64 < length bytes.now }
+    ensures { IsTrue result → (k : ℕ) → k < 63 → NoneFound (is_in family.now) bytes.now (at + k) }
+{
+    none_of(
+        set_bits(family, bytes, at),
+        set_bits(family, bytes, at + 16),
+        set_bits(family, bytes, at + 32),
+        set_bits(family, bytes, at + 48),
+    )
+}
+
 /// A bit for each of 63 bytes from `at` on, the lowest for the first: of those from `least` on, each of which a pair is in the one
 /// family, and one in the other: the pair that it begins, or the next.
 #[inline(always)]
@@ -26,14 +40,6 @@ pub fn found_by_both(first: &Pairs, second: &Pairs, least: u8, bytes: &[u8], at:
     ensures told { (k : ℕ) → k < 63 → bit_at result k ≡ 0 → least ≤ slice_index bytes.now (at + k)
         → NoneFound (is_in first.now) bytes.now (at + k) ⊎ NoneFound (is_in second.now) bytes.now (at + k) }
 {
-    if none_of(
-        set_bits(first, bytes, at),
-        set_bits(first, bytes, at + 16),
-        set_bits(first, bytes, at + 32),
-        set_bits(first, bytes, at + 48),
-    ) {
-        return 0;
-    }
     let pairs = family_bits(first, bytes, at);
     let found = high_bits(least, bytes, at) & (pairs | (pairs >> 1));
     let others = family_bits(second, bytes, at);
@@ -53,6 +59,9 @@ pub fn found_leads(looks: &Looks, other: &Pairs, bytes: &[u8], at: usize) -> u64
     let leads = high_bits(0xC0, bytes, at);
     if leads.count_ones() < MIN_LEADS {
         return leads;
+    }
+    if none_found(&looks.first, bytes, at) {
+        return 0;
     }
     let pairs = of_64(
         look_bits(looks, bytes, at),

@@ -1,12 +1,11 @@
 -- A front of a text of which the non-starters are counted.
-use Rattle.nf_safe.proofs.Common.{◌≡◌, ℕ, ◌+◌, ◌≤◌, Bool, true, cond, List, [], ◌∷◌, ◌++◌, length, encode_utf8_all, ap, ◌∙◌, arith, length-append, count_by, is_nonstarter, and_parts, All-weaker, sum_by-append, list_all-from_AllPass, AllPass-from_list_all, Properties, Nfkd, decomposed, is_sound, IsSoundText, IsSound-from_test}
+use Rattle.nf_safe.proofs.Common.{◌≡◌, ℕ, ◌+◌, ◌≤◌, not, cond, List, [], ◌∷◌, ◌++◌, length, encode_utf8_all, ap, ◌∙◌, arith, length-append, count_by, is_nonstarter, and_parts, sum_by-append, Properties, Nfkd, decomposed, is_sound, IsSoundText, IsSound-from_test}
 use Rattle.std.specs.Prelude.{chars}
 use Rattle.std.specs.Str.{IsUtf8}
-use Rattle.std.specs.List.{list_all}
 use Rattle.std.proofs.Common.{◌*◌}
 use Rattle.std.proofs.lemmas.Str.{chars-append, encodes-chars, length-le-encodes}
 use Rattle.std.proofs.lemmas.List.Sums.{count_by-le-length}
-use Rattle.nf_counts.specs.Counts.{IsCountedFront, is_fit}
+use Rattle.nf_counts.specs.Counts.{IsCountedFront}
 use Rattle.nf_counts.specs.declared.counted.Counted.{Counted}
 
 -- what is told of its size
@@ -17,13 +16,9 @@ pub record IsFront (p : Properties) (text : List ℕ) (counted : Counted) : Type
   pub bytes : encode_utf8_all (chars counted.front.now) ≡ counted.front.now
   pub chars_within : length (chars counted.front.now) ≤ length counted.front.now
   pub nonstarters_within : counted.counts.nonstarters ≤ 18 * length (chars counted.front.now)
+  pub unassigned_within : counted.counts.unassigned ≤ length (chars counted.front.now)
 
 module _ (p : Properties) where
-  -- what is asked of each is so of all
-  pub each : (test : ℕ → Bool) → ((c : ℕ) → is_fit p c ≡ true → test c ≡ true) → (y : List ℕ) → list_all (is_fit p) y ≡ true → list_all test y ≡ true
-  each test passes y fit =
-      list_all-from_AllPass test y (All-weaker (λ c. is_fit p c ≡ true) (λ c. test c ≡ true) passes y (AllPass-from_list_all (is_fit p) y fit))
-
   -- each has at most 18
   few : (y : List ℕ) → IsSoundText p y → count_by (is_nonstarter p) (decomposed Nfkd p y) ≤ 18 * length y
   few [] sound = omega arith
@@ -34,13 +29,13 @@ module _ (p : Properties) where
 pub front_is : {p : Properties} {room : ℕ} {text : List ℕ} {counted : Counted} → IsCountedFront p room text counted → IsUtf8 counted.front.now → IsFront p text counted
 front_is {p} {room} {text} {counted} is utf8 =
     let y = chars counted.front.now in
-    let all = each p (is_sound p) (λ c one. (and_parts (is_sound p c) _ one).0) y is.fit in
     let bytes = encodes-chars counted.front.now utf8 in
     record {
-      sound = all;
+      sound = is.sound;
       split = ap chars is.split ∙ chars-append counted.front.now counted.rest.now utf8;
       whole = ap length is.split ∙ length-append counted.front.now counted.rest.now;
       bytes = bytes;
       chars_within = omega (arith, length-le-encodes y, ap length bytes);
-      nonstarters_within = omega (arith, few p y all);
+      nonstarters_within = omega (arith, few p y is.sound);
+      unassigned_within = omega (arith, is.unassigned, count_by-le-length (λ c. not (p.assigned c)) y);
     }

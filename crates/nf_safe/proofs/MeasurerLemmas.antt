@@ -1,11 +1,10 @@
 -- A measurer's step.
-use Rattle.nf_safe.proofs.Common.{◌≡◌, ℕ, ◌+◌, ◌≤◌, longest, max_run, ◌==◌, not, Bool, true, cond, List, [], ◌∷◌, ◌++◌, length, encode_utf8, encode_utf8_all, refl, sym, ap, ◌∙◌, subst, arith, if◌then◌else◌, length-append, eqb-true, count_by, and_parts, and_from, sum_by-append, encodes-append, Properties, Nfkd, trail, decomposed, joiner, is_too_long, stream_safe, is_sound, IsSoundText, JoinerIsPlain-from_sound, longest-order, stream_safe-push, decomposed-append, decomposed-push, passes, count_step, trail-decomposed-safe_step, length-stream_safe-ge, HasRuns, is_in_format-stream_safe, is_in_format-join, is_in_format-short}
+use Rattle.nf_safe.proofs.Common.{◌≡◌, ℕ, ◌+◌, ◌≤◌, longest, max_run, not, Bool, true, cond, List, [], ◌∷◌, ◌++◌, length, encode_utf8, encode_utf8_all, refl, sym, ap, ◌∙◌, subst, arith, if◌then◌else◌, length-append, count_by, and_from, sum_by-append, encodes-append, Properties, Nfkd, trail, decomposed, joiner, is_too_long, stream_safe, is_sound, IsSoundText, JoinerIsPlain-from_sound, longest-order, stream_safe-push, decomposed-append, decomposed-push, passes, count_step, trail-decomposed-safe_step, length-stream_safe-ge, HasRuns, is_in_format-stream_safe, is_in_format-join, is_in_format-short}
 use Rattle.std.specs.List.{list_all}
-use Rattle.std.proofs.lemmas.List.Folds.{sum_by-zero}
 use Rattle.nf_forms.specs.Laws.Segments.{sound-append}
 use Rattle.nf_counts.specs.Counts.{IsCountedFront}
 use Rattle.nf_counts.specs.declared.counted.Counted.{Counted}
-use Rattle.nf_safe.proofs.CountedLemmas.{IsFront, each}
+use Rattle.nf_safe.proofs.CountedLemmas.{IsFront}
 use Rattle.nf_safe.proofs.RunsLemmas.{trail-counted}
 use Rattle.nf_safe.specs.declared.measure.Measure.{Measure}
 use Rattle.nf_safe.specs.declared.measurer.Measurer.{Measurer}
@@ -62,7 +61,7 @@ module _ {p : Properties} {old : Measurer} {x : List ℕ} (before : StandsAfter 
 pub goes_on-counted : {p : Properties} {old new : Measurer} {x : List ℕ} {room : ℕ} {text : List ℕ} {counted : Counted} → StandsAfter p old x → IsCountedFront p room text counted → IsFront p text counted
     → old.counter + counted.counts.lead ≤ max_run → new.counter ≡ (if counted.counts.has_starter then counted.counts.trail else old.counter + counted.counts.lead)
     → HasRuns p new.runs (decomposed Nfkd p x ++ decomposed Nfkd p (chars counted.front.now)) → new.bytes ≡ old.bytes + length counted.front.now → new.chars ≡ old.chars + length (chars counted.front.now)
-    → new.put ≡ old.put → new.unassigned ≡ old.unassigned → HasSeen p new x text counted.rest.now
+    → new.put ≡ old.put → new.unassigned ≡ old.unassigned + counted.counts.unassigned → HasSeen p new x text counted.rest.now
 goes_on-counted {p} {old} {new} {x} {room} {text} {counted} before is at short count runs bytes chars_are put unassigned =
     let y = chars counted.front.now in
     let has = is.counts in
@@ -74,17 +73,13 @@ goes_on-counted {p} {old} {new} {x} {room} {text} {counted} before is at short c
     ∙ ap (λ o. fold (safe_step p) o y) (sym (stream_safe-in_format p out inside))
     ∙ sym (fold-append (safe_step p) [] out y)
     ∙ stream_safe-in_format p (out ++ y) (is_in_format-join p out y inside (is_in_format-short p y (omega arith)) (omega arith)) in
-    let all_assigned : count_by (λ c. not (p.assigned c)) y ≡ 0 =
-    eqb-true _ _
-    (sum_by-zero (λ c. cond (not (p.assigned c)) 1 0) y
-    ∙ each p (λ c. cond (not (p.assigned c)) 1 0 == 0) (λ c one. ap (λ b. cond (not b) 1 0 == 0) (and_parts (is_sound p c) _ one).1) y is.fit) in
     let runs_are : HasRuns p new.runs (decomposed Nfkd p (x ++ y)) = subst (HasRuns p new.runs) (sym (decomposed-append p Nfkd x y)) runs in
     record {
       front = y;
       is_front = at.split;
       stands = record {
         sound = ap (list_all (is_sound p)) safe ∙ sound-append p Nfkd out y before.sound at.sound;
-        values = values_with before new y runs_are (omega (arith, ap length at.bytes)) chars_are (omega (arith, ap length safe, length-append out y)) (omega arith);
+        values = values_with before new y runs_are (omega (arith, ap length at.bytes)) chars_are (omega (arith, ap length safe, length-append out y)) (unassigned ∙ ap (λ n. old.unassigned + n) is.unassigned);
         count = count ∙ trail-counted (decomposed Nfkd p out) has before.count
             ∙ sym (ap (λ o. trail p (decomposed Nfkd p o)) safe ∙ ap (trail p) (decomposed-append p Nfkd out y));
         runs = runs_are;

@@ -91,6 +91,7 @@ impl Measurer {
         self.counter.pass(&counted.counts);
         self.bytes += counted.front.len() as u64;
         self.chars += char_count(counted.front) as u64;
+        self.unassigned += counted.counts.unassigned;
         counted.rest
     }
 

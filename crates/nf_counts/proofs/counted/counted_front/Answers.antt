@@ -17,7 +17,8 @@ returns c =
     let chars_are : here.front ≡ chars c.split_at.result.0.now = chars_from_encodes here.front c.split_at.result.0.now (rw c.split_at.ensures.front (IsUtf8-take _ end c.utf8.text (boundary _ _ _ begins))) (sym is) in
     record {
       split = rw (c.split_at.ensures.front, c.split_at.ensures.back, take-append-drop);
-      fit = rw (← chars_are) here.fit;
+      sound = rw (← chars_are) here.sound;
+      unassigned = rw (← chars_are) here.unassigned;
       counts = rw (← chars_are) here.counts;
       leads = here.leads;
     }

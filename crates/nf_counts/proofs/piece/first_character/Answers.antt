@@ -1,5 +1,6 @@
 use Rattle.std.proofs.Common.{◌≡◌, ⊎_elim, [], ◌∷◌, append-nil, arith}
 use Rattle.std.proofs.lemmas.Bool.{ne_eqb}
+use Rattle.std.proofs.lemmas.Bool.Decides.{nat_tests}
 use Rattle.nf_counts.proofs.PieceLemmas.{HasCode, two_spell, three_spell, four_spell, first_of, boundary}
 use Rattle.nf_counts.proofs.piece.first_character.Goals as goal
 use Rattle.nf_counts.proofs.piece.first_character.Goals.{Else-value-eq-NOTHING, then-lead-ge240, else-lead-ge240+then-lead-ge224, else-lead-ge240+else-lead-ge224}
@@ -45,7 +46,8 @@ returns-clause-piece c =
       begins = here.begins;
       some = grind arith;
       within = c.value-value.ensures.within;
-      fit = rw valued.fit;
+      sound = rw valued.sound;
+      unassigned = grind (arith, nat_tests, valued.assigned);
       row = rw append-nil valued.row;
     }
 

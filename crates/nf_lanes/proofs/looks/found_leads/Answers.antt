@@ -1,4 +1,5 @@
-use Rattle.std.proofs.Common.{inl, arith}
+use Rattle.std.proofs.Common.{inl, refl, arith}
+use Rattle.std.proofs.lemmas.Nat.Bits.{bit_at-zero}
 use Rattle.nf_lanes.specs.Looks.{at_pair, is_in, finds}
 use Rattle.nf_lanes.proofs.BitsLemmas.{narrower, none_found, either_none}
 use Rattle.nf_lanes.proofs.PlacesLemmas.{bits_at-below}
@@ -11,6 +12,12 @@ pub returns-then-leads-lt-MIN_LEADS : goal.returns-then-leads-lt-MIN_LEADS
 returns-then-leads-lt-MIN_LEADS c = record {
   leads = c.high_bits-leads.ensures.high;
   told = λ k few none high. let one = c.high_bits-leads.ensures.all k few high in absurd (omega arith);
+}
+
+pub returns-then-none_found : goal.returns-then-none_found
+returns-then-none_found c = record {
+  leads = λ k within one. let zero = bit_at-zero k in absurd (omega (arith, zero, one));
+  told = λ k few none high. let neither = c.none_found.ensures c.if-none_found.true k few in inl (rw neither.0 refl, rw neither.1 refl);
 }
 
 pub returns-then-found-eq0 : goal.returns-then-found-eq0

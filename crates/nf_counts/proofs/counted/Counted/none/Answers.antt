@@ -5,7 +5,8 @@ use Rattle.nf_counts.proofs.counted.Counted.none.Goals as goal
 pub returns : goal.returns
 returns c = λ p room. record {
   split = refl;
-  fit = rw chars-nil;
+  sound = rw chars-nil;
+  unassigned = rw chars-nil c.new.ensures.unassigned;
   counts = rw chars-nil (c.new.ensures.counts p);
   leads = omega arith;
 }

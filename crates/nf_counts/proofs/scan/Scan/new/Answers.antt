@@ -7,8 +7,10 @@ returns-clause-reaches c = λ room. record {
   utf8 = c.utf8.text;
   front = [];
   begins = record { rest = c.args.text.now; split = refl; rest_utf8 = c.utf8.text; is_long = refl };
-  fit = refl;
+  sound = refl;
+  unassigned = c.new.ensures.unassigned;
   counts = c.new.ensures.counts ucd;
   few = omega arith;
+  less = omega arith;
   leads = omega arith;
 }

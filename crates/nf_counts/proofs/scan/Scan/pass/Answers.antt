@@ -1,5 +1,6 @@
-use Rattle.std.proofs.Common.{◌++◌, append_assoc, length-append, arith}
+use Rattle.std.proofs.Common.{not, cond, ◌∙◌, ◌++◌, append_assoc, length-append, arith}
 use Rattle.std.proofs.lemmas.List.Folds.{list_all-append}
+use Rattle.std.proofs.lemmas.List.Sums.{sum_by-append}
 use Rattle.std.proofs.lemmas.Str.{encodes-append}
 use Rattle.nf_forms.specs.Laws.StreamSafe.{decomposed-append}
 use Rattle.nf_forms.specs.Ucd.{ucd}
@@ -19,8 +20,10 @@ returns-clause-reaches c =
         rest_utf8 = piece.begins.rest_utf8;
         is_long = rw (encodes-append, length-append) (omega arith);
       };
-      fit = rw (list_all-append, here.fit, piece.fit);
+      sound = rw (list_all-append, here.sound, piece.sound);
+      unassigned = c.add.ensures.unassigned c.if-not-add.false ∙ grind (arith, here.unassigned, piece.unassigned, sum_by-append (λ d. cond (not (ucd.assigned d)) 1 0) here.front piece.chars);
       counts = rw decomposed-append (c.add.ensures.counts c.if-not-add.false ucd _ _ piece.row here.counts);
       few = omega arith;
+      less = grind (arith, c.add.ensures.unassigned c.if-not-add.false, here.less, piece.some);
       leads = c.add.ensures.room;
     }

@@ -9,6 +9,9 @@ push_counts-requires g c = let at = front_is c.counted_front-counted.ensures (se
 pub overflow_add-self-2 : goal.overflow_add-self-2
 overflow_add-self-2 g c = let at = front_is c.counted_front-counted.ensures (search rules) in omega arith
 
+pub overflow_add-self-3 : goal.overflow_add-self-3
+overflow_add-self-3 g c = let at = front_is c.counted_front-counted.ensures (search rules) in omega arith
+
 pub invariant_of-self : goal.invariant_of-self
 invariant_of-self g c =
     let at = front_is c.counted_front-counted.ensures (search rules) in
