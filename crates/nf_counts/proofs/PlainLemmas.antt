@@ -1,14 +1,18 @@
 -- What pairs of bytes tell of a character is what the table has, shown by one computation; and what they tell of a text.
-use Rattle.std.proofs.Common.{◌≡◌, ℕ, ◌+◌, ◌-◌, ◌<◌, ◌==◌, true, cond, List, [], ◌∷◌, ◌++◌, length, slice_index, take, drop, refl, sym, ◌∙◌, arith, add_assoc, append-nil, eqb-true, length-drop, length-take-le, take-append-drop}
+use Rattle.std.proofs.Common.{◌≡◌, ℕ, ◌+◌, ◌-◌, ◌<◌, ◌≤◌, ◌==◌, not, ⊎_elim, true, cond, List, [], ◌∷◌, ◌++◌, length, slice_index, take, drop, refl, sym, ◌∙◌, arith, add_assoc, append-nil, append_assoc, length-append, eqb-true, length-drop, length-take-le, take-append-drop}
 use Rattle.std.specs.Prelude.{All, chars, encode_utf8_all}
 use Rattle.std.specs.Str.{IsUtf8, IsCharBoundary}
-use Rattle.std.proofs.lemmas.List.{get_or-drop}
+use Rattle.std.proofs.lemmas.List.{drop-drop, get_or-drop}
 use Rattle.std.proofs.lemmas.List.Elements.{All-head, All-tail, All-weaker}
+use Rattle.std.proofs.lemmas.List.Folds.{list_all-append}
 use Rattle.std.proofs.lemmas.List.Sums.{sum_by-append, list_all-from_AllPass}
-use Rattle.std.proofs.lemmas.Str.{length-le-encodes, encodes-chars, IsUtf8-drop, IsUtf8-take}
+use Rattle.std.proofs.lemmas.Str.{length-le-encodes, encodes-append, encodes-chars, IsUtf8-drop, IsUtf8-take}
 use Rattle.ucd_table.specs.Trie.{block_value}
 use Rattle.ucd_table.proofs.TrieCheck.{all_below, all_below-at}
 use Rattle.nf_forms.specs.Forms.{decomposed}
+use Rattle.std.proofs.str.Laws.{order}
+use Rattle.nf_forms.specs.Laws.StreamSafe.{decomposed-append}
+use Rattle.nf_counts.proofs.PieceLemmas.{rest_is}
 use Rattle.nf_forms.specs.Laws.Runs.{has_starter-append, lead-append, trail-append, longest-append}
 use Rattle.nf_forms.specs.Properties.{Properties, is_nonstarter}
 use Rattle.nf_forms.specs.Sound.{is_sound}
@@ -18,14 +22,15 @@ use Rattle.nf_lanes.specs.Looks.{finds, is_in}
 use Rattle.nf_lanes.proofs.LooksLemmas.{Known, Tells, told_front}
 use Rattle.nf_counts.specs.Counts.{HasValue, IsValued, unassigned_in}
 use Rattle.nf_counts.specs.Piece.{IsPiece}
+use Rattle.nf_counts.specs.declared.piece.Piece.{Piece}
 use Rattle.nf_counts.specs.Window.{AreTold}
 use Rattle.nf_counts.specs.declared.pairs.TheConstants.{KANA, LOOKS}
 use Rattle.nf_counts.specs.declared.rows.TheConstants.{INDEX, WORDS}
 use Rattle.nf_counts.proofs.Told.{told, told-ascii, told-valued, told-block}
 
--- text of the value 0 after such text
-value-append : (p : Properties) (w v : List ℕ) → HasValue p w 0 → HasValue p v 0 → HasValue p (w ++ v) 0
-value-append p w v first next =
+-- text of the value 0, and starters with marks after them
+value-append : (p : Properties) (w v : List ℕ) {n : ℕ} → n < 4 → HasValue p w 0 → HasValue p v n → HasValue p (w ++ v) n
+value-append p w v few first next =
     grind (arith, has_starter-append p w v, lead-append p w v, trail-append p w v, longest-append p w v, sum_by-append (λ d. cond (is_nonstarter p d) 1 0) w v)
 
 module _ (p : Properties) where
@@ -37,7 +42,7 @@ module _ (p : Properties) where
   value-plain (c ∷ []) some plain = rw append-nil (All-head is_plain c [] plain).row
   value-plain (c ∷ d ∷ cs) some plain =
       let others = d ∷ cs in
-      value-append p (p.compat c) _ (All-head is_plain c others plain).row (value-plain (d ∷ cs) (omega (arith, length-le-encodes others)) (All-tail is_plain c others plain))
+      value-append p (p.compat c) _ (omega arith) (All-head is_plain c others plain).row (value-plain (d ∷ cs) (omega (arith, length-le-encodes others)) (All-tail is_plain c others plain))
 
   none_unassigned : (cs : List ℕ) → All is_plain cs → unassigned_in p cs ≡ 0
   none_unassigned [] plain = refl
@@ -88,9 +93,38 @@ module _ (sound : (c : ℕ) → is_sound ucd c ≡ true) where
         row = value-plain ucd cs (omega (arith, long)) plain;
       }
 
+  -- and after it another
+  both : (text : List ℕ) (at place : ℕ) (piece : Piece) → IsPiece ucd (drop at text) record { len = place - at; value = 0 } → IsPiece ucd (drop place text) piece → at < place → piece.value < 4
+      → IsPiece ucd (drop at text) record { len = place - at + piece.len; value = piece.value }
+  both text at place piece plain next some few =
+      let is : at + (place - at) ≡ place = omega (arith, some) in
+      let rest : drop (place - at) (drop at text) ≡ drop place text = rw (drop-drop, is) refl in
+      record {
+        chars = plain.chars ++ next.chars;
+        begins = record {
+          rest = next.begins.rest;
+          split = rw (encodes-append, append_assoc, ← next.begins.split, ← rest, rest_is _ _ _ plain.begins) plain.begins.split;
+          rest_utf8 = next.begins.rest_utf8;
+          is_long = rw (encodes-append, length-append) (omega arith);
+        };
+        some = omega arith;
+        within = omega arith;
+        sound = rw (list_all-append, plain.sound, next.sound);
+        unassigned = grind (arith, plain.unassigned, next.unassigned, sum_by-append (λ d. cond (not (ucd.assigned d)) 1 0) plain.chars next.chars);
+        row = rw decomposed-append (value-append ucd _ _ few plain.row next.row);
+      }
+
   pub piece_between : (text : List ℕ) (at place : ℕ) → IsUtf8 text → IsCharBoundary text at → IsCharBoundary text place → at < place → AreTold text at place
       → IsPiece ucd (drop at text) record { len = place - at; value = 0 }
   piece_between text at place u from to some none =
       let is : at + (place - at) ≡ place = omega (arith, some) in
       plain_piece (drop at text) (place - at) (IsUtf8-drop text at u from) (simp (length-drop, get_or-drop, is) (omega (arith, to.0), λ inside. to.1 (omega arith))) (omega (arith, some)) (λ k _ inside high.
       simp (get_or-drop, ← add_assoc) (none (at + k) (omega arith) (omega (arith, inside, some)) (rw get_or-drop at high)))
+
+  pub piece_with : (text : List ℕ) (at place : ℕ) (piece : Piece) → IsUtf8 text → IsCharBoundary text at → IsCharBoundary text place → at ≤ place → AreTold text at place → IsPiece ucd (drop place text) piece → piece.value < 4
+      → IsPiece ucd (drop at text) record { len = place - at + piece.len; value = piece.value }
+  piece_with text at place piece u from to order_is none next few =
+      ⊎_elim
+      (λ same. let is : at ≡ place = omega (arith, same, order_is) in let len : place - at + piece.len ≡ piece.len = omega (arith, is) in rw (len, is) next)
+      (λ some. let less : at < place = omega (arith, some) in both text at place piece (piece_between text at place u from to less none) next less few)
+      (order place (at + 1))

@@ -103,16 +103,39 @@ impl<'t> Scan<'t> {
         let text = self.text;
         let mut window = Window::new(text, base);
         while let Some(place) = window.next() {
-            self.pass_plain(place, room);
             let third = text.as_bytes()[place + 2];
             let Some(character) = first_character(&text[place..], third) else {
+                self.pass_plain(place, room);
                 return false;
             };
-            if !self.pass(character, room) {
+            if !self.pass_both(place, character, room) {
                 return false;
             }
         }
         true
+    }
+
+    /// Goes on after a place before which none is looked up, and the character there, if it may: in one where that is starters
+    /// with marks after them, since what stands before counts nothing.
+    #[inline(always)]
+    fn pass_both(&mut self, place: usize, character: Piece, room: u32) -> bool
+        requires reaches { Reaches ucd room self.old }
+        requires order { self.old.at ≤ place }
+        requires boundary { IsCharBoundary self.old.text.now place }
+        requires told { AreTold self.old.text.now self.old.at place }
+        requires piece { IsPiece ucd (drop place self.old.text.now) character }
+        ensures text { self.new.text.now ≡ self.old.text.now }
+        ensures further { IsTrue result → self.new.at ≡ place + character.len }
+        ensures reaches { Reaches ucd room self.new }
+    {
+        laws::every_character_is_sound();
+        if character.value >= 4 {
+            self.pass_plain(place, room);
+            return self.pass(character, room);
+        }
+        let len = place - self.at + character.len;
+        let value = character.value;
+        self.pass(Piece { len, value }, room)
     }
 
     /// Goes on to a place before which none is looked up.
