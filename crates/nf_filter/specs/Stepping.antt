@@ -21,7 +21,7 @@ pub record Standing (f : Form) (p : Properties) (counted : Counted) (start : Sta
 abbrev pub StandsInFront : Form → Properties → Counted → Start → BlockState → List ℕ → List ℕ → List ℕ → Type 0
 StandsInFront f p counted start now x text rest = HasTakenFront (λ y. Standing f p counted start now y (chars rest)) x text rest
 
--- a front of the text is after it, with at most a joiner a character
+-- a front of the text is past, with at most a joiner a character
 pub record HasStepped (old new : Counted) (text rest : List ℕ) : Type 0 where
   pub n : ℕ
   pub leaves : Leaves text rest n

@@ -33,7 +33,7 @@ Stands f p normalizer start room x next = Inside f p normalizer start room x ⊎
 abbrev pub one_if : Bool → ℕ
 one_if joined = if joined then 1 else 0
 
--- a front of the text is after it, of at least one character, with no more than one joiner each; `rest` is what is left
+-- a front of the text is past, of at least one character, with no more than one joiner each; `rest` is what is left
 pub record Leaves (text rest : List ℕ) (n : ℕ) : Type 0 where
   pub front : List ℕ
   pub some : 0 < length front

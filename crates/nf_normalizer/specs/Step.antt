@@ -17,7 +17,7 @@ pub record StopsIn (text rest : List ℕ) : Type 0 where
   pub some : 0 < length rest
   pub left : length rest ≤ length text
 
--- a front of the text is after it, unless the rest is refused
+-- a front of the text is past, unless the rest is refused
 abbrev pub StepsPast : List ℕ → Step → Type 0
 StepsPast text (Taken same rest put) = Leaves text rest.now put
 StepsPast text (Unsound rest) = StopsIn text rest.now

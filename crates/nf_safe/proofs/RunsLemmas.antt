@@ -4,7 +4,7 @@ use Rattle.nf_forms.specs.Laws.Runs.{lead-marks, trail-append, longest-append}
 use Rattle.nf_counts.specs.Counts.{HasCounts}
 use Rattle.nf_counts.specs.declared.counts.Counts.{Counts}
 
--- the run that a text ends in, with text after of which these are the counts
+-- the run that a text ends in, with text after it of which these are the counts
 pub trail-counted : {p : Properties} {v : List ℕ} {counts : Counts} {n : ℕ} (w : List ℕ) → HasCounts p v counts → n ≡ trail p w → (if counts.has_starter then counts.trail else n + counts.lead) ≡ trail p (w ++ v)
 trail-counted {p} {v} w has is = grind (arith, has.has_starter, has.lead, has.trail, lead-marks p v, trail-append p w v)
 
