@@ -21,8 +21,8 @@ pub record HasCounts (p : Properties) (w : List ℕ) (counts : Counts) : Type 0 
 abbrev pub starts_by : ℕ → Bool
 starts_by value = nat_lt value 4 || nat_le 8 value
 
--- the text has so many non-starters as the two low bits of the value are. Below 8 all stand together, and after the starters, if
--- any; from 8 on each stands between two starters, or at the end, where the third bit tells so
+-- the text has so many non-starters as the two low bits of the value are. Below 8 all stand together, and after the
+-- starters, if any; from 8 on each stands between two starters, or at the end, where the third bit tells so
 pub record HasValue (p : Properties) (w : List ℕ) (value : ℕ) : Type 0 where
   pub has_starter : starts_by value ≡ has_starter p w
   pub lead : (if starts_by value then 0 else value % 4) ≡ lead p w
@@ -43,8 +43,8 @@ pub record IsValued (p : Properties) (c value : ℕ) : Type 0 where
   pub assigned : p.assigned c ≡ not (value == 8)
   pub row : HasValue p (p.compat c) value
 
--- the front of the text is of sound characters, so many of them unassigned, its compatibility decomposition has these counts, and
--- no more than `room` non-starters before the first starter
+-- the front of the text is of sound characters, so many of them unassigned, its compatibility decomposition has these
+-- counts, and no more than `room` non-starters before the first starter
 pub record IsCountedFront (p : Properties) (room : ℕ) (text : List ℕ) (counted : Counted) : Type 0 where
   pub split : text ≡ counted.front.now ++ counted.rest.now
   pub sound : list_all (is_sound p) (chars counted.front.now) ≡ true
