@@ -3,9 +3,8 @@ use Rattle.std.proofs.Common.{◌≡◌, ℕ, ◌+◌, ◌*◌, ◌≤◌, Bool,
 use Rattle.nf_forms.specs.Ucd.{is_assigned}
 use Rattle.nf_facts.specs.Within.{lies_within, in_ranges-lies_within}
 use Rattle.ucd_table.proofs.TrieCheck.{all_below}
-use Rattle.nf_lanes.specs.Looks.{is_in}
 use Rattle.nf_lanes.proofs.LooksLemmas.{Known, Tells}
-use Rattle.nf_assigned.specs.declared.pairs.TheConstants.{FIRST, SECOND}
+use Rattle.nf_assigned.specs.Bytes.{By, leads, first_family, second_family, finds}
 use Rattle.nf_assigned.proofs.RangeLemmas.{told_ranges, told-assigned}
 
 abbrev within : ℕ → ℕ → Bool
@@ -33,11 +32,9 @@ known = record {
   is_low = omega arith;
 }
 
--- so of a character that either family does not find
-pub first_tells : Tells _ _ _ known (is_in FIRST)
+-- so of a character that one of them does not find
+pub tells : (by : By) → Tells _ _ _ known (finds by)
 unfolding told_ranges all_below known
-first_tells = record { of_two = refl; of_three = refl; of_four = refl }
-
-pub second_tells : Tells _ _ _ known (is_in SECOND)
-unfolding told_ranges all_below known
-second_tells = record { of_two = refl; of_three = refl; of_four = refl }
+tells leads = record { of_two = refl; of_three = refl; of_four = refl }
+tells first_family = record { of_two = refl; of_three = refl; of_four = refl }
+tells second_family = record { of_two = refl; of_three = refl; of_four = refl }

@@ -1,11 +1,25 @@
 -- Bytes of UTF-8 (The Unicode Standard, section 3.9, Table 3-6) that tell of the characters that they begin.
-use Rattle.std.specs.Prelude.{◌<◌, ◌≤◌, ◌⊎◌, ℕ, List, slice_index}
+use Rattle.std.specs.Prelude.{◌<◌, ◌≤◌, ◌==◌, ℕ, Bool, not, List, slice_index}
 use Rattle.nf_lanes.specs.Looks.{is_in, NoneFound}
+use Rattle.nf_lanes.specs.Sets.{byte_sets}
+use Rattle.nf_assigned.specs.declared.leads.TheConstants.{HIGH, LOW}
 use Rattle.nf_assigned.specs.declared.pairs.TheConstants.{FIRST, SECOND}
 
--- one of the two families tells of the character that begins with byte k
+-- what tells: lead bytes, or one of two families
+pub data By : Type 0 where
+  leads : By
+  first_family : By
+  second_family : By
+
+-- these have to be looked up
+abbrev pub finds : By → ℕ → ℕ → Bool
+finds leads byte next = not (byte_sets HIGH LOW byte == 0)
+finds first_family byte next = is_in FIRST byte next
+finds second_family byte next = is_in SECOND byte next
+
+-- one of them tells of the character that begins with byte k
 abbrev pub IsTold : List ℕ → ℕ → Type 0
-IsTold bytes k = NoneFound (is_in FIRST) bytes k ⊎ NoneFound (is_in SECOND) bytes k
+IsTold bytes k = (by : By) × NoneFound (finds by) bytes k
 
 -- so of each of the bytes before n that is no less than CD
 abbrev pub AreTold : List ℕ → ℕ → Type 0

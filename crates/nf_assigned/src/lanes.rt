@@ -1,24 +1,38 @@
-//! Pairs of bytes, many at once.
+//! Bytes and pairs of them, many at once.
 
-ghost use Rattle.std.specs.Prelude.{◌≡◌, ◌<◌, ◌≤◌, ◌+◌, ℕ, length, slice_index, IsTrue};
+ghost use Rattle.std.specs.Prelude.{◌≡◌, ◌<◌, ◌≤◌, ◌+◌, ℕ, length, IsTrue};
 ghost use Rattle.nf_assigned.specs.Bytes.{AreTold, IsTold};
 
+use crate::leads::{HIGH, LOW};
 use crate::pairs::{FIRST, SECOND};
-use nf_lanes::{at_least, found_by_both, none_found, none_of};
+use nf_lanes::{byte_sets, found_by_both, none_found, none_of};
+use nf_utf8::ascii_prefix;
 
-/// How many bytes there are before a character that has to be looked up. The last 64 are left out.
+/// So often at most lead bytes are not asked.
+const MAX_PAUSE: u32 = 15;
+
+/// How many bytes there are before a character that has to be looked up. The last 64 are left out, but for ASCII at the front.
 #[inline(always)]
 pub(crate) fn assigned_len(bytes: &[u8]) -> usize
     ensures within { result ≤ length bytes.now }
     ensures told { AreTold bytes.now result }
 {
-    let mut at = 0;
+    let mut at = ascii_prefix(bytes);
+    // So many times 63 bytes are not asked by lead bytes: the more, the more often these did not tell all of them.
+    let mut pause = 0;
+    let mut left = 0;
     // The family that is asked first: the other, where that one left something that the other told.
     let mut is_second = false;
     while bytes.len() - at > 64 {
-        if is_latin(bytes, at) {
-            at += 64;
+        if left > 0 {
+            left -= 1;
+        } else if are_told_by_leads(bytes, at) {
+            pause = 0;
+            at += 63;
             continue;
+        } else {
+            pause = MAX_PAUSE.min(2 * pause + 1);
+            left = pause;
         }
         if is_told(is_second, bytes, at) {
             at += 63;
@@ -34,6 +48,20 @@ pub(crate) fn assigned_len(bytes: &[u8]) -> usize
     at
 }
 
+/// Whether lead bytes tell of all that 63 bytes begin.
+#[inline(always)]
+fn are_told_by_leads(bytes: &[u8], at: usize) -> bool
+    requires room { at + 64 < length bytes.now }
+    ensures { IsTrue result → (k : ℕ) → k < 63 → IsTold bytes.now (at + k) }
+{
+    none_of(
+        byte_sets(&HIGH, &LOW, bytes, at),
+        byte_sets(&HIGH, &LOW, bytes, at + 16),
+        byte_sets(&HIGH, &LOW, bytes, at + 32),
+        byte_sets(&HIGH, &LOW, bytes, at + 48),
+    )
+}
+
 /// Whether a family, the second or the first, tells by itself of all that 63 bytes begin.
 #[inline(always)]
 fn is_told(is_second: bool, bytes: &[u8], at: usize) -> bool
@@ -45,20 +73,4 @@ fn is_told(is_second: bool, bytes: &[u8], at: usize) -> bool
     } else {
         none_found(&FIRST, bytes, at)
     }
-}
-
-/// Whether the first of 64 bytes is ASCII, so that it is worth a look, and all lie below CD: of the characters that those begin
-/// all are assigned.
-#[inline(always)]
-fn is_latin(bytes: &[u8], at: usize) -> bool
-    requires room { at + 64 < length bytes.now }
-    ensures { IsTrue result → (k : ℕ) → at ≤ k → k < at + 64 → slice_index bytes.now k < 0xCD }
-{
-    bytes[at] < 0x80
-        && none_of(
-            at_least(0xCD, bytes, at),
-            at_least(0xCD, bytes, at + 16),
-            at_least(0xCD, bytes, at + 32),
-            at_least(0xCD, bytes, at + 48),
-        )
 }

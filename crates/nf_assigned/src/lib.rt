@@ -4,6 +4,7 @@
 
 mod front;
 mod lanes;
+mod leads;
 mod pairs;
 
 pub use front::assigned_front;

@@ -19,6 +19,7 @@ module _ (text chars : List ℕ) (len : ℕ) (begins : BeginsWith text chars len
 -- it begins with this code point, in so many bytes
 pub record HasCode (text : List ℕ) (n code : ℕ) : Type 0 where
   pub begins : BeginsWith text (code ∷ []) n
+  pub fits : code < 1114112
   pub one : (k : ℕ) → 0 < k → k < n → slice_index text k < 0xC0
 
 -- what two bytes, or three, spell
@@ -49,6 +50,9 @@ first_of text (c ∷ cs, spells) high = within (order c 128) (order c 2048) (ord
       is_long = rw append-nil;
     }
 
+    fits : c < 1114112
+    fits = grind (arith, scalar_cases c, (and_parts (scalar c) (all_scalars cs) spells.0).0)
+
     at : (k : ℕ) (bytes : List ℕ) → encode_utf8 c ≡ bytes → slice_index text k ≡ slice_index (bytes ++ encode_utf8_all cs) k
     at k bytes e = rw (← spells.1, e)
 
@@ -57,13 +61,12 @@ first_of text (c ∷ cs, spells) high = within (order c 128) (order c 2048) (ord
     within (inr more) (inl small) _ =
         let e = two c more small in
         let is : c ≡ two_spell text = omega (arith, at 0 _ e, at 1 _ e) in
-        inl (omega (arith, at 0 _ e), record { begins = rw (e, is) at begins; one = λ k above below. grind (arith, at 1 _ e) })
+        inl (omega (arith, at 0 _ e), record { begins = rw (e, is) at begins; fits = rw is at fits; one = λ k above below. grind (arith, at 1 _ e) })
     within (inr _) (inr more) (inl small) =
         let e = three c more small in
         let is : c ≡ three_spell text = omega (arith, at 0 _ e, at 1 _ e, at 2 _ e) in
-        inr (inl (omega (arith, at 0 _ e), omega (arith, small, at 0 _ e), record { begins = rw (e, is) at begins; one = λ k above below. grind (arith, order k 2, at 1 _ e, at 2 _ e) }))
+        inr (inl (omega (arith, at 0 _ e), omega (arith, small, at 0 _ e), record { begins = rw (e, is) at begins; fits = rw is at fits; one = λ k above below. grind (arith, order k 2, at 1 _ e, at 2 _ e) }))
     within (inr _) (inr _) (inr more) =
-        let fits : c < 1114112 = grind (arith, scalar_cases c, (and_parts (scalar c) (all_scalars cs) spells.0).0) in
         let e = four c more in
         let is : c ≡ four_spell text = omega (arith, fits, at 0 _ e, at 1 _ e, at 2 _ e, at 3 _ e) in
-        inr (inr (omega (arith, at 0 _ e), record { begins = rw (e, is) at begins; one = λ k above below. grind (arith, order k 2, order k 3, at 1 _ e, at 2 _ e, at 3 _ e) }))
+        inr (inr (omega (arith, at 0 _ e), record { begins = rw (e, is) at begins; fits = rw is at fits; one = λ k above below. grind (arith, order k 2, order k 3, at 1 _ e, at 2 _ e, at 3 _ e) }))

@@ -1,7 +1,8 @@
 -- What pairs of bytes tell of a character is what the table has, shown by one computation; and what they tell of a text.
-use Rattle.std.proofs.Common.{◌≡◌, ℕ, ◌+◌, ◌-◌, ◌<◌, ◌≤◌, ◌==◌, not, ⊎_elim, true, cond, List, [], ◌∷◌, ◌++◌, length, slice_index, take, drop, refl, sym, ◌∙◌, arith, add_assoc, append-nil, append_assoc, length-append, eqb-true, length-drop, length-take-le, take-append-drop}
+use Rattle.std.proofs.Common.{◌≡◌, ℕ, ◌+◌, ◌-◌, ◌%◌, ◌<◌, ◌≤◌, ◌==◌, nat_lt, not, ⊎_elim, Bool, true, false, cond, List, [], ◌∷◌, ◌++◌, length, slice_index, take, drop, refl, sym, ◌∙◌, arith, add_assoc, append-nil, append_assoc, length-append, eqb-true, length-drop, length-take-le, take-append-drop}
 use Rattle.std.specs.Prelude.{All, chars, encode_utf8_all}
 use Rattle.std.specs.Str.{IsUtf8, IsCharBoundary}
+use Rattle.std.proofs.lemmas.Bool.Decides.{nat_tests}
 use Rattle.std.proofs.lemmas.List.{drop-drop, get_or-drop}
 use Rattle.std.proofs.lemmas.List.Elements.{All-head, All-tail, All-weaker}
 use Rattle.std.proofs.lemmas.List.Folds.{list_all-append}
@@ -13,7 +14,7 @@ use Rattle.nf_forms.specs.Forms.{decomposed}
 use Rattle.std.proofs.str.Laws.{order}
 use Rattle.nf_forms.specs.Laws.StreamSafe.{decomposed-append}
 use Rattle.nf_counts.proofs.PieceLemmas.{rest_is}
-use Rattle.nf_forms.specs.Laws.Runs.{has_starter-append, lead-append, trail-append, longest-append}
+use Rattle.nf_forms.specs.Laws.Runs.{has_starter-append, lead-append, trail-append, longest-append, lead-marks, trail-marks}
 use Rattle.nf_forms.specs.Properties.{Properties, is_nonstarter}
 use Rattle.nf_forms.specs.Sound.{is_sound}
 use Rattle.nf_forms.specs.declared.form.Form.TheVariants.{Nfkd}
@@ -28,10 +29,17 @@ use Rattle.nf_counts.specs.declared.pairs.TheConstants.{KANA, LOOKS}
 use Rattle.nf_counts.specs.declared.rows.TheConstants.{INDEX, WORDS}
 use Rattle.nf_counts.proofs.Told.{told, told-ascii, told-valued, told-block}
 
--- text of the value 0, and starters with marks after them
-value-append : (p : Properties) (w v : List ℕ) {n : ℕ} → n < 4 → HasValue p w 0 → HasValue p v n → HasValue p (w ++ v) n
-value-append p w v few first next =
-    grind (arith, has_starter-append p w v, lead-append p w v, trail-append p w v, longest-append p w v, sum_by-append (λ d. cond (is_nonstarter p d) 1 0) w v)
+-- what a value is after starters that count nothing
+abbrev pub after_plain : ℕ → ℕ
+after_plain n = cond (nat_lt n 8) (n % 4) n
+
+value-append : (p : Properties) (w v : List ℕ) (n : ℕ) → HasValue p w 0 → HasValue p v n → HasValue p (w ++ v) (after_plain n)
+value-append p w v n first next =
+    let marks = sum_by-append (λ d. cond (is_nonstarter p d) 1 0) w v in
+    ⊎_elim
+    (λ few. grind (arith, nat_tests, has_starter-append p w v, lead-append p w v, trail-append p w v, longest-append p w v, lead-marks p v, trail-marks p v, marks))
+    (λ more. grind (arith, nat_tests, has_starter-append p w v, lead-append p w v, trail-append p w v, longest-append p w v, lead-marks p v, trail-marks p v, marks))
+    (order n 8)
 
 module _ (p : Properties) where
   abbrev is_plain : ℕ → Type 0
@@ -42,7 +50,7 @@ module _ (p : Properties) where
   value-plain (c ∷ []) some plain = rw append-nil (All-head is_plain c [] plain).row
   value-plain (c ∷ d ∷ cs) some plain =
       let others = d ∷ cs in
-      value-append p (p.compat c) _ (omega arith) (All-head is_plain c others plain).row (value-plain (d ∷ cs) (omega (arith, length-le-encodes others)) (All-tail is_plain c others plain))
+      value-append p (p.compat c) _ 0 (All-head is_plain c others plain).row (value-plain (d ∷ cs) (omega (arith, length-le-encodes others)) (All-tail is_plain c others plain))
 
   none_unassigned : (cs : List ℕ) → All is_plain cs → unassigned_in p cs ≡ 0
   none_unassigned [] plain = refl
@@ -76,13 +84,17 @@ module _ (sound : (c : ℕ) → is_sound ucd c ≡ true) where
   unfolding all_below block_value known
   tells_kana = record { of_two = refl; of_three = refl; of_four = refl }
 
+  tells : (b : Bool) → Tells _ _ _ known (cond b (finds LOOKS) (is_in KANA))
+  tells true = tells_looks
+  tells false = tells_kana
+
   -- characters of which none is looked up are a piece of the value 0
   pub plain_piece : (text : List ℕ) (len : ℕ) → IsUtf8 text → IsCharBoundary text len → 0 < len → AreTold text 0 len → IsPiece ucd text record { len = len; value = 0 }
   plain_piece text len u boundary some none =
       let cs = chars (take len text) in
       let same : encode_utf8_all cs ≡ take len text = encodes-chars _ (IsUtf8-take text len u boundary) in
       let long : length (encode_utf8_all cs) ≡ len = rw same (length-take-le len text boundary.0) in
-      let plain = told_front _ _ _ _ _ _ tells_looks tells_kana text len len u boundary (omega arith) (λ k inside high. none k (omega arith) inside high) in
+      let plain = told_front _ _ _ _ Bool _ tells text len len u boundary (omega arith) (λ k inside high. ⊎_elim (λ both. (true, both)) (λ kana. (false, kana)) (none k (omega arith) inside high)) in
       record {
         chars = cs;
         begins = record { rest = drop len text; split = rw (same, take-append-drop); rest_utf8 = IsUtf8-drop text len u boundary; is_long = sym long };
@@ -94,9 +106,9 @@ module _ (sound : (c : ℕ) → is_sound ucd c ≡ true) where
       }
 
   -- and after it another
-  both : (text : List ℕ) (at place : ℕ) (piece : Piece) → IsPiece ucd (drop at text) record { len = place - at; value = 0 } → IsPiece ucd (drop place text) piece → at < place → piece.value < 4
-      → IsPiece ucd (drop at text) record { len = place - at + piece.len; value = piece.value }
-  both text at place piece plain next some few =
+  both : (text : List ℕ) (at place : ℕ) (piece : Piece) → IsPiece ucd (drop at text) record { len = place - at; value = 0 } → IsPiece ucd (drop place text) piece → at < place
+      → IsPiece ucd (drop at text) record { len = place - at + piece.len; value = after_plain piece.value }
+  both text at place piece plain next some =
       let is : at + (place - at) ≡ place = omega (arith, some) in
       let rest : drop (place - at) (drop at text) ≡ drop place text = rw (drop-drop, is) refl in
       record {
@@ -108,10 +120,10 @@ module _ (sound : (c : ℕ) → is_sound ucd c ≡ true) where
           is_long = rw (encodes-append, length-append) (omega arith);
         };
         some = omega arith;
-        within = omega arith;
+        within = grind (arith, next.within);
         sound = rw (list_all-append, plain.sound, next.sound);
-        unassigned = grind (arith, plain.unassigned, next.unassigned, sum_by-append (λ d. cond (not (ucd.assigned d)) 1 0) plain.chars next.chars);
-        row = rw decomposed-append (value-append ucd _ _ few plain.row next.row);
+        unassigned = grind (arith, nat_tests, plain.unassigned, next.unassigned, sum_by-append (λ d. cond (not (ucd.assigned d)) 1 0) plain.chars next.chars);
+        row = rw decomposed-append (value-append ucd _ _ piece.value plain.row next.row);
       }
 
   pub piece_between : (text : List ℕ) (at place : ℕ) → IsUtf8 text → IsCharBoundary text at → IsCharBoundary text place → at < place → AreTold text at place
@@ -121,10 +133,13 @@ module _ (sound : (c : ℕ) → is_sound ucd c ≡ true) where
       plain_piece (drop at text) (place - at) (IsUtf8-drop text at u from) (simp (length-drop, get_or-drop, is) (omega (arith, to.0), λ inside. to.1 (omega arith))) (omega (arith, some)) (λ k _ inside high.
       simp (get_or-drop, ← add_assoc) (none (at + k) (omega arith) (omega (arith, inside, some)) (rw get_or-drop at high)))
 
-  pub piece_with : (text : List ℕ) (at place : ℕ) (piece : Piece) → IsUtf8 text → IsCharBoundary text at → IsCharBoundary text place → at ≤ place → AreTold text at place → IsPiece ucd (drop place text) piece → piece.value < 4
-      → IsPiece ucd (drop at text) record { len = place - at + piece.len; value = piece.value }
-  piece_with text at place piece u from to order_is none next few =
+  pub piece_with : (text : List ℕ) (at place : ℕ) (piece : Piece) (value : ℕ) → IsUtf8 text → IsCharBoundary text at → IsCharBoundary text place → at ≤ place → AreTold text at place → IsPiece ucd (drop place text) piece
+      → (place ≤ at → value ≡ piece.value) → (at < place → value ≡ after_plain piece.value) → IsPiece ucd (drop at text) record { len = place - at + piece.len; value = value }
+  piece_with text at place piece value u from to order_is none next alone after =
       ⊎_elim
-      (λ same. let is : at ≡ place = omega (arith, same, order_is) in let len : place - at + piece.len ≡ piece.len = omega (arith, is) in rw (len, is) next)
-      (λ some. let less : at < place = omega (arith, some) in both text at place piece (piece_between text at place u from to less none) next less few)
+      (λ same.
+      let is : at ≡ place = omega (arith, same, order_is) in
+      let len : place - at + piece.len ≡ piece.len = omega (arith, is) in
+      rw (len, alone (omega (arith, same)), is) next)
+      (λ some. let less : at < place = omega (arith, some) in rw (after less) (both text at place piece (piece_between text at place u from to less none) next less))
       (order place (at + 1))

@@ -1,11 +1,10 @@
 -- The table has what the data of Unicode has, shown by one computation.
-use Rattle.std.proofs.Common.{◌≡◌, ℕ, ◌+◌, ◌*◌, ◌-◌, ◌/◌, ◌^◌, ◌%◌, ◌<◌, ◌≤◌, Bool, true, false, not, cond, ◌&&◌, ◌==◌, nat_lt, nat_le, List, [], ◌∷◌, slice_index, count_by, inl, inr, refl, sym, ap, ◌∙◌, arith, eqb-true, lt-ltb}
+use Rattle.std.proofs.Common.{◌≡◌, ℕ, ◌+◌, ◌*◌, ◌-◌, ◌/◌, ◌%◌, ◌<◌, ◌≤◌, Bool, true, false, not, cond, ◌&&◌, ◌==◌, nat_lt, nat_le, List, [], ◌∷◌, slice_index, count_by, inl, inr, refl, sym, ap, ◌∙◌, arith, eqb-true, lt-ltb}
 use Rattle.std.proofs.lemmas.Bool.{cases_Bool, cases_eq}
 use Rattle.std.proofs.lemmas.Bool.Decides.{nat_tests}
-use Rattle.ucd_table.specs.Rows.{Range, in_ranges}
 use Rattle.ucd_table.specs.Trie.{IsTrie, block_value, trie_value}
-use Rattle.ucd_table.proofs.Stepped.{Stepped, of_ranges, map_stepped, zip_stepped, runs_of}
-use Rattle.ucd_table.proofs.Facts.{Stepped-below, tree_value, tree_of, tree_value-tree_of}
+use Rattle.ucd_table.proofs.Stepped.{Stepped, map_stepped, zip_stepped, runs_of}
+use Rattle.ucd_table.proofs.Facts.{Stepped-always, Stepped-below, always, tree_value, tree_of, tree_value-tree_of}
 use Rattle.ucd_table.proofs.TrieCheck.{trie_ok-IsTrie, trie_value-Stepped, trie_ok}
 use Rattle.ucd_table.proofs.Computing.{tables}
 use Rattle.ucd_category.specs.GeneralCategory.{general_category, general_category_eq}
@@ -28,7 +27,7 @@ use Rattle.nf_forms.specs.Runs.{has_starter, lead, trail, longest}
 use Rattle.nf_forms.specs.Sound.{is_sound}
 use Rattle.nf_forms.specs.Ucd.{is_assigned, ucd}
 use Rattle.nf_counts.specs.Counts.{HasValue, IsValued}
-use Rattle.nf_counts.specs.declared.rows.TheConstants.{INDEX, WORDS}
+use Rattle.nf_counts.specs.declared.rows.TheConstants.{INDEX, TAIL, WORDS}
 
 -- all non-starters of a row stand together at its end, fewer than 4; or no two stand side by side, nor one at its front
 abbrev together : Properties → List ℕ → Bool
@@ -47,44 +46,47 @@ row_value p w = cond (together p w) (cond (has_starter p w) 0 4 + trail p w) (co
 abbrev classes : (ℕ → ℕ) → Properties
 classes class = record { class = class; canonical = ucd.canonical; compat = ucd.compat; pair = ucd.pair; assigned = ucd.assigned }
 
--- by what is known of the character: whether it is near, and whether it is assigned
-abbrev value : (ℕ → ℕ) → Bool × Bool → ℕ → List ℕ → ℕ
-value class known own w = cond known.0 (cond (is_empty w) (cond (own == 0) (cond known.1 0 8) (cond known.1 5 4)) (cond known.1 (row_value (classes class) w) 4)) 4
-
--- of these nothing is told
-unfoldable pub untold : List Range
-untold = (0x40000, 0x10FFFF) ∷ []
-
-abbrev known_of : ℕ → Bool × Bool
-known_of c = (not (in_ranges untold c), is_assigned c)
+-- by whether the character is assigned; of an unassigned one that is no row of its own nothing is told, by 4
+abbrev value : (ℕ → ℕ) → Bool → ℕ → List ℕ → ℕ
+value class assigned own w = cond (is_empty w) (cond (own == 0) (cond assigned 0 8) (cond assigned 5 4)) (cond assigned (row_value (classes class) w) 4)
 
 unfoldable pub told : ℕ → ℕ
-told c = value ccc (known_of c) (ccc c) (compatibility_decomposition c)
+told c = value ccc (is_assigned c) (ccc c) (compatibility_decomposition c)
 
 unfoldable told_stepped : Stepped told
-unfolding told tables ucd_normal untold is_assigned general_category_stepped
+unfolding told tables ucd_normal is_assigned general_category_stepped
 told_stepped =
     let assigned = map_stepped (λ v. not (general_category_eq v Unassigned)) general_category general_category_stepped in
-    let known_stepped = zip_stepped (λ far b. (not far, b)) (in_ranges untold) is_assigned (of_ranges untold refl) assigned in
     let class = tree_value canonical_combining_class_stepped.default (tree_of ccc canonical_combining_class_stepped) in
     let rows = zip_stepped (λ (n : ℕ) (w : List ℕ). (n, w)) ccc compatibility_decomposition canonical_combining_class_stepped compatibility_decomposition_stepped in
-    let by_tree = zip_stepped (λ (b : Bool × Bool) (r : ℕ × List ℕ). value class b r.0 r.1) known_of (λ c. (ccc c, compatibility_decomposition c)) known_stepped rows in
+    let by_tree = zip_stepped (λ (b : Bool) (r : ℕ × List ℕ). value class b r.0 r.1) is_assigned (λ c. (ccc c, compatibility_decomposition c)) assigned rows in
     record {
       default = by_tree.default;
       steps = by_tree.steps;
-      gives = λ c. ap (λ class. value class (known_of c) (ccc c) (compatibility_decomposition c)) (tree_value-tree_of ccc canonical_combining_class_stepped) ∙ by_tree.gives c;
+      gives = λ c. ap (λ class. value class (is_assigned c) (ccc c) (compatibility_decomposition c)) (tree_value-tree_of ccc canonical_combining_class_stepped) ∙ by_tree.gives c;
     }
 
--- beyond the index nothing is told
-abbrev pub tail : List ℕ
-tail = 0x8800_0004 ∷ []
-
-trie_is : trie_ok 4 4 16 INDEX WORDS tail (runs_of (λ c. told c) told_stepped) ≡ true
+trie_is : trie_ok 4 4 16 INDEX WORDS TAIL (runs_of (λ c. told c) told_stepped) ≡ true
 unfolding tables told_stepped
 trie_is = refl
 
 pub is_trie : IsTrie 4 4 INDEX WORDS
-is_trie = trie_ok-IsTrie 4 4 16 INDEX WORDS tail _ trie_is
+is_trie = trie_ok-IsTrie 4 4 16 INDEX WORDS TAIL _ trie_is
+
+pub told-value : (c : ℕ) → c < 1114112 → trie_value 4 4 INDEX WORDS TAIL c ≡ told c
+told-value = trie_value-Stepped 4 4 16 INDEX WORDS TAIL (λ c. told c) told_stepped trie_is
+
+-- of each code point something is told
+some_stepped : Stepped (λ c. not (told c == 4))
+unfolding tables told_stepped
+some_stepped = map_stepped (λ v. not (v == 4)) told told_stepped
+
+always_some : always (λ c. not (told c == 4)) some_stepped ≡ true
+unfolding some_stepped
+always_some = refl
+
+pub told-some : (c : ℕ) → c < 1114112 → (told c == 4) ≡ false
+told-some c small = grind (arith, nat_tests, Stepped-always (λ c. not (told c == 4)) some_stepped always_some c)
 
 pub told-ascii : (c : ℕ) → c < 0x80 → told c ≡ 0
 unfolding tables told_stepped
@@ -92,17 +94,12 @@ told-ascii c low = eqb-true _ _ (Stepped-below told told_stepped (λ _ (v : ℕ)
 
 -- ---- the value of a code point by its block
 
-pub told-block : (b j : ℕ) → b < 4096 → j < 64 → block_value 4 4 WORDS (slice_index INDEX b) j ≡ told (64 * b + j)
+pub told-block : (b j : ℕ) → b < 3072 → j < 64 → block_value 4 4 WORDS (slice_index INDEX b) j ≡ told (64 * b + j)
 unfolding trie_value
 told-block b j small little =
     let block : (64 * b + j) / 64 ≡ b = omega arith in
     let place : (64 * b + j) % 64 ≡ j = omega arith in
-    rw (block, place, lt-ltb b 4096 small) at (trie_value-Stepped 4 4 16 INDEX WORDS tail (λ c. told c) told_stepped trie_is (64 * b + j) (omega arith))
-
--- four bits of a word, as they are read
-pub word-told : (code : ℕ) → code < 262144 → (slice_index WORDS (slice_index INDEX (code / 64) * 4 + code % 64 / 16) / 2 ^ (code % 64 % 16 * 4)) % 16 ≡ told code
-unfolding block_value
-word-told code small = told-block (code / 64) (code % 64) (omega arith) (omega arith) ∙ ap told (omega arith)
+    rw (block, place, lt-ltb b 3072 small) at (told-value (64 * b + j) (omega arith))
 
 -- ---- what a value tells
 
@@ -128,10 +125,10 @@ module _ (p : Properties) (w : List ℕ) where
 -- a value is below 16
 pub told-small : (c : ℕ) → told c < 16
 unfolding told
-told-small c = next (known_of c) (is_empty (compatibility_decomposition c)) (ccc c == 0) (value-row (classes ccc) (compatibility_decomposition c)).0
+told-small c = next (is_assigned c) (is_empty (compatibility_decomposition c)) (ccc c == 0) (value-row (classes ccc) (compatibility_decomposition c)).0
   where
-    next : (known : Bool × Bool) (empty zero : Bool) {n : ℕ} → n < 16 → cond known.0 (cond empty (cond zero (cond known.1 0 8) (cond known.1 5 4)) (cond known.1 n 4)) 4 < 16
-    next (near, assigned) empty zero few = grind arith
+    next : (assigned empty zero : Bool) {n : ℕ} → n < 16 → cond empty (cond zero (cond assigned 0 8) (cond assigned 5 4)) (cond assigned n 4) < 16
+    next assigned empty zero few = grind arith
 
 syllable_value : (c : ℕ) → is_syllable c ≡ true → row_value (classes ccc) (decompose_hangul c) ≡ 0
 syllable_value c syllable =
@@ -145,7 +142,7 @@ syllable_value c syllable =
     ]
 
 -- the value of a row, whether it is a mapping's, a syllable's or the character alone
-row_told : (c : ℕ) → value ccc (true, true) (ccc c) (compatibility_decomposition c) ≡ row_value (classes ccc) (decompose Nfkd c)
+row_told : (c : ℕ) → value ccc true (ccc c) (compatibility_decomposition c) ≡ row_value (classes ccc) (decompose Nfkd c)
 unfolding decompose
 row_told c =
     elim (cases_Bool (is_syllable c)) [
@@ -156,7 +153,7 @@ row_told c =
       | inr other ↦ next (compatibility_decomposition c) ∙ rw other
     ]
   where
-    next : (w : List ℕ) → value ccc (true, true) (ccc c) w ≡ row_value (classes ccc) (or_itself c w)
+    next : (w : List ℕ) → value ccc true (ccc c) w ≡ row_value (classes ccc) (or_itself c w)
     next [] = grind (arith, nat_tests)
     next (x ∷ w) = refl
 
@@ -168,17 +165,16 @@ alone _ _ m n v row is some = absurd (grind (arith, nat_tests))
 -- so a value other than 4 tells of the character
 pub told-valued : (c : ℕ) → is_sound ucd c ≡ true → (v : ℕ) → v ≡ told c → (v == 4) ≡ false → IsValued ucd c v
 unfolding told ucd
-told-valued c sound v is some = next (not (in_ranges untold c)) (is_assigned c) refl (compatibility_decomposition c) (row_told c) is
+told-valued c sound v is some = next (is_assigned c) refl (compatibility_decomposition c) (row_told c) is
   where
     says : Says ucd (decompose Nfkd c) (row_value (classes ccc) (decompose Nfkd c))
     says = value-row ucd (decompose Nfkd c)
 
-    next : (near assigned : Bool) → is_assigned c ≡ assigned → (w : List ℕ) → value ccc (true, true) (ccc c) w ≡ row_value (classes ccc) (decompose Nfkd c) → v ≡ value ccc (near, assigned) (ccc c) w → IsValued ucd c v
-    next false assigned told_so w row is = absurd (grind (arith, nat_tests))
-    next true true told_so w row is =
+    next : (assigned : Bool) → is_assigned c ≡ assigned → (w : List ℕ) → value ccc true (ccc c) w ≡ row_value (classes ccc) (decompose Nfkd c) → v ≡ value ccc assigned (ccc c) w → IsValued ucd c v
+    next true told_so w row is =
         let both = (rw (sym (is ∙ row)) at says).1 some in
         record { sound = sound; assigned = rw both.1 told_so; row = both.0 }
-    next true false told_so w row is =
+    next false told_so w row is =
         let both = alone (is_empty w) (ccc c == 0) _ _ v row is some in
         let none = ((rw both.1 at says).1 refl).0 in
         record {

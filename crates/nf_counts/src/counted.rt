@@ -30,8 +30,8 @@ impl<'t> Counted<'t> {
 }
 
 /// The front of the text of which one look-up for each character tells the non-starters, for the data of the Unicode Character
-/// Database: it ends before a character above U+3FFFF, and one with which more than 30 non-starters would stand in a row, or
-/// more than `room` before the first starter.
+/// Database: it ends before a character with which more than 30 non-starters would stand in a row, or more than `room` before
+/// the first starter.
 pub fn counted_front(room: u32, text: &str) -> Counted<'_>
     ensures { IsCountedFront ucd room text.now result }
 {

@@ -1,10 +1,10 @@
 //! What a text begins with, by its bytes.
 
-ghost use Rattle.std.specs.Prelude.{◌≡◌, ◌<◌, ◌≤◌, ℕ, length, slice_index, IfSome};
+ghost use Rattle.std.specs.Prelude.{◌≡◌, ◌<◌, ◌≤◌, ℕ, length, slice_index};
 ghost use Rattle.nf_forms.specs.Ucd.{ucd};
 ghost use Rattle.nf_counts.specs.Piece.{IsPiece};
 
-use crate::table::{NOTHING, value};
+use crate::table::value;
 use nf_facts::laws;
 use nf_utf8::ascii_prefix;
 
@@ -16,33 +16,31 @@ pub(crate) struct Piece {
     pub value: u32,
 }
 
-/// What a text begins with, where that is ASCII, or a character of which the value tells something.
+/// What a text that is not empty begins with: ASCII, or a character.
 #[inline(always)]
-pub(crate) fn first_piece(text: &str) -> Option<Piece>
-    ensures { IfSome result (λ piece. IsPiece ucd text.now piece) }
+pub(crate) fn first_piece(text: &str) -> Piece
+    requires { 0 < length text.now }
+    ensures { IsPiece ucd text.now result }
 {
     laws::every_character_is_sound();
     let bytes = text.as_bytes();
-    if bytes.is_empty() {
-        return None;
-    }
     if bytes[0] >= 0x80 {
         return first_character(text, if bytes.len() > 2 { bytes[2] } else { 0 });
     }
-    Some(Piece {
+    Piece {
         len: ascii_prefix(bytes),
         value: 0,
-    })
+    }
 }
 
-/// The character that a text begins with, where it is not ASCII and its value tells something; `third` is the third byte of the
-/// text, if it has one.
+/// The character that a text begins with, where it is not ASCII; `third` is the third byte of the text, if it has one, so that
+/// no branch hangs on whether there are two or three.
 #[inline(always)]
-pub(crate) fn first_character(text: &str, third: u8) -> Option<Piece>
+pub(crate) fn first_character(text: &str, third: u8) -> Piece
     requires high { 0x80 ≤ slice_index text.now 0 }
     requires third { 2 < length text.now → third ≡ slice_index text.now 2 }
-    ensures piece { IfSome result (λ piece. IsPiece ucd text.now piece) }
-    ensures one { IfSome result (λ piece. (k : ℕ) → 0 < k → k < piece.len → slice_index text.now k < 0xC0) }
+    ensures piece { IsPiece ucd text.now result }
+    ensures one { (k : ℕ) → 0 < k → k < result.len → slice_index text.now k < 0xC0 }
 {
     let bytes = text.as_bytes();
     let lead = bytes[0];
@@ -54,9 +52,8 @@ pub(crate) fn first_character(text: &str, third: u8) -> Option<Piece>
     } else {
         (2, bits / 64)
     };
-    let value = value(code);
-    if value == NOTHING {
-        return None;
+    Piece {
+        len,
+        value: value(code),
     }
-    Some(Piece { len, value })
 }

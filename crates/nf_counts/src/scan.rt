@@ -5,7 +5,7 @@ use crate::piece::{Piece, first_character, first_piece};
 use crate::window::Window;
 use nf_facts::laws;
 
-/// So many bytes at the front of a text are asked piece by piece: where little is told, no window is read.
+/// So many bytes at the front of a text are asked piece by piece: where a run soon gets too long, no window is read.
 const PIECEWISE_LEN: usize = 16;
 
 /// A place in a text, up to which its non-starters are counted.
@@ -18,7 +18,7 @@ pub(crate) struct Scan<'t> {
 }
 
 impl<'t> Scan<'t> {
-    ghost use Rattle.std.specs.Prelude.{◌≡◌, ◌<◌, ◌+◌, ℕ, length, drop, true, false, IsTrue};
+    ghost use Rattle.std.specs.Prelude.{◌≡◌, ◌<◌, ◌+◌, ℕ, length, drop, true, IsTrue};
     ghost use Rattle.std.specs.Str.{IsCharBoundary};
     ghost use Rattle.nf_forms.specs.Ucd.{ucd};
     ghost use Rattle.nf_counts.specs.Piece.{IsPiece};
@@ -38,7 +38,7 @@ impl<'t> Scan<'t> {
         }
     }
 
-    /// Goes on as far as values tell something, no run gets too long, and no more than `room` non-starters stand before the first
+    /// Goes on as far as no run gets too long, and no more than `room` non-starters stand before the first
     /// starter.
     #[inline(always)]
     pub fn pass_all(&mut self, room: u32)
@@ -52,7 +52,7 @@ impl<'t> Scan<'t> {
         }
     }
 
-    /// Goes on piece by piece, until so many bytes stand before the place or nothing is told; answers whether there may be more.
+    /// Goes on piece by piece, until so many bytes stand before the place; answers whether there may be more.
     #[inline(always)]
     fn pass_pieces(&mut self, to: usize, room: u32) -> bool
         requires reaches { Reaches ucd room self.old }
@@ -61,17 +61,14 @@ impl<'t> Scan<'t> {
         ensures reaches { Reaches ucd room self.new }
     {
         while self.at < to {
-            let Some(piece) = first_piece(&self.text[self.at..]) else {
-                return false;
-            };
-            if !self.pass(piece, room) {
+            if !self.pass(first_piece(&self.text[self.at..]), room) {
                 return false;
             }
         }
         true
     }
 
-    /// Goes on by windows, as far as there are bytes for one or nothing is told; answers whether there may be more.
+    /// Goes on by windows, as far as there are bytes for one; answers whether there may be more.
     #[inline(always)]
     fn pass_windows(&mut self, room: u32) -> bool
         requires reaches { Reaches ucd room self.old }
@@ -104,10 +101,7 @@ impl<'t> Scan<'t> {
         let mut window = Window::new(text, base);
         while let Some(place) = window.next() {
             let third = text.as_bytes()[place + 2];
-            let Some(character) = first_character(&text[place..], third) else {
-                self.pass_plain(place, room);
-                return false;
-            };
+            let character = first_character(&text[place..], third);
             if !self.pass_both(place, character, room) {
                 return false;
             }
@@ -115,8 +109,8 @@ impl<'t> Scan<'t> {
         true
     }
 
-    /// Goes on after a place before which none is looked up, and the character there, if it may: in one where that is starters
-    /// with marks after them, since what stands before counts nothing.
+    /// Goes on after a place before which none is looked up, and the character there, if it may. What stands between is starters,
+    /// that count nothing: marks after them are as those of a starter.
     #[inline(always)]
     fn pass_both(&mut self, place: usize, character: Piece, room: u32) -> bool
         requires reaches { Reaches ucd room self.old }
@@ -129,12 +123,16 @@ impl<'t> Scan<'t> {
         ensures reaches { Reaches ucd room self.new }
     {
         laws::every_character_is_sound();
-        if character.value >= 4 {
-            self.pass_plain(place, room);
-            return self.pass(character, room);
-        }
         let len = place - self.at + character.len;
         let value = character.value;
+        if value < 4 {
+            return self.pass(Piece { len, value }, room);
+        }
+        let value = if self.at < place && value < 8 {
+            value % 4
+        } else {
+            value
+        };
         self.pass(Piece { len, value }, room)
     }
 

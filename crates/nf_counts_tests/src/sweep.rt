@@ -21,8 +21,8 @@ fn counts_of(counted: &Counted) -> Counts {
     )
 }
 
-/// The same with the character `c` more, by each member of its compatibility decomposition; none above U+3FFFF.
-fn with_char(now: Counts, c: char) -> Option<Counts> {
+/// The same with the character `c` more, by each member of its compatibility decomposition.
+fn with_char(now: Counts, c: char) -> Counts {
     let (mut nonstarters, mut longest, mut lead, mut trail, mut has_starter, unassigned) = now;
     let mut room = [c; 3];
     for member in lookup::decomposition(c, Form::Nfkd, &mut room) {
@@ -38,7 +38,7 @@ fn with_char(now: Counts, c: char) -> Option<Counts> {
     }
     let is_unassigned = GeneralCategory::for_char(c) == GeneralCategory::Unassigned;
     let unassigned = unassigned.saturating_add(u64::from(is_unassigned));
-    (c < '\u{40000}').then_some((nonstarters, longest, lead, trail, has_starter, unassigned))
+    (nonstarters, longest, lead, trail, has_starter, unassigned)
 }
 
 /// What is counted of the characters, one by one, and how many they are.
@@ -46,9 +46,7 @@ fn counted_plainly(room: u32, chars: &[char]) -> (usize, Counts) {
     let mut now: Counts = (0, 0, 0, 0, false, 0);
     let mut count = 0usize;
     for c in chars {
-        let Some(next) = with_char(now, *c) else {
-            break;
-        };
+        let next = with_char(now, *c);
         if next.1 > 30 || next.2 > room {
             break;
         }
@@ -58,7 +56,7 @@ fn counted_plainly(room: u32, chars: &[char]) -> (usize, Counts) {
     (count, now)
 }
 
-/// Each alone: up to U+3FFFF all are counted.
+/// Each alone: all are counted.
 #[test]
 fn characters_are_counted_by_their_decompositions(rt: HostRuntime) -> Result<(), Fail> {
     for code in 0..0x11_0000u32 {
@@ -99,9 +97,8 @@ fn characters_are_counted_among_letters(rt: HostRuntime) -> Result<(), Fail> {
         let text = str::from_utf8(&bytes).expect(&rt, "text");
         let counted = counted_front(30, text);
         let letters: Counts = (0, 0, 0, 0, true, 0);
-        let (len, counts) = with_char(letters, c).map_or((place, letters), |next| (160, next));
-        assert_eq!(rt; counted.front.len(), len, "{code:x}");
-        let (nonstarters, longest, lead, _, has_starter, unassigned) = counts;
+        assert_eq!(rt; counted.front.len(), 160, "{code:x}");
+        let (nonstarters, longest, lead, _, has_starter, unassigned) = with_char(letters, c);
         assert_eq!(rt;
             counts_of(&counted),
             (nonstarters, longest, lead, 0, has_starter, unassigned),
@@ -111,7 +108,7 @@ fn characters_are_counted_among_letters(rt: HostRuntime) -> Result<(), Fail> {
     Ok(())
 }
 
-const SOME: [char; 29] = [
+const SOME: [char; 32] = [
     'a',
     ' ',
     'b',
@@ -141,6 +138,9 @@ const SOME: [char; 29] = [
     '\u{3300}',
     '\u{3310}',
     '\u{40000}',
+    '\u{E0100}',
+    '\u{F0000}',
+    '\u{10FFFF}',
 ];
 
 /// Up to 200 characters, drawn from some, each a few times in a row, so that there are runs of ASCII and of marks.
@@ -149,7 +149,7 @@ fn fronts_are_counted_as_their_characters(rt: HostRuntime) -> Result<(), Fail> {
     let mut seeded = Seeded::new(26);
     for turn in 0..3000u32 {
         let mut chars = ['a'; 200];
-        let kinds = 1 + seeded.below(29);
+        let kinds = 1 + seeded.below(32);
         let mut c = 'a';
         for at in 0..200usize {
             if seeded.below(9) < 2 + turn % 7 {

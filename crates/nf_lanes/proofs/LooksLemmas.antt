@@ -51,6 +51,15 @@ pub record Tells (least low : ℕ) (P : ℕ → Type 0) (known : Known least low
   pub of_three : all_below (λ k. all_below (three_told finds known.whole known.is k) 64) 16 ≡ true
   pub of_four : all_below (four_looked_up finds) 5 ≡ true
 
+-- what a character that stands at the front of these bytes begins with
+begins : (least low : ℕ) (P : ℕ → Type 0) → Known least low P → (c : ℕ) (more : List ℕ) → low ≤ c → least ≤ slice_index (encode_utf8 c ++ more) 0
+begins least low P known c more some = at (order c 2048) (order c 65536)
+  where
+    at : (c < 2048) ⊎ (2048 ≤ c) → (c < 65536) ⊎ (65536 ≤ c) → least ≤ slice_index (encode_utf8 c ++ more) 0
+    at (inl small) _ = rw (two c (omega (arith, known.ascii)) small) (omega (arith, known.of_low))
+    at (inr large) (inl small) = rw (three c large small) (omega (arith, known.is_low))
+    at (inr _) (inr large) = rw (four c large) (omega (arith, known.is_low))
+
 module _ (least low : ℕ) (P : ℕ → Type 0) (known : Known least low P) (finds : ℕ → ℕ → Bool) (tells : Tells least low P known finds) where
   by_two : (k i : ℕ) → k < 32 → i < 64 → finds (192 + k) (128 + i) ≡ false → P (64 * k + i)
   by_two k i short little none =
@@ -63,15 +72,6 @@ module _ (least low : ℕ) (P : ℕ → Type 0) (known : Known least low P) (fin
       let same : b % 64 ≡ i = omega arith in
       let here = all_below-at _ 64 i (all_below-at (λ k. all_below (three_told finds known.whole known.is k) 64) 16 k tells.of_three short) little in
       grind (arith, nat_tests, known.in_block b j, known.in_place b j, all_below-at (third_told finds known.whole known.is b) 64 j)
-
-  -- what a character that stands at the front of these bytes begins with
-  begins : (c : ℕ) (more : List ℕ) → low ≤ c → least ≤ slice_index (encode_utf8 c ++ more) 0
-  begins c more some = at (order c 2048) (order c 65536)
-    where
-      at : (c < 2048) ⊎ (2048 ≤ c) → (c < 65536) ⊎ (65536 ≤ c) → least ≤ slice_index (encode_utf8 c ++ more) 0
-      at (inl small) _ = rw (two c (omega (arith, known.ascii)) small) (omega (arith, known.of_low))
-      at (inr large) (inl small) = rw (three c large small) (omega (arith, known.is_low))
-      at (inr _) (inr large) = rw (four c large) (omega (arith, known.is_low))
 
   by_told : (c : ℕ) (more : List ℕ) → c < 1114112 → low ≤ c → NoneFound finds (encode_utf8 c ++ more) 0 → P c
   by_told c more scalar some told = at (order c 2048) (order c 65536)
@@ -90,27 +90,30 @@ module _ (least low : ℕ) (P : ℕ → Type 0) (known : Known least low P) (fin
           let found = all_below-at (λ i. finds (240 + c / 262144) (128 + i)) 64 (c / 4096 % 64) (all_below-at (four_looked_up finds) 5 (c / 262144) tells.of_four (omega arith)) (omega arith) in
           cc
 
--- of each character of a text one of two tells
-module _ (least low : ℕ) (P : ℕ → Type 0) (known : Known least low P) (finds others : ℕ → ℕ → Bool) (tells : Tells least low P known finds) (tell : Tells least low P known others) where
-  abbrev EitherTold : List ℕ → ℕ → Type 0
-  EitherTold text n = (k : ℕ) → k < n → least ≤ slice_index text k → NoneFound finds text k ⊎ NoneFound others text k
+-- of each character of a text one of some tests tells
+module _ (least low : ℕ) (P : ℕ → Type 0) (known : Known least low P) (I : Type 0) (finds : I → ℕ → ℕ → Bool) (tells : (i : I) → Tells least low P known (finds i)) where
+  abbrev AreTold : List ℕ → ℕ → Type 0
+  AreTold text n = (k : ℕ) → k < n → least ≤ slice_index text k → (i : I) × NoneFound (finds i) text k
 
   -- of so many after a piece
-  told_after : (piece rest : List ℕ) (n m : ℕ) → length piece + n ≤ m → EitherTold (piece ++ rest) m → EitherTold rest n
+  told_after : (piece rest : List ℕ) (n m : ℕ) → length piece + n ≤ m → AreTold (piece ++ rest) m → AreTold rest n
   told_after piece rest n m short told k inside high =
-      simp add_assoc ((simp (add_assoc, get_or-append-add) at (told (length piece + k))) (omega arith) high)
+      let at = told (length piece + k) (omega arith) (rw get_or-append-add high) in
+      (at.0, simp add_assoc (simp (add_assoc, get_or-append-add) at at.1))
 
-  told_chars : (cs more : List ℕ) → all_scalars cs ≡ true → EitherTold (encode_utf8_all cs ++ more) (length (encode_utf8_all cs)) → All P cs
+  told_chars : (cs more : List ℕ) → all_scalars cs ≡ true → AreTold (encode_utf8_all cs ++ more) (length (encode_utf8_all cs)) → All P cs
   told_chars [] more scalars told = All-nil P
   told_chars (c ∷ cs) more scalars told =
       let both = and_parts (scalar c) (all_scalars cs) scalars in
       let fits : c < 1114112 = grind (arith, scalar_cases c) in
       let here = rw (append_assoc, length-append) at told in
       let first = told_after [] _ (length (encode_utf8 c)) _ (omega arith) here 0 (omega (arith, length-le-encodes (c ∷ []), length-append (encode_utf8 c) [])) in
-      All-cons P c cs (⊎_elim (known.below c) (λ some. ⊎_elim (by_told least low P known finds tells c _ fits some) (by_told least low P known others tell c _ fits some) (first (begins least low P known finds tells c _ some))) (order c low)) (told_chars cs more both.1 (told_after (encode_utf8 c) _ _ _ (omega arith) here))
+      All-cons P c cs
+      (⊎_elim (known.below c) (λ some. let at = first (begins least low P known c _ some) in by_told least low P known (finds at.0) (tells at.0) c _ fits some at.1) (order c low))
+      (told_chars cs more both.1 (told_after (encode_utf8 c) _ _ _ (omega arith) here))
 
   -- a front that ends between two characters
-  pub told_front : (text : List ℕ) (n m : ℕ) → IsUtf8 text → IsCharBoundary text n → n ≤ m → EitherTold text m → All P (chars (take n text))
+  pub told_front : (text : List ℕ) (n m : ℕ) → IsUtf8 text → IsCharBoundary text n → n ≤ m → AreTold text m → All P (chars (take n text))
   told_front text n m u boundary short told =
       let front_utf8 = IsUtf8-take text n u boundary in
       told_chars _ (drop n text) (scalars-chars _ front_utf8)

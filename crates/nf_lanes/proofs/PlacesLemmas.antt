@@ -1,9 +1,11 @@
 -- 16 places, what is read from them, and the first whose bit is set.
-use Rattle.std.proofs.Common.{◌≡◌, ℕ, zero, suc, ◌+◌, ◌-◌, ◌*◌, ◌<◌, ◌≤◌, Bool, false, not, cond, List, map, length, get_or, eqb, refl, sym, ap, ◌∙◌, arith}
+use Rattle.std.proofs.Common.{◌≡◌, ℕ, zero, suc, ◌+◌, ◌-◌, ◌*◌, ◌<◌, ◌≤◌, ◌==◌, Bool, false, not, cond, bit_or, List, map, length, get_or, eqb, refl, sym, ap, ◌∙◌, arith}
 use Rattle.std.specs.List.{prefix_len, range_with_len}
 use Rattle.std.proofs.lemmas.List.Sums.{prefix_len-le-length, prefix_len_passes, prefix_len_stops}
 use Rattle.std.specs.Int.{bit_at}
+use Rattle.std.proofs.lemmas.Bool.Decides.{nat_tests}
 use Rattle.std.proofs.lemmas.List.{get_or-map, length-map}
+use Rattle.std.proofs.lemmas.Nat.{le_or_l, le_or_r}
 use Rattle.std.proofs.lemmas.Nat.Bits.{bit_at_cat_low, bit_at_cat_high}
 use Rattle.std.proofs.lemmas.List.FromFn.{get_or-range_with_len, length-range_with_len}
 use Rattle.std.proofs.lemmas.Simd.{map-map, pick_l-range_with_len, first_set_mask_l, mask_l-lt, bit_mask_l}
@@ -60,6 +62,27 @@ module _ (p : ℕ → Bool) (at found : ℕ) (is : found ≡ bits_at p at) where
       clear : (from n : ℕ) → NonePass p from n → mask_l (map p (range_with_len from n)) ≡ 0
       clear from zero none = refl
       clear from (suc n) none = rw (none from (omega arith) (omega arith), clear (from + 1) n (λ k low high. none k (omega arith) (omega arith)))
+
+-- what four places, 16 from one another, have together
+abbrev of_four : (ℕ → ℕ) → ℕ → ℕ
+of_four h k = bit_or (bit_or (bit_or (h k) (h (k + 16))) (h (k + 32))) (h (k + 48))
+
+module _ (h : ℕ → ℕ) (at found : ℕ) (is : found ≡ bits_at (λ k. not (of_four h k == 0)) at) where
+  all_zero : (a b c d : ℕ) → bit_or (bit_or (bit_or a b) c) d ≡ 0 → (a ≡ 0) × (b ≡ 0) × (c ≡ 0) × (d ≡ 0)
+  all_zero a b c d e =
+      let three = le_or_l (bit_or (bit_or a b) c) d in
+      let two = le_or_l (bit_or a b) c in
+      (omega (arith, e, three, two, le_or_l a b), omega (arith, e, three, two, le_or_r a b), omega (arith, e, three, le_or_r (bit_or a b) c), omega (arith, e, le_or_r (bit_or (bit_or a b) c) d))
+
+  of_place : found ≡ 0 → (k : ℕ) → at ≤ k → k < at + 16 → (h k ≡ 0) × (h (k + 16) ≡ 0) × (h (k + 32) ≡ 0) × (h (k + 48) ≡ 0)
+  of_place none k low high = all_zero _ _ _ _ (grind (arith, nat_tests, none_from_zero (λ k. not (of_four h k == 0)) at found is none k))
+
+  pub none_from_four : found ≡ 0 → NonePass (λ k. not (h k == 0)) at 64
+  none_from_four none k low high = grind (arith, nat_tests, of_place none k, of_place none (k - 16), of_place none (k - 32), of_place none (k - 48))
+
+  pub four_from_none : NonePass (λ k. not (h k == 0)) at 64 → found ≡ 0
+  four_from_none none =
+      zero_from_none _ at found is (λ k low high. grind (arith, nat_tests, none k, none (k + 16), none (k + 32), none (k + 48)))
 
 pub bits_at-below : (p : ℕ → Bool) (at : ℕ) → bits_at p at < 65536
 bits_at-below p at = rw (length-map, length-places at) at (mask_l-lt (map p (places at)))

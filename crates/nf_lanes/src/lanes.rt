@@ -27,7 +27,7 @@ pub fn bits_of_either(lanes: u8x16, others: u8x16, mask: u8) -> u64
 
 /// A bit for each byte from `at` on that is `least` or above.
 #[inline(always)]
-pub fn at_least(least: u8, bytes: &[u8], at: usize) -> u64
+pub(crate) fn at_least(least: u8, bytes: &[u8], at: usize) -> u64
     requires room { at + 16 ≤ length bytes.now }
     ensures { result ≡ bits_at (λ k. nat_le least (slice_index bytes.now k)) at }
 {
@@ -47,12 +47,13 @@ pub fn before(bits: u64) -> usize
     }
 }
 
-/// Whether no bit is set of four times 16 places, one after the other.
+/// Whether all lanes are 0 of four times 16 places, one after the other.
 #[inline(always)]
-pub fn none_of(first: u64, second: u64, third: u64, last: u64) -> bool
-    ensures { (p : ℕ → Bool) (at : ℕ) → first ≡ bits_at p at → second ≡ bits_at p (at + 16) → third ≡ bits_at p (at + 32) → last ≡ bits_at p (at + 48) → (IsTrue result ↔ NonePass p at 64) }
+pub fn none_of(first: u8x16, second: u8x16, third: u8x16, last: u8x16) -> bool
+    ensures { (h : ℕ → ℕ) (at : ℕ) → first ≡ map h (places at) → second ≡ map h (places (at + 16)) → third ≡ map h (places (at + 32)) → last ≡ map h (places (at + 48))
+        → (IsTrue result ↔ NonePass (λ k. not (h k == 0)) at 64) }
 {
-    (first == 0) & (second == 0) & (third == 0) & (last == 0)
+    bits(first | second | third | last) == 0
 }
 
 /// The bits of four times 16 places, one after the other, as those of 64.

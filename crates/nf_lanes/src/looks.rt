@@ -24,10 +24,10 @@ pub fn none_found(family: &Pairs, bytes: &[u8], at: usize) -> bool
     ensures { IsTrue result → (k : ℕ) → k < 63 → NoneFound (is_in family.now) bytes.now (at + k) }
 {
     none_of(
-        set_bits(family, bytes, at),
-        set_bits(family, bytes, at + 16),
-        set_bits(family, bytes, at + 32),
-        set_bits(family, bytes, at + 48),
+        pair_sets(family, bytes, at),
+        pair_sets(family, bytes, at + 16),
+        pair_sets(family, bytes, at + 32),
+        pair_sets(family, bytes, at + 48),
     )
 }
 

@@ -120,7 +120,7 @@ fn goes_on_from_the_end_of_a_text(rt: HostRuntime) {
     }
 }
 
-/// The front ends before the character at which the text leaves the format, and before one of which nothing is known.
+/// The front ends before the character at which the text leaves the format.
 #[test]
 fn a_front_is_checked_by_look_ups(rt: HostRuntime) {
     // Marks that are seen one by one, a text after them, what is left of it, and the answer to one more mark after that.
@@ -129,7 +129,7 @@ fn a_front_is_checked_by_look_ups(rt: HostRuntime) {
         (30, "ab\u{4E2D}\u{301}", "", Ok(None)),
         (29, "\u{301}", "", place(30, 160)),
         (29, "\u{301}\u{301}a", "\u{301}a", place(30, 160)),
-        (3, "\u{301}\u{40000}", "\u{40000}", Ok(None)),
+        (3, "\u{301}\u{40000}", "", Ok(None)),
         (30, "\u{378}\u{3310}", "", Ok(None)),
         (30, "\u{FF9E}", "\u{FF9E}", place(30, 160)),
     ];

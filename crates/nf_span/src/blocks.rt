@@ -2,7 +2,7 @@ ghost use Rattle.std.specs.Prelude.{◌≡◌, ◌<◌, ◌≤◌, ◌+◌, ℕ,
 ghost use Rattle.nf_lanes.specs.Lanes.{NonePass};
 ghost use Rattle.nf_span.specs.Leads.{wants_look};
 
-use crate::lanes::looks;
+use crate::lanes::leads;
 use nf_forms::Form;
 use nf_lanes::none_of;
 use nf_utf8::ascii_prefix;
@@ -31,9 +31,9 @@ fn is_plain(form: Form, bytes: &[u8], at: usize) -> bool
     ensures { IsTrue result ↔ NonePass (λ k. wants_look form (slice_index bytes.now k)) at 64 }
 {
     none_of(
-        looks(form, bytes, at),
-        looks(form, bytes, at + 16),
-        looks(form, bytes, at + 32),
-        looks(form, bytes, at + 48),
+        leads(form, bytes, at),
+        leads(form, bytes, at + 16),
+        leads(form, bytes, at + 32),
+        leads(form, bytes, at + 48),
     )
 }

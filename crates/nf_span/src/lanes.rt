@@ -121,7 +121,7 @@ fn asked_run(form: Form, bytes: &[u8], at: usize, run: usize) -> usize
 
 /// A bit for each byte from `at` on, the lowest for the first: whether a character that begins with it has to be looked up.
 #[inline(always)]
-pub(crate) fn looks(form: Form, bytes: &[u8], at: usize) -> u64
+fn looks(form: Form, bytes: &[u8], at: usize) -> u64
     requires room { at + 16 ≤ length bytes.now }
     ensures { result ≡ bits_at (λ k. wants_look form (slice_index bytes.now k)) at }
 {
@@ -166,7 +166,7 @@ fn triple_looks(form: Form, triples: &Triples, bytes: &[u8], at: usize) -> u64
 
 /// The rows in which the byte at each place from `at` on begins a character that has to be looked up.
 #[inline(always)]
-fn leads(form: Form, bytes: &[u8], at: usize) -> u8x16
+pub(crate) fn leads(form: Form, bytes: &[u8], at: usize) -> u8x16
     requires room { at + 16 ≤ length bytes.now }
     ensures { result ≡ map (λ k. lead_bits form (slice_index bytes.now k)) (places at) }
 {

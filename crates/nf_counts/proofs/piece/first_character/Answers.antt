@@ -1,9 +1,8 @@
 use Rattle.std.proofs.Common.{◌≡◌, ⊎_elim, [], ◌∷◌, append-nil, arith}
-use Rattle.std.proofs.lemmas.Bool.{ne_eqb}
 use Rattle.std.proofs.lemmas.Bool.Decides.{nat_tests}
 use Rattle.nf_counts.proofs.PieceLemmas.{HasCode, two_spell, three_spell, four_spell, first_of, boundary}
 use Rattle.nf_counts.proofs.piece.first_character.Goals as goal
-use Rattle.nf_counts.proofs.piece.first_character.Goals.{Else-value-eq-NOTHING, then-lead-ge240, else-lead-ge240+then-lead-ge224, else-lead-ge240+else-lead-ge224}
+use Rattle.nf_counts.proofs.piece.first_character.Goals.{After-value, then-lead-ge240, else-lead-ge240+then-lead-ge224, else-lead-ge240+else-lead-ge224}
 
 pub bounds-bytes-1 : goal.bounds-bytes-1
 bounds-bytes-1 c =
@@ -23,7 +22,17 @@ bounds-bytes-3 c =
     (first_of c.args.text.now c.utf8.text c.requires.high)
     )
 
-character : (c : Else-value-eq-NOTHING) → HasCode c.args.text.now c.if-lead-ge240.len.0 c.if-lead-ge240.len.1
+pub value-requires : goal.value-requires
+value-requires c =
+    let text = c.args.text.now in
+    ⊎_elim
+    (λ two. grind (arith, two.0))
+    (⊎_elim
+    (λ three. grind (arith, three.1))
+    (λ four. let is : c.if-lead-ge240.len.1 ≡ four_spell text = grind (arith, four.0, (boundary _ _ _ four.1.begins).0) in rw is four.1.fits))
+    (first_of text c.utf8.text c.requires.high)
+
+character : (c : After-value) → HasCode c.args.text.now c.if-lead-ge240.len.0 c.if-lead-ge240.len.1
 character c =
     let text = c.args.text.now in
     ⊎_elim
@@ -40,12 +49,12 @@ character c =
 pub returns-clause-piece : goal.returns-clause-piece
 returns-clause-piece c =
     let here = character c in
-    let valued = c.value-value.ensures.valued (ne_eqb _ 4 c.if-value-eq-NOTHING.false) in
+    let valued = c.value.ensures.valued in
     record {
       chars = c.if-lead-ge240.len.1 ∷ [];
       begins = here.begins;
       some = grind arith;
-      within = c.value-value.ensures.within;
+      within = c.value.ensures.within;
       sound = rw valued.sound;
       unassigned = grind (arith, nat_tests, valued.assigned);
       row = rw append-nil valued.row;

@@ -3,16 +3,6 @@ use Rattle.std.proofs.lemmas.List.{get_or-drop}
 use Rattle.nf_counts.proofs.WindowLemmas.{stands, begins_at}
 use Rattle.nf_counts.proofs.scan.Scan.pass_window.Goals as goal
 
-pub pass_plain-requires : goal.pass_plain-requires
-pass_plain-requires c =
-    let next = c.in-Some.ensures.next _ _ c.loop-place.invariant.left in
-    record {
-      reaches = c.loop-place.invariant.reaches;
-      order = next.order;
-      boundary = rw c.loop-place.invariant.text (begins_at _ _ next.lead);
-      told = rw c.loop-place.invariant.text next.told;
-    }
-
 pub pass_both-requires : goal.pass_both-requires
 pass_both-requires c =
     let next = c.in-Some.ensures.next _ _ c.loop-place.invariant.left in
@@ -21,7 +11,7 @@ pass_both-requires c =
       order = next.order;
       boundary = rw c.loop-place.invariant.text (begins_at _ _ next.lead);
       told = rw c.loop-place.invariant.text next.told;
-      piece = rw (c.loop-place.invariant.text, ← c.range_from.ensures.value) c.in-Some-first_character.ensures.piece;
+      piece = rw (c.loop-place.invariant.text, ← c.range_from.ensures.value) c.first_character-character.ensures.piece;
     }
 
 pub overflow_add-third : goal.overflow_add-third
@@ -34,20 +24,20 @@ bounds-as_bytes-place c =
 pub range_from-requires : goal.range_from-requires
 range_from-requires c = λ _. begins_at _ _ (c.in-Some.ensures.next _ _ c.loop-place.invariant.left).lead
 
-pub first_character-requires-clause-high : goal.first_character-requires-clause-high
-first_character-requires-clause-high c = rw (c.range_from.ensures.value, get_or-drop) (grind (arith, (c.in-Some.ensures.next _ _ c.loop-place.invariant.left).lead))
+pub first_character-character-requires-clause-high : goal.first_character-character-requires-clause-high
+first_character-character-requires-clause-high c = rw (c.range_from.ensures.value, get_or-drop) (grind (arith, (c.in-Some.ensures.next _ _ c.loop-place.invariant.left).lead))
 
 pub loop-place-smaller : goal.loop-place-smaller
 loop-place-smaller c =
     let next = c.in-Some.ensures.next _ _ c.loop-place.invariant.left in
-    omega (arith, stands c.args.self.now.text.now c.in-Some.place next.lead, c.pass_both.ensures.further c.if-not-pass_both.false, c.in-Some-first_character.ensures.piece.some)
+    omega (arith, stands c.args.self.now.text.now c.in-Some.place next.lead, c.pass_both.ensures.further c.if-not-pass_both.false, c.first_character-character.ensures.piece.some)
 
 pub loop-place-preserved : goal.loop-place-preserved
 loop-place-preserved c =
     let text = c.args.self.now.text.now in
     let place = c.in-Some.place in
-    let character = c.in-Some-first_character.ensures in
-    let there : c.pass_both.new.self.at ≡ place + c.in-Some-first_character.character.len = omega (arith, c.pass_both.ensures.further c.if-not-pass_both.false) in
+    let character = c.first_character-character.ensures in
+    let there : c.pass_both.new.self.at ≡ place + c.first_character-character.result.len = omega (arith, c.pass_both.ensures.further c.if-not-pass_both.false) in
     let one = rw c.range_from.ensures.value at character.one in
     record {
       text = cc;
