@@ -1,4 +1,5 @@
 ghost use Rattle.std.specs.Prelude.{◌≡◌, ◌↔◌, ◌+◌, ◌<◌, ◌≤◌, ℕ, List, ◌++◌, length, chars, None, IsTrue, IfErr};
+ghost use Rattle.nf_forms.specs.declared.form.Form.TheVariants.{Nfc};
 ghost use Rattle.nf_span.specs.Front.{IsFirstSpan};
 ghost use Rattle.nf_filter.specs.Surveys.{Surveys, IsOfSurvey, IsCut};
 ghost use Rattle.nf_filter.specs.Checks.{check_decision, no_place, ends_at, HasChecked};
@@ -106,7 +107,7 @@ impl Taker for Checker {
     ghost undecided = { checked_undecided };
 }
 
-/// A checker that looks for a span.
+/// A checker that looks for spans in NFC.
 #[derive(Drop)]
 struct SpanChecker {
     checker: Checker,
@@ -134,11 +135,13 @@ impl Taker for SpanChecker {
         at: u64,
         text: &'t str,
     ) -> Result<&'t str, Decision> {
-        if let Some((form, span)) = self.search.front(rows, text) {
-            pass_span(&mut self.checker, rows, at, form, span);
+        let span = rows.first_span(Form::Nfc, text);
+        self.search.found(text.len() - span.rest.len());
+        if !span.tail.is_empty() {
+            pass_span(&mut self.checker, rows, at, span);
             return Ok(span.rest);
         }
-        let (window, rest) = text.split_at(text.ceil_char_boundary(self.search.most));
+        let (window, rest) = text.split_at(text.ceil_char_boundary(self.search.window_len));
         match take_text(&mut self.checker, rows, at, window) {
             None => Ok(rest),
             Some(decision) => Err(decision),
@@ -152,69 +155,45 @@ impl Taker for SpanChecker {
     ghost undecided = { λ p span. checked_undecided p span.checker };
 }
 
-/// Where at least so many bytes were a span, it is asked again after them.
-const WORTH: usize = 8;
+/// Where fewer bytes were a span, it is asked less often.
+const MIN_SPAN_LEN: usize = 256;
 
 /// At least so many bytes are seen before it is asked again, and at most.
-const MIN_WINDOW_LEN: usize = 8;
+const MIN_WINDOW_LEN: usize = 64;
 
-const MANY: usize = 256;
+const MAX_WINDOW_LEN: usize = 4096;
 
 /// How a span is looked for: the longer little was found, the less often.
 #[derive(Clone, Copy)]
 struct Search {
-    /// The form that is asked: composed text is a span in NFC, decomposed text in NFD. Where little was found, the other.
-    form: Form,
     /// Where nothing is a span, a window of so many bytes is seen without a search.
-    most: usize,
-    ghost some: { 0 < most },
+    window_len: usize,
+    ghost some: { 0 < window_len },
 }
 
 impl Search {
-    ghost use Rattle.std.specs.Prelude.{◌<◌, length, IfSome};
-    ghost use Rattle.nf_span.specs.Front.{IsFirstSpan};
-
     const fn new() -> Search {
         Search {
-            form: Form::Nfc,
-            most: MIN_WINDOW_LEN,
+            window_len: MIN_WINDOW_LEN,
         }
-    }
-
-    /// The span that a text begins with, and its form, where there is one.
-    fn front<'t, R: Rows>(&mut self, rows: &R, text: &'t str) -> Option<(Form, Span<'t>)>
-        ensures span { IfSome result (λ found. IsFirstSpan (R.properties rows.now) found.0 text.now found.1.settled.now found.1.tail.now found.1.rest.now) }
-        ensures some { IfSome result (λ found. 0 < length found.1.tail.now) }
-    {
-        let form = self.form;
-        let span = rows.first_span(form, text);
-        self.found(text.len() - span.rest.len());
-        if span.tail.is_empty() {
-            return None;
-        }
-        Some((form, span))
     }
 
     /// So many bytes were a span.
     fn found(&mut self, len: usize) {
-        if len >= WORTH {
-            self.most = MIN_WINDOW_LEN;
-            return;
-        }
-        self.form = match self.form {
-            Form::Nfc => Form::Nfd,
-            _ => Form::Nfc,
-        };
-        if self.most < MANY {
-            self.most *= 2;
+        if len >= MIN_SPAN_LEN {
+            if self.window_len > MIN_WINDOW_LEN {
+                self.window_len /= 2;
+            }
+        } else if self.window_len < MAX_WINDOW_LEN {
+            self.window_len *= 2;
         }
     }
 }
 
 /// Goes over the span that a text at the offset `at` begins with; no text leaves the format there. Only from its last
 /// character that parts a text on is it seen, by a checker that begins anew.
-fn pass_span<R: Rows>(checker: &mut Checker, rows: &R, at: u64, _form: Form, span: Span<'_>)
-    requires span { IsFirstSpan (R.properties rows.now) _form (span.settled.now ++ (span.tail.now ++ span.rest.now)) span.settled.now span.tail.now span.rest.now }
+fn pass_span<R: Rows>(checker: &mut Checker, rows: &R, at: u64, span: Span<'_>)
+    requires span { IsFirstSpan (R.properties rows.now) Nfc (span.settled.now ++ (span.tail.now ++ span.rest.now)) span.settled.now span.tail.now span.rest.now }
     requires some { 0 < length span.tail.now }
     requires ready { ends_at checker.old at }
     requires fits { at + length span.settled.now + length span.tail.now ≤ u64.MAX }

@@ -1,4 +1,5 @@
 use Rattle.nf_filter.proofs.Common.{◌≡◌, ◌+◌, [], ◌++◌, length, is_some, append-nil, rules, refl, ap, ◌∙◌, arith, encode_utf8_all, chars, length-append, and_from, list_all-append, encodes-append, encodes-chars, is_sound}
+use Rattle.nf_forms.specs.declared.form.Form.TheVariants.{Nfc}
 use Rattle.nf_filter.proofs.TakingLemmas.{few}
 use Rattle.nf_filter.proofs.ChecksLemmas.{counts_from_end, unstopped, new_checked}
 use Rattle.nf_filter.proofs.checking.pass_span.Goals as goal
@@ -8,7 +9,7 @@ unreachable-requires g c =
     let p = g.R.Rows.properties c.args.rows.now in
     let place = c.args.at + length c.args.span.settled.now in
     let stopped = rw c.in_default.is at (c.take_text.ensures.takes place [] (new_checked (c.new-end.ensures.stands p) c.new-end.ensures.place) (omega arith)) in
-    let none = unstopped p c.args._form c.requires.span c.requires.some place in
+    let none = unstopped p Nfc c.requires.span c.requires.some place in
     cc (rw (append-nil (chars c.args.span.tail.now)) at (stopped []))
 
 pub overflow_add-count : goal.overflow_add-count
@@ -29,7 +30,7 @@ returns-clause-sees g c = λ base x before.
     grind (arith, before.stands.offset (ap is_some c.requires.ready.0), encodes-append x front, length-append, encodes-chars c.args.span.settled.now (search rules)) in
     record {
       stands = c.go_on_from.ensures.stands base p x front end before.stands (omega (arith, length-append front end))
-          (counts_from_end p c.args._form c.requires.span c.requires.some) (rw here at seen.stands);
+          (counts_from_end p Nfc c.requires.span c.requires.some) (rw here at seen.stands);
       none = c.go_on_from.ensures.none;
       sound = list_all-append (is_sound p) x (front ++ end) ∙ and_from _ _ before.sound c.requires.span.sound;
     }

@@ -6,10 +6,10 @@ use Rattle.nf_filter.proofs.checking.SpanCheckerTaker.take_front.Goals as goal
 in_two : (text : List ℕ) (n : ℕ) (window rest : List ℕ) → IsUtf8 window → window ≡ take n text → rest ≡ drop n text → chars text ≡ chars window ++ chars rest
 in_two text n window rest utf8 first second = rw (← chars-append window rest utf8, first, second, take-append-drop n text)
 
-pub returns-in-Some-clause-takes : goal.returns-in-Some-clause-takes
-returns-in-Some-clause-takes g c = λ base x before here. record {
-  front = chars c.in-Some.span.settled.now ++ chars c.in-Some.span.tail.now;
-  is_front = chars-three _ _ _ _ (search rules) (search rules) c.in-Some.ensures.span.text;
+pub returns-then-not-is_empty-clause-takes : goal.returns-then-not-is_empty-clause-takes
+returns-then-not-is_empty-clause-takes g c = λ base x before here. record {
+  front = chars c.first_span-span.result.settled.now ++ chars c.first_span-span.result.tail.now;
+  is_front = chars-three _ _ _ _ (search rules) (search rules) c.first_span-span.ensures.text;
   taken = c.pass_span.ensures.sees base x before;
 }
 
@@ -20,7 +20,7 @@ returns-in-None-clause-takes g c = λ base x before here. record {
   taken = c.in-None.ensures.takes base x before here;
 }
 
-pub returns-in-Some-take_text-clause-takes : goal.returns-in-Some-take_text-clause-takes
-returns-in-Some-take_text-clause-takes g c = λ base x before here.
+pub returns-in-Some-clause-takes : goal.returns-in-Some-clause-takes
+returns-in-Some-clause-takes g c = λ base x before here.
     decides-within (text_decision (g.R.Rows.properties c.args.rows.now) base) x _ _ _ (in_two _ _ _ _ (search rules) c.split_at.ensures.front c.split_at.ensures.back)
-    (c.in-Some-take_text.ensures.takes base x before here)
+    (c.in-Some.ensures.takes base x before here)
