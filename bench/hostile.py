@@ -12,7 +12,7 @@ import sys
 import tempfile
 from dataclasses import dataclass
 from pathlib import Path
-from unicodedata import normalize
+from unicodedata import combining, normalize
 
 from measure import FULL, Effort, Input, speeds
 from table import FORMS, cache, line, number
@@ -25,15 +25,21 @@ BAR = 0.25
 
 @dataclass
 class Hostile:
-    """What is said of it, its front, what stands after that again and again, the real text that is its friend, whether both are
-    read with `--assigned`, and the calls that are measured: forms for `convert`, or calls that only ask."""
+    """What is said of it, its front, what stands after that again and again, the real text that is its friend, and whether both
+    are read with `--assigned`."""
 
     title: str
     front: bytes
     again: bytes
     friend: str
     assigned: bool = False
-    calls: tuple[str, ...] = tuple(FORMS)
+
+    def calls(self) -> list[str]:
+        """What is measured: forms for `convert`, and of text that is read without flags the calls that only ask; `check` of text
+        that is in the Stream-Safe Text Format, since it reads other text no further than to the place."""
+        if self.flags():
+            return [*FORMS]
+        return [*FORMS, "measure", *["check"] * is_stream_safe((self.front + self.again * 40).decode())]
 
     def ill_formed(self) -> bool:
         return not is_text(self.again)
@@ -53,6 +59,11 @@ class Hostile:
         beside text that is written as it was read."""
         composed = self.ill_formed() or form not in ("nfc", "nfkc")
         return ("composed", normalize("NFC", text).encode()) if composed else ("decomposed", normalize("NFD", text).encode())
+
+
+def is_stream_safe(text: str) -> bool:
+    marks = "".join("m" if combining(c) else " " for c in normalize("NFKD", text))
+    return "m" * 31 not in marks
 
 
 def is_text(data: bytes) -> bool:
@@ -104,8 +115,10 @@ HOSTILE = [
     Hostile("bytes 80 alone, `--replace --assigned`", b"", b"\x80", "french", True),
     Hostile("a and 80, in turns, `--replace --assigned`", b"", b"a\x80", "french", True),
     Hostile("bytes F0 alone, `--replace --assigned`", b"", b"\xf0", "french", True),
-    Hostile("0 and U+0653, in turns", b"", "0\u0653".encode(), "arabic", calls=("check", "measure")),
-    Hostile("U+FDFA alone", b"", "\ufdfa".encode(), "arabic", calls=("check", "measure")),
+    again("0 and U+0653, in turns", "0\u0653", "arabic"),
+    again("U+0378, unassigned", "\u0378", "hebrew"),
+    again("U+1F600", "\U0001f600", "japanese"),
+    again("U+F0000, for private use", "\U000f0000", "japanese"),
 ]
 
 
@@ -144,7 +157,7 @@ def main() -> int:
     line(["---", "---", "---:", "---", "---:", "---:", "---:"])
     slow = []
     for hostile in HOSTILE:
-        for form in hostile.calls:
+        for form in hostile.calls():
             state, text = hostile.friendly(real[hostile.friend], form)
             command = hostile.command(program, form)
             content = hostile.content()
@@ -155,7 +168,7 @@ def main() -> int:
             line([hostile.title, form.upper() if form in FORMS else f"`{form}`", number(mine), friend, number(other), f"{read:.2f}", f"{written:.2f}"])
             if read < BAR:
                 slow.append(f"{hostile.title}, {form.upper()}: {read:.2f} ({written:.2f})")
-    print(f"\n{len(slow)} of {sum(len(hostile.calls) for hostile in HOSTILE)} below a quarter{': ' if slow else ''}{'; '.join(slow)}.")
+    print(f"\n{len(slow)} of {sum(len(hostile.calls()) for hostile in HOSTILE)} below a quarter{': ' if slow else ''}{'; '.join(slow)}.")
     return 1 if slow else 0
 
 
