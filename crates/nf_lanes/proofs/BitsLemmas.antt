@@ -3,11 +3,16 @@ use Rattle.std.proofs.Common.{◌≡◌, ◌+◌, ◌<◌, ◌⊎◌, inl, inr, 
 use Rattle.std.specs.Int.{bit_at}
 use Rattle.std.proofs.str.Laws.{order}
 use Rattle.std.proofs.lemmas.Nat.Bits.{bit_at_and, bit_at_or, bit_at-lt, bit_at-suc}
-use Rattle.nf_lanes.specs.Looks.{at_pair, NoneFound}
+use Rattle.nf_lanes.specs.Looks.{at_pair, finds, is_in, NoneFound}
+use Rattle.nf_lanes.specs.declared.looks.Looks.{Looks}
 
 -- 64 bits, the lowest for the first place
 abbrev pub AreBits : ℕ → (ℕ → Bool) → ℕ → Type 0
 AreBits bits p at = (k : ℕ) → k < 64 → bit_at bits k ≡ cond (p (at + k)) 1 0
+
+-- of the pairs that two families find
+pub found_by : (looks : Looks) (bytes : List ℕ) (at a b : ℕ) → AreBits a (at_pair (is_in looks.first) bytes) at → AreBits b (at_pair (is_in looks.second) bytes) at → AreBits (bit_and a b) (at_pair (finds looks) bytes) at
+found_by looks bytes at a b first second k within = grind (arith, bit_at_and a b k, first k, second k)
 
 pub narrower : (found others k : ℕ) → bit_at (bit_and found others) k ≡ 1 → bit_at found k ≡ 1
 narrower found others k one = grind (arith, bit_at_and found others k, bit_at-lt found k)

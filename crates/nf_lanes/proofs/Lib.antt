@@ -1,5 +1,4 @@
 pub mod PlacesLemmas
 pub mod BitsLemmas
 pub mod LookUpLemmas
-pub mod MaskLemmas
 pub mod LooksLemmas

@@ -11,6 +11,9 @@ use crate::sets::{Pairs, pair_sets};
 /// Of so few characters no pair is asked: in Latin most of those that are not ASCII have to be looked up.
 const MIN_LEADS: u32 = 14;
 
+/// Of so few that the first family finds the second is not asked.
+const MIN_FOUND: u32 = 4;
+
 /// Two families of eight sets of pairs. A pair that is in a set of each has to be looked up.
 pub struct Looks {
     pub first: Pairs,
@@ -47,8 +50,9 @@ pub fn found_by_both(first: &Pairs, second: &Pairs, least: u8, bytes: &[u8], at:
 }
 
 /// A bit for each of 63 bytes from `at` on, the lowest for the first: of those that begin more bytes than one, each at which a
-/// pair has to be looked up, or at the byte after it, is set; of a few all are; and where three of three bytes stand in a row,
-/// as kana do in Japanese, only those of which a pair is in the other family, too.
+/// pair has to be looked up, or at the byte after it, is set; of a few all are, and all that the first family finds where those are
+/// few; and where three of three bytes stand in a row, as kana do in Japanese, only those of which a pair is in the other family,
+/// too.
 #[inline(always)]
 pub fn found_leads(looks: &Looks, other: &Pairs, bytes: &[u8], at: usize) -> u64
     requires room { at + 64 < length bytes.now }
@@ -60,15 +64,12 @@ pub fn found_leads(looks: &Looks, other: &Pairs, bytes: &[u8], at: usize) -> u64
     if leads.count_ones() < MIN_LEADS {
         return leads;
     }
-    if none_found(&looks.first, bytes, at) {
-        return 0;
+    let firsts = family_bits(&looks.first, bytes, at);
+    let found = leads & (firsts | (firsts >> 1));
+    if found.count_ones() < MIN_FOUND {
+        return found;
     }
-    let pairs = of_64(
-        look_bits(looks, bytes, at),
-        look_bits(looks, bytes, at + 16),
-        look_bits(looks, bytes, at + 32),
-        look_bits(looks, bytes, at + 48),
-    );
+    let pairs = firsts & family_bits(&looks.second, bytes, at);
     let found = leads & (pairs | (pairs >> 1));
     if found & (found >> 3) & (found >> 6) == 0 {
         return found;
@@ -114,13 +115,4 @@ fn set_bits(family: &Pairs, bytes: &[u8], at: usize) -> u64
     ensures { result ≡ bits_at (at_pair (is_in family.now) bytes.now) at }
 {
     bits(pair_sets(family, bytes, at))
-}
-
-/// The same: whether they have to be looked up.
-#[inline(always)]
-fn look_bits(looks: &Looks, bytes: &[u8], at: usize) -> u64
-    requires room { at + 16 < length bytes.now }
-    ensures { result ≡ bits_at (at_pair (finds looks.now) bytes.now) at }
-{
-    set_bits(&looks.first, bytes, at) & set_bits(&looks.second, bytes, at)
 }
