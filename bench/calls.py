@@ -2,19 +2,22 @@
 """Instructions by byte of input of each call, counted by callgrind, as a Markdown table: what converting a text costs beside what
 it costs to ask of it.
 
-    python3 bench/calls.py [--corpora FOLDER] [--size BYTES] [--form F] [--texts T,..] PROGRAM
+    python3 bench/calls.py [--corpora FOLDER] [--size BYTES] [--form F] [--texts T,..] [--speed] PROGRAM
 
-What starting a call costs is measured by an empty input and taken off. Each text is composed, decomposed or as it was made."""
+What starting a call costs is measured by an empty input and taken off. Each text is composed, decomposed or as it was made.
+With `--speed` it is megabytes by second of processor time instead, of 4 MiB of real text, each beside what it is measured by."""
 
 import re
 import sys
+import tempfile
 from argparse import ArgumentParser
 from concurrent.futures import ThreadPoolExecutor
 from os import cpu_count
 from pathlib import Path
 from subprocess import DEVNULL, PIPE, run
 
-from texts import WORDS, Text, missing, texts
+from measure import FULL, Input, speeds
+from texts import MARKED, REAL, WORDS, Text, missing, texts
 
 CACHE = Path.home() / ".cache" / "nfstream-bench"
 
@@ -46,17 +49,44 @@ def row(text: Text, program: str, starts: dict[str, int], form: str) -> str:
     return f"| {' | '.join([text.name, text.state, *cells])} |"
 
 
+# What each call is measured by: the call and its words, and what it should have at least of the speed of another.
+GOALS = [("with --assigned", "convert nfc", 0.8), ("check", "convert nfd", 1.0), ("measure", "convert nfkd", 0.5), ("measure", "check", 0.6)]
+
+
+def speed_row(text: Text, program: str) -> str:
+    """The megabytes by second of each call, and what each that has a goal makes of the other: with a star where that is less."""
+    commands = {title: [program, *words] for title, words in calls("nfc").items() if title != "check --form nfc"}
+    commands |= {f"convert {form}": [program, "convert", "--form", form] for form in ("nfd", "nfkd")}
+    with tempfile.TemporaryDirectory() as folder:
+        found = speeds(commands, Input(Path(folder), text.content.encode()), FULL)
+    ratios = [(found[mine] / found[other], least) for mine, other, least in GOALS]
+    cells = [f"{speed:.0f}" for speed in found.values()] + [f"{ratio:.2f}{'' if ratio >= least else ' *'}" for ratio, least in ratios]
+    return f"| {' | '.join([text.name, text.state, *cells])} |"
+
+
+def print_speeds(corpora: Path, words: list[str], program: str) -> None:
+    titles = ["convert nfc", "with --assigned", "check", "measure", "convert nfd", "convert nfkd"]
+    titles += [f"{mine} / {other}, {least}" for mine, other, least in GOALS]
+    print(f"| {' | '.join(['Text', 'Input', *titles])} |")
+    print("|---|---|" + "---:|" * len(titles))
+    for text in texts(corpora, [word for word in words if word in REAL or word in MARKED], FULL.size):
+        print(speed_row(text, program), flush=True)
+
+
 def main() -> None:
     options = ArgumentParser()
     options.add_argument("--corpora", type=Path, default=CACHE)
     options.add_argument("--size", type=int, default=1 << 16)
     options.add_argument("--form", default="nfc")
     options.add_argument("--texts", default=",".join(WORDS))
+    options.add_argument("--speed", action="store_true")
     options.add_argument("program")
     given = options.parse_args()
     words = given.texts.split(",")
     if lacking := missing(given.corpora, words):
         sys.exit(f"calls.py: no {', '.join(lacking)} in {given.corpora}: run bench/corpora.sh")
+    if given.speed:
+        return print_speeds(given.corpora, words, given.program)
     starts = {title: counted(given.program, call, b"") for title, call in calls(given.form).items()}
     print(f"| {' | '.join(['Text', 'Input', *starts])} |")
     print("|---|---|" + "---:|" * len(starts))
