@@ -93,6 +93,7 @@ HOSTILE = [
     again("e with U+0301, and a, in turns", "e\u0301a", "french"),
     again("a syllable of Hangul and a, in turns", "\uac00a", "korean"),
     again("a full-width letter and a, in turns", "\uff21a", "japanese"),
+    again("U+2192 and a, in turns", "\u2192a", "japanese"),
     again("U+FDFA and a, in turns", "\ufdfaa", "arabic"),
     Hostile("bytes 80 alone, `--replace`", b"", b"\x80", "french"),
     Hostile("F0 90 80, again and again, `--replace`", b"", b"\xf0\x90\x80", "french"),

@@ -161,7 +161,7 @@ const MIN_SPAN_LEN: usize = 256;
 /// At least so many bytes are seen before it is asked again, and at most.
 const MIN_WINDOW_LEN: usize = 64;
 
-const MAX_WINDOW_LEN: usize = 4096;
+const MAX_WINDOW_LEN: usize = 65536;
 
 /// How a span is looked for: the longer little was found, the less often.
 #[derive(Clone, Copy)]

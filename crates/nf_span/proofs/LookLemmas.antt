@@ -1,6 +1,6 @@
 -- Where bytes tell of a character, and where one begins.
-use Rattle.std.proofs.Common.{◌≡◌, ℕ, ◌+◌, ◌/◌, ◌<◌, ◌≤◌, Bool, true, false, not, ◌&&◌, ◌==◌, List, get_or, bit_and, bit_or, refl, sym, ap, ◌∙◌, arith, eqb-true}
-use Rattle.std.proofs.lemmas.Bool.{cond-false, cond_both}
+use Rattle.std.proofs.Common.{◌≡◌, ℕ, ◌+◌, ◌/◌, ◌<◌, ◌≤◌, Bool, true, false, not, ◌&&◌, ◌||◌, ◌==◌, List, get_or, bit_and, bit_or, refl, sym, ap, ◌∙◌, arith, eqb-true}
+use Rattle.std.proofs.lemmas.Bool.{cond-true, cond-false, cond_both}
 use Rattle.std.proofs.lemmas.Nat.{and_le_l, le_or_l, le_or_r}
 use Rattle.ucd_table.proofs.TrieCheck.{all_below, all_below-at}
 use Rattle.nf_forms.specs.declared.form.Form.{Form}
@@ -28,10 +28,13 @@ no_sets t rows lead next small =
 
 -- what holds of all the sets holds of those that are asked
 asked_each : (f : Form) (lead : ℕ) (P : Triples → Type 0) → P (kana_of f) → P (wide_of f) → P (triples_of f) → P (asked_of f lead)
-asked_each f lead P kana wide others = cond_both (lead == 0xE3) _ _ P (λ _. kana) (λ _. cond_both (lead == 0xEF) _ _ P (λ _. wide) (λ _. others))
+asked_each f lead P kana wide others = cond_both (lead == 0xE2 || lead == 0xE3) _ _ P (λ _. kana) (λ _. cond_both (lead == 0xEF) _ _ P (λ _. wide) (λ _. others))
 
--- those that are asked for the sake of a lead byte with no sets of its own
-pub asked_of-others : (f : Form) (lead : ℕ) → (lead == 0xE3) ≡ false → (lead == 0xEF) ≡ false → triples_of f ≡ asked_of f lead
+-- those that are asked for the sake of E2 and E3, and of a lead byte with no sets of its own
+pub asked_of-kana : (f : Form) (lead : ℕ) → (lead == 0xE2 || lead == 0xE3) ≡ true → kana_of f ≡ asked_of f lead
+asked_of-kana f lead kana = sym (cond-true _ _ _ kana)
+
+pub asked_of-others : (f : Form) (lead : ℕ) → (lead == 0xE2 || lead == 0xE3) ≡ false → (lead == 0xEF) ≡ false → triples_of f ≡ asked_of f lead
 asked_of-others f lead kana wide = sym (cond-false _ _ _ kana ∙ cond-false _ _ _ wide)
 
 -- the tables have nothing for a byte that is no lead byte

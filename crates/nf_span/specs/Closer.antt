@@ -1,5 +1,5 @@
 -- What the bytes after a lead byte tell (The Unicode Standard, section 3.9, Table 3-6).
-use Rattle.std.specs.Prelude.{◌<◌, ◌≤◌, ℕ, ◌+◌, Bool, not, ◌&&◌, ◌==◌, List, slice_index, bit_and, bit_or, if◌then◌else◌}
+use Rattle.std.specs.Prelude.{◌<◌, ◌≤◌, ℕ, ◌+◌, Bool, not, ◌&&◌, ◌||◌, ◌==◌, List, slice_index, bit_and, bit_or, if◌then◌else◌}
 use Rattle.nf_forms.specs.declared.form.Form.{Form}
 use Rattle.nf_forms.specs.declared.form.Form.TheVariants.{Nfc, Nfd, Nfkc, Nfkd}
 use Rattle.nf_lanes.specs.Lanes.{NonePass}
@@ -23,7 +23,7 @@ triples_of Nfkc = NFKC_TRIPLES
 triples_of Nfd = DECOMPOSED_TRIPLES
 triples_of Nfkd = DECOMPOSED_TRIPLES
 
--- those that tell most of E3
+-- those that tell most of E3, and in NFC of E2
 abbrev pub kana_of : Form → Triples
 kana_of Nfc = NFC_WIDE
 kana_of Nfkc = NFKC_KANA
@@ -39,7 +39,7 @@ wide_of Nfkd = COMPATIBILITY_WIDE
 
 -- the one that is asked for the sake of a lead byte
 abbrev pub asked_of : Form → ℕ → Triples
-asked_of f lead = if lead == 0xE3 then kana_of f else (if lead == 0xEF then wide_of f else triples_of f)
+asked_of f lead = if lead == 0xE2 || lead == 0xE3 then kana_of f else (if lead == 0xEF then wide_of f else triples_of f)
 
 -- a character that begins with these bytes has to be looked up: where the lead byte is not of D0 to DF it tells by itself,
 -- its row being another than 2

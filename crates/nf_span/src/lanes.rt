@@ -141,15 +141,15 @@ fn pair_looks(form: Form, bytes: &[u8], at: usize) -> u64
     )
 }
 
-/// The same for the sake of a lead byte from E0 to EF: E3, of kana, and EF, of fullwidth letters, have sets of their own.
-/// Each copy has its tables at hand.
+/// The same for the sake of a lead byte from E0 to EF: E2 and E3, of symbols and kana, and EF, of fullwidth letters, have sets of
+/// their own. Each copy has its tables at hand.
 #[inline(always)]
 fn asked_looks(form: Form, lead: u8, bytes: &[u8], at: usize) -> u64
     requires room { at + 18 ≤ length bytes.now }
     ensures { result ≡ bits_at (λ k. wants_triple (asked_of form lead) form (slice_index bytes.now k) (slice_index bytes.now (k + 1)) (slice_index bytes.now (k + 2))) at }
 {
     match lead {
-        0xE3 => triple_looks(form, kana_of(form), bytes, at),
+        0xE2 | 0xE3 => triple_looks(form, kana_of(form), bytes, at),
         0xEF => triple_looks(form, wide_of(form), bytes, at),
         _ => triple_looks(form, triples_of(form), bytes, at),
     }

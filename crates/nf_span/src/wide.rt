@@ -1,4 +1,5 @@
-//! What the bytes after EF tell: of fullwidth letters and punctuation, of the presentation forms of Arabic, and of U+FFFD.
+//! What the bytes after EF tell: of fullwidth letters and punctuation, of the presentation forms of Arabic, and of U+FFFD; and in
+//! NFC those after E2: of punctuation, arrows, and signs of mathematics.
 
 ghost use Rattle.std.specs.Prelude.{◌≡◌};
 ghost use Rattle.nf_span.specs.Closer.{wide_of};
@@ -6,25 +7,26 @@ ghost use Rattle.nf_span.specs.Closer.{wide_of};
 use nf_forms::Form;
 use nf_lanes::{Pairs, Triples};
 
-// The last set of each is of the other lead bytes that tell nothing, before any bytes.
+// The last set of each, in NFC the sixth, is of the other lead bytes that tell nothing, before any bytes.
 
-// In NFC: E3 80 before AA to AF, E3 82 before 99 and 9A; EF before A4 to AD, EF B8 before A0 to AF, EF BE before 9E and 9F.
+// In NFC: E2 80 before 80 and 81, E2 with a second byte of 8, A or B and 3, 4, 5, 7, B or C before 90 to BF; E3 80 before AA to
+// AF, E3 82 before 99 and 9A; EF before A4 to AD, EF B8 before A0 to AF, EF BE before 9E and 9F.
 pub(crate) static NFC_WIDE: Triples = Triples {
     pairs: Pairs {
-        first_high: [0, 0, 0, 0, 0, 0, 0, 0, 0, 0, 0, 0, 0, 0, 63, 0],
-        first_low: [32, 32, 32, 3, 0, 0, 0, 0, 0, 0, 32, 0, 0, 0, 0, 28],
+        first_high: [0, 0, 0, 0, 0, 0, 0, 0, 0, 0, 0, 0, 0, 0, 255, 0],
+        first_low: [32, 32, 192, 3, 0, 0, 0, 0, 0, 0, 32, 0, 0, 0, 0, 28],
         next_high: [
-            32, 32, 32, 32, 32, 32, 32, 32, 35, 32, 36, 56, 32, 32, 32, 32,
+            32, 32, 32, 32, 32, 32, 32, 32, 227, 32, 100, 120, 32, 32, 32, 32,
         ],
         next_low: [
-            33, 32, 34, 32, 36, 36, 36, 36, 44, 36, 36, 36, 36, 36, 48, 32,
+            161, 32, 34, 96, 100, 100, 36, 100, 44, 36, 36, 100, 100, 36, 48, 32,
         ],
     },
     last_high: [
-        36, 36, 36, 36, 36, 36, 36, 36, 36, 54, 45, 36, 36, 36, 36, 36,
+        36, 36, 36, 36, 36, 36, 36, 36, 164, 118, 109, 100, 36, 36, 36, 36,
     ],
     last_low: [
-        44, 44, 44, 44, 44, 44, 44, 44, 44, 46, 47, 45, 45, 45, 61, 61,
+        236, 236, 108, 108, 108, 108, 108, 108, 108, 110, 111, 109, 109, 109, 125, 125,
     ],
 };
 
