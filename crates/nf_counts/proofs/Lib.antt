@@ -2,3 +2,5 @@ mod Told
 mod PieceLemmas
 mod PlainLemmas
 mod WindowLemmas
+mod StartLemmas
+mod SafeLemmas

@@ -2,4 +2,6 @@
 #![tactic(auto)]
 
 #[cfg(test)]
+mod safe;
+#[cfg(test)]
 mod sweep;

@@ -1,5 +1,5 @@
 //! Every scalar value against the look-ups that are made one by one.
-use nf_counts::{Counted, counted_front};
+use nf_counts::{Counted, counted_front, safe_front};
 use nf_seeded::Seeded;
 use std::test::Fail;
 use unicode::properties::GeneralCategory;
@@ -143,6 +143,19 @@ const SOME: [char; 32] = [
     '\u{10FFFF}',
 ];
 
+/// Whether the front of which bytes tell that it is in the format is so, of the text that is of these characters.
+fn is_safe(text: &str, chars: &[char]) -> bool {
+    let Some(safe) = safe_front(text) else {
+        return true;
+    };
+    let front = safe.settled.len().saturating_add(safe.tail.len());
+    let settled = safe.settled.chars().count();
+    let (count, _) = counted_plainly(0, chars);
+    settled < count
+        && safe.tail.chars().count() == 1
+        && front.saturating_add(safe.rest.len()) == text.len()
+}
+
 /// Up to 200 characters, drawn from some, each a few times in a row, so that there are runs of ASCII and of marks.
 #[test]
 fn fronts_are_counted_as_their_characters(rt: HostRuntime) -> Result<(), Fail> {
@@ -175,6 +188,7 @@ fn fronts_are_counted_as_their_characters(rt: HostRuntime) -> Result<(), Fail> {
         assert_eq!(rt; counted.front.chars().count(), count, "{turn} {text}");
         assert_eq!(rt; counts_of(&counted), counts, "{turn} {text}");
         assert_eq!(rt; counted.front.len().saturating_add(counted.rest.len()), len);
+        assert!(rt; is_safe(text, &chars), "{turn} {text}");
     }
     Ok(())
 }

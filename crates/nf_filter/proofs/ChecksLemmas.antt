@@ -1,13 +1,12 @@
 -- What a check decides, character by character.
-use Rattle.nf_filter.proofs.Common.{Checker, HasChecked, place_of, ⊎_elim, ◌≡◌, ℕ, ◌+◌, ◌<◌, Bool, true, false, List, [], ◌∷◌, ◌++◌, length, Some, None, Ok, Err, refl, ap, ◌∙◌, arith, append_assoc, append-nil, if◌then◌else◌, Option, chars, encode_utf8_all, list_all, cond-true, or_left, and_parts, list_all-append, Properties, lead, Form, Nfkd, decomposed, stream_safe, is_sound, IsSoundText, text_of, ending_of, Place, is_in_format, place_from, Fault, Row, bad_byte, decided_or, decided_in, sound_front, check_fault, place_or_fault, check_decision, text_decision, no_stop, has_starter-append, lead-append, CountsFromEnd}
-use Rattle.nf_forms.specs.Parting.{CountsAnew}
-use Rattle.nf_forms.specs.Span.{IsSpan}
+use Rattle.nf_filter.proofs.Common.{Checker, HasChecked, place_of, ◌≡◌, ℕ, ◌+◌, ◌<◌, ◌≤◌, Bool, true, false, List, [], ◌∷◌, ◌++◌, length, length-append, chars-nil, Some, None, Ok, Err, refl, ap, arith, append_assoc, append-nil, if◌then◌else◌, Option, chars, encode_utf8_all, list_all, and_parts, list_all-append, Properties, Nfkd, decomposed, is_sound, IsSoundText, text_of, ending_of, Place, place_from, Fault, Row, bad_byte, decided_or, decided_in, sound_front, check_fault, place_or_fault, check_decision, text_decision, no_stop, CountsFromEnd}
 use Rattle.nf_forms.specs.Laws.Last.{by_last}
-use Rattle.nf_forms.specs.Laws.Span.{span-begins, stream_safe-span}
-use Rattle.nf_forms.specs.Laws.SpanEnd.{span-tail}
-use Rattle.nf_span.specs.Front.{BeginsAndMarks, IsFirstSpan}
+use Rattle.nf_forms.specs.Laws.Runs.{longest-append}
+use Rattle.nf_forms.specs.Laws.StreamSafe.{decomposed-append}
+use Rattle.nf_forms.specs.Runs.{has_starter, longest}
+use Rattle.nf_counts.specs.Safe.{IsSafeFront}
 use Rattle.nf_safe.specs.Checker.{StandsAfter}
-use Rattle.nf_safe.specs.Laws.Place.{is_in_format-stream_safe, place_from-in_format, place_from-stays}
+use Rattle.nf_safe.specs.Laws.Place.{is_in_format-short, place_from-in_format, place_from-stays}
 use Rattle.nf_filter.proofs.PolicyLemmas.{take_while-append, take_while-stop}
 
 module _ (p : Properties) where
@@ -39,43 +38,30 @@ module _ (p : Properties) where
         next None true (Some fault) row = refl
         next None false bad row = refl
 
-  -- A span is in the format, and the count is that of its end alone.
-  module _ (f : Form) where
-    lead-anew : (c : ℕ) (cs : List ℕ) → CountsAnew p c → lead p (decomposed Nfkd p (c ∷ cs)) ≡ 0
-    lead-anew c cs anew = lead-append p (p.compat c) (decomposed Nfkd p cs) ∙ cond-true _ _ _ anew.some ∙ anew.lead
+  has_bytes : (tail : List ℕ) → has_starter p (decomposed Nfkd p (chars tail)) ≡ true → 0 < length tail
+  has_bytes [] some = absurd (grind (arith, rw chars-nil at some))
+  has_bytes (b ∷ tail) some = omega arith
 
-    lead-span : (s t : List ℕ) (class count : ℕ) → IsSpan p f (s ++ t) class count → BeginsAndMarks p f t → lead p (decomposed Nfkd p (s ++ t)) ≡ 0
-    lead-span [] t class count span end = rw end.text (lead-anew end.first end.marks end.parting.counts)
-    lead-span (c ∷ s) t class count span end = lead-anew c (s ++ t) (span-begins p f c (s ++ t) class count span).counts
+  -- A front of short runs is in the format, and the count is that of its end alone.
+  module _ {text settled tail rest : List ℕ} (safe : IsSafeFront p text settled tail rest) where
+    abbrev s : List ℕ
+    s = chars settled
 
-    in_format-safe : (x : List ℕ) → stream_safe p x ≡ x → IsSoundText p x → is_in_format p x ≡ true
-    in_format-safe x safe sound = rw safe at (is_in_format-stream_safe p x (rw safe sound))
+    abbrev t : List ℕ
+    t = chars tail
 
-    module _ {whole settled tail rest : List ℕ} (span : IsFirstSpan p f whole settled tail rest) (some : 0 < length tail) where
-      abbrev s : List ℕ
-      s = chars settled
+    pub counts_from_end : CountsFromEnd p s t
+    counts_from_end = record { in_format = is_in_format-short p (s ++ t) safe.short.longest; lead = safe.short.lead; some = safe.some }
 
-      abbrev t : List ℕ
-      t = chars tail
+    pub shorter : length rest < length text
+    shorter = omega (arith, ap length safe.split, length-append settled (tail ++ rest), length-append tail rest, has_bytes tail safe.some)
 
-      -- it ends in a character that parts a text
-      end : BeginsAndMarks p f t
-      end = ⊎_elim (λ none. absurd (omega (arith, ap length none.1))) (λ begins. begins) span.end
-
-      pub counts_from_end : CountsFromEnd p s t
-      counts_from_end = record {
-        in_format = in_format-safe (s ++ t) (stream_safe-span p f (s ++ t) span.class span.count span.span [] refl) span.sound;
-        lead = lead-span s t span.class span.count span.span end;
-        some = rw (end.text, has_starter-append p (p.compat end.first) (decomposed Nfkd p end.marks)) (or_left _ _ end.parting.counts.some);
-      }
-
-      -- nothing stops a checker that begins at its end
-      pub unstopped : (base : ℕ) → text_decision p base t ≡ None
-      unstopped base =
-          let alone : IsSoundText p t = (and_parts _ _ (rw (list_all-append (is_sound p) s t) at span.sound)).1 in
-          let span_end = span-tail p f s end.first end.marks span.class span.count (rw end.text at span.span) end.parting in
-          no_stop p base t alone
-          (place_from-in_format p base t (in_format-safe t (stream_safe-span p f t span.class span.count (rw end.text span_end) [] refl) alone))
+    -- nothing stops a checker that begins at its end
+    pub unstopped : (base : ℕ) → text_decision p base t ≡ None
+    unstopped base =
+        let short : longest p (decomposed Nfkd p t) ≤ 30 = omega (arith, safe.short.longest, ap (longest p) (decomposed-append p Nfkd s t), longest-append p (decomposed Nfkd p s) (decomposed Nfkd p t)) in
+        let alone : IsSoundText p t = (and_parts _ _ (rw (list_all-append (is_sound p) s t) at safe.short.sound)).1 in
+        no_stop p base t alone (place_from-in_format p base t (is_in_format-short p t short))
 
 -- a checker that begins anew
 pub new_checked : {p : Properties} {checker : Checker} {base : ℕ} → StandsAfter base p checker [] → place_of checker ≡ None → HasChecked p checker base []

@@ -1,5 +1,5 @@
 -- What feeding all bytes at once, and finishing, come to.
-use Rattle.nf_filter.proofs.Common.{◌≡◌, ℕ, Bool, true, false, List, [], length, Option, Some, None, Result, Ok, Err, refl, sym, ap, ◌∙◌, IfErr, if◌then◌else◌, encode_utf8_all, Properties, Form, back, safe_form, front-append-back, Ending, Whole, Bad, CutEnd, text_of, ending_of, Fault, Write, Row, Tally, SinkState, Puts, BreaksOff, as_is, settled, is_usable, usable, settled_utf8, answer_at_end, bad_byte, fault_in, tally_of, end_of, whole_or, final_utf8, Finishes, Feeds, IsFormOf, IsOfWhole, fault_or, whole_answer, whole_utf8, Converts, settled_utf8-none, AreSound, RefusesNone, Extends, Extends-none, Extends-encodes, usable-all, is_some, ◌+◌, len_under, arith, nat_tests}
+use Rattle.nf_filter.proofs.Common.{◌≡◌, ℕ, Bool, true, false, List, [], Option, Some, None, Result, Ok, Err, refl, sym, ap, ◌∙◌, IfErr, if◌then◌else◌, encode_utf8_all, Properties, Form, back, safe_form, front-append-back, Ending, Whole, CutEnd, text_of, ending_of, Fault, Write, Row, Tally, SinkState, Puts, BreaksOff, as_is, settled, is_usable, usable, settled_utf8, answer_at_end, bad_byte, fault_in, tally_of, end_of, whole_or, final_utf8, Finishes, Feeds, IsFormOf, IsOfWhole, fault_or, whole_answer, whole_utf8, Converts, settled_utf8-none, AreSound, RefusesNone, Extends, Extends-none, Extends-encodes, usable-all, is_some, ◌+◌, len_under, arith, nat_tests}
 use Rattle.nf_utf8.specs.Reads.{Reads}
 use Rattle.nf_filter.proofs.WritesLemmas.{Puts-join, BreaksOff-join, BreaksOff-extends}
 use Rattle.nf_filter.proofs.FilterLemmas.{err_is, failed_if}

@@ -1,6 +1,5 @@
 ghost use Rattle.std.specs.Prelude.{◌≡◌, ◌↔◌, ◌+◌, ◌<◌, ◌≤◌, ℕ, List, ◌++◌, length, chars, None, IsTrue, IfErr};
-ghost use Rattle.nf_forms.specs.declared.form.Form.TheVariants.{Nfc};
-ghost use Rattle.nf_span.specs.Front.{IsFirstSpan};
+ghost use Rattle.nf_counts.specs.Safe.{IsSafeFront};
 ghost use Rattle.nf_filter.specs.Surveys.{Surveys, IsOfSurvey, IsCut};
 ghost use Rattle.nf_filter.specs.Checks.{check_decision, no_place, ends_at, HasChecked};
 
@@ -10,7 +9,7 @@ use crate::reading::Reading;
 use crate::sources::{BLOCK, survey};
 use crate::taker::{Taker, take_text};
 use crate::text_reader::TextReader;
-use nf_row::{Form, Rows, Span};
+use nf_row::{Rows, SafeFront};
 use nf_safe::{Checker, Place};
 use nf_utf8::char_count;
 
@@ -54,7 +53,7 @@ pub fn check_buffered<R: Rows, I: Source>(
     let reader = TextReader {
         reading: Reading::new(base),
         rows,
-        taker: SpanChecker {
+        taker: SafeChecker {
             checker: Checker::new(base),
             search: Search::new(),
         },
@@ -65,7 +64,7 @@ pub fn check_buffered<R: Rows, I: Source>(
 /// What is decided before the end: a place, or a fault.
 type Decision = Result<Option<Place>, Fault>;
 
-/// Without a search for a span.
+/// Without a search for such a front.
 impl Taker for Checker {
     ghost use Rattle.nf_filter.specs.Checks.{HasChecked, ends_at, text_decision};
     ghost use Rattle.nf_filter.specs.Laws.Undecided.{checked_undecided};
@@ -107,40 +106,40 @@ impl Taker for Checker {
     ghost undecided = { checked_undecided };
 }
 
-/// A checker that looks for spans in NFC.
+/// A checker that looks for fronts of which the bytes tell that they are in the format.
 #[derive(Drop)]
-struct SpanChecker {
+struct SafeChecker {
     checker: Checker,
     search: Search,
 }
 
-impl Taker for SpanChecker {
+impl Taker for SafeChecker {
     ghost use Rattle.nf_filter.specs.Checks.{HasChecked, ends_at, text_decision};
     ghost use Rattle.nf_filter.specs.Laws.Undecided.{checked_undecided};
 
     type Answer = Option<Place>;
 
-    ghost has_taken = { λ p span. HasChecked p span.checker };
+    ghost has_taken = { λ p safe. HasChecked p safe.checker };
 
-    ghost ends_at = { λ span. ends_at span.checker };
+    ghost ends_at = { λ safe. ends_at safe.checker };
 
     ghost decides = { text_decision };
 
     ghost value = { λ p x. None };
 
-    /// What of it is found to be a span, or else a window.
+    /// What of it is found to be such a front, or else a window.
     fn take_front<'t, R: Rows>(
         &mut self,
         rows: &R,
         at: u64,
         text: &'t str,
     ) -> Result<&'t str, Decision> {
-        let span = rows.first_span(Form::Nfc, text);
-        self.search.found(text.len() - span.rest.len());
-        if !span.tail.is_empty() {
-            pass_span(&mut self.checker, rows, at, span);
-            return Ok(span.rest);
+        if let Some(safe) = rows.safe_front(text) {
+            self.search.found(text.len() - safe.rest.len());
+            pass_safe(&mut self.checker, rows, at, safe);
+            return Ok(safe.rest);
         }
+        self.search.found(0);
         let (window, rest) = text.split_at(text.ceil_char_boundary(self.search.window_len));
         match take_text(&mut self.checker, rows, at, window) {
             None => Ok(rest),
@@ -152,21 +151,21 @@ impl Taker for SpanChecker {
         None
     }
 
-    ghost undecided = { λ p span. checked_undecided p span.checker };
+    ghost undecided = { λ p safe. checked_undecided p safe.checker };
 }
 
-/// Where fewer bytes were a span, it is asked less often.
-const MIN_SPAN_LEN: usize = 256;
+/// Where a front has fewer bytes, it is asked less often.
+const MIN_FRONT_LEN: usize = 256;
 
 /// At least so many bytes are seen before it is asked again, and at most.
 const MIN_WINDOW_LEN: usize = 64;
 
 const MAX_WINDOW_LEN: usize = 65536;
 
-/// How a span is looked for: the longer little was found, the less often.
+/// How such a front is looked for: the longer little was found, the less often.
 #[derive(Clone, Copy)]
 struct Search {
-    /// Where nothing is a span, a window of so many bytes is seen without a search.
+    /// Where there is none, a window of so many bytes is seen without a search.
     window_len: usize,
     ghost some: { 0 < window_len },
 }
@@ -178,9 +177,9 @@ impl Search {
         }
     }
 
-    /// So many bytes were a span.
+    /// A front of so many bytes was found.
     fn found(&mut self, len: usize) {
-        if len >= MIN_SPAN_LEN {
+        if len >= MIN_FRONT_LEN {
             if self.window_len > MIN_WINDOW_LEN {
                 self.window_len /= 2;
             }
@@ -190,22 +189,20 @@ impl Search {
     }
 }
 
-/// Goes over the span that a text at the offset `at` begins with; no text leaves the format there. Only from its last
-/// character that parts a text on is it seen, by a checker that begins anew.
-fn pass_span<R: Rows>(checker: &mut Checker, rows: &R, at: u64, span: Span<'_>)
-    requires span { IsFirstSpan (R.properties rows.now) Nfc (span.settled.now ++ (span.tail.now ++ span.rest.now)) span.settled.now span.tail.now span.rest.now }
-    requires some { 0 < length span.tail.now }
+/// Goes over such a front of a text at the offset `at`. Only its last character is seen, by a checker that begins anew.
+fn pass_safe<R: Rows>(checker: &mut Checker, rows: &R, at: u64, safe: SafeFront<'_>)
+    requires safe { IsSafeFront (R.properties rows.now) (safe.settled.now ++ (safe.tail.now ++ safe.rest.now)) safe.settled.now safe.tail.now safe.rest.now }
     requires ready { ends_at checker.old at }
-    requires fits { at + length span.settled.now + length span.tail.now ≤ u64.MAX }
-    ensures ready { ends_at checker.new (at + length span.entry.settled.now + length span.entry.tail.now) }
+    requires fits { at + length safe.settled.now + length safe.tail.now ≤ u64.MAX }
+    ensures ready { ends_at checker.new (at + length safe.entry.settled.now + length safe.entry.tail.now) }
     ensures sees { let p = R.properties rows.now in (base : ℕ) (x : List ℕ) → HasChecked p checker.old base x
-        → HasChecked p checker.new base (x ++ (chars span.entry.settled.now ++ chars span.entry.tail.now)) }
+        → HasChecked p checker.new base (x ++ (chars safe.entry.settled.now ++ chars safe.entry.tail.now)) }
 {
-    let place = at + span.settled.len() as u64;
+    let place = at + safe.settled.len() as u64;
     let mut end = Checker::new(place);
-    let None = take_text(&mut end, rows, place, span.tail) else {
+    let None = take_text(&mut end, rows, place, safe.tail) else {
         unreachable!();
     };
-    let count = char_count(span.settled) + char_count(span.tail);
+    let count = char_count(safe.settled) + char_count(safe.tail);
     checker.go_on_from(count as u64, end);
 }

@@ -3,19 +3,18 @@ ghost use Rattle.std.specs.List.{list_all};
 ghost use Rattle.std.specs.Str.{IsCharBoundary};
 ghost use Rattle.nf_forms.specs.Properties.{Properties};
 ghost use Rattle.nf_forms.specs.Forms.{row_of};
-ghost use Rattle.nf_span.specs.Front.{IsFirstSpan};
 ghost use Rattle.nf_boundary.specs.Front.{IsFirstSegments};
 ghost use Rattle.nf_row.specs.Kind.{IsKind};
 ghost use Rattle.nf_row.specs.Facts.{AreFacts};
 ghost use Rattle.nf_counts.specs.Counts.{IsCountedFront};
+ghost use Rattle.nf_counts.specs.Safe.{IsSafeFront};
 
 use crate::facts::Facts;
 use crate::kind::Kind;
 use arrayvec::ArrayVec;
 use nf_boundary::{Formed, Segments};
-use nf_counts::Counted;
+use nf_counts::{Counted, SafeFront};
 use nf_forms::Form;
-use nf_span::Span;
 
 /// The full decomposition of one character: at most 18 code points, which is the most that one of Unicode's has.
 pub type Row = ArrayVec<char, 18>;
@@ -88,12 +87,13 @@ pub trait Rows {
         Counted::none(text)
     }
 
-    /// The span that the text begins with in that form, as far as it is known. Data of which nothing is known leaves it out.
+    /// A front of the text that is known to be in the Stream-Safe Text Format, of sound characters; it begins with a starter, and
+    /// so does its last character. Data of which nothing is known leaves it out.
     #[inline]
-    fn first_span<'t>(&self, _form: Form, text: &'t str) -> Span<'t>
-        ensures { IsFirstSpan (properties self.now) _form text.now result.settled.now result.tail.now result.rest.now }
+    fn safe_front<'t>(&self, _text: &'t str) -> Option<SafeFront<'t>>
+        ensures { IfSome result (λ safe. IsSafeFront (properties self.now) _text.now safe.settled.now safe.tail.now safe.rest.now) }
     {
-        Span::none(text)
+        None
     }
 
     /// A front of the text that ends before a normalization boundary (UAX #15, section 9), as far as one is known. What of

@@ -8,9 +8,8 @@ use crate::known::kind_of;
 use crate::rows::{Long, Row, Rows, row_from};
 use nf_assigned::assigned_front;
 use nf_boundary::{Formed, Segments, first_segments};
-use nf_counts::{Counted, counted_front};
+use nf_counts::{Counted, SafeFront, counted_front, safe_front};
 use nf_facts::laws;
-use nf_span::{Span, first_span};
 use unicode::properties::GeneralCategory;
 use unicode_normalization::{Form, char as lookup};
 
@@ -82,8 +81,8 @@ impl Rows for Ucd {
     }
 
     #[inline]
-    fn first_span<'t>(&self, form: nf_forms::Form, text: &'t str) -> Span<'t> {
-        first_span(form, text)
+    fn safe_front<'t>(&self, text: &'t str) -> Option<SafeFront<'t>> {
+        safe_front(text)
     }
 
     #[inline]
