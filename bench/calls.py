@@ -16,7 +16,7 @@ from os import cpu_count
 from pathlib import Path
 from subprocess import DEVNULL, PIPE, run
 
-from measure import FULL, Input, speeds
+from measure import Effort, Input, speeds
 from texts import MARKED, REAL, WORDS, Text, missing, texts
 
 CACHE = Path.home() / ".cache" / "nfstream-bench"
@@ -49,6 +49,9 @@ def row(text: Text, program: str, starts: dict[str, int], form: str) -> str:
     return f"| {' | '.join([text.name, text.state, *cells])} |"
 
 
+# Short runs, many of each, in turns: where others use the machine the best of a few long ones is chance.
+OFTEN = Effort(size=4 << 20, runs=15, least=0.04, most=20)
+
 # What each call is measured by: the call and its words, and what it should have at least of the speed of another.
 GOALS = [("with --assigned", "convert nfc", 0.8), ("check", "convert nfd", 1.0), ("measure", "convert nfkd", 0.5), ("measure", "check", 0.6)]
 
@@ -58,7 +61,7 @@ def speed_row(text: Text, program: str) -> str:
     commands = {title: [program, *words] for title, words in calls("nfc").items() if title != "check --form nfc"}
     commands |= {f"convert {form}": [program, "convert", "--form", form] for form in ("nfd", "nfkd")}
     with tempfile.TemporaryDirectory() as folder:
-        found = speeds(commands, Input(Path(folder), text.content.encode()), FULL)
+        found = speeds(commands, Input(Path(folder), text.content.encode()), OFTEN)
     ratios = [(found[mine] / found[other], least) for mine, other, least in GOALS]
     cells = [f"{speed:.0f}" for speed in found.values()] + [f"{ratio:.2f}{'' if ratio >= least else ' *'}" for ratio, least in ratios]
     return f"| {' | '.join([text.name, text.state, *cells])} |"
@@ -69,7 +72,7 @@ def print_speeds(corpora: Path, words: list[str], program: str) -> None:
     titles += [f"{mine} / {other}, {least}" for mine, other, least in GOALS]
     print(f"| {' | '.join(['Text', 'Input', *titles])} |")
     print("|---|---|" + "---:|" * len(titles))
-    for text in texts(corpora, [word for word in words if word in REAL or word in MARKED], FULL.size):
+    for text in texts(corpora, [word for word in words if word in REAL or word in MARKED], OFTEN.size):
         print(speed_row(text, program), flush=True)
 
 
