@@ -1,12 +1,15 @@
 -- What a text begins with, by its bytes.
-use Rattle.std.proofs.Common.{◌≡◌, ℕ, ◌+◌, ◌*◌, ◌%◌, ◌<◌, ◌≤◌, ◌⊎◌, inl, inr, List, [], ◌∷◌, ◌++◌, length, slice_index, drop, drop_at, refl, sym, arith, append-nil}
+use Rattle.std.proofs.Common.{◌≡◌, ℕ, ◌+◌, ◌*◌, ◌%◌, ◌<◌, ◌≤◌, ◌⊎◌, ⊎_elim, inl, inr, List, [], ◌∷◌, ◌++◌, length, slice_index, drop, drop_at, refl, sym, arith, append-nil}
 use Rattle.std.specs.Prelude.{encode_utf8, encode_utf8_all}
 use Rattle.std.specs.Str.{IsUtf8, IsCharBoundary, all_scalars}
 use Rattle.std.proofs.lemmas.Str.{IsCharBoundary-at_seam}
 use lib.Utf8.{scalar, scalar_cases}
 use Rattle.std.proofs.str.Laws.{order, one, two, three, four}
 use Rattle.std.proofs.lemmas.Bool.{and_parts}
-use Rattle.nf_counts.specs.Piece.{BeginsWith}
+use Rattle.std.proofs.lemmas.Bool.Decides.{nat_tests}
+use Rattle.nf_forms.specs.Properties.{Properties}
+use Rattle.nf_counts.specs.Counts.{IsValued}
+use Rattle.nf_counts.specs.Piece.{BeginsWith, IsPiece}
 
 -- there it may be cut
 module _ (text chars : List ℕ) (len : ℕ) (begins : BeginsWith text chars len) where
@@ -32,10 +35,21 @@ three_spell text = slice_index text 0 % 16 * 4096 + slice_index text 1 % 64 * 64
 abbrev pub four_spell : List ℕ → ℕ
 four_spell text = slice_index text 0 % 8 * 262144 + slice_index text 1 % 64 * 4096 + slice_index text 2 % 64 * 64 + slice_index text 3 % 64
 
-abbrev HasFirst : List ℕ → Type 0
-HasFirst text =
-    ((slice_index text 0 < 0xE0) × HasCode text 2 (two_spell text))
-    ⊎ (((0xE0 ≤ slice_index text 0) × (slice_index text 0 < 0xF0) × HasCode text 3 (three_spell text)) ⊎ ((0xF0 ≤ slice_index text 0) × HasCode text 4 (four_spell text)))
+pub four_is : (text : List ℕ) (a b d e : ℕ) → a ≡ slice_index text 0 → b ≡ slice_index text 1 → d ≡ slice_index text 2 → e ≡ slice_index text 3
+    → (((a % 32 * 64 + b % 64) * 64 + d % 64) * 64 + e % 64) % 2097152 ≡ four_spell text
+four_is text a b d e first second third fourth = omega (arith, first, second, third, fourth)
+
+pub record HasFirst (text : List ℕ) : Type 0 where
+  pub two : slice_index text 0 < 0xE0 → HasCode text 2 (two_spell text)
+  pub three : 0xE0 ≤ slice_index text 0 → slice_index text 0 < 0xF0 → HasCode text 3 (three_spell text)
+  pub four : 0xF0 ≤ slice_index text 0 → HasCode text 4 (four_spell text)
+
+pub has_second : (text : List ℕ) → HasFirst text → 1 < length text
+has_second text first =
+    ⊎_elim
+    (λ low. omega (arith, (boundary _ _ _ (first.two low).begins).0))
+    (λ more. ⊎_elim (λ low. omega (arith, (boundary _ _ _ (first.three more low).begins).0)) (λ high. omega (arith, (boundary _ _ _ (first.four high).begins).0)) (order (slice_index text 0) 0xF0))
+    (order (slice_index text 0) 0xE0)
 
 -- from a byte on that is not ASCII
 pub first_of : (text : List ℕ) → IsUtf8 text → 0x80 ≤ slice_index text 0 → HasFirst text
@@ -60,13 +74,40 @@ first_of text (c ∷ cs, spells) high = within (order c 128) (order c 2048) (ord
     within (inl ascii) _ _ = absurd (omega (arith, high, at 0 _ (one c ascii)))
     within (inr more) (inl small) _ =
         let e = two c more small in
-        let is : c ≡ two_spell text = omega (arith, at 0 _ e, at 1 _ e) in
-        inl (omega (arith, at 0 _ e), record { begins = rw (e, is) at begins; fits = rw is at fits; one = λ k above below. grind (arith, at 1 _ e) })
+        let lead = at 0 _ e in
+        let is : c ≡ two_spell text = omega (arith, lead, at 1 _ e) in
+        record {
+          two = λ _. record { begins = rw (e, is) at begins; fits = rw is at fits; one = λ k above below. grind (arith, at 1 _ e) };
+          three = λ high _. absurd (omega (arith, high, lead, small));
+          four = λ high. absurd (omega (arith, high, lead, small));
+        }
     within (inr _) (inr more) (inl small) =
         let e = three c more small in
-        let is : c ≡ three_spell text = omega (arith, at 0 _ e, at 1 _ e, at 2 _ e) in
-        inr (inl (omega (arith, at 0 _ e), omega (arith, small, at 0 _ e), record { begins = rw (e, is) at begins; fits = rw is at fits; one = λ k above below. grind (arith, order k 2, at 1 _ e, at 2 _ e) }))
+        let lead = at 0 _ e in
+        let is : c ≡ three_spell text = omega (arith, lead, at 1 _ e, at 2 _ e) in
+        record {
+          two = λ low. absurd (omega (arith, low, lead));
+          three = λ _ _. record { begins = rw (e, is) at begins; fits = rw is at fits; one = λ k above below. grind (arith, order k 2, at 1 _ e, at 2 _ e) };
+          four = λ high. absurd (omega (arith, high, lead, small));
+        }
     within (inr _) (inr _) (inr more) =
         let e = four c more in
-        let is : c ≡ four_spell text = omega (arith, fits, at 0 _ e, at 1 _ e, at 2 _ e, at 3 _ e) in
-        inr (inr (omega (arith, at 0 _ e), record { begins = rw (e, is) at begins; fits = rw is at fits; one = λ k above below. grind (arith, order k 2, order k 3, at 1 _ e, at 2 _ e, at 3 _ e) }))
+        let lead = at 0 _ e in
+        let is : c ≡ four_spell text = omega (arith, fits, lead, at 1 _ e, at 2 _ e, at 3 _ e) in
+        record {
+          two = λ low. absurd (omega (arith, low, lead));
+          three = λ _ low. absurd (omega (arith, low, lead));
+          four = λ _. record { begins = rw (e, is) at begins; fits = rw is at fits; one = λ k above below. grind (arith, order k 2, order k 3, at 1 _ e, at 2 _ e, at 3 _ e) };
+        }
+
+-- a character of this value
+pub piece_of : {p : Properties} {text : List ℕ} {n code value : ℕ} → HasCode text n code → 0 < n → value < 16 → IsValued p code value → IsPiece p text record { len = n; value = value }
+piece_of {code = code} here some within valued = record {
+  chars = code ∷ [];
+  begins = here.begins;
+  some = some;
+  within = within;
+  sound = rw valued.sound;
+  unassigned = grind (arith, nat_tests, valued.assigned);
+  row = rw append-nil valued.row;
+}

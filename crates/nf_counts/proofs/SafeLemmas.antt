@@ -1,5 +1,5 @@
 -- Text of which runs are short, from one starter to another.
-use Rattle.std.proofs.Common.{◌≡◌, ℕ, ◌+◌, ◌-◌, ◌<◌, ◌≤◌, ⊎_elim, true, not, List, [], ◌∷◌, ◌++◌, length, slice_index, take, drop, refl, sym, ap, arith, append-nil, append_assoc, length-append, length-drop, length-take-le, take_at, take-append-drop}
+use Rattle.std.proofs.Common.{◌≡◌, ℕ, ◌+◌, ◌-◌, ◌<◌, ◌≤◌, ◌==◌, ◌&&◌, ⊎_elim, true, not, List, [], ◌∷◌, ◌++◌, length, take, drop, refl, sym, ap, arith, append-nil, append_assoc, length-append, length-drop, length-take-le, take_at, take-append-drop, eqb-true}
 use Rattle.std.specs.Prelude.{chars, encode_utf8, encode_utf8_all}
 use Rattle.std.specs.List.{list_all}
 use Rattle.std.specs.Str.{IsUtf8, IsCharBoundary, all_scalars}
@@ -7,10 +7,12 @@ use lib.Utf8.{scalar, scalar_cases}
 use Rattle.std.proofs.str.Laws.{order}
 use Rattle.std.proofs.lemmas.Bool.{and_parts}
 use Rattle.std.proofs.lemmas.Bool.Decides.{nat_tests}
-use Rattle.std.proofs.lemmas.List.{get_or-drop, get_or-take}
+use Rattle.std.proofs.lemmas.List.{get_or-drop}
+use Rattle.std.proofs.lemmas.Nat.{and_le_l}
 use Rattle.std.proofs.lemmas.List.Folds.{list_all-append}
-use Rattle.std.proofs.lemmas.Str.{encodes-append, encodes-chars, chars_from_encodes, chars_past_char, IsCharBoundary-at_seam, scalars-chars, IsUtf8-drop, IsUtf8-take}
+use Rattle.std.proofs.lemmas.Str.{encodes-append, encodes-chars, length-encode, len_utf8_bounds, chars_from_encodes, chars_past_char, scalars-chars, IsUtf8-drop, IsUtf8-take}
 use Rattle.ucd_table.proofs.TrieCheck.{all_below, all_below-at}
+use Rattle.nf_lanes.specs.Sets.{byte_sets, pair_sets}
 use Rattle.nf_forms.specs.Forms.{decomposed}
 use Rattle.nf_forms.specs.Laws.Runs.{has_starter-append, lead-append, longest-append, lead-marks}
 use Rattle.nf_forms.specs.Laws.StreamSafe.{decomposed-append}
@@ -20,41 +22,52 @@ use Rattle.nf_forms.specs.Ucd.{ucd}
 use Rattle.nf_forms.specs.declared.form.Form.TheVariants.{Nfkd}
 use Rattle.nf_counts.specs.Piece.{IsPiece}
 use Rattle.nf_counts.specs.Safe.{HasShortRuns, IsSafeFront, IsShortTo, StandsAt}
-use Rattle.nf_counts.specs.Starts.{starts}
+use Rattle.nf_counts.specs.declared.starts.TheConstants.{PAIRS}
+use Rattle.nf_counts.specs.Starts.{lead_starts, starts, starts_at}
 use Rattle.nf_counts.proofs.PieceLemmas.{rest_is}
 use Rattle.nf_counts.proofs.StartLemmas.{begins, few_in, longest-le-count}
 
 -- ASCII starts, and no later byte of a character does
-ascii_starts : all_below starts 128 ≡ true
+ascii_starts : all_below lead_starts 128 ≡ true
 unfolding all_below
 ascii_starts = refl
 
-pub starts-ascii : (b : ℕ) → b < 128 → starts b ≡ true
-starts-ascii b small = all_below-at starts 128 b ascii_starts small
+pub starts-ascii : (b next : ℕ) → b < 128 → starts b next ≡ true
+starts-ascii b next small = grind (arith, all_below-at lead_starts 128 b ascii_starts small)
 
-later_do_not : all_below (λ i. not (starts (128 + i))) 64 ≡ true
+later_do_not : all_below (λ i. not (lead_starts (128 + i)) && (byte_sets PAIRS.first_high PAIRS.first_low (128 + i) == 0)) 64 ≡ true
 unfolding all_below
 later_do_not = refl
 
-starts-lead : (b : ℕ) → starts b ≡ true → 128 ≤ b → 192 ≤ b
-starts-lead b is high =
+starts-lead : (b next : ℕ) → starts b next ≡ true → 128 ≤ b → 192 ≤ b
+starts-lead b next is high =
     ⊎_elim
     (λ low.
     let same : 128 + (b - 128) ≡ b = omega (arith, high) in
-    absurd (grind (arith, is, rw same at (all_below-at (λ i. not (starts (128 + i))) 64 (b - 128) later_do_not (omega arith)))))
+    let first = byte_sets PAIRS.first_high PAIRS.first_low b in
+    let neither = and_parts (not (lead_starts b)) (first == 0) (rw same at (all_below-at (λ i. not (lead_starts (128 + i)) && (byte_sets PAIRS.first_high PAIRS.first_low (128 + i) == 0)) 64 (b - 128) later_do_not (omega arith))) in
+    let none : pair_sets PAIRS b next ≡ 0 = omega (arith, and_le_l first (byte_sets PAIRS.next_high PAIRS.next_low next), eqb-true first 0 neither.1) in
+    absurd (grind (arith, nat_tests, is, neither.0, none)))
     (λ lead. lead)
     (order b 192)
 
-pub boundary : (text : List ℕ) (at : ℕ) → at < length text → starts (slice_index text at) ≡ true → IsCharBoundary text at
-boundary text at within is = (omega (arith, within), λ inside high. starts-lead _ is high)
+pub boundary : (text : List ℕ) (at : ℕ) → at < length text → starts_at text at ≡ true → IsCharBoundary text at
+boundary text at within is = (omega (arith, within), λ inside high. starts-lead _ _ is high)
 
--- a text may be cut after its first character
-after_first : (text rest : List ℕ) (c : ℕ) → IsUtf8 text → text ≡ encode_utf8 c ++ rest → IsCharBoundary text (length (encode_utf8 c))
-after_first text rest c u e =
-    let is = chars_past_char text rest c u e in
-    let others = chars rest in
-    IsCharBoundary-at_seam text (encode_utf8 c) (encode_utf8_all others) (sym (rw is at (encodes-chars text u)))
-    (others, ((and_parts (scalar c) (all_scalars others) (rw is at (scalars-chars text u))).1, refl))
+-- what stands from a starter on
+pub record IsFrom (others : List ℕ) : Type 0 where
+  pub utf8 : IsUtf8 others
+  pub some : 0 < length others
+  pub begins : starts_at others 0 ≡ true
+
+pub from_start : (text : List ℕ) (at : ℕ) → IsUtf8 text → (at < length text) × (starts_at text at ≡ true) → IsFrom (drop at text)
+from_start text at u here =
+    let zero : at + 0 ≡ at = omega arith in
+    record {
+      utf8 = IsUtf8-drop text at u (boundary text at here.0 here.1);
+      some = omega (arith, length-drop at text, here.0);
+      begins = simp (get_or-drop, zero) here.1;
+    }
 
 trail-le-longest : (w : List ℕ) → trail ucd w ≤ longest ucd w
 trail-le-longest w = let is = rw append-nil at (longest-append ucd w []) in omega arith
@@ -85,21 +98,18 @@ module _ (sound : (c : ℕ) → is_sound ucd c ≡ true) where
     pub some : has_starter ucd (decomposed Nfkd ucd cs) ≡ true
     pub longest : longest ucd (decomposed Nfkd ucd cs) ≤ n
 
-  pub started : (text : List ℕ) → IsUtf8 text → 0 < length text → starts (slice_index text 0) ≡ true → IsStarted (chars text) (length text)
-  started text u some is = of (chars text) (scalars-chars text u) (encodes-chars text u)
-    where
-      of : (cs : List ℕ) → all_scalars cs ≡ true → encode_utf8_all cs ≡ text → IsStarted cs (length text)
-      of [] scalars e = absurd (omega (arith, some, ap length e))
-      of (c ∷ cs) scalars e =
-          let fits : c < 1114112 = grind (arith, scalar_cases c, (and_parts (scalar c) (all_scalars cs) scalars).0) in
-          let first = begins sound c (encode_utf8_all cs) fits (rw (← e) at is) in
-          let row = ucd.compat c in
-          let others = decomposed Nfkd ucd cs in
-          record {
-            lead = grind (arith, lead-append ucd row others, first.0, first.1);
-            some = grind (arith, nat_tests, has_starter-append ucd row others, first.0);
-            longest = omega (arith, longest-le-count ucd (decomposed Nfkd ucd (c ∷ cs)), few_in sound (c ∷ cs) scalars, ap length e);
-          }
+  started : (cs rest : List ℕ) → all_scalars cs ≡ true → 0 < length (encode_utf8_all cs) → starts_at (encode_utf8_all cs ++ rest) 0 ≡ true → IsStarted cs (length (encode_utf8_all cs))
+  started [] rest scalars some is = absurd (omega (arith, some))
+  started (c ∷ cs) rest scalars some is =
+      let fits : c < 1114112 = grind (arith, scalar_cases c, (and_parts (scalar c) (all_scalars cs) scalars).0) in
+      let first = begins sound c (encode_utf8_all cs ++ rest) fits (rw (append_assoc (encode_utf8 c) (encode_utf8_all cs) rest) at is) in
+      let row = ucd.compat c in
+      let others = decomposed Nfkd ucd cs in
+      record {
+        lead = grind (arith, lead-append ucd row others, first.0, first.1);
+        some = grind (arith, nat_tests, has_starter-append ucd row others, first.0);
+        longest = omega (arith, longest-le-count ucd (decomposed Nfkd ucd (c ∷ cs)), few_in sound (c ∷ cs) scalars);
+      }
 
   -- what so begins, of at most 30 bytes, makes no long run
   pub goes_on : (x cs : List ℕ) (n : ℕ) → HasShortRuns ucd x → IsStarted cs n → n ≤ 30 → HasShortRuns ucd (x ++ cs)
@@ -126,8 +136,10 @@ module _ (sound : (c : ℕ) → is_sound ucd c ≡ true) where
     started_at : IsStarted (chars (take len others)) len
     started_at =
         let zero : at + 0 ≡ at = omega arith in
-        let is : starts (slice_index (take len others) 0) ≡ true = rw (get_or-take len others 0 0 some, get_or-drop, zero) stands.starts in
-        rw long at (started (take len others) (IsUtf8-take others len others_utf8 cut) (omega (arith, long, some)) is)
+        let is : starts_at (take len others ++ drop len others) 0 ≡ true = simp (take-append-drop, get_or-drop, zero) stands.starts in
+        let front = IsUtf8-take others len others_utf8 cut in
+        let spells = encodes-chars (take len others) front in
+        rw (spells, long) at (started (chars (take len others)) (drop len others) (scalars-chars (take len others) front) (rw spells (omega (arith, long, some))) (rw spells is))
 
     short_to : len ≤ 30 → IsShortTo ucd text (at + len)
     short_to few =
@@ -144,7 +156,7 @@ module _ (sound : (c : ℕ) → is_sound ucd c ≡ true) where
           short = goes_on before.front (chars (take len others)) len before.short started_at few;
         }
 
-  pub stands_on : (text : List ℕ) (at next : ℕ) → IsUtf8 text → StandsAt ucd text at → at ≤ next → next ≤ at + 30 → next < length text → starts (slice_index text next) ≡ true → StandsAt ucd text next
+  pub stands_on : (text : List ℕ) (at next : ℕ) → IsUtf8 text → StandsAt ucd text at → at ≤ next → next ≤ at + 30 → next < length text → starts_at text next ≡ true → StandsAt ucd text next
   stands_on text at next u stands less few within is =
       let len = next - at in
       let whole : at + len ≡ next = omega (arith, less) in
@@ -155,21 +167,24 @@ module _ (sound : (c : ℕ) → is_sound ucd c ≡ true) where
       (λ more. record { before = rw whole at (short_to text at len u stands cut (omega (arith, more)) (omega (arith, few))); within = within; starts = is })
       (order next (at + 1))
 
-  -- a text in three, where the second part is the character that begins at such a place
-  pub is_safe : (text : List ℕ) (at c : ℕ) (more : List ℕ) → IsUtf8 text → StandsAt ucd text at → drop at text ≡ encode_utf8 c ++ more → (len : ℕ) → len ≡ length (encode_utf8 c) → 1 ≤ len → len ≤ 4
-      → IsCharBoundary (drop at text) len × ((settled rest tail last : List ℕ) → settled ≡ take at text → rest ≡ drop at text → tail ≡ take len rest → last ≡ drop len rest → IsSafeFront ucd text settled tail last)
-  is_safe text at c more u stands e len is some few =
-      let before = stands.before in
-      let front = encode_utf8_all before.front in
+  -- a text in four, where the third part is the character that begins at such a place
+  pub is_safe : (before text : List ℕ) (at c : ℕ) (rest : List ℕ) → IsUtf8 text → StandsAt ucd text at → drop at text ≡ encode_utf8 c ++ rest → IsSafeFront ucd (before ++ text) before (take at text) c rest
+  is_safe before text at c rest u stands e =
+      let begins = stands.before.begins in
+      let front = stands.before.front in
+      let bytes = encode_utf8_all front in
       let from = boundary text at stands.within stands.starts in
-      let cut : IsCharBoundary (drop at text) len = rw is (after_first (drop at text) more c (IsUtf8-drop text at u from) e) in
-      let spelled : front ≡ take at text = rw before.begins.split (sym (take_at front before.begins.rest at (sym before.begins.is_long))) in
-      let same : before.front ≡ chars (take at text) = chars_from_encodes before.front (take at text) (IsUtf8-take text at u from) spelled in
-      let end = started_at text at len u stands cut some in (
-        cut,
-        λ settled rest tail last first second third fourth. rw (first, third, fourth, second) (record {
-          split = rw (take-append-drop, take-append-drop) refl;
-          short = rw (← same) (goes_on before.front _ len before.short end (omega (arith, few)));
-          some = end.some;
-        }),
-      )
+      let zero : at + 0 ≡ at = omega arith in
+      let here : starts_at (encode_utf8 c ++ rest) 0 ≡ true = simp (← e, get_or-drop, zero) stands.starts in
+      let is = chars_past_char (drop at text) rest c (IsUtf8-drop text at u from) e in
+      let scalars = and_parts (scalar c) (all_scalars (chars rest)) (rw is at (scalars-chars (drop at text) (IsUtf8-drop text at u from))) in
+      let spelled : bytes ≡ take at text = rw begins.split (sym (take_at bytes begins.rest at (sym begins.is_long))) in
+      let same : front ≡ chars (take at text) = chars_from_encodes front (take at text) (IsUtf8-take text at u from) spelled in
+      let alone : encode_utf8_all (c ∷ []) ≡ encode_utf8 c = append-nil (encode_utf8 c) in
+      let bounds = len_utf8_bounds c in
+      let last : IsStarted (c ∷ []) (length (encode_utf8 c)) = rw alone at (started (c ∷ []) rest (grind (arith, scalars.0)) (rw alone (omega (arith, length-encode c, bounds))) (rw alone here)) in
+      record {
+        split = rw (← e, take-append-drop) refl;
+        short = rw (← same) (goes_on front (c ∷ []) _ stands.before.short last (omega (arith, length-encode c, bounds)));
+        some = last.some;
+      }

@@ -19,7 +19,7 @@ use Rattle.nf_forms.specs.Sound.{is_sound}
 use Rattle.nf_forms.specs.Ucd.{ucd}
 use Rattle.nf_forms.specs.declared.form.Form.TheVariants.{Nfkd}
 use Rattle.nf_counts.specs.Counts.{starts_by, IsValued}
-use Rattle.nf_counts.specs.Starts.{starts}
+use Rattle.nf_counts.specs.Starts.{starts, starts_at}
 use Rattle.nf_counts.specs.declared.rows.TheConstants.{INDEX, WORDS}
 use Rattle.nf_counts.proofs.Told.{told, told-ascii, told-some, told-valued, told-block}
 
@@ -30,20 +30,21 @@ value_starts n j = starts_by (block_value 4 4 WORDS n j)
 abbrev block_starts : ℕ → Bool
 block_starts b = or_else (slice_index INDEX b == 0) (λ _. all_below (value_starts (slice_index INDEX b)) 64)
 
+-- a lead byte and the next of which the starter is told
 abbrev three_starts : ℕ → Bool
-three_starts k = or_else (not (starts (224 + k))) (λ _. all_below (λ i. block_starts (64 * k + i)) 64)
+three_starts k = all_below (λ i. or_else (not (starts (224 + k) (128 + i))) (λ _. block_starts (64 * k + i))) 64
 
 abbrev two_starts : ℕ → Bool
-two_starts k = or_else (not (starts (192 + k))) (λ _. block_starts k)
+two_starts k = all_below (λ j. or_else (not (starts (192 + k) (128 + j))) (λ _. value_starts (slice_index INDEX k) j)) 64
 
 abbrev none_four : ℕ → Bool
-none_four k = not (starts (240 + k))
+none_four k = all_below (λ i. not (starts (240 + k) (128 + i))) 64
 
 record ByLead : Type 0 where
   first : all_below (value_starts 0) 64 ≡ true
   of_two : all_below two_starts 32 ≡ true
   of_three : all_below three_starts 16 ≡ true
-  of_four : all_below none_four 16 ≡ true
+  of_four : all_below none_four 5 ≡ true
 
 by_lead : ByLead
 unfolding all_below block_value
@@ -74,34 +75,41 @@ module _ (sound : (c : ℕ) → is_sound ucd c ≡ true) where
   by_value : (c : ℕ) → c < 1114112 → starts_by (told c) ≡ true → Begins c
   by_value c small is = let row = (valued c small).row in grind (arith, nat_tests, row.has_starter, row.lead)
 
-  by_block : (b j : ℕ) → b < 1024 → j < 64 → block_starts b ≡ true → Begins (64 * b + j)
-  by_block b j small little is =
-      let here : value_starts (slice_index INDEX b) j ≡ true = at (slice_index INDEX b == 0) refl is in
-      by_value (64 * b + j) (omega (arith, small, little)) (rw (told-block b j (omega (arith, small)) little) at here)
+  by_place : (b j : ℕ) → b < 1024 → j < 64 → value_starts (slice_index INDEX b) j ≡ true → Begins (64 * b + j)
+  by_place b j small little is = by_value (64 * b + j) (omega (arith, small, little)) (rw (told-block b j (omega (arith, small)) little) at is)
+
+  by_block : (b j : ℕ) → j < 64 → block_starts b ≡ true → value_starts (slice_index INDEX b) j ≡ true
+  by_block b j little is = at (slice_index INDEX b == 0) refl is
     where
       at : (zero : Bool) → (slice_index INDEX b == 0) ≡ zero → or_else zero (λ _. all_below (value_starts (slice_index INDEX b)) 64) ≡ true → value_starts (slice_index INDEX b) j ≡ true
       at true e _ = rw (eqb-true _ 0 e) (all_below-at (value_starts 0) 64 j by_lead.first little)
       at false _ all = all_below-at (value_starts (slice_index INDEX b)) 64 j all little
 
-  pub begins : (c : ℕ) (more : List ℕ) → c < 1114112 → starts (slice_index (encode_utf8 c ++ more) 0) ≡ true → Begins c
+  pub begins : (c : ℕ) (more : List ℕ) → c < 1114112 → starts_at (encode_utf8 c ++ more) 0 ≡ true → Begins c
   begins c more small is = at (order c 128) (order c 2048) (order c 65536)
     where
       at : (c < 128) ⊎ (128 ≤ c) → (c < 2048) ⊎ (2048 ≤ c) → (c < 65536) ⊎ (65536 ≤ c) → Begins c
       at (inl ascii) _ _ = by_value c small (rw (told-ascii c ascii) refl)
       at (inr more_than) (inl less) _ =
-          let lead_is = rw (two c more_than less) at is in
-          let here = all_below-at two_starts 32 (c / 64) by_lead.of_two (omega arith) in
-          let same : 64 * (c / 64) + c % 64 ≡ c = omega arith in
-          rw same at (by_block (c / 64) (c % 64) (omega arith) (omega arith) (grind (arith, here, lead_is)))
+          let k = c / 64 in
+          let j = c % 64 in
+          let pair_is = rw (two c more_than less) at is in
+          let here = all_below-at (λ j. or_else (not (starts (192 + k) (128 + j))) (λ _. value_starts (slice_index INDEX k) j)) 64 j (all_below-at two_starts 32 k by_lead.of_two (omega arith)) (omega arith) in
+          let same : 64 * k + j ≡ c = omega arith in
+          rw same at (by_place k j (omega arith) (omega arith) (grind (arith, here, pair_is)))
       at (inr _) (inr more_than) (inl less) =
-          let lead_is = rw (three c more_than less) at is in
-          let here = all_below-at three_starts 16 (c / 4096) by_lead.of_three (omega arith) in
-          let blocks : all_below (λ i. block_starts (64 * (c / 4096) + i)) 64 ≡ true = grind (arith, here, lead_is) in
-          let same : 64 * (64 * (c / 4096) + c / 64 % 64) + c % 64 ≡ c = omega arith in
-          rw same at (by_block (64 * (c / 4096) + c / 64 % 64) (c % 64) (omega arith) (omega arith) (all_below-at (λ i. block_starts (64 * (c / 4096) + i)) 64 (c / 64 % 64) blocks (omega arith)))
+          let k = c / 4096 in
+          let i = c / 64 % 64 in
+          let pair_is = rw (three c more_than less) at is in
+          let here = all_below-at (λ i. or_else (not (starts (224 + k) (128 + i))) (λ _. block_starts (64 * k + i))) 64 i (all_below-at three_starts 16 k by_lead.of_three (omega arith)) (omega arith) in
+          let block : block_starts (64 * k + i) ≡ true = grind (arith, here, pair_is) in
+          let same : 64 * (64 * k + i) + c % 64 ≡ c = omega arith in
+          rw same at (by_place (64 * k + i) (c % 64) (omega arith) (omega arith) (by_block (64 * k + i) (c % 64) (omega arith) block))
       at (inr _) (inr _) (inr more_than) =
-          let lead_is = rw (four c more_than) at is in
-          absurd (grind (arith, lead_is, all_below-at none_four 16 (c / 262144) by_lead.of_four (omega arith)))
+          let k = c / 262144 in
+          let i = c / 4096 % 64 in
+          let pair_is = rw (four c more_than) at is in
+          absurd (grind (arith, pair_is, all_below-at (λ i. not (starts (240 + k) (128 + i))) 64 i (all_below-at none_four 5 k by_lead.of_four (omega arith)) (omega arith)))
 
   -- as many non-starters as bytes at most
   few : (c : ℕ) → c < 1114112 → count_by (is_nonstarter ucd) (ucd.compat c) ≤ length (encode_utf8 c)

@@ -5,7 +5,7 @@ use Rattle.std.proofs.lemmas.Bool.Decides.{nat_tests}
 use Rattle.ucd_table.specs.Trie.{IsTrie, block_value, trie_value}
 use Rattle.ucd_table.proofs.Stepped.{Stepped, map_stepped, zip_stepped, runs_of}
 use Rattle.ucd_table.proofs.Facts.{Stepped-always, Stepped-below, always, tree_value, tree_of, tree_value-tree_of}
-use Rattle.ucd_table.proofs.TrieCheck.{trie_ok-IsTrie, trie_value-Stepped, trie_ok}
+use Rattle.ucd_table.proofs.TrieCheck.{all_below, all_below-at, trie_ok-IsTrie, trie_value-Stepped, trie_ok}
 use Rattle.ucd_table.proofs.Computing.{tables}
 use Rattle.ucd_category.specs.GeneralCategory.{general_category, general_category_eq}
 use Rattle.ucd_category.specs.declared.GeneralCategory.TheVariants.{Unassigned}
@@ -182,3 +182,14 @@ told-valued c sound v is some = next (is_assigned c) refl (compatibility_decompo
           assigned = rw (both.0, told_so);
           row = rw both.0 (record { has_starter = none.has_starter; lead = none.lead; trail = none.trail; longest = none.longest; nonstarters = none.nonstarters });
         }
+
+-- U+0300 to U+033F are non-starters
+marks_are : all_below (λ j. block_value 4 4 WORDS (slice_index INDEX 12) j == 5) 64 ≡ true
+unfolding all_below block_value
+marks_are = refl
+
+pub valued-mark : (c : ℕ) → is_sound ucd c ≡ true → c / 64 ≡ 12 → IsValued ucd c 5
+valued-mark c sound block =
+    let whole : 64 * 12 + c % 64 ≡ c = omega (arith, block) in
+    let is : block_value 4 4 WORDS (slice_index INDEX 12) (c % 64) ≡ 5 = eqb-true _ 5 (all_below-at (λ j. block_value 4 4 WORDS (slice_index INDEX 12) j == 5) 64 (c % 64) marks_are (omega arith)) in
+    told-valued c sound 5 (sym is ∙ rw whole at (told-block 12 (c % 64) (omega arith) (omega arith))) refl

@@ -1,8 +1,8 @@
 -- A front of a text in which no run of non-starters is long (UAX #15, section 13).
-use Rattle.std.specs.Prelude.{◌≡◌, ◌≤◌, ◌<◌, ℕ, true, List, ◌++◌, chars, length, slice_index}
+use Rattle.std.specs.Prelude.{◌≡◌, ◌≤◌, ◌<◌, ℕ, true, List, [], ◌∷◌, ◌++◌, chars, length, encode_utf8}
 use Rattle.std.specs.List.{list_all}
 use Rattle.nf_counts.specs.Piece.{BeginsWith}
-use Rattle.nf_counts.specs.Starts.{starts}
+use Rattle.nf_counts.specs.Starts.{starts_at}
 use Rattle.nf_forms.specs.Properties.{Properties}
 use Rattle.nf_forms.specs.declared.form.Form.TheVariants.{Nfkd}
 use Rattle.nf_forms.specs.Forms.{decomposed}
@@ -15,11 +15,11 @@ pub record HasShortRuns (p : Properties) (x : List ℕ) : Type 0 where
   pub lead : lead p (decomposed Nfkd p x) ≡ 0
   pub longest : longest p (decomposed Nfkd p x) ≤ 30
 
--- the front of the text is in two, and its second part has a starter
-pub record IsSafeFront (p : Properties) (text settled tail rest : List ℕ) : Type 0 where
-  pub split : text ≡ settled ++ (tail ++ rest)
-  pub short : HasShortRuns p (chars settled ++ chars tail)
-  pub some : has_starter p (decomposed Nfkd p (chars tail)) ≡ true
+-- after what stands before it, the front of the text is in two, and its last character has a starter
+pub record IsSafeFront (p : Properties) (text before settled : List ℕ) (last : ℕ) (rest : List ℕ) : Type 0 where
+  pub split : text ≡ before ++ (settled ++ (encode_utf8 last ++ rest))
+  pub short : HasShortRuns p (chars settled ++ last ∷ [])
+  pub some : has_starter p (decomposed Nfkd p (last ∷ [])) ≡ true
 
 -- such characters stand before a place
 pub record IsShortTo (p : Properties) (text : List ℕ) (at : ℕ) : Type 0 where
@@ -31,4 +31,4 @@ pub record IsShortTo (p : Properties) (text : List ℕ) (at : ℕ) : Type 0 wher
 pub record StandsAt (p : Properties) (text : List ℕ) (at : ℕ) : Type 0 where
   pub before : IsShortTo p text at
   pub within : at < length text
-  pub starts : starts (slice_index text at) ≡ true
+  pub starts : starts_at text at ≡ true

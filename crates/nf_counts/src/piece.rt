@@ -4,9 +4,12 @@ ghost use Rattle.std.specs.Prelude.{◌≡◌, ◌<◌, ◌≤◌, ℕ, length, 
 ghost use Rattle.nf_forms.specs.Ucd.{ucd};
 ghost use Rattle.nf_counts.specs.Piece.{IsPiece};
 
-use crate::table::value;
+use crate::table::{MARK, value};
 use nf_facts::laws;
 use nf_utf8::ascii_prefix;
+
+/// The lead byte of U+0300 to U+033F, each of them a non-starter.
+const MARKS: u8 = 0xCC;
 
 /// Characters at the front of a text, and the value of their compatibility decomposition.
 #[derive(Clone, Copy)]
@@ -42,18 +45,26 @@ pub(crate) fn first_character(text: &str, third: u8) -> Piece
     ensures piece { IsPiece ucd text.now result }
     ensures one { (k : ℕ) → 0 < k → k < result.len → slice_index text.now k < 0xC0 }
 {
+    laws::every_character_is_sound();
     let bytes = text.as_bytes();
     let lead = bytes[0];
+    if lead == MARKS {
+        return Piece {
+            len: 2,
+            value: MARK,
+        };
+    }
     let bits = (u32::from(lead) % 32 * 64 + u32::from(bytes[1]) % 64) * 64 + u32::from(third) % 64;
-    let (len, code) = if lead >= 0xF0 {
-        (4, (bits * 64 + u32::from(bytes[3]) % 64) % 0x20_0000)
-    } else if lead >= 0xE0 {
+    if lead >= 0xF0 {
+        let code = (bits * 64 + u32::from(bytes[3]) % 64) % 0x20_0000;
+        let value = value(code);
+        return Piece { len: 4, value };
+    }
+    let (len, code) = if lead >= 0xE0 {
         (3, bits % 0x1_0000)
     } else {
         (2, bits / 64)
     };
-    Piece {
-        len,
-        value: value(code),
-    }
+    let value = value(code);
+    Piece { len, value }
 }

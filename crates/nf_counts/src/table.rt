@@ -6,6 +6,9 @@ use crate::rows::{INDEX, TAIL, WORDS};
 use nf_facts::laws;
 use ucd_table::get_wide;
 
+/// The value of a non-starter.
+pub(crate) const MARK: u32 = 5;
+
 /// The value of an unassigned character.
 pub(crate) const UNASSIGNED: u32 = 8;
 

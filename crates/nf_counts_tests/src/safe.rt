@@ -23,7 +23,13 @@ fn settled_len(bytes: &[u8]) -> usize {
     safe_front(text).map_or(0, |safe| safe.settled.len())
 }
 
-/// Each character is passed over among letters; and a front that it begins has a starter first.
+/// How many bytes stand before a front.
+fn before_len(bytes: &[u8]) -> Option<usize> {
+    let text = str::from_utf8(bytes).ok()?;
+    Some(safe_front(text)?.before.len())
+}
+
+/// Each character is passed over among letters; and a front begins with it, or after it, where its row has no starter first.
 #[test]
 fn each_character_among_letters(rt: HostRuntime) -> Result<(), Fail> {
     for code in 0..0x11_0000u32 {
@@ -37,8 +43,9 @@ fn each_character_among_letters(rt: HostRuntime) -> Result<(), Fail> {
         let begins = row
             .first()
             .is_some_and(|d| lookup::canonical_combining_class(*d) == 0);
+        let before = before_len(&among_letters(0, c));
         assert!(rt;
-            begins || settled_len(&among_letters(0, c)) == 0,
+            before == Some(c.len_utf8()) || begins && before == Some(0),
             "{code:x}"
         );
     }
@@ -57,6 +64,20 @@ fn starters_stand_no_more_than_30_bytes_apart(rt: HostRuntime) -> Result<(), Fai
             let len = settled_len(&bytes);
             assert_eq!(rt; len >= before, count <= 14, "{before} {count}");
         }
+    }
+    Ok(())
+}
+
+/// A front begins at the first letter after marks of two bytes, of which there are no more than 15.
+#[test]
+fn a_front_begins_after_marks(rt: HostRuntime) -> Result<(), Fail> {
+    for count in 0..20usize {
+        let mut bytes = [b'a'; 96];
+        for pair in bytes.chunks_exact_mut(2).take(count) {
+            pair.copy_from_slice("\u{316}".as_bytes());
+        }
+        let expected = if count <= 15 { Some(2 * count) } else { None };
+        assert_eq!(rt; before_len(&bytes), expected, "{count}");
     }
     Ok(())
 }

@@ -148,12 +148,18 @@ fn is_safe(text: &str, chars: &[char]) -> bool {
     let Some(safe) = safe_front(text) else {
         return true;
     };
-    let front = safe.settled.len().saturating_add(safe.tail.len());
+    let Some(from_front) = chars.get(safe.before.chars().count()..) else {
+        return false;
+    };
+    let (count, _) = counted_plainly(0, from_front);
     let settled = safe.settled.chars().count();
-    let (count, _) = counted_plainly(0, chars);
+    let len = safe.before.len().saturating_add(safe.settled.len());
     settled < count
-        && safe.tail.chars().count() == 1
-        && front.saturating_add(safe.rest.len()) == text.len()
+        && from_front.get(settled) == Some(&safe.last)
+        && text.len()
+            == len
+                .saturating_add(safe.last.len_utf8())
+                .saturating_add(safe.rest.len())
 }
 
 /// Up to 200 characters, drawn from some, each a few times in a row, so that there are runs of ASCII and of marks.

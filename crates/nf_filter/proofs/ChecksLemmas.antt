@@ -1,9 +1,9 @@
 -- What a check decides, character by character.
-use Rattle.nf_filter.proofs.Common.{Checker, HasChecked, place_of, ◌≡◌, ℕ, ◌+◌, ◌<◌, ◌≤◌, Bool, true, false, List, [], ◌∷◌, ◌++◌, length, length-append, chars-nil, Some, None, Ok, Err, refl, ap, arith, append_assoc, append-nil, if◌then◌else◌, Option, chars, encode_utf8_all, list_all, and_parts, list_all-append, Properties, Nfkd, decomposed, is_sound, IsSoundText, text_of, ending_of, Place, place_from, Fault, Row, bad_byte, decided_or, decided_in, sound_front, check_fault, place_or_fault, check_decision, text_decision, no_stop, CountsFromEnd}
+use Rattle.nf_filter.proofs.Common.{Checker, HasChecked, place_of, ◌≡◌, ℕ, ◌+◌, ◌<◌, ◌≤◌, Bool, true, false, List, [], ◌∷◌, ◌++◌, length, length-append, length-encode, len_utf8_bounds, encode_utf8, Some, None, Ok, Err, refl, ap, arith, append_assoc, append-nil, if◌then◌else◌, Option, chars, encode_utf8_all, list_all, and_parts, list_all-append, Properties, Nfkd, decomposed, is_sound, text_of, ending_of, Place, place_from, Fault, Row, bad_byte, decided_or, decided_in, sound_front, check_fault, place_or_fault, check_decision, text_decision, CountsFromEnd}
 use Rattle.nf_forms.specs.Laws.Last.{by_last}
 use Rattle.nf_forms.specs.Laws.Runs.{longest-append}
 use Rattle.nf_forms.specs.Laws.StreamSafe.{decomposed-append}
-use Rattle.nf_forms.specs.Runs.{has_starter, longest}
+use Rattle.nf_forms.specs.Runs.{longest}
 use Rattle.nf_counts.specs.Safe.{IsSafeFront}
 use Rattle.nf_safe.specs.Checker.{StandsAfter}
 use Rattle.nf_safe.specs.Laws.Place.{is_in_format-short, place_from-in_format, place_from-stays}
@@ -38,30 +38,29 @@ module _ (p : Properties) where
         next None true (Some fault) row = refl
         next None false bad row = refl
 
-  has_bytes : (tail : List ℕ) → has_starter p (decomposed Nfkd p (chars tail)) ≡ true → 0 < length tail
-  has_bytes [] some = absurd (grind (arith, rw chars-nil at some))
-  has_bytes (b ∷ tail) some = omega arith
-
   -- A front of short runs is in the format, and the count is that of its end alone.
-  module _ {text settled tail rest : List ℕ} (safe : IsSafeFront p text settled tail rest) where
+  module _ {text before settled rest : List ℕ} {last : ℕ} (safe : IsSafeFront p text before settled last rest) where
     abbrev s : List ℕ
     s = chars settled
 
     abbrev t : List ℕ
-    t = chars tail
+    t = last ∷ []
 
     pub counts_from_end : CountsFromEnd p s t
     counts_from_end = record { in_format = is_in_format-short p (s ++ t) safe.short.longest; lead = safe.short.lead; some = safe.some }
 
     pub shorter : length rest < length text
-    shorter = omega (arith, ap length safe.split, length-append settled (tail ++ rest), length-append tail rest, has_bytes tail safe.some)
+    shorter =
+        omega (arith, ap length safe.split, length-append before (settled ++ (encode_utf8 last ++ rest)), length-append settled (encode_utf8 last ++ rest), length-append (encode_utf8 last) rest, length-encode last, len_utf8_bounds last)
 
     -- nothing stops a checker that begins at its end
-    pub unstopped : (base : ℕ) → text_decision p base t ≡ None
+    pub last_sound : is_sound p last ≡ true
+    last_sound = (and_parts _ _ (and_parts _ _ (rw (list_all-append (is_sound p) s t) at safe.short.sound)).1).0
+
+    pub unstopped : (base : ℕ) → place_from base p t ≡ None
     unstopped base =
         let short : longest p (decomposed Nfkd p t) ≤ 30 = omega (arith, safe.short.longest, ap (longest p) (decomposed-append p Nfkd s t), longest-append p (decomposed Nfkd p s) (decomposed Nfkd p t)) in
-        let alone : IsSoundText p t = (and_parts _ _ (rw (list_all-append (is_sound p) s t) at safe.short.sound)).1 in
-        no_stop p base t alone (place_from-in_format p base t (is_in_format-short p t short))
+        place_from-in_format p base t (is_in_format-short p t short)
 
 -- a checker that begins anew
 pub new_checked : {p : Properties} {checker : Checker} {base : ℕ} → StandsAfter base p checker [] → place_of checker ≡ None → HasChecked p checker base []

@@ -1,4 +1,4 @@
-ghost use Rattle.std.specs.Prelude.{◌≡◌, ◌↔◌, ◌+◌, ◌<◌, ◌≤◌, ℕ, List, ◌++◌, length, chars, None, IsTrue, IfErr};
+ghost use Rattle.std.specs.Prelude.{◌≡◌, ◌↔◌, ◌+◌, ◌<◌, ◌≤◌, ℕ, List, [], ◌∷◌, ◌++◌, length, chars, encode_utf8, None, IsTrue, IfErr};
 ghost use Rattle.nf_counts.specs.Safe.{IsSafeFront};
 ghost use Rattle.nf_filter.specs.Surveys.{Surveys, IsOfSurvey, IsCut};
 ghost use Rattle.nf_filter.specs.Checks.{check_decision, no_place, ends_at, HasChecked};
@@ -55,7 +55,6 @@ pub fn check_buffered<R: Rows, I: Source>(
         rows,
         taker: SafeChecker {
             checker: Checker::new(base),
-            search: Search::new(),
         },
     };
     survey(reader, source, buffer)
@@ -110,7 +109,6 @@ impl Taker for Checker {
 #[derive(Drop)]
 struct SafeChecker {
     checker: Checker,
-    search: Search,
 }
 
 impl Taker for SafeChecker {
@@ -127,7 +125,7 @@ impl Taker for SafeChecker {
 
     ghost value = { λ p x. None };
 
-    /// What of it is found to be such a front, or else a window.
+    /// What of it is found to be such a front, with what stands before that, or else a window.
     fn take_front<'t, R: Rows>(
         &mut self,
         rows: &R,
@@ -135,12 +133,13 @@ impl Taker for SafeChecker {
         text: &'t str,
     ) -> Result<&'t str, Decision> {
         if let Some(safe) = rows.safe_front(text) {
-            self.search.found(text.len() - safe.rest.len());
-            pass_safe(&mut self.checker, rows, at, safe);
+            if let Some(decision) = take_text(&mut self.checker, rows, at, safe.before) {
+                return Err(decision);
+            }
+            pass_safe(&mut self.checker, rows, at + safe.before.len() as u64, safe);
             return Ok(safe.rest);
         }
-        self.search.found(0);
-        let (window, rest) = text.split_at(text.ceil_char_boundary(self.search.window_len));
+        let (window, rest) = text.split_at(text.ceil_char_boundary(WINDOW_LEN));
         match take_text(&mut self.checker, rows, at, window) {
             None => Ok(rest),
             Some(decision) => Err(decision),
@@ -154,55 +153,22 @@ impl Taker for SafeChecker {
     ghost undecided = { λ p safe. checked_undecided p safe.checker };
 }
 
-/// Where a front has fewer bytes, it is asked less often.
-const MIN_FRONT_LEN: usize = 256;
+/// Where no such front is found so many bytes are seen before it is looked for again.
+const WINDOW_LEN: usize = 256;
 
-/// At least so many bytes are seen before it is asked again, and at most.
-const MIN_WINDOW_LEN: usize = 64;
-
-const MAX_WINDOW_LEN: usize = 65536;
-
-/// How such a front is looked for: the longer little was found, the less often.
-#[derive(Clone, Copy)]
-struct Search {
-    /// Where there is none, a window of so many bytes is seen without a search.
-    window_len: usize,
-    ghost some: { 0 < window_len },
-}
-
-impl Search {
-    const fn new() -> Search {
-        Search {
-            window_len: MIN_WINDOW_LEN,
-        }
-    }
-
-    /// A front of so many bytes was found.
-    fn found(&mut self, len: usize) {
-        if len >= MIN_FRONT_LEN {
-            if self.window_len > MIN_WINDOW_LEN {
-                self.window_len /= 2;
-            }
-        } else if self.window_len < MAX_WINDOW_LEN {
-            self.window_len *= 2;
-        }
-    }
-}
-
-/// Goes over such a front of a text at the offset `at`. Only its last character is seen, by a checker that begins anew.
+/// Goes over such a front at the offset `at`. Only its last character is seen, by a checker that begins anew.
 fn pass_safe<R: Rows>(checker: &mut Checker, rows: &R, at: u64, safe: SafeFront<'_>)
-    requires safe { IsSafeFront (R.properties rows.now) (safe.settled.now ++ (safe.tail.now ++ safe.rest.now)) safe.settled.now safe.tail.now safe.rest.now }
+    requires safe { IsSafeFront (R.properties rows.now) (safe.before.now ++ (safe.settled.now ++ (encode_utf8 safe.last ++ safe.rest.now))) safe.before.now safe.settled.now safe.last safe.rest.now }
     requires ready { ends_at checker.old at }
-    requires fits { at + length safe.settled.now + length safe.tail.now ≤ u64.MAX }
-    ensures ready { ends_at checker.new (at + length safe.entry.settled.now + length safe.entry.tail.now) }
+    requires fits { at + length safe.settled.now + length (encode_utf8 safe.last) ≤ u64.MAX }
+    ensures ready { ends_at checker.new (at + length safe.entry.settled.now + length (encode_utf8 safe.entry.last)) }
     ensures sees { let p = R.properties rows.now in (base : ℕ) (x : List ℕ) → HasChecked p checker.old base x
-        → HasChecked p checker.new base (x ++ (chars safe.entry.settled.now ++ chars safe.entry.tail.now)) }
+        → HasChecked p checker.new base (x ++ (chars safe.entry.settled.now ++ safe.entry.last ∷ [])) }
 {
-    let place = at + safe.settled.len() as u64;
-    let mut end = Checker::new(place);
-    let None = take_text(&mut end, rows, place, safe.tail) else {
+    let mut end = Checker::new(at + safe.settled.len() as u64);
+    let Ok(_) = end.see(rows, safe.last) else {
         unreachable!();
     };
-    let count = char_count(safe.settled) + char_count(safe.tail);
+    let count = char_count(safe.settled) + 1;
     checker.go_on_from(count as u64, end);
 }

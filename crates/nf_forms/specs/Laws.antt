@@ -12,7 +12,6 @@ pub mod Parting
 pub mod MarkAfter
 pub mod Span
 pub mod SpanSteps
-pub mod SpanEnd
 pub mod Segments
 pub mod Closing
 pub mod Audited

@@ -87,11 +87,11 @@ pub trait Rows {
         Counted::none(text)
     }
 
-    /// A front of the text that is known to be in the Stream-Safe Text Format, of sound characters; it begins with a starter, and
-    /// so does its last character. Data of which nothing is known leaves it out.
+    /// A front of the text, after what stands before it, that is known to be in the Stream-Safe Text Format, of sound characters;
+    /// it begins with a starter, and so does its last character. Data of which nothing is known leaves it out.
     #[inline]
     fn safe_front<'t>(&self, _text: &'t str) -> Option<SafeFront<'t>>
-        ensures { IfSome result (λ safe. IsSafeFront (properties self.now) _text.now safe.settled.now safe.tail.now safe.rest.now) }
+        ensures { IfSome result (λ safe. IsSafeFront (properties self.now) _text.now safe.before.now safe.settled.now safe.last safe.rest.now) }
     {
         None
     }

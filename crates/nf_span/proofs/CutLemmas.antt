@@ -18,7 +18,6 @@ use Rattle.nf_forms.specs.Span.{GoesOn, IsSpanFrom, IsSpan}
 use Rattle.nf_forms.specs.Ucd.{ucd}
 use Rattle.nf_forms.specs.Laws.Runs.{has_starter-append, lead-marks}
 use Rattle.nf_forms.specs.Laws.Span.{mark-not_starter, span-begins}
-use Rattle.nf_forms.specs.Laws.SpanEnd.{span_after}
 use Rattle.nf_facts.specs.Passing.{is_among, halfwidth_marks, vowel_signs}
 use Rattle.nf_span.specs.Front.{BeginsAndMarks}
 use Rattle.nf_span.specs.Parts.{counts_as_mark, StarterAndMarks, SplitsAtStarter, MarksAfter}
@@ -100,6 +99,11 @@ module _ (f : Form) (lead_none : (c : ℕ) → canonical_combining_class c ≡ 0
       let both = and_parts _ _ all in
       has_starter-append ucd (ucd.compat c) (decomposed Nfkd ucd cs) ∙ or_from _ _ (of_mark k n c span.0 span.1 span.2 both.0) (of_marks span.0 span.1 cs class count span.3 both.1)
 
+  -- what follows in a span goes on in it
+  span_after : (a b : List ℕ) (k n class count : ℕ) → IsSpanFrom ucd f k n (a ++ b) class count → (next : ℕ) × (more : ℕ) × IsSpanFrom ucd f next more b class count
+  span_after [] b k n class count span = (k, n, span)
+  span_after (c ∷ a) b k n class count span = span_after a b span.0 span.1 class count span.3
+
   -- a span in two before the last character that parts it
   pub span_end : (whole front back : List ℕ) → SplitsAtStarter whole front back → (class count : ℕ) → IsSpan ucd f (chars front ++ chars back) class count
       → ((front ≡ []) × (back ≡ [])) ⊎ BeginsAndMarks ucd f (chars back)
@@ -107,7 +111,7 @@ module _ (f : Form) (lead_none : (c : ℕ) → canonical_combining_class c ≡ 0
     where
       some : StarterAndMarks (chars back) → ((front ≡ []) × (back ≡ [])) ⊎ BeginsAndMarks ucd f (chars back)
       some end =
-          let after = (span_after ucd f (chars front) (end.first ∷ end.marks) 0 max_run class count (rw end.text at span)).2 in
+          let after = (span_after (chars front) (end.first ∷ end.marks) 0 max_run class count (rw end.text at span)).2 in
           inr (record {
             first = end.first;
             marks = end.marks;

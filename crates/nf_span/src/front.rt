@@ -1,22 +1,15 @@
 ghost use Rattle.std.specs.Prelude.{IfSome};
 ghost use Rattle.nf_forms.specs.Ucd.{ucd};
-ghost use Rattle.nf_span.specs.Front.{IsFirstSpan, IsSpanText};
+ghost use Rattle.nf_span.specs.Front.{IsSpanText};
 ghost use Rattle.nf_span.specs.Scan.{Reaches, Ends};
 
 use crate::lanes::near_len;
 use crate::scan::Scan;
-use crate::span::{Span, SpanText};
+use crate::span::SpanText;
 use nf_facts::laws;
 use nf_forms::Form;
 
 /// The span that the text begins with, by one look-up for each character that is not in a range that is passed over as a whole.
-pub fn first_span(form: Form, text: &str) -> Span<'_>
-    ensures { IsFirstSpan ucd form text.now result.settled.now result.tail.now result.rest.now }
-{
-    span_text(form, text).split()
-}
-
-/// The same in two.
 #[inline]
 pub fn span_text(form: Form, text: &str) -> SpanText<'_>
     ensures { IsSpanText ucd form text.now result.span.now result.rest.now }

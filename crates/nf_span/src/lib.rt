@@ -16,5 +16,5 @@ mod scan;
 mod span;
 mod wide;
 
-pub use front::{first_span, near_text, span_text};
+pub use front::{near_text, span_text};
 pub use span::{Span, SpanText};

@@ -1,5 +1,3 @@
-ghost use Rattle.std.specs.Prelude.{◌≡◌, [], ◌++◌};
-
 use crate::cut::split_last_starter;
 use nf_facts::laws;
 
@@ -43,24 +41,6 @@ impl<'t> SpanText<'t> {
             settled,
             tail,
             rest: self.rest,
-        }
-    }
-}
-
-impl<'t> Span<'t> {
-    ghost use Rattle.nf_forms.specs.Properties.{Properties};
-    ghost use Rattle.nf_forms.specs.declared.form.Form.{Form};
-    ghost use Rattle.nf_span.specs.Front.{IsFirstSpan};
-
-    /// Nothing of it is known to be a span.
-    #[inline]
-    pub fn none(text: &'t str) -> Span<'t>
-        ensures { (p : Properties) (f : Form) → IsFirstSpan p f text.now result.settled.now result.tail.now result.rest.now }
-    {
-        Span {
-            settled: "",
-            tail: "",
-            rest: text,
         }
     }
 }

@@ -1,6 +1,6 @@
 //! Texts whose span was found by hand, from UnicodeData.txt and DerivedNormalizationProps.txt.
 use nf_forms::Form;
-use nf_span::{Span, first_span};
+use nf_span::{Span, span_text};
 use std::alloc::Global;
 use std::process::Abort;
 use std::test::Fail;
@@ -15,7 +15,7 @@ fn check<T: Abort>(rt: &T, alloc: Global, form: Form, cuts: &[Cut]) -> Result<()
     for (settled, tail, rest) in cuts {
         let text = format!(in alloc; "{settled}{tail}{rest}")?;
         assert_eq!(rt;
-            first_span(form, &text),
+            span_text(form, &text).split(),
             Span {
                 settled,
                 tail,
@@ -89,13 +89,13 @@ fn compatible_forms(rt: HostRuntime) -> Result<(), Fail> {
 fn twelve_marks_follow(rt: HostRuntime) -> Result<(), Fail> {
     for form in [Form::Nfc, Form::Nfd, Form::Nfkc, Form::Nfkd] {
         let mut text = format!(in rt.alloc(); "ab{TWELVE}")?;
-        let twelve = first_span(form, &text);
+        let twelve = span_text(form, &text).split();
         assert_eq!(rt;
             (twelve.settled, twelve.tail.len(), twelve.rest),
             ("a", 25, "")
         );
         text.push_str("\u{316}c")?;
-        let more = first_span(form, &text);
+        let more = span_text(form, &text).split();
         assert_eq!(rt;
             (more.settled, more.tail.len(), more.rest),
             ("a", 25, "\u{316}c")
@@ -110,14 +110,14 @@ fn twelve_marks_follow(rt: HostRuntime) -> Result<(), Fail> {
 fn twelve_halfwidth_marks_follow(rt: HostRuntime) -> Result<(), Fail> {
     for form in [Form::Nfc, Form::Nfd] {
         let text = format!(in rt.alloc(); "a\u{FF76}{TWELVE}\u{FF9E}c")?;
-        let none = first_span(form, &text);
+        let none = span_text(form, &text).split();
         assert_eq!(rt;
             (none.settled, none.tail.len(), none.rest),
             ("a", 27, "\u{FF9E}c")
         );
         let marks = "\u{FF9E}\u{FF9F}".repeat(rt.alloc(), 6)?;
         let text = format!(in rt.alloc(); "a\u{FF76}{marks}\u{FF9E}c")?;
-        let twelve = first_span(form, &text);
+        let twelve = span_text(form, &text).split();
         assert_eq!(rt;
             (twelve.settled, twelve.tail.len(), twelve.rest),
             ("a", 39, "\u{FF9E}c")

@@ -2,7 +2,7 @@
 use crate::sweep::{Role, role_of};
 use nf_forms::Form;
 use nf_seeded::Seeded;
-use nf_span::{Span, first_span};
+use nf_span::{Span, span_text};
 use std::test::Fail;
 use unicode_normalization::char::canonical_combining_class;
 
@@ -81,7 +81,7 @@ fn mixtures_end_where_their_characters_say(rt: HostRuntime) -> Result<(), Fail> 
         }
         for form in [Form::Nfc, Form::Nfd, Form::Nfkc, Form::Nfkd] {
             assert_eq!(rt;
-                first_span(form, &text),
+                span_text(form, &text).split(),
                 front_of(form, &text),
                 "{form:?}, {round}"
             );

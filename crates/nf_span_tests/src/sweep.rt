@@ -1,6 +1,6 @@
 //! Every scalar value, alone and after a letter, against the definitions: the quick check, and whole decompositions.
 use nf_forms::Form;
-use nf_span::{Span, first_span};
+use nf_span::{Span, span_text};
 use std::iter;
 use std::test::Fail;
 use unicode_normalization::char::{canonical_combining_class, decomposition};
@@ -68,7 +68,10 @@ fn each_scalar_value(rt: HostRuntime) -> Result<(), Fail> {
                 Role::Ends => (cut("", "", own), cut("", "a", own)),
             };
             assert_eq!(rt;
-                (first_span(form, own), first_span(form, &after)),
+                (
+                    span_text(form, own).split(),
+                    span_text(form, &after).split()
+                ),
                 expected,
                 "{form:?}, {code:x}"
             );

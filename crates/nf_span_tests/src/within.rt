@@ -1,7 +1,7 @@
 //! Every scalar value among letters that are looked at many at a time: the bytes after a lead byte are asked there.
 use crate::sweep::{Role, role_of};
 use nf_forms::Form;
-use nf_span::first_span;
+use nf_span::span_text;
 use std::test::Fail;
 
 /// Each letter passes in each form, and its lead byte, of two bytes and of three, does not tell it; E3 and EF
@@ -26,7 +26,7 @@ fn each_scalar_value_among_letters(rt: HostRuntime) -> Result<(), Fail> {
                 } else {
                     text.len()
                 };
-                let span = first_span(form, &text);
+                let span = span_text(form, &text).split();
                 assert_eq!(rt;
                     (span.settled.len(), span.tail, span.rest.len()),
                     (

@@ -1,64 +1,61 @@
-use Rattle.std.proofs.Common.{◌≡◌, ⊎_elim, [], ◌∷◌, append-nil, arith}
-use Rattle.std.proofs.lemmas.Bool.Decides.{nat_tests}
-use Rattle.nf_counts.proofs.PieceLemmas.{HasCode, two_spell, three_spell, four_spell, first_of, boundary}
+use Rattle.std.proofs.Common.{◌≡◌, slice_index, arith}
+use Rattle.nf_counts.proofs.PieceLemmas.{HasCode, two_spell, three_spell, first_of, four_is, has_second, boundary, piece_of}
+use Rattle.nf_counts.proofs.Told.{valued-mark}
 use Rattle.nf_counts.proofs.piece.first_character.Goals as goal
-use Rattle.nf_counts.proofs.piece.first_character.Goals.{After-value, then-lead-ge240, else-lead-ge240+then-lead-ge224, else-lead-ge240+else-lead-ge224}
+use Rattle.nf_counts.proofs.piece.first_character.Goals.{After-value-value-2, then-lead-ge224, else-lead-ge224}
 
 pub bounds-bytes-1 : goal.bounds-bytes-1
-bounds-bytes-1 c =
-    rw c.as_bytes-bytes.ensures.value (
-    ⊎_elim
-    (λ two. omega (arith, (boundary _ _ _ two.1.begins).0))
-    (⊎_elim (λ three. omega (arith, (boundary _ _ _ three.2.begins).0)) (λ four. omega (arith, (boundary _ _ _ four.1.begins).0)))
-    (first_of c.args.text.now c.utf8.text c.requires.high)
-    )
+bounds-bytes-1 c = rw c.as_bytes-bytes.ensures.value (has_second c.args.text.now (first_of c.args.text.now c.utf8.text c.requires.high))
 
 pub bounds-bytes-3 : goal.bounds-bytes-3
-bounds-bytes-3 c =
-    rw c.as_bytes-bytes.ensures.value (
-    ⊎_elim
-    (λ two. absurd (grind (arith, two.0, c.if-lead-ge240.true)))
-    (⊎_elim (λ three. absurd (grind (arith, three.1, c.if-lead-ge240.true))) (λ four. omega (arith, (boundary _ _ _ four.1.begins).0)))
-    (first_of c.args.text.now c.utf8.text c.requires.high)
-    )
+bounds-bytes-3 c = let here = (first_of c.args.text.now c.utf8.text c.requires.high).four (rw c.as_bytes-bytes.ensures.value at c.if-lead-ge240.true) in rw c.as_bytes-bytes.ensures.value (omega (arith, (boundary _ _ _ here.begins).0))
 
-pub value-requires : goal.value-requires
-value-requires c =
+pub returns-then-lead-clause-piece : goal.returns-then-lead-clause-piece
+returns-then-lead-clause-piece c =
     let text = c.args.text.now in
-    ⊎_elim
-    (λ two. grind (arith, two.0))
-    (⊎_elim
-    (λ three. grind (arith, three.1))
-    (λ four. let is : c.if-lead-ge240.len.1 ≡ four_spell text = grind (arith, four.0, (boundary _ _ _ four.1.begins).0) in rw is four.1.fits))
-    (first_of text c.utf8.text c.requires.high)
+    let lead : slice_index text 0 ≡ 0xCC = rw c.as_bytes-bytes.ensures.value at c.if-lead.true in
+    let here = (first_of text c.utf8.text c.requires.high).two (omega (arith, lead)) in
+    piece_of here (omega arith) (omega arith) (valued-mark (two_spell text) (c.every_character_is_sound.ensures.character _) (omega (arith, lead)))
 
-character : (c : After-value) → HasCode c.args.text.now c.if-lead-ge240.len.0 c.if-lead-ge240.len.1
+pub returns-then-lead-clause-one : goal.returns-then-lead-clause-one
+returns-then-lead-clause-one c =
+    let text = c.args.text.now in
+    let lead : slice_index text 0 ≡ 0xCC = rw c.as_bytes-bytes.ensures.value at c.if-lead.true in
+    ((first_of text c.utf8.text c.requires.high).two (omega (arith, lead))).one
+
+pub value-value-requires : goal.value-value-requires
+value-value-requires c =
+    let bytes = c.as_bytes-bytes.ensures.value in
+    let here = (first_of c.args.text.now c.utf8.text c.requires.high).four (rw bytes at c.if-lead-ge240.true) in
+    rw (four_is c.args.text.now c.from.result c.from-2.result c.from-3.result c.from-then-lead-ge240.result (grind (arith, bytes)) (grind (arith, bytes)) (grind (arith, c.requires.third, (boundary _ _ _ here.begins).0)) (grind (arith, bytes))) here.fits
+
+pub returns-then-lead-ge240-clause-piece : goal.returns-then-lead-ge240-clause-piece
+returns-then-lead-ge240-clause-piece c =
+    let bytes = c.as_bytes-bytes.ensures.value in
+    let here = (first_of c.args.text.now c.utf8.text c.requires.high).four (rw bytes at c.if-lead-ge240.true) in
+    piece_of here (omega arith) c.value-value.ensures.within
+    (rw (four_is c.args.text.now c.from.result c.from-2.result c.from-3.result c.from-then-lead-ge240.result (grind (arith, bytes)) (grind (arith, bytes)) (grind (arith, c.requires.third, (boundary _ _ _ here.begins).0)) (grind (arith, bytes))) at c.value-value.ensures.valued)
+
+pub returns-then-lead-ge240-clause-one : goal.returns-then-lead-ge240-clause-one
+returns-then-lead-ge240-clause-one c = ((first_of c.args.text.now c.utf8.text c.requires.high).four (rw c.as_bytes-bytes.ensures.value at c.if-lead-ge240.true)).one
+
+character : (c : After-value-value-2) → HasCode c.args.text.now c.if-lead-ge224.len.0 c.if-lead-ge224.len.1
 character c =
     let text = c.args.text.now in
-    ⊎_elim
-    (λ two. let is : (c.if-lead-ge240.len.0 ≡ 2) × (c.if-lead-ge240.len.1 ≡ two_spell text) = grind (arith, two.0) in rw (is.0, is.1) two.1)
-    (⊎_elim
-    (λ three.
-    let is : (c.if-lead-ge240.len.0 ≡ 3) × (c.if-lead-ge240.len.1 ≡ three_spell text) = grind (arith, three.0, three.1, (boundary _ _ _ three.2.begins).0) in
-    rw (is.0, is.1) three.2)
-    (λ four.
-    let is : (c.if-lead-ge240.len.0 ≡ 4) × (c.if-lead-ge240.len.1 ≡ four_spell text) = grind (arith, four.0, (boundary _ _ _ four.1.begins).0) in
-    rw (is.0, is.1) four.1))
-    (first_of text c.utf8.text c.requires.high)
+    let bytes = c.as_bytes-bytes.ensures.value in
+    let first = first_of text c.utf8.text c.requires.high in
+    elim c.if-lead-ge224.branch [
+      | then-lead-ge224 w ↦
+          let here = first.three (rw bytes at w.if-lead-ge224.true) (grind (arith, bytes, c.if-lead-ge240.false)) in
+          let is : (c.if-lead-ge224.len.0 ≡ 3) × (c.if-lead-ge224.len.1 ≡ three_spell text) = grind (arith, bytes, c.requires.third, (boundary _ _ _ here.begins).0) in
+          rw (is.0, is.1) here
+      | else-lead-ge224 w ↦
+          let is : (c.if-lead-ge224.len.0 ≡ 2) × (c.if-lead-ge224.len.1 ≡ two_spell text) = grind (arith, bytes) in
+          rw (is.0, is.1) (first.two (grind (arith, bytes, w.if-lead-ge224.false)))
+    ]
 
 pub returns-clause-piece : goal.returns-clause-piece
-returns-clause-piece c =
-    let here = character c in
-    let valued = c.value.ensures.valued in
-    record {
-      chars = c.if-lead-ge240.len.1 ∷ [];
-      begins = here.begins;
-      some = grind arith;
-      within = c.value.ensures.within;
-      sound = rw valued.sound;
-      unassigned = grind (arith, nat_tests, valued.assigned);
-      row = rw append-nil valued.row;
-    }
+returns-clause-piece c = piece_of (character c) (grind arith) c.value-value-2.ensures.within c.value-value-2.ensures.valued
 
 pub returns-clause-one : goal.returns-clause-one
 returns-clause-one c = (character c).one

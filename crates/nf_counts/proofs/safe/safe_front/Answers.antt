@@ -1,21 +1,30 @@
-use Rattle.std.proofs.Common.{sym, ◌∙◌}
-use Rattle.nf_counts.proofs.SafeLemmas.{boundary, is_safe}
+use Rattle.std.proofs.Common.{◌≡◌, ◌++◌, refl, sym, ◌∙◌, take-append-drop}
+use Rattle.nf_counts.proofs.SafeLemmas.{boundary, from_start, is_safe}
 use Rattle.nf_counts.proofs.safe.safe_front.Goals as goal
 
 pub split_at-requires : goal.split_at-requires
-split_at-requires c = let here = c.in_ok-last_start.ensures in boundary c.args.text.now c.in_ok-last_start.field-0 here.within here.starts
+split_at-requires c = let here = rw c.as_bytes.ensures.value at c.in_ok-first_start.ensures in boundary c.args.text.now c.in_ok-first_start.field-0 here.0 here.1
+
+pub last_start-requires-clause-some : goal.last_start-requires-clause-some
+last_start-requires-clause-some c =
+    rw c.split_at.ensures.back (from_start c.args.text.now c.in_ok-first_start.field-0 c.utf8.text (rw c.as_bytes.ensures.value at c.in_ok-first_start.ensures)).some
+
+pub last_start-requires-clause-begins : goal.last_start-requires-clause-begins
+last_start-requires-clause-begins c =
+    rw c.split_at.ensures.back (from_start c.args.text.now c.in_ok-first_start.field-0 c.utf8.text (rw c.as_bytes.ensures.value at c.in_ok-first_start.ensures)).begins
 
 pub split_at-requires-2 : goal.split_at-requires-2
-split_at-requires-2 c =
-    let back = c.split_at.ensures.back in
-    let len = c.len_utf8.ensures in
-    rw back ((is_safe c.every_character_is_sound.ensures.character c.args.text.now c.in_ok-last_start.field-0 _ _ c.utf8.text c.in_ok-last_start.ensures
-    (sym back ∙ sym c.chars.ensures.rest ∙ c.in_ok-next.ensures.steps.0) c.len_utf8.result len.len len.lower_bound len.upper_bound).0)
+split_at-requires-2 c = let here = c.last_start.ensures in boundary c.split_at.result.1.now c.last_start.result here.within here.starts
 
 pub returns : goal.returns
 returns c =
+    let text = c.args.text.now in
+    let place = c.in_ok-first_start.field-0 in
+    let from = from_start text place c.utf8.text (rw c.as_bytes.ensures.value at c.in_ok-first_start.ensures) in
     let first = c.split_at.ensures in
-    let len = c.len_utf8.ensures in
-    (is_safe c.every_character_is_sound.ensures.character c.args.text.now c.in_ok-last_start.field-0 _ _ c.utf8.text c.in_ok-last_start.ensures
-    (sym first.back ∙ sym c.chars.ensures.rest ∙ c.in_ok-next.ensures.steps.0) c.len_utf8.result len.len len.lower_bound len.upper_bound).1
-    _ _ _ _ first.front first.back c.split_at-2.ensures.front c.split_at-2.ensures.back
+    let next = c.split_at-2.ensures in
+    let steps = c.in_ok-last.ensures.steps in
+    let whole : c.split_at.result.0.now ++ c.split_at.result.1.now ≡ text = rw (first.front, first.back, take-append-drop) refl in
+    let is = is_safe c.every_character_is_sound.ensures.character c.split_at.result.0.now c.split_at.result.1.now c.last_start.result _ _ (rw first.back from.utf8) c.last_start.ensures
+    (sym next.back ∙ sym c.chars-chars.ensures.rest ∙ steps.0) in
+    rw (next.front, c.as_str.ensures) (rw whole at is)
