@@ -13,7 +13,7 @@ use crate::packing::{form_of, pack, policy_of, unpack};
 use crate::state::State;
 use crate::status::Status;
 use nf_filter::Filter;
-use nf_row::{Plain, Rows, Ucd};
+use nf_row::{Plain, Ucd, ascii_is_plain};
 
 /// A state that has read nothing. The first byte to come has the offset `base`.
 pub fn start(state: &mut State, form: u32, policy: u32, base: u64) -> Status
@@ -67,7 +67,7 @@ pub fn go_back(filter: &mut Filter<'_, Ucd>, state: &State)
 pub fn plain() -> Plain<'static, Ucd>
     ensures { IsPlainAscii ucd }
 {
-    let _known = Ucd.known();
+    ascii_is_plain();
     match Plain::of(&Ucd) {
         Some(plain) => plain,
         None => unreachable!(),

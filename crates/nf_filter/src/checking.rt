@@ -9,7 +9,7 @@ use crate::reading::Reading;
 use crate::sources::{BLOCK, survey};
 use crate::taker::{Taker, take_text};
 use crate::text_reader::TextReader;
-use nf_row::{Rows, SafeFront};
+use nf_row::{Rows, SafeFront, safe_front};
 use nf_safe::{Checker, Place};
 use nf_utf8::char_count;
 
@@ -132,7 +132,7 @@ impl Taker for SafeChecker {
         at: u64,
         text: &'t str,
     ) -> Result<&'t str, Decision> {
-        if let Some(safe) = rows.safe_front(text) {
+        if let Some(safe) = safe_front(rows, text) {
             if let Some(decision) = take_text(&mut self.checker, rows, at, safe.before) {
                 return Err(decision);
             }

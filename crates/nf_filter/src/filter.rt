@@ -95,7 +95,7 @@ impl<'r, R: Rows> Filter<'r, R> {
         }
     }
 
-    /// The quickest of both: as `fast` where the data says that ASCII is plain, else as `new`.
+    /// The quickest of both: as `fast` where the data is known to be Unicode's, else as `new`.
     pub fn quickest(rows: &'r R, form: Form, base: u64) -> Filter<'r, R>
         ensures rows { rows_of result ≡ rows.now }
         ensures base { base_of (state_of result) ≡ base }
@@ -103,7 +103,7 @@ impl<'r, R: Rows> Filter<'r, R> {
         ensures unspent { IsFalse (is_spent (state_of result)) }
         ensures stands { StandsAfter as_is form (R.properties rows.now) (state_of result) [] }
     {
-        if rows.known().ascii_plain
+        if rows.is_ucd()
             && let Some(plain) = Plain::of(rows)
         {
             return Filter::fast(plain, form, base);

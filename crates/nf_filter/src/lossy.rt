@@ -12,7 +12,7 @@ use crate::fault::Fault;
 use crate::policy::Policy;
 use crate::reading::Reading;
 use crate::taking::split_allowed;
-use nf_row::Rows;
+use nf_row::{Rows, all_sound};
 use nf_utf8::{LossyText, laws, lossy_front, lossy_text};
 
 impl Reading {
@@ -48,7 +48,7 @@ impl Reading {
         ensures lender { (S.state sink.new).lender ≡ (S.state sink.old).lender }
     {
         laws::replacing();
-        if !rows.known().sound {
+        if !all_sound(rows) {
             return Ok(rest);
         }
         let mut lossy = LossyText::new();

@@ -8,7 +8,7 @@ use crate::counted::Counted;
 use crate::devices::{Failed, Sink};
 use crate::fault::Fault;
 use nf_normalizer::{STEP, Step};
-use nf_row::{Formed, Rows};
+use nf_row::{Formed, Rows, assigned_front};
 use nf_utf8::char_count;
 
 /// Where at least so many bytes were known, bytes are asked again after the next character.
@@ -252,7 +252,7 @@ fn past_known<'t, R: Rows>(rows: &R, few: usize, text: &'t str) -> (usize, &'t s
     if few > 0 {
         return (few, text);
     }
-    let known = rows.assigned_front(text);
+    let known = assigned_front(rows, text);
     let more = if known < WORTH { MIN_LOOK_UPS } else { 1 };
     (more, &text[known..])
 }

@@ -1,7 +1,7 @@
 //! What of a text is taken at once: segments, or a run of plain ASCII, or a character.
 use crate::normalizer::Normalizer;
 use crate::room::Room;
-use nf_row::{Formed, Kind, Rows, Segments};
+use nf_row::{Formed, Kind, Rows, Segments, first_segments, kind_of};
 use nf_utf8::ascii_prefix;
 
 /// The least bytes of a text of which segments are asked for: each character of a shorter one goes the ordinary way for less.
@@ -92,7 +92,7 @@ impl Normalizer {
             // At a boundary none of these stands, and at the begin of all text they may go the ordinary way.
             return None;
         }
-        match rows.kind(self.form, c) {
+        match kind_of(rows, self.form, c) {
             Kind::Own { class: 0, .. } => Some(self.take_own(rows, c, 0, room)),
             // Marks have a way of their own into the same call: what is known of each stays in registers.
             Kind::Own { class, .. } => Some(self.take_own(rows, c, class, room)),
@@ -163,6 +163,6 @@ impl Normalizer {
         if text.len() < least {
             return None;
         }
-        rows.first_segments(self.form, text, formed)
+        first_segments(rows, self.form, text, formed)
     }
 }

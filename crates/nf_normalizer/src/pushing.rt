@@ -11,7 +11,7 @@ ghost use Rattle.nf_normalizer.specs.Normalizer.{run_after, Pushes, front_utf8};
 use crate::room::Room;
 use nf_boundary::put_utf8;
 use nf_pending::{Pending, Segment};
-use nf_row::{Form, Row, Rows};
+use nf_row::{Form, Row, Rows, lent_row};
 
 /// Pushes the decomposition of the sound character `c` that the form asks for, and puts what it settles into the room.
 #[inline]
@@ -31,7 +31,7 @@ pub fn push_decomposition<R: Rows>(
         → Pushes f p pending.new start room.new.items (w ++ row_of form p c) }
 {
     let mut place = [c; 3];
-    match rows.lent_row(form, c, &mut place) {
+    match lent_row(rows, form, c, &mut place) {
         Some(row) => push_members(pending, rows, row, room),
         None => push_members(pending, rows, row_of(form, rows, c).as_slice(), room),
     }

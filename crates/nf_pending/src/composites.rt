@@ -2,7 +2,7 @@ ghost use Rattle.std.specs.Prelude.{◌≡◌, ℕ, IsTrue, None};
 ghost use Rattle.nf_forms.specs.Compose.{composite};
 
 use nf_boundary::Composites;
-use nf_row::{Form, Kind, Rows, composite};
+use nf_row::{Form, Kind, Rows, composite, kind_of};
 
 /// The primary composites that rows tell of.
 #[derive(Clone, Copy)]
@@ -27,7 +27,7 @@ impl<R: Rows> Composites for OfRows<'_, R> {
 fn is_never_second<R: Rows>(rows: &R, c: char) -> bool
     ensures { IsTrue result → (a : ℕ) → composite (R.properties rows.now) a c ≡ None }
 {
-    match rows.kind(Form::Nfc, c) {
+    match kind_of(rows, Form::Nfc, c) {
         Kind::Own { may_compose, .. } => !may_compose,
         _ => false,
     }

@@ -7,4 +7,3 @@ pub mod Ascii
 pub mod Plain
 pub mod Audit
 pub mod Laws
-pub mod Facts

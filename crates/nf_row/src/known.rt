@@ -4,13 +4,25 @@ ghost use Rattle.nf_forms.specs.Cluster.{IsOwnRow};
 ghost use Rattle.nf_row.specs.Kind.{IsKind};
 
 use crate::kind::Kind;
+use crate::rows::Rows;
 use nf_facts::{in_tables, is_halfwidth_mark, laws};
 use nf_forms::Form;
 use ucd_normal::{Form as TableForm, QuickCheck, class_and_quick_check, quick_check};
 
+/// What is known of `c`, in that form, without its rows: nothing, where the data is not known to be that of Unicode.
+#[inline]
+pub fn kind_of<R: Rows>(rows: &R, form: Form, c: char) -> Kind
+    ensures { IsKind (R.properties rows.now) form c result }
+{
+    if !rows.is_ucd() {
+        return Kind::Other;
+    }
+    ucd_kind(form, c)
+}
+
 /// What is known of a character of Unicode's data, by one look-up of its class and its quick check (UAX #15, section 9).
 #[inline]
-pub(crate) fn kind_of(form: Form, c: char) -> Kind
+fn ucd_kind(form: Form, c: char) -> Kind
     ensures { IsKind ucd form c result }
 {
     laws::every_character_is_sound();

@@ -7,7 +7,7 @@
 
 mod auditing;
 mod composites;
-mod facts;
+mod fronts;
 mod kind;
 mod known;
 mod non_starters;
@@ -23,17 +23,18 @@ mod unsound;
 
 pub use auditing::audit;
 pub use composites::composite;
-pub use facts::Facts;
+pub use fronts::{assigned_front, counted_front, first_segments, lent_row, safe_front};
 pub use kind::Kind;
+pub use known::kind_of;
 pub use nf_boundary::{Formed, Segments};
 pub use nf_counts::{Counted, Counts, SafeFront};
 pub use nf_forms::{Form, JOINER};
 pub use non_starters::NonStarters;
 pub use own::own_class;
 pub use patched::{Change, Patched};
-pub use plain::Plain;
+pub use plain::{Plain, ascii_is_plain};
 pub use rows::{Long, Row, Rows};
 pub use runs::{has_starter, lead, trail};
-pub use soundness::{SoundRow, sound, sound_non_starters, sound_row};
+pub use soundness::{SoundRow, all_sound, sound, sound_non_starters, sound_row};
 pub use ucd::Ucd;
 pub use unsound::{Rule, Unsound};

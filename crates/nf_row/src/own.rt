@@ -2,6 +2,7 @@ ghost use Rattle.std.specs.Prelude.{IfSome};
 ghost use Rattle.nf_row.specs.Kind.{IsOwn};
 
 use crate::kind::Kind;
+use crate::known::kind_of;
 use crate::rows::Rows;
 use nf_forms::Form;
 
@@ -11,9 +12,9 @@ use nf_forms::Form;
 pub fn own_class<R: Rows>(rows: &R, c: char) -> Option<u8>
     ensures { IfSome result (λ class. IsOwn (R.properties rows.now) c class) }
 {
-    match rows.kind(Form::Nfkd, c) {
+    match kind_of(rows, Form::Nfkd, c) {
         Kind::Own { class, .. } => Some(class),
-        Kind::Parts => match rows.kind(Form::Nfd, c) {
+        Kind::Parts => match kind_of(rows, Form::Nfd, c) {
             Kind::Parts => Some(0),
             _ => None,
         },

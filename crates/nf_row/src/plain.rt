@@ -1,7 +1,9 @@
 ghost use Rattle.std.specs.Prelude.{◌↔◌, IsTrue};
+ghost use Rattle.nf_forms.specs.Ucd.{ucd};
 ghost use Rattle.nf_row.specs.Ascii.{IsUnchanged, IsFirstInNone, IsPlainAscii};
 
 use crate::rows::Rows;
+use nf_facts::laws;
 use std::alloc::AllocError;
 
 /// Character data of which it was seen that normalization leaves ASCII text as it is: each character of U+0000 to
@@ -14,6 +16,7 @@ pub struct Plain<'r, R: Rows> {
 
 impl<'r, R: Rows> Plain<'r, R> {
     ghost use Rattle.std.specs.Prelude.{◌≡◌, ◌↔◌, IsSome, IfSome};
+    ghost use Rattle.nf_forms.specs.Ucd.{ucd};
     ghost use Rattle.nf_row.specs.Ascii.{IsPlainAscii};
     ghost use Rattle.nf_row.specs.Plain.{rows_of};
 
@@ -22,7 +25,8 @@ impl<'r, R: Rows> Plain<'r, R> {
         ensures plain { IsSome result ↔ IsPlainAscii (R.properties rows.now) }
         ensures rows { IfSome result (λ plain. rows_of plain ≡ rows.now) }
     {
-        if rows.known().ascii_plain || reads_plain(rows) {
+        ascii_is_plain();
+        if rows.is_ucd() || reads_plain(rows) {
             Some(Plain { rows })
         } else {
             None
@@ -53,6 +57,13 @@ impl<R: Rows> Clone for Plain<'_, R> {
 }
 
 impl<R: Rows> Copy for Plain<'_, R> {}
+
+/// The data of the Unicode Character Database leaves ASCII text as it is.
+pub fn ascii_is_plain()
+    ensures { IsPlainAscii ucd }
+{
+    laws::ascii_is_plain();
+}
 
 /// Whether ASCII text is left as it is, by a look at each ASCII character and at each two.
 fn reads_plain<R: Rows>(rows: &R) -> bool

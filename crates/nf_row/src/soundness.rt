@@ -1,11 +1,13 @@
-ghost use Rattle.std.specs.Prelude.{◌≡◌, ◌==◌, ◌&&◌, is_some, IfSome, IsTrue};
+ghost use Rattle.std.specs.Prelude.{◌≡◌, ◌==◌, ◌&&◌, ℕ, is_some, IfSome, IsTrue};
 ghost use Rattle.nf_forms.specs.StreamSafe.{joiner};
 ghost use Rattle.nf_row.specs.NonStarters.{HasNonStarters};
 ghost use Rattle.nf_row.specs.Shape.{IsShapeOf, shapes_agree};
 ghost use Rattle.nf_forms.specs.Sound.{is_sound};
 
+use crate::fronts::lent_row;
 use crate::non_starters::NonStarters;
 use crate::rows::{Row, Rows};
+use nf_facts::laws;
 use nf_forms::{Form, JOINER};
 
 /// The compatibility decomposition of a sound character, and its ends.
@@ -23,24 +25,33 @@ struct Shape {
     ends: NonStarters,
 }
 
+/// Whether every character is known to be sound.
+#[inline]
+pub fn all_sound<R: Rows>(rows: &R) -> bool
+    ensures { IsTrue result → (c : ℕ) → IsTrue (is_sound (R.properties rows.now) c) }
+{
+    laws::every_character_is_sound();
+    rows.is_ucd()
+}
+
 /// Whether `c` is sound: both rows have 1 to 18 members, the canonical row begins and ends with no more non-starters
 /// than the compatibility row and has a starter where that has one, and U+034F is a starter that is its own row.
 /// The rows are read one after the other.
 pub fn sound<R: Rows>(rows: &R, c: char) -> bool
     ensures { result ≡ is_sound (R.properties rows.now) c }
 {
-    rows.known().sound || read_row(rows, c).is_some()
+    all_sound(rows) || read_row(rows, c).is_some()
 }
 
 /// The ends of the compatibility row of a sound character, and none of any other. No row is copied where all characters are
-/// known to be sound and the data lends its rows.
+/// known to be sound.
 pub fn sound_non_starters<R: Rows>(rows: &R, c: char) -> Option<NonStarters>
     ensures sound { is_some result ≡ is_sound (R.properties rows.now) c }
     ensures ends { IfSome result (λ ends. HasNonStarters (R.properties rows.now) ((R.properties rows.now).compat c) ends) }
 {
-    if rows.known().sound {
+    if all_sound(rows) {
         let mut room = [c; 3];
-        if let Some(row) = rows.lent_row(Form::Nfkd, c, &mut room) {
+        if let Some(row) = lent_row(rows, Form::Nfkd, c, &mut room) {
             return Some(NonStarters::of_members(rows, row));
         }
     }
@@ -57,7 +68,7 @@ pub fn sound_row<R: Rows>(rows: &R, c: char) -> Option<SoundRow>
     ensures row { IfSome result (λ read. read.row.items ≡ (R.properties rows.now).compat c) }
     ensures ends { IfSome result (λ read. HasNonStarters (R.properties rows.now) ((R.properties rows.now).compat c) read.ends) }
 {
-    if !rows.known().sound {
+    if !all_sound(rows) {
         return read_row(rows, c);
     }
     let row = rows.compat(c).ok()?;

@@ -2,14 +2,7 @@ ghost use Rattle.std.specs.Prelude.{◌≡◌, ◌≤◌, length, IfOk, IsOk};
 ghost use Rattle.unicode_normalization.specs.Decompose.{decompose};
 ghost use Rattle.nf_forms.specs.Ucd.{ucd};
 
-use crate::facts::Facts;
-use crate::kind::Kind;
-use crate::known::kind_of;
 use crate::rows::{Long, Row, Rows, row_from};
-use nf_assigned::assigned_front;
-use nf_boundary::{Formed, Segments, first_segments};
-use nf_counts::{Counted, SafeFront, counted_front, safe_front};
-use nf_facts::laws;
 use unicode::properties::GeneralCategory;
 use unicode_normalization::{Form, char as lookup};
 
@@ -20,9 +13,7 @@ pub struct Ucd;
 
 #[tactic(auto, unfolding(nf_forms::specs::Ucd::ucd, nf_forms::specs::Ucd::is_assigned))]
 impl Rows for Ucd {
-    ghost use Rattle.std.specs.Prelude.{IsTrue};
     ghost use Rattle.nf_forms.specs.Ucd.{ucd};
-    ghost use Rattle.nf_row.specs.Facts.{AreFacts};
 
     ghost properties = { λ _. ucd };
 
@@ -42,20 +33,6 @@ impl Rows for Ucd {
     }
 
     #[inline]
-    fn lent_row<'r>(
-        &'r self,
-        form: nf_forms::Form,
-        c: char,
-        room: &'r mut [char; 3],
-    ) -> Option<&'r [char]> {
-        let form = match form {
-            nf_forms::Form::Nfc | nf_forms::Form::Nfd => Form::Nfd,
-            nf_forms::Form::Nfkc | nf_forms::Form::Nfkd => Form::Nfkd,
-        };
-        Some(lookup::decomposition(c, form, room))
-    }
-
-    #[inline]
     fn pair(&self, a: char, b: char) -> Option<char> {
         lookup::compose(a, b)
     }
@@ -66,50 +43,8 @@ impl Rows for Ucd {
     }
 
     #[inline]
-    fn assigned_front(&self, text: &str) -> usize {
-        assigned_front(text)
-    }
-
-    #[inline]
-    fn kind(&self, form: nf_forms::Form, c: char) -> Kind {
-        kind_of(form, c)
-    }
-
-    #[inline]
-    fn counted_front<'t>(&self, room: u32, text: &'t str) -> Counted<'t> {
-        counted_front(room, text)
-    }
-
-    #[inline]
-    fn safe_front<'t>(&self, text: &'t str) -> Option<SafeFront<'t>> {
-        safe_front(text)
-    }
-
-    #[inline]
-    fn first_segments<'t>(
-        &self,
-        form: nf_forms::Form,
-        text: &'t str,
-        formed: &mut Formed,
-    ) -> Option<Segments<'t>> {
-        first_segments(form, text, formed)
-    }
-
-    #[inline]
-    fn known(&self) -> Facts
-        ensures facts { AreFacts ucd result }
-        ensures sound { IsTrue result.sound }
-        ensures ascii_plain { IsTrue result.ascii_plain }
-        ensures audited { IsTrue result.audited }
-    {
-        laws::every_character_is_sound();
-        laws::ascii_is_plain();
-        laws::the_data_is_audited();
-        Facts {
-            sound: true,
-            ascii_plain: true,
-            audited: true,
-        }
+    fn is_ucd(&self) -> bool {
+        true
     }
 }
 

@@ -1,4 +1,7 @@
-use nf_row::{Change, Form, Kind, NonStarters, Patched, Rows, Ucd, composite, own_class};
+use nf_row::{
+    Change, Form, Kind, NonStarters, Patched, Rows, Ucd, all_sound, composite, counted_front,
+    kind_of, own_class,
+};
 use std::process::Abort;
 use std::test::Fail;
 
@@ -145,7 +148,7 @@ fn kinds(rt: HostRuntime) {
             .into_iter()
             .zip(kinds)
         {
-            assert_eq!(rt; Ucd.kind(form, c), kind, "{c:?} {form:?}");
+            assert_eq!(rt; kind_of(&Ucd, form, c), kind, "{c:?} {form:?}");
         }
     }
 }
@@ -155,15 +158,15 @@ fn kinds(rt: HostRuntime) {
 fn nothing_is_known_of_changed_data(rt: HostRuntime) {
     let changes = [Change::Class('a', 1)];
     let rows = Patched::new(&changes);
-    assert_eq!(rt; rows.kind(Form::Nfc, 'b'), Kind::Other);
+    assert_eq!(rt; kind_of(&rows, Form::Nfc, 'b'), Kind::Other);
     assert_eq!(rt;
         (
-            rows.counted_front(30, "b").rest,
-            Ucd.counted_front(30, "b").rest
+            counted_front(&rows, 30, "b").rest,
+            counted_front(&Ucd, 30, "b").rest
         ),
         ("b", "")
     );
-    assert!(rt; !rows.known().sound && Ucd.known().sound);
+    assert!(rt; !all_sound(&rows) && all_sound(&Ucd));
 }
 
 /// Classes and decompositions by UnicodeData.txt.

@@ -2,7 +2,7 @@ ghost use Rattle.std.specs.Prelude.{◌≤◌};
 
 use crate::counter::Counter;
 use crate::place::Place;
-use nf_row::{Rows, Rule, Unsound, sound_non_starters};
+use nf_row::{Rows, Rule, Unsound, counted_front, sound_non_starters};
 use nf_utf8::char_count;
 
 /// Finds where a text leaves the Stream-Safe Text Format, character by character.
@@ -79,7 +79,7 @@ impl Checker {
         Ok(None)
     }
 
-    /// Sees the front of the text of which the non-starters are known by one look-up for each character (`Rows::counted_front`),
+    /// Sees the front of the text of which the non-starters are known by one look-up for each character (`counted_front`),
     /// and at which the text does not leave the format. Answers what follows.
     #[inline]
     pub fn see_counted<'t, R: Rows>(&mut self, rows: &R, text: &'t str) -> &'t str
@@ -91,7 +91,7 @@ impl Checker {
         ensures sees { let p = R.properties rows.now in
             (base : ℕ) (x : List ℕ) → StandsAfter base p self.old x → HasSeen base p self.new x text.now result.now }
     {
-        let counted = rows.counted_front(self.counter.room(), text);
+        let counted = counted_front(rows, self.counter.room(), text);
         self.counter.pass(&counted.counts);
         self.reached = Place {
             chars: self.reached.chars + char_count(counted.front) as u64,

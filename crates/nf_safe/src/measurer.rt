@@ -3,7 +3,7 @@ ghost use Rattle.std.specs.Prelude.{◌≤◌, ◌*◌};
 use crate::counter::Counter;
 use crate::measure::Measure;
 use crate::runs::Runs;
-use nf_row::{JOINER, Rows, Rule, Unsound, sound};
+use nf_row::{JOINER, Rows, Rule, Unsound, counted_front, sound};
 use nf_utf8::char_count;
 
 /// Measures a text, character by character. The text need not be in the Stream-Safe Text Format: its runs are counted
@@ -76,7 +76,7 @@ impl Measurer {
         Ok(())
     }
 
-    /// Sees the front of the text of which the non-starters are known by one look-up for each character (`Rows::counted_front`),
+    /// Sees the front of the text of which the non-starters are known by one look-up for each character (`counted_front`),
     /// and answers what follows.
     #[inline]
     pub fn see_counted<'t, R: Rows>(&mut self, rows: &R, text: &'t str) -> &'t str
@@ -86,7 +86,7 @@ impl Measurer {
         ensures sees { let p = R.properties rows.now in
             (x : List ℕ) → StandsAfter p self.old x → HasSeen p self.new x text.now result.now }
     {
-        let counted = rows.counted_front(self.counter.room(), text);
+        let counted = counted_front(rows, self.counter.room(), text);
         self.runs.push_counts(&counted.counts);
         self.counter.pass(&counted.counts);
         self.bytes += counted.front.len() as u64;

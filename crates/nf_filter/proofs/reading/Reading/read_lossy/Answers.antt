@@ -1,4 +1,3 @@
-use Rattle.std.proofs.lemmas.Bool.{not-false}
 use Rattle.nf_filter.proofs.Common.{refl, length, arith, ap, take_rest}
 use Rattle.nf_filter.proofs.TakingLemmas.{HasPlaces-all}
 use Rattle.nf_filter.proofs.ChunkLemmas.{lossy-read, lossy-refused}
@@ -10,12 +9,12 @@ take_text-requires-clause-fits g c = HasPlaces-all _ _ c.lossy_text.utf8 (omega 
 pub returns-in-Err-clause-reads : goal.returns-in-Err-clause-reads
 returns-in-Err-clause-reads g c = λ f base bytes start both none.
     let lossy = c.lossy_allowed-len.ensures in
-    lossy-refused c.replacing.ensures c.requires.replaces both.0 none lossy.replaced lossy.allowed (c.known.ensures.sound (not-false _ c.if-not-known.false)) both.1
+    lossy-refused c.replacing.ensures c.requires.replaces both.0 none lossy.replaced lossy.allowed (c.all_sound.ensures c.if-not-all_sound.false) both.1
     (rw c.lossy_text.ensures at c.in-Err.ensures.takes)
 
 pub returns-clause-reads : goal.returns-clause-reads
 returns-clause-reads g c = λ f base bytes start both none.
     let lossy = c.lossy_allowed-len.ensures in
     rw (take_rest c.args.rest.now c.lossy_allowed-len.result)
-    (lossy-read c.replacing.ensures c.requires.replaces both.0 none lossy.replaced lossy.allowed (c.known.ensures.sound (not-false _ c.if-not-known.false)) both.1
+    (lossy-read c.replacing.ensures c.requires.replaces both.0 none lossy.replaced lossy.allowed (c.all_sound.ensures c.if-not-all_sound.false) both.1
     (rw c.lossy_text.ensures at c.in_default.ensures.takes) _ refl refl)

@@ -1,6 +1,6 @@
 use Rattle.std.proofs.Common.{arith}
 use Rattle.nf_forms.specs.Ucd.{ucd}
-use Rattle.nf_row.proofs.known.kind_of.Goals as goal
+use Rattle.nf_row.proofs.known.ucd_kind.Goals as goal
 
 pub returns-in-Maybe-2 : goal.returns-in-Maybe-2
 unfolding ucd

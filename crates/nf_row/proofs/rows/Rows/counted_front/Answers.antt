@@ -1,4 +1,0 @@
-use Rattle.nf_row.proofs.rows.Rows.counted_front.Goals as goal
-
-pub returns : goal.returns
-returns g c = c.none.ensures (g.Self.Rows.properties c.args.self.now) c.args._room
