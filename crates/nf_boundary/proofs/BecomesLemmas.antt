@@ -8,7 +8,7 @@ use Rattle.nf_forms.specs.Laws.Runs.{lead-le-length, trail-le-length, trail-appe
 use Rattle.nf_forms.specs.Laws.Order.{order-after, has_starter-by_class}
 use Rattle.nf_forms.specs.Laws.Ordering.{order-ordered}
 use Rattle.nf_forms.specs.Laws.Compose.{compose-after}
-use Rattle.nf_forms.specs.Laws.Parting.{arranged-boundary}
+use Rattle.nf_forms.specs.Laws.Boundary.{arranged-boundary}
 use Rattle.nf_boundary.proofs.LetterLemmas.{appended}
 use Rattle.nf_boundary.proofs.JoinLemmas.{class_of}
 
@@ -24,7 +24,7 @@ module _ (f : Form) where
   unfolding by_class
   becomes_one starter marks w before text starts alone =
       let none : arranged (composes f) ucd [] ≡ [] = grind arith in
-      record { done = []; run = []; text = text; starts = starts; no_starter = refl; held = alone; formed = rw (none, append-nil); parted = λ v. rw none }
+      record { done = []; run = []; text = text; starts = starts; no_starter = refl; held = alone; formed = rw (none, append-nil); is_cut = λ v. rw none }
 
   module _ (w : List ℕ) (starter : ℕ) (marks : List Mark) (before now : List ℕ) (here : Becomes f w starter marks before now) where
     -- a non-starter more, after those of no greater class
@@ -41,14 +41,14 @@ module _ (f : Form) where
           no_starter = marks_push ucd here.run c here.no_starter mark;
           held = held-push ucd here.run c marks marks' here.no_starter mark here.held (rw (← same) inserted);
           formed = here.formed;
-          parted = here.parted;
+          is_cut = here.is_cut;
         }
 
     -- what is appended when all that stands there is closed off
     pub becomes_closed : (new : List ℕ) → ((m : List ℕ) → marks ≡ map (mark_of ucd) m → has_starter ucd m ≡ false → new ≡ now ++ encode_utf8_all (closed_off ucd (composes f) (Some starter) m))
         → new ≡ before ++ encode_utf8_all (finished f ucd w)
     becomes_closed new closed =
-        rw (here.text, here.parted here.run, arranged-marked ucd _ _ here.starts here.no_starter (composes f))
+        rw (here.text, here.is_cut here.run, arranged-marked ucd _ _ here.starts here.no_starter (composes f))
         (appended before (finished f ucd here.done) _ now new here.formed (closed _ here.held (has_starter-by_class ucd here.run)))
 
     -- the starter alone, where no marks are held
@@ -58,9 +58,9 @@ module _ (f : Form) where
         grind (arith, none))
 
   -- a starter more, that composes with nothing before it, where that is closed off
-  pub becomes_parted : (w before now : List ℕ) (c : ℕ) → now ≡ before ++ encode_utf8_all (finished f ucd w) → is_starter ucd c ≡ true → NeverSecond ucd f c → Becomes f (w ++ c ∷ []) c [] before now
+  pub becomes_cut : (w before now : List ℕ) (c : ℕ) → now ≡ before ++ encode_utf8_all (finished f ucd w) → is_starter ucd c ≡ true → NeverSecond ucd f c → Becomes f (w ++ c ∷ []) c [] before now
   unfolding by_class
-  becomes_parted w before now c formed starts never = grind (arith, λ (v : List ℕ). arranged-boundary ucd (composes f) w c v starts never)
+  becomes_cut w before now c formed starts never = grind (arith, λ (v : List ℕ). arranged-boundary ucd (composes f) w c v starts never)
 
 -- ---- how many non-starters may follow
 

@@ -14,10 +14,10 @@ pub use Rattle.nf_forms.specs.Segments.{HasForm, BeginsAtBoundary}
 pub use Rattle.nf_forms.specs.Cluster.{IsOwnRow, AreClusters, IsCluster}
 pub use Rattle.nf_forms.specs.Compose.{composite, join, joined, replaced}
 pub use Rattle.nf_forms.specs.Forms.{row_of, composes, decomposed, finished, arranged}
-pub use Rattle.nf_forms.specs.Laws.SegmentForms.{HasForm-span, HasForm-row, span-front, counts_anew-lead, parting-boundary, boundary-decomposing}
+pub use Rattle.nf_forms.specs.Laws.SegmentForms.{HasForm-span, HasForm-row, span-front, resets_count-lead, own_boundary-boundary, boundary-decomposing}
 pub use Rattle.nf_forms.specs.Laws.Cluster.{HasForm-cluster, cluster-joined, cluster-one, row-own, cluster-left, cluster-next}
 pub use Rattle.nf_forms.specs.Laws.Sound.{IsSoundText, IsSound-from_test}
-pub use Rattle.nf_forms.specs.Parting.{BeginsAnew, IsBoundary, IsParting, NeverSecond}
+pub use Rattle.nf_forms.specs.Boundary.{HasBoundaryBefore, IsBoundary, IsOwnBoundary, NeverSecond}
 pub use Rattle.nf_forms.specs.Properties.{is_starter, Properties}
 pub use Rattle.nf_forms.specs.Runs.{has_starter, lead, longest, trail}
 pub use Rattle.nf_forms.specs.Sound.{is_sound, max_row}

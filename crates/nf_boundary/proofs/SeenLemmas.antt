@@ -1,6 +1,6 @@
 -- A character as one look-up sees it: what stands after it, and when a text may be cut before it.
 use Rattle.std.proofs.Common.{◌≡◌, ◌<◌, ◌||◌, ◌≤◌, ℕ, false, ◌∷◌, length, ap, arith, length-append, chars, IsTrue}
-use Rattle.nf_boundary.proofs.Common.{ucd, Sees, IsAtBoundary, Form, composes, Yes, Seen, chars_past_char, length-encode, len_utf8_bounds, canonical_combining_class, lead, or_parts, nat_tests, kit_form, quick_check, is_sound, BeginsAnew, IsBoundary, IsParting, is_among, halfwidth_marks, vowel_signs, passes_check, counts_anew-lead, parting-boundary, boundary-decomposing}
+use Rattle.nf_boundary.proofs.Common.{ucd, Sees, IsAtBoundary, Form, composes, Yes, Seen, chars_past_char, length-encode, len_utf8_bounds, canonical_combining_class, lead, or_parts, nat_tests, kit_form, quick_check, is_sound, HasBoundaryBefore, IsBoundary, IsOwnBoundary, is_among, halfwidth_marks, vowel_signs, passes_check, resets_count-lead, own_boundary-boundary, boundary-decomposing}
 use Rattle.unicode_normalization.proofs.FormsLemmas.{is_yes-true}
 
 -- what passes is a starter of which the quick check says yes
@@ -28,19 +28,19 @@ module _ (f : Form) (seen : Seen) (here : Sees f seen) where
     at boundary = record { sees = here; boundary = boundary; sound = sound seen.character; class = class }
 
     -- in a form that composes
-    pub boundary_composing : ((c : ℕ) → IsTrue (passes_check f c) → IsParting ucd f c) → seen.answer ≡ Yes → IsAtBoundary f seen
-    boundary_composing parting is = at (parting-boundary ucd f seen.character (parting seen.character (passing class is (or_parts _ _ plain).0)))
+    pub boundary_composing : ((c : ℕ) → IsTrue (passes_check f c) → IsOwnBoundary ucd f c) → seen.answer ≡ Yes → IsAtBoundary f seen
+    boundary_composing own_boundary is = at (own_boundary-boundary ucd f seen.character (own_boundary seen.character (passing class is (or_parts _ _ plain).0)))
 
     module _ (begins : (c : ℕ) → canonical_combining_class c ≡ 0 → is_among vowel_signs c ≡ false → is_among halfwidth_marks c ≡ false → lead ucd (ucd.compat c) ≡ 0) where
       -- where it is changed, by its decomposition
-      pub boundary_row : BeginsAnew ucd f seen.character → IsAtBoundary f seen
-      boundary_row anew = grind (arith, sound seen.character, begins seen.character, counts_anew-lead ucd f seen.character)
+      pub boundary_row : HasBoundaryBefore ucd f seen.character → IsAtBoundary f seen
+      boundary_row boundary_before = grind (arith, sound seen.character, begins seen.character, resets_count-lead ucd f seen.character)
 
       -- in one that does not
       pub boundary_apart : composes f ≡ false → IsAtBoundary f seen
       boundary_apart apart = at (boundary-decomposing ucd f apart seen.character (sound seen.character) (grind (arith, begins seen.character)))
 
   -- where it is a leading consonant of Hangul
-  pub boundary_leading : ((c : ℕ) → IsTrue (is_sound ucd c)) → ((c : ℕ) → IsTrue (passes_check f c) → IsParting ucd f c) → 0x1100 ≤ seen.character → seen.character < 0x1113 → seen.class ≡ 0 → seen.answer ≡ Yes
+  pub boundary_leading : ((c : ℕ) → IsTrue (is_sound ucd c)) → ((c : ℕ) → IsTrue (passes_check f c) → IsOwnBoundary ucd f c) → 0x1100 ≤ seen.character → seen.character < 0x1113 → seen.class ≡ 0 → seen.answer ≡ Yes
       → IsAtBoundary f seen
-  boundary_leading sound parting low high class is = boundary_composing sound class (grind (arith, nat_tests)) parting is
+  boundary_leading sound own_boundary low high class is = boundary_composing sound class (grind (arith, nat_tests)) own_boundary is

@@ -24,7 +24,7 @@ pub record Becomes (f : Form) (w : List ℕ) (starter : ℕ) (marks : List Mark)
   pub no_starter : has_starter ucd run ≡ false
   pub held : marks ≡ map (mark_of ucd) (by_class ucd run)
   pub formed : now ≡ before ++ encode_utf8_all (finished f ucd done)
-  pub parted : (v : List ℕ) → finished f ucd (done ++ starter ∷ v) ≡ finished f ucd done ++ finished f ucd (starter ∷ v)
+  pub is_cut : (v : List ℕ) → finished f ucd (done ++ starter ∷ v) ≡ finished f ucd done ++ finished f ucd (starter ∷ v)
 
 -- in NFKD so many non-starters more may come after these characters, and no run of them is too long
 pub record Leaves (cs : List ℕ) (room : ℕ) : Type 0 where

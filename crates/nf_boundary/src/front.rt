@@ -5,9 +5,9 @@ ghost use Rattle.nf_boundary.specs.Seen.{Sees, IsAtBoundary};
 ghost use Rattle.nf_boundary.specs.Rows.{IsRow};
 ghost use Rattle.nf_boundary.specs.Pieces.{Closes, Reaches};
 
+use crate::after_span::boundary_after;
 use crate::apart::take_front_apart;
 use crate::composing::compose_front;
-use crate::parting::boundary_after;
 use crate::pieces::take_pieces;
 use crate::rows::{Row, changed};
 use crate::seen::{Seen, may_begin_with_mark};
@@ -59,7 +59,7 @@ fn take_changed<'t>(form: Form, first: Seen<'t>, formed: &mut Formed) -> Seen<'t
 }
 
 /// Whether a span comes next, as far as two characters tell: after what the form changed it may begin with marks, but
-/// where a span ended it does not begin anew.
+/// where a span ended there is no boundary before it.
 #[inline(always)]
 fn goes_on_as_span(form: Form, next: Seen<'_>, is_after_changed: bool) -> bool {
     if !may_begin_with_mark(next.after) {

@@ -3,6 +3,7 @@
 //! Unicode Character Database.
 #![tactic(auto)]
 
+mod after_span;
 mod apart;
 mod closing;
 mod cluster;
@@ -13,7 +14,6 @@ mod front;
 mod hangul;
 mod lone;
 mod mark;
-mod parting;
 mod piece;
 mod pieces;
 mod rows;

@@ -3,8 +3,8 @@ ghost use Rattle.std.specs.Prelude.{◌≡◌, IfSome, IsSome, IsNone};
 ghost use Rattle.nf_boundary.specs.Seen.{IsAtBoundary};
 ghost use Rattle.nf_boundary.specs.Pieces.{Closes};
 
+use crate::after_span::boundary_after;
 use crate::encoding::append_one;
-use crate::parting::boundary_after;
 use crate::seen::Seen;
 use crate::segments::Formed;
 use nf_facts::{is_halfwidth_mark, laws};

@@ -16,8 +16,8 @@ use Rattle.nf_forms.specs.StreamSafe.{stream_safe}
 use Rattle.nf_row.specs.Ascii.{IsPlainAscii, AreAscii}
 use Rattle.nf_row.specs.Laws.Ascii.{ascii-head, ascii-tail}
 use Rattle.nf_utf8.specs.Text.{IsText}
-use Rattle.nf_utf8.specs.Laws.{ReadsPieces, ReadsBack, ReplacesParts, SplitsBytes}
-use Rattle.nf_utf8.specs.Part.{IsSubpart}
+use Rattle.nf_utf8.specs.Laws.{ReadsPieces, ReadsBack, ReplacesSubparts, SplitsBytes}
+use Rattle.nf_utf8.specs.Subpart.{IsSubpart}
 use Rattle.nf_utf8.specs.Ending.{Whole, moved}
 use Rattle.nf_utf8.specs.Reading.{text_len, text_of, rest_of, ending_of}
 use Rattle.nf_utf8.specs.Standing.{StandsAfter as DecoderStandsAfter}
@@ -50,7 +50,7 @@ allowed-ascii p plain true t ascii = take_while-all p.assigned t (all_assigned p
 starter_low : (a : ℕ) → a < 0x80 → starter_at a ≡ Some a
 starter_low a below = ap (λ (b : Bool). if b then None else Some a) (ne_eqb a 0xFFFFFFFF (λ (e : a ≡ 0xFFFFFFFF). omega arith))
 
-module _ (pieces : ReadsPieces) (own : ReadsBack) (laws : ReplacesParts) (split : SplitsBytes) where
+module _ (pieces : ReadsPieces) (own : ReadsBack) (laws : ReplacesSubparts) (split : SplitsBytes) where
   -- where no character is begun, ASCII reads as its characters
   module _ (tail t : List ℕ) (none : rest_of tail ≡ []) (ascii : IsAscii t) where
     is_text : IsText t

@@ -6,7 +6,7 @@ ghost use Rattle.nf_forms.specs.Ucd.{ucd};
 ghost use Rattle.nf_counts.specs.Safe.{IsSafeFront, StandsAt};
 ghost use Rattle.nf_counts.specs.Starts.{starts_at};
 
-use crate::starts::{before_any_start, before_start};
+use crate::starts::{before_any_start, before_next_start};
 use nf_facts::laws;
 use nf_lanes::LANES;
 use nf_utf8::ascii_prefix;
@@ -68,8 +68,9 @@ fn last_start(text: &str) -> usize
     let bytes = text.as_bytes();
     let mut at = ascii_prefix(bytes).saturating_sub(1);
     let mut from = at;
+    let mut by_pairs = false;
     while bytes.len() - from > 2 * LANES {
-        let run = before_start(bytes, from);
+        let run = before_next_start(bytes, from, by_pairs);
         if run < LANES {
             at = from + run;
             from += LANES - 1;
@@ -79,6 +80,7 @@ fn last_start(text: &str) -> usize
             };
             at = place;
             from = place;
+            by_pairs = true;
         }
     }
     at

@@ -32,6 +32,18 @@ pub(crate) fn before_start(bytes: &[u8], at: usize) -> usize
     before(bits(byte_sets(&HIGH, &LOW, bytes, at)))
 }
 
+/// The same before the first that begins one by itself, or with the next where pairs are asked.
+#[inline(always)]
+pub(crate) fn before_next_start(bytes: &[u8], at: usize, by_pairs: bool) -> usize
+    requires room { at + 17 ≤ length bytes.now }
+    ensures stops { result < 16 → starts_at bytes.now (at + result) ≡ true }
+{
+    if by_pairs {
+        return before_any_start(bytes, at);
+    }
+    before_start(bytes, at)
+}
+
 /// The same before the first that begins one by itself or with the next.
 #[inline(always)]
 pub(crate) fn before_any_start(bytes: &[u8], at: usize) -> usize

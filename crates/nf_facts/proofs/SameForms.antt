@@ -20,7 +20,7 @@ use Rattle.nf_forms.specs.StreamSafe.{joiner, safe_step, stream_safe}
 use Rattle.nf_forms.specs.Laws.Runs.{lead-marks}
 use Rattle.nf_forms.specs.Laws.Sound.{JoinerIsPlain-from_sound}
 use Rattle.nf_forms.specs.Laws.StreamSafe.{trail-decomposed-push, trail-decomposed-joiner}
-use Rattle.nf_forms.specs.Laws.Parting.{last_run}
+use Rattle.nf_forms.specs.Laws.Boundary.{last_run}
 use Rattle.nf_facts.proofs.Rows.{is_sound-ucd}
 
 -- ---- ordering

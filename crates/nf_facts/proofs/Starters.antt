@@ -1,4 +1,4 @@
--- Starters that pass the quick check of a form part a text, but for the two halfwidth marks.
+-- Starters that pass the quick check of a form are own boundaries, but for the two halfwidth marks.
 use Rattle.std.proofs.Common.{◌≡◌, ℕ, true, false, [], ◌∷◌, refl, ◌∙◌, arith}
 use Rattle.nf_facts.proofs.Common.{nat_tests, KitNfkd, KitNfc, KitNfkc, Yes, ccc, quick_check, decompose, lead, Form, Nfc, Nfkc, row_of, normal_form, ucd, kit_form}
 use Rattle.unicode_normalization.proofs.ComposeLemmas.{is_starter_from}
@@ -7,8 +7,8 @@ use Rattle.unicode_normalization.proofs.DecomposeLemmas.{decompose-final}
 use Rattle.unicode_normalization.proofs.FormsLemmas.{is_final-Nfd, is_final-Nfkd, is_yes-true, normalize-passes}
 use Rattle.unicode_normalization.proofs.OrderLemmas.{is_ordered-one}
 use Rattle.unicode_normalization.proofs.RebuildLemmas.{IsRebuilt}
-use Rattle.nf_forms.specs.Parting.{NeverSecond, BeginsAnew, IsParting}
-use Rattle.nf_forms.specs.Laws.SegmentForms.{counts_anew-lead}
+use Rattle.nf_forms.specs.Boundary.{NeverSecond, HasBoundaryBefore, IsOwnBoundary}
+use Rattle.nf_forms.specs.Laws.SegmentForms.{resets_count-lead}
 use Rattle.nf_facts.specs.Passing.{is_among, vowel_signs, halfwidth_marks, passes_check}
 use Rattle.nf_facts.proofs.Mapped.{Begins, by_row}
 use Rattle.nf_facts.specs.Refused.{no_vowel_sign}
@@ -31,29 +31,29 @@ never_second-yes _ c is composes a = cc
 
 -- ---- its row begins with such a one
 
-anew_rebuilt : (f : Form) (c : ℕ) → IsRebuilt c (row_of f ucd c) → BeginsAnew ucd f c
+boundary_rebuilt : (f : Form) (c : ℕ) → IsRebuilt c (row_of f ucd c) → HasBoundaryBefore ucd f c
 unfolding ucd
-anew_rebuilt f c r =
+boundary_rebuilt f c r =
     record { first = r.first; rest = r.rest; row = r.split; starter = is_starter_from r.first r.starter; never_second = λ _ a. rw composite-ucd (r.never_second a) }
 
-pub begins_anew : (f : Form) (c : ℕ) → ccc c ≡ 0 → quick_check (kit_form f) c ≡ Yes → BeginsAnew ucd f c
+pub has_boundary_before : (f : Form) (c : ℕ) → ccc c ≡ 0 → quick_check (kit_form f) c ≡ Yes → HasBoundaryBefore ucd f c
 unfolding ucd decompose
-begins_anew Nfc c starter is = anew_rebuilt Nfc c (of_starter KitNfc IsComposed-Nfc c (rw is) (omega arith))
-begins_anew Nfkc c starter is = anew_rebuilt Nfkc c (of_starter KitNfkc IsComposed-Nfkc c (rw is) (omega arith))
-begins_anew f c starter is =
+has_boundary_before Nfc c starter is = boundary_rebuilt Nfc c (of_starter KitNfc IsComposed-Nfc c (rw is) (omega arith))
+has_boundary_before Nfkc c starter is = boundary_rebuilt Nfkc c (of_starter KitNfkc IsComposed-Nfkc c (rw is) (omega arith))
+has_boundary_before f c starter is =
     record { first = c; rest = []; row = search (decompose-final, is_final-Nfd, is_final-Nfkd); starter = rw starter; never_second = never_second-yes f c is }
 
 pub alone : (f : Form) (c : ℕ) → quick_check (kit_form f) c ≡ Yes → normal_form f ucd (c ∷ []) ≡ c ∷ []
 alone f c is = normal_form-ucd f (c ∷ []) ∙ normalize-passes (kit_form f) (c ∷ []) (rw is) (is_ordered-one c)
 
-pub parting-ucd : (f : Form) (c : ℕ) → passes_check f c ≡ true → IsParting ucd f c
+pub own_boundary-ucd : (f : Form) (c : ℕ) → passes_check f c ≡ true → IsOwnBoundary ucd f c
 unfolding ucd
-parting-ucd f c h =
+own_boundary-ucd f c h =
     let starter : ccc c ≡ 0 = grind (arith, nat_tests) in
     let is : quick_check (kit_form f) c ≡ Yes = is_yes-true _ (grind (arith, nat_tests)) in
     record {
       starts = rw starter;
-      anew = begins_anew f c starter is;
-      counts = counts_anew-lead ucd f c (is_sound-ucd c) (compat-lead c starter (no_vowel_sign f c (λ no. cc)) (grind (arith, nat_tests)));
+      boundary_before = has_boundary_before f c starter is;
+      counts = resets_count-lead ucd f c (is_sound-ucd c) (compat-lead c starter (no_vowel_sign f c (λ no. cc)) (grind (arith, nat_tests)));
       alone = alone f c is;
     }

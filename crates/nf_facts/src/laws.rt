@@ -24,7 +24,7 @@ ghost use Rattle.nf_forms.specs.Sound.{is_sound};
 ghost use Rattle.nf_forms.specs.Audit.{IsAudited};
 ghost use Rattle.nf_forms.specs.Twice.{HasScalarRows, ChangesOnce};
 ghost use Rattle.nf_forms.specs.Ucd.{ucd};
-ghost use Rattle.nf_forms.specs.Parting.{NeverSecond, BeginsAnew, IsParting};
+ghost use Rattle.nf_forms.specs.Boundary.{NeverSecond, HasBoundaryBefore, IsOwnBoundary};
 ghost use Rattle.nf_forms.specs.Closing.{IsClosing};
 ghost use Rattle.nf_forms.specs.Span.{IsMark};
 ghost use Rattle.nf_forms.specs.Laws.Sound.{IsSoundText};
@@ -67,16 +67,16 @@ pub fn exceptions_are_few()
 /// passes composes with nothing before it.
 #[inline]
 pub fn the_quick_check_tells()
-    ensures parting { (f : Form) (c : ℕ) → IsTrue (passes_check f c) → IsParting ucd f c }
+    ensures own_boundary { (f : Form) (c : ℕ) → IsTrue (passes_check f c) → IsOwnBoundary ucd f c }
     ensures mark { (f : Form) (c : ℕ) → 0 < canonical_combining_class c → quick_check (kit_form f) c ≢ No → IsMark ucd c (canonical_combining_class c) }
     ensures never_second { (f : Form) (c : ℕ) → quick_check (kit_form f) c ≡ Yes → NeverSecond ucd f c }
 {}
 
-/// A starter that passes the quick check begins its row anew, and alone is its own form (UAX #15, section 9), a halfwidth
+/// A starter that passes the quick check has a boundary before it, and alone is its own form (UAX #15, section 9), a halfwidth
 /// mark too.
 #[inline]
-pub fn what_passes_begins_anew()
-    ensures anew { (f : Form) (c : ℕ) → canonical_combining_class c ≡ 0 → quick_check (kit_form f) c ≡ Yes → BeginsAnew ucd f c }
+pub fn what_passes_has_a_boundary_before()
+    ensures boundary_before { (f : Form) (c : ℕ) → canonical_combining_class c ≡ 0 → quick_check (kit_form f) c ≡ Yes → HasBoundaryBefore ucd f c }
     ensures alone { (f : Form) (c : ℕ) → quick_check (kit_form f) c ≡ Yes → normal_form f ucd (c ∷ []) ≡ c ∷ [] }
 {}
 

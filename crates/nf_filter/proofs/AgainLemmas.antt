@@ -1,5 +1,5 @@
 -- What a filter wrote to the end is a text that is stream-safe and its own form, so that a second one changes nothing.
-use Rattle.nf_filter.proofs.Common.{◌≡◌, ℕ, Bool, true, false, List, [], ◌∷◌, ◌++◌, length, Option, Some, None, Result, Ok, Err, refl, sym, ap, ◌∙◌, append-nil, eq-eqb, IsTrue, OnOk, encode_utf8_all, inl, all_scalars, Properties, Form, is_sound, stream_safe, safe_form, ChangesOnce, IsSoundText, in_format-unchanged, IsText, BeginsText, Ending, Whole, Cut, text_of, ending_of, replaced, replaced_whole, ReadsLongestText, ReadsBack, ReplacesParts, Fault, Policy, Tally, as_is, allowed, text_under, whole_under, is_usable, settled_utf8, answer_at_end, bad_under, fault_in, tally_of, answer_or, end_under, end_of, whole_or, final_under, final_utf8, SinkState, SourceState, Drives, DrivesToEnd, Converts, settled_utf8-none, arith, nat_tests}
+use Rattle.nf_filter.proofs.Common.{◌≡◌, ℕ, Bool, true, false, List, [], ◌∷◌, ◌++◌, length, Option, Some, None, Result, Ok, Err, refl, sym, ap, ◌∙◌, append-nil, eq-eqb, IsTrue, OnOk, encode_utf8_all, inl, all_scalars, Properties, Form, is_sound, stream_safe, safe_form, ChangesOnce, IsSoundText, in_format-unchanged, IsText, BeginsText, Ending, Whole, Cut, text_of, ending_of, replaced, replaced_whole, ReadsLongestText, ReadsBack, ReplacesSubparts, Fault, Policy, Tally, as_is, allowed, text_under, whole_under, is_usable, settled_utf8, answer_at_end, bad_under, fault_in, tally_of, answer_or, end_under, end_of, whole_or, final_under, final_utf8, SinkState, SourceState, Drives, DrivesToEnd, Converts, settled_utf8-none, arith, nat_tests}
 use Rattle.std.proofs.str.Laws.{scalars-append}
 use Rattle.std.proofs.Math.Nat.{sub_self}
 use Rattle.std.proofs.Math.Utf8.{scalar}
@@ -33,7 +33,7 @@ module _ (p : Properties) where
   sound_text sound [] scalars = refl
   sound_text sound (c ∷ x) scalars = grind (arith, nat_tests, sound c, sound_text sound x)
 
-module _ (back : ReadsBack) (replacing : ReplacesParts) where
+module _ (back : ReadsBack) (replacing : ReplacesSubparts) where
   -- ---- the bytes of a text
 
   module _ (o : List ℕ) (scalars : IsText o) where
@@ -95,12 +95,12 @@ module _ (back : ReadsBack) (replacing : ReplacesParts) where
 
 -- ---- what was written to the end
 
-text-whole : ReadsLongestText → ReplacesParts → (replace : Bool) (bytes : List ℕ) → IsText (whole_under replace bytes)
+text-whole : ReadsLongestText → ReplacesSubparts → (replace : Bool) (bytes : List ℕ) → IsText (whole_under replace bytes)
 unfolding replaced_whole
 text-whole longest replacing false bytes = (longest.reads bytes).front.scalars
 text-whole longest replacing true bytes = scalars-append (replaced bytes) _ (replacing.text bytes) (grind (arith, nat_tests))
 
-pub finished_stays : ReadsLongestText → ReadsBack → ReplacesParts → FinishedStays
+pub finished_stays : ReadsLongestText → ReadsBack → ReplacesSubparts → FinishedStays
 finished_stays longest back replacing = λ policy f p base bytes tally once end.
     let x = whole_under policy.replace bytes in
     let scalars = text-whole longest replacing policy.replace bytes in

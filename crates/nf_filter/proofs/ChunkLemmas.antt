@@ -1,5 +1,5 @@
 -- What is left of a piece, up to its first ill-formed byte.
-use Rattle.nf_filter.proofs.Common.{EndsPiece, ◌≡◌, ℕ, ◌+◌, ◌-◌, ◌==◌, true, false, List, [], ◌∷◌, ◌++◌, length, drop, Ok, Err, refl, sym, ap, ◌∙◌, arith, nat_tests, append_assoc, append-nil, Option, Result, if◌then◌else◌, encode_utf8_all, chars, length-append, drop_at, encodes-append, Properties, Form, End, EndsBad, text_of, text_len, replacement, subpart_end, ReplacesParts, SplitsBytes, DecoderStandsAfter, first_text, Takes, bytes_after_piece, Fault, BadByte, Write, Counted, Policy, Reading, Start, BlockState, bad_under, fault_in, TakesAllowed, IsLeft, HasReadTo, ReadsTo, RefusesBytes, IsPlacedAt, allowed, text_under, None, ⊎_elim, Written, TakesOn, settled_text, bad_byte, unusable_at-usable, AreSound, ending_of}
+use Rattle.nf_filter.proofs.Common.{EndsPiece, ◌≡◌, ℕ, ◌+◌, ◌-◌, ◌==◌, true, false, List, [], ◌∷◌, ◌++◌, length, drop, Ok, Err, refl, sym, ap, ◌∙◌, arith, nat_tests, append_assoc, append-nil, Option, Result, if◌then◌else◌, encode_utf8_all, chars, length-append, drop_at, encodes-append, Properties, Form, End, EndsBad, text_of, text_len, replacement, subpart_end, ReplacesSubparts, SplitsBytes, DecoderStandsAfter, first_text, Takes, bytes_after_piece, Fault, BadByte, Write, Counted, Policy, Reading, Start, BlockState, bad_under, fault_in, TakesAllowed, IsLeft, HasReadTo, ReadsTo, RefusesBytes, IsPlacedAt, allowed, text_under, None, ⊎_elim, Written, TakesOn, settled_text, bad_byte, unusable_at-usable, AreSound, ending_of}
 use Rattle.nf_filter.proofs.BlockLemmas.{WritesTo-written}
 use Rattle.nf_filter.proofs.FilterLemmas.{err_is, write_or_not}
 use Rattle.nf_filter.proofs.SoundnessLemmas.{usable_is}
@@ -32,7 +32,7 @@ module _ {policy : Policy} {f : Form} {p : Properties} {base : ℕ} {bytes : Lis
       let all = rw is at takes in
       ((record { before = before; n = n; tail = tail; left = left; decoder = decoder; good = good; offset = offset; taken = all.taken.0; allowed = all.taken.1 }, TakesAllowed-settled all), refl)
 
-module _ (laws : ReplacesParts) {policy : Policy} {f : Form} {p : Properties} {base : ℕ} {bytes rest : List ℕ} {counted : Counted} {reading : Reading} {start : Start} {old : BlockState}
+module _ (laws : ReplacesSubparts) {policy : Policy} {f : Form} {p : Properties} {base : ℕ} {bytes rest : List ℕ} {counted : Counted} {reading : Reading} {start : Start} {old : BlockState}
     (both : ReadsTo policy f p counted start old base reading bytes rest) {first : Option ℕ} {text : List ℕ} {end : End} (takes : (tail : List ℕ) → DecoderStandsAfter reading.decoder tail → Takes tail rest first text end)
     (carried : ℕ) (held_is : (tail : List ℕ) → DecoderStandsAfter reading.decoder tail → length (encode_utf8_all (text_of tail)) + carried ≡ length tail) where
   abbrev read : HasReadTo policy f p counted base reading bytes rest
@@ -138,7 +138,7 @@ module _ (laws : ReplacesParts) {policy : Policy} {f : Form} {p : Properties} {b
 abbrev place_after : List ℕ → List ℕ → ℕ
 place_after x z = length (encode_utf8_all (drop (length x) z))
 
-module _ (laws : ReplacesParts) {policy : Policy} {f : Form} {p : Properties} {base len : ℕ} {bytes rest own : List ℕ} {counted : Counted} {reading : Reading} {start : Start} {old : BlockState}
+module _ (laws : ReplacesSubparts) {policy : Policy} {f : Form} {p : Properties} {base len : ℕ} {bytes rest own : List ℕ} {counted : Counted} {reading : Reading} {start : Start} {old : BlockState}
     (replaces : policy.replace ≡ true) (read : HasReadTo policy f p counted base reading bytes rest) (none : read.tail ≡ [])
     (is : IsReplacedFront rest own len) (assigned : allowed policy.assigned p own ≡ own) (sound : AreSound p)
     (written : Written start old (settled_text f p (read.before ++ text_of read.tail))) where

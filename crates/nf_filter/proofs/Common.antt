@@ -73,11 +73,11 @@ pub use Rattle.nf_safe.specs.Place.{is_in_format, place_from}
 pub use Rattle.nf_safe.specs.declared.checker.Checker.{Checker}
 pub use Rattle.nf_safe.specs.declared.place.Place.{Place}
 pub use Rattle.nf_utf8.specs.Ending.{Ending, Whole, Bad, Cut, Cut as CutEnd}
-pub use Rattle.nf_utf8.specs.Laws.{ReadsLongestText, ReadsBack, ReplacesParts, SplitsBytes}
+pub use Rattle.nf_utf8.specs.Laws.{ReadsLongestText, ReadsBack, ReplacesSubparts, SplitsBytes}
 unfoldable pub use Rattle.nf_utf8.specs.Reading.{text_of, ending_of, rest_of}
 pub use Rattle.nf_utf8.specs.Reading.{text_len}
-unfoldable pub use Rattle.nf_utf8.specs.Replaced.{replaced, replaced_whole, parts_of, replaced_len}
-pub use Rattle.nf_utf8.specs.Replaced.{replacement, begun_at_end, subpart_end, Part, own_parts, parts_after_text, parts_within, bytes_in}
+unfoldable pub use Rattle.nf_utf8.specs.Replaced.{replaced, replaced_whole, decoded_of, replaced_len}
+pub use Rattle.nf_utf8.specs.Replaced.{replacement, begun_at_end, subpart_end, Decoded, decoded_text, decoded_after_text, decoded_within, bytes_in}
 pub use Rattle.nf_utf8.specs.Standing.{StandsAfter as DecoderStandsAfter}
 pub use Rattle.nf_utf8.specs.Taking.{first_text, Takes, bytes_after_piece, first_bytes, EndsPiece, Counts}
 pub use Rattle.nf_utf8.specs.Text.{IsText, BeginsText}

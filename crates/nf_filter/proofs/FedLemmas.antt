@@ -1,10 +1,10 @@
 -- A piece that was read: what it comes to by the bytes.
-use Rattle.nf_filter.proofs.Common.{cases_Bool, ⊎_elim, ◌≡◌, ℕ, suc, ◌+◌, ◌==◌, true, cond, MatchResult, List, [], ◌∷◌, ◌++◌, length, None, Ok, Err, sym, ap, ◌∙◌, arith, append_assoc, append-nil, OnOk, Result, if◌then◌else◌, encode_utf8_all, result_err, Properties, Form, text_of, replacement, begun_at_end, replaced_whole, ReplacesParts, Fault, Write, Counted, Policy, Reading, Start, BlockState, Written, WritesTo, bad_under, fault_in, IsLeft, HasReadTo, ReadsTo, RefusesBytes, settled_text, len_under, text_under, whole_under, settled_utf8}
+use Rattle.nf_filter.proofs.Common.{cases_Bool, ⊎_elim, ◌≡◌, ℕ, suc, ◌+◌, ◌==◌, true, cond, MatchResult, List, [], ◌∷◌, ◌++◌, length, None, Ok, Err, sym, ap, ◌∙◌, arith, append_assoc, append-nil, OnOk, Result, if◌then◌else◌, encode_utf8_all, result_err, Properties, Form, text_of, replacement, begun_at_end, replaced_whole, ReplacesSubparts, Fault, Write, Counted, Policy, Reading, Start, BlockState, Written, WritesTo, bad_under, fault_in, IsLeft, HasReadTo, ReadsTo, RefusesBytes, settled_text, len_under, text_under, whole_under, settled_utf8}
 use Rattle.nf_filter.proofs.BlockLemmas.{WritesTo-written}
 use Rattle.nf_filter.proofs.PolicyLemmas.{first_fault-none, taken-all}
 use Rattle.nf_filter.proofs.PieceLemmas.{place_in, IsLeft-more, left-text, left-place, left-bad, left-whole, text_under-begun, len_under-first}
 
-module _ (laws : ReplacesParts) {policy : Policy} {f : Form} {p : Properties} {base : ℕ} {counted : Counted} {reading : Reading} {bytes : List ℕ} (read : HasReadTo policy f p counted base reading bytes []) where
+module _ (laws : ReplacesSubparts) {policy : Policy} {f : Form} {p : Properties} {base : ℕ} {counted : Counted} {reading : Reading} {bytes : List ℕ} (read : HasReadTo policy f p counted base reading bytes []) where
   abbrev text : List ℕ
   text = read.before ++ text_of read.tail
 
@@ -56,7 +56,7 @@ abbrev pub left_of : ℕ → ℕ → ℕ
 left_of rest held = cond (rest == 0) 0 (suc (rest + held))
 
 -- all of a piece was read, or it was refused
-module _ (laws : ReplacesParts) (policy : Policy) (f : Form) (p : Properties) (base : ℕ) (counted : Counted) (now : BlockState) (reading : Reading) where
+module _ (laws : ReplacesSubparts) (policy : Policy) (f : Form) (p : Properties) (base : ℕ) (counted : Counted) (now : BlockState) (reading : Reading) where
   pub rest-is : (start : Start) (bytes : List ℕ) (r : Result (Unit {0}) Fault) → MatchResult r (λ _. ReadsTo policy f p counted start now base reading bytes []) (RefusesBytes policy f p start now base bytes)
       → WritesTo start now (settled_utf8 policy f p bytes) r × (¬ (r ≡ Err Write) → result_err r ≡ fault_in policy p base bytes) × OnOk r (HasReadTo policy f p counted base reading bytes [])
   unfolding settled_utf8

@@ -1,5 +1,5 @@
 -- What finishing answers.
-use Rattle.nf_filter.proofs.Common.{◌==◌, begun_at_end, ◌≡◌, ℕ, ◌+◌, Bool, true, false, List, [], ◌∷◌, ◌++◌, length, None, Ok, Err, ⊎_elim, refl, sym, ap, ◌∙◌, arith, append-nil, eq-eqb, Result, if◌then◌else◌, encode_utf8_all, length-append, cases_Bool, false_from_ne_true, and_from, Properties, Form, safe_form, Ending, Cut, text_of, ending_of, replacement, ReplacesParts, Fault, Write, Counted, Policy, Reading, Tally, SinkState, Puts, BreaksOff, allowed, whole_under, settled, is_usable, usable, settled_utf8, answer_at_end, first_fault, taken_utf8, HasReadTo, ReplacesCut, tally_of, answer_or, end_of, whole_or, is_taken, final_utf8, Closes, Finishes, Extends-encodes, usable-all, usable-stop, nil_from_length}
+use Rattle.nf_filter.proofs.Common.{◌==◌, begun_at_end, ◌≡◌, ℕ, ◌+◌, Bool, true, false, List, [], ◌∷◌, ◌++◌, length, None, Ok, Err, ⊎_elim, refl, sym, ap, ◌∙◌, arith, append-nil, eq-eqb, Result, if◌then◌else◌, encode_utf8_all, length-append, cases_Bool, false_from_ne_true, and_from, Properties, Form, safe_form, Ending, Cut, text_of, ending_of, replacement, ReplacesSubparts, Fault, Write, Counted, Policy, Reading, Tally, SinkState, Puts, BreaksOff, allowed, whole_under, settled, is_usable, usable, settled_utf8, answer_at_end, first_fault, taken_utf8, HasReadTo, ReplacesCut, tally_of, answer_or, end_of, whole_or, is_taken, final_utf8, Closes, Finishes, Extends-encodes, usable-all, usable-stop, nil_from_length}
 use Rattle.nf_filter.proofs.WritesLemmas.{Puts-none, Puts-at, BreaksOff-extends}
 use Rattle.nf_filter.proofs.FilterLemmas.{err_is, failed_if}
 use Rattle.nf_filter.proofs.PolicyLemmas.{allowed-append, allowed-grows, taken-all, taken_whole, first_fault-none, taken}
@@ -21,7 +21,7 @@ pub Finishes-of : {policy : Policy} {f : Form} {p : Properties} {base : ℕ} {by
     → (¬ (r ≡ Err Write) → Puts old new (settled_utf8 policy f p bytes) (final_utf8 policy f p bytes) × (r ≡ end_of policy p base bytes)) → Finishes policy f p base bytes old new r
 Finishes-of r breaks puts = record { write = failed_if r breaks (λ not. (puts not).0); broken_off = breaks; written = λ not. (puts not).0; answer = λ not. (puts not).1 }
 
-module _ (laws : ReplacesParts) {policy : Policy} {f : Form} {p : Properties} {base : ℕ} {counted : Counted} {reading : Reading} {bytes : List ℕ} (read : HasReadTo policy f p counted base reading bytes []) where
+module _ (laws : ReplacesSubparts) {policy : Policy} {f : Form} {p : Properties} {base : ℕ} {counted : Counted} {reading : Reading} {bytes : List ℕ} (read : HasReadTo policy f p counted base reading bytes []) where
   abbrev whole : List ℕ
   whole = whole_under policy.replace bytes
 

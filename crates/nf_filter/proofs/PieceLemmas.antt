@@ -1,9 +1,9 @@
 -- Bytes, part by part: what a front of them gives does not change what the rest gives.
-use Rattle.nf_filter.proofs.Common.{◌≡◌, ℕ, ◌+◌, ◌-◌, Bool, true, false, List, [], ◌∷◌, ◌++◌, length, map, drop, refl, sym, arith, append_assoc, append-nil, encode_utf8, encode_utf8_all, take-append-add, length-append, length-drop, length-map, map-append, take_at, drop-append-le, BeginsText, Bad, text_of, text_len, ending_of, Part, replacement, own_parts, subpart_end, parts_after_text, parts_within, parts_of, replaced, replaced_len, begun_at_end, replaced_whole, ReplacesParts, SplitsBytes, answer_at_end, bad_under, IsLeft, len_under, text_under, whole_under, Extends}
+use Rattle.nf_filter.proofs.Common.{◌≡◌, ℕ, ◌+◌, ◌-◌, Bool, true, false, List, [], ◌∷◌, ◌++◌, length, map, drop, refl, sym, arith, append_assoc, append-nil, encode_utf8, encode_utf8_all, take-append-add, length-append, length-drop, length-map, map-append, take_at, drop-append-le, BeginsText, Bad, text_of, text_len, ending_of, Decoded, replacement, decoded_text, subpart_end, decoded_after_text, decoded_within, decoded_of, replaced, replaced_len, begun_at_end, replaced_whole, ReplacesSubparts, SplitsBytes, answer_at_end, bad_under, IsLeft, len_under, text_under, whole_under, Extends}
 use Rattle.std.proofs.Common.{add_assoc}
 use Rattle.std.proofs.Math.Nat.{add-zero}
 use Rattle.nf_utf8.specs.Lossy.{IsReplacedFront}
-use Rattle.nf_utf8.proofs.ReplacedLemmas.{broken_end}
+use Rattle.nf_utf8.proofs.ReplacedLemmas.{subpart_end_is}
 
 -- where what stands after a front of the text of the bytes begins, the first of which has the offset `base`
 abbrev pub place_in : Bool → ℕ → List ℕ → List ℕ → ℕ
@@ -60,7 +60,7 @@ IsLeft-join r bytes x n mid y m left a b = record {
 }
 
 -- where ill-formed parts are replaced, a front of what is left
-module _ (laws : ReplacesParts) {all x bytes own : List ℕ} {n len : ℕ} (left : IsLeft true all x n bytes) (is : IsReplacedFront bytes own len) where
+module _ (laws : ReplacesSubparts) {all x bytes own : List ℕ} {n len : ℕ} (left : IsLeft true all x n bytes) (is : IsReplacedFront bytes own len) where
   held : (more : List ℕ) → begun_at_end (bytes ++ more) ≡ begun_at_end (drop len bytes ++ more)
   held more = grind (arith, is.front more, laws.joined, is.size, length-append, length-drop, is.within)
 
@@ -69,7 +69,7 @@ module _ (laws : ReplacesParts) {all x bytes own : List ℕ} {n len : ℕ} (left
   IsLeft-front = record {
     text = λ more. simp (left.text more, is.front more, map-append, is.chars, append_assoc);
     place = λ more y.
-        let count : length (own ++ y) ≡ length is.parts + length y = grind (arith, length-append, is.chars, length-map) in
+        let count : length (own ++ y) ≡ length is.decoded + length y = grind (arith, length-append, is.chars, length-map) in
         rw (append_assoc, left.place more (own ++ y), count, is.front more, take-append-add, laws.joined, is.size) (omega arith);
     bad = λ base more. refl;
     whole = λ more. rw (left.whole more, held more) (simp (is.front more, map-append, is.chars, append_assoc));
@@ -77,22 +77,22 @@ module _ (laws : ReplacesParts) {all x bytes own : List ℕ} {n len : ℕ} (left
     len = grind (arith, left.len, length-drop, is.within);
   }
 
-pub own_parts-append : (x y : List ℕ) → own_parts (x ++ y) ≡ own_parts x ++ own_parts y
-own_parts-append x y = map-append (λ c. record { char = c; len = length (encode_utf8 c) }) x y
+pub decoded_text-append : (x y : List ℕ) → decoded_text (x ++ y) ≡ decoded_text x ++ decoded_text y
+decoded_text-append x y = map-append (λ c. record { char = c; len = length (encode_utf8 c) }) x y
 
-module _ (laws : ReplacesParts) where
+module _ (laws : ReplacesSubparts) where
   -- the first characters are those that the bytes spell before any bad one
   pub text_under-first : (r : Bool) (bytes : List ℕ) → Extends (text_of bytes) (text_under r bytes)
-  unfolding replaced parts_of
+  unfolding replaced decoded_of
   text_under-first false bytes = record { more = []; text = sym (append-nil (text_of bytes)) }
   text_under-first true bytes =
-      let more = parts_after_text (ending_of bytes) (λ n. parts_within (length bytes) (drop n bytes)) in
-      record { more = map (λ part. part.char) more; text = simp (map-append, laws.own_chars) }
+      let more = decoded_after_text (ending_of bytes) (λ n. decoded_within (length bytes) (drop n bytes)) in
+      record { more = map (λ decoded. decoded.char) more; text = simp (map-append, laws.own_chars) }
 
   pub len_under-first : (r : Bool) (bytes y z : List ℕ) → text_of bytes ≡ y ++ z → len_under r bytes y ≡ length (encode_utf8_all y)
-  unfolding replaced_len parts_of
+  unfolding replaced_len decoded_of
   len_under-first false bytes y z is = refl
-  len_under-first true bytes y z is = rw (is, own_parts-append, append_assoc, take_at (own_parts y) _ (length y) (length-map y _)) (laws.own_len y)
+  len_under-first true bytes y z is = rw (is, decoded_text-append, append_assoc, take_at (decoded_text y) _ (length y) (length-map y _)) (laws.own_len y)
 
   -- bytes that begin a text
   module _ (bytes : List ℕ) (begins : BeginsText bytes) where
@@ -107,13 +107,13 @@ module _ (laws : ReplacesParts) where
   -- the text before a bad byte, and the part that it breaks off
   pub bad_front : SplitsBytes → {bytes : List ℕ} {at : ℕ} → ending_of bytes ≡ Bad at (text_len bytes) → IsReplacedFront bytes (text_of bytes ++ replacement ∷ []) (subpart_end at (text_len bytes))
   bad_front split {bytes} {at} bad =
-      let text = own_parts (text_of bytes) in
-      let part : Part = record { char = replacement; len = subpart_end at (text_len bytes) - text_len bytes } in
-      let broken = broken_end bytes at (text_len bytes) bad in
+      let text = decoded_text (text_of bytes) in
+      let subpart : Decoded = record { char = replacement; len = subpart_end at (text_len bytes) - text_len bytes } in
+      let is_subpart_end = subpart_end_is bytes at (text_len bytes) bad in
       record {
-        parts = text ++ part ∷ [];
+        decoded = text ++ subpart ∷ [];
         chars = simp (map-append, laws.own_chars);
         size = grind (arith, laws.joined, laws.own_len, split.len);
-        within = broken.1;
-        front = λ more. rw (append_assoc text (part ∷ []) _, ← drop-append-le (subpart_end at (text_len bytes)) bytes more broken.1) (laws.bad bytes more at (text_len bytes) bad);
+        within = is_subpart_end.1;
+        front = λ more. rw (append_assoc text (subpart ∷ []) _, ← drop-append-le (subpart_end at (text_len bytes)) bytes more is_subpart_end.1) (laws.bad bytes more at (text_len bytes) bad);
       }

@@ -1,5 +1,5 @@
 -- Where a filter stands that has taken nothing, and how many of the bytes that it has taken it holds.
-use Rattle.nf_filter.proofs.Common.{bad_under, cases_Bool, ⊎_elim, ◌≡◌, ℕ, ◌+◌, false, List, [], ◌++◌, length, ◌∙◌, arith, encode_utf8_all, Properties, Form, ReplacesParts, text_of, DecoderStandsAfter, State, Policy, fault_in, base_of, offset_of, is_spent, StandsAfter, text_under-none, HasTaken, len_under, text_under, is_usable-none}
+use Rattle.nf_filter.proofs.Common.{bad_under, cases_Bool, ⊎_elim, ◌≡◌, ℕ, ◌+◌, false, List, [], ◌++◌, length, ◌∙◌, arith, encode_utf8_all, Properties, Form, ReplacesSubparts, text_of, DecoderStandsAfter, State, Policy, fault_in, base_of, offset_of, is_spent, StandsAfter, text_under-none, HasTaken, len_under, text_under, is_usable-none}
 use Rattle.nf_filter.proofs.PieceLemmas.{IsLeft-all}
 use Rattle.nf_filter.proofs.FedLemmas.{read-text, read-place}
 use Rattle.nf_filter.proofs.ReadingLemmas.{text_of-none, ending_of-none}
@@ -27,7 +27,7 @@ StandsAfter-none {policy} {p = p} state unspent is offset decoder taken = record
 }
 
 -- what was taken is the text of the bytes, and what the decoder holds gave nothing of it
-module _ (laws : ReplacesParts) {policy : Policy} {f : Form} {p : Properties} {state : State} {bytes : List ℕ} (stands : StandsAfter policy f p state bytes) where
+module _ (laws : ReplacesSubparts) {policy : Policy} {f : Form} {p : Properties} {state : State} {bytes : List ℕ} (stands : StandsAfter policy f p state bytes) where
   pub taken-text : text_under policy.replace bytes ≡ stands.reading.before ++ text_of stands.reading.tail
   taken-text = read-text laws stands.reading
 

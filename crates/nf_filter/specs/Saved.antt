@@ -5,7 +5,7 @@ use Rattle.nf_forms.specs.StreamSafe.{max_run}
 use Rattle.nf_forms.specs.declared.form.Form.{Form}
 use Rattle.nf_forms.specs.declared.form.Form.TheVariants.{Nfc, Nfd, Nfkc, Nfkd}
 use Rattle.nf_boundary.specs.declared.mark.Mark.{Mark}
-use Rattle.nf_utf8.specs.Part.{IsSubpart}
+use Rattle.nf_utf8.specs.Subpart.{IsSubpart}
 use Rattle.nf_pending.specs.StandsAfter.{starter_of, marks_of}
 use Rattle.nf_filter.specs.declared.filter.State.{State}
 use Rattle.nf_filter.specs.declared.saved.Saved.{Saved}

@@ -5,7 +5,7 @@ use Rattle.nf_forms.specs.Properties.{Properties, is_starter}
 use Rattle.nf_forms.specs.Compose.{composite}
 use Rattle.nf_forms.specs.declared.form.Form.{Form}
 use Rattle.nf_forms.specs.Forms.{row_of, composes}
-use Rattle.nf_forms.specs.Parting.{NeverSecond}
+use Rattle.nf_forms.specs.Boundary.{NeverSecond}
 
 -- in a composing form it composes with nothing after it
 abbrev pub NeverFirst : Properties → Form → ℕ → Type 0

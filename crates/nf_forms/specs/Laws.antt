@@ -8,7 +8,7 @@ pub mod Compose
 pub mod Settling
 pub mod Sound
 pub mod StreamSafe
-pub mod Parting
+pub mod Boundary
 pub mod MarkAfter
 pub mod Span
 pub mod SpanSteps

@@ -7,7 +7,7 @@ pub mod Compose
 pub mod Forms
 pub mod StreamSafe
 pub mod SafeForm
-pub mod Parting
+pub mod Boundary
 pub mod Closing
 pub mod Span
 pub mod Sound

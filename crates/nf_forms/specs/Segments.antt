@@ -6,7 +6,7 @@ use Rattle.nf_forms.specs.declared.form.Form.{Form}
 use Rattle.nf_forms.specs.Forms.{normal_form}
 use Rattle.nf_forms.specs.StreamSafe.{stream_safe}
 use Rattle.nf_forms.specs.Sound.{is_sound}
-use Rattle.nf_forms.specs.Parting.{IsBoundary}
+use Rattle.nf_forms.specs.Boundary.{IsBoundary}
 use Rattle.nf_forms.specs.Laws.Sound.{IsSoundText}
 
 -- it begins with a sound character before which a text may be cut

@@ -1,4 +1,4 @@
--- A span: characters that part a text, and after each of them marks that stay where they stand, or starters that count as
+-- A span: own boundaries, and after each of them marks that stay where they stand, or starters that count as
 -- marks. Its form is itself, whatever stands before it: what the quick check tells of a text (UAX #15, section 9), over any
 -- character data.
 use Rattle.std.specs.Prelude.{◌≡◌, ◌<◌, ◌≤◌, ◌+◌, ◌⊎◌, ℕ, true, false, List, [], ◌∷◌, length}
@@ -7,7 +7,7 @@ use Rattle.nf_forms.specs.Runs.{has_starter, trail}
 use Rattle.nf_forms.specs.declared.form.Form.{Form}
 use Rattle.nf_forms.specs.Forms.{normal_form}
 use Rattle.nf_forms.specs.StreamSafe.{max_run}
-use Rattle.nf_forms.specs.Parting.{NeverSecond, BeginsAnew, IsParting}
+use Rattle.nf_forms.specs.Boundary.{NeverSecond, HasBoundaryBefore, IsOwnBoundary}
 
 -- a non-starter of class k that is its own canonical and compatibility row
 pub record IsMark (p : Properties) (c k : ℕ) : Type 0 where
@@ -16,9 +16,9 @@ pub record IsMark (p : Properties) (c k : ℕ) : Type 0 where
   pub canonical : p.canonical c ≡ c ∷ []
   pub compat : p.compat c ≡ c ∷ []
 
--- c parts a text, and after it NFKD ends in at most `count` non-starters
+-- c is an own boundary, and after it NFKD ends in at most `count` non-starters
 pub record BeginsRun (p : Properties) (f : Form) (c count : ℕ) : Type 0 where
-  pub parting : IsParting p f c
+  pub own_boundary : IsOwnBoundary p f c
   pub counted : trail p (p.compat c) ≤ count
   pub room : count ≤ max_run
 
@@ -35,7 +35,7 @@ pub record StaysAfter (p : Properties) (f : Form) (k n c class count : ℕ) : Ty
 -- ends in at most `count` with them
 pub record CountsOn (p : Properties) (f : Form) (n c count : ℕ) : Type 0 where
   pub starts : is_starter p c ≡ true
-  pub anew : BeginsAnew p f c
+  pub boundary_before : HasBoundaryBefore p f c
   pub alone : normal_form f p (c ∷ []) ≡ c ∷ []
   pub some : 0 < length (p.compat c)
   pub none : has_starter p (p.compat c) ≡ false
@@ -52,6 +52,6 @@ abbrev pub IsSpanFrom : Properties → Form → ℕ → ℕ → List ℕ → ℕ
 IsSpanFrom p f k n [] class count = (k ≡ class) × (n ≡ count)
 IsSpanFrom p f k n (c ∷ cs) class count = (next : ℕ) × (more : ℕ) × GoesOn p f k n c next more × IsSpanFrom p f next more cs class count
 
--- after a full run only a character that parts a text can come, so a span begins with one
+-- after a full run only an own boundary can come, so a span begins with one
 abbrev pub IsSpan : Properties → Form → List ℕ → ℕ → ℕ → Type 0
 IsSpan p f cs class count = IsSpanFrom p f 0 max_run cs class count

@@ -18,12 +18,12 @@ abbrev pub is_too_long : Properties → List ℕ → ℕ → Bool
 is_too_long p out c = nat_lt max_run (trail p (decomposed Nfkd p out) + lead p (p.compat c))
 
 -- the output, with a joiner after it where c needs one
-abbrev pub parted : Properties → List ℕ → ℕ → List ℕ
-parted p out c = if is_too_long p out c then out ++ joiner ∷ [] else out
+abbrev pub with_room : Properties → List ℕ → ℕ → List ℕ
+with_room p out c = if is_too_long p out c then out ++ joiner ∷ [] else out
 
 -- one character more
 abbrev pub safe_step : Properties → List ℕ → ℕ → List ℕ
-safe_step p out c = parted p out c ++ c ∷ []
+safe_step p out c = with_room p out c ++ c ∷ []
 
 abbrev pub stream_safe : Properties → List ℕ → List ℕ
 stream_safe p x = fold (safe_step p) [] x

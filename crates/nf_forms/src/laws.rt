@@ -11,7 +11,7 @@ ghost use Rattle.nf_forms.specs.declared.form.Form.TheVariants.{Nfd, Nfkd};
 ghost use Rattle.nf_forms.specs.Forms.{row_of, decomposed, composes, finished, normal_form};
 ghost use Rattle.nf_forms.specs.StreamSafe.{stream_safe};
 ghost use Rattle.nf_forms.specs.SafeForm.{safe_form};
-ghost use Rattle.nf_forms.specs.Parting.{BeginsAnew, IsParting};
+ghost use Rattle.nf_forms.specs.Boundary.{HasBoundaryBefore, IsOwnBoundary};
 ghost use Rattle.nf_forms.specs.Closing.{IsClosing};
 ghost use Rattle.nf_forms.specs.Span.{IsSpan};
 ghost use Rattle.nf_forms.specs.Audit.{IsAudited};
@@ -25,15 +25,15 @@ pub fn ordering_is_stable()
     ensures only { (p : Properties) (w v : List ℕ) → IsOrderingOf p w v → v ≡ order p w }
 {}
 
-/// A text may be cut before a character that parts it, and each part brought into the form by itself. Alone that
+/// A text may be cut before an own boundary, and each piece brought into the form by itself. Alone that
 /// character is its own form, and it settles all that stands before it (UAX #15, section 9).
 pub fn a_text_may_be_cut()
-    ensures row { (p : Properties) (f : Form) (c : ℕ) → BeginsAnew p f c → (w v : List ℕ)
+    ensures row { (p : Properties) (f : Form) (c : ℕ) → HasBoundaryBefore p f c → (w v : List ℕ)
         → finished f p (w ++ (row_of f p c ++ v)) ≡ finished f p w ++ finished f p (row_of f p c ++ v) }
-    ensures cut { (p : Properties) (f : Form) (c : ℕ) → IsParting p f c → (x y : List ℕ) → IsSoundText p (stream_safe p x)
+    ensures cut { (p : Properties) (f : Form) (c : ℕ) → IsOwnBoundary p f c → (x y : List ℕ) → IsSoundText p (stream_safe p x)
         → safe_form f p (x ++ c ∷ y) ≡ safe_form f p x ++ safe_form f p (c ∷ y) }
-    ensures alone { (p : Properties) (f : Form) (c : ℕ) → IsParting p f c → safe_form f p (c ∷ []) ≡ c ∷ [] }
-    ensures settles { (p : Properties) (f : Form) (c : ℕ) → IsParting p f c → (x : List ℕ) → IsSoundText p (stream_safe p x)
+    ensures alone { (p : Properties) (f : Form) (c : ℕ) → IsOwnBoundary p f c → safe_form f p (c ∷ []) ≡ c ∷ [] }
+    ensures settles { (p : Properties) (f : Form) (c : ℕ) → IsOwnBoundary p f c → (x : List ℕ) → IsSoundText p (stream_safe p x)
         → front p (safe_form f p (x ++ c ∷ [])) ≡ safe_form f p x }
 {}
 

@@ -1,5 +1,5 @@
 -- Lines, and what stands after them.
-use Rattle.nf_lines.proofs.Common.{Result, Ok, Err, ◌≡◌, ℕ, ◌+◌, Bool, true, false, List, [], ◌∷◌, ◌++◌, length, Option, Some, None, inl, inr, encode_utf8_all, refl, ◌∙◌, arith, append_assoc, append-nil, length-append, result_err, cases_Bool, encodes-append, Form, Nfc, Ending, Whole, text_of, ending_of, parts_of, replaced, replaced_whole, line_feed, Fault, Policy, Tally, text_under-none, answer_at_end, first_fault, fault_in, IsLeft, answer_or, end_under, end_of, final_utf8, allowed, text_under, whole_under, settled_utf8, EndsInLineFeed, end_fault, StandAlone}
+use Rattle.nf_lines.proofs.Common.{Result, Ok, Err, ◌≡◌, ℕ, ◌+◌, Bool, true, false, List, [], ◌∷◌, ◌++◌, length, Option, Some, None, inl, inr, encode_utf8_all, refl, ◌∙◌, arith, append_assoc, append-nil, length-append, result_err, cases_Bool, encodes-append, Form, Nfc, Ending, Whole, text_of, ending_of, decoded_of, replaced, replaced_whole, line_feed, Fault, Policy, Tally, text_under-none, answer_at_end, first_fault, fault_in, IsLeft, answer_or, end_under, end_of, final_utf8, allowed, text_under, whole_under, settled_utf8, EndsInLineFeed, end_fault, StandAlone}
 use Rattle.std.specs.Str.{chars}
 use Rattle.std.specs.Str.Lossy.{utf8_valid_len}
 use Rattle.nf_forms.specs.Properties.{Properties}
@@ -9,10 +9,10 @@ use Rattle.nf_forms.specs.Runs.{has_starter}
 use Rattle.nf_forms.specs.StreamSafe.{stream_safe}
 use Rattle.nf_forms.specs.SafeForm.{safe_form}
 use Rattle.nf_forms.specs.Closing.{IsClosing}
-use Rattle.nf_forms.specs.Parting.{IsParting}
+use Rattle.nf_forms.specs.Boundary.{IsOwnBoundary}
 use Rattle.nf_forms.specs.Laws.Closing.{safe_form-segments}
 use Rattle.nf_forms.specs.Laws.Front.{front-append_some, front-at, front-none}
-use Rattle.nf_forms.specs.Laws.Parting.{safe_form-push}
+use Rattle.nf_forms.specs.Laws.Boundary.{safe_form-push}
 use Rattle.nf_normalizer.specs.Laws.Settled.{usable-all}
 use Rattle.nf_filter.specs.Laws.Soundness.{AreSound}
 use Rattle.nf_filter.specs.Settled.{is_usable, settled}
@@ -38,7 +38,7 @@ answered (Some fault) tally = refl
 
 -- no bytes give nothing
 whole_under-none : (r : Bool) → whole_under r [] ≡ []
-unfolding text_of ending_of replaced replaced_whole parts_of chars utf8_valid_len
+unfolding text_of ending_of replaced replaced_whole decoded_of chars utf8_valid_len
 whole_under-none false = refl
 whole_under-none true = refl
 
@@ -48,7 +48,7 @@ final_whole : (f : Form) (p : Properties) (policy : Policy) (base : ℕ) (bytes 
 final_whole f p policy base bytes none = final-whole p base bytes _ f policy (told (end_of policy p base bytes) none).1
 
 pub end_nothing : (policy : Policy) (p : Properties) (base : ℕ) → end_fault policy p base [] ≡ None
-unfolding end_of text_of ending_of replaced replaced_whole parts_of chars utf8_valid_len is_usable
+unfolding end_of text_of ending_of replaced replaced_whole decoded_of chars utf8_valid_len is_usable
 end_nothing policy p base = by policy.replace policy.assigned
   where
     by : (r a : Bool) → result_err (end_under r a p base []) ≡ None
@@ -82,7 +82,7 @@ module _ (p : Properties) (sound : AreSound p) where
     settled_is policy bytes = simp (usable-all p, usable_is p sound)
 
     -- ---- lines of which nothing is left
-    module _ (parting : IsParting p f line_feed) (closing : IsClosing p f line_feed) (policy : Policy) (base : ℕ) (lines rest : List ℕ) (read : ReadsLines policy.replace lines)
+    module _ (own_boundary : IsOwnBoundary p f line_feed) (closing : IsClosing p f line_feed) (policy : Policy) (base : ℕ) (lines rest : List ℕ) (read : ReadsLines policy.replace lines)
         (all : allowed policy.assigned p (read.before ++ line_feed ∷ []) ≡ read.before ++ line_feed ∷ []) where
       abbrev text : List ℕ
       text = read.before ++ line_feed ∷ []
@@ -118,16 +118,16 @@ module _ (p : Properties) (sound : AreSound p) where
           | inl some ↦ inl (rw (front-append_some p head tail some, encodes-append))
           | inr none ↦
               let before : List ℕ = safe_form f p read.before in
-              let pushed : head ≡ before ++ line_feed ∷ [] = safe_form-push p f line_feed parting read.before (all_sound p sound (stream_safe p read.before)) in
-              inr (rw (pushed, append_assoc before (line_feed ∷ []) tail, front-at p before line_feed tail parting.starts none, front-none p tail none, encodes-append before (line_feed ∷ []), line_encodes, append-nil))
+              let pushed : head ≡ before ++ line_feed ∷ [] = safe_form-push p f line_feed own_boundary read.before (all_sound p sound (stream_safe p read.before)) in
+              inr (rw (pushed, append_assoc before (line_feed ∷ []) tail, front-at p before line_feed tail own_boundary.starts none, front-none p tail none, encodes-append before (line_feed ∷ []), line_encodes, append-nil))
         ]);
       }
 
   -- lines without a fault leave nothing
-  pub lines_alone : Reading → (f : Form) → IsParting p f line_feed → IsClosing p f line_feed → (policy : Policy) (base : ℕ) (lines rest : List ℕ) → EndsInLineFeed lines
+  pub lines_alone : Reading → (f : Form) → IsOwnBoundary p f line_feed → IsClosing p f line_feed → (policy : Policy) (base : ℕ) (lines rest : List ℕ) → EndsInLineFeed lines
       → fault_in policy p base lines ≡ None → StandAlone policy f p base lines rest
   unfolding fault_in
-  lines_alone laws f parting closing policy base lines rest is none =
+  lines_alone laws f own_boundary closing policy base lines rest is none =
       let good = taken_all policy.assigned _ _ _ none in
       let read = reads_lines laws base policy.replace lines is good.1 in
-      alone f parting closing policy base lines rest read (rw (left-text policy.replace lines _ (length lines) [] read.left, text_under-none, append-nil) at good.0)
+      alone f own_boundary closing policy base lines rest read (rw (left-text policy.replace lines _ (length lines) [] read.left, text_under-none, append-nil) at good.0)

@@ -29,4 +29,4 @@ pub use Rattle.nf_lines.specs.Cut.{EndsInLineFeed, HasNoLineFeed, IsCutAt}
 pub use Rattle.nf_lines.specs.Drives.{Lines, bytes_of, TakesLines, DrivesLines}
 pub use Rattle.nf_utf8.specs.Ending.{Ending, Whole, Bad, Cut, moved}
 unfoldable pub use Rattle.nf_utf8.specs.Reading.{text_of, ending_of}
-unfoldable pub use Rattle.nf_utf8.specs.Replaced.{parts_of, replaced, replaced_whole}
+unfoldable pub use Rattle.nf_utf8.specs.Replaced.{decoded_of, replaced, replaced_whole}

@@ -1,5 +1,5 @@
 -- A line feed ends every character that was begun: of whole lines nothing is left to be read.
-use Rattle.nf_lines.proofs.Common.{◌≡◌, ℕ, ◌+◌, ◌-◌, ◌==◌, ◌≤◌, Bool, true, false, None, List, [], ◌∷◌, ◌++◌, length, take, drop, encode_utf8_all, refl, sym, ap, ◌∙◌, arith, append_assoc, append-nil, length-append, encodes-append, Ending, Whole, Bad, Cut, moved, text_of, ending_of, parts_of, line_feed, answer_at_end, bad_byte, bad_under, IsLeft, EndsInLineFeed}
+use Rattle.nf_lines.proofs.Common.{◌≡◌, ℕ, ◌+◌, ◌-◌, ◌==◌, ◌≤◌, Bool, true, false, None, List, [], ◌∷◌, ◌++◌, length, take, drop, encode_utf8_all, refl, sym, ap, ◌∙◌, arith, append_assoc, append-nil, length-append, encodes-append, Ending, Whole, Bad, Cut, moved, text_of, ending_of, decoded_of, line_feed, answer_at_end, bad_byte, bad_under, IsLeft, EndsInLineFeed}
 use Rattle.std.proofs.str.Laws.{scalars-append}
 use Rattle.std.proofs.lemmas.List.{drop-append-le, drop_all}
 use Rattle.std.proofs.Math.Nat.{zero-add}
@@ -9,22 +9,22 @@ use Rattle.std.proofs.Math.Utf8.{encode}
 use Rattle.std.proofs.lemmas.Bool.Decides.{nat_tests}
 use Rattle.std.proofs.lemmas.Str.{IsCharBoundary-before_ascii, IsUtf8-append, IsUtf8-take}
 use Rattle.nf_utf8.specs.Text.{IsText, BeginsText}
-use Rattle.nf_utf8.specs.Replaced.{replacement, subpart_end, own_parts}
+use Rattle.nf_utf8.specs.Replaced.{replacement, subpart_end, decoded_text}
 use Rattle.nf_utf8.specs.Lossy.{IsReplacedFront}
-use Rattle.nf_utf8.specs.Laws.{ReadsBack, ReplacesParts, SplitsBytes, ReadsLongestText}
+use Rattle.nf_utf8.specs.Laws.{ReadsBack, ReplacesSubparts, SplitsBytes, ReadsLongestText}
 use Rattle.nf_utf8.specs.Reads.{EndsAs}
 use Rattle.nf_utf8.specs.Reading.{begun_len}
 use Rattle.nf_utf8.proofs.PushesLemmas.{begins_whole, begins_cut}
-use Rattle.nf_utf8.proofs.ReadingLemmas.{broken}
-use Rattle.nf_utf8.proofs.ReplacedLemmas.{by_parts, parts_of-begun, parts_of-broken}
-use Rattle.nf_filter.proofs.PieceLemmas.{IsLeft-all, IsLeft-front, IsLeft-join, bad_front, own_parts-append}
+use Rattle.nf_utf8.proofs.ReadingLemmas.{ill_formed}
+use Rattle.nf_utf8.proofs.ReplacedLemmas.{by_subparts, decoded_of-begun, decoded_of-ill_formed}
+use Rattle.nf_filter.proofs.PieceLemmas.{IsLeft-all, IsLeft-front, IsLeft-join, bad_front, decoded_text-append}
 
 -- what is known of reading UTF-8
 pub record Reading : Type 0 where
   pub longest : ReadsLongestText
   pub split : SplitsBytes
   pub back : ReadsBack
-  pub replacing : ReplacesParts
+  pub replacing : ReplacesSubparts
 
 pub line_encodes : encode_utf8_all (line_feed ∷ []) ≡ line_feed ∷ []
 unfolding encode
@@ -41,7 +41,7 @@ front_utf8 front b =
 begins : (bytes : List ℕ) (e : Ending) → ending_of bytes ≡ e → begun_len bytes ≡ length bytes → BeginsText bytes
 begins bytes Whole e all = begins_whole bytes e
 begins bytes (Cut at start) e all = begins_cut bytes at start e
-begins bytes (Bad at start) e all = absurd (omega (arith, (broken bytes at start e).0, all))
+begins bytes (Bad at start) e all = absurd (omega (arith, (ill_formed bytes at start e).0, all))
 
 -- ---- after a text
 
@@ -65,17 +65,17 @@ module _ (laws : Reading) (x : List ℕ) (s : IsText x) where
   bytes = encode_utf8_all x
 
   -- the parts of a text, and those of what stands after it
-  parts_after : (more : List ℕ) → parts_of (bytes ++ more) ≡ own_parts x ++ parts_of more
-  parts_after = by_parts (λ more. parts_of (bytes ++ more) ≡ own_parts x ++ parts_of more)
+  decoded_after : (more : List ℕ) → decoded_of (bytes ++ more) ≡ decoded_text x ++ decoded_of more
+  decoded_after = by_subparts (λ more. decoded_of (bytes ++ more) ≡ decoded_text x ++ decoded_of more)
       (λ more all. let b = begins more (ending_of more) refl all in
-      rw (parts_of-begun (bytes ++ more) (b.0, rw append_assoc (IsUtf8-append bytes (more ++ b.0) (x, (s, refl)) b.1)), parts_of-begun more b, laws.back.text x more s, own_parts-append))
+      rw (decoded_of-begun (bytes ++ more) (b.0, rw append_assoc (IsUtf8-append bytes (more ++ b.0) (x, (s, refl)) b.1)), decoded_of-begun more b, laws.back.text x more s, decoded_text-append))
       (λ more at start e _. let past = subpart_end-moved (length bytes) at start in
-      rw (parts_of-broken (bytes ++ more) _ _ (laws.back.ending x more s ∙ ap (moved (length bytes)) e), parts_of-broken more at start e, laws.back.text x more s, own_parts-append, past.0, past.1, drop-append-add, append_assoc))
+      rw (decoded_of-ill_formed (bytes ++ more) _ _ (laws.back.ending x more s ∙ ap (moved (length bytes)) e), decoded_of-ill_formed more at start e, laws.back.text x more s, decoded_text-append, past.0, past.1, drop-append-add, append_assoc))
 
   text_left : (r : Bool) → IsLeft r bytes x (length bytes) []
   text_left true =
       let none : drop (length bytes) bytes ≡ [] = drop_all (length bytes) bytes (omega arith) in
-      let one : IsReplacedFront bytes x (length bytes) = record { parts = own_parts x; chars = laws.replacing.own_chars x; size = laws.replacing.own_len x; within = omega arith; front = λ more. rw none (parts_after more) } in
+      let one : IsReplacedFront bytes x (length bytes) = record { decoded = decoded_text x; chars = laws.replacing.own_chars x; size = laws.replacing.own_len x; within = omega arith; front = λ more. rw none (decoded_after more) } in
       rw (zero-add, none) at (IsLeft-front laws.replacing (IsLeft-all true bytes) one)
   text_left false = record {
     text = λ more. laws.back.text x more s;
@@ -115,7 +115,7 @@ module _ (laws : Reading) where
   lines_after : (lines : List ℕ) (at start : ℕ) → EndsInLineFeed lines → ending_of lines ≡ Bad at start → EndsInLineFeed (drop (subpart_end at start) lines)
   lines_after lines at start is e =
       let good : at ≡ start → ¬ (at + 1 ≡ length lines) = λ same. line_good lines at is (rw (← same) at e) in
-      let within : subpart_end at start ≤ length is.0 = grind (arith, nat_tests, broken lines at start e, ap length is.1, length-append is.0 (line_feed ∷ [])) in
+      let within : subpart_end at start ≤ length is.0 = grind (arith, nat_tests, ill_formed lines at start e, ap length is.1, length-append is.0 (line_feed ∷ [])) in
       (drop (subpart_end at start) is.0, rw is.1 (drop-append-le (subpart_end at start) is.0 (line_feed ∷ []) within))
 
   module _ (base : ℕ) where
@@ -127,7 +127,7 @@ module _ (laws : Reading) where
     after_bad false lines at start e on is good = let absurd_is = rw e at good in cc
     after_bad true lines at start e on is good =
         let rest = on (lines_after lines at start is e) refl in
-        let is = (broken lines at start e).2 in
+        let is = (ill_formed lines at start e).2 in
         let one = rw (← is) at (IsLeft-front laws.replacing (IsLeft-all true lines) (bad_front laws.replacing laws.split (rw is at e))) in
         let own : List ℕ = text_of lines ++ replacement ∷ [] in
         let left : List ℕ = drop (subpart_end at start) lines in
@@ -139,4 +139,4 @@ module _ (laws : Reading) where
         }
 
     pub reads_lines : (r : Bool) (lines : List ℕ) → AreRead r lines
-    reads_lines r = by_parts (AreRead r) (λ lines all is good. lines_begun r lines is (begins lines (ending_of lines) refl all)) (after_bad r)
+    reads_lines r = by_subparts (AreRead r) (λ lines all is good. lines_begun r lines is (begins lines (ending_of lines) refl all)) (after_bad r)

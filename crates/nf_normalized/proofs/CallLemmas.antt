@@ -7,7 +7,7 @@ use Rattle.nf_filter.proofs.SoundnessLemmas.{not_a_fault}
 use Rattle.nf_normalized.proofs.BytesLemmas.{Known, Shares, departs, text_of-encodes}
 use Rattle.nf_normalized.proofs.CommonLemmas.{common-front}
 use Rattle.nf_normalized.proofs.WroteLemmas.{Wrote, gave, other_written, unfailed, all_written}
-use Rattle.nf_normalized.proofs.CheckerLemmas.{written, written_is, is_text, after, unparted}
+use Rattle.nf_normalized.proofs.CheckerLemmas.{written, written_is, is_text, after, alike}
 
 -- a fault is of some kinds where it cannot be of none
 pub stable : (kinds : List ℕ) (fault : Fault) → ((IsAmong kinds fault → ⊥) → ⊥) → IsAmong kinds fault
@@ -48,8 +48,8 @@ module _ {assigned : Bool} {f : Form} {base : ℕ} {held bytes all due : List �
     placed : Shares (text_of all) s (text_of (written assigned f bytes ++ same new)) → place_at base (text_of all) (common (text_of all) s) ≡ place
     placed shares = grind (arith, shares, after call.known assigned f bytes (same new), chars_held, bytes_held, at, length-append, encodes-append, written_is)
 
-    pub parted : is_some new.other ≡ true → (¬ (s ≡ take (length s) (text_of all))) × (place_at base (text_of all) (common (text_of all) s) ≡ place)
-    parted is_other =
+    pub differs : is_some new.other ≡ true → (¬ (s ≡ take (length s) (text_of all))) × (place_at base (text_of all) (common (text_of all) s) ≡ place)
+    differs is_other =
         let o = other_written call.wrote is_other in
         let d = rw (← read) at (departs call.known _ (left new) o.0 o.1 o.2 s scalars (sym is ∙ o.3)) in
         (d.other, placed d.shares)
@@ -63,9 +63,9 @@ module _ {assigned : Bool} {f : Form} {base : ℕ} {held bytes all due : List �
 
 module _ {assigned : Bool} {f : Form} {base : ℕ} {held bytes all : List ℕ} {old new : Comparing} {r : Result (Unit {0}) Fault} {chars offset : ℕ}
     (call : Call assigned f base held bytes all (written assigned f all) old new r chars offset (result_err r ≡ fault_in (under assigned) ucd base all)) where
-  pub parted_decides : is_some new.other ≡ true → (place : Place) → IsAfter held (same new) chars offset place → Some (Ok (Some place)) ≡ form_decision assigned f base all
+  pub other_decides : is_some new.other ≡ true → (place : Place) → IsAfter held (same new) chars offset place → Some (Ok (Some place)) ≡ form_decision assigned f base all
   unfolding form_decision
-  parted_decides is place at = grind (arith, bytes_eq-Decides, parted call _ (is_text call.known assigned f all) (written_is assigned f all) place at is)
+  other_decides is place at = grind (arith, bytes_eq-Decides, differs call _ (is_text call.known assigned f all) (written_is assigned f all) place at is)
 
   module _ (none : is_some new.other ≡ false) where
     pub piece_kinds : AreSound ucd → (fault : Fault) → IsOfFeeding fault → r ≡ Err fault → IsOfPiece fault
@@ -76,8 +76,8 @@ module _ {assigned : Bool} {f : Form} {base : ℕ} {held bytes all : List ℕ} {
     pub split_now : all ≡ written assigned f all ++ left new
     split_now = grind (arith, read call, all_written call.wrote none)
 
-    pub unparted_decides : option_map Err (result_err r) ≡ form_decision assigned f base all
-    unparted_decides = grind (arith, unparted call.known assigned f all base (left new) split_now, told call none)
+    pub alike_decides : option_map Err (result_err r) ≡ form_decision assigned f base all
+    alike_decides = grind (arith, alike call.known assigned f all base (left new) split_now, told call none)
 
 -- ---- the end
 
@@ -95,12 +95,12 @@ module _ {assigned : Bool} {f : Form} {base : ℕ} {held bytes due : List ℕ} {
   scalars : IsText form
   scalars = (call.known.once f).text (text_of bytes) (call.known.split.scalars bytes)
 
-  pub parted_end : is_some new.other ≡ true → (place : Place) → IsAfter held (same new) chars offset place → (ending : Ending) → Due assigned f base bytes due ending
+  pub other_end : is_some new.other ≡ true → (place : Place) → IsAfter held (same new) chars offset place → (ending : Ending) → Due assigned f base bytes due ending
       → Ok (Some place) ≡ answer_at_end base (form_value f base bytes) ending
   unfolding change_at
-  parted_end is place at Whole at_end = grind (arith, bytes_eq-Decides form (text_of bytes), take-length (text_of bytes), parted call form scalars at_end.is place at is)
-  parted_end is place after (CutOff at start) at_end = absurd (grind (arith, ap length (other_written call.wrote is).3, at_end.is, length-append))
-  parted_end is place after (Bad at start) at_end = cc
+  other_end is place at Whole at_end = grind (arith, bytes_eq-Decides form (text_of bytes), take-length (text_of bytes), differs call form scalars at_end.is place at is)
+  other_end is place after (CutOff at start) at_end = absurd (grind (arith, ap length (other_written call.wrote is).3, at_end.is, length-append))
+  other_end is place after (Bad at start) at_end = cc
 
   module _ (none : is_some new.other ≡ false) where
     -- all is read, or the form is at its end before the text

@@ -1,5 +1,5 @@
 -- What a filter that is fed a text tells of it, by what it writes.
-use Rattle.nf_normalized.proofs.Common.{bytes_eq-Decides, ◌≡◌, ℕ, ◌+◌, ◌*◌, ◌≤◌, Bool, List, [], ◌∷◌, ◌++◌, length, refl, sym, ap, ◌∙◌, arith, length-append, None, Err, option_map, encode_utf8_all, take_at, encodes-append, length-encode, len_utf8_bounds, ucd, Form, front, back, safe_form, front-append-back, IsText, text_of, ending_of, ReadsLongestText, ReplacesParts, fault_in, bad_byte, base_of, settled, usable, settled_utf8, under, made_of, form_decision, Holds}
+use Rattle.nf_normalized.proofs.Common.{bytes_eq-Decides, ◌≡◌, ℕ, ◌+◌, ◌*◌, ◌≤◌, Bool, List, [], ◌∷◌, ◌++◌, length, refl, sym, ap, ◌∙◌, arith, length-append, None, Err, option_map, encode_utf8_all, take_at, encodes-append, length-encode, len_utf8_bounds, ucd, Form, front, back, safe_form, front-append-back, IsText, text_of, ending_of, ReadsLongestText, ReplacesSubparts, fault_in, bad_byte, base_of, settled, usable, settled_utf8, under, made_of, form_decision, Holds}
 use Rattle.nf_filter.specs.Laws.Soundness.{AreSound}
 use Rattle.nf_filter.proofs.PolicyLemmas.{first_fault-none, taken, taken_whole, taken-all}
 use Rattle.nf_filter.proofs.SoundnessLemmas.{usable_is}
@@ -34,9 +34,9 @@ module _ (known : Known) (assigned : Bool) (f : Form) (bytes : List ℕ) where
   after more = grind (arith, written_is, known.back.text (made_of assigned f (text_of bytes)) more is_text)
 
   -- where all that is settled was read, what was read decides no more than a fault
-  pub unparted : (base : ℕ) (left : List ℕ) → bytes ≡ written assigned f bytes ++ left → form_decision assigned f base bytes ≡ option_map Err (fault_in (under assigned) ucd base bytes)
+  pub alike : (base : ℕ) (left : List ℕ) → bytes ≡ written assigned f bytes ++ left → form_decision assigned f base bytes ≡ option_map Err (fault_in (under assigned) ucd base bytes)
   unfolding form_decision
-  unparted base left read = grind (arith, bytes_eq-Decides, ap text_of read, after left, take_at)
+  alike base left read = grind (arith, bytes_eq-Decides, ap text_of read, after left, take_at)
 
 -- ---- no fault
 
@@ -51,7 +51,7 @@ no_fault_parts sound assigned base bytes none =
 
 -- little is held
 pub held_few : Known → {assigned : Bool} {f : Form} {state : State} {held bytes : List ℕ} → Holds assigned f state held bytes
-    → ReadsLongestText → ReplacesParts → AreSound ucd → ((f : Form) (x u : List ℕ) → x ≡ settled f ucd x ++ u → length u ≤ 78) → length held ≤ 315
+    → ReadsLongestText → ReplacesSubparts → AreSound ucd → ((f : Form) (x u : List ℕ) → x ≡ settled f ucd x ++ u → length u ≤ 78) → length held ≤ 315
 held_few known {assigned} {f} {state} {held} {bytes} holds longest replacing sound kept =
     let parts = no_fault_parts sound assigned (base_of state) bytes holds.filter.no_fault in
     let all = taken-all ucd assigned (text_of bytes) (usable_is ucd sound (text_of bytes)) parts.0 in

@@ -2,7 +2,7 @@
 use Rattle.nf_normalized.proofs.Common.{◌≡◌, ℕ, ◌≤◌, ◌<◌, Bool, true, false, List, [], ◌∷◌, ◌++◌, length, flat_map, Option, Some, None, refl, arith, ◌⊎◌, inl, inr, append_assoc, cases_Bool, or_left, length-append, fold, Properties, is_starter, has_starter, order, composite, joined, replaced, compose_step, compose, arranged, last_starter, order_after-at, compose_step-at, compose_step-none, joined-some, joined-starter, joined-after_marks, BeginsInStarter}
 use Rattle.std.proofs.lemmas.Grind.{flat_map-append}
 use Rattle.std.proofs.lemmas.List.Sums.{fold-append}
-use Rattle.nf_forms.specs.Laws.Parting.{step-after, fold-after}
+use Rattle.nf_forms.specs.Laws.Boundary.{step-after, fold-after}
 use Rattle.unicode_normalization.proofs.ComposeLemmas.{cases_Option}
 use Rattle.nf_normalized.proofs.MarkLemmas.{last_or_more, inserted, same_front, mark_taken}
 

@@ -89,7 +89,7 @@ impl FormChecker {
         let held = self.held.as_slice();
         let mut sink = Comparing::new(held, piece);
         let fed = self.filter.feed(piece, &mut sink);
-        if sink.has_parted() {
+        if sink.has_differed() {
             self.place = Some(place_after(chars, offset, held, &sink));
             return Ok(self.place);
         }
@@ -127,7 +127,7 @@ impl FormChecker {
         let held = held.as_slice();
         let mut sink = Comparing::new(held, &[]);
         let finished = filter.finish(&mut sink);
-        if !sink.has_parted() {
+        if !sink.has_differed() {
             if let Err(fault) = finished {
                 return Err(fault);
             }

@@ -41,7 +41,7 @@ impl<'t> Comparing<'t> {
     }
 
     /// Whether a byte was another than expected.
-    pub fn has_parted(&self) -> bool
+    pub fn has_differed(&self) -> bool
         ensures { result ≡ is_some self.now.other }
     {
         self.other.is_some()

@@ -1,5 +1,5 @@
 -- One character more.
-use Rattle.nf_normalizer.proofs.Common.{◌≡◌, ℕ, ◌+◌, ◌≤◌, Bool, true, false, List, [], ◌∷◌, ◌++◌, Ok, refl, sym, ◌∙◌, arith, encode_utf8_all, and_right, ltb-false, encodes-append, Properties, Form, Nfc, Nfd, Nfkd, has_starter, lead, trail, front, row_of, decomposed, finished, joiner, max_run, is_too_long, parted, stream_safe, is_sound, safe_form, lead-marks, lead-le-length, trail-marks, stream_safe-push, decomposed-push, JoinerIsPlain, IsSound, IsSound-from_test, JoinerIsPlain-from_sound, run_len, Pending, Normalizer, settled, is_usable, Start, Holds, HasTaken, IsWithin, HasRoom, run_after, front_utf8, settled_text, Pushes, PutsJoiner, Parts, TakesChar, is_usable-push}
+use Rattle.nf_normalizer.proofs.Common.{◌≡◌, ℕ, ◌+◌, ◌≤◌, Bool, true, false, List, [], ◌∷◌, ◌++◌, Ok, refl, sym, ◌∙◌, arith, encode_utf8_all, and_right, ltb-false, encodes-append, Properties, Form, Nfc, Nfd, Nfkd, has_starter, lead, trail, front, row_of, decomposed, finished, joiner, max_run, is_too_long, with_room, stream_safe, is_sound, safe_form, lead-marks, lead-le-length, trail-marks, stream_safe-push, decomposed-push, JoinerIsPlain, IsSound, IsSound-from_test, JoinerIsPlain-from_sound, run_len, Pending, Normalizer, settled, is_usable, Start, Holds, HasTaken, IsWithin, HasRoom, run_after, front_utf8, settled_text, Pushes, PutsJoiner, MakesRoom, TakesChar, is_usable-push}
 use Rattle.std.proofs.lemmas.Bool.Decides.{nat_tests}
 use Rattle.nf_forms.specs.Laws.Cluster.{row-own}
 use Rattle.nf_row.specs.Kind.{IsOwn}
@@ -47,12 +47,12 @@ module _ (p : Properties) where
     unfolding settled safe_form
     settled_text-rest x rest is = rw (← encodes-append, is)
 
-    decomposed-safe : (x : List ℕ) (c : ℕ) → decomposed f p (stream_safe p (x ++ c ∷ [])) ≡ decomposed f p (parted p (stream_safe p x) c) ++ row_of f p c
+    decomposed-safe : (x : List ℕ) (c : ℕ) → decomposed f p (stream_safe p (x ++ c ∷ [])) ≡ decomposed f p (with_room p (stream_safe p x) c) ++ row_of f p c
     decomposed-safe x c = rw (stream_safe-push p x c, decomposed-push p f)
 
     -- the row follows, and so the character was taken
-    pub TakesChar-row : {part : Normalizer} {pending : Pending} {start : Start} {middle room x row : List ℕ} (c : ℕ) {joined : Bool} → Parts f p part start middle x c (Ok joined) → row ≡ row_of part.form p c
-        → Pushes f p pending start room (decomposed f p (parted p (stream_safe p x) c) ++ row) → TakesChar f p (record part { pending = pending }) start room x c (Ok joined)
+    pub TakesChar-row : {part : Normalizer} {pending : Pending} {start : Start} {middle room x row : List ℕ} (c : ℕ) {joined : Bool} → MakesRoom f p part start middle x c (Ok joined) → row ≡ row_of part.form p c
+        → Pushes f p pending start room (decomposed f p (with_room p (stream_safe p x) c) ++ row) → TakesChar f p (record part { pending = pending }) start room x c (Ok joined)
     TakesChar-row {x = x} c parts is pushed =
         let here = parts.0 in
         let done = rw (is, here.form, ← decomposed-safe x c) at pushed in (
@@ -90,9 +90,9 @@ module _ (p : Properties) where
       count_is plain = rw (counts, before.count, stream_safe-push p x c, trail-decomposed-safe_step p (stream_safe p x) c plain)
 
       -- with a joiner or without
-      parted_at : {pending : Pending} {start : Start} {room : List ℕ} (joined : Bool) → joined ≡ is_too_long p (stream_safe p x) c → (joined ≡ true → is_sound p joiner ≡ true)
-          → Pushes f p pending start room (decomposed f p (parted p (stream_safe p x) c)) → Parts f p (record taken { counter = n; pending = pending }) start room x c (Ok joined)
-      parted_at joined is joins pushes = (
+      room_at : {pending : Pending} {start : Start} {room : List ℕ} (joined : Bool) → joined ≡ is_too_long p (stream_safe p x) c → (joined ≡ true → is_sound p joiner ≡ true)
+          → Pushes f p pending start room (decomposed f p (with_room p (stream_safe p x) c)) → MakesRoom f p (record taken { counter = n; pending = pending }) start room x c (Ok joined)
+      room_at joined is joins pushes = (
         record {
           usable = is_usable-push p x c ∙ grind (arith, nat_tests, before.usable);
           form = before.form;
@@ -104,16 +104,16 @@ module _ (p : Properties) where
         is,
       )
 
-      pub Parts-without : {start : Start} {room : List ℕ} → passes p taken.counter (p.compat c) ≡ false → Holds start room (settled_text f p x) → Parts f p (record taken { counter = n }) start room x c (Ok false)
-      Parts-without short holds = let is = rw long_is at short in parted_at false (sym is) (λ e. cc) (rw is (before.pending, rw (← settled_text-front f x) holds))
+      pub MakesRoom-without : {start : Start} {room : List ℕ} → passes p taken.counter (p.compat c) ≡ false → Holds start room (settled_text f p x) → MakesRoom f p (record taken { counter = n }) start room x c (Ok false)
+      MakesRoom-without short holds = let is = rw long_is at short in room_at false (sym is) (λ e. cc) (rw is (before.pending, rw (← settled_text-front f x) holds))
 
-      pub Parts-with : {pending : Pending} {start : Start} {room : List ℕ} → passes p taken.counter (p.compat c) ≡ true → PutsJoiner f p pending start room (decomposed f p (stream_safe p x)) (Ok tt)
-          → Parts f p (record taken { counter = n; pending = pending }) start room x c (Ok true)
-      Parts-with long puts =
+      pub MakesRoom-with : {pending : Pending} {start : Start} {room : List ℕ} → passes p taken.counter (p.compat c) ≡ true → PutsJoiner f p pending start room (decomposed f p (stream_safe p x)) (Ok tt)
+          → MakesRoom f p (record taken { counter = n; pending = pending }) start room x c (Ok true)
+      MakesRoom-with long puts =
           let is = rw long_is at long in
           let plain = JoinerIsPlain-from_sound p puts.0 in
-          parted_at true (sym is) (λ _. puts.0) (rw (is, decomposed-push p f, of_row (λ row. row ≡ joiner ∷ []) joiner plain.canonical plain.compat f) puts.1)
+          room_at true (sym is) (λ _. puts.0) (rw (is, decomposed-push p f, of_row (λ row. row ≡ joiner ∷ []) joiner plain.canonical plain.compat f) puts.1)
 
-      pub Parts-stopped : {start : Start} {room : List ℕ} → passes p taken.counter (p.compat c) ≡ true → (is_sound p joiner ≡ false) × Holds start room (front_utf8 f p (decomposed f p (stream_safe p x)))
+      pub MakesRoom-stopped : {start : Start} {room : List ℕ} → passes p taken.counter (p.compat c) ≡ true → (is_sound p joiner ≡ false) × Holds start room (front_utf8 f p (decomposed f p (stream_safe p x)))
           → (is_usable p (x ++ c ∷ []) ≡ false) × Holds start room (settled_text f p x)
-      Parts-stopped long puts = (is_usable-push p x c ∙ grind (arith, nat_tests, long_is, long, puts.0), rw (settled_text-front f x) puts.1)
+      MakesRoom-stopped long puts = (is_usable-push p x c ∙ grind (arith, nat_tests, long_is, long, puts.0), rw (settled_text-front f x) puts.1)

@@ -12,12 +12,12 @@ pub use Rattle.nf_forms.specs.Properties.{Properties, is_nonstarter}
 pub use Rattle.nf_forms.specs.Runs.{trail, has_starter, lead}
 unfoldable pub use Rattle.nf_forms.specs.SafeForm.{safe_form}
 pub use Rattle.nf_forms.specs.Sound.{is_sound}
-pub use Rattle.nf_forms.specs.StreamSafe.{stream_safe, joiner, max_run, is_too_long, parted}
+pub use Rattle.nf_forms.specs.StreamSafe.{stream_safe, joiner, max_run, is_too_long, with_room}
 pub use Rattle.nf_forms.specs.declared.form.Form.{Form}
 pub use Rattle.nf_forms.specs.declared.form.Form.TheVariants.{Nfkd, Nfc, Nfd}
 pub use Rattle.nf_normalizer.specs.Front.{Joins, Stands, one_if, Leaves, Passes, StepsTo, Refuses, Takes}
 pub use Rattle.nf_normalizer.specs.Laws.Settled.{is_usable-push, is_usable-none}
-pub use Rattle.nf_normalizer.specs.Normalizer.{HasTaken, settled_text, IsWithin, HasRoom, run_after, front_utf8, Pushes, PutsJoiner, Parts, TakesChar, TakesNext}
+pub use Rattle.nf_normalizer.specs.Normalizer.{HasTaken, settled_text, IsWithin, HasRoom, run_after, front_utf8, Pushes, PutsJoiner, MakesRoom, TakesChar, TakesNext}
 pub use Rattle.nf_normalizer.specs.Room.{Start, Holds}
 unfoldable pub use Rattle.nf_normalizer.specs.Settled.{settled, is_usable}
 pub use Rattle.nf_normalizer.specs.declared.normalizer.Normalizer.{Normalizer}

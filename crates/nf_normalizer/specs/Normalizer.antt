@@ -6,7 +6,7 @@ use Rattle.nf_forms.specs.declared.form.Form.TheVariants.{Nfkd}
 use Rattle.nf_forms.specs.Runs.{has_starter, lead, trail}
 use Rattle.nf_forms.specs.Forms.{row_of, decomposed, finished}
 use Rattle.nf_forms.specs.Front.{front}
-use Rattle.nf_forms.specs.StreamSafe.{joiner, is_too_long, parted, stream_safe}
+use Rattle.nf_forms.specs.StreamSafe.{joiner, is_too_long, with_room, stream_safe}
 use Rattle.nf_forms.specs.Sound.{is_sound}
 use Rattle.nf_pending.specs.declared.pending.Pending.{Pending}
 use Rattle.nf_pending.specs.StandsAfter.{run_len, StandsAfter as PendingStandsAfter}
@@ -25,12 +25,12 @@ pub record HasTaken (f : Form) (p : Properties) (normalizer : Normalizer) (x : L
   pub pending : PendingStandsAfter f p normalizer.pending (decomposed f p (stream_safe p x))
 
 -- the same, with c counted and the joiner put that stands before it
-pub record HasParted (f : Form) (p : Properties) (normalizer : Normalizer) (x : List ℕ) (c : ℕ) : Type 0 where
+pub record HasMadeRoom (f : Form) (p : Properties) (normalizer : Normalizer) (x : List ℕ) (c : ℕ) : Type 0 where
   pub usable : is_usable p (x ++ c ∷ []) ≡ true
   pub form : normalizer.form ≡ f
   pub plain : normalizer.is_plain ≡ true → IsPlainAscii p
   pub count : normalizer.counter ≡ trail p (decomposed Nfkd p (stream_safe p (x ++ c ∷ [])))
-  pub pending : PendingStandsAfter f p normalizer.pending (decomposed f p (parted p (stream_safe p x) c))
+  pub pending : PendingStandsAfter f p normalizer.pending (decomposed f p (with_room p (stream_safe p x) c))
 
 -- the pending run is no longer than the count, and that than a run may be
 pub record IsWithin (normalizer : Normalizer) : Type 0 where
@@ -64,11 +64,11 @@ abbrev pub PutsJoiner : Form → Properties → Pending → Start → List ℕ �
 PutsJoiner f p pending start room w (Ok _) = (is_sound p joiner ≡ true) × Pushes f p pending start room (w ++ joiner ∷ [])
 PutsJoiner f p pending start room w (Err _) = (is_sound p joiner ≡ false) × Holds start room (front_utf8 f p w)
 
--- c was counted and parted, or why not; and whether a joiner was put
-abbrev pub Parts : Form → Properties → Normalizer → Start → List ℕ → List ℕ → ℕ → Result Bool Unsound → Type 0
-Parts f p normalizer start room x c (Ok joined) =
-    HasParted f p normalizer x c × Holds start room (front_utf8 f p (decomposed f p (parted p (stream_safe p x) c))) × (joined ≡ is_too_long p (stream_safe p x) c)
-Parts f p normalizer start room x c (Err _) = (is_usable p (x ++ c ∷ []) ≡ false) × Holds start room (settled_text f p x)
+-- c was counted and room made for it, or why not; and whether a joiner was put
+abbrev pub MakesRoom : Form → Properties → Normalizer → Start → List ℕ → List ℕ → ℕ → Result Bool Unsound → Type 0
+MakesRoom f p normalizer start room x c (Ok joined) =
+    HasMadeRoom f p normalizer x c × Holds start room (front_utf8 f p (decomposed f p (with_room p (stream_safe p x) c))) × (joined ≡ is_too_long p (stream_safe p x) c)
+MakesRoom f p normalizer start room x c (Err _) = (is_usable p (x ++ c ∷ []) ≡ false) × Holds start room (settled_text f p x)
 
 -- the character c was taken after x, and whether a joiner was put before it; or it is refused
 abbrev pub TakesChar : Form → Properties → Normalizer → Start → List ℕ → List ℕ → ℕ → Result Bool Unsound → Type 0

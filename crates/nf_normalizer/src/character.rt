@@ -14,7 +14,7 @@ impl Normalizer {
     ghost use Rattle.nf_forms.specs.Sound.{is_sound};
     ghost use Rattle.nf_pending.specs.StandsAfter.{run_len, StandsAfter};
     ghost use Rattle.nf_normalizer.specs.Room.{Start, Holds};
-    ghost use Rattle.nf_normalizer.specs.Normalizer.{HasTaken, IsWithin, HasRoom, PutsJoiner, Parts, TakesNext, front_utf8, settled_text};
+    ghost use Rattle.nf_normalizer.specs.Normalizer.{HasTaken, IsWithin, HasRoom, PutsJoiner, MakesRoom, TakesNext, front_utf8, settled_text};
 
     /// Takes the next character, and puts what it settles into the room.
     pub(crate) fn take_char<R: Rows>(
@@ -94,7 +94,7 @@ impl Normalizer {
         ensures few { OnOk result (length room.new.items + 4 * run_len self.new.pending + 72 ≤ 4096) }
         ensures parts { let p = R.properties rows.now in
             (f : Form) (x : List ℕ) (start : Start) → HasTaken f p self.old x → Holds start room.old.items (settled_text f p x)
-            → Parts f p self.new start room.new.items x _c result }
+            → MakesRoom f p self.new start room.new.items x _c result }
     {
         if !self.counter.step_by(compat) {
             return Ok(false);

@@ -5,7 +5,7 @@ ghost use Rattle.nf_forms.specs.Runs.{trail};
 ghost use Rattle.nf_forms.specs.Front.{front};
 ghost use Rattle.nf_forms.specs.declared.form.Form.{Form};
 ghost use Rattle.nf_forms.specs.Forms.{row_of, finished};
-ghost use Rattle.nf_forms.specs.Parting.{BeginsAnew};
+ghost use Rattle.nf_forms.specs.Boundary.{HasBoundaryBefore};
 ghost use Rattle.nf_pending.specs.declared.pending.Pending.{Pending};
 ghost use Rattle.nf_pending.specs.StandsAfter.{StandsAfter};
 
@@ -22,9 +22,9 @@ pub fn pending_is_bounded()
         → trail p w ≤ 30 → length (finished f p w) ≤ length (front p (finished f p w)) + 31 }
 {}
 
-/// A machine that has taken the decomposition of a character that begins anew, and what came after that, stands after
+/// A machine that has taken the decomposition of a character with a boundary before it, and what came after that, stands after
 /// any text with these at its end: so a new machine can go on there (UAX #15, section 9).
 pub fn a_machine_may_begin_anew()
-    ensures { (f : Form) (p : Properties) (pending : Pending) (w v : List ℕ) (c : ℕ) → BeginsAnew p f c
+    ensures { (f : Form) (p : Properties) (pending : Pending) (w v : List ℕ) (c : ℕ) → HasBoundaryBefore p f c
         → StandsAfter f p pending (row_of f p c ++ v) → StandsAfter f p pending (w ++ (row_of f p c ++ v)) }
 {}

@@ -1,8 +1,8 @@
 /// What one look-up tells of a character, for a form, before its rows are read.
 #[derive(Clone, Copy, Debug, PartialEq, Eq, Hash)]
 pub enum Kind {
-    /// A sound starter before which a text may be cut, and whose form alone is itself.
-    Parts,
+    /// A sound own boundary: a starter before which a text may be cut, and whose form alone is itself.
+    Boundary,
     /// A sound character that is its own canonical and compatibility row: a non-starter, or a starter that may compose.
     Own {
         /// Its combining class, 0 to 255.

@@ -41,7 +41,7 @@ fn ucd_kind(form: Form, c: char) -> Kind
             class: 0,
             may_compose: true,
         },
-        QuickCheck::Yes if !is_halfwidth_mark(c) => Kind::Parts,
+        QuickCheck::Yes if !is_halfwidth_mark(c) => Kind::Boundary,
         _ => Kind::Other,
     }
 }

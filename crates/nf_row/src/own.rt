@@ -14,8 +14,8 @@ pub fn own_class<R: Rows>(rows: &R, c: char) -> Option<u8>
 {
     match kind_of(rows, Form::Nfkd, c) {
         Kind::Own { class, .. } => Some(class),
-        Kind::Parts => match kind_of(rows, Form::Nfd, c) {
-            Kind::Parts => Some(0),
+        Kind::Boundary => match kind_of(rows, Form::Nfd, c) {
+            Kind::Boundary => Some(0),
             _ => None,
         },
         Kind::Other => None,

@@ -1,4 +1,4 @@
-ghost use Rattle.std.specs.Prelude.{◌≡◌, ◌≤◌, length, IfOk, IsOk};
+ghost use Rattle.std.specs.Prelude.{◌≡◌, ◌≤◌, length, IfOk, IsOk, IsTrue};
 ghost use Rattle.unicode_normalization.specs.Decompose.{decompose};
 ghost use Rattle.nf_forms.specs.Ucd.{ucd};
 
@@ -43,7 +43,9 @@ impl Rows for Ucd {
     }
 
     #[inline]
-    fn is_ucd(&self) -> bool {
+    fn is_ucd(&self) -> bool
+        ensures { IsTrue result }
+    {
         true
     }
 }

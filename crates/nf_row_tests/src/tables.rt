@@ -107,20 +107,20 @@ fn noncharacters_and_private_use(rt: HostRuntime) {
 /// By UnicodeData.txt and the quick checks of DerivedNormalizationProps.txt, in NFC, NFD, NFKC and NFKD.
 #[test]
 fn kinds(rt: HostRuntime) {
-    use Kind::{Other, Parts};
+    use Kind::{Other, Boundary};
     let own = |class, may_compose| Kind::Own { class, may_compose };
     for (c, kinds) in [
-        ('\n', [Parts, Parts, Parts, Parts]),
-        ('\u{34F}', [Parts, Parts, Parts, Parts]),
-        ('\u{E9}', [Parts, Other, Parts, Other]),
-        ('\u{AC00}', [Parts, Other, Parts, Other]),
-        ('\u{FB01}', [Parts, Parts, Other, Other]),
+        ('\n', [Boundary, Boundary, Boundary, Boundary]),
+        ('\u{34F}', [Boundary, Boundary, Boundary, Boundary]),
+        ('\u{E9}', [Boundary, Other, Boundary, Other]),
+        ('\u{AC00}', [Boundary, Other, Boundary, Other]),
+        ('\u{FB01}', [Boundary, Boundary, Other, Other]),
         ('\u{2126}', [Other, Other, Other, Other]),
         // Starters that may compose with what is before them, and one of these that decomposes; one whose canonical row is
         // marks; a halfwidth mark.
-        ('\u{1161}', [own(0, true), Parts, own(0, true), Parts]),
-        ('\u{11C2}', [own(0, true), Parts, own(0, true), Parts]),
-        ('\u{9BE}', [own(0, true), Parts, own(0, true), Parts]),
+        ('\u{1161}', [own(0, true), Boundary, own(0, true), Boundary]),
+        ('\u{11C2}', [own(0, true), Boundary, own(0, true), Boundary]),
+        ('\u{9BE}', [own(0, true), Boundary, own(0, true), Boundary]),
         ('\u{16D68}', [Other, Other, Other, Other]),
         ('\u{F73}', [Other, Other, Other, Other]),
         ('\u{FF9E}', [Other, Other, Other, Other]),

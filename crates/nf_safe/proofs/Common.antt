@@ -5,7 +5,7 @@ pub use Rattle.std.proofs.lemmas.List.Elements.{All-weaker}
 pub use Rattle.std.proofs.lemmas.List.Sums.{sum_by-append, list_all-from_AllPass, AllPass-from_list_all}
 pub use Rattle.std.proofs.lemmas.Str.{encodes-append}
 pub use Rattle.nf_forms.specs.Forms.{decomposed}
-pub use Rattle.nf_forms.specs.Laws.Parting.{run-after}
+pub use Rattle.nf_forms.specs.Laws.Boundary.{run-after}
 pub use Rattle.nf_forms.specs.Laws.Sound.{IsSoundText, IsSound-from_test, JoinerIsPlain-from_sound}
 pub use Rattle.nf_forms.specs.Laws.Starters.{longest-order}
 pub use Rattle.nf_forms.specs.Laws.StreamSafe.{stream_safe-push, decomposed-append, decomposed-push, sound-stream_safe}

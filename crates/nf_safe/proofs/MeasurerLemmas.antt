@@ -11,7 +11,7 @@ use Rattle.nf_safe.specs.declared.measurer.Measurer.{Measurer}
 use Rattle.nf_safe.specs.Measurer.{values_of, StandsAfter, HasSeen}
 use Rattle.nf_safe.specs.Measures.{measure_of}
 use Rattle.nf_safe.specs.Laws.Pieces.{length-safe_step, stream_safe-in_format}
-use Rattle.nf_forms.specs.StreamSafe.{parted, safe_step}
+use Rattle.nf_forms.specs.StreamSafe.{with_room, safe_step}
 use Rattle.std.proofs.lemmas.Bool.{cond_both}
 use Rattle.std.specs.Prelude.{fold, chars}
 use Rattle.std.proofs.lemmas.List.Sums.{fold-append}
@@ -45,11 +45,11 @@ module _ {p : Properties} {old : Measurer} {x : List ℕ} (before : StandsAfter 
       let out = stream_safe p x in
       let is : b ≡ is_too_long p out c = answer ∙ ap (λ n. passes p n (p.compat c)) before.count in
       let push = stream_safe-push p x c in
-      let parted_sound : IsSoundText p (parted p out c) =
+      let room_sound : IsSoundText p (with_room p out c) =
       cond_both (is_too_long p out c) _ _ (IsSoundText p) (λ long. sound-append p Nfkd out (joiner ∷ []) before.sound (and_from _ _ (joins (is ∙ long)) refl)) (λ _. before.sound) in
       let runs_are : HasRuns p new.runs (decomposed Nfkd p (x ++ c ∷ [])) = subst (HasRuns p new.runs) (sym (decomposed-push p Nfkd x c)) runs in
       record {
-        sound = ap (list_all (is_sound p)) push ∙ sound-append p Nfkd (parted p out c) (c ∷ []) parted_sound (and_from _ _ sound refl);
+        sound = ap (list_all (is_sound p)) push ∙ sound-append p Nfkd (with_room p out c) (c ∷ []) room_sound (and_from _ _ sound refl);
         values = values_with new (c ∷ []) runs_are (omega (arith, length-append (encode_utf8 c) [])) chars
             (omega (arith, ap length push, length-safe_step p out c, ap (λ b. cond {A = ℕ} b 1 0) is)) (omega arith);
         count = count ∙ ap (λ n. count_step p n (p.compat c)) before.count

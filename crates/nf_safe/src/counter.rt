@@ -69,15 +69,15 @@ impl Counter {
         ensures stands { (p : Properties) (row : List ℕ) → HasNonStarters p row k → (rows : List (List ℕ)) → StandsAfter p self.old rows
             → StandsAfter p self.new (rows ++ row ∷ []) }
     {
-        let begins_anew = self.count as usize + k.lead > usize::from(MAX_RUN);
+        let is_too_long = self.count as usize + k.lead > usize::from(MAX_RUN);
         self.count = if k.has_starter {
             k.trail as u8
-        } else if begins_anew {
+        } else if is_too_long {
             k.lead as u8
         } else {
             self.count + k.lead as u8
         };
-        begins_anew
+        is_too_long
     }
 
     /// How many non-starters may follow before U+034F is put.

@@ -60,8 +60,8 @@ impl Measurer {
             return Err(Unsound { c, rule: Rule::A1 });
         };
         let mut counter = self.counter;
-        let is_parted = counter.step_by(ends);
-        if is_parted && !sound(rows, JOINER) {
+        let is_too_long = counter.step_by(ends);
+        if is_too_long && !sound(rows, JOINER) {
             return Err(Unsound {
                 c: JOINER,
                 rule: Rule::A1,
@@ -71,7 +71,7 @@ impl Measurer {
         self.counter = counter;
         self.bytes += c.len_utf8() as u64;
         self.chars += 1;
-        self.put += u64::from(is_parted);
+        self.put += u64::from(is_too_long);
         self.unassigned += u64::from(!rows.assigned(c));
         Ok(())
     }

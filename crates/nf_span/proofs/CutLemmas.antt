@@ -13,14 +13,14 @@ use Rattle.nf_forms.specs.declared.form.Form.{Form}
 use Rattle.nf_forms.specs.declared.form.Form.TheVariants.{Nfkd}
 use Rattle.nf_forms.specs.Forms.{decomposed}
 use Rattle.nf_forms.specs.StreamSafe.{max_run}
-use Rattle.nf_forms.specs.Parting.{IsParting}
+use Rattle.nf_forms.specs.Boundary.{IsOwnBoundary}
 use Rattle.nf_forms.specs.Span.{GoesOn, IsSpanFrom, IsSpan}
 use Rattle.nf_forms.specs.Ucd.{ucd}
 use Rattle.nf_forms.specs.Laws.Runs.{has_starter-append, lead-marks}
 use Rattle.nf_forms.specs.Laws.Span.{mark-not_starter, span-begins}
 use Rattle.nf_facts.specs.Passing.{is_among, halfwidth_marks, vowel_signs}
 use Rattle.nf_span.specs.Front.{BeginsAndMarks}
-use Rattle.nf_span.specs.Parts.{counts_as_mark, StarterAndMarks, SplitsAtStarter, MarksAfter}
+use Rattle.nf_span.specs.Split.{counts_as_mark, StarterAndMarks, SplitsAtStarter, MarksAfter}
 
 pub no_marks : (text : List ℕ) → IsUtf8 text → MarksAfter text text
 no_marks text u = record {
@@ -78,9 +78,9 @@ module _ {text last front : List ℕ} (here : MarksAfter text last) (c : ℕ) (s
 module _ (f : Form) (lead_none : (c : ℕ) → canonical_combining_class c ≡ 0 → is_among vowel_signs c ≡ false → is_among halfwidth_marks c ≡ false → lead ucd (ucd.compat c) ≡ 0)
     (no_starter : (c : ℕ) → (is_among halfwidth_marks c || is_among vowel_signs c) ≡ true → has_starter ucd (ucd.compat c) ≡ false) where
   -- in a span what counts as no mark parts it
-  parts : (k n c class count : ℕ) → GoesOn ucd f k n c class count → counts_as_mark c ≡ false → IsParting ucd f c
+  parts : (k n c class count : ℕ) → GoesOn ucd f k n c class count → counts_as_mark c ≡ false → IsOwnBoundary ucd f c
   unfolding ucd
-  parts k n c class count (inl begins) other = begins.parting
+  parts k n c class count (inl begins) other = begins.own_boundary
   parts k n c class count (inr (inl stays)) other =
       absurd (grind (arith, stays.mark.class, stays.mark.above))
   parts k n c class count (inr (inr counts)) other =
@@ -89,7 +89,7 @@ module _ (f : Form) (lead_none : (c : ℕ) → canonical_combining_class c ≡ 0
   -- and NFKD has non-starters alone of a mark
   of_mark : (k n c class count : ℕ) → GoesOn ucd f k n c class count → counts_as_mark c ≡ true → has_starter ucd (ucd.compat c) ≡ false
   unfolding ucd
-  of_mark k n c class count (inl begins) mark = no_starter c (grind (arith, begins.parting.starts))
+  of_mark k n c class count (inl begins) mark = no_starter c (grind (arith, begins.own_boundary.starts))
   of_mark k n c class count (inr (inl stays)) mark = ap (has_starter ucd) stays.mark.compat ∙ or_from _ _ (mark-not_starter ucd c class stays.mark) refl
   of_mark k n c class count (inr (inr counts)) mark = counts.none
 
@@ -104,7 +104,7 @@ module _ (f : Form) (lead_none : (c : ℕ) → canonical_combining_class c ≡ 0
   span_after [] b k n class count span = (k, n, span)
   span_after (c ∷ a) b k n class count span = span_after a b span.0 span.1 class count span.3
 
-  -- a span in two before the last character that parts it
+  -- a span in two before its last own boundary
   pub span_end : (whole front back : List ℕ) → SplitsAtStarter whole front back → (class count : ℕ) → IsSpan ucd f (chars front ++ chars back) class count
       → ((front ≡ []) × (back ≡ [])) ⊎ BeginsAndMarks ucd f (chars back)
   span_end whole front back two class count span = ⊎_elim some none two.end
@@ -116,7 +116,7 @@ module _ (f : Form) (lead_none : (c : ℕ) → canonical_combining_class c ≡ 0
             first = end.first;
             marks = end.marks;
             text = end.text;
-            parting = parts _ _ end.first _ _ after.2 end.other;
+            own_boundary = parts _ _ end.first _ _ after.2 end.other;
             no_starter = of_marks _ _ end.marks class count after.3 end.are_marks;
           })
 

@@ -1,6 +1,6 @@
 pub mod Front
 pub mod Scan
-pub mod Parts
+pub mod Split
 pub mod Leads
 pub mod Closer
 pub mod Going

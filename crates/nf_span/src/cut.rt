@@ -1,5 +1,5 @@
 ghost use Rattle.std.specs.Prelude.{◌≡◌};
-ghost use Rattle.nf_span.specs.Parts.{counts_as_mark, SplitsAtStarter};
+ghost use Rattle.nf_span.specs.Split.{counts_as_mark, SplitsAtStarter};
 
 use nf_facts::begins_with_mark;
 use ucd_normal::canonical_combining_class;

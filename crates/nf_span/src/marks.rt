@@ -41,7 +41,7 @@ impl Marks {
     {
         laws::every_character_is_sound();
         laws::the_quick_check_tells();
-        laws::what_passes_begins_anew();
+        laws::what_passes_has_a_boundary_before();
         laws::some_starters_count_as_marks();
         let (class, QuickCheck::Yes) = class_and_quick_check(c, in_tables(form)) else {
             return None;

@@ -34,14 +34,14 @@ const BLOCKS: [(u32, u32); 12] = [
     (0x1D150, 0x80),
 ];
 
-/// The span by the role of each character: after one that parts a text a bound of 18 non-starters is counted from.
+/// The span by the role of each character: after an own boundary a bound of 18 non-starters is counted from.
 fn front_of(form: Form, text: &str) -> Span<'_> {
     let (mut class, mut count) = (0u8, 30u8);
     let (mut last, mut end) = (0usize, 0usize);
     for c in text.chars() {
         let mark = canonical_combining_class(c);
         match role_of(form, c) {
-            Role::Parts => {
+            Role::Boundary => {
                 last = end;
                 class = 0;
                 count = 18;

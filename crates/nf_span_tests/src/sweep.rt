@@ -11,7 +11,7 @@ use unicode_normalization::{
 /// What a character is to a span.
 #[derive(Clone, Copy, Debug, PartialEq, Eq)]
 pub(crate) enum Role {
-    Parts,
+    Boundary,
     Mark,
     Ends,
 }
@@ -27,7 +27,7 @@ fn passes(form: Form, c: char) -> bool {
     answer == QuickCheck::Yes
 }
 
-/// A starter that passes parts a text where its compatibility decomposition begins with a starter, and counts as a mark where
+/// A starter that passes is an own boundary where its compatibility decomposition begins with a starter, and counts as a mark where
 /// that has none; a non-starter stays where it is its own decompositions.
 pub(crate) fn role_of(form: Form, c: char) -> Role {
     let (mut first, mut second) = ([c; 3], [c; 3]);
@@ -41,7 +41,7 @@ pub(crate) fn role_of(form: Form, c: char) -> Role {
         .is_some_and(|d| canonical_combining_class(*d) == 0);
     let own = canonical == [c].as_slice() && compat == [c].as_slice();
     match (canonical_combining_class(c) == 0, begins, own) {
-        (true, true, _) => Role::Parts,
+        (true, true, _) => Role::Boundary,
         (true, false, _) | (false, _, true) => Role::Mark,
         _ => Role::Ends,
     }
@@ -63,7 +63,7 @@ fn each_scalar_value(rt: HostRuntime) -> Result<(), Fail> {
                 rest,
             };
             let expected = match role_of(form, c) {
-                Role::Parts => (cut("", own, ""), cut("a", own, "")),
+                Role::Boundary => (cut("", own, ""), cut("a", own, "")),
                 Role::Mark => (cut("", "", own), cut("", &after, "")),
                 Role::Ends => (cut("", "", own), cut("", "a", own)),
             };

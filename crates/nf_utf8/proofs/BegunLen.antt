@@ -1,6 +1,6 @@
 -- `begun_len`, the length of the longest front that begins a text, and `ending_of`, by the three lengths that it compares.
 use Rattle.nf_utf8.proofs.Common.{◌≡◌, ℕ, suc, ◌+◌, ◌<◌, ◌≤◌, ⊎_elim, true, false, cond, nat_lt, List, [], ◌∷◌, ◌++◌, length, take, drop, Option, Some, None, unwrap_or, IsUtf8, arith, take-append-drop, length-drop, take-take, take_all, IsInRange, is_in_range, StartsWithNoChar, utf8_error_len, error_len_after_one, error_len_after_two, error_len_of_some, order, utf8_error_len-nil, utf8_error_len_some, no_text, le-ltb, cond_both, nat_tests, IsUtf8-nil, BeginsText, IsSecond, IsContinuation}
-use Rattle.nf_utf8.proofs.Common.{text_len, part_len, begun_len, ◌==◌, eqb-true, Ending, Whole, Bad, Cut, ending_of}
+use Rattle.nf_utf8.proofs.Common.{text_len, subpart_len, begun_len, ◌==◌, eqb-true, Ending, Whole, Bad, Cut, ending_of}
 use Rattle.nf_utf8.proofs.Fronts.{IsLongestFront, longest_same, longest_after}
 use Rattle.nf_utf8.proofs.Texts.{BeginsText-append, BeginsText-after, BeginsText-front, BeginsText-IsUtf8}
 use Rattle.nf_utf8.proofs.TextLen.{text_len-longest, length-front, text_len-rest, no_char-text_len}
@@ -33,16 +33,16 @@ out_of_range lo hi c e h = grind (arith, nat_tests)
 record Counted (bytes : List ℕ) (o : Option ℕ) (k : ℕ) : Type 0 where
   pub begins : BeginsFor bytes k
   pub few : k ≤ 3
-  pub broken : (n : ℕ) → o ≡ Some n → k < length bytes
+  pub ill_formed : (n : ℕ) → o ≡ Some n → k < length bytes
 
 abbrev CountedLen : List ℕ → Option ℕ → Type 0
 CountedLen bytes o = Counted bytes o (unwrap_or o (length bytes))
 
 all_begin : {bytes : List ℕ} → length bytes ≤ 3 → BeginsText bytes → CountedLen bytes None
-all_begin {bytes} few b = record { begins = begins_for_all bytes b; few = few; broken = λ n e. cc }
+all_begin {bytes} few b = record { begins = begins_for_all bytes b; few = few; ill_formed = λ n e. cc }
 
 some_begin : {bytes : List ℕ} {n : ℕ} → n ≤ 3 → n < length bytes → BeginsText (take n bytes) → ¬ BeginsText (take (suc n) bytes) → CountedLen bytes (Some n)
-some_begin {bytes} {n} few short b none = record { begins = begins_until bytes n short b none; few = few; broken = λ _ _. short }
+some_begin {bytes} {n} few short b none = record { begins = begins_until bytes n short b none; few = few; ill_formed = λ _ _. short }
 
 after_three : (a b d : ℕ) (rest : List ℕ) → IsInRange 0xF0 0xF4 a → IsSecond a b → IsContinuation d → StartsWithNoChar (a ∷ b ∷ d ∷ rest)
     → CountedLen (a ∷ b ∷ d ∷ rest) (cond (nat_lt (length (a ∷ b ∷ d ∷ rest)) 4) None (Some 3))
@@ -69,37 +69,37 @@ after_one a (b ∷ rest) first none =
     (λ above. after_two a b rest (above, first.1) k none) (order a 0xE0))
     (λ t. some_begin (omega arith) (omega arith) (begins_one a first) (no_second a b first (out_of_range _ _ b t))))
 
-part_len-counted : (bytes : List ℕ) → StartsWithNoChar bytes → Counted bytes (utf8_error_len bytes) (part_len bytes)
-part_len-counted [] none = rw utf8_error_len-nil (all_begin (omega arith) (BeginsText-IsUtf8 [] IsUtf8-nil))
-part_len-counted (a ∷ rest) none =
+subpart_len-counted : (bytes : List ℕ) → StartsWithNoChar bytes → Counted bytes (utf8_error_len bytes) (subpart_len bytes)
+subpart_len-counted [] none = rw utf8_error_len-nil (all_begin (omega arith) (BeginsText-IsUtf8 [] IsUtf8-nil))
+subpart_len-counted (a ∷ rest) none =
     rw (utf8_error_len_some (a ∷ rest) (omega arith)) (cond_both _ _ _ (λ k. Counted (a ∷ rest) (error_len_of_some (a ∷ rest)) k)
     (λ t. rw t (after_one a rest (in_range 0xC2 0xF4 a t) none))
     (λ t. record {
       begins = begins_until (a ∷ rest) 0 (omega arith) (BeginsText-IsUtf8 [] IsUtf8-nil)
           (⊎_elim (λ low. absurd (no_text (a ∷ []) rest none (IsUtf8-one a low) (omega arith))) (λ high. no_first a high (out_of_range 0xC2 0xF4 a t)) (order a 0x80));
       few = omega arith;
-      broken = λ _ _. omega arith;
+      ill_formed = λ _ _. omega arith;
     }))
 
 -- ---- the longest front that begins a text
 
-part_counted : (bytes : List ℕ) → let rest : List ℕ = drop (text_len bytes) bytes in Counted rest (utf8_error_len rest) (part_len rest)
-part_counted bytes = part_len-counted (drop (text_len bytes) bytes) (no_char-text_len (drop (text_len bytes) bytes) (text_len-rest bytes))
+subpart_counted : (bytes : List ℕ) → let rest : List ℕ = drop (text_len bytes) bytes in Counted rest (utf8_error_len rest) (subpart_len rest)
+subpart_counted bytes = subpart_len-counted (drop (text_len bytes) bytes) (no_char-text_len (drop (text_len bytes) bytes) (text_len-rest bytes))
 
 pub begun_len-longest : (bytes : List ℕ) → BeginsFor bytes (begun_len bytes)
 begun_len-longest bytes =
     let front : List ℕ = take (text_len bytes) bytes in
     let rest : List ℕ = drop (text_len bytes) bytes in
     let u = (text_len-longest bytes).holds in
-    rw (take-append-drop, length-front) at (longest_after front (λ zs. BeginsText-append front zs u) (λ zs. BeginsText-after front zs u) (part_counted bytes).begins)
+    rw (take-append-drop, length-front) at (longest_after front (λ zs. BeginsText-append front zs u) (λ zs. BeginsText-after front zs u) (subpart_counted bytes).begins)
 
 -- no more than three bytes after the text begin a character
 pub begun_few : (bytes : List ℕ) → begun_len bytes ≤ text_len bytes + 3
-begun_few bytes = omega (arith, (part_counted bytes).few)
+begun_few bytes = omega (arith, (subpart_counted bytes).few)
 
 -- where std tells how many bytes are invalid, a byte breaks them off
-pub told_broken : (bytes : List ℕ) (n : ℕ) → utf8_error_len (drop (text_len bytes) bytes) ≡ Some n → begun_len bytes < length bytes
-told_broken bytes n told = omega (arith, (part_counted bytes).broken n told, length-drop (text_len bytes) bytes)
+pub told_ill_formed : (bytes : List ℕ) (n : ℕ) → utf8_error_len (drop (text_len bytes) bytes) ≡ Some n → begun_len bytes < length bytes
+told_ill_formed bytes n told = omega (arith, (subpart_counted bytes).ill_formed n told, length-drop (text_len bytes) bytes)
 
 pub begun_len-is : {bytes : List ℕ} {n : ℕ} → BeginsFor bytes n → begun_len bytes ≡ n
 begun_len-is {bytes} h = longest_same (begun_len-longest bytes) h
@@ -124,9 +124,9 @@ module _ (bytes : List ℕ) where
   unfolding ending_of
   ending_of-begun short e = grind (arith, nat_tests)
 
-  pub ending_of-broken : begun_len bytes < length bytes → ending_of bytes ≡ Bad (begun_len bytes) (text_len bytes)
+  pub ending_of-ill_formed : begun_len bytes < length bytes → ending_of bytes ≡ Bad (begun_len bytes) (text_len bytes)
   unfolding ending_of
-  ending_of-broken short = grind (arith, nat_tests)
+  ending_of-ill_formed short = grind (arith, nat_tests)
 
 -- what an ending says of the lengths
 abbrev pub Says : List ℕ → Ending → Type 0

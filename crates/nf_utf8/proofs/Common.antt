@@ -22,11 +22,11 @@ pub use Rattle.nf_utf8.specs.Carry.{bytes_of}
 pub use Rattle.nf_utf8.specs.Ending.{Ending, Whole, Bad, Cut, moved, Whole as IsWhole, Cut as IsCut, Bad as IsBad}
 pub use Rattle.nf_utf8.specs.Front.{IsFront, Completes, CanEnd, EndsBy}
 pub use Rattle.nf_utf8.specs.Lossy.{IsReplacedFront, IsStretch}
-pub use Rattle.nf_utf8.specs.Part.{IsSecond, IsContinuation, IsSubpart}
+pub use Rattle.nf_utf8.specs.Subpart.{IsSecond, IsContinuation, IsSubpart}
 unfoldable pub use Rattle.nf_utf8.specs.Reading.{ending_of, text_of, rest_of}
-pub use Rattle.nf_utf8.specs.Reading.{text_len, part_len, begun_len}
-unfoldable pub use Rattle.nf_utf8.specs.Replaced.{parts_of, replaced, replaced_whole}
-pub use Rattle.nf_utf8.specs.Replaced.{Part, replacement, own_parts, subpart_end, begun_at_end, parts_after_text, parts_within, bytes_in}
+pub use Rattle.nf_utf8.specs.Reading.{text_len, subpart_len, begun_len}
+unfoldable pub use Rattle.nf_utf8.specs.Replaced.{decoded_of, replaced, replaced_whole}
+pub use Rattle.nf_utf8.specs.Replaced.{Decoded, replacement, decoded_text, subpart_end, begun_at_end, decoded_after_text, decoded_within, bytes_in}
 pub use Rattle.nf_utf8.specs.Standing.{Answers, StandsAfter, bytes_after, ending_at}
 pub use Rattle.nf_utf8.specs.Taking.{first_text, Takes, first_bytes, IsFirst, EndsPiece, end_holding, bytes_after_piece, Counts}
 pub use Rattle.nf_utf8.specs.Text.{BeginsText, IsText}

@@ -1,8 +1,8 @@
 -- The text with U+FFFD for each maximal subpart of an ill-formed sequence, and std's.
-use Rattle.nf_utf8.proofs.Common.{◌≡◌, ℕ, ◌+◌, ◌<◌, ◌≤◌, ◌==◌, cond, List, [], ◌∷◌, ◌++◌, length, take, drop, Some, unwrap_or, encode_utf8_all, ⊎_elim, refl, sym, ap, ◌∙◌, arith, append-nil, append_assoc, length-drop, take_all, take-append-drop, utf8_lossy, utf8_invalid_len, utf8_error_len, replacement_bytes, order, scalars-append, three, utf8_error_len_some, utf8_invalid_len_pos, ne_eqb, nat_tests, map-append, drop_all, encodes-append, utf8_lossy-IsUtf8, utf8_lossy_step, utf8_lossy_empty, IsText, Bad, text_len, text_of, part_len, begun_len, ending_of, replacement, subpart_end, replaced, begun_at_end, replaced_whole}
-use Rattle.nf_utf8.proofs.BegunLen.{begun_few, told_broken, ending_of-broken}
-use Rattle.nf_utf8.proofs.ReadingLemmas.{text_same, text_of-IsText, encodes-text_of, front_of, front_of-IsUtf8, broken}
-use Rattle.nf_utf8.proofs.ReplacedLemmas.{chars-own, by_parts, parts_of-all, parts_of-broken, bytes_in-all, bytes_in-broken}
+use Rattle.nf_utf8.proofs.Common.{◌≡◌, ℕ, ◌+◌, ◌<◌, ◌≤◌, ◌==◌, cond, List, [], ◌∷◌, ◌++◌, length, take, drop, Some, unwrap_or, encode_utf8_all, ⊎_elim, refl, sym, ap, ◌∙◌, arith, append-nil, append_assoc, length-drop, take_all, take-append-drop, utf8_lossy, utf8_invalid_len, utf8_error_len, replacement_bytes, order, scalars-append, three, utf8_error_len_some, utf8_invalid_len_pos, ne_eqb, nat_tests, map-append, drop_all, encodes-append, utf8_lossy-IsUtf8, utf8_lossy_step, utf8_lossy_empty, IsText, Bad, text_len, text_of, subpart_len, begun_len, ending_of, replacement, subpart_end, replaced, begun_at_end, replaced_whole}
+use Rattle.nf_utf8.proofs.BegunLen.{begun_few, told_ill_formed, ending_of-ill_formed}
+use Rattle.nf_utf8.proofs.ReadingLemmas.{text_same, text_of-IsText, encodes-text_of, front_of, front_of-IsUtf8, ill_formed}
+use Rattle.nf_utf8.proofs.ReplacedLemmas.{chars-own, by_subparts, decoded_of-all, decoded_of-ill_formed, bytes_in-all, bytes_in-ill_formed}
 
 -- ---- how many bytes begin a character
 
@@ -11,19 +11,19 @@ pub text_len-front : (bytes : List ℕ) (n : ℕ) → text_len (take n bytes) + 
 text_len-front bytes n far = rw take-append-drop at (text_same (take n bytes) (omega (arith, far, begun_few (take n bytes))) (drop n bytes))
 
 -- std's count of them is this crate's, where any do; where none does, one byte is invalid
-invalid_begun : (rest : List ℕ) → 0 < part_len rest → utf8_invalid_len rest ≡ part_len rest
+invalid_begun : (rest : List ℕ) → 0 < subpart_len rest → utf8_invalid_len rest ≡ subpart_len rest
 invalid_begun rest some = grind (arith, nat_tests)
 
-invalid_one : (rest : List ℕ) → 0 < length rest → part_len rest ≡ 0 → utf8_invalid_len rest ≡ 1
+invalid_one : (rest : List ℕ) → 0 < length rest → subpart_len rest ≡ 0 → utf8_invalid_len rest ≡ 1
 invalid_one rest some none = grind (arith, nat_tests, utf8_error_len_some rest some, utf8_invalid_len_pos rest some)
 
 -- the bytes after the text
 abbrev rest_at : List ℕ → List ℕ
 rest_at bytes = drop (text_len bytes) bytes
 
-broken_invalid : (bytes : List ℕ) {at start : ℕ} → ending_of bytes ≡ Bad at start → text_len bytes + utf8_invalid_len (rest_at bytes) ≡ subpart_end at start
-broken_invalid bytes {at} {start} e =
-    grind (arith, nat_tests, broken bytes at start e, invalid_one (rest_at bytes), invalid_begun (rest_at bytes), length-drop (text_len bytes) bytes)
+ill_formed_invalid : (bytes : List ℕ) {at start : ℕ} → ending_of bytes ≡ Bad at start → text_len bytes + utf8_invalid_len (rest_at bytes) ≡ subpart_end at start
+ill_formed_invalid bytes {at} {start} e =
+    grind (arith, nat_tests, ill_formed bytes at start e, invalid_one (rest_at bytes), invalid_begun (rest_at bytes), length-drop (text_len bytes) bytes)
 
 -- std tells how many bytes are invalid: those of the part that a byte breaks off
 pub record IsTold (bytes : List ℕ) (n : ℕ) : Type 0 where
@@ -32,28 +32,28 @@ pub record IsTold (bytes : List ℕ) (n : ℕ) : Type 0 where
 
 pub is_told : (bytes : List ℕ) (n : ℕ) → utf8_error_len (rest_at bytes) ≡ Some n → IsTold bytes n
 is_told bytes n told =
-    let bad = ending_of-broken bytes (told_broken bytes n told) in
-    record { bad = bad; end = sym (broken_invalid bytes bad) ∙ ap (λ o. text_len bytes + unwrap_or o (length (rest_at bytes))) told }
+    let bad = ending_of-ill_formed bytes (told_ill_formed bytes n told) in
+    record { bad = bad; end = sym (ill_formed_invalid bytes bad) ∙ ap (λ o. text_len bytes + unwrap_or o (length (rest_at bytes))) told }
 
 pub few_at_end : (bytes : List ℕ) → begun_at_end bytes ≤ 3
-few_at_end = by_parts (λ bytes. begun_at_end bytes ≤ 3)
+few_at_end = by_subparts (λ bytes. begun_at_end bytes ≤ 3)
     (λ bytes all. omega (arith, bytes_in-all bytes all, all, begun_few bytes))
-    (λ bytes at start e h. omega (arith, bytes_in-broken bytes e, length-drop (subpart_end at start) bytes, h))
+    (λ bytes at start e h. omega (arith, bytes_in-ill_formed bytes e, length-drop (subpart_end at start) bytes, h))
 
 -- ---- the text, by the ending
 
 replaced-all : (bytes : List ℕ) → begun_len bytes ≡ length bytes → replaced bytes ≡ text_of bytes
 unfolding replaced
-replaced-all bytes all = rw (parts_of-all bytes all) (chars-own (text_of bytes))
+replaced-all bytes all = rw (decoded_of-all bytes all) (chars-own (text_of bytes))
 
-replaced-broken : (bytes : List ℕ) {at start : ℕ} → ending_of bytes ≡ Bad at start → replaced bytes ≡ text_of bytes ++ replacement ∷ replaced (drop (subpart_end at start) bytes)
+replaced-ill_formed : (bytes : List ℕ) {at start : ℕ} → ending_of bytes ≡ Bad at start → replaced bytes ≡ text_of bytes ++ replacement ∷ replaced (drop (subpart_end at start) bytes)
 unfolding replaced
-replaced-broken bytes {at} {start} e = rw (parts_of-broken bytes at start e, map-append, chars-own)
+replaced-ill_formed bytes {at} {start} e = rw (decoded_of-ill_formed bytes at start e, map-append, chars-own)
 
 pub replaced-IsText : (bytes : List ℕ) → IsText (replaced bytes)
-replaced-IsText = by_parts (λ bytes. IsText (replaced bytes))
+replaced-IsText = by_subparts (λ bytes. IsText (replaced bytes))
     (λ bytes all. rw (replaced-all bytes all) (text_of-IsText bytes))
-    (λ bytes at start e h. rw (replaced-broken bytes e) (scalars-append (text_of bytes) (replacement ∷ replaced (drop (subpart_end at start) bytes)) (text_of-IsText bytes) h))
+    (λ bytes at start e h. rw (replaced-ill_formed bytes e) (scalars-append (text_of bytes) (replacement ∷ replaced (drop (subpart_end at start) bytes)) (text_of-IsText bytes) h))
 
 -- ---- its bytes, where nothing follows
 
@@ -91,11 +91,11 @@ lossy_cut bytes short all =
       utf8_lossy_empty [] refl,
     )
 
-lossy_broken : (bytes : List ℕ) (at start : ℕ) → ending_of bytes ≡ Bad at start
+lossy_ill_formed : (bytes : List ℕ) (at start : ℕ) → ending_of bytes ≡ Bad at start
     → encode_utf8_all (replaced_whole (drop (subpart_end at start) bytes)) ≡ utf8_lossy (drop (subpart_end at start) bytes) → encode_utf8_all (replaced_whole bytes) ≡ utf8_lossy bytes
-lossy_broken bytes at start e h =
+lossy_ill_formed bytes at start e h =
     let rest : List ℕ = drop (subpart_end at start) bytes in
-    let is = whole_is bytes _ (begun_at_end rest) (replaced-broken bytes e) (omega (arith, bytes_in-broken bytes e, length-drop (subpart_end at start) bytes)) in
+    let is = whole_is bytes _ (begun_at_end rest) (replaced-ill_formed bytes e) (omega (arith, bytes_in-ill_formed bytes e, length-drop (subpart_end at start) bytes)) in
     rw (
       is,
       append_assoc,
@@ -103,11 +103,11 @@ lossy_broken bytes at start e h =
       encodes_after bytes (replacement ∷ replaced_whole rest),
       three replacement (omega arith) (omega arith),
       h,
-      utf8_lossy_step bytes (omega (arith, broken bytes at start e)),
-      broken_invalid bytes e,
+      utf8_lossy_step bytes (omega (arith, ill_formed bytes at start e)),
+      ill_formed_invalid bytes e,
     )
 
 pub encodes-replaced_whole : (bytes : List ℕ) → encode_utf8_all (replaced_whole bytes) ≡ utf8_lossy bytes
-encodes-replaced_whole = by_parts (λ bytes. encode_utf8_all (replaced_whole bytes) ≡ utf8_lossy bytes)
+encodes-replaced_whole = by_subparts (λ bytes. encode_utf8_all (replaced_whole bytes) ≡ utf8_lossy bytes)
     (λ bytes all. ⊎_elim (λ short. lossy_cut bytes short all) (λ past. lossy_whole bytes (omega (arith, past, all)) all) (order (text_len bytes) (length bytes)))
-    lossy_broken
+    lossy_ill_formed

@@ -21,9 +21,9 @@ begins_whole bytes e = begins_all bytes (omega (arith, (begun_len-longest bytes)
 -- ---- byte by byte
 
 module _ (from : List ℕ) where
-  broken : (bytes piece : List ℕ) (byte at back : ℕ) → Answers bytes byte (BadByte back) → length from + at ≡ length bytes
+  ill_formed : (bytes piece : List ℕ) (byte at back : ℕ) → Answers bytes byte (BadByte back) → length from + at ≡ length bytes
       → ReadsOn from bytes (bytes ++ byte ∷ [] ++ piece) [] (Bad at back)
-  broken bytes piece byte at back answer place =
+  ill_formed bytes piece byte at back answer place =
       let text = text_of-bad (bytes ++ byte ∷ []) piece _ _ answer.1 ∙ answer.0 in
       let len : text_len (bytes ++ byte ∷ [] ++ piece) ≡ text_len bytes = rw (text, length-encodes-text_of) at (sym (length-encodes-text_of (bytes ++ byte ∷ [] ++ piece))) in
       (rw append-nil text, (rw (place, len) (ending_of-bad (bytes ++ byte ∷ []) piece _ _ answer.1), omega (arith, len, place, answer.2), simp length-append (omega (arith, place))))
@@ -34,7 +34,7 @@ module _ (from : List ℕ) where
       → Answers bytes byte step → GoesOn from bytes Next text end step → ReadsOn from bytes (bytes ++ byte ∷ [] ++ piece) text end
   step_on bytes piece text byte end More Next read answer on = rw answer.0 at (read text (begins_cut _ _ _ answer.1) on)
   step_on bytes piece text byte end (Char c) Next read answer on = rw on.1 (rw (answer.0, append_assoc (text_of bytes) (c ∷ []) on.0) at (read on.0 (begins_whole _ answer.1) on.2))
-  step_on bytes piece text byte end (BadByte back) Next read answer on = rw (on.0, on.1.2) (broken bytes piece byte on.1.0 back answer on.1.1)
+  step_on bytes piece text byte end (BadByte back) Next read answer on = rw (on.0, on.1.2) (ill_formed bytes piece byte on.1.0 back answer on.1.1)
 
   pub reads_on : (bytes piece text : List ℕ) (end : End) → BeginsText bytes → Pushes from bytes piece text end → ReadsOn from bytes (bytes ++ piece) text end
   reads_on bytes [] text end b p = rw (append-nil, p.0, p.1, append-nil) (refl, ends_holding from bytes (rest_of bytes) (record { rest = refl; begins = b }))

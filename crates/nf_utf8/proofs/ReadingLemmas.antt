@@ -48,26 +48,26 @@ text_of-split bytes = rw (encodes-text_of bytes) (sym (take-append-drop (text_le
 
 -- ---- after bytes that were read before, where `part` is what stood after their text
 
-module _ {part : List ℕ} (bytes piece : List ℕ) (r : rest_of bytes ≡ part) where
-  joined : front_of bytes ++ (part ++ piece) ≡ bytes ++ piece
+module _ {subpart : List ℕ} (bytes piece : List ℕ) (r : rest_of bytes ≡ subpart) where
+  joined : front_of bytes ++ (subpart ++ piece) ≡ bytes ++ piece
   unfolding rest_of
-  joined = sym (append_assoc (front_of bytes) part piece) ∙ ap (λ l. l ++ piece) (rw r at (take-append-drop (text_len bytes) bytes))
+  joined = sym (append_assoc (front_of bytes) subpart piece) ∙ ap (λ l. l ++ piece) (rw r at (take-append-drop (text_len bytes) bytes))
 
-  pub text_on : text_of (bytes ++ piece) ≡ text_of bytes ++ text_of (part ++ piece)
+  pub text_on : text_of (bytes ++ piece) ≡ text_of bytes ++ text_of (subpart ++ piece)
   unfolding text_of
-  text_on = rw joined at (text_of-after (front_of bytes) (part ++ piece) (front_of-IsUtf8 bytes))
+  text_on = rw joined at (text_of-after (front_of bytes) (subpart ++ piece) (front_of-IsUtf8 bytes))
 
-  pub len_on : text_len (bytes ++ piece) ≡ text_len bytes + text_len (part ++ piece)
-  len_on = rw (joined, length-front) at (text_len-after (front_of bytes) (part ++ piece) (front_of-IsUtf8 bytes))
+  pub len_on : text_len (bytes ++ piece) ≡ text_len bytes + text_len (subpart ++ piece)
+  len_on = rw (joined, length-front) at (text_len-after (front_of bytes) (subpart ++ piece) (front_of-IsUtf8 bytes))
 
-  pub rest_on : rest_of (bytes ++ piece) ≡ rest_of (part ++ piece)
-  rest_on = rw joined at (rest_of-after (front_of bytes) (part ++ piece) (front_of-IsUtf8 bytes))
+  pub rest_on : rest_of (bytes ++ piece) ≡ rest_of (subpart ++ piece)
+  rest_on = rw joined at (rest_of-after (front_of bytes) (subpart ++ piece) (front_of-IsUtf8 bytes))
 
-  pub ending_on : ending_of (bytes ++ piece) ≡ moved (text_len bytes) (ending_of (part ++ piece))
-  ending_on = rw (joined, length-front) at (ending_of-after (front_of bytes) (part ++ piece) (front_of-IsUtf8 bytes))
+  pub ending_on : ending_of (bytes ++ piece) ≡ moved (text_len bytes) (ending_of (subpart ++ piece))
+  ending_on = rw (joined, length-front) at (ending_of-after (front_of bytes) (subpart ++ piece) (front_of-IsUtf8 bytes))
 
-  pub begins_on : BeginsText (part ++ piece) → BeginsText (bytes ++ piece)
-  begins_on b = rw joined at (BeginsText-append (front_of bytes) (part ++ piece) (front_of-IsUtf8 bytes) b)
+  pub begins_on : BeginsText (subpart ++ piece) → BeginsText (bytes ++ piece)
+  begins_on b = rw joined at (BeginsText-append (front_of bytes) (subpart ++ piece) (front_of-IsUtf8 bytes) b)
 
 -- ---- after a bad byte
 
@@ -92,12 +92,12 @@ module _ (bytes : List ℕ) (begun : begun_len bytes < length bytes) (piece : Li
       })
 
 -- the lengths that such an ending tells
-pub broken : (bytes : List ℕ) (at start : ℕ) → ending_of bytes ≡ Bad at start → (begun_len bytes < length bytes) × (at ≡ begun_len bytes) × (start ≡ text_len bytes)
-broken bytes at start e = rw e at (ending_of-says bytes)
+pub ill_formed : (bytes : List ℕ) (at start : ℕ) → ending_of bytes ≡ Bad at start → (begun_len bytes < length bytes) × (at ≡ begun_len bytes) × (start ≡ text_len bytes)
+ill_formed bytes at start e = rw e at (ending_of-says bytes)
 
 module _ (bytes piece : List ℕ) (at start : ℕ) (e : ending_of bytes ≡ Bad at start) where
   short : begun_len bytes < length bytes
-  short = (broken bytes at start e).0
+  short = (ill_formed bytes at start e).0
 
   pub text_of-bad : text_of (bytes ++ piece) ≡ text_of bytes
   unfolding text_of

@@ -1,7 +1,7 @@
 -- A reading is what `specs/Reads.antt` says, and nothing else is.
 use Rattle.nf_utf8.proofs.Common.{◌≡◌, ℕ, ◌+◌, List, [], length, sym, ap, ◌∙◌, arith, append-nil, length-append, take_all, add-one, nil_from_length, Ending, Whole, Bad, Cut, text_len, text_of, rest_of, begun_len, ending_of}
 use Rattle.nf_utf8.specs.Reads.{IsLongestText, EndsAs, Reads}
-use Rattle.nf_utf8.proofs.BegunLen.{begun_len-longest, begun_len-is, begun_all, begins_all, begins_until, ending_of-full, ending_of-begun, ending_of-broken, Says, ending_of-says}
+use Rattle.nf_utf8.proofs.BegunLen.{begun_len-longest, begun_len-is, begun_all, begins_all, begins_until, ending_of-full, ending_of-begun, ending_of-ill_formed, Says, ending_of-says}
 use Rattle.nf_utf8.proofs.ReadingLemmas.{text_of-encodes, text_of-IsText, text_of-split, length-encodes-text_of, encodes-text_of}
 
 -- ---- what is read is so
@@ -43,7 +43,7 @@ only_ending bytes (Cut at start) e =
     rw (e.0.end, e.1, length-encodes-text_of bytes) (sym (ending_of-begun bytes (omega (arith, length-encodes-text_of bytes, e.0.more, e.0.end)) (begun_all bytes e.0.begins)))
 only_ending bytes (Bad at start) e =
     let begun : begun_len bytes ≡ at = begun_len-is (begins_until bytes at e.0.inside e.0.before (λ h. e.0.here (rw add-one h))) in
-    rw (e.1, length-encodes-text_of bytes, ← begun) (sym (ending_of-broken bytes (omega (arith, begun, e.0.inside))))
+    rw (e.1, length-encodes-text_of bytes, ← begun) (sym (ending_of-ill_formed bytes (omega (arith, begun, e.0.inside))))
 
 pub reads_only : (bytes text : List ℕ) (ending : Ending) → Reads bytes text ending → (text ≡ text_of bytes) × (ending ≡ ending_of bytes)
 reads_only bytes text ending r =

@@ -34,12 +34,12 @@ begins_two a b first second = ⊎_elim
 pub begins_one : (a : ℕ) → IsInRange 0xC2 0xF4 a → BeginsText (a ∷ [])
 begins_one a first = BeginsText-front (a ∷ []) (second_byte_min a ∷ []) (begins_two a (second_byte_min a) first (grind (arith, nat_tests)))
 
-pub BeginsText-part : (part : List ℕ) → IsSubpart part → BeginsText part
-BeginsText-part [] h = ([], ([], (refl, refl)))
-BeginsText-part (a ∷ []) h = begins_one a h
-BeginsText-part (a ∷ b ∷ []) h = begins_two a b (omega (arith, h.0.0), h.0.1) h.1
-BeginsText-part (a ∷ b ∷ d ∷ []) h = begins_three a b d (omega (arith, h.0.0), h.0.1) h.1 h.2
-BeginsText-part (a ∷ b ∷ d ∷ e ∷ rest) h = absurd h
+pub BeginsText-subpart : (subpart : List ℕ) → IsSubpart subpart → BeginsText subpart
+BeginsText-subpart [] h = ([], ([], (refl, refl)))
+BeginsText-subpart (a ∷ []) h = begins_one a h
+BeginsText-subpart (a ∷ b ∷ []) h = begins_two a b (omega (arith, h.0.0), h.0.1) h.1
+BeginsText-subpart (a ∷ b ∷ d ∷ []) h = begins_three a b d (omega (arith, h.0.0), h.0.1) h.1 h.2
+BeginsText-subpart (a ∷ b ∷ d ∷ e ∷ rest) h = absurd h
 
 -- ---- the bytes that begin none
 
@@ -65,9 +65,9 @@ no_fourth a b d e first none = refuted a (b ∷ d ∷ e ∷ []) (λ more r. grin
 
 -- ---- the bytes that begin a character and are none
 
-pub part_no_char : (part : List ℕ) → IsSubpart part → StartsWithNoChar part
-part_no_char [] h = λ c rest s e. omega (arith, width_is c, ap length e, length-append (encode_utf8 c) rest)
-part_no_char (a ∷ []) h = no_char (a ∷ []) 0 (λ r. omega arith)
-part_no_char (a ∷ b ∷ []) h = no_char (a ∷ b ∷ []) 0 (λ r. omega arith)
-part_no_char (a ∷ b ∷ d ∷ []) h = no_char (a ∷ b ∷ d ∷ []) 0 (λ r. grind arith)
-part_no_char (a ∷ b ∷ d ∷ e ∷ rest) h = absurd h
+pub subpart_no_char : (subpart : List ℕ) → IsSubpart subpart → StartsWithNoChar subpart
+subpart_no_char [] h = λ c rest s e. omega (arith, width_is c, ap length e, length-append (encode_utf8 c) rest)
+subpart_no_char (a ∷ []) h = no_char (a ∷ []) 0 (λ r. omega arith)
+subpart_no_char (a ∷ b ∷ []) h = no_char (a ∷ b ∷ []) 0 (λ r. omega arith)
+subpart_no_char (a ∷ b ∷ d ∷ []) h = no_char (a ∷ b ∷ d ∷ []) 0 (λ r. grind arith)
+subpart_no_char (a ∷ b ∷ d ∷ e ∷ rest) h = absurd h

@@ -6,8 +6,8 @@ use Rattle.nf_utf8.specs.declared.front.Front.TheVariants.{Char}
 use Rattle.nf_utf8.proofs.Texts.{BeginsText-append}
 use Rattle.nf_utf8.proofs.TextLen.{text_len-after, text_len-no_char, no_char-text_len}
 use Rattle.nf_utf8.proofs.ReadingLemmas.{text_on, len_on, rest_on, ending_on, begins_on, text_of-after, rest_of-after, ending_of-after}
-use Rattle.nf_utf8.proofs.Sequences.{BeginsText-part, part_no_char}
-use Rattle.nf_utf8.proofs.StandingLemmas.{text_of-none, rest_of-none, chars_of_one, stands_new, held_len, ending_of-standing, broken_at}
+use Rattle.nf_utf8.proofs.Sequences.{BeginsText-subpart, subpart_no_char}
+use Rattle.nf_utf8.proofs.StandingLemmas.{text_of-none, rest_of-none, chars_of_one, stands_new, held_len, ending_of-standing, ill_formed_at}
 
 -- ---- the end of a piece
 
@@ -29,12 +29,12 @@ ends_piece bytes piece (Bad at back) e = grind (arith, length-append bytes piece
 -- ---- a piece in three: the first character, the text, and what is after it
 
 -- `part` and `rest` stand after the text, and the part up to `skipped` of the piece
-pub record Joined (held piece : List ℕ) (first : Option ℕ) (text part rest : List ℕ) (skipped : ℕ) : Type 0 where
+pub record Joined (held piece : List ℕ) (first : Option ℕ) (text subpart rest : List ℕ) (skipped : ℕ) : Type 0 where
   pub leads : IsUtf8 (first_bytes first) × (chars (first_bytes first) ≡ first_text first)
   pub utf8 : IsUtf8 text
   pub begun : IsFirst held first text
-  pub joins : held ++ piece ≡ first_bytes first ++ text ++ (part ++ rest)
-  pub sum : length (first_bytes first) + length text + length part ≡ length held + skipped
+  pub joins : held ++ piece ≡ first_bytes first ++ text ++ (subpart ++ rest)
+  pub sum : length (first_bytes first) + length text + length subpart ≡ length held + skipped
 
 abbrev pub Taken : List ℕ → List ℕ → Option ℕ → List ℕ → End → List ℕ → Type 0
 Taken bytes piece first text end left = Takes bytes piece first text end × StandsAfter left (bytes_after_piece bytes piece end)
@@ -43,11 +43,11 @@ after_holding : (bytes piece held : List ℕ) → bytes_after_piece bytes piece 
 after_holding bytes piece [] = refl
 after_holding bytes piece (a ∷ held) = refl
 
-part_size : (part : List ℕ) → IsSubpart part → length part ≤ 3
-part_size (a ∷ b ∷ c ∷ d ∷ rest) h = absurd h
-part_size _ h = omega arith
+subpart_size : (subpart : List ℕ) → IsSubpart subpart → length subpart ≤ 3
+subpart_size (a ∷ b ∷ c ∷ d ∷ rest) h = absurd h
+subpart_size _ h = omega arith
 
-module _ {held piece : List ℕ} {first : Option ℕ} {text part rest : List ℕ} {skipped : ℕ} (j : Joined held piece first text part rest skipped) where
+module _ {held piece : List ℕ} {first : Option ℕ} {text subpart rest : List ℕ} {skipped : ℕ} (j : Joined held piece first text subpart rest skipped) where
   abbrev lead : List ℕ
   lead = first_bytes first ++ text
 
@@ -55,7 +55,7 @@ module _ {held piece : List ℕ} {first : Option ℕ} {text part rest : List ℕ
   utf8 = IsUtf8-append (first_bytes first) text j.leads.0 j.utf8
 
   abbrev tail : List ℕ
-  tail = part ++ rest
+  tail = subpart ++ rest
 
   module _ {bytes : List ℕ} (s : StandsAfter held bytes) where
     module _ (none : text_len tail ≡ 0) where
@@ -83,36 +83,36 @@ module _ {held piece : List ℕ} {first : Option ℕ} {text part rest : List ℕ
         len = taken_len;
       }
 
-      taken_part : IsSubpart tail → Taken bytes piece first text (end_holding tail) tail
-      taken_part p =
-          let all : BeginsText (held ++ piece) = rw j.joins (BeginsText-append lead tail utf8 (BeginsText-part tail p)) in
+      taken_subpart : IsSubpart tail → Taken bytes piece first text (end_holding tail) tail
+      taken_subpart p =
+          let all : BeginsText (held ++ piece) = rw j.joins (BeginsText-append lead tail utf8 (BeginsText-subpart tail p)) in
           let stands : StandsAfter tail (bytes ++ piece) = record { rest = taken_rest; begins = begins_on bytes piece s.rest all } in
           (takes _ (ends_piece bytes piece _ (ends_holding bytes (bytes ++ piece) tail stands)), rw (after_holding bytes piece tail) stands)
 
-      taken_bad : (at : ℕ) → at < length rest → ending_of tail ≡ IsBad (length part + at) 0 → Taken bytes piece first text (Bad (skipped + at) (length part + at)) []
+      taken_bad : (at : ℕ) → at < length rest → ending_of tail ≡ IsBad (length subpart + at) 0 → Taken bytes piece first text (Bad (skipped + at) (length subpart + at)) []
       taken_bad at inside bad =
           let ending = rw (j.joins, ending_of-after lead tail utf8, bad) at (ending_on bytes piece s.rest) in
           let sizes = simp length-append at (ap length j.joins) in
           (takes _ (grind (arith, ending, sizes, taken_len, held_len s, j.sum, length-append (first_bytes first) text)), stands_new)
 
-    pub taken : (front : Front) (end : End) (left : List ℕ) → IsFront part rest front → EndsBy front skipped end left → Taken bytes piece first text end left
+    pub taken : (front : Front) (end : End) (left : List ℕ) → IsFront subpart rest front → EndsBy front skipped end left → Taken bytes piece first text end left
     taken (Char c len) end left is by = absurd by
-    taken (Begun carry) end left is by = rw (by.0, by.1, is.1) (taken_part (text_len-no_char tail (part_no_char tail is.0)) is.0)
+    taken (Begun carry) end left is by = rw (by.0, by.1, is.1) (taken_subpart (text_len-no_char tail (subpart_no_char tail is.0)) is.0)
     taken (BadFront at back) end left is by =
-        let next : suc (length part + at) ≡ length part + (at + 1) = omega arith in
-        let bad = broken_at tail (length part + at) (omega (arith, is.0, length-append part rest)) (rw take-append-add is.1) (λ b. is.2 (rw (next, take-append-add) at b)) in
+        let next : suc (length subpart + at) ≡ length subpart + (at + 1) = omega arith in
+        let bad = ill_formed_at tail (length subpart + at) (omega (arith, is.0, length-append subpart rest)) (rw take-append-add is.1) (λ b. is.2 (rw (next, take-append-add) at b)) in
         rw (by.0, by.1, is.3) (taken_bad bad.0 at is.0 bad.1)
 
   -- ---- how many bytes there are of each
 
-  pub counts : (front : Front) (end : End) (left : List ℕ) → IsFront part rest front → EndsBy front skipped end left → Counts held piece first text end left
+  pub counts : (front : Front) (end : End) (left : List ℕ) → IsFront subpart rest front → EndsBy front skipped end left → Counts held piece first text end left
   counts (Char c len) end left is by = absurd by
   counts (Begun carry) end [] is by = let sizes = simp length-append at (ap length (rw (← is.1, ← by.1) at j.joins)) in rw (by.0, ← by.1) (omega arith, refl)
   counts (Begun carry) end (a ∷ left) is by = let sizes = simp length-append at (ap length (rw (← is.1, ← by.1) at j.joins)) in rw (by.0, ← by.1) (omega arith, omega arith)
   counts (BadFront at back) end left is by =
       let sizes = simp length-append at (ap length j.joins) in
-      let front = length-append part (take at rest) in
-      rw by.0 (grind (arith, sizes, front, j.sum, length-take-le at rest, part_size (part ++ take at rest) is.1))
+      let front = length-append subpart (take at rest) in
+      rw by.0 (grind (arith, sizes, front, j.sum, length-take-le at rest, subpart_size (subpart ++ take at rest) is.1))
 
 -- ---- the piece from `from` on, after the first character
 

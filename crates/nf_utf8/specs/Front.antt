@@ -6,19 +6,19 @@ use Rattle.nf_utf8.specs.declared.front.Front.TheVariants.{Char, Begun, Bad}
 use Rattle.nf_utf8.specs.declared.chunk.End.{End}
 use Rattle.nf_utf8.specs.declared.chunk.End.TheVariants.{Bad as BadEnd}
 use Rattle.nf_utf8.specs.Text.{BeginsText}
-use Rattle.nf_utf8.specs.Part.{IsSubpart}
+use Rattle.nf_utf8.specs.Subpart.{IsSubpart}
 use Rattle.nf_utf8.specs.Carry.{bytes_of}
 use Rattle.nf_utf8.specs.Taking.{end_holding}
 
 abbrev pub IsFront : List ℕ → List ℕ → Front → Type 0
-IsFront part bytes (Char c len) = (len ≤ length bytes) × IsScalar c × (part ++ take len bytes ≡ encode_utf8 c)
-IsFront part bytes (Begun carry) = IsSubpart (part ++ bytes) × (bytes_of carry ≡ part ++ bytes)
-IsFront part bytes (Bad at back) = (at < length bytes) × IsSubpart (part ++ take at bytes) × (¬ BeginsText (part ++ take (at + 1) bytes)) × (back ≡ length part + at)
+IsFront subpart bytes (Char c len) = (len ≤ length bytes) × IsScalar c × (subpart ++ take len bytes ≡ encode_utf8 c)
+IsFront subpart bytes (Begun carry) = IsSubpart (subpart ++ bytes) × (bytes_of carry ≡ subpart ++ bytes)
+IsFront subpart bytes (Bad at back) = (at < length bytes) × IsSubpart (subpart ++ take at bytes) × (¬ BeginsText (subpart ++ take (at + 1) bytes)) × (back ≡ length subpart + at)
 
 -- the first character has its bytes after the part up to `from` of the piece, or there is no part and none
 abbrev pub Completes : List ℕ → List ℕ → Option ℕ → ℕ → Type 0
-Completes part piece None from = (part ≡ []) × (from ≡ 0)
-Completes part piece (Some c) from = (¬ (part ≡ [])) × IsFront part piece (Char c from)
+Completes subpart piece None from = (subpart ≡ []) × (from ≡ 0)
+Completes subpart piece (Some c) from = (¬ (subpart ≡ [])) × IsFront subpart piece (Char c from)
 
 -- what ends a piece after `skipped` bytes of it, and what is held then
 abbrev pub CanEnd : Front → ℕ → Type 0

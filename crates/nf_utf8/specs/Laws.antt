@@ -8,7 +8,7 @@ use Rattle.nf_utf8.specs.Reading.{text_len, text_of, rest_of, ending_of}
 use Rattle.nf_utf8.specs.Reads.{Reads}
 use Rattle.nf_utf8.specs.Taking.{first_text, Takes}
 use Rattle.nf_utf8.specs.Pushes.{Pushes}
-use Rattle.nf_utf8.specs.Replaced.{Part, replacement, own_parts, subpart_end, parts_of, replaced, bytes_in, begun_at_end, replaced_whole}
+use Rattle.nf_utf8.specs.Replaced.{Decoded, replacement, decoded_text, subpart_end, decoded_of, replaced, bytes_in, begun_at_end, replaced_whole}
 
 -- bytes read as the longest text that a front of them spells, with their ending, and as nothing else
 pub record ReadsLongestText : Type 0 where
@@ -43,16 +43,16 @@ pub record TakesAsPushed : Type 0 where
   pub end : (bytes piece text taken : List ℕ) (first : Option ℕ) (end stop : End) → BeginsText bytes → Pushes bytes bytes piece text end → Takes bytes piece first taken stop → end ≡ stop
 
 -- bytes read with one U+FFFD for each maximal subpart of an ill-formed sequence
-pub record ReplacesParts : Type 0 where
+pub record ReplacesSubparts : Type 0 where
   -- bytes that begin a text give that text
-  pub begun : (bytes : List ℕ) → BeginsText bytes → parts_of bytes ≡ own_parts (text_of bytes)
+  pub begun : (bytes : List ℕ) → BeginsText bytes → decoded_of bytes ≡ decoded_text (text_of bytes)
   -- others give the text before the bad byte, one part for what it breaks off, and what stands after that part
   pub bad : (bytes more : List ℕ) (at start : ℕ) → ending_of bytes ≡ Bad at start
-      → parts_of (bytes ++ more) ≡ own_parts (text_of bytes) ++ record { char = replacement; len = subpart_end at start - start } ∷ parts_of (drop (subpart_end at start) (bytes ++ more))
-  pub own_len : (x : List ℕ) → bytes_in (own_parts x) ≡ length (encode_utf8_all x)
-  pub own_chars : (x : List ℕ) → map (λ part. part.char) (own_parts x) ≡ x
-  pub joined : (a b : List Part) → bytes_in (a ++ b) ≡ bytes_in a + bytes_in b
-  pub within : (bytes : List ℕ) → bytes_in (parts_of bytes) ≤ length bytes
+      → decoded_of (bytes ++ more) ≡ decoded_text (text_of bytes) ++ record { char = replacement; len = subpart_end at start - start } ∷ decoded_of (drop (subpart_end at start) (bytes ++ more))
+  pub own_len : (x : List ℕ) → bytes_in (decoded_text x) ≡ length (encode_utf8_all x)
+  pub own_chars : (x : List ℕ) → map (λ decoded. decoded.char) (decoded_text x) ≡ x
+  pub joined : (a b : List Decoded) → bytes_in (a ++ b) ≡ bytes_in a + bytes_in b
+  pub within : (bytes : List ℕ) → bytes_in (decoded_of bytes) ≤ length bytes
   pub few : (bytes : List ℕ) → begun_at_end bytes ≤ 3
   pub text : (bytes : List ℕ) → IsText (replaced bytes)
   -- as `String::from_utf8_lossy` reads them

@@ -4,7 +4,7 @@ pub mod Reading
 pub mod Reads
 pub mod Laws
 pub mod Standing
-pub mod Part
+pub mod Subpart
 pub mod Carry
 pub mod Tells
 pub mod Front

@@ -18,12 +18,12 @@ unfoldable pub rest_of : List ℕ → List ℕ
 rest_of bytes = drop (text_len bytes) bytes
 
 -- of bytes that begin with no character: how many of them begin one
-abbrev pub part_len : List ℕ → ℕ
-part_len rest = if is_in_range 0xC2 0xF4 (slice_index rest 0) then utf8_invalid_len rest else 0
+abbrev pub subpart_len : List ℕ → ℕ
+subpart_len rest = if is_in_range 0xC2 0xF4 (slice_index rest 0) then utf8_invalid_len rest else 0
 
 -- the length of the longest front that begins a text
 abbrev pub begun_len : List ℕ → ℕ
-begun_len bytes = text_len bytes + part_len (drop (text_len bytes) bytes)
+begun_len bytes = text_len bytes + subpart_len (drop (text_len bytes) bytes)
 
 unfoldable pub ending_of : List ℕ → Ending
 ending_of bytes = if text_len bytes == length bytes then Whole

@@ -1,7 +1,7 @@
 ghost use Rattle.std.specs.Prelude.{◌≡◌, ◌≤◌, ◌↔◌, [], IsTrue, IsSome, IfSome, length, take};
-ghost use Rattle.nf_utf8.specs.Part.{IsSubpart};
+ghost use Rattle.nf_utf8.specs.Subpart.{IsSubpart};
 ghost use Rattle.nf_utf8.specs.Carry.{bytes_of};
-ghost use Rattle.nf_utf8.specs.Tells.{Tells, part_after};
+ghost use Rattle.nf_utf8.specs.Tells.{Tells, subpart_after};
 ghost use Rattle.nf_utf8.specs.Front.{IsFront};
 
 use crate::front::Front;
@@ -83,7 +83,7 @@ impl Carry {
     #[inline]
     pub fn after(self, byte: u8, step: Step) -> Carry
         requires { Tells (bytes_of self) byte step }
-        ensures { bytes_of result ≡ part_after (bytes_of self) byte step }
+        ensures { bytes_of result ≡ subpart_after (bytes_of self) byte step }
     {
         match step {
             Step::More => match self {

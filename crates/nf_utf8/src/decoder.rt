@@ -15,7 +15,7 @@ pub struct Decoder {
 
 impl Model for Decoder {
     ghost use Rattle.std.specs.Prelude.{ℕ, List};
-    ghost use Rattle.nf_utf8.specs.Part.{IsSubpart};
+    ghost use Rattle.nf_utf8.specs.Subpart.{IsSubpart};
     ghost use Rattle.nf_utf8.specs.Carry.{bytes_of, carry_of, carry_of-bytes_of};
 
     ghost Value = { List ℕ };
@@ -30,7 +30,7 @@ impl Model for Decoder {
 }
 
 impl Decoder {
-    ghost use Rattle.nf_utf8.specs.Part.{IsSubpart};
+    ghost use Rattle.nf_utf8.specs.Subpart.{IsSubpart};
     ghost use Rattle.nf_utf8.specs.declared.chunk.End.{End};
     ghost use Rattle.nf_utf8.specs.Reading.{text_of, ending_of};
     ghost use Rattle.nf_utf8.specs.Standing.{StandsAfter, Answers, bytes_after, ending_at};

@@ -1,6 +1,6 @@
 //! Laws of reading, each as the contract of a function that does nothing: a caller's proof has the law by a call.
 
-ghost use Rattle.nf_utf8.specs.Laws.{ReadsLongestText, SplitsBytes, ReadsBack, ReadsPieces, TakesAsPushed, ReplacesParts};
+ghost use Rattle.nf_utf8.specs.Laws.{ReadsLongestText, SplitsBytes, ReadsBack, ReadsPieces, TakesAsPushed, ReplacesSubparts};
 
 /// Bytes read as the longest text that a front of them spells, with their ending, and as nothing else.
 #[inline]
@@ -35,5 +35,5 @@ pub fn taken_as_pushed()
 /// Ill-formed bytes may be read as U+FFFD, one for each maximal subpart.
 #[inline]
 pub fn replacing()
-    ensures { ReplacesParts }
+    ensures { ReplacesSubparts }
 {}

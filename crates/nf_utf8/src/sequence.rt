@@ -2,7 +2,7 @@
 
 ghost use Rattle.std.specs.Prelude.{◌≡◌, ◌≤◌, [], ◌∷◌, ◌↔◌, IsTrue, encode_utf8};
 ghost use Rattle.std.specs.Int.{IsInRange};
-ghost use Rattle.nf_utf8.specs.Part.{IsSecond, IsContinuation, IsSubpart};
+ghost use Rattle.nf_utf8.specs.Subpart.{IsSecond, IsContinuation, IsSubpart};
 ghost use Rattle.nf_utf8.specs.Tells.{Tells};
 
 use crate::step::Step;

@@ -27,7 +27,7 @@ pub use Rattle.nf_safe.specs.Place.{place_from}
 pub use Rattle.nf_safe.specs.declared.place.Place.{Place}
 pub use Rattle.nf_vectors.specs.Limits.{limit, block}
 pub use Rattle.nf_vectors.specs.Columns.{Columns, each}
-pub use Rattle.nf_vectors.specs.Comparison.{leaves_format, holds, broken_column, holds_at}
+pub use Rattle.nf_vectors.specs.Comparison.{leaves_format, holds, failing_column, holds_at}
 pub use Rattle.nf_vectors.specs.Held.{columns_at, HoldsColumn}
 pub use Rattle.nf_vectors.specs.Judgement.{judgement, Bad, Nothing, Part, Row, columns_in}
 pub use Rattle.nf_vectors.specs.Line.{lines_of, is_line_end, is_semicolon, is_blank, is_gap}

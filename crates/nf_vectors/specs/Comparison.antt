@@ -31,8 +31,8 @@ abbrev pub holds_at : Form → Properties → Columns → Column → Bool
 holds_at f p row column = holds f p (at row column) (at row (expected f column))
 
 -- the first column of which the comparison does not hold
-abbrev pub broken_column : Form → Properties → Columns → Option Column
-broken_column f p row = find (λ column. not (holds_at f p row column)) (columns.Source ∷ columns.Nfc ∷ columns.Nfd ∷ columns.Nfkc ∷ columns.Nfkd ∷ [])
+abbrev pub failing_column : Form → Properties → Columns → Option Column
+failing_column f p row = find (λ column. not (holds_at f p row column)) (columns.Source ∷ columns.Nfc ∷ columns.Nfd ∷ columns.Nfkc ∷ columns.Nfkd ∷ [])
 
 -- what stands before its first unsound character leaves the Stream-Safe Text Format (UAX #15, section 13)
 abbrev pub leaves_format : Properties → List ℕ → Bool

@@ -10,10 +10,10 @@ use Rattle.nf_vectors.specs.declared.report.Verdict.{Verdict}
 use Rattle.nf_vectors.specs.declared.report.Verdict.TheVariants.{Skipped, Passed, Failed}
 use Rattle.nf_vectors.specs.Columns.{Columns, number_of}
 use Rattle.nf_vectors.specs.Suite.{VectorRow}
-use Rattle.nf_vectors.specs.Comparison.{broken_column, is_skipped}
+use Rattle.nf_vectors.specs.Comparison.{failing_column, is_skipped}
 
 abbrev pub failure_in : Form → Properties → ℕ → Columns → Option Failure
-failure_in f p line columns = option_map (λ column. record { line = line; form = f; column = number_of column }) (broken_column f p columns)
+failure_in f p line columns = option_map (λ column. record { line = line; form = f; column = number_of column }) (failing_column f p columns)
 
 -- the first comparison of a row that does not hold
 abbrev pub failure_of : Properties → ℕ → Columns → Option Failure

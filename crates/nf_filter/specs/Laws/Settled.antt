@@ -9,14 +9,14 @@ use Rattle.nf_forms.specs.Order.{by_class}
 use Rattle.nf_forms.specs.SafeForm.{safe_form}
 use Rattle.nf_safe.specs.LongestFront.{longest_front}
 use Rattle.nf_utf8.specs.Reading.{text_of, ending_of}
-use Rattle.nf_utf8.specs.Replaced.{parts_of, replaced}
+use Rattle.nf_utf8.specs.Replaced.{decoded_of, replaced}
 use Rattle.nf_filter.specs.declared.policy.Policy.{Policy}
 use Rattle.nf_filter.specs.Policy.{text_under, allowed}
 use Rattle.nf_filter.specs.Settled.{settled, is_usable, usable, settled_utf8}
 
 -- no characters
 pub text_under-none : (replace : Bool) → text_under replace [] ≡ []
-unfolding text_of ending_of replaced parts_of chars utf8_valid_len
+unfolding text_of ending_of replaced decoded_of chars utf8_valid_len
 text_under-none false = refl
 text_under-none true = refl
 

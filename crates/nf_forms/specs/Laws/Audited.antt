@@ -30,7 +30,7 @@ use Rattle.nf_forms.specs.Laws.Ordering.{ordering, order-only, order-order}
 use Rattle.nf_forms.specs.Laws.Sound.{IsSoundText}
 pub use Rattle.nf_forms.specs.Laws.StreamSafe.{list_all-stream_safe}
 use Rattle.nf_forms.specs.Laws.StreamSafe.{of_rows, stream_safe-push, longest-decomposed-push, longest-stream_safe-le}
-use Rattle.nf_forms.specs.Laws.Parting.{safe_step-room}
+use Rattle.nf_forms.specs.Laws.Boundary.{safe_step-room}
 
 pub scalars-all : (x : List ℕ) → all_scalars x ≡ list_all scalar x
 scalars-all [] = refl

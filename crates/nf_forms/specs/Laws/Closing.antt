@@ -10,14 +10,14 @@ use Rattle.nf_forms.specs.Compose.{composite, replaced, compose_step, compose}
 use Rattle.nf_forms.specs.declared.form.Form.{Form}
 use Rattle.nf_forms.specs.declared.form.Form.TheVariants.{Nfkd}
 use Rattle.nf_forms.specs.Forms.{decomposed, composes, arranged, finished, normal_form}
-use Rattle.nf_forms.specs.StreamSafe.{parted, safe_step, stream_safe}
+use Rattle.nf_forms.specs.StreamSafe.{with_room, safe_step, stream_safe}
 use Rattle.nf_forms.specs.SafeForm.{safe_form}
 use Rattle.nf_forms.specs.Closing.{IsClosing}
 use Rattle.nf_forms.specs.Laws.Runs.{trail-append, trail-marks, trail-push}
 use Rattle.nf_forms.specs.Laws.Order.{order_after-at, order-push_starter}
 use Rattle.nf_forms.specs.Laws.Compose.{compose_step-at, compose_step-none}
 use Rattle.nf_forms.specs.Laws.StreamSafe.{stream_safe-push, decomposed-append, decomposed-push}
-use Rattle.nf_forms.specs.Laws.Parting.{last_run, joined-none, step-never_second, step-after, safe_step-after}
+use Rattle.nf_forms.specs.Laws.Boundary.{last_run, joined-none, step-never_second, step-after, safe_step-after}
 
 module _ (p : Properties) where
   -- ---- decomposed text
@@ -80,7 +80,7 @@ module _ (p : Properties) where
     pub stream_safe-segments : stream_safe p ((x ++ c ∷ []) ++ y) ≡ stream_safe p (x ++ c ∷ []) ++ stream_safe p y
     stream_safe-segments =
         let out = stream_safe p (x ++ c ∷ []) in
-        let before = parted p (stream_safe p x) c in
+        let before = with_room p (stream_safe p x) c in
         let ends : last_run p out ≡ 0 =
         ap (last_run p) (stream_safe-push p x c)
         ∙ ap (trail p) (decomposed-push p Nfkd before c ∙ ap (λ row. decomposed Nfkd p before ++ row) h.compat)
@@ -93,7 +93,7 @@ module _ (p : Properties) where
     pub safe_form-segments : safe_form f p ((x ++ c ∷ []) ++ y) ≡ safe_form f p (x ++ c ∷ []) ++ safe_form f p y
     unfolding safe_form
     safe_form-segments =
-        let before = parted p (stream_safe p x) c in
+        let before = with_room p (stream_safe p x) c in
         let whole = stream_safe-push p x c in
         ap (normal_form f p) (stream_safe-segments ∙ ap (λ o. o ++ stream_safe p y) whole)
         ∙ normal_form-segments f c h before (stream_safe p y)

@@ -20,7 +20,7 @@ use Rattle.nf_forms.specs.Laws.Ordering.{order-ordered}
 use Rattle.nf_forms.specs.Laws.Compose.{compose-push, compose_step-at, joined-some, joined-starter}
 use Rattle.nf_forms.specs.Laws.Sound.{IsSoundText}
 use Rattle.nf_forms.specs.Laws.StreamSafe.{own_row, stream_safe-push, decomposed-push}
-use Rattle.nf_forms.specs.Laws.Parting.{safe_step-room}
+use Rattle.nf_forms.specs.Laws.Boundary.{safe_step-room}
 
 module _ (p : Properties) where
   pub row-own : (f : Form) (c : ℕ) → IsOwnRow p c → row_of f p c ≡ c ∷ []

@@ -22,7 +22,7 @@ use Rattle.nf_forms.specs.Laws.Order.{order-after, by_class-push, has_starter-by
 use Rattle.nf_forms.specs.Laws.Ordering.{by_class-ordered}
 use Rattle.nf_forms.specs.Laws.Starters.{has_starter-order}
 use Rattle.nf_forms.specs.Laws.Compose.{compose_step-at, compose_step-none, joined-starter}
-use Rattle.nf_forms.specs.Laws.Parting.{joined-none, step-after}
+use Rattle.nf_forms.specs.Laws.Boundary.{joined-none, step-after}
 
 module _ (p : Properties) where
   -- no member is of a class above k

@@ -10,7 +10,7 @@ use Rattle.nf_forms.specs.Forms.{row_of, composes, arranged, normal_form}
 use Rattle.nf_forms.specs.StreamSafe.{max_run}
 use Rattle.nf_forms.specs.SafeForm.{safe_form}
 use Rattle.nf_forms.specs.Sound.{is_sound}
-use Rattle.nf_forms.specs.Parting.{BeginsAnew, CountsAnew, IsBoundary, IsParting}
+use Rattle.nf_forms.specs.Boundary.{HasBoundaryBefore, ResetsCount, IsBoundary, IsOwnBoundary}
 use Rattle.nf_forms.specs.Span.{IsSpanFrom, IsSpan}
 use Rattle.nf_forms.specs.Segments.{HasForm}
 use Rattle.nf_forms.specs.Laws.Ordering.{order-ordered}
@@ -35,8 +35,8 @@ module _ (p : Properties) where
       next false n e = absurd (omega arith)
 
 module _ (p : Properties) (f : Form) where
-  pub parting-boundary : (c : ℕ) → IsParting p f c → IsBoundary p f c
-  parting-boundary c parting = record { anew = parting.anew; counts = parting.counts }
+  pub own_boundary-boundary : (c : ℕ) → IsOwnBoundary p f c → IsBoundary p f c
+  own_boundary-boundary c own_boundary = record { boundary_before = own_boundary.boundary_before; counts = own_boundary.counts }
 
   -- ---- a span
 
@@ -58,7 +58,7 @@ module _ (p : Properties) (f : Form) where
           first = c;
           rest = cs;
           text = refl;
-          boundary = parting-boundary c (span-begins p f c cs class count span);
+          boundary = own_boundary-boundary c (span-begins p f c cs class count span);
           sound = (and_parts (is_sound p c) _ sound).0;
         };
         sound = sound;
@@ -68,15 +68,15 @@ module _ (p : Properties) (f : Form) where
 
   -- ---- one character
 
-  pub counts_anew-lead : (c : ℕ) → is_sound p c ≡ true → lead p (p.compat c) ≡ 0 → CountsAnew p c
-  counts_anew-lead c sound none =
+  pub resets_count-lead : (c : ℕ) → is_sound p c ≡ true → lead p (p.compat c) ≡ 0 → ResetsCount p c
+  resets_count-lead c sound none =
       let begins = begins_in_starter p (p.compat c) (IsSound-from_test p c sound).compat_some none in
       record { lead = none; some = ap (has_starter p) begins.text ∙ or_left _ _ begins.starter }
 
   -- where the form does not compose, a text may be cut before each sound character whose compatibility row begins with a
   -- starter
   pub boundary-decomposing : composes f ≡ false → (c : ℕ) → is_sound p c ≡ true → lead p (p.compat c) ≡ 0 → IsBoundary p f c
-  boundary-decomposing plain c sound none = record { anew = anew f plain; counts = counts_anew-lead c sound none }
+  boundary-decomposing plain c sound none = record { boundary_before = boundary_before f plain; counts = resets_count-lead c sound none }
     where
       parts : IsSound p c
       parts = IsSound-from_test p c sound
@@ -87,11 +87,11 @@ module _ (p : Properties) (f : Form) where
       compat : BeginsInStarter p (p.compat c)
       compat = begins_in_starter p (p.compat c) parts.compat_some none
 
-      anew : (f : Form) → composes f ≡ false → BeginsAnew p f c
-      anew Nfc plain = cc
-      anew Nfd plain = record { first = canonical.first; rest = canonical.rest; row = canonical.text; starter = canonical.starter; never_second = λ is. cc }
-      anew Nfkc plain = cc
-      anew Nfkd plain = record { first = compat.first; rest = compat.rest; row = compat.text; starter = compat.starter; never_second = λ is. cc }
+      boundary_before : (f : Form) → composes f ≡ false → HasBoundaryBefore p f c
+      boundary_before Nfc plain = cc
+      boundary_before Nfd plain = record { first = canonical.first; rest = canonical.rest; row = canonical.text; starter = canonical.starter; never_second = λ is. cc }
+      boundary_before Nfkc plain = cc
+      boundary_before Nfkd plain = record { first = compat.first; rest = compat.rest; row = compat.text; starter = compat.starter; never_second = λ is. cc }
 
   -- and there the form of a character whose row is in order is that row
   pub HasForm-row : composes f ≡ false → (c : ℕ) → IsBoundary p f c → is_sound p c ≡ true → is_ordered p (row_of f p c) ≡ true → HasForm p f (c ∷ []) (row_of f p c)

@@ -9,14 +9,14 @@ use Rattle.nf_forms.specs.Forms.{normal_form}
 use Rattle.nf_forms.specs.StreamSafe.{stream_safe}
 use Rattle.nf_forms.specs.SafeForm.{safe_form}
 use Rattle.nf_forms.specs.Sound.{is_sound}
-use Rattle.nf_forms.specs.Parting.{IsBoundary}
+use Rattle.nf_forms.specs.Boundary.{IsBoundary}
 use Rattle.nf_forms.specs.Segments.{BeginsAtBoundary, HasForm}
 use Rattle.nf_forms.specs.Laws.Sound.{IsSoundText}
 use Rattle.nf_forms.specs.Laws.StreamSafe.{trail-stream_safe-le}
-use Rattle.nf_forms.specs.Laws.Parting.{safe_step-room, stream_safe-boundary, normal_form-boundary}
+use Rattle.nf_forms.specs.Laws.Boundary.{safe_step-room, stream_safe-boundary, normal_form-boundary}
 
 module _ (p : Properties) (f : Form) where
-  -- the count begins anew at a boundary, so the stream-safe text is cut there
+  -- the count is reset at a boundary, so the stream-safe text is cut there
   pub stream_safe-at_boundary : (x y : List ℕ) → IsSoundText p (stream_safe p x) → BeginsAtBoundary p f y → stream_safe p (x ++ y) ≡ stream_safe p x ++ stream_safe p y
   stream_safe-at_boundary x y sound begins =
       subst (λ k. stream_safe p (x ++ k) ≡ stream_safe p x ++ stream_safe p k) (sym begins.text)
@@ -25,7 +25,7 @@ module _ (p : Properties) (f : Form) where
   pub normal_form-at_boundary : (x y : List ℕ) → BeginsAtBoundary p f y → normal_form f p (x ++ y) ≡ normal_form f p x ++ normal_form f p y
   normal_form-at_boundary x y begins =
       subst (λ k. normal_form f p (x ++ k) ≡ normal_form f p x ++ normal_form f p k) (sym begins.text)
-      (normal_form-boundary p f begins.first begins.boundary.anew x begins.rest)
+      (normal_form-boundary p f begins.first begins.boundary.boundary_before x begins.rest)
 
   pub sound-append : (x y : List ℕ) → IsSoundText p x → IsSoundText p y → IsSoundText p (x ++ y)
   sound-append x y first second = list_all-append (is_sound p) x y ∙ and_from _ _ first second

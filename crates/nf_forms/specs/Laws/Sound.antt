@@ -71,6 +71,6 @@ module _ (p : Properties) where
       let parts = and_parts (list_all (is_sound p) o) (is_sound p c && true) (sym (list_all-append (is_sound p) o (c ∷ [])) ∙ sound) in
       (parts.0, (and_parts (is_sound p c) true parts.1).0)
 
-  -- after a starter that is its own row the count begins anew
+  -- after a starter that is its own row the count is reset
   pub lead-joiner : JoinerIsPlain p → lead p (p.compat joiner) ≡ 0
   lead-joiner plain = ap (lead p) plain.compat ∙ ap (λ k. cond (not (k == 0)) 1 0) plain.class

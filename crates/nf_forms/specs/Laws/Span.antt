@@ -15,9 +15,9 @@ use Rattle.nf_forms.specs.Laws.Front.{has_starter-at, front-append_some, marks_p
 use Rattle.nf_forms.specs.Laws.Sound.{IsSoundText}
 use Rattle.nf_forms.specs.Laws.StreamSafe.{own_row, stream_safe-push, decomposed-push, trail-decomposed-push, trail-stream_safe-le}
 use Rattle.nf_forms.specs.SafeForm.{safe_form}
-use Rattle.nf_forms.specs.Parting.{BeginsAnew, IsParting}
+use Rattle.nf_forms.specs.Boundary.{HasBoundaryBefore, IsOwnBoundary}
 use Rattle.nf_forms.specs.Span.{IsMark, BeginsRun, StaysAfter, CountsOn, GoesOn, IsSpanFrom, IsSpan}
-use Rattle.nf_forms.specs.Laws.Parting.{last_run, safe_step-room, normal_form-boundary}
+use Rattle.nf_forms.specs.Laws.Boundary.{last_run, safe_step-room, normal_form-boundary}
 use Rattle.nf_forms.specs.Laws.MarkAfter.{none_above, none_above-le, none_above-push, arranged-push_mark}
 
 module _ (p : Properties) where
@@ -44,20 +44,20 @@ module _ (p : Properties) where
   -- ---- one character more
 
   -- a starter, whose form alone is itself, and of which NFKD leaves room
-  passes-starter : (f : Form) (c count : ℕ) → is_starter p c ≡ true → BeginsAnew p f c → normal_form f p (c ∷ []) ≡ c ∷ [] → count ≤ max_run
+  passes-starter : (f : Form) (c count : ℕ) → is_starter p c ≡ true → HasBoundaryBefore p f c → normal_form f p (c ∷ []) ≡ c ∷ [] → count ≤ max_run
       → (k : ℕ) (x : List ℕ) → last_run p (stream_safe p x) + lead p (p.compat c) ≤ max_run → last_run p (stream_safe p x ++ c ∷ []) ≤ count → Passes f k count x (c ∷ [])
   unfolding safe_form
-  passes-starter f c count starts anew alone room k x fits counted =
+  passes-starter f c count starts boundary_before alone room k x fits counted =
       let out = stream_safe p x in
       let safe = stream_safe-push p x c ∙ safe_step-room p out c fits in
-      let text = ap (normal_form f p) safe ∙ normal_form-boundary p f c anew out [] ∙ ap (λ v. safe_form f p x ++ v) alone in
+      let text = ap (normal_form f p) safe ∙ normal_form-boundary p f c boundary_before out [] ∙ ap (λ v. safe_form f p x ++ v) alone in
       record {
         safe = safe;
         text = text;
         stands = record {
           some =
-              ap (λ v. has_starter p (decomposed f p v)) safe ∙ ap (has_starter p) (decomposed-push p f out c ∙ ap (λ v. decomposed f p out ++ v) anew.row)
-              ∙ has_starter-at p (decomposed f p out) anew.first anew.rest anew.starter;
+              ap (λ v. has_starter p (decomposed f p v)) safe ∙ ap (has_starter p) (decomposed-push p f out c ∙ ap (λ v. decomposed f p out ++ v) boundary_before.row)
+              ∙ has_starter-at p (decomposed f p out) boundary_before.first boundary_before.rest boundary_before.starter;
           before = safe_form f p x;
           starter = c;
           marks = [];
@@ -72,14 +72,14 @@ module _ (p : Properties) where
 
   passes-begin : (f : Form) (c count : ℕ) → BeginsRun p f c count → (k : ℕ) (x : List ℕ) → last_run p (stream_safe p x) ≤ max_run → Passes f k count x (c ∷ [])
   passes-begin f c count h k x room =
-      let parting = h.parting in
-      let count_is = trail-decomposed-push p Nfkd (stream_safe p x) c ∙ cond-true _ _ _ parting.counts.some in
-      passes-starter f c count parting.starts parting.anew parting.alone h.room k x (omega (arith, parting.counts.lead)) (omega (arith, count_is, h.counted))
+      let own_boundary = h.own_boundary in
+      let count_is = trail-decomposed-push p Nfkd (stream_safe p x) c ∙ cond-true _ _ _ own_boundary.counts.some in
+      passes-starter f c count own_boundary.starts own_boundary.boundary_before own_boundary.alone h.room k x (omega (arith, own_boundary.counts.lead)) (omega (arith, count_is, h.counted))
 
   passes-count : (f : Form) (n c count : ℕ) → CountsOn p f n c count → (k : ℕ) (x : List ℕ) → last_run p (stream_safe p x) ≤ n → Passes f k count x (c ∷ [])
   passes-count f n c count h k x so_far =
       let count_is = trail-decomposed-push p Nfkd (stream_safe p x) c ∙ cond-false _ _ _ h.none in
-      passes-starter f c count h.starts h.anew h.alone h.room k x (omega (arith, lead-marks p (p.compat c) h.none, h.counted, h.room)) (omega (arith, count_is, h.counted))
+      passes-starter f c count h.starts h.boundary_before h.alone h.room k x (omega (arith, lead-marks p (p.compat c) h.none, h.counted, h.room)) (omega (arith, count_is, h.counted))
 
   pub row-mark : (f : Form) (c k : ℕ) → IsMark p c k → row_of f p c ≡ c ∷ []
   row-mark f c k h = own_row p c h.canonical h.compat f
@@ -168,9 +168,9 @@ module _ (p : Properties) where
       let here = passes-begin f c span.1 (begins f span.0 c span.1 span.2) span.0 x room in
       passes-both f span.0 span.1 class count x (c ∷ []) cs here (passes-from f span.0 span.1 cs class count span.3 (x ++ c ∷ []) here.stands)
 
-  -- its first character parts a text
-  pub span-begins : (f : Form) (c : ℕ) (cs : List ℕ) (class count : ℕ) → IsSpan p f (c ∷ cs) class count → IsParting p f c
-  span-begins f c cs class count span = (begins f span.0 c span.1 span.2).parting
+  -- its first character is an own boundary
+  pub span-begins : (f : Form) (c : ℕ) (cs : List ℕ) (class count : ℕ) → IsSpan p f (c ∷ cs) class count → IsOwnBoundary p f c
+  span-begins f c cs class count span = (begins f span.0 c span.1 span.2).own_boundary
 
   -- ---- the laws
 

@@ -13,7 +13,7 @@ use Rattle.nf_forms.specs.Runs.{has_starter, lead, trail, longest}
 use Rattle.nf_forms.specs.declared.form.Form.{Form}
 use Rattle.nf_forms.specs.declared.form.Form.TheVariants.{Nfc, Nfd, Nfkc, Nfkd}
 use Rattle.nf_forms.specs.Forms.{row_of, decomposed}
-use Rattle.nf_forms.specs.StreamSafe.{joiner, max_run, is_too_long, parted, safe_step, stream_safe}
+use Rattle.nf_forms.specs.StreamSafe.{joiner, max_run, is_too_long, with_room, safe_step, stream_safe}
 use Rattle.nf_forms.specs.Sound.{max_row, is_sound}
 use Rattle.nf_forms.specs.Laws.Last.{by_last}
 use Rattle.nf_forms.specs.Laws.Runs.{lead-le-length, trail-le-length, lead-append, trail-marks, trail-append, trail-push, longest-append}
@@ -64,7 +64,7 @@ module _ (p : Properties) where
           let members = and_parts _ _ (sym (list_all-append test x (c ∷ [])) ∙ all) in
           let out = stream_safe p x in
           ap (list_all test) (stream_safe-push x c)
-          ∙ push (parted p out c) c (parts (is_too_long p out c) out (before members.0)) (and_parts _ _ members.1).0
+          ∙ push (with_room p out c) c (parts (is_too_long p out c) out (before members.0)) (and_parts _ _ members.1).0
 
   -- where the joiner is sound, the process puts nothing unsound
   pub sound-stream_safe : is_sound p joiner ≡ true → (x : List ℕ) → IsSoundText p x → IsSoundText p (stream_safe p x)
@@ -73,7 +73,7 @@ module _ (p : Properties) where
   -- where a step puts nothing unsound, what stood before is sound, and the joiner is plain if it is put
   pub sound-safe_step : (o : List ℕ) (c : ℕ) → IsSoundText p (safe_step p o c)
       → IsSoundText p o × (is_too_long p o c ≡ true → JoinerIsPlain p)
-  sound-safe_step o c sound = next (is_too_long p o c) (sound_last p (parted p o c) c sound).0
+  sound-safe_step o c sound = next (is_too_long p o c) (sound_last p (with_room p o c) c sound).0
     where
       next : (b : Bool) → IsSoundText p (if b then o ++ joiner ∷ [] else o) → IsSoundText p o × (b ≡ true → JoinerIsPlain p)
       next true sound = let members = sound_last p o joiner sound in (members.0, λ _. JoinerIsPlain-from_sound p members.1)
@@ -108,10 +108,10 @@ module _ (p : Properties) where
   trail-decomposed-le f o sound = of_rows (λ row. trail p (flat_map row o) ≤ trail p (decomposed Nfkd p o)) (canonical-le o sound) (omega arith) f
 
   -- before c, and a joiner where it needs one, there is room for the run that c begins with
-  pub trail-parted-le : (o : List ℕ) (c : ℕ) → IsSoundText p (safe_step p o c)
-      → trail p (decomposed Nfkd p (parted p o c)) + lead p (p.compat c) ≤ max_run
-  trail-parted-le o c sound =
-      next (is_too_long p o c) refl (IsSound-from_test p c (sound_last p (parted p o c) c sound).1) (sound_last p (parted p o c) c sound).0
+  pub trail-with_room-le : (o : List ℕ) (c : ℕ) → IsSoundText p (safe_step p o c)
+      → trail p (decomposed Nfkd p (with_room p o c)) + lead p (p.compat c) ≤ max_run
+  trail-with_room-le o c sound =
+      next (is_too_long p o c) refl (IsSound-from_test p c (sound_last p (with_room p o c) c sound).1) (sound_last p (with_room p o c) c sound).0
     where
       next : (b : Bool) → is_too_long p o c ≡ b → IsSound p c → IsSoundText p (if b then o ++ joiner ∷ [] else o)
           → trail p (decomposed Nfkd p (if b then o ++ joiner ∷ [] else o)) + lead p (p.compat c) ≤ max_run
@@ -126,18 +126,18 @@ module _ (p : Properties) where
 
   -- while c's row goes on after the output, the last run stays within the limit in every form
   pub trail-take-le : (f : Form) (o : List ℕ) (c n : ℕ) → IsSoundText p (safe_step p o c)
-      → trail p (decomposed f p (parted p o c) ++ take n (row_of f p c)) ≤ max_run
+      → trail p (decomposed f p (with_room p o c) ++ take n (row_of f p c)) ≤ max_run
   trail-take-le f o c n sound =
-      let members = sound_last p (parted p o c) c sound in
+      let members = sound_last p (with_room p o c) c sound in
       let row = IsSound-from_test p c members.1 in
       let piece = take n (row_of f p c) in
       let few : length (take n (row_of f p c)) ≤ max_row = of_rows (λ row_of. length (take n (row_of c)) ≤ max_row)
       (omega (arith, length-take n (p.canonical c), row.canonical_few)) (omega (arith, length-take n (p.compat c), row.compat_few)) f in
       let leads : lead p (row_of f p c) ≤ lead p (p.compat c) = of_rows (λ row_of. lead p (row_of c) ≤ lead p (p.compat c)) row.lead_within (omega arith) f in
-      subst (λ t. t ≤ max_run) (sym (trail-append p (decomposed f p (parted p o c)) piece))
+      subst (λ t. t ≤ max_run) (sym (trail-append p (decomposed f p (with_room p o c)) piece))
       (cond_both (has_starter p piece) _ _ (λ t. t ≤ max_run)
       (λ some. omega (arith, trail-le-length p piece, few))
-      (λ none. omega (arith, length-take-le-lead n (row_of f p c) none, leads, trail-decomposed-le f (parted p o c) members.0, trail-parted-le o c sound)))
+      (λ none. omega (arith, length-take-le-lead n (row_of f p c) none, leads, trail-decomposed-le f (with_room p o c) members.0, trail-with_room-le o c sound)))
 
   pub trail-stream_safe-le : (f : Form) (x : List ℕ) → IsSoundText p (stream_safe p x)
       → trail p (decomposed f p (stream_safe p x)) ≤ max_run
@@ -149,9 +149,9 @@ module _ (p : Properties) where
           let out = stream_safe p x in
           let whole = ap (λ o. list_all (is_sound p) o) (sym (stream_safe-push x c)) ∙ sound in
           let here = trail-take-le f out c (length (row_of f p c)) whole in
-          let same : trail p (decomposed f p (stream_safe p (x ++ c ∷ []))) ≡ trail p (decomposed f p (parted p out c) ++ take (length (row_of f p c)) (row_of f p c)) =
-          ap (λ o. trail p (decomposed f p o)) (stream_safe-push x c) ∙ ap (trail p) (decomposed-push f (parted p out c) c)
-          ∙ ap (λ row. trail p (decomposed f p (parted p out c) ++ row)) (sym (take-length (row_of f p c))) in
+          let same : trail p (decomposed f p (stream_safe p (x ++ c ∷ []))) ≡ trail p (decomposed f p (with_room p out c) ++ take (length (row_of f p c)) (row_of f p c)) =
+          ap (λ o. trail p (decomposed f p o)) (stream_safe-push x c) ∙ ap (trail p) (decomposed-push f (with_room p out c) c)
+          ∙ ap (λ row. trail p (decomposed f p (with_room p out c) ++ row)) (sym (take-length (row_of f p c))) in
           omega (arith, here, same)
 
   pub longest-le-length : (w : List ℕ) → longest p w ≤ length w
@@ -167,13 +167,13 @@ module _ (p : Properties) where
       more x c before sound =
           let out = stream_safe p x in
           let whole = ap (λ o. list_all (is_sound p) o) (sym (stream_safe-push x c)) ∙ sound in
-          let members = sound_last p (parted p out c) c whole in
+          let members = sound_last p (with_room p out c) c whole in
           omega (
             arith,
             ap (λ o. longest p (decomposed Nfkd p o)) (stream_safe-push x c),
-            longest-decomposed-push Nfkd (parted p out c) c,
+            longest-decomposed-push Nfkd (with_room p out c) c,
             after (is_too_long p out c) members.0,
-            trail-parted-le out c whole,
+            trail-with_room-le out c whole,
             longest-le-length (p.compat c),
             (IsSound-from_test p c members.1).compat_few,
           )

@@ -8,7 +8,7 @@ use Rattle.nf_forms.specs.declared.form.Form.TheVariants.{Nfkd}
 use Rattle.nf_forms.specs.Front.{front}
 use Rattle.nf_forms.specs.Runs.{has_starter}
 use Rattle.nf_forms.specs.Sound.{is_sound}
-use Rattle.nf_forms.specs.Parting.{IsBoundary}
+use Rattle.nf_forms.specs.Boundary.{IsBoundary}
 use Rattle.nf_forms.specs.Forms.{row_of, decomposed, composes, finished, normal_form}
 use Rattle.nf_forms.specs.StreamSafe.{stream_safe}
 use Rattle.nf_forms.specs.SafeForm.{safe_form}
@@ -17,7 +17,7 @@ use Rattle.nf_forms.specs.Laws.Sound.{IsSoundText}
 use Rattle.nf_forms.specs.Laws.StreamSafe.{decomposed-append}
 use Rattle.nf_forms.specs.Laws.Runs.{has_starter-append}
 use Rattle.nf_forms.specs.Laws.Front.{front-append_some}
-use Rattle.nf_forms.specs.Laws.Parting.{last_run, run-after, has_starter-arranged}
+use Rattle.nf_forms.specs.Laws.Boundary.{last_run, run-after, has_starter-arranged}
 use Rattle.nf_forms.specs.Laws.Segments.{stream_safe-at_boundary, normal_form-at_boundary, sound-append, sound-segments, HasForm-alone}
 use Rattle.nf_pending.specs.StandsAfter.{StandsAfter as PendingStandsAfter}
 use Rattle.nf_pending.specs.Laws.After.{stands-after}
@@ -69,8 +69,8 @@ module _ (p : Properties) where
 
       some : has_starter p (normal_form f p (stream_safe p (boundary.first ∷ more))) ≡ true
       some =
-          ap (λ w. has_starter p (finished f p w)) (rows_is f ∙ ap (λ row. row ++ decomposed f p grown.more) boundary.boundary.anew.row)
-          ∙ has_starter-arranged p (composes f) boundary.boundary.anew.first (boundary.boundary.anew.rest ++ decomposed f p grown.more) boundary.boundary.anew.starter
+          ap (λ w. has_starter p (finished f p w)) (rows_is f ∙ ap (λ row. row ++ decomposed f p grown.more) boundary.boundary.boundary_before.row)
+          ∙ has_starter-arranged p (composes f) boundary.boundary.boundary_before.first (boundary.boundary.boundary_before.rest ++ decomposed f p grown.more) boundary.boundary.boundary_before.starter
 
       pub settled_text-after : encode_utf8_all (safe_form f p x) ++ settled_text f p (boundary.first ∷ more) ≡ settled_text f p (x ++ boundary.first ∷ more)
       unfolding settled safe_form
@@ -98,7 +98,7 @@ module _ (p : Properties) where
         plain = anew.plain;
         count = anew.count ∙ sym (ap (last_run p) safe ∙ run-after p (stream_safe p x) (stream_safe p (boundary.first ∷ more)) counts);
         pending = subst (PendingStandsAfter f p normalizer.pending) (sym rows)
-            (stands-after f p normalizer.pending (decomposed f p (stream_safe p x)) (decomposed f p grown.more) boundary.first boundary.boundary.anew
+            (stands-after f p normalizer.pending (decomposed f p (stream_safe p x)) (decomposed f p grown.more) boundary.first boundary.boundary.boundary_before
             (subst (PendingStandsAfter f p normalizer.pending) (rows_is f) anew.pending));
       }
         where

@@ -1,4 +1,4 @@
--- A machine that was begun anew at a character that parts a text stands after all of the text.
+-- A machine that was begun anew at an own boundary stands after all of the text.
 use Rattle.std.proofs.Common.{◌≡◌, ℕ, Bool, true, false, ◌||◌, List, [], ◌∷◌, ◌++◌, Option, Some, None, refl, sym, ap, ◌∙◌, append_assoc}
 use Rattle.std.proofs.lemmas.Bool.{cond-true, or_left}
 use Rattle.std.specs.Prelude.{is_some}
@@ -8,11 +8,11 @@ use Rattle.nf_forms.specs.Runs.{has_starter}
 use Rattle.nf_forms.specs.Front.{front, back}
 use Rattle.nf_forms.specs.declared.form.Form.{Form}
 use Rattle.nf_forms.specs.Forms.{row_of, composes, finished}
-use Rattle.nf_forms.specs.Parting.{BeginsAnew}
+use Rattle.nf_forms.specs.Boundary.{HasBoundaryBefore}
 use Rattle.nf_forms.specs.Laws.Runs.{has_starter-append, trail-append}
 use Rattle.nf_forms.specs.Laws.Front.{front-append-back, back-at}
 use Rattle.nf_forms.specs.Laws.Settling.{back-starter, has_starter-head}
-use Rattle.nf_forms.specs.Laws.Parting.{arranged-boundary}
+use Rattle.nf_forms.specs.Laws.Boundary.{arranged-boundary}
 use Rattle.nf_pending.specs.declared.pending.Pending.{Pending}
 use Rattle.nf_pending.specs.StandsAfter.{StandsAfter}
 
@@ -25,7 +25,7 @@ first_of : (p : Properties) (first : ℕ) (rest head run : List ℕ) → first �
 first_of p first rest [] run e some = cc
 first_of p first rest (x ∷ more) run e some = (more, cc)
 
-pub stands-after : (f : Form) (p : Properties) (pending : Pending) (w v : List ℕ) (c : ℕ) → BeginsAnew p f c → StandsAfter f p pending (row_of f p c ++ v)
+pub stands-after : (f : Form) (p : Properties) (pending : Pending) (w v : List ℕ) (c : ℕ) → HasBoundaryBefore p f c → StandsAfter f p pending (row_of f p c ++ v)
     → StandsAfter f p pending (w ++ (row_of f p c ++ v))
 stands-after f p pending w v c r s = record {
   head = w ++ s.head;

@@ -7,7 +7,7 @@ use Rattle.nf_forms.specs.Properties.{Properties}
 use Rattle.nf_forms.specs.declared.form.Form.TheVariants.{Nfkd}
 use Rattle.nf_forms.specs.Runs.{lead, trail}
 use Rattle.nf_forms.specs.Forms.{decomposed}
-use Rattle.nf_forms.specs.StreamSafe.{joiner, max_run, is_too_long, parted, safe_step, stream_safe}
+use Rattle.nf_forms.specs.StreamSafe.{joiner, max_run, is_too_long, with_room, safe_step, stream_safe}
 use Rattle.nf_forms.specs.Sound.{max_row}
 use Rattle.nf_forms.specs.Laws.Runs.{trail-le-length, lead-marks, trail-append}
 use Rattle.nf_forms.specs.Laws.StreamSafe.{decomposed-push, trail-decomposed-joiner, sound-safe_step}
@@ -41,14 +41,14 @@ module _ (p : Properties) where
       → trail p (decomposed Nfkd p (safe_step p out c)) ≡ count_step p (trail p (decomposed Nfkd p out)) (p.compat c)
   trail-decomposed-safe_step out c plain =
       let put : is_too_long p out c ≡ true → trail p (decomposed Nfkd p (out ++ joiner ∷ [])) ≡ 0 = λ long. trail-decomposed-joiner p (plain long) Nfkd out in
-      grind (arith, put, trail-decomposed-counted (parted p out c) c)
+      grind (arith, put, trail-decomposed-counted (with_room p out c) c)
 
   -- where the process gives sound characters alone, those before it and the text's own are sound
   pub sound-fold : (out x : List ℕ) → IsSoundText p (fold (safe_step p) out x) → IsSoundText p out × IsSoundText p x
   sound-fold out [] sound = (sound, refl)
   sound-fold out (c ∷ x) sound =
       let parts = sound-fold (safe_step p out c) x sound in
-      ((sound-safe_step p out c parts.0).0, and_from _ _ (sound_last p (parted p out c) c parts.0).1 parts.1)
+      ((sound-safe_step p out c parts.0).0, and_from _ _ (sound_last p (with_room p out c) c parts.0).1 parts.1)
 
   -- so the rows since the last joiner tell what the NFKD of the whole output ends in
   trail-fold : (out joined x : List ℕ) → trail p (decomposed Nfkd p out) ≡ trail p joined → IsSoundText p (fold (safe_step p) out x)

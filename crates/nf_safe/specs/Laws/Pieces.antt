@@ -58,10 +58,10 @@ module _ (p : Properties) where
       is_in_format-short p (c ∷ []) (omega (arith, longest-le-length p (p.compat c ++ []), length-append (p.compat c) [], (IsSound-from_test p c sound).compat_few))
 
   -- where one character more leaves the format, a joiner goes before it, and the rest is filtered alone
-  parted-after : (piece : List ℕ) (d : ℕ) (rest : List ℕ) → IsSoundText p (stream_safe p (piece ++ d ∷ rest))
+  put-after : (piece : List ℕ) (d : ℕ) (rest : List ℕ) → IsSoundText p (stream_safe p (piece ++ d ∷ rest))
       → is_in_format p piece ≡ true → is_in_format p (piece ++ d ∷ []) ≡ false
       → stream_safe p (piece ++ d ∷ rest) ≡ piece ++ joiner ∷ stream_safe p (d ∷ rest)
-  parted-after piece d rest sound inside out =
+  put-after piece d rest sound inside out =
       let put = piece ++ joiner ∷ [] in
       let d_sound = (and_parts _ _ (sound-parts piece (d ∷ rest) (sound-source (piece ++ d ∷ rest) sound)).1).0 in
       let long : is_too_long p piece d ≡ true =
@@ -99,7 +99,7 @@ module _ (p : Properties) where
       from [] text after before = absurd (omega (arith, after.2, ap length after.1, length-append next after.0))
       from (d ∷ rest) text after before =
           let len = cut.3 ∙ ap (longest_front (is_in_format p)) text in
-          let whole = parted-after piece d rest (ap (λ v. list_all (is_sound p) (stream_safe p v)) (sym text) ∙ sound) (piece-inside piece (d ∷ rest) len) (piece-ends piece d rest len) in
+          let whole = put-after piece d rest (ap (λ v. list_all (is_sound p) (stream_safe p v)) (sym text) ∙ sound) (piece-inside piece (d ∷ rest) len) (piece-ends piece d rest len) in
           let split = ap (stream_safe p) text ∙ whole in
           split ∙ ap (λ v. piece ++ joiner ∷ v) (before (and_parts _ _ (sound-parts piece _ (ap (list_all (is_sound p)) (sym split) ∙ sound)).1).1)
 

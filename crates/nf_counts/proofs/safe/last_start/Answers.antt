@@ -38,9 +38,9 @@ pub loop-from-preserved-then-run-lt-LANES : goal.loop-from-preserved-then-run-lt
 loop-from-preserved-then-run-lt-LANES c =
     let before = c.loop-from.invariant in
     let text = c.args.text.now in
-    let next = c.loop-from.from + c.before_start-run.result in
+    let next = c.loop-from.from + c.before_next_start-run.result in
     let within : next < length text = omega (arith, ap length before.bytes, c.loop-from-test.true, c.if-run-lt-LANES.true) in
-    let starts : starts_at text next ≡ true = grind (arith, rw before.bytes at (c.before_start-run.ensures.stops (omega arith))) in
+    let starts : starts_at text next ≡ true = grind (arith, rw before.bytes at (c.before_next_start-run.ensures.stops (omega arith))) in
     record {
       bytes = before.bytes;
       stands = stands_on c.every_character_is_sound.ensures.character text c.loop-from.at next c.utf8.text before.stands (omega (arith, before.order)) (omega (arith, before.near)) within starts;

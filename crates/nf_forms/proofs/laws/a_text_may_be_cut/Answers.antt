@@ -1,4 +1,4 @@
-use Rattle.nf_forms.specs.Laws.Parting.{finished-boundary, safe_form-boundary, safe_form-alone, front-push}
+use Rattle.nf_forms.specs.Laws.Boundary.{finished-boundary, safe_form-boundary, safe_form-alone, front-push}
 use Rattle.nf_forms.proofs.laws.a_text_may_be_cut.Goals as goal
 
 pub returns-clause-row : goal.returns-clause-row

@@ -13,5 +13,5 @@ plain _ = refl
 pub returns : goal.returns
 returns c = λ policy f base lines rest.
     let reading : Reading = record { longest = c.longest_text.ensures; split = c.split.ensures; back = c.read_back.ensures; replacing = c.replacing.ensures } in
-    lines_alone ucd c.every_character_is_sound.ensures.character reading f (c.the_quick_check_tells.ensures.parting f line_feed (c.plain_ranges_pass.ensures f line_feed (plain f)))
+    lines_alone ucd c.every_character_is_sound.ensures.character reading f (c.the_quick_check_tells.ensures.own_boundary f line_feed (c.plain_ranges_pass.ensures f line_feed (plain f)))
     (c.lines_are_formed_alone.ensures.closing f) policy base lines rest

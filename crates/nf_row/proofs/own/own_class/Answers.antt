@@ -17,9 +17,9 @@ row_is : (p : Properties) (c : ℕ) (row : List ℕ) → is_starter p c ≡ true
 row_is p c row starts is =
     let same : order p row ≡ c ∷ [] = rw append-nil at is in order-one p c row (rw (← (starters-order p row), same, starts)) same
 
-pub returns-in-Parts-kind_of : goal.returns-in-Parts-kind_of
-returns-in-Parts-kind_of g c =
+pub returns-in-Boundary-kind_of : goal.returns-in-Boundary-kind_of
+returns-in-Boundary-kind_of g c =
     let p = g.R.Rows.properties c.args.rows.now in
-    let compat = c.in-Parts.ensures in
-    let canonical = c.in-Parts-kind_of.ensures in
+    let compat = c.in-Boundary.ensures in
+    let canonical = c.in-Boundary-kind_of.ensures in
     grind (arith, nat_tests, row_is p c.args.c (p.canonical c.args.c), row_is p c.args.c (p.compat c.args.c))

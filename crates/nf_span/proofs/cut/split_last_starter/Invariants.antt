@@ -1,5 +1,5 @@
 use Rattle.std.proofs.Common.{length}
-use Rattle.nf_span.specs.Parts.{MarksAfter}
+use Rattle.nf_span.specs.Split.{MarksAfter}
 use Rattle.nf_span.proofs.cut.split_last_starter.Given as goal
 
 abbrev pub invariant-loop-c : goal.invariant-loop-c

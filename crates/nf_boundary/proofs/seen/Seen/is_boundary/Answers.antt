@@ -8,4 +8,4 @@ returns-then-not-composes c = search (rules, boundary_apart)
 pub returns-else-not-composes : goal.returns-else-not-composes
 returns-else-not-composes c = λ passes.
     let is : c.args.self.answer ≡ Yes = search rules in
-    search (rules, boundary_composing, c.the_quick_check_tells.ensures.parting c.args.form)
+    search (rules, boundary_composing, c.the_quick_check_tells.ensures.own_boundary c.args.form)

@@ -12,4 +12,4 @@ returns c =
       text_utf8 = c.utf8.text;
       class = sym (c.hangul_letters_are_their_own_rows.ensures.starter letter low (omega arith));
       answer = sym (c.leading_consonants_pass.ensures c.args.form letter low high);
-    } in (refl, boundary_leading c.args.form _ sees c.every_character_is_sound.ensures.character (c.the_quick_check_tells.ensures.parting c.args.form) low high refl refl)
+    } in (refl, boundary_leading c.args.form _ sees c.every_character_is_sound.ensures.character (c.the_quick_check_tells.ensures.own_boundary c.args.form) low high refl refl)

@@ -1,6 +1,6 @@
 use Rattle.nf_normalized.proofs.Common.{append_assoc, [], ◌∷◌, ◌⊎◌, ◌≡◌, ◌<◌, ◌+◌, ◌++◌, ◌^◌, Bool, false, ℕ, List, IsTrue, inr, length, sym, ◌∙◌, arith, is_some, Ok, Err, length-append, false_from_ne_true, ∥∥₁_elim, ∥∥₁_map, le_prop, result_err, ucd, Form, fault_in, state_of, base_of, is_spent, offset_of, spent, too_long, ill_formed, unassigned, TooLong, under, filter_state, left, Holds, StandsAfter-offset}
 use Rattle.nf_normalized.proofs.CheckerLemmas.{written, held_few}
-use Rattle.nf_normalized.proofs.CallLemmas.{stable, room, Call, piece_kinds, parted_decides, split_now, unparted_decides}
+use Rattle.nf_normalized.proofs.CallLemmas.{stable, room, Call, piece_kinds, other_decides, split_now, alike_decides}
 use Rattle.nf_normalized.proofs.checker.FormChecker.feed.Goals as goal
 use Rattle.nf_normalized.proofs.checker.FormChecker.feed.Goals.{After-feed-fed}
 
@@ -35,10 +35,10 @@ place_after-requires c =
     ∥∥₁_elim (c.args.self.now.holds (grind arith) (grind (arith, refused))) (hlevel le_prop)
     (λ h. room (seen at h.holds (λ long. refused (inr long))) (omega (arith, fits, StandsAfter-offset h.holds.filter, length-append h.bytes c.args.piece.now)))
 
-pub returns-then-has_parted-clause-decides : goal.returns-then-has_parted-clause-decides
-returns-then-has_parted-clause-decides c = λ assigned f base bytes stands other.
-    let at = (goal.at.returns-then-has_parted-clause-decides c).After-feed-fed in
-    rw (← stands.base_is) (parted_decides (seen at stands.holds (λ long. grind (arith, c.feed-fed.ensures.kept (inr long)))) (cc) c.place_after.result c.place_after.ensures)
+pub returns-then-has_differed-clause-decides : goal.returns-then-has_differed-clause-decides
+returns-then-has_differed-clause-decides c = λ assigned f base bytes stands other.
+    let at = (goal.at.returns-then-has_differed-clause-decides c).After-feed-fed in
+    rw (← stands.base_is) (other_decides (seen at stands.holds (λ long. grind (arith, c.feed-fed.ensures.kept (inr long)))) (cc) c.place_after.result c.place_after.ensures)
 
 pub returns-in-Err-clause-faults : goal.returns-in-Err-clause-faults
 returns-in-Err-clause-faults c =
@@ -50,7 +50,7 @@ returns-in-Err-clause-faults c =
 
 pub returns-in-Err-clause-decides : goal.returns-in-Err-clause-decides
 returns-in-Err-clause-decides c = λ assigned f base bytes stands other.
-    rw (← stands.base_is) (rw c.in-Err.is at (unparted_decides (seen (goal.at.returns-in-Err-clause-decides c).After-feed-fed stands.holds (λ e. other (cc))) (cc)))
+    rw (← stands.base_is) (rw c.in-Err.is at (alike_decides (seen (goal.at.returns-in-Err-clause-decides c).After-feed-fed stands.holds (λ e. other (cc))) (cc)))
 
 pub joined-self-requires : goal.joined-self-requires
 joined-self-requires c =
@@ -70,7 +70,7 @@ invariant_of-self-2 c = record {
 
 pub returns-clause-decides : goal.returns-clause-decides
 returns-clause-decides c = λ assigned f base bytes stands other.
-    rw (← stands.base_is) (rw c.in_default.is at (unparted_decides (seen (goal.at.returns-clause-decides c).After-feed-fed stands.holds (λ e. cc)) (cc)))
+    rw (← stands.base_is) (rw c.in_default.is at (alike_decides (seen (goal.at.returns-clause-decides c).After-feed-fed stands.holds (λ e. cc)) (cc)))
 
 pub returns-clause-stands : goal.returns-clause-stands
 returns-clause-stands c = λ assigned f base bytes stands ok. record {

@@ -1,9 +1,9 @@
 use Rattle.nf_normalized.proofs.Common.{refl, nat_tests, [], ◌∷◌, ◌≡◌, Bool, false, ℕ, List, sym, ◌∙◌, arith, append_assoc, append-nil, ∥∥₁_elim, le_prop, ucd, Form, ending_of, answer_at_end, base_of, final_utf8, end_of, tally_of, spent, under, filter_state, Holds, StandsAfter-offset}
 use Rattle.nf_filter.specs.Kinds.{cut}
 use Rattle.nf_normalized.proofs.CheckerLemmas.{no_fault_parts}
-use Rattle.nf_normalized.proofs.CallLemmas.{stable, room, Call, told, Due, done_end, short_end, parted_end}
+use Rattle.nf_normalized.proofs.CallLemmas.{stable, room, Call, told, Due, done_end, short_end, other_end}
 use Rattle.nf_normalized.proofs.checker.FormChecker.finish.Goals as goal
-use Rattle.nf_normalized.proofs.checker.FormChecker.finish.Goals.{After-finish-finished, then-not-has_parted+in_default+else-is_at_end, else-not-has_parted}
+use Rattle.nf_normalized.proofs.checker.FormChecker.finish.Goals.{After-finish-finished, then-not-has_differed+in_default+else-is_at_end, else-not-has_differed}
 
 module _ (c : After-finish-finished) {assigned : Bool} {f : Form} {bytes : List ℕ} (holds : Holds assigned f (filter_state c.args.self) c.args.self.held.items bytes) where
   -- what was seen of the call, where the filter stood after these bytes
@@ -51,8 +51,8 @@ pub returns-clause-decides : goal.returns-clause-decides
 returns-clause-decides c = λ assigned f base bytes stands.
     let at = (goal.at.returns-clause-decides c).After-finish-finished in
     let call = seen at stands.holds in
-    rw (← stands.base_is) (elim c.if-not-has_parted.branch [
-      | then-not-has_parted+in_default+else-is_at_end w ↦
+    rw (← stands.base_is) (elim c.if-not-has_differed.branch [
+      | then-not-has_differed+in_default+else-is_at_end w ↦
           short_end call (cc) (grind (arith, nat_tests)) c.place_after.result c.place_after.ensures _ _ (due at stands.holds) (sym w.in_default.is ∙ told call (cc))
-      | else-not-has_parted w ↦ parted_end call (cc) c.place_after.result c.place_after.ensures _ (due at stands.holds)
+      | else-not-has_differed w ↦ other_end call (cc) c.place_after.result c.place_after.ensures _ (due at stands.holds)
     ])

@@ -1,6 +1,6 @@
 use Rattle.nf_normalized.proofs.Common.{[], ◌∙◌, refl, arith, append-nil, state_of, Holds}
 use Rattle.nf_filter.specs.Laws.Settled.{settled_utf8-none}
-use Rattle.nf_normalized.proofs.CheckerLemmas.{unparted}
+use Rattle.nf_normalized.proofs.CheckerLemmas.{alike}
 use Rattle.nf_normalized.proofs.BytesLemmas.{Known}
 use Rattle.nf_normalized.proofs.checker.FormChecker.new.Goals as goal
 use Rattle.nf_normalized.proofs.checker.FormChecker.new.Goals.{After-new}
@@ -22,5 +22,5 @@ returns-clause-stands c =
     let base_is = c.policy-filter.ensures.base ∙ c.quickest.ensures.base in
     let stands = holds (goal.at.returns-clause-stands c).After-new in
     let known : Known = grind (arith, c.split.ensures, c.read_back.ensures, c.pieces.ensures, c.each_form_changes_a_text_once.ensures) in
-    let decides = unparted known c.args.assigned c.args.form [] c.args.base c.new.result.items stands.split in
+    let decides = alike known c.args.assigned c.args.form [] c.args.base c.new.result.items stands.split in
     record { none = refl; base_is = base_is; holds = stands; undecided = grind (arith, decides, base_is, stands.filter.no_fault) }

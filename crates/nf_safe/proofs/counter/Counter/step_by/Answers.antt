@@ -2,7 +2,7 @@ use Rattle.nf_safe.proofs.Common.{arith, trail-since_last-push}
 use Rattle.std.proofs.lemmas.Bool.Decides.{nat_tests}
 use Rattle.nf_forms.specs.Laws.Runs.{lead-marks}
 use Rattle.nf_safe.proofs.counter.Counter.step_by.Goals as goal
-use Rattle.nf_safe.proofs.counter.Counter.step_by.Goals.{then-k, else-k+then-begins_anew, else-k+else-begins_anew}
+use Rattle.nf_safe.proofs.counter.Counter.step_by.Goals.{then-k, else-k+then-is_too_long, else-k+else-is_too_long}
 
 pub returns-clause-answer : goal.returns-clause-answer
 returns-clause-answer c = λ p row ends. grind (arith, nat_tests)

@@ -16,7 +16,7 @@ returns-then-not-is_halfwidth_mark-clause-goes_on c =
     let starter = eq-eqb (canonical_combining_class c.args.c) 0 (sym looked.class ∙ c.if-class-eq0.true) in
     let is = ap (λ f. quick_check f c.args.c) (sym c.in_tables.ensures) ∙ sym looked.answer ∙ c.in_default-Yes.is-1 in
     let other = not_from_false _ (sym c.is_halfwidth_mark.ensures ∙ c.if-not-is_halfwidth_mark.true) in
-    inl (begins_run ucd c.args.form c.args.c (c.the_quick_check_tells.ensures.parting c.args.form c.args.c (and_from _ _ (and_from _ _ starter (ap is_yes is)) other))
+    inl (begins_run ucd c.args.form c.args.c (c.the_quick_check_tells.ensures.own_boundary c.args.form c.args.c (and_from _ _ (and_from _ _ starter (ap is_yes is)) other))
     (c.every_character_is_sound.ensures.character c.args.c))
 
 pub returns-then-class-eq0-clause-goes_on : goal.returns-then-class-eq0-clause-goes_on
@@ -30,8 +30,8 @@ returns-then-class-eq0-clause-goes_on c =
     let once = c.some_starters_count_as_marks.ensures.once x among in
     IfSome_then c.counted.result c.counted.ensures.counts (λ next counts. inr (inr (record {
       starts = eq-eqb _ 0 class;
-      anew = c.what_passes_begins_anew.ensures.anew f x class passes;
-      alone = c.what_passes_begins_anew.ensures.alone f x passes;
+      boundary_before = c.what_passes_has_a_boundary_before.ensures.boundary_before f x class passes;
+      alone = c.what_passes_has_a_boundary_before.ensures.alone f x passes;
       some = omega (arith, once);
       none = c.some_starters_count_as_marks.ensures.none x (or_left _ _ among);
       counted = omega (arith, once, counts.1);

@@ -20,6 +20,6 @@ returns-clause-span c = λ text here.
     let u = IsUtf8-take rest len here.rest_utf8 (boundary form rest len c.requires.within c.requires.begins) in
     reaches_past_piece here c.range_from.utf8 front u
     (sym whole ∙ ap (λ t. front ++ t) (sym c.range_from.ensures.value))
-    (span_from-plain form (λ x passes. begins_run ucd form x (c.the_quick_check_tells.ensures.parting form x (c.plain_ranges_pass.ensures form x passes)) (c.every_character_is_sound.ensures.character x))
+    (span_from-plain form (λ x passes. begins_run ucd form x (c.the_quick_check_tells.ensures.own_boundary form x (c.plain_ranges_pass.ensures form x passes)) (c.every_character_is_sound.ensures.character x))
     c.args.self.marks.class c.args.self.marks.count front (drop len rest) u (omega (arith, long))
     (λ k inside. rw whole (c.requires.plain k (omega (arith, long)))))

@@ -1,7 +1,7 @@
 use Rattle.std.proofs.Common.{chars, drop_at}
 use Rattle.nf_boundary.proofs.Common.{ucd, span-front, rules, refl, ◌∙◌, IsUtf8-append}
 use Rattle.nf_boundary.proofs.PieceLemmas.{seam, stands_end}
-use Rattle.nf_boundary.proofs.parting.boundary_after.Goals as goal
+use Rattle.nf_boundary.proofs.after_span.boundary_after.Goals as goal
 
 pub returns : goal.returns
 returns c = search (rules, stands_end, c.requires.text, c.requires.is_span, c.in-Some.ensures.0, c.in-Some.ensures.1)

@@ -1,4 +1,4 @@
--- A text cut before a character that parts it: its order, composition, form, stream-safe text and both together.
+-- A text cut before an own boundary: its order, composition, form, stream-safe text and both together.
 use Rattle.std.proofs.Common.{◌≡◌, ℕ, ◌≤◌, ◌+◌, Bool, true, false, nat_lt, List, [], ◌∷◌, ◌++◌, Option, Some, None, refl, sym, ap, subst, ◌∙◌, ⊎_elim, arith, append-nil, append_assoc, le-ltb}
 use Rattle.std.proofs.lemmas.Bool.{cond_both, cases_Bool, cond-true, cond-false, or_left}
 use Rattle.std.proofs.lemmas.List.Sums.{fold-append}
@@ -13,7 +13,7 @@ use Rattle.nf_forms.specs.declared.form.Form.TheVariants.{Nfkd}
 use Rattle.nf_forms.specs.Forms.{row_of, decomposed, composes, arranged, finished, normal_form}
 use Rattle.nf_forms.specs.StreamSafe.{joiner, max_run, is_too_long, safe_step, stream_safe}
 use Rattle.nf_forms.specs.SafeForm.{safe_form}
-use Rattle.nf_forms.specs.Parting.{BeginsAnew, CountsAnew, IsParting}
+use Rattle.nf_forms.specs.Boundary.{HasBoundaryBefore, ResetsCount, IsOwnBoundary}
 use Rattle.nf_forms.specs.Laws.Runs.{has_starter-append, trail-append}
 use Rattle.nf_forms.specs.Laws.Front.{has_starter-at, front-at, EndsInGroup, last_starter}
 use Rattle.nf_forms.specs.Laws.Order.{order_after-at}
@@ -96,13 +96,13 @@ module _ (p : Properties) where
       let alone = order-first s v starts in
       ap (λ k. has_starter p (compose p k)) alone.1 ∙ fold-some (s ∷ []) alone.0 (or_left _ _ starts)
 
-  pub finished-boundary : (f : Form) (c : ℕ) → BeginsAnew p f c → (w v : List ℕ) → finished f p (w ++ (row_of f p c ++ v)) ≡ finished f p w ++ finished f p (row_of f p c ++ v)
+  pub finished-boundary : (f : Form) (c : ℕ) → HasBoundaryBefore p f c → (w v : List ℕ) → finished f p (w ++ (row_of f p c ++ v)) ≡ finished f p w ++ finished f p (row_of f p c ++ v)
   finished-boundary f c r w v =
       ap (λ row. finished f p (w ++ (row ++ v))) r.row
       ∙ arranged-boundary (composes f) w r.first (r.rest ++ v) r.starter r.never_second
       ∙ ap (λ row. finished f p w ++ finished f p (row ++ v)) (sym r.row)
 
-  pub normal_form-boundary : (f : Form) (c : ℕ) → BeginsAnew p f c → (x y : List ℕ) → normal_form f p (x ++ c ∷ y) ≡ normal_form f p x ++ normal_form f p (c ∷ y)
+  pub normal_form-boundary : (f : Form) (c : ℕ) → HasBoundaryBefore p f c → (x y : List ℕ) → normal_form f p (x ++ c ∷ y) ≡ normal_form f p x ++ normal_form f p (c ∷ y)
   normal_form-boundary f c r x y =
       ap (finished f p) (decomposed-append p f x (c ∷ y)) ∙ finished-boundary f c r (decomposed f p x) (decomposed f p y)
 
@@ -144,17 +144,17 @@ module _ (p : Properties) where
   pub safe_step-room : (o : List ℕ) (c : ℕ) → last_run o + lead p (p.compat c) ≤ max_run → safe_step p o c ≡ o ++ c ∷ []
   safe_step-room o c room = ap (λ k. k ++ c ∷ []) (cond-false _ _ _ (le-ltb max_run (last_run o + lead p (p.compat c)) room))
 
-  step-anew : (o : List ℕ) (c : ℕ) → CountsAnew p c → last_run o ≤ max_run → safe_step p o c ≡ o ++ c ∷ []
-  step-anew o c h room = let begins = h.lead in safe_step-room o c (omega arith)
+  step-reset : (o : List ℕ) (c : ℕ) → ResetsCount p c → last_run o ≤ max_run → safe_step p o c ≡ o ++ c ∷ []
+  step-reset o c h room = let begins = h.lead in safe_step-room o c (omega arith)
 
-  pub stream_safe-boundary : (c : ℕ) → CountsAnew p c → (x y : List ℕ) → last_run (stream_safe p x) ≤ max_run → stream_safe p (x ++ c ∷ y) ≡ stream_safe p x ++ stream_safe p (c ∷ y)
+  pub stream_safe-boundary : (c : ℕ) → ResetsCount p c → (x y : List ℕ) → last_run (stream_safe p x) ≤ max_run → stream_safe p (x ++ c ∷ y) ≡ stream_safe p x ++ stream_safe p (c ∷ y)
   stream_safe-boundary c h x y room =
       let out = stream_safe p x in
       let some : has_starter p (p.compat c ++ []) ≡ true = ap (has_starter p) (append-nil (p.compat c)) ∙ h.some in
       fold-append (safe_step p) [] x (c ∷ y)
-      ∙ ap (λ k. fold (safe_step p) k y) (step-anew out c h room)
+      ∙ ap (λ k. fold (safe_step p) k y) (step-reset out c h room)
       ∙ safe-after out (c ∷ []) y some
-      ∙ ap (λ k. out ++ fold (safe_step p) k y) (sym (step-anew [] c h (omega arith)))
+      ∙ ap (λ k. out ++ fold (safe_step p) k y) (sym (step-reset [] c h (omega arith)))
 
   -- ---- both: the form of the stream-safe text
 
@@ -170,28 +170,28 @@ module _ (p : Properties) where
       step o d true = (joiner ∷ d ∷ [], append_assoc o (joiner ∷ []) (d ∷ []))
       step o d false = (d ∷ [], refl)
 
-  safe_from : (c : ℕ) (y : List ℕ) → CountsAnew p c → (rest : List ℕ) × (stream_safe p (c ∷ y) ≡ c ∷ rest)
+  safe_from : (c : ℕ) (y : List ℕ) → ResetsCount p c → (rest : List ℕ) × (stream_safe p (c ∷ y) ≡ c ∷ rest)
   safe_from c y h =
       let rest = keeps (c ∷ []) y in
-      (rest.0, ap (λ k. fold (safe_step p) k y) (step-anew [] c h (omega arith)) ∙ rest.1)
+      (rest.0, ap (λ k. fold (safe_step p) k y) (step-reset [] c h (omega arith)) ∙ rest.1)
 
   -- the text may be cut before it, and each part filtered alone
-  pub safe_form-boundary : (f : Form) (c : ℕ) → IsParting p f c → (x y : List ℕ) → IsSoundText p (stream_safe p x) → safe_form f p (x ++ c ∷ y) ≡ safe_form f p x ++ safe_form f p (c ∷ y)
+  pub safe_form-boundary : (f : Form) (c : ℕ) → IsOwnBoundary p f c → (x y : List ℕ) → IsSoundText p (stream_safe p x) → safe_form f p (x ++ c ∷ y) ≡ safe_form f p x ++ safe_form f p (c ∷ y)
   unfolding safe_form
   safe_form-boundary f c h x y sound =
       let from = safe_from c y h.counts in
       ap (normal_form f p)
       (stream_safe-boundary c h.counts x y (trail-stream_safe-le p Nfkd x sound) ∙ ap (λ k. stream_safe p x ++ k) from.1)
-      ∙ normal_form-boundary f c h.anew (stream_safe p x) from.0
+      ∙ normal_form-boundary f c h.boundary_before (stream_safe p x) from.0
       ∙ ap (λ k. safe_form f p x ++ normal_form f p k) (sym from.1)
 
-  pub safe_form-alone : (f : Form) (c : ℕ) → IsParting p f c → safe_form f p (c ∷ []) ≡ c ∷ []
+  pub safe_form-alone : (f : Form) (c : ℕ) → IsOwnBoundary p f c → safe_form f p (c ∷ []) ≡ c ∷ []
   unfolding safe_form
-  safe_form-alone f c h = ap (normal_form f p) (step-anew [] c h.counts (omega arith)) ∙ h.alone
+  safe_form-alone f c h = ap (normal_form f p) (step-reset [] c h.counts (omega arith)) ∙ h.alone
 
-  pub safe_form-push : (f : Form) (c : ℕ) → IsParting p f c → (x : List ℕ) → IsSoundText p (stream_safe p x) → safe_form f p (x ++ c ∷ []) ≡ safe_form f p x ++ c ∷ []
+  pub safe_form-push : (f : Form) (c : ℕ) → IsOwnBoundary p f c → (x : List ℕ) → IsSoundText p (stream_safe p x) → safe_form f p (x ++ c ∷ []) ≡ safe_form f p x ++ c ∷ []
   safe_form-push f c h x sound = safe_form-boundary f c h x [] sound ∙ ap (λ k. safe_form f p x ++ k) (safe_form-alone f c h)
 
   -- it settles all that stands before it
-  pub front-push : (f : Form) (c : ℕ) → IsParting p f c → (x : List ℕ) → IsSoundText p (stream_safe p x) → front p (safe_form f p (x ++ c ∷ [])) ≡ safe_form f p x
+  pub front-push : (f : Form) (c : ℕ) → IsOwnBoundary p f c → (x : List ℕ) → IsSoundText p (stream_safe p x) → front p (safe_form f p (x ++ c ∷ [])) ≡ safe_form f p x
   front-push f c h x sound = ap (front p) (safe_form-push f c h x sound) ∙ front-at p (safe_form f p x) c [] h.starts refl
