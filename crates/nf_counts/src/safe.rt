@@ -11,6 +11,9 @@ use nf_facts::laws;
 use nf_lanes::LANES;
 use nf_utf8::ascii_prefix;
 
+/// So many times pairs are asked at once after lead bytes told nothing: that they may again is not to be guessed each time.
+const PAIRED_STEPS: u8 = 8;
+
 /// A text in four: what stands before a starter, a front from there on that is in the Stream-Safe Text Format (UAX #15, section
 /// 13), its last character, a starter too, and the rest.
 #[derive(Clone, Copy, Debug)]
@@ -68,19 +71,20 @@ fn last_start(text: &str) -> usize
     let bytes = text.as_bytes();
     let mut at = ascii_prefix(bytes).saturating_sub(1);
     let mut from = at;
-    let mut by_pairs = false;
+    let mut paired_steps: u8 = 0;
     while bytes.len() - from > 2 * LANES {
-        let run = before_next_start(bytes, from, by_pairs);
+        let run = before_next_start(bytes, from, paired_steps > 0);
         if run < LANES {
             at = from + run;
             from += LANES - 1;
+            paired_steps = paired_steps.saturating_sub(1);
         } else {
             let Some(place) = far_start(bytes, at) else {
                 break;
             };
             at = place;
             from = place;
-            by_pairs = true;
+            paired_steps = PAIRED_STEPS;
         }
     }
     at

@@ -13,6 +13,8 @@ pub mod ChunkLemmas
 pub mod FedLemmas
 pub mod ReadingLemmas
 pub mod FilterLemmas
+pub mod CommonLemmas
+pub mod ComparingLemmas
 pub mod FinishLemmas
 pub mod StandingLemmas
 pub mod FeedingLemmas

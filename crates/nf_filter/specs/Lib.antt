@@ -1,5 +1,7 @@
 pub mod Kinds
 pub mod Devices
+pub mod InCommon
+pub mod Comparing
 pub mod Writes
 pub mod ToWriter
 pub mod FromReader

@@ -3,6 +3,7 @@
 
 mod block;
 mod checking;
+mod comparing;
 mod counted;
 mod devices;
 mod driving;
@@ -27,6 +28,7 @@ mod to_writer;
 mod whole;
 
 pub use checking::{check, check_buffered};
+pub use comparing::Comparing;
 pub use devices::{Failed, Sink, Source};
 pub use driving::{drive, drive_buffered, run};
 pub use fault::Fault;

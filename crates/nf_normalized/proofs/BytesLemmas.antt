@@ -1,7 +1,7 @@
 -- Bytes and the texts that they spell.
 use Rattle.nf_normalized.proofs.Common.{◌≡◌, nat_tests, common_steps, list_all-append, ℕ, false, List, [], ◌∷◌, ◌++◌, length, take, drop, refl, sym, ap, ◌∙◌, arith, append_assoc, append-nil, length-append, encode_utf8_all, and_parts, take_at, length-take, take-append-drop, encodes-append, ucd, Form, ChangesOnce, text_of, rest_of, IsText, SplitsBytes, ReadsBack, ReadsPieces, common, goes_on_with}
 use Rattle.nf_filter.proofs.ReadingLemmas.{text_of-none}
-use Rattle.nf_normalized.proofs.CommonLemmas.{common-le-left, take-common, common-after, common-front}
+use Rattle.nf_filter.proofs.CommonLemmas.{common-le-left, take-common, common-after, common-front}
 
 -- what is known of bytes and of the forms
 pub record Known : Type 0 where

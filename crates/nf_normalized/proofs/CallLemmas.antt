@@ -5,8 +5,8 @@ use Rattle.nf_filter.specs.Faults.{IsOfFeeding}
 use Rattle.nf_filter.specs.Laws.Soundness.{AreSound}
 use Rattle.nf_filter.proofs.SoundnessLemmas.{not_a_fault}
 use Rattle.nf_normalized.proofs.BytesLemmas.{Known, Shares, departs, text_of-encodes}
-use Rattle.nf_normalized.proofs.CommonLemmas.{common-front}
-use Rattle.nf_normalized.proofs.WroteLemmas.{Wrote, gave, other_written, unfailed, all_written}
+use Rattle.nf_filter.proofs.CommonLemmas.{common-front}
+use Rattle.nf_filter.proofs.ComparingLemmas.{Wrote, gave, other_written, unfailed, all_written}
 use Rattle.nf_normalized.proofs.CheckerLemmas.{written, written_is, is_text, after, alike}
 
 -- a fault is of some kinds where it cannot be of none

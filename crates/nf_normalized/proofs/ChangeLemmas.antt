@@ -1,6 +1,6 @@
 -- Where a form changes a text.
 use Rattle.nf_normalized.proofs.Common.{common_steps, ◌≡◌, ◌↔◌, ℕ, ◌<◌, ◌≤◌, List, [], ◌++◌, length, take, drop, ap, ◌∙◌, arith, Some, IsTrue, normal_form, append_assoc, append-nil, bytes_eq-Decides, take-length, length-append, take_at, take_all, take-append-le, take-append-drop, Form, decomposed, stream_safe, safe_form, front, back, ucd, front-append-back, IsSoundText, decomposed-append, Place, is_in_format, settled, SettledOnlyGrows, common, change_at, settled_change_at}
-use Rattle.nf_normalized.proofs.CommonLemmas.{common-le-right, take-common, common-front, common-within}
+use Rattle.nf_filter.proofs.CommonLemmas.{common-le-right, take-common, common-front, common-within}
 
 -- ---- a settled place stays
 

@@ -33,13 +33,14 @@ pub use Rattle.nf_forms.specs.Laws.StreamSafe.{decomposed-append, decomposed-pus
 pub use Rattle.nf_forms.specs.Order.{order, by_class}
 unfoldable pub use Rattle.nf_forms.specs.Ucd.{ucd}
 pub use Rattle.nf_forms.specs.declared.form.Form.TheVariants.{Nfkc}
-pub use Rattle.nf_normalized.specs.Bytes.{goes_on_with}
 unfoldable pub use Rattle.nf_normalized.specs.Change.{change_at, form_decision}
-pub use Rattle.nf_normalized.specs.Change.{common, under, made_of, form_value, settled_change_at}
+pub use Rattle.nf_normalized.specs.Change.{under, made_of, form_value, settled_change_at}
 pub use Rattle.nf_normalized.specs.Checker.{filter_state, IsOfPiece}
-pub use Rattle.nf_normalized.specs.Comparing.{same, left, HasRoom, IsAfter, preface, given, taken, sink_state}
+pub use Rattle.nf_filter.specs.Comparing.{same, left, given, taken, sink_state}
+pub use Rattle.nf_filter.specs.InCommon.{common, goes_on_with}
+pub use Rattle.nf_normalized.specs.Places.{HasRoom, IsAfter}
 pub use Rattle.nf_normalized.specs.Holds.{Holds}
-pub use Rattle.nf_normalized.specs.declared.comparing.Comparing.{Comparing}
+pub use Rattle.nf_filter.specs.declared.comparing.Comparing.{Comparing}
 pub use Rattle.nf_safe.specs.Place.{place_at}
 pub use Rattle.nf_utf8.specs.Ending.{Cut as CutOff}
 pub use Rattle.nf_utf8.specs.Laws.{ReadsPieces}

@@ -1,10 +1,7 @@
 pub mod Common
-pub mod CommonLemmas
 pub mod KeptLemmas
 pub mod ChangeLemmas
 pub mod BytesLemmas
-pub mod ComparingLemmas
-pub mod WroteLemmas
 pub mod CheckerLemmas
 pub mod CallLemmas
 pub mod MarkLemmas

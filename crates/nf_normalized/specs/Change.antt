@@ -1,5 +1,5 @@
 -- Where a form changes a text (The Unicode Standard, section 3.11; UAX #15, sections 9 and 13).
-use Rattle.std.specs.Prelude.{ℕ, suc, ◌==◌, Bool, List, [], ◌∷◌, length, take, Option, Some, None, Result, if◌then◌else◌, bytes_eq, false}
+use Rattle.std.specs.Prelude.{ℕ, Bool, List, length, take, Option, Some, None, Result, if◌then◌else◌, bytes_eq, false}
 use Rattle.nf_forms.specs.Ucd.{ucd}
 use Rattle.nf_forms.specs.declared.form.Form.{Form}
 use Rattle.nf_forms.specs.SafeForm.{safe_form}
@@ -12,12 +12,7 @@ use Rattle.nf_filter.specs.Policy.{allowed}
 use Rattle.nf_filter.specs.Faults.{fault_in}
 use Rattle.nf_filter.specs.Settled.{settled, usable}
 use Rattle.nf_filter.specs.Checks.{place_or_fault}
-
--- how many characters two texts have in common at their front
-abbrev pub common : List ℕ → List ℕ → ℕ
-common [] y = 0
-common (a ∷ x) [] = 0
-common (a ∷ x) (b ∷ y) = if a == b then suc (common x y) else 0
+use Rattle.nf_filter.specs.InCommon.{common}
 
 -- where in x, the first byte of which has the offset `base`, the form is another text: at its end where the form only goes on; none
 -- where x is its own form

@@ -1,5 +1,4 @@
 pub mod Change
-pub mod Bytes
-pub mod Comparing
+pub mod Places
 pub mod Holds
 pub mod Checker

@@ -2,14 +2,14 @@
 ghost use Rattle.std.specs.Prelude.{◌≡◌, ◌+◌, ◌≤◌, ◌++◌, false, length, None};
 ghost use Rattle.nf_filter.specs.Filter.{state_of, is_spent};
 ghost use Rattle.nf_normalized.specs.Holds.{HoldsSome};
-ghost use Rattle.nf_normalized.specs.Comparing.{same, HasRoom, IsAfter};
+ghost use Rattle.nf_filter.specs.Comparing.{same};
+ghost use Rattle.nf_normalized.specs.Places.{HasRoom, IsAfter};
 
-use crate::comparing::Comparing;
 use crate::counting::text_in;
 use crate::laws::little_is_kept;
 use arrayvec::ArrayVec;
 use nf_facts::laws::{each_form_changes_a_text_once, every_character_is_sound};
-use nf_filter::{Fault, Filter, Policy};
+use nf_filter::{Comparing, Fault, Filter, Policy};
 use nf_row::{Form, Ucd};
 use nf_safe::Place;
 use nf_utf8::laws::{longest_text, pieces, read_back, replacing, split};

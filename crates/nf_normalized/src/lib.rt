@@ -7,7 +7,6 @@
 
 mod checker;
 mod checking;
-mod comparing;
 mod counting;
 pub mod laws;
 

@@ -10,9 +10,6 @@ use std::simd::prelude::*;
 /// The bytes that are looked at together.
 const LANES: usize = 32;
 
-/// Those that are, where fewer are left, so that a short text costs little.
-const SMALL_BLOCK: usize = 8;
-
 /// How many characters a text has: as many as it has bytes that begin one.
 #[inline(never)]
 pub fn char_count(text: &str) -> usize
@@ -25,7 +22,7 @@ pub fn char_count(text: &str) -> usize
         count += starts(u8x32::from_slice(&bytes[at..]));
         at += LANES;
     }
-    count + starts_by_few(&bytes[at..])
+    count + starts_by_bytes(&bytes[at..])
 }
 
 /// How many of the lanes begin a character.
@@ -34,29 +31,6 @@ fn starts(lanes: u8x32) -> usize
     ensures { result ≡ count_by is_char_start lanes }
 {
     let starts = lanes.simd_lt(u8x32::splat(0x80)) | lanes.simd_ge(u8x32::splat(0xC0));
-    starts.to_bitmask().count_ones() as usize
-}
-
-/// How many of the bytes begin a character, a few at a time.
-#[inline]
-fn starts_by_few(bytes: &[u8]) -> usize
-    ensures { result ≡ count_by is_char_start bytes.now }
-{
-    let mut at = 0;
-    let mut count = 0;
-    while bytes.len() - at >= SMALL_BLOCK {
-        count += starts_of_few(u8x8::from_slice(&bytes[at..]));
-        at += SMALL_BLOCK;
-    }
-    count + starts_by_bytes(&bytes[at..])
-}
-
-/// How many of these few lanes begin a character.
-#[inline(always)]
-fn starts_of_few(lanes: u8x8) -> usize
-    ensures { result ≡ count_by is_char_start lanes }
-{
-    let starts = lanes.simd_lt(u8x8::splat(0x80)) | lanes.simd_ge(u8x8::splat(0xC0));
     starts.to_bitmask().count_ones() as usize
 }
 

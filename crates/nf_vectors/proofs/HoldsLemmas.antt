@@ -1,8 +1,7 @@
 -- What the filter gives of a text to a sink that compares, and whether that is as expected.
-use Rattle.nf_vectors.proofs.Common.{inl, inr, ◌≡◌, ℕ, true, ◌&&◌, List, [], None, refl, arith, sym, ◌∙◌, append-nil, bytes_eq, encode_utf8_all, IsUtf8, Result, is_ok, bytes_eq-Decides, encodes_same, Properties, Form, safe_form, is_usable, holds}
-use Rattle.std.proofs.Math.Seq.{take-append_seam}
+use Rattle.nf_vectors.proofs.Common.{inl, inr, ◌≡◌, ℕ, ◌==◌, true, false, not, ◌&&◌, List, [], ◌∷◌, ◌++◌, None, is_some, length, take-append-drop, refl, sym, ap, ◌∙◌, arith, length-append, append-nil, bytes_eq, encode_utf8_all, IsUtf8, Result, is_ok, bytes_eq-Decides, encodes_same, Properties, Form, safe_form, is_usable, holds}
+use Rattle.std.proofs.lemmas.Bool.{cases_Bool}
 use Rattle.std.proofs.lemmas.List.{append_cancel_left}
-use Rattle.std.specs.Io.KnownBytes.{Appends}
 use Rattle.std.specs.Str.{chars}
 use Rattle.std.specs.Str.Lossy.{utf8_valid_len}
 use Rattle.nf_utf8.specs.Text.{IsText}
@@ -17,12 +16,30 @@ use Rattle.nf_filter.specs.Finishes.{end_of}
 use Rattle.nf_filter.specs.Whole.{Converts, whole_answer, whole_utf8}
 use Rattle.nf_filter.proofs.FilterLemmas.{write_or_kept}
 use Rattle.nf_filter.proofs.WholeLemmas.{without, final_is}
-use Rattle.nf_vectors.specs.declared.comparing.Comparing.{Comparing}
-use Rattle.nf_vectors.specs.Comparing.{taken_by, state_of}
+use Rattle.nf_filter.specs.declared.comparing.Comparing.{Comparing}
+use Rattle.nf_filter.specs.InCommon.{goes_on_with}
+use Rattle.nf_filter.specs.Comparing.{same, left, sink_state}
+use Rattle.nf_filter.proofs.ComparingLemmas.{Wrote, gave, other_written, unfailed, all_written}
 
 -- texts are the same where their UTF-8 is
 encodes_eq : (x y : List ℕ) → bytes_eq x y ≡ bytes_eq (encode_utf8_all x) (encode_utf8_all y)
 encodes_eq x y = grind (arith, encodes_same, bytes_eq-Decides x y, bytes_eq-Decides (encode_utf8_all x) (encode_utf8_all y))
+
+-- what goes on with another byte is another text
+another : (m i : List ℕ) (b : ℕ) (rest : List ℕ) → goes_on_with b i ≡ false → (m ++ b ∷ rest ≡ m ++ i) → ⊥
+another m i b rest differ same = on i differ (append_cancel_left m (b ∷ rest) i same)
+  where
+    on : (i : List ℕ) → goes_on_with b i ≡ false → (b ∷ rest ≡ i) → ⊥
+    on [] differ same = cc
+    on (a ∷ i) differ same = grind (arith)
+
+-- and what has nothing after it is the same
+ends : (m l : List ℕ) → (length l == 0) ≡ bytes_eq m (m ++ l)
+ends m [] = grind (arith, append-nil m, bytes_eq-Decides m (m ++ []))
+ends m (a ∷ l) = grind (arith, longer, bytes_eq-Decides m (m ++ a ∷ l))
+  where
+    longer : (m ≡ m ++ a ∷ l) → ⊥
+    longer same = omega (arith, ap length same, length-append m (a ∷ l))
 
 module _ (reads : ReadsBack) (f : Form) (p : Properties) (bytes x e : List ℕ) (utf8 : IsUtf8 bytes) (is : bytes ≡ encode_utf8_all x) where
   text : IsText x
@@ -50,18 +67,15 @@ module _ (reads : ReadsBack) (f : Form) (p : Properties) (bytes x e : List ℕ) 
   holds_is : holds f p x e ≡ (is_ok (whole_answer p bytes) && bytes_eq (whole_utf8 f p bytes) (encode_utf8_all e))
   holds_is = grind (arith, encodes_eq (safe_form f p x) e, form_is, answer_is)
 
-  module _ (old new : Comparing) (expected : old.expected.now ≡ encode_utf8_all e) (fresh : taken_by old ≡ []) where
-    -- what it is to compare with is kept, and it has taken just what was given
-    kept : (out : List ℕ) → Appends (state_of old).taken (state_of new).taken out → (new.expected.now ≡ encode_utf8_all e) × (taken_by new ≡ out)
-    kept out given =
-        let same : new.expected.now ≡ old.expected.now = cc (append-nil old.expected.now, take-append_seam new.expected.now (taken_by new), take-append_seam old.expected.now out) in
-        (same ∙ expected, append_cancel_left old.expected.now (taken_by new) out (cc (append-nil old.expected.now)))
-
-    pub holds-told : (r : Result Tally Fault) → Converts f p bytes (state_of old) (state_of new) r → (is_ok r && bytes_eq (taken_by new) new.expected.now) ≡ holds f p x e
-    holds-told r converts = elim (write_or_kept r) [
-      | inl write ↦
-          let breaks = converts.broken_off write in
-          let apart = new.apart (new.refused breaks.failed) breaks.rest in
-          grind (arith, write, holds_is, bytes_eq-Decides (whole_utf8 f p bytes) (encode_utf8_all e), apart, kept breaks.out breaks.given, breaks.after)
-      | inr other ↦ let puts = converts.written other in grind (arith, holds_is, converts.answer other, puts.after, kept puts.out puts.given)
-    ]
+  module _ (old new : Comparing) (expected : old.first.now ++ old.second.now ≡ encode_utf8_all e) (fresh : (same old ≡ []) × (old.other ≡ None) × (old.failed ≡ false)) where
+    pub holds-told : (r : Result Tally Fault) → Converts f p bytes (sink_state old) (sink_state new) r → (is_ok r && (not (is_some new.other) && (length (left new) == 0))) ≡ holds f p x e
+    holds-told r converts =
+        let wrote : Wrote old new [] (whole_utf8 f p bytes) r = record { begun = fresh; broken = converts.broken_off; puts = converts.written } in
+        let both : encode_utf8_all e ≡ same new ++ left new = sym (take-append-drop new.count (new.first.now ++ new.second.now) ∙ (gave wrote).1 ∙ expected) in
+        elim (cases_Bool (is_some new.other)) [
+          | inl other ↦
+              let on = other_written wrote other in
+              let differ = another (same new) (left new) on.0 on.1 on.2 in
+              grind (arith, other, holds_is, differ, on.3, both, bytes_eq-Decides (whole_utf8 f p bytes) (encode_utf8_all e))
+          | inr none ↦ grind (arith, none, holds_is, converts.answer (unfailed wrote none), all_written wrote none, both, ends (same new) (left new))
+        ]

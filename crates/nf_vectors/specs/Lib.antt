@@ -9,7 +9,6 @@ pub mod SuiteView
 pub mod RunsOut
 pub mod ReadsSuite
 pub mod Standing
-pub mod Comparing
 pub mod Comparison
 pub mod Report
 pub mod Sweep

@@ -2,8 +2,7 @@
 ghost use Rattle.std.specs.Prelude.{◌≡◌, ◌<◌, ◌^◌, ℕ, List, encode_utf8_all, length};
 ghost use Rattle.nf_vectors.specs.Comparison.{holds, leaves_format};
 
-use crate::comparing::Comparing;
-use nf_filter::convert;
+use nf_filter::{Comparing, convert};
 use nf_row::{Form, Rows};
 use nf_safe::Checker;
 use nf_utf8::laws;
@@ -14,7 +13,7 @@ pub(crate) fn holds<R: Rows>(rows: &R, form: Form, text: &str, expected: &str) -
         → result ≡ holds form (R.properties rows.now) x e }
 {
     laws::read_back();
-    let mut sink = Comparing::with(expected.as_bytes());
+    let mut sink = Comparing::new(expected.as_bytes(), &[]);
     match convert(rows, form, text.as_bytes(), &mut sink) {
         Ok(_) => sink.is_met(),
         Err(_) => false,

@@ -4,7 +4,6 @@
 
 mod check;
 mod columns;
-mod comparing;
 mod comparison;
 mod encoded;
 mod fault;

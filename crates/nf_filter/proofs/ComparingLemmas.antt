@@ -1,10 +1,22 @@
 -- What a comparing sink tells of what a filter wrote.
-use Rattle.nf_normalized.proofs.Common.{arith, ◌≡◌, inl, inr, ℕ, true, false, List, [], ◌∷◌, ◌++◌, append_assoc, append-nil, Some, None, is_some, Result, Err, Fault, Write, Comparing, goes_on_with, same, left, given, taken, sink_state}
+use Rattle.std.proofs.Common.{arith, ◌≡◌, inl, inr, ℕ, true, false, List, [], ◌∷◌, ◌++◌, append_assoc, append-nil, Some, None, is_some, Option, refl, Result, Err}
+use Rattle.nf_filter.proofs.Common.{Fault, Write}
+use Rattle.nf_filter.specs.Comparing.{same, left, given, taken, sink_state, preface}
+use Rattle.nf_filter.specs.InCommon.{goes_on_with}
+use Rattle.nf_filter.specs.declared.comparing.Comparing.{Comparing}
 use Rattle.std.specs.Io.KnownBytes.{Appends}
 use Rattle.nf_filter.specs.Writes.{Puts, BreaksOff}
 use Rattle.nf_filter.proofs.FilterLemmas.{write_or_kept}
-use Rattle.nf_normalized.proofs.ComparingLemmas.{preface-same}
-use Rattle.unicode_normalization.proofs.ComposeLemmas.{cases_Option}
+
+-- of two marked off the same follows
+preface-same : (a b x y : List ℕ) → preface a ++ x ≡ preface b ++ y → (a ≡ b) × (x ≡ y)
+preface-same (c ∷ a) (d ∷ b) x y e = grind (arith, preface-same a b x y)
+preface-same [] [] x y e = grind arith
+preface-same _ _ x y e = absurd (grind arith)
+
+is_some-value : (o : Option ℕ) → is_some o ≡ true → (b : ℕ) × (o ≡ Some b)
+is_some-value (Some b) is = (b, refl)
+is_some-value None is = cc
 
 -- of what is due the front `before` was written, and the call r then wrote on, to a sink to which nothing was given
 pub record Wrote (old new : Comparing) (before due : List ℕ) {T : Type 0} (r : Result T Fault) : Type 0 where
@@ -25,10 +37,7 @@ module _ {old new : Comparing} {before due : List ℕ} {T : Type 0} {r : Result 
 
   -- a byte was another, and that goes on what was written
   pub other_written : is_some new.other ≡ true → (b : ℕ) × (rest : List ℕ) × (goes_on_with b (left new) ≡ false) × (due ≡ (before ++ same new) ++ b ∷ rest)
-  other_written is = elim (cases_Option new.other) [
-    | inl none ↦ cc
-    | inr some ↦ (some.0, gave.0, new.other_is _ some.1, grind (arith, gave, append_assoc))
-  ]
+  other_written is = let some = is_some-value new.other is in (some.0, gave.0, new.other_is _ some.1, grind (arith, gave, append_assoc, some.1))
 
   -- none was: all was written, as expected
   module _ (none : is_some new.other ≡ false) where

@@ -1,5 +1,5 @@
 use Rattle.std.proofs.Common.{◌≡◌, ◌≤◌, ◌-◌, take}
-use Rattle.nf_normalized.proofs.comparing.common_len.Given as goal
+use Rattle.nf_filter.proofs.comparing.common_len.Given as goal
 
 abbrev pub invariant-loop-at : goal.invariant-loop-at
 invariant-loop-at l = (take l.at l.a ≡ take l.at l.b) × (l.at ≤ l.len)

@@ -1,5 +1,8 @@
 -- How many members two lists have in common at their front.
-use Rattle.nf_normalized.proofs.Common.{◌≡◌, ℕ, ◌<◌, zero, get_or, suc, ◌+◌, ◌≤◌, false, List, [], ◌∷◌, ◌++◌, length, take, length-take, ap, arith, nat_tests, common_steps, common, goes_on_with}
+use Rattle.std.proofs.Common.{◌≡◌, ℕ, ◌<◌, zero, get_or, suc, ◌+◌, ◌≤◌, false, List, [], ◌∷◌, ◌++◌, length, take, length-take, ap, arith}
+use Rattle.std.proofs.lemmas.Grind.{common_steps}
+use Rattle.nf_filter.proofs.Common.{nat_tests}
+use Rattle.nf_filter.specs.InCommon.{common, goes_on_with}
 
 pub common-le-left : (x y : List ℕ) → common x y ≤ length x
 common-le-left (a ∷ x) (b ∷ y) = grind (arith, common-le-left x y)

@@ -1,6 +1,8 @@
-use Rattle.nf_normalized.proofs.Common.{append-nil, append_assoc, common_steps, length, length-append, length-drop, take-add, take-append-le, ap, arith}
-use Rattle.nf_normalized.proofs.CommonLemmas.{common-le-left, common-le-right, common-none, take-common}
-use Rattle.nf_normalized.proofs.comparing.ComparingSink.put.Goals as goal
+use Rattle.std.proofs.Common.{append-nil, append_assoc, length, length-append, length-drop, take-add, ap, arith}
+use Rattle.std.proofs.lemmas.Grind.{common_steps}
+use Rattle.nf_filter.proofs.Common.{take-append-le}
+use Rattle.nf_filter.proofs.CommonLemmas.{common-le-left, common-le-right, common-none, take-common}
+use Rattle.nf_filter.proofs.comparing.ComparingSink.put.Goals as goal
 
 pub overflow_add-self : goal.overflow_add-self
 overflow_add-self c = grind (arith, ap length c.next.ensures.front.1, length-append, length-drop, common-le-left)

@@ -1,15 +1,14 @@
 //! A sink that compares what it is given with what is expected.
 ghost use Rattle.std.specs.Prelude.{◌≡◌, ◌+◌, ◌≤◌, ◌++◌, true, false, length, drop, IsSome};
 ghost use Rattle.std.specs.Option.{ForSome};
-ghost use Rattle.nf_normalized.specs.Change.{common};
-ghost use Rattle.nf_normalized.specs.Bytes.{goes_on_with};
+ghost use Rattle.nf_filter.specs.InCommon.{common, goes_on_with};
 
-use nf_filter::{Failed, Sink};
+use crate::devices::{Failed, Sink};
 
 /// The bytes to come are expected to be those of two slices, one after the other. The first that is another it takes, and fails
 /// from then on.
 #[derive(Drop)]
-pub(crate) struct Comparing<'t> {
+pub struct Comparing<'t> {
     first: &'t [u8],
     second: &'t [u8],
     /// How many bytes were given as expected.
@@ -23,8 +22,8 @@ pub(crate) struct Comparing<'t> {
 }
 
 impl<'t> Comparing<'t> {
-    ghost use Rattle.std.specs.Prelude.{◌≡◌, ◌+◌, ◌≤◌, ◌==◌, ℕ, List, ◌++◌, [], length, is_some, false, None};
-    ghost use Rattle.nf_normalized.specs.Comparing.{same, left};
+    ghost use Rattle.std.specs.Prelude.{◌≡◌, ◌+◌, ◌≤◌, ◌==◌, ◌&&◌, ℕ, List, ◌++◌, [], length, is_some, not, false, None};
+    ghost use Rattle.nf_filter.specs.Comparing.{same, left};
 
     /// Nothing was given.
     pub fn new(first: &'t [u8], second: &'t [u8]) -> Comparing<'t>
@@ -87,10 +86,17 @@ impl<'t> Comparing<'t> {
         let (first, second) = self.left();
         first.is_empty() && second.is_empty()
     }
+
+    /// Whether all was given that is expected, and no other byte.
+    pub fn is_met(&self) -> bool
+        ensures { result ≡ (not (is_some self.now.other) && (length (left self.now) == 0)) }
+    {
+        !self.has_differed() && self.is_at_end()
+    }
 }
 
 impl Sink for Comparing<'_> {
-    ghost use Rattle.nf_normalized.specs.Comparing.{sink_state};
+    ghost use Rattle.nf_filter.specs.Comparing.{sink_state};
 
     ghost state = { sink_state };
 
