@@ -49,6 +49,9 @@ pub struct Course {
     pub offset: u64,
     /// All that it wrote.
     pub written: Vec<u8>,
+    /// What `finish` answered.
+    pub finished: Result<Tally, Fault>,
+    /// The first refusal, or what `finish` answered.
     pub answer: Result<Tally, Fault>,
 }
 
@@ -81,15 +84,12 @@ pub fn course_by<R: Rows>(
     let held = filter.held();
     let offset = filter.offset();
     let finished = filter.finish(&mut sink);
-    let answer = match refused {
-        Some(fault) => Err(fault),
-        None => finished,
-    };
     Ok(Course {
         settled,
         held,
         offset,
         written: sink.bytes.clone()?,
-        answer,
+        finished,
+        answer: refused.map_or(finished, Err),
     })
 }

@@ -1,6 +1,6 @@
 //! Filters under a policy, and what they do with pieces.
-use nf_filter::{Fault, Filter, Held, Policy, Tally};
-use nf_filter_fixtures::Kept;
+use nf_filter::{Fault, Filter, Policy};
+use nf_filter_fixtures::{Course, course_by};
 use nf_row::{Form, Rows};
 use std::alloc::{AllocError, Global};
 use std::process::Abort;
@@ -38,18 +38,6 @@ pub fn filter_of<'r, R: Rows>(
     filter.policy(policy)
 }
 
-/// What a filter did with pieces.
-#[derive(Debug, Drop, PartialEq)]
-pub struct Course {
-    /// How many bytes it had written before `finish`.
-    pub settled: usize,
-    /// What it held then.
-    pub held: Held,
-    /// All that it wrote.
-    pub written: Vec<u8>,
-    pub answer: Result<Tally, Fault>,
-}
-
 /// Feeds the pieces to a new filter, as long as it takes them, and finishes it. One that refused a piece refuses what
 /// comes then.
 pub fn course_of<R: Rows>(
@@ -58,32 +46,10 @@ pub fn course_of<R: Rows>(
     filter: Filter<'_, R>,
     pieces: &[&[u8]],
 ) -> Course {
-    let mut sink = Kept::new(alloc);
-    let mut filter = filter;
-    let mut refused = None;
-    for piece in pieces {
-        if let Err(fault) = filter.feed(piece, &mut sink) {
-            assert_eq!(rt; filter.feed(b"z", &mut sink), Err(Fault::Spent));
-            refused = Some(fault);
-            break;
-        }
-    }
-    let settled = sink.bytes.len();
-    let held = filter.held();
-    let finished = filter.finish(&mut sink);
-    let answer = match refused {
-        Some(fault) => {
-            assert_eq!(rt; finished, Err(Fault::Spent));
-            Err(fault)
-        }
-        None => finished,
-    };
-    Course {
-        settled,
-        held,
-        written: sink.bytes,
-        answer,
-    }
+    let course = course_by(alloc, filter, pieces).expect(rt, "memory");
+    let is_refused = course.finished != course.answer;
+    assert!(rt; !is_refused || course.finished == Err(Fault::Spent));
+    course
 }
 
 /// The bytes in one piece, cut in two at every place, and byte by byte: the same is written and answered, by a filter as
@@ -120,10 +86,11 @@ pub fn same_in_pieces<R: Rows>(
 }
 
 fn check_same(rt: &impl Abort, course: Course, whole: &Course, bytes: &[u8]) {
-    assert!(rt;
-        course == *whole,
-        "{bytes:?}: {course:?}, in one piece {whole:?}"
-    );
+    let is_same = course.settled == whole.settled
+        && course.held == whole.held
+        && course.written == whole.written
+        && course.answer == whole.answer;
+    assert!(rt; is_same, "{bytes:?}: {course:?}, in one piece {whole:?}");
 }
 
 /// The parts, each repeated, joined.

@@ -116,7 +116,7 @@ fn check_mixture(
     let (written, form) = (course.written.as_slice(), form.as_bytes());
     let is_due = match answer {
         Ok(_) => written == form,
-        Err(_) => written.len() == course.settled && form.starts_with(written),
+        Err(_) => written.len() == course.settled.len() && form.starts_with(written),
     };
     assert!(rt; is_due, "{policy:?}, {bytes:?}");
     Ok(answer.is_ok())

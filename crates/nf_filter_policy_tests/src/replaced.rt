@@ -1,7 +1,7 @@
 //! Ill-formed bytes that are replaced: what is written, held and answered, by hand.
-use crate::kit::{Course, REPLACE, course_of, filter_of, same_in_pieces};
+use crate::kit::{REPLACE, course_of, filter_of, same_in_pieces};
 use nf_filter::{Fault, Held, Tally};
-use nf_filter_fixtures::Kept;
+use nf_filter_fixtures::{Course, Kept};
 use nf_row::Change::Compat;
 use nf_row::{Patched, Ucd};
 use std::test::Fail;
@@ -37,7 +37,7 @@ fn each_maximal_subpart_is_one_character(rt: HostRuntime) -> Result<(), Fail> {
     for (bytes, settled, written, chars) in REPLACED {
         let filter = filter_of(&rt, &Ucd, REPLACE, false);
         let course = course_of(&rt, rt.alloc(), filter, &[bytes]);
-        assert_eq!(rt; course.settled, settled, "{bytes:?}");
+        assert_eq!(rt; course.settled.len(), settled, "{bytes:?}");
         assert_eq!(rt; course.written.as_slice(), written.as_bytes());
         assert_eq!(rt;
             course.answer,
