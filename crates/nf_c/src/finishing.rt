@@ -1,5 +1,4 @@
 ghost use Rattle.std.specs.Prelude.{◌≡◌, ◌≤◌, ℕ, List, length, false};
-ghost use Rattle.std.specs.Result.{result_err};
 ghost use Rattle.nf_forms.specs.Ucd.{ucd};
 ghost use Rattle.nf_forms.specs.declared.form.Form.{Form};
 ghost use Rattle.nf_filter.specs.declared.policy.Policy.{Policy};
@@ -16,7 +15,7 @@ use crate::starting::filter_of;
 use crate::state::State;
 use crate::status::Status;
 use nf_facts::laws::every_character_is_sound;
-use nf_filter::{Fault, Filter, Tally};
+use nf_filter::{Fault, Filter};
 use nf_row::Ucd;
 
 /// How many bytes the end wrote, and the fault that it met; `Write` where there was no room for all of it.
@@ -57,19 +56,9 @@ pub fn finish_filter(filter: Filter<'_, Ucd>, output: &mut [u8]) -> Finished
 {
     every_character_is_sound();
     let mut room = Room::over(output);
-    let fault = fault_of(filter.finish(&mut room));
+    let fault = filter.finish(&mut room).err();
     Finished {
         written: room.written(),
         fault,
-    }
-}
-
-/// The fault, if there is one.
-fn fault_of(answer: Result<Tally, Fault>) -> Option<Fault>
-    ensures { result ≡ result_err answer }
-{
-    match answer {
-        Ok(_) => None,
-        Err(fault) => Some(fault),
     }
 }

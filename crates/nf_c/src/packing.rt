@@ -145,18 +145,10 @@ pub fn unpack(state: &State) -> Option<Saved>
     if state.held_len > 3 || state.marks_len > 30 || state.spent > 1 {
         return None;
     }
-    let Some(form) = form_of(u32::from(state.form)) else {
-        return None;
-    };
-    let Some(policy) = policy_of(u32::from(state.policy)) else {
-        return None;
-    };
-    let Some(marks) = unpack_marks(&state.marks[..usize::from(state.marks_len)]) else {
-        return None;
-    };
-    let Some(starter) = unpack_starter(state.starter) else {
-        return None;
-    };
+    let form = form_of(u32::from(state.form))?;
+    let policy = policy_of(u32::from(state.policy))?;
+    let marks = unpack_marks(&state.marks[..usize::from(state.marks_len)])?;
+    let starter = unpack_starter(state.starter)?;
     let mut held = ArrayVec::new();
     held.try_extend_from_slice(&state.held[..usize::from(state.held_len)])
         .unwrap();
@@ -183,10 +175,7 @@ fn unpack_starter(number: u32) -> Option<Option<char>>
     if number == NO_STARTER {
         return Some(None);
     }
-    match char::from_u32(number) {
-        Some(starter) => Some(Some(starter)),
-        None => None,
-    }
+    char::from_u32(number).map(Some)
 }
 
 /// The marks of numbers.
@@ -214,11 +203,9 @@ fn unpack_mark(number: u32) -> Option<Mark>
     if class > 255 {
         return None;
     }
-    match char::from_u32(number % CLASS) {
-        Some(character) => Some(Mark {
-            character,
-            class: class as u8,
-        }),
-        None => None,
-    }
+    let character = char::from_u32(number % CLASS)?;
+    Some(Mark {
+        character,
+        class: class as u8,
+    })
 }

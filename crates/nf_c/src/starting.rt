@@ -39,10 +39,7 @@ pub fn filter_of(state: &State) -> Option<Filter<'static, Ucd>>
     ensures saved { IfSome result (λ filter. saved_of (state_of filter) ≡ unpacked state.now) }
     ensures stands { (policy : Policy) (f : Form) (bytes : List ℕ) → StandsAfter policy f state.now bytes → IfSome result (λ filter. FilterStandsAfter policy f ucd (state_of filter) bytes) }
 {
-    match unpack(state) {
-        Some(saved) => Filter::restore(plain(), saved),
-        None => None,
-    }
+    Filter::restore(plain(), unpack(state)?)
 }
 
 /// The state of a filter.
