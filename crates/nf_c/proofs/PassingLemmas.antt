@@ -1,11 +1,11 @@
 -- Plain ASCII after one such character that is pending alone: where it leaves a filter and its state, and what a call tells.
 use Rattle.std.proofs.Common.{◌≡◌, ℕ, ◌+◌, ◌-◌, ◌<◌, ◌≤◌, ◌^◌, Bool, true, false, List, [], ◌∷◌, ◌++◌, length, map, take, get_or, Option, Some, None, if◌then◌else◌, inr}
-use Rattle.std.proofs.Common.{refl, sym, ap, ◌∙◌, subst, arith, rules, append_assoc, append-nil, length-append, encode_utf8_all, IsAscii, IfSome, take-take, get_or-take}
+use Rattle.std.proofs.Common.{refl, sym, ap, ◌∙◌, subst, arith, rules, append_assoc, append-nil, length-append, IsAscii, IfSome, take-take, get_or-take}
 use Rattle.std.specs.List.{list_all}
 use Rattle.std.proofs.lemmas.Bool.{and_from, ne_eqb, false≢true}
 use Rattle.std.proofs.lemmas.Bool.Decides.{nat_tests}
 use Rattle.std.proofs.lemmas.List.{nil_from_length, length-take-le}
-use Rattle.std.proofs.lemmas.Str.{encode_ascii, encodes-IsAscii, chars-IsAscii, scalars-chars, IsUtf8-from_ascii, IsUtf8-append, IsAscii-take}
+use Rattle.std.proofs.lemmas.Str.{encode_ascii, chars-IsAscii, IsUtf8-from_ascii, IsAscii-take}
 use Rattle.std.proofs.lemmas.Str.Ascii.{All-from_ascii}
 use Rattle.nf_c.proofs.Common.{ucd, Form, Fault, TooLong, Write, FilterState, Policy, Saved, base_of, FilterStandsAfter, settled_utf8, Moved, State}
 use Rattle.nf_c.proofs.Common.{ends, IsOfFeeding, ended, read_before, mark_at, StandsAfter, allowed, CanPass, Feeds, starter_at, unpacked, IsStarter, HoldsAscii}
@@ -15,12 +15,9 @@ use Rattle.nf_forms.specs.Forms.{decomposed, finished}
 use Rattle.nf_forms.specs.StreamSafe.{stream_safe}
 use Rattle.nf_row.specs.Ascii.{IsPlainAscii, AreAscii}
 use Rattle.nf_row.specs.Laws.Ascii.{ascii-head, ascii-tail}
-use Rattle.nf_utf8.specs.Text.{IsText}
-use Rattle.nf_utf8.specs.Laws.{ReadsPieces, ReadsBack, ReplacesSubparts, SplitsBytes}
+use Rattle.nf_utf8.specs.Laws.{ReplacesSubparts}
 use Rattle.nf_utf8.specs.Subpart.{IsSubpart}
-use Rattle.nf_utf8.specs.Ending.{Whole, moved}
-use Rattle.nf_utf8.specs.Reading.{text_len, text_of, rest_of, ending_of}
-use Rattle.nf_utf8.specs.Standing.{StandsAfter as DecoderStandsAfter}
+use Rattle.nf_utf8.specs.Ending.{moved}
 use Rattle.nf_pending.specs.declared.pending.Pending.{Pending}
 use Rattle.nf_pending.proofs.Standing.{back_alone, stands_unmarked}
 use Rattle.nf_normalizer.specs.Normalizer.{settled_text}
@@ -28,14 +25,13 @@ use Rattle.nf_normalizer.proofs.AsciiLemmas.{joins-run, settled_text-run, HasTak
 use Rattle.nf_filter.specs.declared.counted.Counted.{Counted}
 use Rattle.nf_filter.specs.declared.reading.Reading.{Reading}
 use Rattle.nf_filter.specs.Counted.{HasTaken}
-use Rattle.nf_filter.specs.Faults.{bad_byte}
-use Rattle.nf_filter.specs.Feeding.{IsLeft, HasReadTo}
+use Rattle.nf_utf8.specs.Left.{IsLeft}
+use Rattle.nf_filter.specs.Feeding.{HasReadTo}
 use Rattle.nf_filter.specs.Saved.{saved_of}
-use Rattle.nf_filter.proofs.FedLemmas.{left_is, read-settled, read-no_fault}
-use Rattle.nf_filter.proofs.PieceLemmas.{IsLeft-more}
+use Rattle.nf_filter.proofs.FedLemmas.{read-settled, read-no_fault}
+use Rattle.nf_utf8.proofs.LeftLemmas.{IsLeft-text, IsLeft-more, IsLeft-join}
 use Rattle.nf_filter.proofs.PolicyLemmas.{allowed-append}
 use Rattle.nf_filter.specs.Laws.Undecided.{take_while-all}
-use Rattle.nf_filter.proofs.ReadingLemmas.{text_of-none, ending_of-none}
 use Rattle.nf_filter.proofs.SavedLemmas.{IsRestorable-stands}
 
 -- where ASCII is assigned, it is allowed
@@ -50,24 +46,7 @@ allowed-ascii p plain true t ascii = take_while-all p.assigned t (all_assigned p
 starter_low : (a : ℕ) → a < 0x80 → starter_at a ≡ Some a
 starter_low a below = ap (λ (b : Bool). if b then None else Some a) (ne_eqb a 0xFFFFFFFF (λ (e : a ≡ 0xFFFFFFFF). omega arith))
 
-module _ (pieces : ReadsPieces) (own : ReadsBack) (laws : ReplacesSubparts) (split : SplitsBytes) where
-  -- where no character is begun, ASCII reads as its characters
-  module _ (tail t : List ℕ) (none : rest_of tail ≡ []) (ascii : IsAscii t) where
-    is_text : IsText t
-    is_text = subst IsText (chars-IsAscii t ascii) (scalars-chars t (IsUtf8-from_ascii t ascii))
-
-    text_of-ascii : text_of (tail ++ t) ≡ text_of tail ++ t
-    text_of-ascii = rw none at (pieces.text tail t) ∙ ap (λ l. text_of tail ++ l) (simp (append-nil, text_of-none, encodes-IsAscii t ascii) at (own.text t [] is_text))
-
-    ending_of-ascii : ending_of (tail ++ t) ≡ Whole
-    ending_of-ascii = rw none at (pieces.ending tail t) ∙ ap (moved (text_len tail)) (simp (append-nil, ending_of-none, encodes-IsAscii t ascii) at (own.ending t [] is_text))
-
-    stands-ascii : DecoderStandsAfter [] (tail ++ t)
-    stands-ascii = record {
-      rest = rw none at (pieces.rest tail t) ∙ simp (append-nil, encodes-IsAscii t ascii) at (own.rest t [] is_text) ∙ sym (rw text_of-none at (split.split []));
-      begins = ([], rw (append-nil (tail ++ t)) (IsUtf8-append tail t (text_of tail, (split.scalars tail, sym (rw (none, append-nil) at (split.split tail)))) (IsUtf8-from_ascii t ascii)));
-    }
-
+module _ (laws : ReplacesSubparts) where
   module _ (plain : IsPlainAscii ucd) {policy : Policy} {f : Form} {old : State} {bytes : List ℕ} (holds : HoldsAscii old) (stand : StandsAfter policy f old bytes)
       (t : List ℕ) (n : ℕ) (len : length t ≡ n) (some : 0 < n) (ascii : IsAscii t) (fits : old.offset + n < 2 ^ 64) where
     abbrev filter : FilterState
@@ -77,7 +56,7 @@ module _ (pieces : ReadsPieces) (own : ReadsBack) (laws : ReplacesSubparts) (spl
     read = stand.stands.reading
 
     abbrev x : List ℕ
-    x = read.before ++ text_of read.tail
+    x = read.before
 
     abbrev last : ℕ
     last = get_or t (n - 1) 0
@@ -87,9 +66,6 @@ module _ (pieces : ReadsPieces) (own : ReadsBack) (laws : ReplacesSubparts) (spl
 
     marks : length filter.counted.normalizer.pending.marks.items ≡ 0
     marks = ap (λ (s : Saved). length s.marks.items) stand.saved ∙ ap (λ k. length (map mark_at (take k old.marks))) holds.marks
-
-    nothing : rest_of read.tail ≡ []
-    nothing = read.decoder.rest ∙ none
 
     alone : back ucd (finished f ucd (decomposed f ucd (stream_safe ucd x))) ≡ old.starter ∷ []
     alone = subst (λ o. IfSome o (λ a. back ucd (finished f ucd (decomposed f ucd (stream_safe ucd x))) ≡ a ∷ [])) (ap (λ (s : Saved). s.starter) stand.saved ∙ starter_low old.starter holds.starter)
@@ -115,9 +91,6 @@ module _ (pieces : ReadsPieces) (own : ReadsBack) (laws : ReplacesSubparts) (spl
           record { held = omega (arith, ready.held); end = (record { machine = record { run = omega (arith, marks); bound = omega arith }; put = omega (arith, ready.end.0.put) }, omega (arith, ready.end.1, ready.held)) };
     }
 
-    joined : x ++ t ≡ read.before ++ text_of (read.tail ++ t)
-    joined = append_assoc read.before (text_of read.tail) t ∙ ap (λ l. read.before ++ l) (sym (text_of-ascii read.tail t nothing ascii))
-
     taken : HasTaken f ucd counted (x ++ t)
     taken = record {
       machine = HasTaken-run ucd plain f x t n len some ascii read.taken.machine.usable old.starter alone holds.starter filter.counted.normalizer 0 pending last read.taken.machine refl refl
@@ -126,17 +99,23 @@ module _ (pieces : ReadsPieces) (own : ReadsBack) (laws : ReplacesSubparts) (spl
       put = omega (arith, read.taken.put, length-append x t, joins-run ucd plain f x t n len some ascii read.taken.machine.usable);
     }
 
+    -- it reads as its characters
+    left : IsLeft policy.replace (bytes ++ t) (x ++ t) (read.read.n + length t) []
+    left =
+        let own = subst (λ cs. IsLeft policy.replace (t ++ []) cs (length t) []) (chars-IsAscii t ascii) (IsLeft-text t (IsUtf8-from_ascii t ascii) policy.replace []) in
+        IsLeft-join (IsLeft-more t (subst (λ d. IsLeft policy.replace bytes x read.read.n (d ++ [])) none read.read.left)) (subst (λ l. IsLeft policy.replace l t (length t) []) (append-nil t) own)
+
     reads : HasReadTo policy f ucd counted (base_of filter) reading (bytes ++ t) []
     reads = record {
-      before = read.before;
-      n = read.n;
-      tail = read.tail ++ t;
-      left = subst (IsLeft policy.replace (bytes ++ t) read.before read.n) (sym (append-nil (read.tail ++ t))) (IsLeft-more _ _ _ _ _ t (left_is laws read));
-      decoder = subst (λ d. DecoderStandsAfter d (read.tail ++ t)) (sym none) (stands-ascii read.tail t nothing ascii);
-      good = λ k. ap (bad_byte k) (ending_of-ascii read.tail t nothing ascii);
-      offset = omega (arith, read.offset, length-append read.tail t, len);
-      taken = subst (HasTaken f ucd counted) joined taken;
-      allowed = subst (λ l. allowed policy.assigned ucd l ≡ l) joined (allowed-append ucd policy.assigned x t read.allowed ∙ ap (λ l. x ++ l) (allowed-ascii ucd plain policy.assigned t ascii));
+      before = x ++ t;
+      read = record {
+        n = read.read.n + length t;
+        left = subst (λ d. IsLeft policy.replace (bytes ++ t) (x ++ t) (read.read.n + length t) (d ++ [])) (sym none) left;
+        begun = read.read.begun;
+        offset = omega (arith, read.read.offset, len);
+      };
+      taken = taken;
+      allowed = allowed-append ucd policy.assigned x t read.allowed ∙ ap (λ l. x ++ l) (allowed-ascii ucd plain policy.assigned t ascii);
     }
 
     after-stands : FilterStandsAfter policy f ucd after (bytes ++ t)
@@ -164,8 +143,7 @@ module _ (pieces : ReadsPieces) (own : ReadsBack) (laws : ReplacesSubparts) (spl
     passed-stands = record {
       can = (
         search (rules, holds.can.0, starter),
-        rw (← saved) (IsRestorable-stands laws {state = after} after-stands (subst IsSubpart (sym none) tt) (omega arith)
-            (let r = after-stands.reading in omega (arith, ap length (split.split r.tail), length-append (encode_utf8_all (text_of r.tail)) (rest_of r.tail), ap length r.decoder.rest))),
+        rw (← saved) (IsRestorable-stands laws {state = after} after-stands (subst IsSubpart (sym none) tt) (omega arith)),
       );
       filter = after;
       saved = saved;
@@ -176,7 +154,7 @@ module _ (pieces : ReadsPieces) (own : ReadsBack) (laws : ReplacesSubparts) (spl
     passed-settles : settled_utf8 policy f ucd (bytes ++ t) ≡ settled_utf8 policy f ucd bytes ++ (old.starter ∷ take (n - 1) t)
     unfolding reads
     passed-settles =
-        sym (read-settled laws reads) ∙ ap (settled_text f ucd) (sym joined)
+        sym (read-settled laws reads)
         ∙ sym (settled_text-run ucd plain f x t n len some ascii read.taken.machine.usable old.starter alone holds.starter)
         ∙ ap (λ l. (settled_text f ucd x ++ (l ++ [])) ++ take (n - 1) t) (encode_ascii old.starter holds.starter)
         ∙ append_assoc (settled_text f ucd x) (old.starter ∷ []) (take (n - 1) t)

@@ -56,10 +56,7 @@ pub fn pass(state: &mut State, input: &[u8], len: usize, output: &mut [u8]) -> M
     ensures feeds { (policy : Policy) (f : Form) (bytes : List ℕ) → StandsAfter policy f state.old bytes → Feeds policy f bytes input.now state.old state.new output.new result }
 {
     let _plain = plain();
-    laws::pieces();
-    laws::read_back();
     laws::replacing();
-    laws::split();
     write_passing(state, input, len, output);
     if len < input.len() {
         return Moved::of(Status::Full, len, len);

@@ -1,5 +1,5 @@
 -- What a filter wrote to the end is a text that is stream-safe and its own form, so that a second one changes nothing.
-use Rattle.nf_filter.proofs.Common.{◌≡◌, ℕ, Bool, true, false, List, [], ◌∷◌, ◌++◌, length, Option, Some, None, Result, Ok, Err, refl, sym, ap, ◌∙◌, append-nil, eq-eqb, IsTrue, OnOk, encode_utf8_all, inl, all_scalars, Properties, Form, is_sound, stream_safe, safe_form, ChangesOnce, IsSoundText, in_format-unchanged, IsText, BeginsText, Ending, Whole, Cut, text_of, ending_of, replaced, replaced_whole, ReadsLongestText, ReadsBack, ReplacesSubparts, Fault, Policy, Tally, as_is, allowed, text_under, whole_under, is_usable, settled_utf8, answer_at_end, bad_under, fault_in, tally_of, answer_or, end_under, end_of, whole_or, final_under, final_utf8, SinkState, SourceState, Drives, DrivesToEnd, Converts, settled_utf8-none, arith, nat_tests}
+use Rattle.nf_filter.proofs.Common.{◌≡◌, ℕ, Bool, true, false, List, [], ◌∷◌, ◌++◌, Option, Some, None, Result, Ok, Err, refl, sym, ap, ◌∙◌, append-nil, eq-eqb, IsTrue, OnOk, encode_utf8_all, inl, all_scalars, Properties, Form, is_sound, stream_safe, safe_form, ChangesOnce, IsSoundText, in_format-unchanged, IsText, Ending, Whole, Cut, text_of, ending_of, replaced, replaced_whole, ReadsLongestText, ReadsBack, ReplacesSubparts, Fault, Policy, Tally, as_is, allowed, text_under, whole_under, is_usable, settled_utf8, answer_at_end, bad_under, fault_in, tally_of, answer_or, end_under, end_of, whole_or, final_under, final_utf8, SinkState, SourceState, Drives, DrivesToEnd, Converts, settled_utf8-none, text_under-none, arith, nat_tests, length, IsLeft}
 use Rattle.std.proofs.str.Laws.{scalars-append}
 use Rattle.std.proofs.Math.Nat.{sub_self}
 use Rattle.std.proofs.Math.Utf8.{scalar}
@@ -7,7 +7,9 @@ use Rattle.nf_filter.specs.Again.{TakesAll, nothing_put, StaysAsItIs, AddsWhatSt
 use Rattle.nf_filter.proofs.PolicyLemmas.{first_fault-none, taken}
 use Rattle.nf_filter.proofs.WholeLemmas.{Converts-all}
 use Rattle.nf_filter.proofs.ReadingLemmas.{text_of-none, ending_of-none}
-use Rattle.nf_filter.proofs.PieceLemmas.{text_under-begun, begun_at_end-begun}
+use Rattle.std.proofs.lemmas.Str.{chars-encodes}
+use Rattle.nf_utf8.proofs.LeftLemmas.{IsLeft-text}
+use Rattle.nf_filter.proofs.PieceLemmas.{left-text, left-whole, begun-all}
 
 -- the end is no fault
 pub answered : {A : Type 0} (base : ℕ) (value told : A) (ending : Ending) → answer_at_end base value ending ≡ Ok told → (settled whole : List ℕ) → whole_or ending settled whole ≡ whole
@@ -46,16 +48,16 @@ module _ (back : ReadsBack) (replacing : ReplacesSubparts) where
     ending-is : ending_of bytes_is ≡ Whole
     ending-is = rw (append-nil, ending_of-none) at (back.ending o [] scalars)
 
-    begins : BeginsText bytes_is
-    begins = ([], (o, (scalars, sym (append-nil bytes_is))))
+    left : (replace : Bool) → IsLeft replace bytes_is o (length bytes_is) []
+    left replace = rw (append-nil bytes_is, chars-encodes o scalars) at (IsLeft-text bytes_is (o, (scalars, refl)) replace [])
 
     text_under-is : (replace : Bool) → text_under replace bytes_is ≡ o
-    text_under-is replace = text_under-begun replacing bytes_is begins replace ∙ text-is
+    text_under-is replace = rw (text_under-none replace, append-nil) at (left-text (left replace))
 
     whole_under-is : (replace : Bool) → whole_under replace bytes_is ≡ o
     unfolding replaced_whole
     whole_under-is false = text-is
-    whole_under-is true = rw (text_under-is true, begun_at_end-begun replacing bytes_is begins, text-is, sub_self, append-nil)
+    whole_under-is true = rw (begun-all [] tt, text_under-none true, append-nil) at (left-whole (left true))
 
     -- ---- which is stream-safe and its own form
 

@@ -19,8 +19,8 @@ pub use Rattle.nf_filter.specs.Counted.{HasTaken, TakesOn, settled_text, IsPlace
 pub use Rattle.nf_filter.specs.Devices.{SinkState, SourceState}
 pub use Rattle.nf_filter.specs.Drives.{Drives, DrivesToEnd, FeedsAll}
 unfoldable pub use Rattle.nf_filter.specs.Faults.{fault_in}
-pub use Rattle.nf_filter.specs.Faults.{answer_at_end, bad_byte, bad_under, first_fault}
-pub use Rattle.nf_filter.specs.Feeding.{taken_utf8, TakesAllowed, IsLeft, HasReadTo, ReadsTo, RefusesBytes, ReplacesCut}
+pub use Rattle.nf_filter.specs.Faults.{answer_at_end, bad_byte, bad_under, first_fault, fault_place, moved_to}
+pub use Rattle.nf_filter.specs.Feeding.{taken_utf8, TakesAllowed, HasReadTo, ReadsTo, RefusesBytes, ReplacesCut}
 pub use Rattle.nf_filter.specs.Feeds.{Feeds}
 pub use Rattle.nf_filter.specs.Filter.{base_of, offset_of, is_spent, StandsAfter, state_of, rows_of}
 unfoldable pub use Rattle.nf_filter.specs.Finishes.{end_of, final_utf8}
@@ -31,12 +31,13 @@ pub use Rattle.nf_filter.specs.Laws.Soundness.{AreSound, RefusesNone}
 pub use Rattle.nf_filter.specs.Measures.{unusable_decision, HasMeasured, measure_decision, text_measure}
 pub use Rattle.nf_filter.specs.Passed.{IsAfterAssigned}
 pub use Rattle.nf_filter.specs.Policy.{as_is, allowed, text_under, whole_under, len_under}
+pub use Rattle.nf_filter.specs.Reads.{HasRead}
 pub use Rattle.nf_filter.specs.Saved.{saved_of, are_marks, IsCounted, CountsFit, IsPending, IsRestorable}
 unfoldable pub use Rattle.nf_filter.specs.Settled.{is_usable, settled_utf8, settled}
 pub use Rattle.nf_filter.specs.Settled.{usable}
 pub use Rattle.nf_filter.specs.Stepping.{Standing, StandsInFront}
 pub use Rattle.nf_filter.specs.Surveys.{Survey, Surveys}
-pub use Rattle.nf_filter.specs.Taker.{decided_or, decided_in, Decides, HasTakenFront, HasSurveyed, IsReady}
+pub use Rattle.nf_filter.specs.Taker.{decided_or, decided_in, Decides, HasTakenFront, HasSurveyed, ReadsText, ReadsOn, IsReady}
 unfoldable pub use Rattle.nf_filter.specs.Whole.{whole_utf8, whole_answer}
 pub use Rattle.nf_filter.specs.Whole.{Converts, IsFormOf, IsOfWhole, fault_or}
 pub use Rattle.nf_filter.specs.Writes.{Puts, BreaksOff}
@@ -73,13 +74,12 @@ pub use Rattle.nf_safe.specs.Place.{is_in_format, place_from}
 pub use Rattle.nf_safe.specs.declared.checker.Checker.{Checker}
 pub use Rattle.nf_safe.specs.declared.place.Place.{Place}
 pub use Rattle.nf_utf8.specs.Ending.{Ending, Whole, Bad, Cut, Cut as CutEnd}
+pub use Rattle.nf_utf8.specs.Left.{decoded_under, IsLeft, ReadsNext}
 pub use Rattle.nf_utf8.specs.Laws.{ReadsLongestText, ReadsBack, ReplacesSubparts, SplitsBytes}
 unfoldable pub use Rattle.nf_utf8.specs.Reading.{text_of, ending_of, rest_of}
 pub use Rattle.nf_utf8.specs.Reading.{text_len}
 unfoldable pub use Rattle.nf_utf8.specs.Replaced.{replaced, replaced_whole, decoded_of, replaced_len}
 pub use Rattle.nf_utf8.specs.Replaced.{replacement, begun_at_end, subpart_end, Decoded, decoded_text, decoded_after_text, decoded_within, bytes_in}
 pub use Rattle.nf_utf8.specs.Standing.{StandsAfter as DecoderStandsAfter}
-pub use Rattle.nf_utf8.specs.Taking.{first_text, Takes, bytes_after_piece, first_bytes, EndsPiece, Counts}
+pub use Rattle.nf_utf8.specs.Subpart.{IsSubpart}
 pub use Rattle.nf_utf8.specs.Text.{IsText, BeginsText}
-pub use Rattle.nf_utf8.specs.declared.chunk.End.{End}
-pub use Rattle.nf_utf8.specs.declared.chunk.End.TheVariants.{Bad as EndsBad, Whole as EndsWhole, Cut as EndsCut}

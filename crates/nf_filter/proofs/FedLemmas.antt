@@ -1,41 +1,34 @@
 -- A piece that was read: what it comes to by the bytes.
-use Rattle.nf_filter.proofs.Common.{cases_Bool, ⊎_elim, ◌≡◌, ℕ, suc, ◌+◌, ◌==◌, true, cond, MatchResult, List, [], ◌∷◌, ◌++◌, length, None, Ok, Err, sym, ap, ◌∙◌, arith, append_assoc, append-nil, OnOk, Result, if◌then◌else◌, encode_utf8_all, result_err, Properties, Form, text_of, replacement, begun_at_end, replaced_whole, ReplacesSubparts, Fault, Write, Counted, Policy, Reading, Start, BlockState, Written, WritesTo, bad_under, fault_in, IsLeft, HasReadTo, ReadsTo, RefusesBytes, settled_text, len_under, text_under, whole_under, settled_utf8}
+use Rattle.nf_filter.proofs.Common.{cases_Bool, ⊎_elim, ◌≡◌, ℕ, suc, ◌+◌, ◌==◌, true, cond, MatchResult, List, [], ◌∷◌, ◌++◌, length, None, Ok, Err, refl, sym, ap, ◌∙◌, arith, append-nil, OnOk, Result, if◌then◌else◌, result_err, Properties, Form, text_of, replacement, replaced_whole, ReplacesSubparts, Fault, Write, Counted, Policy, Reading, Start, BlockState, Written, WritesTo, bad_under, fault_in, IsLeft, HasReadTo, ReadsTo, RefusesBytes, settled_text, len_under, text_under, whole_under, settled_utf8}
 use Rattle.nf_filter.proofs.BlockLemmas.{WritesTo-written}
 use Rattle.nf_filter.proofs.PolicyLemmas.{first_fault-none, taken-all}
-use Rattle.nf_filter.proofs.PieceLemmas.{place_in, IsLeft-more, left-text, left-place, left-bad, left-whole, text_under-begun, len_under-first}
+use Rattle.nf_utf8.proofs.LeftLemmas.{IsLeft-more}
+use Rattle.nf_filter.proofs.PieceLemmas.{place_in, left-text, left-place, left-bad, left-whole, len_under-first, begun-text, begun-good, begun-all}
 
 module _ (laws : ReplacesSubparts) {policy : Policy} {f : Form} {p : Properties} {base : ℕ} {counted : Counted} {reading : Reading} {bytes : List ℕ} (read : HasReadTo policy f p counted base reading bytes []) where
-  abbrev text : List ℕ
-  text = read.before ++ text_of read.tail
-
-  pub left_is : IsLeft policy.replace bytes read.before read.n read.tail
-  left_is = rw (append-nil read.tail) at read.left
+  pub left_is : IsLeft policy.replace bytes read.before read.read.n reading.decoder
+  left_is = rw (append-nil reading.decoder) at read.read.left
 
   -- the text that was read
-  pub read-text : text_under policy.replace bytes ≡ text
-  read-text = rw (text_under-begun laws read.tail read.decoder.begins policy.replace) at (left-text _ _ _ _ _ left_is)
+  pub read-text : text_under policy.replace bytes ≡ read.before
+  read-text = rw (begun-text reading.decoder read.read.begun policy.replace, append-nil read.before) at (left-text left_is)
 
-  pub read-settled : settled_text f p text ≡ settled_utf8 policy f p bytes
+  pub read-settled : settled_text f p read.before ≡ settled_utf8 policy f p bytes
   unfolding settled_utf8
-  read-settled = rw (read-text, taken-all p policy.assigned text read.taken.machine.usable read.allowed)
+  read-settled = rw (read-text, taken-all p policy.assigned read.before read.taken.machine.usable read.allowed)
 
   pub read-no_fault : fault_in policy p base bytes ≡ None
   unfolding fault_in
   read-no_fault =
       first_fault-none p policy.assigned (place_in policy.replace base bytes) (text_under policy.replace bytes) (bad_under policy.replace base bytes) (rw read-text read.taken.machine.usable) (rw read-text read.allowed)
-      ∙ left-bad _ _ _ _ _ left_is base ∙ ⊎_elim (λ e. rw e) (λ e. rw e (read.good (base + read.n))) (cases_Bool policy.replace)
+      ∙ left-bad left_is base ∙ ⊎_elim (λ e. rw e) (λ e. rw e (begun-good reading.decoder read.read.begun (base + read.read.n))) (cases_Bool policy.replace)
 
   -- a piece more is to be read
   pub reads-more : (piece : List ℕ) {start : Start} {now : BlockState} → Written start now (settled_utf8 policy f p bytes) → ReadsTo policy f p counted start now base reading (bytes ++ piece) piece
   reads-more piece written = (
     record {
       before = read.before;
-      n = read.n;
-      tail = read.tail;
-      left = IsLeft-more _ _ _ _ _ piece left_is;
-      decoder = read.decoder;
-      good = read.good;
-      offset = read.offset;
+      read = record { n = read.read.n; left = IsLeft-more piece left_is; begun = read.read.begun; offset = read.read.offset };
       taken = read.taken;
       allowed = read.allowed;
     },
@@ -43,13 +36,15 @@ module _ (laws : ReplacesSubparts) {policy : Policy} {f : Form} {p : Properties}
   )
 
   -- where the bytes of a begun character begin
-  pub read-place : base + len_under policy.replace bytes text ≡ base + read.n + length (encode_utf8_all (text_of read.tail))
-  read-place = omega (arith, left-place _ _ _ _ _ left_is (text_of read.tail), len_under-first laws policy.replace read.tail (text_of read.tail) [] (sym (append-nil (text_of read.tail))))
+  pub read-place : len_under policy.replace bytes read.before ≡ read.read.n
+  read-place =
+      let none = len_under-first laws policy.replace reading.decoder [] (text_of reading.decoder) refl in
+      omega (arith, rw append-nil at (left-place left_is []), none)
 
   -- the text where nothing follows
-  pub whole_is : policy.replace ≡ true → whole_under policy.replace bytes ≡ text ++ (if begun_at_end read.tail == 0 then [] else replacement ∷ [])
+  pub whole_is : policy.replace ≡ true → whole_under policy.replace bytes ≡ read.before ++ (if length reading.decoder == 0 then [] else replacement ∷ [])
   unfolding replaced_whole
-  whole_is replaces = rw (replaces, append_assoc read.before (text_of read.tail)) (rw (replaces, text_under-begun laws read.tail read.decoder.begins true) at (left-whole _ _ _ _ _ left_is))
+  whole_is replaces = rw replaces (rw (replaces, begun-text reading.decoder read.read.begun true, begun-all reading.decoder read.read.begun) at (left-whole left_is))
 
 -- how much is left of a piece, with the bytes that the decoder holds: nothing where all was read
 abbrev pub left_of : ℕ → ℕ → ℕ

@@ -1,6 +1,6 @@
 -- What feeding all that a source gives comes to, by where it stopped.
 use Rattle.nf_filter.proofs.Common.{◌≡◌, ℕ, ◌+◌, ◌<◌, ◌≤◌, ◌^◌, ◌↔◌, false, List, [], ◌++◌, length, None, Ok, Err, ⊎_elim, refl, sym, ◌∙◌, arith, append_assoc, append-nil, IsTrue, IsFalse, Result, length-append, OnOk, Consumes, IsAtEnd, cases_lt, Properties, Form, Fault, Policy, TooLong, Read, Write, State, SinkState, SourceState, Puts, settled_utf8, fault_in, base_of, offset_of, is_spent, StandsAfter, Feeds, FeedsAll, result_err}
-use Rattle.nf_filter.proofs.WritesLemmas.{Puts-join, BreaksOff-join}
+use Rattle.nf_filter.proofs.WritesLemmas.{Puts-none, Puts-join, BreaksOff-join}
 use Rattle.nf_filter.proofs.FilterLemmas.{StandsAfter-offset, StandsAfter-fits}
 
 abbrev pub fed_by : Fault → Result (Unit {0}) Fault
@@ -12,6 +12,10 @@ pub record HasFed (policy : Policy) (f : Form) (p : Properties) (base : ℕ) (st
   pub stands : StandsAfter policy f p state (bytes ++ fed)
   pub no_fault : fault_in policy p base (bytes ++ fed) ≡ None
   pub put : Puts old new (settled_utf8 policy f p bytes) (settled_utf8 policy f p (bytes ++ fed))
+
+-- nothing yet
+pub HasFed-none : {policy : Policy} {f : Form} {p : Properties} {state : State} {bytes : List ℕ} {sink : SinkState} → StandsAfter policy f p state bytes → HasFed policy f p (base_of state) state bytes [] sink sink
+HasFed-none {bytes = bytes} stands = record { base_is = refl; stands = rw (append-nil bytes) stands; no_fault = rw (append-nil bytes) stands.no_fault; put = rw (append-nil bytes) (Puts-none _ _) }
 
 module _ (policy : Policy) (f : Form) (p : Properties) (base : ℕ) (state : State) (bytes fed : List ℕ) (old mid : SinkState) (so_far : HasFed policy f p base state bytes fed old mid) where
   here : offset_of state ≡ base + length bytes + length fed

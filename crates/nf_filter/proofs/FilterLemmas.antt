@@ -34,7 +34,7 @@ decided_in-fault p base bytes = ⊎_elim (λ e. rw e) (λ e. rw e) (cases_Bool (
 -- what a filter that stands after bytes says of them
 module _ {policy : Policy} {f : Form} {p : Properties} {state : State} {bytes : List ℕ} (stands : StandsAfter policy f p state bytes) where
   pub StandsAfter-offset : offset_of state ≡ base_of state + length bytes
-  StandsAfter-offset = omega (arith, length-append stands.reading.tail [])
+  StandsAfter-offset = omega (arith, stands.reading.read.offset, stands.reading.read.left.len, length-append state.reading.decoder [])
 
   pub StandsAfter-fits : base_of state + length bytes < 2 ^ 64
   StandsAfter-fits = omega (arith, StandsAfter-offset)

@@ -1,5 +1,5 @@
 -- What finishing answers.
-use Rattle.nf_filter.proofs.Common.{◌==◌, begun_at_end, ◌≡◌, ℕ, ◌+◌, Bool, true, false, List, [], ◌∷◌, ◌++◌, length, None, Ok, Err, ⊎_elim, refl, sym, ap, ◌∙◌, arith, append-nil, eq-eqb, Result, if◌then◌else◌, encode_utf8_all, length-append, cases_Bool, false_from_ne_true, and_from, Properties, Form, safe_form, Ending, Cut, text_of, ending_of, replacement, ReplacesSubparts, Fault, Write, Counted, Policy, Reading, Tally, SinkState, Puts, BreaksOff, allowed, whole_under, settled, is_usable, usable, settled_utf8, answer_at_end, first_fault, taken_utf8, HasReadTo, ReplacesCut, tally_of, answer_or, end_of, whole_or, is_taken, final_utf8, Closes, Finishes, Extends-encodes, usable-all, usable-stop, nil_from_length}
+use Rattle.nf_filter.proofs.Common.{◌==◌, ◌≡◌, ℕ, ◌+◌, Bool, true, false, List, [], ◌∷◌, ◌++◌, length, None, Ok, Err, ⊎_elim, refl, sym, ap, ◌∙◌, arith, append-nil, eq-eqb, Result, if◌then◌else◌, encode_utf8_all, length-append, cases_Bool, false_from_ne_true, and_from, Properties, Form, safe_form, Ending, Cut, ending_of, replacement, ReplacesSubparts, Fault, Write, Counted, Policy, Reading, Tally, SinkState, Puts, BreaksOff, allowed, text_under, whole_under, settled, is_usable, usable, settled_utf8, answer_at_end, first_fault, taken_utf8, HasReadTo, ReplacesCut, tally_of, answer_or, end_of, whole_or, is_taken, final_utf8, Closes, Finishes, Extends-encodes, usable-all, usable-stop, nil_from_length}
 use Rattle.nf_filter.proofs.WritesLemmas.{Puts-none, Puts-at, BreaksOff-extends}
 use Rattle.nf_filter.proofs.FilterLemmas.{err_is, failed_if}
 use Rattle.nf_filter.proofs.PolicyLemmas.{allowed-append, allowed-grows, taken-all, taken_whole, first_fault-none, taken}
@@ -9,6 +9,11 @@ use Rattle.nf_filter.proofs.FedLemmas.{read-text, read-settled, whole_is as whol
 use Rattle.nf_filter.proofs.WholeLemmas.{settled-whole}
 use Rattle.nf_filter.proofs.AgainLemmas.{answered}
 use Rattle.nf_filter.proofs.FeedingLemmas.{fed_by}
+
+-- where nothing is replaced, a begun character at the end gives nothing
+strict_whole : (r : Bool) (bytes : List ℕ) → r ≡ false → whole_under r bytes ≡ text_under r bytes
+strict_whole false bytes strict = refl
+strict_whole true bytes strict = cc
 
 -- what is written where the end is a fault
 cut_short : (base : ℕ) (ending : Ending) (fault : Fault) (settled whole : List ℕ) → Err fault ≡ answer_at_end base (tt {0}) ending → whole_or ending settled whole ≡ settled
@@ -26,17 +31,17 @@ module _ (laws : ReplacesSubparts) {policy : Policy} {f : Form} {p : Properties}
   whole = whole_under policy.replace bytes
 
   abbrev text : List ℕ
-  text = read.before ++ text_of read.tail
+  text = read.before
 
   -- nothing is replaced
   module _ (strict : policy.replace ≡ false) (sink : SinkState) where
-    end_is : answer_at_end base (tt {0}) (ending_of bytes) ≡ answer_at_end (base + read.n) (tt {0}) (ending_of read.tail)
-    end_is = left-end _ _ _ _ _ (left_is laws read) strict base
+    end_is : answer_at_end base (tt {0}) (ending_of bytes) ≡ answer_at_end (base + read.read.n) (tt {0}) (ending_of reading.decoder)
+    end_is = left-end (left_is laws read) strict base
 
     whole_is : whole ≡ text
-    whole_is = rw strict (rw strict at (read-text laws read))
+    whole_is = strict_whole policy.replace bytes strict ∙ read-text laws read
 
-    pub close-strict : (r : Result (Unit {0}) Fault) → r ≡ answer_at_end (base + read.n) (tt {0}) (ending_of read.tail) → ((fault : Fault) → r ≡ Err fault → ¬ (fault ≡ Write)) → Closes policy f p counted base bytes sink sink r
+    pub close-strict : (r : Result (Unit {0}) Fault) → r ≡ answer_at_end (base + read.read.n) (tt {0}) (ending_of reading.decoder) → ((fault : Fault) → r ≡ Err fault → ¬ (fault ≡ Write)) → Closes policy f p counted base bytes sink sink r
     unfolding end_of final_utf8
     close-strict (Ok u) is other =
         let told : Ok (tt {0}) ≡ answer_at_end base (tt {0}) (ending_of bytes) = is ∙ sym end_is in (
@@ -73,7 +78,7 @@ module _ (laws : ReplacesSubparts) {policy : Policy} {f : Form} {p : Properties}
         rw (more, none, append-nil text) (usable-all p text sound))
         (allowed-grows p policy.assigned last []) in
         rw (is, left) (read-settled laws read))
-        (cases_Bool (begun_at_end read.tail == 0))
+        (cases_Bool (length reading.decoder == 0))
 
     final_is : (b : Bool) → is_taken policy.assigned p whole ≡ b → final_utf8 policy f p bytes ≡ (if b then encode_utf8_all (safe_form f p whole) else settled_utf8 policy f p bytes)
     unfolding final_utf8

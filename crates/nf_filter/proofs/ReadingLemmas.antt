@@ -1,6 +1,9 @@
--- A piece more.
-use Rattle.nf_filter.proofs.Common.{encode_utf8_all, ◌≡◌, ℕ, ◌+◌, ◌-◌, List, [], ◌++◌, length, Some, None, refl, arith, Option, Result, chars, length-drop, result_map_both, utf8_valid_len_le, End, EndsBad, EndsPiece, bytes_after_piece, Takes, first_text, Ending, Whole, text_of, rest_of, ending_of, DecoderStandsAfter, Fault, BadByte, Reading, bad_byte, answer_at_end, Survey, decided_or, decided_in, HasSurveyed, false, text_under-none, nat_tests}
+-- Where the reading of bytes stands, for what takes their text.
+use Rattle.nf_filter.proofs.Common.{encode_utf8_all, ◌≡◌, ℕ, ◌+◌, ◌-◌, Bool, false, List, [], ◌++◌, length, Some, None, Err, refl, arith, nat_tests, append-nil, nil_from_length, Option, Result, chars, length-drop, result_map_both, utf8_valid_len_le, Ending, Whole, text_of, rest_of, ending_of, DecoderStandsAfter, Fault, Reading, bad_byte, answer_at_end, Survey, Decides, decided_in, HasSurveyed, ReadsText, ReadsOn, HasRead, IsLeft, sym, ◌∙◌, text_under-none}
+use Rattle.std.specs.Prelude.{IsNone}
 use Rattle.nf_utf8.specs.declared.decoder.Decoder.{Decoder}
+use Rattle.nf_utf8.proofs.LeftLemmas.{IsLeft-all, IsLeft-more, IsLeft-join}
+use Rattle.nf_filter.proofs.PieceLemmas.{left-text, left-bad, left-end, begun-text, begun-good}
 
 -- no bytes spell nothing
 pub text_of-none : text_of [] ≡ []
@@ -15,42 +18,72 @@ pub holds_nothing : (decoder : Decoder) → DecoderStandsAfter decoder [] → le
 unfolding rest_of
 holds_nothing decoder stands = grind (arith, stands.rest, length-drop)
 
+pub holds_none : (decoder : Decoder) → DecoderStandsAfter decoder [] → decoder ≡ []
+holds_none decoder stands = nil_from_length decoder (holds_nothing decoder stands)
+
 -- an answer at the end, by another that differs in the value alone
 pub end_is : {T : Type 0} (base : ℕ) (value : T) (ending : Ending) (end : Result (Unit {0}) Fault) → end ≡ answer_at_end base (tt {0}) ending
     → result_map_both (λ _. value) (λ fault. fault) end ≡ answer_at_end base value ending
 end_is base value Whole end is = rw is
 end_is base value _ end is = rw is
 
--- a piece has no ill-formed byte
-abbrev pub EndsWell : End → Type 0
-EndsWell end = (at back : ℕ) → ¬ (end ≡ EndsBad at back)
-
--- and is taken whole
-module _ (bytes piece : List ℕ) where
-  pub ends_well : (end : End) (base : ℕ) → EndsWell end → EndsPiece bytes piece end → bad_byte base (ending_of (bytes ++ piece)) ≡ None
-  ends_well (EndsBad at back) base well ends = absurd (well at back refl)
-  ends_well _ base well ends = rw ends
-
-  pub ends_badly : (base offset at back : ℕ) → offset ≡ base + length bytes → EndsPiece bytes piece (EndsBad at back) → bad_byte base (ending_of (bytes ++ piece)) ≡ Some (BadByte (offset + at) (offset + at - back))
-  ends_badly base offset at back here ends = grind (arith, ends.0, ends.1)
-
-  pub all_after : (end : End) → EndsWell end → bytes_after_piece bytes piece end ≡ bytes ++ piece
-  all_after (EndsBad at back) well = absurd (well at back refl)
-  all_after _ well = refl
+-- nothing was read
+pub new-read : (r : Bool) (base : ℕ) (reading : Reading) → reading.offset ≡ base → reading.decoder ≡ [] → HasRead r base reading [] [] []
+new-read r base reading offset none = record { n = 0; left = rw none (IsLeft-all r []); begun = rw none tt; offset = rw none (omega arith) }
 
 module _ {T : Type 0} {stands : List ℕ → Type 0} {decides : List ℕ → Option (Result T Fault)} {value : List ℕ → T} {survey : Survey T} {reading : Reading} where
-  -- nothing was read, and a text of no characters decides nothing
+  -- and a text of no characters decides nothing
   pub HasSurveyed-none : reading.offset ≡ survey.base → DecoderStandsAfter reading.decoder [] → stands [] → decides [] ≡ None
       → ((bytes : List ℕ) → survey.decision bytes ≡ decided_in decides survey.base bytes) → ((bytes : List ℕ) → survey.value bytes ≡ value (text_of bytes)) → HasSurveyed stands decides value survey reading []
-  HasSurveyed-none offset decoder taken undecided decides worth =
-      record { offset = omega arith; decoder = decoder; taken = rw text_of-none taken; decides = decides; worth = worth; undecided = rw (decides [], text_of-none, ending_of-none, undecided) }
+  HasSurveyed-none offset decoder taken undecided decides worth = record {
+    reads = record { before = []; read = new-read false survey.base reading offset (holds_none reading.decoder decoder); taken = taken };
+    decides = decides;
+    worth = worth;
+    undecided = rw (decides [], text_of-none, ending_of-none, undecided);
+  }
 
-  module _ {bytes : List ℕ} (before : HasSurveyed stands decides value survey reading bytes) where
-    -- where the text of a piece begins
-    pub begins_at : (carried : ℕ) → length (encode_utf8_all (text_of bytes)) + carried ≡ length bytes → reading.offset - carried ≡ survey.base + length (encode_utf8_all (text_of bytes))
-    begins_at carried after = omega arith
+module _ {stands : List ℕ → Type 0} {base : ℕ} {reading : Reading} {bytes rest : List ℕ} (reads : ReadsText stands base reading bytes rest) where
+  -- where its text goes on
+  pub reads-at : reading.offset - length reading.decoder ≡ base + length (encode_utf8_all reads.before)
+  reads-at = omega (arith, reads.read.offset, reads.read.left.own refl)
 
-    -- what all the bytes decide with it
-    pub decided_then : {piece : List ℕ} {first : Option ℕ} {text : List ℕ} {end : End} → Takes bytes piece first text end
-        → (o : Option (Result T Fault)) → decides ((text_of bytes ++ first_text first) ++ chars text) ≡ o → survey.decision (bytes ++ piece) ≡ decided_or o (bad_byte survey.base (ending_of (bytes ++ piece)))
-    decided_then {piece} took o is = rw (before.decides (bytes ++ piece), took.spelled, is)
+  -- what they decide is decided by the text that was taken and what comes after it
+  pub reads-decides : {T : Type 0} (decides : List ℕ → Option (Result T Fault)) (text : List ℕ) {left : List ℕ} {m : ℕ} {answer : Result T Fault} → IsLeft false (reading.decoder ++ rest) (chars text) m left
+      → Decides decides (reads.before ++ chars text) answer → decided_in decides base bytes ≡ Some answer
+  reads-decides decides text {left = left} after decided = rw (left-text (IsLeft-join reads.read.left after), decided (text_of left)) refl
+
+  -- or by a bad byte
+  pub reads-bad : {T : Type 0} (decides : List ℕ → Option (Result T Fault)) {fault : Fault} → decides reads.before ≡ None → text_of (reading.decoder ++ rest) ≡ []
+      → Some fault ≡ bad_byte (reading.offset - length reading.decoder) (ending_of (reading.decoder ++ rest)) → decided_in decides base bytes ≡ Some (Err fault)
+  reads-bad decides undecided none told =
+      let here : reading.offset - length reading.decoder ≡ base + reads.read.n = omega (arith, reads.read.offset) in
+      rw (left-text reads.read.left, none, append-nil reads.before, undecided, left-bad reads.read.left base, ← here, ← told) refl
+
+-- all of them were read
+module _ {stands : List ℕ → Type 0} {base : ℕ} {reading : Reading} {bytes : List ℕ} (reads : ReadsText stands base reading bytes []) where
+  pub all-text : text_of bytes ≡ reads.before
+  all-text = rw (append-nil reading.decoder, begun-text reading.decoder reads.read.begun false, append-nil reads.before) at (left-text reads.read.left)
+
+  pub all-undecided : {T : Type 0} (decides : List ℕ → Option (Result T Fault)) → decides reads.before ≡ None → decided_in decides base bytes ≡ None
+  all-undecided decides undecided =
+      rw (all-text, undecided, rw append-nil at (left-bad reads.read.left base), begun-good reading.decoder reads.read.begun (base + reads.read.n)) refl
+
+  -- a piece more is to be read
+  pub reads-more : (piece : List ℕ) → ReadsText stands base reading (bytes ++ piece) piece
+  reads-more piece = record {
+    before = reads.before;
+    read = record { n = reads.read.n; left = rw (append-nil reading.decoder) at (IsLeft-more piece reads.read.left); begun = reads.read.begun; offset = reads.read.offset };
+    taken = reads.taken;
+  }
+
+  pub all-end : answer_at_end base (tt {0}) (ending_of bytes) ≡ answer_at_end (base + reads.read.n) (tt {0}) (ending_of reading.decoder)
+  all-end = rw append-nil at (left-end reads.read.left refl base)
+
+-- what a piece more decides
+module _ {T : Type 0} {stands : List ℕ → Type 0} {decides : List ℕ → Option (Result T Fault)} {value : List ℕ → T} {survey : Survey T} {reading : Reading} {bytes : List ℕ} (before : HasSurveyed stands decides value survey reading bytes) where
+  pub surveyed-on : {taken : List ℕ → Type 0} {now : Reading} (piece : List ℕ) (r : Option (Result T Fault)) → ReadsOn taken decides survey.base now (bytes ++ piece) [] r → ((x : List ℕ) → taken x → decides x ≡ None)
+      → (r ≡ survey.decision (bytes ++ piece)) × (IsNone r → HasSurveyed taken decides value survey now (bytes ++ piece))
+  surveyed-on piece (Some answer) told undecided = (sym (before.decides (bytes ++ piece) ∙ told), λ none. cc)
+  surveyed-on piece None reads undecided =
+      let none = before.decides (bytes ++ piece) ∙ all-undecided reads decides (undecided reads.before reads.taken) in
+      (sym none, λ _. record { reads = reads; decides = before.decides; worth = before.worth; undecided = none })

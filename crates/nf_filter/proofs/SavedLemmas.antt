@@ -1,5 +1,5 @@
 -- Each filter that is spent or stands after bytes has a state of which one can be made.
-use Rattle.nf_filter.proofs.Common.{◌≡◌, ℕ, ◌+◌, ◌≤◌, Bool, true, false, inr, List, [], ◌∷◌, ◌++◌, length, map, Option, Some, None, IfSome, refl, sym, ap, ◌∙◌, arith, length-append, encode_utf8_all, eqb-true, nat_tests, length-map, nil_from_length, length-le-encodes, take-length, list_all, is_some, Properties, Form, Nfc, Nfd, row_of, decomposed, composes, is_sound, max_run, stream_safe, back-starter, IsSound, IsSound-from_test, ReplacesSubparts, text_of, decoded_text, decoded_of, replaced, replaced_len, bytes_in, State, Policy, StandsAfter, len_under, text_under, saved_of, are_marks, IsCounted, IsRestorable, is_usable, has_starter, trail, trail-marks}
+use Rattle.nf_filter.proofs.Common.{◌≡◌, ℕ, ◌≤◌, Bool, true, false, inr, List, [], ◌∷◌, length, map, Option, Some, None, IfSome, refl, sym, ap, ◌∙◌, arith, length-append, eqb-true, nat_tests, length-map, nil_from_length, length-le-encodes, take-length, list_all, is_some, Properties, Form, Nfc, Nfd, row_of, decomposed, composes, is_sound, max_run, stream_safe, back-starter, IsSound, IsSound-from_test, ReplacesSubparts, text_of, decoded_text, decoded_of, replaced, replaced_len, bytes_in, State, Policy, StandsAfter, len_under, text_under, saved_of, are_marks, IsCounted, IsRestorable, is_usable, has_starter, trail, trail-marks}
 use Rattle.std.specs.Option.{option_to_list}
 use Rattle.nf_forms.specs.Order.{by_class}
 use Rattle.nf_forms.specs.Ordering.{is_ordered}
@@ -54,7 +54,7 @@ none (Some c) e = cc
 -- one that stands after bytes
 module _ (laws : ReplacesSubparts) {policy : Policy} {f : Form} {p : Properties} {state : State} {bytes : List ℕ} (stands : StandsAfter policy f p state bytes) where
   abbrev text : List ℕ
-  text = stands.reading.before ++ text_of stands.reading.tail
+  text = stands.reading.before
 
   abbrev decomposition : List ℕ
   decomposition = decomposed f p (stream_safe p text)
@@ -74,9 +74,9 @@ module _ (laws : ReplacesSubparts) {policy : Policy} {f : Form} {p : Properties}
   starter None e = tt
   starter (Some c) e = eqb-true (p.class c) 0 (back-starter p (composes f) pending.head pending.ends c (sym pending.starter ∙ ap option_to_list e))
 
-  pub IsRestorable-stands : IsSubpart state.reading.decoder → state.counted.normalizer.counter ≤ max_run → length (encode_utf8_all (text_of stands.reading.tail)) + length state.reading.decoder ≡ length stands.reading.tail → IsRestorable p (saved_of state)
+  pub IsRestorable-stands : IsSubpart state.reading.decoder → state.counted.normalizer.counter ≤ max_run → IsRestorable p (saved_of state)
   unfolding is_usable
-  IsRestorable-stands part count begun =
+  IsRestorable-stands part count =
       let taken = stands.reading.taken in
       let ready = (state.ready stands.unspent).end.0 in
       let run_is = run_len-trail f p _ decomposition pending in

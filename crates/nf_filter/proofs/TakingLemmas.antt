@@ -20,6 +20,16 @@ placed-after place at x y front rest after is offset here more c last text =
 pub placed-within : (place : List ℕ → ℕ) (at : ℕ) (x y front rest : List ℕ) → y ≡ front ++ rest → IsPlacedAt place at x y → IsPlacedAt place at x front
 placed-within place at x y front rest is here more c last text = here more c (last ++ rest) (rw (text, append_assoc more (c ∷ last) rest) at is)
 
+-- the only offset of a text of one character is that at which it begins
+pub one_has_places : (at c : ℕ) → at < 2 ^ 64 → (front : List ℕ) (d : ℕ) (rest : List ℕ) → c ∷ [] ≡ front ++ d ∷ rest → at + length (encode_utf8_all front) < 2 ^ 64
+one_has_places at c fits [] d rest is = omega arith
+one_has_places at c fits (e ∷ front) d rest is = absurd (omega (arith, ap length is, length-append front (d ∷ rest)))
+
+-- in a text of one character no other is placed
+pub one_placed : (place : List ℕ → ℕ) (at : ℕ) (x : List ℕ) (c : ℕ) → place x ≡ at → IsPlacedAt place at x (c ∷ [])
+one_placed place at x c here [] d rest is = rw (append-nil x) (omega arith)
+one_placed place at x c here (e ∷ front) d rest is = absurd (omega (arith, ap length is, length-append front (d ∷ rest)))
+
 -- three parts
 pub chars-three : (text a b rest : List ℕ) → IsUtf8 a → IsUtf8 b → text ≡ a ++ (b ++ rest) → chars text ≡ (chars a ++ chars b) ++ chars rest
 chars-three text a b rest first second is =

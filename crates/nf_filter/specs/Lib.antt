@@ -13,6 +13,7 @@ pub mod Laws
 pub mod Faults
 pub mod Counted
 pub mod Surveys
+pub mod Reads
 pub mod Taker
 pub mod Stepping
 pub mod Feeding

@@ -1,11 +1,11 @@
 -- What becomes of a text that is taken piece by piece.
-use Rattle.std.specs.Prelude.{◌≡◌, ℕ, ◌+◌, ◌-◌, ◌≤◌, List, ◌++◌, length, chars, Option, Some, None, option_map, Result, Ok, Err}
+use Rattle.std.specs.Prelude.{◌≡◌, false, ℕ, ◌-◌, ◌≤◌, List, [], ◌++◌, length, chars, Option, Some, None, option_map, Result, Ok, Err}
 use Rattle.std.specs.Borrow.{Bor}
 use Rattle.nf_utf8.specs.Reading.{text_of, ending_of}
-use Rattle.nf_utf8.specs.Standing.{StandsAfter as DecoderStandsAfter}
 use Rattle.nf_filter.specs.declared.fault.Fault.{Fault}
 use Rattle.nf_filter.specs.declared.reading.Reading.{Reading}
 use Rattle.nf_filter.specs.Faults.{bad_byte}
+use Rattle.nf_filter.specs.Reads.{HasRead}
 use Rattle.nf_filter.specs.Surveys.{Survey}
 
 -- the text x decides this, whatever follows. `decides` says what a text decides.
@@ -36,6 +36,17 @@ decided_or None fault = option_map Err fault
 abbrev pub decided_in : {T : Type 0} → (List ℕ → Option (Result T Fault)) → ℕ → List ℕ → Option (Result T Fault)
 decided_in decides base bytes = decided_or (decides (text_of bytes)) (bad_byte base (ending_of bytes))
 
+-- of the bytes all but `rest` were read, and what they gave was taken
+pub record ReadsText (stands : List ℕ → Type 0) (base : ℕ) (reading : Reading) (bytes rest : List ℕ) : Type 0 where
+  pub before : List ℕ
+  pub read : HasRead false base reading bytes rest before
+  pub taken : stands before
+
+-- so they were, or what the bytes decide is told
+abbrev pub ReadsOn : {T : Type 0} → (List ℕ → Type 0) → (List ℕ → Option (Result T Fault)) → ℕ → Reading → List ℕ → List ℕ → Option (Result T Fault) → Type 0
+ReadsOn stands decides base reading bytes rest None = ReadsText stands base reading bytes rest
+ReadsOn stands decides base reading bytes rest (Some answer) = decided_in decides base bytes ≡ Some answer
+
 -- what it has taken ends before the bytes of a begun character
 pub record IsReady (ends_at : ℕ → Type 0) (reading : Reading) : Type 0 where
   pub held : length reading.decoder ≤ reading.offset
@@ -43,9 +54,7 @@ pub record IsReady (ends_at : ℕ → Type 0) (reading : Reading) : Type 0 where
 
 -- the bytes were read, and what is asked of them is what they decide, or else what their text comes to
 pub record HasSurveyed {T : Type 0} (stands : List ℕ → Type 0) (decided : List ℕ → Option (Result T Fault)) (value : List ℕ → T) (survey : Survey T) (reading : Reading) (bytes : List ℕ) : Type 0 where
-  pub offset : reading.offset ≡ survey.base + length bytes
-  pub decoder : DecoderStandsAfter reading.decoder bytes
-  pub taken : stands (text_of bytes)
+  pub reads : ReadsText stands survey.base reading bytes []
   pub decides : (bytes : List ℕ) → survey.decision bytes ≡ decided_in decided survey.base bytes
   pub worth : (bytes : List ℕ) → survey.value bytes ≡ value (text_of bytes)
   pub undecided : survey.decision bytes ≡ None

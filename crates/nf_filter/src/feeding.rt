@@ -1,4 +1,9 @@
 //! Reading a piece for a normalizer, under a policy.
+ghost use Rattle.std.specs.Prelude.{◌≡◌, ◌+◌, ◌≤◌, ℕ, List, ◌++◌, length, encode_utf8_all};
+ghost use Rattle.nf_utf8.specs.Replaced.{replaced, replaced_len};
+ghost use Rattle.nf_filter.specs.Kinds.{kind};
+ghost use Rattle.nf_filter.specs.Faults.{fault_place, moved_to};
+
 use crate::block::Block;
 use crate::counted::Counted;
 use crate::devices::Sink;
@@ -6,7 +11,7 @@ use crate::fault::Fault;
 use crate::policy::Policy;
 use crate::reading::Reading;
 use nf_row::Rows;
-use nf_utf8::{End, laws};
+use nf_utf8::{LossyText, laws, source_len};
 
 impl Reading {
     ghost use Rattle.std.specs.Prelude.{◌≡◌, ◌+◌, ◌<◌, ◌≤◌, true, ℕ, List, [], ◌++◌, length, None, IfErr, IfOk, OnOk, MatchResult};
@@ -66,9 +71,10 @@ impl Reading {
             (RefusesBytes policy f p start (block_state (S.state sink.new) block.new) base bytes) }
         ensures lender { (S.state sink.new).lender ≡ (S.state sink.old).lender }
     {
+        let mut room = LossyText::new();
         let mut left = piece;
         while !left.is_empty() {
-            match self.read_chunk(policy, rows, left, counted, block, sink) {
+            match self.read_text(policy, rows, left, &mut room, counted, block, sink) {
                 Ok(rest) => left = rest,
                 Err(fault) => return Err(fault),
             }
@@ -76,13 +82,13 @@ impl Reading {
         Ok(())
     }
 
-    /// Reads what is left of a piece up to its first ill-formed byte. Where that is replaced, reads the ill-formed part too,
-    /// and those that are near. Answers what stands after them.
-    fn read_chunk<'p, R: Rows, S: Sink>(
+    /// Reads the next text of what is left of a piece. Answers what stands after it.
+    fn read_text<'p, R: Rows, S: Sink>(
         &mut self,
         policy: Policy,
         rows: &R,
         rest: &'p [u8],
+        room: &mut LossyText,
         counted: &mut Counted,
         block: &mut Block,
         sink: &mut S,
@@ -99,45 +105,16 @@ impl Reading {
             (RefusesBytes policy f p start (block_state (S.state sink.new) block.new) base bytes) }
         ensures lender { (S.state sink.new).lender ≡ (S.state sink.old).lender }
     {
-        laws::split();
         laws::replacing();
         let begin = self.offset - self.decoder.carried() as u64;
-        let chunk = self.decoder.take(rest);
-        if let Err(fault) = counted.take_both(
-            rows,
-            policy.assigned,
-            begin,
-            chunk.first,
-            chunk.text,
-            block,
-            sink,
-        ) {
-            return Err(fault);
-        }
-        let chunk_end = chunk.end;
-        let End::Bad { at, back } = chunk_end else {
-            self.offset += rest.len() as u64;
-            return Ok(&[]);
+        let next = match self.next_text(policy.replace, rest, room) {
+            Ok(next) => next,
+            Err(fault) => return Err(fault),
         };
-        let place = self.offset + at as u64;
-        let start = place - back as u64;
-        if !policy.replace {
-            return Err(Fault::BadByte { at: place, start });
+        match counted.take_allowed(rows, policy.assigned, 0, next.text, block, sink) {
+            Ok(()) => Ok(&rest[next.len..]),
+            Err(fault) => Err(told(fault, begin, rest)),
         }
-        if let Err(fault) = counted.take_one(
-            rows,
-            policy.assigned,
-            start,
-            char::REPLACEMENT_CHARACTER,
-            block,
-            sink,
-        ) {
-            return Err(fault);
-        }
-        // A byte that breaks a begun character off is read again.
-        let len = if back == 0 { at + 1 } else { at };
-        self.offset += len as u64;
-        self.read_lossy(policy, rows, &rest[len..], counted, block, sink)
     }
 
     /// At the end of all bytes: a character that it cuts is refused, or U+FFFD is taken for it.
@@ -155,7 +132,6 @@ impl Reading {
             → Closes policy f p counted.new base bytes (S.state sink.old) (S.state sink.new) result }
         ensures lender { (S.state sink.new).lender ≡ (S.state sink.old).lender }
     {
-        laws::split();
         laws::replacing();
         if policy.replace {
             return self.replace_cut(policy, rows, counted, sink);
@@ -185,14 +161,26 @@ impl Reading {
         }
         let at = self.offset - carried as u64;
         let mut block = Block::new(false);
-        let taken = counted.take_one(
-            rows,
-            policy.assigned,
-            at,
-            char::REPLACEMENT_CHARACTER,
-            &mut block,
-            sink,
-        );
+        let taken = counted.take_allowed(rows, policy.assigned, at, "\u{FFFD}", &mut block, sink);
         block.close(taken, sink)
+    }
+}
+
+/// A fault that is told by its place in the text that the bytes gave, by its place among them. The first has the offset
+/// `begin`.
+fn told(fault: Fault, begin: u64, bytes: &[u8]) -> Fault
+    requires { begin + length bytes.now ≤ u64.MAX }
+    ensures kind { kind result ≡ kind fault }
+    ensures place { (front more : List ℕ) → replaced bytes.now ≡ front ++ more → fault_place fault ≡ length (encode_utf8_all front)
+        → result ≡ moved_to (begin + replaced_len (length front) bytes.now) fault }
+{
+    match fault {
+        Fault::Row { at } => Fault::Row {
+            at: begin + source_len(bytes, at as usize) as u64,
+        },
+        Fault::Unassigned { at } => Fault::Unassigned {
+            at: begin + source_len(bytes, at as usize) as u64,
+        },
+        other => other,
     }
 }

@@ -13,7 +13,6 @@ mod filter;
 mod from_reader;
 mod held;
 pub mod laws;
-mod lossy;
 mod measuring;
 mod policy;
 mod reading;

@@ -1,7 +1,7 @@
 ghost use Rattle.std.specs.Prelude.{◌<◌, ◌^◌};
 
 use crate::fault::Fault;
-use nf_utf8::Decoder;
+use nf_utf8::{Decoder, LossyText, NextText};
 
 /// The bytes read so far, as far as those to come ask for them.
 #[derive(Clone, Copy, Debug, Drop)]
@@ -14,10 +14,13 @@ pub struct Reading {
 }
 
 impl Reading {
-    ghost use Rattle.std.specs.Prelude.{◌≡◌, ◌+◌, ◌<◌, ◌≤◌, ◌↔◌, ℕ, List, [], length, IfErr, IsTrue};
-    ghost use Rattle.nf_utf8.specs.Reading.{ending_of};
+    ghost use Rattle.std.specs.Prelude.{◌≡◌, ◌+◌, ◌-◌, ◌<◌, ◌≤◌, ◌↔◌, false, ℕ, List, [], ◌∷◌, ◌++◌, length, Some, IfOk, IfErr, IsTrue};
+    ghost use Rattle.nf_utf8.specs.Reading.{text_of, ending_of};
     ghost use Rattle.nf_utf8.specs.Standing.{StandsAfter};
-    ghost use Rattle.nf_filter.specs.Faults.{answer_at_end};
+    ghost use Rattle.nf_utf8.specs.Subpart.{IsSubpart};
+    ghost use Rattle.nf_utf8.specs.Left.{ReadsNext};
+    ghost use Rattle.nf_filter.specs.Faults.{answer_at_end, bad_byte};
+    ghost use Rattle.nf_filter.specs.Kinds.{ill_formed, IsAmong};
     ghost use Rattle.nf_filter.specs.Surveys.{IsCut};
 
     /// No byte yet; the first has the offset `base`.
@@ -37,6 +40,33 @@ impl Reading {
         ensures { IsTrue result ↔ (u64.MAX < self.now.offset + length piece.now) }
     {
         self.offset.checked_add(piece.len() as u64).is_none()
+    }
+
+    /// Reads the next text of what is left of a piece. A bad byte at the front is refused, where such are not replaced.
+    pub fn next_text<'t>(
+        &mut self,
+        replace: bool,
+        rest: &'t [u8],
+        room: &'t mut LossyText,
+    ) -> Result<NextText<'t>, Fault>
+        requires held { length self.old.decoder ≤ self.old.offset }
+        requires fits { self.old.offset + length rest.now ≤ u64.MAX }
+        ensures begun { IsSubpart self.new.decoder }
+        ensures reads { IfOk result (λ next. ReadsNext replace self.old.decoder rest.now next.text.now next.len self.new.decoder × (self.new.offset ≡ self.old.offset + next.len)) }
+        ensures kinds { IfErr result (IsAmong (ill_formed ∷ [])) }
+        ensures bad { IfErr result (λ fault. (replace ≡ false) × (text_of (self.old.decoder ++ rest.now) ≡ [])
+            × (Some fault ≡ bad_byte (self.old.offset - length self.old.decoder) (ending_of (self.old.decoder ++ rest.now)))) }
+    {
+        match self.decoder.next_text(replace, rest, room) {
+            Ok(next) => {
+                self.offset += next.len as u64;
+                Ok(next)
+            }
+            Err(bad) => Err(Fault::BadByte {
+                at: self.offset + bad.at as u64,
+                start: self.offset - self.decoder.carried() as u64,
+            }),
+        }
     }
 
     /// Refuses an end inside a character.

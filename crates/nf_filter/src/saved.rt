@@ -50,7 +50,6 @@ impl<'r, R: Rows> Filter<'r, R> {
         ensures restorable { let p = R.properties (rows_of self.now) in
             (policy : Policy) (f : Form) (bytes : List ℕ) → StandsAfter policy f p (state_of self.now) bytes → IsRestorable p result }
     {
-        laws::split();
         laws::replacing();
         let state = &self.state;
         let normalizer = &state.counted.normalizer;

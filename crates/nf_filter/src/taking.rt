@@ -20,7 +20,6 @@ const MIN_LOOK_UPS: usize = 16;
 impl Counted {
     ghost use Rattle.std.specs.Prelude.{◌≡◌, ◌+◌, ◌<◌, ◌≤◌, Bool, ℕ, List, [], ◌∷◌, ◌++◌, length, chars, Err, IfErr, OnOk, MatchResult};
     ghost use Rattle.nf_forms.specs.declared.form.Form.{Form};
-    ghost use Rattle.nf_utf8.specs.Taking.{first_text, first_bytes};
     ghost use Rattle.nf_normalizer.specs.Normalizer.{IsWithin as IsReady};
     ghost use Rattle.nf_filter.specs.Block.{Start, block_state, Written};
     ghost use Rattle.nf_filter.specs.Counted.{HasPlaces, HasTaken, IsPlacedAt, IsWithin, TakesOn, settled_text};
@@ -29,67 +28,8 @@ impl Counted {
     ghost use Rattle.nf_filter.specs.Policy.{allowed};
     ghost use Rattle.nf_filter.specs.Stepping.{HasStepped, Standing, StandsInFront};
 
-    /// Takes the first character, where there is one, and the text after it, which begins with it at the offset `at`.
-    /// Where only assigned characters are allowed, the first other is refused.
-    pub(crate) fn take_both<R: Rows, S: Sink>(
-        &mut self,
-        rows: &R,
-        assigned: bool,
-        at: u64,
-        first: Option<char>,
-        text: &str,
-        block: &mut Block,
-        sink: &mut S,
-    ) -> Result<(), Fault>
-        requires within { IsWithin self.old }
-        requires chars { self.old.chars ≤ at }
-        requires fits { at + length (first_bytes first) + length text.now ≤ u64.MAX }
-        ensures within { OnOk result (IsWithin self.new) }
-        ensures chars { OnOk result (self.new.chars ≤ at + length (first_bytes first) + length text.now) }
-        ensures faults { IfErr result IsOfTaking }
-        ensures takes { let p = R.properties rows.now in
-            (f : Form) (place : List ℕ → ℕ) (x : List ℕ) (start : Start) → HasTaken f p self.old x → allowed assigned p x ≡ x
-            → IsPlacedAt place at x (first_text first ++ chars text.now) → Written start (block_state (S.state sink.old) block.old) (settled_text f p x)
-            → TakesAllowed assigned f p self.new start (block_state (S.state sink.new) block.new) place (x ++ (first_text first ++ chars text.now)) result }
-        ensures lender { (S.state sink.new).lender ≡ (S.state sink.old).lender }
-    {
-        let Some(c) = first else {
-            return self.take_allowed(rows, assigned, at, text, block, sink);
-        };
-        if let Err(fault) = self.take_one(rows, assigned, at, c, block, sink) {
-            return Err(fault);
-        }
-        self.take_allowed(rows, assigned, at + c.len_utf8() as u64, text, block, sink)
-    }
-
-    /// Takes the character at the offset `at`. Where only assigned characters are allowed, another is refused.
-    pub(crate) fn take_one<R: Rows, S: Sink>(
-        &mut self,
-        rows: &R,
-        assigned: bool,
-        at: u64,
-        c: char,
-        block: &mut Block,
-        sink: &mut S,
-    ) -> Result<(), Fault>
-        requires within { IsWithin self.old }
-        requires counts { self.old.chars < u64.MAX }
-        ensures within { OnOk result (IsWithin self.new) }
-        ensures chars { OnOk result (self.new.chars ≡ self.old.chars + 1) }
-        ensures faults { IfErr result IsOfTaking }
-        ensures takes { let p = R.properties rows.now in
-            (f : Form) (place : List ℕ → ℕ) (x : List ℕ) (start : Start) → HasTaken f p self.old x → allowed assigned p x ≡ x
-            → IsPlacedAt place at x (c ∷ []) → Written start (block_state (S.state sink.old) block.old) (settled_text f p x)
-            → TakesAllowed assigned f p self.new start (block_state (S.state sink.new) block.new) place (x ++ c ∷ []) result }
-        ensures lender { (S.state sink.new).lender ≡ (S.state sink.old).lender }
-    {
-        let mut bytes = [0; 4];
-        let text = c.encode_utf8(&mut bytes);
-        self.take_allowed(rows, assigned, at, text, block, sink)
-    }
-
     /// Takes a text that begins at the offset `at`. Where only assigned characters are allowed, the first other is refused.
-    fn take_allowed<R: Rows, S: Sink>(
+    pub(crate) fn take_allowed<R: Rows, S: Sink>(
         &mut self,
         rows: &R,
         assigned: bool,
@@ -123,7 +63,7 @@ impl Counted {
     }
 
     /// Takes a text that begins at the offset `at`.
-    pub(crate) fn take_text<R: Rows, S: Sink>(
+    fn take_text<R: Rows, S: Sink>(
         &mut self,
         rows: &R,
         at: u64,
@@ -197,11 +137,7 @@ impl Counted {
 }
 
 /// The characters at the front of the text that are taken, all or the assigned ones, and what stands after them.
-pub(crate) fn split_allowed<'t, R: Rows>(
-    rows: &R,
-    assigned: bool,
-    text: &'t str,
-) -> (&'t str, &'t str)
+fn split_allowed<'t, R: Rows>(rows: &R, assigned: bool, text: &'t str) -> (&'t str, &'t str)
     ensures front { chars result.0.now ≡ allowed assigned (R.properties rows.now) (chars text.now) }
     ensures whole { chars text.now ≡ chars result.0.now ++ chars result.1.now }
 {

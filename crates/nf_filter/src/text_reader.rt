@@ -1,15 +1,16 @@
 //! The text of bytes, for what takes it.
-ghost use Rattle.std.specs.Prelude.{◌≡◌, length, chars};
-ghost use Rattle.nf_utf8.specs.Taking.{first_text, first_bytes};
+ghost use Rattle.std.specs.Prelude.{◌≡◌, ◌+◌, ◌≤◌, ℕ, List, [], ◌∷◌, length, IfErr, IfSome, IsNone};
+ghost use Rattle.std.proofs.Common.{arith, length-append};
+ghost use Rattle.nf_filter.specs.Kinds.{row, ill_formed, IsAmong};
 ghost use Rattle.nf_filter.specs.Surveys.{IsOfSurvey};
-ghost use Rattle.nf_filter.specs.Taker.{IsReady, HasSurveyed};
+ghost use Rattle.nf_filter.specs.Taker.{IsReady, HasSurveyed, ReadsText, ReadsOn};
 
 use crate::fault::Fault;
 use crate::reading::Reading;
 use crate::surveyor::Surveyor;
 use crate::taker::{Taker, take_text};
 use nf_row::Rows;
-use nf_utf8::{End, laws};
+use nf_utf8::LossyText;
 
 /// Gives the text of the bytes to a taker.
 #[derive(Drop)]
@@ -37,31 +38,10 @@ impl<R: Rows, T: Taker> Surveyor for TextReader<'_, R, T> {
             rows,
             taker,
         } = self;
-        let Some(end) = reading.offset.checked_add(piece.len() as u64) else {
+        if reading.is_too_long(piece) {
             return Some(Err(Fault::TooLong));
-        };
-        laws::split();
-        let at = reading.offset - reading.decoder.carried() as u64;
-        let chunk = reading.decoder.take(piece);
-        let mut room = [0; 4];
-        let first = encoded(chunk.first, &mut room);
-        if let Some(answer) = take_text(taker, *rows, at, first) {
-            return Some(answer);
         }
-        let after = at + first.len() as u64;
-        if let Some(answer) = take_text(taker, *rows, after, chunk.text) {
-            return Some(answer);
-        }
-        let piece_end = chunk.end;
-        if let End::Bad { at, back } = piece_end {
-            let place = reading.offset + at as u64;
-            return Some(Err(Fault::BadByte {
-                at: place,
-                start: place - back as u64,
-            }));
-        }
-        reading.offset = end;
-        None
+        read_piece(reading, *rows, taker, piece)
     }
 
     fn end(self) -> Result<T::Answer, Fault> {
@@ -73,16 +53,36 @@ impl<R: Rows, T: Taker> Surveyor for TextReader<'_, R, T> {
 
     ghost reads = { tt };
 
-    ghost stands = { λ reader survey bytes taken. (taken.undecided, taken.offset) };
+    ghost stands = { λ reader survey bytes taken. (taken.undecided, omega (arith, taken.reads.read.offset, taken.reads.read.left.len, length-append reader.reading.decoder [])) };
 }
 
-/// The first character of a piece, as a text, where there is one.
-fn encoded(first: Option<char>, room: &mut [u8; 4]) -> &str
-    ensures text { chars result.now ≡ first_text first }
-    ensures len { length result.now ≡ length (first_bytes first) }
+/// Gives the taker the text of a piece, up to what decides or to a bad byte.
+fn read_piece<R: Rows, T: Taker>(
+    reading: &mut Reading,
+    rows: &R,
+    taker: &mut T,
+    piece: &[u8],
+) -> Option<Result<T::Answer, Fault>>
+    requires ready { IsReady (T.ends_at taker.old) reading.old }
+    requires fits { reading.old.offset + length piece.now ≤ u64.MAX }
+    ensures ready { IsNone result → IsReady (T.ends_at taker.new) reading.new × (reading.new.offset ≡ reading.old.offset + length piece.now) }
+    ensures faults { IfSome result (λ answer. IfErr answer (IsAmong (row ∷ ill_formed ∷ []))) }
+    ensures reads { let p = R.properties rows.now in
+        (base : ℕ) (bytes : List ℕ) → ReadsText (T.has_taken p taker.old base) base reading.old bytes piece.now
+        → ReadsOn (T.has_taken p taker.new base) (T.decides p base) base reading.new bytes [] result }
 {
-    match first {
-        Some(c) => c.encode_utf8(room),
-        None => "",
+    let mut room = LossyText::new();
+    let mut left = piece;
+    while !left.is_empty() {
+        let at = reading.offset - reading.decoder.carried() as u64;
+        let next = match reading.next_text(false, left, &mut room) {
+            Ok(next) => next,
+            Err(fault) => return Some(Err(fault)),
+        };
+        if let Some(answer) = take_text(taker, rows, at, next.text) {
+            return Some(answer);
+        }
+        left = &left[next.len..];
     }
+    None
 }

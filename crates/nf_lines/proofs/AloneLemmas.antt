@@ -1,7 +1,8 @@
 -- Lines, and what stands after them.
-use Rattle.nf_lines.proofs.Common.{Result, Ok, Err, ◌≡◌, ℕ, ◌+◌, Bool, true, false, List, [], ◌∷◌, ◌++◌, length, Option, Some, None, inl, inr, encode_utf8_all, refl, ◌∙◌, arith, append_assoc, append-nil, length-append, result_err, cases_Bool, encodes-append, Form, Nfc, Ending, Whole, text_of, ending_of, decoded_of, replaced, replaced_whole, line_feed, Fault, Policy, Tally, text_under-none, answer_at_end, first_fault, fault_in, IsLeft, answer_or, end_under, end_of, final_utf8, allowed, text_under, whole_under, settled_utf8, EndsInLineFeed, end_fault, StandAlone}
+use Rattle.nf_lines.proofs.Common.{Result, Ok, Err, ◌≡◌, ℕ, ◌+◌, ◌==◌, Bool, true, false, List, [], ◌∷◌, ◌++◌, length, Option, Some, None, inl, inr, encode_utf8_all, refl, ◌∙◌, arith, append_assoc, append-nil, length-append, result_err, cases_Bool, encodes-append, Form, Nfc, Ending, Whole, text_of, ending_of, decoded_of, replaced, replaced_whole, line_feed, Fault, Policy, Tally, text_under-none, answer_at_end, first_fault, fault_in, IsLeft, answer_or, end_under, end_of, final_utf8, allowed, text_under, whole_under, settled_utf8, EndsInLineFeed, end_fault, StandAlone}
 use Rattle.std.specs.Str.{chars}
 use Rattle.std.specs.Str.Lossy.{utf8_valid_len}
+use Rattle.std.proofs.lemmas.Bool.Decides.{nat_tests}
 use Rattle.nf_forms.specs.Properties.{Properties}
 use Rattle.nf_forms.specs.Order.{by_class}
 use Rattle.nf_forms.specs.Front.{front}
@@ -18,9 +19,14 @@ use Rattle.nf_filter.specs.Laws.Soundness.{AreSound}
 use Rattle.nf_filter.specs.Settled.{is_usable, settled}
 use Rattle.nf_filter.proofs.PolicyLemmas.{allowed-append, first_fault-is, first_fault-none, taken_whole, taken as is_taken-from}
 use Rattle.nf_filter.proofs.AgainLemmas.{final-whole}
-use Rattle.nf_filter.proofs.PieceLemmas.{left-whole, left-text}
+use Rattle.nf_utf8.proofs.LeftLemmas.{IsLeft-more}
+use Rattle.nf_filter.proofs.PieceLemmas.{left-text, left-place, left-bad, left-end, left-whole}
 use Rattle.nf_filter.proofs.SoundnessLemmas.{all_sound, usable_is}
-use Rattle.nf_lines.proofs.WholeLines.{Reading, eqb_past, line_encodes, ReadsLines, reads_lines}
+use Rattle.nf_lines.proofs.WholeLines.{Reading, line_encodes, ReadsLines, reads_lines}
+
+-- one length more on both sides
+eqb_past : (n a b : ℕ) → (n + a == n + b) ≡ (a == b)
+eqb_past n a b = grind (arith, nat_tests)
 
 -- the fault at the end, where a character that it cuts is one
 strict_end : (base : ℕ) (tally : Tally) (e : Ending) → result_err (answer_at_end base tally e) ≡ result_err (answer_at_end base (tt {0}) e)
@@ -95,26 +101,29 @@ module _ (p : Properties) (sound : AreSound p) where
 
       end_after : (more : List ℕ) → end_fault policy p base (lines ++ more) ≡ end_fault policy p (base + length lines) more
       unfolding end_of
-      end_after more = by policy.replace read.left
+      end_after more = by policy.replace (IsLeft-more more read.left)
         where
-          by : (b : Bool) → IsLeft b lines text (length lines) [] → result_err (end_under b policy.assigned p base (lines ++ more)) ≡ result_err (end_under b policy.assigned p (base + length lines) more)
-          by false left = simp (strict_end, left.end refl base more)
-          by true left = simp (answered, left.whole more) (fault_after policy.assigned text (whole_under true more) _ _ None all (λ y. omega (arith, left.place more y)))
+          by : (b : Bool) → IsLeft b (lines ++ more) text (length lines) more → result_err (end_under b policy.assigned p base (lines ++ more)) ≡ result_err (end_under b policy.assigned p (base + length lines) more)
+          by false left = simp (strict_end, left-end left refl base)
+          by true left = simp (answered, left-whole left) (fault_after policy.assigned text (whole_under true more) _ _ None all (λ y. omega (arith, left-place left y)))
+
+      left : IsLeft policy.replace (lines ++ rest) text (length lines) rest
+      left = IsLeft-more rest read.left
 
       alone_whole : end_fault policy p base lines ≡ None
       alone_whole = rw append-nil at (end_after [] ∙ end_nothing policy p (base + length lines))
 
       lines_form : final_utf8 policy f p lines ≡ encode_utf8_all head
-      lines_form = rw (final_whole f p policy base lines alone_whole, left-whole policy.replace lines text (length lines) [] read.left, whole_under-none, append-nil)
+      lines_form = rw (final_whole f p policy base lines alone_whole, left-whole read.left, whole_under-none, append-nil)
 
       pub alone : StandAlone policy f p base lines rest
       unfolding fault_in
       alone = record {
         whole = alone_whole;
-        fault = rw (read.left.text rest, read.left.bad base rest) (fault_after policy.assigned text (text_under policy.replace rest) _ _ _ all (λ y. omega (arith, read.left.place rest y)));
+        fault = rw (left-text left, left-bad left base) (fault_after policy.assigned text (text_under policy.replace rest) _ _ _ all (λ y. omega (arith, left-place left y)));
         end = end_after rest;
-        final = λ none. rw (final_whole f p policy base (lines ++ rest) (end_after rest ∙ none), read.left.whole rest, safe_form-segments p f line_feed closing read.before, encodes-append, lines_form, final_whole f p policy (base + length lines) rest none);
-        settled = rw (lines_form, settled_is policy (lines ++ rest), settled_is policy rest, read.left.text rest, allowed-append p policy.assigned text _ all, safe_form-segments p f line_feed closing read.before) (elim (cases_Bool (has_starter p tail)) [
+        final = λ none. rw (final_whole f p policy base (lines ++ rest) (end_after rest ∙ none), left-whole left, safe_form-segments p f line_feed closing read.before, encodes-append, lines_form, final_whole f p policy (base + length lines) rest none);
+        settled = rw (lines_form, settled_is policy (lines ++ rest), settled_is policy rest, left-text left, allowed-append p policy.assigned text _ all, safe_form-segments p f line_feed closing read.before) (elim (cases_Bool (has_starter p tail)) [
           | inl some ↦ inl (rw (front-append_some p head tail some, encodes-append))
           | inr none ↦
               let before : List ℕ = safe_form f p read.before in
@@ -130,4 +139,4 @@ module _ (p : Properties) (sound : AreSound p) where
   lines_alone laws f own_boundary closing policy base lines rest is none =
       let good = taken_all policy.assigned _ _ _ none in
       let read = reads_lines laws base policy.replace lines is good.1 in
-      alone f own_boundary closing policy base lines rest read (rw (left-text policy.replace lines _ (length lines) [] read.left, text_under-none, append-nil) at good.0)
+      alone f own_boundary closing policy base lines rest read (rw (left-text read.left, text_under-none, append-nil) at good.0)

@@ -9,7 +9,7 @@ pub use Rattle.nf_filter.proofs.FilterLemmas.{StandsAfter-offset, StandsAfter-fi
 pub use Rattle.nf_filter.specs.Devices.{SinkState, SourceState}
 unfoldable pub use Rattle.nf_filter.specs.Faults.{fault_in}
 pub use Rattle.nf_filter.specs.Faults.{answer_at_end, bad_byte, bad_under, first_fault}
-pub use Rattle.nf_filter.specs.Feeding.{IsLeft}
+pub use Rattle.nf_utf8.specs.Left.{IsLeft}
 pub use Rattle.nf_filter.specs.Filter.{base_of, StandsAfter, offset_of, state_of, is_spent}
 unfoldable pub use Rattle.nf_filter.specs.Finishes.{end_of, final_utf8}
 pub use Rattle.nf_filter.specs.Finishes.{answer_or, end_under, Finishes}

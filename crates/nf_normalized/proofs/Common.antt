@@ -13,7 +13,8 @@ pub use Rattle.nf_facts.specs.After.{after}
 pub use Rattle.nf_facts.specs.Passing.{is_among, halfwidth_marks, vowel_signs, mapped_marks}
 unfoldable pub use Rattle.nf_filter.proofs.Common.{fault_in, final_utf8, end_of, settled, is_usable, settled_utf8, safe_form}
 pub use Rattle.nf_forms.specs.Front.{front}
-pub use Rattle.nf_filter.proofs.Common.{take-length, and_parts, false_from_ne_true, cases_Bool, or_parts, or_left, nat_tests, list_all-append, drop-append-le, take_at, take-append-le, encodes-append, encodes-chars, length-le-encodes, length-encode, len_utf8_bounds, list_all, result_err, answer_at_end, bad_byte, is_spent, base_of, state_of, offset_of, whole_or, tally_of, decomposed, row_of, composes, normal_form, back, front-append-back, IsSoundText, IsSound-from_test, is_starter, Properties, lead, has_starter, is_sound, stream_safe, ChangesOnce, Form, Nfd, Nfkd, is_in_format, Place, Ending, Whole, Bad, SplitsBytes, ReadsBack, ReadsLongestText, ReplacesSubparts, text_of, rest_of, ending_of, first_text, IsText}
+pub use Rattle.nf_filter.proofs.Common.{take-length, and_parts, false_from_ne_true, cases_Bool, or_parts, or_left, nat_tests, list_all-append, drop-append-le, take_at, take-append-le, encodes-append, encodes-chars, length-le-encodes, length-encode, len_utf8_bounds, list_all, result_err, answer_at_end, bad_byte, is_spent, base_of, state_of, offset_of, whole_or, tally_of, decomposed, row_of, composes, normal_form, back, front-append-back, IsSoundText, IsSound-from_test, is_starter, Properties, lead, has_starter, is_sound, stream_safe, ChangesOnce, Form, Nfd, Nfkd, is_in_format, Place, Ending, Whole, Bad, SplitsBytes, ReadsBack, ReadsLongestText, ReplacesSubparts, text_of, rest_of, ending_of, IsText}
+pub use Rattle.nf_utf8.specs.Taking.{first_text}
 pub use Rattle.nf_filter.proofs.FilterLemmas.{StandsAfter-offset}
 pub use Rattle.nf_filter.specs.Kinds.{IsAmong, spent, too_long, ill_formed, unassigned}
 pub use Rattle.nf_filter.specs.Laws.{SettledOnlyGrows, LittleIsHeldBack}

@@ -21,7 +21,8 @@ pub use Rattle.std.specs.Str.Lossy.{utf8_error_len, error_len_of_some, error_len
 pub use Rattle.nf_utf8.specs.Carry.{bytes_of}
 pub use Rattle.nf_utf8.specs.Ending.{Ending, Whole, Bad, Cut, moved, Whole as IsWhole, Cut as IsCut, Bad as IsBad}
 pub use Rattle.nf_utf8.specs.Front.{IsFront, Completes, CanEnd, EndsBy}
-pub use Rattle.nf_utf8.specs.Lossy.{IsReplacedFront, IsStretch}
+pub use Rattle.nf_utf8.specs.Left.{decoded_under, IsLeft, ReadsNext}
+pub use Rattle.nf_utf8.specs.Lossy.{IsStretch}
 pub use Rattle.nf_utf8.specs.Subpart.{IsSecond, IsContinuation, IsSubpart}
 unfoldable pub use Rattle.nf_utf8.specs.Reading.{ending_of, text_of, rest_of}
 pub use Rattle.nf_utf8.specs.Reading.{text_len, subpart_len, begun_len}

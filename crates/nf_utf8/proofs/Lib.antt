@@ -3,14 +3,17 @@ mod AsciiLemmas
 mod BegunLen
 mod CountingLemmas
 mod Fronts
+pub mod LeftLemmas
 mod LossyLemmas
-mod ReplacingLemmas
+mod NextLemmas
+mod SourceLemmas
+pub mod ReplacingLemmas
 pub mod PushesLemmas
 pub mod ReadingLemmas
 mod ReadsLemmas
 pub mod ReplacedLemmas
 mod Sequences
-mod StandingLemmas
+pub mod StandingLemmas
 mod TakingLemmas
 mod TextLen
 mod Texts

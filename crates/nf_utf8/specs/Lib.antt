@@ -11,4 +11,5 @@ pub mod Front
 pub mod Taking
 pub mod Pushes
 pub mod Replaced
+pub mod Left
 pub mod Lossy

@@ -20,3 +20,17 @@ pub struct Chunk<'p> {
     pub text: &'p str,
     pub end: End,
 }
+
+/// The next text of a piece.
+#[derive(Clone, Copy, Debug, PartialEq, Eq)]
+pub struct NextText<'t> {
+    pub text: &'t str,
+    /// How many bytes of the piece were read.
+    pub len: usize,
+}
+
+/// The byte at `at` of a piece is bad: with it the bytes begin no well-formed text.
+#[derive(Clone, Copy, Debug, PartialEq, Eq)]
+pub struct IllFormed {
+    pub at: usize,
+}

@@ -1,8 +1,9 @@
-ghost use Rattle.std.specs.Prelude.{◌≡◌, ◌≤◌, ◌+◌, ℕ, List, ◌↔◌, Option, IsSome, IfSome, [], length, take, drop, encode_utf8_all};
+ghost use Rattle.std.specs.Prelude.{◌≡◌, ◌<◌, ◌≤◌, ◌+◌, ℕ, List, ◌↔◌, ◌++◌, Option, false, IsSome, IfSome, IfOk, IfErr, [], length, take, drop, encode_utf8_all};
 
 use crate::carry::Carry;
-use crate::chunk::{Chunk, End};
-use crate::front::Front;
+use crate::chunk::{Chunk, End, IllFormed, NextText};
+use crate::front::{Front, subpart_len};
+use crate::lossy::{LossyText, lossy_front, lossy_text, put_char};
 use crate::step::Step;
 use crate::valid::valid_len;
 use std::marker::Model;
@@ -36,6 +37,8 @@ impl Decoder {
     ghost use Rattle.nf_utf8.specs.Standing.{StandsAfter, Answers, bytes_after, ending_at};
     ghost use Rattle.nf_utf8.specs.Taking.{Takes, bytes_after_piece, first_len, Counts};
     ghost use Rattle.nf_utf8.specs.Front.{Completes, CanEnd, EndsBy};
+    ghost use Rattle.nf_utf8.specs.Ending.{Bad as EndsBad};
+    ghost use Rattle.nf_utf8.specs.Left.{ReadsNext};
 
     /// A decoder that was given nothing.
     #[inline]
@@ -142,6 +145,65 @@ impl Decoder {
             first,
             text,
             end: self.end(Carry::Empty.front(after), from + text.len()),
+        }
+    }
+
+    /// Reads the next text of a piece: the character that the piece completes, or as much well-formed text as stands at its
+    /// front. Where ill-formed bytes are replaced, also U+FFFD for each maximal subpart of an ill-formed sequence (The Unicode
+    /// Standard, section 3.9), of many at once where little text stands between them. The text stands in the piece, or in
+    /// the room, which is overwritten; there is none where the piece ends inside a character. Where they are not replaced a
+    /// bad byte at the front is refused, and the decoder stays as it was.
+    pub fn next_text<'t>(
+        &mut self,
+        replace: bool,
+        piece: &'t [u8],
+        room: &'t mut LossyText,
+    ) -> Result<NextText<'t>, IllFormed>
+        ensures part { IsSubpart self.new }
+        ensures reads { IfOk result (λ next. ReadsNext replace self.old piece.now next.text.now next.len self.new) }
+        ensures bad { IfErr result (λ bad. (replace ≡ false) × (bad.at < length piece.now) × (text_of (self.old ++ piece.now) ≡ [])
+            × (ending_of (self.old ++ piece.now) ≡ EndsBad (length self.old + bad.at) 0)) }
+        ensures stays { IfErr result (λ bad. self.new ≡ self.old) }
+    {
+        if self.carry.is_empty() {
+            if replace {
+                let replaced = lossy_front(piece, room);
+                if replaced > 0 {
+                    let text = lossy_text(room);
+                    return Ok(NextText {
+                        text,
+                        len: replaced,
+                    });
+                }
+            }
+            let len = valid_len(piece);
+            if len > 0 {
+                let text = unsafe { std::str::from_utf8_unchecked(&piece[..len]) };
+                return Ok(NextText { text, len });
+            }
+        }
+        let front = self.carry.front(piece);
+        match front {
+            Front::Char { c, len } => {
+                self.carry = Carry::Empty;
+                let text = put_char(c, room);
+                Ok(NextText { text, len })
+            }
+            Front::Begun(begun) => {
+                self.carry = begun;
+                Ok(NextText {
+                    text: "",
+                    len: piece.len(),
+                })
+            }
+            Front::Bad { at, back } if replace => {
+                self.carry = Carry::Empty;
+                Ok(NextText {
+                    text: "\u{FFFD}",
+                    len: subpart_len(at, back),
+                })
+            }
+            Front::Bad { at, .. } => Err(IllFormed { at }),
         }
     }
 

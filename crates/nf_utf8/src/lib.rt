@@ -20,12 +20,14 @@ mod front;
 pub mod laws;
 mod lossy;
 mod sequence;
+mod source;
 mod step;
 mod valid;
 
 pub use ascii::ascii_prefix;
-pub use chunk::{Chunk, End};
+pub use chunk::{Chunk, End, IllFormed, NextText};
 pub use counting::char_count;
 pub use decoder::Decoder;
-pub use lossy::{LossyText, lossy_front, lossy_text};
+pub use lossy::LossyText;
+pub use source::source_len;
 pub use step::Step;

@@ -1,10 +1,11 @@
 //! Ill-formed parts with little text between them, replaced many at once: to take each stretch of text and each part by
 //! itself costs far more than to copy them.
 
-ghost use Rattle.std.specs.Prelude.{◌≡◌, ◌≤◌, false, ◌++◌, IfSome, IsTrue, chars, length, take};
+ghost use Rattle.std.specs.Prelude.{◌≡◌, ◌≤◌, true, false, ◌++◌, IfSome, IsTrue, chars, drop, encode_utf8, length};
 ghost use Rattle.std.specs.Str.{IsUtf8};
 ghost use Rattle.std.specs.Str.Lossy.{replacement_bytes};
-ghost use Rattle.nf_utf8.specs.Lossy.{IsReplacedFront, IsStretch};
+ghost use Rattle.nf_utf8.specs.Left.{IsLeft};
+ghost use Rattle.nf_utf8.specs.Lossy.{IsStretch};
 
 use arrayvec::ArrayVec;
 
@@ -27,18 +28,17 @@ struct Stretch {
 }
 
 /// A front of the bytes, up to the end of an ill-formed part, as the text that it gives where each maximal subpart of an
-/// ill-formed sequence is read as U+FFFD (The Unicode Standard, section 3.9). That text, of at most so many bytes, is put
-/// into `lossy`, in place of what it holds. Answers how many bytes the front has: none where no ill-formed part is near.
-pub fn lossy_front(bytes: &[u8], most: usize, lossy: &mut LossyText) -> usize
+/// ill-formed sequence is read as U+FFFD (The Unicode Standard, section 3.9). That text is put into `lossy`, in place of what
+/// it holds. Answers how many bytes the front has: none where no ill-formed part is near.
+pub fn lossy_front(bytes: &[u8], lossy: &mut LossyText) -> usize
     ensures text { IsUtf8 lossy.new.items }
-    ensures within { length lossy.new.items ≤ most }
-    ensures replaced { IsReplacedFront bytes.now (chars lossy.new.items) result }
-    ensures few { length (chars lossy.new.items) ≤ result }
+    ensures left { IsLeft true bytes.now (chars lossy.new.items) result (drop result bytes.now) }
+    ensures within { result ≤ length bytes.now }
 {
     lossy.clear();
     let mut len = 0;
     while let Some(stretch) = short_stretch(&bytes[len..]) {
-        if !append(lossy, most, &bytes[len..len + stretch.text]) {
+        if !append(lossy, &bytes[len..len + stretch.text]) {
             break;
         }
         len += stretch.len;
@@ -52,6 +52,17 @@ pub fn lossy_text(lossy: &LossyText) -> &str
     ensures { result.now ≡ lossy.now.items }
 {
     unsafe { std::str::from_utf8_unchecked(lossy.as_slice()) }
+}
+
+/// Puts the character alone.
+pub fn put_char(c: char, lossy: &mut LossyText) -> &str
+    ensures { result.now ≡ encode_utf8 c }
+{
+    lossy.clear();
+    let mut bytes = [0; 4];
+    let text = c.encode_utf8(&mut bytes);
+    lossy.try_extend_from_slice(text.as_bytes()).unwrap();
+    lossy_text(lossy)
 }
 
 /// The text that the bytes begin with, which may be none, and the ill-formed part after it, where that is near.
@@ -70,15 +81,12 @@ fn short_stretch(bytes: &[u8]) -> Option<Stretch>
     })
 }
 
-/// Appends the text, and U+FFFD after it, where there is room for both below so many bytes.
-fn append(lossy: &mut LossyText, most: usize, text: &[u8]) -> bool
-    requires { length lossy.old.items ≤ most }
+/// Appends the text, and U+FFFD after it, where there is room for both.
+fn append(lossy: &mut LossyText, text: &[u8]) -> bool
     ensures grown { IsTrue result → lossy.new.items ≡ lossy.old.items ++ text.now ++ replacement_bytes }
-    ensures within { IsTrue result → length lossy.new.items ≤ most }
     ensures stays { result ≡ false → lossy.new ≡ lossy.old }
 {
-    let room = lossy.remaining_capacity().min(most - lossy.len());
-    if room < text.len() + REPLACEMENT.len() {
+    if lossy.remaining_capacity() < text.len() + REPLACEMENT.len() {
         return false;
     }
     // Parts one after the other have no text between them.

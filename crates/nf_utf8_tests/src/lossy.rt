@@ -1,25 +1,20 @@
-//! Ill-formed parts, one after the other or with little text between them.
-use nf_utf8::{LossyText, lossy_front, lossy_text};
+//! Text with ill-formed parts, one after the other or with little text between them.
+use nf_utf8::{Decoder, IllFormed, LossyText, NextText, source_len};
 use std::process::Abort;
 use std::test::Fail;
 
-/// What the bytes are replaced to, and how many of them.
+/// The first text of the bytes, where ill-formed ones are replaced, and how many of them gave it.
 fn check(rt: &impl Abort, bytes: &[u8], text: &str, len: usize) {
-    check_most(rt, bytes, usize::MAX, text, len);
-}
-
-/// The same, for text of at most so many bytes.
-fn check_most(rt: &impl Abort, bytes: &[u8], most: usize, text: &str, len: usize) {
-    let mut lossy = LossyText::new();
-    let front = lossy_front(bytes, most, &mut lossy);
-    assert_eq!(rt; (lossy_text(&lossy), front), (text, len), "{bytes:?}");
+    let mut room = LossyText::new();
+    let next = Decoder::new().next_text(true, bytes, &mut room);
+    assert_eq!(rt; next, Ok(NextText { text, len }), "{bytes:?}");
 }
 
 #[test]
 fn parts_are_replaced_up_to_the_last_that_is_near(rt: HostRuntime) {
     let cases: [(&[u8], &str, usize); 10] = [
         (b"", "", 0),
-        (b"A", "", 0),
+        (b"A", "A", 1),
         (b"A\x80", "A\u{FFFD}", 2),
         (b"A\x80B", "A\u{FFFD}", 2),
         // Bytes that the next piece may complete are no part yet.
@@ -52,7 +47,7 @@ fn parts_are_replaced_up_to_the_last_that_is_near(rt: HostRuntime) {
 fn parts_are_replaced_one_after_the_other(rt: HostRuntime) {
     let cases: [(&[u8], &str, usize); 9] = [
         // Bytes that the next piece may complete are no part yet.
-        (b"\xF0\x90\x80", "", 0),
+        (b"\xF0\x90\x80", "", 3),
         (b"\x80\xC3", "\u{FFFD}", 1),
         (
             b"\x80\xBF\xC1\xF5\xFFA",
@@ -72,18 +67,45 @@ fn parts_are_replaced_one_after_the_other(rt: HostRuntime) {
     }
 }
 
+/// Where each character of the replaced text stands in the bytes.
 #[test]
-fn no_more_text_is_taken_than_is_asked_for(rt: HostRuntime) {
-    let cases: [(usize, &str, usize); 6] = [
-        (0, "", 0),
-        (3, "", 0),
-        (4, "A\u{FFFD}", 2),
-        (7, "A\u{FFFD}", 2),
-        (8, "A\u{FFFD}B\u{FFFD}", 4),
-        (usize::MAX, "A\u{FFFD}B\u{FFFD}", 4),
-    ];
-    for (most, text, len) in cases {
-        check_most(&rt, b"A\x80B\x80", most, text, len);
+fn the_place_of_a_character_is_that_of_its_bytes(rt: HostRuntime) {
+    // A, U+FFFD for two bytes, B, U+FFFD for one byte, and e with an acute accent.
+    let bytes = b"A\xE1\x80B\x80\xC3\xA9";
+    for (len, expected) in [(0, 0), (1, 1), (4, 3), (5, 4), (8, 5), (10, 7)] {
+        assert_eq!(rt; source_len(bytes, len), expected, "{len}");
+    }
+}
+
+/// A character that was begun before the piece is read by itself, and so is U+FFFD for what a byte breaks off.
+#[test]
+fn a_begun_character_is_read_by_itself(rt: HostRuntime) {
+    let mut room = LossyText::new();
+    for (begun, piece, replace, next, held) in [
+        (
+            b"\xC3".as_slice(),
+            b"\xA9A".as_slice(),
+            false,
+            Ok(("\u{E9}", 1)),
+            0,
+        ),
+        (b"\xF0\x9F", b"\x98", false, Ok(("", 1)), 3),
+        (b"\xF0\x9F", b"\x98A", true, Ok(("\u{FFFD}", 1)), 0),
+        (b"\xE1\x80", b"A", true, Ok(("\u{FFFD}", 0)), 0),
+        (b"\xE1\x80", b"A", false, Err(0), 2),
+        (b"\xF0", b"\x9FA", false, Err(1), 1),
+    ] {
+        let mut decoder = Decoder::holding(begun).unwrap_or_default();
+        let expected = match next {
+            Ok((text, len)) => Ok(NextText { text, len }),
+            Err(at) => Err(IllFormed { at }),
+        };
+        assert_eq!(rt;
+            decoder.next_text(replace, piece, &mut room),
+            expected,
+            "{begun:?} {piece:?}"
+        );
+        assert_eq!(rt; decoder.carried(), held, "{begun:?} {piece:?}");
     }
 }
 
@@ -105,7 +127,7 @@ fn long_text_is_left(rt: HostRuntime) -> Result<(), Fail> {
             let lossy = format!(in alloc; "{text}\u{FFFD}")?;
             check(&rt, front.as_slice(), lossy.as_str(), front.len());
         } else {
-            check(&rt, front.as_slice(), "", 0);
+            check(&rt, front.as_slice(), text.as_str(), text.len());
         }
     }
     Ok(())

@@ -131,11 +131,11 @@ module _ (p : Properties) where
       front_is : take (length x) (take n (x ++ y)) ≡ x
       front_is = take-take (length x) n (x ++ y) reaches ∙ take_at x y (length x) refl
 
-  is_usable-usable : (x : List ℕ) → is_usable p (usable p x) ≡ true
+  pub is_usable-usable : (x : List ℕ) → is_usable p (usable p x) ≡ true
   unfolding usable
   is_usable-usable x = (longest_front_is (is_usable p) x is_usable-none).passes
 
-  usable-split : (x : List ℕ) → Extends (usable p x) x
+  pub usable-split : (x : List ℕ) → Extends (usable p x) x
   unfolding usable
   usable-split x = record { more = drop (longest_front (is_usable p) x) x; text = sym (take-append-drop (longest_front (is_usable p) x) x) }
 

@@ -1,7 +1,17 @@
-use Rattle.nf_filter.proofs.Common.{[], ◌++◌, take, inr, ap, ◌∙◌, arith, rules, append-nil, ne_eqb, length-take, Consumes-kept, Consumes-trans}
+use Rattle.nf_filter.proofs.Common.{[], ◌++◌, refl, take, inr, ap, ◌∙◌, arith, rules, append-nil, ne_eqb, length-take, Consumes-kept, Consumes-trans}
 use Rattle.nf_filter.proofs.FilterLemmas.{err_is}
-use Rattle.nf_filter.proofs.FeedingLemmas.{HasFed-more, FeedsAll-failed, FeedsAll-ended, FeedsAll-refused}
+use Rattle.nf_filter.proofs.FeedingLemmas.{HasFed-none, HasFed-more, FeedsAll-failed, FeedsAll-ended, FeedsAll-refused}
 use Rattle.nf_filter.proofs.driving.feed_all.Goals as goal
+
+pub loop-given-init : goal.loop-given-init
+loop-given-init g c = record {
+  room = refl;
+  unspent = search rules;
+  rows = refl;
+  base = refl;
+  fed = ([], search rules, λ policy f bytes stands. HasFed-none stands);
+  lenders = (refl, refl);
+}
 
 pub returns-in-Err-clause-feeds : goal.returns-in-Err-clause-feeds
 returns-in-Err-clause-feeds g c = λ policy f bytes stands.

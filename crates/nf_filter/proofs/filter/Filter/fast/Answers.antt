@@ -1,5 +1,5 @@
 use Rattle.nf_filter.proofs.Common.{refl, arith, rules}
-use Rattle.nf_filter.proofs.ReadingLemmas.{holds_nothing}
+use Rattle.nf_filter.proofs.ReadingLemmas.{holds_nothing, holds_none}
 use Rattle.nf_filter.proofs.StandingLemmas.{StandsAfter-none}
 use Rattle.nf_filter.proofs.filter.Filter.fast.Goals as goal
 
@@ -8,4 +8,4 @@ invariant_of-result-clause-ready g c = λ _. search (arith, rules, holds_nothing
 
 pub returns-clause-stands : goal.returns-clause-stands
 returns-clause-stands g c =
-    StandsAfter-none _ refl refl c.new.ensures.offset c.new.ensures.decoder (c.new-2.ensures.taken c.args.form _ (rw c.rows.ensures.rows c.fast.ensures.taken))
+    StandsAfter-none _ refl refl c.new.ensures.offset (holds_none _ c.new.ensures.decoder) (c.new-2.ensures.taken c.args.form _ (rw c.rows.ensures.rows c.fast.ensures.taken))

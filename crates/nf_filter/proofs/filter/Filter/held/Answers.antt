@@ -1,13 +1,12 @@
-use Rattle.nf_filter.proofs.Common.{◌++◌, arith, text_of}
+use Rattle.nf_filter.proofs.Common.{arith}
 use Rattle.nf_filter.proofs.FilterLemmas.{StandsAfter-offset}
 use Rattle.nf_filter.proofs.StandingLemmas.{taken-text, taken-len}
 use Rattle.nf_filter.proofs.filter.Filter.held.Goals as goal
 
 pub returns-clause-bytes : goal.returns-clause-bytes
 returns-clause-bytes g c = λ policy f bytes stands.
-    let read = stands.reading in
-    omega (arith, taken-len c.replacing.ensures stands, StandsAfter-offset stands)
+    omega (arith, taken-len c.replacing.ensures stands, stands.reading.read.offset, StandsAfter-offset stands)
 
 pub returns-clause-pending : goal.returns-clause-pending
 returns-clause-pending g c = λ policy f bytes stands.
-    rw (taken-text c.replacing.ensures stands) (c.pending.ensures.value f _ (stands.reading.before ++ text_of stands.reading.tail) stands.reading.taken)
+    rw (taken-text c.replacing.ensures stands) (c.pending.ensures.value f _ stands.reading.before stands.reading.taken)

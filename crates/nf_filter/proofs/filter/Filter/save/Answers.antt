@@ -1,4 +1,4 @@
-use Rattle.nf_filter.proofs.Common.{ℕ, ◌≡◌, ◌+◌, length, ap, arith, rules, encode_utf8_all, length-append, text_of, rows_of, saved_of, IsRestorable}
+use Rattle.nf_filter.proofs.Common.{rules, rows_of, saved_of, IsRestorable}
 use Rattle.nf_filter.proofs.SavedLemmas.{IsRestorable-stands}
 use Rattle.nf_filter.proofs.filter.Filter.save.Goals as goal
 
@@ -6,8 +6,5 @@ pub returns-clause-restorable : goal.returns-clause-restorable
 returns-clause-restorable g c = λ policy f bytes stands.
     let state = c.args.self.now.state in
     let p = g.R.Rows.properties (rows_of c.args.self.now) in
-    let tail = stands.reading.tail in
-    let begun : length (encode_utf8_all (text_of tail)) + length state.reading.decoder ≡ length tail =
-    omega (arith, ap length (c.split.ensures.split tail), length-append {A = ℕ}, ap length stands.reading.decoder.rest) in
-    let whole : IsRestorable p (saved_of state) = IsRestorable-stands c.replacing.ensures stands c.held-len.ensures.part (rw c.count.ensures.value at c.count.ensures.bound) begun in
+    let whole : IsRestorable p (saved_of state) = IsRestorable-stands c.replacing.ensures stands c.held-len.ensures.part (rw c.count.ensures.value at c.count.ensures.bound) in
     search rules

@@ -1,10 +1,11 @@
-use Rattle.nf_filter.proofs.Common.{append-nil, eq-eqb, ne_eqb, begun_at_end, ◌≡◌, true, ◌++◌, None, sym, ◌∙◌, arith, ⊎_elim, text_of, replacement, allowed, whole_under, is_usable, settled_utf8}
+use Rattle.nf_filter.proofs.Common.{append-nil, eq-eqb, ne_eqb, ◌≡◌, true, None, sym, ◌∙◌, arith, ⊎_elim, replacement, allowed, whole_under, is_usable, settled_utf8}
+use Rattle.nf_utf8.proofs.ReplacingLemmas.{replacement-chars}
 use Rattle.nf_filter.proofs.WritesLemmas.{Puts-none}
 use Rattle.nf_filter.proofs.BlockLemmas.{start_at, Written-none}
 use Rattle.nf_filter.proofs.FilterLemmas.{write_or_kept}
 use Rattle.nf_filter.proofs.PolicyLemmas.{first_fault-none, taken-all}
-use Rattle.nf_filter.proofs.PieceLemmas.{place_in, begun_at_end-begun}
-use Rattle.nf_filter.proofs.ChunkLemmas.{one_placed}
+use Rattle.nf_filter.proofs.PieceLemmas.{place_in}
+use Rattle.nf_filter.proofs.TakingLemmas.{one_placed, one_has_places}
 use Rattle.nf_filter.proofs.FedLemmas.{read-settled, read-place, whole_is}
 use Rattle.nf_filter.proofs.reading.Reading.replace_cut.Goals as goal
 
@@ -13,8 +14,7 @@ returns-then-carried-eq0-clause-cut g c = λ f base bytes read replaces.
     let p = g.R.Rows.properties c.args.rows.now in
     let policy = c.args.policy in
     let whole = whole_under policy.replace bytes in
-    let begun : begun_at_end read.tail ≡ 0 = omega (arith, begun_at_end-begun c.replacing.ensures read.tail read.decoder.begins) in
-    let is : whole ≡ read.before ++ text_of read.tail = rw (eq-eqb _ 0 begun) at (whole_is c.replacing.ensures read replaces) ∙ append-nil (read.before ++ text_of read.tail) in
+    let is : whole ≡ read.before = rw (eq-eqb _ 0 (sym c.carried-carried.ensures.count ∙ c.if-carried-eq0.true)) at (whole_is c.replacing.ensures read replaces) ∙ append-nil read.before in
     let sound : is_usable p whole ≡ true = rw is read.taken.machine.usable in
     let all : allowed policy.assigned p whole ≡ whole = rw is read.allowed in
     record {
@@ -27,13 +27,12 @@ returns-then-carried-eq0-clause-cut g c = λ f base bytes read replaces.
 pub returns-clause-cut : goal.returns-clause-cut
 returns-clause-cut g c = λ f base bytes read replaces.
     let laws = c.replacing.ensures in
-    let carried = c.carried-carried.ensures.after read.tail read.decoder in
     let place = place_in c.args.policy.replace base bytes in
-    let text = read.before ++ text_of read.tail in
     let start = start_at (g.S.Sink.state c.args.sink.now) (settled_utf8 c.args.policy f (g.R.Rows.properties c.args.rows.now) bytes) in
-    let begun : ¬ (begun_at_end read.tail ≡ 0) = λ e. c.if-carried-eq0.false (omega (arith, begun_at_end-begun laws read.tail read.decoder.begins, carried)) in
-    let here = rw (← rw (ne_eqb _ 0 begun) at (whole_is laws read replaces)) at
-    (c.take_one-taken.ensures.takes f place text start read.taken read.allowed (one_placed place _ text replacement (omega (arith, read-place laws read, carried))) (rw (read-settled laws read) (Written-none _ c.new-block.ensures.empty))) in
+    let held = c.carried-carried.ensures.count in
+    let takes = rw replacement-chars at c.take_allowed-taken.ensures.takes in
+    let here = rw (← rw (ne_eqb _ 0 (λ e. c.if-carried-eq0.false (held ∙ e))) at (whole_is laws read replaces)) at
+    (takes f place read.before start read.taken read.allowed (one_placed place _ read.before replacement (omega (arith, read-place laws read, held, read.read.offset))) (rw (read-settled laws read) (Written-none _ c.new-block.ensures.empty))) in
     let closed = c.close.ensures.gives _ _ here.writes in
     record {
       broken = closed.broken;
@@ -41,3 +40,9 @@ returns-clause-cut g c = λ f base bytes read replaces.
       fault = λ not. rw (closed.given not).1 (here.fault (λ e. not ((closed.given not).1 ∙ e)));
       taken = ⊎_elim (λ e. rw e tt) (λ not. rw (closed.given not).1 here.taken) (write_or_kept c.close.result);
     }
+
+pub take_allowed-taken-requires-clause-counts : goal.take_allowed-taken-requires-clause-counts
+take_allowed-taken-requires-clause-counts g c = rw replacement-chars (omega (arith, c.requires.ready.end.1, c.carried-carried.ensures.count, c.if-carried-eq0.false))
+
+pub take_allowed-taken-requires-clause-fits : goal.take_allowed-taken-requires-clause-fits
+take_allowed-taken-requires-clause-fits g c = rw replacement-chars (one_has_places _ replacement (omega arith))

@@ -1,4 +1,7 @@
 use Rattle.nf_normalized.proofs.Common.{append_assoc, [], ◌∷◌, ◌⊎◌, ◌≡◌, ◌<◌, ◌+◌, ◌++◌, ◌^◌, Bool, false, ℕ, List, IsTrue, inr, length, sym, ◌∙◌, arith, is_some, Ok, Err, length-append, false_from_ne_true, ∥∥₁_elim, ∥∥₁_map, le_prop, result_err, ucd, Form, fault_in, state_of, base_of, is_spent, offset_of, spent, too_long, ill_formed, unassigned, TooLong, under, filter_state, left, Holds, StandsAfter-offset}
+use Rattle.std.proofs.Math.Logic.{∥∥₁_prop}
+use Rattle.std.proofs.Common.{Option, Some, None, Result, IfSome, refl}
+use Rattle.nf_normalized.proofs.Common.{Place, Fault}
 use Rattle.nf_normalized.proofs.CheckerLemmas.{written, held_few}
 use Rattle.nf_normalized.proofs.CallLemmas.{stable, room, Call, piece_kinds, other_decides, split_now, alike_decides}
 use Rattle.nf_normalized.proofs.checker.FormChecker.feed.Goals as goal
@@ -25,6 +28,14 @@ module _ (c : After-feed-fed) {assigned : Bool} {f : Form} {bytes : List ℕ} (h
   holds_now : is_some c.feed-fed.new.sink.other ≡ false → {done : Unit {0}} → c.feed-fed.result ≡ Ok done
       → Holds assigned f (state_of c.feed-fed.new.self) (left c.feed-fed.new.sink) (bytes ++ c.args.piece.now)
   holds_now none ok = record { filter = rw ok at c.feed-fed.ensures.stands _ _ _ holds.filter; split = split_now (seen (λ e. cc)) none }
+
+-- a place that was found stays
+stays : {X : Type 0} (place : Option Place) → X → IfSome place (λ found. (let told : Result (Option Place) Fault = Ok place in told ≡ Ok (Some found)) × X)
+stays None same = tt
+stays (Some found) same = (refl, same)
+
+pub returns-then-is_some-clause-found : goal.returns-then-is_some-clause-found
+returns-then-is_some-clause-found c = stays c.args.self.now.place (λ i. record c.args.self.now { holds = λ none unspent. ∥∥₁_prop (c.self-1.given.0 none unspent) (c.args.self.now.holds none unspent) i })
 
 -- a call that is refused leaves the sink as it was
 pub place_after-requires : goal.place_after-requires
