@@ -10,7 +10,7 @@ use crate::moved::Moved;
 use crate::starting::plain;
 use crate::state::{MAGIC, State, UNICODE};
 use crate::status::Status;
-use nf_utf8::{ascii_prefix, laws};
+use nf_utf8::ascii_prefix;
 
 /// How many bytes of the input pass so, into so much room: all, or as many as there is room for. 0 where a filter is to be fed.
 pub fn passing_len(state: &State, input: &[u8], room: usize) -> usize
@@ -56,7 +56,6 @@ pub fn pass(state: &mut State, input: &[u8], len: usize, output: &mut [u8]) -> M
     ensures feeds { (policy : Policy) (f : Form) (bytes : List ℕ) → StandsAfter policy f state.old bytes → Feeds policy f bytes input.now state.old state.new output.new result }
 {
     let _plain = plain();
-    laws::replacing();
     write_passing(state, input, len, output);
     if len < input.len() {
         return Moved::of(Status::Full, len, len);

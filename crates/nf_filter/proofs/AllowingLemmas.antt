@@ -6,24 +6,24 @@ use Rattle.nf_filter.proofs.TakingLemmas.{placed-within}
 use Rattle.nf_filter.proofs.SteppingLemmas.{Standing-taken}
 use Rattle.nf_filter.proofs.FeedingLemmas.{fed_by}
 
--- what taking the text y, which begins at the offset `at`, comes to after any that was taken
-abbrev pub TakesAfter : Bool → Properties → Counted → BlockState → Counted → BlockState → ℕ → List ℕ → Result (Unit {0}) Fault → Type 0
-TakesAfter a p old before new now at y r = (f : Form) (place : List ℕ → ℕ) (x : List ℕ) (start : Start) → HasTaken f p old x → allowed a p x ≡ x → IsPlacedAt place at x y
+-- what taking the text y, which these bytes gave, comes to after any that was taken
+abbrev pub TakesAfter : Bool → Properties → Counted → BlockState → Counted → BlockState → ℕ → List ℕ → List ℕ → Result (Unit {0}) Fault → Type 0
+TakesAfter a p old before new now begin bytes y r = (f : Form) (place : List ℕ → ℕ) (x : List ℕ) (start : Start) → HasTaken f p old x → allowed a p x ≡ x → IsPlacedAt place begin bytes 0 x y
     → Written start before (settled_text f p x) → TakesAllowed a f p new start now place (x ++ y) r
 
 -- and what taking it as it is comes to
-abbrev pub TakesText : Properties → Counted → BlockState → Counted → BlockState → ℕ → List ℕ → Result (Unit {0}) Fault → Type 0
-TakesText p old before new now at y r = (f : Form) (place : List ℕ → ℕ) (x : List ℕ) (start : Start) → old.chars ≡ length x → Standing f p old start before x y → IsPlacedAt place at x y
+abbrev pub TakesText : Properties → Counted → BlockState → Counted → BlockState → ℕ → List ℕ → List ℕ → Result (Unit {0}) Fault → Type 0
+TakesText p old before new now begin bytes y r = (f : Form) (place : List ℕ → ℕ) (x : List ℕ) (start : Start) → old.chars ≡ length x → Standing f p old start before x y → IsPlacedAt place begin bytes 0 x y
     → TakesOn f p new start now place (x ++ y) r
 
 -- so y is taken, which is what may be taken of a text
-pub allowed-part : (a : Bool) (at : ℕ) (rest : List ℕ) {p : Properties} {old new : Counted} {before now : BlockState} {text y : List ℕ} {r : Result (Unit {0}) Fault}
-    → text ≡ y ++ rest → y ≡ allowed a p text → TakesText p old before new now at y r
-    → (f : Form) (place : List ℕ → ℕ) (x : List ℕ) (start : Start) → HasTaken f p old x → allowed a p x ≡ x → IsPlacedAt place at x text → Written start before (settled_text f p x)
+pub allowed-part : (a : Bool) (begin : ℕ) (bytes : List ℕ) (rest : List ℕ) {p : Properties} {old new : Counted} {before now : BlockState} {text y : List ℕ} {r : Result (Unit {0}) Fault}
+    → text ≡ y ++ rest → y ≡ allowed a p text → TakesText p old before new now begin bytes y r
+    → (f : Form) (place : List ℕ → ℕ) (x : List ℕ) (start : Start) → HasTaken f p old x → allowed a p x ≡ x → IsPlacedAt place begin bytes 0 x text → Written start before (settled_text f p x)
     → (allowed a p (x ++ text) ≡ x ++ y) × TakesOn f p new start now place (x ++ y) r
-allowed-part a at rest {p} {text = text} {y} whole front takes f place x start taken all here written = (
+allowed-part a begin bytes rest {p} {text = text} {y} whole front takes f place x start taken all here written = (
   rw front (allowed-append p a x text all),
-  takes f place x start taken.chars (Standing-taken y taken written) (placed-within place at x text y rest whole here),
+  takes f place x start taken.chars (Standing-taken y taken written) (placed-within place begin bytes 0 x text y rest whole here),
 )
 
 module _ {f : Form} {p : Properties} {a : Bool} {counted : Counted} {start : Start} {now : BlockState} {place : List ℕ → ℕ} where
@@ -57,9 +57,6 @@ module _ {f : Form} {p : Properties} {a : Bool} {counted : Counted} {start : Sta
   refused-more {w} {fault} y other takes =
       let stays = λ (not : ¬ (fed_by fault ≡ Err WriteFault)). first_fault-stays p a place w y other fault (takes.fault not) in
       (record { broken = λ e. Broken-extends start (taken_utf8-grows p a f w y) (takes.writes.broken e); written = λ not. rw (stays not).1 (takes.writes.written not) }, λ not. sym (stays not).0)
-
-  pub TakesAllowed-more : {w : List ℕ} {fault : Fault} (y : List ℕ) → TakesAllowed a f p counted start now place w (Err fault) → TakesAllowed a f p counted start now place (w ++ y) (Err fault)
-  TakesAllowed-more y takes = let more = refused-more y None takes in record { writes = more.0; fault = more.1; taken = tt }
 
   -- all of a text was taken
   pub TakesAllowed-settled : {x : List ℕ} → TakesAllowed a f p counted start now place x (Ok tt) → Written start now (settled_text f p x)

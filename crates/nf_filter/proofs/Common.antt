@@ -15,11 +15,11 @@ pub use Rattle.nf_filter.specs.Block.{Start, BlockState, Written, WritesTo, Brok
 unfoldable pub use Rattle.nf_filter.specs.Checks.{check_fault, check_decision, text_decision}
 pub use Rattle.nf_filter.specs.Checks.{sound_front, place_or_fault, no_place, HasChecked}
 unfoldable pub use Rattle.nf_filter.specs.Counted.{unusable_at, usable_utf8}
-pub use Rattle.nf_filter.specs.Counted.{HasTaken, TakesOn, settled_text, IsPlacedAt, utf8_place, HasPlaces, ends_at}
+pub use Rattle.nf_filter.specs.Counted.{HasTaken, TakesOn, settled_text, IsPlacedAt, told_by, utf8_place, ends_at}
 pub use Rattle.nf_filter.specs.Devices.{SinkState, SourceState}
 pub use Rattle.nf_filter.specs.Drives.{Drives, DrivesToEnd, FeedsAll}
 unfoldable pub use Rattle.nf_filter.specs.Faults.{fault_in}
-pub use Rattle.nf_filter.specs.Faults.{answer_at_end, bad_byte, bad_under, first_fault, fault_place, moved_to}
+pub use Rattle.nf_filter.specs.Faults.{answer_at_end, bad_byte, bad_under, first_fault}
 pub use Rattle.nf_filter.specs.Feeding.{taken_utf8, TakesAllowed, HasReadTo, ReadsTo, RefusesBytes, ReplacesCut}
 pub use Rattle.nf_filter.specs.Feeds.{Feeds}
 pub use Rattle.nf_filter.specs.Filter.{base_of, offset_of, is_spent, StandsAfter, state_of, rows_of}

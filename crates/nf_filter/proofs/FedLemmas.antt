@@ -1,11 +1,11 @@
 -- A piece that was read: what it comes to by the bytes.
-use Rattle.nf_filter.proofs.Common.{cases_Bool, ⊎_elim, ◌≡◌, ℕ, suc, ◌+◌, ◌==◌, true, cond, MatchResult, List, [], ◌∷◌, ◌++◌, length, None, Ok, Err, refl, sym, ap, ◌∙◌, arith, append-nil, OnOk, Result, if◌then◌else◌, result_err, Properties, Form, text_of, replacement, replaced_whole, ReplacesSubparts, Fault, Write, Counted, Policy, Reading, Start, BlockState, Written, WritesTo, bad_under, fault_in, IsLeft, HasReadTo, ReadsTo, RefusesBytes, settled_text, len_under, text_under, whole_under, settled_utf8}
+use Rattle.nf_filter.proofs.Common.{cases_Bool, ⊎_elim, ◌≡◌, ℕ, suc, ◌+◌, ◌==◌, true, cond, MatchResult, List, [], ◌∷◌, ◌++◌, length, None, Ok, Err, refl, sym, ap, ◌∙◌, arith, append-nil, OnOk, Result, if◌then◌else◌, result_err, Properties, Form, text_of, replacement, replaced_whole, Fault, Write, Counted, Policy, Reading, Start, BlockState, Written, WritesTo, bad_under, fault_in, IsLeft, HasReadTo, ReadsTo, RefusesBytes, settled_text, len_under, text_under, whole_under, settled_utf8}
 use Rattle.nf_filter.proofs.BlockLemmas.{WritesTo-written}
 use Rattle.nf_filter.proofs.PolicyLemmas.{first_fault-none, taken-all}
 use Rattle.nf_utf8.proofs.LeftLemmas.{IsLeft-more}
 use Rattle.nf_filter.proofs.PieceLemmas.{place_in, left-text, left-place, left-bad, left-whole, len_under-first, begun-text, begun-good, begun-all}
 
-module _ (laws : ReplacesSubparts) {policy : Policy} {f : Form} {p : Properties} {base : ℕ} {counted : Counted} {reading : Reading} {bytes : List ℕ} (read : HasReadTo policy f p counted base reading bytes []) where
+module _ {policy : Policy} {f : Form} {p : Properties} {base : ℕ} {counted : Counted} {reading : Reading} {bytes : List ℕ} (read : HasReadTo policy f p counted base reading bytes []) where
   pub left_is : IsLeft policy.replace bytes read.before read.read.n reading.decoder
   left_is = rw (append-nil reading.decoder) at read.read.left
 
@@ -38,7 +38,7 @@ module _ (laws : ReplacesSubparts) {policy : Policy} {f : Form} {p : Properties}
   -- where the bytes of a begun character begin
   pub read-place : len_under policy.replace bytes read.before ≡ read.read.n
   read-place =
-      let none = len_under-first laws policy.replace reading.decoder [] (text_of reading.decoder) refl in
+      let none = len_under-first policy.replace reading.decoder [] (text_of reading.decoder) refl in
       omega (arith, rw append-nil at (left-place left_is []), none)
 
   -- the text where nothing follows
@@ -51,9 +51,9 @@ abbrev pub left_of : ℕ → ℕ → ℕ
 left_of rest held = cond (rest == 0) 0 (suc (rest + held))
 
 -- all of a piece was read, or it was refused
-module _ (laws : ReplacesSubparts) (policy : Policy) (f : Form) (p : Properties) (base : ℕ) (counted : Counted) (now : BlockState) (reading : Reading) where
+module _ (policy : Policy) (f : Form) (p : Properties) (base : ℕ) (counted : Counted) (now : BlockState) (reading : Reading) where
   pub rest-is : (start : Start) (bytes : List ℕ) (r : Result (Unit {0}) Fault) → MatchResult r (λ _. ReadsTo policy f p counted start now base reading bytes []) (RefusesBytes policy f p start now base bytes)
       → WritesTo start now (settled_utf8 policy f p bytes) r × (¬ (r ≡ Err Write) → result_err r ≡ fault_in policy p base bytes) × OnOk r (HasReadTo policy f p counted base reading bytes [])
   unfolding settled_utf8
-  rest-is start bytes (Ok u) reads = (WritesTo-written (λ e. cc) (rw (read-settled laws reads.0) at reads.1), λ _. sym (read-no_fault laws reads.0), reads.0)
+  rest-is start bytes (Ok u) reads = (WritesTo-written (λ e. cc) (rw (read-settled reads.0) at reads.1), λ _. sym (read-no_fault reads.0), reads.0)
   rest-is start bytes (Err fault) reads = (reads.writes, λ not. reads.is (λ e. not (ap Err e)), tt)

@@ -1,5 +1,5 @@
 -- What finishing answers.
-use Rattle.nf_filter.proofs.Common.{◌==◌, ◌≡◌, ℕ, ◌+◌, Bool, true, false, List, [], ◌∷◌, ◌++◌, length, None, Ok, Err, ⊎_elim, refl, sym, ap, ◌∙◌, arith, append-nil, eq-eqb, Result, if◌then◌else◌, encode_utf8_all, length-append, cases_Bool, false_from_ne_true, and_from, Properties, Form, safe_form, Ending, Cut, ending_of, replacement, ReplacesSubparts, Fault, Write, Counted, Policy, Reading, Tally, SinkState, Puts, BreaksOff, allowed, text_under, whole_under, settled, is_usable, usable, settled_utf8, answer_at_end, first_fault, taken_utf8, HasReadTo, ReplacesCut, tally_of, answer_or, end_of, whole_or, is_taken, final_utf8, Closes, Finishes, Extends-encodes, usable-all, usable-stop, nil_from_length}
+use Rattle.nf_filter.proofs.Common.{◌==◌, ◌≡◌, ℕ, ◌+◌, Bool, true, false, List, [], ◌∷◌, ◌++◌, length, None, Ok, Err, ⊎_elim, refl, sym, ap, ◌∙◌, arith, append-nil, eq-eqb, Result, if◌then◌else◌, encode_utf8_all, length-append, cases_Bool, false_from_ne_true, and_from, Properties, Form, safe_form, Ending, Cut, ending_of, replacement, Fault, Write, Counted, Policy, Reading, Tally, SinkState, Puts, BreaksOff, allowed, text_under, whole_under, settled, is_usable, usable, settled_utf8, answer_at_end, first_fault, taken_utf8, HasReadTo, ReplacesCut, tally_of, answer_or, end_of, whole_or, is_taken, final_utf8, Closes, Finishes, Extends-encodes, usable-all, usable-stop, nil_from_length}
 use Rattle.nf_filter.proofs.WritesLemmas.{Puts-none, Puts-at, BreaksOff-extends}
 use Rattle.nf_filter.proofs.FilterLemmas.{err_is, failed_if}
 use Rattle.nf_filter.proofs.PolicyLemmas.{allowed-append, allowed-grows, taken-all, taken_whole, first_fault-none, taken}
@@ -26,7 +26,7 @@ pub Finishes-of : {policy : Policy} {f : Form} {p : Properties} {base : ℕ} {by
     → (¬ (r ≡ Err Write) → Puts old new (settled_utf8 policy f p bytes) (final_utf8 policy f p bytes) × (r ≡ end_of policy p base bytes)) → Finishes policy f p base bytes old new r
 Finishes-of r breaks puts = record { write = failed_if r breaks (λ not. (puts not).0); broken_off = breaks; written = λ not. (puts not).0; answer = λ not. (puts not).1 }
 
-module _ (laws : ReplacesSubparts) {policy : Policy} {f : Form} {p : Properties} {base : ℕ} {counted : Counted} {reading : Reading} {bytes : List ℕ} (read : HasReadTo policy f p counted base reading bytes []) where
+module _ {policy : Policy} {f : Form} {p : Properties} {base : ℕ} {counted : Counted} {reading : Reading} {bytes : List ℕ} (read : HasReadTo policy f p counted base reading bytes []) where
   abbrev whole : List ℕ
   whole = whole_under policy.replace bytes
 
@@ -36,17 +36,17 @@ module _ (laws : ReplacesSubparts) {policy : Policy} {f : Form} {p : Properties}
   -- nothing is replaced
   module _ (strict : policy.replace ≡ false) (sink : SinkState) where
     end_is : answer_at_end base (tt {0}) (ending_of bytes) ≡ answer_at_end (base + read.read.n) (tt {0}) (ending_of reading.decoder)
-    end_is = left-end (left_is laws read) strict base
+    end_is = left-end (left_is read) strict base
 
     whole_is : whole ≡ text
-    whole_is = strict_whole policy.replace bytes strict ∙ read-text laws read
+    whole_is = strict_whole policy.replace bytes strict ∙ read-text read
 
     pub close-strict : (r : Result (Unit {0}) Fault) → r ≡ answer_at_end (base + read.read.n) (tt {0}) (ending_of reading.decoder) → ((fault : Fault) → r ≡ Err fault → ¬ (fault ≡ Write)) → Closes policy f p counted base bytes sink sink r
     unfolding end_of final_utf8
     close-strict (Ok u) is other =
         let told : Ok (tt {0}) ≡ answer_at_end base (tt {0}) (ending_of bytes) = is ∙ sym end_is in (
           rw whole_is read.taken,
-          rw (whole_is, read-settled laws read) (Puts-none sink _),
+          rw (whole_is, read-settled read) (Puts-none sink _),
           rw strict (sym (end_valued base _ (ending_of bytes) (Ok tt) told)),
           rw strict (answered base (tt {0}) (tt {0}) (ending_of bytes) (sym told) _ _),
         )
@@ -61,9 +61,9 @@ module _ (laws : ReplacesSubparts) {policy : Policy} {f : Form} {p : Properties}
     kept : is_taken policy.assigned p whole ≡ false → taken_utf8 policy.assigned f p whole ≡ settled_utf8 policy f p bytes
     kept out =
         let sound = read.taken.machine.usable in
-        let whole = whole_replaced laws read replaces in
+        let whole = whole_replaced read replaces in
         ⊎_elim
-        (λ e. let is = rw e at whole in rw (is, append-nil text, taken-all p policy.assigned text sound read.allowed) (read-settled laws read))
+        (λ e. let is = rw e at whole in rw (is, append-nil text, taken-all p policy.assigned text sound read.allowed) (read-settled read))
         (λ e.
         let is = rw e at whole in
         let last = text ++ replacement ∷ [] in
@@ -77,7 +77,7 @@ module _ (laws : ReplacesSubparts) {policy : Policy} {f : Form} {p : Properties}
         let none = nil_from_length (allowed policy.assigned p (replacement ∷ [])) (omega (arith, short.0, ap length more, length-append {A = ℕ})) in
         rw (more, none, append-nil text) (usable-all p text sound))
         (allowed-grows p policy.assigned last []) in
-        rw (is, left) (read-settled laws read))
+        rw (is, left) (read-settled read))
         (cases_Bool (length reading.decoder == 0))
 
     final_is : (b : Bool) → is_taken policy.assigned p whole ≡ b → final_utf8 policy f p bytes ≡ (if b then encode_utf8_all (safe_form f p whole) else settled_utf8 policy f p bytes)

@@ -9,7 +9,6 @@ pub mod TakerLemmas
 pub mod SteppingLemmas
 pub mod AllowingLemmas
 pub mod PieceLemmas
-pub mod RefusedLemmas
 pub mod NextLemmas
 pub mod FedLemmas
 pub mod ReadingLemmas

@@ -1,10 +1,10 @@
 -- What a front of bytes gives, and what is left after it.
-use Rattle.nf_filter.proofs.Common.{◌≡◌, ℕ, ◌+◌, Bool, true, false, List, [], ◌++◌, length, map, refl, sym, ap, ◌∙◌, arith, append-nil, encode_utf8_all, encodes-append, take-append-add, length-append, length-map, map-append, take_at, Ending, Bad, Cut, None, text_of, ending_of, decoded_text, decoded_after_text, decoded_within, decoded_of, decoded_under, replaced, replaced_len, begun_at_end, replaced_whole, bytes_in, nat_tests, ReplacesSubparts, answer_at_end, bad_byte, bad_under, IsLeft, IsSubpart, len_under, text_under, whole_under, Extends, drop, append_assoc}
+use Rattle.nf_filter.proofs.Common.{◌≡◌, ℕ, ◌+◌, Bool, true, false, List, [], ◌++◌, length, map, refl, sym, ap, ◌∙◌, arith, append-nil, encode_utf8_all, encodes-append, take-append-add, length-append, length-map, map-append, take_at, Ending, Bad, Cut, None, text_of, ending_of, decoded_text, decoded_after_text, decoded_within, decoded_of, decoded_under, replaced, replaced_len, begun_at_end, replaced_whole, bytes_in, nat_tests, answer_at_end, bad_byte, bad_under, IsLeft, IsSubpart, len_under, text_under, whole_under, Extends, drop, append_assoc}
 use Rattle.std.proofs.Common.{add_assoc}
 use Rattle.nf_utf8.specs.Ending.{moved}
 use Rattle.nf_utf8.specs.Standing.{ending_at}
 use Rattle.nf_utf8.proofs.LeftLemmas.{decoded_text-append, subpart-decoded, subpart-ending}
-use Rattle.nf_utf8.proofs.ReplacedLemmas.{bytes_in-append, chars-own}
+use Rattle.nf_utf8.proofs.ReplacedLemmas.{bytes_in-append, bytes_in-own, chars-own}
 
 -- where what stands after a front of the text of the bytes begins, the first of which has the offset `base`
 abbrev pub place_in : Bool → ℕ → List ℕ → List ℕ → ℕ
@@ -35,50 +35,39 @@ module _ {r : Bool} {bytes x : List ℕ} {n : ℕ} {left : List ℕ} (is : IsLef
   left-ending strict = rw (append-nil bytes, append-nil left) at (is.ending strict [])
 
 -- where the text after a front begins
-left_place : (r : Bool) (bytes x : List ℕ) (n : ℕ) (left y : List ℕ) → IsLeft r bytes x n left → len_under r bytes (x ++ y) ≡ n + len_under r left y
+pub left-place : {r : Bool} {bytes x : List ℕ} {n : ℕ} {left : List ℕ} → IsLeft r bytes x n left → (y : List ℕ) → len_under r bytes (x ++ y) ≡ n + len_under r left y
 unfolding replaced_len
-left_place false bytes x n left y is = omega (arith, is.own refl, ap length (encodes-append x y), length-append (encode_utf8_all x) (encode_utf8_all y))
-left_place true bytes x n left y is =
+left-place {r = false} {x = x} is y = omega (arith, is.own refl, ap length (encodes-append x y), length-append (encode_utf8_all x) (encode_utf8_all y))
+left-place {r = true} {x = x} is y =
     let count : length (x ++ y) ≡ length is.decoded + length y = grind (arith, length-append, is.chars, length-map) in
     rw (count, gives is, take-append-add, bytes_in-append, is.size) refl
 
-left_bad : (r : Bool) (bytes x : List ℕ) (n : ℕ) (left : List ℕ) (base : ℕ) → IsLeft r bytes x n left → bad_under r base bytes ≡ bad_under r (base + n) left
-left_bad false bytes x n left base is = ap (bad_byte base) (left-ending is refl) ∙ bad_moved base n (ending_of left)
-left_bad true bytes x n left base is = refl
+pub left-bad : {r : Bool} {bytes x : List ℕ} {n : ℕ} {left : List ℕ} → IsLeft r bytes x n left → (base : ℕ) → bad_under r base bytes ≡ bad_under r (base + n) left
+left-bad {r = false} {n = n} {left = left} is base = ap (bad_byte base) (left-ending is refl) ∙ bad_moved base n (ending_of left)
+left-bad {r = true} is base = refl
 
-left_whole : (r : Bool) (bytes x : List ℕ) (n : ℕ) (left : List ℕ) → IsLeft r bytes x n left → whole_under r bytes ≡ x ++ whole_under r left
+pub left-end : {r : Bool} {bytes x : List ℕ} {n : ℕ} {left : List ℕ} → IsLeft r bytes x n left → r ≡ false → (base : ℕ) → answer_at_end base (tt {0}) (ending_of bytes) ≡ answer_at_end (base + n) (tt {0}) (ending_of left)
+left-end {n = n} {left = left} is strict base = ap (answer_at_end base (tt {0})) (left-ending is strict) ∙ end_moved base n (ending_of left)
+
+pub left-whole : {r : Bool} {bytes x : List ℕ} {n : ℕ} {left : List ℕ} → IsLeft r bytes x n left → whole_under r bytes ≡ x ++ whole_under r left
 unfolding replaced_whole
-left_whole false bytes x n left is = left-text is
-left_whole true bytes x n left is =
+left-whole {r = false} is = left-text is
+left-whole {r = true} {bytes = bytes} {x = x} {left = left} is =
     let held : begun_at_end bytes ≡ begun_at_end left = omega (arith, ap bytes_in (gives is), bytes_in-append is.decoded (decoded_of left), is.size, is.len) in
     rw (held, left-text is) (append_assoc x _ _)
 
-module _ {r : Bool} {bytes x : List ℕ} {n : ℕ} {left : List ℕ} (is : IsLeft r bytes x n left) where
-  pub left-place : (y : List ℕ) → len_under r bytes (x ++ y) ≡ n + len_under r left y
-  left-place y = left_place r bytes x n left y is
+-- the first characters are those that the bytes spell before any bad one
+pub text_under-first : (r : Bool) (bytes : List ℕ) → Extends (text_of bytes) (text_under r bytes)
+unfolding replaced decoded_of
+text_under-first false bytes = record { more = []; text = sym (append-nil (text_of bytes)) }
+text_under-first true bytes =
+    let more = decoded_after_text (ending_of bytes) (λ n. decoded_within (length bytes) (drop n bytes)) in
+    record { more = map (λ decoded. decoded.char) more; text = simp (map-append, chars-own) }
 
-  pub left-bad : (base : ℕ) → bad_under r base bytes ≡ bad_under r (base + n) left
-  left-bad base = left_bad r bytes x n left base is
-
-  pub left-end : r ≡ false → (base : ℕ) → answer_at_end base (tt {0}) (ending_of bytes) ≡ answer_at_end (base + n) (tt {0}) (ending_of left)
-  left-end strict base = ap (answer_at_end base (tt {0})) (left-ending is strict) ∙ end_moved base n (ending_of left)
-
-  pub left-whole : whole_under r bytes ≡ x ++ whole_under r left
-  left-whole = left_whole r bytes x n left is
-
-module _ (laws : ReplacesSubparts) where
-  -- the first characters are those that the bytes spell before any bad one
-  pub text_under-first : (r : Bool) (bytes : List ℕ) → Extends (text_of bytes) (text_under r bytes)
-  unfolding replaced decoded_of
-  text_under-first false bytes = record { more = []; text = sym (append-nil (text_of bytes)) }
-  text_under-first true bytes =
-      let more = decoded_after_text (ending_of bytes) (λ n. decoded_within (length bytes) (drop n bytes)) in
-      record { more = map (λ decoded. decoded.char) more; text = simp (map-append, laws.own_chars) }
-
-  pub len_under-first : (r : Bool) (bytes y z : List ℕ) → text_of bytes ≡ y ++ z → len_under r bytes y ≡ length (encode_utf8_all y)
-  unfolding replaced_len decoded_of
-  len_under-first false bytes y z is = refl
-  len_under-first true bytes y z is = rw (is, decoded_text-append, append_assoc, take_at (decoded_text y) _ (length y) (length-map y _)) (laws.own_len y)
+pub len_under-first : (r : Bool) (bytes y z : List ℕ) → text_of bytes ≡ y ++ z → len_under r bytes y ≡ length (encode_utf8_all y)
+unfolding replaced_len decoded_of
+len_under-first false bytes y z is = refl
+len_under-first true bytes y z is = rw (is, decoded_text-append, append_assoc, take_at (decoded_text y) _ (length y) (length-map y _)) (bytes_in-own y)
 
 -- the bytes of a begun character
 module _ (subpart : List ℕ) (is : IsSubpart subpart) where

@@ -1,5 +1,5 @@
 -- Each filter that is spent or stands after bytes has a state of which one can be made.
-use Rattle.nf_filter.proofs.Common.{◌≡◌, ℕ, ◌≤◌, Bool, true, false, inr, List, [], ◌∷◌, length, map, Option, Some, None, IfSome, refl, sym, ap, ◌∙◌, arith, length-append, eqb-true, nat_tests, length-map, nil_from_length, length-le-encodes, take-length, list_all, is_some, Properties, Form, Nfc, Nfd, row_of, decomposed, composes, is_sound, max_run, stream_safe, back-starter, IsSound, IsSound-from_test, ReplacesSubparts, text_of, decoded_text, decoded_of, replaced, replaced_len, bytes_in, State, Policy, StandsAfter, len_under, text_under, saved_of, are_marks, IsCounted, IsRestorable, is_usable, has_starter, trail, trail-marks}
+use Rattle.nf_filter.proofs.Common.{◌≡◌, ℕ, ◌≤◌, Bool, true, false, inr, List, [], ◌∷◌, length, map, Option, Some, None, IfSome, refl, sym, ap, ◌∙◌, arith, length-append, eqb-true, nat_tests, length-map, nil_from_length, length-le-encodes, take-length, list_all, is_some, Properties, Form, Nfc, Nfd, row_of, decomposed, composes, is_sound, max_run, stream_safe, back-starter, IsSound, IsSound-from_test, text_of, decoded_text, decoded_of, replaced, replaced_len, bytes_in, State, Policy, StandsAfter, len_under, text_under, saved_of, are_marks, IsCounted, IsRestorable, is_usable, has_starter, trail, trail-marks}
 use Rattle.std.specs.Option.{option_to_list}
 use Rattle.nf_forms.specs.Order.{by_class}
 use Rattle.nf_forms.specs.Ordering.{is_ordered}
@@ -10,22 +10,21 @@ use Rattle.nf_utf8.specs.Subpart.{IsSubpart}
 use Rattle.nf_pending.specs.StandsAfter.{StandsAfter as PendingStandsAfter}
 use Rattle.nf_pending.specs.Laws.Standing.{run_len-trail}
 use Rattle.nf_pending.proofs.Standing.{starter_held}
-use Rattle.nf_utf8.proofs.ReplacedLemmas.{subpart_end_is, by_subparts, decoded_of-all, decoded_of-ill_formed}
+use Rattle.nf_utf8.proofs.ReplacedLemmas.{bytes_in-own, bytes_in-append, subpart_end_is, by_subparts, decoded_of-all, decoded_of-ill_formed}
 use Rattle.nf_filter.proofs.StandingLemmas.{taken-text, taken-len}
 
 -- bytes give no more characters than they are
-module _ (laws : ReplacesSubparts) where
-  own_some : (x : List ℕ) → length (decoded_text x) ≤ bytes_in (decoded_text x)
-  own_some x = grind (arith, length-map, laws.own_len x, length-le-encodes x)
+own_some : (x : List ℕ) → length (decoded_text x) ≤ bytes_in (decoded_text x)
+own_some x = grind (arith, length-map, bytes_in-own x, length-le-encodes x)
 
-  decoded_some : (bytes : List ℕ) → length (decoded_of bytes) ≤ bytes_in (decoded_of bytes)
-  decoded_some = by_subparts (λ bytes. length (decoded_of bytes) ≤ bytes_in (decoded_of bytes)) (λ bytes all. rw (decoded_of-all bytes all) (own_some (text_of bytes)))
-      (λ bytes at start bad few. rw (decoded_of-ill_formed bytes at start bad) (grind (arith, length-append, laws.joined, own_some (text_of bytes), subpart_end_is bytes at start bad)))
+decoded_some : (bytes : List ℕ) → length (decoded_of bytes) ≤ bytes_in (decoded_of bytes)
+decoded_some = by_subparts (λ bytes. length (decoded_of bytes) ≤ bytes_in (decoded_of bytes)) (λ bytes all. rw (decoded_of-all bytes all) (own_some (text_of bytes)))
+    (λ bytes at start bad few. rw (decoded_of-ill_formed bytes at start bad) (grind (arith, length-append, bytes_in-append, own_some (text_of bytes), subpart_end_is bytes at start bad)))
 
-  chars_few : (replace : Bool) (bytes : List ℕ) → length (text_under replace bytes) ≤ len_under replace bytes (text_under replace bytes)
-  unfolding replaced replaced_len
-  chars_few false bytes = length-le-encodes (text_of bytes)
-  chars_few true bytes = grind (arith, length-map, take-length, decoded_some bytes)
+chars_few : (replace : Bool) (bytes : List ℕ) → length (text_under replace bytes) ≤ len_under replace bytes (text_under replace bytes)
+unfolding replaced replaced_len
+chars_few false bytes = length-le-encodes (text_of bytes)
+chars_few true bytes = grind (arith, length-map, take-length, decoded_some bytes)
 
 module _ (p : Properties) where
   row_some : (f : Form) (c : ℕ) → IsSound p c → 1 ≤ length (row_of f p c)
@@ -52,7 +51,7 @@ none None e = refl
 none (Some c) e = cc
 
 -- one that stands after bytes
-module _ (laws : ReplacesSubparts) {policy : Policy} {f : Form} {p : Properties} {state : State} {bytes : List ℕ} (stands : StandsAfter policy f p state bytes) where
+module _ {policy : Policy} {f : Form} {p : Properties} {state : State} {bytes : List ℕ} (stands : StandsAfter policy f p state bytes) where
   abbrev text : List ℕ
   text = stands.reading.before
 
@@ -88,7 +87,7 @@ module _ (laws : ReplacesSubparts) {policy : Policy} {f : Form} {p : Properties}
         fits = inr (
           record {
             held = omega arith;
-            chars = omega (arith, chars_few laws policy.replace bytes, taken-len laws stands, ap length (taken-text laws stands));
+            chars = omega (arith, chars_few policy.replace bytes, taken-len stands, ap length (taken-text stands));
             put = ready.put;
             counted = rw taken.machine.form (counted_by f ready.machine.run run_is);
             new = λ e. let new = nil_from_length text (sym taken.chars ∙ e) in (rw new at taken.machine.count, none state.counted.normalizer.pending.starter (rw new at starts));

@@ -1,5 +1,5 @@
 -- Where a filter stands that has taken nothing, and how many of the bytes that it has taken it holds.
-use Rattle.nf_filter.proofs.Common.{bad_under, cases_Bool, ⊎_elim, ◌≡◌, ℕ, false, List, [], ◌∙◌, arith, Properties, Form, ReplacesSubparts, State, Policy, fault_in, base_of, offset_of, is_spent, StandsAfter, text_under-none, HasTaken, len_under, text_under, is_usable-none}
+use Rattle.nf_filter.proofs.Common.{bad_under, cases_Bool, ⊎_elim, ◌≡◌, ℕ, false, List, [], ◌∙◌, arith, Properties, Form, State, Policy, fault_in, base_of, offset_of, is_spent, StandsAfter, text_under-none, HasTaken, len_under, text_under, is_usable-none}
 use Rattle.nf_filter.proofs.FedLemmas.{read-text, read-place}
 use Rattle.nf_filter.proofs.ReadingLemmas.{ending_of-none, new-read}
 use Rattle.nf_filter.proofs.PolicyLemmas.{first_fault-none, allowed-none}
@@ -21,9 +21,9 @@ StandsAfter-none {policy} {p = p} state unspent is offset none taken = record {
 }
 
 -- what was taken is the text of the bytes, and what the decoder holds gave nothing of it
-module _ (laws : ReplacesSubparts) {policy : Policy} {f : Form} {p : Properties} {state : State} {bytes : List ℕ} (stands : StandsAfter policy f p state bytes) where
+module _ {policy : Policy} {f : Form} {p : Properties} {state : State} {bytes : List ℕ} (stands : StandsAfter policy f p state bytes) where
   pub taken-text : text_under policy.replace bytes ≡ stands.reading.before
-  taken-text = read-text laws stands.reading
+  taken-text = read-text stands.reading
 
   pub taken-len : len_under policy.replace bytes (text_under policy.replace bytes) ≡ stands.reading.read.n
-  taken-len = rw taken-text (omega (arith, read-place laws stands.reading))
+  taken-len = rw taken-text (omega (arith, read-place stands.reading))

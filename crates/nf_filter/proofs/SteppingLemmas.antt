@@ -1,5 +1,5 @@
 -- A step of a normalizer, and what of it went to the sink.
-use Rattle.nf_filter.proofs.Common.{⊎_elim, ◌≡◌, ℕ, ◌+◌, ◌<◌, List, [], ◌∷◌, ◌++◌, length, Err, inl, inr, refl, sym, ap, ◌∙◌, arith, append_assoc, encode_utf8_all, IsUtf8, chars, encodes-chars, Properties, Form, safe_form, Given, Extends, Extends-join, Counted, WriteFault, Start, BlockState, Written, Broken, HasPlaces, ◌^◌, HasTaken, TakesOn, settled_text, usable_utf8, Standing}
+use Rattle.nf_filter.proofs.Common.{⊎_elim, ◌≡◌, ℕ, ◌<◌, List, [], ◌∷◌, ◌++◌, length, Err, inl, inr, refl, sym, ap, ◌∙◌, arith, append_assoc, encode_utf8_all, IsUtf8, chars, encodes-chars, Properties, Form, safe_form, Given, Extends, Extends-join, Counted, WriteFault, Start, BlockState, Written, Broken, HasTaken, TakesOn, settled_text, usable_utf8, Standing}
 use Rattle.nf_normalizer.specs.declared.normalizer.Normalizer.{Normalizer}
 use Rattle.nf_normalizer.specs.Front.{Stands}
 use Rattle.nf_normalizer.specs.Laws.Boundary.{usable-alone, usable_both, settled_text-after}
@@ -12,10 +12,6 @@ first-left rest utf8 some = next (chars rest) (encodes-chars rest utf8)
     next : (cs : List ℕ) → encode_utf8_all cs ≡ rest → (c : ℕ) × (more : List ℕ) × (cs ≡ c ∷ more)
     next [] e = absurd (omega (arith, ap length e))
     next (c ∷ cs) e = (c, cs, refl)
-
--- the offset of the first of them can be told
-pub next_place : (at : ℕ) (text front : List ℕ) {rest : List ℕ} → HasPlaces at text → IsUtf8 rest → 0 < length rest → chars text ≡ front ++ chars rest → at + length (encode_utf8_all front) < 2 ^ 64
-next_place at text front {rest} places utf8 some is = let first = first-left rest utf8 some in places front first.0 first.1 (rw first.2 at is)
 
 -- what is told next, told of all that was given and is kept
 abbrev pub apart : Start → Start

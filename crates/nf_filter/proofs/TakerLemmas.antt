@@ -18,8 +18,8 @@ module _ {stands : List ℕ → Type 0} {x text rest : List ℕ} (here : HasTake
   pub offset_after : {at : ℕ} (base : ℕ) → IsUtf8 text → IsUtf8 rest → at ≡ base + length (encode_utf8_all x) → at + (length text - length rest) ≡ base + length (encode_utf8_all (x ++ here.front))
   offset_after base whole left begun = omega (arith, front_len text here.front rest whole left here.is_front, ap length (encodes-append x here.front), length-append {A = ℕ})
 
-  pub placed-left : (place : List ℕ → ℕ) (at : ℕ) → IsUtf8 text → IsUtf8 rest → IsPlacedAt place at x (chars text) → IsPlacedAt place (at + (length text - length rest)) (x ++ here.front) (chars rest)
-  placed-left place at whole left placed = placed-after place at x (chars text) here.front (chars rest) _ here.is_front (omega (arith, front_len text here.front rest whole left here.is_front)) placed
+  pub placed-left : (place : List ℕ → ℕ) (begin : ℕ) (bytes : List ℕ) → IsUtf8 text → IsUtf8 rest → IsPlacedAt place begin bytes 0 x (chars text) → IsPlacedAt place begin bytes (length text - length rest) (x ++ here.front) (chars rest)
+  placed-left place begin bytes whole left placed = placed-after place begin bytes 0 x (chars text) here.front (chars rest) _ here.is_front (omega (arith, front_len text here.front rest whole left here.is_front)) placed
 
   pub takes-more : {next : List ℕ → Type 0} {after : List ℕ} → HasTakenFront next (x ++ here.front) rest after → HasTakenFront next x text after
   takes-more {after = after} more = record {

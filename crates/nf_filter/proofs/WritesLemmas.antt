@@ -54,6 +54,3 @@ BreaksOff-extends longer stops = record {
 -- at the same places
 pub Puts-at : {old new : SinkState} {a b c d : List ℕ} → a ≡ c → b ≡ d → Puts old new a b → Puts old new c d
 Puts-at same_before same_after puts = rw (same_before, same_after) at puts
-
-pub BreaksOff-at : {old new : SinkState} {a b c d : List ℕ} → a ≡ c → b ≡ d → BreaksOff old new a b → BreaksOff old new c d
-BreaksOff-at same_before same_after stops = rw (same_before, same_after) at stops

@@ -1,9 +1,10 @@
 -- Where the characters taken leave a normalizer whose characters are counted.
-use Rattle.std.specs.Prelude.{◌≡◌, ℕ, ◌+◌, ◌≤◌, ◌<◌, ◌^◌, List, ◌∷◌, ◌++◌, length, chars, encode_utf8_all, Option, Some, None, Result, Err, OnOk, if◌then◌else◌}
+use Rattle.std.specs.Prelude.{◌≡◌, ℕ, ◌+◌, ◌≤◌, List, ◌∷◌, ◌++◌, length, encode_utf8_all, Option, Some, None, Result, Err, OnOk, if◌then◌else◌}
 use Rattle.std.specs.Result.{result_err}
 use Rattle.nf_forms.specs.Properties.{Properties}
 use Rattle.nf_forms.specs.declared.form.Form.{Form}
 use Rattle.nf_forms.specs.StreamSafe.{stream_safe}
+use Rattle.nf_utf8.specs.Replaced.{decoded_of, source_in}
 use Rattle.nf_normalizer.specs.Normalizer.{HasTaken as Takes, IsWithin as IsReady}
 use Rattle.nf_filter.specs.declared.counted.Counted.{Counted}
 use Rattle.nf_filter.specs.declared.fault.Fault.{Fault}
@@ -31,13 +32,13 @@ ends_at counted at = IsWithin counted × (counted.chars ≤ at)
 abbrev pub utf8_place : ℕ → List ℕ → ℕ
 utf8_place base front = base + length (encode_utf8_all front)
 
--- the offset of each character of a text that begins at `at` can be told
-abbrev pub HasPlaces : ℕ → List ℕ → Type 0
-HasPlaces at text = (front : List ℕ) (c : ℕ) (rest : List ℕ) → chars text ≡ front ++ c ∷ rest → at + length (encode_utf8_all front) < 2 ^ 64
+-- the offset of the character before which the text of the bytes has n bytes, where the first of them has the offset `begin`
+abbrev pub told_by : ℕ → List ℕ → ℕ → ℕ
+told_by begin bytes n = begin + source_in (decoded_of bytes) n
 
--- so `place` tells it of each character of the text y, which begins at the offset `at` after x
-abbrev pub IsPlacedAt : (List ℕ → ℕ) → ℕ → List ℕ → List ℕ → Type 0
-IsPlacedAt place at x y = (front : List ℕ) (c : ℕ) (rest : List ℕ) → y ≡ front ++ c ∷ rest → place (x ++ front) ≡ at + length (encode_utf8_all front)
+-- so `place` tells it of each character of the text y after x, before which their text has `at` bytes
+abbrev pub IsPlacedAt : (List ℕ → ℕ) → ℕ → List ℕ → ℕ → List ℕ → List ℕ → Type 0
+IsPlacedAt place begin bytes at x y = (front : List ℕ) (c : ℕ) (rest : List ℕ) → y ≡ front ++ c ∷ rest → place (x ++ front) ≡ told_by begin bytes (at + length (encode_utf8_all front))
 
 -- the fault at which it stops in a text, by where what stands after a front of it begins
 unfoldable pub unusable_at : Properties → (List ℕ → ℕ) → List ℕ → Option Fault

@@ -40,17 +40,6 @@ first_fault true p place x other = if is_usable p (allowed true p x)
 unfoldable pub fault_in : Policy → Properties → ℕ → List ℕ → Option Fault
 fault_in policy p base bytes = first_fault policy.assigned p (λ front. base + len_under policy.replace bytes front) (text_under policy.replace bytes) (bad_under policy.replace base bytes)
 
--- the place of a character that is refused, and such a fault at another
-abbrev pub fault_place : Fault → ℕ
-fault_place (Row at) = at
-fault_place (Unassigned at) = at
-fault_place fault = 0
-
-abbrev pub moved_to : ℕ → Fault → Fault
-moved_to at (Row n) = Row at
-moved_to at (Unassigned n) = Unassigned at
-moved_to at fault = fault
-
 -- the faults of taking a character
 abbrev pub IsOfTaking : Fault → Type 0
 IsOfTaking = IsAmong (write ∷ row ∷ unassigned ∷ [])

@@ -25,7 +25,8 @@ impl<'t> Comparing<'t> {
     ghost use Rattle.std.specs.Prelude.{◌≡◌, ◌+◌, ◌≤◌, ◌==◌, ◌&&◌, ℕ, List, ◌++◌, [], length, is_some, not, false, None};
     ghost use Rattle.nf_filter.specs.Comparing.{same, left};
 
-    /// Nothing was given.
+    /// Nothing was given yet. The bytes of `first` are expected, and then those of `second`: the first that is another is taken
+    /// too, and nothing after it.
     pub fn new(first: &'t [u8], second: &'t [u8]) -> Comparing<'t>
         ensures expected { result.first.now ++ result.second.now ≡ first.now ++ second.now }
         ensures none { (same result ≡ []) × (result.other ≡ None) × (result.failed ≡ false) }

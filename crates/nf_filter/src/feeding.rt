@@ -1,17 +1,13 @@
 //! Reading a piece for a normalizer, under a policy.
-ghost use Rattle.std.specs.Prelude.{◌≡◌, ◌+◌, ◌≤◌, ℕ, List, ◌++◌, length, encode_utf8_all};
-ghost use Rattle.nf_utf8.specs.Replaced.{replaced, replaced_len};
-ghost use Rattle.nf_filter.specs.Kinds.{kind};
-ghost use Rattle.nf_filter.specs.Faults.{fault_place, moved_to};
-
 use crate::block::Block;
 use crate::counted::Counted;
 use crate::devices::Sink;
 use crate::fault::Fault;
+use crate::origin::Origin;
 use crate::policy::Policy;
 use crate::reading::Reading;
 use nf_row::Rows;
-use nf_utf8::{LossyText, laws, source_len};
+use nf_utf8::LossyText;
 
 impl Reading {
     ghost use Rattle.std.specs.Prelude.{◌≡◌, ◌+◌, ◌<◌, ◌≤◌, true, ℕ, List, [], ◌++◌, length, None, IfErr, IfOk, OnOk, MatchResult};
@@ -44,13 +40,12 @@ impl Reading {
             × OnOk result (HasReadTo policy f p counted.new base self.new (bytes ++ piece.now) []) }
         ensures lender { (S.state sink.new).lender ≡ (S.state sink.old).lender }
     {
-        laws::replacing();
         let mut block = Block::new(counted.normalizer.is_plain);
         let read = self.read_rest(policy, rows, piece, counted, &mut block, sink);
         block.close(read, sink)
     }
 
-    /// Reads what is left of a piece.
+    /// Reads a piece, text by text.
     fn read_rest<R: Rows, S: Sink>(
         &mut self,
         policy: Policy,
@@ -74,47 +69,27 @@ impl Reading {
         let mut room = LossyText::new();
         let mut left = piece;
         while !left.is_empty() {
-            match self.read_text(policy, rows, left, &mut room, counted, block, sink) {
-                Ok(rest) => left = rest,
+            let origin = Origin {
+                begin: self.offset - self.decoder.carried() as u64,
+                bytes: left,
+            };
+            let next = match self.next_text(policy.replace, left, &mut room) {
+                Ok(next) => next,
                 Err(fault) => return Err(fault),
+            };
+            if let Err(fault) = counted.take_allowed(
+                rows,
+                policy.assigned,
+                origin,
+                next.text,
+                block,
+                sink,
+            ) {
+                return Err(fault);
             }
+            left = &left[next.len..];
         }
         Ok(())
-    }
-
-    /// Reads the next text of what is left of a piece. Answers what stands after it.
-    fn read_text<'p, R: Rows, S: Sink>(
-        &mut self,
-        policy: Policy,
-        rows: &R,
-        rest: &'p [u8],
-        room: &mut LossyText,
-        counted: &mut Counted,
-        block: &mut Block,
-        sink: &mut S,
-    ) -> Result<&'p [u8], Fault>
-        requires ready { IsReady (ends_at counted.old) self.old }
-        requires fits { self.old.offset + length rest.now ≤ u64.MAX }
-        ensures ready { OnOk result (IsReady (ends_at counted.new) self.new) }
-        ensures goes_on { IfOk result (λ left. (self.new.offset + length left.now ≡ self.old.offset + length rest.now)
-            × (0 < length left.now → length left.now + length self.new.decoder < length rest.now + length self.old.decoder)) }
-        ensures faults { IfErr result IsOfReading }
-        ensures reads { let p = R.properties rows.now in
-            (f : Form) (base : ℕ) (bytes : List ℕ) (start : Start) → ReadsTo policy f p counted.old start (block_state (S.state sink.old) block.old) base self.old bytes rest.now
-            → MatchResult result (λ left. ReadsTo policy f p counted.new start (block_state (S.state sink.new) block.new) base self.new bytes left.now)
-            (RefusesBytes policy f p start (block_state (S.state sink.new) block.new) base bytes) }
-        ensures lender { (S.state sink.new).lender ≡ (S.state sink.old).lender }
-    {
-        laws::replacing();
-        let begin = self.offset - self.decoder.carried() as u64;
-        let next = match self.next_text(policy.replace, rest, room) {
-            Ok(next) => next,
-            Err(fault) => return Err(fault),
-        };
-        match counted.take_allowed(rows, policy.assigned, 0, next.text, block, sink) {
-            Ok(()) => Ok(&rest[next.len..]),
-            Err(fault) => Err(told(fault, begin, rest)),
-        }
     }
 
     /// At the end of all bytes: a character that it cuts is refused, or U+FFFD is taken for it.
@@ -132,7 +107,6 @@ impl Reading {
             → Closes policy f p counted.new base bytes (S.state sink.old) (S.state sink.new) result }
         ensures lender { (S.state sink.new).lender ≡ (S.state sink.old).lender }
     {
-        laws::replacing();
         if policy.replace {
             return self.replace_cut(policy, rows, counted, sink);
         }
@@ -154,33 +128,23 @@ impl Reading {
             → ReplacesCut policy f p counted.new base bytes (S.state sink.old) (S.state sink.new) result }
         ensures lender { (S.state sink.new).lender ≡ (S.state sink.old).lender }
     {
-        laws::replacing();
         let carried = self.decoder.carried();
         if carried == 0 {
             return Ok(());
         }
-        let at = self.offset - carried as u64;
+        let origin = Origin {
+            begin: self.offset - carried as u64,
+            bytes: &[],
+        };
         let mut block = Block::new(false);
-        let taken = counted.take_allowed(rows, policy.assigned, at, "\u{FFFD}", &mut block, sink);
+        let taken = counted.take_allowed(
+            rows,
+            policy.assigned,
+            origin,
+            "\u{FFFD}",
+            &mut block,
+            sink,
+        );
         block.close(taken, sink)
-    }
-}
-
-/// A fault that is told by its place in the text that the bytes gave, by its place among them. The first has the offset
-/// `begin`.
-fn told(fault: Fault, begin: u64, bytes: &[u8]) -> Fault
-    requires { begin + length bytes.now ≤ u64.MAX }
-    ensures kind { kind result ≡ kind fault }
-    ensures place { (front more : List ℕ) → replaced bytes.now ≡ front ++ more → fault_place fault ≡ length (encode_utf8_all front)
-        → result ≡ moved_to (begin + replaced_len (length front) bytes.now) fault }
-{
-    match fault {
-        Fault::Row { at } => Fault::Row {
-            at: begin + source_len(bytes, at as usize) as u64,
-        },
-        Fault::Unassigned { at } => Fault::Unassigned {
-            at: begin + source_len(bytes, at as usize) as u64,
-        },
-        other => other,
     }
 }

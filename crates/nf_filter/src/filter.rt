@@ -12,7 +12,6 @@ use crate::reading::Reading;
 use crate::tally::Tally;
 use nf_normalizer::Normalizer;
 use nf_row::{Form, Plain, Rows};
-use nf_utf8::laws;
 
 /// Makes the stream-safe text of UTF-8 that comes in pieces, in one normalization form.
 pub struct Filter<'r, R> {
@@ -224,7 +223,6 @@ impl<'r, R: Rows> Filter<'r, R> {
                 pending: 0,
             };
         }
-        laws::replacing();
         Held {
             bytes: self.state.reading.decoder.carried(),
             pending: self.state.counted.pending(),
@@ -237,7 +235,6 @@ impl<'r, R: Rows> Filter<'r, R> {
         ensures { (policy : Policy) (f : Form) (bytes : List ℕ) → StandsAfter policy f (R.properties (rows_of self.now)) (state_of self.now) bytes
             → result ≡ length (text_under policy.replace bytes) }
     {
-        laws::replacing();
         self.state.counted.chars
     }
 

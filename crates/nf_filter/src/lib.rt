@@ -14,6 +14,7 @@ mod from_reader;
 mod held;
 pub mod laws;
 mod measuring;
+mod origin;
 mod policy;
 mod reading;
 mod saved;

@@ -11,7 +11,7 @@ use nf_normalizer::Normalizer;
 use nf_pending::{Mark, Pending, Run};
 use nf_row::{Form, Plain, Rows};
 use nf_safe::Counter;
-use nf_utf8::{Decoder, laws};
+use nf_utf8::Decoder;
 
 /// Where a filter stands, all of it but the character data.
 #[derive(Debug, Drop)]
@@ -50,7 +50,6 @@ impl<'r, R: Rows> Filter<'r, R> {
         ensures restorable { let p = R.properties (rows_of self.now) in
             (policy : Policy) (f : Form) (bytes : List ℕ) → StandsAfter policy f p (state_of self.now) bytes → IsRestorable p result }
     {
-        laws::replacing();
         let state = &self.state;
         let normalizer = &state.counted.normalizer;
         let (bytes, len) = state.reading.decoder.held();

@@ -7,6 +7,7 @@ use crate::block::Block;
 use crate::counted::Counted;
 use crate::devices::{Failed, Sink};
 use crate::fault::Fault;
+use crate::origin::Origin;
 use nf_normalizer::{STEP, Step};
 use nf_row::{Formed, Rows, assigned_front};
 use nf_utf8::char_count;
@@ -22,72 +23,70 @@ impl Counted {
     ghost use Rattle.nf_forms.specs.declared.form.Form.{Form};
     ghost use Rattle.nf_normalizer.specs.Normalizer.{IsWithin as IsReady};
     ghost use Rattle.nf_filter.specs.Block.{Start, block_state, Written};
-    ghost use Rattle.nf_filter.specs.Counted.{HasPlaces, HasTaken, IsPlacedAt, IsWithin, TakesOn, settled_text};
+    ghost use Rattle.nf_filter.specs.Counted.{HasTaken, IsPlacedAt, IsWithin, TakesOn, settled_text};
     ghost use Rattle.nf_filter.specs.Faults.{IsOfTaking};
     ghost use Rattle.nf_filter.specs.Feeding.{TakesAllowed};
     ghost use Rattle.nf_filter.specs.Policy.{allowed};
     ghost use Rattle.nf_filter.specs.Stepping.{HasStepped, Standing, StandsInFront};
 
-    /// Takes a text that begins at the offset `at`. Where only assigned characters are allowed, the first other is refused.
+    /// Takes a text. Where only assigned characters are allowed, the first other is refused.
     pub(crate) fn take_allowed<R: Rows, S: Sink>(
         &mut self,
         rows: &R,
         assigned: bool,
-        at: u64,
+        origin: Origin<'_>,
         text: &str,
         block: &mut Block,
         sink: &mut S,
     ) -> Result<(), Fault>
         requires within { IsWithin self.old }
         requires counts { self.old.chars + length (chars text.now) ≤ u64.MAX }
-        requires fits { HasPlaces at text.now }
         ensures within { OnOk result (IsWithin self.new) }
         ensures chars { OnOk result (self.new.chars ≡ self.old.chars + length (chars text.now)) }
         ensures faults { IfErr result IsOfTaking }
         ensures takes { let p = R.properties rows.now in
             (f : Form) (place : List ℕ → ℕ) (x : List ℕ) (start : Start) → HasTaken f p self.old x → allowed assigned p x ≡ x
-            → IsPlacedAt place at x (chars text.now) → Written start (block_state (S.state sink.old) block.old) (settled_text f p x)
+            → IsPlacedAt place origin.entry.begin origin.entry.bytes.now 0 x (chars text.now) → Written start (block_state (S.state sink.old) block.old) (settled_text f p x)
             → TakesAllowed assigned f p self.new start (block_state (S.state sink.new) block.new) place (x ++ chars text.now) result }
         ensures lender { (S.state sink.new).lender ≡ (S.state sink.old).lender }
     {
         let (front, rest) = split_allowed(rows, assigned, text);
-        if let Err(fault) = self.take_text(rows, at, front, block, sink) {
+        if let Err(fault) = self.take_text(rows, origin, front, block, sink) {
             return Err(fault);
         }
         if rest.is_empty() {
             return Ok(());
         }
         Err(Fault::Unassigned {
-            at: at + front.len() as u64,
+            at: origin.at(front.len()),
         })
     }
 
-    /// Takes a text that begins at the offset `at`.
+    /// Takes a text.
     fn take_text<R: Rows, S: Sink>(
         &mut self,
         rows: &R,
-        at: u64,
+        origin: Origin<'_>,
         text: &str,
         block: &mut Block,
         sink: &mut S,
     ) -> Result<(), Fault>
         requires within { IsWithin self.old }
         requires counts { self.old.chars + length (chars text.now) ≤ u64.MAX }
-        requires fits { HasPlaces at text.now }
         ensures within { OnOk result (IsWithin self.new) }
         ensures chars { OnOk result (self.new.chars ≡ self.old.chars + length (chars text.now)) }
         ensures faults { IfErr result IsOfTaking }
         ensures takes { let p = R.properties rows.now in
             (f : Form) (place : List ℕ → ℕ) (x : List ℕ) (start : Start) → self.old.chars ≡ length x
-            → Standing f p self.old start (block_state (S.state sink.old) block.old) x (chars text.now) → IsPlacedAt place at x (chars text.now)
+            → Standing f p self.old start (block_state (S.state sink.old) block.old) x (chars text.now) → IsPlacedAt place origin.entry.begin origin.entry.bytes.now 0 x (chars text.now)
             → TakesOn f p self.new start (block_state (S.state sink.new) block.new) place (x ++ chars text.now) result }
         ensures lender { (S.state sink.new).lender ≡ (S.state sink.old).lender }
     {
         let mut rest = text;
         let mut formed = Formed::new();
         while !rest.is_empty() {
-            let place = at + (text.len() - rest.len()) as u64;
-            match self.step(rows, place, rest, &mut formed, block, sink) {
+            let seen = text.len() - rest.len();
+            match self.step(rows, origin, seen, rest, &mut formed, block, sink) {
                 Ok(after) => rest = after,
                 Err(fault) => return Err(fault),
             }
@@ -96,12 +95,14 @@ impl Counted {
         Ok(())
     }
 
-    /// Takes a front of a text that begins at the offset `at`, and writes what it settles. Answers what stands after it.
+    /// Takes a front of the text, before which `seen` bytes of it were taken, and writes what that settles. Answers what
+    /// stands after it.
     /// What `formed` holds is lost: it is room that each step uses anew.
     fn step<'t, R: Rows, S: Sink>(
         &mut self,
         rows: &R,
-        at: u64,
+        origin: Origin<'_>,
+        seen: usize,
         text: &'t str,
         formed: &mut Formed,
         block: &mut Block,
@@ -110,11 +111,11 @@ impl Counted {
         requires some { 0 < length text.now }
         requires within { IsReady self.old.normalizer }
         requires counts { self.old.put + length (chars text.now) ≤ u64.MAX }
-        requires fits { HasPlaces at text.now }
+        requires fits { seen + length text.now ≤ usize.MAX }
         ensures passes { MatchResult result (λ rest. HasStepped self.old self.new text.now rest.now) IsOfTaking }
         ensures steps { let p = R.properties rows.now in
             (f : Form) (place : List ℕ → ℕ) (x : List ℕ) (start : Start) → Standing f p self.old start (block_state (S.state sink.old) block.old) x (chars text.now)
-            → IsPlacedAt place at x (chars text.now) → MatchResult result (λ rest. StandsInFront f p self.new start (block_state (S.state sink.new) block.new) x text.now rest.now)
+            → IsPlacedAt place origin.entry.begin origin.entry.bytes.now seen x (chars text.now) → MatchResult result (λ rest. StandsInFront f p self.new start (block_state (S.state sink.new) block.new) x text.now rest.now)
             (λ fault. TakesOn f p self.new start (block_state (S.state sink.new) block.new) place (x ++ chars text.now) (Err fault)) }
         ensures lender { (S.state sink.new).lender ≡ (S.state sink.old).lender }
     {
@@ -130,7 +131,7 @@ impl Counted {
                 }
             }
             Step::Unsound { rest } => Err(Fault::Row {
-                at: at + (text.len() - rest.len()) as u64,
+                at: origin.at(seen + text.len() - rest.len()),
             }),
         }
     }

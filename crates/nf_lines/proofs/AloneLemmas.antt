@@ -19,10 +19,11 @@ use Rattle.nf_filter.specs.Laws.Soundness.{AreSound}
 use Rattle.nf_filter.specs.Settled.{is_usable, settled}
 use Rattle.nf_filter.proofs.PolicyLemmas.{allowed-append, first_fault-is, first_fault-none, taken_whole, taken as is_taken-from}
 use Rattle.nf_filter.proofs.AgainLemmas.{final-whole}
+use Rattle.nf_utf8.specs.Laws.{ReadsLongestText}
 use Rattle.nf_utf8.proofs.LeftLemmas.{IsLeft-more}
 use Rattle.nf_filter.proofs.PieceLemmas.{left-text, left-place, left-bad, left-end, left-whole}
 use Rattle.nf_filter.proofs.SoundnessLemmas.{all_sound, usable_is}
-use Rattle.nf_lines.proofs.WholeLines.{Reading, line_encodes, ReadsLines, reads_lines}
+use Rattle.nf_lines.proofs.WholeLines.{line_encodes, ReadsLines, reads_lines}
 
 -- one length more on both sides
 eqb_past : (n a b : ℕ) → (n + a == n + b) ≡ (a == b)
@@ -133,10 +134,10 @@ module _ (p : Properties) (sound : AreSound p) where
       }
 
   -- lines without a fault leave nothing
-  pub lines_alone : Reading → (f : Form) → IsOwnBoundary p f line_feed → IsClosing p f line_feed → (policy : Policy) (base : ℕ) (lines rest : List ℕ) → EndsInLineFeed lines
+  pub lines_alone : ReadsLongestText → (f : Form) → IsOwnBoundary p f line_feed → IsClosing p f line_feed → (policy : Policy) (base : ℕ) (lines rest : List ℕ) → EndsInLineFeed lines
       → fault_in policy p base lines ≡ None → StandAlone policy f p base lines rest
   unfolding fault_in
-  lines_alone laws f own_boundary closing policy base lines rest is none =
+  lines_alone longest f own_boundary closing policy base lines rest is none =
       let good = taken_all policy.assigned _ _ _ none in
-      let read = reads_lines laws base policy.replace lines is good.1 in
+      let read = reads_lines longest base policy.replace lines is good.1 in
       alone f own_boundary closing policy base lines rest read (rw (left-text read.left, text_under-none, append-nil) at good.0)

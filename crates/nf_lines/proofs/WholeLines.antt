@@ -9,20 +9,13 @@ use Rattle.std.proofs.lemmas.Bool.Decides.{nat_tests}
 use Rattle.std.proofs.lemmas.Str.{IsCharBoundary-before_ascii, IsUtf8-take, chars-encodes}
 use Rattle.nf_utf8.specs.Text.{BeginsText}
 use Rattle.nf_utf8.specs.Replaced.{replacement, subpart_end}
-use Rattle.nf_utf8.specs.Laws.{ReadsBack, ReplacesSubparts, SplitsBytes, ReadsLongestText}
+use Rattle.nf_utf8.specs.Laws.{ReadsLongestText}
 use Rattle.nf_utf8.specs.Reads.{EndsAs}
 use Rattle.nf_utf8.specs.Reading.{begun_len}
 use Rattle.nf_utf8.proofs.PushesLemmas.{begins_whole, begins_cut}
 use Rattle.nf_utf8.proofs.ReadingLemmas.{ill_formed}
 use Rattle.nf_utf8.proofs.ReplacedLemmas.{by_subparts}
 use Rattle.nf_utf8.proofs.LeftLemmas.{IsLeft-text, IsLeft-join, IsLeft-bad}
-
--- what is known of reading UTF-8
-pub record Reading : Type 0 where
-  pub longest : ReadsLongestText
-  pub split : SplitsBytes
-  pub back : ReadsBack
-  pub replacing : ReplacesSubparts
 
 pub line_encodes : encode_utf8_all (line_feed ∷ []) ≡ line_feed ∷ []
 unfolding encode
@@ -48,7 +41,7 @@ pub record ReadsLines (r : Bool) (lines : List ℕ) : Type 0 where
   pub before : List ℕ
   pub left : IsLeft r lines (before ++ line_feed ∷ []) (length lines) []
 
-module _ (laws : Reading) where
+module _ (longest : ReadsLongestText) where
   lines_begun : (r : Bool) (lines : List ℕ) → EndsInLineFeed lines → BeginsText lines → ReadsLines r lines
   lines_begun r lines is b =
       let text = front_utf8 is.0 (subst BeginsText is.1 b) in
@@ -62,7 +55,7 @@ module _ (laws : Reading) where
   line_good : (lines : List ℕ) (at : ℕ) → EndsInLineFeed lines → ending_of lines ≡ Bad at at → ¬ (at + 1 ≡ length lines)
   line_good lines at is e last =
       let text : List ℕ = text_of lines in
-      let reads = laws.longest.reads lines in
+      let reads = longest.reads lines in
       let bad = subst (EndsAs lines text) e reads.end in
       let len : length is.0 ≡ at = omega (arith, last, ap length is.1, length-append is.0 (line_feed ∷ [])) in
       let front : encode_utf8_all text ≡ is.0 = cc (take_at (encode_utf8_all text) reads.front.spelled.0 at (sym bad.1), reads.front.spelled.1, is.1, take_at is.0 (line_feed ∷ []) at len) in

@@ -6,7 +6,7 @@ mod Fronts
 pub mod LeftLemmas
 mod LossyLemmas
 mod NextLemmas
-mod SourceLemmas
+pub mod SourceLemmas
 pub mod ReplacingLemmas
 pub mod PushesLemmas
 pub mod ReadingLemmas

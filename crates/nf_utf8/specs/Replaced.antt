@@ -49,6 +49,11 @@ bytes_in (decoded ∷ rest) = decoded.len + bytes_in rest
 unfoldable pub replaced_len : ℕ → List ℕ → ℕ
 replaced_len n bytes = bytes_in (take n (decoded_of bytes))
 
+-- how many bytes gave the first n bytes of the UTF-8 of these
+abbrev pub source_in : List Decoded → ℕ → ℕ
+source_in [] n = 0
+source_in (decoded ∷ rest) n = if n == 0 then 0 else decoded.len + source_in rest (n - length (encode_utf8 decoded.char))
+
 -- how many bytes at the end begin a character (0 to 3)
 abbrev pub begun_at_end : List ℕ → ℕ
 begun_at_end bytes = length bytes - bytes_in (decoded_of bytes)

@@ -1,8 +1,8 @@
 //! Where a character stands in bytes.
 
-ghost use Rattle.std.specs.Prelude.{◌≡◌, ◌<◌, ◌≤◌, true, ℕ, List, [], ◌∷◌, ◌++◌, length, drop, encode_utf8, encode_utf8_all, IsNone, IfSome};
+ghost use Rattle.std.specs.Prelude.{◌≡◌, ◌<◌, ◌≤◌, true, ℕ, [], ◌∷◌, length, drop, encode_utf8, IsNone, IfSome};
 ghost use Rattle.nf_utf8.specs.Left.{IsLeft};
-ghost use Rattle.nf_utf8.specs.Replaced.{decoded_of, replaced, replaced_len};
+ghost use Rattle.nf_utf8.specs.Replaced.{decoded_of, source_in};
 
 use crate::carry::Carry;
 use crate::front::{Front, subpart_len};
@@ -19,7 +19,7 @@ struct Source {
 /// How many of the bytes gave the first `len` bytes of the text that they give where each maximal subpart of an ill-formed
 /// sequence is read as U+FFFD (The Unicode Standard, section 3.9).
 pub fn source_len(bytes: &[u8], len: usize) -> usize
-    ensures value { (front more : List ℕ) → replaced bytes.now ≡ front ++ more → length (encode_utf8_all front) ≡ len → result ≡ replaced_len (length front) bytes.now }
+    ensures value { result ≡ source_in (decoded_of bytes.now) len }
     ensures within { result ≤ length bytes.now }
 {
     let mut at = 0;

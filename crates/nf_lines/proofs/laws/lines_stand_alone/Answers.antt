@@ -1,7 +1,6 @@
 use Rattle.nf_lines.proofs.Common.{◌≡◌, true, refl, Form, Nfc, ucd, line_feed}
 use Rattle.ucd_table.specs.Rows.{in_ranges}
 use Rattle.nf_facts.specs.PlainRanges.{plain_ranges}
-use Rattle.nf_lines.proofs.WholeLines.{Reading}
 use Rattle.nf_lines.proofs.AloneLemmas.{lines_alone}
 use Rattle.nf_lines.proofs.laws.lines_stand_alone.Goals as goal
 
@@ -12,6 +11,5 @@ plain _ = refl
 
 pub returns : goal.returns
 returns c = λ policy f base lines rest.
-    let reading : Reading = record { longest = c.longest_text.ensures; split = c.split.ensures; back = c.read_back.ensures; replacing = c.replacing.ensures } in
-    lines_alone ucd c.every_character_is_sound.ensures.character reading f (c.the_quick_check_tells.ensures.own_boundary f line_feed (c.plain_ranges_pass.ensures f line_feed (plain f)))
+    lines_alone ucd c.every_character_is_sound.ensures.character c.longest_text.ensures f (c.the_quick_check_tells.ensures.own_boundary f line_feed (c.plain_ranges_pass.ensures f line_feed (plain f)))
     (c.lines_are_formed_alone.ensures.closing f) policy base lines rest

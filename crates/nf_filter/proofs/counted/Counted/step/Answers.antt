@@ -1,18 +1,12 @@
-use Rattle.nf_filter.proofs.Common.{ℕ, Result, Fault, Err, Row, WriteFault, ◌≡◌, ◌+◌, ◌-◌, [], ◌∷◌, ◌++◌, length, refl, sym, arith, rules, append_assoc, length-append, IsUtf8, chars}
+use Rattle.nf_filter.proofs.Common.{ℕ, Result, Fault, Err, Row, WriteFault, ◌≡◌, ◌+◌, ◌-◌, [], ◌∷◌, ◌++◌, length, refl, sym, ◌∙◌, arith, rules, encode_utf8_all, append_assoc, length-append, IsUtf8, chars}
 use Rattle.nf_filter.proofs.BlockLemmas.{WritesTo-written}
 use Rattle.nf_filter.proofs.TextLemmas.{usable_utf8-stop, unusable_at-stop}
 use Rattle.nf_filter.proofs.TakingLemmas.{front_len, front-joined}
-use Rattle.nf_filter.proofs.SteppingLemmas.{next_place, apart, given_to, given_and, stands-failed, stands-moved, Standing-moved}
+use Rattle.nf_filter.proofs.SteppingLemmas.{apart, given_to, given_and, stands-failed, stands-moved, Standing-moved}
 use Rattle.nf_filter.proofs.counted.Counted.step.Goals as goal
 
 pub returns-in-Err-clause-steps : goal.returns-in-Err-clause-steps
 returns-in-Err-clause-steps g c = λ f place x start standing here. stands-failed _ standing.stands refl (c.in-Err.ensures.writes (apart start) _ (given_and standing _))
-
-pub overflow_add-result : goal.overflow_add-result
-overflow_add-result g c =
-    let stops = rw c.in-Unsound.is at c.step.ensures.passes in
-    let rest : IsUtf8 c.in-Unsound.rest.now = search rules in
-    omega (arith, next_place _ _ stops.front c.requires.fits rest stops.some stops.is_front, front_len c.args.text.now stops.front c.in-Unsound.rest.now c.utf8.text rest stops.is_front)
 
 no_failure : {at : ℕ} → (let found : Result (Unit {0}) Fault = Err (Row at) in ¬ (found ≡ Err WriteFault))
 no_failure e = cc
@@ -26,8 +20,9 @@ returns-in-Unsound-clause-steps g c = λ f place x start standing placed.
     let refuses = stopped.refuses in
     let y = x ++ stopped.front in
     let utf8 : IsUtf8 c.in-Unsound.rest.now = search rules in
-    let here : place y ≡ c.args.at + (length text - length c.in-Unsound.rest.now) =
-    omega (arith, front_len text stopped.front c.in-Unsound.rest.now c.utf8.text utf8 stopped.is_front, placed stopped.front refuses.first refuses.rest (rw refuses.is_first at stopped.is_front)) in
+    let gone : c.args.seen + length (encode_utf8_all stopped.front) ≡ c.args.seen + length text - length c.in-Unsound.rest.now =
+    omega (arith, front_len text stopped.front c.in-Unsound.rest.now c.utf8.text utf8 stopped.is_front) in
+    let here : place y ≡ c.at.result = placed stopped.front refuses.first refuses.rest (rw refuses.is_first at stopped.is_front) ∙ rw (gone, ← c.at.ensures) refl in
     let whole : (y ++ refuses.first ∷ []) ++ refuses.rest ≡ x ++ chars text =
     rw (append_assoc y (refuses.first ∷ []) refuses.rest, ← refuses.is_first) (front-joined x (chars text) stopped.front (chars c.in-Unsound.rest.now) stopped.is_front) in
     rw (← whole) (record {

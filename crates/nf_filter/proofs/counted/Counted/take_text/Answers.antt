@@ -1,19 +1,11 @@
-use Rattle.nf_filter.proofs.Common.{[], ◌≡◌, ⊎_elim, sym, unusable_at-usable, ℕ, ◌∷◌, ◌++◌, append_assoc, length-append, length, rules, ap, arith, ◌∙◌, chars, encodes-append}
-use Rattle.nf_filter.proofs.TakingLemmas.{front_len, front-more, front-whole, nothing-left}
+use Rattle.nf_filter.proofs.Common.{[], ◌≡◌, ⊎_elim, sym, unusable_at-usable, ◌∷◌, ◌++◌, length-append, length, rules, ap, arith, ◌∙◌, chars}
+use Rattle.nf_filter.proofs.TakingLemmas.{front-more, front-whole, nothing-left}
 use Rattle.nf_filter.proofs.TakerLemmas.{joined, placed-left, takes-none, takes-more}
-use Rattle.nf_filter.proofs.SteppingLemmas.{next_place}
 use Rattle.nf_filter.proofs.TextLemmas.{usable_utf8-usable}
 use Rattle.nf_filter.proofs.counted.Counted.take_text.Goals as goal
 
 pub loop-rest-init : goal.loop-rest-init
 loop-rest-init g c = search (arith, rules, takes-none)
-
-pub step-requires-clause-fits : goal.step-requires-clause-fits
-step-requires-clause-fits g c = λ front d more is.
-    let gone = c.loop-rest.invariant.gone in
-    let len = front_len c.args.text.now gone.0 c.loop-rest.rest.now c.utf8.text c.loop-rest.invariant.utf8 gone.1 in
-    let all = c.requires.fits (gone.0 ++ front) d more (rw (is, ← append_assoc gone.0 front (d ∷ more)) at gone.1) in
-    omega (arith, ap length (encodes-append gone.0 front), length-append {A = ℕ})
 
 pub loop-rest-preserved : goal.loop-rest-preserved
 loop-rest-preserved g c = record {
@@ -26,14 +18,14 @@ loop-rest-preserved g c = record {
       omega (arith, c.in-Ok.ensures.passes.put, leaves.few, ap length leaves.is_front, length-append leaves.front (chars c.in-Ok.after.now), c.loop-rest.invariant.put);
   stands = λ f place x start standing here.
       let before = c.loop-rest.invariant.stands f place x start standing here in
-      takes-more before (c.in-Ok.ensures.steps f place (x ++ before.front) start before.taken (placed-left before place c.args.at c.utf8.text c.loop-rest.invariant.utf8 here));
+      takes-more before (c.in-Ok.ensures.steps f place (x ++ before.front) start before.taken (placed-left before place c.args.origin.begin c.args.origin.bytes.now c.utf8.text c.loop-rest.invariant.utf8 here));
   lender = c.in-Ok.ensures.lender ∙ c.loop-rest.invariant.lender;
 }
 
 pub returns-in-Err-clause-takes : goal.returns-in-Err-clause-takes
 returns-in-Err-clause-takes g c = λ f place x start counted standing here.
     let before = c.loop-rest.invariant.stands f place x start standing here in
-    rw (joined before) at (c.in-Err.ensures.steps f place (x ++ before.front) start before.taken (placed-left before place c.args.at c.utf8.text c.loop-rest.invariant.utf8 here))
+    rw (joined before) at (c.in-Err.ensures.steps f place (x ++ before.front) start before.taken (placed-left before place c.args.origin.begin c.args.origin.bytes.now c.utf8.text c.loop-rest.invariant.utf8 here))
 
 pub returns-clause-takes : goal.returns-clause-takes
 returns-clause-takes g c = λ f place x start counted standing placed.
@@ -51,8 +43,3 @@ returns-clause-takes g c = λ f place x start counted standing placed.
     }))
     (λ between. let begins : [] ≡ between.boundary.first ∷ between.boundary.rest = sym (nothing-left rest none) ∙ between.boundary.text in cc)
     here.taken.stands
-
-pub overflow_add-place : goal.overflow_add-place
-overflow_add-place g c =
-    let gone = c.loop-rest.invariant.gone in
-    omega (arith, next_place _ _ _ c.requires.fits c.loop-rest.invariant.utf8 (search rules) gone.1, front_len c.args.text.now gone.0 c.loop-rest.rest.now c.utf8.text c.loop-rest.invariant.utf8 gone.1)

@@ -10,7 +10,7 @@ invariant-loop-rest g l = record {
   chars : l.self.chars ≡ l.fn.self.chars;
   put : l.self.put + length (characters l.rest) ≤ l.fn.self.put + length (characters l.text);
   stands : (f : Form) (place : List ℕ → ℕ) (x : List ℕ) (start : Start) → Standing f (g.R.Rows.properties l.rows) l.fn.self start (block_state (g.S.Sink.state l.fn.sink) l.fn.block) x (characters l.text)
-      → IsPlacedAt place l.fn.at x (characters l.text) → StandsInFront f (g.R.Rows.properties l.rows) l.self start (block_state (g.S.Sink.state l.sink) l.block) x l.text l.rest;
+      → IsPlacedAt place l.fn.origin.begin l.fn.origin.bytes.now 0 x (characters l.text) → StandsInFront f (g.R.Rows.properties l.rows) l.self start (block_state (g.S.Sink.state l.sink) l.block) x l.text l.rest;
   lender : (g.S.Sink.state l.sink).lender ≡ (g.S.Sink.state l.fn.sink).lender;
 }
 

@@ -3,4 +3,4 @@ use Rattle.nf_filter.proofs.StandingLemmas.{taken-text}
 use Rattle.nf_filter.proofs.filter.Filter.chars.Goals as goal
 
 pub returns : goal.returns
-returns g c = λ policy f bytes stands. stands.reading.taken.chars ∙ ap length (sym (taken-text c.replacing.ensures stands))
+returns g c = λ policy f bytes stands. stands.reading.taken.chars ∙ ap length (sym (taken-text stands))

@@ -5,8 +5,8 @@ use Rattle.nf_filter.proofs.filter.Filter.held.Goals as goal
 
 pub returns-clause-bytes : goal.returns-clause-bytes
 returns-clause-bytes g c = λ policy f bytes stands.
-    omega (arith, taken-len c.replacing.ensures stands, stands.reading.read.offset, StandsAfter-offset stands)
+    omega (arith, taken-len stands, stands.reading.read.offset, StandsAfter-offset stands)
 
 pub returns-clause-pending : goal.returns-clause-pending
 returns-clause-pending g c = λ policy f bytes stands.
-    rw (taken-text c.replacing.ensures stands) (c.pending.ensures.value f _ stands.reading.before stands.reading.taken)
+    rw (taken-text stands) (c.pending.ensures.value f _ stands.reading.before stands.reading.taken)

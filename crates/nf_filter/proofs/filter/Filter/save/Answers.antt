@@ -6,5 +6,5 @@ pub returns-clause-restorable : goal.returns-clause-restorable
 returns-clause-restorable g c = λ policy f bytes stands.
     let state = c.args.self.now.state in
     let p = g.R.Rows.properties (rows_of c.args.self.now) in
-    let whole : IsRestorable p (saved_of state) = IsRestorable-stands c.replacing.ensures stands c.held-len.ensures.part (rw c.count.ensures.value at c.count.ensures.bound) in
+    let whole : IsRestorable p (saved_of state) = IsRestorable-stands stands c.held-len.ensures.part (rw c.count.ensures.value at c.count.ensures.bound) in
     search rules

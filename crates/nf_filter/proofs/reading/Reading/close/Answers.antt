@@ -5,9 +5,9 @@ use Rattle.nf_filter.proofs.reading.Reading.close.Goals as goal
 
 pub returns-then-policy-clause-closes : goal.returns-then-policy-clause-closes
 returns-then-policy-clause-closes g c = λ f base bytes read.
-    close-replaced c.replacing.ensures read c.if-policy.true c.replace_cut.result (c.replace_cut.ensures.cut f base bytes read c.if-policy.true)
+    close-replaced read c.if-policy.true c.replace_cut.result (c.replace_cut.ensures.cut f base bytes read c.if-policy.true)
 
 pub returns-clause-closes : goal.returns-clause-closes
 returns-clause-closes g c = λ f base bytes read.
-    close-strict c.replacing.ensures read c.if-policy.false _ c.end.result (c.end.ensures.end (base + read.read.n) _ (stands_alone _ read.read.begun) read.read.offset)
+    close-strict read c.if-policy.false _ c.end.result (c.end.ensures.end (base + read.read.n) _ (stands_alone _ read.read.begun) read.read.offset)
     (λ fault e write. rw (e ∙ ap Err write) at c.end.ensures.kinds)

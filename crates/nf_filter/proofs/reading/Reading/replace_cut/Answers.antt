@@ -1,11 +1,12 @@
-use Rattle.nf_filter.proofs.Common.{append-nil, eq-eqb, ne_eqb, ◌≡◌, true, None, sym, ◌∙◌, arith, ⊎_elim, replacement, allowed, whole_under, is_usable, settled_utf8}
+use Rattle.nf_filter.proofs.Common.{append-nil, decoded_of, [], eq-eqb, ne_eqb, ◌≡◌, true, None, sym, ◌∙◌, arith, ⊎_elim, replacement, allowed, whole_under, is_usable, settled_utf8}
 use Rattle.nf_utf8.proofs.ReplacingLemmas.{replacement-chars}
+use Rattle.nf_utf8.proofs.SourceLemmas.{source-none}
 use Rattle.nf_filter.proofs.WritesLemmas.{Puts-none}
 use Rattle.nf_filter.proofs.BlockLemmas.{start_at, Written-none}
 use Rattle.nf_filter.proofs.FilterLemmas.{write_or_kept}
 use Rattle.nf_filter.proofs.PolicyLemmas.{first_fault-none, taken-all}
 use Rattle.nf_filter.proofs.PieceLemmas.{place_in}
-use Rattle.nf_filter.proofs.TakingLemmas.{one_placed, one_has_places}
+use Rattle.nf_filter.proofs.TakingLemmas.{one_placed}
 use Rattle.nf_filter.proofs.FedLemmas.{read-settled, read-place, whole_is}
 use Rattle.nf_filter.proofs.reading.Reading.replace_cut.Goals as goal
 
@@ -14,25 +15,24 @@ returns-then-carried-eq0-clause-cut g c = λ f base bytes read replaces.
     let p = g.R.Rows.properties c.args.rows.now in
     let policy = c.args.policy in
     let whole = whole_under policy.replace bytes in
-    let is : whole ≡ read.before = rw (eq-eqb _ 0 (sym c.carried-carried.ensures.count ∙ c.if-carried-eq0.true)) at (whole_is c.replacing.ensures read replaces) ∙ append-nil read.before in
+    let is : whole ≡ read.before = rw (eq-eqb _ 0 (sym c.carried-carried.ensures.count ∙ c.if-carried-eq0.true)) at (whole_is read replaces) ∙ append-nil read.before in
     let sound : is_usable p whole ≡ true = rw is read.taken.machine.usable in
     let all : allowed policy.assigned p whole ≡ whole = rw is read.allowed in
     record {
       broken = λ e. cc;
-      puts = λ _. rw (taken-all p policy.assigned whole sound all, is, read-settled c.replacing.ensures read) (Puts-none _ _);
+      puts = λ _. rw (taken-all p policy.assigned whole sound all, is, read-settled read) (Puts-none _ _);
       fault = λ _. sym (first_fault-none p policy.assigned (place_in policy.replace base bytes) whole None sound all);
       taken = (rw is read.taken, all);
     }
 
 pub returns-clause-cut : goal.returns-clause-cut
 returns-clause-cut g c = λ f base bytes read replaces.
-    let laws = c.replacing.ensures in
     let place = place_in c.args.policy.replace base bytes in
     let start = start_at (g.S.Sink.state c.args.sink.now) (settled_utf8 c.args.policy f (g.R.Rows.properties c.args.rows.now) bytes) in
     let held = c.carried-carried.ensures.count in
     let takes = rw replacement-chars at c.take_allowed-taken.ensures.takes in
-    let here = rw (← rw (ne_eqb _ 0 (λ e. c.if-carried-eq0.false (held ∙ e))) at (whole_is laws read replaces)) at
-    (takes f place read.before start read.taken read.allowed (one_placed place _ read.before replacement (omega (arith, read-place laws read, held, read.read.offset))) (rw (read-settled laws read) (Written-none _ c.new-block.ensures.empty))) in
+    let here = rw (← rw (ne_eqb _ 0 (λ e. c.if-carried-eq0.false (held ∙ e))) at (whole_is read replaces)) at
+    (takes f place read.before start read.taken read.allowed (one_placed place _ _ read.before replacement (omega (arith, read-place read, held, read.read.offset, source-none (decoded_of [])))) (rw (read-settled read) (Written-none _ c.new-block.ensures.empty))) in
     let closed = c.close.ensures.gives _ _ here.writes in
     record {
       broken = closed.broken;
@@ -43,6 +43,3 @@ returns-clause-cut g c = λ f base bytes read replaces.
 
 pub take_allowed-taken-requires-clause-counts : goal.take_allowed-taken-requires-clause-counts
 take_allowed-taken-requires-clause-counts g c = rw replacement-chars (omega (arith, c.requires.ready.end.1, c.carried-carried.ensures.count, c.if-carried-eq0.false))
-
-pub take_allowed-taken-requires-clause-fits : goal.take_allowed-taken-requires-clause-fits
-take_allowed-taken-requires-clause-fits g c = rw replacement-chars (one_has_places _ replacement (omega arith))
