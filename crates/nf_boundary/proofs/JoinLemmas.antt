@@ -1,5 +1,6 @@
 -- A cluster of Unicode's characters: how a character more joins it, and what it is when a boundary comes.
-use Rattle.std.proofs.Common.{Option, ◌≡◌, ◌≢◌, ◌⊎◌, inr, ℕ, ◌+◌, ◌<◌, ◌≤◌, true, not, ◌&&◌, ◌==◌, nat_le, cond, List, [], ◌∷◌, ◌++◌, length, Some, None, refl, sym, ◌∙◌, append_assoc, append-nil, arith, eq-eqb}
+use Rattle.std.proofs.Common.{Option, ◌≡◌, ◌≢◌, ◌⊎◌, inr, ℕ, ◌+◌, ◌<◌, ◌≤◌, true, cond, List, [], ◌∷◌, ◌++◌, Some, None, refl, sym, ◌∙◌, append_assoc, append-nil, arith, eq-eqb}
+use Rattle.nf_forms.specs.Cluster.{blocks}
 use Rattle.nf_boundary.proofs.Common.{ucd, Sees, IsAtBoundary, Closes, Form, composes, Seen, Yes, No, canonical_combining_class, IsSoundText, ne_eqb, kit_form, quick_check, IsMark, composite, joined, IsOwnRow, AreClusters, AreMadeOf, JoinsFront, Joins, Gathers, encode_utf8, encode_utf8_all, cluster-joined, cluster-left, cluster-next, HasForm-cluster}
 use Rattle.ucd_normal.specs.declared.forms.Form.TheVariants.{Nfkd as KitNfkd}
 use Rattle.nf_boundary.specs.declared.cluster.Cluster.{Cluster}
@@ -10,8 +11,8 @@ unfolding ucd
 class_of c = refl
 
 -- what `joined` is, by what blocks c: a mark that is left
-pub joined_is : (done cs : List ℕ) (cluster : Cluster) → AreMadeOf done cs cluster → (c class : ℕ) → class ≡ canonical_combining_class c
-    → joined ucd cluster.starter cluster.left.items c ≡ cond (not (length cluster.left.items == 0) && nat_le class cluster.highest) None (composite ucd cluster.starter c)
+joined_is : (done cs : List ℕ) (cluster : Cluster) → AreMadeOf done cs cluster → (c class : ℕ) → class ≡ canonical_combining_class c
+    → joined ucd cluster.starter cluster.left.items c ≡ cond (blocks cluster.highest class) None (composite ucd cluster.starter c)
 joined_is done cs cluster here c class is = rw (here.blocked c, class_of c, is)
 
 -- a character that is not refused, and is a mark or passes NFKD, is its own row
@@ -22,45 +23,48 @@ module _ (f : Form) (seen : Seen) (sees : Sees f seen) where
 
   -- so what it makes of the cluster, by what it composes to with the starter
   module _ (old mid : Cluster) (own : IsOwnRow ucd seen.character) (follows : (old.last ≤ seen.class) ⊎ (seen.class ≡ 0)) (room : old.count < 30)
-      (o : Option ℕ) (joins : (done cs : List ℕ) → AreMadeOf done cs old → o ≡ joined ucd old.starter old.left.items seen.character) (before after : List ℕ) where
+      (o : Option ℕ) (is : o ≡ cond (blocks old.highest seen.class) None (composite ucd old.starter seen.character)) (before after : List ℕ) where
     abbrev new : Cluster
     new = record mid { last = seen.class; count = mid.count + 1 }
 
     class_is : ucd.class seen.character ≡ seen.class
     class_is = class_of seen.character ∙ sym sees.class
 
+    joins : (done cs : List ℕ) → AreMadeOf done cs old → joined ucd old.starter old.left.items seen.character ≡ o
+    joins done cs made = joined_is done cs old made seen.character seen.class sees.class ∙ sym is
+
     in_order : (old.last ≤ ucd.class seen.character) ⊎ (ucd.class seen.character ≡ 0)
     in_order = rw class_is follows
 
     pub joins_composed : o ≡ Some mid.starter → mid.left.items ≡ old.left.items → mid.highest ≡ old.highest → mid.count ≡ old.count → after ≡ before → Joins seen.character old new before after
-    joins_composed is left highest count same = record {
+    joins_composed some left highest count same = record {
       more = [];
       formed = rw (append-nil, same);
-      joins = λ done cs made. rw (append-nil, left, highest, count, ← class_is) (cluster-joined ucd _ _ _ _ _ _ made _ own in_order room _ (sym (joins done cs made) ∙ is));
+      joins = λ done cs made. rw (append-nil, left, highest, count, ← class_is) (cluster-joined ucd _ _ _ _ _ _ made _ own in_order room _ (joins done cs made ∙ some));
     }
 
     pub joins_left : o ≡ None → seen.class ≢ 0 → mid.starter ≡ old.starter → mid.left.items ≡ old.left.items ++ seen.character ∷ [] → mid.highest ≡ seen.class → mid.count ≡ old.count → after ≡ before
         → Joins seen.character old new before after
-    joins_left is mark starter left highest count same = record {
+    joins_left none mark starter left highest count same = record {
       more = [];
       formed = rw (append-nil, same);
       joins = λ done cs made. rw (append-nil, starter, left, highest, count, ← class_is)
-          (cluster-left ucd _ _ _ _ _ _ made _ own in_order room (ne_eqb _ 0 (rw class_is mark)) (sym (joins done cs made) ∙ is));
+          (cluster-left ucd _ _ _ _ _ _ made _ own in_order room (ne_eqb _ 0 (rw class_is mark)) (joins done cs made ∙ none));
     }
 
-    pub joins_next : o ≡ None → seen.class ≡ 0 → mid.starter ≡ seen.character → mid.left.items ≡ [] → mid.highest ≡ old.highest → mid.count ≡ 0 → after ≡ before ++ encode_utf8_all (old.starter ∷ old.left.items)
+    pub joins_next : o ≡ None → seen.class ≡ 0 → mid.starter ≡ seen.character → mid.left.items ≡ [] → mid.highest ≡ 0 → mid.count ≡ 0 → after ≡ before ++ encode_utf8_all (old.starter ∷ old.left.items)
         → Joins seen.character old new before after
-    joins_next is none starter left highest count grown = record {
+    joins_next none starts starter left highest count grown = record {
       more = old.starter ∷ old.left.items;
       formed = grown;
       joins = λ done cs made. rw (starter, left, highest, count, ← class_is)
-          (cluster-next ucd _ _ _ _ _ _ made _ own in_order room (eq-eqb _ 0 (class_is ∙ none)) (sym (joins done cs made) ∙ is));
+          (cluster-next ucd _ _ _ _ _ _ made _ own in_order room (eq-eqb _ 0 (class_is ∙ starts)) (joins done cs made ∙ none));
     }
 
 -- ---- Hangul letters
 
 -- a letter that composes, where no mark is left
-pub made_letter : (done cs : List ℕ) (cluster : Cluster) → AreMadeOf done cs cluster → (c : ℕ) → IsOwnRow ucd c → canonical_combining_class c ≡ 0 → cluster.count < 30 → length cluster.left.items ≡ 0
+pub made_letter : (done cs : List ℕ) (cluster : Cluster) → AreMadeOf done cs cluster → (c : ℕ) → IsOwnRow ucd c → canonical_combining_class c ≡ 0 → cluster.count < 30 → cluster.highest ≡ 0
     → (d : ℕ) → composite ucd cluster.starter c ≡ Some d → AreClusters ucd done (cs ++ c ∷ []) d cluster.left.items 0 cluster.highest (cluster.count + 1)
 made_letter done cs cluster here c own starter room none d both =
     let class = class_of c ∙ starter in

@@ -1,4 +1,7 @@
+use crate::closing::joined;
+use crate::composites::Pairs;
 use crate::encoding::{put_character, put_utf8};
+use crate::mark::Mark;
 use crate::seen::{Seen, is_own_row};
 use crate::segments::Formed;
 use arrayvec::ArrayVec;
@@ -18,7 +21,7 @@ pub(crate) struct Cluster {
     left: ArrayVec<char, 12>,
     /// The class of the last character.
     last: u8,
-    /// The greatest class of a mark that is left, where there is one.
+    /// The greatest class of a mark that is left, or 0.
     highest: u8,
     /// How many characters they are.
     count: u8,
@@ -30,8 +33,6 @@ impl Cluster {
     ghost use Rattle.ucd_normal.specs.declared.forms.QuickCheck.TheVariants.{Yes};
     ghost use Rattle.ucd_normal.specs.CanonicalCombiningClass.{canonical_combining_class};
     ghost use Rattle.ucd_normal.specs.QuickCheck.{quick_check};
-    ghost use Rattle.nf_forms.specs.Ucd.{ucd};
-    ghost use Rattle.nf_forms.specs.Compose.{joined};
     ghost use Rattle.nf_boundary.specs.Seen.{Sees};
     ghost use Rattle.nf_boundary.specs.Joins.{AreMadeOf, JoinsFront, Joins};
 
@@ -78,7 +79,7 @@ impl Cluster {
         if letter < '\u{1161}' || letter > '\u{11C2}' {
             return None;
         }
-        if self.count >= MAX_RUN || !self.left.is_empty() {
+        if self.count >= MAX_RUN || self.highest != 0 {
             return None;
         }
         self.starter = compose(self.starter, letter)?;
@@ -100,20 +101,31 @@ impl Cluster {
         if seen.answer == QuickCheck::No || self.count >= MAX_RUN || !self.may_follow(seen) {
             return None;
         }
-        match self.composite_with(seen.character, seen.class) {
+        let Seen {
+            character,
+            class,
+            ..
+        } = seen;
+        match joined(
+            &Pairs,
+            self.starter,
+            Mark { character, class },
+            self.highest,
+        ) {
             Some(composite) => self.starter = composite,
-            None if seen.class == 0 => {
+            None if class == 0 => {
                 self.append_to(formed)?;
-                self.starter = seen.character;
+                self.starter = character;
                 self.left.clear();
+                self.highest = 0;
                 self.count = 0;
             }
             None => {
-                self.left.try_push(seen.character).ok()?;
-                self.highest = seen.class;
+                self.left.try_push(character).ok()?;
+                self.highest = class;
             }
         }
-        self.last = seen.class;
+        self.last = class;
         self.count += 1;
         Some(())
     }
@@ -128,19 +140,6 @@ impl Cluster {
         } else {
             seen.class >= self.last
         }
-    }
-
-    /// What `c` becomes with the starter, unless a mark that is left keeps it from that (D115).
-    #[inline(always)]
-    fn composite_with(&self, c: char, class: u8) -> Option<char>
-        requires { class ≡ canonical_combining_class c }
-        ensures { (done cs : List ℕ) → AreMadeOf done cs self.now → result ≡ joined ucd self.now.starter self.now.left.items c }
-    {
-        laws::each_pair_has_a_primary_composite();
-        if !self.left.is_empty() && class <= self.highest {
-            return None;
-        }
-        compose(self.starter, c)
     }
 
     /// Whether nothing in it composed.

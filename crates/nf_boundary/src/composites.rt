@@ -17,21 +17,33 @@ pub trait Composites {
         ensures { result ≡ composite (properties self.now) starter mark };
 }
 
-/// Those of the Unicode Character Database.
+/// Those of the Unicode Character Database, by its table of composites.
+#[derive(Clone, Copy)]
+pub(crate) struct Pairs;
+
+impl Composites for Pairs {
+    ghost properties = { λ _. ucd };
+
+    #[inline]
+    fn composite(&self, starter: char, mark: char) -> Option<char> {
+        laws::each_pair_has_a_primary_composite();
+        compose(starter, mark)
+    }
+}
+
+/// The same, where first it is looked whether the mark composes at all: that is less than to look for a composite.
 #[derive(Clone, Copy)]
 pub(crate) struct Database;
 
 impl Composites for Database {
     ghost properties = { λ _. ucd };
 
-    /// To look for a composite is more than to look whether there is any.
     #[inline]
     fn composite(&self, starter: char, mark: char) -> Option<char> {
-        laws::each_pair_has_a_primary_composite();
         laws::the_quick_check_tells();
         if quick_check(mark, Form::Nfc) == QuickCheck::Yes {
             return None;
         }
-        compose(starter, mark)
+        Pairs.composite(starter, mark)
     }
 }

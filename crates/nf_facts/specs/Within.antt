@@ -1,5 +1,5 @@
 -- Ranges that lie within others, as proofs by one computation ask for them.
-use Rattle.std.proofs.Common.{◌≡◌, ℕ, ◌≤◌, ◌⊎◌, inl, inr, Bool, true, false, ◌&&◌, ◌||◌, nat_le, List, [], ◌∷◌, refl, arith}
+use Rattle.std.proofs.Common.{◌≡◌, ℕ, ◌≤◌, Bool, true, false, ◌&&◌, ◌||◌, nat_le, List, [], ◌∷◌, arith}
 use Rattle.std.proofs.lemmas.Bool.Decides.{nat_tests}
 use Rattle.ucd_table.specs.Rows.{Range, in_ranges}
 
@@ -17,7 +17,3 @@ in_ranges-lies_within (r ∷ rs) first last c h low high = grind (arith, nat_tes
 abbrev pub or_else : Bool → (Unit {0} → Bool) → Bool
 or_else true more = true
 or_else false more = more tt
-
-pub either : (b : Bool) (more : Unit {0} → Bool) → or_else b more ≡ true → (b ≡ true) ⊎ (more tt ≡ true)
-either true more e = inl refl
-either false more e = inr e

@@ -1,6 +1,6 @@
 -- A starter and the characters after it that may compose with it, each its own decomposition, on the way through canonical
 -- composition (The Unicode Standard, section 3.11, D115 to D117).
-use Rattle.std.specs.Prelude.{◌≡◌, ◌≤◌, ℕ, nat_le, Bool, true, false, not, ◌&&◌, ◌==◌, List, [], ◌∷◌, ◌++◌, length}
+use Rattle.std.specs.Prelude.{◌≡◌, ◌≤◌, ℕ, nat_lt, nat_le, Bool, true, false, ◌&&◌, List, [], ◌∷◌, ◌++◌}
 use Rattle.nf_forms.specs.Properties.{Properties, is_starter}
 use Rattle.nf_forms.specs.Runs.{has_starter, trail}
 use Rattle.nf_forms.specs.Ordering.{is_ordered}
@@ -14,13 +14,13 @@ pub record IsOwnRow (p : Properties) (c : ℕ) : Type 0 where
   pub canonical : p.canonical c ≡ c ∷ []
   pub compat : p.compat c ≡ c ∷ []
 
--- D115: a mark is left after the starter, and c is of no class above the greatest of those
-abbrev pub blocks : Properties → List ℕ → ℕ → ℕ → Bool
-blocks p left highest c = not (length left == 0) && nat_le (p.class c) highest
+-- D115: a mark is left after the starter, and this class is not above the greatest of those, which is 0 where none is left
+abbrev pub blocks : ℕ → ℕ → Bool
+blocks highest class = nat_lt 0 highest && nat_le class highest
 
 -- clusters, one after the other, have become `done`, and after it a starter and the marks that are left: the last cluster.
--- `last` is the class of the last character, `highest` the greatest class of a mark that is left, and no more than `count`
--- non-starters come last
+-- `last` is the class of the last character, `highest` the greatest class of a mark that is left, or 0, and no more than
+-- `count` non-starters come last
 pub record AreClusters (p : Properties) (done cs : List ℕ) (starter : ℕ) (left : List ℕ) (last highest count : ℕ) : Type 0 where
   pub rows : (f : Form) → decomposed f p cs ≡ cs
   pub safe : stream_safe p cs ≡ cs
@@ -28,8 +28,8 @@ pub record AreClusters (p : Properties) (done cs : List ℕ) (starter : ℕ) (le
   pub composed : compose p cs ≡ done ++ starter ∷ left
   pub starts : is_starter p starter ≡ true
   pub no_starter : has_starter p left ≡ false
-  pub blocked : (c : ℕ) → is_blocked p left c ≡ blocks p left highest c
-  pub within : (length left == 0) ≡ false → highest ≤ last
+  pub blocked : (c : ℕ) → is_blocked p left c ≡ blocks highest (p.class c)
+  pub within : highest ≤ last
   pub before : List ℕ
   pub end : ℕ
   pub text : cs ≡ before ++ end ∷ []

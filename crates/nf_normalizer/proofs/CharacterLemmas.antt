@@ -1,8 +1,8 @@
 -- One character more.
-use Rattle.nf_normalizer.proofs.Common.{◌≡◌, ℕ, ◌+◌, ◌≤◌, Bool, true, false, List, [], ◌∷◌, ◌++◌, Ok, refl, sym, ◌∙◌, arith, encode_utf8_all, and_right, ltb-false, encodes-append, Properties, Form, Nfc, Nfd, Nfkd, has_starter, lead, trail, front, row_of, decomposed, finished, joiner, max_run, is_too_long, with_room, stream_safe, is_sound, safe_form, lead-marks, lead-le-length, trail-marks, stream_safe-push, decomposed-push, JoinerIsPlain, IsSound, IsSound-from_test, JoinerIsPlain-from_sound, run_len, Pending, Normalizer, settled, is_usable, Start, Holds, HasTaken, IsWithin, HasRoom, run_after, front_utf8, settled_text, Pushes, PutsJoiner, MakesRoom, TakesChar, is_usable-push}
+use Rattle.nf_normalizer.proofs.Common.{◌≡◌, ℕ, ◌+◌, ◌≤◌, Bool, true, false, List, [], ◌∷◌, ◌++◌, Ok, refl, sym, ◌∙◌, arith, encode_utf8_all, ltb-false, encodes-append, Properties, Form, Nfc, Nfd, Nfkd, has_starter, lead, trail, front, row_of, decomposed, finished, joiner, max_run, is_too_long, with_room, stream_safe, is_sound, safe_form, lead-marks, lead-le-length, trail-marks, stream_safe-push, decomposed-push, JoinerIsPlain, IsSound, IsSound-from_test, JoinerIsPlain-from_sound, run_len, Pending, Normalizer, settled, is_usable, Start, Holds, HasTaken, IsWithin, HasRoom, run_after, front_utf8, settled_text, Pushes, PutsJoiner, MakesRoom, TakesChar, is_usable-push}
 use Rattle.std.proofs.lemmas.Bool.Decides.{nat_tests}
 use Rattle.nf_forms.specs.Laws.Cluster.{row-own}
-use Rattle.nf_row.specs.Kind.{IsOwn}
+use Rattle.nf_row.specs.Own.{IsOwn}
 use Rattle.nf_safe.specs.Count.{counted, passes, count_step}
 use Rattle.nf_safe.specs.Laws.Count.{count_step-le, count_step-within, trail-decomposed-safe_step}
 

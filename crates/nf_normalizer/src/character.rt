@@ -3,32 +3,35 @@ use crate::front::Unsound;
 use crate::normalizer::Normalizer;
 use crate::pushing::{push, push_decomposition, push_of_class};
 use crate::room::Room;
-use nf_row::{JOINER, NonStarters, Rows, own_class, sound, sound_non_starters};
+use nf_row::{JOINER, NonStarters, Rows, sound, sound_non_starters};
 
 /// Each call answers whether U+034F was put before the character. Where it is unsound nothing is put.
 impl Normalizer {
-    ghost use Rattle.std.specs.Prelude.{◌≡◌, ◌+◌, ◌*◌, ◌<◌, ◌≤◌, ℕ, List, length, IsTrue, OnOk};
+    ghost use Rattle.std.specs.Prelude.{◌≡◌, ◌+◌, ◌*◌, ◌<◌, ◌≤◌, ℕ, List, length, IsTrue, IfSome, OnOk};
     ghost use Rattle.nf_row.specs.NonStarters.{HasNonStarters};
-    ghost use Rattle.nf_row.specs.Kind.{IsOwn};
+    ghost use Rattle.nf_row.specs.Own.{IsOwn};
     ghost use Rattle.nf_forms.specs.declared.form.Form.{Form};
     ghost use Rattle.nf_forms.specs.Sound.{is_sound};
     ghost use Rattle.nf_pending.specs.StandsAfter.{run_len, StandsAfter};
     ghost use Rattle.nf_normalizer.specs.Room.{Start, Holds};
     ghost use Rattle.nf_normalizer.specs.Normalizer.{HasTaken, IsWithin, HasRoom, PutsJoiner, MakesRoom, TakesNext, front_utf8, settled_text};
 
-    /// Takes the next character, and puts what it settles into the room.
+    /// Takes the next character, of which one look-up told `own`, and puts what it settles into the room.
+    #[inline(always)]
     pub(crate) fn take_char<R: Rows>(
         &mut self,
         rows: &R,
         c: char,
+        own: Option<u8>,
         room: &mut Room,
     ) -> Result<bool, Unsound>
+        requires own { IfSome own (λ class. IsOwn (R.properties rows.now) c class) }
         requires within { IsWithin self.old }
         requires room { length room.old.items + 200 ≤ 4096 }
         ensures within { OnOk result (IsWithin self.new) }
         ensures takes { TakesNext (R.properties rows.now) self.old self.new room.old.items room.new.items c result }
     {
-        match own_class(rows, c) {
+        match own {
             Some(class) => self.take_own(rows, c, class, room),
             None => self.take_row(rows, c, room),
         }

@@ -1,7 +1,7 @@
 //! What of a text is taken at once: segments, or a run of plain ASCII, or a character.
 use crate::normalizer::Normalizer;
 use crate::room::Room;
-use nf_row::{Formed, Kind, Rows, Segments, first_segments, kind_of};
+use nf_row::{Formed, Rows, Segments, first_segments, is_never_second, own_class};
 use nf_utf8::ascii_prefix;
 
 /// The least bytes of a text of which segments are asked for: each character of a shorter one goes the ordinary way for less.
@@ -54,16 +54,13 @@ impl Normalizer {
     {
         let mut chars = text.chars();
         let c = chars.next().unwrap();
-        let taken = match self.take_alone(rows, c, room) {
-            Some(taken) => taken,
-            None => {
-                if let Some(front) = self.take_many(rows, text, room, formed) {
-                    return Ok(front);
-                }
-                self.take_char(rows, c, room)
-            }
-        };
-        match taken {
+        let own = own_class(rows, c);
+        if self.may_begin_segments(rows, c, own)
+            && let Some(front) = self.take_many(rows, text, room, formed)
+        {
+            return Ok(front);
+        }
+        match self.take_char(rows, c, own, room) {
             Ok(joined) => Ok(Front {
                 same: "",
                 rest: chars.as_str(),
@@ -73,30 +70,14 @@ impl Normalizer {
         }
     }
 
-    /// Takes `c` where it is known to be its own row, and no segments begin so, for to ask for a front of it would cost
-    /// more: a mark, or a starter that may compose with the one before.
+    /// Whether segments may begin with `c`, of which one look-up told `own`: they do not with a mark, nor with a starter that
+    /// may compose with the one before.
     #[inline(always)]
-    fn take_alone<R: Rows>(
-        &mut self,
-        rows: &R,
-        c: char,
-        room: &mut Room,
-    ) -> Option<Result<bool, Unsound>>
-        requires within { IsWithin self.old }
-        requires room { length room.old.items + 200 ≤ 4096 }
-        ensures none { IsNone result → (self.new ≡ self.old) × (room.new ≡ room.old) }
-        ensures within { IfSome result (λ taken. OnOk taken (IsWithin self.new)) }
-        ensures takes { IfSome result (TakesNext (R.properties rows.now) self.old self.new room.old.items room.new.items c) }
-    {
-        if self.pending.is_empty() {
-            // At a boundary none of these stands, and at the begin of all text they may go the ordinary way.
-            return None;
-        }
-        match kind_of(rows, self.form, c) {
-            Kind::Own { class: 0, .. } => Some(self.take_own(rows, c, 0, room)),
-            // Marks have a way of their own into the same call: what is known of each stays in registers.
-            Kind::Own { class, .. } => Some(self.take_own(rows, c, class, room)),
-            _ => None,
+    fn may_begin_segments<R: Rows>(&self, rows: &R, c: char, own: Option<u8>) -> bool {
+        match own {
+            Some(0) => !self.form.composes() || is_never_second(rows, c),
+            Some(_) => false,
+            None => true,
         }
     }
 

@@ -1,8 +1,5 @@
-ghost use Rattle.std.specs.Prelude.{◌≡◌, ℕ, IsTrue, None};
-ghost use Rattle.nf_forms.specs.Compose.{composite};
-
 use nf_boundary::Composites;
-use nf_row::{Form, Kind, Rows, composite, kind_of};
+use nf_row::{Rows, composite, is_never_second};
 
 /// The primary composites that rows tell of.
 #[derive(Clone, Copy)]
@@ -19,16 +16,5 @@ impl<R: Rows> Composites for OfRows<'_, R> {
             return None;
         }
         composite(self.rows, starter, mark)
-    }
-}
-
-/// Whether `c` is known to compose with nothing before it: that is one look-up, and to look for a composite is more.
-#[inline]
-fn is_never_second<R: Rows>(rows: &R, c: char) -> bool
-    ensures { IsTrue result → (a : ℕ) → composite (R.properties rows.now) a c ≡ None }
-{
-    match kind_of(rows, Form::Nfc, c) {
-        Kind::Own { may_compose, .. } => !may_compose,
-        _ => false,
     }
 }

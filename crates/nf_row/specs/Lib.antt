@@ -1,6 +1,6 @@
 pub mod Changes
 pub mod Patched
-pub mod Kind
+pub mod Own
 pub mod NonStarters
 pub mod Shape
 pub mod Ascii

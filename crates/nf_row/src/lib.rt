@@ -2,14 +2,12 @@
 //! a caller's, and what makes them fit to bound a text's runs of combining marks.
 //!
 //! The definitions of the normalization forms and of the Stream-Safe Text Process, on whole lists of code points,
-//! stand in this crate's `specs/`: the contracts of the crates above are written in them.
+//! stand in `nf_forms`: the contracts of this crate and of those above are written in them.
 #![tactic(auto)]
 
 mod auditing;
 mod composites;
 mod fronts;
-mod kind;
-mod known;
 mod non_starters;
 mod ordering;
 mod own;
@@ -24,13 +22,11 @@ mod unsound;
 pub use auditing::audit;
 pub use composites::composite;
 pub use fronts::{assigned_front, counted_front, first_segments, lent_row, safe_front};
-pub use kind::Kind;
-pub use known::kind_of;
 pub use nf_boundary::{Formed, Segments};
 pub use nf_counts::{Counted, Counts, SafeFront};
 pub use nf_forms::{Form, JOINER};
 pub use non_starters::NonStarters;
-pub use own::own_class;
+pub use own::{is_never_second, own_class};
 pub use patched::{Change, Patched};
 pub use plain::{Plain, ascii_is_plain};
 pub use rows::{Long, Row, Rows};

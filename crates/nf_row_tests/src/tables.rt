@@ -1,6 +1,6 @@
 use nf_row::{
-    Change, Form, Kind, NonStarters, Patched, Rows, Ucd, all_sound, composite, counted_front,
-    kind_of, own_class,
+    Change, NonStarters, Patched, Rows, Ucd, all_sound, composite, counted_front, is_never_second,
+    own_class,
 };
 use std::process::Abort;
 use std::test::Fail;
@@ -104,52 +104,26 @@ fn noncharacters_and_private_use(rt: HostRuntime) {
     assert_eq!(rt; (noncharacters, private), (66, 137_468));
 }
 
-/// By UnicodeData.txt and the quick checks of DerivedNormalizationProps.txt, in NFC, NFD, NFKC and NFKD.
+/// By the quick checks of NFC in DerivedNormalizationProps.txt.
 #[test]
-fn kinds(rt: HostRuntime) {
-    use Kind::{Other, Boundary};
-    let own = |class, may_compose| Kind::Own { class, may_compose };
-    for (c, kinds) in [
-        ('\n', [Boundary, Boundary, Boundary, Boundary]),
-        ('\u{34F}', [Boundary, Boundary, Boundary, Boundary]),
-        ('\u{E9}', [Boundary, Other, Boundary, Other]),
-        ('\u{AC00}', [Boundary, Other, Boundary, Other]),
-        ('\u{FB01}', [Boundary, Boundary, Other, Other]),
-        ('\u{2126}', [Other, Other, Other, Other]),
-        // Starters that may compose with what is before them, and one of these that decomposes; one whose canonical row is
-        // marks; a halfwidth mark.
-        ('\u{1161}', [own(0, true), Boundary, own(0, true), Boundary]),
-        ('\u{11C2}', [own(0, true), Boundary, own(0, true), Boundary]),
-        ('\u{9BE}', [own(0, true), Boundary, own(0, true), Boundary]),
-        ('\u{16D68}', [Other, Other, Other, Other]),
-        ('\u{F73}', [Other, Other, Other, Other]),
-        ('\u{FF9E}', [Other, Other, Other, Other]),
-        (
-            '\u{301}',
-            [
-                own(230, true),
-                own(230, false),
-                own(230, true),
-                own(230, false),
-            ],
-        ),
-        (
-            '\u{316}',
-            [
-                own(220, false),
-                own(220, false),
-                own(220, false),
-                own(220, false),
-            ],
-        ),
-        ('\u{344}', [Other, Other, Other, Other]),
+fn what_is_never_second(rt: HostRuntime) {
+    for (c, never) in [
+        ('a', true),
+        ('\u{E9}', true),
+        ('\u{AC00}', true),
+        ('\u{316}', true),
+        ('\u{FF9E}', true),
+        ('\u{301}', false),
+        // Starters that may compose with what is before them, and one of these that decomposes.
+        ('\u{1161}', false),
+        ('\u{11C2}', false),
+        ('\u{9BE}', false),
+        ('\u{16D68}', false),
+        // What does not stand in NFC.
+        ('\u{2126}', false),
+        ('\u{344}', false),
     ] {
-        for (form, kind) in [Form::Nfc, Form::Nfd, Form::Nfkc, Form::Nfkd]
-            .into_iter()
-            .zip(kinds)
-        {
-            assert_eq!(rt; kind_of(&Ucd, form, c), kind, "{c:?} {form:?}");
-        }
+        assert_eq!(rt; is_never_second(&Ucd, c), never, "{c:?}");
     }
 }
 
@@ -158,7 +132,7 @@ fn kinds(rt: HostRuntime) {
 fn nothing_is_known_of_changed_data(rt: HostRuntime) {
     let changes = [Change::Class('a', 1)];
     let rows = Patched::new(&changes);
-    assert_eq!(rt; kind_of(&rows, Form::Nfc, 'b'), Kind::Other);
+    assert!(rt; !is_never_second(&rows, 'b') && is_never_second(&Ucd, 'b'));
     assert_eq!(rt;
         (
             counted_front(&rows, 30, "b").rest,

@@ -1,7 +1,6 @@
 -- A cluster of a starter and what may compose with it: one character alone, one more, the next cluster, and the form.
-use Rattle.std.proofs.Common.{subst, ◌≡◌, ℕ, ◌≤◌, ◌<◌, ◌+◌, ◌⊎◌, ⊎_elim, inl, inr, Bool, true, false, not, ◌&&◌, ◌||◌, ◌==◌, nat_le, nat_lt, cond, List, [], ◌∷◌, ◌++◌, length, Some, None, refl, sym, ap, ◌∙◌, arith, append-nil, append_assoc, length-append, le-leb, leb-true, eq-eqb, true≢false}
-use Rattle.std.proofs.lemmas.Bool.{cond_both, false≢true, not-true, and_from, and_parts, eqb-true, ne_eqb}
-use Rattle.std.proofs.Math.Bool.{or-false}
+use Rattle.std.proofs.Common.{subst, ◌≡◌, ℕ, ◌≤◌, ◌<◌, ◌+◌, ◌⊎◌, inl, inr, true, false, not, ◌&&◌, ◌||◌, nat_le, nat_lt, cond, List, [], ◌∷◌, ◌++◌, Some, None, refl, sym, ap, ◌∙◌, arith, append-nil, append_assoc}
+use Rattle.std.proofs.lemmas.Bool.{cond_both, and_from, and_parts, eqb-true}
 use Rattle.std.proofs.lemmas.Bool.Decides.{nat_tests}
 use Rattle.std.proofs.lemmas.List.Folds.{list_any-append}
 use Rattle.nf_forms.specs.Properties.{Properties, is_starter}
@@ -53,7 +52,7 @@ module _ (p : Properties) where
     starts = starts;
     no_starter = refl;
     blocked = λ x. refl;
-    within = λ some. omega arith;
+    within = omega arith;
     before = [];
     end = c;
     text = refl;
@@ -69,7 +68,7 @@ module _ (p : Properties) where
     joins = compose-push p cs c ∙ ap (λ z. compose_step p z c) here.composed ∙ compose_step-at p done starter left c here.starts here.no_starter
 
     more : (done' : List ℕ) (starter' : ℕ) (left' : List ℕ) (highest' count' : ℕ) → compose p (cs ++ c ∷ []) ≡ done' ++ starter' ∷ left' → is_starter p starter' ≡ true → has_starter p left' ≡ false
-        → ((x : ℕ) → is_blocked p left' x ≡ blocks p left' highest' x) → ((length left' == 0) ≡ false → highest' ≤ p.class c) → trail p (cs ++ c ∷ []) ≤ count'
+        → ((x : ℕ) → is_blocked p left' x ≡ blocks highest' (p.class x)) → highest' ≤ p.class c → trail p (cs ++ c ∷ []) ≤ count'
         → AreClusters p done' (cs ++ c ∷ []) starter' left' (p.class c) highest' count'
     more done' starter' left' highest' count' composed starts no_starter blocked within run = record {
       rows = λ f. decomposed-push p f cs c ∙ ap (λ w. w ++ row_of f p c) (here.rows f) ∙ ap (λ row. cs ++ row) (row-own f c own);
@@ -99,43 +98,31 @@ module _ (p : Properties) where
         subst (λ n. n ≤ count + 1) (sym (trail-push p cs c))
         (cond_both (is_starter p c) _ _ (λ n. n ≤ count + 1) (λ starts. omega arith) (λ mark. omega (arith, here.run)))
 
-    unblocked : (d : ℕ) → joined p starter left c ≡ Some d → blocks p left highest c ≡ false
+    unblocked : (d : ℕ) → joined p starter left c ≡ Some d → blocks highest (p.class c) ≡ false
     unblocked d both = sym (here.blocked c) ∙ (joined-some p starter left c d both).0
 
     -- it composes
     pub cluster-joined : (d : ℕ) → joined p starter left c ≡ Some d → AreClusters p done (cs ++ c ∷ []) d left (p.class c) highest (count + 1)
     cluster-joined d both =
-        more done d left highest (count + 1) (joins ∙ ap (λ o. done ++ replaced o starter left c) both) (joined-starter p starter left c d both) here.no_starter here.blocked (λ some. up some follows) longer
-      where
-        up : (length left == 0) ≡ false → (last ≤ p.class c) ⊎ (p.class c ≡ 0) → highest ≤ p.class c
-        up some (inl above) = let within = here.within some in omega arith
-        up some (inr starts) = absurd (false≢true (sym (unblocked d both) ∙ and_from _ _ (ap not some) (le-leb (p.class c) highest (omega arith))))
+        more done d left highest (count + 1) (joins ∙ ap (λ o. done ++ replaced o starter left c) both) (joined-starter p starter left c d both) here.no_starter here.blocked (grind (arith, nat_tests, here.within, follows, unblocked d both)) longer
 
     -- it is a mark, and is left
     pub cluster-left : is_starter p c ≡ false → joined p starter left c ≡ None → AreClusters p done (cs ++ c ∷ []) starter (left ++ c ∷ []) (p.class c) (p.class c) (count + 1)
     cluster-left mark none =
         more done starter (left ++ c ∷ []) (p.class c) (count + 1) (joins ∙ ap (λ o. done ++ replaced o starter left c) none) here.starts (marks_push p left c here.no_starter mark)
         (λ x. list_any-append (λ m. nat_le (p.class x) (p.class m)) left (c ∷ []) ∙ ap (λ b. b || (nat_le (p.class x) (p.class c) || false)) (here.blocked x) ∙ after x)
-        (λ some. omega arith) longer
+        (omega arith) longer
       where
-        next : (a b : Bool) → (a ≡ true → b ≡ true) → (a || (b || false)) ≡ b
-        next true b less = sym (less refl)
-        next false b less = or-false b
+        up : highest ≤ p.class c
+        up = grind (arith, nat_tests, here.within, follows)
 
-        up : (length left == 0) ≡ false → highest ≤ p.class c
-        up some = let within = here.within some in ⊎_elim (λ (above : last ≤ p.class c). omega arith) (λ (starts : p.class c ≡ 0). absurd (true≢false (sym (eq-eqb (p.class c) 0 starts) ∙ mark))) follows
-
-        after : (x : ℕ) → (blocks p left highest x || (nat_le (p.class x) (p.class c) || false)) ≡ blocks p (left ++ c ∷ []) (p.class c) x
-        after x =
-            next (blocks p left highest x) (nat_le (p.class x) (p.class c))
-            (λ both. let parts = and_parts (not (length left == 0)) (nat_le (p.class x) highest) both in
-            le-leb (p.class x) (p.class c) (omega (arith, up (not-true _ parts.0), leb-true (p.class x) highest parts.1)))
-            ∙ ap (λ b. not b && nat_le (p.class x) (p.class c)) (sym (ne_eqb (length (left ++ c ∷ [])) 0 (λ none. absurd (omega (arith, length-append left (c ∷ []))))))
+        after : (x : ℕ) → (blocks highest (p.class x) || (nat_le (p.class x) (p.class c) || false)) ≡ blocks (p.class c) (p.class x)
+        after x = grind (arith, nat_tests, up)
 
     -- it is a starter that does not compose: the next cluster begins
-    pub cluster-next : is_starter p c ≡ true → joined p starter left c ≡ None → AreClusters p (done ++ starter ∷ left) (cs ++ c ∷ []) c [] (p.class c) highest 1
+    pub cluster-next : is_starter p c ≡ true → joined p starter left c ≡ None → AreClusters p (done ++ starter ∷ left) (cs ++ c ∷ []) c [] (p.class c) 0 1
     cluster-next starts none =
-        more (done ++ starter ∷ left) c [] highest 1 (joins ∙ ap (λ o. done ++ replaced o starter left c) none ∙ sym (append_assoc done (starter ∷ left) (c ∷ []))) starts refl (λ x. refl) (λ some. cc)
+        more (done ++ starter ∷ left) c [] 0 1 (joins ∙ ap (λ o. done ++ replaced o starter left c) none ∙ sym (append_assoc done (starter ∷ left) (c ∷ []))) starts refl (λ x. refl) (omega arith)
         (let anew = trail-push p cs c ∙ ap (λ b. cond b 0 (trail p cs + 1)) starts in omega arith)
 
   -- ---- its form

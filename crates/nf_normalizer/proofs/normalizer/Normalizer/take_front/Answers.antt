@@ -1,30 +1,23 @@
-use Rattle.nf_normalizer.proofs.Common.{◌≡◌, [], ◌∙◌, sym, rules, TakesNext}
+use Rattle.nf_normalizer.proofs.Common.{◌≡◌, [], ◌∙◌, sym, rules}
 use Rattle.nf_normalizer.proofs.FrontLemmas.{leaves-one, takes-one, refuses-one}
 use Rattle.nf_normalizer.proofs.normalizer.Normalizer.take_front.Goals as goal
-use Rattle.nf_normalizer.proofs.normalizer.Normalizer.take_front.Goals.{in-Some, in-None+in_default}
+use Rattle.nf_normalizer.proofs.normalizer.Normalizer.take_front.Goals.{else-may_begin_segments-via-else-may_begin_segments, else-may_begin_segments-via-then-may_begin_segments+in-None-1}
 
 pub returns-in-Ok-clause-passes : goal.returns-in-Ok-clause-passes
 returns-in-Ok-clause-passes g c = leaves-one c.unwrap-c.result _ c.utf8.text (cc (rw c.unwrap-c.ensures at c.next.ensures.steps.0)) c.in-Ok.joined
 
 pub returns-in-Ok-clause-takes : goal.returns-in-Ok-clause-takes
 returns-in-Ok-clause-takes g c = λ f x start taken holds.
-    let next : TakesNext (g.R.Rows.properties c.args.rows.now) c.args.self.now c.match-take_alone.self c.args.room.now.items c.match-take_alone.room.items c.unwrap-c.result c.match-take_alone.taken
-    × (c.match-take_alone.formed.items ≡ []) = elim c.match-take_alone.branch [
-      | in-Some w ↦ (rw (w.self-is, w.room-is, w.taken-is) w.in-Some.ensures.takes, rw w.formed-is c.requires.empty)
-      | in-None+in_default w ↦
-          let same : w.take_many.new.self ≡ c.args.self.now = search rules in
-          let room : w.take_many.new.room ≡ c.args.room.now = search rules in
-          (rw (w.self-is, w.room-is, w.taken-is) (rw (same, room) at w.take_char-taken.ensures.takes), rw w.formed-is (w.take_many.ensures.none (search rules)).2)
+    let here : (c.else-may_begin_segments.self ≡ c.args.self.now) × (c.else-may_begin_segments.room ≡ c.args.room.now) × (c.else-may_begin_segments.formed.items ≡ []) = elim c.else-may_begin_segments.branch [
+      | else-may_begin_segments-via-else-may_begin_segments w ↦ (w.self-is, w.room-is, rw w.formed-is c.requires.empty)
+      | else-may_begin_segments-via-then-may_begin_segments+in-None-1 w ↦ let none = w.take_many.ensures.none (search rules) in (w.self-is ∙ none.0, w.room-is ∙ none.1, rw w.formed-is none.2)
     ] in
-    rw next.1 (takes-one c.unwrap-c.result _ c.utf8.text (cc (rw c.unwrap-c.ensures at c.next.ensures.steps.0)) c.in-Ok.joined (rw c.in-Ok.is at (next.0 f x start taken holds)))
+    rw here.2 (takes-one c.unwrap-c.result _ c.utf8.text (cc (rw c.unwrap-c.ensures at c.next.ensures.steps.0)) c.in-Ok.joined (rw c.in-Ok.is at (rw (here.0, here.1) at c.take_char.ensures.takes f x start taken holds)))
 
 pub returns-in-Err-clause-takes : goal.returns-in-Err-clause-takes
 returns-in-Err-clause-takes g c = λ f x start taken holds.
-    let next : TakesNext (g.R.Rows.properties c.args.rows.now) c.args.self.now c.match-take_alone.self c.args.room.now.items c.match-take_alone.room.items c.unwrap-c.result c.match-take_alone.taken = elim c.match-take_alone.branch [
-      | in-Some w ↦ rw (w.self-is, w.room-is, w.taken-is) w.in-Some.ensures.takes
-      | in-None+in_default w ↦
-          let same : w.take_many.new.self ≡ c.args.self.now = search rules in
-          let room : w.take_many.new.room ≡ c.args.room.now = search rules in
-          rw (w.self-is, w.room-is, w.taken-is) (rw (same, room) at w.take_char-taken.ensures.takes)
+    let here : (c.else-may_begin_segments.self ≡ c.args.self.now) × (c.else-may_begin_segments.room ≡ c.args.room.now) = elim c.else-may_begin_segments.branch [
+      | else-may_begin_segments-via-else-may_begin_segments w ↦ (w.self-is, w.room-is)
+      | else-may_begin_segments-via-then-may_begin_segments+in-None-1 w ↦ let none = w.take_many.ensures.none (search rules) in (w.self-is ∙ none.0, w.room-is ∙ none.1)
     ] in
-    refuses-one c.unwrap-c.result _ c.utf8.text (sym c.chars-chars.ensures.rest ∙ rw c.unwrap-c.ensures at c.next.ensures.steps.0) taken.usable (rw c.in-Err.is at (next f x start taken holds))
+    refuses-one c.unwrap-c.result _ c.utf8.text (sym c.chars-chars.ensures.rest ∙ rw c.unwrap-c.ensures at c.next.ensures.steps.0) taken.usable (rw c.in-Err.is at (rw (here.0, here.1) at c.take_char.ensures.takes f x start taken holds))
