@@ -3,7 +3,7 @@ use crate::front::Unsound;
 use crate::normalizer::Normalizer;
 use crate::pushing::{push, push_decomposition, push_of_class};
 use crate::room::Room;
-use nf_row::{JOINER, NonStarters, Rows, sound, sound_non_starters};
+use nf_row::{JOINER, NonStarters, RowRoom, Rows, sound, sound_row};
 
 /// Each call answers whether U+034F was put before the character. Where it is unsound nothing is put.
 impl Normalizer {
@@ -67,10 +67,11 @@ impl Normalizer {
         ensures within { OnOk result (IsWithin self.new) }
         ensures takes { TakesNext (R.properties rows.now) self.old self.new room.old.items room.new.items c result }
     {
-        let Some(compat) = sound_non_starters(rows, c) else {
+        let mut place = RowRoom::new();
+        let Some(read) = sound_row(rows, c, &mut place) else {
             return Err(Unsound);
         };
-        let joined = match self.make_room(rows, c, compat, room) {
+        let joined = match self.make_room(rows, c, read.ends, room) {
             Ok(joined) => joined,
             Err(unsound) => return Err(unsound),
         };

@@ -11,7 +11,7 @@ ghost use Rattle.nf_normalizer.specs.Normalizer.{run_after, Pushes, front_utf8};
 use crate::room::Room;
 use nf_boundary::put_utf8;
 use nf_pending::{Pending, Segment};
-use nf_row::{Form, Row, Rows, lent_row};
+use nf_row::{Form, RowRoom, Rows, row_of};
 
 /// Pushes the decomposition of the sound character `c` that the form asks for, and puts what it settles into the room.
 #[inline]
@@ -30,23 +30,10 @@ pub fn push_decomposition<R: Rows>(
         (f : Form) (w : List ℕ) (start : Start) → StandsAfter f p pending.old w → Holds start room.old.items (front_utf8 f p w)
         → Pushes f p pending.new start room.new.items (w ++ row_of form p c) }
 {
-    let mut place = [c; 3];
-    match lent_row(rows, form, c, &mut place) {
-        Some(row) => push_members(pending, rows, row, room),
-        None => push_members(pending, rows, row_of(form, rows, c).as_slice(), room),
-    }
-}
-
-/// The decomposition of the sound character `c` that the form asks for.
-pub fn row_of<R: Rows>(form: Form, rows: &R, c: char) -> Row
-    requires { IsTrue (is_sound (R.properties rows.now) c) }
-    ensures { result.items ≡ row_of form (R.properties rows.now) c }
-{
+    let mut place = RowRoom::new();
     // A sound character has short rows.
-    match form {
-        Form::Nfc | Form::Nfd => rows.canonical(c).unwrap(),
-        Form::Nfkc | Form::Nfkd => rows.compat(c).unwrap(),
-    }
+    let row = row_of(rows, form, c, &mut place).unwrap();
+    push_members(pending, rows, row, room);
 }
 
 /// Pushes the members of a row in turn, and puts what each settles into the room.

@@ -5,6 +5,7 @@ ghost use Rattle.nf_forms.specs.Order.{order};
 ghost use Rattle.nf_forms.specs.Audit.{IsFullText, AreOwnMarks, IsAudited};
 ghost use Rattle.nf_row.specs.Audit.{IsFirstFailed, IsLeastFault};
 
+use crate::lending::{RowRoom, row_of};
 use crate::ordering::ordered;
 use crate::rows::{Row, Rows};
 use crate::soundness::sound;
@@ -94,12 +95,8 @@ fn is_own_row<R: Rows>(rows: &R, form: Form, c: char) -> bool
     ensures own { IsTrue result ↔ (row_of form (R.properties rows.now) c ≡ c ∷ []) }
     ensures scalar { IsScalar c }
 {
-    let row = match form {
-        Form::Nfc | Form::Nfd => rows.canonical(c),
-        Form::Nfkc | Form::Nfkd => rows.compat(c),
-    };
-    match row {
-        Ok(row) => row.as_slice() == [c].as_slice(),
+    match row_of(rows, form, c, &mut RowRoom::new()) {
+        Ok(row) => row == [c].as_slice(),
         Err(_) => false,
     }
 }

@@ -3,8 +3,6 @@
 ghost use Rattle.std.specs.Prelude.{◌≡◌, true, take, chars, IfSome};
 ghost use Rattle.std.specs.List.{list_all};
 ghost use Rattle.std.specs.Str.{IsCharBoundary};
-ghost use Rattle.nf_forms.specs.Forms.{row_of};
-ghost use Rattle.nf_forms.specs.Ucd.{ucd};
 ghost use Rattle.nf_boundary.specs.Front.{IsFirstSegments};
 ghost use Rattle.nf_counts.specs.Counts.{IsCountedFront};
 ghost use Rattle.nf_counts.specs.Safe.{IsSafeFront};
@@ -13,7 +11,6 @@ use crate::rows::Rows;
 use nf_boundary::{Formed, Segments};
 use nf_counts::{Counted, SafeFront};
 use nf_forms::Form;
-use unicode_normalization::{Form as TableForm, char as lookup};
 
 /// How many bytes at the front of the text are of characters that are known to be assigned, without a look-up for each.
 #[inline]
@@ -71,34 +68,4 @@ pub fn first_segments<'t, R: Rows>(
     } else {
         None
     }
-}
-
-/// The decomposition of `c` that the form asks for, lent from the data or from `room`.
-#[inline]
-pub fn lent_row<'r, R: Rows>(
-    rows: &R,
-    form: Form,
-    c: char,
-    room: &'r mut [char; 3],
-) -> Option<&'r [char]>
-    ensures { IfSome result (λ row. row.now ≡ row_of form (R.properties rows.now) c) }
-{
-    if rows.is_ucd() {
-        Some(ucd_row(form, c, room))
-    } else {
-        None
-    }
-}
-
-/// The same of Unicode's data, by the tables, and by arithmetic for a Hangul syllable.
-#[inline]
-#[tactic(auto, unfolding(nf_forms::specs::Ucd::ucd))]
-fn ucd_row(form: Form, c: char, room: &mut [char; 3]) -> &[char]
-    ensures { result.now ≡ row_of form ucd c }
-{
-    let form = match form {
-        Form::Nfc | Form::Nfd => TableForm::Nfd,
-        Form::Nfkc | Form::Nfkd => TableForm::Nfkd,
-    };
-    lookup::decomposition(c, form, room)
 }

@@ -8,6 +8,7 @@
 mod auditing;
 mod composites;
 mod fronts;
+mod lending;
 mod non_starters;
 mod ordering;
 mod own;
@@ -21,7 +22,8 @@ mod unsound;
 
 pub use auditing::audit;
 pub use composites::composite;
-pub use fronts::{assigned_front, counted_front, first_segments, lent_row, safe_front};
+pub use fronts::{assigned_front, counted_front, first_segments, safe_front};
+pub use lending::{RowRoom, row_of};
 pub use nf_boundary::{Formed, Segments};
 pub use nf_counts::{Counted, Counts, SafeFront};
 pub use nf_forms::{Form, JOINER};
@@ -31,6 +33,6 @@ pub use patched::{Change, Patched};
 pub use plain::{Plain, ascii_is_plain};
 pub use rows::{Long, Row, Rows};
 pub use runs::{has_starter, lead, trail};
-pub use soundness::{SoundRow, all_sound, sound, sound_non_starters, sound_row};
+pub use soundness::{SoundRow, all_sound, sound, sound_row};
 pub use ucd::Ucd;
 pub use unsound::{Rule, Unsound};

@@ -1,6 +1,6 @@
 ghost use Rattle.std.specs.Prelude.{◌≤◌};
 
-use crate::rows::{Row, Rows};
+use crate::rows::Rows;
 
 /// The non-starters that a row begins with and ends in.
 #[derive(Clone, Copy, Debug)]
@@ -20,15 +20,7 @@ impl NonStarters {
     ghost use Rattle.nf_forms.specs.Properties.{Properties, is_starter};
     ghost use Rattle.nf_row.specs.NonStarters.{HasNonStarters};
 
-    /// The ends of `row`, by one look at the class of each member.
-    #[inline]
-    pub fn of_row<R: Rows>(rows: &R, row: &Row) -> NonStarters
-        ensures { HasNonStarters (R.properties rows.now) row.now.items result }
-    {
-        NonStarters::of_members(rows, row.as_slice())
-    }
-
-    /// The same of a row of at most 18 members.
+    /// The ends of a row of at most 18 members, by one look at the class of each.
     #[inline]
     pub fn of_members<R: Rows>(rows: &R, row: &[char]) -> NonStarters
         requires { length row.now ≤ 18 }

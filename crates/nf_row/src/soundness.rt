@@ -1,19 +1,19 @@
-ghost use Rattle.std.specs.Prelude.{◌≡◌, ◌==◌, ◌&&◌, ℕ, is_some, IfSome, IsTrue};
+ghost use Rattle.std.specs.Prelude.{◌≡◌, ◌≤◌, ◌==◌, ◌&&◌, ℕ, length, is_some, IfSome, IsTrue};
 ghost use Rattle.nf_forms.specs.StreamSafe.{joiner};
 ghost use Rattle.nf_row.specs.NonStarters.{HasNonStarters};
 ghost use Rattle.nf_row.specs.Shape.{IsShapeOf, shapes_agree};
 ghost use Rattle.nf_forms.specs.Sound.{is_sound};
 
-use crate::fronts::lent_row;
+use crate::lending::{RowRoom, row_of};
 use crate::non_starters::NonStarters;
-use crate::rows::{Row, Rows};
+use crate::rows::Rows;
 use nf_facts::laws;
 use nf_forms::{Form, JOINER};
 
 /// The compatibility decomposition of a sound character, and its ends.
-#[derive(Debug, Drop)]
-pub struct SoundRow {
-    pub row: Row,
+#[derive(Clone, Copy, Debug)]
+pub struct SoundRow<'r> {
+    pub row: &'r [char],
     pub ends: NonStarters,
 }
 
@@ -40,58 +40,29 @@ pub fn all_sound<R: Rows>(rows: &R) -> bool
 pub fn sound<R: Rows>(rows: &R, c: char) -> bool
     ensures { result ≡ is_sound (R.properties rows.now) c }
 {
-    all_sound(rows) || read_row(rows, c).is_some()
-}
-
-/// The ends of the compatibility row of a sound character, and none of any other. No row is copied where all characters are
-/// known to be sound.
-pub fn sound_non_starters<R: Rows>(rows: &R, c: char) -> Option<NonStarters>
-    ensures sound { is_some result ≡ is_sound (R.properties rows.now) c }
-    ensures ends { IfSome result (λ ends. HasNonStarters (R.properties rows.now) ((R.properties rows.now).compat c) ends) }
-{
-    if all_sound(rows) {
-        let mut room = [c; 3];
-        if let Some(row) = lent_row(rows, Form::Nfkd, c, &mut room) {
-            return Some(NonStarters::of_members(rows, row));
-        }
-    }
-    match sound_row(rows, c) {
-        Some(read) => Some(read.ends),
-        None => None,
-    }
+    all_sound(rows) || sound_row(rows, c, &mut RowRoom::new()).is_some()
 }
 
 /// The compatibility row of a sound character with its ends, and none of any other. It is read last: so one row is held
 /// at a time, and a caller that goes on with it does not look it up again. Where all are known to be sound it is read alone.
-pub fn sound_row<R: Rows>(rows: &R, c: char) -> Option<SoundRow>
+pub fn sound_row<'r, R: Rows>(rows: &R, c: char, room: &'r mut RowRoom) -> Option<SoundRow<'r>>
     ensures sound { is_some result ≡ is_sound (R.properties rows.now) c }
-    ensures row { IfSome result (λ read. read.row.items ≡ (R.properties rows.now).compat c) }
+    ensures row { IfSome result (λ read. (read.row.now ≡ (R.properties rows.now).compat c) × (length read.row.now ≤ 18)) }
     ensures ends { IfSome result (λ read. HasNonStarters (R.properties rows.now) ((R.properties rows.now).compat c) read.ends) }
 {
-    if !all_sound(rows) {
-        return read_row(rows, c);
+    if all_sound(rows) {
+        let row = row_of(rows, Form::Nfkd, c, room).ok()?;
+        let ends = NonStarters::of_members(rows, row);
+        return Some(SoundRow { row, ends });
     }
-    let row = rows.compat(c).ok()?;
-    let ends = NonStarters::of_row(rows, &row);
-    Some(SoundRow { row, ends })
-}
-
-/// The same of any character, whose two rows are compared.
-fn read_row<R: Rows>(rows: &R, c: char) -> Option<SoundRow>
-    ensures sound { is_some result ≡ is_sound (R.properties rows.now) c }
-    ensures row { IfSome result (λ read. read.row.items ≡ (R.properties rows.now).compat c) }
-    ensures ends { IfSome result (λ read. HasNonStarters (R.properties rows.now) ((R.properties rows.now).compat c) read.ends) }
-{
-    let canonical = shape_of(rows, &rows.canonical(c).ok()?);
-    let row = rows.compat(c).ok()?;
-    let compat = shape_of(rows, &row);
+    let canonical = shape_of(rows, row_of(rows, Form::Nfd, c, room).ok()?);
+    let row = row_of(rows, Form::Nfkd, c, room).ok()?;
+    let compat = shape_of(rows, row);
     if !are_sound(rows, c, canonical, compat) {
         return None;
     }
-    Some(SoundRow {
-        row,
-        ends: compat.ends,
-    })
+    let ends = compat.ends;
+    Some(SoundRow { row, ends })
 }
 
 /// Whether `c` is sound, whose canonical and compatibility rows have these shapes.
@@ -126,12 +97,13 @@ fn is_plain<R: Rows>(rows: &R, canonical: Shape, compat: Shape) -> bool
 
 /// One look at the class of each member.
 #[inline]
-fn shape_of<R: Rows>(rows: &R, row: &Row) -> Shape
-    ensures { IsShapeOf (R.properties rows.now) row.now.items result }
+fn shape_of<R: Rows>(rows: &R, row: &[char]) -> Shape
+    requires { length row.now ≤ 18 }
+    ensures { IsShapeOf (R.properties rows.now) row.now result }
 {
     Shape {
         is_empty: row.is_empty(),
-        is_joiner: row.as_slice() == [JOINER].as_slice(),
-        ends: NonStarters::of_row(rows, row),
+        is_joiner: row == [JOINER].as_slice(),
+        ends: NonStarters::of_members(rows, row),
     }
 }

@@ -79,7 +79,7 @@ fn runs_of_a_row(rt: HostRuntime) -> Result<(), Fail> {
         let changes = [Compat('x', members)];
         let rows = Patched::new(&changes);
         let row = rows.compat('x').ok().ok_or("too long")?;
-        let both = NonStarters::of_row(&rows, &row);
+        let both = NonStarters::of_members(&rows, row.as_slice());
         assert_eq!(rt;
             (
                 lead(&rows, &row),

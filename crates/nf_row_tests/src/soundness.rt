@@ -1,6 +1,6 @@
 use crate::parts::{Broken, broken_parts};
 use nf_row::Change::{Canonical, Class, Compat};
-use nf_row::{JOINER, NonStarters, Patched, Rows, Ucd, sound, sound_non_starters, sound_row};
+use nf_row::{JOINER, NonStarters, Patched, RowRoom, Rows, Ucd, sound, sound_row};
 use std::test::Fail;
 use unicode_normalization::Form as TableForm;
 use unicode_normalization::char::decomposition;
@@ -14,8 +14,7 @@ const EIGHTEEN: [char; 18] = ['a'; 18];
 /// Whether each way to ask it says that the character is sound; none where they differ.
 fn says_sound<R: Rows>(rows: &R, c: char) -> Option<bool> {
     let says = sound(rows, c);
-    let agree = sound_row(rows, c).is_some() == says
-        && sound_non_starters(rows, c).is_some() == says;
+    let agree = sound_row(rows, c, &mut RowRoom::new()).is_some() == says;
     agree.then_some(says)
 }
 
@@ -108,11 +107,12 @@ fn a_sound_character_comes_with_its_row_and_ends(rt: HostRuntime) -> Result<(), 
         ),
     ];
     for (c, row, ends) in cases {
-        let read = sound_row(&Ucd, c).ok_or("unsound")?;
-        assert_eq!(rt; (read.row.as_slice(), numbers(read.ends)), (row, ends));
-        let told = sound_non_starters(&Ucd, c).ok_or("unsound")?;
-        let copied = sound_non_starters(&Patched::new(&[]), c).ok_or("unsound")?;
-        assert_eq!(rt; (numbers(told), numbers(copied)), (ends, ends));
+        let mut room = RowRoom::new();
+        let read = sound_row(&Ucd, c, &mut room).ok_or("unsound")?;
+        assert_eq!(rt; (read.row, numbers(read.ends)), (row, ends));
+        let mut room = RowRoom::new();
+        let read = sound_row(&Patched::new(&[]), c, &mut room).ok_or("unsound")?;
+        assert_eq!(rt; (read.row, numbers(read.ends)), (row, ends));
     }
     Ok(())
 }

@@ -2,7 +2,7 @@ ghost use Rattle.std.specs.Prelude.{◌≤◌};
 
 use crate::counter::Counter;
 use crate::place::Place;
-use nf_row::{Rows, Rule, Unsound, counted_front, sound_non_starters};
+use nf_row::{RowRoom, Rows, Rule, Unsound, counted_front, sound_row};
 use nf_utf8::char_count;
 
 /// Finds where a text leaves the Stream-Safe Text Format, character by character.
@@ -64,10 +64,11 @@ impl Checker {
         if self.is_over {
             return Ok(Some(self.reached));
         }
-        let Some(ends) = sound_non_starters(rows, c) else {
+        let mut room = RowRoom::new();
+        let Some(read) = sound_row(rows, c, &mut room) else {
             return Err(Unsound { c, rule: Rule::A1 });
         };
-        if self.counter.step_by(ends) {
+        if self.counter.step_by(read.ends) {
             self.is_over = true;
             return Ok(Some(self.reached));
         }

@@ -58,7 +58,7 @@ impl Counter {
         ensures stands { (ks : List (List ℕ)) → StandsAfter (R.properties rows.now) self.old ks
             → StandsAfter (R.properties rows.now) self.new (ks ++ k.now.items ∷ []) }
     {
-        self.step_by(NonStarters::of_row(rows, k))
+        self.step_by(NonStarters::of_members(rows, k.as_slice()))
     }
 
     /// The same for a row of which `k` are the ends: they are all that a step asks of it.

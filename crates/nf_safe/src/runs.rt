@@ -1,6 +1,6 @@
 ghost use Rattle.std.specs.Prelude.{◌≤◌};
 
-use nf_row::{Counts, NonStarters, Rows, SoundRow, own_class, sound_row};
+use nf_row::{Counts, NonStarters, RowRoom, Rows, SoundRow, own_class, sound_row};
 
 /// The non-starters of decomposed text, and its runs of them.
 #[derive(Clone, Copy, Debug)]
@@ -49,8 +49,9 @@ impl Runs {
             runs.push(class == 0);
             return Some((runs, NonStarters::of_one(class == 0)));
         }
-        let SoundRow { row, ends } = sound_row(rows, c)?;
-        runs.push_row(rows, row.as_slice());
+        let mut room = RowRoom::new();
+        let SoundRow { row, ends } = sound_row(rows, c, &mut room)?;
+        runs.push_row(rows, row);
         Some((runs, ends))
     }
 

@@ -17,7 +17,7 @@ fn check<T: Abort, R: Rows>(rt: &T, rows: &R, steps: &[Steps]) -> Result<(), Fai
         for _ in 0..*times {
             let answers = (
                 by_row.step(rows, &k),
-                by_ends.step_by(NonStarters::of_row(rows, &k)),
+                by_ends.step_by(NonStarters::of_members(rows, k.as_slice())),
             );
             assert_eq!(rt; answers, (*answer, *answer), "{c:?}");
         }

@@ -6,7 +6,7 @@ use crate::columns::Columns;
 use crate::comparison::holds;
 use crate::fault::Memory;
 use crate::suite::Suite;
-use nf_row::{Form, Rows, sound_row};
+use nf_row::{Form, RowRoom, Rows, row_of, sound_row};
 use std::alloc::{AllocError, Global};
 
 /// The least number that is above every scalar value.
@@ -106,14 +106,15 @@ fn is_unchanged<R: Rows>(rows: &R, c: char) -> bool
 fn is_plain<R: Rows>(rows: &R, c: char) -> bool
     ensures { IsTrue result → IsPlain (R.properties rows.now) c }
 {
-    let Some(compat) = sound_row(rows, c) else {
-        return false;
-    };
-    let Ok(canonical) = rows.canonical(c) else {
+    let mut compat = RowRoom::new();
+    let mut canonical = RowRoom::new();
+    let (Some(compat), Ok(canonical)) = (
+        sound_row(rows, c, &mut compat),
+        row_of(rows, Form::Nfd, c, &mut canonical),
+    ) else {
         return false;
     };
     let alone = [c];
-    compat.row.as_slice() == alone.as_slice()
-        && canonical.as_slice() == alone.as_slice()
-        && rows.class(c) == 0
+    let alone = alone.as_slice();
+    compat.row == alone && canonical == alone && rows.class(c) == 0
 }

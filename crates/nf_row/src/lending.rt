@@ -1,0 +1,63 @@
+//! The decomposition of a character that a form asks for, lent from Unicode's tables, or from the caller's room where other
+//! data gives it.
+
+ghost use Rattle.std.specs.Prelude.{◌≡◌, ◌<◌, ◌≤◌, ◌↔◌, length, IsErr, IfOk};
+ghost use Rattle.nf_forms.specs.Forms.{row_of};
+ghost use Rattle.nf_forms.specs.Ucd.{ucd};
+
+use crate::rows::{Long, Row, Rows};
+use nf_forms::Form;
+use unicode_normalization::{Form as TableForm, char as lookup};
+
+/// Room for the row of one character.
+#[derive(Drop)]
+pub struct RowRoom {
+    row: Row,
+    syllable: [char; 3],
+}
+
+impl RowRoom {
+    /// Room for any row.
+    #[inline]
+    pub fn new() -> RowRoom {
+        RowRoom {
+            row: Row::new(),
+            syllable: [' '; 3],
+        }
+    }
+}
+
+/// The decomposition of `c` that the form asks for. Refused exactly where it has more than 18 code points.
+#[inline]
+pub fn row_of<'r, R: Rows>(
+    rows: &R,
+    form: Form,
+    c: char,
+    room: &'r mut RowRoom,
+) -> Result<&'r [char], Long>
+    ensures row { IfOk result (λ row. (row.now ≡ row_of form (R.properties rows.now) c) × (length row.now ≤ 18)) }
+    ensures long { IsErr result ↔ (18 < length (row_of form (R.properties rows.now) c)) }
+{
+    if rows.is_ucd() {
+        return Ok(ucd_row(form, c, &mut room.syllable));
+    }
+    room.row = match form {
+        Form::Nfc | Form::Nfd => rows.canonical(c)?,
+        Form::Nfkc | Form::Nfkd => rows.compat(c)?,
+    };
+    Ok(room.row.as_slice())
+}
+
+/// The same of Unicode's data, by the tables, and by arithmetic for a Hangul syllable.
+#[inline]
+#[tactic(auto, unfolding(nf_forms::specs::Ucd::ucd))]
+fn ucd_row(form: Form, c: char, syllable: &mut [char; 3]) -> &[char]
+    ensures row { result.now ≡ row_of form ucd c }
+    ensures few { length result.now ≤ 18 }
+{
+    let form = match form {
+        Form::Nfc | Form::Nfd => TableForm::Nfd,
+        Form::Nfkc | Form::Nfkd => TableForm::Nfkd,
+    };
+    lookup::decomposition(c, form, syllable)
+}
