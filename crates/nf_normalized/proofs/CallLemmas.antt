@@ -1,5 +1,5 @@
 -- What a call of a filter tells of a text, by what it wrote to a sink that compares.
-use Rattle.nf_normalized.proofs.Common.{take-append-drop, append_assoc, append-nil, common_steps, bytes_eq-Decides, ◌≡◌, ℕ, ◌+◌, ◌<◌, ◌^◌, Bool, true, false, List, ◌++◌, length, take, sym, ap, ◌∙◌, arith, length-append, Some, None, is_some, option_map, encode_utf8_all, encodes-append, Result, Ok, Err, result_err, take_at, encodes_same, length-le-encodes, take-length, ucd, Form, safe_form, IsText, Ending, Whole, Bad, CutOff, text_of, EndsAs, Place, place_at, Fault, Write, Row, fault_in, answer_at_end, bad_byte, whole_or, IsAmong, Comparing, same, left, HasRoom, IsAfter, under, made_of, common, change_at, form_value, form_decision, IsOfPiece}
+use Rattle.nf_normalized.proofs.Common.{take-append-drop, append_assoc, append-nil, common_steps, bytes_eq-Decides, ◌≡◌, ℕ, ◌+◌, ◌<◌, ◌^◌, Bool, true, false, List, ◌++◌, length, take, sym, ap, ◌∙◌, arith, length-append, Some, None, is_some, option_map, encode_utf8_all, encodes-append, Result, Ok, Err, result_err, take_at, encodes_same, length-le-encodes, take-length, ucd, Form, safe_form, IsText, Ending, Whole, Bad, CutOff, text_of, EndsAs, Place, place_at, Fault, Write, Row, fault_in, answer_at_end, bad_byte, whole_or, IsAmong, Comparing, same, left, PlaceFits, IsAfter, under, made_of, common, change_at, form_value, form_decision, IsOfPiece}
 use Rattle.nf_filter.specs.declared.tally.Tally.{Tally}
 use Rattle.nf_filter.specs.Faults.{IsOfFeeding}
 use Rattle.nf_filter.specs.Laws.Soundness.{AreSound}
@@ -35,7 +35,7 @@ module _ {assigned : Bool} {f : Form} {base : ℕ} {held bytes all due : List �
   pub read : all ≡ (written assigned f bytes ++ same new) ++ left new
   read = grind (arith, call.expects, take-append-drop, gave call.wrote, append_assoc)
 
-  pub room : base + length all < 2 ^ 64 → HasRoom held (same new) chars offset
+  pub room : base + length all < 2 ^ 64 → PlaceFits held (same new) chars offset
   room fits =
       grind (arith, chars_held, bytes_held, fits, ap length read, length-le-encodes, ap length (call.known.split.split (same new)), length-append, written_is)
 

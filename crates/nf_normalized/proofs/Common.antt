@@ -39,7 +39,7 @@ pub use Rattle.nf_normalized.specs.Change.{under, made_of, form_value, settled_c
 pub use Rattle.nf_normalized.specs.Checker.{filter_state, IsOfPiece}
 pub use Rattle.nf_filter.specs.Comparing.{same, left, given, taken, sink_state}
 pub use Rattle.nf_filter.specs.InCommon.{common, goes_on_with}
-pub use Rattle.nf_normalized.specs.Places.{HasRoom, IsAfter}
+pub use Rattle.nf_normalized.specs.Places.{PlaceFits, IsAfter}
 pub use Rattle.nf_normalized.specs.Holds.{Holds}
 pub use Rattle.nf_filter.specs.declared.comparing.Comparing.{Comparing}
 pub use Rattle.nf_safe.specs.Place.{place_at}

@@ -4,7 +4,7 @@ use Rattle.nf_utf8.specs.Reading.{text_of}
 use Rattle.nf_safe.specs.declared.place.Place.{Place}
 
 -- where so many characters were taken, up to this offset, and `held` of them kept, those that are as expected have a place
-pub record HasRoom (held now : List ℕ) (chars offset : ℕ) : Type 0 where
+pub record PlaceFits (held now : List ℕ) (chars offset : ℕ) : Type 0 where
   pub chars_held : length (text_of held) ≤ chars
   pub bytes_held : length held ≤ offset
   pub bytes_fit : offset + length now < 2 ^ 64 + length held

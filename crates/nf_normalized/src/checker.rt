@@ -3,7 +3,7 @@ ghost use Rattle.std.specs.Prelude.{◌≡◌, ◌+◌, ◌≤◌, ◌++◌, fal
 ghost use Rattle.nf_filter.specs.Filter.{state_of, is_spent};
 ghost use Rattle.nf_normalized.specs.Holds.{HoldsSome};
 ghost use Rattle.nf_filter.specs.Comparing.{same};
-ghost use Rattle.nf_normalized.specs.Places.{HasRoom, IsAfter};
+ghost use Rattle.nf_normalized.specs.Places.{PlaceFits, IsAfter};
 
 use crate::counting::text_in;
 use crate::laws::little_is_kept;
@@ -149,7 +149,7 @@ impl FormChecker {
 
 /// After what was as expected, where so many characters were taken before, up to this offset, and these bytes kept.
 fn place_after(chars: u64, offset: u64, held: &[u8], sink: &Comparing<'_>) -> Place
-    requires { HasRoom held.now (same sink.now) chars offset }
+    requires { PlaceFits held.now (same sink.now) chars offset }
     ensures { IsAfter held.now (same sink.now) chars offset result }
 {
     split();

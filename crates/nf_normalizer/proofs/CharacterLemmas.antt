@@ -1,8 +1,6 @@
 -- One character more.
 use Rattle.nf_normalizer.proofs.Common.{◌≡◌, ℕ, ◌+◌, ◌≤◌, Bool, true, false, List, [], ◌∷◌, ◌++◌, Ok, refl, sym, ◌∙◌, arith, encode_utf8_all, ltb-false, encodes-append, Properties, Form, Nfc, Nfd, Nfkd, has_starter, lead, trail, front, row_of, decomposed, finished, joiner, max_run, is_too_long, with_room, stream_safe, is_sound, safe_form, lead-marks, lead-le-length, trail-marks, stream_safe-push, decomposed-push, JoinerIsPlain, IsSound, IsSound-from_test, JoinerIsPlain-from_sound, run_len, Pending, Normalizer, settled, is_usable, Start, Holds, HasTaken, IsWithin, HasRoom, run_after, front_utf8, settled_text, Pushes, PutsJoiner, MakesRoom, TakesChar, is_usable-push}
 use Rattle.std.proofs.lemmas.Bool.Decides.{nat_tests}
-use Rattle.nf_forms.specs.Laws.Cluster.{row-own}
-use Rattle.nf_row.specs.Own.{IsOwn}
 use Rattle.nf_safe.specs.Count.{counted, passes, count_step}
 use Rattle.nf_safe.specs.Laws.Count.{count_step-le, count_step-within, trail-decomposed-safe_step}
 
@@ -28,10 +26,6 @@ module _ (p : Properties) where
       at : (w : List ℕ) → (has_starter p w ≡ false → has_starter p (p.compat c) ≡ false) → trail p w ≤ trail p (p.compat c) → lead p w ≤ lead p (p.compat c)
           → run_after p run w ≤ counted p n (p.compat c)
       at w agree trails leads = grind (arith, lead-marks p w, lead-marks p (p.compat c), trail-marks p (p.compat c))
-
-  -- a character that is its own row
-  pub row-known : (f : Form) (c k : ℕ) → IsOwn p c k → row_of f p c ≡ c ∷ []
-  row-known f c k own = row-own p f c (record { canonical = own.canonical; compat = own.compat })
 
   lead-row : (f : Form) (c : ℕ) → is_sound p c ≡ true → lead p (row_of f p c) ≤ lead p (p.compat c)
   lead-row f c sound = of_row (λ row. lead p row ≤ lead p (p.compat c)) c (IsSound-from_test p c sound).lead_within (omega arith) f
