@@ -1,11 +1,10 @@
 ghost use Rattle.std.specs.Prelude.{◌≡◌, ◌<◌, ◌↔◌, [], ◌∷◌, length, flat_map, IsTrue, IsOk, IfErr, IfSome, IsNone};
-ghost use Rattle.std.specs.Char.{IsScalar};
 ghost use Rattle.nf_forms.specs.Forms.{row_of};
 ghost use Rattle.nf_forms.specs.Order.{order};
 ghost use Rattle.nf_forms.specs.Audit.{IsFullText, AreOwnMarks, IsAudited};
 ghost use Rattle.nf_row.specs.Audit.{IsFirstFailed, IsLeastFault};
 
-use crate::lending::{RowRoom, row_of};
+use crate::lending::is_own_row;
 use crate::ordering::ordered;
 use crate::rows::{Row, Rows};
 use crate::soundness::sound;
@@ -88,17 +87,6 @@ fn has_own_marks<R: Rows>(rows: &R, row: &Row) -> bool
     ensures { IsTrue result ↔ AreOwnMarks (R.properties rows.now) row.now.items }
 {
     row.as_slice().iter().all(|c| rows.class(*c) == 0 || is_own_row(rows, Form::Nfkd, *c))
-}
-
-/// Whether `c` is its own row, of the kind that the form asks for.
-fn is_own_row<R: Rows>(rows: &R, form: Form, c: char) -> bool
-    ensures own { IsTrue result ↔ (row_of form (R.properties rows.now) c ≡ c ∷ []) }
-    ensures scalar { IsScalar c }
-{
-    match row_of(rows, form, c, &mut RowRoom::new()) {
-        Ok(row) => row == [c].as_slice(),
-        Err(_) => false,
-    }
 }
 
 /// The compatibility rows of the members, one after the other. None where they have more than 18 members together.

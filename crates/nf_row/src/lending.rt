@@ -1,7 +1,8 @@
 //! The decomposition of a character that a form asks for, lent from Unicode's tables, or from the caller's room where other
 //! data gives it.
 
-ghost use Rattle.std.specs.Prelude.{◌≡◌, ◌<◌, ◌≤◌, ◌↔◌, length, IsErr, IfOk};
+ghost use Rattle.std.specs.Prelude.{◌≡◌, ◌<◌, ◌≤◌, ◌↔◌, [], ◌∷◌, length, IsTrue, IsErr, IfOk};
+ghost use Rattle.std.specs.Char.{IsScalar};
 ghost use Rattle.nf_forms.specs.Forms.{row_of};
 ghost use Rattle.nf_forms.specs.Ucd.{ucd};
 
@@ -46,6 +47,17 @@ pub fn row_of<'r, R: Rows>(
         Form::Nfkc | Form::Nfkd => rows.compat(c)?,
     };
     Ok(room.row.as_slice())
+}
+
+/// Whether the decomposition of `c` that the form asks for is `c` alone.
+pub fn is_own_row<R: Rows>(rows: &R, form: Form, c: char) -> bool
+    ensures own { IsTrue result ↔ (row_of form (R.properties rows.now) c ≡ c ∷ []) }
+    ensures scalar { IsScalar c }
+{
+    match row_of(rows, form, c, &mut RowRoom::new()) {
+        Ok(row) => row == [c].as_slice(),
+        Err(_) => false,
+    }
 }
 
 /// The same of Unicode's data, by the tables, and by arithmetic for a Hangul syllable.

@@ -23,7 +23,7 @@ mod unsound;
 pub use auditing::audit;
 pub use composites::composite;
 pub use fronts::{assigned_front, counted_front, first_segments, safe_front};
-pub use lending::{RowRoom, row_of};
+pub use lending::{RowRoom, is_own_row, row_of};
 pub use nf_boundary::{Formed, Segments};
 pub use nf_counts::{Counted, Counts, SafeFront};
 pub use nf_forms::{Form, JOINER};

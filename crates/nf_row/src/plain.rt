@@ -2,8 +2,10 @@ ghost use Rattle.std.specs.Prelude.{◌↔◌, IsTrue};
 ghost use Rattle.nf_forms.specs.Ucd.{ucd};
 ghost use Rattle.nf_row.specs.Ascii.{IsUnchanged, IsFirstInNone, IsPlainAscii};
 
+use crate::lending::is_own_row;
 use crate::rows::Rows;
 use nf_facts::laws;
+use nf_forms::Form;
 use std::alloc::AllocError;
 
 /// Character data of which it was seen that normalization leaves ASCII text as it is: each character of U+0000 to
@@ -82,11 +84,8 @@ fn reads_plain<R: Rows>(rows: &R) -> bool
 fn is_unchanged<R: Rows>(rows: &R, c: char) -> bool
     ensures { IsTrue result ↔ IsUnchanged (R.properties rows.now) c }
 {
-    let (Ok(canonical), Ok(compat)) = (rows.canonical(c), rows.compat(c)) else {
-        return false;
-    };
-    canonical.as_slice() == [c].as_slice()
-        && compat.as_slice() == [c].as_slice()
+    is_own_row(rows, Form::Nfd, c)
+        && is_own_row(rows, Form::Nfkd, c)
         && rows.class(c) == 0
         && rows.assigned(c)
 }

@@ -12,4 +12,3 @@ pub mod Standing
 pub mod Comparison
 pub mod Report
 pub mod Sweep
-pub mod Plain

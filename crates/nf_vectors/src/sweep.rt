@@ -1,12 +1,12 @@
 ghost use Rattle.std.specs.Prelude.{IsTrue, ◌≡◌, ◌<◌, ℕ, IfOk, false, length, slice_index_or};
 ghost use Rattle.nf_vectors.specs.Sweep.{is_listed, is_unchanged};
-ghost use Rattle.nf_vectors.specs.Plain.{IsPlain};
+ghost use Rattle.nf_row.specs.Own.{IsOwn};
 
 use crate::columns::Columns;
 use crate::comparison::holds;
 use crate::fault::Memory;
 use crate::suite::Suite;
-use nf_row::{Form, RowRoom, Rows, row_of, sound_row};
+use nf_row::{Form, Rows, is_own_row, sound};
 use std::alloc::{AllocError, Global};
 
 /// The least number that is above every scalar value.
@@ -104,17 +104,10 @@ fn is_unchanged<R: Rows>(rows: &R, c: char) -> bool
 
 /// Whether `c` is a sound starter whose decompositions are `c` alone, as most characters are: no form changes it.
 fn is_plain<R: Rows>(rows: &R, c: char) -> bool
-    ensures { IsTrue result → IsPlain (R.properties rows.now) c }
+    ensures { IsTrue result → IsOwn (R.properties rows.now) c 0 }
 {
-    let mut compat = RowRoom::new();
-    let mut canonical = RowRoom::new();
-    let (Some(compat), Ok(canonical)) = (
-        sound_row(rows, c, &mut compat),
-        row_of(rows, Form::Nfd, c, &mut canonical),
-    ) else {
-        return false;
-    };
-    let alone = [c];
-    let alone = alone.as_slice();
-    compat.row == alone && canonical == alone && rows.class(c) == 0
+    sound(rows, c)
+        && is_own_row(rows, Form::Nfd, c)
+        && is_own_row(rows, Form::Nfkd, c)
+        && rows.class(c) == 0
 }
