@@ -44,10 +44,10 @@ unfolding line_of
 help_answers before after help same = rw (← help) (inr (inl (record { status_is = refl; line = ([], [], refl, rw same (Appends-nil before.err)) })))
 
 -- what was asked for was done
-pub done_answers : {words : List Text} {parsed request : Request} {before after : Devices} {status : ℕ} → NeverRow → parsed ≡ request → Asks words parsed → (found : Result ℕ Fault)
+pub done_answers : {words : List Text} {request : Request} {before after : Devices} {status : ℕ} → NeverRow → Asks words request → (found : Result ℕ Fault)
     → Does request before after found → status ≡ status_of found → AppendsFront before.err after.err (line_of found) → Answers words before after status
-done_answers never is asks found does status_is line =
-    inr (inr (record { request = _; asks = rw is at asks; found = found; does = does; sound = never _ _ _ _ does; ends = record { status_is = status_is; line = line } }))
+done_answers never asks found does status_is line =
+    inr (inr (record { request = _; asks = asks; found = found; does = does; sound = never _ _ _ _ does; ends = record { status_is = status_is; line = line } }))
 
 -- what the library did, over devices of which only the bytes are told
 pub runs_from : {T : Type 0} {drives : SourceState → SourceState → SinkState → SinkState → Result T Found → Type 0} {coming left taken now : Option (List ℕ)} (source rest : SourceState) (old new : SinkState) {answer : Result T Found}

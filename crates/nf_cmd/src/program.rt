@@ -4,7 +4,7 @@ ghost use Rattle.clap.specs.Values.{kind_of};
 ghost use Rattle.clap.specs.Walk.{texts};
 ghost use Rattle.nf_cmd.specs.Line.{IsRefused as Refused};
 ghost use Rattle.nf_cmd.specs.Lines.{line_of, status_of};
-ghost use Rattle.nf_cmd.specs.Answers.{Answers, ComesOf, NeverRow};
+ghost use Rattle.nf_cmd.specs.Answers.{Answers, ComesOf, Does, NeverRow};
 ghost use Rattle.nf_cmd.specs.Again.{ConvertsOnce, EachConvertsOnce};
 ghost use Rattle.nf_cmd.specs.Fronts.{AppendsFront};
 
@@ -55,17 +55,30 @@ pub fn command<'w, I: Read, O: Write, E: Write>(
     no_character_is_refused();
     what_was_converted_stays();
     match parse(alloc, words) {
-        Ok(Request::Convert(form, policy)) => report(convert(form, policy, input, out), err),
-        Ok(Request::ConvertLines(form, policy)) => {
-            report(convert_lines(form, policy, input, out), err)
-        }
-        Ok(Request::Check) => report(check(input, out), err),
-        Ok(Request::CheckForm(form, assigned)) => {
-            report(check_form(form, assigned, input, out), err)
-        }
-        Ok(Request::Measure) => report(measure(input, out), err),
-        Ok(Request::Test) => report(test(alloc, input, out), err),
+        Ok(request) => report(perform(alloc, request, input, out), err),
         Err(error) => refuse(alloc, &error, out, err),
+    }
+}
+
+// Does what was asked for. Answers the status of a run that came to its end, or the fault that it ended by.
+fn perform<I: Read, O: Write>(
+    alloc: Global,
+    request: Request,
+    input: &mut I,
+    out: &mut O,
+) -> Result<u8, Fault>
+    ensures status { ¬ (status_of result ≡ 2) }
+    ensures does { (err err_after : Option (List ℕ)) → Does request
+        (record { input = I.remaining input.old; out = O.contents out.old; err = err })
+        (record { input = I.remaining input.new; out = O.contents out.new; err = err_after }) result }
+{
+    match request {
+        Request::Convert(form, policy) => convert(form, policy, input, out),
+        Request::ConvertLines(form, policy) => convert_lines(form, policy, input, out),
+        Request::Check => check(input, out),
+        Request::CheckForm(form, assigned) => check_form(form, assigned, input, out),
+        Request::Measure => measure(input, out),
+        Request::Test => test(alloc, input, out),
     }
 }
 
