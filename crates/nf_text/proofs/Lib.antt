@@ -1,1 +1,1 @@
-mod WholeLemmas
+pub mod WholeLemmas

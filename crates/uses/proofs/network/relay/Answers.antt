@@ -12,7 +12,8 @@ use Rattle.nf_filter.specs.Finishes.{Finishes}
 use Rattle.nf_filter.specs.Policy.{as_is}
 use Rattle.nf_filter.proofs.FeedingLemmas.{fed_by}
 use Rattle.nf_filter.proofs.WritesLemmas.{Puts-join}
-use Rattle.uses.proofs.RelayLemmas.{faultless, relays_none, relays_whole, relays_failed, relays_ended, relays_refused, ok_end}
+use Rattle.nf_text.proofs.WholeLemmas.{whole}
+use Rattle.uses.proofs.RelayLemmas.{relays_none, relays_failed, relays_ended, relays_refused, ok_end}
 use Rattle.uses.proofs.network.relay.Goals as goal
 
 pub loop-come-init : goal.loop-come-init
@@ -39,19 +40,6 @@ loop-come-preserved g c =
       lender = c.feed.ensures.lender ∙ so_far.lender;
     }
 
-pub returns-then-come-eq0-clause-whole : goal.returns-then-come-eq0-clause-whole
-returns-then-come-eq0-clause-whole g c =
-    let so_far = c.loop-come.invariant in
-    let come = so_far.relayed.0 in
-    let left = g.C.Read.remaining c.read.new.self in
-    let nothing = subst (λ n. Consumes (g.C.Read.remaining c.loop-come.connection) left (take n c.read.new.buf)) c.if-come-eq0.true c.in-Ok.ensures.bytes.0 in
-    let read = subst (λ l. Consumes (g.C.Read.remaining c.args.connection.now) left l) (append-nil come) (Consumes-trans _ _ _ come [] so_far.relayed.1 nothing) in
-    let ended = c.in-Ok.ensures.bytes.1 c.if-come-eq0.true (let room : 0 < length c.read.new.buf = omega (arith, c.read.auto.buf, so_far.room) in room) in
-    let finishes = subst (λ (n : ℕ). Finishes as_is Nfc ucd n come (g.S.Sink.state c.loop-come.sink) (g.S.Sink.state c.finish.new.sink) c.finish.result) so_far.base
-    (c.finish.ensures.finishes as_is Nfc come so_far.relayed.2) in
-    relays_whole Nfc ucd (g.C.Read.remaining c.args.connection.now) left (g.S.Sink.state c.args.sink.now) (g.S.Sink.state c.loop-come.sink) (g.S.Sink.state c.finish.new.sink) come
-    c.finish.result c.longest_text.ensures.reads read ended (faultless Nfc ucd (state_of c.loop-come.filter) come so_far.base so_far.relayed.2) so_far.relayed.3 finishes
-
 not_read : (fault : Fault) → IsOfFeeding fault → ¬ (fed_by fault ≡ Err Read)
 not_read fault may e = let same : fault ≡ Read = cc in rw same at may
 
@@ -66,6 +54,11 @@ returns-then-come-eq0-clause-relays g c =
     relays_ended Nfc ucd (g.C.Read.remaining c.args.connection.now) left (g.S.Sink.state c.args.sink.now) (g.S.Sink.state c.loop-come.sink) (state_of c.loop-come.filter) come so_far.base so_far.relayed.2 so_far.relayed.3
     (g.S.Sink.state c.finish.new.sink) c.finish.result read ended (λ e. rw e at c.finish.ensures.faults) (λ e. rw e at c.finish.ensures.faults)
     (λ bytes stands. subst (λ (n : ℕ). Finishes as_is Nfc ucd n bytes (g.S.Sink.state c.loop-come.sink) (g.S.Sink.state c.finish.new.sink) c.finish.result) so_far.base (c.finish.ensures.finishes as_is Nfc bytes stands)) (ok_end c.finish.result)
+
+pub returns-then-come-eq0-clause-whole : goal.returns-then-come-eq0-clause-whole
+returns-then-come-eq0-clause-whole g c =
+    let relays = returns-then-come-eq0-clause-relays g c in
+    rw relays.input_is.0 at (whole Nfc ucd 1500 relays.source relays.rest _ _ _ c.longest_text.ensures.reads relays.end relays.driven)
 
 pub returns-in_default-clause-relays : goal.returns-in_default-clause-relays
 returns-in_default-clause-relays g c =
