@@ -7,12 +7,8 @@ use Rattle.ucd_normal.specs.declared.forms.Form.{Form as KitForm}
 use Rattle.unicode_normalization.specs.Decompose.{table_of, decompose}
 use Rattle.nf_boundary.specs.declared.rows.Row.{Row}
 use Rattle.nf_forms.specs.Ordering.{is_ordered}
+use Rattle.nf_row.specs.Laws.Tables.{row_is}
 use Rattle.nf_boundary.proofs.SeenLemmas.{passing}
-
--- what the kit calls the decomposition of a character is the row
-pub row_is : (f : Form) (c : ℕ) → decompose (kit_form f) c ≡ row_of f ucd c
-unfolding ucd decompose
-row_is f c = grind arith
 
 -- its row begins with a starter that composes with nothing before it
 pub row_boundary : (f : Form) (c first : ℕ) (rest : List ℕ) → decompose (kit_form f) c ≡ first ∷ rest → IsOwnBoundary ucd f first → NeverSecond ucd f first → HasBoundaryBefore ucd f c

@@ -13,16 +13,25 @@ use crate::rows::{Row, changed};
 use crate::seen::{Seen, may_begin_with_mark};
 use crate::segments::{Formed, Segments};
 use nf_forms::Form;
+use nf_row::Rows;
 use nf_span::span_text;
 use ucd_normal::QuickCheck;
 
 /// Segments that the text begins with, as far as they are known: a span, and after it characters that the form changes, until
 /// a span comes again or `formed` is full. Their form is put into `formed`, in place of what it holds. Nothing where none
-/// is found, as where no boundary comes.
+/// is found, as where no boundary comes; of data that is not known to be Unicode's nothing is known.
 #[inline(never)]
-pub fn first_segments<'t>(form: Form, text: &'t str, formed: &mut Formed) -> Option<Segments<'t>>
-    ensures { IfSome result (λ segments. IsFirstSegments ucd form text.now segments.same.now formed.new.items segments.rest.now) }
+pub fn first_segments<'t, R: Rows>(
+    rows: &R,
+    form: Form,
+    text: &'t str,
+    formed: &mut Formed,
+) -> Option<Segments<'t>>
+    ensures { IfSome result (λ segments. IsFirstSegments (R.properties rows.now) form text.now segments.same.now formed.new.items segments.rest.now) }
 {
+    if !rows.is_ucd() {
+        return None;
+    }
     let seen = Seen::first(form, text)?;
     if !seen.is_boundary(form) {
         return changed_front(form, seen, formed);

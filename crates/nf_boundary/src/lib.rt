@@ -1,6 +1,6 @@
 //! The form of a text from one normalization boundary to another (UAX #15, section 9): what stands between two is decided,
-//! whatever comes before and after, so that it can be written at once. Pure functions over `&str`, for the data of the
-//! Unicode Character Database.
+//! whatever comes before and after, so that it can be written at once. Pure functions over `&str`, for any character data;
+//! of data that is not known to be Unicode's no such text is found.
 #![tactic(auto)]
 
 mod after_span;
@@ -8,7 +8,6 @@ mod apart;
 mod closing;
 mod cluster;
 mod composing;
-mod composites;
 mod encoding;
 mod front;
 mod hangul;
@@ -21,7 +20,6 @@ mod seen;
 mod segments;
 
 pub use closing::{Segment, close_off};
-pub use composites::Composites;
 pub use encoding::put_utf8;
 pub use front::first_segments;
 pub use mark::{Mark, Run, hold};

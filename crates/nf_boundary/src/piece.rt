@@ -9,7 +9,6 @@ ghost use Rattle.nf_boundary.specs.Rows.{IsRow};
 ghost use Rattle.nf_boundary.specs.Piece.{Becomes, Leaves};
 
 use crate::closing::{Segment, close_off};
-use crate::composites::Database;
 use crate::encoding::{append_one, put_utf8};
 use crate::mark::{Mark, Run, hold};
 use crate::rows::{Row, passes};
@@ -17,6 +16,7 @@ use crate::seen::{Seen, is_own_row};
 use crate::segments::Formed;
 use nf_facts::{in_tables, laws};
 use nf_forms::{Form, MAX_RUN};
+use nf_row::Ucd;
 use ucd_normal::{QuickCheck, canonical_combining_class};
 use unicode_normalization::char::decomposition;
 
@@ -127,7 +127,7 @@ impl Piece {
         }
         let mut text = Segment::new();
         close_off(
-            &Database,
+            &Ucd,
             form.composes(),
             Some(self.starter),
             self.run.as_slice(),

@@ -2,6 +2,7 @@
 use crate::reference::text_of;
 use nf_boundary::{Formed, first_segments};
 use nf_forms::Form;
+use nf_row::Ucd;
 use std::test::Fail;
 
 const VOWELS: u32 = 21;
@@ -21,11 +22,11 @@ fn each_syllable_both_ways(rt: HostRuntime) -> Result<(), Fail> {
         }
         let mut formed = Formed::new();
         let text = format!(in rt.alloc(); "{letters}\u{1100}")?;
-        let segments = first_segments(Form::Nfc, &text, &mut formed);
+        let segments = first_segments(&Ucd, Form::Nfc, &text, &mut formed);
         assert!(rt; segments.is_some(), "{index}");
         assert_eq!(rt; text_of(&formed).chars().next(), Some(syllable), "{index}");
         let text = format!(in rt.alloc(); "{syllable}\u{1100}")?;
-        let segments = first_segments(Form::Nfd, &text, &mut formed);
+        let segments = first_segments(&Ucd, Form::Nfd, &text, &mut formed);
         assert!(rt; segments.is_some(), "{index}");
         assert_eq!(rt; text_of(&formed), letters.as_str(), "{index}");
     }

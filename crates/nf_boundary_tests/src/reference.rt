@@ -1,6 +1,7 @@
 //! Segments against the forms of whole texts.
 use nf_boundary::{Formed, first_segments};
 use nf_forms::Form;
+use nf_row::Ucd;
 use std::alloc::{AllocError, Global};
 use std::process::Abort;
 use std::test::Fail;
@@ -34,7 +35,7 @@ pub fn checked<'t, T: Abort>(
     text: &'t str,
 ) -> Result<Option<&'t str>, Fail> {
     let mut put = Formed::new();
-    let Some(segments) = first_segments(form, text, &mut put) else {
+    let Some(segments) = first_segments(&Ucd, form, text, &mut put) else {
         return Ok(None);
     };
     let front = text.strip_suffix(segments.rest).unwrap_or("");

@@ -4,8 +4,8 @@ ghost use Rattle.nf_filter.specs.Writes.{Puts, BreaksOff};
 
 use crate::devices::{Failed, Sink};
 use crate::fault::Fault;
+use nf_boundary::Formed;
 use nf_normalizer::{ROOM, Room};
-use nf_row::Formed;
 
 /// What is to go to a sink: it keeps up to 4,096 bytes, in place, that go there together.
 #[derive(Drop)]

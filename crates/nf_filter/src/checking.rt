@@ -9,8 +9,8 @@ use crate::reading::Reading;
 use crate::sources::{BLOCK, survey};
 use crate::taker::{Taker, take_text};
 use crate::text_reader::TextReader;
-use nf_row::{Rows, SafeFront, safe_front};
-use nf_safe::{Checker, Place};
+use nf_row::Rows;
+use nf_safe::{Checker, Place, SafeFront, safe_front};
 use nf_utf8::char_count;
 
 /// Reads what the source gives until it is no longer in the Stream-Safe Text Format (UAX #15, section 13), and answers

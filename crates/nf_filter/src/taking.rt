@@ -1,5 +1,7 @@
 //! How text goes through a normalizer to a sink, step by step.
-ghost use Rattle.std.specs.Prelude.{◌≡◌, ◌<◌, ◌≤◌, ◌++◌, length, chars, take_while, encode_utf8_all};
+ghost use Rattle.std.specs.Prelude.{◌≡◌, ◌<◌, ◌≤◌, ◌++◌, true, length, take, chars, take_while, encode_utf8_all};
+ghost use Rattle.std.specs.List.{list_all};
+ghost use Rattle.std.specs.Str.{IsCharBoundary};
 ghost use Rattle.nf_filter.specs.Passed.{IsAfterAssigned};
 ghost use Rattle.nf_filter.specs.Policy.{allowed};
 
@@ -8,8 +10,9 @@ use crate::counted::Counted;
 use crate::devices::{Failed, Sink};
 use crate::fault::Fault;
 use crate::origin::Origin;
+use nf_boundary::Formed;
 use nf_normalizer::{STEP, Step};
-use nf_row::{Formed, Rows, assigned_front};
+use nf_row::Rows;
 use nf_utf8::char_count;
 
 /// Where at least so many bytes were known, bytes are asked again after the next character.
@@ -192,4 +195,17 @@ fn past_known<'t, R: Rows>(rows: &R, few: usize, text: &'t str) -> (usize, &'t s
     let known = assigned_front(rows, text);
     let more = if known < WORTH { MIN_LOOK_UPS } else { 1 };
     (more, &text[known..])
+}
+
+/// How many bytes at the front of the text are of characters that are known to be assigned, without a look-up for each.
+#[inline]
+fn assigned_front<R: Rows>(rows: &R, text: &str) -> usize
+    ensures boundary { IsCharBoundary text.now result }
+    ensures assigned { list_all (R.properties rows.now).assigned (chars (take result text.now)) ≡ true }
+{
+    if rows.is_ucd() {
+        nf_assigned::assigned_front(text)
+    } else {
+        0
+    }
 }

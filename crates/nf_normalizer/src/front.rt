@@ -1,7 +1,8 @@
 //! What of a text is taken at once: segments, or a run of plain ASCII, or a character.
 use crate::normalizer::Normalizer;
 use crate::room::Room;
-use nf_row::{Formed, Rows, Segments, first_segments, is_never_second, own_class};
+use nf_boundary::{Formed, Segments, first_segments};
+use nf_row::{Rows, is_never_second, own_class};
 use nf_utf8::ascii_prefix;
 
 /// The least bytes of a text of which segments are asked for: each character of a shorter one goes the ordinary way for less.

@@ -1,7 +1,8 @@
 use crate::front::Unsound;
 use crate::normalizer::Normalizer;
 use crate::room::{ROOM, Room, STEP};
-use nf_row::{Formed, Rows};
+use nf_boundary::Formed;
+use nf_row::Rows;
 
 /// What a step made of a text. First goes out what the room holds.
 #[derive(Debug, Drop)]

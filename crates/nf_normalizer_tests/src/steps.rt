@@ -1,6 +1,7 @@
+use nf_boundary::Formed;
 use nf_normalizer::{Normalizer, Room, Step};
 use nf_row::Change::{Canonical, Class};
-use nf_row::{Form, Formed, Patched, Plain, Rows, Ucd};
+use nf_row::{Form, Patched, Plain, Rows, Ucd};
 use std::alloc::{AllocError, Global};
 use std::process::Abort;
 use std::test::Fail;

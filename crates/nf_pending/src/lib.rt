@@ -4,7 +4,6 @@
 //! starter of the normalized text. It holds at most 31 code points, and takes no memory.
 #![tactic(auto)]
 
-mod composites;
 pub mod laws;
 mod pending;
 

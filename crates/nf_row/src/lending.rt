@@ -4,11 +4,11 @@
 ghost use Rattle.std.specs.Prelude.{◌≡◌, ◌<◌, ◌≤◌, ◌↔◌, [], ◌∷◌, length, IsTrue, IsErr, IfOk};
 ghost use Rattle.std.specs.Char.{IsScalar};
 ghost use Rattle.nf_forms.specs.Forms.{row_of};
-ghost use Rattle.nf_forms.specs.Ucd.{ucd};
 
 use crate::rows::{Long, Row, Rows};
+use nf_facts::in_tables;
 use nf_forms::Form;
-use unicode_normalization::{Form as TableForm, char as lookup};
+use unicode_normalization::char::decomposition;
 
 /// Room for the row of one character.
 #[derive(Drop)]
@@ -28,7 +28,7 @@ impl RowRoom {
     }
 }
 
-/// The decomposition of `c` that the form asks for. Refused exactly where it has more than 18 code points.
+/// The decomposition of `c` that the form asks for: of Unicode's data by the tables, and by arithmetic for a Hangul syllable. Refused exactly where it has more than 18 code points.
 #[inline]
 pub fn row_of<'r, R: Rows>(
     rows: &R,
@@ -40,7 +40,7 @@ pub fn row_of<'r, R: Rows>(
     ensures long { IsErr result ↔ (18 < length (row_of form (R.properties rows.now) c)) }
 {
     if rows.is_ucd() {
-        return Ok(ucd_row(form, c, &mut room.syllable));
+        return Ok(decomposition(c, in_tables(form), &mut room.syllable));
     }
     room.row = match form {
         Form::Nfc | Form::Nfd => rows.canonical(c)?,
@@ -58,18 +58,4 @@ pub fn is_own_row<R: Rows>(rows: &R, form: Form, c: char) -> bool
         Ok(row) => row == [c].as_slice(),
         Err(_) => false,
     }
-}
-
-/// The same of Unicode's data, by the tables, and by arithmetic for a Hangul syllable.
-#[inline]
-#[tactic(auto, unfolding(nf_forms::specs::Ucd::ucd))]
-fn ucd_row(form: Form, c: char, syllable: &mut [char; 3]) -> &[char]
-    ensures row { result.now ≡ row_of form ucd c }
-    ensures few { length result.now ≤ 18 }
-{
-    let form = match form {
-        Form::Nfc | Form::Nfd => TableForm::Nfd,
-        Form::Nfkc | Form::Nfkd => TableForm::Nfkd,
-    };
-    lookup::decomposition(c, form, syllable)
 }

@@ -7,7 +7,6 @@
 
 mod auditing;
 mod composites;
-mod fronts;
 mod lending;
 mod non_starters;
 mod ordering;
@@ -22,10 +21,7 @@ mod unsound;
 
 pub use auditing::audit;
 pub use composites::composite;
-pub use fronts::{assigned_front, counted_front, first_segments, safe_front};
 pub use lending::{RowRoom, is_own_row, row_of};
-pub use nf_boundary::{Formed, Segments};
-pub use nf_counts::{Counted, Counts, SafeFront};
 pub use nf_forms::{Form, JOINER};
 pub use non_starters::NonStarters;
 pub use own::{is_never_second, own_class};

@@ -1,6 +1,5 @@
 use nf_row::{
-    Change, NonStarters, Patched, Rows, Ucd, all_sound, composite, counted_front, is_never_second,
-    own_class,
+    Change, NonStarters, Patched, Rows, Ucd, all_sound, composite, is_never_second, own_class,
 };
 use std::process::Abort;
 use std::test::Fail;
@@ -133,13 +132,6 @@ fn nothing_is_known_of_changed_data(rt: HostRuntime) {
     let changes = [Change::Class('a', 1)];
     let rows = Patched::new(&changes);
     assert!(rt; !is_never_second(&rows, 'b') && is_never_second(&Ucd, 'b'));
-    assert_eq!(rt;
-        (
-            counted_front(&rows, 30, "b").rest,
-            counted_front(&Ucd, 30, "b").rest
-        ),
-        ("b", "")
-    );
     assert!(rt; !all_sound(&rows) && all_sound(&Ucd));
 }
 

@@ -1,8 +1,9 @@
 ghost use Rattle.std.specs.Prelude.{◌≤◌};
 
 use crate::counter::Counter;
+use crate::fronts::counted_front;
 use crate::place::Place;
-use nf_row::{RowRoom, Rows, Rule, Unsound, counted_front, sound_row};
+use nf_row::{RowRoom, Rows, Rule, Unsound, sound_row};
 use nf_utf8::char_count;
 
 /// Finds where a text leaves the Stream-Safe Text Format, character by character.

@@ -5,8 +5,9 @@ ghost use Rattle.nf_forms.specs.StreamSafe.{max_run};
 ghost use Rattle.nf_safe.specs.Count.{passes, count_step};
 ghost use Rattle.nf_safe.specs.Counter.{StandsAfter};
 
+use nf_counts::Counts;
 use nf_forms::MAX_RUN;
-use nf_row::{Counts, NonStarters, Row, Rows};
+use nf_row::{NonStarters, Row, Rows};
 use std::marker::Model;
 
 /// Counts the non-starters that the NFKD of a text ends in, and tells where the Stream-Safe Text Process puts U+034F

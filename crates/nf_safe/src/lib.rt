@@ -4,6 +4,7 @@
 
 mod checker;
 mod counter;
+mod fronts;
 pub mod laws;
 mod measure;
 mod measurer;
@@ -12,6 +13,8 @@ mod runs;
 
 pub use checker::Checker;
 pub use counter::Counter;
+pub use fronts::safe_front;
 pub use measure::Measure;
 pub use measurer::Measurer;
+pub use nf_counts::SafeFront;
 pub use place::Place;

@@ -1,9 +1,10 @@
 ghost use Rattle.std.specs.Prelude.{◌≤◌, ◌*◌};
 
 use crate::counter::Counter;
+use crate::fronts::counted_front;
 use crate::measure::Measure;
 use crate::runs::Runs;
-use nf_row::{JOINER, Rows, Rule, Unsound, counted_front, sound};
+use nf_row::{JOINER, Rows, Rule, Unsound, sound};
 use nf_utf8::char_count;
 
 /// Measures a text, character by character. The text need not be in the Stream-Safe Text Format: its runs are counted

@@ -1,6 +1,7 @@
 ghost use Rattle.std.specs.Prelude.{◌≤◌};
 
-use nf_row::{Counts, NonStarters, RowRoom, Rows, SoundRow, own_class, sound_row};
+use nf_counts::Counts;
+use nf_row::{NonStarters, RowRoom, Rows, SoundRow, own_class, sound_row};
 
 /// The non-starters of decomposed text, and its runs of them.
 #[derive(Clone, Copy, Debug)]

@@ -1,6 +1,6 @@
 use nf_row::Change::Compat;
 use nf_row::{JOINER, Patched, Rows, Rule, Ucd, Unsound};
-use nf_safe::{Checker, Place};
+use nf_safe::{Checker, Place, safe_front};
 use std::process::Abort;
 
 const MARK: char = '\u{301}';
@@ -144,4 +144,16 @@ fn a_front_is_checked_by_look_ups(rt: HostRuntime) {
         assert!(rt; checker.offset() <= u64::MAX - MARK.len_utf8() as u64);
         assert_eq!(rt; checker.see(&Ucd, MARK), answer, "{marks} {text}");
     }
+}
+
+/// Bytes tell of Unicode's data alone: of data under changes no front is known, even of a character that is as it was.
+#[test]
+fn nothing_is_counted_of_changed_data(rt: HostRuntime) {
+    let changes = [Compat('a', &['b'])];
+    let rows = Patched::new(&changes);
+    assert_eq!(rt; Checker::new(0).see_counted(&Ucd, "b"), "");
+    assert_eq!(rt; Checker::new(0).see_counted(&rows, "b"), "b");
+    let letters = "bbbbbbbbbbbbbbbbbbbbbbbbbbbbbbbbbbbbbbbbbbbbbbbb";
+    assert!(rt; safe_front(&Ucd, letters).is_some());
+    assert!(rt; safe_front(&rows, letters).is_none());
 }

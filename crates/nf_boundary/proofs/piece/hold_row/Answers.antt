@@ -1,5 +1,5 @@
 use Rattle.nf_boundary.proofs.Common.{false, rules, ◌≡◌, ◌≢◌, ◌+◌, length, refl, append_assoc, arith, take_all, canonical_combining_class, has_starter, row_of, ucd}
-use Rattle.nf_boundary.proofs.RowLemmas.{row_is}
+use Rattle.nf_row.specs.Laws.Tables.{row_is}
 use Rattle.nf_boundary.proofs.BecomesLemmas.{leaves_row}
 use Rattle.nf_boundary.proofs.FillsLemmas.{take_next, marks_next}
 use Rattle.nf_boundary.proofs.piece.hold_row.Goals as goal

@@ -1,5 +1,6 @@
 use Rattle.nf_boundary.proofs.Common.{rules}
-use Rattle.nf_boundary.proofs.RowLemmas.{row_is, row_members}
+use Rattle.nf_row.specs.Laws.Tables.{row_is}
+use Rattle.nf_boundary.proofs.RowLemmas.{row_members}
 use Rattle.nf_boundary.proofs.rows.Row.decomposition.Goals as goal
 
 pub returns-then-is_empty : goal.returns-then-is_empty

@@ -1,5 +1,5 @@
 use Rattle.nf_boundary.proofs.Common.{rules, ucd}
-use Rattle.nf_boundary.proofs.composites.PairsComposites.composite.Goals as goal
+use Rattle.nf_boundary.proofs.cluster.Cluster.joined.Goals as goal
 
 pub returns : goal.returns
 unfolding ucd

@@ -2,7 +2,7 @@ use Rattle.std.proofs.Common.{ap}
 use Rattle.std.specs.List.{list_all}
 use Rattle.std.proofs.lemmas.Str.{chars-nil, IsCharBoundary-start}
 use Rattle.nf_forms.specs.Ucd.{ucd}
-use Rattle.nf_row.proofs.fronts.assigned_front.Goals as goal
+use Rattle.nf_filter.proofs.taking.assigned_front.Goals as goal
 
 pub returns-then-is_ucd-clause-assigned : goal.returns-then-is_ucd-clause-assigned
 unfolding ucd
