@@ -5,7 +5,7 @@ pub use Rattle.std.proofs.lemmas.Bool.{ne_eqb, or_parts, cond-true, leb-true}
 pub use Rattle.std.proofs.lemmas.Bool.Decides.{nat_tests}
 pub use Rattle.std.proofs.lemmas.List.{take_more, take_all, get_or-map, get_or_default, length-append, length-map, nil_from_length}
 pub use Rattle.std.proofs.lemmas.Str.{encodes-append, len_utf8_bounds, length-encode, IsCharBoundary-at_seam, IsUtf8-append, IsUtf8-take, chars-append, chars-nil, chars_from_encodes, chars_past_char, encodes-chars, length-le-encodes}
-pub use Rattle.std.specs.List.{prefix_len, list_any, flat_map}
+pub use Rattle.std.specs.List.{prefix_len, flat_map}
 pub use Rattle.std.proofs.lemmas.List.Folds.{list_any_at, list_any-append}
 pub use Rattle.nf_facts.specs.KitForm.{kit_form}
 pub use Rattle.nf_facts.specs.Passing.{passes_check, halfwidth_marks, is_among, vowel_signs}
@@ -23,7 +23,7 @@ pub use Rattle.nf_forms.specs.Runs.{has_starter, lead, longest, trail}
 pub use Rattle.nf_forms.specs.Sound.{is_sound, max_row}
 unfoldable pub use Rattle.nf_forms.specs.Ucd.{ucd}
 pub use Rattle.nf_forms.specs.declared.form.Form.{Form}
-pub use Rattle.nf_forms.specs.declared.form.Form.TheVariants.{Nfc, Nfkd}
+pub use Rattle.nf_forms.specs.declared.form.Form.TheVariants.{Nfkd}
 pub use Rattle.nf_forms.specs.Laws.Front.{marks_push}
 pub use Rattle.nf_forms.specs.Laws.Audited.{flat_map-full, stream_safe-short}
 pub use Rattle.nf_forms.specs.Laws.StreamSafe.{decomposed-push, longest-le-length}

@@ -1,3 +1,8 @@
+ghost use Rattle.std.specs.Prelude.{◌≡◌, None, if◌then◌else◌};
+ghost use Rattle.nf_forms.specs.Cluster.{blocks};
+ghost use Rattle.nf_forms.specs.Compose.{composite};
+ghost use Rattle.nf_forms.specs.Ucd.{ucd};
+
 use crate::closing::blocks;
 use crate::encoding::{put_character, put_utf8};
 use crate::seen::{Seen, is_own_row};
@@ -26,14 +31,11 @@ pub(crate) struct Cluster {
 }
 
 impl Cluster {
-    ghost use Rattle.std.specs.Prelude.{◌≡◌, ◌<◌, ◌≤◌, ◌⊎◌, ℕ, List, [], ◌∷◌, ◌++◌, length, IfSome, IsTrue, IsSome, IsNone, None, if◌then◌else◌, encode_utf8_all};
+    ghost use Rattle.std.specs.Prelude.{◌≡◌, ◌<◌, ◌≤◌, ◌⊎◌, ℕ, List, [], ◌∷◌, ◌++◌, length, IfSome, IsTrue, IsSome, IsNone, encode_utf8_all};
     ghost use Rattle.ucd_normal.specs.declared.forms.Form.TheVariants.{Nfkd};
     ghost use Rattle.ucd_normal.specs.declared.forms.QuickCheck.TheVariants.{Yes};
     ghost use Rattle.ucd_normal.specs.CanonicalCombiningClass.{canonical_combining_class};
     ghost use Rattle.ucd_normal.specs.QuickCheck.{quick_check};
-    ghost use Rattle.nf_forms.specs.Cluster.{blocks};
-    ghost use Rattle.nf_forms.specs.Compose.{composite};
-    ghost use Rattle.nf_forms.specs.Ucd.{ucd};
     ghost use Rattle.nf_boundary.specs.Seen.{Sees};
     ghost use Rattle.nf_boundary.specs.Joins.{AreMadeOf, JoinsFront, Joins};
 
@@ -107,7 +109,7 @@ impl Cluster {
             class,
             ..
         } = seen;
-        match self.joined(seen) {
+        match joined(self.starter, self.highest, seen) {
             Some(composite) => self.starter = composite,
             None if class == 0 => {
                 self.append_to(formed)?;
@@ -124,18 +126,6 @@ impl Cluster {
         self.last = class;
         self.count += 1;
         Some(())
-    }
-
-    /// What the character composes to with the starter, unless it is blocked.
-    #[inline(always)]
-    fn joined(&self, seen: Seen<'_>) -> Option<char>
-        ensures { result ≡ (if blocks self.now.highest seen.entry.class then None else composite ucd self.now.starter seen.entry.character) }
-    {
-        laws::each_pair_has_a_primary_composite();
-        if blocks(self.highest, seen.class) {
-            return None;
-        }
-        compose(self.starter, seen.character)
     }
 
     /// A starter that is its own decomposition, or a mark of no smaller class than the last.
@@ -169,4 +159,16 @@ impl Cluster {
         put_utf8(formed, self.left.as_slice());
         Some(())
     }
+}
+
+/// What the character composes to with the starter, unless it is blocked by a mark of the class `highest`.
+#[inline(always)]
+fn joined(starter: char, highest: u8, seen: Seen<'_>) -> Option<char>
+    ensures { result ≡ (if blocks highest seen.entry.class then None else composite ucd starter seen.entry.character) }
+{
+    laws::each_pair_has_a_primary_composite();
+    if blocks(highest, seen.class) {
+        return None;
+    }
+    compose(starter, seen.character)
 }

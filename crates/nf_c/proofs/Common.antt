@@ -3,7 +3,7 @@ pub use Rattle.nf_c.specs.Feeds.{FeedsFront, IsOfFeeding, ends, CanPass, Feeds}
 pub use Rattle.nf_c.specs.Finishes.{FinishesFilter, IsOfFinishing}
 pub use Rattle.nf_c.specs.Moved.{ended, read_before}
 pub use Rattle.nf_c.specs.Room.{state_of as room_state}
-pub use Rattle.nf_c.specs.State.{StandsAfter, mark_at, starter_at, unpacked, IsStarter, HoldsAscii, CanStand, StandAfter}
+pub use Rattle.nf_c.specs.State.{StandsAfter, mark_at, starter_at, unpacked, IsStarter, HoldsAscii, StandAfter}
 pub use Rattle.nf_c.specs.declared.feeding.Fed.{Fed}
 pub use Rattle.nf_c.specs.declared.moved.Moved.{Moved}
 pub use Rattle.nf_c.specs.declared.room.Room.{Room}
@@ -14,7 +14,7 @@ pub use Rattle.nf_filter.specs.Finishes.{final_utf8, end_of, Finishes as FilterF
 pub use Rattle.nf_filter.specs.Policy.{as_is, allowed}
 pub use Rattle.nf_filter.specs.Settled.{settled_utf8}
 pub use Rattle.nf_filter.specs.declared.fault.Fault.{Fault}
-pub use Rattle.nf_filter.specs.declared.fault.Fault.TheVariants.{Row, Spent, TooLong, Write, Read, BadByte, Unassigned}
+pub use Rattle.nf_filter.specs.declared.fault.Fault.TheVariants.{Row, Spent, TooLong, Write, Read}
 pub use Rattle.nf_filter.specs.declared.filter.State.{State as FilterState}
 pub use Rattle.nf_filter.specs.declared.policy.Policy.{Policy}
 pub use Rattle.nf_filter.specs.declared.saved.Saved.{Saved}

@@ -1,8 +1,8 @@
 -- The names that most of these proofs cite, passed on from one place. Declares nothing.
-pub use Rattle.std.proofs.Common.{◌≡◌, ℕ, ◌+◌, ◌-◌, Bool, true, false, ◌==◌, List, [], ◌∷◌, ◌++◌, length, Option, Some, None, Result, Ok, Err, refl, sym, ap, ap₂, ◌∙◌, subst, arith, append-nil, eq-eqb, IsTrue, OnOk, if◌then◌else◌, encode_utf8_all, inl, chars, ◌<◌, ⊎_elim, ne_eqb, append_assoc, ◌≤◌, take, drop, map, encode_utf8, IsUtf8, length-append, take-append-drop, zero, suc, drop-drop, drop_at, inr, cond, MatchResult, ◌^◌, ◌↔◌, IsFalse, ◌⊎◌, option_map, not, ◌&&◌, ◌||◌, length-drop, take_at, take_while, eqb-true, take_all, eqb, ltb, IfSome, is_some, IfErr, length-take, rules}
+pub use Rattle.std.proofs.Common.{◌≡◌, ℕ, ◌+◌, ◌-◌, Bool, true, false, ◌==◌, List, [], ◌∷◌, ◌++◌, length, Option, Some, None, Result, Ok, Err, refl, sym, ap, ◌∙◌, subst, arith, append-nil, eq-eqb, IsTrue, OnOk, if◌then◌else◌, encode_utf8_all, inl, chars, ◌<◌, ⊎_elim, ne_eqb, append_assoc, ◌≤◌, take, drop, map, encode_utf8, IsUtf8, length-append, take-append-drop, suc, inr, cond, MatchResult, ◌^◌, ◌↔◌, IsFalse, ◌⊎◌, option_map, not, ◌&&◌, ◌||◌, length-drop, take_at, take_while, eqb-true, take_all, IfSome, is_some, IfErr, length-take, rules}
 pub use Rattle.std.proofs.KnownBytes.{Appends-nil, Appends-trans, Consumes-kept, Consumes-trans}
 pub use Rattle.std.proofs.Math.Seq.{take-append-add, take-length}
-pub use Rattle.std.proofs.lemmas.Bool.{and_from, and_parts, or_left, cases_lt, cases_Bool, false_from_ne_true, cond-true, eqb-false, or_parts, le-leb, true_from_ne_false, false≢true, not-false, not-true}
+pub use Rattle.std.proofs.lemmas.Bool.{and_from, and_parts, or_left, cases_lt, cases_Bool, false_from_ne_true, eqb-false, or_parts, true_from_ne_false, false≢true}
 pub use Rattle.std.proofs.lemmas.Bool.Decides.{nat_tests}
 pub use Rattle.std.proofs.lemmas.List.{nil_from_length, length-map, map-append, drop-append-le, take-append-le, take-take, take_rest}
 pub use Rattle.std.proofs.lemmas.List.Folds.{list_all-append, length-prefix_len, prefix_len-append}
@@ -26,13 +26,13 @@ pub use Rattle.nf_filter.specs.Filter.{base_of, offset_of, is_spent, StandsAfter
 unfoldable pub use Rattle.nf_filter.specs.Finishes.{end_of, final_utf8}
 pub use Rattle.nf_filter.specs.Finishes.{tally_of, answer_or, end_under, whole_or, is_taken, final_under, Finishes, Closes}
 pub use Rattle.nf_filter.specs.Laws.Settled.{settled_utf8-none, text_under-none}
-pub use Rattle.nf_filter.specs.Laws.Undecided.{no_stop, unusable_at-usable, checked_undecided, measured_undecided}
+pub use Rattle.nf_filter.specs.Laws.Undecided.{unusable_at-usable, checked_undecided, measured_undecided}
 pub use Rattle.nf_filter.specs.Laws.Soundness.{AreSound, RefusesNone}
 pub use Rattle.nf_filter.specs.Measures.{unusable_decision, HasMeasured, measure_decision, text_measure}
 pub use Rattle.nf_filter.specs.Passed.{IsAfterAssigned}
 pub use Rattle.nf_filter.specs.Policy.{as_is, allowed, text_under, whole_under, len_under}
 pub use Rattle.nf_filter.specs.Reads.{HasRead}
-pub use Rattle.nf_filter.specs.Saved.{saved_of, are_marks, IsCounted, CountsFit, IsPending, IsRestorable}
+pub use Rattle.nf_filter.specs.Saved.{saved_of, are_marks, IsCounted, IsRestorable}
 unfoldable pub use Rattle.nf_filter.specs.Settled.{is_usable, settled_utf8, settled}
 pub use Rattle.nf_filter.specs.Settled.{usable}
 pub use Rattle.nf_filter.specs.Stepping.{Standing, StandsInFront}
@@ -55,7 +55,7 @@ pub use Rattle.nf_forms.specs.Laws.Front.{front-append-back}
 pub use Rattle.nf_forms.specs.Laws.Settling.{back-starter, length-back}
 pub use Rattle.nf_forms.specs.Laws.Sound.{IsSoundText, IsSound, IsSound-from_test}
 pub use Rattle.nf_forms.specs.Laws.StreamSafe.{trail-stream_safe-le, trail-decomposed-le}
-pub use Rattle.nf_forms.specs.Laws.Runs.{has_starter-append, lead-append, trail-marks}
+pub use Rattle.nf_forms.specs.Laws.Runs.{trail-marks}
 pub use Rattle.nf_forms.specs.Runs.{has_starter, lead, trail}
 pub use Rattle.nf_forms.specs.Properties.{Properties, is_starter}
 unfoldable pub use Rattle.nf_forms.specs.SafeForm.{safe_form}
@@ -77,9 +77,8 @@ pub use Rattle.nf_utf8.specs.Ending.{Ending, Whole, Bad, Cut, Cut as CutEnd}
 pub use Rattle.nf_utf8.specs.Left.{decoded_under, IsLeft, ReadsNext}
 pub use Rattle.nf_utf8.specs.Laws.{ReadsLongestText, ReadsBack, ReplacesSubparts, SplitsBytes}
 unfoldable pub use Rattle.nf_utf8.specs.Reading.{text_of, ending_of, rest_of}
-pub use Rattle.nf_utf8.specs.Reading.{text_len}
 unfoldable pub use Rattle.nf_utf8.specs.Replaced.{replaced, replaced_whole, decoded_of, replaced_len}
-pub use Rattle.nf_utf8.specs.Replaced.{replacement, begun_at_end, subpart_end, Decoded, decoded_text, decoded_after_text, decoded_within, bytes_in}
+pub use Rattle.nf_utf8.specs.Replaced.{replacement, begun_at_end, decoded_text, decoded_after_text, decoded_within, bytes_in}
 pub use Rattle.nf_utf8.specs.Standing.{StandsAfter as DecoderStandsAfter}
 pub use Rattle.nf_utf8.specs.Subpart.{IsSubpart}
-pub use Rattle.nf_utf8.specs.Text.{IsText, BeginsText}
+pub use Rattle.nf_utf8.specs.Text.{IsText}

@@ -10,10 +10,6 @@ pub err_is : {T : Type 0} {fault k : Fault} → (let r : Result T Fault = Err fa
 err_is e = cc
 
 -- the sink failed, or something else
-pub write_or_not : (fault : Fault) → (fault ≡ Write) ⊎ (¬ (fault ≡ Write))
-write_or_not Write = inl refl
-write_or_not _ = inr (λ e. cc)
-
 pub write_or_kept : {T : Type 0} (r : Result T Fault) → (r ≡ Err Write) ⊎ (¬ (r ≡ Err Write))
 write_or_kept (Err Write) = inl refl
 write_or_kept _ = inr (λ e. cc)

@@ -8,7 +8,7 @@ pub use Rattle.nf_facts.specs.LineFeed.{line_feed}
 pub use Rattle.nf_filter.proofs.FilterLemmas.{StandsAfter-offset, StandsAfter-fits}
 pub use Rattle.nf_filter.specs.Devices.{SinkState, SourceState}
 unfoldable pub use Rattle.nf_filter.specs.Faults.{fault_in}
-pub use Rattle.nf_filter.specs.Faults.{answer_at_end, bad_byte, bad_under, first_fault}
+pub use Rattle.nf_filter.specs.Faults.{answer_at_end, bad_under, first_fault}
 pub use Rattle.nf_utf8.specs.Left.{IsLeft}
 pub use Rattle.nf_filter.specs.Filter.{base_of, StandsAfter, offset_of, state_of, is_spent}
 unfoldable pub use Rattle.nf_filter.specs.Finishes.{end_of, final_utf8}
@@ -27,6 +27,6 @@ pub use Rattle.nf_forms.specs.declared.form.Form.TheVariants.{Nfc}
 pub use Rattle.nf_lines.specs.Alone.{end_fault, StandAlone}
 pub use Rattle.nf_lines.specs.Cut.{EndsInLineFeed, HasNoLineFeed, IsCutAt}
 pub use Rattle.nf_lines.specs.Drives.{Lines, bytes_of, TakesLines, DrivesLines}
-pub use Rattle.nf_utf8.specs.Ending.{Ending, Whole, Bad, Cut, moved}
+pub use Rattle.nf_utf8.specs.Ending.{Ending, Whole, Bad, Cut}
 unfoldable pub use Rattle.nf_utf8.specs.Reading.{text_of, ending_of}
 unfoldable pub use Rattle.nf_utf8.specs.Replaced.{decoded_of, replaced, replaced_whole}

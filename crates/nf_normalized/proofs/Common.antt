@@ -1,10 +1,8 @@
 -- The names that most of these proofs cite, passed on from one place. Declares nothing.
-pub use Rattle.std.proofs.Common.{◌≡◌, ◌⊎◌, inl, inr, ◌^◌, ℕ, suc, ◌+◌, ◌<◌, ◌≤◌, ◌==◌, Bool, true, false, List, [], ◌∷◌, ◌++◌, length, get_or, take, drop, refl, sym, ap, ◌∙◌, arith, append_assoc, append-nil, length-append, Option, Some, None, chars, encode_utf8_all, take-append-drop, IsTrue, is_some, option_map, Result, Ok, Err, ◌↔◌, take_all, ◌*◌, zero, length-take, length-drop, take-add, ◌≢◌, not, leb, flat_map}
+pub use Rattle.std.proofs.Common.{◌≡◌, ◌⊎◌, inl, inr, ◌^◌, ℕ, ◌+◌, ◌<◌, ◌≤◌, ◌==◌, Bool, true, false, List, [], ◌∷◌, ◌++◌, length, take, drop, refl, sym, ap, ◌∙◌, arith, append_assoc, append-nil, length-append, Option, Some, None, chars, encode_utf8_all, take-append-drop, IsTrue, is_some, option_map, Result, Ok, Err, ◌↔◌, take_all, ◌*◌, length-take, ◌≢◌, not, leb, flat_map}
 pub use Rattle.std.proofs.Math.Logic.{∥∥₁_elim, ∥∥₁_map}
-pub use Rattle.std.proofs.Math.Seq.{drop-append-add}
 pub use Rattle.std.proofs.lemmas.Bool.{or_from}
 pub use Rattle.std.proofs.lemmas.Grind.{common_steps}
-pub use Rattle.std.proofs.lemmas.List.{drop_all}
 pub use Rattle.std.proofs.lemmas.Slice.Eq.{bytes_eq-Decides}
 pub use Rattle.std.proofs.lemmas.Str.{encodes_same}
 pub use Rattle.std.specs.Coded.{le_prop}
@@ -13,7 +11,7 @@ pub use Rattle.nf_facts.specs.After.{after}
 pub use Rattle.nf_facts.specs.Passing.{is_among, halfwidth_marks, vowel_signs, mapped_marks}
 unfoldable pub use Rattle.nf_filter.proofs.Common.{fault_in, final_utf8, end_of, settled, is_usable, settled_utf8, safe_form}
 pub use Rattle.nf_forms.specs.Front.{front}
-pub use Rattle.nf_filter.proofs.Common.{take-length, and_parts, false_from_ne_true, cases_Bool, or_parts, or_left, nat_tests, list_all-append, drop-append-le, take_at, take-append-le, encodes-append, encodes-chars, length-le-encodes, length-encode, len_utf8_bounds, list_all, result_err, answer_at_end, bad_byte, is_spent, base_of, state_of, offset_of, whole_or, tally_of, decomposed, row_of, composes, normal_form, back, front-append-back, IsSoundText, IsSound-from_test, is_starter, Properties, lead, has_starter, is_sound, stream_safe, ChangesOnce, Form, Nfd, Nfkd, is_in_format, Place, Ending, Whole, Bad, SplitsBytes, ReadsBack, ReadsLongestText, ReplacesSubparts, text_of, rest_of, ending_of, IsText}
+pub use Rattle.nf_filter.proofs.Common.{take-length, and_parts, false_from_ne_true, cases_Bool, or_parts, or_left, nat_tests, list_all-append, take_at, take-append-le, encodes-append, encodes-chars, length-le-encodes, length-encode, len_utf8_bounds, list_all, result_err, answer_at_end, bad_byte, is_spent, base_of, state_of, offset_of, whole_or, tally_of, decomposed, row_of, composes, normal_form, back, front-append-back, IsSoundText, IsSound-from_test, is_starter, Properties, lead, has_starter, is_sound, stream_safe, ChangesOnce, Form, Nfd, Nfkd, is_in_format, Place, Ending, Whole, Bad, SplitsBytes, ReadsBack, ReadsLongestText, ReplacesSubparts, text_of, rest_of, ending_of, IsText}
 pub use Rattle.nf_utf8.specs.Taking.{first_text}
 pub use Rattle.nf_filter.proofs.FilterLemmas.{StandsAfter-offset}
 pub use Rattle.nf_filter.specs.Kinds.{IsAmong, spent, too_long, ill_formed, unassigned}
@@ -37,7 +35,7 @@ pub use Rattle.nf_forms.specs.declared.form.Form.TheVariants.{Nfkc}
 unfoldable pub use Rattle.nf_normalized.specs.Change.{change_at, form_decision}
 pub use Rattle.nf_normalized.specs.Change.{under, made_of, form_value, settled_change_at}
 pub use Rattle.nf_normalized.specs.Checker.{filter_state, IsOfPiece}
-pub use Rattle.nf_filter.specs.Comparing.{same, left, given, taken, sink_state}
+pub use Rattle.nf_filter.specs.Comparing.{same, left}
 pub use Rattle.nf_filter.specs.InCommon.{common, goes_on_with}
 pub use Rattle.nf_normalized.specs.Places.{PlaceFits, IsAfter}
 pub use Rattle.nf_normalized.specs.Holds.{Holds}

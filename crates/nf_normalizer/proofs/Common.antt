@@ -1,6 +1,6 @@
 -- The names that most of these proofs cite, passed on from one place. Declares nothing.
 pub use Rattle.std.proofs.Common.{◌≡◌, ℕ, ◌-◌, ◌<◌, true, List, [], ◌∷◌, ◌++◌, length, take, get_or, refl, sym, ap, ◌∙◌, arith, append_assoc, encode_utf8_all, IsAscii, length-append, ◌+◌, ◌≤◌, Bool, false, Ok, Err, drop, Result, IfOk, inl, inr, append-nil, encode_utf8, IsUtf8, chars, take-append-drop, ⊎_elim, rules, ◌⊎◌, length-take, get_or-drop, length-drop, ◌*◌}
-pub use Rattle.std.proofs.lemmas.Bool.{and_from, and_right, ltb-false}
+pub use Rattle.std.proofs.lemmas.Bool.{and_from, ltb-false}
 pub use Rattle.std.proofs.lemmas.List.{take_more, length-take-le, nil_from_length}
 pub use Rattle.std.proofs.lemmas.Str.{encodes-append, encodes-IsAscii, IsAscii-take, chars-nil, chars-append, chars-IsAscii, encodes-chars, IsUtf8-from_ascii, chars_past_char, length-encode, len_utf8_bounds, length-le-encodes, IsCharBoundary-from_take}
 pub use Rattle.nf_forms.specs.Forms.{decomposed, finished, row_of}
@@ -17,7 +17,7 @@ pub use Rattle.nf_forms.specs.declared.form.Form.{Form}
 pub use Rattle.nf_forms.specs.declared.form.Form.TheVariants.{Nfkd, Nfc, Nfd}
 pub use Rattle.nf_normalizer.specs.Front.{Joins, Stands, one_if, Leaves, Passes, StepsTo, Refuses, Takes}
 pub use Rattle.nf_normalizer.specs.Laws.Settled.{is_usable-push, is_usable-none}
-pub use Rattle.nf_normalizer.specs.Normalizer.{HasTaken, settled_text, IsWithin, HasRoom, run_after, front_utf8, Pushes, PutsJoiner, MakesRoom, TakesChar, TakesNext}
+pub use Rattle.nf_normalizer.specs.Normalizer.{HasTaken, settled_text, IsWithin, HasRoom, run_after, front_utf8, Pushes, PutsJoiner, MakesRoom, TakesChar}
 pub use Rattle.nf_normalizer.specs.Room.{Start, Holds}
 unfoldable pub use Rattle.nf_normalizer.specs.Settled.{settled, is_usable}
 pub use Rattle.nf_normalizer.specs.declared.normalizer.Normalizer.{Normalizer}

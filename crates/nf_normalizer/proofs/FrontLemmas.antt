@@ -142,14 +142,6 @@ module _ (p : Properties) (f : Form) (new : Normalizer) (start : Start) (after x
 
 -- ---- one front after another
 
-pub StepsTo-none : {f : Form} {p : Properties} {normalizer : Normalizer} {start : Start} {out x text : List ℕ} → Stands f p normalizer start out x (chars text) → StepsTo f p normalizer start out x text text 0
-StepsTo-none stands = record {
-  front = [];
-  is_front = refl;
-  stands = rw append-nil stands;
-  joins = rw append-nil (omega arith);
-}
-
 pub StepsTo-more : {f : Form} {p : Properties} {old new : Normalizer} {start : Start} {room out x text rest after : List ℕ} {m n k : ℕ} → m + n ≡ k → (first : StepsTo f p old start room x text rest m) → StepsTo f p new start out (x ++ first.front) rest after n
     → StepsTo f p new start out x text after k
 StepsTo-more {x = x} sum first next = record {

@@ -1,8 +1,7 @@
 -- The names that most of these proofs cite, passed on from one place. Declares nothing.
-pub use Rattle.std.proofs.Common.{◌≡◌, ℕ, ◌+◌, ◌≤◌, Bool, true, false, not, List, [], ◌∷◌, ◌++◌, length, Some, None, is_some, encode_utf8, encode_utf8_all, refl, sym, ap, ◌∙◌, arith, append_assoc, if◌then◌else◌, length-append, ◌==◌, cond, subst, eqb-true, count_by, max, rules, option_map, nat_lt, take}
+pub use Rattle.std.proofs.Common.{◌≡◌, ℕ, ◌+◌, ◌≤◌, Bool, true, false, not, List, [], ◌∷◌, ◌++◌, length, Some, None, is_some, encode_utf8, encode_utf8_all, refl, sym, ap, ◌∙◌, arith, append_assoc, if◌then◌else◌, length-append, ◌==◌, cond, subst, count_by, max, rules, option_map, take}
 pub use Rattle.std.proofs.lemmas.Bool.{cond-true, cond-false, and_parts, and_from}
-pub use Rattle.std.proofs.lemmas.List.Elements.{All-weaker}
-pub use Rattle.std.proofs.lemmas.List.Sums.{sum_by-append, list_all-from_AllPass, AllPass-from_list_all}
+pub use Rattle.std.proofs.lemmas.List.Sums.{sum_by-append}
 pub use Rattle.std.proofs.lemmas.Str.{encodes-append}
 pub use Rattle.nf_forms.specs.Forms.{decomposed}
 pub use Rattle.nf_forms.specs.Laws.Boundary.{run-after}

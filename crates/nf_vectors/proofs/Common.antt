@@ -1,7 +1,7 @@
 -- The names that most of these proofs cite, passed on from one place. Declares nothing.
-pub use Rattle.std.proofs.Common.{inl, inr, Bor, ◌≡◌, ℕ, ◌+◌, ◌≤◌, ◌<◌, true, false, List, [], ◌∷◌, ◌++◌, length, take, Option, Some, None, is_some, refl, sym, ap, ◌∙◌, arith, ◌-◌, ⊎_elim, drop, get_or, append_assoc, append-nil, zero, suc, ◌*◌, Bool, ◌&&◌, Ok, Err, rules, if◌then◌else◌, Result, OnOk, is_ok, take_all, codes, bytes_eq, encode_utf8_all, IsUtf8, slice_range, eq-eqb, ne_eqb, cond, not, add-zero, count_by, nat_eq, MatchResult, IsErr, IsErrAnd, All, find, IfOk, sum_by, string_bytes, encode_utf8, tests, ◌==◌, reverse, ◌^◌, ◌↔◌}
+pub use Rattle.std.proofs.Common.{inl, inr, Bor, ◌≡◌, ℕ, ◌+◌, ◌≤◌, ◌<◌, true, false, List, [], ◌∷◌, ◌++◌, length, take, Option, Some, None, is_some, refl, sym, ap, ◌∙◌, arith, ◌-◌, ⊎_elim, drop, get_or, append_assoc, append-nil, zero, suc, ◌*◌, Bool, ◌&&◌, Ok, Err, rules, if◌then◌else◌, Result, OnOk, is_ok, take_all, codes, bytes_eq, encode_utf8_all, IsUtf8, slice_range, eq-eqb, ne_eqb, cond, not, add-zero, count_by, MatchResult, IsErr, IsErrAnd, All, find, IfOk, sum_by, string_bytes, encode_utf8, tests, ◌==◌, reverse, ◌^◌, ◌↔◌}
 pub use Rattle.std.proofs.Math.Bool.{or-false, or_assoc}
-pub use Rattle.std.proofs.Math.Seq.{take-length, take-append-add}
+pub use Rattle.std.proofs.Math.Seq.{take-append-add}
 pub use Rattle.std.proofs.lemmas.Bool.{cases_lt, lt-ltb, le-ltb}
 pub use Rattle.std.proofs.lemmas.Bool.Decides.{nat_tests}
 pub use Rattle.std.proofs.lemmas.Iterator.{YieldsList, YieldsList-from_slice}

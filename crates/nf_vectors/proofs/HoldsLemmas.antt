@@ -14,7 +14,6 @@ use Rattle.nf_filter.specs.Faults.{fault_in}
 use Rattle.nf_filter.specs.Policy.{as_is}
 use Rattle.nf_filter.specs.Finishes.{end_of}
 use Rattle.nf_filter.specs.Whole.{Converts, whole_answer, whole_utf8}
-use Rattle.nf_filter.proofs.FilterLemmas.{write_or_kept}
 use Rattle.nf_filter.proofs.WholeLemmas.{without, final_is}
 use Rattle.nf_filter.specs.declared.comparing.Comparing.{Comparing}
 use Rattle.nf_filter.specs.InCommon.{goes_on_with}

@@ -1,5 +1,5 @@
 use Rattle.nf_boundary.proofs.Common.{rules, ucd}
-use Rattle.nf_boundary.proofs.cluster.Cluster.joined.Goals as goal
+use Rattle.nf_boundary.proofs.cluster.joined.Goals as goal
 
 pub returns : goal.returns
 unfolding ucd
