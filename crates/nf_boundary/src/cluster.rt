@@ -1,15 +1,12 @@
-ghost use Rattle.std.specs.Prelude.{◌≡◌, None, if◌then◌else◌};
-ghost use Rattle.nf_forms.specs.Cluster.{blocks};
-ghost use Rattle.nf_forms.specs.Compose.{composite};
-ghost use Rattle.nf_forms.specs.Ucd.{ucd};
-
-use crate::closing::blocks;
+use crate::closing::joined;
 use crate::encoding::{put_character, put_utf8};
+use crate::mark::Mark;
 use crate::seen::{Seen, is_own_row};
 use crate::segments::Formed;
 use arrayvec::ArrayVec;
 use nf_facts::laws;
 use nf_forms::{Form, MAX_RUN};
+use nf_row::Ucd;
 use ucd_normal::QuickCheck;
 use unicode_normalization::char::compose;
 
@@ -104,26 +101,25 @@ impl Cluster {
         if seen.answer == QuickCheck::No || self.count >= MAX_RUN || !self.may_follow(seen) {
             return None;
         }
-        let Seen {
-            character,
-            class,
-            ..
-        } = seen;
-        match joined(self.starter, self.highest, seen) {
+        let mark = Mark {
+            character: seen.character,
+            class: seen.class,
+        };
+        match joined(&Ucd, self.starter, self.highest, mark, true) {
             Some(composite) => self.starter = composite,
-            None if class == 0 => {
+            None if mark.class == 0 => {
                 self.append_to(formed)?;
-                self.starter = character;
+                self.starter = mark.character;
                 self.left.clear();
                 self.highest = 0;
                 self.count = 0;
             }
             None => {
-                self.left.try_push(character).ok()?;
-                self.highest = class;
+                self.left.try_push(mark.character).ok()?;
+                self.highest = mark.class;
             }
         }
-        self.last = class;
+        self.last = mark.class;
         self.count += 1;
         Some(())
     }
@@ -159,16 +155,4 @@ impl Cluster {
         put_utf8(formed, self.left.as_slice());
         Some(())
     }
-}
-
-/// What the character composes to with the starter, unless it is blocked by a mark of the class `highest`.
-#[inline(always)]
-fn joined(starter: char, highest: u8, seen: Seen<'_>) -> Option<char>
-    ensures { result ≡ (if blocks highest seen.entry.class then None else composite ucd starter seen.entry.character) }
-{
-    laws::each_pair_has_a_primary_composite();
-    if blocks(highest, seen.class) {
-        return None;
-    }
-    compose(starter, seen.character)
 }

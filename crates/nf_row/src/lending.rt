@@ -28,7 +28,8 @@ impl RowRoom {
     }
 }
 
-/// The decomposition of `c` that the form asks for: of Unicode's data by the tables, and by arithmetic for a Hangul syllable. Refused exactly where it has more than 18 code points.
+/// The decomposition of `c` that the form asks for: of Unicode's data by the tables, and by arithmetic for a Hangul syllable.
+/// Refused exactly where it has more than 18 code points.
 #[inline]
 pub fn row_of<'r, R: Rows>(
     rows: &R,

@@ -44,6 +44,8 @@ fn nfc(rt: HostRuntime) -> Result<(), Fail> {
         ("a\u{316}", "b\u{334}", "\u{1161}"),
         ("\u{FF76}", "\u{3042}\u{FF9E}", ""),
         ("", "", "\u{FF9E}a"),
+        ("\u{FF76}\u{FF9E}\u{FF9F}", "\u{FF77}\u{FF9E}\u{FF9E}", ""),
+        ("\u{FF76}\u{FF9E}\u{FF61}", "\u{FFA1}\u{FF9F}", "\u{301}"),
         ("a", "b\u{316}\u{FF9E}\u{334}", "\u{301}"),
         ("\u{A0}", "\u{FB01}", "\u{1F71}"),
         ("\u{1F600}", "\u{10FFFF}", "\u{2F800}"),
@@ -63,6 +65,11 @@ fn nfd(rt: HostRuntime) -> Result<(), Fail> {
         ("", "", "\u{301}"),
         ("", "\u{FF76}\u{FF9F}", ""),
         ("\u{FF76}\u{FF9E}", "\u{FF8A}\u{FF9F}\u{301}", "\u{304C}"),
+        (
+            "\u{FF66}\u{FF9E}\u{FF9F}\u{FF67}\u{FF9F}",
+            "\u{FF9D}",
+            "\u{E9}",
+        ),
         ("\u{A0}", "\u{FB01}", "\u{C5}"),
     ];
     check(&rt, rt.alloc(), Form::Nfd, &cuts)
